@@ -17,7 +17,7 @@ pub rest_more : (piece rest : List ℕ) (n : ℕ) → n ≤ length rest → rest
 rest_more piece rest n fits is =
     let left : take (length rest - n) (drop n rest) ≡ drop n rest = take_rest rest n in
     let place : (length piece - length rest) + n ≡ length piece - length (take (length rest - n) (drop n rest)) =
-        omega (arith, ap length left, length-drop n rest, ap length is, length-drop (length piece - length rest) piece) in
+    omega (arith, ap length left, length-drop n rest, ap length is, length-drop (length piece - length rest) piece) in
     left ∙ ap (drop n) is ∙ drop-drop n (length piece - length rest) piece ∙ ap (λ (m : ℕ). drop m piece) place
 
 -- A sink that took `n` bytes more of the rest took the front up to what is left.
@@ -28,12 +28,12 @@ pub front_more : (before mid now : Option (List ℕ)) (piece rest : List ℕ) (n
 front_more before mid now piece rest n fits is front more =
     let left : take (length rest - n) (drop n rest) ≡ drop n rest = take_rest rest n in
     let place : (length piece - length rest) + n ≡ length piece - length (take (length rest - n) (drop n rest)) =
-        omega (arith, ap length left, length-drop n rest, ap length is, length-drop (length piece - length rest) piece) in
+    omega (arith, ap length left, length-drop n rest, ap length is, length-drop (length piece - length rest) piece) in
     more
-      ∙ ap (λ (o : Option (List ℕ)). took o (take n rest)) front
-      ∙ ap (λ (xs : List ℕ). took (took before (take (length piece - length rest) piece)) (take n xs)) is
-      ∙ took-split before (length piece - length rest) n piece
-      ∙ ap (λ (m : ℕ). took before (take m piece)) place
+    ∙ ap (λ (o : Option (List ℕ)). took o (take n rest)) front
+    ∙ ap (λ (xs : List ℕ). took (took before (take (length piece - length rest) piece)) (take n xs)) is
+    ∙ took-split before (length piece - length rest) n piece
+    ∙ ap (λ (m : ℕ). took before (take m piece)) place
 
 -- Two pieces that a source gave one after the other are one piece.
 pub gave_more : (before mid now : Option (List ℕ)) (old piece new : List ℕ) → new ≡ old ++ piece

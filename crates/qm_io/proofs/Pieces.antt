@@ -64,7 +64,7 @@ drop-begin s k (p ∷ ps) (suc i) l is =
     let low : s + length p ≤ begin (s + length p) ps i = begin-high (s + length p) ps i (omega arith) in
     let split : k ≡ length p + (k - length p) = omega arith in
     drop-front p (flat_map (λ p. p) ps) k (k - length p) split
-      ∙ drop-begin (s + length p) (k - length p) ps i (omega arith) (omega arith)
+    ∙ drop-begin (s + length p) (k - length p) ps i (omega arith) (omega arith)
 
 -- A piece ends where the next begins.
 pub end-begin : (s : ℕ) (ps : List (List ℕ)) (i : ℕ) → i < length ps
@@ -89,10 +89,10 @@ pub piece-cut : (bs : List ℕ) (i n : ℕ) → i < length (pieces bs) → n ≡
     → take n (drop (begin 0 (pieces bs) i) bs) ≡ slice_index_or (pieces bs) i []
 piece-cut bs i n l is =
     let at : drop (begin 0 (pieces bs) i) bs ≡ flat_map (λ p. p) (drop i (pieces bs)) =
-        ap (λ xs. drop (begin 0 (pieces bs) i) xs) (sym (flat-pieces bs))
-          ∙ drop-begin 0 (begin 0 (pieces bs) i) (pieces bs) i (omega arith) (omega arith) in
+    ap (λ xs. drop (begin 0 (pieces bs) i) xs) (sym (flat-pieces bs))
+    ∙ drop-begin 0 (begin 0 (pieces bs) i) (pieces bs) i (omega arith) (omega arith) in
     ap (λ xs. take n xs) (at ∙ ap (flat_map (λ p. p)) (drop-piece (pieces bs) i l))
-      ∙ take-front (slice_index_or (pieces bs) i []) (flat_map (λ p. p) (drop (suc i) (pieces bs))) n is
+    ∙ take-front (slice_index_or (pieces bs) i []) (flat_map (λ p. p) (drop (suc i) (pieces bs))) n is
 
 -- No piece ends behind the text.
 pub end-low : (s : ℕ) (ps : List (List ℕ)) (i : ℕ) → i ≤ length ps
@@ -119,7 +119,7 @@ pieces-first [] k l is none = absurd (omega arith)
 pieces-first (b ∷ bs) zero l is none = rw is refl
 pieces-first (b ∷ bs) (suc k) l is none =
     other b (none 0 (omega arith)) (pieces bs)
-      ∙ ap (in_front b) (pieces-first bs k (omega arith) is (λ j m. none (suc j) (omega arith)))
+    ∙ ap (in_front b) (pieces-first bs k (omega arith) is (λ j m. none (suc j) (omega arith)))
 
 -- A text without LF that is not empty is one piece.
 pub pieces-none : (bs : List ℕ) → 0 < length bs
@@ -128,7 +128,7 @@ pieces-none [] l none = absurd (omega arith)
 pieces-none (b ∷ []) l none = other b (none 0 (omega arith)) []
 pieces-none (b ∷ c ∷ bs) l none =
     other b (none 0 (omega arith)) (pieces (c ∷ bs))
-      ∙ ap (in_front b) (pieces-none (c ∷ bs) (omega arith) (λ j m. none (suc j) (omega arith)))
+    ∙ ap (in_front b) (pieces-none (c ∷ bs) (omega arith) (λ j m. none (suc j) (omega arith)))
 
 -- Each line has its piece.
 pub piece-there : (bs : List ℕ) (i : ℕ) → i < length (lines_of bs) → i < length (pieces bs)
@@ -157,4 +157,4 @@ begin-within bs i l = omega (arith, end-low 0 (pieces bs) i (omega arith), ap le
 pub tail-cut : (bs : List ℕ) (i : ℕ) → i < length (pieces bs) → drop (begin 0 (pieces bs) i) bs ≡ tail_of i bs
 tail-cut bs i l =
     ap (drop (begin 0 (pieces bs) i)) (sym (flat-pieces bs))
-      ∙ drop-begin 0 (begin 0 (pieces bs) i) (pieces bs) i (omega arith) (omega arith)
+    ∙ drop-begin 0 (begin 0 (pieces bs) i) (pieces bs) i (omega arith) (omega arith)

@@ -6,6 +6,8 @@ mod memory;
 mod places;
 mod reading;
 mod streams;
+#[cfg(test)]
+mod tests;
 mod traits;
 mod writing;
 

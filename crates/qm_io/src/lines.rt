@@ -1,5 +1,19 @@
 ghost use Rattle.std.specs.Prelude.{
-    ◌≡◌, ◌≤◌, ◌<◌, ◌+◌, ◌-◌, ◌^◌, [], ◌∷◌, length, take, drop, slice_index, slice_index_or, if◌then◌else◌, ◌==◌
+  ◌≡◌,
+  ◌≤◌,
+  ◌<◌,
+  ◌+◌,
+  ◌-◌,
+  ◌^◌,
+  [],
+  ◌∷◌,
+  length,
+  take,
+  drop,
+  slice_index,
+  slice_index_or,
+  if◌then◌else◌,
+  ◌==◌,
 };
 ghost use Rattle.qm_io.specs.Lines.{line_of, lines_of, pieces, places, tail_of, without_last};
 

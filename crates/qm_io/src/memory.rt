@@ -1,14 +1,33 @@
 ghost use Rattle.std.specs.Prelude.{
-    ◌≡◌, ◌≢◌, ◌≤◌, ◌<◌, ◌↔◌, ◌+◌, ◌-◌, ◌++◌, ℕ, List, [], Option, Some, length, drop, take, min, IsErr, IfOk, IfErr, Contains
+  ◌≡◌,
+  ◌≢◌,
+  ◌≤◌,
+  ◌<◌,
+  ◌↔◌,
+  ◌+◌,
+  ◌-◌,
+  ◌++◌,
+  ℕ,
+  List,
+  [],
+  Option,
+  Some,
+  length,
+  drop,
+  take,
+  min,
+  IsErr,
+  IfOk,
+  IfErr,
+  Contains,
 };
 ghost use Rattle.qm_io.specs.Causes.{HasCause};
 ghost use Rattle.qm_io.specs.Memory.{counted};
 ghost use Rattle.qm_io.specs.Moves.{gave, took, IsEmptied};
 
+use crate::traits::{Failed, Sink, Source};
 use std::alloc::Global;
 use std::marker::Model;
-
-use crate::traits::{Failed, Sink, Source};
 
 /// A source in memory: it gives at most `step` bytes a call, and the calls whose numbers, from 1, are in `fail_at` fail.
 #[derive(Debug, Drop)]
@@ -28,7 +47,11 @@ impl Model for MemSource {
     ghost Value = { Feed };
 
     ghost view = { λ s. record {
-        left = drop s.at s.bytes.items; step = s.step; fail_at = s.fail_at.items; calls = s.calls; faults = s.faults
+      left = drop s.at s.bytes.items;
+      step = s.step;
+      fail_at = s.fail_at.items;
+      calls = s.calls;
+      faults = s.faults;
     } };
 
     ghost invariant = { λ s. (s.at ≤ length s.bytes.items) × (0 < s.step) };
@@ -39,7 +62,11 @@ impl MemSource {
     pub fn new(bytes: Vec<u8>, step: usize, fail_at: Vec<u64>) -> Self
         requires { 1 ≤ step }
         ensures { result ≡ record {
-            left = bytes.items; step = step; fail_at = fail_at.items; calls = 0; faults = 0
+          left = bytes.items;
+          step = step;
+          fail_at = fail_at.items;
+          calls = 0;
+          faults = 0;
         } }
     {
         MemSource {
@@ -67,10 +94,12 @@ impl Source for MemSource {
         ensures fails { IsErr result ↔ Contains self.old.fail_at (counted self.old.calls) }
         ensures count { IfOk result (λ n. n ≡ min self.old.step (min (length buf.old) (length self.old.left))) }
         ensures err { IfErr result (λ _. self.new ≡ record self.old {
-            calls = counted self.old.calls; faults = counted self.old.faults
+          calls = counted self.old.calls;
+          faults = counted self.old.faults;
         }) }
         ensures ok { IfOk result (λ n. self.new ≡ record self.old {
-            calls = counted self.old.calls; left = drop n self.old.left
+          calls = counted self.old.calls;
+          left = drop n self.old.left;
         }) }
     {
         self.calls = self.calls.saturating_add(1);
@@ -103,7 +132,11 @@ impl Model for MemSink {
     ghost Value = { Store };
 
     ghost view = { λ s. record {
-        taken = s.taken.items; step = s.step; fail_at = s.fail_at.items; calls = s.calls; faults = s.faults
+      taken = s.taken.items;
+      step = s.step;
+      fail_at = s.fail_at.items;
+      calls = s.calls;
+      faults = s.faults;
     } };
 
     ghost invariant = { λ s. 0 < s.step };
@@ -147,10 +180,12 @@ impl Sink for MemSink {
         ensures fails { Contains self.old.fail_at (counted self.old.calls) → IsErr result }
         ensures count { IfOk result (λ n. n ≡ min self.old.step (length piece.now)) }
         ensures err { IfErr result (λ _. self.new ≡ record self.old {
-            calls = counted self.old.calls; faults = counted self.old.faults
+          calls = counted self.old.calls;
+          faults = counted self.old.faults;
         }) }
         ensures ok { IfOk result (λ n. self.new ≡ record self.old {
-            calls = counted self.old.calls; taken = self.old.taken ++ take n piece.now
+          calls = counted self.old.calls;
+          taken = self.old.taken ++ take n piece.now;
         }) }
     {
         self.calls = self.calls.saturating_add(1);

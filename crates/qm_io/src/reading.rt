@@ -2,12 +2,11 @@ ghost use Rattle.std.specs.Prelude.{◌≡◌, ◌≤◌, ◌<◌, ◌^◌, ◌+
 ghost use Rattle.qm_io.specs.Causes.{Rose};
 ghost use Rattle.qm_io.specs.Moves.{gave, IsEmptied, GaveMore, Gained};
 
-use std::alloc::Global;
-use thiserror::Error;
-
 use crate::lines::Lines;
 use crate::places::ends_of;
 use crate::traits::{Memory, Source};
+use std::alloc::Global;
+use thiserror::Error;
 
 /// Why a text could not be read.
 #[derive(Clone, Copy, Debug, PartialEq, Eq, Error)]
@@ -70,7 +69,11 @@ fn empty_buffer(alloc: Global) -> Result<Vec<u8>, Memory>
 }
 
 /// Moves what one read gives behind the bytes, and says how much it was.
-fn read_piece<S: Source>(src: &mut S, buffer: &mut [u8], bytes: &mut Vec<u8>) -> Result<usize, ReadFail>
+fn read_piece<S: Source>(
+    src: &mut S,
+    buffer: &mut [u8],
+    bytes: &mut Vec<u8>,
+) -> Result<usize, ReadFail>
     requires { 0 < length buffer.old }
     ensures gained { IfOk result (λ n. Gained bytes.old.items bytes.new.items (S.left src.old) (S.left src.new) n) }
     ensures end { IfOk result (λ n. n ≡ 0 → IsEmptied (S.left src.new)) }
@@ -80,6 +83,8 @@ fn read_piece<S: Source>(src: &mut S, buffer: &mut [u8], bytes: &mut Vec<u8>) ->
     ensures short { IsErrOf result ReadFail.TooLong → ⊥ }
 {
     let count = src.read(buffer).map_err(|_| ReadFail::Fault)?;
-    bytes.extend_from_slice(&buffer[..count]).map_err(|_| ReadFail::Memory)?;
+    bytes
+        .extend_from_slice(&buffer[..count])
+        .map_err(|_| ReadFail::Memory)?;
     Ok(count)
 }

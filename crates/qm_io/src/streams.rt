@@ -1,8 +1,7 @@
 ghost use Rattle.std.specs.Prelude.{◌≡◌, ◌≤◌, ◌<◌, ◌^◌, ◌-◌, ℕ};
 
-use std::io::{Read, Write};
-
 use crate::traits::{Failed, Sink, Source};
+use std::io::{Read, Write};
 
 /// A source over a stream of std. It tells nothing of the bytes that are left.
 #[derive(Drop)]

@@ -2,9 +2,8 @@ ghost use Rattle.std.specs.Prelude.{◌≡◌, ◌≤◌, ◌<◌, length, take,
 ghost use Rattle.qm_io.specs.Causes.{HasCause};
 ghost use Rattle.qm_io.specs.Moves.{took, TookFront};
 
-use thiserror::Error;
-
 use crate::traits::Sink;
+use thiserror::Error;
 
 /// Why a piece was not written whole.
 #[derive(Clone, Copy, Debug, PartialEq, Eq, Error)]

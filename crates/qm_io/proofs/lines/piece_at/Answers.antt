@@ -29,7 +29,7 @@ cut_out bs es i start end cut first last l =
     let there = piece-there bs i l in
     let from = start_is bs es i start cut first in
     let many : end - start ≡ length (slice_index_or (pieces bs) i []) =
-        omega (arith, from, end_is bs es i end cut last there) in
+    omega (arith, from, end_is bs es i end cut last there) in
     ap (λ (m : ℕ). take (end - start) (drop m bs)) from ∙ piece-cut bs i (end - start) there many
 
 pub start_of-requires : goal.start_of-requires

@@ -13,8 +13,8 @@ is_tail : (bs es : List ℕ) (i start : ℕ) → es ≡ places 0 (pieces bs) →
     → i < length (lines_of bs) → take (length bs - start) (drop start bs) ≡ tail_of i bs
 is_tail bs es i start cut is l =
     take_rest bs start
-      ∙ ap (λ (m : ℕ). drop m bs) (is ∙ ap (λ (xs : List ℕ). slice_index (0 ∷ xs) i) cut)
-      ∙ tail-cut bs i (piece-there bs i l)
+    ∙ ap (λ (m : ℕ). drop m bs) (is ∙ ap (λ (xs : List ℕ). slice_index (0 ∷ xs) i) cut)
+    ∙ tail-cut bs i (piece-there bs i l)
 
 pub start_of-requires : goal.start_of-requires
 start_of-requires c =

@@ -4,8 +4,7 @@ use Rattle.qm_io.proofs.reading.read_bytes.Goals as goal
 
 pub returns-then-len-limit-clause-too_long : goal.returns-then-len-limit-clause-too_long
 returns-then-len-limit-clause-too_long g c _ =
-    let more = c.in_ok-read_piece.ensures in
-    (
+    let more = c.in_ok-read_piece.ensures in (
       record {
         piece = c.read_piece.new.bytes.items;
         many = omega (arith, c.len.ensures, c.read_piece.new.bytes.ok.0, c.if-len-limit.true);
