@@ -1,0 +1,5 @@
+mod ListLemmas
+mod NumberLemmas
+mod TextLemmas
+mod UsedLemmas
+mod WordLemmas
