@@ -1,8 +1,10 @@
 -- Which places some face names.
-use Rattle.std.specs.Prelude.{◌≡◌, ◌<◌, ◌-◌, ◌&&◌, ℕ, suc, Bool, false, nat_lt, nat_le, if◌then◌else◌, Option, Some, None, List, [], ◌∷◌, length, slice_index, slice_index_or}
+use Rattle.std.specs.Prelude.{◌≡◌, ◌<◌, ◌-◌, ◌&&◌, ℕ, suc, Bool, false, nat_lt, nat_le, if◌then◌else◌, ◌≤◌, ℤ, take, drop, map, Option, Some, None, MatchOption, List, [], ◌∷◌, length, slice_index, slice_index_or}
 use Rattle.std.specs.List.{filter, list_all, list_any}
+use Rattle.def_text.specs.declared.refusal.ObjFail.{ObjFail}
+use Rattle.def_text.specs.declared.refusal.ObjFail.TheVariants.{Range}
 use Rattle.def_text.specs.FaceSet.{is_used}
-use Rattle.def_text.specs.Text.{numbers_to}
+use Rattle.def_text.specs.Text.{numbers_to, place_of}
 
 -- The line of the first face that names a `v` line above the last.
 abbrev pub first_late : ℕ → List (List ℕ) → List ℕ → Option ℕ
@@ -28,3 +30,15 @@ chosen marks n = filter (λ k. slice_index_or marks (k - 1) false) (numbers_to n
 pub record IsCounted (marks : List Bool) (vertices : List ℕ) : Type 0 where
   pub size : length vertices ≡ length marks
   pub each : (k : ℕ) → k < length marks → slice_index vertices k ≡ length (chosen marks k)
+
+-- The refusal of a face at this line.
+abbrev pub IsLate : ObjFail → Option ℕ → Type 0
+IsLate fail late = MatchOption late ⊥ (λ line. fail ≡ Range line)
+
+-- The marked ones of the first k places stand in front, with their numbers, and the places from k on are as they were.
+pub record IsKept (marks : List Bool) (old places : List (List ℤ)) (names : List ℕ) (k : ℕ) : Type 0 where
+  pub names_are : names ≡ chosen marks k
+  pub few : length names ≤ k
+  pub size : length places ≡ length marks
+  pub front : take (length names) places ≡ map (place_of old) (chosen marks k)
+  pub back : drop k places ≡ drop k old

@@ -3,11 +3,13 @@
 
 mod line;
 mod number;
+mod read;
 mod reader;
 mod text;
 mod used;
 mod words;
 
+pub use read::read_obj;
 pub use text::obj_text;
 
 /// Want of memory.

@@ -1,17 +1,21 @@
-ghost use Rattle.std.specs.Prelude.{◌≡◌, ◌≤◌, ◌^◌, Some, None, if◌then◌else◌, length};
-ghost use Rattle.def_text.specs.Reading.{face_reading, is_index, reading, vertex_reading};
+ghost use Rattle.std.specs.Prelude.{◌≡◌, ◌≤◌, ◌^◌, Some, None, if◌then◌else◌, length, slice_set};
+ghost use Rattle.def_text.specs.Reading.{face_reading, is_comment, is_index, is_letter, is_special, reading, vertex_reading};
+ghost use Rattle.std.specs.List.{list_any};
 ghost use Rattle.def_text.specs.Digits.{number};
 ghost use Rattle.def_text.specs.Words.{words};
 
 use crate::number::{read_number, read_plain};
 use crate::words::next_word;
-use def_text::{ObjFail, Reading};
+use def_text::{Micro, ObjFail, Reading};
 
 const MAX_LINE: usize = 65_536;
+
 const MAX_VERTICES: u32 = 2_097_152;
+
 const MAX_FACES: u32 = 1_048_576;
 
 /// What a logical line says after so many `v` and `f` lines.
+#[tactic(auto, using(crate::proofs::WordLemmas::by_first_word))]
 pub(crate) fn read_line(line: u32, vertices: u32, faces: u32, text: &[u8]) -> Reading
     requires { vertices ≤ 2 ^ 21 }
     ensures { result ≡ reading vertices faces (record { number = line; size = length text.now; text = text.now }) }
@@ -19,17 +23,43 @@ pub(crate) fn read_line(line: u32, vertices: u32, faces: u32, text: &[u8]) -> Re
     if text.len() > MAX_LINE {
         return refused(line);
     }
-    if let [b'#', ..] = text {
+    if begins_comment(text) {
         return Reading::Passed;
     }
-    if text.iter().any(|byte| *byte == b'#' || *byte == b'\\') {
+    if has_special(text) {
         return refused(line);
     }
     let (first, rest) = next_word(text);
-    match first {
-        [b'v'] => read_vertex(line, vertices, rest),
-        [b'f'] => read_face(line, vertices, faces, rest),
-        _ => Reading::Passed,
+    if is_one(first, b'v') {
+        read_vertex(line, vertices, rest)
+    } else if is_one(first, b'f') {
+        read_face(line, vertices, faces, rest)
+    } else {
+        Reading::Passed
+    }
+}
+
+fn begins_comment(text: &[u8]) -> bool
+    ensures { result ≡ is_comment text.now }
+{
+    match text {
+        [first, ..] => *first == b'#',
+        [] => false,
+    }
+}
+
+fn has_special(text: &[u8]) -> bool
+    ensures { result ≡ list_any is_special text.now }
+{
+    text.iter().any(|byte| *byte == b'#' || *byte == b'\\')
+}
+
+fn is_one(word: &[u8], letter: u8) -> bool
+    ensures { result ≡ is_letter letter word.now }
+{
+    match word {
+        [byte] => *byte == letter,
+        _ => false,
     }
 }
 
@@ -42,13 +72,36 @@ fn refused(line: u32) -> Reading
 fn read_vertex(line: u32, vertices: u32, text: &[u8]) -> Reading
     ensures { result ≡ vertex_reading line vertices (words text.now) }
 {
-    let (x, rest) = next_word(text);
-    let (y, rest) = next_word(rest);
-    let (z, rest) = next_word(rest);
-    let (extra, _) = next_word(rest);
-    match (read_plain(x), read_plain(y), read_plain(z)) {
-        (Some(x), Some(y), Some(z)) if vertices < MAX_VERTICES && extra.is_empty() => Reading::Place([x, y, z]),
-        _ => refused(line),
+    if vertices >= MAX_VERTICES {
+        return refused(line);
+    }
+    let mut place = [Micro { n: 0 }; 3];
+    let mut count = 0;
+    let mut rest = text;
+    'words: loop {
+        let (word, after) = next_word(rest);
+        if word.is_empty() {
+            break;
+        }
+        let Some(number) = read_plain(word) else {
+            return refused(line);
+        };
+        put(&mut place, count, number);
+        count += 1;
+        rest = after;
+    }
+    if count == 3 {
+        Reading::Place(place)
+    } else {
+        refused(line)
+    }
+}
+
+fn put<T: Copy>(slots: &mut [T], i: usize, value: T)
+    ensures { slots.new ≡ slice_set slots.old i value }
+{
+    if i < slots.len() {
+        slots[i] = value;
     }
 }
 
@@ -56,16 +109,28 @@ fn read_face(line: u32, vertices: u32, faces: u32, text: &[u8]) -> Reading
     requires { vertices ≤ 2 ^ 21 }
     ensures { result ≡ face_reading line vertices faces (words text.now) }
 {
-    let (a, rest) = next_word(text);
-    let (b, rest) = next_word(rest);
-    let (c, rest) = next_word(rest);
-    let (d, rest) = next_word(rest);
-    let (extra, _) = next_word(rest);
-    match (read_index(a, vertices), read_index(b, vertices), read_index(c, vertices), read_index(d, vertices)) {
-        (Some(a), Some(b), Some(c), Some(d)) if faces < MAX_FACES && extra.is_empty() => {
-            Reading::Face { line, corners: [a, b, c, d] }
+    if faces >= MAX_FACES {
+        return refused(line);
+    }
+    let mut corners = [0; 4];
+    let mut count = 0;
+    let mut rest = text;
+    'words: loop {
+        let (word, after) = next_word(rest);
+        if word.is_empty() {
+            break;
         }
-        _ => refused(line),
+        let Some(corner) = read_index(word, vertices) else {
+            return refused(line);
+        };
+        put(&mut corners, count, corner);
+        count += 1;
+        rest = after;
+    }
+    if count == 4 {
+        Reading::Face { line, corners }
+    } else {
+        refused(line)
     }
 }
 

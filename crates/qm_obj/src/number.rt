@@ -1,7 +1,13 @@
 ghost use Rattle.std.specs.Prelude.{◌≡◌, ◌<◌, ◌≤◌, ◌*◌, ◌-◌, ◌^◌, min, Some, None, IfSome, if◌then◌else◌, length};
 ghost use Rattle.def_text.specs.Digits.{is_number, number};
 ghost use Rattle.def_text.specs.Reading.{
-    fraction_of, is_fraction, is_magnitude, is_plain, is_short_number, millionths, millionths_of
+  fraction_of,
+  is_fraction,
+  is_magnitude,
+  is_plain,
+  is_short_number,
+  millionths,
+  millionths_of,
 };
 
 use crate::words::find_byte;

@@ -1,8 +1,8 @@
-ghost use Rattle.std.specs.Prelude.{◌≡◌, ◌≢◌, ◌≤◌, ◌<◌, ◌^◌, ◌++◌, ◌∷◌, [], length, IsTrue, IfOk, OnOk, IfErr};
+ghost use Rattle.std.specs.Prelude.{◌≡◌, ◌≢◌, ◌≤◌, ◌<◌, ◌^◌, ◌++◌, ◌∷◌, [], length, nat_lt, None, IsTrue, IfOk, OnOk, IfErr};
 ghost use Rattle.std.specs.List.{list_all};
 ghost use Rattle.def_text.specs.Reading.{reading};
-ghost use Rattle.def_text.specs.Text.{face_in, face_set, first_refusal, place_in, refusal_in};
-ghost use Rattle.qm_obj.specs.Kept.{first_late};
+ghost use Rattle.def_text.specs.Text.{face_in, face_set, place_in, refusal_in};
+ghost use Rattle.qm_obj.specs.Kept.{first_late, IsLate};
 ghost use Rattle.qm_obj.specs.Lines.{line_in};
 
 use crate::line::read_line;
@@ -35,23 +35,24 @@ impl Reader {
     pub(crate) fn take(&mut self, line: u32, text: &[u8]) -> Result<(), ObjFail>
         requires vertices { length self.old.places.items ≤ 2 ^ 21 }
         requires faces { length self.old.faces.items ≤ 2 ^ 20 }
-        ensures kept {
-            OnOk result (
-                let said = reading (length self.old.places.items) (length self.old.faces.items)
-                    (record { number = line; size = length text.now; text = text.now }) in
-                (refusal_in said ≡ [])
-                    × (self.new.places.items ≡ self.old.places.items ++ place_in said)
-                    × (self.new.faces.items ≡ self.old.faces.items ++ face_in said)
-                    × (self.new.lines.items ≡ self.old.lines.items ++ line_in said)
-            )
-        }
-        ensures refused {
-            IfErr result (λ fail. fail ≢ ObjFail.Memory →
-                reading (length self.old.places.items) (length self.old.faces.items)
-                    (record { number = line; size = length text.now; text = text.now }) ≡ Reading.Refused fail)
-        }
+        ensures kept { OnOk result (
+            let said = reading (length self.old.places.items) (length self.old.faces.items)
+            (record { number = line; size = length text.now; text = text.now }) in
+            (refusal_in said ≡ [])
+            × (self.new.places.items ≡ self.old.places.items ++ place_in said)
+            × (self.new.faces.items ≡ self.old.faces.items ++ face_in said)
+            × (self.new.lines.items ≡ self.old.lines.items ++ line_in said)
+            ) }
+        ensures refused { IfErr result (λ fail. fail ≢ ObjFail.Memory →
+            reading (length self.old.places.items) (length self.old.faces.items)
+            (record { number = line; size = length text.now; text = text.now }) ≡ Reading.Refused fail) }
     {
-        match read_line(line, self.places.len() as u32, self.faces.len() as u32, text) {
+        match read_line(
+            line,
+            self.places.len() as u32,
+            self.faces.len() as u32,
+            text,
+        ) {
             Reading::Passed => Ok(()),
             Reading::Place(place) => self.places.push(place).map_err(|_| ObjFail::Memory),
             Reading::Face { line, corners } => self.keep_face(line, corners),
@@ -67,5 +68,33 @@ impl Reader {
     {
         self.faces.push(corners).map_err(|_| ObjFail::Memory)?;
         self.lines.push(line).map_err(|_| ObjFail::Memory)
+    }
+
+    /// The soup of all lines that were taken, or the refusal of the first face that names no place.
+    pub(crate) fn finish(self, alloc: Global) -> Result<Soup, ObjFail>
+        requires few { length self.places.items ≤ 2 ^ 21 }
+        requires lines { length self.lines.items ≡ length self.faces.items }
+        requires positive { IsTrue (list_all (list_all (λ corner. nat_lt 0 corner)) self.faces.items) }
+        ensures soup { IfOk result (λ soup. (first_late (length self.places.items) self.faces.items self.lines.items ≡ None)
+            × (soup ≡ face_set self.places.items self.faces.items)) }
+        ensures late { IfErr result (λ fail. fail ≢ ObjFail.Memory → IsLate fail
+            (first_late (length self.places.items) self.faces.items self.lines.items)) }
+    {
+        let Reader {
+            mut places,
+            mut faces,
+            lines,
+        } = self;
+        if let Some(line) = late_line(places.len() as u32, &faces, &lines) {
+            return Err(ObjFail::Range { line });
+        }
+        match drop_unused(alloc, &mut places, &mut faces) {
+            Ok(names) => Ok(Soup {
+                pos: places,
+                faces,
+                names,
+            }),
+            Err(_) => Err(ObjFail::Memory),
+        }
     }
 }

@@ -18,4 +18,4 @@ returns-clause-exact c =
 pub returns-clause-small : goal.returns-clause-small
 returns-clause-small c =
     rw (returns-clause-exact c) (some_if (is_short_number c.args.most c.args.digits.now) (number c.args.digits.now) (λ n. n < 10 ^ length c.args.digits.now)
-        (λ is. number_small c.args.digits.now (all_digits c.args.digits.now ((and_parts _ _ is).1))))
+    (λ is. number_small c.args.digits.now (all_digits c.args.digits.now ((and_parts _ _ is).1))))
