@@ -1,5 +1,8 @@
 mod CornerLemmas
 mod JoinLemmas
+mod LawSoup
+mod LawStub
+mod LawText
 mod LineLemmas
 mod ListLemmas
 mod NumberLemmas

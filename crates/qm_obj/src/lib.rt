@@ -4,6 +4,7 @@
 mod corner;
 mod decimal;
 mod joining;
+mod law;
 mod line;
 mod number;
 mod piece;
@@ -16,6 +17,7 @@ mod words;
 
 pub use corner::read_index;
 pub use joining::logical;
+pub use law::reads_back;
 pub use piece::Logical;
 pub use read::read_obj;
 pub use text::obj_text;
