@@ -1,0 +1,38 @@
+-- Refusals of the layers below as refusals of a run.
+use Rattle.std.proofs.Common.{◌≡◌, ◌≢◌, ℕ, ◌-◌, List, length, take, drop, Option, Err, sym, ◌∙◌, ap, subst, refl, arith}
+use Rattle.std.specs.Prelude.{slice_range}
+use Rattle.std.proofs.Math.Seq.{take-length}
+use Rattle.qm_io.specs.Lines.{lines_of}
+use Rattle.def_text.specs.Text.{text_soup}
+use Rattle.def_text.specs.declared.refusal.ObjFail.{ObjFail}
+use Rattle.def_text.specs.declared.refusal.ObjFail.TheVariants.{Syntax, NotQuad, Range, Limit, Memory}
+use Rattle.def_text.specs.declared.refusal.Which.TheVariants.{Bytes, Line, Vertices, Faces}
+use Rattle.def_run.specs.Causes.{IsRefusedFor, ReadRefused, ReadWhole}
+use Rattle.def_run.specs.declared.answer.Answer.{Answer}
+use Rattle.qm_top.specs.Steps.{answer_of_text}
+
+-- All of a list, as a range.
+pub whole_range : {X : Type 0} (xs : List X) (n : ℕ) → n ≡ length xs → slice_range xs 0 n ≡ xs
+whole_range xs n is = let many : n - 0 ≡ length xs = omega arith in ap (λ (m : ℕ). take m xs) many ∙ take-length xs
+
+-- A text that is refused gives the answer of its refusal.
+pub text_refused : (before after : Option (List ℕ)) (bytes : List ℕ) (fail : ObjFail) (answer : Answer)
+    → answer ≡ answer_of_text fail → ReadWhole before after bytes
+    → ((line : ℕ) → fail ≡ Limit Bytes line → ⊥)
+    → (fail ≢ Memory → text_soup 1 (lines_of bytes) ≡ Err fail) → IsRefusedFor before after answer
+text_refused before after bytes fail answer is whole never said =
+    subst (IsRefusedFor before after) (sym is) (by_case fail whole never said)
+  where
+    refused : (f : ObjFail) → ReadWhole before after bytes → text_soup 1 (lines_of bytes) ≡ Err f → ReadRefused before after f
+    refused f whole s = record { bytes = bytes; whole = whole; said = s }
+
+    by_case : (f : ObjFail) → ReadWhole before after bytes → ((line : ℕ) → f ≡ Limit Bytes line → ⊥)
+        → (f ≢ Memory → text_soup 1 (lines_of bytes) ≡ Err f) → IsRefusedFor before after (answer_of_text f)
+    by_case (Syntax line) w n s = refused (Syntax line) w (s (λ e. cc))
+    by_case (NotQuad line corners) w n s = refused (NotQuad line corners) w (s (λ e. cc))
+    by_case (Range line) w n s = refused (Range line) w (s (λ e. cc))
+    by_case (Limit Bytes line) w n s = absurd (n line refl)
+    by_case (Limit Line line) w n s = refused (Limit Line line) w (s (λ e. cc))
+    by_case (Limit Vertices line) w n s = refused (Limit Vertices line) w (s (λ e. cc))
+    by_case (Limit Faces line) w n s = refused (Limit Faces line) w (s (λ e. cc))
+    by_case Memory w n s = tt
