@@ -1,5 +1,5 @@
 -- Laws of darts: the steps round a face.
-use Rattle.std.proofs.Common.{◌≡◌, ℕ, ◌+◌, ◌*◌, ◌/◌, ◌%◌, ◌<◌, List, length, ap, ◌∙◌, arith}
+use Rattle.std.proofs.Common.{◌≡◌, ℕ, ◌+◌, ◌*◌, ◌/◌, ◌%◌, ◌-◌, ◌<◌, ◌≤◌, List, length, ap, ◌∙◌, arith}
 use Rattle.std.proofs.lemmas.Bool.Decides.{nat_tests}
 use Rattle.def_mesh.specs.Darts.{darts, next_of, prev_of, from_of, to_of}
 use Rattle.def_mesh.specs.Vertices.{NamesBelow}
@@ -17,6 +17,19 @@ prev_of-next_of d = grind (arith, nat_tests)
 
 pub next_of-prev_of : (d : ℕ) → next_of (prev_of d) ≡ d
 next_of-prev_of d = grind (arith, nat_tests)
+
+-- the next dart belongs to the same face, and begins at its next corner
+pub next_face : (d : ℕ) → next_of d / 4 ≡ d / 4
+next_face d = grind (arith, nat_tests)
+
+pub next_place : (d : ℕ) → d % 4 < 3 → next_of d % 4 ≡ d % 4 + 1
+next_place d l = grind (arith, nat_tests)
+
+pub next_first : (d : ℕ) → d % 4 ≡ 3 → next_of d % 4 ≡ 0
+next_first d e = grind (arith, nat_tests)
+
+pub two_on : (d : ℕ) → (d % 4 < 2 → next_of (next_of d) % 4 ≡ d % 4 + 2) × (2 ≤ d % 4 → next_of (next_of d) % 4 ≡ d % 4 - 2)
+two_on d = (λ l. grind (arith, nat_tests), λ l. grind (arith, nat_tests))
 
 -- four steps lead back
 pub four_steps : (d : ℕ) → next_of (next_of (next_of (next_of d))) ≡ d

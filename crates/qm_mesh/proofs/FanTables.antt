@@ -1,10 +1,11 @@
 -- The table of fans as darts are added in order.
 use Rattle.std.proofs.Common.{◌≡◌, ℕ, zero, suc, ◌+◌, ◌<◌, ◌≤◌, Bool, true, false, cond, eqb, List, [], ◌∷◌, ◌++◌, length, get_or, set, map, sym, subst, ap, ◌∙◌, refl, inl, inr, arith, replicate}
 use Rattle.std.proofs.lemmas.Bool.{cases_eq, eq-eqb, ne_eqb}
-use Rattle.std.proofs.lemmas.List.{append-nil, length-set, length-replicate, get_or-replicate, get_or-set_same, get_or-set_other}
+use Rattle.std.proofs.lemmas.List.{append-nil, length-map, length-set, length-replicate, get_or-replicate, get_or-set_same, get_or-set_other}
 use Rattle.std.specs.List.{filter, range_with_len}
 use Rattle.smallvec.specs.SmallVec.{SmallVec}
 use Rattle.def_mesh.specs.Darts.{darts, from_of}
+use Rattle.def_mesh.specs.Vertices.{fan_of}
 use Rattle.qm_mesh.specs.Tables.{fan_lists, fan_at, HoldDarts, AreFans}
 use Rattle.qm_mesh.proofs.Rising.{filter_range_more}
 
@@ -34,3 +35,7 @@ hold_more faces n k v fans more h e low put = record { long = ap length put ∙ 
 
 pub fans_whole : (faces : List (List ℕ)) (n k : ℕ) (fans : List (SmallVec ℕ)) → HoldDarts faces n k fans → k ≡ darts faces → AreFans faces n fans
 fans_whole faces n k fans h e = record { long = h.long; each = λ v l. h.each v l ∙ ap (λ m. filter (λ d. eqb (from_of faces d) v) (range_with_len 0 m)) e }
+
+-- the fan that was read is that of its vertex
+pub fan_found : (faces : List (List ℕ)) (n v : ℕ) (fans : List (SmallVec ℕ)) (fan : SmallVec ℕ) → AreFans faces n fans → v < length fans → fan ≡ get_or fans v fan → fan.items ≡ fan_of faces v
+fan_found faces n v fans fan h l e = fan_read fans v fan l e ∙ h.each v (omega (arith, h.long, length-map fans (λ (f : SmallVec ℕ). f.items)))

@@ -59,7 +59,7 @@ pub record AreMarkedBefore (faces : List (List ℕ)) (v : ℕ) (fan : List ℕ) 
   pub first : FirstBefore faces v fan i twice
 
 -- what is below i + 1 is below i, or is i
-last_or : (i t : ℕ) → t < i + 1 → (t < i) ⊎ (t ≡ i)
+pub last_or : (i t : ℕ) → t < i + 1 → (t < i) ⊎ (t ≡ i)
 last_or i t l = elim (cases_lt t i) [ inl b ↦ inl b | inr b ↦ inr (omega arith) ]
 
 -- d stands at its end, or a lesser dart that runs as it does: the table where d had none

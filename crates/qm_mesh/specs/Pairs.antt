@@ -63,3 +63,10 @@ abbrev pub IsLesser : Option (ℕ × ℕ) → Option (ℕ × ℕ) → Option (�
 IsLesser None b c = c ≡ b
 IsLesser (Some p) None c = c ≡ Some p
 IsLesser (Some p) (Some q) c = ((q.1 < p.1) × (c ≡ Some q)) ⊎ ((p.1 ≤ q.1) × (c ≡ Some p))
+
+-- whether d has a twin, by the table of partners
+abbrev pub IsPaired : List ℕ → ℕ → Type 0
+IsPaired twins d = slice_index twins d ≢ d
+
+abbrev pub IsAlone : List ℕ → ℕ → Type 0
+IsAlone twins d = slice_index twins d ≡ d

@@ -1,9 +1,11 @@
 -- The tables that a mesh keeps beside its faces.
-use Rattle.std.specs.Prelude.{◌≡◌, ◌⊎◌, ℕ, ◌<◌, List, [], map, length, filter, ◌==◌, slice_index_or}
+use Rattle.std.specs.Prelude.{◌≡◌, ℕ, ◌^◌, ◌<◌, List, [], map, length, filter, ◌==◌, slice_index_or}
 use Rattle.smallvec.specs.SmallVec.{SmallVec}
 use Rattle.std.specs.List.{range_with_len}
-use Rattle.def_mesh.specs.Darts.{darts, from_of, IsTwin}
-use Rattle.def_mesh.specs.Vertices.{fan_of}
+use Rattle.def_mesh.specs.Darts.{from_of}
+use Rattle.def_mesh.specs.Vertices.{fan_of, vertex_count}
+use Rattle.def_mesh.specs.Meshes.{IsMesh}
+use Rattle.qm_mesh.specs.Pairs.{ArePartners}
 
 -- the darts of each fan
 abbrev pub fan_lists : List (SmallVec ℕ) → List (List ℕ)
@@ -22,3 +24,10 @@ pub record HoldDarts (faces : List (List ℕ)) (n k : ℕ) (fans : List (SmallVe
 pub record AreFans (faces : List (List ℕ)) (n : ℕ) (fans : List (SmallVec ℕ)) : Type 0 where
   pub long : length (fan_lists fans) ≡ n
   pub each : (v : ℕ) → v < n → fan_at fans v ≡ fan_of faces v
+
+-- the tables of a mesh are those of its faces
+pub record IsMeshOf (faces : List (List ℕ)) (twins : List ℕ) (fans : List (SmallVec ℕ)) : Type 0 where
+  pub mesh : IsMesh faces
+  pub small : vertex_count faces < 2 ^ 32
+  pub partners : ArePartners faces twins
+  pub each_fan : AreFans faces (vertex_count faces) fans

@@ -1,6 +1,6 @@
 //! The darts of a list of faces: each call reads one or two corners.
 
-ghost use Rattle.std.specs.Prelude.{◌≡◌, ◌<◌, ◌^◌, ◌&&◌, ◌==◌};
+ghost use Rattle.std.specs.Prelude.{◌≡◌, ◌<◌, ◌&&◌, ◌==◌};
 ghost use Rattle.def_mesh.specs.Darts.{darts, next_of, prev_of, from_of, to_of};
 
 pub(crate) fn next(d: u32) -> u32
@@ -10,7 +10,6 @@ pub(crate) fn next(d: u32) -> u32
 }
 
 pub(crate) fn prev(d: u32) -> u32
-    requires { d < 2 ^ 31 }
     ensures { result ≡ prev_of d }
 {
     if d % 4 == 0 { d + 3 } else { d - 1 }

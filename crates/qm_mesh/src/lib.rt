@@ -2,15 +2,18 @@
 
 #![tactic(auto)]
 
-// mod build;
 mod darts;
 mod fail;
 mod fans;
-// mod mesh;
-// mod one_fan;
+mod law;
+mod manifold;
+mod mesh;
+mod one_fan;
 mod repeats;
+mod table;
 mod twins;
 
-// pub use build::build;
+pub use law::manifold_law;
+pub use manifold::build;
 pub use fail::MeshFail;
-// pub use mesh::Mesh;
+pub use mesh::Mesh;

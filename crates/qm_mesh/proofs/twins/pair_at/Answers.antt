@@ -4,10 +4,6 @@ use Rattle.qm_mesh.proofs.DartLaws.{before_ends, before_low}
 use Rattle.qm_mesh.proofs.Marks.{IsFan, is_fan, pair_more, paired_all}
 use Rattle.qm_mesh.proofs.twins.pair_at.Goals as goal
 
-pub prev-e-requires : goal.prev-e-requires
-prev-e-requires c = let h : IsFan c.args.faces.now c.args.v c.args.fan.now = is_fan _ _ _ c.requires.fan in
-  omega (arith, h.dart c.loop-d.d-index c.loop-d-test.true)
-
 pub partner-requires-clause-dart : goal.partner-requires-clause-dart
 partner-requires-clause-dart c = before_low _ _ _ c.prev-e.ensures ((is_fan _ _ _ c.requires.fan).dart c.loop-d.d-index c.loop-d-test.true)
 
