@@ -1,5 +1,5 @@
 -- What each answer means for the bytes that a run read and wrote.
-use Rattle.std.specs.Prelude.{◌≡◌, ◌≤◌, ◌⊎◌, ℕ, ◌^◌, List, length, Option, Ok, Err, ⊤}
+use Rattle.std.specs.Prelude.{◌≡◌, ◌≤◌, ◌⊎◌, ℕ, ◌^◌, List, length, Option, Some, Ok, Err, ⊤}
 use Rattle.qm_io.specs.Causes.{Rose}
 use Rattle.qm_io.specs.Lines.{lines_of}
 use Rattle.qm_io.specs.Moves.{gave, took, GaveMore, IsEmptied, TookFront}
@@ -47,6 +47,7 @@ pub record ReadNoManifold (before after : Option (List ℕ)) (place : Place) : T
   pub soup : FaceSet
   pub read : ReadSoup before after soup
   pub fault : IsFirstFault soup.faces place
+  pub refuted : ¬ IsManifold soup.faces
 
 -- What each refusal of `tidy` says of the bytes that the source gave.
 abbrev pub IsRefusedFor : Option (List ℕ) → Option (List ℕ) → Answer → Type 0
@@ -77,6 +78,15 @@ pub record TidiedFront (before after taken now : Option (List ℕ)) : Type 0 whe
   pub read : ReadSoup before after soup
   pub manifold : IsManifold soup.faces
   pub written : TookFront taken now (canonical_text soup)
+
+-- A source that holds a text with a manifold soup, within the limit of bytes.
+pub record IsGood (left : Option (List ℕ)) : Type 0 where
+  pub bytes : List ℕ
+  pub told : left ≡ Some bytes
+  pub few : length bytes ≤ 2 ^ 29
+  pub soup : FaceSet
+  pub said : text_soup 1 (lines_of bytes) ≡ Ok soup
+  pub manifold : IsManifold soup.faces
 
 -- The sink took this line, or failed and took a front of it.
 abbrev pub Said : List ℕ → Option (List ℕ) → Option (List ℕ) → ℕ → ℕ → Type 0

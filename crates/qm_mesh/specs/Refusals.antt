@@ -1,18 +1,9 @@
 -- What each refusal of a face list says of it.
-use Rattle.std.specs.Prelude.{◌≡◌, ℕ, ◌/◌, List, ⊤}
-use Rattle.def_mesh.specs.Darts.{from_of, to_of}
+use Rattle.std.specs.Prelude.{ℕ, List, ⊤}
 use Rattle.def_mesh.specs.Manifold.{IsRepeatFree, HasEdgesOnce}
-use Rattle.def_mesh.specs.Faults.{IsFirstRepeat, IsFirstTwice, IsFirstTwoFans}
+use Rattle.def_mesh.specs.Faults.{IsFirstRepeat, IsFirstTwoFans, NamesTwice}
 use Rattle.qm_mesh.specs.declared.fail.MeshFail.{MeshFail}
 use Rattle.qm_mesh.specs.declared.fail.MeshFail.TheVariants.{Repeated, EdgeTwice, TwoFans, Memory}
-
--- the darts d and e are the first two along one directed edge, and the refusal names their ends and faces
-pub record NamesTwice (faces : List (List ℕ)) (from to face1 face2 d e : ℕ) : Type 0 where
-  pub first : IsFirstTwice faces d e
-  pub start : from ≡ from_of faces e
-  pub end : to ≡ to_of faces e
-  pub earlier : face1 ≡ d / 4
-  pub later : face2 ≡ e / 4
 
 -- the first of the three facts that fails, at its least place
 abbrev pub IsRefusal : List (List ℕ) → MeshFail → Type 0

@@ -1,6 +1,7 @@
 -- What the steps of a run answer.
 use Rattle.std.specs.Prelude.{◌≡◌, ◌≢◌, ◌⊎◌, ℕ, List, Option, ⊤}
 use Rattle.def_text.specs.FaceSet.{FaceSet}
+use Rattle.def_mesh.specs.Manifold.{IsManifold}
 use Rattle.def_run.specs.Causes.{AreNames, IsFirstFault, IsRefusedFor}
 use Rattle.def_run.specs.ErrorLines.{error_line}
 use Rattle.def_run.specs.declared.answer.Answer.{Answer}
@@ -27,7 +28,7 @@ IsReading WriteFault = ⊥
 
 -- An answer of the check of a soup: where its faces fail to be a manifold.
 abbrev pub IsCheck : List (List ℕ) → Answer → Type 0
-IsCheck faces (NotManifold place) = IsFirstFault faces place
+IsCheck faces (NotManifold place) = IsFirstFault faces place × (¬ IsManifold faces)
 IsCheck faces Memory = ⊤
 IsCheck faces Done = ⊥
 IsCheck faces Usage = ⊥

@@ -1,7 +1,7 @@
 ghost use Rattle.std.specs.Prelude.{◌≡◌, ◌≢◌, ◌↔◌, ◌⊎◌, map, string_bytes, IsTrue};
 ghost use Rattle.qm_io.specs.Causes.{Rose};
 ghost use Rattle.def_run.specs.CommandLines.{IsTidy};
-ghost use Rattle.def_run.specs.Causes.{IsRefusedFor, Said, SaidWhy, Tidied, TidiedFront};
+ghost use Rattle.def_run.specs.Causes.{IsGood, IsRefusedFor, Said, SaidWhy, Tidied, TidiedFront};
 
 use def_run::Answer;
 use qm_io::{Sink, Source, write_all};
@@ -23,6 +23,10 @@ pub fn run<S: Source, O: Sink, E: Sink>(
 ) -> Answer
     ensures accepted { result ≢ Answer.Usage → IsTidy (map string_bytes words.now) }
     ensures usage { result ≡ Answer.Usage → ¬ IsTidy (map string_bytes words.now) }
+    // What is good is done, unless a stream fails or memory is wanting.
+    ensures complete { IsTidy (map string_bytes words.now) → IsGood (S.left input.old) →
+        (result ≡ Answer.Done) ⊎ ((result ≡ Answer.Memory) ⊎
+            (Rose (S.faults input.old) (S.faults input.new) ⊎ Rose (O.faults out.old) (O.faults out.new))) }
     ensures done { result ≡ Answer.Done →
         Tidied (S.left input.old) (S.left input.new) (O.taken out.old) (O.taken out.new) }
     ensures refused { IsRefusedFor (S.left input.old) (S.left input.new) result }

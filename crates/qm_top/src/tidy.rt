@@ -127,7 +127,8 @@ fn check_faces(alloc: Global, vertices: u32, faces: &[[u32; 4]]) -> Result<(), A
 }
 
 fn mesh_answer(fail: MeshFail) -> Answer
-    ensures { (faces : List (List ℕ)) → IsMeshRefusal faces fail → IsCheck faces result }
+    ensures { (faces : List (List ℕ)) → IsMeshRefusal faces fail → (fail ≢ MeshFail.Memory → ¬ IsManifold faces)
+        → IsCheck faces result }
 {
     match fail {
         MeshFail::Repeated { face, vertex } => not_manifold(Place::Repeated { face, vertex }),

@@ -8,4 +8,4 @@ pub build-requires-clause-used : goal.build-requires-clause-used
 build-requires-clause-used c = uses_each c.args.vertices c.args.faces.now c.told-faces c.requires.used
 
 pub returns-in-Err-clause-place : goal.returns-in-Err-clause-place
-returns-in-Err-clause-place c = c.mesh_answer.ensures c.args.faces.now c.in-Err.ensures.refused
+returns-in-Err-clause-place c = c.mesh_answer.ensures c.args.faces.now c.in-Err.ensures.refusal c.in-Err.ensures.no_manifold
