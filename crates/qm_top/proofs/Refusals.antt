@@ -12,6 +12,7 @@ use Rattle.def_run.specs.Causes.{IsRefusedFor, ReadRefused, ReadSoup, ReadWhole}
 use Rattle.def_run.specs.ErrorLines.{error_line}
 use Rattle.def_run.specs.declared.answer.Answer.TheVariants as answers
 use Rattle.def_run.specs.declared.answer.Answer.{Answer}
+use Rattle.qm_top.proofs.NeverBytes.{never_bytes}
 use Rattle.qm_top.specs.Steps.{answer_of_text, IsCheck, IsRefusal}
 
 -- All of a list, as a range.
@@ -21,24 +22,23 @@ whole_range xs n is = let many : n - 0 ≡ length xs = omega arith in ap (λ (m 
 -- A text that is refused gives the answer of its refusal.
 pub text_refused : (before after : Option (List ℕ)) (bytes : List ℕ) (fail : ObjFail) (answer : Answer)
     → answer ≡ answer_of_text fail → ReadWhole before after bytes
-    → ((line : ℕ) → fail ≡ Limit Bytes line → ⊥)
     → (fail ≢ Memory → text_soup 1 (lines_of bytes) ≡ Err fail) → IsRefusedFor before after answer
-text_refused before after bytes fail answer is whole never said =
-    subst (IsRefusedFor before after) (sym is) (by_case fail whole never said)
+text_refused before after bytes fail answer is whole said =
+    subst (IsRefusedFor before after) (sym is) (by_case fail whole said)
   where
     refused : (f : ObjFail) → ReadWhole before after bytes → text_soup 1 (lines_of bytes) ≡ Err f → ReadRefused before after f
     refused f whole s = record { bytes = bytes; whole = whole; said = s }
 
-    by_case : (f : ObjFail) → ReadWhole before after bytes → ((line : ℕ) → f ≡ Limit Bytes line → ⊥)
+    by_case : (f : ObjFail) → ReadWhole before after bytes
         → (f ≢ Memory → text_soup 1 (lines_of bytes) ≡ Err f) → IsRefusedFor before after (answer_of_text f)
-    by_case (Syntax line) w n s = refused (Syntax line) w (s (λ e. cc))
-    by_case (NotQuad line corners) w n s = refused (NotQuad line corners) w (s (λ e. cc))
-    by_case (Range line) w n s = refused (Range line) w (s (λ e. cc))
-    by_case (Limit Bytes line) w n s = absurd (n line refl)
-    by_case (Limit Line line) w n s = refused (Limit Line line) w (s (λ e. cc))
-    by_case (Limit Vertices line) w n s = refused (Limit Vertices line) w (s (λ e. cc))
-    by_case (Limit Faces line) w n s = refused (Limit Faces line) w (s (λ e. cc))
-    by_case Memory w n s = tt
+    by_case (Syntax line) w s = refused (Syntax line) w (s (λ e. cc))
+    by_case (NotQuad line corners) w s = refused (NotQuad line corners) w (s (λ e. cc))
+    by_case (Range line) w s = refused (Range line) w (s (λ e. cc))
+    by_case (Limit Bytes line) w s = absurd (never_bytes 1 (lines_of bytes) line (s (λ e. cc)))
+    by_case (Limit Line line) w s = refused (Limit Line line) w (s (λ e. cc))
+    by_case (Limit Vertices line) w s = refused (Limit Vertices line) w (s (λ e. cc))
+    by_case (Limit Faces line) w s = refused (Limit Faces line) w (s (λ e. cc))
+    by_case Memory w s = tt
 
 -- A soup that is refused by its check gives a refusal with the names of that soup.
 pub check_refused : (before after : Option (List ℕ)) (soup : FaceSet) (answer said : Answer) (line : List ℕ)

@@ -1,4 +1,4 @@
-use Rattle.std.proofs.Common.{◌≡◌, ℕ, List, Err, sym, ◌∙◌, ap}
+use Rattle.std.proofs.Common.{◌≡◌, ℕ, List, sym, ◌∙◌, ap}
 use Rattle.qm_io.specs.Lines.{lines_of}
 use Rattle.def_text.specs.Text.{text_soup}
 use Rattle.qm_top.proofs.Refusals.{text_refused, whole_range}
@@ -20,7 +20,6 @@ returns-clause-refused g c =
     let read = c.in-Ok.ensures in
     text_refused _ _ c.in-Ok.lines c.in-Err-read_obj.fail c.text_answer.result c.text_answer.ensures
       (record { given = read.bytes; ended = read.whole; few = read.short })
-      (λ line is. c.in-Err-read_obj.ensures.not_bytes line (ap Err is))
       (λ some.
         ap (λ (xs : List (List ℕ)). text_soup 1 xs) (sym (whole_range (lines_of c.in-Ok.lines) c.count.result c.count.ensures))
           ∙ c.in-Err-read_obj.ensures.refused some)
