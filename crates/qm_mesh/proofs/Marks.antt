@@ -6,7 +6,8 @@ use Rattle.std.specs.Option.{option_or}
 use Rattle.def_mesh.specs.Darts.{darts, from_of, to_of, next_of, prev_of, IsTwin}
 use Rattle.def_mesh.specs.Manifold.{IsSameEdge, HasEdgesOnce}
 use Rattle.def_mesh.specs.Faults.{IsFirstTwice}
-use Rattle.def_mesh.specs.Vertices.{fan_of, NamesBelow}
+use Rattle.def_mesh.specs.Vertices.{fan_of}
+use Rattle.qm_mesh.specs.Tables.{NamesBelow}
 use Rattle.qm_mesh.specs.Pairs.{IsPartner, Runs, AreDarts, AreMarked, IsTwice, NoneTwice, IsFirstAt, IsFirstBelow, MarksOne, IsLesser, IsPairing}
 use Rattle.qm_mesh.proofs.Rising.{IsKept, kept_at, place_of, rises}
 use Rattle.qm_mesh.proofs.DartLaws.{next_of_low, prev_of_low, prev_of-next_of, next_of-prev_of}

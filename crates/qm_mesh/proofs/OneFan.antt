@@ -6,7 +6,7 @@ use Rattle.std.specs.Bool.{MatchBool}
 use Rattle.def_mesh.specs.Darts.{darts, from_of, to_of, next_of, prev_of, IsTwin, corner}
 use Rattle.def_mesh.specs.Manifold.{IsRepeatFree, HasEdgesOnce, IsSameEdge, AreNeighbours, Chain, HasOneFan}
 use Rattle.def_mesh.specs.Faults.{IsFirstTwoFans}
-use Rattle.def_mesh.specs.Vertices.{NamesBelow}
+use Rattle.qm_mesh.specs.Tables.{NamesBelow}
 use Rattle.qm_mesh.specs.Pairs.{IsPartner, ArePartners}
 use Rattle.qm_mesh.specs.Turns.{behind, beside_of, edge_beside, IsSeen, Turns, IsClosed, IsBehind, IsVisit}
 use Rattle.qm_mesh.proofs.DartLaws.{next_of_low, prev_of_low, prev_of-next_of, next_of-prev_of, next_face, next_place, next_first}

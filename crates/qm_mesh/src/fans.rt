@@ -1,8 +1,7 @@
 //! The darts that leave each vertex, in rising order.
 
 ghost use Rattle.std.specs.Prelude.{◌≡◌, ◌≤◌, ◌<◌, ◌^◌, [], ◌∷◌, ◌++◌, length, OnOk, IfOk, replicate, slice_set};
-ghost use Rattle.def_mesh.specs.Vertices.{NamesBelow};
-ghost use Rattle.qm_mesh.specs.Tables.{fan_lists, fan_at, AreFans};
+ghost use Rattle.qm_mesh.specs.Tables.{fan_lists, fan_at, AreFans, NamesBelow};
 
 use crate::darts::from;
 use smallvec::SmallVec;

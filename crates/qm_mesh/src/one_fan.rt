@@ -3,9 +3,8 @@
 ghost use Rattle.std.specs.Prelude.{◌≡◌, ◌≤◌, ◌<◌, ◌^◌, ℕ, length, true, false, replicate, OnOk, IfErr, MatchOption, MatchBool, IfSome, slice_index, slice_index_or, slice_set};
 ghost use Rattle.def_mesh.specs.Darts.{darts};
 ghost use Rattle.def_mesh.specs.Manifold.{IsRepeatFree, HasEdgesOnce, HasOneFan};
-ghost use Rattle.def_mesh.specs.Vertices.{NamesBelow, UsesEach};
 ghost use Rattle.qm_mesh.specs.Refusals.{IsRefusal};
-ghost use Rattle.qm_mesh.specs.Tables.{AreFans};
+ghost use Rattle.qm_mesh.specs.Tables.{AreFans, NamesBelow, HasCorners};
 ghost use Rattle.qm_mesh.specs.Pairs.{ArePartners};
 ghost use Rattle.qm_mesh.specs.Turns.{beside_of, IsSeen, IsClosed, IsWalk, IsVisit, ArePlaces};
 
@@ -20,7 +19,7 @@ pub(crate) fn check_fans(alloc: Global, faces: &[[u32; 4]], fans: &[Fan], twins:
     requires repeat_free { IsRepeatFree faces.now }
     requires once { HasEdgesOnce faces.now }
     requires within { NamesBelow (length fans.now) faces.now }
-    requires used { UsesEach (length fans.now) faces.now }
+    requires used { HasCorners (length fans.now) faces.now }
     requires small { length fans.now < 2 ^ 32 }
     requires fans { AreFans faces.now (length fans.now) fans.now }
     requires partners { ArePartners faces.now twins.now }
@@ -36,7 +35,7 @@ fn check_each(faces: &[[u32; 4]], fans: &[Fan], twins: &[u32], seen: &mut [bool]
     requires repeat_free { IsRepeatFree faces.now }
     requires once { HasEdgesOnce faces.now }
     requires within { NamesBelow (length fans.now) faces.now }
-    requires used { UsesEach (length fans.now) faces.now }
+    requires used { HasCorners (length fans.now) faces.now }
     requires small { length fans.now < 2 ^ 32 }
     requires fans { AreFans faces.now (length fans.now) fans.now }
     requires partners { ArePartners faces.now twins.now }

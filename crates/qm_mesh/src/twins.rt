@@ -7,9 +7,9 @@ ghost use Rattle.std.specs.Prelude.{◌≡◌, ◌≢◌, ◌≤◌, ◌<◌, �
 ghost use Rattle.def_mesh.specs.Darts.{darts, from_of, to_of};
 ghost use Rattle.def_mesh.specs.Faults.{IsFirstTwice};
 ghost use Rattle.def_mesh.specs.Manifold.{IsRepeatFree, HasEdgesOnce};
-ghost use Rattle.def_mesh.specs.Vertices.{NamesBelow, fan_of};
+ghost use Rattle.def_mesh.specs.Vertices.{fan_of};
 ghost use Rattle.qm_mesh.specs.Refusals.{IsRefusal};
-ghost use Rattle.qm_mesh.specs.Tables.{AreFans};
+ghost use Rattle.qm_mesh.specs.Tables.{AreFans, NamesBelow};
 ghost use Rattle.qm_mesh.specs.Pairs.{AreDarts, AreMarked, IsPartner, ArePartners, IsFirstAt, IsPairing, MarksOne, IsLesser};
 
 use crate::darts::{from, prev, runs, to};
