@@ -1,5 +1,5 @@
 -- The vertices of a list of faces, and the corners at each.
-use Rattle.std.specs.Prelude.{ℕ, zero, ◌+◌, ◌<◌, Bool, max, ◌==◌, nat_lt, IsTrue, List, [], ◌∷◌, map, filter, length}
+use Rattle.std.specs.Prelude.{ℕ, ◌+◌, ◌<◌, Bool, max, ◌==◌, nat_lt, IsTrue, List, [], ◌∷◌, map, filter, length}
 use Rattle.std.specs.List.{list_all, list_any}
 use Rattle.def_mesh.specs.Darts.{all_darts, from_of}
 

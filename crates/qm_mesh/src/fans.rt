@@ -11,7 +11,11 @@ use std::alloc::{AllocError, Global};
 pub(crate) type Fan = SmallVec<u32, 4>;
 
 /// The fans of all vertices. Linear in darts and vertices.
-pub(crate) fn gather(alloc: Global, vertices: u32, faces: &[[u32; 4]]) -> Result<Vec<Fan>, AllocError>
+pub(crate) fn gather(
+    alloc: Global,
+    vertices: u32,
+    faces: &[[u32; 4]],
+) -> Result<Vec<Fan>, AllocError>
     requires few { length faces.now ≤ 2 ^ 21 }
     requires within { NamesBelow vertices faces.now }
     ensures { IfOk result (λ fans. AreFans faces.now vertices fans.items) }

@@ -14,7 +14,12 @@ use crate::fans::Fan;
 use std::alloc::Global;
 
 /// Refuses the least vertex with more than one fan. Linear in the darts.
-pub(crate) fn check_fans(alloc: Global, faces: &[[u32; 4]], fans: &[Fan], twins: &[u32]) -> Result<(), MeshFail>
+pub(crate) fn check_fans(
+    alloc: Global,
+    faces: &[[u32; 4]],
+    fans: &[Fan],
+    twins: &[u32],
+) -> Result<(), MeshFail>
     requires few { length faces.now ≤ 2 ^ 21 }
     requires repeat_free { IsRepeatFree faces.now }
     requires once { HasEdgesOnce faces.now }
@@ -30,7 +35,12 @@ pub(crate) fn check_fans(alloc: Global, faces: &[[u32; 4]], fans: &[Fan], twins:
     check_each(faces, fans, twins, &mut seen)
 }
 
-fn check_each(faces: &[[u32; 4]], fans: &[Fan], twins: &[u32], seen: &mut [bool]) -> Result<(), MeshFail>
+fn check_each(
+    faces: &[[u32; 4]],
+    fans: &[Fan],
+    twins: &[u32],
+    seen: &mut [bool],
+) -> Result<(), MeshFail>
     requires few { length faces.now ≤ 2 ^ 21 }
     requires repeat_free { IsRepeatFree faces.now }
     requires once { HasEdgesOnce faces.now }
@@ -112,7 +122,11 @@ fn unseen_beside(twins: &[u32], left: bool, at: u32, seen: &[bool]) -> Option<u3
     ensures { MatchOption result (IsClosed left twins.now seen.now at) (λ e. (e < length twins.now) × (beside_of left twins.now at ≡ Some e) × (slice_index_or seen.now e false ≡ false)) }
 {
     let found = beside(twins, left, at)?;
-    if seen[found as usize] { None } else { Some(found) }
+    if seen[found as usize] {
+        None
+    } else {
+        Some(found)
+    }
 }
 
 /// The corner beside that at d round their vertex, to the left or to the right.
