@@ -2,6 +2,7 @@ pub mod Canonical
 pub mod Decimal
 pub mod Digits
 pub mod FaceSet
+pub mod Ratio
 pub mod Reading
 pub mod Text
 pub mod Words

@@ -1,0 +1,16 @@
+//! Decimals and ratios: their words read exactly, the canonical text of a number of millionths.
+
+#![tactic(auto)]
+
+mod fail;
+mod parts;
+mod ratio;
+mod read;
+mod size;
+mod write;
+
+pub use def_text::Micro;
+pub use fail::DecFail;
+pub use ratio::read_ratio;
+pub use read::read_micro;
+pub use write::write_micro;
