@@ -1,6 +1,6 @@
 -- Numbers with a cap.
-use Rattle.std.proofs.Common.{◌≡◌, ℕ, zero, suc, ◌+◌, ◌-◌, ◌*◌, ◌^◌, ◌<◌, ◌≤◌, ◌⊎◌, min, inl, inr, sym, ap, ◌∙◌, refl, arith}
-use Rattle.std.proofs.lemmas.Bool.{cases_lt, cases_eq}
+use Rattle.std.proofs.Common.{◌≡◌, ℕ, zero, suc, ◌+◌, ◌-◌, ◌*◌, ◌^◌, ◌<◌, ◌≤◌, ◌⊎◌, min, inl, inr, sym, ap, ◌∙◌, arith}
+use Rattle.std.proofs.lemmas.Bool.{cases_lt}
 use Rattle.std.proofs.Math.Nat.{mul-le-mul_left, mul-le-mul_right, pow-suc, pow-le-pow_right}
 use Rattle.qm_dec.specs.Sizes.{capped}
 
@@ -11,10 +11,10 @@ cap_linear n q r one = by_size (cases_lt n (10 ^ 15))
     by_size : (n < 10 ^ 15) ⊎ (10 ^ 15 ≤ n) → capped (capped n * q + r) ≡ capped (n * q + r)
     by_size (inl less) = let e : capped n ≡ n = omega arith in ap (λ x. capped (x * q + r)) e
     by_size (inr more) =
-      let e : capped n ≡ 10 ^ 15 = omega arith in
-      let a : 10 ^ 15 * 1 ≤ 10 ^ 15 * q = mul-le-mul_left (10 ^ 15) one in
-      let b : 10 ^ 15 * q ≤ n * q = mul-le-mul_right q more in
-      ap (λ x. capped (x * q + r)) e ∙ omega arith
+        let e : capped n ≡ 10 ^ 15 = omega arith in
+        let a : 10 ^ 15 * 1 ≤ 10 ^ 15 * q = mul-le-mul_left (10 ^ 15) one in
+        let b : 10 ^ 15 * q ≤ n * q = mul-le-mul_right q more in
+        ap (λ x. capped (x * q + r)) e ∙ omega arith
 
 pub cap_scaled : (n q : ℕ) → 1 ≤ q → capped (capped n * q) ≡ capped (n * q)
 cap_scaled n q one = ap capped (omega arith) ∙ cap_linear n q 0 one ∙ ap capped (omega arith)
@@ -26,8 +26,8 @@ ten_power k = pow-le-pow_right {n = 10} (omega arith) {i = 0} {j = k} (omega ari
 pub grown_more : (v p : ℕ) → 0 < p → capped (min (v * 10) (10 ^ 15) * 10 ^ (p - 1)) ≡ capped (v * 10 ^ p)
 grown_more v zero l = absurd (omega arith)
 grown_more v (suc p) l =
-  let e : suc p - 1 ≡ p = omega arith in
-  ap (λ k. capped (min (v * 10) (10 ^ 15) * 10 ^ k)) e ∙ cap_scaled (v * 10) (10 ^ p) (ten_power p) ∙ ap capped (omega (arith, ap (λ x. v * x) (pow-suc 10 p)))
+    let e : suc p - 1 ≡ p = omega arith in
+    ap (λ k. capped (min (v * 10) (10 ^ 15) * 10 ^ k)) e ∙ cap_scaled (v * 10) (10 ^ p) (ten_power p) ∙ ap capped (omega (arith, ap (λ x. v * x) (pow-suc 10 p)))
 
 -- and its ends
 pub grown_none : (p : ℕ) → 0 ≡ capped (0 * 10 ^ p)
@@ -43,6 +43,6 @@ both_far (suc n) i j a b = sym (far i a) ∙ far j b
   where
     far : (k : ℕ) → 15 ≤ k → 10 ^ 15 ≡ capped (suc n * 10 ^ k)
     far k l =
-      let p : 10 ^ 15 ≤ 10 ^ k = pow-le-pow_right {n = 10} (omega arith) {i = 15} {j = k} l in
-      let q : 1 * 10 ^ k ≤ suc n * 10 ^ k = mul-le-mul_right (10 ^ k) (omega arith) in
-      omega arith
+        let p : 10 ^ 15 ≤ 10 ^ k = pow-le-pow_right {n = 10} (omega arith) {i = 15} {j = k} l in
+        let q : 1 * 10 ^ k ≤ suc n * 10 ^ k = mul-le-mul_right (10 ^ k) (omega arith) in
+        omega arith

@@ -1,10 +1,10 @@
 -- The number that digits write, digit by digit and in parts.
-use Rattle.std.proofs.Common.{◌≡◌, ℕ, zero, suc, ◌+◌, ◌-◌, ◌*◌, ◌^◌, ◌<◌, ◌≤◌, min, Bool, true, false, ◌&&◌, leb, List, [], ◌∷◌, ◌++◌, length, take, drop, map, get_or, sym, ap, ◌∙◌, subst, refl, arith}
+use Rattle.std.proofs.Common.{◌≡◌, ℕ, ◌+◌, ◌-◌, ◌*◌, ◌^◌, ◌<◌, ◌≤◌, min, true, leb, List, [], ◌∷◌, ◌++◌, length, take, drop, map, get_or, sym, ap, ◌∙◌, subst, arith}
 use Rattle.std.specs.Char.{is_ascii_digit}
 use Rattle.std.specs.Int.Digits.{number_from_digits, number_from_digits_after, AllBelowBase}
 use Rattle.std.specs.List.{list_all}
-use Rattle.std.proofs.lemmas.Int.Digits.{number_lt, number_after_append, number_push}
-use Rattle.std.proofs.lemmas.List.{map-append, map_push, length-map, length-append, take_more, take-append-drop, drop_more, length-drop, append_assoc}
+use Rattle.std.proofs.lemmas.Int.Digits.{number_lt, number_after_append}
+use Rattle.std.proofs.lemmas.List.{map-append, map_push, length-map, take_more, take-append-drop}
 use Rattle.std.proofs.lemmas.List.Folds.{list_all-append}
 use Rattle.std.proofs.lemmas.Bool.{and_parts, and_from, leb-true}
 use Rattle.std.proofs.Math.Nat.{pow-suc}
@@ -29,9 +29,9 @@ after_capped n vs = ap capped (after_is (capped n) vs) ∙ cap_linear n (10 ^ le
 -- one digit more of a loop
 pub after_more : (n : ℕ) (ds : List ℕ) (i : ℕ) → i < length ds → number_from_digits_after 10 n (values (take (i + 1) ds)) ≡ number_from_digits_after 10 n (values (take i ds)) * 10 + (get_or ds i 0 - 48)
 after_more n ds i l =
-  ap (λ xs. number_from_digits_after 10 n (values xs)) (take_more ds i 0 l)
-  ∙ ap (number_from_digits_after 10 n) (map_push (λ d. d - 48) (take i ds) (get_or ds i 0))
-  ∙ number_after_append 10 n (values (take i ds)) ((get_or ds i 0 - 48) ∷ [])
+    ap (λ xs. number_from_digits_after 10 n (values xs)) (take_more ds i 0 l)
+    ∙ ap (number_from_digits_after 10 n) (map_push (λ d. d - 48) (take i ds) (get_or ds i 0))
+    ∙ number_after_append 10 n (values (take i ds)) ((get_or ds i 0 - 48) ∷ [])
 
 -- digits in two parts
 pub number_append : (xs ys : List ℕ) → number (xs ++ ys) ≡ number_from_digits_after 10 (number xs) (values ys)
@@ -43,8 +43,8 @@ digit_small d is = let both : (leb 48 d ≡ true) × (leb d 57 ≡ true) = and_p
 values_below : (ds : List ℕ) → list_all is_ascii_digit ds ≡ true → AllBelowBase 10 (values ds)
 values_below [] all = tt
 values_below (d ∷ ds) all =
-  let parts : (is_ascii_digit d ≡ true) × (list_all is_ascii_digit ds ≡ true) = and_parts _ _ all in
-  (omega (arith, (digit_small d parts.0).1), values_below ds parts.1)
+    let parts : (is_ascii_digit d ≡ true) × (list_all is_ascii_digit ds ≡ true) = and_parts _ _ all in
+    (omega (arith, (digit_small d parts.0).1), values_below ds parts.1)
 
 -- digits write a number below the power of ten of their count
 pub number_small : (ds : List ℕ) → list_all is_ascii_digit ds ≡ true → number ds < 10 ^ length ds
@@ -57,7 +57,7 @@ two_parts xs ys a b p q = q ∙ ap (λ n. capped (number_from_digits_after 10 n 
 -- one step of a loop over digits
 pub step_more : (n v x : ℕ) (ds : List ℕ) (i : ℕ) → i < length ds → v ≡ capped (number_from_digits_after 10 n (values (take i ds))) → x ≡ min (v * 10 + (get_or ds i 0 - 48)) (10 ^ 15) → x ≡ capped (number_from_digits_after 10 n (values (take (i + 1) ds)))
 step_more n v x ds i l p q =
-  q ∙ ap (λ m. capped (m * 10 + (get_or ds i 0 - 48))) p ∙ cap_linear (number_from_digits_after 10 n (values (take i ds))) 10 (get_or ds i 0 - 48) (omega arith) ∙ ap capped (sym (after_more n ds i l))
+    q ∙ ap (λ m. capped (m * 10 + (get_or ds i 0 - 48))) p ∙ cap_linear (number_from_digits_after 10 n (values (take i ds))) 10 (get_or ds i 0 - 48) (omega arith) ∙ ap capped (sym (after_more n ds i l))
 
 -- digits before a place
 pub digits_before : (ds : List ℕ) (i : ℕ) → list_all is_ascii_digit ds ≡ true → list_all is_ascii_digit (take i ds) ≡ true

@@ -5,3 +5,4 @@ pub mod Forms
 pub mod Trims
 pub mod Texts
 pub mod Ratios
+pub mod ReadBack

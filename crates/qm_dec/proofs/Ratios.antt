@@ -1,5 +1,5 @@
 -- The parts of a ratio's word.
-use Rattle.std.proofs.Common.{◌≡◌, ℕ, zero, suc, ◌+◌, ◌-◌, ◌^◌, ◌<◌, ◌≤◌, min, Bool, true, false, not, cond, eqb, List, [], ◌∷◌, ◌++◌, length, take, drop, get_or, sym, ap, ◌∙◌, subst, refl, arith}
+use Rattle.std.proofs.Common.{◌≡◌, ℕ, suc, ◌+◌, ◌<◌, ◌≤◌, min, Bool, true, false, not, cond, eqb, List, [], ◌∷◌, ◌++◌, length, take, drop, get_or, sym, ap, ◌∙◌, subst, refl, arith}
 use Rattle.std.specs.Prelude.{decimal}
 use Rattle.std.specs.Char.{is_ascii_digit}
 use Rattle.std.specs.List.{list_all, position_or_len}
@@ -36,8 +36,8 @@ first_passes b (x ∷ xs) l = at (b x) refl l (first_passes b xs)
     at : (t : Bool) → b x ≡ t → 0 < length (drop (cond (not t) (1 + position_or_len b xs) 0) (x ∷ xs)) → (0 < length (drop (position_or_len b xs) xs) → b (get_or (drop (position_or_len b xs) xs) 0 0) ≡ true) → b (get_or (drop (cond (not t) (1 + position_or_len b xs) 0) (x ∷ xs)) 0 0) ≡ true
     at true e l after = e
     at false e l after =
-      let s : 1 + position_or_len b xs ≡ suc (position_or_len b xs) = omega arith in
-      subst (λ (n : ℕ). b (get_or (drop n (x ∷ xs)) 0 0) ≡ true) (sym s) (after (subst (λ (n : ℕ). 0 < length (drop n (x ∷ xs))) s l))
+        let s : 1 + position_or_len b xs ≡ suc (position_or_len b xs) = omega arith in
+        subst (λ (n : ℕ). b (get_or (drop n (x ∷ xs)) 0 0) ≡ true) (sym s) (after (subst (λ (n : ℕ). 0 < length (drop n (x ∷ xs))) s l))
 
 first_is : (ys : List ℕ) → 0 < length ys → eqb (get_or ys 0 0) 47 ≡ true → ys ≡ 47 ∷ drop 1 ys
 first_is [] l e = absurd (omega arith)
@@ -46,6 +46,6 @@ first_is (y ∷ ys) l e = ap (λ x. x ∷ ys) (eqb-true y 47 e)
 -- two printed numbers with the first slash between them are a ratio's word
 pub joined : (word : List ℕ) (p q : ℕ) → 0 < length (drop (position_or_len (λ b. eqb b 47) word) word) → take (position_or_len (λ b. eqb b 47) word) word ≡ decimal p → drop 1 (drop (position_or_len (λ b. eqb b 47) word) word) ≡ decimal q → word ≡ decimal p ++ 47 ∷ decimal q
 joined word p q l above below =
-  sym (take-append-drop (position_or_len (λ b. eqb b 47) word) word)
+    sym (take-append-drop (position_or_len (λ b. eqb b 47) word) word)
     ∙ ap (λ (xs : List ℕ). xs ++ drop (position_or_len (λ b. eqb b 47) word) word) above
     ∙ ap (λ (ys : List ℕ). decimal p ++ ys) (first_is _ l (first_passes (λ b. eqb b 47) word l) ∙ ap (λ (ys : List ℕ). 47 ∷ ys) below)

@@ -1,15 +1,13 @@
 -- Numbers as they are printed: their digits, their value, their length, and where other bytes stand among them.
-use Rattle.std.proofs.Common.{◌≡◌, ℕ, zero, suc, ◌+◌, ◌-◌, ◌*◌, ◌/◌, ◌%◌, ◌^◌, ◌<◌, ◌≤◌, min, Bool, true, false, not, ◌&&◌, cond, eqb, leb, List, [], ◌∷◌, ◌++◌, length, take, drop, get_or, sym, ap, ◌∙◌, subst, refl, arith}
+use Rattle.std.proofs.Common.{◌≡◌, ℕ, ◌+◌, ◌%◌, ◌^◌, ◌<◌, Bool, true, false, not, cond, eqb, List, [], ◌∷◌, ◌++◌, length, ap, ◌∙◌, refl, arith}
 use Rattle.std.specs.Prelude.{decimal}
 use Rattle.std.specs.Char.{is_ascii_digit}
 use Rattle.std.specs.List.{list_all, position_or_len, prefix_len}
-use Rattle.std.proofs.lemmas.Bool.{and_parts, and_from, le-leb, not_from_true, not_from_false, not-true, cases_Bool, ne_eqb}
-use Rattle.std.proofs.lemmas.Fmt.{decimal_by_steps, length-decimal-le, decimal_nonempty}
+use Rattle.std.proofs.lemmas.Bool.{and_parts, and_from, le-leb, not_from_true, not_from_false, ne_eqb}
+use Rattle.std.proofs.lemmas.Fmt.{decimal_by_steps}
 use Rattle.std.proofs.lemmas.List.Folds.{list_all-append}
-use Rattle.std.proofs.lemmas.List.{take_at, drop_at}
 use Rattle.def_text.specs.Digits.{number}
-use Rattle.qm_dec.specs.Sizes.{capped}
-use Rattle.qm_dec.proofs.Digits.{number_append, after_is, digit_small, values}
+use Rattle.qm_dec.proofs.Digits.{number_append, digit_small}
 
 glyph : (d : ℕ) → d < 10 → is_ascii_digit (48 + d) ≡ true
 glyph d l = and_from _ _ (le-leb 48 (48 + d) (omega arith)) (le-leb (48 + d) 57 (omega arith))
@@ -17,26 +15,26 @@ glyph d l = and_from _ _ (le-leb 48 (48 + d) (omega arith)) (le-leb (48 + d) 57 
 -- a printed number has digits alone, and its value
 pub decimal_digits : (n : ℕ) → n < 2 ^ 64 → list_all is_ascii_digit (decimal n) ≡ true
 decimal_digits n l = decimal_by_steps (λ m ds. list_all is_ascii_digit ds ≡ true)
-  (λ m s. and_from _ _ (glyph m s) refl)
-  (λ m ds s all. list_all-append is_ascii_digit ds ((48 + m % 10) ∷ []) ∙ and_from _ _ all (and_from _ _ (glyph (m % 10) (omega arith)) refl))
-  n l
+    (λ m s. and_from _ _ (glyph m s) refl)
+    (λ m ds s all. list_all-append is_ascii_digit ds ((48 + m % 10) ∷ []) ∙ and_from _ _ all (and_from _ _ (glyph (m % 10) (omega arith)) refl))
+    n l
 
 pub decimal_number : (n : ℕ) → n < 2 ^ 64 → number (decimal n) ≡ n
 decimal_number n l = decimal_by_steps (λ m ds. number ds ≡ m)
-  (λ m s. omega arith)
-  (λ m ds s e. number_append ds ((48 + m % 10) ∷ []) ∙ omega arith)
-  n l
+    (λ m s. omega arith)
+    (λ m ds s e. number_append ds ((48 + m % 10) ∷ []) ∙ omega arith)
+    n l
 
 -- the first byte that passes a test, behind bytes that do not
 pub none_first : (b : ℕ → Bool) (xs : List ℕ) → list_all (λ x. not (b x)) xs ≡ true → position_or_len b xs ≡ length xs
 none_first b [] all = refl
 none_first b (x ∷ xs) all = let p : (not (b x) ≡ true) × (list_all (λ x. not (b x)) xs ≡ true) = and_parts _ _ all in
-  ap (λ t. cond t (1 + prefix_len (λ y. not (b y)) xs) 0) p.0 ∙ omega (arith, none_first b xs p.1)
+    ap (λ t. cond t (1 + prefix_len (λ y. not (b y)) xs) 0) p.0 ∙ omega (arith, none_first b xs p.1)
 
 pub first_at : (b : ℕ → Bool) (xs : List ℕ) (y : ℕ) (ys : List ℕ) → list_all (λ x. not (b x)) xs ≡ true → b y ≡ true → position_or_len b (xs ++ y ∷ ys) ≡ length xs
 first_at b [] y ys all is = ap (λ t. cond t (1 + prefix_len (λ x. not (b x)) ys) 0) (not_from_true (b y) is)
 first_at b (x ∷ xs) y ys all is = let p : (not (b x) ≡ true) × (list_all (λ x. not (b x)) xs ≡ true) = and_parts _ _ all in
-  ap (λ t. cond t (1 + prefix_len (λ z. not (b z)) (xs ++ y ∷ ys)) 0) p.0 ∙ omega (arith, first_at b xs y ys p.1 is)
+    ap (λ t. cond t (1 + prefix_len (λ z. not (b z)) (xs ++ y ∷ ys)) 0) p.0 ∙ omega (arith, first_at b xs y ys p.1 is)
 
 -- no digit passes a test that passes none
 pub digits_fail : (b : ℕ → Bool) → ((d : ℕ) → is_ascii_digit d ≡ true → b d ≡ false) → (xs : List ℕ) → list_all is_ascii_digit xs ≡ true → list_all (λ x. not (b x)) xs ≡ true

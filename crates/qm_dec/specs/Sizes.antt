@@ -1,5 +1,5 @@
 -- Numbers that are read only as far as they are in range.
-use Rattle.std.specs.Prelude.{◌≡◌, ◌≤◌, ◌≢◌, ℕ, ◌^◌, ◌+◌, min, Bool, true, false, List, length}
+use Rattle.std.specs.Prelude.{◌≡◌, ℕ, ◌^◌, min, true, false, List}
 use Rattle.def_text.specs.Decimal.{is_decimal, is_far, rounded}
 use Rattle.qm_dec.specs.declared.fail.DecFail.{DecFail}
 use Rattle.qm_dec.specs.declared.fail.DecFail.TheVariants.{Syntax, Range}

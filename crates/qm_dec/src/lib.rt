@@ -3,6 +3,7 @@
 #![tactic(auto)]
 
 mod fail;
+mod law;
 mod parts;
 mod ratio;
 mod read;
@@ -11,6 +12,10 @@ mod write;
 
 pub use def_text::Micro;
 pub use fail::DecFail;
+pub use law::canonical_law;
 pub use ratio::read_ratio;
 pub use read::read_micro;
 pub use write::write_micro;
+
+#[cfg(test)]
+mod tests;

@@ -5,7 +5,9 @@ ghost use Rattle.def_text.specs.Digits.{is_number, number};
 ghost use Rattle.qm_dec.specs.Sizes.{IsDecFail, capped};
 
 use crate::fail::DecFail;
-use crate::parts::{are_number, behind_first, is_exponent, is_negative, split_exponent, split_point, unsigned};
+use crate::parts::{
+    are_number, behind_first, is_exponent, is_negative, split_exponent, split_point, unsigned,
+};
 use crate::size::{FAR, number_after, size_of};
 use def_text::Micro;
 
@@ -26,7 +28,9 @@ pub fn read_micro(word: &[u8]) -> Result<Micro, DecFail>
         return Err(DecFail::Range);
     }
     let n = size as i64;
-    Ok(Micro { n: if is_negative(word) { -n } else { n } })
+    Ok(Micro {
+        n: if is_negative(word) { -n } else { n },
+    })
 }
 
 fn size_in_millionths(whole: &[u8], fraction: &[u8], exponent: &[u8]) -> u64

@@ -90,5 +90,9 @@ fn digit_at(whole: &[u8], fraction: &[u8], i: usize) -> u8
     requires { i < length whole.now + length fraction.now }
     ensures { result ≡ slice_index (whole.now ++ fraction.now) i }
 {
-    if i < whole.len() { whole[i] } else { fraction[i - whole.len()] }
+    if i < whole.len() {
+        whole[i]
+    } else {
+        fraction[i - whole.len()]
+    }
 }

@@ -1,7 +1,7 @@
 //! The canonical text of a number of millionths.
 
 ghost use Rattle.std.specs.Prelude.{◌≡◌, ◌≤◌, ◌<◌, ◌+◌, ◌^◌, ◌++◌, length, take};
-ghost use Rattle.def_text.specs.Canonical.{fraction_text, micro_text, minus_text, without_zeros};
+ghost use Rattle.def_text.specs.Canonical.{fraction_text, micro_text, minus_text, six_digits, without_zeros};
 
 use crate::parts::behind_first;
 use def_text::Micro;
@@ -44,7 +44,14 @@ fn write_fraction(out: &mut [u8], at: usize, rest: u64) -> usize
     }
     let mut buffer = Buffer::new();
     let point = put(out, at, b".");
-    put(out, point, strip_zeros(behind_first(buffer.format(1_000_000 + rest).as_bytes())))
+    put(out, point, strip_zeros(six_digits(&mut buffer, rest)))
+}
+
+fn six_digits(buffer: &mut Buffer, rest: u64) -> &[u8]
+    requires { rest < 10 ^ 6 }
+    ensures { result.now ≡ six_digits rest }
+{
+    behind_first(buffer.format(1_000_000 + rest).as_bytes())
 }
 
 /// Writes the piece from `at` on and tells where it ends.

@@ -8,4 +8,4 @@ returns-then-is_mark-clause-exact c = sym (position_or_len_is is_mark c.args.bod
 
 pub returns-clause-exact : goal.returns-clause-exact
 returns-clause-exact c =
-  sym (position_or_len_is is_mark c.args.body.now (length c.args.body.now) 0 (omega arith) (λ k l. c.loop-i.invariant k (omega arith)) (λ l. absurd (omega arith)))
+    sym (position_or_len_is is_mark c.args.body.now (length c.args.body.now) 0 (omega arith) (λ k l. c.loop-i.invariant k (omega arith)) (λ l. absurd (omega arith)))

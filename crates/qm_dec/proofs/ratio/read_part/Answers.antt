@@ -1,7 +1,5 @@
-use Rattle.std.proofs.Common.{◌≡◌, ℕ, ap, sym, ◌∙◌, arith, min}
+use Rattle.std.proofs.Common.{◌≡◌, ap, sym, ◌∙◌, arith, min}
 use Rattle.std.specs.Prelude.{decimal}
-use Rattle.qm_dec.specs.Sizes.{capped}
-use Rattle.def_text.specs.Digits.{number}
 use Rattle.qm_dec.proofs.Ratios.{not_printed, printed_read}
 use Rattle.std.proofs.lemmas.Bool.{false≢true}
 use Rattle.qm_dec.proofs.ratio.read_part.Goals as goal
@@ -11,10 +9,10 @@ returns-then-not-are_digits c n l h is = not_printed c.args.word.now c.if-not-ar
 
 pub returns-then-n-eq0 : goal.returns-then-n-eq0
 returns-then-n-eq0 c n l h is =
-  let e : c.min-n.result ≡ n = printed_read c.args.word.now n c.min-n.result (c.min-n.ensures ∙ ap (λ k. min k 1001) c.number_after.ensures) h is in
-  absurd (omega (arith, e, c.then-n-eq0.either))
+    let e : c.min-n.result ≡ n = printed_read c.args.word.now n c.min-n.result (c.min-n.ensures ∙ ap (λ k. min k 1001) c.number_after.ensures) h is in
+    absurd (omega (arith, e, c.then-n-eq0.either))
 
 pub returns-else-is_written : goal.returns-else-is_written
 returns-else-is_written c n l h is =
-  let e : c.min-n.result ≡ n = printed_read c.args.word.now n c.min-n.result (c.min-n.ensures ∙ ap (λ k. min k 1001) c.number_after.ensures) h is in
-  false≢true (c.if-is_written.ensures.1 (is ∙ ap decimal (sym e)))
+    let e : c.min-n.result ≡ n = printed_read c.args.word.now n c.min-n.result (c.min-n.ensures ∙ ap (λ k. min k 1001) c.number_after.ensures) h is in
+    false≢true (c.if-is_written.ensures.1 (is ∙ ap decimal (sym e)))

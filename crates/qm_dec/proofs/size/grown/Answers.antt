@@ -1,4 +1,4 @@
-use Rattle.std.proofs.Common.{◌≡◌, ◌*◌, ◌-◌, ◌^◌, ℕ, ap, ◌∙◌, arith}
+use Rattle.std.proofs.Common.{◌≡◌, ◌*◌, ◌-◌, ◌^◌, ap, ◌∙◌, arith}
 use Rattle.qm_dec.specs.Sizes.{capped}
 use Rattle.qm_dec.proofs.Caps.{grown_more, grown_far}
 use Rattle.qm_dec.proofs.size.grown.Goals as goal
@@ -11,5 +11,5 @@ loop-power-preserved c = record {
 
 pub returns-else-value-lt-FAR : goal.returns-else-value-lt-FAR
 returns-else-value-lt-FAR c =
-  let e : c.loop-power.value ≡ 10 ^ 15 = omega arith in
-  e ∙ grown_far c.loop-power.value c.loop-power.power (omega arith) ∙ c.loop-power.invariant.whole
+    let e : c.loop-power.value ≡ 10 ^ 15 = omega arith in
+    e ∙ grown_far c.loop-power.value c.loop-power.power (omega arith) ∙ c.loop-power.invariant.whole
