@@ -26,7 +26,8 @@ use Rattle.def_text.specs.declared.refusal.Which.TheVariants.{Line}
 use Rattle.qm_io.specs.Lines.{lines_of}
 use Rattle.qm_obj.specs.Law.{ReadsBack, is_place, is_quad}
 use Rattle.qm_obj.proofs.CornerLemmas.{behind_none}
-use Rattle.qm_obj.proofs.LawStub.{canonical_law, decimal_digits, decimal_number}
+use Rattle.qm_dec.proofs.ReadBack.{canonical_law}
+use Rattle.qm_dec.proofs.Texts.{decimal_digits, decimal_number}
 use Rattle.qm_obj.proofs.LawText.{IsLine, IsWord, decimal_word, line_tame, line_text, line_words, lines_split, logical_plain, micro_word, plain_lines}
 use Rattle.qm_obj.proofs.LineLemmas.{face_rest, vertex_rest}
 use Rattle.qm_obj.proofs.ListLemmas.{passes_at}

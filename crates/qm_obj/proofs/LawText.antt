@@ -15,7 +15,7 @@ use Rattle.def_text.specs.Logical.{Logical, continues, is_hash, joined, logical_
 use Rattle.def_text.specs.Words.{ends_word, in_front, is_blank, words}
 use Rattle.qm_io.specs.Lines.{in_front as before_piece, line_of, lines_of, pieces, without_last}
 use Rattle.qm_obj.proofs.ListLemmas.{passes_at}
-use Rattle.qm_obj.proofs.LawStub.{decimal_digits}
+use Rattle.qm_dec.proofs.Texts.{decimal_digits}
 
 -- The bytes of words: from the minus to the digits.
 abbrev pub is_plain : ℕ → Bool

@@ -3,4 +3,3 @@ pub mod Kept
 pub mod Law
 pub mod Lines
 pub mod Places
-pub mod Stub

@@ -2,7 +2,6 @@
 #![tactic(auto)]
 
 mod corner;
-mod decimal;
 mod joining;
 mod law;
 mod line;
