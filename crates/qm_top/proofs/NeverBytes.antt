@@ -47,13 +47,13 @@ fine_words : (n v f : ℕ) (ws : List (List ℕ)) → IsFine (words_reading n v 
 fine_words n v f [] = refl
 fine_words n v f (w ∷ ws) =
     fine_if (begins_with 118 (w ∷ ws)) _ _ (fine_vertex n v ws)
-      (fine_if (begins_with 102 (w ∷ ws)) _ _ (fine_face n v f ws) refl)
+    (fine_if (begins_with 102 (w ∷ ws)) _ _ (fine_face n v f ws) refl)
 
 fine_reading : (v f : ℕ) (line : Logical) → IsFine (reading v f line)
 fine_reading v f line =
     fine_if (nat_lt 65536 line.size) _ _ refl
-      (fine_if (is_comment line.text) _ _ refl
-        (fine_if (list_any is_special line.text) _ _ refl (fine_words line.number v f (words line.text))))
+    (fine_if (is_comment line.text) _ _ refl
+    (fine_if (list_any is_special line.text) _ _ refl (fine_words line.number v f (words line.text))))
 
 -- Two lists of fine refusals make one.
 fine_both : (xs ys : List ObjFail) → list_all is_fine xs ≡ true → list_all is_fine ys ≡ true → list_all is_fine (xs ++ ys) ≡ true
@@ -63,9 +63,9 @@ fine_readings : (before lines : List Logical) → list_all is_fine (flat_map ref
 fine_readings before [] = refl
 fine_readings before (line ∷ lines) =
     fine_both (refusal_in (reading (count_by is_vertex_line before) (count_by is_face_line before) line))
-      (flat_map refusal_in (readings (before ++ line ∷ []) lines))
-      (fine_reading (count_by is_vertex_line before) (count_by is_face_line before) line)
-      (fine_readings (before ++ line ∷ []) lines)
+    (flat_map refusal_in (readings (before ++ line ∷ []) lines))
+    (fine_reading (count_by is_vertex_line before) (count_by is_face_line before) line)
+    (fine_readings (before ++ line ∷ []) lines)
 
 fine_late : (n : ℕ) (r : Reading) → list_all is_fine (late_in n r) ≡ true
 fine_late n Passed = refl
@@ -95,6 +95,6 @@ pub never_bytes : (n : ℕ) (lines : List (List ℕ)) (line : ℕ)
 never_bytes n lines line is =
     let said : List Reading = readings [] (logical_lines n lines) in
     let all : list_all is_fine (refusals said) ≡ true =
-        fine_both (flat_map refusal_in said) (flat_map (late_in (length (places said))) said)
-          (fine_readings [] (logical_lines n lines)) (fine_lates (length (places said)) said) in
+    fine_both (flat_map refusal_in said) (flat_map (late_in (length (places said))) said)
+    (fine_readings [] (logical_lines n lines)) (fine_lates (length (places said)) said) in
     false≢true (first_fine (refusals said) _ (Limit Bytes line) all is)

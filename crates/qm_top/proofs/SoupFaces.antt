@@ -58,9 +58,9 @@ uses_each n faces four used v low = by_face (any_at (λ face. list_any (λ corne
         let corner : (4 * f + i) % 4 ≡ i = omega arith in
         let at : get_or (all_darts faces) (4 * f + i) 0 ≡ 4 * f + i = get_or-range_with_len 0 (darts faces) (4 * f + i) 0 dart ∙ omega arith in
         let from : from_of faces (4 * f + i) ≡ get_or (get_or faces f []) i 0 =
-            ap (λ (g : ℕ). get_or (get_or faces g []) ((4 * f + i) % 4) 0) face ∙ ap (λ (j : ℕ). get_or (get_or faces f []) j 0) corner in
+        ap (λ (g : ℕ). get_or (get_or faces g []) ((4 * f + i) % 4) 0) face ∙ ap (λ (j : ℕ). get_or (get_or faces f []) j 0) corner in
         some_pass (λ d. from_of faces d == v) (all_darts faces) (4 * f + i) (omega (arith, length-range_with_len 0 (darts faces)))
-            (ap (λ (d : ℕ). from_of faces d == v) at ∙ ap (λ (u : ℕ). u == v) from ∙ is)
+        (ap (λ (d : ℕ). from_of faces d == v) at ∙ ap (λ (u : ℕ). u == v) from ∙ is)
 
     by_corner : (f : ℕ) → f < length faces → (i : ℕ) × (i < length (get_or faces f [])) × ((get_or (get_or faces f []) i 0 == v) ≡ true) → 0 < faces_at faces v
     by_corner f l (i, m, is) = by_dart f i l (omega (arith, four f l)) is

@@ -10,14 +10,13 @@ ghost use Rattle.def_text.specs.Canonical.{canonical_text};
 ghost use Rattle.def_run.specs.ErrorLines.{error_line};
 ghost use Rattle.qm_top.specs.Steps.{answer_of_read, answer_of_text, IsCheck, IsReading, IsRefusal, IsWriting};
 
+use crate::error_line::{ErrorLine, line_of};
 use def_run::{Answer, Place};
 use def_text::{ObjFail, Soup, Which};
 use qm_io::{ReadFail, Sink, Source, read_lines, write_all};
 use qm_mesh::{MeshFail, build};
 use qm_obj::{obj_text, read_obj};
 use std::alloc::Global;
-
-use crate::error_line::{ErrorLine, line_of};
 
 const MAX_BYTES: u32 = 536_870_912;
 
@@ -29,7 +28,11 @@ pub(crate) struct Refusal {
 }
 
 /// Reads a mesh, checks that it is a manifold and writes its canonical text.
-pub(crate) fn tidy<S: Source, O: Sink>(alloc: Global, input: &mut S, out: &mut O) -> Result<(), Refusal>
+pub(crate) fn tidy<S: Source, O: Sink>(
+    alloc: Global,
+    input: &mut S,
+    out: &mut O,
+) -> Result<(), Refusal>
     ensures done { OnOk result (Tidied (S.left input.old) (S.left input.new) (O.taken out.old) (O.taken out.new)) }
     ensures refused { IfErr result (λ r. IsRefusal (S.left input.old) (S.left input.new) r.answer r.line.bytes) }
     ensures untouched { IfErr result (λ r. r.answer ≢ Answer.WriteFault → O.taken out.new ≡ O.taken out.old) }
@@ -132,7 +135,17 @@ fn mesh_answer(fail: MeshFail) -> Answer
 {
     match fail {
         MeshFail::Repeated { face, vertex } => not_manifold(Place::Repeated { face, vertex }),
-        MeshFail::EdgeTwice { from, to, face1, face2 } => not_manifold(Place::EdgeTwice { from, to, face1, face2 }),
+        MeshFail::EdgeTwice {
+            from,
+            to,
+            face1,
+            face2,
+        } => not_manifold(Place::EdgeTwice {
+            from,
+            to,
+            face1,
+            face2,
+        }),
         MeshFail::TwoFans { vertex } => not_manifold(Place::TwoFans { vertex }),
         MeshFail::Memory => Answer::Memory,
     }
