@@ -1,9 +1,9 @@
 -- The definitions, computed on small meshes.
-use Rattle.std.proofs.Common.{◌≡◌, ◌-ℤ◌, ℕ, ℤ, pos, negsuc, List, [], ◌∷◌, map, Option, Some, None, refl}
+use Rattle.std.proofs.Common.{◌≡◌, ℕ, pos, List, [], ◌∷◌, map, Some, None, refl}
 use Rattle.def_mesh.specs.Darts.{twin_of, straight_of, all_darts}
 use Rattle.def_mesh.specs.Vertices.{fan_of, vertex_count}
-use Rattle.def_mesh.specs.Kinds.{kind_of, is_inner}
-use Rattle.def_mesh.specs.Components.{component_numbers, seeds, start_darts, euler, edge_count, used_count}
+use Rattle.def_mesh.specs.Kinds.{kind_of}
+use Rattle.def_mesh.specs.Components.{component_numbers, seeds, start_darts, euler, edge_count}
 use Rattle.def_mesh.specs.Faults.{repeat_in}
 use Rattle.def_mesh.specs.declared.Kind.TheVariants.{Regular, Singular, Corner, Reflex}
 
@@ -79,7 +79,6 @@ parts_seeds = refl
 
 parts_counts : edge_count parts ≡ 13
 parts_counts = refl
-
 
 -- the vertex that a face names again, seen from its first corner
 repeats : map repeat_in ((0 ∷ 1 ∷ 2 ∷ 3 ∷ []) ∷ (0 ∷ 1 ∷ 2 ∷ 1 ∷ []) ∷ (7 ∷ 7 ∷ 2 ∷ 2 ∷ []) ∷ (5 ∷ 6 ∷ 5 ∷ 6 ∷ []) ∷ []) ≡ None ∷ Some 1 ∷ Some 7 ∷ Some 5 ∷ []

@@ -1,4 +1,5 @@
 pub mod Canonical
+pub mod Decimal
 pub mod Digits
 pub mod FaceSet
 pub mod Reading
