@@ -1,6 +1,5 @@
 ghost use Rattle.std.specs.Prelude.{◌≡◌, ◌≢◌, ◌≤◌, ◌^◌, ◌<◌, ℕ, List, length, IfOk, IfErr, OnOk, OnErr, IsTrue};
-ghost use Rattle.std.specs.List.{list_all};
-ghost use Rattle.def_text.specs.FaceSet.{are_below, is_used};
+ghost use Rattle.def_mesh.specs.Vertices.{names_below, UsesEach};
 ghost use Rattle.qm_mesh.specs.Refusals.{IsRefusal as IsMeshRefusal};
 ghost use Rattle.qm_io.specs.Causes.{Rose};
 ghost use Rattle.qm_io.specs.Moves.{took, TookFront};
@@ -118,8 +117,8 @@ fn check(alloc: Global, soup: &Soup) -> Result<(), Answer>
 
 fn check_faces(alloc: Global, vertices: u32, faces: &[[u32; 4]]) -> Result<(), Answer>
     requires few { length faces.now ≤ 2 ^ 20 }
-    requires in_range { IsTrue (list_all (are_below vertices) faces.now) }
-    requires used { (v : ℕ) → v < vertices → IsTrue (is_used faces.now v) }
+    requires within { IsTrue (names_below vertices faces.now) }
+    requires used { UsesEach vertices faces.now }
     ensures manifold { OnOk result (IsManifold faces.now) }
     ensures place { IfErr result (IsCheck faces.now) }
 {
