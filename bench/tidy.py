@@ -44,6 +44,17 @@ def table(title, programs, text, room):
     print()
 
 
+def openmesh(program, text, room):
+    """One run of OpenMesh on the last grid, where Debian's libopenmesh-dev is there to build it."""
+    libraries = ["-lOpenMeshCore", "-lOpenMeshTools"]
+    built = subprocess.run(["g++", "-O2", "-o", program, f"{HERE}/openmesh.cpp", *libraries], capture_output=True)
+    if built.returncode != 0:
+        print("OpenMesh: not measured, since Debian's libopenmesh-dev is not installed")
+        return
+    seconds, megabytes = measured([program, text, f"{room}/openmesh.obj"], text, f"{room}/out")
+    print(f"{'OpenMesh, one run':<28}{seconds:>9.3f}{megabytes:>7.0f}")
+
+
 def main():
     subprocess.run([f"{ROOT}/tools/build.sh"], check=True)
     quadq = [f"{ROOT}/crates/qm_prog/out/qm_prog", "tidy"]
@@ -51,10 +62,12 @@ def main():
         peer = f"{room}/tidy"
         subprocess.run(["g++", "-O2", "-std=c++20", "-o", peer, f"{HERE}/tidy.cpp"], check=True)
         programs = [("quadq tidy", quadq), ("plain C++", [peer]), ("plain C++, no mesh check", [peer, "unchecked"])]
-        grid = f"{room}/grid.obj"
-        with open(grid, "wb") as out:
-            subprocess.run([f"{HERE}/grid.py", "1024"], stdout=out, check=True)
-        table("grid of 1,048,576 faces, plain lines", programs, grid, room)
+        for title, style in [("plain lines", []), ("as Blender writes it", ["blender"])]:
+            grid = f"{room}/grid.obj"
+            with open(grid, "wb") as out:
+                subprocess.run([f"{HERE}/grid.py", "1024", *style], stdout=out, check=True)
+            table(f"grid of 1,048,576 faces, {title}", programs, grid, room)
+        openmesh(f"{room}/openmesh", grid, room)
 
 
 main()
