@@ -1,3 +1,6 @@
+mod CornerLemmas
+mod JoinLemmas
+mod LineLemmas
 mod ListLemmas
 mod NumberLemmas
 mod ReadLemmas

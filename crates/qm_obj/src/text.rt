@@ -1,8 +1,9 @@
-ghost use Rattle.std.specs.Prelude.{◌≡◌, ◌<◌, ◌^◌, ◌++◌, drop, OnOk, IfOk};
+ghost use Rattle.std.specs.Prelude.{◌≡◌, ◌<◌, ◌^◌, ◌++◌, OnOk, IfOk};
 ghost use Rattle.std.specs.List.{flat_map};
 ghost use Rattle.def_text.specs.Canonical.{canonical_text, face_text, fraction_text, micro_text, place_text, without_zeros};
 
 use crate::Memory;
+use crate::words::behind_first;
 use def_text::{Micro, Soup};
 use itoa::Buffer;
 use std::alloc::Global;
@@ -69,15 +70,6 @@ fn push_fraction(text: &mut Vec<u8>, rest: u64) -> Result<(), Memory>
     let mut buffer = Buffer::new();
     text.push(b'.')?;
     text.extend_from_slice(strip_zeros(behind_first(buffer.format(1_000_000 + rest).as_bytes())))
-}
-
-fn behind_first(digits: &[u8]) -> &[u8]
-    ensures { result.now ≡ drop 1 digits.now }
-{
-    match digits {
-        [] => digits,
-        [_, rest @ ..] => rest,
-    }
 }
 
 #[tactic(auto, using(crate::proofs::TextLemmas::trims))]
