@@ -1,1 +1,5 @@
+pub mod Admissible
+pub mod Graph
+pub mod MatchingGraph
 pub mod Network
+pub mod Units
