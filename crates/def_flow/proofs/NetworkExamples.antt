@@ -1,13 +1,14 @@
 -- Rows: definitions at examples, with values from a plain search that was written from the text of the rules alone.
-use Rattle.std.proofs.Common.{◌≡◌, ℕ, Bool, true, false, Option, List, [], ◌∷◌, length, Some, None, pos, negsuc, refl}
+use Rattle.std.proofs.Common.{◌≡◌, ℕ, Bool, true, false, Option, [], ◌∷◌, ◌++◌, length, replicate, Some, None, pos, negsuc, refl}
 use Rattle.def_flow.specs.Network.{Network, tangle_number}
 use Rattle.def_flow.specs.Admissible.{deviation, entries}
-use Rattle.def_flow.specs.Graph.{Graph}
 use Rattle.def_flow.specs.Units.{on_cost}
 use Rattle.def_flow.specs.MatchingGraph.{link, matching_graph}
 use Rattle.def_flow.specs.declared.net.Arc.{Arc}
 use Rattle.def_flow.specs.declared.net.End.{End}
-use Rattle.def_flow.specs.declared.dual.WEdge.{WEdge}
+use Rattle.def_flow.specs.Accepted.{cert_verdict}
+use Rattle.def_flow.specs.declared.cert.CertVerdict.TheVariants.{Yes, Count, Below, Unequal, Dual, Sums}
+use Rattle.def_flow.specs.declared.weighted.Verdict.TheVariants.{Short}
 
 abbrev end : ℕ → Bool → End
 end v s = record { node = v; plus = s }
@@ -36,6 +37,30 @@ unit_quad-deviation = refl
 unit_quad-tangle : tangle_number unit_quad ≡ 128
 unit_quad-tangle = refl
 
+-- All lengths 1, and all numbers of the dual 0: accepted.
+quad_accepted : cert_verdict unit_quad (record { x = 1 ∷ 1 ∷ 1 ∷ 1 ∷ []; dual = record { y = replicate 34 (pos 0); z = []; up = replicate 34 0 } }) ≡ Yes (pos 0)
+quad_accepted = refl
+
+-- A length is missing.
+quad_count : cert_verdict unit_quad (record { x = 1 ∷ 1 ∷ 1 ∷ []; dual = record { y = replicate 34 (pos 0); z = []; up = replicate 34 0 } }) ≡ Count 4 3
+quad_count = refl
+
+-- The first length is 0.
+quad_below : cert_verdict unit_quad (record { x = 0 ∷ 1 ∷ 1 ∷ 1 ∷ []; dual = record { y = replicate 34 (pos 0); z = []; up = replicate 34 0 } }) ≡ Below 0 0
+quad_below = refl
+
+-- The first length is 2, across from 1.
+quad_unequal : cert_verdict unit_quad (record { x = 2 ∷ 1 ∷ 1 ∷ 1 ∷ []; dual = record { y = replicate 34 (pos 0); z = []; up = replicate 34 0 } }) ≡ Unequal 0 2 1
+quad_unequal = refl
+
+-- The number of the first vertex is 1, so the first free edge there has too great a load.
+quad_short : cert_verdict unit_quad (record { x = 1 ∷ 1 ∷ 1 ∷ 1 ∷ []; dual = record { y = pos 1 ∷ replicate 33 (pos 0); z = []; up = replicate 34 0 } }) ≡ Dual (Short 12 (pos 1) (pos 0))
+quad_short = refl
+
+-- The number of the last vertex is -1, and so is the sum.
+quad_sums : cert_verdict unit_quad (record { x = 1 ∷ 1 ∷ 1 ∷ 1 ∷ []; dual = record { y = replicate 33 (pos 0) ++ negsuc 0 ∷ []; z = []; up = replicate 34 0 } }) ≡ Sums (negsuc 0) (pos 0)
+quad_sums = refl
+
 -- A network with units of all five shapes, and with both ends of an arc at one node, once with like signs and once with unlike ones.
 abbrev five_shapes : Network
 five_shapes = record { nodes = 3; floor = 1; p = 2; q = 3; arcs = arc (end 0 true) (Some (end 1 false)) 5 2 ∷ arc (end 1 true) (Some (end 1 true)) 2 1 ∷ arc (end 2 false) (Some (end 2 false)) 3 3 ∷ arc (end 0 false) (Some (end 2 true)) 4 1 ∷ arc (end 1 false) (Some (end 1 true)) 3 2 ∷ arc (end 0 true) None 3 1 ∷ arc (end 2 false) None 2 4 ∷ [] }
@@ -62,4 +87,3 @@ without_lone-on_cost = refl
 
 without_lone-deviation : deviation five_shapes (entries (2 ∷ 1 ∷ 1 ∷ 3 ∷ 2 ∷ 1 ∷ 1 ∷ [])) ≡ 26
 without_lone-deviation = refl
-

@@ -1,4 +1,4 @@
-use crate::dual::{Dual, Verdict};
+use crate::weighted::{Dual, Verdict};
 
 /// A list of lengths, one for each arc, and a dual over its matching graph that shows it to be least.
 #[derive(Debug, Drop)]

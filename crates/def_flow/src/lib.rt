@@ -1,12 +1,12 @@
-//! What a network, its matching graph, a dual and an accepted certificate are.
+//! What a network, its matching graph, a dual and a certificate are: types and definitions alone.
 #![tactic(auto)]
 
 mod cert;
-mod dual;
 mod net;
 mod units;
+mod weighted;
 
 pub use cert::{Cert, CertVerdict};
-pub use dual::{Dual, Verdict, WEdge, WGraph};
 pub use net::{Arc, End, Net, Settings, Weight};
 pub use units::ArcUnit;
+pub use weighted::{Dual, Verdict, WEdge, WGraph};
