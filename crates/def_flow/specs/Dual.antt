@@ -1,5 +1,5 @@
 -- Duals of a graph with nested sets: which vertices a set holds, the load of an edge, and the verdict.
-use Rattle.std.specs.Prelude.{◌≡◌, ℕ, zero, suc, ◌+◌, ◌%◌, ◌<◌, ◌==◌, nat_lt, nat_le, Bool, false, not, ◌&&◌, ◌||◌, if◌then◌else◌, List, length, ℤ, pos, ◌+ℤ◌, ◌*ℤ◌, ◌≤ℤ◌, int_lt, slice_index, slice_index_or, Option, Some, None, IsTrue}
+use Rattle.std.specs.Prelude.{◌≡◌, ℕ, zero, suc, ◌+◌, ◌%◌, ◌<◌, ◌==◌, nat_lt, nat_le, Bool, false, not, ◌&&◌, ◌||◌, if◌then◌else◌, List, length, ℤ, pos, ◌+ℤ◌, ◌*ℤ◌, ◌≤ℤ◌, int_lt, unsigned_abs, ◌^◌, slice_index, slice_index_or, Option, Some, None, IsTrue}
 use Rattle.qm_laws.specs.Counts.{count_below}
 use Rattle.qm_laws.specs.Searches.{least}
 use Rattle.qm_laws.specs.Sums.{total, total_below}
@@ -61,29 +61,52 @@ is_up n m i entry = (entry == 0) || (nat_lt (i + 1) (n + entry) && nat_le entry 
 abbrev pub is_odd_size : ℕ → Bool
 is_odd_size size = (size % 2 == 1) && nat_le 3 size
 
+-- The entries of `up` nest the sets: each entry is 0 or names a set at a later place.
+pub record IsNested (n m : ℕ) (up : List ℕ) : Type 0 where
+  pub entries : length up ≡ n + m
+  pub later : (i : ℕ) → i < n + m → IsTrue (is_up n m i (slice_index up i))
+
 -- A dual says yes.
 pub record SaysYes (g : Graph) (d : DualLists) : Type 0 where
   pub numbers : length d.y ≡ g.n
-  pub entries : length d.up ≡ g.n + length d.z
-  pub nested : (i : ℕ) → i < g.n + length d.z → IsTrue (is_up g.n (length d.z) i (slice_index d.up i))
+  pub nested : IsNested g.n (length d.z) d.up
   pub odd : (k : ℕ) → k < length d.z → IsTrue (is_odd_size (set_size g.n d k))
   pub positive : (k : ℕ) → k < length d.z → pos 0 ≤ℤ z_at d k
   pub loaded : (k : ℕ) → k < length g.edges → load g.n d (edge_at g k) ≤ℤ (pos 2 *ℤ (edge_at g k).cost)
 
--- A refusal at the place that was found, or what comes after.
+-- The numbers are below 10^18 in absolute value.
+abbrev pub AreSmall : List ℤ → Type 0
+AreSmall xs = (k : ℕ) → k < length xs → unsigned_abs (slice_index_or xs k (pos 0)) < 10 ^ 18
+
+-- Where the lists have the wrong lengths, or else the least place at which `up` is out of range.
+abbrev pub shape_fault : ℕ → DualLists → Option ℕ
+shape_fault n d =
+  if not (length d.y == n) then Some n
+  else if not (length d.up == n + length d.z) then Some (n + 1)
+  else least (λ i. not (is_up n (length d.z) i (slice_index d.up i))) (n + length d.z)
+
+-- The least set of an unlawful size.
+abbrev pub even_fault : ℕ → DualLists → Option ℕ
+even_fault n d = least (λ k. not (is_odd_size (set_size n d k))) (length d.z)
+
+-- The least set whose number is negative.
+abbrev pub negative_fault : DualLists → Option ℕ
+negative_fault d = least (λ k. int_lt (z_at d k) (pos 0)) (length d.z)
+
+-- The least edge whose load is above twice its cost.
+abbrev pub short_fault : Graph → DualLists → Option ℕ
+short_fault g d = least (λ k. int_lt (pos 2 *ℤ (edge_at g k).cost) (load g.n d (edge_at g k))) (length g.edges)
+
+-- A refusal at what was found, or else what comes after.
 abbrev pub refuse : {V : Type 0} → Option ℕ → (ℕ → V) → V → V
 refuse (Some k) at after = at k
 refuse None at after = after
 
--- The verdict on a dual: the first of these that holds.
+-- The verdict on a dual: the first of the four refusals that holds, or else yes with the dual's sum.
 abbrev pub verdict : Graph → DualLists → Verdict
 verdict g d =
-    let m = length d.z in
-    if not (length d.y == g.n) then Shape g.n
-    else if not (length d.up == g.n + m) then Shape (g.n + 1)
-    else refuse (least (λ i. not (is_up g.n m i (slice_index d.up i))) (g.n + m)) (λ i. Shape i)
-    (refuse (least (λ k. not (is_odd_size (set_size g.n d k))) m) (λ k. Even k (set_size g.n d k))
-    (refuse (least (λ k. int_lt (z_at d k) (pos 0)) m) (λ k. Negative k)
-    (refuse (least (λ k. int_lt (pos 2 *ℤ (edge_at g k).cost) (load g.n d (edge_at g k))) (length g.edges))
-    (λ k. Short k (load g.n d (edge_at g k)) (pos 2 *ℤ (edge_at g k).cost))
-    (Yes (dual_sum d)))))
+  refuse (shape_fault g.n d) (λ i. Shape i)
+  (refuse (even_fault g.n d) (λ k. Even k (set_size g.n d k))
+  (refuse (negative_fault d) (λ k. Negative k)
+  (refuse (short_fault g d) (λ k. Short k (load g.n d (edge_at g k)) (pos 2 *ℤ (edge_at g k).cost))
+  (Yes (dual_sum d)))))
