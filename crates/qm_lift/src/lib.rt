@@ -7,12 +7,10 @@ ghost use Rattle.qm_lift.specs.Laws.{WalkLaw, LiftLaw};
 /// nowhere larger, not zero, and with entries of absolute value at most 2.
 pub fn walk_law()
     ensures { WalkLaw }
-{
-}
+{}
 
 /// If an admissible list is not least, then some admissible list that differs from it by at most 2 in each entry
 /// has a smaller deviation.
 pub fn lift_law()
     ensures { LiftLaw }
-{
-}
+{}
