@@ -81,9 +81,9 @@ AreSmall xs = (k : ℕ) → k < length xs → unsigned_abs (slice_index_or xs k 
 -- Where the lists have the wrong lengths, or else the least place at which `up` is out of range.
 abbrev pub shape_fault : ℕ → DualLists → Option ℕ
 shape_fault n d =
-  if not (length d.y == n) then Some n
-  else if not (length d.up == n + length d.z) then Some (n + 1)
-  else least (λ i. not (is_up n (length d.z) i (slice_index d.up i))) (n + length d.z)
+    if not (length d.y == n) then Some n
+    else if not (length d.up == n + length d.z) then Some (n + 1)
+    else least (λ i. not (is_up n (length d.z) i (slice_index d.up i))) (n + length d.z)
 
 -- The least set of an unlawful size.
 abbrev pub even_fault : ℕ → DualLists → Option ℕ
@@ -105,8 +105,8 @@ refuse None at after = after
 -- The verdict on a dual: the first of the four refusals that holds, or else yes with the dual's sum.
 abbrev pub verdict : Graph → DualLists → Verdict
 verdict g d =
-  refuse (shape_fault g.n d) (λ i. Shape i)
-  (refuse (even_fault g.n d) (λ k. Even k (set_size g.n d k))
-  (refuse (negative_fault d) (λ k. Negative k)
-  (refuse (short_fault g d) (λ k. Short k (load g.n d (edge_at g k)) (pos 2 *ℤ (edge_at g k).cost))
-  (Yes (dual_sum d)))))
+    refuse (shape_fault g.n d) (λ i. Shape i)
+    (refuse (even_fault g.n d) (λ k. Even k (set_size g.n d k))
+    (refuse (negative_fault d) (λ k. Negative k)
+    (refuse (short_fault g d) (λ k. Short k (load g.n d (edge_at g k)) (pos 2 *ℤ (edge_at g k).cost))
+    (Yes (dual_sum d)))))

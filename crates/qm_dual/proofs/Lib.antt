@@ -1,0 +1,4 @@
+mod Climbs
+mod Paths
+mod Weak
+pub mod Verdicts
