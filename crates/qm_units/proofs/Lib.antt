@@ -1,0 +1,5 @@
+pub mod Chain
+pub mod Pick
+pub mod Unit
+pub mod Units
+pub mod Whole
