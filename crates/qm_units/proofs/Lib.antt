@@ -1,4 +1,6 @@
+pub mod Box
 pub mod Chain
+pub mod Links
 pub mod Pick
 pub mod Unit
 pub mod Units
