@@ -1,4 +1,4 @@
 mod Climbs
 mod Paths
-mod Weak
+pub mod Weak
 pub mod Verdicts
