@@ -1,4 +1,7 @@
 mod Climbs
-mod Paths
+mod Gathered
+mod Meets
+mod OnPaths
+mod Tallies
 mod Weak
 pub mod Verdicts
