@@ -85,3 +85,16 @@ passed_further n m up nested (suc steps) b k (suc j) low on further = by_step (p
     by_step : (j ≡ b) ⊎ (climbs n up steps b (slice_index up (n + j)) ≡ true) → (climbs n up steps b (slice_index up (n + j)) ≡ true → climbs n up m k (slice_index up (n + j)) ≡ true) → climbs n up m k (suc j) ≡ true
     by_step (inl e) rest = ap (λ i. climbs n up m k (suc i)) e ∙ further
     by_step (inr there) rest = climb_on n m up nested k j (omega arith) ∙ or_true (j == k) _ (rest there)
+
+-- What is passed is one of the sets.
+pub passed_inner : (n m : ℕ) (up : List ℕ) → IsNested n m up → (steps k entry : ℕ) → entry ≤ m → climbs n up steps k entry ≡ true → k < m
+passed_inner n m up nested zero k entry low on = absurd cc
+passed_inner n m up nested (suc steps) k zero low on = absurd cc
+passed_inner n m up nested (suc steps) k (suc j) low on = by_step (passed_on j k (climbs n up steps k (slice_index up (n + j))) on) (λ there. passed_inner n m up nested steps k (slice_index up (n + j)) (bound (set_later n m up nested j)) there)
+  where
+    bound : (slice_index up (n + j) ≡ 0) ⊎ ((j + 1 < slice_index up (n + j)) × (slice_index up (n + j) ≤ m)) → slice_index up (n + j) ≤ m
+    bound p = omega arith
+
+    by_step : (j ≡ k) ⊎ (climbs n up steps k (slice_index up (n + j)) ≡ true) → (climbs n up steps k (slice_index up (n + j)) ≡ true → k < m) → k < m
+    by_step (inl e) rest = omega arith
+    by_step (inr there) rest = rest there

@@ -1,4 +1,7 @@
 mod Climbs
-mod Paths
+mod Gathered
+mod Meets
+mod OnPaths
+mod Tallies
 pub mod Weak
 pub mod Verdicts

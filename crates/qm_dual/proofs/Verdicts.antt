@@ -1,15 +1,16 @@
 -- The verdict yes is that the dual says yes.
-use Rattle.std.proofs.Common.{◌≡◌, ℕ, ◌+◌, ◌<◌, ◌≢◌, ◌==◌, eqb, Bool, true, false, not, cond, List, length, get_or, ℤ, pos, ◌*ℤ◌, ◌≤ℤ◌, Option, Some, None, refl, sym, ◌∙◌, ap, arith}
+use Rattle.std.proofs.Common.{◌≡◌, ℕ, ◌+◌, ◌<◌, ◌≢◌, ◌==◌, eqb, Bool, true, false, not, cond, List, length, get_or, ℤ, pos, ◌*ℤ◌, ◌≤ℤ◌, Option, Some, None, IfNone, Result, Ok, Err, IfOk, refl, sym, ◌∙◌, ap, arith}
 use Rattle.std.proofs.lemmas.Int.{ints}
 use Rattle.std.proofs.lemmas.Bool.{eq-eqb}
 use Rattle.std.proofs.lemmas.Bool.Decides.{nat_tests}
 use Rattle.std.specs.Prelude.{int_lt, slice_index}
 use Rattle.qm_laws.specs.Searches.{least}
-use Rattle.qm_laws.proofs.Searches.{least_none, none_below}
+use Rattle.qm_laws.proofs.Searches.{least_none, least_some, least_same, none_below}
 use Rattle.def_flow.specs.declared.weighted.Verdict.{Verdict}
 use Rattle.def_flow.specs.declared.weighted.Verdict.TheVariants.{Yes, Shape, Even, Negative, Short}
 use Rattle.def_flow.specs.Matching.{Graph, IsGraph, edge_at, IsPerfect, matching_cost}
 use Rattle.def_flow.specs.Dual.{DualLists, IsNested, SaysYes, set_size, is_odd_size, is_up, load, z_at, dual_sum, shape_fault, even_fault, negative_fault, short_fault, refuse, verdict}
+use Rattle.qm_dual.specs.Nest.{AreSizes}
 use Rattle.qm_dual.proofs.Weak.{weak_duality}
 
 -- Where the verdict is yes, nothing was refused, and what comes after is yes.
@@ -108,3 +109,39 @@ pub yes_bounds : (g : Graph) (d : DualLists) (v : Verdict) → IsGraph g → v �
 yes_bounds g d v is value s here m perfect =
     let says : SaysYes g d × (s ≡ dual_sum d) = yes_says g d s (sym value ∙ here) in
     rw says.1 (weak_duality g d is says.0 m perfect)
+
+-- A dual of the right lengths, with no entry out of range.
+pub nested_where_placed : (n m : ℕ) (up : List ℕ) (o : Option ℕ) → length up ≡ n + m → o ≡ least (λ i. not (is_up n m i (slice_index up i))) (n + m) → IfNone o (IsNested n m up)
+nested_where_placed n m up (Some k) long is = tt
+nested_where_placed n m up None long is = record { entries = long; later = λ i l. not_false (is_up n m i (slice_index up i)) (none_below (λ j. not (is_up n m j (slice_index up j))) (n + m) (sym is) i l) }
+
+-- The refusal of the least edge whose load is too great.
+pub short_found : (g : Graph) (d : DualLists) (k : ℕ) (sum cost : ℤ) → k < length g.edges → ((j : ℕ) → j < k → int_lt (pos 2 *ℤ (edge_at g j).cost) (load g.n d (edge_at g j)) ≡ false)
+  → sum ≡ load g.n d (edge_at g k) → cost ≡ pos 2 *ℤ (edge_at g k).cost → int_lt cost sum ≡ true
+  → Short k sum cost ≡ refuse (short_fault g d) (λ k. Short k (load g.n d (edge_at g k)) (pos 2 *ℤ (edge_at g k).cost)) (Yes (dual_sum d))
+short_found g d k sum cost l before is twice above =
+    let here : int_lt (pos 2 *ℤ (edge_at g k).cost) (load g.n d (edge_at g k)) ≡ true = rw (← is, ← twice) above in
+    let found : short_fault g d ≡ Some k = least_some (λ j. int_lt (pos 2 *ℤ (edge_at g j).cost) (load g.n d (edge_at g j))) (length g.edges) k l before here in
+    rw (found, is, twice) refl
+
+-- Yes, where no load is too great.
+pub none_short : (g : Graph) (d : DualLists) (sum : ℤ) → ((j : ℕ) → j < length g.edges → int_lt (pos 2 *ℤ (edge_at g j).cost) (load g.n d (edge_at g j)) ≡ false) → sum ≡ dual_sum d
+  → Yes sum ≡ refuse (short_fault g d) (λ k. Short k (load g.n d (edge_at g k)) (pos 2 *ℤ (edge_at g k).cost)) (Yes (dual_sum d))
+none_short g d sum off is =
+    let none : short_fault g d ≡ None = least_none (λ j. int_lt (pos 2 *ℤ (edge_at g j).cost) (load g.n d (edge_at g j))) (length g.edges) off in
+    rw (none, is) refl
+
+-- The verdict on a dual of the right shape.
+pub shaped_verdict : (g : Graph) (d : DualLists) → length d.y ≡ g.n → IsNested g.n (length d.z) d.up
+  → verdict g d ≡ refuse (even_fault g.n d) (λ k. Even k (set_size g.n d k)) (refuse (negative_fault d) (λ k. Negative k) (refuse (short_fault g d) (λ k. Short k (load g.n d (edge_at g k)) (pos 2 *ℤ (edge_at g k).cost)) (Yes (dual_sum d))))
+shaped_verdict g d numbers nested = let none : shape_fault g.n d ≡ None = no_shape_fault g.n d numbers nested in rw none refl
+
+-- The sets of unlawful sizes, by a table of the sizes.
+pub even_by_sizes : (n : ℕ) (d : DualLists) (sizes : List ℕ) → AreSizes n d sizes → least (λ k. not (is_odd_size (slice_index sizes k))) (length sizes) ≡ even_fault n d
+even_by_sizes n d sizes are = rw are.count (least_same _ _ (length d.z) (λ k l. ap (λ s. not (is_odd_size s)) (are.each k l)))
+
+-- The same of an answer that may want memory.
+pub bound_where_exact : {E : Type 0} (g : Graph) (d : DualLists) → IsGraph g → (r : Result Verdict E) → IfOk r (λ v. v ≡ verdict g d)
+  → IfOk r (λ v. (sum : ℤ) → v ≡ Yes sum → (m : List ℕ) → IsPerfect g m → sum ≤ℤ (pos 2 *ℤ matching_cost g m))
+bound_where_exact g d is (Ok v) value = yes_bounds g d v is value
+bound_where_exact g d is (Err e) value = tt

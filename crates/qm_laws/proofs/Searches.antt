@@ -33,3 +33,8 @@ none_below p (suc n) none k l = by_before (least p n) (p n) refl refl none (none
     by_before (Some j) b was is off rest = absurd cc
     by_before None true was is off rest = absurd cc
     by_before None false was is off rest = elim (cases_eq k n) [ inl e ↦ ap p e ∙ is | inr ne ↦ rest was k (omega arith) ]
+
+-- Tests that agree below the bound have the same least number.
+pub least_same : (p q : ℕ → Bool) (n : ℕ) → ((k : ℕ) → k < n → p k ≡ q k) → least p n ≡ least q n
+least_same p q zero same = refl
+least_same p q (suc n) same = rw (least_same p q n (λ k l. same k (omega arith)), same n (omega arith)) refl
