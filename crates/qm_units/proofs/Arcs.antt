@@ -41,14 +41,19 @@ increments net step a x k t = omega (arith, arc_convex net a here there (pos ste
   where
     here : ℤ
     here = pos (low net step x + k * step)
+
     there : ℤ
     there = pos (low net step x + (k + 1 + t) * step)
+
     spread : (k + 1 + t) * step ≡ k * step + step + t * step
     spread = omega (arith, add-mul (k + 1) t step, add-mul k 1 step, one-mul step)
+
     part : IsPart (pos step) (there -ℤ here)
     part = inl (omega (arith, ints), omega (arith, ints, spread))
+
     up : here +ℤ pos step ≡ pos (low net step x + (k + 1) * step)
     up = omega (arith, ints, add-mul k 1 step, one-mul step)
+
     less : there -ℤ pos step ≡ pos (low net step x + (k + t) * step)
     less = omega (arith, ints, spread, add-mul k t step)
 
@@ -112,10 +117,14 @@ told_active net step v (a ∷ arcs) (x ∷ xs) ons l m =
     let len : length (units_from net step a x 0 n) ≡ n = units_length net step a x 0 n in
     let first : active v (units_from net step a x 0 n) (take (length (units_from net step a x 0 n)) ons) ≡ active v (units_from net step a x 0 n) (take n ons) = ap (λ k. active v (units_from net step a x 0 n) (take k ons)) len in
     let others : active v (units net step arcs xs) (drop (length (units_from net step a x 0 n)) ons) ≡ active v (units net step arcs xs) (drop n ons) = ap (λ k. active v (units net step arcs xs) (drop k ons)) len in
-    omega (arith, first, others,
-        active_split v (units_from net step a x 0 n) (units net step arcs xs) ons,
-        any_active net step v a x 0 n (take n ons) ls.0,
-        told_active net step v arcs xs (drop n ons) (omega arith) ls.1)
+    omega (
+      arith,
+      first,
+      others,
+      active_split v (units_from net step a x 0 n) (units net step arcs xs) ons,
+      any_active net step v a x 0 n (take n ons) ls.0,
+      told_active net step v arcs xs (drop n ons) (omega arith) ls.1,
+    )
 
 told_dear : (net : Network) (step : ℕ) (arcs : List Arc) (xs : List ℕ) (ons : List Bool) → length xs ≡ length arcs → length ons ≡ length (units net step arcs xs) → pos (deviations net arcs (lengths_on net step xs (steps_told net step xs ons))) ≤ℤ (cost_on (units net step arcs xs) ons +ℤ pos (deviations net arcs (lows net step xs)))
 told_dear net step [] [] ons l m = omega (arith, ints, none ons)
@@ -134,10 +143,17 @@ told_dear net step (a ∷ arcs) (x ∷ xs) ons l m =
     let begin : low net step x + 0 * step ≡ low net step x = omega (arith, zero-mul step) in
     let bottom : at_step net step a x 0 ≡ arc_deviation net a (pos (low net step x)) = ap (λ k. arc_deviation net a (pos k)) begin in
     let top : at_step net step a x (0 + t) ≡ at_step net step a x t = ap (at_step net step a x) (zero-add t) in
-    omega (arith, ints, first, others, bottom, top,
-        cost_split (units_from net step a x 0 n) (units net step arcs xs) ons,
-        any_cost net step a x 0 n (take n ons) ls.0,
-        told_dear net step arcs xs (drop n ons) (omega arith) ls.1)
+    omega (
+      arith,
+      ints,
+      first,
+      others,
+      bottom,
+      top,
+      cost_split (units_from net step a x 0 n) (units net step arcs xs) ons,
+      any_cost net step a x 0 n (take n ons) ls.0,
+      told_dear net step arcs xs (drop n ons) (omega arith) ls.1,
+    )
 
 -- No end is at a node past the last.
 ends_past : (nodes v : ℕ) (on : Bool) (left : End) (right : Option End) → nodes ≤ v → AreNodes nodes left right → ends_active v on left right ≡ 0
@@ -168,56 +184,83 @@ box_high net step (x ∷ xs) (j ∷ js) (y ∷ ys) box high (suc k) l = box_high
 
 -- The lengths law.
 pub lengths_law : (net : Network) (step : ℕ) (xs m : List ℕ) → IsWithinBounds net → 1 ≤ step → length xs ≡ length net.arcs → IsAdmissible net (entries xs) → IsPerfect (matching_graph net step xs) m
-  → (length (lengths_told net step xs m) ≡ length net.arcs) × IsAdmissible net (entries (lengths_told net step xs m)) × ((pos (deviation net (entries (lengths_told net step xs m))) -ℤ pos (deviation net (entries (lows net step xs)))) ≤ℤ matching_cost (matching_graph net step xs) m)
+    → (length (lengths_told net step xs m) ≡ length net.arcs) × IsAdmissible net (entries (lengths_told net step xs m)) × ((pos (deviation net (entries (lengths_told net step xs m))) -ℤ pos (deviation net (entries (lows net step xs)))) ≤ℤ matching_cost (matching_graph net step xs) m)
 lengths_law net step xs m bounds positive l ax perfect = (count, record { high = λ k lk. box_high net step xs js ys box (λ i li. ax.high i (omega (arith, l))) k (omega (arith, l)); balanced = balanced }, dear)
   where
     us : List ArcUnit
     us = units net step net.arcs xs
+
     room : ℕ → ℕ
     room v = active v us (states_at net step xs)
+
     ons : List Bool
     ons = states_told room us (marks_from 0 (length (matching_graph net step xs).edges) m)
+
     js : List ℕ
     js = steps_told net step xs ons
+
     ys : List ℕ
     ys = lengths_told net step xs m
+
     box : IsInBox net step xs js ys
     box = told_box net step xs ons
+
     count : length ys ≡ length net.arcs
     count = box_length net step xs js ys box ∙ l
+
     at : UnitsAt net.nodes us
     at = units_at net step net.arcs xs (arcs_at net.nodes net.arcs bounds.arcs)
+
     ons_count : length ons ≡ length us
     ons_count = told_length room us (marks_from 0 (length (matching_graph net step xs).edges) m)
+
     fills : (v : ℕ) → active v us ons ≡ active v us (states_at net step xs)
     fills v = by_node (cases_lt v net.nodes)
       where
         by_node : (v < net.nodes) ⊎ (net.nodes ≤ v) → active v us ons ≡ active v us (states_at net step xs)
         by_node (inl low_node) = told_fills net.nodes room (rim_active us (states_at net step xs) % 2 == 1) us at m perfect v low_node
         by_node (inr past) = active_past net.nodes v us ons past at ∙ sym (active_past net.nodes v us (states_at net step xs) past at)
+
     own : IsInBox net step xs (map (down net step) xs) xs
     own = own_box net step xs
+
     side : (v : ℕ) → weighted_ends v true net.arcs ys ≡ weighted_ends v false net.arcs ys
-    side v = omega (arith, scaled, mul-add step (plus js) (minus ds), mul-add step (minus js) (plus ds),
-        box_ends net step v true net.arcs xs js ys l box, box_ends net step v false net.arcs xs js ys l box,
-        box_ends net step v true net.arcs xs ds xs l own, box_ends net step v false net.arcs xs ds xs l own,
-        balanced_list net.arcs xs l ax.balanced v)
+    side v = omega (
+      arith,
+      scaled,
+      mul-add step (plus js) (minus ds),
+      mul-add step (minus js) (plus ds),
+      box_ends net step v true net.arcs xs js ys l box,
+      box_ends net step v false net.arcs xs js ys l box,
+      box_ends net step v true net.arcs xs ds xs l own,
+      box_ends net step v false net.arcs xs ds xs l own,
+      balanced_list net.arcs xs l ax.balanced v,
+    )
       where
         ds : List ℕ
         ds = map (down net step) xs
+
         plus : List ℕ → ℕ
         plus ks = weighted_ends v true net.arcs ks
+
         minus : List ℕ → ℕ
         minus ks = weighted_ends v false net.arcs ks
+
         equal : plus js + minus ds ≡ minus js + plus ds
         equal = omega (arith, fills v, told_active net step v net.arcs xs ons l ons_count, box_active net step v net.arcs xs ds xs l own)
+
         scaled : step * (plus js + minus ds) ≡ step * (minus js + plus ds)
         scaled = ap (λ n. step * n) equal
+
     balanced : IsBalanced net.arcs (entries ys)
     balanced v = omega (arith, ints, side_list v true net.arcs ys count, side_list v false net.arcs ys count, side v)
+
     dear : (pos (deviation net (entries ys)) -ℤ pos (deviation net (entries (lows net step xs)))) ≤ℤ matching_cost (matching_graph net step xs) m
-    dear = omega (arith, ints,
-        told_cost net.nodes room (rim_active us (states_at net step xs) % 2 == 1) us at m perfect,
-        told_dear net step net.arcs xs ons l ons_count,
-        deviation_list net net.arcs ys count,
-        deviation_list net net.arcs (lows net step xs) (length-map xs (low net step) ∙ l))
+    dear = omega (
+      arith,
+      ints,
+      told_cost net.nodes room (rim_active us (states_at net step xs) % 2 == 1) us at m perfect,
+      told_dear net step net.arcs xs ons l ons_count,
+      deviation_list net net.arcs ys count,
+      deviation_list net net.arcs (lows net step xs) (length-map xs (low net step) ∙ l),
+    )

@@ -42,14 +42,24 @@ pub lone_pick : (f : WEdge → ℤ) (room : ℕ → ℕ) (b : ℕ) (c : ℤ) (le
 lone_pick f room b c left s ms worth = omega (arith, ints, end_split f room b c left ms (inner_link b c left ∷ []), end_pick f room b c left s ms worth, pick_last f (drop (room left.node) ms) (inner_link b c left))
 
 pub alike_pick : (f : WEdge → ℤ) (room : ℕ → ℕ) (b : ℕ) (c : ℤ) (left right : End) (s t : ℤ) (ms : List Bool) → IsWorth f room b c left s → IsWorth f room (b + 1) (pos 0) right t → picked f ms (to_copies room b c left ++ (to_copies room (b + 1) (pos 0) right ++ inner_link b c left ∷ [])) ≡ pos (left_marks room ms left) *ℤ s +ℤ (pos (right_marks room ms left right) *ℤ t +ℤ cond (alike_inner room ms left right) (f (inner_link b c left)) (pos 0))
-alike_pick f room b c left right s t ms worth other = omega (arith, ints,
-    end_split f room b c left ms (to_copies room (b + 1) (pos 0) right ++ inner_link b c left ∷ []), end_pick f room b c left s ms worth,
-    end_split f room (b + 1) (pos 0) right (drop (room left.node) ms) (inner_link b c left ∷ []), end_pick f room (b + 1) (pos 0) right t (drop (room left.node) ms) other,
-    pick_last f (drop (room right.node) (drop (room left.node) ms)) (inner_link b c left))
+alike_pick f room b c left right s t ms worth other = omega (
+  arith,
+  ints,
+  end_split f room b c left ms (to_copies room (b + 1) (pos 0) right ++ inner_link b c left ∷ []),
+  end_pick f room b c left s ms worth,
+  end_split f room (b + 1) (pos 0) right (drop (room left.node) ms) (inner_link b c left ∷ []),
+  end_pick f room (b + 1) (pos 0) right t (drop (room left.node) ms) other,
+  pick_last f (drop (room right.node) (drop (room left.node) ms)) (inner_link b c left),
+)
 
 pub unlike_pick : (f : WEdge → ℤ) (room : ℕ → ℕ) (b : ℕ) (c : ℤ) (left right : End) (s t : ℤ) (ms : List Bool) → IsWorth f room b c left s → IsWorth f room b c right t → picked f ms (to_copies room b c left ++ to_copies room b c right) ≡ pos (left_marks room ms left) *ℤ s +ℤ pos (right_marks room ms left right) *ℤ t
-unlike_pick f room b c left right s t ms worth other = omega (arith, ints,
-    end_split f room b c left ms (to_copies room b c right), end_pick f room b c left s ms worth, end_pick f room b c right t (drop (room left.node) ms) other)
+unlike_pick f room b c left right s t ms worth other = omega (
+  arith,
+  ints,
+  end_split f room b c left ms (to_copies room b c right),
+  end_pick f room b c left s ms worth,
+  end_pick f room b c right t (drop (room left.node) ms) other,
+)
 
 -- A unit has as many edges as its width says.
 pub links_width : (room : ℕ → ℕ) (b : ℕ) (c : ℤ) (left : End) (right : Option End) → length (links_by room b c left right) ≡ width_by room left right
@@ -58,8 +68,10 @@ links_width room b c left (Some right) = by_alike (are_alike left right)
   where
     first : length (to_copies room b c left) ≡ room left.node
     first = fan_length b (cond left.plus c (pos 0)) (count_below room left.node) (room left.node)
+
     second : (u : ℕ) (d : ℤ) → length (to_copies room u d right) ≡ room right.node
     second u d = fan_length u (cond right.plus d (pos 0)) (count_below room right.node) (room right.node)
+
     by_alike : (a : Bool) → length (cond a (to_copies room b c left ++ (to_copies room (b + 1) (pos 0) right ++ inner_link b c left ∷ [])) (to_copies room b c left ++ to_copies room b c right)) ≡ cond a (room left.node + (room right.node + 1)) (room left.node + room right.node)
     by_alike true = omega (arith, length-append (to_copies room b c left) (to_copies room (b + 1) (pos 0) right ++ inner_link b c left ∷ []), length-append (to_copies room (b + 1) (pos 0) right) (inner_link b c left ∷ []), first, second (b + 1) (pos 0))
     by_alike false = omega (arith, length-append (to_copies room b c left) (to_copies room b c right), first, second b c)

@@ -7,6 +7,7 @@ pub mod Links
 pub mod Perfect
 pub mod Pick
 pub mod Reading
+pub mod Size
 pub mod Sound
 pub mod Touch
 pub mod Unit

@@ -60,22 +60,31 @@ pair_ok nodes room b c left right ms at le first second = record {
   where
     low : (d : ℕ) → b ≤ d → (k : ℕ) → k < count_below room nodes → only d k ≡ pos 0
     low d h k l = only_there d k (λ e. omega arith)
+
     left_worth : (d : ℕ) (s : ℤ) → b ≤ d → only d b ≡ s → IsWorth (at_ends (only d)) room b c left s
     left_worth d s h e = copies_worth (only d) nodes room b c left s at.0 (low d h) e
+
     right_worth : (d : ℕ) (s : ℤ) → b ≤ d → only d (b + 1) ≡ s → IsWorth (at_ends (only d)) room (b + 1) (pos 0) right s
     right_worth d s h e = copies_worth (only d) nodes room (b + 1) (pos 0) right s at.1 (low d h) e
+
     unlike_worth : IsWorth (at_ends (only b)) room b c right (pos 1)
     unlike_worth = copies_worth (only b) nodes room b c right (pos 1) at.1 (low b (omega arith)) (only_here b)
+
     alike_edges : List WEdge
     alike_edges = to_copies room b c left ++ (to_copies room (b + 1) (pos 0) right ++ inner_link b c left ∷ [])
+
     unlike_edges : List WEdge
     unlike_edges = to_copies room b c left ++ to_copies room b c right
+
     edges : (a : Bool) → are_alike left right ≡ a → links_by room b c left (Some right) ≡ cond a alike_edges unlike_edges
     edges a e = ap (λ t. cond t alike_edges unlike_edges) e
+
     alike_first : are_alike left right ≡ true → picked (at_ends (only b)) ms alike_edges ≡ pos 1
     alike_first e = ap (picked (at_ends (only b)) ms) (sym (edges true e)) ∙ first
+
     alike_second : are_alike left right ≡ true → picked (at_ends (only (b + 1))) ms alike_edges ≡ pos 1
     alike_second e = ap (picked (at_ends (only (b + 1))) ms) (sym (edges true e)) ∙ second e
+
     unlike_first : are_alike left right ≡ false → picked (at_ends (only b)) ms unlike_edges ≡ pos 1
     unlike_first e = ap (picked (at_ends (only b)) ms) (sym (edges false e)) ∙ first
 
@@ -140,12 +149,15 @@ only_total n b l = total_below_one (only b) n b l (λ k lk ne. only_there b k ne
 
 -- What is picked at the first unit for a weight that is 1 at one of its vertices and 0 at all others.
 first_unit : (n nodes : ℕ) (room : ℕ → ℕ) (b m d : ℕ) (u : ArcUnit) (us : List ArcUnit) (ms : List Bool) (front rs : List ℕ) (rest : List WEdge) (rms : List Bool) → UnitsAt nodes us → count_below room nodes ≤ b → b ≤ d → d < b + unit_size u → b + (unit_size u + count unit_size us) ≤ m → m ≤ n → AreBelow b front → rs ≡ front ++ with_rim u.right (b + 1) (rim (b + unit_size u) us) → AreNil (only d) (with_rim u.right (b + 1) (rim (b + unit_size u) us)) → RestZero m rs rest → IsFull n room b (u ∷ us) ms rest rms → picked (at_ends (only d)) ms (unit_links room b u) ≡ pos 1
-first_unit n nodes room b m d u us ms front rs rest rms at le low high fits within below is nil nothing full = omega (arith, ints,
-    full (only d) (λ k l. only_there d k (λ e. omega arith)),
-    pick_split (at_ends (only d)) ms (unit_links room b u) (units_links room (b + unit_size u) us),
-    picked_zero (only d) (drop (length (unit_links room b u)) ms) (units_links room (b + unit_size u) us) (units_zero (only d) nodes room (b + unit_size u) us at (λ k l. only_there d k (λ e. omega arith)) (λ k l. only_there d k (λ e. omega arith))),
-    picked_zero (only d) rms rest (nothing (only d) (subst (λ (xs : List ℕ). AreNil (only d) xs) (sym is) (nil_append (only d) front _ (nil_below (only d) b front below (λ k l. only_there d k (λ e. omega arith))) nil)) (λ k l. only_there d k (λ e. omega arith))),
-    only_total n d (omega arith))
+first_unit n nodes room b m d u us ms front rs rest rms at le low high fits within below is nil nothing full = omega (
+  arith,
+  ints,
+  full (only d) (λ k l. only_there d k (λ e. omega arith)),
+  pick_split (at_ends (only d)) ms (unit_links room b u) (units_links room (b + unit_size u) us),
+  picked_zero (only d) (drop (length (unit_links room b u)) ms) (units_links room (b + unit_size u) us) (units_zero (only d) nodes room (b + unit_size u) us at (λ k l. only_there d k (λ e. omega arith)) (λ k l. only_there d k (λ e. omega arith))),
+  picked_zero (only d) rms rest (nothing (only d) (subst (λ (xs : List ℕ). AreNil (only d) xs) (sym is) (nil_append (only d) front _ (nil_below (only d) b front below (λ k l. only_there d k (λ e. omega arith))) nil)) (λ k l. only_there d k (λ e. omega arith))),
+  only_total n d (omega arith),
+)
 
 -- The rest of the graph holds the rim of these units, and before it vertices below b.
 pub record HasRim (b : ℕ) (us : List ArcUnit) (rs : List ℕ) : Type 0 where
@@ -187,13 +199,19 @@ units_ok n nodes room b m (u ∷ us) ms rs rest rms at le fits within has nothin
   where
     first : (d : ℕ) → b ≤ d → d < b + unit_size u → AreNil (only d) (with_rim u.right (b + 1) (rim (b + unit_size u) us)) → picked (at_ends (only d)) ms (unit_links room b u) ≡ pos 1
     first d low high nil = first_unit n nodes room b m d u us ms has.front rs rest rms at.1 le low high fits within has.below has.is nil nothing full
+
     by_right : (right : Option End) → AreNodes nodes u.left right → picked (at_ends (only b)) ms (links_by room b u.cost u.left right) ≡ pos 1 → (size_by u.left right ≡ 2 → AreNil (only (b + 1)) (with_rim right (b + 1) (rim (b + size_by u.left right) us)) → picked (at_ends (only (b + 1))) ms (links_by room b u.cost u.left right) ≡ pos 1) → IsUnitOk room ms u.left right
     by_right None a one two = lone_ok nodes room b u.cost u.left ms a le one
     by_right (Some right) a one two = pair_ok nodes room b u.cost u.left right ms a le one (λ e. two (ap (λ t. cond t 2 1) e) (nil_rim (only (b + 1)) (b + size_by u.left (Some right)) us (λ k l. only_there (b + 1) k (λ q. omega (arith, size_low u.left (Some right))))))
+
     later : IsFull n room (b + unit_size u) us (drop (width_by room u.left u.right) ms) rest rms
     later w low =
         let here : picked (at_ends w) (drop (length (unit_links room b u)) ms) (units_links room (b + unit_size u) us) ≡ picked (at_ends w) (drop (width_by room u.left u.right) ms) (units_links room (b + unit_size u) us) = ap (λ k. picked (at_ends w) (drop k ms) (units_links room (b + unit_size u) us)) (links_width room b u.cost u.left u.right) in
-        omega (arith, ints, here,
-            full w (λ k l. low k (omega arith)),
-            pick_split (at_ends w) ms (unit_links room b u) (units_links room (b + unit_size u) us),
-            picked_zero w ms (unit_links room b u) (unit_zero w nodes room b u.cost u.left u.right at.0 (λ k l. low k (omega arith)) (λ k l h. low k h)))
+        omega (
+          arith,
+          ints,
+          here,
+          full w (λ k l. low k (omega arith)),
+          pick_split (at_ends w) ms (unit_links room b u) (units_links room (b + unit_size u) us),
+          picked_zero w ms (unit_links room b u) (unit_zero w nodes room b u.cost u.left u.right at.0 (λ k l. low k (omega arith)) (λ k l h. low k h)),
+        )

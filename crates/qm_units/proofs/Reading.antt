@@ -39,6 +39,7 @@ places_marks k (suc n) (e ∷ m) rising = by_first (cases_eq e k) (places_marks 
   where
     high : k + suc n ≡ k + 1 + n
     high = omega arith
+
     by_first : (e ≡ k) ⊎ (e ≢ k) → ((l : List ℕ) → IsRising (k + 1) (k + 1 + n) l → places (k + 1) (marks_from (k + 1) n l) ≡ l) → keep (e == k) k (places (k + 1) (marks_from (k + 1) n (past (e == k) e m))) ≡ e ∷ m
     by_first (inl here) ih =
         let rest : IsRising (k + 1) (k + 1 + n) m = subst (λ (h : ℕ). IsRising (k + 1) h m) high (subst (λ (j : ℕ). IsRising (j + 1) (k + suc n) m) here rising.2) in
@@ -73,6 +74,7 @@ copy_weight room v u i l = by_order (cases_eq u v) (cases_lt u v)
   where
     k : ℕ
     k = count_below room u + i
+
     by_order : (u ≡ v) ⊎ (u ≢ v) → (u < v) ⊎ (v ≤ u) → at_copies room v k ≡ pos (cond (u == v) 1 0)
     by_order (inl e) _ =
         let first : count_below room u ≡ count_below room v = ap (count_below room) e in
@@ -92,7 +94,6 @@ times_cond false true = omega (arith, ints)
 times_cond false false = omega (arith, ints)
 
 module _ (room : ℕ → ℕ) (v : ℕ) (w : ℕ → ℤ) (copy : (u i : ℕ) → i < room u → w (count_below room u + i) ≡ pos (cond (u == v) 1 0)) where
-
   end_worth : (b : ℕ) (c : ℤ) (e : End) → w b ≡ pos 0 → IsWorth (at_ends w) room b c e (pos (cond (e.node == v) 1 0))
   end_worth b c e none i l = omega (arith, ints, none, copy e.node i l)
 
@@ -149,6 +150,7 @@ unit_cost_told room b c left (Some right) ms ok = by_alike (are_alike left right
     by_signs true false = omega (arith, ints)
     by_signs false true = omega (arith, ints)
     by_signs false false = omega (arith, ints)
+
     by_both : (p q o : Bool) → cond p q (not q) ≡ false → pos (cond (cond p o (not o)) 1 0) *ℤ cond p c (pos 0) +ℤ pos (cond (cond q o (not o)) 1 0) *ℤ cond q c (pos 0) ≡ cond o c (pos 0)
     by_both true true o e = absurd (true≢false e)
     by_both true false true e = omega (arith, ints)
@@ -156,11 +158,14 @@ unit_cost_told room b c left (Some right) ms ok = by_alike (are_alike left right
     by_both false true true e = omega (arith, ints)
     by_both false true false e = omega (arith, ints)
     by_both false false o e = absurd (true≢false e)
+
     free_end : (q : Bool) → cond q (pos 0) (pos 0) ≡ pos 0
     free_end true = refl
     free_end false = refl
+
     first : left_marks room ms left ≡ cond (told room ms left left) 1 0 → pos (left_marks room ms left) *ℤ cond left.plus c (pos 0) ≡ pos (cond (told room ms left left) 1 0) *ℤ cond left.plus c (pos 0)
     first e = ap (λ n. pos n *ℤ cond left.plus c (pos 0)) e
+
     by_alike : (a : Bool) → are_alike left right ≡ a → picked (λ e. e.cost) ms (cond a (to_copies room b c left ++ (to_copies room (b + 1) (pos 0) right ++ inner_link b c left ∷ [])) (to_copies room b c left ++ to_copies room b c right)) ≡ cond (state_told room ms left) c (pos 0)
     by_alike true e =
         let facts : (left_marks room ms left ≡ cond (told room ms left left) 1 0) × (right_marks room ms left right ≡ cond (told room ms left right) 1 0) × (alike_inner room ms left right ≡ not (told room ms left left)) = alike_told room ms left right ok e in
@@ -183,7 +188,6 @@ told_length room [] ms = refl
 told_length room (u ∷ us) ms = omega (arith, told_length room us (drop (width_by room u.left u.right) ms))
 
 module _ (nodes : ℕ) (room : ℕ → ℕ) (lone : Bool) (us : List ArcUnit) (at : UnitsAt nodes us) (m : List ℕ) (perfect : IsPerfect (graph_by nodes room lone us) m) where
-
   copies : ℕ
   copies = count_below room nodes
 
@@ -236,19 +240,25 @@ module _ (nodes : ℕ) (room : ℕ → ℕ) (lone : Bool) (us : List ArcUnit) (a
   -- The states that it tells fill the copies.
   pub told_fills : (v : ℕ) → v < nodes → active v us (states_told room us (marks_from 0 (length (graph_by nodes room lone us).edges) m)) ≡ room v
   unfolding copies inner ms
-  told_fills v l = omega (arith, ints,
-      units_copies room v (at_copies room v) (copy_weight room v) copies us ms (λ k lk. copies_past room v nodes k l lk) all_ok,
-      halves (at_ends (at_copies room v)),
-      ends_weight (at_copies room v),
-      picked_zero (at_copies room v) rms rest (rest_zero (at_copies room v) (nil_rim (at_copies room v) copies us (λ k lk. copies_past room v nodes k l (omega arith))) (λ k lk. copies_past room v nodes k l (omega arith))),
-      copies_total room v (graph_by nodes room lone us).n (omega (arith, copies_below room v nodes l)))
+  told_fills v l = omega (
+    arith,
+    ints,
+    units_copies room v (at_copies room v) (copy_weight room v) copies us ms (λ k lk. copies_past room v nodes k l lk) all_ok,
+    halves (at_ends (at_copies room v)),
+    ends_weight (at_copies room v),
+    picked_zero (at_copies room v) rms rest (rest_zero (at_copies room v) (nil_rim (at_copies room v) copies us (λ k lk. copies_past room v nodes k l (omega arith))) (λ k lk. copies_past room v nodes k l (omega arith))),
+    copies_total room v (graph_by nodes room lone us).n (omega (arith, copies_below room v nodes l)),
+  )
 
   -- Its cost is that of the units that are on.
   pub told_cost : matching_cost (graph_by nodes room lone us) m ≡ cost_on us (states_told room us (marks_from 0 (length (graph_by nodes room lone us).edges) m))
   unfolding copies ms rest
-  told_cost = omega (arith, ints,
-      ap (total (λ (e : WEdge). e.cost)) chosen_is,
-      picked_chosen (λ (e : WEdge). e.cost) ms edges,
-      halves (λ (e : WEdge). e.cost),
-      picked_free rms rest (rim_free (lone_vertex nodes room lone us) (first_fresh nodes room lone us) (rim (count_below room nodes) us)),
-      units_cost_told room copies us ms all_ok)
+  told_cost = omega (
+    arith,
+    ints,
+    ap (total (λ (e : WEdge). e.cost)) chosen_is,
+    picked_chosen (λ (e : WEdge). e.cost) ms edges,
+    halves (λ (e : WEdge). e.cost),
+    picked_free rms rest (rim_free (lone_vertex nodes room lone us) (first_fresh nodes room lone us) (rim (count_below room nodes) us)),
+    units_cost_told room copies us ms all_ok,
+  )

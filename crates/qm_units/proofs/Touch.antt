@@ -35,6 +35,7 @@ fan_pick f (m ∷ ms) u c a (suc n) s each = by_mark m (fan_pick f ms u c (a + 1
   where
     here : f (link u a c) ≡ s
     here = (let e : a + 0 ≡ a = add-zero a in ap (λ k. f (link u k c)) (sym e) ∙ each 0 (omega arith))
+
     by_mark : (b : Bool) → picked f ms (fan u c (a + 1) n) ≡ pos (trues (take n ms)) *ℤ s → cond b (f (link u a c)) (pos 0) +ℤ picked f ms (fan u c (a + 1) n) ≡ pos (cond b 1 0 + trues (take n ms)) *ℤ s
     by_mark true rest = omega (arith, ints, here, rest, plus_times 1 (trues (take n ms)) s)
     by_mark false rest = omega (arith, ints, rest, plus_times 0 (trues (take n ms)) s)
