@@ -98,7 +98,7 @@ abbrev pub short_fault : Graph → DualLists → Option ℕ
 short_fault g d = least (λ k. int_lt (pos 2 *ℤ (edge_at g k).cost) (load g.n d (edge_at g k))) (length g.edges)
 
 -- A refusal at what was found, or else what comes after.
-abbrev pub refuse : Option ℕ → (ℕ → Verdict) → Verdict → Verdict
+abbrev pub refuse : {V : Type 0} → Option ℕ → (ℕ → V) → V → V
 refuse (Some k) at after = at k
 refuse None at after = after
 

@@ -70,3 +70,8 @@ count_below_lt f g (suc n) u l le lt = elim (cases_eq u n) [ inl e ↦ at_end e 
     before ne rest =
         let lower : u < n = omega arith in
         omega (arith, rest u lower (λ k lk. le k (omega arith)) lt, le n (omega arith))
+
+-- The first term of a count below a bound.
+pub count_below_front : (f : ℕ → ℕ) (n : ℕ) → count_below f (suc n) ≡ f 0 + count_below (λ k. f (suc k)) n
+count_below_front f zero = omega arith
+count_below_front f (suc n) = omega (arith, count_below_front f n)
