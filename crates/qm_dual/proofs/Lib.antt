@@ -3,5 +3,5 @@ mod Gathered
 mod Meets
 mod OnPaths
 mod Tallies
-mod Weak
+pub mod Weak
 pub mod Verdicts

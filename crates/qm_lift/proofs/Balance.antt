@@ -1,5 +1,5 @@
 -- Sums on the sides of a node.
-use Rattle.std.proofs.Common.{◌≡◌, ℕ, zero, suc, ◌+◌, ◌<◌, ◌≤◌, Bool, true, false, cond, not, ◌&&◌, ◌==◌, List, [], ◌∷◌, length, ℤ, pos, ◌+ℤ◌, ◌-ℤ◌, refl, arith}
+use Rattle.std.proofs.Common.{◌≡◌, ℕ, zero, suc, ◌+◌, ◌<◌, ◌≤◌, Bool, true, false, cond, not, ◌&&◌, ◌==◌, List, [], ◌∷◌, length, ℤ, pos, ◌+ℤ◌, ◌-ℤ◌, refl, ap, arith}
 use Rattle.std.proofs.lemmas.Int.{ints}
 use Rattle.qm_laws.specs.Sums.{total, total_below}
 use Rattle.qm_laws.proofs.Sums.{total_below_same, total_below_sum, total_below_minus}
@@ -38,3 +38,7 @@ balanced_minus arcs x y bx by v = omega (arith, ints, side true, side false, bx 
   where
     side : (plus : Bool) → side_sum arcs (λ k. x k -ℤ y k) plus v ≡ side_sum arcs x plus v -ℤ side_sum arcs y plus v
     side plus = omega (arith, ints, total_below_same (λ k. total (λ e. cond (is_on_side v plus e) (x k -ℤ y k) (pos 0)) (ends (arc_at arcs k))) (λ k. total (λ e. cond (is_on_side v plus e) (x k) (pos 0)) (ends (arc_at arcs k)) -ℤ total (λ e. cond (is_on_side v plus e) (y k) (pos 0)) (ends (arc_at arcs k))) (length arcs) (λ k l. ends_minus v plus (x k) (y k) (ends (arc_at arcs k))), total_below_minus (λ k. total (λ e. cond (is_on_side v plus e) (x k) (pos 0)) (ends (arc_at arcs k))) (λ k. total (λ e. cond (is_on_side v plus e) (y k) (pos 0)) (ends (arc_at arcs k))) (length arcs))
+
+-- The sums on a side depend on the entries of the arcs alone.
+pub same_sides : (arcs : List Arc) (x y : ℕ → ℤ) → ((k : ℕ) → k < length arcs → x k ≡ y k) → (plus : Bool) (v : ℕ) → side_sum arcs x plus v ≡ side_sum arcs y plus v
+same_sides arcs x y same plus v = total_below_same _ _ (length arcs) (λ k l. ap (λ z. total (λ e. cond (is_on_side v plus e) z (pos 0)) (ends (arc_at arcs k))) (same k l))

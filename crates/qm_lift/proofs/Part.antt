@@ -8,7 +8,7 @@ use Rattle.def_flow.specs.Admissible.{IsAdmissible, IsBalanced, is_on_side, side
 use Rattle.def_flow.specs.declared.net.Arc.{Arc}
 use Rattle.def_flow.specs.declared.net.End.{End}
 use Rattle.qm_lift.specs.Laws.{IsPart, IsSmallPart}
-use Rattle.qm_lift.proofs.Balance.{balanced_minus}
+use Rattle.qm_lift.proofs.Balance.{balanced_minus, same_sides}
 use Rattle.qm_lift.proofs.Walk.{Port, Tour, IsEvenOut, weigh, uses, tour, tour_even, at_most_twice}
 
 -- Whether a difference goes up, and m with its sign.
@@ -72,15 +72,12 @@ module _ (arcs : List Arc) (d : ℕ → ℤ) where
       let on : Bool → ℕ → ℤ = λ plus k. total (λ e. cond (is_on_side v plus e) (signed (goes_up (d k)) (m k)) (pos 0)) (ends (arc_at arcs k)) in
       sym (total_below_minus (on true) (on false) (length arcs)) ∙ total_below_same (λ k. on true k -ℤ on false k) _ (length arcs) (λ k l. arc_weighs v (goes_up (d k)) (m k) (arc_at arcs k).left (arc_at arcs k).right)
 
-  same_sides : (x y : ℕ → ℤ) → ((k : ℕ) → k < length arcs → x k ≡ y k) → (plus : Bool) (v : ℕ) → side_sum arcs x plus v ≡ side_sum arcs y plus v
-  same_sides x y same plus v = total_below_same _ _ (length arcs) (λ k l. ap (λ z. total (λ e. cond (is_on_side v plus e) z (pos 0)) (ends (arc_at arcs k))) (same k l))
-
   -- The copies of a balanced difference are even for each effect.
   even_out : IsBalanced arcs d → IsEvenOut left right (length arcs) (λ k. unsigned_abs (d k))
   even_out balanced p = by_up p.node p.up
     where
       up_even : (v : ℕ) → total_below (λ k. weigh (record { node = v; up = true }) (left k) (pos (unsigned_abs (d k))) +ℤ weigh (record { node = v; up = true }) (right k) (pos (unsigned_abs (d k)))) (length arcs) ≡ pos 0
-      up_even v = omega (arith, ints, sides_weigh (λ k. unsigned_abs (d k)) v, balanced v, same_sides (λ k. signed (goes_up (d k)) (unsigned_abs (d k))) d (λ k l. signed_self (d k)) true v, same_sides (λ k. signed (goes_up (d k)) (unsigned_abs (d k))) d (λ k l. signed_self (d k)) false v)
+      up_even v = omega (arith, ints, sides_weigh (λ k. unsigned_abs (d k)) v, balanced v, same_sides arcs (λ k. signed (goes_up (d k)) (unsigned_abs (d k))) d (λ k l. signed_self (d k)) true v, same_sides arcs (λ k. signed (goes_up (d k)) (unsigned_abs (d k))) d (λ k l. signed_self (d k)) false v)
 
       by_up : (v : ℕ) (up : Bool) → total_below (λ k. weigh (record { node = v; up = up }) (left k) (pos (unsigned_abs (d k))) +ℤ weigh (record { node = v; up = up }) (right k) (pos (unsigned_abs (d k)))) (length arcs) ≡ pos 0
       by_up v true = up_even v

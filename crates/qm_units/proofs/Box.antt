@@ -47,11 +47,14 @@ states_count net step arcs (x ∷ xs) [] ys l box = absurd box
 states_count net step arcs (x ∷ xs) (j ∷ js) [] l box = absurd box
 states_count net step [] [] (j ∷ js) ys l box = absurd box
 states_count net step [] [] [] (y ∷ ys) l box = absurd box
-states_count net step (a ∷ arcs) (x ∷ xs) (j ∷ js) (y ∷ ys) l box = omega (arith,
-    length-append (units_from net step a x 0 (cap net step x)) (units net step arcs xs),
-    length-append (run j (cap net step x)) (states net step xs js),
-    units_length net step a x 0 (cap net step x), run_length j (cap net step x),
-    states_count net step arcs xs js ys (omega arith) box.2)
+states_count net step (a ∷ arcs) (x ∷ xs) (j ∷ js) (y ∷ ys) l box = omega (
+  arith,
+  length-append (units_from net step a x 0 (cap net step x)) (units net step arcs xs),
+  length-append (run j (cap net step x)) (states net step xs js),
+  units_length net step a x 0 (cap net step x),
+  run_length j (cap net step x),
+  states_count net step arcs xs js ys (omega arith) box.2,
+)
 
 active_append : (v : ℕ) (us vs : List ArcUnit) (ons os : List Bool) → length us ≡ length ons → active v (us ++ vs) (ons ++ os) ≡ active v us ons + active v vs os
 active_append v [] vs [] os l = omega arith
@@ -87,10 +90,12 @@ box_active net step v [] [] (j ∷ js) ys l box = absurd box
 box_active net step v [] [] [] (y ∷ ys) l box = absurd box
 box_active net step v (a ∷ arcs) (x ∷ xs) (j ∷ js) (y ∷ ys) l box =
     let same : length (units_from net step a x 0 (cap net step x)) ≡ length (run j (cap net step x)) = omega (arith, units_length net step a x 0 (cap net step x), run_length j (cap net step x)) in
-    omega (arith,
-        active_append v (units_from net step a x 0 (cap net step x)) (units net step arcs xs) (run j (cap net step x)) (states net step xs js) same,
-        run_active net step v a x 0 j (cap net step x) box.0,
-        box_active net step v arcs xs js ys (omega arith) box.2)
+    omega (
+      arith,
+      active_append v (units_from net step a x 0 (cap net step x)) (units net step arcs xs) (run j (cap net step x)) (states net step xs js) same,
+      run_active net step v a x 0 j (cap net step x) box.0,
+      box_active net step v arcs xs js ys (omega arith) box.2,
+    )
 
 -- A list of the box has the ends of its lows, and a step's worth for each unit.
 scaled : (l j s a : ℕ) → (l + j * s) * a ≡ l * a + s * (j * a)
@@ -129,16 +134,19 @@ pub side_list : (v : ℕ) (on : Bool) (arcs : List Arc) (ys : List ℕ) → leng
 side_list v on [] [] l = refl
 side_list v on [] (y ∷ ys) l = absurd (omega arith)
 side_list v on (a ∷ arcs) [] l = absurd (omega arith)
-side_list v on (a ∷ arcs) (y ∷ ys) l = omega (arith, ints,
-    total_below_front (λ k. total (λ e. cond (is_on_side v on e) (entries (y ∷ ys) k) (pos 0)) (ends (arc_at (a ∷ arcs) k))) (length arcs),
-    ends_side v y on (ends a),
-    side_list v on arcs ys (omega arith))
+side_list v on (a ∷ arcs) (y ∷ ys) l = omega (
+  arith,
+  ints,
+  total_below_front (λ k. total (λ e. cond (is_on_side v on e) (entries (y ∷ ys) k) (pos 0)) (ends (arc_at (a ∷ arcs) k))) (length arcs),
+  ends_side v y on (ends a),
+  side_list v on arcs ys (omega arith),
+)
 
 -- Balanced lists have equal ends of both signs.
 pub balanced_list : (arcs : List Arc) (ys : List ℕ) → length ys ≡ length arcs → IsBalanced arcs (entries ys) → (v : ℕ) → weighted_ends v true arcs ys ≡ weighted_ends v false arcs ys
 balanced_list arcs ys l balanced v = omega (arith, ints, balanced v, side_list v true arcs ys l, side_list v false arcs ys l)
 
-box_length : (net : Network) (step : ℕ) (xs js ys : List ℕ) → IsInBox net step xs js ys → length ys ≡ length xs
+pub box_length : (net : Network) (step : ℕ) (xs js ys : List ℕ) → IsInBox net step xs js ys → length ys ≡ length xs
 box_length net step [] [] [] box = refl
 box_length net step [] [] (y ∷ ys) box = absurd box
 box_length net step [] (j ∷ js) ys box = absurd box
@@ -152,13 +160,23 @@ same_active net step xs js ys is zs positive l box other by bz v = omega (arith,
   where
     plus : List ℕ → ℕ
     plus ks = weighted_ends v true net.arcs ks
+
     minus : List ℕ → ℕ
     minus ks = weighted_ends v false net.arcs ks
+
     scaled_equal : step * (plus js + minus is) ≡ step * (minus js + plus is)
-    scaled_equal = omega (arith, mul-add step (plus js) (minus is), mul-add step (minus js) (plus is),
-        box_ends net step v true net.arcs xs js ys l box, box_ends net step v false net.arcs xs js ys l box,
-        box_ends net step v true net.arcs xs is zs l other, box_ends net step v false net.arcs xs is zs l other,
-        balanced_list net.arcs ys (box_length net step xs js ys box ∙ l) by v, balanced_list net.arcs zs (box_length net step xs is zs other ∙ l) bz v)
+    scaled_equal = omega (
+      arith,
+      mul-add step (plus js) (minus is),
+      mul-add step (minus js) (plus is),
+      box_ends net step v true net.arcs xs js ys l box,
+      box_ends net step v false net.arcs xs js ys l box,
+      box_ends net step v true net.arcs xs is zs l other,
+      box_ends net step v false net.arcs xs is zs l other,
+      balanced_list net.arcs ys (box_length net step xs js ys box ∙ l) by v,
+      balanced_list net.arcs zs (box_length net step xs is zs other ∙ l) bz v,
+    )
+
     equal : plus js + minus is ≡ minus js + plus is
     equal = sym (mul-div_cancel_left (plus js + minus is) positive) ∙ (ap (λ n. n / step) scaled_equal ∙ mul-div_cancel_left (minus js + plus is) positive)
 
@@ -200,7 +218,12 @@ box_cost net step (a ∷ arcs) (x ∷ xs) (j ∷ js) (y ∷ ys) l box =
     let end : low net step x + (0 + j) * step ≡ y = ap (λ n. low net step x + n * step) (zero-add j) ∙ sym box.1 in
     let first : arc_deviation net a (pos (low net step x + 0 * step)) ≡ arc_deviation net a (pos (low net step x)) = ap (λ n. arc_deviation net a (pos n)) begin in
     let last : arc_deviation net a (pos (low net step x + (0 + j) * step)) ≡ arc_deviation net a (pos y) = ap (λ n. arc_deviation net a (pos n)) end in
-    omega (arith, ints,
-        cost_append (units_from net step a x 0 (cap net step x)) (units net step arcs xs) (run j (cap net step x)) (states net step xs js) same,
-        run_cost net step a x 0 j (cap net step x) box.0, first, last,
-        box_cost net step arcs xs js ys (omega arith) box.2)
+    omega (
+      arith,
+      ints,
+      cost_append (units_from net step a x 0 (cap net step x)) (units net step arcs xs) (run j (cap net step x)) (states net step xs js) same,
+      run_cost net step a x 0 j (cap net step x) box.0,
+      first,
+      last,
+      box_cost net step arcs xs js ys (omega arith) box.2,
+    )

@@ -1,7 +1,9 @@
 pub mod Box
 pub mod Chain
+pub mod Law
 pub mod Links
 pub mod Pick
+pub mod Sound
 pub mod Unit
 pub mod Units
 pub mod Whole

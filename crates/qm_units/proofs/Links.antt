@@ -88,12 +88,16 @@ graph_lawful nodes room lone us at = record { left = λ k l. (each k l).0; right
   where
     n : ℕ
     n = (graph_by nodes room lone us).n
+
     inner : ℕ
     inner = count_below room nodes + count unit_size us
+
     past : (o : Bool) → IsPast inner (inner + cond o 1 0) (cond o (Some inner) None)
     past true = (omega arith, omega arith)
     past false = tt
+
     all : AreLinks n (graph_by nodes room lone us).edges
     all = links_append n (units_links room (count_below room nodes) us) _ (units_lawful n nodes room (count_below room nodes) us at (omega arith) (omega arith)) (rim_lawful n inner (first_fresh nodes room lone us) (lone_vertex nodes room lone us) (rim (count_below room nodes) us) (rim_below (count_below room nodes) inner us (omega arith)) (omega arith) (past lone) (omega arith))
+
     each : (k : ℕ) → k < length (graph_by nodes room lone us).edges → ((edge_at (graph_by nodes room lone us) k).u < n) × ((edge_at (graph_by nodes room lone us) k).v < n) × ((edge_at (graph_by nodes room lone us) k).u ≢ (edge_at (graph_by nodes room lone us) k).v)
     each k l = link_at n k (graph_by nodes room lone us).edges all l

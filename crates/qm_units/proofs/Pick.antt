@@ -81,6 +81,7 @@ at_places h d k (m ∷ ms) (x ∷ xs) l same = by_mark m (at_places h d (k + 1) 
   where
     here : h k ≡ x
     here = (let e : k ≡ k + 0 = omega arith in ap h e ∙ same 0)
+
     by_mark : (b : Bool) → map h (places (k + 1) ms) ≡ chosen ms xs → map h (keep b k (places (k + 1) ms)) ≡ keep b x (chosen ms xs)
     by_mark true rest = rw (here, rest) refl
     by_mark false rest = rest

@@ -31,12 +31,16 @@ held_end nodes room w used some e l = omega (arith, ints, parts, total_below_sum
   where
     old : ℕ → ℤ
     old v = span w (count_below room v) (used v)
+
     new : ℕ → ℤ
     new v = cond ((e.node == v) && some) (w (count_below room v + used v)) (pos 0)
+
     parts : held nodes room w (take_end used some e) ≡ total_below (λ v. old v +ℤ new v) nodes
     parts = total_below_same _ _ nodes (λ v lv. one_more w (count_below room v) (used v) ((e.node == v) && some))
+
     single : total_below new nodes ≡ new e.node
     single = total_below_one new nodes e.node l (λ v lv ne. rw (ne_eqb e.node v (λ q. ne (sym q))) refl)
+
     here : (b : Bool) → cond ((e.node == e.node) && b) (w (count_below room e.node + used e.node)) (pos 0) ≡ cond b (w (count_below room e.node + used e.node)) (pos 0)
     here b = rw (eq-eqb e.node e.node refl) refl
 
@@ -75,32 +79,46 @@ picked_unit f room used b c on left None =
     +ℤ cond (not (is_active on left)) (f (inner_link b c left)) (pos 0)
 picked_unit f room used b c on left (Some right) = cond (are_alike left right)
     (cond (is_active on left) (f (link b (count_below room left.node + used left.node) (cond left.plus c (pos 0)))) (pos 0)
-        +ℤ (cond (is_active on right) (f (link (b + 1) (count_below room right.node + take_end used (is_active on left) left right.node) (cond right.plus (pos 0) (pos 0)))) (pos 0)
-        +ℤ cond (not (is_active on left)) (f (inner_link b c left)) (pos 0)))
+    +ℤ (cond (is_active on right) (f (link (b + 1) (count_below room right.node + take_end used (is_active on left) left right.node) (cond right.plus (pos 0) (pos 0)))) (pos 0)
+    +ℤ cond (not (is_active on left)) (f (inner_link b c left)) (pos 0)))
     (cond (is_active on left) (f (link b (count_below room left.node + used left.node) (cond left.plus c (pos 0)))) (pos 0)
-        +ℤ cond (is_active on right) (f (link b (count_below room right.node + take_end used (is_active on left) left right.node) (cond right.plus c (pos 0)))) (pos 0))
+    +ℤ cond (is_active on right) (f (link b (count_below room right.node + take_end used (is_active on left) left right.node) (cond right.plus c (pos 0)))) (pos 0))
 
 pub pick_unit : (f : WEdge → ℤ) (room used : ℕ → ℕ) (b : ℕ) (c : ℤ) (on : Bool) (left : End) (right : Option End) → ((v : ℕ) → used v + ends_active v on left right ≤ room v) → picked f (marks_by room used on left right) (links_by room b c left right) ≡ picked_unit f room used b c on left right
 pick_unit f room used b c on left None free =
-    omega (arith, ints,
-        pick_append f (end_marks room used (is_active on left) left) (not (is_active on left) ∷ []) (to_copies room b c left) (inner_link b c left ∷ []) (end_length room used (is_active on left) left b c),
-        pick_end f room used (is_active on left) left b c (left_free room used on left None free))
+    omega (
+      arith,
+      ints,
+      pick_append f (end_marks room used (is_active on left) left) (not (is_active on left) ∷ []) (to_copies room b c left) (inner_link b c left ∷ []) (end_length room used (is_active on left) left b c),
+      pick_end f room used (is_active on left) left b c (left_free room used on left None free),
+    )
 pick_unit f room used b c on left (Some right) free = by_alike (are_alike left right)
   where
     next : ℕ → ℕ
     next = take_end used (is_active on left) left
+
     first : (d : ℤ) → picked f (end_marks room used (is_active on left) left) (to_copies room b d left) ≡ cond (is_active on left) (f (link b (count_below room left.node + used left.node) (cond left.plus d (pos 0)))) (pos 0)
     first d = pick_end f room used (is_active on left) left b d (left_free room used on left (Some right) free)
+
     second : (u : ℕ) (d : ℤ) → picked f (end_marks room next (is_active on right) right) (to_copies room u d right) ≡ cond (is_active on right) (f (link u (count_below room right.node + next right.node) (cond right.plus d (pos 0)))) (pos 0)
     second u d = pick_end f room next (is_active on right) right u d (right_free room used on left right free)
+
     by_alike : (alike : Bool) → picked f (cond alike (end_marks room used (is_active on left) left ++ (end_marks room next (is_active on right) right ++ not (is_active on left) ∷ [])) (end_marks room used (is_active on left) left ++ end_marks room next (is_active on right) right)) (cond alike (to_copies room b c left ++ (to_copies room (b + 1) (pos 0) right ++ inner_link b c left ∷ [])) (to_copies room b c left ++ to_copies room b c right)) ≡ cond alike (cond (is_active on left) (f (link b (count_below room left.node + used left.node) (cond left.plus c (pos 0)))) (pos 0) +ℤ (cond (is_active on right) (f (link (b + 1) (count_below room right.node + next right.node) (cond right.plus (pos 0) (pos 0)))) (pos 0) +ℤ cond (not (is_active on left)) (f (inner_link b c left)) (pos 0))) (cond (is_active on left) (f (link b (count_below room left.node + used left.node) (cond left.plus c (pos 0)))) (pos 0) +ℤ cond (is_active on right) (f (link b (count_below room right.node + next right.node) (cond right.plus c (pos 0)))) (pos 0))
-    by_alike true = omega (arith, ints,
-        pick_append f (end_marks room used (is_active on left) left) (end_marks room next (is_active on right) right ++ not (is_active on left) ∷ []) (to_copies room b c left) (to_copies room (b + 1) (pos 0) right ++ inner_link b c left ∷ []) (end_length room used (is_active on left) left b c),
-        pick_append f (end_marks room next (is_active on right) right) (not (is_active on left) ∷ []) (to_copies room (b + 1) (pos 0) right) (inner_link b c left ∷ []) (end_length room next (is_active on right) right (b + 1) (pos 0)),
-        first c, second (b + 1) (pos 0))
-    by_alike false = omega (arith, ints,
-        pick_append f (end_marks room used (is_active on left) left) (end_marks room next (is_active on right) right) (to_copies room b c left) (to_copies room b c right) (end_length room used (is_active on left) left b c),
-        first c, second b c)
+    by_alike true = omega (
+      arith,
+      ints,
+      pick_append f (end_marks room used (is_active on left) left) (end_marks room next (is_active on right) right ++ not (is_active on left) ∷ []) (to_copies room b c left) (to_copies room (b + 1) (pos 0) right ++ inner_link b c left ∷ []) (end_length room used (is_active on left) left b c),
+      pick_append f (end_marks room next (is_active on right) right) (not (is_active on left) ∷ []) (to_copies room (b + 1) (pos 0) right) (inner_link b c left ∷ []) (end_length room next (is_active on right) right (b + 1) (pos 0)),
+      first c,
+      second (b + 1) (pos 0),
+    )
+    by_alike false = omega (
+      arith,
+      ints,
+      pick_append f (end_marks room used (is_active on left) left) (end_marks room next (is_active on right) right) (to_copies room b c left) (to_copies room b c right) (end_length room used (is_active on left) left b c),
+      first c,
+      second b c,
+    )
 
 -- The signs decide which ends are active together.
 alike_active : (on : Bool) (left right : End) → are_alike left right ≡ true → is_active on left ≡ is_active on right
@@ -129,8 +147,10 @@ unit_weight w nodes room used b c on left None ends free = omega (arith, ints, p
   where
     same : held nodes room w (λ v. used v + ends_active v on left None) ≡ held nodes room w (take_end used (is_active on left) left)
     same = held_same nodes room w (λ v. used v + ends_active v on left None) (take_end used (is_active on left) left) (λ v l. omega arith)
+
     x : ℤ
     x = w (count_below room left.node + used left.node)
+
     by_active : (a : Bool) → cond a (w b +ℤ x) (pos 0) +ℤ cond (not a) (w b +ℤ w (b + 1)) (pos 0) ≡ (w b +ℤ cond a (pos 0) (w (b + 1))) +ℤ cond a x (pos 0)
     by_active true = omega (arith, ints)
     by_active false = omega (arith, ints)
@@ -138,22 +158,28 @@ unit_weight w nodes room used b c on left (Some right) ends free = omega (arith,
   where
     next : ℕ → ℕ
     next = take_end used (is_active on left) left
+
     same : held nodes room w (λ v. used v + ends_active v on left (Some right)) ≡ held nodes room w (take_end next (is_active on right) right)
     same = held_same nodes room w (λ v. used v + ends_active v on left (Some right)) (take_end next (is_active on right) right) (λ v l. omega arith)
+
     x : ℤ
     x = w (count_below room left.node + used left.node)
+
     y : ℤ
     y = w (count_below room right.node + next right.node)
+
     both : (p q : Bool) → p ≡ q → cond p (w b +ℤ x) (pos 0) +ℤ (cond q (w (b + 1) +ℤ y) (pos 0) +ℤ cond (not p) (w b +ℤ w (b + 1)) (pos 0)) ≡ (w b +ℤ w (b + 1)) +ℤ (cond p x (pos 0) +ℤ cond q y (pos 0))
     both true true e = omega (arith, ints)
     both true false e = absurd (true≢false e)
     both false true e = absurd (true≢false (sym e))
     both false false e = omega (arith, ints)
+
     either : (p q : Bool) → p ≡ not q → cond p (w b +ℤ x) (pos 0) +ℤ cond q (w b +ℤ y) (pos 0) ≡ w b +ℤ (cond p x (pos 0) +ℤ cond q y (pos 0))
     either true true e = absurd (true≢false e)
     either true false e = omega (arith, ints)
     either false true e = omega (arith, ints)
     either false false e = absurd (true≢false (sym e))
+
     by_alike : (alike : Bool) → are_alike left right ≡ alike → cond alike (cond (is_active on left) (w b +ℤ x) (pos 0) +ℤ (cond (is_active on right) (w (b + 1) +ℤ y) (pos 0) +ℤ cond (not (is_active on left)) (w b +ℤ w (b + 1)) (pos 0))) (cond (is_active on left) (w b +ℤ x) (pos 0) +ℤ cond (is_active on right) (w b +ℤ y) (pos 0)) ≡ cond alike (w b +ℤ w (b + 1)) (w b) +ℤ (cond (is_active on left) x (pos 0) +ℤ cond (is_active on right) y (pos 0))
     by_alike true e = both (is_active on left) (is_active on right) (alike_active on left right e)
     by_alike false e = either (is_active on left) (is_active on right) (unlike_active on left right e)
@@ -186,6 +212,7 @@ unit_length room used b c on left (Some right) = by_alike (are_alike left right)
   where
     next : ℕ → ℕ
     next = take_end used (is_active on left) left
+
     by_alike : (alike : Bool) → length (cond alike (end_marks room used (is_active on left) left ++ (end_marks room next (is_active on right) right ++ not (is_active on left) ∷ [])) (end_marks room used (is_active on left) left ++ end_marks room next (is_active on right) right)) ≡ length (cond alike (to_copies room b c left ++ (to_copies room (b + 1) (pos 0) right ++ inner_link b c left ∷ [])) (to_copies room b c left ++ to_copies room b c right))
     by_alike true = omega (arith, length-append (end_marks room used (is_active on left) left) (end_marks room next (is_active on right) right ++ not (is_active on left) ∷ []), length-append (end_marks room next (is_active on right) right) (not (is_active on left) ∷ []), length-append (to_copies room b c left) (to_copies room (b + 1) (pos 0) right ++ inner_link b c left ∷ []), length-append (to_copies room (b + 1) (pos 0) right) (inner_link b c left ∷ []), end_length room used (is_active on left) left b c, end_length room next (is_active on right) right (b + 1) (pos 0))
     by_alike false = omega (arith, length-append (end_marks room used (is_active on left) left) (end_marks room next (is_active on right) right), length-append (to_copies room b c left) (to_copies room b c right), end_length room used (is_active on left) left b c, end_length room next (is_active on right) right b c)

@@ -43,13 +43,16 @@ units_weight w nodes room used b (u ∷ us) (on ∷ ons) l at free =
     let here : (v : ℕ) → used v + ends_active v on u.left u.right ≤ room v = λ v. omega (arith, free v) in
     let there : (v : ℕ) → next v + active v us ons ≤ room v = λ v. omega (arith, free v) in
     let same : held nodes room w (λ v. used v + (active_at v u on + active v us ons)) ≡ held nodes room w (λ v. next v + active v us ons) = held_same nodes room w _ _ (λ v lv. omega arith) in
-    omega (arith, ints,
-        pick_append (at_ends w) (marks_by room used on u.left u.right) (units_marks room next us ons) (unit_links room b u) (units_links room (b + unit_size u) us) (unit_length room used b u.cost on u.left u.right),
-        unit_weight w nodes room used b u.cost on u.left u.right at.0 here,
-        all_own w b on u.left u.right (rim_states us ons) (rim (b + unit_size u) us),
-        span_sum w b (unit_size u) (count unit_size us),
-        same,
-        units_weight w nodes room next (b + unit_size u) us ons (omega arith) at.1 there)
+    omega (
+      arith,
+      ints,
+      pick_append (at_ends w) (marks_by room used on u.left u.right) (units_marks room next us ons) (unit_links room b u) (units_links room (b + unit_size u) us) (unit_length room used b u.cost on u.left u.right),
+      unit_weight w nodes room used b u.cost on u.left u.right at.0 here,
+      all_own w b on u.left u.right (rim_states us ons) (rim (b + unit_size u) us),
+      span_sum w b (unit_size u) (count unit_size us),
+      same,
+      units_weight w nodes room next (b + unit_size u) us ons (omega arith) at.1 there,
+    )
 
 -- The units cost what those that are on cost.
 pub units_cost : (room used : ℕ → ℕ) (b : ℕ) (us : List ArcUnit) (ons : List Bool) → length us ≡ length ons → ((v : ℕ) → used v + active v us ons ≤ room v) → picked (λ e. e.cost) (units_marks room used us ons) (units_links room b us) ≡ cost_on us ons
@@ -60,10 +63,13 @@ units_cost room used b (u ∷ us) (on ∷ ons) l free =
     let next : ℕ → ℕ = λ v. used v + active_at v u on in
     let here : (v : ℕ) → used v + ends_active v on u.left u.right ≤ room v = λ v. omega (arith, free v) in
     let there : (v : ℕ) → next v + active v us ons ≤ room v = λ v. omega (arith, free v) in
-    omega (arith, ints,
-        pick_append (λ (e : WEdge). e.cost) (marks_by room used on u.left u.right) (units_marks room next us ons) (unit_links room b u) (units_links room (b + unit_size u) us) (unit_length room used b u.cost on u.left u.right),
-        unit_cost room used b u.cost on u.left u.right here,
-        units_cost room next (b + unit_size u) us ons (omega arith) there)
+    omega (
+      arith,
+      ints,
+      pick_append (λ (e : WEdge). e.cost) (marks_by room used on u.left u.right) (units_marks room next us ons) (unit_links room b u) (units_links room (b + unit_size u) us) (unit_length room used b u.cost on u.left u.right),
+      unit_cost room used b u.cost on u.left u.right here,
+      units_cost room next (b + unit_size u) us ons (omega arith) there,
+    )
 
 -- There are as many marks as edges.
 pub units_length : (room used : ℕ → ℕ) (b : ℕ) (us : List ArcUnit) (ons : List Bool) → length us ≡ length ons → length (units_marks room used us ons) ≡ length (units_links room b us)
@@ -72,11 +78,13 @@ units_length room used b [] (on ∷ ons) l = absurd (omega arith)
 units_length room used b (u ∷ us) [] l = absurd (omega arith)
 units_length room used b (u ∷ us) (on ∷ ons) l =
     let next : ℕ → ℕ = λ v. used v + active_at v u on in
-    omega (arith,
-        length-append (marks_by room used on u.left u.right) (units_marks room next us ons),
-        length-append (unit_links room b u) (units_links room (b + unit_size u) us),
-        unit_length room used b u.cost on u.left u.right,
-        units_length room next (b + unit_size u) us ons (omega arith))
+    omega (
+      arith,
+      length-append (marks_by room used on u.left u.right) (units_marks room next us ons),
+      length-append (unit_links room b u) (units_links room (b + unit_size u) us),
+      unit_length room used b u.cost on u.left u.right,
+      units_length room next (b + unit_size u) us ons (omega arith),
+    )
 
 -- There are as many states at the rim as vertices.
 pub states_length : (b : ℕ) (us : List ArcUnit) (ons : List Bool) → length us ≡ length ons → length (rim_states us ons) ≡ length (rim b us)

@@ -39,8 +39,10 @@ graph_total w nodes room lone us = omega (arith, ints, total_below_span w (first
   where
     copies : ℕ
     copies = count_below room nodes
+
     sizes : ℕ
     sizes = count unit_size us
+
     by_lone : (o : Bool) → total_below w (copies + sizes + cond o 1 0) ≡ total_below w (copies + sizes) +ℤ waiting w (cond o (Some (copies + sizes)) None) o
     by_lone true = total_below_span w (copies + sizes) 1 ∙ omega (arith, ints)
     by_lone false = rw (add-zero (copies + sizes)) (omega (arith, ints))
@@ -50,14 +52,15 @@ lone_there nodes room true us = tt
 lone_there nodes room false us = refl
 
 module _ (nodes : ℕ) (room : ℕ → ℕ) (lone : Bool) (us : List ArcUnit) (ons : List Bool) (fit : StatesFit nodes room lone us ons) where
-
   -- There are as many marks as edges.
   marks_length : length (states_marks nodes room lone us ons) ≡ length (graph_by nodes room lone us).edges
-  marks_length = omega (arith,
-      length-append (units_marks room (λ v. 0) us ons) (rim_marks (lone_vertex nodes room lone us) lone (first_fresh nodes room lone us) (rim_states us ons)),
-      length-append (units_links room (count_below room nodes) us) (rim_links (lone_vertex nodes room lone us) (first_fresh nodes room lone us) (rim (count_below room nodes) us)),
-      units_length room (λ v. 0) (count_below room nodes) us ons fit.count,
-      rim_length (lone_vertex nodes room lone us) lone (first_fresh nodes room lone us) (rim (count_below room nodes) us) (rim_states us ons) (states_length (count_below room nodes) us ons fit.count))
+  marks_length = omega (
+    arith,
+    length-append (units_marks room (λ v. 0) us ons) (rim_marks (lone_vertex nodes room lone us) lone (first_fresh nodes room lone us) (rim_states us ons)),
+    length-append (units_links room (count_below room nodes) us) (rim_links (lone_vertex nodes room lone us) (first_fresh nodes room lone us) (rim (count_below room nodes) us)),
+    units_length room (λ v. 0) (count_below room nodes) us ons fit.count,
+    rim_length (lone_vertex nodes room lone us) lone (first_fresh nodes room lone us) (rim (count_below room nodes) us) (rim_states us ons) (states_length (count_below room nodes) us ons fit.count),
+  )
 
   split : (f : WEdge → ℤ) → picked f (states_marks nodes room lone us ons) (graph_by nodes room lone us).edges ≡ picked f (units_marks room (λ v. 0) us ons) (units_links room (count_below room nodes) us) +ℤ picked f (rim_marks (lone_vertex nodes room lone us) lone (first_fresh nodes room lone us) (rim_states us ons)) (rim_links (lone_vertex nodes room lone us) (first_fresh nodes room lone us) (rim (count_below room nodes) us))
   split f = pick_append f (units_marks room (λ v. 0) us ons) _ (units_links room (count_below room nodes) us) _ (units_length room (λ v. 0) (count_below room nodes) us ons fit.count)
@@ -67,26 +70,33 @@ module _ (nodes : ℕ) (room : ℕ → ℕ) (lone : Bool) (us : List ArcUnit) (o
 
   -- For each weight the ends of the chosen edges weigh what all vertices weigh.
   marks_weight : (w : ℕ → ℤ) → picked (at_ends w) (states_marks nodes room lone us ons) (graph_by nodes room lone us).edges ≡ total_below w (graph_by nodes room lone us).n
-  marks_weight w = omega (arith, ints,
-      split (at_ends w),
-      units_weight w nodes room (λ v. 0) (count_below room nodes) us ons fit.count fit.at_nodes free,
-      held_none w room nodes,
-      full,
-      copies_weight w room nodes,
-      chain_sum w (lone_vertex nodes room lone us) lone (first_fresh nodes room lone us) (rim (count_below room nodes) us) (rim_states us ons) (states_length (count_below room nodes) us ons fit.count) (lone_there nodes room lone us) even,
-      graph_total w nodes room lone us)
+  marks_weight w = omega (
+    arith,
+    ints,
+    split (at_ends w),
+    units_weight w nodes room (λ v. 0) (count_below room nodes) us ons fit.count fit.at_nodes free,
+    held_none w room nodes,
+    full,
+    copies_weight w room nodes,
+    chain_sum w (lone_vertex nodes room lone us) lone (first_fresh nodes room lone us) (rim (count_below room nodes) us) (rim_states us ons) (states_length (count_below room nodes) us ons fit.count) (lone_there nodes room lone us) even,
+    graph_total w nodes room lone us,
+  )
     where
       full : held nodes room w (λ v. 0 + active v us ons) ≡ held nodes room w room
       full = held_same nodes room w _ room (λ v l. omega (arith, fit.fills v))
+
       even : (cond lone 1 0 + trues (rim_states us ons)) % 2 ≡ 0
       even = omega (arith, rim_trues us ons, fit.even)
 
   -- The cost of the chosen edges.
   marks_cost : picked (λ e. e.cost) (states_marks nodes room lone us ons) (graph_by nodes room lone us).edges ≡ cost_on us ons
-  marks_cost = omega (arith, ints,
-      split (λ e. e.cost),
-      units_cost room (λ v. 0) (count_below room nodes) us ons fit.count free,
-      picked_free (rim_marks (lone_vertex nodes room lone us) lone (first_fresh nodes room lone us) (rim_states us ons)) (rim_links (lone_vertex nodes room lone us) (first_fresh nodes room lone us) (rim (count_below room nodes) us)) (rim_free (lone_vertex nodes room lone us) (first_fresh nodes room lone us) (rim (count_below room nodes) us)))
+  marks_cost = omega (
+    arith,
+    ints,
+    split (λ e. e.cost),
+    units_cost room (λ v. 0) (count_below room nodes) us ons fit.count free,
+    picked_free (rim_marks (lone_vertex nodes room lone us) lone (first_fresh nodes room lone us) (rim_states us ons)) (rim_links (lone_vertex nodes room lone us) (first_fresh nodes room lone us) (rim (count_below room nodes) us)) (rim_free (lone_vertex nodes room lone us) (first_fresh nodes room lone us) (rim (count_below room nodes) us)),
+  )
 
   chosen_is : map (edge_at (graph_by nodes room lone us)) (places 0 (states_marks nodes room lone us ons)) ≡ chosen (states_marks nodes room lone us ons) (graph_by nodes room lone us).edges
   chosen_is = at_places (edge_at (graph_by nodes room lone us)) (record { u = 0; v = 0; cost = pos 0 }) 0 (states_marks nodes room lone us ons) (graph_by nodes room lone us).edges marks_length (λ j. ap (edge_at (graph_by nodes room lone us)) (zero-add j))
@@ -99,16 +109,20 @@ module _ (nodes : ℕ) (room : ℕ → ℕ) (lone : Bool) (us : List ArcUnit) (o
   }
     where
       once : (v : ℕ) → v < (graph_by nodes room lone us).n → count (ends_at v) (chosen (states_marks nodes room lone us ons) (graph_by nodes room lone us).edges) ≡ 1
-      once v l = omega (arith, ints,
-          count_total (ends_at v) (chosen (states_marks nodes room lone us ons) (graph_by nodes room lone us).edges),
-          total_same (λ e. pos (ends_at v e)) (at_ends is_v) (chosen (states_marks nodes room lone us ons) (graph_by nodes room lone us).edges) (λ e. omega (arith, ints)),
-          picked_chosen (at_ends is_v) (states_marks nodes room lone us ons) (graph_by nodes room lone us).edges,
-          marks_weight is_v,
-          total_below_one is_v (graph_by nodes room lone us).n v l (λ k lk ne. rw (ne_eqb k v ne) refl),
-          here)
+      once v l = omega (
+        arith,
+        ints,
+        count_total (ends_at v) (chosen (states_marks nodes room lone us ons) (graph_by nodes room lone us).edges),
+        total_same (λ e. pos (ends_at v e)) (at_ends is_v) (chosen (states_marks nodes room lone us ons) (graph_by nodes room lone us).edges) (λ e. omega (arith, ints)),
+        picked_chosen (at_ends is_v) (states_marks nodes room lone us ons) (graph_by nodes room lone us).edges,
+        marks_weight is_v,
+        total_below_one is_v (graph_by nodes room lone us).n v l (λ k lk ne. rw (ne_eqb k v ne) refl),
+        here,
+      )
         where
           is_v : ℕ → ℤ
           is_v k = pos (cond (k == v) 1 0)
+
           here : is_v v ≡ pos 1
           here = rw (eq-eqb v v refl) refl
 
@@ -144,12 +158,15 @@ rim_parity nodes room us ons other at l m fills fills_other = by_two (two ons l 
   where
     vertices : ℤ
     vertices = span (λ v. pos 1) (count_below room nodes) (count unit_size us) +ℤ held nodes room (λ v. pos 1) room
+
     two : (xs : List Bool) → length us ≡ length xs → ((v : ℕ) → active v us xs ≡ room v) → (k : ℕ) × (pos (2 * k) +ℤ pos (rim_active us xs) ≡ vertices)
     two xs lx fx = with_k (twice (units_marks room (λ v. 0) us xs) (units_links room (count_below room nodes) us))
       where
         full : held nodes room (λ v. pos 1) (λ v. 0 + active v us xs) ≡ held nodes room (λ v. pos 1) room
         full = held_same nodes room (λ v. pos 1) (λ v. 0 + active v us xs) room (λ v lv. omega (arith, fx v))
+
         with_k : (k : ℕ) × (picked (at_ends (λ v. pos 1)) (units_marks room (λ v. 0) us xs) (units_links room (count_below room nodes) us) ≡ pos (2 * k)) → (k : ℕ) × (pos (2 * k) +ℤ pos (rim_active us xs) ≡ vertices)
         with_k (k, e) = (k, omega (arith, ints, e, full, held_none (λ v. pos 1) room nodes, rim_ones (rim_states us xs) (rim (count_below room nodes) us) (states_length (count_below room nodes) us xs lx), rim_trues us xs, units_weight (λ v. pos 1) nodes room (λ v. 0) (count_below room nodes) us xs lx at (λ v. omega (arith, fx v))))
+
     by_two : (k : ℕ) × (pos (2 * k) +ℤ pos (rim_active us ons) ≡ vertices) → (k : ℕ) × (pos (2 * k) +ℤ pos (rim_active us other) ≡ vertices) → rim_active us ons % 2 ≡ rim_active us other % 2
     by_two (k, e) (j, f) = (let same : 2 * k + rim_active us ons ≡ 2 * j + rim_active us other = omega (arith, ints, e, f) in omega (arith, same))

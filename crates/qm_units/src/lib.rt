@@ -1,2 +1,21 @@
-//! Laws of the matching graph: lists of lengths and perfect matchings tell each other.
+//! Laws of the matching graph: lists of lengths and perfect matchings tell each other, and an accepted
+//! certificate shows its list to be least.
 #![tactic(auto)]
+
+ghost use Rattle.qm_units.specs.Laws.{GraphLaw, MatchingLaw, SoundnessLaw};
+
+/// The matching graph is a graph: each edge has two different ends among the vertices.
+pub fn graph_law()
+    ensures { GraphLaw }
+{}
+
+/// An admissible list in the box of an admissible list tells a perfect matching of its matching graph, whose cost
+/// is the deviation of the list less that of the least list of the box.
+pub fn matching_law()
+    ensures { MatchingLaw }
+{}
+
+/// The list of an accepted certificate is least among all admissible lists of whole numbers.
+pub fn soundness_law()
+    ensures { SoundnessLaw }
+{}

@@ -1,0 +1,7 @@
+pub mod Darts
+pub mod Manifold
+pub mod Faults
+pub mod Vertices
+pub mod Kinds
+pub mod Components
+pub mod HalfEdges

@@ -1,0 +1,160 @@
+-- Facts on the pieces of a text and on the places after them.
+use Rattle.std.proofs.Common.{◌≡◌, ℕ, zero, suc, ◌+◌, ◌-◌, ◌==◌, ◌<◌, ◌≤◌, Bool, true, false, if◌then◌else◌, List, [], ◌∷◌, ◌++◌, length, take, drop, map, get_or, slice_index, slice_index_or, refl, sym, ◌∙◌, ap, arith, length-append}
+use Rattle.std.specs.List.{flat_map}
+use Rattle.std.proofs.lemmas.List.{length-map}
+use Rattle.qm_io.specs.Lines.{in_front, pieces, places, line_of, lines_of, tail_of}
+
+-- One piece more where a byte stands in front of the first, and no more than that.
+length-in_front : (b : ℕ) (ps : List (List ℕ)) → length (in_front b ps) ≤ length ps + 1
+length-in_front b [] = omega arith
+length-in_front b (p ∷ ps) = omega arith
+
+-- A text has no more pieces than bytes.
+pub length-pieces : (bs : List ℕ) → length (pieces bs) ≤ length bs
+length-pieces [] = omega arith
+length-pieces (b ∷ bs) = by_test (b == 10) (length-pieces bs)
+  where
+    by_test : (t : Bool) → length (pieces bs) ≤ length bs
+        → length (if t then (b ∷ []) ∷ pieces bs else in_front b (pieces bs)) ≤ suc (length bs)
+    by_test true less = omega arith
+    by_test false less = omega (arith, length-in_front b (pieces bs))
+
+-- Each piece has its place.
+pub length-places : (s : ℕ) (ps : List (List ℕ)) → length (places s ps) ≡ length ps
+length-places s [] = refl
+length-places s (p ∷ ps) = ap suc (length-places (s + length p) ps)
+
+-- The byte in front stands in front of all.
+flat-in_front : (b : ℕ) (ps : List (List ℕ)) → flat_map (λ p. p) (in_front b ps) ≡ b ∷ flat_map (λ p. p) ps
+flat-in_front b [] = refl
+flat-in_front b (p ∷ ps) = refl
+
+-- The pieces joined are the text.
+pub flat-pieces : (bs : List ℕ) → flat_map (λ p. p) (pieces bs) ≡ bs
+flat-pieces [] = refl
+flat-pieces (b ∷ bs) = by_test (b == 10) (ap (λ xs. b ∷ xs) (flat-pieces bs))
+  where
+    by_test : (t : Bool) → b ∷ flat_map (λ p. p) (pieces bs) ≡ b ∷ bs
+        → flat_map (λ p. p) (if t then (b ∷ []) ∷ pieces bs else in_front b (pieces bs)) ≡ b ∷ bs
+    by_test true is = is
+    by_test false is = flat-in_front b (pieces bs) ∙ is
+
+-- The place where piece `i` begins.
+abbrev pub begin : ℕ → List (List ℕ) → ℕ → ℕ
+begin s ps i = slice_index (s ∷ places s ps) i
+
+-- No piece begins before the first.
+pub begin-high : (s : ℕ) (ps : List (List ℕ)) (i : ℕ) → i ≤ length ps → s ≤ begin s ps i
+begin-high s ps zero l = omega arith
+begin-high s [] (suc i) l = omega arith
+begin-high s (p ∷ ps) (suc i) l = omega (arith, begin-high (s + length p) ps i (omega arith))
+
+drop-front : (p xs : List ℕ) (n k : ℕ) → n ≡ length p + k → drop n (p ++ xs) ≡ drop k xs
+drop-front [] xs n k is = let same : n ≡ k = omega arith in ap (λ m. drop m xs) same
+drop-front (b ∷ p) xs zero k is = absurd (omega arith)
+drop-front (b ∷ p) xs (suc n) k is = drop-front p xs n k (omega arith)
+
+-- From the place where a piece begins on stand that piece and all later ones.
+pub drop-begin : (s k : ℕ) (ps : List (List ℕ)) (i : ℕ) → i ≤ length ps → s + k ≡ begin s ps i
+    → drop k (flat_map (λ p. p) ps) ≡ flat_map (λ p. p) (drop i ps)
+drop-begin s k ps zero l is =
+    let none : k ≡ 0 = omega arith in ap (λ m. drop m (flat_map (λ p. p) ps)) none
+drop-begin s k [] (suc i) l is = absurd (omega arith)
+drop-begin s k (p ∷ ps) (suc i) l is =
+    let low : s + length p ≤ begin (s + length p) ps i = begin-high (s + length p) ps i (omega arith) in
+    let split : k ≡ length p + (k - length p) = omega arith in
+    drop-front p (flat_map (λ p. p) ps) k (k - length p) split
+    ∙ drop-begin (s + length p) (k - length p) ps i (omega arith) (omega arith)
+
+-- A piece ends where the next begins.
+pub end-begin : (s : ℕ) (ps : List (List ℕ)) (i : ℕ) → i < length ps
+    → slice_index (places s ps) i ≡ begin s ps i + length (slice_index_or ps i [])
+end-begin s [] i l = absurd (omega arith)
+end-begin s (p ∷ ps) zero l = refl
+end-begin s (p ∷ ps) (suc i) l = end-begin (s + length p) ps i (omega arith)
+
+-- The pieces from one on begin with it.
+drop-piece : (ps : List (List ℕ)) (i : ℕ) → i < length ps → drop i ps ≡ slice_index_or ps i [] ∷ drop (suc i) ps
+drop-piece [] i l = absurd (omega arith)
+drop-piece (p ∷ ps) zero l = refl
+drop-piece (p ∷ ps) (suc i) l = drop-piece ps i (omega arith)
+
+take-front : (p xs : List ℕ) (n : ℕ) → n ≡ length p → take n (p ++ xs) ≡ p
+take-front [] xs n is = ap (λ m. take m xs) is
+take-front (b ∷ p) xs zero is = absurd (omega arith)
+take-front (b ∷ p) xs (suc n) is = ap (λ ys. b ∷ ys) (take-front p xs n (omega arith))
+
+-- The bytes from where a piece begins, as many as it has, are that piece.
+pub piece-cut : (bs : List ℕ) (i n : ℕ) → i < length (pieces bs) → n ≡ length (slice_index_or (pieces bs) i [])
+    → take n (drop (begin 0 (pieces bs) i) bs) ≡ slice_index_or (pieces bs) i []
+piece-cut bs i n l is =
+    let at : drop (begin 0 (pieces bs) i) bs ≡ flat_map (λ p. p) (drop i (pieces bs)) =
+    ap (λ xs. drop (begin 0 (pieces bs) i) xs) (sym (flat-pieces bs))
+    ∙ drop-begin 0 (begin 0 (pieces bs) i) (pieces bs) i (omega arith) (omega arith) in
+    ap (λ xs. take n xs) (at ∙ ap (flat_map (λ p. p)) (drop-piece (pieces bs) i l))
+    ∙ take-front (slice_index_or (pieces bs) i []) (flat_map (λ p. p) (drop (suc i) (pieces bs))) n is
+
+-- No piece ends behind the text.
+pub end-low : (s : ℕ) (ps : List (List ℕ)) (i : ℕ) → i ≤ length ps
+    → begin s ps i ≤ s + length (flat_map (λ p. p) ps)
+end-low s ps zero l = omega arith
+end-low s [] (suc i) l = absurd (omega arith)
+end-low s (p ∷ ps) (suc i) l =
+    omega (arith, end-low (s + length p) ps i (omega arith), length-append p (flat_map (λ p. p) ps))
+
+-- A byte that is no LF joins the piece behind it.
+other : (b : ℕ) → ((b == 10) ≡ true → ⊥) → (ps : List (List ℕ))
+    → (if b == 10 then (b ∷ []) ∷ ps else in_front b ps) ≡ in_front b ps
+other b differs ps = by_test (b == 10) differs
+  where
+    by_test : (t : Bool) → (t ≡ true → ⊥) → (if t then (b ∷ []) ∷ ps else in_front b ps) ≡ in_front b ps
+    by_test true off = absurd (off refl)
+    by_test false off = refl
+
+-- Where the first LF stands at `k`, the first piece ends behind it.
+pub pieces-first : (bs : List ℕ) (k : ℕ) → k < length bs → (slice_index bs k == 10) ≡ true
+    → ((j : ℕ) → j < k → (slice_index bs j == 10) ≡ true → ⊥)
+    → pieces bs ≡ take (suc k) bs ∷ pieces (drop (suc k) bs)
+pieces-first [] k l is none = absurd (omega arith)
+pieces-first (b ∷ bs) zero l is none = rw is refl
+pieces-first (b ∷ bs) (suc k) l is none =
+    other b (none 0 (omega arith)) (pieces bs)
+    ∙ ap (in_front b) (pieces-first bs k (omega arith) is (λ j m. none (suc j) (omega arith)))
+
+-- A text without LF that is not empty is one piece.
+pub pieces-none : (bs : List ℕ) → 0 < length bs
+    → ((j : ℕ) → j < length bs → (slice_index bs j == 10) ≡ true → ⊥) → pieces bs ≡ bs ∷ []
+pieces-none [] l none = absurd (omega arith)
+pieces-none (b ∷ []) l none = other b (none 0 (omega arith)) []
+pieces-none (b ∷ c ∷ bs) l none =
+    other b (none 0 (omega arith)) (pieces (c ∷ bs))
+    ∙ ap (in_front b) (pieces-none (c ∷ bs) (omega arith) (λ j m. none (suc j) (omega arith)))
+
+-- Each line has its piece.
+pub piece-there : (bs : List ℕ) (i : ℕ) → i < length (lines_of bs) → i < length (pieces bs)
+piece-there bs i l = omega (arith, length-map (pieces bs) line_of)
+
+-- Each line has its place in the table of ends.
+pub end-there : (bs es : List ℕ) (i : ℕ) → es ≡ places 0 (pieces bs) → i < length (lines_of bs) → i < length es
+end-there bs es i cut l = omega (arith, piece-there bs i l, ap length cut, length-places 0 (pieces bs))
+
+-- A piece ends within the text.
+pub end-within : (bs : List ℕ) (i : ℕ) → i < length (pieces bs) → slice_index (places 0 (pieces bs)) i ≤ length bs
+end-within bs i l = omega (arith, end-low 0 (pieces bs) (suc i) (omega arith), ap length (flat-pieces bs))
+
+-- The line of a piece.
+pub line-piece : (ps : List (List ℕ)) (i : ℕ) → i < length ps
+    → line_of (slice_index_or ps i []) ≡ slice_index_or (map line_of ps) i []
+line-piece [] i l = absurd (omega arith)
+line-piece (p ∷ ps) zero l = refl
+line-piece (p ∷ ps) (suc i) l = line-piece ps i (omega arith)
+
+-- No piece begins behind the text.
+pub begin-within : (bs : List ℕ) (i : ℕ) → i < length (pieces bs) → begin 0 (pieces bs) i ≤ length bs
+begin-within bs i l = omega (arith, end-low 0 (pieces bs) i (omega arith), ap length (flat-pieces bs))
+
+-- The bytes from where a piece begins on are the tail.
+pub tail-cut : (bs : List ℕ) (i : ℕ) → i < length (pieces bs) → drop (begin 0 (pieces bs) i) bs ≡ tail_of i bs
+tail-cut bs i l =
+    ap (drop (begin 0 (pieces bs) i)) (sym (flat-pieces bs))
+    ∙ drop-begin 0 (begin 0 (pieces bs) i) (pieces bs) i (omega arith) (omega arith)

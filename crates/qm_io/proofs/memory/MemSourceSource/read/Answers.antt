@@ -1,0 +1,27 @@
+use Rattle.std.proofs.Common.{◌≡◌, ℕ, List, ◌+◌, ◌-◌, ◌≤◌, ◌++◌, Option, Some, take, drop, length, min, ap, sym, ◌∙◌, arith}
+use Rattle.std.proofs.lemmas.List.{drop-drop, length-take-le, take-append-drop, take-append-le, take_rest}
+use Rattle.std.proofs.Math.Seq.{take-append_seam}
+use Rattle.qm_io.specs.Memory.{Feed}
+use Rattle.qm_io.proofs.memory.MemSourceSource.read.Goals as goal
+
+-- What was copied to the front of the buffer, and the rest behind it, are what was left.
+given : (bytes rest copied buf : List ℕ) (at n m : ℕ) → rest ≡ drop at bytes → n ≡ min m (length rest)
+    → copied ≡ take n rest → drop at bytes ≡ take n (copied ++ drop n buf) ++ drop (at + n) bytes
+given bytes rest copied buf at n m is few copy =
+    let long : length copied ≡ n = ap length copy ∙ length-take-le n rest (omega arith) in
+    let front : take n (copied ++ drop n buf) ≡ take n rest =
+    ap (λ (k : ℕ). take k (copied ++ drop n buf)) (sym long) ∙ take-append_seam copied (drop n buf) ∙ copy in
+    sym is
+    ∙ sym (take-append-drop n rest)
+    ∙ ap (λ (xs : List ℕ). xs ++ drop n rest) (sym front)
+    ∙ ap (λ (xs : List ℕ). take n (copied ++ drop n buf) ++ xs) (ap (drop n) is ∙ drop-drop n at bytes)
+
+pub returns-clause-gives : goal.returns-clause-gives
+returns-clause-gives c =
+    let held = c.deref-2.ensures.value in
+    let rest : take (length c.deref-2.result.now - c.self.inside.at) (drop c.self.inside.at c.deref-2.result.now)
+    ≡ drop c.self.inside.at c.self.inside.bytes.items =
+    take_rest c.deref-2.result.now c.self.inside.at ∙ ap (drop c.self.inside.at) held in
+    ap (λ (s : Feed). Some s.left) (sym c.self.view_is)
+    ∙ ap Some (given c.self.inside.bytes.items _ c.copy_from_slice.new.self c.args.buf.now c.self.inside.at c.min-count.result
+    c.min.result rest c.min-count.ensures c.copy_from_slice.ensures.after)

@@ -1,0 +1,39 @@
+use Rattle.std.proofs.Common.{◌≡◌, ℕ, suc, List, ◌+◌, ◌-◌, ◌<◌, ◌∷◌, [], take, drop, length, refl, sym, ◌∙◌, ap, subst, arith, length-drop}
+use Rattle.std.proofs.lemmas.List.{take_rest, drop-drop}
+use Rattle.std.proofs.Math.Seq.{drop-length}
+use Rattle.memchr.specs.Find.{Nowhere, NoneBefore, Passes, is_byte}
+use Rattle.qm_io.specs.Lines.{pieces}
+use Rattle.qm_io.proofs.Pieces.{pieces-first, pieces-none}
+use Rattle.qm_io.proofs.places.end_of_piece.Goals as goal
+
+-- The piece ends behind the LF that was found.
+ends_behind : (bs rest : List ℕ) (start k n : ℕ) → rest ≡ drop start bs
+    → NoneBefore (Passes (is_byte 10) rest) 0 (length rest) k × Passes (is_byte 10) rest k → n ≡ start + k + 1
+    → pieces (drop start bs) ≡ take (n - start) (drop start bs) ∷ pieces (drop n bs)
+ends_behind bs rest start k n is found end =
+    let many : n - start ≡ suc k = omega arith in
+    let place : start + suc k ≡ n = omega arith in
+    ap pieces (sym is)
+    ∙ pieces-first rest k found.0.high found.1 (λ j m. found.0.before j (omega arith) m)
+    ∙ ap (λ (xs : List ℕ). take (suc k) xs ∷ pieces (drop (suc k) xs)) is
+    ∙ ap (λ (m : ℕ). take m (drop start bs) ∷ pieces (drop (suc k) (drop start bs))) (sym many)
+    ∙ ap (λ (xs : List ℕ). take (n - start) (drop start bs) ∷ pieces xs) (drop-drop (suc k) start bs ∙ ap (λ (m : ℕ). drop m bs) place)
+
+-- With no LF the rest is the piece.
+is_whole : (bs rest : List ℕ) (start : ℕ) → rest ≡ drop start bs → start < length bs
+    → Nowhere (Passes (is_byte 10) rest) 0 (length rest)
+    → pieces (drop start bs) ≡ take (length bs - start) (drop start bs) ∷ pieces (drop (length bs) bs)
+is_whole bs rest start is there none =
+    let some : 0 < length rest = omega (arith, ap length is, length-drop start bs) in
+    ap pieces (sym is)
+    ∙ pieces-none rest some (λ j m. none j (omega arith) m)
+    ∙ ap (λ (xs : List ℕ). xs ∷ []) (is ∙ sym (take_rest bs start))
+    ∙ ap (λ (xs : List ℕ). take (length bs - start) (drop start bs) ∷ pieces xs) (sym (drop-length bs))
+
+pub returns-in-Some-clause-first : goal.returns-in-Some-clause-first
+returns-in-Some-clause-first c =
+    ends_behind c.args.bytes.now _ c.args.start c.in-Some.ahead (c.args.start + c.in-Some.ahead + 1) (take_rest c.args.bytes.now c.args.start) c.in-Some.ensures refl
+
+pub returns-in-None-clause-first : goal.returns-in-None-clause-first
+returns-in-None-clause-first c =
+    is_whole _ _ _ (take_rest c.args.bytes.now c.args.start) c.requires c.in-None.ensures

@@ -1,0 +1,14 @@
+use Rattle.std.proofs.Common.{◌≡◌, ◌≤◌, ◌<◌, ◌+◌, ◌-◌, length}
+use Rattle.qm_io.specs.Moves.{gave}
+use Rattle.qm_io.proofs.reading.read_bytes.Given as goal
+
+abbrev pub invariant-pieces : goal.invariant-pieces
+invariant-pieces g l = record {
+  given : g.S.Source.left l.initial.src ≡ gave l.bytes.items (g.S.Source.left l.src);
+  calm : g.S.Source.faults l.src ≡ g.S.Source.faults l.initial.src;
+  short : length l.bytes.items ≤ l.limit;
+  room : 0 < length l.buffer.items;
+}
+
+abbrev pub decreases-pieces : goal.decreases-pieces
+decreases-pieces g l = l.limit + 1 - length l.bytes.items

@@ -1,0 +1,13 @@
+use Rattle.std.proofs.Common.{◌≡◌, ◌≤◌, ◌-◌, length, drop, take, ℕ}
+use Rattle.qm_io.specs.Moves.{took}
+use Rattle.qm_io.proofs.writing.write_all.Given as goal
+
+abbrev pub invariant-loop-rest : goal.invariant-loop-rest
+invariant-loop-rest g l = record {
+  part : l.rest ≡ drop (length l.piece - length l.rest) l.piece;
+  taken : g.K.Sink.taken l.sink ≡ took (g.K.Sink.taken l.initial.sink) (take (length l.piece - length l.rest) l.piece);
+  calm : g.K.Sink.faults l.sink ≡ g.K.Sink.faults l.initial.sink;
+}
+
+abbrev pub decreases-loop-rest : goal.decreases-loop-rest
+decreases-loop-rest g l = length l.rest

@@ -1,0 +1,19 @@
+//! The outside as quadq sees it: where bytes come from and go to, and the lines of a text.
+#![tactic(auto)]
+
+mod lines;
+mod memory;
+mod places;
+mod reading;
+mod streams;
+#[cfg(test)]
+mod tests;
+mod traits;
+mod writing;
+
+pub use lines::Lines;
+pub use memory::{MemSink, MemSource};
+pub use reading::{ReadFail, read_lines};
+pub use streams::{StdSink, StdSource};
+pub use traits::{Failed, Memory, Sink, Source};
+pub use writing::{WriteFail, write_all};

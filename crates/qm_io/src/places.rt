@@ -1,0 +1,33 @@
+ghost use Rattle.std.specs.Prelude.{◌≡◌, ◌≤◌, ◌<◌, ◌-◌, ◌^◌, ◌++◌, ◌∷◌, [], length, take, drop, IfOk};
+ghost use Rattle.qm_io.specs.Lines.{pieces, places};
+
+use memchr::memchr;
+use std::alloc::{AllocError, Global};
+
+/// The place after the piece that begins at `start`.
+fn end_of_piece(bytes: &[u8], start: usize) -> usize
+    requires { start < length bytes.now }
+    ensures more { start < result }
+    ensures within { result ≤ length bytes.now }
+    ensures first { pieces (drop start bytes.now)
+        ≡ take (result - start) (drop start bytes.now) ∷ pieces (drop result bytes.now) }
+{
+    match memchr(b'\n', &bytes[start..]) {
+        Some(ahead) => start + ahead + 1,
+        None => bytes.len(),
+    }
+}
+
+/// The place after each piece of the text.
+pub fn ends_of(alloc: Global, bytes: &[u8]) -> Result<Vec<u32>, AllocError>
+    requires { length bytes.now < 2 ^ 32 }
+    ensures { IfOk result (λ ends. ends.items ≡ places 0 (pieces bytes.now)) }
+{
+    let mut ends = Vec::new(alloc);
+    let mut at = 0;
+    while at < bytes.len() {
+        at = end_of_piece(bytes, at);
+        ends.push(at as u32)?;
+    }
+    Ok(ends)
+}

@@ -1,0 +1,48 @@
+ghost use Rattle.std.specs.Prelude.{◌≡◌, ◌≤◌, ◌<◌, ℕ, List, Option, None, take, length, IfOk, IfErr};
+ghost use Rattle.qm_io.specs.Causes.{HasCause};
+ghost use Rattle.qm_io.specs.Moves.{gave, took, IsEmptied};
+
+use std::alloc::AllocError;
+use thiserror::Error;
+
+/// Want of memory, where it is a call's only refusal.
+pub type Memory = AllocError;
+
+/// A read or a write that did not succeed.
+#[derive(Clone, Copy, Debug, PartialEq, Eq, Error)]
+#[error("a stream failed")]
+pub struct Failed;
+
+/// Where bytes come from.
+pub trait Source {
+    /// The bytes that the source still holds, where it can tell.
+    ghost left: { Self → Option (List ℕ) } = { λ _. None };
+
+    /// How many of its reads failed.
+    ghost faults: { Self → ℕ };
+
+    /// Moves bytes to the front of the buffer and says how many. None, in a buffer that has room, is the end.
+    fn read(&mut self, buf: &mut [u8]) -> Result<usize, Failed>
+        ensures cause { HasCause (faults self.old) (faults self.new) result }
+        ensures fits { IfOk result (λ n. n ≤ length buf.old) }
+        ensures gives { IfOk result (λ n. left self.old ≡ gave (take n buf.new) (left self.new)) }
+        ensures end { IfOk result (λ n. n ≡ 0 → 0 < length buf.old → IsEmptied (left self.new)) }
+        ensures still { IfErr result (λ _. left self.new ≡ left self.old) };
+}
+
+/// Where bytes go to.
+pub trait Sink {
+    /// The bytes that the sink took so far, where it can tell.
+    ghost taken: { Self → Option (List ℕ) } = { λ _. None };
+
+    /// How many of its writes failed.
+    ghost faults: { Self → ℕ };
+
+    /// Takes bytes from the front of the piece, at least one where there is one, and says how many.
+    fn write(&mut self, piece: &[u8]) -> Result<usize, Failed>
+        ensures cause { HasCause (faults self.old) (faults self.new) result }
+        ensures fits { IfOk result (λ n. n ≤ length piece.now) }
+        ensures moves { IfOk result (λ n. 0 < length piece.now → 0 < n) }
+        ensures takes { IfOk result (λ n. taken self.new ≡ took (taken self.old) (take n piece.now)) }
+        ensures still { IfErr result (λ _. taken self.new ≡ taken self.old) };
+}

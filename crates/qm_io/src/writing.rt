@@ -1,0 +1,42 @@
+ghost use Rattle.std.specs.Prelude.{◌≡◌, ◌≤◌, ◌<◌, length, take, drop, IfOk, OnOk, OnErr};
+ghost use Rattle.qm_io.specs.Causes.{HasCause};
+ghost use Rattle.qm_io.specs.Moves.{took, TookFront};
+
+use crate::traits::Sink;
+use thiserror::Error;
+
+/// Why a piece was not written whole.
+#[derive(Clone, Copy, Debug, PartialEq, Eq, Error)]
+pub enum WriteFail {
+    #[error("a write failed")]
+    Fault,
+}
+
+/// Hands the whole piece to the sink. It takes no memory beyond the sink's own.
+pub fn write_all<K: Sink>(sink: &mut K, piece: &[u8]) -> Result<(), WriteFail>
+    ensures whole { OnOk result (K.taken sink.new ≡ took (K.taken sink.old) piece.now) }
+    ensures front { OnErr result (TookFront (K.taken sink.old) (K.taken sink.new) piece.now) }
+    ensures cause { HasCause (K.faults sink.old) (K.faults sink.new) result }
+{
+    let mut rest = piece;
+    while !rest.is_empty() {
+        let count = write_some(sink, rest)?;
+        rest = &rest[count..];
+    }
+    Ok(())
+}
+
+/// Hands the piece to the sink once, and says how much of it the sink took.
+fn write_some<K: Sink>(sink: &mut K, piece: &[u8]) -> Result<usize, WriteFail>
+    requires { 0 < length piece.now }
+    ensures more { IfOk result (λ n. 0 < n) }
+    ensures fits { IfOk result (λ n. n ≤ length piece.now) }
+    ensures takes { IfOk result (λ n. K.taken sink.new ≡ took (K.taken sink.old) (take n piece.now)) }
+    ensures still { OnErr result (K.taken sink.new ≡ K.taken sink.old) }
+    ensures cause { HasCause (K.faults sink.old) (K.faults sink.new) result }
+{
+    match sink.write(piece) {
+        Ok(count) => Ok(count),
+        Err(_) => Err(WriteFail::Fault),
+    }
+}
