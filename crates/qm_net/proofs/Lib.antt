@@ -1,0 +1,2 @@
+mod Balances
+mod Bounds
