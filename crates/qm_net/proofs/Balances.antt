@@ -1,21 +1,21 @@
 -- Balances of the nodes of a block, one arc at a time.
-use Rattle.std.proofs.Common.{◌≡◌, ℕ, zero, suc, ◌+◌, ◌-◌, ◌*◌, ◌^◌, ◌<◌, ◌≤◌, ◌==◌, eqb, Bool, true, false, not, ◌&&◌, cond, nat_le, List, [], ◌∷◌, length, get_or, replicate, Option, Some, None, ℤ, pos, ◌+ℤ◌, ◌-ℤ◌, ◌≤ℤ◌, neg_ℤ, refl, sym, ◌∙◌, ap, subst, inl, inr, ◌⊎◌, add-one, arith}
+use Rattle.std.proofs.Common.{◌≡◌, ℕ, ◌+◌, ◌-◌, ◌*◌, ◌^◌, ◌<◌, ◌≤◌, ◌==◌, Bool, true, false, not, ◌&&◌, cond, nat_le, List, [], ◌∷◌, length, get_or, replicate, Option, Some, None, ℤ, pos, ◌+ℤ◌, ◌-ℤ◌, ◌≤ℤ◌, refl, sym, ◌∙◌, ap, inl, inr, ◌⊎◌, add-one, arith}
 use Rattle.std.specs.Prelude.{slice_index, slice_index_or, slice_set, unsigned_abs, nat_lt, option_to_list}
 use Rattle.std.specs.List.{list_all}
 use Rattle.std.specs.Ordering.{int_eq}
 use Rattle.std.proofs.lemmas.List.Sums.{AllPass-from_list_all, list_all-from_AllPass}
 use Rattle.std.proofs.lemmas.Int.{ints}
-use Rattle.std.proofs.lemmas.Bool.{cases_eq, cases_lt, cases_Bool, eq-eqb, ne_eqb, and_parts, cond-true, cond-false}
+use Rattle.std.proofs.lemmas.Bool.{cases_eq, cases_lt, cases_Bool, eq-eqb, ne_eqb, and_parts}
 use Rattle.std.proofs.lemmas.Bool.Decides.{nat_tests, Decides-int_eq}
 use Rattle.std.proofs.lemmas.List.{get_or_past, get_or_default, length-set, get_or-set_same, get_or-set_other, length-replicate, get_or-replicate}
-use Rattle.qm_laws.specs.Sums.{total, total_below}
+use Rattle.qm_laws.specs.Sums.{total}
 use Rattle.qm_laws.proofs.Sums.{total_below_none}
 use Rattle.def_flow.specs.Network.{Network, IsWithinBounds, arc_at, ends}
-use Rattle.def_flow.specs.Admissible.{entries, is_on_side, side_sum, IsBalanced, IsAdmissible}
+use Rattle.def_flow.specs.Admissible.{entries, is_on_side, side_sum, IsBalanced}
 use Rattle.def_flow.specs.declared.net.Arc.{Arc}
 use Rattle.def_flow.specs.declared.net.End.{End}
 use Rattle.qm_net.specs.Balance.{signed, weighed, weighed_right, weighed_arc, side_so_far, AreBalances, IsBlockBalanced}
-use Rattle.qm_net.proofs.Bounds.{arc_bounded, ends_bounded}
+use Rattle.qm_net.proofs.Within.{arc_bounded, ends_bounded}
 
 -- What an end puts on the plus side of a node, less what it puts on the minus side.
 abbrev pub effect : ℕ → ℕ → End → ℤ
@@ -86,7 +86,7 @@ pub sides_more : (arcs : List Arc) (xs : List ℕ) (v k : ℕ) → side_so_far a
 sides_more arcs xs v k = rw (add-one k) (by_right (arc_at arcs k).right)
   where
     by_right : (o : Option End) → (side_so_far arcs xs true v k +ℤ total (λ e. cond (is_on_side v true e) (entries xs k) (pos 0)) ((arc_at arcs k).left ∷ option_to_list o)) -ℤ (side_so_far arcs xs false v k +ℤ total (λ e. cond (is_on_side v false e) (entries xs k) (pos 0)) ((arc_at arcs k).left ∷ option_to_list o))
-      ≡ (side_so_far arcs xs true v k -ℤ side_so_far arcs xs false v k) +ℤ (effect v (slice_index xs k) (arc_at arcs k).left +ℤ effect_right v (slice_index xs k) o)
+        ≡ (side_so_far arcs xs true v k -ℤ side_so_far arcs xs false v k) +ℤ (effect v (slice_index xs k) (arc_at arcs k).left +ℤ effect_right v (slice_index xs k) o)
     by_right None = omega (arith, ints)
     by_right (Some e) = omega (arith, ints)
 
@@ -105,16 +105,16 @@ effect_right_small v x (Some e) = effect_small v x e
 -- One arc more.
 pub balances_more : (arcs : List Arc) (xs : List ℕ) (first k : ℕ) (bs : List ℤ) → slice_index xs k ≤ 10 ^ 12 → AreBalances arcs xs first k bs → AreBalances arcs xs first (k + 1) (weighed_arc first (arc_at arcs k) (slice_index xs k) bs)
 balances_more arcs xs first k bs short are = record {
-    count = weighed_arc_length first (arc_at arcs k) (slice_index xs k) bs ∙ are.count;
-    each = λ j l. omega (arith, ints, weighed_arc_read first (arc_at arcs k) (slice_index xs k) bs j (omega (arith, are.count)), are.each j l, sides_more arcs xs (first + j) k);
-    small = small
-  }
+  count = weighed_arc_length first (arc_at arcs k) (slice_index xs k) bs ∙ are.count;
+  each = λ j l. omega (arith, ints, weighed_arc_read first (arc_at arcs k) (slice_index xs k) bs j (omega (arith, are.count)), are.each j l, sides_more arcs xs (first + j) k);
+  small = small;
+}
   where
     small : (j : ℕ) → unsigned_abs (get_or (weighed_arc first (arc_at arcs k) (slice_index xs k) bs) j (pos 0)) ≤ (k + 1) * (2 * 10 ^ 12)
     small j = elim (cases_lt j (length bs)) [
-        inl l ↦ omega (arith, ints, weighed_arc_read first (arc_at arcs k) (slice_index xs k) bs j l, are.small j, effect_small (first + j) (slice_index xs k) (arc_at arcs k).left, effect_right_small (first + j) (slice_index xs k) (arc_at arcs k).right)
+      | inl l ↦ omega (arith, ints, weighed_arc_read first (arc_at arcs k) (slice_index xs k) bs j l, are.small j, effect_small (first + j) (slice_index xs k) (arc_at arcs k).left, effect_right_small (first + j) (slice_index xs k) (arc_at arcs k).right)
       | inr h ↦ omega (arith, ap unsigned_abs (get_or_past (weighed_arc first (arc_at arcs k) (slice_index xs k) bs) j (pos 0) (omega (arith, weighed_arc_length first (arc_at arcs k) (slice_index xs k) bs))))
-      ]
+    ]
 
 -- No arc puts anything anywhere.
 pub balances_none : (arcs : List Arc) (xs : List ℕ) (first : ℕ) (bs : List ℤ) → bs ≡ replicate 2048 (pos 0) → AreBalances arcs xs first 0 bs
@@ -151,7 +151,7 @@ balanced_by_zeros arcs xs first bs are on v low high =
     let inner : v - first < 2048 = omega arith in
     let zero_there : get_or bs (v - first) (pos 0) ≡ pos 0 = (Decides-int_eq (get_or bs (v - first) (pos 0)) (pos 0)).0 (AllPass-from_list_all (λ z. int_eq z (pos 0)) bs on (v - first) (pos 0) (omega (arith, are.count))) in
     let sums : get_or bs (v - first) (pos 0) ≡ side_sum arcs (entries xs) true v -ℤ side_sum arcs (entries xs) false v =
-        are.each (v - first) inner ∙ ap (λ i. side_sum arcs (entries xs) true i -ℤ side_sum arcs (entries xs) false i) place in
+    are.each (v - first) inner ∙ ap (λ i. side_sum arcs (entries xs) true i -ℤ side_sum arcs (entries xs) false i) place in
     omega (arith, ints, zero_there, sums)
 
 pub zeros_by_balanced : (arcs : List Arc) (xs : List ℕ) (first : ℕ) (bs : List ℤ) → AreBalances arcs xs first (length arcs) bs → IsBlockBalanced arcs xs first (first + 2048) → list_all (λ z. int_eq z (pos 0)) bs ≡ true

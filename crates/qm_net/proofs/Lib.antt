@@ -1,2 +1,2 @@
 mod Balances
-mod Bounds
+mod Within

@@ -107,5 +107,9 @@ fn weigh(first: usize, end: &End, length: u64, balances: &mut [i128])
 fn with_sign(plus: bool, length: u64) -> i128
     ensures { result ≡ signed plus length }
 {
-    if plus { i128::from(length) } else { -i128::from(length) }
+    if plus {
+        i128::from(length)
+    } else {
+        -i128::from(length)
+    }
 }

@@ -2,7 +2,11 @@
 #![tactic(auto)]
 
 mod balance;
+mod bounds;
+#[cfg(test)]
+mod tests;
 mod wanted;
 
 pub use balance::admissible;
+pub use bounds::{are_lengths, is_within_bounds};
 pub use wanted::{arc_deviation, deviation};

@@ -1,4 +1,4 @@
-use Rattle.std.proofs.Common.{refl, arith}
+use Rattle.std.proofs.Common.{refl}
 use Rattle.def_flow.specs.Network.{network}
 use Rattle.qm_net.proofs.Balances.{balanced_everywhere}
 use Rattle.qm_net.proofs.balance.are_balanced.Goals as goal
