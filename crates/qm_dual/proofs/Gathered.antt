@@ -1,5 +1,5 @@
 -- The load of an edge, by the sets around each of its ends and around both.
-use Rattle.std.proofs.Common.{◌≡◌, ℕ, zero, suc, ◌+◌, ◌-◌, ◌*◌, ◌^◌, ◌<◌, ◌≤◌, ◌≢◌, ◌==◌, eqb, ◌||◌, ◌&&◌, Bool, true, false, not, cond, List, length, ℤ, pos, ◌+ℤ◌, ◌-ℤ◌, ◌*ℤ◌, refl, sym, ◌∙◌, ap, subst, set, add-one, inl, inr, ◌⊎◌, arith}
+use Rattle.std.proofs.Common.{◌≡◌, ℕ, zero, suc, ◌+◌, ◌-◌, ◌*◌, ◌^◌, ◌<◌, ◌≤◌, ◌==◌, ◌||◌, ◌&&◌, Bool, true, false, not, cond, List, length, ℤ, pos, ◌+ℤ◌, ◌-ℤ◌, refl, sym, ◌∙◌, ap, subst, set, add-one, inl, inr, ◌⊎◌, arith}
 use Rattle.std.specs.Prelude.{slice_index, slice_index_or, unsigned_abs}
 use mir.Syntax.{w128}
 use mir.Val.{to_z, of_z}
@@ -74,9 +74,9 @@ sums_more n d k sums value l are is = record { count = length-set sums k value �
   where
     each : (j : ℕ) → k ≤ j → j < length d.z → slice_index_or (set sums k value) j (pos 0) ≡ around n d (suc j)
     each j le lj = elim (cases_eq j k) [
-        inl e ↦ subst (λ (i : ℕ). slice_index_or (set sums k value) i (pos 0) ≡ around n d (suc i)) (sym e) (get_or-set_same sums k value (pos 0) (omega (arith, are.count)) ∙ (is ∙ ap (around n d) (add-one k)))
+      | inl e ↦ subst (λ (i : ℕ). slice_index_or (set sums k value) i (pos 0) ≡ around n d (suc i)) (sym e) (get_or-set_same sums k value (pos 0) (omega (arith, are.count)) ∙ (is ∙ ap (around n d) (add-one k)))
       | inr ne ↦ get_or-set_other sums k j value (pos 0) ne ∙ are.each j (omega arith) lj
-      ]
+    ]
 
 -- The same at the loop's index, which is one past the set.
 pub sums_step : (n : ℕ) (d : DualLists) (k : ℕ) (sums : List ℤ) (value : ℤ) → 0 < k → k ≤ length d.z → AreSums n d k sums → value ≡ around n d (k - 1 + 1) → AreSums n d (k - 1) (set sums (k - 1) value)
@@ -86,14 +86,14 @@ sums_step n d k sums value some low are is =
 
 -- The sets around exactly one of two entries, by those around each and those around both.
 pub apart_is : (n : ℕ) (d : DualLists) (a b entry : ℕ) → IsMeeting n (length d.z) d.up a b entry
-  → apart n d a b ≡ (around n d a +ℤ around n d b) -ℤ (around n d entry +ℤ around n d entry)
+    → apart n d a b ≡ (around n d a +ℤ around n d b) -ℤ (around n d entry +ℤ around n d entry)
 apart_is n d a b entry meets =
     let crossing : ℕ → ℤ = λ (k : ℕ). cond (cond (climbs n d.up (length d.z) k a) (not (climbs n d.up (length d.z) k b)) (climbs n d.up (length d.z) k b)) (z_at d k) (pos 0) in
     let left : ℕ → ℤ = λ (k : ℕ). cond (climbs n d.up (length d.z) k a) (z_at d k) (pos 0) in
     let right : ℕ → ℤ = λ (k : ℕ). cond (climbs n d.up (length d.z) k b) (z_at d k) (pos 0) in
     let both : ℕ → ℤ = λ (k : ℕ). cond (climbs n d.up (length d.z) k entry) (z_at d k) (pos 0) in
     let parts : total_below (λ k. crossing k +ℤ (both k +ℤ both k)) (length d.z) ≡ total_below (λ k. left k +ℤ right k) (length d.z) =
-        total_below_same _ _ (length d.z) (λ k l. ap (λ x. crossing k +ℤ (cond x (z_at d k) (pos 0) +ℤ cond x (z_at d k) (pos 0))) (meets k) ∙ by_tests (climbs n d.up (length d.z) k a) (climbs n d.up (length d.z) k b) (z_at d k)) in
+    total_below_same _ _ (length d.z) (λ k l. ap (λ x. crossing k +ℤ (cond x (z_at d k) (pos 0) +ℤ cond x (z_at d k) (pos 0))) (meets k) ∙ by_tests (climbs n d.up (length d.z) k a) (climbs n d.up (length d.z) k b) (z_at d k)) in
     omega (arith, ints, parts, total_below_sum crossing (λ k. both k +ℤ both k) (length d.z), total_below_sum both both (length d.z), total_below_sum left right (length d.z))
   where
     by_tests : (a b : Bool) (z : ℤ) → cond (cond a (not b) b) z (pos 0) +ℤ (cond (a && b) z (pos 0) +ℤ cond (a && b) z (pos 0)) ≡ cond a z (pos 0) +ℤ cond b z (pos 0)
@@ -108,12 +108,12 @@ named_small n d sums are small entry low = let is : named_sum sums entry ≡ aro
 
 -- The sets around exactly one of two entries, by the sums of the sets that they name.
 pub apart_sums : (n : ℕ) (d : DualLists) (sums : List ℤ) → AreSums n d 0 sums → (a b entry : ℕ) → a ≤ length d.z → b ≤ length d.z → entry ≤ length d.z → IsMeeting n (length d.z) d.up a b entry
-  → apart n d a b ≡ (named_sum sums a +ℤ named_sum sums b) -ℤ (named_sum sums entry +ℤ named_sum sums entry)
+    → apart n d a b ≡ (named_sum sums a +ℤ named_sum sums b) -ℤ (named_sum sums entry +ℤ named_sum sums entry)
 apart_sums n d sums are a b entry la lb le meets = omega (arith, ints, apart_is n d a b entry meets, named_around n d sums are a la, named_around n d sums are b lb, named_around n d sums are entry le)
 
 -- The sum that the code makes of three small numbers wraps nowhere.
 pub plain_difference : (x y z : ℤ) → unsigned_abs x ≤ 2 ^ 90 → unsigned_abs y ≤ 2 ^ 90 → unsigned_abs z ≤ 2 ^ 90
-  → to_z w128 (of_z w128 (to_z w128 (of_z w128 (to_z w128 (of_z w128 x) +ℤ to_z w128 (of_z w128 y))) -ℤ to_z w128 (of_z w128 (to_z w128 (of_z w128 z) +ℤ to_z w128 (of_z w128 z))))) ≡ (x +ℤ y) -ℤ (z +ℤ z)
+    → to_z w128 (of_z w128 (to_z w128 (of_z w128 (to_z w128 (of_z w128 x) +ℤ to_z w128 (of_z w128 y))) -ℤ to_z w128 (of_z w128 (to_z w128 (of_z w128 z) +ℤ to_z w128 (of_z w128 z))))) ≡ (x +ℤ y) -ℤ (z +ℤ z)
 plain_difference x y z lx ly lz =
     let a : to_z w128 (of_z w128 x) ≡ x = omega (arith, ints) in
     let b : to_z w128 (of_z w128 y) ≡ y = omega (arith, ints) in

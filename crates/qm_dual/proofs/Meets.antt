@@ -1,9 +1,9 @@
 -- The least set around two entries, by leaving paths below their heads.
-use Rattle.std.proofs.Common.{◌≡◌, ℕ, zero, suc, ◌+◌, ◌<◌, ◌≤◌, ◌≢◌, ◌==◌, eqb, ◌||◌, ◌&&◌, Bool, true, false, max, List, length, refl, sym, ◌∙◌, ap, subst, inl, inr, ◌⊎◌, arith}
+use Rattle.std.proofs.Common.{◌≡◌, ℕ, zero, suc, ◌+◌, ◌<◌, ◌≤◌, ◌≢◌, ◌||◌, ◌&&◌, Bool, true, false, max, List, refl, sym, ◌∙◌, ap, inl, inr, ◌⊎◌, arith}
 use Rattle.std.specs.Prelude.{slice_index}
 use Rattle.std.proofs.lemmas.Bool.{cases_eq, cases_lt, eq-eqb, and_parts}
 use Rattle.def_flow.specs.Dual.{IsNested, climbs}
-use Rattle.qm_dual.specs.Nest.{IsHead, AreHeads, IsMeeting, HaveSameSets, left}
+use Rattle.qm_dual.specs.Nest.{AreHeads, IsMeeting, HaveSameSets, left}
 use Rattle.qm_dual.proofs.Climbs.{set_later, climb_on, climb_none, passed_further, passed_inner}
 use Rattle.qm_dual.proofs.OnPaths.{head_later, head_of_passed, past_head, from_head, path_chain}
 
@@ -22,7 +22,7 @@ passes_itself n m up nested k l = climb_on n m up nested k k l ∙ ap (λ x. x |
 
 -- The sets around both stay those around both, where the climb with the lower head leaves its path.
 pub leave_path : (n m : ℕ) (up heads : List ℕ) → IsNested n m up → AreHeads n m up heads → (a b t : ℕ) → a < m → b < m → slice_index heads a ≡ suc t → slice_index heads a < slice_index heads b
-  → HaveSameSets n m up (suc a) (suc b) (slice_index up (n + t)) (suc b)
+    → HaveSameSets n m up (suc a) (suc b) (slice_index up (n + t)) (suc b)
 leave_path n m up heads nested are a b t la lb top lower k =
     same_tests (climbs n up m k (suc a) && climbs n up m k (suc b)) (climbs n up m k (slice_index up (n + t)) && climbs n up m k (suc b)) there back
   where
@@ -57,9 +57,9 @@ one_path n m up heads nested are a b le low same k = same_tests (climbs n up m k
   where
     from_lower : climbs n up m k (suc b) ≡ true → climbs n up m k (suc a) ≡ true
     from_lower on = elim (cases_eq a b) [
-        inl e ↦ ap (λ i. climbs n up m k (suc i)) e ∙ on
+      | inl e ↦ ap (λ i. climbs n up m k (suc i)) e ∙ on
       | inr ne ↦ passed_further n m up nested m b k (suc a) (omega arith) (path_chain n m up heads nested are m a b (omega arith) (omega arith) low same) on
-      ]
+    ]
 
 -- Both tests in the other order.
 pub swapped : (x y : Bool) → (x && y) ≡ (y && x)
@@ -74,20 +74,20 @@ one_path_back n m up heads nested are a b le low same k = one_path n m up heads 
 
 -- The same of entries that name sets.
 pub leave_entries : (n m : ℕ) (up heads : List ℕ) → IsNested n m up → AreHeads n m up heads → (a b i j t : ℕ) → a ≡ suc i → b ≡ suc j → i < m → j < m → slice_index heads i ≡ suc t → slice_index heads i < slice_index heads j
-  → HaveSameSets n m up a b (slice_index up (n + t)) b
+    → HaveSameSets n m up a b (slice_index up (n + t)) b
 leave_entries n m up heads nested are a b i j t ai bj li lj top lower k = rw (ai, bj) (leave_path n m up heads nested are i j t li lj top lower k)
 
 pub leave_entries_back : (n m : ℕ) (up heads : List ℕ) → IsNested n m up → AreHeads n m up heads → (a b i j t : ℕ) → a ≡ suc i → b ≡ suc j → i < m → j < m → slice_index heads j ≡ suc t → slice_index heads j < slice_index heads i
-  → HaveSameSets n m up a b a (slice_index up (n + t))
+    → HaveSameSets n m up a b a (slice_index up (n + t))
 leave_entries_back n m up heads nested are a b i j t ai bj li lj top lower k =
     swapped (climbs n up m k a) (climbs n up m k b) ∙ (leave_entries n m up heads nested are b a j i t bj ai lj li top lower k ∙ swapped (climbs n up m k (slice_index up (n + t))) (climbs n up m k a))
 
 -- Where one entry is none, or both are on one path, the greater entry or none is the least set around both.
 pub meeting_found : (n m : ℕ) (up heads : List ℕ) → IsNested n m up → AreHeads n m up heads → (a b i j : ℕ) → a ≡ suc i → b ≡ suc j → i < m → j < m → slice_index heads i ≡ slice_index heads j → IsMeeting n m up a b (max a b)
 meeting_found n m up heads nested are a b i j ai bj li lj same = elim (cases_lt a b) [
-    inl l ↦ (λ k. let e : max a b ≡ suc j = omega arith in rw (e, ai, bj) (one_path n m up heads nested are i j (omega arith) lj same k))
+  | inl l ↦ (λ k. let e : max a b ≡ suc j = omega arith in rw (e, ai, bj) (one_path n m up heads nested are i j (omega arith) lj same k))
   | inr h ↦ (λ k. let e : max a b ≡ suc i = omega arith in rw (e, ai, bj) (one_path_back n m up heads nested are i j (omega arith) li same k))
-  ]
+]
 
 pub meeting_none : (n m : ℕ) (up : List ℕ) (a b : ℕ) → (a ≡ 0) ⊎ (b ≡ 0) → IsMeeting n m up a b 0
 meeting_none n m up a b (inl e) k = rw e (climb_none n up m k ∙ sym (ap (λ x. x && climbs n up m k b) (climb_none n up m k)))

@@ -1,10 +1,10 @@
 -- The paths into which nested sets fall, and the least set around two entries.
-use Rattle.std.proofs.Common.{◌≡◌, ℕ, zero, suc, ◌+◌, ◌<◌, ◌≤◌, ◌≢◌, ◌==◌, eqb, ◌||◌, ◌&&◌, Bool, true, false, cond, List, length, refl, sym, ◌∙◌, ap, subst, inl, inr, ◌⊎◌, arith}
+use Rattle.std.proofs.Common.{◌≡◌, ℕ, zero, suc, ◌+◌, ◌<◌, ◌≤◌, ◌==◌, ◌||◌, Bool, true, false, List, refl, sym, ◌∙◌, ap, subst, inl, inr, ◌⊎◌, arith}
 use Rattle.std.specs.Prelude.{slice_index}
-use Rattle.std.proofs.lemmas.Bool.{cases_eq, cases_lt, cases_order, cases_Bool, eq-eqb, ne_eqb, false≢true, false_from_ne_true}
+use Rattle.std.proofs.lemmas.Bool.{cases_eq, cases_order, eq-eqb, false≢true}
 use Rattle.def_flow.specs.Dual.{IsNested, climbs}
 use Rattle.qm_dual.specs.Nest.{IsHead, AreHeads}
-use Rattle.qm_dual.proofs.Climbs.{set_later, around_later, climb_on, climb_none, passed_on, passed_later, passed_further}
+use Rattle.qm_dual.proofs.Climbs.{set_later, around_later, climb_on, climb_none, passed_on, passed_later}
 
 -- A head is at or above its set, and is a set.
 pub head_later : (n m : ℕ) (up heads : List ℕ) → IsNested n m up → AreHeads n m up heads → (fuel j : ℕ) → m ≤ fuel + j → j < m → (j < slice_index heads j) × (slice_index heads j ≤ m)
@@ -21,14 +21,14 @@ head_later n m up heads nested are (suc fuel) j enough l = by_head (are.each j l
 
 -- A set that is passed from another lies on its path, or the path has its head below it.
 pub head_of_passed : (n m : ℕ) (up heads : List ℕ) → IsNested n m up → AreHeads n m up heads → (steps k j : ℕ) → j < m → climbs n up steps k (suc j) ≡ true
-  → (slice_index heads j ≡ slice_index heads k) ⊎ (slice_index heads j ≤ k)
+    → (slice_index heads j ≡ slice_index heads k) ⊎ (slice_index heads j ≤ k)
 head_of_passed n m up heads nested are zero k j l on = absurd cc
 head_of_passed n m up heads nested are (suc steps) k j l on = by_step (passed_on j k (climbs n up steps k (slice_index up (n + j))) on)
     (λ q is low there. head_of_passed n m up heads nested are steps k q low (subst (λ (e : ℕ). climbs n up steps k e ≡ true) is there))
   where
     by_step : (j ≡ k) ⊎ (climbs n up steps k (slice_index up (n + j)) ≡ true)
-      → ((q : ℕ) → slice_index up (n + j) ≡ suc q → q < m → climbs n up steps k (slice_index up (n + j)) ≡ true → (slice_index heads q ≡ slice_index heads k) ⊎ (slice_index heads q ≤ k))
-      → (slice_index heads j ≡ slice_index heads k) ⊎ (slice_index heads j ≤ k)
+        → ((q : ℕ) → slice_index up (n + j) ≡ suc q → q < m → climbs n up steps k (slice_index up (n + j)) ≡ true → (slice_index heads q ≡ slice_index heads k) ⊎ (slice_index heads q ≤ k))
+        → (slice_index heads j ≡ slice_index heads k) ⊎ (slice_index heads j ≤ k)
     by_step (inl e) rest = inl (ap (slice_index heads) e)
     by_step (inr there) rest = by_head (are.each j l)
       where
@@ -48,7 +48,7 @@ head_of_passed n m up heads nested are (suc steps) k j l on = by_step (passed_on
 
 -- A set that is passed from another lies on its path, or is passed from the set around the head.
 pub past_head : (n m : ℕ) (up heads : List ℕ) → IsNested n m up → AreHeads n m up heads → (steps k j t : ℕ) → j < m → slice_index heads j ≡ suc t → climbs n up steps k (suc j) ≡ true
-  → (slice_index heads k ≡ suc t) ⊎ ((further : ℕ) × (climbs n up further k (slice_index up (n + t)) ≡ true))
+    → (slice_index heads k ≡ suc t) ⊎ ((further : ℕ) × (climbs n up further k (slice_index up (n + t)) ≡ true))
 past_head n m up heads nested are zero k j t l top on = absurd cc
 past_head n m up heads nested are (suc steps) k j t l top on = by_step (passed_on j k (climbs n up steps k (slice_index up (n + j))) on)
     (λ q is low head there. past_head n m up heads nested are steps k q t low head (subst (λ (e : ℕ). climbs n up steps k e ≡ true) is there))
@@ -57,8 +57,8 @@ past_head n m up heads nested are (suc steps) k j t l top on = by_step (passed_o
     Wanted = (slice_index heads k ≡ suc t) ⊎ ((further : ℕ) × (climbs n up further k (slice_index up (n + t)) ≡ true))
 
     by_step : (j ≡ k) ⊎ (climbs n up steps k (slice_index up (n + j)) ≡ true)
-      → ((q : ℕ) → slice_index up (n + j) ≡ suc q → q < m → slice_index heads q ≡ suc t → climbs n up steps k (slice_index up (n + j)) ≡ true → Wanted)
-      → Wanted
+        → ((q : ℕ) → slice_index up (n + j) ≡ suc q → q < m → slice_index heads q ≡ suc t → climbs n up steps k (slice_index up (n + j)) ≡ true → Wanted)
+        → Wanted
     by_step (inl e) rest = inl (sym (ap (slice_index heads) e) ∙ top)
     by_step (inr there) rest = by_head (are.each j l)
       where
@@ -89,7 +89,7 @@ from_head n m up heads nested are (suc fuel) k j t enough l top on = by_head (ar
 
 -- The last set before one that is passed.
 pub last_before : (n m : ℕ) (up : List ℕ) → IsNested n m up → (steps q b : ℕ) → b < m → climbs n up steps q (suc b) ≡ true → (b ≡ q → ⊥)
-  → (c : ℕ) × (c < m) × (slice_index up (n + c) ≡ suc q) × ((b ≡ c) ⊎ (climbs n up m c (suc b) ≡ true))
+    → (c : ℕ) × (c < m) × (slice_index up (n + c) ≡ suc q) × ((b ≡ c) ⊎ (climbs n up m c (suc b) ≡ true))
 last_before n m up nested zero q b l on ne = absurd cc
 last_before n m up nested (suc steps) q b l on ne = by_step (passed_on b q (climbs n up steps q (slice_index up (n + b))) on)
     (λ p is low there other. last_before n m up nested steps q p low (subst (λ (e : ℕ). climbs n up steps q e ≡ true) is there) other)
@@ -102,8 +102,8 @@ last_before n m up nested (suc steps) q b l on ne = by_step (passed_on b q (clim
     or_true false c is = is
 
     by_step : (b ≡ q) ⊎ (climbs n up steps q (slice_index up (n + b)) ≡ true)
-      → ((p : ℕ) → slice_index up (n + b) ≡ suc p → p < m → climbs n up steps q (slice_index up (n + b)) ≡ true → (p ≡ q → ⊥) → (c : ℕ) × (c < m) × (slice_index up (n + c) ≡ suc q) × ((p ≡ c) ⊎ (climbs n up m c (suc p) ≡ true)))
-      → Wanted
+        → ((p : ℕ) → slice_index up (n + b) ≡ suc p → p < m → climbs n up steps q (slice_index up (n + b)) ≡ true → (p ≡ q → ⊥) → (c : ℕ) × (c < m) × (slice_index up (n + c) ≡ suc q) × ((p ≡ c) ⊎ (climbs n up m c (suc p) ≡ true)))
+        → Wanted
     by_step (inl e) rest = absurd (ne e)
     by_step (inr there) rest = by_around (slice_index up (n + b)) refl
       where
@@ -134,8 +134,8 @@ path_chain n m up heads nested are (suc fuel) a b enough less low same = by_head
     or_true false c is = is
 
     by_head : IsHead n up are.picks heads a
-      → ((c d : ℕ) → a < c → c < d → d < m → slice_index heads c ≡ slice_index heads d → climbs n up m d (suc c) ≡ true)
-      → climbs n up m b (suc a) ≡ true
+        → ((c d : ℕ) → a < c → c < d → d < m → slice_index heads c ≡ slice_index heads d → climbs n up m d (suc c) ≡ true)
+        → climbs n up m b (suc a) ≡ true
     by_head (inl e) rest = absurd (omega (arith, high b low))
     by_head (inr h) rest = by_order (cases_order h.0 b)
       where

@@ -1,12 +1,11 @@
 -- The sizes of nested sets, as the sets pass on what they hold in their order.
-use Rattle.std.proofs.Common.{◌≡◌, ℕ, zero, suc, ◌+◌, ◌<◌, ◌≤◌, ◌≢◌, ◌==◌, eqb, ◌||◌, Bool, true, false, cond, min, List, length, replicate, add-one, refl, sym, ◌∙◌, ap, subst, inl, inr, ◌⊎◌, arith}
+use Rattle.std.proofs.Common.{◌≡◌, ℕ, zero, suc, ◌+◌, ◌<◌, ◌≤◌, ◌≢◌, ◌==◌, ◌||◌, Bool, true, false, cond, min, List, length, replicate, add-one, refl, sym, ◌∙◌, ap, subst, inl, inr, ◌⊎◌, arith}
 use Rattle.std.specs.Prelude.{slice_index}
 use Rattle.std.proofs.lemmas.Bool.{cases_eq, cases_lt, eq-eqb, ne_eqb, false_from_ne_true, cond-true, cond-false}
-use Rattle.std.proofs.lemmas.Bool.Decides.{nat_tests}
 use Rattle.std.proofs.lemmas.List.{get_or_past, length-set, length-replicate, get_or-replicate, get_or-set_same, get_or-set_other}
 use Rattle.qm_laws.specs.Counts.{count_below}
-use Rattle.qm_laws.proofs.Counts.{count_below_same, count_below_sum, count_below_le}
-use Rattle.def_flow.specs.Dual.{DualLists, IsNested, climbs, set_size, holds}
+use Rattle.qm_laws.proofs.Counts.{count_below_same, count_below_sum}
+use Rattle.def_flow.specs.Dual.{DualLists, IsNested, climbs, set_size}
 use Rattle.qm_dual.specs.Nest.{passed, tally, added, AreTallies, AreSizes}
 use Rattle.qm_dual.proofs.Climbs.{set_later, entry_low, climb_on, climb_none, passed_later}
 
@@ -53,9 +52,9 @@ climb_stands n m up nested k entry low l = by_stand (stands_later n m up nested 
     by_stand : ((passed n up k entry ≡ 0) ⊎ (k < passed n up k entry)) × (passed n up k entry ≤ m) → (passed n up k entry == suc k) ≡ climbs n up m k (passed n up k entry)
     by_stand (inl z, high) = ne_eqb (passed n up k entry) (suc k) (λ e. omega arith) ∙ sym (ap (climbs n up m k) z ∙ climb_none n up m k)
     by_stand (inr later, high) = elim (cases_eq (passed n up k entry) (suc k)) [
-        inl e ↦ eq-eqb (passed n up k entry) (suc k) e ∙ sym (ap (climbs n up m k) e ∙ (climb_on n m up nested k k l ∙ ap (λ x. x || climbs n up m k (slice_index up (n + k))) (eq-eqb k k refl)))
+      | inl e ↦ eq-eqb (passed n up k entry) (suc k) e ∙ sym (ap (climbs n up m k) e ∙ (climb_on n m up nested k k l ∙ ap (λ x. x || climbs n up m k (slice_index up (n + k))) (eq-eqb k k refl)))
       | inr ne ↦ ne_eqb (passed n up k entry) (suc k) ne ∙ sym (false_from_ne_true _ (λ on. omega (arith, passed_later n m up nested m k (passed n up k entry) on)))
-      ]
+    ]
 
 -- What a set passes on comes to the set around it, and to no other.
 pub passed_step : (n : ℕ) (up : List ℕ) (k j entry : ℕ) → j ≢ k → cond (passed n up (suc k) entry == suc j) 1 0 ≡ cond (passed n up k entry == suc j) 1 0 + cond (slice_index up (n + k) == suc j) (cond (passed n up k entry == suc k) 1 0) 0
@@ -102,9 +101,9 @@ tally_size n d nested k l = count_below_same _ _ n (λ v lv. ap (λ b. cond b 1 
 -- Tallies are no greater than the number of vertices.
 pub tallies_low : (n m : ℕ) (up : List ℕ) (vertices : ℕ) (t : ℕ → ℕ) (sizes : List ℕ) → AreTallies n m up vertices t sizes → (k : ℕ) → slice_index sizes k ≤ vertices
 tallies_low n m up vertices t sizes are k = elim (cases_lt k m) [
-    inl l ↦ omega (arith, are.each k l, tests_low (λ v. passed n up (t k) (slice_index up v) == suc k) vertices)
+  | inl l ↦ omega (arith, are.each k l, tests_low (λ v. passed n up (t k) (slice_index up v) == suc k) vertices)
   | inr h ↦ omega (arith, get_or_past sizes k 0 (omega (arith, are.count)))
-  ]
+]
 
 -- At first nothing is tallied.
 pub tallies_none : (n m : ℕ) (up : List ℕ) (t : ℕ → ℕ) → AreTallies n m up 0 t (replicate m 0)
@@ -124,10 +123,10 @@ tallies_more n m up v sizes are low = record { count = length_added sizes (slice
         by_entry : (e : ℕ) → slice_index up v ≡ e → e ≤ m → slice_index (added sizes e 1) k ≡ tally n up v 0 k + cond (slice_index up v == suc k) 1 0
         by_entry zero is low = let off : (slice_index up v == suc k) ≡ false = ne_eqb (slice_index up v) (suc k) (λ e. omega arith) in rw off (omega (arith, are.each k l))
         by_entry (suc q) is low = elim (cases_eq k q) [
-            inl e ↦ at_set e
+          | inl e ↦ at_set e
           | inr ne ↦ let off : (slice_index up v == suc k) ≡ false = ne_eqb (slice_index up v) (suc k) (λ e. ne (omega arith)) in
               rw off (omega (arith, are.each k l, get_or-set_other sizes q k (slice_index sizes q + 1) 0 ne))
-          ]
+        ]
           where
             at_set : k ≡ q → slice_index (added sizes (suc q) 1) k ≡ tally n up v 0 k + cond (slice_index up v == suc k) 1 0
             at_set e =

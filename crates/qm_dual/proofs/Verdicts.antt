@@ -1,5 +1,5 @@
 -- The verdict yes is that the dual says yes.
-use Rattle.std.proofs.Common.{◌≡◌, ℕ, ◌+◌, ◌<◌, ◌≢◌, ◌==◌, eqb, Bool, true, false, not, cond, List, length, get_or, ℤ, pos, ◌*ℤ◌, ◌≤ℤ◌, Option, Some, None, IfNone, Result, Ok, Err, IfOk, refl, sym, ◌∙◌, ap, arith}
+use Rattle.std.proofs.Common.{◌≡◌, ℕ, ◌+◌, ◌<◌, ◌≢◌, ◌==◌, Bool, true, false, not, cond, List, length, ℤ, pos, ◌*ℤ◌, ◌≤ℤ◌, Option, Some, None, IfNone, Result, Ok, Err, IfOk, refl, sym, ◌∙◌, ap, arith}
 use Rattle.std.proofs.lemmas.Int.{ints}
 use Rattle.std.proofs.lemmas.Bool.{eq-eqb}
 use Rattle.std.proofs.lemmas.Bool.Decides.{nat_tests}
@@ -28,12 +28,15 @@ pub shaped : (n : ℕ) (d : DualLists) → shape_fault n d ≡ None → (length 
 shaped n d none = by_tests (length d.y == n) (length d.up == n + length d.z) refl refl none
   where
     by_tests : (a b : Bool) → (length d.y == n) ≡ a → (length d.up == n + length d.z) ≡ b
-      → cond (not a) (Some n) (cond (not b) (Some (n + 1)) (least (λ i. not (is_up n (length d.z) i (slice_index d.up i))) (n + length d.z))) ≡ None
-      → (length d.y ≡ n) × IsNested n (length d.z) d.up
-    by_tests true true ny nu off = (grind (arith, nat_tests), record {
-      entries = grind (arith, nat_tests);
-      later = λ i l. not_false (is_up n (length d.z) i (slice_index d.up i)) (none_below (λ j. not (is_up n (length d.z) j (slice_index d.up j))) (n + length d.z) off i l)
-    })
+        → cond (not a) (Some n) (cond (not b) (Some (n + 1)) (least (λ i. not (is_up n (length d.z) i (slice_index d.up i))) (n + length d.z))) ≡ None
+        → (length d.y ≡ n) × IsNested n (length d.z) d.up
+    by_tests true true ny nu off = (
+      grind (arith, nat_tests),
+      record {
+        entries = grind (arith, nat_tests);
+        later = λ i l. not_false (is_up n (length d.z) i (slice_index d.up i)) (none_below (λ j. not (is_up n (length d.z) j (slice_index d.up j))) (n + length d.z) off i l);
+      },
+    )
     by_tests true false ny nu off = absurd cc
     by_tests false b ny nu off = absurd cc
 
@@ -46,13 +49,16 @@ no_shape_fault n d ny nested =
     rw (first, second) rest
 
 pub yes_says : (g : Graph) (d : DualLists) (s : ℤ) → verdict g d ≡ Yes s → SaysYes g d × (s ≡ dual_sum d)
-yes_says g d s is = (record {
+yes_says g d s is = (
+  record {
     numbers = shape.0;
     nested = shape.1;
     odd = λ k l. not_false _ (none_below (λ j. not (is_odd_size (set_size g.n d j))) (length d.z) b.0 k l);
     positive = λ k l. high (z_at d k) (none_below (λ j. int_lt (z_at d j) (pos 0)) (length d.z) c.0 k l);
-    loaded = λ k l. not_above (load g.n d (edge_at g k)) (pos 2 *ℤ (edge_at g k).cost) (none_below (λ j. int_lt (pos 2 *ℤ (edge_at g j).cost) (load g.n d (edge_at g j))) (length g.edges) e.0 k l)
-  }, same e.1)
+    loaded = λ k l. not_above (load g.n d (edge_at g k)) (pos 2 *ℤ (edge_at g k).cost) (none_below (λ j. int_lt (pos 2 *ℤ (edge_at g j).cost) (load g.n d (edge_at g j))) (length g.edges) e.0 k l);
+  },
+  same e.1,
+)
   where
     last : Verdict
     last = Yes (dual_sum d)
@@ -117,8 +123,8 @@ nested_where_placed n m up None long is = record { entries = long; later = λ i 
 
 -- The refusal of the least edge whose load is too great.
 pub short_found : (g : Graph) (d : DualLists) (k : ℕ) (sum cost : ℤ) → k < length g.edges → ((j : ℕ) → j < k → int_lt (pos 2 *ℤ (edge_at g j).cost) (load g.n d (edge_at g j)) ≡ false)
-  → sum ≡ load g.n d (edge_at g k) → cost ≡ pos 2 *ℤ (edge_at g k).cost → int_lt cost sum ≡ true
-  → Short k sum cost ≡ refuse (short_fault g d) (λ k. Short k (load g.n d (edge_at g k)) (pos 2 *ℤ (edge_at g k).cost)) (Yes (dual_sum d))
+    → sum ≡ load g.n d (edge_at g k) → cost ≡ pos 2 *ℤ (edge_at g k).cost → int_lt cost sum ≡ true
+    → Short k sum cost ≡ refuse (short_fault g d) (λ k. Short k (load g.n d (edge_at g k)) (pos 2 *ℤ (edge_at g k).cost)) (Yes (dual_sum d))
 short_found g d k sum cost l before is twice above =
     let here : int_lt (pos 2 *ℤ (edge_at g k).cost) (load g.n d (edge_at g k)) ≡ true = rw (← is, ← twice) above in
     let found : short_fault g d ≡ Some k = least_some (λ j. int_lt (pos 2 *ℤ (edge_at g j).cost) (load g.n d (edge_at g j))) (length g.edges) k l before here in
@@ -126,14 +132,14 @@ short_found g d k sum cost l before is twice above =
 
 -- Yes, where no load is too great.
 pub none_short : (g : Graph) (d : DualLists) (sum : ℤ) → ((j : ℕ) → j < length g.edges → int_lt (pos 2 *ℤ (edge_at g j).cost) (load g.n d (edge_at g j)) ≡ false) → sum ≡ dual_sum d
-  → Yes sum ≡ refuse (short_fault g d) (λ k. Short k (load g.n d (edge_at g k)) (pos 2 *ℤ (edge_at g k).cost)) (Yes (dual_sum d))
+    → Yes sum ≡ refuse (short_fault g d) (λ k. Short k (load g.n d (edge_at g k)) (pos 2 *ℤ (edge_at g k).cost)) (Yes (dual_sum d))
 none_short g d sum off is =
     let none : short_fault g d ≡ None = least_none (λ j. int_lt (pos 2 *ℤ (edge_at g j).cost) (load g.n d (edge_at g j))) (length g.edges) off in
     rw (none, is) refl
 
 -- The verdict on a dual of the right shape.
 pub shaped_verdict : (g : Graph) (d : DualLists) → length d.y ≡ g.n → IsNested g.n (length d.z) d.up
-  → verdict g d ≡ refuse (even_fault g.n d) (λ k. Even k (set_size g.n d k)) (refuse (negative_fault d) (λ k. Negative k) (refuse (short_fault g d) (λ k. Short k (load g.n d (edge_at g k)) (pos 2 *ℤ (edge_at g k).cost)) (Yes (dual_sum d))))
+    → verdict g d ≡ refuse (even_fault g.n d) (λ k. Even k (set_size g.n d k)) (refuse (negative_fault d) (λ k. Negative k) (refuse (short_fault g d) (λ k. Short k (load g.n d (edge_at g k)) (pos 2 *ℤ (edge_at g k).cost)) (Yes (dual_sum d))))
 shaped_verdict g d numbers nested = let none : shape_fault g.n d ≡ None = no_shape_fault g.n d numbers nested in rw none refl
 
 -- The sets of unlawful sizes, by a table of the sizes.
@@ -142,6 +148,6 @@ even_by_sizes n d sizes are = rw are.count (least_same _ _ (length d.z) (λ k l.
 
 -- The same of an answer that may want memory.
 pub bound_where_exact : {E : Type 0} (g : Graph) (d : DualLists) → IsGraph g → (r : Result Verdict E) → IfOk r (λ v. v ≡ verdict g d)
-  → IfOk r (λ v. (sum : ℤ) → v ≡ Yes sum → (m : List ℕ) → IsPerfect g m → sum ≤ℤ (pos 2 *ℤ matching_cost g m))
+    → IfOk r (λ v. (sum : ℤ) → v ≡ Yes sum → (m : List ℕ) → IsPerfect g m → sum ≤ℤ (pos 2 *ℤ matching_cost g m))
 bound_where_exact g d is (Ok v) value = yes_bounds g d v is value
 bound_where_exact g d is (Err e) value = tt

@@ -1,5 +1,5 @@
 -- Weak duality: where a dual says yes, each perfect matching has twice its cost at least the dual's sum.
-use Rattle.std.proofs.Common.{◌≡◌, ℕ, zero, suc, ◌+◌, ◌*◌, ◌%◌, ◌<◌, ◌≤◌, Bool, true, false, not, cond, List, [], ◌∷◌, map, length, get_or, ℤ, pos, ◌+ℤ◌, ◌*ℤ◌, ◌≤ℤ◌, refl, sym, ◌∙◌, arith}
+use Rattle.std.proofs.Common.{◌≡◌, ℕ, ◌+◌, ◌*◌, ◌%◌, ◌<◌, ◌≤◌, Bool, true, false, not, cond, List, [], ◌∷◌, map, length, ℤ, pos, ◌+ℤ◌, ◌*ℤ◌, ◌≤ℤ◌, refl, arith}
 use Rattle.std.proofs.lemmas.Int.{ints}
 use Rattle.std.proofs.lemmas.Bool.Decides.{nat_tests}
 use Rattle.qm_laws.specs.Counts.{count, count_below}
@@ -7,10 +7,10 @@ use Rattle.qm_laws.specs.Sums.{total, total_below}
 use Rattle.qm_laws.proofs.Counts.{count_below_total}
 use Rattle.qm_laws.proofs.Ends.{EndsBelow, ends_once}
 use Rattle.qm_laws.proofs.Entries.{total_entries}
-use Rattle.qm_laws.proofs.Sums.{total_sum, total_below_same, total_below_sum, total_below_le, two_orders}
+use Rattle.qm_laws.proofs.Sums.{total_sum, total_below_le, two_orders}
 use Rattle.def_flow.specs.declared.weighted.WEdge.{WEdge}
 use Rattle.def_flow.specs.Matching.{Graph, IsGraph, edge_at, ends_at, IsRising, IsPerfect, matching_cost}
-use Rattle.def_flow.specs.Dual.{DualLists, IsNested, SaysYes, holds, set_size, is_odd_size, crosses, load, y_at, z_at, dual_sum}
+use Rattle.def_flow.specs.Dual.{DualLists, SaysYes, holds, set_size, is_odd_size, crosses, load, y_at, z_at, dual_sum}
 
 -- The edges of rising numbers have their ends among the vertices.
 pub chosen_below : (g : Graph) → IsGraph g → (low : ℕ) (m : List ℕ) → IsRising low (length g.edges) m → EndsBelow (λ (e : WEdge). e.u) (λ (e : WEdge). e.v) g.n (map (edge_at g) m)
@@ -59,7 +59,7 @@ at_least_once s z (e ∷ es) high some = by_test (crosses s e) some (at_least_on
 
 -- An odd set has a leaving edge in each perfect matching.
 pub odd_leaves : (s : ℕ → Bool) (n : ℕ) (es : List WEdge) → EndsBelow (λ (e : WEdge). e.u) (λ (e : WEdge). e.v) n es → ((v : ℕ) → v < n → count (ends_at v) es ≡ 1)
-  → count_below (λ v. cond (s v) 1 0) n % 2 ≡ 1 → 1 ≤ count (leaving s) es
+    → count_below (λ v. cond (s v) 1 0) n % 2 ≡ 1 → 1 ≤ count (leaving s) es
 odd_leaves s n es below once odd =
     let held : total (λ (e : WEdge). pos (cond (s e.u) 1 0) +ℤ pos (cond (s e.v) 1 0)) es ≡ total_below (λ v. pos (cond (s v) 1 0)) n = ends_once (λ (e : WEdge). e.u) (λ (e : WEdge). e.v) (λ v. pos (cond (s v) 1 0)) n es below once in
     let size : pos (count_below (λ v. cond (s v) 1 0) n) ≡ total_below (λ v. pos (cond (s v) 1 0)) n = count_below_total (λ v. cond (s v) 1 0) n in
@@ -80,7 +80,7 @@ weak_duality g d is says m perfect =
     let ys : total (λ (e : WEdge). y_at d e.u +ℤ y_at d e.v) es ≡ total_below (y_at d) g.n = ends_once (λ (e : WEdge). e.u) (λ (e : WEdge). e.v) (y_at d) g.n es below perfect.once in
     let swap : total (λ (e : WEdge). total_below (λ k. sets k e) (length d.z)) es ≡ total_below (λ k. total (sets k) es) (length d.z) = two_orders sets (length d.z) es in
     let zs : total_below (z_at d) (length d.z) ≤ℤ total_below (λ k. total (sets k) es) (length d.z) =
-        total_below_le (z_at d) (λ k. total (sets k) es) (length d.z) (λ k l. at_least_once (holds g.n d k) (z_at d k) es (says.positive k l) (odd_leaves (holds g.n d k) g.n es below perfect.once (odd_size (set_size g.n d k) (says.odd k l)))) in
+    total_below_le (z_at d) (λ k. total (sets k) es) (length d.z) (λ k l. at_least_once (holds g.n d k) (z_at d k) es (says.positive k l) (odd_leaves (holds g.n d k) g.n es below perfect.once (odd_size (set_size g.n d k) (says.odd k l)))) in
     let all_y : total (λ y. y) d.y ≡ total_below (y_at d) (length d.y) = total_entries (λ y. y) (pos 0) d.y in
     let all_z : total (λ z. z) d.z ≡ total_below (z_at d) (length d.z) = total_entries (λ z. z) (pos 0) d.z in
     let all_n : total_below (y_at d) (length d.y) ≡ total_below (y_at d) g.n = rw says.numbers refl in

@@ -39,8 +39,8 @@ pub record AreSums (n : ℕ) (d : DualLists) (k : ℕ) (sums : List ℤ) : Type 
 -- Set k heads its path, or lies on the path of the set around it, as the one that this set picks.
 abbrev pub IsHead : ℕ → List ℕ → (ℕ → ℕ) → List ℕ → ℕ → Type 0
 IsHead n up picks heads k =
-  (slice_index heads k ≡ suc k)
-  ⊎ ((q : ℕ) × (slice_index up (n + k) ≡ suc q) × (slice_index heads k ≡ slice_index heads q) × (picks q ≡ suc k))
+    (slice_index heads k ≡ suc k)
+    ⊎ ((q : ℕ) × (slice_index up (n + k) ≡ suc q) × (slice_index heads k ≡ slice_index heads q) × (picks q ≡ suc k))
 
 -- The sets fall into paths, and each set's entry names the head of its path. A set picks at most one inside it.
 pub record AreHeads (n m : ℕ) (up heads : List ℕ) : Type 0 where

@@ -7,5 +7,7 @@ mod nest;
 mod paths;
 mod sizes;
 mod sums;
+#[cfg(test)]
+mod tests;
 
 pub use judge::{Memory, dual_ok};

@@ -25,10 +25,16 @@ pub(crate) fn judge_loads(g: &WGraph, d: &Dual, sums: &[i128], heads: &[u32]) ->
         let load = load_of(g.n, d, sums, heads, edge);
         let cost = 2 * i128::from(edge.cost);
         if load > cost {
-            return Verdict::Short { edge: k as u32, load, cost };
+            return Verdict::Short {
+                edge: k as u32,
+                load,
+                cost,
+            };
         }
     }
-    Verdict::Yes { sum: sum_of_dual(d) }
+    Verdict::Yes {
+        sum: sum_of_dual(d),
+    }
 }
 
 /// The load of an edge. Logarithmic in the number of vertices.

@@ -79,7 +79,11 @@ pub(crate) fn meeting(n: u32, d: &Dual, heads: &[u32], a: u32, b: u32) -> u32
     while first != 0 && second != 0 && heads[first as usize - 1] != heads[second as usize - 1] {
         (first, second) = leave_path(n, d, heads, first, second);
     }
-    if first == 0 || second == 0 { 0 } else { first.max(second) }
+    if first == 0 || second == 0 {
+        0
+    } else {
+        first.max(second)
+    }
 }
 
 /// Two entries, of which the one with the lower head has left its path.

@@ -15,9 +15,9 @@ pub returns-then-size-ne1-clause-least : goal.returns-then-size-ne1-clause-least
 returns-then-size-ne1-clause-least c =
     let size : ℕ = slice_index c.args.sizes.now c.loop-k.k in
     let off : not (is_odd_size size) ≡ true = elim c.then-size-ne1.branch [
-        then-size-ne1-via-then-size-ne1 w ↦ even size (λ e. w.if-size-ne1.true e)
+      | then-size-ne1-via-then-size-ne1 w ↦ even size (λ e. w.if-size-ne1.true e)
       | then-size-ne1-via-else-size-ne1+then-size-lt3 w ↦ low size (omega arith)
-      ] in
+    ] in
     sym (least_some (λ k. not (is_odd_size (slice_index c.args.sizes.now k))) (length c.args.sizes.now) c.loop-k.k c.loop-k-test.true c.loop-k.invariant off)
 
 pub returns-clause-least : goal.returns-clause-least

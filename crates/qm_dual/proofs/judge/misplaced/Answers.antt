@@ -1,4 +1,4 @@
-use Rattle.std.proofs.Common.{◌≡◌, ℕ, ◌+◌, ◌<◌, not, true, sym, ◌∙◌, ap, arith, slice_index}
+use Rattle.std.proofs.Common.{◌≡◌, ◌+◌, not, true, sym, ◌∙◌, ap, arith, slice_index}
 use Rattle.qm_laws.proofs.Searches.{least_none, least_some}
 use Rattle.def_flow.specs.Dual.{is_up}
 use Rattle.qm_dual.proofs.judge.misplaced.Goals as goal

@@ -1,4 +1,4 @@
-use Rattle.std.proofs.Common.{length, sym, ◌∙◌, rules, arith}
+use Rattle.std.proofs.Common.{length, rules, arith}
 use Rattle.qm_dual.proofs.Verdicts.{nested_where_placed}
 use Rattle.qm_dual.proofs.judge.misshapen.Goals as goal
 

@@ -1,4 +1,4 @@
-use Rattle.std.proofs.Common.{◌≡◌, ℤ, pos, true, sym, length, slice_index_or, int_lt, FitsSigned, arith, rules}
+use Rattle.std.proofs.Common.{◌≡◌, pos, true, sym, length, slice_index_or, int_lt, FitsSigned, arith, rules}
 use Rattle.std.proofs.lemmas.Int.{ints}
 use mir.Syntax.{w64}
 use Rattle.qm_laws.proofs.Searches.{least_none, least_some}

@@ -1,25 +1,30 @@
-use Rattle.std.proofs.Common.{◌≡◌, ◌+◌, ◌*◌, ◌^◌, ◌≤◌, length, ℤ, ◌+ℤ◌, ◌-ℤ◌, unsigned_abs, ◌∙◌, ap, arith}
+use Rattle.std.proofs.Common.{◌*◌, ◌^◌, ◌≤◌, unsigned_abs, ◌∙◌, ap, arith}
 use Rattle.std.proofs.lemmas.Int.{ints}
 use Rattle.def_flow.specs.Dual.{dual}
-use Rattle.qm_dual.specs.Nest.{around, apart}
 use Rattle.qm_dual.proofs.Gathered.{named_small, apart_sums, plain_difference, abs_difference}
 use Rattle.qm_dual.proofs.loads.crossing_sum.Goals as goal
 
 pub overflow_add-result : goal.overflow_add-result
 overflow_add-result c =
-    omega (arith, ints,
+    omega (
+      arith,
+      ints,
       named_small c.args.n (dual c.args.d.now) c.args.sums.now c.requires.summed c.requires.small c.args.a c.requires.first,
-      named_small c.args.n (dual c.args.d.now) c.args.sums.now c.requires.summed c.requires.small c.args.b c.requires.second)
+      named_small c.args.n (dual c.args.d.now) c.args.sums.now c.requires.summed c.requires.small c.args.b c.requires.second,
+    )
 
 pub overflow_add-result-2 : goal.overflow_add-result-2
 overflow_add-result-2 c = omega (arith, ints, named_small c.args.n (dual c.args.d.now) c.args.sums.now c.requires.summed c.requires.small c.meeting.result c.meeting.ensures.low)
 
 pub overflow_sub-result : goal.overflow_sub-result
 overflow_sub-result c =
-    omega (arith, ints,
+    omega (
+      arith,
+      ints,
       named_small c.args.n (dual c.args.d.now) c.args.sums.now c.requires.summed c.requires.small c.args.a c.requires.first,
       named_small c.args.n (dual c.args.d.now) c.args.sums.now c.requires.summed c.requires.small c.args.b c.requires.second,
-      named_small c.args.n (dual c.args.d.now) c.args.sums.now c.requires.summed c.requires.small c.meeting.result c.meeting.ensures.low)
+      named_small c.args.n (dual c.args.d.now) c.args.sums.now c.requires.summed c.requires.small c.meeting.result c.meeting.ensures.low,
+    )
 
 pub returns-clause-value : goal.returns-clause-value
 returns-clause-value c =

@@ -1,4 +1,4 @@
-use Rattle.std.proofs.Common.{◌≡◌, ℕ, ◌+◌, ◌^◌, ◌<◌, true, false, length, ℤ, pos, ◌*ℤ◌, int_lt, slice_index_or, ◌∙◌, sym, ap, FitsSigned, below_more, rules, arith}
+use Rattle.std.proofs.Common.{◌≡◌, ◌^◌, ◌<◌, length, ℤ, pos, ◌*ℤ◌, slice_index_or, ◌∙◌, ap, FitsSigned, below_more, rules, arith}
 use Rattle.std.proofs.lemmas.Int.{ints, to_z-of_z}
 use mir.Syntax.{w64, w128}
 use mir.Val.{to_z, of_z}

@@ -6,9 +6,11 @@ use Rattle.qm_dual.proofs.sizes.pass_up.Goals as goal
 
 pub add-requires-clause-fits : goal.add-requires-clause-fits
 add-requires-clause-fits c =
-    omega (arith,
+    omega (
+      arith,
       tallies_low c.args.n (length c.args.d.now.z.items) c.args.d.now.up.items c.args.n (λ j. min j c.loop-k.k) c.loop-k.sizes c.loop-k.invariant (c.set_around_set.result - 1),
-      tallies_low c.args.n (length c.args.d.now.z.items) c.args.d.now.up.items c.args.n (λ j. min j c.loop-k.k) c.loop-k.sizes c.loop-k.invariant c.loop-k.k)
+      tallies_low c.args.n (length c.args.d.now.z.items) c.args.d.now.up.items c.args.n (λ j. min j c.loop-k.k) c.loop-k.sizes c.loop-k.invariant c.loop-k.k,
+    )
 
 pub loop-k-preserved : goal.loop-k-preserved
 loop-k-preserved c =

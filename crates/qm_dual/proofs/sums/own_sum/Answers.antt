@@ -1,4 +1,4 @@
-use Rattle.std.proofs.Common.{◌≡◌, ◌+◌, ◌*◌, ◌^◌, ◌<◌, ◌≤◌, suc, length, ℤ, pos, ◌+ℤ◌, unsigned_abs, slice_index, slice_index_or, ◌∙◌, sym, ap, add-one, arith}
+use Rattle.std.proofs.Common.{◌≡◌, ◌+◌, ◌^◌, ◌<◌, pos, ◌+ℤ◌, unsigned_abs, slice_index, slice_index_or, ◌∙◌, ap, add-one, arith}
 use Rattle.std.proofs.lemmas.Int.{ints}
 use Rattle.std.proofs.lemmas.List.{get_or_read}
 use Rattle.def_flow.specs.Dual.{dual, z_at}
@@ -20,5 +20,5 @@ returns c =
     let outer : c.sum_of.result ≡ around c.args.n (dual c.args.d.now) c.set_around_set.result = c.sum_of.ensures ∙ named_later c.args.n (dual c.args.d.now) c.args.k c.args.sums.now c.requires.summed c.set_around_set.result c.set_around_set.ensures.later in
     let same : around c.args.n (dual c.args.d.now) c.set_around_set.result ≡ around c.args.n (dual c.args.d.now) (slice_index c.args.d.now.up.items (c.args.n + c.args.k)) = ap (around c.args.n (dual c.args.d.now)) c.set_around_set.ensures.value in
     let step : around c.args.n (dual c.args.d.now) (c.args.k + 1) ≡ z_at (dual c.args.d.now) c.args.k +ℤ around c.args.n (dual c.args.d.now) (slice_index c.args.d.now.up.items (c.args.n + c.args.k)) =
-        ap (around c.args.n (dual c.args.d.now)) (add-one c.args.k) ∙ around_step c.args.n (dual c.args.d.now) c.requires.nested c.args.k c.requires.inner in
+    ap (around c.args.n (dual c.args.d.now)) (add-one c.args.k) ∙ around_step c.args.n (dual c.args.d.now) c.requires.nested c.args.k c.requires.inner in
     omega (arith, ints, own, small, outer, same, step, around_small c.args.n (dual c.args.d.now) c.requires.small c.set_around_set.result)

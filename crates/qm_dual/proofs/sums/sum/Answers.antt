@@ -1,4 +1,4 @@
-use Rattle.std.proofs.Common.{◌≡◌, ◌+◌, ◌^◌, ◌<◌, ℤ, pos, ◌+ℤ◌, unsigned_abs, take, get_or, slice_index_or, arith}
+use Rattle.std.proofs.Common.{◌≡◌, ◌+◌, ◌^◌, ◌<◌, ℤ, pos, ◌+ℤ◌, unsigned_abs, take, get_or, arith}
 use Rattle.std.proofs.lemmas.Int.{ints}
 use Rattle.qm_laws.specs.Sums.{total}
 use Rattle.qm_laws.proofs.Entries.{total_take}

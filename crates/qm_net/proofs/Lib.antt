@@ -1,0 +1,2 @@
+mod Balances
+mod Within
