@@ -13,10 +13,15 @@ pub record Logical : Type 0 where
   pub size : ℕ
   pub text : List ℕ
 
--- The first word is this one letter.
+-- A word of this one letter.
+abbrev pub is_letter : ℕ → List ℕ → Bool
+is_letter letter (byte ∷ []) = byte == letter
+is_letter letter _ = false
+
+-- The first word is this letter.
 abbrev pub begins_with : ℕ → List (List ℕ) → Bool
-begins_with letter ((byte ∷ []) ∷ _) = byte == letter
-begins_with letter _ = false
+begins_with letter [] = false
+begins_with letter (word ∷ _) = is_letter letter word
 
 -- `v` lines (118) and `f` lines (102).
 abbrev pub is_vertex_line : Logical → Bool
@@ -93,8 +98,8 @@ face_reading line vertices faces words =
 abbrev pub words_reading : ℕ → ℕ → ℕ → List (List ℕ) → Reading
 words_reading line vertices faces [] = Passed
 words_reading line vertices faces (word ∷ rest) =
-    if begins_with 118 (word ∷ rest) then vertex_reading line vertices rest
-    else (if begins_with 102 (word ∷ rest) then face_reading line vertices faces rest else Passed)
+    if is_letter 118 word then vertex_reading line vertices rest
+    else (if is_letter 102 word then face_reading line vertices faces rest else Passed)
 
 -- The first byte is `#` (35).
 abbrev pub is_comment : List ℕ → Bool

@@ -1,5 +1,5 @@
 -- Laws of counts.
-use Rattle.std.proofs.Common.{◌≡◌, ℕ, zero, suc, ◌+◌, ◌<◌, ◌≤◌, List, [], ◌∷◌, ◌++◌, map, pos, refl, sym, ap, inl, inr, arith}
+use Rattle.std.proofs.Common.{◌≡◌, ℕ, zero, suc, ◌+◌, ◌*◌, ◌<◌, ◌≤◌, List, [], ◌∷◌, ◌++◌, map, pos, refl, sym, ap, inl, inr, mul-zero, mul-add, arith}
 use Rattle.std.proofs.lemmas.Int.{ints}
 use Rattle.std.proofs.lemmas.Bool.{cases_eq}
 use Rattle.qm_laws.specs.Sums.{total, total_below}
@@ -75,3 +75,26 @@ count_below_lt f g (suc n) u l le lt = elim (cases_eq u n) [ inl e ↦ at_end e 
 pub count_below_front : (f : ℕ → ℕ) (n : ℕ) → count_below f (suc n) ≡ f 0 + count_below (λ k. f (suc k)) n
 count_below_front f zero = omega arith
 count_below_front f (suc n) = omega (arith, count_below_front f n)
+
+-- One term alone counts.
+pub count_below_one : (f : ℕ → ℕ) (n u : ℕ) → u < n → ((k : ℕ) → k < n → (k ≡ u → ⊥) → f k ≡ 0) → count_below f n ≡ f u
+count_below_one f zero u l other = absurd (omega arith)
+count_below_one f (suc n) u l other = elim (cases_eq u n) [ inl e ↦ at_end e | inr ne ↦ before ne (count_below_one f n) ]
+  where
+    at_end : u ≡ n → count_below f (suc n) ≡ f u
+    at_end e =
+        let none : count_below f n ≡ 0 = count_below_none f n (λ k lk. other k (omega arith) (λ ek. omega arith)) in
+        let here : f n ≡ f u = ap f (sym e) in
+        omega (arith, none, here)
+
+    before : (u ≡ n → ⊥) → ((v : ℕ) → v < n → ((k : ℕ) → k < n → (k ≡ v → ⊥) → f k ≡ 0) → count_below f n ≡ f v) → count_below f (suc n) ≡ f u
+    before ne rest =
+        let lower : u < n = omega arith in
+        let ih : count_below f n ≡ f u = rest u lower (λ k lk nk. other k (omega arith) nk) in
+        let end : f n ≡ 0 = other n (omega arith) (λ en. ne (sym en)) in
+        omega (arith, ih, end)
+
+-- A factor comes out of a count.
+pub count_below_times : (c : ℕ) (f : ℕ → ℕ) (n : ℕ) → count_below (λ k. c * f k) n ≡ c * count_below f n
+count_below_times c f zero = omega (arith, mul-zero c)
+count_below_times c f (suc n) = omega (arith, count_below_times c f n, mul-add c (count_below f n) (f n))

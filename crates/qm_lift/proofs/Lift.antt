@@ -29,7 +29,7 @@ abs_convex x c d (inl (low, high)) = omega (arith, ints)
 abs_convex x c d (inr (low, high)) = omega (arith, ints)
 
 -- The deviation of an arc is convex.
-arc_convex : (net : Network) (a : Arc) (x other c : ℤ) → IsPart c (other -ℤ x) → arc_deviation net a (x +ℤ c) + arc_deviation net a (other -ℤ c) ≤ arc_deviation net a x + arc_deviation net a other
+pub arc_convex : (net : Network) (a : Arc) (x other c : ℤ) → IsPart c (other -ℤ x) → arc_deviation net a (x +ℤ c) + arc_deviation net a (other -ℤ c) ≤ arc_deviation net a x + arc_deviation net a other
 arc_convex net a x other c part = omega (arith, mul-le-mul_left a.weight shifted, mul-add a.weight (unsigned_abs ((pos net.q *ℤ (x +ℤ c)) -ℤ t)) (unsigned_abs ((pos net.q *ℤ (other -ℤ c)) -ℤ t)), mul-add a.weight (unsigned_abs ((pos net.q *ℤ x) -ℤ t)) (unsigned_abs ((pos net.q *ℤ other) -ℤ t)))
   where
     t : ℤ

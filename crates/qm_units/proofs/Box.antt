@@ -29,7 +29,7 @@ own_box net step (x ∷ xs) = (omega arith, sym (low_is net step x), own_box net
 abbrev pub arc_active : ℕ → Bool → Arc → ℕ
 arc_active v on a = count (λ e. cond ((e.node == v) && is_active on e) 1 0) (ends a)
 
-units_length : (net : Network) (step : ℕ) (a : Arc) (x k n : ℕ) → length (units_from net step a x k n) ≡ n
+pub units_length : (net : Network) (step : ℕ) (a : Arc) (x k n : ℕ) → length (units_from net step a x k n) ≡ n
 units_length net step a x k zero = refl
 units_length net step a x k (suc n) = omega (arith, units_length net step a x (k + 1) n)
 
@@ -80,7 +80,7 @@ abbrev pub weighted_ends : ℕ → Bool → List Arc → List ℕ → ℕ
 weighted_ends v on (a ∷ arcs) (j ∷ js) = j * arc_active v on a + weighted_ends v on arcs js
 weighted_ends v on _ _ = 0
 
-box_active : (net : Network) (step v : ℕ) (arcs : List Arc) (xs js ys : List ℕ) → length xs ≡ length arcs → IsInBox net step xs js ys → active v (units net step arcs xs) (states net step xs js) + weighted_ends v false arcs js ≡ weighted_ends v true arcs js + weighted_ends v false arcs (map (cap net step) xs)
+pub box_active : (net : Network) (step v : ℕ) (arcs : List Arc) (xs js ys : List ℕ) → length xs ≡ length arcs → IsInBox net step xs js ys → active v (units net step arcs xs) (states net step xs js) + weighted_ends v false arcs js ≡ weighted_ends v true arcs js + weighted_ends v false arcs (map (cap net step) xs)
 box_active net step v [] [] [] [] l box = refl
 box_active net step v (a ∷ arcs) [] js ys l box = absurd (omega arith)
 box_active net step v [] (x ∷ xs) js ys l box = absurd (omega arith)
@@ -103,7 +103,7 @@ scaled l j s a =
     let turned : j * s * a ≡ s * (j * a) = ap (λ n. n * a) (mul_comm j s) ∙ mul_assoc s j a in
     omega (arith, add-mul l (j * s) a, turned)
 
-box_ends : (net : Network) (step v : ℕ) (on : Bool) (arcs : List Arc) (xs js ys : List ℕ) → length xs ≡ length arcs → IsInBox net step xs js ys → weighted_ends v on arcs ys ≡ weighted_ends v on arcs (lows net step xs) + step * weighted_ends v on arcs js
+pub box_ends : (net : Network) (step v : ℕ) (on : Bool) (arcs : List Arc) (xs js ys : List ℕ) → length xs ≡ length arcs → IsInBox net step xs js ys → weighted_ends v on arcs ys ≡ weighted_ends v on arcs (lows net step xs) + step * weighted_ends v on arcs js
 box_ends net step v on [] [] [] [] l box = omega (arith, mul_comm step 0, zero-mul step)
 box_ends net step v on (a ∷ arcs) [] js ys l box = absurd (omega arith)
 box_ends net step v on [] (x ∷ xs) js ys l box = absurd (omega arith)

@@ -5,16 +5,12 @@ use Rattle.qm_laws.specs.Sums.{total, span}
 use Rattle.qm_laws.specs.Counts.{count}
 use Rattle.def_flow.specs.MatchingGraph.{link, link_from, rim_links}
 use Rattle.def_flow.specs.declared.weighted.WEdge.{WEdge}
-use Rattle.qm_units.specs.Marks.{differ, mark_from, rim_marks}
+use Rattle.qm_units.specs.Marks.{trues, differ, mark_from, rim_marks}
 use Rattle.qm_units.proofs.Pick.{picked}
 
 -- What an edge weighs: the weights of its ends.
 abbrev pub at_ends : (ℕ → ℤ) → WEdge → ℤ
 at_ends w e = w e.u +ℤ w e.v
-
--- How many marks there are.
-abbrev pub trues : List Bool → ℕ
-trues ms = count (λ m. cond m 1 0) ms
 
 -- How many fresh vertices the rim has.
 abbrev pub pairs : ℕ → ℕ

@@ -49,7 +49,7 @@ units_lawful n nodes room b [] at le lt = tt
 units_lawful n nodes room b (u ∷ us) at le lt = links_append n (unit_links room b u) (units_links room (b + unit_size u) us) (unit_lawful n nodes room b u.cost u.left u.right at.0 le (omega arith)) (units_lawful n nodes room (b + unit_size u) us at.1 (omega arith) (omega arith))
 
 -- Numbers below a bound.
-abbrev AreBelow : ℕ → List ℕ → Type 0
+abbrev pub AreBelow : ℕ → List ℕ → Type 0
 AreBelow m [] = Unit {0}
 AreBelow m (r ∷ rs) = (r < m) × AreBelow m rs
 
@@ -62,7 +62,7 @@ rim_below b m (u ∷ us) le = by_right u.right le (rim_below (b + unit_size u) m
     by_right (Some right) h rest = rest
 
 -- The vertex before, if there is one, is past those of the units.
-abbrev IsPast : ℕ → ℕ → Option ℕ → Type 0
+abbrev pub IsPast : ℕ → ℕ → Option ℕ → Type 0
 IsPast m fresh None = Unit {0}
 IsPast m fresh (Some b) = (m ≤ b) × (b < fresh)
 

@@ -121,7 +121,7 @@ pick_unit f room used b c on left (Some right) free = by_alike (are_alike left r
     )
 
 -- The signs decide which ends are active together.
-alike_active : (on : Bool) (left right : End) → are_alike left right ≡ true → is_active on left ≡ is_active on right
+pub alike_active : (on : Bool) (left right : End) → are_alike left right ≡ true → is_active on left ≡ is_active on right
 alike_active on left right = by_signs on left.plus right.plus
   where
     by_signs : (o a b : Bool) → cond a b (not b) ≡ true → cond a o (not o) ≡ cond b o (not o)
@@ -130,7 +130,7 @@ alike_active on left right = by_signs on left.plus right.plus
     by_signs o false true e = absurd (true≢false (sym e))
     by_signs o false false e = refl
 
-unlike_active : (on : Bool) (left right : End) → are_alike left right ≡ false → is_active on left ≡ not (is_active on right)
+pub unlike_active : (on : Bool) (left right : End) → are_alike left right ≡ false → is_active on left ≡ not (is_active on right)
 unlike_active on left right = by_signs on left.plus right.plus
   where
     by_signs : (o a b : Bool) → cond a b (not b) ≡ false → cond a o (not o) ≡ not (cond b o (not o))

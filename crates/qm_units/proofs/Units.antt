@@ -9,9 +9,9 @@ use Rattle.def_flow.specs.MatchingGraph.{are_alike, links_by, size_by, unit_size
 use Rattle.def_flow.specs.declared.net.End.{End}
 use Rattle.def_flow.specs.declared.units.ArcUnit.{ArcUnit}
 use Rattle.def_flow.specs.declared.weighted.WEdge.{WEdge}
-use Rattle.qm_units.specs.Marks.{marks_by, units_marks, with_state, rim_states}
+use Rattle.qm_units.specs.Marks.{trues, marks_by, units_marks, with_state, rim_states}
 use Rattle.qm_units.proofs.Pick.{picked, pick_append}
-use Rattle.qm_units.proofs.Chain.{at_ends, trues}
+use Rattle.qm_units.proofs.Chain.{at_ends}
 use Rattle.qm_units.proofs.Unit.{AreNodes, ends_active, held, held_same, own, unit_weight, unit_cost, unit_length}
 
 -- The ends of all units are at nodes.

@@ -11,9 +11,9 @@ use Rattle.def_flow.specs.Units.{active, rim_active, cost_on}
 use Rattle.def_flow.specs.MatchingGraph.{unit_size, units_links, rim, rim_links, first_fresh, lone_vertex, graph_by}
 use Rattle.def_flow.specs.declared.units.ArcUnit.{ArcUnit}
 use Rattle.def_flow.specs.declared.weighted.WEdge.{WEdge}
-use Rattle.qm_units.specs.Marks.{chosen, places, units_marks, rim_marks, rim_states, states_marks}
+use Rattle.qm_units.specs.Marks.{trues, chosen, places, units_marks, rim_marks, rim_states, states_marks}
 use Rattle.qm_units.proofs.Pick.{picked, pick_append, picked_chosen, places_rise, at_places}
-use Rattle.qm_units.proofs.Chain.{at_ends, trues, pairs, IsThere, waiting, chain_sum, picked_free, rim_free, rim_length}
+use Rattle.qm_units.proofs.Chain.{at_ends, pairs, IsThere, waiting, chain_sum, picked_free, rim_free, rim_length}
 use Rattle.qm_units.proofs.Unit.{held, held_same}
 use Rattle.qm_units.proofs.Units.{UnitsAt, units_weight, units_cost, units_length, states_length, rim_trues}
 

@@ -1,9 +1,14 @@
 -- The perfect matching that states of the units tell: a mark for each edge of the graph.
 use Rattle.std.specs.Prelude.{ℕ, zero, suc, ◌+◌, ◌%◌, Bool, true, false, cond, not, ◌&&◌, ◌==◌, List, [], ◌∷◌, ◌++◌, Option, Some, None}
+use Rattle.qm_laws.specs.Counts.{count}
 use Rattle.def_flow.specs.Units.{is_active, active, active_at, rim_active}
 use Rattle.def_flow.specs.MatchingGraph.{are_alike, first_fresh, lone_vertex}
 use Rattle.def_flow.specs.declared.net.End.{End}
 use Rattle.def_flow.specs.declared.units.ArcUnit.{ArcUnit}
+
+-- How many marks there are.
+abbrev pub trues : List Bool → ℕ
+trues ms = count (λ m. cond m 1 0) ms
 
 -- Marks for n edges: the one at place i, if any.
 abbrev pub choice : Bool → ℕ → ℕ → List Bool

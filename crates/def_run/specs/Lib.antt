@@ -1,0 +1,4 @@
+pub mod Causes
+pub mod CommandLines
+pub mod ErrorLines
+pub mod Status

@@ -1,0 +1,16 @@
+-- The exit status of each answer.
+use Rattle.std.specs.Prelude.{ℕ}
+use Rattle.def_run.specs.declared.answer.Answer.{Answer}
+use Rattle.def_run.specs.declared.answer.Answer.TheVariants.{Done, Usage, Syntax, NotQuad, Range, Limit, NotManifold, ReadFault, WriteFault, Memory}
+
+abbrev pub status_of : Answer → ℕ
+status_of Done = 0
+status_of Usage = 2
+status_of (Syntax line) = 3
+status_of (NotQuad line corners) = 4
+status_of (Range line) = 5
+status_of (Limit which line) = 6
+status_of (NotManifold place) = 7
+status_of ReadFault = 12
+status_of WriteFault = 13
+status_of Memory = 14

@@ -1,0 +1,50 @@
+ghost use Rattle.std.specs.Prelude.{◌≡◌};
+ghost use Rattle.def_run.specs.Status.{status_of};
+
+use def_text::Which;
+
+/// Where a list of faces fails to be a manifold. Faces and vertices are numbered from 0, as in the soup.
+#[derive(Clone, Copy, Debug, PartialEq, Eq)]
+pub enum Place {
+    /// The face names the vertex twice.
+    Repeated { face: u32, vertex: u32 },
+    /// Both faces run along one edge in the same direction.
+    EdgeTwice { from: u32, to: u32, face1: u32, face2: u32 },
+    /// The faces at the vertex form more than one fan.
+    TwoFans { vertex: u32 },
+}
+
+/// How a run ended. Lines count from 1.
+#[derive(Clone, Copy, Debug, PartialEq, Eq)]
+pub enum Answer {
+    Done,
+    Usage,
+    Syntax { line: u32 },
+    NotQuad { line: u32, corners: u32 },
+    Range { line: u32 },
+    Limit { which: Which, line: u32 },
+    NotManifold { place: Place },
+    ReadFault,
+    WriteFault,
+    Memory,
+}
+
+impl Answer {
+    /// The exit status of the program.
+    pub fn status(&self) -> u8
+        ensures { result ≡ status_of self.now }
+    {
+        match self {
+            Answer::Done => 0,
+            Answer::Usage => 2,
+            Answer::Syntax { .. } => 3,
+            Answer::NotQuad { .. } => 4,
+            Answer::Range { .. } => 5,
+            Answer::Limit { .. } => 6,
+            Answer::NotManifold { .. } => 7,
+            Answer::ReadFault => 12,
+            Answer::WriteFault => 13,
+            Answer::Memory => 14,
+        }
+    }
+}

@@ -1,0 +1,54 @@
+-- Filters of a range: what stands at each place, that each number that passes has one, and that they rise.
+use Rattle.std.proofs.Common.{◌≡◌, ℕ, zero, suc, ◌+◌, ◌<◌, ◌≤◌, Bool, true, false, cond, List, [], ◌∷◌, ◌++◌, length, get_or, Option, Some, None, sym, subst, ap, ◌∙◌, refl, arith}
+use Rattle.std.proofs.Common.{inl, inr}
+use Rattle.std.proofs.lemmas.Bool.{both_ways, cases_eq}
+use Rattle.std.specs.List.{filter, range_with_len}
+use Rattle.std.proofs.lemmas.List.FromFn.{map-range_with_len_more}
+use Rattle.std.proofs.lemmas.List.{map-id}
+use Rattle.std.proofs.lemmas.List.Elements.{filter-append}
+
+-- x is one of the n numbers from a on, and passes
+pub record IsKept (p : ℕ → Bool) (a n x : ℕ) : Type 0 where
+  pub low : a ≤ x
+  pub high : x < a + n
+  pub passes : p x ≡ true
+
+later : (p : ℕ → Bool) (a n x : ℕ) → IsKept p (a + 1) n x → IsKept p a (suc n) x
+later p a n x k = record { low = omega arith; high = omega arith; passes = k.passes }
+
+-- each place of the filter has a number that passes
+pub kept_at : (p : ℕ → Bool) (a n t : ℕ) → t < length (filter p (range_with_len a n)) → IsKept p a n (get_or (filter p (range_with_len a n)) t 0)
+kept_at p a zero t l = absurd (omega arith)
+kept_at p a (suc n) t l = at (p a) refl (filter p (range_with_len (a + 1) n)) (λ s m. later p a n _ (kept_at p (a + 1) n s m)) t l
+  where
+    at : (b : Bool) → p a ≡ b → (xs : List ℕ) → ((s : ℕ) → s < length xs → IsKept p a (suc n) (get_or xs s 0)) → (t : ℕ) → t < length (cond b (a ∷ xs) xs) → IsKept p a (suc n) (get_or (cond b (a ∷ xs) xs) t 0)
+    at true e xs after zero l = record { low = omega arith; high = omega arith; passes = e }
+    at true e xs after (suc t) l = after t (omega arith)
+    at false e xs after t l = after t l
+
+-- each number that passes has a place
+pub place_of : (p : ℕ → Bool) (a n x : ℕ) → IsKept p a n x → (t : ℕ) × (t < length (filter p (range_with_len a n))) × (get_or (filter p (range_with_len a n)) t 0 ≡ x)
+place_of p a zero x k = absurd (omega arith)
+place_of p a (suc n) x k = at (p a) refl (filter p (range_with_len (a + 1) n)) (λ m. place_of p (a + 1) n x (record { low = m; high = omega arith; passes = k.passes }))
+  where
+    at : (b : Bool) → p a ≡ b → (xs : List ℕ) → (a + 1 ≤ x → (t : ℕ) × (t < length xs) × (get_or xs t 0 ≡ x)) → (t : ℕ) × (t < length (cond b (a ∷ xs) xs)) × (get_or (cond b (a ∷ xs) xs) t 0 ≡ x)
+    at true e xs after = elim (cases_eq a x) [ inl s ↦ (0, omega arith, s) | inr ne ↦ let r : (t : ℕ) × (t < length xs) × (get_or xs t 0 ≡ x) = after (omega arith) in (suc r.0, omega arith, r.2) ]
+    at false e xs after = elim (cases_eq a x) [ inl s ↦ absurd (both_ways (p x) (subst (λ (y : ℕ). p y ≡ false) s e) k.passes) | inr ne ↦ after (omega arith) ]
+
+-- later places have greater numbers
+pub rises : (p : ℕ → Bool) (a n s t : ℕ) → s < t → t < length (filter p (range_with_len a n)) → get_or (filter p (range_with_len a n)) s 0 < get_or (filter p (range_with_len a n)) t 0
+rises p a zero s t m l = absurd (omega arith)
+rises p a (suc n) s t m l = at (p a) refl (filter p (range_with_len (a + 1) n)) (λ r k. (kept_at p (a + 1) n r k).low) (λ i j f k. rises p (a + 1) n i j f k) s t m l
+  where
+    at : (b : Bool) → p a ≡ b → (xs : List ℕ) → ((r : ℕ) → r < length xs → a + 1 ≤ get_or xs r 0) → ((i j : ℕ) → i < j → j < length xs → get_or xs i 0 < get_or xs j 0) → (s t : ℕ) → s < t → t < length (cond b (a ∷ xs) xs) → get_or (cond b (a ∷ xs) xs) s 0 < get_or (cond b (a ∷ xs) xs) t 0
+    at true e xs low after s zero m l = absurd (omega arith)
+    at true e xs low after zero (suc t) m l = omega (arith, low t (omega arith))
+    at true e xs low after (suc s) (suc t) m l = after s t (omega arith) (omega arith)
+    at false e xs low after s t m l = after s t m l
+
+-- one number more at the end of the range
+pub range_more : (n : ℕ) → range_with_len 0 (n + 1) ≡ range_with_len 0 n ++ n ∷ []
+range_more n = sym (map-id _) ∙ map-range_with_len_more (λ x. x) 0 n n (omega arith) ∙ ap (λ xs. xs ++ n ∷ []) (map-id _)
+
+pub filter_range_more : (p : ℕ → Bool) (n : ℕ) → filter p (range_with_len 0 (n + 1)) ≡ filter p (range_with_len 0 n) ++ cond (p n) (n ∷ []) []
+filter_range_more p n = ap (filter p) (range_more n) ∙ filter-append p (range_with_len 0 n) (n ∷ [])

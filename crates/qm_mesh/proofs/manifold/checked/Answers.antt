@@ -1,0 +1,19 @@
+use Rattle.std.proofs.Common.{◌≡◌, ℕ, subst, sym, arith}
+use Rattle.def_mesh.specs.Vertices.{vertex_count, UsesEach}
+use Rattle.qm_mesh.specs.Tables.{AreFans}
+use Rattle.qm_mesh.proofs.Vertices.{count_is}
+use Rattle.qm_mesh.proofs.manifold.checked.Goals as goal
+
+pub from_tables-requires : goal.from_tables-requires
+from_tables-requires c =
+  let e : vertex_count c.args.faces.now ≡ c.args.vertices = count_is c.args.faces.now c.args.vertices c.requires.within c.requires.used in
+  record {
+    mesh = record {
+      manifold = record { repeat_free = c.in_ok-check_repeats.ensures.ok; edges_once = c.in_ok-twins.ensures.once; one_fan = c.in_ok-check_fans.ensures.ok };
+      few = c.requires.few;
+      used = subst (λ (n : ℕ). UsesEach n c.args.faces.now) (sym e) c.requires.used;
+    };
+    small = omega (arith, e, c.ranges.vertices.fits);
+    partners = c.in_ok-twins.ensures.ok;
+    each_fan = subst (λ (n : ℕ). AreFans c.args.faces.now n c.in_ok-fans.fans.items) (sym e) c.in_ok-fans.ensures;
+  }

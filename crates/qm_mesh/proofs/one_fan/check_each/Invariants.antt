@@ -1,0 +1,7 @@
+use Rattle.std.proofs.Common.{◌≡◌, ℕ, ◌<◌, length}
+use Rattle.qm_mesh.proofs.OneFan.{AreChecked}
+use Rattle.qm_mesh.proofs.one_fan.check_each.Given as goal
+
+-- the vertices before v have one fan each, and only their corners are marked
+abbrev pub invariant-loop-v : goal.invariant-loop-v
+invariant-loop-v l = AreChecked l.faces l.v l.seen

@@ -1,0 +1,6 @@
+use Rattle.std.proofs.Common.{arith}
+use Rattle.qm_mesh.proofs.Corners.{repeat_free_from}
+use Rattle.qm_mesh.proofs.repeats.check_repeats.Goals as goal
+
+pub returns-clause-ok : goal.returns-clause-ok
+returns-clause-ok c = repeat_free_from c.args.faces.now c.told-faces (λ f l. c.loop-f.invariant f (omega arith))

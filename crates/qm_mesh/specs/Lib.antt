@@ -1,0 +1,4 @@
+pub mod Refusals
+pub mod Tables
+pub mod Pairs
+pub mod Turns

@@ -1,0 +1,39 @@
+//! The darts of a list of faces: each call reads one or two corners.
+
+ghost use Rattle.std.specs.Prelude.{◌≡◌, ◌<◌, ◌&&◌, ◌==◌};
+ghost use Rattle.def_mesh.specs.Darts.{darts, next_of, prev_of, from_of, to_of};
+
+pub(crate) fn next(d: u32) -> u32
+    ensures { result ≡ next_of d }
+{
+    if d % 4 == 3 { d - 3 } else { d + 1 }
+}
+
+pub(crate) fn prev(d: u32) -> u32
+    ensures { result ≡ prev_of d }
+{
+    if d % 4 == 0 { d + 3 } else { d - 1 }
+}
+
+pub(crate) fn from(faces: &[[u32; 4]], d: u32) -> u32
+    requires { d < darts faces.now }
+    ensures { result ≡ from_of faces.now d }
+{
+    faces[(d / 4) as usize][(d % 4) as usize]
+}
+
+#[tactic(auto, using(crate::proofs::DartLaws::next_of_low))]
+pub(crate) fn to(faces: &[[u32; 4]], d: u32) -> u32
+    requires { d < darts faces.now }
+    ensures { result ≡ to_of faces.now d }
+{
+    from(faces, next(d))
+}
+
+/// Whether dart d runs from u to v.
+pub(crate) fn runs(faces: &[[u32; 4]], d: u32, u: u32, v: u32) -> bool
+    requires { d < darts faces.now }
+    ensures { result ≡ ((from_of faces.now d == u) && (to_of faces.now d == v)) }
+{
+    from(faces, d) == u && to(faces, d) == v
+}

@@ -1,0 +1,44 @@
+//! The darts that leave each vertex, in rising order.
+
+ghost use Rattle.std.specs.Prelude.{◌≡◌, ◌≤◌, ◌<◌, ◌^◌, [], ◌∷◌, ◌++◌, length, OnOk, IfOk, replicate, slice_set};
+ghost use Rattle.def_mesh.specs.Vertices.{NamesBelow};
+ghost use Rattle.qm_mesh.specs.Tables.{fan_lists, fan_at, AreFans};
+
+use crate::darts::from;
+use smallvec::SmallVec;
+use std::alloc::{AllocError, Global};
+
+/// Most vertices have four faces, so a fan needs no memory of its own.
+pub(crate) type Fan = SmallVec<u32, 4>;
+
+/// The fans of all vertices. Linear in darts and vertices.
+pub(crate) fn gather(alloc: Global, vertices: u32, faces: &[[u32; 4]]) -> Result<Vec<Fan>, AllocError>
+    requires few { length faces.now ≤ 2 ^ 21 }
+    requires within { NamesBelow vertices faces.now }
+    ensures { IfOk result (λ fans. AreFans faces.now vertices fans.items) }
+{
+    let mut fans = empty(alloc, vertices)?;
+    for d in 0..4 * faces.len() as u32 {
+        add(&mut fans, from(faces, d), d)?;
+    }
+    Ok(fans)
+}
+
+fn empty(alloc: Global, vertices: u32) -> Result<Vec<Fan>, AllocError>
+    ensures { IfOk result (λ fans. fan_lists fans.items ≡ replicate vertices []) }
+{
+    let mut fans = Vec::with_capacity(alloc, vertices as usize)?;
+    'each: for _ in 0..vertices {
+        fans.push(Fan::new(alloc))?;
+    }
+    Ok(fans)
+}
+
+fn add(fans: &mut Vec<Fan>, v: u32, d: u32) -> Result<(), AllocError>
+    requires { v < length (fan_lists fans.old.items) }
+    ensures { OnOk result (fan_lists fans.new.items ≡ slice_set (fan_lists fans.old.items) v (fan_at fans.old.items v ++ d ∷ [])) }
+{
+    let fan = &mut fans[v as usize];
+    fan.push(d)?;
+    Ok(())
+}

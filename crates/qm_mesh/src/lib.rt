@@ -1,0 +1,19 @@
+//! Half edges of a manifold of quads: the check of the face list, twins and fans, over `def_mesh`.
+
+#![tactic(auto)]
+
+mod darts;
+mod fail;
+mod fans;
+mod law;
+mod manifold;
+mod mesh;
+mod one_fan;
+mod repeats;
+mod table;
+mod twins;
+
+pub use law::manifold_law;
+pub use manifold::build;
+pub use fail::MeshFail;
+pub use mesh::Mesh;

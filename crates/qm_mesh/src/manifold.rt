@@ -1,0 +1,43 @@
+//! From a list of faces to a mesh, or to the least place where the list is no manifold.
+
+ghost use Rattle.std.specs.Prelude.{◌≡◌, ◌≢◌, ◌≤◌, ◌^◌, length, OnOk, IfOk, IfErr};
+ghost use Rattle.def_mesh.specs.Manifold.{IsManifold};
+ghost use Rattle.def_mesh.specs.Vertices.{NamesBelow, UsesEach};
+ghost use Rattle.qm_mesh.specs.Refusals.{IsRefusal};
+
+use crate::fail::MeshFail;
+use crate::fans::gather;
+use crate::mesh::Mesh;
+use crate::one_fan::check_fans;
+use crate::repeats::check_repeats;
+use crate::twins::pair;
+use std::alloc::Global;
+
+/// The mesh of these faces. Linear in faces and vertices, however many faces there are at one vertex.
+pub fn build(alloc: Global, vertices: u32, faces: &[[u32; 4]]) -> Result<Mesh, MeshFail>
+    requires few { length faces.now ≤ 2 ^ 21 }
+    requires within { NamesBelow vertices faces.now }
+    requires used { UsesEach vertices faces.now }
+    ensures mesh { IfOk result (λ m. m ≡ faces.now) }
+    ensures manifold { OnOk result (IsManifold faces.now) }
+    ensures refusal { IfErr result (IsRefusal faces.now) }
+    ensures no_manifold { IfErr result (λ e. e ≢ MeshFail.Memory → ¬ IsManifold faces.now) }
+{
+    checked(alloc, vertices, faces)
+}
+
+fn checked(alloc: Global, vertices: u32, faces: &[[u32; 4]]) -> Result<Mesh, MeshFail>
+    requires few { length faces.now ≤ 2 ^ 21 }
+    requires within { NamesBelow vertices faces.now }
+    requires used { UsesEach vertices faces.now }
+    ensures mesh { IfOk result (λ m. m ≡ faces.now) }
+    ensures manifold { OnOk result (IsManifold faces.now) }
+    ensures refusal { IfErr result (IsRefusal faces.now) }
+{
+    check_repeats(faces)?;
+    let fans = gather(alloc, vertices, faces)?;
+    let twins = pair(alloc, vertices, faces, &fans)?;
+    check_fans(alloc, faces, &fans, &twins)?;
+    let mesh = Mesh::from_tables(alloc, faces, twins, fans)?;
+    Ok(mesh)
+}

@@ -1,0 +1,54 @@
+-- Lists that a loop changes place by place.
+use Rattle.std.proofs.Common.{◌≡◌, ℕ, ◌+◌, ◌-◌, ◌<◌, ◌≤◌, min, Bool, true, List, [], ◌∷◌, ◌++◌, length, take, drop, set, map, get_or, refl, sym, ap, ◌∙◌, arith}
+use Rattle.std.specs.Prelude.{slice_range}
+use Rattle.std.specs.List.{list_all}
+use Rattle.std.proofs.lemmas.List.{drop-drop, drop-set-lt, drop_more, get_or-drop, get_or-take, length-drop, length-set, length-take, map_more, take-append-drop, take-take, take_more, take_more_set}
+use Rattle.std.proofs.lemmas.List.Sums.{AllPass-from_list_all}
+
+-- Lists that agree from k on have one element at k.
+pub at_back : {X : Type 0} (xs ys : List X) (k : ℕ) (d : X) → drop k xs ≡ drop k ys → get_or xs k d ≡ get_or ys k d
+at_back xs ys k d same =
+    let e : k + 0 ≡ k = omega arith in
+    let a : get_or (drop k xs) 0 d ≡ get_or xs (k + 0) d = get_or-drop k xs 0 d in
+    let b : get_or (drop k ys) 0 d ≡ get_or ys (k + 0) d = get_or-drop k ys 0 d in
+    ap (λ n. get_or xs n d) (sym e) ∙ sym a ∙ ap (λ zs. get_or zs 0 d) same ∙ b ∙ ap (λ n. get_or ys n d) e
+
+-- Lists that agree from k on agree from the next on, also after a write at k or before.
+pub back_more : {X : Type 0} (xs ys : List X) (k i : ℕ) (x : X) → i ≤ k → drop k xs ≡ drop k ys → drop (k + 1) (set xs i x) ≡ drop (k + 1) ys
+back_more xs ys k i x le same = drop-set-lt (k + 1) xs i x (omega arith) ∙ sym (drop-drop 1 k xs) ∙ ap (drop 1) same ∙ drop-drop 1 k ys
+
+-- A map in place, one element further.
+pub mapped_more : {X : Type 0} (f : X → X) (old new : List X) (i : ℕ) (d x : X) → i < length old → length new ≡ length old → x ≡ f (get_or old i d)
+    → take i new ≡ map f (take i old) → take (i + 1) (set new i x) ≡ map f (take (i + 1) old)
+mapped_more f old new i d x there size is front =
+    take_more_set new i x (omega arith) ∙ rw (front, is) (sym (map_more f old i d there))
+
+-- What each element of a list passes, the one at a place passes.
+pub passes_at : {X : Type 0} (p : X → Bool) (xs : List X) (i : ℕ) (d : X) → list_all p xs ≡ true → i < length xs → p (get_or xs i d) ≡ true
+passes_at p xs i d all there = AllPass-from_list_all p xs all i d there
+
+-- A part of a list, one element further.
+pub range_more : {X : Type 0} (xs : List X) (a i : ℕ) (d : X) → a ≤ i → i < length xs → slice_range xs a (i + 1) ≡ slice_range xs a i ++ get_or xs i d ∷ []
+range_more xs a i d le there =
+    let e : i + 1 - a ≡ (i - a) + 1 = omega arith in
+    let at : a + (i - a) ≡ i = omega arith in
+    let room : i - a < length (drop a xs) = omega (arith, length-drop a xs) in
+    rw e (take_more (drop a xs) (i - a) d room ∙ rw (get_or-drop a xs (i - a) d, at) refl)
+
+-- A part of a list is what stands before a place, the element there and what stands behind it.
+pub range_split : {X : Type 0} (xs : List X) (a i b : ℕ) (d : X) → a ≤ i → i < b → b ≤ length xs
+    → (rest : List X) × (slice_range xs a b ≡ slice_range xs a i ++ get_or xs i d ∷ rest)
+range_split xs a i b d le lt within =
+    let room : i - a < length (take (b - a) (drop a xs)) = omega (arith, length-take (b - a) (drop a xs), length-drop a xs) in
+    let at : a + (i - a) ≡ i = omega arith in
+    let ys = take (b - a) (drop a xs) in
+    let short : i - a ≤ b - a = omega arith in
+    let lower : i - a < b - a = omega arith in (
+      drop (i - a + 1) ys,
+      sym (take-append-drop (i - a) ys)
+          ∙ rw (drop_more ys (i - a) d room, take-take (i - a) (b - a) (drop a xs), get_or-take (b - a) (drop a xs) (i - a) d, get_or-drop a xs (i - a) d, at) refl,
+    )
+
+-- How long a part of a list is.
+pub length-range : {X : Type 0} (xs : List X) (a b : ℕ) → a ≤ b → b ≤ length xs → length (slice_range xs a b) ≡ b - a
+length-range xs a b le within = omega (arith, length-take (b - a) (drop a xs), length-drop a xs)

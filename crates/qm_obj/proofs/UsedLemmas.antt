@@ -1,0 +1,119 @@
+-- The places that some face names, and the numbers of the vertices that they become.
+use Rattle.std.proofs.Common.{◌≡◌, ℕ, ℤ, zero, suc, ◌+◌, ◌-◌, ◌<◌, ◌≤◌, Bool, true, false, cond, not, ◌&&◌, ◌||◌, List, [], ◌∷◌, ◌++◌, length, take, drop, set, map, get_or, refl, sym, ap, ◌∙◌, arith, subst, eqb, ltb, leb, add-one, Some, None}
+use Rattle.std.specs.Prelude.{IsTrue}
+use Rattle.std.specs.List.{filter, list_all, list_any}
+use Rattle.std.specs.List.Sorted.{IsStrictlyIncreasing}
+use Rattle.std.proofs.lemmas.List.{append-nil, take_more_set, map_push, length_push, drop-drop, drop_more, length-set, length-map, length-append}
+use Rattle.std.proofs.lemmas.List.Elements.{filter-append}
+use Rattle.std.proofs.lemmas.Bool.{and_parts, ltb-true, leb-true, lt-ltb, eqb-true, eq-eqb}
+use Rattle.def_text.specs.FaceSet.{FaceSet, IsSoup, are_below, is_used}
+use Rattle.def_text.specs.Text.{face_set, numbers_to, place_of, used_to, vertex_of}
+use Rattle.qm_obj.proofs.ListLemmas.{at_back, back_more}
+use Rattle.qm_obj.specs.Kept.{are_numbers, chosen, first_late, IsCounted, IsKept, IsMarked}
+
+-- A filter and one number more.
+pub filter_numbers : (p : ℕ → Bool) (k : ℕ) → filter p (numbers_to (k + 1)) ≡ filter p (numbers_to k) ++ cond (p (k + 1)) ((k + 1) ∷ []) []
+filter_numbers p k = rw (add-one k) (filter-append p (numbers_to k) (suc k ∷ []))
+
+pub chosen_yes : (marks : List Bool) (k : ℕ) → get_or marks k false ≡ true → chosen marks (k + 1) ≡ chosen marks k ++ (k + 1) ∷ []
+chosen_yes marks k on =
+    let e : k + 1 - 1 ≡ k = omega arith in
+    let p : get_or marks (k + 1 - 1) false ≡ true = rw e on in
+    filter_numbers (λ k. get_or marks (k - 1) false) k ∙ rw p refl
+
+pub chosen_no : (marks : List Bool) (k : ℕ) → get_or marks k false ≡ false → chosen marks (k + 1) ≡ chosen marks k
+chosen_no marks k off =
+    let e : k + 1 - 1 ≡ k = omega arith in
+    let p : get_or marks (k + 1 - 1) false ≡ false = rw e off in
+    filter_numbers (λ k. get_or marks (k - 1) false) k ∙ rw p (append-nil _)
+
+-- No place is looked at: none is kept.
+pub kept_none : (marks : List Bool) (old : List (List ℤ)) → length old ≡ length marks → IsKept marks old old [] 0
+kept_none marks old size = record { names_are = refl; few = omega arith; size = size; front = refl; back = refl }
+
+-- One place more, that is kept.
+pub kept_mark : (marks : List Bool) (old places : List (List ℤ)) (names : List ℕ) (k : ℕ) → k < length marks → get_or marks k false ≡ true
+    → IsKept marks old places names k → IsKept marks old (set places (length names) (get_or places k [])) (names ++ (k + 1) ∷ []) (k + 1)
+kept_mark marks old places names k there on kept = record {
+  names_are = ap (λ (xs : List ℕ). xs ++ (k + 1) ∷ []) kept.names_are ∙ sym (chosen_yes marks k on);
+  few = omega (arith, length_push names (k + 1), kept.few);
+  size = length-set places (length names) (get_or places k []) ∙ kept.size;
+  front =
+      let n : length (names ++ (k + 1) ∷ []) ≡ length names + 1 = length_push names (k + 1) in
+      let room : length names < length places = omega (arith, kept.few, kept.size) in
+      let e : k + 1 - 1 ≡ k = omega arith in
+      let same : get_or places k [] ≡ place_of old (k + 1) = rw e (at_back places old k [] kept.back) in
+      rw n (take_more_set places (length names) (get_or places k []) room
+      ∙ rw (kept.front, same) (sym (map_push (place_of old) (chosen marks k) (k + 1)) ∙ ap (map (place_of old)) (sym (chosen_yes marks k on))));
+  back = back_more places old k (length names) (get_or places k []) kept.few kept.back;
+}
+
+-- One place more, that is dropped.
+pub kept_skip : (marks : List Bool) (old places : List (List ℤ)) (names : List ℕ) (k : ℕ) → get_or marks k false ≡ false
+    → IsKept marks old places names k → IsKept marks old places names (k + 1)
+kept_skip marks old places names k off kept = record {
+  names_are = kept.names_are ∙ sym (chosen_no marks k off);
+  few = omega (arith, kept.few);
+  size = kept.size;
+  front = kept.front ∙ ap (map (place_of old)) (sym (chosen_no marks k off));
+  back = sym (drop-drop 1 k places) ∙ ap (drop 1) kept.back ∙ drop-drop 1 k old;
+}
+
+-- Marked are the used.
+pub chosen_used : (faces : List (List ℕ)) (n : ℕ) (marks : List Bool) → IsMarked faces n marks → (k : ℕ) → k ≤ n → chosen marks k ≡ used_to faces k
+chosen_used faces n marks marked zero le = refl
+chosen_used faces n marks marked (suc k) le =
+    let again : chosen marks k ≡ used_to faces k = chosen_used faces n marks marked k (omega arith) in
+    let e : suc k - 1 ≡ k = omega arith in
+    let p : get_or marks (suc k - 1) false ≡ is_used faces (suc k) = rw e (marked.each k (omega arith)) in
+    filter-append (λ k. get_or marks (k - 1) false) (numbers_to k) (suc k ∷ [])
+    ∙ rw (p, again) (sym (filter-append (is_used faces) (numbers_to k) (suc k ∷ [])))
+
+-- Two functions that agree on the numbers from 1 to n.
+pub map_numbers : (f g : ℕ → ℕ) (n : ℕ) → ((k : ℕ) → 0 < k → k ≤ n → f k ≡ g k) → (xs : List ℕ) → IsTrue (are_numbers n xs) → map f xs ≡ map g xs
+map_numbers f g n same [] all = refl
+map_numbers f g n same (x ∷ xs) all =
+    let parts : ((ltb 0 x && leb x n) ≡ true) × (are_numbers n xs ≡ true) = and_parts _ _ all in
+    let both : (ltb 0 x ≡ true) × (leb x n ≡ true) = and_parts _ _ parts.0 in
+    let e : f x ≡ g x = same x (ltb-true 0 x both.0) (leb-true x n both.1) in
+    rw (e, map_numbers f g n same xs parts.1) refl
+
+pub map_faces : (f g : ℕ → ℕ) (n : ℕ) → ((k : ℕ) → 0 < k → k ≤ n → f k ≡ g k) → (faces : List (List ℕ)) → IsTrue (list_all (are_numbers n) faces)
+    → map (λ corners. map f corners) faces ≡ map (λ corners. map g corners) faces
+map_faces f g n same [] all = refl
+map_faces f g n same (x ∷ xs) all =
+    let parts : (are_numbers n x ≡ true) × (list_all (are_numbers n) xs ≡ true) = and_parts _ _ all in
+    rw (map_numbers f g n same x parts.0, map_faces f g n same xs parts.1) refl
+
+-- A face that is not late is passed.
+pub late_more : (vertices : ℕ) (faces : List (List ℕ)) (lines : List ℕ) (i : ℕ) → i < length faces → length lines ≡ length faces
+    → list_any (λ corner. ltb vertices corner) (get_or faces i []) ≡ false
+    → first_late vertices (drop (i + 1) faces) (drop (i + 1) lines) ≡ first_late vertices (drop i faces) (drop i lines)
+late_more vertices faces lines i there size calm = rw (drop_more faces i [] there, drop_more lines i 0 (omega arith), calm) refl
+
+-- A late face is the first one, where those before it are not late.
+pub late_here : (vertices : ℕ) (faces : List (List ℕ)) (lines : List ℕ) (i : ℕ) → i < length faces → length lines ≡ length faces
+    → list_any (λ corner. ltb vertices corner) (get_or faces i []) ≡ true
+    → first_late vertices (drop i faces) (drop i lines) ≡ Some (get_or lines i 0)
+late_here vertices faces lines i there size late = rw (drop_more faces i [] there, drop_more lines i 0 (omega arith), late) refl
+
+-- What was kept, counted and renumbered is the soup.
+pub made_of : (places : List (List ℤ)) (faces : List (List ℕ)) (marks : List Bool) (made : FaceSet) (vertices : List ℕ)
+    → IsMarked faces (length places) marks → IsTrue (list_all (are_numbers (length places)) faces) → IsCounted marks vertices
+    → made.names ≡ chosen marks (length marks) → made.pos ≡ map (place_of places) (chosen marks (length marks))
+    → made.faces ≡ map (λ corners. map (λ corner. get_or vertices (corner - 1) 0) corners) faces
+    → made ≡ face_set places faces
+made_of places faces marks made vertices marked known counted names pos renumbered =
+    let all : chosen marks (length marks) ≡ used_to faces (length places) =
+    ap (chosen marks) marked.size ∙ chosen_used faces (length places) marks marked (length places) (omega arith) in
+    same_parts made (face_set places faces)
+    (pos ∙ ap (map (place_of places)) all)
+    (renumbered ∙ map_faces (λ corner. get_or vertices (corner - 1) 0) (vertex_of faces) (length places) each faces known)
+    (names ∙ all)
+  where
+    each : (k : ℕ) → 0 < k → k ≤ length places → get_or vertices (k - 1) 0 ≡ vertex_of faces k
+    each k some le =
+        counted.each (k - 1) (omega (arith, marked.size)) ∙ ap length (chosen_used faces (length places) marks marked (k - 1) (omega arith))
+
+    same_parts : (s t : FaceSet) → s.pos ≡ t.pos → s.faces ≡ t.faces → s.names ≡ t.names → s ≡ t
+    same_parts s t p q r = λ i. record { pos = p i; faces = q i; names = r i }

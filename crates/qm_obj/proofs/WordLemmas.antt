@@ -1,0 +1,97 @@
+-- The first word of a text, and the words behind it.
+use Rattle.std.proofs.Common.{◌≡◌, ℕ, zero, suc, ◌+◌, ◌<◌, ◌≤◌, Bool, true, false, cond, not, List, [], ◌∷◌, length, take, drop, set, map, get_or, below_more, refl, sym, ap, ◌∙◌, arith, eqb, Some, None}
+use Rattle.std.proofs.lemmas.Bool.{eqb-true, true≢false}
+use Rattle.std.proofs.lemmas.List.{drop_more, get_or-map, get_or-set_other, get_or-set_same, length-drop, length-map, length-set, same_lists}
+use Rattle.std.specs.List.{position_or_len}
+use Rattle.def_text.specs.Reading.{face_reading, is_letter, vertex_reading, words_reading}
+use Rattle.def_text.specs.declared.reading.Reading.TheVariants.{Passed}
+use Rattle.def_text.specs.Words.{ends_word, in_front, is_blank, words}
+use Rattle.qm_obj.specs.Lines.{IsFilled, with_word}
+
+-- A text that begins with no blank has its front up to the first blank as its first word.
+pub words_word : (b : ℕ) (bs : List ℕ) → is_blank b ≡ false → words (b ∷ bs) ≡ take (suc (position_or_len is_blank bs)) (b ∷ bs) ∷ words (drop (suc (position_or_len is_blank bs)) (b ∷ bs))
+words_word b [] off = rw off refl
+words_word b (c ∷ cs) off = rw off (by_next (is_blank c) refl (words_word c cs))
+  where
+    by_next : (t : Bool) → is_blank c ≡ t
+        → (is_blank c ≡ false → words (c ∷ cs) ≡ take (suc (position_or_len is_blank cs)) (c ∷ cs) ∷ words (drop (suc (position_or_len is_blank cs)) (c ∷ cs)))
+        → cond (is_blank c) ((b ∷ []) ∷ words (c ∷ cs)) (in_front b (words (c ∷ cs))) ≡ take (suc (cond (not (is_blank c)) (1 + position_or_len is_blank cs) 0)) (b ∷ c ∷ cs) ∷ words (drop (suc (cond (not (is_blank c)) (1 + position_or_len is_blank cs) 0)) (b ∷ c ∷ cs))
+    by_next true on again = rw on (rw on refl)
+    by_next false after again = rw (again after) (rw after (let e : 1 + position_or_len is_blank cs ≡ suc (position_or_len is_blank cs) = omega arith in rw e refl))
+
+-- The first word of a text that is empty or begins with a word.
+pub first_word : (rest : List ℕ) → (0 < length rest → is_blank (get_or rest 0 0) ≡ false) → words rest ≡ with_word (take (position_or_len is_blank rest) rest) (words (drop (position_or_len is_blank rest) rest))
+first_word [] at_word = refl
+first_word (b ∷ bs) at_word =
+    let off : is_blank b ≡ false = at_word (omega arith) in
+    let e : position_or_len is_blank (b ∷ bs) ≡ suc (position_or_len is_blank bs) = rw off (omega arith) in
+    rw e (words_word b bs off)
+
+-- No text has more words than bytes.
+pub words_few : (bytes : List ℕ) → length (words bytes) ≤ length bytes
+words_few [] = omega arith
+words_few (b ∷ bs) = by_blank (is_blank b) (words_few bs)
+  where
+    by_blank : (t : Bool) → length (words bs) ≤ length bs → length (cond t (words bs) (cond (ends_word bs) ((b ∷ []) ∷ words bs) (in_front b (words bs)))) ≤ suc (length bs)
+    by_blank true few = omega arith
+    by_blank false few = by_end (ends_word bs) (words bs) few
+      where
+        by_end : (t : Bool) (ws : List (List ℕ)) → length ws ≤ length bs → length (cond t ((b ∷ []) ∷ ws) (in_front b ws)) ≤ suc (length bs)
+        by_end true ws few = omega arith
+        by_end false [] few = omega arith
+        by_end false (w ∷ ws) few = omega arith
+
+-- Where the next word is one, it is the word at this place.
+pub record IsNext (all : List (List ℕ)) (count : ℕ) (word : List ℕ) (after : List (List ℕ)) : Type 0 where
+  pub there : count < length all
+  pub here : get_or all count [] ≡ word
+  pub behind : after ≡ drop (count + 1) all
+
+pub next_is : (all : List (List ℕ)) (count : ℕ) (word : List ℕ) (after : List (List ℕ)) → with_word word after ≡ drop count all → eqb (length word) 0 ≡ false → IsNext all count word after
+next_is all count [] after is some = absurd (true≢false some)
+next_is all count (b ∷ bs) after is some =
+    let long : length (drop count all) ≡ suc (length after) = ap length (sym is) in
+    let there : count < length all = omega (arith, long, length-drop count all) in
+    let parts : get_or all count [] ∷ drop (count + 1) all ≡ (b ∷ bs) ∷ after = sym (drop_more all count [] there) ∙ sym is in
+    record { there = there; here = cc parts; behind = cc parts }
+
+-- Where the next word is empty, all words are read.
+pub next_none : (all : List (List ℕ)) (count : ℕ) (word : List ℕ) (after : List (List ℕ)) → with_word word after ≡ drop count all → eqb (length word) 0 ≡ true → length all ≤ count
+next_none all count [] after is none = omega (arith, ap length is, length-drop count all)
+next_none all count (b ∷ bs) after is none = absurd (eqb-suc none)
+  where
+    eqb-suc : eqb (suc (length bs)) 0 ≡ true → ⊥
+    eqb-suc e = let h : suc (length bs) ≡ 0 = eqb-true _ _ e in omega arith
+
+pub filled_none : {X : Type 0} (says : List ℕ → X) (all : List (List ℕ)) (slots : List X) → IsFilled says all 0 (length slots) slots
+filled_none says all slots = record { many = refl; each = λ k d l. absurd (omega arith) }
+
+-- One slot more.
+pub filled_more : {X : Type 0} (says : List ℕ → X) (all : List (List ℕ)) (count size : ℕ) (slots : List X) (x : X) → x ≡ says (get_or all count []) → IsFilled says all count size slots → IsFilled says all (count + 1) size (set slots count x)
+filled_more {X} says all count size slots x is filled = record {
+  many = length-set slots count x ∙ filled.many;
+  each = λ k d. below_more (λ k. k < size → get_or (set slots count x) k d ≡ says (get_or all k [])) count
+      (λ k l fits. get_or-set_other slots count k x d (λ (e : k ≡ count). let h : k ≡ count = e in omega arith) ∙ filled.each k d l fits)
+      (λ fits. get_or-set_same slots count x d (omega (arith, filled.many)) ∙ is) k;
+}
+
+-- As many slots as words.
+pub filled_all : {X : Type 0} (says : List ℕ → X) (all : List (List ℕ)) (count size : ℕ) (slots : List X) → length all ≤ count → size ≡ length all → IsFilled says all count size slots → slots ≡ map says all
+filled_all {X} says all count size slots read same filled =
+    same_lists slots (map says all) (filled.many ∙ same ∙ sym (length-map all says))
+    (λ k d l. let there : k < length all = omega (arith, filled.many) in filled.each k d (omega arith) (omega arith) ∙ sym (get_or-map says all k [] d there))
+
+-- What a test gives, where it gives something, and where it gives nothing.
+pub some_from : {X : Type 0} (t : Bool) (x y : X) → cond t (Some x) None ≡ Some y → (t ≡ true) × (y ≡ x)
+some_from true x y is = (refl, cc)
+some_from false x y is = cc
+
+pub none_from : {X : Type 0} (t : Bool) (x : X) → cond t (Some x) None ≡ None → t ≡ false
+none_from true x is = cc
+none_from false x is = refl
+
+-- What the first word and the words behind it say.
+pub by_first_word : (line vertices faces : ℕ) (all rest : List (List ℕ)) (first : List ℕ) → all ≡ with_word first rest
+    → words_reading line vertices faces all ≡ cond (is_letter 118 first) (vertex_reading line vertices rest) (cond (is_letter 102 first) (face_reading line vertices faces rest) Passed)
+by_first_word line vertices faces all rest [] is = ap (words_reading line vertices faces) is
+by_first_word line vertices faces all rest (b ∷ bs) is = ap (words_reading line vertices faces) is

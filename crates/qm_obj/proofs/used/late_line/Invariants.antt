@@ -1,0 +1,6 @@
+use Rattle.std.proofs.Common.{◌≡◌, drop}
+use Rattle.qm_obj.specs.Kept.{first_late}
+use Rattle.qm_obj.proofs.used.late_line.Given as goal
+
+abbrev pub invariant-loop-i : goal.invariant-loop-i
+invariant-loop-i l = first_late l.vertices (drop l.i l.faces) (drop l.i l.lines) ≡ first_late l.vertices l.faces l.lines

@@ -1,0 +1,24 @@
+use Rattle.std.proofs.Common.{◌≡◌, ◌<◌, ◌-◌, [], true, length, map, get_or, arith, sym, ◌∙◌, ap, List, ℕ}
+use Rattle.std.proofs.lemmas.List.{length-set, get_or_default}
+use Rattle.qm_obj.specs.Kept.{are_numbers}
+use Rattle.qm_obj.proofs.ListLemmas.{at_back, back_more, mapped_more, passes_at}
+use Rattle.qm_obj.proofs.used.renumber.Goals as goal
+
+pub renumbered-requires : goal.renumbered-requires
+renumbered-requires c =
+    let there : c.loop-f.f < length c.args.faces.now.items = omega (arith, c.loop-f.invariant.size) in
+    let same : c.index.result.now ≡ get_or c.args.faces.now.items c.loop-f.f c.index.result.now =
+    c.index.ensures ∙ at_back c.loop-f.faces.items c.args.faces.now.items c.loop-f.f c.index.result.now c.loop-f.invariant.back in
+    rw same (passes_at (are_numbers (length c.args.vertices.now)) c.args.faces.now.items c.loop-f.f c.index.result.now c.requires there)
+
+pub loop-f-preserved : goal.loop-f-preserved
+loop-f-preserved c =
+    let there : c.loop-f.f < length c.args.faces.now.items = omega (arith, c.loop-f.invariant.size) in
+    let same : c.index.result.now ≡ get_or c.args.faces.now.items c.loop-f.f c.index.result.now =
+    c.index.ensures ∙ at_back c.loop-f.faces.items c.args.faces.now.items c.loop-f.f c.index.result.now c.loop-f.invariant.back in
+    record {
+      size = length-set c.loop-f.faces.items c.loop-f.f c.renumbered.result ∙ c.loop-f.invariant.size;
+      front = mapped_more (λ corners. map (λ corner. get_or c.args.vertices.now (corner - 1) 0) corners) c.args.faces.now.items c.loop-f.faces.items c.loop-f.f c.index.result.now c.renumbered.result
+          there c.loop-f.invariant.size (c.renumbered.ensures ∙ ap (map (λ corner. get_or c.args.vertices.now (corner - 1) 0)) same) c.loop-f.invariant.front;
+      back = back_more c.loop-f.faces.items c.args.faces.now.items c.loop-f.f c.loop-f.f c.renumbered.result (omega arith) c.loop-f.invariant.back;
+    }

@@ -1,0 +1,100 @@
+ghost use Rattle.std.specs.Prelude.{◌≡◌, ◌≢◌, ◌≤◌, ◌<◌, ◌^◌, ◌++◌, ◌∷◌, [], length, nat_lt, None, IsTrue, IfOk, OnOk, IfErr};
+ghost use Rattle.std.specs.List.{list_all};
+ghost use Rattle.def_text.specs.Reading.{reading};
+ghost use Rattle.def_text.specs.Text.{face_in, face_set, place_in, refusal_in};
+ghost use Rattle.qm_obj.specs.Kept.{first_late, IsLate};
+ghost use Rattle.qm_obj.specs.Lines.{line_in};
+
+use crate::line::read_line;
+use crate::used::{drop_unused, late_line};
+use def_text::{Micro, ObjFail, Reading, Soup};
+use std::alloc::Global;
+
+/// What is known of a text after some of its logical lines: all places, and the faces with their lines.
+#[derive(Drop)]
+pub(crate) struct Reader {
+    pub(crate) places: Vec<[Micro; 3]>,
+    pub(crate) faces: Vec<[u32; 4]>,
+    pub(crate) lines: Vec<u32>,
+}
+
+impl Reader {
+    pub(crate) fn new(alloc: Global) -> Reader
+        ensures places { result.places.items ≡ [] }
+        ensures faces { result.faces.items ≡ [] }
+        ensures lines { result.lines.items ≡ [] }
+    {
+        Reader {
+            places: Vec::new(alloc),
+            faces: Vec::new(alloc),
+            lines: Vec::new(alloc),
+        }
+    }
+
+    /// Takes the next logical line, or answers its refusal.
+    pub(crate) fn take(&mut self, line: u32, text: &[u8]) -> Result<(), ObjFail>
+        requires vertices { length self.old.places.items ≤ 2 ^ 21 }
+        requires faces { length self.old.faces.items ≤ 2 ^ 20 }
+        ensures kept { OnOk result (
+            let said = reading (length self.old.places.items) (length self.old.faces.items)
+            (record { number = line; size = length text.now; text = text.now }) in
+            (refusal_in said ≡ [])
+            × (self.new.places.items ≡ self.old.places.items ++ place_in said)
+            × (self.new.faces.items ≡ self.old.faces.items ++ face_in said)
+            × (self.new.lines.items ≡ self.old.lines.items ++ line_in said)
+            ) }
+        ensures refused { IfErr result (λ fail. fail ≢ ObjFail.Memory →
+            reading (length self.old.places.items) (length self.old.faces.items)
+            (record { number = line; size = length text.now; text = text.now }) ≡ Reading.Refused fail) }
+    {
+        match read_line(
+            line,
+            self.places.len() as u32,
+            self.faces.len() as u32,
+            text,
+        ) {
+            Reading::Passed => Ok(()),
+            Reading::Place(place) => self.places.push(place).map_err(|_| ObjFail::Memory),
+            Reading::Face { line, corners } => self.keep_face(line, corners),
+            Reading::Refused(fail) => Err(fail),
+        }
+    }
+
+    fn keep_face(&mut self, line: u32, corners: [u32; 4]) -> Result<(), ObjFail>
+        ensures places { self.new.places ≡ self.old.places }
+        ensures faces { OnOk result (self.new.faces.items ≡ self.old.faces.items ++ corners ∷ []) }
+        ensures lines { OnOk result (self.new.lines.items ≡ self.old.lines.items ++ line ∷ []) }
+        ensures memory { IfErr result (λ fail. fail ≡ ObjFail.Memory) }
+    {
+        self.faces.push(corners).map_err(|_| ObjFail::Memory)?;
+        self.lines.push(line).map_err(|_| ObjFail::Memory)
+    }
+
+    /// The soup of all lines that were taken, or the refusal of the first face that names no place.
+    pub(crate) fn finish(self, alloc: Global) -> Result<Soup, ObjFail>
+        requires few { length self.places.items ≤ 2 ^ 21 }
+        requires lines { length self.lines.items ≡ length self.faces.items }
+        requires positive { IsTrue (list_all (list_all (λ corner. nat_lt 0 corner)) self.faces.items) }
+        ensures soup { IfOk result (λ soup. (first_late (length self.places.items) self.faces.items self.lines.items ≡ None)
+            × (soup ≡ face_set self.places.items self.faces.items)) }
+        ensures late { IfErr result (λ fail. fail ≢ ObjFail.Memory → IsLate fail
+            (first_late (length self.places.items) self.faces.items self.lines.items)) }
+    {
+        let Reader {
+            mut places,
+            mut faces,
+            lines,
+        } = self;
+        if let Some(line) = late_line(places.len() as u32, &faces, &lines) {
+            return Err(ObjFail::Range { line });
+        }
+        match drop_unused(alloc, &mut places, &mut faces) {
+            Ok(names) => Ok(Soup {
+                pos: places,
+                faces,
+                names,
+            }),
+            Err(_) => Err(ObjFail::Memory),
+        }
+    }
+}

@@ -1,0 +1,105 @@
+ghost use Rattle.std.specs.Prelude.{◌≡◌, ◌<◌, ◌^◌, ◌++◌, drop, OnOk, IfOk};
+ghost use Rattle.std.specs.List.{flat_map};
+ghost use Rattle.def_text.specs.Canonical.{canonical_text, face_text, fraction_text, micro_text, place_text, without_zeros};
+
+use crate::Memory;
+use def_text::{Micro, Soup};
+use itoa::Buffer;
+use std::alloc::Global;
+
+/// The canonical text: a line `v x y z` for each vertex, then a line `f a b c d` for each face.
+pub fn obj_text(alloc: Global, soup: &Soup) -> Result<Vec<u8>, Memory>
+    ensures { IfOk result (λ text. text.items ≡ canonical_text soup.now) }
+{
+    let mut text = Vec::new(alloc);
+    push_places(&mut text, &soup.pos)?;
+    push_faces(&mut text, &soup.faces)?;
+    Ok(text)
+}
+
+fn push_places(text: &mut Vec<u8>, places: &[[Micro; 3]]) -> Result<(), Memory>
+    ensures { OnOk result (text.new.items ≡ text.old.items ++ flat_map place_text places.now) }
+{
+    for place in places {
+        push_place(text, place)?;
+    }
+    Ok(())
+}
+
+fn push_faces(text: &mut Vec<u8>, faces: &[[u32; 4]]) -> Result<(), Memory>
+    ensures { OnOk result (text.new.items ≡ text.old.items ++ flat_map face_text faces.now) }
+{
+    for face in faces {
+        push_face(text, face)?;
+    }
+    Ok(())
+}
+
+fn push_place(text: &mut Vec<u8>, place: &[Micro; 3]) -> Result<(), Memory>
+    ensures { OnOk result (text.new.items ≡ text.old.items ++ place_text place.now) }
+{
+    text.push(b'v')?;
+    for number in place {
+        text.push(b' ')?;
+        push_micro(text, number)?;
+    }
+    text.push(b'\n')?;
+    Ok(())
+}
+
+fn push_micro(text: &mut Vec<u8>, number: &Micro) -> Result<(), Memory>
+    ensures { OnOk result (text.new.items ≡ text.old.items ++ micro_text number.now) }
+{
+    if number.n < 0 {
+        text.push(b'-')?;
+    }
+    let size = number.n.unsigned_abs();
+    let mut buffer = Buffer::new();
+    text.extend_from_slice(buffer.format(size / 1_000_000).as_bytes())?;
+    push_fraction(text, size % 1_000_000)
+}
+
+fn push_fraction(text: &mut Vec<u8>, rest: u64) -> Result<(), Memory>
+    requires { rest < 10 ^ 6 }
+    ensures { OnOk result (text.new.items ≡ text.old.items ++ fraction_text rest) }
+{
+    if rest == 0 {
+        return Ok(());
+    }
+    let mut buffer = Buffer::new();
+    text.push(b'.')?;
+    text.extend_from_slice(strip_zeros(behind_first(buffer.format(1_000_000 + rest).as_bytes())))
+}
+
+fn behind_first(digits: &[u8]) -> &[u8]
+    ensures { result.now ≡ drop 1 digits.now }
+{
+    match digits {
+        [] => digits,
+        [_, rest @ ..] => rest,
+    }
+}
+
+#[tactic(auto, using(crate::proofs::TextLemmas::trims))]
+fn strip_zeros(digits: &[u8]) -> &[u8]
+    ensures { result.now ≡ without_zeros digits.now }
+{
+    let mut left = digits;
+    while let [front @ .., b'0'] = left {
+        left = front;
+    }
+    left
+}
+
+fn push_face(text: &mut Vec<u8>, face: &[u32; 4]) -> Result<(), Memory>
+    ensures { OnOk result (text.new.items ≡ text.old.items ++ face_text face.now) }
+{
+    let mut buffer = Buffer::new();
+    text.push(b'f')?;
+    for vertex in face {
+        text.push(b' ')?;
+        text.extend_from_slice(buffer.format(u64::from(*vertex) + 1).as_bytes())?;
+    }
+    text.push(b'\n')?;
+    Ok(())
+}

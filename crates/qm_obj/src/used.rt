@@ -1,0 +1,153 @@
+ghost use Rattle.std.specs.Prelude.{
+  ◌≡◌,
+  ◌≤◌,
+  ◌<◌,
+  ◌-◌,
+  ◌^◌,
+  ◌||◌,
+  ◌==◌,
+  ◌++◌,
+  ◌∷◌,
+  [],
+  ◌+◌,
+  ℕ,
+  suc,
+  false,
+  nat_lt,
+  length,
+  map,
+  slice_index,
+  slice_index_or,
+  slice_set,
+  IsTrue,
+  IfOk,
+  OnOk,
+};
+ghost use Rattle.std.specs.List.{list_all, list_any};
+ghost use Rattle.def_text.specs.Text.{face_set, place_of};
+ghost use Rattle.qm_obj.specs.Kept.{are_numbers, chosen, first_late, IsCounted, IsMarked};
+
+use crate::Memory;
+use def_text::Micro;
+use std::alloc::Global;
+
+/// The line of the first face that names a `v` line above the last.
+pub(crate) fn late_line(vertices: u32, faces: &[[u32; 4]], lines: &[u32]) -> Option<u32>
+    requires { length lines.now ≡ length faces.now }
+    ensures { result ≡ first_late vertices faces.now lines.now }
+{
+    for (i, face) in faces.iter().enumerate() {
+        if is_late(vertices, face) {
+            return Some(lines[i]);
+        }
+    }
+    None
+}
+
+fn is_late(vertices: u32, face: &[u32; 4]) -> bool
+    ensures { result ≡ list_any (λ corner. nat_lt vertices corner) face.now }
+{
+    face.iter().any(|corner| vertices < *corner)
+}
+
+/// Drops the places that no face names, numbers the corners from 0 among those that are left, and answers the
+/// numbers in the file of these, from 1. Linear.
+pub(crate) fn drop_unused(
+    alloc: Global,
+    places: &mut Vec<[Micro; 3]>,
+    faces: &mut Vec<[u32; 4]>,
+) -> Result<Vec<u32>, Memory>
+    requires few { length places.old.items ≤ 2 ^ 21 }
+    requires known { IsTrue (list_all (are_numbers (length places.old.items)) faces.old.items) }
+    ensures { IfOk result (λ names. record { pos = places.new.items; faces = faces.new.items; names = names.items }
+        ≡ face_set places.old.items faces.old.items) }
+{
+    let marks = used_marks(alloc, places.len(), faces)?;
+    let kept = keep_marked(alloc, places, &marks)?;
+    renumber(faces, &kept.vertices);
+    Ok(kept.names)
+}
+
+/// The numbers in the file of the places that are kept, and for each place how many of them stand before it.
+#[derive(Drop)]
+struct Kept {
+    names: Vec<u32>,
+    vertices: Vec<u32>,
+}
+
+fn used_marks(alloc: Global, vertices: usize, faces: &[[u32; 4]]) -> Result<Vec<bool>, Memory>
+    requires { IsTrue (list_all (are_numbers vertices) faces.now) }
+    ensures { IfOk result (λ marks. IsMarked faces.now vertices marks.items) }
+{
+    let mut marks = vec![in alloc; false; vertices]?;
+    for face in faces {
+        mark_face(&mut marks, face);
+    }
+    Ok(marks)
+}
+
+fn mark_face(marks: &mut [bool], face: &[u32; 4])
+    requires { IsTrue (are_numbers (length marks.old) face.now) }
+    ensures { (k : ℕ) → k < length marks.old → slice_index_or marks.new k false
+        ≡ (slice_index_or marks.old k false || list_any (λ corner. corner == suc k) face.now) }
+{
+    for corner in face {
+        marks[(*corner - 1) as usize] = true;
+    }
+}
+
+fn keep_marked(alloc: Global, places: &mut Vec<[Micro; 3]>, marks: &[bool]) -> Result<Kept, Memory>
+    requires few { length marks.now ≤ 2 ^ 21 }
+    requires each { length places.old.items ≡ length marks.now }
+    ensures names { IfOk result (λ kept. kept.names.items ≡ chosen marks.now (length marks.now)) }
+    ensures places { IfOk result (λ kept. places.new.items ≡ map (place_of places.old.items) (chosen marks.now (length marks.now))) }
+    ensures vertices { IfOk result (λ kept. IsCounted marks.now kept.vertices.items) }
+{
+    let mut names = Vec::new(alloc);
+    let mut vertices = Vec::with_capacity(alloc, marks.len())?;
+    for k in 0..marks.len() {
+        vertices.push(names.len() as u32)?;
+        if marks[k] {
+            keep_place(places, &mut names, k)?;
+        }
+    }
+    places.truncate(names.len());
+    Ok(Kept { names, vertices })
+}
+
+fn keep_place(places: &mut Vec<[Micro; 3]>, names: &mut Vec<u32>, k: usize) -> Result<(), Memory>
+    requires there { k < length places.old.items }
+    requires few { length places.old.items ≤ 2 ^ 21 }
+    requires room { length names.old.items ≤ k }
+    ensures places { OnOk result (places.new.items
+        ≡ slice_set places.old.items (length names.old.items) (slice_index_or places.old.items k [])) }
+    ensures names { OnOk result (names.new.items ≡ names.old.items ++ (k + 1) ∷ []) }
+{
+    let place = places[k];
+    let kept = names.len();
+    places[kept] = place;
+    names.push(k as u32 + 1)?;
+    Ok(())
+}
+
+fn renumber(faces: &mut Vec<[u32; 4]>, vertices: &[u32])
+    requires { IsTrue (list_all (are_numbers (length vertices.now)) faces.old.items) }
+    ensures { faces.new.items ≡ map (λ corners. map (λ corner. slice_index vertices.now (corner - 1)) corners) faces.old.items }
+{
+    for f in 0..faces.len() {
+        faces[f] = renumbered(faces[f], vertices);
+    }
+}
+
+fn renumbered(face: [u32; 4], vertices: &[u32]) -> [u32; 4]
+    requires { IsTrue (are_numbers (length vertices.now) face) }
+    ensures { result ≡ map (λ corner. slice_index vertices.now (corner - 1)) face }
+{
+    let [a, b, c, d] = face;
+    [
+        vertices[a as usize - 1],
+        vertices[b as usize - 1],
+        vertices[c as usize - 1],
+        vertices[d as usize - 1],
+    ]
+}

@@ -1,0 +1,55 @@
+ghost use Rattle.std.specs.Prelude.{◌≡◌, ◌<◌, ◌≤◌, ◌==◌, false, length, slice_index};
+ghost use Rattle.std.specs.List.{position_or_len};
+ghost use Rattle.def_text.specs.Words.{is_blank, words};
+ghost use Rattle.qm_obj.specs.Lines.{with_word};
+
+/// The first word of a text and what follows it. The word is empty where there is none.
+#[tactic(auto, using(crate::proofs::WordLemmas::first_word))]
+pub(crate) fn next_word(text: &[u8]) -> (&[u8], &[u8])
+    ensures { words text.now ≡ with_word result.0.now (words result.1.now) }
+{
+    let rest = skip_blanks(text);
+    rest.split_at(word_end(rest))
+}
+
+fn word_end(text: &[u8]) -> usize
+    ensures exact { result ≡ position_or_len is_blank text.now }
+    ensures within { result ≤ length text.now }
+{
+    for (i, byte) in text.iter().enumerate() {
+        if blank(*byte) {
+            return i;
+        }
+    }
+    text.len()
+}
+
+fn blank(byte: u8) -> bool
+    ensures { result ≡ is_blank byte }
+{
+    byte == b' ' || byte == b'\t'
+}
+
+/// The place of the first such byte, or the length.
+pub(crate) fn find_byte(text: &[u8], wanted: u8) -> usize
+    ensures exact { result ≡ position_or_len (λ byte. byte == wanted) text.now }
+    ensures within { result ≤ length text.now }
+{
+    for (i, byte) in text.iter().enumerate() {
+        if *byte == wanted {
+            return i;
+        }
+    }
+    text.len()
+}
+
+fn skip_blanks(text: &[u8]) -> &[u8]
+    ensures same { words result.now ≡ words text.now }
+    ensures at_word { 0 < length result.now → is_blank (slice_index result.now 0) ≡ false }
+{
+    let mut rest = text;
+    while let [b' ' | b'\t', after @ ..] = rest {
+        rest = after;
+    }
+    rest
+}

@@ -1,0 +1,4 @@
+mod Complete
+mod NeverBytes
+mod Refusals
+mod SoupFaces

@@ -1,0 +1,100 @@
+-- No line of a text is refused for the number of all bytes.
+use Rattle.std.proofs.Common.{◌≡◌, ℕ, ◌+◌, ◌^◌, ◌==◌, ◌&&◌, nat_lt, Bool, true, false, if◌then◌else◌, Result, Ok, Err, List, [], ◌∷◌, ◌++◌, length, refl, sym, ◌∙◌, ap}
+use Rattle.std.specs.List.{count_by, flat_map, list_all, list_any}
+use Rattle.std.proofs.lemmas.Bool.{and_parts, false≢true}
+use Rattle.std.proofs.lemmas.List.Folds.{list_all-append}
+use Rattle.def_text.specs.FaceSet.{FaceSet}
+use Rattle.def_text.specs.Reading.{Logical, begins_with, face_reading, is_comment, is_face_line, is_index, is_plain, is_special, is_vertex_line, reading, vertex_reading, words_reading}
+use Rattle.def_text.specs.Text.{first_refusal, late_in, places, readings, refusal_in, refusals, logical_lines, text_soup}
+use Rattle.def_text.specs.Words.{words}
+use Rattle.def_text.specs.declared.reading.Reading.{Reading}
+use Rattle.def_text.specs.declared.reading.Reading.TheVariants.{Passed, Place, Face, Refused}
+use Rattle.def_text.specs.declared.refusal.ObjFail.{ObjFail}
+use Rattle.def_text.specs.declared.refusal.ObjFail.TheVariants.{Syntax, NotQuad, Range, Limit, Memory}
+use Rattle.def_text.specs.declared.refusal.Which.{Which}
+use Rattle.def_text.specs.declared.refusal.Which.TheVariants.{Bytes, Line, Vertices, Faces}
+
+-- Another limit than the one on all bytes.
+abbrev is_of_line : Which → Bool
+is_of_line Bytes = false
+is_of_line Line = true
+is_of_line Vertices = true
+is_of_line Faces = true
+
+-- A refusal that is not for the number of all bytes.
+abbrev is_fine : ObjFail → Bool
+is_fine (Syntax line) = true
+is_fine (NotQuad line corners) = true
+is_fine (Range line) = true
+is_fine (Limit which line) = is_of_line which
+is_fine Memory = true
+
+-- A line that is refused finely, if at all.
+abbrev IsFine : Reading → Type 0
+IsFine r = list_all is_fine (refusal_in r) ≡ true
+
+fine_if : (t : Bool) (a b : Reading) → IsFine a → IsFine b → IsFine (if t then a else b)
+fine_if true a b x y = x
+fine_if false a b x y = y
+
+fine_vertex : (n v : ℕ) (ws : List (List ℕ)) → IsFine (vertex_reading n v ws)
+fine_vertex n v ws = fine_if (nat_lt v (2 ^ 21) && (length ws == 3 && list_all is_plain ws)) _ _ refl refl
+
+fine_face : (n v f : ℕ) (ws : List (List ℕ)) → IsFine (face_reading n v f ws)
+fine_face n v f ws = fine_if (nat_lt f (2 ^ 20) && (length ws == 4 && list_all (is_index v) ws)) _ _ refl refl
+
+fine_words : (n v f : ℕ) (ws : List (List ℕ)) → IsFine (words_reading n v f ws)
+fine_words n v f [] = refl
+fine_words n v f (w ∷ ws) =
+    fine_if (begins_with 118 (w ∷ ws)) _ _ (fine_vertex n v ws)
+      (fine_if (begins_with 102 (w ∷ ws)) _ _ (fine_face n v f ws) refl)
+
+fine_reading : (v f : ℕ) (line : Logical) → IsFine (reading v f line)
+fine_reading v f line =
+    fine_if (nat_lt 65536 line.size) _ _ refl
+      (fine_if (is_comment line.text) _ _ refl
+        (fine_if (list_any is_special line.text) _ _ refl (fine_words line.number v f (words line.text))))
+
+-- Two lists of fine refusals make one.
+fine_both : (xs ys : List ObjFail) → list_all is_fine xs ≡ true → list_all is_fine ys ≡ true → list_all is_fine (xs ++ ys) ≡ true
+fine_both xs ys x y = list_all-append is_fine xs ys ∙ rw x y
+
+fine_readings : (before lines : List Logical) → list_all is_fine (flat_map refusal_in (readings before lines)) ≡ true
+fine_readings before [] = refl
+fine_readings before (line ∷ lines) =
+    fine_both (refusal_in (reading (count_by is_vertex_line before) (count_by is_face_line before) line))
+      (flat_map refusal_in (readings (before ++ line ∷ []) lines))
+      (fine_reading (count_by is_vertex_line before) (count_by is_face_line before) line)
+      (fine_readings (before ++ line ∷ []) lines)
+
+fine_late : (n : ℕ) (r : Reading) → list_all is_fine (late_in n r) ≡ true
+fine_late n Passed = refl
+fine_late n (Place place) = refl
+fine_late n (Refused fail) = refl
+fine_late n (Face line corners) = by_test (list_any (λ corner. nat_lt n corner) corners)
+  where
+    by_test : (t : Bool) → list_all is_fine (if t then Range line ∷ [] else []) ≡ true
+    by_test true = refl
+    by_test false = refl
+
+fine_lates : (n : ℕ) (said : List Reading) → list_all is_fine (flat_map (late_in n) said) ≡ true
+fine_lates n [] = refl
+fine_lates n (r ∷ said) = fine_both (late_in n r) (flat_map (late_in n) said) (fine_late n r) (fine_lates n said)
+
+-- The first of fine refusals is fine.
+first_fine : (fails : List ObjFail) (soup : FaceSet) (fail : ObjFail) → list_all is_fine fails ≡ true
+    → ◌≡◌ {A = Result FaceSet ObjFail} (first_refusal fails soup) (Err fail) → is_fine fail ≡ true
+first_fine [] soup fail all is = absurd cc
+first_fine (f ∷ fails) soup fail all is =
+    let same : f ≡ fail = cc in
+    ap is_fine (sym same) ∙ (and_parts (is_fine f) (list_all is_fine fails) all).0
+
+-- So no text is refused for the number of all bytes.
+pub never_bytes : (n : ℕ) (lines : List (List ℕ)) (line : ℕ)
+    → ◌≡◌ {A = Result FaceSet ObjFail} (text_soup n lines) (Err (Limit Bytes line)) → ⊥
+never_bytes n lines line is =
+    let said : List Reading = readings [] (logical_lines n lines) in
+    let all : list_all is_fine (refusals said) ≡ true =
+        fine_both (flat_map refusal_in said) (flat_map (late_in (length (places said))) said)
+          (fine_readings [] (logical_lines n lines)) (fine_lates (length (places said)) said) in
+    false≢true (first_fine (refusals said) _ (Limit Bytes line) all is)

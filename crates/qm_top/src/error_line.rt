@@ -1,0 +1,123 @@
+ghost use Rattle.std.specs.Prelude.{◌≡◌, ◌≤◌, ◌+◌, ◌++◌, length, decimal, slice_index};
+ghost use Rattle.arrayvec.specs.ArrayString.{array_string_len};
+ghost use Rattle.def_run.specs.ErrorLines.{corners_text, error_line, limit_text, name_text, place_text, reason_text};
+
+use arrayvec::ArrayString;
+use def_run::{Answer, Place};
+use def_text::Which;
+use itoa::Buffer;
+
+/// A line for the error sink. The longest is the one on usage.
+pub(crate) type ErrorLine = ArrayString<256>;
+
+/// The whole line of an answer, where `names` has the vertices' numbers in the file. It takes no memory.
+pub(crate) fn line_of(answer: &Answer, names: &[u32]) -> ErrorLine
+    ensures { result.bytes ≡ error_line names.now answer.now }
+{
+    let reason = reason_of(answer, names);
+    let mut line = ErrorLine::new();
+    line.push_str("quadq: ");
+    line.push_str(reason.as_str());
+    line.push_str("\n");
+    line
+}
+
+const USAGE: &str = "usage: quadq tidy | graph | refine --by K | remesh --scale P/Q --floor F --weight plain|length | check | bench --size N";
+
+fn reason_of(answer: &Answer, names: &[u32]) -> ErrorLine
+    ensures text { result.bytes ≡ reason_text names.now answer.now }
+    ensures short { array_string_len result ≤ 200 }
+{
+    match *answer {
+        Answer::Done => text_of(""),
+        Answer::Usage => text_of(USAGE),
+        Answer::Syntax { line } => numbered("line ", u64::from(line), ": not an OBJ line of this profile"),
+        Answer::NotQuad { line, corners } => corners_of(u64::from(line), u64::from(corners)),
+        Answer::Range { line } => numbered("line ", u64::from(line), ": number out of range"),
+        Answer::Limit { which, line } => limit_of(which, line),
+        Answer::NotManifold { place } => place_of(place, names),
+        Answer::ReadFault => text_of("read fault"),
+        Answer::WriteFault => text_of("write fault"),
+        Answer::Memory => text_of("out of memory"),
+    }
+}
+
+fn corners_of(line: u64, corners: u64) -> ErrorLine
+    ensures text { result.bytes ≡ corners_text line corners }
+    ensures short { array_string_len result ≤ 200 }
+{
+    let mut text = numbered("line ", line, ": face with ");
+    push_numbered(&mut text, corners, " corners");
+    text
+}
+
+fn limit_of(which: Which, line: u32) -> ErrorLine
+    ensures text { result.bytes ≡ limit_text which line }
+    ensures short { array_string_len result ≤ 200 }
+{
+    match which {
+        Which::Bytes => text_of("limit: bytes"),
+        Which::Line => numbered("line ", u64::from(line), ": limit: line"),
+        Which::Vertices => numbered("line ", u64::from(line), ": limit: vertices"),
+        Which::Faces => numbered("line ", u64::from(line), ": limit: faces"),
+    }
+}
+
+fn place_of(place: Place, names: &[u32]) -> ErrorLine
+    ensures text { result.bytes ≡ place_text names.now place }
+    ensures short { array_string_len result ≤ 200 }
+{
+    match place {
+        Place::Repeated { face, vertex } => {
+            let mut line = numbered("face ", u64::from(face) + 1, ": vertex ");
+            push_numbered(&mut line, name_of(vertex, names), " repeated");
+            line
+        }
+        Place::EdgeTwice { from, to, face1, face2 } => {
+            let mut line = numbered("edge ", name_of(from, names), " ");
+            push_numbered(&mut line, name_of(to, names), ": faces ");
+            push_numbered(&mut line, u64::from(face1) + 1, " and ");
+            push_numbered(&mut line, u64::from(face2) + 1, "");
+            line
+        }
+        Place::TwoFans { vertex } => numbered("vertex ", name_of(vertex, names), ": two fans"),
+    }
+}
+
+/// The number that the file gave the vertex.
+fn name_of(vertex: u32, names: &[u32]) -> u64
+    ensures { result ≡ slice_index names.now vertex }
+{
+    names.get(vertex as usize).copied().unwrap_or(0) as u64
+}
+
+fn text_of(text: &str) -> ErrorLine
+    requires { length text.now ≤ 200 }
+    ensures text { result.bytes ≡ text.now }
+    ensures short { array_string_len result ≤ 200 }
+{
+    let mut line = ErrorLine::new();
+    line.push_str(text);
+    line
+}
+
+fn numbered(before: &str, number: u64, after: &str) -> ErrorLine
+    requires { length before.now + length after.now ≤ 60 }
+    ensures text { result.bytes ≡ before.now ++ decimal number ++ after.now }
+    ensures short { array_string_len result ≤ 80 }
+{
+    let mut line = ErrorLine::new();
+    line.push_str(before);
+    push_numbered(&mut line, number, after);
+    line
+}
+
+fn push_numbered(line: &mut ErrorLine, number: u64, after: &str)
+    requires { array_string_len line.old + length after.now ≤ 200 }
+    ensures text { line.new.bytes ≡ line.old.bytes ++ decimal number ++ after.now }
+    ensures short { array_string_len line.new ≤ array_string_len line.old + length after.now + 20 }
+{
+    let mut buffer = Buffer::new();
+    line.push_str(buffer.format(number));
+    line.push_str(after);
+}

@@ -1,0 +1,9 @@
+//! The top call: one command line, run from a source to a sink, with every refusal told.
+#![tactic(auto)]
+
+mod command;
+mod error_line;
+mod tidy;
+
+pub use command::run;
+pub use def_run::{Answer, Place};

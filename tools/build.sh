@@ -1,0 +1,35 @@
+#!/bin/sh
+# Proves and builds the program where that is not done, and tells on standard error how far it is.
+set -u
+root=$(dirname "$(dirname "$(readlink -f "$0")")")
+program=$root/crates/qm_prog/out/qm_prog
+
+# Built, and no source is newer.
+is_built() {
+    [ -x "$program" ] || return 1
+    newer=$(find "$root/crates" "$root/crates.txt" -newer "$program" \
+        \( -name '*.rt' -o -name '*.antt' -o -name crates.txt \) ! -path '*/out/*' -print -quit)
+    [ -z "$newer" ]
+}
+
+is_built && exit 0
+if ! command -v rt >/dev/null 2>&1; then
+    echo "quadq: not built, and the Rattle kit's command rt is not on the PATH" >&2
+    exit 1
+fi
+echo "quadq: proving and building the program; the first time takes minutes" >&2
+log=$(mktemp) || exit 1
+trap 'rm -f "$log"' EXIT
+started=$(date +%s)
+# With no words the program only answers how it is used, so this run builds it.
+(cd "$root/crates/qm_prog" && rt run </dev/null 2>&1) | tee "$log" | while read -r first what rest; do
+    case "$first $rest" in
+        "checked "*" of "*) echo "quadq: $(($(date +%s) - started)) s: ${what%,} $rest" >&2 ;;
+    esac
+done
+if ! is_built; then
+    grep -v '^checked ' "$log" | tail -n 20 >&2
+    echo "quadq: the build failed" >&2
+    exit 1
+fi
+echo "quadq: built in $(($(date +%s) - started)) s" >&2
