@@ -33,11 +33,11 @@ fn unequal_sides(alloc: Global, net: &Net, x: &[u64]) -> Result<Option<CertVerdi
 {
     let plus = side_sums(alloc, net, x, true)?;
     let minus = side_sums(alloc, net, x, false)?;
-    Ok(compared(&plus, &minus))
+    Ok(difference(&plus, &minus))
 }
 
 /// The least place at which two tables of sums differ, with both sums.
-fn compared(plus: &[u128], minus: &[u128]) -> Option<CertVerdict>
+fn difference(plus: &[u128], minus: &[u128]) -> Option<CertVerdict>
     requires same { length plus.now ≡ length minus.now }
     requires few { length plus.now < 2 ^ 32 }
     ensures { result ≡ compared_verdict plus.now minus.now }

@@ -11,7 +11,8 @@ use std::alloc::{AllocError, Global};
 pub(crate) fn side_sums(alloc: Global, net: &Net, x: &[u64], plus: bool) -> Result<Vec<u128>, AllocError>
     requires bounds { IsWithinBounds (network net.now) }
     requires lengths { AreLengths net.now.arcs.items x.now }
-    ensures { IfOk result (λ sums. AreSides net.now.nodes net.now.arcs.items x.now plus (length net.now.arcs.items) sums.items) }
+    ensures sides { IfOk result (λ sums. AreSides net.now.nodes net.now.arcs.items x.now plus (length net.now.arcs.items) sums.items) }
+    ensures few { IfOk result (λ sums. length sums.items < 2 ^ 32) }
 {
     let mut sums = vec![in alloc; 0u128; net.nodes as usize]?;
     add_arcs(net, x, plus, &mut sums);
@@ -59,7 +60,8 @@ fn add_end(sums: &mut [u128], end: &End, amount: u64, plus: bool)
 /// The least place at which two tables differ.
 pub(crate) fn first_difference(plus: &[u128], minus: &[u128]) -> Option<usize>
     requires { length plus.now ≡ length minus.now }
-    ensures { result ≡ least (λ v. not (slice_index plus.now v == slice_index minus.now v)) (length plus.now) }
+    ensures least { result ≡ least (λ v. not (slice_index plus.now v == slice_index minus.now v)) (length plus.now) }
+    ensures low { IfSome result (λ v. v < length plus.now) }
 {
     for (v, sum) in plus.iter().enumerate() {
         if *sum != minus[v] {
@@ -71,7 +73,8 @@ pub(crate) fn first_difference(plus: &[u128], minus: &[u128]) -> Option<usize>
 
 /// The least arc that is shorter than the floor.
 pub(crate) fn first_below(floor: u32, x: &[u64]) -> Option<usize>
-    ensures { result ≡ least (λ k. nat_lt (slice_index x.now k) floor) (length x.now) }
+    ensures least { result ≡ least (λ k. nat_lt (slice_index x.now k) floor) (length x.now) }
+    ensures low { IfSome result (λ k. k < length x.now) }
 {
     for (k, entry) in x.iter().enumerate() {
         if *entry < u64::from(floor) {

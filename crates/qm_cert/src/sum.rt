@@ -1,4 +1,5 @@
-ghost use Rattle.std.specs.Prelude.{◌≡◌, pos, ◌*ℤ◌, map};
+ghost use Rattle.std.specs.Prelude.{◌≡◌, ◌^◌, ◌≤◌, pos, ◌-ℤ◌, ◌*ℤ◌, if◌then◌else◌, map, unsigned_abs};
+ghost use Rattle.std.specs.Ordering.{int_eq};
 ghost use Rattle.def_flow.specs.Network.{network, IsWithinBounds};
 ghost use Rattle.def_flow.specs.Units.{low};
 ghost use Rattle.def_flow.specs.Dual.{dual_sum};
@@ -9,7 +10,7 @@ use def_flow::{Cert, CertVerdict, Net};
 use qm_net::deviation;
 
 /// The verdict on a certificate whose list is admissible and whose dual says yes: by the dual's sum and twice the
-/// cost of the units that are on, which is the deviation of the list less that of its lows.
+/// cost of the units that are on, which is the deviation of the list less that of its lows. Linear.
 pub(crate) fn sum_verdict(net: &Net, cert: &Cert, lows: &[u64], sum: i128) -> CertVerdict
     requires bounds { IsWithinBounds (network net.now) }
     requires lengths { AreLengths net.now.arcs.items cert.now.x.items }
@@ -18,7 +19,22 @@ pub(crate) fn sum_verdict(net: &Net, cert: &Cert, lows: &[u64], sum: i128) -> Ce
     ensures { result ≡ sums_verdict (network net.now) (certificate cert.now) }
 {
     let far = deviation(net, &cert.x);
-    let cost = 2 * (far - deviation(net, lows));
+    compared(far, sum, twice_between(deviation(net, lows), far))
+}
+
+/// Twice the way from one number to another.
+fn twice_between(near: i128, far: i128) -> i128
+    requires near { unsigned_abs near ≤ 2 ^ 120 }
+    requires far { unsigned_abs far ≤ 2 ^ 120 }
+    ensures { result ≡ pos 2 *ℤ (far -ℤ near) }
+{
+    2 * (far - near)
+}
+
+/// The verdict by the sum of a dual and twice the cost.
+fn compared(far: i128, sum: i128, cost: i128) -> CertVerdict
+    ensures { result ≡ (if int_eq sum cost then CertVerdict.Yes far else CertVerdict.Sums sum cost) }
+{
     if sum == cost {
         CertVerdict::Yes { deviation: far }
     } else {

@@ -1,2 +1,2 @@
-mod Balances
+pub mod Balances
 pub mod Within
