@@ -2,7 +2,7 @@
 use Rattle.std.proofs.Common.{◌≡◌, ℕ, zero, suc, ◌+◌, ◌-◌, ◌*◌, ◌<◌, ◌≤◌, Bool, true, false, List, [], ◌∷◌, ◌++◌, length, drop, get_or, map, refl, sym, ◌∙◌, ap, add-one, add-zero, arith}
 use Rattle.std.specs.Prelude.{slice_index, slice_index_or, nat_lt}
 use Rattle.std.proofs.lemmas.Bool.Decides.{nat_tests}
-use Rattle.std.proofs.lemmas.List.{drop_more, drop_all, length-map, get_or_default}
+use Rattle.std.proofs.lemmas.List.{drop_more, length-append}
 use Rattle.def_flow.specs.Network.{Network}
 use Rattle.def_flow.specs.Units.{down, low, cap, run, units_from, units, states, states_at}
 use Rattle.def_flow.specs.declared.net.Arc.{Arc}
@@ -70,3 +70,21 @@ downs net step (x ∷ xs) = let here : down net step x + 2 - 2 ≡ down net step
 -- The states at the list itself.
 pub own_states : (net : Network) (step : ℕ) (xs : List ℕ) → states_over (map (cap net step) xs) (map (λ c. c - 2) (map (cap net step) xs)) ≡ states_at net step xs
 own_states net step xs = states_over_is net step xs (map (λ c. c - 2) (map (cap net step) xs)) ∙ ap (states net step xs) (downs net step xs)
+
+run_long : (j n : ℕ) → length (run j n) ≡ n
+run_long j zero = refl
+run_long zero (suc n) = ap suc (run_long zero n)
+run_long (suc j) (suc n) = ap suc (run_long j n)
+
+from_long : (net : Network) (step : ℕ) (a : Arc) (l k n : ℕ) → length (from_low net step a l k n) ≡ n
+from_long net step a l k zero = refl
+from_long net step a l k (suc n) = ap suc (from_long net step a l (k + 1) n)
+
+-- There is a state for each unit.
+pub states_long : (net : Network) (step : ℕ) (arcs : List Arc) (ls cs js : List ℕ) → length ls ≡ length arcs → length cs ≡ length arcs → length js ≡ length arcs → length (units_over net step arcs ls cs) ≡ length (states_over cs js)
+states_long net step [] ls [] js l c j = refl
+states_long net step [] ls (x ∷ cs) js l c j = absurd (omega arith)
+states_long net step (a ∷ arcs) [] cs js l c j = absurd (omega arith)
+states_long net step (a ∷ arcs) (x ∷ ls) [] js l c j = absurd (omega arith)
+states_long net step (a ∷ arcs) (x ∷ ls) (y ∷ cs) [] l c j = absurd (omega arith)
+states_long net step (a ∷ arcs) (x ∷ ls) (y ∷ cs) (z ∷ js) l c j = omega (arith, length-append (from_low net step a x 0 y) (units_over net step arcs ls cs), length-append (run z y) (states_over cs js), from_long net step a x 0 y, run_long z y, states_long net step arcs ls cs js (omega arith) (omega arith) (omega arith))

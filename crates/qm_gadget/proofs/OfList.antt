@@ -100,3 +100,12 @@ plan_graph net step xs p ready plan =
         inl l ↦ plan.rooms.each v l
       | inr h ↦ get_or_past p.rooms.items v 0 (omega (arith, plan.rooms.count)) ∙ sym (none_past net.nodes over ons ready.at v h)
       ]
+
+-- A plan's units have their ends at the nodes that it counts.
+pub plan_at : (net : Network) (step : ℕ) (ls cs : List ℕ) (p : Plan) → IsReady net step ls cs → IsPlan net step ls cs p → AreAtNodes (length p.rooms.items) p.units.items
+plan_at net step ls cs p ready plan = rw (plan.rooms.count, plan.units) ready.at
+
+-- The graph of a plan is small.
+pub plan_small : (net : Network) (step : ℕ) (xs : List ℕ) (p : Plan) → (matching_graph net step xs).n ≤ 2 ^ 25 → graph_by (length p.rooms.items) (room_of p.rooms.items) p.lone p.units.items ≡ matching_graph net step xs
+  → first_fresh (length p.rooms.items) (room_of p.rooms.items) p.lone p.units.items + 2 * length (rim (count_below (room_of p.rooms.items) (length p.rooms.items)) p.units.items) < 2 ^ 26
+plan_small net step xs p small same = let n : first_fresh (length p.rooms.items) (room_of p.rooms.items) p.lone p.units.items + 2 * (length (rim (count_below (room_of p.rooms.items) (length p.rooms.items)) p.units.items) - 1) ≡ (matching_graph net step xs).n = ap (λ (g : Graph). g.n) same in omega arith
