@@ -1,5 +1,5 @@
 -- The verdict yes is that the certificate is accepted.
-use Rattle.std.proofs.Common.{◌≡◌, ◌≢◌, ℕ, ℤ, ◌<◌, ◌≤◌, ◌==◌, nat_lt, not, length, List, map, Option, Some, None, option_map, pos, unsigned_abs, ◌-ℤ◌, ◌*ℤ◌, ◌≤ℤ◌, true, false, cond, Bool, ◌↔◌, refl, sym, ◌∙◌, ap, inl, inr, ◌⊎◌, ltb-false, le-ltb, eq-eqb, ne_eqb, eqb-true, true≢false, arith}
+use Rattle.std.proofs.Common.{◌≡◌, ◌≢◌, ℕ, ℤ, ◌<◌, ◌≤◌, ◌==◌, nat_lt, not, length, List, map, Option, Some, None, option_map, pos, unsigned_abs, ◌-ℤ◌, ◌*ℤ◌, ◌≤ℤ◌, true, false, cond, Bool, ◌↔◌, Result, Ok, Err, IfOk, refl, sym, ◌∙◌, ap, inl, inr, ◌⊎◌, ltb-false, le-ltb, eq-eqb, ne_eqb, eqb-true, true≢false, arith}
 use Rattle.std.specs.Prelude.{slice_index, if◌then◌else◌}
 use Rattle.std.specs.Ordering.{int_eq}
 use Rattle.std.proofs.lemmas.Int.{ints}
@@ -51,15 +51,19 @@ by_list net c = by_count (length c.x == length net.arcs)
   where
     below : ℕ → CertVerdict
     below k = Below k (slice_index c.x k)
+
     unequal : ℕ → CertVerdict
     unequal v = Unequal v (unsigned_abs (side_sum net.arcs (entries c.x) true v)) (unsigned_abs (side_sum net.arcs (entries c.x) false v))
+
     after : CertVerdict
     after = refuse_dual (verdict (matching_graph net 1 c.x) c.dual) (sums_verdict net c)
+
     faults : refuse (below_fault net c.x) below (refuse (unequal_fault net c.x) unequal after) ≡ or_else (first_of_two (below_verdict net c.x) (unequal_verdict net c.x)) after
     faults =
         refuse_is (below_fault net c.x) below (refuse (unequal_fault net c.x) unequal after)
         ∙ (ap (or_else (below_verdict net c.x)) (refuse_is (unequal_fault net c.x) unequal after)
         ∙ sym (or_else_two (below_verdict net c.x) (unequal_verdict net c.x) after))
+
     by_count : (b : Bool) → cond (not b) (Count (length net.arcs) (length c.x)) (refuse (below_fault net c.x) below (refuse (unequal_fault net c.x) unequal after)) ≡ or_else (cond (not b) (Some (Count (length net.arcs) (length c.x))) (first_of_two (below_verdict net c.x) (unequal_verdict net c.x))) after
     by_count true = faults
     by_count false = refl
@@ -85,13 +89,17 @@ no_fault net xs bounds none = by_count (length xs == length net.arcs) refl none
       where
         below : below_fault net xs ≡ None
         below = none_of _ (below_fault net xs) parts.0
+
         unequal : unequal_fault net xs ≡ None
         unequal = none_of _ (unequal_fault net xs) parts.1
+
         high : (k : ℕ) → k < length net.arcs → pos net.floor ≤ℤ entries xs k
         high k l = (let h : net.floor ≤ slice_index xs k = ltb-false (slice_index xs k) net.floor (none_below (λ j. nat_lt (slice_index xs j) net.floor) (length net.arcs) below k l) in omega (arith, ints, h))
+
         balanced : (v : ℕ) → (v < net.nodes) ⊎ (net.nodes ≤ v) → side_sum net.arcs (entries xs) true v ≡ side_sum net.arcs (entries xs) false v
         balanced v (inl l) = (Decides-int_eq (side_sum net.arcs (entries xs) true v) (side_sum net.arcs (entries xs) false v)).0 (not_false _ (none_below (λ u. not (int_eq (side_sum net.arcs (entries xs) true u) (side_sum net.arcs (entries xs) false u))) net.nodes unequal v l))
         balanced v (inr h) = no_side_past net bounds xs true v h ∙ sym (no_side_past net bounds xs false v h)
+
     by_count : (b : Bool) → (length xs == length net.arcs) ≡ b → cond (not b) (Some (Count (length net.arcs) (length xs))) (first_of_two (below_verdict net xs) (unequal_verdict net xs)) ≡ None → (length xs ≡ length net.arcs) × IsAdmissible net (entries xs)
     by_count false e f = absurd cc
     by_count true e f = (let count : length xs ≡ length net.arcs = eqb-true (length xs) (length net.arcs) e in (count, admissible count (none_of_two (below_verdict net xs) (unequal_verdict net xs) f)))
@@ -153,8 +161,10 @@ yes_accepted net c d bounds says = record {
   where
     after : CertVerdict
     after = refuse_dual (verdict (matching_graph net 1 c.x) c.dual) (sums_verdict net c)
+
     list : (list_verdict net c.x ≡ None) × (after ≡ Accepted d)
     list = list_yes (list_verdict net c.x) after d (list_other net c.x d) (sym (by_list net c) ∙ says)
+
     dual : (s : ℤ) × (verdict (matching_graph net 1 c.x) c.dual ≡ Yes s) × (sums_verdict net c ≡ Accepted d)
     dual = dual_yes (verdict (matching_graph net 1 c.x) c.dual) (sums_verdict net c) d list.1
 
@@ -168,3 +178,24 @@ accepted_yes net c a =
 -- After a yes the list is least.
 pub yes_least : (net : Network) (c : Certificate) (d : ℤ) → IsWithinBounds net → cert_verdict net c ≡ Accepted d → IsLeast net (entries c.x)
 yes_least net c d bounds says = sound net c bounds (yes_accepted net c d bounds says)
+
+-- Where the verdict is exact, yes comes exactly for accepted certificates.
+pub exact_accepted : (net : Network) (c : Certificate) (v : CertVerdict) → IsWithinBounds net → v ≡ cert_verdict net c → ((d : ℤ) × (v ≡ Accepted d)) ↔ IsAccepted net c
+exact_accepted net c v bounds exact = (λ (d, e). yes_accepted net c d bounds (sym exact ∙ e), λ a. (pos (deviation net (entries c.x)), exact ∙ accepted_yes net c a))
+
+pub accepted_where_exact : {E : Type 0} (net : Network) (c : Certificate) (r : Result CertVerdict E) → IsWithinBounds net → IfOk r (λ v. v ≡ cert_verdict net c) → IfOk r (λ v. ((d : ℤ) × (v ≡ Accepted d)) ↔ IsAccepted net c)
+accepted_where_exact net c (Ok v) bounds exact = exact_accepted net c v bounds exact
+accepted_where_exact net c (Err e) bounds exact = tt
+
+pub least_where_exact : {E : Type 0} (net : Network) (c : Certificate) (r : Result CertVerdict E) → IsWithinBounds net → IfOk r (λ v. v ≡ cert_verdict net c) → IfOk r (λ v. (d : ℤ) → v ≡ Accepted d → IsLeast net (entries c.x))
+least_where_exact net c (Ok v) bounds exact = λ d e. yes_least net c d bounds (sym exact ∙ e)
+least_where_exact net c (Err e) bounds exact = tt
+
+-- The verdict where the list has a fault.
+pub faulty : (net : Network) (c : Certificate) (v : CertVerdict) → list_verdict net c.x ≡ Some v → v ≡ cert_verdict net c
+faulty net c v e = sym (by_list net c ∙ ap (λ o. or_else o (refuse_dual (verdict (matching_graph net 1 c.x) c.dual) (sums_verdict net c))) e)
+
+-- The verdict where the list has none.
+pub faultless : {E : Type 0} (net : Network) (c : Certificate) (r : Result CertVerdict E) → list_verdict net c.x ≡ None → IfOk r (λ v. v ≡ refuse_dual (verdict (matching_graph net 1 c.x) c.dual) (sums_verdict net c)) → IfOk r (λ v. v ≡ cert_verdict net c)
+faultless net c (Ok v) none exact = exact ∙ sym (by_list net c ∙ ap (λ o. or_else o (refuse_dual (verdict (matching_graph net 1 c.x) c.dual) (sums_verdict net c))) none)
+faultless net c (Err e) none exact = tt

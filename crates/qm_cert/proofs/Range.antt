@@ -20,20 +20,28 @@ arc_small net k y bounds l short = omega (arith, heavy, apart)
   where
     a : Arc
     a = arc_at net.arcs k
+
     tests : ((nat_le 1 a.weight && nat_le a.weight 1000 && nat_le a.old 4000000000) ≡ true) × (list_all (λ e. nat_lt e.node net.nodes) (ends a) ≡ true)
     tests = and_parts (nat_le 1 a.weight && nat_le a.weight 1000 && nat_le a.old 4000000000) _ (arc_bounded net bounds k l)
+
     numbers : ((nat_le 1 a.weight && nat_le a.weight 1000) ≡ true) × (nat_le a.old 4000000000 ≡ true)
     numbers = and_parts (nat_le 1 a.weight && nat_le a.weight 1000) (nat_le a.old 4000000000) tests.0
+
     old : a.old ≤ 4000000000
     old = leb-true a.old 4000000000 numbers.1
+
     weight : a.weight ≤ 1000
     weight = leb-true a.weight 1000 (and_parts (nat_le 1 a.weight) (nat_le a.weight 1000) numbers.0).1
+
     scaled : net.q * y ≤ 1000 * 10 ^ 12
     scaled = mul-le-mul bounds.q_high short
+
     wanted : net.p * a.old ≤ 1000 * 4000000000
     wanted = mul-le-mul bounds.p_high old
+
     apart : unsigned_abs (pos net.q *ℤ pos y -ℤ pos (net.p * a.old)) ≤ 2 * 10 ^ 15
     apart = omega (arith, ints, scaled, wanted)
+
     heavy : a.weight * unsigned_abs (pos net.q *ℤ pos y -ℤ pos (net.p * a.old)) ≤ 1000 * (2 * 10 ^ 15)
     heavy = mul-le-mul weight apart
 
@@ -43,9 +51,11 @@ deviation_small net xs bounds are = omega (arith, each, whole, bounds.few)
   where
     each : deviation net (entries xs) ≤ count_below (λ k. 10 ^ 19 * 1) (length net.arcs)
     each = count_below_le _ (λ k. 10 ^ 19 * 1) (length net.arcs) (λ k l. omega (arith, arc_small net k (slice_index xs k) bounds l (are.small k (omega (arith, are.count)))))
+
     ones : (n : ℕ) → count_below (λ k. 1) n ≡ n
     ones zero = refl
     ones (suc n) = omega (arith, ones n)
+
     whole : count_below (λ k. 10 ^ 19 * 1) (length net.arcs) ≡ 10 ^ 19 * length net.arcs
     whole = count_below_times (10 ^ 19) (λ k. 1) (length net.arcs) ∙ ap (λ n. 10 ^ 19 * n) (ones (length net.arcs))
 

@@ -45,6 +45,7 @@ added_arc_length plus a x sums = by_right a.right
   where
     first : List ℕ
     first = added plus a.left x sums
+
     by_right : (o : Option End) → length (added_right plus o x first) ≡ length sums
     by_right None = added_length plus a.left x sums
     by_right (Some e) = added_length plus e x first ∙ added_length plus a.left x sums
@@ -54,12 +55,14 @@ added_arc_read plus a x sums v left right = by_right a.right right
   where
     first : List ℕ
     first = added plus a.left x sums
+
     one : (e : End) → pos (put plus v x e) ≡ cond (is_on_side v plus e) (pos x) (pos 0)
     one e = by_test (is_on_side v plus e)
       where
         by_test : (b : Bool) → pos (cond b x 0) ≡ cond b (pos x) (pos 0)
         by_test true = refl
         by_test false = refl
+
     by_right : (o : Option End) → IfSome o (λ e. e.node < length sums) → pos (slice_index (added_right plus o x first) v) ≡ pos (slice_index sums v) +ℤ total (λ e. cond (is_on_side v plus e) (pos x) (pos 0)) (a.left ∷ option_to_list o)
     by_right None at = omega (arith, ints, added_read plus a.left x sums v left, one a.left)
     by_right (Some e) at = omega (arith, ints, added_read plus e x first v (omega (arith, added_length plus a.left x sums, at)), added_read plus a.left x sums v left, one a.left, one e)
@@ -74,14 +77,17 @@ sides_more nodes arcs xs plus k sums short left right are = record {
   where
     a : Arc
     a = arc_at arcs k
+
     x : ℕ
     x = slice_index xs k
+
     read : (v : ℕ) → pos (slice_index (added_arc plus a x sums) v) ≡ pos (slice_index sums v) +ℤ total (λ e. cond (is_on_side v plus e) (pos x) (pos 0)) (ends a)
     read v = added_arc_read plus a x sums v (omega (arith, left, are.count)) (by_right a.right right)
       where
         by_right : (o : Option End) → IfSome o (λ e. e.node < nodes) → IfSome o (λ e. e.node < length sums)
         by_right None at = at
         by_right (Some e) at = omega (arith, at, are.count)
+
     low : (v : ℕ) → total (λ e. cond (is_on_side v plus e) (pos x) (pos 0)) (ends a) ≤ℤ pos (2 * x)
     low v = by_right a.right
       where
@@ -91,6 +97,7 @@ sides_more nodes arcs xs plus k sums short left right are = record {
             by_test : (b : Bool) → cond b (pos x) (pos 0) ≤ℤ pos x
             by_test true = omega (arith, ints)
             by_test false = omega (arith, ints)
+
         by_right : (o : Option End) → total (λ e. cond (is_on_side v plus e) (pos x) (pos 0)) (a.left ∷ option_to_list o) ≤ℤ pos (2 * x)
         by_right None = omega (arith, ints, one a.left)
         by_right (Some e) = omega (arith, ints, one a.left, one e)
@@ -101,6 +108,7 @@ arc_in_bounds net k bounds l = by_right (arc_at net.arcs k).right (ends_bounded 
   where
     left : End
     left = (arc_at net.arcs k).left
+
     by_right : (o : Option End) → list_all (λ e. nat_lt e.node net.nodes) (left ∷ option_to_list o) ≡ true → (left.node < net.nodes) × IfSome o (λ e. e.node < net.nodes)
     by_right None on = (ltb-true left.node net.nodes (and_parts _ _ on).0, tt)
     by_right (Some e) on = (ltb-true left.node net.nodes (and_parts _ _ on).0, ltb-true e.node net.nodes (and_parts _ _ (and_parts _ _ on).1).0)

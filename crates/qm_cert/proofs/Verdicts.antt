@@ -39,13 +39,18 @@ compared_is net xs plus minus p m =
   where
     side : Bool → ℕ → ℤ
     side s v = side_sum net.arcs (entries xs) s v
+
     plus_is : (v : ℕ) → v < net.nodes → pos (slice_index plus v) ≡ side true v
     plus_is v l = p.each v l
+
     minus_is : (v : ℕ) → v < net.nodes → pos (slice_index minus v) ≡ side false v
     minus_is v l = m.each v l
+
     test : (v : ℕ) → v < net.nodes → not (slice_index plus v == slice_index minus v) ≡ not (int_eq (side true v) (side false v))
     test v l = ap not (same_test (slice_index plus v) (slice_index minus v)) ∙ (ap (λ z. not (int_eq z (pos (slice_index minus v)))) (plus_is v l) ∙ ap (λ z. not (int_eq (side true v) z)) (minus_is v l))
+
     found : least (λ v. not (slice_index plus v == slice_index minus v)) (length plus) ≡ unequal_fault net xs
     found = ap (least (λ v. not (slice_index plus v == slice_index minus v))) p.count ∙ least_same _ (λ u. not (int_eq (side true u) (side false u))) net.nodes test
+
     same : (v : ℕ) → v < net.nodes → Unequal v (slice_index plus v) (slice_index minus v) ≡ Unequal v (unsigned_abs (side true v)) (unsigned_abs (side false v))
     same v l = ap (λ z. Unequal v (unsigned_abs z) (slice_index minus v)) (plus_is v l) ∙ ap (λ z. Unequal v (unsigned_abs (side true v)) (unsigned_abs z)) (minus_is v l)

@@ -28,8 +28,8 @@ unequal_verdict net xs = option_map (λ v. Unequal v (unsigned_abs (side_sum net
 -- The first fault of a list.
 abbrev pub list_verdict : Network → List ℕ → Option CertVerdict
 list_verdict net xs =
-  if not (length xs == length net.arcs) then Some (Count (length net.arcs) (length xs))
-  else first_of_two (below_verdict net xs) (unequal_verdict net xs)
+    if not (length xs == length net.arcs) then Some (Count (length net.arcs) (length xs))
+    else first_of_two (below_verdict net xs) (unequal_verdict net xs)
 
 -- The least place at which two tables of sums differ, with both sums.
 abbrev pub compared_verdict : List ℕ → List ℕ → Option CertVerdict

@@ -10,17 +10,27 @@ use std::alloc::{AllocError, Global};
 
 /// The first fault of a list: lengths are missing or too many, an arc is shorter than the floor, or the sides of a
 /// node have unequal sums. Linear.
-pub(crate) fn list_fault(alloc: Global, net: &Net, x: &[u64]) -> Result<Option<CertVerdict>, AllocError>
+pub(crate) fn list_fault(
+    alloc: Global,
+    net: &Net,
+    x: &[u64],
+) -> Result<Option<CertVerdict>, AllocError>
     requires bounds { IsWithinBounds (network net.now) }
     requires few { length x.now < 2 ^ 32 }
     requires short { (k : ℕ) → k < length x.now → slice_index x.now k ≤ 10 ^ 12 }
     ensures verdict { IfOk result (λ o. o ≡ list_verdict (network net.now) x.now) }
 {
     if x.len() != net.arcs.len() {
-        return Ok(Some(CertVerdict::Count { arcs: net.arcs.len() as u32, given: x.len() as u32 }));
+        return Ok(Some(CertVerdict::Count {
+            arcs: net.arcs.len() as u32,
+            given: x.len() as u32,
+        }));
     }
     if let Some(k) = first_below(net.floor, x) {
-        return Ok(Some(CertVerdict::Below { arc: k as u32, length: x[k] }));
+        return Ok(Some(CertVerdict::Below {
+            arc: k as u32,
+            length: x[k],
+        }));
     }
     unequal_sides(alloc, net, x)
 }
@@ -43,7 +53,11 @@ fn difference(plus: &[u128], minus: &[u128]) -> Option<CertVerdict>
     ensures { result ≡ compared_verdict plus.now minus.now }
 {
     match first_difference(plus, minus) {
-        Some(v) => Some(CertVerdict::Unequal { node: v as u32, plus: plus[v], minus: minus[v] }),
+        Some(v) => Some(CertVerdict::Unequal {
+            node: v as u32,
+            plus: plus[v],
+            minus: minus[v],
+        }),
         None => None,
     }
 }

@@ -8,7 +8,12 @@ use def_flow::{Arc, End, Net};
 use std::alloc::{AllocError, Global};
 
 /// For each node the sum of the lengths at its ends on one side. Linear.
-pub(crate) fn side_sums(alloc: Global, net: &Net, x: &[u64], plus: bool) -> Result<Vec<u128>, AllocError>
+pub(crate) fn side_sums(
+    alloc: Global,
+    net: &Net,
+    x: &[u64],
+    plus: bool,
+) -> Result<Vec<u128>, AllocError>
     requires bounds { IsWithinBounds (network net.now) }
     requires lengths { AreLengths net.now.arcs.items x.now }
     ensures sides { IfOk result (λ sums. AreSides net.now.nodes net.now.arcs.items x.now plus (length net.now.arcs.items) sums.items) }

@@ -35,6 +35,6 @@ returns c =
     let far : to_z w128 (of_z w128 c.deviation-far.result) ≡ pos (deviation net (entries xs)) = far_is net c.deref.result.now xs c.deviation-far.result c.deviation-far.type_inv c.deviation-far.ensures c.deref.ensures.value in
     let sum : to_z w128 (of_z w128 c.args.sum) ≡ c.args.sum = to_z-of_z w128 c.args.sum c.ranges.sum in
     let twice : pos 2 *ℤ (to_z w128 (of_z w128 c.deviation-far.result) -ℤ to_z w128 (of_z w128 c.deviation.result)) ≡ pos 2 *ℤ on_cost net 1 xs =
-        rw (far, near) (ap (λ z. pos 2 *ℤ z) (sym (cost_is net xs c.requires.lengths.count))) in
+    rw (far, near) (ap (λ z. pos 2 *ℤ z) (sym (cost_is net xs c.requires.lengths.count))) in
     let cost : to_z w128 (of_z w128 c.twice_between.result) ≡ pos 2 *ℤ on_cost net 1 xs = back c.twice_between.result c.twice_between.type_inv ∙ (c.twice_between.ensures ∙ twice) in
     c.compared.ensures ∙ judged_same _ _ _ _ _ _ far (sum ∙ c.requires.sum) cost
