@@ -4,6 +4,7 @@ pub mod Decimal
 pub mod Digits
 pub mod FaceSet
 pub mod Logical
+pub mod Ratio
 pub mod Reading
 pub mod Text
 pub mod Words

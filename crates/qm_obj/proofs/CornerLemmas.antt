@@ -46,7 +46,7 @@ slash_none (b ∷ bs) is = by_sign (is_sign b) refl (or_cases _ _ is)
     by_sign true sign (inr there) = no_number bs there
 
 -- The parts of a word without and with a slash.
-behind_none : (word : List ℕ) → list_any is_slash word ≡ false → slice_split is_slash word ≡ word ∷ []
+pub behind_none : (word : List ℕ) → list_any is_slash word ≡ false → slice_split is_slash word ≡ word ∷ []
 behind_none [] none = refl
 behind_none (b ∷ bs) none = by_slash (is_slash b) none (behind_none bs)
   where

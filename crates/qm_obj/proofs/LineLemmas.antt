@@ -20,7 +20,7 @@ pub vertex_syntax : (line vertices : ℕ) (ws : List (List ℕ)) → leb (2 ^ 21
 vertex_syntax line vertices ws few bad = rw (few, bad) refl
 
 -- A `v` line of the right form.
-vertex_rest : (line vertices : ℕ) (ws : List (List ℕ)) → leb (2 ^ 21) vertices ≡ false → (is_place_count (length ws) && list_all is_decimal ws) ≡ true
+pub vertex_rest : (line vertices : ℕ) (ws : List (List ℕ)) → leb (2 ^ 21) vertices ≡ false → (is_place_count (length ws) && list_all is_decimal ws) ≡ true
     → vertex_reading line vertices ws ≡ cond (list_any (λ w. is_far (rounded w)) (take 3 ws)) (Refused (Range line)) (Place (map rounded (take 3 ws)))
 vertex_rest line vertices ws few right = rw (few, right) refl
 
@@ -64,7 +64,7 @@ pub face_count : (line vertices faces : ℕ) (ws : List (List ℕ)) → leb (2 ^
 face_count line vertices faces ws few corners other = rw (few, corners, other) refl
 
 -- An `f` line of four corners.
-face_rest : (line vertices faces : ℕ) (ws : List (List ℕ)) → leb (2 ^ 20) faces ≡ false → list_all is_corner ws ≡ true → eqb (length ws) 4 ≡ true
+pub face_rest : (line vertices faces : ℕ) (ws : List (List ℕ)) → leb (2 ^ 20) faces ≡ false → list_all is_corner ws ≡ true → eqb (length ws) 4 ≡ true
     → face_reading line vertices faces ws ≡ cond (list_any (λ w. is_out vertices (used_index w)) ws) (Refused (Range line)) (Face line (map (λ w. resolved vertices (used_index w)) ws))
 face_rest line vertices faces ws few corners four = rw (few, corners, four) refl
 

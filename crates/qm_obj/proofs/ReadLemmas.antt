@@ -127,7 +127,7 @@ reading_suits vertices faces line = by_size (ltb 65536 line.size)
     by_size false = by_words (words line.text) refl
 
 -- What two lists of lines say, one behind the other.
-readings_append : (before xs ys : List Logical) → readings before (xs ++ ys) ≡ readings before xs ++ readings (before ++ xs) ys
+pub readings_append : (before xs ys : List Logical) → readings before (xs ++ ys) ≡ readings before xs ++ readings (before ++ xs) ys
 readings_append before [] ys = rw (append-nil before) refl
 readings_append before (x ∷ xs) ys =
     ap (λ said. reading (count_by is_vertex_line before) (count_by is_face_line before) x ∷ said)

@@ -2,8 +2,8 @@
 #![tactic(auto)]
 
 mod corner;
-mod decimal;
 mod joining;
+mod law;
 mod line;
 mod number;
 mod piece;
@@ -16,6 +16,7 @@ mod words;
 
 pub use corner::read_index;
 pub use joining::logical;
+pub use law::reads_back;
 pub use piece::Logical;
 pub use read::read_obj;
 pub use text::obj_text;

@@ -2,8 +2,8 @@ ghost use Rattle.std.specs.Prelude.{◌≡◌, Some, None, if◌then◌else◌};
 ghost use Rattle.def_text.specs.Decimal.{is_decimal};
 ghost use Rattle.qm_obj.specs.Places.{all_some, coordinate};
 
-use crate::decimal::{DecFail, read_micro};
 use def_text::Micro;
+use qm_dec::{DecFail, read_micro};
 
 /// A number of a `v` line, which may be out of range; `None` where the word is no decimal.
 pub(crate) fn read_coordinate(word: &[u8]) -> Option<Option<Micro>>

@@ -1,6 +1,6 @@
 use Rattle.std.proofs.Common.{◌≡◌, length}
 use Rattle.def_text.specs.Canonical.{without_zeros}
-use Rattle.qm_obj.proofs.text.strip_zeros.Given as goal
+use Rattle.qm_dec.proofs.write.strip_zeros.Given as goal
 
 abbrev pub invariant-loop-left : goal.invariant-loop-left
 invariant-loop-left l = without_zeros l.left ≡ without_zeros l.digits
