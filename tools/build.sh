@@ -3,11 +3,12 @@
 set -u
 root=$(dirname "$(dirname "$(readlink -f "$0")")")
 program=$root/crates/qm_prog/out/qm_prog
+stamp=$root/crates/qm_prog/out/built
 
-# Built, and no source is newer.
+# Built, and no source is newer than the last build.
 is_built() {
-    [ -x "$program" ] || return 1
-    newer=$(find "$root/crates" "$root/crates.txt" -newer "$program" \
+    [ -x "$program" ] && [ -e "$stamp" ] || return 1
+    newer=$(find "$root/crates" "$root/crates.txt" -newer "$stamp" \
         \( -name '*.rt' -o -name '*.antt' -o -name crates.txt \) ! -path '*/out/*' -print -quit)
     [ -z "$newer" ]
 }
@@ -37,9 +38,10 @@ progress() {
 
 # With no words the program only answers how it is used, so this run builds it.
 (cd "$root/crates/qm_prog" && rt run </dev/null 2>&1) | tee "$log" | progress
-if ! is_built; then
+if ! grep -q '^quadq: usage: ' "$log"; then
     grep -v '^checked ' "$log" | tail -n 20 >&2
     echo "quadq: the build failed" >&2
     exit 1
 fi
+touch "$stamp"
 echo "quadq: built in $(($(date +%s) - started)) s" >&2
