@@ -21,12 +21,22 @@ echo "quadq: proving and building the program; the first time takes minutes" >&2
 log=$(mktemp) || exit 1
 trap 'rm -f "$log"' EXIT
 started=$(date +%s)
+# Names each crate when its first function is proved.
+progress() {
+    crate=
+    while read -r first what rest; do
+        case "$first $what" in
+            "fn "*::*) name=${what%%::*} ;;
+            *) continue ;;
+        esac
+        [ "$name" = "$crate" ] && continue
+        crate=$name
+        echo "quadq: $(($(date +%s) - started)) s: proving $crate" >&2
+    done
+}
+
 # With no words the program only answers how it is used, so this run builds it.
-(cd "$root/crates/qm_prog" && rt run </dev/null 2>&1) | tee "$log" | while read -r first what rest; do
-    case "$first $rest" in
-        "checked "*" of "*) echo "quadq: $(($(date +%s) - started)) s: ${what%,} $rest" >&2 ;;
-    esac
-done
+(cd "$root/crates/qm_prog" && rt run </dev/null 2>&1) | tee "$log" | progress
 if ! is_built; then
     grep -v '^checked ' "$log" | tail -n 20 >&2
     echo "quadq: the build failed" >&2

@@ -1,0 +1,4 @@
+pub mod Judged
+pub mod Range
+pub mod SideSums
+pub mod Verdicts

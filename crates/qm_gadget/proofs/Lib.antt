@@ -1,0 +1,5 @@
+mod ByLows
+mod Copies
+mod Fans
+mod OfList
+mod Rooms

@@ -1,0 +1,23 @@
+-- What a plan of a matching graph holds, and what it needs.
+use Rattle.std.specs.Prelude.{◌≡◌, ℕ, ◌-◌, ◌%◌, ◌^◌, ◌≤◌, ◌==◌, Bool, List, length, map}
+use Rattle.def_flow.specs.Network.{Network}
+use Rattle.def_flow.specs.Units.{rim_active}
+use Rattle.qm_gadget.specs.Layout.{AreAtNodes}
+use Rattle.qm_gadget.specs.Over.{AreBoxes, AreRooms, units_over, states_over}
+use Rattle.qm_gadget.specs.declared.plan.Plan.{Plan}
+
+-- Lows and caps of a list whose units are few, with their ends at nodes.
+pub record IsReady (net : Network) (step : ℕ) (lows caps : List ℕ) : Type 0 where
+  pub boxes : AreBoxes (length net.arcs) lows caps
+  pub few : length (units_over net step net.arcs lows caps) ≤ 2 ^ 25
+  pub at : AreAtNodes net.nodes (units_over net step net.arcs lows caps)
+
+-- The states at the list itself, by its caps: all that it can give up are on.
+abbrev pub own_states : List ℕ → List Bool
+own_states caps = states_over caps (map (λ c. c - 2) caps)
+
+-- The plan of the list with these lows and caps.
+pub record IsPlan (net : Network) (step : ℕ) (lows caps : List ℕ) (p : Plan) : Type 0 where
+  pub units : p.units.items ≡ units_over net step net.arcs lows caps
+  pub rooms : AreRooms net.nodes (units_over net step net.arcs lows caps) (own_states caps) p.rooms.items
+  pub lone : p.lone ≡ (rim_active (units_over net step net.arcs lows caps) (own_states caps) % 2 == 1)

@@ -1,0 +1,16 @@
+//! The matching graph of a list of lengths: built from the list, with a matching for each list nearby, and back.
+#![tactic(auto)]
+
+mod boxes;
+mod edges;
+mod build;
+mod layout;
+mod plan;
+mod rim;
+mod states;
+mod units;
+
+pub use build::{Gadget, graph_of};
+
+/// Want of memory.
+pub type Memory = std::alloc::AllocError;
