@@ -19,3 +19,8 @@ abbrev pub rim_by : Bool → Bool → List Bool → List Bool
 rim_by there waits [] = []
 rim_by there waits (o ∷ []) = mark_if there (waits && o)
 rim_by there waits (o ∷ p ∷ os) = mark_if there (waits && o) ++ ((not waits && o) ∷ mark_if there (waits && not o) ++ (not (differ waits o) ∷ rim_by true (differ waits o) (p ∷ os)))
+
+-- The marks of the edges of one vertex at the rim and of the pair after it, if it is not the last.
+abbrev pub turn_marks : Bool → Bool → Bool → Bool → List Bool
+turn_marks there waits o true = mark_if there (waits && o)
+turn_marks there waits o false = mark_if there (waits && o) ++ ((not waits && o) ∷ mark_if there (waits && not o) ++ not (differ waits o) ∷ [])

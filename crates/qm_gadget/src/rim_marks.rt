@@ -1,6 +1,7 @@
-ghost use Rattle.std.specs.Prelude.{◌≡◌, ◌+◌, ◌*◌, ◌^◌, ◌≤◌, [], ◌∷◌, ◌++◌, not, ◌&&◌, length, OnOk, IfOk};
-ghost use Rattle.qm_units.specs.Marks.{places, rim_states, differ};
-ghost use Rattle.qm_gadget.specs.Marked.{mark_if, rim_by};
+ghost use Rattle.std.specs.Prelude.{◌≡◌, ◌+◌, ◌*◌, ◌^◌, ◌≤◌, [], ◌∷◌, ◌++◌, not, ◌&&◌, cond, length, OnOk, IfOk};
+ghost use Rattle.def_flow.specs.Units.{is_active as is_active_end};
+ghost use Rattle.qm_units.specs.Marks.{places, rim_states, with_state, differ};
+ghost use Rattle.qm_gadget.specs.Marked.{mark_if, rim_by, turn_marks};
 
 use crate::marks::push_mark;
 use crate::states::is_active;
@@ -14,11 +15,19 @@ pub(crate) fn rim_states_of(alloc: Global, units: &[ArcUnit], ons: &[bool]) -> R
 {
     let mut states = Vec::new(alloc);
     for (k, unit) in units.iter().enumerate() {
-        if unit.right.is_none() {
-            states.push(is_active(&unit.left, ons[k]))?;
-        }
+        push_rim_state(&mut states, unit, ons[k])?;
     }
     Ok(states)
+}
+
+/// Adds whether a unit waits at the rim, if it has one end.
+fn push_rim_state(states: &mut Vec<bool>, unit: &ArcUnit, on: bool) -> Result<(), AllocError>
+    ensures { OnOk result (states.new.items ≡ states.old.items ++ with_state unit.now.right (is_active_end on unit.now.left) []) }
+{
+    if unit.right.is_none() {
+        states.push(is_active(&unit.left, on))?;
+    }
+    Ok(())
 }
 
 /// Adds the chosen edges at the rim, the first of which is `first`.
@@ -29,19 +38,35 @@ pub(crate) fn push_rim_marks(m: &mut Vec<u32>, first: u32, lone: bool, states: &
     let mut k = first;
     let mut there = lone;
     let mut waits = lone;
-    let mut rest = states;
-    while let [here, after @ ..] = rest {
-        push_if(m, k, there, waits && *here)?;
-        k += u32::from(there);
-        if !after.is_empty() {
-            push_pair_marks(m, k, there, waits, *here)?;
-            k += 2 + u32::from(there);
-            waits = are_different(waits, *here);
-            there = true;
-        }
-        rest = after;
+    for (i, here) in states.iter().enumerate() {
+        k = push_rim_turn(m, k, there, waits, *here, i + 1 == states.len())?;
+        waits = are_different(waits, *here);
+        there = true;
     }
     Ok(())
+}
+
+/// Adds the chosen edges of one vertex at the rim and of the pair after it, and gives the number past them.
+fn push_rim_turn(m: &mut Vec<u32>, k: u32, there: bool, waits: bool, here: bool, last: bool) -> Result<u32, AllocError>
+    requires { k ≤ 2 ^ 28 }
+    ensures marks { OnOk result (m.new.items ≡ m.old.items ++ places k (turn_marks there waits here last)) }
+    ensures past { IfOk result (λ past. past ≡ k + length (turn_marks there waits here last)) }
+{
+    push_if(m, k, there, waits && here)?;
+    let next = k + width_if(there);
+    if last {
+        return Ok(next);
+    }
+    push_pair_marks(m, next, there, waits, here)?;
+    Ok(next + 2 + width_if(there))
+}
+
+/// How many edges there are where one may be missing.
+fn width_if(there: bool) -> u32
+    ensures value { result ≡ cond there 1 0 }
+    ensures small { result ≤ 1 }
+{
+    if there { 1 } else { 0 }
 }
 
 fn are_different(a: bool, b: bool) -> bool
@@ -64,5 +89,5 @@ fn push_pair_marks(m: &mut Vec<u32>, k: u32, there: bool, waits: bool, here: boo
 {
     push_mark(m, k, !waits && here)?;
     push_if(m, k + 1, there, waits && !here)?;
-    push_mark(m, k + 1 + u32::from(there), !are_different(waits, here))
+    push_mark(m, k + 1 + width_if(there), !are_different(waits, here))
 }

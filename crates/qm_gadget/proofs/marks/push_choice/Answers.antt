@@ -1,16 +1,16 @@
-use Rattle.std.proofs.Common.{rules, ◌≡◌, ◌+◌, ◌*◌, ◌^◌, ◌<◌, ◌≤◌, [], ◌∷◌, ◌++◌, replicate, ℕ, length, slice_index, OnOk, IfOk, ◌-◌, ◌/◌, ◌%◌, Bool, true, false, nat_eq, nat_lt, List, slice_index_or, slice_set, bit_and, bit_or, Fits, w8, w32, w64, Bor, MutBor}
-use Rattle.def_flow.specs.Units.{is_active as is_active_end}
-use Rattle.qm_units.specs.Marks.{places, choice, end_marks, marks_by, units_marks}
-use Rattle.qm_units.specs.Told.{width_by}
-use Rattle.qm_gadget.specs.Layout.{room_of, IsAtNodes, AreAtNodes}
-use Rattle.qm_gadget.specs.Marked.{right_marks}
-use Rattle.qm_gadget.specs.Over.{bumped, bumped_unit}
+use Rattle.std.proofs.Common.{◌≡◌, ℕ, ◌+◌, Bool, true, false, ◌&&◌, cond, [], ◌∷◌, ◌++◌, refl, sym, ◌∙◌, ap, arith}
+use Rattle.std.specs.Prelude.{nat_lt}
+use Rattle.std.proofs.lemmas.Bool.Decides.{nat_tests}
+use Rattle.std.proofs.lemmas.List.{append-nil}
+use Rattle.qm_gadget.proofs.Numbers.{choice_places}
 use Rattle.qm_gadget.proofs.marks.push_choice.Goals as goal
 
--- src/marks.rt:25:1
 pub returns-in_ok-push : goal.returns-in_ok-push
-returns-in_ok-push c = ?
+returns-in_ok-push c =
+    let on : (c.args.some && nat_lt c.args.i c.args.n) ≡ true = grind (arith, nat_tests) in
+    c.in_ok-push.ensures.items ∙ ap (λ l. c.args.m.now.items ++ l) (sym (choice_places c.args.k c.args.some c.args.i c.args.n ∙ ap (λ b. cond b ((c.args.k + c.args.i) ∷ []) []) on))
 
--- src/marks.rt:25:1
 pub returns-else-some : goal.returns-else-some
-returns-else-some c = ?
+returns-else-some c =
+    let off : (c.args.some && nat_lt c.args.i c.args.n) ≡ false = grind (arith, nat_tests) in
+    sym (ap (λ l. c.args.m.now.items ++ l) (choice_places c.args.k c.args.some c.args.i c.args.n ∙ ap (λ b. cond b ((c.args.k + c.args.i) ∷ []) []) off) ∙ append-nil c.args.m.now.items)
