@@ -5,6 +5,8 @@ mod accept;
 mod list;
 mod sides;
 mod sum;
+#[cfg(test)]
+mod tests;
 
 pub use accept::accepts;
 pub use def_flow::{Cert, CertVerdict};

@@ -1,5 +1,6 @@
 mod ByLows
 mod Copies
 mod Fans
+mod Numbers
 mod OfList
 mod Rooms

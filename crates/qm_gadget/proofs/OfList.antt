@@ -23,11 +23,7 @@ use Rattle.qm_gadget.specs.Ready.{IsReady, IsPlan}
 use Rattle.qm_gadget.specs.Ready.{own_states as states_of_caps}
 use Rattle.qm_gadget.specs.declared.plan.Plan.{Plan}
 use Rattle.qm_gadget.proofs.ByLows.{units_over_is, own_states}
-use Rattle.qm_gadget.proofs.Rooms.{none_past}
-
--- Functions that agree everywhere are equal.
-same_everywhere : {X : Type 0} (f g : ℕ → X) → ((v : ℕ) → f v ≡ g v) → f ≡ g
-same_everywhere f g same = λ i. λ v. same v i
+use Rattle.qm_gadget.proofs.Rooms.{same_everywhere, none_past}
 
 -- A list of numbers mapped, at a place.
 map_at : (f : ℕ → ℕ) (xs : List ℕ) (k : ℕ) → k < length xs → slice_index (map f xs) k ≡ f (slice_index xs k)

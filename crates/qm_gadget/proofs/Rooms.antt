@@ -11,6 +11,15 @@ use Rattle.def_flow.specs.declared.units.ArcUnit.{ArcUnit}
 use Rattle.qm_gadget.specs.Layout.{EndsAt, IsAtNodes, AreAtNodes}
 use Rattle.qm_gadget.specs.Over.{bumped, bumped_right, bumped_unit, AreRooms}
 
+-- Functions that agree everywhere are equal.
+pub same_everywhere : {X : Type 0} (f g : ℕ → X) → ((v : ℕ) → f v ≡ g v) → f ≡ g
+same_everywhere f g same = λ i. λ v. same v i
+
+-- The first end of a unit at nodes.
+pub left_at : (nodes : ℕ) (left : End) (right : Option End) → EndsAt nodes left right → left.node < nodes
+left_at nodes left None at = at
+left_at nodes left (Some right) at = at.0
+
 -- Whether an end is active at a node, as a number.
 abbrev pub stands : ℕ → Bool → End → ℕ
 stands v on e = cond ((e.node == v) && is_active on e) 1 0

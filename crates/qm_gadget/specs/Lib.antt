@@ -1,3 +1,5 @@
+pub mod Gadget
 pub mod Layout
+pub mod Marked
 pub mod Over
 pub mod Ready

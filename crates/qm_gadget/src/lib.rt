@@ -5,8 +5,10 @@ mod boxes;
 mod edges;
 mod build;
 mod layout;
+mod marks;
 mod plan;
 mod rim;
+mod rim_marks;
 mod states;
 mod units;
 

@@ -88,7 +88,7 @@ fn bump_unit(rooms: &mut [u32], unit: &ArcUnit, on: bool)
 }
 
 /// Adds one to the number of the node of an end, if it is active.
-fn bump(rooms: &mut [u32], end: &End, on: bool)
+pub(crate) fn bump(rooms: &mut [u32], end: &End, on: bool)
     requires small { (v : ℕ) → slice_index rooms.old v ≤ 2 ^ 30 + 1 }
     requires at { end.now.node < length rooms.old }
     ensures { rooms.new ≡ bumped rooms.old end.now on }
