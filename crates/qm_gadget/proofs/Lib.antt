@@ -4,3 +4,5 @@ mod Fans
 mod Numbers
 mod OfList
 mod Rooms
+mod Steps
+mod Told

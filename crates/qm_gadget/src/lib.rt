@@ -6,6 +6,7 @@ mod edges;
 mod build;
 mod layout;
 mod marks;
+mod matching;
 mod plan;
 mod rim;
 mod rim_marks;
@@ -13,6 +14,7 @@ mod states;
 mod units;
 
 pub use build::{Gadget, graph_of};
+pub use matching::matching_of;
 
 /// Want of memory.
 pub type Memory = std::alloc::AllocError;
