@@ -5,6 +5,7 @@ mod boxes;
 mod edges;
 mod build;
 mod layout;
+mod lengths;
 mod marks;
 mod matching;
 mod plan;
@@ -14,6 +15,7 @@ mod states;
 mod units;
 
 pub use build::{Gadget, graph_of};
+pub use lengths::lengths_of;
 pub use matching::matching_of;
 
 /// Want of memory.
