@@ -14,7 +14,8 @@ use Rattle.def_text.specs.Canonical.{canonical_text, face_text, micro_text, plac
 use Rattle.def_text.specs.Corner.{are_indices, is_corner, is_out, is_slash, resolved, used_index}
 use Rattle.def_text.specs.Decimal.{is_decimal, is_far, rounded}
 use Rattle.def_text.specs.Digits.{is_negative, is_number, is_signed, number, unsigned}
-use Rattle.def_text.specs.FaceSet.{FaceSet, IsSoup, are_below, is_used}
+use Rattle.def_mesh.specs.Vertices.{is_used}
+use Rattle.def_text.specs.FaceSet.{FaceSet, IsSoup}
 use Rattle.def_text.specs.Logical.{Logical, logical_lines}
 use Rattle.def_text.specs.Reading.{begins_with, is_face_line, is_place_count, is_vertex_line, reading, words_reading}
 use Rattle.def_text.specs.Text.{face_in, face_set, faces, first_refusal, late_in, numbers_to, place_in, place_of, readings, refusal_in, soup_of, text_soup, used_to, vertex_of}
@@ -32,7 +33,7 @@ use Rattle.qm_obj.proofs.LawText.{IsLine, IsWord, decimal_word, line_tame, line_
 use Rattle.qm_obj.proofs.LineLemmas.{face_rest, vertex_rest}
 use Rattle.qm_obj.proofs.ListLemmas.{passes_at}
 use Rattle.qm_obj.proofs.ReadLemmas.{readings_append}
-use Rattle.qm_obj.proofs.SoupLemmas.{length-numbers_to, numbers_at, used_renumbered}
+use Rattle.qm_obj.proofs.SoupLemmas.{are_below, length-numbers_to, numbers_at, used_renumbered}
 
 -- What holds at each place of two lists holds at each place of both together, and of a map what holds of each image.
 each_both : {X : Type 0} (P : X → Type 0) (xs ys : List X) (d : X) → ((k : ℕ) → k < length xs → P (get_or xs k d)) → ((k : ℕ) → k < length ys → P (get_or ys k d)) → (k : ℕ) → k < length (xs ++ ys) → P (get_or (xs ++ ys) k d)

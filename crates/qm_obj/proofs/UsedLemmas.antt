@@ -5,7 +5,8 @@ use Rattle.std.specs.List.{filter, list_all, list_any}
 use Rattle.std.proofs.lemmas.List.{append-nil, take_more_set, map_push, length_push, drop-drop, drop_more, length-set}
 use Rattle.std.proofs.lemmas.List.Elements.{filter-append}
 use Rattle.std.proofs.lemmas.Bool.{and_parts, ltb-true, leb-true}
-use Rattle.def_text.specs.FaceSet.{FaceSet, is_used}
+use Rattle.def_mesh.specs.Vertices.{is_used}
+use Rattle.def_text.specs.FaceSet.{FaceSet}
 use Rattle.def_text.specs.Text.{face_set, numbers_to, place_of, used_to, vertex_of}
 use Rattle.qm_obj.proofs.ListLemmas.{at_back, back_more}
 use Rattle.qm_obj.specs.Kept.{are_numbers, chosen, first_late, IsCounted, IsKept, IsMarked}

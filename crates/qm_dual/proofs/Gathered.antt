@@ -1,0 +1,128 @@
+-- The load of an edge, by the sets around each of its ends and around both.
+use Rattle.std.proofs.Common.{◌≡◌, ℕ, zero, suc, ◌+◌, ◌-◌, ◌*◌, ◌^◌, ◌<◌, ◌≤◌, ◌==◌, ◌||◌, ◌&&◌, Bool, true, false, not, cond, List, length, ℤ, pos, ◌+ℤ◌, ◌-ℤ◌, refl, sym, ◌∙◌, ap, subst, set, add-one, inl, inr, ◌⊎◌, arith}
+use Rattle.std.specs.Prelude.{slice_index, slice_index_or, unsigned_abs}
+use mir.Syntax.{w128}
+use mir.Val.{to_z, of_z}
+use Rattle.std.proofs.lemmas.Int.{ints}
+use Rattle.std.proofs.lemmas.Bool.{cases_eq, eq-eqb, ne_eqb, false_from_ne_true}
+use Rattle.std.proofs.lemmas.List.{length-set, get_or-set_same, get_or-set_other}
+use Rattle.qm_laws.specs.Sums.{total_below}
+use Rattle.qm_laws.proofs.Sums.{total_below_same, total_below_sum, total_below_none, total_below_one}
+use Rattle.def_flow.specs.Dual.{DualLists, IsNested, AreSmall, climbs, z_at}
+use Rattle.qm_dual.specs.Nest.{around, apart, named_sum, AreSums, IsMeeting}
+use Rattle.qm_dual.proofs.Climbs.{set_later, climb_on, climb_none, passed_later}
+
+-- A sum of small terms is small.
+pub total_below_small : (f : ℕ → ℤ) (c n : ℕ) → ((k : ℕ) → k < n → unsigned_abs (f k) ≤ c) → unsigned_abs (total_below f n) ≤ n * c
+total_below_small f c zero small = omega arith
+total_below_small f c (suc n) small = omega (arith, ints, small n (omega arith), total_below_small f c n (λ k l. small k (omega arith)))
+
+-- What a climb gathers is small.
+pub around_small : (n : ℕ) (d : DualLists) → AreSmall d.z → (entry : ℕ) → unsigned_abs (around n d entry) ≤ length d.z * 10 ^ 18
+around_small n d small entry = total_below_small _ (10 ^ 18) (length d.z) (λ k l. by_test (climbs n d.up (length d.z) k entry) (z_at d k) (small k l))
+  where
+    by_test : (b : Bool) (z : ℤ) → unsigned_abs z < 10 ^ 18 → unsigned_abs (cond b z (pos 0)) ≤ 10 ^ 18
+    by_test true z low = omega arith
+    by_test false z low = omega arith
+
+-- From no set nothing is gathered.
+pub around_none : (n : ℕ) (d : DualLists) → around n d 0 ≡ pos 0
+around_none n d = total_below_none _ (length d.z) (λ k l. ap (λ b. cond b (z_at d k) (pos 0)) (climb_none n d.up (length d.z) k))
+
+-- A set gathers its own number, and what the set around it gathers.
+pub around_step : (n : ℕ) (d : DualLists) → IsNested n (length d.z) d.up → (j : ℕ) → j < length d.z → around n d (suc j) ≡ z_at d j +ℤ around n d (slice_index d.up (n + j))
+around_step n d nested j l =
+    let own : ℕ → ℤ = λ (k : ℕ). cond (j == k) (z_at d k) (pos 0) in
+    let rest : ℕ → ℤ = λ (k : ℕ). cond (climbs n d.up (length d.z) k (slice_index d.up (n + j))) (z_at d k) (pos 0) in
+    let parts : around n d (suc j) ≡ total_below (λ k. own k +ℤ rest k) (length d.z) = total_below_same _ _ (length d.z) (λ k lk. ap (λ b. cond b (z_at d k) (pos 0)) (climb_on n (length d.z) d.up nested k j l) ∙ by_tests k (cases_eq j k)) in
+    let one : total_below own (length d.z) ≡ own j = total_below_one own (length d.z) j l (λ k lk ne. ap (λ b. cond b (z_at d k) (pos 0)) (ne_eqb j k (λ e. ne (sym e)))) in
+    let here : own j ≡ z_at d j = ap (λ b. cond b (z_at d j) (pos 0)) (eq-eqb j j refl) in
+    omega (arith, ints, parts, total_below_sum own rest (length d.z), one, here)
+  where
+    m : ℕ
+    m = length d.z
+
+    not_around_itself : climbs n d.up m j (slice_index d.up (n + j)) ≡ false
+    not_around_itself = by_around (set_later n m d.up nested j)
+      where
+        by_around : (slice_index d.up (n + j) ≡ 0) ⊎ ((j + 1 < slice_index d.up (n + j)) × (slice_index d.up (n + j) ≤ m)) → climbs n d.up m j (slice_index d.up (n + j)) ≡ false
+        by_around (inl e) = ap (climbs n d.up m j) e ∙ climb_none n d.up m j
+        by_around (inr h) = false_from_ne_true _ (λ on. omega (arith, passed_later n m d.up nested m j (slice_index d.up (n + j)) on))
+
+    by_tests : (k : ℕ) → (j ≡ k) ⊎ (j ≡ k → ⊥) → cond ((j == k) || climbs n d.up m k (slice_index d.up (n + j))) (z_at d k) (pos 0) ≡ cond (j == k) (z_at d k) (pos 0) +ℤ cond (climbs n d.up m k (slice_index d.up (n + j))) (z_at d k) (pos 0)
+    by_tests k (inl e) =
+        let on : (j == k) ≡ true = eq-eqb j k e in
+        let off : climbs n d.up m k (slice_index d.up (n + j)) ≡ false = ap (λ i. climbs n d.up m i (slice_index d.up (n + j))) (sym e) ∙ not_around_itself in
+        rw (on, off) (omega (arith, ints))
+    by_tests k (inr ne) =
+        let off : (j == k) ≡ false = ne_eqb j k ne in
+        rw off (omega (arith, ints))
+
+-- A set's sum is what a climb gathers from its entry.
+pub named_around : (n : ℕ) (d : DualLists) (sums : List ℤ) → AreSums n d 0 sums → (entry : ℕ) → entry ≤ length d.z → named_sum sums entry ≡ around n d entry
+named_around n d sums are zero low = sym (around_none n d)
+named_around n d sums are (suc j) low = are.each j (omega arith) (omega arith)
+
+-- The same of the set around a set, where the sums of the later sets are known.
+pub named_later : (n : ℕ) (d : DualLists) (k : ℕ) (sums : List ℤ) → AreSums n d (k + 1) sums → (entry : ℕ) → (entry ≡ 0) ⊎ ((k + 1 < entry) × (entry ≤ length d.z)) → named_sum sums entry ≡ around n d entry
+named_later n d k sums are zero later = sym (around_none n d)
+named_later n d k sums are (suc j) later = elim later [ inl e ↦ absurd (omega arith) | inr h ↦ are.each j (omega arith) (omega arith) ]
+
+-- The sums from a set on, where those after it are known.
+pub sums_more : (n : ℕ) (d : DualLists) (k : ℕ) (sums : List ℤ) (value : ℤ) → k < length d.z → AreSums n d (k + 1) sums → value ≡ around n d (k + 1) → AreSums n d k (set sums k value)
+sums_more n d k sums value l are is = record { count = length-set sums k value ∙ are.count; each = each }
+  where
+    each : (j : ℕ) → k ≤ j → j < length d.z → slice_index_or (set sums k value) j (pos 0) ≡ around n d (suc j)
+    each j le lj = elim (cases_eq j k) [
+      | inl e ↦ subst (λ (i : ℕ). slice_index_or (set sums k value) i (pos 0) ≡ around n d (suc i)) (sym e) (get_or-set_same sums k value (pos 0) (omega (arith, are.count)) ∙ (is ∙ ap (around n d) (add-one k)))
+      | inr ne ↦ get_or-set_other sums k j value (pos 0) ne ∙ are.each j (omega arith) lj
+    ]
+
+-- The same at the loop's index, which is one past the set.
+pub sums_step : (n : ℕ) (d : DualLists) (k : ℕ) (sums : List ℤ) (value : ℤ) → 0 < k → k ≤ length d.z → AreSums n d k sums → value ≡ around n d (k - 1 + 1) → AreSums n d (k - 1) (set sums (k - 1) value)
+sums_step n d k sums value some low are is =
+    let there : k - 1 + 1 ≡ k = omega arith in
+    sums_more n d (k - 1) sums value (omega arith) (rw there are) is
+
+-- The sets around exactly one of two entries, by those around each and those around both.
+pub apart_is : (n : ℕ) (d : DualLists) (a b entry : ℕ) → IsMeeting n (length d.z) d.up a b entry
+    → apart n d a b ≡ (around n d a +ℤ around n d b) -ℤ (around n d entry +ℤ around n d entry)
+apart_is n d a b entry meets =
+    let crossing : ℕ → ℤ = λ (k : ℕ). cond (cond (climbs n d.up (length d.z) k a) (not (climbs n d.up (length d.z) k b)) (climbs n d.up (length d.z) k b)) (z_at d k) (pos 0) in
+    let left : ℕ → ℤ = λ (k : ℕ). cond (climbs n d.up (length d.z) k a) (z_at d k) (pos 0) in
+    let right : ℕ → ℤ = λ (k : ℕ). cond (climbs n d.up (length d.z) k b) (z_at d k) (pos 0) in
+    let both : ℕ → ℤ = λ (k : ℕ). cond (climbs n d.up (length d.z) k entry) (z_at d k) (pos 0) in
+    let parts : total_below (λ k. crossing k +ℤ (both k +ℤ both k)) (length d.z) ≡ total_below (λ k. left k +ℤ right k) (length d.z) =
+    total_below_same _ _ (length d.z) (λ k l. ap (λ x. crossing k +ℤ (cond x (z_at d k) (pos 0) +ℤ cond x (z_at d k) (pos 0))) (meets k) ∙ by_tests (climbs n d.up (length d.z) k a) (climbs n d.up (length d.z) k b) (z_at d k)) in
+    omega (arith, ints, parts, total_below_sum crossing (λ k. both k +ℤ both k) (length d.z), total_below_sum both both (length d.z), total_below_sum left right (length d.z))
+  where
+    by_tests : (a b : Bool) (z : ℤ) → cond (cond a (not b) b) z (pos 0) +ℤ (cond (a && b) z (pos 0) +ℤ cond (a && b) z (pos 0)) ≡ cond a z (pos 0) +ℤ cond b z (pos 0)
+    by_tests true true z = omega (arith, ints)
+    by_tests true false z = omega (arith, ints)
+    by_tests false true z = omega (arith, ints)
+    by_tests false false z = omega (arith, ints)
+
+-- The sum of a named set is small.
+pub named_small : (n : ℕ) (d : DualLists) (sums : List ℤ) → AreSums n d 0 sums → AreSmall d.z → (entry : ℕ) → entry ≤ length d.z → unsigned_abs (named_sum sums entry) ≤ length d.z * 10 ^ 18
+named_small n d sums are small entry low = let is : named_sum sums entry ≡ around n d entry = named_around n d sums are entry low in rw is (around_small n d small entry)
+
+-- The sets around exactly one of two entries, by the sums of the sets that they name.
+pub apart_sums : (n : ℕ) (d : DualLists) (sums : List ℤ) → AreSums n d 0 sums → (a b entry : ℕ) → a ≤ length d.z → b ≤ length d.z → entry ≤ length d.z → IsMeeting n (length d.z) d.up a b entry
+    → apart n d a b ≡ (named_sum sums a +ℤ named_sum sums b) -ℤ (named_sum sums entry +ℤ named_sum sums entry)
+apart_sums n d sums are a b entry la lb le meets = omega (arith, ints, apart_is n d a b entry meets, named_around n d sums are a la, named_around n d sums are b lb, named_around n d sums are entry le)
+
+-- The sum that the code makes of three small numbers wraps nowhere.
+pub plain_difference : (x y z : ℤ) → unsigned_abs x ≤ 2 ^ 90 → unsigned_abs y ≤ 2 ^ 90 → unsigned_abs z ≤ 2 ^ 90
+    → to_z w128 (of_z w128 (to_z w128 (of_z w128 (to_z w128 (of_z w128 x) +ℤ to_z w128 (of_z w128 y))) -ℤ to_z w128 (of_z w128 (to_z w128 (of_z w128 z) +ℤ to_z w128 (of_z w128 z))))) ≡ (x +ℤ y) -ℤ (z +ℤ z)
+plain_difference x y z lx ly lz =
+    let a : to_z w128 (of_z w128 x) ≡ x = omega (arith, ints) in
+    let b : to_z w128 (of_z w128 y) ≡ y = omega (arith, ints) in
+    let c : to_z w128 (of_z w128 z) ≡ z = omega (arith, ints) in
+    let ab : to_z w128 (of_z w128 (x +ℤ y)) ≡ x +ℤ y = omega (arith, ints) in
+    let cc' : to_z w128 (of_z w128 (z +ℤ z)) ≡ z +ℤ z = omega (arith, ints) in
+    let all : to_z w128 (of_z w128 ((x +ℤ y) -ℤ (z +ℤ z))) ≡ (x +ℤ y) -ℤ (z +ℤ z) = omega (arith, ints) in
+    rw (a, b, c, ab, cc', all) refl
+
+-- How great it is.
+pub abs_difference : (x y z : ℤ) → unsigned_abs x ≤ 2 ^ 30 * 10 ^ 18 → unsigned_abs y ≤ 2 ^ 30 * 10 ^ 18 → unsigned_abs z ≤ 2 ^ 30 * 10 ^ 18 → unsigned_abs ((x +ℤ y) -ℤ (z +ℤ z)) ≤ 2 ^ 92
+abs_difference x y z lx ly lz = omega (arith, ints)

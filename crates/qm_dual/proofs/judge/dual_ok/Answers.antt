@@ -1,0 +1,7 @@
+use Rattle.def_flow.specs.Matching.{graph}
+use Rattle.def_flow.specs.Dual.{dual}
+use Rattle.qm_dual.proofs.Verdicts.{bound_where_exact}
+use Rattle.qm_dual.proofs.judge.dual_ok.Goals as goal
+
+pub returns-clause-bound : goal.returns-clause-bound
+returns-clause-bound c = bound_where_exact (graph c.args.g.now) (dual c.args.d.now) c.requires.graph c.judge_sets.result c.judge_sets.ensures

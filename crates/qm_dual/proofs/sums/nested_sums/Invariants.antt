@@ -1,0 +1,10 @@
+use Rattle.std.proofs.Common.{◌≤◌, length}
+use Rattle.def_flow.specs.Dual.{dual}
+use Rattle.qm_dual.specs.Nest.{AreSums}
+use Rattle.qm_dual.proofs.sums.nested_sums.Given as goal
+
+abbrev pub invariant-loop-k : goal.invariant-loop-k
+invariant-loop-k l = record { low : l.k ≤ length l.d.z.items; sums : AreSums l.n (dual l.d) l.k l.sums.items }
+
+abbrev pub decreases-loop-k : goal.decreases-loop-k
+decreases-loop-k l = l.k

@@ -1,0 +1,6 @@
+use Rattle.std.proofs.Common.{◌≡◌, ◌*◌, ◌^◌, ◌≤◌, take, unsigned_abs}
+use Rattle.qm_laws.specs.Sums.{total}
+use Rattle.qm_dual.proofs.sums.sum.Given as goal
+
+abbrev pub invariant-loop-number : goal.invariant-loop-number
+invariant-loop-number l = record { value : l.all ≡ total (λ x. x) (take l.number-index l.numbers); small : unsigned_abs l.all ≤ l.number-index * 10 ^ 18 }

@@ -1,0 +1,13 @@
+//! The judge of duals: whether a dual bounds each perfect matching of a graph, and what is wrong with it if not.
+#![tactic(auto)]
+
+mod judge;
+mod loads;
+mod nest;
+mod paths;
+mod sizes;
+mod sums;
+#[cfg(test)]
+mod tests;
+
+pub use judge::{Memory, dual_ok};

@@ -1,0 +1,132 @@
+ghost use Rattle.std.specs.Prelude.{◌≡◌, ◌+◌, ◌-◌, ◌^◌, ◌<◌, ◌≤◌, ◌≢◌, ◌==◌, ◌&&◌, not, if◌then◌else◌, length, slice_index, IfOk};
+ghost use Rattle.def_flow.specs.Dual.{IsNested};
+ghost use Rattle.qm_dual.specs.Nest.{AreHeads, IsMeeting, HaveSameSets, left};
+
+use crate::judge::Memory;
+use crate::nest::set_around_set;
+use def_flow::Dual;
+use std::alloc::Global;
+
+/// The paths into which the sets fall: each set's entry names the head of its path, from 1. A path goes from a set
+/// to the set around it as long as that holds no greater set, so climbing leaves one path for another at most as often as
+/// the size of a set doubles. Linear in the sets.
+pub(crate) fn path_heads(alloc: Global, n: u32, d: &Dual, sizes: &[u32]) -> Result<Vec<u32>, Memory>
+    requires few { n ≤ 2 ^ 25 }
+    requires sets { length d.now.z.items ≤ 2 ^ 30 }
+    requires nested { IsNested n (length d.now.z.items) d.now.up.items }
+    requires sized { length sizes.now ≡ length d.now.z.items }
+    ensures { IfOk result (λ heads. AreHeads n (length d.now.z.items) d.now.up.items heads.items) }
+{
+    let picks = greatest_inside(alloc, n, d, sizes)?;
+    let mut heads = vec![in alloc; 0u32; d.z.len()]?;
+    let mut k = d.z.len();
+    while k > 0 {
+        k -= 1;
+        heads[k] = head_of(&picks, &heads, set_around_set(n, d, k), k as u32);
+    }
+    Ok(heads)
+}
+
+/// The head of a set: that of the set around it if this picks the set, or else the set itself.
+fn head_of(picks: &[u32], heads: &[u32], entry: u32, set: u32) -> u32
+    requires picked { entry ≤ length picks.now }
+    requires headed { entry ≤ length heads.now }
+    requires few { set < 2 ^ 30 }
+    ensures { result ≡ (if slice_index picks.now (entry - 1) == set + 1 && not (entry == 0) then slice_index heads.now (entry - 1) else set + 1) }
+{
+    if entry != 0 && picks[entry as usize - 1] == set + 1 {
+        heads[entry as usize - 1]
+    } else {
+        set + 1
+    }
+}
+
+/// For each set the greatest of the sets directly inside it, from 1, or 0 if there is none.
+fn greatest_inside(alloc: Global, n: u32, d: &Dual, sizes: &[u32]) -> Result<Vec<u32>, Memory>
+    requires few { n ≤ 2 ^ 25 }
+    requires sets { length d.now.z.items ≤ 2 ^ 30 }
+    requires nested { IsNested n (length d.now.z.items) d.now.up.items }
+    requires sized { length sizes.now ≡ length d.now.z.items }
+    ensures { IfOk result (λ picks. length picks.items ≡ length d.now.z.items) }
+{
+    let mut picks = vec![in alloc; 0u32; d.z.len()]?;
+    for k in 0..d.z.len() {
+        let entry = set_around_set(n, d, k);
+        if entry != 0 {
+            let rival = picks[entry as usize - 1];
+            if rival == 0 || sizes[rival as usize - 1] < sizes[k] {
+                picks[entry as usize - 1] = k as u32 + 1;
+            }
+        }
+    }
+    Ok(picks)
+}
+
+/// The least set around two entries of `up`, from 1, or 0 if there is none. It climbs by paths, so in a number of
+/// turns that is logarithmic in the number of vertices.
+pub(crate) fn meeting(n: u32, d: &Dual, heads: &[u32], a: u32, b: u32) -> u32
+    requires few { n ≤ 2 ^ 25 }
+    requires sets { length d.now.z.items ≤ 2 ^ 30 }
+    requires nested { IsNested n (length d.now.z.items) d.now.up.items }
+    requires headed { AreHeads n (length d.now.z.items) d.now.up.items heads.now }
+    requires first { a ≤ length d.now.z.items }
+    requires second { b ≤ length d.now.z.items }
+    ensures low { result ≤ length d.now.z.items }
+    ensures least { IsMeeting n (length d.now.z.items) d.now.up.items a b result }
+{
+    let mut first = a;
+    let mut second = b;
+    while first != 0 && second != 0 && heads[first as usize - 1] != heads[second as usize - 1] {
+        (first, second) = leave_path(n, d, heads, first, second);
+    }
+    if first == 0 || second == 0 {
+        0
+    } else {
+        first.max(second)
+    }
+}
+
+/// Two entries, of which the one with the lower head has left its path.
+fn leave_path(n: u32, d: &Dual, heads: &[u32], a: u32, b: u32) -> (u32, u32)
+    requires few { n ≤ 2 ^ 25 }
+    requires sets { length d.now.z.items ≤ 2 ^ 30 }
+    requires nested { IsNested n (length d.now.z.items) d.now.up.items }
+    requires headed { AreHeads n (length d.now.z.items) d.now.up.items heads.now }
+    requires first { (a ≢ 0) × (a ≤ length d.now.z.items) }
+    requires second { (b ≢ 0) × (b ≤ length d.now.z.items) }
+    requires apart { slice_index heads.now (a - 1) ≢ slice_index heads.now (b - 1) }
+    ensures low { (result.0 ≤ length d.now.z.items) × (result.1 ≤ length d.now.z.items) }
+    ensures same { HaveSameSets n (length d.now.z.items) d.now.up.items a b result.0 result.1 }
+    ensures less { left (length d.now.z.items) result.0 + left (length d.now.z.items) result.1 < left (length d.now.z.items) a + left (length d.now.z.items) b }
+{
+    if heads[a as usize - 1] < heads[b as usize - 1] {
+        (past_head(n, d, heads, a), b)
+    } else {
+        (a, past_head(n, d, heads, b))
+    }
+}
+
+/// The entry of the head of the path on which the set of an entry lies.
+fn past_head(n: u32, d: &Dual, heads: &[u32], entry: u32) -> u32
+    requires few { n ≤ 2 ^ 25 }
+    requires sets { length d.now.z.items ≤ 2 ^ 30 }
+    requires nested { IsNested n (length d.now.z.items) d.now.up.items }
+    requires headed { AreHeads n (length d.now.z.items) d.now.up.items heads.now }
+    requires named { (entry ≢ 0) × (entry ≤ length d.now.z.items) }
+    ensures value { result ≡ slice_index d.now.up.items (n + (slice_index heads.now (entry - 1) - 1)) }
+    ensures low { result ≤ length d.now.z.items }
+    ensures less { left (length d.now.z.items) result < left (length d.now.z.items) entry }
+{
+    set_around_set(n, d, head_above(n, d, heads, entry) as usize - 1)
+}
+
+/// The head of the path on which the set of an entry lies, from 1.
+fn head_above(n: u32, d: &Dual, heads: &[u32], entry: u32) -> u32
+    requires nested { IsNested n (length d.now.z.items) d.now.up.items }
+    requires headed { AreHeads n (length d.now.z.items) d.now.up.items heads.now }
+    requires named { (entry ≢ 0) × (entry ≤ length d.now.z.items) }
+    ensures value { result ≡ slice_index heads.now (entry - 1) }
+    ensures later { (entry ≤ result) × (result ≤ length d.now.z.items) }
+{
+    heads[entry as usize - 1]
+}

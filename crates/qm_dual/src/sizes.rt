@@ -1,0 +1,58 @@
+ghost use Rattle.std.specs.Prelude.{◌≡◌, ◌+◌, ◌-◌, ◌^◌, ◌<◌, ◌≤◌, length, replicate, slice_index, IfOk};
+ghost use Rattle.def_flow.specs.Dual.{dual, IsNested};
+ghost use Rattle.qm_dual.specs.Nest.{AreTallies, AreSizes, added};
+
+use crate::judge::Memory;
+use crate::nest::{set_around_set, set_around_vertex};
+use def_flow::Dual;
+use std::alloc::Global;
+
+/// How many vertices each set holds. Linear in the entries of `up`.
+pub(crate) fn set_sizes(alloc: Global, n: u32, d: &Dual) -> Result<Vec<u32>, Memory>
+    requires few { n ≤ 2 ^ 25 }
+    requires sets { length d.now.z.items ≤ 2 ^ 30 }
+    requires nested { IsNested n (length d.now.z.items) d.now.up.items }
+    ensures { IfOk result (λ sizes. AreSizes n (dual d.now) sizes.items) }
+{
+    let mut sizes = vec![in alloc; 0u32; d.z.len()]?;
+    count_direct(n, d, &mut sizes);
+    pass_up(n, d, &mut sizes);
+    Ok(sizes)
+}
+
+/// Counts for each set the vertices that have it as the smallest around them.
+fn count_direct(n: u32, d: &Dual, sizes: &mut [u32])
+    requires few { n ≤ 2 ^ 25 }
+    requires nested { IsNested n (length d.now.z.items) d.now.up.items }
+    requires start { sizes.old ≡ replicate (length d.now.z.items) 0 }
+    ensures { AreTallies n (length d.now.z.items) d.now.up.items n (λ k. 0) sizes.new }
+{
+    for v in 0..n {
+        add(sizes, set_around_vertex(n, d, v), 1);
+    }
+}
+
+/// Adds what each set holds to the set around it, from the smallest sets on.
+fn pass_up(n: u32, d: &Dual, sizes: &mut [u32])
+    requires few { n ≤ 2 ^ 25 }
+    requires sets { length d.now.z.items ≤ 2 ^ 30 }
+    requires nested { IsNested n (length d.now.z.items) d.now.up.items }
+    requires start { AreTallies n (length d.now.z.items) d.now.up.items n (λ k. 0) sizes.old }
+    ensures { AreSizes n (dual d.now) sizes.new }
+{
+    for k in 0..sizes.len() {
+        let size = sizes[k];
+        add(sizes, set_around_set(n, d, k), size);
+    }
+}
+
+/// Adds to the number of the set that an entry of `up` names, if it names one.
+fn add(sizes: &mut [u32], entry: u32, more: u32)
+    requires named { entry ≤ length sizes.old }
+    requires fits { slice_index sizes.old (entry - 1) + more < 2 ^ 32 }
+    ensures { sizes.new ≡ added sizes.old entry more }
+{
+    if entry != 0 {
+        sizes[entry as usize - 1] += more;
+    }
+}

@@ -1,0 +1,74 @@
+ghost use Rattle.std.specs.Prelude.{◌≡◌, ◌+◌, ◌^◌, ◌<◌, ◌≤◌, length, unsigned_abs, IfOk};
+ghost use Rattle.qm_laws.specs.Sums.{total};
+ghost use Rattle.def_flow.specs.Dual.{dual, dual_sum, IsNested, AreSmall};
+ghost use Rattle.qm_dual.specs.Nest.{around, named_sum, AreSums};
+
+use crate::judge::Memory;
+use crate::nest::set_around_set;
+use def_flow::Dual;
+use std::alloc::Global;
+
+/// For each set the sum of its `z` and of those of the sets around it. Linear in the sets.
+pub(crate) fn nested_sums(alloc: Global, n: u32, d: &Dual) -> Result<Vec<i128>, Memory>
+    requires few { n ≤ 2 ^ 25 }
+    requires sets { length d.now.z.items ≤ 2 ^ 30 }
+    requires nested { IsNested n (length d.now.z.items) d.now.up.items }
+    requires small { AreSmall d.now.z.items }
+    ensures { IfOk result (λ sums. AreSums n (dual d.now) 0 sums.items) }
+{
+    let mut sums = vec![in alloc; 0i128; d.z.len()]?;
+    let mut k = d.z.len();
+    while k > 0 {
+        k -= 1;
+        sums[k] = own_sum(n, d, &sums, k);
+    }
+    Ok(sums)
+}
+
+/// The sum of the `z` of a set and of those of the sets around it, from the sums of the later sets.
+fn own_sum(n: u32, d: &Dual, sums: &[i128], k: usize) -> i128
+    requires sets { length d.now.z.items ≤ 2 ^ 30 }
+    requires nested { IsNested n (length d.now.z.items) d.now.up.items }
+    requires small { AreSmall d.now.z.items }
+    requires inner { k < length d.now.z.items }
+    requires summed { AreSums n (dual d.now) (k + 1) sums.now }
+    ensures { result ≡ around n (dual d.now) (k + 1) }
+{
+    i128::from(d.z[k]) + sum_of(sums, set_around_set(n, d, k))
+}
+
+/// The sum of the set that an entry of `up` names, or 0 if it names none.
+pub(crate) fn sum_of(sums: &[i128], entry: u32) -> i128
+    requires { entry ≤ length sums.now }
+    ensures { result ≡ named_sum sums.now entry }
+{
+    if entry == 0 {
+        0
+    } else {
+        sums[entry as usize - 1]
+    }
+}
+
+/// The sum of a dual: of all `y` and all `z`.
+pub(crate) fn sum_of_dual(d: &Dual) -> i128
+    requires few { length d.now.y.items ≤ 2 ^ 25 }
+    requires sets { length d.now.z.items ≤ 2 ^ 30 }
+    requires small_y { AreSmall d.now.y.items }
+    requires small_z { AreSmall d.now.z.items }
+    ensures { result ≡ dual_sum (dual d.now) }
+{
+    sum(&d.y) + sum(&d.z)
+}
+
+fn sum(numbers: &[i64]) -> i128
+    requires few { length numbers.now ≤ 2 ^ 30 }
+    requires small { AreSmall numbers.now }
+    ensures value { result ≡ total (λ x. x) numbers.now }
+    ensures small { unsigned_abs result ≤ 2 ^ 90 }
+{
+    let mut all = 0i128;
+    for number in numbers {
+        all += i128::from(*number);
+    }
+    all
+}

@@ -1,0 +1,26 @@
+-- Parts of lists of edges, joined one after the other.
+use Rattle.std.proofs.Common.{◌≡◌, ℕ, zero, suc, ◌+◌, List, [], ◌∷◌, ◌++◌, ℤ, pos, refl, sym, ◌∙◌, ap, append_assoc, add-one, add-zero, arith}
+use Rattle.def_flow.specs.MatchingGraph.{link, fan}
+use Rattle.def_flow.specs.declared.weighted.WEdge.{WEdge}
+
+fan_suc : (u : ℕ) (c : ℤ) (a n : ℕ) → fan u c a (suc n) ≡ fan u c a n ++ link u (a + n) c ∷ []
+fan_suc u c a zero = rw (add-zero a) refl
+fan_suc u c a (suc n) =
+    let there : a + 1 + n ≡ a + suc n = omega arith in
+    ap (λ es. link u a c ∷ es) (rw (← there) (fan_suc u c (a + 1) n))
+
+-- One edge more of a fan.
+pub fan_more : (u : ℕ) (c : ℤ) (a n : ℕ) → fan u c a (n + 1) ≡ fan u c a n ++ link u (a + n) c ∷ []
+fan_more u c a n = rw (add-one n) (fan_suc u c a n)
+
+-- Two parts after what was there.
+pub two_parts : {X : Type 0} (old mid now xs ys : List X) → mid ≡ old ++ xs → now ≡ mid ++ ys → now ≡ old ++ (xs ++ ys)
+two_parts old mid now xs ys first second = second ∙ (ap (λ l. l ++ ys) first ∙ append_assoc old xs ys)
+
+-- Three parts after what was there.
+pub three_parts : {X : Type 0} (old mid next now xs ys zs : List X) → mid ≡ old ++ xs → next ≡ mid ++ ys → now ≡ next ++ zs → now ≡ old ++ (xs ++ (ys ++ zs))
+three_parts old mid next now xs ys zs first second third = two_parts old mid now xs (ys ++ zs) first (two_parts mid next now ys zs second third)
+
+-- A first edge, a part and a last edge after what was there.
+pub pair_parts : {X : Type 0} (old mid next now : List X) (x y : X) (ys : List X) → mid ≡ old ++ x ∷ [] → next ≡ mid ++ ys → now ≡ next ++ y ∷ [] → now ≡ old ++ (x ∷ ys ++ y ∷ [])
+pair_parts old mid next now x y ys first second third = three_parts old mid next now (x ∷ []) ys (y ∷ []) first second third

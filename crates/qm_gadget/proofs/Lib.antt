@@ -1,0 +1,9 @@
+mod ByLows
+mod Copies
+mod Fans
+mod Numbers
+mod OfList
+mod Reading
+mod Rooms
+mod Steps
+mod Told

@@ -1,0 +1,11 @@
+use Rattle.std.proofs.Common.{◌≡◌, ◌+◌, ◌++◌, drop}
+use Rattle.qm_laws.specs.Counts.{count}
+use Rattle.def_flow.specs.MatchingGraph.{units_links, unit_size}
+use Rattle.qm_gadget.specs.Layout.{room_of}
+use Rattle.qm_gadget.proofs.layout.push_units.Given as goal
+
+abbrev pub invariant-loop-unit : goal.invariant-loop-unit
+invariant-loop-unit l = record {
+  edges : l.edges.items ++ units_links (room_of l.rooms) l.b (drop l.unit-index l.units) ≡ l.initial.edges.items ++ units_links (room_of l.rooms) l.first l.units;
+  place : l.b + count unit_size (drop l.unit-index l.units) ≡ l.first + count unit_size l.units;
+}

@@ -1,0 +1,10 @@
+use Rattle.std.proofs.Common.{◌≡◌, ◌+◌, ◌++◌, drop}
+use Rattle.qm_laws.specs.Counts.{count}
+use Rattle.def_flow.specs.MatchingGraph.{rim, unit_size}
+use Rattle.qm_gadget.proofs.rim.rim_of.Given as goal
+
+abbrev pub invariant-loop-unit : goal.invariant-loop-unit
+invariant-loop-unit l = record {
+  rims : l.rims.items ++ rim l.b (drop l.unit-index l.units) ≡ rim l.first l.units;
+  place : l.b + count unit_size (drop l.unit-index l.units) ≡ l.first + count unit_size l.units;
+}

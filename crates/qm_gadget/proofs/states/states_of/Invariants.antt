@@ -1,0 +1,6 @@
+use Rattle.std.proofs.Common.{◌≡◌, ◌++◌, drop}
+use Rattle.qm_gadget.specs.Over.{states_over}
+use Rattle.qm_gadget.proofs.states.states_of.Given as goal
+
+abbrev pub invariant-loop-k : goal.invariant-loop-k
+invariant-loop-k l = l.ons.items ++ states_over (drop l.k l.caps) (drop l.k l.ups) ≡ states_over l.caps l.ups

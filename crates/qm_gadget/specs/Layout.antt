@@ -1,0 +1,27 @@
+-- What the tables hold from which a matching graph is laid out.
+use Rattle.std.specs.Prelude.{◌≡◌, ℕ, suc, ◌+◌, ◌^◌, ◌<◌, ◌≤◌, List, length, Option, Some, None, pos, slice_index, slice_index_or, true}
+use Rattle.qm_laws.specs.Counts.{count_below}
+use Rattle.def_flow.specs.declared.net.End.{End}
+use Rattle.def_flow.specs.declared.units.ArcUnit.{ArcUnit}
+
+-- The number of copies of each node, by its list.
+abbrev pub room_of : List ℕ → ℕ → ℕ
+room_of rooms v = slice_index rooms v
+
+-- The first copy of each node, and past the last node the number of all copies.
+pub record AreFirsts (rooms firsts : List ℕ) : Type 0 where
+  pub count : length firsts ≡ length rooms + 1
+  pub each : (v : ℕ) → v ≤ length rooms → slice_index firsts v ≡ count_below (room_of rooms) v
+  pub few : count_below (room_of rooms) (length rooms) < 2 ^ 26
+
+-- The ends of a unit are at nodes.
+abbrev pub EndsAt : ℕ → End → Option End → Type 0
+EndsAt nodes left None = left.node < nodes
+EndsAt nodes left (Some right) = (left.node < nodes) × (right.node < nodes)
+
+abbrev pub IsAtNodes : ℕ → ArcUnit → Type 0
+IsAtNodes nodes u = EndsAt nodes u.left u.right
+
+-- The ends of all units are at nodes.
+abbrev pub AreAtNodes : ℕ → List ArcUnit → Type 0
+AreAtNodes nodes us = (k : ℕ) (u : ArcUnit) → k < length us → IsAtNodes nodes (slice_index_or us k u)

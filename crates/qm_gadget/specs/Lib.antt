@@ -1,0 +1,6 @@
+pub mod Gadget
+pub mod Layout
+pub mod Marked
+pub mod Over
+pub mod Read
+pub mod Ready

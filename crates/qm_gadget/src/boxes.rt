@@ -1,0 +1,47 @@
+ghost use Rattle.std.specs.Prelude.{◌≡◌, ◌+◌, ◌*◌, ◌^◌, ◌≤◌, length, map, IfOk};
+ghost use Rattle.def_flow.specs.Network.{network};
+ghost use Rattle.def_flow.specs.Units.{down, low, cap};
+
+use def_flow::Net;
+use std::alloc::{AllocError, Global};
+
+/// How many steps an arc of this length can give up, at most 2 of them.
+fn steps_down(net: &Net, step: u64, length: u64) -> u64
+    requires { 1 ≤ step }
+    ensures value { result ≡ down (network net.now) step length }
+    ensures small { result ≤ 2 }
+{
+    (length.saturating_sub(u64::from(net.floor)) / step).min(2)
+}
+
+/// The least length that the units of an arc of this length can give.
+fn low_of(net: &Net, step: u64, length: u64) -> u64
+    requires { (1 ≤ step) × (step ≤ 4096) }
+    ensures value { result ≡ low (network net.now) step length }
+{
+    length.saturating_sub(steps_down(net, step, length) * step)
+}
+
+/// The least length of each arc that the units can give.
+pub(crate) fn lows_of(alloc: Global, net: &Net, step: u64, x: &[u64]) -> Result<Vec<u64>, AllocError>
+    requires { (1 ≤ step) × (step ≤ 4096) }
+    ensures { IfOk result (λ lows. lows.items ≡ map (low (network net.now) step) x.now) }
+{
+    let mut lows = Vec::with_capacity(alloc, x.len())?;
+    for length in x {
+        lows.push(low_of(net, step, *length))?;
+    }
+    Ok(lows)
+}
+
+/// The number of units of each arc.
+pub(crate) fn caps_of(alloc: Global, net: &Net, step: u64, x: &[u64]) -> Result<Vec<u32>, AllocError>
+    requires { 1 ≤ step }
+    ensures { IfOk result (λ caps. caps.items ≡ map (cap (network net.now) step) x.now) }
+{
+    let mut caps = Vec::with_capacity(alloc, x.len())?;
+    for length in x {
+        caps.push(steps_down(net, step, *length) as u32 + 2)?;
+    }
+    Ok(caps)
+}

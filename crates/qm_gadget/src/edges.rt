@@ -1,0 +1,121 @@
+ghost use Rattle.std.specs.Prelude.{◌≡◌, ◌+◌, ◌^◌, ◌<◌, ◌≤◌, [], ◌∷◌, ◌++◌, pos, length, OnOk};
+ghost use Rattle.def_flow.specs.MatchingGraph.{link, fan, to_copies, inner_link, links_by, unit_links, are_alike, unit_size};
+ghost use Rattle.qm_gadget.specs.Layout.{room_of, AreFirsts, IsAtNodes};
+
+use def_flow::{ArcUnit, End, WEdge};
+use std::alloc::AllocError;
+
+/// Adds an edge.
+pub(crate) fn push_link(edges: &mut Vec<WEdge>, u: u32, v: u32, cost: i64) -> Result<(), AllocError>
+    ensures { OnOk result (edges.new.items ≡ edges.old.items ++ link u v cost ∷ []) }
+{
+    edges.push(WEdge { u, v, cost })?;
+    Ok(())
+}
+
+/// Adds edges from `u` to so many vertices, from the first on.
+#[tactic(auto, using(crate::proofs::Fans::fan_more))]
+fn push_fan(edges: &mut Vec<WEdge>, u: u32, cost: i64, first: u32, copies: u32) -> Result<(), AllocError>
+    requires { first + copies ≤ 2 ^ 26 }
+    ensures { OnOk result (edges.new.items ≡ edges.old.items ++ fan u cost first copies) }
+{
+    for k in 0..copies {
+        push_link(edges, u, first + k, cost)?;
+    }
+    Ok(())
+}
+
+/// Adds edges from `u` to each copy of the node of an end. A plus end is paid for here.
+fn push_to_copies(edges: &mut Vec<WEdge>, rooms: &[u32], firsts: &[u32], u: u32, cost: i64, end: &End) -> Result<(), AllocError>
+    requires at { end.now.node < length rooms.now }
+    requires firsts { AreFirsts rooms.now firsts.now }
+    ensures { OnOk result (edges.new.items ≡ edges.old.items ++ to_copies (room_of rooms.now) u cost end.now) }
+{
+    let node = end.node as usize;
+    let paid = if end.plus { cost } else { 0 };
+    push_fan(edges, u, paid, firsts[node], rooms[node])
+}
+
+/// Adds the edge inside a unit. A minus end is paid for here.
+fn push_inner(edges: &mut Vec<WEdge>, b: u32, cost: i64, end: &End) -> Result<(), AllocError>
+    requires { b < 2 ^ 26 }
+    ensures { OnOk result (edges.new.items ≡ edges.old.items ++ inner_link b cost end.now ∷ []) }
+{
+    let paid = if end.plus { 0 } else { cost };
+    push_link(edges, b, b + 1, paid)
+}
+
+/// Adds the edges of a unit with one end.
+#[tactic(auto, using(crate::proofs::Fans::two_parts))]
+fn push_lone(edges: &mut Vec<WEdge>, rooms: &[u32], firsts: &[u32], b: u32, cost: i64, left: &End) -> Result<(), AllocError>
+    requires small { b < 2 ^ 26 }
+    requires at { left.now.node < length rooms.now }
+    requires firsts { AreFirsts rooms.now firsts.now }
+    ensures { OnOk result (edges.new.items ≡ edges.old.items ++ links_by (room_of rooms.now) b cost left.now None) }
+{
+    push_to_copies(edges, rooms, firsts, b, cost, left)?;
+    push_inner(edges, b, cost, left)
+}
+
+/// Adds the edges of a unit whose two ends have like signs.
+#[tactic(auto, using(crate::proofs::Fans::three_parts))]
+fn push_alike(edges: &mut Vec<WEdge>, rooms: &[u32], firsts: &[u32], b: u32, cost: i64, left: &End, right: &End) -> Result<(), AllocError>
+    requires small { b < 2 ^ 26 }
+    requires at { (left.now.node < length rooms.now) × (right.now.node < length rooms.now) }
+    requires firsts { AreFirsts rooms.now firsts.now }
+    ensures { OnOk result (edges.new.items ≡ edges.old.items ++ (to_copies (room_of rooms.now) b cost left.now ++ (to_copies (room_of rooms.now) (b + 1) (pos 0) right.now ++ inner_link b cost left.now ∷ []))) }
+{
+    push_to_copies(edges, rooms, firsts, b, cost, left)?;
+    push_to_copies(edges, rooms, firsts, b + 1, 0, right)?;
+    push_inner(edges, b, cost, left)
+}
+
+/// Adds the edges of a unit whose two ends have unlike signs.
+#[tactic(auto, using(crate::proofs::Fans::two_parts))]
+fn push_unlike(edges: &mut Vec<WEdge>, rooms: &[u32], firsts: &[u32], b: u32, cost: i64, left: &End, right: &End) -> Result<(), AllocError>
+    requires at { (left.now.node < length rooms.now) × (right.now.node < length rooms.now) }
+    requires firsts { AreFirsts rooms.now firsts.now }
+    ensures { OnOk result (edges.new.items ≡ edges.old.items ++ (to_copies (room_of rooms.now) b cost left.now ++ to_copies (room_of rooms.now) b cost right.now)) }
+{
+    push_to_copies(edges, rooms, firsts, b, cost, left)?;
+    push_to_copies(edges, rooms, firsts, b, cost, right)
+}
+
+/// Whether two ends have like signs.
+pub(crate) fn have_like_signs(left: &End, right: &End) -> bool
+    ensures { result ≡ are_alike left.now right.now }
+{
+    left.plus == right.plus
+}
+
+/// Adds the edges of a unit whose first vertex is `b`.
+pub(crate) fn push_unit(edges: &mut Vec<WEdge>, rooms: &[u32], firsts: &[u32], b: u32, unit: &ArcUnit) -> Result<(), AllocError>
+    requires small { b < 2 ^ 26 }
+    requires at { IsAtNodes (length rooms.now) unit.now }
+    requires firsts { AreFirsts rooms.now firsts.now }
+    ensures { OnOk result (edges.new.items ≡ edges.old.items ++ unit_links (room_of rooms.now) b unit.now) }
+{
+    match &unit.right {
+        None => push_lone(edges, rooms, firsts, b, unit.cost, &unit.left),
+        Some(right) => {
+            if have_like_signs(&unit.left, right) {
+                push_alike(edges, rooms, firsts, b, unit.cost, &unit.left, right)
+            } else {
+                push_unlike(edges, rooms, firsts, b, unit.cost, &unit.left, right)
+            }
+        }
+    }
+}
+
+/// How many vertices a unit has of its own.
+pub(crate) fn size_of_unit(unit: &ArcUnit) -> u32
+    ensures value { result ≡ unit_size unit.now }
+    ensures small { (1 ≤ result) × (result ≤ 2) }
+{
+    match &unit.right {
+        None => 2,
+        Some(right) => {
+            if have_like_signs(&unit.left, right) { 2 } else { 1 }
+        }
+    }
+}

@@ -1,0 +1,22 @@
+//! The matching graph of a list of lengths: built from the list, with a matching for each list nearby, and back.
+#![tactic(auto)]
+
+mod boxes;
+mod edges;
+mod build;
+mod layout;
+mod lengths;
+mod marks;
+mod matching;
+mod plan;
+mod rim;
+mod rim_marks;
+mod states;
+mod units;
+
+pub use build::{Gadget, graph_of};
+pub use lengths::lengths_of;
+pub use matching::matching_of;
+
+/// Want of memory.
+pub type Memory = std::alloc::AllocError;

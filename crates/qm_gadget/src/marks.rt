@@ -1,0 +1,127 @@
+ghost use Rattle.std.specs.Prelude.{◌≡◌, ◌+◌, ◌*◌, ◌^◌, ◌<◌, ◌≤◌, [], ◌∷◌, ◌++◌, replicate, ℕ, length, slice_index, OnOk, IfOk};
+ghost use Rattle.def_flow.specs.Units.{is_active as is_active_end};
+ghost use Rattle.qm_units.specs.Marks.{places, choice, end_marks, marks_by, units_marks};
+ghost use Rattle.qm_units.specs.Told.{width_by};
+ghost use Rattle.qm_gadget.specs.Layout.{room_of, IsAtNodes, AreAtNodes};
+ghost use Rattle.qm_gadget.specs.Marked.{right_marks};
+ghost use Rattle.qm_gadget.specs.Over.{bumped, bumped_unit};
+
+use crate::edges::have_like_signs;
+use crate::states::{bump, is_active};
+use def_flow::{ArcUnit, End};
+use std::alloc::{AllocError, Global};
+
+/// Adds the number `k` if it is marked.
+pub(crate) fn push_mark(m: &mut Vec<u32>, k: u32, mark: bool) -> Result<(), AllocError>
+    ensures { OnOk result (m.new.items ≡ m.old.items ++ places k (mark ∷ [])) }
+{
+    if mark {
+        m.push(k)?;
+    }
+    Ok(())
+}
+
+/// Adds the number of the edge at place `i` of `n` edges from `k` on, if there is one to choose.
+fn push_choice(m: &mut Vec<u32>, k: u32, some: bool, i: u32, n: u32) -> Result<(), AllocError>
+    requires { k + n < 2 ^ 32 }
+    ensures { OnOk result (m.new.items ≡ m.old.items ++ places k (choice some i n)) }
+{
+    if some && i < n {
+        m.push(k + i)?;
+    }
+    Ok(())
+}
+
+/// Adds the edge of an end to the first copy that is not in use, if the end is active.
+fn push_end_marks(m: &mut Vec<u32>, k: u32, rooms: &[u32], used: &[u32], end: &End, on: bool) -> Result<(), AllocError>
+    requires at { end.now.node < length rooms.now }
+    requires same { length used.now ≡ length rooms.now }
+    requires few { (k ≤ 2 ^ 28) × (slice_index rooms.now end.now.node ≤ 2 ^ 28) }
+    ensures { OnOk result (m.new.items ≡ m.old.items ++ places k (end_marks (room_of rooms.now) (room_of used.now) (is_active_end on end.now) end.now)) }
+{
+    let node = end.node as usize;
+    push_choice(m, k, is_active(end, on), used[node], rooms[node])
+}
+
+/// Adds the chosen edges of the second end of a unit, and of the edge inside it if the signs are alike.
+fn push_right_marks(m: &mut Vec<u32>, k: u32, rooms: &[u32], used: &[u32], left: &End, right: &End, on: bool) -> Result<(), AllocError>
+    requires at { right.now.node < length rooms.now }
+    requires same { length used.now ≡ length rooms.now }
+    requires few { (k ≤ 2 ^ 28) × (slice_index rooms.now right.now.node ≤ 2 ^ 28) }
+    ensures { OnOk result (m.new.items ≡ m.old.items ++ places k (right_marks (room_of rooms.now) (room_of used.now) on left.now right.now)) }
+{
+    push_end_marks(m, k, rooms, used, right, on)?;
+    if have_like_signs(left, right) {
+        push_mark(m, k + rooms[right.node as usize], !is_active(left, on))?;
+    }
+    Ok(())
+}
+
+/// Adds the chosen edges of a unit, the first of which is `k`, and counts the copies that come into use.
+fn push_unit_marks(m: &mut Vec<u32>, k: u32, rooms: &[u32], used: &mut [u32], unit: &ArcUnit, on: bool) -> Result<(), AllocError>
+    requires at { IsAtNodes (length rooms.now) unit.now }
+    requires same { length used.old ≡ length rooms.now }
+    requires few { (k ≤ 2 ^ 27) × ((v : ℕ) → slice_index rooms.now v ≤ 2 ^ 27) }
+    requires small { (v : ℕ) → slice_index used.old v ≤ 2 ^ 30 }
+    ensures marks { OnOk result (m.new.items ≡ m.old.items ++ places k (marks_by (room_of rooms.now) (room_of used.old) on unit.now.left unit.now.right)) }
+    ensures used { OnOk result (used.new ≡ bumped_unit used.old unit.now on) }
+{
+    push_end_marks(m, k, rooms, used, &unit.left, on)?;
+    bump(used, &unit.left, on);
+    let after = k + rooms[unit.left.node as usize];
+    match &unit.right {
+        None => push_mark(m, after, !is_active(&unit.left, on)),
+        Some(right) => {
+            push_right_marks(m, after, rooms, used, &unit.left, right, on)?;
+            bump(used, right, on);
+            Ok(())
+        }
+    }
+}
+
+/// How many edges a unit has.
+pub(crate) fn width_of(rooms: &[u32], unit: &ArcUnit) -> u32
+    requires at { IsAtNodes (length rooms.now) unit.now }
+    requires few { (v : ℕ) → slice_index rooms.now v ≤ 2 ^ 27 }
+    ensures { result ≡ width_by (room_of rooms.now) unit.now.left unit.now.right }
+{
+    let left = rooms[unit.left.node as usize];
+    match &unit.right {
+        None => left + 1,
+        Some(right) => {
+            let right_room = rooms[right.node as usize];
+            if have_like_signs(&unit.left, right) { left + (right_room + 1) } else { left + right_room }
+        }
+    }
+}
+
+/// Adds the chosen edges of all units, and gives the number of the first edge past them.
+pub(crate) fn push_units_marks(alloc: Global, m: &mut Vec<u32>, rooms: &[u32], units: &[ArcUnit], ons: &[bool]) -> Result<u32, AllocError>
+    requires at { AreAtNodes (length rooms.now) units.now }
+    requires states { length units.now ≡ length ons.now }
+    requires few { (length units.now ≤ 2 ^ 25) × ((v : ℕ) → slice_index rooms.now v ≤ 2 ^ 27) }
+    requires short { length (units_marks (room_of rooms.now) (λ v. 0) units.now ons.now) ≤ 2 ^ 26 }
+    ensures marks { OnOk result (m.new.items ≡ m.old.items ++ places 0 (units_marks (room_of rooms.now) (λ v. 0) units.now ons.now)) }
+    ensures past { IfOk result (λ past. past ≡ length (units_marks (room_of rooms.now) (λ v. 0) units.now ons.now)) }
+{
+    let mut used = vec![in alloc; 0u32; rooms.len()]?;
+    push_all_marks(m, rooms, &mut used, units, ons)
+}
+
+/// The same, where copies are in use before.
+fn push_all_marks(m: &mut Vec<u32>, rooms: &[u32], used: &mut [u32], units: &[ArcUnit], ons: &[bool]) -> Result<u32, AllocError>
+    requires at { AreAtNodes (length rooms.now) units.now }
+    requires states { length units.now ≡ length ons.now }
+    requires few { (length units.now ≤ 2 ^ 25) × ((v : ℕ) → slice_index rooms.now v ≤ 2 ^ 27) }
+    requires start { used.old ≡ replicate (length rooms.now) 0 }
+    requires short { length (units_marks (room_of rooms.now) (room_of used.old) units.now ons.now) ≤ 2 ^ 26 }
+    ensures marks { OnOk result (m.new.items ≡ m.old.items ++ places 0 (units_marks (room_of rooms.now) (room_of used.old) units.now ons.now)) }
+    ensures past { IfOk result (λ past. past ≡ length (units_marks (room_of rooms.now) (room_of used.old) units.now ons.now)) }
+{
+    let mut k = 0;
+    for (i, unit) in units.iter().enumerate() {
+        push_unit_marks(m, k, rooms, used, unit, ons[i])?;
+        k += width_of(rooms, unit);
+    }
+    Ok(k)
+}

@@ -1,0 +1,32 @@
+ghost use Rattle.std.specs.Prelude.{◌≡◌, ◌≤◌, IfOk, length};
+ghost use Rattle.def_flow.specs.Network.{network, IsWithinBounds};
+ghost use Rattle.qm_gadget.specs.Ready.{IsReady, IsPlan};
+
+use crate::states::{count_active, downs_of, is_rim_odd, states_of};
+use crate::units::units_of;
+use def_flow::{ArcUnit, Net};
+use std::alloc::{AllocError, Global};
+
+/// What a matching graph is laid out from: the units, the number of copies of each node, and whether there is a
+/// lone vertex.
+#[derive(Drop)]
+pub struct Plan {
+    pub units: Vec<ArcUnit>,
+    pub rooms: Vec<u32>,
+    pub lone: bool,
+}
+
+/// The plan of the list with these lows and caps.
+pub(crate) fn plan_of(alloc: Global, net: &Net, step: u64, lows: &[u64], caps: &[u32]) -> Result<Plan, AllocError>
+    requires bounds { IsWithinBounds (network net.now) }
+    requires step { (1 ≤ step) × (step ≤ 4096) }
+    requires ready { IsReady (network net.now) step lows.now caps.now }
+    ensures { IfOk result (λ plan. IsPlan (network net.now) step lows.now caps.now plan) }
+{
+    let units = units_of(alloc, net, step, lows, caps)?;
+    let downs = downs_of(alloc, caps)?;
+    let ons = states_of(alloc, caps, &downs)?;
+    let rooms = count_active(alloc, net.nodes, &units, &ons)?;
+    let lone = is_rim_odd(&units, &ons);
+    Ok(Plan { units, rooms, lone })
+}

@@ -1,0 +1,64 @@
+ghost use Rattle.std.specs.Prelude.{◌≡◌, ◌+◌, ◌*◌, ◌^◌, ◌<◌, ◌≤◌, [], ◌∷◌, ◌++◌, pos, length, OnOk, IfOk};
+ghost use Rattle.qm_laws.specs.Counts.{count};
+ghost use Rattle.def_flow.specs.MatchingGraph.{link, link_from, rim, rim_links, unit_size};
+
+use crate::edges::{push_link, size_of_unit};
+use def_flow::{ArcUnit, WEdge};
+use std::alloc::{AllocError, Global};
+
+/// The vertices at the rim, one for each unit with one end, where the vertices of the units begin at `first`.
+pub(crate) fn rim_of(alloc: Global, first: u32, units: &[ArcUnit]) -> Result<Vec<u32>, AllocError>
+    requires { first + count unit_size units.now < 2 ^ 26 }
+    ensures { IfOk result (λ rims. rims.items ≡ rim first units.now) }
+{
+    let mut rims = Vec::new(alloc);
+    let mut b = first;
+    for unit in units {
+        if unit.right.is_none() {
+            rims.push(b + 1)?;
+        }
+        b += size_of_unit(unit);
+    }
+    Ok(rims)
+}
+
+/// Adds the edges that join the vertices at the rim.
+pub(crate) fn push_rim(edges: &mut Vec<WEdge>, lone: Option<u32>, first: u32, rims: &[u32]) -> Result<(), AllocError>
+    requires { first + 2 * length rims.now < 2 ^ 26 }
+    ensures { OnOk result (edges.new.items ≡ edges.old.items ++ rim_links lone first rims.now) }
+{
+    let mut before = lone;
+    let mut fresh = first;
+    let mut rest = rims;
+    while let [here, after @ ..] = rest {
+        push_from(edges, before, *here)?;
+        if !after.is_empty() {
+            push_pair(edges, before, *here, fresh)?;
+            before = Some(fresh + 1);
+            fresh += 2;
+        }
+        rest = after;
+    }
+    Ok(())
+}
+
+/// Adds the edge from a vertex that may be missing.
+fn push_from(edges: &mut Vec<WEdge>, before: Option<u32>, v: u32) -> Result<(), AllocError>
+    ensures { OnOk result (edges.new.items ≡ edges.old.items ++ link_from before v) }
+{
+    match before {
+        None => Ok(()),
+        Some(b) => push_link(edges, b, v, 0),
+    }
+}
+
+/// Adds the edges of a pair of fresh vertices that come after `here`.
+#[tactic(auto, using(crate::proofs::Fans::pair_parts))]
+fn push_pair(edges: &mut Vec<WEdge>, before: Option<u32>, here: u32, fresh: u32) -> Result<(), AllocError>
+    requires { fresh < 2 ^ 26 }
+    ensures { OnOk result (edges.new.items ≡ edges.old.items ++ (link here fresh (pos 0) ∷ link_from before fresh ++ link fresh (fresh + 1) (pos 0) ∷ [])) }
+{
+    push_link(edges, here, fresh, 0)?;
+    push_from(edges, before, fresh)?;
+    push_link(edges, fresh, fresh + 1, 0)
+}

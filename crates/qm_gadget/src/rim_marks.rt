@@ -1,0 +1,93 @@
+ghost use Rattle.std.specs.Prelude.{◌≡◌, ◌+◌, ◌*◌, ◌^◌, ◌≤◌, [], ◌∷◌, ◌++◌, not, ◌&&◌, cond, length, OnOk, IfOk};
+ghost use Rattle.def_flow.specs.Units.{is_active as is_active_end};
+ghost use Rattle.qm_units.specs.Marks.{places, rim_states, with_state, differ};
+ghost use Rattle.qm_gadget.specs.Marked.{mark_if, rim_by, turn_marks};
+
+use crate::marks::push_mark;
+use crate::states::is_active;
+use def_flow::ArcUnit;
+use std::alloc::{AllocError, Global};
+
+/// Whether each unit with one end waits for a mate at the rim.
+pub(crate) fn rim_states_of(alloc: Global, units: &[ArcUnit], ons: &[bool]) -> Result<Vec<bool>, AllocError>
+    requires { length units.now ≡ length ons.now }
+    ensures { IfOk result (λ states. states.items ≡ rim_states units.now ons.now) }
+{
+    let mut states = Vec::new(alloc);
+    for (k, unit) in units.iter().enumerate() {
+        push_rim_state(&mut states, unit, ons[k])?;
+    }
+    Ok(states)
+}
+
+/// Adds whether a unit waits at the rim, if it has one end.
+fn push_rim_state(states: &mut Vec<bool>, unit: &ArcUnit, on: bool) -> Result<(), AllocError>
+    ensures { OnOk result (states.new.items ≡ states.old.items ++ with_state unit.now.right (is_active_end on unit.now.left) []) }
+{
+    if unit.right.is_none() {
+        states.push(is_active(&unit.left, on))?;
+    }
+    Ok(())
+}
+
+/// Adds the chosen edges at the rim, the first of which is `first`.
+pub(crate) fn push_rim_marks(m: &mut Vec<u32>, first: u32, lone: bool, states: &[bool]) -> Result<(), AllocError>
+    requires { first + 4 * length states.now ≤ 2 ^ 28 }
+    ensures { OnOk result (m.new.items ≡ m.old.items ++ places first (rim_by lone lone states.now)) }
+{
+    let mut k = first;
+    let mut there = lone;
+    let mut waits = lone;
+    for (i, here) in states.iter().enumerate() {
+        k = push_rim_turn(m, k, there, waits, *here, i + 1 == states.len())?;
+        waits = are_different(waits, *here);
+        there = true;
+    }
+    Ok(())
+}
+
+/// Adds the chosen edges of one vertex at the rim and of the pair after it, and gives the number past them.
+fn push_rim_turn(m: &mut Vec<u32>, k: u32, there: bool, waits: bool, here: bool, last: bool) -> Result<u32, AllocError>
+    requires { k ≤ 2 ^ 28 }
+    ensures marks { OnOk result (m.new.items ≡ m.old.items ++ places k (turn_marks there waits here last)) }
+    ensures past { IfOk result (λ past. past ≡ k + length (turn_marks there waits here last)) }
+{
+    push_if(m, k, there, waits && here)?;
+    let next = k + width_if(there);
+    if last {
+        return Ok(next);
+    }
+    push_pair_marks(m, next, there, waits, here)?;
+    Ok(next + 2 + width_if(there))
+}
+
+/// How many edges there are where one may be missing.
+fn width_if(there: bool) -> u32
+    ensures value { result ≡ cond there 1 0 }
+    ensures small { result ≤ 1 }
+{
+    if there { 1 } else { 0 }
+}
+
+fn are_different(a: bool, b: bool) -> bool
+    ensures { result ≡ differ a b }
+{
+    a != b
+}
+
+/// Adds an edge that may be missing, if it is chosen.
+fn push_if(m: &mut Vec<u32>, k: u32, there: bool, mark: bool) -> Result<(), AllocError>
+    ensures { OnOk result (m.new.items ≡ m.old.items ++ places k (mark_if there mark)) }
+{
+    if there { push_mark(m, k, mark) } else { Ok(()) }
+}
+
+/// Adds the chosen edges of the pair of vertices after one at the rim.
+fn push_pair_marks(m: &mut Vec<u32>, k: u32, there: bool, waits: bool, here: bool) -> Result<(), AllocError>
+    requires { k ≤ 2 ^ 30 }
+    ensures { OnOk result (m.new.items ≡ m.old.items ++ places k ((not waits && here) ∷ mark_if there (waits && not here) ++ not (differ waits here) ∷ [])) }
+{
+    push_mark(m, k, !waits && here)?;
+    push_if(m, k + 1, there, waits && !here)?;
+    push_mark(m, k + 1 + width_if(there), !are_different(waits, here))
+}

@@ -1,0 +1,121 @@
+ghost use Rattle.std.specs.Prelude.{◌≡◌, ◌+◌, ◌-◌, ◌*◌, ◌%◌, ◌^◌, ◌<◌, ◌≤◌, ◌++◌, ◌==◌, [], ◌∷◌, ℕ, cond, length, slice_index, map, replicate, OnOk, IfOk};
+ghost use Rattle.def_flow.specs.Units.{run, rim_active, alone_active};
+ghost use Rattle.def_flow.specs.Units.{is_active as is_active_end};
+ghost use Rattle.qm_gadget.specs.Layout.{AreAtNodes, IsAtNodes};
+ghost use Rattle.qm_gadget.specs.Over.{states_over, bumped, bumped_unit, AreRooms};
+
+use def_flow::{ArcUnit, End};
+use std::alloc::{AllocError, Global};
+
+/// How many units of each arc are on at the list itself.
+pub(crate) fn downs_of(alloc: Global, caps: &[u32]) -> Result<Vec<u32>, AllocError>
+    ensures { IfOk result (λ downs. downs.items ≡ map (λ cap. cap - 2) caps.now) }
+{
+    caps.iter().map(|cap| cap.saturating_sub(2)).collect(alloc)
+}
+
+/// The states of all units, where of each arc so many are on.
+pub(crate) fn states_of(alloc: Global, caps: &[u32], ups: &[u32]) -> Result<Vec<bool>, AllocError>
+    requires { length caps.now ≡ length ups.now }
+    ensures { IfOk result (λ ons. ons.items ≡ states_over caps.now ups.now) }
+{
+    let mut ons = Vec::new(alloc);
+    for (k, cap) in caps.iter().enumerate() {
+        push_run(&mut ons, ups[k], *cap)?;
+    }
+    Ok(ons)
+}
+
+/// Adds the states of so many units, of which the first `up` are on.
+fn push_run(ons: &mut Vec<bool>, up: u32, cap: u32) -> Result<(), AllocError>
+    ensures { OnOk result (ons.new.items ≡ ons.old.items ++ run up cap) }
+{
+    for k in 0..cap {
+        push_state(ons, k < up)?;
+    }
+    Ok(())
+}
+
+fn push_state(ons: &mut Vec<bool>, on: bool) -> Result<(), AllocError>
+    ensures { OnOk result (ons.new.items ≡ ons.old.items ++ on ∷ []) }
+{
+    ons.push(on)?;
+    Ok(())
+}
+
+/// Whether an end is active at a unit in this state.
+pub(crate) fn is_active(end: &End, on: bool) -> bool
+    ensures { result ≡ is_active_end on end.now }
+{
+    end.plus == on
+}
+
+/// How many active unit ends there are at each node.
+pub(crate) fn count_active(alloc: Global, nodes: u32, units: &[ArcUnit], ons: &[bool]) -> Result<Vec<u32>, AllocError>
+    requires states { length units.now ≡ length ons.now }
+    requires few { length units.now ≤ 2 ^ 25 }
+    requires at { AreAtNodes nodes units.now }
+    ensures { IfOk result (λ rooms. AreRooms nodes units.now ons.now rooms.items) }
+{
+    let mut rooms = vec![in alloc; 0u32; nodes as usize]?;
+    bump_all(&mut rooms, units, ons);
+    Ok(rooms)
+}
+
+/// Adds to the number of each node its active unit ends.
+fn bump_all(rooms: &mut [u32], units: &[ArcUnit], ons: &[bool])
+    requires states { length units.now ≡ length ons.now }
+    requires few { length units.now ≤ 2 ^ 25 }
+    requires at { AreAtNodes (length rooms.old) units.now }
+    requires start { rooms.old ≡ replicate (length rooms.old) 0 }
+    ensures { AreRooms (length rooms.old) units.now ons.now rooms.new }
+{
+    for (k, unit) in units.iter().enumerate() {
+        bump_unit(rooms, unit, ons[k]);
+    }
+}
+
+/// Adds to the numbers of nodes the active ends of a unit.
+fn bump_unit(rooms: &mut [u32], unit: &ArcUnit, on: bool)
+    requires small { (v : ℕ) → slice_index rooms.old v ≤ 2 ^ 30 }
+    requires at { IsAtNodes (length rooms.old) unit.now }
+    ensures { rooms.new ≡ bumped_unit rooms.old unit.now on }
+{
+    bump(rooms, &unit.left, on);
+    if let Some(right) = &unit.right {
+        bump(rooms, right, on);
+    }
+}
+
+/// Adds one to the number of the node of an end, if it is active.
+pub(crate) fn bump(rooms: &mut [u32], end: &End, on: bool)
+    requires small { (v : ℕ) → slice_index rooms.old v ≤ 2 ^ 30 + 1 }
+    requires at { end.now.node < length rooms.old }
+    ensures { rooms.new ≡ bumped rooms.old end.now on }
+{
+    if is_active(end, on) {
+        rooms[end.node as usize] += 1;
+    }
+}
+
+/// Whether an odd number of units with one end are active.
+pub(crate) fn is_rim_odd(units: &[ArcUnit], ons: &[bool]) -> bool
+    requires { length units.now ≡ length ons.now }
+    ensures { result ≡ (rim_active units.now ons.now % 2 == 1) }
+{
+    let mut odd = false;
+    for (k, unit) in units.iter().enumerate() {
+        odd = odd != is_rim_active(unit, ons[k]);
+    }
+    odd
+}
+
+/// Whether a unit has one end, and this is active.
+fn is_rim_active(unit: &ArcUnit, on: bool) -> bool
+    ensures { cond result 1 0 ≡ alone_active unit.now.left unit.now.right on }
+{
+    match &unit.right {
+        None => is_active(&unit.left, on),
+        Some(_) => false,
+    }
+}

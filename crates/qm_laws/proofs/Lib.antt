@@ -1,0 +1,5 @@
+pub mod Counts
+pub mod Ends
+pub mod Entries
+pub mod Searches
+pub mod Sums

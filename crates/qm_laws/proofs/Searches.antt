@@ -1,0 +1,50 @@
+-- Laws of the least number that passes a test.
+use Rattle.std.proofs.Common.{◌≡◌, ℕ, zero, suc, ◌<◌, Bool, true, false, Option, Some, None, refl, sym, ◌∙◌, ap, inl, inr, arith}
+use Rattle.std.proofs.lemmas.Bool.{cases_eq}
+use Rattle.qm_laws.specs.Searches.{least, or_this}
+
+-- Where none passes, none is found.
+pub least_none : (p : ℕ → Bool) (n : ℕ) → ((k : ℕ) → k < n → p k ≡ false) → least p n ≡ None
+least_none p zero off = refl
+least_none p (suc n) off = rw (least_none p n (λ k l. off k (omega arith)), off n (omega arith)) refl
+
+-- The first that passes is found.
+pub least_some : (p : ℕ → Bool) (n j : ℕ) → j < n → ((k : ℕ) → k < j → p k ≡ false) → p j ≡ true → least p n ≡ Some j
+least_some p zero j l off on = absurd (omega arith)
+least_some p (suc n) j l off on = elim (cases_eq j n) [ inl e ↦ at_end e | inr ne ↦ before ne (least_some p n) ]
+  where
+    at_end : j ≡ n → least p (suc n) ≡ Some j
+    at_end e =
+        let none : least p n ≡ None = least_none p n (λ k lk. off k (omega arith)) in
+        let here : p n ≡ true = ap p (sym e) ∙ on in
+        rw (none, here) (ap Some (sym e))
+
+    before : (j ≡ n → ⊥) → ((i : ℕ) → i < n → ((k : ℕ) → k < i → p k ≡ false) → p i ≡ true → least p n ≡ Some i) → least p (suc n) ≡ Some j
+    before ne rest =
+        let found : least p n ≡ Some j = rest j (omega arith) off on in
+        rw found refl
+
+-- Where none is found, none passes.
+pub none_below : (p : ℕ → Bool) (n : ℕ) → least p n ≡ None → (k : ℕ) → k < n → p k ≡ false
+none_below p zero none k l = absurd (omega arith)
+none_below p (suc n) none k l = by_before (least p n) (p n) refl refl none (none_below p n)
+  where
+    by_before : (o : Option ℕ) (b : Bool) → least p n ≡ o → p n ≡ b → or_this o n b ≡ None → (least p n ≡ None → (i : ℕ) → i < n → p i ≡ false) → p k ≡ false
+    by_before (Some j) b was is off rest = absurd cc
+    by_before None true was is off rest = absurd cc
+    by_before None false was is off rest = elim (cases_eq k n) [ inl e ↦ ap p e ∙ is | inr ne ↦ rest was k (omega arith) ]
+
+-- Tests that agree below the bound have the same least number.
+pub least_same : (p q : ℕ → Bool) (n : ℕ) → ((k : ℕ) → k < n → p k ≡ q k) → least p n ≡ least q n
+least_same p q zero same = refl
+least_same p q (suc n) same = rw (least_same p q n (λ k l. same k (omega arith)), same n (omega arith)) refl
+
+-- What is found is below the bound.
+pub least_low : (p : ℕ → Bool) (n j : ℕ) → least p n ≡ Some j → j < n
+least_low p zero j found = absurd cc
+least_low p (suc n) j found = by_before (least p n) (p n) refl found (least_low p n)
+  where
+    by_before : (o : Option ℕ) (b : Bool) → least p n ≡ o → or_this o n b ≡ Some j → ((i : ℕ) → least p n ≡ Some i → i < n) → j < suc n
+    by_before (Some i) b was is low = let same : i ≡ j = cc in omega (arith, low i was, same)
+    by_before None true was is low = let same : n ≡ j = cc in omega (arith, same)
+    by_before None false was is low = absurd cc

@@ -1,0 +1,149 @@
+-- Laws of sums of whole numbers.
+use Rattle.std.proofs.Common.{◌≡◌, ℕ, zero, suc, ◌+◌, ◌<◌, ◌≤◌, List, [], ◌∷◌, ◌++◌, map, ℤ, pos, negsuc, ◌+ℤ◌, ◌-ℤ◌, ◌*ℤ◌, ◌≤ℤ◌, ◌<ℤ◌, refl, zero-add, add-zero, add-one, sym, ap, inl, inr, ◌⊎◌, arith}
+use Rattle.std.proofs.lemmas.Int.{ints}
+use Rattle.std.proofs.lemmas.Bool.{cases_eq}
+use Rattle.std.proofs.Math.IntN.{*ℤ-zero}
+use Rattle.qm_laws.specs.Sums.{total, total_below, span}
+
+-- A factor goes through a sum of two.
+pub times_sum : (a b c : ℤ) → a *ℤ (b +ℤ c) ≡ a *ℤ b +ℤ a *ℤ c
+times_sum (pos zero) b c = omega (arith, ints)
+times_sum (pos (suc n)) b c = omega (arith, ints, times_sum (pos n) b c)
+times_sum (negsuc zero) b c = omega (arith, ints)
+times_sum (negsuc (suc n)) b c = omega (arith, ints, times_sum (negsuc n) b c)
+
+-- Two lists in a row.
+pub total_append : {X : Type 0} (f : X → ℤ) (xs ys : List X) → total f (xs ++ ys) ≡ total f xs +ℤ total f ys
+total_append f [] ys = omega (arith, ints)
+total_append f (x ∷ xs) ys = omega (arith, ints, total_append f xs ys)
+
+-- Equal terms have equal sums.
+pub total_same : {X : Type 0} (f g : X → ℤ) (xs : List X) → ((x : X) → f x ≡ g x) → total f xs ≡ total g xs
+total_same f g [] same = refl
+total_same f g (x ∷ xs) same = omega (arith, ints, same x, total_same f g xs same)
+
+-- A sum of sums is the sum of the terms' sums.
+pub total_sum : {X : Type 0} (f g : X → ℤ) (xs : List X) → total (λ x. f x +ℤ g x) xs ≡ total f xs +ℤ total g xs
+total_sum f g [] = refl
+total_sum f g (x ∷ xs) = omega (arith, ints, total_sum f g xs)
+
+-- A sum along the image of a list.
+pub total_map : {X Y : Type 0} (f : Y → ℤ) (g : X → Y) (xs : List X) → total f (map g xs) ≡ total (λ x. f (g x)) xs
+total_map f g [] = refl
+total_map f g (x ∷ xs) = omega (arith, ints, total_map f g xs)
+
+-- No term is greater, and so no sum.
+pub total_le : {X : Type 0} (f g : X → ℤ) (xs : List X) → ((x : X) → f x ≤ℤ g x) → total f xs ≤ℤ total g xs
+total_le f g [] le = omega (arith, ints)
+total_le f g (x ∷ xs) le = omega (arith, ints, le x, total_le f g xs le)
+
+-- A sum of zeros.
+pub total_none : {X : Type 0} (f : X → ℤ) (xs : List X) → ((x : X) → f x ≡ pos 0) → total f xs ≡ pos 0
+total_none f [] none = refl
+total_none f (x ∷ xs) none = omega (arith, ints, none x, total_none f xs none)
+
+-- Equal terms below the bound have equal sums.
+pub total_below_same : (f g : ℕ → ℤ) (n : ℕ) → ((k : ℕ) → k < n → f k ≡ g k) → total_below f n ≡ total_below g n
+total_below_same f g zero same = refl
+total_below_same f g (suc n) same = omega (arith, ints, total_below_same f g n (λ k l. same k (omega arith)), same n (omega arith))
+
+-- No term below the bound is greater, and so no sum.
+pub total_below_le : (f g : ℕ → ℤ) (n : ℕ) → ((k : ℕ) → k < n → f k ≤ℤ g k) → total_below f n ≤ℤ total_below g n
+total_below_le f g zero le = omega (arith, ints)
+total_below_le f g (suc n) le = omega (arith, ints, total_below_le f g n (λ k l. le k (omega arith)), le n (omega arith))
+
+-- A sum of sums below a bound.
+pub total_below_sum : (f g : ℕ → ℤ) (n : ℕ) → total_below (λ k. f k +ℤ g k) n ≡ total_below f n +ℤ total_below g n
+total_below_sum f g zero = refl
+total_below_sum f g (suc n) = omega (arith, ints, total_below_sum f g n)
+
+-- A sum of differences below a bound.
+pub total_below_minus : (f g : ℕ → ℤ) (n : ℕ) → total_below (λ k. f k -ℤ g k) n ≡ total_below f n -ℤ total_below g n
+total_below_minus f g zero = refl
+total_below_minus f g (suc n) = omega (arith, ints, total_below_minus f g n)
+
+-- A sum of zeros below a bound.
+pub total_below_none : (f : ℕ → ℤ) (n : ℕ) → ((k : ℕ) → k < n → f k ≡ pos 0) → total_below f n ≡ pos 0
+total_below_none f zero none = refl
+total_below_none f (suc n) none = omega (arith, ints, total_below_none f n (λ k l. none k (omega arith)), none n (omega arith))
+
+-- One term alone counts.
+pub total_below_one : (f : ℕ → ℤ) (n u : ℕ) → u < n → ((k : ℕ) → k < n → (k ≡ u → ⊥) → f k ≡ pos 0) → total_below f n ≡ f u
+total_below_one f zero u l other = absurd (omega arith)
+total_below_one f (suc n) u l other = elim (cases_eq u n) [ inl e ↦ at_end e | inr ne ↦ before ne (total_below_one f n) ]
+  where
+    at_end : u ≡ n → total_below f (suc n) ≡ f u
+    at_end e =
+        let none : total_below f n ≡ pos 0 = total_below_none f n (λ k lk. other k (omega arith) (λ ek. omega arith)) in
+        let here : f n ≡ f u = ap f (sym e) in
+        omega (arith, ints, none, here)
+
+    before : (u ≡ n → ⊥) → ((v : ℕ) → v < n → ((k : ℕ) → k < n → (k ≡ v → ⊥) → f k ≡ pos 0) → total_below f n ≡ f v) → total_below f (suc n) ≡ f u
+    before ne rest =
+        let lower : u < n = omega arith in
+        let ih : total_below f n ≡ f u = rest u lower (λ k lk nk. other k (omega arith) nk) in
+        let end : f n ≡ pos 0 = other n (omega arith) (λ en. ne (sym en)) in
+        omega (arith, ints, ih, end)
+
+-- A factor comes out of a sum.
+pub total_below_times : (c : ℤ) (f : ℕ → ℤ) (n : ℕ) → total_below (λ k. c *ℤ f k) n ≡ c *ℤ total_below f n
+total_below_times c f zero = sym (*ℤ-zero c)
+total_below_times c f (suc n) = omega (arith, ints, total_below_times c f n, times_sum c (total_below f n) (f n))
+
+-- The sums along a list and below a bound change places.
+pub two_orders : {X : Type 0} (f : ℕ → X → ℤ) (n : ℕ) (xs : List X) → total (λ x. total_below (λ k. f k x) n) xs ≡ total_below (λ k. total (f k) xs) n
+two_orders f n [] = sym (total_below_none (λ k. pos 0) n (λ k l. refl))
+two_orders f n (x ∷ xs) = omega (arith, ints, two_orders f n xs, total_below_sum (λ k. f k x) (λ k. total (f k) xs) n)
+
+-- Two sums below bounds change places.
+pub two_bounds : (f : ℕ → ℕ → ℤ) (m n : ℕ) → total_below (λ j. total_below (λ k. f k j) n) m ≡ total_below (λ k. total_below (f k) m) n
+two_bounds f zero n = sym (total_below_none (λ k. pos 0) n (λ k l. refl))
+two_bounds f (suc m) n = omega (arith, ints, two_bounds f m n, total_below_sum (λ k. total_below (f k) m) (λ k. f k m) n)
+
+-- A whole number is negative or not.
+pub cases_neg : (a : ℤ) → (a <ℤ pos 0) ⊎ (pos 0 ≤ℤ a)
+cases_neg (pos n) = inr (omega (arith, ints))
+cases_neg (negsuc n) = inl (omega (arith, ints))
+
+-- A negative sum has a negative term.
+pub some_below : (f : ℕ → ℤ) (n : ℕ) → total_below f n <ℤ pos 0 → (k : ℕ) × (k < n) × (f k <ℤ pos 0)
+some_below f zero low = absurd (omega (arith, ints))
+some_below f (suc n) low = by_sign (cases_neg (f n)) (some_below f n)
+  where
+    by_sign : (f n <ℤ pos 0) ⊎ (pos 0 ≤ℤ f n) → (total_below f n <ℤ pos 0 → (k : ℕ) × (k < n) × (f k <ℤ pos 0)) → (k : ℕ) × (k < suc n) × (f k <ℤ pos 0)
+    by_sign (inl here) rest = (n, omega arith, here)
+    by_sign (inr there) rest = let r : (k : ℕ) × (k < n) × (f k <ℤ pos 0) = rest (omega (arith, ints)) in (r.0, omega (arith, r.1), r.2)
+
+-- A run in two parts.
+pub span_sum : (f : ℕ → ℤ) (a m n : ℕ) → span f a (m + n) ≡ span f a m +ℤ span f (a + m) n
+span_sum f a zero n = rw (zero-add n, add-zero a) (omega (arith, ints))
+span_sum f a (suc m) n =
+    let there : suc m + n ≡ suc (m + n) = omega arith in
+    let past : a + suc m ≡ a + 1 + m = omega arith in
+    rw (there, past) (omega (arith, ints, span_sum f (a + 1) m n))
+
+-- A bound moved up by a run.
+pub total_below_span : (f : ℕ → ℤ) (a n : ℕ) → total_below f (a + n) ≡ total_below f a +ℤ span f a n
+total_below_span f a zero = rw (add-zero a) (omega (arith, ints))
+total_below_span f a (suc n) =
+    let there : a + suc n ≡ a + 1 + n = omega arith in
+    let one : total_below f (a + 1) ≡ total_below f a +ℤ f a = rw (add-one a) refl in
+    rw there (omega (arith, ints, one, total_below_span f (a + 1) n))
+
+-- A run as a sum below its length.
+pub span_below : (f : ℕ → ℤ) (n : ℕ) → total_below f n ≡ span f 0 n
+span_below f n =
+    let whole : total_below f (0 + n) ≡ pos 0 +ℤ span f 0 n = total_below_span f 0 n in
+    let there : 0 + n ≡ n = zero-add n in
+    let same : total_below f (0 + n) ≡ total_below f n = ap (total_below f) there in
+    omega (arith, ints, whole, same)
+
+-- Equal terms over a run.
+pub span_same : (f g : ℕ → ℤ) (a n : ℕ) → ((k : ℕ) → a ≤ k → k < a + n → f k ≡ g k) → span f a n ≡ span g a n
+span_same f g a zero same = refl
+span_same f g a (suc n) same = omega (arith, ints, same a (omega arith) (omega arith), span_same f g (a + 1) n (λ k l h. same k (omega arith) (omega arith)))
+
+-- A run of zeros.
+pub span_none : (f : ℕ → ℤ) (a n : ℕ) → ((k : ℕ) → a ≤ k → k < a + n → f k ≡ pos 0) → span f a n ≡ pos 0
+span_none f a zero none = refl
+span_none f a (suc n) none = omega (arith, ints, none a (omega arith) (omega arith), span_none f (a + 1) n (λ k l h. none k (omega arith) (omega arith)))

@@ -1,0 +1,4 @@
+pub mod Balance
+pub mod Lift
+pub mod Part
+pub mod Walk

@@ -1,0 +1,11 @@
+use Rattle.std.proofs.Common.{◌≡◌, ◌*◌, ◌^◌, ◌≤◌}
+use Rattle.qm_laws.specs.Counts.{count_below}
+use Rattle.def_flow.specs.Network.{network, arc_at}
+use Rattle.def_flow.specs.Admissible.{arc_deviation, entries}
+use Rattle.qm_net.proofs.wanted.deviation.Given as goal
+
+abbrev pub invariant-loop-k : goal.invariant-loop-k
+invariant-loop-k l = record {
+  value : l.all ≡ count_below (λ k. arc_deviation (network l.net) (arc_at l.net.arcs.items k) (entries l.x k)) l.k;
+  small : l.all ≤ l.k * 10 ^ 19;
+}

@@ -1,0 +1,12 @@
+//! Lists of lengths over a network: whether one is admissible, and how far it is from what is wanted.
+#![tactic(auto)]
+
+mod balance;
+mod bounds;
+#[cfg(test)]
+mod tests;
+mod wanted;
+
+pub use balance::admissible;
+pub use bounds::{are_lengths, is_within_bounds};
+pub use wanted::{arc_deviation, deviation};

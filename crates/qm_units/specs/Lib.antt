@@ -1,0 +1,4 @@
+pub mod Box
+pub mod Laws
+pub mod Marks
+pub mod Told

@@ -1,0 +1,33 @@
+//! Laws of the matching graph: lists of lengths and perfect matchings tell each other, and an accepted
+//! certificate shows its list to be least.
+#![tactic(auto)]
+
+ghost use Rattle.qm_units.specs.Laws.{GraphLaw, LengthsLaw, MatchingLaw, SizeLaw, SoundnessLaw};
+
+/// The matching graph is a graph: each edge has two different ends among the vertices.
+pub fn graph_law()
+    ensures { GraphLaw }
+{}
+
+/// The matching graph of an admissible list has at most 9/16 of the tangle number of vertices, and at most 9/8 of
+/// it of edges.
+pub fn size_law()
+    ensures { SizeLaw }
+{}
+
+/// An admissible list in the box of an admissible list tells a perfect matching of its matching graph, whose cost
+/// is the deviation of the list less that of the least list of the box.
+pub fn matching_law()
+    ensures { MatchingLaw }
+{}
+
+/// A perfect matching of the matching graph tells an admissible list in the box, whose deviation less that of the
+/// least list of the box is at most the cost of the matching.
+pub fn lengths_law()
+    ensures { LengthsLaw }
+{}
+
+/// The list of an accepted certificate is least among all admissible lists of whole numbers.
+pub fn soundness_law()
+    ensures { SoundnessLaw }
+{}
