@@ -1,5 +1,5 @@
 -- Certificates: a list of lengths, and a dual over its matching graph that shows the list to be least.
-use Rattle.std.specs.Prelude.{◌≡◌, ℕ, ◌==◌, nat_lt, not, if◌then◌else◌, List, length, slice_index, pos, ◌*ℤ◌, unsigned_abs, true, false}
+use Rattle.std.specs.Prelude.{◌≡◌, ℕ, Option, ◌==◌, nat_lt, not, if◌then◌else◌, List, length, slice_index, pos, ◌*ℤ◌, unsigned_abs, true, false}
 use Rattle.std.specs.Ordering.{int_eq}
 use Rattle.qm_laws.specs.Searches.{least}
 use Rattle.def_flow.specs.Network.{Network}
@@ -36,15 +36,26 @@ abbrev pub refuse_dual : Verdict → CertVerdict → CertVerdict
 refuse_dual (Yes sum) after = after
 refuse_dual fault after = Dual fault
 
+-- The least arc that is shorter than the floor.
+abbrev pub below_fault : Network → List ℕ → Option ℕ
+below_fault net xs = least (λ k. nat_lt (slice_index xs k) net.floor) (length net.arcs)
+
+-- The least node whose two sides have unequal sums.
+abbrev pub unequal_fault : Network → List ℕ → Option ℕ
+unequal_fault net xs = least (λ v. not (int_eq (side_sum net.arcs (entries xs) true v) (side_sum net.arcs (entries xs) false v))) net.nodes
+
+-- The verdict on the sum of a dual that has no fault.
+abbrev pub sums_verdict : Network → Certificate → CertVerdict
+sums_verdict net c =
+  if int_eq (dual_sum c.dual) (pos 2 *ℤ on_cost net 1 c.x) then Accepted (pos (deviation net (entries c.x)))
+  else Sums (dual_sum c.dual) (pos 2 *ℤ on_cost net 1 c.x)
+
 -- The verdict on a certificate: the first of these that holds. Lengths are missing or too many; an arc is
 -- shorter than the floor; the sides of a node have unequal sums; the dual has a fault; its sum is not twice the
 -- cost; or the certificate is accepted.
 abbrev pub cert_verdict : Network → Certificate → CertVerdict
 cert_verdict net c =
-    let side = side_sum net.arcs (entries c.x) in
-    let twice = pos 2 *ℤ on_cost net 1 c.x in
-    if not (length c.x == length net.arcs) then Count (length net.arcs) (length c.x)
-    else refuse (least (λ k. nat_lt (slice_index c.x k) net.floor) (length net.arcs)) (λ k. Below k (slice_index c.x k))
-    (refuse (least (λ v. not (int_eq (side true v) (side false v))) net.nodes) (λ v. Unequal v (unsigned_abs (side true v)) (unsigned_abs (side false v)))
-    (refuse_dual (verdict (matching_graph net 1 c.x) c.dual)
-    (if int_eq (dual_sum c.dual) twice then Accepted (pos (deviation net (entries c.x))) else Sums (dual_sum c.dual) twice)))
+  if not (length c.x == length net.arcs) then Count (length net.arcs) (length c.x)
+  else refuse (below_fault net c.x) (λ k. Below k (slice_index c.x k))
+  (refuse (unequal_fault net c.x) (λ v. Unequal v (unsigned_abs (side_sum net.arcs (entries c.x) true v)) (unsigned_abs (side_sum net.arcs (entries c.x) false v)))
+  (refuse_dual (verdict (matching_graph net 1 c.x) c.dual) (sums_verdict net c)))

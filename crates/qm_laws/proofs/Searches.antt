@@ -38,3 +38,13 @@ none_below p (suc n) none k l = by_before (least p n) (p n) refl refl none (none
 pub least_same : (p q : ℕ → Bool) (n : ℕ) → ((k : ℕ) → k < n → p k ≡ q k) → least p n ≡ least q n
 least_same p q zero same = refl
 least_same p q (suc n) same = rw (least_same p q n (λ k l. same k (omega arith)), same n (omega arith)) refl
+
+-- What is found is below the bound.
+pub least_low : (p : ℕ → Bool) (n j : ℕ) → least p n ≡ Some j → j < n
+least_low p zero j found = absurd cc
+least_low p (suc n) j found = by_before (least p n) (p n) refl found (least_low p n)
+  where
+    by_before : (o : Option ℕ) (b : Bool) → least p n ≡ o → or_this o n b ≡ Some j → ((i : ℕ) → least p n ≡ Some i → i < n) → j < suc n
+    by_before (Some i) b was is low = let same : i ≡ j = cc in omega (arith, low i was, same)
+    by_before None true was is low = let same : n ≡ j = cc in omega (arith, same)
+    by_before None false was is low = absurd cc

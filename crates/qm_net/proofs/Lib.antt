@@ -1,2 +1,2 @@
-mod Balances
-mod Within
+pub mod Balances
+pub mod Within

@@ -1,0 +1,67 @@
+-- Deviations are far from the ends of their type.
+use Rattle.std.proofs.Common.{◌≡◌, ℕ, zero, suc, ◌+◌, ◌*◌, ◌^◌, ◌<◌, ◌≤◌, List, length, map, pos, unsigned_abs, ◌-ℤ◌, ◌*ℤ◌, ◌&&◌, nat_le, true, refl, sym, ◌∙◌, ap, mul-le-mul, mul-le-mul_left, leb-true, arith}
+use Rattle.std.specs.Prelude.{slice_index, nat_lt}
+use Rattle.std.specs.List.{list_all}
+use Rattle.std.proofs.lemmas.Int.{ints}
+use Rattle.std.proofs.lemmas.Bool.{and_parts}
+use Rattle.std.proofs.lemmas.List.{length-map, get_or-map}
+use Rattle.qm_laws.specs.Counts.{count_below}
+use Rattle.qm_laws.proofs.Counts.{count_below_le, count_below_times}
+use Rattle.def_flow.specs.Network.{Network, IsWithinBounds, is_bounded, arc_at, ends}
+use Rattle.def_flow.specs.Admissible.{arc_deviation, deviation, entries}
+use Rattle.def_flow.specs.Units.{low}
+use Rattle.def_flow.specs.declared.net.Arc.{Arc}
+use Rattle.qm_net.specs.Lengths.{AreLengths}
+use Rattle.qm_net.proofs.Within.{arc_bounded}
+
+-- The deviation of an arc of a network within bounds.
+arc_small : (net : Network) (k y : ℕ) → IsWithinBounds net → k < length net.arcs → y ≤ 10 ^ 12 → arc_deviation net (arc_at net.arcs k) (pos y) ≤ 10 ^ 19
+arc_small net k y bounds l short = omega (arith, heavy, apart)
+  where
+    a : Arc
+    a = arc_at net.arcs k
+
+    tests : ((nat_le 1 a.weight && nat_le a.weight 1000 && nat_le a.old 4000000000) ≡ true) × (list_all (λ e. nat_lt e.node net.nodes) (ends a) ≡ true)
+    tests = and_parts (nat_le 1 a.weight && nat_le a.weight 1000 && nat_le a.old 4000000000) _ (arc_bounded net bounds k l)
+
+    numbers : ((nat_le 1 a.weight && nat_le a.weight 1000) ≡ true) × (nat_le a.old 4000000000 ≡ true)
+    numbers = and_parts (nat_le 1 a.weight && nat_le a.weight 1000) (nat_le a.old 4000000000) tests.0
+
+    old : a.old ≤ 4000000000
+    old = leb-true a.old 4000000000 numbers.1
+
+    weight : a.weight ≤ 1000
+    weight = leb-true a.weight 1000 (and_parts (nat_le 1 a.weight) (nat_le a.weight 1000) numbers.0).1
+
+    scaled : net.q * y ≤ 1000 * 10 ^ 12
+    scaled = mul-le-mul bounds.q_high short
+
+    wanted : net.p * a.old ≤ 1000 * 4000000000
+    wanted = mul-le-mul bounds.p_high old
+
+    apart : unsigned_abs (pos net.q *ℤ pos y -ℤ pos (net.p * a.old)) ≤ 2 * 10 ^ 15
+    apart = omega (arith, ints, scaled, wanted)
+
+    heavy : a.weight * unsigned_abs (pos net.q *ℤ pos y -ℤ pos (net.p * a.old)) ≤ 1000 * (2 * 10 ^ 15)
+    heavy = mul-le-mul weight apart
+
+-- The deviation of a list of lengths.
+pub deviation_small : (net : Network) (xs : List ℕ) → IsWithinBounds net → AreLengths net.arcs xs → deviation net (entries xs) ≤ 2 ^ 120
+deviation_small net xs bounds are = omega (arith, each, whole, bounds.few)
+  where
+    each : deviation net (entries xs) ≤ count_below (λ k. 10 ^ 19 * 1) (length net.arcs)
+    each = count_below_le _ (λ k. 10 ^ 19 * 1) (length net.arcs) (λ k l. omega (arith, arc_small net k (slice_index xs k) bounds l (are.small k (omega (arith, are.count)))))
+
+    ones : (n : ℕ) → count_below (λ k. 1) n ≡ n
+    ones zero = refl
+    ones (suc n) = omega (arith, ones n)
+
+    whole : count_below (λ k. 10 ^ 19 * 1) (length net.arcs) ≡ 10 ^ 19 * length net.arcs
+    whole = count_below_times (10 ^ 19) (λ k. 1) (length net.arcs) ∙ ap (λ n. 10 ^ 19 * n) (ones (length net.arcs))
+
+-- The lows are lengths too.
+pub lows_lengths : (net : Network) (xs : List ℕ) → AreLengths net.arcs xs → AreLengths net.arcs (map (low net 1) xs)
+lows_lengths net xs are = record {
+  count = length-map xs (low net 1) ∙ are.count;
+  small = λ k l. (let lk : k < length xs = omega (arith, length-map xs (low net 1)) in let e : slice_index (map (low net 1) xs) k ≡ low net 1 (slice_index xs k) = get_or-map (low net 1) xs k 0 0 lk in omega (arith, e, are.small k lk));
+}

@@ -1,0 +1,5 @@
+use Rattle.std.proofs.Common.{◌≡◌, ℕ, ◌<◌, ◌==◌, not, false, slice_index}
+use Rattle.qm_cert.proofs.sides.first_difference.Given as goal
+
+abbrev pub invariant-loop-v : goal.invariant-loop-v
+invariant-loop-v l = (j : ℕ) → j < l.v → not (slice_index l.plus j == slice_index l.minus j) ≡ false

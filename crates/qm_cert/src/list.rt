@@ -1,0 +1,63 @@
+ghost use Rattle.std.specs.Prelude.{◌≡◌, ℕ, ◌^◌, ◌<◌, ◌≤◌, length, slice_index, IfOk, IfNone};
+ghost use Rattle.def_flow.specs.Network.{network, IsWithinBounds};
+ghost use Rattle.def_flow.specs.Admissible.{entries, IsAdmissible, IsBalanced};
+ghost use Rattle.qm_net.specs.Lengths.{AreLengths};
+ghost use Rattle.qm_cert.specs.Faults.{compared_verdict, list_verdict, unequal_verdict};
+
+use crate::sides::{first_below, first_difference, side_sums};
+use def_flow::{CertVerdict, Net};
+use std::alloc::{AllocError, Global};
+
+/// The first fault of a list: lengths are missing or too many, an arc is shorter than the floor, or the sides of a
+/// node have unequal sums. Linear.
+pub(crate) fn list_fault(
+    alloc: Global,
+    net: &Net,
+    x: &[u64],
+) -> Result<Option<CertVerdict>, AllocError>
+    requires bounds { IsWithinBounds (network net.now) }
+    requires few { length x.now < 2 ^ 32 }
+    requires short { (k : ℕ) → k < length x.now → slice_index x.now k ≤ 10 ^ 12 }
+    ensures verdict { IfOk result (λ o. o ≡ list_verdict (network net.now) x.now) }
+{
+    if x.len() != net.arcs.len() {
+        return Ok(Some(CertVerdict::Count {
+            arcs: net.arcs.len() as u32,
+            given: x.len() as u32,
+        }));
+    }
+    if let Some(k) = first_below(net.floor, x) {
+        return Ok(Some(CertVerdict::Below {
+            arc: k as u32,
+            length: x[k],
+        }));
+    }
+    unequal_sides(alloc, net, x)
+}
+
+/// The least node whose sides have unequal sums, with these.
+fn unequal_sides(alloc: Global, net: &Net, x: &[u64]) -> Result<Option<CertVerdict>, AllocError>
+    requires bounds { IsWithinBounds (network net.now) }
+    requires lengths { AreLengths net.now.arcs.items x.now }
+    ensures { IfOk result (λ o. o ≡ unequal_verdict (network net.now) x.now) }
+{
+    let plus = side_sums(alloc, net, x, true)?;
+    let minus = side_sums(alloc, net, x, false)?;
+    Ok(difference(&plus, &minus))
+}
+
+/// The least place at which two tables of sums differ, with both sums.
+fn difference(plus: &[u128], minus: &[u128]) -> Option<CertVerdict>
+    requires same { length plus.now ≡ length minus.now }
+    requires few { length plus.now < 2 ^ 32 }
+    ensures { result ≡ compared_verdict plus.now minus.now }
+{
+    match first_difference(plus, minus) {
+        Some(v) => Some(CertVerdict::Unequal {
+            node: v as u32,
+            plus: plus[v],
+            minus: minus[v],
+        }),
+        None => None,
+    }
+}

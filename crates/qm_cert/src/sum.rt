@@ -1,0 +1,43 @@
+ghost use Rattle.std.specs.Prelude.{◌≡◌, ◌^◌, ◌≤◌, pos, ◌-ℤ◌, ◌*ℤ◌, if◌then◌else◌, map, unsigned_abs};
+ghost use Rattle.std.specs.Ordering.{int_eq};
+ghost use Rattle.def_flow.specs.Network.{network, IsWithinBounds};
+ghost use Rattle.def_flow.specs.Units.{low};
+ghost use Rattle.def_flow.specs.Dual.{dual_sum};
+ghost use Rattle.def_flow.specs.Accepted.{certificate, sums_verdict};
+ghost use Rattle.qm_net.specs.Lengths.{AreLengths};
+
+use def_flow::{Cert, CertVerdict, Net};
+use qm_net::deviation;
+
+/// The verdict on a certificate whose list is admissible and whose dual says yes: by the dual's sum and twice the
+/// cost of the units that are on, which is the deviation of the list less that of its lows. Linear.
+pub(crate) fn sum_verdict(net: &Net, cert: &Cert, lows: &[u64], sum: i128) -> CertVerdict
+    requires bounds { IsWithinBounds (network net.now) }
+    requires lengths { AreLengths net.now.arcs.items cert.now.x.items }
+    requires lows { lows.now ≡ map (low (network net.now) 1) cert.now.x.items }
+    requires sum { sum ≡ dual_sum (certificate cert.now).dual }
+    ensures { result ≡ sums_verdict (network net.now) (certificate cert.now) }
+{
+    let far = deviation(net, &cert.x);
+    compared(far, sum, twice_between(deviation(net, lows), far))
+}
+
+/// Twice the way from one number to another.
+fn twice_between(near: i128, far: i128) -> i128
+    requires near { unsigned_abs near ≤ 2 ^ 120 }
+    requires far { unsigned_abs far ≤ 2 ^ 120 }
+    ensures { result ≡ pos 2 *ℤ (far -ℤ near) }
+{
+    2 * (far - near)
+}
+
+/// The verdict by the sum of a dual and twice the cost.
+fn compared(far: i128, sum: i128, cost: i128) -> CertVerdict
+    ensures { result ≡ (if int_eq sum cost then CertVerdict.Yes far else CertVerdict.Sums sum cost) }
+{
+    if sum == cost {
+        CertVerdict::Yes { deviation: far }
+    } else {
+        CertVerdict::Sums { dual: sum, cost }
+    }
+}
