@@ -14,11 +14,11 @@ use Rattle.def_text.specs.Text.{face_set, numbers_to, place_of, used_to, vertex_
 use Rattle.qm_obj.specs.Kept.{are_numbers, first_late}
 use Rattle.qm_obj.proofs.ListLemmas.{passes_at}
 
-length-numbers_to : (n : ℕ) → length (numbers_to n) ≡ n
+pub length-numbers_to : (n : ℕ) → length (numbers_to n) ≡ n
 length-numbers_to zero = refl
 length-numbers_to (suc n) = omega (arith, length_push (numbers_to n) (suc n), length-numbers_to n)
 
-numbers_at : (n k : ℕ) → k < n → get_or (numbers_to n) k 0 ≡ k + 1
+pub numbers_at : (n k : ℕ) → k < n → get_or (numbers_to n) k 0 ≡ k + 1
 numbers_at zero k lt = absurd (omega arith)
 numbers_at (suc n) k lt = by_place (cases_lt k n) (λ below. numbers_at n k below)
   where
@@ -30,7 +30,7 @@ numbers_rise : (n : ℕ) → IsStrictlyIncreasing (numbers_to n)
 numbers_rise n k l = let m : length (numbers_to n) ≡ n = length-numbers_to n in omega (arith, numbers_at n k (omega arith), numbers_at n (k + 1) (omega arith))
 
 -- One number more is kept where it is used.
-used_more : (faces : List (List ℕ)) (n : ℕ) → used_to faces (suc n) ≡ used_to faces n ++ cond (is_used faces (suc n)) (suc n ∷ []) []
+pub used_more : (faces : List (List ℕ)) (n : ℕ) → used_to faces (suc n) ≡ used_to faces n ++ cond (is_used faces (suc n)) (suc n ∷ []) []
 used_more faces n = filter-append (is_used faces) (numbers_to n) (suc n ∷ [])
 
 used_grows : (faces : List (List ℕ)) (n m : ℕ) → length (used_to faces n) ≤ length (used_to faces (n + m))
@@ -102,7 +102,7 @@ below_all faces n (x ∷ xs) known used =
         and_from _ _ (lt-ltb _ _ (rank_below faces n y (ltb-true 0 y b.0) (leb-true y n b.1) u.0)) (along ys k.1 u.1)
 
 -- A used number is used after renumbering.
-used_renumbered : (f : ℕ → ℕ) (m : ℕ) (faces : List (List ℕ)) → is_used faces m ≡ true → is_used (map (λ corners. map f corners) faces) (f m) ≡ true
+pub used_renumbered : (f : ℕ → ℕ) (m : ℕ) (faces : List (List ℕ)) → is_used faces m ≡ true → is_used (map (λ corners. map f corners) faces) (f m) ≡ true
 used_renumbered f m [] is = absurd (false≢true is)
 used_renumbered f m (x ∷ xs) is = by_first (or_cases _ _ is) (used_renumbered f m xs)
   where
