@@ -16,7 +16,7 @@ use Rattle.qm_units.proofs.Chain.{rim_length}
 use Rattle.qm_units.proofs.Units.{units_length, states_length}
 use Rattle.qm_gadget.specs.Layout.{room_of}
 use Rattle.qm_gadget.specs.Marked.{rim_by}
-use Rattle.qm_gadget.specs.Over.{AreRooms, units_over, states_over}
+use Rattle.qm_gadget.specs.Over.{IsStepUp, units_over, states_over}
 use Rattle.qm_gadget.specs.Ready.{ups, AreUps, IsReady, IsPlan, marks_over}
 use Rattle.qm_gadget.specs.Ready.{own_states as states_of_caps}
 use Rattle.qm_gadget.specs.declared.plan.Plan.{Plan}
@@ -50,8 +50,8 @@ ups_small step lows caps ys some are most k = by_place (cases_lt k (length ys))
     by_place : (k < length ys) ⊎ (length ys ≤ k) → (slice_index ys k - slice_index lows k) / step ≤ 4
     by_place (inl l) = inside (are.each k l)
       where
-        inside : (j : ℕ) × (j ≤ slice_index caps k) × (slice_index ys k ≡ slice_index lows k + j * step) → (slice_index ys k - slice_index lows k) / step ≤ 4
-        inside e = omega (arith, step_up e.0 step (slice_index lows k) (slice_index ys k) some e.2, e.1, most k (omega (arith, are.count)))
+        inside : IsStepUp (slice_index lows k) (slice_index caps k) step (slice_index ys k) → (slice_index ys k - slice_index lows k) / step ≤ 4
+        inside e = omega (arith, step_up e.up step (slice_index lows k) (slice_index ys k) some e.is, e.few, most k (omega (arith, are.count)))
     by_place (inr h) =
         let none : slice_index ys k - slice_index lows k ≡ 0 = omega (arith, get_or_past ys k 0 h) in
         let start : 0 * step ≡ 0 = omega arith in
@@ -77,11 +77,11 @@ in_box net step (x ∷ xs) (y ∷ ys) some are = at_head (are.each 0 (omega arit
     rest : AreUps step (map (low net step) xs) (map (cap net step) xs) ys
     rest = record { count = (let count : suc (length ys) ≡ suc (length (map (low net step) xs)) = are.count in omega arith); each = λ k l. are.each (suc k) (omega arith) }
 
-    at_head : (j : ℕ) × (j ≤ cap net step x) × (y ≡ low net step x + j * step) → IsInBox net step xs (ups step (map (low net step) xs) ys) ys → IsInBox net step (x ∷ xs) (ups step (map (low net step) (x ∷ xs)) (y ∷ ys)) (y ∷ ys)
+    at_head : IsStepUp (low net step x) (cap net step x) step y → IsInBox net step xs (ups step (map (low net step) xs) ys) ys → IsInBox net step (x ∷ xs) (ups step (map (low net step) (x ∷ xs)) (y ∷ ys)) (y ∷ ys)
     at_head e after =
-        let up : (y - low net step x) / step ≡ e.0 = step_up e.0 step (low net step x) y some e.2 in
-        let high : (y - low net step x) / step ≤ cap net step x = omega (arith, up, e.1) in
-        let place : y ≡ low net step x + (y - low net step x) / step * step = e.2 ∙ ap (λ j. low net step x + j * step) (sym up) in
+        let up : (y - low net step x) / step ≡ e.up = step_up e.up step (low net step x) y some e.is in
+        let high : (y - low net step x) / step ≤ cap net step x = omega (arith, up, e.few) in
+        let place : y ≡ low net step x + (y - low net step x) / step * step = e.is ∙ ap (λ j. low net step x + j * step) (sym up) in
         (high, place, after)
 
 -- Marks by lows and caps are those of the matching that is told.

@@ -12,6 +12,8 @@ mod plan;
 mod rim;
 mod rim_marks;
 mod states;
+#[cfg(test)]
+mod tests;
 mod units;
 
 pub use build::{Gadget, graph_of};
