@@ -1,10 +1,11 @@
 -- The definitions, computed on small meshes.
-use Rattle.std.proofs.Common.{◌≡◌, ◌-ℤ◌, ℕ, ℤ, pos, negsuc, List, [], ◌∷◌, map, Option, Some, None, refl}
-use Rattle.def_mesh.specs.Darts.{twin_of, straight_of, all_darts}
+use Rattle.std.proofs.Common.{◌≡◌, ◌<◌, ℕ, zero, suc, pos, List, [], ◌∷◌, map, Some, None, refl, sym, subst, inl, inr, arith}
+use Rattle.def_mesh.specs.Darts.{all_darts, from_of, straight_of, twin_of}
 use Rattle.def_mesh.specs.Vertices.{fan_of, vertex_count}
-use Rattle.def_mesh.specs.Kinds.{kind_of, is_inner}
-use Rattle.def_mesh.specs.Components.{component_numbers, seeds, start_darts, euler, edge_count, used_count}
-use Rattle.def_mesh.specs.Faults.{repeat_in}
+use Rattle.def_mesh.specs.Kinds.{kind_of}
+use Rattle.def_mesh.specs.Components.{component_numbers, seeds, start_darts, euler, edge_count}
+use Rattle.def_mesh.specs.Faults.{IsFirstTwice, repeat_in}
+use Rattle.def_mesh.specs.Manifold.{AreNeighbours, Chain, HasOneFan, IsSameEdge}
 use Rattle.def_mesh.specs.declared.Kind.TheVariants.{Regular, Singular, Corner, Reflex}
 
 -- a cube: its eight vertices are singular, so a rider starts along each dart
@@ -80,7 +81,60 @@ parts_seeds = refl
 parts_counts : edge_count parts ≡ 13
 parts_counts = refl
 
-
 -- the vertex that a face names again, seen from its first corner
 repeats : map repeat_in ((0 ∷ 1 ∷ 2 ∷ 3 ∷ []) ∷ (0 ∷ 1 ∷ 2 ∷ 1 ∷ []) ∷ (7 ∷ 7 ∷ 2 ∷ 2 ∷ []) ∷ (5 ∷ 6 ∷ 5 ∷ 6 ∷ []) ∷ []) ≡ None ∷ Some 1 ∷ Some 7 ∷ Some 5 ∷ []
 repeats = refl
+
+-- two faces that run along one edge in the same direction: their first darts are the first two along it
+abbrev twice : List (List ℕ)
+twice = (0 ∷ 1 ∷ 2 ∷ 3 ∷ []) ∷ (0 ∷ 1 ∷ 4 ∷ 5 ∷ []) ∷ []
+
+twice_place : IsFirstTwice twice 0 4
+twice_place = record { is_dart = omega arith; before = omega arith; same = (refl, refl); least = none }
+  where
+    none : (j k : ℕ) → j < k → k < 4 → ¬ IsSameEdge twice j k
+    none j zero l m s = absurd (omega arith)
+    none zero (suc zero) l m s = absurd (omega (arith, s.0))
+    none zero (suc (suc zero)) l m s = absurd (omega (arith, s.0))
+    none zero (suc (suc (suc zero))) l m s = absurd (omega (arith, s.0))
+    none (suc zero) (suc (suc zero)) l m s = absurd (omega (arith, s.0))
+    none (suc zero) (suc (suc (suc zero))) l m s = absurd (omega (arith, s.0))
+    none (suc (suc zero)) (suc (suc (suc zero))) l m s = absurd (omega (arith, s.0))
+    none (suc j) (suc zero) l m s = absurd (omega arith)
+    none (suc (suc j)) (suc (suc zero)) l m s = absurd (omega arith)
+    none (suc (suc (suc j))) (suc (suc (suc zero))) l m s = absurd (omega arith)
+    none j (suc (suc (suc (suc k)))) l m s = absurd (omega arith)
+
+-- two faces with one vertex in common: two fans
+abbrev bow : List (List ℕ)
+bow = (0 ∷ 1 ∷ 2 ∷ 3 ∷ []) ∷ (0 ∷ 4 ∷ 5 ∷ 6 ∷ []) ∷ []
+
+bow_fan : fan_of bow 0 ≡ 0 ∷ 4 ∷ []
+bow_fan = refl
+
+bow_apart : ¬ AreNeighbours bow 0 4
+bow_apart (inl a) = absurd (omega (arith, a))
+bow_apart (inr (inl a)) = absurd (omega (arith, a))
+bow_apart (inr (inr (inl a))) = absurd (omega (arith, a))
+bow_apart (inr (inr (inr a))) = absurd (omega (arith, a))
+
+-- a chain from the first of the two corners stays there
+bow_stays : (e n : ℕ) → Chain bow 0 e n → e ≡ 0
+bow_stays e zero c = sym c
+bow_stays e (suc n) c =
+    let first : c.0 ≡ 0 = bow_stays c.0 n c.1 in
+    by_dart e c.2 (subst (λ (d : ℕ). from_of bow d ≡ from_of bow e) first c.3) (subst (λ (d : ℕ). AreNeighbours bow d e) first c.4)
+  where
+    by_dart : (d : ℕ) → d < 8 → 0 ≡ from_of bow d → AreNeighbours bow 0 d → d ≡ 0
+    by_dart zero l s a = refl
+    by_dart (suc zero) l s a = absurd (omega (arith, s))
+    by_dart (suc (suc zero)) l s a = absurd (omega (arith, s))
+    by_dart (suc (suc (suc zero))) l s a = absurd (omega (arith, s))
+    by_dart (suc (suc (suc (suc zero)))) l s a = absurd (bow_apart a)
+    by_dart (suc (suc (suc (suc (suc zero))))) l s a = absurd (omega (arith, s))
+    by_dart (suc (suc (suc (suc (suc (suc zero)))))) l s a = absurd (omega (arith, s))
+    by_dart (suc (suc (suc (suc (suc (suc (suc zero))))))) l s a = absurd (omega (arith, s))
+    by_dart (suc (suc (suc (suc (suc (suc (suc (suc d)))))))) l s a = absurd (omega arith)
+
+bow_two_fans : ¬ HasOneFan bow 0
+bow_two_fans one = let c : (n : ℕ) × Chain bow 0 4 n = one 0 4 (omega arith) (omega arith) refl refl in absurd (omega (arith, bow_stays 4 c.0 c.1))

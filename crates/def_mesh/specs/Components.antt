@@ -2,7 +2,7 @@
 use Rattle.std.specs.Prelude.{ℕ, zero, suc, ◌*◌, ◌/◌, ℤ, pos, ◌+ℤ◌, ◌-ℤ◌, Bool, true, false, ◌&&◌, ◌||◌, ◌==◌, nat_lt, List, [], ◌∷◌, map, filter, length, slice_index_or, is_some, Option, Some, None}
 use Rattle.std.specs.List.{range_with_len, list_any, list_all, position_or_len}
 use Rattle.def_mesh.specs.Darts.{all_darts, from_of, is_reverse, twin_of}
-use Rattle.def_mesh.specs.Vertices.{faces_at, vertex_count}
+use Rattle.def_mesh.specs.Vertices.{is_used, vertex_count}
 use Rattle.def_mesh.specs.Kinds.{is_regular, is_singular, is_reflex}
 
 abbrev pub all_faces : List (List ℕ) → List ℕ
@@ -88,7 +88,7 @@ edge_count faces = length (filter (λ d. is_lesser d (twin_of faces d)) (all_dar
 
 -- how many vertices are used
 abbrev pub used_count : List (List ℕ) → ℕ
-used_count faces = length (filter (λ v. nat_lt 0 (faces_at faces v)) (all_vertices faces))
+used_count faces = length (filter (is_used faces) (all_vertices faces))
 
 -- Euler's characteristic: used vertices less edges plus faces
 abbrev pub euler : List (List ℕ) → ℤ

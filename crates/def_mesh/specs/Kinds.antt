@@ -1,5 +1,5 @@
 -- The kinds of vertices, by counting faces.
-use Rattle.std.specs.Prelude.{ℕ, Bool, true, false, cond, not, ◌&&◌, ◌||◌, ◌==◌, nat_lt, List, is_some}
+use Rattle.std.specs.Prelude.{ℕ, Bool, cond, not, ◌&&◌, ◌||◌, ◌==◌, nat_lt, List, is_some}
 use Rattle.std.specs.List.{list_all}
 use Rattle.def_mesh.specs.Darts.{all_darts, from_of, to_of, twin_of}
 use Rattle.def_mesh.specs.Vertices.{faces_at}

@@ -1,6 +1,7 @@
 -- The vertices of a list of faces, and the corners at each.
-use Rattle.std.specs.Prelude.{ℕ, zero, ◌+◌, ◌<◌, max, ◌==◌, List, [], ◌∷◌, map, filter, length}
-use Rattle.def_mesh.specs.Darts.{darts, all_darts, from_of}
+use Rattle.std.specs.Prelude.{ℕ, ◌+◌, ◌<◌, Bool, max, ◌==◌, nat_lt, IsTrue, List, [], ◌∷◌, map, filter, length}
+use Rattle.std.specs.List.{list_all, list_any}
+use Rattle.def_mesh.specs.Darts.{all_darts, from_of}
 
 -- the fan of v: the darts that leave it, rising, one for each corner there
 abbrev pub fan_of : List (List ℕ) → ℕ → List ℕ
@@ -19,10 +20,14 @@ above_all (x ∷ xs) = max (x + 1) (above_all xs)
 abbrev pub vertex_count : List (List ℕ) → ℕ
 vertex_count faces = above_all (map (from_of faces) (all_darts faces))
 
--- each corner is a vertex below n
-abbrev pub NamesBelow : ℕ → List (List ℕ) → Type 0
-NamesBelow n faces = (d : ℕ) → d < darts faces → from_of faces d < n
+-- whether each corner is a vertex below n
+abbrev pub names_below : ℕ → List (List ℕ) → Bool
+names_below n faces = list_all (λ face. list_all (λ v. nat_lt v n) face) faces
 
--- each vertex below n is a corner of some face
+-- whether v is a corner of some face
+abbrev pub is_used : List (List ℕ) → ℕ → Bool
+is_used faces v = list_any (λ face. list_any (λ u. u == v) face) faces
+
+-- each vertex below n is used
 abbrev pub UsesEach : ℕ → List (List ℕ) → Type 0
-UsesEach n faces = (v : ℕ) → v < n → 0 < faces_at faces v
+UsesEach n faces = (v : ℕ) → v < n → IsTrue (is_used faces v)

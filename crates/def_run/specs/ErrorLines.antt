@@ -17,7 +17,7 @@ place_text names (Repeated face vertex) =
     codes "face " ++ decimal (face + 1) ++ codes ": vertex " ++ name_text names vertex ++ codes " repeated"
 place_text names (EdgeTwice from to face1 face2) =
     codes "edge " ++ name_text names from ++ codes " " ++ name_text names to
-      ++ codes ": faces " ++ decimal (face1 + 1) ++ codes " and " ++ decimal (face2 + 1)
+    ++ codes ": faces " ++ decimal (face1 + 1) ++ codes " and " ++ decimal (face2 + 1)
 place_text names (TwoFans vertex) = codes "vertex " ++ name_text names vertex ++ codes ": two fans"
 
 -- A limit that a line exceeds, or the whole text.

@@ -7,11 +7,21 @@ use def_text::Which;
 #[derive(Clone, Copy, Debug, PartialEq, Eq)]
 pub enum Place {
     /// The face names the vertex twice.
-    Repeated { face: u32, vertex: u32 },
+    Repeated {
+        face: u32,
+        vertex: u32,
+    },
     /// Both faces run along one edge in the same direction.
-    EdgeTwice { from: u32, to: u32, face1: u32, face2: u32 },
+    EdgeTwice {
+        from: u32,
+        to: u32,
+        face1: u32,
+        face2: u32,
+    },
     /// The faces at the vertex form more than one fan.
-    TwoFans { vertex: u32 },
+    TwoFans {
+        vertex: u32,
+    },
 }
 
 /// How a run ended. Lines count from 1.

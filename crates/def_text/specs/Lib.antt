@@ -1,6 +1,10 @@
 pub mod Canonical
+pub mod Corner
+pub mod Decimal
 pub mod Digits
 pub mod FaceSet
+pub mod Logical
+pub mod Ratio
 pub mod Reading
 pub mod Text
 pub mod Words

@@ -1,18 +1,14 @@
 -- What a list of physical lines says: its soup, or its first refusal.
-use Rattle.std.specs.Prelude.{ℕ, zero, suc, ◌+◌, ◌-◌, nat_lt, if◌then◌else◌, ℤ, Result, Ok, Err, List, [], ◌∷◌, ◌++◌, length, map, slice_index_or}
+use Rattle.std.specs.Prelude.{ℕ, zero, suc, ◌-◌, nat_lt, if◌then◌else◌, ℤ, Result, Ok, Err, List, [], ◌∷◌, ◌++◌, length, map, slice_index_or}
 use Rattle.std.specs.List.{count_by, filter, flat_map, list_any}
-use Rattle.def_text.specs.FaceSet.{FaceSet, is_used}
-use Rattle.def_text.specs.Reading.{Logical, is_face_line, is_vertex_line, reading}
+use Rattle.def_mesh.specs.Vertices.{is_used}
+use Rattle.def_text.specs.FaceSet.{FaceSet}
+use Rattle.def_text.specs.Logical.{Logical, logical_lines}
+use Rattle.def_text.specs.Reading.{is_face_line, is_vertex_line, reading}
 use Rattle.def_text.specs.declared.refusal.ObjFail.{ObjFail}
 use Rattle.def_text.specs.declared.refusal.ObjFail.TheVariants.{Range}
 use Rattle.def_text.specs.declared.reading.Reading.{Reading}
 use Rattle.def_text.specs.declared.reading.Reading.TheVariants.{Passed, Place, Face, Refused}
-
--- The logical lines of physical lines, of which the first has this number.
-abbrev pub logical_lines : ℕ → List (List ℕ) → List Logical
-logical_lines number [] = []
-logical_lines number (line ∷ lines) =
-    record { number = number; size = length line; text = line } ∷ logical_lines (number + 1) lines
 
 -- What each line says after those before it.
 abbrev pub readings : List Logical → List Logical → List Reading

@@ -3,4 +3,7 @@ mod Copies
 mod Fans
 mod Numbers
 mod OfList
+mod Reading
 mod Rooms
+mod Steps
+mod Told

@@ -74,28 +74,32 @@ list_ready net step xs bounds lengths admissible tangle = record {
     at = rw (units_over_is net step net.arcs xs) (at_by_index net.nodes (units net step net.arcs xs) (units_at net step net.arcs xs (arcs_at net.nodes net.arcs bounds.arcs)))
   }
 
+-- The copies of a plan are the active ends at each number, also past the nodes.
+pub plan_rooms : (net : Network) (step : ℕ) (ls cs : List ℕ) (p : Plan) → IsReady net step ls cs → IsPlan net step ls cs p → room_of p.rooms.items ≡ (λ v. active v (units_over net step net.arcs ls cs) (states_of_caps cs))
+plan_rooms net step ls cs p ready plan = same_everywhere (room_of p.rooms.items) (λ v. active v (units_over net step net.arcs ls cs) (states_of_caps cs)) (λ v. elim (cases_lt v net.nodes) [
+      inl l ↦ plan.rooms.each v l
+    | inr h ↦ get_or_past p.rooms.items v 0 (omega (arith, plan.rooms.count)) ∙ sym (none_past net.nodes (units_over net step net.arcs ls cs) (states_of_caps cs) ready.at v h)
+    ])
+
+-- The graph of units by lows and caps is the matching graph of the list.
+pub graph_over : (net : Network) (step : ℕ) (xs : List ℕ)
+  → graph_of_units net.nodes (units_over net step net.arcs (map (low net step) xs) (map (cap net step) xs)) (states_of_caps (map (cap net step) xs)) ≡ matching_graph net step xs
+graph_over net step xs = ap (λ us. graph_of_units net.nodes us (states_of_caps (map (cap net step) xs))) (units_over_is net step net.arcs xs) ∙ ap (graph_of_units net.nodes (units net step net.arcs xs)) (own_states net step xs)
+
 -- The graph of a plan is the matching graph of the list.
 pub plan_graph : (net : Network) (step : ℕ) (xs : List ℕ) (p : Plan) → IsReady net step (map (low net step) xs) (map (cap net step) xs) → IsPlan net step (map (low net step) xs) (map (cap net step) xs) p
   → graph_by (length p.rooms.items) (room_of p.rooms.items) p.lone p.units.items ≡ matching_graph net step xs
 plan_graph net step xs p ready plan =
     ap (λ n. graph_by n (room_of p.rooms.items) p.lone p.units.items) plan.rooms.count
-    ∙ (ap (λ f. graph_by net.nodes f p.lone p.units.items) (same_everywhere (room_of p.rooms.items) (λ v. active v over ons) rooms)
+    ∙ (ap (λ f. graph_by net.nodes f p.lone p.units.items) (plan_rooms net step (map (low net step) xs) (map (cap net step) xs) p ready plan)
     ∙ (ap (λ b. graph_by net.nodes (λ v. active v over ons) b p.units.items) plan.lone
-    ∙ (ap (λ us. graph_by net.nodes (λ v. active v over ons) (rim_active over ons % 2 == 1) us) plan.units
-    ∙ (ap (λ us. graph_of_units net.nodes us ons) (units_over_is net step net.arcs xs)
-    ∙ ap (graph_of_units net.nodes (units net step net.arcs xs)) (own_states net step xs)))))
+    ∙ (ap (λ us. graph_by net.nodes (λ v. active v over ons) (rim_active over ons % 2 == 1) us) plan.units ∙ graph_over net step xs)))
   where
     over : List ArcUnit
     over = units_over net step net.arcs (map (low net step) xs) (map (cap net step) xs)
 
     ons : List Bool
     ons = states_of_caps (map (cap net step) xs)
-
-    rooms : (v : ℕ) → slice_index p.rooms.items v ≡ active v over ons
-    rooms v = elim (cases_lt v net.nodes) [
-        inl l ↦ plan.rooms.each v l
-      | inr h ↦ get_or_past p.rooms.items v 0 (omega (arith, plan.rooms.count)) ∙ sym (none_past net.nodes over ons ready.at v h)
-      ]
 
 -- A plan's units have their ends at the nodes that it counts.
 pub plan_at : (net : Network) (step : ℕ) (ls cs : List ℕ) (p : Plan) → IsReady net step ls cs → IsPlan net step ls cs p → AreAtNodes (length p.rooms.items) p.units.items

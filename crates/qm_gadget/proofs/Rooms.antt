@@ -116,3 +116,9 @@ differ_parity true true r = omega arith
 differ_parity true false r = omega arith
 differ_parity false true r = omega arith
 differ_parity false false r = omega arith
+
+-- There are at most two active ends for each unit.
+pub active_low : (v : ℕ) (us : List ArcUnit) (ons : List Bool) → active v us ons ≤ 2 * length us
+active_low v [] ons = omega arith
+active_low v (u ∷ us) [] = omega arith
+active_low v (u ∷ us) (on ∷ ons) = omega (arith, active_at_low v u on, active_low v us ons)

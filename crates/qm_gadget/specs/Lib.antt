@@ -2,4 +2,5 @@ pub mod Gadget
 pub mod Layout
 pub mod Marked
 pub mod Over
+pub mod Read
 pub mod Ready

@@ -5,7 +5,9 @@ mod boxes;
 mod edges;
 mod build;
 mod layout;
+mod lengths;
 mod marks;
+mod matching;
 mod plan;
 mod rim;
 mod rim_marks;
@@ -13,6 +15,8 @@ mod states;
 mod units;
 
 pub use build::{Gadget, graph_of};
+pub use lengths::lengths_of;
+pub use matching::matching_of;
 
 /// Want of memory.
 pub type Memory = std::alloc::AllocError;

@@ -1,5 +1,5 @@
 -- A face without a repeated vertex has four different corners.
-use Rattle.std.proofs.Common.{◌≡◌, ◌≢◌, ℕ, zero, suc, ◌<◌, ◌≤◌, Bool, true, false, cond, ◌||◌, eqb, List, [], ◌∷◌, length, get_or, Option, Some, None, sym, arith, refl}
+use Rattle.std.proofs.Common.{◌≡◌, ◌≢◌, ℕ, zero, suc, ◌<◌, Bool, true, false, cond, eqb, List, [], ◌∷◌, length, get_or, Option, Some, None, sym, arith, refl}
 use Rattle.std.proofs.Common.{◌⊎◌, inl, inr, ◌∙◌, subst}
 use Rattle.std.proofs.lemmas.Bool.{or_parts, or_cases, eqb-true, eqb-false, false≢true}
 use Rattle.std.proofs.lemmas.Option.{none-some, same_Some}
@@ -36,11 +36,14 @@ repeated_by seen (u ∷ vs) v e = at (list_any (λ w. eqb w u) seen) refl e (rep
   where
     Found : Type 0
     Found = ((list_any (λ w. eqb w v) seen ≡ true) × ((j : ℕ) × (j < length (u ∷ vs)) × (get_or (u ∷ vs) j 0 ≡ v))) ⊎ ((i : ℕ) × (j : ℕ) × (i < j) × (j < length (u ∷ vs)) × (get_or (u ∷ vs) i 0 ≡ get_or (u ∷ vs) j 0))
+
     later : ((list_any (λ w. eqb w v) (u ∷ seen) ≡ true) × ((j : ℕ) × (j < length vs) × (get_or vs j 0 ≡ v))) ⊎ ((i : ℕ) × (j : ℕ) × (i < j) × (j < length vs) × (get_or vs i 0 ≡ get_or vs j 0)) → Found
     later (inr p) = inr (suc p.0, suc p.1, omega (arith, p.2), omega (arith, p.3), p.4)
     later (inl p) = elim (or_cases (eqb u v) (list_any (λ w. eqb w v) seen) p.0) [
-        inl s ↦ inr (0, suc p.1.0, omega arith, omega (arith, p.1.1), eqb-true u v s ∙ sym p.1.2)
-      | inr s ↦ inl (s, (suc p.1.0, omega (arith, p.1.1), p.1.2)) ]
+      | inl s ↦ inr (0, suc p.1.0, omega arith, omega (arith, p.1.1), eqb-true u v s ∙ sym p.1.2)
+      | inr s ↦ inl (s, (suc p.1.0, omega (arith, p.1.1), p.1.2))
+    ]
+
     at : (b : Bool) → list_any (λ w. eqb w u) seen ≡ b → cond b (Some u) (repeat_after (u ∷ seen) vs) ≡ Some v → (repeat_after (u ∷ seen) vs ≡ Some v → ((list_any (λ w. eqb w v) (u ∷ seen) ≡ true) × ((j : ℕ) × (j < length vs) × (get_or vs j 0 ≡ v))) ⊎ ((i : ℕ) × (j : ℕ) × (i < j) × (j < length vs) × (get_or vs i 0 ≡ get_or vs j 0))) → Found
     at true b e after = inl (subst (λ (x : ℕ). list_any (λ w. eqb w x) seen ≡ true) (same_Some u v e) b, (0, omega arith, same_Some u v e))
     at false b e after = later (after e)

@@ -1,8 +1,8 @@
 -- Laws of darts: the steps round a face.
-use Rattle.std.proofs.Common.{◌≡◌, ℕ, ◌+◌, ◌*◌, ◌/◌, ◌%◌, ◌-◌, ◌<◌, ◌≤◌, List, length, ap, ◌∙◌, arith}
+use Rattle.std.proofs.Common.{◌≡◌, ℕ, ◌+◌, ◌/◌, ◌%◌, ◌-◌, ◌<◌, ◌≤◌, List, ap, ◌∙◌, arith}
 use Rattle.std.proofs.lemmas.Bool.Decides.{nat_tests}
 use Rattle.def_mesh.specs.Darts.{darts, next_of, prev_of, from_of, to_of}
-use Rattle.def_mesh.specs.Vertices.{NamesBelow}
+use Rattle.qm_mesh.specs.Tables.{NamesBelow}
 
 -- the dart after a dart is a dart, and so is the one before
 pub next_of_low : (faces : List (List ℕ)) (d : ℕ) → d < darts faces → next_of d < darts faces

@@ -1,5 +1,5 @@
 -- The table of fans as darts are added in order.
-use Rattle.std.proofs.Common.{◌≡◌, ℕ, zero, suc, ◌+◌, ◌<◌, ◌≤◌, Bool, true, false, cond, eqb, List, [], ◌∷◌, ◌++◌, length, get_or, set, map, sym, subst, ap, ◌∙◌, refl, inl, inr, arith, replicate}
+use Rattle.std.proofs.Common.{◌≡◌, ℕ, zero, suc, ◌+◌, ◌<◌, true, false, eqb, List, [], ◌∷◌, ◌++◌, length, get_or, set, sym, ap, ◌∙◌, inl, inr, arith, replicate}
 use Rattle.std.proofs.lemmas.Bool.{cases_eq, eq-eqb, ne_eqb}
 use Rattle.std.proofs.lemmas.List.{append-nil, length-map, length-set, length-replicate, get_or-replicate, get_or-set_same, get_or-set_other}
 use Rattle.std.specs.List.{filter, range_with_len}
@@ -28,10 +28,11 @@ hold_more faces n k v fans more h e low put = record { long = ap length put ∙ 
   where
     each : (u : ℕ) → u < n → fan_at more u ≡ filter (λ d. eqb (from_of faces d) u) (range_with_len 0 (k + 1))
     each u l = elim (cases_eq u v) [
-      inl s ↦ let t : eqb (from_of faces k) u ≡ true = eq-eqb _ _ (sym e ∙ sym s) in
-        rw (put, filter_range_more (λ d. eqb (from_of faces d) u) k, t, s) (get_or-set_same (fan_lists fans) v _ [] (omega (arith, h.long)) ∙ ap (λ xs. xs ++ k ∷ []) (h.each v low))
+      | inl s ↦ let t : eqb (from_of faces k) u ≡ true = eq-eqb _ _ (sym e ∙ sym s) in
+          rw (put, filter_range_more (λ d. eqb (from_of faces d) u) k, t, s) (get_or-set_same (fan_lists fans) v _ [] (omega (arith, h.long)) ∙ ap (λ xs. xs ++ k ∷ []) (h.each v low))
       | inr ne ↦ let t : eqb (from_of faces k) u ≡ false = ne_eqb _ _ (λ q. ne (sym q ∙ sym e)) in
-        rw (put, filter_range_more (λ d. eqb (from_of faces d) u) k, t) (get_or-set_other (fan_lists fans) v u _ [] ne ∙ h.each u l ∙ sym (append-nil _)) ]
+          rw (put, filter_range_more (λ d. eqb (from_of faces d) u) k, t) (get_or-set_other (fan_lists fans) v u _ [] ne ∙ h.each u l ∙ sym (append-nil _))
+    ]
 
 pub fans_whole : (faces : List (List ℕ)) (n k : ℕ) (fans : List (SmallVec ℕ)) → HoldDarts faces n k fans → k ≡ darts faces → AreFans faces n fans
 fans_whole faces n k fans h e = record { long = h.long; each = λ v l. h.each v l ∙ ap (λ m. filter (λ d. eqb (from_of faces d) v) (range_with_len 0 m)) e }

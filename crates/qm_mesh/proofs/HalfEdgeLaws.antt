@@ -1,9 +1,9 @@
 -- The half edges of a manifold list are those of a manifold of quads.
-use Rattle.std.proofs.Common.{◌≡◌, ◌≢◌, ◌⊎◌, ℕ, zero, suc, ◌+◌, ◌-◌, ◌/◌, ◌%◌, ◌<◌, ◌≤◌, Bool, true, false, List, length, Option, Some, None, sym, subst, ap, ◌∙◌, refl, inl, inr, arith}
+use Rattle.std.proofs.Common.{◌≡◌, ◌≢◌, ◌⊎◌, ℕ, zero, suc, ◌+◌, ◌-◌, ◌/◌, ◌%◌, ◌<◌, Bool, true, false, List, Some, sym, subst, ap, ◌∙◌, refl, inl, inr, arith}
 use Rattle.std.proofs.lemmas.Bool.{cases_lt}
-use Rattle.def_mesh.specs.Darts.{darts, corner, from_of, to_of, next_of, prev_of, twin_of, IsTwin, is_reverse, all_darts}
-use Rattle.def_mesh.specs.Manifold.{IsManifold, IsRepeatFree, HasEdgesOnce, Chain}
-use Rattle.def_mesh.specs.HalfEdges.{HalfEdges, AreTurned, Turns, IsQuadManifold, half_edges, ManifoldLaw}
+use Rattle.def_mesh.specs.Darts.{darts, corner, from_of, next_of, prev_of, twin_of, IsTwin}
+use Rattle.def_mesh.specs.Manifold.{IsRepeatFree, HasEdgesOnce, Chain}
+use Rattle.def_mesh.specs.HalfEdges.{AreTurned, Turns, half_edges, ManifoldLaw}
 use Rattle.qm_mesh.proofs.DartLaws.{next_of_low, prev_of_low, prev_of-next_of, next_of-prev_of, four_steps, next_face, two_on}
 use Rattle.qm_mesh.proofs.OneFan.{Step, ends_differ, neighbour_step, chain_low}
 use Rattle.qm_mesh.proofs.TwinLaws.{twin_found, twin_is}
@@ -11,8 +11,9 @@ use Rattle.qm_mesh.proofs.TwinLaws.{twin_found, twin_is}
 -- opposite corners of a face differ
 opposite_differ : (faces : List (List ℕ)) → IsRepeatFree faces → (d : ℕ) → d < darts faces → from_of faces d ≢ from_of faces (next_of (next_of d))
 opposite_differ faces free d l same = elim (cases_lt (d % 4) 2) [
-    inl b ↦ free (d / 4) (d % 4) (d % 4 + 2) (omega arith) (omega arith) (omega arith) (same ∙ over (d % 4 + 2) ((two_on d).0 b))
-  | inr b ↦ free (d / 4) (d % 4 - 2) (d % 4) (omega arith) (omega arith) (omega arith) (sym (over (d % 4 - 2) ((two_on d).1 b)) ∙ sym same) ]
+  | inl b ↦ free (d / 4) (d % 4) (d % 4 + 2) (omega arith) (omega arith) (omega arith) (same ∙ over (d % 4 + 2) ((two_on d).0 b))
+  | inr b ↦ free (d / 4) (d % 4 - 2) (d % 4) (omega arith) (omega arith) (omega arith) (sym (over (d % 4 - 2) ((two_on d).1 b)) ∙ sym same)
+]
   where
     over : (i : ℕ) → next_of (next_of d) % 4 ≡ i → from_of faces (next_of (next_of d)) ≡ corner faces (d / 4) i
     over i e = ap (λ f. corner faces f (next_of (next_of d) % 4)) (next_face (next_of d) ∙ next_face d) ∙ ap (corner faces (d / 4)) e
@@ -21,12 +22,13 @@ opposite_differ faces free d l same = elim (cases_lt (d % 4) 2) [
 chain_turns : (faces : List (List ℕ)) → HasEdgesOnce faces → (d e n : ℕ) → d < darts faces → Chain faces d e n → (k : ℕ) × Turns (half_edges faces) d e k
 chain_turns faces once d e zero l c = (0, c)
 chain_turns faces once d e (suc n) l c =
-  let t : (k : ℕ) × Turns (half_edges faces) d c.0 k = chain_turns faces once d c.0 n l c.1 in
-  by_step c.0 t (neighbour_step faces once c.0 e (chain_low faces d c.0 n l c.1) c.2 c.3 c.4)
+    let t : (k : ℕ) × Turns (half_edges faces) d c.0 k = chain_turns faces once d c.0 n l c.1 in
+    by_step c.0 t (neighbour_step faces once c.0 e (chain_low faces d c.0 n l c.1) c.2 c.3 c.4)
   where
     turned : (b : ℕ) (left : Bool) → Step faces left b e → AreTurned (half_edges faces) b e
     turned b true s = inl (twin_found faces once (prev_of b) e s)
     turned b false s = inr (twin_found faces once (prev_of e) b s)
+
     by_step : (b : ℕ) → (k : ℕ) × Turns (half_edges faces) d b k → (b ≡ e) ⊎ ((left : Bool) × Step faces left b e) → (k : ℕ) × Turns (half_edges faces) d e k
     by_step b t (inl q) = (t.0, subst (λ (x : ℕ). Turns (half_edges faces) d x t.0) q t.1)
     by_step b t (inr s) = (suc t.0, (b, t.1, c.2, turned b s.0 s.1))

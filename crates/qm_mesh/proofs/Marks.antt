@@ -1,15 +1,16 @@
 -- The pass over the vertices that pairs darts: each step keeps what the loops know.
-use Rattle.std.proofs.Common.{◌≡◌, ◌≢◌, ◌⊎◌, ℕ, zero, suc, ◌+◌, ◌<◌, ◌≤◌, Bool, true, false, cond, eqb, List, [], ◌∷◌, length, get_or, set, Option, Some, None, sym, subst, ap, ◌∙◌, refl, inl, inr, arith}
+use Rattle.std.proofs.Common.{◌≡◌, ◌≢◌, ◌⊎◌, ℕ, ◌+◌, ◌<◌, ◌≤◌, eqb, List, length, get_or, set, Option, Some, None, sym, subst, ap, ◌∙◌, refl, inl, inr, arith}
 use Rattle.std.proofs.lemmas.Bool.{cases_eq, cases_lt, cases_order, eq-eqb, eqb-true}
-use Rattle.std.proofs.lemmas.List.{length-set, get_or-set_same, get_or-set_other, set_past}
+use Rattle.std.proofs.lemmas.List.{get_or-set_same, get_or-set_other, set_past}
 use Rattle.std.specs.Option.{option_or}
-use Rattle.def_mesh.specs.Darts.{darts, from_of, to_of, next_of, prev_of, IsTwin}
+use Rattle.def_mesh.specs.Darts.{darts, from_of, to_of, next_of, prev_of}
 use Rattle.def_mesh.specs.Manifold.{IsSameEdge, HasEdgesOnce}
 use Rattle.def_mesh.specs.Faults.{IsFirstTwice}
-use Rattle.def_mesh.specs.Vertices.{fan_of, NamesBelow}
-use Rattle.qm_mesh.specs.Pairs.{IsPartner, Runs, AreDarts, AreMarked, IsTwice, NoneTwice, IsFirstAt, IsFirstBelow, MarksOne, IsLesser, IsPairing}
+use Rattle.def_mesh.specs.Vertices.{fan_of}
+use Rattle.qm_mesh.specs.Tables.{NamesBelow}
+use Rattle.qm_mesh.specs.Pairs.{IsPartner, Runs, AreDarts, AreMarked, IsTwice, NoneTwice, IsFirstAt, IsFirstBelow, MarksOne, IsLesser}
 use Rattle.qm_mesh.proofs.Rising.{IsKept, kept_at, place_of, rises}
-use Rattle.qm_mesh.proofs.DartLaws.{next_of_low, prev_of_low, prev_of-next_of, next_of-prev_of}
+use Rattle.qm_mesh.proofs.DartLaws.{next_of_low, prev_of-next_of}
 
 -- the fan of v by places: its entries are the darts that leave v, each at one place, rising
 pub record IsFan (faces : List (List ℕ)) (v : ℕ) (fan : List ℕ) : Type 0 where
@@ -65,34 +66,37 @@ last_or i t l = elim (cases_lt t i) [ inl b ↦ inl b | inr b ↦ inr (omega ari
 -- d stands at its end, or a lesser dart that runs as it does: the table where d had none
 put_darts : (faces : List (List ℕ)) (old : List ℕ) (at d : ℕ) → AreDarts faces old → d < darts faces → AreDarts faces (set old at d)
 put_darts faces old at d all low u p = elim (cases_eq u at) [
-    inl s ↦ elim (cases_lt at (length old)) [
-        inl l ↦ rw (s, get_or-set_same old at d 0 l) low
-      | inr g ↦ rw (set_past old at d g) (all u p) ]
-  | inr ne ↦ rw (get_or-set_other old at u d 0 ne) (all u p) ]
+  | inl s ↦ elim (cases_lt at (length old)) [
+    | inl l ↦ rw (s, get_or-set_same old at d 0 l) low
+    | inr g ↦ rw (set_past old at d g) (all u p)
+  ]
+  | inr ne ↦ rw (get_or-set_other old at u d 0 ne) (all u p)
+]
 
 put_marks : (faces : List (List ℕ)) (v : ℕ) (fan : List ℕ) → IsFan faces v fan → (i : ℕ) (old : List ℕ) → i < length fan → to_of faces (get_or fan i 0) < length old → ((t : ℕ) → t < i → IsMark faces v old (get_or fan t 0)) → (get_or old (to_of faces (get_or fan i 0)) 0 < get_or fan i 0 → ¬ Runs faces (get_or old (to_of faces (get_or fan i 0)) 0) v (to_of faces (get_or fan i 0))) → (t : ℕ) → t < i + 1 → IsMark faces v (set old (to_of faces (get_or fan i 0)) (get_or fan i 0)) (get_or fan t 0)
 put_marks faces v fan h i old l low marks new t k = by_place t k (last_or i t k)
   where
     by_place : (t : ℕ) → t < i + 1 → (t < i) ⊎ (t ≡ i) → IsMark faces v (set old (to_of faces (get_or fan i 0)) (get_or fan i 0)) (get_or fan t 0)
     by_place t k (inr s) = subst (λ (x : ℕ). IsMark faces v (set old (to_of faces (get_or fan i 0)) (get_or fan i 0)) (get_or fan x 0)) (sym s)
-      (let g : get_or (set old (to_of faces (get_or fan i 0)) (get_or fan i 0)) (to_of faces (get_or fan i 0)) 0 ≡ get_or fan i 0 = get_or-set_same old _ _ 0 low in
+        (let g : get_or (set old (to_of faces (get_or fan i 0)) (get_or fan i 0)) (to_of faces (get_or fan i 0)) 0 ≡ get_or fan i 0 = get_or-set_same old _ _ 0 low in
         record { runs = (ap (from_of faces) g ∙ h.leaves i l, ap (to_of faces) g); least = omega (arith, g) })
     by_place t k (inl b) = elim (cases_eq (to_of faces (get_or fan t 0)) (to_of faces (get_or fan i 0))) [
-        inl s ↦ absurd (new
+      | inl s ↦ absurd (new
           (omega (arith, ap (λ x. get_or old x 0) s, (marks t b).least, h.rising t i b l))
           (subst (λ (x : ℕ). Runs faces (get_or old x 0) v x) s (marks t b).runs))
       | inr ne ↦ let g : get_or (set old (to_of faces (get_or fan i 0)) (get_or fan i 0)) (to_of faces (get_or fan t 0)) 0 ≡ get_or old (to_of faces (get_or fan t 0)) 0 = get_or-set_other old _ _ _ 0 ne in
-          record { runs = subst (λ (x : ℕ). Runs faces x v (to_of faces (get_or fan t 0))) (sym g) (marks t b).runs; least = omega (arith, g, (marks t b).least) } ]
+          record { runs = subst (λ (x : ℕ). Runs faces x v (to_of faces (get_or fan t 0))) (sym g) (marks t b).runs; least = omega (arith, g, (marks t b).least) }
+    ]
 
 -- no dart before d runs as it does
 put_none : (faces : List (List ℕ)) (v : ℕ) (fan : List ℕ) → IsFan faces v fan → (i : ℕ) (old : List ℕ) → i < length fan → ((t : ℕ) → t < i → IsMark faces v old (get_or fan t 0)) → (get_or old (to_of faces (get_or fan i 0)) 0 < get_or fan i 0 → ¬ Runs faces (get_or old (to_of faces (get_or fan i 0)) 0) v (to_of faces (get_or fan i 0))) → (j : ℕ) → j < get_or fan i 0 → from_of faces j ≡ v → ¬ IsSameEdge faces j (get_or fan i 0)
 put_none faces v fan h i old l marks new j low start same =
-  let p : (r : ℕ) × (r < i) × (get_or fan r 0 ≡ j) = earlier_place faces v fan h i j l low start in at_mark p.0 p.1 p.2
+    let p : (r : ℕ) × (r < i) × (get_or fan r 0 ≡ j) = earlier_place faces v fan h i j l low start in at_mark p.0 p.1 p.2
   where
     at_mark : (s : ℕ) → s < i → get_or fan s 0 ≡ j → ⊥
     at_mark s b e = new
-      (omega (arith, ap (λ x. get_or old x 0) (ap (to_of faces) e ∙ same.1), (marks s b).least))
-      (subst (λ (x : ℕ). Runs faces (get_or old x 0) v x) (ap (to_of faces) e ∙ same.1) (marks s b).runs)
+        (omega (arith, ap (λ x. get_or old x 0) (ap (to_of faces) e ∙ same.1), (marks s b).least))
+        (subst (λ (x : ℕ). Runs faces (get_or old x 0) v x) (ap (to_of faces) e ∙ same.1) (marks s b).runs)
 
 put_first : (faces : List (List ℕ)) (v : ℕ) (fan : List ℕ) (i : ℕ) → ((j : ℕ) → j < get_or fan i 0 → from_of faces j ≡ v → ¬ IsSameEdge faces j (get_or fan i 0)) → (o : Option (ℕ × ℕ)) → FirstBefore faces v fan i o → FirstBefore faces v fan (i + 1) (option_or o None)
 put_first faces v fan i here (Some p) is = is
@@ -116,8 +120,8 @@ found_first faces v fan h i m d l e low runs None none = (record { before = omeg
   where
     nothing : NoneTwice faces v d
     nothing j k less below start same =
-      let p : (r : ℕ) × (r < i) × (get_or fan r 0 ≡ k) = earlier_place faces v fan h i k l (omega (arith, e)) (sym same.0 ∙ start) in
-      none j p.0 p.1 (omega (arith, p.2)) start (subst (λ (x : ℕ). IsSameEdge faces j x) (sym p.2) same)
+        let p : (r : ℕ) × (r < i) × (get_or fan r 0 ≡ k) = earlier_place faces v fan h i k l (omega (arith, e)) (sym same.0 ∙ start) in
+        none j p.0 p.1 (omega (arith, p.2)) start (subst (λ (x : ℕ). IsSameEdge faces j x) (sym p.2) same)
 
 -- one dart more of the fan
 pub mark_more : (faces : List (List ℕ)) (v : ℕ) (fan : List ℕ) → IsFan faces v fan → (i : ℕ) (old new : List ℕ) (twice found : Option (ℕ × ℕ)) → i < length fan → to_of faces (get_or fan i 0) < length old → AreMarkedBefore faces v fan i old twice → MarksOne faces v (get_or fan i 0) old new found → AreMarkedBefore faces v fan (i + 1) new (option_or twice found)
@@ -135,14 +139,14 @@ mark_more faces v fan h i old new twice (Some q) l low b m = rw m.0 (record {
 -- the whole fan has been taken
 pub marked_all : (faces : List (List ℕ)) (v : ℕ) (fan : List ℕ) → IsFan faces v fan → (i : ℕ) (by_end : List ℕ) (twice : Option (ℕ × ℕ)) → length fan ≤ i → AreMarkedBefore faces v fan i by_end twice → AreMarked faces v by_end
 marked_all faces v fan h i by_end twice l b d low e =
-  let p : (t : ℕ) × (t < length fan) × (get_or fan t 0 ≡ d) = h.place d low e in
-  subst (λ (x : ℕ). Runs faces (get_or by_end (to_of faces x) 0) v (to_of faces x)) p.2 (b.marks p.0 (omega (arith, p.1))).runs
+    let p : (t : ℕ) × (t < length fan) × (get_or fan t 0 ≡ d) = h.place d low e in
+    subst (λ (x : ℕ). Runs faces (get_or by_end (to_of faces x) 0) v (to_of faces x)) p.2 (b.marks p.0 (omega (arith, p.1))).runs
 
 pub first_of_all : (faces : List (List ℕ)) (v : ℕ) (fan : List ℕ) → IsFan faces v fan → (i : ℕ) (by_end : List ℕ) (twice : Option (ℕ × ℕ)) → length fan ≤ i → AreMarkedBefore faces v fan i by_end twice → IsFirstAt faces v twice
 first_of_all faces v fan h i by_end (Some p) l b = b.first
 first_of_all faces v fan h i by_end None l b = λ j k less below start same.
-      let p : (r : ℕ) × (r < length fan) × (get_or fan r 0 ≡ k) = h.place k below (sym same.0 ∙ start) in
-      b.first j p.0 (omega (arith, p.1)) (omega (arith, p.2)) start (subst (λ (x : ℕ). IsSameEdge faces j x) (sym p.2) same)
+    let p : (r : ℕ) × (r < length fan) × (get_or fan r 0 ≡ k) = h.place k below (sym same.0 ∙ start) in
+    b.first j p.0 (omega (arith, p.1)) (omega (arith, p.2)) start (subst (λ (x : ℕ). IsSameEdge faces j x) (sym p.2) same)
 
 -- the darts that arrive before the first i corners of v have their partners, and no dart that ends elsewhere changed
 pub record ArePairedBefore (faces : List (List ℕ)) (v : ℕ) (fan : List ℕ) (i : ℕ) (old new : List ℕ) : Type 0 where
@@ -155,18 +159,21 @@ pair_more faces v fan i old now e t is_prev low ends is b = record { each = λ s
   where
     here : (d : ℕ) → d ≡ e → IsPartner faces d (get_or (set now e t) d 0)
     here d s = rw (s, get_or-set_same now e t 0 low) is
+
     at : (s : ℕ) → (s < i) ⊎ (s ≡ i) → IsPartner faces (prev_of (get_or fan s 0)) (get_or (set now e t) (prev_of (get_or fan s 0)) 0)
     at s (inr q) = here _ (ap (λ x. prev_of (get_or fan x 0)) q ∙ sym is_prev)
     at s (inl l) = elim (cases_eq (prev_of (get_or fan s 0)) e) [
-        inl q ↦ here _ q
-      | inr ne ↦ rw (get_or-set_other now e _ t 0 ne) (b.each s l) ]
+      | inl q ↦ here _ q
+      | inr ne ↦ rw (get_or-set_other now e _ t 0 ne) (b.each s l)
+    ]
+
     others : (d : ℕ) → to_of faces d ≢ v → get_or (set now e t) d 0 ≡ get_or old d 0
     others d ne = get_or-set_other now e d t 0 (λ s. ne (ap (to_of faces) s ∙ ends)) ∙ b.others d ne
 
 pub paired_all : (faces : List (List ℕ)) (v : ℕ) (fan : List ℕ) → IsFan faces v fan → (i : ℕ) (old now : List ℕ) → length fan ≤ i → ArePairedBefore faces v fan i old now → (e : ℕ) → e < darts faces → to_of faces e ≡ v → IsPartner faces e (get_or now e 0)
 paired_all faces v fan h i old now l b e low ends =
-  let p : (t : ℕ) × (t < length fan) × (get_or fan t 0 ≡ next_of e) = h.place (next_of e) (next_of_low faces e low) ends in
-  subst (λ (x : ℕ). IsPartner faces x (get_or now x 0)) (ap prev_of p.2 ∙ prev_of-next_of e) (b.each p.0 (omega (arith, p.1)))
+    let p : (t : ℕ) × (t < length fan) × (get_or fan t 0 ≡ next_of e) = h.place (next_of e) (next_of_low faces e low) ends in
+    subst (λ (x : ℕ). IsPartner faces x (get_or now x 0)) (ap prev_of p.2 ∙ prev_of-next_of e) (b.each p.0 (omega (arith, p.1)))
 
 -- fewer darts, fewer that follow another
 fewer : (faces : List (List ℕ)) (v m n : ℕ) → n ≤ m → NoneTwice faces v m → NoneTwice faces v n
@@ -179,27 +186,30 @@ one_more faces v top before here u l = elim (last_or v u l) [ inl b ↦ before u
 pub lesser_first : (faces : List (List ℕ)) (v : ℕ) (a b c : Option (ℕ × ℕ)) → IsFirstBelow faces v a → IsFirstAt faces v b → IsLesser a b c → IsFirstBelow faces (v + 1) c
 lesser_first faces v None None c below here e = subst (λ (x : Option (ℕ × ℕ)). IsFirstBelow faces (v + 1) x) (sym e) (one_more faces v (darts faces) below here)
 lesser_first faces v None (Some q) c below here e = subst (λ (x : Option (ℕ × ℕ)). IsFirstBelow faces (v + 1) x) (sym e)
-  (here.0, one_more faces v q.1 (λ u l. fewer faces u (darts faces) q.1 (omega (arith, here.0.is_dart)) (below u l)) here.1)
+    (here.0, one_more faces v q.1 (λ u l. fewer faces u (darts faces) q.1 (omega (arith, here.0.is_dart)) (below u l)) here.1)
 lesser_first faces v (Some p) None c below here e = subst (λ (x : Option (ℕ × ℕ)). IsFirstBelow faces (v + 1) x) (sym e)
-  (below.0, one_more faces v p.1 below.1 (fewer faces v (darts faces) p.1 (omega (arith, below.0.is_dart)) here))
+    (below.0, one_more faces v p.1 below.1 (fewer faces v (darts faces) p.1 (omega (arith, below.0.is_dart)) here))
 lesser_first faces v (Some p) (Some q) c below here (inl e) = subst (λ (x : Option (ℕ × ℕ)). IsFirstBelow faces (v + 1) x) (sym e.1)
-  (here.0, one_more faces v q.1 (λ u l. fewer faces u p.1 q.1 (omega (arith, e.0)) (below.1 u l)) here.1)
+    (here.0, one_more faces v q.1 (λ u l. fewer faces u p.1 q.1 (omega (arith, e.0)) (below.1 u l)) here.1)
 lesser_first faces v (Some p) (Some q) c below here (inr e) = subst (λ (x : Option (ℕ × ℕ)). IsFirstBelow faces (v + 1) x) (sym e.1)
-  (below.0, one_more faces v p.1 below.1 (fewer faces v q.1 p.1 (omega (arith, e.0)) here.1))
+    (below.0, one_more faces v p.1 below.1 (fewer faces v q.1 p.1 (omega (arith, e.0)) here.1))
 
 -- partners of the darts that arrive at the vertices below v, and at v
 pub each_more : (faces : List (List ℕ)) (v : ℕ) (old new : List ℕ) → ((e : ℕ) → e < darts faces → to_of faces e < v → IsPartner faces e (get_or old e 0)) → ((e : ℕ) → e < darts faces → to_of faces e ≡ v → IsPartner faces e (get_or new e 0)) → ((e : ℕ) → to_of faces e ≢ v → get_or new e 0 ≡ get_or old e 0) → (e : ℕ) → e < darts faces → to_of faces e < v + 1 → IsPartner faces e (get_or new e 0)
 each_more faces v old new before here others e low ends = elim (last_or v (to_of faces e) ends) [
-    inl b ↦ rw (others e (λ s. absurd (omega arith))) (before e low b)
-  | inr s ↦ here e low s ]
+  | inl b ↦ rw (others e (λ s. absurd (omega arith))) (before e low b)
+  | inr s ↦ here e low s
+]
 
 -- all vertices have been taken, and no edge was met twice
 pub edges_once_from : (faces : List (List ℕ)) (n : ℕ) → NamesBelow n faces → ((u : ℕ) → u < n → NoneTwice faces u (darts faces)) → HasEdgesOnce faces
 edges_once_from faces n within none d e low high same = elim (cases_order d e) [
-    inl s ↦ s
+  | inl s ↦ s
   | inr r ↦ elim r [
-        inl l ↦ absurd (none (from_of faces d) (within d low) d e l high refl same)
-      | inr l ↦ absurd (none (from_of faces e) (within e high) e d l low refl (sym same.0, sym same.1)) ] ]
+    | inl l ↦ absurd (none (from_of faces d) (within d low) d e l high refl same)
+    | inr l ↦ absurd (none (from_of faces e) (within e high) e d l low refl (sym same.0, sym same.1))
+  ]
+]
 
 -- or they were met first at d and e
 pub first_twice_from : (faces : List (List ℕ)) (n d e : ℕ) → NamesBelow n faces → IsTwice faces d e → ((u : ℕ) → u < n → NoneTwice faces u e) → IsFirstTwice faces d e

@@ -1,14 +1,13 @@
 -- Turns by the table of partners against chains of neighbours: a vertex has one fan where turns from one corner reach all.
-use Rattle.std.proofs.Common.{◌≡◌, ◌≢◌, ◌⊎◌, ℕ, zero, suc, ◌+◌, ◌/◌, ◌%◌, ◌<◌, Bool, true, false, not, cond, eqb, List, length, get_or, replicate, ◌≤◌, Option, Some, None, sym, subst, ap, ◌∙◌, refl, inl, inr, arith}
-use Rattle.std.proofs.lemmas.Bool.{cases_eq, cases_lt, cases_Bool, false≢true, eq-eqb, ne_eqb, false_from_ne_true}
+use Rattle.std.proofs.Common.{◌≡◌, ◌≢◌, ◌⊎◌, ℕ, zero, suc, ◌+◌, ◌/◌, ◌%◌, ◌<◌, Bool, true, false, not, cond, eqb, List, length, get_or, replicate, ◌≤◌, Some, None, sym, subst, ap, ◌∙◌, refl, inl, inr, arith}
+use Rattle.std.proofs.lemmas.Bool.{cases_lt, cases_Bool, false≢true, eq-eqb, ne_eqb, false_from_ne_true}
 use Rattle.std.proofs.lemmas.Option.{none-some, same_Some}
-use Rattle.std.specs.Bool.{MatchBool}
 use Rattle.def_mesh.specs.Darts.{darts, from_of, to_of, next_of, prev_of, IsTwin, corner}
-use Rattle.def_mesh.specs.Manifold.{IsRepeatFree, HasEdgesOnce, IsSameEdge, AreNeighbours, Chain, HasOneFan}
+use Rattle.def_mesh.specs.Manifold.{IsRepeatFree, HasEdgesOnce, AreNeighbours, Chain, HasOneFan}
 use Rattle.def_mesh.specs.Faults.{IsFirstTwoFans}
-use Rattle.def_mesh.specs.Vertices.{NamesBelow}
+use Rattle.qm_mesh.specs.Tables.{NamesBelow}
 use Rattle.qm_mesh.specs.Pairs.{IsPartner, ArePartners}
-use Rattle.qm_mesh.specs.Turns.{behind, beside_of, edge_beside, IsSeen, Turns, IsClosed, IsBehind, IsVisit}
+use Rattle.qm_mesh.specs.Turns.{behind, beside_of, IsSeen, Turns, IsClosed, IsBehind, IsVisit}
 use Rattle.qm_mesh.proofs.DartLaws.{next_of_low, prev_of_low, prev_of-next_of, next_of-prev_of, next_face, next_place, next_first}
 use Rattle.std.proofs.lemmas.List.{get_or_past, length-replicate, get_or-replicate}
 use Rattle.qm_mesh.proofs.Marks.{IsFan, last_or}
@@ -16,9 +15,10 @@ use Rattle.qm_mesh.proofs.Marks.{IsFan, last_or}
 -- the ends of a dart differ
 pub ends_differ : (faces : List (List ℕ)) → IsRepeatFree faces → (d : ℕ) → d < darts faces → from_of faces d ≢ to_of faces d
 ends_differ faces free d l same = elim (cases_lt (d % 4) 3) [
-    inl b ↦ free (d / 4) (d % 4) (d % 4 + 1) (omega arith) (omega arith) (omega arith) (same ∙ ap (λ f. corner faces f (next_of d % 4)) (next_face d) ∙ ap (corner faces (d / 4)) (next_place d b))
+  | inl b ↦ free (d / 4) (d % 4) (d % 4 + 1) (omega arith) (omega arith) (omega arith) (same ∙ ap (λ f. corner faces f (next_of d % 4)) (next_face d) ∙ ap (corner faces (d / 4)) (next_place d b))
   | inr b ↦ let three : d % 4 ≡ 3 = omega arith in
-      free (d / 4) 0 3 (omega arith) (omega arith) (omega arith) (sym (ap (λ f. corner faces f (next_of d % 4)) (next_face d) ∙ ap (corner faces (d / 4)) (next_first d three)) ∙ sym same ∙ ap (corner faces (d / 4)) three) ]
+      free (d / 4) 0 3 (omega arith) (omega arith) (omega arith) (sym (ap (λ f. corner faces f (next_of d % 4)) (next_face d) ∙ ap (corner faces (d / 4)) (next_first d three)) ∙ sym same ∙ ap (corner faces (d / 4)) three)
+]
 
 -- e lies beside d: behind the edge of the dart before d to the left, behind that of d to the right
 abbrev pub Step : List (List ℕ) → Bool → ℕ → ℕ → Type 0
@@ -54,7 +54,7 @@ neighbour_step faces once d e low high same (inl a) = inr (false, (low, same ∙
 neighbour_step faces once d e low high same (inr (inl a)) = inr (true, (high, sym same ∙ sym (before_from faces d), a))
 neighbour_step faces once d e low high same (inr (inr (inl a))) = inl (once d e low high (same, a))
 neighbour_step faces once d e low high same (inr (inr (inr a))) = inl
-  (sym (next_of-prev_of d) ∙ ap next_of (once (prev_of d) (prev_of e) (prev_of_low faces d low) (prev_of_low faces e high) (a, before_from faces d ∙ same ∙ sym (before_from faces e))) ∙ next_of-prev_of e)
+    (sym (next_of-prev_of d) ∙ ap next_of (once (prev_of d) (prev_of e) (prev_of_low faces d low) (prev_of_low faces e high) (a, before_from faces d ∙ same ∙ sym (before_from faces e))) ∙ next_of-prev_of e)
 
 -- Chains: their ends, one after another, and back.
 pub chain_low : (faces : List (List ℕ)) (d e n : ℕ) → d < darts faces → Chain faces d e n → e < darts faces
@@ -72,8 +72,8 @@ chain_join faces d c e n (suc m) a b = let j : (k : ℕ) × Chain faces d b.0 k 
 chain_back : (faces : List (List ℕ)) (d e n : ℕ) → d < darts faces → Chain faces d e n → (k : ℕ) × Chain faces e d k
 chain_back faces d e zero l c = (0, sym c)
 chain_back faces d e (suc n) l c =
-  let b : (k : ℕ) × Chain faces c.0 d k = chain_back faces d c.0 n l c.1 in
-  chain_join faces e c.0 d 1 b.0 (e, refl, chain_low faces d c.0 n l c.1, sym c.3, neighbour_back faces c.0 e c.4) b.1
+    let b : (k : ℕ) × Chain faces c.0 d k = chain_back faces d c.0 n l c.1 in
+    chain_join faces e c.0 d 1 b.0 (e, refl, chain_low faces d c.0 n l c.1, sym c.3, neighbour_back faces c.0 e c.4) b.1
 
 -- What the table of partners says is beside a corner is beside it, and all that.
 beside_found : (faces : List (List ℕ)) (twins : List ℕ) → ArePartners faces twins → (left : Bool) (d e : ℕ) → d < darts faces → beside_of left twins d ≡ Some e → Step faces left d e × (e < darts faces)
@@ -82,17 +82,19 @@ beside_found faces twins p true d e l b = by_partner (get_or twins (prev_of d) 0
     by_partner : (t : ℕ) → IsPartner faces (prev_of d) t → behind true (prev_of d) t ≡ Some e → Step faces true d e × (e < darts faces)
     by_partner t (inr none) b = absurd (none-some e (sym (ap (λ x. cond x None (Some t)) (eq-eqb t (prev_of d) none.0)) ∙ b))
     by_partner t (inl is) b = elim (cases_Bool (eqb t (prev_of d))) [
-        inl q ↦ absurd (none-some e (sym (ap (λ x. cond x None (Some t)) q) ∙ b))
-      | inr q ↦ let s : t ≡ e = same_Some t e (sym (ap (λ x. cond x None (Some t)) q) ∙ b) in (subst (λ (x : ℕ). IsTwin faces (prev_of d) x) s is, subst (λ (x : ℕ). x < darts faces) s is.0) ]
+      | inl q ↦ absurd (none-some e (sym (ap (λ x. cond x None (Some t)) q) ∙ b))
+      | inr q ↦ let s : t ≡ e = same_Some t e (sym (ap (λ x. cond x None (Some t)) q) ∙ b) in (subst (λ (x : ℕ). IsTwin faces (prev_of d) x) s is, subst (λ (x : ℕ). x < darts faces) s is.0)
+    ]
 beside_found faces twins p false d e l b = by_partner (get_or twins d 0) (p.each d l) b
   where
     by_partner : (t : ℕ) → IsPartner faces d t → behind false d t ≡ Some e → Step faces false d e × (e < darts faces)
     by_partner t (inr none) b = absurd (none-some e (sym (ap (λ x. cond x None (Some (next_of t))) (eq-eqb t d none.0)) ∙ b))
     by_partner t (inl is) b = elim (cases_Bool (eqb t d)) [
-        inl q ↦ absurd (none-some e (sym (ap (λ x. cond x None (Some (next_of t))) q) ∙ b))
+      | inl q ↦ absurd (none-some e (sym (ap (λ x. cond x None (Some (next_of t))) q) ∙ b))
       | inr q ↦ let s : next_of t ≡ e = same_Some (next_of t) e (sym (ap (λ x. cond x None (Some (next_of t))) q) ∙ b) in
           let back : prev_of e ≡ t = ap prev_of (sym s) ∙ prev_of-next_of t in
-          ((l, sym (ap (to_of faces) back ∙ is.2), sym (ap (from_of faces) back ∙ is.1)), subst (λ (x : ℕ). x < darts faces) s (next_of_low faces t is.0)) ]
+          ((l, sym (ap (to_of faces) back ∙ is.2), sym (ap (from_of faces) back ∙ is.1)), subst (λ (x : ℕ). x < darts faces) s (next_of_low faces t is.0))
+    ]
 
 -- the twin of a dart is its partner, and another dart
 partner_of : (faces : List (List ℕ)) (twins : List ℕ) → ArePartners faces twins → HasEdgesOnce faces → (d e : ℕ) → d < darts faces → IsTwin faces d e → get_or twins d 0 ≡ e
@@ -107,26 +109,26 @@ twin_differs faces free d e l is same = ends_differ faces free d l (sym (ap (fro
 
 beside_all : (faces : List (List ℕ)) (twins : List ℕ) → ArePartners faces twins → HasEdgesOnce faces → IsRepeatFree faces → (left : Bool) (d e : ℕ) → d < darts faces → e < darts faces → Step faces left d e → beside_of left twins d ≡ Some e
 beside_all faces twins p once free true d e l h s =
-  let t : get_or twins (prev_of d) 0 ≡ e = partner_of faces twins p once (prev_of d) e (prev_of_low faces d l) s in
-  ap (behind true (prev_of d)) t ∙ ap (λ x. cond x None (Some e)) (ne_eqb e (prev_of d) (twin_differs faces free (prev_of d) e (prev_of_low faces d l) s))
+    let t : get_or twins (prev_of d) 0 ≡ e = partner_of faces twins p once (prev_of d) e (prev_of_low faces d l) s in
+    ap (behind true (prev_of d)) t ∙ ap (λ x. cond x None (Some e)) (ne_eqb e (prev_of d) (twin_differs faces free (prev_of d) e (prev_of_low faces d l) s))
 beside_all faces twins p once free false d e l h s =
-  let is : IsTwin faces d (prev_of e) = (prev_of_low faces e h, sym s.2, sym s.1) in
-  let t : get_or twins d 0 ≡ prev_of e = partner_of faces twins p once d (prev_of e) l is in
-  ap (behind false d) t ∙ ap (λ x. cond x None (Some (next_of (prev_of e)))) (ne_eqb (prev_of e) d (twin_differs faces free d (prev_of e) l is)) ∙ ap Some (next_of-prev_of e)
+    let is : IsTwin faces d (prev_of e) = (prev_of_low faces e h, sym s.2, sym s.1) in
+    let t : get_or twins d 0 ≡ prev_of e = partner_of faces twins p once d (prev_of e) l is in
+    ap (behind false d) t ∙ ap (λ x. cond x None (Some (next_of (prev_of e)))) (ne_eqb (prev_of e) d (twin_differs faces free d (prev_of e) l is)) ∙ ap Some (next_of-prev_of e)
 
 -- one dart lies beside a corner to each side
 step_once : (faces : List (List ℕ)) → HasEdgesOnce faces → (left : Bool) (d e k : ℕ) → d < darts faces → e < darts faces → k < darts faces → Step faces left d e → Step faces left d k → e ≡ k
 step_once faces once true d e k l m h s t = once e k m h (s.1 ∙ sym t.1, s.2 ∙ sym t.2)
 step_once faces once false d e k l m h s t =
-  sym (next_of-prev_of e) ∙ ap next_of (once (prev_of e) (prev_of k) (prev_of_low faces e m) (prev_of_low faces k h) (sym s.2 ∙ t.2, sym s.1 ∙ t.1)) ∙ next_of-prev_of k
+    sym (next_of-prev_of e) ∙ ap next_of (once (prev_of e) (prev_of k) (prev_of_low faces e m) (prev_of_low faces k h) (sym s.2 ∙ t.2, sym s.1 ∙ t.1)) ∙ next_of-prev_of k
 
 -- turns are a chain
 turns_chain : (faces : List (List ℕ)) (twins : List ℕ) → ArePartners faces twins → (d e n : ℕ) → d < darts faces → Turns twins d e n → (k : ℕ) × Chain faces d e k
 turns_chain faces twins p d e zero l t = (0, t)
 turns_chain faces twins p d e (suc n) l t =
-  let c : (k : ℕ) × Chain faces d t.0 k = turns_chain faces twins p d t.0 n l t.1 in
-  let s : Step faces t.2.0 t.0 e × (e < darts faces) = beside_found faces twins p t.2.0 t.0 e (chain_low faces d t.0 c.0 l c.1) t.2.1 in
-  (suc c.0, (t.0, c.1, s.1, step_vertex faces t.2.0 t.0 e s.0, step_neighbour faces t.2.0 t.0 e s.0))
+    let c : (k : ℕ) × Chain faces d t.0 k = turns_chain faces twins p d t.0 n l t.1 in
+    let s : Step faces t.2.0 t.0 e × (e < darts faces) = beside_found faces twins p t.2.0 t.0 e (chain_low faces d t.0 c.0 l c.1) t.2.1 in
+    (suc c.0, (t.0, c.1, s.1, step_vertex faces t.2.0 t.0 e s.0, step_neighbour faces t.2.0 t.0 e s.0))
 
 -- the vertices before v have one fan each, and only their corners are marked
 pub record AreChecked (faces : List (List ℕ)) (v : ℕ) (seen : List Bool) : Type 0 where
@@ -152,8 +154,8 @@ seen_low faces seen d e s = elim (cases_lt d (length seen)) [ inl l ↦ omega ar
 stays : (faces : List (List ℕ)) (twins : List ℕ) (v first : ℕ) (old new : List Bool) → IsVisited faces twins v first old new → (e n : ℕ) → Chain faces first e n → IsSeen new e
 stays faces twins v first old new w e zero c = subst (λ (x : ℕ). IsSeen new x) c w.visit.started
 stays faces twins v first old new w e (suc n) c =
-  let low : c.0 < darts faces = chain_low faces first c.0 n w.first_low c.1 in
-  by_step c.0 low (sym (chain_vertex faces first c.0 n c.1) ∙ w.first_at) c.2 (stays faces twins v first old new w c.0 n c.1) (neighbour_step faces w.once c.0 e low c.2 c.3 c.4)
+    let low : c.0 < darts faces = chain_low faces first c.0 n w.first_low c.1 in
+    by_step c.0 low (sym (chain_vertex faces first c.0 n c.1) ∙ w.first_at) c.2 (stays faces twins v first old new w c.0 n c.1) (neighbour_step faces w.once c.0 e low c.2 c.3 c.4)
   where
     by_side : (k : ℕ) → k < darts faces → e < darts faces → (left : Bool) → Step faces left k e → IsClosed left twins new k ⊎ IsBehind (not left) twins new k → IsSeen new e
     by_side k low high left s (inl closed) = closed e (beside_all faces twins w.partners w.once w.free left k e low high s)
@@ -161,9 +163,10 @@ stays faces twins v first old new w e (suc n) c =
       where
         by_other : (c : ℕ) → IsSeen new c → beside_of (not left) twins c ≡ Some k → IsSeen new e
         by_other c seen b =
-          let l : c < darts faces = seen_low faces new c w.long seen in
-          let f : Step faces (not left) c k × (k < darts faces) = beside_found faces twins w.partners (not left) c k l b in
-          subst (λ (x : ℕ). IsSeen new x) (step_once faces w.once left k c e low l high (step_back faces left c k f.0) s) seen
+            let l : c < darts faces = seen_low faces new c w.long seen in
+            let f : Step faces (not left) c k × (k < darts faces) = beside_found faces twins w.partners (not left) c k l b in
+            subst (λ (x : ℕ). IsSeen new x) (step_once faces w.once left k c e low l high (step_back faces left c k f.0) s) seen
+
     by_step : (k : ℕ) → k < darts faces → from_of faces k ≡ v → e < darts faces → IsSeen new k → (k ≡ e) ⊎ ((left : Bool) × Step faces left k e) → IsSeen new e
     by_step k low at high s (inl q) = subst (λ (x : ℕ). IsSeen new x) q s
     by_step k low at high s (inr t) = by_side k low high t.0 t.1 (w.visit.closed t.0 k s (w.unseen k low at))
@@ -171,10 +174,10 @@ stays faces twins v first old new w e (suc n) c =
 -- all of the fan is marked: one fan
 one_fan_from : (faces : List (List ℕ)) (twins : List ℕ) (v first : ℕ) (old new : List Bool) → IsVisited faces twins v first old new → ((d : ℕ) → d < darts faces → from_of faces d ≡ v → IsSeen new d) → HasOneFan faces v
 one_fan_from faces twins v first old new w all d e low high at end =
-  let a : (k : ℕ) × Chain faces first d k = reach d low at in
-  let b : (k : ℕ) × Chain faces first e k = reach e high end in
-  let c : (k : ℕ) × Chain faces d first k = chain_back faces first d a.0 w.first_low a.1 in
-  chain_join faces d first e c.0 b.0 c.1 b.1
+    let a : (k : ℕ) × Chain faces first d k = reach d low at in
+    let b : (k : ℕ) × Chain faces first e k = reach e high end in
+    let c : (k : ℕ) × Chain faces d first k = chain_back faces first d a.0 w.first_low a.1 in
+    chain_join faces d first e c.0 b.0 c.1 b.1
   where
     reach : (k : ℕ) → k < darts faces → from_of faces k ≡ v → (n : ℕ) × Chain faces first k n
     reach k l s = let t : (n : ℕ) × Turns twins first k n = w.visit.reached k (all k l s) (w.unseen k l s) in turns_chain faces twins w.partners first k t.0 w.first_low t.1
@@ -182,8 +185,8 @@ one_fan_from faces twins v first old new w all d e low high at end =
 -- some of it is not: more than one
 two_fans_from : (faces : List (List ℕ)) (twins : List ℕ) (v first : ℕ) (old new : List Bool) → IsVisited faces twins v first old new → (d : ℕ) → d < darts faces → from_of faces d ≡ v → get_or new d false ≡ false → ¬ HasOneFan faces v
 two_fans_from faces twins v first old new w d low at unseen one =
-  let c : (n : ℕ) × Chain faces first d n = one first d w.first_low low w.first_at at in
-  false≢true (sym unseen ∙ stays faces twins v first old new w d c.0 c.1)
+    let c : (n : ℕ) × Chain faces first d n = one first d w.first_low low w.first_at at in
+    false≢true (sym unseen ∙ stays faces twins v first old new w d c.0 c.1)
 
 -- no corner at v is marked before its visit
 pub not_seen : (faces : List (List ℕ)) (v : ℕ) (seen : List Bool) → AreChecked faces v seen → (d : ℕ) → d < darts faces → from_of faces d ≡ v → get_or seen d false ≡ false
@@ -220,11 +223,13 @@ checked_more faces twins v fan old new h w c all = record {
     by_mark : (d : ℕ) → d < darts faces → IsSeen new d → (get_or old d false ≡ true) ⊎ (get_or old d false ≡ false) → from_of faces d < v + 1
     by_mark d l s (inl o) = omega (arith, c.marks d l o)
     by_mark d l s (inr o) =
-      let t : (n : ℕ) × Turns twins (get_or fan 0 0) d n = w.visit.reached d s o in
-      let k : (n : ℕ) × Chain faces (get_or fan 0 0) d n = turns_chain faces twins w.partners (get_or fan 0 0) d t.0 w.first_low t.1 in
-      omega (arith, chain_vertex faces (get_or fan 0 0) d k.0 k.1, w.first_at)
+        let t : (n : ℕ) × Turns twins (get_or fan 0 0) d n = w.visit.reached d s o in
+        let k : (n : ℕ) × Chain faces (get_or fan 0 0) d n = turns_chain faces twins w.partners (get_or fan 0 0) d t.0 w.first_low t.1 in
+        omega (arith, chain_vertex faces (get_or fan 0 0) d k.0 k.1, w.first_at)
+
     each : (d : ℕ) → d < darts faces → from_of faces d ≡ v → IsSeen new d
     each d l e = let p : (t : ℕ) × (t < length fan) × (get_or fan t 0 ≡ d) = h.place d l e in subst (λ (x : ℕ). IsSeen new x) p.2 (all p.0 p.1)
+
     by_vertex : (u : ℕ) → (u < v) ⊎ (u ≡ v) → HasOneFan faces u
     by_vertex u (inl b) = c.one_fan u b
     by_vertex u (inr e) = subst (λ (x : ℕ). HasOneFan faces x) (sym e) (one_fan_from faces twins v (get_or fan 0 0) old new w each)

@@ -1,11 +1,11 @@
 -- The table of partners has the twin of each dart of a manifold.
-use Rattle.std.proofs.Common.{◌≡◌, ◌≢◌, ◌⊎◌, ℕ, zero, suc, ◌+◌, ◌<◌, ◌≤◌, Bool, true, false, cond, eqb, ◌&&◌, List, [], ◌∷◌, length, get_or, Option, Some, None, is_some, sym, subst, ap, ◌∙◌, refl, inl, inr, arith}
-use Rattle.std.proofs.lemmas.Bool.{cases_eq, cases_Bool, and_parts, and_from, both_ways, false_from_ne_true, eq-eqb, ne_eqb, eqb-true}
+use Rattle.std.proofs.Common.{◌≡◌, ℕ, zero, suc, ◌+◌, ◌<◌, ◌≤◌, Bool, true, false, cond, eqb, List, Some, None, sym, subst, ap, ◌∙◌, refl, inl, inr, arith}
+use Rattle.std.proofs.lemmas.Bool.{cases_eq, and_parts, and_from, both_ways, false_from_ne_true, eq-eqb, ne_eqb, eqb-true}
 use Rattle.std.proofs.lemmas.Option.{none-some, same_Some}
 use Rattle.std.specs.List.{find, range_with_len}
-use Rattle.def_mesh.specs.Darts.{darts, all_darts, from_of, to_of, is_reverse, twin_of, IsTwin}
-use Rattle.def_mesh.specs.Manifold.{IsManifold, IsRepeatFree, HasEdgesOnce}
-use Rattle.qm_mesh.specs.Pairs.{IsPartner, ArePartners, IsPaired, IsAlone}
+use Rattle.def_mesh.specs.Darts.{darts, from_of, to_of, is_reverse, twin_of, IsTwin}
+use Rattle.def_mesh.specs.Manifold.{IsRepeatFree, HasEdgesOnce}
+use Rattle.qm_mesh.specs.Pairs.{IsPartner}
 use Rattle.qm_mesh.proofs.OneFan.{ends_differ}
 
 -- a search of a range: none passes, or just one does
@@ -30,7 +30,7 @@ twin_reverse faces d e is = and_from _ _ (eq-eqb _ _ is.1) (eq-eqb _ _ is.2)
 -- with each edge once, the twin is that dart that has the ends exchanged
 pub twin_found : (faces : List (List ℕ)) → HasEdgesOnce faces → (d e : ℕ) → IsTwin faces d e → twin_of faces d ≡ Some e
 twin_found faces once d e is = find_one (is_reverse faces d) 0 (darts faces) e (omega arith) (omega (arith, is.0)) (twin_reverse faces d e is)
-  (λ y l h r. let t : IsTwin faces d y = reverse_twin faces d y (omega arith) r in once y e t.0 is.0 (t.1 ∙ sym is.1, t.2 ∙ sym is.2))
+    (λ y l h r. let t : IsTwin faces d y = reverse_twin faces d y (omega arith) r in once y e t.0 is.0 (t.1 ∙ sym is.1, t.2 ∙ sym is.2))
 
 pub twin_none : (faces : List (List ℕ)) (d : ℕ) → ((e : ℕ) → ¬ IsTwin faces d e) → twin_of faces d ≡ None
 twin_none faces d none = find_none (is_reverse faces d) 0 (darts faces) (λ x l h. false_from_ne_true (is_reverse faces d x) (λ r. none x (reverse_twin faces d x (omega arith) r)))

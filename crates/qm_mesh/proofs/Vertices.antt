@@ -1,11 +1,15 @@
 -- The number of vertices, and the length of a fan.
-use Rattle.std.proofs.Common.{◌≡◌, ℕ, zero, suc, ◌+◌, ◌*◌, ◌<◌, ◌≤◌, max, eqb, not, List, [], ◌∷◌, map, length, get_or, ap, ◌∙◌, sym, subst, refl, arith}
-use Rattle.std.specs.List.{range_with_len, filter}
-use Rattle.std.proofs.lemmas.List.{length-map}
+use Rattle.std.proofs.Common.{◌≡◌, ℕ, zero, suc, ◌+◌, ◌*◌, ◌/◌, ◌%◌, ◌<◌, ◌≤◌, true, IsTrue, ltb, eqb, not, List, [], ◌∷◌, map, length, get_or, ap, ◌∙◌, sym, subst, refl, arith}
+use Rattle.std.specs.List.{list_all, list_any, Any}
+use Rattle.std.proofs.lemmas.Bool.{ltb-true, eqb-true}
+use Rattle.std.proofs.lemmas.List.Sums.{AllPass-from_list_all}
+use Rattle.std.proofs.lemmas.List.Folds.{Any-from_list_any}
+use Rattle.std.proofs.lemmas.List.{length-map, get_or_default}
 use Rattle.std.proofs.lemmas.List.FromFn.{length-range_with_len, get_or-map-range_with_len}
 use Rattle.std.proofs.lemmas.List.Filters.{length-filter_both}
-use Rattle.def_mesh.specs.Darts.{darts, all_darts, from_of}
-use Rattle.def_mesh.specs.Vertices.{above_all, vertex_count, faces_at, fan_of, NamesBelow, UsesEach}
+use Rattle.def_mesh.specs.Darts.{darts, all_darts, from_of, corner}
+use Rattle.def_mesh.specs.Vertices.{above_all, vertex_count, faces_at, fan_of, names_below, UsesEach}
+use Rattle.qm_mesh.specs.Tables.{NamesBelow, HasCorners}
 use Rattle.qm_mesh.proofs.Marks.{IsFan, is_fan}
 
 -- each number of a list is below the bound, which is the least
@@ -25,20 +29,39 @@ from_count : (faces : List (List ℕ)) → length (map (from_of faces) (all_dart
 from_count faces = length-map (all_darts faces) (from_of faces) ∙ length-range_with_len 0 (darts faces)
 
 -- each corner is a vertex
-pub names_below : (faces : List (List ℕ)) → NamesBelow (vertex_count faces) faces
-names_below faces d l = omega (arith, from_at faces d l, below_bound (map (from_of faces) (all_darts faces)) d (omega (arith, from_count faces)))
+pub all_below : (faces : List (List ℕ)) → NamesBelow (vertex_count faces) faces
+all_below faces d l = omega (arith, from_at faces d l, below_bound (map (from_of faces) (all_darts faces)) d (omega (arith, from_count faces)))
 
 count_least : (faces : List (List ℕ)) (n : ℕ) → NamesBelow n faces → vertex_count faces ≤ n
 count_least faces n within = least_bound (map (from_of faces) (all_darts faces)) n (λ i l. omega (arith, from_at faces i (omega (arith, from_count faces)), within i (omega (arith, from_count faces))))
 
 -- where the vertices below n are the used ones, n is their number
-pub count_is : (faces : List (List ℕ)) (n : ℕ) → NamesBelow n faces → UsesEach n faces → vertex_count faces ≡ n
+pub count_is : (faces : List (List ℕ)) (n : ℕ) → NamesBelow n faces → HasCorners n faces → vertex_count faces ≡ n
 count_is faces zero within used = omega (arith, count_least faces zero within)
 count_is faces (suc m) within used =
-  let h : IsFan faces m (fan_of faces m) = is_fan faces m (fan_of faces m) refl in
-  let u : 0 < length (fan_of faces m) = used m (omega arith) in
-  omega (arith, count_least faces (suc m) within, names_below faces (get_or (fan_of faces m) 0 0) (h.dart 0 u), h.leaves 0 u)
+    let h : IsFan faces m (fan_of faces m) = is_fan faces m (fan_of faces m) refl in
+    let u : 0 < length (fan_of faces m) = used m (omega arith) in
+    omega (arith, count_least faces (suc m) within, all_below faces (get_or (fan_of faces m) 0 0) (h.dart 0 u), h.leaves 0 u)
 
 -- a fan has at most all darts
 pub fan_short : (faces : List (List ℕ)) (v : ℕ) → faces_at faces v ≤ darts faces
 fan_short faces v = omega (arith, length-filter_both (λ d. eqb (from_of faces d) v) (λ d. not (eqb (from_of faces d) v)) (λ d. refl) (all_darts faces), length-range_with_len 0 (darts faces))
+
+-- The two conditions of a build, by darts.
+pub below_from : (faces : List (List ℕ)) → ((f : ℕ) → f < length faces → length (get_or faces f []) ≡ 4) → (n : ℕ) → IsTrue (names_below n faces) → NamesBelow n faces
+below_from faces four n all d l =
+    let low : d / 4 < length faces = omega arith in
+    ltb-true _ n (AllPass-from_list_all (λ v. ltb v n) (get_or faces (d / 4) []) (AllPass-from_list_all (λ face. list_all (λ v. ltb v n) face) faces all (d / 4) [] low) (d % 4) 0 (omega (arith, four (d / 4) low)))
+
+pub corners_from : (faces : List (List ℕ)) → ((f : ℕ) → f < length faces → length (get_or faces f []) ≡ 4) → (n : ℕ) → UsesEach n faces → HasCorners n faces
+corners_from faces four n used v l = by_face (Any-from_list_any (λ face. list_any (λ u. eqb u v) face) faces (used v l))
+  where
+    by_corner : (f : ℕ) → f < length faces → Any (λ u. eqb u v ≡ true) (get_or faces f []) → 0 < faces_at faces v
+    by_corner f low (i, u, m, is, t) =
+        let four_long : length (get_or faces f []) ≡ 4 = four f low in
+        let e : from_of faces (4 * f + i) ≡ v = ap (λ g. corner faces g ((4 * f + i) % 4)) (omega arith) ∙ ap (corner faces f) (omega arith) ∙ get_or_default (get_or faces f []) i 0 u (omega arith) ∙ is ∙ eqb-true u v t in
+        let p : (t : ℕ) × (t < length (fan_of faces v)) × (get_or (fan_of faces v) t 0 ≡ 4 * f + i) = (is_fan faces v (fan_of faces v) refl).place (4 * f + i) (omega arith) e in
+        omega (arith, p.1)
+
+    by_face : Any (λ face. list_any (λ u. eqb u v) face ≡ true) faces → 0 < faces_at faces v
+    by_face (f, face, low, is, t) = by_corner f low (Any-from_list_any (λ u. eqb u v) (get_or faces f []) (subst (λ (x : List ℕ). list_any (λ u. eqb u v) x ≡ true) (sym (get_or_default faces f [] face low ∙ is)) t))

@@ -1,7 +1,7 @@
 -- Walks round a vertex: what stays so as a walk goes on, and two of them together.
-use Rattle.std.proofs.Common.{◌≡◌, ◌≢◌, ◌⊎◌, ℕ, zero, suc, ◌<◌, Bool, true, false, not, cond, eqb, List, length, get_or, set, Option, Some, None, sym, subst, ap, ◌∙◌, refl, inl, inr, arith}
+use Rattle.std.proofs.Common.{◌≡◌, ◌≢◌, ◌⊎◌, ℕ, suc, ◌<◌, Bool, true, false, not, List, length, get_or, set, Some, sym, subst, ap, ◌∙◌, refl, inl, inr}
 use Rattle.std.proofs.lemmas.Bool.{cases_eq, cases_lt, cases_Bool, false≢true}
-use Rattle.std.proofs.lemmas.Option.{none-some, same_Some}
+use Rattle.std.proofs.lemmas.Option.{same_Some}
 use Rattle.std.proofs.lemmas.List.{get_or-set_same, get_or-set_other, get_or_past}
 use Rattle.qm_mesh.specs.Turns.{beside_of, IsSeen, Turns, IsClosed, IsBehind, IsWalk, IsVisit}
 
@@ -31,13 +31,15 @@ walk_none left twins start seen low here = record {
 -- a mark more
 seen_more : (now : List Bool) (e d : ℕ) → IsSeen now d → IsSeen (set now e true) d
 seen_more now e d s = elim (cases_eq d e) [
-    inl q ↦ subst (λ (x : ℕ). IsSeen (set now x true) d) q (at_once now d s)
-  | inr ne ↦ get_or-set_other now e d true false ne ∙ s ]
+  | inl q ↦ subst (λ (x : ℕ). IsSeen (set now x true) d) q (at_once now d s)
+  | inr ne ↦ get_or-set_other now e d true false ne ∙ s
+]
   where
     at_once : (xs : List Bool) (k : ℕ) → get_or xs k false ≡ true → get_or (set xs k true) k false ≡ true
     at_once xs k t = elim (cases_lt k (length xs)) [
-        inl l ↦ get_or-set_same xs k true false l
-      | inr g ↦ absurd (false≢true (sym (get_or_past xs k false g) ∙ t)) ]
+      | inl l ↦ get_or-set_same xs k true false l
+      | inr g ↦ absurd (false≢true (sym (get_or_past xs k false g) ∙ t))
+    ]
 
 -- a mark after the new one was there, or is the new one
 seen_before : (now : List Bool) (e d : ℕ) → IsSeen (set now e true) d → (d ≡ e) ⊎ IsSeen now d
@@ -60,17 +62,22 @@ walk_more left twins start at e old now w low lies b unseen = record {
   where
     at_closed : IsClosed left twins (set now e true) at
     at_closed k c = subst (λ (x : ℕ). IsSeen (set now e true) x) (same_Some e k (sym b ∙ c)) (get_or-set_same now e true false lies)
+
     by_start : (at ≡ start) ⊎ (at ≡ start → ⊥) → IsClosed left twins (set now e true) start
     by_start (inl q) = subst (λ (x : ℕ). IsClosed left twins (set now e true) x) q at_closed
     by_start (inr ne) = closed_more left twins now e start (w.start_closed ne)
+
     by_mark : (d : ℕ) → d ≢ e → (d ≡ e) ⊎ IsSeen now d → get_or old d false ≡ false → IsClosed left twins (set now e true) d
     by_mark d ne (inl q) o = absurd (ne q)
     by_mark d ne (inr s) o = elim (cases_eq d at) [
-        inl q ↦ subst (λ (x : ℕ). IsClosed left twins (set now e true) x) (sym q) at_closed
-      | inr other ↦ closed_more left twins now e d (w.closed d other s o) ]
+      | inl q ↦ subst (λ (x : ℕ). IsClosed left twins (set now e true) x) (sym q) at_closed
+      | inr other ↦ closed_more left twins now e d (w.closed d other s o)
+    ]
+
     by_behind : (d : ℕ) → (d ≡ e) ⊎ IsSeen now d → get_or old d false ≡ false → IsBehind left twins (set now e true) d
     by_behind d (inl q) o = (at, seen_more now e at w.here, b ∙ ap Some (sym q))
     by_behind d (inr s) o = let h : IsBehind left twins now d = w.behind d s o in (h.0, seen_more now e h.0 h.1, h.2)
+
     by_reached : (d : ℕ) → (d ≡ e) ⊎ IsSeen now d → get_or old d false ≡ false → (n : ℕ) × Turns twins start d n
     by_reached d (inl q) o = (suc w.came.0, (at, w.came.1, (left, b ∙ ap Some (sym q))))
     by_reached d (inr s) o = w.reached d s o
@@ -88,6 +95,7 @@ walk_all left twins start at old now w c = record {
     by_start : (at ≡ start) ⊎ (at ≡ start → ⊥) → IsClosed left twins now start
     by_start (inl q) = subst (λ (x : ℕ). IsClosed left twins now x) q c
     by_start (inr ne) = w.start_closed ne
+
     by_place : (d : ℕ) → (d ≡ at) ⊎ (d ≡ at → ⊥) → IsSeen now d → get_or old d false ≡ false → IsClosed left twins now d
     by_place d (inl q) s o = subst (λ (x : ℕ). IsClosed left twins now x) (sym q) c
     by_place d (inr ne) s o = w.closed d ne s o
@@ -103,8 +111,10 @@ visit_both twins first old one two low unseen l r = record {
   where
     wider : (side : Bool) (d : ℕ) → IsClosed side twins one d → IsClosed side twins two d
     wider side d c e b = r.grown e (c e b)
+
     is_first : (d : ℕ) → get_or old d false ≡ false → get_or (set old first true) d false ≡ true → d ≡ first
     is_first d o s = elim (seen_before old first d s) [ inl q ↦ q | inr t ↦ absurd (false≢true (sym o ∙ t)) ]
+
     closed : (side : Bool) (d : ℕ) → IsSeen two d → get_or old d false ≡ false → (get_or one d false ≡ true) ⊎ (get_or one d false ≡ false) → (get_or (set old first true) d false ≡ true) ⊎ (get_or (set old first true) d false ≡ false) → IsClosed side twins two d ⊎ IsBehind (not side) twins two d
     closed true d s o (inl a) (inl b) = inl (subst (λ (x : ℕ). IsClosed true twins two x) (sym (is_first d o b)) (wider true first l.start_closed))
     closed false d s o (inl a) (inl b) = inl (subst (λ (x : ℕ). IsClosed false twins two x) (sym (is_first d o b)) r.start_closed)
@@ -112,6 +122,7 @@ visit_both twins first old one two low unseen l r = record {
     closed false d s o (inl a) (inr b) = let h : IsBehind true twins one d = l.behind d a b in inr (h.0, r.grown h.0 h.1, h.2)
     closed true d s o (inr a) b = inr (r.behind d s a)
     closed false d s o (inr a) b = inl (r.closed d s a)
+
     reached : (d : ℕ) → IsSeen two d → get_or old d false ≡ false → (get_or one d false ≡ true) ⊎ (get_or one d false ≡ false) → (get_or (set old first true) d false ≡ true) ⊎ (get_or (set old first true) d false ≡ false) → (n : ℕ) × Turns twins first d n
     reached d s o (inl a) (inl b) = (0, sym (is_first d o b))
     reached d s o (inl a) (inr b) = l.reached d a b

@@ -2,8 +2,8 @@
 use Rattle.std.specs.Prelude.{◌≡◌, ℕ, ◌^◌, ◌<◌, List, [], map, length, filter, ◌==◌, slice_index_or}
 use Rattle.smallvec.specs.SmallVec.{SmallVec}
 use Rattle.std.specs.List.{range_with_len}
-use Rattle.def_mesh.specs.Darts.{from_of}
-use Rattle.def_mesh.specs.Vertices.{fan_of, vertex_count}
+use Rattle.def_mesh.specs.Darts.{darts, from_of}
+use Rattle.def_mesh.specs.Vertices.{fan_of, faces_at, vertex_count}
 use Rattle.def_mesh.specs.Meshes.{IsMesh}
 use Rattle.qm_mesh.specs.Pairs.{ArePartners}
 
@@ -14,6 +14,14 @@ fan_lists fans = map (λ (fan : SmallVec ℕ). fan.items) fans
 -- the list of the fan at v
 abbrev pub fan_at : List (SmallVec ℕ) → ℕ → List ℕ
 fan_at fans v = slice_index_or (fan_lists fans) v []
+
+-- each dart leaves a vertex below n
+abbrev pub NamesBelow : ℕ → List (List ℕ) → Type 0
+NamesBelow n faces = (d : ℕ) → d < darts faces → from_of faces d < n
+
+-- each vertex below n has a corner
+abbrev pub HasCorners : ℕ → List (List ℕ) → Type 0
+HasCorners n faces = (v : ℕ) → v < n → 0 < faces_at faces v
 
 -- the fans of the n vertices hold the first k darts
 pub record HoldDarts (faces : List (List ℕ)) (n k : ℕ) (fans : List (SmallVec ℕ)) : Type 0 where

@@ -5,11 +5,21 @@ use thiserror::Error;
 #[derive(Clone, Copy, Debug, PartialEq, Eq, Error)]
 pub enum MeshFail {
     #[error("face {face} names vertex {vertex} twice")]
-    Repeated { face: u32, vertex: u32 },
+    Repeated {
+        face: u32,
+        vertex: u32,
+    },
     #[error("faces {face1} and {face2} both run from vertex {from} to vertex {to}")]
-    EdgeTwice { from: u32, to: u32, face1: u32, face2: u32 },
+    EdgeTwice {
+        from: u32,
+        to: u32,
+        face1: u32,
+        face2: u32,
+    },
     #[error("the faces at vertex {vertex} form more than one fan")]
-    TwoFans { vertex: u32 },
+    TwoFans {
+        vertex: u32,
+    },
     #[error("out of memory")]
     Memory,
 }

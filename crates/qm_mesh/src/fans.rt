@@ -1,8 +1,7 @@
 //! The darts that leave each vertex, in rising order.
 
 ghost use Rattle.std.specs.Prelude.{◌≡◌, ◌≤◌, ◌<◌, ◌^◌, [], ◌∷◌, ◌++◌, length, OnOk, IfOk, replicate, slice_set};
-ghost use Rattle.def_mesh.specs.Vertices.{NamesBelow};
-ghost use Rattle.qm_mesh.specs.Tables.{fan_lists, fan_at, AreFans};
+ghost use Rattle.qm_mesh.specs.Tables.{fan_lists, fan_at, AreFans, NamesBelow};
 
 use crate::darts::from;
 use smallvec::SmallVec;
@@ -12,7 +11,11 @@ use std::alloc::{AllocError, Global};
 pub(crate) type Fan = SmallVec<u32, 4>;
 
 /// The fans of all vertices. Linear in darts and vertices.
-pub(crate) fn gather(alloc: Global, vertices: u32, faces: &[[u32; 4]]) -> Result<Vec<Fan>, AllocError>
+pub(crate) fn gather(
+    alloc: Global,
+    vertices: u32,
+    faces: &[[u32; 4]],
+) -> Result<Vec<Fan>, AllocError>
     requires few { length faces.now ≤ 2 ^ 21 }
     requires within { NamesBelow vertices faces.now }
     ensures { IfOk result (λ fans. AreFans faces.now vertices fans.items) }

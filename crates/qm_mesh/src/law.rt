@@ -4,5 +4,4 @@ ghost use Rattle.def_mesh.specs.HalfEdges.{ManifoldLaw};
 
 pub fn manifold_law()
     ensures { ManifoldLaw }
-{
-}
+{}

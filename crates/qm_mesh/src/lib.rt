@@ -13,7 +13,10 @@ mod repeats;
 mod table;
 mod twins;
 
+pub use fail::MeshFail;
 pub use law::manifold_law;
 pub use manifold::build;
-pub use fail::MeshFail;
 pub use mesh::Mesh;
+
+#[cfg(test)]
+mod tests;

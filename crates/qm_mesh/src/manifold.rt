@@ -1,8 +1,8 @@
 //! From a list of faces to a mesh, or to the least place where the list is no manifold.
 
-ghost use Rattle.std.specs.Prelude.{◌≡◌, ◌≢◌, ◌≤◌, ◌^◌, length, OnOk, IfOk, IfErr};
+ghost use Rattle.std.specs.Prelude.{◌≡◌, ◌≢◌, ◌≤◌, ◌^◌, length, IsTrue, OnOk, IfOk, IfErr};
 ghost use Rattle.def_mesh.specs.Manifold.{IsManifold};
-ghost use Rattle.def_mesh.specs.Vertices.{NamesBelow, UsesEach};
+ghost use Rattle.def_mesh.specs.Vertices.{names_below, UsesEach};
 ghost use Rattle.qm_mesh.specs.Refusals.{IsRefusal};
 
 use crate::fail::MeshFail;
@@ -16,7 +16,7 @@ use std::alloc::Global;
 /// The mesh of these faces. Linear in faces and vertices, however many faces there are at one vertex.
 pub fn build(alloc: Global, vertices: u32, faces: &[[u32; 4]]) -> Result<Mesh, MeshFail>
     requires few { length faces.now ≤ 2 ^ 21 }
-    requires within { NamesBelow vertices faces.now }
+    requires within { IsTrue (names_below vertices faces.now) }
     requires used { UsesEach vertices faces.now }
     ensures mesh { IfOk result (λ m. m ≡ faces.now) }
     ensures manifold { OnOk result (IsManifold faces.now) }
@@ -28,7 +28,7 @@ pub fn build(alloc: Global, vertices: u32, faces: &[[u32; 4]]) -> Result<Mesh, M
 
 fn checked(alloc: Global, vertices: u32, faces: &[[u32; 4]]) -> Result<Mesh, MeshFail>
     requires few { length faces.now ≤ 2 ^ 21 }
-    requires within { NamesBelow vertices faces.now }
+    requires within { IsTrue (names_below vertices faces.now) }
     requires used { UsesEach vertices faces.now }
     ensures mesh { IfOk result (λ m. m ≡ faces.now) }
     ensures manifold { OnOk result (IsManifold faces.now) }

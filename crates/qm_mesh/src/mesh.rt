@@ -33,7 +33,12 @@ impl Model for Mesh {
 }
 
 impl Mesh {
-    pub(crate) fn from_tables(alloc: Global, faces: &[[u32; 4]], twins: Vec<u32>, fans: Vec<Fan>) -> Result<Mesh, AllocError>
+    pub(crate) fn from_tables(
+        alloc: Global,
+        faces: &[[u32; 4]],
+        twins: Vec<u32>,
+        fans: Vec<Fan>,
+    ) -> Result<Mesh, AllocError>
         requires { IsMeshOf faces.now twins.items fans.items }
         ensures { IfOk result (λ m. m ≡ faces.now) }
     {

@@ -3,9 +3,8 @@
 ghost use Rattle.std.specs.Prelude.{◌≡◌, ◌≤◌, ◌<◌, ◌^◌, ℕ, length, true, false, replicate, OnOk, IfErr, MatchOption, MatchBool, IfSome, slice_index, slice_index_or, slice_set};
 ghost use Rattle.def_mesh.specs.Darts.{darts};
 ghost use Rattle.def_mesh.specs.Manifold.{IsRepeatFree, HasEdgesOnce, HasOneFan};
-ghost use Rattle.def_mesh.specs.Vertices.{NamesBelow, UsesEach};
 ghost use Rattle.qm_mesh.specs.Refusals.{IsRefusal};
-ghost use Rattle.qm_mesh.specs.Tables.{AreFans};
+ghost use Rattle.qm_mesh.specs.Tables.{AreFans, NamesBelow, HasCorners};
 ghost use Rattle.qm_mesh.specs.Pairs.{ArePartners};
 ghost use Rattle.qm_mesh.specs.Turns.{beside_of, IsSeen, IsClosed, IsWalk, IsVisit, ArePlaces};
 
@@ -15,12 +14,17 @@ use crate::fans::Fan;
 use std::alloc::Global;
 
 /// Refuses the least vertex with more than one fan. Linear in the darts.
-pub(crate) fn check_fans(alloc: Global, faces: &[[u32; 4]], fans: &[Fan], twins: &[u32]) -> Result<(), MeshFail>
+pub(crate) fn check_fans(
+    alloc: Global,
+    faces: &[[u32; 4]],
+    fans: &[Fan],
+    twins: &[u32],
+) -> Result<(), MeshFail>
     requires few { length faces.now ≤ 2 ^ 21 }
     requires repeat_free { IsRepeatFree faces.now }
     requires once { HasEdgesOnce faces.now }
     requires within { NamesBelow (length fans.now) faces.now }
-    requires used { UsesEach (length fans.now) faces.now }
+    requires used { HasCorners (length fans.now) faces.now }
     requires small { length fans.now < 2 ^ 32 }
     requires fans { AreFans faces.now (length fans.now) fans.now }
     requires partners { ArePartners faces.now twins.now }
@@ -31,12 +35,17 @@ pub(crate) fn check_fans(alloc: Global, faces: &[[u32; 4]], fans: &[Fan], twins:
     check_each(faces, fans, twins, &mut seen)
 }
 
-fn check_each(faces: &[[u32; 4]], fans: &[Fan], twins: &[u32], seen: &mut [bool]) -> Result<(), MeshFail>
+fn check_each(
+    faces: &[[u32; 4]],
+    fans: &[Fan],
+    twins: &[u32],
+    seen: &mut [bool],
+) -> Result<(), MeshFail>
     requires few { length faces.now ≤ 2 ^ 21 }
     requires repeat_free { IsRepeatFree faces.now }
     requires once { HasEdgesOnce faces.now }
     requires within { NamesBelow (length fans.now) faces.now }
-    requires used { UsesEach (length fans.now) faces.now }
+    requires used { HasCorners (length fans.now) faces.now }
     requires small { length fans.now < 2 ^ 32 }
     requires fans { AreFans faces.now (length fans.now) fans.now }
     requires partners { ArePartners faces.now twins.now }
@@ -113,7 +122,11 @@ fn unseen_beside(twins: &[u32], left: bool, at: u32, seen: &[bool]) -> Option<u3
     ensures { MatchOption result (IsClosed left twins.now seen.now at) (λ e. (e < length twins.now) × (beside_of left twins.now at ≡ Some e) × (slice_index_or seen.now e false ≡ false)) }
 {
     let found = beside(twins, left, at)?;
-    if seen[found as usize] { None } else { Some(found) }
+    if seen[found as usize] {
+        None
+    } else {
+        Some(found)
+    }
 }
 
 /// The corner beside that at d round their vertex, to the left or to the right.

@@ -7,9 +7,9 @@ ghost use Rattle.std.specs.Prelude.{◌≡◌, ◌≢◌, ◌≤◌, ◌<◌, �
 ghost use Rattle.def_mesh.specs.Darts.{darts, from_of, to_of};
 ghost use Rattle.def_mesh.specs.Faults.{IsFirstTwice};
 ghost use Rattle.def_mesh.specs.Manifold.{IsRepeatFree, HasEdgesOnce};
-ghost use Rattle.def_mesh.specs.Vertices.{NamesBelow, fan_of};
+ghost use Rattle.def_mesh.specs.Vertices.{fan_of};
 ghost use Rattle.qm_mesh.specs.Refusals.{IsRefusal};
-ghost use Rattle.qm_mesh.specs.Tables.{AreFans};
+ghost use Rattle.qm_mesh.specs.Tables.{AreFans, NamesBelow};
 ghost use Rattle.qm_mesh.specs.Pairs.{AreDarts, AreMarked, IsPartner, ArePartners, IsFirstAt, IsPairing, MarksOne, IsLesser};
 
 use crate::darts::{from, prev, runs, to};
@@ -18,7 +18,12 @@ use crate::fans::Fan;
 use std::alloc::Global;
 
 /// The partner of each dart: its twin, or itself where it has none. Linear in darts and vertices.
-pub(crate) fn pair(alloc: Global, vertices: u32, faces: &[[u32; 4]], fans: &[Fan]) -> Result<Vec<u32>, MeshFail>
+pub(crate) fn pair(
+    alloc: Global,
+    vertices: u32,
+    faces: &[[u32; 4]],
+    fans: &[Fan],
+) -> Result<Vec<u32>, MeshFail>
     requires few { length faces.now ≤ 2 ^ 21 }
     requires within { NamesBelow vertices faces.now }
     requires repeat_free { IsRepeatFree faces.now }
@@ -55,7 +60,14 @@ fn edge_twice(faces: &[[u32; 4]], d: u32, e: u32) -> MeshFail
 }
 
 /// Takes the vertex v: the darts that leave it, and then those that arrive.
-fn pair_vertex(faces: &[[u32; 4]], v: u32, fan: &[u32], by_end: &mut [u32], twins: &mut [u32], twice: Option<(u32, u32)>) -> Option<(u32, u32)>
+fn pair_vertex(
+    faces: &[[u32; 4]],
+    v: u32,
+    fan: &[u32],
+    by_end: &mut [u32],
+    twins: &mut [u32],
+    twice: Option<(u32, u32)>,
+) -> Option<(u32, u32)>
     requires few { length faces.now ≤ 2 ^ 21 }
     requires within { NamesBelow (length by_end.old) faces.now }
     requires fan { fan.now ≡ fan_of faces.now v }
@@ -139,5 +151,9 @@ fn partner(faces: &[[u32; 4]], v: u32, e: u32, by_end: &[u32]) -> u32
 {
     let start = from(faces, e);
     let leaving = by_end[start as usize];
-    if runs(faces, leaving, v, start) { leaving } else { e }
+    if runs(faces, leaving, v, start) {
+        leaving
+    } else {
+        e
+    }
 }

@@ -1,7 +1,11 @@
+mod CornerLemmas
+mod JoinLemmas
+mod LawSoup
+mod LawText
+mod LineLemmas
 mod ListLemmas
 mod NumberLemmas
 mod ReadLemmas
 mod SoupLemmas
-mod TextLemmas
 mod UsedLemmas
 mod WordLemmas

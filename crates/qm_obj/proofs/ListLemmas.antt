@@ -1,8 +1,8 @@
 -- Lists that a loop changes place by place.
-use Rattle.std.proofs.Common.{◌≡◌, ℕ, ◌+◌, ◌-◌, ◌<◌, ◌≤◌, min, Bool, true, List, [], ◌∷◌, ◌++◌, length, take, drop, set, map, get_or, refl, sym, ap, ◌∙◌, arith}
+use Rattle.std.proofs.Common.{◌≡◌, ℕ, ◌+◌, ◌-◌, ◌<◌, ◌≤◌, Bool, true, List, length, take, drop, set, map, get_or, sym, ap, ◌∙◌, arith}
 use Rattle.std.specs.Prelude.{slice_range}
 use Rattle.std.specs.List.{list_all}
-use Rattle.std.proofs.lemmas.List.{drop-drop, drop-set-lt, drop_more, get_or-drop, get_or-take, length-drop, length-set, length-take, map_more, take-append-drop, take-take, take_more, take_more_set}
+use Rattle.std.proofs.lemmas.List.{drop-drop, drop-set-lt, drop-take, get_or-drop, length-drop, length-take, map_more, take_more_set}
 use Rattle.std.proofs.lemmas.List.Sums.{AllPass-from_list_all}
 
 -- Lists that agree from k on have one element at k.
@@ -27,27 +27,11 @@ mapped_more f old new i d x there size is front =
 pub passes_at : {X : Type 0} (p : X → Bool) (xs : List X) (i : ℕ) (d : X) → list_all p xs ≡ true → i < length xs → p (get_or xs i d) ≡ true
 passes_at p xs i d all there = AllPass-from_list_all p xs all i d there
 
--- A part of a list, one element further.
-pub range_more : {X : Type 0} (xs : List X) (a i : ℕ) (d : X) → a ≤ i → i < length xs → slice_range xs a (i + 1) ≡ slice_range xs a i ++ get_or xs i d ∷ []
-range_more xs a i d le there =
-    let e : i + 1 - a ≡ (i - a) + 1 = omega arith in
-    let at : a + (i - a) ≡ i = omega arith in
-    let room : i - a < length (drop a xs) = omega (arith, length-drop a xs) in
-    rw e (take_more (drop a xs) (i - a) d room ∙ rw (get_or-drop a xs (i - a) d, at) refl)
-
--- A part of a list is what stands before a place, the element there and what stands behind it.
-pub range_split : {X : Type 0} (xs : List X) (a i b : ℕ) (d : X) → a ≤ i → i < b → b ≤ length xs
-    → (rest : List X) × (slice_range xs a b ≡ slice_range xs a i ++ get_or xs i d ∷ rest)
-range_split xs a i b d le lt within =
-    let room : i - a < length (take (b - a) (drop a xs)) = omega (arith, length-take (b - a) (drop a xs), length-drop a xs) in
-    let at : a + (i - a) ≡ i = omega arith in
-    let ys = take (b - a) (drop a xs) in
-    let short : i - a ≤ b - a = omega arith in
-    let lower : i - a < b - a = omega arith in (
-      drop (i - a + 1) ys,
-      sym (take-append-drop (i - a) ys)
-          ∙ rw (drop_more ys (i - a) d room, take-take (i - a) (b - a) (drop a xs), get_or-take (b - a) (drop a xs) (i - a) d, get_or-drop a xs (i - a) d, at) refl,
-    )
+-- What stands behind the front of a part of a list.
+pub range_drop : {X : Type 0} (xs : List X) (a k b : ℕ) → a + k ≤ b → drop k (slice_range xs a b) ≡ slice_range xs (a + k) b
+range_drop xs a k b le =
+    let e : b - a ≡ k + (b - (a + k)) = omega arith in
+    rw e (drop-take k (b - (a + k)) (drop a xs) ∙ ap (take (b - (a + k))) (drop-drop k a xs))
 
 -- How long a part of a list is.
 pub length-range : {X : Type 0} (xs : List X) (a b : ℕ) → a ≤ b → b ≤ length xs → length (slice_range xs a b) ≡ b - a

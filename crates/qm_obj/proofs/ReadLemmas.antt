@@ -1,35 +1,41 @@
--- What a reader knows after some lines.
-use Rattle.std.proofs.Common.{◌≡◌, ℕ, ℤ, zero, suc, ◌+◌, ◌-◌, ◌^◌, ◌<◌, ◌≤◌, Bool, true, false, cond, not, ◌&&◌, List, [], ◌∷◌, ◌++◌, length, take, map, get_or, refl, sym, ap, ◌∙◌, arith, subst, eqb, ltb, leb, Option, Some, None, Result, Ok, Err}
+-- What a reader knows after some logical lines.
+use Rattle.std.proofs.Common.{◌≡◌, ℕ, ℤ, suc, ◌+◌, ◌-◌, ◌^◌, ◌<◌, ◌≤◌, min, Bool, true, false, cond, ◌&&◌, ◌||◌, List, [], ◌∷◌, ◌++◌, length, take, drop, map, get_or, refl, sym, ap, ◌∙◌, arith, eqb, ltb, leb, Option, Some, None, Result, Ok, Err}
 use Rattle.std.specs.Prelude.{◌≢◌, IfErr, IfOk, IsTrue, slice_range}
-use Rattle.std.specs.List.{count_by, flat_map, list_all, list_any, position_or_len}
-use Rattle.std.proofs.lemmas.Bool.{and_from, and_parts, eqb-true, ltb-true, ne_eqb}
-use Rattle.std.proofs.lemmas.List.{append-nil, append_assoc, length-append, take_all}
+use Rattle.std.specs.List.{count_by, flat_map, list_all, list_any}
+use Rattle.std.proofs.lemmas.Bool.{and_from, and_parts, eqb-true, leb-false, ltb-false, ne_eqb, or_parts}
+use Rattle.std.proofs.lemmas.Bool.Decides.{nat_tests}
+use Rattle.std.proofs.lemmas.List.{append-nil, append_assoc, length-append, length-map, map-append}
 use Rattle.std.proofs.lemmas.List.Concat.{flat_map-append}
 use Rattle.std.proofs.lemmas.List.Folds.{list_all-append}
-use Rattle.std.proofs.lemmas.List.Sums.{sum_by-append, sum_by_push}
+use Rattle.std.proofs.lemmas.List.Sums.{sum_by_push}
 use Rattle.std.proofs.lemmas.Result.{IfErr-weaker, IfOk-weaker}
-use Rattle.def_text.specs.Digits.{number}
+use Rattle.def_text.specs.Corner.{is_out, resolved, used_index}
+use Rattle.def_text.specs.Decimal.{rounded}
+use Rattle.def_text.specs.Digits.{is_negative, number, unsigned}
 use Rattle.def_text.specs.FaceSet.{FaceSet}
-use Rattle.def_text.specs.Reading.{Logical, begins_with, face_reading, is_comment, is_face_line, is_index, is_letter, is_plain, is_special, is_vertex_line, millionths, reading, refused, vertex_reading, words_reading}
-use Rattle.def_text.specs.Text.{face_in, face_set, faces, first_refusal, late_in, logical_lines, place_in, places, readings, refusal_in, refusals, soup_of, text_soup}
-use Rattle.def_text.specs.Words.{is_blank, words}
+use Rattle.def_text.specs.Logical.{Logical, logical_lines, span}
+use Rattle.def_text.specs.Reading.{begins_with, face_reading, is_face_line, is_letter, is_vertex_line, reading, vertex_reading, words_reading}
+use Rattle.def_text.specs.Text.{face_in, face_set, faces, first_refusal, late_in, place_in, places, readings, refusal_in, soup_of, text_soup}
+use Rattle.def_text.specs.Words.{words}
 use Rattle.def_text.specs.declared.refusal.ObjFail.{ObjFail}
-use Rattle.def_text.specs.declared.refusal.ObjFail.TheVariants.{Memory, Range}
+use Rattle.def_text.specs.declared.refusal.ObjFail.TheVariants.{Limit, Memory, NotQuad, Range, Syntax}
+use Rattle.def_text.specs.declared.refusal.Which.TheVariants.{Faces, Line, Vertices}
 use Rattle.def_text.specs.declared.reading.Reading.{Reading}
 use Rattle.def_text.specs.declared.reading.Reading.TheVariants.{Passed, Place, Face, Refused}
+use Rattle.qm_obj.specs.Indices.{capped, with_capped}
 use Rattle.qm_obj.specs.Kept.{first_late, IsLate}
-use Rattle.qm_obj.specs.Lines.{HasRead, line_in}
-use Rattle.qm_obj.proofs.ListLemmas.{length-range, range_more, range_split}
+use Rattle.qm_obj.specs.Lines.{HasRead, HasReadTo, Took, first_logical, line_in, next_said}
+use Rattle.qm_obj.proofs.JoinLemmas.{logical_step, range_cons, range_none, span_few, span_some}
+use Rattle.qm_obj.proofs.ListLemmas.{length-range, range_drop}
 use Rattle.qm_obj.proofs.SoupLemmas.{few_pos, same_faces}
-use Rattle.qm_obj.proofs.WordLemmas.{words_word}
 
 -- What a line says fits its kind and the limits.
-pub record Suits (vertices faces : ℕ) (line : Logical) (said : Reading) : Type 0 where
-  pub vertex : refusal_in said ≡ [] → length (place_in said) ≡ cond (is_vertex_line line) 1 0
-  pub face : refusal_in said ≡ [] → length (face_in said) ≡ cond (is_face_line line) 1 0
-  pub few_vertices : vertices ≤ 2 ^ 21 → vertices + length (place_in said) ≤ 2 ^ 21
-  pub few_faces : faces ≤ 2 ^ 20 → faces + length (face_in said) ≤ 2 ^ 20
-  pub positive : list_all (list_all (λ corner. ltb 0 corner)) (face_in said) ≡ true
+record Suits (vertices faces : ℕ) (line : Logical) (said : Reading) : Type 0 where
+  vertex : refusal_in said ≡ [] → length (place_in said) ≡ cond (is_vertex_line line) 1 0
+  face : refusal_in said ≡ [] → length (face_in said) ≡ cond (is_face_line line) 1 0
+  few_vertices : vertices ≤ 2 ^ 21 → vertices + length (place_in said) ≤ 2 ^ 21
+  few_faces : faces ≤ 2 ^ 20 → faces + length (face_in said) ≤ 2 ^ 20
+  positive : list_all (list_all (λ corner. ltb 0 corner)) (face_in said) ≡ true
 
 suits_refused : (vertices faces : ℕ) (line : Logical) (fail : ObjFail) → Suits vertices faces line (Refused fail)
 suits_refused vertices faces line fail = record {
@@ -74,74 +80,58 @@ one_letter a b ne (c ∷ []) is = ne_eqb c b (λ (e : c ≡ b). ne (sym (eqb-tru
 one_letter a b ne [] is = refl
 one_letter a b ne (c ∷ d ∷ ds) is = refl
 
--- A comment begins with neither letter.
-comment_letter : (letter : ℕ) → (35 ≡ letter → ⊥) → (text : List ℕ) → is_comment text ≡ true → begins_with letter (words text) ≡ false
-comment_letter letter ne [] is = refl
-comment_letter letter ne (b ∷ bs) is =
-    let hash : b ≡ 35 = eqb-true b 35 is in
-    let bare : is_blank b ≡ false = rw hash refl in
-    rw (words_word b bs bare) (first (take (position_or_len is_blank bs) bs))
+-- An index that is not out names a positive number.
+resolved_positive : (vertices : ℕ) (word : List ℕ) → is_out vertices word ≡ false → ltb 0 (resolved vertices word) ≡ true
+resolved_positive vertices word inside = by_number (number (unsigned word)) (is_negative word) inside
   where
-    first : (ds : List ℕ) → is_letter letter (b ∷ ds) ≡ false
-    first [] = ne_eqb b letter (λ (e : b ≡ letter). ne (sym (eqb-true b 35 is) ∙ e))
-    first (d ∷ ds) = refl
+    by_number : (n : ℕ) (t : Bool) → (eqb n 0 || (t && ltb vertices n)) ≡ false → ltb 0 (cond t (vertices + 1 - n) n) ≡ true
+    by_number n true inside = grind (arith, nat_tests)
+    by_number n false inside = grind (arith, nat_tests)
 
-positive_numbers : (vertices : ℕ) (ws : List (List ℕ)) → list_all (is_index vertices) ws ≡ true → list_all (λ corner. ltb 0 corner) (map number ws) ≡ true
-positive_numbers vertices [] all = refl
-positive_numbers vertices (w ∷ ws) all =
-    let parts : (is_index vertices w ≡ true) × (list_all (is_index vertices) ws ≡ true) = and_parts _ _ all in
-    and_from _ _ (and_parts _ _ (and_parts _ _ parts.0).1).0 (positive_numbers vertices ws parts.1)
+positive_corners : (vertices : ℕ) (ws : List (List ℕ)) → list_any (λ w. is_out vertices (used_index w)) ws ≡ false
+    → list_all (λ corner. ltb 0 corner) (map (λ w. resolved vertices (used_index w)) ws) ≡ true
+positive_corners vertices [] inside = refl
+positive_corners vertices (w ∷ ws) inside =
+    let parts : (is_out vertices (used_index w) ≡ false) × (list_any (λ w. is_out vertices (used_index w)) ws ≡ false) = or_parts _ _ inside in
+    and_from _ _ (resolved_positive vertices (used_index w) parts.0) (positive_corners vertices ws parts.1)
 
-pub reading_suits : (vertices faces : ℕ) (line : Logical) → Suits vertices faces line (reading vertices faces line)
+reading_suits : (vertices faces : ℕ) (line : Logical) → Suits vertices faces line (reading vertices faces line)
 reading_suits vertices faces line = by_size (ltb 65536 line.size)
   where
-    by_vertex : (ws : List (List ℕ)) (few right : Bool) → ltb vertices (2 ^ 21) ≡ few → is_vertex_line line ≡ true → is_face_line line ≡ false
-        → Suits vertices faces line (cond (few && right) (Place (map millionths ws)) (refused line.number))
-    by_vertex ws true true few vertex no_face = suits_place vertices faces line (map millionths ws) vertex no_face (ltb-true _ _ few)
-    by_vertex ws true false few vertex no_face = suits_refused vertices faces line _
-    by_vertex ws false right few vertex no_face = suits_refused vertices faces line _
+    by_vertex : (ws : List (List ℕ)) (many bad far : Bool) → leb (2 ^ 21) vertices ≡ many → is_vertex_line line ≡ true → is_face_line line ≡ false
+        → Suits vertices faces line (cond many (Refused (Limit Vertices line.number)) (cond bad (Refused (Syntax line.number)) (cond far (Refused (Range line.number)) (Place (map rounded (take 3 ws))))))
+    by_vertex ws true bad far many vertex no_face = suits_refused vertices faces line _
+    by_vertex ws false true far many vertex no_face = suits_refused vertices faces line _
+    by_vertex ws false false true many vertex no_face = suits_refused vertices faces line _
+    by_vertex ws false false false many vertex no_face = suits_place vertices faces line (map rounded (take 3 ws)) vertex no_face (leb-false _ _ many)
 
-    by_face : (ws : List (List ℕ)) (few right index : Bool) → ltb faces (2 ^ 20) ≡ few → list_all (is_index vertices) ws ≡ index → is_vertex_line line ≡ false → is_face_line line ≡ true
-        → Suits vertices faces line (cond (few && (right && index)) (Face line.number (map number ws)) (refused line.number))
-    by_face ws true true true few index no_vertex face = suits_face vertices faces line line.number (map number ws) no_vertex face (ltb-true _ _ few) (positive_numbers vertices ws index)
-    by_face ws true true false few index no_vertex face = suits_refused vertices faces line _
-    by_face ws true false index' few index no_vertex face = suits_refused vertices faces line _
-    by_face ws false right index' few index no_vertex face = suits_refused vertices faces line _
+    by_face : (ws : List (List ℕ)) (many bad other out : Bool) → leb (2 ^ 20) faces ≡ many → list_any (λ w. is_out vertices (used_index w)) ws ≡ out → is_vertex_line line ≡ false → is_face_line line ≡ true
+        → Suits vertices faces line (cond many (Refused (Limit Faces line.number)) (cond bad (Refused (Syntax line.number)) (cond other (Refused (NotQuad line.number (length ws)))
+        (cond out (Refused (Range line.number)) (Face line.number (map (λ w. resolved vertices (used_index w)) ws))))))
+    by_face ws true bad other out many is no_vertex face = suits_refused vertices faces line _
+    by_face ws false true other out many is no_vertex face = suits_refused vertices faces line _
+    by_face ws false false true out many is no_vertex face = suits_refused vertices faces line _
+    by_face ws false false false true many is no_vertex face = suits_refused vertices faces line _
+    by_face ws false false false false many is no_vertex face =
+        suits_face vertices faces line line.number (map (λ w. resolved vertices (used_index w)) ws) no_vertex face (leb-false _ _ many) (positive_corners vertices ws is)
 
     by_letter : (word : List ℕ) (ws : List (List ℕ)) (v f : Bool) → words line.text ≡ word ∷ ws → is_letter 118 word ≡ v → is_letter 102 word ≡ f
         → Suits vertices faces line (cond v (vertex_reading line.number vertices ws) (cond f (face_reading line.number vertices faces ws) Passed))
     by_letter word ws true f are v-is f-is =
-        by_vertex ws _ _ refl (ap (begins_with 118) are ∙ v-is) (ap (begins_with 102) are ∙ one_letter 118 102 (λ (e : ◌≡◌ {A = ℕ} 118 102). omega arith) word v-is)
-    by_letter word ws false true are v-is f-is = by_face ws _ _ _ refl refl (ap (begins_with 118) are ∙ v-is) (ap (begins_with 102) are ∙ f-is)
+        by_vertex ws _ _ _ refl (ap (begins_with 118) are ∙ v-is) (ap (begins_with 102) are ∙ one_letter 118 102 (λ (e : ◌≡◌ {A = ℕ} 118 102). omega arith) word v-is)
+    by_letter word ws false true are v-is f-is = by_face ws _ _ _ _ refl refl (ap (begins_with 118) are ∙ v-is) (ap (begins_with 102) are ∙ f-is)
     by_letter word ws false false are v-is f-is = suits_passed vertices faces line (ap (begins_with 118) are ∙ v-is) (ap (begins_with 102) are ∙ f-is)
 
     by_words : (ws : List (List ℕ)) → words line.text ≡ ws → Suits vertices faces line (words_reading line.number vertices faces ws)
     by_words [] are = suits_passed vertices faces line (ap (begins_with 118) are) (ap (begins_with 102) are)
     by_words (word ∷ ws) are = by_letter word ws _ _ are refl refl
 
-    by_special : (special : Bool) → Suits vertices faces line (cond special (refused line.number) (words_reading line.number vertices faces (words line.text)))
-    by_special true = suits_refused vertices faces line _
-    by_special false = by_words (words line.text) refl
-
-    by_comment : (comment : Bool) → is_comment line.text ≡ comment
-        → Suits vertices faces line (cond comment Passed (cond (list_any is_special line.text) (refused line.number) (words_reading line.number vertices faces (words line.text))))
-    by_comment true is = suits_passed vertices faces line (comment_letter 118 (λ (e : ◌≡◌ {A = ℕ} 35 118). omega arith) line.text is) (comment_letter 102 (λ (e : ◌≡◌ {A = ℕ} 35 102). omega arith) line.text is)
-    by_comment false is = by_special (list_any is_special line.text)
-
-    by_size : (long : Bool) → Suits vertices faces line (cond long (refused line.number)
-        (cond (is_comment line.text) Passed (cond (list_any is_special line.text) (refused line.number) (words_reading line.number vertices faces (words line.text)))))
+    by_size : (long : Bool) → Suits vertices faces line (cond long (Refused (Limit Line line.number)) (words_reading line.number vertices faces (words line.text)))
     by_size true = suits_refused vertices faces line _
-    by_size false = by_comment (is_comment line.text) refl
-
--- Logical lines of two lists of physical lines, one behind the other.
-logical_append : (number : ℕ) (xs ys : List (List ℕ)) → logical_lines number (xs ++ ys) ≡ logical_lines number xs ++ logical_lines (number + length xs) ys
-logical_append number [] ys = let e : number + 0 ≡ number = omega arith in rw e refl
-logical_append number (x ∷ xs) ys =
-    let e : number + suc (length xs) ≡ number + 1 + length xs = omega arith in
-    rw (e, logical_append (number + 1) xs ys) refl
+    by_size false = by_words (words line.text) refl
 
 -- What two lists of lines say, one behind the other.
-readings_append : (before xs ys : List Logical) → readings before (xs ++ ys) ≡ readings before xs ++ readings (before ++ xs) ys
+pub readings_append : (before xs ys : List Logical) → readings before (xs ++ ys) ≡ readings before xs ++ readings (before ++ xs) ys
 readings_append before [] ys = rw (append-nil before) refl
 readings_append before (x ∷ xs) ys =
     ap (λ said. reading (count_by is_vertex_line before) (count_by is_face_line before) x ∷ said)
@@ -224,157 +214,266 @@ late_some {X} n (Face at corners ∷ said) line x found = by_late (list_any (λ 
     by_late true found again = let e : at ≡ line = cc found in ap (λ n. Err (Range n)) e
     by_late false found again = again found
 
+-- Capping changes corners alone.
+refusal_capped : (said : Reading) → refusal_in (with_capped said) ≡ refusal_in said
+refusal_capped Passed = refl
+refusal_capped (Place p) = refl
+refusal_capped (Face n cs) = refl
+refusal_capped (Refused e) = refl
+
+place_capped : (said : Reading) → place_in (with_capped said) ≡ place_in said
+place_capped Passed = refl
+place_capped (Place p) = refl
+place_capped (Face n cs) = refl
+place_capped (Refused e) = refl
+
+face_capped : (said : Reading) → face_in (with_capped said) ≡ map (λ face. map capped face) (face_in said)
+face_capped Passed = refl
+face_capped (Place p) = refl
+face_capped (Face n cs) = refl
+face_capped (Refused e) = refl
+
+line_capped : (said : Reading) → line_in (with_capped said) ≡ line_in said
+line_capped Passed = refl
+line_capped (Place p) = refl
+line_capped (Face n cs) = refl
+line_capped (Refused e) = refl
+
+refused_capped : (said : Reading) (fail : ObjFail) → with_capped said ≡ Refused fail → said ≡ Refused fail
+refused_capped Passed fail is = cc is
+refused_capped (Place p) fail is = cc is
+refused_capped (Face n cs) fail is = cc is
+refused_capped (Refused e) fail is = is
+
+-- Capped corners are positive where the corners are, and late where they are; those that are not late are not capped.
+positive_capped : (faces : List (List ℕ)) → list_all (list_all (λ corner. ltb 0 corner)) faces ≡ true → list_all (list_all (λ corner. ltb 0 corner)) (map (λ face. map capped face) faces) ≡ true
+positive_capped [] all = refl
+positive_capped (face ∷ faces) all =
+    let parts : (list_all (λ corner. ltb 0 corner) face ≡ true) × (list_all (list_all (λ corner. ltb 0 corner)) faces ≡ true) = and_parts _ _ all in
+    and_from _ _ (along face parts.0) (positive_capped faces parts.1)
+  where
+    along : (corners : List ℕ) → list_all (λ corner. ltb 0 corner) corners ≡ true → list_all (λ corner. ltb 0 corner) (map capped corners) ≡ true
+    along [] all = refl
+    along (corner ∷ corners) all =
+        let parts : (ltb 0 corner ≡ true) × (list_all (λ corner. ltb 0 corner) corners ≡ true) = and_parts _ _ all in
+        and_from _ _ (one corner parts.0) (along corners parts.1)
+      where
+        one : (corner : ℕ) → ltb 0 corner ≡ true → ltb 0 (min corner (2 ^ 32 - 1)) ≡ true
+        one corner some = grind (arith, nat_tests)
+
+any_capped : (n : ℕ) → n ≤ 2 ^ 21 → (corners : List ℕ) → list_any (λ corner. ltb n corner) (map capped corners) ≡ list_any (λ corner. ltb n corner) corners
+any_capped n few [] = refl
+any_capped n few (corner ∷ corners) = rw (one corner, any_capped n few corners) refl
+  where
+    one : (corner : ℕ) → ltb n (min corner (2 ^ 32 - 1)) ≡ ltb n corner
+    one corner = grind (arith, nat_tests)
+
+late_capped : (n : ℕ) → n ≤ 2 ^ 21 → (faces : List (List ℕ)) (lines : List ℕ) → first_late n (map (λ face. map capped face) faces) lines ≡ first_late n faces lines
+late_capped n few [] lines = refl
+late_capped n few (face ∷ faces) [] = refl
+late_capped n few (face ∷ faces) (line ∷ lines) = rw (any_capped n few face, late_capped n few faces lines) refl
+
+uncapped : (n : ℕ) → n ≤ 2 ^ 21 → (faces : List (List ℕ)) (lines : List ℕ) → length lines ≡ length faces → first_late n faces lines ≡ None → map (λ face. map capped face) faces ≡ faces
+uncapped n few [] lines size none = refl
+uncapped n few (face ∷ faces) [] size none = absurd (omega arith)
+uncapped n few (face ∷ faces) (line ∷ lines) size none = by_late (list_any (λ corner. ltb n corner) face) refl none (uncapped n few faces lines (omega arith))
+  where
+    along : (corners : List ℕ) → list_any (λ corner. ltb n corner) corners ≡ false → map capped corners ≡ corners
+    along [] calm = refl
+    along (corner ∷ corners) calm =
+        let parts : (ltb n corner ≡ false) × (list_any (λ corner. ltb n corner) corners ≡ false) = or_parts _ _ calm in
+        let same : min corner (2 ^ 32 - 1) ≡ corner = omega (arith, ltb-false n corner parts.0) in
+        rw (same, along corners parts.1) refl
+
+    by_late : (t : Bool) → list_any (λ corner. ltb n corner) face ≡ t → cond t (Some line) (first_late n faces lines) ≡ None → (first_late n faces lines ≡ None → map (λ face. map capped face) faces ≡ faces)
+        → map (λ face. map capped face) (face ∷ faces) ≡ face ∷ faces
+    by_late true is none again = cc none
+    by_late false is none again = rw (along face is, again none) refl
+
 -- Nothing is read.
-pub read_none : (number : ℕ) → HasRead number [] [] [] []
-read_none number = record { accepted = refl; places_are = refl; faces_are = refl; lines_are = refl }
+read_none : HasRead [] [] [] []
+read_none = record { accepted = refl; places_are = refl; faces_are = refl; lines_are = refl }
 
 -- The counts of a reader are those of the lines.
-pub record IsWithin (number : ℕ) (lines : List (List ℕ)) (kept : List (List ℤ)) (corners : List (List ℕ)) (numbers : List ℕ) : Type 0 where
-  pub vertices : length kept ≡ count_by is_vertex_line (logical_lines number lines)
-  pub faces_are : length corners ≡ count_by is_face_line (logical_lines number lines)
-  pub few_vertices : length kept ≤ 2 ^ 21
-  pub few_faces : length corners ≤ 2 ^ 20
-  pub sizes : length numbers ≡ length corners
-  pub positive : IsTrue (list_all (list_all (λ corner. ltb 0 corner)) corners)
+record IsWithin (lines : List Logical) (kept : List (List ℤ)) (corners : List (List ℕ)) (numbers : List ℕ) : Type 0 where
+  vertices : length kept ≡ count_by is_vertex_line lines
+  faces_are : length corners ≡ count_by is_face_line lines
+  few_vertices : length kept ≤ 2 ^ 21
+  few_faces : length corners ≤ 2 ^ 20
+  sizes : length numbers ≡ length corners
+  positive : IsTrue (list_all (list_all (λ corner. ltb 0 corner)) corners)
 
-pub read_within : (number : ℕ) (lines : List (List ℕ)) (kept : List (List ℤ)) (corners : List (List ℕ)) (numbers : List ℕ) → HasRead number lines kept corners numbers → IsWithin number lines kept corners numbers
-read_within number lines kept corners numbers has =
-    let said = readings [] (logical_lines number lines) in
-    let counted : IsCountedIn [] (logical_lines number lines) said = counted_in [] (logical_lines number lines) has.accepted in
+read_within : (lines : List Logical) (kept : List (List ℤ)) (corners : List (List ℕ)) (numbers : List ℕ) → HasRead lines kept corners numbers → IsWithin lines kept corners numbers
+read_within lines kept corners numbers has =
+    let said = readings [] lines in
+    let counted : IsCountedIn [] lines said = counted_in [] lines has.accepted in
     let v : length kept ≡ length (places said) = ap length has.places_are in
-    let f : length corners ≡ length (faces said) = ap length has.faces_are in
+    let f : length corners ≡ length (faces said) = ap length has.faces_are ∙ length-map (faces said) (λ face. map capped face) in
     record {
       vertices = omega (arith, counted.vertices);
       faces_are = omega (arith, counted.faces_are);
       few_vertices = omega (arith, counted.vertices, counted.few_vertices (omega arith));
       few_faces = omega (arith, counted.faces_are, counted.few_faces (omega arith));
       sizes = ap length has.lines_are ∙ lines_of_faces said ∙ sym f;
-      positive = rw has.faces_are (all_positive [] (logical_lines number lines));
+      positive = rw has.faces_are (positive_capped (faces said) (all_positive [] lines));
     }
-
--- What the next line says, by what a reader knows.
-abbrev pub next_said : ℕ → List (List ℕ) → List (List ℤ) → List (List ℕ) → List ℕ → Reading
-next_said number lines kept corners text = reading (length kept) (length corners) (record { number = number + length lines; size = length text; text = text })
-
-next_reading : (number : ℕ) (lines : List (List ℕ)) (kept : List (List ℤ)) (corners : List (List ℕ)) (numbers : List ℕ) (text : List ℕ) (rest : List (List ℕ)) → HasRead number lines kept corners numbers
-    → (behind : List Reading) × (readings [] (logical_lines number (lines ++ text ∷ rest)) ≡ readings [] (logical_lines number lines) ++ next_said number lines kept corners text ∷ behind) × (rest ≡ [] → behind ≡ [])
-next_reading number lines kept corners numbers text rest has =
-    let within : IsWithin number lines kept corners numbers = read_within number lines kept corners numbers has in (
-      readings (logical_lines number lines ++ record { number = number + length lines; size = length text; text = text } ∷ []) (logical_lines (number + length lines + 1) rest),
-      ap (readings []) (logical_append number lines (text ∷ rest)) ∙ readings_append [] (logical_lines number lines) (logical_lines (number + length lines) (text ∷ rest))
-          ∙ rw (within.vertices, within.faces_are) refl,
-      λ none. rw none refl,
-    )
 
 pushed : {X : Type 0} (f : Reading → List X) (kept : List X) (old new : List Reading) (said : Reading) → kept ≡ flat_map f old → new ≡ old ++ said ∷ [] → kept ++ f said ≡ flat_map f new
 pushed f kept old new said is are =
     ap (λ xs. xs ++ f said) is ∙ ap (λ xs. flat_map f old ++ xs) (sym (append-nil (f said))) ∙ sym (flat_map-append f old (said ∷ [])) ∙ ap (flat_map f) (sym are)
 
+-- The readings of lines that are read, and of a line and more behind them.
+read_behind : (lines rest : List Logical) (line : Logical) (kept : List (List ℤ)) (corners : List (List ℕ)) (numbers : List ℕ) → HasRead lines kept corners numbers
+    → readings [] (lines ++ line ∷ rest) ≡ readings [] lines ++ reading (length kept) (length corners) line ∷ readings (lines ++ line ∷ []) rest
+read_behind lines rest line kept corners numbers has =
+    let within : IsWithin lines kept corners numbers = read_within lines kept corners numbers has in
+    readings_append [] lines (line ∷ rest) ∙ rw (within.vertices, within.faces_are) refl
+
 -- One line more, that is not refused.
-pub read_more : (number : ℕ) (lines : List (List ℕ)) (kept : List (List ℤ)) (corners : List (List ℕ)) (numbers : List ℕ) (text : List ℕ) → HasRead number lines kept corners numbers
-    → refusal_in (next_said number lines kept corners text) ≡ []
-    → HasRead number (lines ++ text ∷ []) (kept ++ place_in (next_said number lines kept corners text)) (corners ++ face_in (next_said number lines kept corners text)) (numbers ++ line_in (next_said number lines kept corners text))
-read_more number lines kept corners numbers text has calm = by_next (next_reading number lines kept corners numbers text [] has)
-  where
-    by_next : (behind : List Reading) × (readings [] (logical_lines number (lines ++ text ∷ [])) ≡ readings [] (logical_lines number lines) ++ next_said number lines kept corners text ∷ behind) × (◌≡◌ {A = List (List ℕ)} [] [] → behind ≡ [])
-        → HasRead number (lines ++ text ∷ []) (kept ++ place_in (next_said number lines kept corners text)) (corners ++ face_in (next_said number lines kept corners text)) (numbers ++ line_in (next_said number lines kept corners text))
-    by_next next =
-        let all : readings [] (logical_lines number (lines ++ text ∷ [])) ≡ readings [] (logical_lines number lines) ++ next_said number lines kept corners text ∷ [] = next.1 ∙ ap (λ behind. readings [] (logical_lines number lines) ++ next_said number lines kept corners text ∷ behind) (next.2 refl) in
-        let old = readings [] (logical_lines number lines) in
-        let said = next_said number lines kept corners text in
-        record {
-          accepted = ap (flat_map refusal_in) all ∙ flat_map-append refusal_in old (said ∷ []) ∙ rw (has.accepted, calm) refl;
-          places_are = pushed place_in kept old (readings [] (logical_lines number (lines ++ text ∷ []))) said has.places_are all;
-          faces_are = pushed face_in corners old (readings [] (logical_lines number (lines ++ text ∷ []))) said has.faces_are all;
-          lines_are = pushed line_in numbers old (readings [] (logical_lines number (lines ++ text ∷ []))) said has.lines_are all;
-        }
+read_more : (lines : List Logical) (line : Logical) (kept kept' : List (List ℤ)) (corners corners' : List (List ℕ)) (numbers numbers' : List ℕ) → HasRead lines kept corners numbers
+    → Took kept kept' corners corners' numbers numbers' (next_said kept corners line) → HasRead (lines ++ line ∷ []) kept' corners' numbers'
+read_more lines line kept kept' corners corners' numbers numbers' has took =
+    let old = readings [] lines in
+    let said = reading (length kept) (length corners) line in
+    let all : readings [] (lines ++ line ∷ []) ≡ old ++ said ∷ [] = read_behind lines [] line kept corners numbers has in
+    let calm : refusal_in said ≡ [] = sym (refusal_capped said) ∙ took.accepted in
+    record {
+      accepted = ap (flat_map refusal_in) all ∙ flat_map-append refusal_in old (said ∷ []) ∙ rw (has.accepted, calm) refl;
+      places_are = took.place ∙ ap (λ p. kept ++ p) (place_capped said) ∙ pushed place_in kept old (readings [] (lines ++ line ∷ [])) said has.places_are all;
+      faces_are = took.face ∙ ap (λ f. corners ++ f) (face_capped said) ∙ ap (λ f. f ++ map (λ face. map capped face) (face_in said)) has.faces_are
+          ∙ sym (map-append (λ face. map capped face) (faces old) (face_in said))
+          ∙ ap (map (λ face. map capped face)) (pushed face_in (faces old) old (readings [] (lines ++ line ∷ [])) said refl all);
+      lines_are = took.line ∙ ap (λ n. numbers ++ n) (line_capped said) ∙ pushed line_in numbers old (readings [] (lines ++ line ∷ [])) said has.lines_are all;
+    }
 
 -- The soup of lines that are read, where no face is late.
-read_ok : (number : ℕ) (lines : List (List ℕ)) (kept : List (List ℤ)) (corners : List (List ℕ)) (numbers : List ℕ) → HasRead number lines kept corners numbers
-    → first_late (length kept) corners numbers ≡ None → text_soup number lines ≡ Ok (face_set kept corners)
-read_ok number lines kept corners numbers has calm =
-    let said = readings [] (logical_lines number lines) in
-    let late : first_late (length (places said)) (faces said) (flat_map line_in said) ≡ None =
-    rw (← has.places_are, ← has.faces_are, ← has.lines_are) calm in
-    rw (has.places_are, has.faces_are) (ap (λ fails. first_refusal (fails ++ flat_map (late_in (length (places said))) said) (face_set (places said) (faces said))) has.accepted
-    ∙ ap (λ fails. first_refusal fails (face_set (places said) (faces said))) (late_none (length (places said)) said late))
+read_ok : (lines : List Logical) (kept : List (List ℤ)) (corners : List (List ℕ)) (numbers : List ℕ) → HasRead lines kept corners numbers
+    → first_late (length kept) corners numbers ≡ None → soup_of (readings [] lines) ≡ Ok (face_set kept corners)
+read_ok lines kept corners numbers has calm =
+    let said = readings [] lines in
+    let within : IsWithin lines kept corners numbers = read_within lines kept corners numbers has in
+    let late : first_late (length kept) (faces said) numbers ≡ None = sym (late_capped (length kept) within.few_vertices (faces said) numbers) ∙ ap (λ cs. first_late (length kept) cs numbers) (sym has.faces_are) ∙ calm in
+    let many : length numbers ≡ length (faces said) = ap length has.lines_are ∙ lines_of_faces said in
+    let same : corners ≡ faces said = has.faces_are ∙ uncapped (length kept) within.few_vertices (faces said) numbers many late in
+    let none : flat_map (late_in (length (places said))) said ≡ [] = late_none (length (places said)) said (rw (← has.places_are, ← has.lines_are) late) in
+    rw (has.places_are, same) (ap (λ fails. first_refusal (fails ++ flat_map (late_in (length (places said))) said) (face_set (places said) (faces said))) has.accepted
+    ∙ ap (λ fails. first_refusal fails (face_set (places said) (faces said))) none)
 
 -- The late refusal of lines that are read.
-read_late : (number : ℕ) (lines : List (List ℕ)) (kept : List (List ℤ)) (corners : List (List ℕ)) (numbers : List ℕ) (line : ℕ) → HasRead number lines kept corners numbers
-    → first_late (length kept) corners numbers ≡ Some line → text_soup number lines ≡ Err (Range line)
-read_late number lines kept corners numbers line has found =
-    let said = readings [] (logical_lines number lines) in
-    let late : first_late (length (places said)) (faces said) (flat_map line_in said) ≡ Some line =
-    rw (← has.places_are, ← has.faces_are, ← has.lines_are) found in
+read_late : (lines : List Logical) (kept : List (List ℤ)) (corners : List (List ℕ)) (numbers : List ℕ) (line : ℕ) → HasRead lines kept corners numbers
+    → first_late (length kept) corners numbers ≡ Some line → soup_of (readings [] lines) ≡ Err (Range line)
+read_late lines kept corners numbers line has found =
+    let said = readings [] lines in
+    let within : IsWithin lines kept corners numbers = read_within lines kept corners numbers has in
+    let late : first_late (length kept) (faces said) numbers ≡ Some line = sym (late_capped (length kept) within.few_vertices (faces said) numbers) ∙ ap (λ cs. first_late (length kept) cs numbers) (sym has.faces_are) ∙ found in
     ap (λ fails. first_refusal (fails ++ flat_map (late_in (length (places said))) said) (face_set (places said) (faces said))) has.accepted
-    ∙ late_some (length (places said)) said line (face_set (places said) (faces said)) late
+    ∙ late_some (length (places said)) said line (face_set (places said) (faces said)) (rw (← has.places_are, ← has.lines_are) late)
 
 -- The refusal of a line behind lines that are read is the first one.
-pub read_refused : (number : ℕ) (lines : List (List ℕ)) (kept : List (List ℤ)) (corners : List (List ℕ)) (numbers : List ℕ) (text : List ℕ) (rest : List (List ℕ)) (fail : ObjFail) → HasRead number lines kept corners numbers
-    → next_said number lines kept corners text ≡ Refused fail → text_soup number (lines ++ text ∷ rest) ≡ Err fail
-read_refused number lines kept corners numbers text rest fail has is = by_next _ _ (next_reading number lines kept corners numbers text rest has).1
+read_refused : (lines rest : List Logical) (line : Logical) (kept : List (List ℤ)) (corners : List (List ℕ)) (numbers : List ℕ) (fail : ObjFail) → HasRead lines kept corners numbers
+    → next_said kept corners line ≡ Refused fail → soup_of (readings [] (lines ++ line ∷ rest)) ≡ Err fail
+read_refused lines rest line kept corners numbers fail has is =
+    by_said (readings [] (lines ++ line ∷ rest)) (reading (length kept) (length corners) line) (readings (lines ++ line ∷ []) rest)
+    (read_behind lines rest line kept corners numbers has) (refused_capped (reading (length kept) (length corners) line) fail is)
   where
-    by_next : (all : List Reading) (behind : List Reading) → all ≡ readings [] (logical_lines number lines) ++ next_said number lines kept corners text ∷ behind → soup_of all ≡ Err fail
-    by_next all behind are =
+    by_said : (all : List Reading) (said : Reading) (behind : List Reading) → all ≡ readings [] lines ++ said ∷ behind → said ≡ Refused fail → soup_of all ≡ Err fail
+    by_said all said behind are stops =
         let some : flat_map refusal_in all ≡ fail ∷ flat_map refusal_in behind =
-        ap (flat_map refusal_in) are ∙ flat_map-append refusal_in (readings [] (logical_lines number lines)) _ ∙ rw (has.accepted, is) refl in
+        ap (flat_map refusal_in) are ∙ flat_map-append refusal_in (readings [] lines) (said ∷ behind) ∙ rw (has.accepted, stops) refl in
         ap (λ fails. first_refusal (fails ++ flat_map (late_in (length (places all))) all) (face_set (places all) (faces all))) some
 
--- What `finish` says is the text's soup, within the limits, or its late refusal.
-pub finished_soup : (number : ℕ) (lines : List (List ℕ)) (kept : List (List ℤ)) (corners : List (List ℕ)) (numbers : List ℕ) (r : Result FaceSet ObjFail) → HasRead number lines kept corners numbers
-    → IfOk r (λ s. (first_late (length kept) corners numbers ≡ None) × (s ≡ face_set kept corners)) → IfOk r (λ s. text_soup number lines ≡ Ok s)
-finished_soup number lines kept corners numbers r has =
-    IfOk-weaker r (λ s. (first_late (length kept) corners numbers ≡ None) × (s ≡ face_set kept corners)) (λ s. text_soup number lines ≡ Ok s)
-    (λ s is. read_ok number lines kept corners numbers has is.0 ∙ ap Ok (sym is.1))
+-- The first physical lines, up to line i, are read; those from i up to `after` are left.
+pub record IsAt (all : List (List ℕ)) (first i after : ℕ) (kept : List (List ℤ)) (corners : List (List ℕ)) (numbers : List ℕ) : Type 0 where
+  pub within : i ≤ after
+  pub read : HasReadTo (logical_lines (first + 1) (slice_range all first after)) (logical_lines (i + 1) (slice_range all i after)) kept corners numbers
 
-pub finished_few : (number : ℕ) (lines : List (List ℕ)) (kept : List (List ℤ)) (corners : List (List ℕ)) (numbers : List ℕ) (r : Result FaceSet ObjFail) → HasRead number lines kept corners numbers
+pub at_start : (all : List (List ℕ)) (first after : ℕ) → first ≤ after → IsAt all first first after [] [] []
+at_start all first after le = record { within = le; read = record { done = []; split = refl; has = read_none } }
+
+pub at_few : (all : List (List ℕ)) (first i after : ℕ) (kept : List (List ℤ)) (corners : List (List ℕ)) (numbers : List ℕ) → IsAt all first i after kept corners numbers → (length kept ≤ 2 ^ 21) × (length corners ≤ 2 ^ 20)
+at_few all first i after kept corners numbers at =
+    let within : IsWithin at.read.done kept corners numbers = read_within at.read.done kept corners numbers at.read.has in (within.few_vertices, within.few_faces)
+
+pub at_sizes : (all : List (List ℕ)) (first i after : ℕ) (kept : List (List ℤ)) (corners : List (List ℕ)) (numbers : List ℕ) → IsAt all first i after kept corners numbers → length numbers ≡ length corners
+at_sizes all first i after kept corners numbers at = (read_within at.read.done kept corners numbers at.read.has).sizes
+
+pub at_positive : (all : List (List ℕ)) (first i after : ℕ) (kept : List (List ℤ)) (corners : List (List ℕ)) (numbers : List ℕ) → IsAt all first i after kept corners numbers
+    → IsTrue (list_all (list_all (λ corner. ltb 0 corner)) corners)
+at_positive all first i after kept corners numbers at = (read_within at.read.done kept corners numbers at.read.has).positive
+
+-- The next logical line, and those behind it.
+next_lines : (all : List (List ℕ)) (i after : ℕ) → i < after → after ≤ length all
+    → logical_lines (i + 1) (slice_range all i after) ≡ first_logical (i + 1) (slice_range all i after) ∷ logical_lines (i + span (slice_range all i after) + 1) (slice_range all (i + span (slice_range all i after)) after)
+next_lines all i after lt within =
+    let cut : slice_range all i after ≡ get_or all i [] ∷ slice_range all (i + 1) after = range_cons all i after [] lt within in
+    let step : logical_lines (i + 1) (slice_range all i after) ≡ first_logical (i + 1) (slice_range all i after) ∷ logical_lines (i + 1 + span (slice_range all i after)) (drop (span (slice_range all i after)) (slice_range all i after)) =
+    rw cut (logical_step (i + 1) (get_or all i []) (slice_range all (i + 1) after)) in
+    let few : span (slice_range all i after) ≤ after - i = omega (arith, span_few (slice_range all i after), length-range all i after (omega arith) within) in
+    let n : i + 1 + span (slice_range all i after) ≡ i + span (slice_range all i after) + 1 = omega arith in
+    step ∙ ap (λ rest. first_logical (i + 1) (slice_range all i after) ∷ rest)
+    (ap (λ ls. logical_lines (i + 1 + span (slice_range all i after)) ls) (range_drop all i (span (slice_range all i after)) after (omega arith)) ∙ ap (λ k. logical_lines k (slice_range all (i + span (slice_range all i after)) after)) n)
+
+-- The next logical line begins behind this one, and within the range.
+pub span_within : (all : List (List ℕ)) (i after : ℕ) → i < after → after ≤ length all → (1 ≤ span (slice_range all i after)) × (i + span (slice_range all i after) ≤ after)
+span_within all i after lt within =
+    let cut : slice_range all i after ≡ get_or all i [] ∷ slice_range all (i + 1) after = range_cons all i after [] lt within in
+    (rw cut (span_some (get_or all i []) (slice_range all (i + 1) after)), omega (arith, span_few (slice_range all i after), length-range all i after (omega arith) within))
+
+-- One logical line more.
+pub at_next : (all : List (List ℕ)) (first i next after : ℕ) (kept kept' : List (List ℤ)) (corners corners' : List (List ℕ)) (numbers numbers' : List ℕ) → i < after → after ≤ length all → IsAt all first i after kept corners numbers
+    → next ≡ i + span (slice_range all i after) → Took kept kept' corners corners' numbers numbers' (next_said kept corners (first_logical (i + 1) (slice_range all i after)))
+    → IsAt all first next after kept' corners' numbers'
+at_next all first i next after kept kept' corners corners' numbers numbers' lt within at is took =
+    let line = first_logical (i + 1) (slice_range all i after) in
+    let rest : logical_lines (i + 1) (slice_range all i after) ≡ line ∷ logical_lines (next + 1) (slice_range all next after) = rw is (next_lines all i after lt within) in
+    record {
+      within = omega (arith, span_within all i after lt within);
+      read = record {
+        done = at.read.done ++ line ∷ [];
+        split = at.read.split ∙ ap (λ ls. at.read.done ++ ls) rest ∙ sym (append_assoc at.read.done (line ∷ []) (logical_lines (next + 1) (slice_range all next after)));
+        has = read_more at.read.done line kept kept' corners corners' numbers numbers' at.read.has took;
+      };
+    }
+
+-- A logical line that is refused.
+pub at_refused : (all : List (List ℕ)) (first i after : ℕ) (kept : List (List ℤ)) (corners : List (List ℕ)) (numbers : List ℕ) (fail : ObjFail) → i < after → after ≤ length all → IsAt all first i after kept corners numbers
+    → next_said kept corners (first_logical (i + 1) (slice_range all i after)) ≡ Refused fail → text_soup (first + 1) (slice_range all first after) ≡ Err fail
+at_refused all first i after kept corners numbers fail lt within at stops =
+    ap (λ ls. soup_of (readings [] ls)) (at.read.split ∙ ap (λ ls. at.read.done ++ ls) (next_lines all i after lt within))
+    ∙ read_refused at.read.done _ (first_logical (i + 1) (slice_range all i after)) kept corners numbers fail at.read.has stops
+
+-- All lines are read.
+at_end : (all : List (List ℕ)) (first i after : ℕ) (kept : List (List ℤ)) (corners : List (List ℕ)) (numbers : List ℕ) → after ≤ i → (at : IsAt all first i after kept corners numbers)
+    → text_soup (first + 1) (slice_range all first after) ≡ soup_of (readings [] at.read.done)
+at_end all first i after kept corners numbers past at =
+    let end : i ≡ after = omega (arith, at.within) in
+    let none : slice_range all i after ≡ [] = ap (λ n. slice_range all n after) end ∙ range_none all after in
+    ap (λ ls. soup_of (readings [] ls)) (at.read.split ∙ ap (λ ls. at.read.done ++ logical_lines (i + 1) ls) none ∙ append-nil at.read.done)
+
+-- What `finish` says is the text's soup, within the limits, or its late refusal.
+pub finished_soup : (all : List (List ℕ)) (first i after : ℕ) (kept : List (List ℤ)) (corners : List (List ℕ)) (numbers : List ℕ) (r : Result FaceSet ObjFail) → after ≤ i → IsAt all first i after kept corners numbers
+    → IfOk r (λ s. (first_late (length kept) corners numbers ≡ None) × (s ≡ face_set kept corners)) → IfOk r (λ s. text_soup (first + 1) (slice_range all first after) ≡ Ok s)
+finished_soup all first i after kept corners numbers r past at =
+    IfOk-weaker r (λ s. (first_late (length kept) corners numbers ≡ None) × (s ≡ face_set kept corners)) (λ s. text_soup (first + 1) (slice_range all first after) ≡ Ok s)
+    (λ s is. at_end all first i after kept corners numbers past at ∙ read_ok at.read.done kept corners numbers at.read.has is.0 ∙ ap Ok (sym is.1))
+
+pub finished_few : (all : List (List ℕ)) (first i after : ℕ) (kept : List (List ℤ)) (corners : List (List ℕ)) (numbers : List ℕ) (r : Result FaceSet ObjFail) → IsAt all first i after kept corners numbers
     → IfOk r (λ s. (first_late (length kept) corners numbers ≡ None) × (s ≡ face_set kept corners)) → IfOk r (λ s. (length s.pos ≤ 2 ^ 21) × (length s.faces ≤ 2 ^ 20))
-finished_few number lines kept corners numbers r has =
+finished_few all first i after kept corners numbers r at =
     IfOk-weaker r (λ s. (first_late (length kept) corners numbers ≡ None) × (s ≡ face_set kept corners)) (λ s. (length s.pos ≤ 2 ^ 21) × (length s.faces ≤ 2 ^ 20))
     (λ s is.
-    let within : IsWithin number lines kept corners numbers = read_within number lines kept corners numbers has in
+    let few : (length kept ≤ 2 ^ 21) × (length corners ≤ 2 ^ 20) = at_few all first i after kept corners numbers at in
     let p : length s.pos ≡ length (face_set kept corners).pos = ap (λ (t : FaceSet). length t.pos) is.1 in
     let f : length s.faces ≡ length (face_set kept corners).faces = ap (λ (t : FaceSet). length t.faces) is.1 in
-    (omega (arith, few_pos kept corners, within.few_vertices), omega (arith, same_faces kept corners, within.few_faces)))
+    (omega (arith, few_pos kept corners), omega (arith, same_faces kept corners)))
 
-pub finished_refused : (number : ℕ) (lines : List (List ℕ)) (kept : List (List ℤ)) (corners : List (List ℕ)) (numbers : List ℕ) (r : Result FaceSet ObjFail) → HasRead number lines kept corners numbers
-    → IfErr r (λ fail. fail ≢ Memory → IsLate fail (first_late (length kept) corners numbers)) → IfErr r (λ fail. fail ≢ Memory → text_soup number lines ≡ Err fail)
-finished_refused number lines kept corners numbers r has =
-    IfErr-weaker r (λ fail. fail ≢ Memory → IsLate fail (first_late (length kept) corners numbers)) (λ fail. fail ≢ Memory → text_soup number lines ≡ Err fail)
+pub finished_refused : (all : List (List ℕ)) (first i after : ℕ) (kept : List (List ℤ)) (corners : List (List ℕ)) (numbers : List ℕ) (r : Result FaceSet ObjFail) → after ≤ i → IsAt all first i after kept corners numbers
+    → IfErr r (λ fail. fail ≢ Memory → IsLate fail (first_late (length kept) corners numbers)) → IfErr r (λ fail. fail ≢ Memory → text_soup (first + 1) (slice_range all first after) ≡ Err fail)
+finished_refused all first i after kept corners numbers r past at =
+    IfErr-weaker r (λ fail. fail ≢ Memory → IsLate fail (first_late (length kept) corners numbers)) (λ fail. fail ≢ Memory → text_soup (first + 1) (slice_range all first after) ≡ Err fail)
     (λ fail is other. by_late fail (first_late (length kept) corners numbers) refl (is other))
   where
-    by_late : (fail : ObjFail) (late : Option ℕ) → first_late (length kept) corners numbers ≡ late → IsLate fail late → text_soup number lines ≡ Err fail
+    by_late : (fail : ObjFail) (late : Option ℕ) → first_late (length kept) corners numbers ≡ late → IsLate fail late → text_soup (first + 1) (slice_range all first after) ≡ Err fail
     by_late fail None found is = absurd is
-    by_late fail (Some line) found is = read_late number lines kept corners numbers line has found ∙ ap Err (sym is)
-
--- Line i after `first`, by what a reader knows of those between.
-abbrev pub said_at : List (List ℤ) → List (List ℕ) → ℕ → List ℕ → Reading
-said_at kept corners i text = reading (length kept) (length corners) (record { number = i + 1; size = length text; text = text })
-
-same_said : (all : List (List ℕ)) (first i : ℕ) (kept : List (List ℤ)) (corners : List (List ℕ)) (text : List ℕ) → first ≤ i → i < length all
-    → next_said (first + 1) (slice_range all first i) kept corners text ≡ said_at kept corners i text
-same_said all first i kept corners text from there =
-    let e : first + 1 + length (slice_range all first i) ≡ i + 1 = omega (arith, length-range all first i from (omega arith)) in
-    ap (λ n. reading (length kept) (length corners) (record { number = n; size = length text; text = text })) e
-
-pub read_step : (all : List (List ℕ)) (first i : ℕ) (kept now : List (List ℤ)) (corners faces' : List (List ℕ)) (numbers lines' : List ℕ) (text : List ℕ) → first ≤ i → i < length all → text ≡ get_or all i []
-    → HasRead (first + 1) (slice_range all first i) kept corners numbers
-    → (refusal_in (said_at kept corners i text) ≡ []) × (now ≡ kept ++ place_in (said_at kept corners i text)) × (faces' ≡ corners ++ face_in (said_at kept corners i text)) × (lines' ≡ numbers ++ line_in (said_at kept corners i text))
-    → HasRead (first + 1) (slice_range all first (i + 1)) now faces' lines'
-read_step all first i kept now corners faces' numbers lines' text from there is has took =
-    let same : next_said (first + 1) (slice_range all first i) kept corners text ≡ said_at kept corners i text = same_said all first i kept corners text from there in
-    let more : HasRead (first + 1) (slice_range all first i ++ text ∷ []) (kept ++ place_in (next_said (first + 1) (slice_range all first i) kept corners text)) (corners ++ face_in (next_said (first + 1) (slice_range all first i) kept corners text)) (numbers ++ line_in (next_said (first + 1) (slice_range all first i) kept corners text)) =
-    read_more (first + 1) (slice_range all first i) kept corners numbers text has (ap refusal_in same ∙ took.0) in
-    let lines_are : slice_range all first i ++ text ∷ [] ≡ slice_range all first (i + 1) = ap (λ t. slice_range all first i ++ t ∷ []) is ∙ sym (range_more all first i [] from there) in
-    subst (λ (ls : List (List ℕ)). HasRead (first + 1) ls now faces' lines') lines_are
-    (rw (took.1, took.2, took.3, ← same) more)
-
-pub read_stop : (all : List (List ℕ)) (first i after : ℕ) (kept : List (List ℤ)) (corners : List (List ℕ)) (numbers : List ℕ) (text : List ℕ) (fail : ObjFail) → first ≤ i → i < after → after ≤ length all → text ≡ get_or all i []
-    → HasRead (first + 1) (slice_range all first i) kept corners numbers → said_at kept corners i text ≡ Refused fail → text_soup (first + 1) (slice_range all first after) ≡ Err fail
-read_stop all first i after kept corners numbers text fail from there within is has stops =
-    by_split _ (range_split all first i after [] from there within).1
-  where
-    by_split : (rest : List (List ℕ)) → slice_range all first after ≡ slice_range all first i ++ get_or all i [] ∷ rest → text_soup (first + 1) (slice_range all first after) ≡ Err fail
-    by_split rest split =
-        ap (text_soup (first + 1)) (split ∙ ap (λ t. slice_range all first i ++ t ∷ rest) (sym is))
-        ∙ read_refused (first + 1) (slice_range all first i) kept corners numbers text rest fail has (same_said all first i kept corners text from (omega arith) ∙ stops)
+    by_late fail (Some line) found is =
+        at_end all first i after kept corners numbers past at ∙ read_late at.read.done kept corners numbers line at.read.has found ∙ ap Err (sym is)

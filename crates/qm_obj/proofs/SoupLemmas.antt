@@ -1,7 +1,7 @@
 -- The used places and the faces over them are a soup.
-use Rattle.std.proofs.Common.{◌≡◌, ℕ, ℤ, zero, suc, ◌+◌, ◌-◌, ◌<◌, ◌≤◌, Bool, true, false, cond, ◌&&◌, List, [], ◌∷◌, ◌++◌, length, map, get_or, refl, sym, ap, ◌∙◌, arith, subst, eqb, ltb, leb, Option, Some, None, inl, inr, ◌⊎◌}
+use Rattle.std.proofs.Common.{◌≡◌, ℕ, ℤ, zero, suc, ◌+◌, ◌-◌, ◌<◌, ◌≤◌, Bool, true, false, cond, ◌&&◌, nat_lt, List, [], ◌∷◌, ◌++◌, length, map, get_or, refl, sym, ap, ◌∙◌, arith, subst, eqb, ltb, leb, Some, None, inl, inr, ◌⊎◌}
 use Rattle.std.specs.Prelude.{IsTrue}
-use Rattle.std.specs.List.{filter, list_all, list_any}
+use Rattle.std.specs.List.{list_all, list_any}
 use Rattle.std.specs.List.Sorted.{IsStrictlyIncreasing}
 use Rattle.std.proofs.lemmas.Bool.{and_from, and_parts, cases_lt, eq-eqb, eqb-true, false≢true, le-leb, leb-true, lt-ltb, ltb-false, ltb-true, or_left, or_right, or_cases, or_parts}
 use Rattle.std.proofs.lemmas.List.{append-nil, get_or_append_left, get_or_push, length-append, length-map, length_push}
@@ -9,16 +9,20 @@ use Rattle.std.proofs.lemmas.List.Elements.{filter-append, filter_passes}
 use Rattle.std.proofs.lemmas.List.Folds.{list_any_at}
 use Rattle.std.proofs.lemmas.List.Kept.{IsStrictlyIncreasing-filter}
 use Rattle.std.proofs.lemmas.List.Sums.{count_by-le-length, length-filter}
-use Rattle.def_text.specs.FaceSet.{FaceSet, IsSoup, are_below, is_used}
+use Rattle.def_mesh.specs.Vertices.{is_used}
+use Rattle.def_text.specs.FaceSet.{IsSoup}
 use Rattle.def_text.specs.Text.{face_set, numbers_to, place_of, used_to, vertex_of}
 use Rattle.qm_obj.specs.Kept.{are_numbers, first_late}
-use Rattle.qm_obj.proofs.ListLemmas.{passes_at}
 
-length-numbers_to : (n : ℕ) → length (numbers_to n) ≡ n
+-- Each of these numbers is below n.
+abbrev pub are_below : ℕ → List ℕ → Bool
+are_below n xs = list_all (λ x. nat_lt x n) xs
+
+pub length-numbers_to : (n : ℕ) → length (numbers_to n) ≡ n
 length-numbers_to zero = refl
 length-numbers_to (suc n) = omega (arith, length_push (numbers_to n) (suc n), length-numbers_to n)
 
-numbers_at : (n k : ℕ) → k < n → get_or (numbers_to n) k 0 ≡ k + 1
+pub numbers_at : (n k : ℕ) → k < n → get_or (numbers_to n) k 0 ≡ k + 1
 numbers_at zero k lt = absurd (omega arith)
 numbers_at (suc n) k lt = by_place (cases_lt k n) (λ below. numbers_at n k below)
   where
@@ -30,7 +34,7 @@ numbers_rise : (n : ℕ) → IsStrictlyIncreasing (numbers_to n)
 numbers_rise n k l = let m : length (numbers_to n) ≡ n = length-numbers_to n in omega (arith, numbers_at n k (omega arith), numbers_at n (k + 1) (omega arith))
 
 -- One number more is kept where it is used.
-used_more : (faces : List (List ℕ)) (n : ℕ) → used_to faces (suc n) ≡ used_to faces n ++ cond (is_used faces (suc n)) (suc n ∷ []) []
+pub used_more : (faces : List (List ℕ)) (n : ℕ) → used_to faces (suc n) ≡ used_to faces n ++ cond (is_used faces (suc n)) (suc n ∷ []) []
 used_more faces n = filter-append (is_used faces) (numbers_to n) (suc n ∷ [])
 
 used_grows : (faces : List (List ℕ)) (n m : ℕ) → length (used_to faces n) ≤ length (used_to faces (n + m))
@@ -102,7 +106,7 @@ below_all faces n (x ∷ xs) known used =
         and_from _ _ (lt-ltb _ _ (rank_below faces n y (ltb-true 0 y b.0) (leb-true y n b.1) u.0)) (along ys k.1 u.1)
 
 -- A used number is used after renumbering.
-used_renumbered : (f : ℕ → ℕ) (m : ℕ) (faces : List (List ℕ)) → is_used faces m ≡ true → is_used (map (λ corners. map f corners) faces) (f m) ≡ true
+pub used_renumbered : (f : ℕ → ℕ) (m : ℕ) (faces : List (List ℕ)) → is_used faces m ≡ true → is_used (map (λ corners. map f corners) faces) (f m) ≡ true
 used_renumbered f m [] is = absurd (false≢true is)
 used_renumbered f m (x ∷ xs) is = by_first (or_cases _ _ is) (used_renumbered f m xs)
   where

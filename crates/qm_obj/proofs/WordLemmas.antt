@@ -1,11 +1,16 @@
 -- The first word of a text, and the words behind it.
-use Rattle.std.proofs.Common.{◌≡◌, ℕ, zero, suc, ◌+◌, ◌<◌, ◌≤◌, Bool, true, false, cond, not, List, [], ◌∷◌, length, take, drop, set, map, get_or, below_more, refl, sym, ap, ◌∙◌, arith, eqb, Some, None}
+use Rattle.std.proofs.Common.{◌≡◌, ℕ, suc, ◌+◌, ◌<◌, ◌≤◌, Bool, true, false, cond, not, List, [], ◌∷◌, length, take, drop, set, map, get_or, below_more, refl, sym, ap, ◌∙◌, arith, eqb, Some, None, leb, ◌^◌, ◌&&◌}
 use Rattle.std.proofs.lemmas.Bool.{eqb-true, true≢false}
-use Rattle.std.proofs.lemmas.List.{drop_more, get_or-map, get_or-set_other, get_or-set_same, length-drop, length-map, length-set, same_lists}
+use Rattle.std.proofs.lemmas.List.{drop_more, get_or-map, get_or-set_other, get_or-set_same, get_or-take, length-drop, length-map, length-set, length-take-le, same_lists}
 use Rattle.std.specs.List.{position_or_len}
-use Rattle.def_text.specs.Reading.{face_reading, is_letter, vertex_reading, words_reading}
-use Rattle.def_text.specs.declared.reading.Reading.TheVariants.{Passed}
+use Rattle.std.specs.List.{list_all, list_any}
+use Rattle.def_text.specs.Decimal.{is_decimal, is_far, rounded}
+use Rattle.def_text.specs.Reading.{face_reading, is_letter, is_place_count, vertex_reading, words_reading}
+use Rattle.def_text.specs.declared.refusal.ObjFail.TheVariants.{Limit, Range, Syntax}
+use Rattle.def_text.specs.declared.refusal.Which.TheVariants.{Vertices}
+use Rattle.def_text.specs.declared.reading.Reading.TheVariants.{Passed, Place, Refused}
 use Rattle.def_text.specs.Words.{ends_word, in_front, is_blank, words}
+use Rattle.qm_obj.specs.Indices.{with_capped}
 use Rattle.qm_obj.specs.Lines.{IsFilled, with_word}
 
 -- A text that begins with no blank has its front up to the first blank as its first word.
@@ -75,11 +80,13 @@ filled_more {X} says all count size slots x is filled = record {
       (λ fits. get_or-set_same slots count x d (omega (arith, filled.many)) ∙ is) k;
 }
 
--- As many slots as words.
-pub filled_all : {X : Type 0} (says : List ℕ → X) (all : List (List ℕ)) (count size : ℕ) (slots : List X) → length all ≤ count → size ≡ length all → IsFilled says all count size slots → slots ≡ map says all
-filled_all {X} says all count size slots read same filled =
-    same_lists slots (map says all) (filled.many ∙ same ∙ sym (length-map all says))
-    (λ k d l. let there : k < length all = omega (arith, filled.many) in filled.each k d (omega arith) (omega arith) ∙ sym (get_or-map says all k [] d there))
+-- The slots have what the first words say.
+pub filled_all : {X : Type 0} (says : List ℕ → X) (all : List (List ℕ)) (count size : ℕ) (slots : List X) → size ≤ count → size ≤ length all → IsFilled says all count size slots → slots ≡ map says (take size all)
+filled_all {X} says all count size slots read fits filled =
+    let long : length (take size all) ≡ size = length-take-le size all fits in
+    same_lists slots (map says (take size all)) (filled.many ∙ sym long ∙ sym (length-map (take size all) says))
+    (λ k d l. let there : k < size = omega (arith, filled.many) in
+    filled.each k d (omega arith) there ∙ sym (get_or-map says (take size all) k [] d (omega arith) ∙ ap says (get_or-take size all k [] there)))
 
 -- What a test gives, where it gives something, and where it gives nothing.
 pub some_from : {X : Type 0} (t : Bool) (x y : X) → cond t (Some x) None ≡ Some y → (t ≡ true) × (y ≡ x)
@@ -90,8 +97,26 @@ pub none_from : {X : Type 0} (t : Bool) (x : X) → cond t (Some x) None ≡ Non
 none_from true x is = cc
 none_from false x is = refl
 
+-- A `v` line says no face.
+vertex_capped : (line vertices : ℕ) (words : List (List ℕ)) → with_capped (vertex_reading line vertices words) ≡ vertex_reading line vertices words
+vertex_capped line vertices words = by_tests (leb (2 ^ 21) vertices) (not (is_place_count (length words) && list_all is_decimal words)) (list_any (λ w. is_far (rounded w)) (take 3 words))
+  where
+    by_tests : (many bad far : Bool) → with_capped (cond many (Refused (Limit Vertices line)) (cond bad (Refused (Syntax line)) (cond far (Refused (Range line)) (Place (map rounded (take 3 words))))))
+        ≡ cond many (Refused (Limit Vertices line)) (cond bad (Refused (Syntax line)) (cond far (Refused (Range line)) (Place (map rounded (take 3 words)))))
+    by_tests true bad far = refl
+    by_tests false true far = refl
+    by_tests false false true = refl
+    by_tests false false false = refl
+
 -- What the first word and the words behind it say.
 pub by_first_word : (line vertices faces : ℕ) (all rest : List (List ℕ)) (first : List ℕ) → all ≡ with_word first rest
-    → words_reading line vertices faces all ≡ cond (is_letter 118 first) (vertex_reading line vertices rest) (cond (is_letter 102 first) (face_reading line vertices faces rest) Passed)
-by_first_word line vertices faces all rest [] is = ap (words_reading line vertices faces) is
-by_first_word line vertices faces all rest (b ∷ bs) is = ap (words_reading line vertices faces) is
+    → with_capped (words_reading line vertices faces all) ≡ cond (is_letter 118 first) (vertex_reading line vertices rest) (cond (is_letter 102 first) (with_capped (face_reading line vertices faces rest)) Passed)
+by_first_word line vertices faces all rest [] is = ap (λ ws. with_capped (words_reading line vertices faces ws)) is
+by_first_word line vertices faces all rest (b ∷ bs) is =
+    ap (λ ws. with_capped (words_reading line vertices faces ws)) is ∙ by_letter (is_letter 118 (b ∷ bs)) (is_letter 102 (b ∷ bs))
+  where
+    by_letter : (v f : Bool) → with_capped (cond v (vertex_reading line vertices rest) (cond f (face_reading line vertices faces rest) Passed))
+        ≡ cond v (vertex_reading line vertices rest) (cond f (with_capped (face_reading line vertices faces rest)) Passed)
+    by_letter true f = vertex_capped line vertices rest
+    by_letter false true = refl
+    by_letter false false = refl

@@ -1,9 +1,12 @@
 -- Words one after another, and what a reader keeps of the lines.
-use Rattle.std.specs.Prelude.{◌≡◌, ◌<◌, ℕ, ℤ, List, [], ◌∷◌, length, slice_index_or}
+use Rattle.std.specs.Prelude.{◌≡◌, ◌<◌, ℕ, ℤ, List, [], ◌∷◌, ◌++◌, length, map, slice_index_or}
 use Rattle.std.specs.List.{flat_map}
-use Rattle.def_text.specs.Text.{faces, logical_lines, places, readings, refusal_in}
+use Rattle.def_text.specs.Logical.{Logical, joined, size_of}
+use Rattle.def_text.specs.Reading.{reading}
+use Rattle.def_text.specs.Text.{face_in, faces, place_in, places, readings, refusal_in}
 use Rattle.def_text.specs.declared.reading.Reading.{Reading}
 use Rattle.def_text.specs.declared.reading.Reading.TheVariants.{Passed, Place, Face, Refused}
+use Rattle.qm_obj.specs.Indices.{capped, with_capped}
 
 -- A word in front of others, where it is one.
 abbrev pub with_word : List ℕ → List (List ℕ) → List (List ℕ)
@@ -17,12 +20,34 @@ line_in Passed = []
 line_in (Place _) = []
 line_in (Refused _) = []
 
--- These are all places, all faces and the lines of the faces in some physical lines, none of which is refused.
-pub record HasRead (number : ℕ) (lines : List (List ℕ)) (kept : List (List ℤ)) (corners : List (List ℕ)) (numbers : List ℕ) : Type 0 where
-  pub accepted : flat_map refusal_in (readings [] (logical_lines number lines)) ≡ []
-  pub places_are : kept ≡ places (readings [] (logical_lines number lines))
-  pub faces_are : corners ≡ faces (readings [] (logical_lines number lines))
-  pub lines_are : numbers ≡ flat_map line_in (readings [] (logical_lines number lines))
+-- The logical line that begins these physical lines.
+abbrev pub first_logical : ℕ → List (List ℕ) → Logical
+first_logical number lines = record { number = number; size = size_of lines; text = joined lines }
+
+-- What the next line says, behind as many `v` lines and `f` lines as there are places and faces.
+abbrev pub next_said : List (List ℤ) → List (List ℕ) → Logical → Reading
+next_said places faces line = with_capped (reading (length places) (length faces) line)
+
+-- What a reader keeps grew by what a line says, which is no refusal.
+pub record Took (places places' : List (List ℤ)) (faces faces' : List (List ℕ)) (lines lines' : List ℕ) (said : Reading) : Type 0 where
+  pub accepted : refusal_in said ≡ []
+  pub place : places' ≡ places ++ place_in said
+  pub face : faces' ≡ faces ++ face_in said
+  pub line : lines' ≡ lines ++ line_in said
+
+-- These are all places, all faces with capped corners, and the lines of the faces in some logical lines, none of which
+-- is refused.
+pub record HasRead (lines : List Logical) (kept : List (List ℤ)) (corners : List (List ℕ)) (numbers : List ℕ) : Type 0 where
+  pub accepted : flat_map refusal_in (readings [] lines) ≡ []
+  pub places_are : kept ≡ places (readings [] lines)
+  pub faces_are : corners ≡ map (λ face. map capped face) (faces (readings [] lines))
+  pub lines_are : numbers ≡ flat_map line_in (readings [] lines)
+
+-- The same of the front of all logical lines, of which these are the rest.
+pub record HasReadTo (all rest : List Logical) (kept : List (List ℤ)) (corners : List (List ℕ)) (numbers : List ℕ) : Type 0 where
+  pub done : List Logical
+  pub split : all ≡ done ++ rest
+  pub has : HasRead done kept corners numbers
 
 -- The slot at k has what the word at k says, as far as so many words and the slots go.
 pub record IsFilled {X : Type 0} (says : List ℕ → X) (words : List (List ℕ)) (count size : ℕ) (slots : List X) : Type 0 where

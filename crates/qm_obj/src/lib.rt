@@ -1,14 +1,26 @@
 //! Reading OBJ text into a soup, line by line, and writing the canonical text.
 #![tactic(auto)]
 
+mod corner;
+mod joining;
+mod law;
 mod line;
 mod number;
+mod piece;
+mod place;
 mod read;
 mod reader;
+#[cfg(test)]
+mod tests;
 mod text;
 mod used;
 mod words;
 
+pub use corner::read_index;
+pub use def_text::{Index, Micro, ObjFail, Soup, Which};
+pub use joining::logical;
+pub use law::reads_back;
+pub use piece::Logical;
 pub use read::read_obj;
 pub use text::obj_text;
 

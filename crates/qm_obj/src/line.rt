@@ -1,12 +1,13 @@
-ghost use Rattle.std.specs.Prelude.{◌≡◌, ◌≤◌, ◌^◌, Some, None, if◌then◌else◌, length, slice_set};
-ghost use Rattle.def_text.specs.Reading.{face_reading, is_comment, is_index, is_letter, is_special, reading, vertex_reading};
+ghost use Rattle.std.specs.Prelude.{◌≡◌, ◌≤◌, ◌==◌, length, slice_set};
 ghost use Rattle.std.specs.List.{list_any};
-ghost use Rattle.def_text.specs.Digits.{number};
+ghost use Rattle.def_text.specs.Reading.{face_reading, is_letter, is_place_count, reading, vertex_reading};
 ghost use Rattle.def_text.specs.Words.{words};
+ghost use Rattle.qm_obj.specs.Indices.{with_capped};
 
-use crate::number::{read_number, read_plain};
+use crate::corner::read_corner;
+use crate::place::{read_coordinate, read_place};
 use crate::words::next_word;
-use def_text::{Micro, ObjFail, Reading};
+use def_text::{ObjFail, Reading, Which};
 
 const MAX_LINE: usize = 65_536;
 
@@ -14,20 +15,17 @@ const MAX_VERTICES: u32 = 2_097_152;
 
 const MAX_FACES: u32 = 1_048_576;
 
-/// What a logical line says after so many `v` and `f` lines.
+/// What a logical line of `size` bytes says after so many `v` and `f` lines. Corners above `u32::MAX` are capped.
 #[tactic(auto, using(crate::proofs::WordLemmas::by_first_word))]
-pub(crate) fn read_line(line: u32, vertices: u32, faces: u32, text: &[u8]) -> Reading
-    requires { vertices ≤ 2 ^ 21 }
-    ensures { result ≡ reading vertices faces (record { number = line; size = length text.now; text = text.now }) }
+pub(crate) fn read_line(line: u32, vertices: u32, faces: u32, size: usize, text: &[u8]) -> Reading
+    requires { length text.now ≤ size }
+    ensures { result ≡ with_capped (reading vertices faces (record { number = line; size = size; text = text.now })) }
 {
-    if text.len() > MAX_LINE {
-        return refused(line);
-    }
-    if begins_comment(text) {
-        return Reading::Passed;
-    }
-    if has_special(text) {
-        return refused(line);
+    if size > MAX_LINE {
+        return Reading::Refused(ObjFail::Limit {
+            which: Which::Line,
+            line,
+        });
     }
     let (first, rest) = next_word(text);
     if is_one(first, b'v') {
@@ -39,21 +37,6 @@ pub(crate) fn read_line(line: u32, vertices: u32, faces: u32, text: &[u8]) -> Re
     }
 }
 
-fn begins_comment(text: &[u8]) -> bool
-    ensures { result ≡ is_comment text.now }
-{
-    match text {
-        [first, ..] => *first == b'#',
-        [] => false,
-    }
-}
-
-fn has_special(text: &[u8]) -> bool
-    ensures { result ≡ list_any is_special text.now }
-{
-    text.iter().any(|byte| *byte == b'#' || *byte == b'\\')
-}
-
 fn is_one(word: &[u8], letter: u8) -> bool
     ensures { result ≡ is_letter letter word.now }
 {
@@ -63,19 +46,16 @@ fn is_one(word: &[u8], letter: u8) -> bool
     }
 }
 
-fn refused(line: u32) -> Reading
-    ensures { result ≡ Reading.Refused (ObjFail.Syntax line) }
-{
-    Reading::Refused(ObjFail::Syntax { line })
-}
-
 fn read_vertex(line: u32, vertices: u32, text: &[u8]) -> Reading
     ensures { result ≡ vertex_reading line vertices (words text.now) }
 {
     if vertices >= MAX_VERTICES {
-        return refused(line);
+        return Reading::Refused(ObjFail::Limit {
+            which: Which::Vertices,
+            line,
+        });
     }
-    let mut place = [Micro { n: 0 }; 3];
+    let mut slots = [None; 3];
     let mut count = 0;
     let mut rest = text;
     'words: loop {
@@ -83,18 +63,26 @@ fn read_vertex(line: u32, vertices: u32, text: &[u8]) -> Reading
         if word.is_empty() {
             break;
         }
-        let Some(number) = read_plain(word) else {
-            return refused(line);
+        let Some(number) = read_coordinate(word) else {
+            return Reading::Refused(ObjFail::Syntax { line });
         };
-        put(&mut place, count, number);
+        put(&mut slots, count, number);
         count += 1;
         rest = after;
     }
-    if count == 3 {
-        Reading::Place(place)
-    } else {
-        refused(line)
+    if !is_right_count(count) {
+        return Reading::Refused(ObjFail::Syntax { line });
     }
+    match read_place(slots) {
+        Some(place) => Reading::Place(place),
+        None => Reading::Refused(ObjFail::Range { line }),
+    }
+}
+
+fn is_right_count(count: usize) -> bool
+    ensures { result ≡ is_place_count count }
+{
+    count == 3 || count == 4 || count == 6 || count == 7
 }
 
 fn put<T: Copy>(slots: &mut [T], i: usize, value: T)
@@ -106,11 +94,14 @@ fn put<T: Copy>(slots: &mut [T], i: usize, value: T)
 }
 
 fn read_face(line: u32, vertices: u32, faces: u32, text: &[u8]) -> Reading
-    requires { vertices ≤ 2 ^ 21 }
-    ensures { result ≡ face_reading line vertices faces (words text.now) }
+    requires { length text.now ≤ 65_536 }
+    ensures { result ≡ with_capped (face_reading line vertices faces (words text.now)) }
 {
     if faces >= MAX_FACES {
-        return refused(line);
+        return Reading::Refused(ObjFail::Limit {
+            which: Which::Faces,
+            line,
+        });
     }
     let mut corners = [0; 4];
     let mut count = 0;
@@ -120,26 +111,27 @@ fn read_face(line: u32, vertices: u32, faces: u32, text: &[u8]) -> Reading
         if word.is_empty() {
             break;
         }
-        let Some(corner) = read_index(word, vertices) else {
-            return refused(line);
+        let Some(corner) = read_corner(word, vertices) else {
+            return Reading::Refused(ObjFail::Syntax { line });
         };
         put(&mut corners, count, corner);
         count += 1;
         rest = after;
     }
-    if count == 4 {
-        Reading::Face { line, corners }
-    } else {
-        refused(line)
+    if count != 4 {
+        return Reading::Refused(ObjFail::NotQuad {
+            line,
+            corners: count as u32,
+        });
     }
+    if names_none(&corners) {
+        return Reading::Refused(ObjFail::Range { line });
+    }
+    Reading::Face { line, corners }
 }
 
-fn read_index(word: &[u8], vertices: u32) -> Option<u32>
-    requires { vertices ≤ 2 ^ 21 }
-    ensures { result ≡ (if is_index vertices word.now then Some (number word.now) else None) }
+fn names_none(corners: &[u32; 4]) -> bool
+    ensures { result ≡ list_any (λ corner. corner == 0) corners.now }
 {
-    match read_number(word) {
-        Some(k) if 0 < k && k <= vertices => Some(k),
-        _ => None,
-    }
+    corners.contains(&0)
 }

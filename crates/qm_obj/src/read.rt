@@ -1,7 +1,11 @@
-ghost use Rattle.std.specs.Prelude.{◌≡◌, ◌≢◌, ◌≤◌, ◌+◌, ◌^◌, Ok, Err, length, slice_range, IfOk, IfErr};
+ghost use Rattle.std.specs.Prelude.{◌≡◌, ◌≢◌, ◌≤◌, ◌<◌, ◌+◌, ◌^◌, Ok, Err, length, slice_range, IfOk, OnOk, IfErr};
+ghost use Rattle.def_text.specs.Logical.{span};
 ghost use Rattle.def_text.specs.Text.{text_soup};
+ghost use Rattle.def_text.specs.declared.reading.Reading.TheVariants.{Refused};
 ghost use Rattle.qm_io.specs.Lines.{lines_of};
+ghost use Rattle.qm_obj.specs.Lines.{first_logical, next_said, Took};
 
+use crate::joining::{before_comment, goes_on, join};
 use crate::reader::Reader;
 use def_text::{ObjFail, Soup};
 use qm_io::Lines;
@@ -18,10 +22,72 @@ pub fn read_obj(alloc: Global, lines: &Lines, first: u32, after: u32) -> Result<
         → text_soup (first + 1) (slice_range (lines_of lines.now) first after) ≡ Err fail) }
 {
     let mut reader = Reader::new(alloc);
-    for i in first..after {
-        if let Err(fail) = reader.take(i + 1, lines.line(i)) {
-            return Err(fail);
+    let mut i = first;
+    while i < after {
+        match take_logical(alloc, &mut reader, lines, i, after) {
+            Ok(next) => i = next,
+            Err(fail) => return Err(fail),
         }
     }
     reader.finish(alloc)
+}
+
+/// Takes the logical line that begins with physical line `i`, and answers the first that is not joined to it.
+fn take_logical(
+    alloc: Global,
+    reader: &mut Reader,
+    lines: &Lines,
+    i: u32,
+    after: u32,
+) -> Result<u32, ObjFail>
+    requires begins { i < after }
+    requires within { after ≤ length (lines_of lines.now) }
+    requires vertices { length reader.old.places.items ≤ 2 ^ 21 }
+    requires faces { length reader.old.faces.items ≤ 2 ^ 20 }
+    ensures next { IfOk result (λ next. next ≡ i + span (slice_range (lines_of lines.now) i after)) }
+    ensures kept { OnOk result (Took reader.old.places.items reader.new.places.items reader.old.faces.items reader.new.faces.items
+        reader.old.lines.items reader.new.lines.items
+        (next_said reader.old.places.items reader.old.faces.items
+        (first_logical (i + 1) (slice_range (lines_of lines.now) i after)))) }
+    ensures refused { IfErr result (λ fail. fail ≢ ObjFail.Memory →
+        next_said reader.old.places.items reader.old.faces.items
+        (first_logical (i + 1) (slice_range (lines_of lines.now) i after)) ≡ Refused fail) }
+{
+    let line = lines.line(i);
+    if goes_on(line) {
+        return take_joined(alloc, reader, lines, i, after);
+    }
+    match reader.take(i + 1, line.len(), before_comment(line)) {
+        Ok(()) => Ok(i + 1),
+        Err(fail) => Err(fail),
+    }
+}
+
+fn take_joined(
+    alloc: Global,
+    reader: &mut Reader,
+    lines: &Lines,
+    i: u32,
+    after: u32,
+) -> Result<u32, ObjFail>
+    requires begins { i < after }
+    requires within { after ≤ length (lines_of lines.now) }
+    requires vertices { length reader.old.places.items ≤ 2 ^ 21 }
+    requires faces { length reader.old.faces.items ≤ 2 ^ 20 }
+    ensures next { IfOk result (λ next. next ≡ i + span (slice_range (lines_of lines.now) i after)) }
+    ensures kept { OnOk result (Took reader.old.places.items reader.new.places.items reader.old.faces.items reader.new.faces.items
+        reader.old.lines.items reader.new.lines.items
+        (next_said reader.old.places.items reader.old.faces.items
+        (first_logical (i + 1) (slice_range (lines_of lines.now) i after)))) }
+    ensures refused { IfErr result (λ fail. fail ≢ ObjFail.Memory →
+        next_said reader.old.places.items reader.old.faces.items
+        (first_logical (i + 1) (slice_range (lines_of lines.now) i after)) ≡ Refused fail) }
+{
+    let Ok(joined) = join(alloc, lines, i, after) else {
+        return Err(ObjFail::Memory);
+    };
+    match reader.take(i + 1, joined.size, &joined.bytes) {
+        Ok(()) => Ok(joined.next),
+        Err(fail) => Err(fail),
+    }
 }

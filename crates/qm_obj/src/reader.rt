@@ -1,9 +1,8 @@
 ghost use Rattle.std.specs.Prelude.{◌≡◌, ◌≢◌, ◌≤◌, ◌<◌, ◌^◌, ◌++◌, ◌∷◌, [], length, nat_lt, None, IsTrue, IfOk, OnOk, IfErr};
 ghost use Rattle.std.specs.List.{list_all};
-ghost use Rattle.def_text.specs.Reading.{reading};
-ghost use Rattle.def_text.specs.Text.{face_in, face_set, place_in, refusal_in};
+ghost use Rattle.def_text.specs.Text.{face_set};
 ghost use Rattle.qm_obj.specs.Kept.{first_late, IsLate};
-ghost use Rattle.qm_obj.specs.Lines.{line_in};
+ghost use Rattle.qm_obj.specs.Lines.{next_said, Took};
 
 use crate::line::read_line;
 use crate::used::{drop_unused, late_line};
@@ -31,26 +30,24 @@ impl Reader {
         }
     }
 
-    /// Takes the next logical line, or answers its refusal.
-    pub(crate) fn take(&mut self, line: u32, text: &[u8]) -> Result<(), ObjFail>
+    /// Takes the next logical line, which has `size` bytes and this text, or answers its refusal.
+    pub(crate) fn take(&mut self, line: u32, size: usize, text: &[u8]) -> Result<(), ObjFail>
         requires vertices { length self.old.places.items ≤ 2 ^ 21 }
         requires faces { length self.old.faces.items ≤ 2 ^ 20 }
-        ensures kept { OnOk result (
-            let said = reading (length self.old.places.items) (length self.old.faces.items)
-            (record { number = line; size = length text.now; text = text.now }) in
-            (refusal_in said ≡ [])
-            × (self.new.places.items ≡ self.old.places.items ++ place_in said)
-            × (self.new.faces.items ≡ self.old.faces.items ++ face_in said)
-            × (self.new.lines.items ≡ self.old.lines.items ++ line_in said)
-            ) }
+        requires cut { length text.now ≤ size }
+        ensures kept { OnOk result (Took self.old.places.items self.new.places.items self.old.faces.items self.new.faces.items
+            self.old.lines.items self.new.lines.items
+            (next_said self.old.places.items self.old.faces.items
+            (record { number = line; size = size; text = text.now }))) }
         ensures refused { IfErr result (λ fail. fail ≢ ObjFail.Memory →
-            reading (length self.old.places.items) (length self.old.faces.items)
-            (record { number = line; size = length text.now; text = text.now }) ≡ Reading.Refused fail) }
+            next_said self.old.places.items self.old.faces.items
+            (record { number = line; size = size; text = text.now }) ≡ Reading.Refused fail) }
     {
         match read_line(
             line,
             self.places.len() as u32,
             self.faces.len() as u32,
+            size,
             text,
         ) {
             Reading::Passed => Ok(()),

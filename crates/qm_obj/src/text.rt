@@ -1,10 +1,11 @@
-ghost use Rattle.std.specs.Prelude.{◌≡◌, ◌<◌, ◌^◌, ◌++◌, drop, OnOk, IfOk};
+ghost use Rattle.std.specs.Prelude.{◌≡◌, ◌++◌, OnOk, IfOk};
 ghost use Rattle.std.specs.List.{flat_map};
-ghost use Rattle.def_text.specs.Canonical.{canonical_text, face_text, fraction_text, micro_text, place_text, without_zeros};
+ghost use Rattle.def_text.specs.Canonical.{canonical_text, face_text, micro_text, place_text};
 
 use crate::Memory;
 use def_text::{Micro, Soup};
 use itoa::Buffer;
+use qm_dec::write_micro;
 use std::alloc::Global;
 
 /// The canonical text: a line `v x y z` for each vertex, then a line `f a b c d` for each face.
@@ -41,54 +42,18 @@ fn push_place(text: &mut Vec<u8>, place: &[Micro; 3]) -> Result<(), Memory>
     text.push(b'v')?;
     for number in place {
         text.push(b' ')?;
-        push_micro(text, number)?;
+        push_micro(text, *number)?;
     }
     text.push(b'\n')?;
     Ok(())
 }
 
-fn push_micro(text: &mut Vec<u8>, number: &Micro) -> Result<(), Memory>
-    ensures { OnOk result (text.new.items ≡ text.old.items ++ micro_text number.now) }
+fn push_micro(text: &mut Vec<u8>, number: Micro) -> Result<(), Memory>
+    ensures { OnOk result (text.new.items ≡ text.old.items ++ micro_text number) }
 {
-    if number.n < 0 {
-        text.push(b'-')?;
-    }
-    let size = number.n.unsigned_abs();
-    let mut buffer = Buffer::new();
-    text.extend_from_slice(buffer.format(size / 1_000_000).as_bytes())?;
-    push_fraction(text, size % 1_000_000)
-}
-
-fn push_fraction(text: &mut Vec<u8>, rest: u64) -> Result<(), Memory>
-    requires { rest < 10 ^ 6 }
-    ensures { OnOk result (text.new.items ≡ text.old.items ++ fraction_text rest) }
-{
-    if rest == 0 {
-        return Ok(());
-    }
-    let mut buffer = Buffer::new();
-    text.push(b'.')?;
-    text.extend_from_slice(strip_zeros(behind_first(buffer.format(1_000_000 + rest).as_bytes())))
-}
-
-fn behind_first(digits: &[u8]) -> &[u8]
-    ensures { result.now ≡ drop 1 digits.now }
-{
-    match digits {
-        [] => digits,
-        [_, rest @ ..] => rest,
-    }
-}
-
-#[tactic(auto, using(crate::proofs::TextLemmas::trims))]
-fn strip_zeros(digits: &[u8]) -> &[u8]
-    ensures { result.now ≡ without_zeros digits.now }
-{
-    let mut left = digits;
-    while let [front @ .., b'0'] = left {
-        left = front;
-    }
-    left
+    let mut digits = [0; 24];
+    let end = write_micro(&mut digits, number);
+    text.extend_from_slice(&digits[..end])
 }
 
 fn push_face(text: &mut Vec<u8>, face: &[u32; 4]) -> Result<(), Memory>

@@ -1,4 +1,4 @@
-ghost use Rattle.std.specs.Prelude.{◌≡◌, ◌<◌, ◌≤◌, ◌==◌, false, length, slice_index};
+ghost use Rattle.std.specs.Prelude.{◌≡◌, ◌<◌, ◌≤◌, ◌==◌, false, drop, length, slice_index};
 ghost use Rattle.std.specs.List.{position_or_len};
 ghost use Rattle.def_text.specs.Words.{is_blank, words};
 ghost use Rattle.qm_obj.specs.Lines.{with_word};
@@ -6,7 +6,8 @@ ghost use Rattle.qm_obj.specs.Lines.{with_word};
 /// The first word of a text and what follows it. The word is empty where there is none.
 #[tactic(auto, using(crate::proofs::WordLemmas::first_word))]
 pub(crate) fn next_word(text: &[u8]) -> (&[u8], &[u8])
-    ensures { words text.now ≡ with_word result.0.now (words result.1.now) }
+    ensures first { words text.now ≡ with_word result.0.now (words result.1.now) }
+    ensures rest { length result.1.now ≤ length text.now }
 {
     let rest = skip_blanks(text);
     rest.split_at(word_end(rest))
@@ -45,6 +46,7 @@ pub(crate) fn find_byte(text: &[u8], wanted: u8) -> usize
 
 fn skip_blanks(text: &[u8]) -> &[u8]
     ensures same { words result.now ≡ words text.now }
+    ensures rest { length result.now ≤ length text.now }
     ensures at_word { 0 < length result.now → is_blank (slice_index result.now 0) ≡ false }
 {
     let mut rest = text;
@@ -52,4 +54,14 @@ fn skip_blanks(text: &[u8]) -> &[u8]
         rest = after;
     }
     rest
+}
+
+/// A text without its first byte.
+pub(crate) fn behind_first(text: &[u8]) -> &[u8]
+    ensures { result.now ≡ drop 1 text.now }
+{
+    match text {
+        [] => text,
+        [_, rest @ ..] => rest,
+    }
 }

@@ -28,7 +28,9 @@ fn words_of(rt: &(impl Env + AllocGlobal)) -> Result<Vec<String>, AllocError> {
                 words.push(word)?;
             }
         }
-        Err(error) if error.kind() == ErrorKind::InvalidData => words.push(String::new(rt.alloc()))?,
+        Err(error) if error.kind() == ErrorKind::InvalidData => words.push(String::new(
+            rt.alloc(),
+        ))?,
         Err(_) => return Err(AllocError),
     }
     Ok(words)

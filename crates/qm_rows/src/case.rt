@@ -12,9 +12,11 @@ pub(crate) fn passes<R: Files + AllocGlobal>(rt: &R, name: &str) -> io::Result<b
     let mut err = MemSink::new(rt.alloc(), 4096, Vec::new(rt.alloc()));
     let status = run(rt.alloc(), &words, &mut input, &mut out, &mut err).status();
     let want = part(rt, name, "status")?;
-    Ok(want.as_str().trim().parse::<u8>() == Ok(status)
-        && out.taken() == bytes_of(rt, name, "out")?.as_slice()
-        && err.taken() == bytes_of(rt, name, "err")?.as_slice())
+    Ok(
+        want.as_str().trim().parse::<u8>() == Ok(status)
+            && out.taken() == bytes_of(rt, name, "out")?.as_slice()
+            && err.taken() == bytes_of(rt, name, "err")?.as_slice(),
+    )
 }
 
 fn part<R: Files + AllocGlobal>(rt: &R, name: &str, file: &str) -> io::Result<String> {

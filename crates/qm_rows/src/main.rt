@@ -4,9 +4,9 @@
 mod case;
 
 use case::passes;
-use std::io;
 use std::process::ExitCode;
-use std::{fs, vec::Vec};
+use std::vec::Vec;
+use std::{fs, io};
 
 fn main(rt: HostRuntime) -> io::Result<ExitCode> {
     let mut names = Vec::new(rt.alloc());

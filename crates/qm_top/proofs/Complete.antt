@@ -27,7 +27,7 @@ not_refused : (before after : Option (List ℕ)) (fail : ObjFail) → IsGood bef
 not_refused before after fail good bad =
     let same = same_bytes before after bad.bytes good.bytes good.told bad.whole.given bad.whole.ended in
     let both : ◌≡◌ {A = Result FaceSet ObjFail} (Ok good.soup) (Err fail) =
-        sym good.said ∙ ap (λ (xs : List ℕ). text_soup 1 (lines_of xs)) (sym same) ∙ bad.said in
+    sym good.said ∙ ap (λ (xs : List ℕ). text_soup 1 (lines_of xs)) (sym same) ∙ bad.said in
     cc
 
 -- It is not too long.
@@ -46,7 +46,7 @@ not_faulty : (before after : Option (List ℕ)) (place : Place) → IsGood befor
 not_faulty before after place good bad =
     let same = same_bytes before after bad.read.bytes good.bytes good.told bad.read.whole.given bad.read.whole.ended in
     let both : ◌≡◌ {A = Result FaceSet ObjFail} (Ok good.soup) (Ok bad.soup) =
-        sym good.said ∙ ap (λ (xs : List ℕ). text_soup 1 (lines_of xs)) (sym same) ∙ bad.read.said in
+    sym good.said ∙ ap (λ (xs : List ℕ). text_soup 1 (lines_of xs)) (sym same) ∙ bad.read.said in
     let soup : good.soup ≡ bad.soup = cc in
     bad.refuted (subst (λ (s : FaceSet). IsManifold s.faces) soup good.manifold)
 

@@ -1,4 +1,3 @@
 mod Complete
 mod NeverBytes
 mod Refusals
-mod SoupFaces

@@ -1,11 +1,14 @@
 -- No line of a text is refused for the number of all bytes.
-use Rattle.std.proofs.Common.{◌≡◌, ℕ, ◌+◌, ◌^◌, ◌==◌, ◌&&◌, nat_lt, Bool, true, false, if◌then◌else◌, Result, Ok, Err, List, [], ◌∷◌, ◌++◌, length, refl, sym, ◌∙◌, ap}
+use Rattle.std.proofs.Common.{◌≡◌, ℕ, ◌+◌, ◌^◌, ◌==◌, ◌&&◌, nat_le, nat_lt, not, Bool, true, false, if◌then◌else◌, Result, Ok, Err, List, [], ◌∷◌, ◌++◌, length, take, refl, sym, ◌∙◌, ap}
 use Rattle.std.specs.List.{count_by, flat_map, list_all, list_any}
 use Rattle.std.proofs.lemmas.Bool.{and_parts, false≢true}
 use Rattle.std.proofs.lemmas.List.Folds.{list_all-append}
 use Rattle.def_text.specs.FaceSet.{FaceSet}
-use Rattle.def_text.specs.Reading.{Logical, begins_with, face_reading, is_comment, is_face_line, is_index, is_plain, is_special, is_vertex_line, reading, vertex_reading, words_reading}
-use Rattle.def_text.specs.Text.{first_refusal, late_in, places, readings, refusal_in, refusals, logical_lines, text_soup}
+use Rattle.def_text.specs.Corner.{is_corner, is_out, used_index}
+use Rattle.def_text.specs.Decimal.{is_decimal, is_far, rounded}
+use Rattle.def_text.specs.Logical.{Logical, logical_lines}
+use Rattle.def_text.specs.Reading.{face_reading, is_face_line, is_letter, is_place_count, is_vertex_line, reading, vertex_reading, words_reading}
+use Rattle.def_text.specs.Text.{first_refusal, late_in, places, readings, refusal_in, refusals, text_soup}
 use Rattle.def_text.specs.Words.{words}
 use Rattle.def_text.specs.declared.reading.Reading.{Reading}
 use Rattle.def_text.specs.declared.reading.Reading.TheVariants.{Passed, Place, Face, Refused}
@@ -38,22 +41,25 @@ fine_if true a b x y = x
 fine_if false a b x y = y
 
 fine_vertex : (n v : ℕ) (ws : List (List ℕ)) → IsFine (vertex_reading n v ws)
-fine_vertex n v ws = fine_if (nat_lt v (2 ^ 21) && (length ws == 3 && list_all is_plain ws)) _ _ refl refl
+fine_vertex n v ws =
+    fine_if (nat_le (2 ^ 21) v) _ _ refl
+    (fine_if (not (is_place_count (length ws) && list_all is_decimal ws)) _ _ refl
+    (fine_if (list_any (λ w. is_far (rounded w)) (take 3 ws)) _ _ refl refl))
 
 fine_face : (n v f : ℕ) (ws : List (List ℕ)) → IsFine (face_reading n v f ws)
-fine_face n v f ws = fine_if (nat_lt f (2 ^ 20) && (length ws == 4 && list_all (is_index v) ws)) _ _ refl refl
+fine_face n v f ws =
+    fine_if (nat_le (2 ^ 20) f) _ _ refl
+    (fine_if (not (list_all is_corner ws)) _ _ refl
+    (fine_if (not (length ws == 4)) _ _ refl
+    (fine_if (list_any (λ w. is_out v (used_index w)) ws) _ _ refl refl)))
 
 fine_words : (n v f : ℕ) (ws : List (List ℕ)) → IsFine (words_reading n v f ws)
 fine_words n v f [] = refl
 fine_words n v f (w ∷ ws) =
-    fine_if (begins_with 118 (w ∷ ws)) _ _ (fine_vertex n v ws)
-      (fine_if (begins_with 102 (w ∷ ws)) _ _ (fine_face n v f ws) refl)
+    fine_if (is_letter 118 w) _ _ (fine_vertex n v ws) (fine_if (is_letter 102 w) _ _ (fine_face n v f ws) refl)
 
 fine_reading : (v f : ℕ) (line : Logical) → IsFine (reading v f line)
-fine_reading v f line =
-    fine_if (nat_lt 65536 line.size) _ _ refl
-      (fine_if (is_comment line.text) _ _ refl
-        (fine_if (list_any is_special line.text) _ _ refl (fine_words line.number v f (words line.text))))
+fine_reading v f line = fine_if (nat_lt 65536 line.size) _ _ refl (fine_words line.number v f (words line.text))
 
 -- Two lists of fine refusals make one.
 fine_both : (xs ys : List ObjFail) → list_all is_fine xs ≡ true → list_all is_fine ys ≡ true → list_all is_fine (xs ++ ys) ≡ true
@@ -63,9 +69,9 @@ fine_readings : (before lines : List Logical) → list_all is_fine (flat_map ref
 fine_readings before [] = refl
 fine_readings before (line ∷ lines) =
     fine_both (refusal_in (reading (count_by is_vertex_line before) (count_by is_face_line before) line))
-      (flat_map refusal_in (readings (before ++ line ∷ []) lines))
-      (fine_reading (count_by is_vertex_line before) (count_by is_face_line before) line)
-      (fine_readings (before ++ line ∷ []) lines)
+    (flat_map refusal_in (readings (before ++ line ∷ []) lines))
+    (fine_reading (count_by is_vertex_line before) (count_by is_face_line before) line)
+    (fine_readings (before ++ line ∷ []) lines)
 
 fine_late : (n : ℕ) (r : Reading) → list_all is_fine (late_in n r) ≡ true
 fine_late n Passed = refl
@@ -95,6 +101,6 @@ pub never_bytes : (n : ℕ) (lines : List (List ℕ)) (line : ℕ)
 never_bytes n lines line is =
     let said : List Reading = readings [] (logical_lines n lines) in
     let all : list_all is_fine (refusals said) ≡ true =
-        fine_both (flat_map refusal_in said) (flat_map (late_in (length (places said))) said)
-          (fine_readings [] (logical_lines n lines)) (fine_lates (length (places said)) said) in
+    fine_both (flat_map refusal_in said) (flat_map (late_in (length (places said))) said)
+    (fine_readings [] (logical_lines n lines)) (fine_lates (length (places said)) said) in
     false≢true (first_fine (refusals said) _ (Limit Bytes line) all is)

@@ -6,7 +6,6 @@ use Rattle.def_run.specs.Causes.{AreNames, IsFirstFault, IsRefusedFor}
 use Rattle.def_run.specs.ErrorLines.{error_line}
 use Rattle.def_run.specs.declared.answer.Answer.{Answer}
 use Rattle.def_run.specs.declared.answer.Answer.TheVariants.{Done, Usage, Syntax, NotQuad, Range, Limit, NotManifold, ReadFault, WriteFault, Memory}
-
 use Rattle.qm_io.specs.declared.reading.ReadFail.{ReadFail}
 use Rattle.qm_io.specs.declared.reading.ReadFail.TheVariants as read
 use Rattle.def_text.specs.declared.refusal.ObjFail.{ObjFail}

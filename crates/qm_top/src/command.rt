@@ -3,12 +3,11 @@ ghost use Rattle.qm_io.specs.Causes.{Rose};
 ghost use Rattle.def_run.specs.CommandLines.{IsTidy};
 ghost use Rattle.def_run.specs.Causes.{IsGood, IsRefusedFor, Said, SaidWhy, Tidied, TidiedFront};
 
+use crate::error_line::{ErrorLine, line_of};
+use crate::tidy::tidy;
 use def_run::Answer;
 use qm_io::{Sink, Source, write_all};
 use std::alloc::Global;
-
-use crate::error_line::{ErrorLine, line_of};
-use crate::tidy::tidy;
 
 /// Runs one command line: `words` are the words after the program's name.
 ///
@@ -26,7 +25,7 @@ pub fn run<S: Source, O: Sink, E: Sink>(
     // What is good is done, unless a stream fails or memory is wanting.
     ensures complete { IsTidy (map string_bytes words.now) → IsGood (S.left input.old) →
         (result ≡ Answer.Done) ⊎ ((result ≡ Answer.Memory) ⊎
-            (Rose (S.faults input.old) (S.faults input.new) ⊎ Rose (O.faults out.old) (O.faults out.new))) }
+        (Rose (S.faults input.old) (S.faults input.new) ⊎ Rose (O.faults out.old) (O.faults out.new))) }
     ensures done { result ≡ Answer.Done →
         Tidied (S.left input.old) (S.left input.new) (O.taken out.old) (O.taken out.new) }
     ensures refused { IsRefusedFor (S.left input.old) (S.left input.new) result }

@@ -22,7 +22,8 @@ pub(crate) fn line_of(answer: &Answer, names: &[u32]) -> ErrorLine
     line
 }
 
-const USAGE: &str = "usage: quadq tidy | graph | refine --by K | remesh --scale P/Q --floor F --weight plain|length | check | bench --size N";
+const USAGE: &str =
+    "usage: quadq tidy | graph | refine --by K | remesh --scale P/Q --floor F --weight plain|length | check | bench --size N";
 
 fn reason_of(answer: &Answer, names: &[u32]) -> ErrorLine
     ensures text { result.bytes ≡ reason_text names.now answer.now }
@@ -31,7 +32,11 @@ fn reason_of(answer: &Answer, names: &[u32]) -> ErrorLine
     match *answer {
         Answer::Done => text_of(""),
         Answer::Usage => text_of(USAGE),
-        Answer::Syntax { line } => numbered("line ", u64::from(line), ": not an OBJ line of this profile"),
+        Answer::Syntax { line } => numbered(
+            "line ",
+            u64::from(line),
+            ": not an OBJ line of this profile",
+        ),
         Answer::NotQuad { line, corners } => corners_of(u64::from(line), u64::from(corners)),
         Answer::Range { line } => numbered("line ", u64::from(line), ": number out of range"),
         Answer::Limit { which, line } => limit_of(which, line),
@@ -73,7 +78,12 @@ fn place_of(place: Place, names: &[u32]) -> ErrorLine
             push_numbered(&mut line, name_of(vertex, names), " repeated");
             line
         }
-        Place::EdgeTwice { from, to, face1, face2 } => {
+        Place::EdgeTwice {
+            from,
+            to,
+            face1,
+            face2,
+        } => {
             let mut line = numbered("edge ", name_of(from, names), " ");
             push_numbered(&mut line, name_of(to, names), ": faces ");
             push_numbered(&mut line, u64::from(face1) + 1, " and ");

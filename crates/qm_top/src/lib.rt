@@ -7,3 +7,6 @@ mod tidy;
 
 pub use command::run;
 pub use def_run::{Answer, Place};
+
+#[cfg(test)]
+mod tests;

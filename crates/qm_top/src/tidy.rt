@@ -1,6 +1,5 @@
 ghost use Rattle.std.specs.Prelude.{◌≡◌, ◌≢◌, ◌≤◌, ◌^◌, ◌<◌, ℕ, List, length, IfOk, IfErr, OnOk, OnErr, IsTrue};
-ghost use Rattle.std.specs.List.{list_all};
-ghost use Rattle.def_text.specs.FaceSet.{are_below, is_used};
+ghost use Rattle.def_mesh.specs.Vertices.{names_below, UsesEach};
 ghost use Rattle.qm_mesh.specs.Refusals.{IsRefusal as IsMeshRefusal};
 ghost use Rattle.qm_io.specs.Causes.{Rose};
 ghost use Rattle.qm_io.specs.Moves.{took, TookFront};
@@ -10,14 +9,13 @@ ghost use Rattle.def_text.specs.Canonical.{canonical_text};
 ghost use Rattle.def_run.specs.ErrorLines.{error_line};
 ghost use Rattle.qm_top.specs.Steps.{answer_of_read, answer_of_text, IsCheck, IsReading, IsRefusal, IsWriting};
 
+use crate::error_line::{ErrorLine, line_of};
 use def_run::{Answer, Place};
 use def_text::{ObjFail, Soup, Which};
 use qm_io::{ReadFail, Sink, Source, read_lines, write_all};
 use qm_mesh::{MeshFail, build};
 use qm_obj::{obj_text, read_obj};
 use std::alloc::Global;
-
-use crate::error_line::{ErrorLine, line_of};
 
 const MAX_BYTES: u32 = 536_870_912;
 
@@ -29,7 +27,11 @@ pub(crate) struct Refusal {
 }
 
 /// Reads a mesh, checks that it is a manifold and writes its canonical text.
-pub(crate) fn tidy<S: Source, O: Sink>(alloc: Global, input: &mut S, out: &mut O) -> Result<(), Refusal>
+pub(crate) fn tidy<S: Source, O: Sink>(
+    alloc: Global,
+    input: &mut S,
+    out: &mut O,
+) -> Result<(), Refusal>
     ensures done { OnOk result (Tidied (S.left input.old) (S.left input.new) (O.taken out.old) (O.taken out.new)) }
     ensures refused { IfErr result (λ r. IsRefusal (S.left input.old) (S.left input.new) r.answer r.line.bytes) }
     ensures untouched { IfErr result (λ r. r.answer ≢ Answer.WriteFault → O.taken out.new ≡ O.taken out.old) }
@@ -115,8 +117,8 @@ fn check(alloc: Global, soup: &Soup) -> Result<(), Answer>
 
 fn check_faces(alloc: Global, vertices: u32, faces: &[[u32; 4]]) -> Result<(), Answer>
     requires few { length faces.now ≤ 2 ^ 20 }
-    requires in_range { IsTrue (list_all (are_below vertices) faces.now) }
-    requires used { (v : ℕ) → v < vertices → IsTrue (is_used faces.now v) }
+    requires within { IsTrue (names_below vertices faces.now) }
+    requires used { UsesEach vertices faces.now }
     ensures manifold { OnOk result (IsManifold faces.now) }
     ensures place { IfErr result (IsCheck faces.now) }
 {
@@ -132,7 +134,17 @@ fn mesh_answer(fail: MeshFail) -> Answer
 {
     match fail {
         MeshFail::Repeated { face, vertex } => not_manifold(Place::Repeated { face, vertex }),
-        MeshFail::EdgeTwice { from, to, face1, face2 } => not_manifold(Place::EdgeTwice { from, to, face1, face2 }),
+        MeshFail::EdgeTwice {
+            from,
+            to,
+            face1,
+            face2,
+        } => not_manifold(Place::EdgeTwice {
+            from,
+            to,
+            face1,
+            face2,
+        }),
         MeshFail::TwoFans { vertex } => not_manifold(Place::TwoFans { vertex }),
         MeshFail::Memory => Answer::Memory,
     }

@@ -1,5 +1,4 @@
-use Rattle.std.proofs.Common.{ℕ, ◌<◌, arith}
-use Rattle.def_mesh.specs.Darts.{from_of}
+use Rattle.std.proofs.Common.{◌<◌, arith}
 use Rattle.qm_mesh.proofs.FanTables.{hold_more}
 use Rattle.qm_mesh.proofs.fans.gather.Goals as goal
 

@@ -1,4 +1,3 @@
-use Rattle.std.proofs.Common.{◌≡◌, ℕ, ◌<◌, length}
 use Rattle.qm_mesh.proofs.OneFan.{AreChecked}
 use Rattle.qm_mesh.proofs.one_fan.check_each.Given as goal
 

@@ -1,4 +1,4 @@
-use Rattle.std.proofs.Common.{not, length}
+use Rattle.std.proofs.Common.{not}
 use Rattle.std.specs.List.{count_by}
 use Rattle.qm_mesh.proofs.Walks.{IsWalkSoFar}
 use Rattle.qm_mesh.proofs.one_fan.turn.Given as goal

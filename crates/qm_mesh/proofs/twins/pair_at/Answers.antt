@@ -1,4 +1,4 @@
-use Rattle.std.proofs.Common.{ℕ, ◌<◌, arith}
+use Rattle.std.proofs.Common.{◌<◌, arith}
 use Rattle.def_mesh.specs.Darts.{darts}
 use Rattle.qm_mesh.proofs.DartLaws.{before_ends, before_low}
 use Rattle.qm_mesh.proofs.Marks.{IsFan, is_fan, pair_more, paired_all}
@@ -15,14 +15,14 @@ partner-requires-clause-within c = c.requires.within _ (before_low _ _ _ c.prev-
 
 pub bounds-twins-e : goal.bounds-twins-e
 bounds-twins-e c =
-  let low : c.prev-e.result < darts c.args.faces.now = before_low _ _ _ c.prev-e.ensures ((is_fan _ _ _ c.requires.fan).dart c.loop-d.d-index c.loop-d-test.true) in
-  omega (arith, c.loop-d.auto.twins, c.requires.long)
+    let low : c.prev-e.result < darts c.args.faces.now = before_low _ _ _ c.prev-e.ensures ((is_fan _ _ _ c.requires.fan).dart c.loop-d.d-index c.loop-d-test.true) in
+    omega (arith, c.loop-d.auto.twins, c.requires.long)
 
 pub loop-d-preserved : goal.loop-d-preserved
 loop-d-preserved c =
-  let h : IsFan c.args.faces.now c.args.v c.args.fan.now = is_fan _ _ _ c.requires.fan in
-  let low : c.prev-e.result < darts c.args.faces.now = before_low _ _ _ c.prev-e.ensures (h.dart c.loop-d.d-index c.loop-d-test.true) in
-  pair_more _ _ _ c.loop-d.d-index _ _ _ _ c.prev-e.ensures (omega (arith, c.loop-d.auto.twins, c.requires.long))
+    let h : IsFan c.args.faces.now c.args.v c.args.fan.now = is_fan _ _ _ c.requires.fan in
+    let low : c.prev-e.result < darts c.args.faces.now = before_low _ _ _ c.prev-e.ensures (h.dart c.loop-d.d-index c.loop-d-test.true) in
+    pair_more _ _ _ c.loop-d.d-index _ _ _ _ c.prev-e.ensures (omega (arith, c.loop-d.auto.twins, c.requires.long))
     (before_ends _ _ _ _ c.prev-e.ensures (h.leaves c.loop-d.d-index c.loop-d-test.true)) c.partner.ensures c.loop-d.invariant
 
 pub returns-clause-arriving : goal.returns-clause-arriving

@@ -1,4 +1,4 @@
-use Rattle.std.proofs.Common.{◌<◌, ◌≡◌, arith, ap, ◌∙◌}
+use Rattle.std.proofs.Common.{arith}
 use Rattle.qm_mesh.proofs.Marks.{each_more, lesser_first}
 use Rattle.qm_mesh.proofs.twins.pair_vertex.Goals as goal
 

@@ -1,7 +1,7 @@
 use Rattle.std.proofs.Common.{◌≡◌, ◌≤◌, true, length, take, drop}
 use Rattle.std.specs.List.{list_all}
-use Rattle.def_text.specs.Digits.{number}
-use Rattle.def_text.specs.Reading.{is_index}
+use Rattle.def_text.specs.Corner.{is_corner}
+use Rattle.qm_obj.specs.Indices.{corner_of}
 use Rattle.def_text.specs.Words.{words}
 use Rattle.qm_obj.specs.Lines.{IsFilled}
 use Rattle.qm_obj.proofs.line.read_face.Given as goal
@@ -10,8 +10,8 @@ abbrev pub invariant-words : goal.invariant-words
 invariant-words l = record {
   within : l.count ≤ length (words l.text);
   rest_is : words l.rest ≡ drop l.count (words l.text);
-  passed : list_all (is_index l.vertices) (take l.count (words l.text)) ≡ true;
-  filled : IsFilled number (words l.text) l.count 4 l.corners;
+  passed : list_all is_corner (take l.count (words l.text)) ≡ true;
+  filled : IsFilled (corner_of l.vertices) (words l.text) l.count 4 l.corners;
 }
 
 abbrev pub decreases-words : goal.decreases-words

@@ -1,6 +1,7 @@
 use Rattle.std.proofs.Common.{◌≡◌, ◌≤◌, true, length, take, drop}
 use Rattle.std.specs.List.{list_all}
-use Rattle.def_text.specs.Reading.{is_plain, millionths}
+use Rattle.def_text.specs.Decimal.{is_decimal}
+use Rattle.qm_obj.specs.Places.{coordinate}
 use Rattle.def_text.specs.Words.{words}
 use Rattle.qm_obj.specs.Lines.{IsFilled}
 use Rattle.qm_obj.proofs.line.read_vertex.Given as goal
@@ -9,8 +10,8 @@ abbrev pub invariant-words : goal.invariant-words
 invariant-words l = record {
   within : l.count ≤ length (words l.text);
   rest_is : words l.rest ≡ drop l.count (words l.text);
-  passed : list_all is_plain (take l.count (words l.text)) ≡ true;
-  filled : IsFilled millionths (words l.text) l.count 3 l.place;
+  passed : list_all is_decimal (take l.count (words l.text)) ≡ true;
+  filled : IsFilled coordinate (words l.text) l.count 3 l.slots;
 }
 
 abbrev pub decreases-words : goal.decreases-words

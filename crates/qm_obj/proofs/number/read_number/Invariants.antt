@@ -7,5 +7,5 @@ use Rattle.qm_obj.proofs.number.read_number.Given as goal
 abbrev pub invariant-loop-byte : goal.invariant-loop-byte
 invariant-loop-byte l = record {
   digits : list_all is_ascii_digit (take l.byte-index l.word) ≡ true;
-  so_far : l.n ≡ min (number (take l.byte-index l.word)) (2 ^ 32 - 1);
+  so_far : l.n ≡ min (number (take l.byte-index l.word)) (2 ^ 64 - 1);
 }

@@ -19,8 +19,7 @@ pub returns-in-len1 : goal.returns-in-len1
 returns-in-len1 c =
     let bytes = one_word c.args.words.now c.word-item.result c.in-len1.len_at_least c.in-len1.len_below c.word-item.is in
     let decides = slice_eq-Decides Decides-eqb c.as_str.result.now (codes "tidy") c.eq.result c.eq.ensures in
-    let value = c.as_str.ensures.value in
-    (
+    let value = c.as_str.ensures.value in (
       λ is. bytes ∙ ap (λ (xs : List ℕ). xs ∷ []) (sym value ∙ decides.0 is),
       λ is. decides.1 (value ∙ head_is (string_bytes c.word-item.result) (codes "tidy") (sym bytes ∙ is)),
     )

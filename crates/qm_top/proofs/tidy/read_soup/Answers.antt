@@ -11,7 +11,7 @@ returns-in-Ok-read_obj-clause-soup g c =
       bytes = c.in-Ok.lines;
       whole = record { given = read.bytes; ended = read.whole; few = read.short };
       said =
-        ap (λ (xs : List (List ℕ)). text_soup 1 xs) (sym (whole_range (lines_of c.in-Ok.lines) c.count.result c.count.ensures))
+          ap (λ (xs : List (List ℕ)). text_soup 1 xs) (sym (whole_range (lines_of c.in-Ok.lines) c.count.result c.count.ensures))
           ∙ c.in-Ok-read_obj.ensures.soup;
     }
 
@@ -19,7 +19,7 @@ pub returns-clause-refused : goal.returns-clause-refused
 returns-clause-refused g c =
     let read = c.in-Ok.ensures in
     text_refused _ _ c.in-Ok.lines c.in-Err-read_obj.fail c.text_answer.result c.text_answer.ensures
-      (record { given = read.bytes; ended = read.whole; few = read.short })
-      (λ some.
-        ap (λ (xs : List (List ℕ)). text_soup 1 xs) (sym (whole_range (lines_of c.in-Ok.lines) c.count.result c.count.ensures))
-          ∙ c.in-Err-read_obj.ensures.refused some)
+    (record { given = read.bytes; ended = read.whole; few = read.short })
+    (λ some.
+    ap (λ (xs : List (List ℕ)). text_soup 1 xs) (sym (whole_range (lines_of c.in-Ok.lines) c.count.result c.count.ensures))
+    ∙ c.in-Err-read_obj.ensures.refused some)

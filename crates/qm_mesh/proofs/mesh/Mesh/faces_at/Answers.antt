@@ -12,10 +12,10 @@ count faces twins fans v fan k l e = ap length (fan_found faces (vertex_count fa
 
 pub overflow_cast-result : goal.overflow_cast-result
 overflow_cast-result c =
-  let k : IsMeshOf c.args.self.now c.self.inside.twins.items c.self.inside.fans.items = subst (λ (f : List (List ℕ)). IsMeshOf f c.self.inside.twins.items c.self.inside.fans.items) c.self.view_is c.self.invariant in
-  omega (arith, c.len.ensures.value, count c.args.self.now _ _ c.args.v _ k c.requires c.index.ensures, fan_short c.args.self.now c.args.v, k.mesh.few)
+    let k : IsMeshOf c.args.self.now c.self.inside.twins.items c.self.inside.fans.items = subst (λ (f : List (List ℕ)). IsMeshOf f c.self.inside.twins.items c.self.inside.fans.items) c.self.view_is c.self.invariant in
+    omega (arith, c.len.ensures.value, count c.args.self.now _ _ c.args.v _ k c.requires c.index.ensures, fan_short c.args.self.now c.args.v, k.mesh.few)
 
 pub returns : goal.returns
 returns c =
-  let k : IsMeshOf c.args.self.now c.self.inside.twins.items c.self.inside.fans.items = subst (λ (f : List (List ℕ)). IsMeshOf f c.self.inside.twins.items c.self.inside.fans.items) c.self.view_is c.self.invariant in
-  c.len.ensures.value ∙ count c.args.self.now _ _ c.args.v _ k c.requires c.index.ensures
+    let k : IsMeshOf c.args.self.now c.self.inside.twins.items c.self.inside.fans.items = subst (λ (f : List (List ℕ)). IsMeshOf f c.self.inside.twins.items c.self.inside.fans.items) c.self.view_is c.self.invariant in
+    c.len.ensures.value ∙ count c.args.self.now _ _ c.args.v _ k c.requires c.index.ensures

@@ -1,0 +1,71 @@
+-- The number that digits write, digit by digit and in parts.
+use Rattle.std.proofs.Common.{◌≡◌, ℕ, ◌+◌, ◌-◌, ◌*◌, ◌^◌, ◌<◌, ◌≤◌, min, true, leb, List, [], ◌∷◌, ◌++◌, length, take, drop, map, get_or, sym, ap, ◌∙◌, subst, arith}
+use Rattle.std.specs.Char.{is_ascii_digit}
+use Rattle.std.specs.Int.Digits.{number_from_digits, number_from_digits_after, AllBelowBase}
+use Rattle.std.specs.List.{list_all}
+use Rattle.std.proofs.lemmas.Int.Digits.{number_lt, number_after_append}
+use Rattle.std.proofs.lemmas.List.{map-append, map_push, length-map, take_more, take-append-drop}
+use Rattle.std.proofs.lemmas.List.Folds.{list_all-append}
+use Rattle.std.proofs.lemmas.Bool.{and_parts, and_from, leb-true}
+use Rattle.std.proofs.Math.Nat.{pow-suc}
+use Rattle.std.proofs.Math.Seq.{take-append-add}
+use Rattle.def_text.specs.Digits.{number}
+use Rattle.qm_dec.specs.Sizes.{capped}
+use Rattle.qm_dec.proofs.Caps.{cap_linear, ten_power}
+
+-- the values of digits
+abbrev pub values : List ℕ → List ℕ
+values ds = map (λ d. d - 48) ds
+
+-- digits behind a number shift it and add their own
+pub after_is : (n : ℕ) (vs : List ℕ) → number_from_digits_after 10 n vs ≡ n * 10 ^ length vs + number_from_digits 10 vs
+after_is n [] = omega arith
+after_is n (v ∷ vs) = omega (arith, after_is (n * 10 + v) vs, after_is (0 * 10 + v) vs, ap (λ x. n * x) (pow-suc 10 (length vs)))
+
+-- so a capped number may be taken for the number
+pub after_capped : (n : ℕ) (vs : List ℕ) → capped (number_from_digits_after 10 (capped n) vs) ≡ capped (number_from_digits_after 10 n vs)
+after_capped n vs = ap capped (after_is (capped n) vs) ∙ cap_linear n (10 ^ length vs) (number_from_digits 10 vs) (ten_power (length vs)) ∙ ap capped (sym (after_is n vs))
+
+-- one digit more of a loop
+pub after_more : (n : ℕ) (ds : List ℕ) (i : ℕ) → i < length ds → number_from_digits_after 10 n (values (take (i + 1) ds)) ≡ number_from_digits_after 10 n (values (take i ds)) * 10 + (get_or ds i 0 - 48)
+after_more n ds i l =
+    ap (λ xs. number_from_digits_after 10 n (values xs)) (take_more ds i 0 l)
+    ∙ ap (number_from_digits_after 10 n) (map_push (λ d. d - 48) (take i ds) (get_or ds i 0))
+    ∙ number_after_append 10 n (values (take i ds)) ((get_or ds i 0 - 48) ∷ [])
+
+-- digits in two parts
+pub number_append : (xs ys : List ℕ) → number (xs ++ ys) ≡ number_from_digits_after 10 (number xs) (values ys)
+number_append xs ys = ap (number_from_digits 10) (map-append (λ d. d - 48) xs ys) ∙ number_after_append 10 0 (values xs) (values ys)
+
+pub digit_small : (d : ℕ) → is_ascii_digit d ≡ true → (48 ≤ d) × (d ≤ 57)
+digit_small d is = let both : (leb 48 d ≡ true) × (leb d 57 ≡ true) = and_parts _ _ is in (leb-true 48 d both.0, leb-true d 57 both.1)
+
+values_below : (ds : List ℕ) → list_all is_ascii_digit ds ≡ true → AllBelowBase 10 (values ds)
+values_below [] all = tt
+values_below (d ∷ ds) all =
+    let parts : (is_ascii_digit d ≡ true) × (list_all is_ascii_digit ds ≡ true) = and_parts _ _ all in
+    (omega (arith, (digit_small d parts.0).1), values_below ds parts.1)
+
+-- digits write a number below the power of ten of their count
+pub number_small : (ds : List ℕ) → list_all is_ascii_digit ds ≡ true → number ds < 10 ^ length ds
+number_small ds all = subst (λ (n : ℕ). number ds < 10 ^ n) (length-map ds (λ d. d - 48)) (number_lt 10 (values ds) (values_below ds all))
+
+-- a loop over one run of digits and then another
+pub two_parts : (xs ys : List ℕ) (a b : ℕ) → a ≡ capped (number xs) → b ≡ capped (number_from_digits_after 10 a (values ys)) → b ≡ capped (number (xs ++ ys))
+two_parts xs ys a b p q = q ∙ ap (λ n. capped (number_from_digits_after 10 n (values ys))) p ∙ after_capped (number xs) (values ys) ∙ ap capped (sym (number_append xs ys))
+
+-- one step of a loop over digits
+pub step_more : (n v x : ℕ) (ds : List ℕ) (i : ℕ) → i < length ds → v ≡ capped (number_from_digits_after 10 n (values (take i ds))) → x ≡ min (v * 10 + (get_or ds i 0 - 48)) (10 ^ 15) → x ≡ capped (number_from_digits_after 10 n (values (take (i + 1) ds)))
+step_more n v x ds i l p q =
+    q ∙ ap (λ m. capped (m * 10 + (get_or ds i 0 - 48))) p ∙ cap_linear (number_from_digits_after 10 n (values (take i ds))) 10 (get_or ds i 0 - 48) (omega arith) ∙ ap capped (sym (after_more n ds i l))
+
+-- digits before a place
+pub digits_before : (ds : List ℕ) (i : ℕ) → list_all is_ascii_digit ds ≡ true → list_all is_ascii_digit (take i ds) ≡ true
+digits_before ds i all = (and_parts _ _ (sym (list_all-append is_ascii_digit (take i ds) (drop i ds)) ∙ ap (list_all is_ascii_digit) (take-append-drop i ds) ∙ all)).0
+
+pub digits_both : (xs ys : List ℕ) → list_all is_ascii_digit xs ≡ true → list_all is_ascii_digit ys ≡ true → list_all is_ascii_digit (xs ++ ys) ≡ true
+digits_both xs ys a b = list_all-append is_ascii_digit xs ys ∙ and_from _ _ a b
+
+-- the first digits of two runs, past the first run
+pub take_past : (xs ys : List ℕ) (k : ℕ) → length xs ≤ k → take k (xs ++ ys) ≡ xs ++ take (k - length xs) ys
+take_past xs ys k l = ap (λ n. take n (xs ++ ys)) (omega arith) ∙ take-append-add xs ys (k - length xs)

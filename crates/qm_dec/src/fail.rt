@@ -1,0 +1,10 @@
+use thiserror::Error;
+
+/// Why a word is not read.
+#[derive(Clone, Copy, Debug, PartialEq, Eq, Error)]
+pub enum DecFail {
+    #[error("not a decimal")]
+    Syntax,
+    #[error("number out of range")]
+    Range,
+}

@@ -1,0 +1,21 @@
+//! Decimals and ratios: their words read exactly, the canonical text of a number of millionths.
+
+#![tactic(auto)]
+
+mod fail;
+mod law;
+mod parts;
+mod ratio;
+mod read;
+mod size;
+mod write;
+
+pub use def_text::Micro;
+pub use fail::DecFail;
+pub use law::canonical_law;
+pub use ratio::read_ratio;
+pub use read::read_micro;
+pub use write::write_micro;
+
+#[cfg(test)]
+mod tests;

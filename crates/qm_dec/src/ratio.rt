@@ -1,0 +1,46 @@
+//! Ratios of two whole numbers.
+
+ghost use Rattle.std.specs.Prelude.{◌≡◌, ◌≤◌, ℕ, ◌↔◌, IsTrue, MatchOption, decimal};
+ghost use Rattle.def_text.specs.Ratio.{IsRatio};
+
+use crate::parts::{are_digits, behind_first, find_byte};
+use crate::size::number_after;
+use itoa::Buffer;
+
+/// The two numbers of a word `P/Q`, each from 1 to 1000 and without leading zeros.
+pub fn read_ratio(word: &[u8]) -> Option<(u32, u32)>
+    ensures { MatchOption result ((p q : ℕ) → ¬ IsRatio word.now p q) (λ r. IsRatio word.now r.0 r.1) }
+{
+    let (above, rest) = word.split_at(find_byte(word, b'/'));
+    if rest.is_empty() {
+        return None;
+    }
+    let Some(p) = read_part(above) else {
+        return None;
+    };
+    let Some(q) = read_part(behind_first(rest)) else {
+        return None;
+    };
+    Some((p, q))
+}
+
+/// A number from 1 to 1000 that is written as it would be printed.
+fn read_part(word: &[u8]) -> Option<u32>
+    ensures { MatchOption result ((n : ℕ) → 1 ≤ n → n ≤ 1000 → ¬ (word.now ≡ decimal n)) (λ n. (word.now ≡ decimal n) × (1 ≤ n) × (n ≤ 1000)) }
+{
+    if !are_digits(word) {
+        return None;
+    }
+    let n = number_after(0, word).min(1001) as u32;
+    if n == 0 || n > 1000 {
+        return None;
+    }
+    if is_written(word, n) { Some(n) } else { None }
+}
+
+fn is_written(word: &[u8], n: u32) -> bool
+    ensures { IsTrue result ↔ (word.now ≡ decimal n) }
+{
+    let mut buffer = Buffer::new();
+    word == buffer.format(n).as_bytes()
+}

@@ -1,0 +1,148 @@
+-- Reading a rising list of edges unit by unit.
+use Rattle.std.proofs.Common.{◌≡◌, ℕ, zero, suc, ◌+◌, ◌-◌, ◌*◌, ◌<◌, ◌≤◌, ◌==◌, Bool, true, false, not, cond, List, [], ◌∷◌, ◌++◌, length, take, drop, get_or, map, Option, Some, None, refl, sym, ◌∙◌, ap, subst, inl, inr, ◌⊎◌, add-zero, zero-add, length-append, arith}
+use Rattle.std.specs.Prelude.{nat_lt, slice_index, slice_index_or}
+use Rattle.std.specs.Bool.{beq}
+use Rattle.std.proofs.lemmas.Bool.{cases_eq, cases_lt, eq-eqb, ne_eqb, lt-ltb, cond-true, cond-false}
+use Rattle.std.proofs.lemmas.Bool.Decides.{nat_tests}
+use Rattle.std.proofs.lemmas.List.{drop_more, drop_all}
+use Rattle.qm_laws.specs.Counts.{count}
+use Rattle.def_flow.specs.Network.{Network}
+use Rattle.def_flow.specs.Matching.{IsRising}
+use Rattle.def_flow.specs.Units.{low, cap, active_at}
+use Rattle.def_flow.specs.MatchingGraph.{are_alike, graph_by, units_links, rim_links, lone_vertex, first_fresh, rim}
+use Rattle.qm_laws.specs.Counts.{count_below}
+use Rattle.def_flow.specs.declared.net.End.{End}
+use Rattle.def_flow.specs.declared.units.ArcUnit.{ArcUnit}
+use Rattle.qm_units.specs.Marks.{trues, units_marks, marks_by}
+use Rattle.qm_units.specs.Told.{past, marks_from, width_by, state_told, states_told, steps_told, lengths_on}
+use Rattle.qm_units.proofs.Units.{units_length}
+use Rattle.qm_gadget.specs.Read.{width_of_unit, first_below, skip_below, lengths_by}
+use Rattle.qm_gadget.proofs.Numbers.{marks_width}
+
+-- In a list that rises from a bound on, nothing is below the bound.
+none_below_first : (k high : ℕ) (m : List ℕ) → IsRising k high m → first_below m k ≡ false
+none_below_first k high [] rising = refl
+none_below_first k high (e ∷ m) rising = let le : k ≤ e = rising.0 in grind (arith, nat_tests)
+
+skip_none : (k high : ℕ) (m : List ℕ) → IsRising k high m → skip_below k m ≡ m
+skip_none k high [] rising = refl
+skip_none k high (e ∷ m) rising = let le : k ≤ e = rising.0 in let off : nat_lt e k ≡ false = grind (arith, nat_tests) in rw off refl
+
+-- A list that rises from a bound on rises from a lower one on.
+pub rising_lower : (k j high : ℕ) (m : List ℕ) → k ≤ j → IsRising j high m → IsRising k high m
+rising_lower k j high [] le rising = tt
+rising_lower k j high (e ∷ m) le rising = (omega (arith, rising.0), rising.1, rising.2)
+
+-- Without the numbers below a bound it rises from the bound on.
+pub rising_skip : (k end high : ℕ) (m : List ℕ) → IsRising k high m → IsRising end high (skip_below end m)
+rising_skip k end high [] rising = tt
+rising_skip k end high (e ∷ m) rising = by_test (cases_lt e end) (rising_skip (e + 1) end high m rising.2)
+  where
+    by_test : (e < end) ⊎ (end ≤ e) → IsRising end high (skip_below end m) → IsRising end high (cond (nat_lt e end) (skip_below end m) (e ∷ m))
+    by_test (inl l) rest = let on : nat_lt e end ≡ true = grind (arith, nat_tests) in rw on rest
+    by_test (inr h) rest = let off : nat_lt e end ≡ false = grind (arith, nat_tests) in rw off (h, rising.1, rising.2)
+
+-- What is left of the marks past a number of edges.
+pub drop_marks : (w n t k high : ℕ) (m : List ℕ) → t ≡ w + n → IsRising k high m → drop w (marks_from k t m) ≡ marks_from (k + w) n (skip_below (k + w) m)
+drop_marks zero n t k high m e rising =
+    let here : k + 0 ≡ k = add-zero k in
+    let long : t ≡ n = omega arith in
+    rw (here, long, skip_none k high m rising) refl
+drop_marks (suc w) n zero k high m e rising = absurd (omega arith)
+drop_marks (suc w) n (suc t) k high [] e rising =
+    let there : k + 1 + w ≡ k + suc w = omega arith in
+    drop_marks w n t (k + 1) high [] (omega arith) tt ∙ ap (λ i. marks_from i n []) there
+drop_marks (suc w) n (suc t) k high (x ∷ m) e rising = elim (cases_eq x k) [ inl is ↦ here is (drop_marks w n t (k + 1) high m (omega arith)) | inr ne ↦ after ne (drop_marks w n t (k + 1) high (x ∷ m) (omega arith)) ]
+  where
+    there : k + 1 + w ≡ k + suc w
+    there = omega arith
+
+    here : x ≡ k → (IsRising (k + 1) high m → drop w (marks_from (k + 1) t m) ≡ marks_from (k + 1 + w) n (skip_below (k + 1 + w) m)) → drop w (marks_from (k + 1) t (past (x == k) x m)) ≡ marks_from (k + suc w) n (skip_below (k + suc w) (x ∷ m))
+    here is rest =
+        let on : (x == k) ≡ true = eq-eqb x k is in
+        let low : nat_lt x (k + suc w) ≡ true = lt-ltb x (k + suc w) (omega arith) in
+        let next : IsRising (k + 1) high m = subst (λ (i : ℕ). IsRising (i + 1) high m) is rising.2 in
+        rw (on, low) (rest next ∙ ap (λ i. marks_from i n (skip_below i m)) there)
+
+    after : (x ≡ k → ⊥) → (IsRising (k + 1) high (x ∷ m) → drop w (marks_from (k + 1) t (x ∷ m)) ≡ marks_from (k + 1 + w) n (skip_below (k + 1 + w) (x ∷ m))) → drop w (marks_from (k + 1) t (past (x == k) x m)) ≡ marks_from (k + suc w) n (skip_below (k + suc w) (x ∷ m))
+    after ne rest =
+        let off : (x == k) ≡ false = ne_eqb x k ne in
+        let next : IsRising (k + 1) high (x ∷ m) = (omega (arith, rising.0), rising.1, rising.2) in
+        rw off (rest next ∙ ap (λ i. marks_from i n (skip_below i (x ∷ m))) there)
+
+-- Some of the first edges is marked exactly if the first number is among them.
+pub some_marked : (room t k high : ℕ) (m : List ℕ) → room ≤ t → IsRising k high m → nat_lt 0 (trues (take room (marks_from k t m))) ≡ first_below m (k + room)
+some_marked zero t k high m le rising = let here : k + 0 ≡ k = add-zero k in sym (ap (first_below m) here ∙ none_below_first k high m rising)
+some_marked (suc room) zero k high m le rising = absurd (omega arith)
+some_marked (suc room) (suc t) k high [] le rising =
+    let rest : nat_lt 0 (trues (take room (marks_from (k + 1) t []))) ≡ false = some_marked room t (k + 1) high [] (omega arith) tt in
+    let none : 0 + trues (take room (marks_from (k + 1) t [])) ≡ trues (take room (marks_from (k + 1) t [])) = omega arith in
+    ap (nat_lt 0) none ∙ rest
+some_marked (suc room) (suc t) k high (x ∷ m) le rising = elim (cases_eq x k) [ inl is ↦ here is | inr ne ↦ after ne (some_marked room t (k + 1) high (x ∷ m) (omega arith)) ]
+  where
+    here : x ≡ k → nat_lt 0 (cond (x == k) 1 0 + trues (take room (marks_from (k + 1) t (past (x == k) x m)))) ≡ nat_lt x (k + suc room)
+    here is =
+        let on : (x == k) ≡ true = eq-eqb x k is in
+        let low : nat_lt x (k + suc room) ≡ true = lt-ltb x (k + suc room) (omega arith) in
+        let some : nat_lt 0 (1 + trues (take room (marks_from (k + 1) t m))) ≡ true = lt-ltb 0 (1 + trues (take room (marks_from (k + 1) t m))) (omega arith) in
+        rw (on, low) some
+
+    after : (x ≡ k → ⊥) → (IsRising (k + 1) high (x ∷ m) → nat_lt 0 (trues (take room (marks_from (k + 1) t (x ∷ m)))) ≡ nat_lt x (k + 1 + room)) → nat_lt 0 (cond (x == k) 1 0 + trues (take room (marks_from (k + 1) t (past (x == k) x m)))) ≡ nat_lt x (k + suc room)
+    after ne rest =
+        let off : (x == k) ≡ false = ne_eqb x k ne in
+        let next : IsRising (k + 1) high (x ∷ m) = (omega (arith, rising.0), rising.1, rising.2) in
+        let there : k + 1 + room ≡ k + suc room = omega arith in
+        let none : 0 + trues (take room (marks_from (k + 1) t (x ∷ m))) ≡ trues (take room (marks_from (k + 1) t (x ∷ m))) = omega arith in
+        rw off (ap (nat_lt 0) none ∙ (rest next ∙ ap (nat_lt x) there))
+
+-- The state of a unit, by the first number.
+pub state_read : (room : ℕ → ℕ) (left : End) (t k high : ℕ) (m : List ℕ) → room left.node ≤ t → IsRising k high m → state_told room (marks_from k t m) left ≡ beq left.plus (first_below m (k + room left.node))
+state_read room left t k high m le rising = ap (λ b. cond left.plus b (not b)) (some_marked (room left.node) t k high m le rising) ∙ by_sign left.plus (first_below m (k + room left.node))
+  where
+    by_sign : (p b : Bool) → cond p b (not b) ≡ beq p b
+    by_sign true true = refl
+    by_sign true false = refl
+    by_sign false true = refl
+    by_sign false false = refl
+
+-- The states from a unit on: its own, and those from the next on.
+pub states_read : (room : ℕ → ℕ) (us : List ArcUnit) (i : ℕ) (u : ArcUnit) (t n k high : ℕ) (m : List ℕ) → i < length us → t ≡ width_of_unit room (slice_index_or us i u) + n → room (slice_index_or us i u).left.node ≤ t → IsRising k high m
+  → states_told room (drop i us) (marks_from k t m) ≡ beq (slice_index_or us i u).left.plus (first_below m (k + room (slice_index_or us i u).left.node)) ∷ states_told room (drop (i + 1) us) (marks_from (k + width_of_unit room (slice_index_or us i u)) n (skip_below (k + width_of_unit room (slice_index_or us i u)) m))
+states_read room us i u t n k high m l long le rising =
+    rw (drop_more us i u l, state_read room (slice_index_or us i u).left t k high m le rising, drop_marks (width_of_unit room (slice_index_or us i u)) n t k high m long rising) refl
+
+-- The first end's copies are among a unit's edges.
+pub room_in_width : (room : ℕ → ℕ) (left : End) (right : Option End) → room left.node ≤ width_by room left right
+room_in_width room left None = omega arith
+room_in_width room left (Some right) = by_signs (are_alike left right)
+  where
+    by_signs : (b : Bool) → room left.node ≤ cond b (room left.node + (room right.node + 1)) (room left.node + room right.node)
+    by_signs true = omega arith
+    by_signs false = omega arith
+
+-- The widths from a unit on.
+pub widths_step : (room : ℕ → ℕ) (us : List ArcUnit) (i : ℕ) (u : ArcUnit) → i < length us → count (width_of_unit room) (drop i us) ≡ width_of_unit room (slice_index_or us i u) + count (width_of_unit room) (drop (i + 1) us)
+widths_step room us i u l = rw (drop_more us i u l) refl
+
+-- The widths of all units are no more than the edges of the graph.
+widths_marks : (room used : ℕ → ℕ) (us : List ArcUnit) (ons : List Bool) → length us ≡ length ons → count (width_of_unit room) us ≡ length (units_marks room used us ons)
+widths_marks room used [] ons same = refl
+widths_marks room used (u ∷ us) [] same = absurd (omega arith)
+widths_marks room used (u ∷ us) (on ∷ ons) same = omega (arith, length-append (marks_by room used on u.left u.right) (units_marks room (λ v. used v + active_at v u on) us ons), marks_width room used on u.left u.right, widths_marks room (λ v. used v + active_at v u on) us ons (omega arith))
+
+pub widths_low : (nodes : ℕ) (room : ℕ → ℕ) (lone : Bool) (us : List ArcUnit) (ons : List Bool) → length us ≡ length ons → count (width_of_unit room) us ≤ length (graph_by nodes room lone us).edges
+widths_low nodes room lone us ons same = omega (
+  arith,
+  widths_marks room (λ v. 0) us ons same,
+  units_length room (λ v. 0) (count_below room nodes) us ons same,
+  length-append (units_links room (count_below room nodes) us) (rim_links (lone_vertex nodes room lone us) (first_fresh nodes room lone us) (rim (count_below room nodes) us)),
+)
+
+-- The lengths from an arc on: its own, and those from the next on.
+pub lengths_step : (step : ℕ) (ls cs : List ℕ) (ons : List Bool) (k : ℕ) → k < length ls → length ls ≡ length cs → lengths_by step (drop k ls) (drop k cs) ons ≡ (slice_index ls k + trues (take (slice_index cs k) ons) * step) ∷ lengths_by step (drop (k + 1) ls) (drop (k + 1) cs) (drop (slice_index cs k) ons)
+lengths_step step ls cs ons k l same = let inner : k < length cs = omega arith in rw (drop_more ls k 0 l, drop_more cs k 0 inner) refl
+
+-- The lengths by lows and caps are those with so many units on.
+pub lengths_is : (net : Network) (step : ℕ) (xs : List ℕ) (ons : List Bool) → lengths_by step (map (low net step) xs) (map (cap net step) xs) ons ≡ lengths_on net step xs (steps_told net step xs ons)
+lengths_is net step [] ons = refl
+lengths_is net step (x ∷ xs) ons = ap (λ ys. (low net step x + trues (take (cap net step x) ons) * step) ∷ ys) (lengths_is net step xs (drop (cap net step x) ons))

@@ -1,0 +1,148 @@
+-- Lists in the box, by the steps that their entries are above the lows.
+use Rattle.std.proofs.Common.{◌≡◌, ℕ, zero, suc, ◌+◌, ◌-◌, ◌*◌, ◌/◌, ◌%◌, ◌^◌, ◌<◌, ◌≤◌, ◌==◌, Bool, true, false, cond, List, [], ◌∷◌, ◌++◌, length, drop, get_or, map, Option, Some, None, refl, sym, ◌∙◌, ap, inl, inr, ◌⊎◌, length-append, add-one, arith}
+use Rattle.std.specs.Prelude.{slice_index}
+use Rattle.std.proofs.Math.Nat.{mul-le-mul_left}
+use Rattle.std.proofs.lemmas.Bool.{cases_order, cases_lt}
+use Rattle.std.proofs.lemmas.List.{drop_more, drop_all, get_or_past, length-map}
+use Rattle.qm_laws.specs.Counts.{count_below}
+use Rattle.def_flow.specs.Network.{Network}
+use Rattle.def_flow.specs.Units.{low, cap, units, states_at, is_active, active, rim_active}
+use Rattle.def_flow.specs.MatchingGraph.{graph_by, lone_vertex, first_fresh, rim, units_links, rim_links}
+use Rattle.def_flow.specs.declared.net.End.{End}
+use Rattle.def_flow.specs.declared.units.ArcUnit.{ArcUnit}
+use Rattle.qm_units.specs.Box.{IsInBox, matching_told}
+use Rattle.qm_units.specs.Marks.{places, states_marks, units_marks, rim_marks, rim_states, with_state}
+use Rattle.qm_units.proofs.Chain.{rim_length}
+use Rattle.qm_units.proofs.Units.{units_length, states_length}
+use Rattle.qm_gadget.specs.Layout.{room_of}
+use Rattle.qm_gadget.specs.Marked.{rim_by}
+use Rattle.qm_gadget.specs.Over.{AreRooms, units_over, states_over}
+use Rattle.qm_gadget.specs.Ready.{ups, AreUps, IsReady, IsPlan, marks_over}
+use Rattle.qm_gadget.specs.Ready.{own_states as states_of_caps}
+use Rattle.qm_gadget.specs.declared.plan.Plan.{Plan}
+use Rattle.qm_gadget.proofs.ByLows.{units_over_is, states_over_is, own_states}
+use Rattle.qm_gadget.proofs.Numbers.{is_there, rim_is}
+use Rattle.qm_gadget.proofs.OfList.{plan_rooms}
+use Rattle.qm_gadget.proofs.Rooms.{active_low}
+
+-- Steps over the step.
+pub quotient : (j step : ℕ) → 1 ≤ step → j * step / step ≡ j
+quotient j step some = by_order (cases_order (j * step / step) j)
+  where
+    whole : step * (j * step / step) + j * step % step ≡ j * step
+    whole = omega arith
+
+    part : j * step % step < step
+    part = omega arith
+
+    by_order : (j * step / step ≡ j) ⊎ ((j * step / step < j) ⊎ (j < j * step / step)) → j * step / step ≡ j
+    by_order (inl e) = e
+    by_order (inr (inl less)) = let up : step * (j * step / step + 1) ≤ step * j = mul-le-mul_left step (omega arith) in absurd (omega (arith, whole, part))
+    by_order (inr (inr more)) = let up : step * (j + 1) ≤ step * (j * step / step) = mul-le-mul_left step (omega arith) in absurd (omega (arith, whole, part))
+
+pub step_up : (j step l y : ℕ) → 1 ≤ step → y ≡ l + j * step → (y - l) / step ≡ j
+step_up j step l y some is = let there : y - l ≡ j * step = omega arith in ap (λ n. n / step) there ∙ quotient j step some
+
+-- No entry of a list in the box is more than 4 steps up.
+pub ups_small : (step : ℕ) (lows caps ys : List ℕ) → 1 ≤ step → AreUps step lows caps ys → ((k : ℕ) → k < length lows → slice_index caps k ≤ 4) → (k : ℕ) → (slice_index ys k - slice_index lows k) / step ≤ 4
+ups_small step lows caps ys some are most k = by_place (cases_lt k (length ys))
+  where
+    by_place : (k < length ys) ⊎ (length ys ≤ k) → (slice_index ys k - slice_index lows k) / step ≤ 4
+    by_place (inl l) = inside (are.each k l)
+      where
+        inside : (j : ℕ) × (j ≤ slice_index caps k) × (slice_index ys k ≡ slice_index lows k + j * step) → (slice_index ys k - slice_index lows k) / step ≤ 4
+        inside e = omega (arith, step_up e.0 step (slice_index lows k) (slice_index ys k) some e.2, e.1, most k (omega (arith, are.count)))
+    by_place (inr h) =
+        let none : slice_index ys k - slice_index lows k ≡ 0 = omega (arith, get_or_past ys k 0 h) in
+        let start : 0 * step ≡ 0 = omega arith in
+        let zero_up : 0 / step ≡ 0 = ap (λ n. n / step) (sym start) ∙ quotient 0 step some in
+        omega (arith, ap (λ n. n / step) none, zero_up)
+
+-- There is a number of steps for each entry.
+pub ups_length : (step : ℕ) (ls ys : List ℕ) → length ls ≡ length ys → length (ups step ls ys) ≡ length ls
+ups_length step [] ys same = refl
+ups_length step (l ∷ ls) [] same = absurd (omega arith)
+ups_length step (l ∷ ls) (y ∷ ys) same = ap suc (ups_length step ls ys (omega arith))
+
+pub ups_step : (step : ℕ) (ls ys : List ℕ) (k : ℕ) → k < length ls → length ls ≡ length ys → ups step (drop k ls) (drop k ys) ≡ ((slice_index ys k - slice_index ls k) / step) ∷ ups step (drop (k + 1) ls) (drop (k + 1) ys)
+ups_step step ls ys k l same = let inner : k < length ys = omega arith in rw (drop_more ls k 0 l, drop_more ys k 0 inner) refl
+
+-- The list is in the box of the list that the lows and caps are of.
+pub in_box : (net : Network) (step : ℕ) (xs ys : List ℕ) → 1 ≤ step → AreUps step (map (low net step) xs) (map (cap net step) xs) ys → IsInBox net step xs (ups step (map (low net step) xs) ys) ys
+in_box net step [] [] some are = tt
+in_box net step [] (y ∷ ys) some are = let count : suc (length ys) ≡ 0 = are.count in absurd (omega arith)
+in_box net step (x ∷ xs) [] some are = let count : 0 ≡ suc (length (map (low net step) xs)) = are.count in absurd (omega arith)
+in_box net step (x ∷ xs) (y ∷ ys) some are = at_head (are.each 0 (omega arith)) (in_box net step xs ys some rest)
+  where
+    rest : AreUps step (map (low net step) xs) (map (cap net step) xs) ys
+    rest = record { count = (let count : suc (length ys) ≡ suc (length (map (low net step) xs)) = are.count in omega arith); each = λ k l. are.each (suc k) (omega arith) }
+
+    at_head : (j : ℕ) × (j ≤ cap net step x) × (y ≡ low net step x + j * step) → IsInBox net step xs (ups step (map (low net step) xs) ys) ys → IsInBox net step (x ∷ xs) (ups step (map (low net step) (x ∷ xs)) (y ∷ ys)) (y ∷ ys)
+    at_head e after =
+        let up : (y - low net step x) / step ≡ e.0 = step_up e.0 step (low net step x) y some e.2 in
+        let high : (y - low net step x) / step ≤ cap net step x = omega (arith, up, e.1) in
+        let place : y ≡ low net step x + (y - low net step x) / step * step = e.2 ∙ ap (λ j. low net step x + j * step) (sym up) in
+        (high, place, after)
+
+-- Marks by lows and caps are those of the matching that is told.
+pub marks_over_is : (net : Network) (step : ℕ) (xs js : List ℕ) → places 0 (marks_over net step (map (low net step) xs) (map (cap net step) xs) js) ≡ matching_told net step xs js
+marks_over_is net step xs js =
+    ap (λ us. places 0 (states_marks net.nodes (λ v. active v us ons) (rim_active us ons % 2 == 1) us (states_over (map (cap net step) xs) js))) (units_over_is net step net.arcs xs)
+    ∙ (ap (λ os. places 0 (states_marks net.nodes (λ v. active v us os) (rim_active us os % 2 == 1) us (states_over (map (cap net step) xs) js))) (own_states net step xs)
+    ∙ ap (λ os. places 0 (states_marks net.nodes (λ v. active v us (states_at net step xs)) (rim_active us (states_at net step xs) % 2 == 1) us os)) (states_over_is net step xs js))
+  where
+    us : List ArcUnit
+    us = units net step net.arcs xs
+
+    ons : List Bool
+    ons = states_of_caps (map (cap net step) xs)
+
+-- There are as many marks as edges.
+pub marks_long : (nodes : ℕ) (room : ℕ → ℕ) (lone : Bool) (us : List ArcUnit) (ons : List Bool) → length us ≡ length ons → length (states_marks nodes room lone us ons) ≡ length (graph_by nodes room lone us).edges
+marks_long nodes room lone us ons same = omega (
+  arith,
+  length-append (units_marks room (λ v. 0) us ons) (rim_marks (lone_vertex nodes room lone us) lone (first_fresh nodes room lone us) (rim_states us ons)),
+  length-append (units_links room (count_below room nodes) us) (rim_links (lone_vertex nodes room lone us) (first_fresh nodes room lone us) (rim (count_below room nodes) us)),
+  units_length room (λ v. 0) (count_below room nodes) us ons same,
+  rim_length (lone_vertex nodes room lone us) lone (first_fresh nodes room lone us) (rim (count_below room nodes) us) (rim_states us ons) (states_length (count_below room nodes) us ons same),
+)
+
+-- No more units are at the rim than there are.
+pub rim_states_few : (us : List ArcUnit) (ons : List Bool) → length (rim_states us ons) ≤ length us
+rim_states_few [] ons = omega arith
+rim_states_few (u ∷ us) [] = omega arith
+rim_states_few (u ∷ us) (on ∷ ons) = omega (arith, one u.right (is_active on u.left) (rim_states us ons), rim_states_few us ons)
+  where
+    one : (o : Option End) (b : Bool) (bs : List Bool) → length (with_state o b bs) ≤ length bs + 1
+    one None b bs = omega arith
+    one (Some e) b bs = omega arith
+
+-- The rim begins with the lone vertex, where there is one.
+pub rim_from_lone : (nodes : ℕ) (room : ℕ → ℕ) (lone : Bool) (us : List ArcUnit) (fresh : ℕ) (os : List Bool) → rim_marks (lone_vertex nodes room lone us) lone fresh os ≡ rim_by lone lone os
+rim_from_lone nodes room true us fresh os = rim_is (lone_vertex nodes room true us) true fresh os
+rim_from_lone nodes room false us fresh os = rim_is (lone_vertex nodes room false us) false fresh os
+
+-- The marks of a plan.
+pub plan_marks : (net : Network) (step : ℕ) (ls cs js : List ℕ) (p : Plan) → IsReady net step ls cs → IsPlan net step ls cs p
+  → states_marks (length p.rooms.items) (room_of p.rooms.items) p.lone p.units.items (states_over cs js) ≡ marks_over net step ls cs js
+plan_marks net step ls cs js p ready plan =
+    ap (λ n. states_marks n (room_of p.rooms.items) p.lone p.units.items (states_over cs js)) plan.rooms.count
+    ∙ (ap (λ f. states_marks net.nodes f p.lone p.units.items (states_over cs js)) (plan_rooms net step ls cs p ready plan)
+    ∙ (ap (λ b. states_marks net.nodes (λ v. active v over ons) b p.units.items (states_over cs js)) plan.lone
+    ∙ ap (λ us. states_marks net.nodes (λ v. active v over ons) (rim_active over ons % 2 == 1) us (states_over cs js)) plan.units))
+  where
+    over : List ArcUnit
+    over = units_over net step net.arcs ls cs
+
+    ons : List Bool
+    ons = states_of_caps cs
+
+-- A plan has few units, and few copies of each node.
+pub plan_few : (net : Network) (step : ℕ) (ls cs : List ℕ) (p : Plan) → IsReady net step ls cs → IsPlan net step ls cs p → (length p.units.items ≤ 2 ^ 25) × ((v : ℕ) → slice_index p.rooms.items v ≤ 2 ^ 27)
+plan_few net step ls cs p ready plan = (omega (arith, ap length plan.units, ready.few), rooms)
+  where
+    rooms : (v : ℕ) → slice_index p.rooms.items v ≤ 2 ^ 27
+    rooms v = elim (cases_lt v net.nodes) [
+        inl l ↦ omega (arith, plan.rooms.each v l, active_low v (units_over net step net.arcs ls cs) (states_of_caps cs), ready.few)
+      | inr h ↦ omega (arith, get_or_past p.rooms.items v 0 (omega (arith, plan.rooms.count)))
+      ]

@@ -1,0 +1,6 @@
+use Rattle.std.proofs.Common.{◌≡◌, ◌+◌, ◌≤◌, drop}
+use Rattle.qm_units.specs.Marks.{trues}
+use Rattle.qm_gadget.proofs.lengths.count_on.Given as goal
+
+abbrev pub invariant-loop-on : goal.invariant-loop-on
+invariant-loop-on l = record { value : l.all + trues (drop l.on-index l.ons) ≡ trues l.ons; small : l.all ≤ l.on-index }

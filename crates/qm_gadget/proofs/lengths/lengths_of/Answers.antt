@@ -1,0 +1,32 @@
+use Rattle.std.proofs.Common.{◌≡◌, ℕ, ◌≤◌, ◌-ℤ◌, ◌≤ℤ◌, pos, length, Vec, Global, sym, ◌∙◌, ap, arith}
+use Rattle.std.proofs.lemmas.Result.{IfOk-weaker}
+use Rattle.def_flow.specs.Network.{network}
+use Rattle.qm_gadget.proofs.Told.{gadget_ready, gadget_edges, gadget_wide, gadget_lengths}
+use Rattle.qm_gadget.proofs.lengths.lengths_of.Goals as goal
+
+pub overflow_cast-len : goal.overflow_cast-len
+overflow_cast-len c = omega (arith, gadget_edges (network c.args.net.now) c.args.g.now c.requires.bounds c.requires.gadget, c.len.ensures, c.args.g.now.graph.edges.ok.0)
+
+pub lengths_over-requires-clause-ready : goal.lengths_over-requires-clause-ready
+lengths_over-requires-clause-ready c = rw (c.deref.ensures.value, c.deref-2.ensures.value) (gadget_ready (network c.args.net.now) c.args.g.now c.requires.bounds c.requires.gadget)
+
+pub lengths_over-requires-clause-few : goal.lengths_over-requires-clause-few
+lengths_over-requires-clause-few c = omega (arith, gadget_edges (network c.args.net.now) c.args.g.now c.requires.bounds c.requires.gadget, c.len.ensures, c.args.g.now.graph.edges.ok.0)
+
+pub lengths_over-requires-clause-wide : goal.lengths_over-requires-clause-wide
+lengths_over-requires-clause-wide c = rw (c.deref.ensures.value, c.deref-2.ensures.value) (omega (arith, gadget_wide (network c.args.net.now) c.args.g.now c.requires.bounds c.requires.gadget, c.len.ensures, c.args.g.now.graph.edges.ok.0))
+
+pub returns-clause-count : goal.returns-clause-count
+returns-clause-count c = IfOk-weaker c.lengths_over.result _ _
+    (λ (ys : Vec ℕ Global) is. (gadget_lengths (network c.args.net.now) c.args.g.now c.args.m.now c.requires.bounds c.requires.gadget c.requires.perfect c.len.result (omega (arith, c.len.ensures, c.args.g.now.graph.edges.ok.0)) ys.items is).0)
+    (rw (← c.deref.ensures.value, ← c.deref-2.ensures.value) c.lengths_over.ensures)
+
+pub returns-clause-admissible : goal.returns-clause-admissible
+returns-clause-admissible c = IfOk-weaker c.lengths_over.result _ _
+    (λ (ys : Vec ℕ Global) is. (gadget_lengths (network c.args.net.now) c.args.g.now c.args.m.now c.requires.bounds c.requires.gadget c.requires.perfect c.len.result (omega (arith, c.len.ensures, c.args.g.now.graph.edges.ok.0)) ys.items is).1)
+    (rw (← c.deref.ensures.value, ← c.deref-2.ensures.value) c.lengths_over.ensures)
+
+pub returns-clause-cost : goal.returns-clause-cost
+returns-clause-cost c = IfOk-weaker c.lengths_over.result _ _
+    (λ (ys : Vec ℕ Global) is. (gadget_lengths (network c.args.net.now) c.args.g.now c.args.m.now c.requires.bounds c.requires.gadget c.requires.perfect c.len.result (omega (arith, c.len.ensures, c.args.g.now.graph.edges.ok.0)) ys.items is).2)
+    (rw (← c.deref.ensures.value, ← c.deref-2.ensures.value) c.lengths_over.ensures)

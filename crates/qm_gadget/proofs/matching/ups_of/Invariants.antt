@@ -1,0 +1,6 @@
+use Rattle.std.proofs.Common.{◌≡◌, ◌++◌, drop}
+use Rattle.qm_gadget.specs.Ready.{ups}
+use Rattle.qm_gadget.proofs.matching.ups_of.Given as goal
+
+abbrev pub invariant-loop-k : goal.invariant-loop-k
+invariant-loop-k l = l.raised.items ++ ups l.step (drop l.k l.lows) (drop l.k l.x2) ≡ ups l.step l.lows l.x2

@@ -1,0 +1,129 @@
+ghost use Rattle.std.specs.Prelude.{◌≡◌, ◌+◌, ◌*◌, ◌^◌, ◌<◌, ◌≤◌, ◌≤ℤ◌, ◌-ℤ◌, ◌++◌, [], ◌∷◌, ℕ, pos, drop, length, slice_index, IfOk, OnOk};
+ghost use Rattle.std.specs.Bool.{beq};
+ghost use Rattle.qm_laws.specs.Counts.{count};
+ghost use Rattle.def_flow.specs.Network.{network, IsWithinBounds};
+ghost use Rattle.def_flow.specs.Admissible.{deviation, entries, IsAdmissible};
+ghost use Rattle.def_flow.specs.Matching.{graph, matching_cost, IsPerfect, IsRising};
+ghost use Rattle.qm_units.specs.Marks.{trues};
+ghost use Rattle.qm_units.specs.Told.{marks_from, states_told};
+ghost use Rattle.qm_gadget.specs.Gadget.{IsGadgetOf};
+ghost use Rattle.qm_gadget.specs.Layout.{room_of, AreAtNodes};
+ghost use Rattle.qm_gadget.specs.Over.{AreBoxes};
+ghost use Rattle.qm_gadget.specs.Ready.{IsReady};
+ghost use Rattle.qm_gadget.specs.Read.{first_below, skip_below, width_of_unit, lengths_by, lengths_read, widths_over};
+
+use crate::Memory;
+use crate::build::Gadget;
+use crate::marks::width_of;
+use crate::plan::plan_of;
+use def_flow::{ArcUnit, Net};
+use std::alloc::{AllocError, Global};
+
+/// The admissible list of lengths that a perfect matching of a gadget's graph tells. Its deviation less that of the
+/// lows is at most the cost of the matching. Linear in the arcs, nodes, units and edges of the matching.
+pub fn lengths_of(alloc: Global, net: &Net, g: &Gadget, m: &[u32]) -> Result<Vec<u64>, Memory>
+    requires bounds { IsWithinBounds (network net.now) }
+    requires gadget { IsGadgetOf (network net.now) g.now }
+    requires perfect { IsPerfect (graph g.now.graph) m.now }
+    ensures count { IfOk result (λ ys. length ys.items ≡ length net.now.arcs.items) }
+    ensures admissible { IfOk result (λ ys. IsAdmissible (network net.now) (entries ys.items)) }
+    ensures cost { IfOk result (λ ys. (pos (deviation (network net.now) (entries ys.items)) -ℤ pos (deviation (network net.now) (entries g.now.low.items))) ≤ℤ matching_cost (graph g.now.graph) m.now) }
+{
+    lengths_over(alloc, net, g.step, &g.low, &g.cap, m, g.graph.edges.len() as u32)
+}
+
+/// The same, by the lows and caps of the gadget and the number of its edges.
+fn lengths_over(alloc: Global, net: &Net, step: u64, lows: &[u64], caps: &[u32], m: &[u32], edges: u32) -> Result<Vec<u64>, AllocError>
+    requires bounds { IsWithinBounds (network net.now) }
+    requires step { (1 ≤ step) × (step ≤ 4096) }
+    requires ready { IsReady (network net.now) step lows.now caps.now }
+    requires few { edges ≤ 2 ^ 26 }
+    requires rising { IsRising 0 edges m.now }
+    requires wide { widths_over (network net.now) step lows.now caps.now ≤ edges }
+    ensures { IfOk result (λ ys. ys.items ≡ lengths_read (network net.now) step lows.now caps.now edges m.now) }
+{
+    let plan = plan_of(alloc, net, step, lows, caps)?;
+    let ons = states_in(alloc, &plan.rooms, &plan.units, m, edges)?;
+    raised(alloc, step, lows, caps, &ons)
+}
+
+/// The states of the units that a matching among so many edges tells.
+fn states_in(alloc: Global, rooms: &[u32], units: &[ArcUnit], m: &[u32], edges: u32) -> Result<Vec<bool>, AllocError>
+    requires at { AreAtNodes (length rooms.now) units.now }
+    requires few { (edges ≤ 2 ^ 26) × ((v : ℕ) → slice_index rooms.now v ≤ 2 ^ 27) }
+    requires rising { IsRising 0 edges m.now }
+    requires wide { count (width_of_unit (room_of rooms.now)) units.now ≤ edges }
+    ensures { IfOk result (λ ons. ons.items ≡ states_told (room_of rooms.now) units.now (marks_from 0 edges m.now)) }
+{
+    let mut ons = Vec::new(alloc);
+    let mut k = 0;
+    let mut at = 0;
+    for unit in units {
+        push_on(&mut ons, is_on(rooms, unit, m, at, k))?;
+        k += width_of(rooms, unit);
+        at = past_below(m, at, k);
+    }
+    Ok(ons)
+}
+
+fn push_on(ons: &mut Vec<bool>, on: bool) -> Result<(), AllocError>
+    ensures { OnOk result (ons.new.items ≡ ons.old.items ++ on ∷ []) }
+{
+    ons.push(on)?;
+    Ok(())
+}
+
+/// Whether a unit is on, whose first edge is `k`, where the matching from place `at` on has no earlier edge.
+fn is_on(rooms: &[u32], unit: &ArcUnit, m: &[u32], at: usize, k: u32) -> bool
+    requires at { unit.now.left.node < length rooms.now }
+    requires few { (k ≤ 2 ^ 26) × ((v : ℕ) → slice_index rooms.now v ≤ 2 ^ 27) }
+    ensures { result ≡ (beq unit.now.left.plus (first_below (drop at m.now) (k + slice_index rooms.now unit.now.left.node))) }
+{
+    let end = k + rooms[unit.left.node as usize];
+    let chosen = at < m.len() && m[at] < end;
+    unit.left.plus == chosen
+}
+
+/// The first place from `at` on at which an edge is not below `end`.
+fn past_below(m: &[u32], at: usize, end: u32) -> usize
+    requires { at ≤ length m.now }
+    ensures rest { drop result m.now ≡ skip_below end (drop at m.now) }
+    ensures low { result ≤ length m.now }
+{
+    let mut place = at;
+    while place < m.len() && m[place] < end {
+        place += 1;
+    }
+    place
+}
+
+/// The lengths where of each arc as many units are on as the states say.
+fn raised(alloc: Global, step: u64, lows: &[u64], caps: &[u32], ons: &[bool]) -> Result<Vec<u64>, AllocError>
+    requires step { step ≤ 4096 }
+    requires boxes { AreBoxes (length lows.now) lows.now caps.now }
+    ensures { IfOk result (λ ys. ys.items ≡ lengths_by step lows.now caps.now ons.now) }
+{
+    let mut ys = Vec::new(alloc);
+    let mut rest = ons;
+    for (k, low) in lows.iter().enumerate() {
+        let cap = (caps[k] as usize).min(rest.len());
+        let (own, after) = rest.split_at(cap);
+        ys.push(*low + count_on(own) * step)?;
+        rest = after;
+    }
+    Ok(ys)
+}
+
+/// How many units are on.
+fn count_on(ons: &[bool]) -> u64
+    ensures value { result ≡ trues ons.now }
+    ensures small { result ≤ length ons.now }
+{
+    let mut all = 0;
+    for on in ons {
+        if *on {
+            all += 1;
+        }
+    }
+    all
+}

@@ -1,0 +1,147 @@
+-- Physical lines joined to logical lines.
+use Rattle.std.proofs.Common.{◌≡◌, ℕ, suc, ◌+◌, ◌-◌, ◌<◌, ◌≤◌, Bool, true, false, cond, not, ◌||◌, List, [], ◌∷◌, ◌++◌, length, take, drop, get_or, refl, sym, ap, ◌∙◌, arith, eqb}
+use Rattle.std.specs.List.{before_first, list_any, position_or_len}
+use Rattle.std.proofs.lemmas.Bool.Decides.{nat_tests}
+use Rattle.std.specs.Prelude.{slice_range}
+use Rattle.std.proofs.lemmas.Bool.{false≢true}
+use Rattle.std.proofs.lemmas.List.{append-nil, append_assoc, drop_more, length-append, length-take}
+use Rattle.def_text.specs.Logical.{continues, is_hash, joined, logical_lines, size_of, span, with_space}
+use Rattle.qm_obj.specs.Lines.{first_logical}
+
+-- A comment is found before the end exactly where there is one.
+pub no_hash : (line : List ℕ) → eqb (position_or_len is_hash line) (length line) ≡ not (list_any is_hash line)
+no_hash [] = refl
+no_hash (b ∷ bs) = by_hash (is_hash b) (no_hash bs)
+  where
+    by_hash : (t : Bool) → eqb (position_or_len is_hash bs) (length bs) ≡ not (list_any is_hash bs) → eqb (cond (not t) (1 + position_or_len is_hash bs) 0) (suc (length bs)) ≡ not (t || list_any is_hash bs)
+    by_hash true again = grind (arith, nat_tests)
+    by_hash false again = grind (arith, nat_tests)
+
+-- A line that continues is as long with the space.
+length-with_space : (line : List ℕ) → continues line ≡ true → length (with_space line) ≡ length line
+length-with_space [] on = absurd (false≢true on)
+length-with_space (b ∷ bs) on = omega (arith, length-append (take (suc (length bs) - 1) (b ∷ bs)) (32 ∷ []), length-take (suc (length bs) - 1) (b ∷ bs))
+
+-- A part of a list by its first element.
+pub range_cons : {X : Type 0} (xs : List X) (i b : ℕ) (d : X) → i < b → b ≤ length xs → slice_range xs i b ≡ get_or xs i d ∷ slice_range xs (i + 1) b
+range_cons xs i b d lt within =
+    let there : i < length xs = omega arith in
+    let e : b - i ≡ suc (b - (i + 1)) = omega arith in
+    rw (drop_more xs i d there, e) refl
+
+pub range_none : {X : Type 0} (xs : List X) (b : ℕ) → slice_range xs b b ≡ []
+range_none xs b = let e : b - b ≡ 0 = omega arith in rw e refl
+
+-- The physical lines up to this one are joined, and each of them continues.
+pub record IsJoining (all : List (List ℕ)) (i next after : ℕ) (bytes : List ℕ) : Type 0 where
+  pub from : i ≤ next
+  pub within : next ≤ after
+  pub text : bytes ++ joined (slice_range all next after) ≡ joined (slice_range all i after)
+  pub count : next + span (slice_range all next after) ≡ i + span (slice_range all i after)
+  pub size : length bytes + size_of (slice_range all next after) ≡ size_of (slice_range all i after)
+
+pub record IsJoined (all : List (List ℕ)) (i next after : ℕ) (bytes : List ℕ) (size : ℕ) : Type 0 where
+  pub text : bytes ≡ joined (slice_range all i after)
+  pub count : next ≡ i + span (slice_range all i after)
+  pub bytes_are : size ≡ size_of (slice_range all i after)
+
+pub joining_none : (all : List (List ℕ)) (i after : ℕ) → i ≤ after → IsJoining all i i after []
+joining_none all i after le = record { from = omega arith; within = le; text = refl; count = refl; size = omega arith }
+
+-- One line more, that continues.
+pub joining_more : (all : List (List ℕ)) (i next after : ℕ) (bytes line : List ℕ) → next < after → after ≤ length all → line ≡ get_or all next [] → continues line ≡ true
+    → IsJoining all i next after bytes → IsJoining all i (next + 1) after (bytes ++ with_space line)
+joining_more all i next after bytes line lt within is on so_far =
+    let cut : slice_range all next after ≡ line ∷ slice_range all (next + 1) after = range_cons all next after [] lt within ∙ ap (λ l. l ∷ slice_range all (next + 1) after) (sym is) in
+    let text : joined (slice_range all next after) ≡ with_space line ++ joined (slice_range all (next + 1) after) = ap joined cut ∙ rw on refl in
+    let count : span (slice_range all next after) ≡ 1 + span (slice_range all (next + 1) after) = ap span cut ∙ rw on refl in
+    let size : size_of (slice_range all next after) ≡ length line + size_of (slice_range all (next + 1) after) = ap size_of cut ∙ rw on refl in
+    record {
+      from = omega (arith, so_far.from);
+      within = omega arith;
+      text = append_assoc bytes (with_space line) (joined (slice_range all (next + 1) after)) ∙ ap (λ rest. bytes ++ rest) (sym text) ∙ so_far.text;
+      count = omega (arith, so_far.count);
+      size = omega (arith, so_far.size, length-append bytes (with_space line), length-with_space line on);
+    }
+
+-- The last line, that does not continue.
+pub joined_last : (all : List (List ℕ)) (i next after : ℕ) (bytes line : List ℕ) → next < after → after ≤ length all → line ≡ get_or all next [] → continues line ≡ false
+    → IsJoining all i next after bytes → IsJoined all i (next + 1) after (bytes ++ before_first is_hash line) (length bytes + length line)
+joined_last all i next after bytes line lt within is off so_far =
+    let cut : slice_range all next after ≡ line ∷ slice_range all (next + 1) after = range_cons all next after [] lt within ∙ ap (λ l. l ∷ slice_range all (next + 1) after) (sym is) in
+    let text : joined (slice_range all next after) ≡ before_first is_hash line = ap joined cut ∙ rw off refl in
+    let count : span (slice_range all next after) ≡ 1 = ap span cut ∙ rw off refl in
+    let size : size_of (slice_range all next after) ≡ length line = ap size_of cut ∙ rw off refl in
+    record {
+      text = ap (λ rest. bytes ++ rest) (sym text) ∙ so_far.text;
+      count = omega (arith, so_far.count);
+      bytes_are = omega (arith, so_far.size);
+    }
+
+-- No line is left.
+pub joined_all : (all : List (List ℕ)) (i next after : ℕ) (bytes : List ℕ) → after ≤ next → IsJoining all i next after bytes → IsJoined all i next after bytes (length bytes)
+joined_all all i next after bytes past so_far =
+    let end : next ≡ after = omega (arith, so_far.within) in
+    let none : slice_range all next after ≡ [] = ap (λ n. slice_range all n after) end ∙ range_none all after in
+    let count : span (slice_range all next after) ≡ 0 = ap span none in
+    let size : size_of (slice_range all next after) ≡ 0 = ap size_of none in
+    record {
+      text = sym (append-nil bytes) ∙ ap (λ rest. bytes ++ rest) (sym (ap joined none)) ∙ so_far.text;
+      count = omega (arith, so_far.count);
+      bytes_are = omega (arith, so_far.size);
+    }
+
+-- At least one physical line is in a logical line, and no more than there are.
+pub span_some : (line : List ℕ) (lines : List (List ℕ)) → 1 ≤ span (line ∷ lines)
+span_some line lines = by_more (continues line)
+  where
+    by_more : (t : Bool) → 1 ≤ cond t (1 + span lines) 1
+    by_more true = omega arith
+    by_more false = omega arith
+
+pub span_few : (lines : List (List ℕ)) → span lines ≤ length lines
+span_few [] = omega arith
+span_few (line ∷ lines) = by_more (continues line) (span_few lines)
+  where
+    by_more : (t : Bool) → span lines ≤ length lines → cond t (1 + span lines) 1 ≤ suc (length lines)
+    by_more true few = omega arith
+    by_more false few = omega arith
+
+-- What is left to read is no longer than the physical lines.
+pub joined_short : (lines : List (List ℕ)) → length (joined lines) ≤ size_of lines
+joined_short [] = omega arith
+joined_short (line ∷ lines) = by_more (continues line) refl (joined_short lines)
+  where
+    by_more : (t : Bool) → continues line ≡ t → length (joined lines) ≤ size_of lines → length (cond t (with_space line ++ joined lines) (before_first is_hash line)) ≤ cond t (length line + size_of lines) (length line)
+    by_more true on short = omega (arith, length-append (with_space line) (joined lines), length-with_space line on)
+    by_more false off short = omega (arith, length-take (position_or_len is_hash line) line)
+
+-- The first logical line, and those behind its physical lines.
+pub logical_step : (number : ℕ) (line : List ℕ) (lines : List (List ℕ))
+    → logical_lines number (line ∷ lines) ≡ first_logical number (line ∷ lines) ∷ logical_lines (number + span (line ∷ lines)) (drop (span (line ∷ lines)) (line ∷ lines))
+logical_step number line [] = ap (λ rest. first_logical number (line ∷ []) ∷ rest) (by_more (continues line))
+  where
+    by_more : (t : Bool) → drop (cond t 1 0) (logical_lines (number + 1) []) ≡ logical_lines (number + cond t (1 + span []) 1) (drop (cond t (1 + span []) 1) (line ∷ []))
+    by_more true = refl
+    by_more false = refl
+logical_step number line (l ∷ ls) = ap (λ rest. first_logical number (line ∷ l ∷ ls) ∷ rest) (by_more (continues line) (logical_step (number + 1) l ls))
+  where
+    by_more : (t : Bool) → logical_lines (number + 1) (l ∷ ls) ≡ first_logical (number + 1) (l ∷ ls) ∷ logical_lines (number + 1 + span (l ∷ ls)) (drop (span (l ∷ ls)) (l ∷ ls))
+        → drop (cond t 1 0) (logical_lines (number + 1) (l ∷ ls)) ≡ logical_lines (number + cond t (1 + span (l ∷ ls)) 1) (drop (cond t (1 + span (l ∷ ls)) 1) (line ∷ l ∷ ls))
+    by_more false again = refl
+    by_more true again =
+        let e : 1 + span (l ∷ ls) ≡ suc (span (l ∷ ls)) = omega arith in
+        let n : number + suc (span (l ∷ ls)) ≡ number + 1 + span (l ∷ ls) = omega arith in
+        ap (drop 1) again ∙ sym (ap (λ k. logical_lines (number + k) (drop k (line ∷ l ∷ ls))) e ∙ ap (λ k. logical_lines k (drop (span (l ∷ ls)) (l ∷ ls))) n)
+
+-- A physical line that does not continue is a logical line.
+pub single_span : (all : List (List ℕ)) (i after : ℕ) (line : List ℕ) → i < after → after ≤ length all → line ≡ get_or all i [] → continues line ≡ false → 1 ≡ span (slice_range all i after)
+single_span all i after line lt within is off =
+    let cut : slice_range all i after ≡ line ∷ slice_range all (i + 1) after = range_cons all i after [] lt within ∙ ap (λ l. l ∷ slice_range all (i + 1) after) (sym is) in
+    sym (ap span cut ∙ rw off refl)
+
+pub single_logical : (all : List (List ℕ)) (i after : ℕ) (line : List ℕ) → i < after → after ≤ length all → line ≡ get_or all i [] → continues line ≡ false
+    → record { number = i + 1; size = length line; text = before_first is_hash line } ≡ first_logical (i + 1) (slice_range all i after)
+single_logical all i after line lt within is off =
+    let cut : slice_range all i after ≡ line ∷ slice_range all (i + 1) after = range_cons all i after [] lt within ∙ ap (λ l. l ∷ slice_range all (i + 1) after) (sym is) in
+    sym (ap (first_logical (i + 1)) cut ∙ rw off refl)

@@ -1,0 +1,376 @@
+-- What the lines of a canonical text say, and the soup that they have.
+use Rattle.std.proofs.Common.{◌≡◌, ℕ, ℤ, pos, zero, suc, ◌+◌, ◌-◌, ◌^◌, ◌<◌, ◌≤◌, Bool, true, false, cond, not, ◌&&◌, ◌||◌, List, [], ◌∷◌, ◌++◌, length, take, map, get_or, refl, sym, ap, ◌∙◌, arith, subst, eqb, ltb, leb, add-one, Ok}
+use Rattle.std.specs.Prelude.{decimal, unsigned_abs}
+use Rattle.std.specs.Char.{is_ascii_digit}
+use Rattle.std.specs.List.{count_by, filter, flat_map, list_all, list_any, position_or_len}
+use Rattle.std.proofs.lemmas.Bool.{and_from, and_parts, cond-false, eqb-true, le-ltb, lt-leb, leb-true, ltb-false, ltb-true, ne_eqb, not-true, or_from}
+use Rattle.std.proofs.lemmas.List.{append-nil, append_assoc, get_or-map, get_or_default, length-map, same_lists, take_all}
+use Rattle.std.proofs.lemmas.List.Concat.{flat_map-append}
+use Rattle.std.proofs.lemmas.List.Elements.{filter-append}
+use Rattle.std.proofs.lemmas.List.Folds.{flat_map-map}
+use Rattle.std.proofs.lemmas.List.Sums.{sum_by_push}
+use Rattle.std.proofs.lemmas.Fmt.{decimal_nonempty}
+use Rattle.def_text.specs.Canonical.{canonical_text, face_text, micro_text, place_text}
+use Rattle.def_text.specs.Corner.{are_indices, is_corner, is_out, is_slash, resolved, used_index}
+use Rattle.def_text.specs.Decimal.{is_decimal, is_far, rounded}
+use Rattle.def_text.specs.Digits.{is_negative, is_number, is_signed, number, unsigned}
+use Rattle.def_mesh.specs.Vertices.{is_used}
+use Rattle.def_text.specs.FaceSet.{FaceSet, IsSoup}
+use Rattle.def_text.specs.Logical.{Logical, logical_lines}
+use Rattle.def_text.specs.Reading.{begins_with, is_face_line, is_place_count, is_vertex_line, reading, words_reading}
+use Rattle.def_text.specs.Text.{face_in, face_set, faces, first_refusal, late_in, numbers_to, place_in, place_of, readings, refusal_in, soup_of, text_soup, used_to, vertex_of}
+use Rattle.def_text.specs.Words.{words}
+use Rattle.def_text.specs.declared.reading.Reading.{Reading}
+use Rattle.def_text.specs.declared.reading.Reading.TheVariants.{Place, Face, Refused}
+use Rattle.def_text.specs.declared.refusal.ObjFail.TheVariants.{Limit}
+use Rattle.def_text.specs.declared.refusal.Which.TheVariants.{Line}
+use Rattle.qm_io.specs.Lines.{lines_of}
+use Rattle.qm_obj.specs.Law.{ReadsBack, is_place, is_quad}
+use Rattle.qm_obj.proofs.CornerLemmas.{behind_none}
+use Rattle.qm_dec.proofs.ReadBack.{canonical_law}
+use Rattle.qm_dec.proofs.Texts.{decimal_digits, decimal_number}
+use Rattle.qm_obj.proofs.LawText.{IsLine, IsWord, decimal_word, line_tame, line_text, line_words, lines_split, logical_plain, micro_word, plain_lines}
+use Rattle.qm_obj.proofs.LineLemmas.{face_rest, vertex_rest}
+use Rattle.qm_obj.proofs.ListLemmas.{passes_at}
+use Rattle.qm_obj.proofs.ReadLemmas.{readings_append}
+use Rattle.qm_obj.proofs.SoupLemmas.{are_below, length-numbers_to, numbers_at, used_renumbered}
+
+-- What holds at each place of two lists holds at each place of both together, and of a map what holds of each image.
+each_both : {X : Type 0} (P : X → Type 0) (xs ys : List X) (d : X) → ((k : ℕ) → k < length xs → P (get_or xs k d)) → ((k : ℕ) → k < length ys → P (get_or ys k d)) → (k : ℕ) → k < length (xs ++ ys) → P (get_or (xs ++ ys) k d)
+each_both P [] ys d a b k l = b k l
+each_both P (x ∷ xs) ys d a b zero l = a 0 (omega arith)
+each_both P (x ∷ xs) ys d a b (suc k) l = each_both P xs ys d (λ j m. a (suc j) (omega arith)) b k (omega arith)
+
+each_map : {X Y : Type 0} (P : Y → Type 0) (f : X → Y) (xs : List X) (c : X) (d : Y) → ((k : ℕ) → k < length xs → P (f (get_or xs k c))) → (k : ℕ) → k < length (map f xs) → P (get_or (map f xs) k d)
+each_map {X} {Y} P f xs c d each k l =
+    let there : k < length xs = omega (arith, length-map xs f) in
+    subst (λ (y : Y). P y) (sym (get_or-map f xs k c d there)) (each k there)
+
+-- The lines of the canonical text, without their ends.
+abbrev pub place_line : List ℤ → List ℕ
+place_line place = line_text 118 (map micro_text place)
+
+abbrev pub vertex_word : ℕ → List ℕ
+vertex_word v = decimal (v + 1)
+
+abbrev pub face_line : List ℕ → List ℕ
+face_line face = line_text 102 (map vertex_word face)
+
+abbrev pub canonical_lines : FaceSet → List (List ℕ)
+canonical_lines s = map place_line s.pos ++ map face_line s.faces
+
+ended : {X : Type 0} (text line : X → List ℕ) → ((x : X) → text x ≡ line x ++ 10 ∷ []) → (xs : List X) → flat_map text xs ≡ flat_map (λ l. l ++ 10 ∷ []) (map line xs)
+ended text line same [] = refl
+ended text line same (x ∷ xs) = rw (same x, ended text line same xs) refl
+
+text_lines : (s : FaceSet) → canonical_text s ≡ flat_map (λ l. l ++ 10 ∷ []) (canonical_lines s)
+text_lines s =
+    rw (
+      ended place_text place_line (λ p. ap (λ ws. 118 ∷ ws ++ 10 ∷ []) (sym (flat_map-map (λ w. 32 ∷ w) micro_text p))) s.pos,
+      ended face_text face_line (λ f. ap (λ ws. 102 ∷ ws ++ 10 ∷ []) (sym (flat_map-map (λ w. 32 ∷ w) vertex_word f))) s.faces,
+    )
+    (sym (flat_map-append (λ l. l ++ 10 ∷ []) (map place_line s.pos) (map face_line s.faces)))
+
+-- The words of a place.
+near : (place : List ℤ) → is_place place ≡ true → (k : ℕ) (d : ℤ) → k < length place → unsigned_abs (get_or place k d) ≤ 999_999_999_999_999
+near place is k d l = ltb-false _ _ (not-true _ (passes_at (λ z. not (is_far z)) place k d (and_parts _ _ is).1 l))
+
+place_words : (place : List ℤ) → is_place place ≡ true → (k : ℕ) → k < length (map micro_text place) → IsWord (get_or (map micro_text place) k [])
+place_words place is = each_map IsWord micro_text place (pos 0) [] (λ k l. micro_word (get_or place k (pos 0)) (near place is k (pos 0) l))
+
+place_back : (place : List ℤ) → list_all (λ z. not (is_far z)) place ≡ true
+    → (list_all is_decimal (map micro_text place) ≡ true) × (list_any (λ w. is_far (rounded w)) (map micro_text place) ≡ false) × (map rounded (map micro_text place) ≡ place)
+place_back [] all = (refl, refl, refl)
+place_back (z ∷ zs) all =
+    let parts : (not (is_far z) ≡ true) × (list_all (λ z. not (is_far z)) zs ≡ true) = and_parts _ _ all in
+    let back : (is_decimal (micro_text z) ≡ true) × (rounded (micro_text z) ≡ z) = canonical_law z (ltb-false _ _ (not-true _ parts.0)) in
+    let again : (list_all is_decimal (map micro_text zs) ≡ true) × (list_any (λ w. is_far (rounded w)) (map micro_text zs) ≡ false) × (map rounded (map micro_text zs) ≡ zs) = place_back zs parts.1 in
+    (and_from _ _ back.0 again.0, or_from _ _ (ap is_far back.1 ∙ not-true _ parts.0) again.1, rw (back.1, again.2) refl)
+
+place_line_is : (place : List ℤ) → is_place place ≡ true → IsLine (place_line place)
+place_line_is place is =
+    let three : length place ≡ 3 = eqb-true _ _ (and_parts _ _ is).0 in
+    line_tame 118 (map micro_text place) refl (omega (arith, length-map place micro_text)) (place_words place is)
+
+place_said : (vertices faces n : ℕ) (place : List ℤ) → vertices < 2 ^ 21 → is_place place ≡ true → reading vertices faces (record { number = n; size = length (place_line place); text = place_line place }) ≡ Place place
+place_said vertices faces n place few is =
+    let parts : (eqb (length place) 3 ≡ true) × (list_all (λ z. not (is_far z)) place ≡ true) = and_parts _ _ is in
+    let three : length (map micro_text place) ≡ 3 = length-map place micro_text ∙ eqb-true _ _ parts.0 in
+    let back : (list_all is_decimal (map micro_text place) ≡ true) × (list_any (λ w. is_far (rounded w)) (map micro_text place) ≡ false) × (map rounded (map micro_text place) ≡ place) = place_back place parts.1 in
+    let short : ltb 65536 (length (place_line place)) ≡ false = le-ltb _ _ (place_line_is place is).short in
+    let right : (is_place_count (length (map micro_text place)) && list_all is_decimal (map micro_text place)) ≡ true = and_from _ _ (ap is_place_count three) back.0 in
+    let all : take 3 (map micro_text place) ≡ map micro_text place = take_all 3 (map micro_text place) (omega arith) in
+    by_size (ltb 65536 (length (place_line place))) short
+    (ap (words_reading n vertices faces) (line_words 118 (map micro_text place) refl (place_words place is))
+    ∙ vertex_rest n vertices (map micro_text place) (lt-leb _ _ few) right
+    ∙ rw (all, back.1, back.2) refl)
+  where
+    by_size : (t : Bool) → t ≡ false → words_reading n vertices faces (words (place_line place)) ≡ Place place → cond t (Refused (Limit Line n)) (words_reading n vertices faces (words (place_line place))) ≡ Place place
+    by_size t off said = rw off said
+
+-- The words of a face.
+digits_index : (b : ℕ) (bs : List ℕ) → list_all is_ascii_digit (b ∷ bs) ≡ true → (unsigned (b ∷ bs) ≡ b ∷ bs) × (is_negative (b ∷ bs) ≡ false)
+digits_index b bs all =
+    let both : (leb 48 b ≡ true) × (leb b 57 ≡ true) = and_parts _ _ (and_parts _ _ all).0 in
+    let high : 48 ≤ b = leb-true 48 b both.0 in
+    let plus : eqb b 43 ≡ false = ne_eqb _ _ (λ (e : b ≡ 43). omega arith) in
+    let minus : eqb b 45 ≡ false = ne_eqb _ _ (λ (e : b ≡ 45). omega arith) in
+    (rw (plus, minus) refl, minus)
+
+no_slash : (ds : List ℕ) → list_all is_ascii_digit ds ≡ true → list_any is_slash ds ≡ false
+no_slash [] all = refl
+no_slash (d ∷ ds) all =
+    let parts : (is_ascii_digit d ≡ true) × (list_all is_ascii_digit ds ≡ true) = and_parts _ _ all in
+    let high : 48 ≤ d = leb-true 48 d (and_parts _ _ parts.0).0 in
+    or_from _ _ (ne_eqb _ _ (λ (e : d ≡ 47). omega arith)) (no_slash ds parts.1)
+
+whole_word : (ds : List ℕ) → list_any is_slash ds ≡ false → used_index ds ≡ ds
+whole_word ds none = take_all _ _ (long ds none)
+  where
+    long : (ds : List ℕ) → list_any is_slash ds ≡ false → length ds ≤ position_or_len is_slash ds
+    long [] none = omega arith
+    long (d ∷ ds) none = by_slash (is_slash d) none (long ds)
+      where
+        by_slash : (t : Bool) → (t || list_any is_slash ds) ≡ false → (list_any is_slash ds ≡ false → length ds ≤ position_or_len is_slash ds) → suc (length ds) ≤ cond (not t) (1 + position_or_len is_slash ds) 0
+        by_slash true none again = cc
+        by_slash false none again = omega (arith, again none)
+
+record NamesVertex (vertices : ℕ) (word : List ℕ) (n : ℕ) : Type 0 where
+  form : is_corner word ≡ true
+  inside : is_out vertices (used_index word) ≡ false
+  names : resolved vertices (used_index word) ≡ n
+
+names_vertex : (vertices n : ℕ) → 0 < n → n < 2 ^ 64 → NamesVertex vertices (decimal n) n
+names_vertex vertices n some small = by_word (decimal n) (decimal_digits n small) (decimal_nonempty n small) (decimal_number n small)
+  where
+    by_word : (word : List ℕ) → list_all is_ascii_digit word ≡ true → 0 < length word → number word ≡ n → NamesVertex vertices word n
+    by_word [] all long value = absurd (omega arith)
+    by_word (b ∷ bs) all long value =
+        let index : (unsigned (b ∷ bs) ≡ b ∷ bs) × (is_negative (b ∷ bs) ≡ false) = digits_index b bs all in
+        let none : list_any is_slash (b ∷ bs) ≡ false = no_slash (b ∷ bs) all in
+        let used : used_index (b ∷ bs) ≡ b ∷ bs = whole_word (b ∷ bs) none in
+        let signed : is_signed (b ∷ bs) ≡ true = ap is_number index.0 ∙ all in
+        let value' : number (unsigned (b ∷ bs)) ≡ n = ap number index.0 ∙ value in
+        let other : eqb (number (unsigned (b ∷ bs))) 0 ≡ false = ne_eqb _ _ (λ (e : number (unsigned (b ∷ bs)) ≡ 0). omega arith) in
+        record {
+          form = ap are_indices (behind_none (b ∷ bs) none) ∙ rw signed refl;
+          inside = ap (is_out vertices) used ∙ or_from _ _ other (rw index.1 refl);
+          names = ap (resolved vertices) used ∙ cond-false _ _ _ index.1 ∙ value';
+        }
+
+face_back : (vertices : ℕ) (face : List ℕ) → vertices ≤ 2 ^ 21 → are_below vertices face ≡ true
+    → (list_all is_corner (map vertex_word face) ≡ true) × (list_any (λ w. is_out vertices (used_index w)) (map vertex_word face) ≡ false) × (map (λ w. resolved vertices (used_index w)) (map vertex_word face) ≡ map (λ v. v + 1) face)
+face_back vertices [] few all = (refl, refl, refl)
+face_back vertices (v ∷ vs) few all =
+    let parts : (ltb v vertices ≡ true) × (are_below vertices vs ≡ true) = and_parts _ _ all in
+    let low : v < vertices = ltb-true _ _ parts.0 in
+    let first : NamesVertex vertices (vertex_word v) (v + 1) = names_vertex vertices (v + 1) (omega arith) (omega arith) in
+    let again : (list_all is_corner (map vertex_word vs) ≡ true) × (list_any (λ w. is_out vertices (used_index w)) (map vertex_word vs) ≡ false) × (map (λ w. resolved vertices (used_index w)) (map vertex_word vs) ≡ map (λ v. v + 1) vs) = face_back vertices vs few parts.1 in
+    (and_from _ _ first.form again.0, or_from _ _ first.inside again.1, rw (first.names, again.2) refl)
+
+face_words : (vertices : ℕ) (face : List ℕ) → vertices ≤ 2 ^ 21 → are_below vertices face ≡ true → (k : ℕ) → k < length (map vertex_word face) → IsWord (get_or (map vertex_word face) k [])
+face_words vertices face few all = each_map IsWord vertex_word face 0 [] (λ k l.
+    let low : get_or face k 0 < vertices = ltb-true _ _ (passes_at (λ v. ltb v vertices) face k 0 all l) in
+    decimal_word (get_or face k 0 + 1) (omega arith))
+
+face_line_is : (vertices : ℕ) (face : List ℕ) → vertices ≤ 2 ^ 21 → is_quad face ≡ true → are_below vertices face ≡ true → IsLine (face_line face)
+face_line_is vertices face few is all =
+    let four : length face ≡ 4 = eqb-true _ _ is in
+    line_tame 102 (map vertex_word face) refl (omega (arith, length-map face vertex_word)) (face_words vertices face few all)
+
+face_said : (vertices faces n : ℕ) (face : List ℕ) → vertices ≤ 2 ^ 21 → faces < 2 ^ 20 → is_quad face ≡ true → are_below vertices face ≡ true
+    → reading vertices faces (record { number = n; size = length (face_line face); text = face_line face }) ≡ Face n (map (λ v. v + 1) face)
+face_said vertices faces n face few room is all =
+    let four : eqb (length (map vertex_word face)) 4 ≡ true = ap (λ m. eqb m 4) (length-map face vertex_word) ∙ is in
+    let back : (list_all is_corner (map vertex_word face) ≡ true) × (list_any (λ w. is_out vertices (used_index w)) (map vertex_word face) ≡ false) × (map (λ w. resolved vertices (used_index w)) (map vertex_word face) ≡ map (λ v. v + 1) face) = face_back vertices face few all in
+    let short : ltb 65536 (length (face_line face)) ≡ false = le-ltb _ _ (face_line_is vertices face few is all).short in
+    by_size (ltb 65536 (length (face_line face))) short
+    (ap (words_reading n vertices faces) (line_words 102 (map vertex_word face) refl (face_words vertices face few all))
+    ∙ face_rest n vertices faces (map vertex_word face) (lt-leb _ _ room) back.0 four
+    ∙ rw (back.1, back.2) refl)
+  where
+    by_size : (t : Bool) → t ≡ false → words_reading n vertices faces (words (face_line face)) ≡ Face n (map (λ v. v + 1) face) → cond t (Refused (Limit Line n)) (words_reading n vertices faces (words (face_line face))) ≡ Face n (map (λ v. v + 1) face)
+    by_size t off said = rw off said
+
+-- Plain lines one behind the other.
+plain_append : (n : ℕ) (xs ys : List (List ℕ)) → plain_lines n (xs ++ ys) ≡ plain_lines n xs ++ plain_lines (n + length xs) ys
+plain_append n [] ys = let e : n + 0 ≡ n = omega arith in rw e refl
+plain_append n (x ∷ xs) ys = let e : n + suc (length xs) ≡ n + 1 + length xs = omega arith in rw (e, plain_append (n + 1) xs ys) refl
+
+abbrev plain_line : ℕ → List ℕ → Logical
+plain_line n l = record { number = n; size = length l; text = l }
+
+one_more : (p : Logical → Bool) (before : List Logical) (line : Logical) → count_by p (before ++ line ∷ []) ≡ count_by p before + cond (p line) 1 0
+one_more p before line = sum_by_push (λ l. cond (p l) 1 0) before line
+
+place_kind : (n : ℕ) (place : List ℤ) → is_place place ≡ true → (is_vertex_line (plain_line n (place_line place)) ≡ true) × (is_face_line (plain_line n (place_line place)) ≡ false)
+place_kind n place is =
+    let ws : words (place_line place) ≡ (118 ∷ []) ∷ map micro_text place = line_words 118 (map micro_text place) refl (place_words place is) in
+    (ap (begins_with 118) ws, ap (begins_with 102) ws)
+
+face_kind : (vertices n : ℕ) (face : List ℕ) → vertices ≤ 2 ^ 21 → are_below vertices face ≡ true → (is_vertex_line (plain_line n (face_line face)) ≡ false) × (is_face_line (plain_line n (face_line face)) ≡ true)
+face_kind vertices n face few all =
+    let ws : words (face_line face) ≡ (102 ∷ []) ∷ map vertex_word face = line_words 102 (map vertex_word face) refl (face_words vertices face few all) in
+    (ap (begins_with 118) ws, ap (begins_with 102) ws)
+
+-- What the lines of all places say, and how many they are.
+places_said : (before : List Logical) (n : ℕ) (ps : List (List ℤ)) → list_all is_place ps ≡ true → count_by is_vertex_line before + length ps ≤ 2 ^ 21
+    → (readings before (plain_lines n (map place_line ps)) ≡ map Place ps)
+    × (count_by is_vertex_line (before ++ plain_lines n (map place_line ps)) ≡ count_by is_vertex_line before + length ps)
+    × (count_by is_face_line (before ++ plain_lines n (map place_line ps)) ≡ count_by is_face_line before)
+places_said before n [] all few =
+    (refl, ap (count_by is_vertex_line) (append-nil before) ∙ omega arith, ap (count_by is_face_line) (append-nil before))
+places_said before n (p ∷ ps) all few =
+    let parts : (is_place p ≡ true) × (list_all is_place ps ≡ true) = and_parts _ _ all in
+    let line = plain_line n (place_line p) in
+    let kind : (is_vertex_line line ≡ true) × (is_face_line line ≡ false) = place_kind n p parts.0 in
+    let v : count_by is_vertex_line (before ++ line ∷ []) ≡ count_by is_vertex_line before + 1 = one_more is_vertex_line before line ∙ rw kind.0 refl in
+    let f : count_by is_face_line (before ++ line ∷ []) ≡ count_by is_face_line before = one_more is_face_line before line ∙ rw kind.1 (omega arith) in
+    let again : (readings (before ++ line ∷ []) (plain_lines (n + 1) (map place_line ps)) ≡ map Place ps)
+    × (count_by is_vertex_line ((before ++ line ∷ []) ++ plain_lines (n + 1) (map place_line ps)) ≡ count_by is_vertex_line (before ++ line ∷ []) + length ps)
+    × (count_by is_face_line ((before ++ line ∷ []) ++ plain_lines (n + 1) (map place_line ps)) ≡ count_by is_face_line (before ++ line ∷ [])) =
+    places_said (before ++ line ∷ []) (n + 1) ps parts.1 (omega arith) in
+    let same : (before ++ line ∷ []) ++ plain_lines (n + 1) (map place_line ps) ≡ before ++ line ∷ plain_lines (n + 1) (map place_line ps) = append_assoc before (line ∷ []) (plain_lines (n + 1) (map place_line ps)) in (
+      rw (place_said (count_by is_vertex_line before) (count_by is_face_line before) n p (omega arith) parts.0, again.0) refl,
+      ap (count_by is_vertex_line) (sym same) ∙ again.1 ∙ omega arith,
+      ap (count_by is_face_line) (sym same) ∙ again.2 ∙ f,
+    )
+
+-- What the lines of all faces say.
+abbrev faces_from : ℕ → List (List ℕ) → List Reading
+faces_from n [] = []
+faces_from n (f ∷ fs) = Face n (map (λ v. v + 1) f) ∷ faces_from (n + 1) fs
+
+faces_said : (vertices : ℕ) (before : List Logical) (n : ℕ) (fs : List (List ℕ)) → vertices ≤ 2 ^ 21 → count_by is_vertex_line before ≡ vertices → list_all is_quad fs ≡ true → list_all (are_below vertices) fs ≡ true
+    → count_by is_face_line before + length fs ≤ 2 ^ 20 → readings before (plain_lines n (map face_line fs)) ≡ faces_from n fs
+faces_said vertices before n [] few many quads below room = refl
+faces_said vertices before n (f ∷ fs) few many quads below room =
+    let q : (is_quad f ≡ true) × (list_all is_quad fs ≡ true) = and_parts _ _ quads in
+    let b : (are_below vertices f ≡ true) × (list_all (are_below vertices) fs ≡ true) = and_parts _ _ below in
+    let line = plain_line n (face_line f) in
+    let kind : (is_vertex_line line ≡ false) × (is_face_line line ≡ true) = face_kind vertices n f few b.0 in
+    let v : count_by is_vertex_line (before ++ line ∷ []) ≡ vertices = one_more is_vertex_line before line ∙ rw kind.0 (omega arith) in
+    let g : count_by is_face_line (before ++ line ∷ []) ≡ count_by is_face_line before + 1 = one_more is_face_line before line ∙ rw kind.1 refl in
+    let first : reading (count_by is_vertex_line before) (count_by is_face_line before) line ≡ Face n (map (λ v. v + 1) f) =
+    ap (λ m. reading m (count_by is_face_line before) line) many ∙ face_said vertices (count_by is_face_line before) n f few (omega arith) q.0 b.0 in
+    rw (first, faces_said vertices (before ++ line ∷ []) (n + 1) fs few v q.1 b.1 (omega arith)) refl
+
+-- What these readings have.
+places_of_places : (ps : List (List ℤ)) → flat_map place_in (map Place ps) ≡ ps
+places_of_places [] = refl
+places_of_places (p ∷ ps) = ap (λ xs. p ∷ xs) (places_of_places ps)
+
+faces_of_places : (ps : List (List ℤ)) → flat_map face_in (map Place ps) ≡ []
+faces_of_places [] = refl
+faces_of_places (p ∷ ps) = faces_of_places ps
+
+refusals_of_places : (ps : List (List ℤ)) → flat_map refusal_in (map Place ps) ≡ []
+refusals_of_places [] = refl
+refusals_of_places (p ∷ ps) = refusals_of_places ps
+
+late_of_places : (n : ℕ) (ps : List (List ℤ)) → flat_map (late_in n) (map Place ps) ≡ []
+late_of_places n [] = refl
+late_of_places n (p ∷ ps) = late_of_places n ps
+
+places_of_faces : (n : ℕ) (fs : List (List ℕ)) → flat_map place_in (faces_from n fs) ≡ []
+places_of_faces n [] = refl
+places_of_faces n (f ∷ fs) = places_of_faces (n + 1) fs
+
+faces_of_faces : (n : ℕ) (fs : List (List ℕ)) → flat_map face_in (faces_from n fs) ≡ map (λ f. map (λ v. v + 1) f) fs
+faces_of_faces n [] = refl
+faces_of_faces n (f ∷ fs) = ap (λ xs. map (λ v. v + 1) f ∷ xs) (faces_of_faces (n + 1) fs)
+
+refusals_of_faces : (n : ℕ) (fs : List (List ℕ)) → flat_map refusal_in (faces_from n fs) ≡ []
+refusals_of_faces n [] = refl
+refusals_of_faces n (f ∷ fs) = refusals_of_faces (n + 1) fs
+
+not_late : (vertices : ℕ) (face : List ℕ) → are_below vertices face ≡ true → list_any (λ corner. ltb vertices corner) (map (λ v. v + 1) face) ≡ false
+not_late vertices [] all = refl
+not_late vertices (v ∷ vs) all =
+    let parts : (ltb v vertices ≡ true) × (are_below vertices vs ≡ true) = and_parts _ _ all in
+    or_from _ _ (le-ltb _ _ (omega (arith, ltb-true v vertices parts.0))) (not_late vertices vs parts.1)
+
+late_of_faces : (vertices n : ℕ) (fs : List (List ℕ)) → list_all (are_below vertices) fs ≡ true → flat_map (late_in vertices) (faces_from n fs) ≡ []
+late_of_faces vertices n [] all = refl
+late_of_faces vertices n (f ∷ fs) all =
+    let parts : (are_below vertices f ≡ true) × (list_all (are_below vertices) fs ≡ true) = and_parts _ _ all in
+    rw (not_late vertices f parts.0) (late_of_faces vertices (n + 1) fs parts.1)
+
+soup_said : (ps : List (List ℤ)) (fs : List (List ℕ)) (n : ℕ) → list_all (are_below (length ps)) fs ≡ true
+    → soup_of (map Place ps ++ faces_from n fs) ≡ Ok (face_set ps (map (λ f. map (λ v. v + 1) f) fs))
+soup_said ps fs n below =
+    let said = map Place ps ++ faces_from n fs in
+    let p : flat_map place_in said ≡ ps = flat_map-append place_in (map Place ps) (faces_from n fs) ∙ rw (places_of_places ps, places_of_faces n fs) (append-nil ps) in
+    let f : flat_map face_in said ≡ map (λ f. map (λ v. v + 1) f) fs = flat_map-append face_in (map Place ps) (faces_from n fs) ∙ rw (faces_of_places ps, faces_of_faces n fs) refl in
+    let r : flat_map refusal_in said ≡ [] = flat_map-append refusal_in (map Place ps) (faces_from n fs) ∙ rw (refusals_of_places ps, refusals_of_faces n fs) refl in
+    let l : flat_map (late_in (length ps)) said ≡ [] = flat_map-append (late_in (length ps)) (map Place ps) (faces_from n fs) ∙ rw (late_of_places (length ps) ps, late_of_faces (length ps) n fs below) refl in
+    ap (λ fails. first_refusal (fails ++ flat_map (late_in (length (flat_map place_in said))) said) (face_set (flat_map place_in said) (flat_map face_in said))) r
+    ∙ ap (λ xs. first_refusal (flat_map (late_in (length xs)) said) (face_set xs (flat_map face_in said))) p
+    ∙ ap (λ fails. first_refusal fails (face_set ps (flat_map face_in said))) l
+    ∙ ap (λ xs. Ok (face_set ps xs)) f
+
+-- Where all are used, all are kept.
+keeps_all : (p : ℕ → Bool) (n : ℕ) → ((k : ℕ) → k < n → p (k + 1) ≡ true) → filter p (numbers_to n) ≡ numbers_to n
+keeps_all p zero each = refl
+keeps_all p (suc n) each =
+    let last : p (suc n) ≡ true = ap p (sym (add-one n)) ∙ each n (omega arith) in
+    filter-append p (numbers_to n) (suc n ∷ []) ∙ rw (keeps_all p n (λ k l. each k (omega arith)), last) refl
+
+record AllUsed (fs : List (List ℕ)) (n : ℕ) : Type 0 where
+  kept : (k : ℕ) → k ≤ n → used_to fs k ≡ numbers_to k
+
+all_used_to : (s : FaceSet) → IsSoup s → AllUsed (map (λ f. map (λ v. v + 1) f) s.faces) (length s.pos)
+all_used_to s soup = record { kept = λ k le. keeps_all (is_used (map (λ f. map (λ v. v + 1) f) s.faces)) k (λ j l. used_renumbered (λ v. v + 1) j s.faces (soup.used j (omega arith))) }
+
+places_back : (ps : List (List ℤ)) → map (place_of ps) (numbers_to (length ps)) ≡ ps
+places_back ps =
+    let long : length (map (place_of ps) (numbers_to (length ps))) ≡ length ps = length-map (numbers_to (length ps)) (place_of ps) ∙ length-numbers_to (length ps) in
+    same_lists (map (place_of ps) (numbers_to (length ps))) ps long (λ k d l.
+    let there : k < length ps = omega arith in
+    let e : k + 1 - 1 ≡ k = omega arith in
+    get_or-map (place_of ps) (numbers_to (length ps)) k 0 d (omega (arith, length-numbers_to (length ps)))
+    ∙ ap (place_of ps) (numbers_at (length ps) k there) ∙ ap (λ j. get_or ps j []) e ∙ get_or_default ps k [] d there)
+
+corners_back : (fs : List (List ℕ)) (n : ℕ) → AllUsed fs n → (face : List ℕ) → are_below n face ≡ true → map (vertex_of fs) (map (λ v. v + 1) face) ≡ face
+corners_back fs n used [] all = refl
+corners_back fs n used (v ∷ vs) all =
+    let parts : (ltb v n ≡ true) × (are_below n vs ≡ true) = and_parts _ _ all in
+    let e : v + 1 - 1 ≡ v = omega arith in
+    let first : vertex_of fs (v + 1) ≡ v = ap (λ k. length (used_to fs k)) e ∙ ap length (used.kept v (omega (arith, ltb-true v n parts.0))) ∙ length-numbers_to v in
+    rw (first, corners_back fs n used vs parts.1) refl
+
+faces_back : (fs : List (List ℕ)) (n : ℕ) → AllUsed fs n → (some : List (List ℕ)) → list_all (are_below n) some ≡ true → map (λ corners. map (vertex_of fs) corners) (map (λ f. map (λ v. v + 1) f) some) ≡ some
+faces_back fs n used [] all = refl
+faces_back fs n used (f ∷ rest) all =
+    let parts : (are_below n f ≡ true) × (list_all (are_below n) rest ≡ true) = and_parts _ _ all in
+    rw (corners_back fs n used f parts.0, faces_back fs n used rest parts.1) refl
+
+-- The canonical text of a soup reads back.
+pub text_back : ReadsBack
+text_back s soup placed quads few_places few_faces =
+    let lines = canonical_lines s in
+    let each : (k : ℕ) → k < length lines → IsLine (get_or lines k []) =
+    each_both IsLine (map place_line s.pos) (map face_line s.faces) []
+    (each_map IsLine place_line s.pos [] [] (λ k l. place_line_is (get_or s.pos k []) (passes_at is_place s.pos k [] placed l)))
+    (each_map IsLine face_line s.faces [] [] (λ k l. face_line_is (length s.pos) (get_or s.faces k []) few_places (passes_at is_quad s.faces k [] quads l) (passes_at (are_below (length s.pos)) s.faces k [] soup.in_range l))) in
+    let cut : lines_of (canonical_text s) ≡ lines = ap lines_of (text_lines s) ∙ lines_split lines each in
+    let logical : logical_lines 1 lines ≡ plain_lines 1 (map place_line s.pos) ++ plain_lines (1 + length (map place_line s.pos)) (map face_line s.faces) =
+    logical_plain 1 lines each ∙ plain_append 1 (map place_line s.pos) (map face_line s.faces) in
+    let front : (readings [] (plain_lines 1 (map place_line s.pos)) ≡ map Place s.pos)
+    × (count_by is_vertex_line ([] ++ plain_lines 1 (map place_line s.pos)) ≡ count_by is_vertex_line [] + length s.pos)
+    × (count_by is_face_line ([] ++ plain_lines 1 (map place_line s.pos)) ≡ count_by is_face_line []) =
+    places_said [] 1 s.pos placed (omega arith) in
+    let behind : readings (plain_lines 1 (map place_line s.pos)) (plain_lines (1 + length (map place_line s.pos)) (map face_line s.faces)) ≡ faces_from (1 + length (map place_line s.pos)) s.faces =
+    faces_said (length s.pos) (plain_lines 1 (map place_line s.pos)) (1 + length (map place_line s.pos)) s.faces few_places (front.1 ∙ omega arith) quads soup.in_range (omega (arith, front.2)) in
+    let said : readings [] (logical_lines 1 lines) ≡ map Place s.pos ++ faces_from (1 + length (map place_line s.pos)) s.faces =
+    ap (readings []) logical ∙ readings_append [] (plain_lines 1 (map place_line s.pos)) (plain_lines (1 + length (map place_line s.pos)) (map face_line s.faces)) ∙ rw (front.0, behind) refl in
+    let used : AllUsed (map (λ f. map (λ v. v + 1) f) s.faces) (length s.pos) = all_used_to s soup in
+    let names : used_to (map (λ f. map (λ v. v + 1) f) s.faces) (length s.pos) ≡ numbers_to (length s.pos) = used.kept (length s.pos) (omega arith) in
+    ap (text_soup 1) cut ∙ ap soup_of said ∙ soup_said s.pos s.faces (1 + length (map place_line s.pos)) soup.in_range
+    ∙ ap Ok (same_parts (face_set s.pos (map (λ f. map (λ v. v + 1) f) s.faces)) (record { pos = s.pos; faces = s.faces; names = numbers_to (length s.pos) })
+    (ap (map (place_of s.pos)) names ∙ places_back s.pos)
+    (faces_back (map (λ f. map (λ v. v + 1) f) s.faces) (length s.pos) used s.faces soup.in_range)
+    names)
+  where
+    same_parts : (s t : FaceSet) → s.pos ≡ t.pos → s.faces ≡ t.faces → s.names ≡ t.names → s ≡ t
+    same_parts s t p q r = λ i. record { pos = p i; faces = q i; names = r i }

@@ -1,0 +1,13 @@
+use Rattle.std.proofs.Common.{◌≡◌, ◌∙◌, sym, refl, true, false, ltb, arith}
+use Rattle.std.proofs.lemmas.Bool.{le-ltb}
+use Rattle.def_text.specs.Reading.{is_letter}
+use Rattle.def_text.specs.Words.{words}
+use Rattle.qm_obj.proofs.WordLemmas.{by_first_word}
+use Rattle.qm_obj.proofs.line.read_line.Goals as goal
+
+pub returns-then-is_one : goal.returns-then-is_one
+returns-then-is_one c =
+    let fits : ltb 65536 c.args.size ≡ false = le-ltb _ _ (omega arith) in
+    let vertex : is_letter 118 c.next_word.result.0.now ≡ true = sym c.is_one.ensures ∙ c.if-is_one.true in
+    c.read_vertex.ensures
+    ∙ sym (rw fits (by_first_word c.args.line c.args.vertices c.args.faces (words c.args.text.now) (words c.next_word.result.1.now) c.next_word.result.0.now c.next_word.ensures.first ∙ rw vertex refl))

@@ -1,0 +1,90 @@
+ghost use Rattle.std.specs.Prelude.{
+  ◌≡◌,
+  ◌≤◌,
+  ◌<◌,
+  ◌+◌,
+  ◌++◌,
+  length,
+  slice_range,
+  IfOk,
+  OnOk,
+};
+ghost use Rattle.std.specs.List.{before_first};
+ghost use Rattle.def_text.specs.Logical.{continues, is_hash, joined, size_of, span, with_space};
+ghost use Rattle.qm_io.specs.Lines.{lines_of};
+
+use crate::Memory;
+use crate::piece::Logical;
+use crate::words::find_byte;
+use qm_io::Lines;
+use std::alloc::Global;
+
+/// The logical line that begins with physical line `i` of the range that ends before `after`. Linear in its bytes.
+pub fn logical(alloc: Global, lines: &Lines, i: u32, after: u32) -> Result<Logical, Memory>
+    requires begins { i < after }
+    requires within { after ≤ length (lines_of lines.now) }
+    ensures bytes { IfOk result (λ line. line.bytes.items ≡ joined (slice_range (lines_of lines.now) i after)) }
+    ensures next { IfOk result (λ line. line.next ≡ i + span (slice_range (lines_of lines.now) i after)) }
+{
+    let Joined { bytes, next, .. } = join(alloc, lines, i, after)?;
+    Ok(Logical { bytes, next })
+}
+
+/// A logical line, and the sum of its physical lines' lengths.
+#[derive(Drop)]
+pub(crate) struct Joined {
+    pub(crate) bytes: Vec<u8>,
+    pub(crate) next: u32,
+    pub(crate) size: usize,
+}
+
+pub(crate) fn join(alloc: Global, lines: &Lines, i: u32, after: u32) -> Result<Joined, Memory>
+    requires begins { i < after }
+    requires within { after ≤ length (lines_of lines.now) }
+    ensures bytes { IfOk result (λ line. line.bytes.items ≡ joined (slice_range (lines_of lines.now) i after)) }
+    ensures next { IfOk result (λ line. line.next ≡ i + span (slice_range (lines_of lines.now) i after)) }
+    ensures size { IfOk result (λ line. line.size ≡ size_of (slice_range (lines_of lines.now) i after)) }
+{
+    let mut bytes = Vec::new(alloc);
+    let mut next = i;
+    while next < after {
+        let line = lines.line(next);
+        next += 1;
+        if !goes_on(line) {
+            let size = bytes.len() + line.len();
+            bytes.extend_from_slice(before_comment(line))?;
+            return Ok(Joined { bytes, next, size });
+        }
+        push_spaced(&mut bytes, line)?;
+    }
+    let size = bytes.len();
+    Ok(Joined { bytes, next, size })
+}
+
+/// Whether the next physical line is joined to this one.
+#[tactic(auto, using(crate::proofs::JoinLemmas::no_hash))]
+pub(crate) fn goes_on(line: &[u8]) -> bool
+    ensures { result ≡ continues line.now }
+{
+    match line {
+        [] => false,
+        [.., last] => *last == b'\\' && find_byte(line, b'#') == line.len(),
+    }
+}
+
+/// A line up to its comment.
+pub(crate) fn before_comment(line: &[u8]) -> &[u8]
+    ensures { result.now ≡ before_first is_hash line.now }
+{
+    &line[..find_byte(line, b'#')]
+}
+
+fn push_spaced(bytes: &mut Vec<u8>, line: &[u8]) -> Result<(), Memory>
+    ensures { OnOk result (bytes.new.items ≡ bytes.old.items ++ with_space line.now) }
+{
+    if let [front @ .., _] = line {
+        bytes.extend_from_slice(front)?;
+    }
+    bytes.push(b' ')?;
+    Ok(())
+}

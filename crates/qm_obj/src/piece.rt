@@ -1,0 +1,6 @@
+/// The bytes that are left to read of a logical line, and the first physical line that is not joined to it.
+#[derive(Drop)]
+pub struct Logical {
+    pub bytes: Vec<u8>,
+    pub next: u32,
+}

@@ -1,0 +1,154 @@
+ghost use Rattle.std.specs.Prelude.{◌≤◌};
+
+use super::*;
+use qm_io::{MemSink, MemSource, Memory};
+use std::alloc::Global;
+use std::test::Fail;
+
+const QUAD: &[u8] = b"v 0 0 0\nv 3 0 0\nv 3 3 0\nv 0 3 0\nf 1 2 3 4\n";
+
+const TWICE: &[u8] =
+    b"v 0 0 0\nv 1 0 0\nv 1 1 0\nv 0 1 0\nv 2 0 0\nv 2 1 0\nf 1 2 3 4\nf 1 2 5 6\n";
+
+/// A stream's step, and the number of its call that fails, or 0.
+#[derive(Clone, Copy)]
+struct Ends {
+    step: usize,
+    fails: u64,
+    ghost moves: { 1 ≤ step },
+}
+
+const WELL: Ends = Ends { step: 10, fails: 0 };
+
+fn source(alloc: Global, text: &[u8], ends: Ends) -> Result<MemSource, Memory> {
+    Ok(MemSource::new(
+        Vec::from_slice(alloc, text)?,
+        ends.step,
+        Vec::from_slice(alloc, &[ends.fails])?,
+    ))
+}
+
+fn sink(alloc: Global, ends: Ends) -> Result<MemSink, Memory> {
+    Ok(MemSink::new(alloc, ends.step, Vec::from_slice(alloc, &[ends.fails])?))
+}
+
+/// A run of `tidy`: its answer, what went out, and what was said of it.
+fn tidied(
+    alloc: Global,
+    text: &[u8],
+    input: Ends,
+    out: Ends,
+    err: Ends,
+) -> Result<(Answer, MemSink, MemSink), Memory> {
+    let words = vec![in alloc; "tidy".to_string(alloc)?]?;
+    let (mut input, mut out, mut err) = (
+        source(alloc, text, input)?,
+        sink(alloc, out)?,
+        sink(alloc, err)?,
+    );
+    let answer = run(alloc, &words, &mut input, &mut out, &mut err);
+    Ok((answer, out, err))
+}
+
+#[test]
+fn pieces_of_any_size_give_the_same(rt: HostRuntime) -> Result<(), Fail> {
+    for step in [1, 7, 10, 1000] {
+        let ends = Ends { step, fails: 0 };
+        let (answer, out, err) = tidied(rt.alloc(), QUAD, ends, ends, ends)?;
+        assert_eq!(rt; answer, Answer::Done);
+        assert_eq!(rt; out.taken(), QUAD);
+        assert_eq!(rt; err.taken(), b"".as_slice());
+    }
+    Ok(())
+}
+
+#[test]
+fn each_fault_of_the_source_is_told(rt: HostRuntime) -> Result<(), Fail> {
+    for fails in 1..7 {
+        let (answer, out, err) = tidied(rt.alloc(), QUAD, Ends { step: 10, fails }, WELL, WELL)?;
+        assert_eq!(rt; answer, Answer::ReadFault);
+        assert_eq!(rt; out.taken(), b"".as_slice());
+        assert_eq!(rt; err.taken(), b"quadq: read fault\n".as_slice());
+    }
+    let (answer, _out, _err) = tidied(rt.alloc(), QUAD, Ends { step: 10, fails: 7 }, WELL, WELL)?;
+    assert_eq!(rt; answer, Answer::Done);
+    Ok(())
+}
+
+#[test]
+fn each_fault_of_the_sink_leaves_a_front(rt: HostRuntime) -> Result<(), Fail> {
+    for fails in 1..6u64 {
+        let (answer, out, err) = tidied(rt.alloc(), QUAD, WELL, Ends { step: 10, fails }, WELL)?;
+        assert_eq!(rt; answer, Answer::WriteFault);
+        assert!(rt; QUAD.starts_with(out.taken()));
+        assert_eq!(rt; out.taken().len() as u64, 10 * (fails - 1));
+        assert_eq!(rt; err.taken(), b"quadq: write fault\n".as_slice());
+    }
+    Ok(())
+}
+
+#[test]
+fn a_fault_of_the_error_sink_changes_nothing(rt: HostRuntime) -> Result<(), Fail> {
+    let place = Place::EdgeTwice {
+        from: 0,
+        to: 1,
+        face1: 0,
+        face2: 1,
+    };
+    let line = b"quadq: edge 1 2: faces 1 and 2\n".as_slice();
+    for fails in 0..6 {
+        let (answer, out, err) = tidied(rt.alloc(), TWICE, WELL, WELL, Ends { step: 10, fails })?;
+        assert_eq!(rt; answer, Answer::NotManifold { place });
+        assert_eq!(rt; answer.status(), 7);
+        assert_eq!(rt; out.taken(), b"".as_slice());
+        assert!(rt; line.starts_with(err.taken()));
+    }
+    Ok(())
+}
+
+#[test]
+fn a_text_cut_anywhere_is_done_or_refused(rt: HostRuntime) -> Result<(), Fail> {
+    for end in 0..QUAD.len() {
+        let (answer, out, err) = tidied(rt.alloc(), &QUAD[..end], WELL, WELL, WELL)?;
+        if answer == Answer::Done {
+            assert_eq!(rt; err.taken(), b"".as_slice());
+        } else {
+            assert_eq!(rt; out.taken(), b"".as_slice());
+            assert!(rt; err.taken().ends_with(b"\n"));
+        }
+    }
+    Ok(())
+}
+
+#[test]
+fn other_words_are_a_matter_of_usage(rt: HostRuntime) -> Result<(), Fail> {
+    for line in [
+        "",
+        "tidy --",
+        "tidy --help",
+        "--help",
+        "Tidy",
+        "graph",
+        "tidy extra",
+    ] {
+        let mut words = Vec::new(rt.alloc());
+        for word in line.split_whitespace() {
+            words.push(word.to_string(rt.alloc())?)?;
+        }
+        let (mut input, mut out, mut err) = (
+            source(rt.alloc(), QUAD, WELL)?,
+            sink(rt.alloc(), WELL)?,
+            sink(rt.alloc(), WELL)?,
+        );
+        assert_eq!(rt;
+            run(rt.alloc(), &words, &mut input, &mut out, &mut err),
+            Answer::Usage
+        );
+        assert_eq!(rt; out.taken(), b"".as_slice());
+        assert!(rt;
+            err.taken()
+                .starts_with(b"quadq: usage: quadq tidy | graph | ")
+        );
+    }
+    Ok(())
+}
