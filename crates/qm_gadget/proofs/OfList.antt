@@ -19,7 +19,7 @@ use Rattle.qm_units.proofs.Law.{arcs_at, units_at}
 use Rattle.qm_units.proofs.Size.{size_law}
 use Rattle.qm_gadget.specs.Layout.{room_of, EndsAt, IsAtNodes, AreAtNodes}
 use Rattle.qm_gadget.specs.Over.{AreBoxes, AreRooms, from_low, units_over, states_over}
-use Rattle.qm_gadget.specs.Ready.{IsReady, IsPlan}
+use Rattle.qm_gadget.specs.Ready.{graph_by_lows, IsReady, IsPlan}
 use Rattle.qm_gadget.specs.Ready.{own_states as states_of_caps}
 use Rattle.qm_gadget.specs.declared.plan.Plan.{Plan}
 use Rattle.qm_gadget.proofs.ByLows.{units_over_is, own_states}
@@ -82,30 +82,32 @@ plan_rooms net step ls cs p ready plan = same_everywhere (room_of p.rooms.items)
     ])
 
 -- The graph of units by lows and caps is the matching graph of the list.
-pub graph_over : (net : Network) (step : ℕ) (xs : List ℕ)
-  → graph_of_units net.nodes (units_over net step net.arcs (map (low net step) xs) (map (cap net step) xs)) (states_of_caps (map (cap net step) xs)) ≡ matching_graph net step xs
+pub graph_over : (net : Network) (step : ℕ) (xs : List ℕ) → graph_by_lows net step (map (low net step) xs) (map (cap net step) xs) ≡ matching_graph net step xs
 graph_over net step xs = ap (λ us. graph_of_units net.nodes us (states_of_caps (map (cap net step) xs))) (units_over_is net step net.arcs xs) ∙ ap (graph_of_units net.nodes (units net step net.arcs xs)) (own_states net step xs)
 
--- The graph of a plan is the matching graph of the list.
-pub plan_graph : (net : Network) (step : ℕ) (xs : List ℕ) (p : Plan) → IsReady net step (map (low net step) xs) (map (cap net step) xs) → IsPlan net step (map (low net step) xs) (map (cap net step) xs) p
-  → graph_by (length p.rooms.items) (room_of p.rooms.items) p.lone p.units.items ≡ matching_graph net step xs
-plan_graph net step xs p ready plan =
+-- The graph of a plan.
+pub plan_graph : (net : Network) (step : ℕ) (ls cs : List ℕ) (p : Plan) → IsReady net step ls cs → IsPlan net step ls cs p
+  → graph_by (length p.rooms.items) (room_of p.rooms.items) p.lone p.units.items ≡ graph_by_lows net step ls cs
+plan_graph net step ls cs p ready plan =
     ap (λ n. graph_by n (room_of p.rooms.items) p.lone p.units.items) plan.rooms.count
-    ∙ (ap (λ f. graph_by net.nodes f p.lone p.units.items) (plan_rooms net step (map (low net step) xs) (map (cap net step) xs) p ready plan)
+    ∙ (ap (λ f. graph_by net.nodes f p.lone p.units.items) (plan_rooms net step ls cs p ready plan)
     ∙ (ap (λ b. graph_by net.nodes (λ v. active v over ons) b p.units.items) plan.lone
-    ∙ (ap (λ us. graph_by net.nodes (λ v. active v over ons) (rim_active over ons % 2 == 1) us) plan.units ∙ graph_over net step xs)))
+    ∙ ap (λ us. graph_by net.nodes (λ v. active v over ons) (rim_active over ons % 2 == 1) us) plan.units))
   where
     over : List ArcUnit
-    over = units_over net step net.arcs (map (low net step) xs) (map (cap net step) xs)
+    over = units_over net step net.arcs ls cs
 
     ons : List Bool
-    ons = states_of_caps (map (cap net step) xs)
+    ons = states_of_caps cs
 
 -- A plan's units have their ends at the nodes that it counts.
 pub plan_at : (net : Network) (step : ℕ) (ls cs : List ℕ) (p : Plan) → IsReady net step ls cs → IsPlan net step ls cs p → AreAtNodes (length p.rooms.items) p.units.items
 plan_at net step ls cs p ready plan = rw (plan.rooms.count, plan.units) ready.at
 
 -- The graph of a plan is small.
-pub plan_small : (net : Network) (step : ℕ) (xs : List ℕ) (p : Plan) → (matching_graph net step xs).n ≤ 2 ^ 25 → graph_by (length p.rooms.items) (room_of p.rooms.items) p.lone p.units.items ≡ matching_graph net step xs
+pub plan_small : (net : Network) (step : ℕ) (ls cs : List ℕ) (p : Plan) → IsReady net step ls cs → IsPlan net step ls cs p → (graph_by_lows net step ls cs).n ≤ 2 ^ 25
   → first_fresh (length p.rooms.items) (room_of p.rooms.items) p.lone p.units.items + 2 * length (rim (count_below (room_of p.rooms.items) (length p.rooms.items)) p.units.items) < 2 ^ 26
-plan_small net step xs p small same = let n : first_fresh (length p.rooms.items) (room_of p.rooms.items) p.lone p.units.items + 2 * (length (rim (count_below (room_of p.rooms.items) (length p.rooms.items)) p.units.items) - 1) ≡ (matching_graph net step xs).n = ap (λ (g : Graph). g.n) same in omega arith
+plan_small net step ls cs p ready plan small =
+    let n : first_fresh (length p.rooms.items) (room_of p.rooms.items) p.lone p.units.items + 2 * (length (rim (count_below (room_of p.rooms.items) (length p.rooms.items)) p.units.items) - 1) ≡ (graph_by_lows net step ls cs).n =
+        ap (λ (g : Graph). g.n) (plan_graph net step ls cs p ready plan) in
+    omega arith

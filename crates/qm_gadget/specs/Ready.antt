@@ -1,6 +1,8 @@
 -- What a plan of a matching graph holds, and what it needs.
 use Rattle.std.specs.Prelude.{◌≡◌, ℕ, ◌+◌, ◌-◌, ◌*◌, ◌/◌, ◌%◌, ◌^◌, ◌<◌, ◌≤◌, ◌==◌, Bool, List, [], ◌∷◌, length, map, slice_index}
 use Rattle.def_flow.specs.Network.{Network}
+use Rattle.def_flow.specs.Matching.{Graph}
+use Rattle.def_flow.specs.MatchingGraph.{graph_of_units}
 use Rattle.def_flow.specs.Units.{active, rim_active}
 use Rattle.qm_units.specs.Marks.{states_marks}
 use Rattle.qm_gadget.specs.Layout.{AreAtNodes}
@@ -38,3 +40,7 @@ abbrev pub marks_over : Network → ℕ → List ℕ → List ℕ → List ℕ �
 marks_over net step lows caps js =
     let us = units_over net step net.arcs lows caps in
     states_marks net.nodes (λ v. active v us (own_states caps)) (rim_active us (own_states caps) % 2 == 1) us (states_over caps js)
+
+-- The graph of the units with these lows and caps.
+abbrev pub graph_by_lows : Network → ℕ → List ℕ → List ℕ → Graph
+graph_by_lows net step lows caps = graph_of_units net.nodes (units_over net step net.arcs lows caps) (own_states caps)
