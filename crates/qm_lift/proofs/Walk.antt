@@ -1,5 +1,5 @@
 -- A walk through copies of arcs: it goes on from each port by an unused copy, until a port comes again.
-use Rattle.std.proofs.Common.{◌≡◌, ◌≢◌, ℕ, zero, suc, ◌+◌, ◌-◌, ◌*◌, ◌<◌, ◌≤◌, Bool, true, false, cond, not, ◌&&◌, ◌==◌, List, [], ◌∷◌, Option, Some, None, ℤ, pos, negsuc, ◌+ℤ◌, ◌-ℤ◌, ◌≤ℤ◌, ◌<ℤ◌, neg_ℤ, refl, sym, ◌∙◌, ap, subst, inl, inr, ◌⊎◌, true≢false, arith, eq-eqb, ne_eqb}
+use Rattle.std.proofs.Common.{◌≡◌, ◌≢◌, ℕ, zero, suc, ◌+◌, ◌-◌, ◌<◌, ◌≤◌, Bool, true, false, cond, not, ◌&&◌, ◌==◌, List, [], ◌∷◌, Option, Some, None, ℤ, pos, ◌+ℤ◌, ◌-ℤ◌, ◌≤ℤ◌, ◌<ℤ◌, neg_ℤ, refl, sym, ◌∙◌, ap, subst, inl, inr, ◌⊎◌, true≢false, arith, eq-eqb, ne_eqb}
 use Rattle.std.proofs.lemmas.Int.{ints}
 use Rattle.std.proofs.lemmas.Bool.{cases_eq, cases_lt}
 use Rattle.qm_laws.specs.Sums.{total, total_below}
@@ -116,14 +116,6 @@ weigh_other p (Some q) e = by_tests (q.node == p.node) p.up q.up e
     by_tests true true false e = omega (arith, ints)
     by_tests true false true e = omega (arith, ints)
     by_tests true false false e = absurd (true≢false e)
-
-opposite_twice : (q : Option Port) → opposite (opposite q) ≡ q
-opposite_twice None = refl
-opposite_twice (Some q) = ap Some (same_port (record { node = q.node; up = not (not q.up) }) q refl (twice q.up))
-  where
-    twice : (b : Bool) → not (not b) ≡ b
-    twice true = refl
-    twice false = refl
 
 -- What weighs less than nothing is the opposite effect.
 weigh_low : (p : Port) (q : Option Port) (m : ℤ) → pos 0 ≤ℤ m → weigh p q m <ℤ pos 0 → (opposite q ≡ Some p) × (pos 0 <ℤ m)
