@@ -1,9 +1,9 @@
 -- What the lines of a canonical text say, and the soup that they have.
-use Rattle.std.proofs.Common.{◌≡◌, ℕ, ℤ, pos, zero, suc, ◌+◌, ◌-◌, ◌^◌, ◌<◌, ◌≤◌, Bool, true, false, cond, not, ◌&&◌, ◌||◌, List, [], ◌∷◌, ◌++◌, length, take, map, get_or, refl, sym, ap, ◌∙◌, arith, subst, eqb, ltb, leb, add-one, Ok}
+use Rattle.std.proofs.Common.{◌≡◌, ℕ, ℤ, pos, zero, suc, ◌+◌, ◌-◌, ◌^◌, ◌<◌, ◌≤◌, Bool, true, false, cond, not, ◌&&◌, List, [], ◌∷◌, ◌++◌, length, take, map, get_or, refl, sym, ap, ◌∙◌, arith, subst, eqb, ltb, add-one, Ok}
 use Rattle.std.specs.Prelude.{decimal, unsigned_abs}
 use Rattle.std.specs.Char.{is_ascii_digit}
-use Rattle.std.specs.List.{count_by, filter, flat_map, list_all, list_any, position_or_len}
-use Rattle.std.proofs.lemmas.Bool.{and_from, and_parts, cond-false, eqb-true, le-ltb, lt-leb, leb-true, ltb-false, ltb-true, ne_eqb, not-true, or_from}
+use Rattle.std.specs.List.{count_by, filter, flat_map, list_all, list_any}
+use Rattle.std.proofs.lemmas.Bool.{and_from, and_parts, cond-false, eqb-true, le-ltb, lt-leb, ltb-false, ltb-true, ne_eqb, not-true, or_from}
 use Rattle.std.proofs.lemmas.List.{append-nil, append_assoc, get_or-map, get_or_default, length-map, same_lists, take_all}
 use Rattle.std.proofs.lemmas.List.Concat.{flat_map-append}
 use Rattle.std.proofs.lemmas.List.Elements.{filter-append}

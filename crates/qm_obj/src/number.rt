@@ -7,7 +7,11 @@ ghost use Rattle.def_text.specs.Digits.{is_negative, is_number, number, unsigned
 pub(crate) fn read_number(word: &[u8]) -> Option<u64>
     ensures { result ≡ (if is_number word.now then Some (min (number word.now) (2 ^ 64 - 1)) else None) }
 {
-    if word.len() <= 18 { read_short(word) } else { read_long(word) }
+    if word.len() <= 18 {
+        read_short(word)
+    } else {
+        read_long(word)
+    }
 }
 
 /// A number that needs no cap, which is nearly every one.

@@ -1,4 +1,4 @@
-use Rattle.std.proofs.Common.{◌∙◌, sym, ap}
+use Rattle.std.proofs.Common.{◌∙◌, sym}
 use Rattle.qm_obj.proofs.CornerLemmas.{plain_corner}
 use Rattle.qm_obj.proofs.corner.read_corner.Goals as goal
 

@@ -1,8 +1,7 @@
-use Rattle.std.proofs.Common.{◌≡◌, ◌<◌, ◌-◌, ◌+◌, ◌*◌, ◌^◌, true, length, take, get_or, arith, sym, ◌∙◌, ap}
+use Rattle.std.proofs.Common.{◌+◌, ◌*◌, arith, sym, ◌∙◌, ap}
 use Rattle.std.specs.Char.{is_ascii_digit}
 use Rattle.std.proofs.lemmas.List.Folds.{list_all_more}
 use Rattle.std.proofs.lemmas.Bool.{and_from}
-use Rattle.def_text.specs.Digits.{number}
 use Rattle.qm_obj.proofs.NumberLemmas.{number_more, taken_small}
 use Rattle.qm_obj.proofs.number.read_short.Goals as goal
 
