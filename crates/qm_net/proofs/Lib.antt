@@ -1,2 +1,3 @@
-pub mod Balances
-pub mod Within
+mod Balances
+pub mod SmallNets
+mod Within
