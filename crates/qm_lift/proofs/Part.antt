@@ -9,7 +9,8 @@ use Rattle.def_flow.specs.declared.net.Arc.{Arc}
 use Rattle.def_flow.specs.declared.net.End.{End}
 use Rattle.qm_lift.specs.Laws.{IsPart, IsSmallPart}
 use Rattle.qm_lift.proofs.Balance.{balanced_minus, same_sides}
-use Rattle.qm_lift.proofs.Walk.{Port, Tour, IsEvenOut, weigh, uses, tour, tour_even, at_most_twice}
+use Rattle.qm_lift.proofs.Ports.{Port, weigh}
+use Rattle.qm_lift.proofs.Walk.{Tour, IsEvenOut, uses, tour, tour_even, at_most_twice}
 
 -- Whether a difference goes up, and m with its sign.
 abbrev goes_up : ℤ → Bool
