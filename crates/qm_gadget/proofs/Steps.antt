@@ -1,9 +1,9 @@
 -- Lists in the box, by the steps that their entries are above the lows.
-use Rattle.std.proofs.Common.{◌≡◌, ℕ, zero, suc, ◌+◌, ◌-◌, ◌*◌, ◌/◌, ◌%◌, ◌^◌, ◌<◌, ◌≤◌, ◌==◌, Bool, true, false, cond, List, [], ◌∷◌, ◌++◌, length, drop, get_or, map, Option, Some, None, refl, sym, ◌∙◌, ap, inl, inr, ◌⊎◌, length-append, add-one, arith}
+use Rattle.std.proofs.Common.{◌≡◌, ℕ, suc, ◌+◌, ◌-◌, ◌*◌, ◌/◌, ◌%◌, ◌^◌, ◌<◌, ◌≤◌, ◌==◌, Bool, true, false, List, [], ◌∷◌, length, drop, map, Option, Some, None, refl, sym, ◌∙◌, ap, inl, inr, ◌⊎◌, length-append, arith}
 use Rattle.std.specs.Prelude.{slice_index}
 use Rattle.std.proofs.Math.Nat.{mul-le-mul_left}
 use Rattle.std.proofs.lemmas.Bool.{cases_order, cases_lt}
-use Rattle.std.proofs.lemmas.List.{drop_more, drop_all, get_or_past, length-map}
+use Rattle.std.proofs.lemmas.List.{drop_more, get_or_past}
 use Rattle.qm_laws.specs.Counts.{count_below}
 use Rattle.def_flow.specs.Network.{Network}
 use Rattle.def_flow.specs.Units.{low, cap, units, states_at, is_active, active, rim_active}
@@ -21,7 +21,7 @@ use Rattle.qm_gadget.specs.Ready.{ups, AreUps, IsReady, IsPlan, marks_over}
 use Rattle.qm_gadget.specs.Ready.{own_states as states_of_caps}
 use Rattle.qm_gadget.specs.declared.plan.Plan.{Plan}
 use Rattle.qm_gadget.proofs.ByLows.{units_over_is, states_over_is, own_states}
-use Rattle.qm_gadget.proofs.Numbers.{is_there, rim_is}
+use Rattle.qm_gadget.proofs.Numbers.{rim_is}
 use Rattle.qm_gadget.proofs.OfList.{plan_rooms}
 use Rattle.qm_gadget.proofs.Rooms.{active_low}
 
@@ -124,7 +124,7 @@ rim_from_lone nodes room false us fresh os = rim_is (lone_vertex nodes room fals
 
 -- The marks of a plan.
 pub plan_marks : (net : Network) (step : ℕ) (ls cs js : List ℕ) (p : Plan) → IsReady net step ls cs → IsPlan net step ls cs p
-  → states_marks (length p.rooms.items) (room_of p.rooms.items) p.lone p.units.items (states_over cs js) ≡ marks_over net step ls cs js
+    → states_marks (length p.rooms.items) (room_of p.rooms.items) p.lone p.units.items (states_over cs js) ≡ marks_over net step ls cs js
 plan_marks net step ls cs js p ready plan =
     ap (λ n. states_marks n (room_of p.rooms.items) p.lone p.units.items (states_over cs js)) plan.rooms.count
     ∙ (ap (λ f. states_marks net.nodes f p.lone p.units.items (states_over cs js)) (plan_rooms net step ls cs p ready plan)
@@ -143,6 +143,6 @@ plan_few net step ls cs p ready plan = (omega (arith, ap length plan.units, read
   where
     rooms : (v : ℕ) → slice_index p.rooms.items v ≤ 2 ^ 27
     rooms v = elim (cases_lt v net.nodes) [
-        inl l ↦ omega (arith, plan.rooms.each v l, active_low v (units_over net step net.arcs ls cs) (states_of_caps cs), ready.few)
+      | inl l ↦ omega (arith, plan.rooms.each v l, active_low v (units_over net step net.arcs ls cs) (states_of_caps cs), ready.few)
       | inr h ↦ omega (arith, get_or_past p.rooms.items v 0 (omega (arith, plan.rooms.count)))
-      ]
+    ]

@@ -44,11 +44,22 @@ pub fn graph_of(alloc: Global, net: &Net, x: &[u64], step: u64) -> Result<Gadget
     let low = lows_of(alloc, net, step, x)?;
     let cap = caps_of(alloc, net, step, x)?;
     let graph = graph_over(alloc, net, step, &low, &cap)?;
-    Ok(Gadget { graph, low, cap, step })
+    Ok(Gadget {
+        graph,
+        low,
+        cap,
+        step,
+    })
 }
 
 /// The graph of the units with these lows and caps.
-fn graph_over(alloc: Global, net: &Net, step: u64, lows: &[u64], caps: &[u32]) -> Result<WGraph, AllocError>
+fn graph_over(
+    alloc: Global,
+    net: &Net,
+    step: u64,
+    lows: &[u64],
+    caps: &[u32],
+) -> Result<WGraph, AllocError>
     requires bounds { IsWithinBounds (network net.now) }
     requires step { (1 ≤ step) × (step ≤ 4096) }
     requires ready { IsReady (network net.now) step lows.now caps.now }

@@ -2,8 +2,8 @@
 #![tactic(auto)]
 
 mod boxes;
-mod edges;
 mod build;
+mod edges;
 mod layout;
 mod lengths;
 mod marks;

@@ -51,7 +51,12 @@ type Tip = (u32, bool);
 type Arcs = &'static [(Tip, Option<Tip>, u32, u32)];
 
 /// One quad: each arc has one end.
-const QUAD: Arcs = &[((0, true), None, 1, 1), ((1, true), None, 1, 1), ((0, false), None, 1, 1), ((1, false), None, 1, 1)];
+const QUAD: Arcs = &[
+    ((0, true), None, 1, 1),
+    ((1, true), None, 1, 1),
+    ((0, false), None, 1, 1),
+    ((1, false), None, 1, 1),
+];
 
 /// Like signs at two nodes, unlike signs at one node, and arcs with one end.
 const MIXED: Arcs = &[
@@ -103,9 +108,20 @@ struct Case {
 fn net(alloc: Global, case: &Case) -> Result<Net, Fail> {
     let mut arcs = Vec::new(alloc);
     for (left, right, old, weight) in case.arcs {
-        arcs.push(Arc { left: end(*left), right: right.map(end), old: *old, weight: *weight })?;
+        arcs.push(Arc {
+            left: end(*left),
+            right: right.map(end),
+            old: *old,
+            weight: *weight,
+        })?;
     }
-    Ok(Net { nodes: case.nodes, arcs, floor: case.floor, p: case.p, q: case.q })
+    Ok(Net {
+        nodes: case.nodes,
+        arcs,
+        floor: case.floor,
+        p: case.p,
+        q: case.q,
+    })
 }
 
 fn end((node, plus): Tip) -> End {
@@ -118,7 +134,10 @@ fn checksum(graph: &WGraph) -> u64 {
     let mut place = 1u64;
     for edge in &graph.edges {
         let cost = edge.cost.wrapping_add(1 << 31).unsigned_abs();
-        let digits = u64::from(edge.u).wrapping_mul(1009).wrapping_add(u64::from(edge.v).wrapping_mul(9_176_263)).wrapping_add(cost.wrapping_mul(31_337));
+        let digits = u64::from(edge.u)
+            .wrapping_mul(1009)
+            .wrapping_add(u64::from(edge.v).wrapping_mul(9_176_263))
+            .wrapping_add(cost.wrapping_mul(31_337));
         total = total.wrapping_add(place.wrapping_mul(digits));
         place = place.wrapping_add(1);
     }
@@ -137,17 +156,160 @@ fn cost_of(graph: &WGraph, m: &[u32]) -> i64 {
 }
 
 const CASES: [Case; 11] = [
-    Case { arcs: QUAD, nodes: 2, floor: 1, p: 1, q: 1, step: 1, x: &[1, 1, 1, 1], other: &[1, 1, 1, 1], n: 34, edges: 51, checksum: 89_234_333_233_235_605, cost: 0 },
-    Case { arcs: QUAD, nodes: 2, floor: 1, p: 3, q: 1, step: 1, x: &[1, 2, 1, 2], other: &[3, 1, 3, 1], n: 44, edges: 73, checksum: 181_766_278_309_715_744, cost: -4 },
-    Case { arcs: MIXED, nodes: 2, floor: 2, p: 1, q: 2, step: 1, x: &[4, 2, 9, 2, 2], other: &[5, 3, 8, 2, 2], n: 46, edges: 229, checksum: 1_772_235_346_154_205_410, cost: 22 },
-    Case { arcs: MIXED, nodes: 2, floor: 1, p: 1, q: 2, step: 2, x: &[7, 2, 9, 5, 5], other: &[9, 4, 5, 5, 5], n: 62, edges: 281, checksum: 2_666_329_448_885_532_838, cost: 8_048 },
-    Case { arcs: MIXED, nodes: 2, floor: 3, p: 1000, q: 7, step: 16, x: &[80, 40, 35, 40, 40], other: &[96, 40, 67, 56, 56], n: 66, edges: 315, checksum: 3_349_311_137_370_132_795, cost: -339_024 },
-    Case { arcs: LOOPS, nodes: 3, floor: 1, p: 3, q: 2, step: 1, x: &[5, 7, 7, 1, 3, 2, 2], other: &[4, 5, 5, 2, 3, 3, 3], n: 76, edges: 333, checksum: 3_742_392_007_788_968_182, cost: -22 },
-    Case { arcs: LOOPS, nodes: 3, floor: 2, p: 3, q: 2, step: 2, x: &[8, 9, 9, 3, 7, 3, 3], other: &[8, 13, 13, 5, 3, 5, 5], n: 70, edges: 275, checksum: 2_553_878_810_551_901_101, cost: -28 },
-    Case { arcs: LOOPS, nodes: 3, floor: 1, p: 1, q: 4, step: 16, x: &[20, 19, 19, 33, 21, 17, 17], other: &[20, 35, 35, 1, 5, 1, 1], n: 66, edges: 324, checksum: 3_543_127_320_805_417_840, cost: 960 },
-    Case { arcs: RIM, nodes: 2, floor: 1, p: 2, q: 3, step: 1, x: &[2, 2, 7, 4, 2], other: &[4, 4, 6, 2, 1], n: 62, edges: 208, checksum: 1_462_743_370_458_934_102, cost: 22 },
-    Case { arcs: RIM, nodes: 2, floor: 2, p: 2, q: 3, step: 2, x: &[5, 5, 3, 8, 4], other: &[3, 3, 7, 12, 6], n: 58, edges: 160, checksum: 866_771_170_300_428_167, cost: 96 },
-    Case { arcs: RIM, nodes: 2, floor: 3, p: 9, q: 2, step: 16, x: &[19, 19, 3, 38, 19], other: &[35, 35, 19, 6, 3], n: 58, edges: 160, checksum: 866_771_172_731_301_931, cost: 154 },
+    Case {
+        arcs: QUAD,
+        nodes: 2,
+        floor: 1,
+        p: 1,
+        q: 1,
+        step: 1,
+        x: &[1, 1, 1, 1],
+        other: &[1, 1, 1, 1],
+        n: 34,
+        edges: 51,
+        checksum: 89_234_333_233_235_605,
+        cost: 0,
+    },
+    Case {
+        arcs: QUAD,
+        nodes: 2,
+        floor: 1,
+        p: 3,
+        q: 1,
+        step: 1,
+        x: &[1, 2, 1, 2],
+        other: &[3, 1, 3, 1],
+        n: 44,
+        edges: 73,
+        checksum: 181_766_278_309_715_744,
+        cost: -4,
+    },
+    Case {
+        arcs: MIXED,
+        nodes: 2,
+        floor: 2,
+        p: 1,
+        q: 2,
+        step: 1,
+        x: &[4, 2, 9, 2, 2],
+        other: &[5, 3, 8, 2, 2],
+        n: 46,
+        edges: 229,
+        checksum: 1_772_235_346_154_205_410,
+        cost: 22,
+    },
+    Case {
+        arcs: MIXED,
+        nodes: 2,
+        floor: 1,
+        p: 1,
+        q: 2,
+        step: 2,
+        x: &[7, 2, 9, 5, 5],
+        other: &[9, 4, 5, 5, 5],
+        n: 62,
+        edges: 281,
+        checksum: 2_666_329_448_885_532_838,
+        cost: 8_048,
+    },
+    Case {
+        arcs: MIXED,
+        nodes: 2,
+        floor: 3,
+        p: 1000,
+        q: 7,
+        step: 16,
+        x: &[80, 40, 35, 40, 40],
+        other: &[96, 40, 67, 56, 56],
+        n: 66,
+        edges: 315,
+        checksum: 3_349_311_137_370_132_795,
+        cost: -339_024,
+    },
+    Case {
+        arcs: LOOPS,
+        nodes: 3,
+        floor: 1,
+        p: 3,
+        q: 2,
+        step: 1,
+        x: &[5, 7, 7, 1, 3, 2, 2],
+        other: &[4, 5, 5, 2, 3, 3, 3],
+        n: 76,
+        edges: 333,
+        checksum: 3_742_392_007_788_968_182,
+        cost: -22,
+    },
+    Case {
+        arcs: LOOPS,
+        nodes: 3,
+        floor: 2,
+        p: 3,
+        q: 2,
+        step: 2,
+        x: &[8, 9, 9, 3, 7, 3, 3],
+        other: &[8, 13, 13, 5, 3, 5, 5],
+        n: 70,
+        edges: 275,
+        checksum: 2_553_878_810_551_901_101,
+        cost: -28,
+    },
+    Case {
+        arcs: LOOPS,
+        nodes: 3,
+        floor: 1,
+        p: 1,
+        q: 4,
+        step: 16,
+        x: &[20, 19, 19, 33, 21, 17, 17],
+        other: &[20, 35, 35, 1, 5, 1, 1],
+        n: 66,
+        edges: 324,
+        checksum: 3_543_127_320_805_417_840,
+        cost: 960,
+    },
+    Case {
+        arcs: RIM,
+        nodes: 2,
+        floor: 1,
+        p: 2,
+        q: 3,
+        step: 1,
+        x: &[2, 2, 7, 4, 2],
+        other: &[4, 4, 6, 2, 1],
+        n: 62,
+        edges: 208,
+        checksum: 1_462_743_370_458_934_102,
+        cost: 22,
+    },
+    Case {
+        arcs: RIM,
+        nodes: 2,
+        floor: 2,
+        p: 2,
+        q: 3,
+        step: 2,
+        x: &[5, 5, 3, 8, 4],
+        other: &[3, 3, 7, 12, 6],
+        n: 58,
+        edges: 160,
+        checksum: 866_771_170_300_428_167,
+        cost: 96,
+    },
+    Case {
+        arcs: RIM,
+        nodes: 2,
+        floor: 3,
+        p: 9,
+        q: 2,
+        step: 16,
+        x: &[19, 19, 3, 38, 19],
+        other: &[35, 35, 19, 6, 3],
+        n: 58,
+        edges: 160,
+        checksum: 866_771_172_731_301_931,
+        cost: 154,
+    },
 ];
 
 /// The gadget of a list.
@@ -162,7 +324,13 @@ fn built(rt: &impl Abort, alloc: Global, net: &Net, x: &[u64], step: u64) -> Res
 }
 
 /// The matching that another list tells.
-fn matched(rt: &impl Abort, alloc: Global, net: &Net, g: &Gadget, other: &[u64]) -> Result<Vec<u32>, Fail>
+fn matched(
+    rt: &impl Abort,
+    alloc: Global,
+    net: &Net,
+    g: &Gadget,
+    other: &[u64],
+) -> Result<Vec<u32>, Fail>
     requires bounds { IsWithinBounds (network net.now) }
     requires gadget { IsGadgetOf (network net.now) g.now }
     ensures { IfOk result (λ m. IsPerfect (graph g.now.graph) m.items) }

@@ -1,3 +1,3 @@
-mod Balances
+pub mod Balances
 pub mod SmallNets
-mod Within
+pub mod Within

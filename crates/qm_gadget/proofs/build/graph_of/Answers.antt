@@ -1,4 +1,4 @@
-use Rattle.std.proofs.Common.{◌≡◌, ◌+◌, ◌≤◌, map, ◌∙◌, ap, arith}
+use Rattle.std.proofs.Common.{◌≡◌, map, ◌∙◌, ap, arith}
 use Rattle.def_flow.specs.Network.{network}
 use Rattle.def_flow.specs.Matching.{Graph}
 use Rattle.def_flow.specs.MatchingGraph.{matching_graph}
@@ -14,9 +14,9 @@ graph_over-requires-clause-ready c =
 pub graph_over-requires-clause-small : goal.graph_over-requires-clause-small
 graph_over-requires-clause-small c =
     let same : graph_by_lows (network c.args.net.now) c.args.step c.deref.result.now c.deref-2.result.now ≡ matching_graph (network c.args.net.now) c.args.step c.args.x.now =
-        ap (λ ls. graph_by_lows (network c.args.net.now) c.args.step ls c.deref-2.result.now) (c.deref.ensures.value ∙ c.in_ok-low.ensures)
-        ∙ (ap (graph_by_lows (network c.args.net.now) c.args.step (map (low (network c.args.net.now) c.args.step) c.args.x.now)) (c.deref-2.ensures.value ∙ c.in_ok-cap.ensures)
-        ∙ graph_over (network c.args.net.now) c.args.step c.args.x.now) in
+    ap (λ ls. graph_by_lows (network c.args.net.now) c.args.step ls c.deref-2.result.now) (c.deref.ensures.value ∙ c.in_ok-low.ensures)
+    ∙ (ap (graph_by_lows (network c.args.net.now) c.args.step (map (low (network c.args.net.now) c.args.step) c.args.x.now)) (c.deref-2.ensures.value ∙ c.in_ok-cap.ensures)
+    ∙ graph_over (network c.args.net.now) c.args.step c.args.x.now) in
     omega (arith, ap (λ (g : Graph). g.n) same, graph_small (network c.args.net.now) c.args.step c.args.x.now c.requires.bounds c.requires.lengths.count c.requires.admissible c.requires.tangle)
 
 pub returns-clause-graph : goal.returns-clause-graph

@@ -1,5 +1,3 @@
-use Rattle.std.proofs.Common.{length, ◌∙◌, ap}
-use Rattle.std.proofs.lemmas.Result.{IfOk-weaker}
 use Rattle.def_flow.specs.Network.{network}
 use Rattle.qm_gadget.proofs.OfList.{plan_graph, plan_at, plan_small}
 use Rattle.qm_gadget.proofs.build.graph_over.Goals as goal

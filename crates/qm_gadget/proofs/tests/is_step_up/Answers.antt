@@ -1,4 +1,4 @@
-use Rattle.std.proofs.Common.{◌≡◌, ℕ, ◌+◌, ◌-◌, ◌*◌, ◌/◌, ◌%◌, ◌<◌, ◌≤◌, leb-true, refl, arith}
+use Rattle.std.proofs.Common.{◌≡◌, ℕ, ◌-◌, ◌/◌, ◌%◌, ◌≤◌, leb-true, refl, arith}
 use Rattle.qm_gadget.specs.Over.{IsStepUp}
 use Rattle.qm_gadget.proofs.tests.is_step_up.Goals as goal
 
