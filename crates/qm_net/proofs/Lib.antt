@@ -1,3 +1,4 @@
 mod Balances
+mod Ends
 pub mod SmallNets
 mod Within
