@@ -40,4 +40,4 @@ abbrev pub logical_lines : ℕ → List (List ℕ) → List Logical
 logical_lines number [] = []
 logical_lines number (line ∷ lines) =
     record { number = number; size = size_of (line ∷ lines); text = joined (line ∷ lines) }
-        ∷ drop (if continues line then 1 else 0) (logical_lines (number + 1) lines)
+    ∷ drop (if continues line then 1 else 0) (logical_lines (number + 1) lines)

@@ -1,7 +1,8 @@
 -- What a list of physical lines says: its soup, or its first refusal.
-use Rattle.std.specs.Prelude.{ℕ, zero, suc, ◌+◌, ◌-◌, nat_lt, if◌then◌else◌, ℤ, Result, Ok, Err, List, [], ◌∷◌, ◌++◌, length, map, slice_index_or}
+use Rattle.std.specs.Prelude.{ℕ, zero, suc, ◌-◌, nat_lt, if◌then◌else◌, ℤ, Result, Ok, Err, List, [], ◌∷◌, ◌++◌, length, map, slice_index_or}
 use Rattle.std.specs.List.{count_by, filter, flat_map, list_any}
-use Rattle.def_text.specs.FaceSet.{FaceSet, is_used}
+use Rattle.def_mesh.specs.Vertices.{is_used}
+use Rattle.def_text.specs.FaceSet.{FaceSet}
 use Rattle.def_text.specs.Logical.{Logical, logical_lines}
 use Rattle.def_text.specs.Reading.{is_face_line, is_vertex_line, reading}
 use Rattle.def_text.specs.declared.refusal.ObjFail.{ObjFail}

@@ -1,5 +1,5 @@
 -- Numbers that are read only as far as they are in range.
-use Rattle.std.specs.Prelude.{◌≡◌, ℕ, ◌^◌, min, true, false, List}
+use Rattle.std.specs.Prelude.{◌≡◌, ℕ, ℤ, ◌^◌, min, true, false, List}
 use Rattle.def_text.specs.Decimal.{is_decimal, is_far, rounded}
 use Rattle.qm_dec.specs.declared.fail.DecFail.{DecFail}
 use Rattle.qm_dec.specs.declared.fail.DecFail.TheVariants.{Syntax, Range}
@@ -7,6 +7,10 @@ use Rattle.qm_dec.specs.declared.fail.DecFail.TheVariants.{Syntax, Range}
 -- a number, or the least that is out of range
 abbrev pub capped : ℕ → ℕ
 capped n = min n (10 ^ 15)
+
+-- the word is a decimal, and its millionths are these and in range
+abbrev pub IsValue : List ℕ → ℤ → Type 0
+IsValue word z = (is_decimal word ≡ true) × (is_far (rounded word) ≡ false) × (z ≡ rounded word)
 
 -- why a word has no value: it is no decimal, or its millionths are out of range
 abbrev pub IsDecFail : List ℕ → DecFail → Type 0

@@ -1,8 +1,8 @@
 //! A decimal's word to its number of millionths.
-ghost use Rattle.std.specs.Prelude.{◌≡◌, ◌≤◌, ◌+◌, ◌++◌, pos, ◌+ℤ◌, ◌-ℤ◌, min, true, IsTrue, length, MatchResult};
-ghost use Rattle.def_text.specs.Decimal.{is_decimal, is_exponent, power, rounded, scaled};
+ghost use Rattle.std.specs.Prelude.{◌≡◌, ◌≤◌, ◌+◌, ◌++◌, pos, ◌+ℤ◌, ◌-ℤ◌, min, true, IsTrue, length, IfOk, IfErr};
+ghost use Rattle.def_text.specs.Decimal.{is_exponent, power, scaled};
 ghost use Rattle.def_text.specs.Digits.{is_number, number};
-ghost use Rattle.qm_dec.specs.Sizes.{IsDecFail, capped};
+ghost use Rattle.qm_dec.specs.Sizes.{IsDecFail, IsValue, capped};
 
 use crate::fail::DecFail;
 use crate::parts::{
@@ -13,7 +13,8 @@ use def_text::Micro;
 
 /// The value of the decimal, rounded to millionths, half away from zero.
 pub fn read_micro(word: &[u8]) -> Result<Micro, DecFail>
-    ensures { MatchResult result (λ m. (is_decimal word.now ≡ true) × (m ≡ rounded word.now)) (IsDecFail word.now) }
+    ensures value { IfOk result (IsValue word.now) }
+    ensures refusal { IfErr result (IsDecFail word.now) }
 {
     if word.len() > 64 {
         return Err(DecFail::Syntax);

@@ -1,14 +1,13 @@
 -- Corners and the indices between their slashes.
-use Rattle.std.proofs.Common.{◌≡◌, ℕ, suc, ◌+◌, ◌-◌, ◌*◌, ◌^◌, ◌<◌, ◌≤◌, min, Bool, true, false, cond, not, ◌&&◌, ◌||◌, List, [], ◌∷◌, ◌++◌, length, take, drop, refl, sym, ap, ◌∙◌, arith, eqb, ltb, leb, Option, Some, None, inl, inr, ◌⊎◌}
+use Rattle.std.proofs.Common.{◌≡◌, ℕ, suc, ◌+◌, ◌-◌, ◌^◌, ◌<◌, ◌≤◌, min, Bool, true, false, cond, not, ◌&&◌, ◌||◌, List, [], ◌∷◌, length, take, drop, refl, sym, ap, ◌∙◌, arith, eqb, ltb, leb, inl, inr, ◌⊎◌}
 use Rattle.std.specs.Char.{is_ascii_digit}
 use Rattle.std.specs.List.{before_first, list_all, list_any, onto_first, position_or_len, slice_split}
-use Rattle.std.proofs.lemmas.Bool.{and_left, and_right, cases_lt, lt-leb, eqb-true, or_cases, false≢true}
+use Rattle.std.proofs.lemmas.Bool.{and_left, and_right, lt-leb, eqb-true, or_cases, false≢true}
 use Rattle.std.proofs.lemmas.Bool.Decides.{nat_tests}
-use Rattle.def_text.specs.Corner.{are_indices, index_of, is_corner, is_optional, is_out, is_slash, resolved, used_index}
+use Rattle.def_text.specs.Corner.{are_indices, index_of, is_corner, is_optional, is_slash}
 use Rattle.def_text.specs.Digits.{is_negative, is_number, is_sign, is_signed, number, unsigned}
-use Rattle.def_text.specs.declared.index.Index.{Index}
-use Rattle.def_text.specs.declared.index.Index.TheVariants.{Vertex, Out, Malformed}
-use Rattle.qm_obj.specs.Indices.{capped, corner_of, named, parts_behind}
+use Rattle.def_text.specs.declared.index.Index.TheVariants.{Vertex, Out}
+use Rattle.qm_obj.specs.Indices.{named, parts_behind}
 
 -- A word is cut at its first slash.
 pub split_word : (word : List ℕ) → slice_split is_slash word ≡ before_first is_slash word ∷ parts_behind (drop (position_or_len is_slash word) word)
@@ -17,7 +16,7 @@ split_word (b ∷ bs) = by_slash (is_slash b) refl (split_word bs)
   where
     by_slash : (t : Bool) → is_slash b ≡ t → slice_split is_slash bs ≡ before_first is_slash bs ∷ parts_behind (drop (position_or_len is_slash bs) bs)
         → cond (is_slash b) ([] ∷ slice_split is_slash bs) (onto_first b (slice_split is_slash bs))
-            ≡ take (cond (not (is_slash b)) (1 + position_or_len is_slash bs) 0) (b ∷ bs) ∷ parts_behind (drop (cond (not (is_slash b)) (1 + position_or_len is_slash bs) 0) (b ∷ bs))
+        ≡ take (cond (not (is_slash b)) (1 + position_or_len is_slash bs) 0) (b ∷ bs) ∷ parts_behind (drop (cond (not (is_slash b)) (1 + position_or_len is_slash bs) 0) (b ∷ bs))
     by_slash true is again = rw is refl
     by_slash false isnt again =
         let e : 1 + position_or_len is_slash bs ≡ suc (position_or_len is_slash bs) = omega arith in
@@ -93,7 +92,7 @@ last_part (_ ∷ word) = last_word word
 
 pub two_parts : (tail : List ℕ) → (leb (length (parts_behind tail)) 2 && list_all is_optional (parts_behind tail))
     ≡ (is_optional (before_first is_slash (drop 1 tail)) && (leb (length (parts_behind (drop (position_or_len is_slash (drop 1 tail)) (drop 1 tail)))) 1
-        && list_all is_optional (parts_behind (drop (position_or_len is_slash (drop 1 tail)) (drop 1 tail)))))
+    && list_all is_optional (parts_behind (drop (position_or_len is_slash (drop 1 tail)) (drop 1 tail)))))
 two_parts [] = refl
 two_parts (_ ∷ word) = two_words word
 
@@ -105,7 +104,7 @@ corner_parts word = ap are_indices (split_word word)
 -- The line that an index names, by its capped number.
 pub named_count : (before : ℕ) (word : List ℕ) → before < 2 ^ 32
     → cond (eqb (min (number (unsigned word)) (2 ^ 64 - 1)) 0 || (is_negative word && ltb before (min (number (unsigned word)) (2 ^ 64 - 1)))) 0
-        (cond (is_negative word) (before + 1 - min (number (unsigned word)) (2 ^ 64 - 1)) (min (number (unsigned word)) (2 ^ 64 - 1))) ≡ named before word
+    (cond (is_negative word) (before + 1 - min (number (unsigned word)) (2 ^ 64 - 1)) (min (number (unsigned word)) (2 ^ 64 - 1))) ≡ named before word
 named_count before word small = by_number (number (unsigned word)) (is_negative word)
   where
     by_number : (n : ℕ) (t : Bool) → cond (eqb (min n (2 ^ 64 - 1)) 0 || (t && ltb before (min n (2 ^ 64 - 1)))) 0 (cond t (before + 1 - min n (2 ^ 64 - 1)) (min n (2 ^ 64 - 1)))
@@ -120,7 +119,7 @@ index_named all before word le small form = rw form (by_number (number (unsigned
   where
     by_number : (n : ℕ) (t : Bool)
         → cond (eqb (cond (eqb n 0 || (t && ltb before n)) 0 (min (cond t (before + 1 - n) n) (2 ^ 64 - 1))) 0 || ltb all (cond (eqb n 0 || (t && ltb before n)) 0 (min (cond t (before + 1 - n) n) (2 ^ 64 - 1)))) Out
-            (Vertex (cond (eqb n 0 || (t && ltb before n)) 0 (min (cond t (before + 1 - n) n) (2 ^ 64 - 1))))
+        (Vertex (cond (eqb n 0 || (t && ltb before n)) 0 (min (cond t (before + 1 - n) n) (2 ^ 64 - 1))))
         ≡ cond ((eqb n 0 || (t && ltb before n)) || ltb all (cond t (before + 1 - n) n)) Out (Vertex (cond t (before + 1 - n) n))
     by_number n true = grind (arith, nat_tests)
     by_number n false = grind (arith, nat_tests)

@@ -1,11 +1,11 @@
 -- Physical lines joined to logical lines.
-use Rattle.std.proofs.Common.{◌≡◌, ℕ, suc, ◌+◌, ◌-◌, ◌<◌, ◌≤◌, Bool, true, false, cond, not, ◌&&◌, ◌||◌, List, [], ◌∷◌, ◌++◌, length, take, drop, get_or, refl, sym, ap, ◌∙◌, arith, eqb}
+use Rattle.std.proofs.Common.{◌≡◌, ℕ, suc, ◌+◌, ◌-◌, ◌<◌, ◌≤◌, Bool, true, false, cond, not, ◌||◌, List, [], ◌∷◌, ◌++◌, length, take, drop, get_or, refl, sym, ap, ◌∙◌, arith, eqb}
 use Rattle.std.specs.List.{before_first, list_any, position_or_len}
 use Rattle.std.proofs.lemmas.Bool.Decides.{nat_tests}
 use Rattle.std.specs.Prelude.{slice_range}
 use Rattle.std.proofs.lemmas.Bool.{false≢true}
-use Rattle.std.proofs.lemmas.List.{append-nil, append_assoc, drop_more, length-append, length-drop, length-take, take_all}
-use Rattle.def_text.specs.Logical.{Logical, continues, is_hash, joined, logical_lines, size_of, span, with_space}
+use Rattle.std.proofs.lemmas.List.{append-nil, append_assoc, drop_more, length-append, length-take}
+use Rattle.def_text.specs.Logical.{continues, is_hash, joined, logical_lines, size_of, span, with_space}
 use Rattle.qm_obj.specs.Lines.{first_logical}
 
 -- A comment is found before the end exactly where there is one.

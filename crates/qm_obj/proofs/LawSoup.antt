@@ -1,23 +1,24 @@
 -- What the lines of a canonical text say, and the soup that they have.
-use Rattle.std.proofs.Common.{◌≡◌, ℕ, ℤ, pos, zero, suc, ◌+◌, ◌-◌, ◌*◌, ◌^◌, ◌<◌, ◌≤◌, Bool, true, false, cond, not, ◌&&◌, ◌||◌, List, [], ◌∷◌, ◌++◌, length, take, drop, map, get_or, refl, sym, ap, ◌∙◌, arith, subst, eqb, ltb, leb, add-one, Result, Ok, Err}
-use Rattle.std.specs.Prelude.{IsTrue, codes, decimal, unsigned_abs}
+use Rattle.std.proofs.Common.{◌≡◌, ℕ, ℤ, pos, zero, suc, ◌+◌, ◌-◌, ◌^◌, ◌<◌, ◌≤◌, Bool, true, false, cond, not, ◌&&◌, ◌||◌, List, [], ◌∷◌, ◌++◌, length, take, map, get_or, refl, sym, ap, ◌∙◌, arith, subst, eqb, ltb, leb, add-one, Ok}
+use Rattle.std.specs.Prelude.{decimal, unsigned_abs}
 use Rattle.std.specs.Char.{is_ascii_digit}
-use Rattle.std.specs.List.{before_first, count_by, filter, flat_map, list_all, list_any, position_or_len, slice_split}
-use Rattle.std.proofs.lemmas.Bool.{and_from, and_parts, cond-false, eq-eqb, eqb-true, false≢true, le-ltb, lt-leb, leb-true, ltb-false, ltb-true, ne_eqb, not-true, or_from}
-use Rattle.std.proofs.lemmas.List.{append-nil, append_assoc, get_or-map, get_or_default, length-append, length-map, map_push, same_lists, take_all}
+use Rattle.std.specs.List.{count_by, filter, flat_map, list_all, list_any, position_or_len}
+use Rattle.std.proofs.lemmas.Bool.{and_from, and_parts, cond-false, eqb-true, le-ltb, lt-leb, leb-true, ltb-false, ltb-true, ne_eqb, not-true, or_from}
+use Rattle.std.proofs.lemmas.List.{append-nil, append_assoc, get_or-map, get_or_default, length-map, same_lists, take_all}
 use Rattle.std.proofs.lemmas.List.Concat.{flat_map-append}
 use Rattle.std.proofs.lemmas.List.Elements.{filter-append}
-use Rattle.std.proofs.lemmas.List.Folds.{flat_map-map, list_all-append, list_all-map}
+use Rattle.std.proofs.lemmas.List.Folds.{flat_map-map}
 use Rattle.std.proofs.lemmas.List.Sums.{sum_by_push}
 use Rattle.std.proofs.lemmas.Fmt.{decimal_nonempty}
 use Rattle.def_text.specs.Canonical.{canonical_text, face_text, micro_text, place_text}
 use Rattle.def_text.specs.Corner.{are_indices, is_corner, is_out, is_slash, resolved, used_index}
 use Rattle.def_text.specs.Decimal.{is_decimal, is_far, rounded}
-use Rattle.def_text.specs.Digits.{is_negative, is_number, is_sign, is_signed, number, unsigned}
-use Rattle.def_text.specs.FaceSet.{FaceSet, IsSoup, are_below, is_used}
+use Rattle.def_text.specs.Digits.{is_negative, is_number, is_signed, number, unsigned}
+use Rattle.def_mesh.specs.Vertices.{is_used}
+use Rattle.def_text.specs.FaceSet.{FaceSet, IsSoup}
 use Rattle.def_text.specs.Logical.{Logical, logical_lines}
-use Rattle.def_text.specs.Reading.{begins_with, face_reading, is_face_line, is_place_count, is_vertex_line, reading, vertex_reading, words_reading}
-use Rattle.def_text.specs.Text.{face_in, face_set, faces, first_refusal, late_in, numbers_to, place_in, place_of, places, readings, refusal_in, soup_of, text_soup, used_to, vertex_of}
+use Rattle.def_text.specs.Reading.{begins_with, is_face_line, is_place_count, is_vertex_line, reading, words_reading}
+use Rattle.def_text.specs.Text.{face_in, face_set, faces, first_refusal, late_in, numbers_to, place_in, place_of, readings, refusal_in, soup_of, text_soup, used_to, vertex_of}
 use Rattle.def_text.specs.Words.{words}
 use Rattle.def_text.specs.declared.reading.Reading.{Reading}
 use Rattle.def_text.specs.declared.reading.Reading.TheVariants.{Place, Face, Refused}
@@ -32,7 +33,7 @@ use Rattle.qm_obj.proofs.LawText.{IsLine, IsWord, decimal_word, line_tame, line_
 use Rattle.qm_obj.proofs.LineLemmas.{face_rest, vertex_rest}
 use Rattle.qm_obj.proofs.ListLemmas.{passes_at}
 use Rattle.qm_obj.proofs.ReadLemmas.{readings_append}
-use Rattle.qm_obj.proofs.SoupLemmas.{length-numbers_to, numbers_at, used_renumbered}
+use Rattle.qm_obj.proofs.SoupLemmas.{are_below, length-numbers_to, numbers_at, used_renumbered}
 
 -- What holds at each place of two lists holds at each place of both together, and of a map what holds of each image.
 each_both : {X : Type 0} (P : X → Type 0) (xs ys : List X) (d : X) → ((k : ℕ) → k < length xs → P (get_or xs k d)) → ((k : ℕ) → k < length ys → P (get_or ys k d)) → (k : ℕ) → k < length (xs ++ ys) → P (get_or (xs ++ ys) k d)
@@ -64,9 +65,11 @@ ended text line same (x ∷ xs) = rw (same x, ended text line same xs) refl
 
 text_lines : (s : FaceSet) → canonical_text s ≡ flat_map (λ l. l ++ 10 ∷ []) (canonical_lines s)
 text_lines s =
-    rw (ended place_text place_line (λ p. ap (λ ws. 118 ∷ ws ++ 10 ∷ []) (sym (flat_map-map (λ w. 32 ∷ w) micro_text p))) s.pos,
-        ended face_text face_line (λ f. ap (λ ws. 102 ∷ ws ++ 10 ∷ []) (sym (flat_map-map (λ w. 32 ∷ w) vertex_word f))) s.faces)
-      (sym (flat_map-append (λ l. l ++ 10 ∷ []) (map place_line s.pos) (map face_line s.faces)))
+    rw (
+      ended place_text place_line (λ p. ap (λ ws. 118 ∷ ws ++ 10 ∷ []) (sym (flat_map-map (λ w. 32 ∷ w) micro_text p))) s.pos,
+      ended face_text face_line (λ f. ap (λ ws. 102 ∷ ws ++ 10 ∷ []) (sym (flat_map-map (λ w. 32 ∷ w) vertex_word f))) s.faces,
+    )
+    (sym (flat_map-append (λ l. l ++ 10 ∷ []) (map place_line s.pos) (map face_line s.faces)))
 
 -- The words of a place.
 near : (place : List ℤ) → is_place place ≡ true → (k : ℕ) (d : ℤ) → k < length place → unsigned_abs (get_or place k d) ≤ 999_999_999_999_999
@@ -98,9 +101,9 @@ place_said vertices faces n place few is =
     let right : (is_place_count (length (map micro_text place)) && list_all is_decimal (map micro_text place)) ≡ true = and_from _ _ (ap is_place_count three) back.0 in
     let all : take 3 (map micro_text place) ≡ map micro_text place = take_all 3 (map micro_text place) (omega arith) in
     by_size (ltb 65536 (length (place_line place))) short
-      (ap (words_reading n vertices faces) (line_words 118 (map micro_text place) refl (place_words place is))
-        ∙ vertex_rest n vertices (map micro_text place) (lt-leb _ _ few) right
-        ∙ rw (all, back.1, back.2) refl)
+    (ap (words_reading n vertices faces) (line_words 118 (map micro_text place) refl (place_words place is))
+    ∙ vertex_rest n vertices (map micro_text place) (lt-leb _ _ few) right
+    ∙ rw (all, back.1, back.2) refl)
   where
     by_size : (t : Bool) → t ≡ false → words_reading n vertices faces (words (place_line place)) ≡ Place place → cond t (Refused (Limit Line n)) (words_reading n vertices faces (words (place_line place))) ≡ Place place
     by_size t off said = rw off said
@@ -182,9 +185,9 @@ face_said vertices faces n face few room is all =
     let back : (list_all is_corner (map vertex_word face) ≡ true) × (list_any (λ w. is_out vertices (used_index w)) (map vertex_word face) ≡ false) × (map (λ w. resolved vertices (used_index w)) (map vertex_word face) ≡ map (λ v. v + 1) face) = face_back vertices face few all in
     let short : ltb 65536 (length (face_line face)) ≡ false = le-ltb _ _ (face_line_is vertices face few is all).short in
     by_size (ltb 65536 (length (face_line face))) short
-      (ap (words_reading n vertices faces) (line_words 102 (map vertex_word face) refl (face_words vertices face few all))
-        ∙ face_rest n vertices faces (map vertex_word face) (lt-leb _ _ room) back.0 four
-        ∙ rw (back.1, back.2) refl)
+    (ap (words_reading n vertices faces) (line_words 102 (map vertex_word face) refl (face_words vertices face few all))
+    ∙ face_rest n vertices faces (map vertex_word face) (lt-leb _ _ room) back.0 four
+    ∙ rw (back.1, back.2) refl)
   where
     by_size : (t : Bool) → t ≡ false → words_reading n vertices faces (words (face_line face)) ≡ Face n (map (λ v. v + 1) face) → cond t (Refused (Limit Line n)) (words_reading n vertices faces (words (face_line face))) ≡ Face n (map (λ v. v + 1) face)
     by_size t off said = rw off said
@@ -213,8 +216,8 @@ face_kind vertices n face few all =
 -- What the lines of all places say, and how many they are.
 places_said : (before : List Logical) (n : ℕ) (ps : List (List ℤ)) → list_all is_place ps ≡ true → count_by is_vertex_line before + length ps ≤ 2 ^ 21
     → (readings before (plain_lines n (map place_line ps)) ≡ map Place ps)
-        × (count_by is_vertex_line (before ++ plain_lines n (map place_line ps)) ≡ count_by is_vertex_line before + length ps)
-        × (count_by is_face_line (before ++ plain_lines n (map place_line ps)) ≡ count_by is_face_line before)
+    × (count_by is_vertex_line (before ++ plain_lines n (map place_line ps)) ≡ count_by is_vertex_line before + length ps)
+    × (count_by is_face_line (before ++ plain_lines n (map place_line ps)) ≡ count_by is_face_line before)
 places_said before n [] all few =
     (refl, ap (count_by is_vertex_line) (append-nil before) ∙ omega arith, ap (count_by is_face_line) (append-nil before))
 places_said before n (p ∷ ps) all few =
@@ -224,13 +227,14 @@ places_said before n (p ∷ ps) all few =
     let v : count_by is_vertex_line (before ++ line ∷ []) ≡ count_by is_vertex_line before + 1 = one_more is_vertex_line before line ∙ rw kind.0 refl in
     let f : count_by is_face_line (before ++ line ∷ []) ≡ count_by is_face_line before = one_more is_face_line before line ∙ rw kind.1 (omega arith) in
     let again : (readings (before ++ line ∷ []) (plain_lines (n + 1) (map place_line ps)) ≡ map Place ps)
-          × (count_by is_vertex_line ((before ++ line ∷ []) ++ plain_lines (n + 1) (map place_line ps)) ≡ count_by is_vertex_line (before ++ line ∷ []) + length ps)
-          × (count_by is_face_line ((before ++ line ∷ []) ++ plain_lines (n + 1) (map place_line ps)) ≡ count_by is_face_line (before ++ line ∷ [])) =
-        places_said (before ++ line ∷ []) (n + 1) ps parts.1 (omega arith) in
-    let same : (before ++ line ∷ []) ++ plain_lines (n + 1) (map place_line ps) ≡ before ++ line ∷ plain_lines (n + 1) (map place_line ps) = append_assoc before (line ∷ []) (plain_lines (n + 1) (map place_line ps)) in
-    (rw (place_said (count_by is_vertex_line before) (count_by is_face_line before) n p (omega arith) parts.0, again.0) refl,
+    × (count_by is_vertex_line ((before ++ line ∷ []) ++ plain_lines (n + 1) (map place_line ps)) ≡ count_by is_vertex_line (before ++ line ∷ []) + length ps)
+    × (count_by is_face_line ((before ++ line ∷ []) ++ plain_lines (n + 1) (map place_line ps)) ≡ count_by is_face_line (before ++ line ∷ [])) =
+    places_said (before ++ line ∷ []) (n + 1) ps parts.1 (omega arith) in
+    let same : (before ++ line ∷ []) ++ plain_lines (n + 1) (map place_line ps) ≡ before ++ line ∷ plain_lines (n + 1) (map place_line ps) = append_assoc before (line ∷ []) (plain_lines (n + 1) (map place_line ps)) in (
+      rw (place_said (count_by is_vertex_line before) (count_by is_face_line before) n p (omega arith) parts.0, again.0) refl,
       ap (count_by is_vertex_line) (sym same) ∙ again.1 ∙ omega arith,
-      ap (count_by is_face_line) (sym same) ∙ again.2 ∙ f)
+      ap (count_by is_face_line) (sym same) ∙ again.2 ∙ f,
+    )
 
 -- What the lines of all faces say.
 abbrev faces_from : ℕ → List (List ℕ) → List Reading
@@ -248,7 +252,7 @@ faces_said vertices before n (f ∷ fs) few many quads below room =
     let v : count_by is_vertex_line (before ++ line ∷ []) ≡ vertices = one_more is_vertex_line before line ∙ rw kind.0 (omega arith) in
     let g : count_by is_face_line (before ++ line ∷ []) ≡ count_by is_face_line before + 1 = one_more is_face_line before line ∙ rw kind.1 refl in
     let first : reading (count_by is_vertex_line before) (count_by is_face_line before) line ≡ Face n (map (λ v. v + 1) f) =
-        ap (λ m. reading m (count_by is_face_line before) line) many ∙ face_said vertices (count_by is_face_line before) n f few (omega arith) q.0 b.0 in
+    ap (λ m. reading m (count_by is_face_line before) line) many ∙ face_said vertices (count_by is_face_line before) n f few (omega arith) q.0 b.0 in
     rw (first, faces_said vertices (before ++ line ∷ []) (n + 1) fs few v q.1 b.1 (omega arith)) refl
 
 -- What these readings have.
@@ -322,10 +326,10 @@ places_back : (ps : List (List ℤ)) → map (place_of ps) (numbers_to (length p
 places_back ps =
     let long : length (map (place_of ps) (numbers_to (length ps))) ≡ length ps = length-map (numbers_to (length ps)) (place_of ps) ∙ length-numbers_to (length ps) in
     same_lists (map (place_of ps) (numbers_to (length ps))) ps long (λ k d l.
-      let there : k < length ps = omega arith in
-      let e : k + 1 - 1 ≡ k = omega arith in
-      get_or-map (place_of ps) (numbers_to (length ps)) k 0 d (omega (arith, length-numbers_to (length ps)))
-      ∙ ap (place_of ps) (numbers_at (length ps) k there) ∙ ap (λ j. get_or ps j []) e ∙ get_or_default ps k [] d there)
+    let there : k < length ps = omega arith in
+    let e : k + 1 - 1 ≡ k = omega arith in
+    get_or-map (place_of ps) (numbers_to (length ps)) k 0 d (omega (arith, length-numbers_to (length ps)))
+    ∙ ap (place_of ps) (numbers_at (length ps) k there) ∙ ap (λ j. get_or ps j []) e ∙ get_or_default ps k [] d there)
 
 corners_back : (fs : List (List ℕ)) (n : ℕ) → AllUsed fs n → (face : List ℕ) → are_below n face ≡ true → map (vertex_of fs) (map (λ v. v + 1) face) ≡ face
 corners_back fs n used [] all = refl
@@ -346,27 +350,27 @@ pub text_back : ReadsBack
 text_back s soup placed quads few_places few_faces =
     let lines = canonical_lines s in
     let each : (k : ℕ) → k < length lines → IsLine (get_or lines k []) =
-        each_both IsLine (map place_line s.pos) (map face_line s.faces) []
-            (each_map IsLine place_line s.pos [] [] (λ k l. place_line_is (get_or s.pos k []) (passes_at is_place s.pos k [] placed l)))
-            (each_map IsLine face_line s.faces [] [] (λ k l. face_line_is (length s.pos) (get_or s.faces k []) few_places (passes_at is_quad s.faces k [] quads l) (passes_at (are_below (length s.pos)) s.faces k [] soup.in_range l))) in
+    each_both IsLine (map place_line s.pos) (map face_line s.faces) []
+    (each_map IsLine place_line s.pos [] [] (λ k l. place_line_is (get_or s.pos k []) (passes_at is_place s.pos k [] placed l)))
+    (each_map IsLine face_line s.faces [] [] (λ k l. face_line_is (length s.pos) (get_or s.faces k []) few_places (passes_at is_quad s.faces k [] quads l) (passes_at (are_below (length s.pos)) s.faces k [] soup.in_range l))) in
     let cut : lines_of (canonical_text s) ≡ lines = ap lines_of (text_lines s) ∙ lines_split lines each in
     let logical : logical_lines 1 lines ≡ plain_lines 1 (map place_line s.pos) ++ plain_lines (1 + length (map place_line s.pos)) (map face_line s.faces) =
-        logical_plain 1 lines each ∙ plain_append 1 (map place_line s.pos) (map face_line s.faces) in
+    logical_plain 1 lines each ∙ plain_append 1 (map place_line s.pos) (map face_line s.faces) in
     let front : (readings [] (plain_lines 1 (map place_line s.pos)) ≡ map Place s.pos)
-          × (count_by is_vertex_line ([] ++ plain_lines 1 (map place_line s.pos)) ≡ count_by is_vertex_line [] + length s.pos)
-          × (count_by is_face_line ([] ++ plain_lines 1 (map place_line s.pos)) ≡ count_by is_face_line []) =
-        places_said [] 1 s.pos placed (omega arith) in
+    × (count_by is_vertex_line ([] ++ plain_lines 1 (map place_line s.pos)) ≡ count_by is_vertex_line [] + length s.pos)
+    × (count_by is_face_line ([] ++ plain_lines 1 (map place_line s.pos)) ≡ count_by is_face_line []) =
+    places_said [] 1 s.pos placed (omega arith) in
     let behind : readings (plain_lines 1 (map place_line s.pos)) (plain_lines (1 + length (map place_line s.pos)) (map face_line s.faces)) ≡ faces_from (1 + length (map place_line s.pos)) s.faces =
-        faces_said (length s.pos) (plain_lines 1 (map place_line s.pos)) (1 + length (map place_line s.pos)) s.faces few_places (front.1 ∙ omega arith) quads soup.in_range (omega (arith, front.2)) in
+    faces_said (length s.pos) (plain_lines 1 (map place_line s.pos)) (1 + length (map place_line s.pos)) s.faces few_places (front.1 ∙ omega arith) quads soup.in_range (omega (arith, front.2)) in
     let said : readings [] (logical_lines 1 lines) ≡ map Place s.pos ++ faces_from (1 + length (map place_line s.pos)) s.faces =
-        ap (readings []) logical ∙ readings_append [] (plain_lines 1 (map place_line s.pos)) (plain_lines (1 + length (map place_line s.pos)) (map face_line s.faces)) ∙ rw (front.0, behind) refl in
+    ap (readings []) logical ∙ readings_append [] (plain_lines 1 (map place_line s.pos)) (plain_lines (1 + length (map place_line s.pos)) (map face_line s.faces)) ∙ rw (front.0, behind) refl in
     let used : AllUsed (map (λ f. map (λ v. v + 1) f) s.faces) (length s.pos) = all_used_to s soup in
     let names : used_to (map (λ f. map (λ v. v + 1) f) s.faces) (length s.pos) ≡ numbers_to (length s.pos) = used.kept (length s.pos) (omega arith) in
     ap (text_soup 1) cut ∙ ap soup_of said ∙ soup_said s.pos s.faces (1 + length (map place_line s.pos)) soup.in_range
     ∙ ap Ok (same_parts (face_set s.pos (map (λ f. map (λ v. v + 1) f) s.faces)) (record { pos = s.pos; faces = s.faces; names = numbers_to (length s.pos) })
-        (ap (map (place_of s.pos)) names ∙ places_back s.pos)
-        (faces_back (map (λ f. map (λ v. v + 1) f) s.faces) (length s.pos) used s.faces soup.in_range)
-        names)
+    (ap (map (place_of s.pos)) names ∙ places_back s.pos)
+    (faces_back (map (λ f. map (λ v. v + 1) f) s.faces) (length s.pos) used s.faces soup.in_range)
+    names)
   where
     same_parts : (s t : FaceSet) → s.pos ≡ t.pos → s.faces ≡ t.faces → s.names ≡ t.names → s ≡ t
     same_parts s t p q r = λ i. record { pos = p i; faces = q i; names = r i }

@@ -1,19 +1,17 @@
 -- The lines and the words of a canonical text.
-use Rattle.std.proofs.Common.{◌≡◌, ℕ, ℤ, zero, suc, ◌+◌, ◌-◌, ◌*◌, ◌/◌, ◌%◌, ◌^◌, ◌<◌, ◌≤◌, Bool, true, false, cond, not, ◌&&◌, ◌||◌, List, [], ◌∷◌, ◌++◌, length, take, drop, map, get_or, refl, sym, ap, ◌∙◌, arith, subst, eqb, ltb, leb}
-use Rattle.std.specs.Prelude.{codes, decimal, int_lt, pos, unsigned_abs}
+use Rattle.std.proofs.Common.{◌≡◌, ℕ, ℤ, zero, suc, ◌+◌, ◌-◌, ◌*◌, ◌/◌, ◌%◌, ◌^◌, ◌<◌, ◌≤◌, Bool, true, false, cond, not, ◌&&◌, List, [], ◌∷◌, ◌++◌, length, take, drop, map, get_or, refl, ap, ◌∙◌, arith, eqb, leb}
+use Rattle.std.specs.Prelude.{decimal, int_lt, pos, unsigned_abs}
 use Rattle.std.specs.Char.{is_ascii_digit}
-use Rattle.std.specs.List.{before_first, flat_map, list_all, list_any, position_or_len, suffix_len}
-use Rattle.std.proofs.lemmas.Bool.{and_from, and_parts, cases_eq, cases_lt, eq-eqb, eqb-true, false≢true, le-leb, leb-true, ltb-false, ne_eqb, not-true, or_from, true_from_ne_false}
+use Rattle.std.specs.List.{before_first, flat_map, list_all, position_or_len, suffix_len}
+use Rattle.std.proofs.lemmas.Bool.{and_from, and_parts, le-leb, leb-true, not-true}
 use Rattle.std.proofs.lemmas.Bool.Decides.{nat_tests}
 use Rattle.std.proofs.lemmas.Fmt.{decimal_nonempty, length-decimal-le}
-use Rattle.std.proofs.lemmas.List.{append-nil, append_assoc, get_or_at, length-append, length-drop, length-take, take_all, take_at}
-use Rattle.std.proofs.lemmas.List.Concat.{flat_map-append}
-use Rattle.std.proofs.lemmas.List.Folds.{flat_map-map, list_all-append}
-use Rattle.def_text.specs.Canonical.{canonical_text, face_text, fraction_text, micro_text, minus_text, place_text, six_digits, without_zeros}
-use Rattle.def_text.specs.FaceSet.{FaceSet}
-use Rattle.def_text.specs.Logical.{Logical, continues, is_hash, joined, logical_lines, size_of}
+use Rattle.std.proofs.lemmas.List.{append_assoc, get_or_at, length-append, length-drop, length-take, take_all, take_at}
+use Rattle.std.proofs.lemmas.List.Folds.{list_all-append}
+use Rattle.def_text.specs.Canonical.{fraction_text, micro_text, minus_text, six_digits, without_zeros}
+use Rattle.def_text.specs.Logical.{Logical, continues, is_hash, logical_lines}
 use Rattle.def_text.specs.Words.{ends_word, in_front, is_blank, words}
-use Rattle.qm_io.specs.Lines.{in_front as before_piece, line_of, lines_of, pieces, without_last}
+use Rattle.qm_io.specs.Lines.{line_of, lines_of, pieces, without_last}
 use Rattle.qm_obj.proofs.ListLemmas.{passes_at}
 use Rattle.qm_dec.proofs.Texts.{decimal_digits}
 
@@ -73,10 +71,13 @@ fraction_plain n small = by_zero (eqb n 0)
   where
     all : IsWord (decimal (10 ^ 6 + n))
     all = decimal_word (10 ^ 6 + n) (omega arith)
+
     rest : list_all is_plain (without_zeros (six_digits n)) ≡ true
     rest = all_take is_plain _ (six_digits n) (all_drop is_plain 1 (decimal (10 ^ 6 + n)) (decimal_word (10 ^ 6 + n) (omega arith)).plain)
+
     long : length (without_zeros (six_digits n)) ≤ 20
     long = omega (arith, length-take (length (six_digits n) - suffix_len (λ digit. eqb digit 48) (six_digits n)) (six_digits n), length-drop 1 (decimal (10 ^ 6 + n)), length-decimal-le 20 (10 ^ 6 + n) (omega arith) (omega arith) (omega arith))
+
     by_zero : (t : Bool) → (list_all is_plain (cond t [] (46 ∷ without_zeros (six_digits n))) ≡ true) × (length (cond t [] (46 ∷ without_zeros (six_digits n))) ≤ 21)
     by_zero true = (refl, omega arith)
     by_zero false = (rest, omega (arith, long))

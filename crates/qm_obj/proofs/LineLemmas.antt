@@ -1,6 +1,5 @@
 -- What `v` lines and `f` lines say, refusal by refusal.
-use Rattle.std.proofs.Common.{◌≡◌, ℕ, ℤ, suc, ◌+◌, ◌-◌, ◌^◌, ◌<◌, ◌≤◌, min, Bool, true, false, cond, not, ◌&&◌, ◌||◌, List, [], ◌∷◌, length, map, take, refl, sym, ap, ◌∙◌, arith, eqb, ltb, leb, Option, Some, None}
-use Rattle.std.specs.Prelude.{◌==◌}
+use Rattle.std.proofs.Common.{◌≡◌, ℕ, ℤ, ◌+◌, ◌-◌, ◌^◌, ◌≤◌, min, Bool, true, false, cond, ◌&&◌, ◌||◌, List, [], ◌∷◌, length, map, take, refl, sym, ap, ◌∙◌, arith, eqb, ltb, leb, Some, None}
 use Rattle.std.specs.List.{list_all, list_any}
 use Rattle.std.proofs.lemmas.Bool.{or_parts}
 use Rattle.std.proofs.lemmas.Bool.Decides.{nat_tests}
@@ -8,7 +7,6 @@ use Rattle.def_text.specs.Corner.{is_corner, is_out, resolved, used_index}
 use Rattle.def_text.specs.Decimal.{is_decimal, is_far, rounded}
 use Rattle.def_text.specs.Digits.{is_negative, number, unsigned}
 use Rattle.def_text.specs.Reading.{face_reading, is_place_count, vertex_reading}
-use Rattle.def_text.specs.declared.reading.Reading.{Reading}
 use Rattle.def_text.specs.declared.reading.Reading.TheVariants.{Place, Face, Refused}
 use Rattle.def_text.specs.declared.refusal.ObjFail.TheVariants.{Syntax, NotQuad, Range}
 use Rattle.qm_obj.specs.Indices.{capped, corner_of, with_capped}
@@ -31,6 +29,7 @@ all_coordinates (w ∷ ws) = by_far (is_far (rounded w)) (all_coordinates ws)
     by_rest : (t : Bool) → all_some (map coordinate ws) ≡ cond t None (Some (map rounded ws)) → in_front (rounded w) (all_some (map coordinate ws)) ≡ cond t None (Some (rounded w ∷ map rounded ws))
     by_rest true again = ap (in_front (rounded w)) again
     by_rest false again = ap (in_front (rounded w)) again
+
     by_far : (t : Bool) → all_some (map coordinate ws) ≡ cond (list_any (λ w. is_far (rounded w)) ws) None (Some (map rounded ws))
         → all_some (cond t None (Some (rounded w)) ∷ map coordinate ws) ≡ cond (t || list_any (λ w. is_far (rounded w)) ws) None (Some (rounded w ∷ map rounded ws))
     by_far true again = refl
@@ -93,7 +92,7 @@ pub face_out : (line vertices faces : ℕ) (ws : List (List ℕ)) → leb (2 ^ 2
     → list_any (λ corner. eqb corner 0) (map (corner_of vertices) ws) ≡ true → Refused (Range line) ≡ with_capped (face_reading line vertices faces ws)
 face_out line vertices faces ws few corners four out =
     sym (ap with_capped (face_rest line vertices faces ws few corners four)
-      ∙ ap (λ t. with_capped (cond t (Refused (Range line)) (Face line (map (λ w. resolved vertices (used_index w)) ws)))) (sym (any_out vertices ws) ∙ out))
+    ∙ ap (λ t. with_capped (cond t (Refused (Range line)) (Face line (map (λ w. resolved vertices (used_index w)) ws)))) (sym (any_out vertices ws) ∙ out))
 
 pub face_in : (line vertices faces : ℕ) (ws : List (List ℕ)) → leb (2 ^ 20) faces ≡ false → list_all is_corner ws ≡ true → eqb (length ws) 4 ≡ true
     → list_any (λ corner. eqb corner 0) (map (corner_of vertices) ws) ≡ false → Face line (map (corner_of vertices) ws) ≡ with_capped (face_reading line vertices faces ws)
@@ -101,7 +100,7 @@ face_in line vertices faces ws few corners four inside =
     let none : list_any (λ w. is_out vertices (used_index w)) ws ≡ false = sym (any_out vertices ws) ∙ inside in
     ap (Face line) (all_in vertices ws none)
     ∙ sym (ap with_capped (face_rest line vertices faces ws few corners four)
-      ∙ ap (λ t. with_capped (cond t (Refused (Range line)) (Face line (map (λ w. resolved vertices (used_index w)) ws)))) none)
+    ∙ ap (λ t. with_capped (cond t (Refused (Range line)) (Face line (map (λ w. resolved vertices (used_index w)) ws)))) none)
 
 -- A place has at least three numbers.
 pub place_words : (n : ℕ) → is_place_count n ≡ true → 3 ≤ n

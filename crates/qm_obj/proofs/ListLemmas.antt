@@ -1,8 +1,8 @@
 -- Lists that a loop changes place by place.
-use Rattle.std.proofs.Common.{◌≡◌, ℕ, ◌+◌, ◌-◌, ◌<◌, ◌≤◌, min, Bool, true, List, [], ◌∷◌, ◌++◌, length, take, drop, set, map, get_or, refl, sym, ap, ◌∙◌, arith}
+use Rattle.std.proofs.Common.{◌≡◌, ℕ, ◌+◌, ◌-◌, ◌<◌, ◌≤◌, Bool, true, List, length, take, drop, set, map, get_or, sym, ap, ◌∙◌, arith}
 use Rattle.std.specs.Prelude.{slice_range}
 use Rattle.std.specs.List.{list_all}
-use Rattle.std.proofs.lemmas.List.{drop-drop, drop-set-lt, drop-take, get_or-drop, length-drop, length-set, length-take, map_more, take_more_set}
+use Rattle.std.proofs.lemmas.List.{drop-drop, drop-set-lt, drop-take, get_or-drop, length-drop, length-take, map_more, take_more_set}
 use Rattle.std.proofs.lemmas.List.Sums.{AllPass-from_list_all}
 
 -- Lists that agree from k on have one element at k.

@@ -1,10 +1,10 @@
 -- Numbers read digit by digit.
-use Rattle.std.proofs.Common.{◌≡◌, ℕ, zero, suc, ◌+◌, ◌-◌, ◌*◌, ◌^◌, ◌<◌, ◌≤◌, min, Bool, true, false, cond, not, ◌&&◌, eqb, List, [], ◌∷◌, ◌++◌, length, take, map, get_or, refl, sym, ap, ◌∙◌, arith, inl, inr, ◌⊎◌}
+use Rattle.std.proofs.Common.{◌≡◌, ℕ, suc, ◌+◌, ◌-◌, ◌*◌, ◌<◌, ◌≤◌, min, false, not, ◌&&◌, eqb, List, [], ◌∷◌, length, take, map, get_or, refl, ap, ◌∙◌, arith, inl, inr, ◌⊎◌}
 use Rattle.std.specs.Char.{is_ascii_digit}
-use Rattle.std.specs.Int.Digits.{number_from_digits, AllBelowBase}
+use Rattle.std.specs.Int.Digits.{number_from_digits}
 use Rattle.std.specs.List.{list_all}
-use Rattle.std.proofs.lemmas.Int.Digits.{number_lt, number_push}
-use Rattle.std.proofs.lemmas.List.{take_more, map_push, length-map}
+use Rattle.std.proofs.lemmas.Int.Digits.{number_push}
+use Rattle.std.proofs.lemmas.List.{take_more, map_push}
 use Rattle.std.proofs.lemmas.Bool.{cases_lt, ne_eqb}
 use Rattle.def_text.specs.Digits.{is_number, number}
 

@@ -1,21 +1,21 @@
 -- What a reader knows after some logical lines.
-use Rattle.std.proofs.Common.{◌≡◌, ℕ, ℤ, zero, suc, ◌+◌, ◌-◌, ◌^◌, ◌<◌, ◌≤◌, min, Bool, true, false, cond, not, ◌&&◌, ◌||◌, List, [], ◌∷◌, ◌++◌, length, take, drop, map, get_or, refl, sym, ap, ◌∙◌, arith, subst, eqb, ltb, leb, Option, Some, None, Result, Ok, Err}
+use Rattle.std.proofs.Common.{◌≡◌, ℕ, ℤ, suc, ◌+◌, ◌-◌, ◌^◌, ◌<◌, ◌≤◌, min, Bool, true, false, cond, ◌&&◌, ◌||◌, List, [], ◌∷◌, ◌++◌, length, take, drop, map, get_or, refl, sym, ap, ◌∙◌, arith, eqb, ltb, leb, Option, Some, None, Result, Ok, Err}
 use Rattle.std.specs.Prelude.{◌≢◌, IfErr, IfOk, IsTrue, slice_range}
 use Rattle.std.specs.List.{count_by, flat_map, list_all, list_any}
-use Rattle.std.proofs.lemmas.Bool.{and_from, and_parts, eqb-true, leb-false, le-leb, ltb-false, ltb-true, ne_eqb, or_parts}
+use Rattle.std.proofs.lemmas.Bool.{and_from, and_parts, eqb-true, leb-false, ltb-false, ne_eqb, or_parts}
 use Rattle.std.proofs.lemmas.Bool.Decides.{nat_tests}
-use Rattle.std.proofs.lemmas.List.{append-nil, append_assoc, length-append, length-map, map-append, take_all}
+use Rattle.std.proofs.lemmas.List.{append-nil, append_assoc, length-append, length-map, map-append}
 use Rattle.std.proofs.lemmas.List.Concat.{flat_map-append}
 use Rattle.std.proofs.lemmas.List.Folds.{list_all-append}
 use Rattle.std.proofs.lemmas.List.Sums.{sum_by_push}
 use Rattle.std.proofs.lemmas.Result.{IfErr-weaker, IfOk-weaker}
-use Rattle.def_text.specs.Corner.{is_corner, is_out, resolved, used_index}
-use Rattle.def_text.specs.Decimal.{is_decimal, is_far, rounded}
+use Rattle.def_text.specs.Corner.{is_out, resolved, used_index}
+use Rattle.def_text.specs.Decimal.{rounded}
 use Rattle.def_text.specs.Digits.{is_negative, number, unsigned}
 use Rattle.def_text.specs.FaceSet.{FaceSet}
 use Rattle.def_text.specs.Logical.{Logical, logical_lines, span}
-use Rattle.def_text.specs.Reading.{begins_with, face_reading, is_face_line, is_letter, is_place_count, is_vertex_line, reading, vertex_reading, words_reading}
-use Rattle.def_text.specs.Text.{face_in, face_set, faces, first_refusal, late_in, place_in, places, readings, refusal_in, refusals, soup_of, text_soup}
+use Rattle.def_text.specs.Reading.{begins_with, face_reading, is_face_line, is_letter, is_vertex_line, reading, vertex_reading, words_reading}
+use Rattle.def_text.specs.Text.{face_in, face_set, faces, first_refusal, late_in, place_in, places, readings, refusal_in, soup_of, text_soup}
 use Rattle.def_text.specs.Words.{words}
 use Rattle.def_text.specs.declared.refusal.ObjFail.{ObjFail}
 use Rattle.def_text.specs.declared.refusal.ObjFail.TheVariants.{Limit, Memory, NotQuad, Range, Syntax}
@@ -104,24 +104,28 @@ reading_suits vertices faces line = by_size (ltb 65536 line.size)
     by_vertex ws false true far many vertex no_face = suits_refused vertices faces line _
     by_vertex ws false false true many vertex no_face = suits_refused vertices faces line _
     by_vertex ws false false false many vertex no_face = suits_place vertices faces line (map rounded (take 3 ws)) vertex no_face (leb-false _ _ many)
+
     by_face : (ws : List (List ℕ)) (many bad other out : Bool) → leb (2 ^ 20) faces ≡ many → list_any (λ w. is_out vertices (used_index w)) ws ≡ out → is_vertex_line line ≡ false → is_face_line line ≡ true
         → Suits vertices faces line (cond many (Refused (Limit Faces line.number)) (cond bad (Refused (Syntax line.number)) (cond other (Refused (NotQuad line.number (length ws)))
-            (cond out (Refused (Range line.number)) (Face line.number (map (λ w. resolved vertices (used_index w)) ws))))))
+        (cond out (Refused (Range line.number)) (Face line.number (map (λ w. resolved vertices (used_index w)) ws))))))
     by_face ws true bad other out many is no_vertex face = suits_refused vertices faces line _
     by_face ws false true other out many is no_vertex face = suits_refused vertices faces line _
     by_face ws false false true out many is no_vertex face = suits_refused vertices faces line _
     by_face ws false false false true many is no_vertex face = suits_refused vertices faces line _
     by_face ws false false false false many is no_vertex face =
         suits_face vertices faces line line.number (map (λ w. resolved vertices (used_index w)) ws) no_vertex face (leb-false _ _ many) (positive_corners vertices ws is)
+
     by_letter : (word : List ℕ) (ws : List (List ℕ)) (v f : Bool) → words line.text ≡ word ∷ ws → is_letter 118 word ≡ v → is_letter 102 word ≡ f
         → Suits vertices faces line (cond v (vertex_reading line.number vertices ws) (cond f (face_reading line.number vertices faces ws) Passed))
     by_letter word ws true f are v-is f-is =
         by_vertex ws _ _ _ refl (ap (begins_with 118) are ∙ v-is) (ap (begins_with 102) are ∙ one_letter 118 102 (λ (e : ◌≡◌ {A = ℕ} 118 102). omega arith) word v-is)
     by_letter word ws false true are v-is f-is = by_face ws _ _ _ _ refl refl (ap (begins_with 118) are ∙ v-is) (ap (begins_with 102) are ∙ f-is)
     by_letter word ws false false are v-is f-is = suits_passed vertices faces line (ap (begins_with 118) are ∙ v-is) (ap (begins_with 102) are ∙ f-is)
+
     by_words : (ws : List (List ℕ)) → words line.text ≡ ws → Suits vertices faces line (words_reading line.number vertices faces ws)
     by_words [] are = suits_passed vertices faces line (ap (begins_with 118) are) (ap (begins_with 102) are)
     by_words (word ∷ ws) are = by_letter word ws _ _ are refl refl
+
     by_size : (long : Bool) → Suits vertices faces line (cond long (Refused (Limit Line line.number)) (words_reading line.number vertices faces (words line.text)))
     by_size true = suits_refused vertices faces line _
     by_size false = by_words (words line.text) refl
@@ -280,6 +284,7 @@ uncapped n few (face ∷ faces) (line ∷ lines) size none = by_late (list_any (
         let parts : (ltb n corner ≡ false) × (list_any (λ corner. ltb n corner) corners ≡ false) = or_parts _ _ calm in
         let same : min corner (2 ^ 32 - 1) ≡ corner = omega (arith, ltb-false n corner parts.0) in
         rw (same, along corners parts.1) refl
+
     by_late : (t : Bool) → list_any (λ corner. ltb n corner) face ≡ t → cond t (Some line) (first_late n faces lines) ≡ None → (first_late n faces lines ≡ None → map (λ face. map capped face) faces ≡ faces)
         → map (λ face. map capped face) (face ∷ faces) ≡ face ∷ faces
     by_late true is none again = cc none
@@ -352,7 +357,7 @@ read_ok lines kept corners numbers has calm =
     let same : corners ≡ faces said = has.faces_are ∙ uncapped (length kept) within.few_vertices (faces said) numbers many late in
     let none : flat_map (late_in (length (places said))) said ≡ [] = late_none (length (places said)) said (rw (← has.places_are, ← has.lines_are) late) in
     rw (has.places_are, same) (ap (λ fails. first_refusal (fails ++ flat_map (late_in (length (places said))) said) (face_set (places said) (faces said))) has.accepted
-      ∙ ap (λ fails. first_refusal fails (face_set (places said) (faces said))) none)
+    ∙ ap (λ fails. first_refusal fails (face_set (places said) (faces said))) none)
 
 -- The late refusal of lines that are read.
 read_late : (lines : List Logical) (kept : List (List ℤ)) (corners : List (List ℕ)) (numbers : List ℕ) (line : ℕ) → HasRead lines kept corners numbers
@@ -369,12 +374,12 @@ read_refused : (lines rest : List Logical) (line : Logical) (kept : List (List �
     → next_said kept corners line ≡ Refused fail → soup_of (readings [] (lines ++ line ∷ rest)) ≡ Err fail
 read_refused lines rest line kept corners numbers fail has is =
     by_said (readings [] (lines ++ line ∷ rest)) (reading (length kept) (length corners) line) (readings (lines ++ line ∷ []) rest)
-        (read_behind lines rest line kept corners numbers has) (refused_capped (reading (length kept) (length corners) line) fail is)
+    (read_behind lines rest line kept corners numbers has) (refused_capped (reading (length kept) (length corners) line) fail is)
   where
     by_said : (all : List Reading) (said : Reading) (behind : List Reading) → all ≡ readings [] lines ++ said ∷ behind → said ≡ Refused fail → soup_of all ≡ Err fail
     by_said all said behind are stops =
         let some : flat_map refusal_in all ≡ fail ∷ flat_map refusal_in behind =
-            ap (flat_map refusal_in) are ∙ flat_map-append refusal_in (readings [] lines) (said ∷ behind) ∙ rw (has.accepted, stops) refl in
+        ap (flat_map refusal_in) are ∙ flat_map-append refusal_in (readings [] lines) (said ∷ behind) ∙ rw (has.accepted, stops) refl in
         ap (λ fails. first_refusal (fails ++ flat_map (late_in (length (places all))) all) (face_set (places all) (faces all))) some
 
 -- The first physical lines, up to line i, are read; those from i up to `after` are left.
@@ -402,11 +407,11 @@ next_lines : (all : List (List ℕ)) (i after : ℕ) → i < after → after ≤
 next_lines all i after lt within =
     let cut : slice_range all i after ≡ get_or all i [] ∷ slice_range all (i + 1) after = range_cons all i after [] lt within in
     let step : logical_lines (i + 1) (slice_range all i after) ≡ first_logical (i + 1) (slice_range all i after) ∷ logical_lines (i + 1 + span (slice_range all i after)) (drop (span (slice_range all i after)) (slice_range all i after)) =
-        rw cut (logical_step (i + 1) (get_or all i []) (slice_range all (i + 1) after)) in
+    rw cut (logical_step (i + 1) (get_or all i []) (slice_range all (i + 1) after)) in
     let few : span (slice_range all i after) ≤ after - i = omega (arith, span_few (slice_range all i after), length-range all i after (omega arith) within) in
     let n : i + 1 + span (slice_range all i after) ≡ i + span (slice_range all i after) + 1 = omega arith in
     step ∙ ap (λ rest. first_logical (i + 1) (slice_range all i after) ∷ rest)
-        (ap (λ ls. logical_lines (i + 1 + span (slice_range all i after)) ls) (range_drop all i (span (slice_range all i after)) after (omega arith)) ∙ ap (λ k. logical_lines k (slice_range all (i + span (slice_range all i after)) after)) n)
+    (ap (λ ls. logical_lines (i + 1 + span (slice_range all i after)) ls) (range_drop all i (span (slice_range all i after)) after (omega arith)) ∙ ap (λ k. logical_lines k (slice_range all (i + span (slice_range all i after)) after)) n)
 
 -- The next logical line begins behind this one, and within the range.
 pub span_within : (all : List (List ℕ)) (i after : ℕ) → i < after → after ≤ length all → (1 ≤ span (slice_range all i after)) × (i + span (slice_range all i after) ≤ after)
@@ -450,23 +455,23 @@ pub finished_soup : (all : List (List ℕ)) (first i after : ℕ) (kept : List (
     → IfOk r (λ s. (first_late (length kept) corners numbers ≡ None) × (s ≡ face_set kept corners)) → IfOk r (λ s. text_soup (first + 1) (slice_range all first after) ≡ Ok s)
 finished_soup all first i after kept corners numbers r past at =
     IfOk-weaker r (λ s. (first_late (length kept) corners numbers ≡ None) × (s ≡ face_set kept corners)) (λ s. text_soup (first + 1) (slice_range all first after) ≡ Ok s)
-        (λ s is. at_end all first i after kept corners numbers past at ∙ read_ok at.read.done kept corners numbers at.read.has is.0 ∙ ap Ok (sym is.1))
+    (λ s is. at_end all first i after kept corners numbers past at ∙ read_ok at.read.done kept corners numbers at.read.has is.0 ∙ ap Ok (sym is.1))
 
 pub finished_few : (all : List (List ℕ)) (first i after : ℕ) (kept : List (List ℤ)) (corners : List (List ℕ)) (numbers : List ℕ) (r : Result FaceSet ObjFail) → IsAt all first i after kept corners numbers
     → IfOk r (λ s. (first_late (length kept) corners numbers ≡ None) × (s ≡ face_set kept corners)) → IfOk r (λ s. (length s.pos ≤ 2 ^ 21) × (length s.faces ≤ 2 ^ 20))
 finished_few all first i after kept corners numbers r at =
     IfOk-weaker r (λ s. (first_late (length kept) corners numbers ≡ None) × (s ≡ face_set kept corners)) (λ s. (length s.pos ≤ 2 ^ 21) × (length s.faces ≤ 2 ^ 20))
-        (λ s is.
-          let few : (length kept ≤ 2 ^ 21) × (length corners ≤ 2 ^ 20) = at_few all first i after kept corners numbers at in
-          let p : length s.pos ≡ length (face_set kept corners).pos = ap (λ (t : FaceSet). length t.pos) is.1 in
-          let f : length s.faces ≡ length (face_set kept corners).faces = ap (λ (t : FaceSet). length t.faces) is.1 in
-          (omega (arith, few_pos kept corners), omega (arith, same_faces kept corners)))
+    (λ s is.
+    let few : (length kept ≤ 2 ^ 21) × (length corners ≤ 2 ^ 20) = at_few all first i after kept corners numbers at in
+    let p : length s.pos ≡ length (face_set kept corners).pos = ap (λ (t : FaceSet). length t.pos) is.1 in
+    let f : length s.faces ≡ length (face_set kept corners).faces = ap (λ (t : FaceSet). length t.faces) is.1 in
+    (omega (arith, few_pos kept corners), omega (arith, same_faces kept corners)))
 
 pub finished_refused : (all : List (List ℕ)) (first i after : ℕ) (kept : List (List ℤ)) (corners : List (List ℕ)) (numbers : List ℕ) (r : Result FaceSet ObjFail) → after ≤ i → IsAt all first i after kept corners numbers
     → IfErr r (λ fail. fail ≢ Memory → IsLate fail (first_late (length kept) corners numbers)) → IfErr r (λ fail. fail ≢ Memory → text_soup (first + 1) (slice_range all first after) ≡ Err fail)
 finished_refused all first i after kept corners numbers r past at =
     IfErr-weaker r (λ fail. fail ≢ Memory → IsLate fail (first_late (length kept) corners numbers)) (λ fail. fail ≢ Memory → text_soup (first + 1) (slice_range all first after) ≡ Err fail)
-        (λ fail is other. by_late fail (first_late (length kept) corners numbers) refl (is other))
+    (λ fail is other. by_late fail (first_late (length kept) corners numbers) refl (is other))
   where
     by_late : (fail : ObjFail) (late : Option ℕ) → first_late (length kept) corners numbers ≡ late → IsLate fail late → text_soup (first + 1) (slice_range all first after) ≡ Err fail
     by_late fail None found is = absurd is

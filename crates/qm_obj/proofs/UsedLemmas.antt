@@ -1,12 +1,12 @@
 -- The places that some face names, and the numbers of the vertices that they become.
-use Rattle.std.proofs.Common.{◌≡◌, ℕ, ℤ, zero, suc, ◌+◌, ◌-◌, ◌<◌, ◌≤◌, Bool, true, false, cond, not, ◌&&◌, ◌||◌, List, [], ◌∷◌, ◌++◌, length, take, drop, set, map, get_or, refl, sym, ap, ◌∙◌, arith, subst, eqb, ltb, leb, add-one, Some, None}
+use Rattle.std.proofs.Common.{◌≡◌, ℕ, ℤ, zero, suc, ◌+◌, ◌-◌, ◌<◌, ◌≤◌, Bool, true, false, cond, ◌&&◌, List, [], ◌∷◌, ◌++◌, length, drop, set, map, get_or, refl, sym, ap, ◌∙◌, arith, ltb, leb, add-one, Some}
 use Rattle.std.specs.Prelude.{IsTrue}
 use Rattle.std.specs.List.{filter, list_all, list_any}
-use Rattle.std.specs.List.Sorted.{IsStrictlyIncreasing}
-use Rattle.std.proofs.lemmas.List.{append-nil, take_more_set, map_push, length_push, drop-drop, drop_more, length-set, length-map, length-append}
+use Rattle.std.proofs.lemmas.List.{append-nil, take_more_set, map_push, length_push, drop-drop, drop_more, length-set}
 use Rattle.std.proofs.lemmas.List.Elements.{filter-append}
-use Rattle.std.proofs.lemmas.Bool.{and_parts, ltb-true, leb-true, lt-ltb, eqb-true, eq-eqb}
-use Rattle.def_text.specs.FaceSet.{FaceSet, IsSoup, are_below, is_used}
+use Rattle.std.proofs.lemmas.Bool.{and_parts, ltb-true, leb-true}
+use Rattle.def_mesh.specs.Vertices.{is_used}
+use Rattle.def_text.specs.FaceSet.{FaceSet}
 use Rattle.def_text.specs.Text.{face_set, numbers_to, place_of, used_to, vertex_of}
 use Rattle.qm_obj.proofs.ListLemmas.{at_back, back_more}
 use Rattle.qm_obj.specs.Kept.{are_numbers, chosen, first_late, IsCounted, IsKept, IsMarked}

@@ -1,5 +1,5 @@
 -- The first word of a text, and the words behind it.
-use Rattle.std.proofs.Common.{◌≡◌, ℕ, zero, suc, ◌+◌, ◌<◌, ◌≤◌, Bool, true, false, cond, not, List, [], ◌∷◌, length, take, drop, set, map, get_or, below_more, refl, sym, ap, ◌∙◌, arith, eqb, Some, None, leb, ◌^◌, ◌&&◌}
+use Rattle.std.proofs.Common.{◌≡◌, ℕ, suc, ◌+◌, ◌<◌, ◌≤◌, Bool, true, false, cond, not, List, [], ◌∷◌, length, take, drop, set, map, get_or, below_more, refl, sym, ap, ◌∙◌, arith, eqb, Some, None, leb, ◌^◌, ◌&&◌}
 use Rattle.std.proofs.lemmas.Bool.{eqb-true, true≢false}
 use Rattle.std.proofs.lemmas.List.{drop_more, get_or-map, get_or-set_other, get_or-set_same, get_or-take, length-drop, length-map, length-set, length-take-le, same_lists}
 use Rattle.std.specs.List.{position_or_len}
@@ -85,8 +85,8 @@ pub filled_all : {X : Type 0} (says : List ℕ → X) (all : List (List ℕ)) (c
 filled_all {X} says all count size slots read fits filled =
     let long : length (take size all) ≡ size = length-take-le size all fits in
     same_lists slots (map says (take size all)) (filled.many ∙ sym long ∙ sym (length-map (take size all) says))
-        (λ k d l. let there : k < size = omega (arith, filled.many) in
-          filled.each k d (omega arith) there ∙ sym (get_or-map says (take size all) k [] d (omega arith) ∙ ap says (get_or-take size all k [] there)))
+    (λ k d l. let there : k < size = omega (arith, filled.many) in
+    filled.each k d (omega arith) there ∙ sym (get_or-map says (take size all) k [] d (omega arith) ∙ ap says (get_or-take size all k [] there)))
 
 -- What a test gives, where it gives something, and where it gives nothing.
 pub some_from : {X : Type 0} (t : Bool) (x y : X) → cond t (Some x) None ≡ Some y → (t ≡ true) × (y ≡ x)

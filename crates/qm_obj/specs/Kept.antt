@@ -3,7 +3,7 @@ use Rattle.std.specs.Prelude.{◌≡◌, ◌<◌, ◌-◌, ◌&&◌, ℕ, suc, B
 use Rattle.std.specs.List.{filter, list_all, list_any}
 use Rattle.def_text.specs.declared.refusal.ObjFail.{ObjFail}
 use Rattle.def_text.specs.declared.refusal.ObjFail.TheVariants.{Range}
-use Rattle.def_text.specs.FaceSet.{is_used}
+use Rattle.def_mesh.specs.Vertices.{is_used}
 use Rattle.def_text.specs.Text.{numbers_to, place_of}
 
 -- The line of the first face that names a `v` line above the last.

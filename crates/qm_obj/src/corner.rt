@@ -60,9 +60,7 @@ fn resolve(word: &[u8], before: u32) -> Option<u64>
 
 fn count_from(negative: bool, k: u64, before: u64) -> u64
     requires { before < 2 ^ 32 }
-    ensures {
-        result ≡ (if (k == 0) || (negative && nat_lt before k) then 0 else (if negative then before + 1 - k else k))
-    }
+    ensures { result ≡ (if (k == 0) || (negative && nat_lt before k) then 0 else (if negative then before + 1 - k else k)) }
 {
     if k == 0 || (negative && k > before) {
         0

@@ -1,5 +1,13 @@
 ghost use Rattle.std.specs.Prelude.{
-    ◌≡◌, ◌≤◌, ◌<◌, ◌+◌, ◌++◌, length, slice_range, IfOk, OnOk
+  ◌≡◌,
+  ◌≤◌,
+  ◌<◌,
+  ◌+◌,
+  ◌++◌,
+  length,
+  slice_range,
+  IfOk,
+  OnOk,
 };
 ghost use Rattle.std.specs.List.{before_first};
 ghost use Rattle.def_text.specs.Logical.{continues, is_hash, joined, size_of, span, with_space};

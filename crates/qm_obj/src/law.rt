@@ -3,5 +3,4 @@ ghost use Rattle.qm_obj.specs.Law.{ReadsBack};
 /// The law of the canonical text: it reads back as the soup that it was written for. It does nothing.
 pub fn reads_back()
     ensures { ReadsBack }
-{
-}
+{}

@@ -10,11 +10,14 @@ mod piece;
 mod place;
 mod read;
 mod reader;
+#[cfg(test)]
+mod tests;
 mod text;
 mod used;
 mod words;
 
 pub use corner::read_index;
+pub use def_text::{Index, Micro, ObjFail, Soup, Which};
 pub use joining::logical;
 pub use law::reads_back;
 pub use piece::Logical;

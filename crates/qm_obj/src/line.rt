@@ -10,19 +10,22 @@ use crate::words::next_word;
 use def_text::{ObjFail, Reading, Which};
 
 const MAX_LINE: usize = 65_536;
+
 const MAX_VERTICES: u32 = 2_097_152;
+
 const MAX_FACES: u32 = 1_048_576;
 
 /// What a logical line of `size` bytes says after so many `v` and `f` lines. Corners above `u32::MAX` are capped.
 #[tactic(auto, using(crate::proofs::WordLemmas::by_first_word))]
 pub(crate) fn read_line(line: u32, vertices: u32, faces: u32, size: usize, text: &[u8]) -> Reading
     requires { length text.now ≤ size }
-    ensures {
-        result ≡ with_capped (reading vertices faces (record { number = line; size = size; text = text.now }))
-    }
+    ensures { result ≡ with_capped (reading vertices faces (record { number = line; size = size; text = text.now })) }
 {
     if size > MAX_LINE {
-        return Reading::Refused(ObjFail::Limit { which: Which::Line, line });
+        return Reading::Refused(ObjFail::Limit {
+            which: Which::Line,
+            line,
+        });
     }
     let (first, rest) = next_word(text);
     if is_one(first, b'v') {
@@ -47,7 +50,10 @@ fn read_vertex(line: u32, vertices: u32, text: &[u8]) -> Reading
     ensures { result ≡ vertex_reading line vertices (words text.now) }
 {
     if vertices >= MAX_VERTICES {
-        return Reading::Refused(ObjFail::Limit { which: Which::Vertices, line });
+        return Reading::Refused(ObjFail::Limit {
+            which: Which::Vertices,
+            line,
+        });
     }
     let mut slots = [None; 3];
     let mut count = 0;
@@ -92,7 +98,10 @@ fn read_face(line: u32, vertices: u32, faces: u32, text: &[u8]) -> Reading
     ensures { result ≡ with_capped (face_reading line vertices faces (words text.now)) }
 {
     if faces >= MAX_FACES {
-        return Reading::Refused(ObjFail::Limit { which: Which::Faces, line });
+        return Reading::Refused(ObjFail::Limit {
+            which: Which::Faces,
+            line,
+        });
     }
     let mut corners = [0; 4];
     let mut count = 0;
@@ -110,7 +119,10 @@ fn read_face(line: u32, vertices: u32, faces: u32, text: &[u8]) -> Reading
         rest = after;
     }
     if count != 4 {
-        return Reading::Refused(ObjFail::NotQuad { line, corners: count as u32 });
+        return Reading::Refused(ObjFail::NotQuad {
+            line,
+            corners: count as u32,
+        });
     }
     if names_none(&corners) {
         return Reading::Refused(ObjFail::Range { line });

@@ -18,10 +18,8 @@ pub fn read_obj(alloc: Global, lines: &Lines, first: u32, after: u32) -> Result<
     requires within { after ≤ length (lines_of lines.now) }
     ensures soup { IfOk result (λ soup. text_soup (first + 1) (slice_range (lines_of lines.now) first after) ≡ Ok soup) }
     ensures few { IfOk result (λ soup. (length soup.pos ≤ 2 ^ 21) × (length soup.faces ≤ 2 ^ 20)) }
-    ensures refused {
-        IfErr result (λ fail. fail ≢ ObjFail.Memory
-            → text_soup (first + 1) (slice_range (lines_of lines.now) first after) ≡ Err fail)
-    }
+    ensures refused { IfErr result (λ fail. fail ≢ ObjFail.Memory
+        → text_soup (first + 1) (slice_range (lines_of lines.now) first after) ≡ Err fail) }
 {
     let mut reader = Reader::new(alloc);
     let mut i = first;
@@ -35,23 +33,25 @@ pub fn read_obj(alloc: Global, lines: &Lines, first: u32, after: u32) -> Result<
 }
 
 /// Takes the logical line that begins with physical line `i`, and answers the first that is not joined to it.
-fn take_logical(alloc: Global, reader: &mut Reader, lines: &Lines, i: u32, after: u32) -> Result<u32, ObjFail>
+fn take_logical(
+    alloc: Global,
+    reader: &mut Reader,
+    lines: &Lines,
+    i: u32,
+    after: u32,
+) -> Result<u32, ObjFail>
     requires begins { i < after }
     requires within { after ≤ length (lines_of lines.now) }
     requires vertices { length reader.old.places.items ≤ 2 ^ 21 }
     requires faces { length reader.old.faces.items ≤ 2 ^ 20 }
     ensures next { IfOk result (λ next. next ≡ i + span (slice_range (lines_of lines.now) i after)) }
-    ensures kept {
-        OnOk result (Took reader.old.places.items reader.new.places.items reader.old.faces.items reader.new.faces.items
-            reader.old.lines.items reader.new.lines.items
-            (next_said reader.old.places.items reader.old.faces.items
-                (first_logical (i + 1) (slice_range (lines_of lines.now) i after))))
-    }
-    ensures refused {
-        IfErr result (λ fail. fail ≢ ObjFail.Memory →
-            next_said reader.old.places.items reader.old.faces.items
-                (first_logical (i + 1) (slice_range (lines_of lines.now) i after)) ≡ Refused fail)
-    }
+    ensures kept { OnOk result (Took reader.old.places.items reader.new.places.items reader.old.faces.items reader.new.faces.items
+        reader.old.lines.items reader.new.lines.items
+        (next_said reader.old.places.items reader.old.faces.items
+        (first_logical (i + 1) (slice_range (lines_of lines.now) i after)))) }
+    ensures refused { IfErr result (λ fail. fail ≢ ObjFail.Memory →
+        next_said reader.old.places.items reader.old.faces.items
+        (first_logical (i + 1) (slice_range (lines_of lines.now) i after)) ≡ Refused fail) }
 {
     let line = lines.line(i);
     if goes_on(line) {
@@ -63,23 +63,25 @@ fn take_logical(alloc: Global, reader: &mut Reader, lines: &Lines, i: u32, after
     }
 }
 
-fn take_joined(alloc: Global, reader: &mut Reader, lines: &Lines, i: u32, after: u32) -> Result<u32, ObjFail>
+fn take_joined(
+    alloc: Global,
+    reader: &mut Reader,
+    lines: &Lines,
+    i: u32,
+    after: u32,
+) -> Result<u32, ObjFail>
     requires begins { i < after }
     requires within { after ≤ length (lines_of lines.now) }
     requires vertices { length reader.old.places.items ≤ 2 ^ 21 }
     requires faces { length reader.old.faces.items ≤ 2 ^ 20 }
     ensures next { IfOk result (λ next. next ≡ i + span (slice_range (lines_of lines.now) i after)) }
-    ensures kept {
-        OnOk result (Took reader.old.places.items reader.new.places.items reader.old.faces.items reader.new.faces.items
-            reader.old.lines.items reader.new.lines.items
-            (next_said reader.old.places.items reader.old.faces.items
-                (first_logical (i + 1) (slice_range (lines_of lines.now) i after))))
-    }
-    ensures refused {
-        IfErr result (λ fail. fail ≢ ObjFail.Memory →
-            next_said reader.old.places.items reader.old.faces.items
-                (first_logical (i + 1) (slice_range (lines_of lines.now) i after)) ≡ Refused fail)
-    }
+    ensures kept { OnOk result (Took reader.old.places.items reader.new.places.items reader.old.faces.items reader.new.faces.items
+        reader.old.lines.items reader.new.lines.items
+        (next_said reader.old.places.items reader.old.faces.items
+        (first_logical (i + 1) (slice_range (lines_of lines.now) i after)))) }
+    ensures refused { IfErr result (λ fail. fail ≢ ObjFail.Memory →
+        next_said reader.old.places.items reader.old.faces.items
+        (first_logical (i + 1) (slice_range (lines_of lines.now) i after)) ≡ Refused fail) }
 {
     let Ok(joined) = join(alloc, lines, i, after) else {
         return Err(ObjFail::Memory);

@@ -35,19 +35,21 @@ impl Reader {
         requires vertices { length self.old.places.items ≤ 2 ^ 21 }
         requires faces { length self.old.faces.items ≤ 2 ^ 20 }
         requires cut { length text.now ≤ size }
-        ensures kept {
-            OnOk result (Took self.old.places.items self.new.places.items self.old.faces.items self.new.faces.items
-                self.old.lines.items self.new.lines.items
-                (next_said self.old.places.items self.old.faces.items
-                    (record { number = line; size = size; text = text.now })))
-        }
-        ensures refused {
-            IfErr result (λ fail. fail ≢ ObjFail.Memory →
-                next_said self.old.places.items self.old.faces.items
-                    (record { number = line; size = size; text = text.now }) ≡ Reading.Refused fail)
-        }
+        ensures kept { OnOk result (Took self.old.places.items self.new.places.items self.old.faces.items self.new.faces.items
+            self.old.lines.items self.new.lines.items
+            (next_said self.old.places.items self.old.faces.items
+            (record { number = line; size = size; text = text.now }))) }
+        ensures refused { IfErr result (λ fail. fail ≢ ObjFail.Memory →
+            next_said self.old.places.items self.old.faces.items
+            (record { number = line; size = size; text = text.now }) ≡ Reading.Refused fail) }
     {
-        match read_line(line, self.places.len() as u32, self.faces.len() as u32, size, text) {
+        match read_line(
+            line,
+            self.places.len() as u32,
+            self.faces.len() as u32,
+            size,
+            text,
+        ) {
             Reading::Passed => Ok(()),
             Reading::Place(place) => self.places.push(place).map_err(|_| ObjFail::Memory),
             Reading::Face { line, corners } => self.keep_face(line, corners),

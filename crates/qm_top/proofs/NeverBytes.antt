@@ -43,15 +43,15 @@ fine_if false a b x y = y
 fine_vertex : (n v : ℕ) (ws : List (List ℕ)) → IsFine (vertex_reading n v ws)
 fine_vertex n v ws =
     fine_if (nat_le (2 ^ 21) v) _ _ refl
-      (fine_if (not (is_place_count (length ws) && list_all is_decimal ws)) _ _ refl
-        (fine_if (list_any (λ w. is_far (rounded w)) (take 3 ws)) _ _ refl refl))
+    (fine_if (not (is_place_count (length ws) && list_all is_decimal ws)) _ _ refl
+    (fine_if (list_any (λ w. is_far (rounded w)) (take 3 ws)) _ _ refl refl))
 
 fine_face : (n v f : ℕ) (ws : List (List ℕ)) → IsFine (face_reading n v f ws)
 fine_face n v f ws =
     fine_if (nat_le (2 ^ 20) f) _ _ refl
-      (fine_if (not (list_all is_corner ws)) _ _ refl
-        (fine_if (not (length ws == 4)) _ _ refl
-          (fine_if (list_any (λ w. is_out v (used_index w)) ws) _ _ refl refl)))
+    (fine_if (not (list_all is_corner ws)) _ _ refl
+    (fine_if (not (length ws == 4)) _ _ refl
+    (fine_if (list_any (λ w. is_out v (used_index w)) ws) _ _ refl refl)))
 
 fine_words : (n v f : ℕ) (ws : List (List ℕ)) → IsFine (words_reading n v f ws)
 fine_words n v f [] = refl
@@ -69,9 +69,9 @@ fine_readings : (before lines : List Logical) → list_all is_fine (flat_map ref
 fine_readings before [] = refl
 fine_readings before (line ∷ lines) =
     fine_both (refusal_in (reading (count_by is_vertex_line before) (count_by is_face_line before) line))
-      (flat_map refusal_in (readings (before ++ line ∷ []) lines))
-      (fine_reading (count_by is_vertex_line before) (count_by is_face_line before) line)
-      (fine_readings (before ++ line ∷ []) lines)
+    (flat_map refusal_in (readings (before ++ line ∷ []) lines))
+    (fine_reading (count_by is_vertex_line before) (count_by is_face_line before) line)
+    (fine_readings (before ++ line ∷ []) lines)
 
 fine_late : (n : ℕ) (r : Reading) → list_all is_fine (late_in n r) ≡ true
 fine_late n Passed = refl
@@ -101,6 +101,6 @@ pub never_bytes : (n : ℕ) (lines : List (List ℕ)) (line : ℕ)
 never_bytes n lines line is =
     let said : List Reading = readings [] (logical_lines n lines) in
     let all : list_all is_fine (refusals said) ≡ true =
-        fine_both (flat_map refusal_in said) (flat_map (late_in (length (places said))) said)
-          (fine_readings [] (logical_lines n lines)) (fine_lates (length (places said)) said) in
+    fine_both (flat_map refusal_in said) (flat_map (late_in (length (places said))) said)
+    (fine_readings [] (logical_lines n lines)) (fine_lates (length (places said)) said) in
     false≢true (first_fine (refusals said) _ (Limit Bytes line) all is)

@@ -1,6 +1,6 @@
-use Rattle.std.proofs.Common.{◌≡◌, ◌+◌, ◌∙◌, sym, ap, length, ◌++◌}
+use Rattle.std.proofs.Common.{◌+◌, ◌∙◌, sym, ap, length, ◌++◌}
 use Rattle.qm_io.specs.Lines.{lines_of}
-use Rattle.qm_obj.proofs.JoinLemmas.{IsJoined, IsJoining, joined_all, joined_last, joining_more}
+use Rattle.qm_obj.proofs.JoinLemmas.{joined_last, joining_more}
 use Rattle.qm_obj.proofs.joining.join.Goals as goal
 
 pub returns-then-not-goes_on-clause-bytes : goal.returns-then-not-goes_on-clause-bytes
@@ -20,4 +20,4 @@ returns-then-not-goes_on-clause-size c =
 pub loop-next-preserved : goal.loop-next-preserved
 loop-next-preserved c =
     rw c.in_ok-push_spaced.ensures
-        (joining_more (lines_of c.args.lines.now) c.args.i c.loop-next.next c.args.after c.loop-next.bytes.items c.line-line.result.now c.loop-next-test.true c.requires.within c.line-line.ensures (sym c.goes_on.ensures ∙ c.if-not-goes_on.false) c.loop-next.invariant)
+    (joining_more (lines_of c.args.lines.now) c.args.i c.loop-next.next c.args.after c.loop-next.bytes.items c.line-line.result.now c.loop-next-test.true c.requires.within c.line-line.ensures (sym c.goes_on.ensures ∙ c.if-not-goes_on.false) c.loop-next.invariant)

@@ -1,12 +1,12 @@
-use Rattle.std.proofs.Common.{◌≡◌, ◌<◌, ◌≤◌, ◌+◌, ◌^◌, ◌&&◌, ℕ, [], true, false, length, map, take, arith, sym, ◌∙◌, ap, length-drop, leb, eqb, subst}
+use Rattle.std.proofs.Common.{◌≡◌, ◌≤◌, ◌+◌, ◌^◌, [], true, false, length, map, arith, sym, ◌∙◌, ap, length-drop, leb, eqb}
 use Rattle.std.specs.List.{list_all, list_any}
-use Rattle.std.proofs.lemmas.Bool.{and_from, and_left, and_right, eq-eqb, lt-leb, ne_eqb}
+use Rattle.std.proofs.lemmas.Bool.{and_from, eq-eqb, lt-leb, ne_eqb}
 use Rattle.std.proofs.lemmas.List.{take_all}
 use Rattle.std.proofs.lemmas.List.Folds.{list_all_at, list_all_more}
 use Rattle.def_text.specs.Corner.{is_corner}
 use Rattle.def_text.specs.declared.reading.Reading.TheVariants.{Face, Refused}
 use Rattle.def_text.specs.declared.refusal.ObjFail.TheVariants.{NotQuad}
-use Rattle.qm_obj.specs.Indices.{corner_of, with_capped}
+use Rattle.qm_obj.specs.Indices.{corner_of}
 use Rattle.qm_obj.proofs.LineLemmas.{face_count, face_in, face_out, face_syntax}
 use Rattle.def_text.specs.Words.{words}
 use Rattle.qm_obj.proofs.WordLemmas.{IsNext, next_is, next_none, words_few, filled_more, filled_all, some_from, none_from}
@@ -15,19 +15,19 @@ use Rattle.qm_obj.proofs.line.read_face.Goals as goal
 pub words-smaller : goal.words-smaller
 words-smaller c =
     let next : IsNext (words c.args.text.now) c.words.count c.next_word.result.0.now (words c.next_word.result.1.now) =
-        next_is _ _ _ _ (sym c.next_word.ensures.first ∙ c.words.invariant.rest_is) (sym c.is_empty.ensures ∙ c.if-is_empty.false) in
+    next_is _ _ _ _ (sym c.next_word.ensures.first ∙ c.words.invariant.rest_is) (sym c.is_empty.ensures ∙ c.if-is_empty.false) in
     omega (arith, ap length next.behind, ap length c.words.invariant.rest_is, length-drop c.words.count (words c.args.text.now), length-drop (c.words.count + 1) (words c.args.text.now), next.there)
 
 pub overflow_add-count : goal.overflow_add-count
 overflow_add-count c =
     let next : IsNext (words c.args.text.now) c.words.count c.next_word.result.0.now (words c.next_word.result.1.now) =
-        next_is _ _ _ _ (sym c.next_word.ensures.first ∙ c.words.invariant.rest_is) (sym c.is_empty.ensures ∙ c.if-is_empty.false) in
+    next_is _ _ _ _ (sym c.next_word.ensures.first ∙ c.words.invariant.rest_is) (sym c.is_empty.ensures ∙ c.if-is_empty.false) in
     omega (arith, next.there, words_few c.args.text.now)
 
 pub words-preserved : goal.words-preserved
 words-preserved c =
     let next : IsNext (words c.args.text.now) c.words.count c.next_word.result.0.now (words c.next_word.result.1.now) =
-        next_is _ _ _ _ (sym c.next_word.ensures.first ∙ c.words.invariant.rest_is) (sym c.is_empty.ensures ∙ c.if-is_empty.false) in
+    next_is _ _ _ _ (sym c.next_word.ensures.first ∙ c.words.invariant.rest_is) (sym c.is_empty.ensures ∙ c.if-is_empty.false) in
     let got : (is_corner c.next_word.result.0.now ≡ true) × (c.in-Some.corner ≡ (corner_of c.args.vertices) c.next_word.result.0.now) = some_from _ _ _ (sym c.read_corner.ensures ∙ c.in-Some.is) in
     record {
       within = omega (arith, next.there);
@@ -39,9 +39,9 @@ words-preserved c =
 pub returns-in_default : goal.returns-in_default
 returns-in_default c =
     let next : IsNext (words c.args.text.now) c.words.count c.next_word.result.0.now (words c.next_word.result.1.now) =
-        next_is _ _ _ _ (sym c.next_word.ensures.first ∙ c.words.invariant.rest_is) (sym c.is_empty.ensures ∙ c.if-is_empty.false) in
+    next_is _ _ _ _ (sym c.next_word.ensures.first ∙ c.words.invariant.rest_is) (sym c.is_empty.ensures ∙ c.if-is_empty.false) in
     let bad : list_all is_corner (words c.args.text.now) ≡ false =
-        list_all_at is_corner (words c.args.text.now) c.words.count [] next.there (ap is_corner next.here ∙ none_from _ ((corner_of c.args.vertices) c.next_word.result.0.now) (sym c.read_corner.ensures ∙ c.in_default.is)) in
+    list_all_at is_corner (words c.args.text.now) c.words.count [] next.there (ap is_corner next.here ∙ none_from _ ((corner_of c.args.vertices) c.next_word.result.0.now) (sym c.read_corner.ensures ∙ c.in_default.is)) in
     let few : leb (2 ^ 20) c.args.faces ≡ false = lt-leb _ _ (omega arith) in
     face_syntax c.args.line c.args.vertices c.args.faces (words c.args.text.now) few bad
 
@@ -62,8 +62,8 @@ returns-then-names_none c =
     let passed : list_all is_corner (words c.args.text.now) ≡ true = ap (list_all is_corner) (sym (take_all c.words.count (words c.args.text.now) read)) ∙ c.words.invariant.passed in
     let four : length (words c.args.text.now) ≡ 4 = omega arith in
     let corners : c.words.corners ≡ map (corner_of c.args.vertices) (words c.args.text.now) =
-        filled_all (corner_of c.args.vertices) (words c.args.text.now) c.words.count 4 c.words.corners (omega arith) (omega arith) c.words.invariant.filled
-        ∙ ap (map (corner_of c.args.vertices)) (take_all 4 (words c.args.text.now) (omega arith)) in
+    filled_all (corner_of c.args.vertices) (words c.args.text.now) c.words.count 4 c.words.corners (omega arith) (omega arith) c.words.invariant.filled
+    ∙ ap (map (corner_of c.args.vertices)) (take_all 4 (words c.args.text.now) (omega arith)) in
     face_out c.args.line c.args.vertices c.args.faces (words c.args.text.now) few passed (eq-eqb _ _ four) (ap (list_any (λ corner. eqb corner 0)) (sym corners) ∙ sym c.names_none.ensures ∙ c.if-names_none.true)
 
 pub returns : goal.returns
@@ -74,8 +74,8 @@ returns c =
     let passed : list_all is_corner (words c.args.text.now) ≡ true = ap (list_all is_corner) (sym (take_all c.words.count (words c.args.text.now) read)) ∙ c.words.invariant.passed in
     let four : length (words c.args.text.now) ≡ 4 = omega arith in
     let corners : c.words.corners ≡ map (corner_of c.args.vertices) (words c.args.text.now) =
-        filled_all (corner_of c.args.vertices) (words c.args.text.now) c.words.count 4 c.words.corners (omega arith) (omega arith) c.words.invariant.filled
-        ∙ ap (map (corner_of c.args.vertices)) (take_all 4 (words c.args.text.now) (omega arith)) in
+    filled_all (corner_of c.args.vertices) (words c.args.text.now) c.words.count 4 c.words.corners (omega arith) (omega arith) c.words.invariant.filled
+    ∙ ap (map (corner_of c.args.vertices)) (take_all 4 (words c.args.text.now) (omega arith)) in
     ap (Face c.args.line) corners
     ∙ face_in c.args.line c.args.vertices c.args.faces (words c.args.text.now) few passed (eq-eqb _ _ four) (ap (list_any (λ corner. eqb corner 0)) (sym corners) ∙ sym c.names_none.ensures ∙ c.if-names_none.false)
 

@@ -1,6 +1,6 @@
-use Rattle.std.proofs.Common.{◌≡◌, ◌<◌, ◌≤◌, ◌+◌, ◌^◌, ◌&&◌, ℕ, [], true, false, length, map, take, arith, sym, ◌∙◌, ap, length-drop, leb, eqb, subst}
-use Rattle.std.specs.List.{list_all, list_any}
-use Rattle.std.proofs.lemmas.Bool.{and_from, and_left, and_right, eq-eqb, lt-leb, ne_eqb}
+use Rattle.std.proofs.Common.{◌≡◌, ◌≤◌, ◌+◌, ◌^◌, [], true, false, length, map, take, arith, sym, ◌∙◌, ap, length-drop, leb}
+use Rattle.std.specs.List.{list_all}
+use Rattle.std.proofs.lemmas.Bool.{and_from, and_left, and_right, lt-leb}
 use Rattle.std.proofs.lemmas.List.{take_all}
 use Rattle.std.proofs.lemmas.List.Folds.{list_all_at, list_all_more}
 use Rattle.def_text.specs.Decimal.{is_decimal}
@@ -14,19 +14,19 @@ use Rattle.qm_obj.proofs.line.read_vertex.Goals as goal
 pub words-smaller : goal.words-smaller
 words-smaller c =
     let next : IsNext (words c.args.text.now) c.words.count c.next_word.result.0.now (words c.next_word.result.1.now) =
-        next_is _ _ _ _ (sym c.next_word.ensures.first ∙ c.words.invariant.rest_is) (sym c.is_empty.ensures ∙ c.if-is_empty.false) in
+    next_is _ _ _ _ (sym c.next_word.ensures.first ∙ c.words.invariant.rest_is) (sym c.is_empty.ensures ∙ c.if-is_empty.false) in
     omega (arith, ap length next.behind, ap length c.words.invariant.rest_is, length-drop c.words.count (words c.args.text.now), length-drop (c.words.count + 1) (words c.args.text.now), next.there)
 
 pub overflow_add-count : goal.overflow_add-count
 overflow_add-count c =
     let next : IsNext (words c.args.text.now) c.words.count c.next_word.result.0.now (words c.next_word.result.1.now) =
-        next_is _ _ _ _ (sym c.next_word.ensures.first ∙ c.words.invariant.rest_is) (sym c.is_empty.ensures ∙ c.if-is_empty.false) in
+    next_is _ _ _ _ (sym c.next_word.ensures.first ∙ c.words.invariant.rest_is) (sym c.is_empty.ensures ∙ c.if-is_empty.false) in
     omega (arith, next.there, words_few c.args.text.now)
 
 pub words-preserved : goal.words-preserved
 words-preserved c =
     let next : IsNext (words c.args.text.now) c.words.count c.next_word.result.0.now (words c.next_word.result.1.now) =
-        next_is _ _ _ _ (sym c.next_word.ensures.first ∙ c.words.invariant.rest_is) (sym c.is_empty.ensures ∙ c.if-is_empty.false) in
+    next_is _ _ _ _ (sym c.next_word.ensures.first ∙ c.words.invariant.rest_is) (sym c.is_empty.ensures ∙ c.if-is_empty.false) in
     let got : (is_decimal c.next_word.result.0.now ≡ true) × (c.in-Some.number ≡ coordinate c.next_word.result.0.now) = some_from _ _ _ (sym c.read_coordinate.ensures ∙ c.in-Some.is) in
     record {
       within = omega (arith, next.there);
@@ -38,9 +38,9 @@ words-preserved c =
 pub returns-in_default : goal.returns-in_default
 returns-in_default c =
     let next : IsNext (words c.args.text.now) c.words.count c.next_word.result.0.now (words c.next_word.result.1.now) =
-        next_is _ _ _ _ (sym c.next_word.ensures.first ∙ c.words.invariant.rest_is) (sym c.is_empty.ensures ∙ c.if-is_empty.false) in
+    next_is _ _ _ _ (sym c.next_word.ensures.first ∙ c.words.invariant.rest_is) (sym c.is_empty.ensures ∙ c.if-is_empty.false) in
     let bad : list_all is_decimal (words c.args.text.now) ≡ false =
-        list_all_at is_decimal (words c.args.text.now) c.words.count [] next.there (ap is_decimal next.here ∙ none_from _ (coordinate c.next_word.result.0.now) (sym c.read_coordinate.ensures ∙ c.in_default.is)) in
+    list_all_at is_decimal (words c.args.text.now) c.words.count [] next.there (ap is_decimal next.here ∙ none_from _ (coordinate c.next_word.result.0.now) (sym c.read_coordinate.ensures ∙ c.in_default.is)) in
     let few : leb (2 ^ 21) c.args.vertices ≡ false = lt-leb _ _ (omega arith) in
     vertex_syntax c.args.line c.args.vertices (words c.args.text.now) few (and_right _ _ bad)
 

@@ -1,6 +1,5 @@
-use Rattle.std.proofs.Common.{◌≡◌, ◌<◌, ◌-◌, ◌+◌, ◌*◌, ◌^◌, min, ℕ, true, false, length, take, get_or, arith, sym, ◌∙◌, ap}
+use Rattle.std.proofs.Common.{◌-◌, take, get_or, arith, sym, ◌∙◌}
 use Rattle.std.specs.Char.{is_ascii_digit}
-use Rattle.std.specs.List.{list_all}
 use Rattle.std.proofs.lemmas.List.Folds.{list_all_more}
 use Rattle.std.proofs.lemmas.Bool.{and_from}
 use Rattle.def_text.specs.Digits.{number}

@@ -1,5 +1,5 @@
 use Rattle.std.proofs.Common.{◌∙◌, sym}
-use Rattle.qm_obj.proofs.UsedLemmas.{late_more, late_here}
+use Rattle.qm_obj.proofs.UsedLemmas.{late_more}
 use Rattle.qm_obj.proofs.used.late_line.Goals as goal
 
 pub loop-i-preserved : goal.loop-i-preserved

@@ -1,5 +1,5 @@
-use Rattle.std.proofs.Common.{◌≡◌, ◌<◌, ◌-◌, [], true, length, map, get_or, arith, sym, ◌∙◌, ap, List, ℕ}
-use Rattle.std.proofs.lemmas.List.{length-set, get_or_default}
+use Rattle.std.proofs.Common.{◌≡◌, ◌<◌, ◌-◌, length, map, get_or, arith, ◌∙◌, ap}
+use Rattle.std.proofs.lemmas.List.{length-set}
 use Rattle.qm_obj.specs.Kept.{are_numbers}
 use Rattle.qm_obj.proofs.ListLemmas.{at_back, back_more, mapped_more, passes_at}
 use Rattle.qm_obj.proofs.used.renumber.Goals as goal

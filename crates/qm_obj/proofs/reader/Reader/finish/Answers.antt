@@ -1,4 +1,4 @@
-use Rattle.std.proofs.Common.{◌≡◌, ◌∙◌, sym, subst, length, None, ℕ}
+use Rattle.std.proofs.Common.{◌≡◌, ◌∙◌, sym, subst, None, ℕ}
 use Rattle.def_text.specs.FaceSet.{FaceSet, IsSoup}
 use Rattle.qm_obj.specs.Kept.{first_late}
 use Rattle.qm_obj.proofs.SoupLemmas.{face_set_is_soup, none_late}
