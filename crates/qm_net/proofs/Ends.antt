@@ -2,15 +2,16 @@
 use Rattle.std.proofs.Common.{◌≡◌, ℕ, zero, suc, ◌+◌, ◌*◌, ◌^◌, ◌<◌, ◌≤◌, ◌==◌, eqb, Bool, true, false, ◌&&◌, cond, List, [], ◌∷◌, length, drop, Option, Some, None, refl, sym, ◌∙◌, ap, subst, inl, inr, ◌⊎◌, arith}
 use Rattle.std.specs.Prelude.{slice_index, slice_index_or, slice_set, option_to_list, nat_lt}
 use Rattle.std.specs.List.{list_all}
-use Rattle.std.proofs.lemmas.Bool.{cases_eq, eq-eqb, ne_eqb, and_parts}
+use Rattle.std.proofs.lemmas.Bool.{cases_eq, cases_lt, eq-eqb, ne_eqb, and_parts}
 use Rattle.std.proofs.lemmas.Bool.Decides.{nat_tests}
-use Rattle.std.proofs.lemmas.List.{drop_more, drop_all, length-set, get_or-set_same, get_or-set_other}
+use Rattle.std.proofs.lemmas.List.{drop_more, drop_all, get_or_past, length-set, get_or-set_same, get_or-set_other}
 use Rattle.std.proofs.lemmas.List.Sums.{AllPass-from_list_all}
-use Rattle.qm_laws.specs.Counts.{count}
+use Rattle.qm_laws.specs.Counts.{count, count_below}
+use Rattle.qm_laws.proofs.Counts.{count_below_same}
 use Rattle.def_flow.specs.Network.{Network, IsWithinBounds, is_bounded, degree, ends}
 use Rattle.def_flow.specs.declared.net.Arc.{Arc}
 use Rattle.def_flow.specs.declared.net.End.{End}
-use Rattle.qm_net.specs.Degrees.{counted, counted_right, counted_arc, EndsBelow, HasEndsBelow, AreEndsBelow}
+use Rattle.qm_net.specs.Degrees.{counted, counted_right, counted_arc, EndsBelow, HasEndsBelow, AreEndsBelow, AreDegrees}
 use Rattle.qm_net.proofs.Within.{ends_bounded}
 
 -- Whether an end is at a node, as a number.
@@ -66,7 +67,7 @@ degree_end arcs k v h = rw (drop_all k arcs h) refl
 
 -- The ends of a network within bounds are at nodes.
 pub network_ends : (net : Network) → IsWithinBounds net → AreEndsBelow net.nodes net.arcs
-network_ends net within k a l = by_right _ _ (ends_bounded net.nodes (slice_index_or net.arcs k a) (AllPass-from_list_all (is_bounded net.nodes) net.arcs within.arcs k a l))
+network_ends net within k a l = by_right (slice_index_or net.arcs k a).left (slice_index_or net.arcs k a).right (ends_bounded net.nodes (slice_index_or net.arcs k a) (AllPass-from_list_all (is_bounded net.nodes) net.arcs within.arcs k a l))
   where
     by_right : (left : End) (right : Option End) → list_all (λ (e : End). nat_lt e.node net.nodes) (left ∷ option_to_list right) ≡ true → EndsBelow net.nodes left right
     by_right left None on =
@@ -76,3 +77,19 @@ network_ends net within k a l = by_right _ _ (ends_bounded net.nodes (slice_inde
         let both : (nat_lt left.node net.nodes ≡ true) × ((nat_lt right.node net.nodes && true) ≡ true) = and_parts (nat_lt left.node net.nodes) (nat_lt right.node net.nodes && true) on in
         let last : (nat_lt right.node net.nodes ≡ true) × (true ≡ true) = and_parts (nat_lt right.node net.nodes) true both.1 in
         (grind (arith, nat_tests), grind (arith, nat_tests))
+
+-- A node has at most two ends for each arc.
+pub degree_low : (arcs : List Arc) (v : ℕ) → degree arcs v ≤ 2 * length arcs
+degree_low [] v = omega arith
+degree_low (a ∷ arcs) v = omega (arith, ends_low v a, degree_low arcs v)
+
+-- Counts of ends are small.
+pub degrees_low : (nodes : ℕ) (arcs : List Arc) (degrees : List ℕ) → AreDegrees nodes arcs degrees → length arcs < 2 ^ 32 → (v : ℕ) → slice_index degrees v ≤ 2 ^ 34
+degrees_low nodes arcs degrees are few v = elim (cases_lt v nodes) [
+    inl l ↦ omega (arith, are.each v l, degree_low arcs v)
+  | inr h ↦ omega (arith, get_or_past degrees v 0 (omega (arith, are.long)))
+  ]
+
+-- The squares of the counts of ends.
+pub squares : (nodes : ℕ) (arcs : List Arc) (degrees : List ℕ) → AreDegrees nodes arcs degrees → count_below (λ v. 16 * (slice_index degrees v * slice_index degrees v)) (length degrees) ≡ count_below (λ v. 16 * (degree arcs v * degree arcs v)) nodes
+squares nodes arcs degrees are = ap (count_below (λ v. 16 * (slice_index degrees v * slice_index degrees v))) are.long ∙ count_below_same _ _ nodes (λ v l. ap (λ d. 16 * (d * d)) (are.each v l))

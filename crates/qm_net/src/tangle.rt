@@ -12,8 +12,19 @@ pub fn tangle_of(alloc: Global, net: &Net) -> Result<u128, AllocError>
     ensures { IfOk result (λ tangle. tangle ≡ tangle_number (network net.now)) }
 {
     let mut degrees = vec![in alloc; 0u64; net.nodes as usize]?;
-    count_ends(&net.arcs, &mut degrees);
-    Ok(sum_of_squares(&degrees))
+    Ok(tangle_in(&net.arcs, &mut degrees))
+}
+
+/// The same, with room to count the ends at each node.
+fn tangle_in(arcs: &[Arc], degrees: &mut [u64]) -> u128
+    requires few { length arcs.now < 2 ^ 32 }
+    requires nodes { length degrees.old < 2 ^ 32 }
+    requires at { AreEndsBelow (length degrees.old) arcs.now }
+    requires start { degrees.old ≡ replicate (length degrees.old) 0 }
+    ensures { result ≡ count_below (λ v. 16 * (degree arcs.now v * degree arcs.now v)) (length degrees.old) }
+{
+    count_ends(arcs, degrees);
+    sum_of_squares(degrees)
 }
 
 /// Counts the ends at each node.
