@@ -1,5 +1,5 @@
 -- Counts of ends, one arc at a time.
-use Rattle.std.proofs.Common.{◌≡◌, ℕ, zero, suc, ◌+◌, ◌*◌, ◌^◌, ◌<◌, ◌≤◌, ◌==◌, eqb, Bool, true, false, ◌&&◌, cond, List, [], ◌∷◌, length, drop, Option, Some, None, refl, sym, ◌∙◌, ap, subst, inl, inr, ◌⊎◌, arith}
+use Rattle.std.proofs.Common.{◌≡◌, ℕ, ◌+◌, ◌*◌, ◌^◌, ◌<◌, ◌≤◌, ◌==◌, Bool, true, false, ◌&&◌, cond, List, [], ◌∷◌, length, drop, Option, Some, None, refl, sym, ◌∙◌, ap, subst, inl, inr, arith}
 use Rattle.std.specs.Prelude.{slice_index, slice_index_or, slice_set, option_to_list, nat_lt}
 use Rattle.std.specs.List.{list_all}
 use Rattle.std.proofs.lemmas.Bool.{cases_eq, cases_lt, eq-eqb, ne_eqb, and_parts}
@@ -86,9 +86,9 @@ degree_low (a ∷ arcs) v = omega (arith, ends_low v a, degree_low arcs v)
 -- Counts of ends are small.
 pub degrees_low : (nodes : ℕ) (arcs : List Arc) (degrees : List ℕ) → AreDegrees nodes arcs degrees → length arcs < 2 ^ 32 → (v : ℕ) → slice_index degrees v ≤ 2 ^ 34
 degrees_low nodes arcs degrees are few v = elim (cases_lt v nodes) [
-    inl l ↦ omega (arith, are.each v l, degree_low arcs v)
+  | inl l ↦ omega (arith, are.each v l, degree_low arcs v)
   | inr h ↦ omega (arith, get_or_past degrees v 0 (omega (arith, are.long)))
-  ]
+]
 
 -- The squares of the counts of ends.
 pub squares : (nodes : ℕ) (arcs : List Arc) (degrees : List ℕ) → AreDegrees nodes arcs degrees → count_below (λ v. 16 * (slice_index degrees v * slice_index degrees v)) (length degrees) ≡ count_below (λ v. 16 * (degree arcs v * degree arcs v)) nodes
