@@ -1,2 +1,2 @@
 mod Examples
-mod NetworkExamples
+pub mod NetworkExamples

@@ -10,14 +10,14 @@ use Rattle.def_flow.specs.Accepted.{cert_verdict}
 use Rattle.def_flow.specs.declared.cert.CertVerdict.TheVariants.{Yes, Count, Below, Unequal, Dual, Sums}
 use Rattle.def_flow.specs.declared.weighted.Verdict.TheVariants.{Short}
 
-abbrev end : ℕ → Bool → End
+abbrev pub end : ℕ → Bool → End
 end v s = record { node = v; plus = s }
 
-abbrev arc : End → Option End → ℕ → ℕ → Arc
+abbrev pub arc : End → Option End → ℕ → ℕ → Arc
 arc left right old weight = record { left = left; right = right; old = old; weight = weight }
 
 -- The network of one quad: four arcs with one end each.
-abbrev unit_quad : Network
+abbrev pub unit_quad : Network
 unit_quad = record { nodes = 2; floor = 1; p = 1; q = 1; arcs = arc (end 0 true) None 1 1 ∷ arc (end 1 true) None 1 1 ∷ arc (end 0 false) None 1 1 ∷ arc (end 1 false) None 1 1 ∷ [] }
 
 -- Its graph has 34 vertices and 51 edges, and no lone vertex.
@@ -62,7 +62,7 @@ quad_sums : cert_verdict unit_quad (record { x = 1 ∷ 1 ∷ 1 ∷ 1 ∷ []; dua
 quad_sums = refl
 
 -- A network with units of all five shapes, and with both ends of an arc at one node, once with like signs and once with unlike ones.
-abbrev five_shapes : Network
+abbrev pub five_shapes : Network
 five_shapes = record { nodes = 3; floor = 1; p = 2; q = 3; arcs = arc (end 0 true) (Some (end 1 false)) 5 2 ∷ arc (end 1 true) (Some (end 1 true)) 2 1 ∷ arc (end 2 false) (Some (end 2 false)) 3 3 ∷ arc (end 0 false) (Some (end 2 true)) 4 1 ∷ arc (end 1 false) (Some (end 1 true)) 3 2 ∷ arc (end 0 true) None 3 1 ∷ arc (end 2 false) None 2 4 ∷ [] }
 
 five_shapes-tangle : tangle_number five_shapes ≡ 800

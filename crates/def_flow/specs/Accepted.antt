@@ -47,15 +47,15 @@ unequal_fault net xs = least (λ v. not (int_eq (side_sum net.arcs (entries xs) 
 -- The verdict on the sum of a dual that has no fault.
 abbrev pub sums_verdict : Network → Certificate → CertVerdict
 sums_verdict net c =
-  if int_eq (dual_sum c.dual) (pos 2 *ℤ on_cost net 1 c.x) then Accepted (pos (deviation net (entries c.x)))
-  else Sums (dual_sum c.dual) (pos 2 *ℤ on_cost net 1 c.x)
+    if int_eq (dual_sum c.dual) (pos 2 *ℤ on_cost net 1 c.x) then Accepted (pos (deviation net (entries c.x)))
+    else Sums (dual_sum c.dual) (pos 2 *ℤ on_cost net 1 c.x)
 
 -- The verdict on a certificate: the first of these that holds. Lengths are missing or too many; an arc is
 -- shorter than the floor; the sides of a node have unequal sums; the dual has a fault; its sum is not twice the
 -- cost; or the certificate is accepted.
 abbrev pub cert_verdict : Network → Certificate → CertVerdict
 cert_verdict net c =
-  if not (length c.x == length net.arcs) then Count (length net.arcs) (length c.x)
-  else refuse (below_fault net c.x) (λ k. Below k (slice_index c.x k))
-  (refuse (unequal_fault net c.x) (λ v. Unequal v (unsigned_abs (side_sum net.arcs (entries c.x) true v)) (unsigned_abs (side_sum net.arcs (entries c.x) false v)))
-  (refuse_dual (verdict (matching_graph net 1 c.x) c.dual) (sums_verdict net c)))
+    if not (length c.x == length net.arcs) then Count (length net.arcs) (length c.x)
+    else refuse (below_fault net c.x) (λ k. Below k (slice_index c.x k))
+    (refuse (unequal_fault net c.x) (λ v. Unequal v (unsigned_abs (side_sum net.arcs (entries c.x) true v)) (unsigned_abs (side_sum net.arcs (entries c.x) false v)))
+    (refuse_dual (verdict (matching_graph net 1 c.x) c.dual) (sums_verdict net c)))

@@ -1,20 +1,19 @@
 -- The verdict yes is that the certificate is accepted.
-use Rattle.std.proofs.Common.{◌≡◌, ◌≢◌, ℕ, ℤ, ◌<◌, ◌≤◌, ◌==◌, nat_lt, not, length, List, map, Option, Some, None, option_map, pos, unsigned_abs, ◌-ℤ◌, ◌*ℤ◌, ◌≤ℤ◌, true, false, cond, Bool, ◌↔◌, Result, Ok, Err, IfOk, refl, sym, ◌∙◌, ap, inl, inr, ◌⊎◌, ltb-false, le-ltb, eq-eqb, ne_eqb, eqb-true, true≢false, arith}
+use Rattle.std.proofs.Common.{◌≡◌, ◌≢◌, ℕ, ℤ, ◌<◌, ◌≤◌, ◌==◌, nat_lt, not, length, List, map, Option, Some, None, option_map, pos, unsigned_abs, ◌-ℤ◌, ◌*ℤ◌, ◌≤ℤ◌, true, false, cond, Bool, ◌↔◌, Result, Ok, Err, IfOk, refl, sym, ◌∙◌, ap, inl, inr, ◌⊎◌, ltb-false, le-ltb, eq-eqb, eqb-true, true≢false, arith}
 use Rattle.std.specs.Prelude.{slice_index, if◌then◌else◌}
 use Rattle.std.specs.Ordering.{int_eq}
 use Rattle.std.proofs.lemmas.Int.{ints}
-use Rattle.std.proofs.lemmas.Bool.{cases_eq, cases_lt, cases_Bool}
+use Rattle.std.proofs.lemmas.Bool.{cases_lt}
 use Rattle.std.proofs.lemmas.Bool.Decides.{Decides-int_eq}
-use Rattle.qm_laws.specs.Searches.{least}
 use Rattle.qm_laws.proofs.Searches.{least_none, none_below}
 use Rattle.def_flow.specs.Network.{Network, IsWithinBounds}
 use Rattle.def_flow.specs.Admissible.{IsAdmissible, IsLeast, deviation, entries, side_sum}
 use Rattle.def_flow.specs.Units.{low, down, on_cost}
 use Rattle.def_flow.specs.MatchingGraph.{matching_graph}
-use Rattle.def_flow.specs.Dual.{DualLists, SaysYes, dual_sum, refuse, verdict}
+use Rattle.def_flow.specs.Dual.{dual_sum, refuse, verdict}
 use Rattle.def_flow.specs.Accepted.{Certificate, IsAccepted, below_fault, unequal_fault, refuse_dual, sums_verdict, cert_verdict}
 use Rattle.def_flow.specs.declared.cert.CertVerdict.{CertVerdict}
-use Rattle.def_flow.specs.declared.cert.CertVerdict.TheVariants.{Count, Below, Unequal, Dual, Sums}
+use Rattle.def_flow.specs.declared.cert.CertVerdict.TheVariants.{Count, Below, Unequal, Sums}
 use Rattle.def_flow.specs.declared.cert.CertVerdict.TheVariants.{Yes as Accepted}
 use Rattle.def_flow.specs.declared.weighted.Verdict.{Verdict}
 use Rattle.def_flow.specs.declared.weighted.Verdict.TheVariants.{Yes, Shape, Even, Negative, Short}

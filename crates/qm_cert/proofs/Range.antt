@@ -1,13 +1,13 @@
 -- Deviations are far from the ends of their type.
-use Rattle.std.proofs.Common.{◌≡◌, ℕ, zero, suc, ◌+◌, ◌*◌, ◌^◌, ◌<◌, ◌≤◌, List, length, map, pos, unsigned_abs, ◌-ℤ◌, ◌*ℤ◌, ◌&&◌, nat_le, true, refl, sym, ◌∙◌, ap, mul-le-mul, mul-le-mul_left, leb-true, arith}
+use Rattle.std.proofs.Common.{◌≡◌, ℕ, ◌*◌, ◌^◌, ◌<◌, ◌≤◌, List, length, map, pos, unsigned_abs, ◌-ℤ◌, ◌*ℤ◌, ◌&&◌, nat_le, true, ◌∙◌, ap, mul-le-mul, leb-true, arith}
 use Rattle.std.specs.Prelude.{slice_index, nat_lt}
 use Rattle.std.specs.List.{list_all}
 use Rattle.std.proofs.lemmas.Int.{ints}
 use Rattle.std.proofs.lemmas.Bool.{and_parts}
 use Rattle.std.proofs.lemmas.List.{length-map, get_or-map}
 use Rattle.qm_laws.specs.Counts.{count_below}
-use Rattle.qm_laws.proofs.Counts.{count_below_le, count_below_times}
-use Rattle.def_flow.specs.Network.{Network, IsWithinBounds, is_bounded, arc_at, ends}
+use Rattle.qm_laws.proofs.Counts.{count_below_le, count_below_ones, count_below_times}
+use Rattle.def_flow.specs.Network.{Network, IsWithinBounds, arc_at, ends}
 use Rattle.def_flow.specs.Admissible.{arc_deviation, deviation, entries}
 use Rattle.def_flow.specs.Units.{low}
 use Rattle.def_flow.specs.declared.net.Arc.{Arc}
@@ -52,12 +52,8 @@ deviation_small net xs bounds are = omega (arith, each, whole, bounds.few)
     each : deviation net (entries xs) ≤ count_below (λ k. 10 ^ 19 * 1) (length net.arcs)
     each = count_below_le _ (λ k. 10 ^ 19 * 1) (length net.arcs) (λ k l. omega (arith, arc_small net k (slice_index xs k) bounds l (are.small k (omega (arith, are.count)))))
 
-    ones : (n : ℕ) → count_below (λ k. 1) n ≡ n
-    ones zero = refl
-    ones (suc n) = omega (arith, ones n)
-
     whole : count_below (λ k. 10 ^ 19 * 1) (length net.arcs) ≡ 10 ^ 19 * length net.arcs
-    whole = count_below_times (10 ^ 19) (λ k. 1) (length net.arcs) ∙ ap (λ n. 10 ^ 19 * n) (ones (length net.arcs))
+    whole = count_below_times (10 ^ 19) (λ k. 1) (length net.arcs) ∙ ap (λ n. 10 ^ 19 * n) (count_below_ones (length net.arcs))
 
 -- The lows are lengths too.
 pub lows_lengths : (net : Network) (xs : List ℕ) → AreLengths net.arcs xs → AreLengths net.arcs (map (low net 1) xs)

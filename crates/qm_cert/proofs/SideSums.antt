@@ -1,17 +1,15 @@
 -- Sums on one side of the nodes, one arc at a time.
-use Rattle.std.proofs.Common.{◌≡◌, ◌≢◌, ℕ, ◌+◌, ◌*◌, ◌^◌, ◌<◌, ◌≤◌, ◌==◌, Bool, true, false, not, ◌&&◌, cond, List, [], ◌∷◌, length, get_or, replicate, Option, Some, None, ℤ, pos, ◌+ℤ◌, ◌≤ℤ◌, refl, sym, ◌∙◌, ap, inl, inr, ◌⊎◌, add-one, ltb-true, eq-eqb, ne_eqb, arith}
+use Rattle.std.proofs.Common.{◌≡◌, ◌≢◌, ℕ, ◌+◌, ◌*◌, ◌^◌, ◌<◌, ◌≤◌, ◌==◌, Bool, true, false, not, ◌&&◌, cond, List, ◌∷◌, length, get_or, Option, Some, None, pos, ◌+ℤ◌, ◌≤ℤ◌, refl, sym, ◌∙◌, inl, inr, ◌⊎◌, add-one, ltb-true, eq-eqb, ne_eqb, arith}
 use Rattle.std.specs.Prelude.{slice_index, slice_set, IfSome, option_to_list, nat_lt}
 use Rattle.std.specs.List.{list_all}
 use Rattle.std.proofs.lemmas.Int.{ints}
-use Rattle.std.proofs.lemmas.Bool.{cases_eq, cases_lt, and_parts}
-use Rattle.std.proofs.lemmas.Bool.Decides.{nat_tests}
-use Rattle.std.proofs.lemmas.List.{length-set, get_or-set_same, get_or-set_other, get_or-replicate, get_or_past, length-replicate}
+use Rattle.std.proofs.lemmas.Bool.{cases_eq, and_parts}
+use Rattle.std.proofs.lemmas.List.{length-set, get_or-set_same, get_or-set_other}
 use Rattle.qm_laws.specs.Sums.{total}
 use Rattle.def_flow.specs.Network.{Network, IsWithinBounds, arc_at, ends}
-use Rattle.def_flow.specs.Admissible.{entries, is_on_side}
+use Rattle.def_flow.specs.Admissible.{is_on_side}
 use Rattle.def_flow.specs.declared.net.Arc.{Arc}
 use Rattle.def_flow.specs.declared.net.End.{End}
-use Rattle.qm_net.specs.Balance.{side_so_far}
 use Rattle.qm_net.proofs.Within.{arc_bounded, ends_bounded}
 use Rattle.qm_cert.specs.Sides.{added, added_right, added_arc, AreSides}
 
@@ -34,11 +32,6 @@ added_read plus e x sums v l = by_test (cond plus e.plus (not e.plus)) (cases_eq
     by_test true (inr ne) = rw (ne_eqb e.node v ne) (get_or-set_other sums e.node v (slice_index sums e.node + x) 0 (λ is. ne (sym is)) ∙ omega arith)
     by_test false (inl is) = rw (eq-eqb e.node v is) (omega arith)
     by_test false (inr ne) = rw (ne_eqb e.node v ne) (omega arith)
-
--- What both ends of an arc put there.
-put_right : Bool → ℕ → ℕ → Option End → ℕ
-put_right plus v x None = 0
-put_right plus v x (Some e) = put plus v x e
 
 added_arc_length : (plus : Bool) (a : Arc) (x : ℕ) (sums : List ℕ) → length (added_arc plus a x sums) ≡ length sums
 added_arc_length plus a x sums = by_right a.right

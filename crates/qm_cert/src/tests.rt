@@ -298,20 +298,69 @@ const FLAPS_UP: [u32; 152] = [
     0, 0, 0, 4, 4, 0, 0, 0, 0, 0, 0, 0, 0, 0, 0, 5, 5, 0, 0, 0, 0, 0, 0, 0,
 ];
 
-/// Certificates of least lists, and what these are away from what is wanted.
+/// A cube of three by three faces a side, at half its size.
+const CUBE: Case = Case {
+    nodes: 12,
+    floor: 1,
+    p: 1,
+    q: 2,
+    arcs: &[
+        ((0, true), Some((8, true)), 3, 1),
+        ((1, true), Some((6, true)), 3, 1),
+        ((0, false), Some((4, true)), 3, 1),
+        ((1, false), Some((10, true)), 3, 1),
+        ((2, true), Some((4, false)), 3, 1),
+        ((3, true), Some((6, false)), 3, 1),
+        ((2, false), Some((8, false)), 3, 1),
+        ((3, false), Some((10, false)), 3, 1),
+        ((5, true), Some((7, false)), 3, 1),
+        ((5, false), Some((11, true)), 3, 1),
+        ((7, true), Some((9, false)), 3, 1),
+        ((9, true), Some((11, false)), 3, 1),
+    ],
+};
+
+/// Numbers that only the edge inside a unit with like signs has too great a load for.
+const CUBE_Y: [i64; 56] = [
+    -1, 0, 0, 0, 0, 0, 0, 0, 0, 0, 0, 0, 0, 0, 0, 0, 0, 0, 0, 0, 0, 0, 0, 0, 0, 0, 1, 0, 0, 0, 0,
+    0, 0, 0, 0, 0, 0, 0, 0, 0, 0, 0, 0, 0, 0, 0, 0, 0, 0, 0, 0, 0, 0, 0, 0, 0,
+];
+
+/// Certificates of least lists, with what these are away from what is wanted, and one of a dual that is none.
 #[test]
-fn least_lists(rt: HostRuntime) -> Result<(), Fail> {
-    let table: [(&Case, &[u64], &[i64], &[i64], &[u32], i128); 5] = [
-        (&TREBLED, &[3, 3, 3, 3], &TREBLED_Y, &[], &[0; 70], 0),
-        (&FLOOR_2, &[2, 2, 2, 2], &[0; 34], &[], &[0; 34], 0),
-        (&FLOOR_3, &[3, 3, 3, 3], &[0; 34], &[], &[0; 34], 4),
+fn verdicts_on_networks(rt: HostRuntime) -> Result<(), Fail> {
+    let table: [(&Case, &[u64], &[i64], &[i64], &[u32], CertVerdict); 6] = [
+        (
+            &TREBLED,
+            &[3, 3, 3, 3],
+            &TREBLED_Y,
+            &[],
+            &[0; 70],
+            CertVerdict::Yes { deviation: 0 },
+        ),
+        (
+            &FLOOR_2,
+            &[2, 2, 2, 2],
+            &[0; 34],
+            &[],
+            &[0; 34],
+            CertVerdict::Yes { deviation: 0 },
+        ),
+        (
+            &FLOOR_3,
+            &[3, 3, 3, 3],
+            &[0; 34],
+            &[],
+            &[0; 34],
+            CertVerdict::Yes { deviation: 4 },
+        ),
         (
             &FIVE_SHAPES,
             &[4, 2, 2, 5, 2, 1, 1],
             &FIVE_SHAPES_Y,
             &FIVE_SHAPES_Z,
             &FIVE_SHAPES_UP,
-            20,
+            CertVerdict::Yes { deviation: 20 },
         ),
         (
             &FLAPS,
@@ -319,13 +368,27 @@ fn least_lists(rt: HostRuntime) -> Result<(), Fail> {
             &FLAPS_Y,
             &FLAPS_Z,
             &FLAPS_UP,
-            11,
+            CertVerdict::Yes { deviation: 11 },
+        ),
+        (
+            &CUBE,
+            &[1, 1, 1, 1, 1, 1, 1, 1, 1, 1, 1, 1],
+            &CUBE_Y,
+            &[],
+            &[0; 56],
+            CertVerdict::Dual {
+                verdict: Verdict::Short {
+                    edge: 9,
+                    load: 1,
+                    cost: 0,
+                },
+            },
         ),
     ];
-    for (case, x, y, z, up, deviation) in table {
+    for (case, x, y, z, up, want) in table {
         let net = net(rt.alloc(), case)?;
         let verdict = judge(&rt, rt.alloc(), &net, x, y, z, up)?;
-        assert_eq!(rt; verdict, CertVerdict::Yes { deviation }, "at {x:?}");
+        assert_eq!(rt; verdict, want, "at {x:?}");
     }
     Ok(())
 }

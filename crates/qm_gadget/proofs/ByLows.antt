@@ -1,12 +1,11 @@
 -- Units and states by lows and caps, one arc and one unit at a time.
-use Rattle.std.proofs.Common.{◌≡◌, ℕ, zero, suc, ◌+◌, ◌-◌, ◌*◌, ◌<◌, ◌≤◌, Bool, true, false, List, [], ◌∷◌, ◌++◌, length, drop, get_or, map, refl, sym, ◌∙◌, ap, add-one, add-zero, arith}
+use Rattle.std.proofs.Common.{◌≡◌, ℕ, zero, suc, ◌+◌, ◌-◌, ◌<◌, true, false, List, [], ◌∷◌, ◌++◌, length, drop, map, refl, sym, ◌∙◌, ap, add-one, add-zero, arith}
 use Rattle.std.specs.Prelude.{slice_index, slice_index_or, nat_lt}
 use Rattle.std.proofs.lemmas.Bool.Decides.{nat_tests}
 use Rattle.std.proofs.lemmas.List.{drop_more, length-append}
 use Rattle.def_flow.specs.Network.{Network}
 use Rattle.def_flow.specs.Units.{down, low, cap, run, units_from, units, states, states_at}
 use Rattle.def_flow.specs.declared.net.Arc.{Arc}
-use Rattle.def_flow.specs.declared.units.ArcUnit.{ArcUnit}
 use Rattle.qm_gadget.specs.Over.{unit_over, from_low, units_over, states_over}
 
 run_suc : (j n : ℕ) → run j (suc n) ≡ run j n ++ nat_lt n j ∷ []
@@ -33,7 +32,7 @@ from_more net step a l n =
 
 -- The units from an arc on, and those from the next arc on.
 pub units_step : (net : Network) (step : ℕ) (arcs : List Arc) (ls cs : List ℕ) (k : ℕ) (d : Arc) → k < length arcs → length ls ≡ length arcs → length cs ≡ length arcs
-  → units_over net step (drop k arcs) (drop k ls) (drop k cs) ≡ from_low net step (slice_index_or arcs k d) (slice_index ls k) 0 (slice_index cs k) ++ units_over net step (drop (k + 1) arcs) (drop (k + 1) ls) (drop (k + 1) cs)
+    → units_over net step (drop k arcs) (drop k ls) (drop k cs) ≡ from_low net step (slice_index_or arcs k d) (slice_index ls k) 0 (slice_index cs k) ++ units_over net step (drop (k + 1) arcs) (drop (k + 1) ls) (drop (k + 1) cs)
 units_step net step arcs ls cs k d l ll lc =
     let inner_l : k < length ls = omega arith in
     let inner_c : k < length cs = omega arith in

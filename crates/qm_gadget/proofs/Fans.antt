@@ -1,7 +1,6 @@
 -- Parts of lists of edges, joined one after the other.
-use Rattle.std.proofs.Common.{◌≡◌, ℕ, zero, suc, ◌+◌, List, [], ◌∷◌, ◌++◌, ℤ, pos, refl, sym, ◌∙◌, ap, append_assoc, add-one, add-zero, arith}
+use Rattle.std.proofs.Common.{◌≡◌, ℕ, zero, suc, ◌+◌, List, [], ◌∷◌, ◌++◌, ℤ, refl, ◌∙◌, ap, append_assoc, add-one, add-zero, arith}
 use Rattle.def_flow.specs.MatchingGraph.{link, fan}
-use Rattle.def_flow.specs.declared.weighted.WEdge.{WEdge}
 
 fan_suc : (u : ℕ) (c : ℤ) (a n : ℕ) → fan u c a (suc n) ≡ fan u c a n ++ link u (a + n) c ∷ []
 fan_suc u c a zero = rw (add-zero a) refl

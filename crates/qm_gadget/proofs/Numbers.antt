@@ -1,6 +1,6 @@
 -- Numbers of marks, one part of the marks after the other.
-use Rattle.std.proofs.Common.{◌≡◌, ℕ, zero, suc, ◌+◌, ◌<◌, ◌≤◌, ◌==◌, Bool, true, false, not, ◌&&◌, cond, List, [], ◌∷◌, ◌++◌, length, drop, get_or, Option, Some, None, refl, sym, ◌∙◌, ap, add-one, add-zero, append_assoc, length-append, inl, inr, ◌⊎◌, arith}
-use Rattle.std.specs.Prelude.{nat_lt, slice_index, slice_index_or}
+use Rattle.std.proofs.Common.{◌≡◌, ℕ, zero, suc, ◌+◌, ◌<◌, ◌≤◌, ◌==◌, Bool, true, false, not, ◌&&◌, cond, List, [], ◌∷◌, ◌++◌, length, drop, Option, Some, None, refl, sym, ◌∙◌, ap, add-zero, append_assoc, length-append, inl, inr, ◌⊎◌, arith}
+use Rattle.std.specs.Prelude.{nat_lt, slice_index_or}
 use Rattle.std.proofs.lemmas.Bool.{cond-true, cases_eq, eq-eqb, ne_eqb}
 use Rattle.std.proofs.lemmas.Bool.Decides.{nat_tests}
 use Rattle.std.proofs.lemmas.List.{drop_more, drop_all, append-nil}
@@ -8,7 +8,7 @@ use Rattle.def_flow.specs.Units.{is_active, active_at}
 use Rattle.def_flow.specs.MatchingGraph.{are_alike}
 use Rattle.def_flow.specs.declared.net.End.{End}
 use Rattle.def_flow.specs.declared.units.ArcUnit.{ArcUnit}
-use Rattle.qm_units.specs.Marks.{choice, keep, places, take_end, end_marks, marks_by, units_marks, rim_states, with_state, differ, mark_from, rim_marks}
+use Rattle.qm_units.specs.Marks.{choice, places, take_end, end_marks, marks_by, units_marks, rim_states, with_state, differ, mark_from, rim_marks}
 use Rattle.qm_units.specs.Told.{width_by}
 use Rattle.qm_units.proofs.Pick.{choice_length}
 use Rattle.qm_gadget.specs.Marked.{right_marks, mark_if, rim_by, turn_marks}
@@ -49,7 +49,7 @@ marks_two room used on left right = by_signs (are_alike left right)
     by_signs : (b : Bool) → cond b
         (end_marks room used (is_active on left) left ++ (end_marks room (take_end used (is_active on left) left) (is_active on right) right ++ not (is_active on left) ∷ []))
         (end_marks room used (is_active on left) left ++ end_marks room (take_end used (is_active on left) left) (is_active on right) right)
-      ≡ end_marks room used (is_active on left) left ++ cond b (end_marks room (take_end used (is_active on left) left) (is_active on right) right ++ not (is_active on left) ∷ []) (end_marks room (take_end used (is_active on left) left) (is_active on right) right)
+        ≡ end_marks room used (is_active on left) left ++ cond b (end_marks room (take_end used (is_active on left) left) (is_active on right) right ++ not (is_active on left) ∷ []) (end_marks room (take_end used (is_active on left) left) (is_active on right) right)
     by_signs true = refl
     by_signs false = refl
 
@@ -90,20 +90,20 @@ rim_is before waits fresh (o ∷ p ∷ os) = rw (mark_is before (waits && o), ma
 
 -- The marks from a unit on, and those from the next on.
 pub units_marks_step : (room used : ℕ → ℕ) (us : List ArcUnit) (ons : List Bool) (k : ℕ) (u : ArcUnit) (b : Bool) → k < length us → length us ≡ length ons
-  → units_marks room used (drop k us) (drop k ons) ≡ marks_by room used (slice_index_or ons k b) (slice_index_or us k u).left (slice_index_or us k u).right ++ units_marks room (λ v. used v + active_at v (slice_index_or us k u) (slice_index_or ons k b)) (drop (k + 1) us) (drop (k + 1) ons)
+    → units_marks room used (drop k us) (drop k ons) ≡ marks_by room used (slice_index_or ons k b) (slice_index_or us k u).left (slice_index_or us k u).right ++ units_marks room (λ v. used v + active_at v (slice_index_or us k u) (slice_index_or ons k b)) (drop (k + 1) us) (drop (k + 1) ons)
 units_marks_step room used us ons k u b l same =
     let inner : k < length ons = omega arith in
     rw (drop_more us k u l, drop_more ons k b inner) refl
 
 pub rim_states_step : (us : List ArcUnit) (ons : List Bool) (k : ℕ) (u : ArcUnit) (b : Bool) → k < length us → length us ≡ length ons
-  → rim_states (drop k us) (drop k ons) ≡ with_state (slice_index_or us k u).right (is_active (slice_index_or ons k b) (slice_index_or us k u).left) (rim_states (drop (k + 1) us) (drop (k + 1) ons))
+    → rim_states (drop k us) (drop k ons) ≡ with_state (slice_index_or us k u).right (is_active (slice_index_or ons k b) (slice_index_or us k u).left) (rim_states (drop (k + 1) us) (drop (k + 1) ons))
 rim_states_step us ons k u b l same =
     let inner : k < length ons = omega arith in
     rw (drop_more us k u l, drop_more ons k b inner) refl
 
 -- The marks of the second end and of the edge inside, one after the other.
 pub right_alike : (old mid now : List ℕ) (k : ℕ) (room used : ℕ → ℕ) (on : Bool) (left right : End) → are_alike left right ≡ true
-  → mid ≡ old ++ places k (end_marks room used (is_active on right) right) → now ≡ mid ++ places (k + room right.node) (not (is_active on left) ∷ []) → now ≡ old ++ places k (right_marks room used on left right)
+    → mid ≡ old ++ places k (end_marks room used (is_active on right) right) → now ≡ mid ++ places (k + room right.node) (not (is_active on left) ∷ []) → now ≡ old ++ places k (right_marks room used on left right)
 right_alike old mid now k room used on left right alike first second =
     let width : length (end_marks room used (is_active on right) right) ≡ room right.node = choice_length (is_active on right) (used right.node) (room right.node) in
     two_parts old mid now _ _ first second
@@ -112,7 +112,7 @@ right_alike old mid now k room used on left right alike first second =
 
 -- The marks of a unit with one end.
 pub unit_lone : (old mid now : List ℕ) (k : ℕ) (room used : ℕ → ℕ) (on : Bool) (left : End)
-  → mid ≡ old ++ places k (end_marks room used (is_active on left) left) → now ≡ mid ++ places (k + room left.node) (not (is_active on left) ∷ []) → now ≡ old ++ places k (marks_by room used on left None)
+    → mid ≡ old ++ places k (end_marks room used (is_active on left) left) → now ≡ mid ++ places (k + room left.node) (not (is_active on left) ∷ []) → now ≡ old ++ places k (marks_by room used on left None)
 unit_lone old mid now k room used on left first second =
     let width : length (end_marks room used (is_active on left) left) ≡ room left.node = choice_length (is_active on left) (used left.node) (room left.node) in
     two_parts old mid now _ _ first second
@@ -121,11 +121,11 @@ unit_lone old mid now k room used on left first second =
 
 -- The marks of a unit with two ends, where the copies in use are counted in between.
 pub unit_two : (old mid now : List ℕ) (k : ℕ) (room used next : ℕ → ℕ) (on : Bool) (left right : End) → next right.node ≡ take_end used (is_active on left) left right.node
-  → mid ≡ old ++ places k (end_marks room used (is_active on left) left) → now ≡ mid ++ places (k + room left.node) (right_marks room next on left right) → now ≡ old ++ places k (marks_by room used on left (Some right))
+    → mid ≡ old ++ places k (end_marks room used (is_active on left) left) → now ≡ mid ++ places (k + room left.node) (right_marks room next on left right) → now ≡ old ++ places k (marks_by room used on left (Some right))
 unit_two old mid now k room used next on left right taken first second =
     let width : length (end_marks room used (is_active on left) left) ≡ room left.node = choice_length (is_active on left) (used left.node) (room left.node) in
     let same : right_marks room next on left right ≡ right_marks room (take_end used (is_active on left) left) on left right =
-        ap (λ i. cond (are_alike left right) (choice (is_active on right) i (room right.node) ++ not (is_active on left) ∷ []) (choice (is_active on right) i (room right.node))) taken in
+    ap (λ i. cond (are_alike left right) (choice (is_active on right) i (room right.node) ++ not (is_active on left) ∷ []) (choice (is_active on right) i (room right.node))) taken in
     two_parts old mid now _ _ first second
     ∙ ap (λ l. old ++ l) (ap (λ ms. places k (end_marks room used (is_active on left) left) ++ places (k + room left.node) ms) same
     ∙ (ap (λ w. places k (end_marks room used (is_active on left) left) ++ places (k + w) (right_marks room (take_end used (is_active on left) left) on left right)) (sym width)

@@ -1,15 +1,14 @@
 -- The lows and caps of an admissible list are ready for a plan, and its plan gives its matching graph.
-use Rattle.std.proofs.Common.{◌≡◌, ℕ, zero, suc, ◌+◌, ◌-◌, ◌*◌, ◌/◌, ◌%◌, ◌^◌, ◌<◌, ◌≤◌, ◌==◌, min, Bool, true, false, cond, List, [], ◌∷◌, ◌++◌, length, get_or, map, Option, Some, None, pos, refl, sym, ◌∙◌, ap, inl, inr, arith}
-use Rattle.std.specs.Prelude.{slice_index, slice_index_or}
+use Rattle.std.proofs.Common.{◌≡◌, ℕ, zero, suc, ◌+◌, ◌-◌, ◌*◌, ◌%◌, ◌^◌, ◌<◌, ◌≤◌, ◌==◌, Bool, true, false, cond, List, [], ◌∷◌, length, map, Option, Some, None, refl, sym, ◌∙◌, ap, inl, inr, arith}
+use Rattle.std.specs.Prelude.{slice_index}
 use Rattle.std.proofs.lemmas.Bool.{cases_lt}
-use Rattle.std.proofs.lemmas.List.{length-map, length-append, get_or_past}
+use Rattle.std.proofs.lemmas.List.{length-map, get_or_past}
 use Rattle.qm_laws.specs.Counts.{count, count_below}
 use Rattle.def_flow.specs.Network.{Network, IsWithinBounds, tangle_number}
 use Rattle.def_flow.specs.Admissible.{IsAdmissible, entries}
 use Rattle.def_flow.specs.Matching.{Graph}
-use Rattle.def_flow.specs.Units.{down, low, cap, run, units, states_at, active, rim_active}
+use Rattle.def_flow.specs.Units.{low, cap, units, active, rim_active}
 use Rattle.def_flow.specs.MatchingGraph.{graph_by, graph_of_units, matching_graph, first_fresh, unit_size, size_by, are_alike, rim}
-use Rattle.def_flow.specs.declared.net.Arc.{Arc}
 use Rattle.def_flow.specs.declared.net.End.{End}
 use Rattle.def_flow.specs.declared.units.ArcUnit.{ArcUnit}
 use Rattle.qm_net.specs.Lengths.{AreLengths}
@@ -17,9 +16,9 @@ use Rattle.qm_units.proofs.Unit.{AreNodes}
 use Rattle.qm_units.proofs.Units.{UnitsAt}
 use Rattle.qm_units.proofs.Law.{arcs_at, units_at}
 use Rattle.qm_units.proofs.Size.{size_law}
-use Rattle.qm_gadget.specs.Layout.{room_of, EndsAt, IsAtNodes, AreAtNodes}
-use Rattle.qm_gadget.specs.Over.{AreBoxes, AreRooms, from_low, units_over, states_over}
-use Rattle.qm_gadget.specs.Ready.{IsReady, IsPlan}
+use Rattle.qm_gadget.specs.Layout.{room_of, EndsAt, AreAtNodes}
+use Rattle.qm_gadget.specs.Over.{units_over}
+use Rattle.qm_gadget.specs.Ready.{graph_by_lows, IsReady, IsPlan}
 use Rattle.qm_gadget.specs.Ready.{own_states as states_of_caps}
 use Rattle.qm_gadget.specs.declared.plan.Plan.{Plan}
 use Rattle.qm_gadget.proofs.ByLows.{units_over_is, own_states}
@@ -63,49 +62,51 @@ graph_small net step xs bounds count admissible tangle =
 -- The lows and caps of an admissible list.
 pub list_ready : (net : Network) (step : ℕ) (xs : List ℕ) → IsWithinBounds net → AreLengths net.arcs xs → IsAdmissible net (entries xs) → tangle_number net ≤ 2 ^ 25 → IsReady net step (map (low net step) xs) (map (cap net step) xs)
 list_ready net step xs bounds lengths admissible tangle = record {
-    boxes = record {
-      lows_count = length-map xs (low net step) ∙ lengths.count;
-      caps_count = length-map xs (cap net step) ∙ lengths.count;
-      low = λ k l. omega (arith, map_at (low net step) xs k (omega (arith, lengths.count)), lengths.small k (omega (arith, lengths.count)));
-      least = λ k l. omega (arith, map_at (cap net step) xs k (omega (arith, lengths.count)));
-      most = λ k l. omega (arith, map_at (cap net step) xs k (omega (arith, lengths.count)))
-    };
-    few = rw (units_over_is net step net.arcs xs) (omega (arith, units_few (units net step net.arcs xs), graph_small net step xs bounds lengths.count admissible tangle));
-    at = rw (units_over_is net step net.arcs xs) (at_by_index net.nodes (units net step net.arcs xs) (units_at net step net.arcs xs (arcs_at net.nodes net.arcs bounds.arcs)))
-  }
+  boxes = record {
+    lows_count = length-map xs (low net step) ∙ lengths.count;
+    caps_count = length-map xs (cap net step) ∙ lengths.count;
+    low = λ k l. omega (arith, map_at (low net step) xs k (omega (arith, lengths.count)), lengths.small k (omega (arith, lengths.count)));
+    least = λ k l. omega (arith, map_at (cap net step) xs k (omega (arith, lengths.count)));
+    most = λ k l. omega (arith, map_at (cap net step) xs k (omega (arith, lengths.count)));
+  };
+  few = rw (units_over_is net step net.arcs xs) (omega (arith, units_few (units net step net.arcs xs), graph_small net step xs bounds lengths.count admissible tangle));
+  at = rw (units_over_is net step net.arcs xs) (at_by_index net.nodes (units net step net.arcs xs) (units_at net step net.arcs xs (arcs_at net.nodes net.arcs bounds.arcs)));
+}
 
 -- The copies of a plan are the active ends at each number, also past the nodes.
 pub plan_rooms : (net : Network) (step : ℕ) (ls cs : List ℕ) (p : Plan) → IsReady net step ls cs → IsPlan net step ls cs p → room_of p.rooms.items ≡ (λ v. active v (units_over net step net.arcs ls cs) (states_of_caps cs))
 plan_rooms net step ls cs p ready plan = same_everywhere (room_of p.rooms.items) (λ v. active v (units_over net step net.arcs ls cs) (states_of_caps cs)) (λ v. elim (cases_lt v net.nodes) [
-      inl l ↦ plan.rooms.each v l
-    | inr h ↦ get_or_past p.rooms.items v 0 (omega (arith, plan.rooms.count)) ∙ sym (none_past net.nodes (units_over net step net.arcs ls cs) (states_of_caps cs) ready.at v h)
-    ])
+  | inl l ↦ plan.rooms.each v l
+  | inr h ↦ get_or_past p.rooms.items v 0 (omega (arith, plan.rooms.count)) ∙ sym (none_past net.nodes (units_over net step net.arcs ls cs) (states_of_caps cs) ready.at v h)
+])
 
 -- The graph of units by lows and caps is the matching graph of the list.
-pub graph_over : (net : Network) (step : ℕ) (xs : List ℕ)
-  → graph_of_units net.nodes (units_over net step net.arcs (map (low net step) xs) (map (cap net step) xs)) (states_of_caps (map (cap net step) xs)) ≡ matching_graph net step xs
+pub graph_over : (net : Network) (step : ℕ) (xs : List ℕ) → graph_by_lows net step (map (low net step) xs) (map (cap net step) xs) ≡ matching_graph net step xs
 graph_over net step xs = ap (λ us. graph_of_units net.nodes us (states_of_caps (map (cap net step) xs))) (units_over_is net step net.arcs xs) ∙ ap (graph_of_units net.nodes (units net step net.arcs xs)) (own_states net step xs)
 
--- The graph of a plan is the matching graph of the list.
-pub plan_graph : (net : Network) (step : ℕ) (xs : List ℕ) (p : Plan) → IsReady net step (map (low net step) xs) (map (cap net step) xs) → IsPlan net step (map (low net step) xs) (map (cap net step) xs) p
-  → graph_by (length p.rooms.items) (room_of p.rooms.items) p.lone p.units.items ≡ matching_graph net step xs
-plan_graph net step xs p ready plan =
+-- The graph of a plan.
+pub plan_graph : (net : Network) (step : ℕ) (ls cs : List ℕ) (p : Plan) → IsReady net step ls cs → IsPlan net step ls cs p
+    → graph_by (length p.rooms.items) (room_of p.rooms.items) p.lone p.units.items ≡ graph_by_lows net step ls cs
+plan_graph net step ls cs p ready plan =
     ap (λ n. graph_by n (room_of p.rooms.items) p.lone p.units.items) plan.rooms.count
-    ∙ (ap (λ f. graph_by net.nodes f p.lone p.units.items) (plan_rooms net step (map (low net step) xs) (map (cap net step) xs) p ready plan)
+    ∙ (ap (λ f. graph_by net.nodes f p.lone p.units.items) (plan_rooms net step ls cs p ready plan)
     ∙ (ap (λ b. graph_by net.nodes (λ v. active v over ons) b p.units.items) plan.lone
-    ∙ (ap (λ us. graph_by net.nodes (λ v. active v over ons) (rim_active over ons % 2 == 1) us) plan.units ∙ graph_over net step xs)))
+    ∙ ap (λ us. graph_by net.nodes (λ v. active v over ons) (rim_active over ons % 2 == 1) us) plan.units))
   where
     over : List ArcUnit
-    over = units_over net step net.arcs (map (low net step) xs) (map (cap net step) xs)
+    over = units_over net step net.arcs ls cs
 
     ons : List Bool
-    ons = states_of_caps (map (cap net step) xs)
+    ons = states_of_caps cs
 
 -- A plan's units have their ends at the nodes that it counts.
 pub plan_at : (net : Network) (step : ℕ) (ls cs : List ℕ) (p : Plan) → IsReady net step ls cs → IsPlan net step ls cs p → AreAtNodes (length p.rooms.items) p.units.items
 plan_at net step ls cs p ready plan = rw (plan.rooms.count, plan.units) ready.at
 
 -- The graph of a plan is small.
-pub plan_small : (net : Network) (step : ℕ) (xs : List ℕ) (p : Plan) → (matching_graph net step xs).n ≤ 2 ^ 25 → graph_by (length p.rooms.items) (room_of p.rooms.items) p.lone p.units.items ≡ matching_graph net step xs
-  → first_fresh (length p.rooms.items) (room_of p.rooms.items) p.lone p.units.items + 2 * length (rim (count_below (room_of p.rooms.items) (length p.rooms.items)) p.units.items) < 2 ^ 26
-plan_small net step xs p small same = let n : first_fresh (length p.rooms.items) (room_of p.rooms.items) p.lone p.units.items + 2 * (length (rim (count_below (room_of p.rooms.items) (length p.rooms.items)) p.units.items) - 1) ≡ (matching_graph net step xs).n = ap (λ (g : Graph). g.n) same in omega arith
+pub plan_small : (net : Network) (step : ℕ) (ls cs : List ℕ) (p : Plan) → IsReady net step ls cs → IsPlan net step ls cs p → (graph_by_lows net step ls cs).n ≤ 2 ^ 25
+    → first_fresh (length p.rooms.items) (room_of p.rooms.items) p.lone p.units.items + 2 * length (rim (count_below (room_of p.rooms.items) (length p.rooms.items)) p.units.items) < 2 ^ 26
+plan_small net step ls cs p ready plan small =
+    let n : first_fresh (length p.rooms.items) (room_of p.rooms.items) p.lone p.units.items + 2 * (length (rim (count_below (room_of p.rooms.items) (length p.rooms.items)) p.units.items) - 1) ≡ (graph_by_lows net step ls cs).n =
+    ap (λ (g : Graph). g.n) (plan_graph net step ls cs p ready plan) in
+    omega arith

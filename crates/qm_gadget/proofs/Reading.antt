@@ -1,10 +1,10 @@
 -- Reading a rising list of edges unit by unit.
-use Rattle.std.proofs.Common.{◌≡◌, ℕ, zero, suc, ◌+◌, ◌-◌, ◌*◌, ◌<◌, ◌≤◌, ◌==◌, Bool, true, false, not, cond, List, [], ◌∷◌, ◌++◌, length, take, drop, get_or, map, Option, Some, None, refl, sym, ◌∙◌, ap, subst, inl, inr, ◌⊎◌, add-zero, zero-add, length-append, arith}
+use Rattle.std.proofs.Common.{◌≡◌, ℕ, zero, suc, ◌+◌, ◌*◌, ◌<◌, ◌≤◌, ◌==◌, Bool, true, false, not, cond, List, [], ◌∷◌, length, take, drop, map, Option, Some, None, refl, sym, ◌∙◌, ap, subst, inl, inr, ◌⊎◌, add-zero, length-append, arith}
 use Rattle.std.specs.Prelude.{nat_lt, slice_index, slice_index_or}
 use Rattle.std.specs.Bool.{beq}
-use Rattle.std.proofs.lemmas.Bool.{cases_eq, cases_lt, eq-eqb, ne_eqb, lt-ltb, cond-true, cond-false}
+use Rattle.std.proofs.lemmas.Bool.{cases_eq, cases_lt, eq-eqb, ne_eqb, lt-ltb}
 use Rattle.std.proofs.lemmas.Bool.Decides.{nat_tests}
-use Rattle.std.proofs.lemmas.List.{drop_more, drop_all}
+use Rattle.std.proofs.lemmas.List.{drop_more}
 use Rattle.qm_laws.specs.Counts.{count}
 use Rattle.def_flow.specs.Network.{Network}
 use Rattle.def_flow.specs.Matching.{IsRising}
@@ -107,7 +107,7 @@ state_read room left t k high m le rising = ap (λ b. cond left.plus b (not b)) 
 
 -- The states from a unit on: its own, and those from the next on.
 pub states_read : (room : ℕ → ℕ) (us : List ArcUnit) (i : ℕ) (u : ArcUnit) (t n k high : ℕ) (m : List ℕ) → i < length us → t ≡ width_of_unit room (slice_index_or us i u) + n → room (slice_index_or us i u).left.node ≤ t → IsRising k high m
-  → states_told room (drop i us) (marks_from k t m) ≡ beq (slice_index_or us i u).left.plus (first_below m (k + room (slice_index_or us i u).left.node)) ∷ states_told room (drop (i + 1) us) (marks_from (k + width_of_unit room (slice_index_or us i u)) n (skip_below (k + width_of_unit room (slice_index_or us i u)) m))
+    → states_told room (drop i us) (marks_from k t m) ≡ beq (slice_index_or us i u).left.plus (first_below m (k + room (slice_index_or us i u).left.node)) ∷ states_told room (drop (i + 1) us) (marks_from (k + width_of_unit room (slice_index_or us i u)) n (skip_below (k + width_of_unit room (slice_index_or us i u)) m))
 states_read room us i u t n k high m l long le rising =
     rw (drop_more us i u l, state_read room (slice_index_or us i u).left t k high m le rising, drop_marks (width_of_unit room (slice_index_or us i u)) n t k high m long rising) refl
 

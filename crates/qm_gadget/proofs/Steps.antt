@@ -1,9 +1,9 @@
 -- Lists in the box, by the steps that their entries are above the lows.
-use Rattle.std.proofs.Common.{◌≡◌, ℕ, zero, suc, ◌+◌, ◌-◌, ◌*◌, ◌/◌, ◌%◌, ◌^◌, ◌<◌, ◌≤◌, ◌==◌, Bool, true, false, cond, List, [], ◌∷◌, ◌++◌, length, drop, get_or, map, Option, Some, None, refl, sym, ◌∙◌, ap, inl, inr, ◌⊎◌, length-append, add-one, arith}
+use Rattle.std.proofs.Common.{◌≡◌, ℕ, suc, ◌+◌, ◌-◌, ◌*◌, ◌/◌, ◌%◌, ◌^◌, ◌<◌, ◌≤◌, ◌==◌, Bool, true, false, List, [], ◌∷◌, length, drop, map, Option, Some, None, refl, sym, ◌∙◌, ap, inl, inr, ◌⊎◌, length-append, arith}
 use Rattle.std.specs.Prelude.{slice_index}
 use Rattle.std.proofs.Math.Nat.{mul-le-mul_left}
 use Rattle.std.proofs.lemmas.Bool.{cases_order, cases_lt}
-use Rattle.std.proofs.lemmas.List.{drop_more, drop_all, get_or_past, length-map}
+use Rattle.std.proofs.lemmas.List.{drop_more, get_or_past}
 use Rattle.qm_laws.specs.Counts.{count_below}
 use Rattle.def_flow.specs.Network.{Network}
 use Rattle.def_flow.specs.Units.{low, cap, units, states_at, is_active, active, rim_active}
@@ -16,12 +16,12 @@ use Rattle.qm_units.proofs.Chain.{rim_length}
 use Rattle.qm_units.proofs.Units.{units_length, states_length}
 use Rattle.qm_gadget.specs.Layout.{room_of}
 use Rattle.qm_gadget.specs.Marked.{rim_by}
-use Rattle.qm_gadget.specs.Over.{AreRooms, units_over, states_over}
+use Rattle.qm_gadget.specs.Over.{IsStepUp, units_over, states_over}
 use Rattle.qm_gadget.specs.Ready.{ups, AreUps, IsReady, IsPlan, marks_over}
 use Rattle.qm_gadget.specs.Ready.{own_states as states_of_caps}
 use Rattle.qm_gadget.specs.declared.plan.Plan.{Plan}
 use Rattle.qm_gadget.proofs.ByLows.{units_over_is, states_over_is, own_states}
-use Rattle.qm_gadget.proofs.Numbers.{is_there, rim_is}
+use Rattle.qm_gadget.proofs.Numbers.{rim_is}
 use Rattle.qm_gadget.proofs.OfList.{plan_rooms}
 use Rattle.qm_gadget.proofs.Rooms.{active_low}
 
@@ -50,8 +50,8 @@ ups_small step lows caps ys some are most k = by_place (cases_lt k (length ys))
     by_place : (k < length ys) ⊎ (length ys ≤ k) → (slice_index ys k - slice_index lows k) / step ≤ 4
     by_place (inl l) = inside (are.each k l)
       where
-        inside : (j : ℕ) × (j ≤ slice_index caps k) × (slice_index ys k ≡ slice_index lows k + j * step) → (slice_index ys k - slice_index lows k) / step ≤ 4
-        inside e = omega (arith, step_up e.0 step (slice_index lows k) (slice_index ys k) some e.2, e.1, most k (omega (arith, are.count)))
+        inside : IsStepUp (slice_index lows k) (slice_index caps k) step (slice_index ys k) → (slice_index ys k - slice_index lows k) / step ≤ 4
+        inside e = omega (arith, step_up e.up step (slice_index lows k) (slice_index ys k) some e.is, e.few, most k (omega (arith, are.count)))
     by_place (inr h) =
         let none : slice_index ys k - slice_index lows k ≡ 0 = omega (arith, get_or_past ys k 0 h) in
         let start : 0 * step ≡ 0 = omega arith in
@@ -77,11 +77,11 @@ in_box net step (x ∷ xs) (y ∷ ys) some are = at_head (are.each 0 (omega arit
     rest : AreUps step (map (low net step) xs) (map (cap net step) xs) ys
     rest = record { count = (let count : suc (length ys) ≡ suc (length (map (low net step) xs)) = are.count in omega arith); each = λ k l. are.each (suc k) (omega arith) }
 
-    at_head : (j : ℕ) × (j ≤ cap net step x) × (y ≡ low net step x + j * step) → IsInBox net step xs (ups step (map (low net step) xs) ys) ys → IsInBox net step (x ∷ xs) (ups step (map (low net step) (x ∷ xs)) (y ∷ ys)) (y ∷ ys)
+    at_head : IsStepUp (low net step x) (cap net step x) step y → IsInBox net step xs (ups step (map (low net step) xs) ys) ys → IsInBox net step (x ∷ xs) (ups step (map (low net step) (x ∷ xs)) (y ∷ ys)) (y ∷ ys)
     at_head e after =
-        let up : (y - low net step x) / step ≡ e.0 = step_up e.0 step (low net step x) y some e.2 in
-        let high : (y - low net step x) / step ≤ cap net step x = omega (arith, up, e.1) in
-        let place : y ≡ low net step x + (y - low net step x) / step * step = e.2 ∙ ap (λ j. low net step x + j * step) (sym up) in
+        let up : (y - low net step x) / step ≡ e.up = step_up e.up step (low net step x) y some e.is in
+        let high : (y - low net step x) / step ≤ cap net step x = omega (arith, up, e.few) in
+        let place : y ≡ low net step x + (y - low net step x) / step * step = e.is ∙ ap (λ j. low net step x + j * step) (sym up) in
         (high, place, after)
 
 -- Marks by lows and caps are those of the matching that is told.
@@ -124,7 +124,7 @@ rim_from_lone nodes room false us fresh os = rim_is (lone_vertex nodes room fals
 
 -- The marks of a plan.
 pub plan_marks : (net : Network) (step : ℕ) (ls cs js : List ℕ) (p : Plan) → IsReady net step ls cs → IsPlan net step ls cs p
-  → states_marks (length p.rooms.items) (room_of p.rooms.items) p.lone p.units.items (states_over cs js) ≡ marks_over net step ls cs js
+    → states_marks (length p.rooms.items) (room_of p.rooms.items) p.lone p.units.items (states_over cs js) ≡ marks_over net step ls cs js
 plan_marks net step ls cs js p ready plan =
     ap (λ n. states_marks n (room_of p.rooms.items) p.lone p.units.items (states_over cs js)) plan.rooms.count
     ∙ (ap (λ f. states_marks net.nodes f p.lone p.units.items (states_over cs js)) (plan_rooms net step ls cs p ready plan)
@@ -143,6 +143,6 @@ plan_few net step ls cs p ready plan = (omega (arith, ap length plan.units, read
   where
     rooms : (v : ℕ) → slice_index p.rooms.items v ≤ 2 ^ 27
     rooms v = elim (cases_lt v net.nodes) [
-        inl l ↦ omega (arith, plan.rooms.each v l, active_low v (units_over net step net.arcs ls cs) (states_of_caps cs), ready.few)
+      | inl l ↦ omega (arith, plan.rooms.each v l, active_low v (units_over net step net.arcs ls cs) (states_of_caps cs), ready.few)
       | inr h ↦ omega (arith, get_or_past p.rooms.items v 0 (omega (arith, plan.rooms.count)))
-      ]
+    ]

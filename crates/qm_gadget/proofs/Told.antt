@@ -1,14 +1,13 @@
 -- What a gadget's matchings and lists tell of each other.
-use Rattle.std.proofs.Common.{◌≡◌, ℕ, zero, suc, ◌+◌, ◌-◌, ◌*◌, ◌%◌, ◌^◌, ◌<◌, ◌≤◌, ◌==◌, Bool, List, [], ◌∷◌, length, map, ℤ, pos, ◌-ℤ◌, ◌≤ℤ◌, refl, sym, ◌∙◌, ap, subst, arith}
+use Rattle.std.proofs.Common.{◌≡◌, ℕ, ◌-◌, ◌*◌, ◌%◌, ◌^◌, ◌≤◌, ◌==◌, Bool, List, length, map, pos, ◌-ℤ◌, ◌≤ℤ◌, sym, ◌∙◌, ap, subst, arith}
 use Rattle.std.proofs.lemmas.Int.{ints}
 use Rattle.std.proofs.lemmas.List.{length-map}
 use Rattle.def_flow.specs.Network.{Network, IsWithinBounds, tangle_number}
 use Rattle.def_flow.specs.Admissible.{IsAdmissible, deviation, entries}
 use Rattle.def_flow.specs.Matching.{Graph, graph, matching_cost, IsPerfect}
 use Rattle.def_flow.specs.Units.{low, cap, units, states_at, active, rim_active}
-use Rattle.def_flow.specs.MatchingGraph.{graph_by, graph_of_units, matching_graph}
+use Rattle.def_flow.specs.MatchingGraph.{graph_by, matching_graph}
 use Rattle.def_flow.specs.declared.units.ArcUnit.{ArcUnit}
-use Rattle.qm_net.specs.Lengths.{AreLengths}
 use Rattle.qm_units.specs.Box.{lows, matching_told}
 use Rattle.qm_units.specs.Marks.{places}
 use Rattle.qm_units.proofs.Law.{matching_law}
@@ -66,8 +65,8 @@ gadget_short net g ys bounds of inside = omega (arith, marks, edges, law.1, of.t
 
 -- The matching that a list in the box tells.
 pub gadget_matching : (net : Network) (g : Gadget) (ys : List ℕ) → IsWithinBounds net → IsGadgetOf net g → IsAdmissible net (entries ys) → IsInBoxOf g ys
-  → (m : List ℕ) → m ≡ places 0 (marks_over net g.step g.low.items g.cap.items (ups g.step g.low.items ys))
-  → IsPerfect (graph g.graph) m × (matching_cost (graph g.graph) m ≡ pos (deviation net (entries ys)) -ℤ pos (deviation net (entries g.low.items)))
+    → (m : List ℕ) → m ≡ places 0 (marks_over net g.step g.low.items g.cap.items (ups g.step g.low.items ys))
+    → IsPerfect (graph g.graph) m × (matching_cost (graph g.graph) m ≡ pos (deviation net (entries ys)) -ℤ pos (deviation net (entries g.low.items)))
 gadget_matching net g ys bounds of admissible inside m is = rw (of.graphs, told, of.lows) law
   where
     js : List ℕ
@@ -75,9 +74,9 @@ gadget_matching net g ys bounds of admissible inside m is = rw (of.graphs, told,
 
     told : m ≡ matching_told net g.step of.x js
     told = is
-      ∙ (ap (λ ls. places 0 (marks_over net g.step ls g.cap.items (ups g.step ls ys))) of.lows
-      ∙ (ap (λ cs. places 0 (marks_over net g.step (map (low net g.step) of.x) cs js)) of.caps
-      ∙ marks_over_is net g.step of.x js))
+        ∙ (ap (λ ls. places 0 (marks_over net g.step ls g.cap.items (ups g.step ls ys))) of.lows
+        ∙ (ap (λ cs. places 0 (marks_over net g.step (map (low net g.step) of.x) cs js)) of.caps
+        ∙ marks_over_is net g.step of.x js))
 
     law : IsPerfect (matching_graph net g.step of.x) (matching_told net g.step of.x js) × (matching_cost (matching_graph net g.step of.x) (matching_told net g.step of.x js) ≡ pos (deviation net (entries ys)) -ℤ pos (deviation net (entries (lows net g.step of.x))))
     law = matching_law net g.step of.x js ys bounds of.steps.0 of.lengths.count of.admissible admissible (in_box net g.step of.x ys of.steps.0 (rw (← of.lows, ← of.caps) (gadget_ups g ys inside)))
@@ -111,12 +110,13 @@ gadget_wide net g bounds of = omega (arith, widths_low net.nodes (λ v. active v
 
 -- The list that a perfect matching of a gadget's graph tells.
 pub gadget_lengths : (net : Network) (g : Gadget) (m : List ℕ) → IsWithinBounds net → IsGadgetOf net g → IsPerfect (graph g.graph) m → (edges : ℕ) → edges ≡ length g.graph.edges.items
-  → (ys : List ℕ) → ys ≡ lengths_read net g.step g.low.items g.cap.items edges m
-  → (length ys ≡ length net.arcs) × IsAdmissible net (entries ys) × ((pos (deviation net (entries ys)) -ℤ pos (deviation net (entries g.low.items))) ≤ℤ matching_cost (graph g.graph) m)
-gadget_lengths net g m bounds of perfect edges long ys is =
-    (ap length told ∙ law.0,
-     subst (λ (zs : List ℕ). IsAdmissible net (entries zs)) (sym told) law.1,
-     omega (arith, ints, law.2, ap (λ zs. deviation net (entries zs)) told, ap (λ zs. deviation net (entries zs)) of.lows, ap (λ (h : Graph). matching_cost h m) of.graphs))
+    → (ys : List ℕ) → ys ≡ lengths_read net g.step g.low.items g.cap.items edges m
+    → (length ys ≡ length net.arcs) × IsAdmissible net (entries ys) × ((pos (deviation net (entries ys)) -ℤ pos (deviation net (entries g.low.items))) ≤ℤ matching_cost (graph g.graph) m)
+gadget_lengths net g m bounds of perfect edges long ys is = (
+  ap length told ∙ law.0,
+  subst (λ (zs : List ℕ). IsAdmissible net (entries zs)) (sym told) law.1,
+  omega (arith, ints, law.2, ap (λ zs. deviation net (entries zs)) told, ap (λ zs. deviation net (entries zs)) of.lows, ap (λ (h : Graph). matching_cost h m) of.graphs),
+)
   where
     xs : List ℕ
     xs = of.x
@@ -126,12 +126,12 @@ gadget_lengths net g m bounds of perfect edges long ys is =
 
     told : ys ≡ lengths_told net g.step xs m
     told = is
-      ∙ (ap (λ ls. lengths_read net g.step ls g.cap.items edges m) of.lows
-      ∙ (ap (λ cs. lengths_read net g.step (map (low net g.step) xs) cs edges m) of.caps
-      ∙ (ap (λ n. lengths_read net g.step (map (low net g.step) xs) (map (cap net g.step) xs) n m) (long ∙ ap (λ (h : Graph). length h.edges) of.graphs)
-      ∙ (ap (λ vs. lengths_by g.step (map (low net g.step) xs) (map (cap net g.step) xs) (states_told (λ v. active v vs (states_of_caps (map (cap net g.step) xs))) vs (marks_from 0 (length (matching_graph net g.step xs).edges) m))) (units_over_is net g.step net.arcs xs)
-      ∙ (ap (λ os. lengths_by g.step (map (low net g.step) xs) (map (cap net g.step) xs) (states_told (λ v. active v us os) us (marks_from 0 (length (matching_graph net g.step xs).edges) m))) (own_states net g.step xs)
-      ∙ lengths_is net g.step xs (states_told (λ v. active v us (states_at net g.step xs)) us (marks_from 0 (length (matching_graph net g.step xs).edges) m)))))))
+        ∙ (ap (λ ls. lengths_read net g.step ls g.cap.items edges m) of.lows
+        ∙ (ap (λ cs. lengths_read net g.step (map (low net g.step) xs) cs edges m) of.caps
+        ∙ (ap (λ n. lengths_read net g.step (map (low net g.step) xs) (map (cap net g.step) xs) n m) (long ∙ ap (λ (h : Graph). length h.edges) of.graphs)
+        ∙ (ap (λ vs. lengths_by g.step (map (low net g.step) xs) (map (cap net g.step) xs) (states_told (λ v. active v vs (states_of_caps (map (cap net g.step) xs))) vs (marks_from 0 (length (matching_graph net g.step xs).edges) m))) (units_over_is net g.step net.arcs xs)
+        ∙ (ap (λ os. lengths_by g.step (map (low net g.step) xs) (map (cap net g.step) xs) (states_told (λ v. active v us os) us (marks_from 0 (length (matching_graph net g.step xs).edges) m))) (own_states net g.step xs)
+        ∙ lengths_is net g.step xs (states_told (λ v. active v us (states_at net g.step xs)) us (marks_from 0 (length (matching_graph net g.step xs).edges) m)))))))
 
     law : (length (lengths_told net g.step xs m) ≡ length net.arcs) × IsAdmissible net (entries (lengths_told net g.step xs m)) × ((pos (deviation net (entries (lengths_told net g.step xs m))) -ℤ pos (deviation net (entries (lows net g.step xs)))) ≤ℤ matching_cost (matching_graph net g.step xs) m)
     law = lengths_law net g.step xs m bounds of.steps.0 of.lengths.count of.admissible (rw (← of.graphs) perfect)

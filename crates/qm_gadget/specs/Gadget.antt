@@ -1,11 +1,12 @@
 -- Gadgets as they are built, and the lists of their boxes.
-use Rattle.std.specs.Prelude.{◌≡◌, ℕ, ◌+◌, ◌*◌, ◌^◌, ◌<◌, ◌≤◌, List, length, map, slice_index}
+use Rattle.std.specs.Prelude.{◌≡◌, ℕ, ◌^◌, ◌<◌, ◌≤◌, List, length, map, slice_index}
 use Rattle.def_flow.specs.Network.{Network, tangle_number}
 use Rattle.def_flow.specs.Admissible.{IsAdmissible, entries}
 use Rattle.def_flow.specs.Matching.{graph}
 use Rattle.def_flow.specs.MatchingGraph.{matching_graph}
 use Rattle.def_flow.specs.Units.{low, cap}
 use Rattle.qm_net.specs.Lengths.{AreLengths}
+use Rattle.qm_gadget.specs.Over.{IsStepUp}
 use Rattle.qm_gadget.specs.declared.build.Gadget.{Gadget}
 
 -- The gadget is what is built for some admissible list of lengths over the network.
@@ -22,4 +23,4 @@ pub record IsGadgetOf (net : Network) (g : Gadget) : Type 0 where
 -- The list is in the box of a gadget: one entry for each arc, each a whole number of steps above its low.
 pub record IsInBoxOf (g : Gadget) (ys : List ℕ) : Type 0 where
   pub count : length ys ≡ length g.low.items
-  pub each : (k : ℕ) → k < length ys → (j : ℕ) × (j ≤ slice_index g.cap.items k) × (slice_index ys k ≡ slice_index g.low.items k + j * g.step)
+  pub each : (k : ℕ) → k < length ys → IsStepUp (slice_index g.low.items k) (slice_index g.cap.items k) g.step (slice_index ys k)

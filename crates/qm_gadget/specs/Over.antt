@@ -1,5 +1,5 @@
 -- Units and their states by the lists of lows and caps that a gadget keeps, and the tables that count them.
-use Rattle.std.specs.Prelude.{◌≡◌, ℕ, zero, suc, ◌+◌, ◌-◌, ◌*◌, ◌^◌, ◌<◌, ◌≤◌, Bool, cond, List, [], ◌∷◌, ◌++◌, length, Option, Some, None, pos, ◌-ℤ◌, slice_index, slice_set}
+use Rattle.std.specs.Prelude.{◌≡◌, ℕ, zero, suc, ◌+◌, ◌*◌, ◌^◌, ◌<◌, ◌≤◌, Bool, cond, List, [], ◌∷◌, ◌++◌, length, Option, Some, None, pos, ◌-ℤ◌, slice_index, slice_set}
 use Rattle.def_flow.specs.Network.{Network}
 use Rattle.def_flow.specs.Admissible.{arc_deviation}
 use Rattle.def_flow.specs.Units.{is_active, active, run}
@@ -14,6 +14,12 @@ pub record AreBoxes (arcs : ℕ) (lows caps : List ℕ) : Type 0 where
   pub low : (k : ℕ) → k < arcs → slice_index lows k ≤ 10 ^ 12
   pub least : (k : ℕ) → k < arcs → 2 ≤ slice_index caps k
   pub most : (k : ℕ) → k < arcs → slice_index caps k ≤ 4
+
+-- A length that is a whole number of steps above a low, no more than the cap.
+pub record IsStepUp (low cap step y : ℕ) : Type 0 where
+  pub up : ℕ
+  pub few : up ≤ cap
+  pub is : y ≡ low + up * step
 
 -- n units of an arc with this low, from unit k on.
 abbrev pub unit_over : Network → ℕ → Arc → ℕ → ℕ → ArcUnit

@@ -1,5 +1,5 @@
 -- What is read off a rising list of edges, unit by unit.
-use Rattle.std.specs.Prelude.{ℕ, ◌+◌, ◌*◌, Bool, true, false, cond, nat_lt, List, [], ◌∷◌, take, drop}
+use Rattle.std.specs.Prelude.{ℕ, ◌+◌, ◌*◌, Bool, false, cond, nat_lt, List, [], ◌∷◌, take, drop}
 use Rattle.def_flow.specs.declared.units.ArcUnit.{ArcUnit}
 use Rattle.qm_laws.specs.Counts.{count}
 use Rattle.def_flow.specs.Network.{Network}

@@ -1,10 +1,12 @@
 -- What a plan of a matching graph holds, and what it needs.
-use Rattle.std.specs.Prelude.{◌≡◌, ℕ, ◌+◌, ◌-◌, ◌*◌, ◌/◌, ◌%◌, ◌^◌, ◌<◌, ◌≤◌, ◌==◌, Bool, List, [], ◌∷◌, length, map, slice_index}
+use Rattle.std.specs.Prelude.{◌≡◌, ℕ, ◌-◌, ◌/◌, ◌%◌, ◌^◌, ◌<◌, ◌≤◌, ◌==◌, Bool, List, [], ◌∷◌, length, map, slice_index}
 use Rattle.def_flow.specs.Network.{Network}
+use Rattle.def_flow.specs.Matching.{Graph}
+use Rattle.def_flow.specs.MatchingGraph.{graph_of_units}
 use Rattle.def_flow.specs.Units.{active, rim_active}
 use Rattle.qm_units.specs.Marks.{states_marks}
 use Rattle.qm_gadget.specs.Layout.{AreAtNodes}
-use Rattle.qm_gadget.specs.Over.{AreBoxes, AreRooms, units_over, states_over}
+use Rattle.qm_gadget.specs.Over.{AreBoxes, AreRooms, IsStepUp, units_over, states_over}
 use Rattle.qm_gadget.specs.declared.plan.Plan.{Plan}
 
 -- Lows and caps of a list whose units are few, with their ends at nodes.
@@ -31,10 +33,14 @@ ups step _ _ = []
 -- Each entry of the list is a whole number of steps above its low, no more than the cap.
 pub record AreUps (step : ℕ) (lows caps ys : List ℕ) : Type 0 where
   pub count : length ys ≡ length lows
-  pub each : (k : ℕ) → k < length ys → (j : ℕ) × (j ≤ slice_index caps k) × (slice_index ys k ≡ slice_index lows k + j * step)
+  pub each : (k : ℕ) → k < length ys → IsStepUp (slice_index lows k) (slice_index caps k) step (slice_index ys k)
 
 -- The marks of the edges that the list with so many units on chooses.
 abbrev pub marks_over : Network → ℕ → List ℕ → List ℕ → List ℕ → List Bool
 marks_over net step lows caps js =
     let us = units_over net step net.arcs lows caps in
     states_marks net.nodes (λ v. active v us (own_states caps)) (rim_active us (own_states caps) % 2 == 1) us (states_over caps js)
+
+-- The graph of the units with these lows and caps.
+abbrev pub graph_by_lows : Network → ℕ → List ℕ → List ℕ → Graph
+graph_by_lows net step lows caps = graph_of_units net.nodes (units_over net step net.arcs lows caps) (own_states caps)

@@ -23,7 +23,12 @@ fn low_of(net: &Net, step: u64, length: u64) -> u64
 }
 
 /// The least length of each arc that the units can give.
-pub(crate) fn lows_of(alloc: Global, net: &Net, step: u64, x: &[u64]) -> Result<Vec<u64>, AllocError>
+pub(crate) fn lows_of(
+    alloc: Global,
+    net: &Net,
+    step: u64,
+    x: &[u64],
+) -> Result<Vec<u64>, AllocError>
     requires { (1 ≤ step) × (step ≤ 4096) }
     ensures { IfOk result (λ lows. lows.items ≡ map (low (network net.now) step) x.now) }
 {
@@ -35,7 +40,12 @@ pub(crate) fn lows_of(alloc: Global, net: &Net, step: u64, x: &[u64]) -> Result<
 }
 
 /// The number of units of each arc.
-pub(crate) fn caps_of(alloc: Global, net: &Net, step: u64, x: &[u64]) -> Result<Vec<u32>, AllocError>
+pub(crate) fn caps_of(
+    alloc: Global,
+    net: &Net,
+    step: u64,
+    x: &[u64],
+) -> Result<Vec<u32>, AllocError>
     requires { 1 ≤ step }
     ensures { IfOk result (λ caps. caps.items ≡ map (cap (network net.now) step) x.now) }
 {

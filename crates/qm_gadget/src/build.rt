@@ -5,13 +5,15 @@ ghost use Rattle.def_flow.specs.Matching.{graph};
 ghost use Rattle.def_flow.specs.MatchingGraph.{matching_graph};
 ghost use Rattle.def_flow.specs.Units.{cap as units_of_arc, low as low_of_arc};
 ghost use Rattle.qm_net.specs.Lengths.{AreLengths};
+ghost use Rattle.qm_gadget.specs.Gadget.{IsGadgetOf};
+ghost use Rattle.qm_gadget.specs.Ready.{graph_by_lows, IsReady};
 
 use crate::Memory;
 use crate::boxes::{caps_of, lows_of};
 use crate::layout::lay_out;
 use crate::plan::plan_of;
 use def_flow::{Net, WGraph};
-use std::alloc::Global;
+use std::alloc::{AllocError, Global};
 
 /// The matching graph of a list of lengths.
 ///
@@ -37,10 +39,33 @@ pub fn graph_of(alloc: Global, net: &Net, x: &[u64], step: u64) -> Result<Gadget
     ensures low { IfOk result (λ g. g.low.items ≡ map (low_of_arc (network net.now) step) x.now) }
     ensures cap { IfOk result (λ g. g.cap.items ≡ map (units_of_arc (network net.now) step) x.now) }
     ensures step { IfOk result (λ g. g.step ≡ step) }
+    ensures given { IfOk result (λ g. IsGadgetOf (network net.now) g) }
 {
     let low = lows_of(alloc, net, step, x)?;
     let cap = caps_of(alloc, net, step, x)?;
-    let plan = plan_of(alloc, net, step, &low, &cap)?;
-    let graph = lay_out(alloc, &plan.rooms, plan.lone, &plan.units)?;
-    Ok(Gadget { graph, low, cap, step })
+    let graph = graph_over(alloc, net, step, &low, &cap)?;
+    Ok(Gadget {
+        graph,
+        low,
+        cap,
+        step,
+    })
+}
+
+/// The graph of the units with these lows and caps.
+fn graph_over(
+    alloc: Global,
+    net: &Net,
+    step: u64,
+    lows: &[u64],
+    caps: &[u32],
+) -> Result<WGraph, AllocError>
+    requires bounds { IsWithinBounds (network net.now) }
+    requires step { (1 ≤ step) × (step ≤ 4096) }
+    requires ready { IsReady (network net.now) step lows.now caps.now }
+    requires small { (graph_by_lows (network net.now) step lows.now caps.now).n ≤ 2 ^ 25 }
+    ensures { IfOk result (λ g. graph g ≡ graph_by_lows (network net.now) step lows.now caps.now) }
+{
+    let plan = plan_of(alloc, net, step, lows, caps)?;
+    lay_out(alloc, &plan.rooms, plan.lone, &plan.units)
 }

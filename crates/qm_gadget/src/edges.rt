@@ -15,7 +15,13 @@ pub(crate) fn push_link(edges: &mut Vec<WEdge>, u: u32, v: u32, cost: i64) -> Re
 
 /// Adds edges from `u` to so many vertices, from the first on.
 #[tactic(auto, using(crate::proofs::Fans::fan_more))]
-fn push_fan(edges: &mut Vec<WEdge>, u: u32, cost: i64, first: u32, copies: u32) -> Result<(), AllocError>
+fn push_fan(
+    edges: &mut Vec<WEdge>,
+    u: u32,
+    cost: i64,
+    first: u32,
+    copies: u32,
+) -> Result<(), AllocError>
     requires { first + copies ≤ 2 ^ 26 }
     ensures { OnOk result (edges.new.items ≡ edges.old.items ++ fan u cost first copies) }
 {
@@ -26,7 +32,14 @@ fn push_fan(edges: &mut Vec<WEdge>, u: u32, cost: i64, first: u32, copies: u32) 
 }
 
 /// Adds edges from `u` to each copy of the node of an end. A plus end is paid for here.
-fn push_to_copies(edges: &mut Vec<WEdge>, rooms: &[u32], firsts: &[u32], u: u32, cost: i64, end: &End) -> Result<(), AllocError>
+fn push_to_copies(
+    edges: &mut Vec<WEdge>,
+    rooms: &[u32],
+    firsts: &[u32],
+    u: u32,
+    cost: i64,
+    end: &End,
+) -> Result<(), AllocError>
     requires at { end.now.node < length rooms.now }
     requires firsts { AreFirsts rooms.now firsts.now }
     ensures { OnOk result (edges.new.items ≡ edges.old.items ++ to_copies (room_of rooms.now) u cost end.now) }
@@ -47,7 +60,14 @@ fn push_inner(edges: &mut Vec<WEdge>, b: u32, cost: i64, end: &End) -> Result<()
 
 /// Adds the edges of a unit with one end.
 #[tactic(auto, using(crate::proofs::Fans::two_parts))]
-fn push_lone(edges: &mut Vec<WEdge>, rooms: &[u32], firsts: &[u32], b: u32, cost: i64, left: &End) -> Result<(), AllocError>
+fn push_lone(
+    edges: &mut Vec<WEdge>,
+    rooms: &[u32],
+    firsts: &[u32],
+    b: u32,
+    cost: i64,
+    left: &End,
+) -> Result<(), AllocError>
     requires small { b < 2 ^ 26 }
     requires at { left.now.node < length rooms.now }
     requires firsts { AreFirsts rooms.now firsts.now }
@@ -59,7 +79,15 @@ fn push_lone(edges: &mut Vec<WEdge>, rooms: &[u32], firsts: &[u32], b: u32, cost
 
 /// Adds the edges of a unit whose two ends have like signs.
 #[tactic(auto, using(crate::proofs::Fans::three_parts))]
-fn push_alike(edges: &mut Vec<WEdge>, rooms: &[u32], firsts: &[u32], b: u32, cost: i64, left: &End, right: &End) -> Result<(), AllocError>
+fn push_alike(
+    edges: &mut Vec<WEdge>,
+    rooms: &[u32],
+    firsts: &[u32],
+    b: u32,
+    cost: i64,
+    left: &End,
+    right: &End,
+) -> Result<(), AllocError>
     requires small { b < 2 ^ 26 }
     requires at { (left.now.node < length rooms.now) × (right.now.node < length rooms.now) }
     requires firsts { AreFirsts rooms.now firsts.now }
@@ -72,7 +100,15 @@ fn push_alike(edges: &mut Vec<WEdge>, rooms: &[u32], firsts: &[u32], b: u32, cos
 
 /// Adds the edges of a unit whose two ends have unlike signs.
 #[tactic(auto, using(crate::proofs::Fans::two_parts))]
-fn push_unlike(edges: &mut Vec<WEdge>, rooms: &[u32], firsts: &[u32], b: u32, cost: i64, left: &End, right: &End) -> Result<(), AllocError>
+fn push_unlike(
+    edges: &mut Vec<WEdge>,
+    rooms: &[u32],
+    firsts: &[u32],
+    b: u32,
+    cost: i64,
+    left: &End,
+    right: &End,
+) -> Result<(), AllocError>
     requires at { (left.now.node < length rooms.now) × (right.now.node < length rooms.now) }
     requires firsts { AreFirsts rooms.now firsts.now }
     ensures { OnOk result (edges.new.items ≡ edges.old.items ++ (to_copies (room_of rooms.now) b cost left.now ++ to_copies (room_of rooms.now) b cost right.now)) }
@@ -89,7 +125,13 @@ pub(crate) fn have_like_signs(left: &End, right: &End) -> bool
 }
 
 /// Adds the edges of a unit whose first vertex is `b`.
-pub(crate) fn push_unit(edges: &mut Vec<WEdge>, rooms: &[u32], firsts: &[u32], b: u32, unit: &ArcUnit) -> Result<(), AllocError>
+pub(crate) fn push_unit(
+    edges: &mut Vec<WEdge>,
+    rooms: &[u32],
+    firsts: &[u32],
+    b: u32,
+    unit: &ArcUnit,
+) -> Result<(), AllocError>
     requires small { b < 2 ^ 26 }
     requires at { IsAtNodes (length rooms.now) unit.now }
     requires firsts { AreFirsts rooms.now firsts.now }
@@ -115,7 +157,11 @@ pub(crate) fn size_of_unit(unit: &ArcUnit) -> u32
     match &unit.right {
         None => 2,
         Some(right) => {
-            if have_like_signs(&unit.left, right) { 2 } else { 1 }
+            if have_like_signs(&unit.left, right) {
+                2
+            } else {
+                1
+            }
         }
     }
 }

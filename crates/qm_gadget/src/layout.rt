@@ -10,7 +10,12 @@ use def_flow::{ArcUnit, WEdge, WGraph};
 use std::alloc::{AllocError, Global};
 
 /// The graph of units over nodes with copies. Linear in its vertices and edges.
-pub(crate) fn lay_out(alloc: Global, rooms: &[u32], lone: bool, units: &[ArcUnit]) -> Result<WGraph, AllocError>
+pub(crate) fn lay_out(
+    alloc: Global,
+    rooms: &[u32],
+    lone: bool,
+    units: &[ArcUnit],
+) -> Result<WGraph, AllocError>
     requires at { AreAtNodes (length rooms.now) units.now }
     requires small { first_fresh (length rooms.now) (room_of rooms.now) lone units.now + 2 * length (rim (count_below (room_of rooms.now) (length rooms.now)) units.now) < 2 ^ 26 }
     ensures { IfOk result (λ g. graph g ≡ graph_by (length rooms.now) (room_of rooms.now) lone units.now) }
@@ -23,7 +28,10 @@ pub(crate) fn lay_out(alloc: Global, rooms: &[u32], lone: bool, units: &[ArcUnit
     let fresh = past + u32::from(lone);
     push_rim(&mut edges, lone_vertex(lone, past), fresh, &rims)?;
     let pairs = rims.len().saturating_sub(1) as u32;
-    Ok(WGraph { n: fresh + 2 * pairs, edges })
+    Ok(WGraph {
+        n: fresh + 2 * pairs,
+        edges,
+    })
 }
 
 /// The lone vertex, if there is one.
@@ -49,7 +57,13 @@ fn first_copies(alloc: Global, rooms: &[u32]) -> Result<Vec<u32>, AllocError>
 }
 
 /// Adds the edges of all units, whose vertices begin at `first`, and gives the vertex past the last of them.
-fn push_units(edges: &mut Vec<WEdge>, rooms: &[u32], firsts: &[u32], first: u32, units: &[ArcUnit]) -> Result<u32, AllocError>
+fn push_units(
+    edges: &mut Vec<WEdge>,
+    rooms: &[u32],
+    firsts: &[u32],
+    first: u32,
+    units: &[ArcUnit],
+) -> Result<u32, AllocError>
     requires at { AreAtNodes (length rooms.now) units.now }
     requires firsts { AreFirsts rooms.now firsts.now }
     requires small { first + count unit_size units.now < 2 ^ 26 }

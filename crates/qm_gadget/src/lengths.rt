@@ -29,11 +29,27 @@ pub fn lengths_of(alloc: Global, net: &Net, g: &Gadget, m: &[u32]) -> Result<Vec
     ensures admissible { IfOk result (λ ys. IsAdmissible (network net.now) (entries ys.items)) }
     ensures cost { IfOk result (λ ys. (pos (deviation (network net.now) (entries ys.items)) -ℤ pos (deviation (network net.now) (entries g.now.low.items))) ≤ℤ matching_cost (graph g.now.graph) m.now) }
 {
-    lengths_over(alloc, net, g.step, &g.low, &g.cap, m, g.graph.edges.len() as u32)
+    lengths_over(
+        alloc,
+        net,
+        g.step,
+        &g.low,
+        &g.cap,
+        m,
+        g.graph.edges.len() as u32,
+    )
 }
 
 /// The same, by the lows and caps of the gadget and the number of its edges.
-fn lengths_over(alloc: Global, net: &Net, step: u64, lows: &[u64], caps: &[u32], m: &[u32], edges: u32) -> Result<Vec<u64>, AllocError>
+fn lengths_over(
+    alloc: Global,
+    net: &Net,
+    step: u64,
+    lows: &[u64],
+    caps: &[u32],
+    m: &[u32],
+    edges: u32,
+) -> Result<Vec<u64>, AllocError>
     requires bounds { IsWithinBounds (network net.now) }
     requires step { (1 ≤ step) × (step ≤ 4096) }
     requires ready { IsReady (network net.now) step lows.now caps.now }
@@ -48,7 +64,13 @@ fn lengths_over(alloc: Global, net: &Net, step: u64, lows: &[u64], caps: &[u32],
 }
 
 /// The states of the units that a matching among so many edges tells.
-fn states_in(alloc: Global, rooms: &[u32], units: &[ArcUnit], m: &[u32], edges: u32) -> Result<Vec<bool>, AllocError>
+fn states_in(
+    alloc: Global,
+    rooms: &[u32],
+    units: &[ArcUnit],
+    m: &[u32],
+    edges: u32,
+) -> Result<Vec<bool>, AllocError>
     requires at { AreAtNodes (length rooms.now) units.now }
     requires few { (edges ≤ 2 ^ 26) × ((v : ℕ) → slice_index rooms.now v ≤ 2 ^ 27) }
     requires rising { IsRising 0 edges m.now }
@@ -98,7 +120,13 @@ fn past_below(m: &[u32], at: usize, end: u32) -> usize
 }
 
 /// The lengths where of each arc as many units are on as the states say.
-fn raised(alloc: Global, step: u64, lows: &[u64], caps: &[u32], ons: &[bool]) -> Result<Vec<u64>, AllocError>
+fn raised(
+    alloc: Global,
+    step: u64,
+    lows: &[u64],
+    caps: &[u32],
+    ons: &[bool],
+) -> Result<Vec<u64>, AllocError>
     requires step { step ≤ 4096 }
     requires boxes { AreBoxes (length lows.now) lows.now caps.now }
     ensures { IfOk result (λ ys. ys.items ≡ lengths_by step lows.now caps.now ons.now) }

@@ -2,8 +2,8 @@
 #![tactic(auto)]
 
 mod boxes;
-mod edges;
 mod build;
+mod edges;
 mod layout;
 mod lengths;
 mod marks;
@@ -12,6 +12,8 @@ mod plan;
 mod rim;
 mod rim_marks;
 mod states;
+#[cfg(test)]
+mod tests;
 mod units;
 
 pub use build::{Gadget, graph_of};

@@ -33,7 +33,14 @@ fn push_choice(m: &mut Vec<u32>, k: u32, some: bool, i: u32, n: u32) -> Result<(
 }
 
 /// Adds the edge of an end to the first copy that is not in use, if the end is active.
-fn push_end_marks(m: &mut Vec<u32>, k: u32, rooms: &[u32], used: &[u32], end: &End, on: bool) -> Result<(), AllocError>
+fn push_end_marks(
+    m: &mut Vec<u32>,
+    k: u32,
+    rooms: &[u32],
+    used: &[u32],
+    end: &End,
+    on: bool,
+) -> Result<(), AllocError>
     requires at { end.now.node < length rooms.now }
     requires same { length used.now ≡ length rooms.now }
     requires few { (k ≤ 2 ^ 28) × (slice_index rooms.now end.now.node ≤ 2 ^ 28) }
@@ -44,7 +51,15 @@ fn push_end_marks(m: &mut Vec<u32>, k: u32, rooms: &[u32], used: &[u32], end: &E
 }
 
 /// Adds the chosen edges of the second end of a unit, and of the edge inside it if the signs are alike.
-fn push_right_marks(m: &mut Vec<u32>, k: u32, rooms: &[u32], used: &[u32], left: &End, right: &End, on: bool) -> Result<(), AllocError>
+fn push_right_marks(
+    m: &mut Vec<u32>,
+    k: u32,
+    rooms: &[u32],
+    used: &[u32],
+    left: &End,
+    right: &End,
+    on: bool,
+) -> Result<(), AllocError>
     requires at { right.now.node < length rooms.now }
     requires same { length used.now ≡ length rooms.now }
     requires few { (k ≤ 2 ^ 28) × (slice_index rooms.now right.now.node ≤ 2 ^ 28) }
@@ -58,7 +73,14 @@ fn push_right_marks(m: &mut Vec<u32>, k: u32, rooms: &[u32], used: &[u32], left:
 }
 
 /// Adds the chosen edges of a unit, the first of which is `k`, and counts the copies that come into use.
-fn push_unit_marks(m: &mut Vec<u32>, k: u32, rooms: &[u32], used: &mut [u32], unit: &ArcUnit, on: bool) -> Result<(), AllocError>
+fn push_unit_marks(
+    m: &mut Vec<u32>,
+    k: u32,
+    rooms: &[u32],
+    used: &mut [u32],
+    unit: &ArcUnit,
+    on: bool,
+) -> Result<(), AllocError>
     requires at { IsAtNodes (length rooms.now) unit.now }
     requires same { length used.old ≡ length rooms.now }
     requires few { (k ≤ 2 ^ 27) × ((v : ℕ) → slice_index rooms.now v ≤ 2 ^ 27) }
@@ -90,13 +112,23 @@ pub(crate) fn width_of(rooms: &[u32], unit: &ArcUnit) -> u32
         None => left + 1,
         Some(right) => {
             let right_room = rooms[right.node as usize];
-            if have_like_signs(&unit.left, right) { left + (right_room + 1) } else { left + right_room }
+            if have_like_signs(&unit.left, right) {
+                left + (right_room + 1)
+            } else {
+                left + right_room
+            }
         }
     }
 }
 
 /// Adds the chosen edges of all units, and gives the number of the first edge past them.
-pub(crate) fn push_units_marks(alloc: Global, m: &mut Vec<u32>, rooms: &[u32], units: &[ArcUnit], ons: &[bool]) -> Result<u32, AllocError>
+pub(crate) fn push_units_marks(
+    alloc: Global,
+    m: &mut Vec<u32>,
+    rooms: &[u32],
+    units: &[ArcUnit],
+    ons: &[bool],
+) -> Result<u32, AllocError>
     requires at { AreAtNodes (length rooms.now) units.now }
     requires states { length units.now ≡ length ons.now }
     requires few { (length units.now ≤ 2 ^ 25) × ((v : ℕ) → slice_index rooms.now v ≤ 2 ^ 27) }
@@ -109,7 +141,13 @@ pub(crate) fn push_units_marks(alloc: Global, m: &mut Vec<u32>, rooms: &[u32], u
 }
 
 /// The same, where copies are in use before.
-fn push_all_marks(m: &mut Vec<u32>, rooms: &[u32], used: &mut [u32], units: &[ArcUnit], ons: &[bool]) -> Result<u32, AllocError>
+fn push_all_marks(
+    m: &mut Vec<u32>,
+    rooms: &[u32],
+    used: &mut [u32],
+    units: &[ArcUnit],
+    ons: &[bool],
+) -> Result<u32, AllocError>
     requires at { AreAtNodes (length rooms.now) units.now }
     requires states { length units.now ≡ length ons.now }
     requires few { (length units.now ≤ 2 ^ 25) × ((v : ℕ) → slice_index rooms.now v ≤ 2 ^ 27) }

@@ -30,7 +30,14 @@ pub fn matching_of(alloc: Global, net: &Net, g: &Gadget, x2: &[u64]) -> Result<V
 }
 
 /// The same, by the lows and caps of the gadget.
-fn matching_by(alloc: Global, net: &Net, step: u64, lows: &[u64], caps: &[u32], x2: &[u64]) -> Result<Vec<u32>, AllocError>
+fn matching_by(
+    alloc: Global,
+    net: &Net,
+    step: u64,
+    lows: &[u64],
+    caps: &[u32],
+    x2: &[u64],
+) -> Result<Vec<u32>, AllocError>
     requires bounds { IsWithinBounds (network net.now) }
     requires step { (1 ≤ step) × (step ≤ 4096) }
     requires ready { IsReady (network net.now) step lows.now caps.now }

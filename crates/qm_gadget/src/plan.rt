@@ -17,7 +17,13 @@ pub struct Plan {
 }
 
 /// The plan of the list with these lows and caps.
-pub(crate) fn plan_of(alloc: Global, net: &Net, step: u64, lows: &[u64], caps: &[u32]) -> Result<Plan, AllocError>
+pub(crate) fn plan_of(
+    alloc: Global,
+    net: &Net,
+    step: u64,
+    lows: &[u64],
+    caps: &[u32],
+) -> Result<Plan, AllocError>
     requires bounds { IsWithinBounds (network net.now) }
     requires step { (1 ≤ step) × (step ≤ 4096) }
     requires ready { IsReady (network net.now) step lows.now caps.now }

@@ -23,7 +23,12 @@ pub(crate) fn rim_of(alloc: Global, first: u32, units: &[ArcUnit]) -> Result<Vec
 }
 
 /// Adds the edges that join the vertices at the rim.
-pub(crate) fn push_rim(edges: &mut Vec<WEdge>, lone: Option<u32>, first: u32, rims: &[u32]) -> Result<(), AllocError>
+pub(crate) fn push_rim(
+    edges: &mut Vec<WEdge>,
+    lone: Option<u32>,
+    first: u32,
+    rims: &[u32],
+) -> Result<(), AllocError>
     requires { first + 2 * length rims.now < 2 ^ 26 }
     ensures { OnOk result (edges.new.items ≡ edges.old.items ++ rim_links lone first rims.now) }
 {
@@ -54,7 +59,12 @@ fn push_from(edges: &mut Vec<WEdge>, before: Option<u32>, v: u32) -> Result<(), 
 
 /// Adds the edges of a pair of fresh vertices that come after `here`.
 #[tactic(auto, using(crate::proofs::Fans::pair_parts))]
-fn push_pair(edges: &mut Vec<WEdge>, before: Option<u32>, here: u32, fresh: u32) -> Result<(), AllocError>
+fn push_pair(
+    edges: &mut Vec<WEdge>,
+    before: Option<u32>,
+    here: u32,
+    fresh: u32,
+) -> Result<(), AllocError>
     requires { fresh < 2 ^ 26 }
     ensures { OnOk result (edges.new.items ≡ edges.old.items ++ (link here fresh (pos 0) ∷ link_from before fresh ++ link fresh (fresh + 1) (pos 0) ∷ [])) }
 {

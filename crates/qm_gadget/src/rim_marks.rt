@@ -9,7 +9,11 @@ use def_flow::ArcUnit;
 use std::alloc::{AllocError, Global};
 
 /// Whether each unit with one end waits for a mate at the rim.
-pub(crate) fn rim_states_of(alloc: Global, units: &[ArcUnit], ons: &[bool]) -> Result<Vec<bool>, AllocError>
+pub(crate) fn rim_states_of(
+    alloc: Global,
+    units: &[ArcUnit],
+    ons: &[bool],
+) -> Result<Vec<bool>, AllocError>
     requires { length units.now ≡ length ons.now }
     ensures { IfOk result (λ states. states.items ≡ rim_states units.now ons.now) }
 {
@@ -31,7 +35,12 @@ fn push_rim_state(states: &mut Vec<bool>, unit: &ArcUnit, on: bool) -> Result<()
 }
 
 /// Adds the chosen edges at the rim, the first of which is `first`.
-pub(crate) fn push_rim_marks(m: &mut Vec<u32>, first: u32, lone: bool, states: &[bool]) -> Result<(), AllocError>
+pub(crate) fn push_rim_marks(
+    m: &mut Vec<u32>,
+    first: u32,
+    lone: bool,
+    states: &[bool],
+) -> Result<(), AllocError>
     requires { first + 4 * length states.now ≤ 2 ^ 28 }
     ensures { OnOk result (m.new.items ≡ m.old.items ++ places first (rim_by lone lone states.now)) }
 {
@@ -47,7 +56,14 @@ pub(crate) fn push_rim_marks(m: &mut Vec<u32>, first: u32, lone: bool, states: &
 }
 
 /// Adds the chosen edges of one vertex at the rim and of the pair after it, and gives the number past them.
-fn push_rim_turn(m: &mut Vec<u32>, k: u32, there: bool, waits: bool, here: bool, last: bool) -> Result<u32, AllocError>
+fn push_rim_turn(
+    m: &mut Vec<u32>,
+    k: u32,
+    there: bool,
+    waits: bool,
+    here: bool,
+    last: bool,
+) -> Result<u32, AllocError>
     requires { k ≤ 2 ^ 28 }
     ensures marks { OnOk result (m.new.items ≡ m.old.items ++ places k (turn_marks there waits here last)) }
     ensures past { IfOk result (λ past. past ≡ k + length (turn_marks there waits here last)) }
@@ -83,7 +99,13 @@ fn push_if(m: &mut Vec<u32>, k: u32, there: bool, mark: bool) -> Result<(), Allo
 }
 
 /// Adds the chosen edges of the pair of vertices after one at the rim.
-fn push_pair_marks(m: &mut Vec<u32>, k: u32, there: bool, waits: bool, here: bool) -> Result<(), AllocError>
+fn push_pair_marks(
+    m: &mut Vec<u32>,
+    k: u32,
+    there: bool,
+    waits: bool,
+    here: bool,
+) -> Result<(), AllocError>
     requires { k ≤ 2 ^ 30 }
     ensures { OnOk result (m.new.items ≡ m.old.items ++ places k ((not waits && here) ∷ mark_if there (waits && not here) ++ not (differ waits here) ∷ [])) }
 {

@@ -51,7 +51,12 @@ pub(crate) fn is_active(end: &End, on: bool) -> bool
 }
 
 /// How many active unit ends there are at each node.
-pub(crate) fn count_active(alloc: Global, nodes: u32, units: &[ArcUnit], ons: &[bool]) -> Result<Vec<u32>, AllocError>
+pub(crate) fn count_active(
+    alloc: Global,
+    nodes: u32,
+    units: &[ArcUnit],
+    ons: &[bool],
+) -> Result<Vec<u32>, AllocError>
     requires states { length units.now ≡ length ons.now }
     requires few { length units.now ≤ 2 ^ 25 }
     requires at { AreAtNodes nodes units.now }

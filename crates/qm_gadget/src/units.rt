@@ -8,7 +8,13 @@ use qm_net::arc_deviation;
 use std::alloc::{AllocError, Global};
 
 /// The units of all arcs, in order, by the least length and the number of units of each arc.
-pub(crate) fn units_of(alloc: Global, net: &Net, step: u64, lows: &[u64], caps: &[u32]) -> Result<Vec<ArcUnit>, AllocError>
+pub(crate) fn units_of(
+    alloc: Global,
+    net: &Net,
+    step: u64,
+    lows: &[u64],
+    caps: &[u32],
+) -> Result<Vec<ArcUnit>, AllocError>
     requires bounds { IsWithinBounds (network net.now) }
     requires step { (1 ≤ step) × (step ≤ 4096) }
     requires boxes { AreBoxes (length net.now.arcs.items) lows.now caps.now }
@@ -22,7 +28,14 @@ pub(crate) fn units_of(alloc: Global, net: &Net, step: u64, lows: &[u64], caps: 
 }
 
 /// Adds the units of an arc.
-fn push_units_of(net: &Net, step: u64, arc: &Arc, low: u64, cap: u32, units: &mut Vec<ArcUnit>) -> Result<(), AllocError>
+fn push_units_of(
+    net: &Net,
+    step: u64,
+    arc: &Arc,
+    low: u64,
+    cap: u32,
+    units: &mut Vec<ArcUnit>,
+) -> Result<(), AllocError>
     requires bounds { (net.now.p ≤ 1000) × (net.now.q ≤ 1000) × (arc.now.weight ≤ 1000) × (arc.now.old ≤ 4000000000) }
     requires step { (1 ≤ step) × (step ≤ 4096) }
     requires small { (low ≤ 10 ^ 12) × (cap ≤ 4) }
@@ -42,7 +55,11 @@ fn unit_at(net: &Net, step: u64, arc: &Arc, low: u64, k: u32) -> ArcUnit
     ensures { result ≡ unit_over (network net.now) step arc.now low k }
 {
     let cost = unit_cost(net, arc, low + u64::from(k) * step, step);
-    ArcUnit { left: arc.left, right: arc.right, cost }
+    ArcUnit {
+        left: arc.left,
+        right: arc.right,
+        cost,
+    }
 }
 
 fn push_unit(unit: ArcUnit, units: &mut Vec<ArcUnit>) -> Result<(), AllocError>

@@ -1,5 +1,5 @@
 -- Laws of counts.
-use Rattle.std.proofs.Common.{◌≡◌, ℕ, zero, suc, ◌+◌, ◌*◌, ◌<◌, ◌≤◌, List, [], ◌∷◌, ◌++◌, map, pos, refl, sym, ap, inl, inr, mul-zero, mul-add, arith}
+use Rattle.std.proofs.Common.{◌≡◌, ℕ, zero, suc, ◌+◌, ◌*◌, ◌<◌, ◌≤◌, List, [], ◌∷◌, ◌++◌, pos, refl, sym, ap, inl, inr, mul-zero, mul-add, arith}
 use Rattle.std.proofs.lemmas.Int.{ints}
 use Rattle.std.proofs.lemmas.Bool.{cases_eq}
 use Rattle.qm_laws.specs.Sums.{total, total_below}
@@ -10,20 +10,10 @@ pub count_append : {X : Type 0} (f : X → ℕ) (xs ys : List X) → count f (xs
 count_append f [] ys = omega arith
 count_append f (x ∷ xs) ys = omega (arith, count_append f xs ys)
 
--- A count along the image of a list.
-pub count_map : {X Y : Type 0} (f : Y → ℕ) (g : X → Y) (xs : List X) → count f (map g xs) ≡ count (λ x. f (g x)) xs
-count_map f g [] = refl
-count_map f g (x ∷ xs) = omega (arith, count_map f g xs)
-
 -- A count of sums.
 pub count_sum : {X : Type 0} (f g : X → ℕ) (xs : List X) → count (λ x. f x + g x) xs ≡ count f xs + count g xs
 count_sum f g [] = refl
 count_sum f g (x ∷ xs) = omega (arith, count_sum f g xs)
-
--- Equal terms have equal counts.
-pub count_same : {X : Type 0} (f g : X → ℕ) (xs : List X) → ((x : X) → f x ≡ g x) → count f xs ≡ count g xs
-count_same f g [] same = refl
-count_same f g (x ∷ xs) same = omega (arith, same x, count_same f g xs same)
 
 -- A count as a sum of whole numbers.
 pub count_total : {X : Type 0} (f : X → ℕ) (xs : List X) → pos (count f xs) ≡ total (λ x. pos (f x)) xs
@@ -98,3 +88,8 @@ count_below_one f (suc n) u l other = elim (cases_eq u n) [ inl e ↦ at_end e |
 pub count_below_times : (c : ℕ) (f : ℕ → ℕ) (n : ℕ) → count_below (λ k. c * f k) n ≡ c * count_below f n
 count_below_times c f zero = omega (arith, mul-zero c)
 count_below_times c f (suc n) = omega (arith, count_below_times c f n, mul-add c (count_below f n) (f n))
+
+-- One for each number below the bound.
+pub count_below_ones : (n : ℕ) → count_below (λ k. 1) n ≡ n
+count_below_ones zero = refl
+count_below_ones (suc n) = omega (arith, count_below_ones n)

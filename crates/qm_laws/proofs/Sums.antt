@@ -1,8 +1,7 @@
 -- Laws of sums of whole numbers.
-use Rattle.std.proofs.Common.{◌≡◌, ℕ, zero, suc, ◌+◌, ◌<◌, ◌≤◌, List, [], ◌∷◌, ◌++◌, map, ℤ, pos, negsuc, ◌+ℤ◌, ◌-ℤ◌, ◌*ℤ◌, ◌≤ℤ◌, ◌<ℤ◌, refl, zero-add, add-zero, add-one, sym, ap, inl, inr, ◌⊎◌, arith}
+use Rattle.std.proofs.Common.{◌≡◌, ℕ, zero, suc, ◌+◌, ◌<◌, List, [], ◌∷◌, ◌++◌, ℤ, pos, negsuc, ◌+ℤ◌, ◌-ℤ◌, ◌*ℤ◌, ◌≤ℤ◌, ◌<ℤ◌, refl, zero-add, add-zero, add-one, sym, ap, inl, inr, ◌⊎◌, arith}
 use Rattle.std.proofs.lemmas.Int.{ints}
 use Rattle.std.proofs.lemmas.Bool.{cases_eq}
-use Rattle.std.proofs.Math.IntN.{*ℤ-zero}
 use Rattle.qm_laws.specs.Sums.{total, total_below, span}
 
 -- A factor goes through a sum of two.
@@ -26,21 +25,6 @@ total_same f g (x ∷ xs) same = omega (arith, ints, same x, total_same f g xs s
 pub total_sum : {X : Type 0} (f g : X → ℤ) (xs : List X) → total (λ x. f x +ℤ g x) xs ≡ total f xs +ℤ total g xs
 total_sum f g [] = refl
 total_sum f g (x ∷ xs) = omega (arith, ints, total_sum f g xs)
-
--- A sum along the image of a list.
-pub total_map : {X Y : Type 0} (f : Y → ℤ) (g : X → Y) (xs : List X) → total f (map g xs) ≡ total (λ x. f (g x)) xs
-total_map f g [] = refl
-total_map f g (x ∷ xs) = omega (arith, ints, total_map f g xs)
-
--- No term is greater, and so no sum.
-pub total_le : {X : Type 0} (f g : X → ℤ) (xs : List X) → ((x : X) → f x ≤ℤ g x) → total f xs ≤ℤ total g xs
-total_le f g [] le = omega (arith, ints)
-total_le f g (x ∷ xs) le = omega (arith, ints, le x, total_le f g xs le)
-
--- A sum of zeros.
-pub total_none : {X : Type 0} (f : X → ℤ) (xs : List X) → ((x : X) → f x ≡ pos 0) → total f xs ≡ pos 0
-total_none f [] none = refl
-total_none f (x ∷ xs) none = omega (arith, ints, none x, total_none f xs none)
 
 -- Equal terms below the bound have equal sums.
 pub total_below_same : (f g : ℕ → ℤ) (n : ℕ) → ((k : ℕ) → k < n → f k ≡ g k) → total_below f n ≡ total_below g n
@@ -85,20 +69,10 @@ total_below_one f (suc n) u l other = elim (cases_eq u n) [ inl e ↦ at_end e |
         let end : f n ≡ pos 0 = other n (omega arith) (λ en. ne (sym en)) in
         omega (arith, ints, ih, end)
 
--- A factor comes out of a sum.
-pub total_below_times : (c : ℤ) (f : ℕ → ℤ) (n : ℕ) → total_below (λ k. c *ℤ f k) n ≡ c *ℤ total_below f n
-total_below_times c f zero = sym (*ℤ-zero c)
-total_below_times c f (suc n) = omega (arith, ints, total_below_times c f n, times_sum c (total_below f n) (f n))
-
 -- The sums along a list and below a bound change places.
 pub two_orders : {X : Type 0} (f : ℕ → X → ℤ) (n : ℕ) (xs : List X) → total (λ x. total_below (λ k. f k x) n) xs ≡ total_below (λ k. total (f k) xs) n
 two_orders f n [] = sym (total_below_none (λ k. pos 0) n (λ k l. refl))
 two_orders f n (x ∷ xs) = omega (arith, ints, two_orders f n xs, total_below_sum (λ k. f k x) (λ k. total (f k) xs) n)
-
--- Two sums below bounds change places.
-pub two_bounds : (f : ℕ → ℕ → ℤ) (m n : ℕ) → total_below (λ j. total_below (λ k. f k j) n) m ≡ total_below (λ k. total_below (f k) m) n
-two_bounds f zero n = sym (total_below_none (λ k. pos 0) n (λ k l. refl))
-two_bounds f (suc m) n = omega (arith, ints, two_bounds f m n, total_below_sum (λ k. total_below (f k) m) (λ k. f k m) n)
 
 -- A whole number is negative or not.
 pub cases_neg : (a : ℤ) → (a <ℤ pos 0) ⊎ (pos 0 ≤ℤ a)
@@ -129,21 +103,3 @@ total_below_span f a (suc n) =
     let there : a + suc n ≡ a + 1 + n = omega arith in
     let one : total_below f (a + 1) ≡ total_below f a +ℤ f a = rw (add-one a) refl in
     rw there (omega (arith, ints, one, total_below_span f (a + 1) n))
-
--- A run as a sum below its length.
-pub span_below : (f : ℕ → ℤ) (n : ℕ) → total_below f n ≡ span f 0 n
-span_below f n =
-    let whole : total_below f (0 + n) ≡ pos 0 +ℤ span f 0 n = total_below_span f 0 n in
-    let there : 0 + n ≡ n = zero-add n in
-    let same : total_below f (0 + n) ≡ total_below f n = ap (total_below f) there in
-    omega (arith, ints, whole, same)
-
--- Equal terms over a run.
-pub span_same : (f g : ℕ → ℤ) (a n : ℕ) → ((k : ℕ) → a ≤ k → k < a + n → f k ≡ g k) → span f a n ≡ span g a n
-span_same f g a zero same = refl
-span_same f g a (suc n) same = omega (arith, ints, same a (omega arith) (omega arith), span_same f g (a + 1) n (λ k l h. same k (omega arith) (omega arith)))
-
--- A run of zeros.
-pub span_none : (f : ℕ → ℤ) (a n : ℕ) → ((k : ℕ) → a ≤ k → k < a + n → f k ≡ pos 0) → span f a n ≡ pos 0
-span_none f a zero none = refl
-span_none f a (suc n) none = omega (arith, ints, none a (omega arith) (omega arith), span_none f (a + 1) n (λ k l h. none k (omega arith) (omega arith)))

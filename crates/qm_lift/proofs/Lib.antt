@@ -1,4 +1,5 @@
 pub mod Balance
 pub mod Lift
 pub mod Part
+pub mod Ports
 pub mod Walk

@@ -1,5 +1,5 @@
 -- The walk law: a tour through the copies of a difference is a small part of it.
-use Rattle.std.proofs.Common.{◌≡◌, ◌≢◌, ℕ, zero, suc, ◌+◌, ◌<◌, ◌≤◌, Bool, true, false, cond, not, ◌&&◌, ◌==◌, List, [], ◌∷◌, length, option_to_list, Option, Some, None, ℤ, pos, negsuc, ◌+ℤ◌, ◌-ℤ◌, ◌≤ℤ◌, neg_ℤ, unsigned_abs, refl, sym, ◌∙◌, ap, inl, inr, ◌⊎◌, arith, eq-eqb}
+use Rattle.std.proofs.Common.{◌≡◌, ◌≢◌, ℕ, zero, suc, ◌<◌, ◌≤◌, Bool, true, false, cond, not, ◌&&◌, ◌==◌, List, ◌∷◌, length, option_to_list, Option, Some, None, ℤ, pos, negsuc, ◌+ℤ◌, ◌-ℤ◌, neg_ℤ, unsigned_abs, refl, sym, ◌∙◌, ap, inl, inr, arith, eq-eqb}
 use Rattle.std.proofs.lemmas.Int.{ints}
 use Rattle.qm_laws.specs.Sums.{total, total_below}
 use Rattle.qm_laws.proofs.Sums.{total_below_same, total_below_minus, total_below_none}
@@ -9,7 +9,8 @@ use Rattle.def_flow.specs.declared.net.Arc.{Arc}
 use Rattle.def_flow.specs.declared.net.End.{End}
 use Rattle.qm_lift.specs.Laws.{IsPart, IsSmallPart}
 use Rattle.qm_lift.proofs.Balance.{balanced_minus, same_sides}
-use Rattle.qm_lift.proofs.Walk.{Port, Tour, IsEvenOut, weigh, uses, tour, tour_even, at_most_twice}
+use Rattle.qm_lift.proofs.Ports.{Port, weigh}
+use Rattle.qm_lift.proofs.Walk.{Tour, IsEvenOut, uses, tour, tour_even, at_most_twice}
 
 -- Whether a difference goes up, and m with its sign.
 abbrev goes_up : ℤ → Bool

@@ -3,10 +3,12 @@
 
 mod balance;
 mod bounds;
+mod tangle;
 #[cfg(test)]
 mod tests;
 mod wanted;
 
 pub use balance::admissible;
 pub use bounds::{are_lengths, is_within_bounds};
+pub use tangle::tangle_of;
 pub use wanted::{arc_deviation, deviation};

@@ -1,4 +1,4 @@
-use crate::{admissible, are_lengths, deviation, is_within_bounds};
+use crate::{admissible, are_lengths, deviation, is_within_bounds, tangle_of};
 use def_flow::{Arc, End, Net};
 use std::test::Fail;
 
@@ -52,6 +52,7 @@ fn lists_over_a_network(rt: HostRuntime) -> Result<(), Fail> {
         q: 2,
     };
     assert!(rt; is_within_bounds(&net));
+    assert_eq!(rt; tangle_of(rt.alloc(), &net)?, 544);
     let table: [(&[u64], bool, i128); 6] = [
         (&[4, 2, 9, 2, 2], true, 3032),
         (&[4, 2, 2, 2, 2], true, 3020),

@@ -1,13 +1,12 @@
 -- Any states of the units tell a list of the box: the cost of the units that are on is at least its deviation.
-use Rattle.std.proofs.Common.{◌≡◌, ℕ, zero, suc, ◌+◌, ◌-◌, ◌*◌, ◌%◌, ◌/◌, ◌<◌, ◌≤◌, min, Bool, true, false, cond, not, ◌&&◌, ◌==◌, List, [], ◌∷◌, ◌++◌, length, map, get_or, take, drop, Option, Some, None, option_to_list, ℤ, pos, ◌+ℤ◌, ◌-ℤ◌, ◌*ℤ◌, ◌≤ℤ◌, refl, sym, ◌∙◌, ap, inl, inr, ◌⊎◌, add-mul, mul-add, one-mul, zero-mul, zero-add, add-zero, div-mul-le_self, mul-le-mul_right, length-append, ne_eqb, arith}
+use Rattle.std.proofs.Common.{◌≡◌, ℕ, zero, suc, ◌+◌, ◌-◌, ◌*◌, ◌%◌, ◌/◌, ◌<◌, ◌≤◌, Bool, true, false, ◌==◌, List, [], ◌∷◌, ◌++◌, length, map, take, drop, Option, Some, None, ℤ, pos, ◌+ℤ◌, ◌-ℤ◌, ◌≤ℤ◌, refl, sym, ◌∙◌, ap, inl, inr, ◌⊎◌, add-mul, mul-add, one-mul, zero-mul, zero-add, add-zero, div-mul-le_self, mul-le-mul_right, length-append, ne_eqb, arith}
 use Rattle.std.proofs.lemmas.Int.{ints}
 use Rattle.std.proofs.lemmas.Bool.{cases_lt}
 use Rattle.std.proofs.lemmas.List.{length-take-le, length-drop, length-map}
-use Rattle.qm_laws.specs.Counts.{count}
 use Rattle.def_flow.specs.Network.{Network, IsWithinBounds}
 use Rattle.def_flow.specs.Admissible.{IsAdmissible, IsBalanced, arc_deviation, deviation, entries}
 use Rattle.def_flow.specs.Matching.{IsPerfect, matching_cost}
-use Rattle.def_flow.specs.Units.{down, low, cap, units_from, units, states_at, is_active, active, active_at, rim_active, cost_on}
+use Rattle.def_flow.specs.Units.{down, low, cap, units_from, units, states_at, active, rim_active, cost_on}
 use Rattle.def_flow.specs.MatchingGraph.{matching_graph}
 use Rattle.def_flow.specs.declared.net.Arc.{Arc}
 use Rattle.def_flow.specs.declared.net.End.{End}
@@ -19,7 +18,7 @@ use Rattle.qm_units.specs.Box.{IsInBox, lows}
 use Rattle.qm_units.specs.Told.{marks_from, states_told, steps_told, lengths_on, lengths_told}
 use Rattle.qm_units.proofs.Unit.{AreNodes, ends_active}
 use Rattle.qm_units.proofs.Units.{UnitsAt}
-use Rattle.qm_units.proofs.Box.{low_is, own_box, box_length, arc_active, weighted_ends, units_length, box_active, box_ends, side_list, balanced_list, deviations, deviation_list}
+use Rattle.qm_units.proofs.Box.{own_box, box_length, arc_active, weighted_ends, units_length, box_active, box_ends, side_list, balanced_list, deviations, deviation_list}
 use Rattle.qm_units.proofs.Law.{arcs_at, units_at}
 use Rattle.qm_units.proofs.Reading.{told_length, told_fills, told_cost}
 

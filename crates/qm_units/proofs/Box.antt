@@ -1,14 +1,14 @@
 -- Lists in the box, as states of the units: the active ends at a node, and the cost.
-use Rattle.std.proofs.Common.{◌≡◌, ℕ, zero, suc, ◌+◌, ◌-◌, ◌*◌, ◌/◌, ◌<◌, ◌≤◌, min, Bool, true, false, cond, not, ◌&&◌, ◌==◌, List, [], ◌∷◌, ◌++◌, length, map, Option, Some, None, option_to_list, ℤ, pos, ◌+ℤ◌, ◌-ℤ◌, refl, sym, ◌∙◌, ap, add-mul, mul-add, mul_comm, mul_assoc, div-mul-le_self, mul-le-mul_right, zero-mul, zero-add, add-zero, length-append, arith}
+use Rattle.std.proofs.Common.{◌≡◌, ℕ, zero, suc, ◌+◌, ◌-◌, ◌*◌, ◌/◌, ◌≤◌, Bool, true, false, cond, not, ◌&&◌, ◌==◌, List, [], ◌∷◌, ◌++◌, length, map, pos, ◌+ℤ◌, refl, sym, ◌∙◌, ap, add-mul, mul-add, mul_comm, mul_assoc, div-mul-le_self, mul-le-mul_right, zero-mul, zero-add, add-zero, length-append, arith}
 use Rattle.std.proofs.lemmas.Int.{ints}
 use Rattle.std.proofs.Math.Nat.{mul-div_cancel_left}
-use Rattle.qm_laws.specs.Sums.{total, total_below}
+use Rattle.qm_laws.specs.Sums.{total}
 use Rattle.qm_laws.specs.Counts.{count, count_below}
 use Rattle.qm_laws.proofs.Entries.{total_below_front}
 use Rattle.qm_laws.proofs.Counts.{count_below_front}
 use Rattle.def_flow.specs.Network.{Network, ends, arc_at}
-use Rattle.def_flow.specs.Admissible.{IsBalanced, is_on_side, side_sum, arc_deviation, deviation, entries}
-use Rattle.def_flow.specs.Units.{down, low, cap, unit_at, units_from, units, run, states, states_at, is_active, active, active_at, cost_on}
+use Rattle.def_flow.specs.Admissible.{IsBalanced, is_on_side, side_sum, arc_deviation, entries}
+use Rattle.def_flow.specs.Units.{down, low, cap, units_from, units, run, states, is_active, active, cost_on}
 use Rattle.def_flow.specs.declared.net.Arc.{Arc}
 use Rattle.def_flow.specs.declared.net.End.{End}
 use Rattle.def_flow.specs.declared.units.ArcUnit.{ArcUnit}

@@ -1,8 +1,8 @@
 -- What the marks of a unit's edges tell, where each of its own vertices has one mate.
-use Rattle.std.proofs.Common.{◌≡◌, ℕ, zero, suc, ◌+◌, ◌<◌, ◌≤◌, Bool, true, false, cond, not, ◌&&◌, ◌==◌, nat_lt, List, [], ◌∷◌, ◌++◌, length, take, drop, Option, Some, None, ℤ, pos, ◌+ℤ◌, ◌*ℤ◌, refl, sym, ◌∙◌, ap, inl, inr, ◌⊎◌, lt-ltb, le-ltb, true≢false, length-append, arith}
+use Rattle.std.proofs.Common.{◌≡◌, ℕ, ◌+◌, ◌<◌, ◌≤◌, Bool, true, false, cond, not, nat_lt, List, [], ◌∷◌, ◌++◌, length, take, drop, Option, Some, None, ℤ, pos, ◌+ℤ◌, ◌*ℤ◌, refl, ap, inl, inr, ◌⊎◌, lt-ltb, le-ltb, length-append, arith}
 use Rattle.std.proofs.lemmas.Int.{ints}
 use Rattle.std.proofs.lemmas.Bool.{cases_lt}
-use Rattle.qm_laws.specs.Counts.{count, count_below}
+use Rattle.qm_laws.specs.Counts.{count_below}
 use Rattle.def_flow.specs.Units.{is_active}
 use Rattle.def_flow.specs.MatchingGraph.{link, to_copies, inner_link, are_alike, links_by}
 use Rattle.def_flow.specs.declared.net.End.{End}
@@ -10,7 +10,7 @@ use Rattle.def_flow.specs.declared.weighted.WEdge.{WEdge}
 use Rattle.qm_units.specs.Marks.{trues}
 use Rattle.qm_units.specs.Told.{width_by, state_told}
 use Rattle.qm_units.proofs.Pick.{picked, fan_length}
-use Rattle.qm_units.proofs.Unit.{alike_active, unlike_active, ends_active}
+use Rattle.qm_units.proofs.Unit.{alike_active, unlike_active}
 use Rattle.qm_units.proofs.Touch.{head_mark, pick_split, pick_last, fan_pick}
 
 -- How many edges of the first end, and of the second, are marked, and whether the inner one is.

@@ -1,14 +1,13 @@
 -- The matching law: an admissible list in the box tells a perfect matching.
-use Rattle.std.proofs.Common.{◌≡◌, ℕ, zero, suc, ◌+◌, ◌*◌, ◌%◌, ◌<◌, ◌≤◌, Bool, true, false, cond, ◌&&◌, ◌==◌, nat_le, nat_lt, IsTrue, List, [], ◌∷◌, ◌++◌, length, map, Option, Some, None, option_to_list, ℤ, pos, ◌+ℤ◌, ◌-ℤ◌, refl, sym, ◌∙◌, ap, ◌≢◌, ltb-true, eq-eqb, ne_eqb, inl, inr, ◌⊎◌, arith}
+use Rattle.std.proofs.Common.{◌≡◌, ℕ, zero, suc, ◌+◌, ◌%◌, ◌≤◌, Bool, true, cond, ◌&&◌, ◌==◌, nat_le, nat_lt, IsTrue, List, [], ◌∷◌, ◌++◌, length, map, Option, Some, None, option_to_list, pos, ◌-ℤ◌, refl, ◌∙◌, ◌≢◌, ltb-true, eq-eqb, ne_eqb, inl, inr, ◌⊎◌, arith}
 use Rattle.std.specs.List.{list_all}
 use Rattle.std.proofs.lemmas.List.{length-map}
 use Rattle.std.proofs.lemmas.Int.{ints}
 use Rattle.std.proofs.lemmas.Bool.{and_parts, cases_eq}
-use Rattle.qm_laws.specs.Counts.{count_below}
-use Rattle.def_flow.specs.Network.{Network, IsWithinBounds, is_bounded, ends}
+use Rattle.def_flow.specs.Network.{Network, IsWithinBounds, is_bounded}
 use Rattle.def_flow.specs.Admissible.{IsAdmissible, IsBalanced, deviation, entries}
 use Rattle.def_flow.specs.Matching.{IsGraph, IsPerfect, matching_cost}
-use Rattle.def_flow.specs.Units.{down, low, cap, units_from, units, states, states_at, active, rim_active, cost_on, on_cost}
+use Rattle.def_flow.specs.Units.{down, low, cap, units_from, units, states, states_at, active, rim_active, cost_on}
 use Rattle.def_flow.specs.MatchingGraph.{matching_graph}
 use Rattle.def_flow.specs.declared.net.Arc.{Arc}
 use Rattle.def_flow.specs.declared.net.End.{End}
@@ -17,7 +16,7 @@ use Rattle.qm_units.specs.Box.{IsInBox, lows, matching_told}
 use Rattle.qm_units.proofs.Unit.{AreNodes}
 use Rattle.qm_units.proofs.Units.{UnitsAt}
 use Rattle.qm_units.proofs.Whole.{StatesFit, states_perfect, states_cost, rim_parity}
-use Rattle.qm_units.proofs.Box.{own_box, box_length, states_count, same_active, deviations, deviation_list, box_cost}
+use Rattle.qm_units.proofs.Box.{own_box, box_length, states_count, same_active, deviation_list, box_cost}
 use Rattle.qm_units.proofs.Links.{graph_lawful}
 
 -- The ends of all arcs are at nodes.

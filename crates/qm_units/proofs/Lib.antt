@@ -1,3 +1,4 @@
+mod Examples
 pub mod Arcs
 pub mod Box
 pub mod Chain

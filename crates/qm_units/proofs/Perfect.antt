@@ -1,11 +1,11 @@
 -- In a perfect matching each own vertex of each unit has one mate.
-use Rattle.std.proofs.Common.{◌≡◌, ◌≢◌, ℕ, zero, suc, ◌+◌, ◌<◌, ◌≤◌, Bool, true, false, cond, not, ◌&&◌, ◌==◌, List, [], ◌∷◌, ◌++◌, length, drop, Option, Some, None, ℤ, pos, ◌+ℤ◌, ◌*ℤ◌, refl, sym, ◌∙◌, ap, subst, eq-eqb, ne_eqb, true≢false, append_assoc, arith}
+use Rattle.std.proofs.Common.{◌≡◌, ◌≢◌, ℕ, ◌+◌, ◌<◌, ◌≤◌, Bool, true, false, cond, ◌==◌, List, [], ◌∷◌, ◌++◌, length, drop, Option, Some, None, ℤ, pos, ◌+ℤ◌, ◌*ℤ◌, refl, sym, ◌∙◌, ap, subst, eq-eqb, ne_eqb, append_assoc, arith}
 use Rattle.std.proofs.lemmas.Int.{ints}
 use Rattle.std.proofs.Math.IntN.{*ℤ-zero}
 use Rattle.qm_laws.specs.Sums.{total_below}
 use Rattle.qm_laws.specs.Counts.{count, count_below}
 use Rattle.qm_laws.proofs.Sums.{total_below_one}
-use Rattle.def_flow.specs.MatchingGraph.{link, to_copies, inner_link, are_alike, links_by, size_by, unit_links, unit_size, units_links, with_rim, rim, link_from, rim_links}
+use Rattle.def_flow.specs.MatchingGraph.{to_copies, inner_link, are_alike, links_by, size_by, unit_links, unit_size, units_links, with_rim, rim, link_from, rim_links}
 use Rattle.def_flow.specs.declared.net.End.{End}
 use Rattle.def_flow.specs.declared.units.ArcUnit.{ArcUnit}
 use Rattle.def_flow.specs.declared.weighted.WEdge.{WEdge}
@@ -15,7 +15,7 @@ use Rattle.qm_units.proofs.Chain.{at_ends}
 use Rattle.qm_units.proofs.Unit.{AreNodes}
 use Rattle.qm_units.proofs.Units.{UnitsAt}
 use Rattle.qm_units.proofs.Links.{copies_below, AreBelow, IsPast}
-use Rattle.qm_units.proofs.Touch.{head_mark, pick_split, AreZero, zero_append, picked_zero, fan_zero}
+use Rattle.qm_units.proofs.Touch.{pick_split, AreZero, zero_append, picked_zero, fan_zero}
 use Rattle.qm_units.proofs.Facts.{left_marks, right_marks, lone_inner, alike_inner, IsWorth, lone_pick, alike_pick, unlike_pick, links_width, IsPairOk, IsUnitOk}
 
 -- All units' own vertices have one mate.

@@ -1,5 +1,5 @@
 -- Sums over what is marked.
-use Rattle.std.proofs.Common.{◌≡◌, ℕ, zero, suc, ◌+◌, ◌<◌, ◌≤◌, Bool, true, false, cond, not, List, [], ◌∷◌, ◌++◌, length, map, get_or, ℤ, pos, ◌+ℤ◌, refl, sym, ◌∙◌, ap, true≢false, add-zero, arith}
+use Rattle.std.proofs.Common.{◌≡◌, ℕ, zero, suc, ◌+◌, ◌<◌, ◌≤◌, Bool, true, false, cond, List, [], ◌∷◌, ◌++◌, length, map, get_or, ℤ, pos, ◌+ℤ◌, refl, ◌∙◌, ap, add-zero, arith}
 use Rattle.std.proofs.lemmas.Int.{ints}
 use Rattle.qm_laws.specs.Sums.{total}
 use Rattle.def_flow.specs.Matching.{IsRising}
@@ -27,10 +27,6 @@ pick_append f [] ns [] ys e = omega (arith, ints)
 pick_append f [] ns (x ∷ xs) ys e = absurd (omega arith)
 pick_append f (m ∷ ms) ns [] ys e = absurd (omega arith)
 pick_append f (m ∷ ms) ns (x ∷ xs) ys e = let l : length ms ≡ length xs = omega arith in omega (arith, ints, pick_append f ms ns xs ys l)
-
--- One edge.
-pub pick_one : {X : Type 0} (f : X → ℤ) (m : Bool) (x : X) → picked f (m ∷ []) (x ∷ []) ≡ cond m (f x) (pos 0)
-pick_one f m x = omega (arith, ints)
 
 pub choice_length : (some : Bool) (i n : ℕ) → length (choice some i n) ≡ n
 choice_length some i zero = refl

@@ -1,29 +1,29 @@
 -- A perfect matching tells states of the units that fill the copies, at its own cost.
-use Rattle.std.proofs.Common.{◌≡◌, ◌≢◌, ℕ, zero, suc, ◌+◌, ◌*◌, ◌<◌, ◌≤◌, min, Bool, true, false, cond, not, ◌&&◌, ◌==◌, nat_lt, List, [], ◌∷◌, ◌++◌, length, map, take, drop, Option, Some, None, ℤ, pos, ◌+ℤ◌, ◌-ℤ◌, ◌*ℤ◌, refl, sym, ◌∙◌, ap, subst, inl, inr, ◌⊎◌, zero-add, eq-eqb, eqb-true, ne_eqb, lt-ltb, le-ltb, true≢false, arith}
+use Rattle.std.proofs.Common.{◌≡◌, ◌≢◌, ℕ, zero, suc, ◌+◌, ◌<◌, ◌≤◌, min, Bool, true, false, cond, not, ◌&&◌, ◌==◌, nat_lt, List, [], ◌∷◌, ◌++◌, length, map, drop, Option, Some, None, ℤ, pos, ◌+ℤ◌, ◌-ℤ◌, ◌*ℤ◌, refl, sym, ◌∙◌, ap, subst, inl, inr, ◌⊎◌, zero-add, eq-eqb, ne_eqb, lt-ltb, le-ltb, true≢false, arith}
 use Rattle.std.proofs.lemmas.Int.{ints}
 use Rattle.std.proofs.lemmas.Bool.{cases_eq, cases_lt}
 use Rattle.std.proofs.Math.IntN.{*ℤ-zero}
 use Rattle.qm_laws.specs.Sums.{total, total_below}
 use Rattle.qm_laws.specs.Counts.{count, count_below}
-use Rattle.qm_laws.proofs.Sums.{total_below_same, total_below_minus}
+use Rattle.qm_laws.proofs.Sums.{total_below_minus}
 use Rattle.qm_laws.proofs.Ends.{ends_once}
-use Rattle.def_flow.specs.Matching.{Graph, IsGraph, IsPerfect, IsRising, edge_at, matching_cost}
-use Rattle.def_flow.specs.Units.{is_active, active, active_at, cost_on}
-use Rattle.def_flow.specs.MatchingGraph.{link, to_copies, inner_link, are_alike, links_by, size_by, unit_links, unit_size, units_links, rim, rim_links, first_fresh, lone_vertex, graph_by}
+use Rattle.def_flow.specs.Matching.{IsPerfect, IsRising, edge_at, matching_cost}
+use Rattle.def_flow.specs.Units.{active, cost_on}
+use Rattle.def_flow.specs.MatchingGraph.{to_copies, inner_link, are_alike, links_by, unit_links, unit_size, units_links, rim, rim_links, first_fresh, lone_vertex, graph_by}
 use Rattle.def_flow.specs.declared.net.End.{End}
 use Rattle.def_flow.specs.declared.units.ArcUnit.{ArcUnit}
 use Rattle.def_flow.specs.declared.weighted.WEdge.{WEdge}
 use Rattle.qm_dual.proofs.Weak.{chosen_below}
-use Rattle.qm_units.specs.Marks.{trues, keep, chosen, places}
+use Rattle.qm_units.specs.Marks.{keep, chosen, places}
 use Rattle.qm_units.specs.Told.{past, marks_from, width_by, state_told, states_told}
 use Rattle.qm_units.proofs.Pick.{picked, picked_chosen, at_places}
-use Rattle.qm_units.proofs.Chain.{at_ends, pairs, picked_free, rim_free}
-use Rattle.qm_units.proofs.Unit.{AreNodes, ends_active}
+use Rattle.qm_units.proofs.Chain.{at_ends, picked_free, rim_free}
+use Rattle.qm_units.proofs.Unit.{ends_active}
 use Rattle.qm_units.proofs.Units.{UnitsAt}
 use Rattle.qm_units.proofs.Links.{copies_below, IsPast, graph_lawful}
-use Rattle.qm_units.proofs.Touch.{pick_split, picked_zero, AreZero}
-use Rattle.qm_units.proofs.Facts.{IsWorth, left_marks, right_marks, lone_inner, alike_inner, lone_pick, alike_pick, unlike_pick, links_width, IsPairOk, IsUnitOk, told, lone_told, alike_told, unlike_told}
-use Rattle.qm_units.proofs.Perfect.{UnitsOk, HasRim, RestZero, IsFull, AreNil, nil_rim, rim_zero, units_ok}
+use Rattle.qm_units.proofs.Touch.{pick_split, picked_zero}
+use Rattle.qm_units.proofs.Facts.{IsWorth, left_marks, right_marks, lone_inner, alike_inner, lone_pick, alike_pick, unlike_pick, links_width, IsUnitOk, told, lone_told, alike_told, unlike_told}
+use Rattle.qm_units.proofs.Perfect.{UnitsOk, RestZero, nil_rim, rim_zero, units_ok}
 
 marks_length : (k n : ℕ) (m : List ℕ) → length (marks_from k n m) ≡ n
 marks_length k zero m = refl

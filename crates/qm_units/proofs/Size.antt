@@ -1,5 +1,5 @@
 -- The matching graph has at most 9/16 of the tangle number of vertices, and at most 9/8 of it of edges.
-use Rattle.std.proofs.Common.{◌≡◌, ◌≢◌, ℕ, zero, suc, ◌+◌, ◌-◌, ◌*◌, ◌%◌, ◌/◌, ◌<◌, ◌≤◌, min, Bool, true, false, cond, not, ◌&&◌, ◌==◌, List, [], ◌∷◌, ◌++◌, length, map, Option, Some, None, option_to_list, ℤ, pos, ◌≤ℤ◌, refl, sym, ◌∙◌, ap, inl, inr, ◌⊎◌, add-mul, mul-add, mul_comm, mul_left_comm, zero-mul, zero-add, mul-le-mul_left, mul-le-mul_right, length-append, eq-eqb, ne_eqb, arith}
+use Rattle.std.proofs.Common.{◌≡◌, ◌≢◌, ℕ, zero, suc, ◌+◌, ◌-◌, ◌*◌, ◌%◌, ◌<◌, ◌≤◌, Bool, true, false, cond, ◌&&◌, ◌==◌, List, [], ◌∷◌, ◌++◌, length, map, Option, Some, None, option_to_list, pos, ◌≤ℤ◌, refl, sym, ◌∙◌, ap, inl, inr, ◌⊎◌, add-mul, mul-add, mul_comm, mul_left_comm, zero-mul, mul-le-mul_left, mul-le-mul_right, length-append, eq-eqb, ne_eqb, arith}
 use Rattle.std.proofs.lemmas.Int.{ints}
 use Rattle.std.proofs.lemmas.Bool.{cases_eq}
 use Rattle.qm_laws.specs.Counts.{count, count_below}
@@ -7,7 +7,7 @@ use Rattle.qm_laws.proofs.Counts.{count_append, count_sum, count_below_sum, coun
 use Rattle.def_flow.specs.Network.{Network, IsWithinBounds, ends, degree, tangle_number}
 use Rattle.def_flow.specs.Admissible.{IsAdmissible, entries}
 use Rattle.def_flow.specs.Units.{down, cap, units_from, units, states_at, is_active, active, alone_active, rim_active}
-use Rattle.def_flow.specs.MatchingGraph.{link, link_from, rim_links, with_rim, rim, size_by, unit_size, are_alike, links_by, unit_links, units_links, first_fresh, lone_vertex, graph_by, matching_graph}
+use Rattle.def_flow.specs.MatchingGraph.{link, link_from, rim_links, with_rim, rim, size_by, unit_size, are_alike, unit_links, units_links, first_fresh, lone_vertex, matching_graph}
 use Rattle.def_flow.specs.declared.net.Arc.{Arc}
 use Rattle.def_flow.specs.declared.net.End.{End}
 use Rattle.def_flow.specs.declared.units.ArcUnit.{ArcUnit}

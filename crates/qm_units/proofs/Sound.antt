@@ -1,15 +1,14 @@
 -- Soundness: the list of an accepted certificate is least.
-use Rattle.std.proofs.Common.{◌≡◌, ℕ, zero, suc, ◌+◌, ◌-◌, ◌*◌, ◌/◌, ◌<◌, ◌≤◌, min, true, false, List, [], ◌∷◌, length, map, get_or, ℤ, pos, negsuc, ◌+ℤ◌, ◌-ℤ◌, ◌*ℤ◌, ◌≤ℤ◌, unsigned_abs, refl, sym, ◌∙◌, ap, inl, inr, ◌⊎◌, arith}
+use Rattle.std.proofs.Common.{◌≡◌, ℕ, zero, suc, ◌+◌, ◌-◌, ◌*◌, ◌/◌, ◌<◌, ◌≤◌, min, true, false, List, [], ◌∷◌, length, map, ℤ, pos, ◌-ℤ◌, ◌*ℤ◌, ◌≤ℤ◌, unsigned_abs, sym, ◌∙◌, ap, inl, inr, ◌⊎◌, arith}
 use Rattle.std.proofs.lemmas.Int.{ints}
 use Rattle.std.proofs.lemmas.Bool.{cases_lt}
-use Rattle.qm_laws.specs.Counts.{count_below}
 use Rattle.qm_laws.proofs.Counts.{count_below_same}
 use Rattle.def_flow.specs.Network.{Network, IsWithinBounds, arc_at}
-use Rattle.def_flow.specs.Admissible.{IsAdmissible, IsBalanced, IsLeast, arc_deviation, deviation, entries}
+use Rattle.def_flow.specs.Admissible.{IsAdmissible, IsLeast, arc_deviation, deviation, entries}
 use Rattle.def_flow.specs.Matching.{IsPerfect, matching_cost}
 use Rattle.def_flow.specs.Units.{down, low, cap, on_cost}
 use Rattle.def_flow.specs.MatchingGraph.{matching_graph}
-use Rattle.def_flow.specs.Dual.{SaysYes, dual_sum}
+use Rattle.def_flow.specs.Dual.{dual_sum}
 use Rattle.def_flow.specs.Accepted.{Certificate, IsAccepted}
 use Rattle.qm_lift.proofs.Balance.{same_sides}
 use Rattle.qm_lift.proofs.Lift.{lift_law}

@@ -1,7 +1,6 @@
 -- What any marks pick: of two lists in a row, of one edge, of a fan.
-use Rattle.std.proofs.Common.{◌≡◌, ℕ, zero, suc, ◌+◌, ◌<◌, ◌≤◌, Bool, true, false, cond, List, [], ◌∷◌, ◌++◌, length, take, drop, ℤ, pos, ◌+ℤ◌, ◌*ℤ◌, refl, sym, ◌∙◌, ap, add-zero, arith}
+use Rattle.std.proofs.Common.{◌≡◌, ℕ, zero, suc, ◌+◌, ◌<◌, Bool, true, false, cond, List, [], ◌∷◌, ◌++◌, length, take, drop, ℤ, pos, ◌+ℤ◌, ◌*ℤ◌, refl, sym, ◌∙◌, ap, add-zero, arith}
 use Rattle.std.proofs.lemmas.Int.{ints}
-use Rattle.qm_laws.specs.Counts.{count, count_below}
 use Rattle.qm_laws.proofs.Ends.{plus_times}
 use Rattle.def_flow.specs.MatchingGraph.{link, fan}
 use Rattle.def_flow.specs.declared.weighted.WEdge.{WEdge}

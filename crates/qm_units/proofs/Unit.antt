@@ -1,16 +1,15 @@
 -- What is picked at a unit: the edges of its own vertices, and copies that it takes.
-use Rattle.std.proofs.Common.{◌≡◌, ◌≢◌, ℕ, zero, suc, ◌+◌, ◌<◌, ◌≤◌, Bool, true, false, cond, not, ◌&&◌, ◌==◌, List, [], ◌∷◌, ◌++◌, length, Option, Some, None, option_to_list, ℤ, pos, ◌+ℤ◌, ◌-ℤ◌, refl, sym, ◌∙◌, ap, true≢false, eq-eqb, ne_eqb, length-append, arith}
+use Rattle.std.proofs.Common.{◌≡◌, ℕ, ◌+◌, ◌<◌, ◌≤◌, Bool, true, false, cond, not, ◌&&◌, ◌==◌, [], ◌∷◌, ◌++◌, length, Option, Some, None, option_to_list, ℤ, pos, ◌+ℤ◌, refl, sym, ◌∙◌, ap, true≢false, eq-eqb, ne_eqb, length-append, arith}
 use Rattle.std.proofs.lemmas.Int.{ints}
-use Rattle.qm_laws.specs.Sums.{total, total_below, span}
+use Rattle.qm_laws.specs.Sums.{total_below, span}
 use Rattle.qm_laws.specs.Counts.{count, count_below}
-use Rattle.qm_laws.proofs.Sums.{total_below_same, total_below_sum, total_below_none, total_below_one, span_sum}
-use Rattle.def_flow.specs.Units.{is_active, active, active_at}
-use Rattle.def_flow.specs.MatchingGraph.{link, to_copies, inner_link, are_alike, links_by, unit_links}
+use Rattle.qm_laws.proofs.Sums.{total_below_same, total_below_sum, total_below_one, span_sum}
+use Rattle.def_flow.specs.Units.{is_active}
+use Rattle.def_flow.specs.MatchingGraph.{link, to_copies, inner_link, are_alike, links_by}
 use Rattle.def_flow.specs.declared.net.End.{End}
-use Rattle.def_flow.specs.declared.units.ArcUnit.{ArcUnit}
 use Rattle.def_flow.specs.declared.weighted.WEdge.{WEdge}
 use Rattle.qm_units.specs.Marks.{take_end, end_marks, marks_by}
-use Rattle.qm_units.proofs.Pick.{picked, pick_append, pick_one, pick_end, end_length}
+use Rattle.qm_units.proofs.Pick.{picked, pick_append, pick_end, end_length}
 use Rattle.qm_units.proofs.Chain.{at_ends}
 
 -- What the copies in use weigh.

@@ -1,11 +1,11 @@
 -- What is picked at all units.
-use Rattle.std.proofs.Common.{◌≡◌, ℕ, zero, suc, ◌+◌, ◌%◌, ◌<◌, ◌≤◌, Bool, true, false, cond, not, ◌&&◌, ◌==◌, List, [], ◌∷◌, ◌++◌, length, Option, Some, None, ℤ, pos, ◌+ℤ◌, refl, sym, ◌∙◌, ap, length-append, arith}
+use Rattle.std.proofs.Common.{◌≡◌, ℕ, ◌+◌, ◌≤◌, Bool, true, false, cond, List, [], ◌∷◌, length, Option, Some, None, ℤ, pos, ◌+ℤ◌, refl, length-append, arith}
 use Rattle.std.proofs.lemmas.Int.{ints}
-use Rattle.qm_laws.specs.Sums.{total_below, span}
-use Rattle.qm_laws.specs.Counts.{count, count_below}
+use Rattle.qm_laws.specs.Sums.{span}
+use Rattle.qm_laws.specs.Counts.{count}
 use Rattle.qm_laws.proofs.Sums.{span_sum}
 use Rattle.def_flow.specs.Units.{is_active, active, active_at, alone_active, rim_active, cost_on}
-use Rattle.def_flow.specs.MatchingGraph.{are_alike, links_by, size_by, unit_size, unit_links, units_links, with_rim, rim}
+use Rattle.def_flow.specs.MatchingGraph.{are_alike, size_by, unit_size, unit_links, units_links, with_rim, rim}
 use Rattle.def_flow.specs.declared.net.End.{End}
 use Rattle.def_flow.specs.declared.units.ArcUnit.{ArcUnit}
 use Rattle.def_flow.specs.declared.weighted.WEdge.{WEdge}

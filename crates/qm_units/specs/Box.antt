@@ -1,7 +1,7 @@
 -- Lists in the box of a list: each entry a whole number of steps above its low.
 use Rattle.std.specs.Prelude.{◌≡◌, ℕ, ◌+◌, ◌*◌, ◌%◌, ◌≤◌, ◌==◌, List, [], ◌∷◌, map}
 use Rattle.def_flow.specs.Network.{Network}
-use Rattle.def_flow.specs.Units.{low, cap, down, units, states, states_at, active, rim_active}
+use Rattle.def_flow.specs.Units.{low, cap, units, states, states_at, active, rim_active}
 use Rattle.qm_units.specs.Marks.{places, states_marks}
 
 -- The list ys is in the box of xs: each entry is the low and j steps, with j at most the number of units.

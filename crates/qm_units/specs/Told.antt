@@ -1,5 +1,5 @@
 -- The list of lengths that a perfect matching tells.
-use Rattle.std.specs.Prelude.{ℕ, zero, suc, ◌+◌, ◌*◌, ◌<◌, Bool, true, false, cond, not, ◌==◌, nat_lt, List, [], ◌∷◌, length, take, drop, Option, Some, None}
+use Rattle.std.specs.Prelude.{ℕ, zero, suc, ◌+◌, ◌*◌, Bool, true, false, cond, not, ◌==◌, nat_lt, List, [], ◌∷◌, length, take, drop, Option, Some, None}
 use Rattle.def_flow.specs.Network.{Network}
 use Rattle.def_flow.specs.Units.{low, cap, units, states_at, active}
 use Rattle.def_flow.specs.MatchingGraph.{are_alike, matching_graph}

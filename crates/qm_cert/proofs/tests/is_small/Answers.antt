@@ -1,6 +1,6 @@
 use Rattle.std.proofs.Common.{◌≤◌, leb-true, arith}
 use Rattle.def_flow.specs.Network.{network}
-use Rattle.qm_cert.proofs.SmallNets.{small_tangle}
+use Rattle.qm_net.proofs.SmallNets.{small_tangle}
 use Rattle.qm_cert.proofs.tests.is_small.Goals as goal
 
 pub returns-then-net-le32 : goal.returns-then-net-le32

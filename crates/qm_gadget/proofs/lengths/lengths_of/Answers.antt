@@ -1,4 +1,4 @@
-use Rattle.std.proofs.Common.{◌≡◌, ℕ, ◌≤◌, ◌-ℤ◌, ◌≤ℤ◌, pos, length, Vec, Global, sym, ◌∙◌, ap, arith}
+use Rattle.std.proofs.Common.{ℕ, Vec, Global, arith}
 use Rattle.std.proofs.lemmas.Result.{IfOk-weaker}
 use Rattle.def_flow.specs.Network.{network}
 use Rattle.qm_gadget.proofs.Told.{gadget_ready, gadget_edges, gadget_wide, gadget_lengths}

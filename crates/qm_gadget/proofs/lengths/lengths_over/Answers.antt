@@ -1,12 +1,10 @@
-use Rattle.std.proofs.Common.{◌≡◌, ℕ, ◌+◌, ◌≤◌, length, slice_index, sym, ◌∙◌, ap, arith}
-use Rattle.qm_laws.specs.Counts.{count}
+use Rattle.std.proofs.Common.{◌≡◌, ◌∙◌, ap}
 use Rattle.def_flow.specs.Network.{network}
 use Rattle.def_flow.specs.Units.{active}
 use Rattle.qm_units.specs.Told.{marks_from, states_told}
 use Rattle.qm_gadget.specs.Layout.{room_of}
 use Rattle.qm_gadget.specs.Over.{units_over}
 use Rattle.qm_gadget.specs.Ready.{own_states}
-use Rattle.qm_gadget.specs.Read.{width_of_unit, lengths_by}
 use Rattle.qm_gadget.proofs.OfList.{plan_rooms}
 use Rattle.qm_gadget.proofs.Steps.{plan_few}
 use Rattle.qm_gadget.proofs.lengths.lengths_over.Goals as goal
@@ -21,8 +19,8 @@ states_in-requires-clause-wide c =
 pub returns : goal.returns
 returns c =
     let ons : c.deref-3.result.now ≡ states_told (λ v. active v (units_over (network c.args.net.now) c.args.step c.args.net.now.arcs.items c.args.lows.now c.args.caps.now) (own_states c.args.caps.now)) (units_over (network c.args.net.now) c.args.step c.args.net.now.arcs.items c.args.lows.now c.args.caps.now) (marks_from 0 c.args.edges c.args.m.now) =
-        c.deref-3.ensures.value ∙ (c.in_ok-ons.ensures
-        ∙ (ap (λ rooms. states_told (room_of rooms) c.deref-2.result.now (marks_from 0 c.args.edges c.args.m.now)) c.deref.ensures.value
-        ∙ (ap (λ us. states_told (room_of c.in_ok-plan.plan.rooms.items) us (marks_from 0 c.args.edges c.args.m.now)) (c.deref-2.ensures.value ∙ c.in_ok-plan.ensures.units)
-        ∙ ap (λ f. states_told f (units_over (network c.args.net.now) c.args.step c.args.net.now.arcs.items c.args.lows.now c.args.caps.now) (marks_from 0 c.args.edges c.args.m.now)) (plan_rooms (network c.args.net.now) c.args.step c.args.lows.now c.args.caps.now c.in_ok-plan.plan c.requires.ready c.in_ok-plan.ensures)))) in
+    c.deref-3.ensures.value ∙ (c.in_ok-ons.ensures
+    ∙ (ap (λ rooms. states_told (room_of rooms) c.deref-2.result.now (marks_from 0 c.args.edges c.args.m.now)) c.deref.ensures.value
+    ∙ (ap (λ us. states_told (room_of c.in_ok-plan.plan.rooms.items) us (marks_from 0 c.args.edges c.args.m.now)) (c.deref-2.ensures.value ∙ c.in_ok-plan.ensures.units)
+    ∙ ap (λ f. states_told f (units_over (network c.args.net.now) c.args.step c.args.net.now.arcs.items c.args.lows.now c.args.caps.now) (marks_from 0 c.args.edges c.args.m.now)) (plan_rooms (network c.args.net.now) c.args.step c.args.lows.now c.args.caps.now c.in_ok-plan.plan c.requires.ready c.in_ok-plan.ensures)))) in
     rw (← ons) c.raised.ensures

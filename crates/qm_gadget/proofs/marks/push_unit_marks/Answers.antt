@@ -1,4 +1,4 @@
-use Rattle.std.proofs.Common.{◌≡◌, ◌+◌, ◌++◌, [], ◌∷◌, ◌<◌, not, None, Some, length, slice_index, sym, ◌∙◌, ap, arith}
+use Rattle.std.proofs.Common.{◌≡◌, ◌+◌, ◌++◌, [], ◌∷◌, ◌<◌, not, length, slice_index, ◌∙◌, ap, arith}
 use Rattle.std.proofs.lemmas.Result.{on_ok_weaker}
 use Rattle.def_flow.specs.Units.{is_active}
 use Rattle.qm_units.specs.Marks.{places, take_end}
@@ -10,14 +10,14 @@ use Rattle.qm_gadget.proofs.marks.push_unit_marks.Goals as goal
 pub returns-in-None-clause-marks : goal.returns-in-None-clause-marks
 returns-in-None-clause-marks c = on_ok_weaker c.push_mark.result
     (λ pushed. rw c.in-None.is (unit_lone c.args.m.now.items c.push_end_marks.new.m.items c.push_mark.new.m.items c.args.k (room_of c.args.rooms.now) (room_of c.args.used.now) c.args.on c.args.unit.now.left
-      c.in_ok-push_end_marks.ensures
-      (pushed ∙ ap (λ b. c.push_end_marks.new.m.items ++ places (c.args.k + slice_index c.args.rooms.now c.args.unit.now.left.node) (not b ∷ [])) c.is_active.ensures)))
+    c.in_ok-push_end_marks.ensures
+    (pushed ∙ ap (λ b. c.push_end_marks.new.m.items ++ places (c.args.k + slice_index c.args.rooms.now c.args.unit.now.left.node) (not b ∷ [])) c.is_active.ensures)))
     c.push_mark.ensures
 
 pub returns-in_ok-push_right_marks-in-Some-clause-marks : goal.returns-in_ok-push_right_marks-in-Some-clause-marks
 returns-in_ok-push_right_marks-in-Some-clause-marks c =
     let at : c.args.unit.now.left.node < length c.args.used.now = omega (arith, left_at (length c.args.rooms.now) c.args.unit.now.left c.args.unit.now.right c.requires.at, c.requires.same) in
     let taken : slice_index c.bump.new.rooms c.in-Some.right.node ≡ take_end (room_of c.args.used.now) (is_active c.args.on c.args.unit.now.left) c.args.unit.now.left c.in-Some.right.node =
-        ap (λ rooms. slice_index rooms c.in-Some.right.node) c.bump.ensures ∙ bumped_read c.args.used.now c.args.unit.now.left c.args.on c.in-Some.right.node at in
+    ap (λ rooms. slice_index rooms c.in-Some.right.node) c.bump.ensures ∙ bumped_read c.args.used.now c.args.unit.now.left c.args.on c.in-Some.right.node at in
     rw c.in-Some.is (unit_two c.args.m.now.items c.push_end_marks.new.m.items c.push_right_marks.new.m.items c.args.k (room_of c.args.rooms.now) (room_of c.args.used.now) (room_of c.bump.new.rooms) c.args.on c.args.unit.now.left c.in-Some.right
-      taken c.in_ok-push_end_marks.ensures c.in_ok-push_right_marks-in-Some.ensures)
+    taken c.in_ok-push_end_marks.ensures c.in_ok-push_right_marks-in-Some.ensures)

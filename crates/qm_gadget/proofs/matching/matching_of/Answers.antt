@@ -1,10 +1,6 @@
-use Rattle.std.proofs.Common.{◌≡◌, ℕ, ◌-ℤ◌, pos, Vec, Global}
+use Rattle.std.proofs.Common.{ℕ, Vec, Global}
 use Rattle.std.proofs.lemmas.Result.{IfOk-weaker}
 use Rattle.def_flow.specs.Network.{network}
-use Rattle.def_flow.specs.Matching.{graph, matching_cost, IsPerfect}
-use Rattle.def_flow.specs.Admissible.{deviation, entries}
-use Rattle.qm_units.specs.Marks.{places}
-use Rattle.qm_gadget.specs.Ready.{ups, marks_over}
 use Rattle.qm_gadget.proofs.Told.{gadget_ready, gadget_ups, gadget_short, gadget_matching}
 use Rattle.qm_gadget.proofs.matching.matching_of.Goals as goal
 

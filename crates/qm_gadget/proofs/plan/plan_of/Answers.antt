@@ -1,7 +1,6 @@
-use Rattle.std.proofs.Common.{◌≡◌, ◌-◌, length, map, ◌∙◌, sym, ap, arith}
+use Rattle.std.proofs.Common.{◌≡◌, ◌-◌, length, ◌∙◌, sym, ap}
 use Rattle.std.proofs.lemmas.List.{length-map}
 use Rattle.def_flow.specs.Network.{network}
-use Rattle.qm_gadget.specs.Over.{units_over, states_over}
 use Rattle.qm_gadget.proofs.ByLows.{states_long}
 use Rattle.qm_gadget.proofs.plan.plan_of.Goals as goal
 

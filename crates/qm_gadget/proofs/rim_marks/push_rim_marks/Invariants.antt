@@ -1,4 +1,4 @@
-use Rattle.std.proofs.Common.{◌≡◌, ◌+◌, ◌-◌, ◌*◌, ◌≤◌, ◌++◌, length, drop}
+use Rattle.std.proofs.Common.{◌≡◌, ◌+◌, ◌*◌, ◌≤◌, ◌++◌, drop}
 use Rattle.qm_units.specs.Marks.{places}
 use Rattle.qm_gadget.specs.Marked.{rim_by}
 use Rattle.qm_gadget.proofs.rim_marks.push_rim_marks.Given as goal

@@ -1,6 +1,6 @@
-use Rattle.std.proofs.Common.{◌≡◌, ℕ, ◌+◌, ◌%◌, Bool, true, false, not, cond, None, pos, slice_index_or, drop, ap, ◌∙◌, arith}
+use Rattle.std.proofs.Common.{◌+◌, false, None, pos, drop, arith}
 use Rattle.def_flow.specs.declared.units.ArcUnit.{ArcUnit}
-use Rattle.def_flow.specs.Units.{alone_active, rim_active}
+use Rattle.def_flow.specs.Units.{rim_active}
 use Rattle.qm_gadget.proofs.Rooms.{rim_step, differ_parity}
 use Rattle.qm_gadget.proofs.states.is_rim_odd.Goals as goal
 

@@ -1,4 +1,4 @@
-use Rattle.std.proofs.Common.{◌≡◌, ◌++◌, take}
+use Rattle.std.proofs.Common.{◌≡◌, ◌++◌}
 use Rattle.def_flow.specs.Units.{run}
 use Rattle.qm_gadget.proofs.states.push_run.Given as goal
 

@@ -1,8 +1,8 @@
 -- A network of few nodes and arcs has a small tangle number.
-use Rattle.std.proofs.Common.{◌≡◌, ℕ, zero, suc, ◌+◌, ◌*◌, ◌^◌, ◌≤◌, ◌==◌, Bool, true, false, cond, List, [], ◌∷◌, length, Option, Some, None, option_to_list, refl, ◌∙◌, ap, mul-le-mul, mul-le-mul_right, arith}
+use Rattle.std.proofs.Common.{◌≡◌, ℕ, ◌*◌, ◌^◌, ◌≤◌, ◌==◌, Bool, true, false, cond, List, [], ◌∷◌, length, Option, Some, None, option_to_list, ◌∙◌, ap, mul-le-mul, arith}
 use Rattle.qm_laws.specs.Counts.{count, count_below}
-use Rattle.qm_laws.proofs.Counts.{count_below_le, count_below_times}
-use Rattle.def_flow.specs.Network.{Network, degree, ends, tangle_number}
+use Rattle.qm_laws.proofs.Counts.{count_below_le, count_below_ones, count_below_times}
+use Rattle.def_flow.specs.Network.{Network, degree, tangle_number}
 use Rattle.def_flow.specs.declared.net.Arc.{Arc}
 use Rattle.def_flow.specs.declared.net.End.{End}
 
@@ -30,9 +30,5 @@ small_tangle net nodes arcs = omega (arith, nodes, each, whole)
     each : tangle_number net ≤ count_below (λ v. 65536 * 1) net.nodes
     each = count_below_le _ (λ v. 65536 * 1) net.nodes (λ v l. (let few : degree net.arcs v ≤ 64 = omega (arith, degree_few v net.arcs, arcs) in let h : degree net.arcs v * degree net.arcs v ≤ 64 * 64 = mul-le-mul few few in omega (arith, h)))
 
-    ones : (n : ℕ) → count_below (λ v. 1) n ≡ n
-    ones zero = refl
-    ones (suc n) = omega (arith, ones n)
-
     whole : count_below (λ v. 65536 * 1) net.nodes ≡ 65536 * net.nodes
-    whole = count_below_times 65536 (λ v. 1) net.nodes ∙ ap (λ n. 65536 * n) (ones net.nodes)
+    whole = count_below_times 65536 (λ v. 1) net.nodes ∙ ap (λ n. 65536 * n) (count_below_ones net.nodes)

@@ -1,0 +1,9 @@
+use Rattle.std.proofs.Common.{◌≡◌, ◌*◌, ◌^◌, ◌≤◌, slice_index}
+use Rattle.qm_laws.specs.Counts.{count_below}
+use Rattle.qm_net.proofs.tangle.sum_of_squares.Given as goal
+
+abbrev pub invariant-loop-degree : goal.invariant-loop-degree
+invariant-loop-degree l = record {
+  value : l.total ≡ count_below (λ v. 16 * (slice_index l.degrees v * slice_index l.degrees v)) l.degree-index;
+  small : l.total ≤ l.degree-index * 2 ^ 72;
+}
