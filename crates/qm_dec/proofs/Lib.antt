@@ -6,3 +6,4 @@ pub mod Trims
 pub mod Texts
 pub mod Ratios
 pub mod ReadBack
+pub mod FewDigits

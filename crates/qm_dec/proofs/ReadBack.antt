@@ -95,18 +95,18 @@ unmarked word body is none = (
 
 -- the parts that a decimal's value is made of
 pub record HasParts (word digits fraction : List ℕ) : Type 0 where
-  all : all_digits word ≡ digits
-  behind : fraction_digits word ≡ fraction
-  no_power : exponent word ≡ []
+  pub all : all_digits word ≡ digits
+  pub behind : fraction_digits word ≡ fraction
+  pub no_power : exponent word ≡ []
 
-plain_parts : (word ds : List ℕ) → unsigned word ≡ ds → list_all is_ascii_digit ds ≡ true → HasParts word (ds ++ []) []
+pub plain_parts : (word ds : List ℕ) → unsigned word ≡ ds → list_all is_ascii_digit ds ≡ true → HasParts word (ds ++ []) []
 plain_parts word ds is all =
     let m : (mantissa word ≡ ds) × (exponent word ≡ []) = unmarked word ds is (no_marks ds all) in
     let p : position_or_len is_point ds ≡ length ds = none_first is_point ds (no_points ds all) in
     let f : fraction_digits word ≡ [] = ap (after_first is_point) m.0 ∙ drop_all _ ds (omega (arith, p)) in
     record { all = ap (λ (xs : List ℕ). before_first is_point xs ++ fraction_digits word) m.0 ∙ ap (λ (xs : List ℕ). xs ++ fraction_digits word) (take_all _ ds (omega (arith, p))) ∙ ap (λ (xs : List ℕ). ds ++ xs) f; behind = f; no_power = m.1 }
 
-pointed_parts : (word ds ys : List ℕ) → unsigned word ≡ ds ++ 46 ∷ ys → list_all is_ascii_digit ds ≡ true → list_all is_ascii_digit ys ≡ true → HasParts word (ds ++ ys) ys
+pub pointed_parts : (word ds ys : List ℕ) → unsigned word ≡ ds ++ 46 ∷ ys → list_all is_ascii_digit ds ≡ true → list_all is_ascii_digit ys ≡ true → HasParts word (ds ++ ys) ys
 pointed_parts word ds ys is all rest =
     let m : (mantissa word ≡ ds ++ 46 ∷ ys) × (exponent word ≡ []) = unmarked word (ds ++ 46 ∷ ys) is (list_all-append (λ x. not (is_mark x)) ds (46 ∷ ys) ∙ and_from _ _ (no_marks ds all) (no_marks ys rest)) in
     let p : position_or_len is_point (ds ++ 46 ∷ ys) ≡ length ds = first_at is_point ds 46 ys (no_points ds all) refl in
@@ -115,7 +115,7 @@ pointed_parts word ds ys is all rest =
     record { all = ap (λ (xs : List ℕ). xs ++ fraction_digits word) b ∙ ap (λ (xs : List ℕ). ds ++ xs) f; behind = f; no_power = m.1 }
 
 -- the value of such a word
-parts_size : (word digits fraction : List ℕ) → HasParts word digits fraction → length fraction ≤ 6 → rounded_size word ≡ number digits * 10 ^ (6 - length fraction)
+pub parts_size : (word digits fraction : List ℕ) → HasParts word digits fraction → length fraction ≤ 6 → rounded_size word ≡ number digits * 10 ^ (6 - length fraction)
 parts_size word digits fraction h short =
     let e : (power (exponent word) +ℤ pos 6) -ℤ pos (length (fraction_digits word)) ≡ pos (6 - length fraction) =
     ap (λ (xs : List ℕ). (power xs +ℤ pos 6) -ℤ pos (length (fraction_digits word))) h.no_power ∙ ap (λ (fs : List ℕ). pos 6 -ℤ pos (length fs)) h.behind ∙ omega (arith, ints) in
@@ -132,7 +132,7 @@ joined_size ds ys q short e =
     distribute a b c d = omega (arith, mul_assoc a b d)
 
 -- digits are a number
-digits_number : (ds ys : List ℕ) → 0 < length ds → list_all is_ascii_digit ds ≡ true → list_all is_ascii_digit ys ≡ true → is_number (ds ++ ys) ≡ true
+pub digits_number : (ds ys : List ℕ) → 0 < length ds → list_all is_ascii_digit ds ≡ true → list_all is_ascii_digit ys ≡ true → is_number (ds ++ ys) ≡ true
 digits_number ds ys l a b = number_both ds ys (omega arith) ∙ and_from _ _ a b
 
 -- the word is a decimal of this size

@@ -5,6 +5,7 @@
 mod fail;
 mod law;
 mod parts;
+mod plain;
 mod ratio;
 mod read;
 mod size;

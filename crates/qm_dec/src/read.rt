@@ -1,13 +1,14 @@
 //! A decimal's word to its number of millionths.
-ghost use Rattle.std.specs.Prelude.{◌≡◌, ◌≤◌, ◌+◌, ◌++◌, pos, ◌+ℤ◌, ◌-ℤ◌, min, true, IsTrue, length, IfOk, IfErr};
+ghost use Rattle.std.specs.Prelude.{◌≡◌, ◌≤◌, ◌<◌, ◌+◌, ◌^◌, ◌++◌, neg_ℤ, if◌then◌else◌, pos, ◌+ℤ◌, ◌-ℤ◌, min, true, IsTrue, length, IfOk, IfErr};
 ghost use Rattle.def_text.specs.Decimal.{is_exponent, power, scaled};
-ghost use Rattle.def_text.specs.Digits.{is_number, number};
+ghost use Rattle.def_text.specs.Digits.{is_negative, is_number, number};
 ghost use Rattle.qm_dec.specs.Sizes.{IsDecFail, IsValue, capped};
 
 use crate::fail::DecFail;
 use crate::parts::{
     are_number, behind_first, is_exponent, is_negative, split_exponent, split_point, unsigned,
 };
+use crate::plain::plain_size;
 use crate::size::{FAR, number_after, size_of};
 use def_text::Micro;
 
@@ -19,6 +20,9 @@ pub fn read_micro(word: &[u8]) -> Result<Micro, DecFail>
     if word.len() > 64 {
         return Err(DecFail::Syntax);
     }
+    if let Some(size) = plain_size(word) {
+        return Ok(signed(word, size));
+    }
     let (mantissa, exponent) = split_exponent(unsigned(word));
     let (whole, fraction) = split_point(mantissa);
     if !are_number(whole, fraction) || !is_exponent(exponent) {
@@ -28,10 +32,18 @@ pub fn read_micro(word: &[u8]) -> Result<Micro, DecFail>
     if size >= FAR {
         return Err(DecFail::Range);
     }
+    Ok(signed(word, size))
+}
+
+/// The size with the sign of its word.
+fn signed(word: &[u8], size: u64) -> Micro
+    requires { size < 10 ^ 15 }
+    ensures { result ≡ (if is_negative word.now then neg_ℤ (pos size) else pos size) }
+{
     let n = size as i64;
-    Ok(Micro {
+    Micro {
         n: if is_negative(word) { -n } else { n },
-    })
+    }
 }
 
 fn size_in_millionths(whole: &[u8], fraction: &[u8], exponent: &[u8]) -> u64

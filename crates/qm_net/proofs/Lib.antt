@@ -1,4 +1,5 @@
+pub mod Balances
 mod Balances
 mod Ends
 pub mod SmallNets
-mod Within
+pub mod Within

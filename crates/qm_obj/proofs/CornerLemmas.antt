@@ -1,13 +1,14 @@
 -- Corners and the indices between their slashes.
-use Rattle.std.proofs.Common.{◌≡◌, ℕ, suc, ◌+◌, ◌-◌, ◌^◌, ◌<◌, ◌≤◌, min, Bool, true, false, cond, not, ◌&&◌, ◌||◌, List, [], ◌∷◌, length, take, drop, refl, sym, ap, ◌∙◌, arith, eqb, ltb, leb, inl, inr, ◌⊎◌}
+use Rattle.std.proofs.Common.{◌≡◌, ℕ, suc, ◌+◌, ◌-◌, ◌^◌, ◌<◌, ◌≤◌, min, Bool, true, false, cond, not, ◌&&◌, ◌||◌, List, [], ◌∷◌, length, take, drop, refl, sym, ap, ◌∙◌, arith, eqb, ltb, leb, Some, None, inl, inr, ◌⊎◌}
 use Rattle.std.specs.Char.{is_ascii_digit}
 use Rattle.std.specs.List.{before_first, list_all, list_any, onto_first, position_or_len, slice_split}
-use Rattle.std.proofs.lemmas.Bool.{and_left, and_right, lt-leb, eqb-true, or_cases, false≢true}
+use Rattle.std.proofs.lemmas.Bool.{and_left, and_parts, and_right, eqb-true, false≢true, leb-true, lt-leb, ne_eqb, or_cases, or_from, true≢false}
+use Rattle.std.proofs.lemmas.List.{take_all}
 use Rattle.std.proofs.lemmas.Bool.Decides.{nat_tests}
-use Rattle.def_text.specs.Corner.{are_indices, index_of, is_corner, is_optional, is_slash}
+use Rattle.def_text.specs.Corner.{are_indices, index_of, is_corner, is_optional, is_slash, used_index}
 use Rattle.def_text.specs.Digits.{is_negative, is_number, is_sign, is_signed, number, unsigned}
 use Rattle.def_text.specs.declared.index.Index.TheVariants.{Vertex, Out}
-use Rattle.qm_obj.specs.Indices.{named, parts_behind}
+use Rattle.qm_obj.specs.Indices.{capped, corner_of, named, parts_behind}
 
 -- A word is cut at its first slash.
 pub split_word : (word : List ℕ) → slice_split is_slash word ≡ before_first is_slash word ∷ parts_behind (drop (position_or_len is_slash word) word)
@@ -123,3 +124,52 @@ index_named all before word le small form = rw form (by_number (number (unsigned
         ≡ cond ((eqb n 0 || (t && ltb before n)) || ltb all (cond t (before + 1 - n) n)) Out (Vertex (cond t (before + 1 - n) n))
     by_number n true = grind (arith, nat_tests)
     by_number n false = grind (arith, nat_tests)
+
+-- Digits are an index of themselves, with no sign and no slash.
+pub digits_index : (b : ℕ) (bs : List ℕ) → list_all is_ascii_digit (b ∷ bs) ≡ true → (unsigned (b ∷ bs) ≡ b ∷ bs) × (is_negative (b ∷ bs) ≡ false)
+digits_index b bs all =
+    let both : (leb 48 b ≡ true) × (leb b 57 ≡ true) = and_parts _ _ (and_parts _ _ all).0 in
+    let high : 48 ≤ b = leb-true 48 b both.0 in
+    let plus : eqb b 43 ≡ false = ne_eqb _ _ (λ (e : b ≡ 43). omega arith) in
+    let minus : eqb b 45 ≡ false = ne_eqb _ _ (λ (e : b ≡ 45). omega arith) in
+    (rw (plus, minus) refl, minus)
+
+pub no_slash : (ds : List ℕ) → list_all is_ascii_digit ds ≡ true → list_any is_slash ds ≡ false
+no_slash [] all = refl
+no_slash (d ∷ ds) all =
+    let parts : (is_ascii_digit d ≡ true) × (list_all is_ascii_digit ds ≡ true) = and_parts _ _ all in
+    let high : 48 ≤ d = leb-true 48 d (and_parts _ _ parts.0).0 in
+    or_from _ _ (ne_eqb _ _ (λ (e : d ≡ 47). omega arith)) (no_slash ds parts.1)
+
+pub whole_word : (ds : List ℕ) → list_any is_slash ds ≡ false → used_index ds ≡ ds
+whole_word ds none = take_all _ _ (long ds none)
+  where
+    long : (ds : List ℕ) → list_any is_slash ds ≡ false → length ds ≤ position_or_len is_slash ds
+    long [] none = omega arith
+    long (d ∷ ds) none = by_slash (is_slash d) none (long ds)
+      where
+        by_slash : (t : Bool) → (t || list_any is_slash ds) ≡ false → (list_any is_slash ds ≡ false → length ds ≤ position_or_len is_slash ds) → suc (length ds) ≤ cond (not t) (1 + position_or_len is_slash ds) 0
+        by_slash true none again = cc
+        by_slash false none again = omega (arith, again none)
+
+-- A number alone is a corner.
+pub plain_corner : (before : ℕ) (word : List ℕ) (k corner : ℕ) → cond (is_number word) (Some (min (number word) (2 ^ 64 - 1))) None ≡ Some k → corner ≡ capped k
+    → Some corner ≡ cond (is_corner word) (Some (corner_of before word)) None
+plain_corner before [] k corner is caps = cc is
+plain_corner before (b ∷ bs) k corner is caps = by_form (is_number (b ∷ bs)) refl is
+  where
+    by_form : (t : Bool) → is_number (b ∷ bs) ≡ t → cond t (Some (min (number (b ∷ bs)) (2 ^ 64 - 1))) None ≡ Some k → Some corner ≡ cond (is_corner (b ∷ bs)) (Some (corner_of before (b ∷ bs))) None
+    by_form false form is = cc is
+    by_form true form is =
+        let value : min (number (b ∷ bs)) (2 ^ 64 - 1) ≡ k = cc is in
+        let index : (unsigned (b ∷ bs) ≡ b ∷ bs) × (is_negative (b ∷ bs) ≡ false) = digits_index b bs form in
+        let none : list_any is_slash (b ∷ bs) ≡ false = no_slash (b ∷ bs) form in
+        let used : used_index (b ∷ bs) ≡ b ∷ bs = whole_word (b ∷ bs) none in
+        let signed : is_signed (b ∷ bs) ≡ true = ap is_number index.0 ∙ form in
+        let shape : is_corner (b ∷ bs) ≡ true = ap are_indices (behind_none (b ∷ bs) none) ∙ rw signed refl in
+        let line : named before (b ∷ bs) ≡ k = named_digits (number (unsigned (b ∷ bs))) (is_negative (b ∷ bs)) index.1 ∙ ap (λ n. min n (2 ^ 64 - 1)) (ap number index.0) ∙ value in
+        rw shape (ap Some (caps ∙ ap capped (sym (ap (named before) used ∙ line))))
+      where
+        named_digits : (n : ℕ) (t : Bool) → t ≡ false → cond (eqb n 0 || (t && ltb before n)) 0 (min (cond t (before + 1 - n) n) (2 ^ 64 - 1)) ≡ min n (2 ^ 64 - 1)
+        named_digits n true off = absurd (true≢false off)
+        named_digits n false off = grind (arith, nat_tests)

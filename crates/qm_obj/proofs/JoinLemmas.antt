@@ -1,12 +1,14 @@
 -- Physical lines joined to logical lines.
-use Rattle.std.proofs.Common.{◌≡◌, ℕ, suc, ◌+◌, ◌-◌, ◌<◌, ◌≤◌, Bool, true, false, cond, not, ◌||◌, List, [], ◌∷◌, ◌++◌, length, take, drop, get_or, refl, sym, ap, ◌∙◌, arith, eqb}
+use Rattle.std.proofs.Common.{◌≡◌, ℕ, zero, suc, ◌+◌, ◌-◌, ◌<◌, ◌≤◌, Bool, true, false, cond, not, ◌||◌, List, [], ◌∷◌, ◌++◌, length, take, drop, get_or, refl, sym, ap, ◌∙◌, arith, subst, eqb}
 use Rattle.std.specs.List.{before_first, list_any, position_or_len}
 use Rattle.std.proofs.lemmas.Bool.Decides.{nat_tests}
 use Rattle.std.specs.Prelude.{slice_range}
-use Rattle.std.proofs.lemmas.Bool.{false≢true}
+use Rattle.std.proofs.lemmas.Bool.{and_parts, false≢true, not-true, or_from, or_parts}
 use Rattle.std.proofs.lemmas.List.{append-nil, append_assoc, drop_more, length-append, length-take}
 use Rattle.def_text.specs.Logical.{continues, is_hash, joined, logical_lines, size_of, span, with_space}
-use Rattle.qm_obj.specs.Lines.{first_logical}
+use Rattle.std.proofs.lemmas.List.Folds.{list_any-append}
+use Rattle.qm_obj.specs.Lines.{first_logical, uncommented}
+use Rattle.qm_obj.proofs.WordLemmas.{uncommented_is, uncommented_none}
 
 -- A comment is found before the end exactly where there is one.
 pub no_hash : (line : List ℕ) → eqb (position_or_len is_hash line) (length line) ≡ not (list_any is_hash line)
@@ -141,7 +143,42 @@ single_span all i after line lt within is off =
     sym (ap span cut ∙ rw off refl)
 
 pub single_logical : (all : List (List ℕ)) (i after : ℕ) (line : List ℕ) → i < after → after ≤ length all → line ≡ get_or all i [] → continues line ≡ false
-    → record { number = i + 1; size = length line; text = before_first is_hash line } ≡ first_logical (i + 1) (slice_range all i after)
+    → record { number = i + 1; size = length line; text = uncommented line } ≡ first_logical (i + 1) (slice_range all i after)
 single_logical all i after line lt within is off =
     let cut : slice_range all i after ≡ line ∷ slice_range all (i + 1) after = range_cons all i after [] lt within ∙ ap (λ l. l ∷ slice_range all (i + 1) after) (sym is) in
-    sym (ap (first_logical (i + 1)) cut ∙ rw off refl)
+    ap (λ text. record { number = i + 1; size = length line; text = text }) (uncommented_is line) ∙ sym (ap (first_logical (i + 1)) cut ∙ rw off refl)
+
+-- What is left to read of a logical line has no comment.
+any_take : (n : ℕ) (xs : List ℕ) → list_any is_hash xs ≡ false → list_any is_hash (take n xs) ≡ false
+any_take zero xs none = refl
+any_take (suc n) [] none = refl
+any_take (suc n) (x ∷ xs) none = let parts : (is_hash x ≡ false) × (list_any is_hash xs ≡ false) = or_parts _ _ none in or_from _ _ parts.0 (any_take n xs parts.1)
+
+cut_none : (line : List ℕ) → list_any is_hash (uncommented line) ≡ false
+cut_none [] = refl
+cut_none (b ∷ bs) = by_hash (is_hash b) refl (cut_none bs)
+  where
+    by_hash : (t : Bool) → is_hash b ≡ t → list_any is_hash (uncommented bs) ≡ false → list_any is_hash (cond t [] (b ∷ uncommented bs)) ≡ false
+    by_hash true is again = refl
+    by_hash false isnt again = or_from _ _ isnt again
+
+joined_none : (lines : List (List ℕ)) → list_any is_hash (joined lines) ≡ false
+joined_none [] = refl
+joined_none (line ∷ lines) = by_more (continues line) refl (joined_none lines)
+  where
+    by_more : (t : Bool) → continues line ≡ t → list_any is_hash (joined lines) ≡ false → list_any is_hash (cond t (with_space line ++ joined lines) (before_first is_hash line)) ≡ false
+    by_more true on again =
+        let bare : list_any is_hash line ≡ false = not-true _ (and_parts _ _ on).1 in
+        list_any-append is_hash (with_space line) (joined lines)
+        ∙ or_from _ _ (list_any-append is_hash (take (length line - 1) line) (32 ∷ []) ∙ or_from _ _ (any_take (length line - 1) line bare) refl) again
+    by_more false off again = subst (λ (xs : List ℕ). list_any is_hash xs ≡ false) (uncommented_is line) (cut_none line)
+
+pub joined_uncommented : (lines : List (List ℕ)) → uncommented (joined lines) ≡ joined lines
+joined_uncommented lines = uncommented_none (joined lines) (joined_none lines)
+
+-- Joined bytes and their size are the first logical line.
+pub joined_logical : (lines : List (List ℕ)) (number size : ℕ) (bytes : List ℕ) → size ≡ size_of lines → bytes ≡ joined lines
+    → record { number = number; size = size; text = uncommented bytes } ≡ first_logical number lines
+joined_logical lines number size bytes sizes are =
+    ap (λ n. record { number = number; size = n; text = uncommented bytes }) sizes
+    ∙ ap (λ text. record { number = number; size = size_of lines; text = text }) (ap uncommented are ∙ joined_uncommented lines)

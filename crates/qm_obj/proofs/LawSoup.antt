@@ -1,9 +1,9 @@
 -- What the lines of a canonical text say, and the soup that they have.
-use Rattle.std.proofs.Common.{◌≡◌, ℕ, ℤ, pos, zero, suc, ◌+◌, ◌-◌, ◌^◌, ◌<◌, ◌≤◌, Bool, true, false, cond, not, ◌&&◌, ◌||◌, List, [], ◌∷◌, ◌++◌, length, take, map, get_or, refl, sym, ap, ◌∙◌, arith, subst, eqb, ltb, leb, add-one, Ok}
+use Rattle.std.proofs.Common.{◌≡◌, ℕ, ℤ, pos, zero, suc, ◌+◌, ◌-◌, ◌^◌, ◌<◌, ◌≤◌, Bool, true, false, cond, not, ◌&&◌, List, [], ◌∷◌, ◌++◌, length, take, map, get_or, refl, sym, ap, ◌∙◌, arith, subst, eqb, ltb, add-one, Ok}
 use Rattle.std.specs.Prelude.{decimal, unsigned_abs}
 use Rattle.std.specs.Char.{is_ascii_digit}
-use Rattle.std.specs.List.{count_by, filter, flat_map, list_all, list_any, position_or_len}
-use Rattle.std.proofs.lemmas.Bool.{and_from, and_parts, cond-false, eqb-true, le-ltb, lt-leb, leb-true, ltb-false, ltb-true, ne_eqb, not-true, or_from}
+use Rattle.std.specs.List.{count_by, filter, flat_map, list_all, list_any}
+use Rattle.std.proofs.lemmas.Bool.{and_from, and_parts, cond-false, eqb-true, le-ltb, lt-leb, ltb-false, ltb-true, ne_eqb, not-true, or_from}
 use Rattle.std.proofs.lemmas.List.{append-nil, append_assoc, get_or-map, get_or_default, length-map, same_lists, take_all}
 use Rattle.std.proofs.lemmas.List.Concat.{flat_map-append}
 use Rattle.std.proofs.lemmas.List.Elements.{filter-append}
@@ -26,7 +26,7 @@ use Rattle.def_text.specs.declared.refusal.ObjFail.TheVariants.{Limit}
 use Rattle.def_text.specs.declared.refusal.Which.TheVariants.{Line}
 use Rattle.qm_io.specs.Lines.{lines_of}
 use Rattle.qm_obj.specs.Law.{ReadsBack, is_place, is_quad}
-use Rattle.qm_obj.proofs.CornerLemmas.{behind_none}
+use Rattle.qm_obj.proofs.CornerLemmas.{behind_none, digits_index, no_slash, whole_word}
 use Rattle.qm_dec.proofs.ReadBack.{canonical_law}
 use Rattle.qm_dec.proofs.Texts.{decimal_digits, decimal_number}
 use Rattle.qm_obj.proofs.LawText.{IsLine, IsWord, decimal_word, line_tame, line_text, line_words, lines_split, logical_plain, micro_word, plain_lines}
@@ -109,32 +109,6 @@ place_said vertices faces n place few is =
     by_size t off said = rw off said
 
 -- The words of a face.
-digits_index : (b : ℕ) (bs : List ℕ) → list_all is_ascii_digit (b ∷ bs) ≡ true → (unsigned (b ∷ bs) ≡ b ∷ bs) × (is_negative (b ∷ bs) ≡ false)
-digits_index b bs all =
-    let both : (leb 48 b ≡ true) × (leb b 57 ≡ true) = and_parts _ _ (and_parts _ _ all).0 in
-    let high : 48 ≤ b = leb-true 48 b both.0 in
-    let plus : eqb b 43 ≡ false = ne_eqb _ _ (λ (e : b ≡ 43). omega arith) in
-    let minus : eqb b 45 ≡ false = ne_eqb _ _ (λ (e : b ≡ 45). omega arith) in
-    (rw (plus, minus) refl, minus)
-
-no_slash : (ds : List ℕ) → list_all is_ascii_digit ds ≡ true → list_any is_slash ds ≡ false
-no_slash [] all = refl
-no_slash (d ∷ ds) all =
-    let parts : (is_ascii_digit d ≡ true) × (list_all is_ascii_digit ds ≡ true) = and_parts _ _ all in
-    let high : 48 ≤ d = leb-true 48 d (and_parts _ _ parts.0).0 in
-    or_from _ _ (ne_eqb _ _ (λ (e : d ≡ 47). omega arith)) (no_slash ds parts.1)
-
-whole_word : (ds : List ℕ) → list_any is_slash ds ≡ false → used_index ds ≡ ds
-whole_word ds none = take_all _ _ (long ds none)
-  where
-    long : (ds : List ℕ) → list_any is_slash ds ≡ false → length ds ≤ position_or_len is_slash ds
-    long [] none = omega arith
-    long (d ∷ ds) none = by_slash (is_slash d) none (long ds)
-      where
-        by_slash : (t : Bool) → (t || list_any is_slash ds) ≡ false → (list_any is_slash ds ≡ false → length ds ≤ position_or_len is_slash ds) → suc (length ds) ≤ cond (not t) (1 + position_or_len is_slash ds) 0
-        by_slash true none again = cc
-        by_slash false none again = omega (arith, again none)
-
 record NamesVertex (vertices : ℕ) (word : List ℕ) (n : ℕ) : Type 0 where
   form : is_corner word ≡ true
   inside : is_out vertices (used_index word) ≡ false

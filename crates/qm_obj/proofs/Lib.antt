@@ -7,5 +7,6 @@ mod ListLemmas
 mod NumberLemmas
 mod ReadLemmas
 mod SoupLemmas
+mod SuitLemmas
 mod UsedLemmas
 mod WordLemmas

@@ -1,12 +1,15 @@
 -- Numbers read digit by digit.
-use Rattle.std.proofs.Common.{◌≡◌, ℕ, suc, ◌+◌, ◌-◌, ◌*◌, ◌<◌, ◌≤◌, min, false, not, ◌&&◌, eqb, List, [], ◌∷◌, length, take, map, get_or, refl, ap, ◌∙◌, arith, inl, inr, ◌⊎◌}
+use Rattle.std.proofs.Common.{◌≡◌, ℕ, suc, ◌+◌, ◌-◌, ◌*◌, ◌^◌, ◌<◌, ◌≤◌, min, Bool, true, false, cond, not, ◌&&◌, eqb, List, [], ◌∷◌, length, take, map, get_or, refl, ap, ◌∙◌, arith, subst, Some, None, inl, inr, ◌⊎◌}
 use Rattle.std.specs.Char.{is_ascii_digit}
 use Rattle.std.specs.Int.Digits.{number_from_digits}
 use Rattle.std.specs.List.{list_all}
 use Rattle.std.proofs.lemmas.Int.Digits.{number_push}
 use Rattle.std.proofs.lemmas.List.{take_more, map_push}
-use Rattle.std.proofs.lemmas.Bool.{cases_lt, ne_eqb}
+use Rattle.std.proofs.lemmas.Bool.{cases_lt, false≢true, ne_eqb}
+use Rattle.std.proofs.lemmas.List.{length-take-le}
+use Rattle.std.proofs.Math.Nat.{pow-le-pow_right}
 use Rattle.def_text.specs.Digits.{is_number, number}
+use Rattle.qm_dec.proofs.Digits.{number_small}
 
 -- One digit more.
 pub number_more : (word : List ℕ) (i : ℕ) → i < length word → number (take (i + 1) word) ≡ number (take i word) * 10 + (get_or word i 0 - 48)
@@ -27,3 +30,25 @@ capped_more n d cap = by_size (cases_lt n cap)
 pub number_all : (word : List ℕ) → is_number word ≡ (not (eqb (length word) 0) && list_all is_ascii_digit word)
 number_all [] = refl
 number_all (b ∷ bs) = let some : eqb (suc (length bs)) 0 ≡ false = ne_eqb _ _ (λ (e : suc (length bs) ≡ 0). omega arith) in rw some refl
+
+digits_of_number : (word : List ℕ) → is_number word ≡ true → list_all is_ascii_digit word ≡ true
+digits_of_number [] is = absurd (false≢true is)
+digits_of_number (b ∷ bs) is = is
+
+ten_power : (i : ℕ) → i ≤ 18 → 10 ^ i ≤ 10 ^ 18
+ten_power i le = pow-le-pow_right {n = 10} (omega arith) {i = i} {j = 18} le
+
+-- At most 18 digits need no cap, and fewer of them leave room for one more.
+pub short_uncapped : (word : List ℕ) → length word ≤ 18 → cond (is_number word) (Some (number word)) None ≡ cond (is_number word) (Some (min (number word) (2 ^ 64 - 1))) None
+short_uncapped word short = by_form (is_number word) refl
+  where
+    by_form : (t : Bool) → is_number word ≡ t → cond t (Some (number word)) None ≡ cond t (Some (min (number word) (2 ^ 64 - 1))) None
+    by_form true is = let e : number word ≡ min (number word) (2 ^ 64 - 1) = omega (arith, number_small word (digits_of_number word is), ten_power (length word) short) in ap Some e
+    by_form false isnt = refl
+
+pub taken_small : (word : List ℕ) (i : ℕ) → i < length word → length word ≤ 18 → list_all is_ascii_digit (take i word) ≡ true → number (take i word) < 10 ^ 17
+taken_small word i there short all =
+    let long : length (take i word) ≡ i = length-take-le i word (omega arith) in
+    let small : number (take i word) < 10 ^ i = subst (λ (n : ℕ). number (take i word) < 10 ^ n) long (number_small (take i word) all) in
+    let power : 10 ^ i ≤ 10 ^ 17 = pow-le-pow_right {n = 10} (omega arith) {i = i} {j = 17} (omega arith) in
+    omega arith

@@ -1,17 +1,17 @@
--- The first word of a text, and the words behind it.
+-- The words of a line, one after another.
 use Rattle.std.proofs.Common.{◌≡◌, ℕ, suc, ◌+◌, ◌<◌, ◌≤◌, Bool, true, false, cond, not, List, [], ◌∷◌, length, take, drop, set, map, get_or, below_more, refl, sym, ap, ◌∙◌, arith, eqb, Some, None, leb, ◌^◌, ◌&&◌}
-use Rattle.std.proofs.lemmas.Bool.{eqb-true, true≢false}
+use Rattle.std.proofs.lemmas.Bool.{eqb-true, or_from, or_left, or_parts, or_right, true≢false}
 use Rattle.std.proofs.lemmas.List.{drop_more, get_or-map, get_or-set_other, get_or-set_same, get_or-take, length-drop, length-map, length-set, length-take-le, same_lists}
-use Rattle.std.specs.List.{position_or_len}
-use Rattle.std.specs.List.{list_all, list_any}
+use Rattle.std.specs.List.{before_first, list_all, list_any, position_or_len}
 use Rattle.def_text.specs.Decimal.{is_decimal, is_far, rounded}
+use Rattle.def_text.specs.Logical.{is_hash}
 use Rattle.def_text.specs.Reading.{face_reading, is_letter, is_place_count, vertex_reading, words_reading}
 use Rattle.def_text.specs.declared.refusal.ObjFail.TheVariants.{Limit, Range, Syntax}
 use Rattle.def_text.specs.declared.refusal.Which.TheVariants.{Vertices}
 use Rattle.def_text.specs.declared.reading.Reading.TheVariants.{Passed, Place, Refused}
 use Rattle.def_text.specs.Words.{ends_word, in_front, is_blank, words}
 use Rattle.qm_obj.specs.Indices.{with_capped}
-use Rattle.qm_obj.specs.Lines.{IsFilled, with_word}
+use Rattle.qm_obj.specs.Lines.{IsFilled, is_end, uncommented, with_word}
 
 -- A text that begins with no blank has its front up to the first blank as its first word.
 pub words_word : (b : ℕ) (bs : List ℕ) → is_blank b ≡ false → words (b ∷ bs) ≡ take (suc (position_or_len is_blank bs)) (b ∷ bs) ∷ words (drop (suc (position_or_len is_blank bs)) (b ∷ bs))
@@ -24,13 +24,70 @@ words_word b (c ∷ cs) off = rw off (by_next (is_blank c) refl (words_word c cs
     by_next true on again = rw on (rw on refl)
     by_next false after again = rw (again after) (rw after (let e : 1 + position_or_len is_blank cs ≡ suc (position_or_len is_blank cs) = omega arith in rw e refl))
 
--- The first word of a text that is empty or begins with a word.
-pub first_word : (rest : List ℕ) → (0 < length rest → is_blank (get_or rest 0 0) ≡ false) → words rest ≡ with_word (take (position_or_len is_blank rest) rest) (words (drop (position_or_len is_blank rest) rest))
+-- Up to the first end of a word a line is as it is without its comment, and behind it the comment is cut from the rest.
+record EndsAlike (bs : List ℕ) : Type 0 where
+  front : take (position_or_len is_blank (uncommented bs)) (uncommented bs) ≡ take (position_or_len is_end bs) bs
+  behind : drop (position_or_len is_blank (uncommented bs)) (uncommented bs) ≡ uncommented (drop (position_or_len is_end bs) bs)
+
+ends_alike : (bs : List ℕ) → EndsAlike bs
+ends_alike [] = record { front = refl; behind = refl }
+ends_alike (c ∷ cs) = by_byte (is_blank c) (is_hash c) refl refl (ends_alike cs)
+  where
+    by_byte : (blank hash : Bool) → is_blank c ≡ blank → is_hash c ≡ hash → EndsAlike cs → EndsAlike (c ∷ cs)
+    by_byte blank true b-is h-is again =
+        let end : is_end c ≡ true = or_right _ _ h-is in
+        record { front = rw end (rw h-is refl); behind = rw end (rw h-is refl) }
+    by_byte true false b-is h-is again =
+        let end : is_end c ≡ true = or_left _ _ b-is in
+        record { front = rw end (rw h-is (rw b-is refl)); behind = rw end (rw h-is (rw b-is refl)) }
+    by_byte false false b-is h-is again =
+        let more : is_end c ≡ false = or_from _ _ b-is h-is in
+        let e : 1 + position_or_len is_blank (uncommented cs) ≡ suc (position_or_len is_blank (uncommented cs)) = omega arith in
+        let f : 1 + position_or_len is_end cs ≡ suc (position_or_len is_end cs) = omega arith in
+        record {
+          front = rw more (rw h-is (rw (b-is, e, f) (ap (λ xs. c ∷ xs) again.front)));
+          behind = rw more (rw h-is (rw (b-is, e, f) again.behind));
+        }
+
+-- The first word of a line that is empty or begins with no blank.
+pub first_word : (rest : List ℕ) → (0 < length rest → is_blank (get_or rest 0 0) ≡ false)
+    → words (uncommented rest) ≡ with_word (take (position_or_len is_end rest) rest) (words (uncommented (drop (position_or_len is_end rest) rest)))
 first_word [] at_word = refl
-first_word (b ∷ bs) at_word =
-    let off : is_blank b ≡ false = at_word (omega arith) in
-    let e : position_or_len is_blank (b ∷ bs) ≡ suc (position_or_len is_blank bs) = rw off (omega arith) in
-    rw e (words_word b bs off)
+first_word (b ∷ bs) at_word = by_hash (is_hash b) refl (at_word (omega arith))
+  where
+    by_hash : (hash : Bool) → is_hash b ≡ hash → is_blank b ≡ false
+        → words (uncommented (b ∷ bs)) ≡ with_word (take (position_or_len is_end (b ∷ bs)) (b ∷ bs)) (words (uncommented (drop (position_or_len is_end (b ∷ bs)) (b ∷ bs))))
+    by_hash true is off =
+        let end : position_or_len is_end (b ∷ bs) ≡ 0 = let e : is_end b ≡ true = or_right _ _ is in rw e refl in
+        rw end (rw is refl)
+    by_hash false is off =
+        let end : position_or_len is_end (b ∷ bs) ≡ suc (position_or_len is_end bs) = let e : is_end b ≡ false = or_from _ _ off is in rw e (omega arith) in
+        let bare : uncommented (b ∷ bs) ≡ b ∷ uncommented bs = rw is refl in
+        let alike : EndsAlike bs = ends_alike bs in
+        rw end (ap words bare ∙ words_word b (uncommented bs) off ∙ rw (alike.front, alike.behind) refl)
+
+-- A line is no longer without its comment, which is what stands from its first `#` on.
+pub uncommented_short : (line : List ℕ) → length (uncommented line) ≤ length line
+uncommented_short [] = omega arith
+uncommented_short (b ∷ bs) = by_hash (is_hash b) (uncommented_short bs)
+  where
+    by_hash : (t : Bool) → length (uncommented bs) ≤ length bs → length (cond t [] (b ∷ uncommented bs)) ≤ suc (length bs)
+    by_hash true short = omega arith
+    by_hash false short = omega arith
+
+pub uncommented_is : (line : List ℕ) → uncommented line ≡ before_first is_hash line
+uncommented_is [] = refl
+uncommented_is (b ∷ bs) = by_hash (is_hash b) (uncommented_is bs)
+  where
+    by_hash : (t : Bool) → uncommented bs ≡ before_first is_hash bs → cond t [] (b ∷ uncommented bs) ≡ take (cond (not t) (1 + position_or_len is_hash bs) 0) (b ∷ bs)
+    by_hash true again = refl
+    by_hash false again = let e : 1 + position_or_len is_hash bs ≡ suc (position_or_len is_hash bs) = omega arith in rw e (ap (λ xs. b ∷ xs) again)
+
+pub uncommented_none : (line : List ℕ) → list_any is_hash line ≡ false → uncommented line ≡ line
+uncommented_none [] none = refl
+uncommented_none (b ∷ bs) none =
+    let parts : (is_hash b ≡ false) × (list_any is_hash bs ≡ false) = or_parts _ _ none in
+    rw (parts.0, uncommented_none bs parts.1) refl
 
 -- No text has more words than bytes.
 pub words_few : (bytes : List ℕ) → length (words bytes) ≤ length bytes

@@ -1,9 +1,10 @@
 -- Words one after another, and what a reader keeps of the lines.
-use Rattle.std.specs.Prelude.{◌≡◌, ◌<◌, ℕ, ℤ, List, [], ◌∷◌, ◌++◌, length, map, slice_index_or}
+use Rattle.std.specs.Prelude.{◌≡◌, ◌<◌, ◌||◌, ℕ, ℤ, Bool, if◌then◌else◌, List, [], ◌∷◌, ◌++◌, length, map, slice_index_or}
 use Rattle.std.specs.List.{flat_map}
-use Rattle.def_text.specs.Logical.{Logical, joined, size_of}
+use Rattle.def_text.specs.Logical.{Logical, is_hash, joined, size_of}
 use Rattle.def_text.specs.Reading.{reading}
 use Rattle.def_text.specs.Text.{face_in, faces, place_in, places, readings, refusal_in}
+use Rattle.def_text.specs.Words.{is_blank}
 use Rattle.def_text.specs.declared.reading.Reading.{Reading}
 use Rattle.def_text.specs.declared.reading.Reading.TheVariants.{Passed, Place, Face, Refused}
 use Rattle.qm_obj.specs.Indices.{capped, with_capped}
@@ -12,6 +13,15 @@ use Rattle.qm_obj.specs.Indices.{capped, with_capped}
 abbrev pub with_word : List ℕ → List (List ℕ) → List (List ℕ)
 with_word [] rest = []
 with_word (byte ∷ bytes) rest = (byte ∷ bytes) ∷ rest
+
+-- A line up to its comment, byte by byte.
+abbrev pub uncommented : List ℕ → List ℕ
+uncommented [] = []
+uncommented (byte ∷ bytes) = if is_hash byte then [] else byte ∷ uncommented bytes
+
+-- A byte at which a word ends.
+abbrev pub is_end : ℕ → Bool
+is_end byte = is_blank byte || is_hash byte
 
 -- The line of a face.
 abbrev pub line_in : Reading → List ℕ

@@ -2,7 +2,7 @@ ghost use Rattle.std.specs.Prelude.{◌≡◌, ◌≤◌, ◌<◌, ◌+◌, ◌^
 ghost use Rattle.std.specs.List.{list_all};
 ghost use Rattle.def_text.specs.Corner.{index_of, is_corner, is_optional};
 ghost use Rattle.def_text.specs.Digits.{is_signed};
-ghost use Rattle.qm_obj.specs.Indices.{corner_of, named, parts_behind};
+ghost use Rattle.qm_obj.specs.Indices.{capped, corner_of, named, parts_behind};
 
 use crate::number::{is_digits, read_number, split_sign};
 use crate::words::{behind_first, find_byte};
@@ -32,8 +32,23 @@ fn named_line(k: u64, all: u32) -> Index
 
 /// The `v` line that a corner names after `before` others, from 1: 0 where it names none that can come, and
 /// `u32::MAX` where its number is greater.
-#[tactic(auto, using(crate::proofs::CornerLemmas::corner_parts))]
 pub(crate) fn read_corner(word: &[u8], before: u32) -> Option<u32>
+    ensures { result ≡ (if is_corner word.now then Some (corner_of before word.now) else None) }
+{
+    match read_number(word) {
+        Some(k) => Some(cap(k)),
+        None => read_indices(word, before),
+    }
+}
+
+fn cap(k: u64) -> u32
+    ensures { result ≡ capped k }
+{
+    k.min(u64::from(u32::MAX)) as u32
+}
+
+#[tactic(auto, using(crate::proofs::CornerLemmas::corner_parts))]
+fn read_indices(word: &[u8], before: u32) -> Option<u32>
     ensures { result ≡ (if is_corner word.now then Some (corner_of before word.now) else None) }
 {
     let (first, tail) = word.split_at(find_byte(word, b'/'));
@@ -41,7 +56,7 @@ pub(crate) fn read_corner(word: &[u8], before: u32) -> Option<u32>
         return None;
     }
     match resolve(first, before) {
-        Some(k) => Some(k.min(u64::from(u32::MAX)) as u32),
+        Some(k) => Some(cap(k)),
         None => None,
     }
 }

@@ -3,6 +3,7 @@ ghost use Rattle.std.specs.List.{list_any};
 ghost use Rattle.def_text.specs.Reading.{face_reading, is_letter, is_place_count, reading, vertex_reading};
 ghost use Rattle.def_text.specs.Words.{words};
 ghost use Rattle.qm_obj.specs.Indices.{with_capped};
+ghost use Rattle.qm_obj.specs.Lines.{uncommented};
 
 use crate::corner::read_corner;
 use crate::place::{read_coordinate, read_place};
@@ -19,7 +20,7 @@ const MAX_FACES: u32 = 1_048_576;
 #[tactic(auto, using(crate::proofs::WordLemmas::by_first_word))]
 pub(crate) fn read_line(line: u32, vertices: u32, faces: u32, size: usize, text: &[u8]) -> Reading
     requires { length text.now ≤ size }
-    ensures { result ≡ with_capped (reading vertices faces (record { number = line; size = size; text = text.now })) }
+    ensures { result ≡ with_capped (reading vertices faces (record { number = line; size = size; text = uncommented text.now })) }
 {
     if size > MAX_LINE {
         return Reading::Refused(ObjFail::Limit {
@@ -47,7 +48,7 @@ fn is_one(word: &[u8], letter: u8) -> bool
 }
 
 fn read_vertex(line: u32, vertices: u32, text: &[u8]) -> Reading
-    ensures { result ≡ vertex_reading line vertices (words text.now) }
+    ensures { result ≡ vertex_reading line vertices (words (uncommented text.now)) }
 {
     if vertices >= MAX_VERTICES {
         return Reading::Refused(ObjFail::Limit {
@@ -95,7 +96,7 @@ fn put<T: Copy>(slots: &mut [T], i: usize, value: T)
 
 fn read_face(line: u32, vertices: u32, faces: u32, text: &[u8]) -> Reading
     requires { length text.now ≤ 65_536 }
-    ensures { result ≡ with_capped (face_reading line vertices faces (words text.now)) }
+    ensures { result ≡ with_capped (face_reading line vertices faces (words (uncommented text.now))) }
 {
     if faces >= MAX_FACES {
         return Reading::Refused(ObjFail::Limit {

@@ -1,11 +1,38 @@
-ghost use Rattle.std.specs.Prelude.{◌≡◌, ◌-◌, ◌^◌, min, Some, None, if◌then◌else◌};
+ghost use Rattle.std.specs.Prelude.{◌≡◌, ◌≤◌, ◌-◌, ◌^◌, length, min, Some, None, if◌then◌else◌};
 ghost use Rattle.std.specs.Char.{is_ascii_digit};
 ghost use Rattle.std.specs.List.{list_all};
 ghost use Rattle.def_text.specs.Digits.{is_negative, is_number, number, unsigned};
 
 /// The number that digits write, or `u64::MAX` where it is greater; `None` where the word is no number.
-#[tactic(auto, using(crate::proofs::NumberLemmas::number_more, crate::proofs::NumberLemmas::capped_more))]
 pub(crate) fn read_number(word: &[u8]) -> Option<u64>
+    ensures { result ≡ (if is_number word.now then Some (min (number word.now) (2 ^ 64 - 1)) else None) }
+{
+    if word.len() <= 18 {
+        read_short(word)
+    } else {
+        read_long(word)
+    }
+}
+
+/// A number that needs no cap, which is nearly every one.
+fn read_short(word: &[u8]) -> Option<u64>
+    requires { length word.now ≤ 18 }
+    ensures { result ≡ (if is_number word.now then Some (number word.now) else None) }
+{
+    if word.is_empty() {
+        return None;
+    }
+    let mut n: u64 = 0;
+    for byte in word {
+        if !byte.is_ascii_digit() {
+            return None;
+        }
+        n = n * 10 + u64::from(*byte - b'0');
+    }
+    Some(n)
+}
+
+fn read_long(word: &[u8]) -> Option<u64>
     ensures { result ≡ (if is_number word.now then Some (min (number word.now) (2 ^ 64 - 1)) else None) }
 {
     if word.is_empty() {

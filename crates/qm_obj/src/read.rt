@@ -5,7 +5,7 @@ ghost use Rattle.def_text.specs.declared.reading.Reading.TheVariants.{Refused};
 ghost use Rattle.qm_io.specs.Lines.{lines_of};
 ghost use Rattle.qm_obj.specs.Lines.{first_logical, next_said, Took};
 
-use crate::joining::{before_comment, goes_on, join};
+use crate::joining::{goes_on, join};
 use crate::reader::Reader;
 use def_text::{ObjFail, Soup};
 use qm_io::Lines;
@@ -57,7 +57,7 @@ fn take_logical(
     if goes_on(line) {
         return take_joined(alloc, reader, lines, i, after);
     }
-    match reader.take(i + 1, line.len(), before_comment(line)) {
+    match reader.take(i + 1, line.len(), line) {
         Ok(()) => Ok(i + 1),
         Err(fail) => Err(fail),
     }

@@ -2,7 +2,7 @@ ghost use Rattle.std.specs.Prelude.{◌≡◌, ◌≢◌, ◌≤◌, ◌<◌, �
 ghost use Rattle.std.specs.List.{list_all};
 ghost use Rattle.def_text.specs.Text.{face_set};
 ghost use Rattle.qm_obj.specs.Kept.{first_late, IsLate};
-ghost use Rattle.qm_obj.specs.Lines.{next_said, Took};
+ghost use Rattle.qm_obj.specs.Lines.{next_said, Took, uncommented};
 
 use crate::line::read_line;
 use crate::used::{drop_unused, late_line};
@@ -38,10 +38,10 @@ impl Reader {
         ensures kept { OnOk result (Took self.old.places.items self.new.places.items self.old.faces.items self.new.faces.items
             self.old.lines.items self.new.lines.items
             (next_said self.old.places.items self.old.faces.items
-            (record { number = line; size = size; text = text.now }))) }
+            (record { number = line; size = size; text = uncommented text.now }))) }
         ensures refused { IfErr result (λ fail. fail ≢ ObjFail.Memory →
             next_said self.old.places.items self.old.faces.items
-            (record { number = line; size = size; text = text.now }) ≡ Reading.Refused fail) }
+            (record { number = line; size = size; text = uncommented text.now }) ≡ Reading.Refused fail) }
     {
         match read_line(
             line,
