@@ -1,0 +1,235 @@
+// The work of crates/qm_bench in plain C++, written from the descriptions of the matching graph and of duals, with the
+// same words and the same output.
+#include <cstdint>
+#include <cstdio>
+#include <cstdlib>
+#include <cstring>
+#include <optional>
+#include <string>
+#include <vector>
+
+struct End {
+    uint32_t node;
+    bool plus;
+};
+
+struct Arc {
+    End left;
+    std::optional<End> right;
+    uint32_t old, weight;
+};
+
+struct Net {
+    uint32_t nodes;
+    std::vector<Arc> arcs;
+    uint32_t floor, p, q;
+};
+
+struct Edge {
+    uint32_t u, v;
+    int64_t cost;
+};
+
+struct Graph {
+    uint32_t n = 0;
+    std::vector<Edge> edges;
+};
+
+struct Dual {
+    std::vector<int64_t> y, z;
+    std::vector<uint32_t> up;
+};
+
+using i128 = __int128;
+
+static const uint32_t PAIRS = 5000;
+
+static Net network() {
+    Net net{PAIRS, {}, 1, 1, 1};
+    for (uint32_t j = 0; j < PAIRS; j++) {
+        for (bool second : {false, true}) {
+            uint32_t far = (j * 7 + 1) % PAIRS;
+            std::optional<End> right;
+            if (j % 3 == 0) right = End{far, second};
+            if (j % 3 == 1) right = End{far, !second};
+            net.arcs.push_back({{j, !second}, right, 1 + j * 13 % 9, 1 + j % 7});
+        }
+    }
+    return net;
+}
+
+static std::vector<uint64_t> lengths() {
+    std::vector<uint64_t> x;
+    for (uint32_t j = 0; j < PAIRS; j++) {
+        x.push_back(1 + j % 6);
+        x.push_back(1 + j % 6);
+    }
+    return x;
+}
+
+struct Unit {
+    const Arc *arc;
+    int64_t cost;
+    bool on;
+    uint32_t own;
+};
+
+static int64_t deviation(const Net &net, const Arc &arc, uint64_t length) {
+    i128 far = i128(net.q) * length - i128(net.p) * arc.old;
+    return int64_t(arc.weight * (far < 0 ? -far : far));
+}
+
+static Graph graph_of(const Net &net, const std::vector<uint64_t> &x, uint64_t step) {
+    std::vector<Unit> units;
+    std::vector<uint64_t> lows;
+    std::vector<uint32_t> caps;
+    for (size_t i = 0; i < net.arcs.size(); i++) {
+        const Arc &arc = net.arcs[i];
+        uint64_t down = (x[i] - net.floor) / step;
+        if (down > 2) down = 2;
+        uint64_t low = x[i] - down * step;
+        lows.push_back(low);
+        caps.push_back(uint32_t(down + 2));
+        for (uint64_t k = 0; k < down + 2; k++) {
+            int64_t cost = deviation(net, arc, low + (k + 1) * step) - deviation(net, arc, low + k * step);
+            units.push_back({&arc, cost, k < down, 0});
+        }
+    }
+    std::vector<uint32_t> first(net.nodes + 1, 0);
+    auto count = [&](const End &end, bool on) { first[end.node + 1] += end.plus == on; };
+    for (const Unit &unit : units) {
+        count(unit.arc->left, unit.on);
+        if (unit.arc->right) count(*unit.arc->right, unit.on);
+    }
+    for (uint32_t v = 0; v < net.nodes; v++) first[v + 1] += first[v];
+    Graph g;
+    g.n = first[net.nodes];
+    std::vector<uint32_t> rim;
+    bool lone = false;
+    for (Unit &unit : units) {
+        unit.own = g.n;
+        const Arc &arc = *unit.arc;
+        g.n += arc.right && arc.left.plus != arc.right->plus ? 1 : 2;
+        if (!arc.right) {
+            rim.push_back(unit.own + 1);
+            lone ^= arc.left.plus == unit.on;
+        }
+    }
+    auto fan = [&](uint32_t u, const End &end, int64_t cost) {
+        for (uint32_t copy = first[end.node]; copy < first[end.node + 1]; copy++) g.edges.push_back({u, copy, cost});
+    };
+    for (const Unit &unit : units) {
+        const Arc &arc = *unit.arc;
+        const End &left = arc.left;
+        uint32_t u = unit.own;
+        fan(u, left, left.plus ? unit.cost : 0);
+        if (!arc.right) {
+            g.edges.push_back({u, u + 1, left.plus ? 0 : unit.cost});
+        } else if (left.plus != arc.right->plus) {
+            fan(u, *arc.right, arc.right->plus ? unit.cost : 0);
+        } else {
+            fan(u + 1, *arc.right, 0);
+            g.edges.push_back({u, u + 1, left.plus ? 0 : unit.cost});
+        }
+    }
+    uint32_t at = g.n;
+    if (lone) at++;
+    for (size_t i = 0; i < rim.size(); i++) {
+        bool before = i > 0 || lone, after = i + 1 < rim.size();
+        uint32_t b = i > 0 ? at - 1 : g.n;
+        if (before) g.edges.push_back({b, rim[i], 0});
+        if (after) {
+            g.edges.push_back({rim[i], at, 0});
+            if (before) g.edges.push_back({b, at, 0});
+            g.edges.push_back({at, at + 1, 0});
+            at += 2;
+        }
+    }
+    g.n = at;
+    return g;
+}
+
+static Dual dual_of(uint32_t n, bool nest) {
+    uint32_t sets = n == 0 ? 0 : (n - 1) / 2;
+    Dual d{std::vector<int64_t>(n, -1000000), std::vector<int64_t>(sets, 1), {}};
+    for (uint32_t k = 0; k < n + sets; k++) {
+        uint32_t around = !nest ? k / 3 + 1 : k >= n ? k - n + 2 : k == 0 ? 1 : (k + 1) / 2;
+        d.up.push_back(around <= sets ? around : 0);
+    }
+    return d;
+}
+
+static std::string number(i128 value) {
+    bool minus = value < 0;
+    std::string digits;
+    do {
+        int digit = int(value % 10);
+        digits.insert(digits.begin(), char('0' + (digit < 0 ? -digit : digit)));
+        value /= 10;
+    } while (value != 0);
+    return minus ? "-" + digits : digits;
+}
+
+static std::string dual_ok(const Graph &g, const Dual &d) {
+    uint32_t n = g.n, sets = uint32_t(d.z.size());
+    if (d.y.size() != n || d.up.size() != size_t(n) + sets) return "Shape";
+    for (uint32_t k = 0; k < n + sets; k++) {
+        uint32_t around = d.up[k];
+        if (around > sets || (around != 0 && k >= n && around <= k - n + 1)) return "Shape";
+    }
+    std::vector<uint32_t> size(sets + 1, 0), inner(sets + 1, 0), head(sets + 1, 0);
+    for (uint32_t v = 0; v < n; v++) size[d.up[v]]++;
+    for (uint32_t k = 1; k <= sets; k++) {
+        if (size[k] < 3 || size[k] % 2 == 0) return "Even";
+        uint32_t around = d.up[n + k - 1];
+        size[around] += size[k];
+        if (inner[around] == 0 || size[inner[around]] < size[k]) inner[around] = k;
+    }
+    for (uint32_t k = 0; k < sets; k++)
+        if (d.z[k] < 0) return "Negative";
+    std::vector<i128> above(sets + 1, 0);
+    for (uint32_t k = sets; k > 0; k--) {
+        uint32_t around = d.up[n + k - 1];
+        above[k] = d.z[k - 1] + above[around];
+        head[k] = around != 0 && inner[around] == k ? head[around] : k;
+    }
+    for (const Edge &edge : g.edges) {
+        uint32_t a = d.up[edge.u], b = d.up[edge.v];
+        i128 load = i128(d.y[edge.u]) + d.y[edge.v] + above[a] + above[b];
+        while (a != 0 && b != 0 && head[a] != head[b]) {
+            if (head[a] < head[b]) a = d.up[n + head[a] - 1];
+            else b = d.up[n + head[b] - 1];
+        }
+        if (a != 0 && b != 0) load -= 2 * above[a > b ? a : b];
+        if (load > 2 * i128(edge.cost)) return "Short";
+    }
+    i128 sum = 0;
+    for (int64_t y : d.y) sum += y;
+    for (int64_t z : d.z) sum += z;
+    return "Yes { sum: " + number(sum) + " }";
+}
+
+static void run(const Net &net, const std::vector<uint64_t> &x, const char *task, uint32_t times) {
+    if (strcmp(task, "graph") == 0) {
+        Graph g;
+        for (uint32_t i = 0; i < times; i++) g = graph_of(net, x, 1);
+        printf("%u vertices, %zu edges\n", g.n, g.edges.size());
+        return;
+    }
+    Graph g = graph_of(net, x, 1);
+    Dual d = dual_of(g.n, strcmp(task, "nest") == 0);
+    std::string verdict = dual_ok(g, d);
+    for (uint32_t i = 1; i < times; i++) verdict = dual_ok(g, d);
+    puts(verdict.c_str());
+}
+
+int main(int argc, char **argv) {
+    Net net = network();
+    std::vector<uint64_t> x = lengths();
+    if (argc < 2) {
+        for (const char *task : {"graph", "nest", "tree"}) run(net, x, task, 1);
+        return 0;
+    }
+    run(net, x, argv[1], argc > 2 ? uint32_t(atol(argv[2])) : 1);
+    return 0;
+}

@@ -1,0 +1,51 @@
+//! Work to be timed: the matching graph of a network of 10,000 arcs, or the verdict on a dual over it, as often as is asked.
+#![tactic(auto)]
+
+mod network;
+mod sets;
+mod work;
+
+use crate::network::{lengths, network};
+use crate::work::{Task, run};
+use qm_net::{admissible, are_lengths, is_within_bounds, tangle_of};
+use std::env::{self, Env};
+use std::io;
+use std::process::ExitCode;
+
+/// The words are `graph`, `nest` or `tree`, and how often the work is done; with no words, each once.
+fn main(rt: HostRuntime) -> io::Result<ExitCode> {
+    let net = network(rt.alloc())?;
+    let x = lengths(rt.alloc())?;
+    if !is_within_bounds(&net) {
+        return Ok(ExitCode::from(2));
+    }
+    if !are_lengths(&net, &x) {
+        return Ok(ExitCode::from(3));
+    }
+    if !admissible(&net, &x) {
+        return Ok(ExitCode::from(4));
+    }
+    if tangle_of(rt.alloc(), &net)? > 1 << 25 {
+        return Ok(ExitCode::from(5));
+    }
+    let mut words = env::args(&rt)?.skip(1);
+    let Some(name) = words.next() else {
+        for task in [Task::Graph, Task::Nest, Task::Tree] {
+            let told = run(rt.alloc(), &net, &x, task, 1)?;
+            println!(rt; "{told}")?;
+        }
+        return Ok(ExitCode::from(0));
+    };
+    let task = match name.as_str() {
+        "graph" => Task::Graph,
+        "nest" => Task::Nest,
+        _ => Task::Tree,
+    };
+    let times = match words.next() {
+        Some(word) => word.parse::<u32>().unwrap_or(1),
+        None => 1,
+    };
+    let told = run(rt.alloc(), &net, &x, task, times)?;
+    println!(rt; "{told}")?;
+    Ok(ExitCode::from(0))
+}

@@ -1,0 +1,70 @@
+ghost use Rattle.std.specs.Prelude.{◌^◌, ◌≤◌, length};
+ghost use Rattle.def_flow.specs.Network.{network, tangle_number, IsWithinBounds};
+ghost use Rattle.def_flow.specs.Admissible.{entries, IsAdmissible};
+ghost use Rattle.def_flow.specs.Matching.{graph, IsGraph};
+ghost use Rattle.def_flow.specs.Dual.{AreSmall};
+ghost use Rattle.qm_net.specs.Lengths.{AreLengths};
+
+use crate::sets::dual_of;
+use def_flow::{Dual, Net, WGraph};
+use qm_dual::dual_ok;
+use qm_gadget::graph_of;
+use std::alloc::{AllocError, Global};
+
+#[derive(Clone, Copy, Debug, PartialEq, Eq)]
+pub enum Task {
+    Graph,
+    Nest,
+    Tree,
+}
+
+/// Does a task as often as is asked, and tells what came of it.
+pub fn run(
+    alloc: Global,
+    net: &Net,
+    x: &[u64],
+    task: Task,
+    times: u32,
+) -> Result<String, AllocError>
+    requires bounds { IsWithinBounds (network net.now) }
+    requires lengths { AreLengths net.now.arcs.items x.now }
+    requires admissible { IsAdmissible (network net.now) (entries x.now) }
+    requires tangle { tangle_number (network net.now) ≤ 2 ^ 25 }
+{
+    if task == Task::Graph {
+        return build(alloc, net, x, times);
+    }
+    let gadget = graph_of(alloc, net, x, 1)?;
+    judge(alloc, &gadget.graph, task == Task::Nest, times)
+}
+
+/// Builds the matching graph, and tells how many vertices and edges it has.
+fn build(alloc: Global, net: &Net, x: &[u64], times: u32) -> Result<String, AllocError>
+    requires bounds { IsWithinBounds (network net.now) }
+    requires lengths { AreLengths net.now.arcs.items x.now }
+    requires admissible { IsAdmissible (network net.now) (entries x.now) }
+    requires tangle { tangle_number (network net.now) ≤ 2 ^ 25 }
+{
+    let mut vertices = 0;
+    let mut edges = 0;
+    for _ in 0..times {
+        let gadget = graph_of(alloc, net, x, 1)?;
+        vertices = gadget.graph.n;
+        edges = gadget.graph.edges.len();
+    }
+    format!(in alloc; "{vertices} vertices, {edges} edges")
+}
+
+/// Judges a dual over the graph, and tells the verdict.
+fn judge(alloc: Global, g: &WGraph, nest: bool, times: u32) -> Result<String, AllocError>
+    requires vertices { g.now.n ≤ 2 ^ 25 }
+    requires edges { length g.now.edges.items ≤ 2 ^ 30 }
+    requires graph { IsGraph (graph g.now) }
+{
+    let dual = dual_of(alloc, g.n, nest)?;
+    let mut verdict = dual_ok(alloc, g, &dual)?;
+    for _ in 1..times {
+        verdict = dual_ok(alloc, g, &dual)?;
+    }
+    format!(in alloc; "{verdict:?}")
+}
