@@ -3,7 +3,7 @@ use crate::{DecFail, canonical_law, read_micro, read_ratio, write_micro};
 #[test]
 fn words_read_and_write(rt: HostRuntime) {
     canonical_law();
-    let table: [(&[u8], i64, &[u8]); 9] = [
+    let table: [(&[u8], i64, &[u8]); 10] = [
         (b"1.", 1_000_000, b"1"),
         (b".5", 500_000, b"0.5"),
         (b"-0", 0, b"0"),
@@ -12,6 +12,7 @@ fn words_read_and_write(rt: HostRuntime) {
         (b"-0.0000005", -1, b"-0.000001"),
         (b"-12.340000", -12_340_000, b"-12.34"),
         (b"0e999999", 0, b"0"),
+        (b"0000000001.5", 1_500_000, b"1.5"),
         (
             b"+999999999.9999994",
             999_999_999_999_999,
@@ -33,8 +34,8 @@ fn words_read_and_write(rt: HostRuntime) {
 
 #[test]
 fn refusals(rt: HostRuntime) {
-    let forms: [&[u8]; 10] = [
-        b"", b"nan", b"inf", b"1,5", b".", b"+", b"1e", b"1e+", b"1.2.3", b"--1",
+    let forms: [&[u8]; 11] = [
+        b"", b"nan", b"inf", b"1,5", b".", b"+", b"1e", b"1e+", b"1.2.3", b"--1", b"1.5x",
     ];
     for word in forms {
         assert_eq!(rt; read_micro(word).err(), Some(DecFail::Syntax));

@@ -4,7 +4,7 @@ use Rattle.std.specs.List.{before_first, list_any, position_or_len}
 use Rattle.std.proofs.lemmas.Bool.Decides.{nat_tests}
 use Rattle.std.specs.Prelude.{slice_range}
 use Rattle.std.proofs.lemmas.Bool.{and_parts, false≢true, not-true, or_from, or_parts}
-use Rattle.std.proofs.lemmas.List.{append-nil, append_assoc, drop_more, length-append, length-take}
+use Rattle.std.proofs.lemmas.List.{append_assoc, drop_more, length-append, length-take}
 use Rattle.def_text.specs.Logical.{continues, is_hash, joined, logical_lines, size_of, span, with_space}
 use Rattle.std.proofs.lemmas.List.Folds.{list_any-append}
 use Rattle.qm_obj.specs.Lines.{first_logical, uncommented}
@@ -47,9 +47,6 @@ pub record IsJoined (all : List (List ℕ)) (i next after : ℕ) (bytes : List �
   pub count : next ≡ i + span (slice_range all i after)
   pub bytes_are : size ≡ size_of (slice_range all i after)
 
-pub joining_none : (all : List (List ℕ)) (i after : ℕ) → i ≤ after → IsJoining all i i after []
-joining_none all i after le = record { from = omega arith; within = le; text = refl; count = refl; size = omega arith }
-
 -- One line more, that continues.
 pub joining_more : (all : List (List ℕ)) (i next after : ℕ) (bytes line : List ℕ) → next < after → after ≤ length all → line ≡ get_or all next [] → continues line ≡ true
     → IsJoining all i next after bytes → IsJoining all i (next + 1) after (bytes ++ with_space line)
@@ -76,19 +73,6 @@ joined_last all i next after bytes line lt within is off so_far =
     let size : size_of (slice_range all next after) ≡ length line = ap size_of cut ∙ rw off refl in
     record {
       text = ap (λ rest. bytes ++ rest) (sym text) ∙ so_far.text;
-      count = omega (arith, so_far.count);
-      bytes_are = omega (arith, so_far.size);
-    }
-
--- No line is left.
-pub joined_all : (all : List (List ℕ)) (i next after : ℕ) (bytes : List ℕ) → after ≤ next → IsJoining all i next after bytes → IsJoined all i next after bytes (length bytes)
-joined_all all i next after bytes past so_far =
-    let end : next ≡ after = omega (arith, so_far.within) in
-    let none : slice_range all next after ≡ [] = ap (λ n. slice_range all n after) end ∙ range_none all after in
-    let count : span (slice_range all next after) ≡ 0 = ap span none in
-    let size : size_of (slice_range all next after) ≡ 0 = ap size_of none in
-    record {
-      text = sym (append-nil bytes) ∙ ap (λ rest. bytes ++ rest) (sym (ap joined none)) ∙ so_far.text;
       count = omega (arith, so_far.count);
       bytes_are = omega (arith, so_far.size);
     }

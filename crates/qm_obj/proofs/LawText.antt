@@ -191,12 +191,14 @@ plain_lines number (l ∷ ls) = record { number = number; size = length l; text 
 no_comment : (line : List ℕ) → list_all is_tame line ≡ true → before_first is_hash line ≡ line
 no_comment line tame = take_all _ _ (whole line tame)
   where
+    other : (b : ℕ) → is_tame b ≡ true → is_hash b ≡ false
+    other b tame = not-true (eqb b 35) (and_parts (not (eqb b 35)) (not (eqb b 92)) (and_parts (not (eqb b 10) && not (eqb b 13)) (not (eqb b 35) && not (eqb b 92)) tame).1).0
+
     whole : (line : List ℕ) → list_all is_tame line ≡ true → length line ≤ position_or_len is_hash line
     whole [] tame = omega arith
     whole (b ∷ bs) tame =
         let parts : (is_tame b ≡ true) × (list_all is_tame bs ≡ true) = and_parts _ _ tame in
-        let other : is_hash b ≡ false = not-true _ (and_parts _ _ (and_parts _ _ parts.0).1).0 in
-        rw other (omega (arith, whole bs parts.1))
+        rw (other b parts.0) (omega (arith, whole bs parts.1))
 
 no_continuation : (line : List ℕ) → list_all is_tame line ≡ true → continues line ≡ false
 no_continuation [] tame = refl

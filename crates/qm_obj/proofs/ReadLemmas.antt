@@ -185,10 +185,6 @@ uncapped n few (face ∷ faces) (line ∷ lines) size none = by_late (list_any (
     by_late true is none again = cc none
     by_late false is none again = rw (along face is, again none) refl
 
--- Nothing is read.
-read_none : HasRead [] [] [] []
-read_none = record { accepted = refl; places_are = refl; faces_are = refl; lines_are = refl }
-
 -- The counts of a reader are those of the lines.
 record IsWithin (lines : List Logical) (kept : List (List ℤ)) (corners : List (List ℕ)) (numbers : List ℕ) : Type 0 where
   vertices : length kept ≡ count_by is_vertex_line lines
@@ -281,9 +277,6 @@ read_refused lines rest line kept corners numbers fail has is =
 pub record IsAt (all : List (List ℕ)) (first i after : ℕ) (kept : List (List ℤ)) (corners : List (List ℕ)) (numbers : List ℕ) : Type 0 where
   pub within : i ≤ after
   pub read : HasReadTo (logical_lines (first + 1) (slice_range all first after)) (logical_lines (i + 1) (slice_range all i after)) kept corners numbers
-
-pub at_start : (all : List (List ℕ)) (first after : ℕ) → first ≤ after → IsAt all first first after [] [] []
-at_start all first after le = record { within = le; read = record { done = []; split = refl; has = read_none } }
 
 pub at_few : (all : List (List ℕ)) (first i after : ℕ) (kept : List (List ℤ)) (corners : List (List ℕ)) (numbers : List ℕ) → IsAt all first i after kept corners numbers → (length kept ≤ 2 ^ 21) × (length corners ≤ 2 ^ 20)
 at_few all first i after kept corners numbers at =

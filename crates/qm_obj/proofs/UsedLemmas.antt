@@ -1,5 +1,5 @@
 -- The places that some face names, and the numbers of the vertices that they become.
-use Rattle.std.proofs.Common.{◌≡◌, ℕ, ℤ, zero, suc, ◌+◌, ◌-◌, ◌<◌, ◌≤◌, Bool, true, false, cond, ◌&&◌, List, [], ◌∷◌, ◌++◌, length, drop, set, map, get_or, refl, sym, ap, ◌∙◌, arith, ltb, leb, add-one, Some}
+use Rattle.std.proofs.Common.{◌≡◌, ℕ, ℤ, zero, suc, ◌+◌, ◌-◌, ◌<◌, ◌≤◌, Bool, true, false, cond, ◌&&◌, List, [], ◌∷◌, ◌++◌, length, drop, set, map, get_or, refl, sym, ap, ◌∙◌, arith, ltb, leb, add-one}
 use Rattle.std.specs.Prelude.{IsTrue}
 use Rattle.std.specs.List.{filter, list_all, list_any}
 use Rattle.std.proofs.lemmas.List.{append-nil, take_more_set, map_push, length_push, drop-drop, drop_more, length-set}
@@ -26,10 +26,6 @@ chosen_no marks k off =
     let e : k + 1 - 1 ≡ k = omega arith in
     let p : get_or marks (k + 1 - 1) false ≡ false = rw e off in
     filter_numbers (λ k. get_or marks (k - 1) false) k ∙ rw p (append-nil _)
-
--- No place is looked at: none is kept.
-pub kept_none : (marks : List Bool) (old : List (List ℤ)) → length old ≡ length marks → IsKept marks old old [] 0
-kept_none marks old size = record { names_are = refl; few = omega arith; size = size; front = refl; back = refl }
 
 -- One place more, that is kept.
 pub kept_mark : (marks : List Bool) (old places : List (List ℤ)) (names : List ℕ) (k : ℕ) → k < length marks → get_or marks k false ≡ true
@@ -90,12 +86,6 @@ pub late_more : (vertices : ℕ) (faces : List (List ℕ)) (lines : List ℕ) (i
     → list_any (λ corner. ltb vertices corner) (get_or faces i []) ≡ false
     → first_late vertices (drop (i + 1) faces) (drop (i + 1) lines) ≡ first_late vertices (drop i faces) (drop i lines)
 late_more vertices faces lines i there size calm = rw (drop_more faces i [] there, drop_more lines i 0 (omega arith), calm) refl
-
--- A late face is the first one, where those before it are not late.
-pub late_here : (vertices : ℕ) (faces : List (List ℕ)) (lines : List ℕ) (i : ℕ) → i < length faces → length lines ≡ length faces
-    → list_any (λ corner. ltb vertices corner) (get_or faces i []) ≡ true
-    → first_late vertices (drop i faces) (drop i lines) ≡ Some (get_or lines i 0)
-late_here vertices faces lines i there size late = rw (drop_more faces i [] there, drop_more lines i 0 (omega arith), late) refl
 
 -- What was kept, counted and renumbered is the soup.
 pub made_of : (places : List (List ℤ)) (faces : List (List ℕ)) (marks : List Bool) (made : FaceSet) (vertices : List ℕ)

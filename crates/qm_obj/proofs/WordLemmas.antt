@@ -125,9 +125,6 @@ next_none all count (b ∷ bs) after is none = absurd (eqb-suc none)
     eqb-suc : eqb (suc (length bs)) 0 ≡ true → ⊥
     eqb-suc e = let h : suc (length bs) ≡ 0 = eqb-true _ _ e in omega arith
 
-pub filled_none : {X : Type 0} (says : List ℕ → X) (all : List (List ℕ)) (slots : List X) → IsFilled says all 0 (length slots) slots
-filled_none says all slots = record { many = refl; each = λ k d l. absurd (omega arith) }
-
 -- One slot more.
 pub filled_more : {X : Type 0} (says : List ℕ → X) (all : List (List ℕ)) (count size : ℕ) (slots : List X) (x : X) → x ≡ says (get_or all count []) → IsFilled says all count size slots → IsFilled says all (count + 1) size (set slots count x)
 filled_more {X} says all count size slots x is filled = record {
