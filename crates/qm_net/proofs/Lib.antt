@@ -1,5 +1,4 @@
 pub mod Balances
-mod Balances
 mod Ends
 pub mod SmallNets
 pub mod Within
