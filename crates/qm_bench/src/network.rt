@@ -6,7 +6,7 @@ use std::alloc::{AllocError, Global};
 const PAIRS: u32 = 5000;
 
 /// 5,000 nodes and 10,000 arcs, in pairs that balance each other: with unlike signs, with like signs, or with one end.
-pub fn network(alloc: Global) -> Result<Net, AllocError> {
+pub(crate) fn network(alloc: Global) -> Result<Net, AllocError> {
     let mut arcs = Vec::new(alloc);
     for j in 0..PAIRS {
         for second in [false, true] {
@@ -49,7 +49,7 @@ fn arc(j: u32, second: bool) -> Arc
 }
 
 /// A list with equal lengths for both arcs of a pair.
-pub fn lengths(alloc: Global) -> Result<Vec<u64>, AllocError> {
+pub(crate) fn lengths(alloc: Global) -> Result<Vec<u64>, AllocError> {
     let mut x = Vec::new(alloc);
     for j in 0..PAIRS {
         let length = u64::from(1 + j % 6);

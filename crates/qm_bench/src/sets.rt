@@ -6,7 +6,7 @@ use std::alloc::{AllocError, Global};
 
 /// A dual of a graph with `n` vertices, with half as many sets of odd size: each around the set before it and two
 /// vertices, or each around the next three sets or vertices.
-pub fn dual_of(alloc: Global, n: u32, nest: bool) -> Result<Dual, AllocError>
+pub(crate) fn dual_of(alloc: Global, n: u32, nest: bool) -> Result<Dual, AllocError>
     requires { n ≤ 2 ^ 25 }
     ensures small_y { IfOk result (λ d. AreSmall d.y.items) }
     ensures small_z { IfOk result (λ d. AreSmall d.z.items) }

@@ -12,14 +12,14 @@ use qm_gadget::graph_of;
 use std::alloc::{AllocError, Global};
 
 #[derive(Clone, Copy, Debug, PartialEq, Eq)]
-pub enum Task {
+pub(crate) enum Task {
     Graph,
     Nest,
     Tree,
 }
 
 /// Does a task as often as is asked, and tells what came of it.
-pub fn run(
+pub(crate) fn run(
     alloc: Global,
     net: &Net,
     x: &[u64],
