@@ -8,7 +8,7 @@ use Rattle.def_flow.specs.declared.net.Arc.{Arc}
 use Rattle.def_flow.specs.declared.net.End.{End}
 use Rattle.def_flow.specs.Accepted.{cert_verdict}
 use Rattle.def_flow.specs.declared.cert.CertVerdict.TheVariants.{Yes, Count, Below, Unequal, Dual, Sums}
-use Rattle.def_flow.specs.declared.weighted.Verdict.TheVariants.{Short}
+use Rattle.def_matching.specs.declared.weighted.Verdict.TheVariants.{Short}
 
 abbrev pub end : ℕ → Bool → End
 end v s = record { node = v; plus = s }

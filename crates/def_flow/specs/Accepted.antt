@@ -1,18 +1,18 @@
 -- Certificates: a list of lengths, and a dual over its matching graph that shows the list to be least.
 use Rattle.std.specs.Prelude.{◌≡◌, ℕ, Option, ◌==◌, nat_lt, not, if◌then◌else◌, List, length, slice_index, pos, ◌*ℤ◌, unsigned_abs, true, false}
 use Rattle.std.specs.Ordering.{int_eq}
-use Rattle.qm_laws.specs.Searches.{least}
+use Rattle.def_math.specs.Searches.{least}
 use Rattle.def_flow.specs.Network.{Network}
 use Rattle.def_flow.specs.Admissible.{IsAdmissible, deviation, entries, side_sum}
 use Rattle.def_flow.specs.Units.{on_cost}
 use Rattle.def_flow.specs.MatchingGraph.{matching_graph}
-use Rattle.def_flow.specs.Dual.{DualLists, SaysYes, dual, dual_sum, refuse, verdict}
+use Rattle.def_matching.specs.Dual.{DualLists, SaysYes, dual, dual_sum, refuse, verdict}
 use Rattle.def_flow.specs.declared.cert.Cert.{Cert}
 use Rattle.def_flow.specs.declared.cert.CertVerdict.{CertVerdict}
 use Rattle.def_flow.specs.declared.cert.CertVerdict.TheVariants.{Count, Below, Unequal, Dual, Sums}
 use Rattle.def_flow.specs.declared.cert.CertVerdict.TheVariants.{Yes as Accepted}
-use Rattle.def_flow.specs.declared.weighted.Verdict.{Verdict}
-use Rattle.def_flow.specs.declared.weighted.Verdict.TheVariants.{Yes}
+use Rattle.def_matching.specs.declared.weighted.Verdict.{Verdict}
+use Rattle.def_matching.specs.declared.weighted.Verdict.TheVariants.{Yes}
 
 -- A certificate as contracts see it.
 pub record Certificate : Type 0 where

@@ -1,7 +1,7 @@
 -- Lists of lengths that a network admits, and how far they are from what is wanted.
 use Rattle.std.specs.Prelude.{◌≡◌, ℕ, ◌*◌, ◌^◌, ◌<◌, ◌≤◌, Bool, true, false, cond, not, ◌&&◌, ◌==◌, List, length, slice_index_or, ℤ, pos, ◌-ℤ◌, ◌*ℤ◌, ◌≤ℤ◌, unsigned_abs}
-use Rattle.qm_laws.specs.Counts.{count, count_below}
-use Rattle.qm_laws.specs.Sums.{total, total_below}
+use Rattle.def_math.specs.Counts.{count, count_below}
+use Rattle.def_math.specs.Sums.{total, total_below}
 use Rattle.def_flow.specs.Network.{Network, ends, arc_at}
 use Rattle.def_flow.specs.declared.net.Arc.{Arc}
 use Rattle.def_flow.specs.declared.net.End.{End}

@@ -1,11 +1,11 @@
 -- The matching graph of a list of lengths: its perfect matchings tell the lists nearby.
 use Rattle.std.specs.Prelude.{ℕ, zero, suc, ◌+◌, ◌-◌, ◌*◌, ◌%◌, Bool, cond, not, ◌==◌, List, [], ◌∷◌, ◌++◌, length, Option, Some, None, ℤ, pos}
-use Rattle.qm_laws.specs.Counts.{count, count_below}
+use Rattle.def_math.specs.Counts.{count, count_below}
 use Rattle.def_flow.specs.Network.{Network}
-use Rattle.def_flow.specs.Matching.{Graph}
+use Rattle.def_matching.specs.Matching.{Graph}
 use Rattle.def_flow.specs.Units.{units, states_at, active, rim_active}
 use Rattle.def_flow.specs.declared.net.End.{End}
-use Rattle.def_flow.specs.declared.weighted.WEdge.{WEdge}
+use Rattle.def_matching.specs.declared.weighted.WEdge.{WEdge}
 use Rattle.def_flow.specs.declared.units.ArcUnit.{ArcUnit}
 
 -- The edge from u to v.

@@ -1,4 +1,4 @@
-use crate::weighted::{Dual, Verdict};
+use def_matching::{Dual, Verdict};
 
 /// A list of lengths, one for each arc, and a dual over its matching graph that shows it to be least.
 #[derive(Debug, Drop)]

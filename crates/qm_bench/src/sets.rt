@@ -1,7 +1,7 @@
 ghost use Rattle.std.specs.Prelude.{◌^◌, ◌≤◌, length, IfOk};
-ghost use Rattle.def_flow.specs.Dual.{AreSmall};
+ghost use Rattle.def_matching.specs.Dual.{AreSmall};
 
-use def_flow::Dual;
+use def_matching::Dual;
 use std::alloc::{AllocError, Global};
 
 /// A dual of a graph with `n` vertices, with half as many sets of odd size: each around the set before it and two

@@ -1,12 +1,13 @@
 ghost use Rattle.std.specs.Prelude.{◌^◌, ◌≤◌, length};
 ghost use Rattle.def_flow.specs.Network.{network, tangle_number, IsWithinBounds};
 ghost use Rattle.def_flow.specs.Admissible.{entries, IsAdmissible};
-ghost use Rattle.def_flow.specs.Matching.{graph, IsGraph};
-ghost use Rattle.def_flow.specs.Dual.{AreSmall};
+ghost use Rattle.def_matching.specs.Matching.{graph, IsGraph};
+ghost use Rattle.def_matching.specs.Dual.{AreSmall};
 ghost use Rattle.qm_net.specs.Lengths.{AreLengths};
 
 use crate::sets::dual_of;
-use def_flow::{Dual, Net, WGraph};
+use def_flow::Net;
+use def_matching::{Dual, WGraph};
 use qm_dual::dual_ok;
 use qm_gadget::graph_of;
 use std::alloc::{AllocError, Global};

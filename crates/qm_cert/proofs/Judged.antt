@@ -10,13 +10,13 @@ use Rattle.def_flow.specs.Network.{Network, IsWithinBounds}
 use Rattle.def_flow.specs.Admissible.{IsAdmissible, IsLeast, deviation, entries, side_sum}
 use Rattle.def_flow.specs.Units.{low, down, on_cost}
 use Rattle.def_flow.specs.MatchingGraph.{matching_graph}
-use Rattle.def_flow.specs.Dual.{dual_sum, refuse, verdict}
+use Rattle.def_matching.specs.Dual.{dual_sum, refuse, verdict}
 use Rattle.def_flow.specs.Accepted.{Certificate, IsAccepted, below_fault, unequal_fault, refuse_dual, sums_verdict, cert_verdict}
 use Rattle.def_flow.specs.declared.cert.CertVerdict.{CertVerdict}
 use Rattle.def_flow.specs.declared.cert.CertVerdict.TheVariants.{Count, Below, Unequal, Sums}
 use Rattle.def_flow.specs.declared.cert.CertVerdict.TheVariants.{Yes as Accepted}
-use Rattle.def_flow.specs.declared.weighted.Verdict.{Verdict}
-use Rattle.def_flow.specs.declared.weighted.Verdict.TheVariants.{Yes, Shape, Even, Negative, Short}
+use Rattle.def_matching.specs.declared.weighted.Verdict.{Verdict}
+use Rattle.def_matching.specs.declared.weighted.Verdict.TheVariants.{Yes, Shape, Even, Negative, Short}
 use Rattle.qm_net.proofs.Balances.{no_side_past}
 use Rattle.qm_dual.proofs.Verdicts.{yes_says, says_yes}
 use Rattle.qm_units.proofs.Box.{own_box}

@@ -5,7 +5,7 @@ use Rattle.std.specs.List.{list_all}
 use Rattle.std.proofs.lemmas.Int.{ints}
 use Rattle.std.proofs.lemmas.Bool.{and_parts}
 use Rattle.std.proofs.lemmas.List.{length-map, get_or-map}
-use Rattle.qm_laws.specs.Counts.{count_below}
+use Rattle.def_math.specs.Counts.{count_below}
 use Rattle.qm_laws.proofs.Counts.{count_below_le, count_below_ones, count_below_times}
 use Rattle.def_flow.specs.Network.{Network, IsWithinBounds, arc_at, ends}
 use Rattle.def_flow.specs.Admissible.{arc_deviation, deviation, entries}

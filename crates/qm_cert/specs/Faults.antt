@@ -1,6 +1,6 @@
 -- What is wrong with a list of lengths, as the judge finds it.
 use Rattle.std.specs.Prelude.{ℕ, ◌==◌, not, if◌then◌else◌, true, false, List, length, slice_index, unsigned_abs, Option, Some, None, option_map}
-use Rattle.qm_laws.specs.Searches.{least}
+use Rattle.def_math.specs.Searches.{least}
 use Rattle.def_flow.specs.Network.{Network}
 use Rattle.def_flow.specs.Admissible.{entries, side_sum}
 use Rattle.def_flow.specs.Accepted.{below_fault, unequal_fault}

@@ -2,14 +2,15 @@ ghost use Rattle.std.specs.Prelude.{◌≡◌, ◌^◌, ◌<◌, ◌≤◌, ◌�
 ghost use Rattle.def_flow.specs.Network.{network, IsWithinBounds, tangle_number};
 ghost use Rattle.def_flow.specs.Admissible.{entries, IsAdmissible, IsLeast};
 ghost use Rattle.def_flow.specs.MatchingGraph.{matching_graph};
-ghost use Rattle.def_flow.specs.Dual.{dual, verdict, AreSmall};
+ghost use Rattle.def_matching.specs.Dual.{dual, verdict, AreSmall};
 ghost use Rattle.def_flow.specs.Accepted.{certificate, cert_verdict, refuse_dual, sums_verdict, IsAccepted};
 ghost use Rattle.qm_net.specs.Lengths.{AreLengths};
 
 use crate::Memory;
 use crate::list::list_fault;
 use crate::sum::sum_verdict;
-use def_flow::{Cert, CertVerdict, Net, Verdict};
+use def_flow::{Cert, CertVerdict, Net};
+use def_matching::Verdict;
 use qm_dual::dual_ok;
 use qm_gadget::graph_of;
 use std::alloc::Global;

@@ -1,5 +1,5 @@
 ghost use Rattle.std.specs.Prelude.{◌≡◌, ◌+◌, ◌*◌, ◌^◌, ◌<◌, ◌≤◌, ◌==◌, ℕ, not, cond, length, replicate, slice_index, nat_lt, IfOk, IfSome};
-ghost use Rattle.qm_laws.specs.Searches.{least};
+ghost use Rattle.def_math.specs.Searches.{least};
 ghost use Rattle.def_flow.specs.Network.{network, IsWithinBounds};
 ghost use Rattle.qm_net.specs.Lengths.{AreLengths};
 ghost use Rattle.qm_cert.specs.Sides.{added, added_arc, AreSides};

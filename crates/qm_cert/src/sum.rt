@@ -2,7 +2,7 @@ ghost use Rattle.std.specs.Prelude.{◌≡◌, ◌^◌, ◌≤◌, pos, ◌-ℤ�
 ghost use Rattle.std.specs.Ordering.{int_eq};
 ghost use Rattle.def_flow.specs.Network.{network, IsWithinBounds};
 ghost use Rattle.def_flow.specs.Units.{low};
-ghost use Rattle.def_flow.specs.Dual.{dual_sum};
+ghost use Rattle.def_matching.specs.Dual.{dual_sum};
 ghost use Rattle.def_flow.specs.Accepted.{certificate, sums_verdict};
 ghost use Rattle.qm_net.specs.Lengths.{AreLengths};
 

@@ -3,7 +3,8 @@ ghost use Rattle.std.specs.List.{list_all};
 ghost use Rattle.def_flow.specs.Network.{network, tangle_number};
 
 use crate::accepts;
-use def_flow::{Arc, Cert, CertVerdict, Dual, End, Net, Verdict};
+use def_flow::{Arc, Cert, CertVerdict, End, Net};
+use def_matching::{Dual, Verdict};
 use qm_net::is_within_bounds;
 use std::alloc::Global;
 use std::process::Abort;

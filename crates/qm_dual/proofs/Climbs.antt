@@ -4,7 +4,8 @@ use Rattle.std.specs.Prelude.{slice_index}
 use Rattle.std.proofs.lemmas.Bool.{cases_eq, cases_lt, ne_eqb, false≢true}
 use Rattle.std.proofs.lemmas.Bool.Decides.{nat_tests}
 use Rattle.std.proofs.lemmas.List.{get_or_past}
-use Rattle.def_flow.specs.Dual.{IsNested, is_up, climbs}
+use Rattle.def_matching.specs.Dual.{IsNested, is_up}
+use Rattle.qm_dual.specs.Nest.{climbs}
 
 -- An entry of a lawful `up` is 0, or names a set at a later place.
 pub entry_later : (n m i entry : ℕ) → is_up n m i entry ≡ true → (entry ≡ 0) ⊎ ((i + 1 < n + entry) × (entry ≤ m))

@@ -6,10 +6,10 @@ use mir.Val.{to_z, of_z}
 use Rattle.std.proofs.lemmas.Int.{ints}
 use Rattle.std.proofs.lemmas.Bool.{cases_eq, eq-eqb, ne_eqb, false_from_ne_true}
 use Rattle.std.proofs.lemmas.List.{length-set, get_or-set_same, get_or-set_other}
-use Rattle.qm_laws.specs.Sums.{total_below}
+use Rattle.def_math.specs.Sums.{total_below}
 use Rattle.qm_laws.proofs.Sums.{total_below_same, total_below_sum, total_below_none, total_below_one}
-use Rattle.def_flow.specs.Dual.{DualLists, IsNested, AreSmall, climbs, z_at}
-use Rattle.qm_dual.specs.Nest.{around, apart, named_sum, AreSums, IsMeeting}
+use Rattle.def_matching.specs.Dual.{DualLists, IsNested, AreSmall, z_at}
+use Rattle.qm_dual.specs.Nest.{climbs, around, apart, named_sum, AreSums, IsMeeting}
 use Rattle.qm_dual.proofs.Climbs.{set_later, climb_on, climb_none, passed_later}
 
 -- A sum of small terms is small.

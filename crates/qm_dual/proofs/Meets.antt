@@ -2,8 +2,8 @@
 use Rattle.std.proofs.Common.{◌≡◌, ℕ, zero, suc, ◌+◌, ◌<◌, ◌≤◌, ◌≢◌, ◌||◌, ◌&&◌, Bool, true, false, max, List, refl, sym, ◌∙◌, ap, inl, inr, ◌⊎◌, arith}
 use Rattle.std.specs.Prelude.{slice_index}
 use Rattle.std.proofs.lemmas.Bool.{cases_eq, cases_lt, eq-eqb, and_parts}
-use Rattle.def_flow.specs.Dual.{IsNested, climbs}
-use Rattle.qm_dual.specs.Nest.{AreHeads, IsMeeting, HaveSameSets, left}
+use Rattle.def_matching.specs.Dual.{IsNested}
+use Rattle.qm_dual.specs.Nest.{climbs, AreHeads, IsMeeting, HaveSameSets, left}
 use Rattle.qm_dual.proofs.Climbs.{set_later, climb_on, climb_none, passed_further, passed_inner}
 use Rattle.qm_dual.proofs.OnPaths.{head_later, head_of_passed, past_head, from_head, path_chain}
 

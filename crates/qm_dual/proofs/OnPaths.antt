@@ -2,8 +2,8 @@
 use Rattle.std.proofs.Common.{◌≡◌, ℕ, zero, suc, ◌+◌, ◌<◌, ◌≤◌, ◌==◌, ◌||◌, Bool, true, false, List, refl, sym, ◌∙◌, ap, subst, inl, inr, ◌⊎◌, arith}
 use Rattle.std.specs.Prelude.{slice_index}
 use Rattle.std.proofs.lemmas.Bool.{cases_eq, cases_order, eq-eqb, false≢true}
-use Rattle.def_flow.specs.Dual.{IsNested, climbs}
-use Rattle.qm_dual.specs.Nest.{IsHead, AreHeads}
+use Rattle.def_matching.specs.Dual.{IsNested}
+use Rattle.qm_dual.specs.Nest.{climbs, IsHead, AreHeads}
 use Rattle.qm_dual.proofs.Climbs.{set_later, around_later, climb_on, climb_none, passed_on, passed_later}
 
 -- A head is at or above its set, and is a set.

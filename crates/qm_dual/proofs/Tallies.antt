@@ -3,10 +3,10 @@ use Rattle.std.proofs.Common.{◌≡◌, ℕ, zero, suc, ◌+◌, ◌<◌, ◌�
 use Rattle.std.specs.Prelude.{slice_index}
 use Rattle.std.proofs.lemmas.Bool.{cases_eq, cases_lt, eq-eqb, ne_eqb, false_from_ne_true, cond-true, cond-false}
 use Rattle.std.proofs.lemmas.List.{get_or_past, length-set, length-replicate, get_or-replicate, get_or-set_same, get_or-set_other}
-use Rattle.qm_laws.specs.Counts.{count_below}
+use Rattle.def_math.specs.Counts.{count_below}
 use Rattle.qm_laws.proofs.Counts.{count_below_same, count_below_sum}
-use Rattle.def_flow.specs.Dual.{DualLists, IsNested, climbs, set_size}
-use Rattle.qm_dual.specs.Nest.{passed, tally, added, AreTallies, AreSizes}
+use Rattle.def_matching.specs.Dual.{DualLists, IsNested, set_size}
+use Rattle.qm_dual.specs.Nest.{climbs, passed, tally, added, AreTallies, AreSizes}
 use Rattle.qm_dual.proofs.Climbs.{set_later, entry_low, climb_on, climb_none, passed_later}
 
 -- A count of tests is at most the number of things tested.

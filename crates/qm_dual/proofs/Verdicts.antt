@@ -4,12 +4,12 @@ use Rattle.std.proofs.lemmas.Int.{ints}
 use Rattle.std.proofs.lemmas.Bool.{eq-eqb}
 use Rattle.std.proofs.lemmas.Bool.Decides.{nat_tests}
 use Rattle.std.specs.Prelude.{int_lt, slice_index}
-use Rattle.qm_laws.specs.Searches.{least}
+use Rattle.def_math.specs.Searches.{least}
 use Rattle.qm_laws.proofs.Searches.{least_none, least_some, least_same, none_below}
-use Rattle.def_flow.specs.declared.weighted.Verdict.{Verdict}
-use Rattle.def_flow.specs.declared.weighted.Verdict.TheVariants.{Yes, Shape, Even, Negative, Short}
-use Rattle.def_flow.specs.Matching.{Graph, IsGraph, edge_at, IsPerfect, matching_cost}
-use Rattle.def_flow.specs.Dual.{DualLists, IsNested, SaysYes, set_size, is_odd_size, is_up, load, z_at, dual_sum, shape_fault, even_fault, negative_fault, short_fault, refuse, verdict}
+use Rattle.def_matching.specs.declared.weighted.Verdict.{Verdict}
+use Rattle.def_matching.specs.declared.weighted.Verdict.TheVariants.{Yes, Shape, Even, Negative, Short}
+use Rattle.def_matching.specs.Matching.{Graph, IsGraph, edge_at, IsPerfect, matching_cost}
+use Rattle.def_matching.specs.Dual.{DualLists, IsNested, SaysYes, set_size, is_odd_size, is_up, load, z_at, dual_sum, shape_fault, even_fault, negative_fault, short_fault, refuse, verdict}
 use Rattle.qm_dual.specs.Nest.{AreSizes}
 use Rattle.qm_dual.proofs.Weak.{weak_duality}
 

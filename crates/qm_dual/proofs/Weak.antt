@@ -2,15 +2,16 @@
 use Rattle.std.proofs.Common.{◌≡◌, ℕ, ◌+◌, ◌*◌, ◌%◌, ◌<◌, ◌≤◌, Bool, true, false, not, cond, List, [], ◌∷◌, map, length, ℤ, pos, ◌+ℤ◌, ◌*ℤ◌, ◌≤ℤ◌, refl, arith}
 use Rattle.std.proofs.lemmas.Int.{ints}
 use Rattle.std.proofs.lemmas.Bool.Decides.{nat_tests}
-use Rattle.qm_laws.specs.Counts.{count, count_below}
-use Rattle.qm_laws.specs.Sums.{total, total_below}
+use Rattle.def_math.specs.Counts.{count, count_below}
+use Rattle.def_math.specs.Sums.{total, total_below}
 use Rattle.qm_laws.proofs.Counts.{count_below_total}
 use Rattle.qm_laws.proofs.Ends.{EndsBelow, ends_once}
 use Rattle.qm_laws.proofs.Entries.{total_entries}
 use Rattle.qm_laws.proofs.Sums.{total_sum, total_below_le, two_orders}
-use Rattle.def_flow.specs.declared.weighted.WEdge.{WEdge}
-use Rattle.def_flow.specs.Matching.{Graph, IsGraph, edge_at, ends_at, IsRising, IsPerfect, matching_cost}
-use Rattle.def_flow.specs.Dual.{DualLists, SaysYes, holds, set_size, is_odd_size, crosses, load, y_at, z_at, dual_sum}
+use Rattle.def_matching.specs.declared.weighted.WEdge.{WEdge}
+use Rattle.def_math.specs.Rising.{IsRising}
+use Rattle.def_matching.specs.Matching.{Graph, IsGraph, edge_at, ends_at, IsPerfect, matching_cost}
+use Rattle.def_matching.specs.Dual.{DualLists, SaysYes, holds, set_size, is_odd_size, crosses, load, y_at, z_at, dual_sum}
 
 -- The edges of rising numbers have their ends among the vertices.
 pub chosen_below : (g : Graph) → IsGraph g → (low : ℕ) (m : List ℕ) → IsRising low (length g.edges) m → EndsBelow (λ (e : WEdge). e.u) (λ (e : WEdge). e.v) g.n (map (edge_at g) m)

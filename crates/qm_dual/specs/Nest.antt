@@ -1,8 +1,13 @@
 -- What the tables over the nested sets of a dual hold.
-use Rattle.std.specs.Prelude.{◌≡◌, ℕ, zero, suc, ◌+◌, ◌-◌, ◌<◌, ◌≤◌, ◌⊎◌, ◌==◌, ◌&&◌, not, if◌then◌else◌, List, length, ℤ, pos, slice_index, slice_index_or, slice_set}
-use Rattle.qm_laws.specs.Counts.{count_below}
-use Rattle.qm_laws.specs.Sums.{total_below}
-use Rattle.def_flow.specs.Dual.{DualLists, climbs, set_size, z_at}
+use Rattle.std.specs.Prelude.{◌≡◌, ℕ, zero, suc, ◌+◌, ◌-◌, ◌<◌, ◌≤◌, ◌⊎◌, ◌==◌, ◌&&◌, Bool, not, if◌then◌else◌, List, length, ℤ, pos, slice_index, slice_index_or, slice_set}
+use Rattle.std.specs.List.{list_any}
+use Rattle.def_math.specs.Counts.{count_below}
+use Rattle.def_math.specs.Sums.{total_below}
+use Rattle.def_matching.specs.Dual.{DualLists, sets_from, set_size, z_at}
+
+-- A climb from an entry passes set k within so many steps: it is one of the sets that the entry names.
+abbrev pub climbs : (n : ℕ) (up : List ℕ) (steps k entry : ℕ) → Bool
+climbs n up steps k entry = list_any (λ j. j == k) (sets_from n up steps entry)
 
 -- Where a climb from an entry stands when the sets below k have passed on what they hold.
 abbrev pub passed : ℕ → List ℕ → ℕ → ℕ → ℕ

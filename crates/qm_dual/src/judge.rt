@@ -1,13 +1,13 @@
 ghost use Rattle.std.specs.Prelude.{◌≡◌, ◌+◌, ◌^◌, ◌<◌, ◌≤◌, ◌*ℤ◌, ◌≤ℤ◌, ℕ, ℤ, List, pos, not, length, slice_index, slice_index_or, int_lt, IfOk, IfNone, IfSome};
-ghost use Rattle.qm_laws.specs.Searches.{least};
-ghost use Rattle.def_flow.specs.Dual.{dual, verdict, shape_fault, is_odd_size, is_up, AreSmall, IsNested};
-ghost use Rattle.def_flow.specs.Matching.{graph, matching_cost, IsGraph, IsPerfect};
+ghost use Rattle.def_math.specs.Searches.{least};
+ghost use Rattle.def_matching.specs.Dual.{dual, verdict, shape_fault, is_odd_size, is_up, AreSmall, IsNested};
+ghost use Rattle.def_matching.specs.Matching.{graph, matching_cost, IsGraph, IsPerfect};
 
 use crate::loads::judge_loads;
 use crate::paths::path_heads;
 use crate::sizes::set_sizes;
 use crate::sums::nested_sums;
-use def_flow::{Dual, Verdict, WGraph};
+use def_matching::{Dual, Verdict, WGraph};
 use std::alloc::{AllocError, Global};
 
 /// Want of memory.

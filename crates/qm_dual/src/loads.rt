@@ -1,12 +1,12 @@
 ghost use Rattle.std.specs.Prelude.{◌≡◌, ◌^◌, ◌<◌, ◌≤◌, ◌*ℤ◌, ℕ, pos, length, unsigned_abs};
-ghost use Rattle.def_flow.specs.Dual.{dual, dual_sum, load, IsNested, AreSmall, short_fault, refuse};
-ghost use Rattle.def_flow.specs.Matching.{graph, edge_at, IsGraph};
+ghost use Rattle.def_matching.specs.Dual.{dual, dual_sum, load, IsNested, AreSmall, short_fault, refuse};
+ghost use Rattle.def_matching.specs.Matching.{graph, edge_at, IsGraph};
 ghost use Rattle.qm_dual.specs.Nest.{apart, AreHeads, AreSums};
 
 use crate::nest::set_around_vertex;
 use crate::paths::meeting;
 use crate::sums::{sum_of, sum_of_dual};
-use def_flow::{Dual, Verdict, WEdge, WGraph};
+use def_matching::{Dual, Verdict, WEdge, WGraph};
 
 /// The verdict on a dual whose sets are in order: the least edge whose load is above twice its cost, or the sum.
 pub(crate) fn judge_loads(g: &WGraph, d: &Dual, sums: &[i128], heads: &[u32]) -> Verdict

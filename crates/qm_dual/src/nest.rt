@@ -1,7 +1,7 @@
 ghost use Rattle.std.specs.Prelude.{◌≡◌, ◌+◌, ◌^◌, ◌<◌, ◌≤◌, ◌⊎◌, length, slice_index};
-ghost use Rattle.def_flow.specs.Dual.{IsNested};
+ghost use Rattle.def_matching.specs.Dual.{IsNested};
 
-use def_flow::Dual;
+use def_matching::Dual;
 
 /// The smallest set around a vertex, from 1, or 0 if there is none.
 pub(crate) fn set_around_vertex(n: u32, d: &Dual, v: u32) -> u32

@@ -1,10 +1,10 @@
 ghost use Rattle.std.specs.Prelude.{◌≡◌, ◌+◌, ◌-◌, ◌^◌, ◌<◌, ◌≤◌, ◌≢◌, ◌==◌, ◌&&◌, not, if◌then◌else◌, length, slice_index, IfOk};
-ghost use Rattle.def_flow.specs.Dual.{IsNested};
+ghost use Rattle.def_matching.specs.Dual.{IsNested};
 ghost use Rattle.qm_dual.specs.Nest.{AreHeads, IsMeeting, HaveSameSets, left};
 
 use crate::judge::Memory;
 use crate::nest::set_around_set;
-use def_flow::Dual;
+use def_matching::Dual;
 use std::alloc::Global;
 
 /// The paths into which the sets fall: each set's entry names the head of its path, from 1. A path goes from a set

@@ -1,10 +1,10 @@
 ghost use Rattle.std.specs.Prelude.{◌≡◌, ◌+◌, ◌-◌, ◌^◌, ◌<◌, ◌≤◌, length, replicate, slice_index, IfOk};
-ghost use Rattle.def_flow.specs.Dual.{dual, IsNested};
+ghost use Rattle.def_matching.specs.Dual.{dual, IsNested};
 ghost use Rattle.qm_dual.specs.Nest.{AreTallies, AreSizes, added};
 
 use crate::judge::Memory;
 use crate::nest::{set_around_set, set_around_vertex};
-use def_flow::Dual;
+use def_matching::Dual;
 use std::alloc::Global;
 
 /// How many vertices each set holds. Linear in the entries of `up`.

@@ -1,11 +1,11 @@
 ghost use Rattle.std.specs.Prelude.{◌≡◌, ◌+◌, ◌^◌, ◌<◌, ◌≤◌, length, unsigned_abs, IfOk};
-ghost use Rattle.qm_laws.specs.Sums.{total};
-ghost use Rattle.def_flow.specs.Dual.{dual, dual_sum, IsNested, AreSmall};
+ghost use Rattle.def_math.specs.Sums.{total};
+ghost use Rattle.def_matching.specs.Dual.{dual, dual_sum, IsNested, AreSmall};
 ghost use Rattle.qm_dual.specs.Nest.{around, named_sum, AreSums};
 
 use crate::judge::Memory;
 use crate::nest::set_around_set;
-use def_flow::Dual;
+use def_matching::Dual;
 use std::alloc::Global;
 
 /// For each set the sum of its `z` and of those of the sets around it. Linear in the sets.

@@ -2,7 +2,7 @@ ghost use Rattle.std.specs.Prelude.{◌≡◌, ◌<◌, ◌==◌, ◌&&◌, ◌^
 ghost use Rattle.std.specs.List.{list_all};
 
 use crate::dual_ok;
-use def_flow::{Dual, Verdict, WEdge, WGraph};
+use def_matching::{Dual, Verdict, WEdge, WGraph};
 use std::alloc::Global;
 use std::process::Abort;
 use std::test::Fail;

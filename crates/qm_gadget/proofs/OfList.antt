@@ -3,10 +3,10 @@ use Rattle.std.proofs.Common.{◌≡◌, ℕ, zero, suc, ◌+◌, ◌-◌, ◌*�
 use Rattle.std.specs.Prelude.{slice_index}
 use Rattle.std.proofs.lemmas.Bool.{cases_lt}
 use Rattle.std.proofs.lemmas.List.{length-map, get_or_past}
-use Rattle.qm_laws.specs.Counts.{count, count_below}
+use Rattle.def_math.specs.Counts.{count, count_below}
 use Rattle.def_flow.specs.Network.{Network, IsWithinBounds, tangle_number}
 use Rattle.def_flow.specs.Admissible.{IsAdmissible, entries}
-use Rattle.def_flow.specs.Matching.{Graph}
+use Rattle.def_matching.specs.Matching.{Graph}
 use Rattle.def_flow.specs.Units.{low, cap, units, active, rim_active}
 use Rattle.def_flow.specs.MatchingGraph.{graph_by, graph_of_units, matching_graph, first_fresh, unit_size, size_by, are_alike, rim}
 use Rattle.def_flow.specs.declared.net.End.{End}

@@ -5,12 +5,12 @@ use Rattle.std.specs.Bool.{beq}
 use Rattle.std.proofs.lemmas.Bool.{cases_eq, cases_lt, eq-eqb, ne_eqb, lt-ltb}
 use Rattle.std.proofs.lemmas.Bool.Decides.{nat_tests}
 use Rattle.std.proofs.lemmas.List.{drop_more}
-use Rattle.qm_laws.specs.Counts.{count}
+use Rattle.def_math.specs.Counts.{count}
 use Rattle.def_flow.specs.Network.{Network}
-use Rattle.def_flow.specs.Matching.{IsRising}
+use Rattle.def_math.specs.Rising.{IsRising}
 use Rattle.def_flow.specs.Units.{low, cap, active_at}
 use Rattle.def_flow.specs.MatchingGraph.{are_alike, graph_by, units_links, rim_links, lone_vertex, first_fresh, rim}
-use Rattle.qm_laws.specs.Counts.{count_below}
+use Rattle.def_math.specs.Counts.{count_below}
 use Rattle.def_flow.specs.declared.net.End.{End}
 use Rattle.def_flow.specs.declared.units.ArcUnit.{ArcUnit}
 use Rattle.qm_units.specs.Marks.{trues, units_marks, marks_by}

@@ -4,7 +4,7 @@ use Rattle.std.proofs.lemmas.Int.{ints}
 use Rattle.std.proofs.lemmas.List.{length-map}
 use Rattle.def_flow.specs.Network.{Network, IsWithinBounds, tangle_number}
 use Rattle.def_flow.specs.Admissible.{IsAdmissible, deviation, entries}
-use Rattle.def_flow.specs.Matching.{Graph, graph, matching_cost, IsPerfect}
+use Rattle.def_matching.specs.Matching.{Graph, graph, matching_cost, IsPerfect}
 use Rattle.def_flow.specs.Units.{low, cap, units, states_at, active, rim_active}
 use Rattle.def_flow.specs.MatchingGraph.{graph_by, matching_graph}
 use Rattle.def_flow.specs.declared.units.ArcUnit.{ArcUnit}

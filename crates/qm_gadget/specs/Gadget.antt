@@ -2,7 +2,7 @@
 use Rattle.std.specs.Prelude.{◌≡◌, ℕ, ◌^◌, ◌<◌, ◌≤◌, List, length, map, slice_index}
 use Rattle.def_flow.specs.Network.{Network, tangle_number}
 use Rattle.def_flow.specs.Admissible.{IsAdmissible, entries}
-use Rattle.def_flow.specs.Matching.{graph}
+use Rattle.def_matching.specs.Matching.{graph}
 use Rattle.def_flow.specs.MatchingGraph.{matching_graph}
 use Rattle.def_flow.specs.Units.{low, cap}
 use Rattle.qm_net.specs.Lengths.{AreLengths}

@@ -1,7 +1,7 @@
 -- What is read off a rising list of edges, unit by unit.
 use Rattle.std.specs.Prelude.{ℕ, ◌+◌, ◌*◌, Bool, false, cond, nat_lt, List, [], ◌∷◌, take, drop}
 use Rattle.def_flow.specs.declared.units.ArcUnit.{ArcUnit}
-use Rattle.qm_laws.specs.Counts.{count}
+use Rattle.def_math.specs.Counts.{count}
 use Rattle.def_flow.specs.Network.{Network}
 use Rattle.def_flow.specs.Units.{active}
 use Rattle.qm_units.specs.Marks.{trues}

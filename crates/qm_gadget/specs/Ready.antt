@@ -1,7 +1,7 @@
 -- What a plan of a matching graph holds, and what it needs.
 use Rattle.std.specs.Prelude.{◌≡◌, ℕ, ◌-◌, ◌/◌, ◌%◌, ◌^◌, ◌<◌, ◌≤◌, ◌==◌, Bool, List, [], ◌∷◌, length, map, slice_index}
 use Rattle.def_flow.specs.Network.{Network}
-use Rattle.def_flow.specs.Matching.{Graph}
+use Rattle.def_matching.specs.Matching.{Graph}
 use Rattle.def_flow.specs.MatchingGraph.{graph_of_units}
 use Rattle.def_flow.specs.Units.{active, rim_active}
 use Rattle.qm_units.specs.Marks.{states_marks}

@@ -1,7 +1,7 @@
 ghost use Rattle.std.specs.Prelude.{◌≡◌, ◌^◌, ◌≤◌, IfOk, map};
 ghost use Rattle.def_flow.specs.Network.{network, IsWithinBounds, tangle_number};
 ghost use Rattle.def_flow.specs.Admissible.{entries, IsAdmissible};
-ghost use Rattle.def_flow.specs.Matching.{graph};
+ghost use Rattle.def_matching.specs.Matching.{graph};
 ghost use Rattle.def_flow.specs.MatchingGraph.{matching_graph};
 ghost use Rattle.def_flow.specs.Units.{cap as units_of_arc, low as low_of_arc};
 ghost use Rattle.qm_net.specs.Lengths.{AreLengths};
@@ -12,7 +12,8 @@ use crate::Memory;
 use crate::boxes::{caps_of, lows_of};
 use crate::layout::lay_out;
 use crate::plan::plan_of;
-use def_flow::{Net, WGraph};
+use def_flow::Net;
+use def_matching::WGraph;
 use std::alloc::{AllocError, Global};
 
 /// The matching graph of a list of lengths.

@@ -2,7 +2,8 @@ ghost use Rattle.std.specs.Prelude.{◌≡◌, ◌+◌, ◌^◌, ◌<◌, ◌≤
 ghost use Rattle.def_flow.specs.MatchingGraph.{link, fan, to_copies, inner_link, links_by, unit_links, are_alike, unit_size};
 ghost use Rattle.qm_gadget.specs.Layout.{room_of, AreFirsts, IsAtNodes};
 
-use def_flow::{ArcUnit, End, WEdge};
+use def_flow::{ArcUnit, End};
+use def_matching::WEdge;
 use std::alloc::AllocError;
 
 /// Adds an edge.

@@ -1,12 +1,13 @@
 ghost use Rattle.std.specs.Prelude.{◌≡◌, ◌+◌, ◌*◌, ◌-◌, ◌^◌, ◌<◌, ◌≤◌, ◌++◌, length, cond, OnOk, IfOk};
-ghost use Rattle.qm_laws.specs.Counts.{count, count_below};
-ghost use Rattle.def_flow.specs.Matching.{graph};
+ghost use Rattle.def_math.specs.Counts.{count, count_below};
+ghost use Rattle.def_matching.specs.Matching.{graph};
 ghost use Rattle.def_flow.specs.MatchingGraph.{units_links, unit_size, graph_by, first_fresh, rim};
 ghost use Rattle.qm_gadget.specs.Layout.{room_of, AreFirsts, AreAtNodes};
 
 use crate::edges::{push_unit, size_of_unit};
 use crate::rim::{push_rim, rim_of};
-use def_flow::{ArcUnit, WEdge, WGraph};
+use def_flow::ArcUnit;
+use def_matching::{WEdge, WGraph};
 use std::alloc::{AllocError, Global};
 
 /// The graph of units over nodes with copies. Linear in its vertices and edges.

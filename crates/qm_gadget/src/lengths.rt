@@ -1,9 +1,10 @@
 ghost use Rattle.std.specs.Prelude.{◌≡◌, ◌+◌, ◌*◌, ◌^◌, ◌<◌, ◌≤◌, ◌≤ℤ◌, ◌-ℤ◌, ◌++◌, [], ◌∷◌, ℕ, pos, drop, length, slice_index, IfOk, OnOk};
 ghost use Rattle.std.specs.Bool.{beq};
-ghost use Rattle.qm_laws.specs.Counts.{count};
+ghost use Rattle.def_math.specs.Counts.{count};
 ghost use Rattle.def_flow.specs.Network.{network, IsWithinBounds};
 ghost use Rattle.def_flow.specs.Admissible.{deviation, entries, IsAdmissible};
-ghost use Rattle.def_flow.specs.Matching.{graph, matching_cost, IsPerfect, IsRising};
+ghost use Rattle.def_math.specs.Rising.{IsRising};
+ghost use Rattle.def_matching.specs.Matching.{graph, matching_cost, IsPerfect};
 ghost use Rattle.qm_units.specs.Marks.{trues};
 ghost use Rattle.qm_units.specs.Told.{marks_from, states_told};
 ghost use Rattle.qm_gadget.specs.Gadget.{IsGadgetOf};

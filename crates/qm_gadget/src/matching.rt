@@ -1,7 +1,7 @@
 ghost use Rattle.std.specs.Prelude.{◌≡◌, ◌-◌, ◌/◌, ◌^◌, ◌≤◌, ℕ, pos, ◌-ℤ◌, length, slice_index, IfOk};
 ghost use Rattle.def_flow.specs.Network.{network, IsWithinBounds};
 ghost use Rattle.def_flow.specs.Admissible.{deviation, entries, IsAdmissible};
-ghost use Rattle.def_flow.specs.Matching.{graph, matching_cost, IsPerfect};
+ghost use Rattle.def_matching.specs.Matching.{graph, matching_cost, IsPerfect};
 ghost use Rattle.qm_units.specs.Marks.{places, states_marks};
 ghost use Rattle.qm_gadget.specs.Gadget.{IsGadgetOf, IsInBoxOf};
 ghost use Rattle.qm_gadget.specs.Layout.{room_of, AreAtNodes};

@@ -1,9 +1,10 @@
 ghost use Rattle.std.specs.Prelude.{◌≡◌, ◌+◌, ◌*◌, ◌^◌, ◌<◌, ◌≤◌, [], ◌∷◌, ◌++◌, pos, length, OnOk, IfOk};
-ghost use Rattle.qm_laws.specs.Counts.{count};
+ghost use Rattle.def_math.specs.Counts.{count};
 ghost use Rattle.def_flow.specs.MatchingGraph.{link, link_from, rim, rim_links, unit_size};
 
 use crate::edges::{push_link, size_of_unit};
-use def_flow::{ArcUnit, WEdge};
+use def_flow::ArcUnit;
+use def_matching::WEdge;
 use std::alloc::{AllocError, Global};
 
 /// The vertices at the rim, one for each unit with one end, where the vertices of the units begin at `first`.

@@ -1,11 +1,12 @@
 ghost use Rattle.std.specs.Prelude.{◌^◌, ◌≤◌, IsTrue, IfOk};
 ghost use Rattle.def_flow.specs.Network.{network, tangle_number, IsWithinBounds};
-ghost use Rattle.def_flow.specs.Matching.{graph, IsPerfect};
+ghost use Rattle.def_matching.specs.Matching.{graph, IsPerfect};
 ghost use Rattle.qm_gadget.specs.Gadget.{IsGadgetOf, IsInBoxOf};
 ghost use Rattle.qm_gadget.specs.Over.{IsStepUp};
 
 use crate::{Gadget, graph_of, lengths_of, matching_of};
-use def_flow::{Arc, End, Net, WGraph};
+use def_flow::{Arc, End, Net};
+use def_matching::WGraph;
 use qm_net::{admissible, are_lengths, is_within_bounds};
 use std::alloc::Global;
 use std::process::Abort;

@@ -3,8 +3,8 @@ use Rattle.std.proofs.Common.{◌≡◌, ℕ, ◌+◌, ◌<◌, ◌==◌, eqb, t
 use Rattle.std.proofs.lemmas.Int.{ints}
 use Rattle.std.proofs.lemmas.Bool.{eq-eqb, ne_eqb}
 use Rattle.std.proofs.Math.IntN.{*ℤ_comm}
-use Rattle.qm_laws.specs.Counts.{count}
-use Rattle.qm_laws.specs.Sums.{total, total_below}
+use Rattle.def_math.specs.Counts.{count}
+use Rattle.def_math.specs.Sums.{total, total_below}
 use Rattle.qm_laws.proofs.Sums.{times_sum, total_below_same, total_below_sum, total_below_none, total_below_one}
 
 -- 1 where the two numbers are equal.

@@ -2,7 +2,7 @@
 use Rattle.std.proofs.Common.{◌≡◌, ℕ, zero, suc, ◌+◌, ◌<◌, List, [], ◌∷◌, length, get_or, take, ℤ, ◌+ℤ◌, refl, ◌∙◌, ap, arith}
 use Rattle.std.proofs.lemmas.List.{take_more}
 use Rattle.std.proofs.lemmas.Int.{ints}
-use Rattle.qm_laws.specs.Sums.{total, total_below}
+use Rattle.def_math.specs.Sums.{total, total_below}
 use Rattle.qm_laws.proofs.Sums.{total_append}
 
 -- The first term of a sum below a bound.

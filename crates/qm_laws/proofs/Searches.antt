@@ -1,7 +1,7 @@
 -- Laws of the least number that passes a test.
 use Rattle.std.proofs.Common.{◌≡◌, ℕ, zero, suc, ◌<◌, Bool, true, false, Option, Some, None, refl, sym, ◌∙◌, ap, inl, inr, arith}
 use Rattle.std.proofs.lemmas.Bool.{cases_eq}
-use Rattle.qm_laws.specs.Searches.{least, or_this}
+use Rattle.def_math.specs.Searches.{least, or_this}
 
 -- Where none passes, none is found.
 pub least_none : (p : ℕ → Bool) (n : ℕ) → ((k : ℕ) → k < n → p k ≡ false) → least p n ≡ None

@@ -1,7 +1,7 @@
 -- Sums on the sides of a node.
 use Rattle.std.proofs.Common.{◌≡◌, ℕ, ◌<◌, Bool, true, false, cond, List, [], ◌∷◌, length, ℤ, pos, ◌+ℤ◌, ◌-ℤ◌, refl, ap, arith}
 use Rattle.std.proofs.lemmas.Int.{ints}
-use Rattle.qm_laws.specs.Sums.{total}
+use Rattle.def_math.specs.Sums.{total}
 use Rattle.qm_laws.proofs.Sums.{total_below_same, total_below_sum, total_below_minus}
 use Rattle.def_flow.specs.Network.{ends, arc_at}
 use Rattle.def_flow.specs.Admissible.{is_on_side, side_sum, IsBalanced}

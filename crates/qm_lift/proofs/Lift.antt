@@ -3,7 +3,7 @@ use Rattle.std.proofs.Common.{◌≡◌, ◌≢◌, ℕ, zero, suc, ◌+◌, ◌
 use Rattle.std.proofs.lemmas.Int.{ints}
 use Rattle.std.proofs.lemmas.Bool.{cases_eq, cases_lt}
 use Rattle.std.proofs.Math.IntN.{*ℤ-zero}
-use Rattle.qm_laws.specs.Counts.{count_below}
+use Rattle.def_math.specs.Counts.{count_below}
 use Rattle.qm_laws.proofs.Sums.{times_sum}
 use Rattle.qm_laws.proofs.Counts.{count_below_same, count_below_sum, count_below_le, count_below_lt}
 use Rattle.def_flow.specs.Network.{Network, arc_at}

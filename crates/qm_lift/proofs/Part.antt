@@ -1,7 +1,7 @@
 -- The walk law: a tour through the copies of a difference is a small part of it.
 use Rattle.std.proofs.Common.{◌≡◌, ◌≢◌, ℕ, zero, suc, ◌<◌, ◌≤◌, Bool, true, false, cond, not, ◌&&◌, ◌==◌, List, ◌∷◌, length, option_to_list, Option, Some, None, ℤ, pos, negsuc, ◌+ℤ◌, ◌-ℤ◌, neg_ℤ, unsigned_abs, refl, sym, ◌∙◌, ap, inl, inr, arith, eq-eqb}
 use Rattle.std.proofs.lemmas.Int.{ints}
-use Rattle.qm_laws.specs.Sums.{total, total_below}
+use Rattle.def_math.specs.Sums.{total, total_below}
 use Rattle.qm_laws.proofs.Sums.{total_below_same, total_below_minus, total_below_none}
 use Rattle.def_flow.specs.Network.{Network, ends, arc_at}
 use Rattle.def_flow.specs.Admissible.{IsAdmissible, IsBalanced, is_on_side, side_sum}

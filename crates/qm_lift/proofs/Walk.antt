@@ -2,8 +2,8 @@
 use Rattle.std.proofs.Common.{◌≡◌, ◌≢◌, ℕ, zero, suc, ◌+◌, ◌-◌, ◌<◌, ◌≤◌, Bool, true, false, cond, ◌==◌, List, [], ◌∷◌, Option, Some, None, ℤ, pos, ◌+ℤ◌, ◌-ℤ◌, ◌≤ℤ◌, ◌<ℤ◌, refl, sym, ◌∙◌, ap, subst, inl, inr, ◌⊎◌, true≢false, arith, eq-eqb, ne_eqb}
 use Rattle.std.proofs.lemmas.Int.{ints}
 use Rattle.std.proofs.lemmas.Bool.{cases_eq, cases_lt}
-use Rattle.qm_laws.specs.Sums.{total, total_below}
-use Rattle.qm_laws.specs.Counts.{count, count_below}
+use Rattle.def_math.specs.Sums.{total, total_below}
+use Rattle.def_math.specs.Counts.{count, count_below}
 use Rattle.qm_laws.proofs.Sums.{total_below_sum, total_below_same, total_below_none, total_below_one, total_below_minus, cases_neg, some_below}
 use Rattle.qm_laws.proofs.Counts.{count_below_lt}
 use Rattle.qm_lift.proofs.Ports.{Port, opposite, weigh, is_same, same_is, is_same_self, weigh_opposite, weigh_sum, weigh_none, weigh_self, weigh_other, weigh_low}

@@ -6,7 +6,7 @@ use Rattle.std.proofs.lemmas.Bool.{cases_eq, cases_lt, eq-eqb, ne_eqb, and_parts
 use Rattle.std.proofs.lemmas.Bool.Decides.{nat_tests}
 use Rattle.std.proofs.lemmas.List.{drop_more, drop_all, get_or_past, length-set, get_or-set_same, get_or-set_other}
 use Rattle.std.proofs.lemmas.List.Sums.{AllPass-from_list_all}
-use Rattle.qm_laws.specs.Counts.{count, count_below}
+use Rattle.def_math.specs.Counts.{count, count_below}
 use Rattle.qm_laws.proofs.Counts.{count_below_same}
 use Rattle.def_flow.specs.Network.{Network, IsWithinBounds, is_bounded, degree, ends}
 use Rattle.def_flow.specs.declared.net.Arc.{Arc}

@@ -1,6 +1,6 @@
 -- A network of few nodes and arcs has a small tangle number.
 use Rattle.std.proofs.Common.{◌≡◌, ℕ, ◌*◌, ◌^◌, ◌≤◌, ◌==◌, Bool, true, false, cond, List, [], ◌∷◌, length, Option, Some, None, option_to_list, ◌∙◌, ap, mul-le-mul, arith}
-use Rattle.qm_laws.specs.Counts.{count, count_below}
+use Rattle.def_math.specs.Counts.{count, count_below}
 use Rattle.qm_laws.proofs.Counts.{count_below_le, count_below_ones, count_below_times}
 use Rattle.def_flow.specs.Network.{Network, degree, tangle_number}
 use Rattle.def_flow.specs.declared.net.Arc.{Arc}

@@ -1,6 +1,6 @@
 -- Balances of the nodes of a block: what counts on the plus side less what counts on the minus side.
 use Rattle.std.specs.Prelude.{◌≡◌, ℕ, ◌+◌, ◌-◌, ◌*◌, ◌^◌, ◌<◌, ◌≤◌, Bool, true, false, ◌&&◌, nat_le, nat_lt, if◌then◌else◌, List, length, Option, Some, None, ℤ, pos, ◌+ℤ◌, ◌-ℤ◌, neg_ℤ, cond, unsigned_abs, slice_index_or, slice_set}
-use Rattle.qm_laws.specs.Sums.{total, total_below}
+use Rattle.def_math.specs.Sums.{total, total_below}
 use Rattle.def_flow.specs.Network.{arc_at, ends}
 use Rattle.def_flow.specs.Admissible.{entries, is_on_side, side_sum}
 use Rattle.def_flow.specs.declared.net.Arc.{Arc}

@@ -1,5 +1,5 @@
 ghost use Rattle.std.specs.Prelude.{◌≡◌, ◌+◌, ◌*◌, ◌^◌, ◌<◌, ◌≤◌, ℕ, length, slice_index, replicate, IfOk};
-ghost use Rattle.qm_laws.specs.Counts.{count_below};
+ghost use Rattle.def_math.specs.Counts.{count_below};
 ghost use Rattle.def_flow.specs.Network.{network, degree, tangle_number, IsWithinBounds};
 ghost use Rattle.qm_net.specs.Degrees.{counted, counted_arc, AreDegrees, HasEndsBelow, AreEndsBelow};
 

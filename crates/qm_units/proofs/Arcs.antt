@@ -5,7 +5,7 @@ use Rattle.std.proofs.lemmas.Bool.{cases_lt}
 use Rattle.std.proofs.lemmas.List.{length-take-le, length-drop, length-map}
 use Rattle.def_flow.specs.Network.{Network, IsWithinBounds}
 use Rattle.def_flow.specs.Admissible.{IsAdmissible, IsBalanced, arc_deviation, deviation, entries}
-use Rattle.def_flow.specs.Matching.{IsPerfect, matching_cost}
+use Rattle.def_matching.specs.Matching.{IsPerfect, matching_cost}
 use Rattle.def_flow.specs.Units.{down, low, cap, units_from, units, states_at, active, rim_active, cost_on}
 use Rattle.def_flow.specs.MatchingGraph.{matching_graph}
 use Rattle.def_flow.specs.declared.net.Arc.{Arc}

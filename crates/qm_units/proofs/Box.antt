@@ -2,8 +2,8 @@
 use Rattle.std.proofs.Common.{◌≡◌, ℕ, zero, suc, ◌+◌, ◌-◌, ◌*◌, ◌/◌, ◌≤◌, Bool, true, false, cond, not, ◌&&◌, ◌==◌, List, [], ◌∷◌, ◌++◌, length, map, pos, ◌+ℤ◌, refl, sym, ◌∙◌, ap, add-mul, mul-add, mul_comm, mul_assoc, div-mul-le_self, mul-le-mul_right, zero-mul, zero-add, add-zero, length-append, arith}
 use Rattle.std.proofs.lemmas.Int.{ints}
 use Rattle.std.proofs.Math.Nat.{mul-div_cancel_left}
-use Rattle.qm_laws.specs.Sums.{total}
-use Rattle.qm_laws.specs.Counts.{count, count_below}
+use Rattle.def_math.specs.Sums.{total}
+use Rattle.def_math.specs.Counts.{count, count_below}
 use Rattle.qm_laws.proofs.Entries.{total_below_front}
 use Rattle.qm_laws.proofs.Counts.{count_below_front}
 use Rattle.def_flow.specs.Network.{Network, ends, arc_at}

@@ -1,9 +1,9 @@
 -- The chain at the rim: each vertex that waits gets a mate, and so do all fresh vertices.
 use Rattle.std.proofs.Common.{◌≡◌, ℕ, suc, ◌+◌, ◌-◌, ◌*◌, ◌%◌, Bool, true, false, cond, List, [], ◌∷◌, ◌++◌, length, Option, Some, None, ℤ, pos, ◌+ℤ◌, refl, ◌∙◌, ap, true≢false, arith}
 use Rattle.std.proofs.lemmas.Int.{ints}
-use Rattle.qm_laws.specs.Sums.{span}
+use Rattle.def_math.specs.Sums.{span}
 use Rattle.def_flow.specs.MatchingGraph.{link_from, rim_links}
-use Rattle.def_flow.specs.declared.weighted.WEdge.{WEdge}
+use Rattle.def_matching.specs.declared.weighted.WEdge.{WEdge}
 use Rattle.qm_units.specs.Marks.{trues, differ, rim_marks}
 use Rattle.qm_units.proofs.Pick.{picked}
 

@@ -1,6 +1,6 @@
 -- Rows: matchings and lists tell each other, at matchings of least cost that another program found.
 use Rattle.std.proofs.Common.{◌≡◌, [], ◌∷◌, negsuc, refl}
-use Rattle.def_flow.specs.Matching.{matching_cost}
+use Rattle.def_matching.specs.Matching.{matching_cost}
 use Rattle.def_flow.specs.MatchingGraph.{matching_graph}
 use Rattle.def_flow.proofs.NetworkExamples.{five_shapes}
 use Rattle.qm_units.specs.Box.{matching_told}

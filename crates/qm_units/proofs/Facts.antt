@@ -2,11 +2,11 @@
 use Rattle.std.proofs.Common.{◌≡◌, ℕ, ◌+◌, ◌<◌, ◌≤◌, Bool, true, false, cond, not, nat_lt, List, [], ◌∷◌, ◌++◌, length, take, drop, Option, Some, None, ℤ, pos, ◌+ℤ◌, ◌*ℤ◌, refl, ap, inl, inr, ◌⊎◌, lt-ltb, le-ltb, length-append, arith}
 use Rattle.std.proofs.lemmas.Int.{ints}
 use Rattle.std.proofs.lemmas.Bool.{cases_lt}
-use Rattle.qm_laws.specs.Counts.{count_below}
+use Rattle.def_math.specs.Counts.{count_below}
 use Rattle.def_flow.specs.Units.{is_active}
 use Rattle.def_flow.specs.MatchingGraph.{link, to_copies, inner_link, are_alike, links_by}
 use Rattle.def_flow.specs.declared.net.End.{End}
-use Rattle.def_flow.specs.declared.weighted.WEdge.{WEdge}
+use Rattle.def_matching.specs.declared.weighted.WEdge.{WEdge}
 use Rattle.qm_units.specs.Marks.{trues}
 use Rattle.qm_units.specs.Told.{width_by, state_told}
 use Rattle.qm_units.proofs.Pick.{picked, fan_length}

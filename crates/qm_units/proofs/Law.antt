@@ -6,7 +6,7 @@ use Rattle.std.proofs.lemmas.Int.{ints}
 use Rattle.std.proofs.lemmas.Bool.{and_parts, cases_eq}
 use Rattle.def_flow.specs.Network.{Network, IsWithinBounds, is_bounded}
 use Rattle.def_flow.specs.Admissible.{IsAdmissible, IsBalanced, deviation, entries}
-use Rattle.def_flow.specs.Matching.{IsGraph, IsPerfect, matching_cost}
+use Rattle.def_matching.specs.Matching.{IsGraph, IsPerfect, matching_cost}
 use Rattle.def_flow.specs.Units.{down, low, cap, units_from, units, states, states_at, active, rim_active, cost_on}
 use Rattle.def_flow.specs.MatchingGraph.{matching_graph}
 use Rattle.def_flow.specs.declared.net.Arc.{Arc}

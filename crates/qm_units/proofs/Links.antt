@@ -1,12 +1,12 @@
 -- The matching graph is a graph: each edge has two different ends among the vertices.
 use Rattle.std.proofs.Common.{◌≡◌, ◌≢◌, ℕ, zero, suc, ◌+◌, ◌<◌, ◌≤◌, Bool, true, false, cond, List, [], ◌∷◌, ◌++◌, length, get_or, Option, Some, None, ℤ, pos, ap, inl, inr, ◌⊎◌, arith}
 use Rattle.std.proofs.lemmas.Bool.{cases_eq}
-use Rattle.qm_laws.specs.Counts.{count, count_below}
-use Rattle.def_flow.specs.Matching.{IsGraph, edge_at}
+use Rattle.def_math.specs.Counts.{count, count_below}
+use Rattle.def_matching.specs.Matching.{IsGraph, edge_at}
 use Rattle.def_flow.specs.MatchingGraph.{fan, to_copies, inner_link, are_alike, links_by, size_by, unit_links, unit_size, units_links, with_rim, rim, link_from, rim_links, first_fresh, lone_vertex, graph_by}
 use Rattle.def_flow.specs.declared.net.End.{End}
 use Rattle.def_flow.specs.declared.units.ArcUnit.{ArcUnit}
-use Rattle.def_flow.specs.declared.weighted.WEdge.{WEdge}
+use Rattle.def_matching.specs.declared.weighted.WEdge.{WEdge}
 use Rattle.qm_units.proofs.Unit.{AreNodes}
 use Rattle.qm_units.proofs.Units.{UnitsAt}
 use Rattle.qm_units.proofs.Chain.{pairs}

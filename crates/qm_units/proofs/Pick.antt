@@ -1,12 +1,12 @@
 -- Sums over what is marked.
 use Rattle.std.proofs.Common.{◌≡◌, ℕ, zero, suc, ◌+◌, ◌<◌, ◌≤◌, Bool, true, false, cond, List, [], ◌∷◌, ◌++◌, length, map, get_or, ℤ, pos, ◌+ℤ◌, refl, ◌∙◌, ap, add-zero, arith}
 use Rattle.std.proofs.lemmas.Int.{ints}
-use Rattle.qm_laws.specs.Sums.{total}
-use Rattle.def_flow.specs.Matching.{IsRising}
+use Rattle.def_math.specs.Sums.{total}
+use Rattle.def_math.specs.Rising.{IsRising}
 use Rattle.def_flow.specs.MatchingGraph.{link, fan, to_copies}
 use Rattle.def_flow.specs.declared.net.End.{End}
-use Rattle.def_flow.specs.declared.weighted.WEdge.{WEdge}
-use Rattle.qm_laws.specs.Counts.{count_below}
+use Rattle.def_matching.specs.declared.weighted.WEdge.{WEdge}
+use Rattle.def_math.specs.Counts.{count_below}
 use Rattle.qm_units.specs.Marks.{choice, keep, chosen, places, end_marks}
 
 -- The sum of f over what is marked.

@@ -3,16 +3,17 @@ use Rattle.std.proofs.Common.{◌≡◌, ◌≢◌, ℕ, zero, suc, ◌+◌, ◌
 use Rattle.std.proofs.lemmas.Int.{ints}
 use Rattle.std.proofs.lemmas.Bool.{cases_eq, cases_lt}
 use Rattle.std.proofs.Math.IntN.{*ℤ-zero}
-use Rattle.qm_laws.specs.Sums.{total, total_below}
-use Rattle.qm_laws.specs.Counts.{count, count_below}
+use Rattle.def_math.specs.Sums.{total, total_below}
+use Rattle.def_math.specs.Counts.{count, count_below}
 use Rattle.qm_laws.proofs.Sums.{total_below_minus}
 use Rattle.qm_laws.proofs.Ends.{ends_once}
-use Rattle.def_flow.specs.Matching.{IsPerfect, IsRising, edge_at, matching_cost}
+use Rattle.def_math.specs.Rising.{IsRising}
+use Rattle.def_matching.specs.Matching.{IsPerfect, edge_at, matching_cost}
 use Rattle.def_flow.specs.Units.{active, cost_on}
 use Rattle.def_flow.specs.MatchingGraph.{to_copies, inner_link, are_alike, links_by, unit_links, unit_size, units_links, rim, rim_links, first_fresh, lone_vertex, graph_by}
 use Rattle.def_flow.specs.declared.net.End.{End}
 use Rattle.def_flow.specs.declared.units.ArcUnit.{ArcUnit}
-use Rattle.def_flow.specs.declared.weighted.WEdge.{WEdge}
+use Rattle.def_matching.specs.declared.weighted.WEdge.{WEdge}
 use Rattle.qm_dual.proofs.Weak.{chosen_below}
 use Rattle.qm_units.specs.Marks.{keep, chosen, places}
 use Rattle.qm_units.specs.Told.{past, marks_from, width_by, state_told, states_told}

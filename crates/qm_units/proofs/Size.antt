@@ -2,7 +2,7 @@
 use Rattle.std.proofs.Common.{◌≡◌, ◌≢◌, ℕ, zero, suc, ◌+◌, ◌-◌, ◌*◌, ◌%◌, ◌<◌, ◌≤◌, Bool, true, false, cond, ◌&&◌, ◌==◌, List, [], ◌∷◌, ◌++◌, length, map, Option, Some, None, option_to_list, pos, ◌≤ℤ◌, refl, sym, ◌∙◌, ap, inl, inr, ◌⊎◌, add-mul, mul-add, mul_comm, mul_left_comm, zero-mul, mul-le-mul_left, mul-le-mul_right, length-append, eq-eqb, ne_eqb, arith}
 use Rattle.std.proofs.lemmas.Int.{ints}
 use Rattle.std.proofs.lemmas.Bool.{cases_eq}
-use Rattle.qm_laws.specs.Counts.{count, count_below}
+use Rattle.def_math.specs.Counts.{count, count_below}
 use Rattle.qm_laws.proofs.Counts.{count_append, count_sum, count_below_sum, count_below_le, count_below_same, count_below_one, count_below_none, count_below_times}
 use Rattle.def_flow.specs.Network.{Network, IsWithinBounds, ends, degree, tangle_number}
 use Rattle.def_flow.specs.Admissible.{IsAdmissible, entries}
@@ -11,7 +11,7 @@ use Rattle.def_flow.specs.MatchingGraph.{link, link_from, rim_links, with_rim, r
 use Rattle.def_flow.specs.declared.net.Arc.{Arc}
 use Rattle.def_flow.specs.declared.net.End.{End}
 use Rattle.def_flow.specs.declared.units.ArcUnit.{ArcUnit}
-use Rattle.def_flow.specs.declared.weighted.WEdge.{WEdge}
+use Rattle.def_matching.specs.declared.weighted.WEdge.{WEdge}
 use Rattle.qm_units.specs.Told.{width_by}
 use Rattle.qm_units.proofs.Unit.{AreNodes}
 use Rattle.qm_units.proofs.Box.{own_box, arc_active, weighted_ends, box_active, balanced_list}

@@ -5,10 +5,10 @@ use Rattle.std.proofs.lemmas.Bool.{cases_lt}
 use Rattle.qm_laws.proofs.Counts.{count_below_same}
 use Rattle.def_flow.specs.Network.{Network, IsWithinBounds, arc_at}
 use Rattle.def_flow.specs.Admissible.{IsAdmissible, IsLeast, arc_deviation, deviation, entries}
-use Rattle.def_flow.specs.Matching.{IsPerfect, matching_cost}
+use Rattle.def_matching.specs.Matching.{IsPerfect, matching_cost}
 use Rattle.def_flow.specs.Units.{down, low, cap, on_cost}
 use Rattle.def_flow.specs.MatchingGraph.{matching_graph}
-use Rattle.def_flow.specs.Dual.{dual_sum}
+use Rattle.def_matching.specs.Dual.{dual_sum}
 use Rattle.def_flow.specs.Accepted.{Certificate, IsAccepted}
 use Rattle.qm_lift.proofs.Balance.{same_sides}
 use Rattle.qm_lift.proofs.Lift.{lift_law}

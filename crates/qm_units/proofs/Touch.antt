@@ -3,7 +3,7 @@ use Rattle.std.proofs.Common.{◌≡◌, ℕ, zero, suc, ◌+◌, ◌<◌, Bool,
 use Rattle.std.proofs.lemmas.Int.{ints}
 use Rattle.qm_laws.proofs.Ends.{plus_times}
 use Rattle.def_flow.specs.MatchingGraph.{link, fan}
-use Rattle.def_flow.specs.declared.weighted.WEdge.{WEdge}
+use Rattle.def_matching.specs.declared.weighted.WEdge.{WEdge}
 use Rattle.qm_units.specs.Marks.{trues}
 use Rattle.qm_units.proofs.Pick.{picked}
 use Rattle.qm_units.proofs.Chain.{at_ends}

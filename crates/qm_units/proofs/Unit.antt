@@ -1,13 +1,13 @@
 -- What is picked at a unit: the edges of its own vertices, and copies that it takes.
 use Rattle.std.proofs.Common.{◌≡◌, ℕ, ◌+◌, ◌<◌, ◌≤◌, Bool, true, false, cond, not, ◌&&◌, ◌==◌, [], ◌∷◌, ◌++◌, length, Option, Some, None, option_to_list, ℤ, pos, ◌+ℤ◌, refl, sym, ◌∙◌, ap, true≢false, eq-eqb, ne_eqb, length-append, arith}
 use Rattle.std.proofs.lemmas.Int.{ints}
-use Rattle.qm_laws.specs.Sums.{total_below, span}
-use Rattle.qm_laws.specs.Counts.{count, count_below}
+use Rattle.def_math.specs.Sums.{total_below, span}
+use Rattle.def_math.specs.Counts.{count, count_below}
 use Rattle.qm_laws.proofs.Sums.{total_below_same, total_below_sum, total_below_one, span_sum}
 use Rattle.def_flow.specs.Units.{is_active}
 use Rattle.def_flow.specs.MatchingGraph.{link, to_copies, inner_link, are_alike, links_by}
 use Rattle.def_flow.specs.declared.net.End.{End}
-use Rattle.def_flow.specs.declared.weighted.WEdge.{WEdge}
+use Rattle.def_matching.specs.declared.weighted.WEdge.{WEdge}
 use Rattle.qm_units.specs.Marks.{take_end, end_marks, marks_by}
 use Rattle.qm_units.proofs.Pick.{picked, pick_append, pick_end, end_length}
 use Rattle.qm_units.proofs.Chain.{at_ends}

@@ -1,14 +1,14 @@
 -- What is picked at all units.
 use Rattle.std.proofs.Common.{◌≡◌, ℕ, ◌+◌, ◌≤◌, Bool, true, false, cond, List, [], ◌∷◌, length, Option, Some, None, ℤ, pos, ◌+ℤ◌, refl, length-append, arith}
 use Rattle.std.proofs.lemmas.Int.{ints}
-use Rattle.qm_laws.specs.Sums.{span}
-use Rattle.qm_laws.specs.Counts.{count}
+use Rattle.def_math.specs.Sums.{span}
+use Rattle.def_math.specs.Counts.{count}
 use Rattle.qm_laws.proofs.Sums.{span_sum}
 use Rattle.def_flow.specs.Units.{is_active, active, active_at, alone_active, rim_active, cost_on}
 use Rattle.def_flow.specs.MatchingGraph.{are_alike, size_by, unit_size, unit_links, units_links, with_rim, rim}
 use Rattle.def_flow.specs.declared.net.End.{End}
 use Rattle.def_flow.specs.declared.units.ArcUnit.{ArcUnit}
-use Rattle.def_flow.specs.declared.weighted.WEdge.{WEdge}
+use Rattle.def_matching.specs.declared.weighted.WEdge.{WEdge}
 use Rattle.qm_units.specs.Marks.{trues, marks_by, units_marks, with_state, rim_states}
 use Rattle.qm_units.proofs.Pick.{picked, pick_append}
 use Rattle.qm_units.proofs.Chain.{at_ends}

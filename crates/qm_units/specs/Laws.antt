@@ -2,7 +2,7 @@
 use Rattle.std.specs.Prelude.{◌≡◌, ℕ, ◌*◌, ◌≤◌, List, length, pos, ◌-ℤ◌, ◌≤ℤ◌}
 use Rattle.def_flow.specs.Network.{Network, IsWithinBounds, tangle_number}
 use Rattle.def_flow.specs.Admissible.{IsAdmissible, IsLeast, deviation, entries}
-use Rattle.def_flow.specs.Matching.{IsGraph, IsPerfect, matching_cost}
+use Rattle.def_matching.specs.Matching.{IsGraph, IsPerfect, matching_cost}
 use Rattle.def_flow.specs.MatchingGraph.{matching_graph}
 use Rattle.def_flow.specs.Accepted.{Certificate, IsAccepted}
 use Rattle.qm_units.specs.Box.{IsInBox, lows, matching_told}

@@ -1,6 +1,6 @@
 -- The perfect matching that states of the units tell: a mark for each edge of the graph.
 use Rattle.std.specs.Prelude.{ℕ, zero, suc, ◌+◌, Bool, true, false, cond, not, ◌&&◌, ◌==◌, List, [], ◌∷◌, ◌++◌, Option, Some, None}
-use Rattle.qm_laws.specs.Counts.{count}
+use Rattle.def_math.specs.Counts.{count}
 use Rattle.def_flow.specs.Units.{is_active, active_at}
 use Rattle.def_flow.specs.MatchingGraph.{are_alike, first_fresh, lone_vertex}
 use Rattle.def_flow.specs.declared.net.End.{End}

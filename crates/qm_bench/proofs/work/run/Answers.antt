@@ -1,6 +1,6 @@
 use Rattle.std.proofs.Common.{length, ap, subst, sym, arith}
 use Rattle.def_flow.specs.Network.{network}
-use Rattle.def_flow.specs.Matching.{Graph, IsGraph}
+use Rattle.def_matching.specs.Matching.{Graph, IsGraph}
 use Rattle.qm_units.proofs.Law.{graph_law}
 use Rattle.qm_units.proofs.Size.{size_law}
 use Rattle.qm_bench.proofs.work.run.Goals as goal

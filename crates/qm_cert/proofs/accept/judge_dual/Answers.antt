@@ -1,6 +1,6 @@
 use Rattle.std.proofs.Common.{◌≡◌, length, sym, ◌∙◌, ap, subst, arith}
 use Rattle.def_flow.specs.Network.{network}
-use Rattle.def_flow.specs.Matching.{Graph, IsGraph, graph}
+use Rattle.def_matching.specs.Matching.{Graph, IsGraph, graph}
 use Rattle.def_flow.specs.MatchingGraph.{matching_graph}
 use Rattle.qm_units.proofs.Law.{graph_law}
 use Rattle.qm_units.proofs.Size.{size_law}

@@ -1,5 +1,5 @@
-use Rattle.def_flow.specs.Matching.{graph}
-use Rattle.def_flow.specs.Dual.{dual}
+use Rattle.def_matching.specs.Matching.{graph}
+use Rattle.def_matching.specs.Dual.{dual}
 use Rattle.qm_dual.proofs.Verdicts.{bound_where_exact}
 use Rattle.qm_dual.proofs.judge.dual_ok.Goals as goal
 

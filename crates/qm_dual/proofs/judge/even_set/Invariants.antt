@@ -1,5 +1,5 @@
 use Rattle.std.proofs.Common.{◌≡◌, ℕ, ◌<◌, not, false, slice_index}
-use Rattle.def_flow.specs.Dual.{is_odd_size}
+use Rattle.def_matching.specs.Dual.{is_odd_size}
 use Rattle.qm_dual.proofs.judge.even_set.Given as goal
 
 abbrev pub invariant-loop-k : goal.invariant-loop-k

@@ -1,9 +1,9 @@
 use Rattle.std.proofs.Common.{◌≡◌, ◌<◌, not, length, None, Some, slice_index, ◌∙◌, sym, ap, pos, int_lt, slice_index_or, refl, arith}
 use Rattle.std.proofs.lemmas.List.{get_or_read}
-use Rattle.qm_laws.specs.Searches.{least}
-use Rattle.def_flow.specs.Matching.{graph}
-use Rattle.def_flow.specs.Dual.{dual, even_fault, negative_fault, is_odd_size, set_size}
-use Rattle.def_flow.specs.declared.weighted.Verdict.TheVariants.{Even}
+use Rattle.def_math.specs.Searches.{least}
+use Rattle.def_matching.specs.Matching.{graph}
+use Rattle.def_matching.specs.Dual.{dual, even_fault, negative_fault, is_odd_size, set_size}
+use Rattle.def_matching.specs.declared.weighted.Verdict.TheVariants.{Even}
 use Rattle.qm_dual.specs.Nest.{AreSizes}
 use Rattle.qm_dual.proofs.Verdicts.{even_by_sizes, shaped_verdict}
 use Rattle.qm_dual.proofs.judge.judge_sets.Goals as goal

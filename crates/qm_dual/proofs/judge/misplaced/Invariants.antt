@@ -1,5 +1,5 @@
 use Rattle.std.proofs.Common.{◌≡◌, ℕ, ◌<◌, not, false, slice_index}
-use Rattle.def_flow.specs.Dual.{is_up}
+use Rattle.def_matching.specs.Dual.{is_up}
 use Rattle.qm_dual.proofs.judge.misplaced.Given as goal
 
 abbrev pub invariant-loop-i : goal.invariant-loop-i

@@ -1,6 +1,6 @@
 use Rattle.std.proofs.Common.{◌*◌, ◌^◌, ◌≤◌, unsigned_abs, ◌∙◌, ap, arith}
 use Rattle.std.proofs.lemmas.Int.{ints}
-use Rattle.def_flow.specs.Dual.{dual}
+use Rattle.def_matching.specs.Dual.{dual}
 use Rattle.qm_dual.proofs.Gathered.{named_small, apart_sums, plain_difference, abs_difference}
 use Rattle.qm_dual.proofs.loads.crossing_sum.Goals as goal
 

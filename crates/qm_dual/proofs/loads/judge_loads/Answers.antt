@@ -3,9 +3,9 @@ use Rattle.std.proofs.lemmas.Int.{ints, to_z-of_z}
 use mir.Syntax.{w64, w128}
 use mir.Val.{to_z, of_z}
 use lib.Signed.{mag}
-use Rattle.def_flow.specs.declared.weighted.WEdge.{WEdge}
-use Rattle.def_flow.specs.Matching.{graph, edge_at}
-use Rattle.def_flow.specs.Dual.{dual, load}
+use Rattle.def_matching.specs.declared.weighted.WEdge.{WEdge}
+use Rattle.def_matching.specs.Matching.{graph, edge_at}
+use Rattle.def_matching.specs.Dual.{dual, load}
 use Rattle.qm_dual.proofs.Verdicts.{short_found, none_short}
 use Rattle.qm_dual.proofs.loads.judge_loads.Goals as goal
 

@@ -1,6 +1,6 @@
 use Rattle.std.proofs.Common.{◌≡◌, ℕ, ◌<◌, false, pos, ◌*ℤ◌, int_lt}
-use Rattle.def_flow.specs.Matching.{graph, edge_at}
-use Rattle.def_flow.specs.Dual.{dual, load}
+use Rattle.def_matching.specs.Matching.{graph, edge_at}
+use Rattle.def_matching.specs.Dual.{dual, load}
 use Rattle.qm_dual.proofs.loads.judge_loads.Given as goal
 
 abbrev pub invariant-loop-k : goal.invariant-loop-k

@@ -1,7 +1,7 @@
 use Rattle.std.proofs.Common.{◌≡◌, ◌^◌, ◌<◌, pos, unsigned_abs, slice_index, slice_index_or, ◌∙◌, ap, arith}
 use Rattle.std.proofs.lemmas.Int.{ints}
 use Rattle.std.proofs.lemmas.List.{get_or_read}
-use Rattle.def_flow.specs.Dual.{dual}
+use Rattle.def_matching.specs.Dual.{dual}
 use Rattle.qm_dual.specs.Nest.{apart}
 use Rattle.qm_dual.proofs.loads.load_of.Goals as goal
 

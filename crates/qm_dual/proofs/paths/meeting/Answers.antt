@@ -1,5 +1,5 @@
 use Rattle.std.proofs.Common.{◌≡◌, ◌-◌, length, slice_index, ◌∙◌, sym, ap, arith}
-use Rattle.def_flow.specs.Dual.{climbs}
+use Rattle.qm_dual.specs.Nest.{climbs}
 use Rattle.qm_dual.proofs.Meets.{meeting_found}
 use Rattle.qm_dual.proofs.paths.meeting.Goals as goal
 use Rattle.qm_dual.proofs.paths.meeting.Goals.{then-loop-first-test+then-second-ne0+else-heads-first, then-loop-first-test+else-second-ne0, else-loop-first-test}

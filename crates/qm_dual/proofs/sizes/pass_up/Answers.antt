@@ -1,5 +1,5 @@
 use Rattle.std.proofs.Common.{◌≡◌, ◌+◌, ◌-◌, ◌<◌, length, min, slice_index, ◌∙◌, ap, arith}
-use Rattle.def_flow.specs.Dual.{dual}
+use Rattle.def_matching.specs.Dual.{dual}
 use Rattle.qm_dual.specs.Nest.{added}
 use Rattle.qm_dual.proofs.Tallies.{tallies_low, tallies_pass, tallies_end}
 use Rattle.qm_dual.proofs.sizes.pass_up.Goals as goal

@@ -1,5 +1,5 @@
 use Rattle.std.proofs.Common.{◌≤◌, length}
-use Rattle.def_flow.specs.Dual.{dual}
+use Rattle.def_matching.specs.Dual.{dual}
 use Rattle.qm_dual.specs.Nest.{AreSums}
 use Rattle.qm_dual.proofs.sums.nested_sums.Given as goal
 

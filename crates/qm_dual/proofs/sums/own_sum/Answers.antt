@@ -1,7 +1,7 @@
 use Rattle.std.proofs.Common.{◌≡◌, ◌+◌, ◌^◌, ◌<◌, pos, ◌+ℤ◌, unsigned_abs, slice_index, slice_index_or, ◌∙◌, ap, add-one, arith}
 use Rattle.std.proofs.lemmas.Int.{ints}
 use Rattle.std.proofs.lemmas.List.{get_or_read}
-use Rattle.def_flow.specs.Dual.{dual, z_at}
+use Rattle.def_matching.specs.Dual.{dual, z_at}
 use Rattle.qm_dual.specs.Nest.{around}
 use Rattle.qm_dual.proofs.Gathered.{around_small, around_step, named_later}
 use Rattle.qm_dual.proofs.sums.own_sum.Goals as goal

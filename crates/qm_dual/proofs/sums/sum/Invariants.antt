@@ -1,5 +1,5 @@
 use Rattle.std.proofs.Common.{◌≡◌, ◌*◌, ◌^◌, ◌≤◌, take, unsigned_abs}
-use Rattle.qm_laws.specs.Sums.{total}
+use Rattle.def_math.specs.Sums.{total}
 use Rattle.qm_dual.proofs.sums.sum.Given as goal
 
 abbrev pub invariant-loop-number : goal.invariant-loop-number

@@ -1,6 +1,6 @@
 use Rattle.std.proofs.Common.{◌≡◌, map, ◌∙◌, ap, arith}
 use Rattle.def_flow.specs.Network.{network}
-use Rattle.def_flow.specs.Matching.{Graph}
+use Rattle.def_matching.specs.Matching.{Graph}
 use Rattle.def_flow.specs.MatchingGraph.{matching_graph}
 use Rattle.def_flow.specs.Units.{low}
 use Rattle.qm_gadget.specs.Ready.{graph_by_lows}

@@ -1,5 +1,5 @@
 use Rattle.std.proofs.Common.{◌≡◌, ℕ, ◌<◌, length, slice_index}
-use Rattle.qm_laws.specs.Counts.{count_below}
+use Rattle.def_math.specs.Counts.{count_below}
 use Rattle.qm_gadget.specs.Layout.{room_of}
 use Rattle.qm_gadget.proofs.layout.first_copies.Given as goal
 

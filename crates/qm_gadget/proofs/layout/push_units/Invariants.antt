@@ -1,5 +1,5 @@
 use Rattle.std.proofs.Common.{◌≡◌, ◌+◌, ◌++◌, drop}
-use Rattle.qm_laws.specs.Counts.{count}
+use Rattle.def_math.specs.Counts.{count}
 use Rattle.def_flow.specs.MatchingGraph.{units_links, unit_size}
 use Rattle.qm_gadget.specs.Layout.{room_of}
 use Rattle.qm_gadget.proofs.layout.push_units.Given as goal

@@ -1,6 +1,6 @@
 use Rattle.std.proofs.Common.{◌≡◌, ℕ, ◌+◌, ◌-◌, ◌≤◌, ◌++◌, Bool, List, [], ◌∷◌, false, None, pos, drop, slice_index, slice_index_or, sym, ◌∙◌, ap, append_assoc, arith}
 use Rattle.std.specs.Bool.{beq}
-use Rattle.qm_laws.specs.Counts.{count}
+use Rattle.def_math.specs.Counts.{count}
 use Rattle.def_flow.specs.declared.units.ArcUnit.{ArcUnit}
 use Rattle.qm_units.specs.Told.{marks_from, states_told}
 use Rattle.qm_gadget.specs.Layout.{room_of}

@@ -1,6 +1,6 @@
 use Rattle.std.proofs.Common.{◌≡◌, ◌+◌, ◌-◌, ◌≤◌, ◌++◌, length, drop}
-use Rattle.qm_laws.specs.Counts.{count}
-use Rattle.def_flow.specs.Matching.{IsRising}
+use Rattle.def_math.specs.Counts.{count}
+use Rattle.def_math.specs.Rising.{IsRising}
 use Rattle.qm_units.specs.Told.{marks_from, states_told}
 use Rattle.qm_gadget.specs.Layout.{room_of}
 use Rattle.qm_gadget.specs.Read.{width_of_unit}

@@ -1,5 +1,5 @@
 use Rattle.std.proofs.Common.{◌≡◌, ◌+◌, ◌++◌, drop}
-use Rattle.qm_laws.specs.Counts.{count}
+use Rattle.def_math.specs.Counts.{count}
 use Rattle.def_flow.specs.MatchingGraph.{rim, unit_size}
 use Rattle.qm_gadget.proofs.rim.rim_of.Given as goal
 

@@ -1,5 +1,5 @@
 use Rattle.std.proofs.Common.{◌≡◌, ℕ, ◌+◌, ◌==◌, cond, false, None, length, slice_index, slice_index_or, ap, ◌∙◌, arith}
-use Rattle.qm_laws.specs.Counts.{count}
+use Rattle.def_math.specs.Counts.{count}
 use Rattle.def_flow.specs.Network.{ends}
 use Rattle.def_flow.specs.declared.net.Arc.{Arc}
 use Rattle.def_flow.specs.declared.net.End.{End}

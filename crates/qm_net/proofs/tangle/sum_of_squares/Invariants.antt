@@ -1,5 +1,5 @@
 use Rattle.std.proofs.Common.{◌≡◌, ◌*◌, ◌^◌, ◌≤◌, slice_index}
-use Rattle.qm_laws.specs.Counts.{count_below}
+use Rattle.def_math.specs.Counts.{count_below}
 use Rattle.qm_net.proofs.tangle.sum_of_squares.Given as goal
 
 abbrev pub invariant-loop-degree : goal.invariant-loop-degree

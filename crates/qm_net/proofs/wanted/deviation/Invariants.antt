@@ -1,5 +1,5 @@
 use Rattle.std.proofs.Common.{◌≡◌, ◌*◌, ◌^◌, ◌≤◌}
-use Rattle.qm_laws.specs.Counts.{count_below}
+use Rattle.def_math.specs.Counts.{count_below}
 use Rattle.def_flow.specs.Network.{network, arc_at}
 use Rattle.def_flow.specs.Admissible.{arc_deviation, entries}
 use Rattle.qm_net.proofs.wanted.deviation.Given as goal

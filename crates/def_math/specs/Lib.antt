@@ -1,3 +1,4 @@
 pub mod Counts
+pub mod Rising
 pub mod Searches
 pub mod Sums
