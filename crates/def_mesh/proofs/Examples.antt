@@ -1,5 +1,7 @@
 -- The definitions, computed on small meshes.
 use Rattle.std.proofs.Common.{◌≡◌, ◌<◌, ℕ, zero, suc, pos, List, [], ◌∷◌, map, Some, None, refl, sym, subst, inl, inr, arith}
+use Rattle.std.proofs.lemmas.Bool.{false≢true}
+use Rattle.def_mesh.specs.Faces.{Faces}
 use Rattle.def_mesh.specs.Darts.{all_darts, from_of, straight_of, twin_of}
 use Rattle.def_mesh.specs.Vertices.{fan_of, vertex_count}
 use Rattle.def_mesh.specs.Kinds.{kind_of}
@@ -8,8 +10,8 @@ use Rattle.def_mesh.specs.Faults.{IsFirstTwice, repeat_in}
 use Rattle.def_mesh.specs.Manifold.{AreNeighbours, Chain, HasOneFan, IsSameEdge}
 use Rattle.def_mesh.specs.declared.Kind.TheVariants.{Regular, Singular, Corner, Reflex}
 
--- a cube: its eight vertices are singular, so a rider starts along each dart
-abbrev cube : List (List ℕ)
+-- A cube: its eight vertices are singular, so a rider starts along each dart.
+abbrev cube : Faces
 cube = (3 ∷ 2 ∷ 1 ∷ 0 ∷ []) ∷ (4 ∷ 5 ∷ 6 ∷ 7 ∷ []) ∷ (0 ∷ 1 ∷ 5 ∷ 4 ∷ []) ∷ (1 ∷ 2 ∷ 6 ∷ 5 ∷ []) ∷ (2 ∷ 3 ∷ 7 ∷ 6 ∷ []) ∷ (3 ∷ 0 ∷ 4 ∷ 7 ∷ []) ∷ []
 
 cube_vertices : vertex_count cube ≡ 8
@@ -39,8 +41,8 @@ cube_starts = refl
 cube_euler : euler cube ≡ pos 2
 cube_euler = refl
 
--- three faces round a corner: vertex 4 is reflex, the outer ends are corners
-abbrev bend : List (List ℕ)
+-- Three faces round a corner: vertex 4 is reflex, the outer ends are corners.
+abbrev bend : Faces
 bend = (0 ∷ 1 ∷ 4 ∷ 3 ∷ []) ∷ (1 ∷ 2 ∷ 5 ∷ 4 ∷ []) ∷ (3 ∷ 4 ∷ 7 ∷ 6 ∷ []) ∷ []
 
 bend_kinds : map (kind_of bend) (0 ∷ 1 ∷ 2 ∷ 4 ∷ []) ≡ Corner ∷ Regular ∷ Corner ∷ Reflex ∷ []
@@ -55,8 +57,8 @@ bend_starts = refl
 bend_euler : euler bend ≡ pos 1
 bend_euler = refl
 
--- a ring of three faces: each vertex is regular, so its least is a seed
-abbrev ring : List (List ℕ)
+-- A ring of three faces: each vertex is regular, so its least is a seed.
+abbrev ring : Faces
 ring = (0 ∷ 1 ∷ 4 ∷ 3 ∷ []) ∷ (1 ∷ 2 ∷ 5 ∷ 4 ∷ []) ∷ (2 ∷ 0 ∷ 3 ∷ 5 ∷ []) ∷ []
 
 ring_seeds : seeds ring ≡ 0 ∷ []
@@ -68,8 +70,8 @@ ring_starts = refl
 ring_euler : euler ring ≡ pos 0
 ring_euler = refl
 
--- two parts, and the second is a ring
-abbrev parts : List (List ℕ)
+-- Two parts, and the second is a ring.
+abbrev parts : Faces
 parts = (0 ∷ 1 ∷ 2 ∷ 3 ∷ []) ∷ (4 ∷ 5 ∷ 8 ∷ 7 ∷ []) ∷ (5 ∷ 6 ∷ 9 ∷ 8 ∷ []) ∷ (6 ∷ 4 ∷ 7 ∷ 9 ∷ []) ∷ []
 
 parts_components : component_numbers parts ≡ 0 ∷ 1 ∷ 1 ∷ 1 ∷ []
@@ -81,12 +83,12 @@ parts_seeds = refl
 parts_counts : edge_count parts ≡ 13
 parts_counts = refl
 
--- the vertex that a face names again, seen from its first corner
+-- The vertex that a face names again, seen from its first corner.
 repeats : map repeat_in ((0 ∷ 1 ∷ 2 ∷ 3 ∷ []) ∷ (0 ∷ 1 ∷ 2 ∷ 1 ∷ []) ∷ (7 ∷ 7 ∷ 2 ∷ 2 ∷ []) ∷ (5 ∷ 6 ∷ 5 ∷ 6 ∷ []) ∷ []) ≡ None ∷ Some 1 ∷ Some 7 ∷ Some 5 ∷ []
 repeats = refl
 
--- two faces that run along one edge in the same direction: their first darts are the first two along it
-abbrev twice : List (List ℕ)
+-- Two faces that run along one edge in the same direction: their first darts are the first two along it.
+abbrev twice : Faces
 twice = (0 ∷ 1 ∷ 2 ∷ 3 ∷ []) ∷ (0 ∷ 1 ∷ 4 ∷ 5 ∷ []) ∷ []
 
 twice_place : IsFirstTwice twice 0 4
@@ -105,20 +107,17 @@ twice_place = record { is_dart = omega arith; before = omega arith; same = (refl
     none (suc (suc (suc j))) (suc (suc (suc zero))) l m s = absurd (omega arith)
     none j (suc (suc (suc (suc k)))) l m s = absurd (omega arith)
 
--- two faces with one vertex in common: two fans
-abbrev bow : List (List ℕ)
+-- Two faces with one vertex in common: two fans.
+abbrev bow : Faces
 bow = (0 ∷ 1 ∷ 2 ∷ 3 ∷ []) ∷ (0 ∷ 4 ∷ 5 ∷ 6 ∷ []) ∷ []
 
 bow_fan : fan_of bow 0 ≡ 0 ∷ 4 ∷ []
 bow_fan = refl
 
 bow_apart : ¬ AreNeighbours bow 0 4
-bow_apart (inl a) = absurd (omega (arith, a))
-bow_apart (inr (inl a)) = absurd (omega (arith, a))
-bow_apart (inr (inr (inl a))) = absurd (omega (arith, a))
-bow_apart (inr (inr (inr a))) = absurd (omega (arith, a))
+bow_apart a = false≢true a
 
--- a chain from the first of the two corners stays there
+-- A chain from the first of the two corners stays there.
 bow_stays : (e n : ℕ) → Chain bow 0 e n → e ≡ 0
 bow_stays e zero c = sym c
 bow_stays e (suc n) c =

@@ -1,3 +1,4 @@
+pub mod Faces
 pub mod Darts
 pub mod Manifold
 pub mod Faults

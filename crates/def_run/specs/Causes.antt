@@ -9,13 +9,12 @@ use Rattle.def_text.specs.Text.{text_soup}
 use Rattle.def_text.specs.declared.refusal.ObjFail.{ObjFail}
 use Rattle.def_text.specs.declared.refusal.ObjFail.TheVariants as fail
 use Rattle.def_text.specs.declared.refusal.Which.TheVariants.{Bytes, Line, Vertices, Faces}
-use Rattle.def_mesh.specs.Manifold.{IsManifold, IsRepeatFree, HasEdgesOnce}
-use Rattle.def_mesh.specs.Faults.{IsFirstRepeat, IsFirstTwoFans, NamesTwice}
+use Rattle.def_mesh.specs.Manifold.{IsManifold}
+use Rattle.def_mesh.specs.Faults.{IsFirstFault}
 use Rattle.def_run.specs.ErrorLines.{error_line}
 use Rattle.def_run.specs.declared.answer.Answer.{Answer}
 use Rattle.def_run.specs.declared.answer.Answer.TheVariants.{Done, Usage, Syntax, NotQuad, Range, Limit, NotManifold, ReadFault, WriteFault, Memory}
-use Rattle.def_run.specs.declared.answer.Place.{Place}
-use Rattle.def_run.specs.declared.answer.Place.TheVariants.{Repeated, EdgeTwice, TwoFans}
+use Rattle.def_mesh.specs.declared.Place.{Place}
 
 -- The source gave these bytes and then ended.
 pub record ReadWhole (before after : Option (List ℕ)) (bytes : List ℕ) : Type 0 where
@@ -34,13 +33,6 @@ pub record ReadRefused (before after : Option (List ℕ)) (fail : ObjFail) : Typ
   pub bytes : List ℕ
   pub whole : ReadWhole before after bytes
   pub said : text_soup 1 (lines_of bytes) ≡ Err fail
-
--- Where these faces first fail to be a manifold: a vertex named twice comes first, then an edge, then two fans.
-abbrev pub IsFirstFault : List (List ℕ) → Place → Type 0
-IsFirstFault faces (Repeated face vertex) = IsFirstRepeat faces face vertex
-IsFirstFault faces (EdgeTwice from to face1 face2) =
-    IsRepeatFree faces × ((d e : ℕ) × NamesTwice faces from to face1 face2 d e)
-IsFirstFault faces (TwoFans vertex) = IsRepeatFree faces × HasEdgesOnce faces × IsFirstTwoFans faces vertex
 
 -- The source gave a soup whose faces are no manifold, first at this place.
 pub record ReadNoManifold (before after : Option (List ℕ)) (place : Place) : Type 0 where

@@ -4,8 +4,8 @@ use Rattle.def_text.specs.declared.refusal.Which.{Which}
 use Rattle.def_text.specs.declared.refusal.Which.TheVariants.{Bytes, Line, Vertices, Faces}
 use Rattle.def_run.specs.declared.answer.Answer.{Answer}
 use Rattle.def_run.specs.declared.answer.Answer.TheVariants.{Done, Usage, Syntax, NotQuad, Range, Limit, NotManifold, ReadFault, WriteFault, Memory}
-use Rattle.def_run.specs.declared.answer.Place.{Place}
-use Rattle.def_run.specs.declared.answer.Place.TheVariants.{Repeated, EdgeTwice, TwoFans}
+use Rattle.def_mesh.specs.declared.Place.{Place}
+use Rattle.def_mesh.specs.declared.Place.TheVariants.{Repeated, EdgeTwice, TwoFans}
 
 -- The number that the file gave a vertex.
 abbrev pub name_text : List ℕ → ℕ → List ℕ

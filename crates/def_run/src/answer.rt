@@ -1,28 +1,8 @@
 ghost use Rattle.std.specs.Prelude.{◌≡◌};
 ghost use Rattle.def_run.specs.Status.{status_of};
 
+use def_mesh::Place;
 use def_text::Which;
-
-/// Where a list of faces fails to be a manifold. Faces and vertices are numbered from 0, as in the soup.
-#[derive(Clone, Copy, Debug, PartialEq, Eq)]
-pub enum Place {
-    /// The face names the vertex twice.
-    Repeated {
-        face: u32,
-        vertex: u32,
-    },
-    /// Both faces run along one edge in the same direction.
-    EdgeTwice {
-        from: u32,
-        to: u32,
-        face1: u32,
-        face2: u32,
-    },
-    /// The faces at the vertex form more than one fan.
-    TwoFans {
-        vertex: u32,
-    },
-}
 
 /// How a run ended. Lines count from 1.
 #[derive(Clone, Copy, Debug, PartialEq, Eq)]

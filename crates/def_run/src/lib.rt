@@ -3,4 +3,4 @@
 
 mod answer;
 
-pub use answer::{Answer, Place};
+pub use answer::Answer;

@@ -4,6 +4,7 @@ use Rattle.std.proofs.Common.{◌⊎◌, inl, inr, ◌∙◌, subst}
 use Rattle.std.proofs.lemmas.Bool.{or_parts, or_cases, eqb-true, eqb-false, false≢true}
 use Rattle.std.proofs.lemmas.Option.{none-some, same_Some}
 use Rattle.std.specs.List.{list_any}
+use Rattle.def_mesh.specs.Faces.{Faces}
 use Rattle.def_mesh.specs.Faults.{repeat_after, repeat_in}
 use Rattle.def_mesh.specs.Manifold.{IsRepeatFree}
 
@@ -24,7 +25,7 @@ all_differ seen (v ∷ vs) e i zero l m = absurd (omega arith)
 all_differ seen (v ∷ vs) e zero (suc j) l m = eqb-false v (get_or vs j 0) (or_parts _ _ (unseen (v ∷ seen) vs (none_by (list_any (λ u. eqb u v) seen) v (repeat_after (v ∷ seen) vs) e).1 j (omega arith))).0
 all_differ seen (v ∷ vs) e (suc i) (suc j) l m = all_differ (v ∷ seen) vs (none_by (list_any (λ u. eqb u v) seen) v (repeat_after (v ∷ seen) vs) e).1 i j (omega arith) (omega arith)
 
-pub repeat_free_from : (faces : List (List ℕ)) → ((f : ℕ) → f < length faces → length (get_or faces f []) ≡ 4) → ((f : ℕ) → f < length faces → repeat_in (get_or faces f []) ≡ None) → IsRepeatFree faces
+pub repeat_free_from : (faces : Faces) → ((f : ℕ) → f < length faces → length (get_or faces f []) ≡ 4) → ((f : ℕ) → f < length faces → repeat_in (get_or faces f []) ≡ None) → IsRepeatFree faces
 repeat_free_from faces four none f i j low l m = all_differ [] (get_or faces f []) (none f low) i j l (omega (arith, four f low))
 
 -- what is told to be repeated is seen already, or stands at two places
@@ -49,7 +50,7 @@ repeated_by seen (u ∷ vs) v e = at (list_any (λ w. eqb w u) seen) refl e (rep
     at false b e after = later (after e)
 
 -- a face of four that names a vertex twice
-pub not_repeat_free : (faces : List (List ℕ)) (f v : ℕ) → f < length faces → length (get_or faces f []) ≡ 4 → repeat_in (get_or faces f []) ≡ Some v → ¬ IsRepeatFree faces
+pub not_repeat_free : (faces : Faces) (f v : ℕ) → f < length faces → length (get_or faces f []) ≡ 4 → repeat_in (get_or faces f []) ≡ Some v → ¬ IsRepeatFree faces
 not_repeat_free faces f v l four e free = by_case (repeated_by [] (get_or faces f []) v e)
   where
     by_case : ((false ≡ true) × ((j : ℕ) × (j < length (get_or faces f [])) × (get_or (get_or faces f []) j 0 ≡ v))) ⊎ ((i : ℕ) × (j : ℕ) × (i < j) × (j < length (get_or faces f [])) × (get_or (get_or faces f []) i 0 ≡ get_or (get_or faces f []) j 0)) → ⊥

@@ -1,14 +1,15 @@
 -- Laws of darts: the steps round a face.
 use Rattle.std.proofs.Common.{◌≡◌, ℕ, ◌+◌, ◌/◌, ◌%◌, ◌-◌, ◌<◌, ◌≤◌, List, ap, ◌∙◌, arith}
 use Rattle.std.proofs.lemmas.Bool.Decides.{nat_tests}
+use Rattle.def_mesh.specs.Faces.{Faces}
 use Rattle.def_mesh.specs.Darts.{darts, next_of, prev_of, from_of, to_of}
 use Rattle.qm_mesh.specs.Tables.{NamesBelow}
 
 -- the dart after a dart is a dart, and so is the one before
-pub next_of_low : (faces : List (List ℕ)) (d : ℕ) → d < darts faces → next_of d < darts faces
+pub next_of_low : (faces : Faces) (d : ℕ) → d < darts faces → next_of d < darts faces
 next_of_low faces d l = grind (arith, nat_tests)
 
-pub prev_of_low : (faces : List (List ℕ)) (d : ℕ) → d < darts faces → prev_of d < darts faces
+pub prev_of_low : (faces : Faces) (d : ℕ) → d < darts faces → prev_of d < darts faces
 prev_of_low faces d l = grind (arith, nat_tests)
 
 -- each undoes the other
@@ -36,12 +37,12 @@ pub four_steps : (d : ℕ) → next_of (next_of (next_of (next_of d))) ≡ d
 four_steps d = grind (arith, nat_tests)
 
 -- where a dart ends is a vertex
-pub end_low : (faces : List (List ℕ)) (n d : ℕ) → NamesBelow n faces → d < darts faces → to_of faces d < n
+pub end_low : (faces : Faces) (n d : ℕ) → NamesBelow n faces → d < darts faces → to_of faces d < n
 end_low faces n d within l = within (next_of d) (next_of_low faces d l)
 
 -- the dart before one that leaves v arrives there
-pub before_ends : (faces : List (List ℕ)) (v d e : ℕ) → e ≡ prev_of d → from_of faces d ≡ v → to_of faces e ≡ v
+pub before_ends : (faces : Faces) (v d e : ℕ) → e ≡ prev_of d → from_of faces d ≡ v → to_of faces e ≡ v
 before_ends faces v d e is leaves = ap (to_of faces) is ∙ ap (from_of faces) (next_of-prev_of d) ∙ leaves
 
-pub before_low : (faces : List (List ℕ)) (d e : ℕ) → e ≡ prev_of d → d < darts faces → e < darts faces
+pub before_low : (faces : Faces) (d e : ℕ) → e ≡ prev_of d → d < darts faces → e < darts faces
 before_low faces d e is l = omega (arith, is, prev_of_low faces d l)

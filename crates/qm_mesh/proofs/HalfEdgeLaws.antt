@@ -1,7 +1,8 @@
 -- The half edges of a manifold list are those of a manifold of quads.
 use Rattle.std.proofs.Common.{◌≡◌, ◌≢◌, ◌⊎◌, ℕ, zero, suc, ◌+◌, ◌-◌, ◌/◌, ◌%◌, ◌<◌, Bool, true, false, List, Some, sym, subst, ap, ◌∙◌, refl, inl, inr, arith}
 use Rattle.std.proofs.lemmas.Bool.{cases_lt}
-use Rattle.def_mesh.specs.Darts.{darts, corner, from_of, next_of, prev_of, twin_of, IsTwin}
+use Rattle.def_mesh.specs.Faces.{Faces, corner}
+use Rattle.def_mesh.specs.Darts.{darts, from_of, next_of, prev_of, twin_of, IsTwin}
 use Rattle.def_mesh.specs.Manifold.{IsRepeatFree, HasEdgesOnce, Chain}
 use Rattle.def_mesh.specs.HalfEdges.{AreTurned, Turns, half_edges, ManifoldLaw}
 use Rattle.qm_mesh.proofs.DartLaws.{next_of_low, prev_of_low, prev_of-next_of, next_of-prev_of, four_steps, next_face, two_on}
@@ -9,7 +10,7 @@ use Rattle.qm_mesh.proofs.OneFan.{Step, ends_differ, neighbour_step, chain_low}
 use Rattle.qm_mesh.proofs.TwinLaws.{twin_found, twin_is}
 
 -- opposite corners of a face differ
-opposite_differ : (faces : List (List ℕ)) → IsRepeatFree faces → (d : ℕ) → d < darts faces → from_of faces d ≢ from_of faces (next_of (next_of d))
+opposite_differ : (faces : Faces) → IsRepeatFree faces → (d : ℕ) → d < darts faces → from_of faces d ≢ from_of faces (next_of (next_of d))
 opposite_differ faces free d l same = elim (cases_lt (d % 4) 2) [
   | inl b ↦ free (d / 4) (d % 4) (d % 4 + 2) (omega arith) (omega arith) (omega arith) (same ∙ over (d % 4 + 2) ((two_on d).0 b))
   | inr b ↦ free (d / 4) (d % 4 - 2) (d % 4) (omega arith) (omega arith) (omega arith) (sym (over (d % 4 - 2) ((two_on d).1 b)) ∙ sym same)
@@ -19,7 +20,7 @@ opposite_differ faces free d l same = elim (cases_lt (d % 4) 2) [
     over i e = ap (λ f. corner faces f (next_of (next_of d) % 4)) (next_face (next_of d) ∙ next_face d) ∙ ap (corner faces (d / 4)) e
 
 -- a chain of neighbours is made of turns
-chain_turns : (faces : List (List ℕ)) → HasEdgesOnce faces → (d e n : ℕ) → d < darts faces → Chain faces d e n → (k : ℕ) × Turns (half_edges faces) d e k
+chain_turns : (faces : Faces) → HasEdgesOnce faces → (d e n : ℕ) → d < darts faces → Chain faces d e n → (k : ℕ) × Turns (half_edges faces) d e k
 chain_turns faces once d e zero l c = (0, c)
 chain_turns faces once d e (suc n) l c =
     let t : (k : ℕ) × Turns (half_edges faces) d c.0 k = chain_turns faces once d c.0 n l c.1 in

@@ -5,6 +5,7 @@ use Rattle.std.proofs.lemmas.Bool.{cases_Bool, or_left, or_right, or_from, or_ca
 use Rattle.std.proofs.lemmas.List.FromFn.{length-range_with_len, get_or-range_with_len}
 use Rattle.std.proofs.lemmas.List.Sums.{list_all-from_AllPass}
 use Rattle.std.proofs.lemmas.List.Folds.{list_all_at}
+use Rattle.def_mesh.specs.Faces.{Faces}
 use Rattle.def_mesh.specs.Darts.{darts, all_darts, from_of, to_of, next_of, prev_of, twin_of}
 use Rattle.def_mesh.specs.Manifold.{IsManifold}
 use Rattle.def_mesh.specs.Kinds.{is_end, is_inner}
@@ -14,14 +15,14 @@ use Rattle.qm_mesh.proofs.Marks.{IsFan}
 use Rattle.qm_mesh.proofs.TwinLaws.{partner_is}
 
 -- what the table has decides whether there is a twin
-paired_twin : (faces : List (List ℕ)) (twins : List ℕ) → IsManifold faces → ArePartners faces twins → (d : ℕ) → d < darts faces → IsPaired twins d → is_some (twin_of faces d) ≡ true
+paired_twin : (faces : Faces) (twins : List ℕ) → IsManifold faces → ArePartners faces twins → (d : ℕ) → d < darts faces → IsPaired twins d → is_some (twin_of faces d) ≡ true
 paired_twin faces twins m p d l ne = ap is_some (partner_is faces m.repeat_free m.edges_once d (get_or twins d 0) l (p.each d l)) ∙ ap (λ b. is_some (cond b None (Some (get_or twins d 0)))) (ne_eqb (get_or twins d 0) d ne)
 
-alone_twin : (faces : List (List ℕ)) (twins : List ℕ) → IsManifold faces → ArePartners faces twins → (d : ℕ) → d < darts faces → IsAlone twins d → is_some (twin_of faces d) ≡ false
+alone_twin : (faces : Faces) (twins : List ℕ) → IsManifold faces → ArePartners faces twins → (d : ℕ) → d < darts faces → IsAlone twins d → is_some (twin_of faces d) ≡ false
 alone_twin faces twins m p d l e = ap is_some (partner_is faces m.repeat_free m.edges_once d (get_or twins d 0) l (p.each d l)) ∙ ap (λ b. is_some (cond b None (Some (get_or twins d 0)))) (eq-eqb (get_or twins d 0) d e)
 
 -- all edges at v
-all_inner : (faces : List (List ℕ)) (v : ℕ) → ((d : ℕ) → d < darts faces → (from_of faces d ≡ v) ⊎ (to_of faces d ≡ v) → is_some (twin_of faces d) ≡ true) → is_inner faces v ≡ true
+all_inner : (faces : Faces) (v : ℕ) → ((d : ℕ) → d < darts faces → (from_of faces d ≡ v) ⊎ (to_of faces d ≡ v) → is_some (twin_of faces d) ≡ true) → is_inner faces v ≡ true
 all_inner faces v each = list_all-from_AllPass (λ d. not (is_end faces v d) || is_some (twin_of faces d)) (all_darts faces) (λ k x l. by_dart k x (omega (arith, length-range_with_len 0 (darts faces))))
   where
     at : (d : ℕ) → d < darts faces → (not (is_end faces v d) || is_some (twin_of faces d)) ≡ true
@@ -33,11 +34,11 @@ all_inner faces v each = list_all-from_AllPass (λ d. not (is_end faces v d) || 
     by_dart : (k x : ℕ) → k < darts faces → (not (is_end faces v (get_or (all_darts faces) k x)) || is_some (twin_of faces (get_or (all_darts faces) k x))) ≡ true
     by_dart k x l = subst (λ (d : ℕ). (not (is_end faces v d) || is_some (twin_of faces d)) ≡ true) (sym (get_or-range_with_len 0 (darts faces) k x l ∙ omega arith)) (at k l)
 
-not_inner : (faces : List (List ℕ)) (v d : ℕ) → d < darts faces → is_end faces v d ≡ true → is_some (twin_of faces d) ≡ false → is_inner faces v ≡ false
+not_inner : (faces : Faces) (v d : ℕ) → d < darts faces → is_end faces v d ≡ true → is_some (twin_of faces d) ≡ false → is_inner faces v ≡ false
 not_inner faces v d l e s = list_all_at (λ k. not (is_end faces v k) || is_some (twin_of faces k)) (all_darts faces) d 0 (omega (arith, length-range_with_len 0 (darts faces)))
     (subst (λ (k : ℕ). (not (is_end faces v k) || is_some (twin_of faces k)) ≡ false) (sym (get_or-range_with_len 0 (darts faces) d 0 l ∙ omega arith)) (or_from _ _ (not_from_true _ e) s))
 
-pub inner_is : (faces : List (List ℕ)) (twins : List ℕ) (v : ℕ) (fan : List ℕ) → IsManifold faces → ArePartners faces twins → IsFan faces v fan → (b : Bool) → MatchBool b ((t : ℕ) → t < length fan → IsPaired twins (get_or fan t 0) × IsPaired twins (prev_of (get_or fan t 0))) ((t : ℕ) × (t < length fan) × (IsAlone twins (get_or fan t 0) ⊎ IsAlone twins (prev_of (get_or fan t 0)))) → b ≡ is_inner faces v
+pub inner_is : (faces : Faces) (twins : List ℕ) (v : ℕ) (fan : List ℕ) → IsManifold faces → ArePartners faces twins → IsFan faces v fan → (b : Bool) → MatchBool b ((t : ℕ) → t < length fan → IsPaired twins (get_or fan t 0) × IsPaired twins (prev_of (get_or fan t 0))) ((t : ℕ) × (t < length fan) × (IsAlone twins (get_or fan t 0) ⊎ IsAlone twins (prev_of (get_or fan t 0)))) → b ≡ is_inner faces v
 inner_is faces twins v fan m p h true all = sym (all_inner faces v at)
   where
     at : (d : ℕ) → d < darts faces → (from_of faces d ≡ v) ⊎ (to_of faces d ≡ v) → is_some (twin_of faces d) ≡ true

@@ -1,19 +1,21 @@
--- Turns by the table of partners against chains of neighbours: a vertex has one fan where turns from one corner reach all.
-use Rattle.std.proofs.Common.{◌≡◌, ◌≢◌, ◌⊎◌, ℕ, zero, suc, ◌+◌, ◌/◌, ◌%◌, ◌<◌, Bool, true, false, not, cond, eqb, List, length, get_or, replicate, ◌≤◌, Some, None, sym, subst, ap, ◌∙◌, refl, inl, inr, arith}
+-- Reaches by the table of partners against chains of neighbours: a vertex has one fan where turns from one corner reach all.
+use Rattle.std.proofs.Common.{◌≡◌, ◌≢◌, ◌⊎◌, ℕ, zero, suc, ◌+◌, ◌/◌, ◌%◌, ◌<◌, Bool, true, false, not, cond, eqb, List, [], ◌∷◌, length, get_or, replicate, ◌≤◌, Some, None, sym, subst, ap, ◌∙◌, refl, inl, inr, arith}
 use Rattle.std.proofs.lemmas.Bool.{cases_lt, cases_Bool, false≢true, eq-eqb, ne_eqb, false_from_ne_true}
+use Rattle.std.proofs.lemmas.Bool.Decides.{nat_tests}
 use Rattle.std.proofs.lemmas.Option.{none-some, same_Some}
-use Rattle.def_mesh.specs.Darts.{darts, from_of, to_of, next_of, prev_of, IsTwin, corner}
-use Rattle.def_mesh.specs.Manifold.{IsRepeatFree, HasEdgesOnce, AreNeighbours, Chain, HasOneFan}
+use Rattle.def_mesh.specs.Faces.{Faces, corner}
+use Rattle.def_mesh.specs.Darts.{darts, from_of, to_of, next_of, prev_of, IsTwin}
+use Rattle.def_mesh.specs.Manifold.{IsRepeatFree, HasEdgesOnce, AreNeighbours, Chain, HasOneFan, meet}
 use Rattle.def_mesh.specs.Faults.{IsFirstTwoFans}
 use Rattle.qm_mesh.specs.Tables.{NamesBelow}
 use Rattle.qm_mesh.specs.Pairs.{IsPartner, ArePartners}
-use Rattle.qm_mesh.specs.Turns.{behind, beside_of, IsSeen, Turns, IsClosed, IsBehind, IsVisit}
+use Rattle.qm_mesh.specs.Turns.{behind, beside_of, IsSeen, Reaches, IsClosed, IsBehind, IsVisit}
 use Rattle.qm_mesh.proofs.DartLaws.{next_of_low, prev_of_low, prev_of-next_of, next_of-prev_of, next_face, next_place, next_first}
 use Rattle.std.proofs.lemmas.List.{get_or_past, length-replicate, get_or-replicate}
 use Rattle.qm_mesh.proofs.Marks.{IsFan, last_or}
 
 -- the ends of a dart differ
-pub ends_differ : (faces : List (List ℕ)) → IsRepeatFree faces → (d : ℕ) → d < darts faces → from_of faces d ≢ to_of faces d
+pub ends_differ : (faces : Faces) → IsRepeatFree faces → (d : ℕ) → d < darts faces → from_of faces d ≢ to_of faces d
 ends_differ faces free d l same = elim (cases_lt (d % 4) 3) [
   | inl b ↦ free (d / 4) (d % 4) (d % 4 + 1) (omega arith) (omega arith) (omega arith) (same ∙ ap (λ f. corner faces f (next_of d % 4)) (next_face d) ∙ ap (corner faces (d / 4)) (next_place d b))
   | inr b ↦ let three : d % 4 ≡ 3 = omega arith in
@@ -21,62 +23,78 @@ ends_differ faces free d l same = elim (cases_lt (d % 4) 3) [
 ]
 
 -- e lies beside d: behind the edge of the dart before d to the left, behind that of d to the right
-abbrev pub Step : List (List ℕ) → Bool → ℕ → ℕ → Type 0
+abbrev pub Step : Faces → Bool → ℕ → ℕ → Type 0
 Step faces true d e = IsTwin faces (prev_of d) e
 Step faces false d e = IsTwin faces (prev_of e) d
 
 -- what lies beside d to the one side has d beside it to the other
-step_back : (faces : List (List ℕ)) (left : Bool) (d e : ℕ) → Step faces (not left) d e → Step faces left e d
+step_back : (faces : Faces) (left : Bool) (d e : ℕ) → Step faces (not left) d e → Step faces left e d
 step_back faces true d e s = s
 step_back faces false d e s = s
 
 -- the ends of the dart before d
-before_from : (faces : List (List ℕ)) (d : ℕ) → to_of faces (prev_of d) ≡ from_of faces d
+before_from : (faces : Faces) (d : ℕ) → to_of faces (prev_of d) ≡ from_of faces d
 before_from faces d = ap (from_of faces) (next_of-prev_of d)
 
-step_vertex : (faces : List (List ℕ)) (left : Bool) (d e : ℕ) → Step faces left d e → from_of faces d ≡ from_of faces e
+step_vertex : (faces : Faces) (left : Bool) (d e : ℕ) → Step faces left d e → from_of faces d ≡ from_of faces e
 step_vertex faces true d e s = sym (s.1 ∙ before_from faces d)
 step_vertex faces false d e s = s.1 ∙ before_from faces e
 
-step_neighbour : (faces : List (List ℕ)) (left : Bool) (d e : ℕ) → Step faces left d e → AreNeighbours faces d e
-step_neighbour faces true d e s = inr (inl s.2)
-step_neighbour faces false d e s = inl s.2
+-- Two lists of two numbers have one in common where one of four pairs is equal.
+abbrev ShareOne : (a b x y : ℕ) → Type 0
+ShareOne a b x y = (a ≡ y) ⊎ ((x ≡ b) ⊎ ((a ≡ x) ⊎ (b ≡ y)))
 
-neighbour_back : (faces : List (List ℕ)) (d e : ℕ) → AreNeighbours faces d e → AreNeighbours faces e d
-neighbour_back faces d e (inl a) = inr (inl a)
-neighbour_back faces d e (inr (inl a)) = inl a
-neighbour_back faces d e (inr (inr (inl a))) = inr (inr (inl (sym a)))
-neighbour_back faces d e (inr (inr (inr a))) = inr (inr (inr (sym a)))
+meet_cases : (a b x y : ℕ) → meet (a ∷ b ∷ []) (x ∷ y ∷ []) ≡ true → ShareOne a b x y
+meet_cases a b x y t = grind (arith, nat_tests)
+
+meet_from : (a b x y : ℕ) → ShareOne a b x y → meet (a ∷ b ∷ []) (x ∷ y ∷ []) ≡ true
+meet_from a b x y s = grind (arith, nat_tests)
+
+step_neighbour : (faces : Faces) (left : Bool) (d e : ℕ) → Step faces left d e → AreNeighbours faces d e
+step_neighbour faces true d e s = meet_from _ _ _ _ (inr (inl s.2))
+step_neighbour faces false d e s = meet_from _ _ _ _ (inl s.2)
+
+neighbour_back : (faces : Faces) (d e : ℕ) → AreNeighbours faces d e → AreNeighbours faces e d
+neighbour_back faces d e n = meet_from _ _ _ _ (by_case (meet_cases _ _ _ _ n))
+  where
+    by_case : ShareOne (to_of faces d) (from_of faces (prev_of d)) (to_of faces e) (from_of faces (prev_of e)) → ShareOne (to_of faces e) (from_of faces (prev_of e)) (to_of faces d) (from_of faces (prev_of d))
+    by_case (inl a) = inr (inl a)
+    by_case (inr (inl a)) = inl a
+    by_case (inr (inr (inl a))) = inr (inr (inl (sym a)))
+    by_case (inr (inr (inr a))) = inr (inr (inr (sym a)))
 
 -- with each edge once, a neighbour is the corner itself or beside it
-pub neighbour_step : (faces : List (List ℕ)) → HasEdgesOnce faces → (d e : ℕ) → d < darts faces → e < darts faces → from_of faces d ≡ from_of faces e → AreNeighbours faces d e → (d ≡ e) ⊎ ((left : Bool) × Step faces left d e)
-neighbour_step faces once d e low high same (inl a) = inr (false, (low, same ∙ sym (before_from faces e), a))
-neighbour_step faces once d e low high same (inr (inl a)) = inr (true, (high, sym same ∙ sym (before_from faces d), a))
-neighbour_step faces once d e low high same (inr (inr (inl a))) = inl (once d e low high (same, a))
-neighbour_step faces once d e low high same (inr (inr (inr a))) = inl
-    (sym (next_of-prev_of d) ∙ ap next_of (once (prev_of d) (prev_of e) (prev_of_low faces d low) (prev_of_low faces e high) (a, before_from faces d ∙ same ∙ sym (before_from faces e))) ∙ next_of-prev_of e)
+pub neighbour_step : (faces : Faces) → HasEdgesOnce faces → (d e : ℕ) → d < darts faces → e < darts faces → from_of faces d ≡ from_of faces e → AreNeighbours faces d e → (d ≡ e) ⊎ ((left : Bool) × Step faces left d e)
+neighbour_step faces once d e low high same n = by_case (meet_cases _ _ _ _ n)
+  where
+    by_case : ShareOne (to_of faces d) (from_of faces (prev_of d)) (to_of faces e) (from_of faces (prev_of e)) → (d ≡ e) ⊎ ((left : Bool) × Step faces left d e)
+    by_case (inl a) = inr (false, (low, same ∙ sym (before_from faces e), a))
+    by_case (inr (inl a)) = inr (true, (high, sym same ∙ sym (before_from faces d), a))
+    by_case (inr (inr (inl a))) = inl (once d e low high (same, a))
+    by_case (inr (inr (inr a))) = inl
+        (sym (next_of-prev_of d) ∙ ap next_of (once (prev_of d) (prev_of e) (prev_of_low faces d low) (prev_of_low faces e high) (a, before_from faces d ∙ same ∙ sym (before_from faces e))) ∙ next_of-prev_of e)
 
 -- Chains: their ends, one after another, and back.
-pub chain_low : (faces : List (List ℕ)) (d e n : ℕ) → d < darts faces → Chain faces d e n → e < darts faces
+pub chain_low : (faces : Faces) (d e n : ℕ) → d < darts faces → Chain faces d e n → e < darts faces
 chain_low faces d e zero l c = subst (λ (x : ℕ). x < darts faces) c l
 chain_low faces d e (suc n) l c = c.2
 
-chain_vertex : (faces : List (List ℕ)) (d e n : ℕ) → Chain faces d e n → from_of faces d ≡ from_of faces e
+chain_vertex : (faces : Faces) (d e n : ℕ) → Chain faces d e n → from_of faces d ≡ from_of faces e
 chain_vertex faces d e zero c = ap (from_of faces) c
 chain_vertex faces d e (suc n) c = chain_vertex faces d c.0 n c.1 ∙ c.3
 
-chain_join : (faces : List (List ℕ)) (d c e n m : ℕ) → Chain faces d c n → Chain faces c e m → (k : ℕ) × Chain faces d e k
+chain_join : (faces : Faces) (d c e n m : ℕ) → Chain faces d c n → Chain faces c e m → (k : ℕ) × Chain faces d e k
 chain_join faces d c e n zero a b = (n, subst (λ (x : ℕ). Chain faces d x n) b a)
 chain_join faces d c e n (suc m) a b = let j : (k : ℕ) × Chain faces d b.0 k = chain_join faces d c b.0 n m a b.1 in (suc j.0, (b.0, j.1, b.2, b.3, b.4))
 
-chain_back : (faces : List (List ℕ)) (d e n : ℕ) → d < darts faces → Chain faces d e n → (k : ℕ) × Chain faces e d k
+chain_back : (faces : Faces) (d e n : ℕ) → d < darts faces → Chain faces d e n → (k : ℕ) × Chain faces e d k
 chain_back faces d e zero l c = (0, sym c)
 chain_back faces d e (suc n) l c =
     let b : (k : ℕ) × Chain faces c.0 d k = chain_back faces d c.0 n l c.1 in
     chain_join faces e c.0 d 1 b.0 (e, refl, chain_low faces d c.0 n l c.1, sym c.3, neighbour_back faces c.0 e c.4) b.1
 
 -- What the table of partners says is beside a corner is beside it, and all that.
-beside_found : (faces : List (List ℕ)) (twins : List ℕ) → ArePartners faces twins → (left : Bool) (d e : ℕ) → d < darts faces → beside_of left twins d ≡ Some e → Step faces left d e × (e < darts faces)
+beside_found : (faces : Faces) (twins : List ℕ) → ArePartners faces twins → (left : Bool) (d e : ℕ) → d < darts faces → beside_of left twins d ≡ Some e → Step faces left d e × (e < darts faces)
 beside_found faces twins p true d e l b = by_partner (get_or twins (prev_of d) 0) (p.each (prev_of d) (prev_of_low faces d l)) b
   where
     by_partner : (t : ℕ) → IsPartner faces (prev_of d) t → behind true (prev_of d) t ≡ Some e → Step faces true d e × (e < darts faces)
@@ -97,17 +115,17 @@ beside_found faces twins p false d e l b = by_partner (get_or twins d 0) (p.each
     ]
 
 -- the twin of a dart is its partner, and another dart
-partner_of : (faces : List (List ℕ)) (twins : List ℕ) → ArePartners faces twins → HasEdgesOnce faces → (d e : ℕ) → d < darts faces → IsTwin faces d e → get_or twins d 0 ≡ e
+partner_of : (faces : Faces) (twins : List ℕ) → ArePartners faces twins → HasEdgesOnce faces → (d e : ℕ) → d < darts faces → IsTwin faces d e → get_or twins d 0 ≡ e
 partner_of faces twins p once d e l is = by_partner (get_or twins d 0) (p.each d l)
   where
     by_partner : (t : ℕ) → IsPartner faces d t → t ≡ e
     by_partner t (inl q) = once t e q.0 is.0 (q.1 ∙ sym is.1, q.2 ∙ sym is.2)
     by_partner t (inr none) = absurd (none.1 e is)
 
-twin_differs : (faces : List (List ℕ)) → IsRepeatFree faces → (d e : ℕ) → d < darts faces → IsTwin faces d e → e ≢ d
+twin_differs : (faces : Faces) → IsRepeatFree faces → (d e : ℕ) → d < darts faces → IsTwin faces d e → e ≢ d
 twin_differs faces free d e l is same = ends_differ faces free d l (sym (ap (from_of faces) same) ∙ is.1)
 
-beside_all : (faces : List (List ℕ)) (twins : List ℕ) → ArePartners faces twins → HasEdgesOnce faces → IsRepeatFree faces → (left : Bool) (d e : ℕ) → d < darts faces → e < darts faces → Step faces left d e → beside_of left twins d ≡ Some e
+beside_all : (faces : Faces) (twins : List ℕ) → ArePartners faces twins → HasEdgesOnce faces → IsRepeatFree faces → (left : Bool) (d e : ℕ) → d < darts faces → e < darts faces → Step faces left d e → beside_of left twins d ≡ Some e
 beside_all faces twins p once free true d e l h s =
     let t : get_or twins (prev_of d) 0 ≡ e = partner_of faces twins p once (prev_of d) e (prev_of_low faces d l) s in
     ap (behind true (prev_of d)) t ∙ ap (λ x. cond x None (Some e)) (ne_eqb e (prev_of d) (twin_differs faces free (prev_of d) e (prev_of_low faces d l) s))
@@ -117,13 +135,13 @@ beside_all faces twins p once free false d e l h s =
     ap (behind false d) t ∙ ap (λ x. cond x None (Some (next_of (prev_of e)))) (ne_eqb (prev_of e) d (twin_differs faces free d (prev_of e) l is)) ∙ ap Some (next_of-prev_of e)
 
 -- one dart lies beside a corner to each side
-step_once : (faces : List (List ℕ)) → HasEdgesOnce faces → (left : Bool) (d e k : ℕ) → d < darts faces → e < darts faces → k < darts faces → Step faces left d e → Step faces left d k → e ≡ k
+step_once : (faces : Faces) → HasEdgesOnce faces → (left : Bool) (d e k : ℕ) → d < darts faces → e < darts faces → k < darts faces → Step faces left d e → Step faces left d k → e ≡ k
 step_once faces once true d e k l m h s t = once e k m h (s.1 ∙ sym t.1, s.2 ∙ sym t.2)
 step_once faces once false d e k l m h s t =
     sym (next_of-prev_of e) ∙ ap next_of (once (prev_of e) (prev_of k) (prev_of_low faces e m) (prev_of_low faces k h) (sym s.2 ∙ t.2, sym s.1 ∙ t.1)) ∙ next_of-prev_of k
 
 -- turns are a chain
-turns_chain : (faces : List (List ℕ)) (twins : List ℕ) → ArePartners faces twins → (d e n : ℕ) → d < darts faces → Turns twins d e n → (k : ℕ) × Chain faces d e k
+turns_chain : (faces : Faces) (twins : List ℕ) → ArePartners faces twins → (d e n : ℕ) → d < darts faces → Reaches twins d e n → (k : ℕ) × Chain faces d e k
 turns_chain faces twins p d e zero l t = (0, t)
 turns_chain faces twins p d e (suc n) l t =
     let c : (k : ℕ) × Chain faces d t.0 k = turns_chain faces twins p d t.0 n l t.1 in
@@ -131,13 +149,13 @@ turns_chain faces twins p d e (suc n) l t =
     (suc c.0, (t.0, c.1, s.1, step_vertex faces t.2.0 t.0 e s.0, step_neighbour faces t.2.0 t.0 e s.0))
 
 -- the vertices before v have one fan each, and only their corners are marked
-pub record AreChecked (faces : List (List ℕ)) (v : ℕ) (seen : List Bool) : Type 0 where
+pub record AreChecked (faces : Faces) (v : ℕ) (seen : List Bool) : Type 0 where
   pub long : length seen ≡ darts faces
   pub marks : (d : ℕ) → d < darts faces → IsSeen seen d → from_of faces d < v
   pub one_fan : (u : ℕ) → u < v → HasOneFan faces u
 
 -- what a visit of the vertex v found, against the faces
-pub record IsVisited (faces : List (List ℕ)) (twins : List ℕ) (v first : ℕ) (old new : List Bool) : Type 0 where
+pub record IsVisited (faces : Faces) (twins : List ℕ) (v first : ℕ) (old new : List Bool) : Type 0 where
   pub partners : ArePartners faces twins
   pub free : IsRepeatFree faces
   pub once : HasEdgesOnce faces
@@ -147,11 +165,11 @@ pub record IsVisited (faces : List (List ℕ)) (twins : List ℕ) (v first : ℕ
   pub first_at : from_of faces first ≡ v
   pub unseen : (d : ℕ) → d < darts faces → from_of faces d ≡ v → get_or old d false ≡ false
 
-seen_low : (faces : List (List ℕ)) (seen : List Bool) (d : ℕ) → length seen ≡ darts faces → IsSeen seen d → d < darts faces
+seen_low : (faces : Faces) (seen : List Bool) (d : ℕ) → length seen ≡ darts faces → IsSeen seen d → d < darts faces
 seen_low faces seen d e s = elim (cases_lt d (length seen)) [ inl l ↦ omega arith | inr g ↦ absurd (false≢true (sym (get_or_past seen d false g) ∙ s)) ]
 
 -- a chain from the first corner stays within the marks
-stays : (faces : List (List ℕ)) (twins : List ℕ) (v first : ℕ) (old new : List Bool) → IsVisited faces twins v first old new → (e n : ℕ) → Chain faces first e n → IsSeen new e
+stays : (faces : Faces) (twins : List ℕ) (v first : ℕ) (old new : List Bool) → IsVisited faces twins v first old new → (e n : ℕ) → Chain faces first e n → IsSeen new e
 stays faces twins v first old new w e zero c = subst (λ (x : ℕ). IsSeen new x) c w.visit.started
 stays faces twins v first old new w e (suc n) c =
     let low : c.0 < darts faces = chain_low faces first c.0 n w.first_low c.1 in
@@ -172,7 +190,7 @@ stays faces twins v first old new w e (suc n) c =
     by_step k low at high s (inr t) = by_side k low high t.0 t.1 (w.visit.closed t.0 k s (w.unseen k low at))
 
 -- all of the fan is marked: one fan
-one_fan_from : (faces : List (List ℕ)) (twins : List ℕ) (v first : ℕ) (old new : List Bool) → IsVisited faces twins v first old new → ((d : ℕ) → d < darts faces → from_of faces d ≡ v → IsSeen new d) → HasOneFan faces v
+one_fan_from : (faces : Faces) (twins : List ℕ) (v first : ℕ) (old new : List Bool) → IsVisited faces twins v first old new → ((d : ℕ) → d < darts faces → from_of faces d ≡ v → IsSeen new d) → HasOneFan faces v
 one_fan_from faces twins v first old new w all d e low high at end =
     let a : (k : ℕ) × Chain faces first d k = reach d low at in
     let b : (k : ℕ) × Chain faces first e k = reach e high end in
@@ -180,20 +198,20 @@ one_fan_from faces twins v first old new w all d e low high at end =
     chain_join faces d first e c.0 b.0 c.1 b.1
   where
     reach : (k : ℕ) → k < darts faces → from_of faces k ≡ v → (n : ℕ) × Chain faces first k n
-    reach k l s = let t : (n : ℕ) × Turns twins first k n = w.visit.reached k (all k l s) (w.unseen k l s) in turns_chain faces twins w.partners first k t.0 w.first_low t.1
+    reach k l s = let t : (n : ℕ) × Reaches twins first k n = w.visit.reached k (all k l s) (w.unseen k l s) in turns_chain faces twins w.partners first k t.0 w.first_low t.1
 
 -- some of it is not: more than one
-two_fans_from : (faces : List (List ℕ)) (twins : List ℕ) (v first : ℕ) (old new : List Bool) → IsVisited faces twins v first old new → (d : ℕ) → d < darts faces → from_of faces d ≡ v → get_or new d false ≡ false → ¬ HasOneFan faces v
+two_fans_from : (faces : Faces) (twins : List ℕ) (v first : ℕ) (old new : List Bool) → IsVisited faces twins v first old new → (d : ℕ) → d < darts faces → from_of faces d ≡ v → get_or new d false ≡ false → ¬ HasOneFan faces v
 two_fans_from faces twins v first old new w d low at unseen one =
     let c : (n : ℕ) × Chain faces first d n = one first d w.first_low low w.first_at at in
     false≢true (sym unseen ∙ stays faces twins v first old new w d c.0 c.1)
 
 -- no corner at v is marked before its visit
-pub not_seen : (faces : List (List ℕ)) (v : ℕ) (seen : List Bool) → AreChecked faces v seen → (d : ℕ) → d < darts faces → from_of faces d ≡ v → get_or seen d false ≡ false
+pub not_seen : (faces : Faces) (v : ℕ) (seen : List Bool) → AreChecked faces v seen → (d : ℕ) → d < darts faces → from_of faces d ≡ v → get_or seen d false ≡ false
 not_seen faces v seen c d l e = false_from_ne_true (get_or seen d false) (λ t. absurd (omega (arith, c.marks d l t, e)))
 
 -- The facts of one visit, put together.
-pub visited : (faces : List (List ℕ)) (twins : List ℕ) (v : ℕ) (fan : List ℕ) (old new : List Bool) → IsFan faces v fan → 0 < length fan → ArePartners faces twins → IsRepeatFree faces → HasEdgesOnce faces → AreChecked faces v old → length new ≡ darts faces → IsVisit twins (get_or fan 0 0) old new → IsVisited faces twins v (get_or fan 0 0) old new
+pub visited : (faces : Faces) (twins : List ℕ) (v : ℕ) (fan : List ℕ) (old new : List Bool) → IsFan faces v fan → 0 < length fan → ArePartners faces twins → IsRepeatFree faces → HasEdgesOnce faces → AreChecked faces v old → length new ≡ darts faces → IsVisit twins (get_or fan 0 0) old new → IsVisited faces twins v (get_or fan 0 0) old new
 visited faces twins v fan old new h used p free once c long visit = record {
   partners = p;
   free = free;
@@ -205,7 +223,7 @@ visited faces twins v fan old new h used p free once c long visit = record {
   unseen = λ d l e. not_seen faces v old c d l e;
 }
 
-pub checked_none : (faces : List (List ℕ)) (seen : List Bool) (n : ℕ) → seen ≡ replicate n false → n ≡ darts faces → AreChecked faces 0 seen
+pub checked_none : (faces : Faces) (seen : List Bool) (n : ℕ) → seen ≡ replicate n false → n ≡ darts faces → AreChecked faces 0 seen
 checked_none faces seen n is e = record {
   long = ap length is ∙ length-replicate n false ∙ e;
   marks = λ d l s. absurd (false≢true (sym (get_or-replicate n d false false (omega arith)) ∙ ap (λ xs. get_or xs d false) (sym is) ∙ s));
@@ -213,7 +231,7 @@ checked_none faces seen n is e = record {
 }
 
 -- a vertex with one fan
-pub checked_more : (faces : List (List ℕ)) (twins : List ℕ) (v : ℕ) (fan : List ℕ) (old new : List Bool) → IsFan faces v fan → IsVisited faces twins v (get_or fan 0 0) old new → AreChecked faces v old → ((t : ℕ) → t < length fan → IsSeen new (get_or fan t 0)) → AreChecked faces (v + 1) new
+pub checked_more : (faces : Faces) (twins : List ℕ) (v : ℕ) (fan : List ℕ) (old new : List Bool) → IsFan faces v fan → IsVisited faces twins v (get_or fan 0 0) old new → AreChecked faces v old → ((t : ℕ) → t < length fan → IsSeen new (get_or fan t 0)) → AreChecked faces (v + 1) new
 checked_more faces twins v fan old new h w c all = record {
   long = w.long;
   marks = λ d l s. by_mark d l s (cases_Bool (get_or old d false));
@@ -223,7 +241,7 @@ checked_more faces twins v fan old new h w c all = record {
     by_mark : (d : ℕ) → d < darts faces → IsSeen new d → (get_or old d false ≡ true) ⊎ (get_or old d false ≡ false) → from_of faces d < v + 1
     by_mark d l s (inl o) = omega (arith, c.marks d l o)
     by_mark d l s (inr o) =
-        let t : (n : ℕ) × Turns twins (get_or fan 0 0) d n = w.visit.reached d s o in
+        let t : (n : ℕ) × Reaches twins (get_or fan 0 0) d n = w.visit.reached d s o in
         let k : (n : ℕ) × Chain faces (get_or fan 0 0) d n = turns_chain faces twins w.partners (get_or fan 0 0) d t.0 w.first_low t.1 in
         omega (arith, chain_vertex faces (get_or fan 0 0) d k.0 k.1, w.first_at)
 
@@ -235,12 +253,12 @@ checked_more faces twins v fan old new h w c all = record {
     by_vertex u (inr e) = subst (λ (x : ℕ). HasOneFan faces x) (sym e) (one_fan_from faces twins v (get_or fan 0 0) old new w each)
 
 -- a vertex with more
-pub two_fans_first : (faces : List (List ℕ)) (twins : List ℕ) (v : ℕ) (fan : List ℕ) (old new : List Bool) → IsFan faces v fan → IsVisited faces twins v (get_or fan 0 0) old new → AreChecked faces v old → (t : ℕ) × (t < length fan) × (get_or new (get_or fan t 0) false ≡ false) → IsFirstTwoFans faces v
+pub two_fans_first : (faces : Faces) (twins : List ℕ) (v : ℕ) (fan : List ℕ) (old new : List Bool) → IsFan faces v fan → IsVisited faces twins v (get_or fan 0 0) old new → AreChecked faces v old → (t : ℕ) × (t < length fan) × (get_or new (get_or fan t 0) false ≡ false) → IsFirstTwoFans faces v
 two_fans_first faces twins v fan old new h w c t = record {
   two_fans = two_fans_from faces twins v (get_or fan 0 0) old new w (get_or fan t.0 0) (h.dart t.0 t.1) (h.leaves t.0 t.1) t.2;
   least = c.one_fan;
 }
 
 -- vertices past the last have no corners
-pub one_fan_all : (faces : List (List ℕ)) (n v : ℕ) (seen : List Bool) → NamesBelow n faces → n ≤ v → AreChecked faces v seen → (u : ℕ) → HasOneFan faces u
+pub one_fan_all : (faces : Faces) (n v : ℕ) (seen : List Bool) → NamesBelow n faces → n ≤ v → AreChecked faces v seen → (u : ℕ) → HasOneFan faces u
 one_fan_all faces n v seen within l c u d e low high at end = c.one_fan u (omega (arith, within d low, at)) d e low high at end

@@ -7,7 +7,8 @@ use Rattle.std.proofs.lemmas.List.Folds.{Any-from_list_any}
 use Rattle.std.proofs.lemmas.List.{length-map, get_or_default}
 use Rattle.std.proofs.lemmas.List.FromFn.{length-range_with_len, get_or-map-range_with_len}
 use Rattle.std.proofs.lemmas.List.Filters.{length-filter_both}
-use Rattle.def_mesh.specs.Darts.{darts, all_darts, from_of, corner}
+use Rattle.def_mesh.specs.Faces.{Faces, corner}
+use Rattle.def_mesh.specs.Darts.{darts, all_darts, from_of}
 use Rattle.def_mesh.specs.Vertices.{above_all, vertex_count, faces_at, fan_of, names_below, UsesEach}
 use Rattle.qm_mesh.specs.Tables.{NamesBelow, HasCorners}
 use Rattle.qm_mesh.proofs.Marks.{IsFan, is_fan}
@@ -22,21 +23,21 @@ least_bound : (xs : List ℕ) (n : ℕ) → ((i : ℕ) → i < length xs → get
 least_bound [] n below = omega arith
 least_bound (x ∷ xs) n below = omega (arith, below 0 (omega arith), least_bound xs n (λ i l. below (suc i) (omega arith)))
 
-from_at : (faces : List (List ℕ)) (d : ℕ) → d < darts faces → get_or (map (from_of faces) (all_darts faces)) d 0 ≡ from_of faces d
+from_at : (faces : Faces) (d : ℕ) → d < darts faces → get_or (map (from_of faces) (all_darts faces)) d 0 ≡ from_of faces d
 from_at faces d l = get_or-map-range_with_len (from_of faces) 0 (darts faces) d d 0 l (omega arith)
 
-from_count : (faces : List (List ℕ)) → length (map (from_of faces) (all_darts faces)) ≡ darts faces
+from_count : (faces : Faces) → length (map (from_of faces) (all_darts faces)) ≡ darts faces
 from_count faces = length-map (all_darts faces) (from_of faces) ∙ length-range_with_len 0 (darts faces)
 
 -- each corner is a vertex
-pub all_below : (faces : List (List ℕ)) → NamesBelow (vertex_count faces) faces
+pub all_below : (faces : Faces) → NamesBelow (vertex_count faces) faces
 all_below faces d l = omega (arith, from_at faces d l, below_bound (map (from_of faces) (all_darts faces)) d (omega (arith, from_count faces)))
 
-count_least : (faces : List (List ℕ)) (n : ℕ) → NamesBelow n faces → vertex_count faces ≤ n
+count_least : (faces : Faces) (n : ℕ) → NamesBelow n faces → vertex_count faces ≤ n
 count_least faces n within = least_bound (map (from_of faces) (all_darts faces)) n (λ i l. omega (arith, from_at faces i (omega (arith, from_count faces)), within i (omega (arith, from_count faces))))
 
 -- where the vertices below n are the used ones, n is their number
-pub count_is : (faces : List (List ℕ)) (n : ℕ) → NamesBelow n faces → HasCorners n faces → vertex_count faces ≡ n
+pub count_is : (faces : Faces) (n : ℕ) → NamesBelow n faces → HasCorners n faces → vertex_count faces ≡ n
 count_is faces zero within used = omega (arith, count_least faces zero within)
 count_is faces (suc m) within used =
     let h : IsFan faces m (fan_of faces m) = is_fan faces m (fan_of faces m) refl in
@@ -44,16 +45,16 @@ count_is faces (suc m) within used =
     omega (arith, count_least faces (suc m) within, all_below faces (get_or (fan_of faces m) 0 0) (h.dart 0 u), h.leaves 0 u)
 
 -- a fan has at most all darts
-pub fan_short : (faces : List (List ℕ)) (v : ℕ) → faces_at faces v ≤ darts faces
+pub fan_short : (faces : Faces) (v : ℕ) → faces_at faces v ≤ darts faces
 fan_short faces v = omega (arith, length-filter_both (λ d. eqb (from_of faces d) v) (λ d. not (eqb (from_of faces d) v)) (λ d. refl) (all_darts faces), length-range_with_len 0 (darts faces))
 
 -- The two conditions of a build, by darts.
-pub below_from : (faces : List (List ℕ)) → ((f : ℕ) → f < length faces → length (get_or faces f []) ≡ 4) → (n : ℕ) → IsTrue (names_below n faces) → NamesBelow n faces
+pub below_from : (faces : Faces) → ((f : ℕ) → f < length faces → length (get_or faces f []) ≡ 4) → (n : ℕ) → IsTrue (names_below n faces) → NamesBelow n faces
 below_from faces four n all d l =
     let low : d / 4 < length faces = omega arith in
     ltb-true _ n (AllPass-from_list_all (λ v. ltb v n) (get_or faces (d / 4) []) (AllPass-from_list_all (λ face. list_all (λ v. ltb v n) face) faces all (d / 4) [] low) (d % 4) 0 (omega (arith, four (d / 4) low)))
 
-pub corners_from : (faces : List (List ℕ)) → ((f : ℕ) → f < length faces → length (get_or faces f []) ≡ 4) → (n : ℕ) → UsesEach n faces → HasCorners n faces
+pub corners_from : (faces : Faces) → ((f : ℕ) → f < length faces → length (get_or faces f []) ≡ 4) → (n : ℕ) → UsesEach n faces → HasCorners n faces
 corners_from faces four n used v l = by_face (Any-from_list_any (λ face. list_any (λ u. eqb u v) face) faces (used v l))
   where
     by_corner : (f : ℕ) → f < length faces → Any (λ u. eqb u v ≡ true) (get_or faces f []) → 0 < faces_at faces v

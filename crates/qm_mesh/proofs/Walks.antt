@@ -3,18 +3,18 @@ use Rattle.std.proofs.Common.{◌≡◌, ◌≢◌, ◌⊎◌, ℕ, suc, ◌<◌
 use Rattle.std.proofs.lemmas.Bool.{cases_eq, cases_lt, cases_Bool, false≢true}
 use Rattle.std.proofs.lemmas.Option.{same_Some}
 use Rattle.std.proofs.lemmas.List.{get_or-set_same, get_or-set_other, get_or_past}
-use Rattle.qm_mesh.specs.Turns.{beside_of, IsSeen, Turns, IsClosed, IsBehind, IsWalk, IsVisit}
+use Rattle.qm_mesh.specs.Turns.{beside_of, IsSeen, Reaches, IsClosed, IsBehind, IsWalk, IsVisit}
 
 -- the walk stands at a corner, and only what is beside that may lack its mark
 pub record IsWalkSoFar (left : Bool) (twins : List ℕ) (start at : ℕ) (old now : List Bool) : Type 0 where
   pub low : at < length twins
   pub here : IsSeen now at
-  pub came : (n : ℕ) × Turns twins start at n
+  pub came : (n : ℕ) × Reaches twins start at n
   pub grown : (d : ℕ) → IsSeen old d → IsSeen now d
   pub start_closed : at ≢ start → IsClosed left twins now start
   pub closed : (d : ℕ) → d ≢ at → IsSeen now d → get_or old d false ≡ false → IsClosed left twins now d
   pub behind : (d : ℕ) → IsSeen now d → get_or old d false ≡ false → IsBehind left twins now d
-  pub reached : (d : ℕ) → IsSeen now d → get_or old d false ≡ false → (n : ℕ) × Turns twins start d n
+  pub reached : (d : ℕ) → IsSeen now d → get_or old d false ≡ false → (n : ℕ) × Reaches twins start d n
 
 pub walk_none : (left : Bool) (twins : List ℕ) (start : ℕ) (seen : List Bool) → start < length twins → IsSeen seen start → IsWalkSoFar left twins start start seen seen
 walk_none left twins start seen low here = record {
@@ -78,7 +78,7 @@ walk_more left twins start at e old now w low lies b unseen = record {
     by_behind d (inl q) o = (at, seen_more now e at w.here, b ∙ ap Some (sym q))
     by_behind d (inr s) o = let h : IsBehind left twins now d = w.behind d s o in (h.0, seen_more now e h.0 h.1, h.2)
 
-    by_reached : (d : ℕ) → (d ≡ e) ⊎ IsSeen now d → get_or old d false ≡ false → (n : ℕ) × Turns twins start d n
+    by_reached : (d : ℕ) → (d ≡ e) ⊎ IsSeen now d → get_or old d false ≡ false → (n : ℕ) × Reaches twins start d n
     by_reached d (inl q) o = (suc w.came.0, (at, w.came.1, (left, b ∙ ap Some (sym q))))
     by_reached d (inr s) o = w.reached d s o
 
@@ -123,7 +123,7 @@ visit_both twins first old one two low unseen l r = record {
     closed true d s o (inr a) b = inr (r.behind d s a)
     closed false d s o (inr a) b = inl (r.closed d s a)
 
-    reached : (d : ℕ) → IsSeen two d → get_or old d false ≡ false → (get_or one d false ≡ true) ⊎ (get_or one d false ≡ false) → (get_or (set old first true) d false ≡ true) ⊎ (get_or (set old first true) d false ≡ false) → (n : ℕ) × Turns twins first d n
+    reached : (d : ℕ) → IsSeen two d → get_or old d false ≡ false → (get_or one d false ≡ true) ⊎ (get_or one d false ≡ false) → (get_or (set old first true) d false ≡ true) ⊎ (get_or (set old first true) d false ≡ false) → (n : ℕ) × Reaches twins first d n
     reached d s o (inl a) (inl b) = (0, sym (is_first d o b))
     reached d s o (inl a) (inr b) = l.reached d a b
     reached d s o (inr a) b = r.reached d s a

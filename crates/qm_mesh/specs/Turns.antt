@@ -1,6 +1,7 @@
 -- Turning from corner to corner round a vertex, by the table of partners alone.
-use Rattle.std.specs.Prelude.{◌≡◌, ◌⊎◌, ℕ, zero, suc, ◌%◌, ◌^◌, ◌<◌, ◌≤◌, length, Bool, true, false, cond, not, ◌==◌, List, slice_index, slice_index_or, Option, Some, None}
+use Rattle.std.specs.Prelude.{◌≡◌, ◌⊎◌, ℕ, zero, suc, ◌%◌, ◌*◌, ◌<◌, ◌≤◌, length, Bool, true, false, cond, not, ◌==◌, List, slice_index, slice_index_or, Option, Some, None}
 use Rattle.def_mesh.specs.Darts.{next_of, prev_of}
+use Rattle.def_mesh.specs.declared.TheConstants.{MAX_FACES}
 
 -- the dart of the edge that is crossed in turning left from the corner at d, or right
 abbrev pub edge_beside : Bool → ℕ → ℕ
@@ -19,9 +20,9 @@ abbrev pub IsSeen : List Bool → ℕ → Type 0
 IsSeen seen d = slice_index_or seen d false ≡ true
 
 -- n turns lead from d to e
-abbrev pub Turns : List ℕ → ℕ → ℕ → ℕ → Type 0
-Turns twins d e zero = d ≡ e
-Turns twins d e (suc n) = (c : ℕ) × Turns twins d c n × ((left : Bool) × (beside_of left twins c ≡ Some e))
+abbrev pub Reaches : List ℕ → ℕ → ℕ → ℕ → Type 0
+Reaches twins d e zero = d ≡ e
+Reaches twins d e (suc n) = (c : ℕ) × Reaches twins d c n × ((left : Bool) × (beside_of left twins c ≡ Some e))
 
 -- what lies on this side of d is marked
 abbrev pub IsClosed : Bool → List ℕ → List Bool → ℕ → Type 0
@@ -37,17 +38,17 @@ pub record IsWalk (left : Bool) (twins : List ℕ) (start : ℕ) (old new : List
   pub start_closed : IsClosed left twins new start
   pub closed : (d : ℕ) → IsSeen new d → slice_index_or old d false ≡ false → IsClosed left twins new d
   pub behind : (d : ℕ) → IsSeen new d → slice_index_or old d false ≡ false → IsBehind left twins new d
-  pub reached : (d : ℕ) → IsSeen new d → slice_index_or old d false ≡ false → (n : ℕ) × Turns twins start d n
+  pub reached : (d : ℕ) → IsSeen new d → slice_index_or old d false ≡ false → (n : ℕ) × Reaches twins start d n
 
 -- the corners that turns from start reach are marked, and what is beside a new mark is marked too
 pub record IsVisit (twins : List ℕ) (start : ℕ) (old new : List Bool) : Type 0 where
   pub grown : (d : ℕ) → IsSeen old d → IsSeen new d
   pub started : IsSeen new start
   pub closed : (left : Bool) (d : ℕ) → IsSeen new d → slice_index_or old d false ≡ false → IsClosed left twins new d ⊎ IsBehind (not left) twins new d
-  pub reached : (d : ℕ) → IsSeen new d → slice_index_or old d false ≡ false → (n : ℕ) × Turns twins start d n
+  pub reached : (d : ℕ) → IsSeen new d → slice_index_or old d false ≡ false → (n : ℕ) × Reaches twins start d n
 
 -- each entry is a place of the table, which has four places for each face
 pub record ArePlaces (twins : List ℕ) : Type 0 where
   pub fours : length twins % 4 ≡ 0
-  pub few : length twins ≤ 2 ^ 23
+  pub few : length twins ≤ 4 * MAX_FACES
   pub low : (d : ℕ) → d < length twins → slice_index twins d < length twins

@@ -1,25 +1,16 @@
+//! Why no mesh is built.
+
+use def_mesh::Place;
 use std::alloc::AllocError;
 use thiserror::Error;
 
-/// Why a list of faces is no manifold. Numbers of faces and vertices start at 0.
+/// Why a list of faces gives no mesh.
 #[derive(Clone, Copy, Debug, PartialEq, Eq, Error)]
 pub enum MeshFail {
-    #[error("face {face} names vertex {vertex} twice")]
-    Repeated {
-        face: u32,
-        vertex: u32,
-    },
-    #[error("faces {face1} and {face2} both run from vertex {from} to vertex {to}")]
-    EdgeTwice {
-        from: u32,
-        to: u32,
-        face1: u32,
-        face2: u32,
-    },
-    #[error("the faces at vertex {vertex} form more than one fan")]
-    TwoFans {
-        vertex: u32,
-    },
+    /// The faces are no manifold, first at this place.
+    #[error("{0}")]
+    NotManifold(Place),
+    /// Memory was refused.
     #[error("out of memory")]
     Memory,
 }
@@ -32,5 +23,16 @@ impl From<AllocError> for MeshFail {
 
     fn from(_: AllocError) -> MeshFail {
         MeshFail::Memory
+    }
+}
+
+impl From<Place> for MeshFail {
+    ghost use Rattle.std.specs.Prelude.{◌≡◌};
+    ghost use Rattle.qm_mesh.specs.declared.fail.MeshFail.TheVariants.{NotManifold};
+
+    ghost from_gives = { λ place e. e ≡ NotManifold place };
+
+    fn from(place: Place) -> MeshFail {
+        MeshFail::NotManifold(place)
     }
 }

@@ -1,9 +1,10 @@
 //! The darts that leave each vertex, in rising order.
 
-ghost use Rattle.std.specs.Prelude.{◌≡◌, ◌≤◌, ◌<◌, ◌^◌, [], ◌∷◌, ◌++◌, length, OnOk, IfOk, replicate, slice_set};
+ghost use Rattle.std.specs.Prelude.{◌≡◌, ◌≤◌, ◌<◌, [], ◌∷◌, ◌++◌, length, OnOk, IfOk, replicate, slice_set};
 ghost use Rattle.qm_mesh.specs.Tables.{fan_lists, fan_at, AreFans, NamesBelow};
 
 use crate::darts::from;
+use def_mesh::MAX_FACES;
 use smallvec::SmallVec;
 use std::alloc::{AllocError, Global};
 
@@ -16,7 +17,7 @@ pub(crate) fn gather(
     vertices: u32,
     faces: &[[u32; 4]],
 ) -> Result<Vec<Fan>, AllocError>
-    requires few { length faces.now ≤ 2 ^ 21 }
+    requires few { length faces.now ≤ MAX_FACES }
     requires within { NamesBelow vertices faces.now }
     ensures { IfOk result (λ fans. AreFans faces.now vertices fans.items) }
 {

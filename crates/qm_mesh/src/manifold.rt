@@ -1,8 +1,10 @@
 //! From a list of faces to a mesh, or to the least place where the list is no manifold.
 
-ghost use Rattle.std.specs.Prelude.{◌≡◌, ◌≢◌, ◌≤◌, ◌^◌, length, IsTrue, OnOk, IfOk, IfErr};
+ghost use Rattle.std.specs.Prelude.{◌≡◌, ◌≢◌, ◌≤◌, length, IsTrue, OnOk, IfOk, IfErr, IsErrOf};
+ghost use Rattle.def_mesh.specs.Faults.{IsFirstFault};
 ghost use Rattle.def_mesh.specs.Manifold.{IsManifold};
 ghost use Rattle.def_mesh.specs.Vertices.{names_below, UsesEach};
+ghost use Rattle.def_mesh.specs.declared.Place.{Place};
 ghost use Rattle.qm_mesh.specs.Refusals.{IsRefusal};
 
 use crate::fail::MeshFail;
@@ -11,23 +13,24 @@ use crate::mesh::Mesh;
 use crate::one_fan::check_fans;
 use crate::repeats::check_repeats;
 use crate::twins::pair;
+use def_mesh::MAX_FACES;
 use std::alloc::Global;
 
 /// The mesh of these faces. Linear in faces and vertices, however many faces there are at one vertex.
 pub fn build(alloc: Global, vertices: u32, faces: &[[u32; 4]]) -> Result<Mesh, MeshFail>
-    requires few { length faces.now ≤ 2 ^ 21 }
+    requires few { length faces.now ≤ MAX_FACES }
     requires within { IsTrue (names_below vertices faces.now) }
     requires used { UsesEach vertices faces.now }
     ensures mesh { IfOk result (λ m. m ≡ faces.now) }
     ensures manifold { OnOk result (IsManifold faces.now) }
-    ensures refusal { IfErr result (IsRefusal faces.now) }
+    ensures place { (p : Place) → IsErrOf result (MeshFail.NotManifold p) → IsFirstFault faces.now p }
     ensures no_manifold { IfErr result (λ e. e ≢ MeshFail.Memory → ¬ IsManifold faces.now) }
 {
-    checked(alloc, vertices, faces)
+    checked_mesh(alloc, vertices, faces)
 }
 
-fn checked(alloc: Global, vertices: u32, faces: &[[u32; 4]]) -> Result<Mesh, MeshFail>
-    requires few { length faces.now ≤ 2 ^ 21 }
+fn checked_mesh(alloc: Global, vertices: u32, faces: &[[u32; 4]]) -> Result<Mesh, MeshFail>
+    requires few { length faces.now ≤ MAX_FACES }
     requires within { IsTrue (names_below vertices faces.now) }
     requires used { UsesEach vertices faces.now }
     ensures mesh { IfOk result (λ m. m ≡ faces.now) }

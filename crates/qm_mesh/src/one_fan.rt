@@ -3,6 +3,7 @@
 ghost use Rattle.std.specs.Prelude.{◌≡◌, ◌≤◌, ◌<◌, ◌^◌, ℕ, length, true, false, replicate, OnOk, IfErr, MatchOption, MatchBool, IfSome, slice_index, slice_index_or, slice_set};
 ghost use Rattle.def_mesh.specs.Darts.{darts};
 ghost use Rattle.def_mesh.specs.Manifold.{IsRepeatFree, HasEdgesOnce, HasOneFan};
+ghost use Rattle.def_mesh.specs.Faults.{IsFirstFault};
 ghost use Rattle.qm_mesh.specs.Refusals.{IsRefusal};
 ghost use Rattle.qm_mesh.specs.Tables.{AreFans, NamesBelow, HasCorners};
 ghost use Rattle.qm_mesh.specs.Pairs.{ArePartners};
@@ -11,6 +12,7 @@ ghost use Rattle.qm_mesh.specs.Turns.{beside_of, IsSeen, IsClosed, IsWalk, IsVis
 use crate::darts::{next, prev};
 use crate::fail::MeshFail;
 use crate::fans::Fan;
+use def_mesh::{MAX_FACES, Place};
 use std::alloc::Global;
 
 /// Refuses the least vertex with more than one fan. Linear in the darts.
@@ -20,7 +22,7 @@ pub(crate) fn check_fans(
     fans: &[Fan],
     twins: &[u32],
 ) -> Result<(), MeshFail>
-    requires few { length faces.now ≤ 2 ^ 21 }
+    requires few { length faces.now ≤ MAX_FACES }
     requires repeat_free { IsRepeatFree faces.now }
     requires once { HasEdgesOnce faces.now }
     requires within { NamesBelow (length fans.now) faces.now }
@@ -32,7 +34,8 @@ pub(crate) fn check_fans(
     ensures err { IfErr result (IsRefusal faces.now) }
 {
     let mut seen = vec![in alloc; false; 4 * faces.len()]?;
-    check_each(faces, fans, twins, &mut seen)
+    check_each(faces, fans, twins, &mut seen)?;
+    Ok(())
 }
 
 fn check_each(
@@ -40,8 +43,8 @@ fn check_each(
     fans: &[Fan],
     twins: &[u32],
     seen: &mut [bool],
-) -> Result<(), MeshFail>
-    requires few { length faces.now ≤ 2 ^ 21 }
+) -> Result<(), Place>
+    requires few { length faces.now ≤ MAX_FACES }
     requires repeat_free { IsRepeatFree faces.now }
     requires once { HasEdgesOnce faces.now }
     requires within { NamesBelow (length fans.now) faces.now }
@@ -51,11 +54,11 @@ fn check_each(
     requires partners { ArePartners faces.now twins.now }
     requires unseen { seen.old ≡ replicate (darts faces.now) false }
     ensures ok { OnOk result ((v : ℕ) → HasOneFan faces.now v) }
-    ensures err { IfErr result (IsRefusal faces.now) }
+    ensures err { IfErr result (IsFirstFault faces.now) }
 {
     for (v, fan) in fans.iter().enumerate() {
         if !is_one_fan(twins, fan.as_slice(), seen) {
-            return Err(MeshFail::TwoFans { vertex: v as u32 });
+            return Err(Place::TwoFans { vertex: v as u32 });
         }
     }
     Ok(())

@@ -1,11 +1,10 @@
 //! The first face that names a vertex twice.
 
-ghost use Rattle.std.specs.Prelude.{◌≡◌, ◌≤◌, ◌^◌, length, OnOk, IfErr};
+ghost use Rattle.std.specs.Prelude.{◌≡◌, ◌≤◌, length, OnOk, IfErr};
 ghost use Rattle.def_mesh.specs.Manifold.{IsRepeatFree};
-ghost use Rattle.def_mesh.specs.Faults.{repeat_in};
-ghost use Rattle.qm_mesh.specs.Refusals.{IsRefusal};
+ghost use Rattle.def_mesh.specs.Faults.{repeat_in, IsFirstFault};
 
-use crate::fail::MeshFail;
+use def_mesh::{MAX_FACES, Place};
 
 /// The vertex of the first corner whose vertex stands at an earlier corner too.
 fn repeated_vertex(face: &[u32; 4]) -> Option<u32>
@@ -23,14 +22,15 @@ fn repeated_vertex(face: &[u32; 4]) -> Option<u32>
     }
 }
 
-pub(crate) fn check_repeats(faces: &[[u32; 4]]) -> Result<(), MeshFail>
-    requires few { length faces.now ≤ 2 ^ 21 }
+/// Refuses the first face that names a vertex twice.
+pub(crate) fn check_repeats(faces: &[[u32; 4]]) -> Result<(), Place>
+    requires few { length faces.now ≤ MAX_FACES }
     ensures ok { OnOk result (IsRepeatFree faces.now) }
-    ensures err { IfErr result (IsRefusal faces.now) }
+    ensures err { IfErr result (IsFirstFault faces.now) }
 {
     for (f, face) in faces.iter().enumerate() {
         if let Some(vertex) = repeated_vertex(face) {
-            return Err(MeshFail::Repeated {
+            return Err(Place::Repeated {
                 face: f as u32,
                 vertex,
             });

@@ -1,7 +1,8 @@
-ghost use Rattle.std.specs.Prelude.{◌≤◌, ◌^◌, length, IsTrue};
+ghost use Rattle.std.specs.Prelude.{◌≤◌, length, IsTrue};
 ghost use Rattle.def_mesh.specs.Vertices.{names_below, UsesEach};
 
 use crate::{MeshFail, build, manifold_law};
+use def_mesh::{MAX_FACES, Place};
 use std::alloc::Global;
 
 const CUBE: [[u32; 4]; 6] = [
@@ -15,7 +16,7 @@ const CUBE: [[u32; 4]; 6] = [
 
 /// What `build` refuses, `None` for a mesh.
 fn refusal(alloc: Global, vertices: u32, faces: &[[u32; 4]]) -> Option<MeshFail>
-    requires few { length faces.now ≤ 2 ^ 21 }
+    requires few { length faces.now ≤ MAX_FACES }
     requires within { IsTrue (names_below vertices faces.now) }
     requires used { UsesEach vertices faces.now }
 {
@@ -53,7 +54,7 @@ fn each_refusal_is_at_its_least_place(rt: HostRuntime) {
     let repeated = [[0, 1, 2, 3], [0, 1, 4, 5], [4, 5, 2, 5], [2, 2, 3, 3]];
     assert_eq!(rt;
         refusal(alloc, 6, &repeated),
-        Some(MeshFail::Repeated { face: 2, vertex: 5 })
+        Some(MeshFail::NotManifold(Place::Repeated { face: 2, vertex: 5 }))
     );
     // three faces along one edge, and the face before them along another
     let twice = [
@@ -65,17 +66,17 @@ fn each_refusal_is_at_its_least_place(rt: HostRuntime) {
     ];
     assert_eq!(rt;
         refusal(alloc, 14, &twice),
-        Some(MeshFail::EdgeTwice {
+        Some(MeshFail::NotManifold(Place::EdgeTwice {
             from: 4,
             to: 5,
             face1: 1,
             face2: 2
-        })
+        }))
     );
     // two vertices with two fans each: the lesser
     let fans = [[5, 0, 1, 2], [5, 3, 4, 6], [4, 7, 8, 9]];
     assert_eq!(rt;
         refusal(alloc, 10, &fans),
-        Some(MeshFail::TwoFans { vertex: 4 })
+        Some(MeshFail::NotManifold(Place::TwoFans { vertex: 4 }))
     );
 }

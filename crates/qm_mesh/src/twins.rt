@@ -3,18 +3,19 @@
 //! The vertices are taken one by one. `by_end` then has, for each end of a dart that leaves the vertex, the first such dart;
 //! a dart that arrives finds its twin there. So the work is linear in the darts, however many faces a vertex has.
 
-ghost use Rattle.std.specs.Prelude.{◌≡◌, ◌≢◌, ◌≤◌, ◌<◌, ◌+◌, ◌/◌, ◌^◌, ℕ, length, OnOk, IfOk, IfErr, slice_index};
+ghost use Rattle.std.specs.Prelude.{◌≡◌, ◌≢◌, ◌≤◌, ◌<◌, ◌+◌, ◌/◌, ℕ, length, OnOk, IfOk, IfErr, slice_index};
 ghost use Rattle.def_mesh.specs.Darts.{darts, from_of, to_of};
-ghost use Rattle.def_mesh.specs.Faults.{IsFirstTwice};
+ghost use Rattle.def_mesh.specs.Faults.{IsFirstTwice, IsFirstFault};
 ghost use Rattle.def_mesh.specs.Manifold.{IsRepeatFree, HasEdgesOnce};
 ghost use Rattle.def_mesh.specs.Vertices.{fan_of};
 ghost use Rattle.qm_mesh.specs.Refusals.{IsRefusal};
 ghost use Rattle.qm_mesh.specs.Tables.{AreFans, NamesBelow};
-ghost use Rattle.qm_mesh.specs.Pairs.{AreDarts, AreMarked, IsPartner, ArePartners, IsFirstAt, IsPairing, MarksOne, IsLesser};
+ghost use Rattle.qm_mesh.specs.Pairs.{AreDarts, AreMarked, IsPartner, ArePartners, IsFirstAt, IsPairing, MarksOne, IsEarlier};
 
 use crate::darts::{from, prev, runs, to};
 use crate::fail::MeshFail;
 use crate::fans::Fan;
+use def_mesh::{MAX_FACES, Place};
 use std::alloc::Global;
 
 /// The partner of each dart: its twin, or itself where it has none. Linear in darts and vertices.
@@ -24,7 +25,7 @@ pub(crate) fn pair(
     faces: &[[u32; 4]],
     fans: &[Fan],
 ) -> Result<Vec<u32>, MeshFail>
-    requires few { length faces.now ≤ 2 ^ 21 }
+    requires few { length faces.now ≤ MAX_FACES }
     requires within { NamesBelow vertices faces.now }
     requires repeat_free { IsRepeatFree faces.now }
     requires fans { AreFans faces.now vertices fans.now }
@@ -40,18 +41,18 @@ pub(crate) fn pair(
         twice = pair_vertex(faces, v, fan.as_slice(), &mut by_end, &mut twins, twice);
     }
     match twice {
-        Some((d, e)) => Err(edge_twice(faces, d, e)),
+        Some((d, e)) => Err(MeshFail::NotManifold(edge_twice(faces, d, e))),
         None => Ok(twins),
     }
 }
 
-/// The refusal of two darts along one directed edge.
-fn edge_twice(faces: &[[u32; 4]], d: u32, e: u32) -> MeshFail
+/// The place of two darts along one directed edge.
+fn edge_twice(faces: &[[u32; 4]], d: u32, e: u32) -> Place
     requires repeat_free { IsRepeatFree faces.now }
     requires first { IsFirstTwice faces.now d e }
-    ensures { IsRefusal faces.now result }
+    ensures { IsFirstFault faces.now result }
 {
-    MeshFail::EdgeTwice {
+    Place::EdgeTwice {
         from: from(faces, e),
         to: to(faces, e),
         face1: d / 4,
@@ -68,7 +69,7 @@ fn pair_vertex(
     twins: &mut [u32],
     twice: Option<(u32, u32)>,
 ) -> Option<(u32, u32)>
-    requires few { length faces.now ≤ 2 ^ 21 }
+    requires few { length faces.now ≤ MAX_FACES }
     requires within { NamesBelow (length by_end.old) faces.now }
     requires fan { fan.now ≡ fan_of faces.now v }
     requires before { IsPairing faces.now (length by_end.old) v by_end.old twins.old twice }
@@ -81,7 +82,7 @@ fn pair_vertex(
 
 /// Keeps in `by_end` the first dart from v to each of its ends, and tells the first dart that is a second one.
 fn mark(faces: &[[u32; 4]], v: u32, fan: &[u32], by_end: &mut [u32]) -> Option<(u32, u32)>
-    requires few { length faces.now ≤ 2 ^ 21 }
+    requires few { length faces.now ≤ MAX_FACES }
     requires within { NamesBelow (length by_end.old) faces.now }
     requires fan { fan.now ≡ fan_of faces.now v }
     requires darts { AreDarts faces.now by_end.old }
@@ -98,7 +99,7 @@ fn mark(faces: &[[u32; 4]], v: u32, fan: &[u32], by_end: &mut [u32]) -> Option<(
 }
 
 fn mark_one(faces: &[[u32; 4]], v: u32, d: u32, by_end: &mut [u32]) -> Option<(u32, u32)>
-    requires few { length faces.now ≤ 2 ^ 21 }
+    requires few { length faces.now ≤ MAX_FACES }
     requires dart { d < darts faces.now }
     requires within { to_of faces.now d < length by_end.old }
     requires darts { AreDarts faces.now by_end.old }
@@ -115,7 +116,7 @@ fn mark_one(faces: &[[u32; 4]], v: u32, d: u32, by_end: &mut [u32]) -> Option<(u
 
 /// The pair whose second dart is less.
 fn lesser(a: Option<(u32, u32)>, b: Option<(u32, u32)>) -> Option<(u32, u32)>
-    ensures { IsLesser a b result }
+    ensures { IsEarlier a b result }
 {
     match (a, b) {
         (Some(a), Some(b)) => Some(if b.1 < a.1 { b } else { a }),
@@ -126,7 +127,7 @@ fn lesser(a: Option<(u32, u32)>, b: Option<(u32, u32)>) -> Option<(u32, u32)>
 
 /// Writes the partner of each dart that arrives at v.
 fn pair_at(faces: &[[u32; 4]], v: u32, fan: &[u32], by_end: &[u32], twins: &mut [u32])
-    requires few { length faces.now ≤ 2 ^ 21 }
+    requires few { length faces.now ≤ MAX_FACES }
     requires fan { fan.now ≡ fan_of faces.now v }
     requires within { NamesBelow (length by_end.now) faces.now }
     requires darts { AreDarts faces.now by_end.now }

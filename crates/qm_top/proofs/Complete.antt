@@ -8,7 +8,7 @@ use Rattle.def_text.specs.Text.{text_soup}
 use Rattle.def_text.specs.declared.refusal.ObjFail.{ObjFail}
 use Rattle.def_text.specs.declared.refusal.Which.TheVariants.{Bytes, Line, Vertices, Faces}
 use Rattle.def_mesh.specs.Manifold.{IsManifold}
-use Rattle.def_run.specs.declared.answer.Place.{Place}
+use Rattle.def_mesh.specs.declared.Place.{Place}
 use Rattle.def_run.specs.Causes.{IsGood, IsRefusedFor, ReadNoManifold, ReadRefused, ReadWhole}
 use Rattle.def_run.specs.declared.answer.Answer.{Answer}
 use Rattle.def_run.specs.declared.answer.Answer.TheVariants.{Done, Usage, Syntax, NotQuad, Range, Limit, NotManifold, ReadFault, WriteFault, Memory}

@@ -1,8 +1,9 @@
 -- What the steps of a run answer.
 use Rattle.std.specs.Prelude.{◌≡◌, ◌≢◌, ◌⊎◌, ℕ, List, Option, ⊤}
 use Rattle.def_text.specs.FaceSet.{FaceSet}
+use Rattle.def_mesh.specs.Faults.{IsFirstFault}
 use Rattle.def_mesh.specs.Manifold.{IsManifold}
-use Rattle.def_run.specs.Causes.{AreNames, IsFirstFault, IsRefusedFor}
+use Rattle.def_run.specs.Causes.{AreNames, IsRefusedFor}
 use Rattle.def_run.specs.ErrorLines.{error_line}
 use Rattle.def_run.specs.declared.answer.Answer.{Answer}
 use Rattle.def_run.specs.declared.answer.Answer.TheVariants.{Done, Usage, Syntax, NotQuad, Range, Limit, NotManifold, ReadFault, WriteFault, Memory}

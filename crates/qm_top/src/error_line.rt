@@ -3,7 +3,8 @@ ghost use Rattle.arrayvec.specs.ArrayString.{array_string_len};
 ghost use Rattle.def_run.specs.ErrorLines.{corners_text, error_line, limit_text, name_text, place_text, reason_text};
 
 use arrayvec::ArrayString;
-use def_run::{Answer, Place};
+use def_mesh::Place;
+use def_run::Answer;
 use def_text::Which;
 use itoa::Buffer;
 

@@ -6,7 +6,8 @@ mod error_line;
 mod tidy;
 
 pub use command::run;
-pub use def_run::{Answer, Place};
+pub use def_mesh::Place;
+pub use def_run::Answer;
 
 #[cfg(test)]
 mod tests;

@@ -1,16 +1,15 @@
 ghost use Rattle.std.specs.Prelude.{◌≡◌, ◌≢◌, ◌≤◌, ◌^◌, ◌<◌, ℕ, List, length, IfOk, IfErr, OnOk, OnErr, IsTrue};
 ghost use Rattle.def_mesh.specs.Vertices.{names_below, UsesEach};
-ghost use Rattle.qm_mesh.specs.Refusals.{IsRefusal as IsMeshRefusal};
 ghost use Rattle.qm_io.specs.Causes.{Rose};
 ghost use Rattle.qm_io.specs.Moves.{took, TookFront};
 ghost use Rattle.def_mesh.specs.Manifold.{IsManifold};
-ghost use Rattle.def_run.specs.Causes.{IsFirstFault, IsRefusedFor, ReadSoup, Tidied, TidiedFront};
+ghost use Rattle.def_run.specs.Causes.{IsRefusedFor, ReadSoup, Tidied, TidiedFront};
 ghost use Rattle.def_text.specs.Canonical.{canonical_text};
 ghost use Rattle.def_run.specs.ErrorLines.{error_line};
 ghost use Rattle.qm_top.specs.Steps.{answer_of_read, answer_of_text, IsCheck, IsReading, IsRefusal, IsWriting};
 
 use crate::error_line::{ErrorLine, line_of};
-use def_run::{Answer, Place};
+use def_run::Answer;
 use def_text::{ObjFail, Soup, Which};
 use qm_io::{ReadFail, Sink, Source, read_lines, write_all};
 use qm_mesh::{MeshFail, build};
@@ -122,38 +121,11 @@ fn check_faces(alloc: Global, vertices: u32, faces: &[[u32; 4]]) -> Result<(), A
     ensures manifold { OnOk result (IsManifold faces.now) }
     ensures place { IfErr result (IsCheck faces.now) }
 {
-    if let Err(fail) = build(alloc, vertices, faces) {
-        return Err(mesh_answer(fail));
+    match build(alloc, vertices, faces) {
+        Ok(_) => Ok(()),
+        Err(MeshFail::NotManifold(place)) => Err(Answer::NotManifold { place }),
+        Err(MeshFail::Memory) => Err(Answer::Memory),
     }
-    Ok(())
-}
-
-fn mesh_answer(fail: MeshFail) -> Answer
-    ensures { (faces : List (List ℕ)) → IsMeshRefusal faces fail → (fail ≢ MeshFail.Memory → ¬ IsManifold faces)
-        → IsCheck faces result }
-{
-    match fail {
-        MeshFail::Repeated { face, vertex } => not_manifold(Place::Repeated { face, vertex }),
-        MeshFail::EdgeTwice {
-            from,
-            to,
-            face1,
-            face2,
-        } => not_manifold(Place::EdgeTwice {
-            from,
-            to,
-            face1,
-            face2,
-        }),
-        MeshFail::TwoFans { vertex } => not_manifold(Place::TwoFans { vertex }),
-        MeshFail::Memory => Answer::Memory,
-    }
-}
-
-fn not_manifold(place: Place) -> Answer
-    ensures { result ≡ Answer.NotManifold place }
-{
-    Answer::NotManifold { place }
 }
 
 /// Hands the canonical text to the sink, which gets nothing where the text finds no memory.

@@ -4,7 +4,7 @@ use Rattle.smallvec.specs.SmallVec.{SmallVec}
 use Rattle.def_mesh.specs.Vertices.{vertex_count, UsesEach}
 use Rattle.qm_mesh.specs.Tables.{AreFans}
 use Rattle.qm_mesh.proofs.Vertices.{count_is, below_from, corners_from}
-use Rattle.qm_mesh.proofs.manifold.checked.Goals as goal
+use Rattle.qm_mesh.proofs.manifold.checked_mesh.Goals as goal
 
 pub from_tables-requires : goal.from_tables-requires
 from_tables-requires c =
