@@ -1,8 +1,8 @@
 -- What each answer means for the bytes that a run read and wrote.
 use Rattle.std.specs.Prelude.{◌≡◌, ◌≤◌, ◌⊎◌, ℕ, ◌^◌, List, length, Option, Some, Ok, Err, ⊤}
-use Rattle.qm_io.specs.Causes.{Rose}
-use Rattle.qm_io.specs.Lines.{lines_of}
-use Rattle.qm_io.specs.Moves.{gave, took, GaveMore, IsEmptied, TookFront}
+use Rattle.def_io.specs.Faults.{Rose}
+use Rattle.def_io.specs.Lines.{lines_of}
+use Rattle.def_io.specs.Moves.{gave, took, GaveMore, IsEmptied, TookFront}
 use Rattle.def_text.specs.Canonical.{canonical_text}
 use Rattle.def_text.specs.FaceSet.{FaceSet}
 use Rattle.def_text.specs.Text.{text_soup}

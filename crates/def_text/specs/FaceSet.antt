@@ -1,11 +1,13 @@
--- Places, faces over them and the numbers that the file gave the places.
-use Rattle.std.specs.Prelude.{◌≡◌, ℕ, ℤ, IsTrue, List, length}
+-- Positions, faces over them and the numbers that the file gave the vertices.
+use Rattle.std.specs.Prelude.{◌≡◌, ℕ, IsTrue, List, length}
 use Rattle.std.specs.List.Sorted.{IsStrictlyIncreasing}
+use Rattle.def_mesh.specs.Faces.{Faces}
 use Rattle.def_mesh.specs.Vertices.{names_below, UsesEach}
+use Rattle.def_text.specs.Types.{Positions}
 
 pub record FaceSet : Type 0 where
-  pub pos : List (List ℤ)
-  pub faces : List (List ℕ)
+  pub pos : Positions
+  pub faces : Faces
   pub names : List ℕ
 
 -- What a soup keeps.

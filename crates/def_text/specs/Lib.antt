@@ -3,8 +3,10 @@ pub mod Corner
 pub mod Decimal
 pub mod Digits
 pub mod FaceSet
+pub mod Laws
 pub mod Logical
 pub mod Ratio
 pub mod Reading
 pub mod Text
+pub mod Types
 pub mod Words

@@ -1,43 +1,60 @@
 -- Physical lines joined to logical lines.
-use Rattle.std.specs.Prelude.{ℕ, ◌+◌, ◌-◌, ◌==◌, ◌&&◌, not, Bool, if◌then◌else◌, List, [], ◌∷◌, ◌++◌, length, take, drop, slice_index}
-use Rattle.std.specs.List.{before_first, list_any}
+use Rattle.std.specs.Prelude.{ℕ, ◌+◌, ◌-◌, ◌==◌, ◌&&◌, not, Bool, if◌then◌else◌, List, [], ◌∷◌, ◌++◌, length, take, slice_index, slice_index_or}
+use Rattle.std.specs.List.{before_first, flat_map, list_any}
+use Rattle.def_io.specs.Bytes.{Bytes, Lines}
+use Rattle.def_text.specs.declared.letters.TheConstants.{BACKSLASH, HASH, SPACE}
 
--- A logical line: the number of its first physical line, from 1, the bytes of all its physical lines, and what is
--- left to read of them.
+-- A logical line: the number of its first physical line, from 1, the bytes of all its physical lines, and the text
+-- that is left to read of them.
 pub record Logical : Type 0 where
   pub number : ℕ
   pub size : ℕ
-  pub text : List ℕ
+  pub text : Bytes
 
--- `#` (35) begins a comment.
-abbrev pub is_hash : ℕ → Bool
-is_hash byte = byte == 35
+-- A comment begins here.
+abbrev pub is_hash : (byte : ℕ) → Bool
+is_hash byte = byte == HASH
 
--- A line without a comment that ends with a backslash (92).
-abbrev pub continues : List ℕ → Bool
-continues line = (slice_index line (length line - 1) == 92) && not (list_any is_hash line)
+-- A line without a comment that ends with a backslash: the next line is joined to it.
+abbrev pub continues : (line : Bytes) → Bool
+continues line = (slice_index line (length line - 1) == BACKSLASH) && not (list_any is_hash line)
 
--- A line that continues, with a space (32) in place of the backslash.
-abbrev pub with_space : List ℕ → List ℕ
-with_space line = take (length line - 1) line ++ 32 ∷ []
+-- A line that continues, with a space in place of the backslash.
+abbrev pub with_space : (line : Bytes) → Bytes
+with_space line = take (length line - 1) line ++ SPACE ∷ []
 
--- Of the logical line that begins these physical lines: how many of them are joined, how many bytes they have, and
--- the text that is left to read.
-abbrev pub span : List (List ℕ) → ℕ
-span [] = 0
-span (line ∷ lines) = if continues line then 1 + span lines else 1
+-- What is left to read of a physical line.
+abbrev pub part_of : (line : Bytes) → Bytes
+part_of line = if continues line then with_space line else before_first is_hash line
 
-abbrev pub size_of : List (List ℕ) → ℕ
-size_of [] = 0
-size_of (line ∷ lines) = if continues line then length line + size_of lines else length line
+-- A line in front of the group behind it, where it continues, and else in a group of its own.
+abbrev pub with_line : (line : Bytes) (groups : List Lines) → List Lines
+with_line line [] = (line ∷ []) ∷ []
+with_line line (group ∷ groups) =
+    if continues line then (line ∷ group) ∷ groups else (line ∷ []) ∷ group ∷ groups
 
-abbrev pub joined : List (List ℕ) → List ℕ
-joined [] = []
-joined (line ∷ lines) = if continues line then with_space line ++ joined lines else before_first is_hash line
+-- The physical lines of each logical line.
+abbrev pub groups_of : (lines : Lines) → List Lines
+groups_of [] = []
+groups_of (line ∷ lines) = with_line line (groups_of lines)
+
+-- The physical lines of the first logical line.
+abbrev pub first_group : (lines : Lines) → Lines
+first_group lines = slice_index_or (groups_of lines) 0 []
+
+-- What is left to read of a group.
+abbrev pub joined : (group : Lines) → Bytes
+joined group = flat_map part_of group
+
+-- A group's logical line, where its first physical line has this number.
+abbrev pub logical : (number : ℕ) (group : Lines) → Logical
+logical number group = record { number = number; size = length (flat_map (λ line. line) group); text = joined group }
+
+-- The logical lines of groups, whose first physical line has this number.
+abbrev pub numbered : (number : ℕ) (groups : List Lines) → List Logical
+numbered number [] = []
+numbered number (group ∷ groups) = logical number group ∷ numbered (number + length group) groups
 
 -- All logical lines of physical lines, of which the first has this number.
-abbrev pub logical_lines : ℕ → List (List ℕ) → List Logical
-logical_lines number [] = []
-logical_lines number (line ∷ lines) =
-    record { number = number; size = size_of (line ∷ lines); text = joined (line ∷ lines) }
-    ∷ drop (if continues line then 1 else 0) (logical_lines (number + 1) lines)
+abbrev pub logical_lines : (number : ℕ) (lines : Lines) → List Logical
+logical_lines number lines = numbered number (groups_of lines)

@@ -1,22 +1,25 @@
 -- The words of a line.
-use Rattle.std.specs.Prelude.{ℕ, Bool, true, ◌==◌, ◌||◌, if◌then◌else◌, List, [], ◌∷◌}
+use Rattle.std.specs.Prelude.{ℕ, Bool, true, ◌==◌, ◌||◌, if◌then◌else◌, [], ◌∷◌}
+use Rattle.def_io.specs.Bytes.{Bytes}
+use Rattle.def_text.specs.Types.{Words}
+use Rattle.def_text.specs.declared.letters.TheConstants.{SPACE, TAB}
 
 -- Space and tab are the blanks.
-abbrev pub is_blank : ℕ → Bool
-is_blank byte = (byte == 32) || (byte == 9)
+abbrev pub is_blank : (byte : ℕ) → Bool
+is_blank byte = (byte == SPACE) || (byte == TAB)
 
 -- Nothing follows, or a blank.
-abbrev pub ends_word : List ℕ → Bool
+abbrev pub ends_word : (bytes : Bytes) → Bool
 ends_word [] = true
 ends_word (byte ∷ _) = is_blank byte
 
 -- A byte in front of the first of some words.
-abbrev pub in_front : ℕ → List (List ℕ) → List (List ℕ)
+abbrev pub in_front : (byte : ℕ) (words : Words) → Words
 in_front byte [] = (byte ∷ []) ∷ []
 in_front byte (word ∷ rest) = (byte ∷ word) ∷ rest
 
 -- The words of a text: its longest runs of bytes that are no blanks.
-abbrev pub words : List ℕ → List (List ℕ)
+abbrev pub words : (text : Bytes) → Words
 words [] = []
 words (byte ∷ bytes) =
     if is_blank byte then words bytes

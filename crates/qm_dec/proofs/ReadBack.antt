@@ -13,7 +13,7 @@ use Rattle.std.proofs.lemmas.Nat.{pow-add}
 use Rattle.def_text.specs.Canonical.{fraction_text, micro_text, six_digits, without_zeros}
 use Rattle.def_text.specs.Decimal.{all_digits, exponent, fraction_digits, is_decimal, is_exponent, is_mark, is_point, mantissa, power, rounded_size, scaled}
 use Rattle.def_text.specs.Digits.{is_negative, is_number, number, unsigned}
-use Rattle.qm_dec.specs.Law.{CanonicalLaw}
+use Rattle.def_text.specs.Laws.{CanonicalLaw}
 use Rattle.qm_dec.proofs.Digits.{after_is, digit_small, digits_before, number_append, values}
 use Rattle.qm_dec.proofs.Forms.{number_both}
 use Rattle.qm_dec.proofs.Scaling.{digits_behind}

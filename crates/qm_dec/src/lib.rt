@@ -2,7 +2,6 @@
 
 #![tactic(auto)]
 
-mod fail;
 mod law;
 mod parts;
 mod plain;
@@ -11,8 +10,7 @@ mod read;
 mod size;
 mod write;
 
-pub use def_text::Micro;
-pub use fail::DecFail;
+pub use def_text::{DecFail, Micro};
 pub use law::canonical_law;
 pub use ratio::read_ratio;
 pub use read::read_micro;

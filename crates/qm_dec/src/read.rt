@@ -1,23 +1,22 @@
 //! A decimal's word to its number of millionths.
 ghost use Rattle.std.specs.Prelude.{◌≡◌, ◌≤◌, ◌<◌, ◌+◌, ◌^◌, ◌++◌, neg_ℤ, if◌then◌else◌, pos, ◌+ℤ◌, ◌-ℤ◌, min, true, IsTrue, length, IfOk, IfErr};
-ghost use Rattle.def_text.specs.Decimal.{is_exponent, power, scaled};
+ghost use Rattle.def_text.specs.Decimal.{is_exponent, power, scaled, IsDecFail, IsValue};
 ghost use Rattle.def_text.specs.Digits.{is_negative, is_number, number};
-ghost use Rattle.qm_dec.specs.Sizes.{IsDecFail, IsValue, capped};
+ghost use Rattle.qm_dec.specs.Sizes.{capped};
 
-use crate::fail::DecFail;
 use crate::parts::{
     are_number, behind_first, is_exponent, is_negative, split_exponent, split_point, unsigned,
 };
 use crate::plain::plain_size;
 use crate::size::{FAR, number_after, size_of};
-use def_text::Micro;
+use def_text::{DecFail, MAX_DECIMAL, Micro};
 
 /// The value of the decimal, rounded to millionths, half away from zero.
 pub fn read_micro(word: &[u8]) -> Result<Micro, DecFail>
     ensures value { IfOk result (IsValue word.now) }
     ensures refusal { IfErr result (IsDecFail word.now) }
 {
-    if word.len() > 64 {
+    if word.len() > MAX_DECIMAL {
         return Err(DecFail::Syntax);
     }
     if let Some(size) = plain_size(word) {

@@ -2,7 +2,7 @@
 use Rattle.std.proofs.Common.{◌≡◌, ℕ, ◌+◌, ◌-◌, ◌≤◌, List, ◌++◌, Option, Some, None, length, take, drop, refl, sym, ◌∙◌, ap, arith, append_assoc, length-drop}
 use Rattle.std.proofs.lemmas.List.{take_rest, drop-drop}
 use Rattle.std.proofs.Math.Seq.{take-add}
-use Rattle.qm_io.specs.Moves.{gave, took}
+use Rattle.def_io.specs.Moves.{gave, took}
 
 -- A sink that took a front, and then a front of the rest, took a front.
 pub took-split : (before : Option (List ℕ)) (k n : ℕ) (xs : List ℕ)

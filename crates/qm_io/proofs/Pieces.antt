@@ -1,8 +1,9 @@
--- Facts on the pieces of a text and on the places after them.
+-- Facts on the pieces of a text and on the positions after them.
 use Rattle.std.proofs.Common.{◌≡◌, ℕ, zero, suc, ◌+◌, ◌-◌, ◌==◌, ◌<◌, ◌≤◌, Bool, true, false, if◌then◌else◌, List, [], ◌∷◌, ◌++◌, length, take, drop, map, get_or, slice_index, slice_index_or, refl, sym, ◌∙◌, ap, arith, length-append}
 use Rattle.std.specs.List.{flat_map}
 use Rattle.std.proofs.lemmas.List.{length-map}
-use Rattle.qm_io.specs.Lines.{in_front, pieces, places, line_of, lines_of, tail_of}
+use Rattle.def_io.specs.Lines.{in_front, pieces, line_of, lines_of, tail_of}
+use Rattle.qm_io.specs.Ends.{ends_from}
 
 -- One piece more where a byte stands in front of the first, and no more than that.
 length-in_front : (b : ℕ) (ps : List (List ℕ)) → length (in_front b ps) ≤ length ps + 1
@@ -19,10 +20,10 @@ length-pieces (b ∷ bs) = by_test (b == 10) (length-pieces bs)
     by_test true less = omega arith
     by_test false less = omega (arith, length-in_front b (pieces bs))
 
--- Each piece has its place.
-pub length-places : (s : ℕ) (ps : List (List ℕ)) → length (places s ps) ≡ length ps
-length-places s [] = refl
-length-places s (p ∷ ps) = ap suc (length-places (s + length p) ps)
+-- Each piece has its end.
+pub length-ends_from : (s : ℕ) (ps : List (List ℕ)) → length (ends_from s ps) ≡ length ps
+length-ends_from s [] = refl
+length-ends_from s (p ∷ ps) = ap suc (length-ends_from (s + length p) ps)
 
 -- The byte in front stands in front of all.
 flat-in_front : (b : ℕ) (ps : List (List ℕ)) → flat_map (λ p. p) (in_front b ps) ≡ b ∷ flat_map (λ p. p) ps
@@ -39,9 +40,9 @@ flat-pieces (b ∷ bs) = by_test (b == 10) (ap (λ xs. b ∷ xs) (flat-pieces bs
     by_test true is = is
     by_test false is = flat-in_front b (pieces bs) ∙ is
 
--- The place where piece `i` begins.
+-- The position where piece `i` begins.
 abbrev pub begin : ℕ → List (List ℕ) → ℕ → ℕ
-begin s ps i = slice_index (s ∷ places s ps) i
+begin s ps i = slice_index (s ∷ ends_from s ps) i
 
 -- No piece begins before the first.
 pub begin-high : (s : ℕ) (ps : List (List ℕ)) (i : ℕ) → i ≤ length ps → s ≤ begin s ps i
@@ -54,7 +55,7 @@ drop-front [] xs n k is = let same : n ≡ k = omega arith in ap (λ m. drop m x
 drop-front (b ∷ p) xs zero k is = absurd (omega arith)
 drop-front (b ∷ p) xs (suc n) k is = drop-front p xs n k (omega arith)
 
--- From the place where a piece begins on stand that piece and all later ones.
+-- From the position where a piece begins on stand that piece and all later ones.
 pub drop-begin : (s k : ℕ) (ps : List (List ℕ)) (i : ℕ) → i ≤ length ps → s + k ≡ begin s ps i
     → drop k (flat_map (λ p. p) ps) ≡ flat_map (λ p. p) (drop i ps)
 drop-begin s k ps zero l is =
@@ -68,7 +69,7 @@ drop-begin s k (p ∷ ps) (suc i) l is =
 
 -- A piece ends where the next begins.
 pub end-begin : (s : ℕ) (ps : List (List ℕ)) (i : ℕ) → i < length ps
-    → slice_index (places s ps) i ≡ begin s ps i + length (slice_index_or ps i [])
+    → slice_index (ends_from s ps) i ≡ begin s ps i + length (slice_index_or ps i [])
 end-begin s [] i l = absurd (omega arith)
 end-begin s (p ∷ ps) zero l = refl
 end-begin s (p ∷ ps) (suc i) l = end-begin (s + length p) ps i (omega arith)
@@ -134,12 +135,12 @@ pieces-none (b ∷ c ∷ bs) l none =
 pub piece-there : (bs : List ℕ) (i : ℕ) → i < length (lines_of bs) → i < length (pieces bs)
 piece-there bs i l = omega (arith, length-map (pieces bs) line_of)
 
--- Each line has its place in the table of ends.
-pub end-there : (bs es : List ℕ) (i : ℕ) → es ≡ places 0 (pieces bs) → i < length (lines_of bs) → i < length es
-end-there bs es i cut l = omega (arith, piece-there bs i l, ap length cut, length-places 0 (pieces bs))
+-- Each line has its end in the table.
+pub end-there : (bs es : List ℕ) (i : ℕ) → es ≡ ends_from 0 (pieces bs) → i < length (lines_of bs) → i < length es
+end-there bs es i cut l = omega (arith, piece-there bs i l, ap length cut, length-ends_from 0 (pieces bs))
 
 -- A piece ends within the text.
-pub end-within : (bs : List ℕ) (i : ℕ) → i < length (pieces bs) → slice_index (places 0 (pieces bs)) i ≤ length bs
+pub end-within : (bs : List ℕ) (i : ℕ) → i < length (pieces bs) → slice_index (ends_from 0 (pieces bs)) i ≤ length bs
 end-within bs i l = omega (arith, end-low 0 (pieces bs) (suc i) (omega arith), ap length (flat-pieces bs))
 
 -- The line of a piece.

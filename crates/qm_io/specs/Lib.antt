@@ -1,4 +1,2 @@
-pub mod Causes
-pub mod Lines
-pub mod Memory
-pub mod Moves
+pub mod Ends
+pub mod Gained

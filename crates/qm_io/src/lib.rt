@@ -3,7 +3,7 @@
 
 mod lines;
 mod memory;
-mod places;
+mod ends;
 mod reading;
 mod streams;
 #[cfg(test)]

@@ -15,11 +15,13 @@ ghost use Rattle.std.specs.Prelude.{
   if◌then◌else◌,
   ◌==◌,
 };
-ghost use Rattle.qm_io.specs.Lines.{line_of, lines_of, pieces, places, tail_of, without_last};
+ghost use Rattle.def_io.specs.Lines.{line_of, lines_of, pieces, tail_of, without_last};
+ghost use Rattle.qm_io.specs.Ends.{ends_from};
 
+use def_io::{CARRIAGE_RETURN, LINE_FEED};
 use std::marker::Model;
 
-/// All bytes of a text, and the place after each of its physical lines and their ends.
+/// All bytes of a text, and the position after each of its physical lines and their ends.
 #[derive(Debug, Drop)]
 pub struct Lines {
     pub bytes: Vec<u8>,
@@ -28,13 +30,14 @@ pub struct Lines {
 
 impl Model for Lines {
     ghost use Rattle.std.specs.Prelude.{◌≡◌, ◌<◌, ◌^◌, ℕ, List, length};
-    ghost use Rattle.qm_io.specs.Lines.{pieces, places};
+    ghost use Rattle.def_io.specs.Lines.{pieces};
+    ghost use Rattle.qm_io.specs.Ends.{ends_from};
 
     ghost Value = { List ℕ };
 
     ghost view = { λ s. s.bytes.items };
 
-    ghost invariant = { λ s. (s.ends.items ≡ places 0 (pieces s.bytes.items)) × (length s.bytes.items < 2 ^ 32) };
+    ghost invariant = { λ s. (s.ends.items ≡ ends_from 0 (pieces s.bytes.items)) × (length s.bytes.items < 2 ^ 32) };
 }
 
 impl Lines {
@@ -63,7 +66,7 @@ impl Lines {
 }
 
 fn line_count(bytes: &[u8], ends: &[u32]) -> u32
-    requires cut { ends.now ≡ places 0 (pieces bytes.now) }
+    requires cut { ends.now ≡ ends_from 0 (pieces bytes.now) }
     requires few { length bytes.now < 2 ^ 32 }
     ensures { result ≡ length (lines_of bytes.now) }
 {
@@ -71,7 +74,7 @@ fn line_count(bytes: &[u8], ends: &[u32]) -> u32
     ends.len() as u32
 }
 
-/// The place where piece `i` begins.
+/// The position where piece `i` begins.
 fn start_of(ends: &[u32], i: usize) -> usize
     requires { i ≤ length ends.now }
     ensures { result ≡ slice_index (0 ∷ ends.now) i }
@@ -79,7 +82,7 @@ fn start_of(ends: &[u32], i: usize) -> usize
     if i == 0 { 0 } else { ends[i - 1] as usize }
 }
 
-/// The place where piece `i` ends.
+/// The position where piece `i` ends.
 fn end_of(ends: &[u32], i: usize) -> usize
     requires { i < length ends.now }
     ensures { result ≡ slice_index ends.now i }
@@ -88,7 +91,7 @@ fn end_of(ends: &[u32], i: usize) -> usize
 }
 
 fn piece_at<'a>(bytes: &'a [u8], ends: &[u32], i: usize) -> &'a [u8]
-    requires cut { ends.now ≡ places 0 (pieces bytes.now) }
+    requires cut { ends.now ≡ ends_from 0 (pieces bytes.now) }
     requires there { i < length (lines_of bytes.now) }
     ensures { result.now ≡ slice_index_or (pieces bytes.now) i [] }
 {
@@ -96,11 +99,11 @@ fn piece_at<'a>(bytes: &'a [u8], ends: &[u32], i: usize) -> &'a [u8]
 }
 
 fn line_at<'a>(bytes: &'a [u8], ends: &[u32], i: usize) -> &'a [u8]
-    requires cut { ends.now ≡ places 0 (pieces bytes.now) }
+    requires cut { ends.now ≡ ends_from 0 (pieces bytes.now) }
     requires there { i < length (lines_of bytes.now) }
     ensures { result.now ≡ slice_index_or (lines_of bytes.now) i [] }
 {
-    strip_last(strip_last(piece_at(bytes, ends, i), b'\n'), b'\r')
+    strip_last(strip_last(piece_at(bytes, ends, i), LINE_FEED), CARRIAGE_RETURN)
 }
 
 fn strip_last(piece: &[u8], byte: u8) -> &[u8]
@@ -113,7 +116,7 @@ fn strip_last(piece: &[u8], byte: u8) -> &[u8]
 }
 
 fn tail_at<'a>(bytes: &'a [u8], ends: &[u32], i: usize) -> &'a [u8]
-    requires cut { ends.now ≡ places 0 (pieces bytes.now) }
+    requires cut { ends.now ≡ ends_from 0 (pieces bytes.now) }
     requires there { i < length (lines_of bytes.now) }
     ensures { result.now ≡ tail_of i bytes.now }
 {

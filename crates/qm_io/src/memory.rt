@@ -21,9 +21,9 @@ ghost use Rattle.std.specs.Prelude.{
   IfErr,
   Contains,
 };
-ghost use Rattle.qm_io.specs.Causes.{HasCause};
-ghost use Rattle.qm_io.specs.Memory.{counted};
-ghost use Rattle.qm_io.specs.Moves.{gave, took, IsEmptied};
+ghost use Rattle.def_io.specs.Faults.{HasCause};
+ghost use Rattle.def_io.specs.Memory.{one_more};
+ghost use Rattle.def_io.specs.Moves.{gave, took, IsEmptied};
 
 use crate::traits::{Failed, Sink, Source};
 use std::alloc::Global;
@@ -42,7 +42,7 @@ pub struct MemSource {
 
 impl Model for MemSource {
     ghost use Rattle.std.specs.Prelude.{◌≤◌, ◌<◌, length, drop};
-    ghost use Rattle.qm_io.specs.Memory.{Feed};
+    ghost use Rattle.def_io.specs.Memory.{Feed};
 
     ghost Value = { Feed };
 
@@ -91,14 +91,14 @@ impl Source for MemSource {
         ensures gives { IfOk result (λ n. Some self.old.left ≡ gave (take n buf.new) (Some self.new.left)) }
         ensures end { IfOk result (λ n. n ≡ 0 → 0 < length buf.old → IsEmptied (Some self.new.left)) }
         ensures still { IfErr result (λ _. Some self.new.left ≡ Some self.old.left) }
-        ensures fails { IsErr result ↔ Contains self.old.fail_at (counted self.old.calls) }
+        ensures fails { IsErr result ↔ Contains self.old.fail_at (one_more self.old.calls) }
         ensures count { IfOk result (λ n. n ≡ min self.old.step (min (length buf.old) (length self.old.left))) }
         ensures err { IfErr result (λ _. self.new ≡ record self.old {
-          calls = counted self.old.calls;
-          faults = counted self.old.faults;
+          calls = one_more self.old.calls;
+          faults = one_more self.old.faults;
         }) }
         ensures ok { IfOk result (λ n. self.new ≡ record self.old {
-          calls = counted self.old.calls;
+          calls = one_more self.old.calls;
           left = drop n self.old.left;
         }) }
     {
@@ -127,7 +127,7 @@ pub struct MemSink {
 
 impl Model for MemSink {
     ghost use Rattle.std.specs.Prelude.{◌<◌};
-    ghost use Rattle.qm_io.specs.Memory.{Store};
+    ghost use Rattle.def_io.specs.Memory.{Store};
 
     ghost Value = { Store };
 
@@ -177,14 +177,14 @@ impl Sink for MemSink {
         ensures moves { IfOk result (λ n. 0 < length piece.now → 0 < n) }
         ensures takes { IfOk result (λ n. Some self.new.taken ≡ took (Some self.old.taken) (take n piece.now)) }
         ensures still { IfErr result (λ _. Some self.new.taken ≡ Some self.old.taken) }
-        ensures fails { Contains self.old.fail_at (counted self.old.calls) → IsErr result }
+        ensures fails { Contains self.old.fail_at (one_more self.old.calls) → IsErr result }
         ensures count { IfOk result (λ n. n ≡ min self.old.step (length piece.now)) }
         ensures err { IfErr result (λ _. self.new ≡ record self.old {
-          calls = counted self.old.calls;
-          faults = counted self.old.faults;
+          calls = one_more self.old.calls;
+          faults = one_more self.old.faults;
         }) }
         ensures ok { IfOk result (λ n. self.new ≡ record self.old {
-          calls = counted self.old.calls;
+          calls = one_more self.old.calls;
           taken = self.old.taken ++ take n piece.now;
         }) }
     {

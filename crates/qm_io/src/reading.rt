@@ -1,9 +1,10 @@
 ghost use Rattle.std.specs.Prelude.{◌≡◌, ◌≤◌, ◌<◌, ◌^◌, ◌++◌, length, take, IfOk, OnOk, OnErr, IsErrOf};
-ghost use Rattle.qm_io.specs.Causes.{Rose};
-ghost use Rattle.qm_io.specs.Moves.{gave, IsEmptied, GaveMore, Gained};
+ghost use Rattle.def_io.specs.Faults.{Rose};
+ghost use Rattle.def_io.specs.Moves.{gave, IsEmptied, GaveMore};
+ghost use Rattle.qm_io.specs.Gained.{Gained};
 
 use crate::lines::Lines;
-use crate::places::ends_of;
+use crate::ends::ends_of;
 use crate::traits::{Memory, Source};
 use std::alloc::Global;
 use thiserror::Error;

@@ -1,6 +1,6 @@
 ghost use Rattle.std.specs.Prelude.{◌≡◌, ◌≤◌, ◌<◌, ℕ, List, Option, None, take, length, IfOk, IfErr};
-ghost use Rattle.qm_io.specs.Causes.{HasCause};
-ghost use Rattle.qm_io.specs.Moves.{gave, took, IsEmptied};
+ghost use Rattle.def_io.specs.Faults.{HasCause};
+ghost use Rattle.def_io.specs.Moves.{gave, took, IsEmptied};
 
 use std::alloc::AllocError;
 use thiserror::Error;

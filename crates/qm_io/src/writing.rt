@@ -1,6 +1,6 @@
 ghost use Rattle.std.specs.Prelude.{◌≡◌, ◌≤◌, ◌<◌, length, take, drop, IfOk, OnOk, OnErr};
-ghost use Rattle.qm_io.specs.Causes.{HasCause};
-ghost use Rattle.qm_io.specs.Moves.{took, TookFront};
+ghost use Rattle.def_io.specs.Faults.{HasCause};
+ghost use Rattle.def_io.specs.Moves.{took, TookFront};
 
 use crate::traits::Sink;
 use thiserror::Error;

@@ -26,11 +26,11 @@ split_word (b ∷ bs) = by_slash (is_slash b) refl (split_word bs)
 -- A word with a slash is no index.
 no_digits : (word : List ℕ) → list_any is_slash word ≡ true → list_all is_ascii_digit word ≡ false
 no_digits [] is = absurd (false≢true is)
-no_digits (b ∷ bs) is = by_place (or_cases _ _ is) (no_digits bs)
+no_digits (b ∷ bs) is = by_position (or_cases _ _ is) (no_digits bs)
   where
-    by_place : (is_slash b ≡ true) ⊎ (list_any is_slash bs ≡ true) → (list_any is_slash bs ≡ true → list_all is_ascii_digit bs ≡ false) → list_all is_ascii_digit (b ∷ bs) ≡ false
-    by_place (inl here) again = let e : b ≡ 47 = eqb-true b 47 here in rw e refl
-    by_place (inr there) again = and_right _ _ (again there)
+    by_position : (is_slash b ≡ true) ⊎ (list_any is_slash bs ≡ true) → (list_any is_slash bs ≡ true → list_all is_ascii_digit bs ≡ false) → list_all is_ascii_digit (b ∷ bs) ≡ false
+    by_position (inl here) again = let e : b ≡ 47 = eqb-true b 47 here in rw e refl
+    by_position (inr there) again = and_right _ _ (again there)
 
 no_number : (word : List ℕ) → list_any is_slash word ≡ true → is_number word ≡ false
 no_number [] is = refl
@@ -41,7 +41,7 @@ slash_none [] is = absurd (false≢true is)
 slash_none (b ∷ bs) is = by_sign (is_sign b) refl (or_cases _ _ is)
   where
     by_sign : (t : Bool) → is_sign b ≡ t → (is_slash b ≡ true) ⊎ (list_any is_slash bs ≡ true) → is_number (cond t bs (b ∷ bs)) ≡ false
-    by_sign false sign place = no_digits (b ∷ bs) is
+    by_sign false sign position = no_digits (b ∷ bs) is
     by_sign true sign (inl here) = let e : b ≡ 47 = eqb-true b 47 here in absurd (false≢true (ap is_sign (sym e) ∙ sign))
     by_sign true sign (inr there) = no_number bs there
 

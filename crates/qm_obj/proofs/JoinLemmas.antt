@@ -1,11 +1,12 @@
--- Physical lines joined to logical lines.
+-- Physical lines text_ahead to logical lines.
 use Rattle.std.proofs.Common.{◌≡◌, ℕ, zero, suc, ◌+◌, ◌-◌, ◌<◌, ◌≤◌, Bool, true, false, cond, not, ◌||◌, List, [], ◌∷◌, ◌++◌, length, take, drop, get_or, refl, sym, ap, ◌∙◌, arith, subst, eqb}
 use Rattle.std.specs.List.{before_first, list_any, position_or_len}
 use Rattle.std.proofs.lemmas.Bool.Decides.{nat_tests}
 use Rattle.std.specs.Prelude.{slice_range}
 use Rattle.std.proofs.lemmas.Bool.{and_parts, false≢true, not-true, or_from, or_parts}
 use Rattle.std.proofs.lemmas.List.{append_assoc, drop_more, length-append, length-take}
-use Rattle.def_text.specs.Logical.{continues, is_hash, joined, logical_lines, size_of, span, with_space}
+use Rattle.def_text.specs.Logical.{continues, is_hash, with_space}
+use Rattle.qm_obj.specs.Ahead.{text_ahead, size_ahead, span}
 use Rattle.std.proofs.lemmas.List.Folds.{list_any-append}
 use Rattle.qm_obj.specs.Lines.{first_logical, uncommented}
 use Rattle.qm_obj.proofs.WordLemmas.{uncommented_is, uncommented_none}
@@ -34,31 +35,31 @@ range_cons xs i b d lt within =
 pub range_none : {X : Type 0} (xs : List X) (b : ℕ) → slice_range xs b b ≡ []
 range_none xs b = let e : b - b ≡ 0 = omega arith in rw e refl
 
--- The physical lines up to this one are joined, and each of them continues.
+-- The physical lines up to this one are text_ahead, and each of them continues.
 pub record IsJoining (all : List (List ℕ)) (i next after : ℕ) (bytes : List ℕ) : Type 0 where
   pub from : i ≤ next
   pub within : next ≤ after
-  pub text : bytes ++ joined (slice_range all next after) ≡ joined (slice_range all i after)
+  pub text : bytes ++ text_ahead (slice_range all next after) ≡ text_ahead (slice_range all i after)
   pub count : next + span (slice_range all next after) ≡ i + span (slice_range all i after)
-  pub size : length bytes + size_of (slice_range all next after) ≡ size_of (slice_range all i after)
+  pub size : length bytes + size_ahead (slice_range all next after) ≡ size_ahead (slice_range all i after)
 
 pub record IsJoined (all : List (List ℕ)) (i next after : ℕ) (bytes : List ℕ) (size : ℕ) : Type 0 where
-  pub text : bytes ≡ joined (slice_range all i after)
+  pub text : bytes ≡ text_ahead (slice_range all i after)
   pub count : next ≡ i + span (slice_range all i after)
-  pub bytes_are : size ≡ size_of (slice_range all i after)
+  pub bytes_are : size ≡ size_ahead (slice_range all i after)
 
 -- One line more, that continues.
 pub joining_more : (all : List (List ℕ)) (i next after : ℕ) (bytes line : List ℕ) → next < after → after ≤ length all → line ≡ get_or all next [] → continues line ≡ true
     → IsJoining all i next after bytes → IsJoining all i (next + 1) after (bytes ++ with_space line)
 joining_more all i next after bytes line lt within is on so_far =
     let cut : slice_range all next after ≡ line ∷ slice_range all (next + 1) after = range_cons all next after [] lt within ∙ ap (λ l. l ∷ slice_range all (next + 1) after) (sym is) in
-    let text : joined (slice_range all next after) ≡ with_space line ++ joined (slice_range all (next + 1) after) = ap joined cut ∙ rw on refl in
+    let text : text_ahead (slice_range all next after) ≡ with_space line ++ text_ahead (slice_range all (next + 1) after) = ap text_ahead cut ∙ rw on refl in
     let count : span (slice_range all next after) ≡ 1 + span (slice_range all (next + 1) after) = ap span cut ∙ rw on refl in
-    let size : size_of (slice_range all next after) ≡ length line + size_of (slice_range all (next + 1) after) = ap size_of cut ∙ rw on refl in
+    let size : size_ahead (slice_range all next after) ≡ length line + size_ahead (slice_range all (next + 1) after) = ap size_ahead cut ∙ rw on refl in
     record {
       from = omega (arith, so_far.from);
       within = omega arith;
-      text = append_assoc bytes (with_space line) (joined (slice_range all (next + 1) after)) ∙ ap (λ rest. bytes ++ rest) (sym text) ∙ so_far.text;
+      text = append_assoc bytes (with_space line) (text_ahead (slice_range all (next + 1) after)) ∙ ap (λ rest. bytes ++ rest) (sym text) ∙ so_far.text;
       count = omega (arith, so_far.count);
       size = omega (arith, so_far.size, length-append bytes (with_space line), length-with_space line on);
     }
@@ -68,9 +69,9 @@ pub joined_last : (all : List (List ℕ)) (i next after : ℕ) (bytes line : Lis
     → IsJoining all i next after bytes → IsJoined all i (next + 1) after (bytes ++ before_first is_hash line) (length bytes + length line)
 joined_last all i next after bytes line lt within is off so_far =
     let cut : slice_range all next after ≡ line ∷ slice_range all (next + 1) after = range_cons all next after [] lt within ∙ ap (λ l. l ∷ slice_range all (next + 1) after) (sym is) in
-    let text : joined (slice_range all next after) ≡ before_first is_hash line = ap joined cut ∙ rw off refl in
+    let text : text_ahead (slice_range all next after) ≡ before_first is_hash line = ap text_ahead cut ∙ rw off refl in
     let count : span (slice_range all next after) ≡ 1 = ap span cut ∙ rw off refl in
-    let size : size_of (slice_range all next after) ≡ length line = ap size_of cut ∙ rw off refl in
+    let size : size_ahead (slice_range all next after) ≡ length line = ap size_ahead cut ∙ rw off refl in
     record {
       text = ap (λ rest. bytes ++ rest) (sym text) ∙ so_far.text;
       count = omega (arith, so_far.count);
@@ -94,31 +95,13 @@ span_few (line ∷ lines) = by_more (continues line) (span_few lines)
     by_more false few = omega arith
 
 -- What is left to read is no longer than the physical lines.
-pub joined_short : (lines : List (List ℕ)) → length (joined lines) ≤ size_of lines
+pub joined_short : (lines : List (List ℕ)) → length (text_ahead lines) ≤ size_ahead lines
 joined_short [] = omega arith
 joined_short (line ∷ lines) = by_more (continues line) refl (joined_short lines)
   where
-    by_more : (t : Bool) → continues line ≡ t → length (joined lines) ≤ size_of lines → length (cond t (with_space line ++ joined lines) (before_first is_hash line)) ≤ cond t (length line + size_of lines) (length line)
-    by_more true on short = omega (arith, length-append (with_space line) (joined lines), length-with_space line on)
+    by_more : (t : Bool) → continues line ≡ t → length (text_ahead lines) ≤ size_ahead lines → length (cond t (with_space line ++ text_ahead lines) (before_first is_hash line)) ≤ cond t (length line + size_ahead lines) (length line)
+    by_more true on short = omega (arith, length-append (with_space line) (text_ahead lines), length-with_space line on)
     by_more false off short = omega (arith, length-take (position_or_len is_hash line) line)
-
--- The first logical line, and those behind its physical lines.
-pub logical_step : (number : ℕ) (line : List ℕ) (lines : List (List ℕ))
-    → logical_lines number (line ∷ lines) ≡ first_logical number (line ∷ lines) ∷ logical_lines (number + span (line ∷ lines)) (drop (span (line ∷ lines)) (line ∷ lines))
-logical_step number line [] = ap (λ rest. first_logical number (line ∷ []) ∷ rest) (by_more (continues line))
-  where
-    by_more : (t : Bool) → drop (cond t 1 0) (logical_lines (number + 1) []) ≡ logical_lines (number + cond t (1 + span []) 1) (drop (cond t (1 + span []) 1) (line ∷ []))
-    by_more true = refl
-    by_more false = refl
-logical_step number line (l ∷ ls) = ap (λ rest. first_logical number (line ∷ l ∷ ls) ∷ rest) (by_more (continues line) (logical_step (number + 1) l ls))
-  where
-    by_more : (t : Bool) → logical_lines (number + 1) (l ∷ ls) ≡ first_logical (number + 1) (l ∷ ls) ∷ logical_lines (number + 1 + span (l ∷ ls)) (drop (span (l ∷ ls)) (l ∷ ls))
-        → drop (cond t 1 0) (logical_lines (number + 1) (l ∷ ls)) ≡ logical_lines (number + cond t (1 + span (l ∷ ls)) 1) (drop (cond t (1 + span (l ∷ ls)) 1) (line ∷ l ∷ ls))
-    by_more false again = refl
-    by_more true again =
-        let e : 1 + span (l ∷ ls) ≡ suc (span (l ∷ ls)) = omega arith in
-        let n : number + suc (span (l ∷ ls)) ≡ number + 1 + span (l ∷ ls) = omega arith in
-        ap (drop 1) again ∙ sym (ap (λ k. logical_lines (number + k) (drop k (line ∷ l ∷ ls))) e ∙ ap (λ k. logical_lines k (drop (span (l ∷ ls)) (l ∷ ls))) n)
 
 -- A physical line that does not continue is a logical line.
 pub single_span : (all : List (List ℕ)) (i after : ℕ) (line : List ℕ) → i < after → after ≤ length all → line ≡ get_or all i [] → continues line ≡ false → 1 ≡ span (slice_range all i after)
@@ -146,23 +129,23 @@ cut_none (b ∷ bs) = by_hash (is_hash b) refl (cut_none bs)
     by_hash true is again = refl
     by_hash false isnt again = or_from _ _ isnt again
 
-joined_none : (lines : List (List ℕ)) → list_any is_hash (joined lines) ≡ false
+joined_none : (lines : List (List ℕ)) → list_any is_hash (text_ahead lines) ≡ false
 joined_none [] = refl
 joined_none (line ∷ lines) = by_more (continues line) refl (joined_none lines)
   where
-    by_more : (t : Bool) → continues line ≡ t → list_any is_hash (joined lines) ≡ false → list_any is_hash (cond t (with_space line ++ joined lines) (before_first is_hash line)) ≡ false
+    by_more : (t : Bool) → continues line ≡ t → list_any is_hash (text_ahead lines) ≡ false → list_any is_hash (cond t (with_space line ++ text_ahead lines) (before_first is_hash line)) ≡ false
     by_more true on again =
         let bare : list_any is_hash line ≡ false = not-true _ (and_parts _ _ on).1 in
-        list_any-append is_hash (with_space line) (joined lines)
+        list_any-append is_hash (with_space line) (text_ahead lines)
         ∙ or_from _ _ (list_any-append is_hash (take (length line - 1) line) (32 ∷ []) ∙ or_from _ _ (any_take (length line - 1) line bare) refl) again
     by_more false off again = subst (λ (xs : List ℕ). list_any is_hash xs ≡ false) (uncommented_is line) (cut_none line)
 
-pub joined_uncommented : (lines : List (List ℕ)) → uncommented (joined lines) ≡ joined lines
-joined_uncommented lines = uncommented_none (joined lines) (joined_none lines)
+pub joined_uncommented : (lines : List (List ℕ)) → uncommented (text_ahead lines) ≡ text_ahead lines
+joined_uncommented lines = uncommented_none (text_ahead lines) (joined_none lines)
 
 -- Joined bytes and their size are the first logical line.
-pub joined_logical : (lines : List (List ℕ)) (number size : ℕ) (bytes : List ℕ) → size ≡ size_of lines → bytes ≡ joined lines
+pub joined_logical : (lines : List (List ℕ)) (number size : ℕ) (bytes : List ℕ) → size ≡ size_ahead lines → bytes ≡ text_ahead lines
     → record { number = number; size = size; text = uncommented bytes } ≡ first_logical number lines
 joined_logical lines number size bytes sizes are =
     ap (λ n. record { number = number; size = n; text = uncommented bytes }) sizes
-    ∙ ap (λ text. record { number = number; size = size_of lines; text = text }) (ap uncommented are ∙ joined_uncommented lines)
+    ∙ ap (λ text. record { number = number; size = size_ahead lines; text = text }) (ap uncommented are ∙ joined_uncommented lines)

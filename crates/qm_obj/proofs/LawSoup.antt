@@ -10,22 +10,22 @@ use Rattle.std.proofs.lemmas.List.Elements.{filter-append}
 use Rattle.std.proofs.lemmas.List.Folds.{flat_map-map}
 use Rattle.std.proofs.lemmas.List.Sums.{sum_by_push}
 use Rattle.std.proofs.lemmas.Fmt.{decimal_nonempty}
-use Rattle.def_text.specs.Canonical.{canonical_text, face_text, micro_text, place_text}
+use Rattle.def_text.specs.Canonical.{canonical_text, face_text, micro_text, position_text}
 use Rattle.def_text.specs.Corner.{are_indices, is_corner, is_out, is_slash, resolved, used_index}
 use Rattle.def_text.specs.Decimal.{is_decimal, is_far, rounded}
 use Rattle.def_text.specs.Digits.{is_negative, is_number, is_signed, number, unsigned}
 use Rattle.def_mesh.specs.Vertices.{is_used}
 use Rattle.def_text.specs.FaceSet.{FaceSet, IsSoup}
 use Rattle.def_text.specs.Logical.{Logical, logical_lines}
-use Rattle.def_text.specs.Reading.{begins_with, is_face_line, is_place_count, is_vertex_line, reading, words_reading}
-use Rattle.def_text.specs.Text.{face_in, face_set, faces, first_refusal, late_in, numbers_to, place_in, place_of, readings, refusal_in, soup_of, text_soup, used_to, vertex_of}
+use Rattle.def_text.specs.Reading.{begins_with, is_face_line, is_position_count, is_vertex_line, reading, words_reading}
+use Rattle.def_text.specs.Text.{face_in, face_set, faces, first_refusal, late_in, numbers_to, position_in, position_of, readings, refusal_in, soup_of, text_soup, used_to, vertex_of}
 use Rattle.def_text.specs.Words.{words}
 use Rattle.def_text.specs.declared.reading.Reading.{Reading}
-use Rattle.def_text.specs.declared.reading.Reading.TheVariants.{Place, Face, Refused}
+use Rattle.def_text.specs.declared.reading.Reading.TheVariants.{Position, Face, Refused}
 use Rattle.def_text.specs.declared.refusal.ObjFail.TheVariants.{Limit}
 use Rattle.def_text.specs.declared.refusal.Which.TheVariants.{Line}
-use Rattle.qm_io.specs.Lines.{lines_of}
-use Rattle.qm_obj.specs.Law.{ReadsBack, is_place, is_quad}
+use Rattle.def_io.specs.Lines.{lines_of}
+use Rattle.def_text.specs.Laws.{ReadsBack, is_position, is_quad}
 use Rattle.qm_obj.proofs.CornerLemmas.{behind_none, digits_index, no_slash, whole_word}
 use Rattle.qm_dec.proofs.ReadBack.{canonical_law}
 use Rattle.qm_dec.proofs.Texts.{decimal_digits, decimal_number}
@@ -35,7 +35,7 @@ use Rattle.qm_obj.proofs.ListLemmas.{passes_at}
 use Rattle.qm_obj.proofs.ReadLemmas.{readings_append}
 use Rattle.qm_obj.proofs.SoupLemmas.{are_below, length-numbers_to, numbers_at, used_renumbered}
 
--- What holds at each place of two lists holds at each place of both together, and of a map what holds of each image.
+-- What holds at each position of two lists holds at each position of both together, and of a map what holds of each image.
 each_both : {X : Type 0} (P : X → Type 0) (xs ys : List X) (d : X) → ((k : ℕ) → k < length xs → P (get_or xs k d)) → ((k : ℕ) → k < length ys → P (get_or ys k d)) → (k : ℕ) → k < length (xs ++ ys) → P (get_or (xs ++ ys) k d)
 each_both P [] ys d a b k l = b k l
 each_both P (x ∷ xs) ys d a b zero l = a 0 (omega arith)
@@ -47,8 +47,8 @@ each_map {X} {Y} P f xs c d each k l =
     subst (λ (y : Y). P y) (sym (get_or-map f xs k c d there)) (each k there)
 
 -- The lines of the canonical text, without their ends.
-abbrev pub place_line : List ℤ → List ℕ
-place_line place = line_text 118 (map micro_text place)
+abbrev pub position_line : List ℤ → List ℕ
+position_line position = line_text 118 (map micro_text position)
 
 abbrev pub vertex_word : ℕ → List ℕ
 vertex_word v = decimal (v + 1)
@@ -57,7 +57,7 @@ abbrev pub face_line : List ℕ → List ℕ
 face_line face = line_text 102 (map vertex_word face)
 
 abbrev pub canonical_lines : FaceSet → List (List ℕ)
-canonical_lines s = map place_line s.pos ++ map face_line s.faces
+canonical_lines s = map position_line s.pos ++ map face_line s.faces
 
 ended : {X : Type 0} (text line : X → List ℕ) → ((x : X) → text x ≡ line x ++ 10 ∷ []) → (xs : List X) → flat_map text xs ≡ flat_map (λ l. l ++ 10 ∷ []) (map line xs)
 ended text line same [] = refl
@@ -66,46 +66,46 @@ ended text line same (x ∷ xs) = rw (same x, ended text line same xs) refl
 text_lines : (s : FaceSet) → canonical_text s ≡ flat_map (λ l. l ++ 10 ∷ []) (canonical_lines s)
 text_lines s =
     rw (
-      ended place_text place_line (λ p. ap (λ ws. 118 ∷ ws ++ 10 ∷ []) (sym (flat_map-map (λ w. 32 ∷ w) micro_text p))) s.pos,
+      ended position_text position_line (λ p. ap (λ ws. 118 ∷ ws ++ 10 ∷ []) (sym (flat_map-map (λ w. 32 ∷ w) micro_text p))) s.pos,
       ended face_text face_line (λ f. ap (λ ws. 102 ∷ ws ++ 10 ∷ []) (sym (flat_map-map (λ w. 32 ∷ w) vertex_word f))) s.faces,
     )
-    (sym (flat_map-append (λ l. l ++ 10 ∷ []) (map place_line s.pos) (map face_line s.faces)))
+    (sym (flat_map-append (λ l. l ++ 10 ∷ []) (map position_line s.pos) (map face_line s.faces)))
 
--- The words of a place.
-near : (place : List ℤ) → is_place place ≡ true → (k : ℕ) (d : ℤ) → k < length place → unsigned_abs (get_or place k d) ≤ 999_999_999_999_999
-near place is k d l = ltb-false _ _ (not-true _ (passes_at (λ z. not (is_far z)) place k d (and_parts _ _ is).1 l))
+-- The words of a position.
+near : (position : List ℤ) → is_position position ≡ true → (k : ℕ) (d : ℤ) → k < length position → unsigned_abs (get_or position k d) ≤ 999_999_999_999_999
+near position is k d l = ltb-false _ _ (not-true _ (passes_at (λ z. not (is_far z)) position k d (and_parts _ _ is).1 l))
 
-place_words : (place : List ℤ) → is_place place ≡ true → (k : ℕ) → k < length (map micro_text place) → IsWord (get_or (map micro_text place) k [])
-place_words place is = each_map IsWord micro_text place (pos 0) [] (λ k l. micro_word (get_or place k (pos 0)) (near place is k (pos 0) l))
+position_words : (position : List ℤ) → is_position position ≡ true → (k : ℕ) → k < length (map micro_text position) → IsWord (get_or (map micro_text position) k [])
+position_words position is = each_map IsWord micro_text position (pos 0) [] (λ k l. micro_word (get_or position k (pos 0)) (near position is k (pos 0) l))
 
-place_back : (place : List ℤ) → list_all (λ z. not (is_far z)) place ≡ true
-    → (list_all is_decimal (map micro_text place) ≡ true) × (list_any (λ w. is_far (rounded w)) (map micro_text place) ≡ false) × (map rounded (map micro_text place) ≡ place)
-place_back [] all = (refl, refl, refl)
-place_back (z ∷ zs) all =
+position_back : (position : List ℤ) → list_all (λ z. not (is_far z)) position ≡ true
+    → (list_all is_decimal (map micro_text position) ≡ true) × (list_any (λ w. is_far (rounded w)) (map micro_text position) ≡ false) × (map rounded (map micro_text position) ≡ position)
+position_back [] all = (refl, refl, refl)
+position_back (z ∷ zs) all =
     let parts : (not (is_far z) ≡ true) × (list_all (λ z. not (is_far z)) zs ≡ true) = and_parts _ _ all in
     let back : (is_decimal (micro_text z) ≡ true) × (rounded (micro_text z) ≡ z) = canonical_law z (ltb-false _ _ (not-true _ parts.0)) in
-    let again : (list_all is_decimal (map micro_text zs) ≡ true) × (list_any (λ w. is_far (rounded w)) (map micro_text zs) ≡ false) × (map rounded (map micro_text zs) ≡ zs) = place_back zs parts.1 in
+    let again : (list_all is_decimal (map micro_text zs) ≡ true) × (list_any (λ w. is_far (rounded w)) (map micro_text zs) ≡ false) × (map rounded (map micro_text zs) ≡ zs) = position_back zs parts.1 in
     (and_from _ _ back.0 again.0, or_from _ _ (ap is_far back.1 ∙ not-true _ parts.0) again.1, rw (back.1, again.2) refl)
 
-place_line_is : (place : List ℤ) → is_place place ≡ true → IsLine (place_line place)
-place_line_is place is =
-    let three : length place ≡ 3 = eqb-true _ _ (and_parts _ _ is).0 in
-    line_tame 118 (map micro_text place) refl (omega (arith, length-map place micro_text)) (place_words place is)
+position_line_is : (position : List ℤ) → is_position position ≡ true → IsLine (position_line position)
+position_line_is position is =
+    let three : length position ≡ 3 = eqb-true _ _ (and_parts _ _ is).0 in
+    line_tame 118 (map micro_text position) refl (omega (arith, length-map position micro_text)) (position_words position is)
 
-place_said : (vertices faces n : ℕ) (place : List ℤ) → vertices < 2 ^ 21 → is_place place ≡ true → reading vertices faces (record { number = n; size = length (place_line place); text = place_line place }) ≡ Place place
-place_said vertices faces n place few is =
-    let parts : (eqb (length place) 3 ≡ true) × (list_all (λ z. not (is_far z)) place ≡ true) = and_parts _ _ is in
-    let three : length (map micro_text place) ≡ 3 = length-map place micro_text ∙ eqb-true _ _ parts.0 in
-    let back : (list_all is_decimal (map micro_text place) ≡ true) × (list_any (λ w. is_far (rounded w)) (map micro_text place) ≡ false) × (map rounded (map micro_text place) ≡ place) = place_back place parts.1 in
-    let short : ltb 65536 (length (place_line place)) ≡ false = le-ltb _ _ (place_line_is place is).short in
-    let right : (is_place_count (length (map micro_text place)) && list_all is_decimal (map micro_text place)) ≡ true = and_from _ _ (ap is_place_count three) back.0 in
-    let all : take 3 (map micro_text place) ≡ map micro_text place = take_all 3 (map micro_text place) (omega arith) in
-    by_size (ltb 65536 (length (place_line place))) short
-    (ap (words_reading n vertices faces) (line_words 118 (map micro_text place) refl (place_words place is))
-    ∙ vertex_rest n vertices (map micro_text place) (lt-leb _ _ few) right
+position_said : (vertices faces n : ℕ) (position : List ℤ) → vertices < 2 ^ 21 → is_position position ≡ true → reading vertices faces (record { number = n; size = length (position_line position); text = position_line position }) ≡ Position position
+position_said vertices faces n position few is =
+    let parts : (eqb (length position) 3 ≡ true) × (list_all (λ z. not (is_far z)) position ≡ true) = and_parts _ _ is in
+    let three : length (map micro_text position) ≡ 3 = length-map position micro_text ∙ eqb-true _ _ parts.0 in
+    let back : (list_all is_decimal (map micro_text position) ≡ true) × (list_any (λ w. is_far (rounded w)) (map micro_text position) ≡ false) × (map rounded (map micro_text position) ≡ position) = position_back position parts.1 in
+    let short : ltb 65536 (length (position_line position)) ≡ false = le-ltb _ _ (position_line_is position is).short in
+    let right : (is_position_count (length (map micro_text position)) && list_all is_decimal (map micro_text position)) ≡ true = and_from _ _ (ap is_position_count three) back.0 in
+    let all : take 3 (map micro_text position) ≡ map micro_text position = take_all 3 (map micro_text position) (omega arith) in
+    by_size (ltb 65536 (length (position_line position))) short
+    (ap (words_reading n vertices faces) (line_words 118 (map micro_text position) refl (position_words position is))
+    ∙ vertex_rest n vertices (map micro_text position) (lt-leb _ _ few) right
     ∙ rw (all, back.1, back.2) refl)
   where
-    by_size : (t : Bool) → t ≡ false → words_reading n vertices faces (words (place_line place)) ≡ Place place → cond t (Refused (Limit Line n)) (words_reading n vertices faces (words (place_line place))) ≡ Place place
+    by_size : (t : Bool) → t ≡ false → words_reading n vertices faces (words (position_line position)) ≡ Position position → cond t (Refused (Limit Line n)) (words_reading n vertices faces (words (position_line position))) ≡ Position position
     by_size t off said = rw off said
 
 -- The words of a face.
@@ -177,9 +177,9 @@ plain_line n l = record { number = n; size = length l; text = l }
 one_more : (p : Logical → Bool) (before : List Logical) (line : Logical) → count_by p (before ++ line ∷ []) ≡ count_by p before + cond (p line) 1 0
 one_more p before line = sum_by_push (λ l. cond (p l) 1 0) before line
 
-place_kind : (n : ℕ) (place : List ℤ) → is_place place ≡ true → (is_vertex_line (plain_line n (place_line place)) ≡ true) × (is_face_line (plain_line n (place_line place)) ≡ false)
-place_kind n place is =
-    let ws : words (place_line place) ≡ (118 ∷ []) ∷ map micro_text place = line_words 118 (map micro_text place) refl (place_words place is) in
+position_kind : (n : ℕ) (position : List ℤ) → is_position position ≡ true → (is_vertex_line (plain_line n (position_line position)) ≡ true) × (is_face_line (plain_line n (position_line position)) ≡ false)
+position_kind n position is =
+    let ws : words (position_line position) ≡ (118 ∷ []) ∷ map micro_text position = line_words 118 (map micro_text position) refl (position_words position is) in
     (ap (begins_with 118) ws, ap (begins_with 102) ws)
 
 face_kind : (vertices n : ℕ) (face : List ℕ) → vertices ≤ 2 ^ 21 → are_below vertices face ≡ true → (is_vertex_line (plain_line n (face_line face)) ≡ false) × (is_face_line (plain_line n (face_line face)) ≡ true)
@@ -187,25 +187,25 @@ face_kind vertices n face few all =
     let ws : words (face_line face) ≡ (102 ∷ []) ∷ map vertex_word face = line_words 102 (map vertex_word face) refl (face_words vertices face few all) in
     (ap (begins_with 118) ws, ap (begins_with 102) ws)
 
--- What the lines of all places say, and how many they are.
-places_said : (before : List Logical) (n : ℕ) (ps : List (List ℤ)) → list_all is_place ps ≡ true → count_by is_vertex_line before + length ps ≤ 2 ^ 21
-    → (readings before (plain_lines n (map place_line ps)) ≡ map Place ps)
-    × (count_by is_vertex_line (before ++ plain_lines n (map place_line ps)) ≡ count_by is_vertex_line before + length ps)
-    × (count_by is_face_line (before ++ plain_lines n (map place_line ps)) ≡ count_by is_face_line before)
-places_said before n [] all few =
+-- What the lines of all positions say, and how many they are.
+positions_said : (before : List Logical) (n : ℕ) (ps : List (List ℤ)) → list_all is_position ps ≡ true → count_by is_vertex_line before + length ps ≤ 2 ^ 21
+    → (readings before (plain_lines n (map position_line ps)) ≡ map Position ps)
+    × (count_by is_vertex_line (before ++ plain_lines n (map position_line ps)) ≡ count_by is_vertex_line before + length ps)
+    × (count_by is_face_line (before ++ plain_lines n (map position_line ps)) ≡ count_by is_face_line before)
+positions_said before n [] all few =
     (refl, ap (count_by is_vertex_line) (append-nil before) ∙ omega arith, ap (count_by is_face_line) (append-nil before))
-places_said before n (p ∷ ps) all few =
-    let parts : (is_place p ≡ true) × (list_all is_place ps ≡ true) = and_parts _ _ all in
-    let line = plain_line n (place_line p) in
-    let kind : (is_vertex_line line ≡ true) × (is_face_line line ≡ false) = place_kind n p parts.0 in
+positions_said before n (p ∷ ps) all few =
+    let parts : (is_position p ≡ true) × (list_all is_position ps ≡ true) = and_parts _ _ all in
+    let line = plain_line n (position_line p) in
+    let kind : (is_vertex_line line ≡ true) × (is_face_line line ≡ false) = position_kind n p parts.0 in
     let v : count_by is_vertex_line (before ++ line ∷ []) ≡ count_by is_vertex_line before + 1 = one_more is_vertex_line before line ∙ rw kind.0 refl in
     let f : count_by is_face_line (before ++ line ∷ []) ≡ count_by is_face_line before = one_more is_face_line before line ∙ rw kind.1 (omega arith) in
-    let again : (readings (before ++ line ∷ []) (plain_lines (n + 1) (map place_line ps)) ≡ map Place ps)
-    × (count_by is_vertex_line ((before ++ line ∷ []) ++ plain_lines (n + 1) (map place_line ps)) ≡ count_by is_vertex_line (before ++ line ∷ []) + length ps)
-    × (count_by is_face_line ((before ++ line ∷ []) ++ plain_lines (n + 1) (map place_line ps)) ≡ count_by is_face_line (before ++ line ∷ [])) =
-    places_said (before ++ line ∷ []) (n + 1) ps parts.1 (omega arith) in
-    let same : (before ++ line ∷ []) ++ plain_lines (n + 1) (map place_line ps) ≡ before ++ line ∷ plain_lines (n + 1) (map place_line ps) = append_assoc before (line ∷ []) (plain_lines (n + 1) (map place_line ps)) in (
-      rw (place_said (count_by is_vertex_line before) (count_by is_face_line before) n p (omega arith) parts.0, again.0) refl,
+    let again : (readings (before ++ line ∷ []) (plain_lines (n + 1) (map position_line ps)) ≡ map Position ps)
+    × (count_by is_vertex_line ((before ++ line ∷ []) ++ plain_lines (n + 1) (map position_line ps)) ≡ count_by is_vertex_line (before ++ line ∷ []) + length ps)
+    × (count_by is_face_line ((before ++ line ∷ []) ++ plain_lines (n + 1) (map position_line ps)) ≡ count_by is_face_line (before ++ line ∷ [])) =
+    positions_said (before ++ line ∷ []) (n + 1) ps parts.1 (omega arith) in
+    let same : (before ++ line ∷ []) ++ plain_lines (n + 1) (map position_line ps) ≡ before ++ line ∷ plain_lines (n + 1) (map position_line ps) = append_assoc before (line ∷ []) (plain_lines (n + 1) (map position_line ps)) in (
+      rw (position_said (count_by is_vertex_line before) (count_by is_face_line before) n p (omega arith) parts.0, again.0) refl,
       ap (count_by is_vertex_line) (sym same) ∙ again.1 ∙ omega arith,
       ap (count_by is_face_line) (sym same) ∙ again.2 ∙ f,
     )
@@ -230,25 +230,25 @@ faces_said vertices before n (f ∷ fs) few many quads below room =
     rw (first, faces_said vertices (before ++ line ∷ []) (n + 1) fs few v q.1 b.1 (omega arith)) refl
 
 -- What these readings have.
-places_of_places : (ps : List (List ℤ)) → flat_map place_in (map Place ps) ≡ ps
-places_of_places [] = refl
-places_of_places (p ∷ ps) = ap (λ xs. p ∷ xs) (places_of_places ps)
+positions_of_positions : (ps : List (List ℤ)) → flat_map position_in (map Position ps) ≡ ps
+positions_of_positions [] = refl
+positions_of_positions (p ∷ ps) = ap (λ xs. p ∷ xs) (positions_of_positions ps)
 
-faces_of_places : (ps : List (List ℤ)) → flat_map face_in (map Place ps) ≡ []
-faces_of_places [] = refl
-faces_of_places (p ∷ ps) = faces_of_places ps
+faces_of_positions : (ps : List (List ℤ)) → flat_map face_in (map Position ps) ≡ []
+faces_of_positions [] = refl
+faces_of_positions (p ∷ ps) = faces_of_positions ps
 
-refusals_of_places : (ps : List (List ℤ)) → flat_map refusal_in (map Place ps) ≡ []
-refusals_of_places [] = refl
-refusals_of_places (p ∷ ps) = refusals_of_places ps
+refusals_of_positions : (ps : List (List ℤ)) → flat_map refusal_in (map Position ps) ≡ []
+refusals_of_positions [] = refl
+refusals_of_positions (p ∷ ps) = refusals_of_positions ps
 
-late_of_places : (n : ℕ) (ps : List (List ℤ)) → flat_map (late_in n) (map Place ps) ≡ []
-late_of_places n [] = refl
-late_of_places n (p ∷ ps) = late_of_places n ps
+late_of_positions : (n : ℕ) (ps : List (List ℤ)) → flat_map (late_in n) (map Position ps) ≡ []
+late_of_positions n [] = refl
+late_of_positions n (p ∷ ps) = late_of_positions n ps
 
-places_of_faces : (n : ℕ) (fs : List (List ℕ)) → flat_map place_in (faces_from n fs) ≡ []
-places_of_faces n [] = refl
-places_of_faces n (f ∷ fs) = places_of_faces (n + 1) fs
+positions_of_faces : (n : ℕ) (fs : List (List ℕ)) → flat_map position_in (faces_from n fs) ≡ []
+positions_of_faces n [] = refl
+positions_of_faces n (f ∷ fs) = positions_of_faces (n + 1) fs
 
 faces_of_faces : (n : ℕ) (fs : List (List ℕ)) → flat_map face_in (faces_from n fs) ≡ map (λ f. map (λ v. v + 1) f) fs
 faces_of_faces n [] = refl
@@ -271,14 +271,14 @@ late_of_faces vertices n (f ∷ fs) all =
     rw (not_late vertices f parts.0) (late_of_faces vertices (n + 1) fs parts.1)
 
 soup_said : (ps : List (List ℤ)) (fs : List (List ℕ)) (n : ℕ) → list_all (are_below (length ps)) fs ≡ true
-    → soup_of (map Place ps ++ faces_from n fs) ≡ Ok (face_set ps (map (λ f. map (λ v. v + 1) f) fs))
+    → soup_of (map Position ps ++ faces_from n fs) ≡ Ok (face_set ps (map (λ f. map (λ v. v + 1) f) fs))
 soup_said ps fs n below =
-    let said = map Place ps ++ faces_from n fs in
-    let p : flat_map place_in said ≡ ps = flat_map-append place_in (map Place ps) (faces_from n fs) ∙ rw (places_of_places ps, places_of_faces n fs) (append-nil ps) in
-    let f : flat_map face_in said ≡ map (λ f. map (λ v. v + 1) f) fs = flat_map-append face_in (map Place ps) (faces_from n fs) ∙ rw (faces_of_places ps, faces_of_faces n fs) refl in
-    let r : flat_map refusal_in said ≡ [] = flat_map-append refusal_in (map Place ps) (faces_from n fs) ∙ rw (refusals_of_places ps, refusals_of_faces n fs) refl in
-    let l : flat_map (late_in (length ps)) said ≡ [] = flat_map-append (late_in (length ps)) (map Place ps) (faces_from n fs) ∙ rw (late_of_places (length ps) ps, late_of_faces (length ps) n fs below) refl in
-    ap (λ fails. first_refusal (fails ++ flat_map (late_in (length (flat_map place_in said))) said) (face_set (flat_map place_in said) (flat_map face_in said))) r
+    let said = map Position ps ++ faces_from n fs in
+    let p : flat_map position_in said ≡ ps = flat_map-append position_in (map Position ps) (faces_from n fs) ∙ rw (positions_of_positions ps, positions_of_faces n fs) (append-nil ps) in
+    let f : flat_map face_in said ≡ map (λ f. map (λ v. v + 1) f) fs = flat_map-append face_in (map Position ps) (faces_from n fs) ∙ rw (faces_of_positions ps, faces_of_faces n fs) refl in
+    let r : flat_map refusal_in said ≡ [] = flat_map-append refusal_in (map Position ps) (faces_from n fs) ∙ rw (refusals_of_positions ps, refusals_of_faces n fs) refl in
+    let l : flat_map (late_in (length ps)) said ≡ [] = flat_map-append (late_in (length ps)) (map Position ps) (faces_from n fs) ∙ rw (late_of_positions (length ps) ps, late_of_faces (length ps) n fs below) refl in
+    ap (λ fails. first_refusal (fails ++ flat_map (late_in (length (flat_map position_in said))) said) (face_set (flat_map position_in said) (flat_map face_in said))) r
     ∙ ap (λ xs. first_refusal (flat_map (late_in (length xs)) said) (face_set xs (flat_map face_in said))) p
     ∙ ap (λ fails. first_refusal fails (face_set ps (flat_map face_in said))) l
     ∙ ap (λ xs. Ok (face_set ps xs)) f
@@ -296,14 +296,14 @@ record AllUsed (fs : List (List ℕ)) (n : ℕ) : Type 0 where
 all_used_to : (s : FaceSet) → IsSoup s → AllUsed (map (λ f. map (λ v. v + 1) f) s.faces) (length s.pos)
 all_used_to s soup = record { kept = λ k le. keeps_all (is_used (map (λ f. map (λ v. v + 1) f) s.faces)) k (λ j l. used_renumbered (λ v. v + 1) j s.faces (soup.used j (omega arith))) }
 
-places_back : (ps : List (List ℤ)) → map (place_of ps) (numbers_to (length ps)) ≡ ps
-places_back ps =
-    let long : length (map (place_of ps) (numbers_to (length ps))) ≡ length ps = length-map (numbers_to (length ps)) (place_of ps) ∙ length-numbers_to (length ps) in
-    same_lists (map (place_of ps) (numbers_to (length ps))) ps long (λ k d l.
+positions_back : (ps : List (List ℤ)) → map (position_of ps) (numbers_to (length ps)) ≡ ps
+positions_back ps =
+    let long : length (map (position_of ps) (numbers_to (length ps))) ≡ length ps = length-map (numbers_to (length ps)) (position_of ps) ∙ length-numbers_to (length ps) in
+    same_lists (map (position_of ps) (numbers_to (length ps))) ps long (λ k d l.
     let there : k < length ps = omega arith in
     let e : k + 1 - 1 ≡ k = omega arith in
-    get_or-map (place_of ps) (numbers_to (length ps)) k 0 d (omega (arith, length-numbers_to (length ps)))
-    ∙ ap (place_of ps) (numbers_at (length ps) k there) ∙ ap (λ j. get_or ps j []) e ∙ get_or_default ps k [] d there)
+    get_or-map (position_of ps) (numbers_to (length ps)) k 0 d (omega (arith, length-numbers_to (length ps)))
+    ∙ ap (position_of ps) (numbers_at (length ps) k there) ∙ ap (λ j. get_or ps j []) e ∙ get_or_default ps k [] d there)
 
 corners_back : (fs : List (List ℕ)) (n : ℕ) → AllUsed fs n → (face : List ℕ) → are_below n face ≡ true → map (vertex_of fs) (map (λ v. v + 1) face) ≡ face
 corners_back fs n used [] all = refl
@@ -321,28 +321,29 @@ faces_back fs n used (f ∷ rest) all =
 
 -- The canonical text of a soup reads back.
 pub text_back : ReadsBack
-text_back s soup placed quads few_places few_faces =
+text_back s is =
+    let soup = is.soup in
     let lines = canonical_lines s in
     let each : (k : ℕ) → k < length lines → IsLine (get_or lines k []) =
-    each_both IsLine (map place_line s.pos) (map face_line s.faces) []
-    (each_map IsLine place_line s.pos [] [] (λ k l. place_line_is (get_or s.pos k []) (passes_at is_place s.pos k [] placed l)))
-    (each_map IsLine face_line s.faces [] [] (λ k l. face_line_is (length s.pos) (get_or s.faces k []) few_places (passes_at is_quad s.faces k [] quads l) (passes_at (are_below (length s.pos)) s.faces k [] soup.in_range l))) in
+    each_both IsLine (map position_line s.pos) (map face_line s.faces) []
+    (each_map IsLine position_line s.pos [] [] (λ k l. position_line_is (get_or s.pos k []) (passes_at is_position s.pos k [] is.positions l)))
+    (each_map IsLine face_line s.faces [] [] (λ k l. face_line_is (length s.pos) (get_or s.faces k []) is.few_vertices (passes_at is_quad s.faces k [] is.quads l) (passes_at (are_below (length s.pos)) s.faces k [] soup.in_range l))) in
     let cut : lines_of (canonical_text s) ≡ lines = ap lines_of (text_lines s) ∙ lines_split lines each in
-    let logical : logical_lines 1 lines ≡ plain_lines 1 (map place_line s.pos) ++ plain_lines (1 + length (map place_line s.pos)) (map face_line s.faces) =
-    logical_plain 1 lines each ∙ plain_append 1 (map place_line s.pos) (map face_line s.faces) in
-    let front : (readings [] (plain_lines 1 (map place_line s.pos)) ≡ map Place s.pos)
-    × (count_by is_vertex_line ([] ++ plain_lines 1 (map place_line s.pos)) ≡ count_by is_vertex_line [] + length s.pos)
-    × (count_by is_face_line ([] ++ plain_lines 1 (map place_line s.pos)) ≡ count_by is_face_line []) =
-    places_said [] 1 s.pos placed (omega arith) in
-    let behind : readings (plain_lines 1 (map place_line s.pos)) (plain_lines (1 + length (map place_line s.pos)) (map face_line s.faces)) ≡ faces_from (1 + length (map place_line s.pos)) s.faces =
-    faces_said (length s.pos) (plain_lines 1 (map place_line s.pos)) (1 + length (map place_line s.pos)) s.faces few_places (front.1 ∙ omega arith) quads soup.in_range (omega (arith, front.2)) in
-    let said : readings [] (logical_lines 1 lines) ≡ map Place s.pos ++ faces_from (1 + length (map place_line s.pos)) s.faces =
-    ap (readings []) logical ∙ readings_append [] (plain_lines 1 (map place_line s.pos)) (plain_lines (1 + length (map place_line s.pos)) (map face_line s.faces)) ∙ rw (front.0, behind) refl in
+    let logical : logical_lines 1 lines ≡ plain_lines 1 (map position_line s.pos) ++ plain_lines (1 + length (map position_line s.pos)) (map face_line s.faces) =
+    logical_plain 1 lines each ∙ plain_append 1 (map position_line s.pos) (map face_line s.faces) in
+    let front : (readings [] (plain_lines 1 (map position_line s.pos)) ≡ map Position s.pos)
+    × (count_by is_vertex_line ([] ++ plain_lines 1 (map position_line s.pos)) ≡ count_by is_vertex_line [] + length s.pos)
+    × (count_by is_face_line ([] ++ plain_lines 1 (map position_line s.pos)) ≡ count_by is_face_line []) =
+    positions_said [] 1 s.pos is.positions (omega arith) in
+    let behind : readings (plain_lines 1 (map position_line s.pos)) (plain_lines (1 + length (map position_line s.pos)) (map face_line s.faces)) ≡ faces_from (1 + length (map position_line s.pos)) s.faces =
+    faces_said (length s.pos) (plain_lines 1 (map position_line s.pos)) (1 + length (map position_line s.pos)) s.faces is.few_vertices (front.1 ∙ omega arith) is.quads soup.in_range (omega (arith, front.2)) in
+    let said : readings [] (logical_lines 1 lines) ≡ map Position s.pos ++ faces_from (1 + length (map position_line s.pos)) s.faces =
+    ap (readings []) logical ∙ readings_append [] (plain_lines 1 (map position_line s.pos)) (plain_lines (1 + length (map position_line s.pos)) (map face_line s.faces)) ∙ rw (front.0, behind) refl in
     let used : AllUsed (map (λ f. map (λ v. v + 1) f) s.faces) (length s.pos) = all_used_to s soup in
     let names : used_to (map (λ f. map (λ v. v + 1) f) s.faces) (length s.pos) ≡ numbers_to (length s.pos) = used.kept (length s.pos) (omega arith) in
-    ap (text_soup 1) cut ∙ ap soup_of said ∙ soup_said s.pos s.faces (1 + length (map place_line s.pos)) soup.in_range
+    ap (text_soup 1) cut ∙ ap soup_of said ∙ soup_said s.pos s.faces (1 + length (map position_line s.pos)) soup.in_range
     ∙ ap Ok (same_parts (face_set s.pos (map (λ f. map (λ v. v + 1) f) s.faces)) (record { pos = s.pos; faces = s.faces; names = numbers_to (length s.pos) })
-    (ap (map (place_of s.pos)) names ∙ places_back s.pos)
+    (ap (map (position_of s.pos)) names ∙ positions_back s.pos)
     (faces_back (map (λ f. map (λ v. v + 1) f) s.faces) (length s.pos) used s.faces soup.in_range)
     names)
   where

@@ -9,9 +9,10 @@ use Rattle.std.proofs.lemmas.Fmt.{decimal_nonempty, length-decimal-le}
 use Rattle.std.proofs.lemmas.List.{append_assoc, get_or_at, length-append, length-drop, length-take, take_all, take_at}
 use Rattle.std.proofs.lemmas.List.Folds.{list_all-append}
 use Rattle.def_text.specs.Canonical.{fraction_text, micro_text, minus_text, six_digits, without_zeros}
+use Rattle.qm_obj.proofs.Groups.{logical_step}
 use Rattle.def_text.specs.Logical.{Logical, continues, is_hash, logical_lines}
 use Rattle.def_text.specs.Words.{ends_word, in_front, is_blank, words}
-use Rattle.qm_io.specs.Lines.{line_of, lines_of, pieces, without_last}
+use Rattle.def_io.specs.Lines.{line_of, lines_of, pieces, without_last}
 use Rattle.qm_obj.proofs.ListLemmas.{passes_at}
 use Rattle.qm_dec.proofs.Texts.{decimal_digits}
 
@@ -213,4 +214,4 @@ logical_plain number (l ∷ ls) each =
     let first : IsLine l = each 0 (omega arith) in
     let stays : continues l ≡ false = no_continuation l first.tame in
     let again : logical_lines (number + 1) ls ≡ plain_lines (number + 1) ls = logical_plain (number + 1) ls (λ k m. each (suc k) (omega arith)) in
-    rw stays (rw (no_comment l first.tame, again) refl)
+    logical_step number l ls ∙ rw stays (rw (no_comment l first.tame, again) refl)

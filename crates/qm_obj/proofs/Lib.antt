@@ -1,4 +1,5 @@
 mod CornerLemmas
+pub mod Groups
 mod JoinLemmas
 mod LawSoup
 mod LawText

@@ -6,20 +6,20 @@ use Rattle.std.proofs.lemmas.Bool.Decides.{nat_tests}
 use Rattle.def_text.specs.Corner.{is_corner, is_out, resolved, used_index}
 use Rattle.def_text.specs.Decimal.{is_decimal, is_far, rounded}
 use Rattle.def_text.specs.Digits.{is_negative, number, unsigned}
-use Rattle.def_text.specs.Reading.{face_reading, is_place_count, vertex_reading}
-use Rattle.def_text.specs.declared.reading.Reading.TheVariants.{Place, Face, Refused}
+use Rattle.def_text.specs.Reading.{face_reading, is_position_count, vertex_reading}
+use Rattle.def_text.specs.declared.reading.Reading.TheVariants.{Position, Face, Refused}
 use Rattle.def_text.specs.declared.refusal.ObjFail.TheVariants.{Syntax, NotQuad, Range}
 use Rattle.qm_obj.specs.Indices.{capped, corner_of, with_capped}
-use Rattle.qm_obj.specs.Places.{all_some, coordinate, in_front}
+use Rattle.qm_obj.specs.Positions.{all_some, coordinate, in_front}
 
 -- A `v` line with another number of words, or a word that is no decimal.
-pub vertex_syntax : (line vertices : ℕ) (ws : List (List ℕ)) → leb (2 ^ 21) vertices ≡ false → (is_place_count (length ws) && list_all is_decimal ws) ≡ false
+pub vertex_syntax : (line vertices : ℕ) (ws : List (List ℕ)) → leb (2 ^ 21) vertices ≡ false → (is_position_count (length ws) && list_all is_decimal ws) ≡ false
     → Refused (Syntax line) ≡ vertex_reading line vertices ws
 vertex_syntax line vertices ws few bad = rw (few, bad) refl
 
 -- A `v` line of the right form.
-pub vertex_rest : (line vertices : ℕ) (ws : List (List ℕ)) → leb (2 ^ 21) vertices ≡ false → (is_place_count (length ws) && list_all is_decimal ws) ≡ true
-    → vertex_reading line vertices ws ≡ cond (list_any (λ w. is_far (rounded w)) (take 3 ws)) (Refused (Range line)) (Place (map rounded (take 3 ws)))
+pub vertex_rest : (line vertices : ℕ) (ws : List (List ℕ)) → leb (2 ^ 21) vertices ≡ false → (is_position_count (length ws) && list_all is_decimal ws) ≡ true
+    → vertex_reading line vertices ws ≡ cond (list_any (λ w. is_far (rounded w)) (take 3 ws)) (Refused (Range line)) (Position (map rounded (take 3 ws)))
 vertex_rest line vertices ws few right = rw (few, right) refl
 
 all_coordinates : (ws : List (List ℕ)) → all_some (map coordinate ws) ≡ cond (list_any (λ w. is_far (rounded w)) ws) None (Some (map rounded ws))
@@ -35,21 +35,21 @@ all_coordinates (w ∷ ws) = by_far (is_far (rounded w)) (all_coordinates ws)
     by_far true again = refl
     by_far false again = by_rest (list_any (λ w. is_far (rounded w)) ws) again
 
-pub vertex_place : (line vertices : ℕ) (ws : List (List ℕ)) (place : List ℤ) → leb (2 ^ 21) vertices ≡ false → (is_place_count (length ws) && list_all is_decimal ws) ≡ true
-    → all_some (map coordinate (take 3 ws)) ≡ Some place → Place place ≡ vertex_reading line vertices ws
-vertex_place line vertices ws place few right is =
+pub vertex_position : (line vertices : ℕ) (ws : List (List ℕ)) (position : List ℤ) → leb (2 ^ 21) vertices ≡ false → (is_position_count (length ws) && list_all is_decimal ws) ≡ true
+    → all_some (map coordinate (take 3 ws)) ≡ Some position → Position position ≡ vertex_reading line vertices ws
+vertex_position line vertices ws position few right is =
     by_far (list_any (λ w. is_far (rounded w)) (take 3 ws)) (sym (all_coordinates (take 3 ws)) ∙ is) ∙ sym (vertex_rest line vertices ws few right)
   where
-    by_far : (t : Bool) → cond t None (Some (map rounded (take 3 ws))) ≡ Some place → Place place ≡ cond t (Refused (Range line)) (Place (map rounded (take 3 ws)))
+    by_far : (t : Bool) → cond t None (Some (map rounded (take 3 ws))) ≡ Some position → Position position ≡ cond t (Refused (Range line)) (Position (map rounded (take 3 ws)))
     by_far true is = cc is
-    by_far false is = let e : map rounded (take 3 ws) ≡ place = cc is in ap Place (sym e)
+    by_far false is = let e : map rounded (take 3 ws) ≡ position = cc is in ap Position (sym e)
 
-pub vertex_far : (line vertices : ℕ) (ws : List (List ℕ)) → leb (2 ^ 21) vertices ≡ false → (is_place_count (length ws) && list_all is_decimal ws) ≡ true
+pub vertex_far : (line vertices : ℕ) (ws : List (List ℕ)) → leb (2 ^ 21) vertices ≡ false → (is_position_count (length ws) && list_all is_decimal ws) ≡ true
     → all_some (map coordinate (take 3 ws)) ≡ None → Refused (Range line) ≡ vertex_reading line vertices ws
 vertex_far line vertices ws few right is =
     by_far (list_any (λ w. is_far (rounded w)) (take 3 ws)) (sym (all_coordinates (take 3 ws)) ∙ is) ∙ sym (vertex_rest line vertices ws few right)
   where
-    by_far : (t : Bool) → cond t None (Some (map rounded (take 3 ws))) ≡ None → Refused (Range line) ≡ cond t (Refused (Range line)) (Place (map rounded (take 3 ws)))
+    by_far : (t : Bool) → cond t None (Some (map rounded (take 3 ws))) ≡ None → Refused (Range line) ≡ cond t (Refused (Range line)) (Position (map rounded (take 3 ws)))
     by_far true is = refl
     by_far false is = cc is
 
@@ -102,6 +102,6 @@ face_in line vertices faces ws few corners four inside =
     ∙ sym (ap with_capped (face_rest line vertices faces ws few corners four)
     ∙ ap (λ t. with_capped (cond t (Refused (Range line)) (Face line (map (λ w. resolved vertices (used_index w)) ws)))) none)
 
--- A place has at least three numbers.
-pub place_words : (n : ℕ) → is_place_count n ≡ true → 3 ≤ n
-place_words n right = grind (arith, nat_tests)
+-- A position has at least three numbers.
+pub position_words : (n : ℕ) → is_position_count n ≡ true → 3 ≤ n
+position_words n right = grind (arith, nat_tests)

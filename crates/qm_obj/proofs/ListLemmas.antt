@@ -1,4 +1,4 @@
--- Lists that a loop changes place by place.
+-- Lists that a loop changes position by position.
 use Rattle.std.proofs.Common.{◌≡◌, ℕ, ◌+◌, ◌-◌, ◌<◌, ◌≤◌, Bool, true, List, length, take, drop, set, map, get_or, sym, ap, ◌∙◌, arith}
 use Rattle.std.specs.Prelude.{slice_range}
 use Rattle.std.specs.List.{list_all}
@@ -17,13 +17,13 @@ at_back xs ys k d same =
 pub back_more : {X : Type 0} (xs ys : List X) (k i : ℕ) (x : X) → i ≤ k → drop k xs ≡ drop k ys → drop (k + 1) (set xs i x) ≡ drop (k + 1) ys
 back_more xs ys k i x le same = drop-set-lt (k + 1) xs i x (omega arith) ∙ sym (drop-drop 1 k xs) ∙ ap (drop 1) same ∙ drop-drop 1 k ys
 
--- A map in place, one element further.
+-- A map in position, one element further.
 pub mapped_more : {X : Type 0} (f : X → X) (old new : List X) (i : ℕ) (d x : X) → i < length old → length new ≡ length old → x ≡ f (get_or old i d)
     → take i new ≡ map f (take i old) → take (i + 1) (set new i x) ≡ map f (take (i + 1) old)
 mapped_more f old new i d x there size is front =
     take_more_set new i x (omega arith) ∙ rw (front, is) (sym (map_more f old i d there))
 
--- What each element of a list passes, the one at a place passes.
+-- What each element of a list passes, the one at a position passes.
 pub passes_at : {X : Type 0} (p : X → Bool) (xs : List X) (i : ℕ) (d : X) → list_all p xs ≡ true → i < length xs → p (get_or xs i d) ≡ true
 passes_at p xs i d all there = AllPass-from_list_all p xs all i d there
 

@@ -10,17 +10,19 @@ use Rattle.std.proofs.lemmas.List.Folds.{list_all-append}
 use Rattle.std.proofs.lemmas.List.Sums.{sum_by_push}
 use Rattle.std.proofs.lemmas.Result.{IfErr-weaker, IfOk-weaker}
 use Rattle.def_text.specs.FaceSet.{FaceSet}
-use Rattle.def_text.specs.Logical.{Logical, logical_lines, span}
+use Rattle.def_text.specs.Logical.{Logical, logical_lines}
+use Rattle.qm_obj.specs.Ahead.{span}
 use Rattle.def_text.specs.Reading.{is_face_line, is_vertex_line, reading}
-use Rattle.def_text.specs.Text.{face_in, face_set, faces, first_refusal, late_in, place_in, places, readings, refusal_in, soup_of, text_soup}
+use Rattle.def_text.specs.Text.{face_in, face_set, faces, first_refusal, late_in, position_in, positions, readings, refusal_in, soup_of, text_soup}
 use Rattle.def_text.specs.declared.refusal.ObjFail.{ObjFail}
 use Rattle.def_text.specs.declared.refusal.ObjFail.TheVariants.{Memory, Range}
 use Rattle.def_text.specs.declared.reading.Reading.{Reading}
-use Rattle.def_text.specs.declared.reading.Reading.TheVariants.{Passed, Place, Face, Refused}
+use Rattle.def_text.specs.declared.reading.Reading.TheVariants.{Passed, Position, Face, Refused}
 use Rattle.qm_obj.specs.Indices.{capped, with_capped}
 use Rattle.qm_obj.specs.Kept.{first_late, IsLate}
 use Rattle.qm_obj.specs.Lines.{HasRead, HasReadTo, Took, first_logical, line_in, next_said}
-use Rattle.qm_obj.proofs.JoinLemmas.{logical_step, range_cons, range_none, span_few, span_some}
+use Rattle.qm_obj.proofs.Groups.{logical_step}
+use Rattle.qm_obj.proofs.JoinLemmas.{range_cons, range_none, span_few, span_some}
 use Rattle.qm_obj.proofs.ListLemmas.{length-range, range_drop}
 use Rattle.qm_obj.proofs.SoupLemmas.{few_pos, same_faces}
 use Rattle.qm_obj.proofs.SuitLemmas.{Suits, reading_suits}
@@ -32,9 +34,9 @@ readings_append before (x ∷ xs) ys =
     ap (λ said. reading (count_by is_vertex_line before) (count_by is_face_line before) x ∷ said)
     (readings_append (before ++ x ∷ []) xs ys ∙ rw (append_assoc before (x ∷ []) xs) refl)
 
--- Where nothing is refused, there are as many places as `v` lines and as many faces as `f` lines, and no more than the limits.
+-- Where nothing is refused, there are as many positions as `v` lines and as many faces as `f` lines, and no more than the limits.
 record IsCountedIn (before lines : List Logical) (said : List Reading) : Type 0 where
-  vertices : count_by is_vertex_line before + length (places said) ≡ count_by is_vertex_line (before ++ lines)
+  vertices : count_by is_vertex_line before + length (positions said) ≡ count_by is_vertex_line (before ++ lines)
   faces_are : count_by is_face_line before + length (faces said) ≡ count_by is_face_line (before ++ lines)
   few_vertices : count_by is_vertex_line before ≤ 2 ^ 21 → count_by is_vertex_line (before ++ lines) ≤ 2 ^ 21
   few_faces : count_by is_face_line before ≤ 2 ^ 20 → count_by is_face_line (before ++ lines) ≤ 2 ^ 20
@@ -58,7 +60,7 @@ counted_in before (line ∷ lines) none =
     let f : count_by is_face_line (before ++ line ∷ []) ≡ count_by is_face_line before + cond (is_face_line line) 1 0 = sum_by_push (λ l. cond (is_face_line l) 1 0) before line in
     let av : count_by is_vertex_line ((before ++ line ∷ []) ++ lines) ≡ count_by is_vertex_line (before ++ line ∷ lines) = ap (count_by is_vertex_line) all in
     let af : count_by is_face_line ((before ++ line ∷ []) ++ lines) ≡ count_by is_face_line (before ++ line ∷ lines) = ap (count_by is_face_line) all in
-    let pv : length (place_in said ++ places (readings (before ++ line ∷ []) lines)) ≡ length (place_in said) + length (places (readings (before ++ line ∷ []) lines)) = length-append (place_in said) _ in
+    let pv : length (position_in said ++ positions (readings (before ++ line ∷ []) lines)) ≡ length (position_in said) + length (positions (readings (before ++ line ∷ []) lines)) = length-append (position_in said) _ in
     let pf : length (face_in said ++ faces (readings (before ++ line ∷ []) lines)) ≡ length (face_in said) + length (faces (readings (before ++ line ∷ []) lines)) = length-append (face_in said) _ in
     record {
       vertices = omega (arith, again.vertices, fits.vertex nones.0);
@@ -79,7 +81,7 @@ all_positive before (line ∷ lines) =
 lines_of_faces : (said : List Reading) → length (flat_map line_in said) ≡ length (faces said)
 lines_of_faces [] = refl
 lines_of_faces (Passed ∷ said) = lines_of_faces said
-lines_of_faces (Place p ∷ said) = lines_of_faces said
+lines_of_faces (Position p ∷ said) = lines_of_faces said
 lines_of_faces (Refused e ∷ said) = lines_of_faces said
 lines_of_faces (Face n corners ∷ said) = ap suc (lines_of_faces said)
 
@@ -87,7 +89,7 @@ lines_of_faces (Face n corners ∷ said) = ap suc (lines_of_faces said)
 late_none : (n : ℕ) (said : List Reading) → first_late n (faces said) (flat_map line_in said) ≡ None → flat_map (late_in n) said ≡ []
 late_none n [] none = refl
 late_none n (Passed ∷ said) none = late_none n said none
-late_none n (Place p ∷ said) none = late_none n said none
+late_none n (Position p ∷ said) none = late_none n said none
 late_none n (Refused e ∷ said) none = late_none n said none
 late_none n (Face line corners ∷ said) none = by_late (list_any (λ corner. ltb n corner) corners) none (late_none n said)
   where
@@ -99,7 +101,7 @@ late_none n (Face line corners ∷ said) none = by_late (list_any (λ corner. lt
 late_some : {X : Type 0} (n : ℕ) (said : List Reading) (line : ℕ) (x : X) → first_late n (faces said) (flat_map line_in said) ≡ Some line → first_refusal (flat_map (late_in n) said) x ≡ Err (Range line)
 late_some n [] line x found = cc found
 late_some n (Passed ∷ said) line x found = late_some n said line x found
-late_some n (Place p ∷ said) line x found = late_some n said line x found
+late_some n (Position p ∷ said) line x found = late_some n said line x found
 late_some n (Refused e ∷ said) line x found = late_some n said line x found
 late_some {X} n (Face at corners ∷ said) line x found = by_late (list_any (λ corner. ltb n corner) corners) found (late_some n said line x)
   where
@@ -112,31 +114,31 @@ late_some {X} n (Face at corners ∷ said) line x found = by_late (list_any (λ 
 -- Capping changes corners alone.
 refusal_capped : (said : Reading) → refusal_in (with_capped said) ≡ refusal_in said
 refusal_capped Passed = refl
-refusal_capped (Place p) = refl
+refusal_capped (Position p) = refl
 refusal_capped (Face n cs) = refl
 refusal_capped (Refused e) = refl
 
-place_capped : (said : Reading) → place_in (with_capped said) ≡ place_in said
-place_capped Passed = refl
-place_capped (Place p) = refl
-place_capped (Face n cs) = refl
-place_capped (Refused e) = refl
+position_capped : (said : Reading) → position_in (with_capped said) ≡ position_in said
+position_capped Passed = refl
+position_capped (Position p) = refl
+position_capped (Face n cs) = refl
+position_capped (Refused e) = refl
 
 face_capped : (said : Reading) → face_in (with_capped said) ≡ map (λ face. map capped face) (face_in said)
 face_capped Passed = refl
-face_capped (Place p) = refl
+face_capped (Position p) = refl
 face_capped (Face n cs) = refl
 face_capped (Refused e) = refl
 
 line_capped : (said : Reading) → line_in (with_capped said) ≡ line_in said
 line_capped Passed = refl
-line_capped (Place p) = refl
+line_capped (Position p) = refl
 line_capped (Face n cs) = refl
 line_capped (Refused e) = refl
 
 refused_capped : (said : Reading) (fail : ObjFail) → with_capped said ≡ Refused fail → said ≡ Refused fail
 refused_capped Passed fail is = cc is
-refused_capped (Place p) fail is = cc is
+refused_capped (Position p) fail is = cc is
 refused_capped (Face n cs) fail is = cc is
 refused_capped (Refused e) fail is = is
 
@@ -198,7 +200,7 @@ read_within : (lines : List Logical) (kept : List (List ℤ)) (corners : List (L
 read_within lines kept corners numbers has =
     let said = readings [] lines in
     let counted : IsCountedIn [] lines said = counted_in [] lines has.accepted in
-    let v : length kept ≡ length (places said) = ap length has.places_are in
+    let v : length kept ≡ length (positions said) = ap length has.positions_are in
     let f : length corners ≡ length (faces said) = ap length has.faces_are ∙ length-map (faces said) (λ face. map capped face) in
     record {
       vertices = omega (arith, counted.vertices);
@@ -230,7 +232,7 @@ read_more lines line kept kept' corners corners' numbers numbers' has took =
     let calm : refusal_in said ≡ [] = sym (refusal_capped said) ∙ took.accepted in
     record {
       accepted = ap (flat_map refusal_in) all ∙ flat_map-append refusal_in old (said ∷ []) ∙ rw (has.accepted, calm) refl;
-      places_are = took.place ∙ ap (λ p. kept ++ p) (place_capped said) ∙ pushed place_in kept old (readings [] (lines ++ line ∷ [])) said has.places_are all;
+      positions_are = took.position ∙ ap (λ p. kept ++ p) (position_capped said) ∙ pushed position_in kept old (readings [] (lines ++ line ∷ [])) said has.positions_are all;
       faces_are = took.face ∙ ap (λ f. corners ++ f) (face_capped said) ∙ ap (λ f. f ++ map (λ face. map capped face) (face_in said)) has.faces_are
           ∙ sym (map-append (λ face. map capped face) (faces old) (face_in said))
           ∙ ap (map (λ face. map capped face)) (pushed face_in (faces old) old (readings [] (lines ++ line ∷ [])) said refl all);
@@ -246,9 +248,9 @@ read_ok lines kept corners numbers has calm =
     let late : first_late (length kept) (faces said) numbers ≡ None = sym (late_capped (length kept) within.few_vertices (faces said) numbers) ∙ ap (λ cs. first_late (length kept) cs numbers) (sym has.faces_are) ∙ calm in
     let many : length numbers ≡ length (faces said) = ap length has.lines_are ∙ lines_of_faces said in
     let same : corners ≡ faces said = has.faces_are ∙ uncapped (length kept) within.few_vertices (faces said) numbers many late in
-    let none : flat_map (late_in (length (places said))) said ≡ [] = late_none (length (places said)) said (rw (← has.places_are, ← has.lines_are) late) in
-    rw (has.places_are, same) (ap (λ fails. first_refusal (fails ++ flat_map (late_in (length (places said))) said) (face_set (places said) (faces said))) has.accepted
-    ∙ ap (λ fails. first_refusal fails (face_set (places said) (faces said))) none)
+    let none : flat_map (late_in (length (positions said))) said ≡ [] = late_none (length (positions said)) said (rw (← has.positions_are, ← has.lines_are) late) in
+    rw (has.positions_are, same) (ap (λ fails. first_refusal (fails ++ flat_map (late_in (length (positions said))) said) (face_set (positions said) (faces said))) has.accepted
+    ∙ ap (λ fails. first_refusal fails (face_set (positions said) (faces said))) none)
 
 -- The late refusal of lines that are read.
 read_late : (lines : List Logical) (kept : List (List ℤ)) (corners : List (List ℕ)) (numbers : List ℕ) (line : ℕ) → HasRead lines kept corners numbers
@@ -257,8 +259,8 @@ read_late lines kept corners numbers line has found =
     let said = readings [] lines in
     let within : IsWithin lines kept corners numbers = read_within lines kept corners numbers has in
     let late : first_late (length kept) (faces said) numbers ≡ Some line = sym (late_capped (length kept) within.few_vertices (faces said) numbers) ∙ ap (λ cs. first_late (length kept) cs numbers) (sym has.faces_are) ∙ found in
-    ap (λ fails. first_refusal (fails ++ flat_map (late_in (length (places said))) said) (face_set (places said) (faces said))) has.accepted
-    ∙ late_some (length (places said)) said line (face_set (places said) (faces said)) (rw (← has.places_are, ← has.lines_are) late)
+    ap (λ fails. first_refusal (fails ++ flat_map (late_in (length (positions said))) said) (face_set (positions said) (faces said))) has.accepted
+    ∙ late_some (length (positions said)) said line (face_set (positions said) (faces said)) (rw (← has.positions_are, ← has.lines_are) late)
 
 -- The refusal of a line behind lines that are read is the first one.
 read_refused : (lines rest : List Logical) (line : Logical) (kept : List (List ℤ)) (corners : List (List ℕ)) (numbers : List ℕ) (fail : ObjFail) → HasRead lines kept corners numbers
@@ -271,7 +273,7 @@ read_refused lines rest line kept corners numbers fail has is =
     by_said all said behind are stops =
         let some : flat_map refusal_in all ≡ fail ∷ flat_map refusal_in behind =
         ap (flat_map refusal_in) are ∙ flat_map-append refusal_in (readings [] lines) (said ∷ behind) ∙ rw (has.accepted, stops) refl in
-        ap (λ fails. first_refusal (fails ++ flat_map (late_in (length (places all))) all) (face_set (places all) (faces all))) some
+        ap (λ fails. first_refusal (fails ++ flat_map (late_in (length (positions all))) all) (face_set (positions all) (faces all))) some
 
 -- The first physical lines, up to line i, are read; those from i up to `after` are left.
 pub record IsAt (all : List (List ℕ)) (first i after : ℕ) (kept : List (List ℤ)) (corners : List (List ℕ)) (numbers : List ℕ) : Type 0 where

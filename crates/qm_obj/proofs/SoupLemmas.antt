@@ -1,4 +1,4 @@
--- The used places and the faces over them are a soup.
+-- The used positions and the faces over them are a soup.
 use Rattle.std.proofs.Common.{◌≡◌, ℕ, ℤ, zero, suc, ◌+◌, ◌-◌, ◌<◌, ◌≤◌, Bool, true, false, cond, ◌&&◌, nat_lt, List, [], ◌∷◌, ◌++◌, length, map, get_or, refl, sym, ap, ◌∙◌, arith, subst, eqb, ltb, leb, Some, None, inl, inr, ◌⊎◌}
 use Rattle.std.specs.Prelude.{IsTrue}
 use Rattle.std.specs.List.{list_all, list_any}
@@ -11,7 +11,7 @@ use Rattle.std.proofs.lemmas.List.Kept.{IsStrictlyIncreasing-filter}
 use Rattle.std.proofs.lemmas.List.Sums.{count_by-le-length, length-filter}
 use Rattle.def_mesh.specs.Vertices.{is_used}
 use Rattle.def_text.specs.FaceSet.{IsSoup}
-use Rattle.def_text.specs.Text.{face_set, numbers_to, place_of, used_to, vertex_of}
+use Rattle.def_text.specs.Text.{face_set, numbers_to, position_of, used_to, vertex_of}
 use Rattle.qm_obj.specs.Kept.{are_numbers, first_late}
 
 -- Each of these numbers is below n.
@@ -24,11 +24,11 @@ length-numbers_to (suc n) = omega (arith, length_push (numbers_to n) (suc n), le
 
 pub numbers_at : (n k : ℕ) → k < n → get_or (numbers_to n) k 0 ≡ k + 1
 numbers_at zero k lt = absurd (omega arith)
-numbers_at (suc n) k lt = by_place (cases_lt k n) (λ below. numbers_at n k below)
+numbers_at (suc n) k lt = by_position (cases_lt k n) (λ below. numbers_at n k below)
   where
-    by_place : (k < n) ⊎ (n ≤ k) → (k < n → get_or (numbers_to n) k 0 ≡ k + 1) → get_or (numbers_to n ++ suc n ∷ []) k 0 ≡ k + 1
-    by_place (inl below) again = get_or_append_left (numbers_to n) (suc n ∷ []) 0 k (omega (arith, length-numbers_to n)) ∙ again below
-    by_place (inr at) again = get_or_push (numbers_to n) (suc n) 0 k (omega (arith, length-numbers_to n)) ∙ omega arith
+    by_position : (k < n) ⊎ (n ≤ k) → (k < n → get_or (numbers_to n) k 0 ≡ k + 1) → get_or (numbers_to n ++ suc n ∷ []) k 0 ≡ k + 1
+    by_position (inl below) again = get_or_append_left (numbers_to n) (suc n ∷ []) 0 k (omega (arith, length-numbers_to n)) ∙ again below
+    by_position (inr at) again = get_or_push (numbers_to n) (suc n) 0 k (omega (arith, length-numbers_to n)) ∙ omega arith
 
 numbers_rise : (n : ℕ) → IsStrictlyIncreasing (numbers_to n)
 numbers_rise n k l = let m : length (numbers_to n) ≡ n = length-numbers_to n in omega (arith, numbers_at n k (omega arith), numbers_at n (k + 1) (omega arith))
@@ -55,21 +55,21 @@ rank_below faces n (suc k) some le is =
     rw e (omega arith)
 rank_below faces n zero some le is = absurd (omega arith)
 
--- The number at a place has as many used ones before it.
+-- The number at a position has as many used ones before it.
 rank_at : (faces : List (List ℕ)) (n v : ℕ) → v < length (used_to faces n) → vertex_of faces (get_or (used_to faces n) v 0) ≡ v
 rank_at faces zero v lt = absurd (omega arith)
-rank_at faces (suc n) v lt = rw (used_more faces n) (by_place (cases_lt v (length (used_to faces n))) (is_used faces (suc n)) refl (λ below. rank_at faces n v below))
+rank_at faces (suc n) v lt = rw (used_more faces n) (by_position (cases_lt v (length (used_to faces n))) (is_used faces (suc n)) refl (λ below. rank_at faces n v below))
   where
-    by_place : (v < length (used_to faces n)) ⊎ (length (used_to faces n) ≤ v) → (t : Bool) → is_used faces (suc n) ≡ t
+    by_position : (v < length (used_to faces n)) ⊎ (length (used_to faces n) ≤ v) → (t : Bool) → is_used faces (suc n) ≡ t
         → (v < length (used_to faces n) → vertex_of faces (get_or (used_to faces n) v 0) ≡ v)
         → vertex_of faces (get_or (used_to faces n ++ cond t (suc n ∷ []) []) v 0) ≡ v
-    by_place (inl below) t is again = rw (get_or_append_left (used_to faces n) (cond t (suc n ∷ []) []) 0 v below) (again below)
-    by_place (inr at) true is again =
+    by_position (inl below) t is again = rw (get_or_append_left (used_to faces n) (cond t (suc n ∷ []) []) 0 v below) (again below)
+    by_position (inr at) true is again =
         let long : length (used_to faces (suc n)) ≡ length (used_to faces n) + 1 = ap length (used_more faces n) ∙ rw is (length_push (used_to faces n) (suc n)) in
         let here : length (used_to faces n) ≡ v = omega arith in
         let e : suc n - 1 ≡ n = omega arith in
         rw (get_or_push (used_to faces n) (suc n) 0 v here, e) here
-    by_place (inr at) false is again =
+    by_position (inr at) false is again =
         let long : length (used_to faces (suc n)) ≡ length (used_to faces n) = ap length (used_more faces n) ∙ rw is (ap length (append-nil (used_to faces n))) in
         absurd (omega arith)
 
@@ -122,20 +122,20 @@ used_renumbered f m (x ∷ xs) is = by_first (or_cases _ _ is) (used_renumbered 
     by_first (inl here) again = or_left _ _ (along x here)
     by_first (inr there) again = or_right _ _ (again there)
 
--- The used places and the faces over them are a soup.
-pub face_set_is_soup : (places : List (List ℤ)) (faces : List (List ℕ)) → IsTrue (list_all (are_numbers (length places)) faces) → IsSoup (face_set places faces)
-face_set_is_soup places faces known = record {
-  in_range = rw (length-map (used_to faces (length places)) (place_of places)) (below_all faces (length places) faces known (all_used faces));
+-- The used positions and the faces over them are a soup.
+pub face_set_is_soup : (positions : List (List ℤ)) (faces : List (List ℕ)) → IsTrue (list_all (are_numbers (length positions)) faces) → IsSoup (face_set positions faces)
+face_set_is_soup positions faces known = record {
+  in_range = rw (length-map (used_to faces (length positions)) (position_of positions)) (below_all faces (length positions) faces known (all_used faces));
   used = λ v l.
-      let lt : v < length (used_to faces (length places)) = subst (λ (m : ℕ). v < m) (length-map (used_to faces (length places)) (place_of places)) l in
-      let is : is_used faces (get_or (used_to faces (length places)) v 0) ≡ true = filter_passes (is_used faces) (numbers_to (length places)) v 0 lt in
-      subst (λ (w : ℕ). is_used (map (λ corners. map (vertex_of faces) corners) faces) w ≡ true) (rank_at faces (length places) v lt)
-      (used_renumbered (vertex_of faces) (get_or (used_to faces (length places)) v 0) faces is);
-  named = sym (length-map (used_to faces (length places)) (place_of places));
-  rising = IsStrictlyIncreasing-filter (is_used faces) (numbers_to (length places)) (numbers_rise (length places));
+      let lt : v < length (used_to faces (length positions)) = subst (λ (m : ℕ). v < m) (length-map (used_to faces (length positions)) (position_of positions)) l in
+      let is : is_used faces (get_or (used_to faces (length positions)) v 0) ≡ true = filter_passes (is_used faces) (numbers_to (length positions)) v 0 lt in
+      subst (λ (w : ℕ). is_used (map (λ corners. map (vertex_of faces) corners) faces) w ≡ true) (rank_at faces (length positions) v lt)
+      (used_renumbered (vertex_of faces) (get_or (used_to faces (length positions)) v 0) faces is);
+  named = sym (length-map (used_to faces (length positions)) (position_of positions));
+  rising = IsStrictlyIncreasing-filter (is_used faces) (numbers_to (length positions)) (numbers_rise (length positions));
 }
 
--- Positive corners, none of which is late, are numbers of places.
+-- Positive corners, none of which is late, are numbers of positions.
 pub none_late : (n : ℕ) (faces : List (List ℕ)) (lines : List ℕ) → length lines ≡ length faces → IsTrue (list_all (list_all (λ corner. ltb 0 corner)) faces) → first_late n faces lines ≡ None → IsTrue (list_all (are_numbers n) faces)
 none_late n [] lines size positive none = refl
 none_late n (x ∷ xs) [] size positive none = absurd (omega arith)
@@ -155,16 +155,16 @@ none_late n (x ∷ xs) (line ∷ lines) size positive none =
     by_late true is found positive again = cc
     by_late false is found positive again = and_from _ _ (along x positive is) (again found)
 
--- A soup has at most as many places as there are, and as many faces.
-pub few_pos : (places : List (List ℤ)) (faces : List (List ℕ)) → length (face_set places faces).pos ≤ length places
-few_pos places faces =
+-- A soup has at most as many positions as there are, and as many faces.
+pub few_pos : (positions : List (List ℤ)) (faces : List (List ℕ)) → length (face_set positions faces).pos ≤ length positions
+few_pos positions faces =
     omega (
       arith,
-      length-map (used_to faces (length places)) (place_of places),
-      length-filter (is_used faces) (numbers_to (length places)),
-      count_by-le-length (is_used faces) (numbers_to (length places)),
-      length-numbers_to (length places),
+      length-map (used_to faces (length positions)) (position_of positions),
+      length-filter (is_used faces) (numbers_to (length positions)),
+      count_by-le-length (is_used faces) (numbers_to (length positions)),
+      length-numbers_to (length positions),
     )
 
-pub same_faces : (places : List (List ℤ)) (faces : List (List ℕ)) → length (face_set places faces).faces ≡ length faces
-same_faces places faces = length-map faces (λ corners. map (vertex_of faces) corners)
+pub same_faces : (positions : List (List ℤ)) (faces : List (List ℕ)) → length (face_set positions faces).faces ≡ length faces
+same_faces positions faces = length-map faces (λ corners. map (vertex_of faces) corners)

@@ -8,19 +8,19 @@ use Rattle.def_text.specs.Decimal.{rounded}
 use Rattle.def_text.specs.Digits.{is_negative, number, unsigned}
 use Rattle.def_text.specs.Logical.{Logical}
 use Rattle.def_text.specs.Reading.{begins_with, face_reading, is_face_line, is_letter, is_vertex_line, reading, vertex_reading, words_reading}
-use Rattle.def_text.specs.Text.{face_in, faces, place_in, refusal_in}
+use Rattle.def_text.specs.Text.{face_in, faces, position_in, refusal_in}
 use Rattle.def_text.specs.Words.{words}
 use Rattle.def_text.specs.declared.refusal.ObjFail.{ObjFail}
 use Rattle.def_text.specs.declared.refusal.ObjFail.TheVariants.{Limit, NotQuad, Range, Syntax}
 use Rattle.def_text.specs.declared.refusal.Which.TheVariants.{Faces, Line, Vertices}
 use Rattle.def_text.specs.declared.reading.Reading.{Reading}
-use Rattle.def_text.specs.declared.reading.Reading.TheVariants.{Passed, Place, Face, Refused}
+use Rattle.def_text.specs.declared.reading.Reading.TheVariants.{Passed, Position, Face, Refused}
 
 -- What a line says fits its kind and the limits.
 pub record Suits (vertices faces : ℕ) (line : Logical) (said : Reading) : Type 0 where
-  pub vertex : refusal_in said ≡ [] → length (place_in said) ≡ cond (is_vertex_line line) 1 0
+  pub vertex : refusal_in said ≡ [] → length (position_in said) ≡ cond (is_vertex_line line) 1 0
   pub face : refusal_in said ≡ [] → length (face_in said) ≡ cond (is_face_line line) 1 0
-  pub few_vertices : vertices ≤ 2 ^ 21 → vertices + length (place_in said) ≤ 2 ^ 21
+  pub few_vertices : vertices ≤ 2 ^ 21 → vertices + length (position_in said) ≤ 2 ^ 21
   pub few_faces : faces ≤ 2 ^ 20 → faces + length (face_in said) ≤ 2 ^ 20
   pub positive : list_all (list_all (λ corner. ltb 0 corner)) (face_in said) ≡ true
 
@@ -42,8 +42,8 @@ suits_passed vertices faces line no_vertex no_face = record {
   positive = refl;
 }
 
-suits_place : (vertices faces : ℕ) (line : Logical) (place : List ℤ) → is_vertex_line line ≡ true → is_face_line line ≡ false → vertices < 2 ^ 21 → Suits vertices faces line (Place place)
-suits_place vertices faces line place vertex no_face few = record {
+suits_position : (vertices faces : ℕ) (line : Logical) (position : List ℤ) → is_vertex_line line ≡ true → is_face_line line ≡ false → vertices < 2 ^ 21 → Suits vertices faces line (Position position)
+suits_position vertices faces line position vertex no_face few = record {
   vertex = λ _. rw vertex refl;
   face = λ _. rw no_face refl;
   few_vertices = λ _. omega arith;
@@ -86,11 +86,11 @@ pub reading_suits : (vertices faces : ℕ) (line : Logical) → Suits vertices f
 reading_suits vertices faces line = by_size (ltb 65536 line.size)
   where
     by_vertex : (ws : List (List ℕ)) (many bad far : Bool) → leb (2 ^ 21) vertices ≡ many → is_vertex_line line ≡ true → is_face_line line ≡ false
-        → Suits vertices faces line (cond many (Refused (Limit Vertices line.number)) (cond bad (Refused (Syntax line.number)) (cond far (Refused (Range line.number)) (Place (map rounded (take 3 ws))))))
+        → Suits vertices faces line (cond many (Refused (Limit Vertices line.number)) (cond bad (Refused (Syntax line.number)) (cond far (Refused (Range line.number)) (Position (map rounded (take 3 ws))))))
     by_vertex ws true bad far many vertex no_face = suits_refused vertices faces line _
     by_vertex ws false true far many vertex no_face = suits_refused vertices faces line _
     by_vertex ws false false true many vertex no_face = suits_refused vertices faces line _
-    by_vertex ws false false false many vertex no_face = suits_place vertices faces line (map rounded (take 3 ws)) vertex no_face (leb-false _ _ many)
+    by_vertex ws false false false many vertex no_face = suits_position vertices faces line (map rounded (take 3 ws)) vertex no_face (leb-false _ _ many)
 
     by_face : (ws : List (List ℕ)) (many bad other out : Bool) → leb (2 ^ 20) faces ≡ many → list_any (λ w. is_out vertices (used_index w)) ws ≡ out → is_vertex_line line ≡ false → is_face_line line ≡ true
         → Suits vertices faces line (cond many (Refused (Limit Faces line.number)) (cond bad (Refused (Syntax line.number)) (cond other (Refused (NotQuad line.number (length ws)))

@@ -1,4 +1,4 @@
--- The places that some face names, and the numbers of the vertices that they become.
+-- The positions that some face names, and the numbers of the vertices that they become.
 use Rattle.std.proofs.Common.{◌≡◌, ℕ, ℤ, zero, suc, ◌+◌, ◌-◌, ◌<◌, ◌≤◌, Bool, true, false, cond, ◌&&◌, List, [], ◌∷◌, ◌++◌, length, drop, set, map, get_or, refl, sym, ap, ◌∙◌, arith, ltb, leb, add-one}
 use Rattle.std.specs.Prelude.{IsTrue}
 use Rattle.std.specs.List.{filter, list_all, list_any}
@@ -7,7 +7,7 @@ use Rattle.std.proofs.lemmas.List.Elements.{filter-append}
 use Rattle.std.proofs.lemmas.Bool.{and_parts, ltb-true, leb-true}
 use Rattle.def_mesh.specs.Vertices.{is_used}
 use Rattle.def_text.specs.FaceSet.{FaceSet}
-use Rattle.def_text.specs.Text.{face_set, numbers_to, place_of, used_to, vertex_of}
+use Rattle.def_text.specs.Text.{face_set, numbers_to, position_of, used_to, vertex_of}
 use Rattle.qm_obj.proofs.ListLemmas.{at_back, back_more}
 use Rattle.qm_obj.specs.Kept.{are_numbers, chosen, first_late, IsCounted, IsKept, IsMarked}
 
@@ -27,32 +27,32 @@ chosen_no marks k off =
     let p : get_or marks (k + 1 - 1) false ≡ false = rw e off in
     filter_numbers (λ k. get_or marks (k - 1) false) k ∙ rw p (append-nil _)
 
--- One place more, that is kept.
-pub kept_mark : (marks : List Bool) (old places : List (List ℤ)) (names : List ℕ) (k : ℕ) → k < length marks → get_or marks k false ≡ true
-    → IsKept marks old places names k → IsKept marks old (set places (length names) (get_or places k [])) (names ++ (k + 1) ∷ []) (k + 1)
-kept_mark marks old places names k there on kept = record {
+-- One position more, that is kept.
+pub kept_mark : (marks : List Bool) (old positions : List (List ℤ)) (names : List ℕ) (k : ℕ) → k < length marks → get_or marks k false ≡ true
+    → IsKept marks old positions names k → IsKept marks old (set positions (length names) (get_or positions k [])) (names ++ (k + 1) ∷ []) (k + 1)
+kept_mark marks old positions names k there on kept = record {
   names_are = ap (λ (xs : List ℕ). xs ++ (k + 1) ∷ []) kept.names_are ∙ sym (chosen_yes marks k on);
   few = omega (arith, length_push names (k + 1), kept.few);
-  size = length-set places (length names) (get_or places k []) ∙ kept.size;
+  size = length-set positions (length names) (get_or positions k []) ∙ kept.size;
   front =
       let n : length (names ++ (k + 1) ∷ []) ≡ length names + 1 = length_push names (k + 1) in
-      let room : length names < length places = omega (arith, kept.few, kept.size) in
+      let room : length names < length positions = omega (arith, kept.few, kept.size) in
       let e : k + 1 - 1 ≡ k = omega arith in
-      let same : get_or places k [] ≡ place_of old (k + 1) = rw e (at_back places old k [] kept.back) in
-      rw n (take_more_set places (length names) (get_or places k []) room
-      ∙ rw (kept.front, same) (sym (map_push (place_of old) (chosen marks k) (k + 1)) ∙ ap (map (place_of old)) (sym (chosen_yes marks k on))));
-  back = back_more places old k (length names) (get_or places k []) kept.few kept.back;
+      let same : get_or positions k [] ≡ position_of old (k + 1) = rw e (at_back positions old k [] kept.back) in
+      rw n (take_more_set positions (length names) (get_or positions k []) room
+      ∙ rw (kept.front, same) (sym (map_push (position_of old) (chosen marks k) (k + 1)) ∙ ap (map (position_of old)) (sym (chosen_yes marks k on))));
+  back = back_more positions old k (length names) (get_or positions k []) kept.few kept.back;
 }
 
--- One place more, that is dropped.
-pub kept_skip : (marks : List Bool) (old places : List (List ℤ)) (names : List ℕ) (k : ℕ) → get_or marks k false ≡ false
-    → IsKept marks old places names k → IsKept marks old places names (k + 1)
-kept_skip marks old places names k off kept = record {
+-- One position more, that is dropped.
+pub kept_skip : (marks : List Bool) (old positions : List (List ℤ)) (names : List ℕ) (k : ℕ) → get_or marks k false ≡ false
+    → IsKept marks old positions names k → IsKept marks old positions names (k + 1)
+kept_skip marks old positions names k off kept = record {
   names_are = kept.names_are ∙ sym (chosen_no marks k off);
   few = omega (arith, kept.few);
   size = kept.size;
-  front = kept.front ∙ ap (map (place_of old)) (sym (chosen_no marks k off));
-  back = sym (drop-drop 1 k places) ∙ ap (drop 1) kept.back ∙ drop-drop 1 k old;
+  front = kept.front ∙ ap (map (position_of old)) (sym (chosen_no marks k off));
+  back = sym (drop-drop 1 k positions) ∙ ap (drop 1) kept.back ∙ drop-drop 1 k old;
 }
 
 -- Marked are the used.
@@ -88,22 +88,22 @@ pub late_more : (vertices : ℕ) (faces : List (List ℕ)) (lines : List ℕ) (i
 late_more vertices faces lines i there size calm = rw (drop_more faces i [] there, drop_more lines i 0 (omega arith), calm) refl
 
 -- What was kept, counted and renumbered is the soup.
-pub made_of : (places : List (List ℤ)) (faces : List (List ℕ)) (marks : List Bool) (made : FaceSet) (vertices : List ℕ)
-    → IsMarked faces (length places) marks → IsTrue (list_all (are_numbers (length places)) faces) → IsCounted marks vertices
-    → made.names ≡ chosen marks (length marks) → made.pos ≡ map (place_of places) (chosen marks (length marks))
+pub made_of : (positions : List (List ℤ)) (faces : List (List ℕ)) (marks : List Bool) (made : FaceSet) (vertices : List ℕ)
+    → IsMarked faces (length positions) marks → IsTrue (list_all (are_numbers (length positions)) faces) → IsCounted marks vertices
+    → made.names ≡ chosen marks (length marks) → made.pos ≡ map (position_of positions) (chosen marks (length marks))
     → made.faces ≡ map (λ corners. map (λ corner. get_or vertices (corner - 1) 0) corners) faces
-    → made ≡ face_set places faces
-made_of places faces marks made vertices marked known counted names pos renumbered =
-    let all : chosen marks (length marks) ≡ used_to faces (length places) =
-    ap (chosen marks) marked.size ∙ chosen_used faces (length places) marks marked (length places) (omega arith) in
-    same_parts made (face_set places faces)
-    (pos ∙ ap (map (place_of places)) all)
-    (renumbered ∙ map_faces (λ corner. get_or vertices (corner - 1) 0) (vertex_of faces) (length places) each faces known)
+    → made ≡ face_set positions faces
+made_of positions faces marks made vertices marked known counted names pos renumbered =
+    let all : chosen marks (length marks) ≡ used_to faces (length positions) =
+    ap (chosen marks) marked.size ∙ chosen_used faces (length positions) marks marked (length positions) (omega arith) in
+    same_parts made (face_set positions faces)
+    (pos ∙ ap (map (position_of positions)) all)
+    (renumbered ∙ map_faces (λ corner. get_or vertices (corner - 1) 0) (vertex_of faces) (length positions) each faces known)
     (names ∙ all)
   where
-    each : (k : ℕ) → 0 < k → k ≤ length places → get_or vertices (k - 1) 0 ≡ vertex_of faces k
+    each : (k : ℕ) → 0 < k → k ≤ length positions → get_or vertices (k - 1) 0 ≡ vertex_of faces k
     each k some le =
-        counted.each (k - 1) (omega (arith, marked.size)) ∙ ap length (chosen_used faces (length places) marks marked (k - 1) (omega arith))
+        counted.each (k - 1) (omega (arith, marked.size)) ∙ ap length (chosen_used faces (length positions) marks marked (k - 1) (omega arith))
 
     same_parts : (s t : FaceSet) → s.pos ≡ t.pos → s.faces ≡ t.faces → s.names ≡ t.names → s ≡ t
     same_parts s t p q r = λ i. record { pos = p i; faces = q i; names = r i }

@@ -5,10 +5,10 @@ use Rattle.std.proofs.lemmas.List.{drop_more, get_or-map, get_or-set_other, get_
 use Rattle.std.specs.List.{before_first, list_all, list_any, position_or_len}
 use Rattle.def_text.specs.Decimal.{is_decimal, is_far, rounded}
 use Rattle.def_text.specs.Logical.{is_hash}
-use Rattle.def_text.specs.Reading.{face_reading, is_letter, is_place_count, vertex_reading, words_reading}
+use Rattle.def_text.specs.Reading.{face_reading, is_letter, is_position_count, vertex_reading, words_reading}
 use Rattle.def_text.specs.declared.refusal.ObjFail.TheVariants.{Limit, Range, Syntax}
 use Rattle.def_text.specs.declared.refusal.Which.TheVariants.{Vertices}
-use Rattle.def_text.specs.declared.reading.Reading.TheVariants.{Passed, Place, Refused}
+use Rattle.def_text.specs.declared.reading.Reading.TheVariants.{Passed, Position, Refused}
 use Rattle.def_text.specs.Words.{ends_word, in_front, is_blank, words}
 use Rattle.qm_obj.specs.Indices.{with_capped}
 use Rattle.qm_obj.specs.Lines.{IsFilled, is_end, uncommented, with_word}
@@ -103,7 +103,7 @@ words_few (b ∷ bs) = by_blank (is_blank b) (words_few bs)
         by_end false [] few = omega arith
         by_end false (w ∷ ws) few = omega arith
 
--- Where the next word is one, it is the word at this place.
+-- Where the next word is one, it is the word at this position.
 pub record IsNext (all : List (List ℕ)) (count : ℕ) (word : List ℕ) (after : List (List ℕ)) : Type 0 where
   pub there : count < length all
   pub here : get_or all count [] ≡ word
@@ -153,10 +153,10 @@ none_from false x is = refl
 
 -- A `v` line says no face.
 vertex_capped : (line vertices : ℕ) (words : List (List ℕ)) → with_capped (vertex_reading line vertices words) ≡ vertex_reading line vertices words
-vertex_capped line vertices words = by_tests (leb (2 ^ 21) vertices) (not (is_place_count (length words) && list_all is_decimal words)) (list_any (λ w. is_far (rounded w)) (take 3 words))
+vertex_capped line vertices words = by_tests (leb (2 ^ 21) vertices) (not (is_position_count (length words) && list_all is_decimal words)) (list_any (λ w. is_far (rounded w)) (take 3 words))
   where
-    by_tests : (many bad far : Bool) → with_capped (cond many (Refused (Limit Vertices line)) (cond bad (Refused (Syntax line)) (cond far (Refused (Range line)) (Place (map rounded (take 3 words))))))
-        ≡ cond many (Refused (Limit Vertices line)) (cond bad (Refused (Syntax line)) (cond far (Refused (Range line)) (Place (map rounded (take 3 words)))))
+    by_tests : (many bad far : Bool) → with_capped (cond many (Refused (Limit Vertices line)) (cond bad (Refused (Syntax line)) (cond far (Refused (Range line)) (Position (map rounded (take 3 words))))))
+        ≡ cond many (Refused (Limit Vertices line)) (cond bad (Refused (Syntax line)) (cond far (Refused (Range line)) (Position (map rounded (take 3 words)))))
     by_tests true bad far = refl
     by_tests false true far = refl
     by_tests false false true = refl

@@ -3,7 +3,7 @@ use Rattle.std.specs.Prelude.{ℕ, ◌-◌, ◌^◌, min, if◌then◌else◌, L
 use Rattle.std.specs.List.{slice_split}
 use Rattle.def_text.specs.Corner.{is_out, is_slash, resolved, used_index}
 use Rattle.def_text.specs.declared.reading.Reading.{Reading}
-use Rattle.def_text.specs.declared.reading.Reading.TheVariants.{Passed, Place, Face, Refused}
+use Rattle.def_text.specs.declared.reading.Reading.TheVariants.{Passed, Position, Face, Refused}
 
 -- The line that an index names, or 0 where it is out, as a `u64`.
 abbrev pub named : ℕ → List ℕ → ℕ
@@ -26,5 +26,5 @@ parts_behind (_ ∷ rest) = slice_split is_slash rest
 abbrev pub with_capped : Reading → Reading
 with_capped (Face line corners) = Face line (map capped corners)
 with_capped Passed = Passed
-with_capped (Place place) = Place place
+with_capped (Position position) = Position position
 with_capped (Refused fail) = Refused fail

@@ -1,10 +1,10 @@
--- Which places some face names.
+-- Which positions some face names.
 use Rattle.std.specs.Prelude.{◌≡◌, ◌<◌, ◌-◌, ◌&&◌, ℕ, suc, Bool, false, nat_lt, nat_le, if◌then◌else◌, ◌≤◌, ℤ, take, drop, map, Option, Some, None, MatchOption, List, [], ◌∷◌, length, slice_index, slice_index_or}
 use Rattle.std.specs.List.{filter, list_all, list_any}
 use Rattle.def_text.specs.declared.refusal.ObjFail.{ObjFail}
 use Rattle.def_text.specs.declared.refusal.ObjFail.TheVariants.{Range}
 use Rattle.def_mesh.specs.Vertices.{is_used}
-use Rattle.def_text.specs.Text.{numbers_to, place_of}
+use Rattle.def_text.specs.Text.{numbers_to, position_of}
 
 -- The line of the first face that names a `v` line above the last.
 abbrev pub first_late : ℕ → List (List ℕ) → List ℕ → Option ℕ
@@ -35,10 +35,10 @@ pub record IsCounted (marks : List Bool) (vertices : List ℕ) : Type 0 where
 abbrev pub IsLate : ObjFail → Option ℕ → Type 0
 IsLate fail late = MatchOption late ⊥ (λ line. fail ≡ Range line)
 
--- The marked ones of the first k places stand in front, with their numbers, and the places from k on are as they were.
-pub record IsKept (marks : List Bool) (old places : List (List ℤ)) (names : List ℕ) (k : ℕ) : Type 0 where
+-- The marked ones of the first k positions stand in front, with their numbers, and the positions from k on are as they were.
+pub record IsKept (marks : List Bool) (old positions : List (List ℤ)) (names : List ℕ) (k : ℕ) : Type 0 where
   pub names_are : names ≡ chosen marks k
   pub few : length names ≤ k
-  pub size : length places ≡ length marks
-  pub front : take (length names) places ≡ map (place_of old) (chosen marks k)
-  pub back : drop k places ≡ drop k old
+  pub size : length positions ≡ length marks
+  pub front : take (length names) positions ≡ map (position_of old) (chosen marks k)
+  pub back : drop k positions ≡ drop k old

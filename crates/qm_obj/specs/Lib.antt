@@ -1,5 +1,5 @@
+pub mod Ahead
 pub mod Indices
 pub mod Kept
-pub mod Law
 pub mod Lines
-pub mod Places
+pub mod Positions

@@ -1,12 +1,13 @@
 -- Words one after another, and what a reader keeps of the lines.
 use Rattle.std.specs.Prelude.{◌≡◌, ◌<◌, ◌||◌, ℕ, ℤ, Bool, if◌then◌else◌, List, [], ◌∷◌, ◌++◌, length, map, slice_index_or}
 use Rattle.std.specs.List.{flat_map}
-use Rattle.def_text.specs.Logical.{Logical, is_hash, joined, size_of}
+use Rattle.def_text.specs.Logical.{Logical, is_hash}
+use Rattle.qm_obj.specs.Ahead.{text_ahead, size_ahead}
 use Rattle.def_text.specs.Reading.{reading}
-use Rattle.def_text.specs.Text.{face_in, faces, place_in, places, readings, refusal_in}
+use Rattle.def_text.specs.Text.{face_in, faces, position_in, positions, readings, refusal_in}
 use Rattle.def_text.specs.Words.{is_blank}
 use Rattle.def_text.specs.declared.reading.Reading.{Reading}
-use Rattle.def_text.specs.declared.reading.Reading.TheVariants.{Passed, Place, Face, Refused}
+use Rattle.def_text.specs.declared.reading.Reading.TheVariants.{Passed, Position, Face, Refused}
 use Rattle.qm_obj.specs.Indices.{capped, with_capped}
 
 -- A word in front of others, where it is one.
@@ -27,29 +28,29 @@ is_end byte = is_blank byte || is_hash byte
 abbrev pub line_in : Reading → List ℕ
 line_in (Face line _) = line ∷ []
 line_in Passed = []
-line_in (Place _) = []
+line_in (Position _) = []
 line_in (Refused _) = []
 
 -- The logical line that begins these physical lines.
 abbrev pub first_logical : ℕ → List (List ℕ) → Logical
-first_logical number lines = record { number = number; size = size_of lines; text = joined lines }
+first_logical number lines = record { number = number; size = size_ahead lines; text = text_ahead lines }
 
--- What the next line says, behind as many `v` lines and `f` lines as there are places and faces.
+-- What the next line says, behind as many `v` lines and `f` lines as there are positions and faces.
 abbrev pub next_said : List (List ℤ) → List (List ℕ) → Logical → Reading
-next_said places faces line = with_capped (reading (length places) (length faces) line)
+next_said positions faces line = with_capped (reading (length positions) (length faces) line)
 
 -- What a reader keeps grew by what a line says, which is no refusal.
-pub record Took (places places' : List (List ℤ)) (faces faces' : List (List ℕ)) (lines lines' : List ℕ) (said : Reading) : Type 0 where
+pub record Took (positions positions' : List (List ℤ)) (faces faces' : List (List ℕ)) (lines lines' : List ℕ) (said : Reading) : Type 0 where
   pub accepted : refusal_in said ≡ []
-  pub place : places' ≡ places ++ place_in said
+  pub position : positions' ≡ positions ++ position_in said
   pub face : faces' ≡ faces ++ face_in said
   pub line : lines' ≡ lines ++ line_in said
 
--- These are all places, all faces with capped corners, and the lines of the faces in some logical lines, none of which
+-- These are all positions, all faces with capped corners, and the lines of the faces in some logical lines, none of which
 -- is refused.
 pub record HasRead (lines : List Logical) (kept : List (List ℤ)) (corners : List (List ℕ)) (numbers : List ℕ) : Type 0 where
   pub accepted : flat_map refusal_in (readings [] lines) ≡ []
-  pub places_are : kept ≡ places (readings [] lines)
+  pub positions_are : kept ≡ positions (readings [] lines)
   pub faces_are : corners ≡ map (λ face. map capped face) (faces (readings [] lines))
   pub lines_are : numbers ≡ flat_map line_in (readings [] lines)
 

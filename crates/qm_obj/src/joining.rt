@@ -10,21 +10,24 @@ ghost use Rattle.std.specs.Prelude.{
   OnOk,
 };
 ghost use Rattle.std.specs.List.{before_first};
-ghost use Rattle.def_text.specs.Logical.{continues, is_hash, joined, size_of, span, with_space};
-ghost use Rattle.qm_io.specs.Lines.{lines_of};
+ghost use Rattle.def_text.specs.Logical.{continues, first_group, is_hash, joined, with_space};
+ghost use Rattle.qm_obj.specs.Ahead.{size_ahead, span, text_ahead};
+ghost use Rattle.def_io.specs.Lines.{lines_of};
 
 use crate::Memory;
 use crate::piece::Logical;
 use crate::words::find_byte;
+use def_text::{BACKSLASH, HASH, SPACE};
 use qm_io::Lines;
 use std::alloc::Global;
 
 /// The logical line that begins with physical line `i` of the range that ends before `after`. Linear in its bytes.
+#[tactic(auto, using(crate::proofs::Groups::group_text, crate::proofs::Groups::group_span))]
 pub fn logical(alloc: Global, lines: &Lines, i: u32, after: u32) -> Result<Logical, Memory>
     requires begins { i < after }
     requires within { after ≤ length (lines_of lines.now) }
-    ensures bytes { IfOk result (λ line. line.bytes.items ≡ joined (slice_range (lines_of lines.now) i after)) }
-    ensures next { IfOk result (λ line. line.next ≡ i + span (slice_range (lines_of lines.now) i after)) }
+    ensures bytes { IfOk result (λ line. line.bytes.items ≡ joined (first_group (slice_range (lines_of lines.now) i after))) }
+    ensures next { IfOk result (λ line. line.next ≡ i + length (first_group (slice_range (lines_of lines.now) i after))) }
 {
     let Joined { bytes, next, .. } = join(alloc, lines, i, after)?;
     Ok(Logical { bytes, next })
@@ -41,9 +44,9 @@ pub(crate) struct Joined {
 pub(crate) fn join(alloc: Global, lines: &Lines, i: u32, after: u32) -> Result<Joined, Memory>
     requires begins { i < after }
     requires within { after ≤ length (lines_of lines.now) }
-    ensures bytes { IfOk result (λ line. line.bytes.items ≡ joined (slice_range (lines_of lines.now) i after)) }
+    ensures bytes { IfOk result (λ line. line.bytes.items ≡ text_ahead (slice_range (lines_of lines.now) i after)) }
     ensures next { IfOk result (λ line. line.next ≡ i + span (slice_range (lines_of lines.now) i after)) }
-    ensures size { IfOk result (λ line. line.size ≡ size_of (slice_range (lines_of lines.now) i after)) }
+    ensures size { IfOk result (λ line. line.size ≡ size_ahead (slice_range (lines_of lines.now) i after)) }
 {
     let mut bytes = Vec::new(alloc);
     let mut next = i;
@@ -68,7 +71,7 @@ pub(crate) fn goes_on(line: &[u8]) -> bool
 {
     match line {
         [] => false,
-        [.., last] => *last == b'\\' && find_byte(line, b'#') == line.len(),
+        [.., last] => *last == BACKSLASH && find_byte(line, HASH) == line.len(),
     }
 }
 
@@ -76,7 +79,7 @@ pub(crate) fn goes_on(line: &[u8]) -> bool
 pub(crate) fn before_comment(line: &[u8]) -> &[u8]
     ensures { result.now ≡ before_first is_hash line.now }
 {
-    &line[..find_byte(line, b'#')]
+    &line[..find_byte(line, HASH)]
 }
 
 fn push_spaced(bytes: &mut Vec<u8>, line: &[u8]) -> Result<(), Memory>
@@ -85,6 +88,6 @@ fn push_spaced(bytes: &mut Vec<u8>, line: &[u8]) -> Result<(), Memory>
     if let [front @ .., _] = line {
         bytes.extend_from_slice(front)?;
     }
-    bytes.push(b' ')?;
+    bytes.push(SPACE)?;
     Ok(())
 }

@@ -1,4 +1,4 @@
-ghost use Rattle.qm_obj.specs.Law.{ReadsBack};
+ghost use Rattle.def_text.specs.Laws.{ReadsBack};
 
 /// The law of the canonical text: it reads back as the soup that it was written for. It does nothing.
 pub fn reads_back()

@@ -7,7 +7,7 @@ mod law;
 mod line;
 mod number;
 mod piece;
-mod place;
+mod position;
 mod read;
 mod reader;
 #[cfg(test)]

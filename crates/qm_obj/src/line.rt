@@ -1,20 +1,14 @@
 ghost use Rattle.std.specs.Prelude.{◌≡◌, ◌≤◌, ◌==◌, length, slice_set};
 ghost use Rattle.std.specs.List.{list_any};
-ghost use Rattle.def_text.specs.Reading.{face_reading, is_letter, is_place_count, reading, vertex_reading};
+ghost use Rattle.def_text.specs.Reading.{face_reading, is_letter, is_position_count, reading, vertex_reading};
 ghost use Rattle.def_text.specs.Words.{words};
 ghost use Rattle.qm_obj.specs.Indices.{with_capped};
 ghost use Rattle.qm_obj.specs.Lines.{uncommented};
 
 use crate::corner::read_corner;
-use crate::place::{read_coordinate, read_place};
+use crate::position::{read_coordinate, read_position};
 use crate::words::next_word;
-use def_text::{ObjFail, Reading, Which};
-
-const MAX_LINE: usize = 65_536;
-
-const MAX_VERTICES: u32 = 2_097_152;
-
-const MAX_FACES: u32 = 1_048_576;
+use def_text::{FACE, MAX_FACES, MAX_LINE, MAX_VERTICES, ObjFail, Reading, VERTEX, Which};
 
 /// What a logical line of `size` bytes says after so many `v` and `f` lines. Corners above `u32::MAX` are capped.
 #[tactic(auto, using(crate::proofs::WordLemmas::by_first_word))]
@@ -29,9 +23,9 @@ pub(crate) fn read_line(line: u32, vertices: u32, faces: u32, size: usize, text:
         });
     }
     let (first, rest) = next_word(text);
-    if is_one(first, b'v') {
+    if is_one(first, VERTEX) {
         read_vertex(line, vertices, rest)
-    } else if is_one(first, b'f') {
+    } else if is_one(first, FACE) {
         read_face(line, vertices, faces, rest)
     } else {
         Reading::Passed
@@ -74,14 +68,14 @@ fn read_vertex(line: u32, vertices: u32, text: &[u8]) -> Reading
     if !is_right_count(count) {
         return Reading::Refused(ObjFail::Syntax { line });
     }
-    match read_place(slots) {
-        Some(place) => Reading::Place(place),
+    match read_position(slots) {
+        Some(position) => Reading::Position(position),
         None => Reading::Refused(ObjFail::Range { line }),
     }
 }
 
 fn is_right_count(count: usize) -> bool
-    ensures { result ≡ is_place_count count }
+    ensures { result ≡ is_position_count count }
 {
     count == 3 || count == 4 || count == 6 || count == 7
 }
@@ -95,7 +89,7 @@ fn put<T: Copy>(slots: &mut [T], i: usize, value: T)
 }
 
 fn read_face(line: u32, vertices: u32, faces: u32, text: &[u8]) -> Reading
-    requires { length text.now ≤ 65_536 }
+    requires { length text.now ≤ MAX_LINE }
     ensures { result ≡ with_capped (face_reading line vertices faces (words (uncommented text.now))) }
 {
     if faces >= MAX_FACES {

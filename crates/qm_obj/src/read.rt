@@ -1,13 +1,13 @@
 ghost use Rattle.std.specs.Prelude.{◌≡◌, ◌≢◌, ◌≤◌, ◌<◌, ◌+◌, ◌^◌, Ok, Err, length, slice_range, IfOk, OnOk, IfErr};
-ghost use Rattle.def_text.specs.Logical.{span};
 ghost use Rattle.def_text.specs.Text.{text_soup};
 ghost use Rattle.def_text.specs.declared.reading.Reading.TheVariants.{Refused};
-ghost use Rattle.qm_io.specs.Lines.{lines_of};
+ghost use Rattle.def_io.specs.Lines.{lines_of};
+ghost use Rattle.qm_obj.specs.Ahead.{span};
 ghost use Rattle.qm_obj.specs.Lines.{first_logical, next_said, Took};
 
 use crate::joining::{goes_on, join};
 use crate::reader::Reader;
-use def_text::{ObjFail, Soup};
+use def_text::{MAX_FACES, MAX_VERTICES, ObjFail, Soup};
 use qm_io::Lines;
 use std::alloc::Global;
 
@@ -17,7 +17,7 @@ pub fn read_obj(alloc: Global, lines: &Lines, first: u32, after: u32) -> Result<
     requires order { first ≤ after }
     requires within { after ≤ length (lines_of lines.now) }
     ensures soup { IfOk result (λ soup. text_soup (first + 1) (slice_range (lines_of lines.now) first after) ≡ Ok soup) }
-    ensures few { IfOk result (λ soup. (length soup.pos ≤ 2 ^ 21) × (length soup.faces ≤ 2 ^ 20)) }
+    ensures few { IfOk result (λ soup. (length soup.pos ≤ MAX_VERTICES) × (length soup.faces ≤ MAX_FACES)) }
     ensures refused { IfErr result (λ fail. fail ≢ ObjFail.Memory
         → text_soup (first + 1) (slice_range (lines_of lines.now) first after) ≡ Err fail) }
 {
@@ -42,15 +42,15 @@ fn take_logical(
 ) -> Result<u32, ObjFail>
     requires begins { i < after }
     requires within { after ≤ length (lines_of lines.now) }
-    requires vertices { length reader.old.places.items ≤ 2 ^ 21 }
-    requires faces { length reader.old.faces.items ≤ 2 ^ 20 }
+    requires vertices { length reader.old.positions.items ≤ MAX_VERTICES }
+    requires faces { length reader.old.faces.items ≤ MAX_FACES }
     ensures next { IfOk result (λ next. next ≡ i + span (slice_range (lines_of lines.now) i after)) }
-    ensures kept { OnOk result (Took reader.old.places.items reader.new.places.items reader.old.faces.items reader.new.faces.items
+    ensures kept { OnOk result (Took reader.old.positions.items reader.new.positions.items reader.old.faces.items reader.new.faces.items
         reader.old.lines.items reader.new.lines.items
-        (next_said reader.old.places.items reader.old.faces.items
+        (next_said reader.old.positions.items reader.old.faces.items
         (first_logical (i + 1) (slice_range (lines_of lines.now) i after)))) }
     ensures refused { IfErr result (λ fail. fail ≢ ObjFail.Memory →
-        next_said reader.old.places.items reader.old.faces.items
+        next_said reader.old.positions.items reader.old.faces.items
         (first_logical (i + 1) (slice_range (lines_of lines.now) i after)) ≡ Refused fail) }
 {
     let line = lines.line(i);
@@ -72,15 +72,15 @@ fn take_joined(
 ) -> Result<u32, ObjFail>
     requires begins { i < after }
     requires within { after ≤ length (lines_of lines.now) }
-    requires vertices { length reader.old.places.items ≤ 2 ^ 21 }
-    requires faces { length reader.old.faces.items ≤ 2 ^ 20 }
+    requires vertices { length reader.old.positions.items ≤ MAX_VERTICES }
+    requires faces { length reader.old.faces.items ≤ MAX_FACES }
     ensures next { IfOk result (λ next. next ≡ i + span (slice_range (lines_of lines.now) i after)) }
-    ensures kept { OnOk result (Took reader.old.places.items reader.new.places.items reader.old.faces.items reader.new.faces.items
+    ensures kept { OnOk result (Took reader.old.positions.items reader.new.positions.items reader.old.faces.items reader.new.faces.items
         reader.old.lines.items reader.new.lines.items
-        (next_said reader.old.places.items reader.old.faces.items
+        (next_said reader.old.positions.items reader.old.faces.items
         (first_logical (i + 1) (slice_range (lines_of lines.now) i after)))) }
     ensures refused { IfErr result (λ fail. fail ≢ ObjFail.Memory →
-        next_said reader.old.places.items reader.old.faces.items
+        next_said reader.old.positions.items reader.old.faces.items
         (first_logical (i + 1) (slice_range (lines_of lines.now) i after)) ≡ Refused fail) }
 {
     let Ok(joined) = join(alloc, lines, i, after) else {

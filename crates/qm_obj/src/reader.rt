@@ -6,25 +6,25 @@ ghost use Rattle.qm_obj.specs.Lines.{next_said, Took, uncommented};
 
 use crate::line::read_line;
 use crate::used::{drop_unused, late_line};
-use def_text::{Micro, ObjFail, Reading, Soup};
+use def_text::{MAX_FACES, MAX_VERTICES, Micro, ObjFail, Reading, Soup};
 use std::alloc::Global;
 
-/// What is known of a text after some of its logical lines: all places, and the faces with their lines.
+/// What is known of a text after some of its logical lines: all positions, and the faces with their lines.
 #[derive(Drop)]
 pub(crate) struct Reader {
-    pub(crate) places: Vec<[Micro; 3]>,
+    pub(crate) positions: Vec<[Micro; 3]>,
     pub(crate) faces: Vec<[u32; 4]>,
     pub(crate) lines: Vec<u32>,
 }
 
 impl Reader {
     pub(crate) fn new(alloc: Global) -> Reader
-        ensures places { result.places.items ≡ [] }
+        ensures positions { result.positions.items ≡ [] }
         ensures faces { result.faces.items ≡ [] }
         ensures lines { result.lines.items ≡ [] }
     {
         Reader {
-            places: Vec::new(alloc),
+            positions: Vec::new(alloc),
             faces: Vec::new(alloc),
             lines: Vec::new(alloc),
         }
@@ -32,33 +32,33 @@ impl Reader {
 
     /// Takes the next logical line, which has `size` bytes and this text, or answers its refusal.
     pub(crate) fn take(&mut self, line: u32, size: usize, text: &[u8]) -> Result<(), ObjFail>
-        requires vertices { length self.old.places.items ≤ 2 ^ 21 }
-        requires faces { length self.old.faces.items ≤ 2 ^ 20 }
+        requires vertices { length self.old.positions.items ≤ MAX_VERTICES }
+        requires faces { length self.old.faces.items ≤ MAX_FACES }
         requires cut { length text.now ≤ size }
-        ensures kept { OnOk result (Took self.old.places.items self.new.places.items self.old.faces.items self.new.faces.items
+        ensures kept { OnOk result (Took self.old.positions.items self.new.positions.items self.old.faces.items self.new.faces.items
             self.old.lines.items self.new.lines.items
-            (next_said self.old.places.items self.old.faces.items
+            (next_said self.old.positions.items self.old.faces.items
             (record { number = line; size = size; text = uncommented text.now }))) }
         ensures refused { IfErr result (λ fail. fail ≢ ObjFail.Memory →
-            next_said self.old.places.items self.old.faces.items
+            next_said self.old.positions.items self.old.faces.items
             (record { number = line; size = size; text = uncommented text.now }) ≡ Reading.Refused fail) }
     {
         match read_line(
             line,
-            self.places.len() as u32,
+            self.positions.len() as u32,
             self.faces.len() as u32,
             size,
             text,
         ) {
             Reading::Passed => Ok(()),
-            Reading::Place(place) => self.places.push(place).map_err(|_| ObjFail::Memory),
+            Reading::Position(position) => self.positions.push(position).map_err(|_| ObjFail::Memory),
             Reading::Face { line, corners } => self.keep_face(line, corners),
             Reading::Refused(fail) => Err(fail),
         }
     }
 
     fn keep_face(&mut self, line: u32, corners: [u32; 4]) -> Result<(), ObjFail>
-        ensures places { self.new.places ≡ self.old.places }
+        ensures positions { self.new.positions ≡ self.old.positions }
         ensures faces { OnOk result (self.new.faces.items ≡ self.old.faces.items ++ corners ∷ []) }
         ensures lines { OnOk result (self.new.lines.items ≡ self.old.lines.items ++ line ∷ []) }
         ensures memory { IfErr result (λ fail. fail ≡ ObjFail.Memory) }
@@ -67,27 +67,27 @@ impl Reader {
         self.lines.push(line).map_err(|_| ObjFail::Memory)
     }
 
-    /// The soup of all lines that were taken, or the refusal of the first face that names no place.
+    /// The soup of all lines that were taken, or the refusal of the first face that names no position.
     pub(crate) fn finish(self, alloc: Global) -> Result<Soup, ObjFail>
-        requires few { length self.places.items ≤ 2 ^ 21 }
+        requires few { length self.positions.items ≤ MAX_VERTICES }
         requires lines { length self.lines.items ≡ length self.faces.items }
         requires positive { IsTrue (list_all (list_all (λ corner. nat_lt 0 corner)) self.faces.items) }
-        ensures soup { IfOk result (λ soup. (first_late (length self.places.items) self.faces.items self.lines.items ≡ None)
-            × (soup ≡ face_set self.places.items self.faces.items)) }
+        ensures soup { IfOk result (λ soup. (first_late (length self.positions.items) self.faces.items self.lines.items ≡ None)
+            × (soup ≡ face_set self.positions.items self.faces.items)) }
         ensures late { IfErr result (λ fail. fail ≢ ObjFail.Memory → IsLate fail
-            (first_late (length self.places.items) self.faces.items self.lines.items)) }
+            (first_late (length self.positions.items) self.faces.items self.lines.items)) }
     {
         let Reader {
-            mut places,
+            mut positions,
             mut faces,
             lines,
         } = self;
-        if let Some(line) = late_line(places.len() as u32, &faces, &lines) {
+        if let Some(line) = late_line(positions.len() as u32, &faces, &lines) {
             return Err(ObjFail::Range { line });
         }
-        match drop_unused(alloc, &mut places, &mut faces) {
+        match drop_unused(alloc, &mut positions, &mut faces) {
             Ok(names) => Ok(Soup {
-                pos: places,
+                pos: positions,
                 faces,
                 names,
             }),

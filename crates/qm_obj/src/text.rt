@@ -1,9 +1,10 @@
 ghost use Rattle.std.specs.Prelude.{◌≡◌, ◌++◌, OnOk, IfOk};
 ghost use Rattle.std.specs.List.{flat_map};
-ghost use Rattle.def_text.specs.Canonical.{canonical_text, face_text, micro_text, place_text};
+ghost use Rattle.def_text.specs.Canonical.{canonical_text, face_text, micro_text, position_text};
 
 use crate::Memory;
-use def_text::{Micro, Soup};
+use def_io::LINE_FEED;
+use def_text::{FACE, Micro, SPACE, Soup, VERTEX};
 use itoa::Buffer;
 use qm_dec::write_micro;
 use std::alloc::Global;
@@ -13,16 +14,16 @@ pub fn obj_text(alloc: Global, soup: &Soup) -> Result<Vec<u8>, Memory>
     ensures { IfOk result (λ text. text.items ≡ canonical_text soup.now) }
 {
     let mut text = Vec::new(alloc);
-    push_places(&mut text, &soup.pos)?;
+    push_positions(&mut text, &soup.pos)?;
     push_faces(&mut text, &soup.faces)?;
     Ok(text)
 }
 
-fn push_places(text: &mut Vec<u8>, places: &[[Micro; 3]]) -> Result<(), Memory>
-    ensures { OnOk result (text.new.items ≡ text.old.items ++ flat_map place_text places.now) }
+fn push_positions(text: &mut Vec<u8>, positions: &[[Micro; 3]]) -> Result<(), Memory>
+    ensures { OnOk result (text.new.items ≡ text.old.items ++ flat_map position_text positions.now) }
 {
-    for place in places {
-        push_place(text, place)?;
+    for position in positions {
+        push_position(text, position)?;
     }
     Ok(())
 }
@@ -36,15 +37,15 @@ fn push_faces(text: &mut Vec<u8>, faces: &[[u32; 4]]) -> Result<(), Memory>
     Ok(())
 }
 
-fn push_place(text: &mut Vec<u8>, place: &[Micro; 3]) -> Result<(), Memory>
-    ensures { OnOk result (text.new.items ≡ text.old.items ++ place_text place.now) }
+fn push_position(text: &mut Vec<u8>, position: &[Micro; 3]) -> Result<(), Memory>
+    ensures { OnOk result (text.new.items ≡ text.old.items ++ position_text position.now) }
 {
-    text.push(b'v')?;
-    for number in place {
-        text.push(b' ')?;
+    text.push(VERTEX)?;
+    for number in position {
+        text.push(SPACE)?;
         push_micro(text, *number)?;
     }
-    text.push(b'\n')?;
+    text.push(LINE_FEED)?;
     Ok(())
 }
 
@@ -60,11 +61,11 @@ fn push_face(text: &mut Vec<u8>, face: &[u32; 4]) -> Result<(), Memory>
     ensures { OnOk result (text.new.items ≡ text.old.items ++ face_text face.now) }
 {
     let mut buffer = Buffer::new();
-    text.push(b'f')?;
+    text.push(FACE)?;
     for vertex in face {
-        text.push(b' ')?;
+        text.push(SPACE)?;
         text.extend_from_slice(buffer.format(u64::from(*vertex) + 1).as_bytes())?;
     }
-    text.push(b'\n')?;
+    text.push(LINE_FEED)?;
     Ok(())
 }

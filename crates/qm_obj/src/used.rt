@@ -24,7 +24,7 @@ ghost use Rattle.std.specs.Prelude.{
   OnOk,
 };
 ghost use Rattle.std.specs.List.{list_all, list_any};
-ghost use Rattle.def_text.specs.Text.{face_set, place_of};
+ghost use Rattle.def_text.specs.Text.{face_set, position_of};
 ghost use Rattle.qm_obj.specs.Kept.{are_numbers, chosen, first_late, IsCounted, IsMarked};
 
 use crate::Memory;
@@ -50,25 +50,25 @@ fn is_late(vertices: u32, face: &[u32; 4]) -> bool
     face.iter().any(|corner| vertices < *corner)
 }
 
-/// Drops the places that no face names, numbers the corners from 0 among those that are left, and answers the
+/// Drops the positions that no face names, numbers the corners from 0 among those that are left, and answers the
 /// numbers in the file of these, from 1. Linear.
 pub(crate) fn drop_unused(
     alloc: Global,
-    places: &mut Vec<[Micro; 3]>,
+    positions: &mut Vec<[Micro; 3]>,
     faces: &mut Vec<[u32; 4]>,
 ) -> Result<Vec<u32>, Memory>
-    requires few { length places.old.items ≤ 2 ^ 21 }
-    requires known { IsTrue (list_all (are_numbers (length places.old.items)) faces.old.items) }
-    ensures { IfOk result (λ names. record { pos = places.new.items; faces = faces.new.items; names = names.items }
-        ≡ face_set places.old.items faces.old.items) }
+    requires few { length positions.old.items ≤ 2 ^ 21 }
+    requires known { IsTrue (list_all (are_numbers (length positions.old.items)) faces.old.items) }
+    ensures { IfOk result (λ names. record { pos = positions.new.items; faces = faces.new.items; names = names.items }
+        ≡ face_set positions.old.items faces.old.items) }
 {
-    let marks = used_marks(alloc, places.len(), faces)?;
-    let kept = keep_marked(alloc, places, &marks)?;
+    let marks = used_marks(alloc, positions.len(), faces)?;
+    let kept = keep_marked(alloc, positions, &marks)?;
     renumber(faces, &kept.vertices);
     Ok(kept.names)
 }
 
-/// The numbers in the file of the places that are kept, and for each place how many of them stand before it.
+/// The numbers in the file of the positions that are kept, and for each position how many of them stand before it.
 #[derive(Drop)]
 struct Kept {
     names: Vec<u32>,
@@ -96,11 +96,11 @@ fn mark_face(marks: &mut [bool], face: &[u32; 4])
     }
 }
 
-fn keep_marked(alloc: Global, places: &mut Vec<[Micro; 3]>, marks: &[bool]) -> Result<Kept, Memory>
+fn keep_marked(alloc: Global, positions: &mut Vec<[Micro; 3]>, marks: &[bool]) -> Result<Kept, Memory>
     requires few { length marks.now ≤ 2 ^ 21 }
-    requires each { length places.old.items ≡ length marks.now }
+    requires each { length positions.old.items ≡ length marks.now }
     ensures names { IfOk result (λ kept. kept.names.items ≡ chosen marks.now (length marks.now)) }
-    ensures places { IfOk result (λ kept. places.new.items ≡ map (place_of places.old.items) (chosen marks.now (length marks.now))) }
+    ensures positions { IfOk result (λ kept. positions.new.items ≡ map (position_of positions.old.items) (chosen marks.now (length marks.now))) }
     ensures vertices { IfOk result (λ kept. IsCounted marks.now kept.vertices.items) }
 {
     let mut names = Vec::new(alloc);
@@ -108,24 +108,24 @@ fn keep_marked(alloc: Global, places: &mut Vec<[Micro; 3]>, marks: &[bool]) -> R
     for k in 0..marks.len() {
         vertices.push(names.len() as u32)?;
         if marks[k] {
-            keep_place(places, &mut names, k)?;
+            keep_position(positions, &mut names, k)?;
         }
     }
-    places.truncate(names.len());
+    positions.truncate(names.len());
     Ok(Kept { names, vertices })
 }
 
-fn keep_place(places: &mut Vec<[Micro; 3]>, names: &mut Vec<u32>, k: usize) -> Result<(), Memory>
-    requires there { k < length places.old.items }
-    requires few { length places.old.items ≤ 2 ^ 21 }
+fn keep_position(positions: &mut Vec<[Micro; 3]>, names: &mut Vec<u32>, k: usize) -> Result<(), Memory>
+    requires there { k < length positions.old.items }
+    requires few { length positions.old.items ≤ 2 ^ 21 }
     requires room { length names.old.items ≤ k }
-    ensures places { OnOk result (places.new.items
-        ≡ slice_set places.old.items (length names.old.items) (slice_index_or places.old.items k [])) }
+    ensures positions { OnOk result (positions.new.items
+        ≡ slice_set positions.old.items (length names.old.items) (slice_index_or positions.old.items k [])) }
     ensures names { OnOk result (names.new.items ≡ names.old.items ++ (k + 1) ∷ []) }
 {
-    let place = places[k];
+    let position = positions[k];
     let kept = names.len();
-    places[kept] = place;
+    positions[kept] = position;
     names.push(k as u32 + 1)?;
     Ok(())
 }

@@ -31,7 +31,7 @@ fn ends(byte: u8) -> bool
     byte <= b'#' && (byte == b' ' || byte == b'\t' || byte == b'#')
 }
 
-/// The place of the first such byte, or the length.
+/// The position of the first such byte, or the length.
 pub(crate) fn find_byte(text: &[u8], wanted: u8) -> usize
     ensures exact { result ≡ position_or_len (λ byte. byte == wanted) text.now }
     ensures within { result ≤ length text.now }

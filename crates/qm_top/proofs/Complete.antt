@@ -1,8 +1,8 @@
 -- A good text is refused for no cause of its own.
 use Rattle.std.proofs.Common.{◌≡◌, ◌≢◌, ◌≤◌, ◌<◌, ◌⊎◌, ℕ, List, [], ◌++◌, length, Option, Some, None, Result, Ok, Err, ◌^◌, sym, ◌∙◌, ap, subst, arith, refl, inl, inr, length-append}
 use Rattle.std.proofs.lemmas.List.{append-nil}
-use Rattle.qm_io.specs.Lines.{lines_of}
-use Rattle.qm_io.specs.Moves.{gave, GaveMore, IsEmptied}
+use Rattle.def_io.specs.Lines.{lines_of}
+use Rattle.def_io.specs.Moves.{gave, GaveMore, IsEmptied}
 use Rattle.def_text.specs.FaceSet.{FaceSet}
 use Rattle.def_text.specs.Text.{text_soup}
 use Rattle.def_text.specs.declared.refusal.ObjFail.{ObjFail}

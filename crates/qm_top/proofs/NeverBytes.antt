@@ -7,11 +7,11 @@ use Rattle.def_text.specs.FaceSet.{FaceSet}
 use Rattle.def_text.specs.Corner.{is_corner, is_out, used_index}
 use Rattle.def_text.specs.Decimal.{is_decimal, is_far, rounded}
 use Rattle.def_text.specs.Logical.{Logical, logical_lines}
-use Rattle.def_text.specs.Reading.{face_reading, is_face_line, is_letter, is_place_count, is_vertex_line, reading, vertex_reading, words_reading}
-use Rattle.def_text.specs.Text.{first_refusal, late_in, places, readings, refusal_in, refusals, text_soup}
+use Rattle.def_text.specs.Reading.{face_reading, is_face_line, is_letter, is_position_count, is_vertex_line, reading, vertex_reading, words_reading}
+use Rattle.def_text.specs.Text.{first_refusal, late_in, positions, readings, refusal_in, refusals, text_soup}
 use Rattle.def_text.specs.Words.{words}
 use Rattle.def_text.specs.declared.reading.Reading.{Reading}
-use Rattle.def_text.specs.declared.reading.Reading.TheVariants.{Passed, Place, Face, Refused}
+use Rattle.def_text.specs.declared.reading.Reading.TheVariants.{Passed, Position, Face, Refused}
 use Rattle.def_text.specs.declared.refusal.ObjFail.{ObjFail}
 use Rattle.def_text.specs.declared.refusal.ObjFail.TheVariants.{Syntax, NotQuad, Range, Limit, Memory}
 use Rattle.def_text.specs.declared.refusal.Which.{Which}
@@ -43,7 +43,7 @@ fine_if false a b x y = y
 fine_vertex : (n v : ℕ) (ws : List (List ℕ)) → IsFine (vertex_reading n v ws)
 fine_vertex n v ws =
     fine_if (nat_le (2 ^ 21) v) _ _ refl
-    (fine_if (not (is_place_count (length ws) && list_all is_decimal ws)) _ _ refl
+    (fine_if (not (is_position_count (length ws) && list_all is_decimal ws)) _ _ refl
     (fine_if (list_any (λ w. is_far (rounded w)) (take 3 ws)) _ _ refl refl))
 
 fine_face : (n v f : ℕ) (ws : List (List ℕ)) → IsFine (face_reading n v f ws)
@@ -75,7 +75,7 @@ fine_readings before (line ∷ lines) =
 
 fine_late : (n : ℕ) (r : Reading) → list_all is_fine (late_in n r) ≡ true
 fine_late n Passed = refl
-fine_late n (Place place) = refl
+fine_late n (Position position) = refl
 fine_late n (Refused fail) = refl
 fine_late n (Face line corners) = by_test (list_any (λ corner. nat_lt n corner) corners)
   where
@@ -101,6 +101,6 @@ pub never_bytes : (n : ℕ) (lines : List (List ℕ)) (line : ℕ)
 never_bytes n lines line is =
     let said : List Reading = readings [] (logical_lines n lines) in
     let all : list_all is_fine (refusals said) ≡ true =
-    fine_both (flat_map refusal_in said) (flat_map (late_in (length (places said))) said)
-    (fine_readings [] (logical_lines n lines)) (fine_lates (length (places said)) said) in
+    fine_both (flat_map refusal_in said) (flat_map (late_in (length (positions said))) said)
+    (fine_readings [] (logical_lines n lines)) (fine_lates (length (positions said)) said) in
     false≢true (first_fine (refusals said) _ (Limit Bytes line) all is)

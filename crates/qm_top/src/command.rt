@@ -1,5 +1,5 @@
 ghost use Rattle.std.specs.Prelude.{◌≡◌, ◌≢◌, ◌↔◌, ◌⊎◌, map, string_bytes, IsTrue};
-ghost use Rattle.qm_io.specs.Causes.{Rose};
+ghost use Rattle.def_io.specs.Faults.{Rose};
 ghost use Rattle.def_run.specs.CommandLines.{IsTidy};
 ghost use Rattle.def_run.specs.Causes.{IsGood, IsRefusedFor, Said, SaidWhy, Tidied, TidiedFront};
 

@@ -1,7 +1,7 @@
 ghost use Rattle.std.specs.Prelude.{◌≡◌, ◌≢◌, ◌≤◌, ◌^◌, ◌<◌, ℕ, List, length, IfOk, IfErr, OnOk, OnErr, IsTrue};
 ghost use Rattle.def_mesh.specs.Vertices.{names_below, UsesEach};
-ghost use Rattle.qm_io.specs.Causes.{Rose};
-ghost use Rattle.qm_io.specs.Moves.{took, TookFront};
+ghost use Rattle.def_io.specs.Faults.{Rose};
+ghost use Rattle.def_io.specs.Moves.{took, TookFront};
 ghost use Rattle.def_mesh.specs.Manifold.{IsManifold};
 ghost use Rattle.def_run.specs.Causes.{IsRefusedFor, ReadSoup, Tidied, TidiedFront};
 ghost use Rattle.def_text.specs.Canonical.{canonical_text};

@@ -1,5 +1,5 @@
 use Rattle.std.proofs.Common.{ap, ◌∙◌}
-use Rattle.qm_io.specs.Lines.{line_of, pieces, without_last}
+use Rattle.def_io.specs.Lines.{line_of, pieces, without_last}
 use Rattle.qm_io.proofs.Pieces.{line-piece, piece-there}
 use Rattle.qm_io.proofs.lines.line_at.Goals as goal
 

@@ -1,13 +1,13 @@
 use Rattle.std.proofs.Common.{length, map, sym, ap, ◌∙◌, arith}
 use Rattle.std.proofs.lemmas.List.{length-map}
-use Rattle.qm_io.specs.Lines.{pieces, line_of}
-use Rattle.qm_io.proofs.Pieces.{length-pieces, length-places}
+use Rattle.def_io.specs.Lines.{pieces, line_of}
+use Rattle.qm_io.proofs.Pieces.{length-pieces, length-ends_from}
 use Rattle.qm_io.proofs.lines.line_count.Goals as goal
 
 pub overflow_cast-result : goal.overflow_cast-result
 overflow_cast-result c =
-    omega (arith, ap length c.requires.cut, length-places 0 (pieces c.args.bytes.now), length-pieces c.args.bytes.now, c.requires.few)
+    omega (arith, ap length c.requires.cut, length-ends_from 0 (pieces c.args.bytes.now), length-pieces c.args.bytes.now, c.requires.few)
 
 pub returns : goal.returns
 returns c =
-    ap length c.requires.cut ∙ length-places 0 (pieces c.args.bytes.now) ∙ sym (length-map (pieces c.args.bytes.now) line_of)
+    ap length c.requires.cut ∙ length-ends_from 0 (pieces c.args.bytes.now) ∙ sym (length-map (pieces c.args.bytes.now) line_of)

@@ -1,28 +1,29 @@
 use Rattle.std.proofs.Common.{◌≡◌, ℕ, List, [], ◌∷◌, ◌+◌, ◌-◌, ◌<◌, ◌≤◌, length, take, drop, slice_index, slice_index_or, ap, sym, ◌∙◌, arith}
-use Rattle.qm_io.specs.Lines.{lines_of, pieces, places}
+use Rattle.def_io.specs.Lines.{lines_of, pieces}
+use Rattle.qm_io.specs.Ends.{ends_from}
 use Rattle.qm_io.proofs.Pieces.{end-there, piece-there, end-within, end-begin, begin, piece-cut}
 use Rattle.qm_io.proofs.lines.piece_at.Goals as goal
 
--- The two places of a piece, as the table of ends has them.
-start_is : (bs es : List ℕ) (i start : ℕ) → es ≡ places 0 (pieces bs) → start ≡ slice_index (0 ∷ es) i
+-- The two ends of a piece, as the table of ends has them.
+start_is : (bs es : List ℕ) (i start : ℕ) → es ≡ ends_from 0 (pieces bs) → start ≡ slice_index (0 ∷ es) i
     → start ≡ begin 0 (pieces bs) i
 start_is bs es i start cut is = is ∙ ap (λ (xs : List ℕ). slice_index (0 ∷ xs) i) cut
 
-end_is : (bs es : List ℕ) (i end : ℕ) → es ≡ places 0 (pieces bs) → end ≡ slice_index es i
+end_is : (bs es : List ℕ) (i end : ℕ) → es ≡ ends_from 0 (pieces bs) → end ≡ slice_index es i
     → i < length (pieces bs) → end ≡ begin 0 (pieces bs) i + length (slice_index_or (pieces bs) i [])
 end_is bs es i end cut is l = is ∙ ap (λ (xs : List ℕ). slice_index xs i) cut ∙ end-begin 0 (pieces bs) i l
 
-in_order : (bs es : List ℕ) (i start end : ℕ) → es ≡ places 0 (pieces bs) → start ≡ slice_index (0 ∷ es) i
+in_order : (bs es : List ℕ) (i start end : ℕ) → es ≡ ends_from 0 (pieces bs) → start ≡ slice_index (0 ∷ es) i
     → end ≡ slice_index es i → i < length (lines_of bs) → start ≤ end
 in_order bs es i start end cut first last l =
     omega (arith, start_is bs es i start cut first, end_is bs es i end cut last (piece-there bs i l))
 
-within : (bs es : List ℕ) (i end : ℕ) → es ≡ places 0 (pieces bs) → end ≡ slice_index es i
+within : (bs es : List ℕ) (i end : ℕ) → es ≡ ends_from 0 (pieces bs) → end ≡ slice_index es i
     → i < length (lines_of bs) → end ≤ length bs
 within bs es i end cut last l =
     omega (arith, last ∙ ap (λ (xs : List ℕ). slice_index xs i) cut, end-within bs i (piece-there bs i l))
 
-cut_out : (bs es : List ℕ) (i start end : ℕ) → es ≡ places 0 (pieces bs) → start ≡ slice_index (0 ∷ es) i
+cut_out : (bs es : List ℕ) (i start end : ℕ) → es ≡ ends_from 0 (pieces bs) → start ≡ slice_index (0 ∷ es) i
     → end ≡ slice_index es i → i < length (lines_of bs)
     → take (end - start) (drop start bs) ≡ slice_index_or (pieces bs) i []
 cut_out bs es i start end cut first last l =

@@ -1,15 +1,16 @@
 use Rattle.std.proofs.Common.{◌≡◌, ℕ, List, ◌∷◌, ◌-◌, ◌<◌, ◌≤◌, length, take, drop, slice_index, ap, ◌∙◌, arith}
 use Rattle.std.proofs.lemmas.List.{take_rest}
-use Rattle.qm_io.specs.Lines.{lines_of, pieces, places, tail_of}
+use Rattle.def_io.specs.Lines.{lines_of, pieces, tail_of}
+use Rattle.qm_io.specs.Ends.{ends_from}
 use Rattle.qm_io.proofs.Pieces.{begin-within, end-there, piece-there, tail-cut}
 use Rattle.qm_io.proofs.lines.tail_at.Goals as goal
 
-starts_within : (bs es : List ℕ) (i start : ℕ) → es ≡ places 0 (pieces bs) → start ≡ slice_index (0 ∷ es) i
+starts_within : (bs es : List ℕ) (i start : ℕ) → es ≡ ends_from 0 (pieces bs) → start ≡ slice_index (0 ∷ es) i
     → i < length (lines_of bs) → start ≤ length bs
 starts_within bs es i start cut is l =
     omega (arith, is ∙ ap (λ (xs : List ℕ). slice_index (0 ∷ xs) i) cut, begin-within bs i (piece-there bs i l))
 
-is_tail : (bs es : List ℕ) (i start : ℕ) → es ≡ places 0 (pieces bs) → start ≡ slice_index (0 ∷ es) i
+is_tail : (bs es : List ℕ) (i start : ℕ) → es ≡ ends_from 0 (pieces bs) → start ≡ slice_index (0 ∷ es) i
     → i < length (lines_of bs) → take (length bs - start) (drop start bs) ≡ tail_of i bs
 is_tail bs es i start cut is l =
     take_rest bs start

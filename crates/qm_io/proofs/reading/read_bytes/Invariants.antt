@@ -1,5 +1,5 @@
 use Rattle.std.proofs.Common.{◌≡◌, ◌≤◌, ◌<◌, ◌+◌, ◌-◌, length}
-use Rattle.qm_io.specs.Moves.{gave}
+use Rattle.def_io.specs.Moves.{gave}
 use Rattle.qm_io.proofs.reading.read_bytes.Given as goal
 
 abbrev pub invariant-pieces : goal.invariant-pieces

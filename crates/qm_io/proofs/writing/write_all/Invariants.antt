@@ -1,5 +1,5 @@
 use Rattle.std.proofs.Common.{◌≡◌, ◌≤◌, ◌-◌, length, drop, take, ℕ}
-use Rattle.qm_io.specs.Moves.{took}
+use Rattle.def_io.specs.Moves.{took}
 use Rattle.qm_io.proofs.writing.write_all.Given as goal
 
 abbrev pub invariant-loop-rest : goal.invariant-loop-rest

@@ -1,5 +1,5 @@
 use Rattle.std.proofs.Common.{◌+◌, ◌∙◌, sym, ap, length, ◌++◌}
-use Rattle.qm_io.specs.Lines.{lines_of}
+use Rattle.def_io.specs.Lines.{lines_of}
 use Rattle.qm_obj.proofs.JoinLemmas.{joined_last, joining_more}
 use Rattle.qm_obj.proofs.joining.join.Goals as goal
 

@@ -1,5 +1,5 @@
 use Rattle.std.proofs.Common.{◌-◌}
-use Rattle.qm_io.specs.Lines.{lines_of}
+use Rattle.def_io.specs.Lines.{lines_of}
 use Rattle.qm_obj.proofs.JoinLemmas.{IsJoining}
 use Rattle.qm_obj.proofs.joining.join.Given as goal
 

@@ -4,9 +4,9 @@ use Rattle.std.proofs.lemmas.Bool.{and_from, and_left, and_right, lt-leb}
 use Rattle.std.proofs.lemmas.List.{take_all}
 use Rattle.std.proofs.lemmas.List.Folds.{list_all_at, list_all_more}
 use Rattle.def_text.specs.Decimal.{is_decimal}
-use Rattle.def_text.specs.Reading.{is_place_count}
-use Rattle.qm_obj.specs.Places.{all_some, coordinate}
-use Rattle.qm_obj.proofs.LineLemmas.{place_words, vertex_far, vertex_place, vertex_syntax}
+use Rattle.def_text.specs.Reading.{is_position_count}
+use Rattle.qm_obj.specs.Positions.{all_some, coordinate}
+use Rattle.qm_obj.proofs.LineLemmas.{position_words, vertex_far, vertex_position, vertex_syntax}
 use Rattle.def_text.specs.Words.{words}
 use Rattle.qm_obj.specs.Lines.{uncommented}
 use Rattle.qm_obj.proofs.WordLemmas.{IsNext, next_is, next_none, words_few, uncommented_short, filled_more, filled_all, some_from, none_from}
@@ -50,27 +50,27 @@ returns-then-not-is_right_count c =
     let read : length (words (uncommented c.args.text.now)) ≤ c.words.count = next_none _ _ _ _ (sym c.next_word.ensures.first ∙ c.words.invariant.rest_is) (sym c.is_empty.ensures ∙ c.if-is_empty.true) in
     let many : length (words (uncommented c.args.text.now)) ≡ c.words.count = omega (arith, c.words.invariant.within) in
     let few : leb (2 ^ 21) c.args.vertices ≡ false = lt-leb _ _ (omega arith) in
-    let other : is_place_count (length (words (uncommented c.args.text.now))) ≡ false = ap is_place_count many ∙ sym c.is_right_count.ensures ∙ c.if-not-is_right_count.true in
+    let other : is_position_count (length (words (uncommented c.args.text.now))) ≡ false = ap is_position_count many ∙ sym c.is_right_count.ensures ∙ c.if-not-is_right_count.true in
     vertex_syntax c.args.line c.args.vertices (words (uncommented c.args.text.now)) few (and_left _ _ other)
 
-pub returns-in-Some-read_place : goal.returns-in-Some-read_place
-returns-in-Some-read_place c =
+pub returns-in-Some-read_position : goal.returns-in-Some-read_position
+returns-in-Some-read_position c =
     let read : length (words (uncommented c.args.text.now)) ≤ c.words.count = next_none _ _ _ _ (sym c.next_word.ensures.first ∙ c.words.invariant.rest_is) (sym c.is_empty.ensures ∙ c.if-is_empty.true) in
     let many : length (words (uncommented c.args.text.now)) ≡ c.words.count = omega (arith, c.words.invariant.within) in
     let few : leb (2 ^ 21) c.args.vertices ≡ false = lt-leb _ _ (omega arith) in
-    let right : is_place_count c.words.count ≡ true = sym c.is_right_count.ensures ∙ c.if-not-is_right_count.false in
+    let right : is_position_count c.words.count ≡ true = sym c.is_right_count.ensures ∙ c.if-not-is_right_count.false in
     let passed : list_all is_decimal (words (uncommented c.args.text.now)) ≡ true = ap (list_all is_decimal) (sym (take_all c.words.count (words (uncommented c.args.text.now)) read)) ∙ c.words.invariant.passed in
-    let three : 3 ≤ c.words.count = place_words c.words.count right in
+    let three : 3 ≤ c.words.count = position_words c.words.count right in
     let slots : c.words.slots ≡ map coordinate (take 3 (words (uncommented c.args.text.now))) = filled_all coordinate (words (uncommented c.args.text.now)) c.words.count 3 c.words.slots three (omega arith) c.words.invariant.filled in
-    vertex_place c.args.line c.args.vertices (words (uncommented c.args.text.now)) c.in-Some-read_place.place few (and_from _ _ (ap is_place_count many ∙ right) passed) (ap all_some (sym slots) ∙ sym c.read_place.ensures ∙ c.in-Some-read_place.is)
+    vertex_position c.args.line c.args.vertices (words (uncommented c.args.text.now)) c.in-Some-read_position.position few (and_from _ _ (ap is_position_count many ∙ right) passed) (ap all_some (sym slots) ∙ sym c.read_position.ensures ∙ c.in-Some-read_position.is)
 
 pub returns-in-None : goal.returns-in-None
 returns-in-None c =
     let read : length (words (uncommented c.args.text.now)) ≤ c.words.count = next_none _ _ _ _ (sym c.next_word.ensures.first ∙ c.words.invariant.rest_is) (sym c.is_empty.ensures ∙ c.if-is_empty.true) in
     let many : length (words (uncommented c.args.text.now)) ≡ c.words.count = omega (arith, c.words.invariant.within) in
     let few : leb (2 ^ 21) c.args.vertices ≡ false = lt-leb _ _ (omega arith) in
-    let right : is_place_count c.words.count ≡ true = sym c.is_right_count.ensures ∙ c.if-not-is_right_count.false in
+    let right : is_position_count c.words.count ≡ true = sym c.is_right_count.ensures ∙ c.if-not-is_right_count.false in
     let passed : list_all is_decimal (words (uncommented c.args.text.now)) ≡ true = ap (list_all is_decimal) (sym (take_all c.words.count (words (uncommented c.args.text.now)) read)) ∙ c.words.invariant.passed in
-    let three : 3 ≤ c.words.count = place_words c.words.count right in
+    let three : 3 ≤ c.words.count = position_words c.words.count right in
     let slots : c.words.slots ≡ map coordinate (take 3 (words (uncommented c.args.text.now))) = filled_all coordinate (words (uncommented c.args.text.now)) c.words.count 3 c.words.slots three (omega arith) c.words.invariant.filled in
-    vertex_far c.args.line c.args.vertices (words (uncommented c.args.text.now)) few (and_from _ _ (ap is_place_count many ∙ right) passed) (ap all_some (sym slots) ∙ sym c.read_place.ensures ∙ c.in-None.is)
+    vertex_far c.args.line c.args.vertices (words (uncommented c.args.text.now)) few (and_from _ _ (ap is_position_count many ∙ right) passed) (ap all_some (sym slots) ∙ sym c.read_position.ensures ∙ c.in-None.is)

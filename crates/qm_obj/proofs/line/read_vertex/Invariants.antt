@@ -1,7 +1,7 @@
 use Rattle.std.proofs.Common.{◌≡◌, ◌≤◌, true, length, take, drop}
 use Rattle.std.specs.List.{list_all}
 use Rattle.def_text.specs.Decimal.{is_decimal}
-use Rattle.qm_obj.specs.Places.{coordinate}
+use Rattle.qm_obj.specs.Positions.{coordinate}
 use Rattle.def_text.specs.Words.{words}
 use Rattle.qm_obj.specs.Lines.{IsFilled, uncommented}
 use Rattle.qm_obj.proofs.line.read_vertex.Given as goal

@@ -1,4 +1,4 @@
-use Rattle.qm_io.specs.Lines.{lines_of}
+use Rattle.def_io.specs.Lines.{lines_of}
 use Rattle.qm_obj.proofs.ReadLemmas.{at_few, at_next, at_positive, at_refused, at_sizes, finished_few, finished_refused, finished_soup}
 use Rattle.qm_obj.proofs.read.read_obj.Goals as goal
 

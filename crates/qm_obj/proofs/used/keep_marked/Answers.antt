@@ -4,19 +4,19 @@ use Rattle.std.proofs.lemmas.List.{length_push, get_or_push, get_or_append_left}
 use Rattle.qm_obj.specs.Kept.{chosen, IsKept}
 use Rattle.qm_obj.proofs.UsedLemmas.{kept_mark, kept_skip}
 use Rattle.qm_obj.proofs.used.keep_marked.Goals as goal
-use Rattle.qm_obj.proofs.used.keep_marked.Goals.{then-marks-k+in_ok-keep_place, else-marks-k}
+use Rattle.qm_obj.proofs.used.keep_marked.Goals.{then-marks-k+in_ok-keep_position, else-marks-k}
 
 pub loop-k-preserved : goal.loop-k-preserved
 loop-k-preserved c =
     let pushed : c.push.new.self.items ≡ c.loop-k.vertices.items ++ length c.loop-k.names.items ∷ [] = grind (arith, common_steps) in
-    let before : IsKept c.args.marks.now c.args.places.now.items c.loop-k.places.items c.loop-k.names.items c.loop-k.k = c.loop-k.invariant.kept in
+    let before : IsKept c.args.marks.now c.args.positions.now.items c.loop-k.positions.items c.loop-k.names.items c.loop-k.k = c.loop-k.invariant.kept in
     let count : length c.loop-k.vertices.items ≡ c.loop-k.k = c.loop-k.invariant.count in
     record {
       kept = elim c.if-marks-k.branch [
-        | then-marks-k+in_ok-keep_place w ↦ rw (w.places-is, w.names-is, w.in_ok-keep_place.ensures.places, w.in_ok-keep_place.ensures.names)
-            (kept_mark c.args.marks.now c.args.places.now.items c.loop-k.places.items c.loop-k.names.items c.loop-k.k c.loop-k-test.true w.if-marks-k.true before)
-        | else-marks-k w ↦ rw (w.places-is, w.names-is)
-            (kept_skip c.args.marks.now c.args.places.now.items c.loop-k.places.items c.loop-k.names.items c.loop-k.k w.if-marks-k.false before)
+        | then-marks-k+in_ok-keep_position w ↦ rw (w.positions-is, w.names-is, w.in_ok-keep_position.ensures.positions, w.in_ok-keep_position.ensures.names)
+            (kept_mark c.args.marks.now c.args.positions.now.items c.loop-k.positions.items c.loop-k.names.items c.loop-k.k c.loop-k-test.true w.if-marks-k.true before)
+        | else-marks-k w ↦ rw (w.positions-is, w.names-is)
+            (kept_skip c.args.marks.now c.args.positions.now.items c.loop-k.positions.items c.loop-k.names.items c.loop-k.k w.if-marks-k.false before)
       ];
       count = ap length pushed ∙ length_push c.loop-k.vertices.items (length c.loop-k.names.items) ∙ ap (λ n. n + 1) count;
       vertices = rw pushed (below_more (λ j. get_or (c.loop-k.vertices.items ++ length c.loop-k.names.items ∷ []) j 0 ≡ length (chosen c.args.marks.now j)) c.loop-k.k

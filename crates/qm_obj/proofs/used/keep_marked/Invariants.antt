@@ -4,7 +4,7 @@ use Rattle.qm_obj.proofs.used.keep_marked.Given as goal
 
 abbrev pub invariant-loop-k : goal.invariant-loop-k
 invariant-loop-k l = record {
-  kept : IsKept l.marks l.initial.places.items l.places.items l.names.items l.k;
+  kept : IsKept l.marks l.initial.positions.items l.positions.items l.names.items l.k;
   count : length l.vertices.items ≡ l.k;
   vertices : (j : ℕ) → j < l.k → get_or l.vertices.items j 0 ≡ length (chosen l.marks j);
 }

@@ -1,5 +1,5 @@
 use Rattle.std.proofs.Common.{◌≡◌, ℕ, List, sym, ◌∙◌, ap}
-use Rattle.qm_io.specs.Lines.{lines_of}
+use Rattle.def_io.specs.Lines.{lines_of}
 use Rattle.def_text.specs.Text.{text_soup}
 use Rattle.qm_top.proofs.Refusals.{text_refused, whole_range}
 use Rattle.qm_top.proofs.tidy.read_soup.Goals as goal

@@ -1,7 +1,7 @@
 use Rattle.std.proofs.Common.{◌≡◌, ℕ, List, ◌+◌, ◌-◌, ◌≤◌, ◌++◌, Option, Some, take, drop, length, min, ap, sym, ◌∙◌, arith}
 use Rattle.std.proofs.lemmas.List.{drop-drop, length-take-le, take-append-drop, take-append-le, take_rest}
 use Rattle.std.proofs.Math.Seq.{take-append_seam}
-use Rattle.qm_io.specs.Memory.{Feed}
+use Rattle.def_io.specs.Memory.{Feed}
 use Rattle.qm_io.proofs.memory.MemSourceSource.read.Goals as goal
 
 -- What was copied to the front of the buffer, and the rest behind it, are what was left.

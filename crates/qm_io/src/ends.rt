@@ -1,10 +1,12 @@
 ghost use Rattle.std.specs.Prelude.{◌≡◌, ◌≤◌, ◌<◌, ◌-◌, ◌^◌, ◌++◌, ◌∷◌, [], length, take, drop, IfOk};
-ghost use Rattle.qm_io.specs.Lines.{pieces, places};
+ghost use Rattle.def_io.specs.Lines.{pieces};
+ghost use Rattle.qm_io.specs.Ends.{ends_from};
 
+use def_io::LINE_FEED;
 use memchr::memchr;
 use std::alloc::{AllocError, Global};
 
-/// The place after the piece that begins at `start`.
+/// The position after the piece that begins at `start`.
 fn end_of_piece(bytes: &[u8], start: usize) -> usize
     requires { start < length bytes.now }
     ensures more { start < result }
@@ -12,16 +14,16 @@ fn end_of_piece(bytes: &[u8], start: usize) -> usize
     ensures first { pieces (drop start bytes.now)
         ≡ take (result - start) (drop start bytes.now) ∷ pieces (drop result bytes.now) }
 {
-    match memchr(b'\n', &bytes[start..]) {
+    match memchr(LINE_FEED, &bytes[start..]) {
         Some(ahead) => start + ahead + 1,
         None => bytes.len(),
     }
 }
 
-/// The place after each piece of the text.
+/// The position after each piece of the text.
 pub fn ends_of(alloc: Global, bytes: &[u8]) -> Result<Vec<u32>, AllocError>
     requires { length bytes.now < 2 ^ 32 }
-    ensures { IfOk result (λ ends. ends.items ≡ places 0 (pieces bytes.now)) }
+    ensures { IfOk result (λ ends. ends.items ≡ ends_from 0 (pieces bytes.now)) }
 {
     let mut ends = Vec::new(alloc);
     let mut at = 0;

@@ -1,6 +1,6 @@
 use thiserror::Error;
 
-/// Why a word is not read.
+/// Why a word is not read as a decimal.
 #[derive(Clone, Copy, Debug, PartialEq, Eq, Error)]
 pub enum DecFail {
     #[error("not a decimal")]

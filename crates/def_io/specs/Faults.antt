@@ -2,7 +2,7 @@
 use Rattle.std.specs.Prelude.{◌≡◌, ◌≤◌, ℕ, ◌+◌, ◌-◌, ◌^◌, min, Result, OnOk, OnErr}
 
 -- A count of faults is greater now than it was before, or stands at the last value of a `u64`.
-abbrev pub Rose : ℕ → ℕ → Type 0
+abbrev pub Rose : (before now : ℕ) → Type 0
 Rose before now = min (before + 1) (2 ^ 64 - 1) ≤ now
 
 -- The count never falls, stays where the call succeeds, and rises where it fails.

@@ -2,9 +2,9 @@ use Rattle.std.proofs.Common.{◌≡◌, ℕ, suc, List, ◌+◌, ◌-◌, ◌<�
 use Rattle.std.proofs.lemmas.List.{take_rest, drop-drop}
 use Rattle.std.proofs.Math.Seq.{drop-length}
 use Rattle.memchr.specs.Find.{Nowhere, NoneBefore, Passes, is_byte}
-use Rattle.qm_io.specs.Lines.{pieces}
+use Rattle.def_io.specs.Lines.{pieces}
 use Rattle.qm_io.proofs.Pieces.{pieces-first, pieces-none}
-use Rattle.qm_io.proofs.places.end_of_piece.Goals as goal
+use Rattle.qm_io.proofs.ends.end_of_piece.Goals as goal
 
 -- The piece ends behind the LF that was found.
 ends_behind : (bs rest : List ℕ) (start k n : ℕ) → rest ≡ drop start bs

@@ -1,6 +1,6 @@
 ghost use Rattle.std.specs.Prelude.{◌≡◌, Some, None, if◌then◌else◌};
 ghost use Rattle.def_text.specs.Decimal.{is_decimal};
-ghost use Rattle.qm_obj.specs.Places.{all_some, coordinate};
+ghost use Rattle.qm_obj.specs.Positions.{all_some, coordinate};
 
 use def_text::Micro;
 use qm_dec::{DecFail, read_micro};
@@ -17,7 +17,7 @@ pub(crate) fn read_coordinate(word: &[u8]) -> Option<Option<Micro>>
 }
 
 /// Three coordinates, where none is out of range.
-pub(crate) fn read_place(slots: [Option<Micro>; 3]) -> Option<[Micro; 3]>
+pub(crate) fn read_position(slots: [Option<Micro>; 3]) -> Option<[Micro; 3]>
     ensures { result ≡ all_some slots }
 {
     match slots {

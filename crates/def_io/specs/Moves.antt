@@ -1,0 +1,28 @@
+-- Bytes that leave a source and bytes that a sink takes, where the stream tells them.
+use Rattle.std.specs.Prelude.{◌≡◌, ℕ, [], ◌++◌, ◌<◌, Some, None, take, length}
+use Rattle.std.specs.Option.{option_map}
+use Rattle.def_io.specs.Bytes.{Bytes, Told}
+
+-- What a source held before it gave a piece, by what it holds now.
+abbrev pub gave : (piece : Bytes) (now : Told) → Told
+gave piece now = option_map (λ rest. piece ++ rest) now
+
+-- What a sink has taken after a piece, by what it had taken before.
+abbrev pub took : (before : Told) (piece : Bytes) → Told
+took before piece = option_map (λ all. all ++ piece) before
+
+-- Nothing is left, where the source tells what is left.
+abbrev pub IsEmptied : (left : Told) → Type 0
+IsEmptied None = Unit {0}
+IsEmptied (Some rest) = rest ≡ []
+
+-- The sink took some front of the piece.
+pub record TookFront (before now : Told) (piece : Bytes) : Type 0 where
+  pub count : ℕ
+  pub is : now ≡ took before (take count piece)
+
+-- The source gave more bytes than the limit.
+pub record GaveMore (limit : ℕ) (before now : Told) : Type 0 where
+  pub piece : Bytes
+  pub many : limit < length piece
+  pub moved : before ≡ gave piece now
