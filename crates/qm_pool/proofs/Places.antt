@@ -1,9 +1,9 @@
 -- What taking, giving and writing a node do to the identities that are not live.
-use Rattle.std.proofs.Common.{◌≡◌, ◌≢◌, ℕ, ◌+◌, ◌-◌, ◌*◌, ◌<◌, ◌≤◌, ◌^◌, ◌⊎◌, List, length, get_or, cond, count_by, is_some, Option, Some, None, refl, sym, ◌∙◌, ap, subst, inl, inr, replicate, length-set, get_or-set_same, get_or-set_other, arith}
+use Rattle.std.proofs.Common.{◌≡◌, ◌≢◌, ℕ, ◌+◌, ◌-◌, ◌*◌, ◌<◌, ◌≤◌, ◌^◌, ◌⊎◌, List, length, get_or, cond, count_by, is_some, Option, Some, None, sym, ◌∙◌, ap, subst, inl, inr, replicate, length-set, get_or-set_same, get_or-set_other, arith}
 use Rattle.std.proofs.Math.ListN.{set}
 use Rattle.std.proofs.lemmas.Bool.{cases_eq}
 use Rattle.std.proofs.lemmas.List.{get_or-replicate, length-replicate}
-use Rattle.std.proofs.lemmas.List.Sums.{sum_by-set, count_by-le-length}
+use Rattle.std.proofs.lemmas.List.Sums.{sum_by-set}
 use Rattle.std.proofs.lemmas.List.Folds.{sum_by-replicate}
 use Rattle.std.proofs.lemmas.Option.{slice_get_within, get_or_from_slice_get, slice_get-get_or}
 use Rattle.std.specs.Prelude.{slice_get}
@@ -43,7 +43,7 @@ still_free nodes free left k old new are at =
       all = omega (arith, are.all);
       low = λ j l. omega (arith, are.low j l);
       empty = λ j l. get_or-set_other nodes k (get_or free j 0) (Some new) None (other is j l) ∙ are.empty j l;
-      apart = are.apart
+      apart = are.apart;
     }
   where
     other : get_or nodes k None ≡ Some old → (j : ℕ) → j < left → get_or free j 0 ≢ k
@@ -63,7 +63,7 @@ taken_free nodes free left id n are some id_is =
       all = omega (arith, are.all);
       low = λ j l. omega (arith, are.low j (omega arith));
       empty = λ j l. get_or-set_other nodes id (get_or free j 0) (Some n) None (λ e. are.apart j (left - 1) (omega arith) (omega arith) (λ x. absurd (omega arith)) (e ∙ id_is)) ∙ are.empty j (omega arith);
-      apart = λ j k lj lk. are.apart j k (omega arith) (omega arith)
+      apart = λ j k lj lk. are.apart j k (omega arith) (omega arith);
     }
 
 -- An identity that ends goes onto the stack.
@@ -78,23 +78,31 @@ given_free nodes free left id n are at =
       few = omega (arith, are.few);
       all = omega (arith, are.all);
       low = λ j l. elim (cases_eq j left) [ inl e ↦ (let p : get_or (set free left id) j 0 ≡ id = top j e in omega (arith, low)) | inr ne ↦ (let p : get_or (set free left id) j 0 ≡ get_or free j 0 = under j ne in let q : get_or free j 0 < length nodes = are.low j (omega arith) in omega arith) ];
-      empty = λ j l. elim (cases_eq j left) [ inl e ↦ ap (λ x. get_or (set nodes id None) x None) (top j e) ∙ get_or-set_same nodes id None None low
-        | inr ne ↦ ap (λ x. get_or (set nodes id None) x None) (under j ne) ∙ (get_or-set_other nodes id (get_or free j 0) None None (other j (omega arith)) ∙ are.empty j (omega arith)) ];
-      apart = λ j k lj lk ne. by_places j k lj lk ne (cases_eq j left) (cases_eq k left)
+      empty = λ j l. elim (cases_eq j left) [
+        | inl e ↦ ap (λ x. get_or (set nodes id None) x None) (top j e) ∙ get_or-set_same nodes id None None low
+        | inr ne ↦ ap (λ x. get_or (set nodes id None) x None) (under j ne) ∙ (get_or-set_other nodes id (get_or free j 0) None None (other j (omega arith)) ∙ are.empty j (omega arith))
+      ];
+      apart = λ j k lj lk ne. by_places j k lj lk ne (cases_eq j left) (cases_eq k left);
     }
   where
     low : id < length nodes
     low = slice_get_within nodes id (Some n) at
+
     is : get_or nodes id None ≡ Some n
     is = get_or_from_slice_get nodes id (Some n) None at
+
     left_is : left < length free
     left_is = left_low nodes free left id n are at
+
     top : (j : ℕ) → j ≡ left → get_or (set free left id) j 0 ≡ id
     top j e = ap (λ x. get_or (set free left id) x 0) e ∙ get_or-set_same free left id 0 left_is
+
     under : (j : ℕ) → j ≢ left → get_or (set free left id) j 0 ≡ get_or free j 0
     under j ne = get_or-set_other free left j id 0 ne
+
     other : (j : ℕ) → j < left → get_or free j 0 ≢ id
     other j l e = let clash : ◌≡◌ {A = Option Node} (Some n) None = sym is ∙ (ap (λ x. get_or nodes x None) (sym e) ∙ are.empty j l) in absurd (cc clash)
+
     by_places : (j k : ℕ) → j < left + 1 → k < left + 1 → j ≢ k → (j ≡ left) ⊎ (j ≢ left) → (k ≡ left) ⊎ (k ≢ left) → get_or (set free left id) j 0 ≢ get_or (set free left id) k 0
     by_places j k lj lk ne (inl a) (inl b) e = absurd (ne (a ∙ sym b))
     by_places j k lj lk ne (inl a) (inr b) e = other k (omega arith) (sym (under k b) ∙ (sym e ∙ top j a))
@@ -112,7 +120,7 @@ fresh_free nodes free room few is size each =
       all = omega arith;
       low = λ k l. (let e : get_or free k 0 ≡ k = each k l in omega arith);
       empty = λ k l. ap (λ x. get_or nodes x None) (each k l) ∙ (ap (λ xs. get_or xs k None) is ∙ get_or-replicate room k None None l);
-      apart = λ j k lj lk ne e. ne (sym (each j lj) ∙ (e ∙ each k lk))
+      apart = λ j k lj lk ne e. ne (sym (each j lj) ∙ (e ∙ each k lk));
     }
 
 -- What is found at an identity that is taken.
@@ -122,9 +130,10 @@ taken_empty nodes free left id are some id_is =
     let was : get_or nodes id None ≡ None = subst (λ x. get_or nodes x None ≡ None) (sym id_is) (are.empty (left - 1) (omega arith)) in
     slice_get-get_or nodes id None low ∙ ap (λ (o : Option Node). Some o) was
 
--- What is found where a node was written.
-pub written : (nodes : List (Option Node)) (k : ℕ) (y : Option Node) (old : Option Node) → slice_get nodes k ≡ Some old → slice_get (set nodes k y) k ≡ Some y
-written nodes k y old at =
+-- A node that was written lives.
+pub written : (nodes new : List (Option Node)) (k : ℕ) (n : Node) (old : Option Node) → slice_get nodes k ≡ Some old → new ≡ set nodes k (Some n) → (x : Node) × (slice_get new k ≡ Some (Some x))
+written nodes new k n old at is =
     let low : k < length nodes = slice_get_within nodes k old at in
-    let size : length (set nodes k y) ≡ length nodes = length-set nodes k y in
-    slice_get-get_or (set nodes k y) k None (omega arith) ∙ ap (λ (o : Option Node). Some o) (get_or-set_same nodes k y None low)
+    let size : length (set nodes k (Some n)) ≡ length nodes = length-set nodes k (Some n) in
+    let found : slice_get (set nodes k (Some n)) k ≡ Some (Some n) = slice_get-get_or (set nodes k (Some n)) k None (omega arith) ∙ ap (λ (o : Option Node). Some o) (get_or-set_same nodes k (Some n) None low) in
+    (n, subst (λ (xs : List (Option Node)). slice_get xs k ≡ Some (Some n)) (sym is) found)

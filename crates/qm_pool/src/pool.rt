@@ -37,7 +37,9 @@ impl Model for Pool {
     ghost use Rattle.qm_pool.specs.declared.pool.Node.{Node};
 
     ghost Value = { List (Option Node) };
+
     ghost view = { λ p. p.nodes.items };
+
     ghost invariant = { λ p. AreFree p.nodes.items p.free.items p.left };
 }
 

@@ -10,7 +10,6 @@ const NODE: Node = Node {
 };
 
 /// Takes a node and gives it back; whether it was the same.
-#[tactic(auto, using(crate::proofs::Places::written))]
 fn comes_back(pool: &mut Pool) -> bool {
     match pool.take(NODE) {
         Some(id) => pool.give(id) == NODE,

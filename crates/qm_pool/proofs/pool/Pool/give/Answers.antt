@@ -1,4 +1,4 @@
-use Rattle.std.proofs.Common.{◌+◌, ◌<◌, length, arith}
+use Rattle.std.proofs.Common.{◌<◌, length, arith}
 use Rattle.qm_pool.proofs.Places.{left_low, given_free}
 use Rattle.qm_pool.proofs.pool.Pool.give.Goals as goal
 

@@ -1,4 +1,4 @@
-use Rattle.std.proofs.Common.{◌≡◌, ◌-◌, ◌<◌, ◌∙◌, None, get_or, ap, sym, subst, slice_set, List, Option, Some, arith}
+use Rattle.std.proofs.Common.{◌≡◌, ◌-◌, ◌<◌, ◌∙◌, None, get_or, ap, subst, slice_set, List, Option, Some, arith}
 use Rattle.std.proofs.lemmas.Grind.{get_or_default_zero}
 use Rattle.std.specs.Prelude.{slice_get}
 use Rattle.qm_pool.proofs.Places.{taken_free, taken_empty}
