@@ -1,0 +1,73 @@
+-- Layouts as data: neither a mesh nor a length is meant.
+use Rattle.std.specs.Prelude.{◌≡◌, ℕ, zero, suc, ◌-◌, ◌<◌, cond, not}
+use Rattle.def_layout.specs.declared.tmesh.SideArc.{SideArc}
+
+-- The sides of a patch.
+pub data Way : Type 0 where
+  south : Way
+  east : Way
+  north : Way
+  west : Way
+
+-- The next side, counter-clockwise.
+abbrev pub after : (side : Way) → Way
+after south = east
+after east = north
+after north = west
+after west = south
+
+-- The side before it.
+abbrev pub before : (side : Way) → Way
+before south = west
+before east = south
+before north = east
+before west = north
+
+-- A layout has so many nodes, arcs and patches. Each arc runs from its first node to its last one. A side of a patch
+-- uses so many arcs, one after the other, counter-clockwise, each in its own direction or against it.
+pub record Layout : Type 0 where
+  pub nodes : ℕ
+  pub arcs : ℕ
+  pub patches : ℕ
+  pub first : (arc : ℕ) → ℕ
+  pub last : (arc : ℕ) → ℕ
+  pub many : (patch : ℕ) (side : Way) → ℕ
+  pub use_at : (patch : ℕ) (side : Way) (at : ℕ) → SideArc
+
+-- The node where an arc in use begins.
+abbrev pub start_of : (layout : Layout) (arc : SideArc) → ℕ
+start_of layout arc = cond arc.forward (layout.first arc.arc) (layout.last arc.arc)
+
+-- The node where it ends.
+abbrev pub end_of : (layout : Layout) (arc : SideArc) → ℕ
+end_of layout arc = cond arc.forward (layout.last arc.arc) (layout.first arc.arc)
+
+-- One arc used in both directions.
+pub record AreReverse (one other : SideArc) : Type 0 where
+  pub arc : other.arc ≡ one.arc
+  pub turned : other.forward ≡ not one.forward
+
+-- A place where a side uses an arc: the side of a patch, and the number of the arc on it.
+pub record Slot : Type 0 where
+  pub patch : ℕ
+  pub side : Way
+  pub at : ℕ
+
+-- A slot of a layout.
+pub record IsSlot (layout : Layout) (slot : Slot) : Type 0 where
+  pub patch_low : slot.patch < layout.patches
+  pub low : slot.at < layout.many slot.patch slot.side
+
+-- The arc that is used there.
+abbrev pub use_of : (layout : Layout) (slot : Slot) → SideArc
+use_of layout slot = layout.use_at slot.patch slot.side slot.at
+
+-- The slot before that at a place of a side, going round the patch.
+abbrev pub slot_before : (layout : Layout) (patch : ℕ) (side : Way) (at : ℕ) → Slot
+slot_before layout patch side zero =
+    record { patch = patch; side = before side; at = layout.many patch (before side) - 1 }
+slot_before layout patch side (suc at) = record { patch = patch; side = side; at = at }
+
+-- The arc that is used before a slot, going round the patch.
+abbrev pub use_before : (layout : Layout) (slot : Slot) → SideArc
+use_before layout slot = use_of layout (slot_before layout slot.patch slot.side slot.at)

@@ -1,0 +1,22 @@
+use std::alloc::Global;
+
+/// A straight run of darts from node to node. `first` and `last` are the places of its ends in the list of nodes.
+#[derive(Debug, Drop)]
+pub struct TArc {
+    pub first: u32,
+    pub last: u32,
+    pub darts: Vec<u32>,
+}
+
+/// An arc on the side of a patch, and whether it runs in the side's direction.
+#[derive(Clone, Copy, Debug, PartialEq, Eq)]
+pub struct SideArc {
+    pub arc: u32,
+    pub forward: bool,
+}
+
+/// The arcs of one side of a patch, counter-clockwise.
+#[derive(Debug, Drop)]
+pub struct Side {
+    pub arcs: Vec<SideArc>,
+}
