@@ -56,8 +56,8 @@ def openmesh(program, text, room):
 
 
 def main():
-    subprocess.run([f"{ROOT}/tools/build.sh"], check=True)
-    quadq = [f"{ROOT}/crates/qm_prog/out/qm_prog", "tidy"]
+    subprocess.run([f"{ROOT}/tools/build.py"], check=True)
+    quadq = [f"{ROOT}/build/quadq", "tidy"]
     with tempfile.TemporaryDirectory() as room:
         peer = f"{room}/tidy"
         subprocess.run(["g++", "-O2", "-std=c++20", "-o", peer, f"{HERE}/tidy.cpp"], check=True)

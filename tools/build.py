@@ -1,0 +1,349 @@
+#!/usr/bin/env python3
+"""Proves and builds quadq where its sources are not as they were at the last build, and tells on standard error how
+far it is.
+
+usage: tools/build.py                    builds where need be; its status is 0 when build/quadq is current, else 70
+       tools/build.py --run WORD..       the same, and then runs the program with these words in its own place
+       tools/build.py --sum              prints the checksum of the sources
+       tools/build.py --keep SUM         takes what the gate has built, where the sources still have this checksum
+
+The folder build/ has the program, the list of its sources (tools/sources.sh), their checksum, and the last build's log.
+"""
+
+import fcntl
+import hashlib
+import os
+import pathlib
+import re
+import select
+import shutil
+import signal
+import subprocess
+import sys
+import time
+
+ROOT = pathlib.Path(__file__).resolve().parent.parent
+BUILD = ROOT / "build"
+PROGRAM = BUILD / "quadq"
+LOG = BUILD / "log"
+MADE = ROOT / "crates/qm_prog/out/qm_prog"
+FAILED = 70
+QUIET_SECONDS = 5
+KIB_A_JOB = 1_500_000
+SHOWN_LINES = 20
+
+
+class Stopped(Exception):
+    """A signal asked this process to end."""
+
+
+def fill_closed_streams():
+    """Opens /dev/null for each closed standard stream, so that no other file takes its place, and returns which."""
+    closed = []
+    for stream in (0, 1, 2):
+        try:
+            os.fstat(stream)
+        except OSError:
+            closed.append(stream)
+            os.open(os.devnull, os.O_RDWR)
+    return closed
+
+
+def say(line):
+    try:
+        os.write(2, f"quadq: {line}\n".encode())
+    except OSError:
+        # Nobody listens.
+        pass
+
+
+def listing():
+    return subprocess.run(["sh", "tools/sources.sh"], cwd=ROOT, stdout=subprocess.PIPE).stdout
+
+
+def checksum():
+    """What the sources say, whatever their times are."""
+    total = hashlib.sha256()
+    paths = [ROOT / "crates.txt", *ROOT.glob("crates/*/src/**/*"), *ROOT.glob("crates/*/specs/**/*")]
+    for path in sorted(paths):
+        if path.is_file():
+            text = path.read_bytes()
+            total.update(f"{path.relative_to(ROOT)} {len(text)}\n".encode())
+            total.update(text)
+    return total.hexdigest()
+
+
+def bytes_of(path):
+    try:
+        return path.read_bytes()
+    except OSError:
+        return None
+
+
+def write(path, content):
+    """Replaces the file as a whole, or not at all."""
+    new = path.with_name(path.name + ".new")
+    try:
+        new.write_bytes(content)
+        new.replace(path)
+    finally:
+        new.unlink(missing_ok=True)
+
+
+def is_current():
+    """Whether the last build's sources were these. Where only their times differ, the list is written anew."""
+    if not os.access(PROGRAM, os.X_OK):
+        return False
+    # The list is made first: what changes after it differs from it at the next start.
+    listed = listing()
+    if bytes_of(BUILD / "sources") == listed:
+        return True
+    if bytes_of(BUILD / "sum") != checksum().encode():
+        return False
+    try:
+        write(BUILD / "sources", listed)
+    except OSError:
+        # A checkout of somebody else: the next start compares again.
+        pass
+    return True
+
+
+def keep(listed, summed):
+    """Takes the program that was made of these sources as the current one."""
+    BUILD.mkdir(exist_ok=True)
+    new = BUILD / "quadq.new"
+    try:
+        shutil.copyfile(MADE, new)
+        new.chmod(0o755)
+        (BUILD / "sources").unlink(missing_ok=True)
+        (BUILD / "sum").unlink(missing_ok=True)
+        new.replace(PROGRAM)
+    finally:
+        new.unlink(missing_ok=True)
+    write(BUILD / "sum", summed.encode())
+    write(BUILD / "sources", listed)
+
+
+def lock():
+    """Waits until no other build of this checkout is running."""
+    held = os.open(__file__, os.O_RDONLY)
+    try:
+        fcntl.flock(held, fcntl.LOCK_EX | fcntl.LOCK_NB)
+    except BlockingIOError:
+        started = time.monotonic()
+        say("another build of this checkout is running; waiting for it")
+        told = started
+        while True:
+            try:
+                fcntl.flock(held, fcntl.LOCK_EX | fcntl.LOCK_NB)
+                break
+            except BlockingIOError:
+                time.sleep(0.2)
+            if time.monotonic() - told > QUIET_SECONDS:
+                told = time.monotonic()
+                say(f"{told - started:.0f} s: still waiting for the other build")
+    except OSError:
+        # This file system has no locks.
+        pass
+
+
+def crates_below(name):
+    """The crate and all those of this repository that it stands on."""
+    uses = {}
+    for line in (ROOT / "crates.txt").read_text().splitlines():
+        crate, _, deps = line.partition("#")[0].partition(":")
+        if crate.split():
+            uses[crate.split()[0]] = deps.split()
+    found, waiting = set(), [name]
+    while waiting:
+        crate = waiting.pop()
+        if crate in uses and crate not in found:
+            found.add(crate)
+            waiting += uses[crate]
+    return found
+
+
+class Progress:
+    """Tells what the prover is at: each crate when it is done, and at least every few seconds something."""
+
+    def __init__(self):
+        self.started = self.told = time.monotonic()
+        self.crates = crates_below("qm_prog")
+        self.done = []
+        self.counted = ""
+
+    def tell(self, what):
+        self.told = time.monotonic()
+        say(f"{self.told - self.started:.0f} s: {what}")
+
+    def read(self, line):
+        if "waiting for" in line:
+            self.tell(line)
+        elif line.startswith("so far: ") and "checked" in line:
+            self.counted = line.removeprefix("so far: ").partition(" checked")[0]
+        elif "::" in line and line.endswith(": proved"):
+            # (these lines come when the crate has been gone through)
+            self.end(line.split()[1].partition("::")[0])
+
+    def end(self, crate):
+        if crate in self.crates and crate not in self.done:
+            self.done.append(crate)
+            self.counted = ""
+            self.tell(f"{crate} is checked, {len(self.done)} of {len(self.crates)} crates")
+
+    def beat(self):
+        if time.monotonic() - self.told > QUIET_SECONDS:
+            self.tell(f"at work on the next crate{f', {self.counted}' if self.counted else ''}")
+
+
+def jobs():
+    """A job a processor, as many as memory holds."""
+    fitting = 8
+    for line in (bytes_of(pathlib.Path("/proc/meminfo")) or b"").splitlines():
+        if line.startswith(b"MemAvailable:"):
+            fitting = int(line.split()[1]) // KIB_A_JOB
+    return max(min(len(os.sched_getaffinity(0)), fitting, 8), 1)
+
+
+def stop(tool):
+    """Ends the prover with all that it has started."""
+    for asked in (signal.SIGTERM, signal.SIGKILL):
+        try:
+            os.killpg(tool.pid, asked)
+        except ProcessLookupError:
+            return
+        try:
+            tool.wait(5)
+        except subprocess.TimeoutExpired:
+            continue
+
+
+def make():
+    """Runs the prover and the compiler over the sources, and returns whether the program was made and answers."""
+    # The empty text is the empty mesh, so this run of the program ends well and prints nothing.
+    words = ["rt", "run", "--jobs", str(jobs()), "--", "tidy"]
+    progress = Progress()
+    with open(LOG, "wb") as log:
+        tool = subprocess.Popen(
+            words,
+            cwd=ROOT / "crates/qm_prog",
+            stdin=subprocess.DEVNULL,
+            stdout=subprocess.PIPE,
+            stderr=subprocess.STDOUT,
+            start_new_session=True,
+        )
+        try:
+            rest = b""
+            while True:
+                ready, _, _ = select.select([tool.stdout], [], [], 1)
+                if ready:
+                    piece = os.read(tool.stdout.fileno(), 65536)
+                    if not piece:
+                        break
+                    log.write(piece)
+                    log.flush()
+                    *lines, rest = (rest + piece).split(b"\n")
+                    for line in lines:
+                        progress.read(line.decode(errors="replace"))
+                progress.beat()
+            return tool.wait() == 0
+        finally:
+            stop(tool)
+
+
+def show_error():
+    """Shows what the prover found wrong, without what it lists besides."""
+    listed = ("checked ", "statements ", "logic", "linked ", "so far: ", "by-macro: ", "only=", "empty contracts: ")
+    lines = LOG.read_text(errors="replace").splitlines()
+    lines = [it for it in lines if not it.startswith(listed) and not it.endswith(": proved") and it.strip()]
+    # (errors of the quick pass over all sources may not be the build's)
+    passed = max((at for at, it in enumerate(lines) if "the quick pass above" in it), default=-1) + 1
+    errors = [at for at, it in enumerate(lines) if at >= passed and re.search(r"\berror\b", it)]
+    first = errors[0] if errors else max(len(lines) - SHOWN_LINES, 0)
+    for line in lines[first : first + SHOWN_LINES]:
+        say(line)
+    say(f"the build failed; its whole log is {LOG}")
+
+
+def build():
+    """Builds where need be, and returns whether the program is current."""
+    if is_current():
+        return True
+    if not shutil.which("rt"):
+        say("not built, and the Rattle kit's command rt is not on the PATH")
+        return False
+    BUILD.mkdir(exist_ok=True)
+    say("proving and building the program; the first time takes minutes")
+    started = time.monotonic()
+    while True:
+        listed, summed = listing(), checksum()
+        is_made = make()
+        if summed == checksum():
+            break
+        say("a source changed meanwhile; building again")
+    if not is_made:
+        show_error()
+        return False
+    keep(listed, summed)
+    say(f"built in {time.monotonic() - started:.0f} s")
+    return True
+
+
+def clear():
+    """Removes what an unfinished build has left."""
+    LOG.unlink(missing_ok=True)
+    try:
+        BUILD.rmdir()
+    except OSError:
+        # There is an earlier build, or nothing.
+        pass
+
+
+def run(words, closed):
+    """Runs the program in the place of this process, with its streams and signals as they were given."""
+    signal.signal(signal.SIGPIPE, signal.SIG_DFL)
+    signal.signal(signal.SIGXFSZ, signal.SIG_DFL)
+    for stream in closed:
+        os.close(stream)
+    os.execv(PROGRAM, [str(PROGRAM), *words])
+
+
+def stopped(number, _):
+    raise Stopped(number)
+
+
+def main(words):
+    closed = fill_closed_streams()
+    if words == ["--sum"]:
+        print(checksum())
+        return 0
+    if words[:1] == ["--keep"]:
+        listed, summed = listing(), checksum()
+        if words[1:] == [summed] and MADE.is_file():
+            keep(listed, summed)
+        return 0
+    signals = (signal.SIGINT, signal.SIGTERM, signal.SIGHUP)
+    before = [signal.signal(it, stopped) for it in signals]
+    try:
+        lock()
+        is_built = build()
+    except Stopped as why:
+        clear()
+        for it in signals:
+            signal.signal(it, signal.SIG_IGN)
+        signal.signal(why.args[0], signal.SIG_DFL)
+        os.kill(os.getpid(), why.args[0])
+    except OSError as error:
+        say(f"the build failed: {error}")
+        is_built = False
+    if not is_built:
+        return FAILED
+    if words[:1] == ["--run"]:
+        for number, handler in zip(signals, before):
+            signal.signal(number, handler)
+        run(words[1:], closed)
+    return 0
+
+
+if __name__ == "__main__":
+    sys.exit(main(sys.argv[1:]))
