@@ -1,0 +1,5 @@
+pub mod Cuts
+pub mod FullCut
+pub mod Grids
+pub mod Laws
+pub mod Trails

@@ -1,0 +1,9 @@
+//! What a cut of a mesh is: the graph that riders trace, full cuts, and the grids of cells that a cut leaves.
+
+#![tactic(auto)]
+
+mod graph;
+mod patch;
+
+pub use graph::{Graph, Rider, Stop};
+pub use patch::Patch;
