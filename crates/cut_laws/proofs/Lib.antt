@@ -1,0 +1,11 @@
+pub mod Darts
+pub mod Folds
+pub mod Pigeon
+pub mod Rows
+pub mod Grown
+pub mod Rising
+pub mod Classes
+pub mod OneList
+pub mod Corners
+pub mod Crosses
+pub mod Spins
