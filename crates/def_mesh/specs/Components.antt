@@ -1,6 +1,33 @@
 -- Components, rings with their seeds, the darts where riders start, and Euler's count.
-use Rattle.std.specs.Prelude.{ℕ, zero, suc, ◌*◌, ◌/◌, ℤ, pos, ◌+ℤ◌, ◌-ℤ◌, Bool, true, false, ◌&&◌, ◌||◌, ◌==◌, nat_lt,
-    List, [], ◌∷◌, map, filter, length, slice_index_or, is_some, Option, Some, None}
+use Rattle.std.specs.Prelude.{
+  ℕ,
+  zero,
+  suc,
+  ◌*◌,
+  ◌/◌,
+  ℤ,
+  pos,
+  ◌+ℤ◌,
+  ◌-ℤ◌,
+  Bool,
+  true,
+  false,
+  ◌&&◌,
+  ◌||◌,
+  ◌==◌,
+  nat_lt,
+  List,
+  [],
+  ◌∷◌,
+  map,
+  filter,
+  length,
+  slice_index_or,
+  is_some,
+  Option,
+  Some,
+  None,
+}
 use Rattle.std.specs.List.{range_with_len, list_any, list_all, position_or_len}
 use Rattle.def_mesh.specs.Faces.{Faces, all_faces}
 use Rattle.def_mesh.specs.Darts.{all_darts, from_of, is_reverse, twin_of}
@@ -24,7 +51,7 @@ is_marked marks f = slice_index_or marks f false
 abbrev pub spread : (faces : Faces) (marks : Marks) → Marks
 spread faces marks =
     map (λ g. is_marked marks g || list_any (λ f. is_marked marks f && share_edge faces f g) (all_faces faces))
-        (all_faces faces)
+    (all_faces faces)
 
 -- The faces at most so many shared edges away from f.
 abbrev pub within : (faces : Faces) (f edges : ℕ) → Marks
@@ -55,7 +82,7 @@ component_numbers faces = map (λ f. place_among (least_faces faces) (least_face
 abbrev pub vertices_in : (faces : Faces) (marks : Marks) → List ℕ
 vertices_in faces marks =
     filter (λ v. list_any (λ d. (from_of faces d == v) && is_marked marks (d / 4)) (all_darts faces))
-        (all_vertices faces)
+    (all_vertices faces)
 
 -- Whether all vertices of a component are regular.
 abbrev pub is_ring : (faces : Faces) (marks : Marks) → Bool
@@ -77,9 +104,10 @@ seeds faces =
 
 -- Whether a rider starts along d, with these seeds: from each singular vertex by every dart, from reflex vertices
 -- and seeds by those with a twin.
-abbrev pub is_start : (faces : Faces) (seeds : List ℕ) (d : ℕ) → Bool
-is_start faces firsts d = is_singular faces (from_of faces d)
-    || (is_some (twin_of faces d) && (is_reflex faces (from_of faces d) || list_any (λ v. v == from_of faces d) firsts))
+abbrev pub is_start : (faces : Faces) (ring_seeds : List ℕ) (d : ℕ) → Bool
+is_start faces ring_seeds d = is_singular faces (from_of faces d)
+    || (is_some (twin_of faces d)
+        && (is_reflex faces (from_of faces d) || list_any (λ v. v == from_of faces d) ring_seeds))
 
 -- The darts along which riders start, rising.
 abbrev pub start_darts : (faces : Faces) → List ℕ

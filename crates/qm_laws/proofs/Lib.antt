@@ -1,5 +1,6 @@
 pub mod Counts
 pub mod Ends
 pub mod Entries
+pub mod Filters
 pub mod Searches
 pub mod Sums

@@ -12,13 +12,13 @@ none_by : (b : Bool) (v : ℕ) (o : Option ℕ) → cond b (Some v) o ≡ None �
 none_by true v o e = absurd (none-some v (sym e))
 none_by false v o e = (refl, e)
 
--- no vertex stands among those seen before
+-- No vertex stands among those seen before.
 unseen : (seen vs : List ℕ) → repeat_after seen vs ≡ None → (j : ℕ) → j < length vs → list_any (λ u. eqb u (get_or vs j 0)) seen ≡ false
 unseen seen [] e j l = absurd (omega arith)
 unseen seen (v ∷ vs) e zero l = (none_by (list_any (λ u. eqb u v) seen) v (repeat_after (v ∷ seen) vs) e).0
 unseen seen (v ∷ vs) e (suc j) l = (or_parts _ _ (unseen (v ∷ seen) vs (none_by (list_any (λ u. eqb u v) seen) v (repeat_after (v ∷ seen) vs) e).1 j (omega arith))).1
 
--- no two places have the same vertex
+-- No two places have the same vertex.
 all_differ : (seen vs : List ℕ) → repeat_after seen vs ≡ None → (i j : ℕ) → i < j → j < length vs → get_or vs i 0 ≢ get_or vs j 0
 all_differ seen [] e i j l m = absurd (omega arith)
 all_differ seen (v ∷ vs) e i zero l m = absurd (omega arith)
@@ -28,7 +28,7 @@ all_differ seen (v ∷ vs) e (suc i) (suc j) l m = all_differ (v ∷ seen) vs (n
 pub repeat_free_from : (faces : Faces) → ((f : ℕ) → f < length faces → length (get_or faces f []) ≡ 4) → ((f : ℕ) → f < length faces → repeat_in (get_or faces f []) ≡ None) → IsRepeatFree faces
 repeat_free_from faces four none f i j low l m = all_differ [] (get_or faces f []) (none f low) i j l (omega (arith, four f low))
 
--- what is told to be repeated is seen already, or stands at two places
+-- What is told to be repeated is seen already, or stands at two places.
 repeated_by : (seen vs : List ℕ) (v : ℕ) → repeat_after seen vs ≡ Some v →
     ((list_any (λ u. eqb u v) seen ≡ true) × ((j : ℕ) × (j < length vs) × (get_or vs j 0 ≡ v)))
     ⊎ ((i : ℕ) × (j : ℕ) × (i < j) × (j < length vs) × (get_or vs i 0 ≡ get_or vs j 0))
@@ -49,7 +49,7 @@ repeated_by seen (u ∷ vs) v e = at (list_any (λ w. eqb w u) seen) refl e (rep
     at true b e after = inl (subst (λ (x : ℕ). list_any (λ w. eqb w x) seen ≡ true) (same_Some u v e) b, (0, omega arith, same_Some u v e))
     at false b e after = later (after e)
 
--- a face of four that names a vertex twice
+-- A face of four that names a vertex twice.
 pub not_repeat_free : (faces : Faces) (f v : ℕ) → f < length faces → length (get_or faces f []) ≡ 4 → repeat_in (get_or faces f []) ≡ Some v → ¬ IsRepeatFree faces
 not_repeat_free faces f v l four e free = by_case (repeated_by [] (get_or faces f []) v e)
   where

@@ -8,22 +8,22 @@ use Rattle.def_mesh.specs.Faces.{Faces}
 use Rattle.def_mesh.specs.Darts.{darts, from_of}
 use Rattle.def_mesh.specs.Vertices.{fan_of}
 use Rattle.qm_mesh.specs.Tables.{fan_lists, fan_at, HoldDarts, AreFans}
-use Rattle.qm_mesh.proofs.Rising.{filter_range_more}
+use Rattle.qm_laws.proofs.Filters.{filter_range_more}
 
--- a fan that was read from the table
+-- A fan that was read from the table.
 pub fan_read : (fans : List (SmallVec ℕ)) (v : ℕ) (fan : SmallVec ℕ) → v < length fans → fan ≡ get_or fans v fan → fan.items ≡ fan_at fans v
 fan_read [] v fan l e = absurd (omega arith)
 fan_read (f ∷ fs) zero fan l e = ap (λ (x : SmallVec ℕ). x.items) e
 fan_read (f ∷ fs) (suc v) fan l e = fan_read fs v fan (omega arith) e
 
--- empty fans hold the darts before the first
+-- Empty fans hold the darts before the first.
 pub hold_none : (faces : Faces) (n : ℕ) (fans : List (SmallVec ℕ)) → fan_lists fans ≡ replicate n [] → HoldDarts faces n 0 fans
 hold_none faces n fans e = record {
   long = ap length e ∙ length-replicate n [];
   each = λ v l. rw e (get_or-replicate n v [] [] l);
 }
 
--- the fan at v, with k put at the end where k leaves v
+-- The fan at v, with k put at the end where k leaves v.
 pub hold_more : (faces : Faces) (n k v : ℕ) (fans more : List (SmallVec ℕ)) → HoldDarts faces n k fans → v ≡ from_of faces k → v < n → fan_lists more ≡ set (fan_lists fans) v (fan_at fans v ++ k ∷ []) → HoldDarts faces n (k + 1) more
 hold_more faces n k v fans more h e low put = record { long = ap length put ∙ length-set _ v _ ∙ h.long; each = each }
   where
@@ -38,6 +38,6 @@ hold_more faces n k v fans more h e low put = record { long = ap length put ∙ 
 pub fans_whole : (faces : Faces) (n k : ℕ) (fans : List (SmallVec ℕ)) → HoldDarts faces n k fans → k ≡ darts faces → AreFans faces n fans
 fans_whole faces n k fans h e = record { long = h.long; each = λ v l. h.each v l ∙ ap (λ m. filter (λ d. eqb (from_of faces d) v) (range_with_len 0 m)) e }
 
--- the fan that was read is that of its vertex
+-- The fan that was read is that of its vertex.
 pub fan_found : (faces : Faces) (n v : ℕ) (fans : List (SmallVec ℕ)) (fan : SmallVec ℕ) → AreFans faces n fans → v < length fans → fan ≡ get_or fans v fan → fan.items ≡ fan_of faces v
 fan_found faces n v fans fan h l e = fan_read fans v fan l e ∙ h.each v (omega (arith, h.long, length-map fans (λ (f : SmallVec ℕ). f.items)))

@@ -10,18 +10,18 @@ use Rattle.def_mesh.specs.Darts.{darts, all_darts, from_of, to_of, next_of, prev
 use Rattle.def_mesh.specs.Manifold.{IsManifold}
 use Rattle.def_mesh.specs.Kinds.{is_end, is_inner}
 use Rattle.qm_mesh.specs.Pairs.{ArePartners, IsPaired, IsAlone}
-use Rattle.qm_mesh.proofs.DartLaws.{next_of_low, prev_of_low, prev_of-next_of, next_of-prev_of}
-use Rattle.qm_mesh.proofs.Marks.{IsFan}
-use Rattle.qm_mesh.proofs.TwinLaws.{partner_is}
+use Rattle.mesh_laws.proofs.Darts.{next_of_low, prev_of_low, prev_of-next_of, next_of-prev_of}
+use Rattle.mesh_laws.proofs.Fans.{IsFan}
+use Rattle.qm_mesh.proofs.Partners.{partner_is}
 
--- what the table has decides whether there is a twin
+-- What the table has decides whether there is a twin.
 paired_twin : (faces : Faces) (twins : List ℕ) → IsManifold faces → ArePartners faces twins → (d : ℕ) → d < darts faces → IsPaired twins d → is_some (twin_of faces d) ≡ true
 paired_twin faces twins m p d l ne = ap is_some (partner_is faces m.repeat_free m.edges_once d (get_or twins d 0) l (p.each d l)) ∙ ap (λ b. is_some (cond b None (Some (get_or twins d 0)))) (ne_eqb (get_or twins d 0) d ne)
 
 alone_twin : (faces : Faces) (twins : List ℕ) → IsManifold faces → ArePartners faces twins → (d : ℕ) → d < darts faces → IsAlone twins d → is_some (twin_of faces d) ≡ false
 alone_twin faces twins m p d l e = ap is_some (partner_is faces m.repeat_free m.edges_once d (get_or twins d 0) l (p.each d l)) ∙ ap (λ b. is_some (cond b None (Some (get_or twins d 0)))) (eq-eqb (get_or twins d 0) d e)
 
--- all edges at v
+-- All edges at v.
 all_inner : (faces : Faces) (v : ℕ) → ((d : ℕ) → d < darts faces → (from_of faces d ≡ v) ⊎ (to_of faces d ≡ v) → is_some (twin_of faces d) ≡ true) → is_inner faces v ≡ true
 all_inner faces v each = list_all-from_AllPass (λ d. not (is_end faces v d) || is_some (twin_of faces d)) (all_darts faces) (λ k x l. by_dart k x (omega (arith, length-range_with_len 0 (darts faces))))
   where

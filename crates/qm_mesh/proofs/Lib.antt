@@ -1,12 +1,9 @@
-pub mod DartLaws
 pub mod Corners
-pub mod Rising
 pub mod FanTables
 pub mod Marks
 pub mod Walks
 pub mod OneFan
 pub mod Vertices
-pub mod TwinLaws
+pub mod Partners
 pub mod Fails
 pub mod Inner
-pub mod HalfEdgeLaws

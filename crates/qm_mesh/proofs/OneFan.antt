@@ -10,88 +10,11 @@ use Rattle.def_mesh.specs.Faults.{IsFirstTwoFans}
 use Rattle.qm_mesh.specs.Tables.{NamesBelow}
 use Rattle.qm_mesh.specs.Pairs.{IsPartner, ArePartners}
 use Rattle.qm_mesh.specs.Turns.{behind, beside_of, IsSeen, Reaches, IsClosed, IsBehind, IsVisit}
-use Rattle.qm_mesh.proofs.DartLaws.{next_of_low, prev_of_low, prev_of-next_of, next_of-prev_of, next_face, next_place, next_first}
+use Rattle.mesh_laws.proofs.Darts.{next_of_low, prev_of_low, prev_of-next_of, next_of-prev_of}
 use Rattle.std.proofs.lemmas.List.{get_or_past, length-replicate, get_or-replicate}
-use Rattle.qm_mesh.proofs.Marks.{IsFan, last_or}
-
--- the ends of a dart differ
-pub ends_differ : (faces : Faces) → IsRepeatFree faces → (d : ℕ) → d < darts faces → from_of faces d ≢ to_of faces d
-ends_differ faces free d l same = elim (cases_lt (d % 4) 3) [
-  | inl b ↦ free (d / 4) (d % 4) (d % 4 + 1) (omega arith) (omega arith) (omega arith) (same ∙ ap (λ f. corner faces f (next_of d % 4)) (next_face d) ∙ ap (corner faces (d / 4)) (next_place d b))
-  | inr b ↦ let three : d % 4 ≡ 3 = omega arith in
-      free (d / 4) 0 3 (omega arith) (omega arith) (omega arith) (sym (ap (λ f. corner faces f (next_of d % 4)) (next_face d) ∙ ap (corner faces (d / 4)) (next_first d three)) ∙ sym same ∙ ap (corner faces (d / 4)) three)
-]
-
--- e lies beside d: behind the edge of the dart before d to the left, behind that of d to the right
-abbrev pub Step : Faces → Bool → ℕ → ℕ → Type 0
-Step faces true d e = IsTwin faces (prev_of d) e
-Step faces false d e = IsTwin faces (prev_of e) d
-
--- what lies beside d to the one side has d beside it to the other
-step_back : (faces : Faces) (left : Bool) (d e : ℕ) → Step faces (not left) d e → Step faces left e d
-step_back faces true d e s = s
-step_back faces false d e s = s
-
--- the ends of the dart before d
-before_from : (faces : Faces) (d : ℕ) → to_of faces (prev_of d) ≡ from_of faces d
-before_from faces d = ap (from_of faces) (next_of-prev_of d)
-
-step_vertex : (faces : Faces) (left : Bool) (d e : ℕ) → Step faces left d e → from_of faces d ≡ from_of faces e
-step_vertex faces true d e s = sym (s.1 ∙ before_from faces d)
-step_vertex faces false d e s = s.1 ∙ before_from faces e
-
--- Two lists of two numbers have one in common where one of four pairs is equal.
-abbrev ShareOne : (a b x y : ℕ) → Type 0
-ShareOne a b x y = (a ≡ y) ⊎ ((x ≡ b) ⊎ ((a ≡ x) ⊎ (b ≡ y)))
-
-meet_cases : (a b x y : ℕ) → meet (a ∷ b ∷ []) (x ∷ y ∷ []) ≡ true → ShareOne a b x y
-meet_cases a b x y t = grind (arith, nat_tests)
-
-meet_from : (a b x y : ℕ) → ShareOne a b x y → meet (a ∷ b ∷ []) (x ∷ y ∷ []) ≡ true
-meet_from a b x y s = grind (arith, nat_tests)
-
-step_neighbour : (faces : Faces) (left : Bool) (d e : ℕ) → Step faces left d e → AreNeighbours faces d e
-step_neighbour faces true d e s = meet_from _ _ _ _ (inr (inl s.2))
-step_neighbour faces false d e s = meet_from _ _ _ _ (inl s.2)
-
-neighbour_back : (faces : Faces) (d e : ℕ) → AreNeighbours faces d e → AreNeighbours faces e d
-neighbour_back faces d e n = meet_from _ _ _ _ (by_case (meet_cases _ _ _ _ n))
-  where
-    by_case : ShareOne (to_of faces d) (from_of faces (prev_of d)) (to_of faces e) (from_of faces (prev_of e)) → ShareOne (to_of faces e) (from_of faces (prev_of e)) (to_of faces d) (from_of faces (prev_of d))
-    by_case (inl a) = inr (inl a)
-    by_case (inr (inl a)) = inl a
-    by_case (inr (inr (inl a))) = inr (inr (inl (sym a)))
-    by_case (inr (inr (inr a))) = inr (inr (inr (sym a)))
-
--- with each edge once, a neighbour is the corner itself or beside it
-pub neighbour_step : (faces : Faces) → HasEdgesOnce faces → (d e : ℕ) → d < darts faces → e < darts faces → from_of faces d ≡ from_of faces e → AreNeighbours faces d e → (d ≡ e) ⊎ ((left : Bool) × Step faces left d e)
-neighbour_step faces once d e low high same n = by_case (meet_cases _ _ _ _ n)
-  where
-    by_case : ShareOne (to_of faces d) (from_of faces (prev_of d)) (to_of faces e) (from_of faces (prev_of e)) → (d ≡ e) ⊎ ((left : Bool) × Step faces left d e)
-    by_case (inl a) = inr (false, (low, same ∙ sym (before_from faces e), a))
-    by_case (inr (inl a)) = inr (true, (high, sym same ∙ sym (before_from faces d), a))
-    by_case (inr (inr (inl a))) = inl (once d e low high (same, a))
-    by_case (inr (inr (inr a))) = inl
-        (sym (next_of-prev_of d) ∙ ap next_of (once (prev_of d) (prev_of e) (prev_of_low faces d low) (prev_of_low faces e high) (a, before_from faces d ∙ same ∙ sym (before_from faces e))) ∙ next_of-prev_of e)
-
--- Chains: their ends, one after another, and back.
-pub chain_low : (faces : Faces) (d e n : ℕ) → d < darts faces → Chain faces d e n → e < darts faces
-chain_low faces d e zero l c = subst (λ (x : ℕ). x < darts faces) c l
-chain_low faces d e (suc n) l c = c.2
-
-chain_vertex : (faces : Faces) (d e n : ℕ) → Chain faces d e n → from_of faces d ≡ from_of faces e
-chain_vertex faces d e zero c = ap (from_of faces) c
-chain_vertex faces d e (suc n) c = chain_vertex faces d c.0 n c.1 ∙ c.3
-
-chain_join : (faces : Faces) (d c e n m : ℕ) → Chain faces d c n → Chain faces c e m → (k : ℕ) × Chain faces d e k
-chain_join faces d c e n zero a b = (n, subst (λ (x : ℕ). Chain faces d x n) b a)
-chain_join faces d c e n (suc m) a b = let j : (k : ℕ) × Chain faces d b.0 k = chain_join faces d c b.0 n m a b.1 in (suc j.0, (b.0, j.1, b.2, b.3, b.4))
-
-chain_back : (faces : Faces) (d e n : ℕ) → d < darts faces → Chain faces d e n → (k : ℕ) × Chain faces e d k
-chain_back faces d e zero l c = (0, sym c)
-chain_back faces d e (suc n) l c =
-    let b : (k : ℕ) × Chain faces c.0 d k = chain_back faces d c.0 n l c.1 in
-    chain_join faces e c.0 d 1 b.0 (e, refl, chain_low faces d c.0 n l c.1, sym c.3, neighbour_back faces c.0 e c.4) b.1
+use Rattle.qm_laws.proofs.Filters.{last_or}
+use Rattle.mesh_laws.proofs.Fans.{IsFan}
+use Rattle.mesh_laws.proofs.Chains.{Step, neighbour_step, step_back, step_vertex, step_neighbour, step_once, twin_differs, chain_low, chain_vertex, chain_join, chain_back, before_from}
 
 -- What the table of partners says is beside a corner is beside it, and all that.
 beside_found : (faces : Faces) (twins : List ℕ) → ArePartners faces twins → (left : Bool) (d e : ℕ) → d < darts faces → beside_of left twins d ≡ Some e → Step faces left d e × (e < darts faces)
@@ -114,16 +37,13 @@ beside_found faces twins p false d e l b = by_partner (get_or twins d 0) (p.each
           ((l, sym (ap (to_of faces) back ∙ is.2), sym (ap (from_of faces) back ∙ is.1)), subst (λ (x : ℕ). x < darts faces) s (next_of_low faces t is.0))
     ]
 
--- the twin of a dart is its partner, and another dart
+-- The twin of a dart is its partner, and another dart.
 partner_of : (faces : Faces) (twins : List ℕ) → ArePartners faces twins → HasEdgesOnce faces → (d e : ℕ) → d < darts faces → IsTwin faces d e → get_or twins d 0 ≡ e
 partner_of faces twins p once d e l is = by_partner (get_or twins d 0) (p.each d l)
   where
     by_partner : (t : ℕ) → IsPartner faces d t → t ≡ e
     by_partner t (inl q) = once t e q.0 is.0 (q.1 ∙ sym is.1, q.2 ∙ sym is.2)
     by_partner t (inr none) = absurd (none.1 e is)
-
-twin_differs : (faces : Faces) → IsRepeatFree faces → (d e : ℕ) → d < darts faces → IsTwin faces d e → e ≢ d
-twin_differs faces free d e l is same = ends_differ faces free d l (sym (ap (from_of faces) same) ∙ is.1)
 
 beside_all : (faces : Faces) (twins : List ℕ) → ArePartners faces twins → HasEdgesOnce faces → IsRepeatFree faces → (left : Bool) (d e : ℕ) → d < darts faces → e < darts faces → Step faces left d e → beside_of left twins d ≡ Some e
 beside_all faces twins p once free true d e l h s =
@@ -134,13 +54,7 @@ beside_all faces twins p once free false d e l h s =
     let t : get_or twins d 0 ≡ prev_of e = partner_of faces twins p once d (prev_of e) l is in
     ap (behind false d) t ∙ ap (λ x. cond x None (Some (next_of (prev_of e)))) (ne_eqb (prev_of e) d (twin_differs faces free d (prev_of e) l is)) ∙ ap Some (next_of-prev_of e)
 
--- one dart lies beside a corner to each side
-step_once : (faces : Faces) → HasEdgesOnce faces → (left : Bool) (d e k : ℕ) → d < darts faces → e < darts faces → k < darts faces → Step faces left d e → Step faces left d k → e ≡ k
-step_once faces once true d e k l m h s t = once e k m h (s.1 ∙ sym t.1, s.2 ∙ sym t.2)
-step_once faces once false d e k l m h s t =
-    sym (next_of-prev_of e) ∙ ap next_of (once (prev_of e) (prev_of k) (prev_of_low faces e m) (prev_of_low faces k h) (sym s.2 ∙ t.2, sym s.1 ∙ t.1)) ∙ next_of-prev_of k
-
--- turns are a chain
+-- Turns are a chain.
 turns_chain : (faces : Faces) (twins : List ℕ) → ArePartners faces twins → (d e n : ℕ) → d < darts faces → Reaches twins d e n → (k : ℕ) × Chain faces d e k
 turns_chain faces twins p d e zero l t = (0, t)
 turns_chain faces twins p d e (suc n) l t =
@@ -148,13 +62,13 @@ turns_chain faces twins p d e (suc n) l t =
     let s : Step faces t.2.0 t.0 e × (e < darts faces) = beside_found faces twins p t.2.0 t.0 e (chain_low faces d t.0 c.0 l c.1) t.2.1 in
     (suc c.0, (t.0, c.1, s.1, step_vertex faces t.2.0 t.0 e s.0, step_neighbour faces t.2.0 t.0 e s.0))
 
--- the vertices before v have one fan each, and only their corners are marked
+-- The vertices before v have one fan each, and only their corners are marked.
 pub record AreChecked (faces : Faces) (v : ℕ) (seen : List Bool) : Type 0 where
   pub long : length seen ≡ darts faces
   pub marks : (d : ℕ) → d < darts faces → IsSeen seen d → from_of faces d < v
   pub one_fan : (u : ℕ) → u < v → HasOneFan faces u
 
--- what a visit of the vertex v found, against the faces
+-- What a visit of the vertex v found, against the faces.
 pub record IsVisited (faces : Faces) (twins : List ℕ) (v first : ℕ) (old new : List Bool) : Type 0 where
   pub partners : ArePartners faces twins
   pub free : IsRepeatFree faces
@@ -168,7 +82,7 @@ pub record IsVisited (faces : Faces) (twins : List ℕ) (v first : ℕ) (old new
 seen_low : (faces : Faces) (seen : List Bool) (d : ℕ) → length seen ≡ darts faces → IsSeen seen d → d < darts faces
 seen_low faces seen d e s = elim (cases_lt d (length seen)) [ inl l ↦ omega arith | inr g ↦ absurd (false≢true (sym (get_or_past seen d false g) ∙ s)) ]
 
--- a chain from the first corner stays within the marks
+-- A chain from the first corner stays within the marks.
 stays : (faces : Faces) (twins : List ℕ) (v first : ℕ) (old new : List Bool) → IsVisited faces twins v first old new → (e n : ℕ) → Chain faces first e n → IsSeen new e
 stays faces twins v first old new w e zero c = subst (λ (x : ℕ). IsSeen new x) c w.visit.started
 stays faces twins v first old new w e (suc n) c =
@@ -189,7 +103,7 @@ stays faces twins v first old new w e (suc n) c =
     by_step k low at high s (inl q) = subst (λ (x : ℕ). IsSeen new x) q s
     by_step k low at high s (inr t) = by_side k low high t.0 t.1 (w.visit.closed t.0 k s (w.unseen k low at))
 
--- all of the fan is marked: one fan
+-- All of the fan is marked: one fan.
 one_fan_from : (faces : Faces) (twins : List ℕ) (v first : ℕ) (old new : List Bool) → IsVisited faces twins v first old new → ((d : ℕ) → d < darts faces → from_of faces d ≡ v → IsSeen new d) → HasOneFan faces v
 one_fan_from faces twins v first old new w all d e low high at end =
     let a : (k : ℕ) × Chain faces first d k = reach d low at in
@@ -200,13 +114,13 @@ one_fan_from faces twins v first old new w all d e low high at end =
     reach : (k : ℕ) → k < darts faces → from_of faces k ≡ v → (n : ℕ) × Chain faces first k n
     reach k l s = let t : (n : ℕ) × Reaches twins first k n = w.visit.reached k (all k l s) (w.unseen k l s) in turns_chain faces twins w.partners first k t.0 w.first_low t.1
 
--- some of it is not: more than one
+-- Some of it is not: more than one.
 two_fans_from : (faces : Faces) (twins : List ℕ) (v first : ℕ) (old new : List Bool) → IsVisited faces twins v first old new → (d : ℕ) → d < darts faces → from_of faces d ≡ v → get_or new d false ≡ false → ¬ HasOneFan faces v
 two_fans_from faces twins v first old new w d low at unseen one =
     let c : (n : ℕ) × Chain faces first d n = one first d w.first_low low w.first_at at in
     false≢true (sym unseen ∙ stays faces twins v first old new w d c.0 c.1)
 
--- no corner at v is marked before its visit
+-- No corner at v is marked before its visit.
 pub not_seen : (faces : Faces) (v : ℕ) (seen : List Bool) → AreChecked faces v seen → (d : ℕ) → d < darts faces → from_of faces d ≡ v → get_or seen d false ≡ false
 not_seen faces v seen c d l e = false_from_ne_true (get_or seen d false) (λ t. absurd (omega (arith, c.marks d l t, e)))
 
@@ -230,7 +144,7 @@ checked_none faces seen n is e = record {
   one_fan = λ u l. absurd (omega arith);
 }
 
--- a vertex with one fan
+-- A vertex with one fan.
 pub checked_more : (faces : Faces) (twins : List ℕ) (v : ℕ) (fan : List ℕ) (old new : List Bool) → IsFan faces v fan → IsVisited faces twins v (get_or fan 0 0) old new → AreChecked faces v old → ((t : ℕ) → t < length fan → IsSeen new (get_or fan t 0)) → AreChecked faces (v + 1) new
 checked_more faces twins v fan old new h w c all = record {
   long = w.long;
@@ -252,13 +166,13 @@ checked_more faces twins v fan old new h w c all = record {
     by_vertex u (inl b) = c.one_fan u b
     by_vertex u (inr e) = subst (λ (x : ℕ). HasOneFan faces x) (sym e) (one_fan_from faces twins v (get_or fan 0 0) old new w each)
 
--- a vertex with more
+-- A vertex with more.
 pub two_fans_first : (faces : Faces) (twins : List ℕ) (v : ℕ) (fan : List ℕ) (old new : List Bool) → IsFan faces v fan → IsVisited faces twins v (get_or fan 0 0) old new → AreChecked faces v old → (t : ℕ) × (t < length fan) × (get_or new (get_or fan t 0) false ≡ false) → IsFirstTwoFans faces v
 two_fans_first faces twins v fan old new h w c t = record {
   two_fans = two_fans_from faces twins v (get_or fan 0 0) old new w (get_or fan t.0 0) (h.dart t.0 t.1) (h.leaves t.0 t.1) t.2;
   least = c.one_fan;
 }
 
--- vertices past the last have no corners
+-- Vertices past the last have no corners.
 pub one_fan_all : (faces : Faces) (n v : ℕ) (seen : List Bool) → NamesBelow n faces → n ≤ v → AreChecked faces v seen → (u : ℕ) → HasOneFan faces u
 one_fan_all faces n v seen within l c u d e low high at end = c.one_fan u (omega (arith, within d low, at)) d e low high at end

@@ -8,45 +8,24 @@ use Rattle.std.proofs.lemmas.List.{length-map, get_or_default}
 use Rattle.std.proofs.lemmas.List.FromFn.{length-range_with_len, get_or-map-range_with_len}
 use Rattle.std.proofs.lemmas.List.Filters.{length-filter_both}
 use Rattle.def_mesh.specs.Faces.{Faces, corner}
-use Rattle.def_mesh.specs.Darts.{darts, all_darts, from_of}
+use Rattle.def_mesh.specs.Darts.{darts, next_of, to_of, from_of}
 use Rattle.def_mesh.specs.Vertices.{above_all, vertex_count, faces_at, fan_of, names_below, UsesEach}
 use Rattle.qm_mesh.specs.Tables.{NamesBelow, HasCorners}
-use Rattle.qm_mesh.proofs.Marks.{IsFan, is_fan}
+use Rattle.mesh_laws.proofs.Darts.{next_of_low}
+use Rattle.mesh_laws.proofs.Fans.{IsFan, is_fan}
+use Rattle.mesh_laws.proofs.Vertices.{all_below, count_least}
 
--- each number of a list is below the bound, which is the least
-below_bound : (xs : List ℕ) (i : ℕ) → i < length xs → get_or xs i 0 < above_all xs
-below_bound [] i l = absurd (omega arith)
-below_bound (x ∷ xs) zero l = omega arith
-below_bound (x ∷ xs) (suc i) l = omega (arith, below_bound xs i (omega arith))
+-- Where a dart ends is a vertex.
+pub end_low : (faces : Faces) (n d : ℕ) → NamesBelow n faces → d < darts faces → to_of faces d < n
+end_low faces n d within l = within (next_of d) (next_of_low faces d l)
 
-least_bound : (xs : List ℕ) (n : ℕ) → ((i : ℕ) → i < length xs → get_or xs i 0 < n) → above_all xs ≤ n
-least_bound [] n below = omega arith
-least_bound (x ∷ xs) n below = omega (arith, below 0 (omega arith), least_bound xs n (λ i l. below (suc i) (omega arith)))
-
-from_at : (faces : Faces) (d : ℕ) → d < darts faces → get_or (map (from_of faces) (all_darts faces)) d 0 ≡ from_of faces d
-from_at faces d l = get_or-map-range_with_len (from_of faces) 0 (darts faces) d d 0 l (omega arith)
-
-from_count : (faces : Faces) → length (map (from_of faces) (all_darts faces)) ≡ darts faces
-from_count faces = length-map (all_darts faces) (from_of faces) ∙ length-range_with_len 0 (darts faces)
-
--- each corner is a vertex
-pub all_below : (faces : Faces) → NamesBelow (vertex_count faces) faces
-all_below faces d l = omega (arith, from_at faces d l, below_bound (map (from_of faces) (all_darts faces)) d (omega (arith, from_count faces)))
-
-count_least : (faces : Faces) (n : ℕ) → NamesBelow n faces → vertex_count faces ≤ n
-count_least faces n within = least_bound (map (from_of faces) (all_darts faces)) n (λ i l. omega (arith, from_at faces i (omega (arith, from_count faces)), within i (omega (arith, from_count faces))))
-
--- where the vertices below n are the used ones, n is their number
+-- Where the vertices below n are the used ones, n is their number.
 pub count_is : (faces : Faces) (n : ℕ) → NamesBelow n faces → HasCorners n faces → vertex_count faces ≡ n
 count_is faces zero within used = omega (arith, count_least faces zero within)
 count_is faces (suc m) within used =
     let h : IsFan faces m (fan_of faces m) = is_fan faces m (fan_of faces m) refl in
     let u : 0 < length (fan_of faces m) = used m (omega arith) in
     omega (arith, count_least faces (suc m) within, all_below faces (get_or (fan_of faces m) 0 0) (h.dart 0 u), h.leaves 0 u)
-
--- a fan has at most all darts
-pub fan_short : (faces : Faces) (v : ℕ) → faces_at faces v ≤ darts faces
-fan_short faces v = omega (arith, length-filter_both (λ d. eqb (from_of faces d) v) (λ d. not (eqb (from_of faces d) v)) (λ d. refl) (all_darts faces), length-range_with_len 0 (darts faces))
 
 -- The two conditions of a build, by darts.
 pub below_from : (faces : Faces) → ((f : ℕ) → f < length faces → length (get_or faces f []) ≡ 4) → (n : ℕ) → IsTrue (names_below n faces) → NamesBelow n faces

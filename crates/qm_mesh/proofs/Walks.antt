@@ -5,7 +5,7 @@ use Rattle.std.proofs.lemmas.Option.{same_Some}
 use Rattle.std.proofs.lemmas.List.{get_or-set_same, get_or-set_other, get_or_past}
 use Rattle.qm_mesh.specs.Turns.{beside_of, IsSeen, Reaches, IsClosed, IsBehind, IsWalk, IsVisit}
 
--- the walk stands at a corner, and only what is beside that may lack its mark
+-- The walk stands at a corner, and only what is beside that may lack its mark.
 pub record IsWalkSoFar (left : Bool) (twins : List ℕ) (start at : ℕ) (old now : List Bool) : Type 0 where
   pub low : at < length twins
   pub here : IsSeen now at
@@ -28,7 +28,7 @@ walk_none left twins start seen low here = record {
   reached = λ d s o. absurd (false≢true (sym o ∙ s));
 }
 
--- a mark more
+-- A mark more.
 seen_more : (now : List Bool) (e d : ℕ) → IsSeen now d → IsSeen (set now e true) d
 seen_more now e d s = elim (cases_eq d e) [
   | inl q ↦ subst (λ (x : ℕ). IsSeen (set now x true) d) q (at_once now d s)
@@ -41,7 +41,7 @@ seen_more now e d s = elim (cases_eq d e) [
       | inr g ↦ absurd (false≢true (sym (get_or_past xs k false g) ∙ t))
     ]
 
--- a mark after the new one was there, or is the new one
+-- A mark after the new one was there, or is the new one.
 seen_before : (now : List Bool) (e d : ℕ) → IsSeen (set now e true) d → (d ≡ e) ⊎ IsSeen now d
 seen_before now e d s = elim (cases_eq d e) [ inl q ↦ inl q | inr ne ↦ inr (sym (get_or-set_other now e d true false ne) ∙ s) ]
 
@@ -82,7 +82,7 @@ walk_more left twins start at e old now w low lies b unseen = record {
     by_reached d (inl q) o = (suc w.came.0, (at, w.came.1, (left, b ∙ ap Some (sym q))))
     by_reached d (inr s) o = w.reached d s o
 
--- where nothing beside the corner lacks its mark, the walk is done
+-- Where nothing beside the corner lacks its mark, the walk is done.
 pub walk_all : (left : Bool) (twins : List ℕ) (start at : ℕ) (old now : List Bool) → IsWalkSoFar left twins start at old now → IsClosed left twins now at → IsWalk left twins start old now
 walk_all left twins start at old now w c = record {
   grown = w.grown;
@@ -100,7 +100,7 @@ walk_all left twins start at old now w c = record {
     by_place d (inl q) s o = subst (λ (x : ℕ). IsClosed left twins now x) (sym q) c
     by_place d (inr ne) s o = w.closed d ne s o
 
--- a walk to each side from the first corner
+-- A walk to each side from the first corner.
 pub visit_both : (twins : List ℕ) (first : ℕ) (old one two : List Bool) → first < length old → get_or old first false ≡ false → IsWalk true twins first (set old first true) one → IsWalk false twins first one two → IsVisit twins first old two
 visit_both twins first old one two low unseen l r = record {
   grown = λ d s. r.grown d (l.grown d (seen_more old first d s));

@@ -3,18 +3,21 @@
 ghost use Rattle.std.specs.Prelude.{◌≡◌, ◌<◌, ◌&&◌, ◌==◌};
 ghost use Rattle.def_mesh.specs.Darts.{darts, next_of, prev_of, from_of, to_of};
 
+/// The next dart round the face.
 pub(crate) fn next(d: u32) -> u32
     ensures { result ≡ next_of d }
 {
     if d % 4 == 3 { d - 3 } else { d + 1 }
 }
 
+/// The dart before d round the face.
 pub(crate) fn prev(d: u32) -> u32
     ensures { result ≡ prev_of d }
 {
     if d % 4 == 0 { d + 3 } else { d - 1 }
 }
 
+/// The vertex where d begins.
 pub(crate) fn from(faces: &[[u32; 4]], d: u32) -> u32
     requires { d < darts faces.now }
     ensures { result ≡ from_of faces.now d }
@@ -22,7 +25,8 @@ pub(crate) fn from(faces: &[[u32; 4]], d: u32) -> u32
     faces[(d / 4) as usize][(d % 4) as usize]
 }
 
-#[tactic(auto, using(crate::proofs::DartLaws::next_of_low))]
+/// The vertex where d ends.
+#[tactic(auto, using(mesh_laws::proofs::Darts::next_of_low))]
 pub(crate) fn to(faces: &[[u32; 4]], d: u32) -> u32
     requires { d < darts faces.now }
     ensures { result ≡ to_of faces.now d }

@@ -28,6 +28,7 @@ pub(crate) fn gather(
     Ok(fans)
 }
 
+/// So many empty fans.
 fn empty(alloc: Global, vertices: u32) -> Result<Vec<Fan>, AllocError>
     ensures { IfOk result (λ fans. fan_lists fans.items ≡ replicate vertices []) }
 {
@@ -38,9 +39,11 @@ fn empty(alloc: Global, vertices: u32) -> Result<Vec<Fan>, AllocError>
     Ok(fans)
 }
 
+/// Puts d at the end of the fan of v.
 fn add(fans: &mut Vec<Fan>, v: u32, d: u32) -> Result<(), AllocError>
     requires { v < length (fan_lists fans.old.items) }
-    ensures { OnOk result (fan_lists fans.new.items ≡ slice_set (fan_lists fans.old.items) v (fan_at fans.old.items v ++ d ∷ [])) }
+    ensures { let more = fan_at fans.old.items v ++ d ∷ [] in
+        OnOk result (fan_lists fans.new.items ≡ slice_set (fan_lists fans.old.items) v more) }
 {
     let fan = &mut fans[v as usize];
     fan.push(d)?;

@@ -5,7 +5,6 @@
 mod darts;
 mod fail;
 mod fans;
-mod law;
 mod manifold;
 mod mesh;
 mod one_fan;
@@ -14,7 +13,6 @@ mod table;
 mod twins;
 
 pub use fail::MeshFail;
-pub use law::manifold_law;
 pub use manifold::build;
 pub use mesh::Mesh;
 

@@ -29,6 +29,7 @@ pub fn build(alloc: Global, vertices: u32, faces: &[[u32; 4]]) -> Result<Mesh, M
     checked_mesh(alloc, vertices, faces)
 }
 
+/// The same, with the reason of each refusal.
 fn checked_mesh(alloc: Global, vertices: u32, faces: &[[u32; 4]]) -> Result<Mesh, MeshFail>
     requires few { length faces.now ≤ MAX_FACES }
     requires within { IsTrue (names_below vertices faces.now) }

@@ -1,6 +1,6 @@
 //! A manifold of quads with its tables, and what can be asked of it. No call takes memory.
 
-ghost use Rattle.std.specs.Prelude.{◌≡◌, ◌≢◌, ◌⊎◌, ◌+◌, ◌≤◌, ◌<◌, ◌^◌, ◌==◌, ℕ, cond, length, Some, None, IfOk, IfSome, MatchBool, slice_index};
+ghost use Rattle.std.specs.Prelude.{◌≡◌, ◌<◌, IfOk, IfSome};
 ghost use Rattle.def_mesh.specs.Darts.{darts, next_of, prev_of, from_of, to_of, twin_of, straight_of};
 ghost use Rattle.def_mesh.specs.Kinds.{is_inner};
 ghost use Rattle.def_mesh.specs.Meshes.{IsMesh};
@@ -33,6 +33,7 @@ impl Model for Mesh {
 }
 
 impl Mesh {
+    /// The mesh of these tables.
     pub(crate) fn from_tables(
         alloc: Global,
         faces: &[[u32; 4]],
@@ -46,6 +47,7 @@ impl Mesh {
         Ok(Mesh { faces, twins, fans })
     }
 
+    /// The faces, as they were given.
     pub fn faces(&self) -> &[[u32; 4]]
         ensures value { result.now ≡ self.now }
         ensures mesh { IsMesh self.now }
@@ -53,6 +55,7 @@ impl Mesh {
         &self.faces
     }
 
+    /// How many vertices there are.
     pub fn vertices(&self) -> u32
         ensures value { result ≡ vertex_count self.now }
         ensures mesh { IsMesh self.now }
@@ -60,6 +63,7 @@ impl Mesh {
         self.fans.len() as u32
     }
 
+    /// The next dart round the face.
     pub fn next(&self, d: u32) -> u32
         requires { d < darts self.now }
         ensures value { result ≡ next_of d }
@@ -68,6 +72,7 @@ impl Mesh {
         next(d)
     }
 
+    /// The dart before d round the face.
     pub fn prev(&self, d: u32) -> u32
         requires { d < darts self.now }
         ensures value { result ≡ prev_of d }
@@ -76,6 +81,7 @@ impl Mesh {
         prev(d)
     }
 
+    /// The vertex where d begins.
     pub fn from(&self, d: u32) -> u32
         requires { d < darts self.now }
         ensures value { result ≡ from_of self.now d }
@@ -84,6 +90,7 @@ impl Mesh {
         from(&self.faces, d)
     }
 
+    /// The vertex where d ends.
     pub fn to(&self, d: u32) -> u32
         requires { d < darts self.now }
         ensures value { result ≡ to_of self.now d }
@@ -92,7 +99,7 @@ impl Mesh {
         to(&self.faces, d)
     }
 
-    /// `None` exactly where the edge of d has one dart.
+    /// The twin of d: `None` exactly where the edge of d has one dart.
     pub fn twin(&self, d: u32) -> Option<u32>
         requires { d < darts self.now }
         ensures value { result ≡ twin_of self.now d }

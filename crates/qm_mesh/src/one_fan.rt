@@ -1,18 +1,40 @@
 //! Whether the faces at each vertex form one fan: all its corners are met by turning from one of them, both ways.
 
-ghost use Rattle.std.specs.Prelude.{◌≡◌, ◌≤◌, ◌<◌, ◌^◌, ℕ, length, true, false, replicate, OnOk, IfErr, MatchOption, MatchBool, IfSome, slice_index, slice_index_or, slice_set};
+ghost use Rattle.std.specs.Prelude.{
+  ◌≡◌,
+  ◌<◌,
+  ℕ,
+  length,
+  false,
+  replicate,
+  OnOk,
+  IfErr,
+  MatchOption,
+  MatchBool,
+  IfSome,
+};
+ghost use Rattle.std.specs.Prelude.{slice_index, slice_index_or};
 ghost use Rattle.def_mesh.specs.Darts.{darts};
-ghost use Rattle.def_mesh.specs.Manifold.{IsRepeatFree, HasEdgesOnce, HasOneFan};
+ghost use Rattle.def_mesh.specs.Manifold.{HasOneFan};
 ghost use Rattle.def_mesh.specs.Faults.{IsFirstFault};
 ghost use Rattle.qm_mesh.specs.Refusals.{IsRefusal};
-ghost use Rattle.qm_mesh.specs.Tables.{AreFans, NamesBelow, HasCorners};
-ghost use Rattle.qm_mesh.specs.Pairs.{ArePartners};
-ghost use Rattle.qm_mesh.specs.Turns.{beside_of, IsSeen, IsClosed, IsWalk, IsVisit, ArePlaces};
+ghost use Rattle.qm_mesh.specs.Tables.{HasTables};
+ghost use Rattle.qm_mesh.specs.Turns.{
+  beside_of,
+  IsSeen,
+  IsClosed,
+  IsWalk,
+  IsVisit,
+  ArePlaces,
+  AreSeen,
+  HasUnseen,
+  IsUnseen,
+};
 
 use crate::darts::{next, prev};
 use crate::fail::MeshFail;
 use crate::fans::Fan;
-use def_mesh::{MAX_FACES, Place};
+use def_mesh::Place;
 use std::alloc::Global;
 
 /// Refuses the least vertex with more than one fan. Linear in the darts.
@@ -22,14 +44,7 @@ pub(crate) fn check_fans(
     fans: &[Fan],
     twins: &[u32],
 ) -> Result<(), MeshFail>
-    requires few { length faces.now ≤ MAX_FACES }
-    requires repeat_free { IsRepeatFree faces.now }
-    requires once { HasEdgesOnce faces.now }
-    requires within { NamesBelow (length fans.now) faces.now }
-    requires used { HasCorners (length fans.now) faces.now }
-    requires small { length fans.now < 2 ^ 32 }
-    requires fans { AreFans faces.now (length fans.now) fans.now }
-    requires partners { ArePartners faces.now twins.now }
+    requires { HasTables faces.now fans.now twins.now }
     ensures ok { OnOk result ((v : ℕ) → HasOneFan faces.now v) }
     ensures err { IfErr result (IsRefusal faces.now) }
 {
@@ -38,20 +53,14 @@ pub(crate) fn check_fans(
     Ok(())
 }
 
+/// The same, with no corner marked at first.
 fn check_each(
     faces: &[[u32; 4]],
     fans: &[Fan],
     twins: &[u32],
     seen: &mut [bool],
 ) -> Result<(), Place>
-    requires few { length faces.now ≤ MAX_FACES }
-    requires repeat_free { IsRepeatFree faces.now }
-    requires once { HasEdgesOnce faces.now }
-    requires within { NamesBelow (length fans.now) faces.now }
-    requires used { HasCorners (length fans.now) faces.now }
-    requires small { length fans.now < 2 ^ 32 }
-    requires fans { AreFans faces.now (length fans.now) fans.now }
-    requires partners { ArePartners faces.now twins.now }
+    requires tables { HasTables faces.now fans.now twins.now }
     requires unseen { seen.old ≡ replicate (darts faces.now) false }
     ensures ok { OnOk result ((v : ℕ) → HasOneFan faces.now v) }
     ensures err { IfErr result (IsFirstFault faces.now) }
@@ -72,13 +81,14 @@ fn is_one_fan(twins: &[u32], fan: &[u32], seen: &mut [bool]) -> bool
     requires darts { (t : ℕ) → t < length fan.now → slice_index fan.now t < length twins.now }
     requires unseen { slice_index_or seen.old (slice_index fan.now 0) false ≡ false }
     ensures visit { IsVisit twins.now (slice_index fan.now 0) seen.old seen.new }
-    ensures all { MatchBool result ((t : ℕ) → t < length fan.now → IsSeen seen.new (slice_index fan.now t)) ((t : ℕ) × (t < length fan.now) × (slice_index_or seen.new (slice_index fan.now t) false ≡ false)) }
+    ensures all { MatchBool result (AreSeen seen.new fan.now) (HasUnseen seen.new fan.now) }
 {
     let first = fan[0];
     turn_both_ways(twins, first, seen);
     are_seen(fan, seen)
 }
 
+/// Marks the corners that turns from the first reach, to both sides.
 fn turn_both_ways(twins: &[u32], first: u32, seen: &mut [bool])
     requires places { ArePlaces twins.now }
     requires long { length seen.old ≡ length twins.now }
@@ -91,9 +101,10 @@ fn turn_both_ways(twins: &[u32], first: u32, seen: &mut [bool])
     turn(twins, false, first, seen);
 }
 
+/// Whether all these corners are marked.
 fn are_seen(fan: &[u32], seen: &[bool]) -> bool
     requires { (t : ℕ) → t < length fan.now → slice_index fan.now t < length seen.now }
-    ensures { MatchBool result ((t : ℕ) → t < length fan.now → IsSeen seen.now (slice_index fan.now t)) ((t : ℕ) × (t < length fan.now) × (slice_index_or seen.now (slice_index fan.now t) false ≡ false)) }
+    ensures { MatchBool result (AreSeen seen.now fan.now) (HasUnseen seen.now fan.now) }
 {
     for d in fan {
         if !seen[*d as usize] {
@@ -118,11 +129,12 @@ fn turn(twins: &[u32], left: bool, start: u32, seen: &mut [bool])
     }
 }
 
+/// The corner beside that at `at`, unless it is marked.
 fn unseen_beside(twins: &[u32], left: bool, at: u32, seen: &[bool]) -> Option<u32>
     requires places { ArePlaces twins.now }
     requires long { length seen.now ≡ length twins.now }
     requires dart { at < length twins.now }
-    ensures { MatchOption result (IsClosed left twins.now seen.now at) (λ e. (e < length twins.now) × (beside_of left twins.now at ≡ Some e) × (slice_index_or seen.now e false ≡ false)) }
+    ensures { MatchOption result (IsClosed left twins.now seen.now at) (IsUnseen left twins.now seen.now at) }
 {
     let found = beside(twins, left, at)?;
     if seen[found as usize] {

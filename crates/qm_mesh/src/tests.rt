@@ -1,7 +1,9 @@
+//! A cube through all queries, and each refusal at its least place.
+
 ghost use Rattle.std.specs.Prelude.{◌≤◌, length, IsTrue};
 ghost use Rattle.def_mesh.specs.Vertices.{names_below, UsesEach};
 
-use crate::{MeshFail, build, manifold_law};
+use crate::{MeshFail, build};
 use def_mesh::{MAX_FACES, Place};
 use std::alloc::Global;
 
@@ -25,7 +27,6 @@ fn refusal(alloc: Global, vertices: u32, faces: &[[u32; 4]]) -> Option<MeshFail>
 
 #[test]
 fn a_cube_is_a_mesh(rt: HostRuntime) {
-    manifold_law();
     match build(rt.alloc(), 8, &CUBE) {
         Ok(mesh) => {
             let darts = mesh.faces().len() * 4;

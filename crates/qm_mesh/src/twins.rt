@@ -1,7 +1,7 @@
 //! The twin of each dart, and the first dart along a directed edge that was taken before.
 //!
-//! The vertices are taken one by one. `by_end` then has, for each end of a dart that leaves the vertex, the first such dart;
-//! a dart that arrives finds its twin there. So the work is linear in the darts, however many faces a vertex has.
+//! The vertices are taken one by one. `by_end` then has, for each end of a dart that leaves the vertex, the first such
+//! dart; a dart that arrives finds its twin there. So the work is linear in the darts, however many faces a vertex has.
 
 ghost use Rattle.std.specs.Prelude.{◌≡◌, ◌≢◌, ◌≤◌, ◌<◌, ◌+◌, ◌/◌, ℕ, length, OnOk, IfOk, IfErr, slice_index};
 ghost use Rattle.def_mesh.specs.Darts.{darts, from_of, to_of};
@@ -10,13 +10,29 @@ ghost use Rattle.def_mesh.specs.Manifold.{IsRepeatFree, HasEdgesOnce};
 ghost use Rattle.def_mesh.specs.Vertices.{fan_of};
 ghost use Rattle.qm_mesh.specs.Refusals.{IsRefusal};
 ghost use Rattle.qm_mesh.specs.Tables.{AreFans, NamesBelow};
-ghost use Rattle.qm_mesh.specs.Pairs.{AreDarts, AreMarked, IsPartner, ArePartners, IsFirstAt, IsPairing, MarksOne, IsEarlier};
+ghost use Rattle.qm_mesh.specs.Pairs.{
+  AreDarts,
+  AreMarked,
+  IsPartner,
+  ArePartners,
+  IsFirstAt,
+  IsPairing,
+  MarksOne,
+  IsEarlier,
+};
 
 use crate::darts::{from, prev, runs, to};
 use crate::fail::MeshFail;
 use crate::fans::Fan;
 use def_mesh::{MAX_FACES, Place};
 use std::alloc::Global;
+
+/// Two darts along one directed edge.
+#[derive(Clone, Copy, Debug, PartialEq, Eq)]
+pub(crate) struct Doubled {
+    pub(crate) earlier: u32,
+    pub(crate) later: u32,
+}
 
 /// The partner of each dart: its twin, or itself where it has none. Linear in darts and vertices.
 pub(crate) fn pair(
@@ -41,22 +57,23 @@ pub(crate) fn pair(
         twice = pair_vertex(faces, v, fan.as_slice(), &mut by_end, &mut twins, twice);
     }
     match twice {
-        Some((d, e)) => Err(MeshFail::NotManifold(edge_twice(faces, d, e))),
+        Some(doubled) => Err(MeshFail::NotManifold(edge_twice(faces, doubled))),
         None => Ok(twins),
     }
 }
 
 /// The place of two darts along one directed edge.
-fn edge_twice(faces: &[[u32; 4]], d: u32, e: u32) -> Place
+fn edge_twice(faces: &[[u32; 4]], doubled: Doubled) -> Place
     requires repeat_free { IsRepeatFree faces.now }
-    requires first { IsFirstTwice faces.now d e }
+    requires first { IsFirstTwice faces.now doubled.earlier doubled.later }
     ensures { IsFirstFault faces.now result }
 {
+    let Doubled { earlier, later } = doubled;
     Place::EdgeTwice {
-        from: from(faces, e),
-        to: to(faces, e),
-        face1: d / 4,
-        face2: e / 4,
+        from: from(faces, later),
+        to: to(faces, later),
+        face1: earlier / 4,
+        face2: later / 4,
     }
 }
 
@@ -67,8 +84,8 @@ fn pair_vertex(
     fan: &[u32],
     by_end: &mut [u32],
     twins: &mut [u32],
-    twice: Option<(u32, u32)>,
-) -> Option<(u32, u32)>
+    twice: Option<Doubled>,
+) -> Option<Doubled>
     requires few { length faces.now ≤ MAX_FACES }
     requires within { NamesBelow (length by_end.old) faces.now }
     requires fan { fan.now ≡ fan_of faces.now v }
@@ -77,11 +94,11 @@ fn pair_vertex(
 {
     let found = mark(faces, v, fan, by_end);
     pair_at(faces, v, fan, by_end, twins);
-    lesser(twice, found)
+    earlier_pair(twice, found)
 }
 
 /// Keeps in `by_end` the first dart from v to each of its ends, and tells the first dart that is a second one.
-fn mark(faces: &[[u32; 4]], v: u32, fan: &[u32], by_end: &mut [u32]) -> Option<(u32, u32)>
+fn mark(faces: &[[u32; 4]], v: u32, fan: &[u32], by_end: &mut [u32]) -> Option<Doubled>
     requires few { length faces.now ≤ MAX_FACES }
     requires within { NamesBelow (length by_end.old) faces.now }
     requires fan { fan.now ≡ fan_of faces.now v }
@@ -98,7 +115,8 @@ fn mark(faces: &[[u32; 4]], v: u32, fan: &[u32], by_end: &mut [u32]) -> Option<(
     twice
 }
 
-fn mark_one(faces: &[[u32; 4]], v: u32, d: u32, by_end: &mut [u32]) -> Option<(u32, u32)>
+/// Takes the dart d, which leaves v.
+fn mark_one(faces: &[[u32; 4]], v: u32, d: u32, by_end: &mut [u32]) -> Option<Doubled>
     requires few { length faces.now ≤ MAX_FACES }
     requires dart { d < darts faces.now }
     requires within { to_of faces.now d < length by_end.old }
@@ -108,18 +126,18 @@ fn mark_one(faces: &[[u32; 4]], v: u32, d: u32, by_end: &mut [u32]) -> Option<(u
     let end = to(faces, d);
     let earlier = by_end[end as usize];
     if earlier < d && runs(faces, earlier, v, end) {
-        return Some((earlier, d));
+        return Some(Doubled { earlier, later: d });
     }
     by_end[end as usize] = d;
     None
 }
 
-/// The pair whose second dart is less.
-fn lesser(a: Option<(u32, u32)>, b: Option<(u32, u32)>) -> Option<(u32, u32)>
+/// The pair whose later dart is less.
+fn earlier_pair(a: Option<Doubled>, b: Option<Doubled>) -> Option<Doubled>
     ensures { IsEarlier a b result }
 {
     match (a, b) {
-        (Some(a), Some(b)) => Some(if b.1 < a.1 { b } else { a }),
+        (Some(a), Some(b)) => Some(if b.later < a.later { b } else { a }),
         (None, b) => b,
         (a, None) => a,
     }
@@ -133,7 +151,8 @@ fn pair_at(faces: &[[u32; 4]], v: u32, fan: &[u32], by_end: &[u32], twins: &mut 
     requires darts { AreDarts faces.now by_end.now }
     requires marked { AreMarked faces.now v by_end.now }
     requires long { length twins.old ≡ darts faces.now }
-    ensures arriving { (e : ℕ) → e < darts faces.now → to_of faces.now e ≡ v → IsPartner faces.now e (slice_index twins.new e) }
+    ensures arriving { (e : ℕ) → e < darts faces.now → to_of faces.now e ≡ v
+        → IsPartner faces.now e (slice_index twins.new e) }
     ensures others { (e : ℕ) → to_of faces.now e ≢ v → slice_index twins.new e ≡ slice_index twins.old e }
 {
     for d in fan {
@@ -142,6 +161,7 @@ fn pair_at(faces: &[[u32; 4]], v: u32, fan: &[u32], by_end: &[u32], twins: &mut 
     }
 }
 
+/// The partner of the dart e, which arrives at v.
 fn partner(faces: &[[u32; 4]], v: u32, e: u32, by_end: &[u32]) -> u32
     requires dart { e < darts faces.now }
     requires arrives { to_of faces.now e ≡ v }

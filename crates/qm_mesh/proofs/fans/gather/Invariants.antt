@@ -1,6 +1,6 @@
 use Rattle.qm_mesh.specs.Tables.{HoldDarts}
 use Rattle.qm_mesh.proofs.fans.gather.Given as goal
 
--- the fans hold the darts before d
+-- The fans hold the darts before d.
 abbrev pub invariant-loop-d : goal.invariant-loop-d
 invariant-loop-d l = HoldDarts l.faces l.vertices l.d l.fans.items

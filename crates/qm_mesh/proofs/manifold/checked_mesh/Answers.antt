@@ -20,6 +20,16 @@ from_tables-requires c =
       each_fan = subst (λ (n : ℕ). AreFans c.args.faces.now n c.in_ok-fans.fans.items) (sym e) c.in_ok-fans.ensures;
     }
 
-pub check_fans-requires-clause-used : goal.check_fans-requires-clause-used
-check_fans-requires-clause-used c v l = corners_from _ c.told-faces c.args.vertices c.requires.used v
-    (omega (arith, ap length c.deref-2.ensures.value, c.in_ok-fans.ensures.long, length-map c.in_ok-fans.fans.items (λ (fan : SmallVec ℕ). fan.items)))
+pub check_fans-requires : goal.check_fans-requires
+check_fans-requires c =
+    let long : length c.deref-2.result.now ≡ c.args.vertices = omega (arith, ap length c.deref-2.ensures.value, c.in_ok-fans.ensures.long, length-map c.in_ok-fans.fans.items (λ (fan : SmallVec ℕ). fan.items)) in
+    record {
+      few = c.requires.few;
+      repeat_free = c.in_ok-check_repeats.ensures.ok;
+      once = c.in_ok-twins.ensures.once;
+      within = rw long (below_from _ c.told-faces _ c.requires.within);
+      used = rw long (corners_from _ c.told-faces _ c.requires.used);
+      small = omega (arith, long, c.ranges.vertices.fits);
+      each_fan = rw long (rw c.deref-2.ensures.value c.in_ok-fans.ensures);
+      partners = rw c.deref-3.ensures.value c.in_ok-twins.ensures.ok;
+    }

@@ -2,6 +2,6 @@ use Rattle.std.proofs.Common.{ℕ, ◌<◌, get_or}
 use Rattle.qm_mesh.specs.Turns.{IsSeen}
 use Rattle.qm_mesh.proofs.one_fan.are_seen.Given as goal
 
--- the darts so far are marked
+-- The darts so far are marked.
 abbrev pub invariant-loop-d : goal.invariant-loop-d
 invariant-loop-d l = (t : ℕ) → t < l.d-index → IsSeen l.seen (get_or l.fan t 0)

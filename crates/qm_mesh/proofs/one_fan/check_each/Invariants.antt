@@ -1,6 +1,6 @@
 use Rattle.qm_mesh.proofs.OneFan.{AreChecked}
 use Rattle.qm_mesh.proofs.one_fan.check_each.Given as goal
 
--- the vertices before v have one fan each, and only their corners are marked
+-- The vertices before v have one fan each, and only their corners are marked.
 abbrev pub invariant-loop-v : goal.invariant-loop-v
 invariant-loop-v l = AreChecked l.faces l.v l.seen

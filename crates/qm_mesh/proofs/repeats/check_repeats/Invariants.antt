@@ -2,6 +2,6 @@ use Rattle.std.proofs.Common.{◌≡◌, ℕ, ◌<◌, get_or, [], None}
 use Rattle.def_mesh.specs.Faults.{repeat_in}
 use Rattle.qm_mesh.proofs.repeats.check_repeats.Given as goal
 
--- no earlier face names a vertex twice
+-- No earlier face names a vertex twice.
 abbrev pub invariant-loop-f : goal.invariant-loop-f
 invariant-loop-f l = (g : ℕ) → g < l.f → repeat_in (get_or l.faces g []) ≡ None

@@ -3,6 +3,6 @@ use Rattle.def_mesh.specs.Darts.{prev_of}
 use Rattle.qm_mesh.specs.Pairs.{IsPaired}
 use Rattle.qm_mesh.proofs.table.all_paired.Given as goal
 
--- the corners so far have both twins
+-- The corners so far have both twins.
 abbrev pub invariant-loop-d : goal.invariant-loop-d
 invariant-loop-d l = (t : ℕ) → t < l.d-index → IsPaired l.twins (get_or l.fan t 0) × IsPaired l.twins (prev_of (get_or l.fan t 0))

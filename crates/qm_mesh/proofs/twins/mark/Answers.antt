@@ -1,6 +1,7 @@
-use Rattle.qm_mesh.proofs.DartLaws.{end_low}
+use Rattle.qm_mesh.proofs.Vertices.{end_low}
 use Rattle.std.proofs.Common.{arith}
-use Rattle.qm_mesh.proofs.Marks.{IsFan, is_fan, mark_more, marked_all, first_of_all}
+use Rattle.mesh_laws.proofs.Fans.{IsFan, is_fan}
+use Rattle.qm_mesh.proofs.Marks.{mark_more, marked_all, first_of_all}
 use Rattle.qm_mesh.proofs.twins.mark.Goals as goal
 
 pub mark_one-found-requires-clause-dart : goal.mark_one-found-requires-clause-dart

@@ -1,6 +1,6 @@
 use Rattle.qm_mesh.specs.Pairs.{IsPairing}
 use Rattle.qm_mesh.proofs.twins.pair.Given as goal
 
--- all vertices below v have been taken
+-- All vertices below v have been taken.
 abbrev pub invariant-loop-v : goal.invariant-loop-v
 invariant-loop-v l = IsPairing l.faces l.vertices l.v l.by_end.items l.twins.items l.twice

@@ -1,6 +1,6 @@
 use Rattle.qm_mesh.proofs.Marks.{ArePairedBefore}
 use Rattle.qm_mesh.proofs.twins.pair_at.Given as goal
 
--- the darts that arrive before this corner's have their partners, and no other changed
+-- The darts that arrive before this corner's have their partners, and no other changed.
 abbrev pub invariant-loop-d : goal.invariant-loop-d
 invariant-loop-d l = ArePairedBefore l.faces l.v l.fan l.d-index l.initial.twins l.twins

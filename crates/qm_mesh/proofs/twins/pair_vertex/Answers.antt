@@ -8,5 +8,5 @@ returns c = record {
   long = omega arith;
   marks = c.mark-found.ensures.darts;
   each = each_more c.args.faces.now c.args.v _ _ c.requires.before.each c.pair_at.ensures.arriving c.pair_at.ensures.others;
-  first = lesser_first c.args.faces.now c.args.v _ _ _ c.requires.before.first c.mark-found.ensures.first c.lesser.ensures;
+  first = lesser_first c.args.faces.now c.args.v _ _ _ c.requires.before.first c.mark-found.ensures.first c.earlier_pair.ensures;
 }

@@ -5,7 +5,7 @@ use Rattle.def_mesh.specs.Faces.{Faces}
 use Rattle.def_mesh.specs.Vertices.{faces_at, vertex_count}
 use Rattle.qm_mesh.specs.Tables.{IsMeshOf}
 use Rattle.qm_mesh.proofs.FanTables.{fan_found}
-use Rattle.qm_mesh.proofs.Vertices.{fan_short}
+use Rattle.mesh_laws.proofs.Vertices.{fan_short}
 use Rattle.qm_mesh.proofs.mesh.Mesh.faces_at.Goals as goal
 
 count : (faces : Faces) (twins : List ℕ) (fans : List (SmallVec ℕ)) (v : ℕ) (fan : SmallVec ℕ) → IsMeshOf faces twins fans → v < vertex_count faces → fan ≡ get_or fans v fan → length fan.items ≡ faces_at faces v

@@ -1,6 +1,6 @@
 use Rattle.std.proofs.Common.{◌≡◌, ap, ◌∙◌, arith}
 use Rattle.def_mesh.specs.Darts.{from_of}
-use Rattle.qm_mesh.proofs.Vertices.{all_below}
+use Rattle.mesh_laws.proofs.Vertices.{all_below}
 use Rattle.qm_mesh.proofs.mesh.Mesh.from.Goals as goal
 
 pub returns-clause-vertex : goal.returns-clause-vertex

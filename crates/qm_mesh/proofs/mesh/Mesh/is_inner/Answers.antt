@@ -1,7 +1,7 @@
 use Rattle.std.proofs.Common.{ℕ, List, length, ap, subst, arith}
 use Rattle.qm_mesh.specs.Tables.{IsMeshOf}
-use Rattle.qm_mesh.proofs.Marks.{is_fan}
-use Rattle.qm_mesh.proofs.DartLaws.{prev_of_low}
+use Rattle.mesh_laws.proofs.Fans.{is_fan}
+use Rattle.mesh_laws.proofs.Darts.{prev_of_low}
 use Rattle.qm_mesh.proofs.Inner.{inner_is}
 use Rattle.qm_mesh.proofs.mesh.Mesh.is_inner.Goals as goal
 use Rattle.def_mesh.specs.Faces.{Faces}

@@ -1,6 +1,6 @@
 use Rattle.std.proofs.Common.{ℕ, List, get_or, Some, None, cond, eqb, ap, subst, ◌∙◌, sym}
 use Rattle.qm_mesh.specs.Tables.{IsMeshOf}
-use Rattle.qm_mesh.proofs.TwinLaws.{partner_is}
+use Rattle.qm_mesh.proofs.Partners.{partner_is}
 use Rattle.qm_mesh.proofs.mesh.Mesh.twin.Goals as goal
 use Rattle.def_mesh.specs.Faces.{Faces}
 

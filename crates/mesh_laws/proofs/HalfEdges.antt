@@ -5,11 +5,11 @@ use Rattle.def_mesh.specs.Faces.{Faces, corner}
 use Rattle.def_mesh.specs.Darts.{darts, from_of, next_of, prev_of, twin_of, IsTwin}
 use Rattle.def_mesh.specs.Manifold.{IsRepeatFree, HasEdgesOnce, Chain}
 use Rattle.def_mesh.specs.HalfEdges.{AreTurned, Turns, half_edges, ManifoldLaw}
-use Rattle.qm_mesh.proofs.DartLaws.{next_of_low, prev_of_low, prev_of-next_of, next_of-prev_of, four_steps, next_face, two_on}
-use Rattle.qm_mesh.proofs.OneFan.{Step, ends_differ, neighbour_step, chain_low}
-use Rattle.qm_mesh.proofs.TwinLaws.{twin_found, twin_is}
+use Rattle.mesh_laws.proofs.Darts.{next_of_low, prev_of_low, prev_of-next_of, next_of-prev_of, four_steps, next_face, two_on}
+use Rattle.mesh_laws.proofs.Chains.{Step, ends_differ, neighbour_step, chain_low}
+use Rattle.mesh_laws.proofs.Twins.{twin_found, twin_is}
 
--- opposite corners of a face differ
+-- Opposite corners of a face differ.
 opposite_differ : (faces : Faces) → IsRepeatFree faces → (d : ℕ) → d < darts faces → from_of faces d ≢ from_of faces (next_of (next_of d))
 opposite_differ faces free d l same = elim (cases_lt (d % 4) 2) [
   | inl b ↦ free (d / 4) (d % 4) (d % 4 + 2) (omega arith) (omega arith) (omega arith) (same ∙ over (d % 4 + 2) ((two_on d).0 b))
@@ -19,7 +19,7 @@ opposite_differ faces free d l same = elim (cases_lt (d % 4) 2) [
     over : (i : ℕ) → next_of (next_of d) % 4 ≡ i → from_of faces (next_of (next_of d)) ≡ corner faces (d / 4) i
     over i e = ap (λ f. corner faces f (next_of (next_of d) % 4)) (next_face (next_of d) ∙ next_face d) ∙ ap (corner faces (d / 4)) e
 
--- a chain of neighbours is made of turns
+-- A chain of neighbours is made of turns.
 chain_turns : (faces : Faces) → HasEdgesOnce faces → (d e n : ℕ) → d < darts faces → Chain faces d e n → (k : ℕ) × Turns (half_edges faces) d e k
 chain_turns faces once d e zero l c = (0, c)
 chain_turns faces once d e (suc n) l c =
