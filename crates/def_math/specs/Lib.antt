@@ -1,4 +1,5 @@
 pub mod Counts
 pub mod Rising
+pub mod Runs
 pub mod Searches
 pub mod Sums

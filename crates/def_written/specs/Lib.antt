@@ -1,0 +1,6 @@
+pub mod Points
+pub mod Numbers
+pub mod NewFaces
+pub mod Edges
+pub mod Shape
+pub mod Places
