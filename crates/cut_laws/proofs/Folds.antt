@@ -5,7 +5,8 @@ use Rattle.std.proofs.lemmas.Bool.{cases_eq, cases_order}
 use Rattle.std.proofs.lemmas.Option.{same_Some}
 use Rattle.def_mesh.specs.HalfEdges.{HalfEdges, AreTurned, Turns, IsQuadManifold}
 use Rattle.def_cut.specs.Cuts.{Cut, IsCross, HasCross, IsUncut, IsCut}
-use Rattle.def_cut.specs.Grids.{Cells, spin, IsGrid}
+use Rattle.def_cut.specs.Grids.{Cells, IsGrid}
+use Rattle.def_cut.specs.Steps.{spin}
 use Rattle.def_cut.specs.Laws.{NoFoldLaw}
 use Rattle.cut_laws.proofs.Darts.{prev_three, prev_same, no_self, turn_low, turn_same}
 

@@ -5,11 +5,9 @@ use Rattle.def_mesh.specs.HalfEdges.{HalfEdges, IsQuadManifold}
 use Rattle.def_cut.specs.Cuts.{Cut, IsCorner, IsCut}
 use Rattle.def_cut.specs.Grids.{Cells, IsGrid}
 use Rattle.def_cut.specs.Laws.{GridLaw}
-use Rattle.cut_laws.proofs.Rows.{east, easts, norths, IsRow, east_twin, north_twin, row_low, row_south, row_north_on, row_north_off, row_above, next_row, west_on, endless}
-
--- The cells of the grid that grows from d.
-abbrev pub grown : (mesh : HalfEdges) (d : ℕ) → Cells
-grown mesh d i j = easts mesh (norths mesh d j) i
+use Rattle.def_cut.specs.Steps.{east, easts, norths}
+use Rattle.cut_laws.specs.Grown.{grown, IsRow, IsGrown}
+use Rattle.cut_laws.proofs.Rows.{east_twin, north_twin, row_low, row_south, row_north_on, row_north_off, row_above, next_row, west_on, endless}
 
 -- The first number up to a bound that passes a test.
 pub record IsFirst (p : ℕ → Bool) (k : ℕ) : Type 0 where
@@ -29,14 +27,6 @@ first_or_none p (suc n) = by_before (first_or_none p n) (cases_Bool (p n))
 pub norths_turned : (mesh : HalfEdges) (d j : ℕ) → mesh.next (norths mesh d j) ≡ easts mesh (mesh.next d) j
 norths_turned mesh d zero = refl
 norths_turned mesh d (suc j) = ap (east mesh) (norths_turned mesh d j)
-
--- h rows of w cells, one over the other, from d to a cut edge in the north.
-pub record IsGrown (mesh : HalfEdges) (cut : Cut) (d w h : ℕ) : Type 0 where
-  pub wide : 0 < w
-  pub tall : 0 < h
-  pub row : IsRow mesh cut d w
-  pub inside : (j : ℕ) → suc j < h → cut (mesh.next (mesh.next (norths mesh d j))) ≡ false
-  pub ends : (j : ℕ) → suc j ≡ h → cut (mesh.next (mesh.next (norths mesh d j))) ≡ true
 
 module _ (mesh : HalfEdges) (laws : IsQuadManifold mesh) (cut : Cut) (full : IsCut mesh cut) where
   row_there : (d : ℕ) → IsCorner mesh cut d → (w : ℕ) × IsRow mesh cut d w

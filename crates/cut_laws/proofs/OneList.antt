@@ -4,7 +4,8 @@ use Rattle.std.proofs.Math.Nat.{div-lt_iff_lt-mul}
 use Rattle.std.proofs.lemmas.List.{ext_get_or}
 use Rattle.def_mesh.specs.HalfEdges.{HalfEdges, IsQuadManifold}
 use Rattle.def_cut.specs.Cuts.{Cut, IsCut}
-use Rattle.def_cut.specs.Grids.{spin, IsGrid, IsPatch, Rectangle, cell_of, patch_at, least_of, IsSide, IsPartition}
+use Rattle.def_cut.specs.Grids.{IsGrid, IsPatch, Rectangle, cell_of, patch_at, least_of, IsSide, IsPartition}
+use Rattle.def_cut.specs.Steps.{spin}
 use Rattle.def_cut.specs.Laws.{OneListLaw}
 use Rattle.cut_laws.proofs.Spins.{spun}
 use Rattle.cut_laws.proofs.Folds.{no_fold}

@@ -4,35 +4,10 @@ use Rattle.std.proofs.lemmas.Bool.{false≢true, true_from_ne_false, false_from_
 use Rattle.std.proofs.lemmas.Option.{same_Some}
 use Rattle.def_mesh.specs.HalfEdges.{HalfEdges, AreTurned, Turns, IsQuadManifold}
 use Rattle.def_cut.specs.Cuts.{Cut, IsCross, HasCross, GoesOn, IsCut}
+use Rattle.def_cut.specs.Steps.{or_zero, east, north, easts}
+use Rattle.cut_laws.specs.Grown.{IsRow}
 use Rattle.cut_laws.proofs.Darts.{prev_three, prev_twice, turn_from, turn_low, turn_same, next_same, twin_same}
 use Rattle.cut_laws.proofs.Pigeon.{comes_back}
-
-abbrev pub or_zero : (found : Option ℕ) → ℕ
-or_zero None = 0
-or_zero (Some d) = d
-
--- The cells east and north of the cell with south dart d, where there are such.
-abbrev pub east : (mesh : HalfEdges) (d : ℕ) → ℕ
-east mesh d = mesh.next (or_zero (mesh.twin (mesh.next d)))
-
-abbrev pub north : (mesh : HalfEdges) (d : ℕ) → ℕ
-north mesh d = or_zero (mesh.twin (mesh.next (mesh.next d)))
-
--- The i-th cell east, and north, of d.
-abbrev pub easts : (mesh : HalfEdges) (d i : ℕ) → ℕ
-easts mesh d zero = d
-easts mesh d (suc i) = east mesh (easts mesh d i)
-
-abbrev pub norths : (mesh : HalfEdges) (d j : ℕ) → ℕ
-norths mesh d zero = d
-norths mesh d (suc j) = north mesh (norths mesh d j)
-
--- A row of w cells to the east of s, up to a cut edge.
-pub record IsRow (mesh : HalfEdges) (cut : Cut) (s w : ℕ) : Type 0 where
-  pub wide : 0 < w
-  pub low : s < mesh.count
-  pub inside : (i : ℕ) → suc i < w → cut (mesh.next (easts mesh s i)) ≡ false
-  pub ends : (i : ℕ) → suc i ≡ w → cut (mesh.next (easts mesh s i)) ≡ true
 
 -- The edges of d and of the dart before it are not cut.
 abbrev pub IsOpen : (mesh : HalfEdges) (cut : Cut) (d : ℕ) → Type 0

@@ -1,7 +1,7 @@
 -- Steps round a face undo each other and follow each other.
 use Rattle.std.proofs.Common.{◌≡◌, ℕ, zero, suc, sym, ◌∙◌, ap, refl}
 use Rattle.def_mesh.specs.HalfEdges.{HalfEdges, IsQuadManifold}
-use Rattle.def_cut.specs.Grids.{spin}
+use Rattle.def_cut.specs.Steps.{spin}
 
 module _ (mesh : HalfEdges) (laws : IsQuadManifold mesh) where
   spin_next : (m x : ℕ) → spin mesh m (mesh.next x) ≡ mesh.next (spin mesh m x)

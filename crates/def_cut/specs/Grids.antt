@@ -2,12 +2,8 @@
 use Rattle.std.specs.Prelude.{◌≡◌, ℕ, zero, suc, ◌+◌, ◌*◌, ◌<◌, ◌≤◌, min, true, false, List, [], ◌∷◌, map, length, slice_index_or, Some}
 use Rattle.def_mesh.specs.HalfEdges.{HalfEdges}
 use Rattle.def_cut.specs.Cuts.{Cut}
+use Rattle.def_cut.specs.Steps.{spin}
 use Rattle.def_cut.specs.declared.patch.Patch.{Patch}
-
--- The dart k steps on round the face of d.
-abbrev pub spin : (mesh : HalfEdges) (k d : ℕ) → ℕ
-spin mesh zero d = d
-spin mesh (suc k) d = mesh.next (spin mesh k d)
 
 -- The south darts of the cells (i, j) of a grid.
 abbrev pub Cells : Type 0

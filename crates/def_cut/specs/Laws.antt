@@ -6,7 +6,8 @@ use Rattle.def_mesh.specs.Darts.{darts}
 use Rattle.def_mesh.specs.Manifold.{IsManifold}
 use Rattle.def_cut.specs.Cuts.{Cut, Links, IsCorner, IsCut}
 use Rattle.def_cut.specs.FullCut.{IsFullCut, is_on}
-use Rattle.def_cut.specs.Grids.{Cells, spin, IsGrid, Rectangle, IsPartition}
+use Rattle.def_cut.specs.Grids.{Cells, IsGrid, Rectangle, IsPartition}
+use Rattle.def_cut.specs.Steps.{spin}
 use Rattle.def_cut.specs.Trails.{AreStarts, IsTraced}
 
 -- No grid is folded: no cell has a side in common with another one.

@@ -3,3 +3,4 @@ pub mod FullCut
 pub mod Grids
 pub mod Laws
 pub mod Trails
+pub mod Steps

@@ -9,8 +9,8 @@ use Rattle.def_mesh.specs.Vertices.{faces_at, fan_of}
 use Rattle.def_mesh.specs.Kinds.{is_end, is_inner, is_regular}
 use Rattle.def_mesh.specs.HalfEdges.{half_edges, IsQuadManifold}
 use Rattle.def_cut.specs.Cuts.{HasCross}
-use Rattle.def_cut.specs.Grids.{spin}
-use Rattle.qm_mesh.proofs.Marks.{IsFan, is_fan}
+use Rattle.def_cut.specs.Steps.{spin}
+use Rattle.mesh_laws.proofs.Fans.{IsFan, is_fan}
 use Rattle.cut_laws.proofs.Pigeon.{no_more}
 use Rattle.cut_laws.proofs.Crosses.{IsRound, HasFan, of_four, four_cross, four_all, four_some, both_twins}
 use Rattle.cut_laws.proofs.Spins.{spin_back, spin_join}

@@ -7,10 +7,10 @@ use Rattle.def_mesh.specs.Kinds.{is_inner, is_regular}
 use Rattle.def_mesh.specs.HalfEdges.{half_edges, IsQuadManifold}
 use Rattle.def_cut.specs.Cuts.{HasCross, IsUncut, Links, IsCorner, GoesOn, IsCut}
 use Rattle.def_cut.specs.FullCut.{is_on, IsChain, IsFullCut}
-use Rattle.def_cut.specs.Grids.{spin}
+use Rattle.def_cut.specs.Steps.{spin}
 use Rattle.def_cut.specs.Laws.{FullCutLaw}
-use Rattle.qm_mesh.proofs.HalfEdgeLaws.{manifold_law}
-use Rattle.qm_mesh.proofs.DartLaws.{next_face}
+use Rattle.mesh_laws.proofs.HalfEdges.{manifold_law}
+use Rattle.mesh_laws.proofs.Darts.{next_face}
 use Rattle.cut_laws.proofs.Classes.{AreLinked, step_over, step_spin, links_low}
 use Rattle.face_laws.proofs.Fans.{inner_from, regular_cross, cross_regular, same_face}
 
