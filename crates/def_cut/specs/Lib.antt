@@ -4,3 +4,6 @@ pub mod Grids
 pub mod Laws
 pub mod Trails
 pub mod Steps
+pub mod Motion
+pub mod Traced
+pub mod Events

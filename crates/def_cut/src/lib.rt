@@ -3,7 +3,9 @@
 #![tactic(auto)]
 
 mod graph;
+mod moving;
 mod patch;
 
 pub use graph::{Graph, Rider, Stop};
+pub use moving::Moving;
 pub use patch::Patch;
