@@ -1,0 +1,4 @@
+pub mod Darts
+pub mod Forests
+pub mod Steps
+pub mod Valid

@@ -1,0 +1,35 @@
+-- What the steps do to a forest.
+use Rattle.std.specs.Prelude.{◌≡◌, ◌≢◌, ℕ, ◌+◌, ◌*◌, ◌<◌, ◌≤◌, ◌==◌, Bool, true, false, if◌then◌else◌, ℤ, pos, ◌+ℤ◌, ◌-ℤ◌, Option, Some, None, ◌⊎◌}
+use Rattle.def_matching.specs.Matching.{Vertex}
+use Rattle.def_forest.specs.Darts.{Dart, Darts, far}
+use Rattle.def_forest.specs.Forests.{Blossom, Forest, IsTight, set_at}
+use Rattle.def_forest.specs.declared.kinds.Label.{Label}
+use Rattle.def_forest.specs.declared.kinds.Label.TheVariants.{Outer, Inner, Outside}
+
+-- How a shift by t changes a weight.
+abbrev pub change : (l : Label) (t : ℤ) → ℤ
+change Outer t = t
+change Inner t = pos 0 -ℤ t
+change Outside t = pos 0
+
+-- A shift adds t at outer blossoms and takes it away at inner ones.
+abbrev pub shifted : (f : Forest) (t : ℤ) → Forest
+shifted f t = record f { weight = λ b. f.weight b +ℤ change (f.label b) t }
+
+-- A blossom that is not matched becomes the root and the whole tree.
+abbrev pub rooted : (f : Forest) (b : Blossom) → Forest
+rooted f b = record f { label = set_at f.label b Outer }
+
+-- The blossom that dart d reaches becomes inner and hangs on where d begins; what its mate m reaches becomes outer.
+abbrev pub grown : (g : Darts) (f : Forest) (d m : Dart) → Forest
+grown g f d m = record f { label = set_at (set_at f.label (f.out (far g d)) Inner) (f.out (far g m)) Outer; link = set_at f.link (f.out (far g d)) (g.twin d) }
+
+-- Nothing but the mates is changed, and no tree stands.
+abbrev pub with_mates : (f : Forest) (mates : Blossom → Option Dart) → Forest
+with_mates f mates = record f { label = λ b. Outside; mate = mates }
+
+-- A dart goes from an outer blossom to one outside the tree.
+pub record Reaches (g : Darts) (f : Forest) (d : Dart) : Type 0 where
+  pub tight : IsTight g f d
+  pub outer : f.label (f.out (g.near d)) ≡ Outer
+  pub off : f.label (f.out (far g d)) ≡ Outside

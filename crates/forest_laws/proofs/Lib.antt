@@ -1,0 +1,5 @@
+pub mod Facts
+pub mod Grows
+pub mod Loads
+pub mod Shifts
+pub mod Writes

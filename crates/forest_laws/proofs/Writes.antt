@@ -1,0 +1,66 @@
+-- A function with another value at one place; cases on labels; tests as terms of sums.
+use Rattle.std.proofs.Common.{◌≡◌, ◌≢◌, ℕ, Bool, true, false, not, cond, eqb, Option, Some, ℤ, pos, ◌+ℤ◌, ◌⊎◌, refl, sym, ◌∙◌, inl, inr, arith}
+use Rattle.std.proofs.lemmas.Int.{ints}
+use Rattle.std.proofs.lemmas.Bool.{cond-true, cond-false, eq-eqb, ne_eqb}
+use Rattle.def_forest.specs.Forests.{set_at}
+use Rattle.def_forest.specs.declared.kinds.Label.{Label}
+use Rattle.def_forest.specs.declared.kinds.Label.TheVariants.{Outer, Inner, Outside}
+
+-- At the place.
+pub set_here : {X : Type 0} (f : ℕ → X) (k : ℕ) (x : X) → set_at f k x k ≡ x
+set_here f k x = cond-true (eqb k k) x (f k) (eq-eqb k k refl)
+
+-- At any other place.
+pub set_there : {X : Type 0} (f : ℕ → X) (k j : ℕ) (x : X) → j ≢ k → set_at f k x j ≡ f j
+set_there f k j x ne = cond-false (eqb j k) x (f j) (ne_eqb j k ne)
+
+-- What stands in two options that are equal is equal.
+pub some_is : (a b : ℕ) → Some a ≡ Some b → a ≡ b
+some_is a b e = cc
+
+-- A blossom is outside the tree or not.
+pub label_cases : (l : Label) → (l ≡ Outside) ⊎ (l ≢ Outside)
+label_cases Outside = inl refl
+label_cases Outer = inr (λ e. cc e)
+label_cases Inner = inr (λ e. cc e)
+
+-- The labels differ.
+pub outer_named : (l : Label) → l ≡ Outer → l ≢ Outside
+outer_named l e off = cc
+
+pub inner_named : (l : Label) → l ≡ Inner → l ≢ Outside
+inner_named l e off = cc
+
+pub outer_not_inner : (l : Label) → l ≡ Outer → l ≢ Inner
+outer_not_inner l e off = cc
+
+-- Two sets that have nothing in common: what lies in just one of them.
+pub by_two : (p q : Bool) (x : ℤ) → (p ≡ true → q ≡ true → ⊥) → cond (cond p (not q) q) x (pos 0) ≡ cond p x (pos 0) +ℤ cond q x (pos 0)
+by_two true true x off = absurd (off refl refl)
+by_two true false x off = omega (arith, ints)
+by_two false true x off = omega (arith, ints)
+by_two false false x off = omega (arith, ints)
+
+-- Nothing lies in just one of two equal sets.
+pub by_same : (p q : Bool) (x : ℤ) → p ≡ q → cond (cond p (not q) q) x (pos 0) ≡ pos 0
+by_same true true x e = refl
+by_same true false x e = absurd (cc e)
+by_same false true x e = absurd (cc e)
+by_same false false x e = refl
+
+-- A test with nothing on either side.
+pub by_none : (p : Bool) → cond p (pos 0) (pos 0) ≡ pos 0
+by_none true = refl
+by_none false = refl
+
+-- A test over a sum.
+pub by_sum : (p : Bool) (x y : ℤ) → cond p (x +ℤ y) (pos 0) ≡ cond p x (pos 0) +ℤ cond p y (pos 0)
+by_sum true x y = refl
+by_sum false x y = omega (arith, ints)
+
+-- Exactly one of two, in either order.
+pub by_order : (p q : Bool) → cond p (not q) q ≡ cond q (not p) p
+by_order true true = refl
+by_order true false = refl
+by_order false true = refl
+by_order false false = refl

@@ -1,0 +1,2 @@
+//! Laws of forests of blossoms: what the steps keep, and why a search ends. Each law is a function without a body.
+#![tactic(auto)]
