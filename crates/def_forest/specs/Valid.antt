@@ -11,6 +11,7 @@ pub record AreOutermost (n : ℕ) (f : Forest) : Type 0 where
   pub vertices : n ≤ f.size
   pub out_low : (v : Vertex) → v < n → f.out v < f.size
   pub held : (u v : Vertex) → u < n → v < n → f.holds (f.out u) v ≡ (f.out v == f.out u)
+  pub tops : (v : Vertex) → v < n → f.nest.up (f.out v) ≡ f.out v
   pub together : (b : Blossom) (u v : Vertex) → u < n → v < n → f.holds b u ≡ true → f.holds b v ≡ true → f.out u ≡ f.out v
   pub named : (b : Blossom) → f.label b ≢ Outside → IsOutermost n f b
 

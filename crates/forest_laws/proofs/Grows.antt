@@ -36,7 +36,7 @@ module _ (g : Darts) (f : Forest) (label : ℕ → Label) (mate : ℕ → Option
       joint p is = record { tight = same_tight (f.nest.joint p) is.tight; begins = is.begins; ends = is.ends; same = is.same }
 
   pub same_outermost : (n : ℕ) → AreOutermost n f → ((b : ℕ) → label b ≢ Outside → IsOutermost n f b) → AreOutermost n (replaced f label mate link)
-  same_outermost n top named = record { vertices = top.vertices; out_low = top.out_low; held = top.held; together = top.together; named = named }
+  same_outermost n top named = record { vertices = top.vertices; out_low = top.out_low; held = top.held; tops = top.tops; together = top.together; named = named }
 
   -- The mates are the same.
   pub same_matched : (m : ℕ → Option ℕ) → m ≡ mate → IsMatched g (record f { mate = m }) → IsMatched g (replaced f label mate link)

@@ -68,7 +68,7 @@ module _ (g : Darts) (are : AreDarts g) (f : Forest) (root : Option ℕ) (valid 
   -- A shift whose end is feasible keeps the forest valid.
   pub shift_valid : IsFeasible g (shifted f t) → IsValid g (shifted f t) root
   shift_valid feasible = record {
-      outermost = record { vertices = valid.outermost.vertices; out_low = valid.outermost.out_low; held = valid.outermost.held; together = valid.outermost.together; named = valid.outermost.named };
+      outermost = record { vertices = valid.outermost.vertices; out_low = valid.outermost.out_low; held = valid.outermost.held; tops = valid.outermost.tops; together = valid.outermost.together; named = valid.outermost.named };
       nested = shifted_nest;
       feasible = feasible;
       matched = λ b d mate. (let is : IsMate g f b d = valid.matched b d mate in record { tight = mate_still b d mate is; here = is.here; other = is.other; back = is.back });
