@@ -1,3 +1,4 @@
+pub mod Expands
 pub mod Facts
 pub mod Grows
 pub mod Loads

@@ -57,6 +57,7 @@ module _ (g : Darts) (are : AreDarts g) (f : Forest) (root : Option ℕ) (valid 
       alone = valid.nested.alone;
       rings = λ b high live. ring b (valid.nested.rings b high live);
       empty = valid.nested.empty;
+      live = valid.nested.live;
       joints = λ p inside. joint p (valid.nested.joints p inside)
     }
     where

@@ -239,6 +239,7 @@ module _ (g : Darts) (are : AreDarts g) (f : Forest) (r : ℕ) (valid : IsValid 
       alone = λ v w lv lw. is.holds_old v w (λ e. (let h : g.n ≤ v = subst (λ x. g.n ≤ x) (sym e) unused.high in omega arith)) lw ∙ valid.nested.alone v w lv lw;
       rings = λ c high live. rings c high live (cases_eq c b);
       empty = λ c v high low none. empty c v high low none (cases_eq c b);
+      live = λ p inner. live p inner (place p);
       joints = λ p inner. joints p inner (place p)
     }
     where
@@ -248,6 +249,12 @@ module _ (g : Darts) (are : AreDarts g) (f : Forest) (r : ℕ) (valid : IsValid 
       empty : (c v : ℕ) → g.n ≤ c → v < g.n → new.nest.parts c ≡ 0 → (c ≡ b) ⊎ (c ≢ b) → new.holds c v ≡ false
       empty c v high low none (inl e) = let h : many ≡ 0 = sym (set_here f.nest.parts b many) ∙ (sym (is.parts b) ∙ (ap new.nest.parts (sym e) ∙ none)) in absurd (omega (arith, row.odd))
       empty c v high low none (inr ne) = is.holds_old c v ne low ∙ valid.nested.empty c v high low (sym (set_there f.nest.parts b c many ne) ∙ (sym (is.parts c) ∙ none))
+      live : (p : ℕ) → new.nest.up p ≢ p → Place p → (g.n ≤ new.nest.up p) × (new.nest.parts (new.nest.up p) ≢ 0)
+      live p inner (inl e) = absurd (inner (ap new.nest.up e ∙ (up_b ∙ sym e)))
+      live p inner (inr (inl on)) = (subst (λ x. g.n ≤ x) (sym (up_on p on.1)) unused.high, (λ none. (let h : many ≡ 0 = sym (set_here f.nest.parts b many) ∙ (sym (is.parts b) ∙ (ap new.nest.parts (sym (up_on p on.1)) ∙ none)) in absurd (omega (arith, row.odd)))))
+      live p inner (inr (inr off)) =
+          let was : (g.n ≤ f.nest.up p) × (f.nest.parts (f.nest.up p) ≢ 0) = valid.nested.live p (λ e. inner (up_off p off.0 off.1 ∙ e)) in
+          (subst (λ x. g.n ≤ x) (sym (up_off p off.0 off.1)) was.0, (λ none. was.1 (sym (set_there f.nest.parts b (f.nest.up p) many (unused.around_none p off.0)) ∙ (sym (is.parts (f.nest.up p)) ∙ (ap new.nest.parts (sym (up_off p off.0 off.1)) ∙ none)))))
       joints : (p : ℕ) → new.nest.up p ≢ p → Place p → IsJoint g new p
       joints p inner (inl e) = absurd (inner (ap new.nest.up e ∙ (up_b ∙ sym e)))
       joints p inner (inr (inl on)) = joint_new p on.1
