@@ -32,9 +32,9 @@ twin_of d = if d % 2 == 0 then d + 1 else d - 1
 -- The darts of a graph.
 abbrev pub darts_of : (g : Graph) → Darts
 darts_of g = record {
-    n = g.n;
-    count = 2 * length g.edges;
-    near = λ d. if d % 2 == 0 then (edge_at g (d / 2)).u else (edge_at g (d / 2)).v;
-    twin = twin_of;
-    cost = λ d. (edge_at g (d / 2)).cost
-  }
+  n = g.n;
+  count = 2 * length g.edges;
+  near = λ d. if d % 2 == 0 then (edge_at g (d / 2)).u else (edge_at g (d / 2)).v;
+  twin = twin_of;
+  cost = λ d. (edge_at g (d / 2)).cost;
+}

@@ -43,7 +43,6 @@ holds_up g f nested p v l inner on = by_ring (nested.rings (f.nest.up p) (nested
         number_true (f.holds (f.nest.up p) v) (omega (arith, ring.shared v l))
 
 module _ (g : Darts) (are : AreDarts g) (f : Forest) (r : ℕ) (valid : IsValid g f (Some r)) (tree : IsTree g f r) (new : Forest) (o : Opening) (opening : IsOpening g f o) (is : IsOpened g f new o) where
-
   abbrev b : ℕ
   b = o.b
 
@@ -83,6 +82,7 @@ module _ (g : Darts) (are : AreDarts g) (f : Forest) (r : ℕ) (valid : IsValid 
     where
       sum : ℕ → ℤ
       sum s = load (record new { size = s }) u v
+
       each : (x : ℕ) → (x ≡ b) ⊎ (x ≢ b) → cond (splits (new.holds x) u v) (new.weight x) (pos 0) ≡ cond (splits (f.holds x) u v) (f.weight x) (pos 0)
       each x (inl e) =
           let w : f.weight x ≡ pos 0 = ap f.weight e ∙ opening.weightless in
@@ -107,29 +107,33 @@ module _ (g : Darts) (are : AreDarts g) (f : Forest) (r : ℕ) (valid : IsValid 
 
   new_outermost : AreOutermost g.n new
   new_outermost = record {
-      vertices = subst (λ s. g.n ≤ s) (sym is.size) valid.outermost.vertices;
-      out_low = λ v l. subst (λ s. new.out v < s) (sym is.size) (low v l (cases_eq (f.out v) b));
-      held = λ u v lu lv. held u v lu lv (cases_eq (f.out u) b) (cases_eq (f.out v) b);
-      tops = λ v l. tops v l (cases_eq (f.out v) b);
-      together = λ x u v lu lv hu hv. together x u v lu lv hu hv (cases_eq x b);
-      named = λ x n. named x n (place x)
-    }
+    vertices = subst (λ s. g.n ≤ s) (sym is.size) valid.outermost.vertices;
+    out_low = λ v l. subst (λ s. new.out v < s) (sym is.size) (low v l (cases_eq (f.out v) b));
+    held = λ u v lu lv. held u v lu lv (cases_eq (f.out u) b) (cases_eq (f.out v) b);
+    tops = λ v l. tops v l (cases_eq (f.out v) b);
+    together = λ x u v lu lv hu hv. together x u v lu lv hu hv (cases_eq x b);
+    named = λ x n. named x n (place x);
+  }
     where
       low : (v : ℕ) → v < g.n → (f.out v ≡ b) ⊎ (f.out v ≢ b) → new.out v < f.size
       low v l (inl e) = subst (λ x. x < f.size) (sym (out_in v l e)) (part_low v l e)
       low v l (inr ne) = subst (λ x. x < f.size) (sym (out_old v l ne)) (valid.outermost.out_low v l)
+
       held_part : (u v : ℕ) → u < g.n → v < g.n → f.out u ≡ b → f.out v ≡ b → new.holds (o.part u) v ≡ eqb (o.part v) (o.part u)
       held_part u v lu lv eu ev =
           let p : (j : ℕ) × (j ≤ 2 * o.half) × (o.q j ≡ o.part u) = opening.part_of u lu eu in
           subst (λ x. new.holds x v ≡ eqb (o.part v) x) p.2 (is.holds (o.q p.0) v (opening.parts p.0 p.1).1 lv ∙ opening.held v p.0 lv ev p.1)
+
       part_alone : (u v : ℕ) → u < g.n → v < g.n → f.out u ≡ b → f.out v ≢ b → new.holds (o.part u) v ≡ false
       part_alone u v lu lv eu nv = by_part (opening.part_of u lu eu)
         where
           alone : (j : ℕ) → j ≤ 2 * o.half → o.q j ≡ o.part u → (f.holds (o.q j) v ≡ true) ⊎ (f.holds (o.q j) v ≡ false) → f.holds (o.q j) v ≡ false
           alone j l e (inr off) = off
           alone j l e (inl on) = absurd (nv (sym (valid.outermost.together (o.q j) u v lu lv (opening.held u j lu eu l ∙ eq-eqb (o.part u) (o.q j) (sym e)) on) ∙ eu))
+
           by_part : (j : ℕ) × (j ≤ 2 * o.half) × (o.q j ≡ o.part u) → new.holds (o.part u) v ≡ false
           by_part p = subst (λ x. new.holds x v ≡ false) p.2 (is.holds (o.q p.0) v (opening.parts p.0 p.1).1 lv ∙ alone p.0 p.1 p.2 (cases_Bool (f.holds (o.q p.0) v)))
+
       held : (u v : ℕ) → u < g.n → v < g.n → (f.out u ≡ b) ⊎ (f.out u ≢ b) → (f.out v ≡ b) ⊎ (f.out v ≢ b) → new.holds (new.out u) v ≡ eqb (new.out v) (new.out u)
       held u v lu lv (inl eu) (inl ev) = ap (λ x. new.holds x v) (out_in u lu eu) ∙ (held_part u v lu lv eu ev ∙ (ap (λ x. eqb x (o.part u)) (sym (out_in v lv ev)) ∙ ap (λ x. eqb (new.out v) x) (sym (out_in u lu eu))))
       held u v lu lv (inl eu) (inr nv) = ap (λ x. new.holds x v) (out_in u lu eu) ∙ (part_alone u v lu lv eu nv ∙ sym (ne_eqb (new.out v) (new.out u) (λ e. part_not_out u v lu lv eu nv (sym (out_in u lu eu) ∙ (sym e ∙ out_old v lv nv)))))
@@ -139,26 +143,31 @@ module _ (g : Darts) (are : AreDarts g) (f : Forest) (r : ℕ) (valid : IsValid 
       held u v lu lv (inr nu) (inr nv) =
           ap (λ x. new.holds x v) (out_old u lu nu) ∙ (is.holds (f.out u) v nu lv ∙ (valid.outermost.held u v lu lv
           ∙ (ap (λ x. eqb x (f.out u)) (sym (out_old v lv nv)) ∙ ap (λ x. eqb (new.out v) x) (sym (out_old u lu nu)))))
+
       tops : (v : ℕ) → v < g.n → (f.out v ≡ b) ⊎ (f.out v ≢ b) → new.nest.up (new.out v) ≡ new.out v
       tops v l (inl e) =
           let p : (j : ℕ) × (j ≤ 2 * o.half) × (o.q j ≡ o.part v) = opening.part_of v l e in
           subst (λ x. new.nest.up x ≡ x) (p.2 ∙ sym (out_in v l e)) (is.up_part (o.q p.0) (opening.parts p.0 p.1).0)
       tops v l (inr ne) = ap new.nest.up (out_old v l ne) ∙ (is.up (f.out v) (out_not_part v l ne) ∙ (valid.outermost.tops v l ∙ sym (out_old v l ne)))
+
       by_outs : (x u v : ℕ) → u < g.n → v < g.n → x ≢ b → f.holds x u ≡ true → f.holds x v ≡ true → f.out u ≡ f.out v → (f.out u ≡ b) ⊎ (f.out u ≢ b) → new.out u ≡ new.out v
       by_outs x u v lu lv ne hu hv same (inl e) = out_in u lu e ∙ (opening.parted x u v lu lv ne hu hv e (sym same ∙ e) ∙ sym (out_in v lv (sym same ∙ e)))
       by_outs x u v lu lv ne hu hv same (inr nu) = out_old u lu nu ∙ (same ∙ sym (out_old v lv (λ e. nu (same ∙ e))))
+
       together : (x u v : ℕ) → u < g.n → v < g.n → new.holds x u ≡ true → new.holds x v ≡ true → (x ≡ b) ⊎ (x ≢ b) → new.out u ≡ new.out v
       together x u v lu lv hu hv (inl e) = absurd (true_false (new.holds x u) hu (ap (λ y. new.holds y u) e ∙ is.holds_none u lu))
       together x u v lu lv hu hv (inr ne) =
           let fu : f.holds x u ≡ true = sym (is.holds x u ne lu) ∙ hu in
           let fv : f.holds x v ≡ true = sym (is.holds x v ne lv) ∙ hv in
           by_outs x u v lu lv ne fu fv (valid.outermost.together x u v lu lv fu fv) (cases_eq (f.out u) b)
+
       by_half : (j : ℕ) → j ≤ 2 * o.half → (j < 2 * o.half) ⊎ (2 * o.half ≤ j) → IsOutermost g.n new (o.q j)
       by_half j l (inl lt) = (g.near (o.e j), are.near_low (o.e j) (opening.tight j lt).low, out_in (g.near (o.e j)) (are.near_low (o.e j) (opening.tight j lt).low) (opening.begins j lt).0 ∙ (opening.begins j lt).1)
       by_half j l (inr ge) = by_last (2 * o.half - 1) (let s : 1 ≤ o.half = opening.some in omega arith) (let s : 1 ≤ o.half = opening.some in omega arith)
         where
           by_last : (k : ℕ) → k < 2 * o.half → k + 1 ≡ j → IsOutermost g.n new (o.q j)
           by_last k lt e = (far g (o.e k), far_low g are (o.e k) (opening.tight k lt).low, out_in (far g (o.e k)) (far_low g are (o.e k) (opening.tight k lt).low) (opening.ends k lt).0 ∙ ((opening.ends k lt).1 ∙ ap o.q e))
+
       named : (x : ℕ) → new.label x ≢ Outside → Place x → IsOutermost g.n new x
       named x n (inl e) = absurd (n (ap new.label e ∙ is.gone.0))
       named x n (inr (inl p)) = subst (λ y. IsOutermost g.n new y) p.2 (by_half p.0 p.1 (cases_lt p.0 (2 * o.half)))
@@ -170,28 +179,33 @@ module _ (g : Darts) (are : AreDarts g) (f : Forest) (r : ℕ) (valid : IsValid 
 
   ring_old : (c : ℕ) → c ≢ b → IsRing g f c → IsRing g new c
   ring_old c ne ring = record {
-      half = ring.half;
-      some = ring.some;
-      odd = many_is ∙ ring.odd;
-      closed = ap (walk new.nest.after (new.nest.head c)) many_is ∙ (walks (f.nest.parts c) ∙ (ring.closed ∙ sym head_is));
-      inside = λ k. ap new.nest.up (walks k) ∙ (is.up (at k) (old k) ∙ ring.inside k);
-      lower = λ k. subst (λ x. new.nest.rank x < new.nest.rank c) (sym (walks k)) (subst (λ x. x < new.nest.rank c) (sym (is.rank (at k) (other_not_b (at k) (old k)))) (subst (λ x. f.nest.rank (at k) < x) (sym (is.rank c ne)) (ring.lower k)));
-      below = λ k. subst (λ x. x < new.size) (sym (walks k)) (subst (λ s. at k < s) (sym is.size) (ring.below k));
-      distinct = λ i j l h e. ring.distinct i j l (subst (λ n. j < n) many_is h) (sym (walks i) ∙ (e ∙ walks j));
-      all = λ p up inner. all p up inner (cases_eq (f.nest.up p) b);
-      shared = λ v l. ap number (is.holds c v ne l) ∙ (ring.shared v l ∙ (ring_sum_same f.nest.after new.nest.after (λ p. number (f.holds p v)) (λ p. number (new.holds p v)) (f.nest.head c) (new.nest.head c) (f.nest.parts c) walks (λ k. ap number (sym (is.holds (at k) v (other_not_b (at k) (old k)) l))) ∙ ap (ring_sum new.nest.after (λ p. number (new.holds p v)) (new.nest.head c)) (sym many_is)))
-    }
+    half = ring.half;
+    some = ring.some;
+    odd = many_is ∙ ring.odd;
+    closed = ap (walk new.nest.after (new.nest.head c)) many_is ∙ (walks (f.nest.parts c) ∙ (ring.closed ∙ sym head_is));
+    inside = λ k. ap new.nest.up (walks k) ∙ (is.up (at k) (old k) ∙ ring.inside k);
+    lower = λ k. subst (λ x. new.nest.rank x < new.nest.rank c) (sym (walks k)) (subst (λ x. x < new.nest.rank c) (sym (is.rank (at k) (other_not_b (at k) (old k)))) (subst (λ x. f.nest.rank (at k) < x) (sym (is.rank c ne)) (ring.lower k)));
+    below = λ k. subst (λ x. x < new.size) (sym (walks k)) (subst (λ s. at k < s) (sym is.size) (ring.below k));
+    distinct = λ i j l h e. ring.distinct i j l (subst (λ n. j < n) many_is h) (sym (walks i) ∙ (e ∙ walks j));
+    all = λ p up inner. all p up inner (cases_eq (f.nest.up p) b);
+    shared = λ v l. ap number (is.holds c v ne l) ∙ (ring.shared v l ∙ (ring_sum_same f.nest.after new.nest.after (λ p. number (f.holds p v)) (λ p. number (new.holds p v)) (f.nest.head c) (new.nest.head c) (f.nest.parts c) walks (λ k. ap number (sym (is.holds (at k) v (other_not_b (at k) (old k)) l))) ∙ ap (ring_sum new.nest.after (λ p. number (new.holds p v)) (new.nest.head c)) (sym many_is)));
+  }
     where
       at : ℕ → ℕ
       at k = walk f.nest.after (f.nest.head c) k
+
       many_is : new.nest.parts c ≡ f.nest.parts c
       many_is = is.others_parts c ne
+
       head_is : new.nest.head c ≡ f.nest.head c
       head_is = is.head c ne
+
       old : (k : ℕ) → f.nest.up (at k) ≢ b
       old k = up_old c (walk f.nest.after (f.nest.head c) k) ne (ring.inside k)
+
       walks : (k : ℕ) → walk new.nest.after (new.nest.head c) k ≡ at k
       walks k = ap (λ x. walk new.nest.after x k) head_is ∙ walk_same f.nest.after new.nest.after (f.nest.head c) (λ j. sym (is.after (walk f.nest.after (f.nest.head c) j) (old j))) k
+
       all : (p : ℕ) → new.nest.up p ≡ c → p ≢ c → (f.nest.up p ≡ b) ⊎ (f.nest.up p ≢ b) → (k : ℕ) × (k < new.nest.parts c) × (walk new.nest.after (new.nest.head c) k ≡ p)
       all p up inner (inl e) = absurd (inner (sym (is.up_part p e) ∙ up))
       all p up inner (inr nb) = let w : (k : ℕ) × (k < f.nest.parts c) × (walk f.nest.after (f.nest.head c) k ≡ p) = ring.all p (sym (is.up p nb) ∙ up) inner in (w.0, subst (λ n. w.0 < n) (sym many_is) w.1, walks w.0 ∙ w.2)
@@ -202,8 +216,10 @@ module _ (g : Darts) (are : AreDarts g) (f : Forest) (r : ℕ) (valid : IsValid 
     where
       live : (g.n ≤ f.nest.up p) × (f.nest.parts (f.nest.up p) ≢ 0)
       live = valid.nested.live p inner
+
       by_place : (ring : IsRing g f (f.nest.up p)) → (k : ℕ) → walk f.nest.after (f.nest.head (f.nest.up p)) k ≡ p → ⊥
       by_place ring k at = nb (sym (ap (λ x. f.nest.up (f.nest.after x)) (sym at) ∙ ring.inside (suc k)) ∙ (ap f.nest.up e ∙ b_top))
+
       by_ring : IsRing g f (f.nest.up p) → ⊥
       by_ring ring = let w : (k : ℕ) × (k < f.nest.parts (f.nest.up p)) × (walk f.nest.after (f.nest.head (f.nest.up p)) k ≡ p) = ring.all p refl (λ e'. inner (sym e')) in by_place ring w.0 w.2
 
@@ -213,6 +229,7 @@ module _ (g : Darts) (are : AreDarts g) (f : Forest) (r : ℕ) (valid : IsValid 
     where
       live : (g.n ≤ f.nest.up p) × (f.nest.parts (f.nest.up p) ≢ 0)
       live = valid.nested.live p inner
+
       by_ring : IsRing g f (f.nest.up p) → f.nest.up (f.nest.after p) ≡ f.nest.up p
       by_ring ring =
           let w : (k : ℕ) × (k < f.nest.parts (f.nest.up p)) × (walk f.nest.after (f.nest.head (f.nest.up p)) k ≡ p) = ring.all p refl (λ e. inner (sym e)) in
@@ -223,6 +240,7 @@ module _ (g : Darts) (are : AreDarts g) (f : Forest) (r : ℕ) (valid : IsValid 
     where
       live : (g.n ≤ f.nest.up p) × (f.nest.parts (f.nest.up p) ≢ 0)
       live = valid.nested.live p inner
+
       by_ring : IsRing g f (f.nest.up p) → ⊥
       by_ring ring =
           let w : (k : ℕ) × (k < f.nest.parts (f.nest.up p)) × (walk f.nest.after (f.nest.head (f.nest.up p)) k ≡ p) = ring.all p refl (λ e'. inner (sym e')) in
@@ -232,24 +250,27 @@ module _ (g : Darts) (are : AreDarts g) (f : Forest) (r : ℕ) (valid : IsValid 
 
   new_nested : IsNested g new
   new_nested = record {
-      alone = λ v w lv lw. is.holds v w (λ e. (let h : g.n ≤ v = subst (λ x. g.n ≤ x) (sym e) opening.high in omega arith)) lw ∙ valid.nested.alone v w lv lw;
-      rings = λ c high live. rings c high live (cases_eq c b);
-      empty = λ c v high low none. empty c v high low none (cases_eq c b);
-      live = λ p inner. live p inner (cases_eq (f.nest.up p) b);
-      joints = λ p inner. joints p inner (cases_eq (f.nest.up p) b)
-    }
+    alone = λ v w lv lw. is.holds v w (λ e. (let h : g.n ≤ v = subst (λ x. g.n ≤ x) (sym e) opening.high in omega arith)) lw ∙ valid.nested.alone v w lv lw;
+    rings = λ c high live. rings c high live (cases_eq c b);
+    empty = λ c v high low none. empty c v high low none (cases_eq c b);
+    live = λ p inner. live p inner (cases_eq (f.nest.up p) b);
+    joints = λ p inner. joints p inner (cases_eq (f.nest.up p) b);
+  }
     where
       rings : (c : ℕ) → g.n ≤ c → new.nest.parts c ≢ 0 → (c ≡ b) ⊎ (c ≢ b) → IsRing g new c
       rings c high some (inl e) = absurd (some (ap new.nest.parts e ∙ is.no_parts))
       rings c high some (inr ne) = ring_old c ne (valid.nested.rings c high (λ none. some (is.others_parts c ne ∙ none)))
+
       empty : (c v : ℕ) → g.n ≤ c → v < g.n → new.nest.parts c ≡ 0 → (c ≡ b) ⊎ (c ≢ b) → new.holds c v ≡ false
       empty c v high low none (inl e) = ap (λ x. new.holds x v) e ∙ is.holds_none v low
       empty c v high low none (inr ne) = is.holds c v ne low ∙ valid.nested.empty c v high low (sym (is.others_parts c ne) ∙ none)
+
       live : (p : ℕ) → new.nest.up p ≢ p → (f.nest.up p ≡ b) ⊎ (f.nest.up p ≢ b) → (g.n ≤ new.nest.up p) × (new.nest.parts (new.nest.up p) ≢ 0)
       live p inner (inl e) = absurd (inner (is.up_part p e))
       live p inner (inr ne) =
           let was : (g.n ≤ f.nest.up p) × (f.nest.parts (f.nest.up p) ≢ 0) = valid.nested.live p (λ e. inner (is.up p ne ∙ e)) in
           (subst (λ x. g.n ≤ x) (sym (is.up p ne)) was.0, (λ none. was.1 (sym (is.others_parts (f.nest.up p) ne) ∙ (ap new.nest.parts (sym (is.up p ne)) ∙ none))))
+
       joints : (p : ℕ) → new.nest.up p ≢ p → (f.nest.up p ≡ b) ⊎ (f.nest.up p ≢ b) → IsJoint g new p
       joints p inner (inl e) = absurd (inner (is.up_part p e))
       joints p inner (inr ne) =
@@ -262,7 +283,7 @@ module _ (g : Darts) (are : AreDarts g) (f : Forest) (r : ℕ) (valid : IsValid 
             tight = subst (λ d. IsTight g new d) (sym joint_is) (same_tight (f.nest.joint p) old.tight);
             begins = ap (λ d. new.holds p (g.near d)) joint_is ∙ (is.holds p (g.near (f.nest.joint p)) (other_not_b p ne) near_low ∙ old.begins);
             ends = ap (λ d. new.holds (new.nest.after p) (far g d)) joint_is ∙ (ap (λ x. new.holds x (far g (f.nest.joint p))) (is.after p ne) ∙ (is.holds (f.nest.after p) (far g (f.nest.joint p)) (after_not_b p ne was) far_low' ∙ old.ends));
-            same = same p ne was old joint_is near_low far_low' (cases_eq (f.out (g.near (f.nest.joint p))) b)
+            same = same p ne was old joint_is near_low far_low' (cases_eq (f.out (g.near (f.nest.joint p))) b);
           }
         where
           same : (p : ℕ) → f.nest.up p ≢ b → f.nest.up p ≢ p → (old : IsJoint g f p) → new.nest.joint p ≡ f.nest.joint p → g.near (f.nest.joint p) < g.n → far g (f.nest.joint p) < g.n
@@ -279,9 +300,9 @@ module _ (g : Darts) (are : AreDarts g) (f : Forest) (r : ℕ) (valid : IsValid 
 
   new_feasible : IsFeasible g new
   new_feasible = record {
-      sets = λ x high low. subst (λ w. pos 0 ≤ℤ w) (sym (is.weight x)) (valid.feasible.sets x high (subst (λ s. x < s) is.size low));
-      darts = λ d low. subst (λ w. w ≤ℤ (g.cost d +ℤ g.cost d)) (sym (same_load (g.near d) (far g d) (are.near_low d low) (far_low g are d low))) (valid.feasible.darts d low)
-    }
+    sets = λ x high low. subst (λ w. pos 0 ≤ℤ w) (sym (is.weight x)) (valid.feasible.sets x high (subst (λ s. x < s) is.size low));
+    darts = λ d low. subst (λ w. w ≤ℤ (g.cost d +ℤ g.cost d)) (sym (same_load (g.near d) (far g d) (are.near_low d low) (far_low g are d low))) (valid.feasible.darts d low);
+  }
 
   -- The places along the ring.
   abbrev many : ℕ
@@ -346,7 +367,7 @@ module _ (g : Darts) (are : AreDarts g) (f : Forest) (r : ℕ) (valid : IsValid 
         tight = same_tight (o.e (2 * i + 1)) (opening.tight (2 * i + 1) lt);
         here = e_begins (2 * i + 1) lt;
         other = λ x. opening.distinct (2 * i + 1) (2 * i + 1 + 1) (omega arith) (omega arith) (sym x ∙ e_ends (2 * i + 1) lt);
-        back = ap new.mate (e_ends (2 * i + 1) lt ∙ ap o.q (let e : 2 * i + 1 + 1 ≡ 2 * i + 2 = omega arith in e)) ∙ is.even_mate i l
+        back = ap new.mate (e_ends (2 * i + 1) lt ∙ ap o.q (let e : 2 * i + 1 + 1 ≡ 2 * i + 2 = omega arith in e)) ∙ is.even_mate i l;
       }
 
   even_mate_is : (i : ℕ) → i < o.half → IsMate g new (o.q (2 * i + 2)) (g.twin (o.e (2 * i + 1)))
@@ -358,16 +379,16 @@ module _ (g : Darts) (are : AreDarts g) (f : Forest) (r : ℕ) (valid : IsValid 
         tight = tight_twin g are new (o.e (2 * i + 1)) (same_tight (o.e (2 * i + 1)) (opening.tight (2 * i + 1) lt));
         here = there;
         other = λ x. opening.distinct (2 * i + 1) (2 * i + 2) (omega arith) (omega arith) (sym back ∙ x);
-        back = ap new.mate back ∙ (is.odd_mate i l ∙ ap (λ (y : ℕ). Some y) (sym (are.twin_twin (o.e (2 * i + 1)))))
+        back = ap new.mate back ∙ (is.odd_mate i l ∙ ap (λ (y : ℕ). Some y) (sym (are.twin_twin (o.e (2 * i + 1)))));
       }
 
   first_mate_is : IsMate g new (o.q 0) o.m
   first_mate_is = record {
-      tight = same_tight o.m b_pair.tight;
-      here = m_at;
-      other = λ x. out_not_part (far g o.m) m_far b_pair.other (ap f.nest.up (sym m_to ∙ x) ∙ (opening.parts 0 (omega arith)).0);
-      back = ap new.mate m_to ∙ m_back
-    }
+    tight = same_tight o.m b_pair.tight;
+    here = m_at;
+    other = λ x. out_not_part (far g o.m) m_far b_pair.other (ap f.nest.up (sym m_to ∙ x) ∙ (opening.parts 0 (omega arith)).0);
+    back = ap new.mate m_to ∙ m_back;
+  }
 
   -- The mates of a part, by its place.
   mate_at : (j : ℕ) → j ≤ 2 * o.half → (d : ℕ) → new.mate (o.q j) ≡ Some d → IsMate g new (o.q j) d
@@ -377,9 +398,11 @@ module _ (g : Darts) (are : AreDarts g) (f : Forest) (r : ℕ) (valid : IsValid 
       moved k e at is_e pair =
           let e_is : e ≡ d = some_is e d (sym is_e ∙ (ap (λ x. new.mate (o.q x)) (sym at) ∙ mate)) in
           subst (λ x. IsMate g new (o.q x) d) (sym at) (subst (λ x. IsMate g new (o.q k) x) e_is pair)
+
       by_even : (i : ℕ) → (i ≡ 0) ⊎ (i ≢ 0) → j ≡ 2 * i → IsMate g new (o.q j) d
       by_even i (inl z) at = moved 0 o.m (omega arith) is.first_mate first_mate_is
       by_even i (inr nz) at = moved (2 * (i - 1) + 2) (g.twin (o.e (2 * (i - 1) + 1))) (omega arith) (is.even_mate (i - 1) (omega arith)) (even_mate_is (i - 1) (omega arith))
+
       by_odd : (i : ℕ) → j ≡ 2 * i + 1 → IsMate g new (o.q j) d
       by_odd i at = moved (2 * i + 1) (o.e (2 * i + 1)) at (is.odd_mate i (omega arith)) (odd_mate_is i (omega arith))
 
@@ -395,8 +418,9 @@ module _ (g : Darts) (are : AreDarts g) (f : Forest) (r : ℕ) (valid : IsValid 
             tight = same_tight d pair.tight;
             here = out_old (g.near d) (are.near_low d pair.tight.low) (λ x. other_not_b c ne (sym pair.here ∙ x)) ∙ pair.here;
             other = λ x. ne (ap f.nest.up (sym (sym there ∙ x)) ∙ (opening.parts 0 (omega arith)).0);
-            back = ap new.mate there ∙ (is.first_mate ∙ ap (λ (y : ℕ). Some y) (sym twin))
+            back = ap new.mate there ∙ (is.first_mate ∙ ap (λ (y : ℕ). Some y) (sym twin));
           }
+
       to_old : f.nest.up c ≢ b → f.mate c ≡ Some d → f.out (far g d) ≢ b → IsMate g new c d
       to_old ne was nb =
           let pair : IsMate g f c d = valid.matched c d was in
@@ -405,11 +429,13 @@ module _ (g : Darts) (are : AreDarts g) (f : Forest) (r : ℕ) (valid : IsValid 
             tight = same_tight d pair.tight;
             here = out_old (g.near d) (are.near_low d pair.tight.low) (λ x. other_not_b c ne (sym pair.here ∙ x)) ∙ pair.here;
             other = λ x. pair.other (sym (out_old (far g d) fl nb) ∙ x);
-            back = ap new.mate (out_old (far g d) fl nb) ∙ ((is.others (f.out (far g d)) (out_not_part (far g d) fl nb)).1 ∙ pair.back)
+            back = ap new.mate (out_old (far g d) fl nb) ∙ ((is.others (f.out (far g d)) (out_not_part (far g d) fl nb)).1 ∙ pair.back);
           }
+
       by_old : f.nest.up c ≢ b → f.mate c ≡ Some d → (f.out (far g d) ≡ b) ⊎ (f.out (far g d) ≢ b) → IsMate g new c d
       by_old ne was (inl e) = to_b ne was e
       by_old ne was (inr nb) = to_old ne was nb
+
       by_place : Place c → IsMate g new c d
       by_place (inl e) = absurd (some_none (new.mate c) d mate (ap new.mate e ∙ is.gone.1))
       by_place (inr (inl p)) = subst (λ x. IsMate g new x d) p.2 (mate_at p.0 p.1 d (ap new.mate p.2 ∙ mate))
@@ -427,18 +453,23 @@ module _ (g : Darts) (are : AreDarts g) (f : Forest) (r : ℕ) (valid : IsValid 
     where
       by_last : (i ≡ o.turns) ⊎ (i ≢ o.turns) → Hangs i
       by_last (inr ne) = subst (λ d. IsTight g new d × (new.out (g.near d) ≡ o.q (2 * i)) × (new.label (new.out (far g d)) ≡ Outer) × (depths (new.out (far g d)) < room * tree.depth b - i)) (sym (is.link i (omega arith)))
-          (let lt : 2 * i < 2 * o.half = omega (arith, opening.short) in
-          (same_tight (o.e (2 * i)) (opening.tight (2 * i) lt), e_begins (2 * i) lt, ap new.label (e_ends (2 * i) lt) ∙ is.outer i (omega arith),
-            subst (λ x. depths x < room * tree.depth b - i) (sym (e_ends (2 * i) lt)) (let e : depths (o.q (2 * i + 1)) ≡ room * tree.depth b - (i + 1) = depth_part (2 * i + 1) (i + 1) (omega arith) (omega arith) in omega (arith, enough i l))))
+          (let lt : 2 * i < 2 * o.half = omega (arith, opening.short) in (
+            same_tight (o.e (2 * i)) (opening.tight (2 * i) lt),
+            e_begins (2 * i) lt,
+            ap new.label (e_ends (2 * i) lt) ∙ is.outer i (omega arith),
+            subst (λ x. depths x < room * tree.depth b - i) (sym (e_ends (2 * i) lt)) (let e : depths (o.q (2 * i + 1)) ≡ room * tree.depth b - (i + 1) = depth_part (2 * i + 1) (i + 1) (omega arith) (omega arith) in omega (arith, enough i l)),
+          ))
       by_last (inl at) =
           let link_is : new.link (o.q (2 * i)) ≡ f.link b = ap (λ x. new.link (o.q (2 * x))) at ∙ is.last_link in
           let fl : far g (f.link b) < g.n = far_low g are (f.link b) b_inner.tight.low in
           let nb : f.out (far g (f.link b)) ≢ b = λ e. not_outer (ap f.label e) b_inner.above in
           let to : new.out (far g (f.link b)) ≡ f.out (far g (f.link b)) = out_old (far g (f.link b)) fl nb in
-          subst (λ d. IsTight g new d × (new.out (g.near d) ≡ o.q (2 * i)) × (new.label (new.out (far g d)) ≡ Outer) × (depths (new.out (far g d)) < room * tree.depth b - i)) (sym link_is)
-          (same_tight (f.link b) b_inner.tight, out_in (g.near (f.link b)) (are.near_low (f.link b) b_inner.tight.low) b_inner.here ∙ (opening.last ∙ ap (λ x. o.q (2 * x)) (sym at)),
+          subst (λ d. IsTight g new d × (new.out (g.near d) ≡ o.q (2 * i)) × (new.label (new.out (far g d)) ≡ Outer) × (depths (new.out (far g d)) < room * tree.depth b - i)) (sym link_is) (
+            same_tight (f.link b) b_inner.tight,
+            out_in (g.near (f.link b)) (are.near_low (f.link b) b_inner.tight.low) b_inner.here ∙ (opening.last ∙ ap (λ x. o.q (2 * x)) (sym at)),
             ap new.label to ∙ ((is.others (f.out (far g (f.link b))) (out_not_part (far g (f.link b)) fl nb)).0 ∙ b_inner.above),
-            subst (λ x. depths x < room * tree.depth b - i) (sym to) (let e : depths (f.out (far g (f.link b))) ≡ room * tree.depth (f.out (far g (f.link b))) = depth_old (f.out (far g (f.link b))) (out_not_part (far g (f.link b)) fl nb) in omega (arith, enough i l)))
+            subst (λ x. depths x < room * tree.depth b - i) (sym to) (let e : depths (f.out (far g (f.link b))) ≡ room * tree.depth (f.out (far g (f.link b))) = depth_old (f.out (far g (f.link b))) (out_not_part (far g (f.link b)) fl nb) in omega (arith, enough i l)),
+          )
         where
           not_outer : f.label (f.out (far g (f.link b))) ≡ f.label b → f.label (f.out (far g (f.link b))) ≡ Outer → ⊥
           not_outer same outer = let h : Inner ≡ Outer = sym opening.label ∙ (sym same ∙ outer) in cc
@@ -454,12 +485,19 @@ module _ (g : Darts) (are : AreDarts g) (f : Forest) (r : ℕ) (valid : IsValid 
     where
       own_depth : depths (o.q (2 * i)) ≡ room * tree.depth b - i
       own_depth = depth_part (2 * i) i (omega (arith, opening.short)) (omega arith)
+
       with_mate : (d : ℕ) → new.mate (o.q (2 * i)) ≡ Some d → new.label (new.out (far g d)) ≡ Outer → depths (new.out (far g d)) ≡ room * tree.depth b - i → IsInner g new depths (o.q (2 * i))
       with_mate d mate child same = record {
-          tight = (hangs i l).0; here = (hangs i l).1; above = (hangs i l).2;
-          nearer = subst (λ x. depths (new.out (far g (new.link (o.q (2 * i))))) < x) (sym own_depth) (hangs i l).3;
-          dart = d; mate = mate; child = child; same = same ∙ sym own_depth
-        }
+        tight = (hangs i l).0;
+        here = (hangs i l).1;
+        above = (hangs i l).2;
+        nearer = subst (λ x. depths (new.out (far g (new.link (o.q (2 * i))))) < x) (sym own_depth) (hangs i l).3;
+        dart = d;
+        mate = mate;
+        child = child;
+        same = same ∙ sym own_depth;
+      }
+
       by_first : (i ≡ 0) ⊎ (i ≢ 0) → IsInner g new depths (o.q (2 * i))
       by_first (inl z) = with_mate o.m (ap (λ x. new.mate (o.q x)) (let e : 2 * i ≡ 0 = omega arith in e) ∙ is.first_mate)
           (ap new.label m_to ∙ ((is.others (f.out (far g o.m)) (out_not_part (far g o.m) m_far b_pair.other)).0 ∙ m_outer))
@@ -470,37 +508,45 @@ module _ (g : Darts) (are : AreDarts g) (f : Forest) (r : ℕ) (valid : IsValid 
           by_pair k at =
               let back : new.out (far g (g.twin (o.e (2 * k + 1)))) ≡ o.q (2 * k + 1) = ap new.out (far_twin g are (o.e (2 * k + 1))) ∙ e_begins (2 * k + 1) (omega (arith, opening.short)) in
               with_mate (g.twin (o.e (2 * k + 1))) (ap (λ x. new.mate (o.q x)) (let e : 2 * i ≡ 2 * k + 2 = omega arith in e) ∙ is.even_mate k (omega (arith, opening.short)))
-                (ap new.label back ∙ is.outer k (omega arith))
-                (ap depths back ∙ depth_part (2 * k + 1) i (omega (arith, opening.short)) (omega arith))
+              (ap new.label back ∙ is.outer k (omega arith))
+              (ap depths back ∙ depth_part (2 * k + 1) i (omega (arith, opening.short)) (omega arith))
 
   inner_old : (c : ℕ) → f.nest.up c ≢ b → f.label c ≡ Inner → IsInner g f tree.depth c → IsInner g new depths c
   inner_old c ne l old = record {
-      tight = subst (λ d. IsTight g new d) (sym link_is) (same_tight (f.link c) old.tight);
-      here = ap (λ d. new.out (g.near d)) link_is ∙ (out_old (g.near (f.link c)) (are.near_low (f.link c) old.tight.low) (λ x. other_not_b c ne (sym old.here ∙ x)) ∙ old.here);
-      above = ap (λ d. new.label (new.out (far g d))) link_is ∙ (ap new.label up_to ∙ ((is.others (f.out (far g (f.link c))) (out_not_part (far g (f.link c)) ul un)).0 ∙ old.above));
-      nearer = subst (λ d. depths (new.out (far g d)) < depths c) (sym link_is) (subst (λ x. depths x < depths c) (sym up_to) nearer);
-      dart = old.dart;
-      mate = (is.others c ne).1 ∙ old.mate;
-      child = ap new.label down_to ∙ ((is.others (f.out (far g old.dart)) (out_not_part (far g old.dart) dl dn)).0 ∙ old.child);
-      same = ap depths down_to ∙ (depth_old (f.out (far g old.dart)) (out_not_part (far g old.dart) dl dn) ∙ (ap (λ x. room * x) old.same ∙ sym (depth_old c ne)))
-    }
+    tight = subst (λ d. IsTight g new d) (sym link_is) (same_tight (f.link c) old.tight);
+    here = ap (λ d. new.out (g.near d)) link_is ∙ (out_old (g.near (f.link c)) (are.near_low (f.link c) old.tight.low) (λ x. other_not_b c ne (sym old.here ∙ x)) ∙ old.here);
+    above = ap (λ d. new.label (new.out (far g d))) link_is ∙ (ap new.label up_to ∙ ((is.others (f.out (far g (f.link c))) (out_not_part (far g (f.link c)) ul un)).0 ∙ old.above));
+    nearer = subst (λ d. depths (new.out (far g d)) < depths c) (sym link_is) (subst (λ x. depths x < depths c) (sym up_to) nearer);
+    dart = old.dart;
+    mate = (is.others c ne).1 ∙ old.mate;
+    child = ap new.label down_to ∙ ((is.others (f.out (far g old.dart)) (out_not_part (far g old.dart) dl dn)).0 ∙ old.child);
+    same = ap depths down_to ∙ (depth_old (f.out (far g old.dart)) (out_not_part (far g old.dart) dl dn) ∙ (ap (λ x. room * x) old.same ∙ sym (depth_old c ne)));
+  }
     where
       outer_not : (x : ℕ) → f.label x ≡ Outer → x ≢ b
       outer_not x lx e = let h : Outer ≡ Inner = sym lx ∙ (ap f.label e ∙ opening.label) in cc
+
       link_is : new.link c ≡ f.link c
       link_is = (is.others c ne).2
+
       ul : far g (f.link c) < g.n
       ul = far_low g are (f.link c) old.tight.low
+
       un : f.out (far g (f.link c)) ≢ b
       un = outer_not (f.out (far g (f.link c))) old.above
+
       up_to : new.out (far g (f.link c)) ≡ f.out (far g (f.link c))
       up_to = out_old (far g (f.link c)) ul un
+
       dl : far g old.dart < g.n
       dl = far_low g are old.dart (valid.matched c old.dart old.mate).tight.low
+
       dn : f.out (far g old.dart) ≢ b
       dn = outer_not (f.out (far g old.dart)) old.child
+
       down_to : new.out (far g old.dart) ≡ f.out (far g old.dart)
       down_to = out_old (far g old.dart) dl dn
+
       nearer : depths (f.out (far g (f.link c))) < depths c
       nearer =
           let a : depths (f.out (far g (f.link c))) ≡ room * tree.depth (f.out (far g (f.link c))) = depth_old (f.out (far g (f.link c))) (out_not_part (far g (f.link c)) ul un) in
@@ -514,18 +560,19 @@ module _ (g : Darts) (are : AreDarts g) (f : Forest) (r : ℕ) (valid : IsValid 
 
   new_tree : IsTree g new r
   new_tree = record {
-      depth = depths;
-      root_outer = (is.others r r_old).0 ∙ tree.root_outer;
-      root_free = (is.others r r_old).1 ∙ tree.root_free;
-      inner = λ c l. inner c l (place c);
-      outer = λ c l. outer c l (place c)
-    }
+    depth = depths;
+    root_outer = (is.others r r_old).0 ∙ tree.root_outer;
+    root_free = (is.others r r_old).1 ∙ tree.root_free;
+    inner = λ c l. inner c l (place c);
+    outer = λ c l. outer c l (place c);
+  }
     where
       r_old : f.nest.up r ≢ b
       r_old up =
           let w : IsOutermost g.n f r = valid.outermost.named r (λ off. (let h : Outer ≡ Outside = sym tree.root_outer ∙ off in cc)) in
           let at : r ≡ b = sym (ap f.nest.up (sym w.2) ∙ (valid.outermost.tops w.0 w.1 ∙ w.2)) ∙ up in
           let h : Outer ≡ Inner = sym tree.root_outer ∙ (ap f.label at ∙ opening.label) in cc
+
       inner : (c : ℕ) → new.label c ≡ Inner → Place c → IsInner g new depths c
       inner c l (inl e) = let h : Outside ≡ Inner = sym is.gone.0 ∙ (ap new.label (sym e) ∙ l) in absurd (cc h)
       inner c l (inr (inl p)) = subst (λ x. IsInner g new depths x) p.2 (at_part (by_label p.0 p.1))
@@ -535,6 +582,7 @@ module _ (g : Darts) (are : AreDarts g) (f : Forest) (r : ℕ) (valid : IsValid 
           at_part (inr (inl w)) = let h : Outer ≡ Inner = sym (is.outer w.0 w.1) ∙ (ap (λ j. new.label (o.q j)) (sym w.2) ∙ (ap new.label p.2 ∙ l)) in absurd (cc h)
           at_part (inr (inr far)) = let h : Outside ≡ Inner = sym (is.off p.0 far p.1) ∙ (ap new.label p.2 ∙ l) in absurd (cc h)
       inner c l (inr (inr ne)) = inner_old c ne (sym (is.others c ne).0 ∙ l) (tree.inner c (sym (is.others c ne).0 ∙ l))
+
       old_is : (c : ℕ) → f.nest.up c ≢ b → IsOuter g f r c → IsOuter g new r c
       old_is c ne (inl e) = inl e
       old_is c ne (inr w) = inr (w.0, (is.others c ne).1 ∙ w.1, label (cases_eq (f.out (far g w.0)) b))
@@ -546,6 +594,7 @@ module _ (g : Darts) (are : AreDarts g) (f : Forest) (r : ℕ) (valid : IsValid 
           label (inr nb) =
               let fl : far g w.0 < g.n = far_low g are w.0 (valid.matched c w.0 w.1).tight.low in
               ap new.label (out_old (far g w.0) fl nb) ∙ ((is.others (f.out (far g w.0)) (out_not_part (far g w.0) fl nb)).0 ∙ w.2)
+
       outer : (c : ℕ) → new.label c ≡ Outer → Place c → IsOuter g new r c
       outer c l (inl e) = let h : Outside ≡ Outer = sym is.gone.0 ∙ (ap new.label (sym e) ∙ l) in absurd (cc h)
       outer c l (inr (inl p)) = subst (λ x. IsOuter g new r x) p.2 (at_part (by_label p.0 p.1))
@@ -565,6 +614,7 @@ module _ (g : Darts) (are : AreDarts g) (f : Forest) (r : ℕ) (valid : IsValid 
           let gone : f.label (f.out (far g d)) ≡ Outside = valid.outside c d out was in
           let nb : f.out (far g d) ≢ b = λ e. b_named (ap f.label (sym e) ∙ gone) in
           ap new.label (out_old (far g d) fl nb) ∙ ((is.others (f.out (far g d)) (out_not_part (far g d) fl nb)).0 ∙ gone)
+
       at_part : (j : ℕ) → j ≤ 2 * o.half → 2 * o.turns < j → new.mate (o.q j) ≡ Some d → new.label (new.out (far g d)) ≡ Outside
       at_part j lj past is_d = elim (halves j) [ inl w ↦ by_even (w.0 - 1) (omega (arith, w.1)) | inr w ↦ by_odd w.0 w.1 ]
         where
@@ -572,10 +622,12 @@ module _ (g : Darts) (are : AreDarts g) (f : Forest) (r : ℕ) (valid : IsValid 
           by_even k at =
               let d_is : g.twin (o.e (2 * k + 1)) ≡ d = some_is (g.twin (o.e (2 * k + 1))) d (sym (is.even_mate k (omega arith)) ∙ (ap (λ x. new.mate (o.q x)) (sym at) ∙ is_d)) in
               ap (λ x. new.label (new.out (far g x))) (sym d_is) ∙ (ap new.label (ap new.out (far_twin g are (o.e (2 * k + 1))) ∙ e_begins (2 * k + 1) (omega arith)) ∙ is.off (2 * k + 1) (omega arith) (omega arith))
+
           by_odd : (k : ℕ) → j ≡ 2 * k + 1 → new.label (new.out (far g d)) ≡ Outside
           by_odd k at =
               let d_is : o.e (2 * k + 1) ≡ d = some_is (o.e (2 * k + 1)) d (sym (is.odd_mate k (omega arith)) ∙ (ap (λ x. new.mate (o.q x)) (sym at) ∙ is_d)) in
               ap (λ x. new.label (new.out (far g x))) (sym d_is) ∙ (ap new.label (e_ends (2 * k + 1) (omega arith)) ∙ is.off (2 * k + 1 + 1) (omega arith) (omega arith))
+
       out_part : (j : ℕ) → j ≤ 2 * o.half → new.label (o.q j) ≡ Outside → 2 * o.turns < j
       out_part j lj off = by_case (by_label j lj)
         where
@@ -583,6 +635,7 @@ module _ (g : Darts) (are : AreDarts g) (f : Forest) (r : ℕ) (valid : IsValid 
           by_case (inl w) = let h : Inner ≡ Outside = sym (is.inner w.0 w.1) ∙ (ap (λ x. new.label (o.q x)) (sym w.2) ∙ off) in absurd (cc h)
           by_case (inr (inl w)) = let h : Outer ≡ Outside = sym (is.outer w.0 w.1) ∙ (ap (λ x. new.label (o.q x)) (sym w.2) ∙ off) in absurd (cc h)
           by_case (inr (inr far)) = far
+
       by_place : Place c → new.label (new.out (far g d)) ≡ Outside
       by_place (inl e) = absurd (some_none (new.mate c) d mate (ap new.mate e ∙ is.gone.1))
       by_place (inr (inl p)) = at_part p.0 p.1 (out_part p.0 p.1 (ap new.label p.2 ∙ l)) (ap new.mate p.2 ∙ mate)
@@ -591,14 +644,14 @@ module _ (g : Darts) (are : AreDarts g) (f : Forest) (r : ℕ) (valid : IsValid 
   -- An inner set of weight 0 may be opened.
   pub opened_valid : IsValid g new (Some r)
   opened_valid = record {
-      outermost = new_outermost;
-      nested = new_nested;
-      feasible = new_feasible;
-      matched = new_matched;
-      tree = λ x e. subst (λ y. IsTree g new y) (some_is r x e) new_tree;
-      no_tree = λ e. absurd (none e);
-      outside = new_outside
-    }
+    outermost = new_outermost;
+    nested = new_nested;
+    feasible = new_feasible;
+    matched = new_matched;
+    tree = λ x e. subst (λ y. IsTree g new y) (some_is r x e) new_tree;
+    no_tree = λ e. absurd (none e);
+    outside = new_outside;
+  }
     where
       none : Some r ≡ None → ⊥
       none e = cc

@@ -20,12 +20,11 @@ far_twin g are d = ap g.near (are.twin_twin d)
 -- The twin of a tight dart is tight.
 pub tight_twin : (g : Darts) → AreDarts g → (f : Forest) (d : ℕ) → IsTight g f d → IsTight g f (g.twin d)
 tight_twin g are f d tight = record {
-    low = are.twin_low d tight.low;
-    exact = ap (load f (far g d)) (far_twin g are d) ∙ (load_order f (far g d) (g.near d) ∙ (tight.exact ∙ sym (ap (λ x. x +ℤ x) (are.cost_twin d))))
-  }
+  low = are.twin_low d tight.low;
+  exact = ap (load f (far g d)) (far_twin g are d) ∙ (load_order f (far g d) (g.near d) ∙ (tight.exact ∙ sym (ap (λ x. x +ℤ x) (are.cost_twin d))));
+}
 
 module _ (g : Darts) (are : AreDarts g) (f : Forest) (root : Option ℕ) (valid : IsValid g f root) where
-
   -- Where a blossom has a place in the tree there is one.
   pub tree_of : (b : ℕ) → f.label b ≢ Outside → (r : ℕ) × (root ≡ Some r) × IsTree g f r
   tree_of b named = by_root root refl

@@ -26,7 +26,6 @@ abbrev pub potential : (f : Forest) (v : ℕ) → ℤ
 potential f v = total_below (λ b. cond (f.holds b v) (f.weight b) (pos 0)) f.size
 
 module _ (n : ℕ) (f : Forest) (top : AreOutermost n f) where
-
   -- A blossom with a place in the tree holds the vertices whose outermost blossom it is.
   pub named_holds : (b v : ℕ) → v < n → f.label b ≢ Outside → f.holds b v ≡ eqb (f.out v) b
   named_holds b v low named = let w : IsOutermost n f b = top.named b named in by_vertex w.0 w.1 w.2

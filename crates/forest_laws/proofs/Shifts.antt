@@ -12,7 +12,6 @@ use Rattle.forest_laws.proofs.Loads.{load_apart, load_within}
 use Rattle.forest_laws.proofs.Facts.{far_low, inner_mate, outer_mate}
 
 module _ (g : Darts) (are : AreDarts g) (f : Forest) (root : Option ℕ) (valid : IsValid g f root) (t : ℤ) where
-
   -- A tight dart whose ends move against each other, or lie in one blossom, stays tight.
   still_tight : (d : ℕ) → IsTight g f d → (f.out (g.near d) ≢ f.out (far g d) → change (f.label (f.out (g.near d))) t +ℤ change (f.label (f.out (far g d))) t ≡ pos 0) → IsTight g (shifted f t) d
   still_tight d tight none = record { low = tight.low; exact = by_ends (cases_eq (f.out (g.near d)) (f.out (far g d))) }
@@ -39,41 +38,48 @@ module _ (g : Darts) (are : AreDarts g) (f : Forest) (root : Option ℕ) (valid 
 
   shifted_tree : (r : ℕ) → IsTree g f r → IsTree g (shifted f t) r
   shifted_tree r tree = record {
-      depth = tree.depth;
-      root_outer = tree.root_outer;
-      root_free = tree.root_free;
-      inner = λ b l. inner b l (tree.inner b l);
-      outer = tree.outer
-    }
+    depth = tree.depth;
+    root_outer = tree.root_outer;
+    root_free = tree.root_free;
+    inner = λ b l. inner b l (tree.inner b l);
+    outer = tree.outer;
+  }
     where
       inner : (b : ℕ) → f.label b ≡ Inner → IsInner g f tree.depth b → IsInner g (shifted f t) tree.depth b
       inner b l is = record {
-          tight = still_tight (f.link b) is.tight (λ ne. (let h : change (f.label (f.out (far g (f.link b)))) t +ℤ change (f.label (f.out (g.near (f.link b)))) t ≡ pos 0 = against (f.label (f.out (far g (f.link b)))) (f.label (f.out (g.near (f.link b)))) is.above (ap f.label is.here ∙ l) in omega (arith, ints)));
-          here = is.here; above = is.above; nearer = is.nearer; dart = is.dart; mate = is.mate; child = is.child; same = is.same
-        }
+        tight = still_tight (f.link b) is.tight (λ ne. (let h : change (f.label (f.out (far g (f.link b)))) t +ℤ change (f.label (f.out (g.near (f.link b)))) t ≡ pos 0 = against (f.label (f.out (far g (f.link b)))) (f.label (f.out (g.near (f.link b)))) is.above (ap f.label is.here ∙ l) in omega (arith, ints)));
+        here = is.here;
+        above = is.above;
+        nearer = is.nearer;
+        dart = is.dart;
+        mate = is.mate;
+        child = is.child;
+        same = is.same;
+      }
 
   shifted_nest : IsNested g (shifted f t)
   shifted_nest = record {
-      alone = valid.nested.alone;
-      rings = λ b high live. ring b (valid.nested.rings b high live);
-      empty = valid.nested.empty;
-      live = valid.nested.live;
-      joints = λ p inside. joint p (valid.nested.joints p inside)
-    }
+    alone = valid.nested.alone;
+    rings = λ b high live. ring b (valid.nested.rings b high live);
+    empty = valid.nested.empty;
+    live = valid.nested.live;
+    joints = λ p inside. joint p (valid.nested.joints p inside);
+  }
     where
       ring : (b : ℕ) → IsRing g f b → IsRing g (shifted f t) b
       ring b is = record { half = is.half; some = is.some; odd = is.odd; closed = is.closed; inside = is.inside; lower = is.lower; below = is.below; distinct = is.distinct; all = is.all; shared = is.shared }
+
       joint : (p : ℕ) → IsJoint g f p → IsJoint g (shifted f t) p
       joint p is = record { tight = still_tight (f.nest.joint p) is.tight (λ ne. absurd (ne is.same)); begins = is.begins; ends = is.ends; same = is.same }
 
   -- A shift whose end is feasible keeps the forest valid.
   pub shift_valid : IsFeasible g (shifted f t) → IsValid g (shifted f t) root
   shift_valid feasible = record {
-      outermost = record { vertices = valid.outermost.vertices; out_low = valid.outermost.out_low; held = valid.outermost.held; tops = valid.outermost.tops; together = valid.outermost.together; named = valid.outermost.named };
-      nested = shifted_nest;
-      feasible = feasible;
-      matched = λ b d mate. (let is : IsMate g f b d = valid.matched b d mate in record { tight = mate_still b d mate is; here = is.here; other = is.other; back = is.back });
-      tree = λ r e. shifted_tree r (valid.tree r e);
-      no_tree = valid.no_tree;
-      outside = valid.outside
-    }
+    outermost = record { vertices = valid.outermost.vertices; out_low = valid.outermost.out_low; held = valid.outermost.held; tops = valid.outermost.tops; together = valid.outermost.together; named = valid.outermost.named };
+    nested = shifted_nest;
+    feasible = feasible;
+    matched = λ b d mate. (let is : IsMate g f b d = valid.matched b d mate in record { tight = mate_still b d mate is; here = is.here; other = is.other; back = is.back });
+    tree = λ r e. shifted_tree r (valid.tree r e);
+    no_tree = valid.no_tree;
+    outside = valid.outside;
+  }

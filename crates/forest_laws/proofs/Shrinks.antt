@@ -29,7 +29,6 @@ ring_sum_same f h p q a b (suc n) walks terms =
 
 module _ (g : Darts) (are : AreDarts g) (f : Forest) (r : ℕ) (valid : IsValid g f (Some r)) (tree : IsTree g f r) (new : Forest) (inside : ℕ → Bool) (top b front many : ℕ)
     (cycle : IsCycle g f r tree.depth inside top) (unused : IsUnused g.n f b) (row : IsClosedRow g f new.nest.after new.nest.joint inside front many) (is : IsShrunk g.n f new inside top b front many) where
-
   -- Each blossom is the new one, on the cycle, or neither.
   abbrev Place : ℕ → Type 0
   Place x = (x ≡ b) ⊎ (((x ≢ b) × (inside x ≡ true)) ⊎ ((x ≢ b) × (inside x ≡ false)))
@@ -88,6 +87,7 @@ module _ (g : Darts) (are : AreDarts g) (f : Forest) (r : ℕ) (valid : IsValid 
     where
       sum : ℕ → ℤ
       sum s = load (record new { size = s }) u v
+
       each : (x : ℕ) → (x ≡ b) ⊎ (x ≢ b) → cond (splits (new.holds x) u v) (new.weight x) (pos 0) ≡ cond (splits (f.holds x) u v) (f.weight x) (pos 0)
       each x (inl e) =
           let w : f.weight x ≡ pos 0 = ap f.weight e ∙ unused.weightless in
@@ -103,17 +103,18 @@ module _ (g : Darts) (are : AreDarts g) (f : Forest) (r : ℕ) (valid : IsValid 
 
   new_outermost : AreOutermost g.n new
   new_outermost = record {
-      vertices = subst (λ s. g.n ≤ s) (sym is.size) valid.outermost.vertices;
-      out_low = λ v l. subst (λ s. new.out v < s) (sym is.size) (low v l (cases_Bool (inside (f.out v))));
-      held = λ u v lu lv. held u v lu lv (cases_Bool (inside (f.out u))) (cases_Bool (inside (f.out v)));
-      tops = λ v l. tops v l (cases_Bool (inside (f.out v)));
-      together = λ x u v lu lv hu hv. together x u v lu lv hu hv (cases_eq x b);
-      named = λ x n. named x n (place x)
-    }
+    vertices = subst (λ s. g.n ≤ s) (sym is.size) valid.outermost.vertices;
+    out_low = λ v l. subst (λ s. new.out v < s) (sym is.size) (low v l (cases_Bool (inside (f.out v))));
+    held = λ u v lu lv. held u v lu lv (cases_Bool (inside (f.out u))) (cases_Bool (inside (f.out v)));
+    tops = λ v l. tops v l (cases_Bool (inside (f.out v)));
+    together = λ x u v lu lv hu hv. together x u v lu lv hu hv (cases_eq x b);
+    named = λ x n. named x n (place x);
+  }
     where
       low : (v : ℕ) → v < g.n → (inside (f.out v) ≡ true) ⊎ (inside (f.out v) ≡ false) → new.out v < f.size
       low v l (inl on) = subst (λ x. x < f.size) (sym (out_on v l on)) unused.low
       low v l (inr off) = subst (λ x. x < f.size) (sym (out_off v l off)) (valid.outermost.out_low v l)
+
       held : (u v : ℕ) → u < g.n → v < g.n → (inside (f.out u) ≡ true) ⊎ (inside (f.out u) ≡ false) → (inside (f.out v) ≡ true) ⊎ (inside (f.out v) ≡ false) → new.holds (new.out u) v ≡ eqb (new.out v) (new.out u)
       held u v lu lv (inl on) (inl too) = ap (λ x. new.holds x v) (out_on u lu on) ∙ (is.holds_new v lv ∙ (too ∙ sym (eq-eqb (new.out v) (new.out u) (out_on v lv too ∙ sym (out_on u lu on)))))
       held u v lu lv (inl on) (inr off) = ap (λ x. new.holds x v) (out_on u lu on) ∙ (is.holds_new v lv ∙ (off ∙ sym (ne_eqb (new.out v) (new.out u) (λ e. unused.no_out v lv (sym (out_off v lv off) ∙ (e ∙ out_on u lu on))))))
@@ -123,14 +124,17 @@ module _ (g : Darts) (are : AreDarts g) (f : Forest) (r : ℕ) (valid : IsValid 
       held u v lu lv (inr off) (inr too) =
           ap (λ x. new.holds x v) (out_off u lu off) ∙ (is.holds_old (f.out u) v (unused.no_out u lu) lv ∙ (valid.outermost.held u v lu lv
           ∙ (ap (λ x. eqb x (f.out u)) (sym (out_off v lv too)) ∙ ap (λ x. eqb (new.out v) x) (sym (out_off u lu off)))))
+
       tops : (v : ℕ) → v < g.n → (inside (f.out v) ≡ true) ⊎ (inside (f.out v) ≡ false) → new.nest.up (new.out v) ≡ new.out v
       tops v l (inl on) = ap new.nest.up (out_on v l on) ∙ (up_b ∙ sym (out_on v l on))
       tops v l (inr off) = ap new.nest.up (out_off v l off) ∙ (up_off (f.out v) (unused.no_out v l) off ∙ (valid.outermost.tops v l ∙ sym (out_off v l off)))
+
       together : (x u v : ℕ) → u < g.n → v < g.n → new.holds x u ≡ true → new.holds x v ≡ true → (x ≡ b) ⊎ (x ≢ b) → new.out u ≡ new.out v
       together x u v lu lv hu hv (inl e) =
           out_on u lu (sym (is.holds_new u lu) ∙ (ap (λ y. new.holds y u) (sym e) ∙ hu)) ∙ sym (out_on v lv (sym (is.holds_new v lv) ∙ (ap (λ y. new.holds y v) (sym e) ∙ hv)))
       together x u v lu lv hu hv (inr ne) =
           is.out u lu ∙ (ap (λ y. cond (inside y) b y) (valid.outermost.together x u v lu lv (sym (is.holds_old x u ne lu) ∙ hu) (sym (is.holds_old x v ne lv) ∙ hv)) ∙ sym (is.out v lv))
+
       named : (x : ℕ) → new.label x ≢ Outside → Place x → IsOutermost g.n new x
       named x n (inl e) = let w : IsOutermost g.n f top = valid.outermost.named top (cycle.in_tree top cycle.top_in) in (w.0, w.1, out_on w.0 w.1 (ap inside w.2 ∙ cycle.top_in) ∙ sym e)
       named x n (inr (inl on)) = absurd (n (label_on x on.1))
@@ -142,30 +146,36 @@ module _ (g : Darts) (are : AreDarts g) (f : Forest) (r : ℕ) (valid : IsValid 
 
   ring_old : (c : ℕ) → c ≢ b → IsRing g f c → IsRing g new c
   ring_old c ne ring = record {
-      half = ring.half;
-      some = ring.some;
-      odd = many_is ∙ ring.odd;
-      closed = ap (walk new.nest.after (new.nest.head c)) many_is ∙ (walks (f.nest.parts c) ∙ (ring.closed ∙ sym head_is));
-      inside = λ k. ap new.nest.up (walks k) ∙ (up_off (at k) (old k).0 (old k).1 ∙ ring.inside k);
-      lower = λ k. subst (λ x. new.nest.rank x < new.nest.rank c) (sym (walks k)) (subst (λ x. x < new.nest.rank c) (sym (is.rank (at k) (old k).0)) (subst (λ x. f.nest.rank (at k) < x) (sym (is.rank c ne)) (ring.lower k)));
-      below = λ k. subst (λ x. x < new.size) (sym (walks k)) (subst (λ s. at k < s) (sym is.size) (ring.below k));
-      distinct = λ i j l h e. ring.distinct i j l (subst (λ n. j < n) many_is h) (sym (walks i) ∙ (e ∙ walks j));
-      all = λ p up inner. all p up inner (place p);
-      shared = λ v l. ap number (is.holds_old c v ne l) ∙ (ring.shared v l ∙ (ring_sum_same f.nest.after new.nest.after (λ p. number (f.holds p v)) (λ p. number (new.holds p v)) (f.nest.head c) (new.nest.head c) (f.nest.parts c) walks (λ k. ap number (sym (is.holds_old (at k) v (old k).0 l))) ∙ ap (ring_sum new.nest.after (λ p. number (new.holds p v)) (new.nest.head c)) (sym many_is)))
-    }
+    half = ring.half;
+    some = ring.some;
+    odd = many_is ∙ ring.odd;
+    closed = ap (walk new.nest.after (new.nest.head c)) many_is ∙ (walks (f.nest.parts c) ∙ (ring.closed ∙ sym head_is));
+    inside = λ k. ap new.nest.up (walks k) ∙ (up_off (at k) (old k).0 (old k).1 ∙ ring.inside k);
+    lower = λ k. subst (λ x. new.nest.rank x < new.nest.rank c) (sym (walks k)) (subst (λ x. x < new.nest.rank c) (sym (is.rank (at k) (old k).0)) (subst (λ x. f.nest.rank (at k) < x) (sym (is.rank c ne)) (ring.lower k)));
+    below = λ k. subst (λ x. x < new.size) (sym (walks k)) (subst (λ s. at k < s) (sym is.size) (ring.below k));
+    distinct = λ i j l h e. ring.distinct i j l (subst (λ n. j < n) many_is h) (sym (walks i) ∙ (e ∙ walks j));
+    all = λ p up inner. all p up inner (place p);
+    shared = λ v l. ap number (is.holds_old c v ne l) ∙ (ring.shared v l ∙ (ring_sum_same f.nest.after new.nest.after (λ p. number (f.holds p v)) (λ p. number (new.holds p v)) (f.nest.head c) (new.nest.head c) (f.nest.parts c) walks (λ k. ap number (sym (is.holds_old (at k) v (old k).0 l))) ∙ ap (ring_sum new.nest.after (λ p. number (new.holds p v)) (new.nest.head c)) (sym many_is)));
+  }
     where
       at : ℕ → ℕ
       at k = walk f.nest.after (f.nest.head c) k
+
       many_is : new.nest.parts c ≡ f.nest.parts c
       many_is = is.parts c ∙ set_there f.nest.parts b c many ne
+
       head_is : new.nest.head c ≡ f.nest.head c
       head_is = is.head c ∙ set_there f.nest.head b c front ne
+
       lower_ne : (k : ℕ) → walk f.nest.after (f.nest.head c) k ≢ c
       lower_ne k e = let h : f.nest.rank c < f.nest.rank c = subst (λ x. f.nest.rank x < f.nest.rank c) e (ring.lower k) in omega arith
+
       old : (k : ℕ) → (at k ≢ b) × (inside (at k) ≡ false)
       old k = part_old c (walk f.nest.after (f.nest.head c) k) ne (ring.inside k) (lower_ne k)
+
       walks : (k : ℕ) → walk new.nest.after (new.nest.head c) k ≡ at k
       walks k = ap (λ x. walk new.nest.after x k) head_is ∙ walk_same f.nest.after new.nest.after (f.nest.head c) (λ j. sym (is.after (walk f.nest.after (f.nest.head c) j) (old j).1)) k
+
       all : (p : ℕ) → new.nest.up p ≡ c → p ≢ c → Place p → (k : ℕ) × (k < new.nest.parts c) × (walk new.nest.after (new.nest.head c) k ≡ p)
       all p up inner (inl e) = absurd (ne (sym up ∙ (ap new.nest.up e ∙ up_b)))
       all p up inner (inr (inl on)) = absurd (ne (sym up ∙ up_on p on.1))
@@ -173,30 +183,36 @@ module _ (g : Darts) (are : AreDarts g) (f : Forest) (r : ℕ) (valid : IsValid 
 
   ring_new : IsRing g new b
   ring_new = record {
-      half = row.half;
-      some = row.some;
-      odd = many_is ∙ row.odd;
-      closed = ap (walk new.nest.after (new.nest.head b)) many_is ∙ (walks many ∙ (row.closed ∙ sym head_is));
-      inside = λ k. ap new.nest.up (walks k) ∙ up_on (at k) (row.marked k);
-      lower = λ k. subst (λ x. new.nest.rank x < new.nest.rank b) (sym (walks k)) (subst (λ x. x < new.nest.rank b) (sym (is.rank (at k) (marked_old (at k) (row.marked k)))) (is.ranked (at k) (row.marked k)));
-      below = λ k. subst (λ x. x < new.size) (sym (walks k)) (subst (λ s. at k < s) (sym is.size) (low (at k) (row.marked k)));
-      distinct = λ i j l h e. row.distinct i j l (subst (λ n. j < n) many_is h) (sym (walks i) ∙ (e ∙ walks j));
-      all = λ p up inner. all p up inner (place p);
-      shared = λ v l. ap number (is.holds_new v l) ∙ (row.shared v l ∙ (ring_sum_same new.nest.after new.nest.after (λ p. number (eqb (f.out v) p)) (λ p. number (new.holds p v)) front (new.nest.head b) many walks (λ k. ap number (sym (holds (at k) v l (row.marked k)))) ∙ ap (ring_sum new.nest.after (λ p. number (new.holds p v)) (new.nest.head b)) (sym many_is)))
-    }
+    half = row.half;
+    some = row.some;
+    odd = many_is ∙ row.odd;
+    closed = ap (walk new.nest.after (new.nest.head b)) many_is ∙ (walks many ∙ (row.closed ∙ sym head_is));
+    inside = λ k. ap new.nest.up (walks k) ∙ up_on (at k) (row.marked k);
+    lower = λ k. subst (λ x. new.nest.rank x < new.nest.rank b) (sym (walks k)) (subst (λ x. x < new.nest.rank b) (sym (is.rank (at k) (marked_old (at k) (row.marked k)))) (is.ranked (at k) (row.marked k)));
+    below = λ k. subst (λ x. x < new.size) (sym (walks k)) (subst (λ s. at k < s) (sym is.size) (low (at k) (row.marked k)));
+    distinct = λ i j l h e. row.distinct i j l (subst (λ n. j < n) many_is h) (sym (walks i) ∙ (e ∙ walks j));
+    all = λ p up inner. all p up inner (place p);
+    shared = λ v l. ap number (is.holds_new v l) ∙ (row.shared v l ∙ (ring_sum_same new.nest.after new.nest.after (λ p. number (eqb (f.out v) p)) (λ p. number (new.holds p v)) front (new.nest.head b) many walks (λ k. ap number (sym (holds (at k) v l (row.marked k)))) ∙ ap (ring_sum new.nest.after (λ p. number (new.holds p v)) (new.nest.head b)) (sym many_is)));
+  }
     where
       at : ℕ → ℕ
       at k = walk new.nest.after front k
+
       many_is : new.nest.parts b ≡ many
       many_is = is.parts b ∙ set_here f.nest.parts b many
+
       head_is : new.nest.head b ≡ front
       head_is = is.head b ∙ set_here f.nest.head b front
+
       walks : (k : ℕ) → walk new.nest.after (new.nest.head b) k ≡ at k
       walks k = ap (λ x. walk new.nest.after x k) head_is
+
       low : (x : ℕ) → inside x ≡ true → x < f.size
       low x on = let w : IsOutermost g.n f x = valid.outermost.named x (cycle.in_tree x on) in subst (λ y. y < f.size) w.2 (valid.outermost.out_low w.0 w.1)
+
       holds : (x v : ℕ) → v < g.n → inside x ≡ true → new.holds x v ≡ eqb (f.out v) x
       holds x v l on = let w : IsOutermost g.n f x = valid.outermost.named x (cycle.in_tree x on) in is.holds_old x v (marked_old x on) l ∙ subst (λ y. f.holds y v ≡ eqb (f.out v) y) w.2 (valid.outermost.held w.0 v w.1 l)
+
       all : (p : ℕ) → new.nest.up p ≡ b → p ≢ b → Place p → (k : ℕ) × (k < new.nest.parts b) × (walk new.nest.after (new.nest.head b) k ≡ p)
       all p up inner (inl e) = absurd (inner e)
       all p up inner (inr (inl on)) = let w : (k : ℕ) × (k < many) × (walk new.nest.after front k ≡ p) = row.all p on.1 in (w.0, subst (λ n. w.0 < n) (sym many_is) w.1, walks w.0 ∙ w.2)
@@ -204,57 +220,65 @@ module _ (g : Darts) (are : AreDarts g) (f : Forest) (r : ℕ) (valid : IsValid 
 
   joint_new : (p : ℕ) → inside p ≡ true → IsJoint g new p
   joint_new p on = record {
-      tight = same_tight (new.nest.joint p) (row.tight p on);
-      begins = holds p (g.near (new.nest.joint p)) (are.near_low (new.nest.joint p) (row.tight p on).low) on (row.begins p on);
-      ends = holds (new.nest.after p) (far g (new.nest.joint p)) (far_low g are (new.nest.joint p) (row.tight p on).low) next (row.ends p on);
-      same = out_on (g.near (new.nest.joint p)) (are.near_low (new.nest.joint p) (row.tight p on).low) (ap inside (row.begins p on) ∙ on) ∙ sym (out_on (far g (new.nest.joint p)) (far_low g are (new.nest.joint p) (row.tight p on).low) (ap inside (row.ends p on) ∙ next))
-    }
+    tight = same_tight (new.nest.joint p) (row.tight p on);
+    begins = holds p (g.near (new.nest.joint p)) (are.near_low (new.nest.joint p) (row.tight p on).low) on (row.begins p on);
+    ends = holds (new.nest.after p) (far g (new.nest.joint p)) (far_low g are (new.nest.joint p) (row.tight p on).low) next (row.ends p on);
+    same = out_on (g.near (new.nest.joint p)) (are.near_low (new.nest.joint p) (row.tight p on).low) (ap inside (row.begins p on) ∙ on) ∙ sym (out_on (far g (new.nest.joint p)) (far_low g are (new.nest.joint p) (row.tight p on).low) (ap inside (row.ends p on) ∙ next));
+  }
     where
       next : inside (new.nest.after p) ≡ true
       next = let w : (k : ℕ) × (k < many) × (walk new.nest.after front k ≡ p) = row.all p on in ap (λ x. inside (new.nest.after x)) (sym w.2) ∙ row.marked (suc w.0)
+
       holds : (x v : ℕ) → v < g.n → inside x ≡ true → f.out v ≡ x → new.holds x v ≡ true
       holds x v l in_x e = let w : IsOutermost g.n f x = valid.outermost.named x (cycle.in_tree x in_x) in is.holds_old x v (marked_old x in_x) l ∙ (subst (λ y. f.holds y v ≡ eqb (f.out v) y) w.2 (valid.outermost.held w.0 v w.1 l) ∙ eq-eqb (f.out v) x e)
 
   joint_old : (p : ℕ) → p ≢ b → inside p ≡ false → f.nest.up p ≢ p → IsJoint g new p
   joint_old p ne off inner = record {
-      tight = subst (λ d. IsTight g new d) (sym joint_is) (same_tight (f.nest.joint p) old.tight);
-      begins = ap (λ d. new.holds p (g.near d)) joint_is ∙ (is.holds_old p (g.near (f.nest.joint p)) ne near_low ∙ old.begins);
-      ends = ap (λ d. new.holds (new.nest.after p) (far g d)) joint_is ∙ (ap (λ x. new.holds x (far g (f.nest.joint p))) (is.after p off) ∙ (is.holds_old (f.nest.after p) (far g (f.nest.joint p)) next far_low' ∙ old.ends));
-      same = ap (λ d. new.out (g.near d)) joint_is ∙ (is.out (g.near (f.nest.joint p)) near_low ∙ (ap (λ x. cond (inside x) b x) old.same ∙ (sym (is.out (far g (f.nest.joint p)) far_low') ∙ ap (λ d. new.out (far g d)) (sym joint_is))))
-    }
+    tight = subst (λ d. IsTight g new d) (sym joint_is) (same_tight (f.nest.joint p) old.tight);
+    begins = ap (λ d. new.holds p (g.near d)) joint_is ∙ (is.holds_old p (g.near (f.nest.joint p)) ne near_low ∙ old.begins);
+    ends = ap (λ d. new.holds (new.nest.after p) (far g d)) joint_is ∙ (ap (λ x. new.holds x (far g (f.nest.joint p))) (is.after p off) ∙ (is.holds_old (f.nest.after p) (far g (f.nest.joint p)) next far_low' ∙ old.ends));
+    same = ap (λ d. new.out (g.near d)) joint_is ∙ (is.out (g.near (f.nest.joint p)) near_low ∙ (ap (λ x. cond (inside x) b x) old.same ∙ (sym (is.out (far g (f.nest.joint p)) far_low') ∙ ap (λ d. new.out (far g d)) (sym joint_is))));
+  }
     where
       old : IsJoint g f p
       old = valid.nested.joints p inner
+
       joint_is : new.nest.joint p ≡ f.nest.joint p
       joint_is = is.joint p off
+
       near_low : g.near (f.nest.joint p) < g.n
       near_low = are.near_low (f.nest.joint p) old.tight.low
+
       far_low' : far g (f.nest.joint p) < g.n
       far_low' = far_low g are (f.nest.joint p) old.tight.low
+
       next : f.nest.after p ≢ b
       next e = true_false (f.holds b (far g (f.nest.joint p))) (ap (λ x. f.holds x (far g (f.nest.joint p))) (sym e) ∙ old.ends) (valid.nested.empty b (far g (f.nest.joint p)) unused.high far_low' unused.no_parts)
 
   new_nested : IsNested g new
   new_nested = record {
-      alone = λ v w lv lw. is.holds_old v w (λ e. (let h : g.n ≤ v = subst (λ x. g.n ≤ x) (sym e) unused.high in omega arith)) lw ∙ valid.nested.alone v w lv lw;
-      rings = λ c high live. rings c high live (cases_eq c b);
-      empty = λ c v high low none. empty c v high low none (cases_eq c b);
-      live = λ p inner. live p inner (place p);
-      joints = λ p inner. joints p inner (place p)
-    }
+    alone = λ v w lv lw. is.holds_old v w (λ e. (let h : g.n ≤ v = subst (λ x. g.n ≤ x) (sym e) unused.high in omega arith)) lw ∙ valid.nested.alone v w lv lw;
+    rings = λ c high live. rings c high live (cases_eq c b);
+    empty = λ c v high low none. empty c v high low none (cases_eq c b);
+    live = λ p inner. live p inner (place p);
+    joints = λ p inner. joints p inner (place p);
+  }
     where
       rings : (c : ℕ) → g.n ≤ c → new.nest.parts c ≢ 0 → (c ≡ b) ⊎ (c ≢ b) → IsRing g new c
       rings c high live (inl e) = subst (λ x. IsRing g new x) (sym e) ring_new
       rings c high live (inr ne) = ring_old c ne (valid.nested.rings c high (λ none. live (is.parts c ∙ (set_there f.nest.parts b c many ne ∙ none))))
+
       empty : (c v : ℕ) → g.n ≤ c → v < g.n → new.nest.parts c ≡ 0 → (c ≡ b) ⊎ (c ≢ b) → new.holds c v ≡ false
       empty c v high low none (inl e) = let h : many ≡ 0 = sym (set_here f.nest.parts b many) ∙ (sym (is.parts b) ∙ (ap new.nest.parts (sym e) ∙ none)) in absurd (omega (arith, row.odd))
       empty c v high low none (inr ne) = is.holds_old c v ne low ∙ valid.nested.empty c v high low (sym (set_there f.nest.parts b c many ne) ∙ (sym (is.parts c) ∙ none))
+
       live : (p : ℕ) → new.nest.up p ≢ p → Place p → (g.n ≤ new.nest.up p) × (new.nest.parts (new.nest.up p) ≢ 0)
       live p inner (inl e) = absurd (inner (ap new.nest.up e ∙ (up_b ∙ sym e)))
       live p inner (inr (inl on)) = (subst (λ x. g.n ≤ x) (sym (up_on p on.1)) unused.high, (λ none. (let h : many ≡ 0 = sym (set_here f.nest.parts b many) ∙ (sym (is.parts b) ∙ (ap new.nest.parts (sym (up_on p on.1)) ∙ none)) in absurd (omega (arith, row.odd)))))
       live p inner (inr (inr off)) =
           let was : (g.n ≤ f.nest.up p) × (f.nest.parts (f.nest.up p) ≢ 0) = valid.nested.live p (λ e. inner (up_off p off.0 off.1 ∙ e)) in
           (subst (λ x. g.n ≤ x) (sym (up_off p off.0 off.1)) was.0, (λ none. was.1 (sym (set_there f.nest.parts b (f.nest.up p) many (unused.around_none p off.0)) ∙ (sym (is.parts (f.nest.up p)) ∙ (ap new.nest.parts (sym (up_off p off.0 off.1)) ∙ none)))))
+
       joints : (p : ℕ) → new.nest.up p ≢ p → Place p → IsJoint g new p
       joints p inner (inl e) = absurd (inner (ap new.nest.up e ∙ (up_b ∙ sym e)))
       joints p inner (inr (inl on)) = joint_new p on.1
@@ -262,9 +286,9 @@ module _ (g : Darts) (are : AreDarts g) (f : Forest) (r : ℕ) (valid : IsValid 
 
   new_feasible : IsFeasible g new
   new_feasible = record {
-      sets = λ x high low. subst (λ w. pos 0 ≤ℤ w) (sym (is.weight x)) (valid.feasible.sets x high (subst (λ s. x < s) is.size low));
-      darts = λ d low. subst (λ w. w ≤ℤ (g.cost d +ℤ g.cost d)) (sym (same_load (g.near d) (far g d) (are.near_low d low) (far_low g are d low))) (valid.feasible.darts d low)
-    }
+    sets = λ x high low. subst (λ w. pos 0 ≤ℤ w) (sym (is.weight x)) (valid.feasible.sets x high (subst (λ s. x < s) is.size low));
+    darts = λ d low. subst (λ w. w ≤ℤ (g.cost d +ℤ g.cost d)) (sym (same_load (g.near d) (far g d) (are.near_low d low) (far_low g are d low))) (valid.feasible.darts d low);
+  }
 
   -- Who is matched to a blossom of the cycle from outside it is matched to the top.
   only_top : (c d : ℕ) → inside c ≡ false → f.mate c ≡ Some d → inside (f.out (far g d)) ≡ true → f.out (far g d) ≡ top
@@ -272,6 +296,7 @@ module _ (g : Darts) (are : AreDarts g) (f : Forest) (r : ℕ) (valid : IsValid 
     where
       pair : IsMate g f c d
       pair = valid.matched c d mate
+
       by_top : (f.out (far g d) ≡ top) ⊎ (f.out (far g d) ≢ top) → f.out (far g d) ≡ top
       by_top (inl e) = e
       by_top (inr ne) = absurd (true_false (inside c) (ap inside (sym (ap f.out (far_twin g are d) ∙ pair.here)) ∙ cycle.mates (f.out (far g d)) (g.twin d) on ne pair.back) off)
@@ -289,8 +314,9 @@ module _ (g : Darts) (are : AreDarts g) (f : Forest) (r : ℕ) (valid : IsValid 
             tight = same_tight d pair.tight;
             here = out_on (g.near d) near_low (ap inside pair.here ∙ cycle.top_in) ∙ sym e;
             other = λ x. unused.no_out (far g d) far_low' (sym (out_off (far g d) far_low' off) ∙ (x ∙ e));
-            back = ap new.mate (out_off (far g d) far_low' off) ∙ (mate_off (f.out (far g d)) (unused.no_out (far g d) far_low') off ∙ pair.back)
+            back = ap new.mate (out_off (far g d) far_low' off) ∙ (mate_off (f.out (far g d)) (unused.no_out (far g d) far_low') off ∙ pair.back);
           }
+
       from_old : c ≢ b → inside c ≡ false → f.mate c ≡ Some d → (inside (f.out (far g d)) ≡ true) ⊎ (inside (f.out (far g d)) ≡ false) → IsMate g new c d
       from_old ne off was (inl on) =
           let pair : IsMate g f c d = valid.matched c d was in
@@ -301,7 +327,7 @@ module _ (g : Darts) (are : AreDarts g) (f : Forest) (r : ℕ) (valid : IsValid 
             tight = same_tight d pair.tight;
             here = out_off (g.near d) near_low (ap inside pair.here ∙ off) ∙ pair.here;
             other = λ x. ne (sym x ∙ out_on (far g d) far_low' on);
-            back = ap new.mate (out_on (far g d) far_low' on) ∙ (mate_b ∙ (ap f.mate (sym at_top) ∙ pair.back))
+            back = ap new.mate (out_on (far g d) far_low' on) ∙ (mate_b ∙ (ap f.mate (sym at_top) ∙ pair.back));
           }
       from_old ne off was (inr too) =
           let pair : IsMate g f c d = valid.matched c d was in
@@ -311,8 +337,9 @@ module _ (g : Darts) (are : AreDarts g) (f : Forest) (r : ℕ) (valid : IsValid 
             tight = same_tight d pair.tight;
             here = out_off (g.near d) near_low (ap inside pair.here ∙ off) ∙ pair.here;
             other = λ x. pair.other (sym (out_off (far g d) far_low' too) ∙ x);
-            back = ap new.mate (out_off (far g d) far_low' too) ∙ (mate_off (f.out (far g d)) (unused.no_out (far g d) far_low') too ∙ pair.back)
+            back = ap new.mate (out_off (far g d) far_low' too) ∙ (mate_off (f.out (far g d)) (unused.no_out (far g d) far_low') too ∙ pair.back);
           }
+
       by_place : Place c → IsMate g new c d
       by_place (inl e) = from_top e (sym mate_b ∙ (ap new.mate (sym e) ∙ mate))
       by_place (inr (inl on)) = absurd (some_none (new.mate c) d mate (mate_on c on.1))
@@ -341,59 +368,69 @@ module _ (g : Darts) (are : AreDarts g) (f : Forest) (r : ℕ) (valid : IsValid 
 
   new_inner : (c : ℕ) → c ≢ b → inside c ≡ false → f.label c ≡ Inner → IsInner g f tree.depth c → IsInner g new depths c
   new_inner c ne off label old = record {
-      tight = subst (λ d. IsTight g new d) (sym (is.link c)) (same_tight (f.link c) old.tight);
-      here = ap (λ d. new.out (g.near d)) (is.link c) ∙ (out_off (g.near (f.link c)) near_low (ap inside old.here ∙ off) ∙ old.here);
-      above = ap (λ d. new.label (new.out (far g d))) (is.link c) ∙ parent.0;
-      nearer = subst (λ d. depths (new.out (far g d)) < depths c) (sym (is.link c)) (let e : depths c ≡ tree.depth c = depth_old c ne in let h : tree.depth (f.out (far g (f.link c))) < tree.depth c = old.nearer in omega (arith, parent.1));
-      dart = old.dart;
-      mate = mate_off c ne off ∙ old.mate;
-      child = (outer_after (far g old.dart) dart_low old.child).0;
-      same = by_child (cases_Bool (inside (f.out (far g old.dart))))
-    }
+    tight = subst (λ d. IsTight g new d) (sym (is.link c)) (same_tight (f.link c) old.tight);
+    here = ap (λ d. new.out (g.near d)) (is.link c) ∙ (out_off (g.near (f.link c)) near_low (ap inside old.here ∙ off) ∙ old.here);
+    above = ap (λ d. new.label (new.out (far g d))) (is.link c) ∙ parent.0;
+    nearer = subst (λ d. depths (new.out (far g d)) < depths c) (sym (is.link c)) (let e : depths c ≡ tree.depth c = depth_old c ne in let h : tree.depth (f.out (far g (f.link c))) < tree.depth c = old.nearer in omega (arith, parent.1));
+    dart = old.dart;
+    mate = mate_off c ne off ∙ old.mate;
+    child = (outer_after (far g old.dart) dart_low old.child).0;
+    same = by_child (cases_Bool (inside (f.out (far g old.dart))));
+  }
     where
       near_low : g.near (f.link c) < g.n
       near_low = are.near_low (f.link c) old.tight.low
+
       parent : (new.label (new.out (far g (f.link c))) ≡ Outer) × (depths (new.out (far g (f.link c))) ≤ tree.depth (f.out (far g (f.link c))))
       parent = outer_after (far g (f.link c)) (far_low g are (f.link c) old.tight.low) old.above
+
       dart_low : far g old.dart < g.n
       dart_low = far_low g are old.dart (valid.matched c old.dart old.mate).tight.low
+
       by_child : (inside (f.out (far g old.dart)) ≡ true) ⊎ (inside (f.out (far g old.dart)) ≡ false) → depths (new.out (far g old.dart)) ≡ depths c
       by_child (inl on) = ap depths (out_on (far g old.dart) dart_low on) ∙ (depth_b ∙ (ap tree.depth (sym (only_top c old.dart off old.mate on)) ∙ (old.same ∙ sym (depth_old c ne))))
       by_child (inr too) = ap depths (out_off (far g old.dart) dart_low too) ∙ (depth_old (f.out (far g old.dart)) (unused.no_out (far g old.dart) dart_low) ∙ (old.same ∙ sym (depth_old c ne)))
 
   new_tree : IsTree g new root_after
   new_tree = record {
-      depth = depths;
-      root_outer = root_outer (cases_Bool (inside r));
-      root_free = root_free (cases_Bool (inside r));
-      inner = λ c l. inner c l (place c);
-      outer = λ c l. outer c l (place c)
-    }
+    depth = depths;
+    root_outer = root_outer (cases_Bool (inside r));
+    root_free = root_free (cases_Bool (inside r));
+    inner = λ c l. inner c l (place c);
+    outer = λ c l. outer c l (place c);
+  }
     where
       r_old : r ≢ b
       r_old e = (let h : Outer ≡ Outside = sym tree.root_outer ∙ (ap f.label e ∙ unused.outside) in cc)
+
       root_outer : (inside r ≡ true) ⊎ (inside r ≡ false) → new.label root_after ≡ Outer
       root_outer (inl on) = ap new.label (cond-true (inside r) b r on) ∙ label_b
       root_outer (inr off) = ap new.label (cond-false (inside r) b r off) ∙ (label_off r r_old off ∙ tree.root_outer)
+
       root_free : (inside r ≡ true) ⊎ (inside r ≡ false) → new.mate root_after ≡ None
       root_free (inl on) = ap new.mate (cond-true (inside r) b r on) ∙ (mate_b ∙ (ap f.mate (sym (cycle.root_top on)) ∙ tree.root_free))
       root_free (inr off) = ap new.mate (cond-false (inside r) b r off) ∙ (mate_off r r_old off ∙ tree.root_free)
+
       inner : (c : ℕ) → new.label c ≡ Inner → Place c → IsInner g new depths c
       inner c l (inl e) = let h : Outer ≡ Inner = sym label_b ∙ (ap new.label (sym e) ∙ l) in absurd (cc h)
       inner c l (inr (inl on)) = let h : Outside ≡ Inner = sym (label_on c on.1) ∙ l in absurd (cc h)
       inner c l (inr (inr off)) = new_inner c off.0 off.1 (sym (label_off c off.0 off.1) ∙ l) (tree.inner c (sym (label_off c off.0 off.1) ∙ l))
+
       top_is : IsOuter g f r top → IsOuter g new root_after b
       top_is (inl e) = inl (sym (cond-true (inside r) b r (ap inside (sym e) ∙ cycle.top_in)))
       top_is (inr w) = let far_low' : far g w.0 < g.n = far_low g are w.0 (valid.matched top w.0 w.1).tight.low in
           inr (w.0, mate_b ∙ w.1, ap new.label (out_off (far g w.0) far_low' (cycle.top_mate w.0 w.1)) ∙ (label_off (f.out (far g w.0)) (unused.no_out (far g w.0) far_low') (cycle.top_mate w.0 w.1) ∙ w.2))
+
       clash : (x : ℕ) → x ≡ top → f.label x ≡ Inner → ⊥
       clash x e l = let h : Outer ≡ Inner = sym cycle.top_outer ∙ (ap f.label (sym e) ∙ l) in cc
+
       old_is : (c : ℕ) → c ≢ b → inside c ≡ false → IsOuter g f r c → IsOuter g new root_after c
       old_is c ne off (inl e) = inl (e ∙ sym (cond-false (inside r) b r (ap inside (sym e) ∙ off)))
       old_is c ne off (inr w) =
           let far_low' : far g w.0 < g.n = far_low g are w.0 (valid.matched c w.0 w.1).tight.low in
           let too : inside (f.out (far g w.0)) ≡ false = elim (cases_Bool (inside (f.out (far g w.0)))) [ inl on ↦ absurd (clash (f.out (far g w.0)) (only_top c w.0 off w.1 on) w.2) | inr out ↦ out ] in
           inr (w.0, mate_off c ne off ∙ w.1, ap new.label (out_off (far g w.0) far_low' too) ∙ (label_off (f.out (far g w.0)) (unused.no_out (far g w.0) far_low') too ∙ w.2))
+
       outer : (c : ℕ) → new.label c ≡ Outer → Place c → IsOuter g new root_after c
       outer c l (inl e) = subst (λ x. IsOuter g new root_after x) (sym e) (top_is (tree.outer top cycle.top_outer))
       outer c l (inr (inl on)) = let h : Outside ≡ Outer = sym (label_on c on.1) ∙ l in absurd (cc h)
@@ -408,6 +445,7 @@ module _ (g : Darts) (are : AreDarts g) (f : Forest) (r : ℕ) (valid : IsValid 
           let gone : f.label (f.out (far g d)) ≡ Outside = valid.outside c d out was in
           let too : inside (f.out (far g d)) ≡ false = elim (cases_Bool (inside (f.out (far g d)))) [ inl on ↦ absurd (cycle.in_tree (f.out (far g d)) on gone) | inr x ↦ x ] in
           ap new.label (out_off (far g d) far_low' too) ∙ (label_off (f.out (far g d)) (unused.no_out (far g d) far_low') too ∙ gone)
+
       by_place : Place c → new.label (new.out (far g d)) ≡ Outside
       by_place (inl e) = let h : Outer ≡ Outside = sym label_b ∙ (ap new.label (sym e) ∙ l) in absurd (cc h)
       by_place (inr (inl on)) = absurd (some_none (new.mate c) d mate (mate_on c on.1))
@@ -416,14 +454,14 @@ module _ (g : Darts) (are : AreDarts g) (f : Forest) (r : ℕ) (valid : IsValid 
   -- A cycle of tight darts in the tree may become one outer blossom.
   pub shrunk_valid : IsValid g new (Some root_after)
   shrunk_valid = record {
-      outermost = new_outermost;
-      nested = new_nested;
-      feasible = new_feasible;
-      matched = new_matched;
-      tree = λ x e. subst (λ y. IsTree g new y) (some_is root_after x e) new_tree;
-      no_tree = λ e. absurd (none e);
-      outside = new_outside
-    }
+    outermost = new_outermost;
+    nested = new_nested;
+    feasible = new_feasible;
+    matched = new_matched;
+    tree = λ x e. subst (λ y. IsTree g new y) (some_is root_after x e) new_tree;
+    no_tree = λ e. absurd (none e);
+    outside = new_outside;
+  }
     where
       none : Some root_after ≡ None → ⊥
       none e = cc

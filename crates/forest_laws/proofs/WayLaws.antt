@@ -17,7 +17,6 @@ pub some_none : (o : Option ℕ) (d : ℕ) → o ≡ Some d → o ≢ None
 some_none o d is off = let h : ◌≡◌ {A = Option ℕ} (Some d) None = sym is ∙ off in cc
 
 module _ (g : Darts) (are : AreDarts g) (f : Forest) (r : ℕ) (valid : IsValid g f (Some r)) (tree : IsTree g f r) (start : ℕ) where
-
   outer_is : (x : ℕ) → f.label x ≡ Outer → f.label x ≢ Outside
   outer_is x l off = cc
 
@@ -27,23 +26,26 @@ module _ (g : Darts) (are : AreDarts g) (f : Forest) (r : ℕ) (valid : IsValid 
   -- It begins where a dart reaches a blossom that is not matched.
   pub begin : Reaches g f start → f.mate (f.out (far g start)) ≡ None → IsAlmost g f tree.depth start (set_at f.mate (f.out (far g start)) (Some (g.twin start))) (f.out (g.near start)) start
   begin reach free = record {
-      outer = reach.outer;
-      tight = reach.tight;
-      here = refl;
-      reached = at_there;
-      above = inl reach.off;
-      kept = λ b named low. set_there f.mate there b (Some (g.twin start)) (λ e. named (ap f.label e ∙ reach.off));
-      each = λ b d ne mate. each b d ne mate (cases_eq b there);
-      more = λ b mate. more b mate (cases_eq b there);
-      begun = some_none (mates there) (g.twin start) at_there
-    }
+    outer = reach.outer;
+    tight = reach.tight;
+    here = refl;
+    reached = at_there;
+    above = inl reach.off;
+    kept = λ b named low. set_there f.mate there b (Some (g.twin start)) (λ e. named (ap f.label e ∙ reach.off));
+    each = λ b d ne mate. each b d ne mate (cases_eq b there);
+    more = λ b mate. more b mate (cases_eq b there);
+    begun = some_none (mates there) (g.twin start) at_there;
+  }
     where
       there : ℕ
       there = f.out (far g start)
+
       mates : ℕ → Option ℕ
       mates = set_at f.mate (f.out (far g start)) (Some (g.twin start))
+
       at_there : mates there ≡ Some (g.twin start)
       at_there = set_here f.mate there (Some (g.twin start))
+
       each : (b d : ℕ) → b ≢ f.out (g.near start) → mates b ≡ Some d → (b ≡ there) ⊎ (b ≢ there) → IsHalf g f mates (f.out (g.near start)) start b d
       each b d ne mate (inl e) =
           let d_is : g.twin start ≡ d = some_is (g.twin start) d (sym at_there ∙ (ap mates (sym e) ∙ mate)) in
@@ -51,7 +53,7 @@ module _ (g : Darts) (are : AreDarts g) (f : Forest) (r : ℕ) (valid : IsValid 
             tight = tight_twin g are f start reach.tight;
             here = sym e;
             other = λ x. ne (sym x ∙ ap f.out (far_twin g are start));
-            back = inr (ap f.out (far_twin g are start), inl refl)
+            back = inr (ap f.out (far_twin g are start), inl refl);
           })
       each b d ne mate (inr off) =
           let was : f.mate b ≡ Some d = sym (set_there f.mate there b (Some (g.twin start)) off) ∙ mate in
@@ -60,14 +62,14 @@ module _ (g : Darts) (are : AreDarts g) (f : Forest) (r : ℕ) (valid : IsValid 
             tight = is.tight;
             here = is.here;
             other = is.other;
-            back = inl (set_there f.mate there (f.out (far g d)) (Some (g.twin start)) (λ x. some_none (f.mate (f.out (far g d))) (g.twin d) is.back (ap f.mate x ∙ free)) ∙ is.back)
+            back = inl (set_there f.mate there (f.out (far g d)) (Some (g.twin start)) (λ x. some_none (f.mate (f.out (far g d))) (g.twin d) is.back (ap f.mate x ∙ free)) ∙ is.back);
           }
+
       more : (b : ℕ) → mates b ≡ None → (b ≡ there) ⊎ (b ≢ there) → f.mate b ≡ None
       more b mate (inl e) = absurd (some_none (mates b) (g.twin start) (ap mates e ∙ at_there) mate)
       more b mate (inr off) = sym (set_there f.mate there b (Some (g.twin start)) off) ∙ mate
 
   module _ (mate : ℕ → Option ℕ) (a e : ℕ) (almost : IsAlmost g f tree.depth start mate a e) where
-
     not_back : f.out (far g e) ≢ a
     not_back at = by_above almost.above
       where
@@ -84,8 +86,10 @@ module _ (g : Darts) (are : AreDarts g) (f : Forest) (r : ℕ) (valid : IsValid 
       where
         mates : ℕ → Option ℕ
         mates = set_at mate a (Some e)
+
         here : mates a ≡ Some e
         here = set_here mate a (Some e)
+
         by_back : (x : ℕ) → IsHalf g f mate a e b x → mates (f.out (far g x)) ≡ Some (g.twin x)
         by_back x half = by_case half.back
           where
@@ -93,6 +97,7 @@ module _ (g : Darts) (are : AreDarts g) (f : Forest) (r : ℕ) (valid : IsValid 
             by_case (inl back) = set_there mate a (f.out (far g x)) (Some e) (λ at. some_none (mate a) (g.twin x) (ap mate (sym at) ∙ back) (own ∙ free)) ∙ back
             by_case (inr (at, inl twin)) = ap mates at ∙ (here ∙ ap (λ (y : ℕ). Some y) (sym (ap g.twin twin ∙ are.twin_twin e)))
             by_case (inr (at, inr was)) = absurd (some_none (f.mate a) (g.twin x) was free)
+
         by_place : (b ≡ a) ⊎ (b ≢ a) → IsMate g (with_mates f mates) b d
         by_place (inl at) =
             let d_is : e ≡ d = some_is e d (sym here ∙ (ap mates (sym at) ∙ is)) in
@@ -100,7 +105,7 @@ module _ (g : Darts) (are : AreDarts g) (f : Forest) (r : ℕ) (valid : IsValid 
               tight = record { low = almost.tight.low; exact = almost.tight.exact };
               here = almost.here ∙ sym at;
               other = λ x. not_back (x ∙ at);
-              back = set_there mate a (f.out (far g e)) (Some e) not_back ∙ almost.reached
+              back = set_there mate a (f.out (far g e)) (Some e) not_back ∙ almost.reached;
             })
         by_place (inr ne) =
             let half : IsHalf g f mate a e b d = almost.each b d ne (sym (set_there mate a b (Some e) ne) ∙ is) in
@@ -109,14 +114,14 @@ module _ (g : Darts) (are : AreDarts g) (f : Forest) (r : ℕ) (valid : IsValid 
     -- The forest is valid then, and no tree stands.
     pub end_valid : f.mate a ≡ None → IsValid g (with_mates f (set_at mate a (Some e))) None
     end_valid free = record {
-        outermost = same_outermost g f (λ b. Outside) (set_at mate a (Some e)) f.link g.n valid.outermost (λ b named. absurd (named refl));
-        nested = same_nested g f (λ b. Outside) (set_at mate a (Some e)) f.link valid.nested;
-        feasible = same_feasible g f (λ b. Outside) (set_at mate a (Some e)) f.link valid.feasible;
-        matched = end_matched free;
-        tree = λ x is. absurd (none x is);
-        no_tree = λ is b. refl;
-        outside = λ b d off is. refl
-      }
+      outermost = same_outermost g f (λ b. Outside) (set_at mate a (Some e)) f.link g.n valid.outermost (λ b named. absurd (named refl));
+      nested = same_nested g f (λ b. Outside) (set_at mate a (Some e)) f.link valid.nested;
+      feasible = same_feasible g f (λ b. Outside) (set_at mate a (Some e)) f.link valid.feasible;
+      matched = end_matched free;
+      tree = λ x is. absurd (none x is);
+      no_tree = λ is b. refl;
+      outside = λ b d off is. refl;
+    }
       where
         none : (x : ℕ) → None ≡ Some x → ⊥
         none x is = cc
@@ -124,30 +129,34 @@ module _ (g : Darts) (are : AreDarts g) (f : Forest) (r : ℕ) (valid : IsValid 
     -- What has come of it.
     pub end_augmented : f.mate a ≡ None → IsAugmented g f (with_mates f (set_at mate a (Some e))) r start
     end_augmented free = record {
-        changed = refl;
-        root_matched = some_none (mates r) e (ap mates root_is ∙ here);
-        reached_matched = λ off. by_place (f.out (far g start)) off (cases_eq (f.out (far g start)) a) almost.begun;
-        others = λ b off. others b off (cases_eq b a)
-      }
+      changed = refl;
+      root_matched = some_none (mates r) e (ap mates root_is ∙ here);
+      reached_matched = λ off. by_place (f.out (far g start)) off (cases_eq (f.out (far g start)) a) almost.begun;
+      others = λ b off. others b off (cases_eq b a);
+    }
       where
         mates : ℕ → Option ℕ
         mates = set_at mate a (Some e)
+
         here : mates a ≡ Some e
         here = set_here mate a (Some e)
+
         by_outer : IsOuter g f r a → r ≡ a
         by_outer (inl at) = sym at
         by_outer (inr is) = absurd (some_none (f.mate a) is.0 is.1 free)
+
         root_is : r ≡ a
         root_is = by_outer (tree.outer a almost.outer)
+
         by_place : (x : ℕ) → mates x ≡ None → (x ≡ a) ⊎ (x ≢ a) → mate x ≢ None → ⊥
         by_place x off (inl at) begun = some_none (mates x) e (ap mates at ∙ here) off
         by_place x off (inr ne) begun = begun (sym (set_there mate a x (Some e) ne) ∙ off)
+
         others : (b : ℕ) → mates b ≡ None → (b ≡ a) ⊎ (b ≢ a) → f.mate b ≡ None
         others b off (inl at) = absurd (some_none (mates b) e (ap mates at ∙ here) off)
         others b off (inr ne) = almost.more b (sym (set_there mate a b (Some e) ne) ∙ off)
 
     module _ (old : ℕ) (was : f.mate a ≡ Some old) where
-
       abbrev inn : ℕ
       inn = f.out (far g old)
 
@@ -231,21 +240,22 @@ module _ (g : Darts) (are : AreDarts g) (f : Forest) (r : ℕ) (valid : IsValid 
       pub turn : IsAlmost g f tree.depth start turned next (g.twin up)
       unfolding Place Waits
       turn = record {
-          outer = inn_is.above;
-          tight = tight_twin g are f up inn_is.tight;
-          here = refl;
-          reached = ap turned (ap f.out (far_twin g are up) ∙ inn_is.here) ∙ (at_inn ∙ ap (λ (x : ℕ). Some x) (sym (are.twin_twin up)));
-          above = inr (subst (λ x. tree.depth next < tree.depth x) (sym (ap f.out (far_twin g are up) ∙ inn_is.here)) inn_is.nearer);
-          kept = λ b named low. kept b named low (place b);
-          each = λ b d ne is. each b d is (place b);
-          more = λ b is. more b is (place b);
-          begun = λ is. begun (f.out (far g start)) is (place (f.out (far g start))) almost.begun
-        }
+        outer = inn_is.above;
+        tight = tight_twin g are f up inn_is.tight;
+        here = refl;
+        reached = ap turned (ap f.out (far_twin g are up) ∙ inn_is.here) ∙ (at_inn ∙ ap (λ (x : ℕ). Some x) (sym (are.twin_twin up)));
+        above = inr (subst (λ x. tree.depth next < tree.depth x) (sym (ap f.out (far_twin g are up) ∙ inn_is.here)) inn_is.nearer);
+        kept = λ b named low. kept b named low (place b);
+        each = λ b d ne is. each b d is (place b);
+        more = λ b is. more b is (place b);
+        begun = λ is. begun (f.out (far g start)) is (place (f.out (far g start))) almost.begun;
+      }
         where
           kept : (b : ℕ) → f.label b ≢ Outside → tree.depth b ≤ tree.depth next → Place b → turned b ≡ f.mate b
           kept b named low (inl at) = let h : tree.depth inn ≤ tree.depth next = subst (λ x. tree.depth x ≤ tree.depth next) at low in absurd (omega (arith, inn_depth, next_nearer))
           kept b named low (inr (inl at)) = let h : tree.depth a ≤ tree.depth next = subst (λ x. tree.depth x ≤ tree.depth next) at low in absurd (omega (arith, next_nearer))
           kept b named low (inr (inr ne)) = at_other b ne.0 ne.1 ∙ almost.kept b named (omega (arith, next_nearer))
+
           each : (b d : ℕ) → turned b ≡ Some d → Place b → IsHalf g f turned next (g.twin up) b d
           each b d is (inl at) =
               let d_is : up ≡ d = some_is up d (sym at_inn ∙ (ap turned (sym at) ∙ is)) in
@@ -253,7 +263,7 @@ module _ (g : Darts) (are : AreDarts g) (f : Forest) (r : ℕ) (valid : IsValid 
                 tight = inn_is.tight;
                 here = inn_is.here ∙ sym at;
                 other = λ x. (let h : tree.depth inn < tree.depth inn = subst (λ y. tree.depth y < tree.depth inn) (x ∙ at) inn_is.nearer in omega arith);
-                back = inr (refl, inl (sym (are.twin_twin up)))
+                back = inr (refl, inl (sym (are.twin_twin up)));
               })
           each b d is (inr (inl at)) =
               let d_is : e ≡ d = some_is e d (sym at_a ∙ (ap turned (sym at) ∙ is)) in
@@ -261,15 +271,17 @@ module _ (g : Darts) (are : AreDarts g) (f : Forest) (r : ℕ) (valid : IsValid 
                 tight = almost.tight;
                 here = almost.here ∙ sym at;
                 other = λ x. not_back (x ∙ at);
-                back = inl (at_other (f.out (far g e)) not_back reach_not_inn ∙ almost.reached)
+                back = inl (at_other (f.out (far g e)) not_back reach_not_inn ∙ almost.reached);
               })
           each b d is (inr (inr ne)) =
               let half : IsHalf g f mate a e b d = almost.each b d ne.0 (sym (at_other b ne.0 ne.1) ∙ is) in
               record { tight = half.tight; here = half.here; other = half.other; back = by_old b d ne.0 ne.1 half }
+
           more : (b : ℕ) → turned b ≡ None → Place b → f.mate b ≡ None
           more b is (inl at) = absurd (some_none (turned b) up (ap turned at ∙ at_inn) is)
           more b is (inr (inl at)) = absurd (some_none (turned b) e (ap turned at ∙ at_a) is)
           more b is (inr (inr ne)) = almost.more b (sym (at_other b ne.0 ne.1) ∙ is)
+
           begun : (x : ℕ) → turned x ≡ None → Place x → mate x ≢ None → ⊥
           begun x is (inl at) some = some_none (turned x) up (ap turned at ∙ at_inn) is
           begun x is (inr (inl at)) some = some_none (turned x) e (ap turned at ∙ at_a) is
