@@ -1,6 +1,6 @@
 -- The darts of a graph: its edges with a direction.
 use Rattle.std.specs.Prelude.{◌≡◌, ℕ, ◌+◌, ◌-◌, ◌*◌, ◌/◌, ◌%◌, ◌<◌, ◌==◌, if◌then◌else◌, length, ℤ}
-use Rattle.def_matching.specs.Matching.{Graph, Vertex, EdgeNumber, edge_at}
+use Rattle.def_matching.specs.Matching.{Graph, Vertex, edge_at}
 
 -- A dart is a number, twice that of its edge, or one more for the other direction.
 abbrev pub Dart : Type 0

@@ -1,9 +1,8 @@
 -- When a forest is valid for a graph.
-use Rattle.std.specs.Prelude.{◌≡◌, ◌≢◌, ℕ, ◌+◌, ◌*◌, ◌<◌, ◌≤◌, ◌==◌, Bool, true, false, ℤ, pos, ◌+ℤ◌, ◌≤ℤ◌, Option, Some, None, ◌⊎◌}
+use Rattle.std.specs.Prelude.{◌≡◌, ◌≢◌, ℕ, ◌+◌, ◌*◌, ◌<◌, ◌≤◌, ◌==◌, true, false, pos, ◌+ℤ◌, ◌≤ℤ◌, Option, Some, None, ◌⊎◌}
 use Rattle.def_matching.specs.Matching.{Vertex}
 use Rattle.def_forest.specs.Darts.{Dart, Darts, far}
-use Rattle.def_forest.specs.Forests.{Blossom, Nest, Forest, load, IsTight, IsOutermost, number, walk, ring_sum}
-use Rattle.def_forest.specs.declared.kinds.Label.{Label}
+use Rattle.def_forest.specs.Forests.{Blossom, Forest, load, IsTight, IsOutermost, number, walk, ring_sum}
 use Rattle.def_forest.specs.declared.kinds.Label.TheVariants.{Outer, Inner, Outside}
 
 -- The outermost blossoms share the vertices out, and only they have a place in the tree.
@@ -12,7 +11,8 @@ pub record AreOutermost (n : ℕ) (f : Forest) : Type 0 where
   pub out_low : (v : Vertex) → v < n → f.out v < f.size
   pub held : (u v : Vertex) → u < n → v < n → f.holds (f.out u) v ≡ (f.out v == f.out u)
   pub tops : (v : Vertex) → v < n → f.nest.up (f.out v) ≡ f.out v
-  pub together : (b : Blossom) (u v : Vertex) → u < n → v < n → f.holds b u ≡ true → f.holds b v ≡ true → f.out u ≡ f.out v
+  pub together : (b : Blossom) (u v : Vertex) → u < n → v < n → f.holds b u ≡ true → f.holds b v ≡ true
+      → f.out u ≡ f.out v
   pub named : (b : Blossom) → f.label b ≢ Outside → IsOutermost n f b
 
 -- Set b is an odd ring of parts that share its vertices out; each joint goes from a part to the next.
@@ -24,9 +24,12 @@ pub record IsRing (g : Darts) (f : Forest) (b : Blossom) : Type 0 where
   pub inside : (k : ℕ) → f.nest.up (walk f.nest.after (f.nest.head b) k) ≡ b
   pub lower : (k : ℕ) → f.nest.rank (walk f.nest.after (f.nest.head b) k) < f.nest.rank b
   pub below : (k : ℕ) → walk f.nest.after (f.nest.head b) k < f.size
-  pub distinct : (i j : ℕ) → i < j → j < f.nest.parts b → walk f.nest.after (f.nest.head b) i ≢ walk f.nest.after (f.nest.head b) j
-  pub all : (p : Blossom) → f.nest.up p ≡ b → p ≢ b → (k : ℕ) × (k < f.nest.parts b) × (walk f.nest.after (f.nest.head b) k ≡ p)
-  pub shared : (v : Vertex) → v < g.n → number (f.holds b v) ≡ ring_sum f.nest.after (λ p. number (f.holds p v)) (f.nest.head b) (f.nest.parts b)
+  pub distinct : (i j : ℕ) → i < j → j < f.nest.parts b
+      → walk f.nest.after (f.nest.head b) i ≢ walk f.nest.after (f.nest.head b) j
+  pub all : (p : Blossom) → f.nest.up p ≡ b → p ≢ b
+      → (k : ℕ) × (k < f.nest.parts b) × (walk f.nest.after (f.nest.head b) k ≡ p)
+  pub shared : (v : Vertex) → v < g.n
+      → number (f.holds b v) ≡ ring_sum f.nest.after (λ p. number (f.holds p v)) (f.nest.head b) (f.nest.parts b)
 
 -- The dart from part p to the next is tight, and begins in the one and ends in the other.
 pub record IsJoint (g : Darts) (f : Forest) (p : Blossom) : Type 0 where
@@ -84,7 +87,8 @@ pub record IsTree (g : Darts) (f : Forest) (root : Blossom) : Type 0 where
 
 -- What is matched to a blossom outside the tree is outside.
 abbrev pub KeepsOutside : (g : Darts) (f : Forest) → Type 0
-KeepsOutside g f = (b : Blossom) (d : Dart) → f.label b ≡ Outside → f.mate b ≡ Some d → f.label (f.out (far g d)) ≡ Outside
+KeepsOutside g f = (b : Blossom) (d : Dart) → f.label b ≡ Outside → f.mate b ≡ Some d
+    → f.label (f.out (far g d)) ≡ Outside
 
 -- A forest is valid, with a tree on a root, or with no tree.
 pub record IsValid (g : Darts) (f : Forest) (root : Option Blossom) : Type 0 where

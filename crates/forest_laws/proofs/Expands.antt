@@ -1,15 +1,14 @@
 -- An expansion keeps a forest valid.
-use Rattle.std.proofs.Common.{◌≡◌, ◌≢◌, ℕ, zero, suc, ◌+◌, ◌*◌, ◌-◌, ◌/◌, ◌%◌, ◌<◌, ◌≤◌, Bool, true, false, not, cond, eqb, Option, Some, None, ℤ, pos, ◌+ℤ◌, ◌≤ℤ◌, ◌⊎◌, refl, sym, ◌∙◌, ap, subst, inl, inr, arith}
+use Rattle.std.proofs.Common.{◌≡◌, ◌≢◌, ℕ, zero, suc, ◌+◌, ◌*◌, ◌-◌, ◌/◌, ◌%◌, ◌<◌, ◌≤◌, Bool, true, false, not, cond, eqb, Some, None, ℤ, pos, ◌+ℤ◌, ◌≤ℤ◌, ◌⊎◌, refl, sym, ◌∙◌, ap, subst, inl, inr, arith}
 use Rattle.std.proofs.Math.Nat.{mul-le-mul_left}
-use Rattle.std.proofs.lemmas.Bool.{cases_eq, cases_lt, cases_Bool, cond-true, cond-false, eq-eqb, ne_eqb, eqb-true}
+use Rattle.std.proofs.lemmas.Bool.{cases_eq, cases_lt, cases_Bool, cond-true, cond-false, eq-eqb, ne_eqb}
 use Rattle.def_math.specs.Searches.{least}
 use Rattle.qm_laws.proofs.Searches.{least_some}
 use Rattle.qm_laws.proofs.Sums.{total_below_same}
 use Rattle.def_forest.specs.Darts.{Darts, AreDarts, far}
-use Rattle.def_forest.specs.Forests.{Forest, load, splits, IsTight, IsOutermost, number, walk, ring_sum, set_at}
-use Rattle.def_forest.specs.Steps.{Opening, IsOpening, IsOpened}
+use Rattle.def_forest.specs.Forests.{Forest, load, splits, IsTight, IsOutermost, number, walk, ring_sum}
+use Rattle.forest_laws.specs.Opened.{Opening, IsOpening, IsOpened}
 use Rattle.def_forest.specs.Valid.{AreOutermost, IsNested, IsRing, IsJoint, IsFeasible, IsMate, IsMatched, IsTree, IsInner, IsOuter, IsValid, KeepsOutside}
-use Rattle.def_forest.specs.declared.kinds.Label.{Label}
 use Rattle.def_forest.specs.declared.kinds.Label.TheVariants.{Outer, Inner, Outside}
 use Rattle.forest_laws.specs.Ways.{dart_or}
 use Rattle.forest_laws.proofs.Writes.{some_is, by_none}
@@ -51,6 +50,24 @@ module _ (g : Darts) (are : AreDarts g) (f : Forest) (r : ℕ) (valid : IsValid 
 
   b_top : f.nest.up b ≡ b
   b_top = let w : IsOutermost g.n f b = valid.outermost.named b b_named in ap f.nest.up (sym w.2) ∙ (valid.outermost.tops w.0 w.1 ∙ w.2)
+
+  kept_up : (x : ℕ) → f.nest.up x ≢ b → new.nest.up x ≡ f.nest.up x
+  kept_up x ne = (is.others x ne).up
+
+  kept_after : (x : ℕ) → f.nest.up x ≢ b → new.nest.after x ≡ f.nest.after x
+  kept_after x ne = (is.others x ne).after
+
+  kept_joint : (x : ℕ) → f.nest.up x ≢ b → new.nest.joint x ≡ f.nest.joint x
+  kept_joint x ne = (is.others x ne).joint
+
+  kept_head : (x : ℕ) → x ≢ b → new.nest.head x ≡ f.nest.head x
+  kept_head x ne = (is.sets x ne).head
+
+  kept_parts : (x : ℕ) → x ≢ b → new.nest.parts x ≡ f.nest.parts x
+  kept_parts x ne = (is.sets x ne).many
+
+  kept_rank : (x : ℕ) → x ≢ b → new.nest.rank x ≡ f.nest.rank x
+  kept_rank x ne = (is.sets x ne).rank
 
   -- A blossom with vertices of its own is no part.
   out_not_part : (v : ℕ) → v < g.n → f.out v ≢ b → f.nest.up (f.out v) ≢ b
@@ -147,8 +164,8 @@ module _ (g : Darts) (are : AreDarts g) (f : Forest) (r : ℕ) (valid : IsValid 
       tops : (v : ℕ) → v < g.n → (f.out v ≡ b) ⊎ (f.out v ≢ b) → new.nest.up (new.out v) ≡ new.out v
       tops v l (inl e) =
           let p : (j : ℕ) × (j ≤ 2 * o.half) × (o.q j ≡ o.part v) = opening.part_of v l e in
-          subst (λ x. new.nest.up x ≡ x) (p.2 ∙ sym (out_in v l e)) (is.up_part (o.q p.0) (opening.parts p.0 p.1).0)
-      tops v l (inr ne) = ap new.nest.up (out_old v l ne) ∙ (is.up (f.out v) (out_not_part v l ne) ∙ (valid.outermost.tops v l ∙ sym (out_old v l ne)))
+          subst (λ x. new.nest.up x ≡ x) (p.2 ∙ sym (out_in v l e)) (is.parts_out (o.q p.0) (opening.parts p.0 p.1).0)
+      tops v l (inr ne) = ap new.nest.up (out_old v l ne) ∙ (kept_up (f.out v) (out_not_part v l ne) ∙ (valid.outermost.tops v l ∙ sym (out_old v l ne)))
 
       by_outs : (x u v : ℕ) → u < g.n → v < g.n → x ≢ b → f.holds x u ≡ true → f.holds x v ≡ true → f.out u ≡ f.out v → (f.out u ≡ b) ⊎ (f.out u ≢ b) → new.out u ≡ new.out v
       by_outs x u v lu lv ne hu hv same (inl e) = out_in u lu e ∙ (opening.parted x u v lu lv ne hu hv e (sym same ∙ e) ∙ sym (out_in v lv (sym same ∙ e)))
@@ -171,7 +188,7 @@ module _ (g : Darts) (are : AreDarts g) (f : Forest) (r : ℕ) (valid : IsValid 
       named : (x : ℕ) → new.label x ≢ Outside → Place x → IsOutermost g.n new x
       named x n (inl e) = absurd (n (ap new.label e ∙ is.gone.0))
       named x n (inr (inl p)) = subst (λ y. IsOutermost g.n new y) p.2 (by_half p.0 p.1 (cases_lt p.0 (2 * o.half)))
-      named x n (inr (inr ne)) = let w : IsOutermost g.n f x = valid.outermost.named x (λ off. n ((is.others x ne).0 ∙ off)) in (w.0, w.1, out_old w.0 w.1 (λ e. other_not_b x ne (sym w.2 ∙ e)) ∙ w.2)
+      named x n (inr (inr ne)) = let w : IsOutermost g.n f x = valid.outermost.named x (λ off. n ((is.others x ne).label ∙ off)) in (w.0, w.1, out_old w.0 w.1 (λ e. other_not_b x ne (sym w.2 ∙ e)) ∙ w.2)
 
   -- A set that is not opened, and its parts, stay.
   up_old : (c p : ℕ) → c ≢ b → f.nest.up p ≡ c → f.nest.up p ≢ b
@@ -183,8 +200,8 @@ module _ (g : Darts) (are : AreDarts g) (f : Forest) (r : ℕ) (valid : IsValid 
     some = ring.some;
     odd = many_is ∙ ring.odd;
     closed = ap (walk new.nest.after (new.nest.head c)) many_is ∙ (walks (f.nest.parts c) ∙ (ring.closed ∙ sym head_is));
-    inside = λ k. ap new.nest.up (walks k) ∙ (is.up (at k) (old k) ∙ ring.inside k);
-    lower = λ k. subst (λ x. new.nest.rank x < new.nest.rank c) (sym (walks k)) (subst (λ x. x < new.nest.rank c) (sym (is.rank (at k) (other_not_b (at k) (old k)))) (subst (λ x. f.nest.rank (at k) < x) (sym (is.rank c ne)) (ring.lower k)));
+    inside = λ k. ap new.nest.up (walks k) ∙ (kept_up (at k) (old k) ∙ ring.inside k);
+    lower = λ k. subst (λ x. new.nest.rank x < new.nest.rank c) (sym (walks k)) (subst (λ x. x < new.nest.rank c) (sym (kept_rank (at k) (other_not_b (at k) (old k)))) (subst (λ x. f.nest.rank (at k) < x) (sym (kept_rank c ne)) (ring.lower k)));
     below = λ k. subst (λ x. x < new.size) (sym (walks k)) (subst (λ s. at k < s) (sym is.size) (ring.below k));
     distinct = λ i j l h e. ring.distinct i j l (subst (λ n. j < n) many_is h) (sym (walks i) ∙ (e ∙ walks j));
     all = λ p up inner. all p up inner (cases_eq (f.nest.up p) b);
@@ -195,20 +212,20 @@ module _ (g : Darts) (are : AreDarts g) (f : Forest) (r : ℕ) (valid : IsValid 
       at k = walk f.nest.after (f.nest.head c) k
 
       many_is : new.nest.parts c ≡ f.nest.parts c
-      many_is = is.others_parts c ne
+      many_is = kept_parts c ne
 
       head_is : new.nest.head c ≡ f.nest.head c
-      head_is = is.head c ne
+      head_is = kept_head c ne
 
       old : (k : ℕ) → f.nest.up (at k) ≢ b
       old k = up_old c (walk f.nest.after (f.nest.head c) k) ne (ring.inside k)
 
       walks : (k : ℕ) → walk new.nest.after (new.nest.head c) k ≡ at k
-      walks k = ap (λ x. walk new.nest.after x k) head_is ∙ walk_same f.nest.after new.nest.after (f.nest.head c) (λ j. sym (is.after (walk f.nest.after (f.nest.head c) j) (old j))) k
+      walks k = ap (λ x. walk new.nest.after x k) head_is ∙ walk_same f.nest.after new.nest.after (f.nest.head c) (λ j. sym (kept_after (walk f.nest.after (f.nest.head c) j) (old j))) k
 
       all : (p : ℕ) → new.nest.up p ≡ c → p ≢ c → (f.nest.up p ≡ b) ⊎ (f.nest.up p ≢ b) → (k : ℕ) × (k < new.nest.parts c) × (walk new.nest.after (new.nest.head c) k ≡ p)
-      all p up inner (inl e) = absurd (inner (sym (is.up_part p e) ∙ up))
-      all p up inner (inr nb) = let w : (k : ℕ) × (k < f.nest.parts c) × (walk f.nest.after (f.nest.head c) k ≡ p) = ring.all p (sym (is.up p nb) ∙ up) inner in (w.0, subst (λ n. w.0 < n) (sym many_is) w.1, walks w.0 ∙ w.2)
+      all p up inner (inl e) = absurd (inner (sym (is.parts_out p e) ∙ up))
+      all p up inner (inr nb) = let w : (k : ℕ) × (k < f.nest.parts c) × (walk f.nest.after (f.nest.head c) k ≡ p) = ring.all p (sym (kept_up p nb) ∙ up) inner in (w.0, subst (λ n. w.0 < n) (sym many_is) w.1, walks w.0 ∙ w.2)
 
   -- The part after a part of another set is not b.
   after_not_b : (p : ℕ) → f.nest.up p ≢ b → f.nest.up p ≢ p → f.nest.after p ≢ b
@@ -259,30 +276,30 @@ module _ (g : Darts) (are : AreDarts g) (f : Forest) (r : ℕ) (valid : IsValid 
     where
       rings : (c : ℕ) → g.n ≤ c → new.nest.parts c ≢ 0 → (c ≡ b) ⊎ (c ≢ b) → IsRing g new c
       rings c high some (inl e) = absurd (some (ap new.nest.parts e ∙ is.no_parts))
-      rings c high some (inr ne) = ring_old c ne (valid.nested.rings c high (λ none. some (is.others_parts c ne ∙ none)))
+      rings c high some (inr ne) = ring_old c ne (valid.nested.rings c high (λ none. some (kept_parts c ne ∙ none)))
 
       empty : (c v : ℕ) → g.n ≤ c → v < g.n → new.nest.parts c ≡ 0 → (c ≡ b) ⊎ (c ≢ b) → new.holds c v ≡ false
       empty c v high low none (inl e) = ap (λ x. new.holds x v) e ∙ is.holds_none v low
-      empty c v high low none (inr ne) = is.holds c v ne low ∙ valid.nested.empty c v high low (sym (is.others_parts c ne) ∙ none)
+      empty c v high low none (inr ne) = is.holds c v ne low ∙ valid.nested.empty c v high low (sym (kept_parts c ne) ∙ none)
 
       live : (p : ℕ) → new.nest.up p ≢ p → (f.nest.up p ≡ b) ⊎ (f.nest.up p ≢ b) → (g.n ≤ new.nest.up p) × (new.nest.parts (new.nest.up p) ≢ 0)
-      live p inner (inl e) = absurd (inner (is.up_part p e))
+      live p inner (inl e) = absurd (inner (is.parts_out p e))
       live p inner (inr ne) =
-          let was : (g.n ≤ f.nest.up p) × (f.nest.parts (f.nest.up p) ≢ 0) = valid.nested.live p (λ e. inner (is.up p ne ∙ e)) in
-          (subst (λ x. g.n ≤ x) (sym (is.up p ne)) was.0, (λ none. was.1 (sym (is.others_parts (f.nest.up p) ne) ∙ (ap new.nest.parts (sym (is.up p ne)) ∙ none))))
+          let was : (g.n ≤ f.nest.up p) × (f.nest.parts (f.nest.up p) ≢ 0) = valid.nested.live p (λ e. inner (kept_up p ne ∙ e)) in
+          (subst (λ x. g.n ≤ x) (sym (kept_up p ne)) was.0, (λ none. was.1 (sym (kept_parts (f.nest.up p) ne) ∙ (ap new.nest.parts (sym (kept_up p ne)) ∙ none))))
 
       joints : (p : ℕ) → new.nest.up p ≢ p → (f.nest.up p ≡ b) ⊎ (f.nest.up p ≢ b) → IsJoint g new p
-      joints p inner (inl e) = absurd (inner (is.up_part p e))
+      joints p inner (inl e) = absurd (inner (is.parts_out p e))
       joints p inner (inr ne) =
-          let was : f.nest.up p ≢ p = λ e. inner (is.up p ne ∙ e) in
+          let was : f.nest.up p ≢ p = λ e. inner (kept_up p ne ∙ e) in
           let old : IsJoint g f p = valid.nested.joints p was in
-          let joint_is : new.nest.joint p ≡ f.nest.joint p = is.joint p ne in
+          let joint_is : new.nest.joint p ≡ f.nest.joint p = kept_joint p ne in
           let near_low : g.near (f.nest.joint p) < g.n = are.near_low (f.nest.joint p) old.tight.low in
           let far_low' : far g (f.nest.joint p) < g.n = far_low g are (f.nest.joint p) old.tight.low in
           record {
             tight = subst (λ d. IsTight g new d) (sym joint_is) (same_tight (f.nest.joint p) old.tight);
             begins = ap (λ d. new.holds p (g.near d)) joint_is ∙ (is.holds p (g.near (f.nest.joint p)) (other_not_b p ne) near_low ∙ old.begins);
-            ends = ap (λ d. new.holds (new.nest.after p) (far g d)) joint_is ∙ (ap (λ x. new.holds x (far g (f.nest.joint p))) (is.after p ne) ∙ (is.holds (f.nest.after p) (far g (f.nest.joint p)) (after_not_b p ne was) far_low' ∙ old.ends));
+            ends = ap (λ d. new.holds (new.nest.after p) (far g d)) joint_is ∙ (ap (λ x. new.holds x (far g (f.nest.joint p))) (kept_after p ne) ∙ (is.holds (f.nest.after p) (far g (f.nest.joint p)) (after_not_b p ne was) far_low' ∙ old.ends));
             same = same p ne was old joint_is near_low far_low' (cases_eq (f.out (g.near (f.nest.joint p))) b);
           }
         where
@@ -351,7 +368,7 @@ module _ (g : Darts) (are : AreDarts g) (f : Forest) (r : ℕ) (valid : IsValid 
   m_to = out_old (far g o.m) m_far b_pair.other
 
   m_back : new.mate (f.out (far g o.m)) ≡ Some (g.twin o.m)
-  m_back = (is.others (f.out (far g o.m)) (out_not_part (far g o.m) m_far b_pair.other)).1 ∙ b_pair.back
+  m_back = (is.others (f.out (far g o.m)) (out_not_part (far g o.m) m_far b_pair.other)).mate ∙ b_pair.back
 
   -- The ends of the darts between parts.
   e_begins : (j : ℕ) → j < 2 * o.half → new.out (g.near (o.e j)) ≡ o.q j
@@ -429,7 +446,7 @@ module _ (g : Darts) (are : AreDarts g) (f : Forest) (r : ℕ) (valid : IsValid 
             tight = same_tight d pair.tight;
             here = out_old (g.near d) (are.near_low d pair.tight.low) (λ x. other_not_b c ne (sym pair.here ∙ x)) ∙ pair.here;
             other = λ x. pair.other (sym (out_old (far g d) fl nb) ∙ x);
-            back = ap new.mate (out_old (far g d) fl nb) ∙ ((is.others (f.out (far g d)) (out_not_part (far g d) fl nb)).1 ∙ pair.back);
+            back = ap new.mate (out_old (far g d) fl nb) ∙ ((is.others (f.out (far g d)) (out_not_part (far g d) fl nb)).mate ∙ pair.back);
           }
 
       by_old : f.nest.up c ≢ b → f.mate c ≡ Some d → (f.out (far g d) ≡ b) ⊎ (f.out (far g d) ≢ b) → IsMate g new c d
@@ -439,7 +456,7 @@ module _ (g : Darts) (are : AreDarts g) (f : Forest) (r : ℕ) (valid : IsValid 
       by_place : Place c → IsMate g new c d
       by_place (inl e) = absurd (some_none (new.mate c) d mate (ap new.mate e ∙ is.gone.1))
       by_place (inr (inl p)) = subst (λ x. IsMate g new x d) p.2 (mate_at p.0 p.1 d (ap new.mate p.2 ∙ mate))
-      by_place (inr (inr ne)) = by_old ne (sym (is.others c ne).1 ∙ mate) (cases_eq (f.out (far g d)) b)
+      by_place (inr (inr ne)) = by_old ne (sym (is.others c ne).mate ∙ mate) (cases_eq (f.out (far g d)) b)
 
   -- The links of the parts that become inner.
   abbrev Hangs : ℕ → Type 0
@@ -467,7 +484,7 @@ module _ (g : Darts) (are : AreDarts g) (f : Forest) (r : ℕ) (valid : IsValid 
           subst (λ d. IsTight g new d × (new.out (g.near d) ≡ o.q (2 * i)) × (new.label (new.out (far g d)) ≡ Outer) × (depths (new.out (far g d)) < room * tree.depth b - i)) (sym link_is) (
             same_tight (f.link b) b_inner.tight,
             out_in (g.near (f.link b)) (are.near_low (f.link b) b_inner.tight.low) b_inner.here ∙ (opening.last ∙ ap (λ x. o.q (2 * x)) (sym at)),
-            ap new.label to ∙ ((is.others (f.out (far g (f.link b))) (out_not_part (far g (f.link b)) fl nb)).0 ∙ b_inner.above),
+            ap new.label to ∙ ((is.others (f.out (far g (f.link b))) (out_not_part (far g (f.link b)) fl nb)).label ∙ b_inner.above),
             subst (λ x. depths x < room * tree.depth b - i) (sym to) (let e : depths (f.out (far g (f.link b))) ≡ room * tree.depth (f.out (far g (f.link b))) = depth_old (f.out (far g (f.link b))) (out_not_part (far g (f.link b)) fl nb) in omega (arith, enough i l)),
           )
         where
@@ -500,7 +517,7 @@ module _ (g : Darts) (are : AreDarts g) (f : Forest) (r : ℕ) (valid : IsValid 
 
       by_first : (i ≡ 0) ⊎ (i ≢ 0) → IsInner g new depths (o.q (2 * i))
       by_first (inl z) = with_mate o.m (ap (λ x. new.mate (o.q x)) (let e : 2 * i ≡ 0 = omega arith in e) ∙ is.first_mate)
-          (ap new.label m_to ∙ ((is.others (f.out (far g o.m)) (out_not_part (far g o.m) m_far b_pair.other)).0 ∙ m_outer))
+          (ap new.label m_to ∙ ((is.others (f.out (far g o.m)) (out_not_part (far g o.m) m_far b_pair.other)).label ∙ m_outer))
           (ap depths m_to ∙ (depth_old (f.out (far g o.m)) (out_not_part (far g o.m) m_far b_pair.other) ∙ (ap (λ x. room * x) m_depth ∙ (let e : room * tree.depth b ≡ room * tree.depth b - i = omega arith in e))))
       by_first (inr nz) = by_pair (i - 1) (omega arith)
         where
@@ -515,11 +532,11 @@ module _ (g : Darts) (are : AreDarts g) (f : Forest) (r : ℕ) (valid : IsValid 
   inner_old c ne l old = record {
     tight = subst (λ d. IsTight g new d) (sym link_is) (same_tight (f.link c) old.tight);
     here = ap (λ d. new.out (g.near d)) link_is ∙ (out_old (g.near (f.link c)) (are.near_low (f.link c) old.tight.low) (λ x. other_not_b c ne (sym old.here ∙ x)) ∙ old.here);
-    above = ap (λ d. new.label (new.out (far g d))) link_is ∙ (ap new.label up_to ∙ ((is.others (f.out (far g (f.link c))) (out_not_part (far g (f.link c)) ul un)).0 ∙ old.above));
+    above = ap (λ d. new.label (new.out (far g d))) link_is ∙ (ap new.label up_to ∙ ((is.others (f.out (far g (f.link c))) (out_not_part (far g (f.link c)) ul un)).label ∙ old.above));
     nearer = subst (λ d. depths (new.out (far g d)) < depths c) (sym link_is) (subst (λ x. depths x < depths c) (sym up_to) nearer);
     dart = old.dart;
-    mate = (is.others c ne).1 ∙ old.mate;
-    child = ap new.label down_to ∙ ((is.others (f.out (far g old.dart)) (out_not_part (far g old.dart) dl dn)).0 ∙ old.child);
+    mate = (is.others c ne).mate ∙ old.mate;
+    child = ap new.label down_to ∙ ((is.others (f.out (far g old.dart)) (out_not_part (far g old.dart) dl dn)).label ∙ old.child);
     same = ap depths down_to ∙ (depth_old (f.out (far g old.dart)) (out_not_part (far g old.dart) dl dn) ∙ (ap (λ x. room * x) old.same ∙ sym (depth_old c ne)));
   }
     where
@@ -527,7 +544,7 @@ module _ (g : Darts) (are : AreDarts g) (f : Forest) (r : ℕ) (valid : IsValid 
       outer_not x lx e = let h : Outer ≡ Inner = sym lx ∙ (ap f.label e ∙ opening.label) in cc
 
       link_is : new.link c ≡ f.link c
-      link_is = (is.others c ne).2
+      link_is = (is.others c ne).link
 
       ul : far g (f.link c) < g.n
       ul = far_low g are (f.link c) old.tight.low
@@ -561,8 +578,8 @@ module _ (g : Darts) (are : AreDarts g) (f : Forest) (r : ℕ) (valid : IsValid 
   new_tree : IsTree g new r
   new_tree = record {
     depth = depths;
-    root_outer = (is.others r r_old).0 ∙ tree.root_outer;
-    root_free = (is.others r r_old).1 ∙ tree.root_free;
+    root_outer = (is.others r r_old).label ∙ tree.root_outer;
+    root_free = (is.others r r_old).mate ∙ tree.root_free;
     inner = λ c l. inner c l (place c);
     outer = λ c l. outer c l (place c);
   }
@@ -581,11 +598,11 @@ module _ (g : Darts) (are : AreDarts g) (f : Forest) (r : ℕ) (valid : IsValid 
           at_part (inl w) = subst (λ j. IsInner g new depths (o.q j)) (sym w.2) (inner_part w.0 w.1)
           at_part (inr (inl w)) = let h : Outer ≡ Inner = sym (is.outer w.0 w.1) ∙ (ap (λ j. new.label (o.q j)) (sym w.2) ∙ (ap new.label p.2 ∙ l)) in absurd (cc h)
           at_part (inr (inr far)) = let h : Outside ≡ Inner = sym (is.off p.0 far p.1) ∙ (ap new.label p.2 ∙ l) in absurd (cc h)
-      inner c l (inr (inr ne)) = inner_old c ne (sym (is.others c ne).0 ∙ l) (tree.inner c (sym (is.others c ne).0 ∙ l))
+      inner c l (inr (inr ne)) = inner_old c ne (sym (is.others c ne).label ∙ l) (tree.inner c (sym (is.others c ne).label ∙ l))
 
       old_is : (c : ℕ) → f.nest.up c ≢ b → IsOuter g f r c → IsOuter g new r c
       old_is c ne (inl e) = inl e
-      old_is c ne (inr w) = inr (w.0, (is.others c ne).1 ∙ w.1, label (cases_eq (f.out (far g w.0)) b))
+      old_is c ne (inr w) = inr (w.0, (is.others c ne).mate ∙ w.1, label (cases_eq (f.out (far g w.0)) b))
         where
           label : (f.out (far g w.0) ≡ b) ⊎ (f.out (far g w.0) ≢ b) → new.label (new.out (far g w.0)) ≡ Inner
           label (inl e) =
@@ -593,7 +610,7 @@ module _ (g : Darts) (are : AreDarts g) (f : Forest) (r : ℕ) (valid : IsValid 
               ap new.label (ap (λ x. new.out (g.near x)) twin ∙ m_at) ∙ is.inner 0 (omega arith)
           label (inr nb) =
               let fl : far g w.0 < g.n = far_low g are w.0 (valid.matched c w.0 w.1).tight.low in
-              ap new.label (out_old (far g w.0) fl nb) ∙ ((is.others (f.out (far g w.0)) (out_not_part (far g w.0) fl nb)).0 ∙ w.2)
+              ap new.label (out_old (far g w.0) fl nb) ∙ ((is.others (f.out (far g w.0)) (out_not_part (far g w.0) fl nb)).label ∙ w.2)
 
       outer : (c : ℕ) → new.label c ≡ Outer → Place c → IsOuter g new r c
       outer c l (inl e) = let h : Outside ≡ Outer = sym is.gone.0 ∙ (ap new.label (sym e) ∙ l) in absurd (cc h)
@@ -603,7 +620,7 @@ module _ (g : Darts) (are : AreDarts g) (f : Forest) (r : ℕ) (valid : IsValid 
           at_part (inl w) = let h : Inner ≡ Outer = sym (is.inner w.0 w.1) ∙ (ap (λ j. new.label (o.q j)) (sym w.2) ∙ (ap new.label p.2 ∙ l)) in absurd (cc h)
           at_part (inr (inl w)) = inr (o.e (2 * w.0 + 1), ap (λ j. new.mate (o.q j)) w.2 ∙ is.odd_mate w.0 (omega (arith, w.1, opening.short)), ap new.label (e_ends (2 * w.0 + 1) (omega (arith, w.1, opening.short)) ∙ ap o.q (let e : 2 * w.0 + 1 + 1 ≡ 2 * (w.0 + 1) = omega arith in e)) ∙ is.inner (w.0 + 1) (omega (arith, w.1)))
           at_part (inr (inr far)) = let h : Outside ≡ Outer = sym (is.off p.0 far p.1) ∙ (ap new.label p.2 ∙ l) in absurd (cc h)
-      outer c l (inr (inr ne)) = old_is c ne (tree.outer c (sym (is.others c ne).0 ∙ l))
+      outer c l (inr (inr ne)) = old_is c ne (tree.outer c (sym (is.others c ne).label ∙ l))
 
   new_outside : KeepsOutside g new
   new_outside c d l mate = by_place (place c)
@@ -613,7 +630,7 @@ module _ (g : Darts) (are : AreDarts g) (f : Forest) (r : ℕ) (valid : IsValid 
           let fl : far g d < g.n = far_low g are d (valid.matched c d was).tight.low in
           let gone : f.label (f.out (far g d)) ≡ Outside = valid.outside c d out was in
           let nb : f.out (far g d) ≢ b = λ e. b_named (ap f.label (sym e) ∙ gone) in
-          ap new.label (out_old (far g d) fl nb) ∙ ((is.others (f.out (far g d)) (out_not_part (far g d) fl nb)).0 ∙ gone)
+          ap new.label (out_old (far g d) fl nb) ∙ ((is.others (f.out (far g d)) (out_not_part (far g d) fl nb)).label ∙ gone)
 
       at_part : (j : ℕ) → j ≤ 2 * o.half → 2 * o.turns < j → new.mate (o.q j) ≡ Some d → new.label (new.out (far g d)) ≡ Outside
       at_part j lj past is_d = elim (halves j) [ inl w ↦ by_even (w.0 - 1) (omega (arith, w.1)) | inr w ↦ by_odd w.0 w.1 ]
@@ -639,7 +656,7 @@ module _ (g : Darts) (are : AreDarts g) (f : Forest) (r : ℕ) (valid : IsValid 
       by_place : Place c → new.label (new.out (far g d)) ≡ Outside
       by_place (inl e) = absurd (some_none (new.mate c) d mate (ap new.mate e ∙ is.gone.1))
       by_place (inr (inl p)) = at_part p.0 p.1 (out_part p.0 p.1 (ap new.label p.2 ∙ l)) (ap new.mate p.2 ∙ mate)
-      by_place (inr (inr ne)) = by_old ne (sym (is.others c ne).0 ∙ l) (sym (is.others c ne).1 ∙ mate)
+      by_place (inr (inr ne)) = by_old ne (sym (is.others c ne).label ∙ l) (sym (is.others c ne).mate ∙ mate)
 
   -- An inner set of weight 0 may be opened.
   pub opened_valid : IsValid g new (Some r)

@@ -1,10 +1,8 @@
 -- What follows at once from a forest's validity.
-use Rattle.std.proofs.Common.{◌≡◌, ◌≢◌, ℕ, ◌<◌, true, Option, Some, None, ℤ, pos, ◌+ℤ◌, ◌-ℤ◌, ◌≤ℤ◌, ◌⊎◌, refl, sym, ◌∙◌, ap, subst, inl, inr, arith}
-use Rattle.std.proofs.lemmas.Int.{ints}
+use Rattle.std.proofs.Common.{◌≡◌, ◌≢◌, ℕ, ◌<◌, Option, Some, None, ◌+ℤ◌, refl, sym, ◌∙◌, ap, inl, inr}
 use Rattle.def_forest.specs.Darts.{Darts, AreDarts, far}
 use Rattle.def_forest.specs.Forests.{Forest, load, IsTight}
-use Rattle.def_forest.specs.Valid.{IsValid, IsMate, IsTree, IsInner, IsOuter}
-use Rattle.def_forest.specs.declared.kinds.Label.{Label}
+use Rattle.def_forest.specs.Valid.{IsValid, IsTree, IsInner, IsOuter}
 use Rattle.def_forest.specs.declared.kinds.Label.TheVariants.{Outer, Inner, Outside}
 use Rattle.forest_laws.proofs.Writes.{some_is}
 use Rattle.forest_laws.proofs.Loads.{load_order}

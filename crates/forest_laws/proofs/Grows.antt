@@ -1,13 +1,14 @@
 -- A tree that begins, and a tree that grows, keep a forest valid.
-use Rattle.std.proofs.Common.{◌≡◌, ◌≢◌, ℕ, suc, ◌<◌, true, eqb, Option, Some, None, ℤ, pos, ◌⊎◌, refl, sym, ◌∙◌, ap, subst, inl, inr, arith}
+use Rattle.std.proofs.Common.{◌≡◌, ◌≢◌, ℕ, suc, ◌<◌, Option, Some, None, ◌⊎◌, refl, sym, ◌∙◌, ap, subst, inl, inr, arith}
 use Rattle.std.proofs.lemmas.Bool.{cases_eq}
 use Rattle.def_forest.specs.Darts.{Darts, AreDarts, far}
-use Rattle.def_forest.specs.Forests.{Forest, Nest, load, IsTight, IsOutermost, set_at}
-use Rattle.def_forest.specs.Steps.{rooted, grown, Reaches}
+use Rattle.def_forest.specs.Forests.{Forest, IsTight, IsOutermost, set_at}
+use Rattle.def_forest.specs.Steps.{rooted, grown}
+use Rattle.forest_laws.specs.Ways.{Reaches}
 use Rattle.def_forest.specs.Valid.{AreOutermost, IsNested, IsRing, IsJoint, IsFeasible, IsMatched, IsMate, IsTree, IsInner, IsOuter, IsValid, KeepsOutside}
 use Rattle.def_forest.specs.declared.kinds.Label.{Label}
 use Rattle.def_forest.specs.declared.kinds.Label.TheVariants.{Outer, Inner, Outside}
-use Rattle.forest_laws.proofs.Writes.{some_is, set_here, set_there, outer_not_inner}
+use Rattle.forest_laws.proofs.Writes.{some_is, set_here, set_there}
 use Rattle.forest_laws.proofs.Facts.{far_low, far_twin, tight_twin}
 
 -- Only labels, mates and links differ.

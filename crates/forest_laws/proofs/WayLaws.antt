@@ -1,15 +1,14 @@
 -- Changing the matching along the way to the root: how it begins, goes on and ends, and why it ends.
-use Rattle.std.proofs.Common.{◌≡◌, ◌≢◌, ℕ, zero, suc, ◌+◌, ◌<◌, ◌≤◌, true, cond, Option, Some, None, ◌⊎◌, refl, sym, ◌∙◌, ap, subst, inl, inr, arith}
+use Rattle.std.proofs.Common.{◌≡◌, ◌≢◌, ℕ, ◌<◌, ◌≤◌, Option, Some, None, ◌⊎◌, refl, sym, ◌∙◌, ap, subst, inl, inr, arith}
 use Rattle.std.proofs.lemmas.Bool.{cases_eq}
 use Rattle.def_forest.specs.Darts.{Darts, AreDarts, far}
-use Rattle.def_forest.specs.Forests.{Forest, IsTight, set_at}
-use Rattle.def_forest.specs.Steps.{with_mates, Reaches, IsAugmented}
-use Rattle.def_forest.specs.Valid.{IsMatched, IsMate, IsTree, IsInner, IsOuter, IsValid}
-use Rattle.def_forest.specs.declared.kinds.Label.{Label}
+use Rattle.def_forest.specs.Forests.{Forest, set_at}
+use Rattle.def_forest.specs.Steps.{with_mates, IsAugmented}
+use Rattle.def_forest.specs.Valid.{IsMate, IsTree, IsInner, IsOuter, IsValid}
 use Rattle.def_forest.specs.declared.kinds.Label.TheVariants.{Outer, Inner, Outside}
-use Rattle.forest_laws.specs.Ways.{IsHalf, IsAlmost, dart_or}
+use Rattle.forest_laws.specs.Ways.{Reaches, IsHalf, IsAlmost}
 use Rattle.forest_laws.proofs.Writes.{some_is, set_here, set_there}
-use Rattle.forest_laws.proofs.Facts.{far_low, far_twin, tight_twin, outer_mate}
+use Rattle.forest_laws.proofs.Facts.{far_twin, tight_twin, outer_mate}
 use Rattle.forest_laws.proofs.Grows.{same_outermost, same_nested, same_feasible}
 
 -- An option with something in it is not empty.

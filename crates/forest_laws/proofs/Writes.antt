@@ -1,5 +1,5 @@
 -- A function with another value at one place; cases on labels; tests as terms of sums.
-use Rattle.std.proofs.Common.{◌≡◌, ◌≢◌, ℕ, Bool, true, false, not, cond, eqb, Option, Some, ℤ, pos, ◌+ℤ◌, ◌⊎◌, refl, sym, ◌∙◌, inl, inr, arith}
+use Rattle.std.proofs.Common.{◌≡◌, ◌≢◌, ℕ, Bool, true, false, not, cond, eqb, Some, ℤ, pos, ◌+ℤ◌, ◌⊎◌, refl, inl, inr, arith}
 use Rattle.std.proofs.lemmas.Int.{ints}
 use Rattle.std.proofs.lemmas.Bool.{cond-true, cond-false, eq-eqb, ne_eqb}
 use Rattle.def_forest.specs.Forests.{set_at}

@@ -2,8 +2,13 @@
 use Rattle.std.specs.Prelude.{◌≡◌, ◌≢◌, ℕ, zero, suc, ◌<◌, ◌≤◌, Option, Some, None, ◌⊎◌}
 use Rattle.def_forest.specs.Darts.{Dart, Darts, far}
 use Rattle.def_forest.specs.Forests.{Blossom, Forest, IsTight}
-use Rattle.def_forest.specs.declared.kinds.Label.{Label}
-use Rattle.def_forest.specs.declared.kinds.Label.TheVariants.{Outer, Inner, Outside}
+use Rattle.def_forest.specs.declared.kinds.Label.TheVariants.{Outer, Outside}
+
+-- A dart goes from an outer blossom to one outside the tree.
+pub record Reaches (g : Darts) (f : Forest) (d : Dart) : Type 0 where
+  pub tight : IsTight g f d
+  pub outer : f.label (f.out (g.near d)) ≡ Outer
+  pub off : f.label (f.out (far g d)) ≡ Outside
 
 -- The dart in an option, or dart 0.
 abbrev pub dart_or : (mate : Option Dart) → Dart
@@ -27,14 +32,16 @@ steps g f zero a = 0
 steps g f (suc k) a = steps_by (f.mate a) (steps g f k (parent_of g f a))
 
 -- A matched dart in the midst of the change: what it leads to is matched back, or is blossom a, which waits.
-pub record IsHalf (g : Darts) (f : Forest) (mate : Blossom → Option Dart) (a : Blossom) (e : Dart) (b : Blossom) (d : Dart) : Type 0 where
+pub record IsHalf (g : Darts) (f : Forest) (mate : Blossom
+    → Option Dart) (a : Blossom) (e : Dart) (b : Blossom) (d : Dart) : Type 0 where
   pub tight : IsTight g f d
   pub here : f.out (g.near d) ≡ b
   pub other : f.out (far g d) ≢ b
   pub back : (mate (f.out (far g d)) ≡ Some (g.twin d)) ⊎ ((f.out (far g d) ≡ a) × ((d ≡ g.twin e) ⊎ (f.mate a ≡ Some (g.twin d))))
 
 -- The matching is changed from dart start on, up to outer blossom a, which is to be matched by dart e.
-pub record IsAlmost (g : Darts) (f : Forest) (depth : Blossom → ℕ) (start : Dart) (mate : Blossom → Option Dart) (a : Blossom) (e : Dart) : Type 0 where
+pub record IsAlmost (g : Darts) (f : Forest) (depth : Blossom → ℕ) (start : Dart) (mate : Blossom
+    → Option Dart) (a : Blossom) (e : Dart) : Type 0 where
   pub outer : f.label a ≡ Outer
   pub tight : IsTight g f e
   pub here : f.out (g.near e) ≡ a

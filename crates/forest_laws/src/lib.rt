@@ -1,2 +1,6 @@
 //! Laws of forests of blossoms: what the steps keep, and why a search ends. Each law is a function without a body.
 #![tactic(auto)]
+
+mod steps;
+
+pub use steps::{end_law, expand_law, grow_law, root_law, shift_law, shrink_law};

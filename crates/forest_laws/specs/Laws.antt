@@ -1,0 +1,52 @@
+-- The laws of forests.
+use Rattle.std.specs.Prelude.{◌≡◌, ℕ, Bool, if◌then◌else◌, ℤ, Option, Some, None}
+use Rattle.def_forest.specs.Darts.{Dart, Darts, AreDarts, far}
+use Rattle.def_forest.specs.Forests.{Blossom, Forest, IsOutermost, set_at}
+use Rattle.def_forest.specs.Steps.{shifted, rooted, grown, with_mates, IsAugmented}
+use Rattle.def_forest.specs.Valid.{IsFeasible, IsTree, IsValid}
+use Rattle.forest_laws.specs.Opened.{Opening, IsOpening, IsOpened}
+use Rattle.forest_laws.specs.Shrunk.{IsUnused, IsCycle, IsClosedRow, IsShrunk}
+use Rattle.forest_laws.specs.Ways.{Reaches, IsAlmost}
+
+-- A shift whose end is feasible keeps a forest valid.
+abbrev pub ShiftLaw : Type 0
+ShiftLaw =
+    (g : Darts) (f : Forest) (root : Option Blossom) (t : ℤ) → AreDarts g → IsValid g f root
+    → IsFeasible g (shifted f t)
+    → IsValid g (shifted f t) root
+
+-- Where no tree stands, a blossom that is not matched may become the root.
+abbrev pub RootLaw : Type 0
+RootLaw =
+    (g : Darts) (f : Forest) (b : Blossom) → AreDarts g → IsValid g f None → IsOutermost g.n f b → f.mate b ≡ None
+    → IsValid g (rooted f b) (Some b)
+
+-- A tree may grow along a tight dart to a matched blossom outside.
+abbrev pub GrowLaw : Type 0
+GrowLaw =
+    (g : Darts) (f : Forest) (root : Blossom) (d m : Dart) → AreDarts g → IsValid g f (Some root) → Reaches g f d
+    → f.mate (f.out (far g d)) ≡ Some m → IsValid g (grown g f d m) (Some root)
+
+-- A matching that was changed up to the root is whole: the forest is valid, and no tree stands.
+abbrev pub EndLaw : Type 0
+EndLaw =
+    (g : Darts) (f : Forest) (root : Blossom) (start : Dart) (mate : Blossom → Option Dart) (a : Blossom) (e : Dart)
+    → AreDarts g → IsValid g f (Some root) → (tree : IsTree g f root) → IsAlmost g f tree.depth start mate a e
+    → f.mate a ≡ None
+    → IsValid g (with_mates f (set_at mate a (Some e))) None × IsAugmented g f (with_mates f (set_at mate a (Some e))) root start
+
+-- A cycle of tight darts in the tree may become one outer blossom.
+abbrev pub ShrinkLaw : Type 0
+ShrinkLaw =
+    (g : Darts) (f : Forest) (root : Blossom) (new : Forest) (inside : Blossom
+    → Bool) (top b front : Blossom) (many : ℕ)
+    → AreDarts g → IsValid g f (Some root) → (tree : IsTree g f root) → IsCycle g f root tree.depth inside top
+    → IsUnused g.n f b
+    → IsClosedRow g f new.nest.after new.nest.joint inside front many → IsShrunk g.n f new inside top b front many
+    → IsValid g new (Some (if inside root then b else root))
+
+-- An inner set of weight 0 may be opened.
+abbrev pub ExpandLaw : Type 0
+ExpandLaw =
+    (g : Darts) (f : Forest) (root : Blossom) (new : Forest) (o : Opening) → AreDarts g → IsValid g f (Some root)
+    → IsOpening g f o → IsOpened g f new o → IsValid g new (Some root)
