@@ -228,7 +228,49 @@ def flaps():
     picture.write("three_flaps.svg")
 
 
+def bands_of_crates():
+    """The sections of crates.txt, lowest first, each with its crates; and which of them each one uses."""
+    bands, uses = [], {}
+    for line in (HERE.parent.parent / "crates.txt").read_text().splitlines():
+        if line.startswith("# ") and "docs/" not in line:
+            bands.append((line[2:], []))
+        elif ":" in line.partition("#")[0]:
+            name, _, deps = line.partition("#")[0].partition(":")
+            bands[-1][1].append(name.strip())
+            uses[name.strip()] = deps.split()
+    return bands, {name: [it for it in deps if it in uses] for name, deps in uses.items()}
+
+
+def depth(name, uses):
+    return 1 + max((depth(it, uses) for it in uses[name]), default=-1)
+
+
+def crates():
+    bands, uses = bands_of_crates()
+    wide, rows = 7, []
+    for title, names in bands:
+        names = sorted(names, key=lambda it: depth(it, uses))
+        parts = [names[at : at + wide] for at in range(0, len(names), wide)]
+        rows += [(title if at == 0 else "", part) for at, part in enumerate(parts)]
+    picture = Picture("The crates", 16.2, 0.95 * len(rows) + 0.7, 52)
+    for at, (title, names) in enumerate(rows):
+        y = 0.6 + 0.95 * at
+        if title:
+            picture.line([(0.1, y - 0.12), (16.1, y - 0.12)], FAINT, 0.8)
+            picture.text((0.15, y + 0.25), title, 12, INK, "start")
+        for i, name in enumerate(names):
+            x = 5.0 + 1.58 * i
+            fill = "#eee" if name.endswith("_laws") else SIDES[1] if name.startswith("def_") else SIDES[0]
+            picture.area([(x, y), (x + 1.45, y), (x + 1.45, y + 0.62), (x, y + 0.62)], fill, INK, 1)
+            picture.text((x + 0.725, y + 0.22), name, 10.5)
+    words = "A crate uses crates of its own band and of those below."
+    colours = "Green: what to believe. Blue: what does it. Grey: laws without code."
+    picture.text((8.1, 0.12), f"{words} {colours}", 12)
+    picture.write("crates.svg")
+
+
 if __name__ == "__main__":
+    crates()
     darts()
     fans()
     unit()
