@@ -247,6 +247,9 @@ def depth(name, uses):
 
 def crates():
     bands, uses = bands_of_crates()
+    band_of = {name: at for at, (_, names) in enumerate(bands) for name in names}
+    for name, used in ((name, it) for name, deps in uses.items() for it in deps):
+        assert band_of[used] <= band_of[name], f"crates.txt has {used} in a band above {name}"
     wide, rows = 7, []
     for title, names in bands:
         names = sorted(names, key=lambda it: depth(it, uses))
