@@ -171,13 +171,15 @@ class Progress:
         self.crates = crates_below("qm_prog")
         self.done = []
         self.counted = ""
+        self.waits = False
 
     def tell(self, what):
         self.told = time.monotonic()
         say(f"{self.told - self.started:.0f} s: {what}")
 
     def read(self, line):
-        if "waiting for" in line:
+        self.waits = "waiting for" in line
+        if self.waits:
             self.tell(line)
         elif line.startswith("so far: ") and "checked" in line:
             self.counted = line.removeprefix("so far: ").partition(" checked")[0]
@@ -193,7 +195,8 @@ class Progress:
 
     def beat(self):
         if time.monotonic() - self.told > QUIET_SECONDS:
-            self.tell(f"at work on the next crate{f', {self.counted}' if self.counted else ''}")
+            at = f"at work on the next crate{f', {self.counted}' if self.counted else ''}"
+            self.tell("still waiting" if self.waits else at)
 
 
 def jobs():

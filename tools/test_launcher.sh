@@ -25,6 +25,7 @@ if [ -e "$room/edit" ]; then
     rm "$room/edit"
 fi
 echo "so far: 5 of 9 functions checked" >&2
+[ ! -e "$room/waits" ] || echo "rt: waiting for another rt to finish in $PWD" >&2
 [ ! -e "$room/slow" ] || sleep "$(cat "$room/slow")"
 echo "checked 17 modules" >&2
 echo "fn low::b: proved" >&2
@@ -157,6 +158,15 @@ holds "the second says that it waits" grep -q "waiting for it" "$room/err2"
 holds "it says so again" grep -q "still waiting" "$room/err2"
 holds "a long build is not silent" grep -qE "[5-7] s: at work on the next crate, 5 of 9 functions" "$room/err1"
 holds "each crate is told" grep -qE "[7-9] s: low is checked, 1 of 2 crates" "$room/err1"
+
+at=$room/gate
+checkout "$at"
+echo 7 >"$room/slow"
+touch "$room/waits"
+"$at/quadq" >/dev/null 2>"$room/err1"
+rm "$room/waits"
+holds "waiting for the gate is told" grep -q "waiting for another rt to finish" "$room/err1"
+holds "and told again" grep -q "still waiting" "$room/err1"
 
 at=$room/six
 checkout "$at"
