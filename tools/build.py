@@ -327,11 +327,14 @@ def main(words):
         return 0
     signals = (signal.SIGINT, signal.SIGTERM, signal.SIGHUP)
     before = [signal.signal(it, stopped) for it in signals]
+    is_locked = False
     try:
         lock()
+        is_locked = True
         is_built = build()
     except Stopped as why:
-        clear()
+        if is_locked:
+            clear()
         for it in signals:
             signal.signal(it, signal.SIG_IGN)
         signal.signal(why.args[0], signal.SIG_DFL)

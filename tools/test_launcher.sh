@@ -181,6 +181,16 @@ rm "$room/broken"
 PATH=/usr/bin:/bin "$at/quadq" >/dev/null 2>"$room/err1"
 wants "no kit" "70 1" "$? $(grep -c 'rt is not on the PATH' "$room/err1")"
 
+at=$room/waiting
+checkout "$at"
+echo 3 >"$room/slow"
+"$at/quadq" >"$room/out1" 2>/dev/null &
+sleep 1
+timeout -s TERM 1 "$at/quadq" >/dev/null 2>&1
+holds "interrupted while it waits, it leaves the other's log" test -s "$at/build/log"
+wait
+wants "and the other builds" "first: " "$(cat "$room/out1")"
+
 for signal in TERM INT HUP; do
     at=$room/seven_$signal
     checkout "$at"
