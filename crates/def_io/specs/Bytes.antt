@@ -1,6 +1,7 @@
--- Bytes, and what a stream tells of them.
+-- Bytes, lines, and what a stream tells.
 use Rattle.std.specs.Prelude.{ℕ, List, Option}
 
+-- Bytes in order, as numbers below 256.
 abbrev pub Bytes : Type 0
 Bytes = List ℕ
 

@@ -26,3 +26,14 @@ pub record GaveMore (limit : ℕ) (before now : Told) : Type 0 where
   pub piece : Bytes
   pub many : limit < length piece
   pub moved : before ≡ gave piece now
+
+-- A stream before and after a call: what it tells of its bytes, and its count of faults.
+pub record Change : Type 0 where
+  pub told : Told
+  pub told_now : Told
+  pub faults : ℕ
+  pub faults_now : ℕ
+
+-- The change between these.
+abbrev pub change : (told told_now : Told) (faults faults_now : ℕ) → Change
+change told told_now faults faults_now = record { told = told; told_now = told_now; faults = faults; faults_now = faults_now }

@@ -1,6 +1,10 @@
 //! The outside: the physical lines of a text, the bytes that streams give and take, and the counts of their faults.
 #![tactic(auto)]
 
+mod fails;
+
+pub use fails::{ReadFail, WriteFail};
+
 /// LF, the end of a physical line.
 pub const LINE_FEED: u8 = b'\n';
 

@@ -1,96 +1,70 @@
 -- What each answer means for the bytes that a run read and wrote.
-use Rattle.std.specs.Prelude.{◌≡◌, ◌≤◌, ◌⊎◌, ℕ, ◌^◌, List, length, Option, Some, Ok, Err, ⊤}
+use Rattle.std.specs.Prelude.{◌≡◌, ◌≤◌, ℕ, length, Some, ⊤}
+use Rattle.def_io.specs.Bytes.{Bytes, Told}
 use Rattle.def_io.specs.Faults.{Rose}
-use Rattle.def_io.specs.Lines.{lines_of}
-use Rattle.def_io.specs.Moves.{gave, took, GaveMore, IsEmptied, TookFront}
-use Rattle.def_text.specs.Canonical.{canonical_text}
-use Rattle.def_text.specs.FaceSet.{FaceSet}
-use Rattle.def_text.specs.Text.{text_soup}
-use Rattle.def_text.specs.declared.refusal.ObjFail.{ObjFail}
-use Rattle.def_text.specs.declared.refusal.ObjFail.TheVariants as fail
-use Rattle.def_text.specs.declared.refusal.Which.TheVariants.{Bytes, Line, Vertices, Faces}
-use Rattle.def_mesh.specs.Manifold.{IsManifold}
-use Rattle.def_mesh.specs.Faults.{IsFirstFault}
-use Rattle.def_run.specs.ErrorLines.{error_line}
+use Rattle.def_io.specs.Moves.{Change, took, GaveMore, TookFront}
+use Rattle.def_text.specs.Input.{ReadWhole}
+use Rattle.def_text.specs.Types.{Words}
+use Rattle.def_text.specs.declared.limits.TheConstants.{MAX_BYTES}
+use Rattle.def_text.specs.declared.refusal.Which.TheVariants.{Bytes as AllBytes}
+use Rattle.def_run.specs.CommandLines.{IsCommand}
+use Rattle.def_run.specs.Tidy.{RefusesToTidy, WritesTidied}
 use Rattle.def_run.specs.declared.answer.Answer.{Answer}
-use Rattle.def_run.specs.declared.answer.Answer.TheVariants.{Done, Usage, Syntax, NotQuad, Range, Limit, NotManifold, ReadFault, WriteFault, Memory}
-use Rattle.def_mesh.specs.declared.Place.{Place}
+use Rattle.def_run.specs.declared.answer.Answer.TheVariants.{Done, Usage, Limit, ReadFault, WriteFault, Memory}
+use Rattle.def_run.specs.declared.command.Command.{Command}
+use Rattle.def_run.specs.declared.command.Command.TheVariants.{Tidy}
 
--- The source gave these bytes and then ended.
-pub record ReadWhole (before after : Option (List ℕ)) (bytes : List ℕ) : Type 0 where
-  pub given : before ≡ gave bytes after
-  pub ended : IsEmptied after
-  pub few : length bytes ≤ 2 ^ 29
+-- The text that a command writes for the bytes that it read.
+abbrev pub Writes : (command : Command) (bytes text : Bytes) → Type 0
+Writes Tidy bytes text = WritesTidied bytes text
 
--- The source gave a text with this soup.
-pub record ReadSoup (before after : Option (List ℕ)) (soup : FaceSet) : Type 0 where
-  pub bytes : List ℕ
-  pub whole : ReadWhole before after bytes
-  pub said : text_soup 1 (lines_of bytes) ≡ Ok soup
+-- The answer with which a command refuses the bytes that it read.
+abbrev pub Refuses : (command : Command) (bytes : Bytes) (answer : Answer) → Type 0
+Refuses Tidy bytes answer = RefusesToTidy bytes answer
 
--- The source gave a text whose first refusal is this.
-pub record ReadRefused (before after : Option (List ℕ)) (fail : ObjFail) : Type 0 where
-  pub bytes : List ℕ
-  pub whole : ReadWhole before after bytes
-  pub said : text_soup 1 (lines_of bytes) ≡ Err fail
+-- The source gave bytes and ended, and the sink took the command's text for them.
+pub record Wrote (command : Command) (input out : Change) : Type 0 where
+  pub bytes : Bytes
+  pub whole : ReadWhole MAX_BYTES input.told input.told_now bytes
+  pub text : Bytes
+  pub said : Writes command bytes text
+  pub written : out.told_now ≡ took out.told text
 
--- The source gave a soup whose faces are no manifold, first at this place.
-pub record ReadNoManifold (before after : Option (List ℕ)) (place : Place) : Type 0 where
-  pub soup : FaceSet
-  pub read : ReadSoup before after soup
-  pub fault : IsFirstFault soup.faces place
-  pub refuted : ¬ IsManifold soup.faces
+-- The same, where the sink failed and took only a front of the text.
+pub record WroteFront (command : Command) (input out : Change) : Type 0 where
+  pub bytes : Bytes
+  pub whole : ReadWhole MAX_BYTES input.told input.told_now bytes
+  pub text : Bytes
+  pub said : Writes command bytes text
+  pub front : TookFront out.told out.told_now text
+  pub fault : Rose out.faults out.faults_now
 
--- What each refusal of `tidy` says of the bytes that the source gave.
-abbrev pub IsRefusedFor : Option (List ℕ) → Option (List ℕ) → Answer → Type 0
-IsRefusedFor before after (Syntax line) = ReadRefused before after (fail.Syntax line)
-IsRefusedFor before after (NotQuad line corners) = ReadRefused before after (fail.NotQuad line corners)
-IsRefusedFor before after (Range line) = ReadRefused before after (fail.Range line)
-IsRefusedFor before after (Limit Bytes line) = (line ≡ 0) × GaveMore (2 ^ 29) before after
-IsRefusedFor before after (Limit Line line) = ReadRefused before after (fail.Limit Line line)
-IsRefusedFor before after (Limit Vertices line) = ReadRefused before after (fail.Limit Vertices line)
-IsRefusedFor before after (Limit Faces line) = ReadRefused before after (fail.Limit Faces line)
-IsRefusedFor before after (NotManifold place) = ReadNoManifold before after place
-IsRefusedFor before after Usage = after ≡ before
-IsRefusedFor before after Done = ⊤
-IsRefusedFor before after ReadFault = ⊤
-IsRefusedFor before after WriteFault = ⊤
-IsRefusedFor before after Memory = ⊤
+-- The source gave bytes and ended, and the command refuses them.
+pub record Refused (command : Command) (input : Change) (answer : Answer) : Type 0 where
+  pub bytes : Bytes
+  pub whole : ReadWhole MAX_BYTES input.told input.told_now bytes
+  pub said : Refuses command bytes answer
 
--- The source gave the manifold whose canonical text the sink took.
-pub record Tidied (before after taken now : Option (List ℕ)) : Type 0 where
-  pub soup : FaceSet
-  pub read : ReadSoup before after soup
-  pub manifold : IsManifold soup.faces
-  pub written : now ≡ took taken (canonical_text soup)
+-- What each answer to an accepted line means.
+abbrev pub Cause : (command : Command) (input out : Change) (answer : Answer) → Type 0
+Cause command input out Done = Wrote command input out
+Cause command input out Usage = ⊥
+Cause command input out (Limit AllBytes line) = (line ≡ 0) × GaveMore MAX_BYTES input.told input.told_now
+Cause command input out ReadFault = Rose input.faults input.faults_now
+Cause command input out WriteFault = WroteFront command input out
+Cause command input out Memory = ⊤
+Cause command input out answer = Refused command input answer
 
--- The same, where the sink took only a front of the text.
-pub record TidiedFront (before after taken now : Option (List ℕ)) : Type 0 where
-  pub soup : FaceSet
-  pub read : ReadSoup before after soup
-  pub manifold : IsManifold soup.faces
-  pub written : TookFront taken now (canonical_text soup)
+-- The words are an accepted line, and the answer has its cause.
+pub record Ran (words : Words) (input out : Change) (answer : Answer) : Type 0 where
+  pub command : Command
+  pub line : IsCommand words command
+  pub cause : Cause command input out answer
 
--- A source that holds a text with a manifold soup, within the limit of bytes.
-pub record IsGood (left : Option (List ℕ)) : Type 0 where
-  pub bytes : List ℕ
+-- A source that holds bytes, within the limit, for which the command writes some text.
+pub record IsGood (command : Command) (left : Told) : Type 0 where
+  pub bytes : Bytes
   pub told : left ≡ Some bytes
-  pub few : length bytes ≤ 2 ^ 29
-  pub soup : FaceSet
-  pub said : text_soup 1 (lines_of bytes) ≡ Ok soup
-  pub manifold : IsManifold soup.faces
-
--- The sink took this line, or failed and took a front of it.
-abbrev pub Said : List ℕ → Option (List ℕ) → Option (List ℕ) → ℕ → ℕ → Type 0
-Said line taken now before after = (now ≡ took taken line) ⊎ (Rose before after × TookFront taken now line)
-
--- Vertices in the line of an answer have the numbers of the file that was read.
-abbrev pub AreNames : Option (List ℕ) → Option (List ℕ) → Answer → List ℕ → Type 0
-AreNames before after answer names =
-    (place : Place) → answer ≡ NotManifold place → (soup : FaceSet) × ReadSoup before after soup × (names ≡ soup.names)
-
--- The error sink took the answer's line, or failed and took a front of it.
-pub record SaidWhy (before after taken now : Option (List ℕ)) (faults faults_now : ℕ) (answer : Answer) : Type 0 where
-  pub names : List ℕ
-  pub of_the_file : AreNames before after answer names
-  pub said : Said (error_line names answer) taken now faults faults_now
+  pub few : length bytes ≤ MAX_BYTES
+  pub text : Bytes
+  pub said : Writes command bytes text

@@ -1,4 +1,7 @@
 pub mod Causes
 pub mod CommandLines
 pub mod ErrorLines
+pub mod Mesh
+pub mod Messages
 pub mod Status
+pub mod Tidy

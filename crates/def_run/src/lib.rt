@@ -2,5 +2,7 @@
 #![tactic(auto)]
 
 mod answer;
+mod command;
 
 pub use answer::Answer;
+pub use command::Command;

@@ -5,6 +5,7 @@ use Rattle.def_mesh.specs.Faces.{Faces}
 use Rattle.def_mesh.specs.Vertices.{names_below, UsesEach}
 use Rattle.def_text.specs.Types.{Positions}
 
+-- A soup: each face names vertices by their numbers from 0, each name is the number in the file, from 1.
 pub record FaceSet : Type 0 where
   pub pos : Positions
   pub faces : Faces

@@ -3,6 +3,8 @@ pub mod Corner
 pub mod Decimal
 pub mod Digits
 pub mod FaceSet
+pub mod Fails
+pub mod Input
 pub mod Laws
 pub mod Logical
 pub mod Ratio

@@ -1,7 +1,8 @@
 -- What a list of physical lines says: its soup, or its first refusal.
 use Rattle.std.specs.Prelude.{ℕ, zero, suc, ◌-◌, nat_lt, if◌then◌else◌, Result, Ok, Err, List, [], ◌∷◌, ◌++◌, length, map, slice_index_or}
 use Rattle.std.specs.List.{count_by, filter, flat_map, list_any}
-use Rattle.def_io.specs.Bytes.{Lines}
+use Rattle.def_io.specs.Bytes.{Bytes, Lines}
+use Rattle.def_io.specs.Lines.{lines_of}
 use Rattle.def_mesh.specs.Faces.{Faces}
 use Rattle.def_mesh.specs.Vertices.{is_used}
 use Rattle.def_text.specs.FaceSet.{FaceSet}
@@ -97,3 +98,7 @@ soup_of said = first_refusal (refusals said) (face_set (positions said) (faces s
 -- The soup of physical lines, or their first refusal, where the first line has this number.
 abbrev pub text_soup : (number : ℕ) (lines : Lines) → Result FaceSet ObjFail
 text_soup number lines = soup_of (readings [] (logical_lines number lines))
+
+-- The soup of a text's bytes, or its first refusal.
+abbrev pub soup_in : (bytes : Bytes) → Result FaceSet ObjFail
+soup_in bytes = text_soup 1 (lines_of bytes)

@@ -6,6 +6,7 @@ use Rattle.def_io.specs.Bytes.{Bytes}
 abbrev pub Word : Type 0
 Word = Bytes
 
+-- The words of a line, in order.
 abbrev pub Words : Type 0
 Words = List Word
 
@@ -13,5 +14,6 @@ Words = List Word
 abbrev pub Position : Type 0
 Position = List ℤ
 
+-- The positions of vertices, by number.
 abbrev pub Positions : Type 0
 Positions = List Position

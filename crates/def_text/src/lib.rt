@@ -20,5 +20,5 @@ pub use limits::{
 };
 pub use micro::Micro;
 pub use reading::Reading;
-pub use refusal::{ObjFail, Which};
+pub use refusal::{ObjFail, SoupFail, Which};
 pub use soup::Soup;

@@ -1,3 +1,6 @@
+ghost use Rattle.std.specs.Prelude.{◌≡◌};
+
+use def_io::ReadFail;
 use thiserror::Error;
 
 /// The limit that a text exceeds.
@@ -22,4 +25,45 @@ pub enum ObjFail {
     Limit { which: Which, line: u32 },
     #[error("out of memory")]
     Memory,
+}
+
+/// Why a source gives no soup.
+#[derive(Clone, Copy, Debug, PartialEq, Eq, Error)]
+pub enum SoupFail {
+    #[error("a read failed")]
+    Fault,
+    #[error("the input is too long")]
+    TooLong,
+    /// The first refusal of the text, which is never want of memory.
+    #[error("{0}")]
+    Obj(ObjFail),
+    #[error("out of memory")]
+    Memory,
+}
+
+impl From<ReadFail> for SoupFail {
+    ghost use Rattle.def_text.specs.Fails.{of_read};
+
+    ghost from_gives = { λ fail e. e ≡ of_read fail };
+
+    fn from(fail: ReadFail) -> SoupFail {
+        match fail {
+            ReadFail::Fault => SoupFail::Fault,
+            ReadFail::TooLong => SoupFail::TooLong,
+            ReadFail::Memory => SoupFail::Memory,
+        }
+    }
+}
+
+impl From<ObjFail> for SoupFail {
+    ghost use Rattle.def_text.specs.Fails.{of_obj};
+
+    ghost from_gives = { λ fail e. e ≡ of_obj fail };
+
+    fn from(fail: ObjFail) -> SoupFail {
+        match fail {
+            ObjFail::Memory => SoupFail::Memory,
+            _ => SoupFail::Obj(fail),
+        }
+    }
 }

@@ -11,9 +11,10 @@ mod tests;
 mod traits;
 mod writing;
 
+pub use def_io::{ReadFail, WriteFail};
 pub use lines::Lines;
 pub use memory::{MemSink, MemSource};
-pub use reading::{ReadFail, read_lines};
+pub use reading::read_lines;
 pub use streams::{StdSink, StdSource};
 pub use traits::{Failed, Memory, Sink, Source};
-pub use writing::{WriteFail, write_all};
+pub use writing::write_all;

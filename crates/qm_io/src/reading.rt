@@ -6,19 +6,8 @@ ghost use Rattle.qm_io.specs.Gained.{Gained};
 use crate::lines::Lines;
 use crate::ends::ends_of;
 use crate::traits::{Memory, Source};
+use def_io::ReadFail;
 use std::alloc::Global;
-use thiserror::Error;
-
-/// Why a text could not be read.
-#[derive(Clone, Copy, Debug, PartialEq, Eq, Error)]
-pub enum ReadFail {
-    #[error("a read failed")]
-    Fault,
-    #[error("the input is too long")]
-    TooLong,
-    #[error("out of memory")]
-    Memory,
-}
 
 const BUFFER: usize = 65_536;
 

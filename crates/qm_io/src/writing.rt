@@ -3,14 +3,7 @@ ghost use Rattle.def_io.specs.Faults.{HasCause};
 ghost use Rattle.def_io.specs.Moves.{took, TookFront};
 
 use crate::traits::Sink;
-use thiserror::Error;
-
-/// Why a piece was not written whole.
-#[derive(Clone, Copy, Debug, PartialEq, Eq, Error)]
-pub enum WriteFail {
-    #[error("a write failed")]
-    Fault,
-}
+use def_io::WriteFail;
 
 /// Hands the whole piece to the sink. It takes no memory beyond the sink's own.
 pub fn write_all<K: Sink>(sink: &mut K, piece: &[u8]) -> Result<(), WriteFail>

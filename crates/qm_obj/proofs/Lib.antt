@@ -1,5 +1,6 @@
 mod CornerLemmas
 pub mod Groups
+mod InputLemmas
 mod JoinLemmas
 mod LawSoup
 mod LawText

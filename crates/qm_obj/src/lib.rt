@@ -10,6 +10,7 @@ mod piece;
 mod position;
 mod read;
 mod reader;
+mod soup;
 #[cfg(test)]
 mod tests;
 mod text;
@@ -17,11 +18,12 @@ mod used;
 mod words;
 
 pub use corner::read_index;
-pub use def_text::{Index, Micro, ObjFail, Soup, Which};
+pub use def_text::{Index, Micro, ObjFail, Soup, SoupFail, Which};
 pub use joining::logical;
 pub use law::reads_back;
 pub use piece::Logical;
 pub use read::read_obj;
+pub use soup::read_soup;
 pub use text::obj_text;
 
 /// Want of memory.

@@ -1,69 +1,93 @@
--- A good text is refused for no cause of its own.
-use Rattle.std.proofs.Common.{◌≡◌, ◌≢◌, ◌≤◌, ◌<◌, ◌⊎◌, ℕ, List, [], ◌++◌, length, Option, Some, None, Result, Ok, Err, ◌^◌, sym, ◌∙◌, ap, subst, arith, refl, inl, inr, length-append}
+-- Bytes for which a command writes a text are not refused.
+use Rattle.std.proofs.Common.{◌≡◌, ◌≤◌, ◌<◌, ◌⊎◌, ℕ, List, [], ◌++◌, length, Option, Some, None, Result, Ok, Err, sym, ◌∙◌, ap, subst, arith, refl, inl, inr, length-append}
 use Rattle.std.proofs.lemmas.List.{append-nil}
-use Rattle.def_io.specs.Lines.{lines_of}
-use Rattle.def_io.specs.Moves.{gave, GaveMore, IsEmptied}
-use Rattle.def_text.specs.FaceSet.{FaceSet}
-use Rattle.def_text.specs.Text.{text_soup}
-use Rattle.def_text.specs.declared.refusal.ObjFail.{ObjFail}
-use Rattle.def_text.specs.declared.refusal.Which.TheVariants.{Bytes, Line, Vertices, Faces}
+use Rattle.def_io.specs.Bytes.{Bytes, Told}
+use Rattle.def_io.specs.Faults.{Rose}
+use Rattle.def_io.specs.Moves.{Change, gave, GaveMore, IsEmptied}
 use Rattle.def_mesh.specs.Manifold.{IsManifold}
-use Rattle.def_mesh.specs.declared.Place.{Place}
-use Rattle.def_run.specs.Causes.{IsGood, IsRefusedFor, ReadNoManifold, ReadRefused, ReadWhole}
+use Rattle.def_text.specs.FaceSet.{FaceSet}
+use Rattle.def_text.specs.declared.limits.TheConstants.{MAX_BYTES}
+use Rattle.def_text.specs.declared.refusal.ObjFail.{ObjFail}
+use Rattle.def_text.specs.declared.refusal.Which.TheVariants.{Bytes as AllBytes, Line, Vertices, Faces}
+use Rattle.def_run.specs.Causes.{Cause, IsGood, Refused, Refuses, Writes}
+use Rattle.def_run.specs.Mesh.{IsMesh, IsNoMesh}
 use Rattle.def_run.specs.declared.answer.Answer.{Answer}
 use Rattle.def_run.specs.declared.answer.Answer.TheVariants.{Done, Usage, Syntax, NotQuad, Range, Limit, NotManifold, ReadFault, WriteFault, Memory}
+use Rattle.def_run.specs.declared.command.Command.{Command}
+use Rattle.def_run.specs.declared.command.Command.TheVariants.{Tidy}
+
+-- Bytes that have a mesh have no refusal of one.
+pub mesh_not_refused : (bytes : Bytes) (soup : FaceSet) (answer : Answer) → IsMesh bytes soup → IsNoMesh bytes answer → ⊥
+mesh_not_refused bytes soup (Syntax line) mesh none = let both : ◌≡◌ {A = Result FaceSet ObjFail} (Ok soup) (Err _) = sym mesh.said ∙ none in cc
+mesh_not_refused bytes soup (NotQuad line corners) mesh none = let both : ◌≡◌ {A = Result FaceSet ObjFail} (Ok soup) (Err _) = sym mesh.said ∙ none in cc
+mesh_not_refused bytes soup (Range line) mesh none = let both : ◌≡◌ {A = Result FaceSet ObjFail} (Ok soup) (Err _) = sym mesh.said ∙ none in cc
+mesh_not_refused bytes soup (Limit which line) mesh none = let both : ◌≡◌ {A = Result FaceSet ObjFail} (Ok soup) (Err _) = sym mesh.said ∙ none in cc
+mesh_not_refused bytes soup (NotManifold place) mesh none =
+    let both : ◌≡◌ {A = Result FaceSet ObjFail} (Ok soup) (Ok none.soup) = sym mesh.said ∙ none.said in
+    let same : soup ≡ none.soup = cc in
+    none.refuted (subst (λ (s : FaceSet). IsManifold s.faces) same mesh.manifold)
+mesh_not_refused bytes soup Done mesh none = absurd none
+mesh_not_refused bytes soup Usage mesh none = absurd none
+mesh_not_refused bytes soup ReadFault mesh none = absurd none
+mesh_not_refused bytes soup WriteFault mesh none = absurd none
+mesh_not_refused bytes soup Memory mesh none = absurd none
+
+-- No command both writes a text for bytes and refuses them.
+not_both : (command : Command) (bytes text : Bytes) (answer : Answer) → Writes command bytes text → Refuses command bytes answer → ⊥
+not_both Tidy bytes text answer writes refuses = mesh_not_refused bytes writes.soup answer writes.mesh refuses
 
 -- What a source gave whole is what it held.
-same_bytes : (before after : Option (List ℕ)) (bytes held : List ℕ) → before ≡ Some held → before ≡ gave bytes after
-    → IsEmptied after → bytes ≡ held
+same_bytes : (before now : Told) (bytes held : Bytes) → before ≡ Some held → before ≡ gave bytes now → IsEmptied now → bytes ≡ held
 same_bytes before None bytes held told given end = let never : Some held ≡ None = sym told ∙ given in cc
 same_bytes before (Some rest) bytes held told given end =
     let joined : Some (bytes ++ rest) ≡ Some held = sym given ∙ told in
     let same : bytes ++ rest ≡ held = cc in
     sym (append-nil bytes) ∙ ap (λ (xs : List ℕ). bytes ++ xs) (sym end) ∙ same
 
--- A good text has no refusal.
-not_refused : (before after : Option (List ℕ)) (fail : ObjFail) → IsGood before → ReadRefused before after fail → ⊥
-not_refused before after fail good bad =
-    let same = same_bytes before after bad.bytes good.bytes good.told bad.whole.given bad.whole.ended in
-    let both : ◌≡◌ {A = Result FaceSet ObjFail} (Ok good.soup) (Err fail) =
-    sym good.said ∙ ap (λ (xs : List ℕ). text_soup 1 (lines_of xs)) (sym same) ∙ bad.said in
-    cc
+-- Good bytes are not refused.
+not_refused : (command : Command) (input : Change) (answer : Answer) → IsGood command input.told → Refused command input answer → ⊥
+not_refused command input answer good bad =
+    let same = same_bytes input.told input.told_now bad.bytes good.bytes good.told bad.whole.given bad.whole.ended in
+    not_both command good.bytes good.text answer good.said (subst (λ (xs : Bytes). Refuses command xs answer) same bad.said)
 
--- It is not too long.
-not_too_long : (before after : Option (List ℕ)) → IsGood before → GaveMore (2 ^ 29) before after → ⊥
-not_too_long before after good more = by_rest after more.moved
+-- They are not too many.
+not_too_long : (command : Command) (before now : Told) → IsGood command before → GaveMore MAX_BYTES before now → ⊥
+not_too_long command before now good more = by_rest now more.moved
   where
-    by_rest : (o : Option (List ℕ)) → before ≡ gave more.piece o → ⊥
+    by_rest : (o : Told) → before ≡ gave more.piece o → ⊥
     by_rest None given = let never : Some good.bytes ≡ None = sym good.told ∙ given in cc
     by_rest (Some rest) given =
         let joined : Some (more.piece ++ rest) ≡ Some good.bytes = sym given ∙ good.told in
         let same : more.piece ++ rest ≡ good.bytes = cc in
         absurd (omega (arith, ap length same, length-append more.piece rest, more.many, good.few))
 
--- Its faces fail at no place.
-not_faulty : (before after : Option (List ℕ)) (place : Place) → IsGood before → ReadNoManifold before after place → ⊥
-not_faulty before after place good bad =
-    let same = same_bytes before after bad.read.bytes good.bytes good.told bad.read.whole.given bad.read.whole.ended in
-    let both : ◌≡◌ {A = Result FaceSet ObjFail} (Ok good.soup) (Ok bad.soup) =
-    sym good.said ∙ ap (λ (xs : List ℕ). text_soup 1 (lines_of xs)) (sym same) ∙ bad.read.said in
-    let soup : good.soup ≡ bad.soup = cc in
-    bad.refuted (subst (λ (s : FaceSet). IsManifold s.faces) soup good.manifold)
+-- So the command is done, or memory is wanting or a stream failed.
+pub completes : (command : Command) (input out : Change) (answer : Answer) → Cause command input out answer → IsGood command input.told
+    → (answer ≡ Done) ⊎ ((answer ≡ Memory) ⊎ (Rose input.faults input.faults_now ⊎ Rose out.faults out.faults_now))
+completes command input out Done why good = inl refl
+completes command input out Usage why good = absurd why
+completes command input out (Syntax line) why good = absurd (not_refused command input _ good why)
+completes command input out (NotQuad line corners) why good = absurd (not_refused command input _ good why)
+completes command input out (Range line) why good = absurd (not_refused command input _ good why)
+completes command input out (Limit AllBytes line) why good = absurd (not_too_long command input.told input.told_now good why.1)
+completes command input out (Limit Line line) why good = absurd (not_refused command input _ good why)
+completes command input out (Limit Vertices line) why good = absurd (not_refused command input _ good why)
+completes command input out (Limit Faces line) why good = absurd (not_refused command input _ good why)
+completes command input out (NotManifold place) why good = absurd (not_refused command input _ good why)
+completes command input out ReadFault why good = inr (inr (inl why))
+completes command input out WriteFault why good = inr (inr (inr why.fault))
+completes command input out Memory why good = inr (inl refl)
 
--- So it is done, or memory or a stream is at fault.
-pub completes : {Read Write : Type 0} (before after : Option (List ℕ)) (answer : Answer) → answer ≢ Usage
-    → IsRefusedFor before after answer → (answer ≡ ReadFault → Read) → (answer ≡ WriteFault → Write) → IsGood before
-    → (answer ≡ Done) ⊎ ((answer ≡ Memory) ⊎ (Read ⊎ Write))
-completes before after Done ne why read write good = inl refl
-completes before after Usage ne why read write good = absurd (ne refl)
-completes before after (Syntax line) ne why read write good = absurd (not_refused before after _ good why)
-completes before after (NotQuad line corners) ne why read write good = absurd (not_refused before after _ good why)
-completes before after (Range line) ne why read write good = absurd (not_refused before after _ good why)
-completes before after (Limit Bytes line) ne why read write good = absurd (not_too_long before after good why.1)
-completes before after (Limit Line line) ne why read write good = absurd (not_refused before after _ good why)
-completes before after (Limit Vertices line) ne why read write good = absurd (not_refused before after _ good why)
-completes before after (Limit Faces line) ne why read write good = absurd (not_refused before after _ good why)
-completes before after (NotManifold place) ne why read write good = absurd (not_faulty before after place good why)
-completes before after ReadFault ne why read write good = inr (inr (inl (read refl)))
-completes before after WriteFault ne why read write good = inr (inr (inr (write refl)))
-completes before after Memory ne why read write good = inr (inl refl)
+-- An accepted line has one command.
+pub one_command : (a b : Command) → a ≡ b
+one_command Tidy Tidy = refl
+
+-- The same of the answer that a run gives, and of a line's one command.
+pub completes_as : (read command : Command) (input out : Change) (answer said : Answer) → answer ≡ said → Cause read input out said
+    → IsGood command input.told
+    → (answer ≡ Done) ⊎ ((answer ≡ Memory) ⊎ (Rose input.faults input.faults_now ⊎ Rose out.faults out.faults_now))
+completes_as read command input out answer said is cause good =
+    subst
+    (λ (a : Answer). (a ≡ Done) ⊎ ((a ≡ Memory) ⊎ (Rose input.faults input.faults_now ⊎ Rose out.faults out.faults_now)))
+    (sym is)
+    (completes read input out said cause (subst (λ (k : Command). IsGood k input.told) (one_command command read) good))

@@ -1,74 +1,108 @@
--- Refusals of the layers below as refusals of a run.
-use Rattle.std.proofs.Common.{◌≡◌, ◌≢◌, ℕ, ◌-◌, List, length, take, drop, Option, Err, sym, ◌∙◌, ap, subst, refl, arith}
-use Rattle.std.specs.Prelude.{slice_range}
-use Rattle.std.proofs.Math.Seq.{take-length}
+-- Refusals of the steps of a run as answers with their causes.
+use Rattle.std.specs.Prelude.{IfErr, IsErrAnd}
+use Rattle.std.proofs.Common.{◌≡◌, ◌≢◌, ℕ, List, Result, Ok, Err, sym, ap, ◌∙◌, subst, refl}
+use Rattle.def_io.specs.Bytes.{Bytes}
+use Rattle.def_io.specs.Moves.{Change}
+use Rattle.def_io.specs.declared.fails.WriteFail.{WriteFail}
 use Rattle.def_io.specs.Lines.{lines_of}
-use Rattle.def_text.specs.Text.{text_soup}
-use Rattle.def_text.specs.declared.refusal.ObjFail.{ObjFail}
-use Rattle.def_text.specs.declared.refusal.ObjFail.TheVariants.{Syntax, NotQuad, Range, Limit, Memory}
-use Rattle.def_text.specs.declared.refusal.Which.TheVariants.{Bytes, Line, Vertices, Faces}
+use Rattle.def_mesh.specs.declared.Place.{Place}
 use Rattle.def_text.specs.FaceSet.{FaceSet}
-use Rattle.def_run.specs.Causes.{IsRefusedFor, ReadRefused, ReadSoup, ReadWhole}
-use Rattle.def_run.specs.ErrorLines.{error_line}
-use Rattle.def_run.specs.declared.answer.Answer.TheVariants as answers
+use Rattle.def_text.specs.Input.{IsSoupFail, ReadRefused, ReadSoup}
+use Rattle.def_text.specs.declared.limits.TheConstants.{MAX_BYTES}
+use Rattle.def_text.specs.declared.refusal.ObjFail.{ObjFail}
+use Rattle.def_text.specs.declared.refusal.ObjFail.TheVariants as obj
+use Rattle.def_text.specs.declared.refusal.SoupFail.{SoupFail}
+use Rattle.def_text.specs.declared.refusal.SoupFail.TheVariants as soup
+use Rattle.def_text.specs.declared.refusal.Which.TheVariants.{Bytes as AllBytes, Line, Vertices, Faces}
+use Rattle.def_run.specs.Causes.{Cause, Refuses, WroteFront}
+use Rattle.def_run.specs.Mesh.{IsNoMesh}
 use Rattle.def_run.specs.declared.answer.Answer.{Answer}
+use Rattle.def_run.specs.declared.answer.Answer.TheVariants as answers
+use Rattle.def_run.specs.declared.command.Command.{Command}
+use Rattle.qm_top.specs.declared.refusal.Refusal.{Refusal}
+use Rattle.qm_top.specs.declared.refusal.Refusal.TheVariants.{Soup, NotManifold, Write}
+use Rattle.qm_top.specs.declared.refusal.Refusal.TheVariants as refusals
+use Rattle.def_run.specs.ErrorLines.{error_line}
+use Rattle.def_run.specs.Messages.{AreNames, Said, SaidWhy}
+use Rattle.qm_top.specs.Refusals.{answer_of, answer_of_obj, names_of, Ended, IsInputRefusal, IsNoMeshOf}
 use Rattle.qm_top.proofs.NeverBytes.{never_bytes}
-use Rattle.qm_top.specs.Steps.{answer_of_text, IsCheck, IsRefusal}
 
--- All of a list, as a range.
-pub whole_range : {X : Type 0} (xs : List X) (n : ℕ) → n ≡ length xs → slice_range xs 0 n ≡ xs
-whole_range xs n is = let many : n - 0 ≡ length xs = omega arith in ap (λ (m : ℕ). take m xs) many ∙ take-length xs
+-- A command that refuses what has no mesh.
+abbrev pub NeedsMesh : (command : Command) → Type 0
+NeedsMesh command = (bytes : Bytes) (answer : Answer) → IsNoMesh bytes answer → Refuses command bytes answer
 
--- A text that is refused gives the answer of its refusal.
-pub text_refused : (before after : Option (List ℕ)) (bytes : List ℕ) (fail : ObjFail) (answer : Answer)
-    → answer ≡ answer_of_text fail → ReadWhole before after bytes
-    → (fail ≢ Memory → text_soup 1 (lines_of bytes) ≡ Err fail) → IsRefusedFor before after answer
-text_refused before after bytes fail answer is whole said =
-    subst (IsRefusedFor before after) (sym is) (by_case fail whole said)
-  where
-    refused : (f : ObjFail) → ReadWhole before after bytes → text_soup 1 (lines_of bytes) ≡ Err f → ReadRefused before after f
-    refused f whole s = record { bytes = bytes; whole = whole; said = s }
+-- The refusal of a soup that was read is one of the input.
+pub no_mesh_read : (input : Change) (s : FaceSet) (r : Refusal) → ReadSoup MAX_BYTES input.told input.told_now s
+    → input.faults_now ≡ input.faults → IsNoMeshOf s r → IsInputRefusal input r
+no_mesh_read input s (NotManifold place names) read calm none =
+    record { soup = s; read = read; fault = none.0; refuted = none.1; named = none.2; calm = calm }
+no_mesh_read input s refusals.Memory read calm none = tt
+no_mesh_read input s (Soup fail) read calm none = absurd none
+no_mesh_read input s (Write fail) read calm none = absurd none
 
-    by_case : (f : ObjFail) → ReadWhole before after bytes
-        → (f ≢ Memory → text_soup 1 (lines_of bytes) ≡ Err f) → IsRefusedFor before after (answer_of_text f)
-    by_case (Syntax line) w s = refused (Syntax line) w (s (λ e. cc))
-    by_case (NotQuad line corners) w s = refused (NotQuad line corners) w (s (λ e. cc))
-    by_case (Range line) w s = refused (Range line) w (s (λ e. cc))
-    by_case (Limit Bytes line) w s = absurd (never_bytes 1 (lines_of bytes) line (s (λ e. cc)))
-    by_case (Limit Line line) w s = refused (Limit Line line) w (s (λ e. cc))
-    by_case (Limit Vertices line) w s = refused (Limit Vertices line) w (s (λ e. cc))
-    by_case (Limit Faces line) w s = refused (Limit Faces line) w (s (λ e. cc))
-    by_case Memory w s = tt
+-- The refusal of a text has its cause.
+text_cause : (command : Command) (input out : Change) (fail : ObjFail) → NeedsMesh command
+    → ReadRefused MAX_BYTES input.told input.told_now fail → Cause command input out (answer_of_obj fail)
+text_cause command input out (obj.Syntax line) needs read = record { bytes = read.bytes; whole = read.whole; said = needs read.bytes (answers.Syntax line) read.said }
+text_cause command input out (obj.NotQuad line corners) needs read = record { bytes = read.bytes; whole = read.whole; said = needs read.bytes (answers.NotQuad line corners) read.said }
+text_cause command input out (obj.Range line) needs read = record { bytes = read.bytes; whole = read.whole; said = needs read.bytes (answers.Range line) read.said }
+text_cause command input out (obj.Limit AllBytes line) needs read = absurd (never_bytes 1 (lines_of read.bytes) line read.said)
+text_cause command input out (obj.Limit Line line) needs read = record { bytes = read.bytes; whole = read.whole; said = needs read.bytes (answers.Limit Line line) read.said }
+text_cause command input out (obj.Limit Vertices line) needs read = record { bytes = read.bytes; whole = read.whole; said = needs read.bytes (answers.Limit Vertices line) read.said }
+text_cause command input out (obj.Limit Faces line) needs read = record { bytes = read.bytes; whole = read.whole; said = needs read.bytes (answers.Limit Faces line) read.said }
+text_cause command input out obj.Memory needs read = tt
 
--- A soup that is refused by its check gives a refusal with the names of that soup.
-pub check_refused : (before after : Option (List ℕ)) (soup : FaceSet) (answer said : Answer) (line : List ℕ)
-    → said ≡ answer → ReadSoup before after soup → IsCheck soup.faces answer → line ≡ error_line soup.names answer
-    → IsRefusal before after said line
-check_refused before after soup answer said line is read check says =
-    subst (λ (a : Answer). IsRefusal before after a line) (sym is) (by_case answer check says)
-  where
-    by_case : (a : Answer) → IsCheck soup.faces a → line ≡ error_line soup.names a → IsRefusal before after a line
-    by_case (answers.NotManifold place) fault says = record {
-      not_done = λ e. cc;
-      accepted = λ e. cc;
-      cause = record { soup = soup; read = read; fault = fault.0; refuted = fault.1 };
-      names = soup.names;
-      of_the_file = λ p e. (soup, read, refl);
-      says = says;
-    }
-    by_case answers.Memory fault says = record {
-      not_done = λ e. cc;
-      accepted = λ e. cc;
-      cause = tt;
-      names = soup.names;
-      of_the_file = λ p e. (soup, read, refl);
-      says = says;
-    }
-    by_case answers.Done fault says = absurd fault
-    by_case answers.Usage fault says = absurd fault
-    by_case (answers.Syntax l) fault says = absurd fault
-    by_case (answers.NotQuad l c) fault says = absurd fault
-    by_case (answers.Range l) fault says = absurd fault
-    by_case (answers.Limit w l) fault says = absurd fault
-    by_case answers.ReadFault fault says = absurd fault
-    by_case answers.WriteFault fault says = absurd fault
+-- No refusal of a text names a place.
+obj_place : (fail : ObjFail) (p : Place) → answer_of_obj fail ≡ answers.NotManifold p → ⊥
+obj_place (obj.Syntax line) p is = cc
+obj_place (obj.NotQuad line corners) p is = cc
+obj_place (obj.Range line) p is = cc
+obj_place (obj.Limit which line) p is = cc
+obj_place obj.Memory p is = cc
+
+-- A refusal of the input ends a command that needs a mesh.
+pub input_ended : (command : Command) (input out : Change) (r : Refusal) → NeedsMesh command → IsInputRefusal input r → Ended command input out r
+input_ended command input out (Soup soup.Fault) needs why = record { cause = why; names = λ p is. cc; calm = λ f m. absurd (f refl) }
+input_ended command input out (Soup soup.TooLong) needs why = record { cause = (refl, why.0); names = λ p is. cc; calm = λ f m. why.1 }
+input_ended command input out (Soup (soup.Obj fail)) needs why = record {
+  cause = text_cause command input out fail needs why.0;
+  names = λ p is. absurd (obj_place fail p is);
+  calm = λ f m. why.2;
+}
+input_ended command input out (Soup soup.Memory) needs why = record { cause = tt; names = λ p is. cc; calm = λ f m. absurd (m refl) }
+input_ended command input out (NotManifold place names) needs why = record {
+  cause = record {
+    bytes = why.read.bytes;
+    whole = why.read.whole;
+    said = needs why.read.bytes (answers.NotManifold place) (record { soup = why.soup; said = why.read.said; fault = why.fault; refuted = why.refuted });
+  };
+  names = λ p is. (why.soup, why.read, why.named);
+  calm = λ f m. why.calm;
+}
+input_ended command input out refusals.Memory needs why = record { cause = tt; names = λ p is. cc; calm = λ f m. absurd (m refl) }
+input_ended command input out (Write fail) needs why = absurd why
+
+-- So does want of memory.
+pub memory_ended : (command : Command) (input out : Change) → Ended command input out refusals.Memory
+memory_ended command input out = record { cause = tt; names = λ p is. cc; calm = λ f m. absurd (m refl) }
+
+-- So does a sink that fails.
+pub write_ended : (command : Command) (input out : Change) (fail : WriteFail) → WroteFront command input out
+    → input.faults_now ≡ input.faults → Ended command input out (Write fail)
+write_ended command input out fail front calm = record { cause = front; names = λ p is. cc; calm = λ f m. calm }
+
+-- The line that was said has the answer of the refusal and the numbers that it keeps.
+pub says_why : (input err : Change) (r : Refusal) (answer : Answer) (names : List ℕ) (line : Bytes) → answer ≡ answer_of r
+    → names ≡ names_of r → AreNames input (answer_of r) (names_of r) → line ≡ error_line names answer → Said line err
+    → SaidWhy input err answer
+says_why input err r answer names line is named of_file says said = record {
+  names = names;
+  of_the_file = subst (λ (a : Answer). AreNames input a names) (sym is) (subst (λ (ns : List ℕ). AreNames input (answer_of r) ns) (sym named) of_file);
+  said = subst (λ (l : Bytes). Said l err) says said;
+}
+
+-- A refusal that is handed on ends the command as it was.
+pub handed_on : {T : Type 0} (command : Command) (input out : Change) (result : Result T Refusal) (r : Refusal)
+    → IsErrAnd result (λ e. e ≡ r) → Ended command input out r → IfErr result (Ended command input out)
+handed_on command input out (Ok x) r is ended = absurd is
+handed_on command input out (Err e) r is ended = subst (Ended command input out) (sym is) ended

@@ -1,11 +1,18 @@
-ghost use Rattle.std.specs.Prelude.{◌≡◌, ◌≢◌, ◌↔◌, ◌⊎◌, map, string_bytes, IsTrue};
+//! One command line, from its words to its answer.
+
+ghost use Rattle.std.specs.Prelude.{◌≡◌, ◌≢◌, ◌⊎◌, map, string_bytes, OnOk, IfErr};
 ghost use Rattle.def_io.specs.Faults.{Rose};
-ghost use Rattle.def_run.specs.CommandLines.{IsTidy};
-ghost use Rattle.def_run.specs.Causes.{IsGood, IsRefusedFor, Said, SaidWhy, Tidied, TidiedFront};
+ghost use Rattle.def_io.specs.Moves.{change};
+ghost use Rattle.def_run.specs.CommandLines.{IsAccepted, IsCommand};
+ghost use Rattle.def_run.specs.Causes.{IsGood, Ran};
+ghost use Rattle.def_run.specs.Messages.{Said, SaidWhy};
+ghost use Rattle.qm_top.specs.Refusals.{answer_of, Ended, Finished};
 
 use crate::error_line::{ErrorLine, line_of};
+use crate::refusal::Refusal;
 use crate::tidy::tidy;
-use def_run::Answer;
+use crate::words::read_words;
+use def_run::{Answer, Command};
 use qm_io::{Sink, Source, write_all};
 use std::alloc::Global;
 
@@ -20,49 +27,62 @@ pub fn run<S: Source, O: Sink, E: Sink>(
     out: &mut O,
     err: &mut E,
 ) -> Answer
-    ensures accepted { result ≢ Answer.Usage → IsTidy (map string_bytes words.now) }
-    ensures usage { result ≡ Answer.Usage → ¬ IsTidy (map string_bytes words.now) }
+    ensures usage { result ≡ Answer.Usage → ¬ IsAccepted (map string_bytes words.now) }
+    ensures ran { result ≢ Answer.Usage → Ran (map string_bytes words.now)
+        (change (S.left input.old) (S.left input.new) (S.faults input.old) (S.faults input.new))
+        (change (O.taken out.old) (O.taken out.new) (O.faults out.old) (O.faults out.new)) result }
+
     // What is good is done, unless a stream fails or memory is wanting.
-    ensures complete { IsTidy (map string_bytes words.now) → IsGood (S.left input.old) →
-        (result ≡ Answer.Done) ⊎ ((result ≡ Answer.Memory) ⊎
+    ensures complete { (command : Command) → IsCommand (map string_bytes words.now) command
+        → IsGood command (S.left input.old) → (result ≡ Answer.Done) ⊎ ((result ≡ Answer.Memory) ⊎
         (Rose (S.faults input.old) (S.faults input.new) ⊎ Rose (O.faults out.old) (O.faults out.new))) }
-    ensures done { result ≡ Answer.Done →
-        Tidied (S.left input.old) (S.left input.new) (O.taken out.old) (O.taken out.new) }
-    ensures refused { IsRefusedFor (S.left input.old) (S.left input.new) result }
-    ensures read_fault { result ≡ Answer.ReadFault → Rose (S.faults input.old) (S.faults input.new) }
-    ensures write_fault { result ≡ Answer.WriteFault → Rose (O.faults out.old) (O.faults out.new) }
-    ensures untouched { result ≢ Answer.Done → result ≢ Answer.WriteFault → O.taken out.new ≡ O.taken out.old }
-    ensures front { result ≡ Answer.WriteFault →
-        TidiedFront (S.left input.old) (S.left input.new) (O.taken out.old) (O.taken out.new) }
-    ensures quiet { result ≡ Answer.Done → (E.taken err.new ≡ E.taken err.old) × (E.faults err.new ≡ E.faults err.old) }
-    ensures told { result ≢ Answer.Done → SaidWhy (S.left input.old) (S.left input.new)
-        (E.taken err.old) (E.taken err.new) (E.faults err.old) (E.faults err.new) result }
+
+    // What stays as it was.
+    ensures untouched { result ≢ Answer.Done → result ≢ Answer.WriteFault → out.new ≡ out.old }
+    ensures unread { result ≡ Answer.Usage → input.new ≡ input.old }
+    ensures calm { result ≢ Answer.ReadFault → result ≢ Answer.Memory → S.faults input.new ≡ S.faults input.old }
+    ensures quiet { result ≡ Answer.Done → err.new ≡ err.old }
+
+    ensures told { result ≢ Answer.Done → SaidWhy
+        (change (S.left input.old) (S.left input.new) (S.faults input.old) (S.faults input.new))
+        (change (E.taken err.old) (E.taken err.new) (E.faults err.old) (E.faults err.new)) result }
 {
-    if !is_tidy(words) {
+    let Some(command) = read_words(words) else {
         say(err, &line_of(&Answer::Usage, &[]));
         return Answer::Usage;
-    }
-    match tidy(alloc, input, out) {
+    };
+    match run_command(alloc, command, input, out) {
         Ok(()) => Answer::Done,
         Err(refusal) => {
-            say(err, &refusal.line);
-            refusal.answer
+            let answer = refusal.answer();
+            say(err, &line_of(&answer, refusal.names()));
+            answer
         }
     }
 }
 
-fn is_tidy(words: &[String]) -> bool
-    ensures { IsTrue result ↔ IsTidy (map string_bytes words.now) }
+fn run_command<S: Source, O: Sink>(
+    alloc: Global,
+    command: Command,
+    input: &mut S,
+    out: &mut O,
+) -> Result<(), Refusal>
+    ensures done { OnOk result (Finished command
+        (change (S.left input.old) (S.left input.new) (S.faults input.old) (S.faults input.new))
+        (change (O.taken out.old) (O.taken out.new) (O.faults out.old) (O.faults out.new))) }
+    ensures refused { IfErr result (Ended command
+        (change (S.left input.old) (S.left input.new) (S.faults input.old) (S.faults input.new))
+        (change (O.taken out.old) (O.taken out.new) (O.faults out.old) (O.faults out.new))) }
+    ensures untouched { IfErr result (λ r. answer_of r ≢ Answer.WriteFault → out.new ≡ out.old) }
 {
-    match words {
-        [word] => word.as_str() == "tidy",
-        _ => false,
+    match command {
+        Command::Tidy => tidy(alloc, input, out),
     }
 }
 
 /// Hands a line to the error sink. Where that fails there is no one to tell.
 fn say<E: Sink>(err: &mut E, line: &ErrorLine)
-    ensures { Said line.now.bytes (E.taken err.old) (E.taken err.new) (E.faults err.old) (E.faults err.new) }
+    ensures { Said line.now.bytes (change (E.taken err.old) (E.taken err.new) (E.faults err.old) (E.faults err.new)) }
 {
     let _ = write_all(err, line.as_str().as_bytes());
 }

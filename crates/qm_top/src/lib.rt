@@ -3,7 +3,10 @@
 
 mod command;
 mod error_line;
+mod input;
+mod refusal;
 mod tidy;
+mod words;
 
 pub use command::run;
 pub use def_mesh::Place;

@@ -1,0 +1,5 @@
+/// What a command line asks for.
+#[derive(Clone, Copy, Debug, PartialEq, Eq)]
+pub enum Command {
+    Tidy,
+}

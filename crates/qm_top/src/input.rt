@@ -1,0 +1,52 @@
+//! The mesh of a source.
+
+ghost use Rattle.std.specs.Prelude.{◌≡◌, ◌≤◌, length, IfOk, IfErr, OnOk};
+ghost use Rattle.def_io.specs.Moves.{change};
+ghost use Rattle.def_mesh.specs.Manifold.{IsManifold};
+ghost use Rattle.def_text.specs.Input.{ReadSoup};
+ghost use Rattle.qm_top.specs.Refusals.{IsInputRefusal, IsNoMeshOf};
+
+use crate::refusal::Refusal;
+use def_text::{MAX_BYTES, MAX_FACES, MAX_VERTICES, Soup};
+use qm_io::Source;
+use qm_mesh::{Mesh, MeshFail, build};
+use qm_obj::read_soup;
+use std::alloc::Global;
+
+/// A soup and the mesh of its faces.
+#[derive(Drop)]
+pub(crate) struct MeshInput {
+    pub(crate) soup: Soup,
+    pub(crate) mesh: Mesh,
+}
+
+/// The mesh of the whole input.
+pub(crate) fn read_mesh<S: Source>(alloc: Global, input: &mut S) -> Result<MeshInput, Refusal>
+    ensures soup { IfOk result (λ read. ReadSoup MAX_BYTES (S.left input.old) (S.left input.new) read.soup) }
+    ensures mesh { IfOk result (λ read. read.mesh ≡ read.soup.faces) }
+    ensures manifold { IfOk result (λ read. IsManifold read.soup.faces) }
+    ensures calm { OnOk result (S.faults input.new ≡ S.faults input.old) }
+    ensures refused { IfErr result (IsInputRefusal
+        (change (S.left input.old) (S.left input.new) (S.faults input.old) (S.faults input.new))) }
+{
+    let soup = read_soup(alloc, input, MAX_BYTES)?;
+    with_mesh(alloc, soup)
+}
+
+/// The mesh of the soup's faces, or the first place where they are no manifold.
+fn with_mesh(alloc: Global, soup: Soup) -> Result<MeshInput, Refusal>
+    requires few { (length soup.pos ≤ MAX_VERTICES) × (length soup.faces ≤ MAX_FACES) }
+    ensures soup { IfOk result (λ read. read.soup ≡ soup) }
+    ensures mesh { IfOk result (λ read. read.mesh ≡ soup.faces) }
+    ensures manifold { OnOk result (IsManifold soup.faces) }
+    ensures refused { IfErr result (IsNoMeshOf soup) }
+{
+    match build(alloc, soup.pos.len() as u32, &soup.faces) {
+        Ok(mesh) => Ok(MeshInput { soup, mesh }),
+        Err(MeshFail::NotManifold(place)) => {
+            let Soup { names, .. } = soup;
+            Err(Refusal::NotManifold { place, names })
+        }
+        Err(MeshFail::Memory) => Err(Refusal::Memory),
+    }
+}

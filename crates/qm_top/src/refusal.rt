@@ -1,0 +1,104 @@
+//! Why a command ends without its output.
+
+ghost use Rattle.std.specs.Prelude.{◌≡◌, ◌≢◌};
+ghost use Rattle.qm_top.specs.Refusals.{answer_of, answer_of_obj, answer_of_soup, names_of};
+ghost use Rattle.qm_top.specs.declared.refusal.Refusal.TheVariants as refusals;
+
+use def_io::WriteFail;
+use def_mesh::Place;
+use def_run::Answer;
+use def_text::{ObjFail, SoupFail, Which};
+use std::alloc::AllocError;
+
+/// Why a command ends without its output.
+#[derive(Debug, Drop)]
+pub(crate) enum Refusal {
+    Soup(SoupFail),
+    /// The faces are no manifold; `names` has the vertices' numbers in the file.
+    NotManifold {
+        place: Place,
+        names: Vec<u32>,
+    },
+    Write(WriteFail),
+    Memory,
+}
+
+impl Refusal {
+    /// The answer of the run.
+    pub(crate) fn answer(&self) -> Answer
+        ensures answer { result ≡ answer_of self.now }
+        ensures refusal { result ≢ Answer.Done }
+        ensures accepted { result ≢ Answer.Usage }
+    {
+        match self {
+            Refusal::Soup(fail) => soup_answer(*fail),
+            Refusal::NotManifold { place, .. } => Answer::NotManifold { place: *place },
+            Refusal::Write(_) => Answer::WriteFault,
+            Refusal::Memory => Answer::Memory,
+        }
+    }
+
+    /// The numbers in the file of the vertices that the answer may name.
+    pub(crate) fn names(&self) -> &[u32]
+        ensures { result.now ≡ names_of self.now }
+    {
+        match self {
+            Refusal::NotManifold { names, .. } => names,
+            _ => &[],
+        }
+    }
+}
+
+impl From<SoupFail> for Refusal {
+    ghost from_gives = { λ fail e. e ≡ refusals.Soup fail };
+
+    fn from(fail: SoupFail) -> Refusal {
+        Refusal::Soup(fail)
+    }
+}
+
+impl From<WriteFail> for Refusal {
+    ghost from_gives = { λ fail e. e ≡ refusals.Write fail };
+
+    fn from(fail: WriteFail) -> Refusal {
+        Refusal::Write(fail)
+    }
+}
+
+impl From<AllocError> for Refusal {
+    ghost from_gives = { λ _ e. e ≡ refusals.Memory };
+
+    fn from(_: AllocError) -> Refusal {
+        Refusal::Memory
+    }
+}
+
+fn soup_answer(fail: SoupFail) -> Answer
+    ensures answer { result ≡ answer_of_soup fail }
+    ensures refusal { result ≢ Answer.Done }
+    ensures accepted { result ≢ Answer.Usage }
+{
+    match fail {
+        SoupFail::Fault => Answer::ReadFault,
+        SoupFail::TooLong => Answer::Limit {
+            which: Which::Bytes,
+            line: 0,
+        },
+        SoupFail::Obj(fail) => obj_answer(fail),
+        SoupFail::Memory => Answer::Memory,
+    }
+}
+
+fn obj_answer(fail: ObjFail) -> Answer
+    ensures answer { result ≡ answer_of_obj fail }
+    ensures refusal { result ≢ Answer.Done }
+    ensures accepted { result ≢ Answer.Usage }
+{
+    match fail {
+        ObjFail::Syntax { line } => Answer::Syntax { line },
+        ObjFail::NotQuad { line, corners } => Answer::NotQuad { line, corners },
+        ObjFail::Range { line } => Answer::Range { line },
+        ObjFail::Limit { which, line } => Answer::Limit { which, line },
+        ObjFail::Memory => Answer::Memory,
+    }
+}
