@@ -107,7 +107,7 @@ seeds faces =
 abbrev pub is_start : (faces : Faces) (ring_seeds : List ℕ) (d : ℕ) → Bool
 is_start faces ring_seeds d = is_singular faces (from_of faces d)
     || (is_some (twin_of faces d)
-        && (is_reflex faces (from_of faces d) || list_any (λ v. v == from_of faces d) ring_seeds))
+    && (is_reflex faces (from_of faces d) || list_any (λ v. v == from_of faces d) ring_seeds))
 
 -- The darts along which riders start, rising.
 abbrev pub start_darts : (faces : Faces) → List ℕ

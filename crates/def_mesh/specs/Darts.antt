@@ -1,6 +1,23 @@
 -- The darts of a list of faces. Dart 4f + i runs along face f from its corner i to the next one.
-use Rattle.std.specs.Prelude.{◌≡◌, ℕ, ◌+◌, ◌-◌, ◌*◌, ◌/◌, ◌%◌, ◌<◌, Bool, cond, ◌&&◌, ◌==◌, List, length, find,
-    Option, option_map}
+use Rattle.std.specs.Prelude.{
+  ◌≡◌,
+  ℕ,
+  ◌+◌,
+  ◌-◌,
+  ◌*◌,
+  ◌/◌,
+  ◌%◌,
+  ◌<◌,
+  Bool,
+  cond,
+  ◌&&◌,
+  ◌==◌,
+  List,
+  length,
+  find,
+  Option,
+  option_map,
+}
 use Rattle.std.specs.List.{range_with_len}
 use Rattle.def_mesh.specs.Faces.{Faces, corner}
 

@@ -1,0 +1,62 @@
+-- Lists of darts: what stands among them, filters, and lists without repeats.
+use Rattle.std.proofs.Common.{◌≡◌, ◌≢◌, ◌⊎◌, ℕ, Bool, true, false, cond, eqb, List, [], ◌∷◌, sym, ap, ◌∙◌, refl, inl, inr}
+use Rattle.std.specs.List.{filter, list_any}
+use Rattle.std.proofs.lemmas.Bool.{or_left, or_right, or_cases, eq-eqb, eqb-true, false≢true, false_from_ne_true}
+use Rattle.def_cut.specs.Motion.{is_among}
+
+-- Among a list with one dart more.
+pub among_here : (d e : ℕ) (ds : List ℕ) → d ≡ e → is_among d (e ∷ ds) ≡ true
+among_here d e ds s = or_left _ _ (eq-eqb d e s)
+
+pub among_later : (d e : ℕ) (ds : List ℕ) → is_among d ds ≡ true → is_among d (e ∷ ds) ≡ true
+among_later d e ds m = or_right _ _ m
+
+pub among_cases : (d e : ℕ) (ds : List ℕ) → is_among d (e ∷ ds) ≡ true → (d ≡ e) ⊎ (is_among d ds ≡ true)
+among_cases d e ds m = elim (or_cases _ _ m) [ inl s ↦ inl (eqb-true d e s) | inr r ↦ inr r ]
+
+-- A test that some dart of the list passes.
+pub any_at : (p : ℕ → Bool) (d : ℕ) (ds : List ℕ) → is_among d ds ≡ true → p d ≡ true → list_any p ds ≡ true
+any_at p d [] m t = absurd (false≢true m)
+any_at p d (e ∷ ds) m t = elim (among_cases d e ds m) [ inl s ↦ or_left _ _ (ap p (sym s) ∙ t) | inr r ↦ or_right _ _ (any_at p d ds r t) ]
+
+pub any_where : (p : ℕ → Bool) (ds : List ℕ) → list_any p ds ≡ true → (d : ℕ) × (is_among d ds ≡ true) × (p d ≡ true)
+any_where p [] t = absurd (false≢true t)
+any_where p (e ∷ ds) t = elim (or_cases _ _ t) [
+  | inl a ↦ (e, among_here e e ds refl, a)
+  | inr b ↦ let r : (d : ℕ) × (is_among d ds ≡ true) × (p d ≡ true) = any_where p ds b in (r.0, among_later r.0 e ds r.1, r.2)
+]
+
+-- What stands among a filter.
+pub in_filter : (p : ℕ → Bool) (d : ℕ) (ds : List ℕ) → is_among d ds ≡ true → p d ≡ true → is_among d (filter p ds) ≡ true
+in_filter p d [] m t = absurd (false≢true m)
+in_filter p d (e ∷ ds) m t = at (p e) refl (among_cases d e ds m) (in_filter p d ds)
+  where
+    at : (b : Bool) → p e ≡ b → (d ≡ e) ⊎ (is_among d ds ≡ true) → (is_among d ds ≡ true → p d ≡ true → is_among d (filter p ds) ≡ true) → is_among d (cond b (e ∷ filter p ds) (filter p ds)) ≡ true
+    at true k (inl s) rest = among_here d e (filter p ds) s
+    at true k (inr r) rest = among_later d e (filter p ds) (rest r t)
+    at false k (inl s) rest = absurd (false≢true (sym k ∙ (ap p (sym s) ∙ t)))
+    at false k (inr r) rest = rest r t
+
+pub from_filter : (p : ℕ → Bool) (d : ℕ) (ds : List ℕ) → is_among d (filter p ds) ≡ true → (is_among d ds ≡ true) × (p d ≡ true)
+from_filter p d [] m = absurd (false≢true m)
+from_filter p d (e ∷ ds) m = at (p e) refl m (from_filter p d ds)
+  where
+    at : (b : Bool) → p e ≡ b → is_among d (cond b (e ∷ filter p ds) (filter p ds)) ≡ true → (is_among d (filter p ds) ≡ true → (is_among d ds ≡ true) × (p d ≡ true)) → (is_among d (e ∷ ds) ≡ true) × (p d ≡ true)
+    at true k m rest = elim (among_cases d e (filter p ds) m) [
+      | inl s ↦ (among_here d e ds s, ap p s ∙ k)
+      | inr r ↦ let q : (is_among d ds ≡ true) × (p d ≡ true) = rest r in (among_later d e ds q.0, q.1)
+    ]
+    at false k m rest = let q : (is_among d ds ≡ true) × (p d ≡ true) = rest m in (among_later d e ds q.0, q.1)
+
+-- No dart stands there twice.
+abbrev pub AreApart : (darts : List ℕ) → Type 0
+AreApart [] = Unit {0}
+AreApart (d ∷ ds) = (is_among d ds ≡ false) × AreApart ds
+
+pub apart_filter : (p : ℕ → Bool) (ds : List ℕ) → AreApart ds → AreApart (filter p ds)
+apart_filter p [] a = tt
+apart_filter p (e ∷ ds) a = at (p e) (apart_filter p ds a.1)
+  where
+    at : (b : Bool) → AreApart (filter p ds) → AreApart (cond b (e ∷ filter p ds) (filter p ds))
+    at true rest = (false_from_ne_true _ (λ m. let q : (is_among e ds ≡ true) × (p e ≡ true) = from_filter p e ds m in false≢true (sym a.0 ∙ q.0)), rest)
+    at false rest = rest
