@@ -1,5 +1,6 @@
 // The work of crates/qm_bench in plain C++, written from the descriptions of the matching graph and of duals, with the
 // same words and the same output.
+#include <algorithm>
 #include <cstdint>
 #include <cstdio>
 #include <cstdlib>
@@ -115,6 +116,10 @@ static Graph graph_of(const Net &net, const std::vector<uint64_t> &x, uint64_t s
             lone ^= arc.left.plus == unit.on;
         }
     }
+    auto room = [&](const End &end) { return size_t(first[end.node + 1] - first[end.node]); };
+    size_t many = 4 * rim.size();
+    for (const Unit &unit : units) many += room(unit.arc->left) + (unit.arc->right ? room(*unit.arc->right) : 0) + 1;
+    g.edges.reserve(many);
     auto fan = [&](uint32_t u, const End &end, int64_t cost) {
         for (uint32_t copy = first[end.node]; copy < first[end.node + 1]; copy++) g.edges.push_back({u, copy, cost});
     };
@@ -149,11 +154,20 @@ static Graph graph_of(const Net &net, const std::vector<uint64_t> &x, uint64_t s
     return g;
 }
 
-static Dual dual_of(uint32_t n, bool nest) {
+// A nest of sets, a tree of sets by threes, or a comb: each set of a chain holds the one before it and two of three vertices.
+static Dual dual_of(uint32_t n, const std::string &shape) {
+    bool nest = shape == "nest", comb = shape == "comb";
     uint32_t sets = n == 0 ? 0 : (n - 1) / 2;
+    if (comb) sets = (n / 3 > 0 ? (n / 3 - 1) / 2 : 0) * 3 + 1;
+    uint32_t teeth = comb ? sets / 3 * 2 + 1 : sets;
     Dual d{std::vector<int64_t>(n, -1000000), std::vector<int64_t>(sets, 1), {}};
-    for (uint32_t k = 0; k < n + sets; k++) {
-        uint32_t around = !nest ? k / 3 + 1 : k >= n ? k - n + 2 : k == 0 ? 1 : (k + 1) / 2;
+    d.up.reserve(n + sets);
+    for (uint32_t v = 0; v < n; v++) {
+        uint32_t around = nest ? std::max(1u, (v + 1) / 2) : v / 3 + 1;
+        d.up.push_back(around <= teeth ? around : 0);
+    }
+    for (uint32_t k = 0; k < sets; k++) {
+        uint32_t around = nest ? k + 2 : !comb ? (n + k) / 3 + 1 : k >= teeth ? k + 2 : teeth + (k == 0 ? 0 : k - 1) / 2 + 1;
         d.up.push_back(around <= sets ? around : 0);
     }
     return d;
@@ -217,7 +231,7 @@ static void run(const Net &net, const std::vector<uint64_t> &x, const char *task
         return;
     }
     Graph g = graph_of(net, x, 1);
-    Dual d = dual_of(g.n, strcmp(task, "nest") == 0);
+    Dual d = dual_of(g.n, task);
     std::string verdict = dual_ok(g, d);
     for (uint32_t i = 1; i < times; i++) verdict = dual_ok(g, d);
     puts(verdict.c_str());
@@ -227,7 +241,7 @@ int main(int argc, char **argv) {
     Net net = network();
     std::vector<uint64_t> x = lengths();
     if (argc < 2) {
-        for (const char *task : {"graph", "nest", "tree"}) run(net, x, task, 1);
+        for (const char *task : {"graph", "nest", "tree", "comb"}) run(net, x, task, 1);
         return 0;
     }
     run(net, x, argv[1], argc > 2 ? uint32_t(atol(argv[2])) : 1);

@@ -1,5 +1,5 @@
 #!/usr/bin/env python3
-"""Measures the matching graph of 10,000 arcs, and the verdict on two duals over it, against plain C++: wall time of
+"""Measures the matching graph of 10,000 arcs, and the verdict on three duals over it, against plain C++: wall time of
 one call, as the difference between many calls and one, and the peak memory of a run."""
 import os
 import subprocess
@@ -32,7 +32,7 @@ def main():
         subprocess.run(["rt", "run"], cwd=f"{ROOT}/crates/qm_bench", check=True, stdout=subprocess.DEVNULL)
         programs = [("quadq", f"{ROOT}/crates/qm_bench/out/qm_bench"), ("plain C++", plain)]
         print(f"{'task':<8}{'program':<12}{'ms a call':>10}{'MB':>7}")
-        for task in ("graph", "nest", "tree"):
+        for task in ("graph", "nest", "tree", "comb"):
             once, often, room_mb, outputs = {}, {}, {}, set()
             for _ in range(ROUNDS):
                 for name, program in programs:

@@ -1,81 +1,87 @@
 -- Units: stretches of an arc's length, a step long, that are on up to the arc's length and off from there.
-use Rattle.std.specs.Prelude.{ℕ, zero, suc, ◌+◌, ◌-◌, ◌*◌, ◌/◌, min, Bool, true, false, cond, not, ◌&&◌, ◌==◌, List, [], ◌∷◌, ◌++◌, map, option_to_list, Option, Some, None, ℤ, pos, ◌+ℤ◌, ◌-ℤ◌}
+use Rattle.std.specs.Prelude.{ℕ, zero, suc, ◌+◌, ◌-◌, ◌*◌, ◌/◌, min, Bool, true, false, cond, not, ◌&&◌, ◌==◌}
+use Rattle.std.specs.Prelude.{List, [], ◌∷◌, ◌++◌, map, option_to_list, Option, Some, None, ℤ, pos, ◌+ℤ◌, ◌-ℤ◌}
 use Rattle.def_math.specs.Counts.{count}
-use Rattle.def_flow.specs.Network.{Network}
+use Rattle.def_flow.specs.Network.{Network, Node}
 use Rattle.def_flow.specs.Admissible.{arc_deviation}
 use Rattle.def_flow.specs.declared.net.Arc.{Arc}
 use Rattle.def_flow.specs.declared.net.End.{End}
 use Rattle.def_flow.specs.declared.units.ArcUnit.{ArcUnit}
 
 -- How many steps an arc of length x can give up, at most 2 of them.
-abbrev pub down : Network → ℕ → ℕ → ℕ
+abbrev pub down : (net : Network) (step x : ℕ) → ℕ
 down net step x = min 2 ((x - net.floor) / step)
 
 -- The least length that the units of an arc of length x can give.
-abbrev pub low : Network → ℕ → ℕ → ℕ
+abbrev pub low : (net : Network) (step x : ℕ) → ℕ
 low net step x = x - down net step x * step
 
 -- The number of units of an arc of length x: those that it can give up, and 2 to gain.
-abbrev pub cap : Network → ℕ → ℕ → ℕ
+abbrev pub cap : (net : Network) (step x : ℕ) → ℕ
 cap net step x = down net step x + 2
 
 -- Unit k of an arc: it costs the arc's deviation at its upper end less that at its lower end.
-abbrev pub unit_at : Network → ℕ → Arc → ℕ → ℕ → ArcUnit
-unit_at net step a x k = record { left = a.left; right = a.right; cost = pos (arc_deviation net a (pos (low net step x + (k + 1) * step))) -ℤ pos (arc_deviation net a (pos (low net step x + k * step))) }
+abbrev pub unit_at : (net : Network) (step : ℕ) (a : Arc) (x k : ℕ) → ArcUnit
+unit_at net step a x k = record {
+  left = a.left;
+  right = a.right;
+  cost = pos (arc_deviation net a (pos (low net step x + (k + 1) * step)))
+      -ℤ pos (arc_deviation net a (pos (low net step x + k * step)));
+}
 
--- n units of an arc, from unit k on.
-abbrev pub units_from : Network → ℕ → Arc → ℕ → ℕ → ℕ → List ArcUnit
+-- So many units of an arc, from unit k on.
+abbrev pub units_from : (net : Network) (step : ℕ) (a : Arc) (x k many : ℕ) → List ArcUnit
 units_from net step a x k zero = []
 units_from net step a x k (suc n) = unit_at net step a x k ∷ units_from net step a x (k + 1) n
 
 -- All units, in order of the arcs.
-abbrev pub units : Network → ℕ → List Arc → List ℕ → List ArcUnit
+abbrev pub units : (net : Network) (step : ℕ) (arcs : List Arc) (xs : List ℕ) → List ArcUnit
 units net step (a ∷ arcs) (x ∷ xs) = units_from net step a x 0 (cap net step x) ++ units net step arcs xs
 units net step _ _ = []
 
--- The states of n units, of which the first j are on.
-abbrev pub run : ℕ → ℕ → List Bool
-run j zero = []
+-- The states of so many units, of which the first are on.
+abbrev pub run : (on many : ℕ) → List Bool
+run on zero = []
 run zero (suc n) = false ∷ run zero n
-run (suc j) (suc n) = true ∷ run j n
+run (suc on) (suc n) = true ∷ run on n
 
 -- The states of all units, where of each arc of the list xs as many are on as js says.
-abbrev pub states : Network → ℕ → List ℕ → List ℕ → List Bool
+abbrev pub states : (net : Network) (step : ℕ) (xs js : List ℕ) → List Bool
 states net step (x ∷ xs) (j ∷ js) = run j (cap net step x) ++ states net step xs js
 states net step _ _ = []
 
 -- The states of all units at the list xs itself.
-abbrev pub states_at : Network → ℕ → List ℕ → List Bool
+abbrev pub states_at : (net : Network) (step : ℕ) (xs : List ℕ) → List Bool
 states_at net step xs = states net step xs (map (down net step) xs)
 
 -- An end with sign plus is active at a unit that is on, one with sign minus at a unit that is off.
-abbrev pub is_active : Bool → End → Bool
+abbrev pub is_active : (on : Bool) (e : End) → Bool
 is_active on e = cond e.plus on (not on)
 
--- How many active ends a unit has at node v.
-abbrev pub active_at : ℕ → ArcUnit → Bool → ℕ
+-- How many active ends a unit has at a node.
+abbrev pub active_at : (v : Node) (u : ArcUnit) (on : Bool) → ℕ
 active_at v u on = count (λ e. cond ((e.node == v) && is_active on e) 1 0) (u.left ∷ option_to_list u.right)
 
--- How many active unit ends there are at node v.
-abbrev pub active : ℕ → List ArcUnit → List Bool → ℕ
+-- How many active unit ends there are at a node.
+abbrev pub active : (v : Node) (us : List ArcUnit) (ons : List Bool) → ℕ
 active v (u ∷ us) (on ∷ ons) = active_at v u on + active v us ons
 active v _ _ = 0
 
 -- 1 where a unit has one end, and this is active.
-abbrev pub alone_active : End → Option End → Bool → ℕ
+abbrev pub alone_active : (left : End) (right : Option End) (on : Bool) → ℕ
 alone_active left None on = cond (is_active on left) 1 0
 alone_active left (Some _) on = 0
 
 -- How many active units of one-ended arcs there are.
-abbrev pub rim_active : List ArcUnit → List Bool → ℕ
+abbrev pub rim_active : (us : List ArcUnit) (ons : List Bool) → ℕ
 rim_active (u ∷ us) (on ∷ ons) = alone_active u.left u.right on + rim_active us ons
 rim_active _ _ = 0
 
 -- The costs of the units that are on.
-abbrev pub cost_on : List ArcUnit → List Bool → ℤ
+abbrev pub cost_on : (us : List ArcUnit) (ons : List Bool) → ℤ
 cost_on (u ∷ us) (on ∷ ons) = cond on u.cost (pos 0) +ℤ cost_on us ons
 cost_on _ _ = pos 0
 
 -- The costs of the units that are on at the list xs.
-abbrev pub on_cost : Network → ℕ → List ℕ → ℤ
+abbrev pub on_cost : (net : Network) (step : ℕ) (xs : List ℕ) → ℤ
 on_cost net step xs = cost_on (units net step net.arcs xs) (states_at net step xs)

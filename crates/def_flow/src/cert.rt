@@ -1,3 +1,5 @@
+//! Certificates and the verdict on one.
+
 use def_matching::{Dual, Verdict};
 
 /// A list of lengths, one for each arc, and a dual over its matching graph that shows it to be least.

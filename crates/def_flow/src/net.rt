@@ -1,3 +1,5 @@
+//! Networks of arcs between nodes, and what lengths are wanted of them.
+
 /// How the arcs are weighed: all alike, or by their old lengths.
 #[derive(Clone, Copy, Debug, PartialEq, Eq)]
 pub enum Weight {

@@ -1,3 +1,5 @@
+//! The units of an arc.
+
 use crate::net::End;
 
 /// One unit of an arc: a stretch of its length that may be on or off. It has the ends of its arc, and costs

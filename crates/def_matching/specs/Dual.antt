@@ -1,10 +1,13 @@
 -- Duals of a graph with nested sets: which vertices a set holds, the load of an edge, and the verdict.
-use Rattle.std.specs.Prelude.{◌≡◌, ℕ, zero, suc, ◌+◌, ◌%◌, ◌<◌, ◌==◌, nat_lt, nat_le, Bool, not, ◌&&◌, ◌||◌, if◌then◌else◌, List, [], ◌∷◌, length, ℤ, pos, ◌+ℤ◌, ◌*ℤ◌, ◌≤ℤ◌, int_lt, unsigned_abs, ◌^◌, slice_index, slice_index_or, Option, Some, None, IsTrue}
+use Rattle.std.specs.Prelude.{◌≡◌, ℕ, zero, suc, ◌+◌, ◌%◌, ◌<◌, ◌≤◌, ◌==◌, nat_lt, nat_le, Bool, not, ◌&&◌, ◌||◌, if◌then◌else◌}
+use Rattle.std.specs.Prelude.{List, [], ◌∷◌, length, ℤ, pos, ◌+ℤ◌, ◌*ℤ◌, ◌≤ℤ◌, int_lt, unsigned_abs, slice_index, slice_index_or}
+use Rattle.std.specs.Prelude.{Option, Some, None, IsTrue}
 use Rattle.std.specs.List.{list_any}
 use Rattle.def_math.specs.Counts.{count_below}
 use Rattle.def_math.specs.Searches.{least}
 use Rattle.def_math.specs.Sums.{total, total_below}
 use Rattle.def_matching.specs.Matching.{Graph, Vertex, EdgeNumber, edge_at}
+use Rattle.def_matching.specs.declared.limits.TheConstants.{MAX_SETS, NUMBER_LIMIT}
 use Rattle.def_matching.specs.declared.weighted.Dual.{Dual}
 use Rattle.def_matching.specs.declared.weighted.WEdge.{WEdge}
 use Rattle.def_matching.specs.declared.weighted.Verdict.{Verdict}
@@ -61,7 +64,8 @@ crosses set e = if set e.u then not (set e.v) else set e.v
 
 -- The load of an edge: the numbers of its ends, and those of the sets that hold exactly one of them.
 abbrev pub load : (n : ℕ) (d : DualLists) (e : WEdge) → ℤ
-load n d e = (y_at d e.u +ℤ y_at d e.v) +ℤ total_below (λ k. if crosses (holds n d k) e then z_at d k else pos 0) (length d.z)
+load n d e =
+    (y_at d e.u +ℤ y_at d e.v) +ℤ total_below (λ k. if crosses (holds n d k) e then z_at d k else pos 0) (length d.z)
 
 -- The sum of a dual.
 abbrev pub dual_sum : (d : DualLists) → ℤ
@@ -88,9 +92,15 @@ pub record SaysYes (g : Graph) (d : DualLists) : Type 0 where
   pub positive : (k : SetNumber) → k < length d.z → pos 0 ≤ℤ z_at d k
   pub loaded : (k : EdgeNumber) → k < length g.edges → load g.n d (edge_at g k) ≤ℤ (pos 2 *ℤ (edge_at g k).cost)
 
--- The numbers are below 10^18 in absolute value.
+-- The numbers are small in absolute value.
 abbrev pub AreSmall : (numbers : List ℤ) → Type 0
-AreSmall numbers = (k : ℕ) → k < length numbers → unsigned_abs (slice_index_or numbers k (pos 0)) < 10 ^ 18
+AreSmall numbers = (k : ℕ) → k < length numbers → unsigned_abs (slice_index_or numbers k (pos 0)) < NUMBER_LIMIT
+
+-- A dual that the calls take, with few sets and small numbers.
+pub record IsSmallDual (d : DualLists) : Type 0 where
+  pub sets : length d.z ≤ MAX_SETS
+  pub small_y : AreSmall d.y
+  pub small_z : AreSmall d.z
 
 -- Where the lists have the wrong lengths, or else the least place at which `up` is out of range.
 abbrev pub shape_fault : (n : ℕ) (d : DualLists) → Option ℕ

@@ -1,8 +1,9 @@
 -- Perfect matchings of a graph, and their costs.
-use Rattle.std.specs.Prelude.{◌≡◌, ℕ, ◌+◌, ◌<◌, ◌≢◌, ◌==◌, if◌then◌else◌, List, map, length, ℤ, pos, slice_index_or}
+use Rattle.std.specs.Prelude.{◌≡◌, ℕ, ◌+◌, ◌*◌, ◌<◌, ◌≤◌, ◌≢◌, ◌==◌, if◌then◌else◌, List, map, length, ℤ, pos, unsigned_abs, slice_index_or}
 use Rattle.def_math.specs.Counts.{count}
 use Rattle.def_math.specs.Rising.{IsRising}
 use Rattle.def_math.specs.Sums.{total}
+use Rattle.def_matching.specs.declared.limits.TheConstants.{MAX_EDGES, MAX_PRODUCT, MAX_VERTICES}
 use Rattle.def_matching.specs.declared.weighted.WEdge.{WEdge}
 use Rattle.def_matching.specs.declared.weighted.WGraph.{WGraph}
 
@@ -31,6 +32,16 @@ pub record IsGraph (g : Graph) : Type 0 where
   pub left : (k : EdgeNumber) → k < length g.edges → (edge_at g k).u < g.n
   pub right : (k : EdgeNumber) → k < length g.edges → (edge_at g k).v < g.n
   pub apart : (k : EdgeNumber) → k < length g.edges → (edge_at g k).u ≢ (edge_at g k).v
+
+-- A graph that the calls take, with few vertices and edges.
+pub record IsSmallGraph (g : Graph) : Type 0 where
+  pub lawful : IsGraph g
+  pub vertices : g.n ≤ MAX_VERTICES
+  pub edges : length g.edges ≤ MAX_EDGES
+
+-- No sum of costs overflows: the number of vertices times the cost of an edge is small, up or down.
+abbrev pub IsCheap : (g : Graph) → Type 0
+IsCheap g = (k : EdgeNumber) → k < length g.edges → g.n * unsigned_abs (edge_at g k).cost ≤ MAX_PRODUCT
 
 -- How many ends of an edge are at a vertex.
 abbrev pub ends_at : (v : Vertex) (e : WEdge) → ℕ

@@ -1,3 +1,5 @@
+//! Graphs with costs, duals, and the verdict on a dual.
+
 /// An edge between two vertices, with its cost. Two edges may have the same ends.
 #[derive(Clone, Copy, Debug, PartialEq, Eq)]
 pub struct WEdge {

@@ -6,13 +6,14 @@ mod sets;
 mod work;
 
 use crate::network::{lengths, network};
+use crate::sets::Shape;
 use crate::work::{Task, run};
 use qm_net::{admissible, are_lengths, is_within_bounds, tangle_of};
 use std::env::{self, Env};
 use std::io;
 use std::process::ExitCode;
 
-/// The words are `graph`, `nest` or `tree`, and how often the work is done; with no words, each once.
+/// The words are `graph`, `nest`, `tree` or `comb`, and how often the work is done; with no words, each once.
 fn main(rt: HostRuntime) -> io::Result<ExitCode> {
     let net = network(rt.alloc())?;
     let x = lengths(rt.alloc())?;
@@ -30,7 +31,7 @@ fn main(rt: HostRuntime) -> io::Result<ExitCode> {
     }
     let mut words = env::args(&rt)?.skip(1);
     let Some(name) = words.next() else {
-        for task in [Task::Graph, Task::Nest, Task::Tree] {
+        for task in [Task::Graph, Task::Judge(Shape::Nest), Task::Judge(Shape::Tree), Task::Judge(Shape::Comb)] {
             let told = run(rt.alloc(), &net, &x, task, 1)?;
             println!(rt; "{told}")?;
         }
@@ -38,8 +39,9 @@ fn main(rt: HostRuntime) -> io::Result<ExitCode> {
     };
     let task = match name.as_str() {
         "graph" => Task::Graph,
-        "nest" => Task::Nest,
-        _ => Task::Tree,
+        "nest" => Task::Judge(Shape::Nest),
+        "tree" => Task::Judge(Shape::Tree),
+        _ => Task::Judge(Shape::Comb),
     };
     let times = match words.next() {
         Some(word) => word.parse::<u32>().unwrap_or(1),

@@ -1,22 +1,23 @@
-ghost use Rattle.std.specs.Prelude.{◌^◌, ◌≤◌, length};
+//! The tasks.
+
+ghost use Rattle.std.specs.Prelude.{◌≤◌};
 ghost use Rattle.def_flow.specs.Network.{network, tangle_number, IsWithinBounds};
 ghost use Rattle.def_flow.specs.Admissible.{entries, IsAdmissible};
-ghost use Rattle.def_matching.specs.Matching.{graph, IsGraph};
-ghost use Rattle.def_matching.specs.Dual.{AreSmall};
-ghost use Rattle.qm_net.specs.Lengths.{AreLengths};
+ghost use Rattle.def_matching.specs.Matching.{graph, IsSmallGraph};
+ghost use Rattle.def_flow.specs.Admissible.{AreLengths};
 
-use crate::sets::dual_of;
-use def_flow::Net;
-use def_matching::{Dual, WGraph};
+use crate::sets::{Shape, dual_of};
+use def_flow::{MAX_TANGLE, Net};
+use def_matching::WGraph;
 use qm_dual::dual_ok;
 use qm_gadget::graph_of;
 use std::alloc::{AllocError, Global};
 
+/// The matching graph, or the verdict on a dual over it.
 #[derive(Clone, Copy, Debug, PartialEq, Eq)]
 pub(crate) enum Task {
     Graph,
-    Nest,
-    Tree,
+    Judge(Shape),
 }
 
 /// Does a task as often as is asked, and tells what came of it.
@@ -30,13 +31,15 @@ pub(crate) fn run(
     requires bounds { IsWithinBounds (network net.now) }
     requires lengths { AreLengths net.now.arcs.items x.now }
     requires admissible { IsAdmissible (network net.now) (entries x.now) }
-    requires tangle { tangle_number (network net.now) ≤ 2 ^ 25 }
+    requires tangle { tangle_number (network net.now) ≤ MAX_TANGLE }
 {
-    if task == Task::Graph {
-        return build(alloc, net, x, times);
+    match task {
+        Task::Graph => build(alloc, net, x, times),
+        Task::Judge(shape) => {
+            let gadget = graph_of(alloc, net, x, 1)?;
+            judge(alloc, &gadget.graph, shape, times)
+        }
     }
-    let gadget = graph_of(alloc, net, x, 1)?;
-    judge(alloc, &gadget.graph, task == Task::Nest, times)
 }
 
 /// Builds the matching graph, and tells how many vertices and edges it has.
@@ -44,7 +47,7 @@ fn build(alloc: Global, net: &Net, x: &[u64], times: u32) -> Result<String, Allo
     requires bounds { IsWithinBounds (network net.now) }
     requires lengths { AreLengths net.now.arcs.items x.now }
     requires admissible { IsAdmissible (network net.now) (entries x.now) }
-    requires tangle { tangle_number (network net.now) ≤ 2 ^ 25 }
+    requires tangle { tangle_number (network net.now) ≤ MAX_TANGLE }
 {
     let mut vertices = 0;
     let mut edges = 0;
@@ -57,12 +60,10 @@ fn build(alloc: Global, net: &Net, x: &[u64], times: u32) -> Result<String, Allo
 }
 
 /// Judges a dual over the graph, and tells the verdict.
-fn judge(alloc: Global, g: &WGraph, nest: bool, times: u32) -> Result<String, AllocError>
-    requires vertices { g.now.n ≤ 2 ^ 25 }
-    requires edges { length g.now.edges.items ≤ 2 ^ 30 }
-    requires graph { IsGraph (graph g.now) }
+fn judge(alloc: Global, g: &WGraph, shape: Shape, times: u32) -> Result<String, AllocError>
+    requires { IsSmallGraph (graph g.now) }
 {
-    let dual = dual_of(alloc, g.n, nest)?;
+    let dual = dual_of(alloc, g.n, shape)?;
     let mut verdict = dual_ok(alloc, g, &dual)?;
     for _ in 1..times {
         verdict = dual_ok(alloc, g, &dual)?;

@@ -11,7 +11,7 @@ use Rattle.def_flow.specs.Network.{Network, IsWithinBounds, arc_at, ends}
 use Rattle.def_flow.specs.Admissible.{arc_deviation, deviation, entries}
 use Rattle.def_flow.specs.Units.{low}
 use Rattle.def_flow.specs.declared.net.Arc.{Arc}
-use Rattle.qm_net.specs.Lengths.{AreLengths}
+use Rattle.def_flow.specs.Admissible.{AreLengths}
 use Rattle.qm_net.proofs.Within.{arc_bounded}
 
 -- The deviation of an arc of a network within bounds.

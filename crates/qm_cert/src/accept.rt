@@ -1,15 +1,17 @@
+//! The verdict on a certificate.
+
 ghost use Rattle.std.specs.Prelude.{◌≡◌, ◌^◌, ◌<◌, ◌≤◌, ◌↔◌, ℕ, ℤ, length, slice_index, IfOk};
 ghost use Rattle.def_flow.specs.Network.{network, IsWithinBounds, tangle_number};
 ghost use Rattle.def_flow.specs.Admissible.{entries, IsAdmissible, IsLeast};
 ghost use Rattle.def_flow.specs.MatchingGraph.{matching_graph};
-ghost use Rattle.def_matching.specs.Dual.{dual, verdict, AreSmall};
+ghost use Rattle.def_matching.specs.Dual.{dual, verdict, IsSmallDual};
 ghost use Rattle.def_flow.specs.Accepted.{certificate, cert_verdict, refuse_dual, sums_verdict, IsAccepted};
-ghost use Rattle.qm_net.specs.Lengths.{AreLengths};
+ghost use Rattle.def_flow.specs.Admissible.{AreLengths};
 
 use crate::Memory;
 use crate::list::list_fault;
 use crate::sum::sum_verdict;
-use def_flow::{Cert, CertVerdict, Net};
+use def_flow::{Cert, CertVerdict, MAX_LENGTH, MAX_TANGLE, Net};
 use def_matching::Verdict;
 use qm_dual::dual_ok;
 use qm_gadget::graph_of;
@@ -22,11 +24,9 @@ use std::alloc::Global;
 pub fn accepts(alloc: Global, net: &Net, cert: &Cert) -> Result<CertVerdict, Memory>
     requires bounds { IsWithinBounds (network net.now) }
     requires few { length cert.now.x.items < 2 ^ 32 }
-    requires sets { length cert.now.dual.z.items ≤ 2 ^ 30 }
-    requires short { (k : ℕ) → k < length cert.now.x.items → slice_index cert.now.x.items k ≤ 10 ^ 12 }
-    requires small_y { AreSmall cert.now.dual.y.items }
-    requires small_z { AreSmall cert.now.dual.z.items }
-    requires tangle { tangle_number (network net.now) ≤ 2 ^ 25 }
+    requires short { (k : ℕ) → k < length cert.now.x.items → slice_index cert.now.x.items k ≤ MAX_LENGTH }
+    requires dual { IsSmallDual (dual cert.now.dual) }
+    requires tangle { tangle_number (network net.now) ≤ MAX_TANGLE }
     ensures exact { IfOk result (λ v. v ≡ cert_verdict (network net.now) (certificate cert.now)) }
     // Yes comes exactly where the certificate is accepted.
     ensures accepted { IfOk result (λ v. ((d : ℤ) × (v ≡ CertVerdict.Yes d)) ↔ IsAccepted (network net.now) (certificate cert.now)) }
@@ -45,10 +45,8 @@ fn judge_dual(alloc: Global, net: &Net, cert: &Cert) -> Result<CertVerdict, Memo
     requires bounds { IsWithinBounds (network net.now) }
     requires lengths { AreLengths net.now.arcs.items cert.now.x.items }
     requires admissible { IsAdmissible (network net.now) (entries cert.now.x.items) }
-    requires sets { length cert.now.dual.z.items ≤ 2 ^ 30 }
-    requires small_y { AreSmall cert.now.dual.y.items }
-    requires small_z { AreSmall cert.now.dual.z.items }
-    requires tangle { tangle_number (network net.now) ≤ 2 ^ 25 }
+    requires dual { IsSmallDual (dual cert.now.dual) }
+    requires tangle { tangle_number (network net.now) ≤ MAX_TANGLE }
     ensures { IfOk result (λ v. v ≡ refuse_dual (verdict (matching_graph (network net.now) 1 cert.now.x.items) (dual cert.now.dual)) (sums_verdict (network net.now) (certificate cert.now))) }
 {
     let gadget = graph_of(alloc, net, &cert.x, 1)?;

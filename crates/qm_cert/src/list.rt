@@ -1,11 +1,13 @@
+//! The first fault of a list.
+
 ghost use Rattle.std.specs.Prelude.{◌≡◌, ℕ, ◌^◌, ◌<◌, ◌≤◌, length, slice_index, IfOk, IfNone};
 ghost use Rattle.def_flow.specs.Network.{network, IsWithinBounds};
 ghost use Rattle.def_flow.specs.Admissible.{entries, IsAdmissible, IsBalanced};
-ghost use Rattle.qm_net.specs.Lengths.{AreLengths};
+ghost use Rattle.def_flow.specs.Admissible.{AreLengths};
 ghost use Rattle.qm_cert.specs.Faults.{compared_verdict, list_verdict, unequal_verdict};
 
 use crate::sides::{first_below, first_difference, side_sums};
-use def_flow::{CertVerdict, Net};
+use def_flow::{CertVerdict, MAX_LENGTH, Net};
 use std::alloc::{AllocError, Global};
 
 /// The first fault of a list: lengths are missing or too many, an arc is shorter than the floor, or the sides of a
@@ -17,7 +19,7 @@ pub(crate) fn list_fault(
 ) -> Result<Option<CertVerdict>, AllocError>
     requires bounds { IsWithinBounds (network net.now) }
     requires few { length x.now < 2 ^ 32 }
-    requires short { (k : ℕ) → k < length x.now → slice_index x.now k ≤ 10 ^ 12 }
+    requires short { (k : ℕ) → k < length x.now → slice_index x.now k ≤ MAX_LENGTH }
     ensures verdict { IfOk result (λ o. o ≡ list_verdict (network net.now) x.now) }
 {
     if x.len() != net.arcs.len() {

@@ -1,10 +1,12 @@
+//! The sums on the sides of the nodes, and searches.
+
 ghost use Rattle.std.specs.Prelude.{◌≡◌, ◌+◌, ◌*◌, ◌^◌, ◌<◌, ◌≤◌, ◌==◌, ℕ, not, cond, length, replicate, slice_index, nat_lt, IfOk, IfSome};
 ghost use Rattle.def_math.specs.Searches.{least};
 ghost use Rattle.def_flow.specs.Network.{network, IsWithinBounds};
-ghost use Rattle.qm_net.specs.Lengths.{AreLengths};
+ghost use Rattle.def_flow.specs.Admissible.{AreLengths};
 ghost use Rattle.qm_cert.specs.Sides.{added, added_arc, AreSides};
 
-use def_flow::{Arc, End, Net};
+use def_flow::{Arc, End, MAX_LENGTH, Net};
 use std::alloc::{AllocError, Global};
 
 /// For each node the sum of the lengths at its ends on one side. Linear.
@@ -40,7 +42,7 @@ fn add_arcs(net: &Net, x: &[u64], plus: bool, sums: &mut [u128])
 fn add_arc(sums: &mut [u128], arc: &Arc, amount: u64, plus: bool)
     requires left { arc.now.left.node < length sums.old }
     requires right { IfSome arc.now.right (λ e. e.node < length sums.old) }
-    requires short { amount ≤ 10 ^ 12 }
+    requires short { amount ≤ MAX_LENGTH }
     requires small { (v : ℕ) → slice_index sums.old v ≤ 2 ^ 100 }
     ensures { sums.new ≡ added_arc plus arc.now amount sums.old }
 {
@@ -53,7 +55,7 @@ fn add_arc(sums: &mut [u128], arc: &Arc, amount: u64, plus: bool)
 /// Adds a length at an end, if this is on the side.
 fn add_end(sums: &mut [u128], end: &End, amount: u64, plus: bool)
     requires at { end.now.node < length sums.old }
-    requires short { amount ≤ 10 ^ 12 }
+    requires short { amount ≤ MAX_LENGTH }
     requires small { (v : ℕ) → slice_index sums.old v ≤ 2 ^ 101 }
     ensures { sums.new ≡ added plus end.now amount sums.old }
 {

@@ -1,10 +1,12 @@
+//! The sum of a dual against twice the cost.
+
 ghost use Rattle.std.specs.Prelude.{◌≡◌, ◌^◌, ◌≤◌, pos, ◌-ℤ◌, ◌*ℤ◌, if◌then◌else◌, map, unsigned_abs};
 ghost use Rattle.std.specs.Ordering.{int_eq};
 ghost use Rattle.def_flow.specs.Network.{network, IsWithinBounds};
 ghost use Rattle.def_flow.specs.Units.{low};
 ghost use Rattle.def_matching.specs.Dual.{dual_sum};
 ghost use Rattle.def_flow.specs.Accepted.{certificate, sums_verdict};
-ghost use Rattle.qm_net.specs.Lengths.{AreLengths};
+ghost use Rattle.def_flow.specs.Admissible.{AreLengths};
 
 use def_flow::{Cert, CertVerdict, Net};
 use qm_net::deviation;

@@ -2,6 +2,7 @@ mod Climbs
 mod Gathered
 mod Meets
 mod OnPaths
+mod Picks
 mod Tallies
 pub mod Weak
 pub mod Verdicts

@@ -6,7 +6,7 @@ use Rattle.std.proofs.lemmas.List.{get_or_past, length-set, length-replicate, ge
 use Rattle.def_math.specs.Counts.{count_below}
 use Rattle.qm_laws.proofs.Counts.{count_below_same, count_below_sum}
 use Rattle.def_matching.specs.Dual.{DualLists, IsNested, set_size}
-use Rattle.qm_dual.specs.Nest.{climbs, passed, tally, added, AreTallies, AreSizes}
+use Rattle.qm_dual.specs.Nest.{climbs, stand_of, tally, tally_with, AreTallies, AreSizes}
 use Rattle.qm_dual.proofs.Climbs.{set_later, entry_low, climb_on, climb_none, passed_later}
 
 -- A count of tests is at most the number of things tested.
@@ -19,61 +19,61 @@ tests_low p (suc n) = omega (arith, one (p n), tests_low p n)
     one false = omega arith
 
 -- A climb stands at no set below the ones that passed on, and at one of the sets.
-pub stands_later : (n m : ℕ) (up : List ℕ) → IsNested n m up → (t entry : ℕ) → entry ≤ m → ((passed n up t entry ≡ 0) ⊎ (t < passed n up t entry)) × (passed n up t entry ≤ m)
+pub stands_later : (n m : ℕ) (up : List ℕ) → IsNested n m up → (t entry : ℕ) → entry ≤ m → ((stand_of n up t entry ≡ 0) ⊎ (t < stand_of n up t entry)) × (stand_of n up t entry ≤ m)
 stands_later n m up nested zero entry low = (grind arith, low)
-stands_later n m up nested (suc t) entry low = by_test (cases_eq (passed n up t entry) (suc t)) (stands_later n m up nested t entry low)
+stands_later n m up nested (suc t) entry low = by_test (cases_eq (stand_of n up t entry) (suc t)) (stands_later n m up nested t entry low)
   where
-    by_test : (passed n up t entry ≡ suc t) ⊎ (passed n up t entry ≡ suc t → ⊥) → ((passed n up t entry ≡ 0) ⊎ (t < passed n up t entry)) × (passed n up t entry ≤ m) → ((passed n up (suc t) entry ≡ 0) ⊎ (suc t < passed n up (suc t) entry)) × (passed n up (suc t) entry ≤ m)
+    by_test : (stand_of n up t entry ≡ suc t) ⊎ (stand_of n up t entry ≡ suc t → ⊥) → ((stand_of n up t entry ≡ 0) ⊎ (t < stand_of n up t entry)) × (stand_of n up t entry ≤ m) → ((stand_of n up (suc t) entry ≡ 0) ⊎ (suc t < stand_of n up (suc t) entry)) × (stand_of n up (suc t) entry ≤ m)
     by_test (inl e) before =
-        let is : passed n up (suc t) entry ≡ slice_index up (n + t) = cond-true _ _ _ (eq-eqb (passed n up t entry) (suc t) e) in
+        let is : stand_of n up (suc t) entry ≡ slice_index up (n + t) = cond-true _ _ _ (eq-eqb (stand_of n up t entry) (suc t) e) in
         let p : (slice_index up (n + t) ≡ 0) ⊎ ((t + 1 < slice_index up (n + t)) × (slice_index up (n + t) ≤ m)) = set_later n m up nested t in
         elim p [ inl z ↦ (inl (is ∙ z), omega arith) | inr h ↦ (inr (omega arith), omega arith) ]
     by_test (inr ne) before =
-        let is : passed n up (suc t) entry ≡ passed n up t entry = cond-false _ _ _ (ne_eqb (passed n up t entry) (suc t) ne) in
+        let is : stand_of n up (suc t) entry ≡ stand_of n up t entry = cond-false _ _ _ (ne_eqb (stand_of n up t entry) (suc t) ne) in
         elim before.0 [ inl z ↦ (inl (is ∙ z), omega arith) | inr h ↦ (inr (omega arith), omega arith) ]
 
 -- Passing on changes nothing for the later sets.
-pub climb_from_stand : (n m : ℕ) (up : List ℕ) → IsNested n m up → (t k entry : ℕ) → t ≤ k → k < m → climbs n up m k (passed n up t entry) ≡ climbs n up m k entry
+pub climb_from_stand : (n m : ℕ) (up : List ℕ) → IsNested n m up → (t k entry : ℕ) → t ≤ k → k < m → climbs n up m k (stand_of n up t entry) ≡ climbs n up m k entry
 climb_from_stand n m up nested zero k entry le l = refl
-climb_from_stand n m up nested (suc t) k entry le l = by_test (cases_eq (passed n up t entry) (suc t)) ∙ climb_from_stand n m up nested t k entry (omega arith) l
+climb_from_stand n m up nested (suc t) k entry le l = by_test (cases_eq (stand_of n up t entry) (suc t)) ∙ climb_from_stand n m up nested t k entry (omega arith) l
   where
-    by_test : (passed n up t entry ≡ suc t) ⊎ (passed n up t entry ≡ suc t → ⊥) → climbs n up m k (passed n up (suc t) entry) ≡ climbs n up m k (passed n up t entry)
+    by_test : (stand_of n up t entry ≡ suc t) ⊎ (stand_of n up t entry ≡ suc t → ⊥) → climbs n up m k (stand_of n up (suc t) entry) ≡ climbs n up m k (stand_of n up t entry)
     by_test (inl e) =
-        let is : passed n up (suc t) entry ≡ slice_index up (n + t) = cond-true _ _ _ (eq-eqb (passed n up t entry) (suc t) e) in
+        let is : stand_of n up (suc t) entry ≡ slice_index up (n + t) = cond-true _ _ _ (eq-eqb (stand_of n up t entry) (suc t) e) in
         let off : (t == k) ≡ false = ne_eqb t k (λ same. omega arith) in
         let on : climbs n up m k (suc t) ≡ climbs n up m k (slice_index up (n + t)) = climb_on n m up nested k t (omega arith) ∙ ap (λ x. x || climbs n up m k (slice_index up (n + t))) off in
         ap (climbs n up m k) is ∙ (sym on ∙ ap (climbs n up m k) (sym e))
-    by_test (inr ne) = ap (climbs n up m k) (cond-false _ _ _ (ne_eqb (passed n up t entry) (suc t) ne))
+    by_test (inr ne) = ap (climbs n up m k) (cond-false _ _ _ (ne_eqb (stand_of n up t entry) (suc t) ne))
 
 -- A climb passes a set exactly if it stands there when the sets below it have passed on.
-pub climb_stands : (n m : ℕ) (up : List ℕ) → IsNested n m up → (k entry : ℕ) → entry ≤ m → k < m → (passed n up k entry == suc k) ≡ climbs n up m k entry
+pub climb_stands : (n m : ℕ) (up : List ℕ) → IsNested n m up → (k entry : ℕ) → entry ≤ m → k < m → (stand_of n up k entry == suc k) ≡ climbs n up m k entry
 climb_stands n m up nested k entry low l = by_stand (stands_later n m up nested k entry low) ∙ climb_from_stand n m up nested k k entry (omega arith) l
   where
-    by_stand : ((passed n up k entry ≡ 0) ⊎ (k < passed n up k entry)) × (passed n up k entry ≤ m) → (passed n up k entry == suc k) ≡ climbs n up m k (passed n up k entry)
-    by_stand (inl z, high) = ne_eqb (passed n up k entry) (suc k) (λ e. omega arith) ∙ sym (ap (climbs n up m k) z ∙ climb_none n up m k)
-    by_stand (inr later, high) = elim (cases_eq (passed n up k entry) (suc k)) [
-      | inl e ↦ eq-eqb (passed n up k entry) (suc k) e ∙ sym (ap (climbs n up m k) e ∙ (climb_on n m up nested k k l ∙ ap (λ x. x || climbs n up m k (slice_index up (n + k))) (eq-eqb k k refl)))
-      | inr ne ↦ ne_eqb (passed n up k entry) (suc k) ne ∙ sym (false_from_ne_true _ (λ on. omega (arith, passed_later n m up nested m k (passed n up k entry) on)))
+    by_stand : ((stand_of n up k entry ≡ 0) ⊎ (k < stand_of n up k entry)) × (stand_of n up k entry ≤ m) → (stand_of n up k entry == suc k) ≡ climbs n up m k (stand_of n up k entry)
+    by_stand (inl z, high) = ne_eqb (stand_of n up k entry) (suc k) (λ e. omega arith) ∙ sym (ap (climbs n up m k) z ∙ climb_none n up m k)
+    by_stand (inr later, high) = elim (cases_eq (stand_of n up k entry) (suc k)) [
+      | inl e ↦ eq-eqb (stand_of n up k entry) (suc k) e ∙ sym (ap (climbs n up m k) e ∙ (climb_on n m up nested k k l ∙ ap (λ x. x || climbs n up m k (slice_index up (n + k))) (eq-eqb k k refl)))
+      | inr ne ↦ ne_eqb (stand_of n up k entry) (suc k) ne ∙ sym (false_from_ne_true _ (λ on. omega (arith, passed_later n m up nested m k (stand_of n up k entry) on)))
     ]
 
 -- What a set passes on comes to the set around it, and to no other.
-pub passed_step : (n : ℕ) (up : List ℕ) (k j entry : ℕ) → j ≢ k → cond (passed n up (suc k) entry == suc j) 1 0 ≡ cond (passed n up k entry == suc j) 1 0 + cond (slice_index up (n + k) == suc j) (cond (passed n up k entry == suc k) 1 0) 0
-passed_step n up k j entry other = elim (cases_eq (passed n up k entry) (suc k)) [ inl e ↦ here e | inr ne ↦ there ne ]
+pub stand_step : (n : ℕ) (up : List ℕ) (k j entry : ℕ) → j ≢ k → cond (stand_of n up (suc k) entry == suc j) 1 0 ≡ cond (stand_of n up k entry == suc j) 1 0 + cond (slice_index up (n + k) == suc j) (cond (stand_of n up k entry == suc k) 1 0) 0
+stand_step n up k j entry other = elim (cases_eq (stand_of n up k entry) (suc k)) [ inl e ↦ here e | inr ne ↦ there ne ]
   where
-    here : passed n up k entry ≡ suc k → cond (passed n up (suc k) entry == suc j) 1 0 ≡ cond (passed n up k entry == suc j) 1 0 + cond (slice_index up (n + k) == suc j) (cond (passed n up k entry == suc k) 1 0) 0
+    here : stand_of n up k entry ≡ suc k → cond (stand_of n up (suc k) entry == suc j) 1 0 ≡ cond (stand_of n up k entry == suc j) 1 0 + cond (slice_index up (n + k) == suc j) (cond (stand_of n up k entry == suc k) 1 0) 0
     here e =
-        let on : (passed n up k entry == suc k) ≡ true = eq-eqb (passed n up k entry) (suc k) e in
-        let off : (passed n up k entry == suc j) ≡ false = ne_eqb (passed n up k entry) (suc j) (λ same. other (omega arith)) in
+        let on : (stand_of n up k entry == suc k) ≡ true = eq-eqb (stand_of n up k entry) (suc k) e in
+        let off : (stand_of n up k entry == suc j) ≡ false = ne_eqb (stand_of n up k entry) (suc j) (λ same. other (omega arith)) in
         rw (on, off) (by_test (slice_index up (n + k) == suc j))
       where
         by_test : (b : Bool) → cond b 1 0 ≡ 0 + cond b 1 0
         by_test true = refl
         by_test false = refl
 
-    there : (passed n up k entry ≡ suc k → ⊥) → cond (passed n up (suc k) entry == suc j) 1 0 ≡ cond (passed n up k entry == suc j) 1 0 + cond (slice_index up (n + k) == suc j) (cond (passed n up k entry == suc k) 1 0) 0
+    there : (stand_of n up k entry ≡ suc k → ⊥) → cond (stand_of n up (suc k) entry == suc j) 1 0 ≡ cond (stand_of n up k entry == suc j) 1 0 + cond (slice_index up (n + k) == suc j) (cond (stand_of n up k entry == suc k) 1 0) 0
     there ne =
-        let off : (passed n up k entry == suc k) ≡ false = ne_eqb (passed n up k entry) (suc k) ne in
-        rw off (by_test (cond (passed n up k entry == suc j) 1 0) (slice_index up (n + k) == suc j))
+        let off : (stand_of n up k entry == suc k) ≡ false = ne_eqb (stand_of n up k entry) (suc k) ne in
+        rw off (by_test (cond (stand_of n up k entry == suc j) 1 0) (slice_index up (n + k) == suc j))
       where
         by_test : (x : ℕ) (b : Bool) → x ≡ x + cond b 0 0
         by_test x true = omega arith
@@ -82,15 +82,15 @@ passed_step n up k j entry other = elim (cases_eq (passed n up k entry) (suc k))
 -- A tally when one more set has passed on.
 pub tally_step : (n : ℕ) (up : List ℕ) (vertices k j : ℕ) → j ≢ k → tally n up vertices (suc k) j ≡ tally n up vertices k j + cond (slice_index up (n + k) == suc j) (tally n up vertices k k) 0
 tally_step n up vertices k j other =
-    count_below_same _ _ vertices (λ v l. passed_step n up k j (slice_index up v) other)
-    ∙ (count_below_sum (λ v. cond (passed n up k (slice_index up v) == suc j) 1 0) (λ v. cond (slice_index up (n + k) == suc j) (cond (passed n up k (slice_index up v) == suc k) 1 0) 0) vertices
+    count_below_same _ _ vertices (λ v l. stand_step n up k j (slice_index up v) other)
+    ∙ (count_below_sum (λ v. cond (stand_of n up k (slice_index up v) == suc j) 1 0) (λ v. cond (slice_index up (n + k) == suc j) (cond (stand_of n up k (slice_index up v) == suc k) 1 0) 0) vertices
     ∙ ap (λ x. tally n up vertices k j + x) (by_test (slice_index up (n + k) == suc j)))
   where
     none : (i : ℕ) → count_below (λ v. 0) i ≡ 0
     none zero = refl
     none (suc i) = omega (arith, none i)
 
-    by_test : (b : Bool) → count_below (λ v. cond b (cond (passed n up k (slice_index up v) == suc k) 1 0) 0) vertices ≡ cond b (tally n up vertices k k) 0
+    by_test : (b : Bool) → count_below (λ v. cond b (cond (stand_of n up k (slice_index up v) == suc k) 1 0) 0) vertices ≡ cond b (tally n up vertices k k) 0
     by_test true = refl
     by_test false = none vertices
 
@@ -101,7 +101,7 @@ tally_size n d nested k l = count_below_same _ _ n (λ v lv. ap (λ b. cond b 1 
 -- Tallies are no greater than the number of vertices.
 pub tallies_low : (n m : ℕ) (up : List ℕ) (vertices : ℕ) (t : ℕ → ℕ) (sizes : List ℕ) → AreTallies n m up vertices t sizes → (k : ℕ) → slice_index sizes k ≤ vertices
 tallies_low n m up vertices t sizes are k = elim (cases_lt k m) [
-  | inl l ↦ omega (arith, are.each k l, tests_low (λ v. passed n up (t k) (slice_index up v) == suc k) vertices)
+  | inl l ↦ omega (arith, are.each k l, tests_low (λ v. stand_of n up (t k) (slice_index up v) == suc k) vertices)
   | inr h ↦ omega (arith, get_or_past sizes k 0 (omega (arith, are.count)))
 ]
 
@@ -109,18 +109,18 @@ tallies_low n m up vertices t sizes are k = elim (cases_lt k m) [
 pub tallies_none : (n m : ℕ) (up : List ℕ) (t : ℕ → ℕ) → AreTallies n m up 0 t (replicate m 0)
 tallies_none n m up t = record { count = length-replicate m 0; each = λ k l. get_or-replicate m k 0 0 l }
 
-length_added : (sizes : List ℕ) (entry more : ℕ) → length (added sizes entry more) ≡ length sizes
-length_added sizes zero more = refl
-length_added sizes (suc q) more = length-set sizes q (slice_index sizes q + more)
+length_with : (sizes : List ℕ) (entry more : ℕ) → length (tally_with sizes entry more) ≡ length sizes
+length_with sizes zero more = refl
+length_with sizes (suc q) more = length-set sizes q (slice_index sizes q + more)
 
 -- One vertex more.
-pub tallies_more : (n m : ℕ) (up : List ℕ) (v : ℕ) (sizes : List ℕ) → AreTallies n m up v (λ k. 0) sizes → slice_index up v ≤ m → AreTallies n m up (v + 1) (λ k. 0) (added sizes (slice_index up v) 1)
-tallies_more n m up v sizes are low = record { count = length_added sizes (slice_index up v) 1 ∙ are.count; each = λ k l. at_entry k l (slice_index up v) refl low }
+pub tallies_more : (n m : ℕ) (up : List ℕ) (v : ℕ) (sizes : List ℕ) → AreTallies n m up v (λ k. 0) sizes → slice_index up v ≤ m → AreTallies n m up (v + 1) (λ k. 0) (tally_with sizes (slice_index up v) 1)
+tallies_more n m up v sizes are low = record { count = length_with sizes (slice_index up v) 1 ∙ are.count; each = λ k l. at_entry k l (slice_index up v) refl low }
   where
-    at_entry : (k : ℕ) → k < m → (entry : ℕ) → slice_index up v ≡ entry → entry ≤ m → slice_index (added sizes entry 1) k ≡ tally n up (v + 1) 0 k
+    at_entry : (k : ℕ) → k < m → (entry : ℕ) → slice_index up v ≡ entry → entry ≤ m → slice_index (tally_with sizes entry 1) k ≡ tally n up (v + 1) 0 k
     at_entry k l entry is low = rw (add-one v) (by_entry entry is low)
       where
-        by_entry : (e : ℕ) → slice_index up v ≡ e → e ≤ m → slice_index (added sizes e 1) k ≡ tally n up v 0 k + cond (slice_index up v == suc k) 1 0
+        by_entry : (e : ℕ) → slice_index up v ≡ e → e ≤ m → slice_index (tally_with sizes e 1) k ≡ tally n up v 0 k + cond (slice_index up v == suc k) 1 0
         by_entry zero is low = let off : (slice_index up v == suc k) ≡ false = ne_eqb (slice_index up v) (suc k) (λ e. omega arith) in rw off (omega (arith, are.each k l))
         by_entry (suc q) is low = elim (cases_eq k q) [
           | inl e ↦ at_set e
@@ -128,28 +128,28 @@ tallies_more n m up v sizes are low = record { count = length_added sizes (slice
               rw off (omega (arith, are.each k l, get_or-set_other sizes q k (slice_index sizes q + 1) 0 ne))
         ]
           where
-            at_set : k ≡ q → slice_index (added sizes (suc q) 1) k ≡ tally n up v 0 k + cond (slice_index up v == suc k) 1 0
+            at_set : k ≡ q → slice_index (tally_with sizes (suc q) 1) k ≡ tally n up v 0 k + cond (slice_index up v == suc k) 1 0
             at_set e =
                 let on : (slice_index up v == suc k) ≡ true = eq-eqb (slice_index up v) (suc k) (is ∙ ap suc (sym e)) in
-                let same : slice_index (added sizes (suc q) 1) k ≡ slice_index sizes q + 1 = ap (slice_index (added sizes (suc q) 1)) e ∙ get_or-set_same sizes q (slice_index sizes q + 1) 0 (omega (arith, are.count)) in
+                let same : slice_index (tally_with sizes (suc q) 1) k ≡ slice_index sizes q + 1 = ap (slice_index (tally_with sizes (suc q) 1)) e ∙ get_or-set_same sizes q (slice_index sizes q + 1) 0 (omega (arith, are.count)) in
                 let old : slice_index sizes q ≡ tally n up v 0 k = ap (slice_index sizes) (sym e) ∙ are.each k l in
                 rw on (omega (arith, same, old))
 
 -- One set more has passed on what it holds.
-pub tallies_pass : (n m : ℕ) (up : List ℕ) → IsNested n m up → (k : ℕ) (sizes : List ℕ) → k < m → AreTallies n m up n (λ j. min j k) sizes → AreTallies n m up n (λ j. min j (k + 1)) (added sizes (slice_index up (n + k)) (slice_index sizes k))
-tallies_pass n m up nested k sizes lk are = record { count = length_added sizes (slice_index up (n + k)) (slice_index sizes k) ∙ are.count; each = λ j l. by_order j l (cases_lt k j) }
+pub tallies_pass : (n m : ℕ) (up : List ℕ) → IsNested n m up → (k : ℕ) (sizes : List ℕ) → k < m → AreTallies n m up n (λ j. min j k) sizes → AreTallies n m up n (λ j. min j (k + 1)) (tally_with sizes (slice_index up (n + k)) (slice_index sizes k))
+tallies_pass n m up nested k sizes lk are = record { count = length_with sizes (slice_index up (n + k)) (slice_index sizes k) ∙ are.count; each = λ j l. by_order j l (cases_lt k j) }
   where
-    unmoved : (j : ℕ) → (slice_index up (n + k) ≡ suc j → ⊥) → (entry : ℕ) → slice_index up (n + k) ≡ entry → slice_index (added sizes entry (slice_index sizes k)) j ≡ slice_index sizes j
+    unmoved : (j : ℕ) → (slice_index up (n + k) ≡ suc j → ⊥) → (entry : ℕ) → slice_index up (n + k) ≡ entry → slice_index (tally_with sizes entry (slice_index sizes k)) j ≡ slice_index sizes j
     unmoved j other zero is = refl
     unmoved j other (suc q) is = get_or-set_other sizes q j (slice_index sizes q + slice_index sizes k) 0 (λ e. other (is ∙ ap suc (sym e)))
 
-    moved : (j : ℕ) → j < m → (entry : ℕ) → entry ≡ suc j → slice_index (added sizes entry (slice_index sizes k)) j ≡ slice_index sizes j + slice_index sizes k
+    moved : (j : ℕ) → j < m → (entry : ℕ) → entry ≡ suc j → slice_index (tally_with sizes entry (slice_index sizes k)) j ≡ slice_index sizes j + slice_index sizes k
     moved j l zero is = absurd (omega arith)
     moved j l (suc q) is =
         let e : q ≡ j = omega arith in
-        subst (λ (i : ℕ). slice_index (added sizes (suc i) (slice_index sizes k)) j ≡ slice_index sizes j + slice_index sizes k) (sym e) (get_or-set_same sizes j (slice_index sizes j + slice_index sizes k) 0 (omega (arith, are.count)))
+        subst (λ (i : ℕ). slice_index (tally_with sizes (suc i) (slice_index sizes k)) j ≡ slice_index sizes j + slice_index sizes k) (sym e) (get_or-set_same sizes j (slice_index sizes j + slice_index sizes k) 0 (omega (arith, are.count)))
 
-    by_order : (j : ℕ) → j < m → (k < j) ⊎ (j ≤ k) → slice_index (added sizes (slice_index up (n + k)) (slice_index sizes k)) j ≡ tally n up n (min j (k + 1)) j
+    by_order : (j : ℕ) → j < m → (k < j) ⊎ (j ≤ k) → slice_index (tally_with sizes (slice_index up (n + k)) (slice_index sizes k)) j ≡ tally n up n (min j (k + 1)) j
     by_order j l (inl after) = elim (cases_eq (slice_index up (n + k)) (suc j)) [ inl e ↦ here e | inr ne ↦ there ne ]
       where
         old : slice_index sizes j ≡ tally n up n k j
@@ -161,12 +161,12 @@ tallies_pass n m up nested k sizes lk are = record { count = length_added sizes 
         step : tally n up n (min j (k + 1)) j ≡ tally n up n k j + cond (slice_index up (n + k) == suc j) (tally n up n k k) 0
         step = let is : min j (k + 1) ≡ suc k = omega arith in ap (λ i. tally n up n i j) is ∙ tally_step n up n k j (λ e. omega arith)
 
-        here : slice_index up (n + k) ≡ suc j → slice_index (added sizes (slice_index up (n + k)) (slice_index sizes k)) j ≡ tally n up n (min j (k + 1)) j
+        here : slice_index up (n + k) ≡ suc j → slice_index (tally_with sizes (slice_index up (n + k)) (slice_index sizes k)) j ≡ tally n up n (min j (k + 1)) j
         here e =
             let on : cond (slice_index up (n + k) == suc j) (tally n up n k k) 0 ≡ tally n up n k k = cond-true _ _ _ (eq-eqb (slice_index up (n + k)) (suc j) e) in
             omega (arith, moved j l (slice_index up (n + k)) e, old, own, step, on)
 
-        there : (slice_index up (n + k) ≡ suc j → ⊥) → slice_index (added sizes (slice_index up (n + k)) (slice_index sizes k)) j ≡ tally n up n (min j (k + 1)) j
+        there : (slice_index up (n + k) ≡ suc j → ⊥) → slice_index (tally_with sizes (slice_index up (n + k)) (slice_index sizes k)) j ≡ tally n up n (min j (k + 1)) j
         there ne =
             let off : cond (slice_index up (n + k) == suc j) (tally n up n k k) 0 ≡ 0 = cond-false _ _ _ (ne_eqb (slice_index up (n + k)) (suc j) ne) in
             omega (arith, unmoved j ne (slice_index up (n + k)) refl, old, step, off)

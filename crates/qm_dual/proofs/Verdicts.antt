@@ -1,5 +1,5 @@
 -- The verdict yes is that the dual says yes.
-use Rattle.std.proofs.Common.{◌≡◌, ℕ, ◌+◌, ◌<◌, ◌≢◌, ◌==◌, Bool, true, false, not, cond, List, length, ℤ, pos, ◌*ℤ◌, ◌≤ℤ◌, Option, Some, None, IfNone, Result, Ok, Err, IfOk, refl, sym, ◌∙◌, ap, arith}
+use Rattle.std.proofs.Common.{◌≡◌, ℕ, ◌+◌, ◌<◌, ◌≢◌, ◌==◌, Bool, true, false, not, cond, List, length, ℤ, pos, ◌*ℤ◌, ◌≤ℤ◌, ◌^◌, ◌≤◌, Option, Some, None, IfNone, Result, Ok, Err, IfOk, refl, sym, ◌∙◌, ap, arith}
 use Rattle.std.proofs.lemmas.Int.{ints}
 use Rattle.std.proofs.lemmas.Bool.{eq-eqb}
 use Rattle.std.proofs.lemmas.Bool.Decides.{nat_tests}
@@ -10,7 +10,7 @@ use Rattle.def_matching.specs.declared.weighted.Verdict.{Verdict}
 use Rattle.def_matching.specs.declared.weighted.Verdict.TheVariants.{Yes, Shape, Even, Negative, Short}
 use Rattle.def_matching.specs.Matching.{Graph, IsGraph, edge_at, IsPerfect, matching_cost}
 use Rattle.def_matching.specs.Dual.{DualLists, IsNested, SaysYes, set_size, is_odd_size, is_up, load, z_at, dual_sum, shape_fault, even_fault, negative_fault, short_fault, refuse, verdict}
-use Rattle.qm_dual.specs.Nest.{AreSizes}
+use Rattle.qm_dual.specs.Nest.{AreSizes, IsNest}
 use Rattle.qm_dual.proofs.Weak.{weak_duality}
 
 -- Where the verdict is yes, nothing was refused, and what comes after is yes.
@@ -120,6 +120,11 @@ yes_bounds g d v is value s here m perfect =
 pub nested_where_placed : (n m : ℕ) (up : List ℕ) (o : Option ℕ) → length up ≡ n + m → o ≡ least (λ i. not (is_up n m i (slice_index up i))) (n + m) → IfNone o (IsNested n m up)
 nested_where_placed n m up (Some k) long is = tt
 nested_where_placed n m up None long is = record { entries = long; later = λ i l. not_false (is_up n m i (slice_index up i)) (none_below (λ j. not (is_up n m j (slice_index up j))) (n + m) (sym is) i l) }
+
+-- Few sets that are nested.
+pub nest_where_placed : (n : ℕ) (d : DualLists) (o : Option ℕ) → n ≤ 2 ^ 25 → length d.z ≤ 2 ^ 30 → IfNone o (IsNested n (length d.z) d.up) → IfNone o (IsNest n d)
+nest_where_placed n d None few sets nested = record { few = few; sets = sets; nested = nested }
+nest_where_placed n d (Some k) few sets nested = tt
 
 -- The refusal of the least edge whose load is too great.
 pub short_found : (g : Graph) (d : DualLists) (k : ℕ) (sum cost : ℤ) → k < length g.edges → ((j : ℕ) → j < k → int_lt (pos 2 *ℤ (edge_at g j).cost) (load g.n d (edge_at g j)) ≡ false)

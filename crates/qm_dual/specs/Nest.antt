@@ -1,22 +1,29 @@
 -- What the tables over the nested sets of a dual hold.
-use Rattle.std.specs.Prelude.{◌≡◌, ℕ, zero, suc, ◌+◌, ◌-◌, ◌<◌, ◌≤◌, ◌⊎◌, ◌==◌, ◌&&◌, Bool, not, if◌then◌else◌, List, length, ℤ, pos, slice_index, slice_index_or, slice_set}
+use Rattle.std.specs.Prelude.{◌≡◌, ℕ, zero, suc, ◌+◌, ◌-◌, ◌<◌, ◌≤◌, ◌≢◌, ◌⊎◌, ◌==◌, ◌&&◌, ◌||◌, nat_lt, Bool, not, if◌then◌else◌, List, length, ℤ, pos, slice_index, slice_index_or, slice_set}
 use Rattle.std.specs.List.{list_any}
 use Rattle.def_math.specs.Counts.{count_below}
 use Rattle.def_math.specs.Sums.{total_below}
-use Rattle.def_matching.specs.Dual.{DualLists, sets_from, set_size, z_at}
+use Rattle.def_matching.specs.Dual.{DualLists, IsNested, sets_from, set_size, z_at}
+use Rattle.def_matching.specs.declared.limits.TheConstants.{MAX_SETS, MAX_VERTICES}
+
+-- Few vertices and few sets, which are nested.
+pub record IsNest (n : ℕ) (d : DualLists) : Type 0 where
+  pub few : n ≤ MAX_VERTICES
+  pub sets : length d.z ≤ MAX_SETS
+  pub nested : IsNested n (length d.z) d.up
 
 -- A climb from an entry passes set k within so many steps: it is one of the sets that the entry names.
 abbrev pub climbs : (n : ℕ) (up : List ℕ) (steps k entry : ℕ) → Bool
 climbs n up steps k entry = list_any (λ j. j == k) (sets_from n up steps entry)
 
 -- Where a climb from an entry stands when the sets below k have passed on what they hold.
-abbrev pub passed : ℕ → List ℕ → ℕ → ℕ → ℕ
-passed n up zero entry = entry
-passed n up (suc k) entry = if passed n up k entry == suc k then slice_index up (n + k) else passed n up k entry
+abbrev pub stand_of : ℕ → List ℕ → ℕ → ℕ → ℕ
+stand_of n up zero entry = entry
+stand_of n up (suc k) entry = if stand_of n up k entry == suc k then slice_index up (n + k) else stand_of n up k entry
 
 -- How many of the first vertices stand at set k, when the sets below t have passed on what they hold.
 abbrev pub tally : ℕ → List ℕ → ℕ → ℕ → ℕ → ℕ
-tally n up vertices t k = count_below (λ v. if passed n up t (slice_index up v) == suc k then 1 else 0) vertices
+tally n up vertices t k = count_below (λ v. if stand_of n up t (slice_index up v) == suc k then 1 else 0) vertices
 
 -- The tallies of the sets, set k's when the sets below t k have passed on what they hold.
 pub record AreTallies (n m : ℕ) (up : List ℕ) (vertices : ℕ) (t : ℕ → ℕ) (sizes : List ℕ) : Type 0 where
@@ -53,6 +60,27 @@ pub record AreHeads (n m : ℕ) (up heads : List ℕ) : Type 0 where
   pub picks : ℕ → ℕ
   pub each : (k : ℕ) → k < m → IsHead n up picks heads k
 
+-- The tables that the load of an edge is read from.
+pub record AreTables (n : ℕ) (d : DualLists) (sums : List ℤ) (heads : List ℕ) : Type 0 where
+  pub summed : AreSums n d 0 sums
+  pub headed : AreHeads n (length d.z) d.up heads
+
+-- The set k, from 1, where it is greater than the rival, or there is none; or else the rival.
+abbrev pub pick_with : (sizes : List ℕ) (rival k : ℕ) → ℕ
+pick_with sizes rival k = if (rival == 0) || nat_lt (slice_index sizes (rival - 1)) (slice_index sizes k) then k + 1 else rival
+
+-- Of the sets below k, one that set q picks is a greatest of those directly inside it, and it picks none where none is.
+abbrev pub IsPick : (n k : ℕ) (up sizes : List ℕ) (q pick : ℕ) → Type 0
+IsPick n k up sizes q zero = (j : ℕ) → j < k → slice_index up (n + j) ≢ suc q
+IsPick n k up sizes q (suc p) =
+    (p < k) × (slice_index up (n + p) ≡ suc q)
+    × ((j : ℕ) → j < k → slice_index up (n + j) ≡ suc q → slice_index sizes j ≤ slice_index sizes p)
+
+-- The picks of all m sets among the sets below k.
+pub record ArePicks (n m k : ℕ) (up sizes picks : List ℕ) : Type 0 where
+  pub count : length picks ≡ m
+  pub each : (q : ℕ) → q < m → IsPick n k up sizes q (slice_index picks q)
+
 -- A climb passes the same sets from one entry as from both of two.
 abbrev pub IsMeeting : ℕ → ℕ → List ℕ → ℕ → ℕ → ℕ → Type 0
 IsMeeting n m up a b entry = (k : ℕ) → climbs n up m k entry ≡ (climbs n up m k a && climbs n up m k b)
@@ -66,10 +94,10 @@ abbrev pub left : ℕ → ℕ → ℕ
 left m zero = 0
 left m (suc k) = suc m - k
 
--- The numbers with more added to that of the set which an entry names, if it names one.
-abbrev pub added : List ℕ → ℕ → ℕ → List ℕ
-added sizes zero more = sizes
-added sizes (suc k) more = slice_set sizes k (slice_index sizes k + more)
+-- The numbers with more tally_with to that of the set which an entry names, if it names one.
+abbrev pub tally_with : List ℕ → ℕ → ℕ → List ℕ
+tally_with sizes zero more = sizes
+tally_with sizes (suc k) more = slice_set sizes k (slice_index sizes k + more)
 
 -- The number of the set which an entry names, or 0 if it names none.
 abbrev pub named_sum : List ℤ → ℕ → ℤ

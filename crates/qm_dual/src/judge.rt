@@ -1,13 +1,16 @@
+//! The judge of duals.
+
 ghost use Rattle.std.specs.Prelude.{◌≡◌, ◌+◌, ◌^◌, ◌<◌, ◌≤◌, ◌*ℤ◌, ◌≤ℤ◌, ℕ, ℤ, List, pos, not, length, slice_index, slice_index_or, int_lt, IfOk, IfNone, IfSome};
 ghost use Rattle.def_math.specs.Searches.{least};
-ghost use Rattle.def_matching.specs.Dual.{dual, verdict, shape_fault, is_odd_size, is_up, AreSmall, IsNested};
-ghost use Rattle.def_matching.specs.Matching.{graph, matching_cost, IsGraph, IsPerfect};
+ghost use Rattle.def_matching.specs.Dual.{dual, verdict, shape_fault, is_odd_size, is_up, IsSmallDual};
+ghost use Rattle.def_matching.specs.Matching.{graph, matching_cost, IsPerfect, IsSmallGraph};
+ghost use Rattle.qm_dual.specs.Nest.{IsNest};
 
-use crate::loads::judge_loads;
+use crate::loads::{Tables, judge_loads};
 use crate::paths::path_heads;
 use crate::sizes::set_sizes;
 use crate::sums::nested_sums;
-use def_matching::{Dual, Verdict, WGraph};
+use def_matching::{Dual, MAX_SETS, MAX_VERTICES, Verdict, WGraph};
 use std::alloc::{AllocError, Global};
 
 /// Want of memory.
@@ -17,17 +20,13 @@ pub type Memory = AllocError;
 ///
 /// Linear in the vertices and sets, and logarithmic in them for each edge.
 pub fn dual_ok(alloc: Global, g: &WGraph, d: &Dual) -> Result<Verdict, Memory>
-    requires vertices { g.now.n ≤ 2 ^ 25 }
-    requires edges { length g.now.edges.items ≤ 2 ^ 30 }
-    requires sets { length d.now.z.items ≤ 2 ^ 30 }
-    requires graph { IsGraph (graph g.now) }
-    requires small_y { AreSmall d.now.y.items }
-    requires small_z { AreSmall d.now.z.items }
+    requires graph { IsSmallGraph (graph g.now) }
+    requires small { IsSmallDual (dual d.now) }
     ensures exact { IfOk result (λ v. v ≡ verdict (graph g.now) (dual d.now)) }
     // No perfect matching is cheaper than half of the sum.
     ensures bound { IfOk result (λ v. (sum : ℤ) → v ≡ Verdict.Yes sum → (m : List ℕ) → IsPerfect (graph g.now) m → sum ≤ℤ (pos 2 *ℤ matching_cost (graph g.now) m)) }
 {
-    if let Some(index) = misshapen(g.n, d) {
+    if let Some(index) = shape_fault_of(g.n, d) {
         return Ok(Verdict::Shape { index });
     }
     judge_sets(alloc, g, d)
@@ -35,13 +34,10 @@ pub fn dual_ok(alloc: Global, g: &WGraph, d: &Dual) -> Result<Verdict, Memory>
 
 /// The verdict on a dual of the right shape.
 fn judge_sets(alloc: Global, g: &WGraph, d: &Dual) -> Result<Verdict, Memory>
-    requires few { (g.now.n ≤ 2 ^ 25) × (length g.now.edges.items ≤ 2 ^ 30) }
-    requires graph { IsGraph (graph g.now) }
-    requires sets { length d.now.z.items ≤ 2 ^ 30 }
+    requires graph { IsSmallGraph (graph g.now) }
+    requires small { IsSmallDual (dual d.now) }
     requires numbers { length d.now.y.items ≡ g.now.n }
-    requires nested { IsNested g.now.n (length d.now.z.items) d.now.up.items }
-    requires small_y { AreSmall d.now.y.items }
-    requires small_z { AreSmall d.now.z.items }
+    requires nest { IsNest g.now.n (dual d.now) }
     ensures { IfOk result (λ v. v ≡ verdict (graph g.now) (dual d.now)) }
 {
     let sizes = set_sizes(alloc, g.n, d)?;
@@ -54,16 +50,16 @@ fn judge_sets(alloc: Global, g: &WGraph, d: &Dual) -> Result<Verdict, Memory>
     }
     let sums = nested_sums(alloc, g.n, d)?;
     let heads = path_heads(alloc, g.n, d, &sizes)?;
-    Ok(judge_loads(g, d, &sums, &heads))
+    Ok(judge_loads(g, d, &Tables { sums, heads }))
 }
 
 /// Where the lists of a dual have the wrong lengths, or else the least place at which `up` is out of range.
-fn misshapen(n: u32, d: &Dual) -> Option<u32>
-    requires few { n ≤ 2 ^ 25 }
-    requires sets { length d.now.z.items ≤ 2 ^ 30 }
+fn shape_fault_of(n: u32, d: &Dual) -> Option<u32>
+    requires few { n ≤ MAX_VERTICES }
+    requires sets { length d.now.z.items ≤ MAX_SETS }
     ensures fault { result ≡ shape_fault n (dual d.now) }
     ensures numbers { IfNone result (length d.now.y.items ≡ n) }
-    ensures nested { IfNone result (IsNested n (length d.now.z.items) d.now.up.items) }
+    ensures nest { IfNone result (IsNest n (dual d.now)) }
 {
     if d.y.len() != n as usize {
         return Some(n);
@@ -71,13 +67,13 @@ fn misshapen(n: u32, d: &Dual) -> Option<u32>
     if d.up.len() != n as usize + d.z.len() {
         return Some(n + 1);
     }
-    misplaced(n, d.z.len() as u32, &d.up)
+    place_fault_of(n, d.z.len() as u32, &d.up)
 }
 
 /// The least place whose entry names no set, or one that comes no later.
-fn misplaced(n: u32, sets: u32, up: &[u32]) -> Option<u32>
-    requires few { n ≤ 2 ^ 25 }
-    requires some { sets ≤ 2 ^ 30 }
+fn place_fault_of(n: u32, sets: u32, up: &[u32]) -> Option<u32>
+    requires few { n ≤ MAX_VERTICES }
+    requires some { sets ≤ MAX_SETS }
     requires whole { length up.now ≡ n + sets }
     ensures { result ≡ least (λ i. not (is_up n sets i (slice_index up.now i))) (n + sets) }
 {

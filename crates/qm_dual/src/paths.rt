@@ -1,6 +1,8 @@
+//! The paths into which nested sets fall, and the least set around two.
+
 ghost use Rattle.std.specs.Prelude.{◌≡◌, ◌+◌, ◌-◌, ◌^◌, ◌<◌, ◌≤◌, ◌≢◌, ◌==◌, ◌&&◌, not, if◌then◌else◌, length, slice_index, IfOk};
-ghost use Rattle.def_matching.specs.Dual.{IsNested};
-ghost use Rattle.qm_dual.specs.Nest.{AreHeads, IsMeeting, HaveSameSets, left};
+ghost use Rattle.def_matching.specs.Dual.{dual};
+ghost use Rattle.qm_dual.specs.Nest.{AreHeads, ArePicks, IsMeeting, IsNest, HaveSameSets, left, pick_with};
 
 use crate::judge::Memory;
 use crate::nest::set_around_set;
@@ -11,18 +13,25 @@ use std::alloc::Global;
 /// to the set around it as long as that holds no greater set, so climbing leaves one path for another at most as often as
 /// the size of a set doubles. Linear in the sets.
 pub(crate) fn path_heads(alloc: Global, n: u32, d: &Dual, sizes: &[u32]) -> Result<Vec<u32>, Memory>
-    requires few { n ≤ 2 ^ 25 }
-    requires sets { length d.now.z.items ≤ 2 ^ 30 }
-    requires nested { IsNested n (length d.now.z.items) d.now.up.items }
+    requires nest { IsNest n (dual d.now) }
     requires sized { length sizes.now ≡ length d.now.z.items }
     ensures { IfOk result (λ heads. AreHeads n (length d.now.z.items) d.now.up.items heads.items) }
 {
     let picks = greatest_inside(alloc, n, d, sizes)?;
+    heads_by(alloc, n, d, &picks)
+}
+
+/// The heads, where each set picks one inside it.
+fn heads_by(alloc: Global, n: u32, d: &Dual, picks: &[u32]) -> Result<Vec<u32>, Memory>
+    requires nest { IsNest n (dual d.now) }
+    requires picked { length picks.now ≡ length d.now.z.items }
+    ensures { IfOk result (λ heads. AreHeads n (length d.now.z.items) d.now.up.items heads.items) }
+{
     let mut heads = vec![in alloc; 0u32; d.z.len()]?;
     let mut k = d.z.len();
     while k > 0 {
         k -= 1;
-        heads[k] = head_of(&picks, &heads, set_around_set(n, d, k), k as u32);
+        heads[k] = head_of(picks, &heads, set_around_set(n, d, k), k as u32);
     }
     Ok(heads)
 }
@@ -43,31 +52,39 @@ fn head_of(picks: &[u32], heads: &[u32], entry: u32, set: u32) -> u32
 
 /// For each set the greatest of the sets directly inside it, from 1, or 0 if there is none.
 fn greatest_inside(alloc: Global, n: u32, d: &Dual, sizes: &[u32]) -> Result<Vec<u32>, Memory>
-    requires few { n ≤ 2 ^ 25 }
-    requires sets { length d.now.z.items ≤ 2 ^ 30 }
-    requires nested { IsNested n (length d.now.z.items) d.now.up.items }
+    requires nest { IsNest n (dual d.now) }
     requires sized { length sizes.now ≡ length d.now.z.items }
-    ensures { IfOk result (λ picks. length picks.items ≡ length d.now.z.items) }
+    ensures { IfOk result (λ picks. ArePicks n (length d.now.z.items) (length d.now.z.items) d.now.up.items sizes.now picks.items) }
 {
     let mut picks = vec![in alloc; 0u32; d.z.len()]?;
     for k in 0..d.z.len() {
         let entry = set_around_set(n, d, k);
         if entry != 0 {
-            let rival = picks[entry as usize - 1];
-            if rival == 0 || sizes[rival as usize - 1] < sizes[k] {
-                picks[entry as usize - 1] = k as u32 + 1;
-            }
+            let place = entry as usize - 1;
+            picks[place] = greater(sizes, picks[place], k as u32);
         }
     }
     Ok(picks)
 }
 
+/// The set `k` where it is greater than its rival, or the rival, both from 1. No rival is 0.
+fn greater(sizes: &[u32], rival: u32, k: u32) -> u32
+    requires few { k < 2 ^ 30 }
+    requires inner { k < length sizes.now }
+    requires named { rival ≤ length sizes.now }
+    ensures { result ≡ pick_with sizes.now rival k }
+{
+    if rival == 0 || sizes[rival as usize - 1] < sizes[k as usize] {
+        k + 1
+    } else {
+        rival
+    }
+}
+
 /// The least set around two entries of `up`, from 1, or 0 if there is none. It climbs by paths, so in a number of
 /// turns that is logarithmic in the number of vertices.
 pub(crate) fn meeting(n: u32, d: &Dual, heads: &[u32], a: u32, b: u32) -> u32
-    requires few { n ≤ 2 ^ 25 }
-    requires sets { length d.now.z.items ≤ 2 ^ 30 }
-    requires nested { IsNested n (length d.now.z.items) d.now.up.items }
+    requires nest { IsNest n (dual d.now) }
     requires headed { AreHeads n (length d.now.z.items) d.now.up.items heads.now }
     requires first { a ≤ length d.now.z.items }
     requires second { b ≤ length d.now.z.items }
@@ -88,9 +105,7 @@ pub(crate) fn meeting(n: u32, d: &Dual, heads: &[u32], a: u32, b: u32) -> u32
 
 /// Two entries, of which the one with the lower head has left its path.
 fn leave_path(n: u32, d: &Dual, heads: &[u32], a: u32, b: u32) -> (u32, u32)
-    requires few { n ≤ 2 ^ 25 }
-    requires sets { length d.now.z.items ≤ 2 ^ 30 }
-    requires nested { IsNested n (length d.now.z.items) d.now.up.items }
+    requires nest { IsNest n (dual d.now) }
     requires headed { AreHeads n (length d.now.z.items) d.now.up.items heads.now }
     requires first { (a ≢ 0) × (a ≤ length d.now.z.items) }
     requires second { (b ≢ 0) × (b ≤ length d.now.z.items) }
@@ -108,9 +123,7 @@ fn leave_path(n: u32, d: &Dual, heads: &[u32], a: u32, b: u32) -> (u32, u32)
 
 /// The entry of the head of the path on which the set of an entry lies.
 fn past_head(n: u32, d: &Dual, heads: &[u32], entry: u32) -> u32
-    requires few { n ≤ 2 ^ 25 }
-    requires sets { length d.now.z.items ≤ 2 ^ 30 }
-    requires nested { IsNested n (length d.now.z.items) d.now.up.items }
+    requires nest { IsNest n (dual d.now) }
     requires headed { AreHeads n (length d.now.z.items) d.now.up.items heads.now }
     requires named { (entry ≢ 0) × (entry ≤ length d.now.z.items) }
     ensures value { result ≡ slice_index d.now.up.items (n + (slice_index heads.now (entry - 1) - 1)) }
@@ -122,7 +135,7 @@ fn past_head(n: u32, d: &Dual, heads: &[u32], entry: u32) -> u32
 
 /// The head of the path on which the set of an entry lies, from 1.
 fn head_above(n: u32, d: &Dual, heads: &[u32], entry: u32) -> u32
-    requires nested { IsNested n (length d.now.z.items) d.now.up.items }
+    requires nest { IsNest n (dual d.now) }
     requires headed { AreHeads n (length d.now.z.items) d.now.up.items heads.now }
     requires named { (entry ≢ 0) × (entry ≤ length d.now.z.items) }
     ensures value { result ≡ slice_index heads.now (entry - 1) }

@@ -1,6 +1,8 @@
+//! The sizes of nested sets.
+
 ghost use Rattle.std.specs.Prelude.{◌≡◌, ◌+◌, ◌-◌, ◌^◌, ◌<◌, ◌≤◌, length, replicate, slice_index, IfOk};
-ghost use Rattle.def_matching.specs.Dual.{dual, IsNested};
-ghost use Rattle.qm_dual.specs.Nest.{AreTallies, AreSizes, added};
+ghost use Rattle.def_matching.specs.Dual.{dual};
+ghost use Rattle.qm_dual.specs.Nest.{AreTallies, AreSizes, IsNest, tally_with};
 
 use crate::judge::Memory;
 use crate::nest::{set_around_set, set_around_vertex};
@@ -9,9 +11,7 @@ use std::alloc::Global;
 
 /// How many vertices each set holds. Linear in the entries of `up`.
 pub(crate) fn set_sizes(alloc: Global, n: u32, d: &Dual) -> Result<Vec<u32>, Memory>
-    requires few { n ≤ 2 ^ 25 }
-    requires sets { length d.now.z.items ≤ 2 ^ 30 }
-    requires nested { IsNested n (length d.now.z.items) d.now.up.items }
+    requires nest { IsNest n (dual d.now) }
     ensures { IfOk result (λ sizes. AreSizes n (dual d.now) sizes.items) }
 {
     let mut sizes = vec![in alloc; 0u32; d.z.len()]?;
@@ -22,35 +22,32 @@ pub(crate) fn set_sizes(alloc: Global, n: u32, d: &Dual) -> Result<Vec<u32>, Mem
 
 /// Counts for each set the vertices that have it as the smallest around them.
 fn count_direct(n: u32, d: &Dual, sizes: &mut [u32])
-    requires few { n ≤ 2 ^ 25 }
-    requires nested { IsNested n (length d.now.z.items) d.now.up.items }
+    requires nest { IsNest n (dual d.now) }
     requires start { sizes.old ≡ replicate (length d.now.z.items) 0 }
     ensures { AreTallies n (length d.now.z.items) d.now.up.items n (λ k. 0) sizes.new }
 {
     for v in 0..n {
-        add(sizes, set_around_vertex(n, d, v), 1);
+        tally(sizes, set_around_vertex(n, d, v), 1);
     }
 }
 
 /// Adds what each set holds to the set around it, from the smallest sets on.
 fn pass_up(n: u32, d: &Dual, sizes: &mut [u32])
-    requires few { n ≤ 2 ^ 25 }
-    requires sets { length d.now.z.items ≤ 2 ^ 30 }
-    requires nested { IsNested n (length d.now.z.items) d.now.up.items }
+    requires nest { IsNest n (dual d.now) }
     requires start { AreTallies n (length d.now.z.items) d.now.up.items n (λ k. 0) sizes.old }
     ensures { AreSizes n (dual d.now) sizes.new }
 {
     for k in 0..sizes.len() {
         let size = sizes[k];
-        add(sizes, set_around_set(n, d, k), size);
+        tally(sizes, set_around_set(n, d, k), size);
     }
 }
 
 /// Adds to the number of the set that an entry of `up` names, if it names one.
-fn add(sizes: &mut [u32], entry: u32, more: u32)
+fn tally(sizes: &mut [u32], entry: u32, more: u32)
     requires named { entry ≤ length sizes.old }
     requires fits { slice_index sizes.old (entry - 1) + more < 2 ^ 32 }
-    ensures { sizes.new ≡ added sizes.old entry more }
+    ensures { sizes.new ≡ tally_with sizes.old entry more }
 {
     if entry != 0 {
         sizes[entry as usize - 1] += more;

@@ -1,7 +1,9 @@
+//! Sums of the numbers of nested sets.
+
 ghost use Rattle.std.specs.Prelude.{◌≡◌, ◌+◌, ◌^◌, ◌<◌, ◌≤◌, length, unsigned_abs, IfOk};
 ghost use Rattle.def_math.specs.Sums.{total};
-ghost use Rattle.def_matching.specs.Dual.{dual, dual_sum, IsNested, AreSmall};
-ghost use Rattle.qm_dual.specs.Nest.{around, named_sum, AreSums};
+ghost use Rattle.def_matching.specs.Dual.{dual, dual_sum, AreSmall, IsSmallDual};
+ghost use Rattle.qm_dual.specs.Nest.{around, named_sum, AreSums, IsNest};
 
 use crate::judge::Memory;
 use crate::nest::set_around_set;
@@ -10,10 +12,8 @@ use std::alloc::Global;
 
 /// For each set the sum of its `z` and of those of the sets around it. Linear in the sets.
 pub(crate) fn nested_sums(alloc: Global, n: u32, d: &Dual) -> Result<Vec<i128>, Memory>
-    requires few { n ≤ 2 ^ 25 }
-    requires sets { length d.now.z.items ≤ 2 ^ 30 }
-    requires nested { IsNested n (length d.now.z.items) d.now.up.items }
-    requires small { AreSmall d.now.z.items }
+    requires nest { IsNest n (dual d.now) }
+    requires small { IsSmallDual (dual d.now) }
     ensures { IfOk result (λ sums. AreSums n (dual d.now) 0 sums.items) }
 {
     let mut sums = vec![in alloc; 0i128; d.z.len()]?;
@@ -27,9 +27,8 @@ pub(crate) fn nested_sums(alloc: Global, n: u32, d: &Dual) -> Result<Vec<i128>, 
 
 /// The sum of the `z` of a set and of those of the sets around it, from the sums of the later sets.
 fn own_sum(n: u32, d: &Dual, sums: &[i128], k: usize) -> i128
-    requires sets { length d.now.z.items ≤ 2 ^ 30 }
-    requires nested { IsNested n (length d.now.z.items) d.now.up.items }
-    requires small { AreSmall d.now.z.items }
+    requires nest { IsNest n (dual d.now) }
+    requires small { IsSmallDual (dual d.now) }
     requires inner { k < length d.now.z.items }
     requires summed { AreSums n (dual d.now) (k + 1) sums.now }
     ensures { result ≡ around n (dual d.now) (k + 1) }
@@ -52,9 +51,7 @@ pub(crate) fn sum_of(sums: &[i128], entry: u32) -> i128
 /// The sum of a dual: of all `y` and all `z`.
 pub(crate) fn sum_of_dual(d: &Dual) -> i128
     requires few { length d.now.y.items ≤ 2 ^ 25 }
-    requires sets { length d.now.z.items ≤ 2 ^ 30 }
-    requires small_y { AreSmall d.now.y.items }
-    requires small_z { AreSmall d.now.z.items }
+    requires small { IsSmallDual (dual d.now) }
     ensures { result ≡ dual_sum (dual d.now) }
 {
     sum(&d.y) + sum(&d.z)

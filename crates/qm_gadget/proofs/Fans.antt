@@ -20,6 +20,6 @@ two_parts old mid now xs ys first second = second ∙ (ap (λ l. l ++ ys) first 
 pub three_parts : {X : Type 0} (old mid next now xs ys zs : List X) → mid ≡ old ++ xs → next ≡ mid ++ ys → now ≡ next ++ zs → now ≡ old ++ (xs ++ (ys ++ zs))
 three_parts old mid next now xs ys zs first second third = two_parts old mid now xs (ys ++ zs) first (two_parts mid next now ys zs second third)
 
--- A first edge, a part and a last edge after what was there.
-pub pair_parts : {X : Type 0} (old mid next now : List X) (x y : X) (ys : List X) → mid ≡ old ++ x ∷ [] → next ≡ mid ++ ys → now ≡ next ++ y ∷ [] → now ≡ old ++ (x ∷ ys ++ y ∷ [])
-pair_parts old mid next now x y ys first second third = three_parts old mid next now (x ∷ []) ys (y ∷ []) first second third
+-- The four parts of a rung after what was there.
+pub rung_parts : {X : Type 0} (old one two three now : List X) (xs : List X) (y : X) (ys : List X) (z : X) → one ≡ old ++ xs → two ≡ one ++ y ∷ [] → three ≡ two ++ ys → now ≡ three ++ z ∷ [] → now ≡ old ++ (xs ++ (y ∷ ys ++ z ∷ []))
+rung_parts old one two three now xs y ys z first second third fourth = two_parts old one now xs (y ∷ ys ++ z ∷ []) first (three_parts one two three now (y ∷ []) ys (z ∷ []) second third fourth)

@@ -1,20 +1,22 @@
 -- The lows and caps of an admissible list are ready for a plan, and its plan gives its matching graph.
 use Rattle.std.proofs.Common.{◌≡◌, ℕ, zero, suc, ◌+◌, ◌-◌, ◌*◌, ◌%◌, ◌^◌, ◌<◌, ◌≤◌, ◌==◌, Bool, true, false, cond, List, [], ◌∷◌, length, map, Option, Some, None, refl, sym, ◌∙◌, ap, inl, inr, arith}
-use Rattle.std.specs.Prelude.{slice_index}
+use Rattle.std.specs.Prelude.{slice_index, unsigned_abs}
+use Rattle.std.proofs.Math.Nat.{mul-le-mul}
 use Rattle.std.proofs.lemmas.Bool.{cases_lt}
 use Rattle.std.proofs.lemmas.List.{length-map, get_or_past}
 use Rattle.def_math.specs.Counts.{count, count_below}
 use Rattle.def_flow.specs.Network.{Network, IsWithinBounds, tangle_number}
 use Rattle.def_flow.specs.Admissible.{IsAdmissible, entries}
-use Rattle.def_matching.specs.Matching.{Graph}
+use Rattle.def_matching.specs.Matching.{Graph, IsCheap, IsSmallGraph, edge_at}
 use Rattle.def_flow.specs.Units.{low, cap, units, active, rim_active}
 use Rattle.def_flow.specs.MatchingGraph.{graph_by, graph_of_units, matching_graph, first_fresh, unit_size, size_by, are_alike, rim}
 use Rattle.def_flow.specs.declared.net.End.{End}
 use Rattle.def_flow.specs.declared.units.ArcUnit.{ArcUnit}
-use Rattle.qm_net.specs.Lengths.{AreLengths}
+use Rattle.def_flow.specs.Admissible.{AreLengths}
 use Rattle.qm_units.proofs.Unit.{AreNodes}
 use Rattle.qm_units.proofs.Units.{UnitsAt}
-use Rattle.qm_units.proofs.Law.{arcs_at, units_at}
+use Rattle.qm_units.proofs.Costs.{costs}
+use Rattle.qm_units.proofs.Law.{arcs_at, units_at, graph_law}
 use Rattle.qm_units.proofs.Size.{size_law}
 use Rattle.qm_gadget.specs.Layout.{room_of, EndsAt, AreAtNodes}
 use Rattle.qm_gadget.specs.Over.{units_over}
@@ -58,6 +60,20 @@ pub graph_small : (net : Network) (step : ℕ) (xs : List ℕ) → IsWithinBound
 graph_small net step xs bounds count admissible tangle =
     let law : (16 * (matching_graph net step xs).n ≤ 9 * tangle_number net) × (8 * length (matching_graph net step xs).edges ≤ 9 * tangle_number net) = size_law net step xs bounds count admissible in
     omega (arith, law.0)
+
+-- The matching graph is lawful and small.
+pub graph_lawful : (net : Network) (step : ℕ) (xs : List ℕ) → IsWithinBounds net → length xs ≡ length net.arcs → IsAdmissible net (entries xs) → tangle_number net ≤ 2 ^ 25 → IsSmallGraph (matching_graph net step xs)
+graph_lawful net step xs bounds count admissible tangle =
+    let law : (16 * (matching_graph net step xs).n ≤ 9 * tangle_number net) × (8 * length (matching_graph net step xs).edges ≤ 9 * tangle_number net) = size_law net step xs bounds count admissible in
+    record { lawful = graph_law net step xs bounds; vertices = omega (arith, law.0); edges = omega (arith, law.1) }
+
+-- Its costs are so low that no sum of them overflows.
+pub graph_cheap : (net : Network) (step : ℕ) (xs : List ℕ) → IsWithinBounds net → length xs ≡ length net.arcs → IsAdmissible net (entries xs) → tangle_number net ≤ 2 ^ 25 → step ≤ 4096 → IsCheap (matching_graph net step xs)
+graph_cheap net step xs bounds count admissible tangle short k l =
+    let g : Graph = matching_graph net step xs in
+    let few : g.n ≤ 20000000 = omega (arith, (size_law net step xs bounds count admissible).0) in
+    let low : unsigned_abs (edge_at g k).cost ≤ 4096000000 = omega (arith, costs net step xs bounds k l) in
+    omega (arith, mul-le-mul {n₁ = g.n} {m₁ = unsigned_abs (edge_at g k).cost} {n₂ = 20000000} {m₂ = 4096000000} few low)
 
 -- The lows and caps of an admissible list.
 pub list_ready : (net : Network) (step : ℕ) (xs : List ℕ) → IsWithinBounds net → AreLengths net.arcs xs → IsAdmissible net (entries xs) → tangle_number net ≤ 2 ^ 25 → IsReady net step (map (low net step) xs) (map (cap net step) xs)

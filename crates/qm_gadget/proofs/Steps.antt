@@ -10,14 +10,16 @@ use Rattle.def_flow.specs.Units.{low, cap, units, states_at, is_active, active, 
 use Rattle.def_flow.specs.MatchingGraph.{graph_by, lone_vertex, first_fresh, rim, units_links, rim_links}
 use Rattle.def_flow.specs.declared.net.End.{End}
 use Rattle.def_flow.specs.declared.units.ArcUnit.{ArcUnit}
-use Rattle.qm_units.specs.Box.{IsInBox, matching_told}
+use Rattle.def_flow.specs.Gadget.{IsStepUp, IsInBox}
+use Rattle.qm_units.specs.Box.{ups, matching_told}
+use Rattle.qm_units.proofs.Steps.{quotient, step_up}
 use Rattle.qm_units.specs.Marks.{places, states_marks, units_marks, rim_marks, rim_states, with_state}
 use Rattle.qm_units.proofs.Chain.{rim_length}
 use Rattle.qm_units.proofs.Units.{units_length, states_length}
 use Rattle.qm_gadget.specs.Layout.{room_of}
 use Rattle.qm_gadget.specs.Marked.{rim_by}
-use Rattle.qm_gadget.specs.Over.{IsStepUp, units_over, states_over}
-use Rattle.qm_gadget.specs.Ready.{ups, AreUps, IsReady, IsPlan, marks_over}
+use Rattle.qm_gadget.specs.Over.{units_over, states_over}
+use Rattle.qm_gadget.specs.Ready.{IsReady, IsPlan, marks_over}
 use Rattle.qm_gadget.specs.Ready.{own_states as states_of_caps}
 use Rattle.qm_gadget.specs.declared.plan.Plan.{Plan}
 use Rattle.qm_gadget.proofs.ByLows.{units_over_is, states_over_is, own_states}
@@ -25,26 +27,8 @@ use Rattle.qm_gadget.proofs.Numbers.{rim_is}
 use Rattle.qm_gadget.proofs.OfList.{plan_rooms}
 use Rattle.qm_gadget.proofs.Rooms.{active_low}
 
--- Steps over the step.
-pub quotient : (j step : ℕ) → 1 ≤ step → j * step / step ≡ j
-quotient j step some = by_order (cases_order (j * step / step) j)
-  where
-    whole : step * (j * step / step) + j * step % step ≡ j * step
-    whole = omega arith
-
-    part : j * step % step < step
-    part = omega arith
-
-    by_order : (j * step / step ≡ j) ⊎ ((j * step / step < j) ⊎ (j < j * step / step)) → j * step / step ≡ j
-    by_order (inl e) = e
-    by_order (inr (inl less)) = let up : step * (j * step / step + 1) ≤ step * j = mul-le-mul_left step (omega arith) in absurd (omega (arith, whole, part))
-    by_order (inr (inr more)) = let up : step * (j + 1) ≤ step * (j * step / step) = mul-le-mul_left step (omega arith) in absurd (omega (arith, whole, part))
-
-pub step_up : (j step l y : ℕ) → 1 ≤ step → y ≡ l + j * step → (y - l) / step ≡ j
-step_up j step l y some is = let there : y - l ≡ j * step = omega arith in ap (λ n. n / step) there ∙ quotient j step some
-
 -- No entry of a list in the box is more than 4 steps up.
-pub ups_small : (step : ℕ) (lows caps ys : List ℕ) → 1 ≤ step → AreUps step lows caps ys → ((k : ℕ) → k < length lows → slice_index caps k ≤ 4) → (k : ℕ) → (slice_index ys k - slice_index lows k) / step ≤ 4
+pub ups_small : (step : ℕ) (lows caps ys : List ℕ) → 1 ≤ step → IsInBox step lows caps ys → ((k : ℕ) → k < length lows → slice_index caps k ≤ 4) → (k : ℕ) → (slice_index ys k - slice_index lows k) / step ≤ 4
 ups_small step lows caps ys some are most k = by_place (cases_lt k (length ys))
   where
     by_place : (k < length ys) ⊎ (length ys ≤ k) → (slice_index ys k - slice_index lows k) / step ≤ 4
@@ -66,23 +50,6 @@ ups_length step (l ∷ ls) (y ∷ ys) same = ap suc (ups_length step ls ys (omeg
 
 pub ups_step : (step : ℕ) (ls ys : List ℕ) (k : ℕ) → k < length ls → length ls ≡ length ys → ups step (drop k ls) (drop k ys) ≡ ((slice_index ys k - slice_index ls k) / step) ∷ ups step (drop (k + 1) ls) (drop (k + 1) ys)
 ups_step step ls ys k l same = let inner : k < length ys = omega arith in rw (drop_more ls k 0 l, drop_more ys k 0 inner) refl
-
--- The list is in the box of the list that the lows and caps are of.
-pub in_box : (net : Network) (step : ℕ) (xs ys : List ℕ) → 1 ≤ step → AreUps step (map (low net step) xs) (map (cap net step) xs) ys → IsInBox net step xs (ups step (map (low net step) xs) ys) ys
-in_box net step [] [] some are = tt
-in_box net step [] (y ∷ ys) some are = let count : suc (length ys) ≡ 0 = are.count in absurd (omega arith)
-in_box net step (x ∷ xs) [] some are = let count : 0 ≡ suc (length (map (low net step) xs)) = are.count in absurd (omega arith)
-in_box net step (x ∷ xs) (y ∷ ys) some are = at_head (are.each 0 (omega arith)) (in_box net step xs ys some rest)
-  where
-    rest : AreUps step (map (low net step) xs) (map (cap net step) xs) ys
-    rest = record { count = (let count : suc (length ys) ≡ suc (length (map (low net step) xs)) = are.count in omega arith); each = λ k l. are.each (suc k) (omega arith) }
-
-    at_head : IsStepUp (low net step x) (cap net step x) step y → IsInBox net step xs (ups step (map (low net step) xs) ys) ys → IsInBox net step (x ∷ xs) (ups step (map (low net step) (x ∷ xs)) (y ∷ ys)) (y ∷ ys)
-    at_head e after =
-        let up : (y - low net step x) / step ≡ e.up = step_up e.up step (low net step x) y some e.is in
-        let high : (y - low net step x) / step ≤ cap net step x = omega (arith, up, e.few) in
-        let place : y ≡ low net step x + (y - low net step x) / step * step = e.is ∙ ap (λ j. low net step x + j * step) (sym up) in
-        (high, place, after)
 
 -- Marks by lows and caps are those of the matching that is told.
 pub marks_over_is : (net : Network) (step : ℕ) (xs js : List ℕ) → places 0 (marks_over net step (map (low net step) xs) (map (cap net step) xs) js) ≡ matching_told net step xs js

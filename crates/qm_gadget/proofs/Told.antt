@@ -8,33 +8,30 @@ use Rattle.def_matching.specs.Matching.{Graph, graph, matching_cost, IsPerfect}
 use Rattle.def_flow.specs.Units.{low, cap, units, states_at, active, rim_active}
 use Rattle.def_flow.specs.MatchingGraph.{graph_by, matching_graph}
 use Rattle.def_flow.specs.declared.units.ArcUnit.{ArcUnit}
-use Rattle.qm_units.specs.Box.{lows, matching_told}
+use Rattle.def_flow.specs.Gadget.{IsGadgetOf, IsInBox, lows, caps}
+use Rattle.qm_units.specs.Box.{ups, matching_told}
+use Rattle.qm_units.proofs.Steps.{in_box}
 use Rattle.qm_units.specs.Marks.{places}
 use Rattle.qm_units.proofs.Law.{matching_law}
 use Rattle.qm_units.proofs.Size.{size_law}
-use Rattle.qm_units.proofs.Arcs.{lengths_law}
+use Rattle.qm_units.proofs.Arcs.{lengths_law, told_in_box}
 use Rattle.qm_units.specs.Told.{marks_from, states_told, lengths_told}
-use Rattle.qm_gadget.specs.declared.build.Gadget.{Gadget}
-use Rattle.qm_gadget.specs.Gadget.{IsGadgetOf, IsInBoxOf}
+use Rattle.def_flow.specs.declared.gadget.Gadget.{Gadget}
 use Rattle.qm_gadget.specs.Over.{units_over, states_over}
-use Rattle.qm_gadget.specs.Ready.{ups, AreUps, IsReady, marks_over}
+use Rattle.qm_gadget.specs.Ready.{IsReady, marks_over}
 use Rattle.qm_gadget.specs.Ready.{own_states as states_of_caps}
 use Rattle.qm_gadget.proofs.ByLows.{states_long, units_over_is, own_states}
 use Rattle.qm_gadget.proofs.OfList.{list_ready, graph_over}
 use Rattle.qm_gadget.specs.Read.{lengths_by, lengths_read, widths_over}
 use Rattle.qm_gadget.proofs.Reading.{widths_low, lengths_is}
-use Rattle.qm_gadget.proofs.Steps.{in_box, ups_length, marks_long, marks_over_is}
+use Rattle.qm_gadget.proofs.Steps.{ups_length, marks_long, marks_over_is}
 
 -- The lows and caps of a gadget are ready for a plan.
 pub gadget_ready : (net : Network) (g : Gadget) → IsWithinBounds net → IsGadgetOf net g → IsReady net g.step g.low.items g.cap.items
 gadget_ready net g bounds of = rw (of.lows, of.caps) (list_ready net g.step of.x bounds of.lengths of.admissible of.tangle)
 
--- A list in the box of a gadget, by its lows and caps.
-pub gadget_ups : (g : Gadget) (ys : List ℕ) → IsInBoxOf g ys → AreUps g.step g.low.items g.cap.items ys
-gadget_ups g ys inside = record { count = inside.count; each = inside.each }
-
 -- A list in the box has few marks.
-pub gadget_short : (net : Network) (g : Gadget) (ys : List ℕ) → IsWithinBounds net → IsGadgetOf net g → IsInBoxOf g ys → length (marks_over net g.step g.low.items g.cap.items (ups g.step g.low.items ys)) ≤ 2 ^ 26
+pub gadget_short : (net : Network) (g : Gadget) (ys : List ℕ) → IsWithinBounds net → IsGadgetOf net g → IsInBox g.step g.low.items g.cap.items ys → length (marks_over net g.step g.low.items g.cap.items (ups g.step g.low.items ys)) ≤ 2 ^ 26
 gadget_short net g ys bounds of inside = omega (arith, marks, edges, law.1, of.tangle)
   where
     ready : IsReady net g.step g.low.items g.cap.items
@@ -64,7 +61,7 @@ gadget_short net g ys bounds of inside = omega (arith, marks, edges, law.1, of.t
         ap (λ (h : Graph). length h.edges) same
 
 -- The matching that a list in the box tells.
-pub gadget_matching : (net : Network) (g : Gadget) (ys : List ℕ) → IsWithinBounds net → IsGadgetOf net g → IsAdmissible net (entries ys) → IsInBoxOf g ys
+pub gadget_matching : (net : Network) (g : Gadget) (ys : List ℕ) → IsWithinBounds net → IsGadgetOf net g → IsAdmissible net (entries ys) → IsInBox g.step g.low.items g.cap.items ys
     → (m : List ℕ) → m ≡ places 0 (marks_over net g.step g.low.items g.cap.items (ups g.step g.low.items ys))
     → IsPerfect (graph g.graph) m × (matching_cost (graph g.graph) m ≡ pos (deviation net (entries ys)) -ℤ pos (deviation net (entries g.low.items)))
 gadget_matching net g ys bounds of admissible inside m is = rw (of.graphs, told, of.lows) law
@@ -79,7 +76,7 @@ gadget_matching net g ys bounds of admissible inside m is = rw (of.graphs, told,
         ∙ marks_over_is net g.step of.x js))
 
     law : IsPerfect (matching_graph net g.step of.x) (matching_told net g.step of.x js) × (matching_cost (matching_graph net g.step of.x) (matching_told net g.step of.x js) ≡ pos (deviation net (entries ys)) -ℤ pos (deviation net (entries (lows net g.step of.x))))
-    law = matching_law net g.step of.x js ys bounds of.steps.0 of.lengths.count of.admissible admissible (in_box net g.step of.x ys of.steps.0 (rw (← of.lows, ← of.caps) (gadget_ups g ys inside)))
+    law = matching_law net g.step of.x js ys bounds of.steps.0 of.lengths.count of.admissible admissible (in_box net g.step of.x ys of.steps.0 (rw (← of.lows, ← of.caps) inside))
 
 -- A gadget's graph has few edges.
 pub gadget_edges : (net : Network) (g : Gadget) → IsWithinBounds net → IsGadgetOf net g → length g.graph.edges.items ≤ 2 ^ 26
@@ -111,11 +108,12 @@ gadget_wide net g bounds of = omega (arith, widths_low net.nodes (λ v. active v
 -- The list that a perfect matching of a gadget's graph tells.
 pub gadget_lengths : (net : Network) (g : Gadget) (m : List ℕ) → IsWithinBounds net → IsGadgetOf net g → IsPerfect (graph g.graph) m → (edges : ℕ) → edges ≡ length g.graph.edges.items
     → (ys : List ℕ) → ys ≡ lengths_read net g.step g.low.items g.cap.items edges m
-    → (length ys ≡ length net.arcs) × IsAdmissible net (entries ys) × ((pos (deviation net (entries ys)) -ℤ pos (deviation net (entries g.low.items))) ≤ℤ matching_cost (graph g.graph) m)
+    → (length ys ≡ length net.arcs) × IsAdmissible net (entries ys) × ((pos (deviation net (entries ys)) -ℤ pos (deviation net (entries g.low.items))) ≤ℤ matching_cost (graph g.graph) m) × IsInBox g.step g.low.items g.cap.items ys
 gadget_lengths net g m bounds of perfect edges long ys is = (
   ap length told ∙ law.0,
   subst (λ (zs : List ℕ). IsAdmissible net (entries zs)) (sym told) law.1,
   omega (arith, ints, law.2, ap (λ zs. deviation net (entries zs)) told, ap (λ zs. deviation net (entries zs)) of.lows, ap (λ (h : Graph). matching_cost h m) of.graphs),
+  subst (λ (ls : List ℕ). IsInBox g.step ls g.cap.items ys) (sym of.lows) (subst (λ (cs : List ℕ). IsInBox g.step (lows net g.step xs) cs ys) (sym of.caps) (subst (λ (zs : List ℕ). IsInBox g.step (lows net g.step xs) (caps net g.step xs) zs) (sym told) (told_in_box net g.step xs m))),
 )
   where
     xs : List ℕ

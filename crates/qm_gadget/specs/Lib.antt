@@ -1,4 +1,3 @@
-pub mod Gadget
 pub mod Layout
 pub mod Marked
 pub mod Over

@@ -15,12 +15,6 @@ pub record AreBoxes (arcs : ℕ) (lows caps : List ℕ) : Type 0 where
   pub least : (k : ℕ) → k < arcs → 2 ≤ slice_index caps k
   pub most : (k : ℕ) → k < arcs → slice_index caps k ≤ 4
 
--- A length that is a whole number of steps above a low, no more than the cap.
-pub record IsStepUp (low cap step y : ℕ) : Type 0 where
-  pub up : ℕ
-  pub few : up ≤ cap
-  pub is : y ≡ low + up * step
-
 -- n units of an arc with this low, from unit k on.
 abbrev pub unit_over : Network → ℕ → Arc → ℕ → ℕ → ArcUnit
 unit_over net step a l k = record { left = a.left; right = a.right; cost = pos (arc_deviation net a (pos (l + (k + 1) * step))) -ℤ pos (arc_deviation net a (pos (l + k * step))) }

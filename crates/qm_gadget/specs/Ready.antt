@@ -1,12 +1,12 @@
 -- What a plan of a matching graph holds, and what it needs.
-use Rattle.std.specs.Prelude.{◌≡◌, ℕ, ◌-◌, ◌/◌, ◌%◌, ◌^◌, ◌<◌, ◌≤◌, ◌==◌, Bool, List, [], ◌∷◌, length, map, slice_index}
+use Rattle.std.specs.Prelude.{◌≡◌, ℕ, ◌-◌, ◌%◌, ◌^◌, ◌<◌, ◌≤◌, ◌==◌, Bool, List, [], ◌∷◌, length, map}
 use Rattle.def_flow.specs.Network.{Network}
 use Rattle.def_matching.specs.Matching.{Graph}
 use Rattle.def_flow.specs.MatchingGraph.{graph_of_units}
 use Rattle.def_flow.specs.Units.{active, rim_active}
 use Rattle.qm_units.specs.Marks.{states_marks}
 use Rattle.qm_gadget.specs.Layout.{AreAtNodes}
-use Rattle.qm_gadget.specs.Over.{AreBoxes, AreRooms, IsStepUp, units_over, states_over}
+use Rattle.qm_gadget.specs.Over.{AreBoxes, AreRooms, units_over, states_over}
 use Rattle.qm_gadget.specs.declared.plan.Plan.{Plan}
 
 -- Lows and caps of a list whose units are few, with their ends at nodes.
@@ -24,16 +24,6 @@ pub record IsPlan (net : Network) (step : ℕ) (lows caps : List ℕ) (p : Plan)
   pub units : p.units.items ≡ units_over net step net.arcs lows caps
   pub rooms : AreRooms net.nodes (units_over net step net.arcs lows caps) (own_states caps) p.rooms.items
   pub lone : p.lone ≡ (rim_active (units_over net step net.arcs lows caps) (own_states caps) % 2 == 1)
-
--- How many steps each entry of a list is above its low.
-abbrev pub ups : ℕ → List ℕ → List ℕ → List ℕ
-ups step (l ∷ ls) (y ∷ ys) = ((y - l) / step) ∷ ups step ls ys
-ups step _ _ = []
-
--- Each entry of the list is a whole number of steps above its low, no more than the cap.
-pub record AreUps (step : ℕ) (lows caps ys : List ℕ) : Type 0 where
-  pub count : length ys ≡ length lows
-  pub each : (k : ℕ) → k < length ys → IsStepUp (slice_index lows k) (slice_index caps k) step (slice_index ys k)
 
 -- The marks of the edges that the list with so many units on chooses.
 abbrev pub marks_over : Network → ℕ → List ℕ → List ℕ → List ℕ → List Bool

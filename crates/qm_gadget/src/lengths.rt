@@ -4,20 +4,19 @@ ghost use Rattle.def_math.specs.Counts.{count};
 ghost use Rattle.def_flow.specs.Network.{network, IsWithinBounds};
 ghost use Rattle.def_flow.specs.Admissible.{deviation, entries, IsAdmissible};
 ghost use Rattle.def_math.specs.Rising.{IsRising};
+ghost use Rattle.def_flow.specs.Gadget.{IsGadgetOf, IsInBox};
 ghost use Rattle.def_matching.specs.Matching.{graph, matching_cost, IsPerfect};
 ghost use Rattle.qm_units.specs.Marks.{trues};
 ghost use Rattle.qm_units.specs.Told.{marks_from, states_told};
-ghost use Rattle.qm_gadget.specs.Gadget.{IsGadgetOf};
 ghost use Rattle.qm_gadget.specs.Layout.{room_of, AreAtNodes};
 ghost use Rattle.qm_gadget.specs.Over.{AreBoxes};
 ghost use Rattle.qm_gadget.specs.Ready.{IsReady};
 ghost use Rattle.qm_gadget.specs.Read.{first_below, skip_below, width_of_unit, lengths_by, lengths_read, widths_over};
 
 use crate::Memory;
-use crate::build::Gadget;
 use crate::marks::width_of;
 use crate::plan::plan_of;
-use def_flow::{ArcUnit, Net};
+use def_flow::{ArcUnit, Gadget, Net};
 use std::alloc::{AllocError, Global};
 
 /// The admissible list of lengths that a perfect matching of a gadget's graph tells. Its deviation less that of the
@@ -28,6 +27,7 @@ pub fn lengths_of(alloc: Global, net: &Net, g: &Gadget, m: &[u32]) -> Result<Vec
     requires perfect { IsPerfect (graph g.now.graph) m.now }
     ensures count { IfOk result (λ ys. length ys.items ≡ length net.now.arcs.items) }
     ensures admissible { IfOk result (λ ys. IsAdmissible (network net.now) (entries ys.items)) }
+    ensures inside { IfOk result (λ ys. IsInBox g.now.step g.now.low.items g.now.cap.items ys.items) }
     ensures cost { IfOk result (λ ys. (pos (deviation (network net.now) (entries ys.items)) -ℤ pos (deviation (network net.now) (entries g.now.low.items))) ≤ℤ matching_cost (graph g.now.graph) m.now) }
 {
     lengths_over(

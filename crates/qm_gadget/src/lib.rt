@@ -16,7 +16,8 @@ mod states;
 mod tests;
 mod units;
 
-pub use build::{Gadget, graph_of};
+pub use build::graph_of;
+pub use def_flow::Gadget;
 pub use lengths::lengths_of;
 pub use matching::matching_of;
 

@@ -1,19 +1,19 @@
 ghost use Rattle.std.specs.Prelude.{◌≡◌, ◌-◌, ◌/◌, ◌^◌, ◌≤◌, ℕ, pos, ◌-ℤ◌, length, slice_index, IfOk};
 ghost use Rattle.def_flow.specs.Network.{network, IsWithinBounds};
 ghost use Rattle.def_flow.specs.Admissible.{deviation, entries, IsAdmissible};
+ghost use Rattle.def_flow.specs.Gadget.{IsGadgetOf, IsInBox};
 ghost use Rattle.def_matching.specs.Matching.{graph, matching_cost, IsPerfect};
 ghost use Rattle.qm_units.specs.Marks.{places, states_marks};
-ghost use Rattle.qm_gadget.specs.Gadget.{IsGadgetOf, IsInBoxOf};
 ghost use Rattle.qm_gadget.specs.Layout.{room_of, AreAtNodes};
-ghost use Rattle.qm_gadget.specs.Ready.{ups, AreUps, IsReady, marks_over};
+ghost use Rattle.qm_units.specs.Box.{ups};
+ghost use Rattle.qm_gadget.specs.Ready.{IsReady, marks_over};
 
 use crate::Memory;
-use crate::build::Gadget;
 use crate::marks::push_units_marks;
 use crate::plan::{Plan, plan_of};
 use crate::rim_marks::{push_rim_marks, rim_states_of};
 use crate::states::states_of;
-use def_flow::Net;
+use def_flow::{Gadget, Net};
 use std::alloc::{AllocError, Global};
 
 /// A perfect matching that tells a list of lengths in the box of a gadget, and costs the deviation of the list
@@ -22,7 +22,7 @@ pub fn matching_of(alloc: Global, net: &Net, g: &Gadget, x2: &[u64]) -> Result<V
     requires bounds { IsWithinBounds (network net.now) }
     requires gadget { IsGadgetOf (network net.now) g.now }
     requires admissible { IsAdmissible (network net.now) (entries x2.now) }
-    requires inside { IsInBoxOf g.now x2.now }
+    requires inside { IsInBox g.now.step g.now.low.items g.now.cap.items x2.now }
     ensures perfect { IfOk result (λ m. IsPerfect (graph g.now.graph) m.items) }
     ensures cost { IfOk result (λ m. matching_cost (graph g.now.graph) m.items ≡ pos (deviation (network net.now) (entries x2.now)) -ℤ pos (deviation (network net.now) (entries g.now.low.items))) }
 {
@@ -41,7 +41,7 @@ fn matching_by(
     requires bounds { IsWithinBounds (network net.now) }
     requires step { (1 ≤ step) × (step ≤ 4096) }
     requires ready { IsReady (network net.now) step lows.now caps.now }
-    requires inside { AreUps step lows.now caps.now x2.now }
+    requires inside { IsInBox step lows.now caps.now x2.now }
     requires short { length (marks_over (network net.now) step lows.now caps.now (ups step lows.now x2.now)) ≤ 2 ^ 26 }
     ensures { IfOk result (λ m. m.items ≡ places 0 (marks_over (network net.now) step lows.now caps.now (ups step lows.now x2.now))) }
 {

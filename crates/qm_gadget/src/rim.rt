@@ -1,6 +1,8 @@
-ghost use Rattle.std.specs.Prelude.{◌≡◌, ◌+◌, ◌*◌, ◌^◌, ◌<◌, ◌≤◌, [], ◌∷◌, ◌++◌, pos, length, OnOk, IfOk};
+//! The vertices at the rim, and the ladder that joins them.
+
+ghost use Rattle.std.specs.Prelude.{◌≡◌, ◌+◌, ◌*◌, ◌^◌, ◌<◌, ◌≤◌, ◌++◌, length, OnOk, IfOk};
 ghost use Rattle.def_math.specs.Counts.{count};
-ghost use Rattle.def_flow.specs.MatchingGraph.{link, link_from, rim, rim_links, unit_size};
+ghost use Rattle.def_flow.specs.MatchingGraph.{link_from, rim, rim_links, rung, unit_size};
 
 use crate::edges::{push_link, size_of_unit};
 use def_flow::ArcUnit;
@@ -37,12 +39,12 @@ pub(crate) fn push_rim(
     let mut fresh = first;
     let mut rest = rims;
     while let [here, after @ ..] = rest {
-        push_from(edges, before, *here)?;
-        if !after.is_empty() {
-            push_pair(edges, before, *here, fresh)?;
-            before = Some(fresh + 1);
-            fresh += 2;
+        if after.is_empty() {
+            return push_from(edges, before, *here);
         }
+        push_rung(edges, before, fresh, *here)?;
+        before = Some(fresh + 1);
+        fresh += 2;
         rest = after;
     }
     Ok(())
@@ -58,17 +60,18 @@ fn push_from(edges: &mut Vec<WEdge>, before: Option<u32>, v: u32) -> Result<(), 
     }
 }
 
-/// Adds the edges of a pair of fresh vertices that come after `here`.
-#[tactic(auto, using(crate::proofs::Fans::pair_parts))]
-fn push_pair(
+/// Adds the rung of the vertex `here` at the rim, with two fresh vertices.
+#[tactic(auto, using(crate::proofs::Fans::rung_parts))]
+fn push_rung(
     edges: &mut Vec<WEdge>,
     before: Option<u32>,
-    here: u32,
     fresh: u32,
+    here: u32,
 ) -> Result<(), AllocError>
     requires { fresh < 2 ^ 26 }
-    ensures { OnOk result (edges.new.items ≡ edges.old.items ++ (link here fresh (pos 0) ∷ link_from before fresh ++ link fresh (fresh + 1) (pos 0) ∷ [])) }
+    ensures { OnOk result (edges.new.items ≡ edges.old.items ++ rung before fresh here) }
 {
+    push_from(edges, before, here)?;
     push_link(edges, here, fresh, 0)?;
     push_from(edges, before, fresh)?;
     push_link(edges, fresh, fresh + 1, 0)

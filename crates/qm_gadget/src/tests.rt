@@ -1,8 +1,7 @@
 ghost use Rattle.std.specs.Prelude.{◌^◌, ◌≤◌, IsTrue, IfOk};
 ghost use Rattle.def_flow.specs.Network.{network, tangle_number, IsWithinBounds};
 ghost use Rattle.def_matching.specs.Matching.{graph, IsPerfect};
-ghost use Rattle.qm_gadget.specs.Gadget.{IsGadgetOf, IsInBoxOf};
-ghost use Rattle.qm_gadget.specs.Over.{IsStepUp};
+ghost use Rattle.def_flow.specs.Gadget.{IsGadgetOf, IsInBox, IsStepUp};
 
 use crate::{Gadget, graph_of, lengths_of, matching_of};
 use def_flow::{Arc, End, Net};
@@ -21,7 +20,7 @@ fn is_small(net: &Net) -> bool
 
 /// Whether each entry of a list is a whole number of steps above its low, no more than the cap.
 fn is_in_box(g: &Gadget, x2: &[u64]) -> bool
-    ensures { IsTrue result → IsInBoxOf g.now x2.now }
+    ensures { IsTrue result → IsInBox g.now.step g.now.low.items g.now.cap.items x2.now }
 {
     if x2.len() != g.low.len() || g.cap.len() != g.low.len() || g.step == 0 {
         return false;

@@ -9,7 +9,7 @@ use Rattle.qm_laws.proofs.Counts.{count_below_same, count_below_sum, count_below
 use Rattle.def_flow.specs.Network.{Network, arc_at}
 use Rattle.def_flow.specs.Admissible.{IsAdmissible, arc_deviation, deviation}
 use Rattle.def_flow.specs.declared.net.Arc.{Arc}
-use Rattle.qm_lift.specs.Laws.{IsPart, IsSmallPart}
+use Rattle.def_flow.specs.Nearby.{IsPart, IsSmallPart}
 use Rattle.qm_lift.proofs.Balance.{balanced_sum, balanced_minus}
 use Rattle.qm_lift.proofs.Part.{walk_law}
 

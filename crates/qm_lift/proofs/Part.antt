@@ -7,7 +7,7 @@ use Rattle.def_flow.specs.Network.{Network, ends, arc_at}
 use Rattle.def_flow.specs.Admissible.{IsAdmissible, IsBalanced, is_on_side, side_sum}
 use Rattle.def_flow.specs.declared.net.Arc.{Arc}
 use Rattle.def_flow.specs.declared.net.End.{End}
-use Rattle.qm_lift.specs.Laws.{IsPart, IsSmallPart}
+use Rattle.def_flow.specs.Nearby.{IsPart, IsSmallPart}
 use Rattle.qm_lift.proofs.Balance.{balanced_minus, same_sides}
 use Rattle.qm_lift.proofs.Ports.{Port, weigh}
 use Rattle.qm_lift.proofs.Walk.{Tour, IsEvenOut, uses, tour, tour_even, at_most_twice}

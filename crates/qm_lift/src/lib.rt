@@ -1,7 +1,7 @@
 //! Two laws of networks: what the difference of two admissible lists contains, and how near a better list is.
 #![tactic(auto)]
 
-ghost use Rattle.qm_lift.specs.Laws.{WalkLaw, LiftLaw};
+ghost use Rattle.def_flow.specs.Nearby.{WalkLaw, LiftLaw};
 
 /// The difference of two admissible lists, if it is not zero, contains a balanced change of the same signs,
 /// nowhere larger, not zero, and with entries of absolute value at most 2.

@@ -4,7 +4,7 @@ ghost use Rattle.std.specs.List.{list_all};
 ghost use Rattle.def_flow.specs.Network.{network, IsWithinBounds};
 ghost use Rattle.def_flow.specs.Admissible.{entries, IsAdmissible, IsBalanced};
 ghost use Rattle.qm_net.specs.Balance.{signed, weighed, weighed_arc, AreBalances, IsBlockBalanced};
-ghost use Rattle.qm_net.specs.Lengths.{AreLengths};
+ghost use Rattle.def_flow.specs.Admissible.{AreLengths};
 
 use def_flow::{Arc, End, Net};
 

@@ -1,7 +1,7 @@
 ghost use Rattle.std.specs.Prelude.{◌≡◌, ◌↔◌, ◌&&◌, IsTrue, nat_le};
 ghost use Rattle.std.specs.List.{list_all};
 ghost use Rattle.def_flow.specs.Network.{network, is_bounded, IsWithinBounds};
-ghost use Rattle.qm_net.specs.Lengths.{AreLengths};
+ghost use Rattle.def_flow.specs.Admissible.{AreLengths};
 
 use def_flow::{Arc, Net};
 

@@ -2,7 +2,7 @@ ghost use Rattle.std.specs.Prelude.{◌≡◌, ◌+◌, ◌*◌, ◌^◌, ◌≤
 ghost use Rattle.def_flow.specs.Network.{network, IsWithinBounds};
 ghost use Rattle.def_flow.specs.Admissible.{entries};
 ghost use Rattle.def_flow.specs.Admissible.{deviation as total_deviation, arc_deviation as deviation_of_arc};
-ghost use Rattle.qm_net.specs.Lengths.{AreLengths};
+ghost use Rattle.def_flow.specs.Admissible.{AreLengths};
 
 use def_flow::{Arc, Net};
 

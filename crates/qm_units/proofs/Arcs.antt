@@ -11,15 +11,17 @@ use Rattle.def_flow.specs.MatchingGraph.{matching_graph}
 use Rattle.def_flow.specs.declared.net.Arc.{Arc}
 use Rattle.def_flow.specs.declared.net.End.{End}
 use Rattle.def_flow.specs.declared.units.ArcUnit.{ArcUnit}
-use Rattle.qm_lift.specs.Laws.{IsPart}
+use Rattle.def_flow.specs.Nearby.{IsPart}
 use Rattle.qm_lift.proofs.Lift.{arc_convex}
 use Rattle.qm_units.specs.Marks.{trues}
-use Rattle.qm_units.specs.Box.{IsInBox, lows}
+use Rattle.def_flow.specs.Gadget.{IsInBox, lows, caps}
+use Rattle.qm_units.specs.Box.{IsRaised}
 use Rattle.qm_units.specs.Told.{marks_from, states_told, steps_told, lengths_on, lengths_told}
 use Rattle.qm_units.proofs.Unit.{AreNodes, ends_active}
 use Rattle.qm_units.proofs.Units.{UnitsAt}
 use Rattle.qm_units.proofs.Box.{own_box, box_length, arc_active, weighted_ends, units_length, box_active, box_ends, side_list, balanced_list, deviations, deviation_list}
 use Rattle.qm_units.proofs.Law.{arcs_at, units_at}
+use Rattle.qm_units.proofs.Steps.{raised_in_box}
 use Rattle.qm_units.proofs.Reading.{told_length, told_fills, told_cost}
 
 -- The active ends of an arc with any states of its units.
@@ -96,7 +98,7 @@ trues_take (suc n) (true ∷ ms) = omega (arith, trues_take n ms)
 trues_take (suc n) (false ∷ ms) = omega (arith, trues_take n ms)
 
 -- The list that states tell is in the box.
-pub told_box : (net : Network) (step : ℕ) (xs : List ℕ) (ons : List Bool) → IsInBox net step xs (steps_told net step xs ons) (lengths_on net step xs (steps_told net step xs ons))
+pub told_box : (net : Network) (step : ℕ) (xs : List ℕ) (ons : List Bool) → IsRaised net step xs (steps_told net step xs ons) (lengths_on net step xs (steps_told net step xs ons))
 told_box net step [] ons = tt
 told_box net step (x ∷ xs) ons = (trues_take (cap net step x) ons, refl, told_box net step xs (drop (cap net step x) ons))
 
@@ -171,7 +173,7 @@ low_high net step x le =
     let g : ((x - net.floor) / step) * step ≤ x - net.floor = div-mul-le_self (x - net.floor) step in
     omega (arith, h, g)
 
-box_high : (net : Network) (step : ℕ) (xs js ys : List ℕ) → IsInBox net step xs js ys → ((k : ℕ) → k < length xs → pos net.floor ≤ℤ entries xs k) → (k : ℕ) → k < length xs → pos net.floor ≤ℤ entries ys k
+box_high : (net : Network) (step : ℕ) (xs js ys : List ℕ) → IsRaised net step xs js ys → ((k : ℕ) → k < length xs → pos net.floor ≤ℤ entries xs k) → (k : ℕ) → k < length xs → pos net.floor ≤ℤ entries ys k
 box_high net step [] js ys box high k l = absurd (omega arith)
 box_high net step (x ∷ xs) [] ys box high k l = absurd box
 box_high net step (x ∷ xs) (j ∷ js) [] box high k l = absurd box
@@ -180,6 +182,13 @@ box_high net step (x ∷ xs) (j ∷ js) (y ∷ ys) box high zero l =
     let floor_low : net.floor ≤ low net step x = low_high net step x (omega (arith, ints, own)) in
     omega (arith, ints, box.1, floor_low)
 box_high net step (x ∷ xs) (j ∷ js) (y ∷ ys) box high (suc k) l = box_high net step xs js ys box.2 (λ i li. high (suc i) (omega arith)) k (omega arith)
+
+-- The list that a matching tells is in the box.
+pub told_in_box : (net : Network) (step : ℕ) (xs m : List ℕ) → IsInBox step (lows net step xs) (caps net step xs) (lengths_told net step xs m)
+told_in_box net step xs m =
+    let us : List ArcUnit = units net step net.arcs xs in
+    let ons : List Bool = states_told (λ v. active v us (states_at net step xs)) us (marks_from 0 (length (matching_graph net step xs).edges) m) in
+    raised_in_box net step xs (steps_told net step xs ons) (lengths_told net step xs m) (told_box net step xs ons)
 
 -- The lengths law.
 pub lengths_law : (net : Network) (step : ℕ) (xs m : List ℕ) → IsWithinBounds net → 1 ≤ step → length xs ≡ length net.arcs → IsAdmissible net (entries xs) → IsPerfect (matching_graph net step xs) m
@@ -201,7 +210,7 @@ lengths_law net step xs m bounds positive l ax perfect = (count, record { high =
     ys : List ℕ
     ys = lengths_told net step xs m
 
-    box : IsInBox net step xs js ys
+    box : IsRaised net step xs js ys
     box = told_box net step xs ons
 
     count : length ys ≡ length net.arcs
@@ -220,7 +229,7 @@ lengths_law net step xs m bounds positive l ax perfect = (count, record { high =
         by_node (inl low_node) = told_fills net.nodes room (rim_active us (states_at net step xs) % 2 == 1) us at m perfect v low_node
         by_node (inr past) = active_past net.nodes v us ons past at ∙ sym (active_past net.nodes v us (states_at net step xs) past at)
 
-    own : IsInBox net step xs (map (down net step) xs) xs
+    own : IsRaised net step xs (map (down net step) xs) xs
     own = own_box net step xs
 
     side : (v : ℕ) → weighted_ends v true net.arcs ys ≡ weighted_ends v false net.arcs ys

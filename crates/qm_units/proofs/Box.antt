@@ -12,7 +12,8 @@ use Rattle.def_flow.specs.Units.{down, low, cap, units_from, units, run, states,
 use Rattle.def_flow.specs.declared.net.Arc.{Arc}
 use Rattle.def_flow.specs.declared.net.End.{End}
 use Rattle.def_flow.specs.declared.units.ArcUnit.{ArcUnit}
-use Rattle.qm_units.specs.Box.{IsInBox, lows}
+use Rattle.def_flow.specs.Gadget.{lows}
+use Rattle.qm_units.specs.Box.{IsRaised}
 
 -- A list is its lows and as many steps as it can give up.
 pub low_is : (net : Network) (step x : ℕ) → low net step x + down net step x * step ≡ x
@@ -21,7 +22,7 @@ low_is net step x =
     let g : ((x - net.floor) / step) * step ≤ x - net.floor = div-mul-le_self (x - net.floor) step in
     omega (arith, h, g)
 
-pub own_box : (net : Network) (step : ℕ) (xs : List ℕ) → IsInBox net step xs (map (down net step) xs) xs
+pub own_box : (net : Network) (step : ℕ) (xs : List ℕ) → IsRaised net step xs (map (down net step) xs) xs
 own_box net step [] = tt
 own_box net step (x ∷ xs) = (omega arith, sym (low_is net step x), own_box net step xs)
 
@@ -39,7 +40,7 @@ run_length zero (suc n) = omega (arith, run_length zero n)
 run_length (suc j) (suc n) = omega (arith, run_length j n)
 
 -- There are as many states as units.
-pub states_count : (net : Network) (step : ℕ) (arcs : List Arc) (xs js ys : List ℕ) → length xs ≡ length arcs → IsInBox net step xs js ys → length (units net step arcs xs) ≡ length (states net step xs js)
+pub states_count : (net : Network) (step : ℕ) (arcs : List Arc) (xs js ys : List ℕ) → length xs ≡ length arcs → IsRaised net step xs js ys → length (units net step arcs xs) ≡ length (states net step xs js)
 states_count net step [] [] [] [] l box = refl
 states_count net step (a ∷ arcs) [] js ys l box = absurd (omega arith)
 states_count net step [] (x ∷ xs) js ys l box = absurd (omega arith)
@@ -80,7 +81,7 @@ abbrev pub weighted_ends : ℕ → Bool → List Arc → List ℕ → ℕ
 weighted_ends v on (a ∷ arcs) (j ∷ js) = j * arc_active v on a + weighted_ends v on arcs js
 weighted_ends v on _ _ = 0
 
-pub box_active : (net : Network) (step v : ℕ) (arcs : List Arc) (xs js ys : List ℕ) → length xs ≡ length arcs → IsInBox net step xs js ys → active v (units net step arcs xs) (states net step xs js) + weighted_ends v false arcs js ≡ weighted_ends v true arcs js + weighted_ends v false arcs (map (cap net step) xs)
+pub box_active : (net : Network) (step v : ℕ) (arcs : List Arc) (xs js ys : List ℕ) → length xs ≡ length arcs → IsRaised net step xs js ys → active v (units net step arcs xs) (states net step xs js) + weighted_ends v false arcs js ≡ weighted_ends v true arcs js + weighted_ends v false arcs (map (cap net step) xs)
 box_active net step v [] [] [] [] l box = refl
 box_active net step v (a ∷ arcs) [] js ys l box = absurd (omega arith)
 box_active net step v [] (x ∷ xs) js ys l box = absurd (omega arith)
@@ -103,7 +104,7 @@ scaled l j s a =
     let turned : j * s * a ≡ s * (j * a) = ap (λ n. n * a) (mul_comm j s) ∙ mul_assoc s j a in
     omega (arith, add-mul l (j * s) a, turned)
 
-pub box_ends : (net : Network) (step v : ℕ) (on : Bool) (arcs : List Arc) (xs js ys : List ℕ) → length xs ≡ length arcs → IsInBox net step xs js ys → weighted_ends v on arcs ys ≡ weighted_ends v on arcs (lows net step xs) + step * weighted_ends v on arcs js
+pub box_ends : (net : Network) (step v : ℕ) (on : Bool) (arcs : List Arc) (xs js ys : List ℕ) → length xs ≡ length arcs → IsRaised net step xs js ys → weighted_ends v on arcs ys ≡ weighted_ends v on arcs (lows net step xs) + step * weighted_ends v on arcs js
 box_ends net step v on [] [] [] [] l box = omega (arith, mul_comm step 0, zero-mul step)
 box_ends net step v on (a ∷ arcs) [] js ys l box = absurd (omega arith)
 box_ends net step v on [] (x ∷ xs) js ys l box = absurd (omega arith)
@@ -146,7 +147,7 @@ side_list v on (a ∷ arcs) (y ∷ ys) l = omega (
 pub balanced_list : (arcs : List Arc) (ys : List ℕ) → length ys ≡ length arcs → IsBalanced arcs (entries ys) → (v : ℕ) → weighted_ends v true arcs ys ≡ weighted_ends v false arcs ys
 balanced_list arcs ys l balanced v = omega (arith, ints, balanced v, side_list v true arcs ys l, side_list v false arcs ys l)
 
-pub box_length : (net : Network) (step : ℕ) (xs js ys : List ℕ) → IsInBox net step xs js ys → length ys ≡ length xs
+pub box_length : (net : Network) (step : ℕ) (xs js ys : List ℕ) → IsRaised net step xs js ys → length ys ≡ length xs
 box_length net step [] [] [] box = refl
 box_length net step [] [] (y ∷ ys) box = absurd box
 box_length net step [] (j ∷ js) ys box = absurd box
@@ -155,7 +156,7 @@ box_length net step (x ∷ xs) (j ∷ js) [] box = absurd box
 box_length net step (x ∷ xs) (j ∷ js) (y ∷ ys) box = omega (arith, box_length net step xs js ys box.2)
 
 -- Two balanced lists of one box have the same number of active ends at each node.
-pub same_active : (net : Network) (step : ℕ) (xs js ys is zs : List ℕ) → 1 ≤ step → length xs ≡ length net.arcs → IsInBox net step xs js ys → IsInBox net step xs is zs → IsBalanced net.arcs (entries ys) → IsBalanced net.arcs (entries zs) → (v : ℕ) → active v (units net step net.arcs xs) (states net step xs js) ≡ active v (units net step net.arcs xs) (states net step xs is)
+pub same_active : (net : Network) (step : ℕ) (xs js ys is zs : List ℕ) → 1 ≤ step → length xs ≡ length net.arcs → IsRaised net step xs js ys → IsRaised net step xs is zs → IsBalanced net.arcs (entries ys) → IsBalanced net.arcs (entries zs) → (v : ℕ) → active v (units net step net.arcs xs) (states net step xs js) ≡ active v (units net step net.arcs xs) (states net step xs is)
 same_active net step xs js ys is zs positive l box other by bz v = omega (arith, box_active net step v net.arcs xs js ys l box, box_active net step v net.arcs xs is zs l other, equal)
   where
     plus : List ℕ → ℕ
@@ -204,7 +205,7 @@ run_cost net step a x k (suc j) (suc n) le =
     let past : k + suc j ≡ k + 1 + j = omega arith in
     rw past (omega (arith, ints, run_cost net step a x (k + 1) j n (omega arith)))
 
-pub box_cost : (net : Network) (step : ℕ) (arcs : List Arc) (xs js ys : List ℕ) → length xs ≡ length arcs → IsInBox net step xs js ys → cost_on (units net step arcs xs) (states net step xs js) +ℤ pos (deviations net arcs (lows net step xs)) ≡ pos (deviations net arcs ys)
+pub box_cost : (net : Network) (step : ℕ) (arcs : List Arc) (xs js ys : List ℕ) → length xs ≡ length arcs → IsRaised net step xs js ys → cost_on (units net step arcs xs) (states net step xs js) +ℤ pos (deviations net arcs (lows net step xs)) ≡ pos (deviations net arcs ys)
 box_cost net step [] [] [] [] l box = refl
 box_cost net step (a ∷ arcs) [] js ys l box = absurd (omega arith)
 box_cost net step [] (x ∷ xs) js ys l box = absurd (omega arith)

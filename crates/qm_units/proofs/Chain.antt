@@ -2,7 +2,7 @@
 use Rattle.std.proofs.Common.{◌≡◌, ℕ, suc, ◌+◌, ◌-◌, ◌*◌, ◌%◌, Bool, true, false, cond, List, [], ◌∷◌, ◌++◌, length, Option, Some, None, ℤ, pos, ◌+ℤ◌, refl, ◌∙◌, ap, true≢false, arith}
 use Rattle.std.proofs.lemmas.Int.{ints}
 use Rattle.def_math.specs.Sums.{span}
-use Rattle.def_flow.specs.MatchingGraph.{link_from, rim_links}
+use Rattle.def_flow.specs.MatchingGraph.{link_from, rung, rim_links}
 use Rattle.def_matching.specs.declared.weighted.WEdge.{WEdge}
 use Rattle.qm_units.specs.Marks.{trues, differ, rim_marks}
 use Rattle.qm_units.proofs.Pick.{picked}
@@ -69,11 +69,15 @@ link_from_free : (before : Option ℕ) (v : ℕ) → AreFree (link_from before v
 link_from_free None v = tt
 link_from_free (Some b) v = (refl, tt)
 
+rung_free : (before : Option ℕ) (fresh r : ℕ) → AreFree (rung before fresh r)
+rung_free None fresh r = (refl, (refl, tt))
+rung_free (Some b) fresh r = (refl, (refl, (refl, (refl, tt))))
+
 -- The rim's edges are free.
 pub rim_free : (before : Option ℕ) (fresh : ℕ) (rs : List ℕ) → AreFree (rim_links before fresh rs)
 rim_free before fresh [] = tt
 rim_free before fresh (r ∷ []) = link_from_free before r
-rim_free before fresh (r ∷ s ∷ rs) = free_append (link_from before r) _ (link_from_free before r) (refl, free_append (link_from before fresh) _ (link_from_free before fresh) (refl, rim_free (Some (fresh + 1)) (fresh + 2) (s ∷ rs)))
+rim_free before fresh (r ∷ s ∷ rs) = free_append (rung before fresh r) _ (rung_free before fresh r) (rim_free (Some (fresh + 1)) (fresh + 2) (s ∷ rs))
 
 -- Of free edges nothing is paid for.
 pub picked_free : (ms : List Bool) (es : List WEdge) → AreFree es → picked (λ e. e.cost) ms es ≡ pos 0

@@ -12,7 +12,8 @@ use Rattle.def_flow.specs.MatchingGraph.{matching_graph}
 use Rattle.def_flow.specs.declared.net.Arc.{Arc}
 use Rattle.def_flow.specs.declared.net.End.{End}
 use Rattle.def_flow.specs.declared.units.ArcUnit.{ArcUnit}
-use Rattle.qm_units.specs.Box.{IsInBox, lows, matching_told}
+use Rattle.def_flow.specs.Gadget.{lows}
+use Rattle.qm_units.specs.Box.{IsRaised, matching_told}
 use Rattle.qm_units.proofs.Unit.{AreNodes}
 use Rattle.qm_units.proofs.Units.{UnitsAt}
 use Rattle.qm_units.proofs.Whole.{StatesFit, states_perfect, states_cost, rim_parity}
@@ -58,7 +59,7 @@ lone_even m = by_parity (cases_eq (m % 2) 1)
     by_parity (inr not_odd) = rw (ne_eqb (m % 2) 1 not_odd) (omega arith)
 
 -- An admissible list in the box fits the matching graph.
-pub box_fits : (net : Network) (step : ℕ) (xs js ys : List ℕ) → IsWithinBounds net → 1 ≤ step → length xs ≡ length net.arcs → IsBalanced net.arcs (entries xs) → IsBalanced net.arcs (entries ys) → IsInBox net step xs js ys
+pub box_fits : (net : Network) (step : ℕ) (xs js ys : List ℕ) → IsWithinBounds net → 1 ≤ step → length xs ≡ length net.arcs → IsBalanced net.arcs (entries xs) → IsBalanced net.arcs (entries ys) → IsRaised net step xs js ys
     → StatesFit net.nodes (λ v. active v (units net step net.arcs xs) (states_at net step xs)) (rim_active (units net step net.arcs xs) (states_at net step xs) % 2 == 1) (units net step net.arcs xs) (states net step xs js)
 box_fits net step xs js ys bounds positive l bx by box = record {
   count = count;
@@ -86,7 +87,7 @@ box_fits net step xs js ys bounds positive l bx by box = record {
     even = omega (arith, lone_even (rim_active us (states_at net step xs)), rim_parity net.nodes (λ v. active v us (states_at net step xs)) us (states net step xs js) (states_at net step xs) at count own_count fills (λ v. refl))
 
 -- The deviation of a list in the box is that of the lows, and the cost of the units that are on.
-pub box_deviation : (net : Network) (step : ℕ) (xs js ys : List ℕ) → length xs ≡ length net.arcs → IsInBox net step xs js ys → cost_on (units net step net.arcs xs) (states net step xs js) ≡ pos (deviation net (entries ys)) -ℤ pos (deviation net (entries (lows net step xs)))
+pub box_deviation : (net : Network) (step : ℕ) (xs js ys : List ℕ) → length xs ≡ length net.arcs → IsRaised net step xs js ys → cost_on (units net step net.arcs xs) (states net step xs js) ≡ pos (deviation net (entries ys)) -ℤ pos (deviation net (entries (lows net step xs)))
 box_deviation net step xs js ys l box = omega (
   arith,
   ints,
@@ -96,7 +97,7 @@ box_deviation net step xs js ys l box = omega (
 )
 
 -- The matching law.
-pub matching_law : (net : Network) (step : ℕ) (xs js ys : List ℕ) → IsWithinBounds net → 1 ≤ step → length xs ≡ length net.arcs → IsAdmissible net (entries xs) → IsAdmissible net (entries ys) → IsInBox net step xs js ys
+pub matching_law : (net : Network) (step : ℕ) (xs js ys : List ℕ) → IsWithinBounds net → 1 ≤ step → length xs ≡ length net.arcs → IsAdmissible net (entries xs) → IsAdmissible net (entries ys) → IsRaised net step xs js ys
     → IsPerfect (matching_graph net step xs) (matching_told net step xs js) × (matching_cost (matching_graph net step xs) (matching_told net step xs js) ≡ pos (deviation net (entries ys)) -ℤ pos (deviation net (entries (lows net step xs))))
 matching_law net step xs js ys bounds positive l ax ay box = (states_perfect net.nodes room lone us ons fit, states_cost net.nodes room lone us ons fit ∙ box_deviation net step xs js ys l box)
   where

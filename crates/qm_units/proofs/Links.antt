@@ -3,7 +3,7 @@ use Rattle.std.proofs.Common.{◌≡◌, ◌≢◌, ℕ, zero, suc, ◌+◌, ◌
 use Rattle.std.proofs.lemmas.Bool.{cases_eq}
 use Rattle.def_math.specs.Counts.{count, count_below}
 use Rattle.def_matching.specs.Matching.{IsGraph, edge_at}
-use Rattle.def_flow.specs.MatchingGraph.{fan, to_copies, inner_link, are_alike, links_by, size_by, unit_links, unit_size, units_links, with_rim, rim, link_from, rim_links, first_fresh, lone_vertex, graph_by}
+use Rattle.def_flow.specs.MatchingGraph.{link, fan, to_copies, inner_link, are_alike, links_by, size_by, unit_links, unit_size, units_links, with_rim, rim, link_from, rung, rim_links, first_fresh, lone_vertex, graph_by}
 use Rattle.def_flow.specs.declared.net.End.{End}
 use Rattle.def_flow.specs.declared.units.ArcUnit.{ArcUnit}
 use Rattle.def_matching.specs.declared.weighted.WEdge.{WEdge}
@@ -71,10 +71,16 @@ from_links n m fresh v None past le lt apart = tt
 from_links n m fresh v (Some b) past le lt (inl low) = ((omega arith, lt, λ e. omega arith), tt)
 from_links n m fresh v (Some b) past le lt (inr high) = ((omega arith, lt, λ e. omega arith), tt)
 
+rung_links : (n m fresh r : ℕ) (before : Option ℕ) → r < m → m ≤ fresh → IsPast m fresh before → fresh + 2 ≤ n → AreLinks n (rung before fresh r)
+rung_links n m fresh r before low le past lt =
+    let last : AreLinks n (link fresh (fresh + 1) (pos 0) ∷ []) = ((omega arith, omega arith, λ e. omega arith), tt) in
+    let up : AreLinks n (link_from before fresh) = from_links n m fresh fresh before past (omega arith) (omega arith) (inr (omega arith)) in
+    links_append n (link_from before r) _ (from_links n m fresh r before past (omega arith) (omega arith) (inl low)) ((omega arith, omega arith, λ e. omega arith), links_append n (link_from before fresh) _ up last)
+
 rim_lawful : (n m fresh : ℕ) (before : Option ℕ) (rs : List ℕ) → AreBelow m rs → m ≤ fresh → IsPast m fresh before → fresh + pairs (length rs) ≤ n → AreLinks n (rim_links before fresh rs)
 rim_lawful n m fresh before [] below le past lt = tt
 rim_lawful n m fresh before (r ∷ []) below le past lt = from_links n m fresh r before past (omega arith) (omega arith) (inl below.0)
-rim_lawful n m fresh before (r ∷ s ∷ rs) below le past lt = links_append n (link_from before r) _ (from_links n m fresh r before past (omega arith) (omega arith) (inl below.0)) ((omega arith, omega arith, λ e. omega arith), links_append n (link_from before fresh) _ (from_links n m fresh fresh before past (omega arith) (omega arith) (inr (omega arith))) ((omega arith, omega arith, λ e. omega arith), rim_lawful n m (fresh + 2) (Some (fresh + 1)) (s ∷ rs) below.1 (omega arith) (omega arith, omega arith) (omega arith)))
+rim_lawful n m fresh before (r ∷ s ∷ rs) below le past lt = links_append n (rung before fresh r) _ (rung_links n m fresh r before below.0 le past (omega arith)) (rim_lawful n m (fresh + 2) (Some (fresh + 1)) (s ∷ rs) below.1 (omega arith) (omega arith, omega arith) (omega arith))
 
 -- Along the list is at each place.
 link_at : (n k : ℕ) (es : List WEdge) → AreLinks n es → k < length es → ((get_or es k (record { u = 0; v = 0; cost = pos 0 })).u < n) × ((get_or es k (record { u = 0; v = 0; cost = pos 0 })).v < n) × ((get_or es k (record { u = 0; v = 0; cost = pos 0 })).u ≢ (get_or es k (record { u = 0; v = 0; cost = pos 0 })).v)

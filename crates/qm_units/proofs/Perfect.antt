@@ -5,7 +5,7 @@ use Rattle.std.proofs.Math.IntN.{*ℤ-zero}
 use Rattle.def_math.specs.Sums.{total_below}
 use Rattle.def_math.specs.Counts.{count, count_below}
 use Rattle.qm_laws.proofs.Sums.{total_below_one}
-use Rattle.def_flow.specs.MatchingGraph.{to_copies, inner_link, are_alike, links_by, size_by, unit_links, unit_size, units_links, with_rim, rim, link_from, rim_links}
+use Rattle.def_flow.specs.MatchingGraph.{link, to_copies, inner_link, are_alike, links_by, size_by, unit_links, unit_size, units_links, with_rim, rim, link_from, rung, rim_links}
 use Rattle.def_flow.specs.declared.net.End.{End}
 use Rattle.def_flow.specs.declared.units.ArcUnit.{ArcUnit}
 use Rattle.def_matching.specs.declared.weighted.WEdge.{WEdge}
@@ -129,11 +129,17 @@ from_zero : (w : ℕ → ℤ) (m fresh v : ℕ) (before : Option ℕ) → IsPast
 from_zero w m fresh v None past high here = tt
 from_zero w m fresh v (Some b) past high here = (high b past.0, here, tt)
 
+rung_zero : (w : ℕ → ℤ) (m fresh r : ℕ) (before : Option ℕ) → w r ≡ pos 0 → ((k : ℕ) → m ≤ k → w k ≡ pos 0) → m ≤ fresh → IsPast m fresh before → AreZero w (rung before fresh r)
+rung_zero w m fresh r before nil high le past =
+    let last : AreZero w (link fresh (fresh + 1) (pos 0) ∷ []) = (high fresh le, high (fresh + 1) (omega arith), tt) in
+    let up : AreZero w (link_from before fresh) = from_zero w m fresh fresh before past high (high fresh le) in
+    zero_append w (link_from before r) _ (from_zero w m fresh r before past high nil) (nil, high fresh le, zero_append w (link_from before fresh) _ up last)
+
 -- At the rim nothing weighs where neither its vertices do nor those past the units.
 pub rim_zero : (w : ℕ → ℤ) (m fresh : ℕ) (before : Option ℕ) (rs : List ℕ) → AreNil w rs → ((k : ℕ) → m ≤ k → w k ≡ pos 0) → m ≤ fresh → IsPast m fresh before → AreZero w (rim_links before fresh rs)
 rim_zero w m fresh before [] nil high le past = tt
 rim_zero w m fresh before (r ∷ []) nil high le past = from_zero w m fresh r before past high nil.0
-rim_zero w m fresh before (r ∷ s ∷ rs) nil high le past = zero_append w (link_from before r) _ (from_zero w m fresh r before past high nil.0) (nil.0, high fresh le, zero_append w (link_from before fresh) _ (from_zero w m fresh fresh before past high (high fresh le)) (high fresh le, high (fresh + 1) (omega arith), rim_zero w m (fresh + 2) (Some (fresh + 1)) (s ∷ rs) nil.1 high (omega arith) (omega arith, omega arith)))
+rim_zero w m fresh before (r ∷ s ∷ rs) nil high le past = zero_append w (rung before fresh r) _ (rung_zero w m fresh r before nil.0 high le past) (rim_zero w m (fresh + 2) (Some (fresh + 1)) (s ∷ rs) nil.1 high (omega arith) (omega arith, omega arith))
 
 -- The rest of the graph, beside the edges of the units from b on: nothing of it weighs where neither its rim
 -- vertices do nor those past the units.

@@ -7,7 +7,7 @@ use Rattle.qm_laws.proofs.Counts.{count_append, count_sum, count_below_sum, coun
 use Rattle.def_flow.specs.Network.{Network, IsWithinBounds, ends, degree, tangle_number}
 use Rattle.def_flow.specs.Admissible.{IsAdmissible, entries}
 use Rattle.def_flow.specs.Units.{down, cap, units_from, units, states_at, is_active, active, alone_active, rim_active}
-use Rattle.def_flow.specs.MatchingGraph.{link, link_from, rim_links, with_rim, rim, size_by, unit_size, are_alike, unit_links, units_links, first_fresh, lone_vertex, matching_graph}
+use Rattle.def_flow.specs.MatchingGraph.{link_from, rung, rim_links, with_rim, rim, size_by, unit_size, are_alike, unit_links, units_links, first_fresh, lone_vertex, matching_graph}
 use Rattle.def_flow.specs.declared.net.Arc.{Arc}
 use Rattle.def_flow.specs.declared.net.End.{End}
 use Rattle.def_flow.specs.declared.units.ArcUnit.{ArcUnit}
@@ -167,19 +167,14 @@ from_low : (before : Option ℕ) (v : ℕ) → length (link_from before v) ≤ 1
 from_low None v = omega arith
 from_low (Some b) v = omega arith
 
+rung_low : (before : Option ℕ) (fresh r : ℕ) → length (rung before fresh r) ≤ 4
+rung_low None fresh r = omega arith
+rung_low (Some b) fresh r = omega arith
+
 rim_low : (before : Option ℕ) (fresh : ℕ) (rs : List ℕ) → length (rim_links before fresh rs) ≤ 4 * length rs
 rim_low before fresh [] = omega arith
 rim_low before fresh (r ∷ []) = omega (arith, from_low before r)
-rim_low before fresh (r ∷ s ∷ rs) =
-    let last : List WEdge = link fresh (fresh + 1) (pos 0) ∷ rim_links (Some (fresh + 1)) (fresh + 2) (s ∷ rs) in
-    omega (
-      arith,
-      length-append (link_from before r) (link r fresh (pos 0) ∷ (link_from before fresh ++ last)),
-      length-append (link_from before fresh) last,
-      from_low before r,
-      from_low before fresh,
-      rim_low (Some (fresh + 1)) (fresh + 2) (s ∷ rs),
-    )
+rim_low before fresh (r ∷ s ∷ rs) = omega (arith, length-append (rung before fresh r) (rim_links (Some (fresh + 1)) (fresh + 2) (s ∷ rs)), rung_low before fresh r, rim_low (Some (fresh + 1)) (fresh + 2) (s ∷ rs))
 
 -- Of each arc there are at most four units, all of its shape.
 shape_count : (g : End → Option End → ℕ) (net : Network) (step : ℕ) (a : Arc) (x k n : ℕ) → count (λ u. g u.left u.right) (units_from net step a x k n) ≡ n * g a.left a.right

@@ -13,7 +13,8 @@ use Rattle.def_flow.specs.Accepted.{Certificate, IsAccepted}
 use Rattle.qm_lift.proofs.Balance.{same_sides}
 use Rattle.qm_lift.proofs.Lift.{lift_law}
 use Rattle.qm_dual.proofs.Weak.{weak_duality}
-use Rattle.qm_units.specs.Box.{IsInBox, lows, matching_told}
+use Rattle.def_flow.specs.Gadget.{lows}
+use Rattle.qm_units.specs.Box.{IsRaised, matching_told}
 use Rattle.qm_units.proofs.Box.{own_box}
 use Rattle.qm_units.proofs.Law.{graph_law, box_deviation, matching_law}
 
@@ -42,7 +43,7 @@ near_one net y x high own near =
     let steps : down net 1 x ≡ min 2 (x - net.floor) = ap (min 2) whole in
     (omega (arith, ints, steps), omega (arith, ints, steps))
 
-near_box : (net : Network) (f : ℕ → ℤ) (xs : List ℕ) → IsNear net.floor f xs → IsInBox net 1 xs (units_on net f xs) (listed f xs)
+near_box : (net : Network) (f : ℕ → ℤ) (xs : List ℕ) → IsNear net.floor f xs → IsRaised net 1 xs (units_on net f xs) (listed f xs)
 near_box net f [] near = tt
 near_box net f (x ∷ xs) near = (here.0, here.1, near_box net (λ k. f (suc k)) xs (λ k l. near (suc k) (omega arith)))
   where

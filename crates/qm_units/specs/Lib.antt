@@ -1,4 +1,3 @@
 pub mod Box
-pub mod Laws
 pub mod Marks
 pub mod Told

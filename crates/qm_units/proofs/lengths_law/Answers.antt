@@ -1,5 +1,5 @@
-use Rattle.qm_units.proofs.Arcs.{lengths_law}
+use Rattle.qm_units.proofs.Laws.{lists}
 use Rattle.qm_units.proofs.lengths_law.Goals as goal
 
 pub returns : goal.returns
-returns c = lengths_law
+returns c = lists

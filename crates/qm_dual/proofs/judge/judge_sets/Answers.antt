@@ -21,7 +21,7 @@ returns-in-Some c =
     ∙ (ap (λ xs. least (λ k. not (is_odd_size (slice_index xs k))) (length xs)) (sym table) ∙ sym c.in-Some.ensures.least) in
     let size : c.index-size.result.now ≡ set_size c.args.g.now.n (dual c.args.d.now) c.in-Some.set =
     get_or_read c.in_ok-sizes.sizes.items c.in-Some.set c.index-size.result.now low c.index-size.ensures 0 ∙ are.each c.in-Some.set (omega (arith, are.count)) in
-    rw (shaped_verdict (graph c.args.g.now) (dual c.args.d.now) c.requires.numbers c.requires.nested, found) (ap (Even c.in-Some.set) size)
+    rw (shaped_verdict (graph c.args.g.now) (dual c.args.d.now) c.requires.numbers c.requires.nest.nested, found) (ap (Even c.in-Some.set) size)
 
 pub returns-in-Some-negative_set : goal.returns-in-Some-negative_set
 returns-in-Some-negative_set c =
@@ -31,7 +31,7 @@ returns-in-Some-negative_set c =
     ∙ (ap (λ xs. least (λ k. not (is_odd_size (slice_index xs k))) (length xs)) (sym table) ∙ (sym c.even_set.ensures.least ∙ c.in_default.is)) in
     let found : negative_fault (dual c.args.d.now) ≡ Some c.in-Some-negative_set.set =
     ap (λ xs. least (λ k. int_lt (slice_index_or xs k (pos 0)) (pos 0)) (length xs)) (sym c.deref-2.ensures.value) ∙ (sym c.negative_set.ensures ∙ c.in-Some-negative_set.is) in
-    rw (shaped_verdict (graph c.args.g.now) (dual c.args.d.now) c.requires.numbers c.requires.nested, none, found) refl
+    rw (shaped_verdict (graph c.args.g.now) (dual c.args.d.now) c.requires.numbers c.requires.nest.nested, none, found) refl
 
 pub returns : goal.returns
 returns c =
@@ -41,4 +41,4 @@ returns c =
     ∙ (ap (λ xs. least (λ k. not (is_odd_size (slice_index xs k))) (length xs)) (sym table) ∙ (sym c.even_set.ensures.least ∙ c.in_default.is)) in
     let positive : negative_fault (dual c.args.d.now) ≡ None =
     ap (λ xs. least (λ k. int_lt (slice_index_or xs k (pos 0)) (pos 0)) (length xs)) (sym c.deref-2.ensures.value) ∙ (sym c.negative_set.ensures ∙ c.in_default-negative_set.is) in
-    rw (shaped_verdict (graph c.args.g.now) (dual c.args.d.now) c.requires.numbers c.requires.nested, none, positive) c.judge_loads.ensures
+    rw (shaped_verdict (graph c.args.g.now) (dual c.args.d.now) c.requires.numbers c.requires.nest.nested, none, positive) c.judge_loads.ensures

@@ -1,6 +1,6 @@
-use Rattle.std.proofs.Common.{◌≡◌, ◌-◌, length, slice_index, ◌∙◌, sym, ap, arith}
+use Rattle.std.proofs.Common.{◌≡◌, ◌⊎◌, ◌-◌, length, slice_index, ◌∙◌, sym, ap, arith}
 use Rattle.qm_dual.specs.Nest.{climbs}
-use Rattle.qm_dual.proofs.Meets.{meeting_found}
+use Rattle.qm_dual.proofs.Meets.{meeting_found, meeting_none}
 use Rattle.qm_dual.proofs.paths.meeting.Goals as goal
 use Rattle.qm_dual.proofs.paths.meeting.Goals.{then-loop-first-test+then-second-ne0+else-heads-first, then-loop-first-test+else-second-ne0, else-loop-first-test}
 
@@ -12,5 +12,10 @@ returns-else-second-eq0-clause-least c =
       | else-loop-first-test w ↦ absurd (omega (arith, c.if-second-eq0.false))
     ] in
     λ k. ap (climbs c.args.n c.args.d.now.up.items (length c.args.d.now.z.items) k) c.max.ensures
-    ∙ (meeting_found c.args.n (length c.args.d.now.z.items) c.args.d.now.up.items c.args.heads.now c.requires.nested c.requires.headed c.loop-first.first c.loop-first.second (c.loop-first.first - 1) (c.loop-first.second - 1) (omega (arith, c.if-second-eq0.false)) (omega (arith, c.if-second-eq0.false)) (omega (arith, c.if-second-eq0.false)) (omega (arith, c.if-second-eq0.false)) heads k
+    ∙ (meeting_found c.args.n (length c.args.d.now.z.items) c.args.d.now.up.items c.args.heads.now c.requires.nest.nested c.requires.headed c.loop-first.first c.loop-first.second (c.loop-first.first - 1) (c.loop-first.second - 1) (omega (arith, c.if-second-eq0.false)) (omega (arith, c.if-second-eq0.false)) (omega (arith, c.if-second-eq0.false)) (omega (arith, c.if-second-eq0.false)) heads k
     ∙ sym (c.loop-first.invariant.same k))
+
+pub returns-then-second-eq0-clause-least : goal.returns-then-second-eq0-clause-least
+returns-then-second-eq0-clause-least c =
+    let none : (c.loop-first.first ≡ 0) ⊎ (c.loop-first.second ≡ 0) = grind (arith, c.if-second-eq0.either) in
+    λ k. meeting_none c.args.n (length c.args.d.now.z.items) c.args.d.now.up.items c.loop-first.first c.loop-first.second none k ∙ sym (c.loop-first.invariant.same k)

@@ -1,11 +1,11 @@
 use Rattle.std.proofs.Common.{◌≡◌, ◌+◌, ◌-◌, ◌<◌, length, min, slice_index, ◌∙◌, ap, arith}
 use Rattle.def_matching.specs.Dual.{dual}
-use Rattle.qm_dual.specs.Nest.{added}
+use Rattle.qm_dual.specs.Nest.{tally_with}
 use Rattle.qm_dual.proofs.Tallies.{tallies_low, tallies_pass, tallies_end}
 use Rattle.qm_dual.proofs.sizes.pass_up.Goals as goal
 
-pub add-requires-clause-fits : goal.add-requires-clause-fits
-add-requires-clause-fits c =
+pub tally-requires-clause-fits : goal.tally-requires-clause-fits
+tally-requires-clause-fits c =
     omega (
       arith,
       tallies_low c.args.n (length c.args.d.now.z.items) c.args.d.now.up.items c.args.n (λ j. min j c.loop-k.k) c.loop-k.sizes c.loop-k.invariant (c.set_around_set.result - 1),
@@ -15,8 +15,8 @@ add-requires-clause-fits c =
 pub loop-k-preserved : goal.loop-k-preserved
 loop-k-preserved c =
     let inner : c.loop-k.k < length c.args.d.now.z.items = omega (arith, c.loop-k.invariant.count) in
-    let new : c.add.new.sizes ≡ added c.loop-k.sizes (slice_index c.args.d.now.up.items (c.args.n + c.loop-k.k)) (slice_index c.loop-k.sizes c.loop-k.k) = c.add.ensures ∙ ap (λ e. added c.loop-k.sizes e (slice_index c.loop-k.sizes c.loop-k.k)) c.set_around_set.ensures.value in
-    rw new (tallies_pass c.args.n (length c.args.d.now.z.items) c.args.d.now.up.items c.requires.nested c.loop-k.k c.loop-k.sizes inner c.loop-k.invariant)
+    let new : c.tally.new.sizes ≡ tally_with c.loop-k.sizes (slice_index c.args.d.now.up.items (c.args.n + c.loop-k.k)) (slice_index c.loop-k.sizes c.loop-k.k) = c.tally.ensures ∙ ap (λ e. tally_with c.loop-k.sizes e (slice_index c.loop-k.sizes c.loop-k.k)) c.set_around_set.ensures.value in
+    rw new (tallies_pass c.args.n (length c.args.d.now.z.items) c.args.d.now.up.items c.requires.nest.nested c.loop-k.k c.loop-k.sizes inner c.loop-k.invariant)
 
 pub returns : goal.returns
-returns c = tallies_end c.args.n (dual c.args.d.now) c.requires.nested c.loop-k.k c.loop-k.sizes (omega (arith, c.loop-k.invariant.count)) c.loop-k.invariant
+returns c = tallies_end c.args.n (dual c.args.d.now) c.requires.nest.nested c.loop-k.k c.loop-k.sizes (omega (arith, c.loop-k.invariant.count)) c.loop-k.invariant

@@ -30,3 +30,8 @@ pub returns-clause-cost : goal.returns-clause-cost
 returns-clause-cost c = IfOk-weaker c.lengths_over.result _ _
     (λ (ys : Vec ℕ Global) is. (gadget_lengths (network c.args.net.now) c.args.g.now c.args.m.now c.requires.bounds c.requires.gadget c.requires.perfect c.len.result (omega (arith, c.len.ensures, c.args.g.now.graph.edges.ok.0)) ys.items is).2)
     (rw (← c.deref.ensures.value, ← c.deref-2.ensures.value) c.lengths_over.ensures)
+
+pub returns-clause-inside : goal.returns-clause-inside
+returns-clause-inside c = IfOk-weaker c.lengths_over.result _ _
+    (λ (ys : Vec ℕ Global) is. (gadget_lengths (network c.args.net.now) c.args.g.now c.args.m.now c.requires.bounds c.requires.gadget c.requires.perfect c.len.result (omega (arith, c.len.ensures, c.args.g.now.graph.edges.ok.0)) ys.items is).3)
+    (rw (← c.deref.ensures.value, ← c.deref-2.ensures.value) c.lengths_over.ensures)

@@ -1,14 +1,14 @@
 use Rattle.std.proofs.Common.{ℕ, Vec, Global}
 use Rattle.std.proofs.lemmas.Result.{IfOk-weaker}
 use Rattle.def_flow.specs.Network.{network}
-use Rattle.qm_gadget.proofs.Told.{gadget_ready, gadget_ups, gadget_short, gadget_matching}
+use Rattle.qm_gadget.proofs.Told.{gadget_ready, gadget_short, gadget_matching}
 use Rattle.qm_gadget.proofs.matching.matching_of.Goals as goal
 
 pub matching_by-requires-clause-ready : goal.matching_by-requires-clause-ready
 matching_by-requires-clause-ready c = rw (c.deref.ensures.value, c.deref-2.ensures.value) (gadget_ready (network c.args.net.now) c.args.g.now c.requires.bounds c.requires.gadget)
 
 pub matching_by-requires-clause-inside : goal.matching_by-requires-clause-inside
-matching_by-requires-clause-inside c = rw (c.deref.ensures.value, c.deref-2.ensures.value) (gadget_ups c.args.g.now c.args.x2.now c.requires.inside)
+matching_by-requires-clause-inside c = rw (c.deref.ensures.value, c.deref-2.ensures.value) c.requires.inside
 
 pub matching_by-requires-clause-short : goal.matching_by-requires-clause-short
 matching_by-requires-clause-short c = rw (c.deref.ensures.value, c.deref-2.ensures.value) (gadget_short (network c.args.net.now) c.args.g.now c.args.x2.now c.requires.bounds c.requires.gadget c.requires.inside)

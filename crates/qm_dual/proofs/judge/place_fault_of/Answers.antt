@@ -1,7 +1,7 @@
 use Rattle.std.proofs.Common.{◌≡◌, ◌+◌, not, true, sym, ◌∙◌, ap, arith, slice_index}
 use Rattle.qm_laws.proofs.Searches.{least_none, least_some}
 use Rattle.def_matching.specs.Dual.{is_up}
-use Rattle.qm_dual.proofs.judge.misplaced.Goals as goal
+use Rattle.qm_dual.proofs.judge.place_fault_of.Goals as goal
 
 pub returns-then-not-may_stand : goal.returns-then-not-may_stand
 returns-then-not-may_stand c =

@@ -1,9 +1,9 @@
 use Rattle.std.proofs.Common.{slice_index, arith}
-use Rattle.qm_dual.proofs.paths.path_heads.Goals as goal
+use Rattle.qm_dual.proofs.paths.heads_by.Goals as goal
 
 pub returns : goal.returns
 returns c = record {
   count = c.loop-k.invariant.count;
-  picks = slice_index c.in_ok-picks.picks.items;
+  picks = slice_index c.args.picks.now;
   each = λ k l. c.loop-k.invariant.each k (omega arith) l;
 }

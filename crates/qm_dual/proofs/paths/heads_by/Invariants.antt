@@ -1,12 +1,12 @@
 use Rattle.std.proofs.Common.{◌≡◌, ℕ, ◌<◌, ◌≤◌, length, slice_index}
 use Rattle.qm_dual.specs.Nest.{IsHead}
-use Rattle.qm_dual.proofs.paths.path_heads.Given as goal
+use Rattle.qm_dual.proofs.paths.heads_by.Given as goal
 
 abbrev pub invariant-loop-k : goal.invariant-loop-k
 invariant-loop-k l = record {
   low : l.k ≤ length l.d.z.items;
   count : length l.heads.items ≡ length l.d.z.items;
-  each : (j : ℕ) → l.k ≤ j → j < length l.d.z.items → IsHead l.n l.d.up.items (slice_index l.picks.items) l.heads.items j;
+  each : (j : ℕ) → l.k ≤ j → j < length l.d.z.items → IsHead l.n l.d.up.items (slice_index l.picks) l.heads.items j;
 }
 
 abbrev pub decreases-loop-k : goal.decreases-loop-k
