@@ -3,3 +3,4 @@ pub mod Rising
 pub mod Runs
 pub mod Searches
 pub mod Sums
+pub mod Tables

@@ -1,99 +1,85 @@
 -- Sums on one side of the nodes, one arc at a time.
-use Rattle.std.proofs.Common.{◌≡◌, ◌≢◌, ℕ, ◌+◌, ◌*◌, ◌^◌, ◌<◌, ◌≤◌, ◌==◌, Bool, true, false, not, ◌&&◌, cond, List, ◌∷◌, length, get_or, Option, Some, None, pos, ◌+ℤ◌, ◌≤ℤ◌, refl, sym, ◌∙◌, inl, inr, ◌⊎◌, add-one, ltb-true, eq-eqb, ne_eqb, arith}
-use Rattle.std.specs.Prelude.{slice_index, slice_set, IfSome, option_to_list, nat_lt}
+use Rattle.std.proofs.Common.{◌≡◌, ℕ, zero, suc, ◌+◌, ◌*◌, ◌^◌, ◌<◌, ◌≤◌, ◌==◌, Bool, true, false, not, ◌&&◌, cond, List, ◌∷◌, length, Option, Some, None, pos, refl, ◌∙◌, add-one, ltb-true, arith}
+use Rattle.std.specs.Prelude.{slice_index, IfSome, option_to_list, nat_lt}
 use Rattle.std.specs.List.{list_all}
-use Rattle.std.proofs.lemmas.Int.{ints}
-use Rattle.std.proofs.lemmas.Bool.{cases_eq, and_parts}
-use Rattle.std.proofs.lemmas.List.{length-set, get_or-set_same, get_or-set_other}
+use Rattle.std.proofs.lemmas.Bool.{and_parts}
+use Rattle.def_math.specs.Counts.{count, count_below}
 use Rattle.def_math.specs.Sums.{total}
+use Rattle.def_math.specs.Tables.{at_place, IsRaised}
+use Rattle.qm_laws.proofs.Counts.{count_total, count_below_total}
+use Rattle.qm_laws.proofs.Sums.{total_same, total_below_same}
+use Rattle.qm_table.proofs.Tallies.{raised_as, raised_none, raised_twice, tally_low, tally_more}
 use Rattle.def_flow.specs.Network.{Network, IsWithinBounds, arc_at, ends}
-use Rattle.def_flow.specs.Admissible.{is_on_side}
+use Rattle.def_flow.specs.Admissible.{AreLengths, entries, is_on_side, side_sum}
 use Rattle.def_flow.specs.declared.net.Arc.{Arc}
 use Rattle.def_flow.specs.declared.net.End.{End}
 use Rattle.qm_net.proofs.Within.{arc_bounded, ends_bounded}
-use Rattle.qm_cert.specs.Sides.{added, added_right, added_arc, AreSides}
+use Rattle.qm_cert.specs.Sides.{end_put, arc_put, side_count, AreSides}
 
--- What an end puts on a side of a node.
-abbrev pub put : Bool → ℕ → ℕ → End → ℕ
-put plus v x e = cond (is_on_side v plus e) x 0
-
-pub added_length : (plus : Bool) (e : End) (x : ℕ) (sums : List ℕ) → length (added plus e x sums) ≡ length sums
-added_length plus e x sums = by_test (cond plus e.plus (not e.plus))
+-- Adding at the node of an end that is on the side.
+pub end_raised : (plus : Bool) (e : End) (x : ℕ) (old new : List ℕ) → cond plus e.plus (not e.plus) ≡ true → IsRaised (at_place e.node x) old new → IsRaised (end_put plus e x) old new
+end_raised plus e x old new on raised = raised_as (at_place e.node x) (end_put plus e x) old new (λ v l. rw on (by_place (e.node == v))) raised
   where
-    by_test : (b : Bool) → length (cond b (slice_set sums e.node (slice_index sums e.node + x)) sums) ≡ length sums
-    by_test true = length-set sums e.node _
-    by_test false = refl
+    by_place : (b : Bool) → cond b x 0 ≡ cond (b && true) x 0
+    by_place true = refl
+    by_place false = refl
 
-pub added_read : (plus : Bool) (e : End) (x : ℕ) (sums : List ℕ) (v : ℕ) → e.node < length sums → slice_index (added plus e x sums) v ≡ slice_index sums v + put plus v x e
-added_read plus e x sums v l = by_test (cond plus e.plus (not e.plus)) (cases_eq e.node v)
+-- An end on the other side puts nothing.
+pub end_still : (plus : Bool) (e : End) (x : ℕ) (table : List ℕ) → cond plus e.plus (not e.plus) ≡ false → IsRaised (end_put plus e x) table table
+end_still plus e x table off = raised_none (end_put plus e x) table (λ v l. rw off (by_place (e.node == v)))
   where
-    by_test : (b : Bool) → (e.node ≡ v) ⊎ (e.node ≢ v) → get_or (cond b (slice_set sums e.node (slice_index sums e.node + x)) sums) v 0 ≡ get_or sums v 0 + cond ((e.node == v) && b) x 0
-    by_test true (inl is) = rw (eq-eqb e.node v is, ← is) (get_or-set_same sums e.node (slice_index sums e.node + x) 0 l)
-    by_test true (inr ne) = rw (ne_eqb e.node v ne) (get_or-set_other sums e.node v (slice_index sums e.node + x) 0 (λ is. ne (sym is)) ∙ omega arith)
-    by_test false (inl is) = rw (eq-eqb e.node v is) (omega arith)
-    by_test false (inr ne) = rw (ne_eqb e.node v ne) (omega arith)
+    by_place : (b : Bool) → cond (b && false) x 0 ≡ 0
+    by_place true = refl
+    by_place false = refl
 
-added_arc_length : (plus : Bool) (a : Arc) (x : ℕ) (sums : List ℕ) → length (added_arc plus a x sums) ≡ length sums
-added_arc_length plus a x sums = by_right a.right
+-- Where one end after the other is added, the arc is.
+pub one_put : (plus : Bool) (a : Arc) (x : ℕ) (old new : List ℕ) → a.right ≡ None → IsRaised (end_put plus a.left x) old new → IsRaised (arc_put plus a x) old new
+one_put plus a x old new none raised = raised_as (end_put plus a.left x) (arc_put plus a x) old new (λ v l. rw none (omega arith)) raised
+
+pub two_put : (plus : Bool) (a : Arc) (right : End) (x : ℕ) (old mid new : List ℕ) → a.right ≡ Some right → IsRaised (end_put plus a.left x) old mid → IsRaised (end_put plus right x) mid new → IsRaised (arc_put plus a x) old new
+two_put plus a right x old mid new some first second =
+    raised_as (λ v. end_put plus a.left x v + end_put plus right x v) (arc_put plus a x) old new (λ v l. rw some (omega arith)) (raised_twice (end_put plus a.left x) (end_put plus right x) old mid new first second)
+
+-- An end puts its length at most, and an arc twice its length.
+pub end_low : (plus : Bool) (e : End) (x v : ℕ) → end_put plus e x v ≤ x
+end_low plus e x v = by_test (is_on_side v plus e)
   where
-    first : List ℕ
-    first = added plus a.left x sums
+    by_test : (b : Bool) → cond b x 0 ≤ x
+    by_test true = omega arith
+    by_test false = omega arith
 
-    by_right : (o : Option End) → length (added_right plus o x first) ≡ length sums
-    by_right None = added_length plus a.left x sums
-    by_right (Some e) = added_length plus e x first ∙ added_length plus a.left x sums
-
-added_arc_read : (plus : Bool) (a : Arc) (x : ℕ) (sums : List ℕ) (v : ℕ) → a.left.node < length sums → IfSome a.right (λ e. e.node < length sums) → pos (slice_index (added_arc plus a x sums) v) ≡ pos (slice_index sums v) +ℤ total (λ e. cond (is_on_side v plus e) (pos x) (pos 0)) (ends a)
-added_arc_read plus a x sums v left right = by_right a.right right
+arc_low : (plus : Bool) (a : Arc) (x v : ℕ) → arc_put plus a x v ≤ 2 * x
+arc_low plus a x v = by_right a.right
   where
-    first : List ℕ
-    first = added plus a.left x sums
+    by_right : (o : Option End) → count (λ (e : End). end_put plus e x v) (a.left ∷ option_to_list o) ≤ 2 * x
+    by_right None = omega (arith, end_low plus a.left x v)
+    by_right (Some e) = omega (arith, end_low plus a.left x v, end_low plus e x v)
 
-    one : (e : End) → pos (put plus v x e) ≡ cond (is_on_side v plus e) (pos x) (pos 0)
-    one e = by_test (is_on_side v plus e)
+side_low : (arcs : List Arc) (xs : List ℕ) (plus : Bool) (k v : ℕ) → ((i : ℕ) → i < k → slice_index xs i ≤ 10 ^ 12) → side_count arcs xs plus k v ≤ k * (2 * 10 ^ 12)
+side_low arcs xs plus zero v short = omega arith
+side_low arcs xs plus (suc k) v short = omega (arith, side_low arcs xs plus k v (λ i l. short i (omega arith)), short k (omega arith), arc_low plus (arc_at arcs k) (slice_index xs k) v)
+
+-- The sums of the first arcs are small.
+pub sides_low : (nodes : ℕ) (arcs : List Arc) (xs : List ℕ) (plus : Bool) (k : ℕ) (sums : List ℕ) → AreLengths arcs xs → k ≤ length arcs → AreSides nodes arcs xs plus k sums → (v : ℕ) → slice_index sums v ≤ k * (2 * 10 ^ 12)
+sides_low nodes arcs xs plus k sums lengths le are = tally_low (side_count arcs xs plus k) nodes (k * (2 * 10 ^ 12)) sums are (λ v l. side_low arcs xs plus k v (λ i li. lengths.small i (omega (arith, lengths.count))))
+
+-- One arc more.
+pub sides_more : (nodes : ℕ) (arcs : List Arc) (xs : List ℕ) (plus : Bool) (k : ℕ) (old new : List ℕ) → AreSides nodes arcs xs plus k old → IsRaised (arc_put plus (arc_at arcs k) (slice_index xs k)) old new → AreSides nodes arcs xs plus (k + 1) new
+sides_more nodes arcs xs plus k old new are raised = tally_more (side_count arcs xs plus k) (side_count arcs xs plus (k + 1)) (arc_put plus (arc_at arcs k) (slice_index xs k)) nodes old new (λ v l. rw (add-one k) refl) are raised
+
+-- Such a sum as a whole number.
+pub side_is : (arcs : List Arc) (xs : List ℕ) (plus : Bool) (v : ℕ) → pos (side_count arcs xs plus (length arcs) v) ≡ side_sum arcs (entries xs) plus v
+side_is arcs xs plus v = count_below_total (λ i. arc_put plus (arc_at arcs i) (slice_index xs i) v) (length arcs) ∙ total_below_same _ _ (length arcs) (λ i l. by_arc i)
+  where
+    one : (i : ℕ) (e : End) → pos (end_put plus e (slice_index xs i) v) ≡ cond (is_on_side v plus e) (entries xs i) (pos 0)
+    one i e = by_test (is_on_side v plus e)
       where
-        by_test : (b : Bool) → pos (cond b x 0) ≡ cond b (pos x) (pos 0)
+        by_test : (b : Bool) → pos (cond b (slice_index xs i) 0) ≡ cond b (pos (slice_index xs i)) (pos 0)
         by_test true = refl
         by_test false = refl
 
-    by_right : (o : Option End) → IfSome o (λ e. e.node < length sums) → pos (slice_index (added_right plus o x first) v) ≡ pos (slice_index sums v) +ℤ total (λ e. cond (is_on_side v plus e) (pos x) (pos 0)) (a.left ∷ option_to_list o)
-    by_right None at = omega (arith, ints, added_read plus a.left x sums v left, one a.left)
-    by_right (Some e) at = omega (arith, ints, added_read plus e x first v (omega (arith, added_length plus a.left x sums, at)), added_read plus a.left x sums v left, one a.left, one e)
-
--- One arc more.
-pub sides_more : (nodes : ℕ) (arcs : List Arc) (xs : List ℕ) (plus : Bool) (k : ℕ) (sums : List ℕ) → slice_index xs k ≤ 10 ^ 12 → (arc_at arcs k).left.node < nodes → IfSome (arc_at arcs k).right (λ e. e.node < nodes) → AreSides nodes arcs xs plus k sums → AreSides nodes arcs xs plus (k + 1) (added_arc plus (arc_at arcs k) (slice_index xs k) sums)
-sides_more nodes arcs xs plus k sums short left right are = record {
-  count = added_arc_length plus a x sums ∙ are.count;
-  each = λ v l. rw (add-one k) (omega (arith, ints, read v, are.each v l));
-  small = λ v. omega (arith, ints, read v, are.small v, short, low v);
-}
-  where
-    a : Arc
-    a = arc_at arcs k
-
-    x : ℕ
-    x = slice_index xs k
-
-    read : (v : ℕ) → pos (slice_index (added_arc plus a x sums) v) ≡ pos (slice_index sums v) +ℤ total (λ e. cond (is_on_side v plus e) (pos x) (pos 0)) (ends a)
-    read v = added_arc_read plus a x sums v (omega (arith, left, are.count)) (by_right a.right right)
-      where
-        by_right : (o : Option End) → IfSome o (λ e. e.node < nodes) → IfSome o (λ e. e.node < length sums)
-        by_right None at = at
-        by_right (Some e) at = omega (arith, at, are.count)
-
-    low : (v : ℕ) → total (λ e. cond (is_on_side v plus e) (pos x) (pos 0)) (ends a) ≤ℤ pos (2 * x)
-    low v = by_right a.right
-      where
-        one : (e : End) → cond (is_on_side v plus e) (pos x) (pos 0) ≤ℤ pos x
-        one e = by_test (is_on_side v plus e)
-          where
-            by_test : (b : Bool) → cond b (pos x) (pos 0) ≤ℤ pos x
-            by_test true = omega (arith, ints)
-            by_test false = omega (arith, ints)
-
-        by_right : (o : Option End) → total (λ e. cond (is_on_side v plus e) (pos x) (pos 0)) (a.left ∷ option_to_list o) ≤ℤ pos (2 * x)
-        by_right None = omega (arith, ints, one a.left)
-        by_right (Some e) = omega (arith, ints, one a.left, one e)
+    by_arc : (i : ℕ) → pos (arc_put plus (arc_at arcs i) (slice_index xs i) v) ≡ total (λ e. cond (is_on_side v plus e) (entries xs i) (pos 0)) (ends (arc_at arcs i))
+    by_arc i = count_total (λ (e : End). end_put plus e (slice_index xs i) v) (ends (arc_at arcs i)) ∙ total_same _ _ (ends (arc_at arcs i)) (one i)
 
 -- The ends of an arc of a network within bounds are at nodes.
 pub arc_in_bounds : (net : Network) (k : ℕ) → IsWithinBounds net → k < length net.arcs → ((arc_at net.arcs k).left.node < net.nodes) × IfSome (arc_at net.arcs k).right (λ e. e.node < net.nodes)

@@ -14,6 +14,7 @@ use Rattle.def_flow.specs.declared.cert.CertVerdict.{CertVerdict}
 use Rattle.def_flow.specs.declared.cert.CertVerdict.TheVariants.{Unequal}
 use Rattle.qm_cert.specs.Faults.{compared_verdict, unequal_verdict}
 use Rattle.qm_cert.specs.Sides.{AreSides}
+use Rattle.qm_cert.proofs.SideSums.{side_is}
 
 -- Equal answers at what was found.
 map_same : (f g : ℕ → CertVerdict) (o : Option ℕ) → ((k : ℕ) → o ≡ Some k → f k ≡ g k) → option_map f o ≡ option_map g o
@@ -41,10 +42,10 @@ compared_is net xs plus minus p m =
     side s v = side_sum net.arcs (entries xs) s v
 
     plus_is : (v : ℕ) → v < net.nodes → pos (slice_index plus v) ≡ side true v
-    plus_is v l = p.each v l
+    plus_is v l = ap pos (p.each v l) ∙ side_is net.arcs xs true v
 
     minus_is : (v : ℕ) → v < net.nodes → pos (slice_index minus v) ≡ side false v
-    minus_is v l = m.each v l
+    minus_is v l = ap pos (m.each v l) ∙ side_is net.arcs xs false v
 
     test : (v : ℕ) → v < net.nodes → not (slice_index plus v == slice_index minus v) ≡ not (int_eq (side true v) (side false v))
     test v l = ap not (same_test (slice_index plus v) (slice_index minus v)) ∙ (ap (λ z. not (int_eq z (pos (slice_index minus v)))) (plus_is v l) ∙ ap (λ z. not (int_eq (side true v) z)) (minus_is v l))

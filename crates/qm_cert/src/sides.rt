@@ -2,9 +2,10 @@
 
 ghost use Rattle.std.specs.Prelude.{◌≡◌, ◌+◌, ◌*◌, ◌^◌, ◌<◌, ◌≤◌, ◌==◌, ℕ, not, cond, length, replicate, slice_index, nat_lt, IfOk, IfSome};
 ghost use Rattle.def_math.specs.Searches.{least};
+ghost use Rattle.def_math.specs.Tables.{IsRaised};
 ghost use Rattle.def_flow.specs.Network.{network, IsWithinBounds};
 ghost use Rattle.def_flow.specs.Admissible.{AreLengths};
-ghost use Rattle.qm_cert.specs.Sides.{added, added_arc, AreSides};
+ghost use Rattle.qm_cert.specs.Sides.{arc_put, end_put, AreSides};
 
 use def_flow::{Arc, End, MAX_LENGTH, Net};
 use std::alloc::{AllocError, Global};
@@ -44,7 +45,7 @@ fn add_arc(sums: &mut [u128], arc: &Arc, amount: u64, plus: bool)
     requires right { IfSome arc.now.right (λ e. e.node < length sums.old) }
     requires short { amount ≤ MAX_LENGTH }
     requires small { (v : ℕ) → slice_index sums.old v ≤ 2 ^ 100 }
-    ensures { sums.new ≡ added_arc plus arc.now amount sums.old }
+    ensures { IsRaised (arc_put plus arc.now amount) sums.old sums.new }
 {
     add_end(sums, &arc.left, amount, plus);
     if let Some(right) = &arc.right {
@@ -57,7 +58,7 @@ fn add_end(sums: &mut [u128], end: &End, amount: u64, plus: bool)
     requires at { end.now.node < length sums.old }
     requires short { amount ≤ MAX_LENGTH }
     requires small { (v : ℕ) → slice_index sums.old v ≤ 2 ^ 101 }
-    ensures { sums.new ≡ added plus end.now amount sums.old }
+    ensures { IsRaised (end_put plus end.now amount) sums.old sums.new }
 {
     if end.plus == plus {
         sums[end.node as usize] += u128::from(amount);

@@ -1,15 +1,17 @@
 -- Counts of active ends, one unit at a time.
-use Rattle.std.proofs.Common.{◌≡◌, ℕ, suc, ◌+◌, ◌*◌, ◌%◌, ◌<◌, ◌≤◌, ◌==◌, Bool, true, false, not, ◌&&◌, cond, List, [], ◌∷◌, length, drop, Option, Some, None, refl, sym, ◌∙◌, subst, inl, inr, arith}
-use Rattle.std.specs.Prelude.{slice_index, slice_index_or, slice_set, option_to_list}
+use Rattle.std.proofs.Common.{◌≡◌, ℕ, zero, suc, ◌+◌, ◌*◌, ◌%◌, ◌<◌, ◌≤◌, ◌==◌, Bool, true, false, not, ◌&&◌, cond, List, [], ◌∷◌, length, take, drop, Option, Some, None, refl, sym, ◌∙◌, subst, inl, inr, arith}
+use Rattle.std.specs.Prelude.{slice_index, slice_index_or, option_to_list}
 use mathlib.Core.Bool.{beq}
-use Rattle.std.proofs.lemmas.Bool.{cases_eq, eq-eqb, ne_eqb}
-use Rattle.std.proofs.lemmas.List.{drop_more, drop_all, length-set, get_or-set_same, get_or-set_other}
+use Rattle.std.proofs.lemmas.Bool.{cases_lt, ne_eqb}
+use Rattle.std.proofs.lemmas.List.{drop_more, drop_all, get_or_past, length-take}
 use Rattle.def_math.specs.Counts.{count}
 use Rattle.def_flow.specs.Units.{is_active, active_at, active, alone_active, rim_active}
 use Rattle.def_flow.specs.declared.net.End.{End}
 use Rattle.def_flow.specs.declared.units.ArcUnit.{ArcUnit}
 use Rattle.qm_gadget.specs.Layout.{EndsAt, IsAtNodes, AreAtNodes}
-use Rattle.qm_gadget.specs.Over.{bumped, bumped_right, bumped_unit}
+use Rattle.def_math.specs.Tables.{at_place, IsRaised, IsTally}
+use Rattle.qm_table.proofs.Tallies.{raised_as, raised_none, raised_twice, tally_low, tally_more}
+use Rattle.qm_gadget.specs.Over.{end_active}
 
 -- Functions that agree everywhere are equal.
 pub same_everywhere : {X : Type 0} (f g : ℕ → X) → ((v : ℕ) → f v ≡ g v) → f ≡ g
@@ -20,52 +22,41 @@ pub left_at : (nodes : ℕ) (left : End) (right : Option End) → EndsAt nodes l
 left_at nodes left None at = at
 left_at nodes left (Some right) at = at.0
 
--- Whether an end is active at a node, as a number.
-abbrev pub stands : ℕ → Bool → End → ℕ
-stands v on e = cond ((e.node == v) && is_active on e) 1 0
+-- The second end of a unit at nodes.
+pub right_at : (nodes : ℕ) (left right : End) (o : Option End) → o ≡ Some right → EndsAt nodes left o → right.node < nodes
+right_at nodes left right o is at = (subst (λ (p : Option End). EndsAt nodes left p) is at).1
 
-pub bumped_length : (rooms : List ℕ) (e : End) (on : Bool) → length (bumped rooms e on) ≡ length rooms
-bumped_length rooms e on = by_test (is_active on e)
+-- Counting at the node of an active end.
+pub end_raised : (e : End) (on : Bool) (old new : List ℕ) → is_active on e ≡ true → IsRaised (at_place e.node 1) old new → IsRaised (end_active e on) old new
+end_raised e on old new active raised = raised_as (at_place e.node 1) (end_active e on) old new (λ v l. rw active (by_place (e.node == v))) raised
   where
-    by_test : (b : Bool) → length (cond b (slice_set rooms e.node (slice_index rooms e.node + 1)) rooms) ≡ length rooms
-    by_test true = length-set rooms e.node _
-    by_test false = refl
+    by_place : (b : Bool) → ◌≡◌ {A = ℕ} (cond b 1 0) (cond (b && true) 1 0)
+    by_place true = refl
+    by_place false = refl
 
-pub bumped_read : (rooms : List ℕ) (e : End) (on : Bool) (v : ℕ) → e.node < length rooms → slice_index (bumped rooms e on) v ≡ slice_index rooms v + stands v on e
-bumped_read rooms e on v l = by_test (is_active on e)
+-- An end that is not active counts nowhere.
+pub end_still : (e : End) (on : Bool) (table : List ℕ) → is_active on e ≡ false → IsRaised (end_active e on) table table
+end_still e on table off = raised_none (end_active e on) table (λ v l. rw off (by_place (e.node == v)))
   where
-    by_test : (b : Bool) → slice_index (cond b (slice_set rooms e.node (slice_index rooms e.node + 1)) rooms) v ≡ slice_index rooms v + cond ((e.node == v) && b) 1 0
-    by_test true = elim (cases_eq e.node v) [ inl is ↦ here is | inr ne ↦ other ne ]
-      where
-        here : e.node ≡ v → slice_index (slice_set rooms e.node (slice_index rooms e.node + 1)) v ≡ slice_index rooms v + cond ((e.node == v) && true) 1 0
-        here is =
-            let test : (e.node == v) ≡ true = eq-eqb e.node v is in
-            rw test (subst (λ (w : ℕ). slice_index (slice_set rooms e.node (slice_index rooms e.node + 1)) w ≡ slice_index rooms w + 1) is (get_or-set_same rooms e.node (slice_index rooms e.node + 1) 0 l))
+    by_place : (b : Bool) → ◌≡◌ {A = ℕ} (cond (b && false) 1 0) 0
+    by_place true = refl
+    by_place false = refl
 
-        other : (e.node ≡ v → ⊥) → slice_index (slice_set rooms e.node (slice_index rooms e.node + 1)) v ≡ slice_index rooms v + cond ((e.node == v) && true) 1 0
-        other ne =
-            let test : (e.node == v) ≡ false = ne_eqb e.node v ne in
-            rw test (omega (arith, get_or-set_other rooms e.node v (slice_index rooms e.node + 1) 0 (λ q. ne (sym q))))
-    by_test false = omega (arith, none (e.node == v))
-      where
-        none : (b : Bool) → ◌≡◌ {A = ℕ} (cond (b && false) 1 0) 0
-        none true = refl
-        none false = refl
+-- Where one end after the other is counted, all active ends of a unit are.
+pub one_active : (u : ArcUnit) (on : Bool) (old new : List ℕ) → u.right ≡ None → IsRaised (end_active u.left on) old new → IsRaised (λ v. active_at v u on) old new
+one_active u on old new none raised = raised_as (end_active u.left on) (λ v. active_at v u on) old new (λ v l. rw none (omega arith)) raised
 
-pub bumped_unit_length : (rooms : List ℕ) (u : ArcUnit) (on : Bool) → length (bumped_unit rooms u on) ≡ length rooms
-bumped_unit_length rooms u on = by_right u.right ∙ bumped_length rooms u.left on
+pub two_active : (u : ArcUnit) (right : End) (on : Bool) (old mid new : List ℕ) → u.right ≡ Some right → IsRaised (end_active u.left on) old mid → IsRaised (end_active right on) mid new → IsRaised (λ v. active_at v u on) old new
+two_active u right on old mid new some first second =
+    raised_as (λ v. end_active u.left on v + end_active right on v) (λ v. active_at v u on) old new (λ v l. rw some (omega arith)) (raised_twice (end_active u.left on) (end_active right on) old mid new first second)
+
+-- 1 at most.
+pub end_low : (e : End) (on : Bool) (v : ℕ) → end_active e on v ≤ 1
+end_low e on v = by_test ((e.node == v) && is_active on e)
   where
-    by_right : (o : Option End) → length (bumped_right (bumped rooms u.left on) o on) ≡ length (bumped rooms u.left on)
-    by_right None = refl
-    by_right (Some e) = bumped_length (bumped rooms u.left on) e on
-
--- A unit's ends are counted at their nodes.
-pub bumped_unit_read : (rooms : List ℕ) (u : ArcUnit) (on : Bool) (v : ℕ) → IsAtNodes (length rooms) u → slice_index (bumped_unit rooms u on) v ≡ slice_index rooms v + active_at v u on
-bumped_unit_read rooms u on v at = by_right u.right at
-  where
-    by_right : (o : Option End) → EndsAt (length rooms) u.left o → slice_index (bumped_right (bumped rooms u.left on) o on) v ≡ slice_index rooms v + count (stands v on) (u.left ∷ option_to_list o)
-    by_right None at = omega (arith, bumped_read rooms u.left on v at)
-    by_right (Some e) at = omega (arith, bumped_read rooms u.left on v at.0, bumped_read (bumped rooms u.left on) e on v (omega (arith, at.1, bumped_length rooms u.left on)))
+    by_test : (b : Bool) → cond b 1 0 ≤ 1
+    by_test true = omega arith
+    by_test false = omega arith
 
 -- A unit has at most two active ends at a node.
 pub active_at_low : (v : ℕ) (u : ArcUnit) (on : Bool) → active_at v u on ≤ 2
@@ -75,18 +66,30 @@ active_at_low v u on = by_right u.right
     one true = omega arith
     one false = omega arith
 
-    by_right : (o : Option End) → count (stands v on) (u.left ∷ option_to_list o) ≤ 2
+    by_right : (o : Option End) → count (λ (e : End). end_active e on v) (u.left ∷ option_to_list o) ≤ 2
     by_right None = omega (arith, one ((u.left.node == v) && is_active on u.left))
     by_right (Some e) = omega (arith, one ((u.left.node == v) && is_active on u.left), one ((e.node == v) && is_active on e))
 
--- The active ends from a unit on, and those from the next on.
-pub active_step : (v : ℕ) (us : List ArcUnit) (ons : List Bool) (k : ℕ) (u : ArcUnit) (b : Bool) → k < length us → length us ≡ length ons → active v (drop k us) (drop k ons) ≡ active_at v (slice_index_or us k u) (slice_index_or ons k b) + active v (drop (k + 1) us) (drop (k + 1) ons)
-active_step v us ons k u b l same =
-    let inner : k < length ons = omega arith in
-    rw (drop_more us k u l, drop_more ons k b inner) refl
+-- There are at most two active ends for each unit.
+pub active_low : (v : ℕ) (us : List ArcUnit) (ons : List Bool) → active v us ons ≤ 2 * length us
+active_low v [] ons = omega arith
+active_low v (u ∷ us) [] = omega arith
+active_low v (u ∷ us) (on ∷ ons) = omega (arith, active_at_low v u on, active_low v us ons)
 
-pub active_end : (v : ℕ) (us : List ArcUnit) (ons : List Bool) (k : ℕ) → length us ≤ k → active v (drop k us) (drop k ons) ≡ 0
-active_end v us ons k h = rw (drop_all k us h) refl
+-- One unit more.
+active_more : (v : ℕ) (us : List ArcUnit) (ons : List Bool) (k : ℕ) (u : ArcUnit) (b : Bool) → k < length us → length us ≡ length ons → active v (take (k + 1) us) (take (k + 1) ons) ≡ active v (take k us) (take k ons) + active_at v (slice_index_or us k u) (slice_index_or ons k b)
+active_more v [] ons k u b l same = absurd (omega arith)
+active_more v (w ∷ us) [] k u b l same = absurd (omega arith)
+active_more v (w ∷ us) (o ∷ ons) zero u b l same = omega arith
+active_more v (w ∷ us) (o ∷ ons) (suc k) u b l same = let next : suc k + 1 ≡ suc (k + 1) = omega arith in rw next (omega (arith, active_more v us ons k u b (omega arith) (omega arith)))
+
+pub rooms_more : (us : List ArcUnit) (ons : List Bool) (k nodes : ℕ) (u : ArcUnit) (b : Bool) (old new : List ℕ) → k < length us → length us ≡ length ons → IsTally (λ v. active v (take k us) (take k ons)) nodes old
+    → IsRaised (λ v. active_at v (slice_index_or us k u) (slice_index_or ons k b)) old new → IsTally (λ v. active v (take (k + 1) us) (take (k + 1) ons)) nodes new
+rooms_more us ons k nodes u b old new l same are raised =
+    tally_more (λ v. active v (take k us) (take k ons)) (λ v. active v (take (k + 1) us) (take (k + 1) ons)) (λ v. active_at v (slice_index_or us k u) (slice_index_or ons k b)) nodes old new (λ v lv. active_more v us ons k u b l same) are raised
+
+pub rooms_few : (us : List ArcUnit) (ons : List Bool) (k nodes : ℕ) (rooms : List ℕ) → IsTally (λ v. active v (take k us) (take k ons)) nodes rooms → (v : ℕ) → slice_index rooms v ≤ 2 * k
+rooms_few us ons k nodes rooms are = tally_low (λ v. active v (take k us) (take k ons)) nodes (2 * k) rooms are (λ v l. omega (arith, active_low v (take k us) (take k ons), length-take k us))
 
 -- The same at the rim.
 pub rim_step : (us : List ArcUnit) (ons : List Bool) (k : ℕ) (u : ArcUnit) (b : Bool) → k < length us → length us ≡ length ons → rim_active (drop k us) (drop k ons) ≡ alone_active (slice_index_or us k u).left (slice_index_or us k u).right (slice_index_or ons k b) + rim_active (drop (k + 1) us) (drop (k + 1) ons)
@@ -98,17 +101,20 @@ pub rim_end : (us : List ArcUnit) (ons : List Bool) (k : ℕ) → length us ≤ 
 rim_end us ons k h = rw (drop_all k us h) refl
 
 -- Past the nodes no end is active.
+pub unit_past : (nodes : ℕ) (u : ArcUnit) (on : Bool) → IsAtNodes nodes u → (v : ℕ) → nodes ≤ v → active_at v u on ≡ 0
+unit_past nodes u on at v past = none_here u.right at
+  where
+    off : (e : End) → e.node < nodes → end_active e on v ≡ 0
+    off e l = let test : (e.node == v) ≡ false = ne_eqb e.node v (λ is. omega arith) in rw test refl
+
+    none_here : (o : Option End) → EndsAt nodes u.left o → count (λ (e : End). end_active e on v) (u.left ∷ option_to_list o) ≡ 0
+    none_here None at = omega (arith, off u.left at)
+    none_here (Some e) at = omega (arith, off u.left at.0, off e at.1)
+
 pub none_past : (nodes : ℕ) (us : List ArcUnit) (ons : List Bool) → AreAtNodes nodes us → (v : ℕ) → nodes ≤ v → active v us ons ≡ 0
 none_past nodes [] ons at v past = refl
 none_past nodes (u ∷ us) [] at v past = refl
-none_past nodes (u ∷ us) (on ∷ ons) at v past = omega (arith, none_here u.right (at 0 u (omega arith)), none_past nodes us ons (λ k w l. at (suc k) w (omega arith)) v past)
-  where
-    off : (e : End) → e.node < nodes → stands v on e ≡ 0
-    off e l = let test : (e.node == v) ≡ false = ne_eqb e.node v (λ is. omega arith) in rw test refl
-
-    none_here : (o : Option End) → EndsAt nodes u.left o → count (stands v on) (u.left ∷ option_to_list o) ≡ 0
-    none_here None at = omega (arith, off u.left at)
-    none_here (Some e) at = omega (arith, off u.left at.0, off e at.1)
+none_past nodes (u ∷ us) (on ∷ ons) at v past = omega (arith, unit_past nodes u on (at 0 u (omega arith)) v past, none_past nodes us ons (λ k w l. at (suc k) w (omega arith)) v past)
 
 -- The parity of a count where one more may be added.
 pub differ_parity : (a b : Bool) (r : ℕ) → (cond (not (beq a b)) 1 0 + r) % 2 ≡ (cond a 1 0 + (cond b 1 0 + r)) % 2
@@ -117,8 +123,9 @@ differ_parity true false r = omega arith
 differ_parity false true r = omega arith
 differ_parity false false r = omega arith
 
--- There are at most two active ends for each unit.
-pub active_low : (v : ℕ) (us : List ArcUnit) (ons : List Bool) → active v us ons ≤ 2 * length us
-active_low v [] ons = omega arith
-active_low v (u ∷ us) [] = omega arith
-active_low v (u ∷ us) (on ∷ ons) = omega (arith, active_at_low v u on, active_low v us ons)
+-- A table with the active ends of a unit added, at each number, also past the nodes.
+pub raised_read : (u : ArcUnit) (on : Bool) (nodes : ℕ) (old new : List ℕ) → length old ≡ nodes → IsAtNodes nodes u → IsRaised (λ v. active_at v u on) old new → (v : ℕ) → slice_index new v ≡ slice_index old v + active_at v u on
+raised_read u on nodes old new long at raised v = elim (cases_lt v (length old)) [
+  | inl l ↦ raised.each v l
+  | inr h ↦ omega (arith, get_or_past new v 0 (omega (arith, raised.long)), get_or_past old v 0 h, unit_past nodes u on at v (omega (arith, long)))
+]

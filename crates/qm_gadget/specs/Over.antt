@@ -1,5 +1,6 @@
 -- Units and their states by the lists of lows and caps that a gadget keeps, and the tables that count them.
-use Rattle.std.specs.Prelude.{◌≡◌, ℕ, zero, suc, ◌+◌, ◌*◌, ◌^◌, ◌<◌, ◌≤◌, Bool, cond, List, [], ◌∷◌, ◌++◌, length, Option, Some, None, pos, ◌-ℤ◌, slice_index, slice_set}
+use Rattle.std.specs.Prelude.{◌≡◌, ℕ, zero, suc, ◌+◌, ◌*◌, ◌^◌, ◌<◌, ◌≤◌, Bool, cond, ◌&&◌, ◌==◌, List, [], ◌∷◌, ◌++◌, length, pos, ◌-ℤ◌, slice_index}
+use Rattle.def_math.specs.Tables.{IsTally}
 use Rattle.def_flow.specs.Network.{Network}
 use Rattle.def_flow.specs.Admissible.{arc_deviation}
 use Rattle.def_flow.specs.Units.{is_active, active, run}
@@ -33,18 +34,10 @@ abbrev pub states_over : List ℕ → List ℕ → List Bool
 states_over (c ∷ cs) (j ∷ js) = run j c ++ states_over cs js
 states_over _ _ = []
 
--- The numbers with one more at the node of an end, if it is active.
-abbrev pub bumped : List ℕ → End → Bool → List ℕ
-bumped rooms e on = cond (is_active on e) (slice_set rooms e.node (slice_index rooms e.node + 1)) rooms
-
-abbrev pub bumped_right : List ℕ → Option End → Bool → List ℕ
-bumped_right rooms None on = rooms
-bumped_right rooms (Some e) on = bumped rooms e on
-
-abbrev pub bumped_unit : List ℕ → ArcUnit → Bool → List ℕ
-bumped_unit rooms u on = bumped_right (bumped rooms u.left on) u.right on
+-- 1 at the node of an end, where it is active.
+abbrev pub end_active : (e : End) (on : Bool) (v : ℕ) → ℕ
+end_active e on v = cond ((e.node == v) && is_active on e) 1 0
 
 -- The number of active unit ends at each node.
-pub record AreRooms (nodes : ℕ) (us : List ArcUnit) (ons : List Bool) (rooms : List ℕ) : Type 0 where
-  pub count : length rooms ≡ nodes
-  pub each : (v : ℕ) → v < nodes → slice_index rooms v ≡ active v us ons
+abbrev pub AreRooms : (nodes : ℕ) (us : List ArcUnit) (ons : List Bool) (rooms : List ℕ) → Type 0
+AreRooms nodes us ons rooms = IsTally (λ v. active v us ons) nodes rooms

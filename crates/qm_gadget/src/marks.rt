@@ -1,10 +1,13 @@
+//! The edges that a list chooses at its units.
+
 ghost use Rattle.std.specs.Prelude.{◌≡◌, ◌+◌, ◌*◌, ◌^◌, ◌<◌, ◌≤◌, [], ◌∷◌, ◌++◌, replicate, ℕ, length, slice_index, OnOk, IfOk};
+ghost use Rattle.def_math.specs.Tables.{IsRaised};
+ghost use Rattle.def_flow.specs.Units.{active_at};
 ghost use Rattle.def_flow.specs.Units.{is_active as is_active_end};
 ghost use Rattle.qm_units.specs.Marks.{places, choice, end_marks, marks_by, units_marks};
 ghost use Rattle.qm_units.specs.Told.{width_by};
 ghost use Rattle.qm_gadget.specs.Layout.{room_of, IsAtNodes, AreAtNodes};
 ghost use Rattle.qm_gadget.specs.Marked.{right_marks};
-ghost use Rattle.qm_gadget.specs.Over.{bumped, bumped_unit};
 
 use crate::edges::have_like_signs;
 use crate::states::{bump, is_active};
@@ -86,7 +89,7 @@ fn push_unit_marks(
     requires few { (k ≤ 2 ^ 27) × ((v : ℕ) → slice_index rooms.now v ≤ 2 ^ 27) }
     requires small { (v : ℕ) → slice_index used.old v ≤ 2 ^ 30 }
     ensures marks { OnOk result (m.new.items ≡ m.old.items ++ places k (marks_by (room_of rooms.now) (room_of used.old) on unit.now.left unit.now.right)) }
-    ensures used { OnOk result (used.new ≡ bumped_unit used.old unit.now on) }
+    ensures used { OnOk result (IsRaised (λ v. active_at v unit.now on) used.old used.new) }
 {
     push_end_marks(m, k, rooms, used, &unit.left, on)?;
     bump(used, &unit.left, on);

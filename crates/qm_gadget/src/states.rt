@@ -1,8 +1,11 @@
+//! The states of units, and how many active ends there are at each node.
+
 ghost use Rattle.std.specs.Prelude.{◌≡◌, ◌+◌, ◌-◌, ◌*◌, ◌%◌, ◌^◌, ◌<◌, ◌≤◌, ◌++◌, ◌==◌, [], ◌∷◌, ℕ, cond, length, slice_index, map, replicate, OnOk, IfOk};
-ghost use Rattle.def_flow.specs.Units.{run, rim_active, alone_active};
+ghost use Rattle.def_math.specs.Tables.{IsRaised};
+ghost use Rattle.def_flow.specs.Units.{active_at, run, rim_active, alone_active};
 ghost use Rattle.def_flow.specs.Units.{is_active as is_active_end};
 ghost use Rattle.qm_gadget.specs.Layout.{AreAtNodes, IsAtNodes};
-ghost use Rattle.qm_gadget.specs.Over.{states_over, bumped, bumped_unit, AreRooms};
+ghost use Rattle.qm_gadget.specs.Over.{states_over, end_active, AreRooms};
 
 use def_flow::{ArcUnit, End};
 use std::alloc::{AllocError, Global};
@@ -36,6 +39,7 @@ fn push_run(ons: &mut Vec<bool>, up: u32, cap: u32) -> Result<(), AllocError>
     Ok(())
 }
 
+/// Adds a state.
 fn push_state(ons: &mut Vec<bool>, on: bool) -> Result<(), AllocError>
     ensures { OnOk result (ons.new.items ≡ ons.old.items ++ on ∷ []) }
 {
@@ -84,7 +88,7 @@ fn bump_all(rooms: &mut [u32], units: &[ArcUnit], ons: &[bool])
 fn bump_unit(rooms: &mut [u32], unit: &ArcUnit, on: bool)
     requires small { (v : ℕ) → slice_index rooms.old v ≤ 2 ^ 30 }
     requires at { IsAtNodes (length rooms.old) unit.now }
-    ensures { rooms.new ≡ bumped_unit rooms.old unit.now on }
+    ensures { IsRaised (λ v. active_at v unit.now on) rooms.old rooms.new }
 {
     bump(rooms, &unit.left, on);
     if let Some(right) = &unit.right {
@@ -96,7 +100,7 @@ fn bump_unit(rooms: &mut [u32], unit: &ArcUnit, on: bool)
 pub(crate) fn bump(rooms: &mut [u32], end: &End, on: bool)
     requires small { (v : ℕ) → slice_index rooms.old v ≤ 2 ^ 30 + 1 }
     requires at { end.now.node < length rooms.old }
-    ensures { rooms.new ≡ bumped rooms.old end.now on }
+    ensures { IsRaised (end_active end.now on) rooms.old rooms.new }
 {
     if is_active(end, on) {
         rooms[end.node as usize] += 1;

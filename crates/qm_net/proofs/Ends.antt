@@ -1,69 +1,41 @@
 -- Counts of ends, one arc at a time.
-use Rattle.std.proofs.Common.{◌≡◌, ℕ, ◌+◌, ◌*◌, ◌^◌, ◌<◌, ◌≤◌, ◌==◌, Bool, true, false, ◌&&◌, cond, List, [], ◌∷◌, length, drop, Option, Some, None, refl, sym, ◌∙◌, ap, subst, inl, inr, arith}
-use Rattle.std.specs.Prelude.{slice_index, slice_index_or, slice_set, option_to_list, nat_lt}
+use Rattle.std.proofs.Common.{◌≡◌, ℕ, ◌+◌, ◌*◌, ◌^◌, ◌<◌, ◌≤◌, ◌==◌, Bool, true, false, ◌&&◌, cond, List, [], ◌∷◌, length, take, Option, Some, None, refl, sym, ◌∙◌, ap, subst, inl, inr, arith}
+use Rattle.std.specs.Prelude.{slice_index, slice_index_or, option_to_list, nat_lt}
 use Rattle.std.specs.List.{list_all}
 use Rattle.std.proofs.lemmas.Bool.{cases_eq, cases_lt, eq-eqb, ne_eqb, and_parts}
 use Rattle.std.proofs.lemmas.Bool.Decides.{nat_tests}
-use Rattle.std.proofs.lemmas.List.{drop_more, drop_all, get_or_past, length-set, get_or-set_same, get_or-set_other}
+use Rattle.std.proofs.lemmas.List.{length-take-le}
 use Rattle.std.proofs.lemmas.List.Sums.{AllPass-from_list_all}
 use Rattle.def_math.specs.Counts.{count, count_below}
 use Rattle.qm_laws.proofs.Counts.{count_below_same}
 use Rattle.def_flow.specs.Network.{Network, IsWithinBounds, is_bounded, degree, ends}
 use Rattle.def_flow.specs.declared.net.Arc.{Arc}
 use Rattle.def_flow.specs.declared.net.End.{End}
-use Rattle.qm_net.specs.Degrees.{counted, counted_right, counted_arc, EndsBelow, HasEndsBelow, AreEndsBelow, AreDegrees}
+use Rattle.def_math.specs.Tables.{at_place, IsRaised, IsTally}
+use Rattle.qm_table.proofs.Ranges.{count_take}
+use Rattle.qm_table.proofs.Tallies.{raised_as, raised_twice, tally_low, tally_more}
+use Rattle.qm_net.specs.Degrees.{ends_at, EndsBelow, AreEndsBelow}
 use Rattle.qm_net.proofs.Within.{ends_bounded}
 
--- Whether an end is at a node, as a number.
-abbrev stands : ℕ → End → ℕ
-stands v e = cond (e.node == v) 1 0
+-- Where one end after the other is counted, all ends of an arc are.
+pub one_end : (a : Arc) (old new : List ℕ) → a.right ≡ None → IsRaised (at_place a.left.node 1) old new → IsRaised (ends_at a) old new
+one_end a old new none raised = raised_as (at_place a.left.node 1) (ends_at a) old new (λ v l. rw none (omega arith)) raised
 
-counted_read : (xs : List ℕ) (e : End) (v : ℕ) → e.node < length xs → slice_index (counted xs e) v ≡ slice_index xs v + stands v e
-counted_read xs e v l = elim (cases_eq e.node v) [ inl is ↦ here is | inr ne ↦ other ne ]
-  where
-    here : e.node ≡ v → slice_index (counted xs e) v ≡ slice_index xs v + stands v e
-    here is =
-        let test : (e.node == v) ≡ true = eq-eqb e.node v is in
-        rw test (subst (λ (w : ℕ). slice_index (slice_set xs e.node (slice_index xs e.node + 1)) w ≡ slice_index xs w + 1) is (get_or-set_same xs e.node (slice_index xs e.node + 1) 0 l))
-
-    other : (e.node ≡ v → ⊥) → slice_index (counted xs e) v ≡ slice_index xs v + stands v e
-    other ne =
-        let test : (e.node == v) ≡ false = ne_eqb e.node v ne in
-        rw test (omega (arith, get_or-set_other xs e.node v (slice_index xs e.node + 1) 0 (λ q. ne (sym q))))
-
-pub counted_length : (xs : List ℕ) (a : Arc) → length (counted_arc xs a) ≡ length xs
-counted_length xs a = by_right a.right ∙ length-set xs a.left.node (slice_index xs a.left.node + 1)
-  where
-    by_right : (o : Option End) → length (counted_right (counted xs a.left) o) ≡ length (counted xs a.left)
-    by_right None = refl
-    by_right (Some e) = length-set (counted xs a.left) e.node (slice_index (counted xs a.left) e.node + 1)
-
--- An arc's ends are counted at their nodes.
-pub counted_arc_read : (xs : List ℕ) (a : Arc) (v : ℕ) → HasEndsBelow (length xs) a → slice_index (counted_arc xs a) v ≡ slice_index xs v + count (stands v) (ends a)
-counted_arc_read xs a v at = by_right a.right at
-  where
-    by_right : (o : Option End) → EndsBelow (length xs) a.left o → slice_index (counted_right (counted xs a.left) o) v ≡ slice_index xs v + count (stands v) (a.left ∷ option_to_list o)
-    by_right None at = omega (arith, counted_read xs a.left v at)
-    by_right (Some e) at = omega (arith, counted_read xs a.left v at.0, counted_read (counted xs a.left) e v (omega (arith, at.1, length-set xs a.left.node (slice_index xs a.left.node + 1))))
+pub two_ends : (a : Arc) (right : End) (old mid new : List ℕ) → a.right ≡ Some right → IsRaised (at_place a.left.node 1) old mid → IsRaised (at_place right.node 1) mid new → IsRaised (ends_at a) old new
+two_ends a right old mid new some first second =
+    raised_as (λ v. at_place a.left.node 1 v + at_place right.node 1 v) (ends_at a) old new (λ v l. rw some (omega arith)) (raised_twice (at_place a.left.node 1) (at_place right.node 1) old mid new first second)
 
 -- An arc has at most two ends at a node.
-pub ends_low : (v : ℕ) (a : Arc) → count (stands v) (ends a) ≤ 2
+pub ends_low : (v : ℕ) (a : Arc) → ends_at a v ≤ 2
 ends_low v a = by_right a.right
   where
     one : (b : Bool) → cond b 1 0 ≤ 1
     one true = omega arith
     one false = omega arith
 
-    by_right : (o : Option End) → count (stands v) (a.left ∷ option_to_list o) ≤ 2
+    by_right : (o : Option End) → count (λ (e : End). cond (e.node == v) 1 0) (a.left ∷ option_to_list o) ≤ 2
     by_right None = omega (arith, one (a.left.node == v))
     by_right (Some e) = omega (arith, one (a.left.node == v), one (e.node == v))
-
--- The ends from an arc on, and those from the next on.
-pub degree_step : (arcs : List Arc) (k : ℕ) (a : Arc) (v : ℕ) → k < length arcs → degree (drop k arcs) v ≡ count (stands v) (ends (slice_index_or arcs k a)) + degree (drop (k + 1) arcs) v
-degree_step arcs k a v l = rw (drop_more arcs k a l) refl
-
-pub degree_end : (arcs : List Arc) (k v : ℕ) → length arcs ≤ k → degree (drop k arcs) v ≡ 0
-degree_end arcs k v h = rw (drop_all k arcs h) refl
 
 -- The ends of a network within bounds are at nodes.
 pub network_ends : (net : Network) → IsWithinBounds net → AreEndsBelow net.nodes net.arcs
@@ -84,12 +56,17 @@ degree_low [] v = omega arith
 degree_low (a ∷ arcs) v = omega (arith, ends_low v a, degree_low arcs v)
 
 -- Counts of ends are small.
-pub degrees_low : (nodes : ℕ) (arcs : List Arc) (degrees : List ℕ) → AreDegrees nodes arcs degrees → length arcs < 2 ^ 32 → (v : ℕ) → slice_index degrees v ≤ 2 ^ 34
-degrees_low nodes arcs degrees are few v = elim (cases_lt v nodes) [
-  | inl l ↦ omega (arith, are.each v l, degree_low arcs v)
-  | inr h ↦ omega (arith, get_or_past degrees v 0 (omega (arith, are.long)))
-]
+pub degrees_low : (nodes : ℕ) (arcs : List Arc) (degrees : List ℕ) → IsTally (degree arcs) nodes degrees → length arcs < 2 ^ 32 → (v : ℕ) → slice_index degrees v ≤ 2 ^ 34
+degrees_low nodes arcs degrees are few = tally_low (degree arcs) nodes (2 ^ 34) degrees are (λ v l. omega (arith, degree_low arcs v))
+
+-- One arc more.
+pub degrees_more : (arcs : List Arc) (d : Arc) (k nodes : ℕ) (old new : List ℕ) → k < length arcs → IsTally (degree (take k arcs)) nodes old → IsRaised (ends_at (slice_index_or arcs k d)) old new → IsTally (degree (take (k + 1) arcs)) nodes new
+degrees_more arcs d k nodes old new l are raised = tally_more (degree (take k arcs)) (degree (take (k + 1) arcs)) (ends_at (slice_index_or arcs k d)) nodes old new (λ v lv. count_take (λ a. ends_at a v) d arcs k l) are raised
+
+-- Before the last arc the counts are smaller still.
+pub degrees_few : (arcs : List Arc) (k nodes : ℕ) (degrees : List ℕ) → k ≤ length arcs → IsTally (degree (take k arcs)) nodes degrees → (v : ℕ) → slice_index degrees v ≤ 2 * k
+degrees_few arcs k nodes degrees le are = tally_low (degree (take k arcs)) nodes (2 * k) degrees are (λ v l. omega (arith, degree_low (take k arcs) v, length-take-le k arcs))
 
 -- The squares of the counts of ends.
-pub squares : (nodes : ℕ) (arcs : List Arc) (degrees : List ℕ) → AreDegrees nodes arcs degrees → count_below (λ v. 16 * (slice_index degrees v * slice_index degrees v)) (length degrees) ≡ count_below (λ v. 16 * (degree arcs v * degree arcs v)) nodes
-squares nodes arcs degrees are = ap (count_below (λ v. 16 * (slice_index degrees v * slice_index degrees v))) are.long ∙ count_below_same _ _ nodes (λ v l. ap (λ d. 16 * (d * d)) (are.each v l))
+pub squares : (nodes : ℕ) (arcs : List Arc) (degrees : List ℕ) → IsTally (degree arcs) nodes degrees → count_below (λ v. 16 * (slice_index degrees v * slice_index degrees v)) (length degrees) ≡ count_below (λ v. 16 * (degree arcs v * degree arcs v)) nodes
+squares nodes arcs degrees are = ap (count_below (λ v. 16 * (slice_index degrees v * slice_index degrees v))) are.count ∙ count_below_same _ _ nodes (λ v l. ap (λ d. 16 * (d * d)) (are.each v l))

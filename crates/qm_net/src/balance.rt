@@ -1,3 +1,5 @@
+//! Whether a list is admissible.
+
 ghost use Rattle.std.specs.Prelude.{◌≡◌, ◌+◌, ◌*◌, ◌^◌, ◌<◌, ◌≤◌, ◌↔◌, IsTrue, ℕ, pos, length, slice_index_or, unsigned_abs, nat_le, replicate};
 ghost use Rattle.std.specs.Ordering.{int_eq};
 ghost use Rattle.std.specs.List.{list_all};
@@ -6,7 +8,7 @@ ghost use Rattle.def_flow.specs.Admissible.{entries, IsAdmissible, IsBalanced};
 ghost use Rattle.qm_net.specs.Balance.{signed, weighed, weighed_arc, AreBalances, IsBlockBalanced};
 ghost use Rattle.def_flow.specs.Admissible.{AreLengths};
 
-use def_flow::{Arc, End, Net};
+use def_flow::{Arc, End, MAX_LENGTH, Net};
 
 /// How many nodes are looked at in one pass over the arcs.
 const BLOCK: usize = 2048;
@@ -58,6 +60,7 @@ fn is_block_balanced(net: &Net, x: &[u64], first: usize) -> bool
     are_zero(&balances)
 }
 
+/// Whether each number is 0.
 fn are_zero(numbers: &[i128]) -> bool
     ensures { result ≡ list_all (λ z. int_eq z (pos 0)) numbers.now }
 {
@@ -80,7 +83,7 @@ fn weigh_arcs(net: &Net, x: &[u64], first: usize, balances: &mut [i128])
 /// Weighs the length of an arc at those of its ends that are in a block.
 fn weigh_arc(first: usize, arc: &Arc, length: u64, balances: &mut [i128])
     requires low { first < 2 ^ 32 }
-    requires short { length ≤ 10 ^ 12 }
+    requires short { length ≤ MAX_LENGTH }
     requires small { (j : ℕ) → unsigned_abs (slice_index_or balances.old j (pos 0)) ≤ 2 ^ 100 }
     ensures { balances.new ≡ weighed_arc first arc.now length balances.old }
 {
@@ -93,7 +96,7 @@ fn weigh_arc(first: usize, arc: &Arc, length: u64, balances: &mut [i128])
 /// Weighs a length at an end, if its node is in a block: it counts up on the plus side, and down on the minus side.
 fn weigh(first: usize, end: &End, length: u64, balances: &mut [i128])
     requires low { first < 2 ^ 32 }
-    requires short { length ≤ 10 ^ 12 }
+    requires short { length ≤ MAX_LENGTH }
     requires small { (j : ℕ) → unsigned_abs (slice_index_or balances.old j (pos 0)) ≤ 2 ^ 101 }
     ensures { balances.new ≡ weighed first end.now length balances.old }
 {

@@ -10,5 +10,9 @@ mod wanted;
 
 pub use balance::admissible;
 pub use bounds::{are_lengths, is_within_bounds};
+pub use def_flow::{Arc, End, Net};
 pub use tangle::tangle_of;
 pub use wanted::{arc_deviation, deviation};
+
+/// Want of memory.
+pub type Memory = std::alloc::AllocError;

@@ -1,13 +1,17 @@
+//! The tangle number.
+
 ghost use Rattle.std.specs.Prelude.{◌≡◌, ◌+◌, ◌*◌, ◌^◌, ◌<◌, ◌≤◌, ℕ, length, slice_index, replicate, IfOk};
 ghost use Rattle.def_math.specs.Counts.{count_below};
+ghost use Rattle.def_math.specs.Tables.{at_place, IsRaised, IsTally};
 ghost use Rattle.def_flow.specs.Network.{network, degree, tangle_number, IsWithinBounds};
-ghost use Rattle.qm_net.specs.Degrees.{counted, counted_arc, AreDegrees, HasEndsBelow, AreEndsBelow};
+ghost use Rattle.qm_net.specs.Degrees.{ends_at, HasEndsBelow, AreEndsBelow};
 
+use crate::Memory;
 use def_flow::{Arc, End, Net};
-use std::alloc::{AllocError, Global};
+use std::alloc::Global;
 
 /// The tangle number of a network: 16 times the square of the number of ends, over all nodes. Linear.
-pub fn tangle_of(alloc: Global, net: &Net) -> Result<u128, AllocError>
+pub fn tangle_of(alloc: Global, net: &Net) -> Result<u128, Memory>
     requires { IsWithinBounds (network net.now) }
     ensures { IfOk result (λ tangle. tangle ≡ tangle_number (network net.now)) }
 {
@@ -32,17 +36,18 @@ fn count_ends(arcs: &[Arc], degrees: &mut [u64])
     requires few { length arcs.now < 2 ^ 32 }
     requires at { AreEndsBelow (length degrees.old) arcs.now }
     requires start { degrees.old ≡ replicate (length degrees.old) 0 }
-    ensures { AreDegrees (length degrees.old) arcs.now degrees.new }
+    ensures { IsTally (degree arcs.now) (length degrees.old) degrees.new }
 {
     for arc in arcs {
         count_arc(arc, degrees);
     }
 }
 
+/// Counts the ends of an arc.
 fn count_arc(arc: &Arc, degrees: &mut [u64])
     requires small { (v : ℕ) → slice_index degrees.old v ≤ 2 ^ 33 }
     requires at { HasEndsBelow (length degrees.old) arc.now }
-    ensures { degrees.new ≡ counted_arc degrees.old arc.now }
+    ensures { IsRaised (ends_at arc.now) degrees.old degrees.new }
 {
     count_end(&arc.left, degrees);
     if let Some(right) = &arc.right {
@@ -50,10 +55,11 @@ fn count_arc(arc: &Arc, degrees: &mut [u64])
     }
 }
 
+/// Counts an end.
 fn count_end(end: &End, degrees: &mut [u64])
     requires small { (v : ℕ) → slice_index degrees.old v ≤ 2 ^ 33 + 1 }
     requires at { end.now.node < length degrees.old }
-    ensures { degrees.new ≡ counted degrees.old end.now }
+    ensures { IsRaised (at_place end.now.node 1) degrees.old degrees.new }
 {
     degrees[end.node as usize] += 1;
 }
@@ -71,6 +77,7 @@ fn sum_of_squares(degrees: &[u64]) -> u128
     total
 }
 
+/// 16 times the square of a number.
 fn square_of(degree: u64) -> u128
     requires { degree ≤ 2 ^ 34 }
     ensures value { result ≡ 16 * (degree * degree) }

@@ -1,10 +1,12 @@
+//! How far a list is from what is wanted.
+
 ghost use Rattle.std.specs.Prelude.{◌≡◌, ◌+◌, ◌*◌, ◌^◌, ◌≤◌, pos};
 ghost use Rattle.def_flow.specs.Network.{network, IsWithinBounds};
 ghost use Rattle.def_flow.specs.Admissible.{entries};
 ghost use Rattle.def_flow.specs.Admissible.{deviation as total_deviation, arc_deviation as deviation_of_arc};
 ghost use Rattle.def_flow.specs.Admissible.{AreLengths};
 
-use def_flow::{Arc, Net};
+use def_flow::{Arc, MAX_OLD, MAX_SCALE, MAX_WEIGHT, Net};
 
 /// How far a list of lengths is from what is wanted: the sum over the arcs of `weight * |q * x - p * old|`. Linear.
 pub fn deviation(net: &Net, x: &[u64]) -> i128
@@ -21,10 +23,10 @@ pub fn deviation(net: &Net, x: &[u64]) -> i128
 
 /// How far an arc of this length is from what is wanted.
 pub fn arc_deviation(net: &Net, arc: &Arc, length: u64) -> u64
-    requires p { net.now.p ≤ 1000 }
-    requires q { net.now.q ≤ 1000 }
-    requires weight { arc.now.weight ≤ 1000 }
-    requires old { arc.now.old ≤ 4000000000 }
+    requires p { net.now.p ≤ MAX_SCALE }
+    requires q { net.now.q ≤ MAX_SCALE }
+    requires weight { arc.now.weight ≤ MAX_WEIGHT }
+    requires old { arc.now.old ≤ MAX_OLD }
     requires small { length ≤ 10 ^ 13 }
     ensures value { result ≡ deviation_of_arc (network net.now) arc.now (pos length) }
     ensures small { result ≤ 10 ^ 6 * length + 4 * 10 ^ 15 }

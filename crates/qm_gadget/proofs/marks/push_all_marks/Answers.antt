@@ -1,10 +1,11 @@
 use Rattle.std.proofs.Common.{◌≡◌, ℕ, ◌+◌, ◌++◌, Bool, List, length, drop, slice_index, slice_index_or, false, None, pos, sym, ◌∙◌, ap, length-append, arith}
+use Rattle.def_math.specs.Tables.{IsRaised}
 use Rattle.def_flow.specs.declared.units.ArcUnit.{ArcUnit}
 use Rattle.def_flow.specs.Units.{active_at}
 use Rattle.qm_units.specs.Marks.{marks_by, units_marks}
-use Rattle.qm_gadget.specs.Layout.{room_of, IsAtNodes}
+use Rattle.qm_gadget.specs.Layout.{room_of}
 use Rattle.qm_gadget.proofs.Numbers.{marks_step, marks_width, units_marks_step}
-use Rattle.qm_gadget.proofs.Rooms.{same_everywhere, active_at_low, bumped_unit_read, bumped_unit_length}
+use Rattle.qm_gadget.proofs.Rooms.{same_everywhere, active_at_low, raised_read}
 use Rattle.qm_gadget.proofs.marks.push_all_marks.Goals as goal
 
 abbrev no_unit : ArcUnit
@@ -14,9 +15,8 @@ pub loop-i-preserved : goal.loop-i-preserved
 loop-i-preserved c =
     let u : ArcUnit = slice_index_or c.args.units.now c.loop-i.i no_unit in
     let on : Bool = slice_index_or c.args.ons.now c.loop-i.i false in
-    let at : IsAtNodes (length c.loop-i.used) u = rw c.loop-i.invariant.long (c.requires.at c.loop-i.i no_unit c.loop-i-test.true) in
-    let read : (v : ℕ) → slice_index c.push_unit_marks.new.used v ≡ slice_index c.loop-i.used v + active_at v u on =
-    λ v. ap (λ used. slice_index used v) c.in_ok-push_unit_marks.ensures.used ∙ bumped_unit_read c.loop-i.used u on v at in
+    let raised : IsRaised (λ v. active_at v u on) c.loop-i.used c.push_unit_marks.new.used = c.in_ok-push_unit_marks.ensures.used in
+    let read : (v : ℕ) → slice_index c.push_unit_marks.new.used v ≡ slice_index c.loop-i.used v + active_at v u on = λ v. raised_read u on (length c.args.rooms.now) c.loop-i.used c.push_unit_marks.new.used c.loop-i.invariant.long (c.requires.at c.loop-i.i no_unit c.loop-i-test.true) raised v in
     let next : room_of c.push_unit_marks.new.used ≡ (λ v. slice_index c.loop-i.used v + active_at v u on) = same_everywhere (room_of c.push_unit_marks.new.used) (λ v. slice_index c.loop-i.used v + active_at v u on) read in
     let part : List Bool = marks_by (room_of c.args.rooms.now) (room_of c.loop-i.used) on u.left u.right in
     let rest : List Bool = units_marks (room_of c.args.rooms.now) (room_of c.push_unit_marks.new.used) (drop (c.loop-i.i + 1) c.args.units.now) (drop (c.loop-i.i + 1) c.args.ons.now) in
@@ -27,6 +27,6 @@ loop-i-preserved c =
     record {
       marks = marks_step c.loop-i.m.items c.push_unit_marks.new.m.items c.loop-i.k c.width_of-k.result part rest _ split width c.in_ok-push_unit_marks.ensures.marks ∙ c.loop-i.invariant.marks;
       place = omega (arith, c.loop-i.invariant.place, ap length split, length-append part rest, width);
-      long = ap length c.in_ok-push_unit_marks.ensures.used ∙ (bumped_unit_length c.loop-i.used u on ∙ c.loop-i.invariant.long);
+      long = raised.long ∙ c.loop-i.invariant.long;
       small = λ v. omega (arith, read v, c.loop-i.invariant.small v, active_at_low v u on);
     }

@@ -4,7 +4,7 @@ use Rattle.def_flow.specs.Units.{is_active}
 use Rattle.qm_units.specs.Marks.{places, take_end}
 use Rattle.qm_gadget.specs.Layout.{room_of}
 use Rattle.qm_gadget.proofs.Numbers.{unit_lone, unit_two}
-use Rattle.qm_gadget.proofs.Rooms.{left_at, bumped_read}
+use Rattle.qm_gadget.proofs.Rooms.{right_at}
 use Rattle.qm_gadget.proofs.marks.push_unit_marks.Goals as goal
 
 pub returns-in-None-clause-marks : goal.returns-in-None-clause-marks
@@ -16,8 +16,8 @@ returns-in-None-clause-marks c = on_ok_weaker c.push_mark.result
 
 pub returns-in_ok-push_right_marks-in-Some-clause-marks : goal.returns-in_ok-push_right_marks-in-Some-clause-marks
 returns-in_ok-push_right_marks-in-Some-clause-marks c =
-    let at : c.args.unit.now.left.node < length c.args.used.now = omega (arith, left_at (length c.args.rooms.now) c.args.unit.now.left c.args.unit.now.right c.requires.at, c.requires.same) in
+    let at : c.in-Some.right.node < length c.args.used.now = omega (arith, right_at (length c.args.rooms.now) c.args.unit.now.left c.in-Some.right c.args.unit.now.right c.in-Some.is c.requires.at, c.requires.same) in
     let taken : slice_index c.bump.new.rooms c.in-Some.right.node ≡ take_end (room_of c.args.used.now) (is_active c.args.on c.args.unit.now.left) c.args.unit.now.left c.in-Some.right.node =
-    ap (λ rooms. slice_index rooms c.in-Some.right.node) c.bump.ensures ∙ bumped_read c.args.used.now c.args.unit.now.left c.args.on c.in-Some.right.node at in
+    c.bump.ensures.each c.in-Some.right.node at in
     rw c.in-Some.is (unit_two c.args.m.now.items c.push_end_marks.new.m.items c.push_right_marks.new.m.items c.args.k (room_of c.args.rooms.now) (room_of c.args.used.now) (room_of c.bump.new.rooms) c.args.on c.args.unit.now.left c.in-Some.right
     taken c.in_ok-push_end_marks.ensures c.in_ok-push_right_marks-in-Some.ensures)

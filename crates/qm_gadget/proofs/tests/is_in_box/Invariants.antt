@@ -1,5 +1,5 @@
 use Rattle.std.proofs.Common.{ℕ, ◌<◌, slice_index}
-use Rattle.qm_gadget.specs.Over.{IsStepUp}
+use Rattle.def_flow.specs.Gadget.{IsStepUp}
 use Rattle.qm_gadget.proofs.tests.is_in_box.Given as goal
 
 abbrev pub invariant-loop-k : goal.invariant-loop-k

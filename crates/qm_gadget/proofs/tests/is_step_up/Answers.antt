@@ -1,5 +1,5 @@
 use Rattle.std.proofs.Common.{◌≡◌, ℕ, ◌-◌, ◌/◌, ◌%◌, ◌≤◌, leb-true, refl, arith}
-use Rattle.qm_gadget.specs.Over.{IsStepUp}
+use Rattle.def_flow.specs.Gadget.{IsStepUp}
 use Rattle.qm_gadget.proofs.tests.is_step_up.Goals as goal
 
 step_up : (low cap step length up : ℕ) → 1 ≤ step → low ≤ length → (length - low) % step ≡ 0 → up ≡ (length - low) / step → up ≤ cap → IsStepUp low cap step length

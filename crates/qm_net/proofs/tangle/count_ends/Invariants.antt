@@ -1,9 +1,7 @@
-use Rattle.std.proofs.Common.{◌≡◌, ℕ, ◌+◌, ◌*◌, ◌<◌, ◌≤◌, length, drop, slice_index}
+use Rattle.std.proofs.Common.{length, take}
+use Rattle.def_math.specs.Tables.{IsTally}
 use Rattle.def_flow.specs.Network.{degree}
 use Rattle.qm_net.proofs.tangle.count_ends.Given as goal
 
 abbrev pub invariant-loop-arc : goal.invariant-loop-arc
-invariant-loop-arc l = record {
-  each : (v : ℕ) → v < length l.degrees → slice_index l.degrees v + degree (drop l.arc-index l.arcs) v ≡ degree l.arcs v;
-  small : (v : ℕ) → slice_index l.degrees v ≤ 2 * l.arc-index;
-}
+invariant-loop-arc l = IsTally (degree (take l.arc-index l.arcs)) (length l.initial.degrees) l.degrees

@@ -1,0 +1,5 @@
+use Rattle.qm_table.proofs.Tallies.{raised_at}
+use Rattle.qm_net.proofs.tangle.count_end.Goals as goal
+
+pub returns : goal.returns
+returns c = raised_at c.args.degrees.now c.args.end.now.node 1 c.requires.at

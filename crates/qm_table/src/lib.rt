@@ -1,0 +1,2 @@
+//! Lemmas on tables of numbers: what is added at a place, tallies of lists, and searches.
+#![tactic(auto)]
