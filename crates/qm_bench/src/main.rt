@@ -31,7 +31,12 @@ fn main(rt: HostRuntime) -> io::Result<ExitCode> {
     }
     let mut words = env::args(&rt)?.skip(1);
     let Some(name) = words.next() else {
-        for task in [Task::Graph, Task::Judge(Shape::Nest), Task::Judge(Shape::Tree), Task::Judge(Shape::Comb)] {
+        for task in [
+            Task::Graph,
+            Task::Judge(Shape::Nest),
+            Task::Judge(Shape::Tree),
+            Task::Judge(Shape::Comb),
+        ] {
             let told = run(rt.alloc(), &net, &x, task, 1)?;
             println!(rt; "{told}")?;
         }

@@ -17,7 +17,6 @@ pub(crate) struct Tables {
     pub heads: Vec<u32>,
 }
 
-
 /// The verdict on a dual whose sets are in order: the least edge whose load is above twice its cost, or the sum.
 pub(crate) fn judge_loads(g: &WGraph, d: &Dual, tables: &Tables) -> Verdict
     requires graph { IsSmallGraph (graph g.now) }

@@ -1,5 +1,5 @@
 mod ByLows
-mod Copies
+mod Rows
 mod Fans
 mod Numbers
 mod OfList

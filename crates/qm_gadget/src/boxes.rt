@@ -1,8 +1,10 @@
+//! The lows of arcs, and their numbers of units.
+
 ghost use Rattle.std.specs.Prelude.{◌≡◌, ◌+◌, ◌*◌, ◌^◌, ◌≤◌, length, map, IfOk};
 ghost use Rattle.def_flow.specs.Network.{network};
 ghost use Rattle.def_flow.specs.Units.{down, low, cap};
 
-use def_flow::Net;
+use def_flow::{MAX_STEP, Net};
 use std::alloc::{AllocError, Global};
 
 /// How many steps an arc of this length can give up, at most 2 of them.
@@ -16,7 +18,7 @@ fn steps_down(net: &Net, step: u64, length: u64) -> u64
 
 /// The least length that the units of an arc of this length can give.
 fn low_of(net: &Net, step: u64, length: u64) -> u64
-    requires { (1 ≤ step) × (step ≤ 4096) }
+    requires { (1 ≤ step) × (step ≤ MAX_STEP) }
     ensures value { result ≡ low (network net.now) step length }
 {
     length.saturating_sub(steps_down(net, step, length) * step)
@@ -29,7 +31,7 @@ pub(crate) fn lows_of(
     step: u64,
     x: &[u64],
 ) -> Result<Vec<u64>, AllocError>
-    requires { (1 ≤ step) × (step ≤ 4096) }
+    requires { (1 ≤ step) × (step ≤ MAX_STEP) }
     ensures { IfOk result (λ lows. lows.items ≡ map (low (network net.now) step) x.now) }
 {
     let mut lows = Vec::with_capacity(alloc, x.len())?;

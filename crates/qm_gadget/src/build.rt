@@ -1,3 +1,5 @@
+//! Building a gadget.
+
 ghost use Rattle.std.specs.Prelude.{◌≡◌, ◌*◌, ◌^◌, ◌≤◌, IfOk, length};
 ghost use Rattle.def_flow.specs.Network.{network, IsWithinBounds, tangle_number};
 ghost use Rattle.def_flow.specs.Admissible.{entries, IsAdmissible};
@@ -10,6 +12,7 @@ ghost use Rattle.qm_gadget.specs.Ready.{graph_by_lows, IsReady};
 
 use crate::Memory;
 use crate::boxes::{caps_of, lows_of};
+use crate::copies::Copies;
 use crate::layout::lay_out;
 use crate::plan::plan_of;
 use def_flow::{Gadget, MAX_STEP, MAX_TANGLE, Net};
@@ -54,11 +57,12 @@ fn graph_over(
     caps: &[u32],
 ) -> Result<WGraph, AllocError>
     requires bounds { IsWithinBounds (network net.now) }
-    requires step { (1 ≤ step) × (step ≤ 4096) }
+    requires step { (1 ≤ step) × (step ≤ MAX_STEP) }
     requires ready { IsReady (network net.now) step lows.now caps.now }
     requires small { (graph_by_lows (network net.now) step lows.now caps.now).n ≤ 2 ^ 25 }
     ensures { IfOk result (λ g. graph g ≡ graph_by_lows (network net.now) step lows.now caps.now) }
 {
     let plan = plan_of(alloc, net, step, lows, caps)?;
-    lay_out(alloc, &plan.rooms, plan.lone, &plan.units)
+    let copies = Copies::new(alloc, plan.rooms)?;
+    lay_out(alloc, &copies, plan.lone, &plan.units)
 }

@@ -1,7 +1,10 @@
+//! The edges of units.
+
 ghost use Rattle.std.specs.Prelude.{◌≡◌, ◌+◌, ◌^◌, ◌<◌, ◌≤◌, [], ◌∷◌, ◌++◌, pos, length, OnOk};
 ghost use Rattle.def_flow.specs.MatchingGraph.{link, fan, to_copies, inner_link, links_by, unit_links, are_alike, unit_size};
-ghost use Rattle.qm_gadget.specs.Layout.{room_of, AreFirsts, IsAtNodes};
+ghost use Rattle.qm_gadget.specs.Layout.{room_of, IsAtNodes};
 
+use crate::copies::Copies;
 use def_flow::{ArcUnit, End};
 use def_matching::WEdge;
 use std::alloc::AllocError;
@@ -21,12 +24,12 @@ fn push_fan(
     u: u32,
     cost: i64,
     first: u32,
-    copies: u32,
+    many: u32,
 ) -> Result<(), AllocError>
-    requires { first + copies ≤ 2 ^ 26 }
-    ensures { OnOk result (edges.new.items ≡ edges.old.items ++ fan u cost first copies) }
+    requires { first + many ≤ 2 ^ 26 }
+    ensures { OnOk result (edges.new.items ≡ edges.old.items ++ fan u cost first many) }
 {
-    for k in 0..copies {
+    for k in 0..many {
         push_link(edges, u, first + k, cost)?;
     }
     Ok(())
@@ -35,19 +38,17 @@ fn push_fan(
 /// Adds edges from `u` to each copy of the node of an end. A plus end is paid for here.
 fn push_to_copies(
     edges: &mut Vec<WEdge>,
-    rooms: &[u32],
-    firsts: &[u32],
+    copies: &Copies,
     u: u32,
     cost: i64,
     end: &End,
 ) -> Result<(), AllocError>
-    requires at { end.now.node < length rooms.now }
-    requires firsts { AreFirsts rooms.now firsts.now }
-    ensures { OnOk result (edges.new.items ≡ edges.old.items ++ to_copies (room_of rooms.now) u cost end.now) }
+    requires at { end.now.node < length copies.now.counts.items }
+    ensures { OnOk result (edges.new.items ≡ edges.old.items ++ to_copies (room_of copies.now.counts.items) u cost end.now) }
 {
     let node = end.node as usize;
     let paid = if end.plus { cost } else { 0 };
-    push_fan(edges, u, paid, firsts[node], rooms[node])
+    push_fan(edges, u, paid, copies.firsts[node], copies.counts[node])
 }
 
 /// Adds the edge inside a unit. A minus end is paid for here.
@@ -63,18 +64,16 @@ fn push_inner(edges: &mut Vec<WEdge>, b: u32, cost: i64, end: &End) -> Result<()
 #[tactic(auto, using(crate::proofs::Fans::two_parts))]
 fn push_lone(
     edges: &mut Vec<WEdge>,
-    rooms: &[u32],
-    firsts: &[u32],
+    copies: &Copies,
     b: u32,
     cost: i64,
     left: &End,
 ) -> Result<(), AllocError>
     requires small { b < 2 ^ 26 }
-    requires at { left.now.node < length rooms.now }
-    requires firsts { AreFirsts rooms.now firsts.now }
-    ensures { OnOk result (edges.new.items ≡ edges.old.items ++ links_by (room_of rooms.now) b cost left.now None) }
+    requires at { left.now.node < length copies.now.counts.items }
+    ensures { OnOk result (edges.new.items ≡ edges.old.items ++ links_by (room_of copies.now.counts.items) b cost left.now None) }
 {
-    push_to_copies(edges, rooms, firsts, b, cost, left)?;
+    push_to_copies(edges, copies, b, cost, left)?;
     push_inner(edges, b, cost, left)
 }
 
@@ -82,40 +81,34 @@ fn push_lone(
 #[tactic(auto, using(crate::proofs::Fans::three_parts))]
 fn push_alike(
     edges: &mut Vec<WEdge>,
-    rooms: &[u32],
-    firsts: &[u32],
+    copies: &Copies,
     b: u32,
-    cost: i64,
-    left: &End,
+    unit: &ArcUnit,
     right: &End,
 ) -> Result<(), AllocError>
     requires small { b < 2 ^ 26 }
-    requires at { (left.now.node < length rooms.now) × (right.now.node < length rooms.now) }
-    requires firsts { AreFirsts rooms.now firsts.now }
-    ensures { OnOk result (edges.new.items ≡ edges.old.items ++ (to_copies (room_of rooms.now) b cost left.now ++ (to_copies (room_of rooms.now) (b + 1) (pos 0) right.now ++ inner_link b cost left.now ∷ []))) }
+    requires at { (unit.now.left.node < length copies.now.counts.items) × (right.now.node < length copies.now.counts.items) }
+    ensures { OnOk result (edges.new.items ≡ edges.old.items ++ (to_copies (room_of copies.now.counts.items) b unit.now.cost unit.now.left ++ (to_copies (room_of copies.now.counts.items) (b + 1) (pos 0) right.now ++ inner_link b unit.now.cost unit.now.left ∷ []))) }
 {
-    push_to_copies(edges, rooms, firsts, b, cost, left)?;
-    push_to_copies(edges, rooms, firsts, b + 1, 0, right)?;
-    push_inner(edges, b, cost, left)
+    push_to_copies(edges, copies, b, unit.cost, &unit.left)?;
+    push_to_copies(edges, copies, b + 1, 0, right)?;
+    push_inner(edges, b, unit.cost, &unit.left)
 }
 
 /// Adds the edges of a unit whose two ends have unlike signs.
 #[tactic(auto, using(crate::proofs::Fans::two_parts))]
 fn push_unlike(
     edges: &mut Vec<WEdge>,
-    rooms: &[u32],
-    firsts: &[u32],
+    copies: &Copies,
     b: u32,
-    cost: i64,
-    left: &End,
+    unit: &ArcUnit,
     right: &End,
 ) -> Result<(), AllocError>
-    requires at { (left.now.node < length rooms.now) × (right.now.node < length rooms.now) }
-    requires firsts { AreFirsts rooms.now firsts.now }
-    ensures { OnOk result (edges.new.items ≡ edges.old.items ++ (to_copies (room_of rooms.now) b cost left.now ++ to_copies (room_of rooms.now) b cost right.now)) }
+    requires at { (unit.now.left.node < length copies.now.counts.items) × (right.now.node < length copies.now.counts.items) }
+    ensures { OnOk result (edges.new.items ≡ edges.old.items ++ (to_copies (room_of copies.now.counts.items) b unit.now.cost unit.now.left ++ to_copies (room_of copies.now.counts.items) b unit.now.cost right.now)) }
 {
-    push_to_copies(edges, rooms, firsts, b, cost, left)?;
-    push_to_copies(edges, rooms, firsts, b, cost, right)
+    push_to_copies(edges, copies, b, unit.cost, &unit.left)?;
+    push_to_copies(edges, copies, b, unit.cost, right)
 }
 
 /// Whether two ends have like signs.
@@ -128,23 +121,21 @@ pub(crate) fn have_like_signs(left: &End, right: &End) -> bool
 /// Adds the edges of a unit whose first vertex is `b`.
 pub(crate) fn push_unit(
     edges: &mut Vec<WEdge>,
-    rooms: &[u32],
-    firsts: &[u32],
+    copies: &Copies,
     b: u32,
     unit: &ArcUnit,
 ) -> Result<(), AllocError>
     requires small { b < 2 ^ 26 }
-    requires at { IsAtNodes (length rooms.now) unit.now }
-    requires firsts { AreFirsts rooms.now firsts.now }
-    ensures { OnOk result (edges.new.items ≡ edges.old.items ++ unit_links (room_of rooms.now) b unit.now) }
+    requires at { IsAtNodes (length copies.now.counts.items) unit.now }
+    ensures { OnOk result (edges.new.items ≡ edges.old.items ++ unit_links (room_of copies.now.counts.items) b unit.now) }
 {
     match &unit.right {
-        None => push_lone(edges, rooms, firsts, b, unit.cost, &unit.left),
+        None => push_lone(edges, copies, b, unit.cost, &unit.left),
         Some(right) => {
             if have_like_signs(&unit.left, right) {
-                push_alike(edges, rooms, firsts, b, unit.cost, &unit.left, right)
+                push_alike(edges, copies, b, unit, right)
             } else {
-                push_unlike(edges, rooms, firsts, b, unit.cost, &unit.left, right)
+                push_unlike(edges, copies, b, unit, right)
             }
         }
     }

@@ -1,9 +1,12 @@
+//! The layout of a matching graph.
+
 ghost use Rattle.std.specs.Prelude.{◌≡◌, ◌+◌, ◌*◌, ◌-◌, ◌^◌, ◌<◌, ◌≤◌, ◌++◌, length, cond, OnOk, IfOk};
 ghost use Rattle.def_math.specs.Counts.{count, count_below};
 ghost use Rattle.def_matching.specs.Matching.{graph};
 ghost use Rattle.def_flow.specs.MatchingGraph.{units_links, unit_size, graph_by, first_fresh, rim};
-ghost use Rattle.qm_gadget.specs.Layout.{room_of, AreFirsts, AreAtNodes};
+ghost use Rattle.qm_gadget.specs.Layout.{room_of, AreAtNodes};
 
+use crate::copies::{Copies, all_copies};
 use crate::edges::{push_unit, size_of_unit};
 use crate::rim::{push_rim, rim_of};
 use def_flow::ArcUnit;
@@ -13,19 +16,18 @@ use std::alloc::{AllocError, Global};
 /// The graph of units over nodes with copies. Linear in its vertices and edges.
 pub(crate) fn lay_out(
     alloc: Global,
-    rooms: &[u32],
+    copies: &Copies,
     lone: bool,
     units: &[ArcUnit],
 ) -> Result<WGraph, AllocError>
-    requires at { AreAtNodes (length rooms.now) units.now }
-    requires small { first_fresh (length rooms.now) (room_of rooms.now) lone units.now + 2 * length (rim (count_below (room_of rooms.now) (length rooms.now)) units.now) < 2 ^ 26 }
-    ensures { IfOk result (λ g. graph g ≡ graph_by (length rooms.now) (room_of rooms.now) lone units.now) }
+    requires at { AreAtNodes (length copies.now.counts.items) units.now }
+    requires small { first_fresh (length copies.now.counts.items) (room_of copies.now.counts.items) lone units.now + 2 * length (rim (count_below (room_of copies.now.counts.items) (length copies.now.counts.items)) units.now) < 2 ^ 26 }
+    ensures { IfOk result (λ g. graph g ≡ graph_by (length copies.now.counts.items) (room_of copies.now.counts.items) lone units.now) }
 {
-    let firsts = first_copies(alloc, rooms)?;
-    let copies = firsts[rooms.len()];
+    let first = all_copies(copies);
     let mut edges = Vec::new(alloc);
-    let past = push_units(&mut edges, rooms, &firsts, copies, units)?;
-    let rims = rim_of(alloc, copies, units)?;
+    let past = push_units(&mut edges, copies, first, units)?;
+    let rims = rim_of(alloc, first, units)?;
     let fresh = past + u32::from(lone);
     push_rim(&mut edges, lone_vertex(lone, past), fresh, &rims)?;
     let pairs = rims.len().saturating_sub(1) as u32;
@@ -42,38 +44,21 @@ fn lone_vertex(lone: bool, past: u32) -> Option<u32>
     if lone { Some(past) } else { None }
 }
 
-/// The first copy of each node, and past the last node the number of all copies.
-fn first_copies(alloc: Global, rooms: &[u32]) -> Result<Vec<u32>, AllocError>
-    requires { count_below (room_of rooms.now) (length rooms.now) < 2 ^ 26 }
-    ensures { IfOk result (λ firsts. AreFirsts rooms.now firsts.items) }
-{
-    let mut firsts = Vec::new(alloc);
-    let mut copies = 0u32;
-    for room in rooms {
-        firsts.push(copies)?;
-        copies += *room;
-    }
-    firsts.push(copies)?;
-    Ok(firsts)
-}
-
 /// Adds the edges of all units, whose vertices begin at `first`, and gives the vertex past the last of them.
 fn push_units(
     edges: &mut Vec<WEdge>,
-    rooms: &[u32],
-    firsts: &[u32],
+    copies: &Copies,
     first: u32,
     units: &[ArcUnit],
 ) -> Result<u32, AllocError>
-    requires at { AreAtNodes (length rooms.now) units.now }
-    requires firsts { AreFirsts rooms.now firsts.now }
+    requires at { AreAtNodes (length copies.now.counts.items) units.now }
     requires small { first + count unit_size units.now < 2 ^ 26 }
-    ensures edges { OnOk result (edges.new.items ≡ edges.old.items ++ units_links (room_of rooms.now) first units.now) }
+    ensures edges { OnOk result (edges.new.items ≡ edges.old.items ++ units_links (room_of copies.now.counts.items) first units.now) }
     ensures past { IfOk result (λ past. past ≡ first + count unit_size units.now) }
 {
     let mut b = first;
     for unit in units {
-        push_unit(edges, rooms, firsts, b, unit)?;
+        push_unit(edges, copies, b, unit)?;
         b += size_of_unit(unit);
     }
     Ok(b)

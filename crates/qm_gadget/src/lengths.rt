@@ -1,3 +1,5 @@
+//! The list that a matching tells.
+
 ghost use Rattle.std.specs.Prelude.{◌≡◌, ◌+◌, ◌*◌, ◌^◌, ◌<◌, ◌≤◌, ◌≤ℤ◌, ◌-ℤ◌, ◌++◌, [], ◌∷◌, ℕ, pos, drop, length, slice_index, IfOk, OnOk};
 ghost use Rattle.std.specs.Bool.{beq};
 ghost use Rattle.def_math.specs.Counts.{count};
@@ -16,7 +18,7 @@ ghost use Rattle.qm_gadget.specs.Read.{first_below, skip_below, width_of_unit, l
 use crate::Memory;
 use crate::marks::width_of;
 use crate::plan::plan_of;
-use def_flow::{ArcUnit, Gadget, Net};
+use def_flow::{ArcUnit, Gadget, MAX_STEP, Net};
 use std::alloc::{AllocError, Global};
 
 /// The admissible list of lengths that a perfect matching of a gadget's graph tells. Its deviation less that of the
@@ -52,7 +54,7 @@ fn lengths_over(
     edges: u32,
 ) -> Result<Vec<u64>, AllocError>
     requires bounds { IsWithinBounds (network net.now) }
-    requires step { (1 ≤ step) × (step ≤ 4096) }
+    requires step { (1 ≤ step) × (step ≤ MAX_STEP) }
     requires ready { IsReady (network net.now) step lows.now caps.now }
     requires few { edges ≤ 2 ^ 26 }
     requires rising { IsRising 0 edges m.now }
@@ -128,7 +130,7 @@ fn raised(
     caps: &[u32],
     ons: &[bool],
 ) -> Result<Vec<u64>, AllocError>
-    requires step { step ≤ 4096 }
+    requires step { step ≤ MAX_STEP }
     requires boxes { AreBoxes (length lows.now) lows.now caps.now }
     ensures { IfOk result (λ ys. ys.items ≡ lengths_by step lows.now caps.now ons.now) }
 {

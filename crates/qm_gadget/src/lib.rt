@@ -3,6 +3,7 @@
 
 mod boxes;
 mod build;
+mod copies;
 mod edges;
 mod layout;
 mod lengths;

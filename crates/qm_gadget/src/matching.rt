@@ -1,3 +1,5 @@
+//! The matching that a list tells.
+
 ghost use Rattle.std.specs.Prelude.{◌≡◌, ◌-◌, ◌/◌, ◌^◌, ◌≤◌, ℕ, pos, ◌-ℤ◌, length, slice_index, IfOk};
 ghost use Rattle.def_flow.specs.Network.{network, IsWithinBounds};
 ghost use Rattle.def_flow.specs.Admissible.{deviation, entries, IsAdmissible};
@@ -13,7 +15,7 @@ use crate::marks::push_units_marks;
 use crate::plan::{Plan, plan_of};
 use crate::rim_marks::{push_rim_marks, rim_states_of};
 use crate::states::states_of;
-use def_flow::{Gadget, Net};
+use def_flow::{Gadget, MAX_STEP, Net};
 use std::alloc::{AllocError, Global};
 
 /// A perfect matching that tells a list of lengths in the box of a gadget, and costs the deviation of the list
@@ -39,7 +41,7 @@ fn matching_by(
     x2: &[u64],
 ) -> Result<Vec<u32>, AllocError>
     requires bounds { IsWithinBounds (network net.now) }
-    requires step { (1 ≤ step) × (step ≤ 4096) }
+    requires step { (1 ≤ step) × (step ≤ MAX_STEP) }
     requires ready { IsReady (network net.now) step lows.now caps.now }
     requires inside { IsInBox step lows.now caps.now x2.now }
     requires short { length (marks_over (network net.now) step lows.now caps.now (ups step lows.now x2.now)) ≤ 2 ^ 26 }

@@ -1,10 +1,12 @@
+//! What a matching graph is laid out from.
+
 ghost use Rattle.std.specs.Prelude.{◌≡◌, ◌≤◌, IfOk, length};
 ghost use Rattle.def_flow.specs.Network.{network, IsWithinBounds};
 ghost use Rattle.qm_gadget.specs.Ready.{IsReady, IsPlan};
 
 use crate::states::{count_active, downs_of, is_rim_odd, states_of};
 use crate::units::units_of;
-use def_flow::{ArcUnit, Net};
+use def_flow::{ArcUnit, MAX_STEP, Net};
 use std::alloc::{AllocError, Global};
 
 /// What a matching graph is laid out from: the units, the number of copies of each node, and whether there is a
@@ -25,7 +27,7 @@ pub(crate) fn plan_of(
     caps: &[u32],
 ) -> Result<Plan, AllocError>
     requires bounds { IsWithinBounds (network net.now) }
-    requires step { (1 ≤ step) × (step ≤ 4096) }
+    requires step { (1 ≤ step) × (step ≤ MAX_STEP) }
     requires ready { IsReady (network net.now) step lows.now caps.now }
     ensures { IfOk result (λ plan. IsPlan (network net.now) step lows.now caps.now plan) }
 {

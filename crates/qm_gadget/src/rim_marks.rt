@@ -1,3 +1,5 @@
+//! The edges that a list chooses at the rim.
+
 ghost use Rattle.std.specs.Prelude.{◌≡◌, ◌+◌, ◌*◌, ◌^◌, ◌≤◌, [], ◌∷◌, ◌++◌, not, ◌&&◌, cond, length, OnOk, IfOk};
 ghost use Rattle.def_flow.specs.Units.{is_active as is_active_end};
 ghost use Rattle.qm_units.specs.Marks.{places, rim_states, with_state, differ};

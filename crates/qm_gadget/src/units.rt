@@ -1,9 +1,11 @@
+//! The units of arcs, by lows and caps.
+
 ghost use Rattle.std.specs.Prelude.{◌≡◌, ◌+◌, ◌*◌, ◌^◌, ◌<◌, ◌≤◌, ◌++◌, [], ◌∷◌, pos, ◌-ℤ◌, length, OnOk, IfOk};
 ghost use Rattle.def_flow.specs.Network.{network, IsWithinBounds};
 ghost use Rattle.def_flow.specs.Admissible.{arc_deviation as deviation_of_arc};
 ghost use Rattle.qm_gadget.specs.Over.{from_low, unit_over, units_over, AreBoxes};
 
-use def_flow::{Arc, ArcUnit, Net};
+use def_flow::{Arc, ArcUnit, MAX_LENGTH, MAX_OLD, MAX_SCALE, MAX_STEP, MAX_WEIGHT, Net};
 use qm_net::arc_deviation;
 use std::alloc::{AllocError, Global};
 
@@ -16,7 +18,7 @@ pub(crate) fn units_of(
     caps: &[u32],
 ) -> Result<Vec<ArcUnit>, AllocError>
     requires bounds { IsWithinBounds (network net.now) }
-    requires step { (1 ≤ step) × (step ≤ 4096) }
+    requires step { (1 ≤ step) × (step ≤ MAX_STEP) }
     requires boxes { AreBoxes (length net.now.arcs.items) lows.now caps.now }
     ensures { IfOk result (λ units. units.items ≡ units_over (network net.now) step net.now.arcs.items lows.now caps.now) }
 {
@@ -36,9 +38,9 @@ fn push_units_of(
     cap: u32,
     units: &mut Vec<ArcUnit>,
 ) -> Result<(), AllocError>
-    requires bounds { (net.now.p ≤ 1000) × (net.now.q ≤ 1000) × (arc.now.weight ≤ 1000) × (arc.now.old ≤ 4000000000) }
-    requires step { (1 ≤ step) × (step ≤ 4096) }
-    requires small { (low ≤ 10 ^ 12) × (cap ≤ 4) }
+    requires bounds { (net.now.p ≤ MAX_SCALE) × (net.now.q ≤ MAX_SCALE) × (arc.now.weight ≤ MAX_WEIGHT) × (arc.now.old ≤ MAX_OLD) }
+    requires step { (1 ≤ step) × (step ≤ MAX_STEP) }
+    requires small { (low ≤ MAX_LENGTH) × (cap ≤ 4) }
     ensures { OnOk result (units.new.items ≡ units.old.items ++ from_low (network net.now) step arc.now low 0 cap) }
 {
     for k in 0..cap {
@@ -49,9 +51,9 @@ fn push_units_of(
 
 /// One unit of an arc.
 fn unit_at(net: &Net, step: u64, arc: &Arc, low: u64, k: u32) -> ArcUnit
-    requires bounds { (net.now.p ≤ 1000) × (net.now.q ≤ 1000) × (arc.now.weight ≤ 1000) × (arc.now.old ≤ 4000000000) }
-    requires step { (1 ≤ step) × (step ≤ 4096) }
-    requires small { (low ≤ 10 ^ 12) × (k < 4) }
+    requires bounds { (net.now.p ≤ MAX_SCALE) × (net.now.q ≤ MAX_SCALE) × (arc.now.weight ≤ MAX_WEIGHT) × (arc.now.old ≤ MAX_OLD) }
+    requires step { (1 ≤ step) × (step ≤ MAX_STEP) }
+    requires small { (low ≤ MAX_LENGTH) × (k < 4) }
     ensures { result ≡ unit_over (network net.now) step arc.now low k }
 {
     let cost = unit_cost(net, arc, low + u64::from(k) * step, step);
@@ -71,8 +73,8 @@ fn push_unit(unit: ArcUnit, units: &mut Vec<ArcUnit>) -> Result<(), AllocError>
 
 /// What a unit costs that begins at this length: the deviation at its upper end less that at its lower end.
 fn unit_cost(net: &Net, arc: &Arc, lower: u64, step: u64) -> i64
-    requires bounds { (net.now.p ≤ 1000) × (net.now.q ≤ 1000) × (arc.now.weight ≤ 1000) × (arc.now.old ≤ 4000000000) }
-    requires small { (lower ≤ 2 * 10 ^ 12) × (step ≤ 4096) }
+    requires bounds { (net.now.p ≤ MAX_SCALE) × (net.now.q ≤ MAX_SCALE) × (arc.now.weight ≤ MAX_WEIGHT) × (arc.now.old ≤ MAX_OLD) }
+    requires small { (lower ≤ 2 * 10 ^ 12) × (step ≤ MAX_STEP) }
     ensures { result ≡ pos (deviation_of_arc (network net.now) arc.now (pos (lower + step))) -ℤ pos (deviation_of_arc (network net.now) arc.now (pos lower)) }
 {
     arc_deviation(net, arc, lower + step) as i64 - arc_deviation(net, arc, lower) as i64

@@ -1,6 +1,10 @@
-use Rattle.std.proofs.Common.{arith}
-use Rattle.qm_gadget.proofs.Copies.{copies_fit}
+use Rattle.std.proofs.Common.{◌≡◌, slice_index, arith}
+use Rattle.std.proofs.lemmas.List.{get_or_read}
+use Rattle.qm_gadget.proofs.Rows.{copies_fit}
 use Rattle.qm_gadget.proofs.edges.push_to_copies.Goals as goal
 
 pub push_fan-requires : goal.push_fan-requires
-push_fan-requires c = omega (arith, copies_fit c.args.rooms.now c.args.end.now.node c.requires.at, c.requires.firsts.each c.args.end.now.node (omega arith))
+push_fan-requires c =
+    let first : c.index.result.now ≡ slice_index c.args.copies.now.firsts.items c.args.end.now.node = get_or_read c.args.copies.now.firsts.items c.args.end.now.node c.index.result.now (omega (arith, c.args.copies.now.laid_out.count)) c.index.ensures 0 in
+    let count : c.index-2.result.now ≡ slice_index c.args.copies.now.counts.items c.args.end.now.node = get_or_read c.args.copies.now.counts.items c.args.end.now.node c.index-2.result.now c.requires.at c.index-2.ensures 0 in
+    omega (arith, first, count, copies_fit c.args.copies.now.counts.items c.args.end.now.node c.requires.at, c.args.copies.now.laid_out.each c.args.end.now.node (omega arith), c.args.copies.now.laid_out.few)

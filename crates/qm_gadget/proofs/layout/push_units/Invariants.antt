@@ -6,6 +6,6 @@ use Rattle.qm_gadget.proofs.layout.push_units.Given as goal
 
 abbrev pub invariant-loop-unit : goal.invariant-loop-unit
 invariant-loop-unit l = record {
-  edges : l.edges.items ++ units_links (room_of l.rooms) l.b (drop l.unit-index l.units) ≡ l.initial.edges.items ++ units_links (room_of l.rooms) l.first l.units;
+  edges : l.edges.items ++ units_links (room_of l.copies.counts.items) l.b (drop l.unit-index l.units) ≡ l.initial.edges.items ++ units_links (room_of l.copies.counts.items) l.first l.units;
   place : l.b + count unit_size (drop l.unit-index l.units) ≡ l.first + count unit_size l.units;
 }
