@@ -1,0 +1,18 @@
+use Rattle.std.proofs.Common.{◌≡◌, ℕ, ◌<◌, true, false}
+use Rattle.def_mesh.specs.Darts.{darts, next_of, prev_of}
+use Rattle.def_mesh.specs.HalfEdges.{half_edges}
+use Rattle.def_cut.specs.FullCut.{is_on}
+use Rattle.def_cut.specs.Steps.{norths}
+use Rattle.cut_laws.specs.Grown.{IsRow}
+use Rattle.qm_grid.specs.Cells.{grid_list}
+use Rattle.qm_grid.proofs.grid.grid.Given as goal
+
+-- the next row is row h, none before has a cut edge to the north, and all of them are listed, whatever their width
+abbrev pub invariant-loop-h : goal.invariant-loop-h
+invariant-loop-h l = record {
+  at : l.start ≡ norths (half_edges l.mesh) l.corner l.h;
+  low : l.start < darts l.mesh;
+  west : is_on l.cut (prev_of l.start) ≡ true;
+  inside : (k : ℕ) → k < l.h → is_on l.cut (next_of (next_of (norths (half_edges l.mesh) l.corner k))) ≡ false;
+  listed : (w : ℕ) → IsRow (half_edges l.mesh) (is_on l.cut) l.corner w → l.cells.items ≡ grid_list (half_edges l.mesh) l.corner w l.h;
+}

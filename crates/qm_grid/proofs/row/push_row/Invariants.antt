@@ -1,0 +1,16 @@
+use Rattle.std.proofs.Common.{◌≡◌, ℕ, ◌<◌, ◌++◌, false}
+use Rattle.def_mesh.specs.Darts.{darts, next_of}
+use Rattle.def_mesh.specs.HalfEdges.{half_edges}
+use Rattle.def_cut.specs.FullCut.{is_on}
+use Rattle.def_cut.specs.Steps.{easts}
+use Rattle.qm_grid.specs.Cells.{row_list}
+use Rattle.qm_grid.proofs.row.push_row.Given as goal
+
+-- the walk stands at cell i, has not met a cut edge, and has listed the cells before
+abbrev pub invariant-loop-i : goal.invariant-loop-i
+invariant-loop-i l = record {
+  at : l.d ≡ easts (half_edges l.mesh) l.start l.i;
+  low : l.d < darts l.mesh;
+  inside : (k : ℕ) → k < l.i → is_on l.cut (next_of (easts (half_edges l.mesh) l.start k)) ≡ false;
+  listed : l.cells.items ≡ l.fn.cells.items ++ row_list (half_edges l.mesh) l.start l.i;
+}

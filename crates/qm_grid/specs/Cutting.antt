@@ -1,0 +1,14 @@
+-- A mesh with a full cut, as the loops need it.
+use Rattle.std.specs.Prelude.{◌≡◌, ◌≤◌, Bool, List, length}
+use Rattle.def_mesh.specs.declared.TheConstants.{MAX_FACES}
+use Rattle.def_mesh.specs.Faces.{Faces}
+use Rattle.def_mesh.specs.Darts.{darts}
+use Rattle.def_mesh.specs.HalfEdges.{half_edges, IsQuadManifold}
+use Rattle.def_cut.specs.Cuts.{IsCut}
+use Rattle.def_cut.specs.FullCut.{is_on}
+
+pub record IsCutting (faces : Faces) (cut : List Bool) : Type 0 where
+  pub few : length faces ≤ MAX_FACES
+  pub long : length cut ≡ darts faces
+  pub laws : IsQuadManifold (half_edges faces)
+  pub full : IsCut (half_edges faces) (is_on cut)
