@@ -4,3 +4,7 @@ pub mod Fans
 pub mod Lengths
 pub mod Cells
 pub mod Sided
+pub mod Arcs
+pub mod Nodes
+pub mod Borders
+pub mod Plans

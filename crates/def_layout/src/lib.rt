@@ -3,4 +3,4 @@
 
 mod tmesh;
 
-pub use tmesh::{Side, SideArc, TArc};
+pub use tmesh::{Side, SideArc, TArc, TMesh};

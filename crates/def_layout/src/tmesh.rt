@@ -1,3 +1,4 @@
+use def_cut::Patch;
 use std::alloc::Global;
 
 /// A straight run of darts from node to node. `first` and `last` are the places of its ends in the list of nodes.
@@ -19,4 +20,13 @@ pub struct SideArc {
 #[derive(Debug, Drop)]
 pub struct Side {
     pub arcs: Vec<SideArc>,
+}
+
+/// Nodes, arcs, patches and their sides: south, east, north and west. `nodes` has the vertices of the nodes, rising.
+#[derive(Debug, Drop)]
+pub struct TMesh {
+    pub nodes: Vec<u32>,
+    pub arcs: Vec<TArc>,
+    pub patches: Vec<Patch>,
+    pub sides: Vec<[Side; 4]>,
 }
