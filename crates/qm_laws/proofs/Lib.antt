@@ -4,3 +4,4 @@ pub mod Entries
 pub mod Filters
 pub mod Searches
 pub mod Sums
+pub mod Runs

@@ -1,0 +1,216 @@
+-- The border darts of a patch.
+use Rattle.std.proofs.Common.{◌≡◌, ◌⊎◌, ℕ, suc, ◌+◌, ◌-◌, ◌<◌, ◌≤◌, refl, sym, ◌∙◌, ap, inl, inr, arith}
+use Rattle.std.proofs.lemmas.Bool.{cases_eq, cases_lt}
+use Rattle.def_layout.specs.Layouts.{Way, south, east, north, west, after, Layout}
+use Rattle.def_layout.specs.Laid.{IsLaid}
+use Rattle.def_layout.specs.Lengths.{Lengths, size, wide, high, AreLengths}
+use Rattle.def_layout.specs.Cells.{Dart, IsDart, dart, next, rim}
+use Rattle.def_written.specs.Points.{Point, inside, side_point, point}
+use Rattle.def_written.specs.NewFaces.{column, row, from, to}
+use Rattle.written_laws.proofs.Grid.{wide_some, high_some, point_north, point_west, point_east, point_inside}
+use Rattle.written_laws.proofs.Turning.{IsTurning, grid_related}
+
+-- Where a dart begins in its patch.
+abbrev pub column_of : (d : Dart) → ℕ
+column_of d = column d.i d.way
+
+abbrev pub row_of : (d : Dart) → ℕ
+row_of d = row d.j d.way
+
+-- Where a place of a side lies in the patch.
+abbrev pub side_column : (l : Layout) (x : Lengths) (p : ℕ) (s : Way) (t : ℕ) → ℕ
+side_column l x p south t = t
+side_column l x p east t = wide l x p
+side_column l x p north t = wide l x p - t
+side_column l x p west t = 0
+
+abbrev pub side_row : (l : Layout) (x : Lengths) (p : ℕ) (s : Way) (t : ℕ) → ℕ
+side_row l x p south t = 0
+side_row l x p east t = t
+side_row l x p north t = high l x p
+side_row l x p west t = high l x p - t
+
+module _ (l : Layout) (x : Lengths) (laid : IsLaid l) (len : AreLengths l x) where
+  pub border_point : (p : ℕ) (s : Way) (t : ℕ) → p < l.patches → t ≤ size l x p s
+      → point l x p (side_column l x p s t) (side_row l x p s t) ≡ side_point l x p s t
+  border_point p south t low le = refl
+  border_point p east t low le = point_east l x laid len p (wide l x p) t low refl (omega (arith, len.upright p low))
+  border_point p north t low le =
+      point_north l x laid len p (wide l x p - t) (high l x p) low refl
+      ∙ ap (side_point l x p north) (omega (arith, len.across p low))
+  border_point p west t low le =
+      point_west l x laid len p (high l x p - t) low (omega arith) ∙ ap (side_point l x p west) (omega arith)
+
+  pub rim_is : (p : ℕ) (s : Way) (t : ℕ) → p < l.patches → t < size l x p s → IsDart l x (rim l x p s t)
+  rim_is p south t low less = record { patch_low = low; i_low = less; j_low = high_some l x laid len p low }
+  rim_is p east t low less =
+      record { patch_low = low; i_low = omega (arith, wide_some l x laid len p low); j_low = omega (arith, len.upright p low) }
+  rim_is p north t low less = record {
+    patch_low = low;
+    i_low = omega (arith, wide_some l x laid len p low);
+    j_low = omega (arith, high_some l x laid len p low);
+  }
+  rim_is p west t low less =
+      record { patch_low = low; i_low = wide_some l x laid len p low; j_low = omega (arith, high_some l x laid len p low) }
+
+  -- A border dart begins at its place of the side, and ends at the next one.
+  pub rim_column : (p : ℕ) (s : Way) (t : ℕ) → p < l.patches → t < size l x p s
+      → column_of (rim l x p s t) ≡ side_column l x p s t
+  rim_column p south t low less = refl
+  rim_column p east t low less = omega (arith, wide_some l x laid len p low)
+  rim_column p north t low less = omega (arith, len.across p low)
+  rim_column p west t low less = refl
+
+  pub rim_row : (p : ℕ) (s : Way) (t : ℕ) → p < l.patches → t < size l x p s
+      → row_of (rim l x p s t) ≡ side_row l x p s t
+  rim_row p south t low less = refl
+  rim_row p east t low less = refl
+  rim_row p north t low less = omega (arith, high_some l x laid len p low)
+  rim_row p west t low less = omega arith
+
+  pub rim_next_column : (p : ℕ) (s : Way) (t : ℕ) → p < l.patches → t < size l x p s
+      → column_of (next (rim l x p s t)) ≡ side_column l x p s (t + 1)
+  rim_next_column p south t low less = refl
+  rim_next_column p east t low less = omega (arith, wide_some l x laid len p low)
+  rim_next_column p north t low less = omega (arith, len.across p low)
+  rim_next_column p west t low less = refl
+
+  pub rim_next_row : (p : ℕ) (s : Way) (t : ℕ) → p < l.patches → t < size l x p s
+      → row_of (next (rim l x p s t)) ≡ side_row l x p s (t + 1)
+  rim_next_row p south t low less = refl
+  rim_next_row p east t low less = refl
+  rim_next_row p north t low less = omega (arith, high_some l x laid len p low)
+  rim_next_row p west t low less = omega arith
+
+  pub rim_patch : (p : ℕ) (s : Way) (t : ℕ) → (rim l x p s t).patch ≡ p
+  rim_patch p south t = refl
+  rim_patch p east t = refl
+  rim_patch p north t = refl
+  rim_patch p west t = refl
+
+  pub rim_from : (p : ℕ) (s : Way) (t : ℕ) → p < l.patches → t < size l x p s
+      → from l x (rim l x p s t) ≡ side_point l x p s t
+  rim_from p s t low less =
+      (λ k. point l x (rim_patch p s t k) (rim_column p s t low less k) (rim_row p s t low less k))
+      ∙ border_point p s t low (omega arith)
+
+  next_patch : (p : ℕ) (s : Way) (t : ℕ) → (next (rim l x p s t)).patch ≡ p
+  next_patch p s t = rim_patch p s t
+
+  pub rim_to : (p : ℕ) (s : Way) (t : ℕ) → p < l.patches → t < size l x p s
+      → to l x (rim l x p s t) ≡ side_point l x p s (t + 1)
+  rim_to p s t low less =
+      (λ k. point l x (rim_patch p s t k) (rim_next_column p s t low less k) (rim_next_row p s t low less k))
+      ∙ border_point p s (t + 1) low (omega arith)
+
+  -- A side ends where the next one begins.
+  pub corner_column : (p : ℕ) (s : Way) (t : ℕ) → p < l.patches → t ≡ size l x p s
+      → side_column l x p s t ≡ side_column l x p (after s) 0
+  corner_column p south t low e = e
+  corner_column p east t low e = omega arith
+  corner_column p north t low e = omega (arith, len.across p low)
+  corner_column p west t low e = refl
+
+  pub corner_row : (p : ℕ) (s : Way) (t : ℕ) → p < l.patches → t ≡ size l x p s
+      → side_row l x p s t ≡ side_row l x p (after s) 0
+  corner_row p south t low e = refl
+  corner_row p east t low e = omega (arith, len.upright p low)
+  corner_row p north t low e = omega arith
+  corner_row p west t low e = omega arith
+
+  -- A grid point of a patch lies inside, or is where a border dart begins.
+  pub record IsInner (p a b : ℕ) : Type 0 where
+    pub a_some : 0 < a
+    pub a_low : a < wide l x p
+    pub b_some : 0 < b
+    pub b_low : b < high l x p
+
+  pub record IsBorder (p a b : ℕ) (s : Way) (t : ℕ) : Type 0 where
+    pub low : t < size l x p s
+    pub column : a ≡ side_column l x p s t
+    pub row : b ≡ side_row l x p s t
+
+  pub on_rim : (p a b : ℕ) → p < l.patches → a ≤ wide l x p → b ≤ high l x p
+      → IsInner p a b ⊎ ((s : Way) × (t : ℕ) × IsBorder p a b s t)
+  on_rim p a b low a_le b_le = elim (cases_eq b 0) [
+    | inl bottom ↦ elim (cases_eq a (wide l x p)) [
+      | inl far ↦ inr (east, 0, record {
+        low = omega (arith, len.upright p low, high_some l x laid len p low);
+        column = far;
+        row = bottom;
+      })
+      | inr near ↦ inr (south, a, record { low = omega arith; column = refl; row = bottom })
+    ]
+    | inr some ↦ elim (cases_eq b (high l x p)) [
+      | inl up ↦ elim (cases_eq a 0) [
+        | inl first ↦ inr (west, 0, record { low = high_some l x laid len p low; column = first; row = omega arith })
+        | inr later ↦ inr (north, wide l x p - a, record {
+          low = omega (arith, len.across p low);
+          column = omega arith;
+          row = up;
+        })
+      ]
+      | inr less ↦ elim (cases_eq a 0) [
+        | inl first ↦ inr (west, high l x p - b, record { low = omega arith; column = first; row = omega arith })
+        | inr later ↦ elim (cases_eq a (wide l x p)) [
+          | inl far ↦ inr (east, b, record { low = omega (arith, len.upright p low); column = far; row = refl })
+          | inr near ↦ inl (record { a_some = omega arith; a_low = omega arith; b_some = omega arith; b_low = omega arith })
+        ]
+      ]
+    ]
+  ]
+
+  -- The corner where a dart begins is a grid point of its patch.
+  pub corner_low : (d : Dart) → IsDart l x d → (column_of d ≤ wide l x d.patch) × (row_of d ≤ high l x d.patch)
+  corner_low d is = by_way d.way
+    where
+      by_way : (w : Way) → (column d.i w ≤ wide l x d.patch) × (row d.j w ≤ high l x d.patch)
+      by_way south = (omega (arith, is.i_low), omega (arith, is.j_low))
+      by_way east = (omega (arith, is.i_low), omega (arith, is.j_low))
+      by_way north = (omega (arith, is.i_low), omega (arith, is.j_low))
+      by_way west = (omega (arith, is.i_low), omega (arith, is.j_low))
+
+  pub dart_on_rim : (d : Dart) → IsDart l x d
+      → IsInner d.patch (column_of d) (row_of d) ⊎ ((s : Way) × (t : ℕ) × IsBorder d.patch (column_of d) (row_of d) s t)
+  dart_on_rim d is = on_rim d.patch (column_of d) (row_of d) is.patch_low (corner_low d is).0 (corner_low d is).1
+
+  module _ (R : Dart → Dart → Type 0) (turning : IsTurning l x R) where
+    -- Darts of a patch that leave one grid point are related.
+    pub darts_related : (d e : Dart) → IsDart l x d → IsDart l x e → d.patch ≡ e.patch
+        → column_of d ≡ column_of e → row_of d ≡ row_of e → R d e
+    darts_related d e is_d is_e same c r =
+        turning.on d (dart e.patch d.i d.j d.way) e
+            (turning.self d (dart e.patch d.i d.j d.way) (λ t. dart (same t) d.i d.j d.way))
+            (grid_related l x R turning e.patch d.i d.j e.i e.j d.way e.way
+                (record {
+                  patch_low = is_e.patch_low;
+                  i_low = omega (arith, is_d.i_low, ap (wide l x) same);
+                  j_low = omega (arith, is_d.j_low, ap (high l x) same);
+                })
+                is_e c r)
+
+    -- The dart after a border dart, and the next border dart.
+    pub rim_on : (p : ℕ) (s : Way) (t : ℕ) → p < l.patches → t + 1 < size l x p s
+        → R (next (rim l x p s t)) (rim l x p s (t + 1))
+    rim_on p s t low less =
+        darts_related (next (rim l x p s t)) (rim l x p s (t + 1))
+            (next_is (rim_is p s t low (omega arith))) (rim_is p s (t + 1) low less)
+            (rim_patch p s t ∙ sym (rim_patch p s (t + 1)))
+            (rim_next_column p s t low (omega arith) ∙ sym (rim_column p s (t + 1) low less))
+            (rim_next_row p s t low (omega arith) ∙ sym (rim_row p s (t + 1) low less))
+      where
+        next_is : IsDart l x (rim l x p s t) → IsDart l x (next (rim l x p s t))
+        next_is d = record { patch_low = d.patch_low; i_low = d.i_low; j_low = d.j_low }
+
+    -- The same at the end of a side.
+    pub rim_round : (p : ℕ) (s : Way) (t : ℕ) → p < l.patches → t + 1 ≡ size l x p s → 0 < size l x p (after s)
+        → R (next (rim l x p s t)) (rim l x p (after s) 0)
+    rim_round p s t low e some =
+        darts_related (next (rim l x p s t)) (rim l x p (after s) 0)
+            (next_is (rim_is p s t low (omega arith))) (rim_is p (after s) 0 low some)
+            (rim_patch p s t ∙ sym (rim_patch p (after s) 0))
+            (rim_next_column p s t low (omega arith) ∙ corner_column p s (t + 1) low e ∙ sym (rim_column p (after s) 0 low some))
+            (rim_next_row p s t low (omega arith) ∙ corner_row p s (t + 1) low e ∙ sym (rim_row p (after s) 0 low some))
+      where
+        next_is : IsDart l x (rim l x p s t) → IsDart l x (next (rim l x p s t))
+        next_is d = record { patch_low = d.patch_low; i_low = d.i_low; j_low = d.j_low }

@@ -1,0 +1,170 @@
+-- The points on a side of a patch.
+use Rattle.std.proofs.Common.{◌≡◌, ◌≢◌, ℕ, zero, suc, ◌+◌, ◌-◌, ◌<◌, ◌≤◌, Bool, true, false, cond, refl, sym, ◌∙◌, ap, subst, inl, inr, arith}
+use Rattle.std.specs.Prelude.{◌==◌}
+use Rattle.std.proofs.lemmas.Bool.{cases_eq, cases_lt, cond-true, cond-false, eq-eqb, ne_eqb}
+use Rattle.def_math.specs.Counts.{count_below}
+use Rattle.def_math.specs.Runs.{run_at}
+use Rattle.def_layout.specs.declared.tmesh.SideArc.{SideArc}
+use Rattle.def_layout.specs.Layouts.{Way, south, east, north, west, after, before, Layout, Slot, IsSlot, use_of, use_before, start_of, end_of}
+use Rattle.def_layout.specs.Laid.{IsPaved, IsLaid}
+use Rattle.def_layout.specs.Lengths.{Lengths, reach, size, wide, high, AreLengths}
+use Rattle.def_written.specs.Points.{Point, node, along, arc_point, use_point, use_over, offset_at, side_point}
+use Rattle.qm_laws.proofs.Runs.{count_rises, run_here, run_last, run_place, IsInRun}
+
+-- The slot with these parts.
+abbrev pub slot : (patch : ℕ) (side : Way) (at : ℕ) → Slot
+slot p s m = record { patch = p; side = s; at = m }
+
+module _ (l : Layout) (x : Lengths) where
+  -- The points of an arc.
+  pub arc_last : (a k : ℕ) → k ≡ x a → 0 < k → arc_point l x a k ≡ node (l.last a)
+  arc_last a k e some =
+      cond-false (k == 0) _ _ (ne_eqb k 0 (λ z. omega arith)) ∙ cond-true (k == x a) _ _ (eq-eqb k (x a) e)
+
+  pub arc_inner : (a k : ℕ) → 0 < k → k < x a → arc_point l x a k ≡ along a k
+  arc_inner a k some less =
+      cond-false (k == 0) _ _ (ne_eqb k 0 (λ z. omega arith)) ∙ cond-false (k == x a) _ _ (ne_eqb k (x a) (λ e. omega arith))
+
+  -- An arc in use begins and ends at nodes.
+  pub use_begins : (u : SideArc) → 0 < x u.arc → use_point l x u 0 ≡ node (start_of l u)
+  use_begins u some = by_way u.arc u.forward some
+    where
+      by_way : (a : ℕ) (b : Bool) → 0 < x a
+          → use_point l x (record { arc = a; forward = b }) 0 ≡ node (start_of l (record { arc = a; forward = b }))
+      by_way a true pos_a = refl
+      by_way a false pos_a = arc_last a (x a - 0) (omega arith) (omega arith)
+
+  pub use_ends : (u : SideArc) (o : ℕ) → o ≡ x u.arc → 0 < o → use_point l x u o ≡ node (end_of l u)
+  use_ends u o e some = by_way u.arc u.forward e
+    where
+      by_way : (a : ℕ) (b : Bool) → o ≡ x a
+          → use_point l x (record { arc = a; forward = b }) o ≡ node (end_of l (record { arc = a; forward = b }))
+      by_way a true same = arc_last a o same some
+      by_way a false same = let z : x a - o ≡ 0 = omega arith in ap (arc_point l x a) z
+
+  pub use_inner : (u : SideArc) (o : ℕ) → 0 < o → o < x u.arc
+      → use_point l x u o ≡ along u.arc (cond u.forward o (x u.arc - o))
+  use_inner u o some less = by_way u.arc u.forward less
+    where
+      by_way : (a : ℕ) (b : Bool) → o < x a
+          → use_point l x (record { arc = a; forward = b }) o ≡ along a (cond b o (x a - o))
+      by_way a true low = arc_inner a o some low
+      by_way a false low = arc_inner a (x a - o) (omega arith) (omega arith)
+
+  -- How long the arc at a place of a side is.
+  abbrev pub long_at : (patch : ℕ) (side : Way) (at : ℕ) → ℕ
+  long_at p s m = x (l.use_at p s m).arc
+
+  -- The arc over a place within an arc.
+  pub over_is : (w : Slot) (o : ℕ) → IsSlot l w → o < x (use_of l w).arc
+      → use_over l x w.patch w.side (reach l x w.patch w.side w.at + o) ≡ w.at
+  over_is w o is less = run_place (long_at w.patch w.side) (l.many w.patch w.side) w.at o is.low less
+
+  pub side_in : (w : Slot) (o : ℕ) → IsSlot l w → o < x (use_of l w).arc
+      → side_point l x w.patch w.side (reach l x w.patch w.side w.at + o) ≡ use_point l x (use_of l w) o
+  side_in w o is less =
+      let t : ℕ = reach l x w.patch w.side w.at + o in
+      ap (λ m. use_point l x (l.use_at w.patch w.side m) (t - reach l x w.patch w.side m)) (over_is w o is less)
+      ∙ ap (use_point l x (use_of l w)) (omega arith)
+
+  -- A place of a side lies within the arc of a slot.
+  pub record IsOn (p : ℕ) (s : Way) (t m o : ℕ) : Type 0 where
+    pub is_slot : IsSlot l (slot p s m)
+    pub inside : o < x (l.use_at p s m).arc
+    pub place : t ≡ reach l x p s m + o
+
+  pub place_on : (p : ℕ) (s : Way) (t : ℕ) → p < l.patches → t < size l x p s
+      → IsOn p s t (use_over l x p s t) (offset_at l x p s t)
+  place_on p s t low less =
+      let h : IsInRun (long_at p s) (l.many p s) t (use_over l x p s t) (offset_at l x p s t) =
+          run_here (long_at p s) (l.many p s) t less in
+      record { is_slot = record { patch_low = low; low = h.low }; inside = h.inside; place = h.place }
+
+  -- An arc of a side ends on it.
+  pub reach_low : (w : Slot) → IsSlot l w
+      → reach l x w.patch w.side w.at + x (use_of l w).arc ≤ size l x w.patch w.side
+  reach_low w is = count_rises (long_at w.patch w.side) (suc w.at) (l.many w.patch w.side) (omega (arith, is.low))
+
+  module _ (laid : IsLaid l) (len : AreLengths l x) where
+    pub use_some : (w : Slot) → IsSlot l w → 0 < x (use_of l w).arc
+    use_some w is = len.some (use_of l w).arc (laid.paved.arc_low w is)
+
+    pub first_slot : (p : ℕ) (s : Way) → p < l.patches → IsSlot l (slot p s 0)
+    first_slot p s low = record { patch_low = low; low = laid.paved.sides_full p s low }
+
+    pub last_slot : (p : ℕ) (s : Way) → p < l.patches → IsSlot l (slot p s (l.many p s - 1))
+    last_slot p s low = record { patch_low = low; low = omega (arith, laid.paved.sides_full p s low) }
+
+    -- The last arc of a side ends where the side does.
+    pub last_reach : (p : ℕ) (s : Way) → p < l.patches
+        → reach l x p s (l.many p s - 1) + long_at p s (l.many p s - 1) ≡ size l x p s
+    last_reach p s low =
+        let e : suc (l.many p s - 1) ≡ l.many p s = omega (arith, laid.paved.sides_full p s low) in
+        ap (reach l x p s) e
+
+    pub size_some : (p : ℕ) (s : Way) → p < l.patches → 0 < size l x p s
+    size_some p s low =
+        omega (arith, last_reach p s low, use_some (slot p s (l.many p s - 1)) (last_slot p s low))
+
+    pub side_begin : (p : ℕ) (s : Way) → p < l.patches → side_point l x p s 0 ≡ node (start_of l (l.use_at p s 0))
+    side_begin p s low =
+        let some : 0 < x (l.use_at p s 0).arc = use_some (slot p s 0) (first_slot p s low) in
+        let in_side : side_point l x p s (0 + 0) ≡ use_point l x (l.use_at p s 0) 0 =
+            side_in (slot p s 0) 0 (first_slot p s low) some in
+        in_side ∙ use_begins (l.use_at p s 0) some
+
+    pub side_end : (p : ℕ) (s : Way) (t : ℕ) → p < l.patches → t ≡ size l x p s
+        → side_point l x p s t ≡ node (end_of l (l.use_at p s (l.many p s - 1)))
+    side_end p s t low e =
+        let long : reach l x p s (l.many p s - 1) + long_at p s (l.many p s - 1) ≡ size l x p s = last_reach p s low in
+        let some : 0 < long_at p s (l.many p s - 1) = use_some (slot p s (l.many p s - 1)) (last_slot p s low) in
+        let over : use_over l x p s t ≡ l.many p s - 1 =
+            run_last (reach l x p s) (l.many p s) t (laid.paved.sides_full p s low) (omega (arith, long, e)) in
+        ap (λ m. use_point l x (l.use_at p s m) (t - reach l x p s m)) over
+        ∙ use_ends (l.use_at p s (l.many p s - 1)) (t - reach l x p s (l.many p s - 1)) (omega (arith, long, e)) (omega (arith, long, e, some))
+
+    -- A side ends where the next one begins.
+    pub corner_meets : (p : ℕ) (s : Way) (t : ℕ) → p < l.patches → t ≡ size l x p s
+        → side_point l x p s t ≡ side_point l x p (after s) 0
+    corner_meets p s t low e = side_end p s t low e ∙ ap node (at s) ∙ sym (side_begin p (after s) low)
+      where
+        at : (s : Way) → end_of l (l.use_at p s (l.many p s - 1)) ≡ start_of l (l.use_at p (after s) 0)
+        at south = laid.meet (slot p east 0) (first_slot p east low)
+        at east = laid.meet (slot p north 0) (first_slot p north low)
+        at north = laid.meet (slot p west 0) (first_slot p west low)
+        at west = laid.meet (slot p south 0) (first_slot p south low)
+
+    -- The points of an arc on a side, its end included.
+    pub side_upto : (w : Slot) (o t : ℕ) → IsSlot l w → o ≤ x (use_of l w).arc → t ≡ reach l x w.patch w.side w.at + o
+        → side_point l x w.patch w.side t ≡ use_point l x (use_of l w) o
+    side_upto w o t is le e = elim (cases_lt o (x (use_of l w).arc)) [
+      | inl less ↦ ap (side_point l x w.patch w.side) e ∙ side_in w o is less
+      | inr more ↦ elim (cases_lt (suc w.at) (l.many w.patch w.side)) [
+        | inl another ↦ at_next more (record { patch_low = is.patch_low; low = another })
+        | inr last ↦ at_end more last
+      ]
+    ]
+      where
+        at_next : x (use_of l w).arc ≤ o → IsSlot l (slot w.patch w.side (suc w.at))
+            → side_point l x w.patch w.side t ≡ use_point l x (use_of l w) o
+        at_next more next =
+            let same : t ≡ reach l x w.patch w.side (suc w.at) + 0 = omega arith in
+            let some : 0 < x (l.use_at w.patch w.side (suc w.at)).arc = use_some (slot w.patch w.side (suc w.at)) next in
+            ap (side_point l x w.patch w.side) same ∙ side_in (slot w.patch w.side (suc w.at)) 0 next some
+            ∙ use_begins (l.use_at w.patch w.side (suc w.at)) some
+            ∙ ap node (sym (laid.meet (slot w.patch w.side (suc w.at)) next))
+            ∙ sym (use_ends (use_of l w) o (omega arith) (omega (arith, use_some w is)))
+
+        at_end : x (use_of l w).arc ≤ o → l.many w.patch w.side ≤ suc w.at
+            → side_point l x w.patch w.side t ≡ use_point l x (use_of l w) o
+        at_end more last =
+            let m : w.at ≡ l.many w.patch w.side - 1 = omega (arith, is.low) in
+            let long : reach l x w.patch w.side (l.many w.patch w.side - 1) + long_at w.patch w.side (l.many w.patch w.side - 1) ≡ size l x w.patch w.side =
+                last_reach w.patch w.side is.patch_low in
+            let r : reach l x w.patch w.side w.at ≡ reach l x w.patch w.side (l.many w.patch w.side - 1) =
+                ap (reach l x w.patch w.side) m in
+            let u : long_at w.patch w.side w.at ≡ long_at w.patch w.side (l.many w.patch w.side - 1) =
+                ap (long_at w.patch w.side) m in
+            side_end w.patch w.side t is.patch_low (omega (arith, long, r, u))
+            ∙ ap (λ k. node (end_of l (l.use_at w.patch w.side k))) (sym m)
+            ∙ sym (use_ends (use_of l w) o (omega arith) (omega (arith, use_some w is)))

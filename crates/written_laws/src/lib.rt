@@ -1,0 +1,2 @@
+//! The laws of the mesh that a layout gives at new lengths.
+#![tactic(auto)]
