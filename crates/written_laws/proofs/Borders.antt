@@ -57,7 +57,7 @@ module _ (l : Layout) (x : Lengths) where
         by_way a false low some inner = (low, omega arith, omega arith)
 
     -- The border dart o after the beginning of a slot's arc.
-    at_low : (w : Slot) (o : ℕ) → IsSlot l w → o < x (use_of l w).arc
+    pub at_low : (w : Slot) (o : ℕ) → IsSlot l w → o < x (use_of l w).arc
         → reach l x w.patch w.side w.at + o < size l x w.patch w.side
     at_low w o is less = omega (arith, reach_low l x w is)
 

@@ -5,3 +5,9 @@ pub mod Turning
 pub mod Rims
 pub mod Borders
 pub mod Fans
+pub mod NewDarts
+pub mod OneFan
+pub mod Courses
+pub mod Simple
+pub mod Manifold
+pub mod Across

@@ -1,0 +1,230 @@
+-- Where no edge is doubled, the new faces are a manifold.
+use Rattle.std.proofs.Common.{◌≡◌, ◌≢◌, ◌⊎◌, ℕ, zero, suc, ◌+◌, ◌-◌, ◌<◌, ◌≤◌, length, Bool, true, false, not, cond, refl, sym, ◌∙◌, ap, subst, inl, inr, arith}
+use Rattle.std.proofs.lemmas.Bool.{cases_lt, cases_eq, false≢true}
+use Rattle.def_mesh.specs.Faces.{corner}
+use Rattle.def_mesh.specs.Darts.{darts, from_of, to_of}
+use Rattle.def_mesh.specs.Manifold.{IsManifold, IsRepeatFree, IsSameEdge, HasEdgesOnce}
+use Rattle.def_layout.specs.Layouts.{Way, south, east, north, west, after, before, Layout, Slot, IsSlot, AreReverse, use_of, use_before, slot_before}
+use Rattle.def_layout.specs.Laid.{IsLaid}
+use Rattle.def_layout.specs.Fans.{HasFans}
+use Rattle.def_layout.specs.Lengths.{Lengths, reach, size, wide, high, AreLengths}
+use Rattle.def_layout.specs.Cells.{Dart, IsDart, dart, next, rim, rim_at}
+use Rattle.def_written.specs.Points.{Point}
+use Rattle.def_written.specs.Numbers.{number}
+use Rattle.def_written.specs.NewFaces.{from, to, face_count, dart_of, vertex_of, new_faces}
+use Rattle.def_written.specs.Edges.{Edge, on_arc, IsEdge}
+use Rattle.qm_laws.proofs.Runs.{count_rises}
+use Rattle.written_laws.proofs.Sides.{slot, long_at, reach_low, use_some}
+use Rattle.written_laws.proofs.Numbers.{number_same}
+use Rattle.written_laws.proofs.Borders.{from_is, at_low}
+use Rattle.written_laws.proofs.NewDarts.{turn, way_of, turn_way, dart_number, corner_is, cell_is, number_from, number_to, next_is, at_number, faces_long}
+use Rattle.written_laws.proofs.OneFan.{one_fan}
+use Rattle.written_laws.proofs.Courses.{Course, course, is_arc, inner_course, start_at, end_at, use_course, course_of, IsWithin, IsOnBorder, sees, border_is, course_is, course_from, course_to, inner_no_arc, course_once}
+use Rattle.written_laws.proofs.Simple.{IsSimple, one_course, reversed, ends_apart}
+
+-- Darts that follow each other round a cell inside a patch run along different edges.
+flat_or_steep : (p i j : ℕ) (w : Way) → (inner_course p i j (after w)).edge ≢ (inner_course p i j w).edge
+flat_or_steep p i j south e = cc
+flat_or_steep p i j east e = cc
+flat_or_steep p i j north e = cc
+flat_or_steep p i j west e = cc
+
+pub before_after : (w : Way) → before (after w) ≡ w
+before_after south = refl
+before_after east = refl
+before_after north = refl
+before_after west = refl
+
+module _ (l : Layout) (x : Lengths) (laid : IsLaid l) (len : AreLengths l x) where
+  -- A cell with two border darts in a row lies at the corner of its patch.
+  corner_cell : (p : ℕ) (s : Way) (t u : ℕ) → p < l.patches → t < size l x p s → u < size l x p (after s)
+      → (rim l x p s t).i ≡ (rim l x p (after s) u).i → (rim l x p s t).j ≡ (rim l x p (after s) u).j
+      → (t + 1 ≡ size l x p s) × (u ≡ 0)
+  corner_cell p south t u low t_low u_low i j = (omega (arith, i), sym j)
+  corner_cell p east t u low t_low u_low i j = (omega (arith, j, len.upright p low), omega (arith, i, len.across p low))
+  corner_cell p north t u low t_low u_low i j = (omega (arith, i, len.across p low), omega (arith, j))
+  corner_cell p west t u low t_low u_low i j = (omega (arith, j), sym i)
+
+  rim_way : (p : ℕ) (s : Way) (t : ℕ) → (rim l x p s t).way ≡ s
+  rim_way p south t = refl
+  rim_way p east t = refl
+  rim_way p north t = refl
+  rim_way p west t = refl
+
+  rim_in : (p : ℕ) (s : Way) (t : ℕ) → (rim l x p s t).patch ≡ p
+  rim_in p south t = refl
+  rim_in p east t = refl
+  rim_in p north t = refl
+  rim_in p west t = refl
+
+  -- The slot at the beginning of a side is its first one.
+  first_is : (v : Slot) → IsSlot l v → reach l x v.patch v.side v.at ≡ 0 → v.at ≡ 0
+  first_is v is none = elim (cases_eq v.at 0) [
+    | inl e ↦ e
+    | inr later ↦
+      let first : IsSlot l (slot v.patch v.side 0) = record { patch_low = is.patch_low; low = omega (arith, is.low) } in
+      let le : reach l x v.patch v.side 1 ≤ reach l x v.patch v.side v.at = count_rises (long_at l x v.patch v.side) 1 v.at (omega arith) in
+      let some : 0 < long_at l x v.patch v.side 0 = use_some l x laid len (slot v.patch v.side 0) first in
+      absurd (omega (arith, le, some, none))
+  ]
+
+  -- The slot at the end of a side is its last one.
+  last_is : (w : Slot) → IsSlot l w → size l x w.patch w.side ≤ reach l x w.patch w.side w.at + x (use_of l w).arc
+      → w.at ≡ l.many w.patch w.side - 1
+  last_is w is end = elim (cases_lt (suc w.at) (l.many w.patch w.side)) [
+    | inl more ↦
+      let later : IsSlot l (slot w.patch w.side (suc w.at)) = record { patch_low = is.patch_low; low = more } in
+      let le : reach l x w.patch w.side (suc w.at) + long_at l x w.patch w.side (suc w.at) ≤ size l x w.patch w.side =
+          reach_low l x (slot w.patch w.side (suc w.at)) later in
+      let some : 0 < long_at l x w.patch w.side (suc w.at) = use_some l x laid len (slot w.patch w.side (suc w.at)) later in
+      absurd (omega (arith, le, some, end))
+    | inr none ↦ omega (arith, is.low, none)
+  ]
+
+  -- Two border darts in a row lie on the last arc of a side and the first of the next one.
+  corner_slots : (d : Dart) (w v : Slot) (o k : ℕ) → IsOnBorder l x d w o → IsOnBorder l x (next d) v k
+      → (v.at ≡ 0) × (slot_before l v.patch v.side v.at ≡ w)
+  corner_slots d w v o k at_w at_v = (v_first, by_paths)
+    where
+      t : ℕ
+      t = reach l x w.patch w.side w.at + o
+
+      patches : v.patch ≡ w.patch
+      patches = sym (rim_in v.patch v.side (reach l x v.patch v.side v.at + k)) ∙ ap (λ (e : Dart). e.patch) (sym at_v.dart)
+          ∙ ap (λ (e : Dart). e.patch) at_w.dart ∙ rim_in w.patch w.side (reach l x w.patch w.side w.at + o)
+
+      sides : v.side ≡ after w.side
+      sides = sym (rim_way v.patch v.side (reach l x v.patch v.side v.at + k)) ∙ ap (λ (e : Dart). e.way) (sym at_v.dart)
+          ∙ ap (λ (e : Dart). after e.way) at_w.dart ∙ ap after (rim_way w.patch w.side (reach l x w.patch w.side w.at + o))
+
+      place : (u : ℕ) → Dart
+      place u = rim l x w.patch (after w.side) u
+
+      same_rim : rim_at l x v k ≡ rim l x w.patch (after w.side) (reach l x v.patch v.side v.at + k)
+      same_rim = λ r. rim l x (patches r) (sides r) (reach l x v.patch v.side v.at + k)
+
+      columns : (rim_at l x w o).i ≡ (rim l x w.patch (after w.side) (reach l x v.patch v.side v.at + k)).i
+      columns = ap (λ (e : Dart). e.i) (sym at_w.dart) ∙ ap (λ (e : Dart). e.i) at_v.dart ∙ ap (λ (e : Dart). e.i) same_rim
+
+      rows : (rim_at l x w o).j ≡ (rim l x w.patch (after w.side) (reach l x v.patch v.side v.at + k)).j
+      rows = ap (λ (e : Dart). e.j) (sym at_w.dart) ∙ ap (λ (e : Dart). e.j) at_v.dart ∙ ap (λ (e : Dart). e.j) same_rim
+
+      v_less : reach l x v.patch v.side v.at + k < size l x w.patch (after w.side)
+      v_less = subst (λ (n : ℕ). reach l x v.patch v.side v.at + k < n) (λ r. size l x (patches r) (sides r)) (at_low l x laid len v k at_v.is_slot at_v.low)
+
+      both : (reach l x w.patch w.side w.at + o + 1 ≡ size l x w.patch w.side) × (reach l x v.patch v.side v.at + k ≡ 0)
+      both = corner_cell w.patch w.side (reach l x w.patch w.side w.at + o) (reach l x v.patch v.side v.at + k) at_w.is_slot.patch_low
+          (at_low l x laid len w o at_w.is_slot at_w.low) v_less columns rows
+
+      v_first : v.at ≡ 0
+      v_first = first_is v at_v.is_slot (omega (arith, both.1))
+
+      w_last : w.at ≡ l.many w.patch w.side - 1
+      w_last = last_is w at_w.is_slot (omega (arith, both.0, at_w.low))
+
+      by_paths : slot_before l v.patch v.side v.at ≡ w
+      by_paths = (λ r. slot_before l (patches r) (sides r) (v_first r))
+          ∙ (λ r. slot w.patch (before_after w.side r) (l.many w.patch (before_after w.side r) - 1))
+          ∙ (λ r. slot w.patch w.side (sym w_last r))
+
+  module _ (simple : IsSimple l x) where
+    pub ends_differ : (d : Dart) → IsDart l x d → from l x d ≢ to l x d
+    ends_differ d is same =
+        ends_apart l x simple (course_of l x d) (course_is l x laid len d is)
+            (sym (course_from l x laid len d is) ∙ same ∙ course_to l x laid len d is)
+
+    pub opposite_differ : (d : Dart) → IsDart l x d → from l x d ≢ to l x (next d)
+    opposite_differ d is same = by_sight (sees l x laid len d is) (sees l x laid len (next d) is_next)
+      where
+        is_next : IsDart l x (next d)
+        is_next = next_is l x d is
+
+        turned : ((course_of l x (next d)).edge ≡ (course_of l x d).edge) × ((course_of l x (next d)).ahead ≡ not (course_of l x d).ahead)
+        turned = reversed l x simple (course_of l x d) (course_of l x (next d)) (course_is l x laid len d is) (course_is l x laid len (next d) is_next)
+            (sym (course_from l x laid len (next d) is_next) ∙ course_to l x laid len d is)
+            (sym (course_to l x laid len (next d) is_next) ∙ sym same ∙ course_from l x laid len d is)
+
+        by_corner : (w v : Slot) (o k : ℕ) → IsOnBorder l x d w o → IsOnBorder l x (next d) v k → ⊥
+        by_corner w v o k at_w at_v =
+            let c : (v.at ≡ 0) × (slot_before l v.patch v.side v.at ≡ w) = corner_slots d w v o k at_w at_v in
+            let e : on_arc (use_of l v).arc (cond (use_of l v).forward k (x (use_of l v).arc - 1 - k))
+                ≡ on_arc (use_of l w).arc (cond (use_of l w).forward o (x (use_of l w).arc - 1 - o)) =
+                ap (λ (g : Course). g.edge) (sym (border_is l x laid len (next d) v k at_v)) ∙ turned.0
+                ∙ ap (λ (g : Course). g.edge) (border_is l x laid len d w o at_w) in
+            let arcs : (use_of l v).arc ≡ (use_of l w).arc = cc in
+            let ways : (use_of l v).forward ≡ not (use_of l w).forward =
+                ap (λ (g : Course). g.ahead) (sym (border_is l x laid len (next d) v k at_v)) ∙ turned.1
+                ∙ ap (λ (g : Course). not g.ahead) (border_is l x laid len d w o at_w) in
+            laid.no_fold v at_v.is_slot c.0
+                (subst (λ (u : Slot). AreReverse (use_of l u) (use_of l v)) (sym c.1) (record { arc = arcs; turned = ways }))
+
+        by_sight : IsWithin l x d ⊎ ((w : Slot) × (o : ℕ) × IsOnBorder l x d w o)
+            → IsWithin l x (next d) ⊎ ((w : Slot) × (o : ℕ) × IsOnBorder l x (next d) w o) → ⊥
+        by_sight (inl i) (inl j) =
+            flat_or_steep d.patch d.i d.j d.way
+                (ap (λ (g : Course). g.edge) (sym j.course) ∙ turned.0 ∙ ap (λ (g : Course). g.edge) i.course)
+        by_sight (inl i) (inr b) =
+            false≢true (sym (inner_no_arc l x laid len d.patch d.i d.j d.way) ∙ ap (λ (g : Course). is_arc g.edge) (sym i.course)
+                ∙ ap is_arc (sym turned.0) ∙ ap (λ (g : Course). is_arc g.edge) (border_is l x laid len (next d) b.0 b.1 b.2))
+        by_sight (inr a) (inl j) =
+            false≢true (sym (inner_no_arc l x laid len d.patch d.i d.j (after d.way)) ∙ ap (λ (g : Course). is_arc g.edge) (sym j.course)
+                ∙ ap is_arc turned.0 ∙ ap (λ (g : Course). is_arc g.edge) (border_is l x laid len d a.0 a.1 a.2))
+        by_sight (inr a) (inr b) = by_corner a.0 b.0 a.1 b.1 a.2 b.2
+
+    -- Points apart have numbers apart.
+    numbers_differ : (d e : Dart) → IsDart l x d → IsDart l x e → from l x d ≢ from l x e → number l x (from l x d) ≢ number l x (from l x e)
+    numbers_differ d e is_d is_e apart same =
+        apart (number_same l x (from l x d) (from l x e) (from_is l x laid len d is_d) (from_is l x laid len e is_e) same)
+
+    corners_differ : (f : ℕ) → f < face_count l x → (i j : ℕ) → i < j → j < 4 → vertex_of l x f (way_of i) ≢ vertex_of l x f (way_of j)
+    corners_differ f low = at
+      where
+        is : (w : Way) → IsDart l x (dart_of l x f w)
+        is w = cell_is l x laid len f w low
+
+        side : (w v : Way) → from l x (dart_of l x f w) ≢ from l x (dart_of l x f v) → vertex_of l x f w ≢ vertex_of l x f v
+        side w v apart = numbers_differ (dart_of l x f w) (dart_of l x f v) (is w) (is v) apart
+
+        at : (i j : ℕ) → i < j → j < 4 → vertex_of l x f (way_of i) ≢ vertex_of l x f (way_of j)
+        at zero (suc zero) less four = side south east (ends_differ (dart_of l x f south) (is south))
+        at zero (suc (suc zero)) less four = side south north (opposite_differ (dart_of l x f south) (is south))
+        at zero (suc (suc (suc j))) less four = side south west (λ e. ends_differ (dart_of l x f west) (is west) (sym e))
+        at (suc zero) (suc (suc zero)) less four = side east north (ends_differ (dart_of l x f east) (is east))
+        at (suc zero) (suc (suc (suc j))) less four = side east west (opposite_differ (dart_of l x f east) (is east))
+        at (suc (suc zero)) (suc (suc (suc j))) less four = side north west (ends_differ (dart_of l x f north) (is north))
+        at i zero less four = absurd (omega arith)
+        at (suc i) (suc zero) less four = absurd (omega arith)
+        at (suc (suc i)) (suc (suc zero)) less four = absurd (omega arith)
+        at (suc (suc (suc i))) (suc (suc (suc j))) less four = absurd (omega arith)
+
+    pub repeat_free : IsRepeatFree (new_faces l x)
+    repeat_free f i j low less four same =
+        let f_low : f < face_count l x = omega (arith, faces_long l x) in
+        let i_is : turn (way_of i) ≡ i = turn_way i (omega arith) in
+        let j_is : turn (way_of j) ≡ j = turn_way j four in
+        corners_differ f f_low i j less four
+            (sym (corner_is l x f (way_of i) f_low) ∙ ap (corner (new_faces l x) f) i_is ∙ same
+                ∙ ap (corner (new_faces l x) f) (sym j_is) ∙ corner_is l x f (way_of j) f_low)
+
+    pub edges_once : HasEdgesOnce (new_faces l x)
+    edges_once d e d_low e_low same = by_darts (at_number l x laid len d d_low) (at_number l x laid len e e_low)
+      where
+        by_darts : (c : Dart) × IsDart l x c × (dart_number l x c ≡ d) → (c : Dart) × IsDart l x c × (dart_number l x c ≡ e) → d ≡ e
+        by_darts a b =
+            let starts : from l x a.0 ≡ from l x b.0 =
+                number_same l x (from l x a.0) (from l x b.0) (from_is l x laid len a.0 a.1) (from_is l x laid len b.0 b.1)
+                    (sym (number_from l x a.0 a.1) ∙ ap (from_of (new_faces l x)) a.2 ∙ same.0
+                        ∙ ap (from_of (new_faces l x)) (sym b.2) ∙ number_from l x b.0 b.1) in
+            let ends : to l x a.0 ≡ to l x b.0 =
+                number_same l x (to l x a.0) (to l x b.0)
+                    (from_is l x laid len (next a.0) (next_is l x a.0 a.1)) (from_is l x laid len (next b.0) (next_is l x b.0 b.1))
+                    (sym (number_to l x a.0 a.1) ∙ ap (to_of (new_faces l x)) a.2 ∙ same.1
+                        ∙ ap (to_of (new_faces l x)) (sym b.2) ∙ number_to l x b.0 b.1) in
+            let one : course_of l x a.0 ≡ course_of l x b.0 =
+                one_course l x simple (course_of l x a.0) (course_of l x b.0) (course_is l x laid len a.0 a.1) (course_is l x laid len b.0 b.1)
+                    (sym (course_from l x laid len a.0 a.1) ∙ starts ∙ course_from l x laid len b.0 b.1)
+                    (sym (course_to l x laid len a.0 a.1) ∙ ends ∙ course_to l x laid len b.0 b.1) in
+            sym a.2 ∙ ap (dart_number l x) (course_once l x laid len a.0 b.0 a.1 b.1 one) ∙ b.2
+
+    pub manifold : HasFans l → IsManifold (new_faces l x)
+    manifold fans = record { repeat_free = repeat_free; edges_once = edges_once; one_fan = one_fan l x laid len fans }

@@ -1,0 +1,181 @@
+-- The darts of the new faces, by number and by cell.
+use Rattle.std.proofs.Common.{◌≡◌, ℕ, zero, suc, ◌+◌, ◌-◌, ◌*◌, ◌/◌, ◌%◌, ◌<◌, [], length, refl, sym, ◌∙◌, ap, subst, arith}
+use Rattle.std.specs.Prelude.{slice_index_or}
+use Rattle.std.proofs.Math.Nat.{mod-lt, div-lt_iff_lt-mul, mul_comm}
+use Rattle.std.proofs.lemmas.Nat.{mul-add-lt, same_from_place, div-add-mod'}
+use Rattle.std.proofs.lemmas.Bool.Decides.{nat_tests}
+use Rattle.std.proofs.lemmas.List.FromFn.{length-map-range_with_len, get_or-map-range_with_len}
+use Rattle.def_math.specs.Counts.{count_below}
+use Rattle.def_mesh.specs.Faces.{Face, Faces, corner}
+use Rattle.def_mesh.specs.Darts.{darts, next_of, prev_of, from_of, to_of}
+use Rattle.def_layout.specs.Layouts.{Way, south, east, north, west, after, before, Layout}
+use Rattle.def_layout.specs.Laid.{IsLaid}
+use Rattle.def_layout.specs.Lengths.{Lengths, wide, high, AreLengths}
+use Rattle.def_layout.specs.Cells.{Dart, IsDart, dart, next, prev}
+use Rattle.def_written.specs.Numbers.{number}
+use Rattle.def_written.specs.NewFaces.{from, to, cells_before, face_count, patch_of, cell_in, dart_of, vertex_of, new_face, new_faces}
+use Rattle.qm_laws.proofs.Runs.{run_place, run_here, place_low, IsInRun}
+use Rattle.mesh_laws.proofs.Darts.{next_of_low}
+use Rattle.written_laws.proofs.Grid.{wide_some}
+
+-- The sides of a face by number.
+abbrev pub turn : (side : Way) → ℕ
+turn south = 0
+turn east = 1
+turn north = 2
+turn west = 3
+
+abbrev pub way_of : (k : ℕ) → Way
+way_of zero = south
+way_of (suc zero) = east
+way_of (suc (suc zero)) = north
+way_of (suc (suc (suc k))) = west
+
+pub way_turn : (w : Way) → way_of (turn w) ≡ w
+way_turn south = refl
+way_turn east = refl
+way_turn north = refl
+way_turn west = refl
+
+pub turn_way : (k : ℕ) → k < 4 → turn (way_of k) ≡ k
+turn_way zero low = refl
+turn_way (suc zero) low = refl
+turn_way (suc (suc zero)) low = refl
+turn_way (suc (suc (suc k))) low = omega arith
+
+pub turn_low : (w : Way) → turn w < 4
+turn_low south = omega arith
+turn_low east = omega arith
+turn_low north = omega arith
+turn_low west = omega arith
+
+pub next_at : (c : ℕ) (w : Way) → next_of (4 * c + turn w) ≡ 4 * c + turn (after w)
+next_at c south = grind (arith, nat_tests)
+next_at c east = grind (arith, nat_tests)
+next_at c north = grind (arith, nat_tests)
+next_at c west = grind (arith, nat_tests)
+
+pub prev_at : (c : ℕ) (w : Way) → prev_of (4 * c + turn w) ≡ 4 * c + turn (before w)
+prev_at c south = grind (arith, nat_tests)
+prev_at c east = grind (arith, nat_tests)
+prev_at c north = grind (arith, nat_tests)
+prev_at c west = grind (arith, nat_tests)
+
+module _ (l : Layout) (x : Lengths) where
+  -- How many cells a patch has.
+  abbrev pub cells : (p : ℕ) → ℕ
+  cells p = wide l x p * high l x p
+
+  -- The number of a dart's cell.
+  abbrev pub cell_number : (d : Dart) → ℕ
+  cell_number d = cells_before l x d.patch + (d.j * wide l x d.patch + d.i)
+
+  -- The number of a dart.
+  abbrev pub dart_number : (d : Dart) → ℕ
+  dart_number d = 4 * cell_number d + turn d.way
+
+  pub next_number : (d : Dart) → next_of (dart_number d) ≡ dart_number (next d)
+  next_number d = next_at (cell_number d) d.way
+
+  pub prev_number : (d : Dart) → prev_of (dart_number d) ≡ dart_number (prev d)
+  prev_number d = prev_at (cell_number d) d.way
+
+  cell_in_patch : (d : Dart) → IsDart l x d → d.j * wide l x d.patch + d.i < cells d.patch
+  cell_in_patch d is = mul-add-lt d.j (wide l x d.patch) d.i (high l x d.patch) is.j_low is.i_low
+
+  pub cell_low : (d : Dart) → IsDart l x d → cell_number d < face_count l x
+  cell_low d is = place_low cells l.patches d.patch (d.j * wide l x d.patch + d.i) is.patch_low (cell_in_patch d is)
+
+  pub faces_long : length (new_faces l x) ≡ face_count l x
+  faces_long = length-map-range_with_len (new_face l x) 0 (face_count l x)
+
+  pub dart_low : (d : Dart) → IsDart l x d → dart_number d < darts (new_faces l x)
+  dart_low d is = omega (arith, cell_low d is, turn_low d.way, faces_long)
+
+  -- A dart is found by its cell.
+  pub dart_at : (d : Dart) (w : Way) → IsDart l x d → dart_of l x (cell_number d) w ≡ dart d.patch d.i d.j w
+  dart_at d w is = ap by_patch patch_is ∙ by_cell
+    where
+      by_patch : (p : ℕ) → Dart
+      by_patch p = dart p ((cell_number d - cells_before l x p) % wide l x p) ((cell_number d - cells_before l x p) / wide l x p) w
+
+      patch_is : patch_of l x (cell_number d) ≡ d.patch
+      patch_is = run_place cells l.patches d.patch (d.j * wide l x d.patch + d.i) is.patch_low (cell_in_patch d is)
+
+      o : ℕ
+      o = cell_number d - cells_before l x d.patch
+
+      o_is : cell_number d - cells_before l x d.patch ≡ d.j * wide l x d.patch + d.i
+      o_is = omega arith
+
+      parts : ((cell_number d - cells_before l x d.patch) / wide l x d.patch ≡ d.j) × ((cell_number d - cells_before l x d.patch) % wide l x d.patch ≡ d.i)
+      parts = same_from_place ((cell_number d - cells_before l x d.patch) / wide l x d.patch) ((cell_number d - cells_before l x d.patch) % wide l x d.patch) d.j d.i (wide l x d.patch)
+          (mod-lt (cell_number d - cells_before l x d.patch) (omega (arith, is.i_low))) is.i_low
+          (div-add-mod' (cell_number d - cells_before l x d.patch) (wide l x d.patch) ∙ o_is)
+
+      by_cell : dart d.patch ((cell_number d - cells_before l x d.patch) % wide l x d.patch) ((cell_number d - cells_before l x d.patch) / wide l x d.patch) w ≡ dart d.patch d.i d.j w
+      by_cell = λ t. dart d.patch (parts.1 t) (parts.0 t) w
+
+  -- Darts with one number are one.
+  pub dart_same : (d e : Dart) → IsDart l x d → IsDart l x e → dart_number d ≡ dart_number e → d ≡ e
+  dart_same d e is_d is_e same =
+      let cell_same : cell_number d ≡ cell_number e = omega (arith, turn_low d.way, turn_low e.way) in
+      let turn_same : turn d.way ≡ turn e.way = omega (arith, turn_low d.way, turn_low e.way) in
+      let way_same : d.way ≡ e.way = sym (way_turn d.way) ∙ ap way_of turn_same ∙ way_turn e.way in
+      sym (dart_at d d.way is_d) ∙ (λ t. dart_of l x (cell_same t) (way_same t)) ∙ dart_at e e.way is_e
+
+  -- The corners of the new faces.
+  pub corner_is : (f : ℕ) (w : Way) → f < face_count l x → corner (new_faces l x) f (turn w) ≡ vertex_of l x f w
+  corner_is f w low =
+      ap (λ (face : Face). slice_index_or face (turn w) 0)
+          (get_or-map-range_with_len (new_face l x) 0 (face_count l x) f f [] low (omega arith))
+      ∙ by_way w
+    where
+      by_way : (w : Way) → slice_index_or (new_face l x f) (turn w) 0 ≡ vertex_of l x f w
+      by_way south = refl
+      by_way east = refl
+      by_way north = refl
+      by_way west = refl
+
+  -- A dart's number begins at the number of its point, and ends so.
+  pub number_from : (d : Dart) → IsDart l x d → from_of (new_faces l x) (dart_number d) ≡ number l x (from l x d)
+  number_from d is =
+      let f : dart_number d / 4 ≡ cell_number d = omega (arith, turn_low d.way) in
+      let k : dart_number d % 4 ≡ turn d.way = omega (arith, turn_low d.way) in
+      (λ t. corner (new_faces l x) (f t) (k t)) ∙ corner_is (cell_number d) d.way (cell_low d is)
+      ∙ ap (λ (e : Dart). number l x (from l x e)) (dart_at d d.way is)
+
+  pub next_is : (d : Dart) → IsDart l x d → IsDart l x (next d)
+  next_is d is = record { patch_low = is.patch_low; i_low = is.i_low; j_low = is.j_low }
+
+  pub prev_is : (d : Dart) → IsDart l x d → IsDart l x (prev d)
+  prev_is d is = record { patch_low = is.patch_low; i_low = is.i_low; j_low = is.j_low }
+
+  pub number_to : (d : Dart) → IsDart l x d → to_of (new_faces l x) (dart_number d) ≡ number l x (to l x d)
+  number_to d is = ap (from_of (new_faces l x)) (next_number d) ∙ number_from (next d) (next_is d is)
+
+  module _ (laid : IsLaid l) (len : AreLengths l x) where
+    -- The darts of a new face lie in a patch.
+    pub cell_is : (f : ℕ) (w : Way) → f < face_count l x → IsDart l x (dart_of l x f w)
+    cell_is f w low =
+        let h : IsInRun cells l.patches f (patch_of l x f) (cell_in l x f) = run_here cells l.patches f low in
+        let some : 0 < wide l x (patch_of l x f) = wide_some l x laid len (patch_of l x f) h.low in
+        let less : cell_in l x f < high l x (patch_of l x f) * wide l x (patch_of l x f) =
+            subst (λ (n : ℕ). cell_in l x f < n) (mul_comm (wide l x (patch_of l x f)) (high l x (patch_of l x f))) h.inside in
+        record {
+          patch_low = h.low;
+          i_low = mod-lt (cell_in l x f) some;
+          j_low = (div-lt_iff_lt-mul {k = wide l x (patch_of l x f)} {x = cell_in l x f} {y = high l x (patch_of l x f)} some).1 less;
+        }
+
+    pub cell_number_is : (f : ℕ) (w : Way) → f < face_count l x → cell_number (dart_of l x f w) ≡ f
+    cell_number_is f w low =
+        let h : IsInRun cells l.patches f (patch_of l x f) (cell_in l x f) = run_here cells l.patches f low in
+        omega (arith, h.place, div-add-mod' (cell_in l x f) (wide l x (patch_of l x f)))
+
+    -- Each dart of the new faces is that of a cell.
+    pub at_number : (n : ℕ) → n < darts (new_faces l x) → (d : Dart) × IsDart l x d × (dart_number d ≡ n)
+    at_number n low =
+        let f_low : n / 4 < face_count l x = omega (arith, faces_long) in
+        (dart_of l x (n / 4) (way_of (n % 4)), cell_is (n / 4) (way_of (n % 4)) f_low,
+            omega (arith, cell_number_is (n / 4) (way_of (n % 4)) f_low, turn_way (n % 4) (omega arith)))

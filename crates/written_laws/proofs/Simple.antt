@@ -1,0 +1,54 @@
+-- Meshes in which no edge is doubled, and what two points then tell of an edge between them.
+use Rattle.std.proofs.Common.{◌≡◌, ◌≢◌, Bool, true, false, not, refl, sym, ◌∙◌, ap}
+use Rattle.def_layout.specs.Layouts.{Layout}
+use Rattle.def_layout.specs.Laid.{IsLaid}
+use Rattle.def_layout.specs.Lengths.{Lengths, AreLengths}
+use Rattle.def_written.specs.Edges.{Edge, IsEdge, low, top}
+use Rattle.written_laws.proofs.Courses.{Course, course, start_at, end_at}
+
+-- No two edges have the same ends, and no edge has equal ends.
+pub record IsSimple (l : Layout) (x : Lengths) : Type 0 where
+  pub same : (e f : Edge) → IsEdge l x e → IsEdge l x f → low l x e ≡ low l x f → top l x e ≡ top l x f → e ≡ f
+  pub crossed : (e f : Edge) → IsEdge l x e → IsEdge l x f → low l x e ≡ top l x f → top l x e ≡ low l x f → e ≡ f
+  pub no_loop : (e : Edge) → IsEdge l x e → low l x e ≢ top l x e
+
+module _ (l : Layout) (x : Lengths) (simple : IsSimple l x) where
+  -- A course is told by its ends.
+  pub one_course : (c k : Course) → IsEdge l x c.edge → IsEdge l x k.edge
+      → start_at l x c ≡ start_at l x k → end_at l x c ≡ end_at l x k → c ≡ k
+  one_course c k is_c is_k starts ends = by_ways c.ahead k.ahead starts ends
+    where
+      e : Edge
+      e = c.edge
+
+      by_ways : (a b : Bool) → start_at l x (course c.edge a) ≡ start_at l x (course k.edge b)
+          → end_at l x (course c.edge a) ≡ end_at l x (course k.edge b) → course c.edge a ≡ course k.edge b
+      by_ways true true s t = ap (λ (f : Edge). course f true) (simple.same c.edge k.edge is_c is_k s t)
+      by_ways false false s t = ap (λ (f : Edge). course f false) (simple.same c.edge k.edge is_c is_k t s)
+      by_ways true false s t =
+          absurd (simple.no_loop c.edge is_c (s ∙ ap (top l x) (sym (simple.crossed c.edge k.edge is_c is_k s t))))
+      by_ways false true s t =
+          absurd (simple.no_loop c.edge is_c (t ∙ ap (top l x) (sym (simple.crossed c.edge k.edge is_c is_k t s))))
+
+  -- A course from the end to the start of another runs the other way along its edge.
+  pub reversed : (c k : Course) → IsEdge l x c.edge → IsEdge l x k.edge
+      → start_at l x k ≡ end_at l x c → end_at l x k ≡ start_at l x c → (k.edge ≡ c.edge) × (k.ahead ≡ not c.ahead)
+  reversed c k is_c is_k starts ends =
+      let s : k ≡ course c.edge (not c.ahead) =
+          one_course k (course c.edge (not c.ahead)) is_k is_c (starts ∙ turn_start c.ahead) (ends ∙ turn_end c.ahead) in
+      (ap (λ (g : Course). g.edge) s, ap (λ (g : Course). g.ahead) s)
+    where
+      turn_start : (a : Bool) → end_at l x (course c.edge a) ≡ start_at l x (course c.edge (not a))
+      turn_start true = refl
+      turn_start false = refl
+
+      turn_end : (a : Bool) → start_at l x (course c.edge a) ≡ end_at l x (course c.edge (not a))
+      turn_end true = refl
+      turn_end false = refl
+
+  pub ends_apart : (c : Course) → IsEdge l x c.edge → start_at l x c ≢ end_at l x c
+  ends_apart c is same = by_way c.ahead same
+    where
+      by_way : (a : Bool) → start_at l x (course c.edge a) ≢ end_at l x (course c.edge a)
+      by_way true e = simple.no_loop c.edge is e
+      by_way false e = simple.no_loop c.edge is (sym e)
