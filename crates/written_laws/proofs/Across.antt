@@ -23,7 +23,7 @@ module _ (l : Layout) (x : Lengths) (laid : IsLaid l) (len : AreLengths l x) whe
   pub across_border : (w v : Slot) (o : ℕ) → IsSlot l w → IsOther l w v → o < x (use_of l w).arc
       → IsAcross l x laid len (rim_at l x w o) (rim_at l x v (x (use_of l w).arc - 1 - o))
   across_border w v o is other less = record {
-    is_dart = at_is l x laid len v k other.0 low;
+    is_dart = at_is l x laid.paved len v k other.0 low;
     edge = ap (λ (c : Course). c.edge) there ∙ edges (use_of l w).forward (use_of l v).forward other.1.turned
         ∙ sym (ap (λ (c : Course). c.edge) here);
     turned = ap (λ (c : Course). c.ahead) there ∙ other.1.turned ∙ sym (ap (λ (c : Course). not c.ahead) here);

@@ -3,7 +3,7 @@ use Rattle.std.proofs.Common.{◌≡◌, ◌≢◌, ◌⊎◌, ℕ, zero, suc, �
 use Rattle.std.proofs.lemmas.Bool.{cases_eq}
 use Rattle.def_layout.specs.declared.tmesh.SideArc.{SideArc}
 use Rattle.def_layout.specs.Layouts.{Way, south, east, north, west, after, before, Layout, Slot, IsSlot, AreReverse, use_of, use_before, slot_before, start_of}
-use Rattle.def_layout.specs.Laid.{IsLaid, IsOther}
+use Rattle.def_layout.specs.Laid.{IsPaved, IsLaid, IsOther}
 use Rattle.def_layout.specs.Lengths.{Lengths, reach, size, wide, high, AreLengths}
 use Rattle.def_layout.specs.Cells.{Dart, IsDart, next, rim, rim_at}
 use Rattle.def_written.specs.Points.{Point, node, along, inside, IsPoint, arc_point, use_point, use_over, offset_at, side_point, point}
@@ -36,6 +36,24 @@ module _ (l : Layout) (x : Lengths) where
       absurd cc
   ]
 
+  module _ (paved : IsPaved l) (len : AreLengths l x) where
+    -- The border dart o after the beginning of a slot's arc.
+    pub at_low : (w : Slot) (o : ℕ) → IsSlot l w → o < x (use_of l w).arc
+        → reach l x w.patch w.side w.at + o < size l x w.patch w.side
+    at_low w o is less = omega (arith, reach_low l x w is)
+
+    pub at_is : (w : Slot) (o : ℕ) → IsSlot l w → o < x (use_of l w).arc → IsDart l x (rim_at l x w o)
+    at_is w o is less = rim_is l x paved len w.patch w.side (reach l x w.patch w.side w.at + o) is.patch_low (at_low w o is less)
+
+    -- The slot before another one.
+    pub before_is : (w : Slot) → IsSlot l w → IsSlot l (slot_before l w.patch w.side w.at)
+    before_is w is = by_place w.at is.low
+      where
+        by_place : (m : ℕ) → m < l.many w.patch w.side → IsSlot l (slot_before l w.patch w.side m)
+        by_place zero low =
+            record { patch_low = is.patch_low; low = omega (arith, paved.sides_full w.patch (before w.side) is.patch_low) }
+        by_place (suc m) low = record { patch_low = is.patch_low; low = omega arith }
+
   module _ (laid : IsLaid l) (len : AreLengths l x) where
     pub start_low : (u : SideArc) → u.arc < l.arcs → start_of l u < l.nodes
     start_low u low = by_way u.arc u.forward low
@@ -56,24 +74,16 @@ module _ (l : Layout) (x : Lengths) where
         by_way a true low some inner = (low, some, inner)
         by_way a false low some inner = (low, omega arith, omega arith)
 
-    -- The border dart o after the beginning of a slot's arc.
-    pub at_low : (w : Slot) (o : ℕ) → IsSlot l w → o < x (use_of l w).arc
-        → reach l x w.patch w.side w.at + o < size l x w.patch w.side
-    at_low w o is less = omega (arith, reach_low l x w is)
-
-    pub at_is : (w : Slot) (o : ℕ) → IsSlot l w → o < x (use_of l w).arc → IsDart l x (rim_at l x w o)
-    at_is w o is less = rim_is l x laid len w.patch w.side (reach l x w.patch w.side w.at + o) is.patch_low (at_low w o is less)
-
     pub at_from : (w : Slot) (o : ℕ) → IsSlot l w → o < x (use_of l w).arc
         → from l x (rim_at l x w o) ≡ use_point l x (use_of l w) o
     at_from w o is less =
-        rim_from l x laid len w.patch w.side (reach l x w.patch w.side w.at + o) is.patch_low (at_low w o is less)
+        rim_from l x laid len w.patch w.side (reach l x w.patch w.side w.at + o) is.patch_low (at_low laid.paved len w o is less)
         ∙ side_in l x w o is less
 
     pub at_to : (w : Slot) (o : ℕ) → IsSlot l w → o < x (use_of l w).arc
         → to l x (rim_at l x w o) ≡ use_point l x (use_of l w) (o + 1)
     at_to w o is less =
-        rim_to l x laid len w.patch w.side (reach l x w.patch w.side w.at + o) is.patch_low (at_low w o is less)
+        rim_to l x laid len w.patch w.side (reach l x w.patch w.side w.at + o) is.patch_low (at_low laid.paved len w o is less)
         ∙ side_upto l x laid len w (o + 1) (reach l x w.patch w.side w.at + o + 1) is (omega arith) (omega arith)
 
     -- Over the border the dart runs the other way round.
@@ -107,10 +117,10 @@ module _ (l : Layout) (x : Lengths) where
 
     -- Each dart leaves an inner point of its patch, or a place of a slot's arc.
     pub sort_dart : (d : Dart) → IsDart l x d
-        → IsInner l x laid len d.patch (column_of d) (row_of d) ⊎ ((w : Slot) × (o : ℕ) × IsAt d w o)
-    sort_dart d is = elim (dart_on_rim l x laid len d is) [ inl i ↦ inl i | inr b ↦ inr (on_border b.0 b.1 b.2) ]
+        → IsInner l x laid.paved len d.patch (column_of d) (row_of d) ⊎ ((w : Slot) × (o : ℕ) × IsAt d w o)
+    sort_dart d is = elim (dart_on_rim l x laid.paved len d is) [ inl i ↦ inl i | inr b ↦ inr (on_border b.0 b.1 b.2) ]
       where
-        on_border : (s : Way) (t : ℕ) → IsBorder l x laid len d.patch (column_of d) (row_of d) s t → (w : Slot) × (o : ℕ) × IsAt d w o
+        on_border : (s : Way) (t : ℕ) → IsBorder l x laid.paved len d.patch (column_of d) (row_of d) s t → (w : Slot) × (o : ℕ) × IsAt d w o
         on_border s t b =
             let on : IsOn l x d.patch s t (use_over l x d.patch s t) (offset_at l x d.patch s t) =
                 place_on l x d.patch s t is.patch_low b.low in
@@ -126,7 +136,7 @@ module _ (l : Layout) (x : Lengths) where
                   ∙ ap (side_point l x d.patch s) on.place ∙ side_in l x w (offset_at l x d.patch s t) on.is_slot on.inside;
             })
 
-    pub inner_from : (d : Dart) → IsInner l x laid len d.patch (column_of d) (row_of d)
+    pub inner_from : (d : Dart) → IsInner l x laid.paved len d.patch (column_of d) (row_of d)
         → from l x d ≡ inside d.patch (column_of d) (row_of d)
     inner_from d i = point_inside l x laid len d.patch (column_of d) (row_of d) i.a_some i.a_low i.b_some i.b_low
 
@@ -136,12 +146,3 @@ module _ (l : Layout) (x : Lengths) where
       | inl i ↦ subst (IsPoint l x) (sym (inner_from d i)) (is.patch_low, i.a_some, i.a_low, i.b_some, i.b_low)
       | inr b ↦ subst (IsPoint l x) (sym b.2.leaves) (use_is_point b.0 b.1 b.2.is_slot b.2.low)
     ]
-
-    -- The slot before another one.
-    pub before_is : (w : Slot) → IsSlot l w → IsSlot l (slot_before l w.patch w.side w.at)
-    before_is w is = by_place w.at is.low
-      where
-        by_place : (m : ℕ) → m < l.many w.patch w.side → IsSlot l (slot_before l w.patch w.side m)
-        by_place zero low =
-            record { patch_low = is.patch_low; low = omega (arith, laid.paved.sides_full w.patch (before w.side) is.patch_low) }
-        by_place (suc m) low = record { patch_low = is.patch_low; low = omega arith }

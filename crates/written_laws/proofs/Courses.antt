@@ -133,14 +133,14 @@ module _ (l : Layout) (x : Lengths) where
         cond-true (wide l x p - 1 + 1 == wide l x p) _ _ (eq-eqb (wide l x p - 1 + 1) (wide l x p) (omega (arith, some)))
       where
         some : 0 < wide l x p
-        some = size_some l x laid len p south p_low
+        some = size_some l x laid.paved len p south p_low
     rim_course p north t p_low less =
         let e : wide l x p - 1 - (wide l x p - 1 - t) ≡ t = omega (arith, len.across p p_low, less) in
         cond-true (high l x p - 1 + 1 == high l x p) _ _ (eq-eqb (high l x p - 1 + 1) (high l x p) (omega (arith, some)))
         ∙ ap (border_course p north) e
       where
         some : 0 < high l x p
-        some = size_some l x laid len p west p_low
+        some = size_some l x laid.paved len p west p_low
     rim_course p west t p_low less =
         let e : high l x p - 1 - (high l x p - 1 - t) ≡ t = omega (arith, less) in ap (border_course p west) e
 
@@ -148,7 +148,7 @@ module _ (l : Layout) (x : Lengths) where
     at_course w o is less =
         let t : ℕ = reach l x w.patch w.side w.at + o in
         let e : reach l x w.patch w.side w.at + o - reach l x w.patch w.side w.at ≡ o = omega arith in
-        rim_course w.patch w.side (reach l x w.patch w.side w.at + o) is.patch_low (at_low l x laid len w o is less)
+        rim_course w.patch w.side (reach l x w.patch w.side w.at + o) is.patch_low (at_low l x laid.paved len w o is less)
         ∙ ap (λ m. use_course (l.use_at w.patch w.side m) (reach l x w.patch w.side w.at + o - reach l x w.patch w.side m)) (over_is l x w o is less)
         ∙ ap (use_course (use_of l w)) e
 

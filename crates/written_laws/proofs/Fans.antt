@@ -3,7 +3,7 @@ use Rattle.std.proofs.Common.{◌≡◌, ◌≢◌, ◌⊎◌, ℕ, zero, suc, �
 use Rattle.std.proofs.lemmas.Bool.{cases_eq}
 use Rattle.def_layout.specs.declared.tmesh.SideArc.{SideArc}
 use Rattle.def_layout.specs.Layouts.{Way, south, east, north, west, after, before, Layout, Slot, IsSlot, use_of, use_before, slot_before, start_of}
-use Rattle.def_layout.specs.Laid.{IsLaid, IsOther}
+use Rattle.def_layout.specs.Laid.{IsPaved, IsLaid, IsOther}
 use Rattle.def_layout.specs.Fans.{IsTurn, Turns, HasFans}
 use Rattle.def_layout.specs.Lengths.{Lengths, reach, size, wide, high, AreLengths}
 use Rattle.def_layout.specs.Cells.{Dart, IsDart, next, rim, rim_at}
@@ -14,14 +14,14 @@ use Rattle.written_laws.proofs.Turning.{IsTurning}
 use Rattle.written_laws.proofs.Rims.{column_of, row_of, rim_patch, rim_is, rim_column, rim_row, rim_on, rim_round, darts_related, IsInner}
 use Rattle.written_laws.proofs.Borders.{at_is, IsAt, sort_dart, inner_from, use_not_inside, before_is}
 
-module _ (l : Layout) (x : Lengths) (laid : IsLaid l) (len : AreLengths l x) (R : Dart → Dart → Type 0) (turning : IsTurning l x R) where
-  next_is : (d : Dart) → IsDart l x d → IsDart l x (next d)
+module _ (l : Layout) (x : Lengths) (paved : IsPaved l) (len : AreLengths l x) (R : Dart → Dart → Type 0) (turning : IsTurning l x R) where
+  pub next_is : (d : Dart) → IsDart l x d → IsDart l x (next d)
   next_is d is = record { patch_low = is.patch_low; i_low = is.i_low; j_low = is.j_low }
 
-  rim_then : (p : ℕ) (s : Way) (t u : ℕ) → p < l.patches → u ≡ t + 1 → u < size l x p s → R (next (rim l x p s t)) (rim l x p s u)
+  pub rim_then : (p : ℕ) (s : Way) (t u : ℕ) → p < l.patches → u ≡ t + 1 → u < size l x p s → R (next (rim l x p s t)) (rim l x p s u)
   rim_then p s t u low e less =
       subst (λ (v : ℕ). R (next (rim l x p s t)) (rim l x p s v)) (sym e)
-          (rim_on l x laid len R turning p s t low (omega arith))
+          (rim_on l x paved len R turning p s t low (omega arith))
 
   -- The dart after the last one of an arc, and the first one of the next arc.
   pub before_related : (w : Slot) → IsSlot l w
@@ -30,10 +30,10 @@ module _ (l : Layout) (x : Lengths) (laid : IsLaid l) (len : AreLengths l x) (R 
     where
       round : (s : Way) (t : ℕ) → t + 1 ≡ size l x w.patch (before s)
           → R (next (rim l x w.patch (before s) t)) (rim l x w.patch s (0 + 0))
-      round south t e = rim_round l x laid len R turning w.patch west t is.patch_low e (size_some l x laid len w.patch south is.patch_low)
-      round east t e = rim_round l x laid len R turning w.patch south t is.patch_low e (size_some l x laid len w.patch east is.patch_low)
-      round north t e = rim_round l x laid len R turning w.patch east t is.patch_low e (size_some l x laid len w.patch north is.patch_low)
-      round west t e = rim_round l x laid len R turning w.patch north t is.patch_low e (size_some l x laid len w.patch west is.patch_low)
+      round south t e = rim_round l x paved len R turning w.patch west t is.patch_low e (size_some l x paved len w.patch south is.patch_low)
+      round east t e = rim_round l x paved len R turning w.patch south t is.patch_low e (size_some l x paved len w.patch east is.patch_low)
+      round north t e = rim_round l x paved len R turning w.patch east t is.patch_low e (size_some l x paved len w.patch north is.patch_low)
+      round west t e = rim_round l x paved len R turning w.patch north t is.patch_low e (size_some l x paved len w.patch west is.patch_low)
 
       by_place : (m : ℕ) → m < l.many w.patch w.side
           → R (next (rim_at l x (slot_before l w.patch w.side m) (x (use_of l (slot_before l w.patch w.side m)).arc - 1)))
@@ -42,31 +42,32 @@ module _ (l : Layout) (x : Lengths) (laid : IsLaid l) (len : AreLengths l x) (R 
           round w.side
               (reach l x w.patch (before w.side) (l.many w.patch (before w.side) - 1)
                   + (x (l.use_at w.patch (before w.side) (l.many w.patch (before w.side) - 1)).arc - 1))
-              (omega (arith, last_reach l x laid len w.patch (before w.side) is.patch_low,
-                  use_some l x laid len (slot_before l w.patch w.side zero) (before_is l x laid len (slot w.patch w.side zero) (record { patch_low = is.patch_low; low = low }))))
+              (omega (arith, last_reach l x paved len w.patch (before w.side) is.patch_low,
+                  use_some l x paved len (slot_before l w.patch w.side zero) (before_is l x paved len (slot w.patch w.side zero) (record { patch_low = is.patch_low; low = low }))))
       by_place (suc m) low =
           let some : 0 < x (l.use_at w.patch w.side m).arc =
-              use_some l x laid len (slot w.patch w.side m) (record { patch_low = is.patch_low; low = omega arith }) in
+              use_some l x paved len (slot w.patch w.side m) (record { patch_low = is.patch_low; low = omega arith }) in
           let next_low : reach l x w.patch w.side (suc m) + x (l.use_at w.patch w.side (suc m)).arc ≤ size l x w.patch w.side =
               reach_low l x (slot w.patch w.side (suc m)) (record { patch_low = is.patch_low; low = low }) in
           let next_some : 0 < x (l.use_at w.patch w.side (suc m)).arc =
-              use_some l x laid len (slot w.patch w.side (suc m)) (record { patch_low = is.patch_low; low = low }) in
+              use_some l x paved len (slot w.patch w.side (suc m)) (record { patch_low = is.patch_low; low = low }) in
           rim_then w.patch w.side (reach l x w.patch w.side m + (x (l.use_at w.patch w.side m).arc - 1))
               (reach l x w.patch w.side (suc m) + 0) is.patch_low (omega arith) (omega arith)
 
+module _ (l : Layout) (x : Lengths) (laid : IsLaid l) (len : AreLengths l x) (R : Dart → Dart → Type 0) (turning : IsTurning l x R) where
   -- A turn of the layout.
   pub turn_related : (v w : Slot) → IsSlot l v → IsTurn l v w → R (rim_at l x v 0) (rim_at l x w 0)
   turn_related v w is turn =
       let b : Slot = slot_before l v.patch v.side v.at in
-      let is_b : IsSlot l b = before_is l x laid len v is in
+      let is_b : IsSlot l b = before_is l x laid.paved len v is in
       let k : ℕ = x (use_of l b).arc - 1 in
-      let some : 0 < x (use_of l b).arc = use_some l x laid len b is_b in
+      let some : 0 < x (use_of l b).arc = use_some l x laid.paved len b is_b in
       let zero_is : x (use_of l b).arc - 1 - k ≡ 0 = omega arith in
       let over : R (next (rim_at l x b k)) (rim_at l x w (x (use_of l b).arc - 1 - k)) =
           turning.over b w k is_b (turn.is_slot, turn.reverse) (omega arith) in
       turning.on (rim_at l x v 0) (next (rim_at l x b k)) (rim_at l x w 0)
           (turning.back (next (rim_at l x b k)) (rim_at l x v 0)
-              (next_is (rim_at l x b k) (at_is l x laid len b k is_b (omega arith))) (before_related v is))
+              (next_is l x laid.paved len R turning (rim_at l x b k) (at_is l x laid.paved len b k is_b (omega arith))) (before_related l x laid.paved len R turning v is))
           (subst (λ (i : ℕ). R (next (rim_at l x b k)) (rim_at l x w i)) zero_is over)
 
   pub turns_related : (v w : Slot) (n : ℕ) → IsSlot l v → IsSlot l w → Turns l v w n → R (rim_at l x v 0) (rim_at l x w 0)
@@ -79,7 +80,7 @@ module _ (l : Layout) (x : Lengths) (laid : IsLaid l) (len : AreLengths l x) (R 
       by_turn (inl t) = turn_related turns.0 w turns.1 t
       by_turn (inr t) =
           turning.back (rim_at l x w 0) (rim_at l x turns.0 0)
-              (at_is l x laid len w 0 is_w (use_some l x laid len w is_w)) (turn_related w turns.0 is_w t)
+              (at_is l x laid.paved len w 0 is_w (use_some l x laid.paved len w is_w)) (turn_related w turns.0 is_w t)
 
   -- It holds for the first darts of arcs that begin at one node.
   abbrev pub AtNodes : Type 0
@@ -124,11 +125,11 @@ module _ (l : Layout) (x : Lengths) (laid : IsLaid l) (len : AreLengths l x) (R 
           let over : R (next (rim_at l x w (o - 1))) (rim_at l x v (x (use_of l w).arc - 1 - (o - 1))) =
               turning.over w v (o - 1) is_w (is_v, record { arc = sym arcs; turned = ways }) (omega arith) in
           let on : R (next (rim_at l x w (o - 1))) (rim_at l x w o) =
-              rim_then w.patch w.side (reach l x w.patch w.side w.at + (o - 1)) (reach l x w.patch w.side w.at + o)
+              rim_then l x laid.paved len R turning w.patch w.side (reach l x w.patch w.side w.at + (o - 1)) (reach l x w.patch w.side w.at + o)
                   is_w.patch_low (omega arith) (omega (arith, reach_low l x w is_w)) in
           turning.on (rim_at l x w o) (next (rim_at l x w (o - 1))) (rim_at l x v k)
               (turning.back (next (rim_at l x w (o - 1))) (rim_at l x w o)
-                  (next_is (rim_at l x w (o - 1)) (at_is l x laid len w (o - 1) is_w (omega arith))) on)
+                  (next_is l x laid.paved len R turning (rim_at l x w (o - 1)) (at_is l x laid.paved len w (o - 1) is_w (omega arith))) on)
               (subst (λ (i : ℕ). R (next (rim_at l x w (o - 1))) (rim_at l x v i)) place_is over)
 
       by_ways : (f g : Bool) → (use_of l w).forward ≡ f → (use_of l v).forward ≡ g
@@ -186,10 +187,10 @@ module _ (l : Layout) (x : Lengths) (laid : IsLaid l) (len : AreLengths l x) (R 
     at_related : (d : Dart) (w : Slot) (o : ℕ) → IsDart l x d → IsAt l x laid len d w o → R d (rim_at l x w o)
     at_related d w o is a =
         let low : reach l x w.patch w.side w.at + o < size l x w.patch w.side = omega (arith, reach_low l x w a.is_slot, a.low) in
-        darts_related l x laid len R turning d (rim_at l x w o) is (at_is l x laid len w o a.is_slot a.low)
-            (a.patch ∙ sym (rim_patch l x laid len w.patch w.side (reach l x w.patch w.side w.at + o)))
-            (a.column ∙ sym (rim_column l x laid len w.patch w.side (reach l x w.patch w.side w.at + o) a.is_slot.patch_low low))
-            (a.row ∙ sym (rim_row l x laid len w.patch w.side (reach l x w.patch w.side w.at + o) a.is_slot.patch_low low))
+        darts_related l x laid.paved len R turning d (rim_at l x w o) is (at_is l x laid.paved len w o a.is_slot a.low)
+            (a.patch ∙ sym (rim_patch l x laid.paved len w.patch w.side (reach l x w.patch w.side w.at + o)))
+            (a.column ∙ sym (rim_column l x laid.paved len w.patch w.side (reach l x w.patch w.side w.at + o) a.is_slot.patch_low low))
+            (a.row ∙ sym (rim_row l x laid.paved len w.patch w.side (reach l x w.patch w.side w.at + o) a.is_slot.patch_low low))
 
     -- It holds for all darts that leave one point.
     pub point_related : (d e : Dart) → IsDart l x d → IsDart l x e → from l x d ≡ from l x e → R d e
@@ -206,14 +207,14 @@ module _ (l : Layout) (x : Lengths) (laid : IsLaid l) (len : AreLengths l x) (R 
       ]
     ]
       where
-        both_inner : IsInner l x laid len d.patch (column_of d) (row_of d) → IsInner l x laid len e.patch (column_of e) (row_of e) → R d e
+        both_inner : IsInner l x laid.paved len d.patch (column_of d) (row_of d) → IsInner l x laid.paved len e.patch (column_of e) (row_of e) → R d e
         both_inner i j =
             let a : inside d.patch (column_of d) (row_of d) ≡ inside e.patch (column_of e) (row_of e) =
                 sym (inner_from l x laid len d i) ∙ same ∙ inner_from l x laid len e j in
             let p : d.patch ≡ e.patch = cc in
             let c : column_of d ≡ column_of e = cc in
             let r : row_of d ≡ row_of e = cc in
-            darts_related l x laid len R turning d e is_d is_e p c r
+            darts_related l x laid.paved len R turning d e is_d is_e p c r
 
         both_border : (w : Slot) (o : ℕ) → IsAt l x laid len d w o → (v : Slot) (k : ℕ) → IsAt l x laid len e v k → R d e
         both_border w o a v k b =

@@ -3,22 +3,23 @@ use Rattle.std.proofs.Common.{◌≡◌, ◌≢◌, ℕ, ◌+◌, ◌-◌, ◌<�
 use Rattle.std.specs.Prelude.{◌==◌}
 use Rattle.std.proofs.lemmas.Bool.{cases_eq, cond-true, cond-false, eq-eqb, ne_eqb}
 use Rattle.def_layout.specs.Layouts.{south, east, north, west, Layout}
-use Rattle.def_layout.specs.Laid.{IsLaid}
+use Rattle.def_layout.specs.Laid.{IsPaved, IsLaid}
 use Rattle.def_layout.specs.Lengths.{Lengths, size, wide, high, AreLengths}
 use Rattle.def_written.specs.Points.{Point, inside, side_point, point}
 use Rattle.written_laws.proofs.Sides.{size_some, corner_meets}
 
-module _ (l : Layout) (x : Lengths) (laid : IsLaid l) (len : AreLengths l x) where
+module _ (l : Layout) (x : Lengths) (paved : IsPaved l) (len : AreLengths l x) where
   pub wide_some : (p : ℕ) → p < l.patches → 0 < wide l x p
-  wide_some p low = size_some l x laid len p south low
+  wide_some p low = size_some l x paved len p south low
 
   pub high_some : (p : ℕ) → p < l.patches → 0 < high l x p
-  high_some p low = size_some l x laid len p west low
+  high_some p low = size_some l x paved len p west low
 
+module _ (l : Layout) (x : Lengths) (laid : IsLaid l) (len : AreLengths l x) where
   pub point_north : (p i j : ℕ) → p < l.patches → j ≡ high l x p
       → point l x p i j ≡ side_point l x p north (wide l x p - i)
   point_north p i j low e =
-      cond-false (j == 0) _ _ (ne_eqb j 0 (λ z. omega (arith, high_some p low)))
+      cond-false (j == 0) _ _ (ne_eqb j 0 (λ z. omega (arith, high_some l x laid.paved len p low)))
       ∙ cond-true (j == high l x p) _ _ (eq-eqb j (high l x p) e)
 
   pub point_west : (p j : ℕ) → p < l.patches → j ≤ high l x p
@@ -44,7 +45,7 @@ module _ (l : Layout) (x : Lengths) (laid : IsLaid l) (len : AreLengths l x) whe
         ∙ sym (corner_meets l x laid len p east j low (omega (arith, len.upright p low)))
       | inr less ↦
         cond-false (j == 0) _ _ (ne_eqb j 0 some) ∙ cond-false (j == high l x p) _ _ (ne_eqb j (high l x p) less)
-        ∙ cond-false (i == 0) _ _ (ne_eqb i 0 (λ z. omega (arith, wide_some p low)))
+        ∙ cond-false (i == 0) _ _ (ne_eqb i 0 (λ z. omega (arith, wide_some l x laid.paved len p low)))
         ∙ cond-true (i == wide l x p) _ _ (eq-eqb i (wide l x p) wide_i)
     ]
   ]

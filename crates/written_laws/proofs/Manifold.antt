@@ -14,7 +14,8 @@ use Rattle.def_written.specs.Numbers.{number}
 use Rattle.def_written.specs.NewFaces.{from, to, face_count, dart_of, vertex_of, new_faces}
 use Rattle.def_written.specs.Edges.{Edge, on_arc, IsEdge}
 use Rattle.qm_laws.proofs.Runs.{count_rises}
-use Rattle.written_laws.proofs.Sides.{slot, long_at, reach_low, use_some}
+use Rattle.written_laws.proofs.Sides.{slot, first_is, last_is}
+use Rattle.written_laws.proofs.Rims.{corner_cell, rim_way, rim_patch}
 use Rattle.written_laws.proofs.Numbers.{number_same}
 use Rattle.written_laws.proofs.Borders.{from_is, at_low}
 use Rattle.written_laws.proofs.NewDarts.{turn, way_of, turn_way, dart_number, corner_is, cell_is, number_from, number_to, next_is, at_number, faces_long}
@@ -36,51 +37,6 @@ before_after north = refl
 before_after west = refl
 
 module _ (l : Layout) (x : Lengths) (laid : IsLaid l) (len : AreLengths l x) where
-  -- A cell with two border darts in a row lies at the corner of its patch.
-  corner_cell : (p : ℕ) (s : Way) (t u : ℕ) → p < l.patches → t < size l x p s → u < size l x p (after s)
-      → (rim l x p s t).i ≡ (rim l x p (after s) u).i → (rim l x p s t).j ≡ (rim l x p (after s) u).j
-      → (t + 1 ≡ size l x p s) × (u ≡ 0)
-  corner_cell p south t u low t_low u_low i j = (omega (arith, i), sym j)
-  corner_cell p east t u low t_low u_low i j = (omega (arith, j, len.upright p low), omega (arith, i, len.across p low))
-  corner_cell p north t u low t_low u_low i j = (omega (arith, i, len.across p low), omega (arith, j))
-  corner_cell p west t u low t_low u_low i j = (omega (arith, j), sym i)
-
-  rim_way : (p : ℕ) (s : Way) (t : ℕ) → (rim l x p s t).way ≡ s
-  rim_way p south t = refl
-  rim_way p east t = refl
-  rim_way p north t = refl
-  rim_way p west t = refl
-
-  rim_in : (p : ℕ) (s : Way) (t : ℕ) → (rim l x p s t).patch ≡ p
-  rim_in p south t = refl
-  rim_in p east t = refl
-  rim_in p north t = refl
-  rim_in p west t = refl
-
-  -- The slot at the beginning of a side is its first one.
-  first_is : (v : Slot) → IsSlot l v → reach l x v.patch v.side v.at ≡ 0 → v.at ≡ 0
-  first_is v is none = elim (cases_eq v.at 0) [
-    | inl e ↦ e
-    | inr later ↦
-      let first : IsSlot l (slot v.patch v.side 0) = record { patch_low = is.patch_low; low = omega (arith, is.low) } in
-      let le : reach l x v.patch v.side 1 ≤ reach l x v.patch v.side v.at = count_rises (long_at l x v.patch v.side) 1 v.at (omega arith) in
-      let some : 0 < long_at l x v.patch v.side 0 = use_some l x laid len (slot v.patch v.side 0) first in
-      absurd (omega (arith, le, some, none))
-  ]
-
-  -- The slot at the end of a side is its last one.
-  last_is : (w : Slot) → IsSlot l w → size l x w.patch w.side ≤ reach l x w.patch w.side w.at + x (use_of l w).arc
-      → w.at ≡ l.many w.patch w.side - 1
-  last_is w is end = elim (cases_lt (suc w.at) (l.many w.patch w.side)) [
-    | inl more ↦
-      let later : IsSlot l (slot w.patch w.side (suc w.at)) = record { patch_low = is.patch_low; low = more } in
-      let le : reach l x w.patch w.side (suc w.at) + long_at l x w.patch w.side (suc w.at) ≤ size l x w.patch w.side =
-          reach_low l x (slot w.patch w.side (suc w.at)) later in
-      let some : 0 < long_at l x w.patch w.side (suc w.at) = use_some l x laid len (slot w.patch w.side (suc w.at)) later in
-      absurd (omega (arith, le, some, end))
-    | inr none ↦ omega (arith, is.low, none)
-  ]
-
   -- Two border darts in a row lie on the last arc of a side and the first of the next one.
   corner_slots : (d : Dart) (w v : Slot) (o k : ℕ) → IsOnBorder l x d w o → IsOnBorder l x (next d) v k
       → (v.at ≡ 0) × (slot_before l v.patch v.side v.at ≡ w)
@@ -90,12 +46,12 @@ module _ (l : Layout) (x : Lengths) (laid : IsLaid l) (len : AreLengths l x) whe
       t = reach l x w.patch w.side w.at + o
 
       patches : v.patch ≡ w.patch
-      patches = sym (rim_in v.patch v.side (reach l x v.patch v.side v.at + k)) ∙ ap (λ (e : Dart). e.patch) (sym at_v.dart)
-          ∙ ap (λ (e : Dart). e.patch) at_w.dart ∙ rim_in w.patch w.side (reach l x w.patch w.side w.at + o)
+      patches = sym (rim_patch l x laid.paved len v.patch v.side (reach l x v.patch v.side v.at + k)) ∙ ap (λ (e : Dart). e.patch) (sym at_v.dart)
+          ∙ ap (λ (e : Dart). e.patch) at_w.dart ∙ rim_patch l x laid.paved len w.patch w.side (reach l x w.patch w.side w.at + o)
 
       sides : v.side ≡ after w.side
-      sides = sym (rim_way v.patch v.side (reach l x v.patch v.side v.at + k)) ∙ ap (λ (e : Dart). e.way) (sym at_v.dart)
-          ∙ ap (λ (e : Dart). after e.way) at_w.dart ∙ ap after (rim_way w.patch w.side (reach l x w.patch w.side w.at + o))
+      sides = sym (rim_way l x laid.paved len v.patch v.side (reach l x v.patch v.side v.at + k)) ∙ ap (λ (e : Dart). e.way) (sym at_v.dart)
+          ∙ ap (λ (e : Dart). after e.way) at_w.dart ∙ ap after (rim_way l x laid.paved len w.patch w.side (reach l x w.patch w.side w.at + o))
 
       place : (u : ℕ) → Dart
       place u = rim l x w.patch (after w.side) u
@@ -110,17 +66,17 @@ module _ (l : Layout) (x : Lengths) (laid : IsLaid l) (len : AreLengths l x) whe
       rows = ap (λ (e : Dart). e.j) (sym at_w.dart) ∙ ap (λ (e : Dart). e.j) at_v.dart ∙ ap (λ (e : Dart). e.j) same_rim
 
       v_less : reach l x v.patch v.side v.at + k < size l x w.patch (after w.side)
-      v_less = subst (λ (n : ℕ). reach l x v.patch v.side v.at + k < n) (λ r. size l x (patches r) (sides r)) (at_low l x laid len v k at_v.is_slot at_v.low)
+      v_less = subst (λ (n : ℕ). reach l x v.patch v.side v.at + k < n) (λ r. size l x (patches r) (sides r)) (at_low l x laid.paved len v k at_v.is_slot at_v.low)
 
       both : (reach l x w.patch w.side w.at + o + 1 ≡ size l x w.patch w.side) × (reach l x v.patch v.side v.at + k ≡ 0)
-      both = corner_cell w.patch w.side (reach l x w.patch w.side w.at + o) (reach l x v.patch v.side v.at + k) at_w.is_slot.patch_low
-          (at_low l x laid len w o at_w.is_slot at_w.low) v_less columns rows
+      both = corner_cell l x laid.paved len w.patch w.side (reach l x w.patch w.side w.at + o) (reach l x v.patch v.side v.at + k) at_w.is_slot.patch_low
+          (at_low l x laid.paved len w o at_w.is_slot at_w.low) v_less columns rows
 
       v_first : v.at ≡ 0
-      v_first = first_is v at_v.is_slot (omega (arith, both.1))
+      v_first = first_is l x laid.paved len v at_v.is_slot (omega (arith, both.1))
 
       w_last : w.at ≡ l.many w.patch w.side - 1
-      w_last = last_is w at_w.is_slot (omega (arith, both.0, at_w.low))
+      w_last = last_is l x laid.paved len w at_w.is_slot (omega (arith, both.0, at_w.low))
 
       by_paths : slot_before l v.patch v.side v.at ≡ w
       by_paths = (λ r. slot_before l (patches r) (sides r) (v_first r))

@@ -159,7 +159,7 @@ module _ (l : Layout) (x : Lengths) where
     pub cell_is : (f : ℕ) (w : Way) → f < face_count l x → IsDart l x (dart_of l x f w)
     cell_is f w low =
         let h : IsInRun cells l.patches f (patch_of l x f) (cell_in l x f) = run_here cells l.patches f low in
-        let some : 0 < wide l x (patch_of l x f) = wide_some l x laid len (patch_of l x f) h.low in
+        let some : 0 < wide l x (patch_of l x f) = wide_some l x laid.paved len (patch_of l x f) h.low in
         let less : cell_in l x f < high l x (patch_of l x f) * wide l x (patch_of l x f) =
             subst (λ (n : ℕ). cell_in l x f < n) (mul_comm (wide l x (patch_of l x f)) (high l x (patch_of l x f))) h.inside in
         record {

@@ -69,8 +69,8 @@ module _ (l : Layout) (x : Lengths) where
             → AreJoined (next (rim_at l x w o)) (rim_at l x v (x (use_of l w).arc - 1 - o))
         over w v o is other less =
             join (next (rim_at l x w o)) (rim_at l x v (x (use_of l w).arc - 1 - o))
-                (next_is l x (rim_at l x w o) (at_is l x laid len w o is less))
-                (at_is l x laid len v (x (use_of l w).arc - 1 - o) other.0 (omega (arith, other_long l x laid len w v other)))
+                (next_is l x (rim_at l x w o) (at_is l x laid.paved len w o is less))
+                (at_is l x laid.paved len v (x (use_of l w).arc - 1 - o) other.0 (omega (arith, other_long l x laid len w v other)))
                 (sym (across_from l x laid len w v o is other less))
                 (inr (across_to l x laid len w v o is other less ∙ ap (from l x) (sym (prev_next (rim_at l x w o)))))
 

@@ -2,7 +2,7 @@
 use Rattle.std.proofs.Common.{◌≡◌, ◌⊎◌, ℕ, suc, ◌+◌, ◌-◌, ◌<◌, ◌≤◌, refl, sym, ◌∙◌, ap, inl, inr, arith}
 use Rattle.std.proofs.lemmas.Bool.{cases_eq, cases_lt}
 use Rattle.def_layout.specs.Layouts.{Way, south, east, north, west, after, Layout}
-use Rattle.def_layout.specs.Laid.{IsLaid}
+use Rattle.def_layout.specs.Laid.{IsPaved, IsLaid}
 use Rattle.def_layout.specs.Lengths.{Lengths, size, wide, high, AreLengths}
 use Rattle.def_layout.specs.Cells.{Dart, IsDart, dart, next, rim}
 use Rattle.def_written.specs.Points.{Point, inside, side_point, point}
@@ -30,34 +30,24 @@ side_row l x p east t = t
 side_row l x p north t = high l x p
 side_row l x p west t = high l x p - t
 
-module _ (l : Layout) (x : Lengths) (laid : IsLaid l) (len : AreLengths l x) where
-  pub border_point : (p : ℕ) (s : Way) (t : ℕ) → p < l.patches → t ≤ size l x p s
-      → point l x p (side_column l x p s t) (side_row l x p s t) ≡ side_point l x p s t
-  border_point p south t low le = refl
-  border_point p east t low le = point_east l x laid len p (wide l x p) t low refl (omega (arith, len.upright p low))
-  border_point p north t low le =
-      point_north l x laid len p (wide l x p - t) (high l x p) low refl
-      ∙ ap (side_point l x p north) (omega (arith, len.across p low))
-  border_point p west t low le =
-      point_west l x laid len p (high l x p - t) low (omega arith) ∙ ap (side_point l x p west) (omega arith)
-
+module _ (l : Layout) (x : Lengths) (paved : IsPaved l) (len : AreLengths l x) where
   pub rim_is : (p : ℕ) (s : Way) (t : ℕ) → p < l.patches → t < size l x p s → IsDart l x (rim l x p s t)
-  rim_is p south t low less = record { patch_low = low; i_low = less; j_low = high_some l x laid len p low }
+  rim_is p south t low less = record { patch_low = low; i_low = less; j_low = high_some l x paved len p low }
   rim_is p east t low less =
-      record { patch_low = low; i_low = omega (arith, wide_some l x laid len p low); j_low = omega (arith, len.upright p low) }
+      record { patch_low = low; i_low = omega (arith, wide_some l x paved len p low); j_low = omega (arith, len.upright p low) }
   rim_is p north t low less = record {
     patch_low = low;
-    i_low = omega (arith, wide_some l x laid len p low);
-    j_low = omega (arith, high_some l x laid len p low);
+    i_low = omega (arith, wide_some l x paved len p low);
+    j_low = omega (arith, high_some l x paved len p low);
   }
   rim_is p west t low less =
-      record { patch_low = low; i_low = wide_some l x laid len p low; j_low = omega (arith, high_some l x laid len p low) }
+      record { patch_low = low; i_low = wide_some l x paved len p low; j_low = omega (arith, high_some l x paved len p low) }
 
   -- A border dart begins at its place of the side, and ends at the next one.
   pub rim_column : (p : ℕ) (s : Way) (t : ℕ) → p < l.patches → t < size l x p s
       → column_of (rim l x p s t) ≡ side_column l x p s t
   rim_column p south t low less = refl
-  rim_column p east t low less = omega (arith, wide_some l x laid len p low)
+  rim_column p east t low less = omega (arith, wide_some l x paved len p low)
   rim_column p north t low less = omega (arith, len.across p low)
   rim_column p west t low less = refl
 
@@ -65,13 +55,13 @@ module _ (l : Layout) (x : Lengths) (laid : IsLaid l) (len : AreLengths l x) whe
       → row_of (rim l x p s t) ≡ side_row l x p s t
   rim_row p south t low less = refl
   rim_row p east t low less = refl
-  rim_row p north t low less = omega (arith, high_some l x laid len p low)
+  rim_row p north t low less = omega (arith, high_some l x paved len p low)
   rim_row p west t low less = omega arith
 
   pub rim_next_column : (p : ℕ) (s : Way) (t : ℕ) → p < l.patches → t < size l x p s
       → column_of (next (rim l x p s t)) ≡ side_column l x p s (t + 1)
   rim_next_column p south t low less = refl
-  rim_next_column p east t low less = omega (arith, wide_some l x laid len p low)
+  rim_next_column p east t low less = omega (arith, wide_some l x paved len p low)
   rim_next_column p north t low less = omega (arith, len.across p low)
   rim_next_column p west t low less = refl
 
@@ -79,7 +69,7 @@ module _ (l : Layout) (x : Lengths) (laid : IsLaid l) (len : AreLengths l x) whe
       → row_of (next (rim l x p s t)) ≡ side_row l x p s (t + 1)
   rim_next_row p south t low less = refl
   rim_next_row p east t low less = refl
-  rim_next_row p north t low less = omega (arith, high_some l x laid len p low)
+  rim_next_row p north t low less = omega (arith, high_some l x paved len p low)
   rim_next_row p west t low less = omega arith
 
   pub rim_patch : (p : ℕ) (s : Way) (t : ℕ) → (rim l x p s t).patch ≡ p
@@ -87,21 +77,6 @@ module _ (l : Layout) (x : Lengths) (laid : IsLaid l) (len : AreLengths l x) whe
   rim_patch p east t = refl
   rim_patch p north t = refl
   rim_patch p west t = refl
-
-  pub rim_from : (p : ℕ) (s : Way) (t : ℕ) → p < l.patches → t < size l x p s
-      → from l x (rim l x p s t) ≡ side_point l x p s t
-  rim_from p s t low less =
-      (λ k. point l x (rim_patch p s t k) (rim_column p s t low less k) (rim_row p s t low less k))
-      ∙ border_point p s t low (omega arith)
-
-  next_patch : (p : ℕ) (s : Way) (t : ℕ) → (next (rim l x p s t)).patch ≡ p
-  next_patch p s t = rim_patch p s t
-
-  pub rim_to : (p : ℕ) (s : Way) (t : ℕ) → p < l.patches → t < size l x p s
-      → to l x (rim l x p s t) ≡ side_point l x p s (t + 1)
-  rim_to p s t low less =
-      (λ k. point l x (rim_patch p s t k) (rim_next_column p s t low less k) (rim_next_row p s t low less k))
-      ∙ border_point p s (t + 1) low (omega arith)
 
   -- A side ends where the next one begins.
   pub corner_column : (p : ℕ) (s : Way) (t : ℕ) → p < l.patches → t ≡ size l x p s
@@ -117,6 +92,21 @@ module _ (l : Layout) (x : Lengths) (laid : IsLaid l) (len : AreLengths l x) whe
   corner_row p east t low e = omega (arith, len.upright p low)
   corner_row p north t low e = omega arith
   corner_row p west t low e = omega arith
+
+  -- A cell with two border darts in a row lies at the corner of its patch.
+  pub corner_cell : (p : ℕ) (s : Way) (t u : ℕ) → p < l.patches → t < size l x p s → u < size l x p (after s)
+      → (rim l x p s t).i ≡ (rim l x p (after s) u).i → (rim l x p s t).j ≡ (rim l x p (after s) u).j
+      → (t + 1 ≡ size l x p s) × (u ≡ 0)
+  corner_cell p south t u low t_low u_low i j = (omega (arith, i), sym j)
+  corner_cell p east t u low t_low u_low i j = (omega (arith, j, len.upright p low), omega (arith, i, len.across p low))
+  corner_cell p north t u low t_low u_low i j = (omega (arith, i, len.across p low), omega (arith, j))
+  corner_cell p west t u low t_low u_low i j = (omega (arith, j), sym i)
+
+  pub rim_way : (p : ℕ) (s : Way) (t : ℕ) → (rim l x p s t).way ≡ s
+  rim_way p south t = refl
+  rim_way p east t = refl
+  rim_way p north t = refl
+  rim_way p west t = refl
 
   -- A grid point of a patch lies inside, or is where a border dart begins.
   pub record IsInner (p a b : ℕ) : Type 0 where
@@ -135,7 +125,7 @@ module _ (l : Layout) (x : Lengths) (laid : IsLaid l) (len : AreLengths l x) whe
   on_rim p a b low a_le b_le = elim (cases_eq b 0) [
     | inl bottom ↦ elim (cases_eq a (wide l x p)) [
       | inl far ↦ inr (east, 0, record {
-        low = omega (arith, len.upright p low, high_some l x laid len p low);
+        low = omega (arith, len.upright p low, high_some l x paved len p low);
         column = far;
         row = bottom;
       })
@@ -143,7 +133,7 @@ module _ (l : Layout) (x : Lengths) (laid : IsLaid l) (len : AreLengths l x) whe
     ]
     | inr some ↦ elim (cases_eq b (high l x p)) [
       | inl up ↦ elim (cases_eq a 0) [
-        | inl first ↦ inr (west, 0, record { low = high_some l x laid len p low; column = first; row = omega arith })
+        | inl first ↦ inr (west, 0, record { low = high_some l x paved len p low; column = first; row = omega arith })
         | inr later ↦ inr (north, wide l x p - a, record {
           low = omega (arith, len.across p low);
           column = omega arith;
@@ -214,3 +204,26 @@ module _ (l : Layout) (x : Lengths) (laid : IsLaid l) (len : AreLengths l x) whe
       where
         next_is : IsDart l x (rim l x p s t) → IsDart l x (next (rim l x p s t))
         next_is d = record { patch_low = d.patch_low; i_low = d.i_low; j_low = d.j_low }
+
+module _ (l : Layout) (x : Lengths) (laid : IsLaid l) (len : AreLengths l x) where
+  pub border_point : (p : ℕ) (s : Way) (t : ℕ) → p < l.patches → t ≤ size l x p s
+      → point l x p (side_column l x p s t) (side_row l x p s t) ≡ side_point l x p s t
+  border_point p south t low le = refl
+  border_point p east t low le = point_east l x laid len p (wide l x p) t low refl (omega (arith, len.upright p low))
+  border_point p north t low le =
+      point_north l x laid len p (wide l x p - t) (high l x p) low refl
+      ∙ ap (side_point l x p north) (omega (arith, len.across p low))
+  border_point p west t low le =
+      point_west l x laid len p (high l x p - t) low (omega arith) ∙ ap (side_point l x p west) (omega arith)
+
+  pub rim_from : (p : ℕ) (s : Way) (t : ℕ) → p < l.patches → t < size l x p s
+      → from l x (rim l x p s t) ≡ side_point l x p s t
+  rim_from p s t low less =
+      (λ k. point l x (rim_patch l x laid.paved len p s t k) (rim_column l x laid.paved len p s t low less k) (rim_row l x laid.paved len p s t low less k))
+      ∙ border_point p s t low (omega arith)
+
+  pub rim_to : (p : ℕ) (s : Way) (t : ℕ) → p < l.patches → t < size l x p s
+      → to l x (rim l x p s t) ≡ side_point l x p s (t + 1)
+  rim_to p s t low less =
+      (λ k. point l x (rim_patch l x laid.paved len p s t k) (rim_next_column l x laid.paved len p s t low less k) (rim_next_row l x laid.paved len p s t low less k))
+      ∙ border_point p s (t + 1) low (omega arith)

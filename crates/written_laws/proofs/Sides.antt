@@ -85,21 +85,21 @@ module _ (l : Layout) (x : Lengths) where
       → reach l x w.patch w.side w.at + x (use_of l w).arc ≤ size l x w.patch w.side
   reach_low w is = count_rises (long_at w.patch w.side) (suc w.at) (l.many w.patch w.side) (omega (arith, is.low))
 
-  module _ (laid : IsLaid l) (len : AreLengths l x) where
+  module _ (paved : IsPaved l) (len : AreLengths l x) where
     pub use_some : (w : Slot) → IsSlot l w → 0 < x (use_of l w).arc
-    use_some w is = len.some (use_of l w).arc (laid.paved.arc_low w is)
+    use_some w is = len.some (use_of l w).arc (paved.arc_low w is)
 
     pub first_slot : (p : ℕ) (s : Way) → p < l.patches → IsSlot l (slot p s 0)
-    first_slot p s low = record { patch_low = low; low = laid.paved.sides_full p s low }
+    first_slot p s low = record { patch_low = low; low = paved.sides_full p s low }
 
     pub last_slot : (p : ℕ) (s : Way) → p < l.patches → IsSlot l (slot p s (l.many p s - 1))
-    last_slot p s low = record { patch_low = low; low = omega (arith, laid.paved.sides_full p s low) }
+    last_slot p s low = record { patch_low = low; low = omega (arith, paved.sides_full p s low) }
 
     -- The last arc of a side ends where the side does.
     pub last_reach : (p : ℕ) (s : Way) → p < l.patches
         → reach l x p s (l.many p s - 1) + long_at p s (l.many p s - 1) ≡ size l x p s
     last_reach p s low =
-        let e : suc (l.many p s - 1) ≡ l.many p s = omega (arith, laid.paved.sides_full p s low) in
+        let e : suc (l.many p s - 1) ≡ l.many p s = omega (arith, paved.sides_full p s low) in
         ap (reach l x p s) e
 
     pub size_some : (p : ℕ) (s : Way) → p < l.patches → 0 < size l x p s
@@ -119,20 +119,45 @@ module _ (l : Layout) (x : Lengths) where
         let long : reach l x p s (l.many p s - 1) + long_at p s (l.many p s - 1) ≡ size l x p s = last_reach p s low in
         let some : 0 < long_at p s (l.many p s - 1) = use_some (slot p s (l.many p s - 1)) (last_slot p s low) in
         let over : use_over l x p s t ≡ l.many p s - 1 =
-            run_last (reach l x p s) (l.many p s) t (laid.paved.sides_full p s low) (omega (arith, long, e)) in
+            run_last (reach l x p s) (l.many p s) t (paved.sides_full p s low) (omega (arith, long, e)) in
         ap (λ m. use_point l x (l.use_at p s m) (t - reach l x p s m)) over
         ∙ use_ends (l.use_at p s (l.many p s - 1)) (t - reach l x p s (l.many p s - 1)) (omega (arith, long, e)) (omega (arith, long, e, some))
 
+    -- The slot at the beginning of a side is its first one.
+    pub first_is : (v : Slot) → IsSlot l v → reach l x v.patch v.side v.at ≡ 0 → v.at ≡ 0
+    first_is v is none = elim (cases_eq v.at 0) [
+      | inl e ↦ e
+      | inr later ↦
+        let first : IsSlot l (slot v.patch v.side 0) = record { patch_low = is.patch_low; low = omega (arith, is.low) } in
+        let le : reach l x v.patch v.side 1 ≤ reach l x v.patch v.side v.at = count_rises (long_at v.patch v.side) 1 v.at (omega arith) in
+        let some : 0 < long_at v.patch v.side 0 = use_some (slot v.patch v.side 0) first in
+        absurd (omega (arith, le, some, none))
+    ]
+
+    -- The slot at the end of a side is its last one.
+    pub last_is : (w : Slot) → IsSlot l w → size l x w.patch w.side ≤ reach l x w.patch w.side w.at + x (use_of l w).arc
+        → w.at ≡ l.many w.patch w.side - 1
+    last_is w is end = elim (cases_lt (suc w.at) (l.many w.patch w.side)) [
+      | inl more ↦
+        let later : IsSlot l (slot w.patch w.side (suc w.at)) = record { patch_low = is.patch_low; low = more } in
+        let le : reach l x w.patch w.side (suc w.at) + long_at w.patch w.side (suc w.at) ≤ size l x w.patch w.side =
+            reach_low (slot w.patch w.side (suc w.at)) later in
+        let some : 0 < long_at w.patch w.side (suc w.at) = use_some (slot w.patch w.side (suc w.at)) later in
+        absurd (omega (arith, le, some, end))
+      | inr none ↦ omega (arith, is.low, none)
+    ]
+
+  module _ (laid : IsLaid l) (len : AreLengths l x) where
     -- A side ends where the next one begins.
     pub corner_meets : (p : ℕ) (s : Way) (t : ℕ) → p < l.patches → t ≡ size l x p s
         → side_point l x p s t ≡ side_point l x p (after s) 0
-    corner_meets p s t low e = side_end p s t low e ∙ ap node (at s) ∙ sym (side_begin p (after s) low)
+    corner_meets p s t low e = side_end laid.paved len p s t low e ∙ ap node (at s) ∙ sym (side_begin laid.paved len p (after s) low)
       where
         at : (s : Way) → end_of l (l.use_at p s (l.many p s - 1)) ≡ start_of l (l.use_at p (after s) 0)
-        at south = laid.meet (slot p east 0) (first_slot p east low)
-        at east = laid.meet (slot p north 0) (first_slot p north low)
-        at north = laid.meet (slot p west 0) (first_slot p west low)
-        at west = laid.meet (slot p south 0) (first_slot p south low)
+        at south = laid.meet (slot p east 0) (first_slot laid.paved len p east low)
+        at east = laid.meet (slot p north 0) (first_slot laid.paved len p north low)
+        at north = laid.meet (slot p west 0) (first_slot laid.paved len p west low)
+        at west = laid.meet (slot p south 0) (first_slot laid.paved len p south low)
 
     -- The points of an arc on a side, its end included.
     pub side_upto : (w : Slot) (o t : ℕ) → IsSlot l w → o ≤ x (use_of l w).arc → t ≡ reach l x w.patch w.side w.at + o
@@ -149,22 +174,22 @@ module _ (l : Layout) (x : Lengths) where
             → side_point l x w.patch w.side t ≡ use_point l x (use_of l w) o
         at_next more next =
             let same : t ≡ reach l x w.patch w.side (suc w.at) + 0 = omega arith in
-            let some : 0 < x (l.use_at w.patch w.side (suc w.at)).arc = use_some (slot w.patch w.side (suc w.at)) next in
+            let some : 0 < x (l.use_at w.patch w.side (suc w.at)).arc = use_some laid.paved len (slot w.patch w.side (suc w.at)) next in
             ap (side_point l x w.patch w.side) same ∙ side_in (slot w.patch w.side (suc w.at)) 0 next some
             ∙ use_begins (l.use_at w.patch w.side (suc w.at)) some
             ∙ ap node (sym (laid.meet (slot w.patch w.side (suc w.at)) next))
-            ∙ sym (use_ends (use_of l w) o (omega arith) (omega (arith, use_some w is)))
+            ∙ sym (use_ends (use_of l w) o (omega arith) (omega (arith, use_some laid.paved len w is)))
 
         at_end : x (use_of l w).arc ≤ o → l.many w.patch w.side ≤ suc w.at
             → side_point l x w.patch w.side t ≡ use_point l x (use_of l w) o
         at_end more last =
             let m : w.at ≡ l.many w.patch w.side - 1 = omega (arith, is.low) in
             let long : reach l x w.patch w.side (l.many w.patch w.side - 1) + long_at w.patch w.side (l.many w.patch w.side - 1) ≡ size l x w.patch w.side =
-                last_reach w.patch w.side is.patch_low in
+                last_reach laid.paved len w.patch w.side is.patch_low in
             let r : reach l x w.patch w.side w.at ≡ reach l x w.patch w.side (l.many w.patch w.side - 1) =
                 ap (reach l x w.patch w.side) m in
             let u : long_at w.patch w.side w.at ≡ long_at w.patch w.side (l.many w.patch w.side - 1) =
                 ap (long_at w.patch w.side) m in
-            side_end w.patch w.side t is.patch_low (omega (arith, long, r, u))
+            side_end laid.paved len w.patch w.side t is.patch_low (omega (arith, long, r, u))
             ∙ ap (λ k. node (end_of l (l.use_at w.patch w.side k))) (sym m)
-            ∙ sym (use_ends (use_of l w) o (omega arith) (omega (arith, use_some w is)))
+            ∙ sym (use_ends (use_of l w) o (omega arith) (omega (arith, use_some laid.paved len w is)))
