@@ -11,3 +11,5 @@ pub mod Courses
 pub mod Simple
 pub mod Manifold
 pub mod Across
+pub mod EdgeDarts
+pub mod Spokes
