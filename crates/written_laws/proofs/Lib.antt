@@ -13,3 +13,5 @@ pub mod Manifold
 pub mod Across
 pub mod EdgeDarts
 pub mod Spokes
+pub mod Undoubled
+pub mod Doubling

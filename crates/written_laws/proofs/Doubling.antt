@@ -1,0 +1,268 @@
+-- Multiples of lengths that double no edge double none, and no lengths of at least 3 do.
+use Rattle.std.proofs.Common.{◌≡◌, ◌≢◌, ◌⊎◌, ℕ, zero, suc, ◌+◌, ◌-◌, ◌*◌, ◌/◌, ◌%◌, ◌<◌, ◌≤◌, Bool, true, false, not, cond, refl, sym, ◌∙◌, ap, subst, inl, inr, arith}
+use Rattle.std.specs.Prelude.{◌==◌}
+use Rattle.std.proofs.Math.Nat.{mul-le-mul_left}
+use Rattle.std.proofs.lemmas.Bool.{cases_eq, cond-true, cond-false, eq-eqb, ne_eqb}
+use Rattle.def_layout.specs.declared.tmesh.SideArc.{SideArc}
+use Rattle.def_layout.specs.Layouts.{Way, south, east, north, west, Layout, Slot, IsSlot, use_of}
+use Rattle.def_layout.specs.Laid.{IsLaid}
+use Rattle.def_layout.specs.Lengths.{Lengths, reach, size, wide, high, AreLengths}
+use Rattle.def_layout.specs.Cells.{Dart, IsDart, dart}
+use Rattle.def_written.specs.Points.{Point, node, along, inside, arc_point, use_point, use_over, offset_at, side_point, point}
+use Rattle.def_written.specs.NewFaces.{from, to}
+use Rattle.def_written.specs.Edges.{Edge, on_arc, flat, steep}
+use Rattle.qm_laws.proofs.Counts.{count_below_times}
+use Rattle.written_laws.proofs.Sides.{slot, IsOn, arc_last, use_inner, side_in, place_on, first_slot, reach_low}
+use Rattle.written_laws.proofs.Grid.{point_north, point_west, point_east}
+use Rattle.written_laws.proofs.Courses.{Course, course_of, border_course, IsAcross, course_once}
+use Rattle.written_laws.proofs.Simple.{IsSimple}
+use Rattle.written_laws.proofs.Manifold.{ends_differ}
+use Rattle.written_laws.proofs.Across.{across_ends}
+use Rattle.written_laws.proofs.Spokes.{IsOpen, simple_open}
+
+-- The k-fold lengths.
+abbrev pub scale : (k : ℕ) (y : Lengths) → Lengths
+scale k y a = k * y a
+
+-- A point where the lengths are doubled.
+abbrev double : (a : Point) → Point
+double (node n) = node n
+double (along a k) = along a (2 * k)
+double (inside p i j) = inside p (2 * i) (2 * j)
+
+double_same : (a b : Point) → double a ≡ double b → a ≡ b
+double_same (node m) (node n) e = e
+double_same (along a k) (along b m) e =
+    let arc : a ≡ b = cc in let place : 2 * k ≡ 2 * m = cc in let same : k ≡ m = omega (arith, place) in λ t. along (arc t) (same t)
+double_same (inside p i j) (inside q k m) e =
+    let patch : p ≡ q = cc in let c : 2 * i ≡ 2 * k = cc in let r : 2 * j ≡ 2 * m = cc in
+    let column : i ≡ k = omega (arith, c) in let row : j ≡ m = omega (arith, r) in λ t. inside (patch t) (column t) (row t)
+double_same (node m) (along b k) e = absurd cc
+double_same (node m) (inside q i j) e = absurd cc
+double_same (along a k) (node n) e = absurd cc
+double_same (along a k) (inside q i j) e = absurd cc
+double_same (inside p i j) (node n) e = absurd cc
+double_same (inside p i j) (along b k) e = absurd cc
+
+-- The point in the middle of an edge of an arc, where the lengths are doubled.
+abbrev middle : (e : Edge) → Point
+middle (on_arc a k) = along a (2 * k + 1)
+middle (flat p i j) = node 0
+middle (steep p i j) = node 0
+
+module _ (l : Layout) (y : Lengths) where
+  pub reach_scale : (k p : ℕ) (s : Way) (m : ℕ) → reach l (scale k y) p s m ≡ k * reach l y p s m
+  reach_scale k p s m = count_below_times k (λ j. y (l.use_at p s j).arc) m
+
+  pub size_scale : (k p : ℕ) (s : Way) → size l (scale k y) p s ≡ k * size l y p s
+  size_scale k p s = reach_scale k p s (l.many p s)
+
+  pub lengths_scale : (k : ℕ) → 0 < k → AreLengths l y → AreLengths l (scale k y)
+  lengths_scale k some len = record {
+    some = λ a low. let one : 1 ≤ y a = len.some a low in omega (arith, mul-le-mul_left k one);
+    across = λ p low. size_scale k p north ∙ ap (λ n. k * n) (len.across p low) ∙ sym (size_scale k p south);
+    upright = λ p low. size_scale k p east ∙ ap (λ n. k * n) (len.upright p low) ∙ sym (size_scale k p west);
+  }
+
+  arc_double : (a k : ℕ) → arc_point l (scale 2 y) a (2 * k) ≡ double (arc_point l y a k)
+  arc_double a k = elim (cases_eq k 0) [
+    | inl e ↦ cond-true (2 * k == 0) _ _ (eq-eqb (2 * k) 0 (omega arith))
+      ∙ ap double (sym (cond-true (k == 0) (node (l.first a)) (cond (k == y a) (node (l.last a)) (along a k)) (eq-eqb k 0 e)))
+    | inr some ↦ cond-false (2 * k == 0) _ _ (ne_eqb (2 * k) 0 (λ z. some (omega arith)))
+      ∙ elim (cases_eq k (y a)) [
+        | inl e ↦ cond-true (2 * k == 2 * y a) _ _ (eq-eqb (2 * k) (2 * y a) (ap (λ n. 2 * n) e))
+          ∙ ap double (sym (cond-true (k == y a) (node (l.last a)) (along a k) (eq-eqb k (y a) e)))
+        | inr less ↦ cond-false (2 * k == 2 * y a) _ _ (ne_eqb (2 * k) (2 * y a) (λ z. less (omega (arith, z))))
+          ∙ ap double (sym (cond-false (k == y a) (node (l.last a)) (along a k) (ne_eqb k (y a) less)))
+      ]
+      ∙ ap double (sym (cond-false (k == 0) (node (l.first a)) (cond (k == y a) (node (l.last a)) (along a k)) (ne_eqb k 0 some)))
+  ]
+
+  use_double : (u : SideArc) (o : ℕ) → o ≤ y u.arc → use_point l (scale 2 y) u (2 * o) ≡ double (use_point l y u o)
+  use_double u o le = by_way u.arc u.forward le
+    where
+      by_way : (a : ℕ) (b : Bool) → o ≤ y a
+          → use_point l (scale 2 y) (record { arc = a; forward = b }) (2 * o) ≡ double (use_point l y (record { arc = a; forward = b }) o)
+      by_way a true low = arc_double a o
+      by_way a false low =
+          let e : 2 * y a - 2 * o ≡ 2 * (y a - o) = omega (arith, low) in
+          ap (arc_point l (scale 2 y) a) e ∙ arc_double a (y a - o)
+
+  side_double : (p : ℕ) (s : Way) (t : ℕ) → p < l.patches → t < size l y p s
+      → side_point l (scale 2 y) p s (2 * t) ≡ double (side_point l y p s t)
+  side_double p s t low less =
+      let on : IsOn l y p s t (use_over l y p s t) (offset_at l y p s t) = place_on l y p s t low less in
+      let e : 2 * t ≡ reach l (scale 2 y) p s (use_over l y p s t) + 2 * offset_at l y p s t =
+          omega (arith, on.place, reach_scale 2 p s (use_over l y p s t)) in
+      ap (side_point l (scale 2 y) p s) e
+      ∙ side_in l (scale 2 y) (slot p s (use_over l y p s t)) (2 * offset_at l y p s t) on.is_slot (omega (arith, on.inside))
+      ∙ use_double (l.use_at p s (use_over l y p s t)) (offset_at l y p s t) (omega (arith, on.inside))
+
+  side_odd : (p : ℕ) (s : Way) (t : ℕ) → p < l.patches → t < size l y p s
+      → side_point l (scale 2 y) p s (2 * t + 1) ≡ middle (border_course l y p s t).edge
+  side_odd p s t low less =
+      let on : IsOn l y p s t (use_over l y p s t) (offset_at l y p s t) = place_on l y p s t low less in
+      let e : 2 * t + 1 ≡ reach l (scale 2 y) p s (use_over l y p s t) + (2 * offset_at l y p s t + 1) =
+          omega (arith, on.place, reach_scale 2 p s (use_over l y p s t)) in
+      ap (side_point l (scale 2 y) p s) e
+      ∙ side_in l (scale 2 y) (slot p s (use_over l y p s t)) (2 * offset_at l y p s t + 1) on.is_slot (omega (arith, on.inside))
+      ∙ use_inner l (scale 2 y) (l.use_at p s (use_over l y p s t)) (2 * offset_at l y p s t + 1) (omega arith) (omega (arith, on.inside))
+      ∙ by_way (l.use_at p s (use_over l y p s t)).arc (l.use_at p s (use_over l y p s t)).forward (offset_at l y p s t) on.inside
+    where
+      by_way : (a : ℕ) (b : Bool) (o : ℕ) → o < y a → along a (cond b (2 * o + 1) (2 * y a - (2 * o + 1))) ≡ along a (2 * cond b o (y a - 1 - o) + 1)
+      by_way a true o inner = refl
+      by_way a false o inner = let e : 2 * y a - (2 * o + 1) ≡ 2 * (y a - 1 - o) + 1 = omega (arith, inner) in ap (along a) e
+
+  middle_same : (p q : ℕ) (s r : Way) (t u : ℕ)
+      → middle (border_course l y p s t).edge ≡ middle (border_course l y q r u).edge → (border_course l y p s t).edge ≡ (border_course l y q r u).edge
+  middle_same p q s r t u e =
+      by_arcs (l.use_at p s (use_over l y p s t)).arc _ (l.use_at q r (use_over l y q r u)).arc _ e
+    where
+      by_arcs : (a k b m : ℕ) → along a (2 * k + 1) ≡ along b (2 * m + 1) → on_arc a k ≡ on_arc b m
+      by_arcs a k b m s = let arc : a ≡ b = cc in let place : 2 * k + 1 ≡ 2 * m + 1 = cc in let same : k ≡ m = omega (arith, place) in λ t. on_arc (arc t) (same t)
+
+  module _ (laid : IsLaid l) (len : AreLengths l y) (simple : IsSimple l y) where
+    z_len : AreLengths l (scale 2 y)
+    z_len = lengths_scale 2 (omega arith) len
+
+    -- Two darts of different ways in one cell do not run along one edge from side to side.
+    no_shared_edge : (d e : Dart) → IsDart l y d → IsDart l y e → d ≢ e → from l y e ≢ to l y d
+        → (course_of l y e).edge ≢ (course_of l y d).edge
+    no_shared_edge d e is_d is_e apart ends edges = by_ways (course_of l y d).ahead (course_of l y e).ahead refl refl
+      where
+        alike : (course_of l y e).ahead ≡ (course_of l y d).ahead → ⊥
+        alike ways = apart (course_once l y laid len d e is_d is_e (λ t. record { edge = sym edges t; ahead = sym ways t }))
+
+        turned : (course_of l y e).ahead ≡ not (course_of l y d).ahead → ⊥
+        turned ways = ends (across_ends l y laid len d e is_d (record { is_dart = is_e; edge = edges; turned = ways })).0
+
+        by_ways : (a b : Bool) → (course_of l y d).ahead ≡ a → (course_of l y e).ahead ≡ b → ⊥
+        by_ways true true a b = alike (b ∙ sym a)
+        by_ways false false a b = alike (b ∙ sym a)
+        by_ways true false a b = turned (b ∙ ap not (sym a))
+        by_ways false true a b = turned (b ∙ ap not (sym a))
+
+    across_open : (p j : ℕ) → p < l.patches → wide l (scale 2 y) p ≡ 2 → 0 < j → j < high l (scale 2 y) p
+        → point l (scale 2 y) p 0 j ≢ point l (scale 2 y) p 2 j
+    across_open p j low two some less same = elim (cases_eq (j % 2) 0) [ inl e ↦ even e | inr o ↦ odd (omega arith) ]
+      where
+        one : wide l y p ≡ 1
+        one = omega (arith, two, size_scale 2 p south)
+
+        t : ℕ
+        t = j / 2
+
+        rows : high l (scale 2 y) p ≡ 2 * high l y p
+        rows = size_scale 2 p west
+
+        sides : side_point l (scale 2 y) p west (high l (scale 2 y) p - j) ≡ side_point l (scale 2 y) p east j
+        sides = sym (point_west l (scale 2 y) laid z_len p j low (omega arith)) ∙ same
+            ∙ point_east l (scale 2 y) laid z_len p 2 j low (sym two) (omega arith)
+
+        even : j % 2 ≡ 0 → ⊥
+        even e =
+            let half : j ≡ 2 * (j / 2) = omega arith in
+            let rest : high l (scale 2 y) p - j ≡ 2 * (high l y p - j / 2) = omega (arith, rows) in
+            let points : double (side_point l y p west (high l y p - j / 2)) ≡ double (side_point l y p east (j / 2)) =
+                sym (side_double p west (high l y p - j / 2) low (omega (arith, rows)))
+                ∙ ap (side_point l (scale 2 y) p west) (sym rest) ∙ sides ∙ ap (side_point l (scale 2 y) p east) half
+                ∙ side_double p east (j / 2) low (omega (arith, rows, len.upright p low)) in
+            simple.no_loop (flat p 0 (j / 2)) (low, omega (arith, one), omega (arith, rows), omega (arith, rows))
+                (point_west l y laid len p (j / 2) low (omega (arith, rows))
+                    ∙ double_same (side_point l y p west (high l y p - j / 2)) (side_point l y p east (j / 2)) points
+                    ∙ sym (point_east l y laid len p 1 (j / 2) low (sym one) (omega (arith, rows))))
+
+        odd : j % 2 ≡ 1 → ⊥
+        odd e =
+            let half : j ≡ 2 * (j / 2) + 1 = omega arith in
+            let rest : high l (scale 2 y) p - j ≡ 2 * (high l y p - 1 - j / 2) + 1 = omega (arith, rows) in
+            let edges : (border_course l y p east (j / 2)).edge ≡ (border_course l y p west (high l y p - 1 - j / 2)).edge =
+                middle_same p p east west (j / 2) (high l y p - 1 - j / 2)
+                    (sym (side_odd p east (j / 2) low (omega (arith, rows, len.upright p low)))
+                        ∙ ap (side_point l (scale 2 y) p east) (sym half) ∙ sym sides ∙ ap (side_point l (scale 2 y) p west) rest
+                        ∙ side_odd p west (high l y p - 1 - j / 2) low (omega (arith, rows))) in
+            let is : (w : Way) → IsDart l y (dart p 0 (j / 2) w) =
+                λ w. record { patch_low = low; i_low = omega (arith, one); j_low = omega (arith, rows) } in
+            no_shared_edge (dart p 0 (j / 2) west) (dart p 0 (j / 2) east) (is west) (is east)
+                (λ s. let w : west ≡ east = ap (λ (d : Dart). d.way) s in cc)
+                (λ s. ends_differ l y laid len simple (dart p 0 (j / 2) south) (is south) (sym s))
+                (ap (λ (c : Course). c.edge) (cond-true (1 == wide l y p) (border_course l y p east (j / 2)) _ (eq-eqb 1 (wide l y p) (sym one))) ∙ edges)
+
+    upright_open : (p i : ℕ) → p < l.patches → high l (scale 2 y) p ≡ 2 → 0 < i → i < wide l (scale 2 y) p
+        → point l (scale 2 y) p i 0 ≢ point l (scale 2 y) p i 2
+    upright_open p i low two some less same = elim (cases_eq (i % 2) 0) [ inl e ↦ even e | inr o ↦ odd (omega arith) ]
+      where
+        one : high l y p ≡ 1
+        one = omega (arith, two, size_scale 2 p west)
+
+        columns : wide l (scale 2 y) p ≡ 2 * wide l y p
+        columns = size_scale 2 p south
+
+        sides : side_point l (scale 2 y) p south i ≡ side_point l (scale 2 y) p north (wide l (scale 2 y) p - i)
+        sides = same ∙ point_north l (scale 2 y) laid z_len p i 2 low (sym two)
+
+        even : i % 2 ≡ 0 → ⊥
+        even e =
+            let half : i ≡ 2 * (i / 2) = omega arith in
+            let rest : wide l (scale 2 y) p - i ≡ 2 * (wide l y p - i / 2) = omega (arith, columns) in
+            let points : double (side_point l y p south (i / 2)) ≡ double (side_point l y p north (wide l y p - i / 2)) =
+                sym (side_double p south (i / 2) low (omega (arith, columns)))
+                ∙ ap (side_point l (scale 2 y) p south) (sym half) ∙ sides ∙ ap (side_point l (scale 2 y) p north) rest
+                ∙ side_double p north (wide l y p - i / 2) low (omega (arith, columns, len.across p low)) in
+            simple.no_loop (steep p (i / 2) 0) (low, omega (arith, columns), omega (arith, columns), omega (arith, one))
+                (double_same (side_point l y p south (i / 2)) (side_point l y p north (wide l y p - i / 2)) points
+                    ∙ sym (point_north l y laid len p (i / 2) 1 low (sym one)))
+
+        odd : i % 2 ≡ 1 → ⊥
+        odd e =
+            let half : i ≡ 2 * (i / 2) + 1 = omega arith in
+            let rest : wide l (scale 2 y) p - i ≡ 2 * (wide l y p - 1 - i / 2) + 1 = omega (arith, columns) in
+            let edges : (border_course l y p north (wide l y p - 1 - i / 2)).edge ≡ (border_course l y p south (i / 2)).edge =
+                middle_same p p north south (wide l y p - 1 - i / 2) (i / 2)
+                    (sym (side_odd p north (wide l y p - 1 - i / 2) low (omega (arith, columns, len.across p low)))
+                        ∙ ap (side_point l (scale 2 y) p north) (sym rest) ∙ sym sides ∙ ap (side_point l (scale 2 y) p south) half
+                        ∙ side_odd p south (i / 2) low (omega (arith, columns))) in
+            let is : (w : Way) → IsDart l y (dart p (i / 2) 0 w) =
+                λ w. record { patch_low = low; i_low = omega (arith, columns); j_low = omega (arith, one) } in
+            no_shared_edge (dart p (i / 2) 0 south) (dart p (i / 2) 0 north) (is south) (is north)
+                (λ s. let w : south ≡ north = ap (λ (d : Dart). d.way) s in cc)
+                (λ s. ends_differ l y laid len simple (dart p (i / 2) 0 east) (is east) (sym s))
+                (ap (λ (c : Course). c.edge) (cond-true (1 == high l y p) (border_course l y p north (wide l y p - 1 - i / 2)) _ (eq-eqb 1 (high l y p) (sym one))) ∙ edges)
+
+    twice_open : IsOpen l (scale 2 y)
+    twice_open = record {
+      two = λ a low. omega (arith, len.some a low);
+      arcs_open = λ a low e s. let one : 1 ≡ y a = omega (arith, e) in
+          simple.no_loop (on_arc a 0) (low, omega (arith, one)) (ap node s ∙ sym (arc_last l y a 1 one (omega arith)));
+      across = across_open;
+      upright = upright_open;
+    }
+
+    pub simple_twice : IsSimple l (scale 2 y)
+    simple_twice = simple_open l (scale 2 y) laid z_len twice_open
+
+module _ (l : Layout) (x : Lengths) (laid : IsLaid l) (len : AreLengths l x) where
+  -- Lengths of at least 3 double no edge.
+  pub simple_three : ((a : ℕ) → a < l.arcs → 3 ≤ x a) → IsSimple l x
+  simple_three three = simple_open l x laid len (record {
+    two = λ a low. omega (arith, three a low);
+    arcs_open = λ a low e s. omega (arith, three a low, e);
+    across = λ p j low e some less s. omega (arith, side_three p south low, e);
+    upright = λ p i low e some less s. omega (arith, side_three p west low, e);
+  })
+    where
+      side_three : (p : ℕ) (s : Way) → p < l.patches → 3 ≤ size l x p s
+      side_three p s p_low =
+          let first : IsSlot l (slot p s 0) = first_slot l x laid.paved len p s p_low in
+          let le : reach l x p s 0 + x (l.use_at p s 0).arc ≤ size l x p s = reach_low l x (slot p s 0) first in
+          omega (arith, le, three (l.use_at p s 0).arc (laid.paved.arc_low (slot p s 0) first))
+
+-- Multiples of lengths that double no edge.
+pub simple_multiple : (l : Layout) (y : Lengths) → IsLaid l → AreLengths l y → IsSimple l y → (k : ℕ) → 0 < k → IsSimple l (scale k y)
+simple_multiple l y laid len simple zero some = absurd (omega arith)
+simple_multiple l y laid len simple (suc zero) some =
+    let one : (a : ℕ) → y a ≡ 1 * y a = λ a. omega arith in subst (IsSimple l) (λ t a. one a t) simple
+simple_multiple l y laid len simple (suc (suc zero)) some = simple_twice l y laid len simple
+simple_multiple l y laid len simple (suc (suc (suc k))) some =
+    simple_three l (scale (suc (suc (suc k))) y) laid (lengths_scale l y (suc (suc (suc k))) some len)
+        (λ a low. let one : 1 ≤ y a = len.some a low in omega (arith, mul-le-mul_left (suc (suc (suc k))) one))

@@ -1,0 +1,99 @@
+-- No edge is doubled exactly where edges are told by their ends.
+use Rattle.std.proofs.Common.{◌≡◌, ◌≢◌, ◌⊎◌, ℕ, ◌+◌, ◌<◌, ◌≤◌, refl, sym, ◌∙◌, ap, subst, inl, inr, arith}
+use Rattle.std.proofs.lemmas.Bool.{cases_eq, cases_lt}
+use Rattle.def_layout.specs.Layouts.{Layout}
+use Rattle.def_layout.specs.Laid.{IsLaid}
+use Rattle.def_layout.specs.Lengths.{Lengths, AreLengths}
+use Rattle.def_written.specs.Points.{Point}
+use Rattle.def_written.specs.Numbers.{number}
+use Rattle.def_written.specs.Edges.{Edge, on_arc, flat, steep, IsEdge, low, top, HasEnds, HasLoop, HasPair, IsDoubledAt, IsUndoubled}
+use Rattle.written_laws.proofs.Numbers.{number_same}
+use Rattle.written_laws.proofs.Simple.{IsSimple}
+use Rattle.written_laws.proofs.EdgeDarts.{edge_points}
+
+-- Two edges are one or two.
+pub cases_edge : (e f : Edge) → (e ≡ f) ⊎ (e ≢ f)
+cases_edge (on_arc a k) (on_arc b m) = elim (cases_eq a b) [
+  | inl p ↦ elim (cases_eq k m) [ inl q ↦ inl (λ t. on_arc (p t) (q t)) | inr q ↦ inr (λ e. q cc) ]
+  | inr p ↦ inr (λ e. p cc)
+]
+cases_edge (flat p i j) (flat q k m) = elim (cases_eq p q) [
+  | inl a ↦ elim (cases_eq i k) [
+    | inl b ↦ elim (cases_eq j m) [ inl c ↦ inl (λ t. flat (a t) (b t) (c t)) | inr c ↦ inr (λ e. c cc) ]
+    | inr b ↦ inr (λ e. b cc)
+  ]
+  | inr a ↦ inr (λ e. a cc)
+]
+cases_edge (steep p i j) (steep q k m) = elim (cases_eq p q) [
+  | inl a ↦ elim (cases_eq i k) [
+    | inl b ↦ elim (cases_eq j m) [ inl c ↦ inl (λ t. steep (a t) (b t) (c t)) | inr c ↦ inr (λ e. c cc) ]
+    | inr b ↦ inr (λ e. b cc)
+  ]
+  | inr a ↦ inr (λ e. a cc)
+]
+cases_edge (on_arc a k) (flat q i j) = inr (λ e. cc)
+cases_edge (on_arc a k) (steep q i j) = inr (λ e. cc)
+cases_edge (flat p i j) (on_arc b m) = inr (λ e. cc)
+cases_edge (flat p i j) (steep q k m) = inr (λ e. cc)
+cases_edge (steep p i j) (on_arc b m) = inr (λ e. cc)
+cases_edge (steep p i j) (flat q k m) = inr (λ e. cc)
+
+module _ (l : Layout) (x : Lengths) where
+  -- Two edges with these ends double a pair.
+  pair_doubles : (e f : Edge) (u v : ℕ) → IsEdge l x e → IsEdge l x f → e ≢ f → HasEnds l x e u v → HasEnds l x f u v
+      → ¬ IsUndoubled l x
+  pair_doubles e f u v is_e is_f apart e_ends f_ends undoubled = elim (cases_lt v u) [
+    | inl less ↦ undoubled v u (omega arith, inr (e, f, is_e, is_f, apart, turned e e_ends, turned f f_ends))
+    | inr le ↦ undoubled u v (le, inr (e, f, is_e, is_f, apart, e_ends, f_ends))
+  ]
+    where
+      turned : (g : Edge) → HasEnds l x g u v → HasEnds l x g v u
+      turned g (inl s) = inr s
+      turned g (inr s) = inl s
+
+  pub simple_from : IsUndoubled l x → IsSimple l x
+  simple_from undoubled = record {
+    same = λ e f is_e is_f s t. one e f is_e is_f (inl (ap (number l x) (sym s), ap (number l x) (sym t)));
+    crossed = λ e f is_e is_f s t. one e f is_e is_f (inr (ap (number l x) (sym t), ap (number l x) (sym s)));
+    no_loop = λ e is s. undoubled (number l x (low l x e)) (number l x (low l x e))
+        (omega arith, inl (refl, (e, is, inl (refl, ap (number l x) (sym s)))));
+  }
+    where
+      one : (e f : Edge) → IsEdge l x e → IsEdge l x f → HasEnds l x f (number l x (low l x e)) (number l x (top l x e)) → e ≡ f
+      one e f is_e is_f ends = elim (cases_edge e f) [
+        | inl s ↦ s
+        | inr apart ↦ absurd (pair_doubles e f (number l x (low l x e)) (number l x (top l x e)) is_e is_f apart (inl (refl, refl)) ends undoubled)
+      ]
+
+  module _ (laid : IsLaid l) (len : AreLengths l x) where
+    point_is : (a b : Edge) → IsEdge l x a → IsEdge l x b
+        → (number l x (low l x a) ≡ number l x (low l x b) → low l x a ≡ low l x b)
+          × (number l x (low l x a) ≡ number l x (top l x b) → low l x a ≡ top l x b)
+          × (number l x (top l x a) ≡ number l x (low l x b) → top l x a ≡ low l x b)
+          × (number l x (top l x a) ≡ number l x (top l x b) → top l x a ≡ top l x b)
+    point_is a b is_a is_b =
+        (number_same l x (low l x a) (low l x b) (edge_points l x laid len a is_a).0 (edge_points l x laid len b is_b).0,
+            number_same l x (low l x a) (top l x b) (edge_points l x laid len a is_a).0 (edge_points l x laid len b is_b).1,
+            number_same l x (top l x a) (low l x b) (edge_points l x laid len a is_a).1 (edge_points l x laid len b is_b).0,
+            number_same l x (top l x a) (top l x b) (edge_points l x laid len a is_a).1 (edge_points l x laid len b is_b).1)
+
+    pub undoubled_from : IsSimple l x → IsUndoubled l x
+    undoubled_from simple u v doubled = by_kind doubled.1
+      where
+        looped : (e : Edge) → IsEdge l x e → HasEnds l x e u u → ⊥
+        looped e is (inl s) = simple.no_loop e is ((point_is e e is is).1 (s.0 ∙ sym s.1))
+        looped e is (inr s) = simple.no_loop e is ((point_is e e is is).1 (s.0 ∙ sym s.1))
+
+        paired : (e f : Edge) → IsEdge l x e → IsEdge l x f → HasEnds l x e u v → HasEnds l x f u v → e ≡ f
+        paired e f is_e is_f (inl s) (inl t) =
+            simple.same e f is_e is_f ((point_is e f is_e is_f).0 (s.0 ∙ sym t.0)) ((point_is e f is_e is_f).3 (s.1 ∙ sym t.1))
+        paired e f is_e is_f (inl s) (inr t) =
+            simple.crossed e f is_e is_f ((point_is e f is_e is_f).1 (s.0 ∙ sym t.1)) ((point_is e f is_e is_f).2 (s.1 ∙ sym t.0))
+        paired e f is_e is_f (inr s) (inl t) =
+            simple.crossed e f is_e is_f ((point_is e f is_e is_f).1 (s.0 ∙ sym t.1)) ((point_is e f is_e is_f).2 (s.1 ∙ sym t.0))
+        paired e f is_e is_f (inr s) (inr t) =
+            simple.same e f is_e is_f ((point_is e f is_e is_f).0 (s.0 ∙ sym t.0)) ((point_is e f is_e is_f).3 (s.1 ∙ sym t.1))
+
+        by_kind : ((u ≡ v) × HasLoop l x u) ⊎ HasPair l x u v → ⊥
+        by_kind (inl h) = looped h.1.0 h.1.1 h.1.2
+        by_kind (inr h) = h.4 (paired h.0 h.1 h.2 h.3 h.5 h.6)
