@@ -1,5 +1,5 @@
 -- Laws of runs laid end to end.
-use Rattle.std.proofs.Common.{◌≡◌, ℕ, zero, suc, ◌+◌, ◌-◌, ◌<◌, ◌≤◌, refl, sym, ◌∙◌, ap, subst, inl, inr, arith}
+use Rattle.std.proofs.Common.{◌≡◌, ℕ, zero, suc, ◌+◌, ◌-◌, ◌<◌, ◌≤◌, sym, ◌∙◌, ap, subst, inl, inr, arith}
 use Rattle.std.specs.Prelude.{nat_lt}
 use Rattle.std.proofs.lemmas.Bool.{cases_eq, cond_both, cond-true, cond-false, ltb-true, ltb-false, lt-ltb, le-ltb}
 use Rattle.def_math.specs.Counts.{count_below}
@@ -20,14 +20,14 @@ run_low start (suc zero) t l =
     cond_both (nat_lt t (start zero)) (run_at start zero t) zero (λ k. k < suc zero) (λ e. omega arith) (λ e. omega arith)
 run_low start (suc (suc n)) t l =
     cond_both (nat_lt t (start (suc n))) (run_at start (suc n) t) (suc n) (λ k. k < suc (suc n))
-        (λ e. omega (arith, run_low start (suc n) t (omega arith))) (λ e. omega arith)
+    (λ e. omega (arith, run_low start (suc n) t (omega arith))) (λ e. omega arith)
 
 -- It begins at or before the place.
 pub run_from : (start : ℕ → ℕ) (n t : ℕ) → start 0 ≤ t → start (run_at start n t) ≤ t
 run_from start zero t l = l
 run_from start (suc n) t l =
     cond_both (nat_lt t (start n)) (run_at start n t) n (λ k. start k ≤ t)
-        (λ e. run_from start n t l) (λ e. ltb-false t (start n) e)
+    (λ e. run_from start n t l) (λ e. ltb-false t (start n) e)
 
 -- The next one begins after it.
 pub run_to : (start : ℕ → ℕ) (n t : ℕ) → 0 < n → t < start n → t < start (suc (run_at start n t))
@@ -36,7 +36,7 @@ run_to start (suc zero) t some l =
     cond_both (nat_lt t (start zero)) (run_at start zero t) zero (λ k. t < start (suc k)) (λ e. l) (λ e. l)
 run_to start (suc (suc n)) t some l =
     cond_both (nat_lt t (start (suc n))) (run_at start (suc n) t) (suc n) (λ k. t < start (suc k))
-        (λ e. run_to start (suc n) t (omega arith) (ltb-true t (start (suc n)) e)) (λ e. l)
+    (λ e. run_to start (suc n) t (omega arith) (ltb-true t (start (suc n)) e)) (λ e. l)
 
 -- From the beginning of the last one on it is found.
 pub run_last : (start : ℕ → ℕ) (n t : ℕ) → 0 < n → start (n - 1) ≤ t → run_at start n t ≡ n - 1
@@ -51,12 +51,12 @@ pub run_place : (f : ℕ → ℕ) (n k o : ℕ) → k < n → o < f k → run_at
 run_place f zero k o l in_run = absurd (omega arith)
 run_place f (suc n) k o l in_run = elim (cases_eq k n) [
   | inl e ↦
-    cond-false (nat_lt (count_below f k + o) (count_below f n)) _ _
-        (le-ltb _ _ (omega (arith, ap (count_below f) e))) ∙ sym e
+      cond-false (nat_lt (count_below f k + o) (count_below f n)) _ _
+      (le-ltb _ _ (omega (arith, ap (count_below f) e))) ∙ sym e
   | inr ne ↦
-    let le : count_below f (suc k) ≤ count_below f n = count_rises f (suc k) n (omega arith) in
-    cond-true (nat_lt (count_below f k + o) (count_below f n)) _ _ (lt-ltb _ _ (omega (arith, le)))
-    ∙ run_place f n k o (omega arith) in_run
+      let le : count_below f (suc k) ≤ count_below f n = count_rises f (suc k) n (omega arith) in
+      cond-true (nat_lt (count_below f k + o) (count_below f n)) _ _ (lt-ltb _ _ (omega (arith, le)))
+      ∙ run_place f n k o (omega arith) in_run
 ]
 
 -- Place t lies o after the beginning of run k.
@@ -84,5 +84,5 @@ pub place_same : (f : ℕ → ℕ) (n a k b o : ℕ) → a < n → b < n → k <
     → count_below f a + k ≡ count_below f b + o → (a ≡ b) × (k ≡ o)
 place_same f n a k b o la lb lk lo same =
     let e : a ≡ b =
-        sym (run_place f n a k la lk) ∙ ap (run_at (count_below f) n) same ∙ run_place f n b o lb lo in
+    sym (run_place f n a k la lk) ∙ ap (run_at (count_below f) n) same ∙ run_place f n b o lb lo in
     (e, omega (arith, ap (count_below f) e))

@@ -1,15 +1,15 @@
 -- The twin of a new dart is the dart that runs the other way along its edge. There is none where the arc stands once.
-use Rattle.std.proofs.Common.{◌≡◌, ◌≢◌, ◌⊎◌, ℕ, ◌+◌, ◌-◌, ◌<◌, Bool, true, false, not, cond, Some, None, refl, sym, ◌∙◌, ap, subst, inl, inr, arith}
+use Rattle.std.proofs.Common.{◌≡◌, ◌⊎◌, ℕ, ◌+◌, ◌-◌, ◌<◌, Bool, true, false, not, cond, Some, None, refl, sym, ◌∙◌, ap, subst, inl, inr, arith}
 use Rattle.std.specs.Prelude.{◌==◌}
 use Rattle.std.proofs.lemmas.Bool.{cond-false, ne_eqb, false≢true}
-use Rattle.def_mesh.specs.Darts.{darts, from_of, to_of, twin_of, IsTwin}
-use Rattle.def_layout.specs.Layouts.{Way, south, east, north, west, Layout, Slot, IsSlot, AreReverse, use_of}
+use Rattle.def_mesh.specs.Darts.{from_of, to_of, twin_of, IsTwin}
+use Rattle.def_layout.specs.Layouts.{Way, south, east, north, west, Layout, Slot, IsSlot, use_of}
 use Rattle.def_layout.specs.Laid.{IsLaid, IsOther}
 use Rattle.def_layout.specs.Lengths.{Lengths, wide, high, AreLengths}
 use Rattle.def_layout.specs.Cells.{Dart, IsDart, dart, next, rim_at}
 use Rattle.def_written.specs.Numbers.{number}
 use Rattle.def_written.specs.NewFaces.{from, to, new_faces}
-use Rattle.def_written.specs.Edges.{Edge, on_arc, flat, steep, IsEdge}
+use Rattle.def_written.specs.Edges.{on_arc, flat, steep}
 use Rattle.mesh_laws.proofs.Twins.{twin_found, twin_is, twin_none}
 use Rattle.written_laws.proofs.Numbers.{number_same}
 use Rattle.written_laws.proofs.Borders.{from_is, at_is, other_long}
@@ -43,7 +43,7 @@ module _ (l : Layout) (x : Lengths) (laid : IsLaid l) (len : AreLengths l x) whe
 
       edges : (f g : Bool) → g ≡ not f
           → on_arc (use_of l v).arc (cond g (x (use_of l w).arc - 1 - o) (x (use_of l v).arc - 1 - (x (use_of l w).arc - 1 - o)))
-            ≡ on_arc (use_of l w).arc (cond f o (x (use_of l w).arc - 1 - o))
+          ≡ on_arc (use_of l w).arc (cond f o (x (use_of l w).arc - 1 - o))
       edges true g e =
           let p : x (use_of l v).arc - 1 - (x (use_of l w).arc - 1 - o) ≡ o = omega (arith, other_long l x laid len w v other) in
           (λ t. on_arc (other.1.arc t) (cond (e t) (x (use_of l w).arc - 1 - o) (p t)))
@@ -57,38 +57,46 @@ module _ (l : Layout) (x : Lengths) (laid : IsLaid l) (len : AreLengths l x) whe
       by_way : (p i j : ℕ) (w : Way) → IsWithin l x (dart p i j w) → (e : Dart) × IsAcross l x laid len (dart p i j w) e
       by_way p i j south h =
           let c : course_of l x (dart p i (j - 1) north) ≡ inner_course p i (j - 1) north =
-              cond-false (j - 1 + 1 == high l x p) _ _ (ne_eqb (j - 1 + 1) (high l x p) (λ e. omega (arith, h.is_edge.2, h.is_edge.3))) in
-          let same : j - 1 + 1 ≡ j = omega (arith, h.is_edge.2) in
-          (dart p i (j - 1) north, record {
-            is_dart = record { patch_low = h.is_edge.0; i_low = h.is_edge.1; j_low = omega (arith, h.is_edge.3) };
-            edge = ap (λ (k : Course). k.edge) c ∙ ap (flat p i) same ∙ sym (ap (λ (k : Course). k.edge) h.course);
-            turned = ap (λ (k : Course). k.ahead) c ∙ sym (ap (λ (k : Course). not k.ahead) h.course);
-          })
+          cond-false (j - 1 + 1 == high l x p) _ _ (ne_eqb (j - 1 + 1) (high l x p) (λ e. omega (arith, h.is_edge.2, h.is_edge.3))) in
+          let same : j - 1 + 1 ≡ j = omega (arith, h.is_edge.2) in (
+            dart p i (j - 1) north,
+            record {
+              is_dart = record { patch_low = h.is_edge.0; i_low = h.is_edge.1; j_low = omega (arith, h.is_edge.3) };
+              edge = ap (λ (k : Course). k.edge) c ∙ ap (flat p i) same ∙ sym (ap (λ (k : Course). k.edge) h.course);
+              turned = ap (λ (k : Course). k.ahead) c ∙ sym (ap (λ (k : Course). not k.ahead) h.course);
+            },
+          )
       by_way p i j east h =
           let c : course_of l x (dart p (i + 1) j west) ≡ inner_course p (i + 1) j west =
-              cond-false (i + 1 == 0) _ _ (ne_eqb (i + 1) 0 (λ e. omega arith)) in
-          (dart p (i + 1) j west, record {
-            is_dart = record { patch_low = h.is_edge.0; i_low = h.is_edge.2; j_low = h.is_edge.3 };
-            edge = ap (λ (k : Course). k.edge) c ∙ sym (ap (λ (k : Course). k.edge) h.course);
-            turned = ap (λ (k : Course). k.ahead) c ∙ sym (ap (λ (k : Course). not k.ahead) h.course);
-          })
+          cond-false (i + 1 == 0) _ _ (ne_eqb (i + 1) 0 (λ e. omega arith)) in (
+            dart p (i + 1) j west,
+            record {
+              is_dart = record { patch_low = h.is_edge.0; i_low = h.is_edge.2; j_low = h.is_edge.3 };
+              edge = ap (λ (k : Course). k.edge) c ∙ sym (ap (λ (k : Course). k.edge) h.course);
+              turned = ap (λ (k : Course). k.ahead) c ∙ sym (ap (λ (k : Course). not k.ahead) h.course);
+            },
+          )
       by_way p i j north h =
           let c : course_of l x (dart p i (j + 1) south) ≡ inner_course p i (j + 1) south =
-              cond-false (j + 1 == 0) _ _ (ne_eqb (j + 1) 0 (λ e. omega arith)) in
-          (dart p i (j + 1) south, record {
-            is_dart = record { patch_low = h.is_edge.0; i_low = h.is_edge.1; j_low = h.is_edge.3 };
-            edge = ap (λ (k : Course). k.edge) c ∙ sym (ap (λ (k : Course). k.edge) h.course);
-            turned = ap (λ (k : Course). k.ahead) c ∙ sym (ap (λ (k : Course). not k.ahead) h.course);
-          })
+          cond-false (j + 1 == 0) _ _ (ne_eqb (j + 1) 0 (λ e. omega arith)) in (
+            dart p i (j + 1) south,
+            record {
+              is_dart = record { patch_low = h.is_edge.0; i_low = h.is_edge.1; j_low = h.is_edge.3 };
+              edge = ap (λ (k : Course). k.edge) c ∙ sym (ap (λ (k : Course). k.edge) h.course);
+              turned = ap (λ (k : Course). k.ahead) c ∙ sym (ap (λ (k : Course). not k.ahead) h.course);
+            },
+          )
       by_way p i j west h =
           let c : course_of l x (dart p (i - 1) j east) ≡ inner_course p (i - 1) j east =
-              cond-false (i - 1 + 1 == wide l x p) _ _ (ne_eqb (i - 1 + 1) (wide l x p) (λ e. omega (arith, h.is_edge.1, h.is_edge.2))) in
-          let same : i - 1 + 1 ≡ i = omega (arith, h.is_edge.1) in
-          (dart p (i - 1) j east, record {
-            is_dart = record { patch_low = h.is_edge.0; i_low = omega (arith, h.is_edge.2); j_low = h.is_edge.3 };
-            edge = ap (λ (k : Course). k.edge) c ∙ ap (λ (n : ℕ). steep p n j) same ∙ sym (ap (λ (k : Course). k.edge) h.course);
-            turned = ap (λ (k : Course). k.ahead) c ∙ sym (ap (λ (k : Course). not k.ahead) h.course);
-          })
+          cond-false (i - 1 + 1 == wide l x p) _ _ (ne_eqb (i - 1 + 1) (wide l x p) (λ e. omega (arith, h.is_edge.1, h.is_edge.2))) in
+          let same : i - 1 + 1 ≡ i = omega (arith, h.is_edge.1) in (
+            dart p (i - 1) j east,
+            record {
+              is_dart = record { patch_low = h.is_edge.0; i_low = omega (arith, h.is_edge.2); j_low = h.is_edge.3 };
+              edge = ap (λ (k : Course). k.edge) c ∙ ap (λ (n : ℕ). steep p n j) same ∙ sym (ap (λ (k : Course). k.edge) h.course);
+              turned = ap (λ (k : Course). k.ahead) c ∙ sym (ap (λ (k : Course). not k.ahead) h.course);
+            },
+          )
 
   -- A dart on an arc that no slot uses the other way round.
   pub record IsAlone (d : Dart) (w : Slot) (o : ℕ) : Type 0 where
@@ -100,9 +108,11 @@ module _ (l : Layout) (x : Lengths) (laid : IsLaid l) (len : AreLengths l x) whe
   across_or_alone d is = elim (sees l x laid len d is) [
     | inl i ↦ inl (across_within d i)
     | inr b ↦ elim (laid.other b.0 b.2.is_slot) [
-      | inl v ↦ inl (rim_at l x v.0 (x (use_of l b.0).arc - 1 - b.1),
+      | inl v ↦ inl (
+        rim_at l x v.0 (x (use_of l b.0).arc - 1 - b.1),
         subst (λ (e : Dart). IsAcross l x laid len e (rim_at l x v.0 (x (use_of l b.0).arc - 1 - b.1))) (sym b.2.dart)
-          (across_border b.0 v.0 b.1 b.2.is_slot v.1 b.2.low))
+            (across_border b.0 v.0 b.1 b.2.is_slot v.1 b.2.low),
+      )
       | inr none ↦ inr (b.0, b.1, record { on_border = b.2; alone = none })
     ]
   ]
@@ -118,25 +128,29 @@ module _ (l : Layout) (x : Lengths) (laid : IsLaid l) (len : AreLengths l x) whe
       by_slot v k b =
           let there : course_of l x e ≡ use_course l x (use_of l v) k = border_is l x laid len e v k b in
           let same : on_arc (use_of l v).arc (cond (use_of l v).forward k (x (use_of l v).arc - 1 - k))
-              ≡ on_arc (use_of l w).arc (cond (use_of l w).forward o (x (use_of l w).arc - 1 - o)) =
-              ap (λ (c : Course). c.edge) (sym there) ∙ across.edge ∙ ap (λ (c : Course). c.edge) here in
+          ≡ on_arc (use_of l w).arc (cond (use_of l w).forward o (x (use_of l w).arc - 1 - o)) =
+          ap (λ (c : Course). c.edge) (sym there) ∙ across.edge ∙ ap (λ (c : Course). c.edge) here in
           let arcs : (use_of l v).arc ≡ (use_of l w).arc = cc in
-          alone.alone v (b.is_slot, record {
-            arc = arcs;
-            turned = ap (λ (c : Course). c.ahead) (sym there) ∙ across.turned ∙ ap (λ (c : Course). not c.ahead) here;
-          })
+          alone.alone v (
+            b.is_slot,
+            record {
+              arc = arcs;
+              turned = ap (λ (c : Course). c.ahead) (sym there) ∙ across.turned ∙ ap (λ (c : Course). not c.ahead) here;
+            },
+          )
 
       by_sight : IsWithin l x e ⊎ ((v : Slot) × (k : ℕ) × IsOnBorder l x e v k) → ⊥
       by_sight (inl i) =
           false≢true (sym (inner_no_arc l x laid len e.patch e.i e.j e.way) ∙ ap (λ (c : Course). is_arc c.edge) (sym i.course)
-              ∙ ap is_arc across.edge ∙ ap (λ (c : Course). is_arc c.edge) here)
+          ∙ ap is_arc across.edge ∙ ap (λ (c : Course). is_arc c.edge) here)
       by_sight (inr b) = by_slot b.0 b.1 b.2
 
   -- A dart across begins where the other one ends.
   pub across_ends : (d e : Dart) → IsDart l x d → IsAcross l x laid len d e → (from l x e ≡ to l x d) × (to l x e ≡ from l x d)
-  across_ends d e is a =
-      (course_from l x laid len e a.is_dart ∙ (λ t. start_at l x (course (a.edge t) (a.turned t))) ∙ starts (course_of l x d).ahead ∙ sym (course_to l x laid len d is),
-        course_to l x laid len e a.is_dart ∙ (λ t. end_at l x (course (a.edge t) (a.turned t))) ∙ ends (course_of l x d).ahead ∙ sym (course_from l x laid len d is))
+  across_ends d e is a = (
+    course_from l x laid len e a.is_dart ∙ (λ t. start_at l x (course (a.edge t) (a.turned t))) ∙ starts (course_of l x d).ahead ∙ sym (course_to l x laid len d is),
+    course_to l x laid len e a.is_dart ∙ (λ t. end_at l x (course (a.edge t) (a.turned t))) ∙ ends (course_of l x d).ahead ∙ sym (course_from l x laid len d is),
+  )
     where
       starts : (b : Bool) → start_at l x (course (course_of l x d).edge (not b)) ≡ end_at l x (course (course_of l x d).edge b)
       starts true = refl
@@ -149,10 +163,11 @@ module _ (l : Layout) (x : Lengths) (laid : IsLaid l) (len : AreLengths l x) whe
   -- The dart across is a twin.
   pub across_is_twin : (d e : Dart) → IsDart l x d → IsAcross l x laid len d e
       → IsTwin (new_faces l x) (dart_number l x d) (dart_number l x e)
-  across_is_twin d e is a =
-      (dart_low l x e a.is_dart,
-        number_from l x e a.is_dart ∙ ap (number l x) (across_ends d e is a).0 ∙ sym (number_to l x d is),
-        number_to l x e a.is_dart ∙ ap (number l x) (across_ends d e is a).1 ∙ sym (number_from l x d is))
+  across_is_twin d e is a = (
+    dart_low l x e a.is_dart,
+    number_from l x e a.is_dart ∙ ap (number l x) (across_ends d e is a).0 ∙ sym (number_to l x d is),
+    number_to l x e a.is_dart ∙ ap (number l x) (across_ends d e is a).1 ∙ sym (number_from l x d is),
+  )
 
   module _ (simple : IsSimple l x) where
     pub across_twin : (d e : Dart) → IsDart l x d → IsAcross l x laid len d e
@@ -168,15 +183,15 @@ module _ (l : Layout) (x : Lengths) (laid : IsLaid l) (len : AreLengths l x) whe
             → (e : Dart) × IsAcross l x laid len d e × (dart_number l x e ≡ n)
         by_dart e is_e e_is t =
             let starts : from l x e ≡ to l x d =
-                number_same l x (from l x e) (to l x d) (from_is l x laid len e is_e) (from_is l x laid len (next d) (next_is l x d is))
-                    (sym (number_from l x e is_e) ∙ ap (from_of (new_faces l x)) e_is ∙ t.1 ∙ number_to l x d is) in
+            number_same l x (from l x e) (to l x d) (from_is l x laid len e is_e) (from_is l x laid len (next d) (next_is l x d is))
+            (sym (number_from l x e is_e) ∙ ap (from_of (new_faces l x)) e_is ∙ t.1 ∙ number_to l x d is) in
             let ends : to l x e ≡ from l x d =
-                number_same l x (to l x e) (from l x d) (from_is l x laid len (next e) (next_is l x e is_e)) (from_is l x laid len d is)
-                    (sym (number_to l x e is_e) ∙ ap (to_of (new_faces l x)) e_is ∙ t.2 ∙ number_from l x d is) in
+            number_same l x (to l x e) (from l x d) (from_is l x laid len (next e) (next_is l x e is_e)) (from_is l x laid len d is)
+            (sym (number_to l x e is_e) ∙ ap (to_of (new_faces l x)) e_is ∙ t.2 ∙ number_from l x d is) in
             let r : ((course_of l x e).edge ≡ (course_of l x d).edge) × ((course_of l x e).ahead ≡ not (course_of l x d).ahead) =
-                reversed l x simple (course_of l x d) (course_of l x e) (course_is l x laid len d is) (course_is l x laid len e is_e)
-                    (sym (course_from l x laid len e is_e) ∙ starts ∙ course_to l x laid len d is)
-                    (sym (course_to l x laid len e is_e) ∙ ends ∙ course_from l x laid len d is) in
+            reversed l x simple (course_of l x d) (course_of l x e) (course_is l x laid len d is) (course_is l x laid len e is_e)
+            (sym (course_from l x laid len e is_e) ∙ starts ∙ course_to l x laid len d is)
+            (sym (course_to l x laid len e is_e) ∙ ends ∙ course_from l x laid len d is) in
             (e, record { is_dart = is_e; edge = r.0; turned = r.1 }, e_is)
 
         by_twin : IsTwin (new_faces l x) (dart_number l x d) n → (e : Dart) × IsAcross l x laid len d e × (dart_number l x e ≡ n)
@@ -190,5 +205,5 @@ module _ (l : Layout) (x : Lengths) (laid : IsLaid l) (len : AreLengths l x) whe
         by_twin : (n : ℕ) → ¬ IsTwin (new_faces l x) (dart_number l x d) n
         by_twin n t =
             let a : (e : Dart) × IsAcross l x laid len d e × (dart_number l x e ≡ n) =
-                twin_across d n is (twin_found (new_faces l x) (edges_once l x laid len simple) (dart_number l x d) n t) in
+            twin_across d n is (twin_found (new_faces l x) (edges_once l x laid len simple) (dart_number l x d) n t) in
             alone_not_across d a.0 w o alone a.1

@@ -2,15 +2,15 @@
 use Rattle.std.proofs.Common.{◌≡◌, ◌≢◌, ◌⊎◌, ℕ, zero, suc, ◌+◌, ◌-◌, ◌<◌, ◌≤◌, Bool, true, false, not, cond, refl, sym, ◌∙◌, ap, subst, inl, inr, arith}
 use Rattle.std.proofs.lemmas.Bool.{cases_eq}
 use Rattle.def_layout.specs.declared.tmesh.SideArc.{SideArc}
-use Rattle.def_layout.specs.Layouts.{Way, south, east, north, west, after, before, Layout, Slot, IsSlot, AreReverse, use_of, use_before, slot_before, start_of}
+use Rattle.def_layout.specs.Layouts.{Way, before, Layout, Slot, IsSlot, AreReverse, use_of, slot_before, start_of}
 use Rattle.def_layout.specs.Laid.{IsPaved, IsLaid, IsOther}
-use Rattle.def_layout.specs.Lengths.{Lengths, reach, size, wide, high, AreLengths}
-use Rattle.def_layout.specs.Cells.{Dart, IsDart, next, rim, rim_at}
-use Rattle.def_written.specs.Points.{Point, node, along, inside, IsPoint, arc_point, use_point, use_over, offset_at, side_point, point}
-use Rattle.def_written.specs.NewFaces.{column, row, from, to}
-use Rattle.written_laws.proofs.Sides.{slot, use_begins, use_inner, IsOn, place_on, side_in, side_upto, reach_low, use_some, last_reach, size_some}
+use Rattle.def_layout.specs.Lengths.{Lengths, reach, size, AreLengths}
+use Rattle.def_layout.specs.Cells.{Dart, IsDart, rim_at}
+use Rattle.def_written.specs.Points.{node, along, inside, IsPoint, arc_point, use_point, use_over, offset_at, side_point, point}
+use Rattle.def_written.specs.NewFaces.{from, to}
+use Rattle.written_laws.proofs.Sides.{slot, use_begins, use_inner, IsOn, place_on, side_in, side_upto, reach_low}
 use Rattle.written_laws.proofs.Grid.{point_inside}
-use Rattle.written_laws.proofs.Rims.{column_of, row_of, side_column, side_row, border_point, rim_is, rim_column, rim_row, rim_from, rim_to, rim_patch, IsInner, IsBorder, dart_on_rim}
+use Rattle.written_laws.proofs.Rims.{column_of, row_of, side_column, side_row, border_point, rim_is, rim_from, rim_to, IsInner, IsBorder, dart_on_rim}
 
 module _ (l : Layout) (x : Lengths) where
   -- The points of an arc that is used the other way round.
@@ -29,11 +29,11 @@ module _ (l : Layout) (x : Lengths) where
   pub use_not_inside : (u : SideArc) (o p i j : ℕ) → o < x u.arc → use_point l x u o ≢ inside p i j
   use_not_inside u o p i j less e = elim (cases_eq o 0) [
     | inl z ↦
-      let b : use_point l x u o ≡ node (start_of l u) = ap (use_point l x u) z ∙ use_begins l x u (omega arith) in
-      absurd cc
+        let b : use_point l x u o ≡ node (start_of l u) = ap (use_point l x u) z ∙ use_begins l x u (omega arith) in
+        absurd cc
     | inr some ↦
-      let b : use_point l x u o ≡ along u.arc (cond u.forward o (x u.arc - o)) = use_inner l x u o (omega arith) less in
-      absurd cc
+        let b : use_point l x u o ≡ along u.arc (cond u.forward o (x u.arc - o)) = use_inner l x u o (omega arith) less in
+        absurd cc
   ]
 
   module _ (paved : IsPaved l) (len : AreLengths l x) where
@@ -65,9 +65,9 @@ module _ (l : Layout) (x : Lengths) where
     pub use_is_point : (w : Slot) (o : ℕ) → IsSlot l w → o < x (use_of l w).arc → IsPoint l x (use_point l x (use_of l w) o)
     use_is_point w o is less = elim (cases_eq o 0) [
       | inl z ↦ subst (IsPoint l x) (sym (ap (use_point l x (use_of l w)) z ∙ use_begins l x (use_of l w) (omega arith)))
-        (start_low (use_of l w) (laid.paved.arc_low w is))
+          (start_low (use_of l w) (laid.paved.arc_low w is))
       | inr some ↦ subst (IsPoint l x) (sym (use_inner l x (use_of l w) o (omega arith) less))
-        (by_way (use_of l w).arc (use_of l w).forward (laid.paved.arc_low w is) (omega arith) less)
+          (by_way (use_of l w).arc (use_of l w).forward (laid.paved.arc_low w is) (omega arith) less)
     ]
       where
         by_way : (a : ℕ) (b : Bool) → a < l.arcs → 0 < o → o < x a → IsPoint l x (along a (cond b o (x a - o)))
@@ -123,18 +123,21 @@ module _ (l : Layout) (x : Lengths) where
         on_border : (s : Way) (t : ℕ) → IsBorder l x laid.paved len d.patch (column_of d) (row_of d) s t → (w : Slot) × (o : ℕ) × IsAt d w o
         on_border s t b =
             let on : IsOn l x d.patch s t (use_over l x d.patch s t) (offset_at l x d.patch s t) =
-                place_on l x d.patch s t is.patch_low b.low in
-            let w : Slot = slot d.patch s (use_over l x d.patch s t) in
-            (w, offset_at l x d.patch s t, record {
-              is_slot = on.is_slot;
-              low = on.inside;
-              patch = refl;
-              column = b.column ∙ ap (side_column l x d.patch s) on.place;
-              row = b.row ∙ ap (side_row l x d.patch s) on.place;
-              leaves = (λ k. point l x d.patch (b.column k) (b.row k))
-                  ∙ border_point l x laid len d.patch s t is.patch_low (omega (arith, b.low))
-                  ∙ ap (side_point l x d.patch s) on.place ∙ side_in l x w (offset_at l x d.patch s t) on.is_slot on.inside;
-            })
+            place_on l x d.patch s t is.patch_low b.low in
+            let w : Slot = slot d.patch s (use_over l x d.patch s t) in (
+              w,
+              offset_at l x d.patch s t,
+              record {
+                is_slot = on.is_slot;
+                low = on.inside;
+                patch = refl;
+                column = b.column ∙ ap (side_column l x d.patch s) on.place;
+                row = b.row ∙ ap (side_row l x d.patch s) on.place;
+                leaves = (λ k. point l x d.patch (b.column k) (b.row k))
+                    ∙ border_point l x laid len d.patch s t is.patch_low (omega (arith, b.low))
+                    ∙ ap (side_point l x d.patch s) on.place ∙ side_in l x w (offset_at l x d.patch s t) on.is_slot on.inside;
+              },
+            )
 
     pub inner_from : (d : Dart) → IsInner l x laid.paved len d.patch (column_of d) (row_of d)
         → from l x d ≡ inside d.patch (column_of d) (row_of d)

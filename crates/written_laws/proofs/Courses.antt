@@ -1,17 +1,17 @@
 -- Each dart of a new cell runs along one edge, in its direction or against it, and no other dart does.
-use Rattle.std.proofs.Common.{◌≡◌, ◌≢◌, ◌⊎◌, ℕ, ◌+◌, ◌-◌, ◌<◌, ◌≤◌, Bool, true, false, not, cond, refl, sym, ◌∙◌, ap, subst, inl, inr, arith}
+use Rattle.std.proofs.Common.{◌≡◌, ◌⊎◌, ℕ, ◌+◌, ◌-◌, ◌<◌, Bool, true, false, not, cond, refl, sym, ◌∙◌, ap, subst, inl, inr, arith}
 use Rattle.std.specs.Prelude.{◌==◌}
 use Rattle.std.proofs.lemmas.Bool.{cases_eq, cond-true, cond-false, eq-eqb, ne_eqb, false≢true}
 use Rattle.def_layout.specs.declared.tmesh.SideArc.{SideArc}
-use Rattle.def_layout.specs.Layouts.{Way, south, east, north, west, after, before, Layout, Slot, IsSlot, AreReverse, use_of}
-use Rattle.def_layout.specs.Laid.{IsLaid, IsOther}
+use Rattle.def_layout.specs.Layouts.{Way, south, east, north, west, Layout, Slot, IsSlot, use_of}
+use Rattle.def_layout.specs.Laid.{IsLaid}
 use Rattle.def_layout.specs.Lengths.{Lengths, reach, size, wide, high, AreLengths}
-use Rattle.def_layout.specs.Cells.{Dart, IsDart, dart, next, prev, rim, rim_at}
-use Rattle.def_written.specs.Points.{Point, arc_point, use_point, use_over, offset_at, point}
+use Rattle.def_layout.specs.Cells.{Dart, IsDart, dart, rim, rim_at}
+use Rattle.def_written.specs.Points.{Point, arc_point, use_point, use_over, offset_at}
 use Rattle.def_written.specs.NewFaces.{from, to}
 use Rattle.def_written.specs.Edges.{Edge, on_arc, flat, steep, IsEdge, low, top}
 use Rattle.written_laws.proofs.Sides.{slot, IsOn, place_on, over_is, size_some}
-use Rattle.written_laws.proofs.Borders.{at_low, at_from, at_to, other_long}
+use Rattle.written_laws.proofs.Borders.{at_low, at_from, at_to}
 
 -- An edge, run along in its direction or against it.
 pub record Course : Type 0 where
@@ -86,9 +86,11 @@ module _ (l : Layout) (x : Lengths) where
     on_border : (d : Dart) (p : ℕ) (s : Way) (t : ℕ) → p < l.patches → t < size l x p s → d ≡ rim l x p s t
         → (w : Slot) × (o : ℕ) × IsOnBorder d w o
     on_border d p s t p_low less is =
-        let on : IsOn l x p s t (use_over l x p s t) (offset_at l x p s t) = place_on l x p s t p_low less in
-        (slot p s (use_over l x p s t), offset_at l x p s t,
-            record { is_slot = on.is_slot; low = on.inside; dart = is ∙ ap (rim l x p s) on.place })
+        let on : IsOn l x p s t (use_over l x p s t) (offset_at l x p s t) = place_on l x p s t p_low less in (
+          slot p s (use_over l x p s t),
+          offset_at l x p s t,
+          record { is_slot = on.is_slot; low = on.inside; dart = is ∙ ap (rim l x p s) on.place },
+        )
 
     pub sees : (d : Dart) → IsDart l x d → IsWithin d ⊎ ((w : Slot) × (o : ℕ) × IsOnBorder d w o)
     sees d is = by_way d.patch d.i d.j d.way is
@@ -103,7 +105,7 @@ module _ (l : Layout) (x : Lengths) where
         ]
         by_way p i j east d = elim (cases_eq (i + 1) (wide l x p)) [
           | inl z ↦ let e : i ≡ wide l x p - 1 = omega arith in
-            inr (on_border (dart p i j east) p east j d.patch_low (omega (arith, len.upright p d.patch_low, d.j_low)) (λ t. dart p (e t) j east))
+              inr (on_border (dart p i j east) p east j d.patch_low (omega (arith, len.upright p d.patch_low, d.j_low)) (λ t. dart p (e t) j east))
           | inr some ↦ inl (record {
             course = cond-false (i + 1 == wide l x p) _ _ (ne_eqb (i + 1) (wide l x p) some);
             is_edge = (d.patch_low, omega arith, omega (arith, d.i_low), d.j_low);
@@ -111,8 +113,8 @@ module _ (l : Layout) (x : Lengths) where
         ]
         by_way p i j north d = elim (cases_eq (j + 1) (high l x p)) [
           | inl z ↦ let e : i ≡ wide l x p - 1 - (wide l x p - 1 - i) = omega (arith, d.i_low) in
-            let f : j ≡ high l x p - 1 = omega arith in
-            inr (on_border (dart p i j north) p north (wide l x p - 1 - i) d.patch_low (omega (arith, len.across p d.patch_low, d.i_low)) (λ t. dart p (e t) (f t) north))
+              let f : j ≡ high l x p - 1 = omega arith in
+              inr (on_border (dart p i j north) p north (wide l x p - 1 - i) d.patch_low (omega (arith, len.across p d.patch_low, d.i_low)) (λ t. dart p (e t) (f t) north))
           | inr some ↦ inl (record {
             course = cond-false (j + 1 == high l x p) _ _ (ne_eqb (j + 1) (high l x p) some);
             is_edge = (d.patch_low, d.i_low, omega arith, omega (arith, d.j_low));
@@ -120,7 +122,7 @@ module _ (l : Layout) (x : Lengths) where
         ]
         by_way p i j west d = elim (cases_eq i 0) [
           | inl z ↦ let f : j ≡ high l x p - 1 - (high l x p - 1 - j) = omega (arith, d.j_low) in
-            inr (on_border (dart p i j west) p west (high l x p - 1 - j) d.patch_low (omega (arith, d.j_low)) (λ t. dart p (z t) (f t) west))
+              inr (on_border (dart p i j west) p west (high l x p - 1 - j) d.patch_low (omega (arith, d.j_low)) (λ t. dart p (z t) (f t) west))
           | inr some ↦ inl (record {
             course = cond-false (i == 0) _ _ (ne_eqb i 0 some);
             is_edge = (d.patch_low, omega arith, d.i_low, d.j_low);
@@ -200,14 +202,14 @@ module _ (l : Layout) (x : Lengths) where
     course_from d is = elim (sees d is) [
       | inl i ↦ inner_from d.patch d.i d.j d.way ∙ ap start_at (sym i.course)
       | inr b ↦ ap (from l x) b.2.dart ∙ at_from l x laid len b.0 b.1 b.2.is_slot b.2.low
-        ∙ use_from (use_of l b.0) b.1 b.2.low ∙ ap start_at (sym (border_is d b.0 b.1 b.2))
+          ∙ use_from (use_of l b.0) b.1 b.2.low ∙ ap start_at (sym (border_is d b.0 b.1 b.2))
     ]
 
     pub course_to : (d : Dart) → IsDart l x d → to l x d ≡ end_at (course_of d)
     course_to d is = elim (sees d is) [
       | inl i ↦ inner_to d.patch d.i d.j d.way ∙ ap end_at (sym i.course)
       | inr b ↦ ap (to l x) b.2.dart ∙ at_to l x laid len b.0 b.1 b.2.is_slot b.2.low
-        ∙ use_to (use_of l b.0) b.1 b.2.low ∙ ap end_at (sym (border_is d b.0 b.1 b.2))
+          ∙ use_to (use_of l b.0) b.1 b.2.low ∙ ap end_at (sym (border_is d b.0 b.1 b.2))
     ]
 
     -- Darts with one course are one.
@@ -257,14 +259,14 @@ module _ (l : Layout) (x : Lengths) where
       | inl i ↦ elim (sees e is_e) [
         | inl j ↦ sym (inner_back d.patch d.i d.j d.way) ∙ ap inner_dart (sym i.course ∙ same ∙ j.course) ∙ inner_back e.patch e.i e.j e.way
         | inr b ↦ absurd (false≢true (sym (inner_no_arc d.patch d.i d.j d.way)
-          ∙ ap (λ (c : Course). is_arc c.edge) (sym i.course ∙ same ∙ border_is e b.0 b.1 b.2)))
+            ∙ ap (λ (c : Course). is_arc c.edge) (sym i.course ∙ same ∙ border_is e b.0 b.1 b.2)))
       ]
       | inr a ↦ elim (sees e is_e) [
         | inl j ↦ absurd (false≢true (sym (inner_no_arc e.patch e.i e.j e.way)
-          ∙ ap (λ (c : Course). is_arc c.edge) (sym j.course ∙ sym same ∙ border_is d a.0 a.1 a.2)))
+            ∙ ap (λ (c : Course). is_arc c.edge) (sym j.course ∙ sym same ∙ border_is d a.0 a.1 a.2)))
         | inr b ↦ a.2.dart
-          ∙ use_once a.0 b.0 a.1 b.1 a.2.is_slot b.2.is_slot a.2.low b.2.low (sym (border_is d a.0 a.1 a.2) ∙ same ∙ border_is e b.0 b.1 b.2)
-          ∙ sym b.2.dart
+            ∙ use_once a.0 b.0 a.1 b.1 a.2.is_slot b.2.is_slot a.2.low b.2.low (sym (border_is d a.0 a.1 a.2) ∙ same ∙ border_is e b.0 b.1 b.2)
+            ∙ sym b.2.dart
       ]
     ]
 

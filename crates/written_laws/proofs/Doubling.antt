@@ -1,10 +1,10 @@
 -- Multiples of lengths that double no edge double none, and no lengths of at least 3 do.
-use Rattle.std.proofs.Common.{◌≡◌, ◌≢◌, ◌⊎◌, ℕ, zero, suc, ◌+◌, ◌-◌, ◌*◌, ◌/◌, ◌%◌, ◌<◌, ◌≤◌, Bool, true, false, not, cond, refl, sym, ◌∙◌, ap, subst, inl, inr, arith}
+use Rattle.std.proofs.Common.{◌≡◌, ◌≢◌, ℕ, zero, suc, ◌+◌, ◌-◌, ◌*◌, ◌/◌, ◌%◌, ◌<◌, ◌≤◌, Bool, true, false, not, cond, refl, sym, ◌∙◌, ap, subst, inl, inr, arith}
 use Rattle.std.specs.Prelude.{◌==◌}
 use Rattle.std.proofs.Math.Nat.{mul-le-mul_left}
 use Rattle.std.proofs.lemmas.Bool.{cases_eq, cond-true, cond-false, eq-eqb, ne_eqb}
 use Rattle.def_layout.specs.declared.tmesh.SideArc.{SideArc}
-use Rattle.def_layout.specs.Layouts.{Way, south, east, north, west, Layout, Slot, IsSlot, use_of}
+use Rattle.def_layout.specs.Layouts.{Way, south, east, north, west, Layout, IsSlot}
 use Rattle.def_layout.specs.Laid.{IsLaid}
 use Rattle.def_layout.specs.Lengths.{Lengths, reach, size, wide, high, AreLengths}
 use Rattle.def_layout.specs.Cells.{Dart, IsDart, dart}
@@ -14,7 +14,7 @@ use Rattle.def_written.specs.Edges.{Edge, on_arc, flat, steep}
 use Rattle.qm_laws.proofs.Counts.{count_below_times}
 use Rattle.written_laws.proofs.Sides.{slot, IsOn, arc_last, use_inner, side_in, place_on, first_slot, reach_low}
 use Rattle.written_laws.proofs.Grid.{point_north, point_west, point_east}
-use Rattle.written_laws.proofs.Courses.{Course, course_of, border_course, IsAcross, course_once}
+use Rattle.written_laws.proofs.Courses.{Course, course_of, border_course, course_once}
 use Rattle.written_laws.proofs.Simple.{IsSimple}
 use Rattle.written_laws.proofs.Manifold.{ends_differ}
 use Rattle.written_laws.proofs.Across.{across_ends}
@@ -67,15 +67,15 @@ module _ (l : Layout) (y : Lengths) where
   arc_double : (a k : ℕ) → arc_point l (scale 2 y) a (2 * k) ≡ double (arc_point l y a k)
   arc_double a k = elim (cases_eq k 0) [
     | inl e ↦ cond-true (2 * k == 0) _ _ (eq-eqb (2 * k) 0 (omega arith))
-      ∙ ap double (sym (cond-true (k == 0) (node (l.first a)) (cond (k == y a) (node (l.last a)) (along a k)) (eq-eqb k 0 e)))
+        ∙ ap double (sym (cond-true (k == 0) (node (l.first a)) (cond (k == y a) (node (l.last a)) (along a k)) (eq-eqb k 0 e)))
     | inr some ↦ cond-false (2 * k == 0) _ _ (ne_eqb (2 * k) 0 (λ z. some (omega arith)))
-      ∙ elim (cases_eq k (y a)) [
-        | inl e ↦ cond-true (2 * k == 2 * y a) _ _ (eq-eqb (2 * k) (2 * y a) (ap (λ n. 2 * n) e))
-          ∙ ap double (sym (cond-true (k == y a) (node (l.last a)) (along a k) (eq-eqb k (y a) e)))
-        | inr less ↦ cond-false (2 * k == 2 * y a) _ _ (ne_eqb (2 * k) (2 * y a) (λ z. less (omega (arith, z))))
-          ∙ ap double (sym (cond-false (k == y a) (node (l.last a)) (along a k) (ne_eqb k (y a) less)))
-      ]
-      ∙ ap double (sym (cond-false (k == 0) (node (l.first a)) (cond (k == y a) (node (l.last a)) (along a k)) (ne_eqb k 0 some)))
+        ∙ elim (cases_eq k (y a)) [
+          | inl e ↦ cond-true (2 * k == 2 * y a) _ _ (eq-eqb (2 * k) (2 * y a) (ap (λ n. 2 * n) e))
+              ∙ ap double (sym (cond-true (k == y a) (node (l.last a)) (along a k) (eq-eqb k (y a) e)))
+          | inr less ↦ cond-false (2 * k == 2 * y a) _ _ (ne_eqb (2 * k) (2 * y a) (λ z. less (omega (arith, z))))
+              ∙ ap double (sym (cond-false (k == y a) (node (l.last a)) (along a k) (ne_eqb k (y a) less)))
+        ]
+        ∙ ap double (sym (cond-false (k == 0) (node (l.first a)) (cond (k == y a) (node (l.last a)) (along a k)) (ne_eqb k 0 some)))
   ]
 
   use_double : (u : SideArc) (o : ℕ) → o ≤ y u.arc → use_point l (scale 2 y) u (2 * o) ≡ double (use_point l y u o)
@@ -93,7 +93,7 @@ module _ (l : Layout) (y : Lengths) where
   side_double p s t low less =
       let on : IsOn l y p s t (use_over l y p s t) (offset_at l y p s t) = place_on l y p s t low less in
       let e : 2 * t ≡ reach l (scale 2 y) p s (use_over l y p s t) + 2 * offset_at l y p s t =
-          omega (arith, on.place, reach_scale 2 p s (use_over l y p s t)) in
+      omega (arith, on.place, reach_scale 2 p s (use_over l y p s t)) in
       ap (side_point l (scale 2 y) p s) e
       ∙ side_in l (scale 2 y) (slot p s (use_over l y p s t)) (2 * offset_at l y p s t) on.is_slot (omega (arith, on.inside))
       ∙ use_double (l.use_at p s (use_over l y p s t)) (offset_at l y p s t) (omega (arith, on.inside))
@@ -103,7 +103,7 @@ module _ (l : Layout) (y : Lengths) where
   side_odd p s t low less =
       let on : IsOn l y p s t (use_over l y p s t) (offset_at l y p s t) = place_on l y p s t low less in
       let e : 2 * t + 1 ≡ reach l (scale 2 y) p s (use_over l y p s t) + (2 * offset_at l y p s t + 1) =
-          omega (arith, on.place, reach_scale 2 p s (use_over l y p s t)) in
+      omega (arith, on.place, reach_scale 2 p s (use_over l y p s t)) in
       ap (side_point l (scale 2 y) p s) e
       ∙ side_in l (scale 2 y) (slot p s (use_over l y p s t)) (2 * offset_at l y p s t + 1) on.is_slot (omega (arith, on.inside))
       ∙ use_inner l (scale 2 y) (l.use_at p s (use_over l y p s t)) (2 * offset_at l y p s t + 1) (omega arith) (omega (arith, on.inside))
@@ -164,29 +164,29 @@ module _ (l : Layout) (y : Lengths) where
             let half : j ≡ 2 * (j / 2) = omega arith in
             let rest : high l (scale 2 y) p - j ≡ 2 * (high l y p - j / 2) = omega (arith, rows) in
             let points : double (side_point l y p west (high l y p - j / 2)) ≡ double (side_point l y p east (j / 2)) =
-                sym (side_double p west (high l y p - j / 2) low (omega (arith, rows)))
-                ∙ ap (side_point l (scale 2 y) p west) (sym rest) ∙ sides ∙ ap (side_point l (scale 2 y) p east) half
-                ∙ side_double p east (j / 2) low (omega (arith, rows, len.upright p low)) in
+            sym (side_double p west (high l y p - j / 2) low (omega (arith, rows)))
+            ∙ ap (side_point l (scale 2 y) p west) (sym rest) ∙ sides ∙ ap (side_point l (scale 2 y) p east) half
+            ∙ side_double p east (j / 2) low (omega (arith, rows, len.upright p low)) in
             simple.no_loop (flat p 0 (j / 2)) (low, omega (arith, one), omega (arith, rows), omega (arith, rows))
-                (point_west l y laid len p (j / 2) low (omega (arith, rows))
-                    ∙ double_same (side_point l y p west (high l y p - j / 2)) (side_point l y p east (j / 2)) points
-                    ∙ sym (point_east l y laid len p 1 (j / 2) low (sym one) (omega (arith, rows))))
+            (point_west l y laid len p (j / 2) low (omega (arith, rows))
+            ∙ double_same (side_point l y p west (high l y p - j / 2)) (side_point l y p east (j / 2)) points
+            ∙ sym (point_east l y laid len p 1 (j / 2) low (sym one) (omega (arith, rows))))
 
         odd : j % 2 ≡ 1 → ⊥
         odd e =
             let half : j ≡ 2 * (j / 2) + 1 = omega arith in
             let rest : high l (scale 2 y) p - j ≡ 2 * (high l y p - 1 - j / 2) + 1 = omega (arith, rows) in
             let edges : (border_course l y p east (j / 2)).edge ≡ (border_course l y p west (high l y p - 1 - j / 2)).edge =
-                middle_same p p east west (j / 2) (high l y p - 1 - j / 2)
-                    (sym (side_odd p east (j / 2) low (omega (arith, rows, len.upright p low)))
-                        ∙ ap (side_point l (scale 2 y) p east) (sym half) ∙ sym sides ∙ ap (side_point l (scale 2 y) p west) rest
-                        ∙ side_odd p west (high l y p - 1 - j / 2) low (omega (arith, rows))) in
+            middle_same p p east west (j / 2) (high l y p - 1 - j / 2)
+            (sym (side_odd p east (j / 2) low (omega (arith, rows, len.upright p low)))
+            ∙ ap (side_point l (scale 2 y) p east) (sym half) ∙ sym sides ∙ ap (side_point l (scale 2 y) p west) rest
+            ∙ side_odd p west (high l y p - 1 - j / 2) low (omega (arith, rows))) in
             let is : (w : Way) → IsDart l y (dart p 0 (j / 2) w) =
-                λ w. record { patch_low = low; i_low = omega (arith, one); j_low = omega (arith, rows) } in
+            λ w. record { patch_low = low; i_low = omega (arith, one); j_low = omega (arith, rows) } in
             no_shared_edge (dart p 0 (j / 2) west) (dart p 0 (j / 2) east) (is west) (is east)
-                (λ s. let w : west ≡ east = ap (λ (d : Dart). d.way) s in cc)
-                (λ s. ends_differ l y laid len simple (dart p 0 (j / 2) south) (is south) (sym s))
-                (ap (λ (c : Course). c.edge) (cond-true (1 == wide l y p) (border_course l y p east (j / 2)) _ (eq-eqb 1 (wide l y p) (sym one))) ∙ edges)
+            (λ s. let w : west ≡ east = ap (λ (d : Dart). d.way) s in cc)
+            (λ s. ends_differ l y laid len simple (dart p 0 (j / 2) south) (is south) (sym s))
+            (ap (λ (c : Course). c.edge) (cond-true (1 == wide l y p) (border_course l y p east (j / 2)) _ (eq-eqb 1 (wide l y p) (sym one))) ∙ edges)
 
     upright_open : (p i : ℕ) → p < l.patches → high l (scale 2 y) p ≡ 2 → 0 < i → i < wide l (scale 2 y) p
         → point l (scale 2 y) p i 0 ≢ point l (scale 2 y) p i 2
@@ -206,28 +206,28 @@ module _ (l : Layout) (y : Lengths) where
             let half : i ≡ 2 * (i / 2) = omega arith in
             let rest : wide l (scale 2 y) p - i ≡ 2 * (wide l y p - i / 2) = omega (arith, columns) in
             let points : double (side_point l y p south (i / 2)) ≡ double (side_point l y p north (wide l y p - i / 2)) =
-                sym (side_double p south (i / 2) low (omega (arith, columns)))
-                ∙ ap (side_point l (scale 2 y) p south) (sym half) ∙ sides ∙ ap (side_point l (scale 2 y) p north) rest
-                ∙ side_double p north (wide l y p - i / 2) low (omega (arith, columns, len.across p low)) in
+            sym (side_double p south (i / 2) low (omega (arith, columns)))
+            ∙ ap (side_point l (scale 2 y) p south) (sym half) ∙ sides ∙ ap (side_point l (scale 2 y) p north) rest
+            ∙ side_double p north (wide l y p - i / 2) low (omega (arith, columns, len.across p low)) in
             simple.no_loop (steep p (i / 2) 0) (low, omega (arith, columns), omega (arith, columns), omega (arith, one))
-                (double_same (side_point l y p south (i / 2)) (side_point l y p north (wide l y p - i / 2)) points
-                    ∙ sym (point_north l y laid len p (i / 2) 1 low (sym one)))
+            (double_same (side_point l y p south (i / 2)) (side_point l y p north (wide l y p - i / 2)) points
+            ∙ sym (point_north l y laid len p (i / 2) 1 low (sym one)))
 
         odd : i % 2 ≡ 1 → ⊥
         odd e =
             let half : i ≡ 2 * (i / 2) + 1 = omega arith in
             let rest : wide l (scale 2 y) p - i ≡ 2 * (wide l y p - 1 - i / 2) + 1 = omega (arith, columns) in
             let edges : (border_course l y p north (wide l y p - 1 - i / 2)).edge ≡ (border_course l y p south (i / 2)).edge =
-                middle_same p p north south (wide l y p - 1 - i / 2) (i / 2)
-                    (sym (side_odd p north (wide l y p - 1 - i / 2) low (omega (arith, columns, len.across p low)))
-                        ∙ ap (side_point l (scale 2 y) p north) (sym rest) ∙ sym sides ∙ ap (side_point l (scale 2 y) p south) half
-                        ∙ side_odd p south (i / 2) low (omega (arith, columns))) in
+            middle_same p p north south (wide l y p - 1 - i / 2) (i / 2)
+            (sym (side_odd p north (wide l y p - 1 - i / 2) low (omega (arith, columns, len.across p low)))
+            ∙ ap (side_point l (scale 2 y) p north) (sym rest) ∙ sym sides ∙ ap (side_point l (scale 2 y) p south) half
+            ∙ side_odd p south (i / 2) low (omega (arith, columns))) in
             let is : (w : Way) → IsDart l y (dart p (i / 2) 0 w) =
-                λ w. record { patch_low = low; i_low = omega (arith, columns); j_low = omega (arith, one) } in
+            λ w. record { patch_low = low; i_low = omega (arith, columns); j_low = omega (arith, one) } in
             no_shared_edge (dart p (i / 2) 0 south) (dart p (i / 2) 0 north) (is south) (is north)
-                (λ s. let w : south ≡ north = ap (λ (d : Dart). d.way) s in cc)
-                (λ s. ends_differ l y laid len simple (dart p (i / 2) 0 east) (is east) (sym s))
-                (ap (λ (c : Course). c.edge) (cond-true (1 == high l y p) (border_course l y p north (wide l y p - 1 - i / 2)) _ (eq-eqb 1 (high l y p) (sym one))) ∙ edges)
+            (λ s. let w : south ≡ north = ap (λ (d : Dart). d.way) s in cc)
+            (λ s. ends_differ l y laid len simple (dart p (i / 2) 0 east) (is east) (sym s))
+            (ap (λ (c : Course). c.edge) (cond-true (1 == high l y p) (border_course l y p north (wide l y p - 1 - i / 2)) _ (eq-eqb 1 (high l y p) (sym one))) ∙ edges)
 
     twice_open : IsOpen l (scale 2 y)
     twice_open = record {
@@ -265,4 +265,4 @@ simple_multiple l y laid len simple (suc zero) some =
 simple_multiple l y laid len simple (suc (suc zero)) some = simple_twice l y laid len simple
 simple_multiple l y laid len simple (suc (suc (suc k))) some =
     simple_three l (scale (suc (suc (suc k))) y) laid (lengths_scale l y (suc (suc (suc k))) some len)
-        (λ a low. let one : 1 ≤ y a = len.some a low in omega (arith, mul-le-mul_left (suc (suc (suc k))) one))
+    (λ a low. let one : 1 ≤ y a = len.some a low in omega (arith, mul-le-mul_left (suc (suc (suc k))) one))

@@ -1,5 +1,5 @@
 -- Each edge of the new mesh belongs to a dart.
-use Rattle.std.proofs.Common.{◌≡◌, ℕ, ◌+◌, ◌-◌, ◌<◌, Bool, true, false, cond, refl, sym, ◌∙◌, ap, subst, arith}
+use Rattle.std.proofs.Common.{◌≡◌, ◌<◌, Bool, true, false, ◌∙◌, ap, subst, arith}
 use Rattle.std.specs.Prelude.{◌==◌}
 use Rattle.std.proofs.lemmas.Bool.{cond-false, ne_eqb}
 use Rattle.def_layout.specs.declared.tmesh.SideArc.{SideArc}
@@ -7,8 +7,7 @@ use Rattle.def_layout.specs.Layouts.{south, west, Layout, Slot, IsSlot, use_of}
 use Rattle.def_layout.specs.Laid.{IsLaid}
 use Rattle.def_layout.specs.Lengths.{Lengths, AreLengths}
 use Rattle.def_layout.specs.Cells.{Dart, IsDart, dart, next, rim_at}
-use Rattle.def_written.specs.Points.{Point, IsPoint}
-use Rattle.def_written.specs.NewFaces.{from, to}
+use Rattle.def_written.specs.Points.{IsPoint}
 use Rattle.def_written.specs.Edges.{Edge, on_arc, flat, steep, IsEdge, low, top}
 use Rattle.written_laws.proofs.Borders.{at_is, from_is}
 use Rattle.written_laws.proofs.NewDarts.{next_is}
@@ -22,16 +21,22 @@ module _ (l : Layout) (x : Lengths) (laid : IsLaid l) (len : AreLengths l x) whe
           → (d : Dart) × IsDart l x d × ((course_of l x d).edge ≡ on_arc a k)
       by_slot f =
           let long : x (use_of l f.0).arc ≡ x a = ap (λ (u : SideArc). x u.arc) f.2 in
-          let less : k < x (use_of l f.0).arc = omega (arith, is.1) in
-          (rim_at l x f.0 k, at_is l x laid.paved len f.0 k f.1 less,
-              ap (λ (c : Course). c.edge) (at_course l x laid len f.0 k f.1 less)
-              ∙ ap (λ (u : SideArc). (use_course l x u k).edge) f.2)
-  edge_dart (flat p i j) is =
-      (dart p i j south, record { patch_low = is.0; i_low = is.1; j_low = is.3 },
-          ap (λ (c : Course). c.edge) (cond-false (j == 0) _ _ (ne_eqb j 0 (λ e. omega (arith, is.2)))))
-  edge_dart (steep p i j) is =
-      (dart p i j west, record { patch_low = is.0; i_low = is.2; j_low = is.3 },
-          ap (λ (c : Course). c.edge) (cond-false (i == 0) _ _ (ne_eqb i 0 (λ e. omega (arith, is.1)))))
+          let less : k < x (use_of l f.0).arc = omega (arith, is.1) in (
+            rim_at l x f.0 k,
+            at_is l x laid.paved len f.0 k f.1 less,
+            ap (λ (c : Course). c.edge) (at_course l x laid len f.0 k f.1 less)
+                ∙ ap (λ (u : SideArc). (use_course l x u k).edge) f.2,
+          )
+  edge_dart (flat p i j) is = (
+    dart p i j south,
+    record { patch_low = is.0; i_low = is.1; j_low = is.3 },
+    ap (λ (c : Course). c.edge) (cond-false (j == 0) _ _ (ne_eqb j 0 (λ e. omega (arith, is.2)))),
+  )
+  edge_dart (steep p i j) is = (
+    dart p i j west,
+    record { patch_low = is.0; i_low = is.2; j_low = is.3 },
+    ap (λ (c : Course). c.edge) (cond-false (i == 0) _ _ (ne_eqb i 0 (λ e. omega (arith, is.1)))),
+  )
 
   -- The ends of an edge are points.
   pub edge_points : (e : Edge) → IsEdge l x e → IsPoint l x (low l x e) × IsPoint l x (top l x e)

@@ -1,17 +1,16 @@
 -- Points are the classes of corners under turns: what holds for turns holds for all darts that leave one point.
-use Rattle.std.proofs.Common.{◌≡◌, ◌≢◌, ◌⊎◌, ℕ, zero, suc, ◌+◌, ◌-◌, ◌<◌, ◌≤◌, Bool, true, false, not, cond, refl, sym, ◌∙◌, ap, subst, inl, inr, arith}
+use Rattle.std.proofs.Common.{◌≡◌, ◌⊎◌, ℕ, zero, suc, ◌+◌, ◌-◌, ◌<◌, ◌≤◌, Bool, true, false, not, cond, refl, sym, ◌∙◌, ap, subst, inl, inr, arith}
 use Rattle.std.proofs.lemmas.Bool.{cases_eq}
-use Rattle.def_layout.specs.declared.tmesh.SideArc.{SideArc}
-use Rattle.def_layout.specs.Layouts.{Way, south, east, north, west, after, before, Layout, Slot, IsSlot, use_of, use_before, slot_before, start_of}
-use Rattle.def_layout.specs.Laid.{IsPaved, IsLaid, IsOther}
+use Rattle.def_layout.specs.Layouts.{Way, south, east, north, west, before, Layout, Slot, IsSlot, use_of, use_before, slot_before, start_of}
+use Rattle.def_layout.specs.Laid.{IsPaved, IsLaid}
 use Rattle.def_layout.specs.Fans.{IsTurn, Turns, HasFans}
-use Rattle.def_layout.specs.Lengths.{Lengths, reach, size, wide, high, AreLengths}
+use Rattle.def_layout.specs.Lengths.{Lengths, reach, size, AreLengths}
 use Rattle.def_layout.specs.Cells.{Dart, IsDart, next, rim, rim_at}
-use Rattle.def_written.specs.Points.{Point, node, along, inside, use_point}
+use Rattle.def_written.specs.Points.{node, along, inside, use_point}
 use Rattle.def_written.specs.NewFaces.{from}
 use Rattle.written_laws.proofs.Sides.{slot, use_begins, use_inner, reach_low, use_some, last_reach, size_some}
 use Rattle.written_laws.proofs.Turning.{IsTurning}
-use Rattle.written_laws.proofs.Rims.{column_of, row_of, rim_patch, rim_is, rim_column, rim_row, rim_on, rim_round, darts_related, IsInner}
+use Rattle.written_laws.proofs.Rims.{column_of, row_of, rim_patch, rim_column, rim_row, rim_on, rim_round, darts_related, IsInner}
 use Rattle.written_laws.proofs.Borders.{at_is, IsAt, sort_dart, inner_from, use_not_inside, before_is}
 
 module _ (l : Layout) (x : Lengths) (paved : IsPaved l) (len : AreLengths l x) (R : Dart → Dart → Type 0) (turning : IsTurning l x R) where
@@ -21,7 +20,7 @@ module _ (l : Layout) (x : Lengths) (paved : IsPaved l) (len : AreLengths l x) (
   pub rim_then : (p : ℕ) (s : Way) (t u : ℕ) → p < l.patches → u ≡ t + 1 → u < size l x p s → R (next (rim l x p s t)) (rim l x p s u)
   rim_then p s t u low e less =
       subst (λ (v : ℕ). R (next (rim l x p s t)) (rim l x p s v)) (sym e)
-          (rim_on l x paved len R turning p s t low (omega arith))
+      (rim_on l x paved len R turning p s t low (omega arith))
 
   -- The dart after the last one of an arc, and the first one of the next arc.
   pub before_related : (w : Slot) → IsSlot l w
@@ -37,22 +36,25 @@ module _ (l : Layout) (x : Lengths) (paved : IsPaved l) (len : AreLengths l x) (
 
       by_place : (m : ℕ) → m < l.many w.patch w.side
           → R (next (rim_at l x (slot_before l w.patch w.side m) (x (use_of l (slot_before l w.patch w.side m)).arc - 1)))
-              (rim_at l x (slot w.patch w.side m) 0)
+          (rim_at l x (slot w.patch w.side m) 0)
       by_place zero low =
           round w.side
-              (reach l x w.patch (before w.side) (l.many w.patch (before w.side) - 1)
-                  + (x (l.use_at w.patch (before w.side) (l.many w.patch (before w.side) - 1)).arc - 1))
-              (omega (arith, last_reach l x paved len w.patch (before w.side) is.patch_low,
-                  use_some l x paved len (slot_before l w.patch w.side zero) (before_is l x paved len (slot w.patch w.side zero) (record { patch_low = is.patch_low; low = low }))))
+          (reach l x w.patch (before w.side) (l.many w.patch (before w.side) - 1)
+          + (x (l.use_at w.patch (before w.side) (l.many w.patch (before w.side) - 1)).arc - 1))
+          (omega (
+            arith,
+            last_reach l x paved len w.patch (before w.side) is.patch_low,
+            use_some l x paved len (slot_before l w.patch w.side zero) (before_is l x paved len (slot w.patch w.side zero) (record { patch_low = is.patch_low; low = low })),
+          ))
       by_place (suc m) low =
           let some : 0 < x (l.use_at w.patch w.side m).arc =
-              use_some l x paved len (slot w.patch w.side m) (record { patch_low = is.patch_low; low = omega arith }) in
+          use_some l x paved len (slot w.patch w.side m) (record { patch_low = is.patch_low; low = omega arith }) in
           let next_low : reach l x w.patch w.side (suc m) + x (l.use_at w.patch w.side (suc m)).arc ≤ size l x w.patch w.side =
-              reach_low l x (slot w.patch w.side (suc m)) (record { patch_low = is.patch_low; low = low }) in
+          reach_low l x (slot w.patch w.side (suc m)) (record { patch_low = is.patch_low; low = low }) in
           let next_some : 0 < x (l.use_at w.patch w.side (suc m)).arc =
-              use_some l x paved len (slot w.patch w.side (suc m)) (record { patch_low = is.patch_low; low = low }) in
+          use_some l x paved len (slot w.patch w.side (suc m)) (record { patch_low = is.patch_low; low = low }) in
           rim_then w.patch w.side (reach l x w.patch w.side m + (x (l.use_at w.patch w.side m).arc - 1))
-              (reach l x w.patch w.side (suc m) + 0) is.patch_low (omega arith) (omega arith)
+          (reach l x w.patch w.side (suc m) + 0) is.patch_low (omega arith) (omega arith)
 
 module _ (l : Layout) (x : Lengths) (laid : IsLaid l) (len : AreLengths l x) (R : Dart → Dart → Type 0) (turning : IsTurning l x R) where
   -- A turn of the layout.
@@ -64,23 +66,23 @@ module _ (l : Layout) (x : Lengths) (laid : IsLaid l) (len : AreLengths l x) (R 
       let some : 0 < x (use_of l b).arc = use_some l x laid.paved len b is_b in
       let zero_is : x (use_of l b).arc - 1 - k ≡ 0 = omega arith in
       let over : R (next (rim_at l x b k)) (rim_at l x w (x (use_of l b).arc - 1 - k)) =
-          turning.over b w k is_b (turn.is_slot, turn.reverse) (omega arith) in
+      turning.over b w k is_b (turn.is_slot, turn.reverse) (omega arith) in
       turning.on (rim_at l x v 0) (next (rim_at l x b k)) (rim_at l x w 0)
-          (turning.back (next (rim_at l x b k)) (rim_at l x v 0)
-              (next_is l x laid.paved len R turning (rim_at l x b k) (at_is l x laid.paved len b k is_b (omega arith))) (before_related l x laid.paved len R turning v is))
-          (subst (λ (i : ℕ). R (next (rim_at l x b k)) (rim_at l x w i)) zero_is over)
+      (turning.back (next (rim_at l x b k)) (rim_at l x v 0)
+      (next_is l x laid.paved len R turning (rim_at l x b k) (at_is l x laid.paved len b k is_b (omega arith))) (before_related l x laid.paved len R turning v is))
+      (subst (λ (i : ℕ). R (next (rim_at l x b k)) (rim_at l x w i)) zero_is over)
 
   pub turns_related : (v w : Slot) (n : ℕ) → IsSlot l v → IsSlot l w → Turns l v w n → R (rim_at l x v 0) (rim_at l x w 0)
   turns_related v w zero is_v is_w same = turning.self (rim_at l x v 0) (rim_at l x w 0) (ap (λ (u : Slot). rim_at l x u 0) same)
   turns_related v w (suc n) is_v is_w turns =
       turning.on (rim_at l x v 0) (rim_at l x turns.0 0) (rim_at l x w 0)
-          (turns_related v turns.0 n is_v turns.1 turns.2) (by_turn turns.3)
+      (turns_related v turns.0 n is_v turns.1 turns.2) (by_turn turns.3)
     where
       by_turn : IsTurn l turns.0 w ⊎ IsTurn l w turns.0 → R (rim_at l x turns.0 0) (rim_at l x w 0)
       by_turn (inl t) = turn_related turns.0 w turns.1 t
       by_turn (inr t) =
           turning.back (rim_at l x w 0) (rim_at l x turns.0 0)
-              (at_is l x laid.paved len w 0 is_w (use_some l x laid.paved len w is_w)) (turn_related w turns.0 is_w t)
+          (at_is l x laid.paved len w 0 is_w (use_some l x laid.paved len w is_w)) (turn_related w turns.0 is_w t)
 
   -- It holds for the first darts of arcs that begin at one node.
   abbrev pub AtNodes : Type 0
@@ -123,14 +125,14 @@ module _ (l : Layout) (x : Lengths) (laid : IsLaid l) (len : AreLengths l x) (R 
       turned ways e =
           let place_is : x (use_of l w).arc - 1 - (o - 1) ≡ k = omega arith in
           let over : R (next (rim_at l x w (o - 1))) (rim_at l x v (x (use_of l w).arc - 1 - (o - 1))) =
-              turning.over w v (o - 1) is_w (is_v, record { arc = sym arcs; turned = ways }) (omega arith) in
+          turning.over w v (o - 1) is_w (is_v, record { arc = sym arcs; turned = ways }) (omega arith) in
           let on : R (next (rim_at l x w (o - 1))) (rim_at l x w o) =
-              rim_then l x laid.paved len R turning w.patch w.side (reach l x w.patch w.side w.at + (o - 1)) (reach l x w.patch w.side w.at + o)
-                  is_w.patch_low (omega arith) (omega (arith, reach_low l x w is_w)) in
+          rim_then l x laid.paved len R turning w.patch w.side (reach l x w.patch w.side w.at + (o - 1)) (reach l x w.patch w.side w.at + o)
+          is_w.patch_low (omega arith) (omega (arith, reach_low l x w is_w)) in
           turning.on (rim_at l x w o) (next (rim_at l x w (o - 1))) (rim_at l x v k)
-              (turning.back (next (rim_at l x w (o - 1))) (rim_at l x w o)
-                  (next_is l x laid.paved len R turning (rim_at l x w (o - 1)) (at_is l x laid.paved len w (o - 1) is_w (omega arith))) on)
-              (subst (λ (i : ℕ). R (next (rim_at l x w (o - 1))) (rim_at l x v i)) place_is over)
+          (turning.back (next (rim_at l x w (o - 1))) (rim_at l x w o)
+          (next_is l x laid.paved len R turning (rim_at l x w (o - 1)) (at_is l x laid.paved len w (o - 1) is_w (omega arith))) on)
+          (subst (λ (i : ℕ). R (next (rim_at l x w (o - 1))) (rim_at l x v i)) place_is over)
 
       by_ways : (f g : Bool) → (use_of l w).forward ≡ f → (use_of l v).forward ≡ g
           → cond (use_of l w).forward o (x (use_of l w).arc - o) ≡ cond (use_of l v).forward k (x (use_of l v).arc - k)
@@ -139,15 +141,15 @@ module _ (l : Layout) (x : Lengths) (laid : IsLaid l) (len : AreLengths l x) (R 
           alike (f ∙ sym g) (ap (λ (h : Bool). cond h o (x (use_of l w).arc - o)) (sym f) ∙ e ∙ ap (λ (h : Bool). cond h k (x (use_of l v).arc - k)) g)
       by_ways false false f g e =
           let q : x (use_of l w).arc - o ≡ x (use_of l v).arc - k =
-              ap (λ (h : Bool). cond h o (x (use_of l w).arc - o)) (sym f) ∙ e ∙ ap (λ (h : Bool). cond h k (x (use_of l v).arc - k)) g in
+          ap (λ (h : Bool). cond h o (x (use_of l w).arc - o)) (sym f) ∙ e ∙ ap (λ (h : Bool). cond h k (x (use_of l v).arc - k)) g in
           alike (f ∙ sym g) (omega (arith, q, ap x arcs))
       by_ways true false f g e =
           let q : o ≡ x (use_of l v).arc - k =
-              ap (λ (h : Bool). cond h o (x (use_of l w).arc - o)) (sym f) ∙ e ∙ ap (λ (h : Bool). cond h k (x (use_of l v).arc - k)) g in
+          ap (λ (h : Bool). cond h o (x (use_of l w).arc - o)) (sym f) ∙ e ∙ ap (λ (h : Bool). cond h k (x (use_of l v).arc - k)) g in
           turned (g ∙ ap not (sym f)) (omega (arith, q, ap x arcs))
       by_ways false true f g e =
           let q : x (use_of l w).arc - o ≡ k =
-              ap (λ (h : Bool). cond h o (x (use_of l w).arc - o)) (sym f) ∙ e ∙ ap (λ (h : Bool). cond h k (x (use_of l v).arc - k)) g in
+          ap (λ (h : Bool). cond h o (x (use_of l w).arc - o)) (sym f) ∙ e ∙ ap (λ (h : Bool). cond h k (x (use_of l v).arc - k)) g in
           turned (g ∙ ap not (sym f)) (sym q)
 
   module _ (nodes : AtNodes) where
@@ -157,19 +159,19 @@ module _ (l : Layout) (x : Lengths) (laid : IsLaid l) (len : AreLengths l x) (R 
       | inl o_zero ↦ elim (cases_eq k 0) [
         | inl k_zero ↦ at_node o_zero k_zero
         | inr k_some ↦
-          let a : use_point l x (use_of l w) o ≡ node (start_of l (use_of l w)) =
-              ap (use_point l x (use_of l w)) o_zero ∙ use_begins l x (use_of l w) (omega arith) in
-          let b : use_point l x (use_of l v) k ≡ along (use_of l v).arc (cond (use_of l v).forward k (x (use_of l v).arc - k)) =
-              use_inner l x (use_of l v) k (omega arith) k_low in
-          absurd cc
+            let a : use_point l x (use_of l w) o ≡ node (start_of l (use_of l w)) =
+            ap (use_point l x (use_of l w)) o_zero ∙ use_begins l x (use_of l w) (omega arith) in
+            let b : use_point l x (use_of l v) k ≡ along (use_of l v).arc (cond (use_of l v).forward k (x (use_of l v).arc - k)) =
+            use_inner l x (use_of l v) k (omega arith) k_low in
+            absurd cc
       ]
       | inr o_some ↦ elim (cases_eq k 0) [
         | inl k_zero ↦
-          let a : use_point l x (use_of l v) k ≡ node (start_of l (use_of l v)) =
-              ap (use_point l x (use_of l v)) k_zero ∙ use_begins l x (use_of l v) (omega arith) in
-          let b : use_point l x (use_of l w) o ≡ along (use_of l w).arc (cond (use_of l w).forward o (x (use_of l w).arc - o)) =
-              use_inner l x (use_of l w) o (omega arith) o_low in
-          absurd cc
+            let a : use_point l x (use_of l v) k ≡ node (start_of l (use_of l v)) =
+            ap (use_point l x (use_of l v)) k_zero ∙ use_begins l x (use_of l v) (omega arith) in
+            let b : use_point l x (use_of l w) o ≡ along (use_of l w).arc (cond (use_of l w).forward o (x (use_of l w).arc - o)) =
+            use_inner l x (use_of l w) o (omega arith) o_low in
+            absurd cc
         | inr k_some ↦ along_related w v o k is_w is_v (omega arith) o_low (omega arith) k_low same
       ]
     ]
@@ -177,20 +179,20 @@ module _ (l : Layout) (x : Lengths) (laid : IsLaid l) (len : AreLengths l x) (R 
         at_node : o ≡ 0 → k ≡ 0 → R (rim_at l x w o) (rim_at l x v k)
         at_node o_zero k_zero =
             let a : use_point l x (use_of l w) o ≡ node (start_of l (use_of l w)) =
-                ap (use_point l x (use_of l w)) o_zero ∙ use_begins l x (use_of l w) (omega arith) in
+            ap (use_point l x (use_of l w)) o_zero ∙ use_begins l x (use_of l w) (omega arith) in
             let b : use_point l x (use_of l v) k ≡ node (start_of l (use_of l v)) =
-                ap (use_point l x (use_of l v)) k_zero ∙ use_begins l x (use_of l v) (omega arith) in
+            ap (use_point l x (use_of l v)) k_zero ∙ use_begins l x (use_of l v) (omega arith) in
             let e : start_of l (use_of l w) ≡ start_of l (use_of l v) = cc in
             subst (λ (i : ℕ). R (rim_at l x w i) (rim_at l x v k)) (sym o_zero)
-                (subst (λ (i : ℕ). R (rim_at l x w 0) (rim_at l x v i)) (sym k_zero) (nodes w v is_w is_v e))
+            (subst (λ (i : ℕ). R (rim_at l x w 0) (rim_at l x v i)) (sym k_zero) (nodes w v is_w is_v e))
 
     at_related : (d : Dart) (w : Slot) (o : ℕ) → IsDart l x d → IsAt l x laid len d w o → R d (rim_at l x w o)
     at_related d w o is a =
         let low : reach l x w.patch w.side w.at + o < size l x w.patch w.side = omega (arith, reach_low l x w a.is_slot, a.low) in
         darts_related l x laid.paved len R turning d (rim_at l x w o) is (at_is l x laid.paved len w o a.is_slot a.low)
-            (a.patch ∙ sym (rim_patch l x laid.paved len w.patch w.side (reach l x w.patch w.side w.at + o)))
-            (a.column ∙ sym (rim_column l x laid.paved len w.patch w.side (reach l x w.patch w.side w.at + o) a.is_slot.patch_low low))
-            (a.row ∙ sym (rim_row l x laid.paved len w.patch w.side (reach l x w.patch w.side w.at + o) a.is_slot.patch_low low))
+        (a.patch ∙ sym (rim_patch l x laid.paved len w.patch w.side (reach l x w.patch w.side w.at + o)))
+        (a.column ∙ sym (rim_column l x laid.paved len w.patch w.side (reach l x w.patch w.side w.at + o) a.is_slot.patch_low low))
+        (a.row ∙ sym (rim_row l x laid.paved len w.patch w.side (reach l x w.patch w.side w.at + o) a.is_slot.patch_low low))
 
     -- It holds for all darts that leave one point.
     pub point_related : (d e : Dart) → IsDart l x d → IsDart l x e → from l x d ≡ from l x e → R d e
@@ -210,7 +212,7 @@ module _ (l : Layout) (x : Lengths) (laid : IsLaid l) (len : AreLengths l x) (R 
         both_inner : IsInner l x laid.paved len d.patch (column_of d) (row_of d) → IsInner l x laid.paved len e.patch (column_of e) (row_of e) → R d e
         both_inner i j =
             let a : inside d.patch (column_of d) (row_of d) ≡ inside e.patch (column_of e) (row_of e) =
-                sym (inner_from l x laid len d i) ∙ same ∙ inner_from l x laid len e j in
+            sym (inner_from l x laid len d i) ∙ same ∙ inner_from l x laid len e j in
             let p : d.patch ≡ e.patch = cc in
             let c : column_of d ≡ column_of e = cc in
             let r : row_of d ≡ row_of e = cc in
@@ -219,6 +221,6 @@ module _ (l : Layout) (x : Lengths) (laid : IsLaid l) (len : AreLengths l x) (R 
         both_border : (w : Slot) (o : ℕ) → IsAt l x laid len d w o → (v : Slot) (k : ℕ) → IsAt l x laid len e v k → R d e
         both_border w o a v k b =
             turning.on d (rim_at l x w o) e (at_related d w o is_d a)
-                (turning.on (rim_at l x w o) (rim_at l x v k) e
-                    (use_related w v o k a.is_slot b.is_slot a.low b.low (sym a.leaves ∙ same ∙ b.leaves))
-                    (turning.back e (rim_at l x v k) is_e (at_related e v k is_e b)))
+            (turning.on (rim_at l x w o) (rim_at l x v k) e
+            (use_related w v o k a.is_slot b.is_slot a.low b.low (sym a.leaves ∙ same ∙ b.leaves))
+            (turning.back e (rim_at l x v k) is_e (at_related e v k is_e b)))

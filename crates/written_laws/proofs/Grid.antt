@@ -1,11 +1,11 @@
 -- The points of a patch: its sides, corners included, and its inside.
-use Rattle.std.proofs.Common.{◌≡◌, ◌≢◌, ℕ, ◌+◌, ◌-◌, ◌<◌, ◌≤◌, refl, sym, ◌∙◌, ap, inl, inr, arith}
+use Rattle.std.proofs.Common.{◌≡◌, ℕ, ◌-◌, ◌<◌, ◌≤◌, sym, ◌∙◌, ap, inl, inr, arith}
 use Rattle.std.specs.Prelude.{◌==◌}
 use Rattle.std.proofs.lemmas.Bool.{cases_eq, cond-true, cond-false, eq-eqb, ne_eqb}
 use Rattle.def_layout.specs.Layouts.{south, east, north, west, Layout}
 use Rattle.def_layout.specs.Laid.{IsPaved, IsLaid}
-use Rattle.def_layout.specs.Lengths.{Lengths, size, wide, high, AreLengths}
-use Rattle.def_written.specs.Points.{Point, inside, side_point, point}
+use Rattle.def_layout.specs.Lengths.{Lengths, wide, high, AreLengths}
+use Rattle.def_written.specs.Points.{inside, side_point, point}
 use Rattle.written_laws.proofs.Sides.{size_some, corner_meets}
 
 module _ (l : Layout) (x : Lengths) (paved : IsPaved l) (len : AreLengths l x) where
@@ -28,10 +28,10 @@ module _ (l : Layout) (x : Lengths) (laid : IsLaid l) (len : AreLengths l x) whe
     | inl e ↦ ap (point l x p 0) e ∙ sym (corner_meets l x laid len p west (high l x p - j) low (omega arith))
     | inr some ↦ elim (cases_eq j (high l x p)) [
       | inl e ↦ point_north p 0 j low e
-        ∙ corner_meets l x laid len p north (wide l x p - 0) low (omega (arith, len.across p low))
-        ∙ ap (side_point l x p west) (omega arith)
+          ∙ corner_meets l x laid len p north (wide l x p - 0) low (omega (arith, len.across p low))
+          ∙ ap (side_point l x p west) (omega arith)
       | inr less ↦
-        cond-false (j == 0) _ _ (ne_eqb j 0 some) ∙ cond-false (j == high l x p) _ _ (ne_eqb j (high l x p) less)
+          cond-false (j == 0) _ _ (ne_eqb j 0 some) ∙ cond-false (j == high l x p) _ _ (ne_eqb j (high l x p) less)
     ]
   ]
 
@@ -41,12 +41,12 @@ module _ (l : Layout) (x : Lengths) (laid : IsLaid l) (len : AreLengths l x) whe
     | inl e ↦ ap (point l x p i) e ∙ corner_meets l x laid len p south i low wide_i ∙ ap (side_point l x p east) (sym e)
     | inr some ↦ elim (cases_eq j (high l x p)) [
       | inl e ↦ point_north p i j low e
-        ∙ ap (side_point l x p north) (omega arith)
-        ∙ sym (corner_meets l x laid len p east j low (omega (arith, len.upright p low)))
+          ∙ ap (side_point l x p north) (omega arith)
+          ∙ sym (corner_meets l x laid len p east j low (omega (arith, len.upright p low)))
       | inr less ↦
-        cond-false (j == 0) _ _ (ne_eqb j 0 some) ∙ cond-false (j == high l x p) _ _ (ne_eqb j (high l x p) less)
-        ∙ cond-false (i == 0) _ _ (ne_eqb i 0 (λ z. omega (arith, wide_some l x laid.paved len p low)))
-        ∙ cond-true (i == wide l x p) _ _ (eq-eqb i (wide l x p) wide_i)
+          cond-false (j == 0) _ _ (ne_eqb j 0 some) ∙ cond-false (j == high l x p) _ _ (ne_eqb j (high l x p) less)
+          ∙ cond-false (i == 0) _ _ (ne_eqb i 0 (λ z. omega (arith, wide_some l x laid.paved len p low)))
+          ∙ cond-true (i == wide l x p) _ _ (eq-eqb i (wide l x p) wide_i)
     ]
   ]
 

@@ -1,26 +1,24 @@
 -- Where no edge is doubled, the new faces are a manifold.
-use Rattle.std.proofs.Common.{◌≡◌, ◌≢◌, ◌⊎◌, ℕ, zero, suc, ◌+◌, ◌-◌, ◌<◌, ◌≤◌, length, Bool, true, false, not, cond, refl, sym, ◌∙◌, ap, subst, inl, inr, arith}
-use Rattle.std.proofs.lemmas.Bool.{cases_lt, cases_eq, false≢true}
+use Rattle.std.proofs.Common.{◌≡◌, ◌≢◌, ◌⊎◌, ℕ, zero, suc, ◌+◌, ◌-◌, ◌<◌, not, cond, refl, sym, ◌∙◌, ap, subst, inl, inr, arith}
+use Rattle.std.proofs.lemmas.Bool.{false≢true}
 use Rattle.def_mesh.specs.Faces.{corner}
-use Rattle.def_mesh.specs.Darts.{darts, from_of, to_of}
-use Rattle.def_mesh.specs.Manifold.{IsManifold, IsRepeatFree, IsSameEdge, HasEdgesOnce}
-use Rattle.def_layout.specs.Layouts.{Way, south, east, north, west, after, before, Layout, Slot, IsSlot, AreReverse, use_of, use_before, slot_before}
+use Rattle.def_mesh.specs.Darts.{from_of, to_of}
+use Rattle.def_mesh.specs.Manifold.{IsManifold, IsRepeatFree, HasEdgesOnce}
+use Rattle.def_layout.specs.Layouts.{Way, south, east, north, west, after, before, Layout, Slot, AreReverse, use_of, slot_before}
 use Rattle.def_layout.specs.Laid.{IsLaid}
 use Rattle.def_layout.specs.Fans.{HasFans}
-use Rattle.def_layout.specs.Lengths.{Lengths, reach, size, wide, high, AreLengths}
-use Rattle.def_layout.specs.Cells.{Dart, IsDart, dart, next, rim, rim_at}
-use Rattle.def_written.specs.Points.{Point}
+use Rattle.def_layout.specs.Lengths.{Lengths, reach, size, AreLengths}
+use Rattle.def_layout.specs.Cells.{Dart, IsDart, next, rim, rim_at}
 use Rattle.def_written.specs.Numbers.{number}
 use Rattle.def_written.specs.NewFaces.{from, to, face_count, dart_of, vertex_of, new_faces}
-use Rattle.def_written.specs.Edges.{Edge, on_arc, IsEdge}
-use Rattle.qm_laws.proofs.Runs.{count_rises}
+use Rattle.def_written.specs.Edges.{on_arc}
 use Rattle.written_laws.proofs.Sides.{slot, first_is, last_is}
 use Rattle.written_laws.proofs.Rims.{corner_cell, rim_way, rim_patch}
 use Rattle.written_laws.proofs.Numbers.{number_same}
 use Rattle.written_laws.proofs.Borders.{from_is, at_low}
 use Rattle.written_laws.proofs.NewDarts.{turn, way_of, turn_way, dart_number, corner_is, cell_is, number_from, number_to, next_is, at_number, faces_long}
 use Rattle.written_laws.proofs.OneFan.{one_fan}
-use Rattle.written_laws.proofs.Courses.{Course, course, is_arc, inner_course, start_at, end_at, use_course, course_of, IsWithin, IsOnBorder, sees, border_is, course_is, course_from, course_to, inner_no_arc, course_once}
+use Rattle.written_laws.proofs.Courses.{Course, is_arc, inner_course, course_of, IsWithin, IsOnBorder, sees, border_is, course_is, course_from, course_to, inner_no_arc, course_once}
 use Rattle.written_laws.proofs.Simple.{IsSimple, one_course, reversed, ends_apart}
 
 -- Darts that follow each other round a cell inside a patch run along different edges.
@@ -87,7 +85,7 @@ module _ (l : Layout) (x : Lengths) (laid : IsLaid l) (len : AreLengths l x) whe
     pub ends_differ : (d : Dart) → IsDart l x d → from l x d ≢ to l x d
     ends_differ d is same =
         ends_apart l x simple (course_of l x d) (course_is l x laid len d is)
-            (sym (course_from l x laid len d is) ∙ same ∙ course_to l x laid len d is)
+        (sym (course_from l x laid len d is) ∙ same ∙ course_to l x laid len d is)
 
     pub opposite_differ : (d : Dart) → IsDart l x d → from l x d ≢ to l x (next d)
     opposite_differ d is same = by_sight (sees l x laid len d is) (sees l x laid len (next d) is_next)
@@ -104,27 +102,27 @@ module _ (l : Layout) (x : Lengths) (laid : IsLaid l) (len : AreLengths l x) whe
         by_corner w v o k at_w at_v =
             let c : (v.at ≡ 0) × (slot_before l v.patch v.side v.at ≡ w) = corner_slots d w v o k at_w at_v in
             let e : on_arc (use_of l v).arc (cond (use_of l v).forward k (x (use_of l v).arc - 1 - k))
-                ≡ on_arc (use_of l w).arc (cond (use_of l w).forward o (x (use_of l w).arc - 1 - o)) =
-                ap (λ (g : Course). g.edge) (sym (border_is l x laid len (next d) v k at_v)) ∙ turned.0
-                ∙ ap (λ (g : Course). g.edge) (border_is l x laid len d w o at_w) in
+            ≡ on_arc (use_of l w).arc (cond (use_of l w).forward o (x (use_of l w).arc - 1 - o)) =
+            ap (λ (g : Course). g.edge) (sym (border_is l x laid len (next d) v k at_v)) ∙ turned.0
+            ∙ ap (λ (g : Course). g.edge) (border_is l x laid len d w o at_w) in
             let arcs : (use_of l v).arc ≡ (use_of l w).arc = cc in
             let ways : (use_of l v).forward ≡ not (use_of l w).forward =
-                ap (λ (g : Course). g.ahead) (sym (border_is l x laid len (next d) v k at_v)) ∙ turned.1
-                ∙ ap (λ (g : Course). not g.ahead) (border_is l x laid len d w o at_w) in
+            ap (λ (g : Course). g.ahead) (sym (border_is l x laid len (next d) v k at_v)) ∙ turned.1
+            ∙ ap (λ (g : Course). not g.ahead) (border_is l x laid len d w o at_w) in
             laid.no_fold v at_v.is_slot c.0
-                (subst (λ (u : Slot). AreReverse (use_of l u) (use_of l v)) (sym c.1) (record { arc = arcs; turned = ways }))
+            (subst (λ (u : Slot). AreReverse (use_of l u) (use_of l v)) (sym c.1) (record { arc = arcs; turned = ways }))
 
         by_sight : IsWithin l x d ⊎ ((w : Slot) × (o : ℕ) × IsOnBorder l x d w o)
             → IsWithin l x (next d) ⊎ ((w : Slot) × (o : ℕ) × IsOnBorder l x (next d) w o) → ⊥
         by_sight (inl i) (inl j) =
             flat_or_steep d.patch d.i d.j d.way
-                (ap (λ (g : Course). g.edge) (sym j.course) ∙ turned.0 ∙ ap (λ (g : Course). g.edge) i.course)
+            (ap (λ (g : Course). g.edge) (sym j.course) ∙ turned.0 ∙ ap (λ (g : Course). g.edge) i.course)
         by_sight (inl i) (inr b) =
             false≢true (sym (inner_no_arc l x laid len d.patch d.i d.j d.way) ∙ ap (λ (g : Course). is_arc g.edge) (sym i.course)
-                ∙ ap is_arc (sym turned.0) ∙ ap (λ (g : Course). is_arc g.edge) (border_is l x laid len (next d) b.0 b.1 b.2))
+            ∙ ap is_arc (sym turned.0) ∙ ap (λ (g : Course). is_arc g.edge) (border_is l x laid len (next d) b.0 b.1 b.2))
         by_sight (inr a) (inl j) =
             false≢true (sym (inner_no_arc l x laid len d.patch d.i d.j (after d.way)) ∙ ap (λ (g : Course). is_arc g.edge) (sym j.course)
-                ∙ ap is_arc turned.0 ∙ ap (λ (g : Course). is_arc g.edge) (border_is l x laid len d a.0 a.1 a.2))
+            ∙ ap is_arc turned.0 ∙ ap (λ (g : Course). is_arc g.edge) (border_is l x laid len d a.0 a.1 a.2))
         by_sight (inr a) (inr b) = by_corner a.0 b.0 a.1 b.1 a.2 b.2
 
     -- Points apart have numbers apart.
@@ -159,8 +157,8 @@ module _ (l : Layout) (x : Lengths) (laid : IsLaid l) (len : AreLengths l x) whe
         let i_is : turn (way_of i) ≡ i = turn_way i (omega arith) in
         let j_is : turn (way_of j) ≡ j = turn_way j four in
         corners_differ f f_low i j less four
-            (sym (corner_is l x f (way_of i) f_low) ∙ ap (corner (new_faces l x) f) i_is ∙ same
-                ∙ ap (corner (new_faces l x) f) (sym j_is) ∙ corner_is l x f (way_of j) f_low)
+        (sym (corner_is l x f (way_of i) f_low) ∙ ap (corner (new_faces l x) f) i_is ∙ same
+        ∙ ap (corner (new_faces l x) f) (sym j_is) ∙ corner_is l x f (way_of j) f_low)
 
     pub edges_once : HasEdgesOnce (new_faces l x)
     edges_once d e d_low e_low same = by_darts (at_number l x laid len d d_low) (at_number l x laid len e e_low)
@@ -168,18 +166,18 @@ module _ (l : Layout) (x : Lengths) (laid : IsLaid l) (len : AreLengths l x) whe
         by_darts : (c : Dart) × IsDart l x c × (dart_number l x c ≡ d) → (c : Dart) × IsDart l x c × (dart_number l x c ≡ e) → d ≡ e
         by_darts a b =
             let starts : from l x a.0 ≡ from l x b.0 =
-                number_same l x (from l x a.0) (from l x b.0) (from_is l x laid len a.0 a.1) (from_is l x laid len b.0 b.1)
-                    (sym (number_from l x a.0 a.1) ∙ ap (from_of (new_faces l x)) a.2 ∙ same.0
-                        ∙ ap (from_of (new_faces l x)) (sym b.2) ∙ number_from l x b.0 b.1) in
+            number_same l x (from l x a.0) (from l x b.0) (from_is l x laid len a.0 a.1) (from_is l x laid len b.0 b.1)
+            (sym (number_from l x a.0 a.1) ∙ ap (from_of (new_faces l x)) a.2 ∙ same.0
+            ∙ ap (from_of (new_faces l x)) (sym b.2) ∙ number_from l x b.0 b.1) in
             let ends : to l x a.0 ≡ to l x b.0 =
-                number_same l x (to l x a.0) (to l x b.0)
-                    (from_is l x laid len (next a.0) (next_is l x a.0 a.1)) (from_is l x laid len (next b.0) (next_is l x b.0 b.1))
-                    (sym (number_to l x a.0 a.1) ∙ ap (to_of (new_faces l x)) a.2 ∙ same.1
-                        ∙ ap (to_of (new_faces l x)) (sym b.2) ∙ number_to l x b.0 b.1) in
+            number_same l x (to l x a.0) (to l x b.0)
+            (from_is l x laid len (next a.0) (next_is l x a.0 a.1)) (from_is l x laid len (next b.0) (next_is l x b.0 b.1))
+            (sym (number_to l x a.0 a.1) ∙ ap (to_of (new_faces l x)) a.2 ∙ same.1
+            ∙ ap (to_of (new_faces l x)) (sym b.2) ∙ number_to l x b.0 b.1) in
             let one : course_of l x a.0 ≡ course_of l x b.0 =
-                one_course l x simple (course_of l x a.0) (course_of l x b.0) (course_is l x laid len a.0 a.1) (course_is l x laid len b.0 b.1)
-                    (sym (course_from l x laid len a.0 a.1) ∙ starts ∙ course_from l x laid len b.0 b.1)
-                    (sym (course_to l x laid len a.0 a.1) ∙ ends ∙ course_to l x laid len b.0 b.1) in
+            one_course l x simple (course_of l x a.0) (course_of l x b.0) (course_is l x laid len a.0 a.1) (course_is l x laid len b.0 b.1)
+            (sym (course_from l x laid len a.0 a.1) ∙ starts ∙ course_from l x laid len b.0 b.1)
+            (sym (course_to l x laid len a.0 a.1) ∙ ends ∙ course_to l x laid len b.0 b.1) in
             sym a.2 ∙ ap (dart_number l x) (course_once l x laid len a.0 b.0 a.1 b.1 one) ∙ b.2
 
     pub manifold : HasFans l → IsManifold (new_faces l x)

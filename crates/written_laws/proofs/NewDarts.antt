@@ -5,8 +5,7 @@ use Rattle.std.proofs.Math.Nat.{mod-lt, div-lt_iff_lt-mul, mul_comm}
 use Rattle.std.proofs.lemmas.Nat.{mul-add-lt, same_from_place, div-add-mod'}
 use Rattle.std.proofs.lemmas.Bool.Decides.{nat_tests}
 use Rattle.std.proofs.lemmas.List.FromFn.{length-map-range_with_len, get_or-map-range_with_len}
-use Rattle.def_math.specs.Counts.{count_below}
-use Rattle.def_mesh.specs.Faces.{Face, Faces, corner}
+use Rattle.def_mesh.specs.Faces.{Face, corner}
 use Rattle.def_mesh.specs.Darts.{darts, next_of, prev_of, from_of, to_of}
 use Rattle.def_layout.specs.Layouts.{Way, south, east, north, west, after, before, Layout}
 use Rattle.def_layout.specs.Laid.{IsLaid}
@@ -15,7 +14,6 @@ use Rattle.def_layout.specs.Cells.{Dart, IsDart, dart, next, prev}
 use Rattle.def_written.specs.Numbers.{number}
 use Rattle.def_written.specs.NewFaces.{from, to, cells_before, face_count, patch_of, cell_in, dart_of, vertex_of, new_face, new_faces}
 use Rattle.qm_laws.proofs.Runs.{run_place, run_here, place_low, IsInRun}
-use Rattle.mesh_laws.proofs.Darts.{next_of_low}
 use Rattle.written_laws.proofs.Grid.{wide_some}
 
 -- The sides of a face by number.
@@ -128,7 +126,7 @@ module _ (l : Layout) (x : Lengths) where
   pub corner_is : (f : ℕ) (w : Way) → f < face_count l x → corner (new_faces l x) f (turn w) ≡ vertex_of l x f w
   corner_is f w low =
       ap (λ (face : Face). slice_index_or face (turn w) 0)
-          (get_or-map-range_with_len (new_face l x) 0 (face_count l x) f f [] low (omega arith))
+      (get_or-map-range_with_len (new_face l x) 0 (face_count l x) f f [] low (omega arith))
       ∙ by_way w
     where
       by_way : (w : Way) → slice_index_or (new_face l x f) (turn w) 0 ≡ vertex_of l x f w
@@ -161,7 +159,7 @@ module _ (l : Layout) (x : Lengths) where
         let h : IsInRun cells l.patches f (patch_of l x f) (cell_in l x f) = run_here cells l.patches f low in
         let some : 0 < wide l x (patch_of l x f) = wide_some l x laid.paved len (patch_of l x f) h.low in
         let less : cell_in l x f < high l x (patch_of l x f) * wide l x (patch_of l x f) =
-            subst (λ (n : ℕ). cell_in l x f < n) (mul_comm (wide l x (patch_of l x f)) (high l x (patch_of l x f))) h.inside in
+        subst (λ (n : ℕ). cell_in l x f < n) (mul_comm (wide l x (patch_of l x f)) (high l x (patch_of l x f))) h.inside in
         record {
           patch_low = h.low;
           i_low = mod-lt (cell_in l x f) some;
@@ -176,6 +174,8 @@ module _ (l : Layout) (x : Lengths) where
     -- Each dart of the new faces is that of a cell.
     pub at_number : (n : ℕ) → n < darts (new_faces l x) → (d : Dart) × IsDart l x d × (dart_number d ≡ n)
     at_number n low =
-        let f_low : n / 4 < face_count l x = omega (arith, faces_long) in
-        (dart_of l x (n / 4) (way_of (n % 4)), cell_is (n / 4) (way_of (n % 4)) f_low,
-            omega (arith, cell_number_is (n / 4) (way_of (n % 4)) f_low, turn_way (n % 4) (omega arith)))
+        let f_low : n / 4 < face_count l x = omega (arith, faces_long) in (
+          dart_of l x (n / 4) (way_of (n % 4)),
+          cell_is (n / 4) (way_of (n % 4)) f_low,
+          omega (arith, cell_number_is (n / 4) (way_of (n % 4)) f_low, turn_way (n % 4) (omega arith)),
+        )

@@ -1,14 +1,13 @@
 -- Each vertex of the new mesh has one fan.
 use Rattle.std.proofs.Common.{◌≡◌, ◌⊎◌, ℕ, zero, suc, ◌+◌, ◌-◌, ◌<◌, refl, sym, ◌∙◌, ap, subst, inl, inr, arith}
-use Rattle.def_mesh.specs.Faces.{Faces}
-use Rattle.def_mesh.specs.Darts.{darts, prev_of, from_of, to_of}
+use Rattle.def_mesh.specs.Darts.{prev_of, from_of}
 use Rattle.def_mesh.specs.Manifold.{AreNeighbours, Chain, HasOneFan}
 use Rattle.def_layout.specs.Layouts.{Way, south, east, north, west, after, before, Layout, Slot, IsSlot, use_of}
 use Rattle.def_layout.specs.Laid.{IsLaid, IsOther}
 use Rattle.def_layout.specs.Fans.{HasFans}
 use Rattle.def_layout.specs.Lengths.{Lengths, AreLengths}
 use Rattle.def_layout.specs.Cells.{Dart, IsDart, dart, next, prev, rim_at}
-use Rattle.def_written.specs.Points.{Point, point}
+use Rattle.def_written.specs.Points.{point}
 use Rattle.def_written.specs.Numbers.{number}
 use Rattle.def_written.specs.NewFaces.{column, row, from, to, new_faces}
 use Rattle.mesh_laws.proofs.Chains.{meet_from, chain_join, chain_back}
@@ -26,9 +25,16 @@ module _ (l : Layout) (x : Lengths) where
   -- Two darts leave one point, and one edge there belongs to both corners.
   pub join : (d e : Dart) → IsDart l x d → IsDart l x e → from l x d ≡ from l x e
       → (to l x d ≡ from l x (prev e)) ⊎ (to l x e ≡ from l x (prev d)) → AreJoined d e
-  join d e is_d is_e same shared =
-      (suc zero, (dart_number l x d, refl, dart_low l x e is_e,
-          number_from l x d is_d ∙ ap (number l x) same ∙ sym (number_from l x e is_e), near shared))
+  join d e is_d is_e same shared = (
+    suc zero,
+    (
+      dart_number l x d,
+      refl,
+      dart_low l x e is_e,
+      number_from l x d is_d ∙ ap (number l x) same ∙ sym (number_from l x e is_e),
+      near shared,
+    ),
+  )
     where
       before_from : (c : Dart) → IsDart l x c → from_of (new_faces l x) (prev_of (dart_number l x c)) ≡ number l x (from l x (prev c))
       before_from c is = ap (from_of (new_faces l x)) (prev_number l x c) ∙ number_from l x (prev c) (prev_is l x c is)
@@ -69,10 +75,10 @@ module _ (l : Layout) (x : Lengths) where
             → AreJoined (next (rim_at l x w o)) (rim_at l x v (x (use_of l w).arc - 1 - o))
         over w v o is other less =
             join (next (rim_at l x w o)) (rim_at l x v (x (use_of l w).arc - 1 - o))
-                (next_is l x (rim_at l x w o) (at_is l x laid.paved len w o is less))
-                (at_is l x laid.paved len v (x (use_of l w).arc - 1 - o) other.0 (omega (arith, other_long l x laid len w v other)))
-                (sym (across_from l x laid len w v o is other less))
-                (inr (across_to l x laid len w v o is other less ∙ ap (from l x) (sym (prev_next (rim_at l x w o)))))
+            (next_is l x (rim_at l x w o) (at_is l x laid.paved len w o is less))
+            (at_is l x laid.paved len v (x (use_of l w).arc - 1 - o) other.0 (omega (arith, other_long l x laid len w v other)))
+            (sym (across_from l x laid len w v o is other less))
+            (inr (across_to l x laid len w v o is other less ∙ ap (from l x) (sym (prev_next (rim_at l x w o)))))
 
     pub one_fan : HasFans l → (v : ℕ) → HasOneFan (new_faces l x) v
     one_fan fans v d e d_low e_low d_from e_from =
@@ -82,10 +88,12 @@ module _ (l : Layout) (x : Lengths) where
             → (n : ℕ) × Chain (new_faces l x) d e n
         by_darts a b =
             let same : number l x (from l x a.0) ≡ number l x (from l x b.0) =
-                sym (number_from l x a.0 a.1) ∙ ap (from_of (new_faces l x)) a.2 ∙ d_from
-                ∙ sym e_from ∙ ap (from_of (new_faces l x)) (sym b.2) ∙ number_from l x b.0 b.1 in
+            sym (number_from l x a.0 a.1) ∙ ap (from_of (new_faces l x)) a.2 ∙ d_from
+            ∙ sym e_from ∙ ap (from_of (new_faces l x)) (sym b.2) ∙ number_from l x b.0 b.1 in
             let joined : AreJoined a.0 b.0 =
-                point_related l x laid len AreJoined joins (at_nodes l x laid len AreJoined joins fans) a.0 b.0 a.1 b.1
-                    (number_same l x (from l x a.0) (from l x b.0) (from_is l x laid len a.0 a.1) (from_is l x laid len b.0 b.1) same) in
-            (joined.0, subst (λ (k : ℕ). Chain (new_faces l x) k e joined.0) a.2
-                (subst (λ (k : ℕ). Chain (new_faces l x) (dart_number l x a.0) k joined.0) b.2 joined.1))
+            point_related l x laid len AreJoined joins (at_nodes l x laid len AreJoined joins fans) a.0 b.0 a.1 b.1
+            (number_same l x (from l x a.0) (from l x b.0) (from_is l x laid len a.0 a.1) (from_is l x laid len b.0 b.1) same) in (
+              joined.0,
+              subst (λ (k : ℕ). Chain (new_faces l x) k e joined.0) a.2
+                  (subst (λ (k : ℕ). Chain (new_faces l x) (dart_number l x a.0) k joined.0) b.2 joined.1),
+            )

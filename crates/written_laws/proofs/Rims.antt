@@ -1,13 +1,13 @@
 -- The border darts of a patch.
-use Rattle.std.proofs.Common.{◌≡◌, ◌⊎◌, ℕ, suc, ◌+◌, ◌-◌, ◌<◌, ◌≤◌, refl, sym, ◌∙◌, ap, inl, inr, arith}
-use Rattle.std.proofs.lemmas.Bool.{cases_eq, cases_lt}
+use Rattle.std.proofs.Common.{◌≡◌, ◌⊎◌, ℕ, ◌+◌, ◌-◌, ◌<◌, ◌≤◌, refl, sym, ◌∙◌, ap, inl, inr, arith}
+use Rattle.std.proofs.lemmas.Bool.{cases_eq}
 use Rattle.def_layout.specs.Layouts.{Way, south, east, north, west, after, Layout}
 use Rattle.def_layout.specs.Laid.{IsPaved, IsLaid}
 use Rattle.def_layout.specs.Lengths.{Lengths, size, wide, high, AreLengths}
 use Rattle.def_layout.specs.Cells.{Dart, IsDart, dart, next, rim}
-use Rattle.def_written.specs.Points.{Point, inside, side_point, point}
+use Rattle.def_written.specs.Points.{side_point, point}
 use Rattle.def_written.specs.NewFaces.{column, row, from, to}
-use Rattle.written_laws.proofs.Grid.{wide_some, high_some, point_north, point_west, point_east, point_inside}
+use Rattle.written_laws.proofs.Grid.{wide_some, high_some, point_north, point_west, point_east}
 use Rattle.written_laws.proofs.Turning.{IsTurning, grid_related}
 
 -- Where a dart begins in its patch.
@@ -124,21 +124,29 @@ module _ (l : Layout) (x : Lengths) (paved : IsPaved l) (len : AreLengths l x) w
       → IsInner p a b ⊎ ((s : Way) × (t : ℕ) × IsBorder p a b s t)
   on_rim p a b low a_le b_le = elim (cases_eq b 0) [
     | inl bottom ↦ elim (cases_eq a (wide l x p)) [
-      | inl far ↦ inr (east, 0, record {
-        low = omega (arith, len.upright p low, high_some l x paved len p low);
-        column = far;
-        row = bottom;
-      })
+      | inl far ↦ inr (
+        east,
+        0,
+        record {
+          low = omega (arith, len.upright p low, high_some l x paved len p low);
+          column = far;
+          row = bottom;
+        },
+      )
       | inr near ↦ inr (south, a, record { low = omega arith; column = refl; row = bottom })
     ]
     | inr some ↦ elim (cases_eq b (high l x p)) [
       | inl up ↦ elim (cases_eq a 0) [
         | inl first ↦ inr (west, 0, record { low = high_some l x paved len p low; column = first; row = omega arith })
-        | inr later ↦ inr (north, wide l x p - a, record {
-          low = omega (arith, len.across p low);
-          column = omega arith;
-          row = up;
-        })
+        | inr later ↦ inr (
+          north,
+          wide l x p - a,
+          record {
+            low = omega (arith, len.across p low);
+            column = omega arith;
+            row = up;
+          },
+        )
       ]
       | inr less ↦ elim (cases_eq a 0) [
         | inl first ↦ inr (west, high l x p - b, record { low = omega arith; column = first; row = omega arith })
@@ -170,24 +178,24 @@ module _ (l : Layout) (x : Lengths) (paved : IsPaved l) (len : AreLengths l x) w
         → column_of d ≡ column_of e → row_of d ≡ row_of e → R d e
     darts_related d e is_d is_e same c r =
         turning.on d (dart e.patch d.i d.j d.way) e
-            (turning.self d (dart e.patch d.i d.j d.way) (λ t. dart (same t) d.i d.j d.way))
-            (grid_related l x R turning e.patch d.i d.j e.i e.j d.way e.way
-                (record {
-                  patch_low = is_e.patch_low;
-                  i_low = omega (arith, is_d.i_low, ap (wide l x) same);
-                  j_low = omega (arith, is_d.j_low, ap (high l x) same);
-                })
-                is_e c r)
+        (turning.self d (dart e.patch d.i d.j d.way) (λ t. dart (same t) d.i d.j d.way))
+        (grid_related l x R turning e.patch d.i d.j e.i e.j d.way e.way
+        (record {
+          patch_low = is_e.patch_low;
+          i_low = omega (arith, is_d.i_low, ap (wide l x) same);
+          j_low = omega (arith, is_d.j_low, ap (high l x) same);
+        })
+        is_e c r)
 
     -- The dart after a border dart, and the next border dart.
     pub rim_on : (p : ℕ) (s : Way) (t : ℕ) → p < l.patches → t + 1 < size l x p s
         → R (next (rim l x p s t)) (rim l x p s (t + 1))
     rim_on p s t low less =
         darts_related (next (rim l x p s t)) (rim l x p s (t + 1))
-            (next_is (rim_is p s t low (omega arith))) (rim_is p s (t + 1) low less)
-            (rim_patch p s t ∙ sym (rim_patch p s (t + 1)))
-            (rim_next_column p s t low (omega arith) ∙ sym (rim_column p s (t + 1) low less))
-            (rim_next_row p s t low (omega arith) ∙ sym (rim_row p s (t + 1) low less))
+        (next_is (rim_is p s t low (omega arith))) (rim_is p s (t + 1) low less)
+        (rim_patch p s t ∙ sym (rim_patch p s (t + 1)))
+        (rim_next_column p s t low (omega arith) ∙ sym (rim_column p s (t + 1) low less))
+        (rim_next_row p s t low (omega arith) ∙ sym (rim_row p s (t + 1) low less))
       where
         next_is : IsDart l x (rim l x p s t) → IsDart l x (next (rim l x p s t))
         next_is d = record { patch_low = d.patch_low; i_low = d.i_low; j_low = d.j_low }
@@ -197,10 +205,10 @@ module _ (l : Layout) (x : Lengths) (paved : IsPaved l) (len : AreLengths l x) w
         → R (next (rim l x p s t)) (rim l x p (after s) 0)
     rim_round p s t low e some =
         darts_related (next (rim l x p s t)) (rim l x p (after s) 0)
-            (next_is (rim_is p s t low (omega arith))) (rim_is p (after s) 0 low some)
-            (rim_patch p s t ∙ sym (rim_patch p (after s) 0))
-            (rim_next_column p s t low (omega arith) ∙ corner_column p s (t + 1) low e ∙ sym (rim_column p (after s) 0 low some))
-            (rim_next_row p s t low (omega arith) ∙ corner_row p s (t + 1) low e ∙ sym (rim_row p (after s) 0 low some))
+        (next_is (rim_is p s t low (omega arith))) (rim_is p (after s) 0 low some)
+        (rim_patch p s t ∙ sym (rim_patch p (after s) 0))
+        (rim_next_column p s t low (omega arith) ∙ corner_column p s (t + 1) low e ∙ sym (rim_column p (after s) 0 low some))
+        (rim_next_row p s t low (omega arith) ∙ corner_row p s (t + 1) low e ∙ sym (rim_row p (after s) 0 low some))
       where
         next_is : IsDart l x (rim l x p s t) → IsDart l x (next (rim l x p s t))
         next_is d = record { patch_low = d.patch_low; i_low = d.i_low; j_low = d.j_low }

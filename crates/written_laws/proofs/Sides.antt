@@ -1,14 +1,12 @@
 -- The points on a side of a patch.
-use Rattle.std.proofs.Common.{◌≡◌, ◌≢◌, ℕ, zero, suc, ◌+◌, ◌-◌, ◌<◌, ◌≤◌, Bool, true, false, cond, refl, sym, ◌∙◌, ap, subst, inl, inr, arith}
+use Rattle.std.proofs.Common.{◌≡◌, ℕ, suc, ◌+◌, ◌-◌, ◌<◌, ◌≤◌, Bool, true, false, cond, refl, sym, ◌∙◌, ap, inl, inr, arith}
 use Rattle.std.specs.Prelude.{◌==◌}
 use Rattle.std.proofs.lemmas.Bool.{cases_eq, cases_lt, cond-true, cond-false, eq-eqb, ne_eqb}
-use Rattle.def_math.specs.Counts.{count_below}
-use Rattle.def_math.specs.Runs.{run_at}
 use Rattle.def_layout.specs.declared.tmesh.SideArc.{SideArc}
-use Rattle.def_layout.specs.Layouts.{Way, south, east, north, west, after, before, Layout, Slot, IsSlot, use_of, use_before, start_of, end_of}
+use Rattle.def_layout.specs.Layouts.{Way, south, east, north, west, after, Layout, Slot, IsSlot, use_of, start_of, end_of}
 use Rattle.def_layout.specs.Laid.{IsPaved, IsLaid}
-use Rattle.def_layout.specs.Lengths.{Lengths, reach, size, wide, high, AreLengths}
-use Rattle.def_written.specs.Points.{Point, node, along, arc_point, use_point, use_over, offset_at, side_point}
+use Rattle.def_layout.specs.Lengths.{Lengths, reach, size, AreLengths}
+use Rattle.def_written.specs.Points.{node, along, arc_point, use_point, use_over, offset_at, side_point}
 use Rattle.qm_laws.proofs.Runs.{count_rises, run_here, run_last, run_place, IsInRun}
 
 -- The slot with these parts.
@@ -77,7 +75,7 @@ module _ (l : Layout) (x : Lengths) where
       → IsOn p s t (use_over l x p s t) (offset_at l x p s t)
   place_on p s t low less =
       let h : IsInRun (long_at p s) (l.many p s) t (use_over l x p s t) (offset_at l x p s t) =
-          run_here (long_at p s) (l.many p s) t less in
+      run_here (long_at p s) (l.many p s) t less in
       record { is_slot = record { patch_low = low; low = h.low }; inside = h.inside; place = h.place }
 
   -- An arc of a side ends on it.
@@ -110,7 +108,7 @@ module _ (l : Layout) (x : Lengths) where
     side_begin p s low =
         let some : 0 < x (l.use_at p s 0).arc = use_some (slot p s 0) (first_slot p s low) in
         let in_side : side_point l x p s (0 + 0) ≡ use_point l x (l.use_at p s 0) 0 =
-            side_in (slot p s 0) 0 (first_slot p s low) some in
+        side_in (slot p s 0) 0 (first_slot p s low) some in
         in_side ∙ use_begins (l.use_at p s 0) some
 
     pub side_end : (p : ℕ) (s : Way) (t : ℕ) → p < l.patches → t ≡ size l x p s
@@ -119,7 +117,7 @@ module _ (l : Layout) (x : Lengths) where
         let long : reach l x p s (l.many p s - 1) + long_at p s (l.many p s - 1) ≡ size l x p s = last_reach p s low in
         let some : 0 < long_at p s (l.many p s - 1) = use_some (slot p s (l.many p s - 1)) (last_slot p s low) in
         let over : use_over l x p s t ≡ l.many p s - 1 =
-            run_last (reach l x p s) (l.many p s) t (paved.sides_full p s low) (omega (arith, long, e)) in
+        run_last (reach l x p s) (l.many p s) t (paved.sides_full p s low) (omega (arith, long, e)) in
         ap (λ m. use_point l x (l.use_at p s m) (t - reach l x p s m)) over
         ∙ use_ends (l.use_at p s (l.many p s - 1)) (t - reach l x p s (l.many p s - 1)) (omega (arith, long, e)) (omega (arith, long, e, some))
 
@@ -128,10 +126,10 @@ module _ (l : Layout) (x : Lengths) where
     first_is v is none = elim (cases_eq v.at 0) [
       | inl e ↦ e
       | inr later ↦
-        let first : IsSlot l (slot v.patch v.side 0) = record { patch_low = is.patch_low; low = omega (arith, is.low) } in
-        let le : reach l x v.patch v.side 1 ≤ reach l x v.patch v.side v.at = count_rises (long_at v.patch v.side) 1 v.at (omega arith) in
-        let some : 0 < long_at v.patch v.side 0 = use_some (slot v.patch v.side 0) first in
-        absurd (omega (arith, le, some, none))
+          let first : IsSlot l (slot v.patch v.side 0) = record { patch_low = is.patch_low; low = omega (arith, is.low) } in
+          let le : reach l x v.patch v.side 1 ≤ reach l x v.patch v.side v.at = count_rises (long_at v.patch v.side) 1 v.at (omega arith) in
+          let some : 0 < long_at v.patch v.side 0 = use_some (slot v.patch v.side 0) first in
+          absurd (omega (arith, le, some, none))
     ]
 
     -- The slot at the end of a side is its last one.
@@ -139,11 +137,11 @@ module _ (l : Layout) (x : Lengths) where
         → w.at ≡ l.many w.patch w.side - 1
     last_is w is end = elim (cases_lt (suc w.at) (l.many w.patch w.side)) [
       | inl more ↦
-        let later : IsSlot l (slot w.patch w.side (suc w.at)) = record { patch_low = is.patch_low; low = more } in
-        let le : reach l x w.patch w.side (suc w.at) + long_at w.patch w.side (suc w.at) ≤ size l x w.patch w.side =
-            reach_low (slot w.patch w.side (suc w.at)) later in
-        let some : 0 < long_at w.patch w.side (suc w.at) = use_some (slot w.patch w.side (suc w.at)) later in
-        absurd (omega (arith, le, some, end))
+          let later : IsSlot l (slot w.patch w.side (suc w.at)) = record { patch_low = is.patch_low; low = more } in
+          let le : reach l x w.patch w.side (suc w.at) + long_at w.patch w.side (suc w.at) ≤ size l x w.patch w.side =
+          reach_low (slot w.patch w.side (suc w.at)) later in
+          let some : 0 < long_at w.patch w.side (suc w.at) = use_some (slot w.patch w.side (suc w.at)) later in
+          absurd (omega (arith, le, some, end))
       | inr none ↦ omega (arith, is.low, none)
     ]
 
@@ -185,11 +183,11 @@ module _ (l : Layout) (x : Lengths) where
         at_end more last =
             let m : w.at ≡ l.many w.patch w.side - 1 = omega (arith, is.low) in
             let long : reach l x w.patch w.side (l.many w.patch w.side - 1) + long_at w.patch w.side (l.many w.patch w.side - 1) ≡ size l x w.patch w.side =
-                last_reach laid.paved len w.patch w.side is.patch_low in
+            last_reach laid.paved len w.patch w.side is.patch_low in
             let r : reach l x w.patch w.side w.at ≡ reach l x w.patch w.side (l.many w.patch w.side - 1) =
-                ap (reach l x w.patch w.side) m in
+            ap (reach l x w.patch w.side) m in
             let u : long_at w.patch w.side w.at ≡ long_at w.patch w.side (l.many w.patch w.side - 1) =
-                ap (long_at w.patch w.side) m in
+            ap (long_at w.patch w.side) m in
             side_end laid.paved len w.patch w.side t is.patch_low (omega (arith, long, r, u))
             ∙ ap (λ k. node (end_of l (l.use_at w.patch w.side k))) (sym m)
             ∙ sym (use_ends (use_of l w) o (omega arith) (omega (arith, use_some laid.paved len w is)))

@@ -1,8 +1,7 @@
 -- Meshes in which no edge is doubled, and what two points then tell of an edge between them.
 use Rattle.std.proofs.Common.{◌≡◌, ◌≢◌, Bool, true, false, not, refl, sym, ◌∙◌, ap}
 use Rattle.def_layout.specs.Layouts.{Layout}
-use Rattle.def_layout.specs.Laid.{IsLaid}
-use Rattle.def_layout.specs.Lengths.{Lengths, AreLengths}
+use Rattle.def_layout.specs.Lengths.{Lengths}
 use Rattle.def_written.specs.Edges.{Edge, IsEdge, low, top}
 use Rattle.written_laws.proofs.Courses.{Course, course, start_at, end_at}
 
@@ -35,7 +34,7 @@ module _ (l : Layout) (x : Lengths) (simple : IsSimple l x) where
       → start_at l x k ≡ end_at l x c → end_at l x k ≡ start_at l x c → (k.edge ≡ c.edge) × (k.ahead ≡ not c.ahead)
   reversed c k is_c is_k starts ends =
       let s : k ≡ course c.edge (not c.ahead) =
-          one_course k (course c.edge (not c.ahead)) is_k is_c (starts ∙ turn_start c.ahead) (ends ∙ turn_end c.ahead) in
+      one_course k (course c.edge (not c.ahead)) is_k is_c (starts ∙ turn_start c.ahead) (ends ∙ turn_end c.ahead) in
       (ap (λ (g : Course). g.edge) s, ap (λ (g : Course). g.ahead) s)
     where
       turn_start : (a : Bool) → end_at l x (course c.edge a) ≡ start_at l x (course c.edge (not a))

@@ -1,12 +1,11 @@
 -- Where all lengths are at least 2, each edge has an inner end, and is told by the direction in which it leaves that end.
-use Rattle.std.proofs.Common.{◌≡◌, ◌≢◌, ◌⊎◌, ℕ, suc, ◌+◌, ◌-◌, ◌<◌, ◌≤◌, Bool, true, false, not, cond, refl, sym, ◌∙◌, ap, subst, inl, inr, arith}
+use Rattle.std.proofs.Common.{◌≡◌, ◌≢◌, ◌⊎◌, ℕ, ◌+◌, ◌-◌, ◌<◌, ◌≤◌, Bool, true, false, not, cond, refl, sym, ◌∙◌, ap, subst, inl, inr, arith}
 use Rattle.std.specs.Prelude.{◌==◌}
-use Rattle.std.proofs.lemmas.Bool.{cases_eq, cases_lt}
-use Rattle.def_layout.specs.declared.tmesh.SideArc.{SideArc}
-use Rattle.def_layout.specs.Layouts.{Way, south, east, north, west, after, before, Layout, Slot, IsSlot, AreReverse, use_of, use_before}
+use Rattle.std.proofs.lemmas.Bool.{cases_eq}
+use Rattle.def_layout.specs.Layouts.{Way, south, east, north, west, after, Layout, Slot, IsSlot, AreReverse, use_of}
 use Rattle.def_layout.specs.Laid.{IsLaid}
 use Rattle.def_layout.specs.Lengths.{Lengths, reach, size, wide, high, AreLengths}
-use Rattle.def_written.specs.Points.{Point, node, along, inside, arc_point, use_point, use_over, offset_at, side_point, point}
+use Rattle.def_written.specs.Points.{Point, node, along, inside, arc_point, use_over, offset_at, side_point, point}
 use Rattle.def_written.specs.Edges.{Edge, on_arc, flat, steep, IsEdge, low, top}
 use Rattle.written_laws.proofs.Sides.{slot, IsOn, arc_last, arc_inner, use_inner, side_in, place_on, reach_low, first_slot, last_slot, last_reach}
 use Rattle.written_laws.proofs.Grid.{point_north, point_west, point_east, point_inside}
@@ -104,8 +103,8 @@ module _ (l : Layout) (x : Lengths) where
         → (q ≡ p) × (k ≡ i) × (m ≡ j)
     point_sort q k m p i j q_low k_le m_le e = elim (on_rim l x laid.paved len q k m q_low k_le m_le) [
       | inl n ↦
-        let s : inside q k m ≡ inside p i j = sym (point_inside l x laid len q k m n.a_some n.a_low n.b_some n.b_low) ∙ e in
-        (cc, cc, cc)
+          let s : inside q k m ≡ inside p i j = sym (point_inside l x laid len q k m n.a_some n.a_low n.b_some n.b_low) ∙ e in
+          (cc, cc, cc)
       | inr b ↦ absurd (at_border b.0 b.1 b.2)
     ]
       where
@@ -113,8 +112,8 @@ module _ (l : Layout) (x : Lengths) where
         at_border s t b =
             let on : IsOn l x q s t (use_over l x q s t) (offset_at l x q s t) = place_on l x q s t q_low b.low in
             use_not_inside l x (l.use_at q s (use_over l x q s t)) (offset_at l x q s t) p i j on.inside
-                (sym (border_point l x laid len q s t q_low (omega (arith, b.low)))
-                    ∙ (λ r. point l x q (sym b.column r) (sym b.row r)) ∙ e)
+            (sym (border_point l x laid len q s t q_low (omega (arith, b.low)))
+            ∙ (λ r. point l x q (sym b.column r) (sym b.row r)) ∙ e)
 
     abbrev Inner : (p i j : ℕ) → Type 0
     Inner p i j = (p < l.patches) × IsInner l x laid.paved len p i j
@@ -166,7 +165,7 @@ module _ (l : Layout) (x : Lengths) where
         at_tip : tip p i j w ≡ inside p i j → ⊥
         at_tip f =
             let s : (p ≡ p) × (tip_column i w ≡ i) × (tip_row j w ≡ j) =
-                point_sort p (tip_column i w) (tip_row j w) p i j n.0 (tip_low p i j w n).0 (tip_low p i j w n).1 f in
+            point_sort p (tip_column i w) (tip_row j w) p i j n.0 (tip_low p i j w n).0 (tip_low p i j w n).1 f in
             no_tip_at_hub i j w n.1.a_some n.1.b_some s.1 s.2
 
         by_order : Joins (spoke p i j w) (inside p i j) (tip p i j w) → ⊥
@@ -208,7 +207,7 @@ module _ (l : Layout) (x : Lengths) where
 
           w_point : side_point l x p s t ≡ along (use_of l (slot p s (l.many p s - 1))).arc
               (cond (use_of l (slot p s (l.many p s - 1))).forward (x (use_of l (slot p s (l.many p s - 1))).arc - 1)
-                  (x (use_of l (slot p s (l.many p s - 1))).arc - (x (use_of l (slot p s (l.many p s - 1))).arc - 1)))
+              (x (use_of l (slot p s (l.many p s - 1))).arc - (x (use_of l (slot p s (l.many p s - 1))).arc - 1)))
           w_point = ap (side_point l x p s) place
               ∙ side_in l x (slot p s (l.many p s - 1)) (x (use_of l (slot p s (l.many p s - 1))).arc - 1) is_w (omega (arith, w_two))
               ∙ use_inner l x (use_of l (slot p s (l.many p s - 1))) (x (use_of l (slot p s (l.many p s - 1))).arc - 1) (omega (arith, w_two)) (omega (arith, w_two))
@@ -221,7 +220,7 @@ module _ (l : Layout) (x : Lengths) where
           arcs : (use_of l (slot p s (l.many p s - 1))).arc ≡ (use_of l (slot p (after s) 0)).arc
           arcs = let f : along (use_of l (slot p s (l.many p s - 1))).arc
               (cond (use_of l (slot p s (l.many p s - 1))).forward (x (use_of l (slot p s (l.many p s - 1))).arc - 1)
-                  (x (use_of l (slot p s (l.many p s - 1))).arc - (x (use_of l (slot p s (l.many p s - 1))).arc - 1)))
+              (x (use_of l (slot p s (l.many p s - 1))).arc - (x (use_of l (slot p s (l.many p s - 1))).arc - 1)))
               ≡ along (use_of l (slot p (after s) 0)).arc
               (cond (use_of l (slot p (after s) 0)).forward 1 (x (use_of l (slot p (after s) 0)).arc - 1)) =
               sym w_point ∙ same ∙ v_point in cc
@@ -235,13 +234,13 @@ module _ (l : Layout) (x : Lengths) where
           alike : (use_of l (slot p s (l.many p s - 1))).forward ≡ (use_of l (slot p (after s) 0)).forward → ⊥
           alike ways =
               no_turn s (ap (λ (u : Slot). u.side)
-                  (laid.once (slot p s (l.many p s - 1)) (slot p (after s) 0) is_w is_v (λ r. record { arc = arcs r; forward = ways r })))
+              (laid.once (slot p s (l.many p s - 1)) (slot p (after s) 0) is_w is_v (λ r. record { arc = arcs r; forward = ways r })))
 
           turned : (use_of l (slot p (after s) 0)).forward ≡ not (use_of l (slot p s (l.many p s - 1))).forward → ⊥
           turned ways =
               laid.no_fold (slot p (after s) 0) is_v refl
-                  (subst (λ (q : Way). AreReverse (l.use_at p q (l.many p q - 1)) (l.use_at p (after s) 0)) (sym (before_after s))
-                      (record { arc = sym arcs; turned = ways }))
+              (subst (λ (q : Way). AreReverse (l.use_at p q (l.many p q - 1)) (l.use_at p (after s) 0)) (sym (before_after s))
+              (record { arc = sym arcs; turned = ways }))
 
           by_ways : (f g : Bool) → (use_of l (slot p s (l.many p s - 1))).forward ≡ f → (use_of l (slot p (after s) 0)).forward ≡ g → ⊥
           by_ways true true f g = alike (f ∙ sym g)
@@ -277,32 +276,32 @@ module _ (l : Layout) (x : Lengths) where
       near_tips : (p i j : ℕ) (w v : Way) → Inner p i j → Inner p (tip_column i w) (tip_row j w) → tip p i j w ≡ tip p i j v → w ≡ v
       near_tips p i j w v n near same =
           let e : (p ≡ p) × (tip_column i v ≡ tip_column i w) × (tip_row j v ≡ tip_row j w) =
-              point_sort p (tip_column i v) (tip_row j v) p (tip_column i w) (tip_row j w) n.0 (tip_low p i j v n).0 (tip_low p i j v n).1
-                  (sym same ∙ hub p (tip_column i w) (tip_row j w) near) in
+          point_sort p (tip_column i v) (tip_row j v) p (tip_column i w) (tip_row j w) n.0 (tip_low p i j v n).0 (tip_low p i j v n).1
+          (sym same ∙ hub p (tip_column i w) (tip_row j w) near) in
           one_way i j w v n.1.a_some n.1.b_some (sym e.1) (sym e.2)
 
       east_north : (p i j : ℕ) → Inner p i j → Far p i j east → Far p i j north → tip p i j east ≢ tip p i j north
       east_north p i j n e f same =
           let one : wide l x p - i ≡ 1 = omega arith in
           beside_corner p east j n.0 (omega (arith, len.upright p n.0))
-              (sym (point_east l x laid len p (i + 1) j n.0 e (omega arith)) ∙ same
-                  ∙ point_north l x laid len p i (j + 1) n.0 f ∙ ap (side_point l x p north) one)
+          (sym (point_east l x laid len p (i + 1) j n.0 e (omega arith)) ∙ same
+          ∙ point_north l x laid len p i (j + 1) n.0 f ∙ ap (side_point l x p north) one)
 
       north_west : (p i j : ℕ) → Inner p i j → Far p i j north → Far p i j west → tip p i j north ≢ tip p i j west
       north_west p i j n e f same =
           let first : i - 1 ≡ 0 = omega arith in
           let one : high l x p - j ≡ 1 = omega arith in
           beside_corner p north (wide l x p - i) n.0 (omega (arith, n.1.a_low, len.across p n.0))
-              (sym (point_north l x laid len p i (j + 1) n.0 e) ∙ same
-                  ∙ ap (λ k. point l x p k j) first ∙ point_west l x laid len p j n.0 (omega arith) ∙ ap (side_point l x p west) one)
+          (sym (point_north l x laid len p i (j + 1) n.0 e) ∙ same
+          ∙ ap (λ k. point l x p k j) first ∙ point_west l x laid len p j n.0 (omega arith) ∙ ap (side_point l x p west) one)
 
       west_south : (p i j : ℕ) → Inner p i j → Far p i j west → Far p i j south → tip p i j west ≢ tip p i j south
       west_south p i j n e f same =
           let first : i - 1 ≡ 0 = omega arith in
           let bottom : j - 1 ≡ 0 = omega arith in
           beside_corner p west (high l x p - j) n.0 (omega (arith, n.1.b_low))
-              (sym (point_west l x laid len p j n.0 (omega (arith, n.1.b_low))) ∙ ap (λ k. point l x p k j) (sym first) ∙ same
-                  ∙ ap (point l x p i) bottom ∙ ap (side_point l x p south) e')
+          (sym (point_west l x laid len p j n.0 (omega (arith, n.1.b_low))) ∙ ap (λ k. point l x p k j) (sym first) ∙ same
+          ∙ ap (point l x p i) bottom ∙ ap (side_point l x p south) e')
         where
           e' : i ≡ 1
           e' = e
@@ -311,22 +310,22 @@ module _ (l : Layout) (x : Lengths) where
       south_east p i j n e f same =
           let bottom : j - 1 ≡ 0 = omega arith in
           beside_corner p south i n.0 f
-              (ap (point l x p i) (sym bottom) ∙ same
-                  ∙ point_east l x laid len p (i + 1) j n.0 f (omega (arith, n.1.b_low)) ∙ ap (side_point l x p east) e)
+          (ap (point l x p i) (sym bottom) ∙ same
+          ∙ point_east l x laid len p (i + 1) j n.0 f (omega (arith, n.1.b_low)) ∙ ap (side_point l x p east) e)
 
       east_west : (p i j : ℕ) → Inner p i j → Far p i j east → Far p i j west → tip p i j east ≢ tip p i j west
       east_west p i j n e f same =
           let first : i - 1 ≡ 0 = omega arith in
           let two : i + 1 ≡ 2 = omega arith in
           open_l.across p j n.0 (omega arith) n.1.b_some n.1.b_low
-              (ap (λ k. point l x p k j) (sym first) ∙ sym same ∙ ap (λ k. point l x p k j) two)
+          (ap (λ k. point l x p k j) (sym first) ∙ sym same ∙ ap (λ k. point l x p k j) two)
 
       north_south : (p i j : ℕ) → Inner p i j → Far p i j north → Far p i j south → tip p i j north ≢ tip p i j south
       north_south p i j n e f same =
           let first : j - 1 ≡ 0 = omega arith in
           let two : j + 1 ≡ 2 = omega arith in
           open_l.upright p i n.0 (omega arith) n.1.a_some n.1.a_low
-              (ap (point l x p i) (sym first) ∙ sym same ∙ ap (point l x p i) two)
+          (ap (point l x p i) (sym first) ∙ sym same ∙ ap (point l x p i) two)
 
       far_tips : (p i j : ℕ) (w v : Way) → Inner p i j → Far p i j w → Far p i j v → tip p i j w ≡ tip p i j v → w ≡ v
       far_tips p i j east east n e f same = refl
@@ -360,13 +359,25 @@ module _ (l : Layout) (x : Lengths) where
           → (p : ℕ) × (i : ℕ) × (j : ℕ) × (w : Way) × Inner p i j × (e ≡ spoke p i j w)
       edge_spoke (on_arc a k) is off = absurd cc
       edge_spoke (flat p i j) is off = elim (cases_eq i 0) [
-        | inl z ↦ (p, 1, j, west, (is.0, record { a_some = omega arith; a_low = omega (arith, side_two p south is.0); b_some = is.2; b_low = is.3 }),
-          ap (λ k. flat p k j) z)
+        | inl z ↦ (
+          p,
+          1,
+          j,
+          west,
+          (is.0, record { a_some = omega arith; a_low = omega (arith, side_two p south is.0); b_some = is.2; b_low = is.3 }),
+          ap (λ k. flat p k j) z,
+        )
         | inr some ↦ (p, i, j, east, (is.0, record { a_some = omega arith; a_low = is.1; b_some = is.2; b_low = is.3 }), refl)
       ]
       edge_spoke (steep p i j) is off = elim (cases_eq j 0) [
-        | inl z ↦ (p, i, 1, south, (is.0, record { a_some = is.1; a_low = is.2; b_some = omega arith; b_low = omega (arith, side_two p west is.0) }),
-          ap (steep p i) z)
+        | inl z ↦ (
+          p,
+          i,
+          1,
+          south,
+          (is.0, record { a_some = is.1; a_low = is.2; b_some = omega arith; b_low = omega (arith, side_two p west is.0) }),
+          ap (steep p i) z,
+        )
         | inr some ↦ (p, i, j, north, (is.0, record { a_some = is.1; a_low = is.2; b_some = omega arith; b_low = is.3 }), refl)
       ]
 
@@ -381,18 +392,18 @@ module _ (l : Layout) (x : Lengths) where
       arc_tips a k a_low some less same = elim (cases_eq (k + 1) (x a)) [
         | inl last ↦ elim (cases_eq k 1) [
           | inl one ↦
-            let z : k - 1 ≡ 0 = omega arith in
-            let ends : node (l.last a) ≡ node (l.first a) =
-                sym (arc_last l x a (k + 1) last (omega arith)) ∙ same ∙ ap (arc_point l x a) z in
-            let s : l.first a ≡ l.last a = cc in
-            open_l.arcs_open a a_low (omega arith) s
+              let z : k - 1 ≡ 0 = omega arith in
+              let ends : node (l.last a) ≡ node (l.first a) =
+              sym (arc_last l x a (k + 1) last (omega arith)) ∙ same ∙ ap (arc_point l x a) z in
+              let s : l.first a ≡ l.last a = cc in
+              open_l.arcs_open a a_low (omega arith) s
           | inr more ↦
-            let s : (a ≡ a) × (k + 1 ≡ k - 1) = arc_sort a (k + 1) a (k - 1) (same ∙ arc_inner l x a (k - 1) (omega arith) (omega arith)) in
-            omega (arith, s.1)
+              let s : (a ≡ a) × (k + 1 ≡ k - 1) = arc_sort a (k + 1) a (k - 1) (same ∙ arc_inner l x a (k - 1) (omega arith) (omega arith)) in
+              omega (arith, s.1)
         ]
         | inr inner ↦
-          let s : (a ≡ a) × (k - 1 ≡ k + 1) = arc_sort a (k - 1) a (k + 1) (sym same ∙ arc_inner l x a (k + 1) (omega arith) (omega arith)) in
-          omega (arith, s.1)
+            let s : (a ≡ a) × (k - 1 ≡ k + 1) = arc_sort a (k - 1) a (k + 1) (sym same ∙ arc_inner l x a (k + 1) (omega arith) (omega arith)) in
+            omega (arith, s.1)
       ]
 
       arcs_once : (a k b m : ℕ) → IsEdge l x (on_arc a k) → IsEdge l x (on_arc b m)
@@ -420,7 +431,7 @@ module _ (l : Layout) (x : Lengths) where
               let c : k + 1 ≡ m + 1 + 1 = omega (arith, e.1) in
               let d : m ≡ m + 1 - 1 = omega arith in
               absurd (arc_tips b (m + 1) is_b.0 (omega arith) (omega (arith, two))
-                  ((λ r. arc_point l x (sym e.0 r) (sym c r)) ∙ s.1 ∙ ap (arc_point l x b) d))
+              ((λ r. arc_point l x (sym e.0 r) (sym c r)) ∙ s.1 ∙ ap (arc_point l x b) d))
 
       -- Edges with the same ends are one.
       joins_once : (e f : Edge) → IsEdge l x e → IsEdge l x f → Joins e (low l x f) (top l x f) → e ≡ f
@@ -442,7 +453,7 @@ module _ (l : Layout) (x : Lengths) where
                   subst (λ (q : Point). Joins g q (tip p i j w)) s.0 (subst (λ (q : Point). Joins g (low l x (spoke p i j w)) q) s.1 on_spoke)
               by_order (inr s) =
                   joins_swap g (tip p i j w) (inside p i j)
-                      (subst (λ (q : Point). Joins g q (inside p i j)) s.0 (subst (λ (q : Point). Joins g (low l x (spoke p i j w)) q) s.1 on_spoke))
+                  (subst (λ (q : Point). Joins g q (inside p i j)) s.0 (subst (λ (q : Point). Joins g (low l x (spoke p i j w)) q) s.1 on_spoke))
 
           flip : Joins e (low l x f) (top l x f) → Joins f (low l x e) (top l x e)
           flip (inl s) = inl (sym s.0, sym s.1)
@@ -469,10 +480,10 @@ module _ (l : Layout) (x : Lengths) where
       no_loop : (e : Edge) → IsEdge l x e → low l x e ≢ top l x e
       no_loop (on_arc a k) is same = elim (cases_eq k 0) [
         | inl z ↦
-          let s : (a ≡ a) × (k ≡ k + 1) = arc_sort a k a (k + 1) (same ∙ arc_inner l x a (k + 1) (omega arith) (omega (arith, open_l.two a is.0))) in
-          omega (arith, s.1)
+            let s : (a ≡ a) × (k ≡ k + 1) = arc_sort a k a (k + 1) (same ∙ arc_inner l x a (k + 1) (omega arith) (omega (arith, open_l.two a is.0))) in
+            omega (arith, s.1)
         | inr some ↦
-          let s : (a ≡ a) × (k + 1 ≡ k) = arc_sort a (k + 1) a k (sym same ∙ arc_inner l x a k (omega arith) is.1) in omega (arith, s.1)
+            let s : (a ≡ a) × (k + 1 ≡ k) = arc_sort a (k + 1) a k (sym same ∙ arc_inner l x a k (omega arith) is.1) in omega (arith, s.1)
       ]
       no_loop (flat p i j) is same = at_spoke (edge_spoke (flat p i j) is refl)
         where

@@ -1,5 +1,5 @@
 -- Relations of darts that hold for turns round a point.
-use Rattle.std.proofs.Common.{◌≡◌, ℕ, ◌+◌, ◌-◌, ◌<◌, refl, sym, ◌∙◌, ap, arith}
+use Rattle.std.proofs.Common.{◌≡◌, ℕ, ◌-◌, ◌<◌, refl, sym, arith}
 use Rattle.def_layout.specs.Layouts.{Way, south, east, north, west, after, Layout, Slot, IsSlot, use_of}
 use Rattle.def_layout.specs.Laid.{IsOther}
 use Rattle.def_layout.specs.Lengths.{Lengths, wide, high}
@@ -12,9 +12,9 @@ pub record IsTurning (l : Layout) (x : Lengths) (R : Dart → Dart → Type 0) :
   pub on : (d c e : Dart) → R d c → R c e → R d e
   pub back : (d e : Dart) → IsDart l x d → R d e → R e d
   pub left : (p i j k m : ℕ) (w : Way) → IsDart l x (dart p i j w) → IsDart l x (dart p k m (after w))
-    → column i w ≡ column k (after w) → row j w ≡ row m (after w) → R (dart p i j w) (dart p k m (after w))
+      → column i w ≡ column k (after w) → row j w ≡ row m (after w) → R (dart p i j w) (dart p k m (after w))
   pub over : (w v : Slot) (o : ℕ) → IsSlot l w → IsOther l w v → o < x (use_of l w).arc
-    → R (next (rim_at l x w o)) (rim_at l x v (x (use_of l w).arc - 1 - o))
+      → R (next (rim_at l x w o)) (rim_at l x v (x (use_of l w).arc - 1 - o))
 
 module _ (l : Layout) (x : Lengths) (R : Dart → Dart → Type 0) (turning : IsTurning l x R) where
   -- A cell holds darts of all four ways.
@@ -30,7 +30,7 @@ module _ (l : Layout) (x : Lengths) (R : Dart → Dart → Type 0) (turning : Is
       → R (dart p i j w) (dart p k m (after (after w)))
   twice p i j a b k m w d c e i_a j_b a_k b_m =
       turning.on (dart p i j w) (dart p a b (after w)) (dart p k m (after (after w)))
-          (turning.left p i j a b w d c i_a j_b) (turning.left p a b k m (after w) c e a_k b_m)
+      (turning.left p i j a b w d c i_a j_b) (turning.left p a b k m (after w) c e a_k b_m)
 
   -- Darts of a patch that leave one grid point are related.
   pub grid_related : (p i j k m : ℕ) (w v : Way) → IsDart l x (dart p i j w) → IsDart l x (dart p k m v)

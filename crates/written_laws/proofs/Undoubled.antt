@@ -1,12 +1,11 @@
 -- No edge is doubled exactly where edges are told by their ends.
-use Rattle.std.proofs.Common.{◌≡◌, ◌≢◌, ◌⊎◌, ℕ, ◌+◌, ◌<◌, ◌≤◌, refl, sym, ◌∙◌, ap, subst, inl, inr, arith}
+use Rattle.std.proofs.Common.{◌≡◌, ◌≢◌, ◌⊎◌, ℕ, refl, sym, ◌∙◌, ap, inl, inr, arith}
 use Rattle.std.proofs.lemmas.Bool.{cases_eq, cases_lt}
 use Rattle.def_layout.specs.Layouts.{Layout}
 use Rattle.def_layout.specs.Laid.{IsLaid}
 use Rattle.def_layout.specs.Lengths.{Lengths, AreLengths}
-use Rattle.def_written.specs.Points.{Point}
 use Rattle.def_written.specs.Numbers.{number}
-use Rattle.def_written.specs.Edges.{Edge, on_arc, flat, steep, IsEdge, low, top, HasEnds, HasLoop, HasPair, IsDoubledAt, IsUndoubled}
+use Rattle.def_written.specs.Edges.{Edge, on_arc, flat, steep, IsEdge, low, top, HasEnds, HasLoop, HasPair, IsUndoubled}
 use Rattle.written_laws.proofs.Numbers.{number_same}
 use Rattle.written_laws.proofs.Simple.{IsSimple}
 use Rattle.written_laws.proofs.EdgeDarts.{edge_points}
@@ -68,14 +67,15 @@ module _ (l : Layout) (x : Lengths) where
   module _ (laid : IsLaid l) (len : AreLengths l x) where
     point_is : (a b : Edge) → IsEdge l x a → IsEdge l x b
         → (number l x (low l x a) ≡ number l x (low l x b) → low l x a ≡ low l x b)
-          × (number l x (low l x a) ≡ number l x (top l x b) → low l x a ≡ top l x b)
-          × (number l x (top l x a) ≡ number l x (low l x b) → top l x a ≡ low l x b)
-          × (number l x (top l x a) ≡ number l x (top l x b) → top l x a ≡ top l x b)
-    point_is a b is_a is_b =
-        (number_same l x (low l x a) (low l x b) (edge_points l x laid len a is_a).0 (edge_points l x laid len b is_b).0,
-            number_same l x (low l x a) (top l x b) (edge_points l x laid len a is_a).0 (edge_points l x laid len b is_b).1,
-            number_same l x (top l x a) (low l x b) (edge_points l x laid len a is_a).1 (edge_points l x laid len b is_b).0,
-            number_same l x (top l x a) (top l x b) (edge_points l x laid len a is_a).1 (edge_points l x laid len b is_b).1)
+        × (number l x (low l x a) ≡ number l x (top l x b) → low l x a ≡ top l x b)
+        × (number l x (top l x a) ≡ number l x (low l x b) → top l x a ≡ low l x b)
+        × (number l x (top l x a) ≡ number l x (top l x b) → top l x a ≡ top l x b)
+    point_is a b is_a is_b = (
+      number_same l x (low l x a) (low l x b) (edge_points l x laid len a is_a).0 (edge_points l x laid len b is_b).0,
+      number_same l x (low l x a) (top l x b) (edge_points l x laid len a is_a).0 (edge_points l x laid len b is_b).1,
+      number_same l x (top l x a) (low l x b) (edge_points l x laid len a is_a).1 (edge_points l x laid len b is_b).0,
+      number_same l x (top l x a) (top l x b) (edge_points l x laid len a is_a).1 (edge_points l x laid len b is_b).1,
+    )
 
     pub undoubled_from : IsSimple l x → IsUndoubled l x
     undoubled_from simple u v doubled = by_kind doubled.1
