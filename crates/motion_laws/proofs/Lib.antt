@@ -4,3 +4,6 @@ pub mod Bits
 pub mod Next
 pub mod Steps
 pub mod Traced
+pub mod Marks
+pub mod Shown
+pub mod Order
