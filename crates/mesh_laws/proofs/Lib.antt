@@ -4,3 +4,4 @@ pub mod Fans
 pub mod Vertices
 pub mod Chains
 pub mod HalfEdges
+pub mod Flood

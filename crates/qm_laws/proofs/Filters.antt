@@ -1,7 +1,7 @@
 -- Filters of a range and the first that passes: what stands at each place, that each number that passes has one.
-use Rattle.std.proofs.Common.{◌≡◌, ◌⊎◌, ℕ, zero, suc, ◌+◌, ◌<◌, ◌≤◌, Bool, true, false, cond, List, [], ◌∷◌, ◌++◌, length, get_or, Some, None, sym, subst, ap, ◌∙◌, refl, inl, inr, arith}
-use Rattle.std.proofs.lemmas.Bool.{both_ways, cases_eq, cases_lt}
-use Rattle.std.specs.List.{filter, find, range_with_len}
+use Rattle.std.proofs.Common.{◌≡◌, ◌⊎◌, ℕ, zero, suc, ◌+◌, ◌<◌, ◌≤◌, Bool, true, false, cond, List, [], ◌∷◌, ◌++◌, length, map, get_or, Some, None, sym, subst, ap, ◌∙◌, refl, inl, inr, arith}
+use Rattle.std.proofs.lemmas.Bool.{both_ways, cases_eq, cases_lt, or_left, or_right, or_cases, false≢true}
+use Rattle.std.specs.List.{filter, find, list_any, range_with_len}
 use Rattle.std.proofs.lemmas.Option.{none-some, same_Some}
 use Rattle.std.proofs.lemmas.List.FromFn.{map-range_with_len_more}
 use Rattle.std.proofs.lemmas.List.{map-id}
@@ -78,3 +78,23 @@ find_passes p a (suc n) x e = at (p a) refl e (λ q. let r : (p x ≡ true) × (
     at : (b : Bool) → p a ≡ b → cond b (Some a) (find p (range_with_len (a + 1) n)) ≡ Some x → (find p (range_with_len (a + 1) n) ≡ Some x → (p x ≡ true) × (x < a + suc n)) → (p x ≡ true) × (x < a + suc n)
     at true t e after = let s : a ≡ x = same_Some a x e in (subst (λ (y : ℕ). p y ≡ true) s t, omega arith)
     at false t e after = after e
+
+-- A test that some number of a range passes.
+pub any_in_range : (p : ℕ → Bool) (a n x : ℕ) → a ≤ x → x < a + n → p x ≡ true → list_any p (range_with_len a n) ≡ true
+any_in_range p a zero x l h t = absurd (omega arith)
+any_in_range p a (suc n) x l h t = elim (cases_eq a x) [
+  | inl e ↦ or_left _ _ (ap p e ∙ t)
+  | inr ne ↦ or_right _ _ (any_in_range p (a + 1) n x (omega arith) (omega arith) t)
+]
+
+pub range_any : (p : ℕ → Bool) (a n : ℕ) → list_any p (range_with_len a n) ≡ true → (x : ℕ) × (a ≤ x) × (x < a + n) × (p x ≡ true)
+range_any p a zero t = absurd (false≢true t)
+range_any p a (suc n) t = elim (or_cases _ _ t) [
+  | inl on ↦ (a, omega arith, omega arith, on)
+  | inr rest ↦ let r : (x : ℕ) × (a + 1 ≤ x) × (x < a + 1 + n) × (p x ≡ true) = range_any p (a + 1) n rest in (r.0, omega (arith, r.1), omega (arith, r.2), r.3)
+]
+
+-- Values along a range that agree.
+pub map_range_same : {X : Type 0} (f g : ℕ → X) (a n : ℕ) → ((x : ℕ) → a ≤ x → x < a + n → f x ≡ g x) → map f (range_with_len a n) ≡ map g (range_with_len a n)
+map_range_same f g a zero same = refl
+map_range_same f g a (suc n) same = rw (same a (omega arith) (omega arith)) (ap (λ xs. g a ∷ xs) (map_range_same f g (a + 1) n (λ x l h. same x (omega arith) (omega arith))))
