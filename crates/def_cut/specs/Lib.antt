@@ -7,3 +7,4 @@ pub mod Steps
 pub mod Motion
 pub mod Traced
 pub mod Events
+pub mod MotionLaws

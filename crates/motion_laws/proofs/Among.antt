@@ -1,7 +1,8 @@
 -- Lists of darts: what stands among them, filters, and lists without repeats.
-use Rattle.std.proofs.Common.{◌≡◌, ◌≢◌, ◌⊎◌, ℕ, Bool, true, false, cond, eqb, List, [], ◌∷◌, sym, ap, ◌∙◌, refl, inl, inr}
-use Rattle.std.specs.List.{filter, list_any}
-use Rattle.std.proofs.lemmas.Bool.{or_left, or_right, or_cases, eq-eqb, eqb-true, false≢true, false_from_ne_true}
+use Rattle.std.proofs.Common.{◌≡◌, ◌≢◌, ◌⊎◌, ℕ, zero, suc, Bool, true, false, cond, eqb, ◌&&◌, ◌+◌, ◌<◌, ◌≤◌, List, [], ◌∷◌, arith, sym, ap, ◌∙◌, refl, inl, inr}
+use Rattle.std.specs.List.{filter, list_any, list_all, range_with_len}
+use Rattle.std.proofs.lemmas.Bool.{or_left, or_right, or_cases, eq-eqb, eqb-true, and_parts, false≢true, false_from_ne_true}
+use Rattle.qm_laws.proofs.Filters.{any_in_range, range_any}
 use Rattle.def_cut.specs.Motion.{is_among}
 
 -- Among a list with one dart more.
@@ -25,6 +26,21 @@ any_where p (e ∷ ds) t = elim (or_cases _ _ t) [
   | inl a ↦ (e, among_here e e ds refl, a)
   | inr b ↦ let r : (d : ℕ) × (is_among d ds ≡ true) × (p d ≡ true) = any_where p ds b in (r.0, among_later r.0 e ds r.1, r.2)
 ]
+
+-- A test that all of a list pass, or that one does not.
+pub all_at : (p : ℕ → Bool) (d : ℕ) (ds : List ℕ) → list_all p ds ≡ true → is_among d ds ≡ true → p d ≡ true
+all_at p d [] all m = absurd (false≢true m)
+all_at p d (e ∷ ds) all m =
+    let b : (p e ≡ true) × (list_all p ds ≡ true) = and_parts _ _ all in
+    elim (or_cases _ _ m) [ inl s ↦ ap p (eqb-true d e s) ∙ b.0 | inr k ↦ all_at p d ds b.1 k ]
+
+pub not_all : (p : ℕ → Bool) (ds : List ℕ) → list_all p ds ≡ false → (d : ℕ) × (is_among d ds ≡ true) × (p d ≡ false)
+not_all p [] off = absurd (false≢true (sym off))
+not_all p (e ∷ ds) off = at (p e) refl off (not_all p ds)
+  where
+    at : (b : Bool) → p e ≡ b → (b && list_all p ds) ≡ false → (list_all p ds ≡ false → (d : ℕ) × (is_among d ds ≡ true) × (p d ≡ false)) → (d : ℕ) × (is_among d (e ∷ ds) ≡ true) × (p d ≡ false)
+    at false is off rest = (e, among_here e e ds refl, is)
+    at true is off rest = let r : (d : ℕ) × (is_among d ds ≡ true) × (p d ≡ false) = rest off in (r.0, among_later r.0 e ds r.1, r.2)
 
 -- What stands among a filter.
 pub in_filter : (p : ℕ → Bool) (d : ℕ) (ds : List ℕ) → is_among d ds ≡ true → p d ≡ true → is_among d (filter p ds) ≡ true
@@ -60,3 +76,14 @@ apart_filter p (e ∷ ds) a = at (p e) (apart_filter p ds a.1)
     at : (b : Bool) → AreApart (filter p ds) → AreApart (cond b (e ∷ filter p ds) (filter p ds))
     at true rest = (false_from_ne_true _ (λ m. let q : (is_among e ds ≡ true) × (p e ≡ true) = from_filter p e ds m in false≢true (sym a.0 ∙ q.0)), rest)
     at false rest = rest
+
+-- What stands among a range.
+pub among_range : (a n d : ℕ) → a ≤ d → d < a + n → is_among d (range_with_len a n) ≡ true
+among_range a n d l h = any_in_range (λ e. eqb d e) a n d l h (eq-eqb d d refl)
+
+pub range_among : (a n d : ℕ) → is_among d (range_with_len a n) ≡ true → (a ≤ d) × (d < a + n)
+range_among a n d m = let r : (x : ℕ) × (a ≤ x) × (x < a + n) × (eqb d x ≡ true) = range_any (λ e. eqb d e) a n m in (omega (arith, eqb-true d r.0 r.3, r.1), omega (arith, eqb-true d r.0 r.3, r.2))
+
+pub range_apart : (a : ℕ) (n : ℕ) → AreApart (range_with_len a n)
+range_apart a zero = tt
+range_apart a (suc n) = (false_from_ne_true _ (λ m. let r : (a + 1 ≤ a) × (a < a + 1 + n) = range_among (a + 1) n a m in absurd (omega (arith, r.0))), range_apart (a + 1) n)

@@ -119,12 +119,12 @@ found_more (Some t) ds es d more = more t ∙ ap (λ b. is_among t ds || b) (at 
     at false = refl
 
 -- Numbers that differ and are below n are at most n.
-among_at : (xs : List ℕ) (i : ℕ) → i < length xs → is_among (get_or xs i 0) xs ≡ true
+pub among_at : (xs : List ℕ) (i : ℕ) → i < length xs → is_among (get_or xs i 0) xs ≡ true
 among_at [] i l = absurd (omega arith)
 among_at (x ∷ xs) zero l = among_here x x xs refl
 among_at (x ∷ xs) (suc i) l = among_later (get_or xs i 0) x xs (among_at xs i (omega arith))
 
-places_apart : (xs : List ℕ) → AreApart xs → (i j : ℕ) → i < length xs → j < length xs → get_or xs i 0 ≡ get_or xs j 0 → i ≡ j
+pub places_apart : (xs : List ℕ) → AreApart xs → (i j : ℕ) → i < length xs → j < length xs → get_or xs i 0 ≡ get_or xs j 0 → i ≡ j
 places_apart [] a i j li lj e = absurd (omega arith)
 places_apart (x ∷ xs) a zero zero li lj e = refl
 places_apart (x ∷ xs) a zero (suc j) li lj e = absurd (false≢true (sym a.0 ∙ (ap (λ k. is_among k xs) e ∙ among_at xs j (omega arith))))

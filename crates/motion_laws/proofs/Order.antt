@@ -1,6 +1,6 @@
 -- Events keep what event states show, so every order of events has one end.
 use Rattle.std.proofs.Common.{◌≡◌, ◌≢◌, ◌⊎◌, ℕ, zero, suc, ◌+◌, ◌-◌, ◌<◌, ◌≤◌, Bool, true, false, not, cond, eqb, ◌&&◌, ◌||◌, List, [], ◌∷◌, ◌++◌, map, length, get_or, set, replicate, Option, Some, None, sym, subst, ap, ◌∙◌, refl, inl, inr, arith}
-use Rattle.std.specs.List.{list_any, list_all}
+use Rattle.std.specs.List.{list_any}
 use Rattle.std.proofs.lemmas.Option.{none-some, same_Some}
 use Rattle.std.proofs.lemmas.Bool.{eq-eqb, ne_eqb, eqb-true, false≢true, cases_Bool, cases_eq, cases_lt, or_left, or_right, or_cases, and_parts, and_from, not_from_false, not_from_true}
 use Rattle.std.proofs.lemmas.List.{get_or-set_same, get_or-set_other, length-set, length-replicate, length-map, length-append}
@@ -11,28 +11,13 @@ use Rattle.def_cut.specs.Motion.{Terrain, State, end_of, with_next, ridden, is_a
 use Rattle.def_cut.specs.Traced.{finish, end_state}
 use Rattle.def_cut.specs.Events.{EventState, waiting, darts_in, rider_at, note_at, may_ride, mark_twin, after_ride_of, ends_at, may_settle, all_told, decided_at, is_closed, closed, if_closed, after_settling, first_state, Event, May, after_event, Leads, rides_in, NobodyRuns}
 use Rattle.def_cut.specs.Events.Event.{Ride, Settle}
-use Rattle.motion_laws.proofs.Among.{among_here, among_later, any_at, any_where, AreApart}
+use Rattle.motion_laws.proofs.Among.{among_here, among_later, any_at, any_where, all_at, not_all, AreApart}
 use Rattle.motion_laws.proofs.Marks.{none_on, no_darts, twin_marks, from_marks, marked_long, noted_more, noted_longer, found_more, apart_few, among_append, apart_append}
 use Rattle.motion_laws.proofs.Next.{with_later}
 use Rattle.motion_laws.proofs.Shown.{IsShown, AreShown, AllNoted, long, all_noted, darts_are, noted_rides, notes_apart, ride_shown, waits_as_was, waits_not_all, somebody, as_was, still_runs, closed_is, none_shown, told_shown, told_long}
 use Rattle.motion_laws.proofs.Steps.{same_test, step_keeps, back}
 use Rattle.motion_laws.proofs.Terrains.{IsTerrain, IsStarted, IsReached}
 use Rattle.motion_laws.proofs.Traced.{start_reached, after_reached, ridden_once, at_rest, runs_on, nobody_runs}
-
--- A test that all of a list pass, or that one does not.
-all_at : (p : ℕ → Bool) (d : ℕ) (ds : List ℕ) → list_all p ds ≡ true → is_among d ds ≡ true → p d ≡ true
-all_at p d [] all m = absurd (false≢true m)
-all_at p d (e ∷ ds) all m =
-    let b : (p e ≡ true) × (list_all p ds ≡ true) = and_parts _ _ all in
-    elim (or_cases _ _ m) [ inl s ↦ ap p (eqb-true d e s) ∙ b.0 | inr k ↦ all_at p d ds b.1 k ]
-
-not_all : (p : ℕ → Bool) (ds : List ℕ) → list_all p ds ≡ false → (d : ℕ) × (is_among d ds ≡ true) × (p d ≡ false)
-not_all p [] off = absurd (false≢true (sym off))
-not_all p (e ∷ ds) off = at (p e) refl off (not_all p ds)
-  where
-    at : (b : Bool) → p e ≡ b → (b && list_all p ds) ≡ false → (list_all p ds ≡ false → (d : ℕ) × (is_among d ds ≡ true) × (p d ≡ false)) → (d : ℕ) × (is_among d (e ∷ ds) ≡ true) × (p d ≡ false)
-    at false is off rest = (e, among_here e e ds refl, is)
-    at true is off rest = let r : (d : ℕ) × (is_among d ds ≡ true) × (p d ≡ false) = rest off in (r.0, among_later r.0 e ds r.1, r.2)
 
 none_found : (o : Option ℕ) → is_found o [] ≡ false
 none_found None = refl

@@ -1,0 +1,4 @@
+pub mod Fans
+pub mod Sources
+pub mod Sites
+pub mod Laws
