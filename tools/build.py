@@ -28,7 +28,7 @@ PROGRAM = BUILD / "quadq"
 LOG = BUILD / "log"
 MADE = ROOT / "crates/qm_prog/out/qm_prog"
 FAILED = 70
-QUIET_SECONDS = 5
+QUIET_SECONDS = 8
 KIB_A_JOB = 1_500_000
 SHOWN_LINES = 20
 
@@ -147,20 +147,22 @@ def lock():
         pass
 
 
-def crates_below(name):
-    """The crate and all those of this repository that it stands on."""
+def uses_of_crates():
+    """The libraries that each crate of this repository uses, by crates.txt."""
     uses = {}
     for line in (ROOT / "crates.txt").read_text().splitlines():
         crate, _, deps = line.partition("#")[0].partition(":")
         if crate.split():
             uses[crate.split()[0]] = deps.split()
-    found, waiting = set(), [name]
-    while waiting:
-        crate = waiting.pop()
-        if crate in uses and crate not in found:
-            found.add(crate)
-            waiting += uses[crate]
-    return found
+    return uses
+
+
+def crates_below(name, uses):
+    """The crate and all those of this repository that it stands on, those that it uses first."""
+    found = []
+    for crate in uses.get(name, []):
+        found += [it for it in crates_below(crate, uses) if it not in found]
+    return [*found, name] if name in uses else found
 
 
 class Progress:
@@ -168,8 +170,9 @@ class Progress:
 
     def __init__(self):
         self.started = self.told = time.monotonic()
-        self.crates = crates_below("qm_prog")
-        self.done = []
+        self.uses = uses_of_crates()
+        self.crates = crates_below("qm_prog", self.uses)
+        self.done = set()
         self.counted = ""
         self.waits = False
 
@@ -189,14 +192,22 @@ class Progress:
 
     def end(self, crate):
         if crate in self.crates and crate not in self.done:
-            self.done.append(crate)
+            self.done.update(crates_below(crate, self.uses))
             self.counted = ""
-            self.tell(f"{crate} is checked, {len(self.done)} of {len(self.crates)} crates")
+            self.tell(f"{crate} is proved, {len(self.done)} of {len(self.crates)} crates")
 
     def beat(self):
         if time.monotonic() - self.told > QUIET_SECONDS:
-            at = f"at work on the next crate{f', {self.counted}' if self.counted else ''}"
+            at = f"proving {self.at_work()}{f', {self.counted}' if self.counted else ''}"
             self.tell("still waiting" if self.waits else at)
+
+    def at_work(self):
+        """The crate whose library is begun and not whole, as far as its folder tells."""
+        for crate in self.crates:
+            library = ROOT / "crates" / crate / "out/rlib"
+            if library.is_dir() and not (library / "stamp").exists():
+                return crate
+        return "the next crate"
 
 
 def jobs():

@@ -148,7 +148,7 @@ wants "standard output closed" 7 $?
 
 at=$room/five
 checkout "$at"
-echo 7 >"$room/slow"
+echo 10 >"$room/slow"
 "$at/quadq" >"$room/out1" 2>"$room/err1" &
 sleep 1
 "$at/quadq" >"$room/out2" 2>"$room/err2"
@@ -156,12 +156,12 @@ wait
 wants "two starts at once build once" "first: first:  1" "$(cat "$room/out1" "$room/out2" | tr -d '\n') $(builds)"
 holds "the second says that it waits" grep -q "waiting for it" "$room/err2"
 holds "it says so again" grep -q "still waiting" "$room/err2"
-holds "a long build is not silent" grep -qE "[5-7] s: at work on the next crate, 5 of 9 functions" "$room/err1"
-holds "each crate is told" grep -qE "[7-9] s: low is checked, 1 of 2 crates" "$room/err1"
+holds "a long build is not silent" grep -qE "[89] s: proving the next crate, 5 of 9 functions" "$room/err1"
+holds "each crate is told" grep -qE "1[0-3] s: low is proved, 1 of 2 crates" "$room/err1"
 
 at=$room/gate
 checkout "$at"
-echo 7 >"$room/slow"
+echo 10 >"$room/slow"
 touch "$room/waits"
 "$at/quadq" >/dev/null 2>"$room/err1"
 rm "$room/waits"
