@@ -1,9 +1,10 @@
--- The exit status of each answer.
+-- How the program ends.
 use Rattle.std.specs.Prelude.{ℕ}
 use Rattle.def_run.specs.declared.answer.Answer.{Answer}
 use Rattle.def_run.specs.declared.answer.Answer.TheVariants.{Done, Usage, Syntax, NotQuad, Range, Limit, NotManifold, ReadFault, WriteFault, Memory}
 
-abbrev pub status_of : Answer → ℕ
+-- The exit status of an answer.
+abbrev pub status_of : (answer : Answer) → ℕ
 status_of Done = 0
 status_of Usage = 2
 status_of (Syntax line) = 3

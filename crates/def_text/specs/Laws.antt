@@ -34,4 +34,4 @@ pub record IsWritable (s : FaceSet) : Type 0 where
 abbrev pub ReadsBack : Type 0
 ReadsBack = (s : FaceSet) → IsWritable s
     → text_soup 1 (lines_of (canonical_text s))
-      ≡ Ok (record { pos = s.pos; faces = s.faces; names = numbers_to (length s.pos) })
+    ≡ Ok (record { pos = s.pos; faces = s.faces; names = numbers_to (length s.pos) })

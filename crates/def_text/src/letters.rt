@@ -2,6 +2,7 @@
 
 /// Space and tab are the blanks between words.
 pub const SPACE: u8 = b' ';
+
 pub const TAB: u8 = b'\t';
 
 /// A comment runs from here to the end of its physical line.
@@ -20,6 +21,7 @@ pub const FACE: u8 = b'f';
 pub const SLASH: u8 = b'/';
 
 pub const PLUS: u8 = b'+';
+
 pub const MINUS: u8 = b'-';
 
 /// Before the digits of a fraction.
@@ -27,6 +29,7 @@ pub const POINT: u8 = b'.';
 
 /// Before the exponent of a decimal.
 pub const SMALL_E: u8 = b'e';
+
 pub const LARGE_E: u8 = b'E';
 
 pub const ZERO: u8 = b'0';

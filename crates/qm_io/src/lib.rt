@@ -1,9 +1,9 @@
 //! The outside as quadq sees it: where bytes come from and go to, and the lines of a text.
 #![tactic(auto)]
 
+mod ends;
 mod lines;
 mod memory;
-mod ends;
 mod reading;
 mod streams;
 #[cfg(test)]

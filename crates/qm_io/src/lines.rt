@@ -103,7 +103,10 @@ fn line_at<'a>(bytes: &'a [u8], ends: &[u32], i: usize) -> &'a [u8]
     requires there { i < length (lines_of bytes.now) }
     ensures { result.now ≡ slice_index_or (lines_of bytes.now) i [] }
 {
-    strip_last(strip_last(piece_at(bytes, ends, i), LINE_FEED), CARRIAGE_RETURN)
+    strip_last(
+        strip_last(piece_at(bytes, ends, i), LINE_FEED),
+        CARRIAGE_RETURN,
+    )
 }
 
 fn strip_last(piece: &[u8], byte: u8) -> &[u8]

@@ -3,8 +3,8 @@ ghost use Rattle.def_io.specs.Faults.{Rose};
 ghost use Rattle.def_io.specs.Moves.{gave, IsEmptied, GaveMore};
 ghost use Rattle.qm_io.specs.Gained.{Gained};
 
-use crate::lines::Lines;
 use crate::ends::ends_of;
+use crate::lines::Lines;
 use crate::traits::{Memory, Source};
 use def_io::ReadFail;
 use std::alloc::Global;

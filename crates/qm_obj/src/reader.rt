@@ -51,7 +51,10 @@ impl Reader {
             text,
         ) {
             Reading::Passed => Ok(()),
-            Reading::Position(position) => self.positions.push(position).map_err(|_| ObjFail::Memory),
+            Reading::Position(position) => self
+                .positions
+                .push(position)
+                .map_err(|_| ObjFail::Memory),
             Reading::Face { line, corners } => self.keep_face(line, corners),
             Reading::Refused(fail) => Err(fail),
         }

@@ -96,7 +96,11 @@ fn mark_face(marks: &mut [bool], face: &[u32; 4])
     }
 }
 
-fn keep_marked(alloc: Global, positions: &mut Vec<[Micro; 3]>, marks: &[bool]) -> Result<Kept, Memory>
+fn keep_marked(
+    alloc: Global,
+    positions: &mut Vec<[Micro; 3]>,
+    marks: &[bool],
+) -> Result<Kept, Memory>
     requires few { length marks.now ≤ 2 ^ 21 }
     requires each { length positions.old.items ≡ length marks.now }
     ensures names { IfOk result (λ kept. kept.names.items ≡ chosen marks.now (length marks.now)) }
@@ -115,7 +119,11 @@ fn keep_marked(alloc: Global, positions: &mut Vec<[Micro; 3]>, marks: &[bool]) -
     Ok(Kept { names, vertices })
 }
 
-fn keep_position(positions: &mut Vec<[Micro; 3]>, names: &mut Vec<u32>, k: usize) -> Result<(), Memory>
+fn keep_position(
+    positions: &mut Vec<[Micro; 3]>,
+    names: &mut Vec<u32>,
+    k: usize,
+) -> Result<(), Memory>
     requires there { k < length positions.old.items }
     requires few { length positions.old.items ≤ 2 ^ 21 }
     requires room { length names.old.items ≤ k }

@@ -15,10 +15,7 @@ use std::alloc::AllocError;
 pub(crate) enum Refusal {
     Soup(SoupFail),
     /// The faces are no manifold; `names` has the vertices' numbers in the file.
-    NotManifold {
-        place: Place,
-        names: Vec<u32>,
-    },
+    NotManifold { place: Place, names: Vec<u32> },
     Write(WriteFail),
     Memory,
 }
