@@ -21,7 +21,7 @@ fn end_of_piece(bytes: &[u8], start: usize) -> usize
 }
 
 /// The position after each piece of the text.
-pub fn ends_of(alloc: Global, bytes: &[u8]) -> Result<Vec<u32>, AllocError>
+pub(crate) fn ends_of(alloc: Global, bytes: &[u8]) -> Result<Vec<u32>, AllocError>
     requires { length bytes.now < 2 ^ 32 }
     ensures { IfOk result (λ ends. ends.items ≡ ends_from 0 (pieces bytes.now)) }
 {

@@ -1,4 +1,5 @@
 use super::*;
+use std::io::{self, Error, ErrorKind, Read, Write};
 use std::test::Fail;
 
 fn bytes_of(alloc: std::alloc::Global, text: &[u8]) -> Result<Vec<u8>, Memory> {
@@ -42,6 +43,93 @@ fn a_sink_takes_all_or_a_front(rt: HostRuntime) -> Result<(), Fail> {
     let mut failing = MemSink::new(rt.alloc(), 3, Vec::from_slice(rt.alloc(), &[2])?);
     assert_eq!(rt; write_all(&mut failing, b"seven b"), Err(WriteFail::Fault));
     assert_eq!(rt; failing.taken(), b"sev".as_slice());
+    Ok(())
+}
+
+/// A stream of std that moves one byte a call: every second call is interrupted, and call `fails` fails, from 1.
+#[derive(Drop)]
+struct Halting {
+    bytes: Vec<u8>,
+    calls: u64,
+    fails: u64,
+}
+
+impl Halting {
+    /// Whether the next call does its work.
+    fn begins(&mut self) -> io::Result<()> {
+        self.calls = self.calls.saturating_add(1);
+        if self.calls == self.fails {
+            return Err(Error::from(ErrorKind::BrokenPipe));
+        }
+        if self.calls % 2 == 0 {
+            return Err(Error::from(ErrorKind::Interrupted));
+        }
+        Ok(())
+    }
+}
+
+impl Read for Halting {
+    fn read(&mut self, buf: &mut [u8]) -> io::Result<usize> {
+        self.begins()?;
+        match (buf.first_mut(), self.bytes.pop()) {
+            (Some(slot), Some(byte)) => {
+                *slot = byte;
+                Ok(1)
+            }
+            _ => Ok(0),
+        }
+    }
+}
+
+impl Write for Halting {
+    fn write(&mut self, buf: &[u8]) -> io::Result<usize> {
+        self.begins()?;
+        match buf.first() {
+            Some(byte) => {
+                self.bytes.push(*byte)?;
+                Ok(1)
+            }
+            None => Ok(0),
+        }
+    }
+
+    fn flush(&mut self) -> io::Result<()> {
+        Ok(())
+    }
+}
+
+#[test]
+fn a_stream_of_std_may_halt_but_loses_no_byte(rt: HostRuntime) -> Result<(), Fail> {
+    for (fails, want) in [
+        (0, None),
+        (1, Some(ReadFail::Fault)),
+        (5, Some(ReadFail::Fault)),
+        (9, None),
+    ] {
+        let bytes = bytes_of(rt.alloc(), b"cba")?;
+        let mut source = StdSource::new(Halting {
+            bytes,
+            calls: 0,
+            fails,
+        });
+        match read_lines(rt.alloc(), &mut source, 100) {
+            Ok(lines) => {
+                assert_eq!(rt; want, None);
+                assert_eq!(rt; lines.bytes.as_slice(), b"abc".as_slice());
+            }
+            Err(fail) => assert_eq!(rt; Some(fail), want),
+        }
+    }
+    for (fails, want) in [(0, b"abc".as_slice()), (1, b""), (3, b"a"), (5, b"ab")] {
+        let mut stream = Halting {
+            bytes: Vec::new(rt.alloc()),
+            calls: 0,
+            fails,
+        };
+        let written = write_all(&mut StdSink::new(&mut stream), b"abc");
+        assert_eq!(rt; written.is_ok(), fails == 0);
+        assert_eq!(rt; stream.bytes.as_slice(), want);
+    }
     Ok(())
 }
 
