@@ -4,6 +4,7 @@
 mod command;
 mod error_line;
 mod input;
+mod process;
 mod refusal;
 mod tidy;
 mod words;
@@ -11,6 +12,7 @@ mod words;
 pub use command::run;
 pub use def_mesh::Place;
 pub use def_run::Answer;
+pub use process::{exit_status, run_process};
 
 #[cfg(test)]
 mod tests;

@@ -3,6 +3,7 @@ ghost use Rattle.std.specs.Prelude.{◌≤◌};
 use super::*;
 use qm_io::{MemSink, MemSource, Memory};
 use std::alloc::Global;
+use std::env::{Env, FillError};
 use std::test::Fail;
 
 const QUAD: &[u8] = b"v 0 0 0\nv 3 0 0\nv 3 3 0\nv 0 3 0\nf 1 2 3 4\n";
@@ -149,6 +150,57 @@ fn other_words_are_a_matter_of_usage(rt: HostRuntime) -> Result<(), Fail> {
             err.taken()
                 .starts_with(b"quadq: usage: quadq tidy | graph | ")
         );
+    }
+    Ok(())
+}
+
+/// An environment in memory, with the program's name first.
+#[derive(Drop)]
+struct Given<'a> {
+    words: &'a [&'a [u8]],
+}
+
+impl Env for Given<'_> {
+    fn arg(&self, i: usize, buf: &mut [u8]) -> Result<usize, FillError> {
+        let Some(word) = self.words.get(i) else {
+            return Err(FillError::NotPresent);
+        };
+        if word.len() > buf.len() {
+            return Err(FillError::TooLong);
+        }
+        buf[..word.len()].copy_from_slice(word);
+        Ok(word.len())
+    }
+
+    fn var(&self, _name: &str, _buf: &mut [u8]) -> Result<usize, FillError> {
+        Err(FillError::NotPresent)
+    }
+
+    fn var_at(&self, _i: usize, _buf: &mut [u8]) -> Result<usize, FillError> {
+        Err(FillError::NotPresent)
+    }
+}
+
+#[test]
+fn words_of_a_process_may_be_any_bytes(rt: HostRuntime) -> Result<(), Fail> {
+    let long = [b'x'; 300];
+    for (words, want) in [
+        ([b"quadq".as_slice(), b"tidy"].as_slice(), 0),
+        (&[b"\xff", b"tidy"], 0),
+        (&[b"quadq"], 2),
+        (&[], 2),
+        (&[b"quadq", b"tidy", b""], 2),
+        (&[b"quadq", b"\xfftidy"], 2),
+        (&[b"quadq", b"tidy", &long], 2),
+    ] {
+        let process = (Given { words }, rt.alloc());
+        let (mut input, mut out, mut err) = (
+            source(rt.alloc(), QUAD, WELL)?,
+            sink(rt.alloc(), WELL)?,
+            sink(rt.alloc(), WELL)?,
+        );
+        assert_eq!(rt; run_process(&process, &mut input, &mut out, &mut err), want);
+        assert_eq!(rt; out.taken().is_empty(), want != 0);
     }
     Ok(())
 }

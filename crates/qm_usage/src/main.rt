@@ -1,0 +1,13 @@
+//! The program `quadq` once more, with a stored run of words that are no accepted line.
+#![tactic(auto)]
+
+use qm_io::{StdSink, StdSource};
+use qm_top::run_process;
+use std::process::ExitCode;
+
+fn main(rt: HostRuntime) -> ExitCode {
+    let mut input = StdSource::new(rt.reader());
+    let mut out = StdSink::new(rt.stdout());
+    let mut err = StdSink::new(rt.stderr());
+    ExitCode::from(run_process(&rt, &mut input, &mut out, &mut err))
+}
