@@ -1,0 +1,72 @@
+#!/usr/bin/env python3
+"""Measures `quadq graph` on four meshes against plain C++: wall time and peak memory of a run, their ratios, and the
+time with twice the faces by the time before."""
+import os
+import subprocess
+import sys
+import tempfile
+import time
+
+HERE = os.path.dirname(os.path.realpath(__file__))
+ROOT = os.path.dirname(HERE)
+ROUNDS = 5
+# Each mesh with half its faces, and whole.
+MESHES = [
+    ("holes", ["1024", "512"], ["1024", "1024"]),
+    ("cube", ["283"], ["400"]),
+    ("voxels", ["182"], ["258"]),
+    ("grid", ["1024", "512"], ["1024", "1024"]),
+]
+
+
+def measured(words, text, out):
+    """Seconds and MB of one run."""
+    with open(text, "rb") as source, open(out, "wb") as sink:
+        start = time.perf_counter()
+        child = subprocess.Popen(words, stdin=source, stdout=sink)
+        _, status, usage = os.wait4(child.pid, 0)
+        seconds = time.perf_counter() - start
+    if status != 0:
+        sys.exit(f"{words[0]} ended with {status}")
+    return seconds, usage.ru_maxrss / 1024
+
+
+def best(programs, text, room):
+    """The least seconds and MB of each program, and whether all wrote the same bytes."""
+    least, outputs = {}, set()
+    for _ in range(ROUNDS):
+        for name, words in programs:
+            seconds, megabytes = measured(words, text, f"{room}/out")
+            old = least.get(name, (seconds, megabytes))
+            least[name] = (min(old[0], seconds), min(old[1], megabytes))
+            with open(f"{room}/out", "rb") as written:
+                outputs.add(written.read())
+    return least, len(outputs) == 1
+
+
+def main():
+    subprocess.run([f"{ROOT}/tools/build.py"], check=True)
+    with tempfile.TemporaryDirectory() as room:
+        for name in ("graph", "meshes"):
+            command = ["g++", "-O2", "-std=c++20", "-o", f"{room}/{name}", f"{HERE}/{name}.cpp"]
+            subprocess.run(command, check=True)
+        programs = [("quadq", [f"{ROOT}/build/quadq", "graph"]), ("plain C++", [f"{room}/graph"])]
+        head = f"{'mesh':<8}{'faces':>9}{'quadq s':>9}{'MB':>6}{'C++ s':>8}{'MB':>6}{'time':>7}{'memory':>8}"
+        print(f"{head}{'doubled':>9}")
+        for mesh, half, whole in MESHES:
+            before = None
+            for size in (half, whole):
+                text = f"{room}/mesh.obj"
+                with open(text, "wb") as out:
+                    subprocess.run([f"{room}/meshes", mesh, *size], stdout=out, check=True)
+                faces = sum(line.startswith(b"f") for line in open(text, "rb"))
+                least, are_same = best(programs, text, room)
+                (ours, ours_mb), (peer, peer_mb) = least["quadq"], least["plain C++"]
+                row = f"{mesh:<8}{faces:>9}{ours:>9.3f}{ours_mb:>6.0f}{peer:>8.3f}{peer_mb:>6.0f}"
+                row += f"{ours / peer:>7.2f}{ours_mb / peer_mb:>8.2f}"
+                row += f"{ours / before:>9.2f}" if before else ""
+                print(row if are_same else f"{row}  OTHER BYTES")
+                before = ours
+
+
+main()

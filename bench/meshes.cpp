@@ -1,0 +1,121 @@
+// Writes a quad mesh as OBJ to standard output:
+//   grid W H     a flat grid of W by H faces
+//   holes W H    the same without every face whose column and row are 32 above a multiple of 64, so that riders run
+//   cube N       the surface of a cube of N by N faces a side
+//   voxels N     a terrain of N by N columns whose heights go up or down by one at each step: each inner vertex is
+//                irregular
+#include <array>
+#include <charconv>
+#include <cstdint>
+#include <cstdio>
+#include <cstdlib>
+#include <string>
+#include <string_view>
+#include <unordered_map>
+#include <vector>
+
+using Point = std::array<int32_t, 3>;
+
+// Faces over points. Points are numbered by first use.
+class Writer {
+public:
+    void face(const std::array<Point, 4>& corners) {
+        faces += 'f';
+        for (auto& corner : corners) add(faces, number(corner));
+        faces += '\n';
+    }
+
+    void write() const {
+        std::fwrite(vertices.data(), 1, vertices.size(), stdout);
+        std::fwrite(faces.data(), 1, faces.size(), stdout);
+    }
+
+private:
+    std::string vertices, faces;
+    std::unordered_map<uint64_t, uint32_t> numbers;
+
+    static void add(std::string& text, int64_t n) {
+        char digits[24];
+        text += ' ';
+        text.append(digits, std::to_chars(digits, digits + 24, n).ptr - digits);
+    }
+
+    uint32_t number(const Point& point) {
+        uint64_t key = 0;
+        for (int32_t n : point) key = key << 21 | uint32_t(n + (1 << 20));
+        auto [entry, is_new] = numbers.try_emplace(key, uint32_t(numbers.size() + 1));
+        if (is_new) {
+            vertices += 'v';
+            for (int32_t n : point) add(vertices, n);
+            vertices += '\n';
+        }
+        return entry->second;
+    }
+};
+
+static void grid(Writer& out, int32_t width, int32_t height, bool has_holes) {
+    for (int32_t y = 0; y < height; ++y)
+        for (int32_t x = 0; x < width; ++x)
+            if (!has_holes || x % 64 != 32 || y % 64 != 32)
+                out.face({Point{x, y, 0}, {x + 1, y, 0}, {x + 1, y + 1, 0}, {x, y + 1, 0}});
+}
+
+static void cube(Writer& out, int32_t n) {
+    // A corner and two directions for each side, so that all faces look outward.
+    const std::array<std::array<Point, 3>, 6> sides = {{{{{0, 0, 0}, {0, 1, 0}, {1, 0, 0}}},
+                                                        {{{0, 0, 1}, {1, 0, 0}, {0, 1, 0}}},
+                                                        {{{0, 0, 0}, {1, 0, 0}, {0, 0, 1}}},
+                                                        {{{0, 1, 0}, {0, 0, 1}, {1, 0, 0}}},
+                                                        {{{0, 0, 0}, {0, 0, 1}, {0, 1, 0}}},
+                                                        {{{1, 0, 0}, {0, 1, 0}, {0, 0, 1}}}}};
+    for (auto& [start, right, up] : sides)
+        for (int32_t j = 0; j < n; ++j)
+            for (int32_t i = 0; i < n; ++i) {
+                auto at = [&](int32_t a, int32_t b) {
+                    Point point;
+                    for (int k = 0; k < 3; ++k) point[k] = n * start[k] + a * right[k] + b * up[k];
+                    return point;
+                };
+                out.face({at(i, j), at(i + 1, j), at(i + 1, j + 1), at(i, j + 1)});
+            }
+}
+
+// Heights that go up or down by one at each step, by a small generator of random numbers.
+static std::vector<int32_t> walk(int32_t steps, uint32_t state) {
+    std::vector<int32_t> heights(1);
+    for (int32_t i = 1; i < steps; ++i) {
+        state = 1103515245 * state + 12345;
+        heights.push_back(heights.back() + ((state >> 16) % 2 ? 1 : -1));
+    }
+    return heights;
+}
+
+// Heights are sums of two walks, so no two columns touch along an edge alone, and the terrain is a manifold.
+static void voxels(Writer& out, int32_t n) {
+    std::vector<int32_t> along_x = walk(n, 1), along_y = walk(n, 2);
+    for (int32_t y = 0; y < n; ++y)
+        for (int32_t x = 0; x < n; ++x) {
+            int32_t z = along_x[x] + along_y[y];
+            out.face({Point{x, y, z}, {x + 1, y, z}, {x + 1, y + 1, z}, {x, y + 1, z}});
+            if (x + 1 < n) {
+                int32_t to = along_x[x + 1] + along_y[y];
+                out.face({Point{x + 1, y, z}, {x + 1, y, to}, {x + 1, y + 1, to}, {x + 1, y + 1, z}});
+            }
+            if (y + 1 < n) {
+                int32_t to = along_x[x] + along_y[y + 1];
+                out.face({Point{x + 1, y + 1, z}, {x + 1, y + 1, to}, {x, y + 1, to}, {x, y + 1, z}});
+            }
+        }
+}
+
+int main(int argc, char** argv) {
+    std::string_view what = argc > 1 ? argv[1] : "";
+    int32_t first = argc > 2 ? std::atoi(argv[2]) : 0, second = argc > 3 ? std::atoi(argv[3]) : first;
+    Writer out;
+    if (what == "grid" || what == "holes") grid(out, first, second, what == "holes");
+    else if (what == "cube") cube(out, first);
+    else if (what == "voxels") voxels(out, first);
+    else return std::fprintf(stderr, "usage: meshes grid W H | holes W H | cube N | voxels N\n"), 2;
+    out.write();
+    return 0;
+}
