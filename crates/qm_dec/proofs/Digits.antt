@@ -11,11 +11,8 @@ use Rattle.std.proofs.Math.Nat.{pow-suc}
 use Rattle.std.proofs.Math.Seq.{take-append-add}
 use Rattle.def_text.specs.Digits.{number}
 use Rattle.qm_dec.specs.Sizes.{capped}
+use Rattle.qm_scan.proofs.Numbers.{values}
 use Rattle.qm_dec.proofs.Caps.{cap_linear, ten_power}
-
--- the values of digits
-abbrev pub values : List ℕ → List ℕ
-values ds = map (λ d. d - 48) ds
 
 -- digits behind a number shift it and add their own
 pub after_is : (n : ℕ) (vs : List ℕ) → number_from_digits_after 10 n vs ≡ n * 10 ^ length vs + number_from_digits 10 vs
@@ -36,19 +33,6 @@ after_more n ds i l =
 -- digits in two parts
 pub number_append : (xs ys : List ℕ) → number (xs ++ ys) ≡ number_from_digits_after 10 (number xs) (values ys)
 number_append xs ys = ap (number_from_digits 10) (map-append (λ d. d - 48) xs ys) ∙ number_after_append 10 0 (values xs) (values ys)
-
-pub digit_small : (d : ℕ) → is_ascii_digit d ≡ true → (48 ≤ d) × (d ≤ 57)
-digit_small d is = let both : (leb 48 d ≡ true) × (leb d 57 ≡ true) = and_parts _ _ is in (leb-true 48 d both.0, leb-true d 57 both.1)
-
-values_below : (ds : List ℕ) → list_all is_ascii_digit ds ≡ true → AllBelowBase 10 (values ds)
-values_below [] all = tt
-values_below (d ∷ ds) all =
-    let parts : (is_ascii_digit d ≡ true) × (list_all is_ascii_digit ds ≡ true) = and_parts _ _ all in
-    (omega (arith, (digit_small d parts.0).1), values_below ds parts.1)
-
--- digits write a number below the power of ten of their count
-pub number_small : (ds : List ℕ) → list_all is_ascii_digit ds ≡ true → number ds < 10 ^ length ds
-number_small ds all = subst (λ (n : ℕ). number ds < 10 ^ n) (length-map ds (λ d. d - 48)) (number_lt 10 (values ds) (values_below ds all))
 
 -- a loop over one run of digits and then another
 pub two_parts : (xs ys : List ℕ) (a b : ℕ) → a ≡ capped (number xs) → b ≡ capped (number_from_digits_after 10 a (values ys)) → b ≡ capped (number (xs ++ ys))

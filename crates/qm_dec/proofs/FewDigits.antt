@@ -12,7 +12,8 @@ use Rattle.def_text.specs.Decimal.{is_exponent}
 use Rattle.def_text.specs.Digits.{is_number, number, unsigned}
 use Rattle.qm_dec.specs.Sizes.{IsSize}
 use Rattle.qm_dec.proofs.Caps.{ten_power}
-use Rattle.qm_dec.proofs.Digits.{after_is, number_append, number_small, values}
+use Rattle.qm_dec.proofs.Digits.{after_is, number_append}
+use Rattle.qm_scan.proofs.Numbers.{number_small, values}
 use Rattle.qm_dec.proofs.ReadBack.{HasParts, digits_number, parts_size, plain_parts, pointed_parts}
 
 ten_most : (i j : ℕ) → i ≤ j → 10 ^ i ≤ 10 ^ j

@@ -14,7 +14,8 @@ use Rattle.def_text.specs.Canonical.{fraction_text, micro_text, six_digits, with
 use Rattle.def_text.specs.Decimal.{all_digits, exponent, fraction_digits, is_decimal, is_exponent, is_mark, is_point, mantissa, power, rounded_size, scaled}
 use Rattle.def_text.specs.Digits.{is_negative, is_number, number, unsigned}
 use Rattle.def_text.specs.Laws.{CanonicalLaw}
-use Rattle.qm_dec.proofs.Digits.{after_is, digit_small, digits_before, number_append, values}
+use Rattle.qm_dec.proofs.Digits.{after_is, digits_before, number_append}
+use Rattle.qm_scan.proofs.Numbers.{digit_small, values}
 use Rattle.qm_dec.proofs.Forms.{number_both}
 use Rattle.qm_dec.proofs.Scaling.{digits_behind}
 use Rattle.qm_dec.proofs.Texts.{decimal_digits, decimal_number, digit_other, digits_fail, first_at, none_first}

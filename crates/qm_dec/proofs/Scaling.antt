@@ -13,7 +13,8 @@ use Rattle.def_text.specs.Decimal.{scaled}
 use Rattle.def_text.specs.Digits.{number}
 use Rattle.qm_dec.specs.Sizes.{capped}
 use Rattle.qm_dec.proofs.Caps.{both_far}
-use Rattle.qm_dec.proofs.Digits.{values, after_is, after_more, number_append, number_small, digit_small}
+use Rattle.qm_dec.proofs.Digits.{after_is, after_more, number_append}
+use Rattle.qm_scan.proofs.Numbers.{values, number_small, digit_small}
 
 -- the difference of two numbers as a whole number
 pub difference_up : (up down : ℕ) → down ≤ up → pos up -ℤ pos down ≡ pos (up - down)

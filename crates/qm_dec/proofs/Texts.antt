@@ -7,7 +7,8 @@ use Rattle.std.proofs.lemmas.Bool.{and_parts, and_from, le-leb, not_from_true, n
 use Rattle.std.proofs.lemmas.Fmt.{decimal_by_steps}
 use Rattle.std.proofs.lemmas.List.Folds.{list_all-append}
 use Rattle.def_text.specs.Digits.{number}
-use Rattle.qm_dec.proofs.Digits.{number_append, digit_small}
+use Rattle.qm_dec.proofs.Digits.{number_append}
+use Rattle.qm_scan.proofs.Numbers.{digit_small}
 
 glyph : (d : ℕ) → d < 10 → is_ascii_digit (48 + d) ≡ true
 glyph d l = and_from _ _ (le-leb 48 (48 + d) (omega arith)) (le-leb (48 + d) 57 (omega arith))

@@ -1,29 +1,12 @@
-//! The parts of a decimal: sign, digits before and behind the point, exponent.
+//! The parts of a decimal: digits before and behind the point, exponent.
 
-ghost use Rattle.std.specs.Prelude.{◌≡◌, ◌+◌, ◌≤◌, ◌==◌, ◌++◌, drop, length};
-ghost use Rattle.std.specs.Char.{is_ascii_digit};
-ghost use Rattle.std.specs.List.{after_first, before_first, list_all, position_or_len};
+ghost use Rattle.std.specs.Prelude.{◌≡◌, ◌+◌, ◌≤◌, ◌++◌, drop, length};
+ghost use Rattle.std.specs.List.{after_first, before_first, position_or_len};
 ghost use Rattle.def_text.specs.Decimal.{is_exponent, is_mark, is_point};
-ghost use Rattle.def_text.specs.Digits.{is_negative, is_number, unsigned};
+ghost use Rattle.def_text.specs.Digits.{is_number};
 
-pub(crate) fn is_negative(word: &[u8]) -> bool
-    ensures { result ≡ is_negative word.now }
-{
-    match word {
-        [b'-', ..] => true,
-        _ => false,
-    }
-}
-
-/// The word without its sign, where it has one.
-pub(crate) fn unsigned(word: &[u8]) -> &[u8]
-    ensures { result.now ≡ unsigned word.now }
-{
-    match word {
-        [b'+' | b'-', rest @ ..] => rest,
-        _ => word,
-    }
-}
+use def_text::{LARGE_E, POINT, SMALL_E};
+use qm_scan::{are_digits, behind_first, find_byte, is_number, unsigned};
 
 /// What stands before the exponent, and the exponent with its mark.
 pub(crate) fn split_exponent(body: &[u8]) -> (&[u8], &[u8])
@@ -48,7 +31,7 @@ fn mark_place(body: &[u8]) -> usize
 fn is_mark(byte: u8) -> bool
     ensures { result ≡ is_mark byte }
 {
-    byte == b'e' || byte == b'E'
+    byte == SMALL_E || byte == LARGE_E
 }
 
 /// The digits before the point and those behind it.
@@ -56,36 +39,8 @@ pub(crate) fn split_point(mantissa: &[u8]) -> (&[u8], &[u8])
     ensures before { result.0.now ≡ before_first is_point mantissa.now }
     ensures behind { result.1.now ≡ after_first is_point mantissa.now }
 {
-    let (whole, rest) = mantissa.split_at(find_byte(mantissa, b'.'));
+    let (whole, rest) = mantissa.split_at(find_byte(mantissa, POINT));
     (whole, behind_first(rest))
-}
-
-/// The place of the first such byte, or the length.
-pub(crate) fn find_byte(text: &[u8], wanted: u8) -> usize
-    ensures exact { result ≡ position_or_len (λ byte. byte == wanted) text.now }
-    ensures within { result ≤ length text.now }
-{
-    for (i, byte) in text.iter().enumerate() {
-        if *byte == wanted {
-            return i;
-        }
-    }
-    text.len()
-}
-
-pub(crate) fn behind_first(text: &[u8]) -> &[u8]
-    ensures { result.now ≡ drop 1 text.now }
-{
-    match text {
-        [] => text,
-        [_, rest @ ..] => rest,
-    }
-}
-
-pub(crate) fn are_digits(word: &[u8]) -> bool
-    ensures { result ≡ list_all is_ascii_digit word.now }
-{
-    word.iter().all(|b| b.is_ascii_digit())
 }
 
 /// Whether two runs of digits together are a number.
@@ -100,12 +55,6 @@ pub(crate) fn are_number(whole: &[u8], fraction: &[u8]) -> bool
         return false;
     }
     are_digits(fraction)
-}
-
-pub(crate) fn is_number(word: &[u8]) -> bool
-    ensures { result ≡ is_number word.now }
-{
-    !word.is_empty() && are_digits(word)
 }
 
 pub(crate) fn is_exponent(exponent: &[u8]) -> bool

@@ -6,7 +6,8 @@ ghost use Rattle.std.specs.Int.Digits.{number_from_digits_after};
 ghost use Rattle.std.specs.List.{list_all};
 ghost use Rattle.qm_dec.specs.Sizes.{IsSize};
 
-use crate::parts::{behind_first, unsigned};
+use def_text::POINT;
+use qm_scan::{behind_first, unsigned};
 
 /// The millionths, without the sign, of at most nine digits and at most six behind the point; `None` leaves a word to
 /// the reader of all forms.
@@ -23,7 +24,7 @@ pub(crate) fn plain_size(word: &[u8]) -> Option<u64>
     if rest.is_empty() {
         return Some(whole * 1_000_000);
     }
-    if rest[0] != b'.' {
+    if rest[0] != POINT {
         return None;
     }
     with_fraction(whole, behind_first(rest))

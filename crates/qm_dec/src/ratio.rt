@@ -3,15 +3,16 @@
 ghost use Rattle.std.specs.Prelude.{◌≡◌, ◌≤◌, ℕ, ◌↔◌, IsTrue, MatchOption, decimal};
 ghost use Rattle.def_text.specs.Ratio.{IsRatio};
 
-use crate::parts::{are_digits, behind_first, find_byte};
 use crate::size::number_after;
+use def_text::{MAX_PART, SLASH};
 use itoa::Buffer;
+use qm_scan::{are_digits, behind_first, find_byte};
 
 /// The two numbers of a word `P/Q`, each from 1 to 1000 and without leading zeros.
 pub fn read_ratio(word: &[u8]) -> Option<(u32, u32)>
     ensures { MatchOption result ((p q : ℕ) → ¬ IsRatio word.now p q) (λ r. IsRatio word.now r.0 r.1) }
 {
-    let (above, rest) = word.split_at(find_byte(word, b'/'));
+    let (above, rest) = word.split_at(find_byte(word, SLASH));
     if rest.is_empty() {
         return None;
     }
@@ -32,7 +33,7 @@ fn read_part(word: &[u8]) -> Option<u32>
         return None;
     }
     let n = number_after(0, word).min(1001) as u32;
-    if n == 0 || n > 1000 {
+    if n == 0 || n > MAX_PART {
         return None;
     }
     if is_written(word, n) { Some(n) } else { None }

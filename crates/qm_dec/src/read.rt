@@ -4,12 +4,11 @@ ghost use Rattle.def_text.specs.Decimal.{is_exponent, power, scaled, IsDecFail, 
 ghost use Rattle.def_text.specs.Digits.{is_negative, is_number, number};
 ghost use Rattle.qm_dec.specs.Sizes.{capped};
 
-use crate::parts::{
-    are_number, behind_first, is_exponent, is_negative, split_exponent, split_point, unsigned,
-};
+use crate::parts::{are_number, is_exponent, split_exponent, split_point};
 use crate::plain::plain_size;
 use crate::size::{FAR, number_after, size_of};
 use def_text::{DecFail, MAX_DECIMAL, Micro};
+use qm_scan::{behind_first, is_negative, unsigned};
 
 /// The value of the decimal, rounded to millionths, half away from zero.
 pub fn read_micro(word: &[u8]) -> Result<Micro, DecFail>

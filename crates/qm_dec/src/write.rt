@@ -3,9 +3,9 @@
 ghost use Rattle.std.specs.Prelude.{◌≡◌, ◌≤◌, ◌<◌, ◌+◌, ◌^◌, ◌++◌, length, take};
 ghost use Rattle.def_text.specs.Canonical.{fraction_text, micro_text, minus_text, six_digits, without_zeros};
 
-use crate::parts::behind_first;
 use def_text::Micro;
 use itoa::Buffer;
+use qm_scan::behind_first;
 
 /// Writes the text at the front of `out` and tells its length, at most 17.
 pub fn write_micro(out: &mut [u8; 24], m: Micro) -> usize

@@ -6,7 +6,6 @@ mod LawSoup
 mod LawText
 mod LineLemmas
 mod ListLemmas
-mod NumberLemmas
 mod ReadLemmas
 mod SoupLemmas
 mod SuitLemmas

@@ -10,7 +10,8 @@ use Rattle.def_text.specs.Reading.{face_reading, is_position_count, vertex_readi
 use Rattle.def_text.specs.declared.reading.Reading.TheVariants.{Position, Face, Refused}
 use Rattle.def_text.specs.declared.refusal.ObjFail.TheVariants.{Syntax, NotQuad, Range}
 use Rattle.qm_obj.specs.Indices.{capped, corner_of, with_capped}
-use Rattle.qm_obj.specs.Positions.{all_some, coordinate, in_front}
+use Rattle.qm_obj.specs.declared.position.Coordinate.TheVariants.{Near, Far}
+use Rattle.qm_obj.specs.Positions.{all_near, coordinate, in_front}
 
 -- A `v` line with another number of words, or a word that is no decimal.
 pub vertex_syntax : (line vertices : ℕ) (ws : List (List ℕ)) → leb (2 ^ 21) vertices ≡ false → (is_position_count (length ws) && list_all is_decimal ws) ≡ false
@@ -22,21 +23,21 @@ pub vertex_rest : (line vertices : ℕ) (ws : List (List ℕ)) → leb (2 ^ 21) 
     → vertex_reading line vertices ws ≡ cond (list_any (λ w. is_far (rounded w)) (take 3 ws)) (Refused (Range line)) (Position (map rounded (take 3 ws)))
 vertex_rest line vertices ws few right = rw (few, right) refl
 
-all_coordinates : (ws : List (List ℕ)) → all_some (map coordinate ws) ≡ cond (list_any (λ w. is_far (rounded w)) ws) None (Some (map rounded ws))
+all_coordinates : (ws : List (List ℕ)) → all_near (map coordinate ws) ≡ cond (list_any (λ w. is_far (rounded w)) ws) None (Some (map rounded ws))
 all_coordinates [] = refl
 all_coordinates (w ∷ ws) = by_far (is_far (rounded w)) (all_coordinates ws)
   where
-    by_rest : (t : Bool) → all_some (map coordinate ws) ≡ cond t None (Some (map rounded ws)) → in_front (rounded w) (all_some (map coordinate ws)) ≡ cond t None (Some (rounded w ∷ map rounded ws))
+    by_rest : (t : Bool) → all_near (map coordinate ws) ≡ cond t None (Some (map rounded ws)) → in_front (rounded w) (all_near (map coordinate ws)) ≡ cond t None (Some (rounded w ∷ map rounded ws))
     by_rest true again = ap (in_front (rounded w)) again
     by_rest false again = ap (in_front (rounded w)) again
 
-    by_far : (t : Bool) → all_some (map coordinate ws) ≡ cond (list_any (λ w. is_far (rounded w)) ws) None (Some (map rounded ws))
-        → all_some (cond t None (Some (rounded w)) ∷ map coordinate ws) ≡ cond (t || list_any (λ w. is_far (rounded w)) ws) None (Some (rounded w ∷ map rounded ws))
+    by_far : (t : Bool) → all_near (map coordinate ws) ≡ cond (list_any (λ w. is_far (rounded w)) ws) None (Some (map rounded ws))
+        → all_near (cond t Far (Near (rounded w)) ∷ map coordinate ws) ≡ cond (t || list_any (λ w. is_far (rounded w)) ws) None (Some (rounded w ∷ map rounded ws))
     by_far true again = refl
     by_far false again = by_rest (list_any (λ w. is_far (rounded w)) ws) again
 
 pub vertex_position : (line vertices : ℕ) (ws : List (List ℕ)) (position : List ℤ) → leb (2 ^ 21) vertices ≡ false → (is_position_count (length ws) && list_all is_decimal ws) ≡ true
-    → all_some (map coordinate (take 3 ws)) ≡ Some position → Position position ≡ vertex_reading line vertices ws
+    → all_near (map coordinate (take 3 ws)) ≡ Some position → Position position ≡ vertex_reading line vertices ws
 vertex_position line vertices ws position few right is =
     by_far (list_any (λ w. is_far (rounded w)) (take 3 ws)) (sym (all_coordinates (take 3 ws)) ∙ is) ∙ sym (vertex_rest line vertices ws few right)
   where
@@ -45,7 +46,7 @@ vertex_position line vertices ws position few right is =
     by_far false is = let e : map rounded (take 3 ws) ≡ position = cc is in ap Position (sym e)
 
 pub vertex_far : (line vertices : ℕ) (ws : List (List ℕ)) → leb (2 ^ 21) vertices ≡ false → (is_position_count (length ws) && list_all is_decimal ws) ≡ true
-    → all_some (map coordinate (take 3 ws)) ≡ None → Refused (Range line) ≡ vertex_reading line vertices ws
+    → all_near (map coordinate (take 3 ws)) ≡ None → Refused (Range line) ≡ vertex_reading line vertices ws
 vertex_far line vertices ws few right is =
     by_far (list_any (λ w. is_far (rounded w)) (take 3 ws)) (sym (all_coordinates (take 3 ws)) ∙ is) ∙ sym (vertex_rest line vertices ws few right)
   where

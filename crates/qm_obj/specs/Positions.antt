@@ -1,18 +1,21 @@
 -- The numbers of a `v` line.
-use Rattle.std.specs.Prelude.{ℕ, ℤ, if◌then◌else◌, Option, Some, None, List, [], ◌∷◌}
+use Rattle.std.specs.Prelude.{ℤ, if◌then◌else◌, Option, Some, None, List, [], ◌∷◌}
 use Rattle.def_text.specs.Decimal.{is_far, rounded}
+use Rattle.def_text.specs.Types.{Position, Word}
+use Rattle.qm_obj.specs.declared.position.Coordinate.{Coordinate}
+use Rattle.qm_obj.specs.declared.position.Coordinate.TheVariants.{Near, Far}
 
--- A decimal within the range.
-abbrev pub coordinate : List ℕ → Option ℤ
-coordinate word = if is_far (rounded word) then None else Some (rounded word)
+-- A decimal as a coordinate.
+abbrev pub coordinate : (word : Word) → Coordinate
+coordinate word = if is_far (rounded word) then Far else Near (rounded word)
 
 -- An element in front, where there is a list.
-abbrev pub in_front : {X : Type 0} → X → Option (List X) → Option (List X)
+abbrev pub in_front : {X : Type 0} → (x : X) (xs : Option (List X)) → Option (List X)
 in_front x None = None
 in_front x (Some xs) = Some (x ∷ xs)
 
--- All elements, where none is missing.
-abbrev pub all_some : {X : Type 0} → List (Option X) → Option (List X)
-all_some [] = Some []
-all_some (None ∷ rest) = None
-all_some (Some x ∷ rest) = in_front x (all_some rest)
+-- All coordinates, where none is out of range.
+abbrev pub all_near : (coordinates : List Coordinate) → Option Position
+all_near [] = Some []
+all_near (Far ∷ rest) = None
+all_near (Near z ∷ rest) = in_front z (all_near rest)

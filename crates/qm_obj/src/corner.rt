@@ -4,9 +4,8 @@ ghost use Rattle.def_text.specs.Corner.{index_of, is_corner, is_optional};
 ghost use Rattle.def_text.specs.Digits.{is_signed};
 ghost use Rattle.qm_obj.specs.Indices.{capped, corner_of, named, parts_behind};
 
-use crate::number::{is_digits, read_number, split_sign};
-use crate::words::{behind_first, find_byte};
-use def_text::Index;
+use def_text::{Index, SLASH};
+use qm_scan::{behind_first, find_byte, is_number, read_number, split_sign};
 
 /// What a word says as an index, where `all` counts the `v` lines and `before` those before its line.
 #[tactic(auto, using(crate::proofs::CornerLemmas::index_named))]
@@ -51,7 +50,7 @@ fn cap(k: u64) -> u32
 fn read_indices(word: &[u8], before: u32) -> Option<u32>
     ensures { result ≡ (if is_corner word.now then Some (corner_of before word.now) else None) }
 {
-    let (first, tail) = word.split_at(find_byte(word, b'/'));
+    let (first, tail) = word.split_at(find_byte(word, SLASH));
     if !is_tail(tail) {
         return None;
     }
@@ -92,7 +91,7 @@ fn is_tail(tail: &[u8]) -> bool
     ensures { result ≡ (nat_le (length (parts_behind tail.now)) 2 && list_all is_optional (parts_behind tail.now)) }
 {
     let rest = behind_first(tail);
-    let (second, last) = rest.split_at(find_byte(rest, b'/'));
+    let (second, last) = rest.split_at(find_byte(rest, SLASH));
     is_absent_or_index(second) && is_last(last)
 }
 
@@ -110,7 +109,7 @@ fn is_absent_or_index(word: &[u8]) -> bool
         [] => true,
         _ => {
             let (_, digits) = split_sign(word);
-            is_digits(digits)
+            is_number(digits)
         }
     }
 }

@@ -16,9 +16,9 @@ ghost use Rattle.def_io.specs.Lines.{lines_of};
 
 use crate::Memory;
 use crate::piece::Logical;
-use crate::words::find_byte;
 use def_text::{BACKSLASH, HASH, SPACE};
 use qm_io::Lines;
+use qm_scan::find_byte;
 use std::alloc::Global;
 
 /// The logical line that begins with physical line `i` of the range that ends before `after`. Linear in its bytes.

@@ -5,7 +5,6 @@ mod corner;
 mod joining;
 mod law;
 mod line;
-mod number;
 mod piece;
 mod position;
 mod read;

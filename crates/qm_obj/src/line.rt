@@ -6,7 +6,7 @@ ghost use Rattle.qm_obj.specs.Indices.{with_capped};
 ghost use Rattle.qm_obj.specs.Lines.{uncommented};
 
 use crate::corner::read_corner;
-use crate::position::{read_coordinate, read_position};
+use crate::position::{Coordinate, read_coordinate, read_position};
 use crate::words::next_word;
 use def_text::{FACE, MAX_FACES, MAX_LINE, MAX_VERTICES, ObjFail, Reading, VERTEX, Which};
 
@@ -50,7 +50,7 @@ fn read_vertex(line: u32, vertices: u32, text: &[u8]) -> Reading
             line,
         });
     }
-    let mut slots = [None; 3];
+    let mut slots = [Coordinate::Far; 3];
     let mut count = 0;
     let mut rest = text;
     'words: loop {
@@ -68,7 +68,7 @@ fn read_vertex(line: u32, vertices: u32, text: &[u8]) -> Reading
     if !is_right_count(count) {
         return Reading::Refused(ObjFail::Syntax { line });
     }
-    match read_position(slots) {
+    match read_position(&slots) {
         Some(position) => Reading::Position(position),
         None => Reading::Refused(ObjFail::Range { line }),
     }

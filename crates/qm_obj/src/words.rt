@@ -1,4 +1,4 @@
-ghost use Rattle.std.specs.Prelude.{◌≡◌, ◌<◌, ◌≤◌, ◌==◌, false, drop, length, slice_index};
+ghost use Rattle.std.specs.Prelude.{◌≡◌, ◌<◌, ◌≤◌, false, length, slice_index};
 ghost use Rattle.std.specs.List.{position_or_len};
 ghost use Rattle.def_text.specs.Words.{is_blank, words};
 ghost use Rattle.qm_obj.specs.Lines.{is_end, uncommented, with_word};
@@ -31,19 +31,6 @@ fn ends(byte: u8) -> bool
     byte <= b'#' && (byte == b' ' || byte == b'\t' || byte == b'#')
 }
 
-/// The position of the first such byte, or the length.
-pub(crate) fn find_byte(text: &[u8], wanted: u8) -> usize
-    ensures exact { result ≡ position_or_len (λ byte. byte == wanted) text.now }
-    ensures within { result ≤ length text.now }
-{
-    for (i, byte) in text.iter().enumerate() {
-        if *byte == wanted {
-            return i;
-        }
-    }
-    text.len()
-}
-
 fn skip_blanks(text: &[u8]) -> &[u8]
     ensures same { words (uncommented result.now) ≡ words (uncommented text.now) }
     ensures rest { length result.now ≤ length text.now }
@@ -54,14 +41,4 @@ fn skip_blanks(text: &[u8]) -> &[u8]
         rest = after;
     }
     rest
-}
-
-/// A text without its first byte.
-pub(crate) fn behind_first(text: &[u8]) -> &[u8]
-    ensures { result.now ≡ drop 1 text.now }
-{
-    match text {
-        [] => text,
-        [_, rest @ ..] => rest,
-    }
 }

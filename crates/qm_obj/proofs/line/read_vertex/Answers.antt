@@ -5,7 +5,7 @@ use Rattle.std.proofs.lemmas.List.{take_all}
 use Rattle.std.proofs.lemmas.List.Folds.{list_all_at, list_all_more}
 use Rattle.def_text.specs.Decimal.{is_decimal}
 use Rattle.def_text.specs.Reading.{is_position_count}
-use Rattle.qm_obj.specs.Positions.{all_some, coordinate}
+use Rattle.qm_obj.specs.Positions.{all_near, coordinate}
 use Rattle.qm_obj.proofs.LineLemmas.{position_words, vertex_far, vertex_position, vertex_syntax}
 use Rattle.def_text.specs.Words.{words}
 use Rattle.qm_obj.specs.Lines.{uncommented}
@@ -62,7 +62,7 @@ returns-in-Some-read_position c =
     let passed : list_all is_decimal (words (uncommented c.args.text.now)) ≡ true = ap (list_all is_decimal) (sym (take_all c.words.count (words (uncommented c.args.text.now)) read)) ∙ c.words.invariant.passed in
     let three : 3 ≤ c.words.count = position_words c.words.count right in
     let slots : c.words.slots ≡ map coordinate (take 3 (words (uncommented c.args.text.now))) = filled_all coordinate (words (uncommented c.args.text.now)) c.words.count 3 c.words.slots three (omega arith) c.words.invariant.filled in
-    vertex_position c.args.line c.args.vertices (words (uncommented c.args.text.now)) c.in-Some-read_position.position few (and_from _ _ (ap is_position_count many ∙ right) passed) (ap all_some (sym slots) ∙ sym c.read_position.ensures ∙ c.in-Some-read_position.is)
+    vertex_position c.args.line c.args.vertices (words (uncommented c.args.text.now)) c.in-Some-read_position.position few (and_from _ _ (ap is_position_count many ∙ right) passed) (ap all_near (sym slots) ∙ sym c.read_position.ensures ∙ c.in-Some-read_position.is)
 
 pub returns-in-None : goal.returns-in-None
 returns-in-None c =
@@ -73,4 +73,4 @@ returns-in-None c =
     let passed : list_all is_decimal (words (uncommented c.args.text.now)) ≡ true = ap (list_all is_decimal) (sym (take_all c.words.count (words (uncommented c.args.text.now)) read)) ∙ c.words.invariant.passed in
     let three : 3 ≤ c.words.count = position_words c.words.count right in
     let slots : c.words.slots ≡ map coordinate (take 3 (words (uncommented c.args.text.now))) = filled_all coordinate (words (uncommented c.args.text.now)) c.words.count 3 c.words.slots three (omega arith) c.words.invariant.filled in
-    vertex_far c.args.line c.args.vertices (words (uncommented c.args.text.now)) few (and_from _ _ (ap is_position_count many ∙ right) passed) (ap all_some (sym slots) ∙ sym c.read_position.ensures ∙ c.in-None.is)
+    vertex_far c.args.line c.args.vertices (words (uncommented c.args.text.now)) few (and_from _ _ (ap is_position_count many ∙ right) passed) (ap all_near (sym slots) ∙ sym c.read_position.ensures ∙ c.in-None.is)

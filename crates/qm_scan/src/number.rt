@@ -1,10 +1,10 @@
+//! Numbers that digits write.
+
 ghost use Rattle.std.specs.Prelude.{◌≡◌, ◌≤◌, ◌-◌, ◌^◌, length, min, Some, None, if◌then◌else◌};
-ghost use Rattle.std.specs.Char.{is_ascii_digit};
-ghost use Rattle.std.specs.List.{list_all};
-ghost use Rattle.def_text.specs.Digits.{is_negative, is_number, number, unsigned};
+ghost use Rattle.def_text.specs.Digits.{is_number, number};
 
 /// The number that digits write, or `u64::MAX` where it is greater; `None` where the word is no number.
-pub(crate) fn read_number(word: &[u8]) -> Option<u64>
+pub fn read_number(word: &[u8]) -> Option<u64>
     ensures { result ≡ (if is_number word.now then Some (min (number word.now) (2 ^ 64 - 1)) else None) }
 {
     if word.len() <= 18 {
@@ -46,30 +46,4 @@ fn read_long(word: &[u8]) -> Option<u64>
         n = n.saturating_mul(10).saturating_add(u64::from(*byte - b'0'));
     }
     Some(n)
-}
-
-/// Whether a word begins with a minus, and the word without its sign.
-pub(crate) fn split_sign(word: &[u8]) -> (bool, &[u8])
-    ensures negative { result.0 ≡ is_negative word.now }
-    ensures rest { result.1.now ≡ unsigned word.now }
-{
-    match word {
-        [b'-', rest @ ..] => (true, rest),
-        [b'+', rest @ ..] => (false, rest),
-        _ => (false, word),
-    }
-}
-
-/// Whether a word is one or more digits.
-#[tactic(auto, using(crate::proofs::NumberLemmas::number_all))]
-pub(crate) fn is_digits(word: &[u8]) -> bool
-    ensures { result ≡ is_number word.now }
-{
-    !word.is_empty() && are_digits(word)
-}
-
-fn are_digits(word: &[u8]) -> bool
-    ensures { result ≡ list_all is_ascii_digit word.now }
-{
-    word.iter().all(|byte| byte.is_ascii_digit())
 }

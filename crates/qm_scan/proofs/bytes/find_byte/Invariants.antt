@@ -1,5 +1,5 @@
 use Rattle.std.proofs.Common.{◌≡◌, ◌<◌, ℕ, false, get_or, eqb}
-use Rattle.qm_obj.proofs.words.find_byte.Given as goal
+use Rattle.qm_scan.proofs.bytes.find_byte.Given as goal
 
 abbrev pub invariant-loop-i : goal.invariant-loop-i
 invariant-loop-i l = (k : ℕ) → k < l.i → eqb (get_or l.text k 0) l.wanted ≡ false

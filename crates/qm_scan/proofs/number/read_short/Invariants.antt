@@ -2,7 +2,7 @@ use Rattle.std.proofs.Common.{◌≡◌, take, true}
 use Rattle.std.specs.Char.{is_ascii_digit}
 use Rattle.std.specs.List.{list_all}
 use Rattle.def_text.specs.Digits.{number}
-use Rattle.qm_obj.proofs.number.read_short.Given as goal
+use Rattle.qm_scan.proofs.number.read_short.Given as goal
 
 abbrev pub invariant-loop-byte : goal.invariant-loop-byte
 invariant-loop-byte l = record {

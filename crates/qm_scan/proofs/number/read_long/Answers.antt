@@ -3,8 +3,8 @@ use Rattle.std.specs.Char.{is_ascii_digit}
 use Rattle.std.proofs.lemmas.List.Folds.{list_all_more}
 use Rattle.std.proofs.lemmas.Bool.{and_from}
 use Rattle.def_text.specs.Digits.{number}
-use Rattle.qm_obj.proofs.NumberLemmas.{number_more, capped_more}
-use Rattle.qm_obj.proofs.number.read_long.Goals as goal
+use Rattle.qm_scan.proofs.Numbers.{number_more, capped_more}
+use Rattle.qm_scan.proofs.number.read_long.Goals as goal
 
 pub loop-byte-preserved : goal.loop-byte-preserved
 loop-byte-preserved c = record {

@@ -2,8 +2,8 @@ use Rattle.std.proofs.Common.{◌+◌, ◌*◌, arith, sym, ◌∙◌, ap}
 use Rattle.std.specs.Char.{is_ascii_digit}
 use Rattle.std.proofs.lemmas.List.Folds.{list_all_more}
 use Rattle.std.proofs.lemmas.Bool.{and_from}
-use Rattle.qm_obj.proofs.NumberLemmas.{number_more, taken_small}
-use Rattle.qm_obj.proofs.number.read_short.Goals as goal
+use Rattle.qm_scan.proofs.Numbers.{number_more, taken_small}
+use Rattle.qm_scan.proofs.number.read_short.Goals as goal
 
 pub overflow_mul-n : goal.overflow_mul-n
 overflow_mul-n c = omega (arith, taken_small c.args.word.now c.loop-byte.byte-index c.loop-byte-test.true c.requires c.loop-byte.invariant.digits, c.loop-byte.invariant.so_far)

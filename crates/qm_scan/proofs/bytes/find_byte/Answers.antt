@@ -1,7 +1,7 @@
 use Rattle.std.proofs.Common.{length, arith, sym, eqb}
 use Rattle.std.proofs.lemmas.Bool.{eq-eqb}
 use Rattle.std.proofs.lemmas.List.Sums.{position_or_len_is}
-use Rattle.qm_dec.proofs.parts.find_byte.Goals as goal
+use Rattle.qm_scan.proofs.bytes.find_byte.Goals as goal
 
 pub returns-then-byte-wanted-clause-exact : goal.returns-then-byte-wanted-clause-exact
 returns-then-byte-wanted-clause-exact c =

@@ -1,5 +1,5 @@
 -- Numbers read digit by digit.
-use Rattle.std.proofs.Common.{◌≡◌, ℕ, suc, ◌+◌, ◌-◌, ◌*◌, ◌^◌, ◌<◌, ◌≤◌, min, Bool, true, false, cond, not, ◌&&◌, eqb, List, [], ◌∷◌, length, take, map, get_or, refl, ap, ◌∙◌, arith, subst, Some, None, inl, inr, ◌⊎◌}
+use Rattle.std.proofs.Common.{◌≡◌, ℕ, suc, leb, ◌+◌, ◌-◌, ◌*◌, ◌^◌, ◌<◌, ◌≤◌, min, Bool, true, false, cond, not, ◌&&◌, eqb, List, [], ◌∷◌, length, take, map, get_or, refl, ap, ◌∙◌, arith, subst, Some, None, inl, inr, ◌⊎◌}
 use Rattle.std.specs.Char.{is_ascii_digit}
 use Rattle.std.specs.Int.Digits.{number_from_digits}
 use Rattle.std.specs.List.{list_all}
@@ -9,7 +9,29 @@ use Rattle.std.proofs.lemmas.Bool.{cases_lt, false≢true, ne_eqb}
 use Rattle.std.proofs.lemmas.List.{length-take-le}
 use Rattle.std.proofs.Math.Nat.{pow-le-pow_right}
 use Rattle.def_text.specs.Digits.{is_number, number}
-use Rattle.qm_dec.proofs.Digits.{number_small}
+use Rattle.std.specs.Int.Digits.{AllBelowBase}
+use Rattle.std.proofs.lemmas.Int.Digits.{number_lt}
+use Rattle.std.proofs.lemmas.List.{length-map}
+use Rattle.std.proofs.lemmas.Bool.{and_parts, leb-true}
+
+-- The values of digits.
+abbrev pub values : List ℕ → List ℕ
+values ds = map (λ d. d - 48) ds
+
+-- A digit is one of ten bytes.
+pub digit_small : (d : ℕ) → is_ascii_digit d ≡ true → (48 ≤ d) × (d ≤ 57)
+digit_small d is = let both : (leb 48 d ≡ true) × (leb d 57 ≡ true) = and_parts _ _ is in (leb-true 48 d both.0, leb-true d 57 both.1)
+
+-- Their values are below ten.
+values_below : (ds : List ℕ) → list_all is_ascii_digit ds ≡ true → AllBelowBase 10 (values ds)
+values_below [] all = tt
+values_below (d ∷ ds) all =
+    let parts : (is_ascii_digit d ≡ true) × (list_all is_ascii_digit ds ≡ true) = and_parts _ _ all in
+    (omega (arith, (digit_small d parts.0).1), values_below ds parts.1)
+
+-- Digits write a number below the power of ten of their count.
+pub number_small : (ds : List ℕ) → list_all is_ascii_digit ds ≡ true → number ds < 10 ^ length ds
+number_small ds all = subst (λ (n : ℕ). number ds < 10 ^ n) (length-map ds (λ d. d - 48)) (number_lt 10 (values ds) (values_below ds all))
 
 -- One digit more.
 pub number_more : (word : List ℕ) (i : ℕ) → i < length word → number (take (i + 1) word) ≡ number (take i word) * 10 + (get_or word i 0 - 48)

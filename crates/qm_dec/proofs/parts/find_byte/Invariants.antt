@@ -1,5 +1,0 @@
-use Rattle.std.proofs.Common.{◌≡◌, ◌<◌, ℕ, false, get_or, eqb}
-use Rattle.qm_dec.proofs.parts.find_byte.Given as goal
-
-abbrev pub invariant-loop-i : goal.invariant-loop-i
-invariant-loop-i l = (k : ℕ) → k < l.i → eqb (get_or l.text k 0) l.wanted ≡ false

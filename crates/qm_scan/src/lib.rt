@@ -1,0 +1,13 @@
+//! Reading words byte by byte: places of bytes, signs, digits and the numbers that they write.
+#![tactic(auto)]
+
+mod bytes;
+mod digits;
+mod number;
+
+pub use bytes::{behind_first, find_byte};
+pub use digits::{are_digits, is_negative, is_number, split_sign, unsigned};
+pub use number::read_number;
+
+#[cfg(test)]
+mod tests;

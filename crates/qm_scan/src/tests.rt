@@ -1,0 +1,27 @@
+use super::*;
+use std::test::Fail;
+
+#[test]
+fn numbers_are_read_as_far_as_they_fit(rt: HostRuntime) -> Result<(), Fail> {
+    for (word, want) in [
+        (b"0".as_slice(), Some(0)),
+        (b"007", Some(7)),
+        (b"18446744073709551615", Some(u64::MAX)),
+        (b"18446744073709551616", Some(u64::MAX)),
+        (b"", None),
+        (b"1x", None),
+        (b"1234567890123456789x", None),
+    ] {
+        assert_eq!(rt; read_number(word), want);
+    }
+    Ok(())
+}
+
+#[test]
+fn a_sign_stands_before_the_rest(rt: HostRuntime) -> Result<(), Fail> {
+    let (negative, rest) = split_sign(b"-12");
+    assert!(rt; negative && is_number(rest) && find_byte(rest, b'2') == 1);
+    let (negative, rest) = split_sign(b"+");
+    assert!(rt; !negative && are_digits(rest) && !is_number(rest));
+    Ok(())
+}
