@@ -5,8 +5,8 @@ ghost use Rattle.def_text.specs.Canonical.{canonical_text, face_text, micro_text
 use crate::Memory;
 use def_io::LINE_FEED;
 use def_text::{FACE, Micro, SPACE, Soup, VERTEX};
-use itoa::Buffer;
 use qm_dec::write_micro;
+use qm_print::push_spaced;
 use std::alloc::Global;
 
 /// The canonical text: a line `v x y z` for each vertex, then a line `f a b c d` for each face.
@@ -60,11 +60,9 @@ fn push_micro(text: &mut Vec<u8>, number: Micro) -> Result<(), Memory>
 fn push_face(text: &mut Vec<u8>, face: &[u32; 4]) -> Result<(), Memory>
     ensures { OnOk result (text.new.items ≡ text.old.items ++ face_text face.now) }
 {
-    let mut buffer = Buffer::new();
     text.push(FACE)?;
     for vertex in face {
-        text.push(SPACE)?;
-        text.extend_from_slice(buffer.format(u64::from(*vertex) + 1).as_bytes())?;
+        push_spaced(text, u64::from(*vertex) + 1)?;
     }
     text.push(LINE_FEED)?;
     Ok(())

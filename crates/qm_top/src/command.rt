@@ -8,12 +8,13 @@ ghost use Rattle.def_run.specs.Causes.{IsGood, Ran};
 ghost use Rattle.def_run.specs.Messages.{Said, SaidWhy};
 ghost use Rattle.qm_top.specs.Refusals.{answer_of, Ended, Finished};
 
-use crate::error_line::{ErrorLine, line_of};
+use crate::error_line::error_line_of;
 use crate::refusal::Refusal;
 use crate::tidy::tidy;
 use crate::words::read_words;
 use def_run::{Answer, Command};
 use qm_io::{Sink, Source, write_all};
+use qm_print::Line;
 use std::alloc::Global;
 
 /// Runs one command line: `words` are the words after the program's name.
@@ -48,14 +49,14 @@ pub fn run<S: Source, O: Sink, E: Sink>(
         (change (E.taken err.old) (E.taken err.new) (E.faults err.old) (E.faults err.new)) result }
 {
     let Some(command) = read_words(words) else {
-        say(err, &line_of(&Answer::Usage, &[]));
+        say(err, &error_line_of(&Answer::Usage, &[]));
         return Answer::Usage;
     };
     match run_command(alloc, command, input, out) {
         Ok(()) => Answer::Done,
         Err(refusal) => {
             let answer = refusal.answer();
-            say(err, &line_of(&answer, refusal.names()));
+            say(err, &error_line_of(&answer, refusal.names()));
             answer
         }
     }
@@ -81,7 +82,7 @@ fn run_command<S: Source, O: Sink>(
 }
 
 /// Hands a line to the error sink. Where that fails there is no one to tell.
-fn say<E: Sink>(err: &mut E, line: &ErrorLine)
+fn say<E: Sink>(err: &mut E, line: &Line)
     ensures { Said line.now.bytes (change (E.taken err.old) (E.taken err.new) (E.faults err.old) (E.faults err.new)) }
 {
     let _ = write_all(err, line.as_str().as_bytes());

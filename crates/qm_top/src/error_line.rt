@@ -1,22 +1,20 @@
-ghost use Rattle.std.specs.Prelude.{◌≡◌, ◌≤◌, ◌+◌, ◌++◌, length, decimal, slice_index};
+//! The line that is said of an answer.
+
+ghost use Rattle.std.specs.Prelude.{◌≡◌, ◌≤◌, slice_index};
 ghost use Rattle.arrayvec.specs.ArrayString.{array_string_len};
 ghost use Rattle.def_run.specs.ErrorLines.{corners_text, error_line, limit_text, name_text, place_text, reason_text};
 
-use arrayvec::ArrayString;
 use def_mesh::Place;
 use def_run::Answer;
 use def_text::Which;
-use itoa::Buffer;
-
-/// A line for the error sink. The longest is the one on usage.
-pub(crate) type ErrorLine = ArrayString<256>;
+use qm_print::{Line, line_of, numbered_line, push_numbered};
 
 /// The whole line of an answer, where `names` has the vertices' numbers in the file. It takes no memory.
-pub(crate) fn line_of(answer: &Answer, names: &[u32]) -> ErrorLine
+pub(crate) fn error_line_of(answer: &Answer, names: &[u32]) -> Line
     ensures { result.bytes ≡ error_line names.now answer.now }
 {
     let reason = reason_of(answer, names);
-    let mut line = ErrorLine::new();
+    let mut line = Line::new();
     line.push_str("quadq: ");
     line.push_str(reason.as_str());
     line.push_str("\n");
@@ -26,56 +24,56 @@ pub(crate) fn line_of(answer: &Answer, names: &[u32]) -> ErrorLine
 const USAGE: &str =
     "usage: quadq tidy | graph | refine --by K | remesh --scale P/Q --floor F --weight plain|length | check | bench --size N";
 
-fn reason_of(answer: &Answer, names: &[u32]) -> ErrorLine
+fn reason_of(answer: &Answer, names: &[u32]) -> Line
     ensures text { result.bytes ≡ reason_text names.now answer.now }
     ensures short { array_string_len result ≤ 200 }
 {
     match *answer {
-        Answer::Done => text_of(""),
-        Answer::Usage => text_of(USAGE),
-        Answer::Syntax { line } => numbered(
+        Answer::Done => line_of(""),
+        Answer::Usage => line_of(USAGE),
+        Answer::Syntax { line } => numbered_line(
             "line ",
             u64::from(line),
             ": not an OBJ line of this profile",
         ),
         Answer::NotQuad { line, corners } => corners_of(u64::from(line), u64::from(corners)),
-        Answer::Range { line } => numbered("line ", u64::from(line), ": number out of range"),
+        Answer::Range { line } => numbered_line("line ", u64::from(line), ": number out of range"),
         Answer::Limit { which, line } => limit_of(which, line),
         Answer::NotManifold { place } => place_of(place, names),
-        Answer::ReadFault => text_of("read fault"),
-        Answer::WriteFault => text_of("write fault"),
-        Answer::Memory => text_of("out of memory"),
+        Answer::ReadFault => line_of("read fault"),
+        Answer::WriteFault => line_of("write fault"),
+        Answer::Memory => line_of("out of memory"),
     }
 }
 
-fn corners_of(line: u64, corners: u64) -> ErrorLine
+fn corners_of(line: u64, corners: u64) -> Line
     ensures text { result.bytes ≡ corners_text line corners }
     ensures short { array_string_len result ≤ 200 }
 {
-    let mut text = numbered("line ", line, ": face with ");
+    let mut text = numbered_line("line ", line, ": face with ");
     push_numbered(&mut text, corners, " corners");
     text
 }
 
-fn limit_of(which: Which, line: u32) -> ErrorLine
+fn limit_of(which: Which, line: u32) -> Line
     ensures text { result.bytes ≡ limit_text which line }
     ensures short { array_string_len result ≤ 200 }
 {
     match which {
-        Which::Bytes => text_of("limit: bytes"),
-        Which::Line => numbered("line ", u64::from(line), ": limit: line"),
-        Which::Vertices => numbered("line ", u64::from(line), ": limit: vertices"),
-        Which::Faces => numbered("line ", u64::from(line), ": limit: faces"),
+        Which::Bytes => line_of("limit: bytes"),
+        Which::Line => numbered_line("line ", u64::from(line), ": limit: line"),
+        Which::Vertices => numbered_line("line ", u64::from(line), ": limit: vertices"),
+        Which::Faces => numbered_line("line ", u64::from(line), ": limit: faces"),
     }
 }
 
-fn place_of(place: Place, names: &[u32]) -> ErrorLine
+fn place_of(place: Place, names: &[u32]) -> Line
     ensures text { result.bytes ≡ place_text names.now place }
     ensures short { array_string_len result ≤ 200 }
 {
     match place {
         Place::Repeated { face, vertex } => {
-            let mut line = numbered("face ", u64::from(face) + 1, ": vertex ");
+            let mut line = numbered_line("face ", u64::from(face) + 1, ": vertex ");
             push_numbered(&mut line, name_of(vertex, names), " repeated");
             line
         }
@@ -85,13 +83,13 @@ fn place_of(place: Place, names: &[u32]) -> ErrorLine
             face1,
             face2,
         } => {
-            let mut line = numbered("edge ", name_of(from, names), " ");
+            let mut line = numbered_line("edge ", name_of(from, names), " ");
             push_numbered(&mut line, name_of(to, names), ": faces ");
             push_numbered(&mut line, u64::from(face1) + 1, " and ");
             push_numbered(&mut line, u64::from(face2) + 1, "");
             line
         }
-        Place::TwoFans { vertex } => numbered("vertex ", name_of(vertex, names), ": two fans"),
+        Place::TwoFans { vertex } => numbered_line("vertex ", name_of(vertex, names), ": two fans"),
     }
 }
 
@@ -100,35 +98,4 @@ fn name_of(vertex: u32, names: &[u32]) -> u64
     ensures { result ≡ slice_index names.now vertex }
 {
     names.get(vertex as usize).copied().unwrap_or(0) as u64
-}
-
-fn text_of(text: &str) -> ErrorLine
-    requires { length text.now ≤ 200 }
-    ensures text { result.bytes ≡ text.now }
-    ensures short { array_string_len result ≤ 200 }
-{
-    let mut line = ErrorLine::new();
-    line.push_str(text);
-    line
-}
-
-fn numbered(before: &str, number: u64, after: &str) -> ErrorLine
-    requires { length before.now + length after.now ≤ 60 }
-    ensures text { result.bytes ≡ before.now ++ decimal number ++ after.now }
-    ensures short { array_string_len result ≤ 80 }
-{
-    let mut line = ErrorLine::new();
-    line.push_str(before);
-    push_numbered(&mut line, number, after);
-    line
-}
-
-fn push_numbered(line: &mut ErrorLine, number: u64, after: &str)
-    requires { array_string_len line.old + length after.now ≤ 200 }
-    ensures text { line.new.bytes ≡ line.old.bytes ++ decimal number ++ after.now }
-    ensures short { array_string_len line.new ≤ array_string_len line.old + length after.now + 20 }
-{
-    let mut buffer = Buffer::new();
-    line.push_str(buffer.format(number));
-    line.push_str(after);
 }

@@ -9,4 +9,4 @@ returns-in-Err-clause-complete g c = λ command line good.
 pub returns-in-Err-clause-told : goal.returns-in-Err-clause-told
 returns-in-Err-clause-told g c = λ refused.
     says_why _ _ c.in-Err.refusal c.answer-answer.result c.names.result.now _ c.answer-answer.ensures.answer c.names.ensures
-    c.in-Err.ensures.refused.names c.line_of-in-Err.ensures c.say-in-Err.ensures
+    c.in-Err.ensures.refused.names c.error_line_of-in-Err.ensures c.say-in-Err.ensures
