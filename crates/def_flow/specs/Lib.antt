@@ -1,5 +1,6 @@
 pub mod Accepted
 pub mod Admissible
+pub mod Descent
 pub mod Gadget
 pub mod Laws
 pub mod MatchingGraph

@@ -1,0 +1,20 @@
+-- Where a descent to a least list may begin, and what it ends with.
+use Rattle.std.specs.Prelude.{◌≡◌, ℕ, ◌+◌, ◌*◌, ◌<◌, ◌≤◌, List, length}
+use Rattle.def_matching.specs.Dual.{IsSmallDual}
+use Rattle.def_flow.specs.Network.{Network, ArcNumber, arc_at}
+use Rattle.def_flow.specs.Admissible.{AreLengths, IsAdmissible, deviation, entries}
+use Rattle.def_flow.specs.Accepted.{Certificate, IsAccepted}
+use Rattle.def_flow.specs.declared.limits.TheConstants.{MAX_LENGTH}
+
+-- An admissible list, from which no list of less deviation has too great a length.
+pub record IsStartOf (net : Network) (xs : List ℕ) : Type 0 where
+  pub count : length xs ≡ length net.arcs
+  pub admissible : IsAdmissible net (entries xs)
+  pub near : (k : ArcNumber) → k < length net.arcs
+      → net.p * (arc_at net.arcs k).old + deviation net (entries xs) ≤ MAX_LENGTH * net.q
+
+-- An accepted certificate with lengths and numbers in range.
+pub record IsSolution (net : Network) (c : Certificate) : Type 0 where
+  pub accepted : IsAccepted net c
+  pub lengths : AreLengths net.arcs c.x
+  pub small : IsSmallDual c.dual

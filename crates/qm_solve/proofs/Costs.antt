@@ -1,0 +1,29 @@
+-- The cost of a matching, one edge at a time.
+use Rattle.std.proofs.Common.{◌≡◌, ℕ, zero, suc, ◌+◌, ◌-◌, ◌<◌, ◌≤◌, List, [], ◌∷◌, length, map, take, ℤ, pos, ◌+ℤ◌, refl, ◌∙◌, sym, ap, arith}
+use Rattle.std.specs.Prelude.{slice_index}
+use Rattle.std.proofs.lemmas.Int.{ints}
+use Rattle.def_math.specs.Rising.{IsRising}
+use Rattle.def_math.specs.Sums.{total}
+use Rattle.qm_laws.proofs.Entries.{total_take}
+use Rattle.def_matching.specs.Matching.{Graph, edge_at, matching_cost}
+use Rattle.def_matching.specs.declared.weighted.WEdge.{WEdge}
+
+-- Rising numbers are below the bound.
+pub rising_below : (low high : ℕ) (m : List ℕ) → IsRising low high m → (i : ℕ) → i < length m → slice_index m i < high
+rising_below low high [] rising i l = absurd (omega arith)
+rising_below low high (k ∷ ks) rising zero l = rising.1
+rising_below low high (k ∷ ks) rising (suc i) l = rising_below (k + 1) high ks rising.2 i (omega arith)
+
+-- There are no more of them than numbers in between.
+pub rising_few : (low high : ℕ) (m : List ℕ) → IsRising low high m → length m ≤ high - low
+rising_few low high [] rising = omega arith
+rising_few low high (k ∷ ks) rising = omega (arith, rising.0, rising.1, rising_few (k + 1) high ks rising.2)
+
+-- A sum along a list that is mapped.
+total_map : (g : Graph) (m : List ℕ) → matching_cost g m ≡ total (λ k. (edge_at g k).cost) m
+total_map g [] = refl
+total_map g (k ∷ ks) = omega (arith, ints, total_map g ks)
+
+-- One edge more.
+pub cost_take : (g : Graph) (m : List ℕ) (i : ℕ) → i < length m → matching_cost g (take (i + 1) m) ≡ matching_cost g (take i m) +ℤ (edge_at g (slice_index m i)).cost
+cost_take g m i l = omega (arith, ints, total_map g (take (i + 1) m), total_map g (take i m), total_take (λ k. (edge_at g k).cost) 0 m i l)

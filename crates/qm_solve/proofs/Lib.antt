@@ -1,0 +1,4 @@
+pub mod Costs
+pub mod Near
+pub mod Rounds
+pub mod Starts

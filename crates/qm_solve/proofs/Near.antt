@@ -1,0 +1,37 @@
+-- A list that is no farther from what is wanted than the start has no great length.
+use Rattle.std.proofs.Common.{◌≡◌, ℕ, suc, ◌+◌, ◌*◌, ◌^◌, ◌<◌, ◌≤◌, ◌&&◌, true, nat_le, List, length, pos, ◌-ℤ◌, ◌*ℤ◌, mul-add, mul_comm, mul-one, inl, inr, leb-true, arith}
+use Rattle.std.specs.Prelude.{slice_index, unsigned_abs}
+use Rattle.std.proofs.Math.Nat.{mul-le-mul_left, mul-le-mul_right}
+use Rattle.std.proofs.lemmas.Int.{ints}
+use Rattle.std.proofs.lemmas.Bool.{and_parts, cases_lt}
+use Rattle.qm_table.proofs.Ranges.{part_low}
+use Rattle.def_flow.specs.Network.{Network, IsWithinBounds, arc_at}
+use Rattle.def_flow.specs.Admissible.{AreLengths, IsAdmissible, arc_deviation, deviation, entries}
+use Rattle.def_flow.specs.Descent.{IsStartOf}
+use Rattle.def_flow.specs.declared.net.Arc.{Arc}
+use Rattle.qm_net.proofs.Within.{arc_bounded}
+
+-- What a factor of one or more leaves.
+factor : (w d : ℕ) → 1 ≤ w → d ≤ w * d
+factor w d some = omega (arith, mul-le-mul_right d some)
+
+-- A length within reach.
+short : (q p old x far most : ℕ) → 1 ≤ q → unsigned_abs (pos q *ℤ pos x -ℤ pos (p * old)) ≤ far → p * old + far ≤ most * q → x ≤ most
+short q p old x far most some near room = elim (cases_lt most x) [
+  | inl l ↦ absurd (let more : q * suc most ≤ q * x = mul-le-mul_left q (omega arith) in omega (arith, ints, more, mul-add q most 1, mul-one q, mul_comm most q))
+  | inr h ↦ h
+]
+
+pub lengths_near : (net : Network) (start xs : List ℕ) → IsWithinBounds net → IsStartOf net start → length xs ≡ length net.arcs → deviation net (entries xs) ≤ deviation net (entries start) → AreLengths net.arcs xs
+lengths_near net start xs bounds from count nearer = record { count = count; small = small }
+  where
+    small : (k : ℕ) → k < length xs → slice_index xs k ≤ 10 ^ 12
+    small k l =
+        let a : Arc = arc_at net.arcs k in
+        let inner : k < length net.arcs = omega (arith, count) in
+        let far : ℕ = unsigned_abs (pos net.q *ℤ pos (slice_index xs k) -ℤ pos (net.p * a.old)) in
+        let numbers = and_parts (nat_le 1 a.weight && nat_le a.weight 1000 && nat_le a.old 4000000000) _ (arc_bounded net bounds k inner) in
+        let weights = and_parts (nat_le 1 a.weight && nat_le a.weight 1000) _ numbers.0 in
+        let heavy : 1 ≤ a.weight = leb-true 1 a.weight (and_parts (nat_le 1 a.weight) _ weights.0).0 in
+        let part : a.weight * far ≤ deviation net (entries xs) = omega (arith, part_low (λ j. arc_deviation net (arc_at net.arcs j) (entries xs j)) k (length net.arcs) inner) in
+        short net.q net.p a.old (slice_index xs k) (deviation net (entries start)) (10 ^ 12) bounds.q_low (omega (arith, factor a.weight far heavy, part, nearer)) (from.near k inner)

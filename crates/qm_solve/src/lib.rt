@@ -1,0 +1,15 @@
+//! The descent to a least list of lengths, with a certificate that shows it to be least.
+#![tactic(auto)]
+
+mod descent;
+mod matcher;
+mod round;
+mod start;
+
+pub use def_flow::{Cert, Net};
+pub use descent::solve_from;
+pub use matcher::{Matched, Matcher};
+pub use start::solve;
+
+/// Want of memory.
+pub type Memory = std::alloc::AllocError;

@@ -1,0 +1,28 @@
+//! What finds least perfect matchings.
+
+ghost use Rattle.std.specs.Prelude.{◌≡◌, ◌*ℤ◌, pos, IfOk};
+ghost use Rattle.def_matching.specs.Matching.{graph, matching_cost, IsCheap, IsPerfect, IsSmallGraph};
+ghost use Rattle.def_matching.specs.Dual.{dual, verdict, IsSmallDual};
+
+use def_matching::{Dual, Verdict, WGraph};
+use std::alloc::{AllocError, Global};
+
+/// A perfect matching, by the numbers of its edges, and a dual.
+#[derive(Debug, Drop)]
+pub struct Matched {
+    pub edges: Vec<u32>,
+    pub dual: Dual,
+}
+
+/// A way to a least perfect matching.
+pub trait Matcher {
+    /// A perfect matching, and a dual that says yes with twice its cost, so that no perfect matching costs less. One
+    /// perfect matching is known.
+    fn best(&self, alloc: Global, g: &WGraph, known: &[u32]) -> Result<Matched, AllocError>
+        requires small { IsSmallGraph (graph g.now) }
+        requires cheap { IsCheap (graph g.now) }
+        requires known { IsPerfect (graph g.now) known.now }
+        ensures perfect { IfOk result (λ found. IsPerfect (graph g.now) found.edges.items) }
+        ensures dual { IfOk result (λ found. IsSmallDual (dual found.dual)) }
+        ensures least { IfOk result (λ found. verdict (graph g.now) (dual found.dual) ≡ Verdict.Yes (pos 2 *ℤ matching_cost (graph g.now) found.edges.items)) };
+}
