@@ -1,5 +1,5 @@
 -- The traced graph: the first state where nobody runs, over half edges and over a list of faces.
-use Rattle.std.specs.Prelude.{◌≡◌, ℕ, zero, suc, ◌<◌, Bool, not, ◌||◌, List, [], ◌∷◌, map, length, slice_index, slice_index_or, Some, None, is_some}
+use Rattle.std.specs.Prelude.{◌≡◌, ℕ, zero, suc, Bool, not, ◌||◌, List, [], ◌∷◌, map, Some, is_some}
 use Rattle.def_mesh.specs.Faces.{Faces}
 use Rattle.def_mesh.specs.Darts.{all_darts}
 use Rattle.def_mesh.specs.Vertices.{vertex_count}
@@ -7,6 +7,7 @@ use Rattle.def_mesh.specs.Kinds.{is_inner, is_singular}
 use Rattle.def_mesh.specs.Components.{start_darts}
 use Rattle.def_mesh.specs.HalfEdges.{half_edges}
 use Rattle.def_cut.specs.Motion.{Terrain, State, ridden, step, start}
+use Rattle.def_cut.specs.declared.graph.Graph.{Graph}
 use Rattle.def_cut.specs.declared.graph.Rider.{Rider}
 use Rattle.def_cut.specs.declared.moving.Moving.{Moving}
 
@@ -54,3 +55,8 @@ abbrev pub AreRiders : (movings : List Moving) (firsts : List ℕ) (riders : Lis
 AreRiders [] [] [] = Unit {0}
 AreRiders (m ∷ ms) (d ∷ ds) (r ∷ rs) = IsRiderOf m d r × AreRiders ms ds rs
 AreRiders ms ds rs = ⊥
+
+-- The traced graph of a mesh: a mark for each dart, and its riders in order.
+pub record IsGraphOf (faces : Faces) (graph : Graph) : Type 0 where
+  pub covered : graph.covered.items ≡ traced_marks faces
+  pub riders : AreRiders (last_state faces).riders (start_darts faces) graph.riders.items

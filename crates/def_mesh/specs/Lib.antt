@@ -7,3 +7,4 @@ pub mod Meshes
 pub mod Kinds
 pub mod Components
 pub mod HalfEdges
+pub mod Sources

@@ -40,3 +40,17 @@ pub enum Place {
         vertex: u32,
     },
 }
+
+/// What a mesh is for riders. Faces, vertices and darts are numbered from 0.
+#[derive(Debug, Drop)]
+pub struct Starts {
+    /// The kind of each vertex.
+    pub kinds: Vec<Kind>,
+    /// The number of each face's component.
+    pub component: Vec<u32>,
+    pub components: u32,
+    /// The darts along which riders start, rising.
+    pub starts: Vec<u32>,
+    /// The least vertex of each ring, rising.
+    pub seeds: Vec<u32>,
+}
