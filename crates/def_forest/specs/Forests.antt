@@ -1,5 +1,6 @@
 -- A forest of blossoms over a graph: the blossoms, their weights, the matching among the outermost ones, and a tree.
 use Rattle.std.specs.Prelude.{◌≡◌, ℕ, zero, suc, ◌+◌, ◌<◌, ◌==◌, Bool, not, if◌then◌else◌, ℤ, pos, ◌+ℤ◌, Option}
+use Rattle.def_math.specs.Counts.{count_below}
 use Rattle.def_math.specs.Sums.{total_below}
 use Rattle.def_matching.specs.Matching.{Vertex}
 use Rattle.def_forest.specs.Darts.{Dart, Darts, far}
@@ -44,6 +45,10 @@ splits set u v = if set u then not (set v) else set v
 abbrev pub load : (f : Forest) (u v : Vertex) → ℤ
 load f u v = total_below (λ b. if splits (f.holds b) u v then f.weight b else pos 0) f.size
 
+-- The sum of all weights.
+abbrev pub dual_sum_of : (f : Forest) → ℤ
+dual_sum_of f = total_below f.weight f.size
+
 -- The load of a dart is twice its cost.
 pub record IsTight (g : Darts) (f : Forest) (d : Dart) : Type 0 where
   pub low : d < g.count
@@ -70,3 +75,7 @@ ring_sum next f from (suc k) = ring_sum next f from k + f (walk next from k)
 -- A function with another value at one place.
 abbrev pub set_at : {X : Type 0} (f : ℕ → X) (place : ℕ) (value : X) → ℕ → X
 set_at f place value k = if k == place then value else f k
+
+-- How many vertices a blossom holds.
+abbrev pub vertices_in : (n : ℕ) (f : Forest) (b : Blossom) → ℕ
+vertices_in n f b = count_below (λ v. number (f.holds b v)) n

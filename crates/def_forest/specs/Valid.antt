@@ -38,11 +38,13 @@ pub record IsJoint (g : Darts) (f : Forest) (p : Blossom) : Type 0 where
   pub ends : f.holds (f.nest.after p) (far g (f.nest.joint p)) ≡ true
   pub same : f.out (g.near (f.nest.joint p)) ≡ f.out (far g (f.nest.joint p))
 
--- A vertex is the blossom that holds it alone. Any other blossom is a ring, or holds nothing and has no parts.
+-- A vertex is the blossom that holds it alone. Any other number is that of a ring, or is not in use: then it has no
+-- parts and no weight, and holds nothing.
 pub record IsNested (g : Darts) (f : Forest) : Type 0 where
   pub alone : (v w : Vertex) → v < g.n → w < g.n → f.holds v w ≡ (v == w)
   pub rings : (b : Blossom) → g.n ≤ b → f.nest.parts b ≢ 0 → IsRing g f b
   pub empty : (b : Blossom) (v : Vertex) → g.n ≤ b → v < g.n → f.nest.parts b ≡ 0 → f.holds b v ≡ false
+  pub weightless : (b : Blossom) → g.n ≤ b → f.nest.parts b ≡ 0 → f.weight b ≡ pos 0
   pub live : (p : Blossom) → f.nest.up p ≢ p → (g.n ≤ f.nest.up p) × (f.nest.parts (f.nest.up p) ≢ 0)
   pub joints : (p : Blossom) → f.nest.up p ≢ p → IsJoint g f p
 

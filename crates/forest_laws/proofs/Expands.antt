@@ -11,10 +11,10 @@ use Rattle.forest_laws.specs.Opened.{Opening, IsOpening, IsOpened}
 use Rattle.def_forest.specs.Valid.{AreOutermost, IsNested, IsRing, IsJoint, IsFeasible, IsMate, IsMatched, IsTree, IsInner, IsOuter, IsValid, KeepsOutside}
 use Rattle.def_forest.specs.declared.kinds.Label.TheVariants.{Outer, Inner, Outside}
 use Rattle.forest_laws.specs.Ways.{dart_or}
-use Rattle.forest_laws.proofs.Writes.{some_is, by_none}
+use Rattle.forest_laws.proofs.Writes.{some_is, by_none, true_false}
 use Rattle.forest_laws.proofs.Facts.{far_low, far_twin, tight_twin}
 use Rattle.forest_laws.proofs.WayLaws.{some_none}
-use Rattle.forest_laws.proofs.Shrinks.{true_false, walk_same, ring_sum_same}
+use Rattle.forest_laws.proofs.Shrinks.{walk_same, ring_sum_same}
 
 -- A number is even or odd.
 pub halves : (j : ℕ) → ((i : ℕ) × (j ≡ 2 * i)) ⊎ ((i : ℕ) × (j ≡ 2 * i + 1))
@@ -270,6 +270,7 @@ module _ (g : Darts) (are : AreDarts g) (f : Forest) (r : ℕ) (valid : IsValid 
     alone = λ v w lv lw. is.holds v w (λ e. (let h : g.n ≤ v = subst (λ x. g.n ≤ x) (sym e) opening.high in omega arith)) lw ∙ valid.nested.alone v w lv lw;
     rings = λ c high live. rings c high live (cases_eq c b);
     empty = λ c v high low none. empty c v high low none (cases_eq c b);
+    weightless = λ c high none. weightless c high none (cases_eq c b);
     live = λ p inner. live p inner (cases_eq (f.nest.up p) b);
     joints = λ p inner. joints p inner (cases_eq (f.nest.up p) b);
   }
@@ -281,6 +282,10 @@ module _ (g : Darts) (are : AreDarts g) (f : Forest) (r : ℕ) (valid : IsValid 
       empty : (c v : ℕ) → g.n ≤ c → v < g.n → new.nest.parts c ≡ 0 → (c ≡ b) ⊎ (c ≢ b) → new.holds c v ≡ false
       empty c v high low none (inl e) = ap (λ x. new.holds x v) e ∙ is.holds_none v low
       empty c v high low none (inr ne) = is.holds c v ne low ∙ valid.nested.empty c v high low (sym (kept_parts c ne) ∙ none)
+
+      weightless : (c : ℕ) → g.n ≤ c → new.nest.parts c ≡ 0 → (c ≡ b) ⊎ (c ≢ b) → new.weight c ≡ pos 0
+      weightless c high none (inl e) = is.weight c ∙ (ap f.weight e ∙ opening.weightless)
+      weightless c high none (inr ne) = is.weight c ∙ valid.nested.weightless c high (sym (kept_parts c ne) ∙ none)
 
       live : (p : ℕ) → new.nest.up p ≢ p → (f.nest.up p ≡ b) ⊎ (f.nest.up p ≢ b) → (g.n ≤ new.nest.up p) × (new.nest.parts (new.nest.up p) ≢ 0)
       live p inner (inl e) = absurd (inner (is.parts_out p e))

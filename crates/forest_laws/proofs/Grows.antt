@@ -27,6 +27,7 @@ module _ (g : Darts) (f : Forest) (label : ℕ → Label) (mate : ℕ → Option
     alone = nested.alone;
     rings = λ b high live. ring b (nested.rings b high live);
     empty = nested.empty;
+    weightless = nested.weightless;
     live = nested.live;
     joints = λ p inside. joint p (nested.joints p inside);
   }

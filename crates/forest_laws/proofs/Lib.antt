@@ -1,7 +1,12 @@
+pub mod Bounds
+pub mod Climbs
 pub mod Expands
 pub mod Facts
+pub mod Graphs
 pub mod Grows
 pub mod Loads
+pub mod Odds
+pub mod Rises
 pub mod Shifts
 pub mod Shrinks
 pub mod WayLaws

@@ -1,14 +1,15 @@
 -- A shift with a feasible end keeps a forest valid.
-use Rattle.std.proofs.Common.{◌≡◌, ◌≢◌, ℕ, Option, Some, ℤ, pos, ◌+ℤ◌, ◌-ℤ◌, ◌⊎◌, refl, sym, ◌∙◌, ap, subst, inl, inr, arith}
+use Rattle.std.proofs.Common.{true, ◌≤◌, ◌≡◌, ◌≢◌, ℕ, Option, Some, ℤ, pos, ◌+ℤ◌, ◌-ℤ◌, ◌⊎◌, refl, sym, ◌∙◌, ap, subst, inl, inr, arith}
 use Rattle.std.proofs.lemmas.Int.{ints}
-use Rattle.std.proofs.lemmas.Bool.{cases_eq}
+use Rattle.std.proofs.lemmas.Bool.{cases_eq, eq-eqb}
 use Rattle.def_forest.specs.Darts.{Darts, AreDarts, far}
-use Rattle.def_forest.specs.Forests.{Forest, load, IsTight}
+use Rattle.def_forest.specs.Forests.{Forest, load, IsTight, IsOutermost}
 use Rattle.def_forest.specs.Steps.{change, shifted}
 use Rattle.def_forest.specs.Valid.{IsNested, IsRing, IsJoint, IsFeasible, IsMate, IsTree, IsInner, IsValid}
 use Rattle.def_forest.specs.declared.kinds.Label.{Label}
 use Rattle.def_forest.specs.declared.kinds.Label.TheVariants.{Outer, Inner, Outside}
 use Rattle.forest_laws.proofs.Loads.{load_apart, load_within}
+use Rattle.forest_laws.proofs.Writes.{label_cases, true_false}
 use Rattle.forest_laws.proofs.Facts.{far_low, inner_mate, outer_mate}
 
 module _ (g : Darts) (are : AreDarts g) (f : Forest) (root : Option ℕ) (valid : IsValid g f root) (t : ℤ) where
@@ -62,10 +63,18 @@ module _ (g : Darts) (are : AreDarts g) (f : Forest) (root : Option ℕ) (valid 
     alone = valid.nested.alone;
     rings = λ b high live. ring b (valid.nested.rings b high live);
     empty = valid.nested.empty;
+    weightless = λ b high none. weightless b high none (label_cases (f.label b));
     live = valid.nested.live;
     joints = λ p inside. joint p (valid.nested.joints p inside);
   }
     where
+      weightless : (b : ℕ) → g.n ≤ b → f.nest.parts b ≡ 0 → (f.label b ≡ Outside) ⊎ (f.label b ≢ Outside) → f.weight b +ℤ change (f.label b) t ≡ pos 0
+      weightless b high none (inl off) = let z : change (f.label b) t ≡ pos 0 = ap (λ (l : Label). change l t) off in omega (arith, ints, valid.nested.weightless b high none)
+      weightless b high none (inr named) =
+          let w : IsOutermost g.n f b = valid.outermost.named b named in
+          let on : f.holds b w.0 ≡ true = subst (λ x. f.holds x w.0 ≡ true) w.2 (valid.outermost.held w.0 w.0 w.1 w.1 ∙ eq-eqb (f.out w.0) (f.out w.0) refl) in
+          absurd (true_false (f.holds b w.0) on (valid.nested.empty b w.0 high w.1 none))
+
       ring : (b : ℕ) → IsRing g f b → IsRing g (shifted f t) b
       ring b is = record { half = is.half; some = is.some; odd = is.odd; closed = is.closed; inside = is.inside; lower = is.lower; below = is.below; distinct = is.distinct; all = is.all; shared = is.shared }
 

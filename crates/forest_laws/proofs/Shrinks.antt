@@ -7,13 +7,9 @@ use Rattle.def_forest.specs.Forests.{Forest, load, splits, IsTight, IsOutermost,
 use Rattle.forest_laws.specs.Shrunk.{IsUnused, IsCycle, IsClosedRow, IsShrunk}
 use Rattle.def_forest.specs.Valid.{AreOutermost, IsNested, IsRing, IsJoint, IsFeasible, IsMate, IsMatched, IsTree, IsInner, IsOuter, IsValid, KeepsOutside}
 use Rattle.def_forest.specs.declared.kinds.Label.TheVariants.{Outer, Inner, Outside}
-use Rattle.forest_laws.proofs.Writes.{some_is, set_here, set_there, by_none}
+use Rattle.forest_laws.proofs.Writes.{some_is, set_here, set_there, by_none, true_false}
 use Rattle.forest_laws.proofs.Facts.{far_low, far_twin}
 use Rattle.forest_laws.proofs.WayLaws.{some_none}
-
--- True is not false.
-pub true_false : (b : Bool) → b ≡ true → b ≡ false → ⊥
-true_false b on off = let h : true ≡ false = sym on ∙ off in cc
 
 -- Walks and sums along a ring that two tables have in common.
 pub walk_same : (f h : ℕ → ℕ) (a : ℕ) → ((k : ℕ) → f (walk f a k) ≡ h (walk f a k)) → (k : ℕ) → walk h a k ≡ walk f a k
@@ -259,6 +255,7 @@ module _ (g : Darts) (are : AreDarts g) (f : Forest) (r : ℕ) (valid : IsValid 
     alone = λ v w lv lw. is.holds_old v w (λ e. (let h : g.n ≤ v = subst (λ x. g.n ≤ x) (sym e) unused.high in omega arith)) lw ∙ valid.nested.alone v w lv lw;
     rings = λ c high live. rings c high live (cases_eq c b);
     empty = λ c v high low none. empty c v high low none (cases_eq c b);
+    weightless = λ c high none. weightless c high none (cases_eq c b);
     live = λ p inner. live p inner (place p);
     joints = λ p inner. joints p inner (place p);
   }
@@ -270,6 +267,10 @@ module _ (g : Darts) (are : AreDarts g) (f : Forest) (r : ℕ) (valid : IsValid 
       empty : (c v : ℕ) → g.n ≤ c → v < g.n → new.nest.parts c ≡ 0 → (c ≡ b) ⊎ (c ≢ b) → new.holds c v ≡ false
       empty c v high low none (inl e) = let h : many ≡ 0 = sym (set_here f.nest.parts b many) ∙ (sym (is.parts b) ∙ (ap new.nest.parts (sym e) ∙ none)) in absurd (omega (arith, row.odd))
       empty c v high low none (inr ne) = is.holds_old c v ne low ∙ valid.nested.empty c v high low (sym (set_there f.nest.parts b c many ne) ∙ (sym (is.parts c) ∙ none))
+
+      weightless : (c : ℕ) → g.n ≤ c → new.nest.parts c ≡ 0 → (c ≡ b) ⊎ (c ≢ b) → new.weight c ≡ pos 0
+      weightless c high none (inl e) = is.weight c ∙ (ap f.weight e ∙ unused.weightless)
+      weightless c high none (inr ne) = is.weight c ∙ valid.nested.weightless c high (sym (set_there f.nest.parts b c many ne) ∙ (sym (is.parts c) ∙ none))
 
       live : (p : ℕ) → new.nest.up p ≢ p → Place p → (g.n ≤ new.nest.up p) × (new.nest.parts (new.nest.up p) ≢ 0)
       live p inner (inl e) = absurd (inner (ap new.nest.up e ∙ (up_b ∙ sym e)))

@@ -1,5 +1,5 @@
 -- A function with another value at one place; cases on labels; tests as terms of sums.
-use Rattle.std.proofs.Common.{◌≡◌, ◌≢◌, ℕ, Bool, true, false, not, cond, eqb, Some, ℤ, pos, ◌+ℤ◌, ◌⊎◌, refl, inl, inr, arith}
+use Rattle.std.proofs.Common.{◌∙◌, sym, ◌≡◌, ◌≢◌, ℕ, Bool, true, false, not, cond, eqb, Some, ℤ, pos, ◌+ℤ◌, ◌⊎◌, refl, inl, inr, arith}
 use Rattle.std.proofs.lemmas.Int.{ints}
 use Rattle.std.proofs.lemmas.Bool.{cond-true, cond-false, eq-eqb, ne_eqb}
 use Rattle.def_forest.specs.Forests.{set_at}
@@ -64,3 +64,7 @@ by_order true true = refl
 by_order true false = refl
 by_order false true = refl
 by_order false false = refl
+
+-- True is not false.
+pub true_false : (b : Bool) → b ≡ true → b ≡ false → ⊥
+true_false b on off = let h : true ≡ false = sym on ∙ off in cc

@@ -1,9 +1,10 @@
 -- The laws of forests.
-use Rattle.std.specs.Prelude.{◌≡◌, ℕ, Bool, if◌then◌else◌, ℤ, Option, Some, None}
-use Rattle.def_forest.specs.Darts.{Dart, Darts, AreDarts, far}
-use Rattle.def_forest.specs.Forests.{Blossom, Forest, IsOutermost, set_at}
+use Rattle.std.specs.Prelude.{◌≢◌, ◌%◌, ◌<◌, ◌≤◌, ◌⊎◌, ◌+ℤ◌, ◌*ℤ◌, ◌≤ℤ◌, pos, List, ◌≡◌, ℕ, Bool, if◌then◌else◌, ℤ, Option, Some, None}
+use Rattle.def_matching.specs.Matching.{Graph, EdgeNumber, IsGraph, IsPerfect, matching_cost}
+use Rattle.def_forest.specs.Darts.{Dart, Darts, AreDarts, darts_of, far}
+use Rattle.def_forest.specs.Forests.{Blossom, Forest, IsOutermost, set_at, dual_sum_of, vertices_in}
 use Rattle.def_forest.specs.Steps.{shifted, rooted, grown, with_mates, IsAugmented}
-use Rattle.def_forest.specs.Valid.{IsFeasible, IsTree, IsValid}
+use Rattle.def_forest.specs.Valid.{IsFeasible, IsNested, IsTree, IsValid}
 use Rattle.forest_laws.specs.Opened.{Opening, IsOpening, IsOpened}
 use Rattle.forest_laws.specs.Shrunk.{IsUnused, IsCycle, IsClosedRow, IsShrunk}
 use Rattle.forest_laws.specs.Ways.{Reaches, IsAlmost}
@@ -50,3 +51,21 @@ abbrev pub ExpandLaw : Type 0
 ExpandLaw =
     (g : Darts) (f : Forest) (root : Blossom) (new : Forest) (o : Opening) → AreDarts g → IsValid g f (Some root)
     → IsOpening g f o → IsOpened g f new o → IsValid g new (Some root)
+
+-- A shift by t raises the sum of the weights by t: the tree has one outer blossom more than inner ones.
+abbrev pub RiseLaw : Type 0
+RiseLaw =
+    (g : Darts) (f : Forest) (root : Blossom) (t : ℤ) → AreDarts g → IsValid g f (Some root)
+    → dual_sum_of (shifted f t) ≡ (dual_sum_of f +ℤ t)
+
+-- Each blossom holds an odd number of vertices.
+abbrev pub OddLaw : Type 0
+OddLaw =
+    (g : Darts) (f : Forest) (b : Blossom) → AreDarts g → IsNested g f → (b < g.n) ⊎ ((g.n ≤ b) × (f.nest.parts b ≢ 0))
+    → vertices_in g.n f b % 2 ≡ 1
+
+-- Twice the cost of each perfect matching is at least the sum of the weights.
+abbrev pub BoundLaw : Type 0
+BoundLaw =
+    (g : Graph) (f : Forest) (root : Option Blossom) (m : List EdgeNumber) → IsGraph g → IsValid (darts_of g) f root → IsPerfect g m
+    → dual_sum_of f ≤ℤ (pos 2 *ℤ matching_cost g m)

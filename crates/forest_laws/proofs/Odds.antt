@@ -1,0 +1,74 @@
+-- Each blossom holds an odd number of vertices.
+use Rattle.std.proofs.Common.{◌≡◌, ◌≢◌, ℕ, zero, suc, ◌+◌, ◌*◌, ◌%◌, ◌<◌, ◌≤◌, true, false, cond, eqb, ℤ, pos, ◌⊎◌, refl, sym, ◌∙◌, ap, subst, inl, inr, arith}
+use Rattle.std.proofs.lemmas.Bool.{cases_eq, cases_lt, eq-eqb, ne_eqb}
+use Rattle.def_math.specs.Counts.{count_below}
+use Rattle.qm_laws.proofs.Counts.{count_below_same, count_below_sum, count_below_none, count_below_one}
+use Rattle.def_forest.specs.Darts.{Darts, AreDarts, far}
+use Rattle.def_forest.specs.Forests.{Forest, number, walk, ring_sum, vertices_in}
+use Rattle.def_forest.specs.Valid.{IsNested, IsRing, IsJoint}
+use Rattle.forest_laws.proofs.Writes.{true_false}
+
+-- A count of sums along a ring.
+pub counts_exchanged : (next : ℕ → ℕ) (f : ℕ → ℕ → ℕ) (front n k : ℕ) → count_below (λ w. ring_sum next (λ p. f p w) front k) n ≡ ring_sum next (λ p. count_below (f p) n) front k
+counts_exchanged next f front n zero = count_below_none (λ w. 0) n (λ j l. refl)
+counts_exchanged next f front n (suc k) =
+    let h : count_below (λ w. ring_sum next (λ p. f p w) front k) n ≡ ring_sum next (λ p. count_below (f p) n) front k = counts_exchanged next f front n k in
+    omega (arith, h, count_below_sum (λ w. ring_sum next (λ p. f p w) front k) (f (walk next front k)) n)
+
+-- A sum of odd numbers is odd where there is an odd number of them.
+pub odd_sum : (next f : ℕ → ℕ) (front k : ℕ) → ((j : ℕ) → f (walk next front j) % 2 ≡ 1) → ring_sum next f front k % 2 ≡ k % 2
+odd_sum next f front zero odd = refl
+odd_sum next f front (suc k) odd =
+    let h : ring_sum next f front k % 2 ≡ k % 2 = odd_sum next f front k odd in
+    let one : f (walk next front k) % 2 ≡ 1 = odd k in
+    omega (arith, h, one)
+
+-- A number that is in use is a vertex's or that of a ring.
+abbrev pub IsBlossom : (g : Darts) (f : Forest) (b : ℕ) → Type 0
+IsBlossom g f b = (b < g.n) ⊎ ((g.n ≤ b) × (f.nest.parts b ≢ 0))
+
+module _ (g : Darts) (are : AreDarts g) (f : Forest) (nested : IsNested g f) where
+  vertex_odd : (b : ℕ) → b < g.n → vertices_in g.n f b ≡ 1
+  vertex_odd b l =
+      count_below_one (λ v. number (f.holds b v)) g.n b l (λ k lk ne. ap number (nested.alone b k l lk ∙ ne_eqb b k (λ e. ne (sym e))))
+      ∙ ap number (nested.alone b b l l ∙ eq-eqb b b refl)
+
+  -- A part is in use.
+  part_used : (b : ℕ) → IsRing g f b → (k : ℕ) → IsBlossom g f (walk f.nest.after (f.nest.head b) k)
+  part_used b ring k = by_size (cases_lt p g.n)
+    where
+      p : ℕ
+      p = walk f.nest.after (f.nest.head b) k
+
+      inner : f.nest.up p ≢ p
+      inner e = let h : f.nest.rank p < f.nest.rank b = ring.lower k in let same : f.nest.rank b ≡ f.nest.rank p = ap f.nest.rank (sym (ring.inside k) ∙ e) in omega arith
+
+      joint : IsJoint g f p
+      joint = nested.joints p inner
+
+      near_low : g.near (f.nest.joint p) < g.n
+      near_low = are.near_low (f.nest.joint p) joint.tight.low
+
+      by_size : (p < g.n) ⊎ (g.n ≤ p) → IsBlossom g f p
+      by_size (inl l) = inl l
+      by_size (inr h) = inr (h, λ none. true_false (f.holds p (g.near (f.nest.joint p))) joint.begins (nested.empty p (g.near (f.nest.joint p)) h near_low none))
+
+  set_odd : (b : ℕ) → IsRing g f b → ((k : ℕ) → vertices_in g.n f (walk f.nest.after (f.nest.head b) k) % 2 ≡ 1) → vertices_in g.n f b % 2 ≡ 1
+  set_odd b ring odd =
+      let shared : vertices_in g.n f b ≡ count_below (λ v. ring_sum f.nest.after (λ p. number (f.holds p v)) (f.nest.head b) (f.nest.parts b)) g.n = count_below_same (λ v. number (f.holds b v)) (λ v. ring_sum f.nest.after (λ p. number (f.holds p v)) (f.nest.head b) (f.nest.parts b)) g.n ring.shared in
+      let sums : count_below (λ v. ring_sum f.nest.after (λ p. number (f.holds p v)) (f.nest.head b) (f.nest.parts b)) g.n ≡ ring_sum f.nest.after (vertices_in g.n f) (f.nest.head b) (f.nest.parts b) = counts_exchanged f.nest.after (λ p v. number (f.holds p v)) (f.nest.head b) g.n (f.nest.parts b) in
+      let parity : ring_sum f.nest.after (vertices_in g.n f) (f.nest.head b) (f.nest.parts b) % 2 ≡ f.nest.parts b % 2 = odd_sum f.nest.after (vertices_in g.n f) (f.nest.head b) (f.nest.parts b) odd in
+      let whole : vertices_in g.n f b % 2 ≡ f.nest.parts b % 2 = ap (λ x. x % 2) (shared ∙ sums) ∙ parity in
+      omega (arith, whole, ring.odd)
+
+  odd_below : (fuel b : ℕ) → f.nest.rank b < fuel → IsBlossom g f b → vertices_in g.n f b % 2 ≡ 1
+  odd_below zero b l used = absurd (omega arith)
+  odd_below (suc fuel) b l (inl low) = ap (λ x. x % 2) (vertex_odd b low)
+  odd_below (suc fuel) b l (inr (high, live)) = by_ring (nested.rings b high live) (λ p lp used. odd_below fuel p lp used)
+    where
+      by_ring : IsRing g f b → ((p : ℕ) → f.nest.rank p < fuel → IsBlossom g f p → vertices_in g.n f p % 2 ≡ 1) → vertices_in g.n f b % 2 ≡ 1
+      by_ring ring more = set_odd b ring (λ k. more (walk f.nest.after (f.nest.head b) k) (let h : f.nest.rank (walk f.nest.after (f.nest.head b) k) < f.nest.rank b = ring.lower k in omega arith) (part_used b ring k))
+
+  -- A blossom holds an odd number of vertices.
+  pub odd_blossom : (b : ℕ) → IsBlossom g f b → vertices_in g.n f b % 2 ≡ 1
+  odd_blossom b used = odd_below (suc (f.nest.rank b)) b (omega arith) used

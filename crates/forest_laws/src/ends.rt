@@ -1,0 +1,16 @@
+ghost use Rattle.forest_laws.specs.Laws.{BoundLaw, OddLaw, RiseLaw};
+
+/// A shift by t raises the sum of the weights by t: the tree has one outer blossom more than inner ones.
+pub fn rise_law()
+    ensures { RiseLaw }
+{}
+
+/// Each blossom holds an odd number of vertices.
+pub fn odd_law()
+    ensures { OddLaw }
+{}
+
+/// Twice the cost of each perfect matching is at least the sum of the weights.
+pub fn bound_law()
+    ensures { BoundLaw }
+{}
