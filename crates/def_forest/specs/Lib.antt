@@ -1,4 +1,5 @@
 pub mod Darts
 pub mod Forests
 pub mod Steps
+pub mod Tables
 pub mod Valid

@@ -85,3 +85,14 @@ module _ (n : ℕ) (f : Forest) (top : AreOutermost n f) where
   load_across u v lu lv ne =
       total_below_same (λ b. cond (splits (f.holds b) u v) (f.weight b) (pos 0)) (λ b. cond (f.holds b u) (f.weight b) (pos 0) +ℤ cond (f.holds b v) (f.weight b) (pos 0)) f.size (λ b l. by_two (f.holds b u) (f.holds b v) (f.weight b) (λ p q. ne (top.together b u v lu lv p q)))
       ∙ total_below_sum (λ b. cond (f.holds b u) (f.weight b) (pos 0)) (λ b. cond (f.holds b v) (f.weight b) (pos 0)) f.size
+
+  -- A shift changes the potential of a vertex as it changes the weight of its outermost blossom.
+  pub potential_shifted : (t : ℤ) (v : ℕ) → v < n → potential (shifted f t) v ≡ potential f v +ℤ change (f.label (f.out v)) t
+  potential_shifted t v l =
+      let split : potential (shifted f t) v ≡ total_below (λ b. cond (f.holds b v) (f.weight b) (pos 0) +ℤ cond (f.holds b v) (change (f.label b) t) (pos 0)) f.size = total_below_same (λ b. cond (f.holds b v) (f.weight b +ℤ change (f.label b) t) (pos 0)) (λ b. cond (f.holds b v) (f.weight b) (pos 0) +ℤ cond (f.holds b v) (change (f.label b) t) (pos 0)) f.size (λ b lb. by_sum (f.holds b v) (f.weight b) (change (f.label b) t)) in
+      let ends : total_below (λ b. cond (f.holds b v) (change (f.label b) t) (pos 0)) f.size ≡ total_below (at_end t v) f.size = total_below_same (λ b. cond (f.holds b v) (change (f.label b) t) (pos 0)) (at_end t v) f.size (λ b lb. by_label b (label_cases (f.label b))) in
+      omega (arith, ints, split, ends, total_below_sum (λ b. cond (f.holds b v) (f.weight b) (pos 0)) (λ b. cond (f.holds b v) (change (f.label b) t) (pos 0)) f.size, ends_sum t v l)
+    where
+      by_label : (b : ℕ) → (f.label b ≡ Outside) ⊎ (f.label b ≢ Outside) → cond (f.holds b v) (change (f.label b) t) (pos 0) ≡ at_end t v b
+      by_label b (inl off) = subst (λ (x : ℤ). cond (f.holds b v) x (pos 0) ≡ cond (eqb (f.out v) b) x (pos 0)) (sym (still t b off)) (by_none (f.holds b v) ∙ sym (by_none (eqb (f.out v) b)))
+      by_label b (inr named) = ap (λ (s : Bool). cond s (change (f.label b) t) (pos 0)) (named_holds b v l named)

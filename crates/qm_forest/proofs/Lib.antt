@@ -1,0 +1,6 @@
+pub mod EdgeKinds
+pub mod Forgets
+pub mod OnWays
+pub mod Ranges
+pub mod Tables
+pub mod Shifted

@@ -1,0 +1,67 @@
+-- The numbers of a forest stay small.
+use Rattle.std.proofs.Common.{◌≡◌, ℕ, zero, suc, ◌+◌, ◌*◌, ◌<◌, ◌≤◌, ◌^◌, Bool, true, false, cond, List, length, get_or, ℤ, pos, ◌+ℤ◌, ◌-ℤ◌, ◌≤ℤ◌, refl, sym, ◌∙◌, ap, subst, arith}
+use Rattle.std.specs.Prelude.{unsigned_abs}
+use Rattle.std.proofs.lemmas.Int.{ints}
+use mir.Syntax.{w128}
+use mir.Val.{to_z, of_z}
+use Rattle.def_math.specs.Sums.{total_below}
+use Rattle.def_forest.specs.Forests.{Forest, dual_sum_of}
+use Rattle.def_forest.specs.Steps.{change}
+use Rattle.def_forest.specs.Tables.{ForestTables, forest_of, label_at, out_of, IsOutermostIn}
+use Rattle.def_forest.specs.declared.kinds.Label.{Label}
+use Rattle.def_forest.specs.declared.kinds.Label.TheVariants.{Outer, Inner, Outside}
+use Rattle.qm_forest.specs.Ties.{AreTied, potential, added, told}
+
+-- A sum of small numbers.
+pub sum_small : (f : ℕ → ℤ) (n : ℕ) → ((k : ℕ) → k < n → unsigned_abs (f k) ≤ 2 ^ 62) → unsigned_abs (total_below f n) ≤ n * 2 ^ 62
+sum_small f zero each = omega (arith, ints)
+sum_small f (suc n) each = omega (arith, ints, each n (omega arith), sum_small f n (λ k l. each k (omega arith)))
+
+change_small : (l : Label) (d : ℤ) → unsigned_abs (change l d) ≤ unsigned_abs d
+change_small Outer d = omega (arith, ints)
+change_small Inner d = omega (arith, ints)
+change_small Outside d = omega (arith, ints)
+
+module _ (t : ForestTables) (q off : List ℤ) (tied : AreTied t q off) where
+
+  pub sum_is_small : unsigned_abs (dual_sum_of (forest_of t)) ≤ 2 ^ 88
+  sum_is_small = omega (arith, ints, sum_small (forest_of t).weight (length t.up) (λ k l. tied.small k), tied.few)
+
+  pub delta_small : unsigned_abs t.delta ≤ 2 ^ 92
+  delta_small = omega (arith, ints, sum_is_small, tied.small_start, tied.risen.0, tied.risen.1)
+
+  pub added_small : (v : ℕ) → v < length t.hand → unsigned_abs (added t.hand t.top off t.label t.delta v) ≤ 2 ^ 92
+  added_small v l = omega (arith, ints, sum_is_small, tied.small_start, tied.moved v l)
+
+  pub potential_small : (v : ℕ) → unsigned_abs (potential (forest_of t) v) ≤ 2 ^ 88
+  potential_small v = omega (arith, ints, sum_small (λ b. cond ((forest_of t).holds b v) ((forest_of t).weight b) (pos 0)) (length t.up) (λ b l. by_test ((forest_of t).holds b v) b), tied.few)
+    where
+      by_test : (c : Bool) (b : ℕ) → unsigned_abs (cond c ((forest_of t).weight b) (pos 0)) ≤ 2 ^ 62
+      by_test true b = tied.small b
+      by_test false b = omega (arith, ints)
+
+  pub told_small : (v : ℕ) → v < length t.hand → unsigned_abs (told q t.hand t.top off t.label t.delta v) ≤ 2 ^ 88
+  told_small v l = subst (λ (x : ℤ). unsigned_abs x ≤ 2 ^ 88) (tied.potentials v l) (potential_small v)
+
+  -- An outermost blossom has a number below the size.
+  pub outermost_low : (b : ℕ) → IsOutermostIn t b → b < length t.up
+  outermost_low b w = subst (λ x. x < length t.up) w.2 (tied.outs (get_or t.hand w.0 0) (tied.hands w.0 w.1))
+
+  pub out_low : (v : ℕ) → v < length t.hand → out_of t.hand t.top v < length t.up
+  out_low v l = tied.outs (get_or t.hand v 0) (tied.hands v l)
+
+-- A small number that is kept in its bits.
+pub kept_in_bits : (z : ℤ) → unsigned_abs z ≤ 2 ^ 100 → to_z w128 (of_z w128 z) ≡ z
+kept_in_bits z small = omega (arith, ints)
+
+-- What the tables at hand add to a potential.
+pub added_bound : (t : ForestTables) (q off : List ℤ) → AreTied t q off → (v : ℕ) → v < length t.hand → (xs : List ℤ) (h : ℕ) (l : Label) (d : ℤ)
+    → xs ≡ off → h ≡ get_or t.hand v 0 → l ≡ label_at t.label (out_of t.hand t.top v) → d ≡ t.delta → get_or xs h (pos 0) +ℤ change l d ≡ added t.hand t.top off t.label t.delta v
+added_bound t q off tied v low xs h l d e1 e2 e3 e4 =
+    ap (λ (ys : List ℤ). get_or ys h (pos 0) +ℤ change l d) e1 ∙ (ap (λ k. get_or off k (pos 0) +ℤ change l d) e2
+    ∙ (ap (λ (x : Label). get_or off (get_or t.hand v 0) (pos 0) +ℤ change x d) e3 ∙ ap (λ (x : ℤ). get_or off (get_or t.hand v 0) (pos 0) +ℤ change (label_at t.label (out_of t.hand t.top v)) x) e4))
+
+-- What the tables at hand tell of a potential.
+pub told_bound : (t : ForestTables) (q off : List ℤ) → AreTied t q off → (v : ℕ) → v < length t.hand → (qs : List ℤ) (more : ℤ) → qs ≡ q → more ≡ added t.hand t.top off t.label t.delta v
+    → get_or qs v (pos 0) +ℤ more ≡ potential (forest_of t) v
+told_bound t q off tied v low qs more e1 e2 = ap (λ (ys : List ℤ). get_or ys v (pos 0) +ℤ more) e1 ∙ (ap (λ (x : ℤ). get_or q v (pos 0) +ℤ x) e2 ∙ sym (tied.potentials v low))

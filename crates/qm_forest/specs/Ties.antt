@@ -1,0 +1,85 @@
+-- How a forest's hidden tables are tied to those that contracts see.
+use Rattle.std.specs.Prelude.{◌≡◌, ◌≢◌, ℕ, ◌+◌, ◌<◌, ◌≤◌, ◌^◌, List, length, slice_index, slice_index_or, Option, Some, None, ℤ, pos, ◌+ℤ◌, ◌-ℤ◌, ◌≤ℤ◌, unsigned_abs, if◌then◌else◌}
+use Rattle.def_math.specs.Sums.{total_below}
+use Rattle.def_matching.specs.Matching.{Vertex, Graph}
+use Rattle.def_forest.specs.Darts.{darts_of}
+use Rattle.def_forest.specs.Valid.{IsTree}
+use Rattle.forest_laws.specs.Ways.{IsAlmost}
+use Rattle.def_forest.specs.Forests.{Blossom, Forest, walk, set_at, dual_sum_of}
+use Rattle.def_forest.specs.Steps.{change}
+use Rattle.def_forest.specs.Tables.{ForestTables, forest_of, out_of, label_at, IsOutermostIn, IsMatchable, IsValidFor}
+use Rattle.def_forest.specs.declared.kinds.Label.{Label}
+use Rattle.def_forest.specs.declared.kinds.Label.TheVariants.{Outside}
+
+-- The sum of the weights of the blossoms around a vertex.
+abbrev pub potential : (f : Forest) (v : Vertex) → ℤ
+potential f v = total_below (λ b. if f.holds b v then f.weight b else pos 0) f.size
+
+-- What the handle of a vertex adds to its potential.
+abbrev pub added : (hand top : List ℕ) (off : List ℤ) (label : List Label) (delta : ℤ) (v : Vertex) → ℤ
+added hand top off label delta v = slice_index_or off (slice_index hand v) (pos 0) +ℤ change (label_at label (out_of hand top v)) delta
+
+-- The potential of a vertex as the tables tell it.
+abbrev pub told : (q : List ℤ) (hand top : List ℕ) (off : List ℤ) (label : List Label) (delta : ℤ) (v : Vertex) → ℤ
+told q hand top off label delta v = slice_index_or q v (pos 0) +ℤ added hand top off label delta v
+
+-- One climbs from each vertex to its outermost blossom, and there one stays.
+pub record IsClimb (n : ℕ) (up out : ℕ → ℕ) : Type 0 where
+  pub ends : (v : Vertex) → v < n → walk up v n ≡ out v
+  pub tops : (v : Vertex) → v < n → up (out v) ≡ out v
+
+-- The hidden tables fit those that contracts see: the potentials are told, and no number is large.
+pub record AreTied (t : ForestTables) (q off : List ℤ) : Type 0 where
+  pub hands : (v : Vertex) → v < length t.hand → slice_index t.hand v < length t.top
+  pub outs : (h : ℕ) → h < length t.top → slice_index t.top h < length t.up
+  pub few : length t.up ≤ 2 ^ 26
+  pub vertices : length t.hand ≤ length t.up
+  pub size_q : length q ≡ length t.hand
+  pub size_off : length off ≡ length t.top
+  pub size_base : length t.base ≡ length t.up
+  pub size_label : length t.label ≡ length t.up
+  pub size_mate : length t.mate ≡ length t.up
+  pub size_link : length t.link ≡ length t.up
+  pub climb : IsClimb (length t.hand) (slice_index t.up) (out_of t.hand t.top)
+  pub potentials : (v : Vertex) → v < length t.hand → potential (forest_of t) v ≡ told q t.hand t.top off t.label t.delta v
+  pub small : (b : Blossom) → unsigned_abs ((forest_of t).weight b) ≤ 2 ^ 62
+  pub one_hand : (u v : Vertex) → u < length t.hand → v < length t.hand → out_of t.hand t.top u ≡ out_of t.hand t.top v → slice_index t.hand u ≡ slice_index t.hand v
+  pub start : ℤ
+  pub small_start : unsigned_abs start ≤ 2 ^ 90
+  pub moved : (v : Vertex) → v < length t.hand → pos (unsigned_abs (added t.hand t.top off t.label t.delta v)) ≤ℤ (dual_sum_of (forest_of t) -ℤ start)
+  pub risen : (pos 0 ≤ℤ t.delta) × (t.delta ≤ℤ (dual_sum_of (forest_of t) -ℤ start))
+  pub still : t.root ≡ None → t.delta ≡ pos 0
+  pub named : (b : Blossom) → label_at t.label b ≢ Outside → IsOutermostIn t b
+
+-- Only labels, mates, links and weights may differ: the blossoms and the root are the same.
+pub record HasSameNest (old new : ForestTables) : Type 0 where
+  pub hand : new.hand ≡ old.hand
+  pub top : new.top ≡ old.top
+  pub up : new.up ≡ old.up
+  pub root : new.root ≡ old.root
+
+-- A forest with another label, mate or link at one blossom.
+abbrev pub labelled : (f : Forest) (b : Blossom) (l : Label) → Forest
+labelled f b l = record f { label = set_at f.label b l }
+
+abbrev pub mated : (f : Forest) (b : Blossom) (m : Option ℕ) → Forest
+mated f b m = record f { mate = set_at f.mate b m }
+
+abbrev pub linked : (f : Forest) (b : Blossom) (d : ℕ) → Forest
+linked f b d = record f { link = set_at f.link b d }
+
+-- A forest with other labels, or other mates.
+abbrev pub relabelled : (f : Forest) (label : Blossom → Label) → Forest
+relabelled f label = record f { label = label }
+
+abbrev pub remated : (f : Forest) (mate : Blossom → Option ℕ) → Forest
+remated f mate = record f { mate = mate }
+
+-- The matching of a valid forest t is being changed from dart start on; blossom a is to be matched by dart e.
+pub record IsOnWay (g : Graph) (t : ForestTables) (start : ℕ) (mate : Blossom → Option ℕ) (a : Blossom) (e : ℕ) : Type 0 where
+  pub is : IsMatchable g
+  pub valid : IsValidFor g t
+  pub top : Blossom
+  pub root : t.root ≡ Some top
+  pub tree : IsTree (darts_of g) (forest_of t) top
+  pub almost : IsAlmost (darts_of g) (forest_of t) tree.depth start mate a e

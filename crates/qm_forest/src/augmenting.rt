@@ -1,0 +1,81 @@
+ghost use Rattle.std.specs.Prelude.{◌≡◌, ◌≢◌, ◌<◌, ℕ, length, Option, Some, None};
+ghost use Rattle.def_matching.specs.Matching.{graph};
+ghost use Rattle.def_forest.specs.Darts.{darts_of, far};
+ghost use Rattle.def_forest.specs.Forests.{Blossom};
+ghost use Rattle.def_forest.specs.Steps.{with_mates, IsAugmented};
+ghost use Rattle.def_forest.specs.Tables.{forest_of, kind_of, outer_dart, IsMatchable, IsValidFor};
+ghost use Rattle.def_forest.specs.Valid.{IsValid};
+ghost use Rattle.def_forest.specs.declared.kinds.EdgeKind.TheVariants.{Augment};
+ghost use Rattle.def_forest.specs.declared.kinds.Label.TheVariants.{Outside};
+ghost use Rattle.forest_laws.specs.Ways.{Reaches};
+ghost use Rattle.qm_forest.specs.Ties.{HasSameNest, relabelled, remated};
+
+use crate::darts::{near, twin};
+use crate::forest::Forest;
+use def_forest::Label;
+use def_matching::WGraph;
+
+impl Forest {
+    /// The root and the unmatched blossom that an edge reaches become matched; no tree stands any more.
+    pub fn augment(&mut self, g: &WGraph, e: u32)
+        requires graph { IsMatchable (graph g.now) }
+        requires valid { IsValidFor (graph g.now) self.old }
+        requires edge { e < length g.now.edges.items }
+        requires kind { kind_of (graph g.now) (forest_of self.old) e ≡ Augment }
+        ensures changed { (r : Blossom) × (self.old.root ≡ Some r) × IsAugmented (darts_of (graph g.now)) (forest_of self.old) (forest_of self.new) r (outer_dart (graph g.now) (forest_of self.old) e) }
+        ensures root { self.new.root ≡ None }
+        ensures valid { IsValidFor (graph g.now) self.new }
+    {
+        let start = self.outer_dart(g, e);
+        self.rematch(g, start);
+        self.end_search();
+    }
+
+    /// Changes the matching along the way from a dart that reaches an unmatched blossom up to the root.
+    fn rematch(&mut self, g: &WGraph, start: u32)
+        requires graph { IsMatchable (graph g.now) }
+        requires valid { IsValidFor (graph g.now) self.old }
+        requires reaches { Reaches (darts_of (graph g.now)) (forest_of self.old) start }
+        requires free { (forest_of self.old).mate ((forest_of self.old).out (far (darts_of (graph g.now)) start)) ≡ None }
+        ensures seen { forest_of self.new ≡ remated (forest_of self.old) (forest_of self.new).mate }
+        ensures same { HasSameNest self.old self.new }
+        ensures done { (r : Blossom) → self.old.root ≡ Some r → IsValid (darts_of (graph g.now)) (with_mates (forest_of self.old) (forest_of self.new).mate) None × IsAugmented (darts_of (graph g.now)) (forest_of self.old) (with_mates (forest_of self.old) (forest_of self.new).mate) r start }
+    {
+        let reached = self.outermost(near(g, twin(start)));
+        self.set_mate(reached, Some(twin(start)));
+        let mut at = self.outermost(near(g, start));
+        let mut next = start;
+        while let Some(old) = self.mate(at) {
+            self.set_mate(at, Some(next));
+            let inner = self.outermost(near(g, twin(old)));
+            let up = self.link(inner);
+            self.set_mate(inner, Some(up));
+            at = self.outermost(near(g, twin(up)));
+            next = twin(up);
+        }
+        self.set_mate(at, Some(next));
+    }
+
+    /// Puts all blossoms outside: no tree stands.
+    fn end_search(&mut self)
+        ensures seen { forest_of self.new ≡ with_mates (forest_of self.old) (forest_of self.old).mate }
+        ensures root { self.new.root ≡ None }
+        ensures hand { self.new.hand ≡ self.old.hand }
+    {
+        for v in 0..self.vertices() {
+            self.set_label(v, Label::Outside);
+        }
+        self.forget_tree();
+    }
+
+    /// Forgets the tree where all blossoms are outside it.
+    fn forget_tree(&mut self)
+        requires { (v : ℕ) → v < length self.old.hand → (forest_of self.old).label ((forest_of self.old).out v) ≡ Outside }
+        ensures seen { forest_of self.new ≡ relabelled (forest_of self.old) (λ b. Outside) }
+        ensures root { self.new.root ≡ None }
+        ensures hand { self.new.hand ≡ self.old.hand }
+    {
+        self.root = None;
+        self.delta = 0;
+    }
+}

@@ -1,0 +1,30 @@
+ghost use Rattle.std.specs.Prelude.{◌≡◌, ◌*◌, ◌^◌, ◌<◌, length};
+ghost use Rattle.def_matching.specs.Matching.{graph, edge_at, IsGraph};
+ghost use Rattle.def_forest.specs.Darts.{darts_of, twin_of, far};
+
+use def_matching::{WEdge, WGraph};
+
+/// The other dart of the same edge.
+pub(crate) fn twin(d: u32) -> u32
+    requires { d < 2 ^ 31 }
+    ensures { result ≡ twin_of d }
+{
+    if d % 2 == 0 { d + 1 } else { d - 1 }
+}
+
+/// An edge.
+pub(crate) fn edge_of(g: &WGraph, e: u32) -> WEdge
+    requires { e < length g.now.edges.items }
+    ensures { result ≡ edge_at (graph g.now) e }
+{
+    g.edges[e as usize]
+}
+
+/// Where a dart begins.
+pub(crate) fn near(g: &WGraph, d: u32) -> u32
+    requires { d < 2 * length g.now.edges.items }
+    ensures { result ≡ (darts_of (graph g.now)).near d }
+{
+    let edge = edge_of(g, d / 2);
+    if d % 2 == 0 { edge.u } else { edge.v }
+}

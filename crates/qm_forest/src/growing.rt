@@ -1,0 +1,64 @@
+ghost use Rattle.std.specs.Prelude.{◌≡◌, ◌≢◌, ◌+◌, ◌*◌, ◌<◌, ◌≤◌, ℕ, length, Option, Some, None};
+ghost use Rattle.def_matching.specs.Matching.{graph, edge_at};
+ghost use Rattle.def_forest.specs.Darts.{darts_of, far};
+ghost use Rattle.def_forest.specs.Forests.{Blossom};
+ghost use Rattle.def_forest.specs.Steps.{grown, with_mates, IsAugmented};
+ghost use Rattle.def_forest.specs.Tables.{forest_of, kind_of, outer_dart, IsMatchable, IsValidFor};
+ghost use Rattle.def_forest.specs.declared.kinds.EdgeKind.TheVariants.{Grow, Augment};
+ghost use Rattle.def_forest.specs.declared.kinds.Label.TheVariants.{Outside};
+ghost use Rattle.forest_laws.specs.Ways.{Reaches};
+ghost use Rattle.qm_forest.specs.Ties.{HasSameNest, relabelled, remated};
+
+use crate::darts::{edge_of, near, twin};
+use crate::forest::Forest;
+use def_forest::Label;
+use def_matching::WGraph;
+
+impl Forest {
+    /// The dart of an edge that begins in an outer blossom.
+    pub(crate) fn outer_dart(&self, g: &WGraph, e: u32) -> u32
+        requires graph { IsMatchable (graph g.now) }
+        requires vertices { length self.now.hand ≡ g.now.n }
+        requires edge { e < length g.now.edges.items }
+        ensures value { result ≡ outer_dart (graph g.now) (forest_of self.now) e }
+        ensures low { result < 2 * length g.now.edges.items }
+    {
+        match self.label(self.outermost(edge_of(g, e).u)) {
+            Label::Outer => 2 * e,
+            _ => 2 * e + 1,
+        }
+    }
+
+    /// The matched blossom outside the tree that an edge reaches becomes inner, and what it is matched to outer.
+    pub fn grow(&mut self, g: &WGraph, e: u32)
+        requires graph { IsMatchable (graph g.now) }
+        requires valid { IsValidFor (graph g.now) self.old }
+        requires edge { e < length g.now.edges.items }
+        requires kind { kind_of (graph g.now) (forest_of self.old) e ≡ Grow }
+        ensures changed { (m : ℕ) × ((forest_of self.old).mate ((forest_of self.old).out (far (darts_of (graph g.now)) (outer_dart (graph g.now) (forest_of self.old) e))) ≡ Some m) × (forest_of self.new ≡ grown (darts_of (graph g.now)) (forest_of self.old) (outer_dart (graph g.now) (forest_of self.old) e) m) }
+        ensures root { self.new.root ≡ self.old.root }
+        ensures valid { IsValidFor (graph g.now) self.new }
+    {
+        let d = self.outer_dart(g, e);
+        self.grow_along(g, d);
+    }
+
+    /// A tree grows along a dart.
+    fn grow_along(&mut self, g: &WGraph, d: u32)
+        requires graph { IsMatchable (graph g.now) }
+        requires valid { IsValidFor (graph g.now) self.old }
+        requires reaches { Reaches (darts_of (graph g.now)) (forest_of self.old) d }
+        requires matched { (forest_of self.old).mate ((forest_of self.old).out (far (darts_of (graph g.now)) d)) ≢ None }
+        ensures changed { (m : ℕ) × ((forest_of self.old).mate ((forest_of self.old).out (far (darts_of (graph g.now)) d)) ≡ Some m) × (forest_of self.new ≡ grown (darts_of (graph g.now)) (forest_of self.old) d m) }
+        ensures root { self.new.root ≡ self.old.root }
+        ensures hand { self.new.hand ≡ self.old.hand }
+    {
+        let v = near(g, twin(d));
+        let reached = self.outermost(v);
+        if let Some(m) = self.mate(reached) {
+            self.set_label(v, Label::Inner);
+            self.set_label(near(g, twin(m)), Label::Outer);
+            self.set_link(reached, twin(d));
+        }
+    }
+}

@@ -1,0 +1,12 @@
+//! A forest of blossoms over a graph: its queries and steps, each in the time of what it touches, without memory.
+#![tactic(auto)]
+
+mod augmenting;
+mod darts;
+mod forest;
+mod growing;
+mod numbers;
+mod search;
+mod writes;
+
+pub use forest::Forest;

@@ -1,0 +1,74 @@
+ghost use Rattle.std.specs.Prelude.{◌≡◌, ◌+ℤ◌, ◌^◌, ◌<◌, ◌≤◌, pos, length, slice_index, slice_index_or, unsigned_abs};
+ghost use Rattle.def_forest.specs.Steps.{change};
+ghost use Rattle.def_forest.specs.Tables.{weight_at, label_at, out_of};
+ghost use Rattle.qm_forest.specs.Ties.{added, told};
+
+use def_forest::Label;
+
+/// What a shift by `delta` changes at a label.
+pub(crate) fn shift_at(label: Label, delta: i128) -> i128
+    requires { unsigned_abs delta ≤ 2 ^ 100 }
+    ensures value { result ≡ change label delta }
+    ensures small { unsigned_abs result ≤ 2 ^ 100 }
+{
+    match label {
+        Label::Outer => delta,
+        Label::Inner => 0 - delta,
+        Label::Outside => 0,
+    }
+}
+
+/// The label of a blossom.
+pub(crate) fn label_of(label: &[Label], b: u32) -> Label
+    requires { b < length label.now }
+    ensures { result ≡ label_at label.now b }
+{
+    label[b as usize]
+}
+
+/// The weight of a blossom.
+pub(crate) fn weight_from(base: &[i128], label: &[Label], delta: i128, b: u32) -> i128
+    requires low { b < length base.now }
+    requires low_label { b < length label.now }
+    requires delta { unsigned_abs delta ≤ 2 ^ 100 }
+    requires small { unsigned_abs (weight_at base.now label.now delta b) ≤ 2 ^ 62 }
+    ensures { result ≡ weight_at base.now label.now delta b }
+{
+    base[b as usize] + shift_at(label_of(label, b), delta)
+}
+
+/// What a handle adds to the potentials of its vertices, the label of their outermost blossom given.
+pub(crate) fn added_at(off: &[i128], handle: u32, label: Label, delta: i128) -> i128
+    requires low { handle < length off.now }
+    requires delta { unsigned_abs delta ≤ 2 ^ 100 }
+    requires small { unsigned_abs (slice_index_or off.now handle (pos 0) +ℤ change label delta) ≤ 2 ^ 100 }
+    ensures { result ≡ slice_index_or off.now handle (pos 0) +ℤ change label delta }
+{
+    off[handle as usize] + shift_at(label, delta)
+}
+
+/// The sum of what stands at a vertex and what its handle adds.
+pub(crate) fn sum_at(q: &[i128], v: u32, more: i128) -> i128
+    requires low { v < length q.now }
+    requires small { unsigned_abs (slice_index_or q.now v (pos 0) +ℤ more) ≤ 2 ^ 100 }
+    ensures { result ≡ slice_index_or q.now v (pos 0) +ℤ more }
+{
+    q[v as usize] + more
+}
+
+/// The blossom of a vertex.
+pub(crate) fn top_of(hand: &[u32], top: &[u32], v: u32) -> u32
+    requires low { v < length hand.now }
+    requires handle { slice_index hand.now v < length top.now }
+    ensures { result ≡ out_of hand.now top.now v }
+{
+    top[hand[v as usize] as usize]
+}
+
+/// The handle of a vertex.
+pub(crate) fn hand_of(hand: &[u32], v: u32) -> u32
+    requires { v < length hand.now }
+    ensures { result ≡ slice_index hand.now v }
+{
+    hand[v as usize]
+}

@@ -1,0 +1,54 @@
+ghost use Rattle.std.specs.Prelude.{◌≡◌, ◌≢◌, ◌+ℤ◌, ◌≤ℤ◌, ◌^◌, ◌<◌, ◌≤◌, ℕ, pos, length, unsigned_abs, Option, Some, None};
+ghost use Rattle.def_matching.specs.Matching.{Graph, graph, IsGraph};
+ghost use Rattle.def_forest.specs.Darts.{darts_of};
+ghost use Rattle.def_forest.specs.Forests.{Blossom};
+ghost use Rattle.def_forest.specs.Steps.{rooted, shifted};
+ghost use Rattle.def_forest.specs.Tables.{forest_of, IsMatchable, IsValidFor};
+ghost use Rattle.def_forest.specs.Valid.{IsFeasible};
+ghost use Rattle.qm_forest.specs.Ties.{HasSameNest};
+
+use crate::forest::Forest;
+use def_forest::Label;
+use def_matching::WGraph;
+
+impl Forest {
+    /// Begins a search: the outermost blossom of a vertex, which is not matched, becomes the root and the whole tree.
+    pub fn root(&mut self, v: u32)
+        requires vertex { v < length self.old.hand }
+        requires none { self.old.root ≡ None }
+        requires free { (forest_of self.old).mate ((forest_of self.old).out v) ≡ None }
+        ensures changed { forest_of self.new ≡ rooted (forest_of self.old) ((forest_of self.old).out v) }
+        ensures root { self.new.root ≡ Some ((forest_of self.old).out v) }
+        ensures valid { (g : Graph) → IsGraph g → IsValidFor g self.old → IsValidFor g self.new }
+    {
+        let b = self.outermost(v);
+        self.set_label(v, Label::Outer);
+        self.set_root(b);
+    }
+
+    /// Says which blossom is the root.
+    fn set_root(&mut self, b: u32)
+        ensures seen { forest_of self.new ≡ forest_of self.old }
+        ensures hand { self.new.hand ≡ self.old.hand }
+        ensures root { self.new.root ≡ Some b }
+    {
+        self.root = Some(b);
+    }
+
+    /// Adds `t` at outer blossoms, and takes it away at inner ones.
+    pub fn shift(&mut self, g: &WGraph, t: i64)
+        requires graph { IsMatchable (graph g.now) }
+        requires valid { IsValidFor (graph g.now) self.old }
+        requires positive { pos 0 ≤ℤ t }
+        requires feasible { IsFeasible (darts_of (graph g.now)) (shifted (forest_of self.old) t) }
+        requires small { (b : Blossom) → unsigned_abs ((shifted (forest_of self.old) t).weight b) ≤ 2 ^ 62 }
+        ensures changed { forest_of self.new ≡ shifted (forest_of self.old) t }
+        ensures root { self.new.root ≡ self.old.root }
+        ensures valid { IsValidFor (graph g.now) self.new }
+    {
+        let _ = g;
+        if self.root.is_some() {
+            self.delta += i128::from(t);
+        }
+    }
+}

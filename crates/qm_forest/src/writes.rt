@@ -1,0 +1,57 @@
+ghost use Rattle.std.specs.Prelude.{◌≡◌, ◌≢◌, ◌+ℤ◌, ◌-ℤ◌, ◌^◌, ◌<◌, ◌≤◌, ℕ, pos, length, slice_index_or, unsigned_abs, Option, None};
+ghost use Rattle.def_forest.specs.Tables.{forest_of, IsOutermostIn};
+ghost use Rattle.def_forest.specs.declared.kinds.Label.TheVariants.{Outside};
+ghost use Rattle.qm_forest.specs.Ties.{HasSameNest, labelled, mated, linked, relabelled};
+
+use crate::forest::Forest;
+use crate::numbers::{hand_of, label_of, shift_at, top_of};
+use def_forest::Label;
+
+impl Forest {
+    /// Gives an outermost blossom its mate.
+    pub(crate) fn set_mate(&mut self, b: u32, mate: Option<u32>)
+        requires { b < length self.old.up }
+        ensures seen { forest_of self.new ≡ mated (forest_of self.old) b mate }
+        ensures same { HasSameNest self.old self.new }
+    {
+        self.mate[b as usize] = mate;
+    }
+
+    /// Gives an inner blossom its dart towards the root.
+    pub(crate) fn set_link(&mut self, b: u32, link: u32)
+        requires { b < length self.old.up }
+        ensures seen { forest_of self.new ≡ linked (forest_of self.old) b link }
+        ensures same { HasSameNest self.old self.new }
+    {
+        self.link[b as usize] = link;
+    }
+
+    /// Gives the outermost blossom of a vertex another label. No weight and no potential changes.
+    pub(crate) fn set_label(&mut self, v: u32, label: Label)
+        requires { v < length self.old.hand }
+        ensures seen { forest_of self.new ≡ labelled (forest_of self.old) ((forest_of self.old).out v) label }
+        ensures same { HasSameNest self.old self.new }
+    {
+        let b = top_of(&self.hand, &self.top, v);
+        let handle = hand_of(&self.hand, v);
+        let before = shift_at(label_of(&self.label, b), self.delta);
+        let after = shift_at(label, self.delta);
+        let base = exchanged(&self.base, b, before, after);
+        let off = exchanged(&self.off, handle, before, after);
+        self.base[b as usize] = base;
+        self.off[handle as usize] = off;
+        self.label[b as usize] = label;
+    }
+}
+
+/// A number with one part of it taken for another.
+fn exchanged(numbers: &[i128], place: u32, before: i128, after: i128) -> i128
+    requires low { place < length numbers.now }
+    requires small_before { unsigned_abs before ≤ 2 ^ 100 }
+    requires small_after { unsigned_abs after ≤ 2 ^ 100 }
+    requires small { unsigned_abs (slice_index_or numbers.now place (pos 0)) ≤ 2 ^ 101 }
+    ensures value { result ≡ (slice_index_or numbers.now place (pos 0) +ℤ before) -ℤ after }
+    ensures small { unsigned_abs result ≤ 2 ^ 103 }
+{
+    numbers[place as usize] + before - after
+}
