@@ -1,5 +1,9 @@
 pub mod Darts
 pub mod Forests
+pub mod Laws
+pub mod Opened
+pub mod Shrunk
 pub mod Steps
 pub mod Tables
 pub mod Valid
+pub mod Ways

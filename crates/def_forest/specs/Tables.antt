@@ -49,22 +49,22 @@ climbs up (suc k) b from = (from == b) || climbs up k b (up from)
 -- The forest that the tables stand for: a blossom holds the vertices from which one climbs past it.
 abbrev pub forest_of : (t : ForestTables) → Forest
 forest_of t = record {
-    size = length t.up;
-    holds = λ b v. climbs (slice_index t.up) (length t.hand) b v;
-    out = out_of t.hand t.top;
-    weight = weight_at t.base t.label t.delta;
-    label = label_at t.label;
-    mate = λ b. slice_index_or t.mate b None;
-    link = slice_index t.link;
-    nest = record {
-      up = slice_index t.up;
-      after = slice_index t.after;
-      joint = slice_index t.joint;
-      head = slice_index t.head;
-      parts = slice_index t.parts;
-      rank = slice_index t.rank
-    }
-  }
+  size = length t.up;
+  holds = λ b v. climbs (slice_index t.up) (length t.hand) b v;
+  out = out_of t.hand t.top;
+  weight = weight_at t.base t.label t.delta;
+  label = label_at t.label;
+  mate = λ b. slice_index_or t.mate b None;
+  link = slice_index t.link;
+  nest = record {
+    up = slice_index t.up;
+    after = slice_index t.after;
+    joint = slice_index t.joint;
+    head = slice_index t.head;
+    parts = slice_index t.parts;
+    rank = slice_index t.rank;
+  };
+}
 
 -- A graph that fits: its ends are vertices, and there are not too many.
 pub record IsMatchable (g : Graph) : Type 0 where
@@ -97,7 +97,7 @@ abbrev pub kind_of : (g : Graph) (f : Forest) (e : EdgeNumber) → EdgeKind
 kind_of g f e =
     if int_lt (pos 0) (slack_of g f e) then Loose
     else kind_by (f.label (f.out (edge_at g e).u)) (f.label (f.out (edge_at g e).v)) (f.mate (f.out (edge_at g e).u)) (f.mate (f.out (edge_at g e).v))
-      (f.out (edge_at g e).u == f.out (edge_at g e).v)
+    (f.out (edge_at g e).u == f.out (edge_at g e).v)
 
 -- The dart of an edge that begins in an outer blossom.
 abbrev pub dart_by : (l : Label) (e : EdgeNumber) → Dart

@@ -9,7 +9,7 @@ use Rattle.def_forest.specs.Forests.{Forest, IsOutermost, number}
 use Rattle.def_forest.specs.Valid.{IsMate, IsTree, IsInner, IsValid}
 use Rattle.def_forest.specs.declared.kinds.Label.{Label}
 use Rattle.def_forest.specs.declared.kinds.Label.TheVariants.{Outer, Inner, Outside}
-use Rattle.forest_laws.specs.Ways.{dart_or, inner_of, parent_of, steps_by, steps}
+use Rattle.def_forest.specs.Ways.{dart_or, inner_of, parent_of, steps_by, steps}
 use Rattle.forest_laws.proofs.Writes.{some_is}
 use Rattle.forest_laws.proofs.Facts.{far_twin, outer_mate}
 

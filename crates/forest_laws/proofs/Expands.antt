@@ -7,10 +7,10 @@ use Rattle.qm_laws.proofs.Searches.{least_some}
 use Rattle.qm_laws.proofs.Sums.{total_below_same}
 use Rattle.def_forest.specs.Darts.{Darts, AreDarts, far}
 use Rattle.def_forest.specs.Forests.{Forest, load, splits, IsTight, IsOutermost, number, walk, ring_sum}
-use Rattle.forest_laws.specs.Opened.{Opening, IsOpening, IsOpened}
+use Rattle.def_forest.specs.Opened.{Opening, IsOpening, IsOpened}
 use Rattle.def_forest.specs.Valid.{AreOutermost, IsNested, IsRing, IsJoint, IsFeasible, IsMate, IsMatched, IsTree, IsInner, IsOuter, IsValid, KeepsOutside}
 use Rattle.def_forest.specs.declared.kinds.Label.TheVariants.{Outer, Inner, Outside}
-use Rattle.forest_laws.specs.Ways.{dart_or}
+use Rattle.def_forest.specs.Ways.{dart_or}
 use Rattle.forest_laws.proofs.Writes.{some_is, by_none, true_false}
 use Rattle.forest_laws.proofs.Facts.{far_low, far_twin, tight_twin}
 use Rattle.forest_laws.proofs.WayLaws.{some_none}

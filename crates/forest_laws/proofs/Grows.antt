@@ -4,7 +4,7 @@ use Rattle.std.proofs.lemmas.Bool.{cases_eq}
 use Rattle.def_forest.specs.Darts.{Darts, AreDarts, far}
 use Rattle.def_forest.specs.Forests.{Forest, IsTight, IsOutermost, set_at}
 use Rattle.def_forest.specs.Steps.{rooted, grown}
-use Rattle.forest_laws.specs.Ways.{Reaches}
+use Rattle.def_forest.specs.Ways.{Reaches}
 use Rattle.def_forest.specs.Valid.{AreOutermost, IsNested, IsRing, IsJoint, IsFeasible, IsMatched, IsMate, IsTree, IsInner, IsOuter, IsValid, KeepsOutside}
 use Rattle.def_forest.specs.declared.kinds.Label.{Label}
 use Rattle.def_forest.specs.declared.kinds.Label.TheVariants.{Outer, Inner, Outside}

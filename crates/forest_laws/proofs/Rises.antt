@@ -10,7 +10,7 @@ use Rattle.def_forest.specs.Steps.{change, shifted}
 use Rattle.def_forest.specs.Valid.{IsMate, IsTree, IsInner, IsOuter, IsValid}
 use Rattle.def_forest.specs.declared.kinds.Label.{Label}
 use Rattle.def_forest.specs.declared.kinds.Label.TheVariants.{Outer, Inner, Outside}
-use Rattle.forest_laws.specs.Ways.{inner_of, dart_or}
+use Rattle.def_forest.specs.Ways.{inner_of, dart_or}
 use Rattle.forest_laws.proofs.Writes.{some_is}
 use Rattle.forest_laws.proofs.Facts.{far_low, far_twin}
 use Rattle.forest_laws.proofs.WayLaws.{some_none}

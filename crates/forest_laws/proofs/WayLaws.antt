@@ -6,7 +6,7 @@ use Rattle.def_forest.specs.Forests.{Forest, set_at}
 use Rattle.def_forest.specs.Steps.{with_mates, IsAugmented}
 use Rattle.def_forest.specs.Valid.{IsMate, IsTree, IsInner, IsOuter, IsValid}
 use Rattle.def_forest.specs.declared.kinds.Label.TheVariants.{Outer, Inner, Outside}
-use Rattle.forest_laws.specs.Ways.{Reaches, IsHalf, IsAlmost}
+use Rattle.def_forest.specs.Ways.{Reaches, IsHalf, IsAlmost}
 use Rattle.forest_laws.proofs.Writes.{some_is, set_here, set_there}
 use Rattle.forest_laws.proofs.Facts.{far_twin, tight_twin, outer_mate}
 use Rattle.forest_laws.proofs.Grows.{same_outermost, same_nested, same_feasible}

@@ -1,4 +1,4 @@
-ghost use Rattle.forest_laws.specs.Laws.{BoundLaw, OddLaw, RiseLaw};
+ghost use Rattle.def_forest.specs.Laws.{BoundLaw, OddLaw, RiseLaw};
 
 /// A shift by t raises the sum of the weights by t: the tree has one outer blossom more than inner ones.
 pub fn rise_law()

@@ -1,4 +1,4 @@
-ghost use Rattle.forest_laws.specs.Laws.{ShiftLaw, RootLaw, GrowLaw, EndLaw, ShrinkLaw, ExpandLaw};
+ghost use Rattle.def_forest.specs.Laws.{ShiftLaw, RootLaw, GrowLaw, EndLaw, ShrinkLaw, ExpandLaw};
 
 /// A shift whose end is feasible keeps a forest valid.
 pub fn shift_law()

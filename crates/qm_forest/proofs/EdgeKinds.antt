@@ -12,7 +12,7 @@ use Rattle.def_forest.specs.declared.kinds.Label.{Label}
 use Rattle.def_forest.specs.declared.kinds.Label.TheVariants.{Outer, Inner, Outside}
 use Rattle.def_forest.specs.declared.kinds.EdgeKind.{EdgeKind}
 use Rattle.def_forest.specs.declared.kinds.EdgeKind.TheVariants.{Loose, Augment, Grow, Shrink, Idle}
-use Rattle.forest_laws.specs.Ways.{Reaches}
+use Rattle.def_forest.specs.Ways.{Reaches}
 use Rattle.forest_laws.proofs.Facts.{tight_twin, far_twin}
 use Rattle.forest_laws.proofs.Graphs.{are_darts, twin_even, dart_near, dart_far, dart_cost}
 
@@ -20,7 +20,6 @@ not_loose : (x : ℤ) → int_lt (pos 0) x ≡ false → x ≤ℤ pos 0
 not_loose x e = grind (arith, ints)
 
 module _ (g : Graph) (is : IsMatchable g) (f : Forest) (feasible : IsFeasible (darts_of g) f) (e : ℕ) (low : e < length g.edges) where
-
   abbrev first : ℕ
   first = 2 * e
 
@@ -54,7 +53,7 @@ module _ (g : Graph) (is : IsMatchable g) (f : Forest) (feasible : IsFeasible (d
       subst (λ x. Reaches (darts_of g) f x) d (record {
         tight = tight_twin (darts_of g) (are_darts g is.graph) f (2 * e) tight;
         outer = ap (λ v. f.label (f.out v)) (dart_far g e) ∙ lv;
-        off = ap (λ v. f.label (f.out v)) (far_twin (darts_of g) (are_darts g is.graph) (2 * e) ∙ dart_near g e) ∙ lu
+        off = ap (λ v. f.label (f.out v)) (far_twin (darts_of g) (are_darts g is.graph) (2 * e) ∙ dart_near g e) ∙ lu;
       })
 
   -- What a dart to a blossom outside the tree reaches: a matched one, or one that is not.
@@ -109,6 +108,7 @@ module _ (g : Graph) (is : IsMatchable g) (f : Forest) (feasible : IsFeasible (d
       by_case : IsTight (darts_of g) f first → ((f.label (f.out (edge_at g e).u) ≡ Outer) × (f.label (f.out (edge_at g e).v) ≡ Outside) × (is_some (f.mate (f.out (edge_at g e).v)) ≡ true)) ⊎ ((f.label (f.out (edge_at g e).u) ≡ Outside) × (f.label (f.out (edge_at g e).v) ≡ Outer) × (is_some (f.mate (f.out (edge_at g e).u)) ≡ true)) → Leads true
       by_case tight (inl w) = leads_u true tight w.0 w.1 w.2
       by_case tight (inr w) = leads_v true tight w.0 w.1 w.2
+
       by_tight : IsTight (darts_of g) f first × (by_labels ≡ Grow) → Leads true
       by_tight p = by_case p.0 (grow_labels (f.label (f.out (edge_at g e).u)) (f.label (f.out (edge_at g e).v)) (f.mate (f.out (edge_at g e).u)) (f.mate (f.out (edge_at g e).v)) (eqb (f.out (edge_at g e).u) (f.out (edge_at g e).v)) p.1)
 
@@ -119,5 +119,6 @@ module _ (g : Graph) (is : IsMatchable g) (f : Forest) (feasible : IsFeasible (d
       by_case : IsTight (darts_of g) f first → ((f.label (f.out (edge_at g e).u) ≡ Outer) × (f.label (f.out (edge_at g e).v) ≡ Outside) × (is_some (f.mate (f.out (edge_at g e).v)) ≡ false)) ⊎ ((f.label (f.out (edge_at g e).u) ≡ Outside) × (f.label (f.out (edge_at g e).v) ≡ Outer) × (is_some (f.mate (f.out (edge_at g e).u)) ≡ false)) → Leads false
       by_case tight (inl w) = leads_u false tight w.0 w.1 w.2
       by_case tight (inr w) = leads_v false tight w.0 w.1 w.2
+
       by_tight : IsTight (darts_of g) f first × (by_labels ≡ Augment) → Leads false
       by_tight p = by_case p.0 (augment_labels (f.label (f.out (edge_at g e).u)) (f.label (f.out (edge_at g e).v)) (f.mate (f.out (edge_at g e).u)) (f.mate (f.out (edge_at g e).v)) (eqb (f.out (edge_at g e).u) (f.out (edge_at g e).v)) p.1)

@@ -12,7 +12,6 @@ use Rattle.forest_laws.proofs.Writes.{label_cases}
 use Rattle.qm_forest.specs.Ties.{AreTied, potential, added, told, relabelled}
 
 module _ (t : ForestTables) (q off : List ℤ) (tied : AreTied t q off) (outside : (v : ℕ) → v < length t.hand → label_at t.label (out_of t.hand t.top v) ≡ Outside) where
-
   -- All blossoms are outside: those that are not outermost have no place in the tree.
   all_outside : (b : ℕ) → label_at t.label b ≡ Outside
   all_outside b = by_label (label_cases (label_at t.label b))
@@ -32,9 +31,15 @@ module _ (t : ForestTables) (q off : List ℤ) (tied : AreTied t q off) (outside
 
   pub seen_forgotten : forest_of forgotten ≡ relabelled (forest_of t) (λ b. Outside)
   seen_forgotten i = record {
-      size = (forest_of t).size; holds = (forest_of t).holds; out = (forest_of t).out; weight = λ b. weight_same b i; label = λ b. all_outside b i;
-      mate = (forest_of t).mate; link = (forest_of t).link; nest = (forest_of t).nest
-    }
+    size = (forest_of t).size;
+    holds = (forest_of t).holds;
+    out = (forest_of t).out;
+    weight = λ b. weight_same b i;
+    label = λ b. all_outside b i;
+    mate = (forest_of t).mate;
+    link = (forest_of t).link;
+    nest = (forest_of t).nest;
+  }
 
   added_same : (v : ℕ) → added t.hand t.top off t.label (pos 0) v ≡ added t.hand t.top off t.label t.delta v
   added_same v = ap (λ (x : ℤ). get_or off (get_or t.hand v 0) (pos 0) +ℤ x) (change_none (out_of t.hand t.top v) (pos 0) ∙ sym (change_none (out_of t.hand t.top v) t.delta))
@@ -47,24 +52,24 @@ module _ (t : ForestTables) (q off : List ℤ) (tied : AreTied t q off) (outside
 
   pub tied_forgotten : AreTied forgotten q off
   tied_forgotten = record {
-      hands = tied.hands;
-      outs = tied.outs;
-      few = tied.few;
-      vertices = tied.vertices;
-      size_q = tied.size_q;
-      size_off = tied.size_off;
-      size_base = tied.size_base;
-      size_label = tied.size_label;
-      size_mate = tied.size_mate;
-      size_link = tied.size_link;
-      climb = tied.climb;
-      potentials = λ v l. potential_same v ∙ (tied.potentials v l ∙ ap (λ (x : ℤ). get_or q v (pos 0) +ℤ x) (sym (added_same v)));
-      small = λ b. subst (λ (x : ℤ). unsigned_abs x ≤ 2 ^ 62) (sym (weight_same b)) (tied.small b);
-      one_hand = tied.one_hand;
-      start = tied.start;
-      small_start = tied.small_start;
-      moved = λ v l. omega (arith, ints, added_same v, sum_same, tied.moved v l);
-      risen = (omega (arith, ints), omega (arith, ints, sum_same, tied.risen.0, tied.risen.1));
-      still = λ none. refl;
-      named = tied.named
-    }
+    hands = tied.hands;
+    outs = tied.outs;
+    few = tied.few;
+    vertices = tied.vertices;
+    size_q = tied.size_q;
+    size_off = tied.size_off;
+    size_base = tied.size_base;
+    size_label = tied.size_label;
+    size_mate = tied.size_mate;
+    size_link = tied.size_link;
+    climb = tied.climb;
+    potentials = λ v l. potential_same v ∙ (tied.potentials v l ∙ ap (λ (x : ℤ). get_or q v (pos 0) +ℤ x) (sym (added_same v)));
+    small = λ b. subst (λ (x : ℤ). unsigned_abs x ≤ 2 ^ 62) (sym (weight_same b)) (tied.small b);
+    one_hand = tied.one_hand;
+    start = tied.start;
+    small_start = tied.small_start;
+    moved = λ v l. omega (arith, ints, added_same v, sum_same, tied.moved v l);
+    risen = (omega (arith, ints), omega (arith, ints, sum_same, tied.risen.0, tied.risen.1));
+    still = λ none. refl;
+    named = tied.named;
+  }

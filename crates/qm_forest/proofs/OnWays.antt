@@ -8,7 +8,7 @@ use Rattle.def_forest.specs.Tables.{ForestTables, forest_of, IsMatchable, IsVali
 use Rattle.def_forest.specs.Valid.{IsValid, IsMate, IsTree, IsInner}
 use Rattle.def_forest.specs.declared.kinds.Label.{Label}
 use Rattle.def_forest.specs.declared.kinds.Label.TheVariants.{Outer, Inner, Outside}
-use Rattle.forest_laws.specs.Ways.{Reaches, IsAlmost, steps, parent_of}
+use Rattle.def_forest.specs.Ways.{Reaches, IsAlmost, steps, parent_of}
 use Rattle.forest_laws.proofs.Climbs.{fewer_steps, inner_is}
 use Rattle.forest_laws.proofs.Facts.{tree_of, outer_mate}
 use Rattle.forest_laws.proofs.Graphs.{are_darts}
@@ -35,15 +35,16 @@ none_is (Some x) e = absurd (cc e)
 pub valid_grown : (t u : ForestTables) (g : Graph) → IsMatchable g → IsValidFor g t → (d m : ℕ) → Reaches (darts_of g) (forest_of t) d → (forest_of t).mate ((forest_of t).out (far (darts_of g) d)) ≡ Some m
     → forest_of u ≡ grown (darts_of g) (forest_of t) d m → u.hand ≡ t.hand → u.root ≡ t.root → IsValidFor g u
 valid_grown t u g is valid d m reach mate seen hand root = record {
-    vertices = ap length hand ∙ valid.vertices;
-    valid = by_tree (tree_of (darts_of g) (are_darts g is.graph) (forest_of t) t.root valid.valid ((forest_of t).out ((darts_of g).near d)) (λ off. outer off reach.outer))
-  }
+  vertices = ap length hand ∙ valid.vertices;
+  valid = by_tree (tree_of (darts_of g) (are_darts g is.graph) (forest_of t) t.root valid.valid ((forest_of t).out ((darts_of g).near d)) (λ off. outer off reach.outer));
+}
   where
     outer : {l : Label} → l ≡ Outside → l ≡ Outer → ⊥
     outer a b = let h : Outside ≡ Outer = sym a ∙ b in cc
+
     by_tree : (r : ℕ) × (t.root ≡ Some r) × IsTree (darts_of g) (forest_of t) r → IsValid (darts_of g) (forest_of u) u.root
     by_tree w = subst (λ (f : Forest). IsValid (darts_of g) f u.root) (sym seen) (subst (λ (o : Option ℕ). IsValid (darts_of g) (grown (darts_of g) (forest_of t) d m) o) (sym (root ∙ w.1))
-      (grown_valid (darts_of g) (are_darts g is.graph) (forest_of t) w.0 (subst (λ (o : Option ℕ). IsValid (darts_of g) (forest_of t) o) w.1 valid.valid) d m reach mate))
+        (grown_valid (darts_of g) (are_darts g is.graph) (forest_of t) w.0 (subst (λ (o : Option ℕ). IsValid (darts_of g) (forest_of t) o) w.1 valid.valid) d m reach mate))
 
 -- Another mate, seen in a forest whose mates were changed.
 pub remated_more : (f0 f1 f2 : Forest) (mate : ℕ → Option ℕ) (b : ℕ) (m : Option ℕ) → f1 ≡ remated f0 mate → f2 ≡ mated f1 b m → f2 ≡ remated f0 (set_at mate b m)
@@ -63,15 +64,19 @@ way_begins g t is valid start reach free mate a mate_is a_is = by_tree (tree_of 
   where
     outer : {l : Label} → l ≡ Outside → l ≡ Outer → ⊥
     outer x y = let h : Outside ≡ Outer = sym x ∙ y in cc
+
     by_tree : (r : ℕ) × (t.root ≡ Some r) × IsTree (darts_of g) (forest_of t) r → IsOnWay g t start mate a start
     by_tree w = record {
-        is = is; valid = valid; top = w.0; root = w.1; tree = w.2;
-        almost = subst (λ x. IsAlmost (darts_of g) (forest_of t) w.2.depth start mate x start) (sym a_is) (subst (λ (x : ℕ → Option ℕ). IsAlmost (darts_of g) (forest_of t) w.2.depth start x ((forest_of t).out ((darts_of g).near start)) start) (sym mate_is)
-          (begin (darts_of g) (are_darts g is.graph) (forest_of t) w.0 (subst (λ (o : Option ℕ). IsValid (darts_of g) (forest_of t) o) w.1 valid.valid) w.2 start reach free))
-      }
+      is = is;
+      valid = valid;
+      top = w.0;
+      root = w.1;
+      tree = w.2;
+      almost = subst (λ x. IsAlmost (darts_of g) (forest_of t) w.2.depth start mate x start) (sym a_is) (subst (λ (x : ℕ → Option ℕ). IsAlmost (darts_of g) (forest_of t) w.2.depth start x ((forest_of t).out ((darts_of g).near start)) start) (sym mate_is)
+          (begin (darts_of g) (are_darts g is.graph) (forest_of t) w.0 (subst (λ (o : Option ℕ). IsValid (darts_of g) (forest_of t) o) w.1 valid.valid) w.2 start reach free));
+    }
 
 module _ (g : Graph) (t : ForestTables) (start : ℕ) (mate : ℕ → Option ℕ) (a e : ℕ) (way : IsOnWay g t start mate a e) where
-
   valid_top : IsValid (darts_of g) (forest_of t) (Some way.top)
   valid_top = subst (λ (o : Option ℕ). IsValid (darts_of g) (forest_of t) o) way.root way.valid.valid
 
@@ -86,17 +91,23 @@ module _ (g : Graph) (t : ForestTables) (start : ℕ) (mate : ℕ → Option ℕ
   pub way_goes_on : (old inner up a2 e2 : ℕ) (mate2 : ℕ → Option ℕ) → mate a ≡ Some old → inner ≡ (forest_of t).out (far (darts_of g) old) → up ≡ (forest_of t).link inner → a2 ≡ (forest_of t).out (far (darts_of g) up)
       → e2 ≡ (darts_of g).twin up → mate2 ≡ set_at (set_at mate a (Some e)) inner (Some up) → IsOnWay g t start mate2 a2 e2
   way_goes_on old inner up a2 e2 mate2 was inner_is' up_is a_is e_is mate_is = record {
-      is = way.is; valid = way.valid; top = way.top; root = way.root; tree = way.tree;
-      almost = subst (λ (x : ℕ → Option ℕ). IsAlmost (darts_of g) (forest_of t) way.tree.depth start x a2 e2) (sym (mate_is ∙ (ap (λ x. set_at (set_at mate a (Some e)) x (Some up)) inner_is' ∙ ap (λ x. set_at (set_at mate a (Some e)) inn (Some x)) link_is)))
+    is = way.is;
+    valid = way.valid;
+    top = way.top;
+    root = way.root;
+    tree = way.tree;
+    almost = subst (λ (x : ℕ → Option ℕ). IsAlmost (darts_of g) (forest_of t) way.tree.depth start x a2 e2) (sym (mate_is ∙ (ap (λ x. set_at (set_at mate a (Some e)) x (Some up)) inner_is' ∙ ap (λ x. set_at (set_at mate a (Some e)) inn (Some x)) link_is)))
         (subst (λ x. IsAlmost (darts_of g) (forest_of t) way.tree.depth start next x e2) (sym (a_is ∙ ap (λ x. (forest_of t).out (far (darts_of g) x)) link_is))
         (subst (λ x. IsAlmost (darts_of g) (forest_of t) way.tree.depth start next ((forest_of t).out (far (darts_of g) ((forest_of t).link inn))) x) (sym (e_is ∙ ap (darts_of g).twin link_is))
-        (turn (darts_of g) (are_darts g way.is.graph) (forest_of t) way.top valid_top way.tree start mate a e way.almost old (sym own_mate ∙ was))))
-    }
+        (turn (darts_of g) (are_darts g way.is.graph) (forest_of t) way.top valid_top way.tree start mate a e way.almost old (sym own_mate ∙ was))));
+  }
     where
       inn : ℕ
       inn = (forest_of t).out (far (darts_of g) old)
+
       next : ℕ → Option ℕ
       next = set_at (set_at mate a (Some e)) ((forest_of t).out (far (darts_of g) old)) (Some ((forest_of t).link ((forest_of t).out (far (darts_of g) old))))
+
       link_is : up ≡ (forest_of t).link inn
       link_is = up_is ∙ ap (forest_of t).link inner_is'
 
@@ -133,9 +144,10 @@ module _ (g : Graph) (t : ForestTables) (start : ℕ) (mate : ℕ → Option ℕ
   way_ends free r root mate2 is_mate =
       let own : (forest_of t).mate a ≡ None = sym own_mate ∙ free in
       let r_is : way.top ≡ r = same (sym way.root ∙ root) in
-      subst (λ (x : ℕ → Option ℕ). IsValid (darts_of g) (with_mates (forest_of t) x) None × IsAugmented (darts_of g) (forest_of t) (with_mates (forest_of t) x) r start) (sym is_mate)
-        (end_valid (darts_of g) (are_darts g way.is.graph) (forest_of t) way.top valid_top way.tree start mate a e way.almost own,
-         subst (λ x. IsAugmented (darts_of g) (forest_of t) (with_mates (forest_of t) (set_at mate a (Some e))) x start) r_is (end_augmented (darts_of g) (are_darts g way.is.graph) (forest_of t) way.top valid_top way.tree start mate a e way.almost own))
+      subst (λ (x : ℕ → Option ℕ). IsValid (darts_of g) (with_mates (forest_of t) x) None × IsAugmented (darts_of g) (forest_of t) (with_mates (forest_of t) x) r start) (sym is_mate) (
+        end_valid (darts_of g) (are_darts g way.is.graph) (forest_of t) way.top valid_top way.tree start mate a e way.almost own,
+        subst (λ x. IsAugmented (darts_of g) (forest_of t) (with_mates (forest_of t) (set_at mate a (Some e))) x start) r_is (end_augmented (darts_of g) (are_darts g way.is.graph) (forest_of t) way.top valid_top way.tree start mate a e way.almost own),
+      )
     where
       same : {x y : ℕ} → Some x ≡ Some y → x ≡ y
       same p = cc
@@ -170,9 +182,9 @@ one_more_outside f1 f2 v e2 done u l = ap (λ (f : Forest). f.label (f.out u)) e
 -- The forest is valid after an augmentation.
 pub valid_augmented : (t u : ForestTables) (g : Graph) → IsValidFor g t → (mate : ℕ → Option ℕ) → IsValid (darts_of g) (with_mates (forest_of t) mate) None → forest_of u ≡ with_mates (forest_of t) mate → u.hand ≡ t.hand → u.root ≡ None → IsValidFor g u
 valid_augmented t u g valid mate whole seen hand root = record {
-    vertices = ap length hand ∙ valid.vertices;
-    valid = subst (λ (f : Forest). IsValid (darts_of g) f u.root) (sym seen) (subst (λ (o : Option ℕ). IsValid (darts_of g) (with_mates (forest_of t) mate) o) (sym root) whole)
-  }
+  vertices = ap length hand ∙ valid.vertices;
+  valid = subst (λ (f : Forest). IsValid (darts_of g) f u.root) (sym seen) (subst (λ (o : Option ℕ). IsValid (darts_of g) (with_mates (forest_of t) mate) o) (sym root) whole);
+}
 
 -- What has come of an augmentation.
 pub augmented : (t s u : ForestTables) (g : Graph) → IsMatchable g → IsValidFor g t → (start : ℕ) → Reaches (darts_of g) (forest_of t) start
@@ -183,7 +195,9 @@ augmented t s u g is valid start reach done seen ended hand root = by_tree (tree
   where
     outer : {l : Label} → l ≡ Outside → l ≡ Outer → ⊥
     outer x y = let h : Outside ≡ Outer = sym x ∙ y in cc
+
     whole : forest_of u ≡ with_mates (forest_of t) (forest_of s).mate
     whole = ended ∙ ap (λ (f : Forest). with_mates f (forest_of s).mate) seen
+
     by_tree : (r : ℕ) × (t.root ≡ Some r) × IsTree (darts_of g) (forest_of t) r → ((r : ℕ) × (t.root ≡ Some r) × IsAugmented (darts_of g) (forest_of t) (forest_of u) r start) × IsValidFor g u
     by_tree w = ((w.0, w.1, subst (λ (f : Forest). IsAugmented (darts_of g) (forest_of t) f w.0 start) (sym whole) (done w.0 w.1).1), valid_augmented t u g valid (forest_of s).mate (done w.0 w.1).0 whole hand root)

@@ -23,7 +23,6 @@ change_small Inner d = omega (arith, ints)
 change_small Outside d = omega (arith, ints)
 
 module _ (t : ForestTables) (q off : List ℤ) (tied : AreTied t q off) where
-
   pub sum_is_small : unsigned_abs (dual_sum_of (forest_of t)) ≤ 2 ^ 88
   sum_is_small = omega (arith, ints, sum_small (forest_of t).weight (length t.up) (λ k l. tied.small k), tied.few)
 

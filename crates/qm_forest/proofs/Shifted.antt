@@ -31,9 +31,15 @@ change_low Outside s h = omega (arith, ints)
 -- The forest sees the shift.
 pub seen_shift : (t : ForestTables) (s d : ℤ) → d ≡ t.delta +ℤ s → forest_of (record t { delta = d }) ≡ shifted (forest_of t) s
 seen_shift t s d e i = record {
-    size = (forest_of t).size; holds = (forest_of t).holds; out = (forest_of t).out; weight = λ b. weight b i; label = (forest_of t).label;
-    mate = (forest_of t).mate; link = (forest_of t).link; nest = (forest_of t).nest
-  }
+  size = (forest_of t).size;
+  holds = (forest_of t).holds;
+  out = (forest_of t).out;
+  weight = λ b. weight b i;
+  label = (forest_of t).label;
+  mate = (forest_of t).mate;
+  link = (forest_of t).link;
+  nest = (forest_of t).nest;
+}
   where
     weight : (b : ℕ) → (forest_of (record t { delta = d })).weight b ≡ (forest_of t).weight b +ℤ change (label_at t.label b) s
     weight b = let h : change (label_at t.label b) d ≡ change (label_at t.label b) t.delta +ℤ change (label_at t.label b) s = ap (change (label_at t.label b)) e ∙ change_sum (label_at t.label b) t.delta s in omega (arith, ints, h)
@@ -41,16 +47,21 @@ seen_shift t s d e i = record {
 -- Where no tree stands a shift changes nothing.
 pub seen_still : (g : Graph) (t : ForestTables) (s : ℤ) → IsValidFor g t → t.root ≡ None → forest_of t ≡ shifted (forest_of t) s
 seen_still g t s valid none i = record {
-    size = (forest_of t).size; holds = (forest_of t).holds; out = (forest_of t).out; weight = λ b. weight b i; label = (forest_of t).label;
-    mate = (forest_of t).mate; link = (forest_of t).link; nest = (forest_of t).nest
-  }
+  size = (forest_of t).size;
+  holds = (forest_of t).holds;
+  out = (forest_of t).out;
+  weight = λ b. weight b i;
+  label = (forest_of t).label;
+  mate = (forest_of t).mate;
+  link = (forest_of t).link;
+  nest = (forest_of t).nest;
+}
   where
     weight : (b : ℕ) → (forest_of t).weight b ≡ (forest_of t).weight b +ℤ change (label_at t.label b) s
     weight b = let h : change (label_at t.label b) s ≡ pos 0 = ap (λ (l : Label). change l s) (valid.valid.no_tree none b) in omega (arith, ints, h)
 
 module _ (t : ForestTables) (q off : List ℤ) (tied : AreTied t q off) (g : Graph) (is : IsGraph g) (valid : IsValidFor g t) (r : ℕ) (root : t.root ≡ Some r) (s d : ℤ) (d_is : d ≡ t.delta +ℤ s) (high : pos 0 ≤ℤ s)
     (small : (b : ℕ) → unsigned_abs ((shifted (forest_of t) s).weight b) ≤ 2 ^ 62) where
-
   valid_root : IsValid (darts_of g) (forest_of t) (Some r)
   valid_root = subst (λ (o : Option ℕ). IsValid (darts_of g) (forest_of t) o) root valid.valid
 
@@ -63,30 +74,31 @@ module _ (t : ForestTables) (q off : List ℤ) (tied : AreTied t q off) (g : Gra
   -- The tie after a shift.
   pub tied_shift : AreTied (record t { delta = d }) q off
   tied_shift = record {
-      hands = tied.hands;
-      outs = tied.outs;
-      few = tied.few;
-      vertices = tied.vertices;
-      size_q = tied.size_q;
-      size_off = tied.size_off;
-      size_base = tied.size_base;
-      size_label = tied.size_label;
-      size_mate = tied.size_mate;
-      size_link = tied.size_link;
-      climb = tied.climb;
-      potentials = potentials;
-      small = λ b. subst (λ (f : Forest). unsigned_abs (f.weight b) ≤ 2 ^ 62) (sym (seen_shift t s d d_is)) (small b);
-      one_hand = tied.one_hand;
-      start = tied.start;
-      small_start = tied.small_start;
-      moved = λ v lv. omega (arith, ints, sum_is, added_is v, tied.moved v lv, change_low (label_at t.label (out_of t.hand t.top v)) s high);
-      risen = (omega (arith, ints, d_is, tied.risen.0), omega (arith, ints, d_is, sum_is, tied.risen.1));
-      still = λ none. absurd (clash (sym root ∙ none));
-      named = tied.named
-    }
+    hands = tied.hands;
+    outs = tied.outs;
+    few = tied.few;
+    vertices = tied.vertices;
+    size_q = tied.size_q;
+    size_off = tied.size_off;
+    size_base = tied.size_base;
+    size_label = tied.size_label;
+    size_mate = tied.size_mate;
+    size_link = tied.size_link;
+    climb = tied.climb;
+    potentials = potentials;
+    small = λ b. subst (λ (f : Forest). unsigned_abs (f.weight b) ≤ 2 ^ 62) (sym (seen_shift t s d d_is)) (small b);
+    one_hand = tied.one_hand;
+    start = tied.start;
+    small_start = tied.small_start;
+    moved = λ v lv. omega (arith, ints, sum_is, added_is v, tied.moved v lv, change_low (label_at t.label (out_of t.hand t.top v)) s high);
+    risen = (omega (arith, ints, d_is, tied.risen.0), omega (arith, ints, d_is, sum_is, tied.risen.1));
+    still = λ none. absurd (clash (sym root ∙ none));
+    named = tied.named;
+  }
     where
       clash : Some r ≡ None → ⊥
       clash e = cc
+
       potentials : (v : ℕ) → v < length t.hand → potential (forest_of (record t { delta = d })) v ≡ told q t.hand t.top off t.label d v
       potentials v lv =
           let p : potential (forest_of (record t { delta = d })) v ≡ potential (shifted (forest_of t) s) v = ap (λ (f : Forest). potential f v) (seen_shift t s d d_is) in
@@ -96,18 +108,18 @@ module _ (t : ForestTables) (q off : List ℤ) (tied : AreTied t q off) (g : Gra
 -- The forest is valid after a shift whose end is feasible.
 pub valid_shift : (t u : ForestTables) (g : Graph) (s : ℤ) → IsGraph g → IsValidFor g t → IsFeasible (darts_of g) (shifted (forest_of t) s) → forest_of u ≡ shifted (forest_of t) s → u.hand ≡ t.hand → u.root ≡ t.root → IsValidFor g u
 valid_shift t u g s is valid feasible seen hand root = record {
-    vertices = ap length hand ∙ valid.vertices;
-    valid = subst (λ (f : Forest). IsValid (darts_of g) f u.root) (sym seen) (subst (λ (o : Option ℕ). IsValid (darts_of g) (shifted (forest_of t) s) o) (sym root) (shift_valid (darts_of g) (are_darts g is) (forest_of t) t.root valid.valid s feasible))
-  }
+  vertices = ap length hand ∙ valid.vertices;
+  valid = subst (λ (f : Forest). IsValid (darts_of g) f u.root) (sym seen) (subst (λ (o : Option ℕ). IsValid (darts_of g) (shifted (forest_of t) s) o) (sym root) (shift_valid (darts_of g) (are_darts g is) (forest_of t) t.root valid.valid s feasible));
+}
 
 -- The forest is valid after a blossom has become the root.
 pub valid_rooted : (t u : ForestTables) (g : Graph) → IsGraph g → IsValidFor g t → (v : ℕ) → v < length t.hand → t.root ≡ None → (forest_of t).mate ((forest_of t).out v) ≡ None
     → forest_of u ≡ rooted (forest_of t) ((forest_of t).out v) → u.hand ≡ t.hand → u.root ≡ Some ((forest_of t).out v) → IsValidFor g u
 valid_rooted t u g is valid v low none free seen hand root = record {
-    vertices = ap length hand ∙ valid.vertices;
-    valid = subst (λ (f : Forest). IsValid (darts_of g) f u.root) (sym seen) (subst (λ (o : Option ℕ). IsValid (darts_of g) (rooted (forest_of t) ((forest_of t).out v)) o) (sym root)
-      (rooted_valid (darts_of g) (are_darts g is) (forest_of t) (subst (λ (o : Option ℕ). IsValid (darts_of g) (forest_of t) o) none valid.valid) ((forest_of t).out v) (v, subst (λ n. v < n) valid.vertices low, refl) free))
-  }
+  vertices = ap length hand ∙ valid.vertices;
+  valid = subst (λ (f : Forest). IsValid (darts_of g) f u.root) (sym seen) (subst (λ (o : Option ℕ). IsValid (darts_of g) (rooted (forest_of t) ((forest_of t).out v)) o) (sym root)
+      (rooted_valid (darts_of g) (are_darts g is) (forest_of t) (subst (λ (o : Option ℕ). IsValid (darts_of g) (forest_of t) o) none valid.valid) ((forest_of t).out v) (v, subst (λ n. v < n) valid.vertices low, refl) free));
+}
 
 -- An option that is not empty has something in it.
 pub some_of : (o : Option ℕ) → is_some o ≡ true → (r : ℕ) × (o ≡ Some r)

@@ -25,19 +25,30 @@ entry_set xs k x d low i j = at j (cases_eq j k) i
 -- The forest sees a mate that is written, and a link.
 pub seen_mate : (t : ForestTables) (q off : List ℤ) → AreTied t q off → (b : ℕ) (m : Option ℕ) → b < length t.up → forest_of (record t { mate = set t.mate b m }) ≡ mated (forest_of t) b m
 seen_mate t q off tied b m low i = record {
-    size = (forest_of t).size; holds = (forest_of t).holds; out = (forest_of t).out; weight = (forest_of t).weight; label = (forest_of t).label;
-    mate = entry_set t.mate b m None (omega (arith, tied.size_mate)) i; link = (forest_of t).link; nest = (forest_of t).nest
-  }
+  size = (forest_of t).size;
+  holds = (forest_of t).holds;
+  out = (forest_of t).out;
+  weight = (forest_of t).weight;
+  label = (forest_of t).label;
+  mate = entry_set t.mate b m None (omega (arith, tied.size_mate)) i;
+  link = (forest_of t).link;
+  nest = (forest_of t).nest;
+}
 
 pub seen_link : (t : ForestTables) (q off : List ℤ) → AreTied t q off → (b d : ℕ) → b < length t.up → forest_of (record t { link = set t.link b d }) ≡ linked (forest_of t) b d
 seen_link t q off tied b d low i = record {
-    size = (forest_of t).size; holds = (forest_of t).holds; out = (forest_of t).out; weight = (forest_of t).weight; label = (forest_of t).label;
-    mate = (forest_of t).mate; link = entry_set t.link b d 0 (omega (arith, tied.size_link)) i; nest = (forest_of t).nest
-  }
+  size = (forest_of t).size;
+  holds = (forest_of t).holds;
+  out = (forest_of t).out;
+  weight = (forest_of t).weight;
+  label = (forest_of t).label;
+  mate = (forest_of t).mate;
+  link = entry_set t.link b d 0 (omega (arith, tied.size_link)) i;
+  nest = (forest_of t).nest;
+}
 
 module _ (t : ForestTables) (q off : List ℤ) (tied : AreTied t q off) (v : ℕ) (low : v < length t.hand) (l : Label) (x y : ℤ)
     (base_is : x +ℤ change l t.delta ≡ (forest_of t).weight ((forest_of t).out v)) (off_is : y +ℤ change l t.delta ≡ added t.hand t.top off t.label t.delta v) where
-
   b : ℕ
   b = out_of t.hand t.top v
 
@@ -76,10 +87,15 @@ module _ (t : ForestTables) (q off : List ℤ) (tied : AreTied t q off) (v : ℕ
   pub seen_label : forest_of moved_label ≡ labelled (forest_of t) (out_of t.hand t.top v) l
   unfolding b
   seen_label i = record {
-      size = (forest_of t).size; holds = (forest_of t).holds; out = (forest_of t).out; weight = λ k. weight_same k i;
-      label = entry_set t.label (out_of t.hand t.top v) l Outside (subst (λ n. out_of t.hand t.top v < n) (sym tied.size_label) b_low) i;
-      mate = (forest_of t).mate; link = (forest_of t).link; nest = (forest_of t).nest
-    }
+    size = (forest_of t).size;
+    holds = (forest_of t).holds;
+    out = (forest_of t).out;
+    weight = λ k. weight_same k i;
+    label = entry_set t.label (out_of t.hand t.top v) l Outside (subst (λ n. out_of t.hand t.top v < n) (sym tied.size_label) b_low) i;
+    mate = (forest_of t).mate;
+    link = (forest_of t).link;
+    nest = (forest_of t).nest;
+  }
 
   added_same : (u : ℕ) → u < length t.hand → added t.hand t.top (set off h y) moved_label.label t.delta u ≡ added t.hand t.top off t.label t.delta u
   unfolding b h
@@ -87,6 +103,7 @@ module _ (t : ForestTables) (q off : List ℤ) (tied : AreTied t q off) (v : ℕ
     where
       h_low : h < length off
       h_low = subst (λ n. h < n) (sym tied.size_off) (tied.hands v low)
+
       at : (get_or t.hand u 0 ≡ h) ⊎ (get_or t.hand u 0 ≢ h) → added t.hand t.top (set off h y) moved_label.label t.delta u ≡ added t.hand t.top off t.label t.delta u
       at (inl e) =
           let out_is : out_of t.hand t.top u ≡ b = ap (λ k. get_or t.top k 0) e in
@@ -109,27 +126,27 @@ module _ (t : ForestTables) (q off : List ℤ) (tied : AreTied t q off) (v : ℕ
   pub tied_label : AreTied moved_label q (set off (get_or t.hand v 0) y)
   unfolding b h
   tied_label = record {
-      hands = tied.hands;
-      outs = tied.outs;
-      few = tied.few;
-      vertices = tied.vertices;
-      size_q = tied.size_q;
-      size_off = length-set off (get_or t.hand v 0) y ∙ tied.size_off;
-      size_base = length-set t.base (out_of t.hand t.top v) x ∙ tied.size_base;
-      size_label = length-set t.label (out_of t.hand t.top v) l ∙ tied.size_label;
-      size_mate = tied.size_mate;
-      size_link = tied.size_link;
-      climb = tied.climb;
-      potentials = λ u lu. potential_same u ∙ (tied.potentials u lu ∙ ap (λ (z : ℤ). get_or q u (pos 0) +ℤ z) (sym (added_same u lu)));
-      small = λ k. subst (λ (z : ℤ). unsigned_abs z ≤ 2 ^ 62) (sym (weight_same k)) (tied.small k);
-      one_hand = tied.one_hand;
-      start = tied.start;
-      small_start = tied.small_start;
-      moved = λ u lu. subst (λ (z : ℤ). pos (unsigned_abs z) ≤ℤ (dual_sum_of (forest_of moved_label) -ℤ tied.start)) (sym (added_same u lu)) (subst (λ (z : ℤ). pos (unsigned_abs (added t.hand t.top off t.label t.delta u)) ≤ℤ (z -ℤ tied.start)) (sym sum_same) (tied.moved u lu));
-      risen = (tied.risen.0, subst (λ (z : ℤ). t.delta ≤ℤ (z -ℤ tied.start)) (sym sum_same) tied.risen.1);
-      still = tied.still;
-      named = λ k n. named k n (cases_eq k (out_of t.hand t.top v))
-    }
+    hands = tied.hands;
+    outs = tied.outs;
+    few = tied.few;
+    vertices = tied.vertices;
+    size_q = tied.size_q;
+    size_off = length-set off (get_or t.hand v 0) y ∙ tied.size_off;
+    size_base = length-set t.base (out_of t.hand t.top v) x ∙ tied.size_base;
+    size_label = length-set t.label (out_of t.hand t.top v) l ∙ tied.size_label;
+    size_mate = tied.size_mate;
+    size_link = tied.size_link;
+    climb = tied.climb;
+    potentials = λ u lu. potential_same u ∙ (tied.potentials u lu ∙ ap (λ (z : ℤ). get_or q u (pos 0) +ℤ z) (sym (added_same u lu)));
+    small = λ k. subst (λ (z : ℤ). unsigned_abs z ≤ 2 ^ 62) (sym (weight_same k)) (tied.small k);
+    one_hand = tied.one_hand;
+    start = tied.start;
+    small_start = tied.small_start;
+    moved = λ u lu. subst (λ (z : ℤ). pos (unsigned_abs z) ≤ℤ (dual_sum_of (forest_of moved_label) -ℤ tied.start)) (sym (added_same u lu)) (subst (λ (z : ℤ). pos (unsigned_abs (added t.hand t.top off t.label t.delta u)) ≤ℤ (z -ℤ tied.start)) (sym sum_same) (tied.moved u lu));
+    risen = (tied.risen.0, subst (λ (z : ℤ). t.delta ≤ℤ (z -ℤ tied.start)) (sym sum_same) tied.risen.1);
+    still = tied.still;
+    named = λ k n. named k n (cases_eq k (out_of t.hand t.top v));
+  }
     where
       named : (k : ℕ) → label_at moved_label.label k ≢ Outside → (k ≡ out_of t.hand t.top v) ⊎ (k ≢ out_of t.hand t.top v) → IsOutermostIn t k
       named k n (inl e) = (v, low, sym e)

@@ -4,7 +4,7 @@ use Rattle.def_math.specs.Sums.{total_below}
 use Rattle.def_matching.specs.Matching.{Vertex, Graph}
 use Rattle.def_forest.specs.Darts.{darts_of}
 use Rattle.def_forest.specs.Valid.{IsTree}
-use Rattle.forest_laws.specs.Ways.{IsAlmost}
+use Rattle.def_forest.specs.Ways.{IsAlmost}
 use Rattle.def_forest.specs.Forests.{Blossom, Forest, walk, set_at, dual_sum_of}
 use Rattle.def_forest.specs.Steps.{change}
 use Rattle.def_forest.specs.Tables.{ForestTables, forest_of, out_of, label_at, IsOutermostIn, IsMatchable, IsValidFor}

@@ -7,7 +7,7 @@ ghost use Rattle.def_forest.specs.Tables.{forest_of, kind_of, outer_dart, IsMatc
 ghost use Rattle.def_forest.specs.Valid.{IsValid};
 ghost use Rattle.def_forest.specs.declared.kinds.EdgeKind.TheVariants.{Augment};
 ghost use Rattle.def_forest.specs.declared.kinds.Label.TheVariants.{Outside};
-ghost use Rattle.forest_laws.specs.Ways.{Reaches};
+ghost use Rattle.def_forest.specs.Ways.{Reaches};
 ghost use Rattle.qm_forest.specs.Ties.{HasSameNest, relabelled, remated};
 
 use crate::darts::{near, twin};

@@ -39,15 +39,39 @@ impl Model for Forest {
     ghost use Rattle.qm_forest.specs.Ties.{AreTied};
 
     ghost Value = { ForestTables };
+
     ghost view = { λ f. record {
-        hand = f.hand.items; top = f.top.items; base = f.base.items; delta = f.delta; label = f.label.items;
-        mate = f.mate.items; link = f.link.items; root = f.root; up = f.up.items; after = f.after.items;
-        joint = f.joint.items; head = f.head.items; parts = f.parts.items; rank = f.rank.items
+      hand = f.hand.items;
+      top = f.top.items;
+      base = f.base.items;
+      delta = f.delta;
+      label = f.label.items;
+      mate = f.mate.items;
+      link = f.link.items;
+      root = f.root;
+      up = f.up.items;
+      after = f.after.items;
+      joint = f.joint.items;
+      head = f.head.items;
+      parts = f.parts.items;
+      rank = f.rank.items;
     } };
+
     ghost invariant = { λ f. AreTied (record {
-        hand = f.hand.items; top = f.top.items; base = f.base.items; delta = f.delta; label = f.label.items;
-        mate = f.mate.items; link = f.link.items; root = f.root; up = f.up.items; after = f.after.items;
-        joint = f.joint.items; head = f.head.items; parts = f.parts.items; rank = f.rank.items
+      hand = f.hand.items;
+      top = f.top.items;
+      base = f.base.items;
+      delta = f.delta;
+      label = f.label.items;
+      mate = f.mate.items;
+      link = f.link.items;
+      root = f.root;
+      up = f.up.items;
+      after = f.after.items;
+      joint = f.joint.items;
+      head = f.head.items;
+      parts = f.parts.items;
+      rank = f.rank.items;
     }) f.q.items f.off.items };
 }
 

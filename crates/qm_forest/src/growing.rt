@@ -6,7 +6,7 @@ ghost use Rattle.def_forest.specs.Steps.{grown, with_mates, IsAugmented};
 ghost use Rattle.def_forest.specs.Tables.{forest_of, kind_of, outer_dart, IsMatchable, IsValidFor};
 ghost use Rattle.def_forest.specs.declared.kinds.EdgeKind.TheVariants.{Grow, Augment};
 ghost use Rattle.def_forest.specs.declared.kinds.Label.TheVariants.{Outside};
-ghost use Rattle.forest_laws.specs.Ways.{Reaches};
+ghost use Rattle.def_forest.specs.Ways.{Reaches};
 ghost use Rattle.qm_forest.specs.Ties.{HasSameNest, relabelled, remated};
 
 use crate::darts::{edge_of, near, twin};

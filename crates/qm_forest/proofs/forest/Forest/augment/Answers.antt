@@ -3,7 +3,7 @@ use Rattle.def_matching.specs.Matching.{graph}
 use Rattle.def_forest.specs.Darts.{darts_of, far}
 use Rattle.def_forest.specs.Steps.{IsAugmented}
 use Rattle.def_forest.specs.Tables.{forest_of}
-use Rattle.forest_laws.specs.Ways.{Reaches}
+use Rattle.def_forest.specs.Ways.{Reaches}
 use Rattle.qm_forest.proofs.EdgeKinds.{augments}
 use Rattle.qm_forest.proofs.OnWays.{none_is, augmented}
 use Rattle.qm_forest.proofs.forest.Forest.augment.Goals as goal

@@ -8,7 +8,7 @@ use Rattle.qm_forest.proofs.forest.Forest.end_search.Goals as goal
 
 pub loop-v-preserved : goal.loop-v-preserved
 loop-v-preserved c = record {
-    seen = labels_own c.args.self.now c.set_label.new.self _ (c.set_label.ensures.seen ∙ ap (λ (f : Forest). labelled f (f.out c.loop-v.v) Outside) c.loop-v.invariant.seen);
-    done = one_more_outside (forest_of c.loop-v.self) (forest_of c.set_label.new.self) c.loop-v.v c.set_label.ensures.seen c.loop-v.invariant.done;
-    same = same_nest _ _ _ c.loop-v.invariant.same c.set_label.ensures.same
-  }
+  seen = labels_own c.args.self.now c.set_label.new.self _ (c.set_label.ensures.seen ∙ ap (λ (f : Forest). labelled f (f.out c.loop-v.v) Outside) c.loop-v.invariant.seen);
+  done = one_more_outside (forest_of c.loop-v.self) (forest_of c.set_label.new.self) c.loop-v.v c.set_label.ensures.seen c.loop-v.invariant.done;
+  same = same_nest _ _ _ c.loop-v.invariant.same c.set_label.ensures.same;
+}

@@ -8,10 +8,10 @@ use Rattle.qm_forest.proofs.forest.Forest.rematch.Goals as goal
 
 pub loop-old-init : goal.loop-old-init
 loop-old-init c = record {
-    way = way_begins (graph c.args.g.now) c.args.self.now c.requires.graph c.requires.valid c.args.start c.requires.reaches c.requires.free _ _ (ap (λ (f : Forest). f.mate) c.set_mate.ensures.seen ∙ (ap (λ b. set_at (forest_of c.args.self.now).mate b (Some c.twin-2.result)) (c.outermost-reached.ensures.value ∙ ap (forest_of c.args.self.now).out (c.near.ensures ∙ ap (darts_of (graph c.args.g.now)).near c.twin.ensures)) ∙ ap (λ d. set_at (forest_of c.args.self.now).mate ((forest_of c.args.self.now).out (far (darts_of (graph c.args.g.now)) c.args.start)) (Some d)) c.twin-2.ensures)) (c.outermost-at.ensures.value ∙ (ap (λ (f : Forest). f.out c.near-2.result) c.set_mate.ensures.seen ∙ ap (forest_of c.args.self.now).out c.near-2.ensures));
-    seen = seen_own c.args.self.now c.set_mate.new.self _ c.set_mate.ensures.seen;
-    same = c.set_mate.ensures.same
-  }
+  way = way_begins (graph c.args.g.now) c.args.self.now c.requires.graph c.requires.valid c.args.start c.requires.reaches c.requires.free _ _ (ap (λ (f : Forest). f.mate) c.set_mate.ensures.seen ∙ (ap (λ b. set_at (forest_of c.args.self.now).mate b (Some c.twin-2.result)) (c.outermost-reached.ensures.value ∙ ap (forest_of c.args.self.now).out (c.near.ensures ∙ ap (darts_of (graph c.args.g.now)).near c.twin.ensures)) ∙ ap (λ d. set_at (forest_of c.args.self.now).mate ((forest_of c.args.self.now).out (far (darts_of (graph c.args.g.now)) c.args.start)) (Some d)) c.twin-2.ensures)) (c.outermost-at.ensures.value ∙ (ap (λ (f : Forest). f.out c.near-2.result) c.set_mate.ensures.seen ∙ ap (forest_of c.args.self.now).out c.near-2.ensures));
+  seen = seen_own c.args.self.now c.set_mate.new.self _ c.set_mate.ensures.seen;
+  same = c.set_mate.ensures.same;
+}
 
 pub mate-requires : goal.mate-requires
 mate-requires c = subst (λ (xs : List ℕ). c.loop-old.at < length xs) (sym c.loop-old.invariant.same.up) (way_low (graph c.args.g.now) c.args.self.now c.args.start (forest_of c.loop-old.self).mate c.loop-old.at c.loop-old.next c.loop-old.invariant.way)
@@ -45,10 +45,10 @@ loop-old-smaller c = way_shorter (graph c.args.g.now) c.args.self.now c.args.sta
 
 pub loop-old-preserved : goal.loop-old-preserved
 loop-old-preserved c = record {
-    way = way_goes_on (graph c.args.g.now) c.args.self.now c.args.start (forest_of c.loop-old.self).mate c.loop-old.at c.loop-old.next c.loop-old.invariant.way c.in-Some.old c.outermost-inner.result c.link-up.result c.outermost-at-in-Some.result c.twin-next.result _ (sym c.mate.ensures ∙ c.in-Some.is) (c.outermost-inner.ensures.value ∙ (out_same (forest_of c.args.self.now) _ _ c.near-in-Some.result (remated_more (forest_of c.args.self.now) (forest_of c.loop-old.self) _ (forest_of c.loop-old.self).mate c.loop-old.at _ c.loop-old.invariant.seen c.set_mate-in-Some.ensures.seen) ∙ ap (forest_of c.args.self.now).out (c.near-in-Some.ensures ∙ ap (darts_of (graph c.args.g.now)).near c.twin-in-Some.ensures))) (c.link-up.ensures ∙ link_same (forest_of c.args.self.now) _ _ c.outermost-inner.result (remated_more (forest_of c.args.self.now) (forest_of c.loop-old.self) _ (forest_of c.loop-old.self).mate c.loop-old.at _ c.loop-old.invariant.seen c.set_mate-in-Some.ensures.seen)) (c.outermost-at-in-Some.ensures.value ∙ (out_same (forest_of c.args.self.now) _ _ c.near-in-Some-2.result (remated_more (forest_of c.args.self.now) (forest_of c.set_mate-in-Some.new.self) _ _ c.outermost-inner.result _ (remated_more (forest_of c.args.self.now) (forest_of c.loop-old.self) _ (forest_of c.loop-old.self).mate c.loop-old.at _ c.loop-old.invariant.seen c.set_mate-in-Some.ensures.seen) c.set_mate-in-Some-2.ensures.seen) ∙ ap (forest_of c.args.self.now).out (c.near-in-Some-2.ensures ∙ ap (darts_of (graph c.args.g.now)).near c.twin-in-Some-2.ensures))) c.twin-next.ensures (ap (λ (f : Forest). f.mate) (remated_more (forest_of c.args.self.now) (forest_of c.set_mate-in-Some.new.self) _ _ c.outermost-inner.result _ (remated_more (forest_of c.args.self.now) (forest_of c.loop-old.self) _ (forest_of c.loop-old.self).mate c.loop-old.at _ c.loop-old.invariant.seen c.set_mate-in-Some.ensures.seen) c.set_mate-in-Some-2.ensures.seen));
-    seen = seen_own c.args.self.now c.set_mate-in-Some-2.new.self _ (remated_more (forest_of c.args.self.now) (forest_of c.set_mate-in-Some.new.self) _ _ c.outermost-inner.result _ (remated_more (forest_of c.args.self.now) (forest_of c.loop-old.self) _ (forest_of c.loop-old.self).mate c.loop-old.at _ c.loop-old.invariant.seen c.set_mate-in-Some.ensures.seen) c.set_mate-in-Some-2.ensures.seen);
-    same = same_nest _ _ _ c.loop-old.invariant.same (same_nest _ _ _ c.set_mate-in-Some.ensures.same c.set_mate-in-Some-2.ensures.same)
-  }
+  way = way_goes_on (graph c.args.g.now) c.args.self.now c.args.start (forest_of c.loop-old.self).mate c.loop-old.at c.loop-old.next c.loop-old.invariant.way c.in-Some.old c.outermost-inner.result c.link-up.result c.outermost-at-in-Some.result c.twin-next.result _ (sym c.mate.ensures ∙ c.in-Some.is) (c.outermost-inner.ensures.value ∙ (out_same (forest_of c.args.self.now) _ _ c.near-in-Some.result (remated_more (forest_of c.args.self.now) (forest_of c.loop-old.self) _ (forest_of c.loop-old.self).mate c.loop-old.at _ c.loop-old.invariant.seen c.set_mate-in-Some.ensures.seen) ∙ ap (forest_of c.args.self.now).out (c.near-in-Some.ensures ∙ ap (darts_of (graph c.args.g.now)).near c.twin-in-Some.ensures))) (c.link-up.ensures ∙ link_same (forest_of c.args.self.now) _ _ c.outermost-inner.result (remated_more (forest_of c.args.self.now) (forest_of c.loop-old.self) _ (forest_of c.loop-old.self).mate c.loop-old.at _ c.loop-old.invariant.seen c.set_mate-in-Some.ensures.seen)) (c.outermost-at-in-Some.ensures.value ∙ (out_same (forest_of c.args.self.now) _ _ c.near-in-Some-2.result (remated_more (forest_of c.args.self.now) (forest_of c.set_mate-in-Some.new.self) _ _ c.outermost-inner.result _ (remated_more (forest_of c.args.self.now) (forest_of c.loop-old.self) _ (forest_of c.loop-old.self).mate c.loop-old.at _ c.loop-old.invariant.seen c.set_mate-in-Some.ensures.seen) c.set_mate-in-Some-2.ensures.seen) ∙ ap (forest_of c.args.self.now).out (c.near-in-Some-2.ensures ∙ ap (darts_of (graph c.args.g.now)).near c.twin-in-Some-2.ensures))) c.twin-next.ensures (ap (λ (f : Forest). f.mate) (remated_more (forest_of c.args.self.now) (forest_of c.set_mate-in-Some.new.self) _ _ c.outermost-inner.result _ (remated_more (forest_of c.args.self.now) (forest_of c.loop-old.self) _ (forest_of c.loop-old.self).mate c.loop-old.at _ c.loop-old.invariant.seen c.set_mate-in-Some.ensures.seen) c.set_mate-in-Some-2.ensures.seen));
+  seen = seen_own c.args.self.now c.set_mate-in-Some-2.new.self _ (remated_more (forest_of c.args.self.now) (forest_of c.set_mate-in-Some.new.self) _ _ c.outermost-inner.result _ (remated_more (forest_of c.args.self.now) (forest_of c.loop-old.self) _ (forest_of c.loop-old.self).mate c.loop-old.at _ c.loop-old.invariant.seen c.set_mate-in-Some.ensures.seen) c.set_mate-in-Some-2.ensures.seen);
+  same = same_nest _ _ _ c.loop-old.invariant.same (same_nest _ _ _ c.set_mate-in-Some.ensures.same c.set_mate-in-Some-2.ensures.same);
+}
 
 pub set_mate-requires-2 : goal.set_mate-requires-2
 set_mate-requires-2 c = subst (λ (xs : List ℕ). c.loop-old.at < length xs) (sym c.loop-old.invariant.same.up) (way_low (graph c.args.g.now) c.args.self.now c.args.start (forest_of c.loop-old.self).mate c.loop-old.at c.loop-old.next c.loop-old.invariant.way)

@@ -72,9 +72,9 @@ invariant_of-self c =
     let d : to_z w128 (of_z w128 c.self.inside.delta) ≡ c.self.inside.delta = kept_in_bits c.self.inside.delta (omega (arith, delta_small _ _ _ c.self.invariant)) in
     let l_is : c.label_of.result ≡ label_at c.self.inside.label.items (out_of c.self.inside.hand.items c.self.inside.top.items c.args.v) = cc in
     let base_is : to_z w128 (of_z w128 c.exchanged-base.result) +ℤ change c.args.label c.self.inside.delta ≡ get_or c.self.inside.base.items (out_of c.self.inside.hand.items c.self.inside.top.items c.args.v) (pos 0) +ℤ change (label_at c.self.inside.label.items (out_of c.self.inside.hand.items c.self.inside.top.items c.args.v)) c.self.inside.delta =
-        exchanged_is c.deref-5.result.now c.self.inside.base.items c.top_of-b.result _ c.label_of.result _ c.args.label _ _ c.shift_at-before.result c.shift_at-after.result _ c.deref-5.ensures.value b_is c.shift_at-before.ensures.value l_is c.shift_at-after.ensures.value d (omega (arith, ints, c.exchanged-base.ensures.value, c.exchanged-base.ensures.small, c.shift_at-before.ensures.small, c.shift_at-after.ensures.small)) in
+    exchanged_is c.deref-5.result.now c.self.inside.base.items c.top_of-b.result _ c.label_of.result _ c.args.label _ _ c.shift_at-before.result c.shift_at-after.result _ c.deref-5.ensures.value b_is c.shift_at-before.ensures.value l_is c.shift_at-after.ensures.value d (omega (arith, ints, c.exchanged-base.ensures.value, c.exchanged-base.ensures.small, c.shift_at-before.ensures.small, c.shift_at-after.ensures.small)) in
     let off_is : to_z w128 (of_z w128 c.exchanged-off.result) +ℤ change c.args.label c.self.inside.delta ≡ get_or c.self.inside.off.items (get_or c.self.inside.hand.items c.args.v 0) (pos 0) +ℤ change (label_at c.self.inside.label.items (out_of c.self.inside.hand.items c.self.inside.top.items c.args.v)) c.self.inside.delta =
-        exchanged_is c.deref-6.result.now c.self.inside.off.items c.hand_of-handle.result _ c.label_of.result _ c.args.label _ _ c.shift_at-before.result c.shift_at-after.result _ c.deref-6.ensures.value h_is c.shift_at-before.ensures.value l_is c.shift_at-after.ensures.value d (omega (arith, ints, c.exchanged-off.ensures.value, c.exchanged-off.ensures.small, c.shift_at-before.ensures.small, c.shift_at-after.ensures.small)) in
+    exchanged_is c.deref-6.result.now c.self.inside.off.items c.hand_of-handle.result _ c.label_of.result _ c.args.label _ _ c.shift_at-before.result c.shift_at-after.result _ c.deref-6.ensures.value h_is c.shift_at-before.ensures.value l_is c.shift_at-after.ensures.value d (omega (arith, ints, c.exchanged-off.ensures.value, c.exchanged-off.ensures.small, c.shift_at-before.ensures.small, c.shift_at-after.ensures.small)) in
     tied_label_at _ _ _ c.self.invariant c.args.v low c.args.label _ _ _ _ b_is h_is base_is off_is
 
 pub returns-clause-seen : goal.returns-clause-seen
@@ -85,7 +85,7 @@ returns-clause-seen c =
     let d : to_z w128 (of_z w128 c.self.inside.delta) ≡ c.self.inside.delta = kept_in_bits c.self.inside.delta (omega (arith, delta_small _ _ _ c.self.invariant)) in
     let l_is : c.label_of.result ≡ label_at c.self.inside.label.items (out_of c.self.inside.hand.items c.self.inside.top.items c.args.v) = cc in
     let base_is : to_z w128 (of_z w128 c.exchanged-base.result) +ℤ change c.args.label c.self.inside.delta ≡ get_or c.self.inside.base.items (out_of c.self.inside.hand.items c.self.inside.top.items c.args.v) (pos 0) +ℤ change (label_at c.self.inside.label.items (out_of c.self.inside.hand.items c.self.inside.top.items c.args.v)) c.self.inside.delta =
-        exchanged_is c.deref-5.result.now c.self.inside.base.items c.top_of-b.result _ c.label_of.result _ c.args.label _ _ c.shift_at-before.result c.shift_at-after.result _ c.deref-5.ensures.value b_is c.shift_at-before.ensures.value l_is c.shift_at-after.ensures.value d (omega (arith, ints, c.exchanged-base.ensures.value, c.exchanged-base.ensures.small, c.shift_at-before.ensures.small, c.shift_at-after.ensures.small)) in
+    exchanged_is c.deref-5.result.now c.self.inside.base.items c.top_of-b.result _ c.label_of.result _ c.args.label _ _ c.shift_at-before.result c.shift_at-after.result _ c.deref-5.ensures.value b_is c.shift_at-before.ensures.value l_is c.shift_at-after.ensures.value d (omega (arith, ints, c.exchanged-base.ensures.value, c.exchanged-base.ensures.small, c.shift_at-before.ensures.small, c.shift_at-after.ensures.small)) in
     let off_is : to_z w128 (of_z w128 c.exchanged-off.result) +ℤ change c.args.label c.self.inside.delta ≡ get_or c.self.inside.off.items (get_or c.self.inside.hand.items c.args.v 0) (pos 0) +ℤ change (label_at c.self.inside.label.items (out_of c.self.inside.hand.items c.self.inside.top.items c.args.v)) c.self.inside.delta =
-        exchanged_is c.deref-6.result.now c.self.inside.off.items c.hand_of-handle.result _ c.label_of.result _ c.args.label _ _ c.shift_at-before.result c.shift_at-after.result _ c.deref-6.ensures.value h_is c.shift_at-before.ensures.value l_is c.shift_at-after.ensures.value d (omega (arith, ints, c.exchanged-off.ensures.value, c.exchanged-off.ensures.small, c.shift_at-before.ensures.small, c.shift_at-after.ensures.small)) in
+    exchanged_is c.deref-6.result.now c.self.inside.off.items c.hand_of-handle.result _ c.label_of.result _ c.args.label _ _ c.shift_at-before.result c.shift_at-after.result _ c.deref-6.ensures.value h_is c.shift_at-before.ensures.value l_is c.shift_at-after.ensures.value d (omega (arith, ints, c.exchanged-off.ensures.value, c.exchanged-off.ensures.small, c.shift_at-before.ensures.small, c.shift_at-after.ensures.small)) in
     seen_label_at _ _ _ c.self.invariant c.args.v low c.args.label _ _ _ b_is base_is off_is ∙ ap (λ (t : ForestTables). labelled (forest_of t) (out_of t.hand t.top c.args.v) c.args.label) c.self.view_is

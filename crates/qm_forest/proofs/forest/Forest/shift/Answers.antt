@@ -19,7 +19,7 @@ pub invariant_of-self : goal.invariant_of-self
 invariant_of-self c =
     let w : (r : ℕ) × (c.self.inside.root ≡ Some r) = some_of c.self.inside.root (cc) in
     tied_shift _ _ _ c.self.invariant (graph c.args.g.now) c.requires.graph.graph (subst (λ (t : ForestTables). IsValidFor (graph c.args.g.now) t) (sym c.self.view_is) c.requires.valid) w.0 w.1 c.args.t _ (omega (arith, ints, delta_small _ _ _ c.self.invariant, c.from.ensures, c.ranges.t)) c.requires.positive
-      (subst (λ (t : ForestTables). (b : ℕ) → unsigned_abs ((shifted (forest_of t) c.args.t).weight b) ≤ 2 ^ 62) (sym c.self.view_is) c.requires.small)
+    (subst (λ (t : ForestTables). (b : ℕ) → unsigned_abs ((shifted (forest_of t) c.args.t).weight b) ≤ 2 ^ 62) (sym c.self.view_is) c.requires.small)
 
 pub returns-then-is_some-clause-changed : goal.returns-then-is_some-clause-changed
 returns-then-is_some-clause-changed c = seen_shift_tied _ _ _ c.self.invariant c.args.t _ (omega (arith, ints, delta_small _ _ _ c.self.invariant, c.from.ensures, c.ranges.t)) ∙ ap (λ (t : ForestTables). shifted (forest_of t) c.args.t) c.self.view_is

@@ -5,9 +5,9 @@ use Rattle.def_forest.specs.Darts.{Dart, Darts, AreDarts, darts_of, far}
 use Rattle.def_forest.specs.Forests.{Blossom, Forest, IsOutermost, set_at, dual_sum_of, vertices_in}
 use Rattle.def_forest.specs.Steps.{shifted, rooted, grown, with_mates, IsAugmented}
 use Rattle.def_forest.specs.Valid.{IsFeasible, IsNested, IsTree, IsValid}
-use Rattle.forest_laws.specs.Opened.{Opening, IsOpening, IsOpened}
-use Rattle.forest_laws.specs.Shrunk.{IsUnused, IsCycle, IsClosedRow, IsShrunk}
-use Rattle.forest_laws.specs.Ways.{Reaches, IsAlmost}
+use Rattle.def_forest.specs.Opened.{Opening, IsOpening, IsOpened}
+use Rattle.def_forest.specs.Shrunk.{IsUnused, IsCycle, IsClosedRow, IsShrunk}
+use Rattle.def_forest.specs.Ways.{Reaches, IsAlmost}
 
 -- A shift whose end is feasible keeps a forest valid.
 abbrev pub ShiftLaw : Type 0
