@@ -62,6 +62,12 @@ module _ (t : ForestTables) (q off : List ℤ) (tied : AreTied t q off) (outside
     size_label = tied.size_label;
     size_mate = tied.size_mate;
     size_link = tied.size_link;
+    size_rank = tied.size_rank;
+    size_after = tied.size_after;
+    size_joint = tied.size_joint;
+    size_head = tied.size_head;
+    size_parts = tied.size_parts;
+    ups = tied.ups;
     climb = tied.climb;
     potentials = λ v l. potential_same v ∙ (tied.potentials v l ∙ ap (λ (x : ℤ). get_or q v (pos 0) +ℤ x) (sym (added_same v)));
     small = λ b. subst (λ (x : ℤ). unsigned_abs x ≤ 2 ^ 62) (sym (weight_same b)) (tied.small b);

@@ -1,3 +1,4 @@
+pub mod Apart
 pub mod EdgeKinds
 pub mod Forgets
 pub mod OnWays

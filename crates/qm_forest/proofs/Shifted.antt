@@ -84,6 +84,12 @@ module _ (t : ForestTables) (q off : List ℤ) (tied : AreTied t q off) (g : Gra
     size_label = tied.size_label;
     size_mate = tied.size_mate;
     size_link = tied.size_link;
+    size_rank = tied.size_rank;
+    size_after = tied.size_after;
+    size_joint = tied.size_joint;
+    size_head = tied.size_head;
+    size_parts = tied.size_parts;
+    ups = tied.ups;
     climb = tied.climb;
     potentials = potentials;
     small = λ b. subst (λ (f : Forest). unsigned_abs (f.weight b) ≤ 2 ^ 62) (sym (seen_shift t s d d_is)) (small b);

@@ -136,6 +136,12 @@ module _ (t : ForestTables) (q off : List ℤ) (tied : AreTied t q off) (v : ℕ
     size_label = length-set t.label (out_of t.hand t.top v) l ∙ tied.size_label;
     size_mate = tied.size_mate;
     size_link = tied.size_link;
+    size_rank = tied.size_rank;
+    size_after = tied.size_after;
+    size_joint = tied.size_joint;
+    size_head = tied.size_head;
+    size_parts = tied.size_parts;
+    ups = tied.ups;
     climb = tied.climb;
     potentials = λ u lu. potential_same u ∙ (tied.potentials u lu ∙ ap (λ (z : ℤ). get_or q u (pos 0) +ℤ z) (sym (added_same u lu)));
     small = λ k. subst (λ (z : ℤ). unsigned_abs z ≤ 2 ^ 62) (sym (weight_same k)) (tied.small k);

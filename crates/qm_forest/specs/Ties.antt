@@ -5,9 +5,9 @@ use Rattle.def_matching.specs.Matching.{Vertex, Graph}
 use Rattle.def_forest.specs.Darts.{darts_of}
 use Rattle.def_forest.specs.Valid.{IsTree}
 use Rattle.def_forest.specs.Ways.{IsAlmost}
-use Rattle.def_forest.specs.Forests.{Blossom, Forest, walk, set_at, dual_sum_of}
+use Rattle.def_forest.specs.Forests.{Blossom, Forest, splits, walk, set_at, dual_sum_of}
 use Rattle.def_forest.specs.Steps.{change}
-use Rattle.def_forest.specs.Tables.{ForestTables, forest_of, out_of, label_at, IsOutermostIn, IsMatchable, IsValidFor}
+use Rattle.def_forest.specs.Tables.{ForestTables, forest_of, out_of, label_at, IsOutermostIn, climbs, IsMatchable, IsValidFor}
 use Rattle.def_forest.specs.declared.kinds.Label.{Label}
 use Rattle.def_forest.specs.declared.kinds.Label.TheVariants.{Outside}
 
@@ -40,6 +40,12 @@ pub record AreTied (t : ForestTables) (q off : List ℤ) : Type 0 where
   pub size_label : length t.label ≡ length t.up
   pub size_mate : length t.mate ≡ length t.up
   pub size_link : length t.link ≡ length t.up
+  pub size_rank : length t.rank ≡ length t.up
+  pub size_after : length t.after ≡ length t.up
+  pub size_joint : length t.joint ≡ length t.up
+  pub size_head : length t.head ≡ length t.up
+  pub size_parts : length t.parts ≡ length t.up
+  pub ups : (b : Blossom) → b < length t.up → slice_index t.up b < length t.up
   pub climb : IsClimb (length t.hand) (slice_index t.up) (out_of t.hand t.top)
   pub potentials : (v : Vertex) → v < length t.hand → potential (forest_of t) v ≡ told q t.hand t.top off t.label t.delta v
   pub small : (b : Blossom) → unsigned_abs ((forest_of t).weight b) ≤ 2 ^ 62
@@ -83,3 +89,17 @@ pub record IsOnWay (g : Graph) (t : ForestTables) (start : ℕ) (mate : Blossom 
   pub root : t.root ≡ Some top
   pub tree : IsTree (darts_of g) (forest_of t) top
   pub almost : IsAlmost (darts_of g) (forest_of t) tree.depth start mate a e
+
+-- What lies around just one of two blossoms: the weights of what one climbs past from the one and not from the other.
+abbrev pub apart : (n : ℕ) (up : ℕ → ℕ) (weight : ℕ → ℤ) (size : ℕ) (x y : Blossom) → ℤ
+apart n up weight size x y = total_below (λ b. if splits (climbs up n b) x y then weight b else pos 0) size
+
+-- One can climb from the two vertices, and ranks rise on the way; the numbers are small.
+pub record CanMeet (n : ℕ) (up rank : List ℕ) (base : List ℤ) (out : ℕ → ℕ) : Type 0 where
+  pub climb : IsClimb n (slice_index up) out
+  pub rises : (x : Blossom) → slice_index up x ≢ x → slice_index rank x < slice_index rank (slice_index up x)
+  pub vertices : n ≤ length up
+  pub few : length up ≤ 2 ^ 26
+  pub ups : (b : Blossom) → b < length up → slice_index up b < length up
+  pub size_rank : length rank ≡ length up
+  pub size_base : length base ≡ length up

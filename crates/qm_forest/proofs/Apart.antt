@@ -1,0 +1,177 @@
+-- Climbing from two vertices of one blossom until one meets: what is passed on the way is what lies around just one.
+use Rattle.std.proofs.Common.{◌≡◌, ◌≢◌, ℕ, zero, suc, ◌+◌, ◌-◌, ◌*◌, ◌<◌, ◌≤◌, ◌^◌, Bool, true, false, not, cond, eqb, ◌||◌, List, length, get_or, ℤ, pos, ◌+ℤ◌, ◌⊎◌, refl, sym, ◌∙◌, ap, subst, inl, inr, arith}
+use Rattle.std.specs.Prelude.{unsigned_abs}
+use Rattle.std.proofs.lemmas.Int.{ints}
+use Rattle.std.proofs.lemmas.Bool.{cases_eq, cases_lt, cases_Bool, cond-true, cond-false, eq-eqb, ne_eqb, eqb-true, eqb-false}
+use Rattle.def_math.specs.Sums.{total_below}
+use Rattle.qm_laws.proofs.Sums.{total_below_same, total_below_sum, total_below_one, total_below_none}
+use Rattle.def_forest.specs.Forests.{splits, walk}
+use Rattle.def_forest.specs.Tables.{climbs}
+use Rattle.forest_laws.proofs.Writes.{by_order, by_same}
+use Rattle.qm_forest.specs.Ties.{IsClimb, apart}
+use Rattle.qm_forest.proofs.Ranges.{sum_small}
+
+-- A walk in two parts.
+pub walk_sum : (f : ℕ → ℕ) (a i j : ℕ) → walk f a (i + j) ≡ walk f (walk f a i) j
+walk_sum f a i zero = let e : i + 0 ≡ i = omega arith in ap (walk f a) e
+walk_sum f a i (suc j) = let e : i + suc j ≡ suc (i + j) = omega arith in ap (walk f a) e ∙ ap f (walk_sum f a i j)
+
+-- Where one stays, one stays.
+pub walk_stays : (f : ℕ → ℕ) (a k : ℕ) → f a ≡ a → walk f a k ≡ a
+walk_stays f a zero e = refl
+walk_stays f a (suc k) e = ap f (walk_stays f a k e) ∙ e
+
+-- What is passed from where one is, or further on.
+or_first : (a b : Bool) → a ≡ false → (a || b) ≡ b
+or_first true b e = absurd (clash e)
+  where
+    clash : true ≡ false → ⊥
+    clash x = cc
+or_first false b e = refl
+
+or_true : (a b : Bool) → (a || b) ≡ true → (a ≡ true) ⊎ (b ≡ true)
+or_true true b e = inl refl
+or_true false b e = inr e
+
+or_on : (a b : Bool) → a ≡ true → (a || b) ≡ true
+or_on true b e = refl
+or_on false b e = absurd (clash e)
+  where
+    clash : false ≡ true → ⊥
+    clash x = cc
+
+or_twice : (a : Bool) → (a || a) ≡ a
+or_twice true = refl
+or_twice false = refl
+
+-- One step more passes nothing new where one has come to stay.
+climbs_last : (up : ℕ → ℕ) (m b y : ℕ) → up (walk up y m) ≡ walk up y m → climbs up (suc m) b y ≡ climbs up m b y
+climbs_last up zero b y e = ap (λ x. eqb y b || eqb x b) e ∙ or_twice (eqb y b)
+climbs_last up (suc m) b y e = ap (λ x. eqb y b || x) (climbs_last up m b (up y) (ap up (shifted y m) ∙ (e ∙ sym (shifted y m))))
+  where
+    shifted : (y m : ℕ) → walk up (up y) m ≡ walk up y (suc m)
+    shifted y zero = refl
+    shifted y (suc k) = ap up (shifted y k)
+
+module _ (n : ℕ) (up rank out : ℕ → ℕ) (climb : IsClimb n up out) (rises : (x : ℕ) → up x ≢ x → rank x < rank (up x)) where
+  -- One comes past a blossom only from below.
+  passed_rank : (k b from : ℕ) → climbs up k b from ≡ true → from ≢ b → rank from < rank b
+  passed_rank zero b from on ne = absurd (ne (eqb-true from b on))
+  passed_rank (suc k) b from on ne = by_or (or_true (eqb from b) (climbs up k b (up from)) on) (passed_rank k b (up from))
+    where
+      climbing : (up from ≡ b) ⊎ (up from ≢ b) → (climbs up k b (up from) ≡ true → up from ≢ b → rank (up from) < rank b) → climbs up k b (up from) ≡ true → rank from < rank b
+      climbing (inl e) more on' = subst (λ x. rank from < rank x) e (rises from (λ s. ne (sym s ∙ e)))
+      climbing (inr nb) more on' = by_step (cases_eq (up from) from) (more on' nb)
+        where
+          by_step : (up from ≡ from) ⊎ (up from ≢ from) → rank (up from) < rank b → rank from < rank b
+          by_step (inl s) l = subst (λ x. rank x < rank b) s l
+          by_step (inr ns) l = let h : rank from < rank (up from) = rises from ns in omega arith
+
+      by_or : (eqb from b ≡ true) ⊎ (climbs up k b (up from) ≡ true) → (climbs up k b (up from) ≡ true → up from ≢ b → rank (up from) < rank b) → rank from < rank b
+      by_or (inl e) more = absurd (ne (eqb-true from b e))
+      by_or (inr on') more = climbing (cases_eq (up from) b) more on'
+
+  rank_up : (x : ℕ) → rank x ≤ rank (up x)
+  rank_up x = elim (cases_eq (up x) x) [ inl e ↦ (let h : rank (up x) ≡ rank x = ap rank e in omega arith) | inr ne ↦ (let h : rank x < rank (up x) = rises x ne in omega arith) ]
+
+  rank_walk : (x k : ℕ) → rank x ≤ rank (walk up x k)
+  rank_walk x zero = omega arith
+  rank_walk x (suc k) = let h : rank (walk up x k) ≤ rank (up (walk up x k)) = rank_up (walk up x k) in omega (arith, rank_walk x k)
+
+  -- A blossom on the way from a vertex.
+  abbrev pub OnWayFrom : ℕ → ℕ → Type 0
+  OnWayFrom v x = (i : ℕ) × (walk up v i ≡ x)
+
+  -- Climbing further one comes to the outermost blossom.
+  comes_out : (v x : ℕ) → v < n → OnWayFrom v x → walk up x n ≡ out v
+  comes_out v x l w =
+      let order : w.0 + n ≡ n + w.0 = omega arith in
+      ap (λ y. walk up y n) (sym w.1) ∙ (sym (walk_sum up v w.0 n) ∙ (ap (walk up v) order ∙ (walk_sum up v n w.0 ∙ (ap (λ y. walk up y w.0) (climb.ends v l) ∙ walk_stays up (out v) w.0 (climb.tops v l)))))
+
+  pub rank_low : (v x : ℕ) → v < n → OnWayFrom v x → rank x ≤ rank (out v)
+  rank_low v x l w = subst (λ y. rank x ≤ rank y) (comes_out v x l w) (rank_walk x n)
+
+  -- Where one stays is the outermost blossom.
+  fixed_top : (v x : ℕ) → v < n → OnWayFrom v x → up x ≡ x → x ≡ out v
+  fixed_top v x l w e = sym (walk_stays up x n e) ∙ comes_out v x l w
+
+  pub goes_on : (v x : ℕ) → OnWayFrom v x → OnWayFrom v (up x)
+  goes_on v x w = (suc w.0, ap up w.1)
+
+  -- Of two blossoms on the ways, the lower can climb.
+  pub can_climb : (u v x y : ℕ) → u < n → v < n → out u ≡ out v → OnWayFrom u x → OnWayFrom v y → x ≢ y → rank x ≤ rank y → up x ≢ x
+  can_climb u v x y lu lv same wx wy ne le fixed = by_top (cases_eq (up y) y)
+    where
+      x_top : x ≡ out u
+      x_top = fixed_top u x lu wx fixed
+
+      by_top : (up y ≡ y) ⊎ (up y ≢ y) → ⊥
+      by_top (inl fy) = ne (x_top ∙ (same ∙ sym (fixed_top v y lv wy fy)))
+      by_top (inr ny) =
+          let h : rank y < rank (up y) = rises y ny in
+          let top : rank (up y) ≤ rank (out v) = rank_low v (up y) lv (goes_on v y wy) in
+          let e : rank x ≡ rank (out v) = ap rank (x_top ∙ same) in
+          omega arith
+
+  -- What is passed from a blossom: itself, and what is passed from the one around it.
+  climbs_step : (v x b : ℕ) → v < n → OnWayFrom v x → climbs up n b x ≡ (eqb x b || climbs up n b (up x))
+  climbs_step v x b l w = by_size n refl
+    where
+      by_size : (m : ℕ) → n ≡ m → climbs up n b x ≡ (eqb x b || climbs up n b (up x))
+      by_size zero e = absurd (omega (arith, e, l))
+      by_size (suc m) e =
+          let fuel : climbs up n b x ≡ (eqb x b || climbs up m b (up x)) = ap (λ k. climbs up k b x) e in
+          let here : walk up (up x) m ≡ walk up x n = shift x m ∙ ap (walk up x) (sym e) in
+          let top : up (walk up (up x) m) ≡ walk up (up x) m = ap up (here ∙ comes_out v x l w) ∙ (climb.tops v l ∙ sym (here ∙ comes_out v x l w)) in
+          fuel ∙ ap (λ (s : Bool). eqb x b || s) (sym (climbs_last up m b (up x) top) ∙ ap (λ k. climbs up k b (up x)) (sym e))
+        where
+          shift : (y k : ℕ) → walk up (up y) k ≡ walk up y (suc k)
+          shift y zero = refl
+          shift y (suc k) = ap up (shift y k)
+
+  module _ (weight : ℕ → ℤ) (size : ℕ) (u v x y : ℕ) (lu : u < n) (wx : OnWayFrom u x) (ne : x ≢ y) (le : rank x ≤ rank y) (inner : up x ≢ x) (low : x < size) where
+    not_from_y : climbs up n x y ≡ false
+    not_from_y = elim (cases_Bool (climbs up n x y)) [ inl on ↦ (let h : rank y < rank x = passed_rank n x y on (λ e. ne (sym e)) in absurd (omega arith)) | inr off ↦ off ]
+
+    not_further : climbs up n x (up x) ≡ false
+    not_further = elim (cases_Bool (climbs up n x (up x))) [ inl on ↦ (let h : rank (up x) < rank x = passed_rank n x (up x) on inner in let r : rank x < rank (up x) = rises x inner in absurd (omega arith)) | inr off ↦ off ]
+
+    here_true : climbs up n x x ≡ true
+    here_true = climbs_step u x x lu wx ∙ or_on (eqb x x) (climbs up n x (up x)) (eq-eqb x x refl)
+
+    term : (b : ℕ) → cond (splits (climbs up n b) x y) (weight b) (pos 0) ≡ cond (splits (climbs up n b) (up x) y) (weight b) (pos 0) +ℤ cond (eqb b x) (weight x) (pos 0)
+    term b = by_place (cases_eq b x)
+      where
+        by_place : (b ≡ x) ⊎ (b ≢ x) → cond (splits (climbs up n b) x y) (weight b) (pos 0) ≡ cond (splits (climbs up n b) (up x) y) (weight b) (pos 0) +ℤ cond (eqb b x) (weight x) (pos 0)
+        by_place (inl e) =
+            subst (λ k. cond (splits (climbs up n k) x y) (weight k) (pos 0) ≡ cond (splits (climbs up n k) (up x) y) (weight k) (pos 0) +ℤ cond (eqb k x) (weight x) (pos 0)) (sym e)
+            (let left : cond (splits (climbs up n x) x y) (weight x) (pos 0) ≡ weight x = ap (λ (s : Bool). cond (cond s (not (climbs up n x y)) (climbs up n x y)) (weight x) (pos 0)) here_true ∙ ap (λ (s : Bool). cond (not s) (weight x) (pos 0)) not_from_y in
+            let right : cond (splits (climbs up n x) (up x) y) (weight x) (pos 0) ≡ pos 0 = ap (λ (s : Bool). cond (cond s (not (climbs up n x y)) (climbs up n x y)) (weight x) (pos 0)) not_further ∙ ap (λ (s : Bool). cond s (weight x) (pos 0)) not_from_y in
+            let one : cond (eqb x x) (weight x) (pos 0) ≡ weight x = cond-true (eqb x x) (weight x) (pos 0) (eq-eqb x x refl) in
+            omega (arith, ints, left, right, one))
+        by_place (inr nb) =
+            let same : climbs up n b x ≡ climbs up n b (up x) = climbs_step u x b lu wx ∙ or_first (eqb x b) (climbs up n b (up x)) (ne_eqb x b (λ e. nb (sym e))) in
+            let left : cond (splits (climbs up n b) x y) (weight b) (pos 0) ≡ cond (splits (climbs up n b) (up x) y) (weight b) (pos 0) = ap (λ (s : Bool). cond (cond s (not (climbs up n b y)) (climbs up n b y)) (weight b) (pos 0)) same in
+            let none : cond (eqb b x) (weight x) (pos 0) ≡ pos 0 = cond-false (eqb b x) (weight x) (pos 0) (ne_eqb b x nb) in
+            omega (arith, ints, left, none)
+
+    -- The lower climbs: its weight is passed.
+    pub apart_step : apart n up weight size x y ≡ apart n up weight size (up x) y +ℤ weight x
+    apart_step =
+        let same : apart n up weight size x y ≡ total_below (λ b. cond (splits (climbs up n b) (up x) y) (weight b) (pos 0) +ℤ cond (eqb b x) (weight x) (pos 0)) size = total_below_same (λ b. cond (splits (climbs up n b) x y) (weight b) (pos 0)) (λ b. cond (splits (climbs up n b) (up x) y) (weight b) (pos 0) +ℤ cond (eqb b x) (weight x) (pos 0)) size (λ b l. term b) in
+        let one : total_below (λ b. cond (eqb b x) (weight x) (pos 0)) size ≡ weight x = total_below_one (λ b. cond (eqb b x) (weight x) (pos 0)) size x low (λ k l nk. cond-false (eqb k x) (weight x) (pos 0) (ne_eqb k x nk)) ∙ cond-true (eqb x x) (weight x) (pos 0) (eq-eqb x x refl) in
+        omega (arith, ints, same, total_below_sum (λ b. cond (splits (climbs up n b) (up x) y) (weight b) (pos 0)) (λ b. cond (eqb b x) (weight x) (pos 0)) size, one)
+
+-- It is the same in either order, nothing where one has met, and small.
+pub apart_order : (n : ℕ) (up : ℕ → ℕ) (weight : ℕ → ℤ) (size x y : ℕ) → apart n up weight size x y ≡ apart n up weight size y x
+apart_order n up weight size x y = total_below_same (λ b. cond (splits (climbs up n b) x y) (weight b) (pos 0)) (λ b. cond (splits (climbs up n b) y x) (weight b) (pos 0)) size (λ b l. ap (λ (p : Bool). cond p (weight b) (pos 0)) (by_order (climbs up n b x) (climbs up n b y)))
+
+pub apart_met : (n : ℕ) (up : ℕ → ℕ) (weight : ℕ → ℤ) (size x y : ℕ) → x ≡ y → apart n up weight size x y ≡ pos 0
+apart_met n up weight size x y e = total_below_none (λ b. cond (splits (climbs up n b) x y) (weight b) (pos 0)) size (λ b l. by_same (climbs up n b x) (climbs up n b y) (weight b) (ap (climbs up n b) e))
+
+pub apart_small : (n : ℕ) (up : ℕ → ℕ) (weight : ℕ → ℤ) (size x y : ℕ) → ((b : ℕ) → unsigned_abs (weight b) ≤ 2 ^ 62) → unsigned_abs (apart n up weight size x y) ≤ size * 2 ^ 62
+apart_small n up weight size x y small = sum_small (λ b. cond (splits (climbs up n b) x y) (weight b) (pos 0)) size (λ b l. by_test (splits (climbs up n b) x y) b)
+  where
+    by_test : (c : Bool) (b : ℕ) → unsigned_abs (cond c (weight b) (pos 0)) ≤ 2 ^ 62
+    by_test true b = small b
+    by_test false b = omega (arith, ints)
