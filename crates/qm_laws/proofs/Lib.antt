@@ -5,3 +5,4 @@ pub mod Filters
 pub mod Searches
 pub mod Sums
 pub mod Runs
+pub mod Tallies

@@ -15,3 +15,4 @@ pub mod EdgeDarts
 pub mod Spokes
 pub mod Undoubled
 pub mod Doubling
+pub mod EdgeNumbers
