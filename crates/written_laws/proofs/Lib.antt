@@ -16,3 +16,5 @@ pub mod Spokes
 pub mod Undoubled
 pub mod Doubling
 pub mod EdgeNumbers
+pub mod Models
+pub mod ModelCounts

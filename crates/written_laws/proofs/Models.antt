@@ -1,0 +1,111 @@
+-- Lists of faces whose darts are those of the cells of a layout: the new faces, and the old ones at the old lengths.
+use Rattle.std.proofs.Common.{◌≡◌, ◌⊎◌, ℕ, ◌+◌, ◌-◌, ◌*◌, ◌/◌, ◌%◌, ◌<◌, Bool, true, List, [], length, get_or, Some, None, refl, sym, ◌∙◌, ap, subst, inl, inr, arith}
+use Rattle.std.specs.Prelude.{◌==◌}
+use Rattle.std.specs.List.{list_any, Any}
+use Rattle.std.proofs.lemmas.Bool.{eqb-true, eq-eqb}
+use Rattle.std.proofs.lemmas.List.{get_or_default}
+use Rattle.std.proofs.lemmas.List.Folds.{list_any_at, Any-from_list_any}
+use Rattle.std.proofs.lemmas.List.FromFn.{get_or-map-range_with_len}
+use Rattle.def_mesh.specs.Faces.{Face, Faces, face_at, corner}
+use Rattle.def_mesh.specs.Darts.{darts, next_of, from_of, twin_of}
+use Rattle.def_mesh.specs.Vertices.{is_used}
+use Rattle.def_layout.specs.declared.tmesh.SideArc.{SideArc}
+use Rattle.def_layout.specs.Layouts.{south, Layout, Slot, IsSlot, use_of, start_of}
+use Rattle.def_layout.specs.Laid.{IsLaid}
+use Rattle.def_layout.specs.Lengths.{Lengths, AreLengths}
+use Rattle.def_layout.specs.Cells.{Dart, IsDart, dart, next, rim_at}
+use Rattle.def_written.specs.Points.{Point, node, along, inside, IsPoint, use_point}
+use Rattle.def_written.specs.Numbers.{number}
+use Rattle.def_written.specs.NewFaces.{from, new_face, face_count, new_faces}
+use Rattle.written_laws.proofs.Sides.{use_begins, arc_inner, use_some}
+use Rattle.written_laws.proofs.Grid.{point_inside}
+use Rattle.written_laws.proofs.Numbers.{number_same}
+use Rattle.written_laws.proofs.Borders.{at_is, at_from, from_is}
+use Rattle.written_laws.proofs.NewDarts.{dart_number, dart_low, dart_same, at_number, next_number, number_from, faces_long}
+use Rattle.written_laws.proofs.Courses.{IsAcross}
+use Rattle.written_laws.proofs.Simple.{IsSimple}
+use Rattle.written_laws.proofs.Across.{across_or_alone, across_twin, alone_no_twin, IsAlone}
+
+-- Dart `cell d` is that of d. Darts leave one vertex where those of the cells leave one point, and have as twin that of
+-- the dart across.
+pub record IsModel (F : Faces) (l : Layout) (x : Lengths) (laid : IsLaid l) (len : AreLengths l x) (cell : Dart → ℕ) : Type 0 where
+  pub quads : (f : ℕ) → f < length F → length (face_at F f) ≡ 4
+  pub low : (d : Dart) → IsDart l x d → cell d < darts F
+  pub same : (d e : Dart) → IsDart l x d → IsDart l x e → cell d ≡ cell e → d ≡ e
+  pub onto : (k : ℕ) → k < darts F → (d : Dart) × IsDart l x d × (cell d ≡ k)
+  pub turned : (d : Dart) → IsDart l x d → cell (next d) ≡ next_of (cell d)
+  pub alike : (d e : Dart) → IsDart l x d → IsDart l x e → from l x d ≡ from l x e → from_of F (cell d) ≡ from_of F (cell e)
+  pub apart : (d e : Dart) → IsDart l x d → IsDart l x e → from_of F (cell d) ≡ from_of F (cell e) → from l x d ≡ from l x e
+  pub across : (d e : Dart) → IsDart l x d → IsAcross l x laid len d e → twin_of F (cell d) ≡ Some (cell e)
+  pub alone : (d : Dart) → IsDart l x d → ((e : Dart) → ¬ IsAcross l x laid len d e) → twin_of F (cell d) ≡ None
+
+-- A vertex that is used is left by a dart.
+pub used_dart : (F : Faces) (v : ℕ) → ((f : ℕ) → f < length F → length (face_at F f) ≡ 4) → is_used F v ≡ true
+    → (d : ℕ) × (d < darts F) × (from_of F d ≡ v)
+used_dart F v quads used = by_face (Any-from_list_any (λ face. list_any (λ u. u == v) face) F used)
+  where
+    by_corner : (f : ℕ) → f < length F → Any (λ u. (u == v) ≡ true) (get_or F f []) → (d : ℕ) × (d < darts F) × (from_of F d ≡ v)
+    by_corner f low (i, u, m, is, t) =
+        let four : length (get_or F f []) ≡ 4 = quads f low in
+        let face : (4 * f + i) / 4 ≡ f = omega arith in
+        let place : (4 * f + i) % 4 ≡ i = omega arith in
+        (4 * f + i, omega arith,
+            (λ r. corner F (face r) (place r)) ∙ get_or_default (get_or F f []) i 0 u m ∙ is ∙ eqb-true u v t)
+
+    by_face : Any (λ face. list_any (λ u. u == v) face ≡ true) F → (d : ℕ) × (d < darts F) × (from_of F d ≡ v)
+    by_face (f, face, low, is, t) =
+        by_corner f low (Any-from_list_any (λ u. u == v) (get_or F f [])
+            (subst (λ (g : Face). list_any (λ u. u == v) g ≡ true) (sym (get_or_default F f [] face low ∙ is)) t))
+
+-- A vertex that a dart leaves is used.
+pub dart_used : (F : Faces) (d : ℕ) → ((f : ℕ) → f < length F → length (face_at F f) ≡ 4) → d < darts F
+    → is_used F (from_of F d) ≡ true
+dart_used F d quads low =
+    let f_low : d / 4 < length F = omega arith in
+    list_any_at (λ face. list_any (λ u. u == from_of F d) face) F (d / 4) [] f_low
+        (list_any_at (λ u. u == from_of F d) (face_at F (d / 4)) (d % 4) 0 (omega (arith, quads (d / 4) f_low)) (eq-eqb (from_of F d) (from_of F d) refl))
+
+module _ (l : Layout) (x : Lengths) (laid : IsLaid l) (len : AreLengths l x) where
+  -- Each point is left by a dart.
+  pub point_dart : (a : Point) → IsPoint l x a → (d : Dart) × IsDart l x d × (from l x d ≡ a)
+  point_dart (node n) is =
+      let r : (w : Slot) × IsSlot l w × (start_of l (use_of l w) ≡ n) = laid.reached n is in
+      let some : 0 < x (use_of l r.0).arc = use_some l x laid.paved len r.0 r.1 in
+      (rim_at l x r.0 0, at_is l x laid.paved len r.0 0 r.1 some,
+          at_from l x laid len r.0 0 r.1 some ∙ use_begins l x (use_of l r.0) some ∙ ap node r.2)
+  point_dart (along a k) is =
+      let f : (w : Slot) × IsSlot l w × (use_of l w ≡ record { arc = a; forward = true }) = laid.forward a is.0 in
+      let long : x (use_of l f.0).arc ≡ x a = ap (λ (u : SideArc). x u.arc) f.2 in
+      let less : k < x (use_of l f.0).arc = omega (arith, is.2) in
+      (rim_at l x f.0 k, at_is l x laid.paved len f.0 k f.1 less,
+          at_from l x laid len f.0 k f.1 less ∙ ap (λ (u : SideArc). use_point l x u k) f.2 ∙ arc_inner l x a k is.1 is.2)
+  point_dart (inside p i j) is =
+      (dart p i j south, record { patch_low = is.0; i_low = is.2; j_low = is.4 }, point_inside l x laid len p i j is.1 is.2 is.3 is.4)
+
+  -- The new faces are a model.
+  pub new_quads : (f : ℕ) → f < length (new_faces l x) → length (face_at (new_faces l x) f) ≡ 4
+  new_quads f low =
+      ap (λ (face : Face). length face)
+          (get_or-map-range_with_len (new_face l x) 0 (face_count l x) f f [] (omega (arith, faces_long l x)) (omega arith))
+
+  pub new_model : IsSimple l x → IsModel (new_faces l x) l x laid len (dart_number l x)
+  new_model simple = record {
+    quads = new_quads;
+    low = dart_low l x;
+    same = dart_same l x;
+    onto = at_number l x laid len;
+    turned = λ d is. sym (next_number l x d);
+    alike = λ d e is_d is_e s. number_from l x d is_d ∙ ap (number l x) s ∙ sym (number_from l x e is_e);
+    apart = λ d e is_d is_e s. number_same l x (from l x d) (from l x e) (from_is l x laid len d is_d) (from_is l x laid len e is_e)
+        (sym (number_from l x d is_d) ∙ s ∙ number_from l x e is_e);
+    across = across_twin l x laid len simple;
+    alone = alone;
+  }
+    where
+      alone : (d : Dart) → IsDart l x d → ((e : Dart) → ¬ IsAcross l x laid len d e) → twin_of (new_faces l x) (dart_number l x d) ≡ None
+      alone d is none = by_case (across_or_alone l x laid len d is)
+        where
+          by_case : ((e : Dart) × IsAcross l x laid len d e) ⊎ ((w : Slot) × (o : ℕ) × IsAlone l x laid len d w o)
+              → twin_of (new_faces l x) (dart_number l x d) ≡ None
+          by_case (inl a) = absurd (none a.0 a.1)
+          by_case (inr a) = alone_no_twin l x laid len simple d a.0 a.1 is a.2
