@@ -18,3 +18,5 @@ pub mod Doubling
 pub mod EdgeNumbers
 pub mod Models
 pub mod ModelCounts
+pub mod Spots
+pub mod Inners

@@ -1,0 +1,184 @@
+-- The darts that leave a place of an arc: by slot, and whether they lie on its border or just behind.
+use Rattle.std.proofs.Common.{◌≡◌, ◌≢◌, ◌⊎◌, ℕ, zero, suc, ◌+◌, ◌-◌, ◌<◌, ◌≤◌, Bool, true, false, refl, sym, ◌∙◌, ap, subst, inl, inr, arith}
+use Rattle.def_layout.specs.Layouts.{Way, south, east, north, west, after, Layout, Slot, IsSlot, use_of}
+use Rattle.def_layout.specs.Laid.{IsPaved, IsLaid}
+use Rattle.def_layout.specs.Lengths.{Lengths, reach, size, wide, high, AreLengths}
+use Rattle.def_layout.specs.Cells.{Dart, IsDart, dart, next, rim, rim_at}
+use Rattle.def_written.specs.Points.{point, side_point, use_point}
+use Rattle.def_written.specs.NewFaces.{column, row, from}
+use Rattle.qm_laws.proofs.Runs.{place_same}
+use Rattle.written_laws.proofs.Sides.{slot, long_at, side_in, reach_low}
+use Rattle.written_laws.proofs.Grid.{wide_some, high_some}
+use Rattle.written_laws.proofs.Rims.{column_of, row_of, side_column, side_row, border_point, rim_is, rim_column, rim_row, rim_next_column, rim_next_row, rim_patch, rim_way}
+use Rattle.written_laws.proofs.Borders.{at_low, at_is, IsAt}
+use Rattle.written_laws.proofs.NewDarts.{next_is}
+
+no_turn : (s : Way) → s ≢ after s
+no_turn south e = cc
+no_turn east e = cc
+no_turn north e = cc
+no_turn west e = cc
+
+module _ (l : Layout) (x : Lengths) (paved : IsPaved l) (len : AreLengths l x) where
+  -- Places of sides that lie at one grid point are one.
+  pub place_once : (p : ℕ) (s r : Way) (t u : ℕ) → p < l.patches → t < size l x p s → u < size l x p r
+      → side_column l x p s t ≡ side_column l x p r u → side_row l x p s t ≡ side_row l x p r u → (s ≡ r) × (t ≡ u)
+  place_once p south south t u low t_low u_low c r = (refl, c)
+  place_once p south east t u low t_low u_low c r = absurd (omega (arith, c, t_low))
+  place_once p south north t u low t_low u_low c r = absurd (omega (arith, r, high_some l x paved len p low))
+  place_once p south west t u low t_low u_low c r = absurd (omega (arith, r, u_low))
+  place_once p east south t u low t_low u_low c r = absurd (omega (arith, c, u_low))
+  place_once p east east t u low t_low u_low c r = (refl, r)
+  place_once p east north t u low t_low u_low c r = absurd (omega (arith, r, t_low, len.upright p low))
+  place_once p east west t u low t_low u_low c r = absurd (omega (arith, c, wide_some l x paved len p low))
+  place_once p north south t u low t_low u_low c r = absurd (omega (arith, r, high_some l x paved len p low))
+  place_once p north east t u low t_low u_low c r = absurd (omega (arith, r, u_low, len.upright p low))
+  place_once p north north t u low t_low u_low c r = (refl, omega (arith, c, t_low, u_low, len.across p low))
+  place_once p north west t u low t_low u_low c r = absurd (omega (arith, c, t_low, len.across p low))
+  place_once p west south t u low t_low u_low c r = absurd (omega (arith, r, t_low))
+  place_once p west east t u low t_low u_low c r = absurd (omega (arith, c, wide_some l x paved len p low))
+  place_once p west north t u low t_low u_low c r = absurd (omega (arith, c, u_low, len.across p low))
+  place_once p west west t u low t_low u_low c r = (refl, omega (arith, r, t_low, u_low))
+
+  -- A dart that leaves a place of a side lies on the border, or is next to the border dart before.
+  border_dart : (p : ℕ) (s w : Way) (i j t : ℕ) → t < size l x p s → IsDart l x (dart p i j w)
+      → column i w ≡ side_column l x p s t → row j w ≡ side_row l x p s t
+      → (dart p i j w ≡ rim l x p s t) ⊎ ((0 < t) × (dart p i j w ≡ next (rim l x p s (t - 1))))
+  border_dart p south south i j t t_low is c r = inl (λ k. dart p (c k) (r k) south)
+  border_dart p south east i j t t_low is c r =
+      let a : i ≡ t - 1 = omega (arith, c) in inr (omega (arith, c), λ k. dart p (a k) (r k) east)
+  border_dart p south north i j t t_low is c r = absurd (omega (arith, r))
+  border_dart p south west i j t t_low is c r = absurd (omega (arith, r))
+  border_dart p east south i j t t_low is c r = absurd (omega (arith, c, is.i_low))
+  border_dart p east east i j t t_low is c r =
+      let a : i ≡ wide l x p - 1 = omega (arith, c) in inl (λ k. dart p (a k) (r k) east)
+  border_dart p east north i j t t_low is c r =
+      let a : i ≡ wide l x p - 1 = omega (arith, c) in
+      let b : j ≡ t - 1 = omega (arith, r) in
+      inr (omega (arith, r), λ k. dart p (a k) (b k) north)
+  border_dart p east west i j t t_low is c r = absurd (omega (arith, c, is.i_low))
+  border_dart p north south i j t t_low is c r = absurd (omega (arith, r, is.j_low))
+  border_dart p north east i j t t_low is c r = absurd (omega (arith, r, is.j_low))
+  border_dart p north north i j t t_low is c r =
+      let a : i ≡ wide l x p - 1 - t = omega (arith, c) in
+      let b : j ≡ high l x p - 1 = omega (arith, r) in
+      inl (λ k. dart p (a k) (b k) north)
+  border_dart p north west i j t t_low is c r =
+      let a : i ≡ wide l x p - 1 - (t - 1) = omega (arith, c, is.i_low) in
+      let b : j ≡ high l x p - 1 = omega (arith, r) in
+      inr (omega (arith, c, is.i_low), λ k. dart p (a k) (b k) west)
+  border_dart p west south i j t t_low is c r =
+      let b : j ≡ high l x p - 1 - (t - 1) = omega (arith, r, is.j_low) in
+      inr (omega (arith, r, is.j_low), λ k. dart p (c k) (b k) south)
+  border_dart p west east i j t t_low is c r = absurd (omega (arith, c))
+  border_dart p west north i j t t_low is c r = absurd (omega (arith, c))
+  border_dart p west west i j t t_low is c r =
+      let b : j ≡ high l x p - 1 - t = omega (arith, r) in inl (λ k. dart p (c k) (b k) west)
+
+-- The place on its side that lies o after the beginning of a slot's arc.
+abbrev pub place_at : (l : Layout) (x : Lengths) (w : Slot) (o : ℕ) → ℕ
+place_at l x w o = reach l x w.patch w.side w.at + o
+
+-- The border dart there, or the one next to the border dart before.
+abbrev pub spot_dart : (l : Layout) (x : Lengths) (w : Slot) (o : ℕ) (behind : Bool) → Dart
+spot_dart l x w o false = rim_at l x w o
+spot_dart l x w o true = next (rim l x w.patch w.side (place_at l x w o - 1))
+
+module _ (l : Layout) (x : Lengths) (laid : IsLaid l) (len : AreLengths l x) where
+  -- A dart is at a slot's place where it leaves the grid point.
+  pub at_place : (d : Dart) (w : Slot) (o : ℕ) → IsSlot l w → o < x (use_of l w).arc → d.patch ≡ w.patch
+      → column_of d ≡ side_column l x w.patch w.side (place_at l x w o) → row_of d ≡ side_row l x w.patch w.side (place_at l x w o)
+      → IsAt l x laid len d w o
+  at_place d w o is less patch c r = record {
+    is_slot = is;
+    low = less;
+    patch = patch;
+    column = c;
+    row = r;
+    leaves = (λ k. point l x (patch k) (c k) (r k))
+        ∙ border_point l x laid len w.patch w.side (place_at l x w o) is.patch_low (omega (arith, at_low l x laid.paved len w o is less))
+        ∙ side_in l x w o is less;
+  }
+
+  -- It is at one place of one slot.
+  pub at_once : (d : Dart) (w v : Slot) (o k : ℕ) → IsAt l x laid len d w o → IsAt l x laid len d v k → (w ≡ v) × (o ≡ k)
+  at_once d w v o k a b = by_place (place_once l x laid.paved len w.patch w.side v.side (place_at l x w o) (place_at l x v k)
+      a.is_slot.patch_low (at_low l x laid.paved len w o a.is_slot a.low) v_low columns rows)
+    where
+      patches : v.patch ≡ w.patch
+      patches = sym b.patch ∙ a.patch
+
+      v_low : place_at l x v k < size l x w.patch v.side
+      v_low = subst (λ (n : ℕ). place_at l x v k < n) (λ t. size l x (patches t) v.side) (at_low l x laid.paved len v k b.is_slot b.low)
+
+      columns : side_column l x w.patch w.side (place_at l x w o) ≡ side_column l x w.patch v.side (place_at l x v k)
+      columns = sym a.column ∙ b.column ∙ (λ t. side_column l x (patches t) v.side (place_at l x v k))
+
+      rows : side_row l x w.patch w.side (place_at l x w o) ≡ side_row l x w.patch v.side (place_at l x v k)
+      rows = sym a.row ∙ b.row ∙ (λ t. side_row l x (patches t) v.side (place_at l x v k))
+
+      by_place : (w.side ≡ v.side) × (place_at l x w o ≡ place_at l x v k) → (w ≡ v) × (o ≡ k)
+      by_place s =
+          let v_inside : k < long_at l x w.patch w.side v.at =
+              subst (λ (n : ℕ). k < n) (λ t. long_at l x (patches t) (sym s.0 t) v.at) b.low in
+          let v_many : v.at < l.many w.patch w.side = subst (λ (n : ℕ). v.at < n) (λ t. l.many (patches t) (sym s.0 t)) b.is_slot.low in
+          let place : reach l x w.patch w.side w.at + o ≡ reach l x w.patch w.side v.at + k =
+              s.1 ∙ (λ t. reach l x (patches t) (sym s.0 t) v.at + k) in
+          let r : (w.at ≡ v.at) × (o ≡ k) =
+              place_same (long_at l x w.patch w.side) (l.many w.patch w.side) w.at o v.at k a.is_slot.low v_many a.low v_inside place in
+          ((λ t. slot (sym patches t) (s.0 t) (r.0 t)), r.1)
+
+  -- The darts at a place.
+  pub spot_is : (w : Slot) (o : ℕ) (b : Bool) → IsSlot l w → o < x (use_of l w).arc → 0 < place_at l x w o → IsDart l x (spot_dart l x w o b)
+  spot_is w o false is less some = at_is l x laid.paved len w o is less
+  spot_is w o true is less some =
+      next_is l x (rim l x w.patch w.side (place_at l x w o - 1))
+          (rim_is l x laid.paved len w.patch w.side (place_at l x w o - 1) is.patch_low (omega (arith, at_low l x laid.paved len w o is less)))
+
+  pub rim_is_at : (w : Slot) (o : ℕ) → IsSlot l w → o < x (use_of l w).arc → IsAt l x laid len (rim_at l x w o) w o
+  rim_is_at w o is less =
+      at_place (rim_at l x w o) w o is less (rim_patch l x laid.paved len w.patch w.side (place_at l x w o))
+          (rim_column l x laid.paved len w.patch w.side (place_at l x w o) is.patch_low (at_low l x laid.paved len w o is less))
+          (rim_row l x laid.paved len w.patch w.side (place_at l x w o) is.patch_low (at_low l x laid.paved len w o is less))
+
+  pub spot_at : (w : Slot) (o : ℕ) (b : Bool) → IsSlot l w → o < x (use_of l w).arc → 0 < place_at l x w o → IsAt l x laid len (spot_dart l x w o b) w o
+  spot_at w o false is less some = rim_is_at w o is less
+  spot_at w o true is less some =
+      let t_low : place_at l x w o - 1 < size l x w.patch w.side = omega (arith, at_low l x laid.paved len w o is less) in
+      let one : place_at l x w o - 1 + 1 ≡ place_at l x w o = omega (arith, some) in
+      at_place (next (rim l x w.patch w.side (place_at l x w o - 1))) w o is less
+          (rim_patch l x laid.paved len w.patch w.side (place_at l x w o - 1))
+          (rim_next_column l x laid.paved len w.patch w.side (place_at l x w o - 1) is.patch_low t_low ∙ ap (side_column l x w.patch w.side) one)
+          (rim_next_row l x laid.paved len w.patch w.side (place_at l x w o - 1) is.patch_low t_low ∙ ap (side_row l x w.patch w.side) one)
+
+  -- A dart at a place is one of the two.
+  pub sort_spot : (d : Dart) (w : Slot) (o : ℕ) → IsDart l x d → IsAt l x laid len d w o
+      → (b : Bool) × (d ≡ spot_dart l x w o b) × ((b ≡ true) → 0 < place_at l x w o)
+  sort_spot d w o is a =
+      by_border (border_dart l x laid.paved len w.patch w.side d.way d.i d.j (place_at l x w o) (at_low l x laid.paved len w o a.is_slot a.low)
+          (record {
+            patch_low = a.is_slot.patch_low;
+            i_low = subst (λ (n : ℕ). d.i < n) (ap (wide l x) a.patch) is.i_low;
+            j_low = subst (λ (n : ℕ). d.j < n) (ap (high l x) a.patch) is.j_low;
+          })
+          a.column a.row)
+    where
+      here : d ≡ dart w.patch d.i d.j d.way
+      here = λ t. dart (a.patch t) d.i d.j d.way
+
+      by_border : (dart w.patch d.i d.j d.way ≡ rim l x w.patch w.side (place_at l x w o))
+            ⊎ ((0 < place_at l x w o) × (dart w.patch d.i d.j d.way ≡ next (rim l x w.patch w.side (place_at l x w o - 1))))
+          → (b : Bool) × (d ≡ spot_dart l x w o b) × ((b ≡ true) → 0 < place_at l x w o)
+      by_border (inl e) = (false, here ∙ e, λ s. absurd cc)
+      by_border (inr e) = (true, here ∙ e.1, λ s. e.0)
+
+  -- The two differ.
+  pub spot_once : (w : Slot) (o : ℕ) (b c : Bool) → spot_dart l x w o b ≡ spot_dart l x w o c → b ≡ c
+  spot_once w o true true e = refl
+  spot_once w o false false e = refl
+  spot_once w o true false e =
+      absurd (no_turn w.side (sym (ap (λ (d : Dart). d.way) e ∙ rim_way l x laid.paved len w.patch w.side (place_at l x w o))
+          ∙ ap after (rim_way l x laid.paved len w.patch w.side (place_at l x w o - 1))))
+  spot_once w o false true e =
+      absurd (no_turn w.side (sym (rim_way l x laid.paved len w.patch w.side (place_at l x w o)) ∙ ap (λ (d : Dart). d.way) e
+          ∙ ap after (rim_way l x laid.paved len w.patch w.side (place_at l x w o - 1))))
