@@ -20,3 +20,5 @@ pub mod Models
 pub mod ModelCounts
 pub mod Spots
 pub mod Inners
+pub mod Regulars
+pub mod NodeKinds

@@ -129,7 +129,7 @@ module _ (l : Layout) (x : Lengths) (laid : IsLaid l) (len : AreLengths l x) whe
           ((λ t. slot (sym patches t) (s.0 t) (r.0 t)), r.1)
 
   -- The darts at a place.
-  pub spot_is : (w : Slot) (o : ℕ) (b : Bool) → IsSlot l w → o < x (use_of l w).arc → 0 < place_at l x w o → IsDart l x (spot_dart l x w o b)
+  pub spot_is : (w : Slot) (o : ℕ) (b : Bool) → IsSlot l w → o < x (use_of l w).arc → (b ≡ true → 0 < place_at l x w o) → IsDart l x (spot_dart l x w o b)
   spot_is w o false is less some = at_is l x laid.paved len w o is less
   spot_is w o true is less some =
       next_is l x (rim l x w.patch w.side (place_at l x w o - 1))
@@ -141,11 +141,11 @@ module _ (l : Layout) (x : Lengths) (laid : IsLaid l) (len : AreLengths l x) whe
           (rim_column l x laid.paved len w.patch w.side (place_at l x w o) is.patch_low (at_low l x laid.paved len w o is less))
           (rim_row l x laid.paved len w.patch w.side (place_at l x w o) is.patch_low (at_low l x laid.paved len w o is less))
 
-  pub spot_at : (w : Slot) (o : ℕ) (b : Bool) → IsSlot l w → o < x (use_of l w).arc → 0 < place_at l x w o → IsAt l x laid len (spot_dart l x w o b) w o
+  pub spot_at : (w : Slot) (o : ℕ) (b : Bool) → IsSlot l w → o < x (use_of l w).arc → (b ≡ true → 0 < place_at l x w o) → IsAt l x laid len (spot_dart l x w o b) w o
   spot_at w o false is less some = rim_is_at w o is less
   spot_at w o true is less some =
       let t_low : place_at l x w o - 1 < size l x w.patch w.side = omega (arith, at_low l x laid.paved len w o is less) in
-      let one : place_at l x w o - 1 + 1 ≡ place_at l x w o = omega (arith, some) in
+      let one : place_at l x w o - 1 + 1 ≡ place_at l x w o = omega (arith, some refl) in
       at_place (next (rim l x w.patch w.side (place_at l x w o - 1))) w o is less
           (rim_patch l x laid.paved len w.patch w.side (place_at l x w o - 1))
           (rim_next_column l x laid.paved len w.patch w.side (place_at l x w o - 1) is.patch_low t_low ∙ ap (side_column l x w.patch w.side) one)

@@ -1,0 +1,370 @@
+-- The points inside patches and along arcs are regular.
+use Rattle.std.proofs.Common.{◌≡◌, ◌≢◌, ◌⊎◌, ℕ, zero, suc, ◌+◌, ◌-◌, ◌<◌, ◌≤◌, Bool, true, false, not, cond, refl, sym, ◌∙◌, ap, subst, inl, inr, arith}
+use Rattle.std.specs.Prelude.{◌==◌}
+use Rattle.std.proofs.lemmas.Bool.{cases_eq, cond-true, cond-false, eq-eqb, false_from_ne_true}
+use Rattle.def_mesh.specs.Faces.{Faces}
+use Rattle.def_mesh.specs.Vertices.{faces_at}
+use Rattle.def_mesh.specs.Kinds.{is_inner, is_regular}
+use Rattle.def_layout.specs.declared.tmesh.SideArc.{SideArc}
+use Rattle.def_layout.specs.Layouts.{Way, south, east, north, west, Layout, Slot, IsSlot, AreReverse, use_of, start_of, end_of}
+use Rattle.def_layout.specs.Laid.{IsLaid, IsOther}
+use Rattle.def_layout.specs.Lengths.{Lengths, AreLengths}
+use Rattle.def_layout.specs.Cells.{Dart, IsDart, dart}
+use Rattle.def_written.specs.Points.{Point, node, along, inside, IsPoint, arc_point, use_point, point}
+use Rattle.def_written.specs.NewFaces.{column, row, from}
+use Rattle.written_laws.proofs.Sides.{use_begins, use_ends, use_inner, arc_inner}
+use Rattle.written_laws.proofs.Grid.{point_inside}
+use Rattle.written_laws.proofs.Rims.{column_of, row_of, corner_low, IsInner}
+use Rattle.written_laws.proofs.Borders.{IsAt, sort_dart, inner_from, use_back, use_not_inside}
+use Rattle.written_laws.proofs.NewDarts.{turn, way_of, way_turn, turn_way, turn_low}
+use Rattle.written_laws.proofs.Spokes.{point_sort}
+use Rattle.written_laws.proofs.Spots.{place_at, spot_dart, at_once, spot_is, spot_at, sort_spot, spot_once}
+use Rattle.written_laws.proofs.Models.{IsModel}
+use Rattle.written_laws.proofs.Inners.{AreShared, IsVertex, inner_if, inner_only, fan_most, fan_least}
+
+column_once : (i k : ℕ) (w : Way) → column i w ≡ column k w → i ≡ k
+column_once i k south e = e
+column_once i k east e = omega arith
+column_once i k north e = omega arith
+column_once i k west e = e
+
+row_once : (j m : ℕ) (w : Way) → row j w ≡ row m w → j ≡ m
+row_once j m south e = e
+row_once j m east e = e
+row_once j m north e = omega arith
+row_once j m west e = omega arith
+
+-- The four darts at an inner grid point.
+abbrev hub_dart : (p i j : ℕ) (w : Way) → Dart
+hub_dart p i j south = dart p i j south
+hub_dart p i j east = dart p (i - 1) j east
+hub_dart p i j north = dart p (i - 1) (j - 1) north
+hub_dart p i j west = dart p i (j - 1) west
+
+hub_way : (p i j : ℕ) (w : Way) → (hub_dart p i j w).way ≡ w
+hub_way p i j south = refl
+hub_way p i j east = refl
+hub_way p i j north = refl
+hub_way p i j west = refl
+
+-- The darts at a place of an arc by number: two beside the arc as it runs, two on its other side.
+abbrev code : (forward behind : Bool) → ℕ
+code true false = 0
+code true true = 1
+code false false = 2
+code false true = 3
+
+abbrev forward_of : (k : ℕ) → Bool
+forward_of zero = true
+forward_of (suc zero) = true
+forward_of (suc (suc k)) = false
+
+abbrev behind_of : (k : ℕ) → Bool
+behind_of zero = false
+behind_of (suc zero) = true
+behind_of (suc (suc zero)) = false
+behind_of (suc (suc (suc k))) = true
+
+code_forward : (f b : Bool) → forward_of (code f b) ≡ f
+code_forward true false = refl
+code_forward true true = refl
+code_forward false false = refl
+code_forward false true = refl
+
+code_behind : (f b : Bool) → behind_of (code f b) ≡ b
+code_behind true false = refl
+code_behind true true = refl
+code_behind false false = refl
+code_behind false true = refl
+
+code_low : (f b : Bool) → code f b < 4
+code_low true false = omega arith
+code_low true true = omega arith
+code_low false false = omega arith
+code_low false true = omega arith
+
+code_first : (b : Bool) → code true b < 2
+code_first true = omega arith
+code_first false = omega arith
+
+code_back : (k : ℕ) → k < 4 → code (forward_of k) (behind_of k) ≡ k
+code_back zero low = refl
+code_back (suc zero) low = refl
+code_back (suc (suc zero)) low = refl
+code_back (suc (suc (suc k))) low = omega arith
+
+code_back_first : (k : ℕ) → k < 2 → code true (behind_of k) ≡ k
+code_back_first zero low = refl
+code_back_first (suc zero) low = refl
+code_back_first (suc (suc k)) low = absurd (omega arith)
+
+module _ (l : Layout) (x : Lengths) (laid : IsLaid l) (len : AreLengths l x) where
+  -- No point of an arc lies inside a patch.
+  upto_not_inside : (u : SideArc) (o p i j : ℕ) → o ≤ x u.arc → 0 < x u.arc → use_point l x u o ≢ inside p i j
+  upto_not_inside u o p i j le some e = elim (cases_eq o (x u.arc)) [
+    | inl last ↦
+      let b : use_point l x u o ≡ node (end_of l u) = use_ends l x u o last (omega arith) in absurd cc
+    | inr less ↦ use_not_inside l x u o p i j (omega arith) e
+  ]
+
+  -- A point along an arc tells the arc.
+  arc_of : (u : SideArc) (o a k : ℕ) → o ≤ x u.arc → 0 < x u.arc → use_point l x u o ≡ along a k
+      → (u.arc ≡ a) × (0 < o) × (o < x u.arc) × (cond u.forward o (x u.arc - o) ≡ k)
+  arc_of u o a k le some e = elim (cases_eq o 0) [
+    | inl z ↦ let b : use_point l x u o ≡ node (start_of l u) = ap (use_point l x u) z ∙ use_begins l x u some in absurd cc
+    | inr more ↦ elim (cases_eq o (x u.arc)) [
+      | inl last ↦ let b : use_point l x u o ≡ node (end_of l u) = use_ends l x u o last (omega arith) in absurd cc
+      | inr less ↦
+        let b : use_point l x u o ≡ along u.arc (cond u.forward o (x u.arc - o)) = use_inner l x u o (omega arith) (omega arith) in
+        let arc : u.arc ≡ a = cc in
+        let place : cond u.forward o (x u.arc - o) ≡ k = cc in
+        (arc, omega arith, omega arith, place)
+    ]
+  ]
+
+  module _ (F : Faces) (cell : Dart → ℕ) (model : IsModel F l x laid len cell) where
+    -- A vertex with four faces and only shared arcs, or with two faces and an arc that is not shared, is regular.
+    regular_by : (v n : ℕ) (b : Bool) → faces_at F v ≡ n → is_inner F v ≡ b → n ≡ cond b 4 2 → is_regular F v ≡ true
+    regular_by v n b many inner is = eq-eqb (faces_at F v) (cond (is_inner F v) 4 2) (many ∙ is ∙ ap (λ (c : Bool). cond c 4 2) (sym inner))
+
+    pub inside_regular : (p i j v : ℕ) → IsPoint l x (inside p i j) → IsVertex l x laid len F cell model (inside p i j) v → is_regular F v ≡ true
+    inside_regular p i j v is is_v =
+        regular_by v 4 true four (inner_if l x laid len F cell model (inside p i j) v is_v shared) refl
+      where
+        shared : AreShared l x (inside p i j)
+        shared w o is_w less (inl e) = absurd (upto_not_inside (use_of l w) o p i j (omega arith) (omega arith) e)
+        shared w o is_w less (inr e) = absurd (upto_not_inside (use_of l w) (o + 1) p i j (omega arith) (omega arith) e)
+
+        place : (d : Dart) → IsDart l x d → from l x d ≡ inside p i j → (d.patch ≡ p) × (column_of d ≡ i) × (row_of d ≡ j)
+        place d is_d leaves =
+            point_sort l x laid len d.patch (column_of d) (row_of d) p i j is_d.patch_low
+                (corner_low l x laid.paved len d is_d).0 (corner_low l x laid.paved len d is_d).1 leaves
+
+        once : (d e : Dart) (b : IsDart l x d) (c : IsDart l x e) (f : from l x d ≡ inside p i j) (g : from l x e ≡ inside p i j)
+            → turn d.way ≡ turn e.way → d ≡ e
+        once d e is_d is_e f g turns =
+            let a : (d.patch ≡ p) × (column_of d ≡ i) × (row_of d ≡ j) = place d is_d f in
+            let b : (e.patch ≡ p) × (column_of e ≡ i) × (row_of e ≡ j) = place e is_e g in
+            let ways : d.way ≡ e.way = sym (way_turn d.way) ∙ ap way_of turns ∙ way_turn e.way in
+            let patches : d.patch ≡ e.patch = a.0 ∙ sym b.0 in
+            let columns : d.i ≡ e.i = column_once d.i e.i e.way (ap (column d.i) (sym ways) ∙ a.1 ∙ sym b.1) in
+            let rows : d.j ≡ e.j = row_once d.j e.j e.way (ap (row d.j) (sym ways) ∙ a.2 ∙ sym b.2) in
+            λ t. dart (patches t) (columns t) (rows t) (ways t)
+
+        hub : point l x p i j ≡ inside p i j
+        hub = point_inside l x laid len p i j is.1 is.2 is.3 is.4
+
+        at_hub : (w : Way) → IsDart l x (hub_dart p i j w) × (from l x (hub_dart p i j w) ≡ inside p i j)
+        at_hub south = (record { patch_low = is.0; i_low = is.2; j_low = is.4 }, hub)
+        at_hub east =
+            let c : i - 1 + 1 ≡ i = omega (arith, is.1) in
+            (record { patch_low = is.0; i_low = omega (arith, is.2); j_low = is.4 }, ap (λ k. point l x p k j) c ∙ hub)
+        at_hub north =
+            let c : i - 1 + 1 ≡ i = omega (arith, is.1) in
+            let r : j - 1 + 1 ≡ j = omega (arith, is.3) in
+            (record { patch_low = is.0; i_low = omega (arith, is.2); j_low = omega (arith, is.4) }, (λ t. point l x p (c t) (r t)) ∙ hub)
+        at_hub west =
+            let r : j - 1 + 1 ≡ j = omega (arith, is.3) in
+            (record { patch_low = is.0; i_low = is.2; j_low = omega (arith, is.4) }, ap (point l x p i) r ∙ hub)
+
+        four : faces_at F v ≡ 4
+        four = omega (arith, most, least)
+          where
+            most : faces_at F v ≤ 4
+            most = fan_most l x laid len F cell model (inside p i j) v is_v 4 (λ d is_d f. (turn d.way, turn_low d.way)) once
+
+            least : 4 ≤ faces_at F v
+            least = fan_least l x laid len F cell model (inside p i j) v is_v 4
+                (λ k low. (hub_dart p i j (way_of k), (at_hub (way_of k)).0, (at_hub (way_of k)).1))
+                (λ k m low less same. sym (turn_way k low)
+                    ∙ ap turn (sym (hub_way p i j (way_of k)) ∙ ap (λ (d : Dart). d.way) same ∙ hub_way p i j (way_of m)) ∙ turn_way m less)
+
+    module _ (a k v : ℕ) (is : IsPoint l x (along a k)) (is_v : IsVertex l x laid len F cell model (along a k) v) where
+      -- A dart at the point, by slot.
+      record IsAlong (d : Dart) (w : Slot) (o : ℕ) (b : Bool) : Type 0 where
+        pub at : IsAt l x laid len d w o
+        pub arc : (use_of l w).arc ≡ a
+        pub place : cond (use_of l w).forward o (x (use_of l w).arc - o) ≡ k
+        pub dart : d ≡ spot_dart l x w o b
+
+      along_sort : (d : Dart) → IsDart l x d → from l x d ≡ along a k → (w : Slot) × (o : ℕ) × (b : Bool) × IsAlong d w o b
+      along_sort d is_d leaves = by_case (sort_dart l x laid len d is_d)
+        where
+          at_slot : (w : Slot) (o : ℕ) → IsAt l x laid len d w o → (w : Slot) × (o : ℕ) × (b : Bool) × IsAlong d w o b
+          at_slot w o at =
+              let s : ((use_of l w).arc ≡ a) × (0 < o) × (o < x (use_of l w).arc) × (cond (use_of l w).forward o (x (use_of l w).arc - o) ≡ k) =
+                  arc_of (use_of l w) o a k (omega (arith, at.low)) (omega (arith, at.low)) (sym at.leaves ∙ leaves) in
+              let b : (b : Bool) × (d ≡ spot_dart l x w o b) × ((b ≡ true) → 0 < place_at l x w o) = sort_spot l x laid len d w o is_d at in
+              (w, o, b.0, record { at = at; arc = s.0; place = s.3; dart = b.1 })
+
+          by_case : IsInner l x laid.paved len d.patch (column_of d) (row_of d) ⊎ ((w : Slot) × (o : ℕ) × IsAt l x laid len d w o)
+              → (w : Slot) × (o : ℕ) × (b : Bool) × IsAlong d w o b
+          by_case (inl i) = let b : from l x d ≡ inside d.patch (column_of d) (row_of d) = inner_from l x laid len d i in absurd cc
+          by_case (inr s) = at_slot s.0 s.1 s.2
+
+      along_once : (d e : Dart) (w u : Slot) (o m : ℕ) (b c : Bool) → IsAlong d w o b → IsAlong e u m c
+          → (use_of l w).forward ≡ (use_of l u).forward → b ≡ c → d ≡ e
+      along_once d e w u o m b c s r ways same =
+          let slots : w ≡ u = laid.once w u s.at.is_slot r.at.is_slot (λ t. record { arc = (s.arc ∙ sym r.arc) t; forward = ways t }) in
+          let long : x (use_of l u).arc ≡ x (use_of l w).arc = ap x (r.arc ∙ sym s.arc) in
+          let places : cond (use_of l w).forward o (x (use_of l w).arc - o) ≡ cond (use_of l w).forward m (x (use_of l w).arc - m) =
+              s.place ∙ sym r.place ∙ (λ t. cond (sym ways t) m (long t - m)) in
+          let offsets : o ≡ m = by_way (use_of l w).forward (x (use_of l w).arc) s.at.low (omega (arith, long, r.at.low)) places in
+          s.dart ∙ (λ t. spot_dart l x (slots t) (offsets t) (same t)) ∙ sym r.dart
+        where
+          by_way : (f : Bool) (n : ℕ) → o < n → m < n → cond f o (n - o) ≡ cond f m (n - m) → o ≡ m
+          by_way true n o_low m_low e = e
+          by_way false n o_low m_low e = omega arith
+
+      -- The slot of the arc as it runs.
+      first : (w : Slot) × IsSlot l w × (use_of l w ≡ record { arc = a; forward = true })
+      first = laid.forward a is.0
+
+      first_long : x (use_of l first.0).arc ≡ x a
+      first_long = ap (λ (u : SideArc). x u.arc) first.2
+
+      first_leaves : use_point l x (use_of l first.0) k ≡ along a k
+      first_leaves = ap (λ (u : SideArc). use_point l x u k) first.2 ∙ arc_inner l x a k is.1 is.2
+
+      first_dart : (b : Bool) → IsDart l x (spot_dart l x first.0 k b) × (from l x (spot_dart l x first.0 k b) ≡ along a k)
+      first_dart b =
+          (spot_is l x laid len first.0 k b first.1 (omega (arith, first_long, is.2)) (λ e. omega (arith, is.1)),
+              (spot_at l x laid len first.0 k b first.1 (omega (arith, first_long, is.2)) (λ e. omega (arith, is.1))).leaves ∙ first_leaves)
+
+      along_alone : ((u : Slot) → ¬ IsOther l first.0 u) → is_regular F v ≡ true
+      along_alone none = regular_by v 2 false two boundary refl
+        where
+          boundary : is_inner F v ≡ false
+          boundary = false_from_ne_true (is_inner F v) (λ inner.
+              let u : (u : Slot) × IsOther l first.0 u =
+                  inner_only l x laid len F cell model (along a k) v is_v inner first.0 k first.1 (omega (arith, first_long, is.2)) (inl first_leaves) in
+              none u.0 u.1)
+
+          forward : (w : Slot) → IsSlot l w → (use_of l w).arc ≡ a → (use_of l w).forward ≡ true
+          forward w is_w arc = by_way (use_of l w).forward refl
+            where
+              by_way : (f : Bool) → (use_of l w).forward ≡ f → (use_of l w).forward ≡ true
+              by_way true e = e
+              by_way false e = absurd (none w (is_w, record {
+                arc = arc ∙ sym (ap (λ (u : SideArc). u.arc) first.2);
+                turned = e ∙ ap (λ (u : SideArc). not u.forward) (sym first.2);
+              }))
+
+          two : faces_at F v ≡ 2
+          two = omega (arith, most, least)
+            where
+              coded : (d : Dart) → IsDart l x d → from l x d ≡ along a k → (c : ℕ) × (c < 2)
+              coded d is_d leaves = (code true (along_sort d is_d leaves).2, code_first (along_sort d is_d leaves).2)
+
+              once : (d e : Dart) (b : IsDart l x d) (c : IsDart l x e) (f : from l x d ≡ along a k) (g : from l x e ≡ along a k)
+                  → (coded d b f).0 ≡ (coded e c g).0 → d ≡ e
+              once d e b c f g same = by_sort (along_sort d b f) (along_sort e c g) same
+                where
+                  by_sort : (s : (w : Slot) × (o : ℕ) × (b : Bool) × IsAlong d w o b) → (r : (w : Slot) × (o : ℕ) × (b : Bool) × IsAlong e w o b)
+                      → code true s.2 ≡ code true r.2 → d ≡ e
+                  by_sort s r same =
+                      along_once d e s.0 r.0 s.1 r.1 s.2 r.2 s.3 r.3
+                          (forward s.0 s.3.at.is_slot s.3.arc ∙ sym (forward r.0 r.3.at.is_slot r.3.arc))
+                          (sym (code_behind true s.2) ∙ ap behind_of same ∙ code_behind true r.2)
+
+              most : faces_at F v ≤ 2
+              most = fan_most l x laid len F cell model (along a k) v is_v 2 coded once
+
+              least : 2 ≤ faces_at F v
+              least = fan_least l x laid len F cell model (along a k) v is_v 2
+                  (λ c low. (spot_dart l x first.0 k (behind_of c), (first_dart (behind_of c)).0, (first_dart (behind_of c)).1))
+                  (λ c m low less same. sym (code_back_first c low)
+                      ∙ ap (code true) (spot_once l x laid len first.0 k (behind_of c) (behind_of m) same) ∙ code_back_first m less)
+
+      along_shared : (u : Slot) → IsOther l first.0 u → is_regular F v ≡ true
+      along_shared u other = regular_by v 4 true four (inner_if l x laid len F cell model (along a k) v is_v shared) refl
+        where
+          long : x (use_of l u).arc ≡ x a
+          long = ap x other.1.arc ∙ first_long
+
+          by_arc : (w : Slot) → IsSlot l w → (use_of l w).arc ≡ a → (z : Slot) × IsOther l w z
+          by_arc w is_w arc = by_way (use_of l w).forward refl
+            where
+              same_arc : (use_of l first.0).arc ≡ a
+              same_arc = ap (λ (z : SideArc). z.arc) first.2
+
+              same_way : (use_of l first.0).forward ≡ true
+              same_way = ap (λ (z : SideArc). z.forward) first.2
+
+              by_way : (f : Bool) → (use_of l w).forward ≡ f → (z : Slot) × IsOther l w z
+              by_way true e =
+                  let one : first.0 ≡ w = laid.once first.0 w first.1 is_w (λ t. record { arc = (same_arc ∙ sym arc) t; forward = (same_way ∙ sym e) t }) in
+                  (u, subst (λ (z : Slot). IsOther l z u) one other)
+              by_way false e = (first.0, (first.1, record { arc = same_arc ∙ sym arc; turned = same_way ∙ ap not (sym e) }))
+
+          shared : AreShared l x (along a k)
+          shared w o is_w less (inl e) = by_arc w is_w (arc_of (use_of l w) o a k (omega arith) (omega arith) e).0
+          shared w o is_w less (inr e) = by_arc w is_w (arc_of (use_of l w) (o + 1) a k (omega arith) (omega arith) e).0
+
+          other_leaves : use_point l x (use_of l u) (x a - k) ≡ along a k
+          other_leaves =
+              let le : x a - k ≤ x (use_of l first.0).arc = omega (arith, first_long) in
+              let e : x (use_of l first.0).arc - (x a - k) ≡ k = omega (arith, first_long, is.2) in
+              use_back l x (use_of l first.0) (use_of l u) other.1 (x a - k) le ∙ ap (use_point l x (use_of l first.0)) e ∙ first_leaves
+
+          both : (f b : Bool) → Dart
+          both true b = spot_dart l x first.0 k b
+          both false b = spot_dart l x u (x a - k) b
+
+          both_is : (f b : Bool) → IsDart l x (both f b) × (from l x (both f b) ≡ along a k)
+          both_is true b = first_dart b
+          both_is false b =
+              (spot_is l x laid len u (x a - k) b other.0 (omega (arith, long, is.1, is.2)) (λ e. omega (arith, is.2)),
+                  (spot_at l x laid len u (x a - k) b other.0 (omega (arith, long, is.1, is.2)) (λ e. omega (arith, is.2))).leaves ∙ other_leaves)
+
+          apart : first.0 ≢ u
+          apart e = by_way (use_of l first.0).forward (use_of l u).forward other.1.turned (ap (λ (z : Slot). (use_of l z).forward) e)
+            where
+              by_way : (f g : Bool) → g ≡ not f → f ≡ g → ⊥
+              by_way true g s r = absurd cc
+              by_way false g s r = absurd cc
+
+          both_once : (f g b c : Bool) → both f b ≡ both g c → code f b ≡ code g c
+          both_once true true b c e = ap (code true) (spot_once l x laid len first.0 k b c e)
+          both_once false false b c e = ap (code false) (spot_once l x laid len u (x a - k) b c e)
+          both_once true false b c e =
+              absurd (apart (at_once l x laid len (both true b) first.0 u k (x a - k)
+                  (spot_at l x laid len first.0 k b first.1 (omega (arith, first_long, is.2)) (λ s. omega (arith, is.1)))
+                  (subst (λ (d : Dart). IsAt l x laid len d u (x a - k)) (sym e)
+                      (spot_at l x laid len u (x a - k) c other.0 (omega (arith, long, is.1, is.2)) (λ s. omega (arith, is.2))))).0)
+          both_once false true b c e =
+              absurd (apart (at_once l x laid len (both true c) first.0 u k (x a - k)
+                  (spot_at l x laid len first.0 k c first.1 (omega (arith, first_long, is.2)) (λ s. omega (arith, is.1)))
+                  (subst (λ (d : Dart). IsAt l x laid len d u (x a - k)) e
+                      (spot_at l x laid len u (x a - k) b other.0 (omega (arith, long, is.1, is.2)) (λ s. omega (arith, is.2))))).0)
+
+          four : faces_at F v ≡ 4
+          four = omega (arith, most, least)
+            where
+              coded : (d : Dart) → IsDart l x d → from l x d ≡ along a k → (c : ℕ) × (c < 4)
+              coded d is_d leaves =
+                  (code (use_of l (along_sort d is_d leaves).0).forward (along_sort d is_d leaves).2,
+                      code_low (use_of l (along_sort d is_d leaves).0).forward (along_sort d is_d leaves).2)
+
+              once : (d e : Dart) (b : IsDart l x d) (c : IsDart l x e) (f : from l x d ≡ along a k) (g : from l x e ≡ along a k)
+                  → (coded d b f).0 ≡ (coded e c g).0 → d ≡ e
+              once d e b c f g same = by_sort (along_sort d b f) (along_sort e c g) same
+                where
+                  by_sort : (s : (w : Slot) × (o : ℕ) × (b : Bool) × IsAlong d w o b) → (r : (w : Slot) × (o : ℕ) × (b : Bool) × IsAlong e w o b)
+                      → code (use_of l s.0).forward s.2 ≡ code (use_of l r.0).forward r.2 → d ≡ e
+                  by_sort s r same =
+                      along_once d e s.0 r.0 s.1 r.1 s.2 r.2 s.3 r.3
+                          (sym (code_forward (use_of l s.0).forward s.2) ∙ ap forward_of same ∙ code_forward (use_of l r.0).forward r.2)
+                          (sym (code_behind (use_of l s.0).forward s.2) ∙ ap behind_of same ∙ code_behind (use_of l r.0).forward r.2)
+
+              most : faces_at F v ≤ 4
+              most = fan_most l x laid len F cell model (along a k) v is_v 4 coded once
+
+              least : 4 ≤ faces_at F v
+              least = fan_least l x laid len F cell model (along a k) v is_v 4
+                  (λ c low. (both (forward_of c) (behind_of c), (both_is (forward_of c) (behind_of c)).0, (both_is (forward_of c) (behind_of c)).1))
+                  (λ c m low less same. sym (code_back c low)
+                      ∙ both_once (forward_of c) (forward_of m) (behind_of c) (behind_of m) same ∙ code_back m less)
+
+      pub along_regular : is_regular F v ≡ true
+      along_regular = elim (laid.other first.0 first.1) [ inl u ↦ along_shared u.0 u.1 | inr none ↦ along_alone none ]
