@@ -22,3 +22,4 @@ pub mod Spots
 pub mod Inners
 pub mod Regulars
 pub mod NodeKinds
+pub mod Sided

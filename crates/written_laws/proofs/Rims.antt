@@ -93,6 +93,20 @@ module _ (l : Layout) (x : Lengths) (paved : IsPaved l) (len : AreLengths l x) w
   corner_row p north t low e = omega arith
   corner_row p west t low e = omega arith
 
+  -- The border dart next to the last one of a side is the first one of the next side.
+  pub corner_next : (p : ℕ) (s : Way) (t : ℕ) → p < l.patches → t + 1 ≡ size l x p s → next (rim l x p s t) ≡ rim l x p (after s) 0
+  corner_next p south t low e =
+      let a : t ≡ wide l x p - 1 = omega arith in λ k. dart p (a k) 0 east
+  corner_next p east t low e =
+      let a : wide l x p - 1 ≡ wide l x p - 1 - 0 = omega arith in
+      let b : t ≡ high l x p - 1 = omega (arith, len.upright p low) in
+      λ k. dart p (a k) (b k) north
+  corner_next p north t low e =
+      let a : wide l x p - 1 - t ≡ 0 = omega (arith, len.across p low) in
+      let b : high l x p - 1 ≡ high l x p - 1 - 0 = omega arith in
+      λ k. dart p (a k) (b k) west
+  corner_next p west t low e = let b : high l x p - 1 - t ≡ 0 = omega arith in λ k. dart p 0 (b k) south
+
   -- A cell with two border darts in a row lies at the corner of its patch.
   pub corner_cell : (p : ℕ) (s : Way) (t u : ℕ) → p < l.patches → t < size l x p s → u < size l x p (after s)
       → (rim l x p s t).i ≡ (rim l x p (after s) u).i → (rim l x p s t).j ≡ (rim l x p (after s) u).j

@@ -40,6 +40,46 @@ module _ (l : Layout) (x : Lengths) (paved : IsPaved l) (len : AreLengths l x) w
   place_once p west north t u low t_low u_low c r = absurd (omega (arith, c, u_low, len.across p low))
   place_once p west west t u low t_low u_low c r = (refl, omega (arith, r, t_low, u_low))
 
+  -- A border dart tells its slot.
+  pub rim_slot : (w v : Slot) (o k : ℕ) → IsSlot l w → IsSlot l v → o < x (use_of l w).arc → k < x (use_of l v).arc
+      → rim_at l x w o ≡ rim_at l x v k → w ≡ v
+  rim_slot w v o k is_w is_v o_low k_low same = by_place (place_once w.patch w.side w.side t u is_w.patch_low (at_low l x paved len w o is_w o_low) u_low columns rows).1
+    where
+      t : ℕ
+      t = reach l x w.patch w.side w.at + o
+
+      u : ℕ
+      u = reach l x v.patch v.side v.at + k
+
+      patches : v.patch ≡ w.patch
+      patches = sym (rim_patch l x paved len v.patch v.side u) ∙ ap (λ (d : Dart). d.patch) (sym same) ∙ rim_patch l x paved len w.patch w.side t
+
+      sides : v.side ≡ w.side
+      sides = sym (rim_way l x paved len v.patch v.side u) ∙ ap (λ (d : Dart). d.way) (sym same) ∙ rim_way l x paved len w.patch w.side t
+
+      u_low : u < size l x w.patch w.side
+      u_low = subst (λ (n : ℕ). u < n) (λ r. size l x (patches r) (sides r)) (at_low l x paved len v k is_v k_low)
+
+      there : rim l x v.patch v.side u ≡ rim l x w.patch w.side u
+      there = λ r. rim l x (patches r) (sides r) u
+
+      columns : side_column l x w.patch w.side t ≡ side_column l x w.patch w.side u
+      columns = sym (rim_column l x paved len w.patch w.side t is_w.patch_low (at_low l x paved len w o is_w o_low))
+          ∙ ap column_of (same ∙ there) ∙ rim_column l x paved len w.patch w.side u is_w.patch_low u_low
+
+      rows : side_row l x w.patch w.side t ≡ side_row l x w.patch w.side u
+      rows = sym (rim_row l x paved len w.patch w.side t is_w.patch_low (at_low l x paved len w o is_w o_low))
+          ∙ ap row_of (same ∙ there) ∙ rim_row l x paved len w.patch w.side u is_w.patch_low u_low
+
+      by_place : t ≡ u → w ≡ v
+      by_place e =
+          let k_inside : k < long_at l x w.patch w.side v.at = subst (λ (n : ℕ). k < n) (λ r. long_at l x (patches r) (sides r) v.at) k_low in
+          let v_many : v.at < l.many w.patch w.side = subst (λ (n : ℕ). v.at < n) (λ r. l.many (patches r) (sides r)) is_v.low in
+          let r : (w.at ≡ v.at) × (o ≡ k) =
+              place_same (long_at l x w.patch w.side) (l.many w.patch w.side) w.at o v.at k is_w.low v_many o_low k_inside
+                  (e ∙ (λ r. reach l x (patches r) (sides r) v.at + k)) in
+          λ q. slot (sym patches q) (sym sides q) (r.0 q)
+
   -- A dart that leaves a place of a side lies on the border, or is next to the border dart before.
   border_dart : (p : ℕ) (s w : Way) (i j t : ℕ) → t < size l x p s → IsDart l x (dart p i j w)
       → column i w ≡ side_column l x p s t → row j w ≡ side_row l x p s t
