@@ -1,7 +1,7 @@
 -- Small facts on the half edges of a manifold.
-use Rattle.std.proofs.Common.{◌≡◌, ℕ, ◌<◌, Some, sym, ◌∙◌, ap}
+use Rattle.std.proofs.Common.{◌≡◌, ℕ, ◌<◌, Some, sym, ◌∙◌, ap, ◌⊎◌, zero, suc, inl, inr}
 use Rattle.std.proofs.lemmas.Option.{same_Some}
-use Rattle.def_mesh.specs.HalfEdges.{HalfEdges, IsQuadManifold}
+use Rattle.def_mesh.specs.HalfEdges.{HalfEdges, AreTurned, Turns, IsQuadManifold}
 
 module _ (mesh : HalfEdges) (laws : IsQuadManifold mesh) where
   -- The dart before d is the third after it.
@@ -37,3 +37,14 @@ module _ (mesh : HalfEdges) (laws : IsQuadManifold mesh) where
   -- Turns from two darts to one come from one.
   pub turn_same : (d e t : ℕ) → d < mesh.count → e < mesh.count → mesh.twin (mesh.prev d) ≡ Some t → mesh.twin (mesh.prev e) ≡ Some t → d ≡ e
   turn_same d e t ld le a b = prev_same d e (twin_same (mesh.prev d) (mesh.prev e) t (laws.prev_low d ld) (laws.prev_low e le) a b)
+
+  -- Where two turns lead back, the fan has two darts.
+  pub two_darts : (d e : ℕ) → d < mesh.count → e < mesh.count → mesh.twin (mesh.prev d) ≡ Some e → mesh.twin (mesh.prev e) ≡ Some d → (n x : ℕ) → Turns mesh d x n → (x ≡ d) ⊎ (x ≡ e)
+  two_darts d e ld le one two zero x t = inl (sym t)
+  two_darts d e ld le one two (suc n) x t = by_before t.0 t.2 (two_darts d e ld le one two n t.0 t.1) t.3
+    where
+      by_before : (y : ℕ) → x < mesh.count → (y ≡ d) ⊎ (y ≡ e) → AreTurned mesh y x → (x ≡ d) ⊎ (x ≡ e)
+      by_before y lx (inl s) (inl r) = inr (same_Some x e (sym r ∙ (ap (λ z. mesh.twin (mesh.prev z)) s ∙ one)))
+      by_before y lx (inl s) (inr r) = inr (turn_same x e d lx le (r ∙ ap Some s) two)
+      by_before y lx (inr s) (inl r) = inl (same_Some x d (sym r ∙ (ap (λ z. mesh.twin (mesh.prev z)) s ∙ two)))
+      by_before y lx (inr s) (inr r) = inl (turn_same x d e lx ld (r ∙ ap Some s) one)

@@ -3,12 +3,12 @@
 use Rattle.std.proofs.Common.{◌≡◌, ◌⊎◌, ℕ, zero, suc, ◌+◌, ◌*◌, ◌-◌, ◌/◌, ◌<◌, ◌≤◌, true, false, Some, sym, ◌∙◌, ap, subst, refl, inl, inr, true≢false, arith}
 use Rattle.std.proofs.lemmas.Bool.{cases_eq, cases_order}
 use Rattle.std.proofs.lemmas.Option.{same_Some}
-use Rattle.def_mesh.specs.HalfEdges.{HalfEdges, AreTurned, Turns, IsQuadManifold}
+use Rattle.def_mesh.specs.HalfEdges.{HalfEdges, Turns, IsQuadManifold}
 use Rattle.def_cut.specs.Cuts.{Cut, IsCross, HasCross, IsUncut, IsCut}
 use Rattle.def_cut.specs.Grids.{Cells, IsGrid}
 use Rattle.def_cut.specs.Steps.{spin}
 use Rattle.def_cut.specs.Laws.{NoFoldLaw}
-use Rattle.cut_laws.proofs.Darts.{prev_three, prev_same, no_self, turn_low, turn_same}
+use Rattle.cut_laws.proofs.Darts.{prev_three, prev_same, no_self, turn_low, two_darts}
 
 -- x is the k-th side of a cell of a grid, where k may be any number.
 pub record At (mesh : HalfEdges) (w h : ℕ) (cell : Cells) (k x : ℕ) : Type 0 where
@@ -205,17 +205,6 @@ module _ (mesh : HalfEdges) (laws : IsQuadManifold mesh) (cut : Cut) (full : IsC
       let self : mesh.next (mesh.next (cell i j)) ≡ cell i (suc j) = ap (λ x. mesh.next (mesh.next x)) e ∙ laws.four_sides (cell i (suc j)) in
       no_self mesh laws (mesh.next (mesh.next (cell i j))) (north_low i j li (omega arith)) (grid.north i j li lj ∙ ap Some (sym self))
 
-  -- Where two turns lead back, the fan has two darts.
-  two_darts : (d e : ℕ) → d < mesh.count → e < mesh.count → mesh.twin (mesh.prev d) ≡ Some e → mesh.twin (mesh.prev e) ≡ Some d → (n x : ℕ) → Turns mesh d x n → (x ≡ d) ⊎ (x ≡ e)
-  two_darts d e ld le one two zero x t = inl (sym t)
-  two_darts d e ld le one two (suc n) x t = by_before t.0 t.2 (two_darts d e ld le one two n t.0 t.1) t.3
-    where
-      by_before : (y : ℕ) → x < mesh.count → (y ≡ d) ⊎ (y ≡ e) → AreTurned mesh y x → (x ≡ d) ⊎ (x ≡ e)
-      by_before y lx (inl s) (inl r) = inr (same_Some x e (sym r ∙ (ap (λ z. mesh.twin (mesh.prev z)) s ∙ one)))
-      by_before y lx (inl s) (inr r) = inr (turn_same mesh laws x e d lx le (r ∙ ap Some s) two)
-      by_before y lx (inr s) (inl r) = inl (same_Some x d (sym r ∙ (ap (λ z. mesh.twin (mesh.prev z)) s ∙ two)))
-      by_before y lx (inr s) (inr r) = inl (turn_same mesh laws x d e lx ld (r ∙ ap Some s) one)
-
   two_turns : (d e : ℕ) → d < mesh.count → mesh.twin (mesh.prev d) ≡ Some e → mesh.twin (mesh.prev e) ≡ Some d → cut d ≡ false → cut (mesh.prev d) ≡ false → cut e ≡ false → cut (mesh.prev e) ≡ false → ⊥
   two_turns d e ld one two off_d off_pd off_e off_pe = crossed (full.crossed d ld uncut)
     where
@@ -227,7 +216,7 @@ module _ (mesh : HalfEdges) (laws : IsQuadManifold mesh) (cut : Cut) (full : IsC
       off x (inr s) = (ap cut s ∙ off_e, ap (λ z. cut (mesh.prev z)) s ∙ off_pe)
 
       uncut : IsUncut mesh cut (mesh.from d)
-      uncut x lx s = let t : (n : ℕ) × Turns mesh d x n = laws.one_fan d x ld lx (sym s) in off x (two_darts d e ld le one two t.0 x t.1)
+      uncut x lx s = let t : (n : ℕ) × Turns mesh d x n = laws.one_fan d x ld lx (sym s) in off x (two_darts mesh laws d e ld le one two t.0 x t.1)
 
       crossed : HasCross mesh d → ⊥
       crossed c = apart c.0 c.1 c.2 c.3

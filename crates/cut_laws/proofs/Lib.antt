@@ -9,3 +9,4 @@ pub mod OneList
 pub mod Corners
 pub mod Crosses
 pub mod Spins
+pub mod Leasts

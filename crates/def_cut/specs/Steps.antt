@@ -1,11 +1,15 @@
 -- Steps over half edges: round a face, and straight on from face to face.
-use Rattle.std.specs.Prelude.{ℕ, zero, suc, Option, Some, None}
+use Rattle.std.specs.Prelude.{ℕ, zero, suc, ◌/◌, Option, Some, None}
 use Rattle.def_mesh.specs.HalfEdges.{HalfEdges}
 
 -- The dart k steps on round the face of d.
 abbrev pub spin : (mesh : HalfEdges) (k d : ℕ) → ℕ
 spin mesh zero d = d
 spin mesh (suc k) d = mesh.next (spin mesh k d)
+
+-- The face of dart d.
+abbrev pub face_of : (d : ℕ) → ℕ
+face_of d = d / 4
 
 -- A twin that is known to be there, or 0.
 abbrev pub or_zero : (found : Option ℕ) → ℕ

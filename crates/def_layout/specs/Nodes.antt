@@ -1,10 +1,12 @@
 -- The nodes of a cut.
-use Rattle.std.specs.Prelude.{ℕ, ◌+◌, Bool, ◌&&◌, ◌||◌, not, nat_lt, is_some, List, filter, length}
+use Rattle.std.specs.Prelude.{◌≡◌, ◌<◌, true, false, Some, None, ℕ, ◌+◌, Bool, ◌&&◌, ◌||◌, not, nat_lt, is_some, List, filter, length}
 use Rattle.std.specs.List.{range_with_len}
 use Rattle.def_mesh.specs.Faces.{Faces}
 use Rattle.def_mesh.specs.Darts.{prev_of, twin_of}
 use Rattle.def_mesh.specs.Vertices.{fan_of, vertex_count}
 use Rattle.def_mesh.specs.Kinds.{is_regular}
+use Rattle.def_mesh.specs.HalfEdges.{HalfEdges}
+use Rattle.def_cut.specs.Cuts.{Cut, HasCross}
 use Rattle.def_cut.specs.FullCut.{is_on}
 
 -- Whether the dart before d is in the cut and has no twin.
@@ -23,3 +25,11 @@ is_node faces marks v = not (is_regular faces v) || nat_lt 2 (cut_degree faces m
 -- All nodes, rising.
 abbrev pub nodes_of : (faces : Faces) (marks : List Bool) → List ℕ
 nodes_of faces marks = filter (is_node faces marks) (range_with_len 0 (vertex_count faces))
+
+-- What the laws of layouts need of nodes: other vertices of the cut lie on one straight line of it, inside or along the
+-- boundary, and nothing ends or turns there.
+pub record AreNodes (mesh : HalfEdges) (cut : Cut) (node : ℕ → Bool) : Type 0 where
+  pub through : (d t : ℕ) → d < mesh.count → cut d ≡ true → mesh.twin d ≡ Some t → node (mesh.from d) ≡ false → HasCross mesh d
+  pub along : (d : ℕ) → d < mesh.count → mesh.twin d ≡ None → node (mesh.from (mesh.next d)) ≡ false
+      → (t : ℕ) × (mesh.twin (mesh.next d) ≡ Some t) × (mesh.twin (mesh.next t) ≡ None)
+  pub corner : (d : ℕ) → d < mesh.count → cut d ≡ true → cut (mesh.prev d) ≡ true → node (mesh.from d) ≡ true

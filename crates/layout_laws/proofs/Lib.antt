@@ -1,0 +1,4 @@
+pub mod Borders
+pub mod FaceNodes
+pub mod Runs
+pub mod Uses
