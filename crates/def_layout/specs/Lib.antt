@@ -8,3 +8,4 @@ pub mod Arcs
 pub mod Nodes
 pub mod Borders
 pub mod Plans
+pub mod NodeLaws

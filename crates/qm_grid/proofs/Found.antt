@@ -1,5 +1,5 @@
 -- The list of patches as it grows, face by face.
-use Rattle.std.proofs.Common.{◌≡◌, ◌⊎◌, ℕ, zero, suc, ◌+◌, ◌*◌, ◌/◌, ◌%◌, ◌<◌, ◌≤◌, Bool, true, false, ◌||◌, List, [], ◌∷◌, ◌++◌, map, length, get_or, replicate, sym, ◌∙◌, ap, subst, refl, inl, inr, length-append, arith}
+use Rattle.std.proofs.Common.{◌≡◌, ◌⊎◌, ℕ, suc, ◌+◌, ◌*◌, ◌/◌, ◌%◌, ◌<◌, ◌≤◌, Bool, true, false, ◌||◌, List, [], ◌∷◌, ◌++◌, map, length, get_or, replicate, sym, ◌∙◌, ap, subst, refl, inl, inr, length-append, arith}
 use Rattle.std.proofs.lemmas.Bool.{cases_eq, cases_lt, or_cases, or_left, or_right, false≢true}
 use Rattle.std.proofs.lemmas.List.{get_or_append_left, get_or-append-add, get_or-map, length-map, length-replicate, get_or-replicate}
 use Rattle.def_mesh.specs.Faces.{Faces}
@@ -10,6 +10,7 @@ use Rattle.def_cut.specs.Grids.{Rectangle, cell_of, patch_at, least_of, IsPatch,
 use Rattle.def_cut.specs.Steps.{spin}
 use Rattle.cut_laws.specs.Grown.{IsGrown}
 use Rattle.cut_laws.proofs.Classes.{linked_back}
+use Rattle.cut_laws.proofs.Leasts.{least_high, least_low}
 use Rattle.cut_laws.proofs.OneList.{AreTiles, LiesIn, least_at, place_row, place_is, shared, once}
 use Rattle.face_laws.proofs.Fans.{same_face}
 use Rattle.qm_grid.specs.Cells.{grid_list}
@@ -29,19 +30,6 @@ pub record AreFoundSoFar (faces : Faces) (cut : List Bool) (n : ℕ) (seen : Lis
   pub back : (k g : ℕ) → k < length found → g < length faces → lies_in (patch_at found k).cells g ≡ true → get_or seen g false ≡ true
   pub tiles : AreTiles (half_edges faces) (is_on cut) (λ d. d / 4) found
   pub below : (k : ℕ) → k < length found → least_at (λ d. d / 4) found k < n
-
--- The least of a list is at most each of its numbers, and at least what all of them are.
-least_high : (xs : List ℕ) (k : ℕ) → k < length xs → least_of xs ≤ get_or xs k 0
-least_high [] k l = absurd (omega arith)
-least_high (x ∷ []) zero l = omega arith
-least_high (x ∷ []) (suc k) l = absurd (omega arith)
-least_high (x ∷ y ∷ xs) zero l = omega arith
-least_high (x ∷ y ∷ xs) (suc k) l = omega (arith, least_high (y ∷ xs) k (omega arith))
-
-least_low : (xs : List ℕ) (f : ℕ) → 0 < length xs → ((k : ℕ) → k < length xs → f ≤ get_or xs k 0) → f ≤ least_of xs
-least_low [] f some each = absurd (omega arith)
-least_low (x ∷ []) f some each = each 0 (omega arith)
-least_low (x ∷ y ∷ xs) f some each = omega (arith, each 0 (omega arith), least_low (y ∷ xs) f (omega arith) (λ k l. each (suc k) (omega arith)))
 
 -- The least face of cells that lie in face f and in no lesser one.
 least_face : (cells : List ℕ) (f : ℕ) → lies_in cells f ≡ true → ((g : ℕ) → lies_in cells g ≡ true → f ≤ g) → ((k : ℕ) → k < length cells → lies_in cells (get_or cells k 0 / 4) ≡ true) → least_of (map (λ d. d / 4) cells) ≡ f

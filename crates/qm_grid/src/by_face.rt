@@ -1,9 +1,10 @@
 //! The patches, by their least faces.
 
-ghost use Rattle.std.specs.Prelude.{◌≡◌, ◌<◌, ◌/◌, ℕ, length, false, map, IfOk, slice_index, replicate};
+ghost use Rattle.std.specs.Prelude.{◌≡◌, ◌<◌, ℕ, length, false, map, IfOk, slice_index, replicate};
 ghost use Rattle.def_mesh.specs.HalfEdges.{half_edges};
 ghost use Rattle.def_cut.specs.FullCut.{is_on, IsFullCut};
 ghost use Rattle.def_cut.specs.Grids.{rectangle, IsPartition};
+ghost use Rattle.def_cut.specs.Steps.{face_of};
 ghost use Rattle.qm_grid.specs.Cutting.{IsCutting};
 ghost use Rattle.qm_grid.specs.Heads.{IsHead};
 
@@ -18,7 +19,7 @@ use std::alloc::{AllocError, Global};
 /// The rectangular patches of a full cut, in order of their least faces. Linear in the faces.
 pub fn patches(alloc: Global, mesh: &Mesh, graph: &Graph) -> Result<Vec<Patch>, Memory>
     requires cut { IsFullCut mesh.now graph.now.covered.items }
-    ensures patches { IfOk result (λ ps. IsPartition (half_edges mesh.now) (is_on graph.now.covered.items) (λ d. d / 4) (map rectangle ps.items)) }
+    ensures patches { IfOk result (λ ps. IsPartition (half_edges mesh.now) (is_on graph.now.covered.items) face_of (map rectangle ps.items)) }
 {
     let cut = graph.covered.as_slice();
     let mut seen = vec![in alloc; false; mesh.faces().len()]?;
@@ -38,7 +39,7 @@ fn in_order(
     requires long { length heads.now ≡ length mesh.now }
     requires heads { (f : ℕ) → f < length mesh.now → IsHead mesh.now cut.now f (slice_index heads.now f) }
     requires unseen { seen.old ≡ replicate (length mesh.now) false }
-    ensures patches { IfOk result (λ ps. IsPartition (half_edges mesh.now) (is_on cut.now) (λ d. d / 4) (map rectangle ps.items)) }
+    ensures patches { IfOk result (λ ps. IsPartition (half_edges mesh.now) (is_on cut.now) face_of (map rectangle ps.items)) }
 {
     let mut found = Vec::new(alloc);
     for (f, head) in heads.iter().enumerate() {
