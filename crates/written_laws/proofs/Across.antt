@@ -3,12 +3,12 @@ use Rattle.std.proofs.Common.{◌≡◌, ◌⊎◌, ℕ, ◌+◌, ◌-◌, ◌<�
 use Rattle.std.specs.Prelude.{◌==◌}
 use Rattle.std.proofs.lemmas.Bool.{cond-false, ne_eqb, false≢true}
 use Rattle.def_mesh.specs.Darts.{from_of, to_of, twin_of, IsTwin}
-use Rattle.def_layout.specs.Layouts.{Way, south, east, north, west, Layout, Slot, IsSlot, use_of}
+use Rattle.def_layout.specs.Layouts.{Way, south, east, north, west, after, Layout, Slot, IsSlot, use_of}
 use Rattle.def_layout.specs.Laid.{IsLaid, IsOther}
 use Rattle.def_layout.specs.Lengths.{Lengths, wide, high, AreLengths}
 use Rattle.def_layout.specs.Cells.{Dart, IsDart, dart, next, rim_at}
 use Rattle.def_written.specs.Numbers.{number}
-use Rattle.def_written.specs.NewFaces.{from, to, new_faces}
+use Rattle.def_written.specs.NewFaces.{column, row, from, to, new_faces}
 use Rattle.def_written.specs.Edges.{on_arc, flat, steep}
 use Rattle.mesh_laws.proofs.Twins.{twin_found, twin_is, twin_none}
 use Rattle.written_laws.proofs.Numbers.{number_same}
@@ -50,11 +50,13 @@ module _ (l : Layout) (x : Lengths) (laid : IsLaid l) (len : AreLengths l x) whe
       edges false g e =
           λ t. on_arc (other.1.arc t) (cond (e t) (x (use_of l w).arc - 1 - o) (x (other.1.arc t) - 1 - (x (use_of l w).arc - 1 - o)))
 
-  -- The dart over an edge inside a patch.
+  -- The dart over an edge inside a patch leaves the grid point where the other one ends.
   pub across_within : (d : Dart) → IsWithin l x d → (e : Dart) × IsAcross l x laid len d e
+      × (e.patch ≡ d.patch) × (column e.i e.way ≡ column d.i (after d.way)) × (row e.j e.way ≡ row d.j (after d.way))
   across_within d i = by_way d.patch d.i d.j d.way i
     where
       by_way : (p i j : ℕ) (w : Way) → IsWithin l x (dart p i j w) → (e : Dart) × IsAcross l x laid len (dart p i j w) e
+          × (e.patch ≡ p) × (column e.i e.way ≡ column i (after w)) × (row e.j e.way ≡ row j (after w))
       by_way p i j south h =
           let c : course_of l x (dart p i (j - 1) north) ≡ inner_course p i (j - 1) north =
           cond-false (j - 1 + 1 == high l x p) _ _ (ne_eqb (j - 1 + 1) (high l x p) (λ e. omega (arith, h.is_edge.2, h.is_edge.3))) in
@@ -65,6 +67,9 @@ module _ (l : Layout) (x : Lengths) (laid : IsLaid l) (len : AreLengths l x) whe
               edge = ap (λ (k : Course). k.edge) c ∙ ap (flat p i) same ∙ sym (ap (λ (k : Course). k.edge) h.course);
               turned = ap (λ (k : Course). k.ahead) c ∙ sym (ap (λ (k : Course). not k.ahead) h.course);
             },
+            refl,
+            refl,
+            same,
           )
       by_way p i j east h =
           let c : course_of l x (dart p (i + 1) j west) ≡ inner_course p (i + 1) j west =
@@ -75,6 +80,9 @@ module _ (l : Layout) (x : Lengths) (laid : IsLaid l) (len : AreLengths l x) whe
               edge = ap (λ (k : Course). k.edge) c ∙ sym (ap (λ (k : Course). k.edge) h.course);
               turned = ap (λ (k : Course). k.ahead) c ∙ sym (ap (λ (k : Course). not k.ahead) h.course);
             },
+            refl,
+            refl,
+            refl,
           )
       by_way p i j north h =
           let c : course_of l x (dart p i (j + 1) south) ≡ inner_course p i (j + 1) south =
@@ -85,6 +93,9 @@ module _ (l : Layout) (x : Lengths) (laid : IsLaid l) (len : AreLengths l x) whe
               edge = ap (λ (k : Course). k.edge) c ∙ sym (ap (λ (k : Course). k.edge) h.course);
               turned = ap (λ (k : Course). k.ahead) c ∙ sym (ap (λ (k : Course). not k.ahead) h.course);
             },
+            refl,
+            refl,
+            refl,
           )
       by_way p i j west h =
           let c : course_of l x (dart p (i - 1) j east) ≡ inner_course p (i - 1) j east =
@@ -96,6 +107,9 @@ module _ (l : Layout) (x : Lengths) (laid : IsLaid l) (len : AreLengths l x) whe
               edge = ap (λ (k : Course). k.edge) c ∙ ap (λ (n : ℕ). steep p n j) same ∙ sym (ap (λ (k : Course). k.edge) h.course);
               turned = ap (λ (k : Course). k.ahead) c ∙ sym (ap (λ (k : Course). not k.ahead) h.course);
             },
+            refl,
+            same,
+            refl,
           )
 
   -- A dart on an arc that no slot uses the other way round.
@@ -106,7 +120,7 @@ module _ (l : Layout) (x : Lengths) (laid : IsLaid l) (len : AreLengths l x) whe
   pub across_or_alone : (d : Dart) → IsDart l x d
       → ((e : Dart) × IsAcross l x laid len d e) ⊎ ((w : Slot) × (o : ℕ) × IsAlone d w o)
   across_or_alone d is = elim (sees l x laid len d is) [
-    | inl i ↦ inl (across_within d i)
+    | inl i ↦ inl ((across_within d i).0, (across_within d i).1)
     | inr b ↦ elim (laid.other b.0 b.2.is_slot) [
       | inl v ↦ inl (
         rim_at l x v.0 (x (use_of l b.0).arc - 1 - b.1),

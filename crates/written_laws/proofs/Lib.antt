@@ -23,3 +23,4 @@ pub mod Inners
 pub mod Regulars
 pub mod NodeKinds
 pub mod Sided
+pub mod OldModel
