@@ -4,3 +4,4 @@ pub mod NewFaces
 pub mod Edges
 pub mod Shape
 pub mod Places
+pub mod Laws

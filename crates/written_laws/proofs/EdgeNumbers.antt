@@ -8,7 +8,7 @@ use Rattle.def_math.specs.Runs.{run_at}
 use Rattle.def_layout.specs.Layouts.{Layout}
 use Rattle.def_layout.specs.Lengths.{Lengths, wide, high}
 use Rattle.def_written.specs.Points.{Point, node, along, inside, IsPoint}
-use Rattle.def_written.specs.Numbers.{before_arc, before_patch, number, vertices}
+use Rattle.def_written.specs.Numbers.{before_arc, number, vertices}
 use Rattle.def_written.specs.Edges.{Edge, on_arc, flat, steep, IsEdge}
 use Rattle.qm_laws.proofs.Runs.{run_here, place_low, place_same, IsInRun}
 use Rattle.written_laws.proofs.Numbers.{inner_points}
@@ -43,12 +43,12 @@ module _ (l : Layout) (x : Lengths) where
   flat_place : (p i j : ℕ) → IsEdge l x (flat p i j) → (j - 1) * wide l x p + i < flats p
   flat_place p i j is =
       subst (λ n. (j - 1) * wide l x p + i < n) (mul_comm (wide l x p) (high l x p - 1))
-          (mul-add-lt (j - 1) (wide l x p) i (high l x p - 1) (omega (arith, is.2, is.3)) is.1)
+      (mul-add-lt (j - 1) (wide l x p) i (high l x p - 1) (omega (arith, is.2, is.3)) is.1)
 
   steep_place : (p i j : ℕ) → IsEdge l x (steep p i j) → j * (wide l x p - 1) + (i - 1) < steeps p
   steep_place p i j is =
       subst (λ n. j * (wide l x p - 1) + (i - 1) < n) (mul_comm (wide l x p - 1) (high l x p))
-          (mul-add-lt j (wide l x p - 1) (i - 1) (high l x p) is.3 (omega (arith, is.1, is.2)))
+      (mul-add-lt j (wide l x p - 1) (i - 1) (high l x p) is.3 (omega (arith, is.1, is.2)))
 
   arc_place : (a k : ℕ) → IsEdge l x (on_arc a k) → count_below x a + k < count_below x l.arcs
   arc_place a k is = place_low x l.arcs a k is.0 is.1
@@ -72,8 +72,8 @@ module _ (l : Layout) (x : Lengths) where
   edge_same (flat p i j) (on_arc b m) is_e is_f same = absurd (omega (arith, arc_place b m is_f, same))
   edge_same (flat p i j) (flat q c d) is_e is_f same =
       let s : (p ≡ q) × ((j - 1) * wide l x p + i ≡ (d - 1) * wide l x q + c) =
-          place_same flats l.patches p ((j - 1) * wide l x p + i) q ((d - 1) * wide l x q + c) is_e.0 is_f.0
-              (flat_place p i j is_e) (flat_place q c d is_f) (omega (arith, same)) in
+      place_same flats l.patches p ((j - 1) * wide l x p + i) q ((d - 1) * wide l x q + c) is_e.0 is_f.0
+      (flat_place p i j is_e) (flat_place q c d is_f) (omega (arith, same)) in
       by_place s.0 (s.1 ∙ ap (λ r. (d - 1) * wide l x r + c) (sym s.0))
     where
       by_place : p ≡ q → (j - 1) * wide l x p + i ≡ (d - 1) * wide l x p + c → flat p i j ≡ flat q c d
@@ -87,15 +87,15 @@ module _ (l : Layout) (x : Lengths) where
   edge_same (steep p i j) (flat q c d) is_e is_f same = absurd (omega (arith, flat_low q c d is_f, same))
   edge_same (steep p i j) (steep q c d) is_e is_f same =
       let s : (p ≡ q) × (j * (wide l x p - 1) + (i - 1) ≡ d * (wide l x q - 1) + (c - 1)) =
-          place_same steeps l.patches p (j * (wide l x p - 1) + (i - 1)) q (d * (wide l x q - 1) + (c - 1)) is_e.0 is_f.0
-              (steep_place p i j is_e) (steep_place q c d is_f) (omega (arith, same)) in
+      place_same steeps l.patches p (j * (wide l x p - 1) + (i - 1)) q (d * (wide l x q - 1) + (c - 1)) is_e.0 is_f.0
+      (steep_place p i j is_e) (steep_place q c d is_f) (omega (arith, same)) in
       by_place s.0 (s.1 ∙ ap (λ r. d * (wide l x r - 1) + (c - 1)) (sym s.0))
     where
       by_place : p ≡ q → j * (wide l x p - 1) + (i - 1) ≡ d * (wide l x p - 1) + (c - 1) → steep p i j ≡ steep q c d
       by_place patch place =
           let w : wide l x q ≡ wide l x p = ap (wide l x) (sym patch) in
           let s : (j ≡ d) × (i - 1 ≡ c - 1) =
-              same_from_place j (i - 1) d (c - 1) (wide l x p - 1) (omega (arith, is_e.1, is_e.2)) (omega (arith, is_f.1, is_f.2, w)) place in
+          same_from_place j (i - 1) d (c - 1) (wide l x p - 1) (omega (arith, is_e.1, is_e.2)) (omega (arith, is_f.1, is_f.2, w)) place in
           let columns : i ≡ c = omega (arith, s.1, is_e.1, is_f.1) in
           λ t. steep (patch t) (columns t) (s.0 t)
 
@@ -118,7 +118,7 @@ module _ (l : Layout) (x : Lengths) where
       by_flat : (m p o : ℕ) → n ≡ count_below x l.arcs + m → IsInRun flats l.patches m p o → (e : Edge) × IsEdge l x e × (edge_number e ≡ n)
       by_flat m p o is h =
           let r : (o % wide l x p < wide l x p) × (o / wide l x p < high l x p - 1) × (o / wide l x p * wide l x p + o % wide l x p ≡ o) =
-              in_rows (wide l x p) (high l x p - 1) o h.inside in
+          in_rows (wide l x p) (high l x p - 1) o h.inside in
           let row : o / wide l x p + 1 - 1 ≡ o / wide l x p = omega arith in
           let place : (o / wide l x p + 1 - 1) * wide l x p ≡ o / wide l x p * wide l x p = ap (λ k. k * wide l x p) row in
           (flat p (o % wide l x p) (o / wide l x p + 1), (h.low, r.0, omega arith, omega (arith, r.1)), omega (arith, is, h.place, r.2, place))
@@ -126,25 +126,25 @@ module _ (l : Layout) (x : Lengths) where
       on_flats : count_below x l.arcs ≤ n → n < count_below x l.arcs + count_below flats l.patches → (e : Edge) × IsEdge l x e × (edge_number e ≡ n)
       on_flats more less =
           by_flat (n - count_below x l.arcs) (run_at (count_below flats) l.patches (n - count_below x l.arcs))
-              (n - count_below x l.arcs - count_below flats (run_at (count_below flats) l.patches (n - count_below x l.arcs)))
-              (omega (arith, more)) (run_here flats l.patches (n - count_below x l.arcs) (omega (arith, more, less)))
+          (n - count_below x l.arcs - count_below flats (run_at (count_below flats) l.patches (n - count_below x l.arcs)))
+          (omega (arith, more)) (run_here flats l.patches (n - count_below x l.arcs) (omega (arith, more, less)))
 
       by_steep : (m p o : ℕ) → n ≡ count_below x l.arcs + count_below flats l.patches + m → IsInRun steeps l.patches m p o
           → (e : Edge) × IsEdge l x e × (edge_number e ≡ n)
       by_steep m p o is h =
           let v : ℕ = wide l x p - 1 in
           let r : (o % (wide l x p - 1) < wide l x p - 1) × (o / (wide l x p - 1) < high l x p) × (o / (wide l x p - 1) * (wide l x p - 1) + o % (wide l x p - 1) ≡ o) =
-              in_rows (wide l x p - 1) (high l x p) o h.inside in
+          in_rows (wide l x p - 1) (high l x p) o h.inside in
           let column : o % (wide l x p - 1) + 1 - 1 ≡ o % (wide l x p - 1) = omega arith in
           (steep p (o % (wide l x p - 1) + 1) (o / (wide l x p - 1)), (h.low, omega arith, omega (arith, r.0), r.1), omega (arith, is, h.place, r.2, column))
 
       on_steeps : count_below x l.arcs + count_below flats l.patches ≤ n → (e : Edge) × IsEdge l x e × (edge_number e ≡ n)
       on_steeps most =
           by_steep (n - (count_below x l.arcs + count_below flats l.patches))
-              (run_at (count_below steeps) l.patches (n - (count_below x l.arcs + count_below flats l.patches)))
-              (n - (count_below x l.arcs + count_below flats l.patches)
-                  - count_below steeps (run_at (count_below steeps) l.patches (n - (count_below x l.arcs + count_below flats l.patches))))
-              (omega (arith, most)) (run_here steeps l.patches (n - (count_below x l.arcs + count_below flats l.patches)) (omega (arith, most, low)))
+          (run_at (count_below steeps) l.patches (n - (count_below x l.arcs + count_below flats l.patches)))
+          (n - (count_below x l.arcs + count_below flats l.patches)
+          - count_below steeps (run_at (count_below steeps) l.patches (n - (count_below x l.arcs + count_below flats l.patches))))
+          (omega (arith, most)) (run_here steeps l.patches (n - (count_below x l.arcs + count_below flats l.patches)) (omega (arith, most, low)))
 
   -- Each number below that of the vertices is that of a point.
   pub point_onto : (n : ℕ) → n < vertices l x → (a : Point) × IsPoint l x a × (number l x a ≡ n)
@@ -162,25 +162,27 @@ module _ (l : Layout) (x : Lengths) where
       on_arcs : l.nodes ≤ n → n < l.nodes + before_arc x l.arcs → (a : Point) × IsPoint l x a × (number l x a ≡ n)
       on_arcs more less =
           by_arc (n - l.nodes) (run_at (count_below (λ b. x b - 1)) l.arcs (n - l.nodes))
-              (n - l.nodes - count_below (λ b. x b - 1) (run_at (count_below (λ b. x b - 1)) l.arcs (n - l.nodes)))
-              (omega (arith, more)) (run_here (λ b. x b - 1) l.arcs (n - l.nodes) (omega (arith, more, less)))
+          (n - l.nodes - count_below (λ b. x b - 1) (run_at (count_below (λ b. x b - 1)) l.arcs (n - l.nodes)))
+          (omega (arith, more)) (run_here (λ b. x b - 1) l.arcs (n - l.nodes) (omega (arith, more, less)))
 
       by_patch : (m p o : ℕ) → n ≡ l.nodes + before_arc x l.arcs + m → IsInRun (inner_points l x) l.patches m p o
           → (a : Point) × IsPoint l x a × (number l x a ≡ n)
       by_patch m p o is h =
           let less : o < (high l x p - 1) * (wide l x p - 1) =
-              subst (λ k. o < k) (mul_comm (wide l x p - 1) (high l x p - 1)) h.inside in
+          subst (λ k. o < k) (mul_comm (wide l x p - 1) (high l x p - 1)) h.inside in
           let r : (o % (wide l x p - 1) < wide l x p - 1) × (o / (wide l x p - 1) < high l x p - 1) × (o / (wide l x p - 1) * (wide l x p - 1) + o % (wide l x p - 1) ≡ o) =
-              in_rows (wide l x p - 1) (high l x p - 1) o less in
+          in_rows (wide l x p - 1) (high l x p - 1) o less in
           let row : o / (wide l x p - 1) + 1 - 1 ≡ o / (wide l x p - 1) = omega arith in
-          let place : (o / (wide l x p - 1) + 1 - 1) * (wide l x p - 1) ≡ o / (wide l x p - 1) * (wide l x p - 1) = ap (λ k. k * (wide l x p - 1)) row in
-          (inside p (o % (wide l x p - 1) + 1) (o / (wide l x p - 1) + 1),
-              (h.low, omega arith, omega (arith, r.0), omega arith, omega (arith, r.1)), omega (arith, is, h.place, r.2, place))
+          let place : (o / (wide l x p - 1) + 1 - 1) * (wide l x p - 1) ≡ o / (wide l x p - 1) * (wide l x p - 1) = ap (λ k. k * (wide l x p - 1)) row in (
+            inside p (o % (wide l x p - 1) + 1) (o / (wide l x p - 1) + 1),
+            (h.low, omega arith, omega (arith, r.0), omega arith, omega (arith, r.1)),
+            omega (arith, is, h.place, r.2, place),
+          )
 
       on_patches : l.nodes + before_arc x l.arcs ≤ n → (a : Point) × IsPoint l x a × (number l x a ≡ n)
       on_patches most =
           by_patch (n - (l.nodes + before_arc x l.arcs))
-              (run_at (count_below (inner_points l x)) l.patches (n - (l.nodes + before_arc x l.arcs)))
-              (n - (l.nodes + before_arc x l.arcs)
-                  - count_below (inner_points l x) (run_at (count_below (inner_points l x)) l.patches (n - (l.nodes + before_arc x l.arcs))))
-              (omega (arith, most)) (run_here (inner_points l x) l.patches (n - (l.nodes + before_arc x l.arcs)) (omega (arith, most, low)))
+          (run_at (count_below (inner_points l x)) l.patches (n - (l.nodes + before_arc x l.arcs)))
+          (n - (l.nodes + before_arc x l.arcs)
+          - count_below (inner_points l x) (run_at (count_below (inner_points l x)) l.patches (n - (l.nodes + before_arc x l.arcs))))
+          (omega (arith, most)) (run_here (inner_points l x) l.patches (n - (l.nodes + before_arc x l.arcs)) (omega (arith, most, low)))

@@ -1,10 +1,10 @@
 -- A vertex of a model is inner where each arc at its point has two sides.
-use Rattle.std.proofs.Common.{◌≡◌, ◌≢◌, ◌⊎◌, ℕ, ◌+◌, ◌-◌, ◌<◌, ◌≤◌, Bool, true, false, length, Option, Some, None, refl, sym, ◌∙◌, ap, subst, inl, inr, arith}
+use Rattle.std.proofs.Common.{◌≡◌, ◌⊎◌, ℕ, ◌+◌, ◌<◌, ◌≤◌, true, Some, refl, sym, ◌∙◌, ap, inl, inr, arith}
 use Rattle.std.specs.Prelude.{◌==◌}
-use Rattle.std.proofs.lemmas.Bool.{cases_eq, eqb-true, eq-eqb}
+use Rattle.std.proofs.lemmas.Bool.{eqb-true, eq-eqb}
 use Rattle.std.proofs.lemmas.Option.{none-some}
 use Rattle.def_mesh.specs.Faces.{Faces}
-use Rattle.def_mesh.specs.Darts.{darts, next_of, from_of, to_of, twin_of}
+use Rattle.def_mesh.specs.Darts.{darts, from_of, to_of, twin_of}
 use Rattle.def_mesh.specs.Vertices.{faces_at}
 use Rattle.def_mesh.specs.Kinds.{is_inner}
 use Rattle.def_layout.specs.Layouts.{Layout, Slot, IsSlot, use_of}
@@ -17,7 +17,7 @@ use Rattle.qm_laws.proofs.Tallies.{passing, passing_le, passing_all, filter_long
 use Rattle.face_laws.proofs.Fans.{inner_from, inner_twin}
 use Rattle.written_laws.proofs.Borders.{at_is, at_from, at_to}
 use Rattle.written_laws.proofs.NewDarts.{next_is}
-use Rattle.written_laws.proofs.Courses.{IsAcross, IsOnBorder}
+use Rattle.written_laws.proofs.Courses.{IsAcross}
 use Rattle.written_laws.proofs.Across.{across_or_alone, IsAlone, alone_not_across}
 use Rattle.written_laws.proofs.Models.{IsModel}
 
@@ -92,9 +92,9 @@ module _ (l : Layout) (x : Lengths) (laid : IsLaid l) (len : AreLengths l x) (F 
         by_other (inl u) = u
         by_other (inr none) =
             let t : (t : ℕ) × (twin_of F (cell (rim_at l x w o)) ≡ Some t) =
-                inner_twin F v inner (cell (rim_at l x w o)) (model.low (rim_at l x w o) is_d) (at ends) in
+            inner_twin F v inner (cell (rim_at l x w o)) (model.low (rim_at l x w o) is_d) (at ends) in
             let s : IsAlone l x laid len (rim_at l x w o) w o =
-                record { on_border = record { is_slot = is; low = less; dart = refl }; alone = none } in
+            record { on_border = record { is_slot = is; low = less; dart = refl }; alone = none } in
             absurd (none-some t.0 (sym (model.alone (rim_at l x w o) is_d (λ e. alone_not_across l x laid len (rim_at l x w o) e w o s)) ∙ t.1))
 
     -- So many darts leave the vertex, where they are told by numbers.
@@ -112,8 +112,8 @@ module _ (l : Layout) (x : Lengths) (laid : IsLaid l) (len : AreLengths l x) (F 
         most = passing_le (λ d. from_of F d == v) (λ k. true) (darts F) n
             (λ k low s. let c : (k : ℕ) × (k < n) = code (model.onto k low).0 (model.onto k low).1 (leaves k low s) in (c.0, c.1, refl))
             (λ k m low s less r same. sym (model.onto k low).2
-                ∙ ap cell (once (model.onto k low).0 (model.onto m less).0 (model.onto k low).1 (model.onto m less).1 (leaves k low s) (leaves m less r) same)
-                ∙ (model.onto m less).2)
+            ∙ ap cell (once (model.onto k low).0 (model.onto m less).0 (model.onto k low).1 (model.onto m less).1 (leaves k low s) (leaves m less r) same)
+            ∙ (model.onto m less).2)
 
     pub fan_least : (n : ℕ) (at : (k : ℕ) → k < n → (d : Dart) × IsDart l x d × (from l x d ≡ a))
         → ((k m : ℕ) (b : k < n) (c : m < n) → (at k b).0 ≡ (at m c).0 → k ≡ m) → n ≤ faces_at F v
@@ -122,6 +122,9 @@ module _ (l : Layout) (x : Lengths) (laid : IsLaid l) (len : AreLengths l x) (F 
       where
         least : passing (λ k. true) n ≤ passing (λ d. from_of F d == v) (darts F)
         least = passing_le (λ k. true) (λ d. from_of F d == v) n (darts F)
-            (λ k low on. (cell (at k low).0, model.low (at k low).0 (at k low).1,
-                eq-eqb (from_of F (cell (at k low).0)) v (is_v.there (at k low).0 (at k low).1 (at k low).2)))
+            (λ k low on. (
+              cell (at k low).0,
+              model.low (at k low).0 (at k low).1,
+              eq-eqb (from_of F (cell (at k low).0)) v (is_v.there (at k low).0 (at k low).1 (at k low).2),
+            ))
             (λ k m low on less off same. once k m low less (model.same (at k low).0 (at m less).0 (at k low).1 (at m less).1 same))

@@ -24,3 +24,4 @@ pub mod Regulars
 pub mod NodeKinds
 pub mod Sided
 pub mod OldModel
+pub mod Shape

@@ -1,8 +1,7 @@
 -- How many vertices, edges and faces a model has, and Euler's number.
-use Rattle.std.proofs.Common.{◌≡◌, ◌≢◌, ◌⊎◌, ℕ, zero, suc, ◌+◌, ◌-◌, ◌*◌, ◌<◌, ◌≤◌, Bool, true, false, not, length, Option, Some, None, pos, ◌+ℤ◌, ◌-ℤ◌, refl, sym, ◌∙◌, ap, subst, inl, inr, arith}
-use Rattle.std.specs.Prelude.{nat_lt}
+use Rattle.std.proofs.Common.{◌≡◌, ◌≢◌, ◌⊎◌, ℕ, zero, suc, ◌+◌, ◌-◌, ◌*◌, ◌<◌, ◌≤◌, Bool, true, false, not, length, Option, Some, pos, ◌+ℤ◌, ◌-ℤ◌, refl, sym, ◌∙◌, ap, subst, inl, inr, arith}
 use Rattle.std.proofs.lemmas.Int.{ints}
-use Rattle.std.proofs.lemmas.Bool.{cases_order, ltb-true, lt-ltb, false≢true}
+use Rattle.std.proofs.lemmas.Bool.{cases_order, ltb-true, lt-ltb}
 use Rattle.def_math.specs.Counts.{count_below}
 use Rattle.def_mesh.specs.Faces.{Faces}
 use Rattle.def_mesh.specs.Darts.{darts, from_of, twin_of}
@@ -13,7 +12,7 @@ use Rattle.def_layout.specs.Laid.{IsLaid}
 use Rattle.def_layout.specs.Lengths.{Lengths, wide, high, AreLengths}
 use Rattle.def_layout.specs.Cells.{Dart, IsDart}
 use Rattle.def_written.specs.Points.{Point, IsPoint}
-use Rattle.def_written.specs.Numbers.{before_arc, before_patch, number, vertices}
+use Rattle.def_written.specs.Numbers.{before_patch, number, vertices}
 use Rattle.def_written.specs.NewFaces.{from, cells_before, face_count}
 use Rattle.def_written.specs.Edges.{Edge, IsEdge}
 use Rattle.qm_laws.proofs.Tallies.{passing, passing_le, passing_all, filter_long}
@@ -22,7 +21,7 @@ use Rattle.written_laws.proofs.Numbers.{number_low, number_same}
 use Rattle.written_laws.proofs.Grid.{wide_some, high_some}
 use Rattle.written_laws.proofs.Borders.{from_is}
 use Rattle.written_laws.proofs.NewDarts.{dart_number, dart_low, dart_same, at_number, faces_long}
-use Rattle.written_laws.proofs.Courses.{Course, course, course_of, course_is, course_once, IsAcross}
+use Rattle.written_laws.proofs.Courses.{course, course_of, course_is, course_once, IsAcross}
 use Rattle.written_laws.proofs.Across.{across_or_alone, IsAlone, alone_not_across}
 use Rattle.written_laws.proofs.EdgeDarts.{edge_dart}
 use Rattle.written_laws.proofs.EdgeNumbers.{flats, steeps, edge_number, edge_total, edge_low, edge_same, edge_onto, point_onto}
@@ -55,8 +54,8 @@ module _ (l : Layout) (x : Lengths) (laid : IsLaid l) (len : AreLengths l x) whe
   sums =
       let arcs : count_below (λ a. x a - 1) l.arcs + l.arcs ≡ count_below x l.arcs = arc_sum l.arcs (λ a low. low) in
       let cells : before_patch l x l.patches + cells_before l x l.patches ≡ count_below (flats l x) l.patches + count_below (steeps l x) l.patches + l.patches =
-          count_sums (λ p. (wide l x p - 1) * (high l x p - 1)) (λ p. wide l x p * high l x p) (flats l x) (steeps l x) l.patches
-              (λ p low. rectangle (wide l x p) (high l x p) (wide_some l x laid.paved len p low) (high_some l x laid.paved len p low)) in
+      count_sums (λ p. (wide l x p - 1) * (high l x p - 1)) (λ p. wide l x p * high l x p) (flats l x) (steeps l x) l.patches
+      (λ p low. rectangle (wide l x p) (high l x p) (wide_some l x laid.paved len p low) (high_some l x laid.paved len p low)) in
       omega (arith, arcs, cells)
     where
       arc_sum : (n : ℕ) → ((a : ℕ) → a < n → a < l.arcs) → count_below (λ a. x a - 1) n + n ≡ count_below x n
@@ -93,19 +92,19 @@ module _ (l : Layout) (x : Lengths) (laid : IsLaid l) (len : AreLengths l x) whe
         most : passing (is_used F) (vertex_count F) ≤ passing (λ k. true) (vertices l x)
         most = passing_le (is_used F) (λ k. true) (vertex_count F) (vertices l x)
             (λ v low used. let d : (d : Dart) × IsDart l x d × (from_of F (cell d) ≡ v) = vertex_dart v used in
-                (number l x (from l x d.0), number_low l x (from l x d.0) (from_is l x laid len d.0 d.1), refl))
+            (number l x (from l x d.0), number_low l x (from l x d.0) (from_is l x laid len d.0 d.1), refl))
             (λ v w a used b too same. by_darts v w (vertex_dart v used) (vertex_dart w too) same)
           where
             by_darts : (v w : ℕ) → (d : (d : Dart) × IsDart l x d × (from_of F (cell d) ≡ v)) → (e : (d : Dart) × IsDart l x d × (from_of F (cell d) ≡ w))
                 → number l x (from l x d.0) ≡ number l x (from l x e.0) → v ≡ w
             by_darts v w d e same =
                 sym d.2 ∙ model.alike d.0 e.0 d.1 e.1
-                    (number_same l x (from l x d.0) (from l x e.0) (from_is l x laid len d.0 d.1) (from_is l x laid len e.0 e.1) same) ∙ e.2
+                (number_same l x (from l x d.0) (from l x e.0) (from_is l x laid len d.0 d.1) (from_is l x laid len e.0 e.1) same) ∙ e.2
 
         least : passing (λ k. true) (vertices l x) ≤ passing (is_used F) (vertex_count F)
         least = passing_le (λ k. true) (is_used F) (vertices l x) (vertex_count F)
             (λ n low on. let d : (d : Dart) × IsDart l x d × (number l x (from l x d) ≡ n) = number_dart n low in
-                (from_of F (cell d.0), all_below F (cell d.0) (model.low d.0 d.1), dart_used F (cell d.0) model.quads (model.low d.0 d.1)))
+            (from_of F (cell d.0), all_below F (cell d.0) (model.low d.0 d.1), dart_used F (cell d.0) model.quads (model.low d.0 d.1)))
             (λ n m a on b too same. by_darts n m (number_dart n a) (number_dart m b) same)
           where
             by_darts : (n m : ℕ) → (d : (d : Dart) × IsDart l x d × (number l x (from l x d) ≡ n)) → (e : (d : Dart) × IsDart l x d × (number l x (from l x d) ≡ m))
@@ -133,8 +132,12 @@ module _ (l : Layout) (x : Lengths) (laid : IsLaid l) (len : AreLengths l x) whe
               | inl s ↦ absurd (no_self d (subst (IsAcross l x laid len d) (sym (model.same d c is_d a.is_dart s)) a))
               | inr o ↦ elim o [
                 | inl less ↦ (d, is_d, lesser_by (cell d) (twin_of F (cell d)) (cell c) (model.across d c is_d a) less, edge)
-                | inr more ↦ (c, a.is_dart,
-                  lesser_by (cell c) (twin_of F (cell c)) (cell d) (model.across c d a.is_dart (across_back d c is_d a)) more, a.edge ∙ edge)
+                | inr more ↦ (
+                  c,
+                  a.is_dart,
+                  lesser_by (cell c) (twin_of F (cell c)) (cell d) (model.across c d a.is_dart (across_back d c is_d a)) more,
+                  a.edge ∙ edge,
+                )
               ]
             ]
 
@@ -179,7 +182,7 @@ module _ (l : Layout) (x : Lengths) (laid : IsLaid l) (len : AreLengths l x) whe
         most : passing (λ d. is_lesser d (twin_of F d)) (darts F) ≤ passing (λ k. true) (edge_total l x)
         most = passing_le (λ d. is_lesser d (twin_of F d)) (λ k. true) (darts F) (edge_total l x)
             (λ k low less. let d : (d : Dart) × IsDart l x d × (cell d ≡ k) = model.onto k low in
-                (edge_number l x (course_of l x d.0).edge, edge_low l x (course_of l x d.0).edge (course_is l x laid len d.0 d.1), refl))
+            (edge_number l x (course_of l x d.0).edge, edge_low l x (course_of l x d.0).edge (course_is l x laid len d.0 d.1), refl))
             (λ k m a less b too same. by_darts k m less too (model.onto k a) (model.onto m b) same)
           where
             by_darts : (k m : ℕ) → is_lesser k (twin_of F k) ≡ true → is_lesser m (twin_of F m) ≡ true
@@ -187,13 +190,13 @@ module _ (l : Layout) (x : Lengths) (laid : IsLaid l) (len : AreLengths l x) whe
                 → edge_number l x (course_of l x d.0).edge ≡ edge_number l x (course_of l x e.0).edge → k ≡ m
             by_darts k m less too d e same =
                 sym d.2 ∙ ap cell (lesser_once d.0 e.0 d.1 e.1
-                    (subst (λ (j : ℕ). is_lesser j (twin_of F j) ≡ true) (sym d.2) less) (subst (λ (j : ℕ). is_lesser j (twin_of F j) ≡ true) (sym e.2) too)
-                    (edge_same l x (course_of l x d.0).edge (course_of l x e.0).edge (course_is l x laid len d.0 d.1) (course_is l x laid len e.0 e.1) same)) ∙ e.2
+                (subst (λ (j : ℕ). is_lesser j (twin_of F j) ≡ true) (sym d.2) less) (subst (λ (j : ℕ). is_lesser j (twin_of F j) ≡ true) (sym e.2) too)
+                (edge_same l x (course_of l x d.0).edge (course_of l x e.0).edge (course_is l x laid len d.0 d.1) (course_is l x laid len e.0 e.1) same)) ∙ e.2
 
         least : passing (λ k. true) (edge_total l x) ≤ passing (λ d. is_lesser d (twin_of F d)) (darts F)
         least = passing_le (λ k. true) (λ d. is_lesser d (twin_of F d)) (edge_total l x) (darts F)
             (λ n low on. let d : (d : Dart) × IsDart l x d × IsLesser d × (edge_number l x (course_of l x d).edge ≡ n) = number_edge n low in
-                (cell d.0, model.low d.0 d.1, d.2))
+            (cell d.0, model.low d.0 d.1, d.2))
             (λ n m a on b too same. by_darts n m (number_edge n a) (number_edge m b) same)
           where
             by_darts : (n m : ℕ) → (d : (d : Dart) × IsDart l x d × IsLesser d × (edge_number l x (course_of l x d).edge ≡ n))
@@ -216,13 +219,13 @@ module _ (l : Layout) (x : Lengths) (laid : IsLaid l) (len : AreLengths l x) whe
         most = passing_le (λ k. true) (λ k. true) (darts F) (4 * face_count l x)
             (λ k low on. (dart_number l x (model.onto k low).0, number_of (model.onto k low).0 (model.onto k low).1, refl))
             (λ k m a on b too same. sym (model.onto k a).2
-                ∙ ap cell (dart_same l x (model.onto k a).0 (model.onto m b).0 (model.onto k a).1 (model.onto m b).1 same) ∙ (model.onto m b).2)
+            ∙ ap cell (dart_same l x (model.onto k a).0 (model.onto m b).0 (model.onto k a).1 (model.onto m b).1 same) ∙ (model.onto m b).2)
 
         least : passing (λ k. true) (4 * face_count l x) ≤ passing (λ k. true) (darts F)
         least = passing_le (λ k. true) (λ k. true) (4 * face_count l x) (darts F)
             (λ n low on. (cell (dart_by n low).0, model.low (dart_by n low).0 (dart_by n low).1, refl))
             (λ n m a on b too same. sym (dart_by n a).2
-                ∙ ap (dart_number l x) (model.same (dart_by n a).0 (dart_by m b).0 (dart_by n a).1 (dart_by m b).1 same) ∙ (dart_by m b).2)
+            ∙ ap (dart_number l x) (model.same (dart_by n a).0 (dart_by m b).0 (dart_by n a).1 (dart_by m b).1 same) ∙ (dart_by m b).2)
 
     -- Euler's number is that of nodes, arcs and patches.
     pub euler_is : euler F ≡ (pos l.nodes -ℤ pos l.arcs) +ℤ pos l.patches

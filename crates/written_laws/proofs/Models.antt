@@ -1,5 +1,5 @@
 -- Lists of faces whose darts are those of the cells of a layout: the new faces, and the old ones at the old lengths.
-use Rattle.std.proofs.Common.{◌≡◌, ◌⊎◌, ℕ, ◌+◌, ◌-◌, ◌*◌, ◌/◌, ◌%◌, ◌<◌, Bool, true, List, [], length, get_or, Some, None, refl, sym, ◌∙◌, ap, subst, inl, inr, arith}
+use Rattle.std.proofs.Common.{◌≡◌, ◌⊎◌, ℕ, ◌+◌, ◌*◌, ◌/◌, ◌%◌, ◌<◌, true, [], length, get_or, Some, None, refl, sym, ◌∙◌, ap, subst, inl, inr, arith}
 use Rattle.std.specs.Prelude.{◌==◌}
 use Rattle.std.specs.List.{list_any, Any}
 use Rattle.std.proofs.lemmas.Bool.{eqb-true, eq-eqb}
@@ -48,14 +48,16 @@ used_dart F v quads used = by_face (Any-from_list_any (λ face. list_any (λ u. 
     by_corner f low (i, u, m, is, t) =
         let four : length (get_or F f []) ≡ 4 = quads f low in
         let face : (4 * f + i) / 4 ≡ f = omega arith in
-        let place : (4 * f + i) % 4 ≡ i = omega arith in
-        (4 * f + i, omega arith,
-            (λ r. corner F (face r) (place r)) ∙ get_or_default (get_or F f []) i 0 u m ∙ is ∙ eqb-true u v t)
+        let place : (4 * f + i) % 4 ≡ i = omega arith in (
+          4 * f + i,
+          omega arith,
+          (λ r. corner F (face r) (place r)) ∙ get_or_default (get_or F f []) i 0 u m ∙ is ∙ eqb-true u v t,
+        )
 
     by_face : Any (λ face. list_any (λ u. u == v) face ≡ true) F → (d : ℕ) × (d < darts F) × (from_of F d ≡ v)
     by_face (f, face, low, is, t) =
         by_corner f low (Any-from_list_any (λ u. u == v) (get_or F f [])
-            (subst (λ (g : Face). list_any (λ u. u == v) g ≡ true) (sym (get_or_default F f [] face low ∙ is)) t))
+        (subst (λ (g : Face). list_any (λ u. u == v) g ≡ true) (sym (get_or_default F f [] face low ∙ is)) t))
 
 -- A vertex that a dart leaves is used.
 pub dart_used : (F : Faces) (d : ℕ) → ((f : ℕ) → f < length F → length (face_at F f) ≡ 4) → d < darts F
@@ -63,22 +65,26 @@ pub dart_used : (F : Faces) (d : ℕ) → ((f : ℕ) → f < length F → length
 dart_used F d quads low =
     let f_low : d / 4 < length F = omega arith in
     list_any_at (λ face. list_any (λ u. u == from_of F d) face) F (d / 4) [] f_low
-        (list_any_at (λ u. u == from_of F d) (face_at F (d / 4)) (d % 4) 0 (omega (arith, quads (d / 4) f_low)) (eq-eqb (from_of F d) (from_of F d) refl))
+    (list_any_at (λ u. u == from_of F d) (face_at F (d / 4)) (d % 4) 0 (omega (arith, quads (d / 4) f_low)) (eq-eqb (from_of F d) (from_of F d) refl))
 
 module _ (l : Layout) (x : Lengths) (laid : IsLaid l) (len : AreLengths l x) where
   -- Each point is left by a dart.
   pub point_dart : (a : Point) → IsPoint l x a → (d : Dart) × IsDart l x d × (from l x d ≡ a)
   point_dart (node n) is =
       let r : (w : Slot) × IsSlot l w × (start_of l (use_of l w) ≡ n) = laid.reached n is in
-      let some : 0 < x (use_of l r.0).arc = use_some l x laid.paved len r.0 r.1 in
-      (rim_at l x r.0 0, at_is l x laid.paved len r.0 0 r.1 some,
-          at_from l x laid len r.0 0 r.1 some ∙ use_begins l x (use_of l r.0) some ∙ ap node r.2)
+      let some : 0 < x (use_of l r.0).arc = use_some l x laid.paved len r.0 r.1 in (
+        rim_at l x r.0 0,
+        at_is l x laid.paved len r.0 0 r.1 some,
+        at_from l x laid len r.0 0 r.1 some ∙ use_begins l x (use_of l r.0) some ∙ ap node r.2,
+      )
   point_dart (along a k) is =
       let f : (w : Slot) × IsSlot l w × (use_of l w ≡ record { arc = a; forward = true }) = laid.forward a is.0 in
       let long : x (use_of l f.0).arc ≡ x a = ap (λ (u : SideArc). x u.arc) f.2 in
-      let less : k < x (use_of l f.0).arc = omega (arith, is.2) in
-      (rim_at l x f.0 k, at_is l x laid.paved len f.0 k f.1 less,
-          at_from l x laid len f.0 k f.1 less ∙ ap (λ (u : SideArc). use_point l x u k) f.2 ∙ arc_inner l x a k is.1 is.2)
+      let less : k < x (use_of l f.0).arc = omega (arith, is.2) in (
+        rim_at l x f.0 k,
+        at_is l x laid.paved len f.0 k f.1 less,
+        at_from l x laid len f.0 k f.1 less ∙ ap (λ (u : SideArc). use_point l x u k) f.2 ∙ arc_inner l x a k is.1 is.2,
+      )
   point_dart (inside p i j) is =
       (dart p i j south, record { patch_low = is.0; i_low = is.2; j_low = is.4 }, point_inside l x laid len p i j is.1 is.2 is.3 is.4)
 
@@ -86,7 +92,7 @@ module _ (l : Layout) (x : Lengths) (laid : IsLaid l) (len : AreLengths l x) whe
   pub new_quads : (f : ℕ) → f < length (new_faces l x) → length (face_at (new_faces l x) f) ≡ 4
   new_quads f low =
       ap (λ (face : Face). length face)
-          (get_or-map-range_with_len (new_face l x) 0 (face_count l x) f f [] (omega (arith, faces_long l x)) (omega arith))
+      (get_or-map-range_with_len (new_face l x) 0 (face_count l x) f f [] (omega (arith, faces_long l x)) (omega arith))
 
   pub new_model : IsSimple l x → IsModel (new_faces l x) l x laid len (dart_number l x)
   new_model simple = record {

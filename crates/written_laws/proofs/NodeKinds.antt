@@ -1,17 +1,17 @@
 -- The vertex of a node has the same kind and as many faces in each model, whatever the lengths.
-use Rattle.std.proofs.Common.{◌≡◌, ◌≢◌, ◌⊎◌, ℕ, zero, suc, ◌+◌, ◌-◌, ◌<◌, ◌≤◌, Bool, true, false, cond, refl, sym, ◌∙◌, ap, subst, inl, inr, arith}
+use Rattle.std.proofs.Common.{◌≡◌, ◌⊎◌, ℕ, zero, suc, ◌+◌, ◌-◌, ◌<◌, ◌≤◌, Bool, true, false, cond, refl, sym, ◌∙◌, ap, subst, inl, inr, arith}
 use Rattle.std.specs.Prelude.{◌==◌}
 use Rattle.std.proofs.lemmas.Bool.{cases_eq, eqb-true, eq-eqb}
 use Rattle.def_mesh.specs.Faces.{Faces}
 use Rattle.def_mesh.specs.Darts.{darts, from_of}
 use Rattle.def_mesh.specs.Vertices.{faces_at}
-use Rattle.def_mesh.specs.Kinds.{is_inner, is_regular, kind_of}
+use Rattle.def_mesh.specs.Kinds.{is_inner}
 use Rattle.def_layout.specs.declared.tmesh.SideArc.{SideArc}
 use Rattle.def_layout.specs.Layouts.{Layout, Slot, IsSlot, use_of, start_of, end_of}
 use Rattle.def_layout.specs.Laid.{IsLaid, IsOther}
 use Rattle.def_layout.specs.Lengths.{Lengths, reach, AreLengths}
 use Rattle.def_layout.specs.Cells.{Dart, IsDart}
-use Rattle.def_written.specs.Points.{Point, node, along, inside, use_point}
+use Rattle.def_written.specs.Points.{node, along, inside, use_point}
 use Rattle.def_written.specs.NewFaces.{from}
 use Rattle.qm_laws.proofs.Runs.{count_rises}
 use Rattle.qm_laws.proofs.Tallies.{passing, passing_le, filter_long}
@@ -34,15 +34,15 @@ module _ (l : Layout) (x : Lengths) (laid : IsLaid l) (len : AreLengths l x) whe
       → ((o ≡ 0) × (start_of l u ≡ n)) ⊎ ((o ≡ x u.arc) × (end_of l u ≡ n))
   node_end u o n le some e = elim (cases_eq o 0) [
     | inl z ↦
-      let b : use_point l x u o ≡ node (start_of l u) = ap (use_point l x u) z ∙ use_begins l x u some in
-      let s : start_of l u ≡ n = cc in inl (z, s)
+        let b : use_point l x u o ≡ node (start_of l u) = ap (use_point l x u) z ∙ use_begins l x u some in
+        let s : start_of l u ≡ n = cc in inl (z, s)
     | inr more ↦ elim (cases_eq o (x u.arc)) [
       | inl last ↦
-        let b : use_point l x u o ≡ node (end_of l u) = use_ends l x u o last (omega arith) in
-        let s : end_of l u ≡ n = cc in inr (last, s)
+          let b : use_point l x u o ≡ node (end_of l u) = use_ends l x u o last (omega arith) in
+          let s : end_of l u ≡ n = cc in inr (last, s)
       | inr less ↦
-        let b : use_point l x u o ≡ along u.arc (cond u.forward o (x u.arc - o)) = use_inner l x u o (omega arith) (omega arith) in
-        absurd cc
+          let b : use_point l x u o ≡ along u.arc (cond u.forward o (x u.arc - o)) = use_inner l x u o (omega arith) (omega arith) in
+          absurd cc
     ]
   ]
 
@@ -98,7 +98,7 @@ module _ (l : Layout) (laid : IsLaid l) (x y : Lengths) (len : AreLengths l x) (
       ends : end_of l (use_of l w) ≡ n → (v : Slot) × IsOther l w v
       ends e =
           shared w (x (use_of l w).arc - 1) is (omega (arith, some))
-              (inr (use_ends l x (use_of l w) (x (use_of l w).arc - 1 + 1) (omega (arith, some)) (omega arith) ∙ ap node e))
+          (inr (use_ends l x (use_of l w) (x (use_of l w).arc - 1 + 1) (omega (arith, some)) (omega arith) ∙ ap node e))
 
       by_end : (m : ℕ) → ((m ≡ 0) × (start_of l (use_of l w) ≡ n)) ⊎ ((m ≡ y (use_of l w).arc) × (end_of l (use_of l w) ≡ n)) → (v : Slot) × IsOther l w v
       by_end m (inl e) = starts e.1
@@ -119,7 +119,7 @@ module _ (l : Layout) (laid : IsLaid l) (x y : Lengths) (len : AreLengths l x) (
         sorted : (k : ℕ) (low : k < darts F) → (from_of F k == u) ≡ true → (w : Slot) × (b : Bool) × IsAtNode l x laid len n (f.onto k low).0 w b
         sorted k low s =
             node_sort l x laid len n (f.onto k low).0 (f.onto k low).1
-                (is_u.back (f.onto k low).0 (f.onto k low).1 (ap (from_of F) (f.onto k low).2 ∙ eqb-true (from_of F k) u s))
+            (is_u.back (f.onto k low).0 (f.onto k low).1 (ap (from_of F) (f.onto k low).2 ∙ eqb-true (from_of F k) u s))
 
         image : (d : Dart) (w : Slot) (b : Bool) → IsAtNode l x laid len n d w b
             → IsDart l y (spot_dart l y w 0 b) × IsAt l y laid lon (spot_dart l y w 0 b) w 0 × (from l y (spot_dart l y w 0 b) ≡ node n)
@@ -133,28 +133,30 @@ module _ (l : Layout) (laid : IsLaid l) (x y : Lengths) (len : AreLengths l x) (
             → spot_dart l y s.0 0 s.1 ≡ spot_dart l y r.0 0 r.1 → d ≡ e
         once d e s r same =
             let slots : s.0 ≡ r.0 =
-                (at_once l y laid lon (spot_dart l y r.0 0 r.1) s.0 r.0 0 0
-                    (subst (λ (c : Dart). IsAt l y laid lon c s.0 0) same (image d s.0 s.1 s.2).1) (image e r.0 r.1 r.2).1).0 in
+            (at_once l y laid lon (spot_dart l y r.0 0 r.1) s.0 r.0 0 0
+            (subst (λ (c : Dart). IsAt l y laid lon c s.0 0) same (image d s.0 s.1 s.2).1) (image e r.0 r.1 r.2).1).0 in
             let ways : s.1 ≡ r.1 =
-                spot_once l y laid lon r.0 0 s.1 r.1 ((λ t. spot_dart l y (sym slots t) 0 s.1) ∙ same) in
+            spot_once l y laid lon r.0 0 s.1 r.1 ((λ t. spot_dart l y (sym slots t) 0 s.1) ∙ same) in
             s.2.dart ∙ (λ t. spot_dart l x (slots t) 0 (ways t)) ∙ sym r.2.dart
 
         to : (k : ℕ) (low : k < darts F) → (from_of F k == u) ≡ true → (m : ℕ) × (m < darts G) × ((from_of G m == v) ≡ true)
         to k low s =
             let r : (w : Slot) × (b : Bool) × IsAtNode l x laid len n (f.onto k low).0 w b = sorted k low s in
             let i : IsDart l y (spot_dart l y r.0 0 r.1) × IsAt l y laid lon (spot_dart l y r.0 0 r.1) r.0 0 × (from l y (spot_dart l y r.0 0 r.1) ≡ node n) =
-                image (f.onto k low).0 r.0 r.1 r.2 in
-            (new (spot_dart l y r.0 0 r.1), g.low (spot_dart l y r.0 0 r.1) i.0,
-                eq-eqb (from_of G (new (spot_dart l y r.0 0 r.1))) v (is_v.there (spot_dart l y r.0 0 r.1) i.0 i.2))
+            image (f.onto k low).0 r.0 r.1 r.2 in (
+              new (spot_dart l y r.0 0 r.1),
+              g.low (spot_dart l y r.0 0 r.1) i.0,
+              eq-eqb (from_of G (new (spot_dart l y r.0 0 r.1))) v (is_v.there (spot_dart l y r.0 0 r.1) i.0 i.2),
+            )
 
         most : passing (λ d. from_of F d == u) (darts F) ≤ passing (λ d. from_of G d == v) (darts G)
         most = passing_le (λ d. from_of F d == u) (λ d. from_of G d == v) (darts F) (darts G) to
             (λ k m low s less r same. sym (f.onto k low).2
-                ∙ ap cell (once (f.onto k low).0 (f.onto m less).0 (sorted k low s) (sorted m less r)
-                    (g.same (spot_dart l y (sorted k low s).0 0 (sorted k low s).1) (spot_dart l y (sorted m less r).0 0 (sorted m less r).1)
-                        (image (f.onto k low).0 (sorted k low s).0 (sorted k low s).1 (sorted k low s).2).0
-                        (image (f.onto m less).0 (sorted m less r).0 (sorted m less r).1 (sorted m less r).2).0 same))
-                ∙ (f.onto m less).2)
+            ∙ ap cell (once (f.onto k low).0 (f.onto m less).0 (sorted k low s) (sorted m less r)
+            (g.same (spot_dart l y (sorted k low s).0 0 (sorted k low s).1) (spot_dart l y (sorted m less r).0 0 (sorted m less r).1)
+            (image (f.onto k low).0 (sorted k low s).0 (sorted k low s).1 (sorted k low s).2).0
+            (image (f.onto m less).0 (sorted m less r).0 (sorted m less r).1 (sorted m less r).2).0 same))
+            ∙ (f.onto m less).2)
 
 module _ (l : Layout) (laid : IsLaid l) (x y : Lengths) (len : AreLengths l x) (lon : AreLengths l y)
     (F G : Faces) (cell new : Dart → ℕ) (f : IsModel F l x laid len cell) (g : IsModel G l y laid lon new)

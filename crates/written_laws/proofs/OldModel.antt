@@ -1,26 +1,26 @@
 -- A mesh in which a layout lies is a model of it at the old lengths, and the layout has fans.
-use Rattle.std.proofs.Common.{◌≡◌, ◌≢◌, ◌⊎◌, ℕ, zero, suc, ◌+◌, ◌-◌, ◌<◌, ◌≤◌, Bool, true, false, not, length, Option, Some, None, refl, sym, ◌∙◌, ap, subst, inl, inr, arith}
+use Rattle.std.proofs.Common.{◌≡◌, ◌⊎◌, ℕ, zero, suc, ◌+◌, ◌-◌, ◌<◌, ◌≤◌, Bool, true, false, not, length, Some, None, refl, sym, ◌∙◌, ap, subst, inl, inr, arith}
 use Rattle.std.proofs.lemmas.Bool.{cases_lt}
 use Rattle.std.proofs.lemmas.Option.{none-some, same_Some}
 use Rattle.def_mesh.specs.Faces.{Faces, face_at}
 use Rattle.def_mesh.specs.Manifold.{IsManifold}
 use Rattle.def_mesh.specs.HalfEdges.{HalfEdges, AreTurned, IsQuadManifold, half_edges, Turns as MeshTurns}
 use Rattle.def_layout.specs.declared.tmesh.SideArc.{SideArc}
-use Rattle.def_layout.specs.Layouts.{Way, south, east, north, west, after, before, Layout, Slot, IsSlot, AreReverse, use_of, use_before, slot_before, start_of}
+use Rattle.def_layout.specs.Layouts.{Way, south, east, north, west, after, before, Layout, Slot, IsSlot, AreReverse, use_of, slot_before, start_of}
 use Rattle.def_layout.specs.Laid.{IsPaved, IsLaid, IsOther}
 use Rattle.def_layout.specs.Fans.{IsTurn, Turns, HasFans}
 use Rattle.def_layout.specs.Lengths.{Lengths, reach, size, AreLengths}
-use Rattle.def_layout.specs.Cells.{Dart, IsDart, dart, next, prev, rim, rim_at}
+use Rattle.def_layout.specs.Cells.{Dart, IsDart, dart, next, prev, rim_at}
 use Rattle.def_layout.specs.Sided.{IsSided}
-use Rattle.def_written.specs.Points.{Point, node, use_point}
-use Rattle.def_written.specs.NewFaces.{column, row, from, to}
+use Rattle.def_written.specs.Points.{node}
+use Rattle.def_written.specs.NewFaces.{from}
 use Rattle.mesh_laws.proofs.HalfEdges.{manifold_law}
-use Rattle.written_laws.proofs.Sides.{slot, use_some, use_begins, reach_low, last_is}
+use Rattle.written_laws.proofs.Sides.{slot, use_some, use_begins}
 use Rattle.written_laws.proofs.Rims.{column_of, row_of, side_column, side_row, rim_patch, rim_next_column, rim_next_row, corner_column, corner_row}
 use Rattle.written_laws.proofs.Borders.{at_low, at_is, IsAt}
 use Rattle.written_laws.proofs.Fans.{point_related}
 use Rattle.written_laws.proofs.NewDarts.{next_is, prev_is}
-use Rattle.written_laws.proofs.Courses.{Course, course, course_of, course_once, IsAcross, IsWithin, IsOnBorder, sees}
+use Rattle.written_laws.proofs.Courses.{course, course_once, IsAcross, IsWithin, IsOnBorder, sees}
 use Rattle.written_laws.proofs.Manifold.{before_after}
 use Rattle.written_laws.proofs.Across.{across_border, across_within, across_or_alone, across_ends, alone_not_across, IsAlone}
 use Rattle.written_laws.proofs.Spots.{place_at, at_place, at_once, rim_is_at}
@@ -53,17 +53,17 @@ module _ (l : Layout) (x : Lengths) (laid : IsLaid l) (len : AreLengths l x) whe
           → (e.patch ≡ d.patch) × (column_of e ≡ column_of (next d)) × (row_of e ≡ row_of (next d))
       by_within c =
           subst (λ (b : Dart). (b.patch ≡ d.patch) × (column_of b ≡ column_of (next d)) × (row_of b ≡ row_of (next d)))
-              (across_unique d c.0 e c.1 a) (c.2, c.3, c.4)
+          (across_unique d c.0 e c.1 a) (c.2, c.3, c.4)
 
   -- The dart after a border dart that ends at a node leaves that node: its slot is the next one.
   after_border : (b u : Slot) (o : ℕ) → IsSlot l b → o < x (use_of l b).arc → IsAt l x laid len (next (rim_at l x b o)) u 0
       → (slot_before l u.patch u.side u.at ≡ b) × (o + 1 ≡ x (use_of l b).arc)
   after_border b u o is_b less at = elim (cases_lt (o + 1) (x (use_of l b).arc)) [
     | inl more ↦
-      let here : IsAt l x laid len (next (rim_at l x b o)) b (o + 1) =
-          at_place l x laid len (next (rim_at l x b o)) b (o + 1) is_b more (rim_patch l x laid.paved len b.patch b.side (place_at l x b o))
-              (columns ∙ ap (side_column l x b.patch b.side) one) (rows ∙ ap (side_row l x b.patch b.side) one) in
-      absurd (omega (arith, (at_once l x laid len (next (rim_at l x b o)) u b 0 (o + 1) at here).1))
+        let here : IsAt l x laid len (next (rim_at l x b o)) b (o + 1) =
+        at_place l x laid len (next (rim_at l x b o)) b (o + 1) is_b more (rim_patch l x laid.paved len b.patch b.side (place_at l x b o))
+        (columns ∙ ap (side_column l x b.patch b.side) one) (rows ∙ ap (side_row l x b.patch b.side) one) in
+        absurd (omega (arith, (at_once l x laid len (next (rim_at l x b o)) u b 0 (o + 1) at here).1))
     | inr none ↦ elim (cases_lt (suc b.at) (l.many b.patch b.side)) [
       | inl another ↦ (by_next another none, omega (arith, less, none))
       | inr last ↦ (by_corner last none, omega (arith, less, none))
@@ -88,28 +88,28 @@ module _ (l : Layout) (x : Lengths) (laid : IsLaid l) (len : AreLengths l x) whe
           let is_v : IsSlot l (slot b.patch b.side (suc b.at)) = record { patch_low = is_b.patch_low; low = another } in
           let place : place_at l x b o + 1 ≡ place_at l x (slot b.patch b.side (suc b.at)) 0 = omega (arith, less, none) in
           let there : IsAt l x laid len (next (rim_at l x b o)) (slot b.patch b.side (suc b.at)) 0 =
-              at_place l x laid len (next (rim_at l x b o)) (slot b.patch b.side (suc b.at)) 0 is_v
-                  (use_some l x laid.paved len (slot b.patch b.side (suc b.at)) is_v)
-                  (rim_patch l x laid.paved len b.patch b.side (place_at l x b o))
-                  (columns ∙ ap (side_column l x b.patch b.side) place) (rows ∙ ap (side_row l x b.patch b.side) place) in
+          at_place l x laid len (next (rim_at l x b o)) (slot b.patch b.side (suc b.at)) 0 is_v
+          (use_some l x laid.paved len (slot b.patch b.side (suc b.at)) is_v)
+          (rim_patch l x laid.paved len b.patch b.side (place_at l x b o))
+          (columns ∙ ap (side_column l x b.patch b.side) place) (rows ∙ ap (side_row l x b.patch b.side) place) in
           ap (λ (w : Slot). slot_before l w.patch w.side w.at)
-              (at_once l x laid len (next (rim_at l x b o)) u (slot b.patch b.side (suc b.at)) 0 0 at there).0
+          (at_once l x laid len (next (rim_at l x b o)) u (slot b.patch b.side (suc b.at)) 0 0 at there).0
 
       by_corner : l.many b.patch b.side ≤ suc b.at → x (use_of l b).arc ≤ o + 1 → slot_before l u.patch u.side u.at ≡ b
       by_corner last none =
           let is_v : IsSlot l (slot b.patch (after b.side) 0) =
-              record { patch_low = is_b.patch_low; low = laid.paved.sides_full b.patch (after b.side) is_b.patch_low } in
+          record { patch_low = is_b.patch_low; low = laid.paved.sides_full b.patch (after b.side) is_b.patch_low } in
           let at_last : b.at ≡ l.many b.patch b.side - 1 = omega (arith, last, is_b.low) in
           let many : suc b.at ≡ l.many b.patch b.side = omega (arith, last, is_b.low) in
           let end : place_at l x b o + 1 ≡ size l x b.patch b.side = omega (arith, less, none, ap (reach l x b.patch b.side) many) in
           let there : IsAt l x laid len (next (rim_at l x b o)) (slot b.patch (after b.side) 0) 0 =
-              at_place l x laid len (next (rim_at l x b o)) (slot b.patch (after b.side) 0) 0 is_v
-                  (use_some l x laid.paved len (slot b.patch (after b.side) 0) is_v)
-                  (rim_patch l x laid.paved len b.patch b.side (place_at l x b o))
-                  (columns ∙ corner_column l x laid.paved len b.patch b.side (place_at l x b o + 1) is_b.patch_low end)
-                  (rows ∙ corner_row l x laid.paved len b.patch b.side (place_at l x b o + 1) is_b.patch_low end) in
+          at_place l x laid len (next (rim_at l x b o)) (slot b.patch (after b.side) 0) 0 is_v
+          (use_some l x laid.paved len (slot b.patch (after b.side) 0) is_v)
+          (rim_patch l x laid.paved len b.patch b.side (place_at l x b o))
+          (columns ∙ corner_column l x laid.paved len b.patch b.side (place_at l x b o + 1) is_b.patch_low end)
+          (rows ∙ corner_row l x laid.paved len b.patch b.side (place_at l x b o + 1) is_b.patch_low end) in
           ap (λ (w : Slot). slot_before l w.patch w.side w.at)
-              (at_once l x laid len (next (rim_at l x b o)) u (slot b.patch (after b.side) 0) 0 0 at there).0
+          (at_once l x laid len (next (rim_at l x b o)) u (slot b.patch (after b.side) 0) 0 0 at there).0
           ∙ (λ t. slot b.patch (before_after b.side t) (l.many b.patch (before_after b.side t) - 1))
           ∙ (λ t. slot b.patch b.side (sym at_last t))
 
@@ -122,22 +122,22 @@ module _ (l : Layout) (x : Lengths) (laid : IsLaid l) (len : AreLengths l x) whe
       within i =
           let g : (e.patch ≡ d.patch) × (column_of e ≡ column_of (next (prev d))) × (row_of e ≡ row_of (next (prev d))) = across_grid (prev d) e i a in
           let here : IsAt l x laid len e u 0 =
-              at_place l x laid len e u 0 at_u.is_slot at_u.low (g.0 ∙ at_u.patch)
-                  (g.1 ∙ ap column_of (next_prev d) ∙ at_u.column) (g.2 ∙ ap row_of (next_prev d) ∙ at_u.row) in
+          at_place l x laid len e u 0 at_u.is_slot at_u.low (g.0 ∙ at_u.patch)
+          (g.1 ∙ ap column_of (next_prev d) ∙ at_u.column) (g.2 ∙ ap row_of (next_prev d) ∙ at_u.row) in
           (at_once l x laid len e u w 0 0 here at_w).0
 
       over : (b v : Slot) (o : ℕ) → IsOnBorder l x (prev d) b o → IsOther l b v → IsTurn l u w
       over b v o on other =
           let follows : d ≡ next (rim_at l x b o) = sym (next_prev d) ∙ ap next on.dart in
           let s : (slot_before l u.patch u.side u.at ≡ b) × (o + 1 ≡ x (use_of l b).arc) =
-              after_border b u o on.is_slot on.low (subst (λ (c : Dart). IsAt l x laid len c u 0) follows at_u) in
+          after_border b u o on.is_slot on.low (subst (λ (c : Dart). IsAt l x laid len c u 0) follows at_u) in
           let z : x (use_of l b).arc - 1 - o ≡ 0 = omega (arith, s.1) in
           let there : e ≡ rim_at l x v (x (use_of l b).arc - 1 - o) =
-              across_unique (rim_at l x b o) e (rim_at l x v (x (use_of l b).arc - 1 - o))
-                  (subst (λ (c : Dart). IsAcross l x laid len c e) on.dart a) (across_border l x laid len b v o on.is_slot other on.low) in
+          across_unique (rim_at l x b o) e (rim_at l x v (x (use_of l b).arc - 1 - o))
+          (subst (λ (c : Dart). IsAcross l x laid len c e) on.dart a) (across_border l x laid len b v o on.is_slot other on.low) in
           let at_v : IsAt l x laid len e v 0 =
-              subst (λ (c : Dart). IsAt l x laid len c v 0) (sym (there ∙ ap (rim_at l x v) z))
-                  (rim_is_at l x laid len v 0 other.0 (use_some l x laid.paved len v other.0)) in
+          subst (λ (c : Dart). IsAt l x laid len c v 0) (sym (there ∙ ap (rim_at l x v) z))
+          (rim_is_at l x laid len v 0 other.0 (use_some l x laid.paved len v other.0)) in
           let same : v ≡ w = (at_once l x laid len e v w 0 0 at_v at_w).0 in
           record {
             is_slot = at_w.is_slot;
@@ -169,13 +169,13 @@ module _ (faces : Faces) (manifold : IsManifold faces) (l : Layout) (x : Lengths
   alike = point_related l x old_laid len
       (AreFromOne m laws l x paved len cell vertex arc_dart s) (from_turning m laws l x paved len cell vertex arc_dart s)
       (λ v w is_v is_w same. starts m laws l x paved len cell vertex arc_dart s v is_v ∙ ap vertex same
-          ∙ sym (starts m laws l x paved len cell vertex arc_dart s w is_w))
+      ∙ sym (starts m laws l x paved len cell vertex arc_dart s w is_w))
 
   across_twin : (d e : Dart) → IsDart l x d → IsAcross l x old_laid len d e → m.twin (cell d) ≡ Some (cell e)
   across_twin d e is a =
       laws.twin_found (cell d) (cell e) (s.low d is) (s.low e a.is_dart)
-          (alike e (next d) a.is_dart (next_is l x d is) (across_ends l x old_laid len d e is a).0 ∙ ap m.from (s.turned d))
-          (ap m.from (sym (s.turned e)) ∙ alike (next e) d (next_is l x e a.is_dart) is (across_ends l x old_laid len d e is a).1)
+      (alike e (next d) a.is_dart (next_is l x d is) (across_ends l x old_laid len d e is a).0 ∙ ap m.from (s.turned d))
+      (ap m.from (sym (s.turned e)) ∙ alike (next e) d (next_is l x e a.is_dart) is (across_ends l x old_laid len d e is a).1)
 
   -- Where no slot uses an arc the other way round, its darts have no twin.
   alone_twin : (d : Dart) (w : Slot) (o : ℕ) → IsAlone l x old_laid len d w o → m.twin (cell d) ≡ None
@@ -189,10 +189,13 @@ module _ (faces : Faces) (manifold : IsManifold faces) (l : Layout) (x : Lengths
         where
           by_way : (f : Bool) → (use_of l w).forward ≡ f → (use_of l w).forward ≡ true
           by_way true e = e
-          by_way false e = absurd (a.alone v.0 (v.1, record {
-            arc = ap (λ (u : SideArc). u.arc) v.2;
-            turned = ap (λ (u : SideArc). u.forward) v.2 ∙ ap not (sym e);
-          }))
+          by_way false e = absurd (a.alone v.0 (
+            v.1,
+            record {
+              arc = ap (λ (u : SideArc). u.arc) v.2;
+              turned = ap (λ (u : SideArc). u.forward) v.2 ∙ ap not (sym e);
+            },
+          ))
 
       w_forward : (use_of l w).forward ≡ true
       w_forward = by_first (s.forward (use_of l w).arc (paved.arc_low w a.on_border.is_slot))
@@ -218,7 +221,7 @@ module _ (faces : Faces) (manifold : IsManifold faces) (l : Layout) (x : Lengths
       by_case : ((c : Dart) × IsAcross l x old_laid len d c) ⊎ ((w : Slot) × (o : ℕ) × IsAlone l x old_laid len d w o) → IsAcross l x old_laid len d e
       by_case (inl a) =
           subst (IsAcross l x old_laid len d)
-              (s.same a.0 e a.1.is_dart is_e (same_Some (cell a.0) (cell e) (sym (across_twin d a.0 is_d a.1) ∙ twin))) a.1
+          (s.same a.0 e a.1.is_dart is_e (same_Some (cell a.0) (cell e) (sym (across_twin d a.0 is_d a.1) ∙ twin))) a.1
       by_case (inr a) = absurd (none-some (cell e) (sym (alone_twin d a.0 a.1 a.2) ∙ twin))
 
   prev_cell : (d : Dart) → m.prev (cell d) ≡ cell (prev d)
@@ -269,20 +272,22 @@ module _ (faces : Faces) (manifold : IsManifold faces) (l : Layout) (x : Lengths
       → MeshTurns (half_edges faces) (cell (rim_at l x v 0)) (cell d) n → (k : ℕ) × Turns l v u k
   layout_turns v zero is_v d u is_d at_u t =
       let some : 0 < x (use_of l v).arc = use_some l x paved len v is_v in
-      let same : rim_at l x v 0 ≡ d = s.same (rim_at l x v 0) d (at_is l x paved len v 0 is_v some) is_d t in
-      (zero, (at_once l x old_laid len d v u 0 0
-          (subst (λ (c : Dart). IsAt l x old_laid len c v 0) same (rim_is_at l x old_laid len v 0 is_v some)) at_u).0)
+      let same : rim_at l x v 0 ≡ d = s.same (rim_at l x v 0) d (at_is l x paved len v 0 is_v some) is_d t in (
+        zero,
+        (at_once l x old_laid len d v u 0 0
+            (subst (λ (c : Dart). IsAt l x old_laid len c v 0) same (rim_is_at l x old_laid len v 0 is_v some)) at_u).0,
+      )
   layout_turns v (suc n) is_v d u is_d at_u t =
       let some : 0 < x (use_of l v).arc = use_some l x paved len v is_v in
       let c : (c : Dart) × IsDart l x c × (cell c ≡ t.0) =
-          s.onto t.0 (turns_low (cell (rim_at l x v 0)) t.0 n (s.low (rim_at l x v 0) (at_is l x paved len v 0 is_v some)) t.1) in
+      s.onto t.0 (turns_low (cell (rim_at l x v 0)) t.0 n (s.low (rim_at l x v 0) (at_is l x paved len v 0 is_v some)) t.1) in
       let turned : AreTurned (half_edges faces) (cell c.0) (cell d) = subst (λ (k : ℕ). AreTurned (half_edges faces) k (cell d)) (sym c.2) t.3 in
       let leaves : from l x c.0 ≡ node (start_of l (use_of l u)) =
-          turned_point c.0 d c.1 is_d turned ∙ at_u.leaves ∙ use_begins l x (use_of l u) at_u.low in
+      turned_point c.0 d c.1 is_d turned ∙ at_u.leaves ∙ use_begins l x (use_of l u) at_u.low in
       let w : (w : Slot) × (b : Bool) × IsAtNode l x old_laid len (start_of l (use_of l u)) c.0 w b =
-          node_sort l x old_laid len (start_of l (use_of l u)) c.0 c.1 leaves in
+      node_sort l x old_laid len (start_of l (use_of l u)) c.0 c.1 leaves in
       let before : (k : ℕ) × Turns l v w.0 k =
-          layout_turns v n is_v c.0 w.0 c.1 w.2.at (subst (λ (k : ℕ). MeshTurns (half_edges faces) (cell (rim_at l x v 0)) k n) (sym c.2) t.1) in
+      layout_turns v n is_v c.0 w.0 c.1 w.2.at (subst (λ (k : ℕ). MeshTurns (half_edges faces) (cell (rim_at l x v 0)) k n) (sym c.2) t.1) in
       by_turn c.0 w.0 c.1 w.2.at before turned
     where
       step : (c : Dart) (w : Slot) → IsAt l x old_laid len c w 0 → (k : ℕ) × Turns l v w k → (w ≡ u) ⊎ (IsTurn l w u ⊎ IsTurn l u w) → (k : ℕ) × Turns l v u k
@@ -307,8 +312,8 @@ module _ (faces : Faces) (manifold : IsManifold faces) (l : Layout) (x : Lengths
       let v_some : 0 < x (use_of l v).arc = use_some l x paved len v is_v in
       let w_some : 0 < x (use_of l w).arc = use_some l x paved len w is_w in
       let t : (n : ℕ) × MeshTurns (half_edges faces) (cell (rim_at l x v 0)) (cell (rim_at l x w 0)) n =
-          laws.one_fan (cell (rim_at l x v 0)) (cell (rim_at l x w 0))
-              (s.low (rim_at l x v 0) (at_is l x paved len v 0 is_v v_some)) (s.low (rim_at l x w 0) (at_is l x paved len w 0 is_w w_some))
-              (starts m laws l x paved len cell vertex arc_dart s v is_v ∙ ap vertex same
-                  ∙ sym (starts m laws l x paved len cell vertex arc_dart s w is_w)) in
+      laws.one_fan (cell (rim_at l x v 0)) (cell (rim_at l x w 0))
+      (s.low (rim_at l x v 0) (at_is l x paved len v 0 is_v v_some)) (s.low (rim_at l x w 0) (at_is l x paved len w 0 is_w w_some))
+      (starts m laws l x paved len cell vertex arc_dart s v is_v ∙ ap vertex same
+      ∙ sym (starts m laws l x paved len cell vertex arc_dart s w is_w)) in
       layout_turns v t.0 is_v (rim_at l x w 0) w (at_is l x paved len w 0 is_w w_some) (rim_is_at l x old_laid len w 0 is_w w_some) t.1

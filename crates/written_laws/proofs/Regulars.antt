@@ -1,16 +1,15 @@
 -- The points inside patches and along arcs are regular.
 use Rattle.std.proofs.Common.{◌≡◌, ◌≢◌, ◌⊎◌, ℕ, zero, suc, ◌+◌, ◌-◌, ◌<◌, ◌≤◌, Bool, true, false, not, cond, refl, sym, ◌∙◌, ap, subst, inl, inr, arith}
-use Rattle.std.specs.Prelude.{◌==◌}
-use Rattle.std.proofs.lemmas.Bool.{cases_eq, cond-true, cond-false, eq-eqb, false_from_ne_true}
+use Rattle.std.proofs.lemmas.Bool.{cases_eq, eq-eqb, false_from_ne_true}
 use Rattle.def_mesh.specs.Faces.{Faces}
 use Rattle.def_mesh.specs.Vertices.{faces_at}
 use Rattle.def_mesh.specs.Kinds.{is_inner, is_regular}
 use Rattle.def_layout.specs.declared.tmesh.SideArc.{SideArc}
-use Rattle.def_layout.specs.Layouts.{Way, south, east, north, west, Layout, Slot, IsSlot, AreReverse, use_of, start_of, end_of}
+use Rattle.def_layout.specs.Layouts.{Way, south, east, north, west, Layout, Slot, IsSlot, use_of, start_of, end_of}
 use Rattle.def_layout.specs.Laid.{IsLaid, IsOther}
 use Rattle.def_layout.specs.Lengths.{Lengths, AreLengths}
 use Rattle.def_layout.specs.Cells.{Dart, IsDart, dart}
-use Rattle.def_written.specs.Points.{Point, node, along, inside, IsPoint, arc_point, use_point, point}
+use Rattle.def_written.specs.Points.{node, along, inside, IsPoint, use_point, point}
 use Rattle.def_written.specs.NewFaces.{column, row, from}
 use Rattle.written_laws.proofs.Sides.{use_begins, use_ends, use_inner, arc_inner}
 use Rattle.written_laws.proofs.Grid.{point_inside}
@@ -103,7 +102,7 @@ module _ (l : Layout) (x : Lengths) (laid : IsLaid l) (len : AreLengths l x) whe
   upto_not_inside : (u : SideArc) (o p i j : ℕ) → o ≤ x u.arc → 0 < x u.arc → use_point l x u o ≢ inside p i j
   upto_not_inside u o p i j le some e = elim (cases_eq o (x u.arc)) [
     | inl last ↦
-      let b : use_point l x u o ≡ node (end_of l u) = use_ends l x u o last (omega arith) in absurd cc
+        let b : use_point l x u o ≡ node (end_of l u) = use_ends l x u o last (omega arith) in absurd cc
     | inr less ↦ use_not_inside l x u o p i j (omega arith) e
   ]
 
@@ -115,10 +114,10 @@ module _ (l : Layout) (x : Lengths) (laid : IsLaid l) (len : AreLengths l x) whe
     | inr more ↦ elim (cases_eq o (x u.arc)) [
       | inl last ↦ let b : use_point l x u o ≡ node (end_of l u) = use_ends l x u o last (omega arith) in absurd cc
       | inr less ↦
-        let b : use_point l x u o ≡ along u.arc (cond u.forward o (x u.arc - o)) = use_inner l x u o (omega arith) (omega arith) in
-        let arc : u.arc ≡ a = cc in
-        let place : cond u.forward o (x u.arc - o) ≡ k = cc in
-        (arc, omega arith, omega arith, place)
+          let b : use_point l x u o ≡ along u.arc (cond u.forward o (x u.arc - o)) = use_inner l x u o (omega arith) (omega arith) in
+          let arc : u.arc ≡ a = cc in
+          let place : cond u.forward o (x u.arc - o) ≡ k = cc in
+          (arc, omega arith, omega arith, place)
     ]
   ]
 
@@ -138,7 +137,7 @@ module _ (l : Layout) (x : Lengths) (laid : IsLaid l) (len : AreLengths l x) whe
         place : (d : Dart) → IsDart l x d → from l x d ≡ inside p i j → (d.patch ≡ p) × (column_of d ≡ i) × (row_of d ≡ j)
         place d is_d leaves =
             point_sort l x laid len d.patch (column_of d) (row_of d) p i j is_d.patch_low
-                (corner_low l x laid.paved len d is_d).0 (corner_low l x laid.paved len d is_d).1 leaves
+            (corner_low l x laid.paved len d is_d).0 (corner_low l x laid.paved len d is_d).1 leaves
 
         once : (d e : Dart) (b : IsDart l x d) (c : IsDart l x e) (f : from l x d ≡ inside p i j) (g : from l x e ≡ inside p i j)
             → turn d.way ≡ turn e.way → d ≡ e
@@ -177,7 +176,7 @@ module _ (l : Layout) (x : Lengths) (laid : IsLaid l) (len : AreLengths l x) whe
             least = fan_least l x laid len F cell model (inside p i j) v is_v 4
                 (λ k low. (hub_dart p i j (way_of k), (at_hub (way_of k)).0, (at_hub (way_of k)).1))
                 (λ k m low less same. sym (turn_way k low)
-                    ∙ ap turn (sym (hub_way p i j (way_of k)) ∙ ap (λ (d : Dart). d.way) same ∙ hub_way p i j (way_of m)) ∙ turn_way m less)
+                ∙ ap turn (sym (hub_way p i j (way_of k)) ∙ ap (λ (d : Dart). d.way) same ∙ hub_way p i j (way_of m)) ∙ turn_way m less)
 
     module _ (a k v : ℕ) (is : IsPoint l x (along a k)) (is_v : IsVertex l x laid len F cell model (along a k) v) where
       -- A dart at the point, by slot.
@@ -193,7 +192,7 @@ module _ (l : Layout) (x : Lengths) (laid : IsLaid l) (len : AreLengths l x) whe
           at_slot : (w : Slot) (o : ℕ) → IsAt l x laid len d w o → (w : Slot) × (o : ℕ) × (b : Bool) × IsAlong d w o b
           at_slot w o at =
               let s : ((use_of l w).arc ≡ a) × (0 < o) × (o < x (use_of l w).arc) × (cond (use_of l w).forward o (x (use_of l w).arc - o) ≡ k) =
-                  arc_of (use_of l w) o a k (omega (arith, at.low)) (omega (arith, at.low)) (sym at.leaves ∙ leaves) in
+              arc_of (use_of l w) o a k (omega (arith, at.low)) (omega (arith, at.low)) (sym at.leaves ∙ leaves) in
               let b : (b : Bool) × (d ≡ spot_dart l x w o b) × ((b ≡ true) → 0 < place_at l x w o) = sort_spot l x laid len d w o is_d at in
               (w, o, b.0, record { at = at; arc = s.0; place = s.3; dart = b.1 })
 
@@ -208,7 +207,7 @@ module _ (l : Layout) (x : Lengths) (laid : IsLaid l) (len : AreLengths l x) whe
           let slots : w ≡ u = laid.once w u s.at.is_slot r.at.is_slot (λ t. record { arc = (s.arc ∙ sym r.arc) t; forward = ways t }) in
           let long : x (use_of l u).arc ≡ x (use_of l w).arc = ap x (r.arc ∙ sym s.arc) in
           let places : cond (use_of l w).forward o (x (use_of l w).arc - o) ≡ cond (use_of l w).forward m (x (use_of l w).arc - m) =
-              s.place ∙ sym r.place ∙ (λ t. cond (sym ways t) m (long t - m)) in
+          s.place ∙ sym r.place ∙ (λ t. cond (sym ways t) m (long t - m)) in
           let offsets : o ≡ m = by_way (use_of l w).forward (x (use_of l w).arc) s.at.low (omega (arith, long, r.at.low)) places in
           s.dart ∙ (λ t. spot_dart l x (slots t) (offsets t) (same t)) ∙ sym r.dart
         where
@@ -227,9 +226,10 @@ module _ (l : Layout) (x : Lengths) (laid : IsLaid l) (len : AreLengths l x) whe
       first_leaves = ap (λ (u : SideArc). use_point l x u k) first.2 ∙ arc_inner l x a k is.1 is.2
 
       first_dart : (b : Bool) → IsDart l x (spot_dart l x first.0 k b) × (from l x (spot_dart l x first.0 k b) ≡ along a k)
-      first_dart b =
-          (spot_is l x laid len first.0 k b first.1 (omega (arith, first_long, is.2)) (λ e. omega (arith, is.1)),
-              (spot_at l x laid len first.0 k b first.1 (omega (arith, first_long, is.2)) (λ e. omega (arith, is.1))).leaves ∙ first_leaves)
+      first_dart b = (
+        spot_is l x laid len first.0 k b first.1 (omega (arith, first_long, is.2)) (λ e. omega (arith, is.1)),
+        (spot_at l x laid len first.0 k b first.1 (omega (arith, first_long, is.2)) (λ e. omega (arith, is.1))).leaves ∙ first_leaves,
+      )
 
       along_alone : ((u : Slot) → ¬ IsOther l first.0 u) → is_regular F v ≡ true
       along_alone none = regular_by v 2 false two boundary refl
@@ -237,7 +237,7 @@ module _ (l : Layout) (x : Lengths) (laid : IsLaid l) (len : AreLengths l x) whe
           boundary : is_inner F v ≡ false
           boundary = false_from_ne_true (is_inner F v) (λ inner.
               let u : (u : Slot) × IsOther l first.0 u =
-                  inner_only l x laid len F cell model (along a k) v is_v inner first.0 k first.1 (omega (arith, first_long, is.2)) (inl first_leaves) in
+              inner_only l x laid len F cell model (along a k) v is_v inner first.0 k first.1 (omega (arith, first_long, is.2)) (inl first_leaves) in
               none u.0 u.1)
 
           forward : (w : Slot) → IsSlot l w → (use_of l w).arc ≡ a → (use_of l w).forward ≡ true
@@ -245,10 +245,13 @@ module _ (l : Layout) (x : Lengths) (laid : IsLaid l) (len : AreLengths l x) whe
             where
               by_way : (f : Bool) → (use_of l w).forward ≡ f → (use_of l w).forward ≡ true
               by_way true e = e
-              by_way false e = absurd (none w (is_w, record {
-                arc = arc ∙ sym (ap (λ (u : SideArc). u.arc) first.2);
-                turned = e ∙ ap (λ (u : SideArc). not u.forward) (sym first.2);
-              }))
+              by_way false e = absurd (none w (
+                is_w,
+                record {
+                  arc = arc ∙ sym (ap (λ (u : SideArc). u.arc) first.2);
+                  turned = e ∙ ap (λ (u : SideArc). not u.forward) (sym first.2);
+                },
+              ))
 
           two : faces_at F v ≡ 2
           two = omega (arith, most, least)
@@ -264,8 +267,8 @@ module _ (l : Layout) (x : Lengths) (laid : IsLaid l) (len : AreLengths l x) whe
                       → code true s.2 ≡ code true r.2 → d ≡ e
                   by_sort s r same =
                       along_once d e s.0 r.0 s.1 r.1 s.2 r.2 s.3 r.3
-                          (forward s.0 s.3.at.is_slot s.3.arc ∙ sym (forward r.0 r.3.at.is_slot r.3.arc))
-                          (sym (code_behind true s.2) ∙ ap behind_of same ∙ code_behind true r.2)
+                      (forward s.0 s.3.at.is_slot s.3.arc ∙ sym (forward r.0 r.3.at.is_slot r.3.arc))
+                      (sym (code_behind true s.2) ∙ ap behind_of same ∙ code_behind true r.2)
 
               most : faces_at F v ≤ 2
               most = fan_most l x laid len F cell model (along a k) v is_v 2 coded once
@@ -274,7 +277,7 @@ module _ (l : Layout) (x : Lengths) (laid : IsLaid l) (len : AreLengths l x) whe
               least = fan_least l x laid len F cell model (along a k) v is_v 2
                   (λ c low. (spot_dart l x first.0 k (behind_of c), (first_dart (behind_of c)).0, (first_dart (behind_of c)).1))
                   (λ c m low less same. sym (code_back_first c low)
-                      ∙ ap (code true) (spot_once l x laid len first.0 k (behind_of c) (behind_of m) same) ∙ code_back_first m less)
+                  ∙ ap (code true) (spot_once l x laid len first.0 k (behind_of c) (behind_of m) same) ∙ code_back_first m less)
 
       along_shared : (u : Slot) → IsOther l first.0 u → is_regular F v ≡ true
       along_shared u other = regular_by v 4 true four (inner_if l x laid len F cell model (along a k) v is_v shared) refl
@@ -313,9 +316,10 @@ module _ (l : Layout) (x : Lengths) (laid : IsLaid l) (len : AreLengths l x) whe
 
           both_is : (f b : Bool) → IsDart l x (both f b) × (from l x (both f b) ≡ along a k)
           both_is true b = first_dart b
-          both_is false b =
-              (spot_is l x laid len u (x a - k) b other.0 (omega (arith, long, is.1, is.2)) (λ e. omega (arith, is.2)),
-                  (spot_at l x laid len u (x a - k) b other.0 (omega (arith, long, is.1, is.2)) (λ e. omega (arith, is.2))).leaves ∙ other_leaves)
+          both_is false b = (
+            spot_is l x laid len u (x a - k) b other.0 (omega (arith, long, is.1, is.2)) (λ e. omega (arith, is.2)),
+            (spot_at l x laid len u (x a - k) b other.0 (omega (arith, long, is.1, is.2)) (λ e. omega (arith, is.2))).leaves ∙ other_leaves,
+          )
 
           apart : first.0 ≢ u
           apart e = by_way (use_of l first.0).forward (use_of l u).forward other.1.turned (ap (λ (z : Slot). (use_of l z).forward) e)
@@ -329,22 +333,23 @@ module _ (l : Layout) (x : Lengths) (laid : IsLaid l) (len : AreLengths l x) whe
           both_once false false b c e = ap (code false) (spot_once l x laid len u (x a - k) b c e)
           both_once true false b c e =
               absurd (apart (at_once l x laid len (both true b) first.0 u k (x a - k)
-                  (spot_at l x laid len first.0 k b first.1 (omega (arith, first_long, is.2)) (λ s. omega (arith, is.1)))
-                  (subst (λ (d : Dart). IsAt l x laid len d u (x a - k)) (sym e)
-                      (spot_at l x laid len u (x a - k) c other.0 (omega (arith, long, is.1, is.2)) (λ s. omega (arith, is.2))))).0)
+              (spot_at l x laid len first.0 k b first.1 (omega (arith, first_long, is.2)) (λ s. omega (arith, is.1)))
+              (subst (λ (d : Dart). IsAt l x laid len d u (x a - k)) (sym e)
+              (spot_at l x laid len u (x a - k) c other.0 (omega (arith, long, is.1, is.2)) (λ s. omega (arith, is.2))))).0)
           both_once false true b c e =
               absurd (apart (at_once l x laid len (both true c) first.0 u k (x a - k)
-                  (spot_at l x laid len first.0 k c first.1 (omega (arith, first_long, is.2)) (λ s. omega (arith, is.1)))
-                  (subst (λ (d : Dart). IsAt l x laid len d u (x a - k)) e
-                      (spot_at l x laid len u (x a - k) b other.0 (omega (arith, long, is.1, is.2)) (λ s. omega (arith, is.2))))).0)
+              (spot_at l x laid len first.0 k c first.1 (omega (arith, first_long, is.2)) (λ s. omega (arith, is.1)))
+              (subst (λ (d : Dart). IsAt l x laid len d u (x a - k)) e
+              (spot_at l x laid len u (x a - k) b other.0 (omega (arith, long, is.1, is.2)) (λ s. omega (arith, is.2))))).0)
 
           four : faces_at F v ≡ 4
           four = omega (arith, most, least)
             where
               coded : (d : Dart) → IsDart l x d → from l x d ≡ along a k → (c : ℕ) × (c < 4)
-              coded d is_d leaves =
-                  (code (use_of l (along_sort d is_d leaves).0).forward (along_sort d is_d leaves).2,
-                      code_low (use_of l (along_sort d is_d leaves).0).forward (along_sort d is_d leaves).2)
+              coded d is_d leaves = (
+                code (use_of l (along_sort d is_d leaves).0).forward (along_sort d is_d leaves).2,
+                code_low (use_of l (along_sort d is_d leaves).0).forward (along_sort d is_d leaves).2,
+              )
 
               once : (d e : Dart) (b : IsDart l x d) (c : IsDart l x e) (f : from l x d ≡ along a k) (g : from l x e ≡ along a k)
                   → (coded d b f).0 ≡ (coded e c g).0 → d ≡ e
@@ -354,8 +359,8 @@ module _ (l : Layout) (x : Lengths) (laid : IsLaid l) (len : AreLengths l x) whe
                       → code (use_of l s.0).forward s.2 ≡ code (use_of l r.0).forward r.2 → d ≡ e
                   by_sort s r same =
                       along_once d e s.0 r.0 s.1 r.1 s.2 r.2 s.3 r.3
-                          (sym (code_forward (use_of l s.0).forward s.2) ∙ ap forward_of same ∙ code_forward (use_of l r.0).forward r.2)
-                          (sym (code_behind (use_of l s.0).forward s.2) ∙ ap behind_of same ∙ code_behind (use_of l r.0).forward r.2)
+                      (sym (code_forward (use_of l s.0).forward s.2) ∙ ap forward_of same ∙ code_forward (use_of l r.0).forward r.2)
+                      (sym (code_behind (use_of l s.0).forward s.2) ∙ ap behind_of same ∙ code_behind (use_of l r.0).forward r.2)
 
               most : faces_at F v ≤ 4
               most = fan_most l x laid len F cell model (along a k) v is_v 4 coded once
@@ -364,7 +369,7 @@ module _ (l : Layout) (x : Lengths) (laid : IsLaid l) (len : AreLengths l x) whe
               least = fan_least l x laid len F cell model (along a k) v is_v 4
                   (λ c low. (both (forward_of c) (behind_of c), (both_is (forward_of c) (behind_of c)).0, (both_is (forward_of c) (behind_of c)).1))
                   (λ c m low less same. sym (code_back c low)
-                      ∙ both_once (forward_of c) (forward_of m) (behind_of c) (behind_of m) same ∙ code_back m less)
+                  ∙ both_once (forward_of c) (forward_of m) (behind_of c) (behind_of m) same ∙ code_back m less)
 
       pub along_regular : is_regular F v ≡ true
       along_regular = elim (laid.other first.0 first.1) [ inl u ↦ along_shared u.0 u.1 | inr none ↦ along_alone none ]

@@ -1,11 +1,11 @@
 -- A layout that lies in a mesh is laid.
-use Rattle.std.proofs.Common.{◌≡◌, ◌≢◌, ◌⊎◌, ℕ, zero, suc, ◌+◌, ◌-◌, ◌<◌, ◌≤◌, Bool, true, false, not, Option, Some, refl, sym, ◌∙◌, ap, subst, inl, inr, arith}
+use Rattle.std.proofs.Common.{◌≡◌, ℕ, zero, suc, ◌+◌, ◌-◌, ◌<◌, Bool, true, false, not, Some, refl, sym, ◌∙◌, ap, arith}
 use Rattle.std.proofs.lemmas.Option.{same_Some}
 use Rattle.def_mesh.specs.HalfEdges.{HalfEdges, IsQuadManifold}
 use Rattle.def_layout.specs.declared.tmesh.SideArc.{SideArc}
 use Rattle.def_layout.specs.Layouts.{Way, south, east, north, west, after, before, Layout, Slot, IsSlot, AreReverse, use_of, use_before, slot_before, start_of, end_of}
 use Rattle.def_layout.specs.Laid.{IsPaved, IsLaid, IsOther}
-use Rattle.def_layout.specs.Lengths.{Lengths, reach, size, wide, high, AreLengths}
+use Rattle.def_layout.specs.Lengths.{Lengths, reach, size, AreLengths}
 use Rattle.def_layout.specs.Cells.{Dart, IsDart, dart, next, prev, rim, rim_at}
 use Rattle.def_layout.specs.Sided.{IsSided}
 use Rattle.def_written.specs.NewFaces.{column, row}
@@ -14,7 +14,6 @@ use Rattle.written_laws.proofs.Turning.{IsTurning}
 use Rattle.written_laws.proofs.Rims.{corner_next}
 use Rattle.written_laws.proofs.Borders.{at_is, before_is}
 use Rattle.written_laws.proofs.Fans.{before_related}
-use Rattle.written_laws.proofs.Manifold.{before_after}
 use Rattle.written_laws.proofs.Spots.{rim_slot}
 
 module _ (m : HalfEdges) (laws : IsQuadManifold m) (l : Layout) (x : Lengths) (paved : IsPaved l) (len : AreLengths l x)
@@ -45,9 +44,9 @@ module _ (m : HalfEdges) (laws : IsQuadManifold m) (l : Layout) (x : Lengths) (p
       by_way false e =
           let on : (use_of l v).forward ≡ true = other.1.turned ∙ ap not e in
           let there : cell (rim_at l x v (x (use_of l w).arc - 1 - o)) ≡ arc_dart (use_of l w).arc (x (use_of l w).arc - 1 - o) =
-              s.ahead v (x (use_of l w).arc - 1 - o) other.0 k_low on ∙ ap (λ a. arc_dart a (x (use_of l w).arc - 1 - o)) other.1.arc in
+          s.ahead v (x (use_of l w).arc - 1 - o) other.0 k_low on ∙ ap (λ a. arc_dart a (x (use_of l w).arc - 1 - o)) other.1.arc in
           laws.twin_twin (arc_dart (use_of l w).arc (x (use_of l w).arc - 1 - o)) (cell (rim_at l x w o))
-              (s.arc_low (use_of l w).arc (x (use_of l w).arc - 1 - o) (paved.arc_low w is) (omega arith)) (s.behind w o is less e)
+          (s.arc_low (use_of l w).arc (x (use_of l w).arc - 1 - o) (paved.arc_low w is) (omega arith)) (s.behind w o is less e)
           ∙ ap Some (sym there)
 
   -- Darts of the mesh that leave one vertex.
@@ -69,18 +68,18 @@ module _ (m : HalfEdges) (laws : IsQuadManifold m) (l : Layout) (x : Lengths) (p
       → column i w ≡ column k (after w) → row j w ≡ row n (after w) → AreFromOne (dart p i j w) (dart p k n (after w))
   left_from p i j k n south d e c r =
       before_twin (dart p i j south) (dart p k n east) e refl
-          (s.east_of p k n d.patch_low (omega (arith, c, d.i_low)) e.j_low ∙ ap (λ (q : Dart). Some (cell q)) (λ t. dart p (sym c t) (sym r t) west))
+      (s.east_of p k n d.patch_low (omega (arith, c, d.i_low)) e.j_low ∙ ap (λ (q : Dart). Some (cell q)) (λ t. dart p (sym c t) (sym r t) west))
   left_from p i j k n east d e c r =
       let a : k ≡ i = omega (arith, c) in
       before_twin (dart p i j east) (dart p k n north) e refl
-          (s.north_of p k n d.patch_low e.i_low (omega (arith, r, d.j_low)) ∙ ap (λ (q : Dart). Some (cell q)) (λ t. dart p (a t) (sym r t) south))
+      (s.north_of p k n d.patch_low e.i_low (omega (arith, r, d.j_low)) ∙ ap (λ (q : Dart). Some (cell q)) (λ t. dart p (a t) (sym r t) south))
   left_from p i j k n north d e c r =
       let b : j ≡ n = omega (arith, r) in
       twin_before (dart p i j north) (dart p k n west) (record { patch_low = d.patch_low; i_low = d.i_low; j_low = d.j_low }) refl
-          (s.east_of p i j d.patch_low (omega (arith, c, e.i_low)) d.j_low ∙ ap (λ (q : Dart). Some (cell q)) (λ t. dart p (c t) (b t) west))
+      (s.east_of p i j d.patch_low (omega (arith, c, e.i_low)) d.j_low ∙ ap (λ (q : Dart). Some (cell q)) (λ t. dart p (c t) (b t) west))
   left_from p i j k n west d e c r =
       twin_before (dart p i j west) (dart p k n south) (record { patch_low = d.patch_low; i_low = d.i_low; j_low = d.j_low }) refl
-          (s.north_of p i j d.patch_low d.i_low (omega (arith, r, e.j_low)) ∙ ap (λ (q : Dart). Some (cell q)) (λ t. dart p (c t) (r t) south))
+      (s.north_of p i j d.patch_low d.i_low (omega (arith, r, e.j_low)) ∙ ap (λ (q : Dart). Some (cell q)) (λ t. dart p (c t) (r t) south))
 
   pub from_turning : IsTurning l x AreFromOne
   from_turning = record {
@@ -105,9 +104,9 @@ module _ (m : HalfEdges) (laws : IsQuadManifold m) (l : Layout) (x : Lengths) (p
       by_way false e =
           let z : x (use_of l w).arc - 1 - 0 ≡ x (use_of l w).arc - 1 = omega arith in
           let low : arc_dart (use_of l w).arc (x (use_of l w).arc - 1) < m.count =
-              s.arc_low (use_of l w).arc (x (use_of l w).arc - 1) (paved.arc_low w is) (omega (arith, some w is)) in
+          s.arc_low (use_of l w).arc (x (use_of l w).arc - 1) (paved.arc_low w is) (omega (arith, some w is)) in
           (laws.twin_ends (arc_dart (use_of l w).arc (x (use_of l w).arc - 1)) (cell (rim_at l x w 0)) low
-              (ap (λ k. m.twin (arc_dart (use_of l w).arc k)) (sym z) ∙ s.behind w 0 is (some w is) e)).0
+          (ap (λ k. m.twin (arc_dart (use_of l w).arc k)) (sym z) ∙ s.behind w 0 is (some w is) e)).0
           ∙ s.last_at (use_of l w).arc (paved.arc_low w is) ∙ ap vertex (node (use_of l w) false e)
 
   ends : (w : Slot) → IsSlot l w → m.from (m.next (cell (rim_at l x w (x (use_of l w).arc - 1)))) ≡ vertex (end_of l (use_of l w))
@@ -127,7 +126,7 @@ module _ (m : HalfEdges) (laws : IsQuadManifold m) (l : Layout) (x : Lengths) (p
           let z : x (use_of l w).arc - 1 - (x (use_of l w).arc - 1) ≡ 0 = omega arith in
           let low : arc_dart (use_of l w).arc 0 < m.count = s.arc_low (use_of l w).arc 0 (paved.arc_low w is) (some w is) in
           (laws.twin_ends (arc_dart (use_of l w).arc 0) (cell (rim_at l x w (x (use_of l w).arc - 1))) low
-              (ap (λ k. m.twin (arc_dart (use_of l w).arc k)) (sym z) ∙ s.behind w (x (use_of l w).arc - 1) is less e)).1
+          (ap (λ k. m.twin (arc_dart (use_of l w).arc k)) (sym z) ∙ s.behind w (x (use_of l w).arc - 1) is less e)).1
           ∙ s.first_at (use_of l w).arc (paved.arc_low w is) ∙ ap vertex (node (use_of l w) false e)
 
   start_low : (u : SideArc) → u.arc < l.arcs → (start_of l u < l.nodes) × (end_of l u < l.nodes)
@@ -140,8 +139,8 @@ module _ (m : HalfEdges) (laws : IsQuadManifold m) (l : Layout) (x : Lengths) (p
   once : (v w : Slot) → IsSlot l v → IsSlot l w → use_of l v ≡ use_of l w → v ≡ w
   once v w is_v is_w same =
       rim_slot l x paved len v w 0 0 is_v is_w (some v is_v) (some w is_w)
-          (s.same (rim_at l x v 0) (rim_at l x w 0) (at_is l x paved len v 0 is_v (some v is_v)) (at_is l x paved len w 0 is_w (some w is_w))
-              (by_way (use_of l v).forward refl))
+      (s.same (rim_at l x v 0) (rim_at l x w 0) (at_is l x paved len v 0 is_v (some v is_v)) (at_is l x paved len w 0 is_w (some w is_w))
+      (by_way (use_of l v).forward refl))
     where
       arcs : (use_of l v).arc ≡ (use_of l w).arc
       arcs = ap (λ (u : SideArc). u.arc) same
@@ -154,18 +153,18 @@ module _ (m : HalfEdges) (laws : IsQuadManifold m) (l : Layout) (x : Lengths) (p
           s.ahead v 0 is_v (some v is_v) e ∙ ap (λ a. arc_dart a 0) arcs ∙ sym (s.ahead w 0 is_w (some w is_w) (sym ways ∙ e))
       by_way false e =
           same_Some (cell (rim_at l x v 0)) (cell (rim_at l x w 0))
-              (sym (s.behind v 0 is_v (some v is_v) e) ∙ ap (λ a. m.twin (arc_dart a (x a - 1 - 0))) arcs
-                  ∙ s.behind w 0 is_w (some w is_w) (sym ways ∙ e))
+          (sym (s.behind v 0 is_v (some v is_v) e) ∙ ap (λ a. m.twin (arc_dart a (x a - 1 - 0))) arcs
+          ∙ s.behind w 0 is_w (some w is_w) (sym ways ∙ e))
 
   meet : (w : Slot) → IsSlot l w → end_of l (use_before l w) ≡ start_of l (use_of l w)
   meet w is =
       let b : Slot = slot_before l w.patch w.side w.at in
       let is_b : IsSlot l (slot_before l w.patch w.side w.at) = before_is l x paved len w is in
       s.vertex_same (end_of l (use_before l w)) (start_of l (use_of l w))
-          (start_low (use_before l w) (paved.arc_low (slot_before l w.patch w.side w.at) is_b)).1 (start_low (use_of l w) (paved.arc_low w is)).0
-          (sym (ends (slot_before l w.patch w.side w.at) is_b)
-              ∙ ap m.from (sym (s.turned (rim_at l x (slot_before l w.patch w.side w.at) (x (use_before l w).arc - 1))))
-              ∙ before_related l x paved len AreFromOne from_turning w is ∙ starts w is)
+      (start_low (use_before l w) (paved.arc_low (slot_before l w.patch w.side w.at) is_b)).1 (start_low (use_of l w) (paved.arc_low w is)).0
+      (sym (ends (slot_before l w.patch w.side w.at) is_b)
+      ∙ ap m.from (sym (s.turned (rim_at l x (slot_before l w.patch w.side w.at) (x (use_before l w).arc - 1))))
+      ∙ before_related l x paved len AreFromOne from_turning w is ∙ starts w is)
 
   no_fold : (w : Slot) → IsSlot l w → w.at ≡ 0 → ¬ AreReverse (use_before l w) (use_of l w)
   no_fold w is first rev = (laws.corners_differ (cell c) c_low).1 (sym back)
@@ -196,8 +195,11 @@ module _ (m : HalfEdges) (laws : IsQuadManifold m) (l : Layout) (x : Lengths) (p
           by_side : (q : Way) → next (rim_at l x (slot w.patch (before q) (l.many w.patch (before q) - 1)) (x (l.use_at w.patch (before q) (l.many w.patch (before q) - 1)).arc - 1))
               ≡ rim l x w.patch q 0
           by_side q = corner q (reach l x w.patch (before q) (l.many w.patch (before q) - 1) + (x (l.use_at w.patch (before q) (l.many w.patch (before q) - 1)).arc - 1))
-              (omega (arith, last_reach l x paved len w.patch (before q) is.patch_low,
-                  some (slot w.patch (before q) (l.many w.patch (before q) - 1)) (record { patch_low = is.patch_low; low = omega (arith, paved.sides_full w.patch (before q) is.patch_low) })))
+              (omega (
+                arith,
+                last_reach l x paved len w.patch (before q) is.patch_low,
+                some (slot w.patch (before q) (l.many w.patch (before q) - 1)) (record { patch_low = is.patch_low; low = omega (arith, paved.sides_full w.patch (before q) is.patch_low) }),
+              ))
             where
               corner : (q : Way) (t : ℕ) → t + 1 ≡ size l x w.patch (before q) → next (rim l x w.patch (before q) t) ≡ rim l x w.patch q 0
               corner south t f = corner_next l x paved len w.patch west t is.patch_low f

@@ -1,13 +1,13 @@
 -- The darts that leave a place of an arc: by slot, and whether they lie on its border or just behind.
-use Rattle.std.proofs.Common.{◌≡◌, ◌≢◌, ◌⊎◌, ℕ, zero, suc, ◌+◌, ◌-◌, ◌<◌, ◌≤◌, Bool, true, false, refl, sym, ◌∙◌, ap, subst, inl, inr, arith}
+use Rattle.std.proofs.Common.{◌≡◌, ◌≢◌, ◌⊎◌, ℕ, ◌+◌, ◌-◌, ◌<◌, Bool, true, false, refl, sym, ◌∙◌, ap, subst, inl, inr, arith}
 use Rattle.def_layout.specs.Layouts.{Way, south, east, north, west, after, Layout, Slot, IsSlot, use_of}
 use Rattle.def_layout.specs.Laid.{IsPaved, IsLaid}
 use Rattle.def_layout.specs.Lengths.{Lengths, reach, size, wide, high, AreLengths}
 use Rattle.def_layout.specs.Cells.{Dart, IsDart, dart, next, rim, rim_at}
-use Rattle.def_written.specs.Points.{point, side_point, use_point}
-use Rattle.def_written.specs.NewFaces.{column, row, from}
+use Rattle.def_written.specs.Points.{point}
+use Rattle.def_written.specs.NewFaces.{column, row}
 use Rattle.qm_laws.proofs.Runs.{place_same}
-use Rattle.written_laws.proofs.Sides.{slot, long_at, side_in, reach_low}
+use Rattle.written_laws.proofs.Sides.{slot, long_at, side_in}
 use Rattle.written_laws.proofs.Grid.{wide_some, high_some}
 use Rattle.written_laws.proofs.Rims.{column_of, row_of, side_column, side_row, border_point, rim_is, rim_column, rim_row, rim_next_column, rim_next_row, rim_patch, rim_way}
 use Rattle.written_laws.proofs.Borders.{at_low, at_is, IsAt}
@@ -76,8 +76,8 @@ module _ (l : Layout) (x : Lengths) (paved : IsPaved l) (len : AreLengths l x) w
           let k_inside : k < long_at l x w.patch w.side v.at = subst (λ (n : ℕ). k < n) (λ r. long_at l x (patches r) (sides r) v.at) k_low in
           let v_many : v.at < l.many w.patch w.side = subst (λ (n : ℕ). v.at < n) (λ r. l.many (patches r) (sides r)) is_v.low in
           let r : (w.at ≡ v.at) × (o ≡ k) =
-              place_same (long_at l x w.patch w.side) (l.many w.patch w.side) w.at o v.at k is_w.low v_many o_low k_inside
-                  (e ∙ (λ r. reach l x (patches r) (sides r) v.at + k)) in
+          place_same (long_at l x w.patch w.side) (l.many w.patch w.side) w.at o v.at k is_w.low v_many o_low k_inside
+          (e ∙ (λ r. reach l x (patches r) (sides r) v.at + k)) in
           λ q. slot (sym patches q) (sym sides q) (r.0 q)
 
   -- A dart that leaves a place of a side lies on the border, or is next to the border dart before.
@@ -160,12 +160,12 @@ module _ (l : Layout) (x : Lengths) (laid : IsLaid l) (len : AreLengths l x) whe
       by_place : (w.side ≡ v.side) × (place_at l x w o ≡ place_at l x v k) → (w ≡ v) × (o ≡ k)
       by_place s =
           let v_inside : k < long_at l x w.patch w.side v.at =
-              subst (λ (n : ℕ). k < n) (λ t. long_at l x (patches t) (sym s.0 t) v.at) b.low in
+          subst (λ (n : ℕ). k < n) (λ t. long_at l x (patches t) (sym s.0 t) v.at) b.low in
           let v_many : v.at < l.many w.patch w.side = subst (λ (n : ℕ). v.at < n) (λ t. l.many (patches t) (sym s.0 t)) b.is_slot.low in
           let place : reach l x w.patch w.side w.at + o ≡ reach l x w.patch w.side v.at + k =
-              s.1 ∙ (λ t. reach l x (patches t) (sym s.0 t) v.at + k) in
+          s.1 ∙ (λ t. reach l x (patches t) (sym s.0 t) v.at + k) in
           let r : (w.at ≡ v.at) × (o ≡ k) =
-              place_same (long_at l x w.patch w.side) (l.many w.patch w.side) w.at o v.at k a.is_slot.low v_many a.low v_inside place in
+          place_same (long_at l x w.patch w.side) (l.many w.patch w.side) w.at o v.at k a.is_slot.low v_many a.low v_inside place in
           ((λ t. slot (sym patches t) (s.0 t) (r.0 t)), r.1)
 
   -- The darts at a place.
@@ -173,13 +173,13 @@ module _ (l : Layout) (x : Lengths) (laid : IsLaid l) (len : AreLengths l x) whe
   spot_is w o false is less some = at_is l x laid.paved len w o is less
   spot_is w o true is less some =
       next_is l x (rim l x w.patch w.side (place_at l x w o - 1))
-          (rim_is l x laid.paved len w.patch w.side (place_at l x w o - 1) is.patch_low (omega (arith, at_low l x laid.paved len w o is less)))
+      (rim_is l x laid.paved len w.patch w.side (place_at l x w o - 1) is.patch_low (omega (arith, at_low l x laid.paved len w o is less)))
 
   pub rim_is_at : (w : Slot) (o : ℕ) → IsSlot l w → o < x (use_of l w).arc → IsAt l x laid len (rim_at l x w o) w o
   rim_is_at w o is less =
       at_place (rim_at l x w o) w o is less (rim_patch l x laid.paved len w.patch w.side (place_at l x w o))
-          (rim_column l x laid.paved len w.patch w.side (place_at l x w o) is.patch_low (at_low l x laid.paved len w o is less))
-          (rim_row l x laid.paved len w.patch w.side (place_at l x w o) is.patch_low (at_low l x laid.paved len w o is less))
+      (rim_column l x laid.paved len w.patch w.side (place_at l x w o) is.patch_low (at_low l x laid.paved len w o is less))
+      (rim_row l x laid.paved len w.patch w.side (place_at l x w o) is.patch_low (at_low l x laid.paved len w o is less))
 
   pub spot_at : (w : Slot) (o : ℕ) (b : Bool) → IsSlot l w → o < x (use_of l w).arc → (b ≡ true → 0 < place_at l x w o) → IsAt l x laid len (spot_dart l x w o b) w o
   spot_at w o false is less some = rim_is_at w o is less
@@ -187,27 +187,27 @@ module _ (l : Layout) (x : Lengths) (laid : IsLaid l) (len : AreLengths l x) whe
       let t_low : place_at l x w o - 1 < size l x w.patch w.side = omega (arith, at_low l x laid.paved len w o is less) in
       let one : place_at l x w o - 1 + 1 ≡ place_at l x w o = omega (arith, some refl) in
       at_place (next (rim l x w.patch w.side (place_at l x w o - 1))) w o is less
-          (rim_patch l x laid.paved len w.patch w.side (place_at l x w o - 1))
-          (rim_next_column l x laid.paved len w.patch w.side (place_at l x w o - 1) is.patch_low t_low ∙ ap (side_column l x w.patch w.side) one)
-          (rim_next_row l x laid.paved len w.patch w.side (place_at l x w o - 1) is.patch_low t_low ∙ ap (side_row l x w.patch w.side) one)
+      (rim_patch l x laid.paved len w.patch w.side (place_at l x w o - 1))
+      (rim_next_column l x laid.paved len w.patch w.side (place_at l x w o - 1) is.patch_low t_low ∙ ap (side_column l x w.patch w.side) one)
+      (rim_next_row l x laid.paved len w.patch w.side (place_at l x w o - 1) is.patch_low t_low ∙ ap (side_row l x w.patch w.side) one)
 
   -- A dart at a place is one of the two.
   pub sort_spot : (d : Dart) (w : Slot) (o : ℕ) → IsDart l x d → IsAt l x laid len d w o
       → (b : Bool) × (d ≡ spot_dart l x w o b) × ((b ≡ true) → 0 < place_at l x w o)
   sort_spot d w o is a =
       by_border (border_dart l x laid.paved len w.patch w.side d.way d.i d.j (place_at l x w o) (at_low l x laid.paved len w o a.is_slot a.low)
-          (record {
-            patch_low = a.is_slot.patch_low;
-            i_low = subst (λ (n : ℕ). d.i < n) (ap (wide l x) a.patch) is.i_low;
-            j_low = subst (λ (n : ℕ). d.j < n) (ap (high l x) a.patch) is.j_low;
-          })
-          a.column a.row)
+      (record {
+        patch_low = a.is_slot.patch_low;
+        i_low = subst (λ (n : ℕ). d.i < n) (ap (wide l x) a.patch) is.i_low;
+        j_low = subst (λ (n : ℕ). d.j < n) (ap (high l x) a.patch) is.j_low;
+      })
+      a.column a.row)
     where
       here : d ≡ dart w.patch d.i d.j d.way
       here = λ t. dart (a.patch t) d.i d.j d.way
 
       by_border : (dart w.patch d.i d.j d.way ≡ rim l x w.patch w.side (place_at l x w o))
-            ⊎ ((0 < place_at l x w o) × (dart w.patch d.i d.j d.way ≡ next (rim l x w.patch w.side (place_at l x w o - 1))))
+          ⊎ ((0 < place_at l x w o) × (dart w.patch d.i d.j d.way ≡ next (rim l x w.patch w.side (place_at l x w o - 1))))
           → (b : Bool) × (d ≡ spot_dart l x w o b) × ((b ≡ true) → 0 < place_at l x w o)
       by_border (inl e) = (false, here ∙ e, λ s. absurd cc)
       by_border (inr e) = (true, here ∙ e.1, λ s. e.0)
@@ -218,7 +218,7 @@ module _ (l : Layout) (x : Lengths) (laid : IsLaid l) (len : AreLengths l x) whe
   spot_once w o false false e = refl
   spot_once w o true false e =
       absurd (no_turn w.side (sym (ap (λ (d : Dart). d.way) e ∙ rim_way l x laid.paved len w.patch w.side (place_at l x w o))
-          ∙ ap after (rim_way l x laid.paved len w.patch w.side (place_at l x w o - 1))))
+      ∙ ap after (rim_way l x laid.paved len w.patch w.side (place_at l x w o - 1))))
   spot_once w o false true e =
       absurd (no_turn w.side (sym (rim_way l x laid.paved len w.patch w.side (place_at l x w o)) ∙ ap (λ (d : Dart). d.way) e
-          ∙ ap after (rim_way l x laid.paved len w.patch w.side (place_at l x w o - 1))))
+      ∙ ap after (rim_way l x laid.paved len w.patch w.side (place_at l x w o - 1))))

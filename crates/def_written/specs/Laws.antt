@@ -1,0 +1,69 @@
+-- What is proved of the meshes that a layout gives.
+use Rattle.std.specs.Prelude.{◌≡◌, ℕ, ◌*◌, ◌<◌, ◌≤◌, length}
+use Rattle.def_mesh.specs.Faces.{Faces, face_at}
+use Rattle.def_mesh.specs.Manifold.{IsManifold}
+use Rattle.def_mesh.specs.Vertices.{vertex_count, UsesEach}
+use Rattle.def_mesh.specs.HalfEdges.{half_edges}
+use Rattle.def_layout.specs.Layouts.{Layout}
+use Rattle.def_layout.specs.Laid.{IsPaved, IsLaid}
+use Rattle.def_layout.specs.Fans.{HasFans}
+use Rattle.def_layout.specs.Lengths.{Lengths, AreLengths}
+use Rattle.def_layout.specs.Cells.{Dart}
+use Rattle.def_layout.specs.Sided.{IsSided}
+use Rattle.def_written.specs.Points.{Point, IsPoint}
+use Rattle.def_written.specs.Numbers.{number, vertices}
+use Rattle.def_written.specs.NewFaces.{new_faces}
+use Rattle.def_written.specs.Edges.{IsUndoubled}
+use Rattle.def_written.specs.Shape.{KeepsShape}
+
+-- Each face has four corners.
+abbrev pub AreQuads : (faces : Faces) → Type 0
+AreQuads faces = (f : ℕ) → f < length faces → length (face_at faces f) ≡ 4
+
+-- A layout with its old lengths lies in a mesh of quads: node n is the vertex `vertex n`.
+pub record LiesIn (faces : Faces) (layout : Layout) (old : Lengths) (vertex : ℕ → ℕ) : Type 0 where
+  pub manifold : IsManifold faces
+  pub quads : AreQuads faces
+  pub used : UsesEach (vertex_count faces) faces
+  pub paved : IsPaved layout
+  pub lengths : AreLengths layout old
+  pub cell : Dart → ℕ
+  pub arc_dart : ℕ → ℕ → ℕ
+  pub sided : IsSided (half_edges faces) layout old cell vertex arc_dart
+
+-- Such a layout is that of a surface.
+abbrev pub LaidLaw : Type 0
+LaidLaw = (faces : Faces) (layout : Layout) (old : Lengths) (vertex : ℕ → ℕ) → LiesIn faces layout old vertex
+    → IsLaid layout × HasFans layout
+
+-- Each number below that of the vertices is the number of one point.
+pub record AreNumbered (layout : Layout) (lengths : Lengths) : Type 0 where
+  pub low : (a : Point) → IsPoint layout lengths a → number layout lengths a < vertices layout lengths
+  pub same : (a b : Point) → IsPoint layout lengths a → IsPoint layout lengths b
+      → number layout lengths a ≡ number layout lengths b → a ≡ b
+  pub onto : (n : ℕ) → n < vertices layout lengths
+      → (a : Point) × IsPoint layout lengths a × (number layout lengths a ≡ n)
+
+abbrev pub NumbersLaw : Type 0
+NumbersLaw = (layout : Layout) (lengths : Lengths) → AreNumbered layout lengths
+
+-- Where no edge is doubled, the new faces are a manifold.
+abbrev pub NewManifoldLaw : Type 0
+NewManifoldLaw = (layout : Layout) (lengths : Lengths) → IsLaid layout → HasFans layout → AreLengths layout lengths
+    → IsUndoubled layout lengths → IsManifold (new_faces layout lengths)
+
+-- They then have the shape of the mesh in which the layout lies.
+abbrev pub KeepsShapeLaw : Type 0
+KeepsShapeLaw = (faces : Faces) (layout : Layout) (old : Lengths) (vertex : ℕ → ℕ) → LiesIn faces layout old vertex
+    → (new : Lengths) → AreLengths layout new → IsUndoubled layout new
+    → KeepsShape faces (new_faces layout new) layout.nodes vertex
+
+-- Lengths of at least 3 double no edge.
+abbrev pub ThreeLaw : Type 0
+ThreeLaw = (layout : Layout) (lengths : Lengths) → IsLaid layout → AreLengths layout lengths
+    → ((arc : ℕ) → arc < layout.arcs → 3 ≤ lengths arc) → IsUndoubled layout lengths
+
+-- Multiples of the old lengths are lengths, and double no edge.
+abbrev pub MultipleLaw : Type 0
+MultipleLaw = (faces : Faces) (layout : Layout) (old : Lengths) (vertex : ℕ → ℕ) → LiesIn faces layout old vertex
+    → (k : ℕ) → 0 < k → AreLengths layout (λ a. k * old a) × IsUndoubled layout (λ a. k * old a)
