@@ -1,0 +1,3 @@
+mod Floods
+mod Numberings
+mod Edges
