@@ -1,7 +1,8 @@
 -- The numbers of a forest stay small.
-use Rattle.std.proofs.Common.{◌≡◌, ℕ, zero, suc, ◌+◌, ◌*◌, ◌<◌, ◌≤◌, ◌^◌, Bool, true, false, cond, List, length, get_or, ℤ, pos, ◌+ℤ◌, ◌-ℤ◌, ◌≤ℤ◌, refl, sym, ◌∙◌, ap, subst, arith}
+use Rattle.std.proofs.Common.{Some, ◌≡◌, ℕ, zero, suc, ◌+◌, ◌*◌, ◌<◌, ◌≤◌, ◌^◌, Bool, true, false, cond, List, length, get_or, ℤ, pos, ◌+ℤ◌, ◌-ℤ◌, ◌≤ℤ◌, refl, sym, ◌∙◌, ap, subst, arith}
 use Rattle.std.specs.Prelude.{unsigned_abs}
 use Rattle.std.proofs.lemmas.Int.{ints}
+use Rattle.std.proofs.lemmas.Option.{slice_get-get_or}
 use mir.Syntax.{w128}
 use mir.Val.{to_z, of_z}
 use Rattle.def_math.specs.Sums.{total_below}
@@ -64,3 +65,14 @@ added_bound t q off tied v low xs h l d e1 e2 e3 e4 =
 pub told_bound : (t : ForestTables) (q off : List ℤ) → AreTied t q off → (v : ℕ) → v < length t.hand → (qs : List ℤ) (more : ℤ) → qs ≡ q → more ≡ added t.hand t.top off t.label t.delta v
     → get_or qs v (pos 0) +ℤ more ≡ potential (forest_of t) v
 told_bound t q off tied v low qs more e1 e2 = ap (λ (ys : List ℤ). get_or ys v (pos 0) +ℤ more) e1 ∙ (ap (λ (x : ℤ). get_or q v (pos 0) +ℤ x) e2 ∙ sym (tied.potentials v low))
+
+-- A weight as it is kept is small.
+pub base_small : (t : ForestTables) (q off : List ℤ) → AreTied t q off → (b : ℕ) → unsigned_abs (get_or t.base b (pos 0)) ≤ 2 ^ 93
+base_small t q off tied b = omega (arith, ints, tied.small b, change_small (label_at t.label b) t.delta, delta_small t q off tied)
+
+-- An element that is read, whatever would stand past the end.
+pub read_is : (xs : List ℤ) (b : ℕ) (r d : ℤ) → b < length xs → r ≡ get_or xs b r → r ≡ get_or xs b d
+read_is xs b r d low e = e ∙ same (sym (slice_get-get_or xs b r low) ∙ slice_get-get_or xs b d low)
+  where
+    same : {x y : ℤ} → Some x ≡ Some y → x ≡ y
+    same p = cc

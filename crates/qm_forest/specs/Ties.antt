@@ -94,12 +94,15 @@ pub record IsOnWay (g : Graph) (t : ForestTables) (start : ℕ) (mate : Blossom 
 abbrev pub apart : (n : ℕ) (up : ℕ → ℕ) (weight : ℕ → ℤ) (size : ℕ) (x y : Blossom) → ℤ
 apart n up weight size x y = total_below (λ b. if splits (climbs up n b) x y then weight b else pos 0) size
 
--- One can climb from the two vertices, and ranks rise on the way; the numbers are small.
-pub record CanMeet (n : ℕ) (up rank : List ℕ) (base : List ℤ) (out : ℕ → ℕ) : Type 0 where
-  pub climb : IsClimb n (slice_index up) out
-  pub rises : (x : Blossom) → slice_index up x ≢ x → slice_index rank x < slice_index rank (slice_index up x)
-  pub vertices : n ≤ length up
-  pub few : length up ≤ 2 ^ 26
-  pub ups : (b : Blossom) → b < length up → slice_index up b < length up
-  pub size_rank : length rank ≡ length up
-  pub size_base : length base ≡ length up
+-- A blossom lies on the way from some vertex to its outermost blossom b.
+abbrev pub IsWithin : (t : ForestTables) (b x : Blossom) → Type 0
+IsWithin t b x = (v : Vertex) × (v < length t.hand) × ((forest_of t).out v ≡ b) × (i : ℕ) × (walk (slice_index t.up) v i ≡ x)
+
+-- Two climbers from u and v have come to x and y, and so much is passed.
+pub record IsMeeting (t : ForestTables) (u v x y : Blossom) (load : ℤ) : Type 0 where
+  pub sum : load +ℤ apart (length t.hand) (slice_index t.up) (forest_of t).weight (length t.up) x y ≡ apart (length t.hand) (slice_index t.up) (forest_of t).weight (length t.up) u v
+  pub first : IsWithin t ((forest_of t).out u) x
+  pub second : IsWithin t ((forest_of t).out u) y
+  pub low_x : x < length t.up
+  pub low_y : y < length t.up
+  pub small : unsigned_abs load ≤ 2 ^ 90

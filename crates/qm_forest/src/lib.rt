@@ -5,6 +5,7 @@ mod augmenting;
 mod darts;
 mod forest;
 mod growing;
+mod loads;
 mod numbers;
 mod search;
 mod writes;

@@ -1,0 +1,128 @@
+ghost use Rattle.std.specs.Prelude.{◌≡◌, ◌≢◌, ◌+ℤ◌, ◌-ℤ◌, ◌*ℤ◌, ◌^◌, ◌<◌, ◌≤◌, ◌⊎◌, ◌==◌, ℕ, pos, length, slice_index, slice_index_or, unsigned_abs};
+ghost use Rattle.def_matching.specs.Matching.{graph, edge_at};
+ghost use Rattle.def_forest.specs.Forests.{Blossom, load};
+ghost use Rattle.qm_forest.specs.Ties.{IsClimb};
+ghost use Rattle.def_forest.specs.Tables.{forest_of, slack_of, kind_of, kind_by, IsMatchable, IsValidFor, IsOutermostIn};
+
+use crate::darts::edge_of;
+use crate::forest::Forest;
+use def_forest::{EdgeKind, Label};
+use def_matching::WGraph;
+
+impl Forest {
+    /// Twice the cost of an edge less its load. Constant between two outermost blossoms; within one it climbs.
+    pub fn slack(&self, g: &WGraph, e: u32) -> i128
+        requires graph { IsMatchable (graph g.now) }
+        requires valid { IsValidFor (graph g.now) self.now }
+        requires edge { e < length g.now.edges.items }
+        ensures { result ≡ slack_of (graph g.now) (forest_of self.now) e }
+    {
+        let edge = edge_of(g, e);
+        2 * i128::from(edge.cost) - self.load_between(g, edge.u, edge.v)
+    }
+
+    /// The load between two vertices.
+    fn load_between(&self, g: &WGraph, u: u32, v: u32) -> i128
+        requires valid { IsValidFor (graph g.now) self.now }
+        requires vertices { (u < length self.now.hand) × (v < length self.now.hand) }
+        ensures value { result ≡ load (forest_of self.now) u v }
+        ensures small { unsigned_abs result ≤ 2 ^ 92 }
+    {
+        if self.outermost(u) == self.outermost(v) {
+            self.load_within(g, u, v)
+        } else {
+            self.load_across(g, u, v)
+        }
+    }
+
+    /// The load between two vertices of different outermost blossoms.
+    fn load_across(&self, g: &WGraph, u: u32, v: u32) -> i128
+        requires valid { IsValidFor (graph g.now) self.now }
+        requires vertices { (u < length self.now.hand) × (v < length self.now.hand) }
+        requires apart { (forest_of self.now).out u ≢ (forest_of self.now).out v }
+        ensures value { result ≡ load (forest_of self.now) u v }
+        ensures small { unsigned_abs result ≤ 2 ^ 92 }
+    {
+        let _ = g;
+        self.potential(u) + self.potential(v)
+    }
+
+    /// The load between two vertices of one outermost blossom.
+    fn load_within(&self, g: &WGraph, u: u32, v: u32) -> i128
+        requires valid { IsValidFor (graph g.now) self.now }
+        requires vertices { (u < length self.now.hand) × (v < length self.now.hand) }
+        requires same { (forest_of self.now).out u ≡ (forest_of self.now).out v }
+        ensures value { result ≡ load (forest_of self.now) u v }
+        ensures small { unsigned_abs result ≤ 2 ^ 92 }
+    {
+        let _ = g;
+        let mut x = u;
+        let mut y = v;
+        let mut load = 0i128;
+        while x != y {
+            let (low, high) = self.ordered(x, y);
+            load += self.base_at(low);
+            x = self.up_at(low);
+            y = high;
+        }
+        load
+    }
+
+    /// The set around a blossom.
+    fn up_at(&self, b: u32) -> u32
+        requires { b < length self.now.up }
+        ensures value { result ≡ slice_index self.now.up b }
+        ensures low { result < length self.now.up }
+    {
+        self.up[b as usize]
+    }
+
+    /// The weight that is kept of a blossom. All weights are small.
+    fn base_at(&self, b: u32) -> i128
+        requires { b < length self.now.up }
+        ensures value { result ≡ slice_index_or self.now.base b (pos 0) }
+        ensures bound { unsigned_abs result ≤ 2 ^ 93 }
+        ensures few { length self.now.up ≤ 2 ^ 26 }
+        ensures climb { IsClimb (length self.now.hand) (slice_index self.now.up) (forest_of self.now).out }
+        ensures small { (k : Blossom) → unsigned_abs ((forest_of self.now).weight k) ≤ 2 ^ 62 }
+    {
+        self.base[b as usize]
+    }
+
+    /// Two blossoms, that of lower rank first.
+    fn ordered(&self, x: u32, y: u32) -> (u32, u32)
+        requires low { (x < length self.now.up) × (y < length self.now.up) }
+        ensures either { ((result.0 ≡ x) × (result.1 ≡ y)) ⊎ ((result.0 ≡ y) × (result.1 ≡ x)) }
+        ensures order { slice_index self.now.rank result.0 ≤ slice_index self.now.rank result.1 }
+    {
+        if self.rank[x as usize] <= self.rank[y as usize] { (x, y) } else { (y, x) }
+    }
+
+    /// The step that an edge allows.
+    pub fn kind(&self, g: &WGraph, e: u32) -> EdgeKind
+        requires graph { IsMatchable (graph g.now) }
+        requires valid { IsValidFor (graph g.now) self.now }
+        requires edge { e < length g.now.edges.items }
+        ensures { result ≡ kind_of (graph g.now) (forest_of self.now) e }
+    {
+        if self.slack(g, e) > 0 {
+            return EdgeKind::Loose;
+        }
+        let edge = edge_of(g, e);
+        self.kind_between(self.outermost(edge.u), self.outermost(edge.v))
+    }
+
+    /// What a tight edge between two outermost blossoms allows.
+    fn kind_between(&self, a: u32, b: u32) -> EdgeKind
+        requires first { IsOutermostIn self.now a }
+        requires second { IsOutermostIn self.now b }
+        ensures { result ≡ kind_by ((forest_of self.now).label a) ((forest_of self.now).label b) ((forest_of self.now).mate a) ((forest_of self.now).mate b) (a == b) }
+    {
+        match (self.label(a), self.label(b)) {
+            (Label::Outer, Label::Outer) => if a == b { EdgeKind::Idle } else { EdgeKind::Shrink },
+            (Label::Outer, Label::Outside) => if self.matched(b) { EdgeKind::Grow } else { EdgeKind::Augment },
+            (Label::Outside, Label::Outer) => if self.matched(a) { EdgeKind::Grow } else { EdgeKind::Augment },
+            _ => EdgeKind::Idle,
+        }
+    }
+}
