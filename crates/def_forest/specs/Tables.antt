@@ -1,7 +1,7 @@
 -- What a contract sees of a forest that a program keeps: its tables, the forest that they stand for, and the step
 -- that an edge allows.
-use Rattle.std.specs.Prelude.{◌≡◌, ◌≢◌, ℕ, zero, suc, ◌+◌, ◌*◌, ◌<◌, ◌≤◌, ◌^◌, ◌==◌, ◌||◌, Bool, if◌then◌else◌, List, length, slice_index, slice_index_or, Option, None, is_some, ℤ, pos, ◌+ℤ◌, ◌-ℤ◌, ◌*ℤ◌, int_lt}
-use Rattle.def_matching.specs.Matching.{Graph, Vertex, EdgeNumber, IsGraph, edge_at}
+use Rattle.std.specs.Prelude.{◌≡◌, ◌≢◌, ℕ, zero, suc, ◌+◌, ◌*◌, ◌<◌, ◌==◌, ◌||◌, Bool, if◌then◌else◌, List, length, slice_index, slice_index_or, Option, None, is_some, ℤ, pos, ◌+ℤ◌, ◌-ℤ◌, ◌*ℤ◌, int_lt}
+use Rattle.def_matching.specs.Matching.{Graph, Vertex, EdgeNumber, edge_at}
 use Rattle.def_forest.specs.Darts.{Dart, Darts, darts_of, far}
 use Rattle.def_forest.specs.Forests.{Blossom, Forest, load}
 use Rattle.def_forest.specs.Steps.{change}
@@ -65,12 +65,6 @@ forest_of t = record {
     rank = slice_index t.rank;
   };
 }
-
--- A graph that fits: its ends are vertices, and there are not too many.
-pub record IsMatchable (g : Graph) : Type 0 where
-  pub graph : IsGraph g
-  pub few : g.n ≤ 2 ^ 25
-  pub edges : length g.edges ≤ 2 ^ 30
 
 -- The forest is valid for a graph.
 pub record IsValidFor (g : Graph) (t : ForestTables) : Type 0 where

@@ -3,10 +3,10 @@ use Rattle.std.proofs.Common.{◌≡◌, ◌≢◌, ℕ, ◌+◌, ◌*◌, ◌<�
 use Rattle.std.specs.Prelude.{int_lt}
 use Rattle.std.proofs.lemmas.Int.{ints}
 use Rattle.std.proofs.lemmas.Bool.{cases_Bool, cond-true, cond-false}
-use Rattle.def_matching.specs.Matching.{Graph, IsGraph, edge_at}
+use Rattle.def_matching.specs.Matching.{IsSmallGraph, Graph, IsGraph, edge_at}
 use Rattle.def_forest.specs.Darts.{Darts, AreDarts, darts_of, twin_of, far}
 use Rattle.def_forest.specs.Forests.{Forest, load, IsTight}
-use Rattle.def_forest.specs.Tables.{IsMatchable, kind_of, kind_by, slack_of, outer_dart, dart_by}
+use Rattle.def_forest.specs.Tables.{kind_of, kind_by, slack_of, outer_dart, dart_by}
 use Rattle.def_forest.specs.Valid.{IsFeasible}
 use Rattle.def_forest.specs.declared.kinds.Label.{Label}
 use Rattle.def_forest.specs.declared.kinds.Label.TheVariants.{Outer, Inner, Outside}
@@ -19,7 +19,7 @@ use Rattle.forest_laws.proofs.Graphs.{are_darts, twin_even, dart_near, dart_far,
 not_loose : (x : ℤ) → int_lt (pos 0) x ≡ false → x ≤ℤ pos 0
 not_loose x e = grind (arith, ints)
 
-module _ (g : Graph) (is : IsMatchable g) (f : Forest) (feasible : IsFeasible (darts_of g) f) (e : ℕ) (low : e < length g.edges) where
+module _ (g : Graph) (is : IsSmallGraph g) (f : Forest) (feasible : IsFeasible (darts_of g) f) (e : ℕ) (low : e < length g.edges) where
   abbrev first : ℕ
   first = 2 * e
 
@@ -51,9 +51,9 @@ module _ (g : Graph) (is : IsMatchable g) (f : Forest) (feasible : IsFeasible (d
   from_v tight lu lv =
       let d : twin_of (2 * e) ≡ 2 * e + 1 = twin_even (2 * e) (omega arith) in
       subst (λ x. Reaches (darts_of g) f x) d (record {
-        tight = tight_twin (darts_of g) (are_darts g is.graph) f (2 * e) tight;
+        tight = tight_twin (darts_of g) (are_darts g is.lawful) f (2 * e) tight;
         outer = ap (λ v. f.label (f.out v)) (dart_far g e) ∙ lv;
-        off = ap (λ v. f.label (f.out v)) (far_twin (darts_of g) (are_darts g is.graph) (2 * e) ∙ dart_near g e) ∙ lu;
+        off = ap (λ v. f.label (f.out v)) (far_twin (darts_of g) (are_darts g is.lawful) (2 * e) ∙ dart_near g e) ∙ lu;
       })
 
   -- What a dart to a blossom outside the tree reaches: a matched one, or one that is not.
@@ -61,7 +61,7 @@ module _ (g : Graph) (is : IsMatchable g) (f : Forest) (feasible : IsFeasible (d
   Leads some = Reaches (darts_of g) f (outer_dart g f e) × (is_some (f.mate (f.out (far (darts_of g) (outer_dart g f e)))) ≡ some)
 
   far_second : far (darts_of g) (2 * e + 1) ≡ (edge_at g e).u
-  far_second = ap (far (darts_of g)) (sym (twin_even (2 * e) (omega arith))) ∙ (far_twin (darts_of g) (are_darts g is.graph) (2 * e) ∙ dart_near g e)
+  far_second = ap (far (darts_of g)) (sym (twin_even (2 * e) (omega arith))) ∙ (far_twin (darts_of g) (are_darts g is.lawful) (2 * e) ∙ dart_near g e)
 
   leads_u : (some : Bool) → IsTight (darts_of g) f first → f.label (f.out (edge_at g e).u) ≡ Outer → f.label (f.out (edge_at g e).v) ≡ Outside → is_some (f.mate (f.out (edge_at g e).v)) ≡ some → Leads some
   leads_u some tight lu lv m =

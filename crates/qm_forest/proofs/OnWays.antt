@@ -1,10 +1,10 @@
 -- Steps of the tree in the tables: growing, and changing the matching along the way to the root.
 use Rattle.std.proofs.Common.{◌≡◌, ◌≢◌, ℕ, suc, ◌+◌, ◌*◌, ◌<◌, ◌≤◌, ◌^◌, length, Option, Some, None, Bool, true, false, is_some, refl, sym, ◌∙◌, ap, subst, ◌⊎◌, inl, inr, arith}
-use Rattle.def_matching.specs.Matching.{Graph, IsGraph}
+use Rattle.def_matching.specs.Matching.{IsSmallGraph, Graph, IsGraph}
 use Rattle.def_forest.specs.Darts.{Darts, darts_of, far}
 use Rattle.def_forest.specs.Forests.{Forest, IsOutermost, set_at}
 use Rattle.def_forest.specs.Steps.{grown, with_mates, IsAugmented}
-use Rattle.def_forest.specs.Tables.{ForestTables, forest_of, IsMatchable, IsValidFor}
+use Rattle.def_forest.specs.Tables.{ForestTables, forest_of, IsValidFor}
 use Rattle.def_forest.specs.Valid.{IsValid, IsMate, IsTree, IsInner}
 use Rattle.def_forest.specs.declared.kinds.Label.{Label}
 use Rattle.def_forest.specs.declared.kinds.Label.TheVariants.{Outer, Inner, Outside}
@@ -19,7 +19,7 @@ use Rattle.std.proofs.lemmas.Bool.{cases_eq}
 use Rattle.forest_laws.proofs.Writes.{set_here, set_there}
 
 -- A mate is a dart of the graph.
-pub mate_low : (g : Graph) (t : ForestTables) → IsMatchable g → IsValidFor g t → (b m : ℕ) → (forest_of t).mate b ≡ Some m → m < 2 * length g.edges
+pub mate_low : (g : Graph) (t : ForestTables) → IsSmallGraph g → IsValidFor g t → (b m : ℕ) → (forest_of t).mate b ≡ Some m → m < 2 * length g.edges
 mate_low g t is valid b m mate = (valid.valid.matched b m mate).tight.low
 
 -- What is not empty.
@@ -32,11 +32,11 @@ none_is None e = refl
 none_is (Some x) e = absurd (cc e)
 
 -- The forest is valid after the tree has grown.
-pub valid_grown : (t u : ForestTables) (g : Graph) → IsMatchable g → IsValidFor g t → (d m : ℕ) → Reaches (darts_of g) (forest_of t) d → (forest_of t).mate ((forest_of t).out (far (darts_of g) d)) ≡ Some m
+pub valid_grown : (t u : ForestTables) (g : Graph) → IsSmallGraph g → IsValidFor g t → (d m : ℕ) → Reaches (darts_of g) (forest_of t) d → (forest_of t).mate ((forest_of t).out (far (darts_of g) d)) ≡ Some m
     → forest_of u ≡ grown (darts_of g) (forest_of t) d m → u.hand ≡ t.hand → u.root ≡ t.root → IsValidFor g u
 valid_grown t u g is valid d m reach mate seen hand root = record {
   vertices = ap length hand ∙ valid.vertices;
-  valid = by_tree (tree_of (darts_of g) (are_darts g is.graph) (forest_of t) t.root valid.valid ((forest_of t).out ((darts_of g).near d)) (λ off. outer off reach.outer));
+  valid = by_tree (tree_of (darts_of g) (are_darts g is.lawful) (forest_of t) t.root valid.valid ((forest_of t).out ((darts_of g).near d)) (λ off. outer off reach.outer));
 }
   where
     outer : {l : Label} → l ≡ Outside → l ≡ Outer → ⊥
@@ -44,7 +44,7 @@ valid_grown t u g is valid d m reach mate seen hand root = record {
 
     by_tree : (r : ℕ) × (t.root ≡ Some r) × IsTree (darts_of g) (forest_of t) r → IsValid (darts_of g) (forest_of u) u.root
     by_tree w = subst (λ (f : Forest). IsValid (darts_of g) f u.root) (sym seen) (subst (λ (o : Option ℕ). IsValid (darts_of g) (grown (darts_of g) (forest_of t) d m) o) (sym (root ∙ w.1))
-        (grown_valid (darts_of g) (are_darts g is.graph) (forest_of t) w.0 (subst (λ (o : Option ℕ). IsValid (darts_of g) (forest_of t) o) w.1 valid.valid) d m reach mate))
+        (grown_valid (darts_of g) (are_darts g is.lawful) (forest_of t) w.0 (subst (λ (o : Option ℕ). IsValid (darts_of g) (forest_of t) o) w.1 valid.valid) d m reach mate))
 
 -- Another mate, seen in a forest whose mates were changed.
 pub remated_more : (f0 f1 f2 : Forest) (mate : ℕ → Option ℕ) (b : ℕ) (m : Option ℕ) → f1 ≡ remated f0 mate → f2 ≡ mated f1 b m → f2 ≡ remated f0 (set_at mate b m)
@@ -58,9 +58,9 @@ pub link_same : (f0 f1 : Forest) (mate : ℕ → Option ℕ) (b : ℕ) → f1 �
 link_same f0 f1 mate b e = ap (λ (f : Forest). f.link b) e
 
 -- The way begins.
-pub way_begins : (g : Graph) (t : ForestTables) → IsMatchable g → IsValidFor g t → (start : ℕ) → Reaches (darts_of g) (forest_of t) start → (forest_of t).mate ((forest_of t).out (far (darts_of g) start)) ≡ None
+pub way_begins : (g : Graph) (t : ForestTables) → IsSmallGraph g → IsValidFor g t → (start : ℕ) → Reaches (darts_of g) (forest_of t) start → (forest_of t).mate ((forest_of t).out (far (darts_of g) start)) ≡ None
     → (mate : ℕ → Option ℕ) (a : ℕ) → mate ≡ set_at (forest_of t).mate ((forest_of t).out (far (darts_of g) start)) (Some ((darts_of g).twin start)) → a ≡ (forest_of t).out ((darts_of g).near start) → IsOnWay g t start mate a start
-way_begins g t is valid start reach free mate a mate_is a_is = by_tree (tree_of (darts_of g) (are_darts g is.graph) (forest_of t) t.root valid.valid ((forest_of t).out ((darts_of g).near start)) (λ off. outer off reach.outer))
+way_begins g t is valid start reach free mate a mate_is a_is = by_tree (tree_of (darts_of g) (are_darts g is.lawful) (forest_of t) t.root valid.valid ((forest_of t).out ((darts_of g).near start)) (λ off. outer off reach.outer))
   where
     outer : {l : Label} → l ≡ Outside → l ≡ Outer → ⊥
     outer x y = let h : Outside ≡ Outer = sym x ∙ y in cc
@@ -73,7 +73,7 @@ way_begins g t is valid start reach free mate a mate_is a_is = by_tree (tree_of 
       root = w.1;
       tree = w.2;
       almost = subst (λ x. IsAlmost (darts_of g) (forest_of t) w.2.depth start mate x start) (sym a_is) (subst (λ (x : ℕ → Option ℕ). IsAlmost (darts_of g) (forest_of t) w.2.depth start x ((forest_of t).out ((darts_of g).near start)) start) (sym mate_is)
-          (begin (darts_of g) (are_darts g is.graph) (forest_of t) w.0 (subst (λ (o : Option ℕ). IsValid (darts_of g) (forest_of t) o) w.1 valid.valid) w.2 start reach free));
+          (begin (darts_of g) (are_darts g is.lawful) (forest_of t) w.0 (subst (λ (o : Option ℕ). IsValid (darts_of g) (forest_of t) o) w.1 valid.valid) w.2 start reach free));
     }
 
 module _ (g : Graph) (t : ForestTables) (start : ℕ) (mate : ℕ → Option ℕ) (a e : ℕ) (way : IsOnWay g t start mate a e) where
@@ -99,7 +99,7 @@ module _ (g : Graph) (t : ForestTables) (start : ℕ) (mate : ℕ → Option ℕ
     almost = subst (λ (x : ℕ → Option ℕ). IsAlmost (darts_of g) (forest_of t) way.tree.depth start x a2 e2) (sym (mate_is ∙ (ap (λ x. set_at (set_at mate a (Some e)) x (Some up)) inner_is' ∙ ap (λ x. set_at (set_at mate a (Some e)) inn (Some x)) link_is)))
         (subst (λ x. IsAlmost (darts_of g) (forest_of t) way.tree.depth start next x e2) (sym (a_is ∙ ap (λ x. (forest_of t).out (far (darts_of g) x)) link_is))
         (subst (λ x. IsAlmost (darts_of g) (forest_of t) way.tree.depth start next ((forest_of t).out (far (darts_of g) ((forest_of t).link inn))) x) (sym (e_is ∙ ap (darts_of g).twin link_is))
-        (turn (darts_of g) (are_darts g way.is.graph) (forest_of t) way.top valid_top way.tree start mate a e way.almost old (sym own_mate ∙ was))));
+        (turn (darts_of g) (are_darts g way.is.lawful) (forest_of t) way.top valid_top way.tree start mate a e way.almost old (sym own_mate ∙ was))));
   }
     where
       inn : ℕ
@@ -116,8 +116,8 @@ module _ (g : Graph) (t : ForestTables) (start : ℕ) (mate : ℕ → Option ℕ
       → steps (darts_of g) (forest_of t) ((forest_of t).size + 1) a2 < steps (darts_of g) (forest_of t) ((forest_of t).size + 1) a
   way_shorter old inner up a2 was inner_is' up_is a_is =
       let own : (forest_of t).mate a ≡ Some old = sym own_mate ∙ was in
-      let parent : a2 ≡ parent_of (darts_of g) (forest_of t) a = a_is ∙ ap (λ x. (forest_of t).out (far (darts_of g) x)) (up_is ∙ ap (forest_of t).link (inner_is' ∙ sym (inner_is (darts_of g) (are_darts g way.is.graph) (forest_of t) way.top valid_top way.tree a old way.almost.outer own))) in
-      let less : steps (darts_of g) (forest_of t) ((forest_of t).size + 1) a ≡ suc (steps (darts_of g) (forest_of t) ((forest_of t).size + 1) (parent_of (darts_of g) (forest_of t) a)) = fewer_steps (darts_of g) (are_darts g way.is.graph) (forest_of t) way.top valid_top way.tree a old way.almost.outer own in
+      let parent : a2 ≡ parent_of (darts_of g) (forest_of t) a = a_is ∙ ap (λ x. (forest_of t).out (far (darts_of g) x)) (up_is ∙ ap (forest_of t).link (inner_is' ∙ sym (inner_is (darts_of g) (are_darts g way.is.lawful) (forest_of t) way.top valid_top way.tree a old way.almost.outer own))) in
+      let less : steps (darts_of g) (forest_of t) ((forest_of t).size + 1) a ≡ suc (steps (darts_of g) (forest_of t) ((forest_of t).size + 1) (parent_of (darts_of g) (forest_of t) a)) = fewer_steps (darts_of g) (are_darts g way.is.lawful) (forest_of t) way.top valid_top way.tree a old way.almost.outer own in
       let same : steps (darts_of g) (forest_of t) ((forest_of t).size + 1) a2 ≡ steps (darts_of g) (forest_of t) ((forest_of t).size + 1) (parent_of (darts_of g) (forest_of t) a) = ap (steps (darts_of g) (forest_of t) ((forest_of t).size + 1)) parent in
       omega arith
 
@@ -136,7 +136,7 @@ module _ (g : Graph) (t : ForestTables) (start : ℕ) (mate : ℕ → Option ℕ
   old_low old was = (way.valid.valid.matched a old (sym own_mate ∙ was)).tight.low
 
   pub up_low : (old inner up : ℕ) → mate a ≡ Some old → inner ≡ (forest_of t).out (far (darts_of g) old) → up ≡ (forest_of t).link inner → up < 2 * length g.edges
-  up_low old inner up was inner_is' up_is = subst (λ x. x < 2 * length g.edges) (sym (up_is ∙ ap (forest_of t).link inner_is')) (way.tree.inner ((forest_of t).out (far (darts_of g) old)) (outer_mate (darts_of g) (are_darts g way.is.graph) (forest_of t) (Some way.top) valid_top a old way.almost.outer (sym own_mate ∙ was))).tight.low
+  up_low old inner up was inner_is' up_is = subst (λ x. x < 2 * length g.edges) (sym (up_is ∙ ap (forest_of t).link inner_is')) (way.tree.inner ((forest_of t).out (far (darts_of g) old)) (outer_mate (darts_of g) (are_darts g way.is.lawful) (forest_of t) (Some way.top) valid_top a old way.almost.outer (sym own_mate ∙ was))).tight.low
 
   -- It ends where the blossom at hand is not matched.
   pub way_ends : mate a ≡ None → (r : ℕ) → t.root ≡ Some r → (mate2 : ℕ → Option ℕ) → mate2 ≡ set_at mate a (Some e)
@@ -145,19 +145,19 @@ module _ (g : Graph) (t : ForestTables) (start : ℕ) (mate : ℕ → Option ℕ
       let own : (forest_of t).mate a ≡ None = sym own_mate ∙ free in
       let r_is : way.top ≡ r = same (sym way.root ∙ root) in
       subst (λ (x : ℕ → Option ℕ). IsValid (darts_of g) (with_mates (forest_of t) x) None × IsAugmented (darts_of g) (forest_of t) (with_mates (forest_of t) x) r start) (sym is_mate) (
-        end_valid (darts_of g) (are_darts g way.is.graph) (forest_of t) way.top valid_top way.tree start mate a e way.almost own,
-        subst (λ x. IsAugmented (darts_of g) (forest_of t) (with_mates (forest_of t) (set_at mate a (Some e))) x start) r_is (end_augmented (darts_of g) (are_darts g way.is.graph) (forest_of t) way.top valid_top way.tree start mate a e way.almost own),
+        end_valid (darts_of g) (are_darts g way.is.lawful) (forest_of t) way.top valid_top way.tree start mate a e way.almost own,
+        subst (λ x. IsAugmented (darts_of g) (forest_of t) (with_mates (forest_of t) (set_at mate a (Some e))) x start) r_is (end_augmented (darts_of g) (are_darts g way.is.lawful) (forest_of t) way.top valid_top way.tree start mate a e way.almost own),
       )
     where
       same : {x y : ℕ} → Some x ≡ Some y → x ≡ y
       same p = cc
 
 -- The twin of a dart is one, and what begins a dart is a vertex.
-pub twin_dart : (g : Graph) → IsMatchable g → (d e : ℕ) → d < 2 * length g.edges → e ≡ (darts_of g).twin d → e < 2 * length g.edges
-twin_dart g is d e low e_is = subst (λ x. x < 2 * length g.edges) (sym e_is) ((are_darts g is.graph).twin_low d low)
+pub twin_dart : (g : Graph) → IsSmallGraph g → (d e : ℕ) → d < 2 * length g.edges → e ≡ (darts_of g).twin d → e < 2 * length g.edges
+twin_dart g is d e low e_is = subst (λ x. x < 2 * length g.edges) (sym e_is) ((are_darts g is.lawful).twin_low d low)
 
-pub near_in : (g : Graph) (t : ForestTables) → IsMatchable g → IsValidFor g t → (d v : ℕ) → d < 2 * length g.edges → v ≡ (darts_of g).near d → v < length t.hand
-near_in g t is valid d v low v_is = subst (λ n. v < n) (sym valid.vertices) (subst (λ x. x < g.n) (sym v_is) ((are_darts g is.graph).near_low d low))
+pub near_in : (g : Graph) (t : ForestTables) → IsSmallGraph g → IsValidFor g t → (d v : ℕ) → d < 2 * length g.edges → v ≡ (darts_of g).near d → v < length t.hand
+near_in g t is valid d v low v_is = subst (λ n. v < n) (sym valid.vertices) (subst (λ x. x < g.n) (sym v_is) ((are_darts g is.lawful).near_low d low))
 
 -- The same blossoms, over two changes.
 pub same_nest : (a b c : ForestTables) → HasSameNest a b → HasSameNest b c → HasSameNest a c
@@ -187,11 +187,11 @@ valid_augmented t u g valid mate whole seen hand root = record {
 }
 
 -- What has come of an augmentation.
-pub augmented : (t s u : ForestTables) (g : Graph) → IsMatchable g → IsValidFor g t → (start : ℕ) → Reaches (darts_of g) (forest_of t) start
+pub augmented : (t s u : ForestTables) (g : Graph) → IsSmallGraph g → IsValidFor g t → (start : ℕ) → Reaches (darts_of g) (forest_of t) start
     → ((r : ℕ) → t.root ≡ Some r → IsValid (darts_of g) (with_mates (forest_of t) (forest_of s).mate) None × IsAugmented (darts_of g) (forest_of t) (with_mates (forest_of t) (forest_of s).mate) r start)
     → forest_of s ≡ remated (forest_of t) (forest_of s).mate → forest_of u ≡ with_mates (forest_of s) (forest_of s).mate → u.hand ≡ t.hand → u.root ≡ None
     → ((r : ℕ) × (t.root ≡ Some r) × IsAugmented (darts_of g) (forest_of t) (forest_of u) r start) × IsValidFor g u
-augmented t s u g is valid start reach done seen ended hand root = by_tree (tree_of (darts_of g) (are_darts g is.graph) (forest_of t) t.root valid.valid ((forest_of t).out ((darts_of g).near start)) (λ off. outer off reach.outer))
+augmented t s u g is valid start reach done seen ended hand root = by_tree (tree_of (darts_of g) (are_darts g is.lawful) (forest_of t) t.root valid.valid ((forest_of t).out ((darts_of g).near start)) (λ off. outer off reach.outer))
   where
     outer : {l : Label} → l ≡ Outside → l ≡ Outer → ⊥
     outer x y = let h : Outside ≡ Outer = sym x ∙ y in cc

@@ -1,13 +1,13 @@
 -- How a forest's hidden tables are tied to those that contracts see.
 use Rattle.std.specs.Prelude.{◌≡◌, ◌≢◌, ℕ, ◌+◌, ◌<◌, ◌≤◌, ◌^◌, List, length, slice_index, slice_index_or, Option, Some, None, ℤ, pos, ◌+ℤ◌, ◌-ℤ◌, ◌≤ℤ◌, unsigned_abs, if◌then◌else◌}
 use Rattle.def_math.specs.Sums.{total_below}
-use Rattle.def_matching.specs.Matching.{Vertex, Graph}
+use Rattle.def_matching.specs.Matching.{IsSmallGraph, Vertex, Graph}
 use Rattle.def_forest.specs.Darts.{darts_of}
 use Rattle.def_forest.specs.Valid.{IsTree}
 use Rattle.def_forest.specs.Ways.{IsAlmost}
 use Rattle.def_forest.specs.Forests.{Blossom, Forest, splits, walk, set_at, dual_sum_of}
 use Rattle.def_forest.specs.Steps.{change}
-use Rattle.def_forest.specs.Tables.{ForestTables, forest_of, out_of, label_at, IsOutermostIn, climbs, IsMatchable, IsValidFor}
+use Rattle.def_forest.specs.Tables.{ForestTables, forest_of, out_of, label_at, IsOutermostIn, climbs, IsValidFor}
 use Rattle.def_forest.specs.declared.kinds.Label.{Label}
 use Rattle.def_forest.specs.declared.kinds.Label.TheVariants.{Outside}
 
@@ -83,7 +83,7 @@ remated f mate = record f { mate = mate }
 
 -- The matching of a valid forest t is being changed from dart start on; blossom a is to be matched by dart e.
 pub record IsOnWay (g : Graph) (t : ForestTables) (start : ℕ) (mate : Blossom → Option ℕ) (a : Blossom) (e : ℕ) : Type 0 where
-  pub is : IsMatchable g
+  pub is : IsSmallGraph g
   pub valid : IsValidFor g t
   pub top : Blossom
   pub root : t.root ≡ Some top

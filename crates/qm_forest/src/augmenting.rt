@@ -1,9 +1,9 @@
 ghost use Rattle.std.specs.Prelude.{◌≡◌, ◌≢◌, ◌<◌, ℕ, length, Option, Some, None};
-ghost use Rattle.def_matching.specs.Matching.{graph};
+ghost use Rattle.def_matching.specs.Matching.{IsSmallGraph, graph};
 ghost use Rattle.def_forest.specs.Darts.{darts_of, far};
 ghost use Rattle.def_forest.specs.Forests.{Blossom};
 ghost use Rattle.def_forest.specs.Steps.{with_mates, IsAugmented};
-ghost use Rattle.def_forest.specs.Tables.{forest_of, kind_of, outer_dart, IsMatchable, IsValidFor};
+ghost use Rattle.def_forest.specs.Tables.{forest_of, kind_of, outer_dart, IsValidFor};
 ghost use Rattle.def_forest.specs.Valid.{IsValid};
 ghost use Rattle.def_forest.specs.declared.kinds.EdgeKind.TheVariants.{Augment};
 ghost use Rattle.def_forest.specs.declared.kinds.Label.TheVariants.{Outside};
@@ -18,7 +18,7 @@ use def_matching::WGraph;
 impl Forest {
     /// The root and the unmatched blossom that an edge reaches become matched; no tree stands any more.
     pub fn augment(&mut self, g: &WGraph, e: u32)
-        requires graph { IsMatchable (graph g.now) }
+        requires graph { IsSmallGraph (graph g.now) }
         requires valid { IsValidFor (graph g.now) self.old }
         requires edge { e < length g.now.edges.items }
         requires kind { kind_of (graph g.now) (forest_of self.old) e ≡ Augment }
@@ -33,7 +33,7 @@ impl Forest {
 
     /// Changes the matching along the way from a dart that reaches an unmatched blossom up to the root.
     fn rematch(&mut self, g: &WGraph, start: u32)
-        requires graph { IsMatchable (graph g.now) }
+        requires graph { IsSmallGraph (graph g.now) }
         requires valid { IsValidFor (graph g.now) self.old }
         requires reaches { Reaches (darts_of (graph g.now)) (forest_of self.old) start }
         requires free { (forest_of self.old).mate ((forest_of self.old).out (far (darts_of (graph g.now)) start)) ≡ None }

@@ -1,9 +1,9 @@
 ghost use Rattle.std.specs.Prelude.{◌≡◌, ◌≢◌, ◌+◌, ◌*◌, ◌<◌, ◌≤◌, ℕ, length, Option, Some, None};
-ghost use Rattle.def_matching.specs.Matching.{graph, edge_at};
+ghost use Rattle.def_matching.specs.Matching.{IsSmallGraph, graph, edge_at};
 ghost use Rattle.def_forest.specs.Darts.{darts_of, far};
 ghost use Rattle.def_forest.specs.Forests.{Blossom};
 ghost use Rattle.def_forest.specs.Steps.{grown, with_mates, IsAugmented};
-ghost use Rattle.def_forest.specs.Tables.{forest_of, kind_of, outer_dart, IsMatchable, IsValidFor};
+ghost use Rattle.def_forest.specs.Tables.{forest_of, kind_of, outer_dart, IsValidFor};
 ghost use Rattle.def_forest.specs.declared.kinds.EdgeKind.TheVariants.{Grow, Augment};
 ghost use Rattle.def_forest.specs.declared.kinds.Label.TheVariants.{Outside};
 ghost use Rattle.def_forest.specs.Ways.{Reaches};
@@ -17,7 +17,7 @@ use def_matching::WGraph;
 impl Forest {
     /// The dart of an edge that begins in an outer blossom.
     pub(crate) fn outer_dart(&self, g: &WGraph, e: u32) -> u32
-        requires graph { IsMatchable (graph g.now) }
+        requires graph { IsSmallGraph (graph g.now) }
         requires vertices { length self.now.hand ≡ g.now.n }
         requires edge { e < length g.now.edges.items }
         ensures value { result ≡ outer_dart (graph g.now) (forest_of self.now) e }
@@ -31,7 +31,7 @@ impl Forest {
 
     /// The matched blossom outside the tree that an edge reaches becomes inner, and what it is matched to outer.
     pub fn grow(&mut self, g: &WGraph, e: u32)
-        requires graph { IsMatchable (graph g.now) }
+        requires graph { IsSmallGraph (graph g.now) }
         requires valid { IsValidFor (graph g.now) self.old }
         requires edge { e < length g.now.edges.items }
         requires kind { kind_of (graph g.now) (forest_of self.old) e ≡ Grow }
@@ -45,7 +45,7 @@ impl Forest {
 
     /// A tree grows along a dart.
     fn grow_along(&mut self, g: &WGraph, d: u32)
-        requires graph { IsMatchable (graph g.now) }
+        requires graph { IsSmallGraph (graph g.now) }
         requires valid { IsValidFor (graph g.now) self.old }
         requires reaches { Reaches (darts_of (graph g.now)) (forest_of self.old) d }
         requires matched { (forest_of self.old).mate ((forest_of self.old).out (far (darts_of (graph g.now)) d)) ≢ None }

@@ -1,8 +1,8 @@
 ghost use Rattle.std.specs.Prelude.{◌≡◌, ◌≢◌, ◌+ℤ◌, ◌-ℤ◌, ◌*ℤ◌, ◌^◌, ◌<◌, ◌≤◌, ◌⊎◌, ◌==◌, ℕ, pos, length, slice_index, slice_index_or, unsigned_abs};
-ghost use Rattle.def_matching.specs.Matching.{graph, edge_at};
+ghost use Rattle.def_matching.specs.Matching.{IsSmallGraph, graph, edge_at};
 ghost use Rattle.def_forest.specs.Forests.{Blossom, load};
 ghost use Rattle.qm_forest.specs.Ties.{IsClimb};
-ghost use Rattle.def_forest.specs.Tables.{forest_of, slack_of, kind_of, kind_by, IsMatchable, IsValidFor, IsOutermostIn};
+ghost use Rattle.def_forest.specs.Tables.{forest_of, slack_of, kind_of, kind_by, IsValidFor, IsOutermostIn};
 
 use crate::darts::edge_of;
 use crate::forest::Forest;
@@ -12,7 +12,7 @@ use def_matching::WGraph;
 impl Forest {
     /// Twice the cost of an edge less its load. Constant between two outermost blossoms; within one it climbs.
     pub fn slack(&self, g: &WGraph, e: u32) -> i128
-        requires graph { IsMatchable (graph g.now) }
+        requires graph { IsSmallGraph (graph g.now) }
         requires valid { IsValidFor (graph g.now) self.now }
         requires edge { e < length g.now.edges.items }
         ensures { result ≡ slack_of (graph g.now) (forest_of self.now) e }
@@ -100,7 +100,7 @@ impl Forest {
 
     /// The step that an edge allows.
     pub fn kind(&self, g: &WGraph, e: u32) -> EdgeKind
-        requires graph { IsMatchable (graph g.now) }
+        requires graph { IsSmallGraph (graph g.now) }
         requires valid { IsValidFor (graph g.now) self.now }
         requires edge { e < length g.now.edges.items }
         ensures { result ≡ kind_of (graph g.now) (forest_of self.now) e }

@@ -1,9 +1,9 @@
 ghost use Rattle.std.specs.Prelude.{◌≡◌, ◌≢◌, ◌+ℤ◌, ◌≤ℤ◌, ◌^◌, ◌<◌, ◌≤◌, ℕ, pos, length, unsigned_abs, Option, Some, None};
-ghost use Rattle.def_matching.specs.Matching.{Graph, graph, IsGraph};
+ghost use Rattle.def_matching.specs.Matching.{IsSmallGraph, Graph, graph, IsGraph};
 ghost use Rattle.def_forest.specs.Darts.{darts_of};
 ghost use Rattle.def_forest.specs.Forests.{Blossom};
 ghost use Rattle.def_forest.specs.Steps.{rooted, shifted};
-ghost use Rattle.def_forest.specs.Tables.{forest_of, IsMatchable, IsValidFor};
+ghost use Rattle.def_forest.specs.Tables.{forest_of, IsValidFor};
 ghost use Rattle.def_forest.specs.Valid.{IsFeasible};
 ghost use Rattle.qm_forest.specs.Ties.{HasSameNest};
 
@@ -37,7 +37,7 @@ impl Forest {
 
     /// Adds `t` at outer blossoms, and takes it away at inner ones.
     pub fn shift(&mut self, g: &WGraph, t: i64)
-        requires graph { IsMatchable (graph g.now) }
+        requires graph { IsSmallGraph (graph g.now) }
         requires valid { IsValidFor (graph g.now) self.old }
         requires positive { pos 0 ≤ℤ t }
         requires feasible { IsFeasible (darts_of (graph g.now)) (shifted (forest_of self.old) t) }

@@ -1,0 +1,95 @@
+ghost use Rattle.std.specs.Prelude.{◌≡◌, ◌+◌, ◌-◌, ◌*◌, ◌^◌, ◌<◌, ◌≤◌, ℕ, length, replicate, slice_index, slice_set, IfOk, All};
+ghost use Rattle.qm_tour.specs.Trees.{IsTree, IsTreeBut, HasSameLeaves};
+
+use std::alloc::{AllocError, Global};
+use std::marker::Model;
+
+/// Want of memory.
+pub type Memory = AllocError;
+
+/// Keys, seen as their list. The key `u64::MAX` stands for none.
+///
+/// Node `k` has the lesser of the keys of nodes `2 k` and `2 k + 1`; the leaves are the nodes from `room` on.
+#[derive(Drop)]
+pub struct Tour {
+    keys: Vec<u64>,
+    room: usize,
+}
+
+impl Model for Tour {
+    ghost use Rattle.std.specs.Prelude.{ℕ, List, drop};
+    ghost use Rattle.qm_tour.specs.Trees.{IsTree};
+
+    ghost Value = { List ℕ };
+    ghost view = { λ t. drop t.room t.keys.items };
+    ghost invariant = { λ t. IsTree t.room t.keys.items };
+}
+
+impl Tour {
+    /// A tournament of so many leaves without a key.
+    pub fn new(alloc: Global, room: usize) -> Result<Tour, Memory>
+        requires some { 1 ≤ room }
+        requires few { room ≤ 2 ^ 32 }
+        ensures { IfOk result (λ t. t ≡ replicate room (2 ^ 64 - 1)) }
+    {
+        Ok(Tour {
+            keys: vec![in alloc; u64::MAX; room + room]?,
+            room,
+        })
+    }
+
+    /// A leaf whose key is the least.
+    pub fn least_leaf(&self) -> usize
+        ensures low { result < length self.now }
+        ensures least { All (λ key. slice_index self.now result ≤ key) self.now }
+    {
+        descend(&self.keys, self.room) - self.room
+    }
+
+    /// The key of a leaf.
+    pub fn key(&self, leaf: usize) -> u64
+        requires { leaf < length self.now }
+        ensures { result ≡ slice_index self.now leaf }
+    {
+        self.keys[self.room + leaf]
+    }
+
+    /// Sets the key of a leaf.
+    pub fn set(&mut self, leaf: usize, key: u64)
+        requires { leaf < length self.old }
+        ensures { self.new ≡ slice_set self.old leaf key }
+    {
+        let place = self.room + leaf;
+        self.keys[place] = key;
+        settle(&mut self.keys, self.room, place / 2);
+    }
+}
+
+/// Mends the nodes from one up to the root, below which all are in order.
+fn settle(keys: &mut [u64], room: usize, from: usize)
+    requires tree { IsTreeBut room from keys.old }
+    requires low { from < room }
+    ensures tree { IsTree room keys.new }
+    ensures leaves { HasSameLeaves room keys.old keys.new }
+{
+    let mut node = from;
+    while node > 0 {
+        let left = keys[2 * node];
+        let right = keys[2 * node + 1];
+        keys[node] = if left <= right { left } else { right };
+        node /= 2;
+    }
+}
+
+/// A leaf with the key of the root.
+fn descend(keys: &[u64], room: usize) -> usize
+    requires { IsTree room keys.now }
+    ensures low { (room ≤ result) × (result < room + room) }
+    ensures least { slice_index keys.now result ≡ slice_index keys.now 1 }
+{
+    let mut node = 1;
+    while node < room {
+        node = if keys[2 * node] <= keys[2 * node + 1] { 2 * node } else { 2 * node + 1 };
+    }
+    node
+}
