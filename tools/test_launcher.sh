@@ -125,6 +125,12 @@ wants "below a folder named out" "second:  2" "$("$at/quadq" 2>/dev/null) $(buil
 wants "the gate's last line" "3 passed, 0 failed" "$("$at/.ci/run" 2>/dev/null | tail -n 1)"
 "$at/quadq" >/dev/null 2>&1
 wants "after the gate nothing is built" 3 "$(builds)"
+mkdir -p "$at/crates/low/src"
+printf 'ghost use Rattle.low.specs.Word.{word};\npub fn f()\n    ensures { word }\n{}\n' >"$at/crates/low/src/cites.rt"
+wants "the gate refuses a clause that cites another definition" "1: crates/low/src/cites.rt:3: low.specs.Word.word" \
+    "$("$at/.ci/run" 2>&1 >"$room/out1" | head -n 1 | sed 's/^/1: /')"
+wants "and runs nothing" "" "$(cat "$room/out1")"
+rm "$at/crates/low/src/cites.rt"
 touch "$room/broken"
 "$at/.ci/run" >/dev/null 2>&1
 wants "a gate that fails" 1 $?
