@@ -1,8 +1,9 @@
 #!/bin/sh
-# Installs the program as PREFIX/bin/quadq.
+# Installs the program as PREFIX/bin/quadq, with its man page and the completions of bash and zsh.
 set -eu
 usage='usage: install.sh [PREFIX]
-Proves and builds quadq where that is not done, and puts it at PREFIX/bin/quadq. PREFIX is /usr/local if not given.'
+Proves and builds quadq where that is not done, and puts it at PREFIX/bin/quadq. PREFIX is /usr/local if not given. The
+man page and the completions of bash and zsh go below PREFIX/share.'
 fail() {
     echo "install.sh: $1" >&2
     exit 1
@@ -14,7 +15,8 @@ case ${1-} in
 esac
 [ $# -le 1 ] || { echo "$usage" >&2 && exit 2; }
 root=$(dirname "$(readlink -f "$0")")
-bin=${1:-/usr/local}/bin
+prefix=${1:-/usr/local}
+bin=$prefix/bin
 target=$bin/quadq
 
 # The nearest folder that is there has to take new files; nothing is made before the program is built.
@@ -28,13 +30,22 @@ done
 
 "$root/tools/build.py" || exit 1
 
-# Written beside its place and moved there when it is whole, so that no half program ever stands there.
 umask 022
-mkdir -p "$bin"
-new=$(mktemp "$bin/.quadq.XXXXXX") || fail "$bin cannot be written to"
+new=
 trap 'rm -f "$new"' EXIT
 trap 'exit 1' HUP INT TERM
-cp "$root/build/quadq" "$new" || fail "the program could not be written to $bin"
-chmod 755 "$new"
-mv -f "$new" "$target"
+
+# put FILE TARGET MODE: written beside its place and moved there when it is whole, so that no half file stands there.
+put() {
+    folder=$(dirname "$2")
+    mkdir -p "$folder"
+    new=$(mktemp "$folder/.quadq.XXXXXX") || fail "$folder cannot be written to"
+    cp "$1" "$new" || fail "$2 could not be written"
+    chmod "$3" "$new"
+    mv -f "$new" "$2"
+}
+put "$root/docs/quadq.1" "$prefix/share/man/man1/quadq.1" 644
+put "$root/tools/completions/quadq.bash" "$prefix/share/bash-completion/completions/quadq" 644
+put "$root/tools/completions/_quadq" "$prefix/share/zsh/site-functions/_quadq" 644
+put "$root/build/quadq" "$target" 755
 echo "quadq: installed as $target" >&2

@@ -45,9 +45,10 @@ PATH=$room/bin:$PATH
 
 # A checkout of two crates, as the folder that is named.
 checkout() {
-    mkdir -p "$1/crates/low/src" "$1/crates/low/proofs" "$1/crates/qm_prog/src" "$1/crates/low/specs" "$1/.ci"
+    mkdir -p "$1/docs" "$1/crates/low/src" "$1/crates/low/proofs" "$1/crates/qm_prog/src" "$1/crates/low/specs" "$1/.ci"
     cp -r "$root/quadq" "$root/install.sh" "$root/tools" "$1"
     cp "$root/.ci/run" "$1/.ci"
+    cp "$root/docs/quadq.1" "$1/docs"
     echo "-- A word." >"$1/crates/low/specs/Word.antt"
     echo "-- A lemma." >"$1/crates/low/proofs/Lemma.antt"
     echo first >"$1/crates/low/src/lib.rt"
@@ -230,6 +231,9 @@ wants "a folder as the target, before anything is built" "1 0" "$? $(builds)"
 (umask 077 && "$at/install.sh" "$room/new prefix" 2>/dev/null)
 wants "installed under a narrow umask" "755 755 755" \
     "$(stat -c %a "$room/new prefix" "$room/new prefix/bin" "$room/new prefix/bin/quadq" | tr '\n' ' ' | sed 's/ $//')"
+wants "what is installed" \
+    "bin/quadq share/bash-completion/completions/quadq share/man/man1/quadq.1 share/zsh/site-functions/_quadq" \
+    "$(cd "$room/new prefix" && find . -type f | sed 's/^..//' | LC_ALL=C sort | tr '\n' ' ' | sed 's/ $//')"
 wants "what is installed runs" "first: z" "$("$room/new prefix/bin/quadq" z 2>/dev/null)"
 echo second >"$at/crates/low/src/lib.rt"
 "$at/quadq" >/dev/null 2>&1

@@ -1,0 +1,2 @@
+# The commands of quadq, for bash.
+complete -W "tidy" quadq
