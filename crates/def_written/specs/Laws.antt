@@ -1,5 +1,5 @@
 -- What is proved of the meshes that a layout gives.
-use Rattle.std.specs.Prelude.{◌≡◌, ℕ, ◌*◌, ◌<◌, ◌≤◌, length}
+use Rattle.std.specs.Prelude.{◌≡◌, ℕ, ◌*◌, ◌<◌, ◌≤◌, length, ℤ, ◌≤ℤ◌}
 use Rattle.def_mesh.specs.Faces.{Faces, face_at}
 use Rattle.def_mesh.specs.Manifold.{IsManifold}
 use Rattle.def_mesh.specs.Vertices.{vertex_count, UsesEach}
@@ -14,6 +14,7 @@ use Rattle.def_written.specs.Points.{Point, IsPoint}
 use Rattle.def_written.specs.Numbers.{number, vertices}
 use Rattle.def_written.specs.NewFaces.{new_faces}
 use Rattle.def_written.specs.Edges.{IsUndoubled}
+use Rattle.def_written.specs.Places.{Coordinate, place_of}
 use Rattle.def_written.specs.Shape.{KeepsShape}
 
 -- Each face has four corners.
@@ -67,3 +68,11 @@ ThreeLaw = (layout : Layout) (lengths : Lengths) → IsLaid layout → AreLength
 abbrev pub MultipleLaw : Type 0
 MultipleLaw = (faces : Faces) (layout : Layout) (old : Lengths) (vertex : ℕ → ℕ) → LiesIn faces layout old vertex
     → (k : ℕ) → 0 < k → AreLengths layout (λ a. k * old a) × IsUndoubled layout (λ a. k * old a)
+
+-- Each coordinate of a new point lies between the least and the greatest of the old ones.
+abbrev pub BetweenLaw : Type 0
+BetweenLaw = (layout : Layout) (old new : Lengths) (at : Coordinate) (least greatest : ℤ) → IsLaid layout
+    → AreLengths layout old → AreLengths layout new
+    → ((a : Point) → IsPoint layout old a → (least ≤ℤ at a) × (at a ≤ℤ greatest))
+    → (a : Point) → IsPoint layout new a
+    → (least ≤ℤ place_of layout old new at a) × (place_of layout old new at a ≤ℤ greatest)

@@ -25,3 +25,4 @@ pub mod NodeKinds
 pub mod Sided
 pub mod OldModel
 pub mod Shape
+pub mod Between

@@ -1,7 +1,7 @@
 //! The laws of the mesh that a layout gives at new lengths: it is a manifold with the shape of the old mesh.
 #![tactic(auto)]
 
-ghost use Rattle.def_written.specs.Laws.{KeepsShapeLaw, LaidLaw, MultipleLaw, NewManifoldLaw, NumbersLaw, ThreeLaw};
+ghost use Rattle.def_written.specs.Laws.{BetweenLaw, KeepsShapeLaw, LaidLaw, MultipleLaw, NewManifoldLaw, NumbersLaw, ThreeLaw};
 
 /// A layout that lies in a mesh is that of a surface, with one fan round each node.
 pub fn laid_law()
@@ -31,4 +31,9 @@ pub fn three_law()
 /// Multiples of the old lengths double no edge.
 pub fn multiple_law()
     ensures { MultipleLaw }
+{}
+
+/// Each coordinate of a new point lies between the least and the greatest of the old ones.
+pub fn between_law()
+    ensures { BetweenLaw }
 {}
