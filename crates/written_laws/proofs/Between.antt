@@ -64,12 +64,6 @@ way_within : (p q least greatest : ℤ) (r x : ℕ) → r ≤ x → 0 < x → le
     → (least ≤ℤ on_the_way p q r x) × (on_the_way p q r x ≤ℤ greatest)
 way_within p q least greatest r x le some p_low p_high q_low q_high = by_bounds bounds
   where
-    lo : ℤ
-    lo = least -ℤ p
-
-    hi : ℤ
-    hi = greatest -ℤ p
-
     split : 2 * x ≡ 2 * r + 2 * (x - r)
     split = omega arith
 

@@ -148,7 +148,6 @@ module _ (l : Layout) (x : Lengths) where
 
     pub at_course : (w : Slot) (o : ℕ) → IsSlot l w → o < x (use_of l w).arc → course_of (rim_at l x w o) ≡ use_course (use_of l w) o
     at_course w o is less =
-        let t : ℕ = reach l x w.patch w.side w.at + o in
         let e : reach l x w.patch w.side w.at + o - reach l x w.patch w.side w.at ≡ o = omega arith in
         rim_course w.patch w.side (reach l x w.patch w.side w.at + o) is.patch_low (at_low l x laid.paved len w o is less)
         ∙ ap (λ m. use_course (l.use_at w.patch w.side m) (reach l x w.patch w.side w.at + o - reach l x w.patch w.side m)) (over_is l x w o is less)

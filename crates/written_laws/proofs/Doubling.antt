@@ -18,7 +18,8 @@ use Rattle.written_laws.proofs.Courses.{Course, course_of, border_course, course
 use Rattle.written_laws.proofs.Simple.{IsSimple}
 use Rattle.written_laws.proofs.Manifold.{ends_differ}
 use Rattle.written_laws.proofs.Across.{across_ends}
-use Rattle.written_laws.proofs.Spokes.{IsOpen, simple_open}
+use Rattle.written_laws.proofs.Spokes.{IsOpen}
+use Rattle.written_laws.proofs.Opens.{simple_open}
 
 -- The k-fold lengths.
 abbrev pub scale : (k : ℕ) (y : Lengths) → Lengths
@@ -148,9 +149,6 @@ module _ (l : Layout) (y : Lengths) where
       where
         one : wide l y p ≡ 1
         one = omega (arith, two, size_scale 2 p south)
-
-        t : ℕ
-        t = j / 2
 
         rows : high l (scale 2 y) p ≡ 2 * high l y p
         rows = size_scale 2 p west

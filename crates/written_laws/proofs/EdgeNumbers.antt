@@ -111,7 +111,6 @@ module _ (l : Layout) (x : Lengths) where
     where
       on_arcs : n < count_below x l.arcs → (e : Edge) × IsEdge l x e × (edge_number e ≡ n)
       on_arcs less =
-          let a : ℕ = run_at (count_below x) l.arcs n in
           let h : IsInRun x l.arcs n (run_at (count_below x) l.arcs n) (n - count_below x (run_at (count_below x) l.arcs n)) = run_here x l.arcs n less in
           (on_arc (run_at (count_below x) l.arcs n) (n - count_below x (run_at (count_below x) l.arcs n)), (h.low, h.inside), sym h.place)
 
@@ -132,7 +131,6 @@ module _ (l : Layout) (x : Lengths) where
       by_steep : (m p o : ℕ) → n ≡ count_below x l.arcs + count_below flats l.patches + m → IsInRun steeps l.patches m p o
           → (e : Edge) × IsEdge l x e × (edge_number e ≡ n)
       by_steep m p o is h =
-          let v : ℕ = wide l x p - 1 in
           let r : (o % (wide l x p - 1) < wide l x p - 1) × (o / (wide l x p - 1) < high l x p) × (o / (wide l x p - 1) * (wide l x p - 1) + o % (wide l x p - 1) ≡ o) =
           in_rows (wide l x p - 1) (high l x p) o h.inside in
           let column : o % (wide l x p - 1) + 1 - 1 ≡ o % (wide l x p - 1) = omega arith in
@@ -153,9 +151,6 @@ module _ (l : Layout) (x : Lengths) where
     | inr more ↦ elim (cases_lt n (l.nodes + before_arc x l.arcs)) [ inl less ↦ on_arcs more less | inr most ↦ on_patches most ]
   ]
     where
-      inner : (b : ℕ) → ℕ
-      inner b = x b - 1
-
       by_arc : (m a o : ℕ) → n ≡ l.nodes + m → IsInRun (λ b. x b - 1) l.arcs m a o → (a : Point) × IsPoint l x a × (number l x a ≡ n)
       by_arc m a o is h = (along a (o + 1), (h.low, omega arith, omega (arith, h.inside)), omega (arith, is, h.place))
 

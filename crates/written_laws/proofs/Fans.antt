@@ -98,12 +98,6 @@ module _ (l : Layout) (x : Lengths) (laid : IsLaid l) (len : AreLengths l x) (R 
   along_related w v o k is_w is_v o_some o_low k_some k_low same =
       by_ways (use_of l w).forward (use_of l v).forward refl refl place
     where
-      a : ℕ
-      a = (use_of l w).arc
-
-      b : ℕ
-      b = (use_of l v).arc
-
       points : along (use_of l w).arc (cond (use_of l w).forward o (x (use_of l w).arc - o))
           ≡ along (use_of l v).arc (cond (use_of l v).forward k (x (use_of l v).arc - k))
       points = sym (use_inner l x (use_of l w) o o_some o_low) ∙ same ∙ use_inner l x (use_of l v) k k_some k_low

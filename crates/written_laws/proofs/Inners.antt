@@ -77,9 +77,6 @@ module _ (l : Layout) (x : Lengths) (laid : IsLaid l) (len : AreLengths l x) (F 
     pub inner_only : is_inner F v ≡ true → AreShared l x a
     inner_only inner w o is less ends = by_other (laid.other w is)
       where
-        d : Dart
-        d = rim_at l x w o
-
         is_d : IsDart l x (rim_at l x w o)
         is_d = at_is l x laid.paved len w o is less
 

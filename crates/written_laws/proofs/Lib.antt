@@ -13,6 +13,7 @@ pub mod Manifold
 pub mod Across
 pub mod EdgeDarts
 pub mod Spokes
+pub mod Opens
 pub mod Undoubled
 pub mod Doubling
 pub mod EdgeNumbers

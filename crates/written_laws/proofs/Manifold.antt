@@ -40,9 +40,6 @@ module _ (l : Layout) (x : Lengths) (laid : IsLaid l) (len : AreLengths l x) whe
       → (v.at ≡ 0) × (slot_before l v.patch v.side v.at ≡ w)
   corner_slots d w v o k at_w at_v = (v_first, by_paths)
     where
-      t : ℕ
-      t = reach l x w.patch w.side w.at + o
-
       patches : v.patch ≡ w.patch
       patches = sym (rim_patch l x laid.paved len v.patch v.side (reach l x v.patch v.side v.at + k)) ∙ ap (λ (e : Dart). e.patch) (sym at_v.dart)
           ∙ ap (λ (e : Dart). e.patch) at_w.dart ∙ rim_patch l x laid.paved len w.patch w.side (reach l x w.patch w.side w.at + o)
@@ -50,9 +47,6 @@ module _ (l : Layout) (x : Lengths) (laid : IsLaid l) (len : AreLengths l x) whe
       sides : v.side ≡ after w.side
       sides = sym (rim_way l x laid.paved len v.patch v.side (reach l x v.patch v.side v.at + k)) ∙ ap (λ (e : Dart). e.way) (sym at_v.dart)
           ∙ ap (λ (e : Dart). after e.way) at_w.dart ∙ ap after (rim_way l x laid.paved len w.patch w.side (reach l x w.patch w.side w.at + o))
-
-      place : (u : ℕ) → Dart
-      place u = rim l x w.patch (after w.side) u
 
       same_rim : rim_at l x v k ≡ rim l x w.patch (after w.side) (reach l x v.patch v.side v.at + k)
       same_rim = λ r. rim l x (patches r) (sides r) (reach l x v.patch v.side v.at + k)

@@ -100,9 +100,6 @@ module _ (l : Layout) (x : Lengths) where
       patch_is : patch_of l x (cell_number d) ≡ d.patch
       patch_is = run_place cells l.patches d.patch (d.j * wide l x d.patch + d.i) is.patch_low (cell_in_patch d is)
 
-      o : ℕ
-      o = cell_number d - cells_before l x d.patch
-
       o_is : cell_number d - cells_before l x d.patch ≡ d.j * wide l x d.patch + d.i
       o_is = omega arith
 

@@ -84,7 +84,6 @@ module _ (l : Layout) (x : Lengths) (laid : IsLaid l) (len : AreLengths l x) whe
 
       by_next : suc b.at < l.many b.patch b.side → x (use_of l b).arc ≤ o + 1 → slot_before l u.patch u.side u.at ≡ b
       by_next another none =
-          let v : Slot = slot b.patch b.side (suc b.at) in
           let is_v : IsSlot l (slot b.patch b.side (suc b.at)) = record { patch_low = is_b.patch_low; low = another } in
           let place : place_at l x b o + 1 ≡ place_at l x (slot b.patch b.side (suc b.at)) 0 = omega (arith, less, none) in
           let there : IsAt l x laid len (next (rim_at l x b o)) (slot b.patch b.side (suc b.at)) 0 =

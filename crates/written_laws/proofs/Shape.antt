@@ -45,9 +45,6 @@ use Rattle.written_laws.proofs.OldModel.{old_laid, old_model, old_fans, twin_is_
 
 module _ (faces : Faces) (man : IsManifold faces) (l : Layout) (x : Lengths) (paved : IsPaved l) (len : AreLengths l x)
     (cell : Dart → ℕ) (vertex : ℕ → ℕ) (arc_dart : ℕ → ℕ → ℕ) (s : IsSided (half_edges faces) l x cell vertex arc_dart) where
-  laid : IsLaid l
-  laid = old_laid faces man l x paved len cell vertex arc_dart s
-
   module _ (model : IsModel faces l x (old_laid faces man l x paved len cell vertex arc_dart s) len cell) where
     -- A dart that runs along an edge.
     record IsRunner (e : Edge) (d : Dart) (a : Bool) : Type 0 where

@@ -158,7 +158,6 @@ module _ (m : HalfEdges) (laws : IsQuadManifold m) (l : Layout) (x : Lengths) (p
 
   meet : (w : Slot) → IsSlot l w → end_of l (use_before l w) ≡ start_of l (use_of l w)
   meet w is =
-      let b : Slot = slot_before l w.patch w.side w.at in
       let is_b : IsSlot l (slot_before l w.patch w.side w.at) = before_is l x paved len w is in
       s.vertex_same (end_of l (use_before l w)) (start_of l (use_of l w))
       (start_low (use_before l w) (paved.arc_low (slot_before l w.patch w.side w.at) is_b)).1 (start_low (use_of l w) (paved.arc_low w is)).0

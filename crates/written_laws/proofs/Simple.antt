@@ -17,9 +17,6 @@ module _ (l : Layout) (x : Lengths) (simple : IsSimple l x) where
       → start_at l x c ≡ start_at l x k → end_at l x c ≡ end_at l x k → c ≡ k
   one_course c k is_c is_k starts ends = by_ways c.ahead k.ahead starts ends
     where
-      e : Edge
-      e = c.edge
-
       by_ways : (a b : Bool) → start_at l x (course c.edge a) ≡ start_at l x (course k.edge b)
           → end_at l x (course c.edge a) ≡ end_at l x (course k.edge b) → course c.edge a ≡ course k.edge b
       by_ways true true s t = ap (λ (f : Edge). course f true) (simple.same c.edge k.edge is_c is_k s t)

@@ -1,19 +1,15 @@
--- Where all lengths are at least 2, each edge has an inner end, and is told by the direction in which it leaves that end.
-use Rattle.std.proofs.Common.{◌≡◌, ◌≢◌, ◌⊎◌, ℕ, ◌+◌, ◌-◌, ◌<◌, ◌≤◌, Bool, true, false, not, cond, refl, sym, ◌∙◌, ap, subst, inl, inr, arith}
+-- The edges at an inner point of a patch, by the directions in which they leave it.
+use Rattle.std.proofs.Common.{◌≡◌, ◌≢◌, ◌⊎◌, ℕ, ◌+◌, ◌-◌, ◌<◌, ◌≤◌, Bool, true, false, cond, refl, sym, ◌∙◌, ap, subst, inl, inr, arith}
 use Rattle.std.specs.Prelude.{◌==◌}
-use Rattle.std.proofs.lemmas.Bool.{cases_eq}
-use Rattle.def_layout.specs.Layouts.{Way, south, east, north, west, after, Layout, Slot, IsSlot, AreReverse, use_of}
+use Rattle.def_layout.specs.Layouts.{Way, south, east, north, west, Layout}
 use Rattle.def_layout.specs.Laid.{IsLaid}
-use Rattle.def_layout.specs.Lengths.{Lengths, reach, size, wide, high, AreLengths}
-use Rattle.def_written.specs.Points.{Point, node, along, inside, arc_point, use_over, offset_at, side_point, point}
+use Rattle.def_layout.specs.Lengths.{Lengths, wide, high, AreLengths}
+use Rattle.def_written.specs.Points.{Point, node, along, inside, arc_point, use_over, offset_at, point}
 use Rattle.def_written.specs.Edges.{Edge, on_arc, flat, steep, IsEdge, low, top}
-use Rattle.written_laws.proofs.Sides.{slot, IsOn, arc_last, arc_inner, use_inner, side_in, place_on, reach_low, first_slot, last_slot, last_reach}
-use Rattle.written_laws.proofs.Grid.{point_north, point_west, point_east, point_inside}
+use Rattle.written_laws.proofs.Sides.{IsOn, place_on}
+use Rattle.written_laws.proofs.Grid.{point_inside}
 use Rattle.written_laws.proofs.Rims.{IsInner, IsBorder, border_point, on_rim}
 use Rattle.written_laws.proofs.Borders.{use_not_inside}
-use Rattle.written_laws.proofs.Courses.{is_arc}
-use Rattle.written_laws.proofs.Simple.{IsSimple}
-use Rattle.written_laws.proofs.Manifold.{before_after}
 
 -- All lengths are at least 2, no arc of length 2 has equal ends, and no two points of a patch that is 2 wide or high are
 -- the same across it.
@@ -44,7 +40,7 @@ tip_row j west = j
 tip_row j south = j - 1
 
 -- Directions that lead to one place are one.
-one_way : (i j : ℕ) (w v : Way) → 0 < i → 0 < j → tip_column i w ≡ tip_column i v → tip_row j w ≡ tip_row j v → w ≡ v
+pub one_way : (i j : ℕ) (w v : Way) → 0 < i → 0 < j → tip_column i w ≡ tip_column i v → tip_row j w ≡ tip_row j v → w ≡ v
 one_way i j east east i_some j_some c r = refl
 one_way i j east north i_some j_some c r = absurd (omega arith)
 one_way i j east west i_some j_some c r = absurd (omega arith)
@@ -62,7 +58,7 @@ one_way i j south north i_some j_some c r = absurd (omega arith)
 one_way i j south west i_some j_some c r = absurd (omega arith)
 one_way i j south south i_some j_some c r = refl
 
-no_tip_at_hub : (i j : ℕ) (w : Way) → 0 < i → 0 < j → tip_column i w ≡ i → tip_row j w ≡ j → ⊥
+pub no_tip_at_hub : (i j : ℕ) (w : Way) → 0 < i → 0 < j → tip_column i w ≡ i → tip_row j w ≡ j → ⊥
 no_tip_at_hub i j east i_some j_some c r = omega arith
 no_tip_at_hub i j north i_some j_some c r = omega arith
 no_tip_at_hub i j west i_some j_some c r = omega arith
@@ -76,11 +72,11 @@ module _ (l : Layout) (x : Lengths) where
   abbrev pub Joins : (e : Edge) (a b : Point) → Type 0
   Joins e a b = ((low l x e ≡ a) × (top l x e ≡ b)) ⊎ ((low l x e ≡ b) × (top l x e ≡ a))
 
-  joins_swap : (e : Edge) (a b : Point) → Joins e a b → Joins e b a
+  pub joins_swap : (e : Edge) (a b : Point) → Joins e a b → Joins e b a
   joins_swap e a b (inl s) = inr s
   joins_swap e a b (inr s) = inl s
 
-  arc_not_inside : (a k p i j : ℕ) → arc_point l x a k ≢ inside p i j
+  pub arc_not_inside : (a k p i j : ℕ) → arc_point l x a k ≢ inside p i j
   arc_not_inside a k p i j e = by_tests (k == 0) (k == x a) e
     where
       by_tests : (b c : Bool) → cond b (node (l.first a)) (cond c (node (l.last a)) (along a k)) ≢ inside p i j
@@ -89,7 +85,7 @@ module _ (l : Layout) (x : Lengths) where
       by_tests false false s = cc
 
   -- The point of an arc that lies along it.
-  arc_sort : (a k b m : ℕ) → arc_point l x a k ≡ along b m → (a ≡ b) × (k ≡ m)
+  pub arc_sort : (a k b m : ℕ) → arc_point l x a k ≡ along b m → (a ≡ b) × (k ≡ m)
   arc_sort a k b m e = by_tests (k == 0) (k == x a) e
     where
       by_tests : (c d : Bool) → cond c (node (l.first a)) (cond d (node (l.last a)) (along a k)) ≡ along b m → (a ≡ b) × (k ≡ m)
@@ -115,19 +111,19 @@ module _ (l : Layout) (x : Lengths) where
             (sym (border_point l x laid len q s t q_low (omega (arith, b.low)))
             ∙ (λ r. point l x q (sym b.column r) (sym b.row r)) ∙ e)
 
-    abbrev Inner : (p i j : ℕ) → Type 0
+    abbrev pub Inner : (p i j : ℕ) → Type 0
     Inner p i j = (p < l.patches) × IsInner l x laid.paved len p i j
 
-    hub : (p i j : ℕ) → Inner p i j → point l x p i j ≡ inside p i j
+    pub hub : (p i j : ℕ) → Inner p i j → point l x p i j ≡ inside p i j
     hub p i j n = point_inside l x laid len p i j n.1.a_some n.1.a_low n.1.b_some n.1.b_low
 
-    tip_low : (p i j : ℕ) (w : Way) → Inner p i j → (tip_column i w ≤ wide l x p) × (tip_row j w ≤ high l x p)
+    pub tip_low : (p i j : ℕ) (w : Way) → Inner p i j → (tip_column i w ≤ wide l x p) × (tip_row j w ≤ high l x p)
     tip_low p i j east n = (omega (arith, n.1.a_low), omega (arith, n.1.b_low))
     tip_low p i j north n = (omega (arith, n.1.a_low), omega (arith, n.1.b_low))
     tip_low p i j west n = (omega (arith, n.1.a_low), omega (arith, n.1.b_low))
     tip_low p i j south n = (omega (arith, n.1.a_low), omega (arith, n.1.b_low))
 
-    spoke_joins : (p i j : ℕ) (w : Way) → Inner p i j → Joins (spoke p i j w) (inside p i j) (tip p i j w)
+    pub spoke_joins : (p i j : ℕ) (w : Way) → Inner p i j → Joins (spoke p i j w) (inside p i j) (tip p i j w)
     spoke_joins p i j east n = inl (hub p i j n, refl)
     spoke_joins p i j north n = inl (hub p i j n, refl)
     spoke_joins p i j west n =
@@ -136,7 +132,7 @@ module _ (l : Layout) (x : Lengths) where
         let e : j - 1 + 1 ≡ j = omega (arith, n.1.b_some) in inr (refl, ap (point l x p i) e ∙ hub p i j n)
 
     -- An edge with an end inside a patch is a spoke from there.
-    hub_edge : (f : Edge) (p i j : ℕ) (t : Point) → IsEdge l x f → Joins f (inside p i j) t
+    pub hub_edge : (f : Edge) (p i j : ℕ) (t : Point) → IsEdge l x f → Joins f (inside p i j) t
         → (w : Way) × (f ≡ spoke p i j w) × (t ≡ tip p i j w)
     hub_edge (on_arc a k) p i j t is (inl s) = absurd (arc_not_inside a k p i j s.0)
     hub_edge (on_arc a k) p i j t is (inr s) = absurd (arc_not_inside a (k + 1) p i j s.1)
@@ -156,7 +152,7 @@ module _ (l : Layout) (x : Lengths) where
         (south, (λ r. steep (e.0 r) (e.1 r) (c r)), sym s.0 ∙ (λ r. point l x (e.0 r) (e.1 r) (c r)))
 
     -- A spoke has no equal ends.
-    loop_at : (e : Edge) (p i j : ℕ) (w : Way) → Inner p i j → e ≡ spoke p i j w → low l x e ≢ top l x e
+    pub loop_at : (e : Edge) (p i j : ℕ) (w : Way) → Inner p i j → e ≡ spoke p i j w → low l x e ≢ top l x e
     loop_at e p i j w n is same = by_order (spoke_joins p i j w n)
       where
         equal : low l x (spoke p i j w) ≡ top l x (spoke p i j w)
@@ -171,332 +167,3 @@ module _ (l : Layout) (x : Lengths) where
         by_order : Joins (spoke p i j w) (inside p i j) (tip p i j w) → ⊥
         by_order (inl s) = at_tip (sym s.1 ∙ sym equal ∙ s.0)
         by_order (inr s) = at_tip (sym s.0 ∙ equal ∙ s.1)
-
-    module _ (open_l : IsOpen l x) where
-      side_two : (p : ℕ) (s : Way) → p < l.patches → 2 ≤ size l x p s
-      side_two p s p_low =
-          let first : IsSlot l (slot p s 0) = first_slot l x laid.paved len p s p_low in
-          let le : reach l x p s 0 + x (l.use_at p s 0).arc ≤ size l x p s = reach_low l x (slot p s 0) first in
-          omega (arith, le, open_l.two (l.use_at p s 0).arc (laid.paved.arc_low (slot p s 0) first))
-
-      -- The points beside a corner of a patch differ.
-      beside_corner : (p : ℕ) (s : Way) (t : ℕ) → p < l.patches → t + 1 ≡ size l x p s
-          → side_point l x p s t ≢ side_point l x p (after s) 1
-      beside_corner p s t p_low e same = by_ways (use_of l w).forward (use_of l v).forward refl refl
-        where
-          w : Slot
-          w = slot p s (l.many p s - 1)
-
-          v : Slot
-          v = slot p (after s) 0
-
-          is_w : IsSlot l (slot p s (l.many p s - 1))
-          is_w = last_slot l x laid.paved len p s p_low
-
-          is_v : IsSlot l (slot p (after s) 0)
-          is_v = first_slot l x laid.paved len p (after s) p_low
-
-          w_two : 2 ≤ x (use_of l (slot p s (l.many p s - 1))).arc
-          w_two = open_l.two (use_of l (slot p s (l.many p s - 1))).arc (laid.paved.arc_low (slot p s (l.many p s - 1)) is_w)
-
-          v_two : 2 ≤ x (use_of l (slot p (after s) 0)).arc
-          v_two = open_l.two (use_of l (slot p (after s) 0)).arc (laid.paved.arc_low (slot p (after s) 0) is_v)
-
-          place : t ≡ reach l x p s (l.many p s - 1) + (x (use_of l (slot p s (l.many p s - 1))).arc - 1)
-          place = omega (arith, last_reach l x laid.paved len p s p_low, w_two)
-
-          w_point : side_point l x p s t ≡ along (use_of l (slot p s (l.many p s - 1))).arc
-              (cond (use_of l (slot p s (l.many p s - 1))).forward (x (use_of l (slot p s (l.many p s - 1))).arc - 1)
-              (x (use_of l (slot p s (l.many p s - 1))).arc - (x (use_of l (slot p s (l.many p s - 1))).arc - 1)))
-          w_point = ap (side_point l x p s) place
-              ∙ side_in l x (slot p s (l.many p s - 1)) (x (use_of l (slot p s (l.many p s - 1))).arc - 1) is_w (omega (arith, w_two))
-              ∙ use_inner l x (use_of l (slot p s (l.many p s - 1))) (x (use_of l (slot p s (l.many p s - 1))).arc - 1) (omega (arith, w_two)) (omega (arith, w_two))
-
-          v_point : side_point l x p (after s) 1 ≡ along (use_of l (slot p (after s) 0)).arc
-              (cond (use_of l (slot p (after s) 0)).forward 1 (x (use_of l (slot p (after s) 0)).arc - 1))
-          v_point = side_in l x (slot p (after s) 0) 1 is_v (omega (arith, v_two))
-              ∙ use_inner l x (use_of l (slot p (after s) 0)) 1 (omega arith) (omega (arith, v_two))
-
-          arcs : (use_of l (slot p s (l.many p s - 1))).arc ≡ (use_of l (slot p (after s) 0)).arc
-          arcs = let f : along (use_of l (slot p s (l.many p s - 1))).arc
-              (cond (use_of l (slot p s (l.many p s - 1))).forward (x (use_of l (slot p s (l.many p s - 1))).arc - 1)
-              (x (use_of l (slot p s (l.many p s - 1))).arc - (x (use_of l (slot p s (l.many p s - 1))).arc - 1)))
-              ≡ along (use_of l (slot p (after s) 0)).arc
-              (cond (use_of l (slot p (after s) 0)).forward 1 (x (use_of l (slot p (after s) 0)).arc - 1)) =
-              sym w_point ∙ same ∙ v_point in cc
-
-          no_turn : (s : Way) → s ≢ after s
-          no_turn south f = cc
-          no_turn east f = cc
-          no_turn north f = cc
-          no_turn west f = cc
-
-          alike : (use_of l (slot p s (l.many p s - 1))).forward ≡ (use_of l (slot p (after s) 0)).forward → ⊥
-          alike ways =
-              no_turn s (ap (λ (u : Slot). u.side)
-              (laid.once (slot p s (l.many p s - 1)) (slot p (after s) 0) is_w is_v (λ r. record { arc = arcs r; forward = ways r })))
-
-          turned : (use_of l (slot p (after s) 0)).forward ≡ not (use_of l (slot p s (l.many p s - 1))).forward → ⊥
-          turned ways =
-              laid.no_fold (slot p (after s) 0) is_v refl
-              (subst (λ (q : Way). AreReverse (l.use_at p q (l.many p q - 1)) (l.use_at p (after s) 0)) (sym (before_after s))
-              (record { arc = sym arcs; turned = ways }))
-
-          by_ways : (f g : Bool) → (use_of l (slot p s (l.many p s - 1))).forward ≡ f → (use_of l (slot p (after s) 0)).forward ≡ g → ⊥
-          by_ways true true f g = alike (f ∙ sym g)
-          by_ways false false f g = alike (f ∙ sym g)
-          by_ways true false f g = turned (g ∙ ap not (sym f))
-          by_ways false true f g = turned (g ∙ ap not (sym f))
-
-      -- The tip of a spoke lies on this side of its patch.
-      abbrev Far : (p i j : ℕ) (w : Way) → Type 0
-      Far p i j east = i + 1 ≡ wide l x p
-      Far p i j north = j + 1 ≡ high l x p
-      Far p i j west = i ≡ 1
-      Far p i j south = j ≡ 1
-
-      tip_case : (p i j : ℕ) (w : Way) → Inner p i j → Inner p (tip_column i w) (tip_row j w) ⊎ Far p i j w
-      tip_case p i j east n = elim (cases_eq (i + 1) (wide l x p)) [
-        | inl e ↦ inr e
-        | inr less ↦ inl (n.0, record { a_some = omega arith; a_low = omega (arith, n.1.a_low); b_some = n.1.b_some; b_low = n.1.b_low })
-      ]
-      tip_case p i j north n = elim (cases_eq (j + 1) (high l x p)) [
-        | inl e ↦ inr e
-        | inr less ↦ inl (n.0, record { a_some = n.1.a_some; a_low = n.1.a_low; b_some = omega arith; b_low = omega (arith, n.1.b_low) })
-      ]
-      tip_case p i j west n = elim (cases_eq i 1) [
-        | inl e ↦ inr e
-        | inr more ↦ inl (n.0, record { a_some = omega (arith, n.1.a_some); a_low = omega (arith, n.1.a_low); b_some = n.1.b_some; b_low = n.1.b_low })
-      ]
-      tip_case p i j south n = elim (cases_eq j 1) [
-        | inl e ↦ inr e
-        | inr more ↦ inl (n.0, record { a_some = n.1.a_some; a_low = n.1.a_low; b_some = omega (arith, n.1.b_some); b_low = omega (arith, n.1.b_low) })
-      ]
-
-      near_tips : (p i j : ℕ) (w v : Way) → Inner p i j → Inner p (tip_column i w) (tip_row j w) → tip p i j w ≡ tip p i j v → w ≡ v
-      near_tips p i j w v n near same =
-          let e : (p ≡ p) × (tip_column i v ≡ tip_column i w) × (tip_row j v ≡ tip_row j w) =
-          point_sort p (tip_column i v) (tip_row j v) p (tip_column i w) (tip_row j w) n.0 (tip_low p i j v n).0 (tip_low p i j v n).1
-          (sym same ∙ hub p (tip_column i w) (tip_row j w) near) in
-          one_way i j w v n.1.a_some n.1.b_some (sym e.1) (sym e.2)
-
-      east_north : (p i j : ℕ) → Inner p i j → Far p i j east → Far p i j north → tip p i j east ≢ tip p i j north
-      east_north p i j n e f same =
-          let one : wide l x p - i ≡ 1 = omega arith in
-          beside_corner p east j n.0 (omega (arith, len.upright p n.0))
-          (sym (point_east l x laid len p (i + 1) j n.0 e (omega arith)) ∙ same
-          ∙ point_north l x laid len p i (j + 1) n.0 f ∙ ap (side_point l x p north) one)
-
-      north_west : (p i j : ℕ) → Inner p i j → Far p i j north → Far p i j west → tip p i j north ≢ tip p i j west
-      north_west p i j n e f same =
-          let first : i - 1 ≡ 0 = omega arith in
-          let one : high l x p - j ≡ 1 = omega arith in
-          beside_corner p north (wide l x p - i) n.0 (omega (arith, n.1.a_low, len.across p n.0))
-          (sym (point_north l x laid len p i (j + 1) n.0 e) ∙ same
-          ∙ ap (λ k. point l x p k j) first ∙ point_west l x laid len p j n.0 (omega arith) ∙ ap (side_point l x p west) one)
-
-      west_south : (p i j : ℕ) → Inner p i j → Far p i j west → Far p i j south → tip p i j west ≢ tip p i j south
-      west_south p i j n e f same =
-          let first : i - 1 ≡ 0 = omega arith in
-          let bottom : j - 1 ≡ 0 = omega arith in
-          beside_corner p west (high l x p - j) n.0 (omega (arith, n.1.b_low))
-          (sym (point_west l x laid len p j n.0 (omega (arith, n.1.b_low))) ∙ ap (λ k. point l x p k j) (sym first) ∙ same
-          ∙ ap (point l x p i) bottom ∙ ap (side_point l x p south) e')
-        where
-          e' : i ≡ 1
-          e' = e
-
-      south_east : (p i j : ℕ) → Inner p i j → Far p i j south → Far p i j east → tip p i j south ≢ tip p i j east
-      south_east p i j n e f same =
-          let bottom : j - 1 ≡ 0 = omega arith in
-          beside_corner p south i n.0 f
-          (ap (point l x p i) (sym bottom) ∙ same
-          ∙ point_east l x laid len p (i + 1) j n.0 f (omega (arith, n.1.b_low)) ∙ ap (side_point l x p east) e)
-
-      east_west : (p i j : ℕ) → Inner p i j → Far p i j east → Far p i j west → tip p i j east ≢ tip p i j west
-      east_west p i j n e f same =
-          let first : i - 1 ≡ 0 = omega arith in
-          let two : i + 1 ≡ 2 = omega arith in
-          open_l.across p j n.0 (omega arith) n.1.b_some n.1.b_low
-          (ap (λ k. point l x p k j) (sym first) ∙ sym same ∙ ap (λ k. point l x p k j) two)
-
-      north_south : (p i j : ℕ) → Inner p i j → Far p i j north → Far p i j south → tip p i j north ≢ tip p i j south
-      north_south p i j n e f same =
-          let first : j - 1 ≡ 0 = omega arith in
-          let two : j + 1 ≡ 2 = omega arith in
-          open_l.upright p i n.0 (omega arith) n.1.a_some n.1.a_low
-          (ap (point l x p i) (sym first) ∙ sym same ∙ ap (point l x p i) two)
-
-      far_tips : (p i j : ℕ) (w v : Way) → Inner p i j → Far p i j w → Far p i j v → tip p i j w ≡ tip p i j v → w ≡ v
-      far_tips p i j east east n e f same = refl
-      far_tips p i j east north n e f same = absurd (east_north p i j n e f same)
-      far_tips p i j east west n e f same = absurd (east_west p i j n e f same)
-      far_tips p i j east south n e f same = absurd (south_east p i j n f e (sym same))
-      far_tips p i j north east n e f same = absurd (east_north p i j n f e (sym same))
-      far_tips p i j north north n e f same = refl
-      far_tips p i j north west n e f same = absurd (north_west p i j n e f same)
-      far_tips p i j north south n e f same = absurd (north_south p i j n e f same)
-      far_tips p i j west east n e f same = absurd (east_west p i j n f e (sym same))
-      far_tips p i j west north n e f same = absurd (north_west p i j n f e (sym same))
-      far_tips p i j west west n e f same = refl
-      far_tips p i j west south n e f same = absurd (west_south p i j n e f same)
-      far_tips p i j south east n e f same = absurd (south_east p i j n e f same)
-      far_tips p i j south north n e f same = absurd (north_south p i j n f e (sym same))
-      far_tips p i j south west n e f same = absurd (west_south p i j n f e (sym same))
-      far_tips p i j south south n e f same = refl
-
-      tips_differ : (p i j : ℕ) (w v : Way) → Inner p i j → tip p i j w ≡ tip p i j v → w ≡ v
-      tips_differ p i j w v n same = elim (tip_case p i j w n) [
-        | inl near ↦ near_tips p i j w v n near same
-        | inr far ↦ elim (tip_case p i j v n) [
-          | inl near ↦ sym (near_tips p i j v w n near (sym same))
-          | inr too ↦ far_tips p i j w v n far too same
-        ]
-      ]
-
-      -- An edge inside a patch is a spoke.
-      edge_spoke : (e : Edge) → IsEdge l x e → is_arc e ≡ false
-          → (p : ℕ) × (i : ℕ) × (j : ℕ) × (w : Way) × Inner p i j × (e ≡ spoke p i j w)
-      edge_spoke (on_arc a k) is off = absurd cc
-      edge_spoke (flat p i j) is off = elim (cases_eq i 0) [
-        | inl z ↦ (
-          p,
-          1,
-          j,
-          west,
-          (is.0, record { a_some = omega arith; a_low = omega (arith, side_two p south is.0); b_some = is.2; b_low = is.3 }),
-          ap (λ k. flat p k j) z,
-        )
-        | inr some ↦ (p, i, j, east, (is.0, record { a_some = omega arith; a_low = is.1; b_some = is.2; b_low = is.3 }), refl)
-      ]
-      edge_spoke (steep p i j) is off = elim (cases_eq j 0) [
-        | inl z ↦ (
-          p,
-          i,
-          1,
-          south,
-          (is.0, record { a_some = is.1; a_low = is.2; b_some = omega arith; b_low = omega (arith, side_two p west is.0) }),
-          ap (steep p i) z,
-        )
-        | inr some ↦ (p, i, j, north, (is.0, record { a_some = is.1; a_low = is.2; b_some = omega arith; b_low = is.3 }), refl)
-      ]
-
-      -- An edge with the ends of a spoke is that spoke.
-      spoke_once : (e : Edge) (p i j : ℕ) (w : Way) → IsEdge l x e → Inner p i j → Joins e (inside p i j) (tip p i j w) → e ≡ spoke p i j w
-      spoke_once e p i j w is n joins =
-          let h : (v : Way) × (e ≡ spoke p i j v) × (tip p i j w ≡ tip p i j v) = hub_edge e p i j (tip p i j w) is joins in
-          h.1 ∙ ap (spoke p i j) (sym (tips_differ p i j w h.0 n h.2))
-
-      -- The points on both sides of an inner point of an arc differ.
-      arc_tips : (a k : ℕ) → a < l.arcs → 0 < k → k < x a → arc_point l x a (k + 1) ≢ arc_point l x a (k - 1)
-      arc_tips a k a_low some less same = elim (cases_eq (k + 1) (x a)) [
-        | inl last ↦ elim (cases_eq k 1) [
-          | inl one ↦
-              let z : k - 1 ≡ 0 = omega arith in
-              let ends : node (l.last a) ≡ node (l.first a) =
-              sym (arc_last l x a (k + 1) last (omega arith)) ∙ same ∙ ap (arc_point l x a) z in
-              let s : l.first a ≡ l.last a = cc in
-              open_l.arcs_open a a_low (omega arith) s
-          | inr more ↦
-              let s : (a ≡ a) × (k + 1 ≡ k - 1) = arc_sort a (k + 1) a (k - 1) (same ∙ arc_inner l x a (k - 1) (omega arith) (omega arith)) in
-              omega (arith, s.1)
-        ]
-        | inr inner ↦
-            let s : (a ≡ a) × (k - 1 ≡ k + 1) = arc_sort a (k - 1) a (k + 1) (sym same ∙ arc_inner l x a (k + 1) (omega arith) (omega arith)) in
-            omega (arith, s.1)
-      ]
-
-      arcs_once : (a k b m : ℕ) → IsEdge l x (on_arc a k) → IsEdge l x (on_arc b m)
-          → Joins (on_arc a k) (arc_point l x b m) (arc_point l x b (m + 1)) → on_arc a k ≡ on_arc b m
-      arcs_once a k b m is_a is_b joins = elim (cases_eq m 0) [ inl z ↦ at_first z joins | inr some ↦ at_inner (omega arith) joins ]
-        where
-          two : 2 ≤ x b
-          two = open_l.two b is_b.0
-
-          at_inner : 0 < m → Joins (on_arc a k) (arc_point l x b m) (arc_point l x b (m + 1)) → on_arc a k ≡ on_arc b m
-          at_inner some (inl s) =
-              let e : (a ≡ b) × (k ≡ m) = arc_sort a k b m (s.0 ∙ arc_inner l x b m some is_b.1) in λ r. on_arc (e.0 r) (e.1 r)
-          at_inner some (inr s) =
-              let e : (a ≡ b) × (k + 1 ≡ m) = arc_sort a (k + 1) b m (s.1 ∙ arc_inner l x b m some is_b.1) in
-              let c : k ≡ m - 1 = omega (arith, e.1) in
-              absurd (arc_tips b m is_b.0 some is_b.1 (sym s.0 ∙ (λ r. arc_point l x (e.0 r) (c r))))
-
-          at_first : m ≡ 0 → Joins (on_arc a k) (arc_point l x b m) (arc_point l x b (m + 1)) → on_arc a k ≡ on_arc b m
-          at_first z (inl s) =
-              let e : (a ≡ b) × (k + 1 ≡ m + 1) = arc_sort a (k + 1) b (m + 1) (s.1 ∙ arc_inner l x b (m + 1) (omega arith) (omega (arith, two))) in
-              let c : k ≡ m = omega (arith, e.1) in
-              λ r. on_arc (e.0 r) (c r)
-          at_first z (inr s) =
-              let e : (a ≡ b) × (k ≡ m + 1) = arc_sort a k b (m + 1) (s.0 ∙ arc_inner l x b (m + 1) (omega arith) (omega (arith, two))) in
-              let c : k + 1 ≡ m + 1 + 1 = omega (arith, e.1) in
-              let d : m ≡ m + 1 - 1 = omega arith in
-              absurd (arc_tips b (m + 1) is_b.0 (omega arith) (omega (arith, two))
-              ((λ r. arc_point l x (sym e.0 r) (sym c r)) ∙ s.1 ∙ ap (arc_point l x b) d))
-
-      -- Edges with the same ends are one.
-      joins_once : (e f : Edge) → IsEdge l x e → IsEdge l x f → Joins e (low l x f) (top l x f) → e ≡ f
-      joins_once e f is_e is_f joins = by_kinds (is_arc e) (is_arc f) refl refl
-        where
-          Sorted : Edge → Type 0
-          Sorted g = (p : ℕ) × (i : ℕ) × (j : ℕ) × (w : Way) × Inner p i j × (g ≡ spoke p i j w)
-
-          along_spoke : (g h : Edge) → IsEdge l x g → Joins g (low l x h) (top l x h)
-              → (p i j : ℕ) (w : Way) → Inner p i j → h ≡ spoke p i j w → g ≡ h
-          along_spoke g h is_g both p i j w n is =
-              spoke_once g p i j w is_g n (by_order (spoke_joins p i j w n)) ∙ sym is
-            where
-              on_spoke : Joins g (low l x (spoke p i j w)) (top l x (spoke p i j w))
-              on_spoke = subst (λ (k : Edge). Joins g (low l x k) (top l x k)) is both
-
-              by_order : Joins (spoke p i j w) (inside p i j) (tip p i j w) → Joins g (inside p i j) (tip p i j w)
-              by_order (inl s) =
-                  subst (λ (q : Point). Joins g q (tip p i j w)) s.0 (subst (λ (q : Point). Joins g (low l x (spoke p i j w)) q) s.1 on_spoke)
-              by_order (inr s) =
-                  joins_swap g (tip p i j w) (inside p i j)
-                  (subst (λ (q : Point). Joins g q (inside p i j)) s.0 (subst (λ (q : Point). Joins g (low l x (spoke p i j w)) q) s.1 on_spoke))
-
-          flip : Joins e (low l x f) (top l x f) → Joins f (low l x e) (top l x e)
-          flip (inl s) = inl (sym s.0, sym s.1)
-          flip (inr s) = inr (sym s.1, sym s.0)
-
-          both_arcs : (g h : Edge) → IsEdge l x g → IsEdge l x h → is_arc g ≡ true → is_arc h ≡ true → Joins g (low l x h) (top l x h) → g ≡ h
-          both_arcs (on_arc a k) (on_arc b m) is_g is_h g_on h_on both = arcs_once a k b m is_g is_h both
-          both_arcs (on_arc a k) (flat q c d) is_g is_h g_on h_on both = absurd cc
-          both_arcs (on_arc a k) (steep q c d) is_g is_h g_on h_on both = absurd cc
-          both_arcs (flat p i j) h is_g is_h g_on h_on both = absurd cc
-          both_arcs (steep p i j) h is_g is_h g_on h_on both = absurd cc
-
-          by_kinds : (b c : Bool) → is_arc e ≡ b → is_arc f ≡ c → e ≡ f
-          by_kinds b false e_kind f_kind = at (edge_spoke f is_f f_kind)
-            where
-              at : (p : ℕ) × (i : ℕ) × (j : ℕ) × (w : Way) × Inner p i j × (f ≡ spoke p i j w) → e ≡ f
-              at s = along_spoke e f is_e joins s.0 s.1 s.2 s.3 s.4 s.5
-          by_kinds false true e_kind f_kind = at (edge_spoke e is_e e_kind)
-            where
-              at : (p : ℕ) × (i : ℕ) × (j : ℕ) × (w : Way) × Inner p i j × (e ≡ spoke p i j w) → e ≡ f
-              at s = sym (along_spoke f e is_f (flip joins) s.0 s.1 s.2 s.3 s.4 s.5)
-          by_kinds true true e_kind f_kind = both_arcs e f is_e is_f e_kind f_kind joins
-
-      no_loop : (e : Edge) → IsEdge l x e → low l x e ≢ top l x e
-      no_loop (on_arc a k) is same = elim (cases_eq k 0) [
-        | inl z ↦
-            let s : (a ≡ a) × (k ≡ k + 1) = arc_sort a k a (k + 1) (same ∙ arc_inner l x a (k + 1) (omega arith) (omega (arith, open_l.two a is.0))) in
-            omega (arith, s.1)
-        | inr some ↦
-            let s : (a ≡ a) × (k + 1 ≡ k) = arc_sort a (k + 1) a k (sym same ∙ arc_inner l x a k (omega arith) is.1) in omega (arith, s.1)
-      ]
-      no_loop (flat p i j) is same = at_spoke (edge_spoke (flat p i j) is refl)
-        where
-          at_spoke : (q : ℕ) × (k : ℕ) × (m : ℕ) × (w : Way) × Inner q k m × (flat p i j ≡ spoke q k m w) → ⊥
-          at_spoke s = loop_at (flat p i j) s.0 s.1 s.2 s.3 s.4 s.5 same
-      no_loop (steep p i j) is same = at_spoke (edge_spoke (steep p i j) is refl)
-        where
-          at_spoke : (q : ℕ) × (k : ℕ) × (m : ℕ) × (w : Way) × Inner q k m × (steep p i j ≡ spoke q k m w) → ⊥
-          at_spoke s = loop_at (steep p i j) s.0 s.1 s.2 s.3 s.4 s.5 same
-
-      pub simple_open : IsSimple l x
-      simple_open = record {
-        same = λ e f is_e is_f s t. joins_once e f is_e is_f (inl (s, t));
-        crossed = λ e f is_e is_f s t. joins_once e f is_e is_f (inr (s, t));
-        no_loop = no_loop;
-      }
