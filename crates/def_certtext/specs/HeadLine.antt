@@ -1,0 +1,37 @@
+-- The head line of a written text, and where the last one stands.
+use Rattle.std.specs.Prelude.{◌≡◌, ℕ, ◌<◌, Bool, true, false, nat_eq, if◌then◌else◌, Option, [], ◌∷◌, ◌++◌, codes, decimal, length, slice_index_or}
+use Rattle.std.specs.List.{list_any, starts_with}
+use Rattle.def_io.specs.Bytes.{Bytes, Lines}
+use Rattle.def_text.specs.declared.letters.TheConstants.{SLASH}
+use Rattle.def_flow.specs.declared.net.Settings.{Settings}
+use Rattle.def_flow.specs.declared.net.Weight.{Weight}
+use Rattle.def_flow.specs.declared.net.Weight.TheVariants.{Plain, Length}
+
+-- How a floor is written: a chosen one as `auto`.
+abbrev pub floor_text : (floor : ℕ) (auto : Bool) → Bytes
+floor_text floor auto = if auto then codes "auto" else decimal floor
+
+-- How the weights are named.
+abbrev pub weight_text : (weight : Weight) → Bytes
+weight_text Plain = codes "plain"
+weight_text Length = codes "length"
+
+-- The head line of a remesh with these settings. The scale stands as it was given.
+abbrev pub head_line : (settings : Settings) (auto : Bool) → Bytes
+head_line settings auto =
+    codes "#quadq 1 remesh scale " ++ decimal settings.p ++ SLASH ∷ decimal settings.q
+    ++ codes " floor " ++ floor_text settings.floor auto ++ codes " weight " ++ weight_text settings.weight
+
+-- A line that begins as a head line does.
+abbrev pub begins_head : (line : Bytes) → Bool
+begins_head line = starts_with nat_eq line (codes "#quadq 1 remesh")
+
+-- Line i is the last of these that begins so.
+pub record IsLastHead (lines : Lines) (i : ℕ) : Type 0 where
+  pub there : i < length lines
+  pub begins : begins_head (slice_index_or lines i []) ≡ true
+  pub last : (k : ℕ) → i < k → k < length lines → begins_head (slice_index_or lines k []) ≡ false
+
+-- No line begins so.
+abbrev pub HasNoHead : (lines : Lines) → Type 0
+HasNoHead lines = (k : ℕ) → k < length lines → begins_head (slice_index_or lines k []) ≡ false

@@ -1,0 +1,2 @@
+pub mod CertLines
+pub mod HeadLine

@@ -1,0 +1,35 @@
+//! The text of a certificate: its head line and the lines of lengths, of the dual's numbers and of its sets.
+#![tactic(auto)]
+
+use def_flow::{Cert, Settings};
+use thiserror::Error;
+
+/// `x`, before a length.
+pub const LENGTH: u8 = b'x';
+
+/// `y`, before the number of a vertex of the matching graph.
+pub const VERTEX: u8 = b'y';
+
+/// `s`, before the number of a set.
+pub const SET: u8 = b's';
+
+/// What a written text says of how it was made. `first` is the certificate for floor 1, where floor 3 was used because
+/// the lengths for floor 1 double an edge; then `auto` holds.
+#[derive(Debug, Drop)]
+pub struct Written {
+    pub settings: Settings,
+    pub auto: bool,
+    pub first: Option<Cert>,
+    pub cert: Cert,
+}
+
+/// Why the lines are no text of a certificate. Lines count from 1.
+#[derive(Clone, Copy, Debug, PartialEq, Eq, Error)]
+pub enum CertFail {
+    #[error("not a head line")]
+    Head,
+    #[error("line {line}: not a certificate line")]
+    Line { line: u32 },
+    #[error("out of memory")]
+    Memory,
+}
