@@ -36,11 +36,11 @@ fewer : (numbers : List ℕ) (g component : ℕ) → g < length numbers → get_
 fewer numbers g component l is ne = omega (arith, sum_by-set (λ n. cond (eqb n NONE) 1 0) numbers g component 0 l, ap {B = ℕ} (λ (b : Bool). cond b 1 0) (eq-eqb (get_or numbers g 0) NONE is), ap {B = ℕ} (λ (b : Bool). cond b 1 0) (ne_eqb component NONE ne))
 
 -- Faces share an edge where a dart of one has its twin in the other.
-shared_by : (faces : Faces) (f d e : ℕ) → 4 * f ≤ d → d < 4 * f + 4 → twin_of faces d ≡ Some e → share_edge faces f (e / 4) ≡ true
+pub shared_by : (faces : Faces) (f d e : ℕ) → 4 * f ≤ d → d < 4 * f + 4 → twin_of faces d ≡ Some e → share_edge faces f (e / 4) ≡ true
 shared_by faces f d e l h w = any_in_range (λ x. list_any (is_reverse faces x) (range_with_len (4 * (e / 4)) 4)) (4 * f) 4 d l h
     (any_in_range (is_reverse faces d) (4 * (e / 4)) 4 e (omega arith) (omega arith) (twin_reverse faces d e (twin_is faces d e w)))
 
-shared_dart : (faces : Faces) → IsManifold faces → (f h : ℕ) → h < length faces → share_edge faces f h ≡ true → (d : ℕ) × (e : ℕ) × (4 * f ≤ d) × (d < 4 * f + 4) × (twin_of faces d ≡ Some e) × (e / 4 ≡ h)
+pub shared_dart : (faces : Faces) → IsManifold faces → (f h : ℕ) → h < length faces → share_edge faces f h ≡ true → (d : ℕ) × (e : ℕ) × (4 * f ≤ d) × (d < 4 * f + 4) × (twin_of faces d ≡ Some e) × (e / 4 ≡ h)
 shared_dart faces m f h lh s = by_dart (range_any (λ x. list_any (is_reverse faces x) (range_with_len (4 * h) 4)) (4 * f) 4 s)
   where
     by_twin : (d : ℕ) → 4 * f ≤ d → d < 4 * f + 4 → (e : ℕ) × (4 * h ≤ e) × (e < 4 * h + 4) × (is_reverse faces d e ≡ true) → (d : ℕ) × (e : ℕ) × (4 * f ≤ d) × (d < 4 * f + 4) × (twin_of faces d ≡ Some e) × (e / 4 ≡ h)

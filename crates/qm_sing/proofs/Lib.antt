@@ -1,3 +1,4 @@
 mod Floods
 mod Numberings
 mod Edges
+mod Seeds

@@ -61,7 +61,7 @@ module _ (faces : Faces) where
           at true = refl
           at false = refl
 
-  place_next : (f : ℕ) → f < length faces → place_among (least_faces faces) (f + 1) ≡ place_among (least_faces faces) f + cond (eqb (least_face faces f) f) 1 0
+  pub place_next : (f : ℕ) → f < length faces → place_among (least_faces faces) (f + 1) ≡ place_among (least_faces faces) f + cond (eqb (least_face faces f) f) 1 0
   place_next f l = before_next (λ g. eqb (least_face faces g) g) f (length faces) ∙ ap (λ (b : Bool). place_among (least_faces faces) f + cond b (cond (eqb (least_face faces f) f) 1 0) 0) (lt-ltb f (length faces) l)
 
   pub place_low : (f : ℕ) → f ≤ length faces → place_among (least_faces faces) f ≤ f

@@ -2,12 +2,15 @@
 
 #![tactic(auto)]
 
+mod classes;
 mod flooding;
-mod kinds;
+mod origins;
+mod rings;
 
+pub use classes::{classify, euler};
 pub use def_mesh::{Kind, Starts};
 pub use flooding::components;
-pub use kinds::{classify, euler};
+pub use origins::sources;
 
 /// Memory was refused.
 pub type Memory = std::alloc::AllocError;

@@ -2,7 +2,7 @@ use Rattle.std.proofs.Common.{ℕ, ℤ, pos, ◌≤◌, ◌≡◌, length, Ok, a
 use Rattle.std.proofs.lemmas.Int.{ints}
 use Rattle.def_mesh.specs.Components.{edge_count}
 use Rattle.qm_sing.proofs.Edges.{used_is, filter_few}
-use Rattle.qm_sing.proofs.kinds.euler.Goals as goal
+use Rattle.qm_sing.proofs.classes.euler.Goals as goal
 
 pub returns : goal.returns
 returns c = ap Ok (omega (arith, ints, c.vertices.ensures.value, c.edges.ensures, ap length c.faces.ensures.value, used_is c.args.mesh.now c.faces.ensures.mesh, c.faces.ensures.mesh.few))

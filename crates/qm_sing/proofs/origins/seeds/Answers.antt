@@ -1,0 +1,14 @@
+use Rattle.std.proofs.Common.{◌≡◌, get_or, false, ◌++◌, ◌∷◌, [], ap, ◌∙◌, sym, arith}
+use Rattle.qm_sing.specs.Rings.{is_seed}
+use Rattle.qm_sing.proofs.Edges.{filter_on, filter_off}
+use Rattle.qm_sing.proofs.Seeds.{mark_test}
+use Rattle.qm_sing.proofs.origins.seeds.Goals.{then-marks-v+in_ok-push, else-marks-v}
+use Rattle.qm_sing.proofs.origins.seeds.Goals as goal
+
+pub loop-v-preserved : goal.loop-v-preserved
+loop-v-preserved c =
+    let t : get_or c.args.marks.now c.loop-v.v false ≡ is_seed c.args.mesh.now c.loop-v.v = mark_test c.args.mesh.now c.vertices-v-end.ensures.mesh.manifold c.args.marks.now c.loop-v.v c.requires in
+    elim c.if-marks-v.branch [
+      | then-marks-v+in_ok-push w ↦ rw (w.seeds-is, w.in_ok-push.ensures.items) (ap (λ xs. xs ++ c.loop-v.v ∷ []) c.loop-v.invariant ∙ sym (filter_on (is_seed c.args.mesh.now) c.loop-v.v (sym t ∙ w.if-marks-v.true)))
+      | else-marks-v w ↦ rw w.seeds-is (c.loop-v.invariant ∙ sym (filter_off (is_seed c.args.mesh.now) c.loop-v.v (sym t ∙ w.if-marks-v.false)))
+    ]

@@ -1,0 +1,6 @@
+use Rattle.qm_sing.specs.Rings.{AreRings}
+use Rattle.qm_sing.proofs.rings.gather.Given as goal
+
+-- The darts before d have been taken.
+abbrev pub invariant-loop-d : goal.invariant-loop-d
+invariant-loop-d l = AreRings l.mesh l.d l.regular l.least

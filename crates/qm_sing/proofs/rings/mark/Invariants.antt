@@ -1,0 +1,7 @@
+use Rattle.def_mesh.specs.Vertices.{vertex_count}
+use Rattle.qm_sing.specs.Rings.{AreSeedMarks}
+use Rattle.qm_sing.proofs.rings.mark.Given as goal
+
+-- The seeds that darts before d leave are marked.
+abbrev pub invariant-loop-d : goal.invariant-loop-d
+invariant-loop-d l = AreSeedMarks l.mesh (vertex_count l.mesh) l.d l.marks

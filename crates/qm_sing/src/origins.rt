@@ -1,0 +1,89 @@
+//! Kinds, components, seeds and start darts of a mesh.
+
+ghost use Rattle.std.specs.Prelude.{◌≡◌, ◌<◌, ◌*◌, ◌&&◌, ◌||◌, length, map, IfOk};
+ghost use Rattle.def_mesh.specs.Components.{component_numbers, least_faces, seeds as seeds_of, start_darts};
+ghost use Rattle.def_mesh.specs.Darts.{darts};
+ghost use Rattle.def_mesh.specs.Kinds.{kind_of};
+ghost use Rattle.def_mesh.specs.Sources.{AreSources};
+ghost use Rattle.def_mesh.specs.Vertices.{all_vertices, vertex_count};
+ghost use Rattle.qm_sing.specs.Rings.{AreSeedMarks, is_reflex_kind, is_singular_kind};
+
+use crate::Memory;
+use crate::classes::classify;
+use crate::flooding::components;
+use crate::rings::seed_marks;
+use def_mesh::{Kind, Starts};
+use qm_mesh::Mesh;
+use std::alloc::Global;
+
+/// The kinds, components, seeds and start darts of a mesh. Linear in the darts.
+pub fn sources(alloc: Global, mesh: &Mesh) -> Result<Starts, Memory>
+    ensures { IfOk result (AreSources mesh.now) }
+{
+    let kinds = kinds(alloc, mesh)?;
+    let (component, components) = components(alloc, mesh)?;
+    let marks = seed_marks(alloc, mesh, &kinds, &component, components)?;
+    let seeds = seeds(alloc, mesh, &marks)?;
+    let starts = starts(alloc, mesh, &kinds, &marks)?;
+    Ok(Starts {
+        kinds,
+        component,
+        components,
+        starts,
+        seeds,
+    })
+}
+
+/// The kind of each vertex.
+fn kinds(alloc: Global, mesh: &Mesh) -> Result<Vec<Kind>, Memory>
+    ensures { IfOk result (λ kinds. kinds.items ≡ map (kind_of mesh.now) (all_vertices mesh.now)) }
+{
+    let vertices = mesh.vertices();
+    let mut kinds = Vec::with_capacity(alloc, vertices as usize)?;
+    for v in 0..vertices {
+        kinds.push(classify(mesh, v))?;
+    }
+    Ok(kinds)
+}
+
+/// The marked vertices.
+fn seeds(alloc: Global, mesh: &Mesh, marks: &[bool]) -> Result<Vec<u32>, Memory>
+    requires { AreSeedMarks mesh.now (vertex_count mesh.now) (darts mesh.now) marks.now }
+    ensures { IfOk result (λ seeds. seeds.items ≡ seeds_of mesh.now) }
+{
+    let mut seeds = Vec::new(alloc);
+    for v in 0..mesh.vertices() {
+        if marks[v as usize] {
+            seeds.push(v)?;
+        }
+    }
+    Ok(seeds)
+}
+
+/// The darts along which riders start.
+fn starts(alloc: Global, mesh: &Mesh, kinds: &[Kind], marks: &[bool]) -> Result<Vec<u32>, Memory>
+    requires kinds { kinds.now ≡ map (kind_of mesh.now) (all_vertices mesh.now) }
+    requires marks { AreSeedMarks mesh.now (vertex_count mesh.now) (darts mesh.now) marks.now }
+    ensures { IfOk result (λ starts. starts.items ≡ start_darts mesh.now) }
+{
+    let mut starts = Vec::new(alloc);
+    for d in 0..4 * mesh.faces().len() as u32 {
+        let v = mesh.from(d) as usize;
+        if may_start(kinds[v], mesh.twin(d).is_some(), marks[v]) {
+            starts.push(d)?;
+        }
+    }
+    Ok(starts)
+}
+
+/// Whether a rider starts along a dart that leaves a vertex of this kind.
+fn may_start(kind: Kind, has_twin: bool, is_seed: bool) -> bool
+    ensures { result ≡ (is_singular_kind kind || (has_twin && (is_reflex_kind kind || is_seed))) }
+{
+    match kind {
+        Kind::Singular => true,
+        Kind::Reflex => has_twin,
+        Kind::Regular => has_twin && is_seed,
+        Kind::Corner => has_twin && is_seed,
+    }
+}
