@@ -41,6 +41,10 @@ label_at label b = slice_index_or label b Outside
 abbrev pub weight_at : (base : List ℤ) (label : List Label) (delta : ℤ) (b : Blossom) → ℤ
 weight_at base label delta b = slice_index_or base b (pos 0) +ℤ change (label_at label b) delta
 
+-- The set around a blossom: numbers past the end have none, as outermost blossoms.
+abbrev pub up_at : (up : List Blossom) (b : Blossom) → Blossom
+up_at up b = slice_index_or up b b
+
 -- Climbing from blossom to blossom comes past b within so many steps.
 abbrev pub climbs : (up : ℕ → ℕ) (steps : ℕ) (b from : Blossom) → Bool
 climbs up zero b from = from == b
@@ -50,14 +54,14 @@ climbs up (suc k) b from = (from == b) || climbs up k b (up from)
 abbrev pub forest_of : (t : ForestTables) → Forest
 forest_of t = record {
   size = length t.up;
-  holds = λ b v. climbs (slice_index t.up) (length t.hand) b v;
+  holds = λ b v. climbs (up_at t.up) (length t.hand) b v;
   out = out_of t.hand t.top;
   weight = weight_at t.base t.label t.delta;
   label = label_at t.label;
   mate = λ b. slice_index_or t.mate b None;
   link = slice_index t.link;
   nest = record {
-    up = slice_index t.up;
+    up = up_at t.up;
     after = slice_index t.after;
     joint = slice_index t.joint;
     head = slice_index t.head;

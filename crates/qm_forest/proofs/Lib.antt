@@ -1,6 +1,8 @@
 pub mod Apart
 pub mod EdgeKinds
 pub mod Forgets
+pub mod Fresh
+pub mod Lows
 pub mod Meeting
 pub mod OnWays
 pub mod Ranges

@@ -7,7 +7,7 @@ use Rattle.def_matching.specs.Matching.{Graph}
 use Rattle.def_forest.specs.Darts.{darts_of}
 use Rattle.def_forest.specs.Forests.{Forest, IsOutermost, walk, load}
 use Rattle.def_forest.specs.Steps.{change}
-use Rattle.def_forest.specs.Tables.{ForestTables, forest_of, label_at, IsValidFor}
+use Rattle.def_forest.specs.Tables.{up_at, ForestTables, forest_of, label_at, IsValidFor}
 use Rattle.def_forest.specs.Valid.{IsRing}
 use Rattle.def_forest.specs.declared.kinds.Label.{Label}
 use Rattle.def_forest.specs.declared.kinds.Label.TheVariants.{Outside}
@@ -15,10 +15,10 @@ use Rattle.forest_laws.proofs.Writes.{label_cases}
 use Rattle.qm_forest.specs.Ties.{IsClimb, IsWithin, IsMeeting, apart}
 use Rattle.qm_forest.proofs.Apart.{can_climb, rank_low, goes_on, apart_step, apart_order, apart_met, apart_small}
 
-module _ (g : Graph) (t : ForestTables) (valid : IsValidFor g t) (climb : IsClimb (length t.hand) (slice_index t.up) (forest_of t).out) (few : length t.up ≤ 2 ^ 26) (small : (b : ℕ) → unsigned_abs ((forest_of t).weight b) ≤ 2 ^ 62) where
-
+module _ (g : Graph) (t : ForestTables) (valid : IsValidFor g t) (climb : IsClimb (length t.hand) (up_at t.up) (forest_of t).out) (few : length t.up ≤ 2 ^ 26) (small : (b : ℕ) → unsigned_abs ((forest_of t).weight b) ≤ 2 ^ 62) where
   abbrev up : ℕ → ℕ
-  up = slice_index t.up
+  up = up_at t.up
+
   abbrev rank : ℕ → ℕ
   rank = slice_index t.rank
 
@@ -26,10 +26,10 @@ module _ (g : Graph) (t : ForestTables) (valid : IsValidFor g t) (climb : IsClim
   rises : (x : ℕ) → up x ≢ x → rank x < rank (up x)
   rises x inner = by_ring (valid.valid.nested.rings (up x) (valid.valid.nested.live x inner).0 (valid.valid.nested.live x inner).1)
     where
-      by_ring : IsRing (darts_of g) (forest_of t) (slice_index t.up x) → slice_index t.rank x < slice_index t.rank (slice_index t.up x)
+      by_ring : IsRing (darts_of g) (forest_of t) (up_at t.up x) → slice_index t.rank x < slice_index t.rank (up_at t.up x)
       by_ring ring =
-          let w : (k : ℕ) × (k < (forest_of t).nest.parts (slice_index t.up x)) × (walk (forest_of t).nest.after ((forest_of t).nest.head (slice_index t.up x)) k ≡ x) = ring.all x refl (λ e. inner (sym e)) in
-          subst (λ y. slice_index t.rank y < slice_index t.rank (slice_index t.up x)) w.2 (ring.lower w.0)
+          let w : (k : ℕ) × (k < (forest_of t).nest.parts (up_at t.up x)) × (walk (forest_of t).nest.after ((forest_of t).nest.head (up_at t.up x)) k ≡ x) = ring.all x refl (λ e. inner (sym e)) in
+          subst (λ y. slice_index t.rank y < slice_index t.rank (up_at t.up x)) w.2 (ring.lower w.0)
 
   -- The weight of a blossom that is not outermost is as it is kept.
   base_is : (x : ℕ) → up x ≢ x → get_or t.base x (pos 0) ≡ (forest_of t).weight x
@@ -37,7 +37,7 @@ module _ (g : Graph) (t : ForestTables) (valid : IsValidFor g t) (climb : IsClim
     where
       by_label : (label_at t.label x ≡ Outside) ⊎ (label_at t.label x ≢ Outside) → get_or t.base x (pos 0) ≡ (forest_of t).weight x
       by_label (inl off) = let z : change (label_at t.label x) t.delta ≡ pos 0 = ap (λ (l : Label). change l t.delta) off in omega (arith, ints, z)
-      by_label (inr named) = let w : IsOutermost g.n (forest_of t) x = valid.valid.outermost.named x named in absurd (inner (ap (slice_index t.up) (sym w.2) ∙ (valid.valid.outermost.tops w.0 w.1 ∙ w.2)))
+      by_label (inr named) = let w : IsOutermost g.n (forest_of t) x = valid.valid.outermost.named x named in absurd (inner (ap (up_at t.up) (sym w.2) ∙ (valid.valid.outermost.tops w.0 w.1 ∙ w.2)))
 
   abbrev passing : ℕ → ℕ → ℤ
   passing x y = apart (length t.hand) up (forest_of t).weight (length t.up) x y
@@ -64,7 +64,6 @@ module _ (g : Graph) (t : ForestTables) (valid : IsValidFor g t) (climb : IsClim
   all_small x y = omega (arith, apart_small (length t.hand) up (forest_of t).weight (length t.up) x y small, few)
 
   module _ (u v x y : ℕ) (load : ℤ) (meet : IsMeeting t u v x y load) (ne : x ≢ y) where
-
     abbrev top : ℕ
     top = (forest_of t).out u
 
@@ -83,8 +82,9 @@ module _ (g : Graph) (t : ForestTables) (valid : IsValidFor g t) (climb : IsClim
               second = wh;
               low_x = x2_low;
               low_y = lh;
-              small = omega (arith, ints, sum, all_small x2 high, all_small u v)
+              small = omega (arith, ints, sum, all_small x2 high, all_small u v);
             }
+
         by_side : ((low ≡ x) × (high ≡ y)) ⊎ ((low ≡ y) × (high ≡ x)) → IsMeeting t u v x2 high load2
         by_side (inl e) = build (subst (λ k. IsWithin t top k) (sym e.0) meet.first) (subst (λ k. IsWithin t top k) (sym e.1) meet.second) (λ s. ne (sym e.0 ∙ (s ∙ e.1))) (subst (λ k. k < length t.up) (sym e.0) meet.low_x) (subst (λ k. k < length t.up) (sym e.1) meet.low_y)
             (ap (λ k. passing k y) (sym e.0) ∙ ap (passing low) (sym e.1))
@@ -98,6 +98,7 @@ module _ (g : Graph) (t : ForestTables) (valid : IsValidFor g t) (climb : IsClim
         rising : IsWithin t top low → IsWithin t top high → low ≢ high → (rank low < rank x2) × (rank x2 ≤ rank top) × (rank high ≤ rank top)
         rising wl wh nlh =
             (subst (λ k. rank low < rank k) (sym x2_is) (rises low (within_climbs top low high wl wh nlh order)), subst (λ k. rank k ≤ rank top) (sym x2_is) (within_rank top (up low) (within_up top low wl)), within_rank top high wh)
+
         by_side : ((low ≡ x) × (high ≡ y)) ⊎ ((low ≡ y) × (high ≡ x)) → (rank top + rank top) - (rank x2 + rank high) < (rank top + rank top) - (rank x + rank y)
         by_side (inl e) =
             let r : (rank low < rank x2) × (rank x2 ≤ rank top) × (rank high ≤ rank top) = rising (subst (λ k. IsWithin t top k) (sym e.0) meet.first) (subst (λ k. IsWithin t top k) (sym e.1) meet.second) (λ s. ne (sym e.0 ∙ (s ∙ e.1))) in
@@ -112,5 +113,5 @@ module _ (g : Graph) (t : ForestTables) (valid : IsValidFor g t) (climb : IsClim
 
 -- Where they have met, the load is found.
 pub met_load : (t : ForestTables) (u v x y : ℕ) (sum : ℤ) → IsMeeting t u v x y sum → x ≡ y → sum ≡ load (forest_of t) u v
-met_load t u v x y sum meet e = let none : apart (length t.hand) (slice_index t.up) (forest_of t).weight (length t.up) x y ≡ pos 0 = apart_met (length t.hand) (slice_index t.up) (forest_of t).weight (length t.up) x y e in
-    let all : sum ≡ apart (length t.hand) (slice_index t.up) (forest_of t).weight (length t.up) u v = omega (arith, ints, none, meet.sum) in all
+met_load t u v x y sum meet e = let none : apart (length t.hand) (up_at t.up) (forest_of t).weight (length t.up) x y ≡ pos 0 = apart_met (length t.hand) (up_at t.up) (forest_of t).weight (length t.up) x y e in
+    let all : sum ≡ apart (length t.hand) (up_at t.up) (forest_of t).weight (length t.up) u v = omega (arith, ints, none, meet.sum) in all

@@ -76,3 +76,9 @@ read_is xs b r d low e = e ∙ same (sym (slice_get-get_or xs b r low) ∙ slice
   where
     same : {x y : ℤ} → Some x ≡ Some y → x ≡ y
     same p = cc
+
+pub read_nat : (xs : List ℕ) (b r d : ℕ) → b < length xs → get_or xs b r ≡ get_or xs b d
+read_nat xs b r d low = same (sym (slice_get-get_or xs b r low) ∙ slice_get-get_or xs b d low)
+  where
+    same : {x y : ℕ} → Some x ≡ Some y → x ≡ y
+    same p = cc

@@ -1,13 +1,13 @@
 -- How a forest's hidden tables are tied to those that contracts see.
-use Rattle.std.specs.Prelude.{◌≡◌, ◌≢◌, ℕ, ◌+◌, ◌<◌, ◌≤◌, ◌^◌, List, length, slice_index, slice_index_or, Option, Some, None, ℤ, pos, ◌+ℤ◌, ◌-ℤ◌, ◌≤ℤ◌, unsigned_abs, if◌then◌else◌}
+use Rattle.std.specs.Prelude.{replicate, ◌⊎◌, ◌≡◌, ◌≢◌, ℕ, ◌+◌, ◌<◌, ◌≤◌, ◌^◌, List, length, slice_index, slice_index_or, Option, Some, None, ℤ, pos, ◌+ℤ◌, ◌-ℤ◌, ◌≤ℤ◌, unsigned_abs, if◌then◌else◌}
 use Rattle.def_math.specs.Sums.{total_below}
-use Rattle.def_matching.specs.Matching.{IsSmallGraph, Vertex, Graph}
+use Rattle.def_matching.specs.Matching.{IsSmallGraph, Vertex, Graph, edge_at}
 use Rattle.def_forest.specs.Darts.{darts_of}
 use Rattle.def_forest.specs.Valid.{IsTree}
 use Rattle.def_forest.specs.Ways.{IsAlmost}
 use Rattle.def_forest.specs.Forests.{Blossom, Forest, splits, walk, set_at, dual_sum_of}
 use Rattle.def_forest.specs.Steps.{change}
-use Rattle.def_forest.specs.Tables.{ForestTables, forest_of, out_of, label_at, IsOutermostIn, climbs, IsValidFor}
+use Rattle.def_forest.specs.Tables.{up_at, ForestTables, forest_of, out_of, label_at, IsOutermostIn, climbs, IsValidFor}
 use Rattle.def_forest.specs.declared.kinds.Label.{Label}
 use Rattle.def_forest.specs.declared.kinds.Label.TheVariants.{Outside}
 
@@ -46,7 +46,7 @@ pub record AreTied (t : ForestTables) (q off : List ℤ) : Type 0 where
   pub size_head : length t.head ≡ length t.up
   pub size_parts : length t.parts ≡ length t.up
   pub ups : (b : Blossom) → b < length t.up → slice_index t.up b < length t.up
-  pub climb : IsClimb (length t.hand) (slice_index t.up) (out_of t.hand t.top)
+  pub climb : IsClimb (length t.hand) (up_at t.up) (out_of t.hand t.top)
   pub potentials : (v : Vertex) → v < length t.hand → potential (forest_of t) v ≡ told q t.hand t.top off t.label t.delta v
   pub small : (b : Blossom) → unsigned_abs ((forest_of t).weight b) ≤ 2 ^ 62
   pub one_hand : (u v : Vertex) → u < length t.hand → v < length t.hand → out_of t.hand t.top u ≡ out_of t.hand t.top v → slice_index t.hand u ≡ slice_index t.hand v
@@ -96,13 +96,51 @@ apart n up weight size x y = total_below (λ b. if splits (climbs up n b) x y th
 
 -- A blossom lies on the way from some vertex to its outermost blossom b.
 abbrev pub IsWithin : (t : ForestTables) (b x : Blossom) → Type 0
-IsWithin t b x = (v : Vertex) × (v < length t.hand) × ((forest_of t).out v ≡ b) × (i : ℕ) × (walk (slice_index t.up) v i ≡ x)
+IsWithin t b x = (v : Vertex) × (v < length t.hand) × ((forest_of t).out v ≡ b) × (i : ℕ) × (walk (up_at t.up) v i ≡ x)
 
 -- Two climbers from u and v have come to x and y, and so much is passed.
 pub record IsMeeting (t : ForestTables) (u v x y : Blossom) (load : ℤ) : Type 0 where
-  pub sum : load +ℤ apart (length t.hand) (slice_index t.up) (forest_of t).weight (length t.up) x y ≡ apart (length t.hand) (slice_index t.up) (forest_of t).weight (length t.up) u v
+  pub sum : load +ℤ apart (length t.hand) (up_at t.up) (forest_of t).weight (length t.up) x y ≡ apart (length t.hand) (up_at t.up) (forest_of t).weight (length t.up) u v
   pub first : IsWithin t ((forest_of t).out u) x
   pub second : IsWithin t ((forest_of t).out u) y
   pub low_x : x < length t.up
   pub low_y : y < length t.up
   pub small : unsigned_abs load ≤ 2 ^ 90
+
+-- The numbers from 0 on.
+pub record IsCounted (n : ℕ) (xs : List ℕ) : Type 0 where
+  pub size : length xs ≡ n
+  pub each : (k : ℕ) → k < n → slice_index xs k ≡ k
+
+-- A number is lowered to another, if that is less; no other changes but to it.
+pub record IsLowered (old new : List ℤ) (place : ℕ) (most : ℤ) : Type 0 where
+  pub size : length new ≡ length old
+  pub least : slice_index_or new place (pos 0) ≤ℤ most
+  pub below : (k : ℕ) → slice_index_or new k (pos 0) ≤ℤ slice_index_or old k (pos 0)
+  pub from : (k : ℕ) → (slice_index_or new k (pos 0) ≡ slice_index_or old k (pos 0)) ⊎ (slice_index_or new k (pos 0) ≡ most)
+
+-- A number for each vertex, at most the cost of each of the first edges at it.
+pub record HasLowCosts (g : Graph) (edges : ℕ) (lows : List ℤ) : Type 0 where
+  pub size : length lows ≡ g.n
+  pub small : (v : Vertex) → unsigned_abs (slice_index_or lows v (pos 0)) ≤ 2 ^ 60
+  pub first : (e : ℕ) → e < edges → slice_index_or lows (edge_at g e).u (pos 0) ≤ℤ (edge_at g e).cost
+  pub second : (e : ℕ) → e < edges → slice_index_or lows (edge_at g e).v (pos 0) ≤ℤ (edge_at g e).cost
+
+-- The tables of a forest of single vertices, of the weights `lows`.
+pub record IsFresh (n size : ℕ) (lows : List ℤ) (t : ForestTables) (q off : List ℤ) : Type 0 where
+  pub vertices : n ≤ size
+  pub few : size ≤ 2 ^ 26
+  pub hand : IsCounted n t.hand
+  pub top : IsCounted n t.top
+  pub up : IsCounted size t.up
+  pub size_lows : length lows ≡ n
+  pub kept : q ≡ lows
+  pub offs : off ≡ replicate n (pos 0)
+  pub size_base : length t.base ≡ size
+  pub base : (k : ℕ) → slice_index_or t.base k (pos 0) ≡ slice_index_or lows k (pos 0)
+  pub label : t.label ≡ replicate size Outside
+  pub mate : t.mate ≡ replicate size None
+  pub parts : t.parts ≡ replicate size 0
+  pub sizes : (length t.link ≡ size) × (length t.after ≡ size) × (length t.joint ≡ size) × (length t.head ≡ size) × (length t.rank ≡ size)
+  pub delta : t.delta ≡ pos 0
+  pub root : t.root ≡ None

@@ -8,6 +8,7 @@ mod growing;
 mod loads;
 mod numbers;
 mod search;
+mod start;
 mod writes;
 
 pub use forest::Forest;

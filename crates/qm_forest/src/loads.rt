@@ -2,7 +2,7 @@ ghost use Rattle.std.specs.Prelude.{◌≡◌, ◌≢◌, ◌+ℤ◌, ◌-ℤ◌
 ghost use Rattle.def_matching.specs.Matching.{IsSmallGraph, graph, edge_at};
 ghost use Rattle.def_forest.specs.Forests.{Blossom, load};
 ghost use Rattle.qm_forest.specs.Ties.{IsClimb};
-ghost use Rattle.def_forest.specs.Tables.{forest_of, slack_of, kind_of, kind_by, IsValidFor, IsOutermostIn};
+ghost use Rattle.def_forest.specs.Tables.{up_at, forest_of, slack_of, kind_of, kind_by, IsValidFor, IsOutermostIn};
 
 use crate::darts::edge_of;
 use crate::forest::Forest;
@@ -71,7 +71,7 @@ impl Forest {
     /// The set around a blossom.
     fn up_at(&self, b: u32) -> u32
         requires { b < length self.now.up }
-        ensures value { result ≡ slice_index self.now.up b }
+        ensures value { result ≡ up_at self.now.up b }
         ensures low { result < length self.now.up }
     {
         self.up[b as usize]
@@ -83,7 +83,7 @@ impl Forest {
         ensures value { result ≡ slice_index_or self.now.base b (pos 0) }
         ensures bound { unsigned_abs result ≤ 2 ^ 93 }
         ensures few { length self.now.up ≤ 2 ^ 26 }
-        ensures climb { IsClimb (length self.now.hand) (slice_index self.now.up) (forest_of self.now).out }
+        ensures climb { IsClimb (length self.now.hand) (up_at self.now.up) (forest_of self.now).out }
         ensures small { (k : Blossom) → unsigned_abs ((forest_of self.now).weight k) ≤ 2 ^ 62 }
     {
         self.base[b as usize]
@@ -95,7 +95,11 @@ impl Forest {
         ensures either { ((result.0 ≡ x) × (result.1 ≡ y)) ⊎ ((result.0 ≡ y) × (result.1 ≡ x)) }
         ensures order { slice_index self.now.rank result.0 ≤ slice_index self.now.rank result.1 }
     {
-        if self.rank[x as usize] <= self.rank[y as usize] { (x, y) } else { (y, x) }
+        if self.rank[x as usize] <= self.rank[y as usize] {
+            (x, y)
+        } else {
+            (y, x)
+        }
     }
 
     /// The step that an edge allows.
@@ -119,9 +123,21 @@ impl Forest {
         ensures { result ≡ kind_by ((forest_of self.now).label a) ((forest_of self.now).label b) ((forest_of self.now).mate a) ((forest_of self.now).mate b) (a == b) }
     {
         match (self.label(a), self.label(b)) {
-            (Label::Outer, Label::Outer) => if a == b { EdgeKind::Idle } else { EdgeKind::Shrink },
-            (Label::Outer, Label::Outside) => if self.matched(b) { EdgeKind::Grow } else { EdgeKind::Augment },
-            (Label::Outside, Label::Outer) => if self.matched(a) { EdgeKind::Grow } else { EdgeKind::Augment },
+            (Label::Outer, Label::Outer) => if a == b {
+                EdgeKind::Idle
+            } else {
+                EdgeKind::Shrink
+            },
+            (Label::Outer, Label::Outside) => if self.matched(b) {
+                EdgeKind::Grow
+            } else {
+                EdgeKind::Augment
+            },
+            (Label::Outside, Label::Outer) => if self.matched(a) {
+                EdgeKind::Grow
+            } else {
+                EdgeKind::Augment
+            },
             _ => EdgeKind::Idle,
         }
     }

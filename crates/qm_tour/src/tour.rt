@@ -21,7 +21,9 @@ impl Model for Tour {
     ghost use Rattle.qm_tour.specs.Trees.{IsTree};
 
     ghost Value = { List ℕ };
+
     ghost view = { λ t. drop t.room t.keys.items };
+
     ghost invariant = { λ t. IsTree t.room t.keys.items };
 }
 
@@ -89,7 +91,11 @@ fn descend(keys: &[u64], room: usize) -> usize
 {
     let mut node = 1;
     while node < room {
-        node = if keys[2 * node] <= keys[2 * node + 1] { 2 * node } else { 2 * node + 1 };
+        node = if keys[2 * node] <= keys[2 * node + 1] {
+            2 * node
+        } else {
+            2 * node + 1
+        };
     }
     node
 }

@@ -6,5 +6,12 @@ use Rattle.forest_laws.proofs.Loads.{load_across}
 use Rattle.qm_forest.proofs.forest.Forest.load_across.Goals as goal
 
 pub returns-clause-value : goal.returns-clause-value
-returns-clause-value c = omega (arith, ints, c.potential.ensures.value, c.potential.ensures.small, c.potential-2.ensures.value, c.potential-2.ensures.small,
-    load_across (graph c.args.g.now).n (forest_of c.args.self.now) c.requires.valid.valid.outermost c.args.u c.args.v (subst (λ n. c.args.u < n) c.requires.valid.vertices c.requires.vertices.0) (subst (λ n. c.args.v < n) c.requires.valid.vertices c.requires.vertices.1) c.requires.apart)
+returns-clause-value c = omega (
+  arith,
+  ints,
+  c.potential.ensures.value,
+  c.potential.ensures.small,
+  c.potential-2.ensures.value,
+  c.potential-2.ensures.small,
+  load_across (graph c.args.g.now).n (forest_of c.args.self.now) c.requires.valid.valid.outermost c.args.u c.args.v (subst (λ n. c.args.u < n) c.requires.valid.vertices c.requires.vertices.0) (subst (λ n. c.args.v < n) c.requires.valid.vertices c.requires.vertices.1) c.requires.apart,
+)

@@ -1,0 +1,47 @@
+-- One edge more, at whose ends the numbers are lowered to its cost.
+use Rattle.std.proofs.Common.{◌≡◌, ◌≢◌, ℕ, ◌+◌, ◌<◌, ◌≤◌, ◌^◌, List, length, get_or, ℤ, pos, ◌≤ℤ◌, ◌⊎◌, refl, sym, ◌∙◌, ap, subst, inl, inr, arith}
+use Rattle.std.specs.Prelude.{unsigned_abs}
+use Rattle.std.proofs.lemmas.Int.{ints}
+use Rattle.std.proofs.lemmas.Bool.{cases_eq}
+use Rattle.def_matching.specs.Matching.{Graph, edge_at}
+use Rattle.def_matching.specs.declared.weighted.WEdge.{WEdge}
+use Rattle.qm_forest.specs.Ties.{HasLowCosts, IsLowered}
+
+pub one_more_edge : (g : Graph) (e : ℕ) (a b d : List ℤ) (x : WEdge) (c1 c2 : ℤ) → HasLowCosts g e a → x ≡ edge_at g e → c1 ≡ x.cost → c2 ≡ x.cost → unsigned_abs (edge_at g e).cost ≤ 2 ^ 60 → IsLowered a b x.u c1 → IsLowered b d x.v c2 → HasLowCosts g (e + 1) d
+one_more_edge g e a b d x c1 c2 has x_is e1 e2 bound l1 l2 = record {
+  size = l2.size ∙ (l1.size ∙ has.size);
+  small = λ v. by_from v (l2.from v) (l1.from v);
+  first = λ k l. first k l (cases_eq k e);
+  second = λ k l. second k l (cases_eq k e);
+}
+  where
+    cost1 : c1 ≡ (edge_at g e).cost
+    cost1 = e1 ∙ ap (λ (y : WEdge). y.cost) x_is
+
+    cost2 : c2 ≡ (edge_at g e).cost
+    cost2 = e2 ∙ ap (λ (y : WEdge). y.cost) x_is
+
+    low : (v : ℕ) → get_or d v (pos 0) ≤ℤ get_or a v (pos 0)
+    low v = omega (arith, ints, l1.below v, l2.below v)
+
+    by_from : (v : ℕ) → (get_or d v (pos 0) ≡ get_or b v (pos 0)) ⊎ (get_or d v (pos 0) ≡ c2) → (get_or b v (pos 0) ≡ get_or a v (pos 0)) ⊎ (get_or b v (pos 0) ≡ c1) → unsigned_abs (get_or d v (pos 0)) ≤ 2 ^ 60
+    by_from v (inl p) (inl q) = omega (arith, ints, p, q, has.small v)
+    by_from v (inl p) (inr q) = omega (arith, ints, p, q, cost1, bound)
+    by_from v (inr p) q = omega (arith, ints, p, cost2, bound)
+
+    first : (k : ℕ) → k < e + 1 → (k ≡ e) ⊎ (k ≢ e) → get_or d (edge_at g k).u (pos 0) ≤ℤ (edge_at g k).cost
+    first k l (inr ne) = let h : get_or a (edge_at g k).u (pos 0) ≤ℤ (edge_at g k).cost = has.first k (omega arith) in omega (arith, ints, h, low (edge_at g k).u)
+    first k l (inl at) =
+        let place : (edge_at g k).u ≡ x.u = ap (λ (y : WEdge). y.u) (ap (edge_at g) at ∙ sym x_is) in
+        let cost : (edge_at g k).cost ≡ c1 = ap (λ j. (edge_at g j).cost) at ∙ sym cost1 in
+        let h : get_or d x.u (pos 0) ≤ℤ c1 = omega (arith, ints, l1.least, l2.below x.u) in
+        let same : get_or d (edge_at g k).u (pos 0) ≡ get_or d x.u (pos 0) = ap (λ j. get_or d j (pos 0)) place in
+        omega (arith, ints, h, same, cost)
+
+    second : (k : ℕ) → k < e + 1 → (k ≡ e) ⊎ (k ≢ e) → get_or d (edge_at g k).v (pos 0) ≤ℤ (edge_at g k).cost
+    second k l (inr ne) = let h : get_or a (edge_at g k).v (pos 0) ≤ℤ (edge_at g k).cost = has.second k (omega arith) in omega (arith, ints, h, low (edge_at g k).v)
+    second k l (inl at) =
+        let place : (edge_at g k).v ≡ x.v = ap (λ (y : WEdge). y.v) (ap (edge_at g) at ∙ sym x_is) in
+        let cost : (edge_at g k).cost ≡ c2 = ap (λ j. (edge_at g j).cost) at ∙ sym cost2 in
+        let same : get_or d (edge_at g k).v (pos 0) ≡ get_or d x.v (pos 0) = ap (λ j. get_or d j (pos 0)) place in
+        omega (arith, ints, l2.least, same, cost)

@@ -1,0 +1,14 @@
+use Rattle.std.proofs.Common.{◌≡◌, ◌<◌, ◌≤◌, ◌^◌, length, ap, arith}
+use Rattle.std.specs.Prelude.{unsigned_abs}
+use Rattle.std.proofs.lemmas.Int.{ints}
+use Rattle.def_matching.specs.Matching.{graph, edge_at}
+use Rattle.def_matching.specs.declared.weighted.WEdge.{WEdge}
+use Rattle.qm_forest.proofs.Lows.{one_more_edge}
+use Rattle.qm_forest.proofs.start.least_costs.Goals as goal
+
+pub loop-e-preserved : goal.loop-e-preserved
+loop-e-preserved c =
+    let bound : unsigned_abs (edge_at (graph c.args.g.now) c.loop-e.e).cost ≤ 2 ^ 60 = c.requires.costs c.loop-e.e (omega (arith, c.loop-e-test.true, c.len-e-end.ensures)) in
+    let cost : c.edge_of-edge.result.cost ≡ (edge_at (graph c.args.g.now) c.loop-e.e).cost = ap (λ (x : WEdge). x.cost) c.edge_of-edge.ensures in
+    one_more_edge (graph c.args.g.now) c.loop-e.e c.loop-e.lows.items c.lower.new.numbers.items c.lower-in-loop-e.new.numbers.items c.edge_of-edge.result _ _ c.loop-e.invariant c.edge_of-edge.ensures
+    (omega (arith, ints, c.from.ensures, cost, bound)) (omega (arith, ints, c.from-in-loop-e.ensures, cost, bound)) bound c.lower.ensures c.lower-in-loop-e.ensures
