@@ -1,5 +1,5 @@
 -- The dual of a valid forest bounds each perfect matching.
-use Rattle.std.proofs.Common.{◌≡◌, ◌≢◌, ℕ, zero, suc, ◌+◌, ◌*◌, ◌%◌, ◌<◌, ◌≤◌, Bool, true, false, not, cond, eqb, List, [], ◌∷◌, map, length, ℤ, pos, ◌+ℤ◌, ◌*ℤ◌, ◌≤ℤ◌, ◌⊎◌, refl, sym, ◌∙◌, ap, subst, inl, inr, arith}
+use Rattle.std.proofs.Common.{◌≡◌, ◌≢◌, ℕ, ◌+◌, ◌*◌, ◌<◌, ◌≤◌, Bool, true, false, not, cond, eqb, List, [], ◌∷◌, map, length, ℤ, pos, ◌+ℤ◌, ◌*ℤ◌, ◌≤ℤ◌, ◌⊎◌, refl, sym, ◌∙◌, ap, subst, inl, inr, arith}
 use Rattle.std.proofs.lemmas.Int.{ints}
 use Rattle.std.proofs.lemmas.Bool.{cases_eq, cases_lt, eq-eqb, ne_eqb, eqb-true}
 use Rattle.def_math.specs.Counts.{count}
@@ -10,7 +10,7 @@ use Rattle.def_matching.specs.Matching.{Graph, IsGraph, edge_at, ends_at, IsPerf
 use Rattle.def_matching.specs.Dual.{crosses}
 use Rattle.def_matching.specs.declared.weighted.WEdge.{WEdge}
 use Rattle.qm_dual.proofs.Weak.{at_least_once, odd_leaves, chosen_below}
-use Rattle.def_forest.specs.Darts.{Darts, AreDarts, darts_of, far}
+use Rattle.def_forest.specs.Darts.{darts_of, far}
 use Rattle.def_forest.specs.Forests.{Forest, load, dual_sum_of}
 use Rattle.def_forest.specs.Valid.{IsNested, IsFeasible}
 use Rattle.forest_laws.proofs.Graphs.{are_darts, dart_near, dart_far, dart_cost}

@@ -1,8 +1,8 @@
 -- The darts of a graph are darts: they come in pairs and begin at vertices.
-use Rattle.std.proofs.Common.{◌≡◌, ◌≢◌, ℕ, ◌+◌, ◌-◌, ◌*◌, ◌/◌, ◌%◌, ◌<◌, Bool, true, false, cond, eqb, length, ℤ, ◌⊎◌, refl, sym, ◌∙◌, ap, subst, inl, inr, arith}
+use Rattle.std.proofs.Common.{◌≡◌, ◌≢◌, ℕ, ◌+◌, ◌-◌, ◌*◌, ◌/◌, ◌%◌, ◌<◌, eqb, length, ◌⊎◌, refl, sym, ◌∙◌, ap, subst, inl, inr, arith}
 use Rattle.std.proofs.lemmas.Bool.{cases_eq, cond-true, cond-false, eq-eqb, ne_eqb}
 use Rattle.def_matching.specs.Matching.{Graph, IsGraph, edge_at}
-use Rattle.def_forest.specs.Darts.{Darts, AreDarts, darts_of, twin_of, far}
+use Rattle.def_forest.specs.Darts.{AreDarts, darts_of, twin_of, far}
 
 -- The twin of a dart by its last bit.
 pub twin_even : (d : ℕ) → d % 2 ≡ 0 → twin_of d ≡ d + 1

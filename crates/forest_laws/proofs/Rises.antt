@@ -1,7 +1,7 @@
 -- A shift by t raises the dual's sum by t: the tree has one outer blossom more than inner ones.
-use Rattle.std.proofs.Common.{◌≡◌, ◌≢◌, ℕ, zero, suc, ◌<◌, Bool, true, false, cond, eqb, Option, Some, None, ℤ, pos, ◌+ℤ◌, ◌-ℤ◌, ◌⊎◌, refl, sym, ◌∙◌, ap, subst, inl, inr, arith}
+use Rattle.std.proofs.Common.{◌≡◌, ◌≢◌, ℕ, zero, suc, ◌<◌, Bool, true, false, cond, eqb, Some, None, ℤ, pos, ◌+ℤ◌, ◌-ℤ◌, refl, sym, ◌∙◌, ap, subst, inl, inr, arith}
 use Rattle.std.proofs.lemmas.Int.{ints}
-use Rattle.std.proofs.lemmas.Bool.{cases_eq, cond-true, cond-false, eq-eqb, ne_eqb}
+use Rattle.std.proofs.lemmas.Bool.{cond-true, cond-false, eq-eqb, ne_eqb}
 use Rattle.def_math.specs.Sums.{total_below}
 use Rattle.qm_laws.proofs.Sums.{total_below_same, total_below_sum, total_below_minus, total_below_none, total_below_one}
 use Rattle.def_forest.specs.Darts.{Darts, AreDarts, far}
@@ -12,7 +12,7 @@ use Rattle.def_forest.specs.declared.kinds.Label.{Label}
 use Rattle.def_forest.specs.declared.kinds.Label.TheVariants.{Outer, Inner, Outside}
 use Rattle.def_forest.specs.Ways.{inner_of, dart_or}
 use Rattle.forest_laws.proofs.Writes.{some_is}
-use Rattle.forest_laws.proofs.Facts.{far_low, far_twin}
+use Rattle.forest_laws.proofs.Facts.{far_twin}
 use Rattle.forest_laws.proofs.WayLaws.{some_none}
 
 -- The order of two sums does not matter.
