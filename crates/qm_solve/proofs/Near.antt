@@ -1,6 +1,9 @@
 -- A list that is no farther from what is wanted than the start has no great length.
-use Rattle.std.proofs.Common.{◌≡◌, ℕ, suc, ◌+◌, ◌*◌, ◌^◌, ◌<◌, ◌≤◌, ◌&&◌, true, nat_le, List, length, pos, ◌-ℤ◌, ◌*ℤ◌, mul-add, mul_comm, mul-one, inl, inr, leb-true, arith}
-use Rattle.std.specs.Prelude.{slice_index, unsigned_abs}
+use Rattle.std.proofs.Common.{◌≡◌, ℕ, suc, ◌+◌, ◌*◌, ◌^◌, ◌<◌, ◌≤◌, ◌&&◌, ◌↔◌, true, false, not, nat_le, List, length, pos, ◌-ℤ◌, ◌*ℤ◌, mul-add, mul_comm, mul-one, inl, inr, refl, sym, ◌∙◌, ap, subst, None, true≢false, leb-true, arith}
+use Rattle.std.specs.Prelude.{slice_index, unsigned_abs, int_lt}
+use Rattle.std.specs.List.{list_all}
+use Rattle.std.proofs.lemmas.List.{get_or_default}
+use Rattle.std.proofs.lemmas.List.Sums.{AllPass-from_list_all, list_all-from_AllPass}
 use Rattle.std.proofs.Math.Nat.{mul-le-mul_left, mul-le-mul_right}
 use Rattle.std.proofs.lemmas.Int.{ints}
 use Rattle.std.proofs.lemmas.Bool.{and_parts, cases_lt}
@@ -10,6 +13,7 @@ use Rattle.def_flow.specs.Admissible.{AreLengths, IsAdmissible, arc_deviation, d
 use Rattle.def_flow.specs.Descent.{IsStartOf}
 use Rattle.def_flow.specs.declared.net.Arc.{Arc}
 use Rattle.qm_net.proofs.Within.{arc_bounded}
+use Rattle.qm_solve.specs.Rounds.{is_near_arc}
 
 -- What a factor of one or more leaves.
 factor : (w d : ℕ) → 1 ≤ w → d ≤ w * d
@@ -35,3 +39,29 @@ lengths_near net start xs bounds from count nearer = record { count = count; sma
         let heavy : 1 ≤ a.weight = leb-true 1 a.weight (and_parts (nat_le 1 a.weight) _ weights.0).0 in
         let part : a.weight * far ≤ deviation net (entries xs) = omega (arith, part_low (λ j. arc_deviation net (arc_at net.arcs j) (entries xs j)) k (length net.arcs) inner) in
         short net.q net.p a.old (slice_index xs k) (deviation net (entries start)) (10 ^ 12) bounds.q_low (omega (arith, factor a.weight far heavy, part, nearer)) (from.near k inner)
+
+-- The test of the range.
+test_is : (net : Network) (d : ℕ) (a : Arc) → (is_near_arc net (pos d) a ≡ true) ↔ (net.p * a.old + d ≤ 10 ^ 12 * net.q)
+test_is net d a = (λ on. there on, λ le. back le)
+  where
+    there : is_near_arc net (pos d) a ≡ true → net.p * a.old + d ≤ 10 ^ 12 * net.q
+    there on = elim (cases_lt (10 ^ 12 * net.q) (net.p * a.old + d)) [
+      | inl l ↦ absurd (let less : int_lt (pos (10 ^ 12) *ℤ pos net.q -ℤ pos (net.p * a.old)) (pos d) ≡ true = grind (arith, ints) in true≢false (sym on ∙ ap not less))
+      | inr h ↦ h
+    ]
+
+    back : net.p * a.old + d ≤ 10 ^ 12 * net.q → is_near_arc net (pos d) a ≡ true
+    back le = let off : int_lt (pos (10 ^ 12) *ℤ pos net.q -ℤ pos (net.p * a.old)) (pos d) ≡ false = grind (arith, ints) in ap not off
+
+abbrev no_arc : Arc
+no_arc = record { left = record { node = 0; plus = true }; right = None; old = 0; weight = 0 }
+
+pub near_is : (net : Network) (xs : List ℕ) → IsWithinBounds net → AreLengths net.arcs xs → IsAdmissible net (entries xs) → (list_all (is_near_arc net (pos (deviation net (entries xs)))) net.arcs ≡ true) ↔ IsStartOf net xs
+near_is net xs bounds lengths admissible = (
+  λ on. record { count = lengths.count; admissible = admissible; near = λ k l. (test_is net (deviation net (entries xs)) (arc_at net.arcs k)).0 (AllPass-from_list_all (is_near_arc net (pos (deviation net (entries xs)))) net.arcs on k _ l) },
+  λ from. list_all-from_AllPass (is_near_arc net (pos (deviation net (entries xs)))) net.arcs (λ k d l. subst (λ (a : Arc). is_near_arc net (pos (deviation net (entries xs))) a ≡ true) (sym (get_or_default net.arcs k d no_arc l)) ((test_is net (deviation net (entries xs)) (arc_at net.arcs k)).1 (from.near k l))),
+)
+
+-- A start has lengths in range.
+pub start_lengths : (net : Network) (xs : List ℕ) → IsWithinBounds net → IsStartOf net xs → AreLengths net.arcs xs
+start_lengths net xs bounds from = lengths_near net xs xs bounds from from.count (omega arith)

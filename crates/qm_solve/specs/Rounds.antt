@@ -1,11 +1,12 @@
 -- What a round of the descent finds.
-use Rattle.std.specs.Prelude.{◌≡◌, ℕ, ◌*◌, ◌<◌, List, length, map, pos, ◌*ℤ◌}
+use Rattle.std.specs.Prelude.{◌≡◌, ℕ, ◌*◌, ◌<◌, Bool, not, List, length, map, ℤ, pos, ◌-ℤ◌, ◌*ℤ◌, int_lt}
 use Rattle.def_matching.specs.Dual.{dual, verdict, IsSmallDual}
 use Rattle.def_matching.specs.declared.weighted.Verdict.TheVariants.{Yes}
 use Rattle.def_flow.specs.Network.{Network}
 use Rattle.def_flow.specs.Admissible.{IsAdmissible, deviation, entries}
 use Rattle.def_flow.specs.MatchingGraph.{matching_graph}
 use Rattle.def_flow.specs.Units.{on_cost}
+use Rattle.def_flow.specs.declared.limits.TheConstants.{MAX_LENGTH}
 use Rattle.def_flow.specs.declared.net.Arc.{Arc}
 use Rattle.qm_solve.specs.declared.round.Round.{Round}
 use Rattle.qm_solve.specs.declared.round.Round.TheVariants.{Better, Least}
@@ -24,3 +25,7 @@ IsRound net step xs (Least d) = (verdict (matching_graph net step xs) (dual d) �
 -- The old lengths, so many times.
 abbrev pub multiple_of : (times : ℕ) (arcs : List Arc) → List ℕ
 multiple_of times arcs = map (λ a. times * a.old) arcs
+
+-- The length of an arc stays in range where the deviation is no greater.
+abbrev pub is_near_arc : (net : Network) (far : ℤ) (a : Arc) → Bool
+is_near_arc net far a = not (int_lt (pos MAX_LENGTH *ℤ pos net.q -ℤ pos (net.p * a.old)) far)

@@ -5,11 +5,13 @@ mod descent;
 mod matcher;
 mod round;
 mod start;
+#[cfg(test)]
+mod tests;
 
 pub use def_flow::{Cert, Net};
 pub use descent::solve_from;
 pub use matcher::{Matched, Matcher};
-pub use start::solve;
+pub use start::{is_start, solve};
 
 /// Want of memory.
 pub type Memory = std::alloc::AllocError;

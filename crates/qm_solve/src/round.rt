@@ -48,7 +48,7 @@ pub(crate) fn improve<M: Matcher>(
 }
 
 /// The cost of a matching. Linear in its edges.
-fn cost_of(g: &WGraph, matching: &[u32]) -> i128
+pub(crate) fn cost_of(g: &WGraph, matching: &[u32]) -> i128
     requires few { length g.now.edges.items ≤ 2 ^ 30 }
     requires rising { IsRising 0 (length g.now.edges.items) matching.now }
     ensures { result ≡ matching_cost (graph g.now) matching.now }

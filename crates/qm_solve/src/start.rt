@@ -1,16 +1,18 @@
 //! The start of the descent for an even network.
 
-ghost use Rattle.std.specs.Prelude.{◌≡◌, ◌*◌, ◌/◌, ◌^◌, ◌≤◌, max, IfOk};
+ghost use Rattle.std.specs.Prelude.{◌≡◌, ◌*◌, ◌/◌, ◌^◌, ◌≤◌, ◌↔◌, max, IfOk, IsTrue};
+ghost use Rattle.std.specs.List.{list_all};
 ghost use Rattle.def_flow.specs.Network.{network, tangle_number, IsWithinBounds};
 ghost use Rattle.def_flow.specs.Accepted.{certificate};
 ghost use Rattle.def_flow.specs.Admissible.{IsEven};
-ghost use Rattle.def_flow.specs.Descent.{IsSolution};
-ghost use Rattle.qm_solve.specs.Rounds.{multiple_of};
+ghost use Rattle.def_flow.specs.Descent.{IsSolution, IsStartOf};
+ghost use Rattle.qm_solve.specs.Rounds.{is_near_arc, multiple_of};
 
 use crate::Memory;
 use crate::descent::solve_from;
 use crate::matcher::Matcher;
-use def_flow::{Arc, Cert, MAX_TANGLE, Net};
+use def_flow::{Arc, Cert, MAX_LENGTH, MAX_TANGLE, Net};
+use qm_net::{admissible, are_lengths, deviation};
 use std::alloc::Global;
 
 /// A least list of lengths of an even network, with the certificate that shows it to be least. The descent begins at a
@@ -35,4 +37,31 @@ fn multiple(alloc: Global, arcs: &[Arc], times: u64) -> Result<Vec<u64>, Memory>
         lengths.push(times * u64::from(arc.old))?;
     }
     Ok(lengths)
+}
+
+/// Whether a list may start the descent: it is admissible, and no list of less deviation has too great a length.
+pub fn is_start(net: &Net, x: &[u64]) -> bool
+    requires { IsWithinBounds (network net.now) }
+    ensures { IsTrue result ↔ IsStartOf (network net.now) x.now }
+{
+    if !are_lengths(net, x) || !admissible(net, x) {
+        return false;
+    }
+    is_near(net, deviation(net, x))
+}
+
+/// Whether all lengths stay in range where the deviation is no greater. Linear.
+fn is_near(net: &Net, far: i128) -> bool
+    ensures { result ≡ list_all (is_near_arc (network net.now) far) net.now.arcs.items }
+{
+    net.arcs.iter().all(|arc| stays_near(net, arc, far))
+}
+
+/// Whether the length of an arc stays in range.
+fn stays_near(net: &Net, arc: &Arc, far: i128) -> bool
+    ensures { result ≡ is_near_arc (network net.now) far arc.now }
+{
+    let wanted = u64::from(net.p) * u64::from(arc.old);
+    let room = i128::from(MAX_LENGTH) * i128::from(net.q) - i128::from(wanted);
+    !(room < far)
 }
