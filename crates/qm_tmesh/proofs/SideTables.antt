@@ -1,0 +1,58 @@
+-- A side as it grows, use by use.
+use Rattle.std.proofs.Common.{◌≡◌, ◌⊎◌, ℕ, zero, suc, ◌+◌, ◌<◌, ◌≤◌, Bool, true, List, [], ◌∷◌, ◌++◌, map, length, get_or, sym, ◌∙◌, ap, subst, refl, inl, inr, length-append, arith}
+use Rattle.std.proofs.lemmas.Bool.{cases_lt}
+use Rattle.std.proofs.lemmas.List.{get_or_append_left, get_or-append-add}
+use Rattle.def_math.specs.Counts.{count_below}
+use Rattle.qm_laws.proofs.Counts.{count_below_same}
+use Rattle.def_layout.specs.Arcs.{Path, long_at}
+use Rattle.def_layout.specs.declared.tmesh.SideArc.{SideArc}
+use Rattle.qm_tmesh.specs.Uses.{use_in}
+use Rattle.qm_tmesh.specs.Sides.{reach_in, HasUseAt, IsSplit, IsSideOf, IsSideSoFar}
+
+use_front : (used : List SideArc) (u : SideArc) (k : ℕ) → k < length used → use_in (used ++ u ∷ []) k ≡ use_in used k
+use_front used u k l = get_or_append_left used (u ∷ []) (record { arc = 0; forward = true }) k l
+
+use_end : (used : List SideArc) (u : SideArc) → use_in (used ++ u ∷ []) (length used) ≡ u
+use_end used u = let e : length used ≡ length used + 0 = omega arith in ap (use_in (used ++ u ∷ [])) e ∙ get_or-append-add used (u ∷ []) 0 (record { arc = 0; forward = true })
+
+reach_front : (arcs : List Path) (used : List SideArc) (u : SideArc) (k : ℕ) → k ≤ length used → reach_in arcs (used ++ u ∷ []) k ≡ reach_in arcs used k
+reach_front arcs used u k h = count_below_same (λ i. long_at arcs (use_in (used ++ u ∷ []) i).arc) (λ i. long_at arcs (use_in used i).arc) k (λ i l. ap (λ (x : SideArc). long_at arcs x.arc) (use_front used u i (omega arith)))
+
+reach_end : (arcs : List Path) (used : List SideArc) (u : SideArc) → reach_in arcs (used ++ u ∷ []) (length (used ++ u ∷ [])) ≡ reach_in arcs used (length used) + long_at arcs u.arc
+reach_end arcs used u =
+    let n : length (used ++ u ∷ []) ≡ suc (length used) = length-append used (u ∷ []) ∙ omega arith in
+    let last : long_at arcs (use_in (used ++ u ∷ []) (length used)).arc ≡ long_at arcs u.arc = ap (λ (x : SideArc). long_at arcs x.arc) (use_end used u) in
+    ap (reach_in arcs (used ++ u ∷ [])) n ∙ omega (arith, last, reach_front arcs used u (length used) (omega arith))
+
+pub side_none : (arcs : List Path) (uses : List SideArc) (line : List ℕ) (begins : ℕ → Bool) → IsSplit arcs uses line begins → IsSideSoFar arcs uses line begins 0 []
+side_none arcs uses line begins split = record { at = refl; high = omega arith; next = split.first; each = λ k l. absurd (omega arith) }
+
+pub side_more : (arcs : List Path) (uses : List SideArc) (line : List ℕ) (begins : ℕ → Bool) (t next : ℕ) (used : List SideArc) (u : SideArc) → IsSplit arcs uses line begins → IsSideSoFar arcs uses line begins t used → t < length line → u ≡ use_in uses (get_or line t 0) → next ≡ t + long_at arcs u.arc → IsSideSoFar arcs uses line begins next (used ++ u ∷ [])
+side_more arcs uses line begins t next used u split so l is on = record {
+  at = reach_end arcs used u ∙ omega (arith, so.at);
+  high = omega (arith, long, at.fits);
+  next = λ h. ap begins (on ∙ ap (λ x. t + x) long) ∙ at.next (omega (arith, long));
+  each = each;
+}
+  where
+    at : HasUseAt arcs uses line begins t
+    at = split.step t l (so.next l)
+
+    long : long_at arcs u.arc ≡ long_at arcs (use_in uses (get_or line t 0)).arc
+    long = ap (λ (x : SideArc). long_at arcs x.arc) is
+
+    each : (k : ℕ) → k < length (used ++ u ∷ []) → (reach_in arcs (used ++ u ∷ []) k < length line) × (use_in (used ++ u ∷ []) k ≡ use_in uses (get_or line (reach_in arcs (used ++ u ∷ []) k) 0))
+    each k lk = by_place (cases_lt k (length used))
+      where
+        by_place : (k < length used) ⊎ (length used ≤ k) → (reach_in arcs (used ++ u ∷ []) k < length line) × (use_in (used ++ u ∷ []) k ≡ use_in uses (get_or line (reach_in arcs (used ++ u ∷ []) k) 0))
+        by_place (inl b) =
+            let r : reach_in arcs (used ++ u ∷ []) k ≡ reach_in arcs used k = reach_front arcs used u k (omega arith) in
+            let e : (reach_in arcs used k < length line) × (use_in used k ≡ use_in uses (get_or line (reach_in arcs used k) 0)) = so.each k b in
+            (omega (arith, r, e.0), use_front used u k b ∙ (e.1 ∙ ap (λ x. use_in uses (get_or line x 0)) (sym r)))
+        by_place (inr g) =
+            let same : k ≡ length used = omega (arith, length-append used (u ∷ [])) in
+            let r : reach_in arcs (used ++ u ∷ []) k ≡ t = ap (reach_in arcs (used ++ u ∷ [])) same ∙ (reach_front arcs used u (length used) (omega arith) ∙ so.at) in
+            (omega (arith, r), ap (use_in (used ++ u ∷ [])) same ∙ (use_end used u ∙ (is ∙ ap (λ x. use_in uses (get_or line x 0)) (sym r))))
+
+pub side_done : (arcs : List Path) (uses : List SideArc) (line : List ℕ) (begins : ℕ → Bool) (t : ℕ) (used : List SideArc) → IsSideSoFar arcs uses line begins t used → length line ≤ t → IsSideOf arcs uses line used
+side_done arcs uses line begins t used so far = record { total = so.at ∙ omega (arith, so.high); each = so.each }

@@ -1,0 +1,6 @@
+use Rattle.qm_tmesh.specs.Tables.{AreStarts}
+use Rattle.qm_tmesh.proofs.names.starts.Given as goal
+
+-- the named runs before s are in the table
+abbrev pub invariant-loop-s : goal.invariant-loop-s
+invariant-loop-s l = AreStarts l.mesh l.cut l.s l.starts.items
