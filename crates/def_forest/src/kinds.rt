@@ -1,3 +1,5 @@
+//! Where a blossom stands in the tree, and what an edge is good for.
+
 /// Where an outermost blossom stands: at an even or at an odd distance from the root of the tree, or outside it.
 #[derive(Clone, Copy, Debug, PartialEq, Eq)]
 pub enum Label {

@@ -1,3 +1,5 @@
+//! A layout as the program keeps it: nodes, arcs, patches and their sides.
+
 use def_cut::Patch;
 use std::alloc::Global;
 

@@ -1,3 +1,5 @@
+//! How a run ends, and the status of each end.
+
 ghost use Rattle.std.specs.Prelude.{◌≡◌};
 ghost use Rattle.def_run.specs.Status.{status_of};
 

@@ -1,3 +1,5 @@
+//! The commands.
+
 /// What a command line asks for.
 #[derive(Clone, Copy, Debug, PartialEq, Eq)]
 pub enum Command {

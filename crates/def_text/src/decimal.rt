@@ -1,3 +1,5 @@
+//! Why a word is no decimal.
+
 use thiserror::Error;
 
 /// Why a word is not read as a decimal.

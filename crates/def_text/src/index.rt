@@ -1,3 +1,5 @@
+//! Indices of `v` lines.
+
 /// What a word says as an index of a `v` line.
 #[derive(Clone, Copy, Debug, PartialEq, Eq)]
 pub enum Index {

@@ -1,3 +1,5 @@
+//! Whole numbers of millionths.
+
 use std::marker::Model;
 
 /// A number of millionths, at most 999,999,999,999,999 in absolute value. Contracts see the number.

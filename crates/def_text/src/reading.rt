@@ -1,3 +1,5 @@
+//! What a line says.
+
 use crate::{Micro, ObjFail};
 
 /// What one logical line says.

@@ -1,3 +1,5 @@
+//! The vertices and faces of a text.
+
 use crate::Micro;
 use std::marker::Model;
 

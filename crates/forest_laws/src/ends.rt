@@ -1,3 +1,5 @@
+//! The laws of the sum of weights, by which a search ends.
+
 ghost use Rattle.def_forest.specs.Laws.{BoundLaw, OddLaw, RiseLaw};
 
 /// A shift by t raises the sum of the weights by t: the tree has one outer blossom more than inner ones.

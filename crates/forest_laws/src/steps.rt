@@ -1,3 +1,5 @@
+//! The laws of the steps: each keeps a forest valid.
+
 ghost use Rattle.def_forest.specs.Laws.{ShiftLaw, RootLaw, GrowLaw, EndLaw, ShrinkLaw, ExpandLaw};
 
 /// A shift whose end is feasible keeps a forest valid.

@@ -1,3 +1,5 @@
+//! The network that is measured.
+
 ghost use Rattle.std.specs.Prelude.{◌<◌};
 
 use def_flow::{Arc, End, Net};

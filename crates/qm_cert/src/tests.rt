@@ -1,3 +1,5 @@
+//! Certificates of small networks, each with its verdict.
+
 ghost use Rattle.std.specs.Prelude.{◌≡◌, ◌^◌, ◌<◌, ◌≤◌, IsTrue, length, nat_le, nat_lt, unsigned_abs};
 ghost use Rattle.std.specs.List.{list_all};
 ghost use Rattle.def_flow.specs.Network.{network, tangle_number};

@@ -1,3 +1,5 @@
+//! The lines of a certificate, written and found.
+
 use super::*;
 use def_flow::{Cert, Settings, Weight};
 use def_matching::Dual;

@@ -1,3 +1,5 @@
+//! Words with the numbers that they are, both ways.
+
 use crate::{DecFail, canonical_law, read_micro, read_ratio, write_micro};
 
 #[test]

@@ -1,3 +1,5 @@
+//! Matching graphs of small networks, with their matchings and lists.
+
 ghost use Rattle.std.specs.Prelude.{◌^◌, ◌≤◌, IsTrue, IfOk};
 ghost use Rattle.def_flow.specs.Network.{network, tangle_number, IsWithinBounds};
 ghost use Rattle.def_matching.specs.Matching.{graph, IsPerfect};

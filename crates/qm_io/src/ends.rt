@@ -1,3 +1,5 @@
+//! Where the pieces of a text end.
+
 ghost use Rattle.std.specs.Prelude.{◌≡◌, ◌≤◌, ◌<◌, ◌-◌, ◌^◌, ◌++◌, ◌∷◌, [], length, take, drop, IfOk};
 ghost use Rattle.def_io.specs.Lines.{pieces};
 ghost use Rattle.qm_io.specs.Ends.{ends_from};

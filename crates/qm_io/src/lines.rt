@@ -1,3 +1,5 @@
+//! A text and its physical lines.
+
 ghost use Rattle.std.specs.Prelude.{
   ◌≡◌,
   ◌≤◌,

@@ -1,3 +1,5 @@
+//! A source and a sink in memory, whose calls fail where they are told to.
+
 ghost use Rattle.std.specs.Prelude.{
   ◌≡◌,
   ◌≢◌,

@@ -1,3 +1,5 @@
+//! Lines, and streams that are slow, interrupted or failing.
+
 use super::*;
 use std::io::{self, Error, ErrorKind, Read, Write};
 use std::test::Fail;

@@ -1,3 +1,5 @@
+//! What a source and a sink are.
+
 ghost use Rattle.std.specs.Prelude.{◌≡◌, ◌≤◌, ◌<◌, ℕ, List, Option, None, take, length, IfOk, IfErr};
 ghost use Rattle.def_io.specs.Faults.{HasCause};
 ghost use Rattle.def_io.specs.Moves.{gave, took, IsEmptied};

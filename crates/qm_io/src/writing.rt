@@ -1,3 +1,5 @@
+//! Writing a piece whole.
+
 ghost use Rattle.std.specs.Prelude.{◌≡◌, ◌≤◌, ◌<◌, length, take, drop, IfOk, OnOk, OnErr};
 ghost use Rattle.def_io.specs.Faults.{HasCause};
 ghost use Rattle.def_io.specs.Moves.{took, TookFront};

@@ -1,3 +1,5 @@
+//! Small networks: sums of sides, deviations and tangle numbers.
+
 use crate::{admissible, are_lengths, deviation, is_within_bounds, tangle_of};
 use def_flow::{Arc, End, Net};
 use std::test::Fail;

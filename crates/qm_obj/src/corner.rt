@@ -1,3 +1,5 @@
+//! Indices, and the corners of faces.
+
 ghost use Rattle.std.specs.Prelude.{◌≡◌, ◌≤◌, ◌<◌, ◌+◌, ◌^◌, ◌-◌, ◌==◌, ◌&&◌, ◌||◌, nat_le, nat_lt, min, Some, None, if◌then◌else◌, length};
 ghost use Rattle.std.specs.List.{list_all};
 ghost use Rattle.def_text.specs.Corner.{index_of, is_corner, is_optional};

@@ -1,3 +1,5 @@
+//! Joining physical lines to logical ones.
+
 ghost use Rattle.std.specs.Prelude.{
   ◌≡◌,
   ◌≤◌,

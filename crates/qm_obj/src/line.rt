@@ -1,3 +1,5 @@
+//! What one logical line says.
+
 ghost use Rattle.std.specs.Prelude.{◌≡◌, ◌≤◌, ◌==◌, length, slice_set};
 ghost use Rattle.std.specs.List.{list_any};
 ghost use Rattle.def_text.specs.Reading.{face_reading, is_letter, is_position_count, reading, vertex_reading};

@@ -1,3 +1,5 @@
+//! From lines to a soup, or to the first refusal.
+
 ghost use Rattle.std.specs.Prelude.{◌≡◌, ◌≢◌, ◌≤◌, ◌<◌, ◌+◌, ◌^◌, Ok, Err, length, slice_range, IfOk, OnOk, IfErr};
 ghost use Rattle.def_text.specs.Text.{text_soup};
 ghost use Rattle.def_text.specs.declared.reading.Reading.TheVariants.{Refused};

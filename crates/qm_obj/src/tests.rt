@@ -1,3 +1,5 @@
+//! Texts with their soups or refusals, and the canonical text.
+
 use crate::{Index, Memory, logical, obj_text, read_index, read_obj, reads_back};
 use def_text::{ObjFail, Which};
 use qm_io::{Lines, MemSource, read_lines};

@@ -1,3 +1,5 @@
+//! The canonical text of a soup.
+
 ghost use Rattle.std.specs.Prelude.{◌≡◌, ◌++◌, OnOk, IfOk};
 ghost use Rattle.std.specs.List.{flat_map};
 ghost use Rattle.def_text.specs.Canonical.{canonical_text, face_text, micro_text, position_text};

@@ -1,3 +1,5 @@
+//! The vertices that some face names.
+
 ghost use Rattle.std.specs.Prelude.{
   ◌≡◌,
   ◌≤◌,

@@ -1,3 +1,5 @@
+//! The words of a line.
+
 ghost use Rattle.std.specs.Prelude.{◌≡◌, ◌<◌, ◌≤◌, false, length, slice_index};
 ghost use Rattle.std.specs.List.{position_or_len};
 ghost use Rattle.def_text.specs.Words.{is_blank, words};

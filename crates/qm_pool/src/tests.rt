@@ -1,3 +1,5 @@
+//! A pool filled up to its capacity.
+
 use crate::{Node, Pool};
 use std::test::Fail;
 

@@ -1,3 +1,5 @@
+//! Numbers in their texts.
+
 use super::*;
 use std::test::Fail;
 

@@ -1,3 +1,5 @@
+//! Numbers as words have them.
+
 use super::*;
 use std::test::Fail;
 

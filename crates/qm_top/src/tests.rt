@@ -1,3 +1,5 @@
+//! Runs over streams of any step, with a fault in each place, and the exit status.
+
 ghost use Rattle.std.specs.Prelude.{◌≤◌};
 
 use super::*;

@@ -1,3 +1,5 @@
+//! Keys that change, and the least of them.
+
 use crate::Tour;
 use std::test::Fail;
 
