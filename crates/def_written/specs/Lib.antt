@@ -5,3 +5,4 @@ pub mod Edges
 pub mod Shape
 pub mod Places
 pub mod Laws
+pub mod PlanLaws

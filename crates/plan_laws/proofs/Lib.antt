@@ -1,0 +1,4 @@
+pub mod ArcUses
+pub mod NodeEdges
+pub mod Lies
+pub mod PlanLies

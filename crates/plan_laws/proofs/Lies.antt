@@ -1,0 +1,426 @@
+-- The layout of a full cut lies in the mesh.
+use Rattle.std.proofs.Common.{◌≡◌, ◌≢◌, ◌⊎◌, ℕ, zero, suc, ◌+◌, ◌-◌, ◌<◌, Bool, true, false, not, List, length, get_or, Option, Some, None, refl, sym, ◌∙◌, ap, subst, inl, inr, arith}
+use Rattle.std.proofs.lemmas.Bool.{cases_eq, cases_lt, cases_order, false≢true}
+use Rattle.std.proofs.lemmas.Option.{none-some}
+use Rattle.def_mesh.specs.HalfEdges.{HalfEdges, IsQuadManifold}
+use Rattle.def_cut.specs.Cuts.{Cut, IsCut}
+use Rattle.def_cut.specs.Grids.{cell_of, patch_at, IsGrid, IsSide}
+use Rattle.def_cut.specs.Steps.{spin}
+use Rattle.def_layout.specs.declared.tmesh.SideArc.{SideArc}
+use Rattle.def_layout.specs.Layouts.{Way, south, east, north, west, after, Layout, Slot, IsSlot, use_of, start_of}
+use Rattle.def_layout.specs.Laid.{IsPaved, IsOther}
+use Rattle.def_layout.specs.Lengths.{reach, size, wide, high, AreLengths}
+use Rattle.def_layout.specs.Cells.{Dart, IsDart, dart, rim, rim_at}
+use Rattle.def_layout.specs.Sided.{IsSided}
+use Rattle.def_layout.specs.Arcs.{to, IsRun, LiesAt, arc_at, dart_at, long_at}
+use Rattle.def_layout.specs.Borders.{side_size, border_dart}
+use Rattle.def_layout.specs.Nodes.{AreNodes}
+use Rattle.def_layout.specs.Plans.{Plan, number, vertex_at, layout_of, IsLayout}
+use Rattle.qm_laws.proofs.Filters.{IsKept, kept_at, rises}
+use Rattle.layout_laws.proofs.Runs.{run_inner}
+use Rattle.layout_laws.proofs.Borders.{IsLine, line, on_side, line_from}
+use Rattle.written_laws.proofs.Sides.{slot, IsOn, place_on}
+use Rattle.plan_laws.proofs.ArcUses.{on_run, dart_low, same_use}
+
+-- The dart of the mesh for a dart of a cell.
+abbrev pub cell_dart : (m : HalfEdges) (plan : Plan) (d : Dart) → ℕ
+cell_dart m plan d = spin m (number d.way) (cell_of (patch_at plan.patches d.patch) d.i d.j)
+
+module _ (m : HalfEdges) (laws : IsQuadManifold m) (cut : Cut) (full : IsCut m cut) (node : ℕ → Bool) (nodes : AreNodes m cut node)
+    (face : ℕ → ℕ) (v_count : ℕ) (t : Plan) (lay : IsLayout m cut node face v_count t) where
+  abbrev l : Layout
+  l = layout_of t
+
+  abbrev x : ℕ → ℕ
+  x = long_at t.arcs
+
+  arc_run : (a : ℕ) → a < length t.arcs → IsRun m cut node (dart_at t.arcs a 0) (long_at t.arcs a)
+  arc_run a low = (lay.arcs.each a low).run
+
+  pub paved : IsPaved l
+  paved = record { sides_full = full_sides; arc_low = lay.uses; first_low = lay.first_low; last_low = lay.last_low }
+    where
+      some : (p : ℕ) (s : Way) → p < length t.patches → 0 < side_size (patch_at t.patches p) s
+      some p south low = (lay.patches.patch p low).grid.wide
+      some p east low = (lay.patches.patch p low).grid.tall
+      some p north low = (lay.patches.patch p low).grid.wide
+      some p west low = (lay.patches.patch p low).grid.tall
+
+      full_sides : (p : ℕ) (s : Way) → p < length t.patches → 0 < l.many p s
+      full_sides p s low = elim (cases_eq (l.many p s) 0) [
+        | inl e ↦ let none : size l x p s ≡ 0 = ap (reach l x p s) e in absurd (omega (arith, none, lay.sizes p s low, some p s low))
+        | inr ne ↦ omega arith
+      ]
+
+  pub lengths : AreLengths l x
+  lengths = record {
+    some = λ a low. (arc_run a low).some;
+    across = λ p low. lay.sizes p north low ∙ sym (lay.sizes p south low);
+    upright = λ p low. lay.sizes p east low ∙ sym (lay.sizes p west low);
+  }
+
+  grid : (p : ℕ) → p < length t.patches → IsGrid m cut (patch_at t.patches p).w (patch_at t.patches p).h (cell_of (patch_at t.patches p))
+  grid p low = (lay.patches.patch p low).grid
+
+  -- Sides of a face by number.
+  spin_low : (k c : ℕ) → c < m.count → spin m k c < m.count
+  spin_low zero c low = low
+  spin_low (suc k) c low = laws.next_low (spin m k c) (spin_low k c low)
+
+  spin_after : (w : Way) (c : ℕ) → spin m (number (after w)) c ≡ m.next (spin m (number w) c)
+  spin_after south c = refl
+  spin_after east c = refl
+  spin_after north c = refl
+  spin_after west c = sym (laws.four_sides c)
+
+  spin_way : (k c : ℕ) → (w : Way) × (spin m k c ≡ spin m (number w) c)
+  spin_way zero c = (south, refl)
+  spin_way (suc k) c =
+      let w : (w : Way) × (spin m k c ≡ spin m (number w) c) = spin_way k c in (after w.0, ap m.next w.1 ∙ sym (spin_after w.0 c))
+
+  one_on : (d : ℕ) → d < m.count → d ≢ m.next d
+  one_on d low e = (laws.corners_differ d low).0 (ap m.from e)
+
+  two_on : (d : ℕ) → d < m.count → d ≢ m.next (m.next d)
+  two_on d low e = (laws.corners_differ d low).1 (ap m.from e)
+
+  three_on : (d : ℕ) → d < m.count → d ≢ m.next (m.next (m.next d))
+  three_on d low e = one_on d low (sym (ap m.next e ∙ laws.four_sides d))
+
+  spin_once : (c : ℕ) (w v : Way) → c < m.count → spin m (number w) c ≡ spin m (number v) c → w ≡ v
+  spin_once c south south low e = refl
+  spin_once c south east low e = absurd (one_on c low e)
+  spin_once c south north low e = absurd (two_on c low e)
+  spin_once c south west low e = absurd (three_on c low e)
+  spin_once c east south low e = absurd (one_on c low (sym e))
+  spin_once c east east low e = refl
+  spin_once c east north low e = absurd (one_on (m.next c) (spin_low 1 c low) e)
+  spin_once c east west low e = absurd (two_on (m.next c) (spin_low 1 c low) e)
+  spin_once c north south low e = absurd (two_on c low (sym e))
+  spin_once c north east low e = absurd (one_on (m.next c) (spin_low 1 c low) (sym e))
+  spin_once c north north low e = refl
+  spin_once c north west low e = absurd (one_on (m.next (m.next c)) (spin_low 2 c low) e)
+  spin_once c west south low e = absurd (three_on c low (sym e))
+  spin_once c west east low e = absurd (two_on (m.next c) (spin_low 1 c low) (sym e))
+  spin_once c west north low e = absurd (one_on (m.next (m.next c)) (spin_low 2 c low) (sym e))
+  spin_once c west west low e = refl
+
+  prev_is : (c : ℕ) → m.next (m.next (m.next c)) ≡ m.prev c
+  prev_is c = ap (λ d. m.next (m.next (m.next d))) (sym (laws.next_prev c)) ∙ laws.four_sides (m.prev c)
+
+  cell_side : (d : Dart) → IsDart l x d → IsSide m (patch_at t.patches d.patch) d.i d.j (number d.way) (cell_dart m t d)
+  cell_side d is = record {
+    i_low = omega (arith, is.i_low, lay.sizes d.patch south is.patch_low);
+    j_low = omega (arith, is.j_low, lay.sizes d.patch west is.patch_low);
+    is = refl;
+  }
+
+  corner_low : (d : Dart) → IsDart l x d → cell_of (patch_at t.patches d.patch) d.i d.j < m.count
+  corner_low d is = (grid d.patch is.patch_low).low d.i d.j (cell_side d is).i_low (cell_side d is).j_low
+
+  same : (d e : Dart) → IsDart l x d → IsDart l x e → cell_dart m t d ≡ cell_dart m t e → d ≡ e
+  same d e is_d is_e equal =
+      let s : (d.patch ≡ e.patch) × (d.i ≡ e.i) × (d.j ≡ e.j) =
+      lay.patches.once (cell_dart m t d) d.patch d.i d.j (number d.way) e.patch e.i e.j (number e.way) is_d.patch_low is_e.patch_low
+      (cell_side d is_d) (subst (λ (k : ℕ). IsSide m (patch_at t.patches e.patch) e.i e.j (number e.way) k) (sym equal) (cell_side e is_e)) in
+      let ways : d.way ≡ e.way =
+      spin_once (cell_of (patch_at t.patches e.patch) e.i e.j) d.way e.way (corner_low e is_e)
+      ((λ r. spin m (number d.way) (cell_of (patch_at t.patches (sym s.0 r)) (sym s.1 r) (sym s.2 r))) ∙ equal) in
+      λ r. dart (s.0 r) (s.1 r) (s.2 r) (ways r)
+
+  onto : (k : ℕ) → k < m.count → (d : Dart) × IsDart l x d × (cell_dart m t d ≡ k)
+  onto k low = by_cover (lay.patches.covers k low)
+    where
+      by_cover : (p : ℕ) × (i : ℕ) × (j : ℕ) × (q : ℕ) × (p < length t.patches) × IsSide m (patch_at t.patches p) i j q k → (d : Dart) × IsDart l x d × (cell_dart m t d ≡ k)
+      by_cover c =
+          let w : (w : Way) × (spin m c.3 (cell_of (patch_at t.patches c.0) c.1 c.2) ≡ spin m (number w) (cell_of (patch_at t.patches c.0) c.1 c.2)) =
+          spin_way c.3 (cell_of (patch_at t.patches c.0) c.1 c.2) in (
+            dart c.0 c.1 c.2 w.0,
+            record { patch_low = c.4; i_low = omega (arith, c.5.i_low, lay.sizes c.0 south c.4); j_low = omega (arith, c.5.j_low, lay.sizes c.0 west c.4) },
+            sym w.1 ∙ sym c.5.is,
+          )
+
+  -- Nodes have vertices of their own.
+  pub node_kept : (n : ℕ) → n < length t.nodes → IsKept node 0 v_count (vertex_at t n)
+  node_kept n low =
+      subst (λ (xs : List ℕ). IsKept node 0 v_count (get_or xs n 0)) (sym lay.nodes)
+      (kept_at node 0 v_count n (subst (λ (xs : List ℕ). n < length xs) lay.nodes low))
+
+  vertices_rise : (i j : ℕ) → i < j → j < length t.nodes → vertex_at t i < vertex_at t j
+  vertices_rise i j less low =
+      subst (λ (xs : List ℕ). get_or xs i 0 < get_or xs j 0) (sym lay.nodes)
+      (rises node 0 v_count i j less (subst (λ (xs : List ℕ). j < length xs) lay.nodes low))
+
+  vertex_same : (i j : ℕ) → i < length t.nodes → j < length t.nodes → vertex_at t i ≡ vertex_at t j → i ≡ j
+  vertex_same i j i_low j_low e = elim (cases_order i j) [
+    | inl s ↦ s
+    | inr o ↦ elim o [
+      | inl less ↦ absurd (omega (arith, e, vertices_rise i j less j_low))
+      | inr more ↦ absurd (omega (arith, e, vertices_rise j i more i_low))
+    ]
+  ]
+
+  -- Border darts by side and place.
+  rim_dart : (p : ℕ) (s : Way) (k : ℕ) → p < length t.patches → cell_dart m t (rim l x p s k) ≡ border_dart m (patch_at t.patches p) s k
+  rim_dart p south k low = refl
+  rim_dart p east k low = ap (λ w. m.next (cell_of (patch_at t.patches p) (w - 1) k)) (lay.sizes p south low)
+  rim_dart p north k low =
+      λ r. m.next (m.next (cell_of (patch_at t.patches p) (lay.sizes p south low r - 1 - k) (lay.sizes p west low r - 1)))
+  rim_dart p west k low =
+      ap (λ h. m.next (m.next (m.next (cell_of (patch_at t.patches p) 0 (h - 1 - k))))) (lay.sizes p west low)
+      ∙ prev_is (cell_of (patch_at t.patches p) 0 ((patch_at t.patches p).h - 1 - k))
+
+  -- A dart of the cut lies at a slot.
+  pub record StandsAt (d : ℕ) (w : Slot) (o : ℕ) : Type 0 where
+    pub is_slot : IsSlot l w
+    pub low : o < x (use_of l w).arc
+    pub lies : LiesAt m (arc_at t.arcs (use_of l w).arc).darts (use_of l w).forward o d
+
+  border_stands : (p : ℕ) (s : Way) (k d : ℕ) → p < length t.patches → k < side_size (patch_at t.patches p) s
+      → border_dart m (patch_at t.patches p) s k ≡ d → (w : Slot) × (o : ℕ) × StandsAt d w o
+  border_stands p s k d low less is =
+      let on : IsOn l x p s k _ _ = place_on l x p s k low (omega (arith, lay.sizes p s low)) in (
+        slot p s _,
+        _,
+        record {
+          is_slot = on.is_slot;
+          low = on.inside;
+          lies = subst (LiesAt m _ _ _) (ap (border_dart m (patch_at t.patches p) s) (sym on.place) ∙ is) (lay.used (slot p s _) _ on.is_slot on.inside);
+        },
+      )
+
+  pub stands : (d : ℕ) → d < m.count → cut d ≡ true → (w : Slot) × (o : ℕ) × StandsAt d w o
+  stands d low on = by_cover (lay.patches.covers d low)
+    where
+      by_cover : (p : ℕ) × (i : ℕ) × (j : ℕ) × (q : ℕ) × (p < length t.patches) × IsSide m (patch_at t.patches p) i j q d → (w : Slot) × (o : ℕ) × StandsAt d w o
+      by_cover c = by_side (on_side m laws cut full (patch_at t.patches c.0) (grid c.0 c.4) c.3 c.1 c.2 d c.5.i_low c.5.j_low c.5.is on)
+        where
+          by_side : (s : Way) × (k : ℕ) × (k < side_size (patch_at t.patches c.0) s) × (border_dart m (patch_at t.patches c.0) s k ≡ d) → (w : Slot) × (o : ℕ) × StandsAt d w o
+          by_side s = border_stands c.0 s.0 s.1 d c.4 s.2 s.3
+
+  -- What lies on an arc has one slot's use.
+  one_use : (a : ℕ) (f : Bool) (k d : ℕ) (w : Slot) (o : ℕ) → a < length t.arcs → k < long_at t.arcs a → LiesAt m (arc_at t.arcs a).darts f k d → StandsAt d w o
+      → ((use_of l w).arc ≡ a) × ((use_of l w).forward ≡ f) × (o ≡ k)
+  one_use a f k d w o a_low k_low at s =
+      same_use m laws cut full node nodes t.arcs lay.arcs (use_of l w).arc a (use_of l w).forward f o k d (lay.uses w s.is_slot) a_low s.low k_low s.lies at
+
+  arc_dart_low : (a k : ℕ) → a < length t.arcs → k < long_at t.arcs a → dart_at t.arcs a k < m.count
+  arc_dart_low a k low less = dart_low m laws cut full node nodes t.arcs lay.arcs a k low less
+
+  arc_on : (a k : ℕ) → a < length t.arcs → k < long_at t.arcs a → cut (dart_at t.arcs a k) ≡ true
+  arc_on a k low less = ap cut (on_run m laws cut full node nodes t.arcs lay.arcs a k low less) ∙ (arc_run a low).on k less
+
+  forward : (a : ℕ) → a < l.arcs → (w : Slot) × IsSlot l w × (use_of l w ≡ record { arc = a; forward = true })
+  forward a low = by_stand (stands (dart_at t.arcs a 0) (arc_dart_low a 0 low (arc_run a low).some) (arc_on a 0 low (arc_run a low).some))
+    where
+      by_stand : (w : Slot) × (o : ℕ) × StandsAt (dart_at t.arcs a 0) w o → (w : Slot) × IsSlot l w × (use_of l w ≡ record { arc = a; forward = true })
+      by_stand s =
+          let u : ((use_of l s.0).arc ≡ a) × ((use_of l s.0).forward ≡ true) × (s.1 ≡ 0) =
+          one_use a true 0 (dart_at t.arcs a 0) s.0 s.1 low (arc_run a low).some refl s.2 in
+          (s.0, s.2.is_slot, λ r. record { arc = u.0 r; forward = u.1 r })
+
+  -- The twin of a dart of an arc lies on the arc the other way round.
+  twin_lies : (a k u : ℕ) → k < long_at t.arcs a → m.twin (dart_at t.arcs a k) ≡ Some u → LiesAt m (arc_at t.arcs a).darts false (long_at t.arcs a - 1 - k) u
+  twin_lies a k u less twin =
+      let e : long_at t.arcs a - 1 - (long_at t.arcs a - 1 - k) ≡ k = omega arith in ap (λ i. m.twin (dart_at t.arcs a i)) e ∙ twin
+
+  twin_on : (d u : ℕ) → d < m.count → m.twin d ≡ Some u → cut d ≡ true → (u < m.count) × (cut u ≡ true)
+  twin_on d u low twin on = (laws.twin_low d u low twin, full.alike d u low twin ∙ on)
+
+  -- An arc has a slot the other way round where its first dart has a twin.
+  other : (w : Slot) → IsSlot l w → ((v : Slot) × IsOther l w v) ⊎ ((v : Slot) → ¬ IsOther l w v)
+  other w is = by_twin (m.twin (dart_at t.arcs (use_of l w).arc 0)) refl
+    where
+      a_low : (use_of l w).arc < length t.arcs
+      a_low = lay.uses w is
+
+      some : 0 < long_at t.arcs (use_of l w).arc
+      some = (arc_run (use_of l w).arc a_low).some
+
+      ahead : (v : Slot) × IsSlot l v × (use_of l v ≡ record { arc = (use_of l w).arc; forward = true })
+      ahead = forward (use_of l w).arc a_low
+
+      by_way : (f : Bool) → (use_of l w).forward ≡ f → (u : ℕ) → m.twin (dart_at t.arcs (use_of l w).arc 0) ≡ Some u → (v : Slot) × IsOther l w v
+      by_way false e u twin = (
+        ahead.0,
+        (
+          ahead.1,
+          record {
+            arc = ap (λ (z : SideArc). z.arc) ahead.2;
+            turned = ap (λ (z : SideArc). z.forward) ahead.2 ∙ ap not (sym e);
+          },
+        ),
+      )
+      by_way true e u twin =
+          let on : (u < m.count) × (cut u ≡ true) =
+          twin_on (dart_at t.arcs (use_of l w).arc 0) u (arc_dart_low (use_of l w).arc 0 a_low some) twin (arc_on (use_of l w).arc 0 a_low some) in
+          let s : (v : Slot) × (o : ℕ) × StandsAt u v o = stands u on.0 on.1 in
+          let one : ((use_of l s.0).arc ≡ (use_of l w).arc) × ((use_of l s.0).forward ≡ false) × (s.1 ≡ long_at t.arcs (use_of l w).arc - 1 - 0) =
+          one_use (use_of l w).arc false (long_at t.arcs (use_of l w).arc - 1 - 0) u s.0 s.1 a_low (omega (arith, some)) (twin_lies (use_of l w).arc 0 u some twin) s.2 in
+          (s.0, (s.2.is_slot, record { arc = one.0; turned = one.1 ∙ ap not (sym e) }))
+
+      -- The last border dart of a slot's arc.
+      last_dart : (v : Slot) → ℕ
+      last_dart v = border_dart m (patch_at t.patches v.patch) v.side (reach l x v.patch v.side v.at + (long_at t.arcs (use_of l v).arc - 1))
+
+      -- A slot against the arc's direction makes the first dart have a twin.
+      backward : (v : Slot) → IsSlot l v → (use_of l v).arc ≡ (use_of l w).arc → (use_of l v).forward ≡ false
+          → m.twin (dart_at t.arcs (use_of l w).arc 0) ≡ None → ⊥
+      backward v is_v arc way none =
+          let low : long_at t.arcs (use_of l v).arc - 1 < long_at t.arcs (use_of l v).arc = omega (arith, (arc_run (use_of l v).arc (lay.uses v is_v)).some) in
+          let at : LiesAt m (arc_at t.arcs (use_of l v).arc).darts (use_of l v).forward (long_at t.arcs (use_of l v).arc - 1) (last_dart v) =
+          lay.used v (long_at t.arcs (use_of l v).arc - 1) is_v low in
+          let back : LiesAt m (arc_at t.arcs (use_of l w).arc).darts false (long_at t.arcs (use_of l w).arc - 1) (last_dart v) =
+          subst (λ (z : SideArc). LiesAt m (arc_at t.arcs z.arc).darts z.forward (long_at t.arcs z.arc - 1) (last_dart v))
+          (λ r. record { arc = arc r; forward = way r }) at in
+          let zero_is : long_at t.arcs (use_of l w).arc - 1 - (long_at t.arcs (use_of l w).arc - 1) ≡ 0 = omega arith in
+          none-some (last_dart v) (sym none ∙ ap (λ i. m.twin (dart_at t.arcs (use_of l w).arc i)) (sym zero_is) ∙ back)
+
+      by_twin : (o : Option ℕ) → m.twin (dart_at t.arcs (use_of l w).arc 0) ≡ o → ((v : Slot) × IsOther l w v) ⊎ ((v : Slot) → ¬ IsOther l w v)
+      by_twin (Some u) twin = inl (by_way (use_of l w).forward refl u twin)
+      by_twin None none = inr (λ v o. by_ways (use_of l w).forward refl v o)
+        where
+          by_ways : (f : Bool) → (use_of l w).forward ≡ f → (v : Slot) → IsOther l w v → ⊥
+          by_ways false e v o = backward w is refl e none
+          by_ways true e v o = backward v o.0 o.1.arc (o.1.turned ∙ ap not e) none
+
+  alone : (a k : ℕ) → a < l.arcs → k < x a → ((w : Slot) → IsSlot l w → (use_of l w).arc ≡ a → (use_of l w).forward ≡ true)
+      → m.twin (dart_at t.arcs a k) ≡ None
+  alone a k low less all = by_twin (m.twin (dart_at t.arcs a k)) refl
+    where
+      by_twin : (o : Option ℕ) → m.twin (dart_at t.arcs a k) ≡ o → m.twin (dart_at t.arcs a k) ≡ None
+      by_twin None e = e
+      by_twin (Some u) e =
+          let on : (u < m.count) × (cut u ≡ true) = twin_on (dart_at t.arcs a k) u (arc_dart_low a k low less) e (arc_on a k low less) in
+          let s : (v : Slot) × (o : ℕ) × StandsAt u v o = stands u on.0 on.1 in
+          let one : ((use_of l s.0).arc ≡ a) × ((use_of l s.0).forward ≡ false) × (s.1 ≡ long_at t.arcs a - 1 - k) =
+          one_use a false (long_at t.arcs a - 1 - k) u s.0 s.1 low (omega arith) (twin_lies a k u less e) s.2 in
+          absurd (false≢true (sym one.1 ∙ all s.0 s.2.is_slot one.0))
+
+  ahead_is : (w : Slot) (k : ℕ) → IsSlot l w → k < x (use_of l w).arc → (use_of l w).forward ≡ true
+      → cell_dart m t (rim_at l x w k) ≡ dart_at t.arcs (use_of l w).arc k
+  ahead_is w k is less e =
+      rim_dart w.patch w.side (reach l x w.patch w.side w.at + k) is.patch_low
+      ∙ subst (λ (f : Bool). LiesAt m (arc_at t.arcs (use_of l w).arc).darts f k (border_dart m (patch_at t.patches w.patch) w.side (reach l x w.patch w.side w.at + k))) e
+      (lay.used w k is less)
+
+  behind_is : (w : Slot) (k : ℕ) → IsSlot l w → k < x (use_of l w).arc → (use_of l w).forward ≡ false
+      → m.twin (dart_at t.arcs (use_of l w).arc (x (use_of l w).arc - 1 - k)) ≡ Some (cell_dart m t (rim_at l x w k))
+  behind_is w k is less e =
+      subst (λ (f : Bool). LiesAt m (arc_at t.arcs (use_of l w).arc).darts f k (border_dart m (patch_at t.patches w.patch) w.side (reach l x w.patch w.side w.at + k))) e
+      (lay.used w k is less)
+      ∙ ap Some (sym (rim_dart w.patch w.side (reach l x w.patch w.side w.at + k) is.patch_low))
+
+  first_vertex : (a : ℕ) → a < l.arcs → m.from (dart_at t.arcs a 0) ≡ vertex_at t (l.first a)
+  first_vertex a low = sym (lay.first_at a low)
+
+  last_vertex : (a : ℕ) → a < l.arcs → m.from (m.next (dart_at t.arcs a (x a - 1))) ≡ vertex_at t (l.last a)
+  last_vertex a low = sym (lay.last_at a (x a - 1) low (omega (arith, (arc_run a low).some)))
+
+  -- A dart of the cut that leaves a node begins a slot's arc there.
+  node_starts : (n d : ℕ) → n < l.nodes → d < m.count → cut d ≡ true → m.from d ≡ vertex_at t n → (w : Slot) × IsSlot l w × (start_of l (use_of l w) ≡ n)
+  node_starts n d n_low d_low on leaves = by_stand (stands d d_low on)
+    where
+      is_node_here : node (m.from d) ≡ true
+      is_node_here = ap node leaves ∙ (node_kept n n_low).passes
+
+      -- Past its beginning an arc meets no node.
+      place : (a : ℕ) (f : Bool) (o : ℕ) → a < length t.arcs → o < long_at t.arcs a → LiesAt m (arc_at t.arcs a).darts f o d → o ≡ 0
+      place a f zero a_low o_low at = refl
+      place a true (suc o) a_low o_low at =
+          absurd (false≢true (sym (run_inner m laws cut full node nodes (dart_at t.arcs a 0) (long_at t.arcs a) (arc_run a a_low) o o_low)
+          ∙ ap (λ k. node (m.from k)) (sym (at ∙ on_run m laws cut full node nodes t.arcs lay.arcs a (suc o) a_low o_low)) ∙ is_node_here))
+      place a false (suc o) a_low o_low at =
+          let k_low : long_at t.arcs a - 1 - suc o < long_at t.arcs a = omega arith in
+          let ends : m.from d ≡ m.from (m.next (dart_at t.arcs a (long_at t.arcs a - 1 - suc o))) =
+          (laws.twin_ends (dart_at t.arcs a (long_at t.arcs a - 1 - suc o)) d (arc_dart_low a (long_at t.arcs a - 1 - suc o) a_low k_low) at).0 in
+          absurd (false≢true (sym ((arc_run a a_low).inside (long_at t.arcs a - 1 - suc o) (omega arith))
+          ∙ ap (λ k. node (m.from (m.next k))) (sym (on_run m laws cut full node nodes t.arcs lay.arcs a (long_at t.arcs a - 1 - suc o) a_low k_low))
+          ∙ ap node (sym ends) ∙ is_node_here))
+
+      starts : (a : ℕ) (f : Bool) → a < length t.arcs → LiesAt m (arc_at t.arcs a).darts f 0 d → start_of l (record { arc = a; forward = f }) ≡ n
+      starts a true a_low at =
+          vertex_same (l.first a) n (lay.first_low a a_low) n_low (lay.first_at a a_low ∙ ap m.from (sym at) ∙ leaves)
+      starts a false a_low at =
+          let z : long_at t.arcs a - 1 - 0 ≡ long_at t.arcs a - 1 = omega arith in
+          let some : 0 < long_at t.arcs a = (arc_run a a_low).some in
+          let ends : m.from d ≡ m.from (m.next (dart_at t.arcs a (long_at t.arcs a - 1))) =
+          (laws.twin_ends (dart_at t.arcs a (long_at t.arcs a - 1)) d (arc_dart_low a (long_at t.arcs a - 1) a_low (omega (arith, some)))
+          (ap (λ i. m.twin (dart_at t.arcs a i)) (sym z) ∙ at)).0 in
+          vertex_same (l.last a) n (lay.last_low a a_low) n_low (sym (last_vertex a a_low) ∙ sym ends ∙ leaves)
+
+      by_stand : (w : Slot) × (o : ℕ) × StandsAt d w o → (w : Slot) × IsSlot l w × (start_of l (use_of l w) ≡ n)
+      by_stand s =
+          let z : s.1 ≡ 0 = place (use_of l s.0).arc (use_of l s.0).forward s.1 (lay.uses s.0 s.2.is_slot) s.2.low s.2.lies in (
+            s.0,
+            s.2.is_slot,
+            starts (use_of l s.0).arc (use_of l s.0).forward (lay.uses s.0 s.2.is_slot)
+                (subst (λ (o : ℕ). LiesAt m (arc_at t.arcs (use_of l s.0).arc).darts (use_of l s.0).forward o d) z s.2.lies),
+          )
+
+  -- After a dart of the cut comes one that leaves its end.
+  pub goes_on : (d : ℕ) → d < m.count → cut d ≡ true → (e : ℕ) × (e < m.count) × (cut e ≡ true) × (m.from e ≡ to m d)
+  goes_on d low on = by_cover (lay.patches.covers d low)
+    where
+      by_cover : (p : ℕ) × (i : ℕ) × (j : ℕ) × (q : ℕ) × (p < length t.patches) × IsSide m (patch_at t.patches p) i j q d → (e : ℕ) × (e < m.count) × (cut e ≡ true) × (m.from e ≡ to m d)
+      by_cover c = by_side (on_side m laws cut full (patch_at t.patches c.0) (grid c.0 c.4) c.3 c.1 c.2 d c.5.i_low c.5.j_low c.5.is on)
+        where
+          by_line : (s : Way) (k : ℕ) → k < side_size (patch_at t.patches c.0) s → border_dart m (patch_at t.patches c.0) s k ≡ d
+              → IsLine m cut (border_dart m (patch_at t.patches c.0) s) (side_size (patch_at t.patches c.0) s) → (e : ℕ) × (e < m.count) × (cut e ≡ true) × (m.from e ≡ to m d)
+          by_line s k less is b = elim (cases_lt (suc k) (side_size (patch_at t.patches c.0) s)) [
+            | inl more ↦ (
+              border_dart m (patch_at t.patches c.0) s (suc k),
+              b.low (suc k) more,
+              b.on (suc k) more,
+              line_from m laws cut full node nodes (border_dart m (patch_at t.patches c.0) s) (side_size (patch_at t.patches c.0) s) b k more ∙ ap (to m) is,
+            )
+            | inr last ↦ (m.next d, laws.next_low d low, ap (λ z. cut (m.next z)) (sym is) ∙ b.last k (omega arith), refl)
+          ]
+
+          by_side : (s : Way) × (k : ℕ) × (k < side_size (patch_at t.patches c.0) s) × (border_dart m (patch_at t.patches c.0) s k ≡ d) → (e : ℕ) × (e < m.count) × (cut e ≡ true) × (m.from e ≡ to m d)
+          by_side s = by_line s.0 s.1 s.2 s.3 (line m laws cut full (patch_at t.patches c.0) (grid c.0 c.4) s.0)
+
+  -- All that a layout needs of its mesh, where an edge of the cut ends at each node.
+  pub sided : ((n : ℕ) → n < l.nodes → (e : ℕ) × (e < m.count) × (cut e ≡ true) × ((m.from e ≡ vertex_at t n) ⊎ (to m e ≡ vertex_at t n)))
+      → IsSided m l x (cell_dart m t) (vertex_at t) (dart_at t.arcs)
+  sided met = record {
+    low = λ d is. spin_low (number d.way) (cell_of (patch_at t.patches d.patch) d.i d.j) (corner_low d is);
+    same = same;
+    onto = onto;
+    vertex_same = vertex_same;
+    turned = λ d. spin_after d.way (cell_of (patch_at t.patches d.patch) d.i d.j);
+    east_of = east_of;
+    north_of = north_of;
+    forward = forward;
+    other = other;
+    reached = reached;
+    arc_low = arc_dart_low;
+    ahead = ahead_is;
+    behind = behind_is;
+    alone = alone;
+    first_at = first_vertex;
+    last_at = last_vertex;
+  }
+    where
+      east_of : (p i j : ℕ) → p < l.patches → i + 1 < wide l x p → j < high l x p
+          → m.twin (cell_dart m t (dart p i j east)) ≡ Some (cell_dart m t (dart p (i + 1) j west))
+      east_of p i j low i_low j_low =
+          let one : suc i ≡ i + 1 = omega arith in
+          (grid p low).east i j (omega (arith, lay.sizes p south low)) (omega (arith, lay.sizes p west low))
+          ∙ ap Some (ap (λ k. m.prev (cell_of (patch_at t.patches p) k j)) one ∙ sym (prev_is (cell_of (patch_at t.patches p) (i + 1) j)))
+
+      north_of : (p i j : ℕ) → p < l.patches → i < wide l x p → j + 1 < high l x p
+          → m.twin (cell_dart m t (dart p i j north)) ≡ Some (cell_dart m t (dart p i (j + 1) south))
+      north_of p i j low i_low j_low =
+          let one : suc j ≡ j + 1 = omega arith in
+          (grid p low).north i j (omega (arith, lay.sizes p south low)) (omega (arith, lay.sizes p west low))
+          ∙ ap (λ k. Some (cell_of (patch_at t.patches p) i k)) one
+
+      reached : (n : ℕ) → n < l.nodes → (w : Slot) × IsSlot l w × (start_of l (use_of l w) ≡ n)
+      reached n low = by_end (met n low).0 (met n low).1 (met n low).2 (met n low).3
+        where
+          by_end : (e : ℕ) → e < m.count → cut e ≡ true → (m.from e ≡ vertex_at t n) ⊎ (to m e ≡ vertex_at t n) → (w : Slot) × IsSlot l w × (start_of l (use_of l w) ≡ n)
+          by_end e e_low on (inl leaves) = node_starts n e low e_low on leaves
+          by_end e e_low on (inr arrives) =
+              let f : (f : ℕ) × (f < m.count) × (cut f ≡ true) × (m.from f ≡ to m e) = goes_on e e_low on in
+              node_starts n f.0 low f.1 f.2 (f.3 ∙ arrives)

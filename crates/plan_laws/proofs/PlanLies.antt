@@ -1,0 +1,60 @@
+-- The layout of a mesh and a full cut lies in the mesh.
+use Rattle.std.proofs.Common.{◌≡◌, ℕ, ◌<◌, Bool, true, List, length, arith}
+use Rattle.def_mesh.specs.Faces.{Faces}
+use Rattle.def_mesh.specs.Darts.{darts, from_of}
+use Rattle.def_mesh.specs.Vertices.{vertex_count}
+use Rattle.def_mesh.specs.Meshes.{IsMesh}
+use Rattle.def_mesh.specs.HalfEdges.{IsQuadManifold, half_edges}
+use Rattle.def_cut.specs.Cuts.{IsCut}
+use Rattle.def_cut.specs.FullCut.{IsFullCut, is_on}
+use Rattle.def_cut.specs.Steps.{face_of}
+use Rattle.def_layout.specs.Arcs.{dart_at, long_at}
+use Rattle.def_layout.specs.Nodes.{is_node, AreNodes}
+use Rattle.def_layout.specs.Plans.{Plan, IsLayout, layout_of, vertex_at}
+use Rattle.def_written.specs.Laws.{AreQuads, LiesIn}
+use Rattle.def_written.specs.PlanLaws.{PlanLaw}
+use Rattle.qm_laws.proofs.Filters.{IsKept}
+use Rattle.mesh_laws.proofs.HalfEdges.{manifold_law}
+use Rattle.face_laws.proofs.FullCuts.{full_cut_law}
+use Rattle.layout_laws.proofs.FaceNodes.{are_nodes}
+use Rattle.written_laws.proofs.Models.{used_dart}
+use Rattle.plan_laws.proofs.NodeEdges.{IsMet, node_met}
+use Rattle.plan_laws.proofs.Lies.{cell_dart, paved, lengths, node_kept, sided}
+
+module _ (faces : Faces) (marks : List Bool) (plan : Plan) (mesh : IsMesh faces) (quads : AreQuads faces) (full : IsFullCut faces marks)
+    (lay : IsLayout (half_edges faces) (is_on marks) (is_node faces marks) face_of (vertex_count faces) plan) where
+  laws : IsQuadManifold (half_edges faces)
+  laws = manifold_law faces mesh.manifold
+
+  cut : IsCut (half_edges faces) (is_on marks)
+  cut = ((full_cut_law faces marks mesh.manifold).0 full).1
+
+  nodes : AreNodes (half_edges faces) (is_on marks) (is_node faces marks)
+  nodes = are_nodes faces laws marks cut
+
+  met : (n : ℕ) → n < length plan.nodes → IsMet faces marks full (vertex_at plan n)
+  met n low = by_kept (node_kept (half_edges faces) laws (is_on marks) cut (is_node faces marks) nodes face_of (vertex_count faces) plan lay n low)
+    where
+      by_dart : is_node faces marks (vertex_at plan n) ≡ true
+          → (d : ℕ) × (d < darts faces) × (from_of faces d ≡ vertex_at plan n) → IsMet faces marks full (vertex_at plan n)
+      by_dart is d = node_met faces marks full (vertex_at plan n) d.0 d.1 d.2 is
+
+      by_kept : IsKept (is_node faces marks) 0 (vertex_count faces) (vertex_at plan n) → IsMet faces marks full (vertex_at plan n)
+      by_kept kept =
+          let below : vertex_at plan n < vertex_count faces = omega (arith, kept.high) in
+          by_dart kept.passes (used_dart faces (vertex_at plan n) quads (mesh.used (vertex_at plan n) below))
+
+  lies : LiesIn faces (layout_of plan) (long_at plan.arcs) (vertex_at plan)
+  lies = record {
+    manifold = mesh.manifold;
+    quads = quads;
+    used = mesh.used;
+    paved = paved (half_edges faces) laws (is_on marks) cut (is_node faces marks) nodes face_of (vertex_count faces) plan lay;
+    lengths = lengths (half_edges faces) laws (is_on marks) cut (is_node faces marks) nodes face_of (vertex_count faces) plan lay;
+    cell = cell_dart (half_edges faces) plan;
+    arc_dart = dart_at plan.arcs;
+    sided = sided (half_edges faces) laws (is_on marks) cut (is_node faces marks) nodes face_of (vertex_count faces) plan lay met;
+  }
+
+pub plan_law : PlanLaw
+plan_law faces marks plan mesh quads full lay = lies faces marks plan mesh quads full lay
