@@ -1,5 +1,5 @@
 -- What the steps do to a forest.
-use Rattle.std.specs.Prelude.{◌≡◌, ◌≢◌, ℤ, pos, ◌+ℤ◌, ◌-ℤ◌, Option, None}
+use Rattle.std.specs.Prelude.{◌≡◌, ◌≢◌, ℤ, pos, ◌+ℤ◌, ◌-ℤ◌, Option, None, Some}
 use Rattle.def_forest.specs.Darts.{Dart, Darts, far}
 use Rattle.def_forest.specs.Forests.{Blossom, Forest, set_at}
 use Rattle.def_forest.specs.declared.kinds.Label.{Label}
@@ -25,6 +25,10 @@ grown g f d m = record f {
   label = set_at (set_at f.label (f.out (far g d)) Inner) (f.out (far g m)) Outer;
   link = set_at f.link (f.out (far g d)) (g.twin d);
 }
+
+-- The tree has grown along dart d.
+abbrev pub IsGrown : (g : Darts) (f new : Forest) (d : Dart) → Type 0
+IsGrown g f new d = (m : Dart) × (f.mate (f.out (far g d)) ≡ Some m) × (new ≡ grown g f d m)
 
 -- Nothing but the mates is changed, and no tree stands.
 abbrev pub with_mates : (f : Forest) (mates : Blossom → Option Dart) → Forest

@@ -1,5 +1,6 @@
 pub mod Bounds
 pub mod Climbs
+pub mod ExpandedTrees
 pub mod Expands
 pub mod Facts
 pub mod Graphs
@@ -9,5 +10,6 @@ pub mod Odds
 pub mod Rises
 pub mod Shifts
 pub mod Shrinks
+pub mod ShrunkTrees
 pub mod WayLaws
 pub mod Writes

@@ -25,10 +25,10 @@ ring_sum_same f h p q a b (suc n) walks terms =
 module _ (g : Darts) (are : AreDarts g) (f : Forest) (r : ℕ) (valid : IsValid g f (Some r)) (tree : IsTree g f r) (new : Forest) (inside : ℕ → Bool) (top b front many : ℕ)
     (cycle : IsCycle g f r tree.depth inside top) (unused : IsUnused g.n f b) (row : IsClosedRow g f new.nest.after new.nest.joint inside front many) (is : IsShrunk g.n f new inside top b front many) where
   -- Each blossom is the new one, on the cycle, or neither.
-  abbrev Place : ℕ → Type 0
+  abbrev pub Place : ℕ → Type 0
   Place x = (x ≡ b) ⊎ (((x ≢ b) × (inside x ≡ true)) ⊎ ((x ≢ b) × (inside x ≡ false)))
 
-  place : (x : ℕ) → Place x
+  pub place : (x : ℕ) → Place x
   place x = elim (cases_eq x b) [ inl e ↦ inl e | inr ne ↦ elim (cases_Bool (inside x)) [ inl on ↦ inr (inl (ne, on)) | inr off ↦ inr (inr (ne, off)) ] ]
 
   marked_old : (x : ℕ) → inside x ≡ true → x ≢ b
@@ -38,28 +38,28 @@ module _ (g : Darts) (are : AreDarts g) (f : Forest) (r : ℕ) (valid : IsValid 
   b_unmarked = elim (cases_Bool (inside b)) [ inl on ↦ absurd (marked_old b on refl) | inr off ↦ off ]
 
   -- The outermost blossoms of vertices.
-  out_on : (v : ℕ) → v < g.n → inside (f.out v) ≡ true → new.out v ≡ b
+  pub out_on : (v : ℕ) → v < g.n → inside (f.out v) ≡ true → new.out v ≡ b
   out_on v low on = is.out v low ∙ cond-true (inside (f.out v)) b (f.out v) on
 
-  out_off : (v : ℕ) → v < g.n → inside (f.out v) ≡ false → new.out v ≡ f.out v
+  pub out_off : (v : ℕ) → v < g.n → inside (f.out v) ≡ false → new.out v ≡ f.out v
   out_off v low off = is.out v low ∙ cond-false (inside (f.out v)) b (f.out v) off
 
-  label_b : new.label b ≡ Outer
+  pub label_b : new.label b ≡ Outer
   label_b = is.label b ∙ set_here (λ y. cond (inside y) Outside (f.label y)) b Outer
 
-  label_on : (x : ℕ) → inside x ≡ true → new.label x ≡ Outside
+  pub label_on : (x : ℕ) → inside x ≡ true → new.label x ≡ Outside
   label_on x on = is.label x ∙ (set_there (λ y. cond (inside y) Outside (f.label y)) b x Outer (marked_old x on) ∙ cond-true (inside x) Outside (f.label x) on)
 
-  label_off : (x : ℕ) → x ≢ b → inside x ≡ false → new.label x ≡ f.label x
+  pub label_off : (x : ℕ) → x ≢ b → inside x ≡ false → new.label x ≡ f.label x
   label_off x ne off = is.label x ∙ (set_there (λ y. cond (inside y) Outside (f.label y)) b x Outer ne ∙ cond-false (inside x) Outside (f.label x) off)
 
-  mate_b : new.mate b ≡ f.mate top
+  pub mate_b : new.mate b ≡ f.mate top
   mate_b = is.mate b ∙ set_here (λ y. cond (inside y) None (f.mate y)) b (f.mate top)
 
-  mate_on : (x : ℕ) → inside x ≡ true → new.mate x ≡ None
+  pub mate_on : (x : ℕ) → inside x ≡ true → new.mate x ≡ None
   mate_on x on = is.mate x ∙ (set_there (λ y. cond (inside y) None (f.mate y)) b x (f.mate top) (marked_old x on) ∙ cond-true (inside x) None (f.mate x) on)
 
-  mate_off : (x : ℕ) → x ≢ b → inside x ≡ false → new.mate x ≡ f.mate x
+  pub mate_off : (x : ℕ) → x ≢ b → inside x ≡ false → new.mate x ≡ f.mate x
   mate_off x ne off = is.mate x ∙ (set_there (λ y. cond (inside y) None (f.mate y)) b x (f.mate top) ne ∙ cond-false (inside x) None (f.mate x) off)
 
   up_b : new.nest.up b ≡ b
@@ -93,10 +93,10 @@ module _ (g : Darts) (are : AreDarts g) (f : Forest) (r : ℕ) (valid : IsValid 
           ∙ (ap (λ (s : Bool). cond (cond s (not (new.holds x v)) (new.holds x v)) (f.weight x) (pos 0)) (is.holds_old x u ne lu)
           ∙ ap (λ (s : Bool). cond (cond (f.holds x u) (not s) s) (f.weight x) (pos 0)) (is.holds_old x v ne lv))
 
-  same_tight : (d : ℕ) → IsTight g f d → IsTight g new d
+  pub same_tight : (d : ℕ) → IsTight g f d → IsTight g new d
   same_tight d tight = record { low = tight.low; exact = same_load (g.near d) (far g d) (are.near_low d tight.low) (far_low g are d tight.low) ∙ tight.exact }
 
-  new_outermost : AreOutermost g.n new
+  pub new_outermost : AreOutermost g.n new
   new_outermost = record {
     vertices = subst (λ s. g.n ≤ s) (sym is.size) valid.outermost.vertices;
     out_low = λ v l. subst (λ s. new.out v < s) (sym is.size) (low v l (cases_Bool (inside (f.out v))));
@@ -250,7 +250,7 @@ module _ (g : Darts) (are : AreDarts g) (f : Forest) (r : ℕ) (valid : IsValid 
       next : f.nest.after p ≢ b
       next e = true_false (f.holds b (far g (f.nest.joint p))) (ap (λ x. f.holds x (far g (f.nest.joint p))) (sym e) ∙ old.ends) (valid.nested.empty b (far g (f.nest.joint p)) unused.high far_low' unused.no_parts)
 
-  new_nested : IsNested g new
+  pub new_nested : IsNested g new
   new_nested = record {
     alone = λ v w lv lw. is.holds_old v w (λ e. (let h : g.n ≤ v = subst (λ x. g.n ≤ x) (sym e) unused.high in omega arith)) lw ∙ valid.nested.alone v w lv lw;
     rings = λ c high live. rings c high live (cases_eq c b);
@@ -284,14 +284,14 @@ module _ (g : Darts) (are : AreDarts g) (f : Forest) (r : ℕ) (valid : IsValid 
       joints p inner (inr (inl on)) = joint_new p on.1
       joints p inner (inr (inr off)) = joint_old p off.0 off.1 (λ e. inner (up_off p off.0 off.1 ∙ e))
 
-  new_feasible : IsFeasible g new
+  pub new_feasible : IsFeasible g new
   new_feasible = record {
     sets = λ x high low. subst (λ w. pos 0 ≤ℤ w) (sym (is.weight x)) (valid.feasible.sets x high (subst (λ s. x < s) is.size low));
     darts = λ d low. subst (λ w. w ≤ℤ (g.cost d +ℤ g.cost d)) (sym (same_load (g.near d) (far g d) (are.near_low d low) (far_low g are d low))) (valid.feasible.darts d low);
   }
 
   -- Who is matched to a blossom of the cycle from outside it is matched to the top.
-  only_top : (c d : ℕ) → inside c ≡ false → f.mate c ≡ Some d → inside (f.out (far g d)) ≡ true → f.out (far g d) ≡ top
+  pub only_top : (c d : ℕ) → inside c ≡ false → f.mate c ≡ Some d → inside (f.out (far g d)) ≡ true → f.out (far g d) ≡ top
   only_top c d off mate on = by_top (cases_eq (f.out (far g d)) top)
     where
       pair : IsMate g f c d
@@ -301,7 +301,7 @@ module _ (g : Darts) (are : AreDarts g) (f : Forest) (r : ℕ) (valid : IsValid 
       by_top (inl e) = e
       by_top (inr ne) = absurd (true_false (inside c) (ap inside (sym (ap f.out (far_twin g are d) ∙ pair.here)) ∙ cycle.mates (f.out (far g d)) (g.twin d) on ne pair.back) off)
 
-  new_matched : IsMatched g new
+  pub new_matched : IsMatched g new
   new_matched c d mate = by_place (place c)
     where
       from_top : c ≡ b → f.mate top ≡ Some d → IsMate g new c d
@@ -344,124 +344,3 @@ module _ (g : Darts) (are : AreDarts g) (f : Forest) (r : ℕ) (valid : IsValid 
       by_place (inl e) = from_top e (sym mate_b ∙ (ap new.mate (sym e) ∙ mate))
       by_place (inr (inl on)) = absurd (some_none (new.mate c) d mate (mate_on c on.1))
       by_place (inr (inr off)) = from_old off.0 off.1 (sym (mate_off c off.0 off.1) ∙ mate) (cases_Bool (inside (f.out (far g d))))
-
-  -- The new root.
-  abbrev pub root_after : ℕ
-  root_after = cond (inside r) b r
-
-  abbrev depths : ℕ → ℕ
-  depths = set_at tree.depth b (tree.depth top)
-
-  depth_b : depths b ≡ tree.depth top
-  depth_b = set_here tree.depth b (tree.depth top)
-
-  depth_old : (x : ℕ) → x ≢ b → depths x ≡ tree.depth x
-  depth_old x ne = set_there tree.depth b x (tree.depth top) ne
-
-  -- What an outer blossom becomes is outer, and no deeper.
-  outer_after : (v : ℕ) → v < g.n → f.label (f.out v) ≡ Outer → (new.label (new.out v) ≡ Outer) × (depths (new.out v) ≤ tree.depth (f.out v))
-  outer_after v l outer = by_test (cases_Bool (inside (f.out v)))
-    where
-      by_test : (inside (f.out v) ≡ true) ⊎ (inside (f.out v) ≡ false) → (new.label (new.out v) ≡ Outer) × (depths (new.out v) ≤ tree.depth (f.out v))
-      by_test (inl on) = (ap new.label (out_on v l on) ∙ label_b, subst (λ x. depths x ≤ tree.depth (f.out v)) (sym (out_on v l on)) (subst (λ x. x ≤ tree.depth (f.out v)) (sym depth_b) (cycle.above (f.out v) on)))
-      by_test (inr off) = (ap new.label (out_off v l off) ∙ (label_off (f.out v) (unused.no_out v l) off ∙ outer), subst (λ x. depths x ≤ tree.depth (f.out v)) (sym (out_off v l off)) (let e : depths (f.out v) ≡ tree.depth (f.out v) = depth_old (f.out v) (unused.no_out v l) in omega arith))
-
-  new_inner : (c : ℕ) → c ≢ b → inside c ≡ false → f.label c ≡ Inner → IsInner g f tree.depth c → IsInner g new depths c
-  new_inner c ne off label old = record {
-    tight = subst (λ d. IsTight g new d) (sym (is.link c)) (same_tight (f.link c) old.tight);
-    here = ap (λ d. new.out (g.near d)) (is.link c) ∙ (out_off (g.near (f.link c)) near_low (ap inside old.here ∙ off) ∙ old.here);
-    above = ap (λ d. new.label (new.out (far g d))) (is.link c) ∙ parent.0;
-    nearer = subst (λ d. depths (new.out (far g d)) < depths c) (sym (is.link c)) (let e : depths c ≡ tree.depth c = depth_old c ne in let h : tree.depth (f.out (far g (f.link c))) < tree.depth c = old.nearer in omega (arith, parent.1));
-    dart = old.dart;
-    mate = mate_off c ne off ∙ old.mate;
-    child = (outer_after (far g old.dart) dart_low old.child).0;
-    same = by_child (cases_Bool (inside (f.out (far g old.dart))));
-  }
-    where
-      near_low : g.near (f.link c) < g.n
-      near_low = are.near_low (f.link c) old.tight.low
-
-      parent : (new.label (new.out (far g (f.link c))) ≡ Outer) × (depths (new.out (far g (f.link c))) ≤ tree.depth (f.out (far g (f.link c))))
-      parent = outer_after (far g (f.link c)) (far_low g are (f.link c) old.tight.low) old.above
-
-      dart_low : far g old.dart < g.n
-      dart_low = far_low g are old.dart (valid.matched c old.dart old.mate).tight.low
-
-      by_child : (inside (f.out (far g old.dart)) ≡ true) ⊎ (inside (f.out (far g old.dart)) ≡ false) → depths (new.out (far g old.dart)) ≡ depths c
-      by_child (inl on) = ap depths (out_on (far g old.dart) dart_low on) ∙ (depth_b ∙ (ap tree.depth (sym (only_top c old.dart off old.mate on)) ∙ (old.same ∙ sym (depth_old c ne))))
-      by_child (inr too) = ap depths (out_off (far g old.dart) dart_low too) ∙ (depth_old (f.out (far g old.dart)) (unused.no_out (far g old.dart) dart_low) ∙ (old.same ∙ sym (depth_old c ne)))
-
-  new_tree : IsTree g new root_after
-  new_tree = record {
-    depth = depths;
-    root_outer = root_outer (cases_Bool (inside r));
-    root_free = root_free (cases_Bool (inside r));
-    inner = λ c l. inner c l (place c);
-    outer = λ c l. outer c l (place c);
-  }
-    where
-      r_old : r ≢ b
-      r_old e = (let h : Outer ≡ Outside = sym tree.root_outer ∙ (ap f.label e ∙ unused.outside) in cc)
-
-      root_outer : (inside r ≡ true) ⊎ (inside r ≡ false) → new.label root_after ≡ Outer
-      root_outer (inl on) = ap new.label (cond-true (inside r) b r on) ∙ label_b
-      root_outer (inr off) = ap new.label (cond-false (inside r) b r off) ∙ (label_off r r_old off ∙ tree.root_outer)
-
-      root_free : (inside r ≡ true) ⊎ (inside r ≡ false) → new.mate root_after ≡ None
-      root_free (inl on) = ap new.mate (cond-true (inside r) b r on) ∙ (mate_b ∙ (ap f.mate (sym (cycle.root_top on)) ∙ tree.root_free))
-      root_free (inr off) = ap new.mate (cond-false (inside r) b r off) ∙ (mate_off r r_old off ∙ tree.root_free)
-
-      inner : (c : ℕ) → new.label c ≡ Inner → Place c → IsInner g new depths c
-      inner c l (inl e) = let h : Outer ≡ Inner = sym label_b ∙ (ap new.label (sym e) ∙ l) in absurd (cc h)
-      inner c l (inr (inl on)) = let h : Outside ≡ Inner = sym (label_on c on.1) ∙ l in absurd (cc h)
-      inner c l (inr (inr off)) = new_inner c off.0 off.1 (sym (label_off c off.0 off.1) ∙ l) (tree.inner c (sym (label_off c off.0 off.1) ∙ l))
-
-      top_is : IsOuter g f r top → IsOuter g new root_after b
-      top_is (inl e) = inl (sym (cond-true (inside r) b r (ap inside (sym e) ∙ cycle.top_in)))
-      top_is (inr w) = let far_low' : far g w.0 < g.n = far_low g are w.0 (valid.matched top w.0 w.1).tight.low in
-          inr (w.0, mate_b ∙ w.1, ap new.label (out_off (far g w.0) far_low' (cycle.top_mate w.0 w.1)) ∙ (label_off (f.out (far g w.0)) (unused.no_out (far g w.0) far_low') (cycle.top_mate w.0 w.1) ∙ w.2))
-
-      clash : (x : ℕ) → x ≡ top → f.label x ≡ Inner → ⊥
-      clash x e l = let h : Outer ≡ Inner = sym cycle.top_outer ∙ (ap f.label (sym e) ∙ l) in cc
-
-      old_is : (c : ℕ) → c ≢ b → inside c ≡ false → IsOuter g f r c → IsOuter g new root_after c
-      old_is c ne off (inl e) = inl (e ∙ sym (cond-false (inside r) b r (ap inside (sym e) ∙ off)))
-      old_is c ne off (inr w) =
-          let far_low' : far g w.0 < g.n = far_low g are w.0 (valid.matched c w.0 w.1).tight.low in
-          let too : inside (f.out (far g w.0)) ≡ false = elim (cases_Bool (inside (f.out (far g w.0)))) [ inl on ↦ absurd (clash (f.out (far g w.0)) (only_top c w.0 off w.1 on) w.2) | inr out ↦ out ] in
-          inr (w.0, mate_off c ne off ∙ w.1, ap new.label (out_off (far g w.0) far_low' too) ∙ (label_off (f.out (far g w.0)) (unused.no_out (far g w.0) far_low') too ∙ w.2))
-
-      outer : (c : ℕ) → new.label c ≡ Outer → Place c → IsOuter g new root_after c
-      outer c l (inl e) = subst (λ x. IsOuter g new root_after x) (sym e) (top_is (tree.outer top cycle.top_outer))
-      outer c l (inr (inl on)) = let h : Outside ≡ Outer = sym (label_on c on.1) ∙ l in absurd (cc h)
-      outer c l (inr (inr off)) = old_is c off.0 off.1 (tree.outer c (sym (label_off c off.0 off.1) ∙ l))
-
-  new_outside : KeepsOutside g new
-  new_outside c d l mate = by_place (place c)
-    where
-      by_old : c ≢ b → inside c ≡ false → f.label c ≡ Outside → f.mate c ≡ Some d → new.label (new.out (far g d)) ≡ Outside
-      by_old ne off out was =
-          let far_low' : far g d < g.n = far_low g are d (valid.matched c d was).tight.low in
-          let gone : f.label (f.out (far g d)) ≡ Outside = valid.outside c d out was in
-          let too : inside (f.out (far g d)) ≡ false = elim (cases_Bool (inside (f.out (far g d)))) [ inl on ↦ absurd (cycle.in_tree (f.out (far g d)) on gone) | inr x ↦ x ] in
-          ap new.label (out_off (far g d) far_low' too) ∙ (label_off (f.out (far g d)) (unused.no_out (far g d) far_low') too ∙ gone)
-
-      by_place : Place c → new.label (new.out (far g d)) ≡ Outside
-      by_place (inl e) = let h : Outer ≡ Outside = sym label_b ∙ (ap new.label (sym e) ∙ l) in absurd (cc h)
-      by_place (inr (inl on)) = absurd (some_none (new.mate c) d mate (mate_on c on.1))
-      by_place (inr (inr off)) = by_old off.0 off.1 (sym (label_off c off.0 off.1) ∙ l) (sym (mate_off c off.0 off.1) ∙ mate)
-
-  -- A cycle of tight darts in the tree may become one outer blossom.
-  pub shrunk_valid : IsValid g new (Some root_after)
-  shrunk_valid = record {
-    outermost = new_outermost;
-    nested = new_nested;
-    feasible = new_feasible;
-    matched = new_matched;
-    tree = λ x e. subst (λ y. IsTree g new y) (some_is root_after x e) new_tree;
-    no_tree = λ e. absurd (none e);
-    outside = new_outside;
-  }
-    where
-      none : Some root_after ≡ None → ⊥
-      none e = cc

@@ -17,7 +17,8 @@ potential f v = total_below (λ b. if f.holds b v then f.weight b else pos 0) f.
 
 -- What the handle of a vertex adds to its potential.
 abbrev pub added : (hand top : List ℕ) (off : List ℤ) (label : List Label) (delta : ℤ) (v : Vertex) → ℤ
-added hand top off label delta v = slice_index_or off (slice_index hand v) (pos 0) +ℤ change (label_at label (out_of hand top v)) delta
+added hand top off label delta v = slice_index_or off (slice_index hand v) (pos 0)
+    +ℤ change (label_at label (out_of hand top v)) delta
 
 -- The potential of a vertex as the tables tell it.
 abbrev pub told : (q : List ℤ) (hand top : List ℕ) (off : List ℤ) (label : List Label) (delta : ℤ) (v : Vertex) → ℤ
@@ -47,12 +48,15 @@ pub record AreTied (t : ForestTables) (q off : List ℤ) : Type 0 where
   pub size_parts : length t.parts ≡ length t.up
   pub ups : (b : Blossom) → b < length t.up → slice_index t.up b < length t.up
   pub climb : IsClimb (length t.hand) (up_at t.up) (out_of t.hand t.top)
-  pub potentials : (v : Vertex) → v < length t.hand → potential (forest_of t) v ≡ told q t.hand t.top off t.label t.delta v
+  pub potentials : (v : Vertex) → v < length t.hand → potential (forest_of t) v
+      ≡ told q t.hand t.top off t.label t.delta v
   pub small : (b : Blossom) → unsigned_abs ((forest_of t).weight b) ≤ 2 ^ 62
-  pub one_hand : (u v : Vertex) → u < length t.hand → v < length t.hand → out_of t.hand t.top u ≡ out_of t.hand t.top v → slice_index t.hand u ≡ slice_index t.hand v
+  pub one_hand : (u v : Vertex) → u < length t.hand → v < length t.hand → out_of t.hand t.top u
+      ≡ out_of t.hand t.top v → slice_index t.hand u ≡ slice_index t.hand v
   pub start : ℤ
   pub small_start : unsigned_abs start ≤ 2 ^ 90
-  pub moved : (v : Vertex) → v < length t.hand → pos (unsigned_abs (added t.hand t.top off t.label t.delta v)) ≤ℤ (dual_sum_of (forest_of t) -ℤ start)
+  pub moved : (v : Vertex) → v < length t.hand
+      → pos (unsigned_abs (added t.hand t.top off t.label t.delta v)) ≤ℤ (dual_sum_of (forest_of t) -ℤ start)
   pub risen : (pos 0 ≤ℤ t.delta) × (t.delta ≤ℤ (dual_sum_of (forest_of t) -ℤ start))
   pub still : t.root ≡ None → t.delta ≡ pos 0
   pub named : (b : Blossom) → label_at t.label b ≢ Outside → IsOutermostIn t b
@@ -82,7 +86,8 @@ abbrev pub remated : (f : Forest) (mate : Blossom → Option ℕ) → Forest
 remated f mate = record f { mate = mate }
 
 -- The matching of a valid forest t is being changed from dart start on; blossom a is to be matched by dart e.
-pub record IsOnWay (g : Graph) (t : ForestTables) (start : ℕ) (mate : Blossom → Option ℕ) (a : Blossom) (e : ℕ) : Type 0 where
+pub record IsOnWay (g : Graph) (t : ForestTables) (start : ℕ) (mate : Blossom
+    → Option ℕ) (a : Blossom) (e : ℕ) : Type 0 where
   pub is : IsSmallGraph g
   pub valid : IsValidFor g t
   pub top : Blossom
@@ -100,7 +105,8 @@ IsWithin t b x = (v : Vertex) × (v < length t.hand) × ((forest_of t).out v ≡
 
 -- Two climbers from u and v have come to x and y, and so much is passed.
 pub record IsMeeting (t : ForestTables) (u v x y : Blossom) (load : ℤ) : Type 0 where
-  pub sum : load +ℤ apart (length t.hand) (up_at t.up) (forest_of t).weight (length t.up) x y ≡ apart (length t.hand) (up_at t.up) (forest_of t).weight (length t.up) u v
+  pub sum : load +ℤ apart (length t.hand) (up_at t.up) (forest_of t).weight (length t.up) x y
+      ≡ apart (length t.hand) (up_at t.up) (forest_of t).weight (length t.up) u v
   pub first : IsWithin t ((forest_of t).out u) x
   pub second : IsWithin t ((forest_of t).out u) y
   pub low_x : x < length t.up
@@ -117,7 +123,8 @@ pub record IsLowered (old new : List ℤ) (place : ℕ) (most : ℤ) : Type 0 wh
   pub size : length new ≡ length old
   pub least : slice_index_or new place (pos 0) ≤ℤ most
   pub below : (k : ℕ) → slice_index_or new k (pos 0) ≤ℤ slice_index_or old k (pos 0)
-  pub from : (k : ℕ) → (slice_index_or new k (pos 0) ≡ slice_index_or old k (pos 0)) ⊎ (slice_index_or new k (pos 0) ≡ most)
+  pub from : (k : ℕ) → (slice_index_or new k (pos 0) ≡ slice_index_or old k (pos 0)) ⊎ (slice_index_or new k
+      (pos 0) ≡ most)
 
 -- A number for each vertex, at most the cost of each of the first edges at it.
 pub record HasLowCosts (g : Graph) (edges : ℕ) (lows : List ℤ) : Type 0 where
@@ -141,6 +148,7 @@ pub record IsFresh (n size : ℕ) (lows : List ℤ) (t : ForestTables) (q off : 
   pub label : t.label ≡ replicate size Outside
   pub mate : t.mate ≡ replicate size None
   pub parts : t.parts ≡ replicate size 0
-  pub sizes : (length t.link ≡ size) × (length t.after ≡ size) × (length t.joint ≡ size) × (length t.head ≡ size) × (length t.rank ≡ size)
+  pub sizes : (length t.link ≡ size) × (length t.after ≡ size) × (length t.joint ≡ size) × (length t.head
+      ≡ size) × (length t.rank ≡ size)
   pub delta : t.delta ≡ pos 0
   pub root : t.root ≡ None

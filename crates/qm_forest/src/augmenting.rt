@@ -22,7 +22,9 @@ impl Forest {
         requires valid { IsValidFor (graph g.now) self.old }
         requires edge { e < length g.now.edges.items }
         requires kind { kind_of (graph g.now) (forest_of self.old) e ≡ Augment }
-        ensures changed { (r : Blossom) × (self.old.root ≡ Some r) × IsAugmented (darts_of (graph g.now)) (forest_of self.old) (forest_of self.new) r (outer_dart (graph g.now) (forest_of self.old) e) }
+        ensures changed { (r : Blossom) × (self.old.root ≡ Some r)
+            × IsAugmented (darts_of (graph g.now)) (forest_of self.old) (forest_of self.new) r
+            (outer_dart (graph g.now) (forest_of self.old) e) }
         ensures root { self.new.root ≡ None }
         ensures valid { IsValidFor (graph g.now) self.new }
     {
@@ -39,7 +41,9 @@ impl Forest {
         requires free { (forest_of self.old).mate ((forest_of self.old).out (far (darts_of (graph g.now)) start)) ≡ None }
         ensures seen { forest_of self.new ≡ remated (forest_of self.old) (forest_of self.new).mate }
         ensures same { HasSameNest self.old self.new }
-        ensures done { (r : Blossom) → self.old.root ≡ Some r → IsValid (darts_of (graph g.now)) (with_mates (forest_of self.old) (forest_of self.new).mate) None × IsAugmented (darts_of (graph g.now)) (forest_of self.old) (with_mates (forest_of self.old) (forest_of self.new).mate) r start }
+        ensures done { let rematched = with_mates (forest_of self.old) (forest_of self.new).mate in
+            (r : Blossom) → self.old.root ≡ Some r → IsValid (darts_of (graph g.now)) rematched None
+            × IsAugmented (darts_of (graph g.now)) (forest_of self.old) rematched r start }
     {
         let reached = self.outermost(near(g, twin(start)));
         self.set_mate(reached, Some(twin(start)));

@@ -9,9 +9,9 @@ use std::marker::Model;
 
 /// The matching, the duals, the blossoms as odd rings of blossoms, and at most one alternating tree.
 ///
-/// A single vertex is a blossom and has the vertex's number; a set has a number from `n` upwards. A shift touches one
-/// number, since weights and potentials are kept without what the shifts of this search changed of them. The vertices of
-/// an outermost blossom have one handle.
+/// A single vertex is a blossom and has the vertex's number; a set has a number from `n` upwards. A shift touches
+/// one number, since weights and potentials are kept without what the shifts of this search changed of them. The
+/// vertices of an outermost blossom have one handle.
 #[derive(Drop)]
 pub struct Forest {
     /// The handle of a vertex, and its potential but for what the handle adds.

@@ -2,7 +2,7 @@ ghost use Rattle.std.specs.Prelude.{◌≡◌, ◌≢◌, ◌+◌, ◌*◌, ◌<
 ghost use Rattle.def_matching.specs.Matching.{IsSmallGraph, graph, edge_at};
 ghost use Rattle.def_forest.specs.Darts.{darts_of, far};
 ghost use Rattle.def_forest.specs.Forests.{Blossom};
-ghost use Rattle.def_forest.specs.Steps.{grown, with_mates, IsAugmented};
+ghost use Rattle.def_forest.specs.Steps.{IsGrown};
 ghost use Rattle.def_forest.specs.Tables.{forest_of, kind_of, outer_dart, IsValidFor};
 ghost use Rattle.def_forest.specs.declared.kinds.EdgeKind.TheVariants.{Grow, Augment};
 ghost use Rattle.def_forest.specs.declared.kinds.Label.TheVariants.{Outside};
@@ -35,7 +35,8 @@ impl Forest {
         requires valid { IsValidFor (graph g.now) self.old }
         requires edge { e < length g.now.edges.items }
         requires kind { kind_of (graph g.now) (forest_of self.old) e ≡ Grow }
-        ensures changed { (m : ℕ) × ((forest_of self.old).mate ((forest_of self.old).out (far (darts_of (graph g.now)) (outer_dart (graph g.now) (forest_of self.old) e))) ≡ Some m) × (forest_of self.new ≡ grown (darts_of (graph g.now)) (forest_of self.old) (outer_dart (graph g.now) (forest_of self.old) e) m) }
+        ensures changed { IsGrown (darts_of (graph g.now)) (forest_of self.old) (forest_of self.new)
+            (outer_dart (graph g.now) (forest_of self.old) e) }
         ensures root { self.new.root ≡ self.old.root }
         ensures valid { IsValidFor (graph g.now) self.new }
     {
@@ -49,7 +50,7 @@ impl Forest {
         requires valid { IsValidFor (graph g.now) self.old }
         requires reaches { Reaches (darts_of (graph g.now)) (forest_of self.old) d }
         requires matched { (forest_of self.old).mate ((forest_of self.old).out (far (darts_of (graph g.now)) d)) ≢ None }
-        ensures changed { (m : ℕ) × ((forest_of self.old).mate ((forest_of self.old).out (far (darts_of (graph g.now)) d)) ≡ Some m) × (forest_of self.new ≡ grown (darts_of (graph g.now)) (forest_of self.old) d m) }
+        ensures changed { IsGrown (darts_of (graph g.now)) (forest_of self.old) (forest_of self.new) d }
         ensures root { self.new.root ≡ self.old.root }
         ensures hand { self.new.hand ≡ self.old.hand }
     {

@@ -12,3 +12,4 @@ mod start;
 mod writes;
 
 pub use forest::Forest;
+pub use start::Memory;

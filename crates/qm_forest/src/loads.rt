@@ -120,7 +120,8 @@ impl Forest {
     fn kind_between(&self, a: u32, b: u32) -> EdgeKind
         requires first { IsOutermostIn self.now a }
         requires second { IsOutermostIn self.now b }
-        ensures { result ≡ kind_by ((forest_of self.now).label a) ((forest_of self.now).label b) ((forest_of self.now).mate a) ((forest_of self.now).mate b) (a == b) }
+        ensures { let f = forest_of self.now in
+            result ≡ kind_by (f.label a) (f.label b) (f.mate a) (f.mate b) (a == b) }
     {
         match (self.label(a), self.label(b)) {
             (Label::Outer, Label::Outer) => if a == b {

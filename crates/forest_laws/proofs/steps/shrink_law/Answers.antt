@@ -1,4 +1,4 @@
-use Rattle.forest_laws.proofs.Shrinks.{shrunk_valid}
+use Rattle.forest_laws.proofs.ShrunkTrees.{shrunk_valid}
 use Rattle.forest_laws.proofs.steps.shrink_law.Goals as goal
 
 pub returns : goal.returns
