@@ -1,3 +1,5 @@
+//! Growing: a matched blossom outside and its mate join the tree.
+
 ghost use Rattle.std.specs.Prelude.{◌≡◌, ◌≢◌, ◌+◌, ◌*◌, ◌<◌, ◌≤◌, ℕ, length, Option, Some, None};
 ghost use Rattle.def_matching.specs.Matching.{IsSmallGraph, graph, edge_at};
 ghost use Rattle.def_forest.specs.Darts.{darts_of, far};

@@ -1,3 +1,5 @@
+//! Sums of what is kept with what the shifts of this search changed.
+
 ghost use Rattle.std.specs.Prelude.{◌≡◌, ◌+ℤ◌, ◌^◌, ◌<◌, ◌≤◌, pos, length, slice_index, slice_index_or, unsigned_abs};
 ghost use Rattle.def_forest.specs.Steps.{change};
 ghost use Rattle.def_forest.specs.Tables.{weight_at, label_at, out_of};

@@ -1,3 +1,5 @@
+//! A forest of single vertices, whose weights are the least costs.
+
 ghost use Rattle.std.specs.Prelude.{◌≡◌, ◌+◌, ◌*◌, ◌/◌, ◌^◌, ◌<◌, ◌≤◌, ℕ, pos, length, slice_index, slice_index_or, unsigned_abs, replicate, IfOk, None};
 ghost use Rattle.def_matching.specs.Matching.{graph, edge_at, IsSmallGraph};
 ghost use Rattle.def_forest.specs.Tables.{forest_of, IsValidFor};
