@@ -1,0 +1,13 @@
+//! The texts that report of a mesh.
+#![tactic(auto)]
+
+mod summary;
+
+pub use def_report::Counts;
+pub use summary::summary_text;
+
+/// Want of memory.
+pub type Memory = std::alloc::AllocError;
+
+#[cfg(test)]
+mod tests;
