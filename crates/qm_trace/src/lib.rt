@@ -1,0 +1,14 @@
+//! How riders ride on a mesh, one instant at a time.
+
+#![tactic(auto)]
+
+mod deciding;
+mod ground;
+mod marks;
+mod queue;
+
+pub use deciding::gives_way;
+pub use def_cut::{Moving, Stop};
+
+/// Memory was refused.
+pub type Memory = std::alloc::AllocError;

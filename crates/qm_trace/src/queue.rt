@@ -1,0 +1,78 @@
+//! The queue of the riders that run.
+
+ghost use Rattle.std.specs.Prelude.{◌≡◌, ◌<◌, ℕ, length, map, filter, true, IfOk};
+ghost use Rattle.def_cut.specs.Events.{rider_at};
+ghost use Rattle.def_cut.specs.Motion.{is_among};
+ghost use Rattle.def_mesh.specs.Darts.{darts};
+ghost use Rattle.def_mesh.specs.Vertices.{vertex_count};
+ghost use Rattle.qm_trace.specs.Tables.{AreRode, CanRide, IsGround, dart_of, is_running};
+
+use crate::Memory;
+use crate::deciding::ride;
+use crate::ground::Ground;
+use def_cut::Moving;
+use qm_mesh::Mesh;
+use std::alloc::Global;
+
+/// The next darts of the riders in the queue.
+pub(crate) fn darts_of(alloc: Global, riders: &[Moving], queue: &[u32]) -> Result<Vec<u32>, Memory>
+    requires { (r : ℕ) → is_among r queue.now ≡ true → r < length riders.now }
+    ensures { IfOk result (λ ds. ds.items ≡ map (dart_of riders.now) queue.now) }
+{
+    let mut ridden = Vec::with_capacity(alloc, queue.len())?;
+    for r in queue {
+        ridden.push(riders[*r as usize].dart)?;
+    }
+    Ok(ridden)
+}
+
+/// The riders of the queue that still run.
+pub(crate) fn still_running(
+    alloc: Global,
+    riders: &[Moving],
+    queue: &[u32],
+) -> Result<Vec<u32>, Memory>
+    requires { (r : ℕ) → is_among r queue.now ≡ true → r < length riders.now }
+    ensures { IfOk result (λ q. q.items ≡ filter (λ r. is_running (rider_at riders.now r).stop) queue.now) }
+{
+    let mut running = Vec::with_capacity(alloc, queue.len())?;
+    for r in queue {
+        let rider = riders[*r as usize];
+        if runs(&rider) {
+            running.push(*r)?;
+        }
+    }
+    Ok(running)
+}
+
+/// Whether a rider has not stopped.
+fn runs(rider: &Moving) -> bool
+    ensures { result ≡ is_running rider.now.stop }
+{
+    match rider.stop {
+        None => true,
+        Some(_) => false,
+    }
+}
+
+/// What riders see at one instant.
+#[derive(Debug, Drop)]
+pub(crate) struct Sight {
+    pub(crate) ground: Ground,
+    pub(crate) stood: Vec<bool>,
+    pub(crate) taken: Vec<bool>,
+}
+
+/// Moves the riders of the queue, all by what they see at once.
+pub(crate) fn ride_all(mesh: &Mesh, sight: &Sight, queue: &[u32], riders: &mut [Moving])
+    requires can { CanRide mesh.now riders.old queue.now }
+    requires ground { IsGround mesh.now sight.now.ground.boundary.items sight.now.ground.singular.items }
+    requires stood { length sight.now.stood.items ≡ vertex_count mesh.now }
+    requires taken { length sight.now.taken.items ≡ darts mesh.now }
+    ensures { AreRode mesh.now sight.now.stood.items sight.now.taken.items queue.now riders.old riders.new }
+{
+    for r in queue {
+        let rider = riders[*r as usize];
+        riders[*r as usize] = ride(mesh, &sight.ground, &sight.stood, &sight.taken, rider);
+    }
+}
