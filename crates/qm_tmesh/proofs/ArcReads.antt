@@ -1,11 +1,12 @@
 -- What is read of the arcs in a slice.
-use Rattle.std.proofs.Common.{◌≡◌, ℕ, ◌-◌, ◌<◌, Bool, List, [], map, length, get_or, sym, ◌∙◌, ap, subst, arith}
+use Rattle.std.proofs.Common.{◌≡◌, ℕ, ◌<◌, Bool, List, [], map, length, get_or, sym, ◌∙◌, ap, subst}
 use Rattle.std.proofs.lemmas.List.{get_or-map}
-use Rattle.std.proofs.lemmas.Grind.{get_or_default_zero}
 use Rattle.def_mesh.specs.Faces.{Faces}
 use Rattle.def_mesh.specs.Darts.{darts}
 use Rattle.def_mesh.specs.HalfEdges.{half_edges}
 use Rattle.def_cut.specs.FullCut.{is_on}
+use Rattle.def_cut.specs.Grids.{rectangle, patch_at}
+use Rattle.def_cut.specs.declared.patch.Patch.{Patch}
 use Rattle.def_layout.specs.Arcs.{Path, path, arc_at, long_at}
 use Rattle.def_layout.specs.Nodes.{is_node}
 use Rattle.def_layout.specs.declared.tmesh.TArc.{TArc}
@@ -28,3 +29,7 @@ module _ (faces : Faces) (cut marks : List Bool) (marked : IsMarked faces cut ma
     where
       by_run : (s : ℕ) × IsNamedRun faces cut s (long_at arcs a) × ((arc_at arcs a).darts ≡ run_list (half_edges faces) s (long_at arcs a)) → get_or (arc_at arcs a).darts k 0 < darts faces
       by_run p = subst (λ (x : ℕ). x < darts faces) (sym (ap (λ (xs : List ℕ). get_or xs k 0) p.2 ∙ run_entry (half_edges faces) p.0 (long_at arcs a) k lk)) (run_low (half_edges faces) marked.laws (is_on cut) marked.full (is_node faces cut) marked.stand p.0 (long_at arcs a) p.1.run k lk)
+
+-- The patch that was read.
+pub read_patch : (patches : List Patch) (p : ℕ) (x : Patch) → p < length patches → x ≡ get_or patches p x → patch_at (map rectangle patches) p ≡ rectangle x
+read_patch patches p x l is = get_or-map rectangle patches p x (record { w = 0; h = 0; cells = [] }) l ∙ ap rectangle (sym is)

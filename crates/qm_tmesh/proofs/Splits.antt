@@ -1,18 +1,17 @@
 -- The sides of patches are split into uses of arcs.
-use Rattle.std.proofs.Common.{◌≡◌, ℕ, zero, suc, ◌+◌, ◌-◌, ◌*◌, ◌/◌, ◌<◌, ◌≤◌, Bool, true, List, length, get_or, Some, option_map, sym, ◌∙◌, ap, subst, refl, arith}
-use Rattle.std.proofs.lemmas.List.FromFn.{get_or-map-range_with_len, length-map-range_with_len}
+use Rattle.std.proofs.Common.{◌≡◌, ℕ, suc, ◌+◌, ◌<◌, ◌≤◌, Bool, true, List, length, get_or, Some, option_map, sym, ◌∙◌, ap, subst, arith}
 use Rattle.def_mesh.specs.Faces.{Faces}
-use Rattle.def_mesh.specs.Darts.{darts, from_of, next_of, straight_of, twin_of}
+use Rattle.def_mesh.specs.Darts.{darts, from_of, next_of, straight_of}
 use Rattle.def_mesh.specs.HalfEdges.{half_edges}
 use Rattle.def_cut.specs.FullCut.{is_on}
-use Rattle.def_cut.specs.Grids.{Rectangle, cell_of, IsPatch}
+use Rattle.def_cut.specs.Grids.{Rectangle}
 use Rattle.def_cut.specs.Steps.{easts}
 use Rattle.def_layout.specs.Arcs.{IsRun, Path, arc_at, long_at, LiesAt}
 use Rattle.def_layout.specs.Borders.{side_size, border_dart}
 use Rattle.def_layout.specs.Layouts.{Way}
 use Rattle.def_layout.specs.Nodes.{is_node}
 use Rattle.def_layout.specs.declared.tmesh.SideArc.{SideArc}
-use Rattle.layout_laws.specs.Named.{run_list, IsNamed}
+use Rattle.layout_laws.specs.Named.{run_list}
 use Rattle.layout_laws.proofs.Borders.{IsLine, line, line_easts, line_begins, run_fits, next_begins}
 use Rattle.layout_laws.proofs.Uses.{IsUse, run_long, run_entry, named_arc, use_run}
 use Rattle.qm_tmesh.specs.Four.{AreRuns, IsPatchOf, HasSide}
@@ -93,7 +92,7 @@ from_split faces arcs uses first size h list is =
     (begins faces arcs uses h.0 h.1 h.2 h.3, subst (λ (xs : List ℕ). IsSplit arcs uses xs (begins faces arcs uses h.0 h.1 h.2 h.3)) (sym e) (side_split faces arcs uses h.0 h.1 h.2 h.3))
 
 pub from_low : (faces : Faces) (arcs : List Path) (uses : List SideArc) (first size : ℕ) → HasSide faces arcs uses first size → first < darts faces
-from_low faces arcs uses first size h = subst (λ (x : ℕ). x < darts faces) (sym h.4) (side_low faces arcs uses h.0 h.1 h.2 h.3)
+from_low faces arcs uses first _ h = subst (λ (x : ℕ). x < darts faces) (sym h.4) (side_low faces arcs uses h.0 h.1 h.2 h.3)
 
 pub from_some : (faces : Faces) (arcs : List Path) (uses : List SideArc) (first size : ℕ) → HasSide faces arcs uses first size → 0 < size
 from_some faces arcs uses first size h = omega (arith, side_some faces arcs uses h.0 h.1 h.2 h.3, h.5)

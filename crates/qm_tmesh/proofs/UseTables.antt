@@ -1,5 +1,5 @@
 -- The table of uses.
-use Rattle.std.proofs.Common.{◌≡◌, ◌≢◌, ◌⊎◌, ℕ, zero, suc, ◌+◌, ◌-◌, ◌<◌, ◌≤◌, Bool, true, false, List, [], ◌∷◌, map, length, get_or, set, Option, Some, None, sym, ◌∙◌, ap, subst, refl, inl, inr, arith}
+use Rattle.std.proofs.Common.{◌≡◌, ◌⊎◌, ℕ, zero, suc, ◌+◌, ◌-◌, ◌<◌, ◌≤◌, Bool, true, false, List, length, get_or, set, Option, Some, None, sym, ◌∙◌, ap, subst, refl, inl, inr, arith}
 use Rattle.std.proofs.lemmas.Bool.{cases_eq, cases_lt, false≢true}
 use Rattle.std.proofs.lemmas.Option.{same_Some}
 use Rattle.std.proofs.lemmas.List.{get_or-set_same, get_or-set_other, length-set}
@@ -14,10 +14,10 @@ use Rattle.def_layout.specs.Nodes.{is_node}
 use Rattle.def_layout.specs.declared.tmesh.SideArc.{SideArc}
 use Rattle.cut_laws.proofs.Darts.{twin_same}
 use Rattle.cut_laws.proofs.Leasts.{least_there}
-use Rattle.cut_laws.proofs.Rising.{AreRising, rising_place}
-use Rattle.layout_laws.specs.Named.{run_list, run_name, IsNamed}
+use Rattle.cut_laws.proofs.Rising.{rising_place}
+use Rattle.layout_laws.specs.Named.{run_list, run_name}
 use Rattle.layout_laws.proofs.Borders.{each_in_run}
-use Rattle.layout_laws.proofs.Runs.{IsBack, run_low, run_inner, same_place, same_length, back_run, no_mirror}
+use Rattle.layout_laws.proofs.Runs.{IsBack, run_low, run_inner, same_place, same_length, back_run}
 use Rattle.layout_laws.proofs.Uses.{run_long, run_entry, named_or_back}
 use Rattle.qm_tmesh.specs.Tables.{IsMarked, IsNamedRun}
 use Rattle.qm_tmesh.specs.Arcs.{IsArcFrom, AreArcsBelow}

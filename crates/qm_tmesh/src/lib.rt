@@ -3,12 +3,14 @@
 #![tactic(auto)]
 
 mod arcs;
+mod build;
 mod names;
 mod nodes;
 mod runs;
 mod sides;
 mod uses;
 
+pub use build::layout;
 pub use def_layout::{Side, SideArc, TArc, TMesh};
 
 /// Memory was refused.

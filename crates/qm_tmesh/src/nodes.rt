@@ -5,6 +5,7 @@ ghost use Rattle.std.specs.List.{range_with_len};
 ghost use Rattle.def_mesh.specs.Darts.{darts};
 ghost use Rattle.def_mesh.specs.Vertices.{vertex_count};
 ghost use Rattle.def_mesh.specs.Kinds.{is_regular};
+ghost use Rattle.def_mesh.specs.Meshes.{IsMesh};
 ghost use Rattle.def_cut.specs.FullCut.{is_on};
 ghost use Rattle.def_layout.specs.Nodes.{is_lone_before, is_node};
 ghost use Rattle.qm_tmesh.specs.Tables.{ArePlaces};
@@ -32,6 +33,7 @@ pub(crate) fn find_nodes(alloc: Global, mesh: &Mesh, cut: &[bool]) -> Result<Nod
     ensures marks { IfOk result (λ n. n.marks.items ≡ map (is_node mesh.now cut.now) (range_with_len 0 (vertex_count mesh.now))) }
     ensures list { IfOk result (λ n. n.listed.list.items ≡ filter (is_on n.marks.items) (range_with_len 0 (length n.marks.items))) }
     ensures places { IfOk result (λ n. ArePlaces n.marks.items n.listed.list.items n.listed.places.items) }
+    ensures mesh { IfOk result (λ n. IsMesh mesh.now) }
 {
     let marks = node_marks(alloc, mesh, cut)?;
     let listed = list_marked(alloc, &marks)?;
@@ -58,6 +60,7 @@ fn node_marks(alloc: Global, mesh: &Mesh, cut: &[bool]) -> Result<Vec<bool>, All
     requires { length cut.now ≡ darts mesh.now }
     ensures marks { IfOk result (λ marks. marks.items ≡ map (is_node mesh.now cut.now) (range_with_len 0 (vertex_count mesh.now))) }
     ensures small { IfOk result (λ marks. length marks.items < 2 ^ 32) }
+    ensures mesh { IfOk result (λ marks. IsMesh mesh.now) }
 {
     let mut marks = Vec::new(alloc);
     for v in 0..mesh.vertices() {

@@ -4,11 +4,13 @@ ghost use Rattle.std.specs.Prelude.{◌≡◌, ◌+◌, ◌<◌, ℕ, Bool, Some
 ghost use Rattle.def_mesh.specs.Darts.{darts, straight_of};
 ghost use Rattle.def_mesh.specs.HalfEdges.{half_edges};
 ghost use Rattle.def_cut.specs.Steps.{easts};
+ghost use Rattle.def_cut.specs.Grids.{rectangle};
 ghost use Rattle.def_layout.specs.Arcs.{path};
 ghost use Rattle.layout_laws.specs.Named.{run_list};
 ghost use Rattle.qm_tmesh.specs.Sides.{IsSplit, IsSideOf};
-ghost use Rattle.qm_tmesh.specs.Four.{HasSide};
+ghost use Rattle.qm_tmesh.specs.Four.{HasSide, HasPatch, HavePatches, AreFour, AreAllFour, four_of};
 
+use def_cut::Patch;
 use def_layout::{Side, SideArc, TArc};
 use qm_mesh::Mesh;
 use std::alloc::{AllocError, Global};
@@ -70,4 +72,43 @@ pub(crate) fn side_from(
 {
     let darts = line(alloc, mesh, first, size)?;
     side(alloc, runs, &darts)
+}
+
+/// The four sides of a patch: south, east, north and west.
+fn four_sides(
+    alloc: Global,
+    mesh: &Mesh,
+    patch: &Patch,
+    runs: &Runs,
+) -> Result<[Side; 4], AllocError>
+    requires { HasPatch mesh.now (map path runs.now.arcs.items) runs.now.uses.items (rectangle patch.now) }
+    ensures { IfOk result (λ four. AreFour mesh.now (map path runs.now.arcs.items) runs.now.uses.items (rectangle patch.now) (four_of four)) }
+{
+    let (w, h) = (patch.w, patch.h);
+    let south_east = mesh.next(patch.cells[w as usize - 1]);
+    let north_east = mesh.next(mesh.next(patch.cells[patch.cells.len() - 1]));
+    let north_west = mesh.prev(patch.cells[patch.cells.len() - w as usize]);
+    let south = side_from(alloc, mesh, runs, patch.cells[0], w)?;
+    let east = side_from(alloc, mesh, runs, south_east, h)?;
+    let north = side_from(alloc, mesh, runs, north_east, w)?;
+    let west = side_from(alloc, mesh, runs, north_west, h)?;
+    Ok([south, east, north, west])
+}
+
+/// The sides of all patches. Linear in their borders.
+pub(crate) fn sides(
+    alloc: Global,
+    mesh: &Mesh,
+    patches: &[Patch],
+    runs: &Runs,
+) -> Result<Vec<[Side; 4]>, AllocError>
+    requires { HavePatches mesh.now (map path runs.now.arcs.items) runs.now.uses.items (map rectangle patches.now) }
+    ensures { IfOk result (λ sides. AreAllFour mesh.now (map path runs.now.arcs.items) runs.now.uses.items (map rectangle patches.now) (map four_of sides.items)) }
+{
+    let mut sides = Vec::new(alloc);
+    for patch in patches {
+        let four = four_sides(alloc, mesh, patch, runs)?;
+        sides.push(four)?;
+    }
+    Ok(sides)
 }

@@ -1,12 +1,9 @@
-use Rattle.std.proofs.Common.{◌≡◌, ℕ, ◌-◌, ◌<◌, Bool, true, false, List, [], map, length, get_or, set, Option, Some, None, ap, sym, subst, ◌∙◌, refl, arith}
+use Rattle.std.proofs.Common.{◌≡◌, ℕ, ◌-◌, ◌<◌, true, false, map, length, get_or, set, Option, Some, None, ap, sym, subst, ◌∙◌, refl, arith}
 use Rattle.std.proofs.lemmas.Grind.{get_or_default_zero}
 use Rattle.std.proofs.lemmas.List.{length-map}
 use Rattle.std.proofs.lemmas.Option.{same_Some}
 use Rattle.def_mesh.specs.Darts.{darts, twin_of}
 use Rattle.def_layout.specs.Arcs.{Path, path, arc_at, long_at}
-use Rattle.def_layout.specs.declared.tmesh.SideArc.{SideArc}
-use Rattle.def_layout.specs.declared.tmesh.TArc.{TArc}
-use Rattle.qm_tmesh.specs.Uses.{HasUsesBelow}
 use Rattle.qm_tmesh.proofs.ArcReads.{read_arc, named_some, named_low}
 use Rattle.qm_tmesh.proofs.UseTables.{uses_more}
 use Rattle.qm_tmesh.proofs.uses.uses.Goals as goal
