@@ -1,3 +1,4 @@
 mod Stops
 mod Marking
 mod Riding
+mod Instants

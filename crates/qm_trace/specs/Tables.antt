@@ -10,7 +10,7 @@ use Rattle.def_cut.specs.FullCut.{is_on}
 use Rattle.def_cut.specs.declared.graph.Stop.{Stop}
 use Rattle.def_cut.specs.declared.graph.Stop.TheVariants.{Middle, Boundary, Singular, Trail, Tie}
 use Rattle.def_cut.specs.declared.moving.Moving.{Moving}
-use Rattle.def_cut.specs.Motion.{Terrain, State, end_of, is_among, is_met, after_ride, after}
+use Rattle.def_cut.specs.Motion.{end_of, ridden, is_among, after_ride, after}
 use Rattle.def_cut.specs.Events.{rider_at}
 use Rattle.def_cut.specs.Traced.{terrain_of}
 
@@ -64,15 +64,13 @@ pub record IsQueue (riders : List Moving) (queue : List ℕ) : Type 0 where
   pub all : (r : ℕ) → r < length riders → (rider_at riders r).stop ≡ None → is_among r queue ≡ true
   pub apart : AreEachOnce queue
 
--- The tables after k steps of the motion.
-pub record IsTable (faces : Faces) (k : ℕ) (riders : List Moving) (stood covered now : List Bool) : Type 0 where
+-- The riders after k steps of the motion, with marks where riders have stood and at the darts that are ridden next.
+pub record IsInstant (faces : Faces) (k : ℕ) (riders : List Moving) (queue : List ℕ) (stood taken : List Bool) : Type 0 where
   pub riders_are : riders ≡ (after (terrain_of faces) (start_darts faces) k).riders
-  pub stood_long : length stood ≡ vertex_count faces
-  pub covered_long : length covered ≡ darts faces
-  pub now_long : length now ≡ darts faces
-  pub stood_is : (v : ℕ) → v < vertex_count faces → is_on stood v ≡ (after (terrain_of faces) (start_darts faces) k).stood v
-  pub covered_is : (d : ℕ) → d < darts faces → is_on covered d ≡ (after (terrain_of faces) (start_darts faces) k).covered d
-  pub now_none : (d : ℕ) → is_on now d ≡ false
+  pub waits : IsQueue riders queue
+  pub stood_is : (v : ℕ) → v < vertex_count faces
+      → is_on stood v ≡ (after (terrain_of faces) (start_darts faces) k).stood v
+  pub taken_is : (d : ℕ) → is_on taken d ≡ is_among d (ridden riders)
 
 -- Each of these darts is a dart.
 abbrev pub AreDarts : (faces : Faces) (ds : List ℕ) → Type 0

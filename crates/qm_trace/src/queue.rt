@@ -1,11 +1,13 @@
 //! The queue of the riders that run.
 
-ghost use Rattle.std.specs.Prelude.{◌≡◌, ◌<◌, ℕ, length, map, filter, true, IfOk};
+ghost use Rattle.std.specs.Prelude.{◌≡◌, ◌<◌, ℕ, suc, length, map, filter, true, IfOk};
 ghost use Rattle.def_cut.specs.Events.{rider_at};
-ghost use Rattle.def_cut.specs.Motion.{is_among};
+ghost use Rattle.def_cut.specs.Motion.{after, is_among};
+ghost use Rattle.def_cut.specs.Traced.{terrain_of};
+ghost use Rattle.def_mesh.specs.Components.{start_darts};
 ghost use Rattle.def_mesh.specs.Darts.{darts};
 ghost use Rattle.def_mesh.specs.Vertices.{vertex_count};
-ghost use Rattle.qm_trace.specs.Tables.{AreRode, CanRide, IsGround, dart_of, is_running};
+ghost use Rattle.qm_trace.specs.Tables.{AreRode, CanRide, IsGround, IsInstant, dart_of, is_running};
 
 use crate::Memory;
 use crate::deciding::ride;
@@ -63,8 +65,21 @@ pub(crate) struct Sight {
     pub(crate) taken: Vec<bool>,
 }
 
-/// Moves the riders of the queue, all by what they see at once.
+/// Moves the riders of the queue, all by what they see at once: they are then those after the next step of the motion.
 pub(crate) fn ride_all(mesh: &Mesh, sight: &Sight, queue: &[u32], riders: &mut [Moving])
+    requires can { CanRide mesh.now riders.old queue.now }
+    requires ground { IsGround mesh.now sight.now.ground.boundary.items sight.now.ground.singular.items }
+    requires stood { length sight.now.stood.items ≡ vertex_count mesh.now }
+    requires taken { length sight.now.taken.items ≡ darts mesh.now }
+    ensures { (k : ℕ) → IsInstant mesh.now k riders.old queue.now sight.now.stood.items sight.now.taken.items
+        → riders.new ≡ (after (terrain_of mesh.now) (start_darts mesh.now) (suc k)).riders }
+{
+    let _known = mesh.faces();
+    ride_each(mesh, sight, queue, riders);
+}
+
+/// Moves the riders of the queue.
+fn ride_each(mesh: &Mesh, sight: &Sight, queue: &[u32], riders: &mut [Moving])
     requires can { CanRide mesh.now riders.old queue.now }
     requires ground { IsGround mesh.now sight.now.ground.boundary.items sight.now.ground.singular.items }
     requires stood { length sight.now.stood.items ≡ vertex_count mesh.now }

@@ -1,6 +1,6 @@
 use Rattle.std.proofs.Common.{take}
 use Rattle.qm_trace.specs.Tables.{AreRode}
-use Rattle.qm_trace.proofs.queue.ride_all.Given as goal
+use Rattle.qm_trace.proofs.queue.ride_each.Given as goal
 
 -- The riders before this one have ridden.
 abbrev pub invariant-loop-r : goal.invariant-loop-r
