@@ -7,6 +7,22 @@ ghost use Rattle.def_flow.specs.Units.{down, low, cap};
 use def_flow::{MAX_STEP, Net};
 use std::alloc::{AllocError, Global};
 
+/// The lengths that the units of all arcs can give: the least length of each arc, its number of units, and the step.
+#[derive(Clone, Copy)]
+pub(crate) struct Boxes<'a> {
+    pub lows: &'a [u64],
+    pub caps: &'a [u32],
+    pub step: u64,
+}
+
+/// The lengths that the units of one arc can give.
+#[derive(Clone, Copy)]
+pub(crate) struct OwnBox {
+    pub low: u64,
+    pub cap: u32,
+    pub step: u64,
+}
+
 /// How many steps an arc of this length can give up, at most 2 of them.
 fn steps_down(net: &Net, step: u64, length: u64) -> u64
     requires { 1 ≤ step }

@@ -11,7 +11,7 @@ ghost use Rattle.def_flow.specs.Admissible.{AreLengths};
 ghost use Rattle.qm_gadget.specs.Ready.{graph_by_lows, IsReady};
 
 use crate::Memory;
-use crate::boxes::{caps_of, lows_of};
+use crate::boxes::{Boxes, caps_of, lows_of};
 use crate::copies::Copies;
 use crate::layout::lay_out;
 use crate::plan::plan_of;
@@ -39,7 +39,12 @@ pub fn graph_of(alloc: Global, net: &Net, x: &[u64], step: u64) -> Result<Gadget
 {
     let low = lows_of(alloc, net, step, x)?;
     let cap = caps_of(alloc, net, step, x)?;
-    let graph = graph_over(alloc, net, step, &low, &cap)?;
+    let boxes = Boxes {
+        lows: &low,
+        caps: &cap,
+        step,
+    };
+    let graph = graph_over(alloc, net, &boxes)?;
     Ok(Gadget {
         graph,
         low,
@@ -49,20 +54,14 @@ pub fn graph_of(alloc: Global, net: &Net, x: &[u64], step: u64) -> Result<Gadget
 }
 
 /// The graph of the units with these lows and caps.
-fn graph_over(
-    alloc: Global,
-    net: &Net,
-    step: u64,
-    lows: &[u64],
-    caps: &[u32],
-) -> Result<WGraph, AllocError>
+fn graph_over(alloc: Global, net: &Net, boxes: &Boxes) -> Result<WGraph, AllocError>
     requires bounds { IsWithinBounds (network net.now) }
-    requires step { (1 ≤ step) × (step ≤ MAX_STEP) }
-    requires ready { IsReady (network net.now) step lows.now caps.now }
-    requires small { (graph_by_lows (network net.now) step lows.now caps.now).n ≤ 2 ^ 25 }
-    ensures { IfOk result (λ g. graph g ≡ graph_by_lows (network net.now) step lows.now caps.now) }
+    requires step { (1 ≤ boxes.now.step) × (boxes.now.step ≤ MAX_STEP) }
+    requires ready { IsReady (network net.now) boxes.now.step boxes.now.lows.now boxes.now.caps.now }
+    requires small { (graph_by_lows (network net.now) boxes.now.step boxes.now.lows.now boxes.now.caps.now).n ≤ 2 ^ 25 }
+    ensures { IfOk result (λ g. graph g ≡ graph_by_lows (network net.now) boxes.now.step boxes.now.lows.now boxes.now.caps.now) }
 {
-    let plan = plan_of(alloc, net, step, lows, caps)?;
+    let plan = plan_of(alloc, net, boxes)?;
     let copies = Copies::new(alloc, plan.rooms)?;
     lay_out(alloc, &copies, plan.lone, &plan.units)
 }

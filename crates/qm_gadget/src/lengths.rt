@@ -16,6 +16,7 @@ ghost use Rattle.qm_gadget.specs.Ready.{IsReady};
 ghost use Rattle.qm_gadget.specs.Read.{first_below, skip_below, width_of_unit, lengths_by, lengths_read, widths_over};
 
 use crate::Memory;
+use crate::boxes::Boxes;
 use crate::marks::width_of;
 use crate::plan::plan_of;
 use def_flow::{ArcUnit, Gadget, MAX_STEP, Net};
@@ -32,38 +33,33 @@ pub fn lengths_of(alloc: Global, net: &Net, g: &Gadget, m: &[u32]) -> Result<Vec
     ensures inside { IfOk result (λ ys. IsInBox g.now.step g.now.low.items g.now.cap.items ys.items) }
     ensures cost { IfOk result (λ ys. (pos (deviation (network net.now) (entries ys.items)) -ℤ pos (deviation (network net.now) (entries g.now.low.items))) ≤ℤ matching_cost (graph g.now.graph) m.now) }
 {
-    lengths_over(
-        alloc,
-        net,
-        g.step,
-        &g.low,
-        &g.cap,
-        m,
-        g.graph.edges.len() as u32,
-    )
+    let boxes = Boxes {
+        lows: &g.low,
+        caps: &g.cap,
+        step: g.step,
+    };
+    lengths_over(alloc, net, &boxes, m, g.graph.edges.len() as u32)
 }
 
 /// The same, by the lows and caps of the gadget and the number of its edges.
 fn lengths_over(
     alloc: Global,
     net: &Net,
-    step: u64,
-    lows: &[u64],
-    caps: &[u32],
+    boxes: &Boxes,
     m: &[u32],
     edges: u32,
 ) -> Result<Vec<u64>, AllocError>
     requires bounds { IsWithinBounds (network net.now) }
-    requires step { (1 ≤ step) × (step ≤ MAX_STEP) }
-    requires ready { IsReady (network net.now) step lows.now caps.now }
+    requires step { (1 ≤ boxes.now.step) × (boxes.now.step ≤ MAX_STEP) }
+    requires ready { IsReady (network net.now) boxes.now.step boxes.now.lows.now boxes.now.caps.now }
     requires few { edges ≤ 2 ^ 26 }
     requires rising { IsRising 0 edges m.now }
-    requires wide { widths_over (network net.now) step lows.now caps.now ≤ edges }
-    ensures { IfOk result (λ ys. ys.items ≡ lengths_read (network net.now) step lows.now caps.now edges m.now) }
+    requires wide { widths_over (network net.now) boxes.now.step boxes.now.lows.now boxes.now.caps.now ≤ edges }
+    ensures { IfOk result (λ ys. ys.items ≡ lengths_read (network net.now) boxes.now.step boxes.now.lows.now boxes.now.caps.now edges m.now) }
 {
-    let plan = plan_of(alloc, net, step, lows, caps)?;
+    let plan = plan_of(alloc, net, boxes)?;
     let ons = states_in(alloc, &plan.rooms, &plan.units, m, edges)?;
-    raised(alloc, step, lows, caps, &ons)
+    raised(alloc, boxes, &ons)
 }
 
 /// The states of the units that a matching among so many edges tells.
@@ -123,23 +119,17 @@ fn past_below(m: &[u32], at: usize, end: u32) -> usize
 }
 
 /// The lengths where of each arc as many units are on as the states say.
-fn raised(
-    alloc: Global,
-    step: u64,
-    lows: &[u64],
-    caps: &[u32],
-    ons: &[bool],
-) -> Result<Vec<u64>, AllocError>
-    requires step { step ≤ MAX_STEP }
-    requires boxes { AreBoxes (length lows.now) lows.now caps.now }
-    ensures { IfOk result (λ ys. ys.items ≡ lengths_by step lows.now caps.now ons.now) }
+fn raised(alloc: Global, boxes: &Boxes, ons: &[bool]) -> Result<Vec<u64>, AllocError>
+    requires step { boxes.now.step ≤ MAX_STEP }
+    requires boxes { AreBoxes (length boxes.now.lows.now) boxes.now.lows.now boxes.now.caps.now }
+    ensures { IfOk result (λ ys. ys.items ≡ lengths_by boxes.now.step boxes.now.lows.now boxes.now.caps.now ons.now) }
 {
     let mut ys = Vec::new(alloc);
     let mut rest = ons;
-    for (k, low) in lows.iter().enumerate() {
-        let cap = (caps[k] as usize).min(rest.len());
+    for (k, low) in boxes.lows.iter().enumerate() {
+        let cap = (boxes.caps[k] as usize).min(rest.len());
         let (own, after) = rest.split_at(cap);
-        ys.push(*low + count_on(own) * step)?;
+        ys.push(*low + count_on(own) * boxes.step)?;
         rest = after;
     }
     Ok(ys)

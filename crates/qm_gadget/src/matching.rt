@@ -11,6 +11,7 @@ ghost use Rattle.qm_units.specs.Box.{ups};
 ghost use Rattle.qm_gadget.specs.Ready.{IsReady, marks_over};
 
 use crate::Memory;
+use crate::boxes::Boxes;
 use crate::marks::push_units_marks;
 use crate::plan::{Plan, plan_of};
 use crate::rim_marks::{push_rim_marks, rim_states_of};
@@ -28,28 +29,26 @@ pub fn matching_of(alloc: Global, net: &Net, g: &Gadget, x2: &[u64]) -> Result<V
     ensures perfect { IfOk result (λ m. IsPerfect (graph g.now.graph) m.items) }
     ensures cost { IfOk result (λ m. matching_cost (graph g.now.graph) m.items ≡ pos (deviation (network net.now) (entries x2.now)) -ℤ pos (deviation (network net.now) (entries g.now.low.items))) }
 {
-    matching_by(alloc, net, g.step, &g.low, &g.cap, x2)
+    let boxes = Boxes {
+        lows: &g.low,
+        caps: &g.cap,
+        step: g.step,
+    };
+    matching_by(alloc, net, &boxes, x2)
 }
 
 /// The same, by the lows and caps of the gadget.
-fn matching_by(
-    alloc: Global,
-    net: &Net,
-    step: u64,
-    lows: &[u64],
-    caps: &[u32],
-    x2: &[u64],
-) -> Result<Vec<u32>, AllocError>
+fn matching_by(alloc: Global, net: &Net, boxes: &Boxes, x2: &[u64]) -> Result<Vec<u32>, AllocError>
     requires bounds { IsWithinBounds (network net.now) }
-    requires step { (1 ≤ step) × (step ≤ MAX_STEP) }
-    requires ready { IsReady (network net.now) step lows.now caps.now }
-    requires inside { IsInBox step lows.now caps.now x2.now }
-    requires short { length (marks_over (network net.now) step lows.now caps.now (ups step lows.now x2.now)) ≤ 2 ^ 26 }
-    ensures { IfOk result (λ m. m.items ≡ places 0 (marks_over (network net.now) step lows.now caps.now (ups step lows.now x2.now))) }
+    requires step { (1 ≤ boxes.now.step) × (boxes.now.step ≤ MAX_STEP) }
+    requires ready { IsReady (network net.now) boxes.now.step boxes.now.lows.now boxes.now.caps.now }
+    requires inside { IsInBox boxes.now.step boxes.now.lows.now boxes.now.caps.now x2.now }
+    requires short { length (marks_over (network net.now) boxes.now.step boxes.now.lows.now boxes.now.caps.now (ups boxes.now.step boxes.now.lows.now x2.now)) ≤ 2 ^ 26 }
+    ensures { IfOk result (λ m. m.items ≡ places 0 (marks_over (network net.now) boxes.now.step boxes.now.lows.now boxes.now.caps.now (ups boxes.now.step boxes.now.lows.now x2.now))) }
 {
-    let plan = plan_of(alloc, net, step, lows, caps)?;
-    let raised = ups_of(alloc, step, lows, x2)?;
-    let ons = states_of(alloc, caps, &raised)?;
+    let plan = plan_of(alloc, net, boxes)?;
+    let raised = ups_of(alloc, boxes.step, boxes.lows, x2)?;
+    let ons = states_of(alloc, boxes.caps, &raised)?;
     marks_told(alloc, &plan, &ons)
 }
 

@@ -5,26 +5,26 @@ ghost use Rattle.def_flow.specs.Network.{network, IsWithinBounds};
 ghost use Rattle.def_flow.specs.Admissible.{arc_deviation as deviation_of_arc};
 ghost use Rattle.qm_gadget.specs.Over.{from_low, unit_over, units_over, AreBoxes};
 
+use crate::boxes::{Boxes, OwnBox};
 use def_flow::{Arc, ArcUnit, MAX_LENGTH, MAX_OLD, MAX_SCALE, MAX_STEP, MAX_WEIGHT, Net};
 use qm_net::arc_deviation;
 use std::alloc::{AllocError, Global};
 
 /// The units of all arcs, in order, by the least length and the number of units of each arc.
-pub(crate) fn units_of(
-    alloc: Global,
-    net: &Net,
-    step: u64,
-    lows: &[u64],
-    caps: &[u32],
-) -> Result<Vec<ArcUnit>, AllocError>
+pub(crate) fn units_of(alloc: Global, net: &Net, boxes: &Boxes) -> Result<Vec<ArcUnit>, AllocError>
     requires bounds { IsWithinBounds (network net.now) }
-    requires step { (1 ≤ step) × (step ≤ MAX_STEP) }
-    requires boxes { AreBoxes (length net.now.arcs.items) lows.now caps.now }
-    ensures { IfOk result (λ units. units.items ≡ units_over (network net.now) step net.now.arcs.items lows.now caps.now) }
+    requires step { (1 ≤ boxes.now.step) × (boxes.now.step ≤ MAX_STEP) }
+    requires boxes { AreBoxes (length net.now.arcs.items) boxes.now.lows.now boxes.now.caps.now }
+    ensures { IfOk result (λ units. units.items ≡ units_over (network net.now) boxes.now.step net.now.arcs.items boxes.now.lows.now boxes.now.caps.now) }
 {
     let mut units = Vec::new(alloc);
     for (k, arc) in net.arcs.iter().enumerate() {
-        push_units_of(net, step, arc, lows[k], caps[k], &mut units)?;
+        let own = OwnBox {
+            low: boxes.lows[k],
+            cap: boxes.caps[k],
+            step: boxes.step,
+        };
+        push_units_of(net, arc, &own, &mut units)?;
     }
     Ok(units)
 }
@@ -32,19 +32,17 @@ pub(crate) fn units_of(
 /// Adds the units of an arc.
 fn push_units_of(
     net: &Net,
-    step: u64,
     arc: &Arc,
-    low: u64,
-    cap: u32,
+    own: &OwnBox,
     units: &mut Vec<ArcUnit>,
 ) -> Result<(), AllocError>
     requires bounds { (net.now.p ≤ MAX_SCALE) × (net.now.q ≤ MAX_SCALE) × (arc.now.weight ≤ MAX_WEIGHT) × (arc.now.old ≤ MAX_OLD) }
-    requires step { (1 ≤ step) × (step ≤ MAX_STEP) }
-    requires small { (low ≤ MAX_LENGTH) × (cap ≤ 4) }
-    ensures { OnOk result (units.new.items ≡ units.old.items ++ from_low (network net.now) step arc.now low 0 cap) }
+    requires step { (1 ≤ own.now.step) × (own.now.step ≤ MAX_STEP) }
+    requires small { (own.now.low ≤ MAX_LENGTH) × (own.now.cap ≤ 4) }
+    ensures { OnOk result (units.new.items ≡ units.old.items ++ from_low (network net.now) own.now.step arc.now own.now.low 0 own.now.cap) }
 {
-    for k in 0..cap {
-        push_unit(unit_at(net, step, arc, low, k), units)?;
+    for k in 0..own.cap {
+        push_unit(unit_at(net, own.step, arc, own.low, k), units)?;
     }
     Ok(())
 }
