@@ -14,6 +14,20 @@ use crate::states::{bump, is_active};
 use def_flow::{ArcUnit, End};
 use std::alloc::{AllocError, Global};
 
+/// How many copies each node has, and how many of them are in use.
+#[derive(Clone, Copy)]
+struct Copied<'a> {
+    rooms: &'a [u32],
+    used: &'a [u32],
+}
+
+/// A unit in its state.
+#[derive(Clone, Copy)]
+struct Switched<'a> {
+    unit: &'a ArcUnit,
+    on: bool,
+}
+
 /// Adds the number `k` if it is marked.
 pub(crate) fn push_mark(m: &mut Vec<u32>, k: u32, mark: bool) -> Result<(), AllocError>
     ensures { OnOk result (m.new.items ≡ m.old.items ++ places k (mark ∷ [])) }
@@ -39,38 +53,46 @@ fn push_choice(m: &mut Vec<u32>, k: u32, some: bool, i: u32, n: u32) -> Result<(
 fn push_end_marks(
     m: &mut Vec<u32>,
     k: u32,
-    rooms: &[u32],
-    used: &[u32],
+    copied: &Copied,
     end: &End,
     on: bool,
 ) -> Result<(), AllocError>
-    requires at { end.now.node < length rooms.now }
-    requires same { length used.now ≡ length rooms.now }
-    requires few { (k ≤ 2 ^ 28) × (slice_index rooms.now end.now.node ≤ 2 ^ 28) }
-    ensures { OnOk result (m.new.items ≡ m.old.items ++ places k (end_marks (room_of rooms.now) (room_of used.now) (is_active_end on end.now) end.now)) }
+    requires at { end.now.node < length copied.now.rooms.now }
+    requires same { length copied.now.used.now ≡ length copied.now.rooms.now }
+    requires few { (k ≤ 2 ^ 28) × (slice_index copied.now.rooms.now end.now.node ≤ 2 ^ 28) }
+    ensures { OnOk result (m.new.items ≡ m.old.items ++ places k (end_marks (room_of copied.now.rooms.now) (room_of copied.now.used.now) (is_active_end on end.now) end.now)) }
 {
     let node = end.node as usize;
-    push_choice(m, k, is_active(end, on), used[node], rooms[node])
+    push_choice(
+        m,
+        k,
+        is_active(end, on),
+        copied.used[node],
+        copied.rooms[node],
+    )
 }
 
 /// Adds the chosen edges of the second end of a unit, and of the edge inside it if the signs are alike.
 fn push_right_marks(
     m: &mut Vec<u32>,
     k: u32,
-    rooms: &[u32],
-    used: &[u32],
-    left: &End,
+    copied: &Copied,
+    switched: &Switched,
     right: &End,
-    on: bool,
 ) -> Result<(), AllocError>
-    requires at { right.now.node < length rooms.now }
-    requires same { length used.now ≡ length rooms.now }
-    requires few { (k ≤ 2 ^ 28) × (slice_index rooms.now right.now.node ≤ 2 ^ 28) }
-    ensures { OnOk result (m.new.items ≡ m.old.items ++ places k (right_marks (room_of rooms.now) (room_of used.now) on left.now right.now)) }
+    requires at { right.now.node < length copied.now.rooms.now }
+    requires same { length copied.now.used.now ≡ length copied.now.rooms.now }
+    requires few { (k ≤ 2 ^ 28) × (slice_index copied.now.rooms.now right.now.node ≤ 2 ^ 28) }
+    ensures { OnOk result (m.new.items ≡ m.old.items ++ places k (right_marks (room_of copied.now.rooms.now) (room_of copied.now.used.now) switched.now.on switched.now.unit.now.left right.now)) }
 {
-    push_end_marks(m, k, rooms, used, right, on)?;
+    push_end_marks(m, k, copied, right, switched.on)?;
+    let left = &switched.unit.left;
     if have_like_signs(left, right) {
-        push_mark(m, k + rooms[right.node as usize], !is_active(left, on))?;
+        push_mark(
+            m,
+            k + copied.rooms[right.node as usize],
+            !is_active(left, switched.on),
+        )?;
     }
     Ok(())
 }
@@ -81,24 +103,42 @@ fn push_unit_marks(
     k: u32,
     rooms: &[u32],
     used: &mut [u32],
-    unit: &ArcUnit,
-    on: bool,
+    switched: &Switched,
 ) -> Result<(), AllocError>
-    requires at { IsAtNodes (length rooms.now) unit.now }
+    requires at { IsAtNodes (length rooms.now) switched.now.unit.now }
     requires same { length used.old ≡ length rooms.now }
     requires few { (k ≤ 2 ^ 27) × ((v : ℕ) → slice_index rooms.now v ≤ 2 ^ 27) }
     requires small { (v : ℕ) → slice_index used.old v ≤ 2 ^ 30 }
-    ensures marks { OnOk result (m.new.items ≡ m.old.items ++ places k (marks_by (room_of rooms.now) (room_of used.old) on unit.now.left unit.now.right)) }
-    ensures used { OnOk result (IsRaised (λ v. active_at v unit.now on) used.old used.new) }
+    ensures marks { OnOk result (m.new.items ≡ m.old.items ++ places k (marks_by (room_of rooms.now) (room_of used.old) switched.now.on switched.now.unit.now.left switched.now.unit.now.right)) }
+    ensures used { OnOk result (IsRaised (λ v. active_at v switched.now.unit.now switched.now.on) used.old used.new) }
 {
-    push_end_marks(m, k, rooms, used, &unit.left, on)?;
-    bump(used, &unit.left, on);
-    let after = k + rooms[unit.left.node as usize];
-    match &unit.right {
-        None => push_mark(m, after, !is_active(&unit.left, on)),
+    let left = &switched.unit.left;
+    push_end_marks(
+        m,
+        k,
+        &Copied {
+            rooms,
+            used: &*used,
+        },
+        left,
+        switched.on,
+    )?;
+    bump(used, left, switched.on);
+    let after = k + rooms[left.node as usize];
+    match &switched.unit.right {
+        None => push_mark(m, after, !is_active(left, switched.on)),
         Some(right) => {
-            push_right_marks(m, after, rooms, used, &unit.left, right, on)?;
-            bump(used, right, on);
+            push_right_marks(
+                m,
+                after,
+                &Copied {
+                    rooms,
+                    used: &*used,
+                },
+                switched,
+                right,
+            )?;
+            bump(used, right, switched.on);
             Ok(())
         }
     }
@@ -161,7 +201,7 @@ fn push_all_marks(
 {
     let mut k = 0;
     for (i, unit) in units.iter().enumerate() {
-        push_unit_marks(m, k, rooms, used, unit, ons[i])?;
+        push_unit_marks(m, k, rooms, used, &Switched { unit, on: ons[i] })?;
         k += width_of(rooms, unit);
     }
     Ok(k)

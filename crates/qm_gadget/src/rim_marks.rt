@@ -36,6 +36,13 @@ fn push_rim_state(states: &mut Vec<bool>, unit: &ArcUnit, on: bool) -> Result<()
     Ok(())
 }
 
+/// What stands before a vertex at the rim: whether a vertex is there, and whether it waits for a mate.
+#[derive(Clone, Copy)]
+struct Before {
+    there: bool,
+    waits: bool,
+}
+
 /// Adds the chosen edges at the rim, the first of which is `first`.
 pub(crate) fn push_rim_marks(
     m: &mut Vec<u32>,
@@ -50,7 +57,7 @@ pub(crate) fn push_rim_marks(
     let mut there = lone;
     let mut waits = lone;
     for (i, here) in states.iter().enumerate() {
-        k = push_rim_turn(m, k, there, waits, *here, i + 1 == states.len())?;
+        k = push_rim_turn(m, k, Before { there, waits }, *here, i + 1 == states.len())?;
         waits = are_different(waits, *here);
         there = true;
     }
@@ -61,22 +68,21 @@ pub(crate) fn push_rim_marks(
 fn push_rim_turn(
     m: &mut Vec<u32>,
     k: u32,
-    there: bool,
-    waits: bool,
+    before: Before,
     here: bool,
     last: bool,
 ) -> Result<u32, AllocError>
     requires { k ≤ 2 ^ 28 }
-    ensures marks { OnOk result (m.new.items ≡ m.old.items ++ places k (turn_marks there waits here last)) }
-    ensures past { IfOk result (λ past. past ≡ k + length (turn_marks there waits here last)) }
+    ensures marks { OnOk result (m.new.items ≡ m.old.items ++ places k (turn_marks before.there before.waits here last)) }
+    ensures past { IfOk result (λ past. past ≡ k + length (turn_marks before.there before.waits here last)) }
 {
-    push_if(m, k, there, waits && here)?;
-    let next = k + width_if(there);
+    push_if(m, k, before.there, before.waits && here)?;
+    let next = k + width_if(before.there);
     if last {
         return Ok(next);
     }
-    push_pair_marks(m, next, there, waits, here)?;
-    Ok(next + 2 + width_if(there))
+    push_pair_marks(m, next, before, here)?;
+    Ok(next + 2 + width_if(before.there))
 }
 
 /// How many edges there are where one may be missing.
@@ -101,17 +107,15 @@ fn push_if(m: &mut Vec<u32>, k: u32, there: bool, mark: bool) -> Result<(), Allo
 }
 
 /// Adds the chosen edges of the pair of vertices after one at the rim.
-fn push_pair_marks(
-    m: &mut Vec<u32>,
-    k: u32,
-    there: bool,
-    waits: bool,
-    here: bool,
-) -> Result<(), AllocError>
+fn push_pair_marks(m: &mut Vec<u32>, k: u32, before: Before, here: bool) -> Result<(), AllocError>
     requires { k ≤ 2 ^ 30 }
-    ensures { OnOk result (m.new.items ≡ m.old.items ++ places k ((not waits && here) ∷ mark_if there (waits && not here) ++ not (differ waits here) ∷ [])) }
+    ensures { OnOk result (m.new.items ≡ m.old.items ++ places k ((not before.waits && here) ∷ mark_if before.there (before.waits && not here) ++ not (differ before.waits here) ∷ [])) }
 {
-    push_mark(m, k, !waits && here)?;
-    push_if(m, k + 1, there, waits && !here)?;
-    push_mark(m, k + 1 + width_if(there), !are_different(waits, here))
+    push_mark(m, k, !before.waits && here)?;
+    push_if(m, k + 1, before.there, before.waits && !here)?;
+    push_mark(
+        m,
+        k + 1 + width_if(before.there),
+        !are_different(before.waits, here),
+    )
 }
