@@ -1,20 +1,18 @@
 -- The tree after an expansion, and the whole: the forest is valid.
-use Rattle.std.proofs.Common.{◌≡◌, ◌≢◌, ℕ, zero, suc, ◌+◌, ◌*◌, ◌-◌, ◌/◌, ◌%◌, ◌<◌, ◌≤◌, Bool, true, false, not, cond, eqb, Some, None, ℤ, pos, ◌+ℤ◌, ◌≤ℤ◌, ◌⊎◌, refl, sym, ◌∙◌, ap, subst, inl, inr, arith}
+use Rattle.std.proofs.Common.{◌≡◌, ◌≢◌, ℕ, ◌+◌, ◌*◌, ◌-◌, ◌/◌, ◌<◌, ◌≤◌, cond, eqb, Some, None, ◌⊎◌, refl, sym, ◌∙◌, ap, subst, inl, inr, arith}
 use Rattle.std.proofs.Math.Nat.{mul-le-mul_left}
-use Rattle.std.proofs.lemmas.Bool.{cases_eq, cases_lt, cases_Bool, cond-true, cond-false, eq-eqb, ne_eqb}
+use Rattle.std.proofs.lemmas.Bool.{cases_eq, cases_lt, cond-true, cond-false, eq-eqb, ne_eqb}
 use Rattle.def_math.specs.Searches.{least}
 use Rattle.qm_laws.proofs.Searches.{least_some}
-use Rattle.qm_laws.proofs.Sums.{total_below_same}
 use Rattle.def_forest.specs.Darts.{Darts, AreDarts, far}
-use Rattle.def_forest.specs.Forests.{Forest, load, splits, IsTight, IsOutermost, number, walk, ring_sum}
+use Rattle.def_forest.specs.Forests.{Forest, IsTight, IsOutermost}
 use Rattle.def_forest.specs.Opened.{Opening, IsOpening, IsOpened}
-use Rattle.def_forest.specs.Valid.{AreOutermost, IsNested, IsRing, IsJoint, IsFeasible, IsMate, IsMatched, IsTree, IsInner, IsOuter, IsValid, KeepsOutside}
+use Rattle.def_forest.specs.Valid.{AreOutermost, IsNested, IsFeasible, IsMate, IsMatched, IsTree, IsInner, IsOuter, IsValid, KeepsOutside}
 use Rattle.def_forest.specs.declared.kinds.Label.TheVariants.{Outer, Inner, Outside}
 use Rattle.def_forest.specs.Ways.{dart_or}
-use Rattle.forest_laws.proofs.Writes.{some_is, by_none, true_false}
+use Rattle.forest_laws.proofs.Writes.{some_is}
 use Rattle.forest_laws.proofs.Facts.{far_low, far_twin, tight_twin}
 use Rattle.forest_laws.proofs.WayLaws.{some_none}
-use Rattle.forest_laws.proofs.Shrinks.{walk_same, ring_sum_same}
 use Rattle.forest_laws.proofs.Expands.{b as the_b, b_named as the_b_named, out_not_part as the_out_not_part, out_in as the_out_in, out_old as the_out_old, Place as the_Place, place as the_place, other_not_b as the_other_not_b, same_tight as the_same_tight, new_outermost as the_new_outermost, new_nested as the_new_nested, new_feasible as the_new_feasible, halves}
 
 module _ (g : Darts) (are : AreDarts g) (f : Forest) (r : ℕ) (valid : IsValid g f (Some r)) (tree : IsTree g f r) (new : Forest) (o : Opening) (opening : IsOpening g f o) (is : IsOpened g f new o) where
@@ -44,15 +42,6 @@ module _ (g : Darts) (are : AreDarts g) (f : Forest) (r : ℕ) (valid : IsValid 
 
   same_tight : (d : ℕ) → IsTight g f d → IsTight g new d
   same_tight = the_same_tight g are f r valid tree new o opening is
-
-  new_outermost : AreOutermost g.n new
-  new_outermost = the_new_outermost g are f r valid tree new o opening is
-
-  new_nested : IsNested g new
-  new_nested = the_new_nested g are f r valid tree new o opening is
-
-  new_feasible : IsFeasible g new
-  new_feasible = the_new_feasible g are f r valid tree new o opening is
 
   -- The places along the ring.
   abbrev many : ℕ
@@ -394,9 +383,9 @@ module _ (g : Darts) (are : AreDarts g) (f : Forest) (r : ℕ) (valid : IsValid 
   -- An inner set of weight 0 may be opened.
   pub opened_valid : IsValid g new (Some r)
   opened_valid = record {
-    outermost = new_outermost;
-    nested = new_nested;
-    feasible = new_feasible;
+    outermost = the_new_outermost g are f r valid tree new o opening is;
+    nested = the_new_nested g are f r valid tree new o opening is;
+    feasible = the_new_feasible g are f r valid tree new o opening is;
     matched = new_matched;
     tree = λ x e. subst (λ y. IsTree g new y) (some_is r x e) new_tree;
     no_tree = λ e. absurd (none e);

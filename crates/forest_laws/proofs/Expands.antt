@@ -1,19 +1,14 @@
 -- An expansion keeps a forest valid.
-use Rattle.std.proofs.Common.{◌≡◌, ◌≢◌, ℕ, zero, suc, ◌+◌, ◌*◌, ◌-◌, ◌/◌, ◌%◌, ◌<◌, ◌≤◌, Bool, true, false, not, cond, eqb, Some, None, ℤ, pos, ◌+ℤ◌, ◌≤ℤ◌, ◌⊎◌, refl, sym, ◌∙◌, ap, subst, inl, inr, arith}
-use Rattle.std.proofs.Math.Nat.{mul-le-mul_left}
+use Rattle.std.proofs.Common.{◌≡◌, ◌≢◌, ℕ, zero, suc, ◌+◌, ◌*◌, ◌-◌, ◌/◌, ◌%◌, ◌<◌, ◌≤◌, Bool, true, false, not, cond, eqb, Some, ℤ, pos, ◌+ℤ◌, ◌≤ℤ◌, ◌⊎◌, refl, sym, ◌∙◌, ap, subst, inl, inr, arith}
 use Rattle.std.proofs.lemmas.Bool.{cases_eq, cases_lt, cases_Bool, cond-true, cond-false, eq-eqb, ne_eqb}
-use Rattle.def_math.specs.Searches.{least}
-use Rattle.qm_laws.proofs.Searches.{least_some}
 use Rattle.qm_laws.proofs.Sums.{total_below_same}
 use Rattle.def_forest.specs.Darts.{Darts, AreDarts, far}
 use Rattle.def_forest.specs.Forests.{Forest, load, splits, IsTight, IsOutermost, number, walk, ring_sum}
 use Rattle.def_forest.specs.Opened.{Opening, IsOpening, IsOpened}
-use Rattle.def_forest.specs.Valid.{AreOutermost, IsNested, IsRing, IsJoint, IsFeasible, IsMate, IsMatched, IsTree, IsInner, IsOuter, IsValid, KeepsOutside}
-use Rattle.def_forest.specs.declared.kinds.Label.TheVariants.{Outer, Inner, Outside}
-use Rattle.def_forest.specs.Ways.{dart_or}
-use Rattle.forest_laws.proofs.Writes.{some_is, by_none, true_false}
-use Rattle.forest_laws.proofs.Facts.{far_low, far_twin, tight_twin}
-use Rattle.forest_laws.proofs.WayLaws.{some_none}
+use Rattle.def_forest.specs.Valid.{AreOutermost, IsNested, IsRing, IsJoint, IsFeasible, IsTree, IsValid}
+use Rattle.def_forest.specs.declared.kinds.Label.TheVariants.{Inner, Outside}
+use Rattle.forest_laws.proofs.Writes.{by_none, true_false}
+use Rattle.forest_laws.proofs.Facts.{far_low}
 use Rattle.forest_laws.proofs.Shrinks.{walk_same, ring_sum_same}
 
 -- A number is even or odd.

@@ -1,14 +1,13 @@
 -- The tree after a shrink, and the whole: the forest is valid.
-use Rattle.std.proofs.Common.{◌≡◌, ◌≢◌, ℕ, zero, suc, ◌<◌, ◌≤◌, Bool, true, false, not, cond, eqb, Some, None, ℤ, pos, ◌+ℤ◌, ◌≤ℤ◌, ◌⊎◌, refl, sym, ◌∙◌, ap, subst, inl, inr, arith}
-use Rattle.std.proofs.lemmas.Bool.{cases_eq, cases_Bool, cond-true, cond-false, eq-eqb, ne_eqb}
-use Rattle.qm_laws.proofs.Sums.{total_below_same}
+use Rattle.std.proofs.Common.{◌≡◌, ◌≢◌, ℕ, ◌<◌, ◌≤◌, Bool, true, false, cond, Some, None, ◌⊎◌, sym, ◌∙◌, ap, subst, inl, inr, arith}
+use Rattle.std.proofs.lemmas.Bool.{cases_Bool, cond-true, cond-false}
 use Rattle.def_forest.specs.Darts.{Darts, AreDarts, far}
-use Rattle.def_forest.specs.Forests.{Forest, load, splits, IsTight, IsOutermost, number, walk, ring_sum, set_at}
+use Rattle.def_forest.specs.Forests.{Forest, IsTight, set_at}
 use Rattle.def_forest.specs.Shrunk.{IsUnused, IsCycle, IsClosedRow, IsShrunk}
-use Rattle.def_forest.specs.Valid.{AreOutermost, IsNested, IsRing, IsJoint, IsFeasible, IsMate, IsMatched, IsTree, IsInner, IsOuter, IsValid, KeepsOutside}
+use Rattle.def_forest.specs.Valid.{AreOutermost, IsNested, IsFeasible, IsMatched, IsTree, IsInner, IsOuter, IsValid, KeepsOutside}
 use Rattle.def_forest.specs.declared.kinds.Label.TheVariants.{Outer, Inner, Outside}
-use Rattle.forest_laws.proofs.Writes.{some_is, set_here, set_there, by_none, true_false}
-use Rattle.forest_laws.proofs.Facts.{far_low, far_twin}
+use Rattle.forest_laws.proofs.Writes.{some_is, set_here, set_there}
+use Rattle.forest_laws.proofs.Facts.{far_low}
 use Rattle.forest_laws.proofs.WayLaws.{some_none}
 use Rattle.forest_laws.proofs.Shrinks.{Place as the_Place, place as the_place, out_on as the_out_on, out_off as the_out_off, label_b as the_label_b, label_on as the_label_on, label_off as the_label_off, mate_b as the_mate_b, mate_on as the_mate_on, mate_off as the_mate_off, same_tight as the_same_tight, new_outermost as the_new_outermost, new_nested as the_new_nested, new_feasible as the_new_feasible, only_top as the_only_top, new_matched as the_new_matched}
 
