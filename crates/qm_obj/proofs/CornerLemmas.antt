@@ -9,6 +9,7 @@ use Rattle.def_text.specs.Corner.{are_indices, index_of, is_corner, is_optional,
 use Rattle.def_text.specs.Digits.{is_negative, is_number, is_sign, is_signed, number, unsigned}
 use Rattle.def_text.specs.declared.index.Index.TheVariants.{Vertex, Out}
 use Rattle.qm_obj.specs.Indices.{capped, corner_of, named, parts_behind}
+use Rattle.def_text.specs.Types.{Words}
 
 -- A word is cut at its first slash.
 pub split_word : (word : List ℕ) → slice_split is_slash word ≡ before_first is_slash word ∷ parts_behind (drop (position_or_len is_slash word) word)
@@ -83,7 +84,7 @@ two_words : (word : List ℕ) → (leb (length (slice_split is_slash word)) 2 &&
     ≡ (is_optional (before_first is_slash word) && (leb (length (parts_behind (drop (position_or_len is_slash word) word))) 1 && list_all is_optional (parts_behind (drop (position_or_len is_slash word) word))))
 two_words word = rw (split_word word) (by_parts (parts_behind (drop (position_or_len is_slash word) word)) (is_optional (before_first is_slash word)))
   where
-    by_parts : (parts : List (List ℕ)) (t : Bool) → (leb (suc (length parts)) 2 && (t && list_all is_optional parts)) ≡ (t && (leb (length parts) 1 && list_all is_optional parts))
+    by_parts : (parts : Words) (t : Bool) → (leb (suc (length parts)) 2 && (t && list_all is_optional parts)) ≡ (t && (leb (length parts) 1 && list_all is_optional parts))
     by_parts parts t = grind (arith, nat_tests)
 
 -- The same of what stands behind the first part, with its slash.

@@ -10,6 +10,7 @@ use Rattle.qm_obj.specs.Ahead.{text_ahead, size_ahead, span}
 use Rattle.std.proofs.lemmas.List.Folds.{list_any-append}
 use Rattle.qm_obj.specs.Lines.{first_logical, uncommented}
 use Rattle.qm_obj.proofs.WordLemmas.{uncommented_is, uncommented_none}
+use Rattle.def_io.specs.Bytes.{Lines}
 
 -- A comment is found before the end exactly where there is one.
 pub no_hash : (line : List ℕ) → eqb (position_or_len is_hash line) (length line) ≡ not (list_any is_hash line)
@@ -36,20 +37,20 @@ pub range_none : {X : Type 0} (xs : List X) (b : ℕ) → slice_range xs b b ≡
 range_none xs b = let e : b - b ≡ 0 = omega arith in rw e refl
 
 -- The physical lines up to this one are text_ahead, and each of them continues.
-pub record IsJoining (all : List (List ℕ)) (i next after : ℕ) (bytes : List ℕ) : Type 0 where
+pub record IsJoining (all : Lines) (i next after : ℕ) (bytes : List ℕ) : Type 0 where
   pub from : i ≤ next
   pub within : next ≤ after
   pub text : bytes ++ text_ahead (slice_range all next after) ≡ text_ahead (slice_range all i after)
   pub count : next + span (slice_range all next after) ≡ i + span (slice_range all i after)
   pub size : length bytes + size_ahead (slice_range all next after) ≡ size_ahead (slice_range all i after)
 
-pub record IsJoined (all : List (List ℕ)) (i next after : ℕ) (bytes : List ℕ) (size : ℕ) : Type 0 where
+pub record IsJoined (all : Lines) (i next after : ℕ) (bytes : List ℕ) (size : ℕ) : Type 0 where
   pub text : bytes ≡ text_ahead (slice_range all i after)
   pub count : next ≡ i + span (slice_range all i after)
   pub bytes_are : size ≡ size_ahead (slice_range all i after)
 
 -- One line more, that continues.
-pub joining_more : (all : List (List ℕ)) (i next after : ℕ) (bytes line : List ℕ) → next < after → after ≤ length all → line ≡ get_or all next [] → continues line ≡ true
+pub joining_more : (all : Lines) (i next after : ℕ) (bytes line : List ℕ) → next < after → after ≤ length all → line ≡ get_or all next [] → continues line ≡ true
     → IsJoining all i next after bytes → IsJoining all i (next + 1) after (bytes ++ with_space line)
 joining_more all i next after bytes line lt within is on so_far =
     let cut : slice_range all next after ≡ line ∷ slice_range all (next + 1) after = range_cons all next after [] lt within ∙ ap (λ l. l ∷ slice_range all (next + 1) after) (sym is) in
@@ -65,7 +66,7 @@ joining_more all i next after bytes line lt within is on so_far =
     }
 
 -- The last line, that does not continue.
-pub joined_last : (all : List (List ℕ)) (i next after : ℕ) (bytes line : List ℕ) → next < after → after ≤ length all → line ≡ get_or all next [] → continues line ≡ false
+pub joined_last : (all : Lines) (i next after : ℕ) (bytes line : List ℕ) → next < after → after ≤ length all → line ≡ get_or all next [] → continues line ≡ false
     → IsJoining all i next after bytes → IsJoined all i (next + 1) after (bytes ++ before_first is_hash line) (length bytes + length line)
 joined_last all i next after bytes line lt within is off so_far =
     let cut : slice_range all next after ≡ line ∷ slice_range all (next + 1) after = range_cons all next after [] lt within ∙ ap (λ l. l ∷ slice_range all (next + 1) after) (sym is) in
@@ -79,14 +80,14 @@ joined_last all i next after bytes line lt within is off so_far =
     }
 
 -- At least one physical line is in a logical line, and no more than there are.
-pub span_some : (line : List ℕ) (lines : List (List ℕ)) → 1 ≤ span (line ∷ lines)
+pub span_some : (line : List ℕ) (lines : Lines) → 1 ≤ span (line ∷ lines)
 span_some line lines = by_more (continues line)
   where
     by_more : (t : Bool) → 1 ≤ cond t (1 + span lines) 1
     by_more true = omega arith
     by_more false = omega arith
 
-pub span_few : (lines : List (List ℕ)) → span lines ≤ length lines
+pub span_few : (lines : Lines) → span lines ≤ length lines
 span_few [] = omega arith
 span_few (line ∷ lines) = by_more (continues line) (span_few lines)
   where
@@ -95,7 +96,7 @@ span_few (line ∷ lines) = by_more (continues line) (span_few lines)
     by_more false few = omega arith
 
 -- What is left to read is no longer than the physical lines.
-pub joined_short : (lines : List (List ℕ)) → length (text_ahead lines) ≤ size_ahead lines
+pub joined_short : (lines : Lines) → length (text_ahead lines) ≤ size_ahead lines
 joined_short [] = omega arith
 joined_short (line ∷ lines) = by_more (continues line) refl (joined_short lines)
   where
@@ -104,12 +105,12 @@ joined_short (line ∷ lines) = by_more (continues line) refl (joined_short line
     by_more false off short = omega (arith, length-take (position_or_len is_hash line) line)
 
 -- A physical line that does not continue is a logical line.
-pub single_span : (all : List (List ℕ)) (i after : ℕ) (line : List ℕ) → i < after → after ≤ length all → line ≡ get_or all i [] → continues line ≡ false → 1 ≡ span (slice_range all i after)
+pub single_span : (all : Lines) (i after : ℕ) (line : List ℕ) → i < after → after ≤ length all → line ≡ get_or all i [] → continues line ≡ false → 1 ≡ span (slice_range all i after)
 single_span all i after line lt within is off =
     let cut : slice_range all i after ≡ line ∷ slice_range all (i + 1) after = range_cons all i after [] lt within ∙ ap (λ l. l ∷ slice_range all (i + 1) after) (sym is) in
     sym (ap span cut ∙ rw off refl)
 
-pub single_logical : (all : List (List ℕ)) (i after : ℕ) (line : List ℕ) → i < after → after ≤ length all → line ≡ get_or all i [] → continues line ≡ false
+pub single_logical : (all : Lines) (i after : ℕ) (line : List ℕ) → i < after → after ≤ length all → line ≡ get_or all i [] → continues line ≡ false
     → record { number = i + 1; size = length line; text = uncommented line } ≡ first_logical (i + 1) (slice_range all i after)
 single_logical all i after line lt within is off =
     let cut : slice_range all i after ≡ line ∷ slice_range all (i + 1) after = range_cons all i after [] lt within ∙ ap (λ l. l ∷ slice_range all (i + 1) after) (sym is) in
@@ -129,7 +130,7 @@ cut_none (b ∷ bs) = by_hash (is_hash b) refl (cut_none bs)
     by_hash true is again = refl
     by_hash false isnt again = or_from _ _ isnt again
 
-joined_none : (lines : List (List ℕ)) → list_any is_hash (text_ahead lines) ≡ false
+joined_none : (lines : Lines) → list_any is_hash (text_ahead lines) ≡ false
 joined_none [] = refl
 joined_none (line ∷ lines) = by_more (continues line) refl (joined_none lines)
   where
@@ -140,11 +141,11 @@ joined_none (line ∷ lines) = by_more (continues line) refl (joined_none lines)
         ∙ or_from _ _ (list_any-append is_hash (take (length line - 1) line) (32 ∷ []) ∙ or_from _ _ (any_take (length line - 1) line bare) refl) again
     by_more false off again = subst (λ (xs : List ℕ). list_any is_hash xs ≡ false) (uncommented_is line) (cut_none line)
 
-pub joined_uncommented : (lines : List (List ℕ)) → uncommented (text_ahead lines) ≡ text_ahead lines
+pub joined_uncommented : (lines : Lines) → uncommented (text_ahead lines) ≡ text_ahead lines
 joined_uncommented lines = uncommented_none (text_ahead lines) (joined_none lines)
 
 -- Joined bytes and their size are the first logical line.
-pub joined_logical : (lines : List (List ℕ)) (number size : ℕ) (bytes : List ℕ) → size ≡ size_ahead lines → bytes ≡ text_ahead lines
+pub joined_logical : (lines : Lines) (number size : ℕ) (bytes : List ℕ) → size ≡ size_ahead lines → bytes ≡ text_ahead lines
     → record { number = number; size = size; text = uncommented bytes } ≡ first_logical number lines
 joined_logical lines number size bytes sizes are =
     ap (λ n. record { number = number; size = n; text = uncommented bytes }) sizes

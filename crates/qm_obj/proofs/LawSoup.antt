@@ -34,6 +34,9 @@ use Rattle.qm_obj.proofs.LineLemmas.{face_rest, vertex_rest}
 use Rattle.qm_obj.proofs.ListLemmas.{passes_at}
 use Rattle.qm_obj.proofs.ReadLemmas.{readings_append}
 use Rattle.qm_obj.proofs.SoupLemmas.{are_below, length-numbers_to, numbers_at, used_renumbered}
+use Rattle.def_text.specs.Types.{Positions}
+use Rattle.def_mesh.specs.Faces.{Faces}
+use Rattle.def_io.specs.Bytes.{Lines}
 
 -- What holds at each position of two lists holds at each position of both together, and of a map what holds of each image.
 each_both : {X : Type 0} (P : X → Type 0) (xs ys : List X) (d : X) → ((k : ℕ) → k < length xs → P (get_or xs k d)) → ((k : ℕ) → k < length ys → P (get_or ys k d)) → (k : ℕ) → k < length (xs ++ ys) → P (get_or (xs ++ ys) k d)
@@ -56,7 +59,7 @@ vertex_word v = decimal (v + 1)
 abbrev pub face_line : List ℕ → List ℕ
 face_line face = line_text 102 (map vertex_word face)
 
-abbrev pub canonical_lines : FaceSet → List (List ℕ)
+abbrev pub canonical_lines : FaceSet → Lines
 canonical_lines s = map position_line s.pos ++ map face_line s.faces
 
 ended : {X : Type 0} (text line : X → List ℕ) → ((x : X) → text x ≡ line x ++ 10 ∷ []) → (xs : List X) → flat_map text xs ≡ flat_map (λ l. l ++ 10 ∷ []) (map line xs)
@@ -167,7 +170,7 @@ face_said vertices faces n face few room is all =
     by_size t off said = rw off said
 
 -- Plain lines one behind the other.
-plain_append : (n : ℕ) (xs ys : List (List ℕ)) → plain_lines n (xs ++ ys) ≡ plain_lines n xs ++ plain_lines (n + length xs) ys
+plain_append : (n : ℕ) (xs ys : Lines) → plain_lines n (xs ++ ys) ≡ plain_lines n xs ++ plain_lines (n + length xs) ys
 plain_append n [] ys = let e : n + 0 ≡ n = omega arith in rw e refl
 plain_append n (x ∷ xs) ys = let e : n + suc (length xs) ≡ n + 1 + length xs = omega arith in rw (e, plain_append (n + 1) xs ys) refl
 
@@ -188,7 +191,7 @@ face_kind vertices n face few all =
     (ap (begins_with 118) ws, ap (begins_with 102) ws)
 
 -- What the lines of all positions say, and how many they are.
-positions_said : (before : List Logical) (n : ℕ) (ps : List (List ℤ)) → list_all is_position ps ≡ true → count_by is_vertex_line before + length ps ≤ 2 ^ 21
+positions_said : (before : List Logical) (n : ℕ) (ps : Positions) → list_all is_position ps ≡ true → count_by is_vertex_line before + length ps ≤ 2 ^ 21
     → (readings before (plain_lines n (map position_line ps)) ≡ map Position ps)
     × (count_by is_vertex_line (before ++ plain_lines n (map position_line ps)) ≡ count_by is_vertex_line before + length ps)
     × (count_by is_face_line (before ++ plain_lines n (map position_line ps)) ≡ count_by is_face_line before)
@@ -211,11 +214,11 @@ positions_said before n (p ∷ ps) all few =
     )
 
 -- What the lines of all faces say.
-abbrev faces_from : ℕ → List (List ℕ) → List Reading
+abbrev faces_from : ℕ → Faces → List Reading
 faces_from n [] = []
 faces_from n (f ∷ fs) = Face n (map (λ v. v + 1) f) ∷ faces_from (n + 1) fs
 
-faces_said : (vertices : ℕ) (before : List Logical) (n : ℕ) (fs : List (List ℕ)) → vertices ≤ 2 ^ 21 → count_by is_vertex_line before ≡ vertices → list_all is_quad fs ≡ true → list_all (are_below vertices) fs ≡ true
+faces_said : (vertices : ℕ) (before : List Logical) (n : ℕ) (fs : Faces) → vertices ≤ 2 ^ 21 → count_by is_vertex_line before ≡ vertices → list_all is_quad fs ≡ true → list_all (are_below vertices) fs ≡ true
     → count_by is_face_line before + length fs ≤ 2 ^ 20 → readings before (plain_lines n (map face_line fs)) ≡ faces_from n fs
 faces_said vertices before n [] few many quads below room = refl
 faces_said vertices before n (f ∷ fs) few many quads below room =
@@ -230,31 +233,31 @@ faces_said vertices before n (f ∷ fs) few many quads below room =
     rw (first, faces_said vertices (before ++ line ∷ []) (n + 1) fs few v q.1 b.1 (omega arith)) refl
 
 -- What these readings have.
-positions_of_positions : (ps : List (List ℤ)) → flat_map position_in (map Position ps) ≡ ps
+positions_of_positions : (ps : Positions) → flat_map position_in (map Position ps) ≡ ps
 positions_of_positions [] = refl
 positions_of_positions (p ∷ ps) = ap (λ xs. p ∷ xs) (positions_of_positions ps)
 
-faces_of_positions : (ps : List (List ℤ)) → flat_map face_in (map Position ps) ≡ []
+faces_of_positions : (ps : Positions) → flat_map face_in (map Position ps) ≡ []
 faces_of_positions [] = refl
 faces_of_positions (p ∷ ps) = faces_of_positions ps
 
-refusals_of_positions : (ps : List (List ℤ)) → flat_map refusal_in (map Position ps) ≡ []
+refusals_of_positions : (ps : Positions) → flat_map refusal_in (map Position ps) ≡ []
 refusals_of_positions [] = refl
 refusals_of_positions (p ∷ ps) = refusals_of_positions ps
 
-late_of_positions : (n : ℕ) (ps : List (List ℤ)) → flat_map (late_in n) (map Position ps) ≡ []
+late_of_positions : (n : ℕ) (ps : Positions) → flat_map (late_in n) (map Position ps) ≡ []
 late_of_positions n [] = refl
 late_of_positions n (p ∷ ps) = late_of_positions n ps
 
-positions_of_faces : (n : ℕ) (fs : List (List ℕ)) → flat_map position_in (faces_from n fs) ≡ []
+positions_of_faces : (n : ℕ) (fs : Faces) → flat_map position_in (faces_from n fs) ≡ []
 positions_of_faces n [] = refl
 positions_of_faces n (f ∷ fs) = positions_of_faces (n + 1) fs
 
-faces_of_faces : (n : ℕ) (fs : List (List ℕ)) → flat_map face_in (faces_from n fs) ≡ map (λ f. map (λ v. v + 1) f) fs
+faces_of_faces : (n : ℕ) (fs : Faces) → flat_map face_in (faces_from n fs) ≡ map (λ f. map (λ v. v + 1) f) fs
 faces_of_faces n [] = refl
 faces_of_faces n (f ∷ fs) = ap (λ xs. map (λ v. v + 1) f ∷ xs) (faces_of_faces (n + 1) fs)
 
-refusals_of_faces : (n : ℕ) (fs : List (List ℕ)) → flat_map refusal_in (faces_from n fs) ≡ []
+refusals_of_faces : (n : ℕ) (fs : Faces) → flat_map refusal_in (faces_from n fs) ≡ []
 refusals_of_faces n [] = refl
 refusals_of_faces n (f ∷ fs) = refusals_of_faces (n + 1) fs
 
@@ -264,13 +267,13 @@ not_late vertices (v ∷ vs) all =
     let parts : (ltb v vertices ≡ true) × (are_below vertices vs ≡ true) = and_parts _ _ all in
     or_from _ _ (le-ltb _ _ (omega (arith, ltb-true v vertices parts.0))) (not_late vertices vs parts.1)
 
-late_of_faces : (vertices n : ℕ) (fs : List (List ℕ)) → list_all (are_below vertices) fs ≡ true → flat_map (late_in vertices) (faces_from n fs) ≡ []
+late_of_faces : (vertices n : ℕ) (fs : Faces) → list_all (are_below vertices) fs ≡ true → flat_map (late_in vertices) (faces_from n fs) ≡ []
 late_of_faces vertices n [] all = refl
 late_of_faces vertices n (f ∷ fs) all =
     let parts : (are_below vertices f ≡ true) × (list_all (are_below vertices) fs ≡ true) = and_parts _ _ all in
     rw (not_late vertices f parts.0) (late_of_faces vertices (n + 1) fs parts.1)
 
-soup_said : (ps : List (List ℤ)) (fs : List (List ℕ)) (n : ℕ) → list_all (are_below (length ps)) fs ≡ true
+soup_said : (ps : Positions) (fs : Faces) (n : ℕ) → list_all (are_below (length ps)) fs ≡ true
     → soup_of (map Position ps ++ faces_from n fs) ≡ Ok (face_set ps (map (λ f. map (λ v. v + 1) f) fs))
 soup_said ps fs n below =
     let said = map Position ps ++ faces_from n fs in
@@ -290,13 +293,13 @@ keeps_all p (suc n) each =
     let last : p (suc n) ≡ true = ap p (sym (add-one n)) ∙ each n (omega arith) in
     filter-append p (numbers_to n) (suc n ∷ []) ∙ rw (keeps_all p n (λ k l. each k (omega arith)), last) refl
 
-record AllUsed (fs : List (List ℕ)) (n : ℕ) : Type 0 where
+record AllUsed (fs : Faces) (n : ℕ) : Type 0 where
   kept : (k : ℕ) → k ≤ n → used_to fs k ≡ numbers_to k
 
 all_used_to : (s : FaceSet) → IsSoup s → AllUsed (map (λ f. map (λ v. v + 1) f) s.faces) (length s.pos)
 all_used_to s soup = record { kept = λ k le. keeps_all (is_used (map (λ f. map (λ v. v + 1) f) s.faces)) k (λ j l. used_renumbered (λ v. v + 1) j s.faces (soup.used j (omega arith))) }
 
-positions_back : (ps : List (List ℤ)) → map (position_of ps) (numbers_to (length ps)) ≡ ps
+positions_back : (ps : Positions) → map (position_of ps) (numbers_to (length ps)) ≡ ps
 positions_back ps =
     let long : length (map (position_of ps) (numbers_to (length ps))) ≡ length ps = length-map (numbers_to (length ps)) (position_of ps) ∙ length-numbers_to (length ps) in
     same_lists (map (position_of ps) (numbers_to (length ps))) ps long (λ k d l.
@@ -305,7 +308,7 @@ positions_back ps =
     get_or-map (position_of ps) (numbers_to (length ps)) k 0 d (omega (arith, length-numbers_to (length ps)))
     ∙ ap (position_of ps) (numbers_at (length ps) k there) ∙ ap (λ j. get_or ps j []) e ∙ get_or_default ps k [] d there)
 
-corners_back : (fs : List (List ℕ)) (n : ℕ) → AllUsed fs n → (face : List ℕ) → are_below n face ≡ true → map (vertex_of fs) (map (λ v. v + 1) face) ≡ face
+corners_back : (fs : Faces) (n : ℕ) → AllUsed fs n → (face : List ℕ) → are_below n face ≡ true → map (vertex_of fs) (map (λ v. v + 1) face) ≡ face
 corners_back fs n used [] all = refl
 corners_back fs n used (v ∷ vs) all =
     let parts : (ltb v n ≡ true) × (are_below n vs ≡ true) = and_parts _ _ all in
@@ -313,7 +316,7 @@ corners_back fs n used (v ∷ vs) all =
     let first : vertex_of fs (v + 1) ≡ v = ap (λ k. length (used_to fs k)) e ∙ ap length (used.kept v (omega (arith, ltb-true v n parts.0))) ∙ length-numbers_to v in
     rw (first, corners_back fs n used vs parts.1) refl
 
-faces_back : (fs : List (List ℕ)) (n : ℕ) → AllUsed fs n → (some : List (List ℕ)) → list_all (are_below n) some ≡ true → map (λ corners. map (vertex_of fs) corners) (map (λ f. map (λ v. v + 1) f) some) ≡ some
+faces_back : (fs : Faces) (n : ℕ) → AllUsed fs n → (some : Faces) → list_all (are_below n) some ≡ true → map (λ corners. map (vertex_of fs) corners) (map (λ f. map (λ v. v + 1) f) some) ≡ some
 faces_back fs n used [] all = refl
 faces_back fs n used (f ∷ rest) all =
     let parts : (are_below n f ≡ true) × (list_all (are_below n) rest ≡ true) = and_parts _ _ all in

@@ -15,6 +15,8 @@ use Rattle.def_text.specs.Words.{ends_word, in_front, is_blank, words}
 use Rattle.def_io.specs.Lines.{line_of, lines_of, pieces, without_last}
 use Rattle.qm_obj.proofs.ListLemmas.{passes_at}
 use Rattle.qm_dec.proofs.Texts.{decimal_digits}
+use Rattle.def_text.specs.Types.{Words}
+use Rattle.def_io.specs.Bytes.{Lines}
 
 -- The bytes of words: from the minus to the digits.
 abbrev pub is_plain : ℕ → Bool
@@ -102,11 +104,11 @@ micro_word z near =
     by_sign false = (refl, omega arith)
 
 -- A letter and words behind it, with a blank before each.
-abbrev pub line_text : ℕ → List (List ℕ) → List ℕ
+abbrev pub line_text : ℕ → Words → List ℕ
 line_text letter ws = letter ∷ flat_map (λ w. 32 ∷ w) ws
 
 -- The words of such a line.
-blank_next : (ws : List (List ℕ)) → ends_word (flat_map (λ w. 32 ∷ w) ws) ≡ true
+blank_next : (ws : Words) → ends_word (flat_map (λ w. 32 ∷ w) ws) ≡ true
 blank_next [] = refl
 blank_next (w ∷ ws) = refl
 
@@ -122,25 +124,25 @@ word_then b (c ∷ cs) rest plain ends =
         → cond t (words (c ∷ cs ++ rest)) (cond u ((b ∷ []) ∷ words (c ∷ cs ++ rest)) (in_front b (words (c ∷ cs ++ rest)))) ≡ (b ∷ c ∷ cs) ∷ words rest
     by_tests t u off stays again = rw (off, stays, again) refl
 
-words_behind : (ws : List (List ℕ)) → ((k : ℕ) → k < length ws → IsWord (get_or ws k [])) → words (flat_map (λ w. 32 ∷ w) ws) ≡ ws
+words_behind : (ws : Words) → ((k : ℕ) → k < length ws → IsWord (get_or ws k [])) → words (flat_map (λ w. 32 ∷ w) ws) ≡ ws
 words_behind [] each = refl
 words_behind ([] ∷ ws) each = absurd (omega (arith, (each 0 (omega arith)).some))
 words_behind ((b ∷ bs) ∷ ws) each =
     word_then b bs (flat_map (λ w. 32 ∷ w) ws) (each 0 (omega arith)).plain (blank_next ws) ∙ ap (λ rest. (b ∷ bs) ∷ rest) (words_behind ws (λ k l. each (suc k) (omega arith)))
 
-pub line_words : (letter : ℕ) (ws : List (List ℕ)) → is_blank letter ≡ false → ((k : ℕ) → k < length ws → IsWord (get_or ws k [])) → words (line_text letter ws) ≡ (letter ∷ []) ∷ ws
+pub line_words : (letter : ℕ) (ws : Words) → is_blank letter ≡ false → ((k : ℕ) → k < length ws → IsWord (get_or ws k [])) → words (line_text letter ws) ≡ (letter ∷ []) ∷ ws
 line_words letter ws bare each = by_tests (is_blank letter) bare
   where
     by_tests : (t : Bool) → t ≡ false → cond t (words (flat_map (λ w. 32 ∷ w) ws)) (cond (ends_word (flat_map (λ w. 32 ∷ w) ws)) ((letter ∷ []) ∷ words (flat_map (λ w. 32 ∷ w) ws)) (in_front letter (words (flat_map (λ w. 32 ∷ w) ws)))) ≡ (letter ∷ []) ∷ ws
     by_tests t off = rw (off, blank_next ws) (ap (λ rest. (letter ∷ []) ∷ rest) (words_behind ws each))
 
 -- Its bytes are tame, and it is short.
-behind_tame : (ws : List (List ℕ)) → ((k : ℕ) → k < length ws → IsWord (get_or ws k [])) → list_all is_tame (flat_map (λ w. 32 ∷ w) ws) ≡ true
+behind_tame : (ws : Words) → ((k : ℕ) → k < length ws → IsWord (get_or ws k [])) → list_all is_tame (flat_map (λ w. 32 ∷ w) ws) ≡ true
 behind_tame [] each = refl
 behind_tame (w ∷ ws) each =
     all_both is_tame (32 ∷ w) (flat_map (λ w. 32 ∷ w) ws) (all_from is_plain is_tame plain_tame w (each 0 (omega arith)).plain) (behind_tame ws (λ k l. each (suc k) (omega arith)))
 
-behind_short : (ws : List (List ℕ)) → ((k : ℕ) → k < length ws → IsWord (get_or ws k [])) → length (flat_map (λ w. 32 ∷ w) ws) ≤ length ws * 61
+behind_short : (ws : Words) → ((k : ℕ) → k < length ws → IsWord (get_or ws k [])) → length (flat_map (λ w. 32 ∷ w) ws) ≤ length ws * 61
 behind_short [] each = omega arith
 behind_short (w ∷ ws) each =
     omega (arith, length-append (32 ∷ w) (flat_map (λ w. 32 ∷ w) ws), (each 0 (omega arith)).short, behind_short ws (λ k l. each (suc k) (omega arith)))
@@ -149,7 +151,7 @@ pub record IsLine (line : List ℕ) : Type 0 where
   pub tame : list_all is_tame line ≡ true
   pub short : length line ≤ 65536
 
-pub line_tame : (letter : ℕ) (ws : List (List ℕ)) → is_tame letter ≡ true → length ws ≤ 4 → ((k : ℕ) → k < length ws → IsWord (get_or ws k [])) → IsLine (line_text letter ws)
+pub line_tame : (letter : ℕ) (ws : Words) → is_tame letter ≡ true → length ws ≤ 4 → ((k : ℕ) → k < length ws → IsWord (get_or ws k [])) → IsLine (line_text letter ws)
 line_tame letter ws tame few each = record { tame = and_from _ _ tame (behind_tame ws each); short = omega (arith, behind_short ws each) }
 
 -- A text is cut after the first LF.
@@ -177,7 +179,7 @@ bare_line line tame =
         rw other refl
 
 -- The lines of a text of tame lines.
-pub lines_split : (ls : List (List ℕ)) → ((k : ℕ) → k < length ls → IsLine (get_or ls k [])) → lines_of (flat_map (λ l. l ++ 10 ∷ []) ls) ≡ ls
+pub lines_split : (ls : Lines) → ((k : ℕ) → k < length ls → IsLine (get_or ls k [])) → lines_of (flat_map (λ l. l ++ 10 ∷ []) ls) ≡ ls
 lines_split [] each = refl
 lines_split (l ∷ ls) each =
     let first : IsLine l = each 0 (omega arith) in
@@ -185,7 +187,7 @@ lines_split (l ∷ ls) each =
     ∙ rw (bare_line l first.tame, lines_split ls (λ k m. each (suc k) (omega arith))) refl
 
 -- Each of them is a logical line.
-abbrev pub plain_lines : ℕ → List (List ℕ) → List Logical
+abbrev pub plain_lines : ℕ → Lines → List Logical
 plain_lines number [] = []
 plain_lines number (l ∷ ls) = record { number = number; size = length l; text = l } ∷ plain_lines (number + 1) ls
 
@@ -208,7 +210,7 @@ no_continuation (b ∷ bs) tame =
     let other : eqb (get_or (b ∷ bs) (length (b ∷ bs) - 1) 0) 92 ≡ false = not-true _ (and_parts _ _ (and_parts _ _ there).1).1 in
     rw other refl
 
-pub logical_plain : (number : ℕ) (ls : List (List ℕ)) → ((k : ℕ) → k < length ls → IsLine (get_or ls k [])) → logical_lines number ls ≡ plain_lines number ls
+pub logical_plain : (number : ℕ) (ls : Lines) → ((k : ℕ) → k < length ls → IsLine (get_or ls k [])) → logical_lines number ls ≡ plain_lines number ls
 logical_plain number [] each = refl
 logical_plain number (l ∷ ls) each =
     let first : IsLine l = each 0 (omega arith) in

@@ -12,18 +12,19 @@ use Rattle.def_text.specs.declared.refusal.ObjFail.TheVariants.{Syntax, NotQuad,
 use Rattle.qm_obj.specs.Indices.{capped, corner_of, with_capped}
 use Rattle.qm_obj.specs.declared.position.Coordinate.TheVariants.{Near, Far}
 use Rattle.qm_obj.specs.Positions.{all_near, coordinate, in_front}
+use Rattle.def_text.specs.Types.{Words}
 
 -- A `v` line with another number of words, or a word that is no decimal.
-pub vertex_syntax : (line vertices : ℕ) (ws : List (List ℕ)) → leb (2 ^ 21) vertices ≡ false → (is_position_count (length ws) && list_all is_decimal ws) ≡ false
+pub vertex_syntax : (line vertices : ℕ) (ws : Words) → leb (2 ^ 21) vertices ≡ false → (is_position_count (length ws) && list_all is_decimal ws) ≡ false
     → Refused (Syntax line) ≡ vertex_reading line vertices ws
 vertex_syntax line vertices ws few bad = rw (few, bad) refl
 
 -- A `v` line of the right form.
-pub vertex_rest : (line vertices : ℕ) (ws : List (List ℕ)) → leb (2 ^ 21) vertices ≡ false → (is_position_count (length ws) && list_all is_decimal ws) ≡ true
+pub vertex_rest : (line vertices : ℕ) (ws : Words) → leb (2 ^ 21) vertices ≡ false → (is_position_count (length ws) && list_all is_decimal ws) ≡ true
     → vertex_reading line vertices ws ≡ cond (list_any (λ w. is_far (rounded w)) (take 3 ws)) (Refused (Range line)) (Position (map rounded (take 3 ws)))
 vertex_rest line vertices ws few right = rw (few, right) refl
 
-all_coordinates : (ws : List (List ℕ)) → all_near (map coordinate ws) ≡ cond (list_any (λ w. is_far (rounded w)) ws) None (Some (map rounded ws))
+all_coordinates : (ws : Words) → all_near (map coordinate ws) ≡ cond (list_any (λ w. is_far (rounded w)) ws) None (Some (map rounded ws))
 all_coordinates [] = refl
 all_coordinates (w ∷ ws) = by_far (is_far (rounded w)) (all_coordinates ws)
   where
@@ -36,7 +37,7 @@ all_coordinates (w ∷ ws) = by_far (is_far (rounded w)) (all_coordinates ws)
     by_far true again = refl
     by_far false again = by_rest (list_any (λ w. is_far (rounded w)) ws) again
 
-pub vertex_position : (line vertices : ℕ) (ws : List (List ℕ)) (position : List ℤ) → leb (2 ^ 21) vertices ≡ false → (is_position_count (length ws) && list_all is_decimal ws) ≡ true
+pub vertex_position : (line vertices : ℕ) (ws : Words) (position : List ℤ) → leb (2 ^ 21) vertices ≡ false → (is_position_count (length ws) && list_all is_decimal ws) ≡ true
     → all_near (map coordinate (take 3 ws)) ≡ Some position → Position position ≡ vertex_reading line vertices ws
 vertex_position line vertices ws position few right is =
     by_far (list_any (λ w. is_far (rounded w)) (take 3 ws)) (sym (all_coordinates (take 3 ws)) ∙ is) ∙ sym (vertex_rest line vertices ws few right)
@@ -45,7 +46,7 @@ vertex_position line vertices ws position few right is =
     by_far true is = cc is
     by_far false is = let e : map rounded (take 3 ws) ≡ position = cc is in ap Position (sym e)
 
-pub vertex_far : (line vertices : ℕ) (ws : List (List ℕ)) → leb (2 ^ 21) vertices ≡ false → (is_position_count (length ws) && list_all is_decimal ws) ≡ true
+pub vertex_far : (line vertices : ℕ) (ws : Words) → leb (2 ^ 21) vertices ≡ false → (is_position_count (length ws) && list_all is_decimal ws) ≡ true
     → all_near (map coordinate (take 3 ws)) ≡ None → Refused (Range line) ≡ vertex_reading line vertices ws
 vertex_far line vertices ws few right is =
     by_far (list_any (λ w. is_far (rounded w)) (take 3 ws)) (sym (all_coordinates (take 3 ws)) ∙ is) ∙ sym (vertex_rest line vertices ws few right)
@@ -55,16 +56,16 @@ vertex_far line vertices ws few right is =
     by_far false is = cc is
 
 -- An `f` line with a word that is no corner, and one with another number of corners.
-pub face_syntax : (line vertices faces : ℕ) (ws : List (List ℕ)) → leb (2 ^ 20) faces ≡ false → list_all is_corner ws ≡ false
+pub face_syntax : (line vertices faces : ℕ) (ws : Words) → leb (2 ^ 20) faces ≡ false → list_all is_corner ws ≡ false
     → Refused (Syntax line) ≡ with_capped (face_reading line vertices faces ws)
 face_syntax line vertices faces ws few bad = rw (few, bad) refl
 
-pub face_count : (line vertices faces : ℕ) (ws : List (List ℕ)) → leb (2 ^ 20) faces ≡ false → list_all is_corner ws ≡ true → eqb (length ws) 4 ≡ false
+pub face_count : (line vertices faces : ℕ) (ws : Words) → leb (2 ^ 20) faces ≡ false → list_all is_corner ws ≡ true → eqb (length ws) 4 ≡ false
     → Refused (NotQuad line (length ws)) ≡ with_capped (face_reading line vertices faces ws)
 face_count line vertices faces ws few corners other = rw (few, corners, other) refl
 
 -- An `f` line of four corners.
-pub face_rest : (line vertices faces : ℕ) (ws : List (List ℕ)) → leb (2 ^ 20) faces ≡ false → list_all is_corner ws ≡ true → eqb (length ws) 4 ≡ true
+pub face_rest : (line vertices faces : ℕ) (ws : Words) → leb (2 ^ 20) faces ≡ false → list_all is_corner ws ≡ true → eqb (length ws) 4 ≡ true
     → face_reading line vertices faces ws ≡ cond (list_any (λ w. is_out vertices (used_index w)) ws) (Refused (Range line)) (Face line (map (λ w. resolved vertices (used_index w)) ws))
 face_rest line vertices faces ws few corners four = rw (few, corners, four) refl
 
@@ -79,23 +80,23 @@ out_zero vertices word = by_number (number (unsigned (used_index word))) (is_neg
 in_capped : (vertices : ℕ) (word : List ℕ) → is_out vertices (used_index word) ≡ false → corner_of vertices word ≡ capped (resolved vertices (used_index word))
 in_capped vertices word inside = rw inside (omega arith)
 
-any_out : (vertices : ℕ) (ws : List (List ℕ)) → list_any (λ corner. eqb corner 0) (map (corner_of vertices) ws) ≡ list_any (λ w. is_out vertices (used_index w)) ws
+any_out : (vertices : ℕ) (ws : Words) → list_any (λ corner. eqb corner 0) (map (corner_of vertices) ws) ≡ list_any (λ w. is_out vertices (used_index w)) ws
 any_out vertices [] = refl
 any_out vertices (w ∷ ws) = rw (out_zero vertices w, any_out vertices ws) refl
 
-all_in : (vertices : ℕ) (ws : List (List ℕ)) → list_any (λ w. is_out vertices (used_index w)) ws ≡ false → map (corner_of vertices) ws ≡ map capped (map (λ w. resolved vertices (used_index w)) ws)
+all_in : (vertices : ℕ) (ws : Words) → list_any (λ w. is_out vertices (used_index w)) ws ≡ false → map (corner_of vertices) ws ≡ map capped (map (λ w. resolved vertices (used_index w)) ws)
 all_in vertices [] inside = refl
 all_in vertices (w ∷ ws) inside =
     let parts : (is_out vertices (used_index w) ≡ false) × (list_any (λ w. is_out vertices (used_index w)) ws ≡ false) = or_parts _ _ inside in
     rw (in_capped vertices w parts.0, all_in vertices ws parts.1) refl
 
-pub face_out : (line vertices faces : ℕ) (ws : List (List ℕ)) → leb (2 ^ 20) faces ≡ false → list_all is_corner ws ≡ true → eqb (length ws) 4 ≡ true
+pub face_out : (line vertices faces : ℕ) (ws : Words) → leb (2 ^ 20) faces ≡ false → list_all is_corner ws ≡ true → eqb (length ws) 4 ≡ true
     → list_any (λ corner. eqb corner 0) (map (corner_of vertices) ws) ≡ true → Refused (Range line) ≡ with_capped (face_reading line vertices faces ws)
 face_out line vertices faces ws few corners four out =
     sym (ap with_capped (face_rest line vertices faces ws few corners four)
     ∙ ap (λ t. with_capped (cond t (Refused (Range line)) (Face line (map (λ w. resolved vertices (used_index w)) ws)))) (sym (any_out vertices ws) ∙ out))
 
-pub face_in : (line vertices faces : ℕ) (ws : List (List ℕ)) → leb (2 ^ 20) faces ≡ false → list_all is_corner ws ≡ true → eqb (length ws) 4 ≡ true
+pub face_in : (line vertices faces : ℕ) (ws : Words) → leb (2 ^ 20) faces ≡ false → list_all is_corner ws ≡ true → eqb (length ws) 4 ≡ true
     → list_any (λ corner. eqb corner 0) (map (corner_of vertices) ws) ≡ false → Face line (map (corner_of vertices) ws) ≡ with_capped (face_reading line vertices faces ws)
 face_in line vertices faces ws few corners four inside =
     let none : list_any (λ w. is_out vertices (used_index w)) ws ≡ false = sym (any_out vertices ws) ∙ inside in

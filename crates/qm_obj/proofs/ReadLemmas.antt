@@ -26,6 +26,9 @@ use Rattle.qm_obj.proofs.JoinLemmas.{range_cons, range_none, span_few, span_some
 use Rattle.qm_obj.proofs.ListLemmas.{length-range, range_drop}
 use Rattle.qm_obj.proofs.SoupLemmas.{few_pos, same_faces}
 use Rattle.qm_obj.proofs.SuitLemmas.{Suits, reading_suits}
+use Rattle.def_text.specs.Types.{Positions}
+use Rattle.def_mesh.specs.Faces.{Faces}
+use Rattle.def_io.specs.Bytes.{Lines}
 
 -- What two lists of lines say, one behind the other.
 pub readings_append : (before xs ys : List Logical) → readings before (xs ++ ys) ≡ readings before xs ++ readings (before ++ xs) ys
@@ -143,7 +146,7 @@ refused_capped (Face n cs) fail is = cc is
 refused_capped (Refused e) fail is = is
 
 -- Capped corners are positive where the corners are, and late where they are; those that are not late are not capped.
-positive_capped : (faces : List (List ℕ)) → list_all (list_all (λ corner. ltb 0 corner)) faces ≡ true → list_all (list_all (λ corner. ltb 0 corner)) (map (λ face. map capped face) faces) ≡ true
+positive_capped : (faces : Faces) → list_all (list_all (λ corner. ltb 0 corner)) faces ≡ true → list_all (list_all (λ corner. ltb 0 corner)) (map (λ face. map capped face) faces) ≡ true
 positive_capped [] all = refl
 positive_capped (face ∷ faces) all =
     let parts : (list_all (λ corner. ltb 0 corner) face ≡ true) × (list_all (list_all (λ corner. ltb 0 corner)) faces ≡ true) = and_parts _ _ all in
@@ -165,12 +168,12 @@ any_capped n few (corner ∷ corners) = rw (one corner, any_capped n few corners
     one : (corner : ℕ) → ltb n (min corner (2 ^ 32 - 1)) ≡ ltb n corner
     one corner = grind (arith, nat_tests)
 
-late_capped : (n : ℕ) → n ≤ 2 ^ 21 → (faces : List (List ℕ)) (lines : List ℕ) → first_late n (map (λ face. map capped face) faces) lines ≡ first_late n faces lines
+late_capped : (n : ℕ) → n ≤ 2 ^ 21 → (faces : Faces) (lines : List ℕ) → first_late n (map (λ face. map capped face) faces) lines ≡ first_late n faces lines
 late_capped n few [] lines = refl
 late_capped n few (face ∷ faces) [] = refl
 late_capped n few (face ∷ faces) (line ∷ lines) = rw (any_capped n few face, late_capped n few faces lines) refl
 
-uncapped : (n : ℕ) → n ≤ 2 ^ 21 → (faces : List (List ℕ)) (lines : List ℕ) → length lines ≡ length faces → first_late n faces lines ≡ None → map (λ face. map capped face) faces ≡ faces
+uncapped : (n : ℕ) → n ≤ 2 ^ 21 → (faces : Faces) (lines : List ℕ) → length lines ≡ length faces → first_late n faces lines ≡ None → map (λ face. map capped face) faces ≡ faces
 uncapped n few [] lines size none = refl
 uncapped n few (face ∷ faces) [] size none = absurd (omega arith)
 uncapped n few (face ∷ faces) (line ∷ lines) size none = by_late (list_any (λ corner. ltb n corner) face) refl none (uncapped n few faces lines (omega arith))
@@ -188,7 +191,7 @@ uncapped n few (face ∷ faces) (line ∷ lines) size none = by_late (list_any (
     by_late false is none again = rw (along face is, again none) refl
 
 -- The counts of a reader are those of the lines.
-record IsWithin (lines : List Logical) (kept : List (List ℤ)) (corners : List (List ℕ)) (numbers : List ℕ) : Type 0 where
+record IsWithin (lines : List Logical) (kept : Positions) (corners : Faces) (numbers : List ℕ) : Type 0 where
   vertices : length kept ≡ count_by is_vertex_line lines
   faces_are : length corners ≡ count_by is_face_line lines
   few_vertices : length kept ≤ 2 ^ 21
@@ -196,7 +199,7 @@ record IsWithin (lines : List Logical) (kept : List (List ℤ)) (corners : List 
   sizes : length numbers ≡ length corners
   positive : IsTrue (list_all (list_all (λ corner. ltb 0 corner)) corners)
 
-read_within : (lines : List Logical) (kept : List (List ℤ)) (corners : List (List ℕ)) (numbers : List ℕ) → HasRead lines kept corners numbers → IsWithin lines kept corners numbers
+read_within : (lines : List Logical) (kept : Positions) (corners : Faces) (numbers : List ℕ) → HasRead lines kept corners numbers → IsWithin lines kept corners numbers
 read_within lines kept corners numbers has =
     let said = readings [] lines in
     let counted : IsCountedIn [] lines said = counted_in [] lines has.accepted in
@@ -216,14 +219,14 @@ pushed f kept old new said is are =
     ap (λ xs. xs ++ f said) is ∙ ap (λ xs. flat_map f old ++ xs) (sym (append-nil (f said))) ∙ sym (flat_map-append f old (said ∷ [])) ∙ ap (flat_map f) (sym are)
 
 -- The readings of lines that are read, and of a line and more behind them.
-read_behind : (lines rest : List Logical) (line : Logical) (kept : List (List ℤ)) (corners : List (List ℕ)) (numbers : List ℕ) → HasRead lines kept corners numbers
+read_behind : (lines rest : List Logical) (line : Logical) (kept : Positions) (corners : Faces) (numbers : List ℕ) → HasRead lines kept corners numbers
     → readings [] (lines ++ line ∷ rest) ≡ readings [] lines ++ reading (length kept) (length corners) line ∷ readings (lines ++ line ∷ []) rest
 read_behind lines rest line kept corners numbers has =
     let within : IsWithin lines kept corners numbers = read_within lines kept corners numbers has in
     readings_append [] lines (line ∷ rest) ∙ rw (within.vertices, within.faces_are) refl
 
 -- One line more, that is not refused.
-read_more : (lines : List Logical) (line : Logical) (kept kept' : List (List ℤ)) (corners corners' : List (List ℕ)) (numbers numbers' : List ℕ) → HasRead lines kept corners numbers
+read_more : (lines : List Logical) (line : Logical) (kept kept' : Positions) (corners corners' : Faces) (numbers numbers' : List ℕ) → HasRead lines kept corners numbers
     → Took kept kept' corners corners' numbers numbers' (next_said kept corners line) → HasRead (lines ++ line ∷ []) kept' corners' numbers'
 read_more lines line kept kept' corners corners' numbers numbers' has took =
     let old = readings [] lines in
@@ -240,7 +243,7 @@ read_more lines line kept kept' corners corners' numbers numbers' has took =
     }
 
 -- The soup of lines that are read, where no face is late.
-read_ok : (lines : List Logical) (kept : List (List ℤ)) (corners : List (List ℕ)) (numbers : List ℕ) → HasRead lines kept corners numbers
+read_ok : (lines : List Logical) (kept : Positions) (corners : Faces) (numbers : List ℕ) → HasRead lines kept corners numbers
     → first_late (length kept) corners numbers ≡ None → soup_of (readings [] lines) ≡ Ok (face_set kept corners)
 read_ok lines kept corners numbers has calm =
     let said = readings [] lines in
@@ -253,7 +256,7 @@ read_ok lines kept corners numbers has calm =
     ∙ ap (λ fails. first_refusal fails (face_set (positions said) (faces said))) none)
 
 -- The late refusal of lines that are read.
-read_late : (lines : List Logical) (kept : List (List ℤ)) (corners : List (List ℕ)) (numbers : List ℕ) (line : ℕ) → HasRead lines kept corners numbers
+read_late : (lines : List Logical) (kept : Positions) (corners : Faces) (numbers : List ℕ) (line : ℕ) → HasRead lines kept corners numbers
     → first_late (length kept) corners numbers ≡ Some line → soup_of (readings [] lines) ≡ Err (Range line)
 read_late lines kept corners numbers line has found =
     let said = readings [] lines in
@@ -263,7 +266,7 @@ read_late lines kept corners numbers line has found =
     ∙ late_some (length (positions said)) said line (face_set (positions said) (faces said)) (rw (← has.positions_are, ← has.lines_are) late)
 
 -- The refusal of a line behind lines that are read is the first one.
-read_refused : (lines rest : List Logical) (line : Logical) (kept : List (List ℤ)) (corners : List (List ℕ)) (numbers : List ℕ) (fail : ObjFail) → HasRead lines kept corners numbers
+read_refused : (lines rest : List Logical) (line : Logical) (kept : Positions) (corners : Faces) (numbers : List ℕ) (fail : ObjFail) → HasRead lines kept corners numbers
     → next_said kept corners line ≡ Refused fail → soup_of (readings [] (lines ++ line ∷ rest)) ≡ Err fail
 read_refused lines rest line kept corners numbers fail has is =
     by_said (readings [] (lines ++ line ∷ rest)) (reading (length kept) (length corners) line) (readings (lines ++ line ∷ []) rest)
@@ -276,23 +279,23 @@ read_refused lines rest line kept corners numbers fail has is =
         ap (λ fails. first_refusal (fails ++ flat_map (late_in (length (positions all))) all) (face_set (positions all) (faces all))) some
 
 -- The first physical lines, up to line i, are read; those from i up to `after` are left.
-pub record IsAt (all : List (List ℕ)) (first i after : ℕ) (kept : List (List ℤ)) (corners : List (List ℕ)) (numbers : List ℕ) : Type 0 where
+pub record IsAt (all : Lines) (first i after : ℕ) (kept : Positions) (corners : Faces) (numbers : List ℕ) : Type 0 where
   pub within : i ≤ after
   pub read : HasReadTo (logical_lines (first + 1) (slice_range all first after)) (logical_lines (i + 1) (slice_range all i after)) kept corners numbers
 
-pub at_few : (all : List (List ℕ)) (first i after : ℕ) (kept : List (List ℤ)) (corners : List (List ℕ)) (numbers : List ℕ) → IsAt all first i after kept corners numbers → (length kept ≤ 2 ^ 21) × (length corners ≤ 2 ^ 20)
+pub at_few : (all : Lines) (first i after : ℕ) (kept : Positions) (corners : Faces) (numbers : List ℕ) → IsAt all first i after kept corners numbers → (length kept ≤ 2 ^ 21) × (length corners ≤ 2 ^ 20)
 at_few all first i after kept corners numbers at =
     let within : IsWithin at.read.done kept corners numbers = read_within at.read.done kept corners numbers at.read.has in (within.few_vertices, within.few_faces)
 
-pub at_sizes : (all : List (List ℕ)) (first i after : ℕ) (kept : List (List ℤ)) (corners : List (List ℕ)) (numbers : List ℕ) → IsAt all first i after kept corners numbers → length numbers ≡ length corners
+pub at_sizes : (all : Lines) (first i after : ℕ) (kept : Positions) (corners : Faces) (numbers : List ℕ) → IsAt all first i after kept corners numbers → length numbers ≡ length corners
 at_sizes all first i after kept corners numbers at = (read_within at.read.done kept corners numbers at.read.has).sizes
 
-pub at_positive : (all : List (List ℕ)) (first i after : ℕ) (kept : List (List ℤ)) (corners : List (List ℕ)) (numbers : List ℕ) → IsAt all first i after kept corners numbers
+pub at_positive : (all : Lines) (first i after : ℕ) (kept : Positions) (corners : Faces) (numbers : List ℕ) → IsAt all first i after kept corners numbers
     → IsTrue (list_all (list_all (λ corner. ltb 0 corner)) corners)
 at_positive all first i after kept corners numbers at = (read_within at.read.done kept corners numbers at.read.has).positive
 
 -- The next logical line, and those behind it.
-next_lines : (all : List (List ℕ)) (i after : ℕ) → i < after → after ≤ length all
+next_lines : (all : Lines) (i after : ℕ) → i < after → after ≤ length all
     → logical_lines (i + 1) (slice_range all i after) ≡ first_logical (i + 1) (slice_range all i after) ∷ logical_lines (i + span (slice_range all i after) + 1) (slice_range all (i + span (slice_range all i after)) after)
 next_lines all i after lt within =
     let cut : slice_range all i after ≡ get_or all i [] ∷ slice_range all (i + 1) after = range_cons all i after [] lt within in
@@ -304,13 +307,13 @@ next_lines all i after lt within =
     (ap (λ ls. logical_lines (i + 1 + span (slice_range all i after)) ls) (range_drop all i (span (slice_range all i after)) after (omega arith)) ∙ ap (λ k. logical_lines k (slice_range all (i + span (slice_range all i after)) after)) n)
 
 -- The next logical line begins behind this one, and within the range.
-pub span_within : (all : List (List ℕ)) (i after : ℕ) → i < after → after ≤ length all → (1 ≤ span (slice_range all i after)) × (i + span (slice_range all i after) ≤ after)
+pub span_within : (all : Lines) (i after : ℕ) → i < after → after ≤ length all → (1 ≤ span (slice_range all i after)) × (i + span (slice_range all i after) ≤ after)
 span_within all i after lt within =
     let cut : slice_range all i after ≡ get_or all i [] ∷ slice_range all (i + 1) after = range_cons all i after [] lt within in
     (rw cut (span_some (get_or all i []) (slice_range all (i + 1) after)), omega (arith, span_few (slice_range all i after), length-range all i after (omega arith) within))
 
 -- One logical line more.
-pub at_next : (all : List (List ℕ)) (first i next after : ℕ) (kept kept' : List (List ℤ)) (corners corners' : List (List ℕ)) (numbers numbers' : List ℕ) → i < after → after ≤ length all → IsAt all first i after kept corners numbers
+pub at_next : (all : Lines) (first i next after : ℕ) (kept kept' : Positions) (corners corners' : Faces) (numbers numbers' : List ℕ) → i < after → after ≤ length all → IsAt all first i after kept corners numbers
     → next ≡ i + span (slice_range all i after) → Took kept kept' corners corners' numbers numbers' (next_said kept corners (first_logical (i + 1) (slice_range all i after)))
     → IsAt all first next after kept' corners' numbers'
 at_next all first i next after kept kept' corners corners' numbers numbers' lt within at is took =
@@ -326,14 +329,14 @@ at_next all first i next after kept kept' corners corners' numbers numbers' lt w
     }
 
 -- A logical line that is refused.
-pub at_refused : (all : List (List ℕ)) (first i after : ℕ) (kept : List (List ℤ)) (corners : List (List ℕ)) (numbers : List ℕ) (fail : ObjFail) → i < after → after ≤ length all → IsAt all first i after kept corners numbers
+pub at_refused : (all : Lines) (first i after : ℕ) (kept : Positions) (corners : Faces) (numbers : List ℕ) (fail : ObjFail) → i < after → after ≤ length all → IsAt all first i after kept corners numbers
     → next_said kept corners (first_logical (i + 1) (slice_range all i after)) ≡ Refused fail → text_soup (first + 1) (slice_range all first after) ≡ Err fail
 at_refused all first i after kept corners numbers fail lt within at stops =
     ap (λ ls. soup_of (readings [] ls)) (at.read.split ∙ ap (λ ls. at.read.done ++ ls) (next_lines all i after lt within))
     ∙ read_refused at.read.done _ (first_logical (i + 1) (slice_range all i after)) kept corners numbers fail at.read.has stops
 
 -- All lines are read.
-at_end : (all : List (List ℕ)) (first i after : ℕ) (kept : List (List ℤ)) (corners : List (List ℕ)) (numbers : List ℕ) → after ≤ i → (at : IsAt all first i after kept corners numbers)
+at_end : (all : Lines) (first i after : ℕ) (kept : Positions) (corners : Faces) (numbers : List ℕ) → after ≤ i → (at : IsAt all first i after kept corners numbers)
     → text_soup (first + 1) (slice_range all first after) ≡ soup_of (readings [] at.read.done)
 at_end all first i after kept corners numbers past at =
     let end : i ≡ after = omega (arith, at.within) in
@@ -341,13 +344,13 @@ at_end all first i after kept corners numbers past at =
     ap (λ ls. soup_of (readings [] ls)) (at.read.split ∙ ap (λ ls. at.read.done ++ logical_lines (i + 1) ls) none ∙ append-nil at.read.done)
 
 -- What `finish` says is the text's soup, within the limits, or its late refusal.
-pub finished_soup : (all : List (List ℕ)) (first i after : ℕ) (kept : List (List ℤ)) (corners : List (List ℕ)) (numbers : List ℕ) (r : Result FaceSet ObjFail) → after ≤ i → IsAt all first i after kept corners numbers
+pub finished_soup : (all : Lines) (first i after : ℕ) (kept : Positions) (corners : Faces) (numbers : List ℕ) (r : Result FaceSet ObjFail) → after ≤ i → IsAt all first i after kept corners numbers
     → IfOk r (λ s. (first_late (length kept) corners numbers ≡ None) × (s ≡ face_set kept corners)) → IfOk r (λ s. text_soup (first + 1) (slice_range all first after) ≡ Ok s)
 finished_soup all first i after kept corners numbers r past at =
     IfOk-weaker r (λ s. (first_late (length kept) corners numbers ≡ None) × (s ≡ face_set kept corners)) (λ s. text_soup (first + 1) (slice_range all first after) ≡ Ok s)
     (λ s is. at_end all first i after kept corners numbers past at ∙ read_ok at.read.done kept corners numbers at.read.has is.0 ∙ ap Ok (sym is.1))
 
-pub finished_few : (all : List (List ℕ)) (first i after : ℕ) (kept : List (List ℤ)) (corners : List (List ℕ)) (numbers : List ℕ) (r : Result FaceSet ObjFail) → IsAt all first i after kept corners numbers
+pub finished_few : (all : Lines) (first i after : ℕ) (kept : Positions) (corners : Faces) (numbers : List ℕ) (r : Result FaceSet ObjFail) → IsAt all first i after kept corners numbers
     → IfOk r (λ s. (first_late (length kept) corners numbers ≡ None) × (s ≡ face_set kept corners)) → IfOk r (λ s. (length s.pos ≤ 2 ^ 21) × (length s.faces ≤ 2 ^ 20))
 finished_few all first i after kept corners numbers r at =
     IfOk-weaker r (λ s. (first_late (length kept) corners numbers ≡ None) × (s ≡ face_set kept corners)) (λ s. (length s.pos ≤ 2 ^ 21) × (length s.faces ≤ 2 ^ 20))
@@ -357,7 +360,7 @@ finished_few all first i after kept corners numbers r at =
     let f : length s.faces ≡ length (face_set kept corners).faces = ap (λ (t : FaceSet). length t.faces) is.1 in
     (omega (arith, few_pos kept corners), omega (arith, same_faces kept corners)))
 
-pub finished_refused : (all : List (List ℕ)) (first i after : ℕ) (kept : List (List ℤ)) (corners : List (List ℕ)) (numbers : List ℕ) (r : Result FaceSet ObjFail) → after ≤ i → IsAt all first i after kept corners numbers
+pub finished_refused : (all : Lines) (first i after : ℕ) (kept : Positions) (corners : Faces) (numbers : List ℕ) (r : Result FaceSet ObjFail) → after ≤ i → IsAt all first i after kept corners numbers
     → IfErr r (λ fail. fail ≢ Memory → IsLate fail (first_late (length kept) corners numbers)) → IfErr r (λ fail. fail ≢ Memory → text_soup (first + 1) (slice_range all first after) ≡ Err fail)
 finished_refused all first i after kept corners numbers r past at =
     IfErr-weaker r (λ fail. fail ≢ Memory → IsLate fail (first_late (length kept) corners numbers)) (λ fail. fail ≢ Memory → text_soup (first + 1) (slice_range all first after) ≡ Err fail)

@@ -13,6 +13,8 @@ use Rattle.def_mesh.specs.Vertices.{is_used}
 use Rattle.def_text.specs.FaceSet.{IsSoup}
 use Rattle.def_text.specs.Text.{face_set, numbers_to, position_of, used_to, vertex_of}
 use Rattle.qm_obj.specs.Kept.{are_numbers, first_late}
+use Rattle.def_text.specs.Types.{Positions}
+use Rattle.def_mesh.specs.Faces.{Faces}
 
 -- Each of these numbers is below n.
 abbrev pub are_below : ℕ → List ℕ → Bool
@@ -34,10 +36,10 @@ numbers_rise : (n : ℕ) → IsStrictlyIncreasing (numbers_to n)
 numbers_rise n k l = let m : length (numbers_to n) ≡ n = length-numbers_to n in omega (arith, numbers_at n k (omega arith), numbers_at n (k + 1) (omega arith))
 
 -- One number more is kept where it is used.
-pub used_more : (faces : List (List ℕ)) (n : ℕ) → used_to faces (suc n) ≡ used_to faces n ++ cond (is_used faces (suc n)) (suc n ∷ []) []
+pub used_more : (faces : Faces) (n : ℕ) → used_to faces (suc n) ≡ used_to faces n ++ cond (is_used faces (suc n)) (suc n ∷ []) []
 used_more faces n = filter-append (is_used faces) (numbers_to n) (suc n ∷ [])
 
-used_grows : (faces : List (List ℕ)) (n m : ℕ) → length (used_to faces n) ≤ length (used_to faces (n + m))
+used_grows : (faces : Faces) (n m : ℕ) → length (used_to faces n) ≤ length (used_to faces (n + m))
 used_grows faces n zero = let e : n + 0 ≡ n = omega arith in rw e (omega arith)
 used_grows faces n (suc m) =
     let e : n + suc m ≡ suc (n + m) = omega arith in
@@ -46,7 +48,7 @@ used_grows faces n (suc m) =
     rw e (omega (arith, more, used_grows faces n m))
 
 -- A used number has fewer used ones before it than there are.
-rank_below : (faces : List (List ℕ)) (n k : ℕ) → 0 < k → k ≤ n → is_used faces k ≡ true → vertex_of faces k < length (used_to faces n)
+rank_below : (faces : Faces) (n k : ℕ) → 0 < k → k ≤ n → is_used faces k ≡ true → vertex_of faces k < length (used_to faces n)
 rank_below faces n (suc k) some le is =
     let e : suc k - 1 ≡ k = omega arith in
     let one : length (used_to faces (suc k)) ≡ length (used_to faces k) + 1 = ap length (used_more faces k) ∙ rw is (length_push (used_to faces k) (suc k)) in
@@ -56,7 +58,7 @@ rank_below faces n (suc k) some le is =
 rank_below faces n zero some le is = absurd (omega arith)
 
 -- The number at a position has as many used ones before it.
-rank_at : (faces : List (List ℕ)) (n v : ℕ) → v < length (used_to faces n) → vertex_of faces (get_or (used_to faces n) v 0) ≡ v
+rank_at : (faces : Faces) (n v : ℕ) → v < length (used_to faces n) → vertex_of faces (get_or (used_to faces n) v 0) ≡ v
 rank_at faces zero v lt = absurd (omega arith)
 rank_at faces (suc n) v lt = rw (used_more faces n) (by_position (cases_lt v (length (used_to faces n))) (is_used faces (suc n)) refl (λ below. rank_at faces n v below))
   where
@@ -74,7 +76,7 @@ rank_at faces (suc n) v lt = rw (used_more faces n) (by_position (cases_lt v (le
         absurd (omega arith)
 
 -- Each corner is used.
-corners_used : (faces some : List (List ℕ)) → ((f : ℕ) → f < length some → (j : ℕ) → j < length (get_or some f []) → is_used faces (get_or (get_or some f []) j 0) ≡ true) → list_all (list_all (is_used faces)) some ≡ true
+corners_used : (faces some : Faces) → ((f : ℕ) → f < length some → (j : ℕ) → j < length (get_or some f []) → is_used faces (get_or (get_or some f []) j 0) ≡ true) → list_all (list_all (is_used faces)) some ≡ true
 corners_used faces [] each = refl
 corners_used faces (x ∷ xs) each =
     and_from _ _ (along x (λ j l. each 0 (omega arith) j l)) (corners_used faces xs (λ f l j m. each (suc f) (omega arith) j m))
@@ -83,13 +85,13 @@ corners_used faces (x ∷ xs) each =
     along [] all = refl
     along (y ∷ ys) all = and_from _ _ (all 0 (omega arith)) (along ys (λ j l. all (suc j) (omega arith)))
 
-all_used : (faces : List (List ℕ)) → list_all (list_all (is_used faces)) faces ≡ true
+all_used : (faces : Faces) → list_all (list_all (is_used faces)) faces ≡ true
 all_used faces = corners_used faces faces (λ f l j m.
     list_any_at (λ face. list_any (λ corner. eqb corner (get_or (get_or faces f []) j 0)) face) faces f [] l
     (list_any_at (λ corner. eqb corner (get_or (get_or faces f []) j 0)) (get_or faces f []) j 0 m (eq-eqb _ _ refl)))
 
 -- The renumbered corners are vertices.
-below_all : (faces : List (List ℕ)) (n : ℕ) (some : List (List ℕ)) → list_all (are_numbers n) some ≡ true → list_all (list_all (is_used faces)) some ≡ true
+below_all : (faces : Faces) (n : ℕ) (some : Faces) → list_all (are_numbers n) some ≡ true → list_all (list_all (is_used faces)) some ≡ true
     → list_all (are_below (length (used_to faces n))) (map (λ corners. map (vertex_of faces) corners) some) ≡ true
 below_all faces n [] known used = refl
 below_all faces n (x ∷ xs) known used =
@@ -106,7 +108,7 @@ below_all faces n (x ∷ xs) known used =
         and_from _ _ (lt-ltb _ _ (rank_below faces n y (ltb-true 0 y b.0) (leb-true y n b.1) u.0)) (along ys k.1 u.1)
 
 -- A used number is used after renumbering.
-pub used_renumbered : (f : ℕ → ℕ) (m : ℕ) (faces : List (List ℕ)) → is_used faces m ≡ true → is_used (map (λ corners. map f corners) faces) (f m) ≡ true
+pub used_renumbered : (f : ℕ → ℕ) (m : ℕ) (faces : Faces) → is_used faces m ≡ true → is_used (map (λ corners. map f corners) faces) (f m) ≡ true
 used_renumbered f m [] is = absurd (false≢true is)
 used_renumbered f m (x ∷ xs) is = by_first (or_cases _ _ is) (used_renumbered f m xs)
   where
@@ -123,7 +125,7 @@ used_renumbered f m (x ∷ xs) is = by_first (or_cases _ _ is) (used_renumbered 
     by_first (inr there) again = or_right _ _ (again there)
 
 -- The used positions and the faces over them are a soup.
-pub face_set_is_soup : (positions : List (List ℤ)) (faces : List (List ℕ)) → IsTrue (list_all (are_numbers (length positions)) faces) → IsSoup (face_set positions faces)
+pub face_set_is_soup : (positions : Positions) (faces : Faces) → IsTrue (list_all (are_numbers (length positions)) faces) → IsSoup (face_set positions faces)
 face_set_is_soup positions faces known = record {
   in_range = rw (length-map (used_to faces (length positions)) (position_of positions)) (below_all faces (length positions) faces known (all_used faces));
   used = λ v l.
@@ -136,7 +138,7 @@ face_set_is_soup positions faces known = record {
 }
 
 -- Positive corners, none of which is late, are numbers of positions.
-pub none_late : (n : ℕ) (faces : List (List ℕ)) (lines : List ℕ) → length lines ≡ length faces → IsTrue (list_all (list_all (λ corner. ltb 0 corner)) faces) → first_late n faces lines ≡ None → IsTrue (list_all (are_numbers n) faces)
+pub none_late : (n : ℕ) (faces : Faces) (lines : List ℕ) → length lines ≡ length faces → IsTrue (list_all (list_all (λ corner. ltb 0 corner)) faces) → first_late n faces lines ≡ None → IsTrue (list_all (are_numbers n) faces)
 none_late n [] lines size positive none = refl
 none_late n (x ∷ xs) [] size positive none = absurd (omega arith)
 none_late n (x ∷ xs) (line ∷ lines) size positive none =
@@ -156,7 +158,7 @@ none_late n (x ∷ xs) (line ∷ lines) size positive none =
     by_late false is found positive again = and_from _ _ (along x positive is) (again found)
 
 -- A soup has at most as many positions as there are, and as many faces.
-pub few_pos : (positions : List (List ℤ)) (faces : List (List ℕ)) → length (face_set positions faces).pos ≤ length positions
+pub few_pos : (positions : Positions) (faces : Faces) → length (face_set positions faces).pos ≤ length positions
 few_pos positions faces =
     omega (
       arith,
@@ -166,5 +168,5 @@ few_pos positions faces =
       length-numbers_to (length positions),
     )
 
-pub same_faces : (positions : List (List ℤ)) (faces : List (List ℕ)) → length (face_set positions faces).faces ≡ length faces
+pub same_faces : (positions : Positions) (faces : Faces) → length (face_set positions faces).faces ≡ length faces
 same_faces positions faces = length-map faces (λ corners. map (vertex_of faces) corners)

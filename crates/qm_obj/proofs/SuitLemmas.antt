@@ -15,6 +15,7 @@ use Rattle.def_text.specs.declared.refusal.ObjFail.TheVariants.{Limit, NotQuad, 
 use Rattle.def_text.specs.declared.refusal.Which.TheVariants.{Faces, Line, Vertices}
 use Rattle.def_text.specs.declared.reading.Reading.{Reading}
 use Rattle.def_text.specs.declared.reading.Reading.TheVariants.{Passed, Position, Face, Refused}
+use Rattle.def_text.specs.Types.{Words}
 
 -- What a line says fits its kind and the limits.
 pub record Suits (vertices faces : ℕ) (line : Logical) (said : Reading) : Type 0 where
@@ -75,7 +76,7 @@ resolved_positive vertices word inside = by_number (number (unsigned word)) (is_
     by_number n true inside = grind (arith, nat_tests)
     by_number n false inside = grind (arith, nat_tests)
 
-positive_corners : (vertices : ℕ) (ws : List (List ℕ)) → list_any (λ w. is_out vertices (used_index w)) ws ≡ false
+positive_corners : (vertices : ℕ) (ws : Words) → list_any (λ w. is_out vertices (used_index w)) ws ≡ false
     → list_all (λ corner. ltb 0 corner) (map (λ w. resolved vertices (used_index w)) ws) ≡ true
 positive_corners vertices [] inside = refl
 positive_corners vertices (w ∷ ws) inside =
@@ -85,14 +86,14 @@ positive_corners vertices (w ∷ ws) inside =
 pub reading_suits : (vertices faces : ℕ) (line : Logical) → Suits vertices faces line (reading vertices faces line)
 reading_suits vertices faces line = by_size (ltb 65536 line.size)
   where
-    by_vertex : (ws : List (List ℕ)) (many bad far : Bool) → leb (2 ^ 21) vertices ≡ many → is_vertex_line line ≡ true → is_face_line line ≡ false
+    by_vertex : (ws : Words) (many bad far : Bool) → leb (2 ^ 21) vertices ≡ many → is_vertex_line line ≡ true → is_face_line line ≡ false
         → Suits vertices faces line (cond many (Refused (Limit Vertices line.number)) (cond bad (Refused (Syntax line.number)) (cond far (Refused (Range line.number)) (Position (map rounded (take 3 ws))))))
     by_vertex ws true bad far many vertex no_face = suits_refused vertices faces line _
     by_vertex ws false true far many vertex no_face = suits_refused vertices faces line _
     by_vertex ws false false true many vertex no_face = suits_refused vertices faces line _
     by_vertex ws false false false many vertex no_face = suits_position vertices faces line (map rounded (take 3 ws)) vertex no_face (leb-false _ _ many)
 
-    by_face : (ws : List (List ℕ)) (many bad other out : Bool) → leb (2 ^ 20) faces ≡ many → list_any (λ w. is_out vertices (used_index w)) ws ≡ out → is_vertex_line line ≡ false → is_face_line line ≡ true
+    by_face : (ws : Words) (many bad other out : Bool) → leb (2 ^ 20) faces ≡ many → list_any (λ w. is_out vertices (used_index w)) ws ≡ out → is_vertex_line line ≡ false → is_face_line line ≡ true
         → Suits vertices faces line (cond many (Refused (Limit Faces line.number)) (cond bad (Refused (Syntax line.number)) (cond other (Refused (NotQuad line.number (length ws)))
         (cond out (Refused (Range line.number)) (Face line.number (map (λ w. resolved vertices (used_index w)) ws))))))
     by_face ws true bad other out many is no_vertex face = suits_refused vertices faces line _
@@ -102,14 +103,14 @@ reading_suits vertices faces line = by_size (ltb 65536 line.size)
     by_face ws false false false false many is no_vertex face =
         suits_face vertices faces line line.number (map (λ w. resolved vertices (used_index w)) ws) no_vertex face (leb-false _ _ many) (positive_corners vertices ws is)
 
-    by_letter : (word : List ℕ) (ws : List (List ℕ)) (v f : Bool) → words line.text ≡ word ∷ ws → is_letter 118 word ≡ v → is_letter 102 word ≡ f
+    by_letter : (word : List ℕ) (ws : Words) (v f : Bool) → words line.text ≡ word ∷ ws → is_letter 118 word ≡ v → is_letter 102 word ≡ f
         → Suits vertices faces line (cond v (vertex_reading line.number vertices ws) (cond f (face_reading line.number vertices faces ws) Passed))
     by_letter word ws true f are v-is f-is =
         by_vertex ws _ _ _ refl (ap (begins_with 118) are ∙ v-is) (ap (begins_with 102) are ∙ one_letter 118 102 (λ (e : ◌≡◌ {A = ℕ} 118 102). omega arith) word v-is)
     by_letter word ws false true are v-is f-is = by_face ws _ _ _ _ refl refl (ap (begins_with 118) are ∙ v-is) (ap (begins_with 102) are ∙ f-is)
     by_letter word ws false false are v-is f-is = suits_passed vertices faces line (ap (begins_with 118) are ∙ v-is) (ap (begins_with 102) are ∙ f-is)
 
-    by_words : (ws : List (List ℕ)) → words line.text ≡ ws → Suits vertices faces line (words_reading line.number vertices faces ws)
+    by_words : (ws : Words) → words line.text ≡ ws → Suits vertices faces line (words_reading line.number vertices faces ws)
     by_words [] are = suits_passed vertices faces line (ap (begins_with 118) are) (ap (begins_with 102) are)
     by_words (word ∷ ws) are = by_letter word ws _ _ are refl refl
 

@@ -10,6 +10,8 @@ use Rattle.def_text.specs.FaceSet.{FaceSet}
 use Rattle.def_text.specs.Text.{face_set, numbers_to, position_of, used_to, vertex_of}
 use Rattle.qm_obj.proofs.ListLemmas.{at_back, back_more}
 use Rattle.qm_obj.specs.Kept.{are_numbers, chosen, first_late, IsCounted, IsKept, IsMarked}
+use Rattle.def_text.specs.Types.{Positions}
+use Rattle.def_mesh.specs.Faces.{Faces}
 
 -- A filter and one number more.
 pub filter_numbers : (p : ℕ → Bool) (k : ℕ) → filter p (numbers_to (k + 1)) ≡ filter p (numbers_to k) ++ cond (p (k + 1)) ((k + 1) ∷ []) []
@@ -28,7 +30,7 @@ chosen_no marks k off =
     filter_numbers (λ k. get_or marks (k - 1) false) k ∙ rw p (append-nil _)
 
 -- One position more, that is kept.
-pub kept_mark : (marks : List Bool) (old positions : List (List ℤ)) (names : List ℕ) (k : ℕ) → k < length marks → get_or marks k false ≡ true
+pub kept_mark : (marks : List Bool) (old positions : Positions) (names : List ℕ) (k : ℕ) → k < length marks → get_or marks k false ≡ true
     → IsKept marks old positions names k → IsKept marks old (set positions (length names) (get_or positions k [])) (names ++ (k + 1) ∷ []) (k + 1)
 kept_mark marks old positions names k there on kept = record {
   names_are = ap (λ (xs : List ℕ). xs ++ (k + 1) ∷ []) kept.names_are ∙ sym (chosen_yes marks k on);
@@ -45,7 +47,7 @@ kept_mark marks old positions names k there on kept = record {
 }
 
 -- One position more, that is dropped.
-pub kept_skip : (marks : List Bool) (old positions : List (List ℤ)) (names : List ℕ) (k : ℕ) → get_or marks k false ≡ false
+pub kept_skip : (marks : List Bool) (old positions : Positions) (names : List ℕ) (k : ℕ) → get_or marks k false ≡ false
     → IsKept marks old positions names k → IsKept marks old positions names (k + 1)
 kept_skip marks old positions names k off kept = record {
   names_are = kept.names_are ∙ sym (chosen_no marks k off);
@@ -56,7 +58,7 @@ kept_skip marks old positions names k off kept = record {
 }
 
 -- Marked are the used.
-pub chosen_used : (faces : List (List ℕ)) (n : ℕ) (marks : List Bool) → IsMarked faces n marks → (k : ℕ) → k ≤ n → chosen marks k ≡ used_to faces k
+pub chosen_used : (faces : Faces) (n : ℕ) (marks : List Bool) → IsMarked faces n marks → (k : ℕ) → k ≤ n → chosen marks k ≡ used_to faces k
 chosen_used faces n marks marked zero le = refl
 chosen_used faces n marks marked (suc k) le =
     let again : chosen marks k ≡ used_to faces k = chosen_used faces n marks marked k (omega arith) in
@@ -74,7 +76,7 @@ map_numbers f g n same (x ∷ xs) all =
     let e : f x ≡ g x = same x (ltb-true 0 x both.0) (leb-true x n both.1) in
     rw (e, map_numbers f g n same xs parts.1) refl
 
-pub map_faces : (f g : ℕ → ℕ) (n : ℕ) → ((k : ℕ) → 0 < k → k ≤ n → f k ≡ g k) → (faces : List (List ℕ)) → IsTrue (list_all (are_numbers n) faces)
+pub map_faces : (f g : ℕ → ℕ) (n : ℕ) → ((k : ℕ) → 0 < k → k ≤ n → f k ≡ g k) → (faces : Faces) → IsTrue (list_all (are_numbers n) faces)
     → map (λ corners. map f corners) faces ≡ map (λ corners. map g corners) faces
 map_faces f g n same [] all = refl
 map_faces f g n same (x ∷ xs) all =
@@ -82,13 +84,13 @@ map_faces f g n same (x ∷ xs) all =
     rw (map_numbers f g n same x parts.0, map_faces f g n same xs parts.1) refl
 
 -- A face that is not late is passed.
-pub late_more : (vertices : ℕ) (faces : List (List ℕ)) (lines : List ℕ) (i : ℕ) → i < length faces → length lines ≡ length faces
+pub late_more : (vertices : ℕ) (faces : Faces) (lines : List ℕ) (i : ℕ) → i < length faces → length lines ≡ length faces
     → list_any (λ corner. ltb vertices corner) (get_or faces i []) ≡ false
     → first_late vertices (drop (i + 1) faces) (drop (i + 1) lines) ≡ first_late vertices (drop i faces) (drop i lines)
 late_more vertices faces lines i there size calm = rw (drop_more faces i [] there, drop_more lines i 0 (omega arith), calm) refl
 
 -- What was kept, counted and renumbered is the soup.
-pub made_of : (positions : List (List ℤ)) (faces : List (List ℕ)) (marks : List Bool) (made : FaceSet) (vertices : List ℕ)
+pub made_of : (positions : Positions) (faces : Faces) (marks : List Bool) (made : FaceSet) (vertices : List ℕ)
     → IsMarked faces (length positions) marks → IsTrue (list_all (are_numbers (length positions)) faces) → IsCounted marks vertices
     → made.names ≡ chosen marks (length marks) → made.pos ≡ map (position_of positions) (chosen marks (length marks))
     → made.faces ≡ map (λ corners. map (λ corner. get_or vertices (corner - 1) 0) corners) faces

@@ -12,6 +12,7 @@ use Rattle.def_text.specs.declared.reading.Reading.TheVariants.{Passed, Position
 use Rattle.def_text.specs.Words.{ends_word, in_front, is_blank, words}
 use Rattle.qm_obj.specs.Indices.{with_capped}
 use Rattle.qm_obj.specs.Lines.{IsFilled, is_end, uncommented, with_word}
+use Rattle.def_text.specs.Types.{Words}
 
 -- A text that begins with no blank has its front up to the first blank as its first word.
 pub words_word : (b : ℕ) (bs : List ℕ) → is_blank b ≡ false → words (b ∷ bs) ≡ take (suc (position_or_len is_blank bs)) (b ∷ bs) ∷ words (drop (suc (position_or_len is_blank bs)) (b ∷ bs))
@@ -98,18 +99,18 @@ words_few (b ∷ bs) = by_blank (is_blank b) (words_few bs)
     by_blank true few = omega arith
     by_blank false few = by_end (ends_word bs) (words bs) few
       where
-        by_end : (t : Bool) (ws : List (List ℕ)) → length ws ≤ length bs → length (cond t ((b ∷ []) ∷ ws) (in_front b ws)) ≤ suc (length bs)
+        by_end : (t : Bool) (ws : Words) → length ws ≤ length bs → length (cond t ((b ∷ []) ∷ ws) (in_front b ws)) ≤ suc (length bs)
         by_end true ws few = omega arith
         by_end false [] few = omega arith
         by_end false (w ∷ ws) few = omega arith
 
 -- Where the next word is one, it is the word at this position.
-pub record IsNext (all : List (List ℕ)) (count : ℕ) (word : List ℕ) (after : List (List ℕ)) : Type 0 where
+pub record IsNext (all : Words) (count : ℕ) (word : List ℕ) (after : Words) : Type 0 where
   pub there : count < length all
   pub here : get_or all count [] ≡ word
   pub behind : after ≡ drop (count + 1) all
 
-pub next_is : (all : List (List ℕ)) (count : ℕ) (word : List ℕ) (after : List (List ℕ)) → with_word word after ≡ drop count all → eqb (length word) 0 ≡ false → IsNext all count word after
+pub next_is : (all : Words) (count : ℕ) (word : List ℕ) (after : Words) → with_word word after ≡ drop count all → eqb (length word) 0 ≡ false → IsNext all count word after
 next_is all count [] after is some = absurd (true≢false some)
 next_is all count (b ∷ bs) after is some =
     let long : length (drop count all) ≡ suc (length after) = ap length (sym is) in
@@ -118,7 +119,7 @@ next_is all count (b ∷ bs) after is some =
     record { there = there; here = cc parts; behind = cc parts }
 
 -- Where the next word is empty, all words are read.
-pub next_none : (all : List (List ℕ)) (count : ℕ) (word : List ℕ) (after : List (List ℕ)) → with_word word after ≡ drop count all → eqb (length word) 0 ≡ true → length all ≤ count
+pub next_none : (all : Words) (count : ℕ) (word : List ℕ) (after : Words) → with_word word after ≡ drop count all → eqb (length word) 0 ≡ true → length all ≤ count
 next_none all count [] after is none = omega (arith, ap length is, length-drop count all)
 next_none all count (b ∷ bs) after is none = absurd (eqb-suc none)
   where
@@ -126,7 +127,7 @@ next_none all count (b ∷ bs) after is none = absurd (eqb-suc none)
     eqb-suc e = let h : suc (length bs) ≡ 0 = eqb-true _ _ e in omega arith
 
 -- One slot more.
-pub filled_more : {X : Type 0} (says : List ℕ → X) (all : List (List ℕ)) (count size : ℕ) (slots : List X) (x : X) → x ≡ says (get_or all count []) → IsFilled says all count size slots → IsFilled says all (count + 1) size (set slots count x)
+pub filled_more : {X : Type 0} (says : List ℕ → X) (all : Words) (count size : ℕ) (slots : List X) (x : X) → x ≡ says (get_or all count []) → IsFilled says all count size slots → IsFilled says all (count + 1) size (set slots count x)
 filled_more {X} says all count size slots x is filled = record {
   many = length-set slots count x ∙ filled.many;
   each = λ k d. below_more (λ k. k < size → get_or (set slots count x) k d ≡ says (get_or all k [])) count
@@ -135,7 +136,7 @@ filled_more {X} says all count size slots x is filled = record {
 }
 
 -- The slots have what the first words say.
-pub filled_all : {X : Type 0} (says : List ℕ → X) (all : List (List ℕ)) (count size : ℕ) (slots : List X) → size ≤ count → size ≤ length all → IsFilled says all count size slots → slots ≡ map says (take size all)
+pub filled_all : {X : Type 0} (says : List ℕ → X) (all : Words) (count size : ℕ) (slots : List X) → size ≤ count → size ≤ length all → IsFilled says all count size slots → slots ≡ map says (take size all)
 filled_all {X} says all count size slots read fits filled =
     let long : length (take size all) ≡ size = length-take-le size all fits in
     same_lists slots (map says (take size all)) (filled.many ∙ sym long ∙ sym (length-map (take size all) says))
@@ -152,7 +153,7 @@ none_from true x is = cc
 none_from false x is = refl
 
 -- A `v` line says no face.
-vertex_capped : (line vertices : ℕ) (words : List (List ℕ)) → with_capped (vertex_reading line vertices words) ≡ vertex_reading line vertices words
+vertex_capped : (line vertices : ℕ) (words : Words) → with_capped (vertex_reading line vertices words) ≡ vertex_reading line vertices words
 vertex_capped line vertices words = by_tests (leb (2 ^ 21) vertices) (not (is_position_count (length words) && list_all is_decimal words)) (list_any (λ w. is_far (rounded w)) (take 3 words))
   where
     by_tests : (many bad far : Bool) → with_capped (cond many (Refused (Limit Vertices line)) (cond bad (Refused (Syntax line)) (cond far (Refused (Range line)) (Position (map rounded (take 3 words))))))
@@ -163,7 +164,7 @@ vertex_capped line vertices words = by_tests (leb (2 ^ 21) vertices) (not (is_po
     by_tests false false false = refl
 
 -- What the first word and the words behind it say.
-pub by_first_word : (line vertices faces : ℕ) (all rest : List (List ℕ)) (first : List ℕ) → all ≡ with_word first rest
+pub by_first_word : (line vertices faces : ℕ) (all rest : Words) (first : List ℕ) → all ≡ with_word first rest
     → with_capped (words_reading line vertices faces all) ≡ cond (is_letter 118 first) (vertex_reading line vertices rest) (cond (is_letter 102 first) (with_capped (face_reading line vertices faces rest)) Passed)
 by_first_word line vertices faces all rest [] is = ap (λ ws. with_capped (words_reading line vertices faces ws)) is
 by_first_word line vertices faces all rest (b ∷ bs) is =

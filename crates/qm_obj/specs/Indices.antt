@@ -4,26 +4,27 @@ use Rattle.std.specs.List.{slice_split}
 use Rattle.def_text.specs.Corner.{is_out, is_slash, resolved, used_index}
 use Rattle.def_text.specs.declared.reading.Reading.{Reading}
 use Rattle.def_text.specs.declared.reading.Reading.TheVariants.{Passed, Position, Face, Refused}
+use Rattle.def_text.specs.Types.{Word, Words}
 
 -- The line that an index names, or 0 where it is out, as a `u64`.
-abbrev pub named : ℕ → List ℕ → ℕ
+abbrev pub named : (before : ℕ) (word : Word) → ℕ
 named before word = if is_out before word then 0 else min (resolved before word) (2 ^ 64 - 1)
 
 -- A number as a `u32`.
-abbrev pub capped : ℕ → ℕ
+abbrev pub capped : (k : ℕ) → ℕ
 capped k = min k (2 ^ 32 - 1)
 
 -- The line that a corner names, or 0 where it is out, as a `u32`.
-abbrev pub corner_of : ℕ → List ℕ → ℕ
+abbrev pub corner_of : (before : ℕ) (word : Word) → ℕ
 corner_of before word = capped (named before (used_index word))
 
 -- The parts between the slashes behind the first.
-abbrev pub parts_behind : List ℕ → List (List ℕ)
+abbrev pub parts_behind : (tail : Word) → Words
 parts_behind [] = []
 parts_behind (_ ∷ rest) = slice_split is_slash rest
 
 -- What a line says, with its corners capped.
-abbrev pub with_capped : Reading → Reading
+abbrev pub with_capped : (said : Reading) → Reading
 with_capped (Face line corners) = Face line (map capped corners)
 with_capped Passed = Passed
 with_capped (Position position) = Position position

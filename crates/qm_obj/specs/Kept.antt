@@ -5,9 +5,11 @@ use Rattle.def_text.specs.declared.refusal.ObjFail.{ObjFail}
 use Rattle.def_text.specs.declared.refusal.ObjFail.TheVariants.{Range}
 use Rattle.def_mesh.specs.Vertices.{is_used}
 use Rattle.def_text.specs.Text.{numbers_to, position_of}
+use Rattle.def_text.specs.Types.{Positions}
+use Rattle.def_mesh.specs.Faces.{Faces}
 
 -- The line of the first face that names a `v` line above the last.
-abbrev pub first_late : ℕ → List (List ℕ) → List ℕ → Option ℕ
+abbrev pub first_late : (vertices : ℕ) (faces : Faces) (lines : List ℕ) → Option ℕ
 first_late vertices [] lines = None
 first_late vertices (face ∷ faces) [] = None
 first_late vertices (face ∷ faces) (line ∷ lines) =
@@ -18,7 +20,7 @@ abbrev pub are_numbers : ℕ → List ℕ → Bool
 are_numbers n xs = list_all (λ x. nat_lt 0 x && nat_le x n) xs
 
 -- The mark at k says whether some face names k + 1.
-pub record IsMarked (faces : List (List ℕ)) (n : ℕ) (marks : List Bool) : Type 0 where
+pub record IsMarked (faces : Faces) (n : ℕ) (marks : List Bool) : Type 0 where
   pub size : length marks ≡ n
   pub each : (k : ℕ) → k < n → slice_index_or marks k false ≡ is_used faces (suc k)
 
@@ -36,7 +38,7 @@ abbrev pub IsLate : ObjFail → Option ℕ → Type 0
 IsLate fail late = MatchOption late ⊥ (λ line. fail ≡ Range line)
 
 -- The marked ones of the first k positions stand in front, with their numbers, and the positions from k on are as they were.
-pub record IsKept (marks : List Bool) (old positions : List (List ℤ)) (names : List ℕ) (k : ℕ) : Type 0 where
+pub record IsKept (marks : List Bool) (old positions : Positions) (names : List ℕ) (k : ℕ) : Type 0 where
   pub names_are : names ≡ chosen marks k
   pub few : length names ≤ k
   pub size : length positions ≡ length marks

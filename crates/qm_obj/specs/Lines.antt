@@ -1,6 +1,7 @@
 -- Words one after another, and what a reader keeps of the lines.
 use Rattle.std.specs.Prelude.{◌≡◌, ◌<◌, ◌||◌, ℕ, ℤ, Bool, if◌then◌else◌, List, [], ◌∷◌, ◌++◌, length, map, slice_index_or}
 use Rattle.std.specs.List.{flat_map}
+use Rattle.def_io.specs.Bytes.{Bytes, Lines}
 use Rattle.def_text.specs.Logical.{Logical, is_hash}
 use Rattle.qm_obj.specs.Ahead.{text_ahead, size_ahead}
 use Rattle.def_text.specs.Reading.{reading}
@@ -9,38 +10,41 @@ use Rattle.def_text.specs.Words.{is_blank}
 use Rattle.def_text.specs.declared.reading.Reading.{Reading}
 use Rattle.def_text.specs.declared.reading.Reading.TheVariants.{Passed, Position, Face, Refused}
 use Rattle.qm_obj.specs.Indices.{capped, with_capped}
+use Rattle.def_text.specs.Types.{Positions, Words}
+use Rattle.def_mesh.specs.Faces.{Faces}
 
 -- A word in front of others, where it is one.
-abbrev pub with_word : List ℕ → List (List ℕ) → List (List ℕ)
+abbrev pub with_word : (word : Bytes) (rest : Words) → Words
 with_word [] rest = []
 with_word (byte ∷ bytes) rest = (byte ∷ bytes) ∷ rest
 
 -- A line up to its comment, byte by byte.
-abbrev pub uncommented : List ℕ → List ℕ
+abbrev pub uncommented : (line : Bytes) → Bytes
 uncommented [] = []
 uncommented (byte ∷ bytes) = if is_hash byte then [] else byte ∷ uncommented bytes
 
 -- A byte at which a word ends.
-abbrev pub is_end : ℕ → Bool
+abbrev pub is_end : (byte : ℕ) → Bool
 is_end byte = is_blank byte || is_hash byte
 
 -- The line of a face.
-abbrev pub line_in : Reading → List ℕ
+abbrev pub line_in : (said : Reading) → List ℕ
 line_in (Face line _) = line ∷ []
 line_in Passed = []
 line_in (Position _) = []
 line_in (Refused _) = []
 
 -- The logical line that begins these physical lines.
-abbrev pub first_logical : ℕ → List (List ℕ) → Logical
+abbrev pub first_logical : (number : ℕ) (lines : Lines) → Logical
 first_logical number lines = record { number = number; size = size_ahead lines; text = text_ahead lines }
 
 -- What the next line says, behind as many `v` lines and `f` lines as there are positions and faces.
-abbrev pub next_said : List (List ℤ) → List (List ℕ) → Logical → Reading
+abbrev pub next_said : (positions : Positions) (faces : Faces) (line : Logical) → Reading
 next_said positions faces line = with_capped (reading (length positions) (length faces) line)
 
 -- What a reader keeps grew by what a line says, which is no refusal.
-pub record Took (positions positions' : List (List ℤ)) (faces faces' : List (List ℕ)) (lines lines' : List ℕ) (said : Reading) : Type 0 where
+pub record Took (positions positions' : Positions) (faces faces' : Faces) (lines lines' : List ℕ)
+    (said : Reading) : Type 0 where
   pub accepted : refusal_in said ≡ []
   pub position : positions' ≡ positions ++ position_in said
   pub face : faces' ≡ faces ++ face_in said
@@ -48,19 +52,19 @@ pub record Took (positions positions' : List (List ℤ)) (faces faces' : List (L
 
 -- These are all positions, all faces with capped corners, and the lines of the faces in some logical lines, none of which
 -- is refused.
-pub record HasRead (lines : List Logical) (kept : List (List ℤ)) (corners : List (List ℕ)) (numbers : List ℕ) : Type 0 where
+pub record HasRead (lines : List Logical) (kept : Positions) (corners : Faces) (numbers : List ℕ) : Type 0 where
   pub accepted : flat_map refusal_in (readings [] lines) ≡ []
   pub positions_are : kept ≡ positions (readings [] lines)
   pub faces_are : corners ≡ map (λ face. map capped face) (faces (readings [] lines))
   pub lines_are : numbers ≡ flat_map line_in (readings [] lines)
 
 -- The same of the front of all logical lines, of which these are the rest.
-pub record HasReadTo (all rest : List Logical) (kept : List (List ℤ)) (corners : List (List ℕ)) (numbers : List ℕ) : Type 0 where
+pub record HasReadTo (all rest : List Logical) (kept : Positions) (corners : Faces) (numbers : List ℕ) : Type 0 where
   pub done : List Logical
   pub split : all ≡ done ++ rest
   pub has : HasRead done kept corners numbers
 
 -- The slot at k has what the word at k says, as far as so many words and the slots go.
-pub record IsFilled {X : Type 0} (says : List ℕ → X) (words : List (List ℕ)) (count size : ℕ) (slots : List X) : Type 0 where
+pub record IsFilled {X : Type 0} (says : List ℕ → X) (words : Words) (count size : ℕ) (slots : List X) : Type 0 where
   pub many : length slots ≡ size
   pub each : (k : ℕ) (d : X) → k < count → k < size → slice_index_or slots k d ≡ says (slice_index_or words k [])

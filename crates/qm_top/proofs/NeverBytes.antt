@@ -16,6 +16,8 @@ use Rattle.def_text.specs.declared.refusal.ObjFail.{ObjFail}
 use Rattle.def_text.specs.declared.refusal.ObjFail.TheVariants.{Syntax, NotQuad, Range, Limit, Memory}
 use Rattle.def_text.specs.declared.refusal.Which.{Which}
 use Rattle.def_text.specs.declared.refusal.Which.TheVariants.{Bytes, Line, Vertices, Faces}
+use Rattle.def_text.specs.Types.{Words}
+use Rattle.def_io.specs.Bytes.{Lines}
 
 -- Another limit than the one on all bytes.
 abbrev is_of_line : Which → Bool
@@ -40,20 +42,20 @@ fine_if : (t : Bool) (a b : Reading) → IsFine a → IsFine b → IsFine (if t 
 fine_if true a b x y = x
 fine_if false a b x y = y
 
-fine_vertex : (n v : ℕ) (ws : List (List ℕ)) → IsFine (vertex_reading n v ws)
+fine_vertex : (n v : ℕ) (ws : Words) → IsFine (vertex_reading n v ws)
 fine_vertex n v ws =
     fine_if (nat_le (2 ^ 21) v) _ _ refl
     (fine_if (not (is_position_count (length ws) && list_all is_decimal ws)) _ _ refl
     (fine_if (list_any (λ w. is_far (rounded w)) (take 3 ws)) _ _ refl refl))
 
-fine_face : (n v f : ℕ) (ws : List (List ℕ)) → IsFine (face_reading n v f ws)
+fine_face : (n v f : ℕ) (ws : Words) → IsFine (face_reading n v f ws)
 fine_face n v f ws =
     fine_if (nat_le (2 ^ 20) f) _ _ refl
     (fine_if (not (list_all is_corner ws)) _ _ refl
     (fine_if (not (length ws == 4)) _ _ refl
     (fine_if (list_any (λ w. is_out v (used_index w)) ws) _ _ refl refl)))
 
-fine_words : (n v f : ℕ) (ws : List (List ℕ)) → IsFine (words_reading n v f ws)
+fine_words : (n v f : ℕ) (ws : Words) → IsFine (words_reading n v f ws)
 fine_words n v f [] = refl
 fine_words n v f (w ∷ ws) =
     fine_if (is_letter 118 w) _ _ (fine_vertex n v ws) (fine_if (is_letter 102 w) _ _ (fine_face n v f ws) refl)
@@ -96,7 +98,7 @@ first_fine (f ∷ fails) soup fail all is =
     ap is_fine (sym same) ∙ (and_parts (is_fine f) (list_all is_fine fails) all).0
 
 -- So no text is refused for the number of all bytes.
-pub never_bytes : (n : ℕ) (lines : List (List ℕ)) (line : ℕ)
+pub never_bytes : (n : ℕ) (lines : Lines) (line : ℕ)
     → ◌≡◌ {A = Result FaceSet ObjFail} (text_soup n lines) (Err (Limit Bytes line)) → ⊥
 never_bytes n lines line is =
     let said : List Reading = readings [] (logical_lines n lines) in
