@@ -14,3 +14,6 @@ pub use origins::sources;
 
 /// Memory was refused.
 pub type Memory = std::alloc::AllocError;
+
+#[cfg(test)]
+mod tests;
