@@ -11,13 +11,14 @@ use Rattle.def_cut.specs.Motion.{Terrain, State, end_of, with_next, ridden, is_a
 use Rattle.def_cut.specs.Traced.{finish, end_state}
 use Rattle.def_cut.specs.Events.{EventState, waiting, darts_in, rider_at, note_at, may_ride, mark_twin, after_ride_of, ends_at, may_settle, all_told, decided_at, is_closed, closed, if_closed, after_settling, first_state, Event, May, after_event, Leads, rides_in, NobodyRuns}
 use Rattle.def_cut.specs.Events.Event.{Ride, Settle}
+use Rattle.qm_laws.proofs.Counts.{count_below_lt, count_below_ones}
 use Rattle.motion_laws.proofs.Among.{among_here, among_later, any_at, any_where, all_at, not_all, AreApart}
 use Rattle.motion_laws.proofs.Marks.{none_on, no_darts, twin_marks, from_marks, marked_long, noted_more, noted_longer, found_more, apart_few, among_append, apart_append}
 use Rattle.motion_laws.proofs.Next.{with_later}
 use Rattle.motion_laws.proofs.Shown.{IsShown, AreShown, AllNoted, long, all_noted, darts_are, noted_rides, notes_apart, ride_shown, waits_as_was, waits_not_all, somebody, as_was, still_runs, closed_is, none_shown, told_shown, told_long}
 use Rattle.motion_laws.proofs.Steps.{same_test, step_keeps, back}
 use Rattle.motion_laws.proofs.Terrains.{IsTerrain, IsStarted, IsReached}
-use Rattle.motion_laws.proofs.Traced.{start_reached, after_reached, ridden_once, at_rest, runs_on, nobody_runs}
+use Rattle.motion_laws.proofs.Traced.{start_reached, after_reached, ridden_once, at_rest, runs_on, fresh, rests_or_falls, nobody_runs}
 
 none_found : (o : Option ℕ) → is_found o [] ≡ false
 none_found None = refl
@@ -373,3 +374,35 @@ module _ (g : Terrain) (t : IsTerrain g) (starts : List ℕ) (begin : IsStarted 
         e.0 ∙ (r.0 ∙ sym (ap (λ (s : State). s.riders) f.1)),
         λ d l. w.shown.covered d l ∙ (ap (λ (ds : List ℕ). (after g starts w.instant).covered d || (is_among d ds || is_met g ds d)) e.2 ∙ (ap (λ b. (after g starts w.instant).covered d || b) (none_found (g.half.twin d)) ∙ (plain ((after g starts w.instant).covered d) ∙ (r.1 d ∙ sym (ap (λ (s : State). s.covered d) f.1))))),
       )
+
+  -- After as many steps as there are vertices nobody runs, and the state is the last.
+  runs_out : (k : ℕ) → (ridden (after g starts k).riders ≡ []) ⊎ (fresh g t starts begin n few (after g starts k) + k < n)
+  runs_out zero = at (ridden (map begun starts)) refl
+    where
+      no_more_at : (b : Bool) → cond b 0 1 ≤ 1
+      no_more_at true = omega arith
+      no_more_at false = omega arith
+
+      less_at : (b : Bool) → b ≡ true → cond b 0 1 < 1
+      less_at b on = rw on (omega arith)
+
+      at : (ds : List ℕ) → ridden (map begun starts) ≡ ds → (ridden (map begun starts) ≡ []) ⊎ (fresh g t starts begin n few (start g starts) + 0 < n)
+      at [] is = inl is
+      at (d ∷ ds) is =
+          let r : IsReached g starts (start g starts) = start_reached g t starts begin in
+          let m : is_among d (ridden (map begun starts)) ≡ true = ap (is_among d) is ∙ among_here d d ds refl in
+          inr (omega (arith, count_below_ones n, count_below_lt (λ v. cond ((start g starts).stood v) 0 1) (λ v. 1) n (g.half.from d) (few d (r.low d m)) (λ v l. no_more_at ((start g starts).stood v)) (less_at ((start g starts).stood (g.half.from d)) (r.left d m))))
+  runs_out (suc k) = by_before (runs_out k)
+    where
+      by_before : (ridden (after g starts k).riders ≡ []) ⊎ (fresh g t starts begin n few (after g starts k) + k < n) → (ridden (after g starts (suc k)).riders ≡ []) ⊎ (fresh g t starts begin n few (after g starts (suc k)) + suc k < n)
+      by_before (inl none) = inl (ap ridden (still_riders g (after g starts k).stood (ridden (after g starts k).riders) (after g starts k).riders none) ∙ none)
+      by_before (inr low) = elim (rests_or_falls g t starts begin n few (after g starts k) (after_reached g t starts begin k)) [ inl none ↦ inl none | inr falls ↦ inr (omega (arith, low, falls)) ]
+
+  pub at_last : ridden (after g starts n).riders ≡ []
+  at_last = elim (runs_out n) [ inl none ↦ none | inr low ↦ absurd (omega (arith, low)) ]
+
+  pub last_is : ((after g starts n).riders ≡ (end_state g n starts).riders) × ((d : ℕ) → (after g starts n).covered d ≡ (end_state g n starts).covered d)
+  last_is =
+      let f : (j : ℕ) × (end_state g n starts ≡ after g starts j) = finish_is (suc n) 0 in
+      let r : ((after g starts n).riders ≡ (after g starts f.0).riders) × ((d : ℕ) → (after g starts n).covered d ≡ (after g starts f.0).covered d) = alike n f.0 at_last (sym (ap (λ (s : State). ridden s.riders) f.1) ∙ nobody_runs g t starts begin n few) in
+      (r.0 ∙ sym (ap (λ (s : State). s.riders) f.1), λ d. r.1 d ∙ sym (ap (λ (s : State). s.covered d) f.1))

@@ -91,7 +91,7 @@ module _ (g : Terrain) (t : IsTerrain g) (starts : List ℕ) (begin : IsStarted 
 
   module _ (n : ℕ) (few : (d : ℕ) → d < g.half.count → g.half.from d < n) where
     -- How many vertices there are where nobody has stood.
-    abbrev fresh : (s : State) → ℕ
+    abbrev pub fresh : (s : State) → ℕ
     fresh s = count_below (λ v. cond (s.stood v) 0 1) n
 
     falls_at : (s : State) → IsReached g starts s → (e : ℕ) → is_among e (ridden (step g s).riders) ≡ true → fresh (step g s) < fresh s
@@ -114,7 +114,7 @@ module _ (g : Terrain) (t : IsTerrain g) (starts : List ℕ) (begin : IsStarted 
             (λ v l. no_more_at (s.stood v) ((step g s).stood v) (λ y. or_left _ _ y))
             (less_at (s.stood (end_of g d)) ((step g s).stood (end_of g d)) x.going.fresh (stands g t starts s r d k))
 
-    rests_or_falls : (s : State) → IsReached g starts s → (ridden (step g s).riders ≡ []) ⊎ (fresh (step g s) < fresh s)
+    pub rests_or_falls : (s : State) → IsReached g starts s → (ridden (step g s).riders ≡ []) ⊎ (fresh (step g s) < fresh s)
     rests_or_falls s r = at (ridden (step g s).riders) refl
       where
         at : (ds : List ℕ) → ridden (step g s).riders ≡ ds → (ridden (step g s).riders ≡ []) ⊎ (fresh (step g s) < fresh s)

@@ -2,3 +2,4 @@ mod Stops
 mod Marking
 mod Riding
 mod Instants
+mod Steps

@@ -1,5 +1,5 @@
 -- The tables of the trace.
-use Rattle.std.specs.Prelude.{◌≡◌, ℕ, ◌+◌, ◌^◌, ◌<◌, ◌≤◌, Bool, true, false, cond, not, [], ◌∷◌, ◌&&◌, ◌||◌, ◌==◌, List, map, length, Option, Some, None}
+use Rattle.std.specs.Prelude.{◌≡◌, ℕ, slice_set, ◌+◌, ◌^◌, ◌<◌, ◌≤◌, Bool, true, false, cond, not, [], ◌∷◌, ◌&&◌, ◌||◌, ◌==◌, List, map, length, Option, Some, None}
 use Rattle.std.specs.List.{list_any}
 use Rattle.def_mesh.specs.Faces.{Faces}
 use Rattle.def_mesh.specs.Darts.{darts, from_of, prev_of, twin_of}
@@ -92,3 +92,20 @@ pub record CanRide (faces : Faces) (riders : List Moving) (queue : List ℕ) : T
   pub dart : (r : ℕ) → is_among r queue ≡ true → dart_of riders r < darts faces
   pub rides : (r : ℕ) → is_among r queue ≡ true → (rider_at riders r).rides + 1 < 2 ^ 32
   pub apart : AreEachOnce queue
+
+-- The tables after k steps of the motion, between two steps.
+pub record IsTableAt (faces : Faces) (k : ℕ) (riders : List Moving) (stood covered taken : List Bool) : Type 0 where
+  pub riders_are : riders ≡ (after (terrain_of faces) (start_darts faces) k).riders
+  pub stood_long : length stood ≡ vertex_count faces
+  pub covered_long : length covered ≡ darts faces
+  pub taken_long : length taken ≡ darts faces
+  pub stood_is : (v : ℕ) → v < vertex_count faces
+      → is_on stood v ≡ (after (terrain_of faces) (start_darts faces) k).stood v
+  pub covered_is : (d : ℕ) → d < darts faces
+      → is_on covered d ≡ (after (terrain_of faces) (start_darts faces) k).covered d
+  pub taken_none : (d : ℕ) → is_on taken d ≡ false
+
+-- The marks with that of d, where there is no twin.
+abbrev pub closed_at : (twin : Option ℕ) (marks : List Bool) (d : ℕ) → List Bool
+closed_at None marks d = slice_set marks d true
+closed_at (Some t) marks d = marks

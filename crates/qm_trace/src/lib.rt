@@ -3,9 +3,11 @@
 #![tactic(auto)]
 
 mod deciding;
+mod ending;
 mod ground;
 mod marks;
 mod queue;
+mod stepping;
 
 pub use deciding::gives_way;
 pub use def_cut::{Moving, Stop};

@@ -2,7 +2,7 @@
 
 ghost use Rattle.std.specs.Prelude.{◌≡◌, ◌<◌, ◌||◌, ◌==◌, ℕ, length, cond, true, slice_set};
 ghost use Rattle.std.specs.List.{list_any};
-ghost use Rattle.def_mesh.specs.Darts.{darts, to_of, twin_of};
+ghost use Rattle.def_mesh.specs.Darts.{darts, from_of, to_of, twin_of};
 ghost use Rattle.def_mesh.specs.Vertices.{vertex_count};
 ghost use Rattle.def_cut.specs.FullCut.{is_on};
 ghost use Rattle.def_cut.specs.Events.{mark_twin};
@@ -12,7 +12,7 @@ ghost use Rattle.qm_trace.specs.Tables.{AreDarts};
 use qm_mesh::Mesh;
 
 /// Sets the marks of these darts.
-pub(crate) fn set_marks(ridden: &[u32], value: bool, marks: &mut [bool])
+fn set_each(ridden: &[u32], value: bool, marks: &mut [bool])
     requires { (d : ℕ) → is_among d ridden.now ≡ true → d < length marks.old }
     ensures { (d : ℕ) → is_on marks.new d ≡ cond (is_among d ridden.now) value (is_on marks.old d) }
 {
@@ -22,7 +22,7 @@ pub(crate) fn set_marks(ridden: &[u32], value: bool, marks: &mut [bool])
 }
 
 /// Marks these darts and their twins.
-pub(crate) fn cover(mesh: &Mesh, ridden: &[u32], covered: &mut [bool])
+fn cover_each(mesh: &Mesh, ridden: &[u32], covered: &mut [bool])
     requires darts { AreDarts mesh.now ridden.now }
     requires long { length covered.old ≡ darts mesh.now }
     ensures { (d : ℕ) → d < darts mesh.now
@@ -47,12 +47,67 @@ fn cover_edge(mesh: &Mesh, d: u32, covered: &mut [bool])
 }
 
 /// Marks the vertices where these darts end.
-pub(crate) fn stand(mesh: &Mesh, ridden: &[u32], stood: &mut [bool])
+fn stand_each(mesh: &Mesh, ridden: &[u32], stood: &mut [bool])
     requires darts { AreDarts mesh.now ridden.now }
     requires long { length stood.old ≡ vertex_count mesh.now }
     ensures { (v : ℕ) → is_on stood.new v ≡ (is_on stood.old v || list_any (λ d. to_of mesh.now d == v) ridden.now) }
 {
     for d in ridden {
         stood[mesh.to(*d) as usize] = true;
+    }
+}
+
+/// These marks with those of the ridden darts set.
+pub(crate) fn set_marks(ridden: &[u32], value: bool, mut marks: Vec<bool>) -> Vec<bool>
+    requires { (d : ℕ) → is_among d ridden.now ≡ true → d < length marks.items }
+    ensures long { length result.items ≡ length marks.items }
+    ensures each { (d : ℕ) → is_on result.items d ≡ cond (is_among d ridden.now) value (is_on marks.items d) }
+{
+    set_each(ridden, value, &mut marks);
+    marks
+}
+
+/// These marks with those of the ridden edges.
+pub(crate) fn cover(mesh: &Mesh, ridden: &[u32], mut covered: Vec<bool>) -> Vec<bool>
+    requires darts { AreDarts mesh.now ridden.now }
+    requires long { length covered.items ≡ darts mesh.now }
+    ensures long { length result.items ≡ length covered.items }
+    ensures each { (d : ℕ) → d < darts mesh.now
+        → is_on result.items d ≡ (is_on covered.items d || (is_among d ridden.now || is_found (twin_of mesh.now d) ridden.now)) }
+{
+    cover_each(mesh, ridden, &mut covered);
+    covered
+}
+
+/// These marks with those of the vertices where ridden darts end.
+pub(crate) fn stand(mesh: &Mesh, ridden: &[u32], mut stood: Vec<bool>) -> Vec<bool>
+    requires darts { AreDarts mesh.now ridden.now }
+    requires long { length stood.items ≡ vertex_count mesh.now }
+    ensures long { length result.items ≡ length stood.items }
+    ensures each { (v : ℕ) → is_on result.items v ≡ (is_on stood.items v || list_any (λ d. to_of mesh.now d == v) ridden.now) }
+{
+    stand_each(mesh, ridden, &mut stood);
+    stood
+}
+
+/// These marks with those of the vertices that these darts leave.
+pub(crate) fn leave(mesh: &Mesh, starts: &[u32], mut stood: Vec<bool>) -> Vec<bool>
+    requires darts { AreDarts mesh.now starts.now }
+    requires long { length stood.items ≡ vertex_count mesh.now }
+    ensures long { length result.items ≡ length stood.items }
+    ensures each { (v : ℕ) → is_on result.items v ≡ (is_on stood.items v || list_any (λ d. from_of mesh.now d == v) starts.now) }
+{
+    leave_each(mesh, starts, &mut stood);
+    stood
+}
+
+/// Marks the vertices that these darts leave.
+fn leave_each(mesh: &Mesh, starts: &[u32], stood: &mut [bool])
+    requires darts { AreDarts mesh.now starts.now }
+    requires long { length stood.old ≡ vertex_count mesh.now }
+    ensures { (v : ℕ) → is_on stood.new v ≡ (is_on stood.old v || list_any (λ d. from_of mesh.now d == v) starts.now) }
+{
+    for d in starts {
+        stood[mesh.from(*d) as usize] = true;
     }
 }

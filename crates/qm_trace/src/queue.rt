@@ -1,8 +1,9 @@
 //! The queue of the riders that run.
 
 ghost use Rattle.std.specs.Prelude.{◌≡◌, ◌<◌, ℕ, suc, length, map, filter, true, IfOk};
+ghost use Rattle.std.specs.List.{range_with_len};
 ghost use Rattle.def_cut.specs.Events.{rider_at};
-ghost use Rattle.def_cut.specs.Motion.{after, is_among};
+ghost use Rattle.def_cut.specs.Motion.{after, begun, is_among};
 ghost use Rattle.def_cut.specs.Traced.{terrain_of};
 ghost use Rattle.def_mesh.specs.Components.{start_darts};
 ghost use Rattle.def_mesh.specs.Darts.{darts};
@@ -57,6 +58,32 @@ fn runs(rider: &Moving) -> bool
     }
 }
 
+/// All riders, by number.
+pub(crate) fn everyone(alloc: Global, riders: u32) -> Result<Vec<u32>, Memory>
+    ensures { IfOk result (λ q. q.items ≡ range_with_len 0 riders) }
+{
+    let mut queue = Vec::with_capacity(alloc, riders as usize)?;
+    for r in 0..riders {
+        queue.push(r)?;
+    }
+    Ok(queue)
+}
+
+/// The riders at the beginning.
+pub(crate) fn first_riders(alloc: Global, starts: &[u32]) -> Result<Vec<Moving>, Memory>
+    ensures { IfOk result (λ riders. riders.items ≡ map begun starts.now) }
+{
+    let mut riders = Vec::with_capacity(alloc, starts.len())?;
+    for d in starts {
+        riders.push(Moving {
+            dart: *d,
+            rides: 0,
+            stop: None,
+        })?;
+    }
+    Ok(riders)
+}
+
 /// What riders see at one instant.
 #[derive(Debug, Drop)]
 pub(crate) struct Sight {
@@ -66,16 +93,22 @@ pub(crate) struct Sight {
 }
 
 /// Moves the riders of the queue, all by what they see at once: they are then those after the next step of the motion.
-pub(crate) fn ride_all(mesh: &Mesh, sight: &Sight, queue: &[u32], riders: &mut [Moving])
-    requires can { CanRide mesh.now riders.old queue.now }
+pub(crate) fn ride_all(
+    mesh: &Mesh,
+    sight: &Sight,
+    queue: &[u32],
+    mut riders: Vec<Moving>,
+) -> Vec<Moving>
+    requires can { CanRide mesh.now riders.items queue.now }
     requires ground { IsGround mesh.now sight.now.ground.boundary.items sight.now.ground.singular.items }
     requires stood { length sight.now.stood.items ≡ vertex_count mesh.now }
     requires taken { length sight.now.taken.items ≡ darts mesh.now }
-    ensures { (k : ℕ) → IsInstant mesh.now k riders.old queue.now sight.now.stood.items sight.now.taken.items
-        → riders.new ≡ (after (terrain_of mesh.now) (start_darts mesh.now) (suc k)).riders }
+    ensures { (k : ℕ) → IsInstant mesh.now k riders.items queue.now sight.now.stood.items sight.now.taken.items
+        → result.items ≡ (after (terrain_of mesh.now) (start_darts mesh.now) (suc k)).riders }
 {
     let _known = mesh.faces();
-    ride_each(mesh, sight, queue, riders);
+    ride_each(mesh, sight, queue, &mut riders);
+    riders
 }
 
 /// Moves the riders of the queue.

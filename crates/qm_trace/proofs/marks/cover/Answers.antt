@@ -1,11 +1,12 @@
-use Rattle.std.proofs.Common.{get_or, ◌∙◌, arith}
-use Rattle.motion_laws.proofs.Marks.{among_at}
-use Rattle.qm_trace.proofs.Marking.{cover_more}
+use Rattle.std.proofs.Common.{◌≡◌, ◌||◌, Bool, List, length, ap, ◌∙◌}
+use Rattle.def_mesh.specs.Darts.{twin_of}
+use Rattle.def_cut.specs.Motion.{is_among, is_found}
+use Rattle.std.proofs.lemmas.List.{with_items_is}
+use Rattle.def_cut.specs.FullCut.{is_on}
 use Rattle.qm_trace.proofs.marks.cover.Goals as goal
 
-pub cover_edge-requires-clause-dart : goal.cover_edge-requires-clause-dart
-cover_edge-requires-clause-dart c = c.requires.darts (get_or c.args.ridden.now c.loop-d.d-index 0) (among_at c.args.ridden.now c.loop-d.d-index c.loop-d-test.true)
+pub returns-clause-long : goal.returns-clause-long
+returns-clause-long c = ap length (with_items_is c.args.covered c.cover_each.new.covered (c.cover_each.auto.covered ∙ c.deref_mut.ensures.len)) ∙ (c.cover_each.auto.covered ∙ ap length c.deref_mut.ensures.value)
 
-pub loop-d-preserved : goal.loop-d-preserved
-loop-d-preserved c = cover_more c.args.mesh.now c.faces-known.ensures.mesh.manifold c.args.ridden.now c.loop-d.d-index c.loop-d.covered c.args.covered.now c.cover_edge.new.covered c.loop-d-test.true
-    (c.requires.darts (get_or c.args.ridden.now c.loop-d.d-index 0) (among_at c.args.ridden.now c.loop-d.d-index c.loop-d-test.true)) (c.loop-d.auto.covered ∙ c.requires.long) c.cover_edge.ensures c.loop-d.invariant
+pub returns-clause-each : goal.returns-clause-each
+returns-clause-each c d l = ap (λ (xs : List Bool). is_on xs d) (with_items_is c.args.covered c.cover_each.new.covered (c.cover_each.auto.covered ∙ c.deref_mut.ensures.len)) ∙ (c.cover_each.ensures d l ∙ ap (λ (xs : List Bool). is_on xs d || (is_among d c.args.ridden.now || is_found (twin_of c.args.mesh.now d) c.args.ridden.now)) c.deref_mut.ensures.value)

@@ -1,10 +1,11 @@
-use Rattle.std.proofs.Common.{get_or, arith}
-use Rattle.motion_laws.proofs.Marks.{among_at}
-use Rattle.qm_trace.proofs.Marking.{marks_more}
+use Rattle.std.proofs.Common.{◌≡◌, cond, Bool, List, length, ap, ◌∙◌}
+use Rattle.def_cut.specs.Motion.{is_among}
+use Rattle.std.proofs.lemmas.List.{with_items_is}
+use Rattle.def_cut.specs.FullCut.{is_on}
 use Rattle.qm_trace.proofs.marks.set_marks.Goals as goal
 
-pub bounds-marks-d : goal.bounds-marks-d
-bounds-marks-d c = omega (arith, c.requires (get_or c.args.ridden.now c.loop-d.d-index 0) (among_at c.args.ridden.now c.loop-d.d-index c.loop-d-test.true), c.loop-d.auto.marks)
+pub returns-clause-long : goal.returns-clause-long
+returns-clause-long c = ap length (with_items_is c.args.marks c.set_each.new.marks (c.set_each.auto.marks ∙ c.deref_mut.ensures.len)) ∙ (c.set_each.auto.marks ∙ ap length c.deref_mut.ensures.value)
 
-pub loop-d-preserved : goal.loop-d-preserved
-loop-d-preserved c = marks_more c.args.ridden.now c.loop-d.d-index c.args.value c.loop-d.marks c.args.marks.now c.loop-d-test.true (omega (arith, c.requires (get_or c.args.ridden.now c.loop-d.d-index 0) (among_at c.args.ridden.now c.loop-d.d-index c.loop-d-test.true), c.loop-d.auto.marks)) c.loop-d.invariant
+pub returns-clause-each : goal.returns-clause-each
+returns-clause-each c d = ap (λ (xs : List Bool). is_on xs d) (with_items_is c.args.marks c.set_each.new.marks (c.set_each.auto.marks ∙ c.deref_mut.ensures.len)) ∙ (c.set_each.ensures d ∙ ap (λ (xs : List Bool). cond (is_among d c.args.ridden.now) c.args.value (is_on xs d)) c.deref_mut.ensures.value)

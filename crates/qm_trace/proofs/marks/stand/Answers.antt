@@ -1,6 +1,12 @@
-use Rattle.std.proofs.Common.{get_or}
-use Rattle.motion_laws.proofs.Marks.{among_at}
+use Rattle.std.proofs.Common.{◌≡◌, ◌||◌, eqb, Bool, List, length, ap, ◌∙◌}
+use Rattle.std.specs.List.{list_any}
+use Rattle.def_mesh.specs.Darts.{to_of}
+use Rattle.std.proofs.lemmas.List.{with_items_is}
+use Rattle.def_cut.specs.FullCut.{is_on}
 use Rattle.qm_trace.proofs.marks.stand.Goals as goal
 
-pub to-requires : goal.to-requires
-to-requires c = c.requires.darts (get_or c.args.ridden.now c.loop-d.d-index 0) (among_at c.args.ridden.now c.loop-d.d-index c.loop-d-test.true)
+pub returns-clause-long : goal.returns-clause-long
+returns-clause-long c = ap length (with_items_is c.args.stood c.stand_each.new.stood (c.stand_each.auto.stood ∙ c.deref_mut.ensures.len)) ∙ (c.stand_each.auto.stood ∙ ap length c.deref_mut.ensures.value)
+
+pub returns-clause-each : goal.returns-clause-each
+returns-clause-each c v = ap (λ (xs : List Bool). is_on xs v) (with_items_is c.args.stood c.stand_each.new.stood (c.stand_each.auto.stood ∙ c.deref_mut.ensures.len)) ∙ (c.stand_each.ensures v ∙ ap (λ (xs : List Bool). is_on xs v || list_any (λ d. eqb (to_of c.args.mesh.now d) v) c.args.ridden.now) c.deref_mut.ensures.value)

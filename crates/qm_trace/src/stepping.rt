@@ -1,0 +1,66 @@
+//! One step of the motion: all riders of the queue ride at once.
+
+ghost use Rattle.std.specs.Prelude.{◌≡◌, ◌+◌, ◌^◌, ◌<◌, ℕ, suc, map};
+ghost use Rattle.qm_trace.specs.Tables.{IsGround, IsQueue, IsTableAt, dart_of};
+
+use crate::marks::{cover, set_marks, stand};
+use crate::queue::{Sight, ride_all};
+use def_cut::Moving;
+use qm_mesh::Mesh;
+
+/// The riders, the covered darts, and what riders see.
+#[derive(Debug, Drop)]
+pub(crate) struct Tables {
+    pub(crate) riders: Vec<Moving>,
+    pub(crate) covered: Vec<bool>,
+    pub(crate) sight: Sight,
+}
+
+/// The tables after a step, in which the riders of the queue ride these darts. Linear in the queue.
+pub(crate) fn step(mesh: &Mesh, queue: &[u32], ridden: &[u32], tables: Tables) -> Tables
+    requires ground { IsGround mesh.now tables.sight.ground.boundary.items tables.sight.ground.singular.items }
+    requires at { (k : ℕ) × (k + 1 < 2 ^ 32)
+        × IsTableAt mesh.now k tables.riders.items tables.sight.stood.items tables.covered.items tables.sight.taken.items }
+    requires queue { IsQueue tables.riders.items queue.now }
+    requires ridden { ridden.now ≡ map (dart_of tables.riders.items) queue.now }
+    ensures ground { IsGround mesh.now result.sight.ground.boundary.items result.sight.ground.singular.items }
+    ensures at { (k : ℕ)
+        → IsTableAt mesh.now k tables.riders.items tables.sight.stood.items tables.covered.items tables.sight.taken.items
+        → IsTableAt mesh.now (suc k) result.riders.items result.sight.stood.items result.covered.items result.sight.taken.items }
+{
+    let _known = mesh.faces();
+    let Tables {
+        riders,
+        covered,
+        sight,
+    } = tables;
+    let Sight {
+        ground,
+        stood,
+        taken,
+    } = sight;
+    let taken = set_marks(ridden, true, taken);
+    let sight = Sight {
+        ground,
+        stood,
+        taken,
+    };
+    let riders = ride_all(mesh, &sight, queue, riders);
+    let Sight {
+        ground,
+        stood,
+        taken,
+    } = sight;
+    let taken = set_marks(ridden, false, taken);
+    let covered = cover(mesh, ridden, covered);
+    let stood = stand(mesh, ridden, stood);
+    Tables {
+        riders,
+        covered,
+        sight: Sight {
+            ground,
+            stood,
+            taken,
+        },
+    }
+}
