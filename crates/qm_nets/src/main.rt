@@ -7,7 +7,7 @@ mod read;
 use crate::read::read_net;
 use def_flow::{Arc, MAX_TANGLE, Net};
 use qm_gadget::graph_of;
-use qm_net::{deviation, is_within_bounds, tangle_of};
+use qm_net::{are_lengths, deviation, is_within_bounds, tangle_of};
 use qm_solve::is_start;
 use std::alloc::{AllocError, Global};
 use std::io;
@@ -28,6 +28,9 @@ fn main(rt: HostRuntime) -> io::Result<ExitCode> {
         return Ok(ExitCode::from(4));
     }
     let start = multiple(rt.alloc(), &net.arcs, net.floor.max(net.p / net.q.max(1)))?;
+    if !are_lengths(&net, &start) {
+        return Ok(ExitCode::from(5));
+    }
     if !is_start(&net, &start) {
         return Ok(ExitCode::from(5));
     }
