@@ -6,6 +6,7 @@ use super::*;
 use qm_io::{MemSink, MemSource, Memory};
 use std::alloc::Global;
 use std::env::{Env, FillError};
+use std::process::Abort;
 use std::test::Fail;
 
 const QUAD: &[u8] = b"v 0 0 0\nv 3 0 0\nv 3 3 0\nv 0 3 0\nf 1 2 3 4\n";
@@ -183,26 +184,30 @@ impl Env for Given<'_> {
     }
 }
 
+/// The exit status of a process with these words, whose output must be empty where it is not 0.
+fn exit_of(rt: &impl Abort, alloc: Global, words: &[&[u8]]) -> Result<u8, Memory> {
+    let process = (Given { words }, alloc);
+    let (mut input, mut out, mut err) = (
+        source(alloc, QUAD, WELL)?,
+        sink(alloc, WELL)?,
+        sink(alloc, WELL)?,
+    );
+    let status = run_process(&process, &mut input, &mut out, &mut err);
+    assert_eq!(rt; out.taken().is_empty(), status != 0);
+    Ok(status)
+}
+
+static LONG: [u8; 300] = [b'x'; 300];
+
 #[test]
 fn words_of_a_process_may_be_any_bytes(rt: HostRuntime) -> Result<(), Fail> {
-    let long = [b'x'; 300];
-    for (words, want) in [
-        ([b"quadq".as_slice(), b"tidy"].as_slice(), 0),
-        (&[b"\xff", b"tidy"], 0),
-        (&[b"quadq"], 2),
-        (&[], 2),
-        (&[b"quadq", b"tidy", b""], 2),
-        (&[b"quadq", b"\xfftidy"], 2),
-        (&[b"quadq", b"tidy", &long], 2),
-    ] {
-        let process = (Given { words }, rt.alloc());
-        let (mut input, mut out, mut err) = (
-            source(rt.alloc(), QUAD, WELL)?,
-            sink(rt.alloc(), WELL)?,
-            sink(rt.alloc(), WELL)?,
-        );
-        assert_eq!(rt; run_process(&process, &mut input, &mut out, &mut err), want);
-        assert_eq!(rt; out.taken().is_empty(), want != 0);
-    }
+    let alloc = rt.alloc();
+    assert_eq!(rt; exit_of(&rt, alloc, &[b"quadq", b"tidy"])?, 0);
+    assert_eq!(rt; exit_of(&rt, alloc, &[b"\xff", b"tidy"])?, 0);
+    assert_eq!(rt; exit_of(&rt, alloc, &[b"quadq"])?, 2);
+    assert_eq!(rt; exit_of(&rt, alloc, &[])?, 2);
+    assert_eq!(rt; exit_of(&rt, alloc, &[b"quadq", b"tidy", b""])?, 2);
+    assert_eq!(rt; exit_of(&rt, alloc, &[b"quadq", b"\xfftidy"])?, 2);
+    assert_eq!(rt; exit_of(&rt, alloc, &[b"quadq", b"tidy", &LONG])?, 2);
     Ok(())
 }
