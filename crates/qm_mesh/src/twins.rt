@@ -3,7 +3,7 @@
 //! The vertices are taken one by one. `by_end` then has, for each end of a dart that leaves the vertex, the first such
 //! dart; a dart that arrives finds its twin there. So the work is linear in the darts, however many faces a vertex has.
 
-ghost use Rattle.std.specs.Prelude.{◌≡◌, ◌≢◌, ◌≤◌, ◌<◌, ◌+◌, ◌/◌, ℕ, length, OnOk, IfOk, IfErr, slice_index};
+ghost use Rattle.std.specs.Prelude.{◌≡◌, ◌≢◌, ◌≤◌, ◌<◌, ◌/◌, ℕ, length, None, OnOk, IfOk, IfErr, slice_index};
 ghost use Rattle.def_mesh.specs.Darts.{darts, from_of, to_of};
 ghost use Rattle.def_mesh.specs.Faults.{IsFirstTwice, IsFirstFault};
 ghost use Rattle.def_mesh.specs.Manifold.{IsRepeatFree, HasEdgesOnce};
@@ -51,11 +51,7 @@ pub(crate) fn pair(
 {
     let mut by_end = vec![in alloc; 0u32; vertices as usize]?;
     let mut twins = vec![in alloc; 0u32; 4 * faces.len()]?;
-    let mut twice = None;
-    for v in 0..vertices {
-        let fan = &fans[v as usize];
-        twice = pair_vertex(faces, v, fan.as_slice(), &mut by_end, &mut twins, twice);
-    }
+    let twice = pair_all(faces, vertices, fans, &mut by_end, &mut twins);
     match twice {
         Some(doubled) => Err(MeshFail::NotManifold(edge_twice(faces, doubled))),
         None => Ok(twins),
@@ -77,24 +73,28 @@ fn edge_twice(faces: &[[u32; 4]], doubled: Doubled) -> Place
     }
 }
 
-/// Takes the vertex v: the darts that leave it, and then those that arrive.
-fn pair_vertex(
+/// Takes all vertices, of each the darts that leave it and then those that arrive, and tells the first doubled edge.
+fn pair_all(
     faces: &[[u32; 4]],
-    v: u32,
-    fan: &[u32],
+    vertices: u32,
+    fans: &[Fan],
     by_end: &mut [u32],
     twins: &mut [u32],
-    twice: Option<Doubled>,
 ) -> Option<Doubled>
     requires few { length faces.now ≤ MAX_FACES }
-    requires within { NamesBelow (length by_end.old) faces.now }
-    requires fan { fan.now ≡ fan_of faces.now v }
-    requires before { IsPairing faces.now (length by_end.old) v by_end.old twins.old twice }
-    ensures { IsPairing faces.now (length by_end.old) (v + 1) by_end.new twins.new result }
+    requires within { NamesBelow vertices faces.now }
+    requires fans { AreFans faces.now vertices fans.now }
+    requires before { IsPairing faces.now vertices 0 by_end.old twins.old None }
+    ensures { IsPairing faces.now vertices vertices by_end.new twins.new result }
 {
-    let found = mark(faces, v, fan, by_end);
-    pair_at(faces, v, fan, by_end, twins);
-    earlier_pair(twice, found)
+    let mut twice = None;
+    for v in 0..vertices {
+        let fan = fans[v as usize].as_slice();
+        let found = mark(faces, v, fan, by_end);
+        pair_at(faces, v, fan, by_end, twins);
+        twice = earlier_pair(twice, found);
+    }
+    twice
 }
 
 /// Keeps in `by_end` the first dart from v to each of its ends, and tells the first dart that is a second one.

@@ -1,6 +1,0 @@
-use Rattle.qm_mesh.specs.Pairs.{IsPairing}
-use Rattle.qm_mesh.proofs.twins.pair.Given as goal
-
--- All vertices below v have been taken.
-abbrev pub invariant-loop-v : goal.invariant-loop-v
-invariant-loop-v l = IsPairing l.faces l.vertices l.v l.by_end.items l.twins.items l.twice
