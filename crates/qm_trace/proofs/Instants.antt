@@ -1,10 +1,9 @@
 -- By the marks of an instant riders ride as the motion says.
-use Rattle.std.proofs.Common.{◌≡◌, ◌≢◌, ◌⊎◌, ℕ, zero, suc, ◌<◌, Bool, true, false, cond, not, ◌&&◌, ◌||◌, List, [], ◌∷◌, length, get_or, map, Option, Some, None, sym, subst, ap, ◌∙◌, refl, inl, inr, arith}
-use Rattle.std.proofs.lemmas.Option.{none-some}
-use Rattle.std.proofs.lemmas.Bool.{cases_Bool, false≢true, false_from_ne_true}
+use Rattle.std.proofs.Common.{◌≡◌, ℕ, suc, ◌<◌, Bool, true, false, cond, not, ◌&&◌, ◌||◌, List, length, get_or, map, Option, Some, None, sym, ap, ◌∙◌, refl, arith}
+use Rattle.std.proofs.lemmas.Bool.{false≢true}
 use Rattle.std.proofs.lemmas.List.{ext_get_or, get_or-map, length-map}
 use Rattle.def_mesh.specs.Faces.{Faces}
-use Rattle.def_mesh.specs.Darts.{darts, from_of, next_of, prev_of, twin_of}
+use Rattle.def_mesh.specs.Darts.{darts, next_of, prev_of, twin_of}
 use Rattle.def_mesh.specs.Manifold.{IsManifold}
 use Rattle.def_mesh.specs.Vertices.{vertex_count}
 use Rattle.def_mesh.specs.Kinds.{is_inner, is_singular}
@@ -13,7 +12,7 @@ use Rattle.def_mesh.specs.HalfEdges.{IsQuadManifold, half_edges}
 use Rattle.def_cut.specs.Cuts.{IsCross, HasCross}
 use Rattle.def_cut.specs.FullCut.{is_on}
 use Rattle.def_cut.specs.declared.graph.Stop.{Stop}
-use Rattle.def_cut.specs.declared.graph.Stop.TheVariants.{Middle, Boundary, Singular, Trail, Tie}
+use Rattle.def_cut.specs.declared.graph.Stop.TheVariants.{Tie}
 use Rattle.def_cut.specs.declared.moving.Moving.{Moving}
 use Rattle.def_cut.specs.Motion.{State, end_of, ridden, is_among, is_found, is_met, arrivals, goes_on, stop_of, after_ride, ride_on, ride, begun, after}
 use Rattle.def_cut.specs.Traced.{terrain_of}
@@ -21,10 +20,10 @@ use Rattle.def_cut.specs.Events.{rider_at}
 use Rattle.mesh_laws.proofs.Vertices.{all_below}
 use Rattle.motion_laws.proofs.Order.{runs_ridden}
 use Rattle.motion_laws.proofs.Steps.{two_bits}
-use Rattle.motion_laws.proofs.Terrains.{IsTerrain, IsReached}
+use Rattle.motion_laws.proofs.Terrains.{IsReached}
 use Rattle.motion_laws.proofs.Traced.{after_reached}
 use Rattle.site_laws.proofs.Sites.{terrain, started}
-use Rattle.qm_trace.specs.Tables.{IsInstant, IsQueue, AreRode, rode, stop_now, is_met_now, is_crowded, is_faced}
+use Rattle.qm_trace.specs.Tables.{IsInstant, AreRode, rode, stop_now, is_met_now, is_crowded, is_faced}
 
 module _ (faces : Faces) (m : IsManifold faces) (k : ℕ) (riders : List Moving) (queue : List ℕ) (stood taken : List Bool) (i : IsInstant faces k riders queue stood taken) where
   abbrev s : State

@@ -3,3 +3,5 @@ mod Marking
 mod Riding
 mod Instants
 mod Steps
+mod Beginnings
+mod Ends

@@ -1,18 +1,18 @@
 -- The queue, rider by rider.
-use Rattle.std.proofs.Common.{◌≡◌, ◌≢◌, ◌⊎◌, ℕ, zero, suc, ◌+◌, ◌<◌, Bool, true, false, cond, not, eqb, ◌||◌, List, [], ◌∷◌, ◌++◌, length, get_or, set, take, map, Option, Some, None, sym, subst, ap, ◌∙◌, refl, inl, inr, arith}
-use Rattle.std.specs.List.{list_any, filter}
-use Rattle.std.proofs.lemmas.Bool.{cases_eq, eq-eqb, ne_eqb, eqb-true, false≢true, false_from_ne_true, or_left, or_right, or_cases}
-use Rattle.std.proofs.lemmas.List.{take_more, get_or-set_same, get_or-set_other, length-set}
+use Rattle.std.proofs.Common.{◌≡◌, ℕ, zero, suc, ◌+◌, ◌<◌, Bool, true, false, cond, eqb, ◌||◌, List, [], ◌∷◌, ◌++◌, length, get_or, set, take, map, sym, ap, ◌∙◌, refl, inl, inr, arith}
+use Rattle.std.specs.List.{filter}
+use Rattle.std.proofs.lemmas.Bool.{cases_eq, eq-eqb, ne_eqb, false≢true, false_from_ne_true, or_right}
+use Rattle.std.proofs.lemmas.List.{take_more, get_or-set_same, get_or-set_other}
 use Rattle.std.proofs.lemmas.List.Elements.{filter-append}
 use Rattle.std.proofs.lemmas.List.{map-append, append-nil}
 use Rattle.def_mesh.specs.Faces.{Faces}
 use Rattle.def_cut.specs.Motion.{is_among, begun}
 use Rattle.def_cut.specs.Events.{rider_at}
 use Rattle.def_cut.specs.declared.moving.Moving.{Moving}
-use Rattle.motion_laws.proofs.Among.{among_here, among_later, among_cases}
+use Rattle.motion_laws.proofs.Among.{among_cases}
 use Rattle.motion_laws.proofs.Marks.{among_at}
 use Rattle.qm_trace.proofs.Marking.{among_more}
-use Rattle.qm_trace.specs.Tables.{AreEachOnce, AreRode, rode, dart_of, is_running}
+use Rattle.qm_trace.specs.Tables.{AreEachOnce, AreRode, rode, dart_of}
 
 -- What stands at a place stands not before it.
 once : (q : List ℕ) (i : ℕ) → AreEachOnce q → i < length q → is_among (get_or q i 0) (take i q) ≡ false

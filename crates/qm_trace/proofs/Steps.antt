@@ -1,17 +1,16 @@
 -- The tables after a step.
-use Rattle.std.proofs.Common.{◌≡◌, ◌≢◌, ◌⊎◌, ℕ, zero, suc, ◌+◌, ◌^◌, ◌<◌, ◌≤◌, Bool, true, false, cond, not, eqb, ◌&&◌, ◌||◌, List, [], ◌∷◌, length, get_or, map, Option, Some, None, sym, subst, ap, ◌∙◌, refl, inl, inr, arith}
+use Rattle.std.proofs.Common.{◌≡◌, ◌⊎◌, ℕ, zero, suc, ◌+◌, ◌^◌, ◌<◌, ◌≤◌, Bool, true, false, cond, not, eqb, ◌||◌, List, [], ◌∷◌, length, map, Option, Some, None, sym, subst, ap, ◌∙◌, refl, inl, inr, arith}
 use Rattle.std.specs.List.{list_any}
-use Rattle.std.proofs.lemmas.Bool.{cases_Bool, cases_lt, eq-eqb, eqb-true, false≢true, or_left, or_right, or_cases, and_parts}
+use Rattle.std.proofs.lemmas.Bool.{cases_lt, eqb-true, false≢true, or_left, or_right, or_cases, and_parts}
 use Rattle.std.proofs.lemmas.List.{get_or-map, get_or_past, length-map}
 use Rattle.def_mesh.specs.Faces.{Faces}
 use Rattle.def_mesh.specs.Darts.{darts, to_of, twin_of}
 use Rattle.def_mesh.specs.Manifold.{IsManifold}
-use Rattle.def_mesh.specs.Vertices.{vertex_count}
 use Rattle.def_mesh.specs.Components.{start_darts}
 use Rattle.def_cut.specs.FullCut.{is_on}
 use Rattle.def_cut.specs.declared.graph.Stop.{Stop}
 use Rattle.def_cut.specs.declared.moving.Moving.{Moving}
-use Rattle.def_cut.specs.Motion.{State, end_of, with_next, ridden, is_among, is_found, is_met, arrives_at, stop_of, after_ride, ride_on, ride, begun, after}
+use Rattle.def_cut.specs.Motion.{ridden, is_among, is_found, is_met, arrives_at, stop_of, after_ride, ride_on, ride, begun, after}
 use Rattle.def_cut.specs.Traced.{terrain_of}
 use Rattle.def_cut.specs.Events.{rider_at}
 use Rattle.motion_laws.proofs.Among.{among_here, among_later, among_cases, any_at, any_where}
@@ -36,7 +35,7 @@ map_among f [] r m = absurd (false≢true m)
 map_among f (x ∷ q) r m = elim (among_cases r x q m) [ inl e ↦ among_here (f r) (f x) (map f q) (ap f e) | inr k ↦ among_later (f r) (f x) (map f q) (map_among f q r k) ]
 
 -- Who rides a dart.
-ridden_where : (rs : List Moving) (d : ℕ) → is_among d (ridden rs) ≡ true → (r : ℕ) × (r < length rs) × ((rider_at rs r).stop ≡ None) × ((rider_at rs r).dart ≡ d)
+pub ridden_where : (rs : List Moving) (d : ℕ) → is_among d (ridden rs) ≡ true → (r : ℕ) × (r < length rs) × ((rider_at rs r).stop ≡ None) × ((rider_at rs r).dart ≡ d)
 ridden_where [] d m = absurd (false≢true m)
 ridden_where (x ∷ rs) d m = elim (with_cases x.stop x.dart d (ridden rs) m) [
   | inl e ↦ (0, omega arith, e.0, sym e.1)

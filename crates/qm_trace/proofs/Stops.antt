@@ -1,14 +1,13 @@
 -- Why a rider stops, as the code has it.
-use Rattle.std.proofs.Common.{◌≡◌, ℕ, zero, suc, ◌+◌, ◌<◌, Bool, true, false, cond, not, eqb, ◌&&◌, List, [], ◌∷◌, ◌++◌, length, get_or, map, Option, Some, None, sym, subst, ap, ◌∙◌, refl, arith}
+use Rattle.std.proofs.Common.{◌≡◌, ℕ, ◌+◌, ◌<◌, Bool, true, false, cond, not, eqb, ◌&&◌, List, [], ◌∷◌, ◌++◌, length, get_or, map, Some, None, ◌∙◌, refl, arith}
 use Rattle.std.specs.List.{range_with_len}
 use Rattle.std.proofs.lemmas.List.{get_or_default, length-map}
 use Rattle.std.proofs.lemmas.List.FromFn.{length-range_with_len, get_or-map-range_with_len, map-range_with_len_more}
 use Rattle.def_mesh.specs.Faces.{Faces}
 use Rattle.def_mesh.specs.Darts.{from_of, to_of, twin_of}
 use Rattle.def_mesh.specs.Vertices.{vertex_count, faces_at}
-use Rattle.def_mesh.specs.Kinds.{is_inner, is_regular, is_singular}
+use Rattle.def_mesh.specs.Kinds.{is_inner, is_singular}
 use Rattle.def_cut.specs.FullCut.{is_on}
-use Rattle.def_cut.specs.declared.graph.Stop.{Stop}
 use Rattle.def_cut.specs.declared.graph.Stop.TheVariants.{Middle, Boundary, Singular, Trail, Tie}
 use Rattle.qm_trace.specs.Tables.{IsGround, is_met_now, is_crowded, stop_now}
 

@@ -1,6 +1,5 @@
 -- The tables of the trace.
-use Rattle.std.specs.Prelude.{◌≡◌, ℕ, slice_set, ◌+◌, ◌^◌, ◌<◌, ◌≤◌, Bool, true, false, cond, not, [], ◌∷◌, ◌&&◌, ◌||◌, ◌==◌, List, map, length, Option, Some, None}
-use Rattle.std.specs.List.{list_any}
+use Rattle.std.specs.Prelude.{◌≡◌, ℕ, suc, slice_set, ◌+◌, ◌^◌, ◌<◌, Bool, true, false, cond, not, [], ◌∷◌, ◌||◌, List, length, Option, Some, None}
 use Rattle.def_mesh.specs.Faces.{Faces}
 use Rattle.def_mesh.specs.Darts.{darts, from_of, prev_of, twin_of}
 use Rattle.def_mesh.specs.Vertices.{vertex_count}
@@ -12,7 +11,7 @@ use Rattle.def_cut.specs.declared.graph.Stop.TheVariants.{Middle, Boundary, Sing
 use Rattle.def_cut.specs.declared.moving.Moving.{Moving}
 use Rattle.def_cut.specs.Motion.{end_of, ridden, is_among, after_ride, after}
 use Rattle.def_cut.specs.Events.{rider_at}
-use Rattle.def_cut.specs.Traced.{terrain_of}
+use Rattle.def_cut.specs.Traced.{finish, last_state, terrain_of}
 
 -- Of each vertex, whether it lies at the boundary and whether it is singular.
 pub record IsGround (faces : Faces) (boundary singular : List Bool) : Type 0 where
@@ -109,3 +108,18 @@ pub record IsTableAt (faces : Faces) (k : ℕ) (riders : List Moving) (stood cov
 abbrev pub closed_at : (twin : Option ℕ) (marks : List Bool) (d : ℕ) → List Bool
 closed_at None marks d = slice_set marks d true
 closed_at (Some t) marks d = marks
+
+-- The marks of the darts whose edges are covered when nobody runs.
+pub record AreCovered (faces : Faces) (marks : List Bool) : Type 0 where
+  pub long : length marks ≡ darts faces
+  pub each : (d : ℕ) → d < darts faces → is_on marks d ≡ (last_state faces).covered d
+
+-- The riders and the covered darts when nobody runs.
+pub record IsEnd (faces : Faces) (riders : List Moving) (covered : List Bool) : Type 0 where
+  pub riders_are : riders ≡ (last_state faces).riders
+  pub covered_are : AreCovered faces covered
+
+-- The motion, on from k steps, comes to its last state.
+abbrev pub IsOnItsWay : (faces : Faces) (k : ℕ) → Type 0
+IsOnItsWay faces k = (more : ℕ) → k + more ≡ suc (vertex_count faces)
+    → finish (terrain_of faces) more (after (terrain_of faces) (start_darts faces) k) ≡ last_state faces

@@ -1,14 +1,28 @@
-//! The boundary is covered too.
+//! What the motion leaves when no rider runs: the marks of the graph, and what became of each rider.
 
-ghost use Rattle.std.specs.Prelude.{◌≡◌, ◌<◌, ◌*◌, ◌||◌, not, is_some, ℕ, length};
-ghost use Rattle.def_mesh.specs.Darts.{darts, twin_of};
+ghost use Rattle.std.specs.Prelude.{◌≡◌, ◌<◌, ◌*◌, ◌||◌, not, is_some, ℕ, IfOk, IsSome, length};
 ghost use Rattle.def_cut.specs.FullCut.{is_on};
-ghost use Rattle.qm_trace.specs.Tables.{closed_at};
+ghost use Rattle.def_cut.specs.Traced.{AreRiders, IsRiderOf, last_state, traced_marks};
+ghost use Rattle.def_mesh.specs.Components.{start_darts};
+ghost use Rattle.def_mesh.specs.Darts.{darts, twin_of};
+ghost use Rattle.qm_trace.specs.Tables.{AreCovered, closed_at};
 
+use crate::Memory;
+use def_cut::{Moving, Rider};
 use qm_mesh::Mesh;
+use std::alloc::Global;
 
-/// Marks the boundary too. Linear in the darts.
-pub(crate) fn close(mesh: &Mesh, covered: &mut [bool])
+/// The marks of the graph, by those of the covered darts. Linear in the darts.
+pub(crate) fn close(mesh: &Mesh, mut covered: Vec<bool>) -> Vec<bool>
+    requires { AreCovered mesh.now covered.items }
+    ensures { result.items ≡ traced_marks mesh.now }
+{
+    close_each(mesh, &mut covered);
+    covered
+}
+
+/// Marks the boundary too.
+fn close_each(mesh: &Mesh, covered: &mut [bool])
     requires { length covered.old ≡ darts mesh.now }
     ensures { (d : ℕ) → d < darts mesh.now
         → is_on covered.new d ≡ (is_on covered.old d || not (is_some (twin_of mesh.now d))) }
@@ -26,5 +40,36 @@ fn close_edge(mesh: &Mesh, d: u32, covered: &mut [bool])
 {
     if mesh.twin(d).is_none() {
         covered[d as usize] = true;
+    }
+}
+
+/// What became of each rider.
+pub(crate) fn told(
+    alloc: Global,
+    mesh: &Mesh,
+    starts: &[u32],
+    riders: &[Moving],
+) -> Result<Vec<Rider>, Memory>
+    requires starts { starts.now ≡ start_darts mesh.now }
+    requires riders { riders.now ≡ (last_state mesh.now).riders }
+    ensures { IfOk result (λ told. AreRiders (last_state mesh.now).riders (start_darts mesh.now) told.items) }
+{
+    let _known = mesh.faces();
+    let mut told = Vec::with_capacity(alloc, starts.len())?;
+    for (r, start) in starts.iter().enumerate() {
+        told.push(rider_of(*start, riders[r]))?;
+    }
+    Ok(told)
+}
+
+/// What became of a rider that has stopped.
+fn rider_of(start: u32, moving: Moving) -> Rider
+    requires { IsSome moving.stop }
+    ensures { IsRiderOf moving start result }
+{
+    Rider {
+        start,
+        rides: moving.rides,
+        stop: moving.stop.unwrap(),
     }
 }

@@ -1,4 +1,4 @@
-use Rattle.std.proofs.Common.{◌≡◌, not, ◌++◌, ◌∷◌, [], ap, ◌∙◌, sym, arith}
+use Rattle.std.proofs.Common.{◌≡◌, not, ◌∙◌, sym, arith}
 use Rattle.def_mesh.specs.Kinds.{is_inner, is_singular}
 use Rattle.def_mesh.specs.Vertices.{vertex_count}
 use Rattle.qm_trace.proofs.Stops.{map_more, ground_is}

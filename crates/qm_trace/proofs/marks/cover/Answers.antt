@@ -1,4 +1,4 @@
-use Rattle.std.proofs.Common.{◌≡◌, ◌||◌, Bool, List, length, ap, ◌∙◌}
+use Rattle.std.proofs.Common.{◌||◌, Bool, List, length, ap, ◌∙◌}
 use Rattle.def_mesh.specs.Darts.{twin_of}
 use Rattle.def_cut.specs.Motion.{is_among, is_found}
 use Rattle.std.proofs.lemmas.List.{with_items_is}

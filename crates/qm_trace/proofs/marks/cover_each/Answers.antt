@@ -1,4 +1,4 @@
-use Rattle.std.proofs.Common.{get_or, ◌∙◌, arith}
+use Rattle.std.proofs.Common.{get_or, ◌∙◌}
 use Rattle.motion_laws.proofs.Marks.{among_at}
 use Rattle.qm_trace.proofs.Marking.{cover_more}
 use Rattle.qm_trace.proofs.marks.cover_each.Goals as goal

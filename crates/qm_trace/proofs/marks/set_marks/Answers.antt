@@ -1,4 +1,4 @@
-use Rattle.std.proofs.Common.{◌≡◌, cond, Bool, List, length, ap, ◌∙◌}
+use Rattle.std.proofs.Common.{cond, Bool, List, length, ap, ◌∙◌}
 use Rattle.def_cut.specs.Motion.{is_among}
 use Rattle.std.proofs.lemmas.List.{with_items_is}
 use Rattle.def_cut.specs.FullCut.{is_on}

@@ -1,4 +1,4 @@
-use Rattle.std.proofs.Common.{◌≡◌, ◌||◌, eqb, Bool, List, length, ap, ◌∙◌}
+use Rattle.std.proofs.Common.{◌||◌, eqb, Bool, List, length, ap, ◌∙◌}
 use Rattle.std.specs.List.{list_any}
 use Rattle.def_mesh.specs.Darts.{to_of}
 use Rattle.std.proofs.lemmas.List.{with_items_is}

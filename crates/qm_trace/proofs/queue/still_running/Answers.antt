@@ -1,4 +1,4 @@
-use Rattle.std.proofs.Common.{◌≡◌, get_or, ◌++◌, ◌∷◌, [], sym, ap, ◌∙◌}
+use Rattle.std.proofs.Common.{get_or, ◌++◌, ◌∷◌, [], sym, ap, ◌∙◌}
 use Rattle.def_cut.specs.Events.{rider_at}
 use Rattle.qm_trace.specs.Tables.{is_running}
 use Rattle.motion_laws.proofs.Marks.{among_at}

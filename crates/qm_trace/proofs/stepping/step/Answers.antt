@@ -1,4 +1,4 @@
-use Rattle.std.proofs.Common.{length, ap, ◌∙◌, arith}
+use Rattle.std.proofs.Common.{◌∙◌, arith}
 use Rattle.qm_trace.proofs.Steps.{are_darts, can_ride, instant, stepped}
 use Rattle.qm_trace.proofs.stepping.step.Goals as goal
 

@@ -1,0 +1,158 @@
+-- The queue of the next instant, and the end of the motion.
+use Rattle.std.proofs.Common.{◌≡◌, ℕ, zero, suc, ◌+◌, ◌-◌, ◌<◌, ◌≤◌, Bool, true, false, not, eqb, is_some, ◌||◌, List, [], ◌∷◌, ◌++◌, length, get_or, map, Option, Some, None, sym, ap, ◌∙◌, refl, arith}
+use Rattle.std.specs.List.{filter}
+use Rattle.std.proofs.lemmas.Bool.{false≢true}
+use Rattle.std.proofs.lemmas.List.{ext_get_or, get_or-map, length-map}
+use Rattle.std.proofs.lemmas.List.FromFn.{length-range_with_len, get_or-map-range_with_len}
+use Rattle.def_mesh.specs.Faces.{Faces}
+use Rattle.def_mesh.specs.Darts.{darts, all_darts, twin_of}
+use Rattle.def_mesh.specs.Manifold.{IsManifold}
+use Rattle.def_mesh.specs.Vertices.{vertex_count}
+use Rattle.def_mesh.specs.Components.{start_darts}
+use Rattle.def_cut.specs.FullCut.{is_on}
+use Rattle.def_cut.specs.declared.graph.Rider.{Rider}
+use Rattle.def_cut.specs.declared.graph.Stop.{Stop}
+use Rattle.def_cut.specs.declared.moving.Moving.{Moving}
+use Rattle.def_cut.specs.Motion.{Terrain, State, ridden, is_among, ride_on, ride, begun, step, start, after}
+use Rattle.def_cut.specs.Traced.{AreRiders, IsRiderOf, finish, is_traced, last_state, terrain_of, traced_marks}
+use Rattle.def_cut.specs.Events.{rider_at}
+use Rattle.mesh_laws.proofs.Vertices.{all_below}
+use Rattle.motion_laws.proofs.Among.{among_here, apart_filter, from_filter, in_filter}
+use Rattle.motion_laws.proofs.Order.{runs_ridden, at_last}
+use Rattle.motion_laws.proofs.Traced.{at_rest, nobody_runs, runs_on}
+use Rattle.site_laws.proofs.Sites.{terrain, started}
+use Rattle.qm_trace.specs.Tables.{AreCovered, IsEnd, IsOnItsWay, IsQueue, IsTableAt, is_running}
+use Rattle.qm_trace.proofs.Beginnings.{all_apart, each_once}
+use Rattle.qm_trace.proofs.Steps.{ridden_where}
+
+runs_by : (o : Option Stop) → is_running o ≡ true → o ≡ None
+runs_by None e = refl
+runs_by (Some s) e = absurd (false≢true e)
+
+pub some_wait : (n : ℕ) → eqb n 0 ≡ false → 0 < n
+some_wait zero e = absurd (false≢true (sym e))
+some_wait (suc n) e = omega arith
+
+-- Who runs after a step ran before.
+ran : (g : Terrain) (stood : ℕ → Bool) (ds : List ℕ) (x : Moving) (o : Option Stop) → (ride_on g stood ds x o).stop ≡ None → x.stop ≡ o → x.stop ≡ None
+ran g stood ds x None e is = is
+ran g stood ds x (Some s) e is = e
+
+-- The queue of the riders that still run.
+pub next_queue : (faces : Faces) (k : ℕ) (riders new : List Moving) (queue : List ℕ) → riders ≡ (after (terrain_of faces) (start_darts faces) k).riders → new ≡ (after (terrain_of faces) (start_darts faces) (suc k)).riders
+    → IsQueue riders queue → IsQueue new (filter (λ r. is_running (rider_at new r).stop) queue)
+next_queue faces k riders new queue old now q = record {
+  runs = λ r m. let p : (is_among r queue ≡ true) × (is_running (rider_at new r).stop ≡ true) = from_filter (λ x. is_running (rider_at new x).stop) r queue m in
+      (omega (arith, (q.runs r p.0).0, long), runs_by (rider_at new r).stop p.1);
+  all = λ r l runs. in_filter (λ x. is_running (rider_at new x).stop) r queue (q.all r (omega (arith, l, long)) (before r l runs)) (ap is_running runs);
+  apart = each_once (filter (λ r. is_running (rider_at new r).stop) queue) (apart_filter (λ r. is_running (rider_at new r).stop) queue (all_apart queue q.apart));
+}
+  where
+    f : Moving → Moving
+    f = ride (terrain_of faces) (after (terrain_of faces) (start_darts faces) k).stood (ridden (after (terrain_of faces) (start_darts faces) k).riders)
+
+    next : new ≡ map f riders
+    next = now ∙ sym (ap (map f) old)
+
+    long : length new ≡ length riders
+    long = ap length next ∙ length-map riders f
+
+    before : (r : ℕ) → r < length new → (rider_at new r).stop ≡ None → (rider_at riders r).stop ≡ None
+    before r l runs = ran (terrain_of faces) (after (terrain_of faces) (start_darts faces) k).stood (ridden (after (terrain_of faces) (start_darts faces) k).riders) (rider_at riders r) (rider_at riders r).stop
+        (sym (ap (λ (rs : List Moving). (rider_at rs r).stop) next ∙ ap (λ (x : Moving). x.stop) (get_or-map f riders r (begun 0) (begun 0) (omega (arith, l, long)))) ∙ runs) refl
+
+-- The riders of the queue are riders after the step too.
+pub queue_low : (faces : Faces) (k : ℕ) (riders new : List Moving) (queue : List ℕ) → riders ≡ (after (terrain_of faces) (start_darts faces) k).riders → new ≡ (after (terrain_of faces) (start_darts faces) (suc k)).riders
+    → IsQueue riders queue → (r : ℕ) → is_among r queue ≡ true → r < length new
+queue_low faces k riders new queue old now q r m = omega (
+  arith,
+  (q.runs r m).0,
+  ap length old,
+  ap length now,
+  length-map (after (terrain_of faces) (start_darts faces) k).riders (ride (terrain_of faces) (after (terrain_of faces) (start_darts faces) k).stood (ridden (after (terrain_of faces) (start_darts faces) k).riders)),
+)
+
+-- Nobody waits in the queue, so nobody rides.
+pub none_ride : (riders : List Moving) (queue : List ℕ) → IsQueue riders queue → length queue ≡ 0 → ridden riders ≡ []
+none_ride riders (r ∷ queue) q none = absurd (omega arith)
+none_ride riders [] q none = at (ridden riders) refl
+  where
+    at : (ds : List ℕ) → ridden riders ≡ ds → ridden riders ≡ []
+    at [] is = is
+    at (d ∷ ds) is =
+        let r : (r : ℕ) × (r < length riders) × ((rider_at riders r).stop ≡ None) × ((rider_at riders r).dart ≡ d) = ridden_where riders d (ap (is_among d) is ∙ among_here d d ds refl) in
+        absurd (false≢true (q.all r.0 r.1 r.2))
+
+pub first_on : (faces : Faces) → IsOnItsWay faces 0
+first_on faces more e = let s : more ≡ suc (vertex_count faces) = omega (arith, e) in ap (λ k. finish (terrain_of faces) k (start (terrain_of faces) (start_darts faces))) s
+
+-- A step further on.
+pub next_on : (faces : Faces) → IsManifold faces → (k : ℕ) (riders : List Moving) (queue : List ℕ) → riders ≡ (after (terrain_of faces) (start_darts faces) k).riders → IsQueue riders queue → 0 < length queue → IsOnItsWay faces k → IsOnItsWay faces (k + 1)
+next_on faces m k riders [] is q some way more e = absurd (omega arith)
+next_on faces m k riders (r ∷ queue) is q some way more e = at (ridden (after (terrain_of faces) (start_darts faces) k).riders) refl
+  where
+    there : is_among (rider_at riders r).dart (ridden (after (terrain_of faces) (start_darts faces) k).riders) ≡ true
+    there = let p : (r < length riders) × ((rider_at riders r).stop ≡ None) = q.runs r (among_here r r queue refl) in
+        sym (ap (λ (rs : List Moving). is_among (rider_at riders r).dart (ridden rs)) is) ∙ runs_ridden riders r p.0 p.1
+
+    plus : k + 1 ≡ suc k
+    plus = omega arith
+
+    at : (ds : List ℕ) → ridden (after (terrain_of faces) (start_darts faces) k).riders ≡ ds → finish (terrain_of faces) more (after (terrain_of faces) (start_darts faces) (k + 1)) ≡ last_state faces
+    at [] none = absurd (false≢true (sym (ap (is_among (rider_at riders r).dart) none) ∙ there))
+    at (d ∷ ds) some = ap (λ n. finish (terrain_of faces) more (after (terrain_of faces) (start_darts faces) n)) plus
+        ∙ (sym (runs_on (terrain_of faces) (terrain faces m) (start_darts faces) (started faces m) (vertex_count faces) (all_below faces) more d ds (after (terrain_of faces) (start_darts faces) k) some) ∙ way (suc more) (omega (arith, e)))
+
+-- Where nobody rides, the tables are those of the end.
+pub end_at : (faces : Faces) → IsManifold faces → (k : ℕ) (riders : List Moving) (stood covered taken : List Bool) → IsTableAt faces k riders stood covered taken → IsOnItsWay faces k → k ≤ vertex_count faces → ridden riders ≡ [] → IsEnd faces riders covered
+end_at faces m k riders stood covered taken t way low none = record {
+  riders_are = t.riders_are ∙ ap (λ (s : State). s.riders) same;
+  covered_are = record { long = t.covered_long; each = λ d l. t.covered_is d l ∙ ap (λ (s : State). s.covered d) same };
+}
+  where
+    rest : finish (terrain_of faces) (suc (vertex_count faces) - k) (after (terrain_of faces) (start_darts faces) k) ≡ after (terrain_of faces) (start_darts faces) k
+    rest = at_rest (terrain_of faces) (terrain faces m) (start_darts faces) (started faces m) (vertex_count faces) (all_below faces) (suc (vertex_count faces) - k) (after (terrain_of faces) (start_darts faces) k) (sym (ap ridden t.riders_are) ∙ none)
+
+    same : after (terrain_of faces) (start_darts faces) k ≡ last_state faces
+    same = sym rest ∙ way (suc (vertex_count faces) - k) (omega (arith, low))
+
+-- After as many steps as there are vertices nobody rides.
+pub all_over : (faces : Faces) → IsManifold faces → (riders : List Moving) → riders ≡ (after (terrain_of faces) (start_darts faces) (vertex_count faces)).riders → ridden riders ≡ []
+all_over faces m riders is = ap ridden is ∙ at_last (terrain_of faces) (terrain faces m) (start_darts faces) (started faces m) (vertex_count faces) (all_below faces)
+
+-- The marks of the graph.
+pub marks_are : (faces : Faces) (covered marks : List Bool) → AreCovered faces covered → length marks ≡ length covered → ((d : ℕ) → d < darts faces → is_on marks d ≡ (is_on covered d || not (is_some (twin_of faces d)))) → marks ≡ traced_marks faces
+marks_are faces covered marks a long each =
+    ext_get_or false marks (traced_marks faces) (long ∙ (a.long ∙ sym (length-map (all_darts faces) (is_traced faces) ∙ length-range_with_len 0 (darts faces)))) (λ d l. at d (omega (arith, l, long, a.long)))
+  where
+    at : (d : ℕ) → d < darts faces → get_or marks d false ≡ get_or (traced_marks faces) d false
+    at d l = each d l ∙ (ap (λ b. b || not (is_some (twin_of faces d))) (a.each d l) ∙ sym (get_or-map-range_with_len (is_traced faces) 0 (darts faces) d d false l (omega arith)))
+
+-- No rider is lost.
+finish_long : (g : Terrain) (k : ℕ) (s : State) → length (finish g k s).riders ≡ length s.riders
+finish_long g zero s = refl
+finish_long g (suc k) s = at (ridden s.riders) (finish_long g k (step g s))
+  where
+    at : (ds : List ℕ) → length (finish g k (step g s)).riders ≡ length (step g s).riders → length (elim ds as (λ x. State) [ [] ↦ s | d ∷ es ↦ finish g k (step g s) ]).riders ≡ length s.riders
+    at [] e = refl
+    at (d ∷ ds) e = e ∙ length-map s.riders (ride g s.stood (ridden s.riders))
+
+pub last_long : (faces : Faces) → length (last_state faces).riders ≡ length (start_darts faces)
+last_long faces = finish_long (terrain_of faces) (suc (vertex_count faces)) (start (terrain_of faces) (start_darts faces)) ∙ length-map (start_darts faces) begun
+
+-- In the end each rider has stopped.
+pub stopped : (faces : Faces) → IsManifold faces → (r : ℕ) → r < length (last_state faces).riders → is_some (rider_at (last_state faces).riders r).stop ≡ true
+stopped faces m r l = at (rider_at (last_state faces).riders r).stop refl
+  where
+    at : (o : Option Stop) → (rider_at (last_state faces).riders r).stop ≡ o → is_some (rider_at (last_state faces).riders r).stop ≡ true
+    at None is = absurd (false≢true (sym (ap (is_among (rider_at (last_state faces).riders r).dart) (nobody_runs (terrain_of faces) (terrain faces m) (start_darts faces) (started faces m) (vertex_count faces) (all_below faces))) ∙ runs_ridden (last_state faces).riders r l is))
+    at (Some s) is = ap is_some is
+
+-- One rider more is told.
+pub riders_more : (ms : List Moving) (ds : List ℕ) (rs : List Rider) (m : Moving) (d : ℕ) (r : Rider) → AreRiders ms ds rs → IsRiderOf m d r → AreRiders (ms ++ m ∷ []) (ds ++ d ∷ []) (rs ++ r ∷ [])
+riders_more [] [] [] m d r a i = (i, tt)
+riders_more [] [] (y ∷ rs) m d r a i = absurd a
+riders_more [] (x ∷ ds) rs m d r a i = absurd a
+riders_more (k ∷ ms) [] rs m d r a i = absurd a
+riders_more (k ∷ ms) (x ∷ ds) [] m d r a i = absurd a
+riders_more (k ∷ ms) (x ∷ ds) (y ∷ rs) m d r a i = (a.0, riders_more ms ds rs m d r a.1 i)

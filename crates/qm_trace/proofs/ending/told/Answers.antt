@@ -1,0 +1,28 @@
+use Rattle.std.proofs.Common.{◌≡◌, ◌<◌, ◌≤◌, ◌++◌, ◌∷◌, [], List, ℕ, length, get_or, take, subst, ap, ◌∙◌, arith}
+use Rattle.std.proofs.lemmas.List.{take_more, take_all}
+use Rattle.def_cut.specs.Motion.{begun}
+use Rattle.def_cut.specs.Traced.{AreRiders, last_state}
+use Rattle.def_mesh.specs.Components.{start_darts}
+use Rattle.def_cut.specs.declared.moving.Moving.{Moving}
+use Rattle.qm_trace.proofs.Ends.{last_long, riders_more, stopped}
+use Rattle.qm_trace.proofs.ending.told.Goals as goal
+
+pub bounds-riders-r : goal.bounds-riders-r
+bounds-riders-r c = omega (arith, c.loop-r-test.true, last_long c.args.mesh.now, ap length c.requires.starts, ap length c.requires.riders)
+
+pub rider_of-requires : goal.rider_of-requires
+rider_of-requires c = rw c.requires.riders (stopped c.args.mesh.now c.faces-known.ensures.mesh.manifold c.loop-r.r (omega (arith, c.loop-r-test.true, last_long c.args.mesh.now, ap length c.requires.starts)))
+
+pub loop-r-preserved : goal.loop-r-preserved
+loop-r-preserved c =
+    let low : c.loop-r.r < length c.args.riders.now = omega (arith, c.loop-r-test.true, last_long c.args.mesh.now, ap length c.requires.starts, ap length c.requires.riders) in
+    let more : AreRiders (take c.loop-r.r c.args.riders.now ++ get_or c.args.riders.now c.loop-r.r (begun 0) ∷ []) (take c.loop-r.r c.args.starts.now ++ get_or c.args.starts.now c.loop-r.r 0 ∷ []) (c.loop-r.told.items ++ c.rider_of.result ∷ []) =
+    riders_more (take c.loop-r.r c.args.riders.now) (take c.loop-r.r c.args.starts.now) c.loop-r.told.items (get_or c.args.riders.now c.loop-r.r (begun 0)) (get_or c.args.starts.now c.loop-r.r 0) c.rider_of.result c.loop-r.invariant c.rider_of.ensures in
+    rw (take_more c.args.riders.now c.loop-r.r (begun 0) low, take_more c.args.starts.now c.loop-r.r 0 c.loop-r-test.true, c.in_ok-push.ensures.items) more
+
+pub returns : goal.returns
+returns c =
+    let end : length c.args.starts.now ≤ c.loop-r.r = omega (arith, c.loop-r-test.false) in
+    let riders : take c.loop-r.r c.args.riders.now ≡ (last_state c.args.mesh.now).riders = take_all c.loop-r.r c.args.riders.now (omega (arith, end, last_long c.args.mesh.now, ap length c.requires.starts, ap length c.requires.riders)) ∙ c.requires.riders in
+    let starts : take c.loop-r.r c.args.starts.now ≡ start_darts c.args.mesh.now = take_all c.loop-r.r c.args.starts.now end ∙ c.requires.starts in
+    subst (λ (ms : List Moving). AreRiders ms (start_darts c.args.mesh.now) c.loop-r.told.items) riders (subst (λ (ds : List ℕ). AreRiders (take c.loop-r.r c.args.riders.now) ds c.loop-r.told.items) starts c.loop-r.invariant)

@@ -1,0 +1,50 @@
+//! The motion from its beginning to its end, and the graph that it leaves.
+
+ghost use Rattle.std.specs.Prelude.{◌≡◌, IfOk};
+ghost use Rattle.def_cut.specs.FullCut.{IsFullCut};
+ghost use Rattle.def_cut.specs.Traced.{IsGraphOf};
+ghost use Rattle.def_mesh.specs.Components.{start_darts};
+ghost use Rattle.def_mesh.specs.Sources.{AreSources};
+ghost use Rattle.qm_trace.specs.Tables.{IsEnd};
+
+use crate::Memory;
+use crate::ending::{close, told};
+use crate::queue::{darts_of, everyone, still_running};
+use crate::starting::first_tables;
+use crate::stepping::{Tables, step};
+use def_cut::Graph;
+use def_mesh::Starts;
+use qm_mesh::Mesh;
+use std::alloc::Global;
+
+/// The graph that riders trace, for what `sources` gives of the mesh. It is a full cut. Linear in the darts.
+pub fn trace(alloc: Global, mesh: &Mesh, src: &Starts) -> Result<Graph, Memory>
+    requires { AreSources mesh.now src.now }
+    ensures graph { IfOk result (IsGraphOf mesh.now) }
+    ensures cut { IfOk result (λ graph. IsFullCut mesh.now graph.covered.items) }
+{
+    let _known = mesh.faces();
+    let end = last_tables(alloc, mesh, &src.starts)?;
+    let riders = told(alloc, mesh, &src.starts, &end.riders)?;
+    let covered = close(mesh, end.covered);
+    Ok(Graph { covered, riders })
+}
+
+/// The tables when no rider runs any more. Linear in the darts.
+fn last_tables(alloc: Global, mesh: &Mesh, starts: &[u32]) -> Result<Tables, Memory>
+    requires { starts.now ≡ start_darts mesh.now }
+    ensures { IfOk result (λ t. IsEnd mesh.now t.riders.items t.covered.items) }
+{
+    let _known = mesh.faces();
+    let mut tables = first_tables(alloc, mesh, starts)?;
+    let mut queue = everyone(alloc, starts.len() as u32)?;
+    'instants: for _ in 0..mesh.vertices() {
+        if queue.is_empty() {
+            break;
+        }
+        let ridden = darts_of(alloc, &tables.riders, &queue)?;
+        tables = step(mesh, &queue, &ridden, tables);
+        queue = still_running(alloc, &tables.riders, &queue)?;
+    }
+    Ok(tables)
+}
