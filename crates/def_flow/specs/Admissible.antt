@@ -1,10 +1,10 @@
 -- Lists of lengths that a network admits, and how far they are from what is wanted.
-use Rattle.std.specs.Prelude.{◌≡◌, ℕ, ◌*◌, ◌^◌, ◌<◌, ◌≤◌, Bool, true, false, cond, not, ◌&&◌, ◌==◌, List, length}
+use Rattle.std.specs.Prelude.{◌≡◌, ℕ, ◌*◌, ◌<◌, ◌≤◌, Bool, true, false, cond, not, ◌&&◌, ◌==◌, List, length}
 use Rattle.std.specs.Prelude.{slice_index, slice_index_or, ℤ, pos, ◌-ℤ◌, ◌*ℤ◌, ◌≤ℤ◌, unsigned_abs}
 use Rattle.def_math.specs.Counts.{count, count_below}
 use Rattle.def_math.specs.Sums.{total, total_below}
 use Rattle.def_flow.specs.Network.{Network, Node, ArcNumber, ends, arc_at}
-use Rattle.def_flow.specs.declared.limits.TheConstants.{MAX_LENGTH}
+use Rattle.def_flow.specs.declared.limits.TheConstants.{MAX_LENGTH, MAX_SUM}
 use Rattle.def_flow.specs.declared.net.Arc.{Arc}
 use Rattle.def_flow.specs.declared.net.End.{End}
 
@@ -55,5 +55,5 @@ pub record IsLeast (net : Network) (x : Lengths) : Type 0 where
 -- An even network: its old lengths are a balanced list of small numbers from 1 on.
 pub record IsEven (net : Network) : Type 0 where
   pub high : (k : ArcNumber) → k < length net.arcs → 1 ≤ (arc_at net.arcs k).old
-  pub small : count (λ a. a.old) net.arcs ≤ 2 ^ 23
+  pub small : count (λ a. a.old) net.arcs ≤ MAX_SUM
   pub balanced : IsBalanced net.arcs (λ k. pos (arc_at net.arcs k).old)

@@ -1,6 +1,6 @@
 -- Networks: bidirected arcs between nodes.
 use Rattle.std.specs.Prelude.{ℕ, ◌*◌, ◌^◌, ◌<◌, ◌≤◌, Bool, true, cond, ◌&&◌, ◌==◌, nat_le, nat_lt, IsTrue, List, ◌∷◌}
-use Rattle.std.specs.Prelude.{length, option_to_list, slice_index_or, None}
+use Rattle.std.specs.Prelude.{length, option_to_list, slice_index_or, Option, Some, None}
 use Rattle.std.specs.List.{list_all}
 use Rattle.def_math.specs.Counts.{count, count_below}
 use Rattle.def_flow.specs.declared.limits.TheConstants.{MAX_FLOOR, MAX_OLD, MAX_SCALE, MAX_WEIGHT}
@@ -31,6 +31,11 @@ network net = record { nodes = net.nodes; arcs = net.arcs.items; floor = net.flo
 -- The ends of an arc, one or two.
 abbrev pub ends : (a : Arc) → List End
 ends a = a.left ∷ option_to_list a.right
+
+-- The one end or both ends of an arc are at nodes below a bound.
+abbrev pub EndsBelow : (nodes : ℕ) (left : End) (right : Option End) → Type 0
+EndsBelow nodes left None = left.node < nodes
+EndsBelow nodes left (Some right) = (left.node < nodes) × (right.node < nodes)
 
 -- The arc with number k; past the last one, an arc that nothing asks for.
 abbrev pub arc_at : (arcs : List Arc) (k : ArcNumber) → Arc

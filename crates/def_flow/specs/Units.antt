@@ -20,24 +20,27 @@ low net step x = x - down net step x * step
 abbrev pub cap : (net : Network) (step x : ℕ) → ℕ
 cap net step x = down net step x + 2
 
--- Unit k of an arc: it costs the arc's deviation at its upper end less that at its lower end.
-abbrev pub unit_at : (net : Network) (step : ℕ) (a : Arc) (x k : ℕ) → ArcUnit
-unit_at net step a x k = record {
+-- Unit k of an arc from this low on: it costs the arc's deviation at its upper end less that at its lower end.
+abbrev pub unit_at : (net : Network) (step : ℕ) (a : Arc) (low k : ℕ) → ArcUnit
+unit_at net step a low k = record {
   left = a.left;
   right = a.right;
-  cost = pos (arc_deviation net a (pos (low net step x + (k + 1) * step)))
-      -ℤ pos (arc_deviation net a (pos (low net step x + k * step)));
+  cost = pos (arc_deviation net a (pos (low + (k + 1) * step))) -ℤ pos (arc_deviation net a (pos (low + k * step)));
 }
 
 -- So many units of an arc, from unit k on.
-abbrev pub units_from : (net : Network) (step : ℕ) (a : Arc) (x k many : ℕ) → List ArcUnit
-units_from net step a x k zero = []
-units_from net step a x k (suc n) = unit_at net step a x k ∷ units_from net step a x (k + 1) n
+abbrev pub units_from : (net : Network) (step : ℕ) (a : Arc) (low k many : ℕ) → List ArcUnit
+units_from net step a l k zero = []
+units_from net step a l k (suc n) = unit_at net step a l k ∷ units_from net step a l (k + 1) n
 
--- All units, in order of the arcs.
+-- All units, in order of the arcs, where each arc has its low and its cap.
+abbrev pub units_over : (net : Network) (step : ℕ) (arcs : List Arc) (lows caps : List ℕ) → List ArcUnit
+units_over net step (a ∷ arcs) (l ∷ ls) (c ∷ cs) = units_from net step a l 0 c ++ units_over net step arcs ls cs
+units_over net step _ _ _ = []
+
+-- The units at the list xs.
 abbrev pub units : (net : Network) (step : ℕ) (arcs : List Arc) (xs : List ℕ) → List ArcUnit
-units net step (a ∷ arcs) (x ∷ xs) = units_from net step a x 0 (cap net step x) ++ units net step arcs xs
-units net step _ _ = []
+units net step arcs xs = units_over net step arcs (map (low net step) xs) (map (cap net step) xs)
 
 -- The states of so many units, of which the first are on.
 abbrev pub run : (on many : ℕ) → List Bool
@@ -45,10 +48,14 @@ run on zero = []
 run zero (suc n) = false ∷ run zero n
 run (suc on) (suc n) = true ∷ run on n
 
--- The states of all units, where of each arc of the list xs as many are on as js says.
+-- The states of all units, where of each arc as many are on as js says.
+abbrev pub states_over : (caps js : List ℕ) → List Bool
+states_over (c ∷ cs) (j ∷ js) = run j c ++ states_over cs js
+states_over _ _ = []
+
+-- The states of all units at the list xs, where of each arc as many are on as js says.
 abbrev pub states : (net : Network) (step : ℕ) (xs js : List ℕ) → List Bool
-states net step (x ∷ xs) (j ∷ js) = run j (cap net step x) ++ states net step xs js
-states net step _ _ = []
+states net step xs js = states_over (map (cap net step) xs) js
 
 -- The states of all units at the list xs itself.
 abbrev pub states_at : (net : Network) (step : ℕ) (xs : List ℕ) → List Bool

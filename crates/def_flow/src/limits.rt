@@ -12,6 +12,9 @@ pub const MAX_FLOOR: u32 = 3;
 /// The greatest old length of an arc.
 pub const MAX_OLD: u32 = 4_000_000_000;
 
+/// The greatest sum of the old lengths of an even network.
+pub const MAX_SUM: u32 = 8_388_608;
+
 /// The greatest length that a list may hold.
 pub const MAX_LENGTH: u64 = 1_000_000_000_000;
 

@@ -1,13 +1,13 @@
 //! Certificates of small networks, each with its verdict.
 
-ghost use Rattle.std.specs.Prelude.{◌≡◌, ◌^◌, ◌<◌, ◌≤◌, IsTrue, length, nat_le, nat_lt, unsigned_abs};
+ghost use Rattle.std.specs.Prelude.{◌≡◌, ◌^◌, nat_le, nat_lt, unsigned_abs};
 ghost use Rattle.std.specs.List.{list_all};
-ghost use Rattle.def_flow.specs.Network.{network, tangle_number};
 
 use crate::accepts;
-use def_flow::{Arc, Cert, CertVerdict, End, Net};
+use def_flow::{Cert, CertVerdict, MAX_TANGLE};
 use def_matching::{Dual, Verdict};
-use qm_net::is_within_bounds;
+use qm_net::{is_within_bounds, tangle_of};
+use qm_nettext::read_net;
 use std::alloc::Global;
 use std::process::Abort;
 use std::test::Fail;
@@ -28,85 +28,39 @@ fn are_small(numbers: &[i64]) -> bool
         .all(|number| number.unsigned_abs() < 1_000_000_000_000_000_000)
 }
 
-/// Whether a network is so small that its tangle number is.
-fn is_small(net: &Net) -> bool
-    ensures { IsTrue result → tangle_number (network net.now) ≤ 2 ^ 25 }
-{
-    net.nodes <= 32 && net.arcs.len() <= 32
-}
-
-/// An end: its node, and whether it is on the plus side.
-type Tip = (u32, bool);
-
-/// A network of arcs with their ends, old lengths and weights, and its floor and scale.
-struct Case {
-    nodes: u32,
-    floor: u32,
-    p: u32,
-    q: u32,
-    arcs: &'static [(Tip, Option<Tip>, u32, u32)],
-}
-
 /// The network of one quad.
-const QUAD: Case = Case {
-    nodes: 2,
-    floor: 1,
-    p: 1,
-    q: 1,
-    arcs: &[
-        ((0, true), None, 1, 1),
-        ((1, true), None, 1, 1),
-        ((0, false), None, 1, 1),
-        ((1, false), None, 1, 1),
-    ],
-};
+const QUAD: &str = "net nodes 2 arcs 4 floor 1 scale 1/1
+arc 1 1 0 + rim
+arc 1 1 1 + rim
+arc 1 1 0 - rim
+arc 1 1 1 - rim";
 
-fn end((node, plus): Tip) -> End {
-    End { node, plus }
+/// A list of lengths with a dual: numbers of vertices, numbers of sets, and the entries of both.
+struct Sheet<'a> {
+    x: &'a [u64],
+    y: &'a [i64],
+    z: &'a [i64],
+    up: &'a [u32],
 }
 
-fn net(alloc: Global, case: &Case) -> Result<Net, Fail> {
-    let mut arcs = Vec::new(alloc);
-    for (left, right, old, weight) in case.arcs {
-        arcs.push(Arc {
-            left: end(*left),
-            right: right.map(end),
-            old: *old,
-            weight: *weight,
-        })?;
-    }
-    Ok(Net {
-        nodes: case.nodes,
-        arcs,
-        floor: case.floor,
-        p: case.p,
-        q: case.q,
-    })
-}
-
-/// The verdict on a list of lengths with a dual of numbers of vertices, numbers of sets, and nesting.
-fn judge(
-    rt: &impl Abort,
-    alloc: Global,
-    net: &Net,
-    x: &[u64],
-    y: &[i64],
-    z: &[i64],
-    up: &[u32],
-) -> Result<CertVerdict, Fail> {
+/// The verdict on a sheet over the network of a text.
+fn judge(rt: &impl Abort, alloc: Global, text: &str, sheet: Sheet) -> Result<CertVerdict, Fail> {
+    let net = read_net(alloc, text)?;
     let dual = Dual {
-        y: Vec::from_slice(alloc, y)?,
-        z: Vec::from_slice(alloc, z)?,
-        up: Vec::from_slice(alloc, up)?,
+        y: Vec::from_slice(alloc, sheet.y)?,
+        z: Vec::from_slice(alloc, sheet.z)?,
+        up: Vec::from_slice(alloc, sheet.up)?,
     };
     let cert = Cert {
-        x: Vec::from_slice(alloc, x)?,
+        x: Vec::from_slice(alloc, sheet.x)?,
         dual,
     };
-    assert!(rt; is_within_bounds(net) && is_small(net));
+    assert!(rt; is_within_bounds(&net));
+    let tangle = tangle_of(alloc, &net)?;
+    assert!(rt; tangle <= u128::from(MAX_TANGLE));
     assert!(rt; are_short(&cert.x) && cert.x.len() < 64);
     assert!(rt; are_small(&cert.dual.y) && are_small(&cert.dual.z) && cert.dual.z.len() < 64);
-    Ok(accepts(alloc, net, &cert)?)
+    Ok(accepts(alloc, &net, &cert)?)
 }
 
 /// Numbers that are 0 but for the first and the last.
@@ -119,7 +73,6 @@ fn nearly_zero(first: i64, last: i64) -> [i64; 34] {
 
 #[test]
 fn verdicts_on_one_quad(rt: HostRuntime) -> Result<(), Fail> {
-    let quad = net(rt.alloc(), &QUAD)?;
     let table: [(&[u64], i64, i64, CertVerdict); 6] = [
         (&[1, 1, 1, 1], 0, 0, CertVerdict::Yes { deviation: 0 }),
         (&[1, 1, 1], 0, 0, CertVerdict::Count { arcs: 4, given: 3 }),
@@ -159,106 +112,69 @@ fn verdicts_on_one_quad(rt: HostRuntime) -> Result<(), Fail> {
         ),
     ];
     for (x, first, last, want) in table {
-        let verdict = judge(
-            &rt,
-            rt.alloc(),
-            &quad,
+        let sheet = Sheet {
             x,
-            &nearly_zero(first, last),
-            &[],
-            &[0; 34],
-        )?;
+            y: &nearly_zero(first, last),
+            z: &[],
+            up: &[0; 34],
+        };
+        let verdict = judge(&rt, rt.alloc(), QUAD, sheet)?;
         assert_eq!(rt; verdict, want, "at {x:?}, {first}, {last}");
     }
     Ok(())
 }
 
 /// A quad at three times its size.
-const TREBLED: Case = Case {
-    nodes: 2,
-    floor: 1,
-    p: 3,
-    q: 1,
-    arcs: &[
-        ((0, true), None, 1, 1),
-        ((1, true), None, 1, 1),
-        ((0, false), None, 1, 1),
-        ((1, false), None, 1, 1),
-    ],
-};
+const TREBLED: &str = "net nodes 2 arcs 4 floor 1 scale 3/1
+arc 1 1 0 + rim
+arc 1 1 1 + rim
+arc 1 1 0 - rim
+arc 1 1 1 - rim";
 
 /// A quad with lengths of at least 2.
-const FLOOR_2: Case = Case {
-    nodes: 2,
-    floor: 2,
-    p: 1,
-    q: 1,
-    arcs: &[
-        ((0, true), None, 2, 1),
-        ((1, true), None, 2, 1),
-        ((0, false), None, 2, 1),
-        ((1, false), None, 2, 1),
-    ],
-};
+const FLOOR_2: &str = "net nodes 2 arcs 4 floor 2 scale 1/1
+arc 2 1 0 + rim
+arc 2 1 1 + rim
+arc 2 1 0 - rim
+arc 2 1 1 - rim";
 
 /// A quad with lengths of at least 3, which are too long.
-const FLOOR_3: Case = Case {
-    nodes: 2,
-    floor: 3,
-    p: 1,
-    q: 1,
-    arcs: &[
-        ((0, true), None, 2, 1),
-        ((1, true), None, 2, 1),
-        ((0, false), None, 2, 1),
-        ((1, false), None, 2, 1),
-    ],
-};
+const FLOOR_3: &str = "net nodes 2 arcs 4 floor 3 scale 1/1
+arc 2 1 0 + rim
+arc 2 1 1 + rim
+arc 2 1 0 - rim
+arc 2 1 1 - rim";
 
 /// Arcs of all shapes, with both ends of one at one node.
-const FIVE_SHAPES: Case = Case {
-    nodes: 3,
-    floor: 1,
-    p: 2,
-    q: 3,
-    arcs: &[
-        ((0, true), Some((1, false)), 5, 2),
-        ((1, true), Some((1, true)), 2, 1),
-        ((2, false), Some((2, false)), 3, 3),
-        ((0, false), Some((2, true)), 4, 1),
-        ((1, false), Some((1, true)), 3, 2),
-        ((0, true), None, 3, 1),
-        ((2, false), None, 2, 4),
-    ],
-};
+const FIVE_SHAPES: &str = "net nodes 3 arcs 7 floor 1 scale 2/3
+arc 5 2 0 + 1 -
+arc 2 1 1 + 1 +
+arc 3 3 2 - 2 -
+arc 4 1 0 - 2 +
+arc 3 2 1 - 1 +
+arc 3 1 0 + rim
+arc 2 4 2 - rim";
 
 /// Three squares round a vertex with a flap between each two: no dual without sets is accepted.
-const FLAPS: Case = Case {
-    nodes: 12,
-    floor: 1,
-    p: 1,
-    q: 2,
-    arcs: &[
-        ((0, true), Some((3, false)), 3, 1),
-        ((0, false), Some((8, true)), 3, 1),
-        ((1, true), Some((6, true)), 3, 1),
-        ((1, false), Some((4, true)), 3, 1),
-        ((2, true), Some((5, false)), 3, 1),
-        ((2, false), Some((6, true)), 3, 1),
-        ((3, true), Some((10, true)), 3, 1),
-        ((4, false), Some((10, true)), 3, 1),
-        ((5, true), Some((8, true)), 3, 1),
-        ((6, false), None, 6, 1),
-        ((7, true), None, 2, 1),
-        ((7, false), None, 2, 1),
-        ((8, false), None, 6, 1),
-        ((9, true), None, 2, 1),
-        ((9, false), None, 2, 1),
-        ((10, false), None, 6, 1),
-        ((11, true), None, 2, 1),
-        ((11, false), None, 2, 1),
-    ],
-};
+const FLAPS: &str = "net nodes 12 arcs 18 floor 1 scale 1/2
+arc 3 1 0 + 3 -
+arc 3 1 0 - 8 +
+arc 3 1 1 + 6 +
+arc 3 1 1 - 4 +
+arc 3 1 2 + 5 -
+arc 3 1 2 - 6 +
+arc 3 1 3 + 10 +
+arc 3 1 4 - 10 +
+arc 3 1 5 + 8 +
+arc 6 1 6 - rim
+arc 2 1 7 + rim
+arc 2 1 7 - rim
+arc 6 1 8 - rim
+arc 2 1 9 + rim
+arc 2 1 9 - rim
+arc 6 1 10 - rim
+arc 2 1 11 + rim
+arc 2 1 11 - rim";
 
 /// Numbers of vertices, by another program.
 const TREBLED_Y: [i64; 70] = [
@@ -302,26 +218,19 @@ const FLAPS_UP: [u32; 152] = [
 ];
 
 /// A cube of three by three faces a side, at half its size.
-const CUBE: Case = Case {
-    nodes: 12,
-    floor: 1,
-    p: 1,
-    q: 2,
-    arcs: &[
-        ((0, true), Some((8, true)), 3, 1),
-        ((1, true), Some((6, true)), 3, 1),
-        ((0, false), Some((4, true)), 3, 1),
-        ((1, false), Some((10, true)), 3, 1),
-        ((2, true), Some((4, false)), 3, 1),
-        ((3, true), Some((6, false)), 3, 1),
-        ((2, false), Some((8, false)), 3, 1),
-        ((3, false), Some((10, false)), 3, 1),
-        ((5, true), Some((7, false)), 3, 1),
-        ((5, false), Some((11, true)), 3, 1),
-        ((7, true), Some((9, false)), 3, 1),
-        ((9, true), Some((11, false)), 3, 1),
-    ],
-};
+const CUBE: &str = "net nodes 12 arcs 12 floor 1 scale 1/2
+arc 3 1 0 + 8 +
+arc 3 1 1 + 6 +
+arc 3 1 0 - 4 +
+arc 3 1 1 - 10 +
+arc 3 1 2 + 4 -
+arc 3 1 3 + 6 -
+arc 3 1 2 - 8 -
+arc 3 1 3 - 10 -
+arc 3 1 5 + 7 -
+arc 3 1 5 - 11 +
+arc 3 1 7 + 9 -
+arc 3 1 9 + 11 -";
 
 /// Numbers that only the edge inside a unit with like signs has too great a load for.
 const CUBE_Y: [i64; 56] = [
@@ -332,53 +241,65 @@ const CUBE_Y: [i64; 56] = [
 /// Certificates of least lists, with what these are away from what is wanted, and one of a dual that is none.
 #[test]
 fn verdicts_on_networks(rt: HostRuntime) -> Result<(), Fail> {
-    let table: [(&Case, &[u64], &[i64], &[i64], &[u32], CertVerdict); 6] = [
+    let table: [(&str, Sheet, CertVerdict); 6] = [
         (
-            &TREBLED,
-            &[3, 3, 3, 3],
-            &TREBLED_Y,
-            &[],
-            &[0; 70],
+            TREBLED,
+            Sheet {
+                x: &[3, 3, 3, 3],
+                y: &TREBLED_Y,
+                z: &[],
+                up: &[0; 70],
+            },
             CertVerdict::Yes { deviation: 0 },
         ),
         (
-            &FLOOR_2,
-            &[2, 2, 2, 2],
-            &[0; 34],
-            &[],
-            &[0; 34],
+            FLOOR_2,
+            Sheet {
+                x: &[2, 2, 2, 2],
+                y: &[0; 34],
+                z: &[],
+                up: &[0; 34],
+            },
             CertVerdict::Yes { deviation: 0 },
         ),
         (
-            &FLOOR_3,
-            &[3, 3, 3, 3],
-            &[0; 34],
-            &[],
-            &[0; 34],
+            FLOOR_3,
+            Sheet {
+                x: &[3, 3, 3, 3],
+                y: &[0; 34],
+                z: &[],
+                up: &[0; 34],
+            },
             CertVerdict::Yes { deviation: 4 },
         ),
         (
-            &FIVE_SHAPES,
-            &[4, 2, 2, 5, 2, 1, 1],
-            &FIVE_SHAPES_Y,
-            &FIVE_SHAPES_Z,
-            &FIVE_SHAPES_UP,
+            FIVE_SHAPES,
+            Sheet {
+                x: &[4, 2, 2, 5, 2, 1, 1],
+                y: &FIVE_SHAPES_Y,
+                z: &FIVE_SHAPES_Z,
+                up: &FIVE_SHAPES_UP,
+            },
             CertVerdict::Yes { deviation: 20 },
         ),
         (
-            &FLAPS,
-            &[1, 1, 1, 1, 2, 2, 1, 1, 2, 3, 1, 1, 3, 1, 1, 2, 1, 1],
-            &FLAPS_Y,
-            &FLAPS_Z,
-            &FLAPS_UP,
+            FLAPS,
+            Sheet {
+                x: &[1, 1, 1, 1, 2, 2, 1, 1, 2, 3, 1, 1, 3, 1, 1, 2, 1, 1],
+                y: &FLAPS_Y,
+                z: &FLAPS_Z,
+                up: &FLAPS_UP,
+            },
             CertVerdict::Yes { deviation: 11 },
         ),
         (
-            &CUBE,
-            &[1, 1, 1, 1, 1, 1, 1, 1, 1, 1, 1, 1],
-            &CUBE_Y,
-            &[],
-            &[0; 56],
+            CUBE,
+            Sheet {
+                x: &[1, 1, 1, 1, 1, 1, 1, 1, 1, 1, 1, 1],
+                y: &CUBE_Y,
+                z: &[],
+                up: &[0; 56],
+            },
             CertVerdict::Dual {
                 verdict: Verdict::Short {
                     edge: 9,
@@ -388,9 +309,9 @@ fn verdicts_on_networks(rt: HostRuntime) -> Result<(), Fail> {
             },
         ),
     ];
-    for (case, x, y, z, up, want) in table {
-        let net = net(rt.alloc(), case)?;
-        let verdict = judge(&rt, rt.alloc(), &net, x, y, z, up)?;
+    for (text, sheet, want) in table {
+        let x = sheet.x;
+        let verdict = judge(&rt, rt.alloc(), text, sheet)?;
         assert_eq!(rt; verdict, want, "at {x:?}");
     }
     Ok(())

@@ -6,7 +6,7 @@ use Rattle.std.proofs.lemmas.List.{drop_more, length-append}
 use Rattle.def_flow.specs.Network.{Network}
 use Rattle.def_flow.specs.Units.{down, low, cap, run, units_from, units, states, states_at}
 use Rattle.def_flow.specs.declared.net.Arc.{Arc}
-use Rattle.qm_gadget.specs.Over.{unit_over, from_low, units_over, states_over}
+use Rattle.def_flow.specs.Units.{unit_at, units_from, units_over, states_over}
 
 run_suc : (j n : ℕ) → run j (suc n) ≡ run j n ++ nat_lt n j ∷ []
 run_suc zero zero = refl
@@ -18,21 +18,21 @@ run_suc (suc j) (suc n) = let same : nat_lt n j ≡ nat_lt (suc n) (suc j) = gri
 pub run_more : (j n : ℕ) → run j (n + 1) ≡ run j n ++ nat_lt n j ∷ []
 run_more j n = rw (add-one n) (run_suc j n)
 
-from_suc : (net : Network) (step : ℕ) (a : Arc) (l k n : ℕ) → from_low net step a l k (suc n) ≡ from_low net step a l k n ++ unit_over net step a l (k + n) ∷ []
+from_suc : (net : Network) (step : ℕ) (a : Arc) (l k n : ℕ) → units_from net step a l k (suc n) ≡ units_from net step a l k n ++ unit_at net step a l (k + n) ∷ []
 from_suc net step a l k zero = rw (add-zero k) refl
 from_suc net step a l k (suc n) =
     let there : k + 1 + n ≡ k + suc n = omega arith in
-    ap (λ us. unit_over net step a l k ∷ us) (rw (← there) (from_suc net step a l (k + 1) n))
+    ap (λ us. unit_at net step a l k ∷ us) (rw (← there) (from_suc net step a l (k + 1) n))
 
 -- One unit more of an arc.
-pub from_more : (net : Network) (step : ℕ) (a : Arc) (l n : ℕ) → from_low net step a l 0 (n + 1) ≡ from_low net step a l 0 n ++ unit_over net step a l n ∷ []
+pub from_more : (net : Network) (step : ℕ) (a : Arc) (l n : ℕ) → units_from net step a l 0 (n + 1) ≡ units_from net step a l 0 n ++ unit_at net step a l n ∷ []
 from_more net step a l n =
     let here : 0 + n ≡ n = omega arith in
-    ap (from_low net step a l 0) (add-one n) ∙ (from_suc net step a l 0 n ∙ ap (λ k. from_low net step a l 0 n ++ unit_over net step a l k ∷ []) here)
+    ap (units_from net step a l 0) (add-one n) ∙ (from_suc net step a l 0 n ∙ ap (λ k. units_from net step a l 0 n ++ unit_at net step a l k ∷ []) here)
 
 -- The units from an arc on, and those from the next arc on.
 pub units_step : (net : Network) (step : ℕ) (arcs : List Arc) (ls cs : List ℕ) (k : ℕ) (d : Arc) → k < length arcs → length ls ≡ length arcs → length cs ≡ length arcs
-    → units_over net step (drop k arcs) (drop k ls) (drop k cs) ≡ from_low net step (slice_index_or arcs k d) (slice_index ls k) 0 (slice_index cs k) ++ units_over net step (drop (k + 1) arcs) (drop (k + 1) ls) (drop (k + 1) cs)
+    → units_over net step (drop k arcs) (drop k ls) (drop k cs) ≡ units_from net step (slice_index_or arcs k d) (slice_index ls k) 0 (slice_index cs k) ++ units_over net step (drop (k + 1) arcs) (drop (k + 1) ls) (drop (k + 1) cs)
 units_step net step arcs ls cs k d l ll lc =
     let inner_l : k < length ls = omega arith in
     let inner_c : k < length cs = omega arith in
@@ -44,38 +44,20 @@ states_step cs js k l same =
     let inner : k < length js = omega arith in
     rw (drop_more cs k 0 l, drop_more js k 0 inner) refl
 
--- Units by lows and caps are the units of the list that these are of.
-from_is : (net : Network) (step : ℕ) (a : Arc) (x k n : ℕ) → from_low net step a (low net step x) k n ≡ units_from net step a x k n
-from_is net step a x k zero = refl
-from_is net step a x k (suc n) = ap (λ us. unit_over net step a (low net step x) k ∷ us) (from_is net step a x (k + 1) n)
-
-pub units_over_is : (net : Network) (step : ℕ) (arcs : List Arc) (xs : List ℕ) → units_over net step arcs (map (low net step) xs) (map (cap net step) xs) ≡ units net step arcs xs
-units_over_is net step [] xs = refl
-units_over_is net step (a ∷ arcs) [] = refl
-units_over_is net step (a ∷ arcs) (x ∷ xs) =
-    ap (λ us. us ++ units_over net step arcs (map (low net step) xs) (map (cap net step) xs)) (from_is net step a x 0 (cap net step x))
-    ∙ ap (λ us. units_from net step a x 0 (cap net step x) ++ us) (units_over_is net step arcs xs)
-
--- So are their states.
-pub states_over_is : (net : Network) (step : ℕ) (xs js : List ℕ) → states_over (map (cap net step) xs) js ≡ states net step xs js
-states_over_is net step [] js = refl
-states_over_is net step (x ∷ xs) [] = refl
-states_over_is net step (x ∷ xs) (j ∷ js) = ap (λ bs. run j (cap net step x) ++ bs) (states_over_is net step xs js)
-
 downs : (net : Network) (step : ℕ) (xs : List ℕ) → map (λ c. c - 2) (map (cap net step) xs) ≡ map (down net step) xs
 downs net step [] = refl
 downs net step (x ∷ xs) = let here : down net step x + 2 - 2 ≡ down net step x = omega arith in ap (λ d. d ∷ map (λ c. c - 2) (map (cap net step) xs)) here ∙ ap (λ ds. down net step x ∷ ds) (downs net step xs)
 
 -- The states at the list itself.
 pub own_states : (net : Network) (step : ℕ) (xs : List ℕ) → states_over (map (cap net step) xs) (map (λ c. c - 2) (map (cap net step) xs)) ≡ states_at net step xs
-own_states net step xs = states_over_is net step xs (map (λ c. c - 2) (map (cap net step) xs)) ∙ ap (states net step xs) (downs net step xs)
+own_states net step xs = ap (states net step xs) (downs net step xs)
 
 run_long : (j n : ℕ) → length (run j n) ≡ n
 run_long j zero = refl
 run_long zero (suc n) = ap suc (run_long zero n)
 run_long (suc j) (suc n) = ap suc (run_long j n)
 
-from_long : (net : Network) (step : ℕ) (a : Arc) (l k n : ℕ) → length (from_low net step a l k n) ≡ n
+from_long : (net : Network) (step : ℕ) (a : Arc) (l k n : ℕ) → length (units_from net step a l k n) ≡ n
 from_long net step a l k zero = refl
 from_long net step a l k (suc n) = ap suc (from_long net step a l (k + 1) n)
 
@@ -86,4 +68,4 @@ states_long net step [] ls (x ∷ cs) js l c j = absurd (omega arith)
 states_long net step (a ∷ arcs) [] cs js l c j = absurd (omega arith)
 states_long net step (a ∷ arcs) (x ∷ ls) [] js l c j = absurd (omega arith)
 states_long net step (a ∷ arcs) (x ∷ ls) (y ∷ cs) [] l c j = absurd (omega arith)
-states_long net step (a ∷ arcs) (x ∷ ls) (y ∷ cs) (z ∷ js) l c j = omega (arith, length-append (from_low net step a x 0 y) (units_over net step arcs ls cs), length-append (run z y) (states_over cs js), from_long net step a x 0 y, run_long z y, states_long net step arcs ls cs js (omega arith) (omega arith) (omega arith))
+states_long net step (a ∷ arcs) (x ∷ ls) (y ∷ cs) (z ∷ js) l c j = omega (arith, length-append (units_from net step a x 0 y) (units_over net step arcs ls cs), length-append (run z y) (states_over cs js), from_long net step a x 0 y, run_long z y, states_long net step arcs ls cs js (omega arith) (omega arith) (omega arith))

@@ -3,7 +3,7 @@ use Rattle.std.proofs.Common.{◌≡◌, ℕ, zero, suc, ◌+◌, ◌-◌, ◌*�
 use Rattle.std.specs.Prelude.{slice_index, unsigned_abs}
 use Rattle.std.proofs.Math.Nat.{mul-le-mul}
 use Rattle.std.proofs.lemmas.Bool.{cases_lt}
-use Rattle.std.proofs.lemmas.List.{length-map, get_or_past}
+use Rattle.std.proofs.lemmas.List.{length-map, get_or-map, get_or_past}
 use Rattle.def_math.specs.Counts.{count, count_below}
 use Rattle.def_flow.specs.Network.{Network, IsWithinBounds, tangle_number}
 use Rattle.def_flow.specs.Admissible.{IsAdmissible, entries}
@@ -13,33 +13,22 @@ use Rattle.def_flow.specs.MatchingGraph.{graph_by, graph_of_units, matching_grap
 use Rattle.def_flow.specs.declared.net.End.{End}
 use Rattle.def_flow.specs.declared.units.ArcUnit.{ArcUnit}
 use Rattle.def_flow.specs.Admissible.{AreLengths}
-use Rattle.qm_units.proofs.Unit.{AreNodes}
 use Rattle.qm_units.proofs.Units.{UnitsAt}
 use Rattle.qm_units.proofs.Costs.{costs}
 use Rattle.qm_units.proofs.Law.{arcs_at, units_at, graph_law}
 use Rattle.qm_units.proofs.Size.{size_law}
-use Rattle.qm_gadget.specs.Layout.{room_of, EndsAt, AreAtNodes}
-use Rattle.qm_gadget.specs.Over.{units_over}
+use Rattle.qm_gadget.specs.Layout.{room_of, AreAtNodes}
+use Rattle.def_flow.specs.Units.{units_over}
 use Rattle.qm_gadget.specs.Ready.{graph_by_lows, IsReady, IsPlan}
 use Rattle.qm_gadget.specs.Ready.{own_states as states_of_caps}
 use Rattle.qm_gadget.specs.declared.plan.Plan.{Plan}
-use Rattle.qm_gadget.proofs.ByLows.{units_over_is, own_states}
+use Rattle.qm_gadget.proofs.ByLows.{own_states}
 use Rattle.qm_gadget.proofs.Rooms.{same_everywhere, none_past}
-
--- A list of numbers mapped, at a place.
-map_at : (f : ℕ → ℕ) (xs : List ℕ) (k : ℕ) → k < length xs → slice_index (map f xs) k ≡ f (slice_index xs k)
-map_at f [] k l = absurd (omega arith)
-map_at f (x ∷ xs) zero l = refl
-map_at f (x ∷ xs) (suc k) l = map_at f xs k (omega arith)
 
 -- Ends at nodes, one unit at a time.
 at_by_index : (nodes : ℕ) (us : List ArcUnit) → UnitsAt nodes us → AreAtNodes nodes us
 at_by_index nodes [] at k u l = absurd (omega arith)
-at_by_index nodes (v ∷ us) at zero u l = by_right v.left v.right at.0
-  where
-    by_right : (left : End) (right : Option End) → AreNodes nodes left right → EndsAt nodes left right
-    by_right left None at = at
-    by_right left (Some right) at = at
+at_by_index nodes (v ∷ us) at zero u l = at.0
 at_by_index nodes (v ∷ us) at (suc k) u l = at_by_index nodes us at.1 k u (omega arith)
 
 -- There are no more units than vertices of units.
@@ -81,12 +70,12 @@ list_ready net step xs bounds lengths admissible tangle = record {
   boxes = record {
     lows_count = length-map xs (low net step) ∙ lengths.count;
     caps_count = length-map xs (cap net step) ∙ lengths.count;
-    low = λ k l. omega (arith, map_at (low net step) xs k (omega (arith, lengths.count)), lengths.small k (omega (arith, lengths.count)));
-    least = λ k l. omega (arith, map_at (cap net step) xs k (omega (arith, lengths.count)));
-    most = λ k l. omega (arith, map_at (cap net step) xs k (omega (arith, lengths.count)));
+    low = λ k l. omega (arith, get_or-map (low net step) xs k 0 0 (omega (arith, lengths.count)), lengths.small k (omega (arith, lengths.count)));
+    least = λ k l. omega (arith, get_or-map (cap net step) xs k 0 0 (omega (arith, lengths.count)));
+    most = λ k l. omega (arith, get_or-map (cap net step) xs k 0 0 (omega (arith, lengths.count)));
   };
-  few = rw (units_over_is net step net.arcs xs) (omega (arith, units_few (units net step net.arcs xs), graph_small net step xs bounds lengths.count admissible tangle));
-  at = rw (units_over_is net step net.arcs xs) (at_by_index net.nodes (units net step net.arcs xs) (units_at net step net.arcs xs (arcs_at net.nodes net.arcs bounds.arcs)));
+  few = omega (arith, units_few (units net step net.arcs xs), graph_small net step xs bounds lengths.count admissible tangle);
+  at = at_by_index net.nodes (units net step net.arcs xs) (units_at net step net.arcs xs (arcs_at net.nodes net.arcs bounds.arcs));
 }
 
 -- The copies of a plan are the active ends at each number, also past the nodes.
@@ -98,7 +87,7 @@ plan_rooms net step ls cs p ready plan = same_everywhere (room_of p.rooms.items)
 
 -- The graph of units by lows and caps is the matching graph of the list.
 pub graph_over : (net : Network) (step : ℕ) (xs : List ℕ) → graph_by_lows net step (map (low net step) xs) (map (cap net step) xs) ≡ matching_graph net step xs
-graph_over net step xs = ap (λ us. graph_of_units net.nodes us (states_of_caps (map (cap net step) xs))) (units_over_is net step net.arcs xs) ∙ ap (graph_of_units net.nodes (units net step net.arcs xs)) (own_states net step xs)
+graph_over net step xs = ap (graph_of_units net.nodes (units net step net.arcs xs)) (own_states net step xs)
 
 -- The graph of a plan.
 pub plan_graph : (net : Network) (step : ℕ) (ls cs : List ℕ) (p : Plan) → IsReady net step ls cs → IsPlan net step ls cs p

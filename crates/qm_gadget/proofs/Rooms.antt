@@ -5,10 +5,11 @@ use mathlib.Core.Bool.{beq}
 use Rattle.std.proofs.lemmas.Bool.{cases_lt, ne_eqb}
 use Rattle.std.proofs.lemmas.List.{drop_more, drop_all, get_or_past, length-take}
 use Rattle.def_math.specs.Counts.{count}
+use Rattle.def_flow.specs.Network.{EndsBelow}
 use Rattle.def_flow.specs.Units.{is_active, active_at, active, alone_active, rim_active}
 use Rattle.def_flow.specs.declared.net.End.{End}
 use Rattle.def_flow.specs.declared.units.ArcUnit.{ArcUnit}
-use Rattle.qm_gadget.specs.Layout.{EndsAt, IsAtNodes, AreAtNodes}
+use Rattle.qm_gadget.specs.Layout.{IsAtNodes, AreAtNodes}
 use Rattle.def_math.specs.Tables.{at_place, IsRaised, IsTally}
 use Rattle.qm_table.proofs.Tallies.{raised_as, raised_none, raised_twice, tally_low, tally_more}
 use Rattle.qm_gadget.specs.Over.{end_active}
@@ -18,13 +19,13 @@ pub same_everywhere : {X : Type 0} (f g : ℕ → X) → ((v : ℕ) → f v ≡ 
 same_everywhere f g same = λ i. λ v. same v i
 
 -- The first end of a unit at nodes.
-pub left_at : (nodes : ℕ) (left : End) (right : Option End) → EndsAt nodes left right → left.node < nodes
+pub left_at : (nodes : ℕ) (left : End) (right : Option End) → EndsBelow nodes left right → left.node < nodes
 left_at nodes left None at = at
 left_at nodes left (Some right) at = at.0
 
 -- The second end of a unit at nodes.
-pub right_at : (nodes : ℕ) (left right : End) (o : Option End) → o ≡ Some right → EndsAt nodes left o → right.node < nodes
-right_at nodes left right o is at = (subst (λ (p : Option End). EndsAt nodes left p) is at).1
+pub right_at : (nodes : ℕ) (left right : End) (o : Option End) → o ≡ Some right → EndsBelow nodes left o → right.node < nodes
+right_at nodes left right o is at = (subst (λ (p : Option End). EndsBelow nodes left p) is at).1
 
 -- Counting at the node of an active end.
 pub end_raised : (e : End) (on : Bool) (old new : List ℕ) → is_active on e ≡ true → IsRaised (at_place e.node 1) old new → IsRaised (end_active e on) old new
@@ -107,7 +108,7 @@ unit_past nodes u on at v past = none_here u.right at
     off : (e : End) → e.node < nodes → end_active e on v ≡ 0
     off e l = let test : (e.node == v) ≡ false = ne_eqb e.node v (λ is. omega arith) in rw test refl
 
-    none_here : (o : Option End) → EndsAt nodes u.left o → count (λ (e : End). end_active e on v) (u.left ∷ option_to_list o) ≡ 0
+    none_here : (o : Option End) → EndsBelow nodes u.left o → count (λ (e : End). end_active e on v) (u.left ∷ option_to_list o) ≡ 0
     none_here None at = omega (arith, off u.left at)
     none_here (Some e) at = omega (arith, off u.left at.0, off e at.1)
 

@@ -6,7 +6,7 @@ use Rattle.std.proofs.lemmas.Bool.{cases_order, cases_lt}
 use Rattle.std.proofs.lemmas.List.{drop_more, get_or_past}
 use Rattle.def_math.specs.Counts.{count_below}
 use Rattle.def_flow.specs.Network.{Network}
-use Rattle.def_flow.specs.Units.{low, cap, units, states_at, is_active, active, rim_active}
+use Rattle.def_flow.specs.Units.{low, cap, units_over, units, states_over, states, states_at, is_active, active, rim_active}
 use Rattle.def_flow.specs.MatchingGraph.{graph_by, lone_vertex, first_fresh, rim, units_links, rim_links}
 use Rattle.def_flow.specs.declared.net.End.{End}
 use Rattle.def_flow.specs.declared.units.ArcUnit.{ArcUnit}
@@ -18,11 +18,10 @@ use Rattle.qm_units.proofs.Chain.{rim_length}
 use Rattle.qm_units.proofs.Units.{units_length, states_length}
 use Rattle.qm_gadget.specs.Layout.{room_of}
 use Rattle.qm_gadget.specs.Marked.{rim_by}
-use Rattle.qm_gadget.specs.Over.{units_over, states_over}
 use Rattle.qm_gadget.specs.Ready.{IsReady, IsPlan, marks_over}
 use Rattle.qm_gadget.specs.Ready.{own_states as states_of_caps}
 use Rattle.qm_gadget.specs.declared.plan.Plan.{Plan}
-use Rattle.qm_gadget.proofs.ByLows.{units_over_is, states_over_is, own_states}
+use Rattle.qm_gadget.proofs.ByLows.{own_states}
 use Rattle.qm_gadget.proofs.Numbers.{rim_is}
 use Rattle.qm_gadget.proofs.OfList.{plan_rooms}
 use Rattle.qm_gadget.proofs.Rooms.{active_low}
@@ -54,9 +53,7 @@ ups_step step ls ys k l same = let inner : k < length ys = omega arith in rw (dr
 -- Marks by lows and caps are those of the matching that is told.
 pub marks_over_is : (net : Network) (step : ℕ) (xs js : List ℕ) → places 0 (marks_over net step (map (low net step) xs) (map (cap net step) xs) js) ≡ matching_told net step xs js
 marks_over_is net step xs js =
-    ap (λ us. places 0 (states_marks net.nodes (λ v. active v us ons) (rim_active us ons % 2 == 1) us (states_over (map (cap net step) xs) js))) (units_over_is net step net.arcs xs)
-    ∙ (ap (λ os. places 0 (states_marks net.nodes (λ v. active v us os) (rim_active us os % 2 == 1) us (states_over (map (cap net step) xs) js))) (own_states net step xs)
-    ∙ ap (λ os. places 0 (states_marks net.nodes (λ v. active v us (states_at net step xs)) (rim_active us (states_at net step xs) % 2 == 1) us os)) (states_over_is net step xs js))
+    ap (λ os. places 0 (states_marks net.nodes (λ v. active v us os) (rim_active us os % 2 == 1) us (states net step xs js))) (own_states net step xs)
   where
     us : List ArcUnit
     us = units net step net.arcs xs

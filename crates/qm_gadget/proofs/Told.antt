@@ -17,10 +17,10 @@ use Rattle.qm_units.proofs.Size.{size_law}
 use Rattle.qm_units.proofs.Arcs.{lengths_law, told_in_box}
 use Rattle.qm_units.specs.Told.{marks_from, states_told, lengths_told}
 use Rattle.def_flow.specs.declared.gadget.Gadget.{Gadget}
-use Rattle.qm_gadget.specs.Over.{units_over, states_over}
+use Rattle.def_flow.specs.Units.{units_over, states_over}
 use Rattle.qm_gadget.specs.Ready.{IsReady, marks_over}
 use Rattle.qm_gadget.specs.Ready.{own_states as states_of_caps}
-use Rattle.qm_gadget.proofs.ByLows.{states_long, units_over_is, own_states}
+use Rattle.qm_gadget.proofs.ByLows.{states_long, own_states}
 use Rattle.qm_gadget.proofs.OfList.{list_ready, graph_over}
 use Rattle.qm_gadget.specs.Read.{lengths_by, lengths_read, widths_over}
 use Rattle.qm_gadget.proofs.Reading.{widths_low, lengths_is}
@@ -127,9 +127,8 @@ gadget_lengths net g m bounds of perfect edges long ys is = (
         ∙ (ap (λ ls. lengths_read net g.step ls g.cap.items edges m) of.lows
         ∙ (ap (λ cs. lengths_read net g.step (map (low net g.step) xs) cs edges m) of.caps
         ∙ (ap (λ n. lengths_read net g.step (map (low net g.step) xs) (map (cap net g.step) xs) n m) (long ∙ ap (λ (h : Graph). length h.edges) of.graphs)
-        ∙ (ap (λ vs. lengths_by g.step (map (low net g.step) xs) (map (cap net g.step) xs) (states_told (λ v. active v vs (states_of_caps (map (cap net g.step) xs))) vs (marks_from 0 (length (matching_graph net g.step xs).edges) m))) (units_over_is net g.step net.arcs xs)
         ∙ (ap (λ os. lengths_by g.step (map (low net g.step) xs) (map (cap net g.step) xs) (states_told (λ v. active v us os) us (marks_from 0 (length (matching_graph net g.step xs).edges) m))) (own_states net g.step xs)
-        ∙ lengths_is net g.step xs (states_told (λ v. active v us (states_at net g.step xs)) us (marks_from 0 (length (matching_graph net g.step xs).edges) m)))))))
+        ∙ lengths_is net g.step xs (states_told (λ v. active v us (states_at net g.step xs)) us (marks_from 0 (length (matching_graph net g.step xs).edges) m))))))
 
     law : (length (lengths_told net g.step xs m) ≡ length net.arcs) × IsAdmissible net (entries (lengths_told net g.step xs m)) × ((pos (deviation net (entries (lengths_told net g.step xs m))) -ℤ pos (deviation net (entries (lows net g.step xs)))) ≤ℤ matching_cost (matching_graph net g.step xs) m)
     law = lengths_law net g.step xs m bounds of.steps.0 of.lengths.count of.admissible (rw (← of.graphs) perfect)

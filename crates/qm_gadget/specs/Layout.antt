@@ -1,11 +1,11 @@
 -- What the tables hold from which a matching graph is laid out.
-use Rattle.std.specs.Prelude.{◌≡◌, ℕ, ◌+◌, ◌^◌, ◌<◌, ◌≤◌, List, length, Option, Some, None, slice_index, slice_index_or}
+use Rattle.std.specs.Prelude.{◌≡◌, ℕ, ◌+◌, ◌^◌, ◌<◌, ◌≤◌, List, length, slice_index, slice_index_or}
 use Rattle.def_math.specs.Counts.{count_below}
-use Rattle.def_flow.specs.declared.net.End.{End}
+use Rattle.def_flow.specs.Network.{EndsBelow}
 use Rattle.def_flow.specs.declared.units.ArcUnit.{ArcUnit}
 
 -- The number of copies of each node, by its list.
-abbrev pub room_of : List ℕ → ℕ → ℕ
+abbrev pub room_of : (rooms : List ℕ) (v : ℕ) → ℕ
 room_of rooms v = slice_index rooms v
 
 -- The first copy of each node, and past the last node the number of all copies.
@@ -15,13 +15,9 @@ pub record AreFirsts (rooms firsts : List ℕ) : Type 0 where
   pub few : count_below (room_of rooms) (length rooms) < 2 ^ 26
 
 -- The ends of a unit are at nodes.
-abbrev pub EndsAt : ℕ → End → Option End → Type 0
-EndsAt nodes left None = left.node < nodes
-EndsAt nodes left (Some right) = (left.node < nodes) × (right.node < nodes)
-
-abbrev pub IsAtNodes : ℕ → ArcUnit → Type 0
-IsAtNodes nodes u = EndsAt nodes u.left u.right
+abbrev pub IsAtNodes : (nodes : ℕ) (u : ArcUnit) → Type 0
+IsAtNodes nodes u = EndsBelow nodes u.left u.right
 
 -- The ends of all units are at nodes.
-abbrev pub AreAtNodes : ℕ → List ArcUnit → Type 0
+abbrev pub AreAtNodes : (nodes : ℕ) (us : List ArcUnit) → Type 0
 AreAtNodes nodes us = (k : ℕ) (u : ArcUnit) → k < length us → IsAtNodes nodes (slice_index_or us k u)

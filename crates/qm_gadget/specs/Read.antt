@@ -6,7 +6,7 @@ use Rattle.def_flow.specs.Network.{Network}
 use Rattle.def_flow.specs.Units.{active}
 use Rattle.qm_units.specs.Marks.{trues}
 use Rattle.qm_units.specs.Told.{width_by, marks_from, states_told}
-use Rattle.qm_gadget.specs.Over.{units_over}
+use Rattle.def_flow.specs.Units.{units_over}
 use Rattle.qm_gadget.specs.Ready.{own_states}
 
 -- How many edges a unit has.

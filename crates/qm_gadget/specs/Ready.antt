@@ -6,7 +6,8 @@ use Rattle.def_flow.specs.MatchingGraph.{graph_of_units}
 use Rattle.def_flow.specs.Units.{active, rim_active}
 use Rattle.qm_units.specs.Marks.{states_marks}
 use Rattle.qm_gadget.specs.Layout.{AreAtNodes}
-use Rattle.qm_gadget.specs.Over.{AreBoxes, AreRooms, units_over, states_over}
+use Rattle.def_flow.specs.Units.{units_over, states_over}
+use Rattle.qm_gadget.specs.Over.{AreBoxes, AreRooms}
 use Rattle.qm_gadget.specs.declared.plan.Plan.{Plan}
 
 -- Lows and caps of a list whose units are few, with their ends at nodes.

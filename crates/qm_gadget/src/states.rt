@@ -5,7 +5,8 @@ ghost use Rattle.def_math.specs.Tables.{IsRaised};
 ghost use Rattle.def_flow.specs.Units.{active_at, run, rim_active, alone_active};
 ghost use Rattle.def_flow.specs.Units.{is_active as is_active_end};
 ghost use Rattle.qm_gadget.specs.Layout.{AreAtNodes, IsAtNodes};
-ghost use Rattle.qm_gadget.specs.Over.{states_over, end_active, AreRooms};
+ghost use Rattle.def_flow.specs.Units.{states_over};
+ghost use Rattle.qm_gadget.specs.Over.{end_active, AreRooms};
 
 use def_flow::{ArcUnit, End};
 use std::alloc::{AllocError, Global};

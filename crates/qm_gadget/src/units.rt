@@ -3,7 +3,8 @@
 ghost use Rattle.std.specs.Prelude.{◌≡◌, ◌+◌, ◌*◌, ◌^◌, ◌<◌, ◌≤◌, ◌++◌, [], ◌∷◌, pos, ◌-ℤ◌, length, OnOk, IfOk};
 ghost use Rattle.def_flow.specs.Network.{network, IsWithinBounds};
 ghost use Rattle.def_flow.specs.Admissible.{arc_deviation as deviation_of_arc};
-ghost use Rattle.qm_gadget.specs.Over.{from_low, unit_over, units_over, AreBoxes};
+ghost use Rattle.def_flow.specs.Units.{units_from, unit_at, units_over};
+ghost use Rattle.qm_gadget.specs.Over.{AreBoxes};
 
 use crate::boxes::{Boxes, OwnBox};
 use def_flow::{Arc, ArcUnit, MAX_LENGTH, MAX_OLD, MAX_SCALE, MAX_STEP, MAX_WEIGHT, Net};
@@ -39,7 +40,7 @@ fn push_units_of(
     requires bounds { (net.now.p ≤ MAX_SCALE) × (net.now.q ≤ MAX_SCALE) × (arc.now.weight ≤ MAX_WEIGHT) × (arc.now.old ≤ MAX_OLD) }
     requires step { (1 ≤ own.now.step) × (own.now.step ≤ MAX_STEP) }
     requires small { (own.now.low ≤ MAX_LENGTH) × (own.now.cap ≤ 4) }
-    ensures { OnOk result (units.new.items ≡ units.old.items ++ from_low (network net.now) own.now.step arc.now own.now.low 0 own.now.cap) }
+    ensures { OnOk result (units.new.items ≡ units.old.items ++ units_from (network net.now) own.now.step arc.now own.now.low 0 own.now.cap) }
 {
     for k in 0..own.cap {
         push_unit(unit_at(net, own.step, arc, own.low, k), units)?;
@@ -52,7 +53,7 @@ fn unit_at(net: &Net, step: u64, arc: &Arc, low: u64, k: u32) -> ArcUnit
     requires bounds { (net.now.p ≤ MAX_SCALE) × (net.now.q ≤ MAX_SCALE) × (arc.now.weight ≤ MAX_WEIGHT) × (arc.now.old ≤ MAX_OLD) }
     requires step { (1 ≤ step) × (step ≤ MAX_STEP) }
     requires small { (low ≤ MAX_LENGTH) × (k < 4) }
-    ensures { result ≡ unit_over (network net.now) step arc.now low k }
+    ensures { result ≡ unit_at (network net.now) step arc.now low k }
 {
     let cost = unit_cost(net, arc, low + u64::from(k) * step, step);
     ArcUnit {

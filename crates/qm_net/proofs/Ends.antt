@@ -8,13 +8,13 @@ use Rattle.std.proofs.lemmas.List.{length-take-le}
 use Rattle.std.proofs.lemmas.List.Sums.{AllPass-from_list_all}
 use Rattle.def_math.specs.Counts.{count, count_below}
 use Rattle.qm_laws.proofs.Counts.{count_below_same}
-use Rattle.def_flow.specs.Network.{Network, IsWithinBounds, is_bounded, degree, ends}
+use Rattle.def_flow.specs.Network.{Network, EndsBelow, IsWithinBounds, is_bounded, degree, ends}
 use Rattle.def_flow.specs.declared.net.Arc.{Arc}
 use Rattle.def_flow.specs.declared.net.End.{End}
 use Rattle.def_math.specs.Tables.{at_place, IsRaised, IsTally}
 use Rattle.qm_table.proofs.Ranges.{count_take}
 use Rattle.qm_table.proofs.Tallies.{raised_as, raised_twice, tally_low, tally_more}
-use Rattle.qm_net.specs.Degrees.{ends_at, EndsBelow, AreEndsBelow}
+use Rattle.qm_net.specs.Degrees.{ends_at, AreEndsBelow}
 use Rattle.qm_net.proofs.Within.{ends_bounded}
 
 -- Where one end after the other is counted, all ends of an arc are.

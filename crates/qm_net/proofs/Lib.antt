@@ -1,4 +1,3 @@
 pub mod Balances
 mod Ends
-pub mod SmallNets
 pub mod Within

@@ -1,19 +1,14 @@
 -- The ends at each node.
-use Rattle.std.specs.Prelude.{ℕ, ◌<◌, ◌==◌, cond, List, length, Option, Some, None, slice_index_or}
+use Rattle.std.specs.Prelude.{ℕ, ◌<◌, ◌==◌, cond, List, length, slice_index_or}
 use Rattle.def_math.specs.Counts.{count}
-use Rattle.def_flow.specs.Network.{Node, ends}
+use Rattle.def_flow.specs.Network.{Node, EndsBelow, ends}
 use Rattle.def_flow.specs.declared.net.Arc.{Arc}
-use Rattle.def_flow.specs.declared.net.End.{End}
 
 -- How many ends of an arc are at a node.
 abbrev pub ends_at : (a : Arc) (v : Node) → ℕ
 ends_at a v = count (λ e. cond (e.node == v) 1 0) (ends a)
 
 -- The ends of an arc are below a bound.
-abbrev pub EndsBelow : (nodes : ℕ) (left : End) (right : Option End) → Type 0
-EndsBelow nodes left None = left.node < nodes
-EndsBelow nodes left (Some right) = (left.node < nodes) × (right.node < nodes)
-
 abbrev pub HasEndsBelow : (nodes : ℕ) (a : Arc) → Type 0
 HasEndsBelow nodes a = EndsBelow nodes a.left a.right
 

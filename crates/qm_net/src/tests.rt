@@ -1,58 +1,20 @@
 //! Small networks: sums of sides, deviations and tangle numbers.
 
 use crate::{admissible, are_lengths, deviation, is_within_bounds, tangle_of};
-use def_flow::{Arc, End, Net};
+use qm_nettext::read_net;
 use std::test::Fail;
 
-fn end(node: u32, plus: bool) -> End {
-    End { node, plus }
-}
-
 /// Like signs at two nodes, unlike signs at one node, and arcs with one end.
-fn arcs() -> [Arc; 5] {
-    [
-        Arc {
-            left: end(0, true),
-            right: Some(end(1, true)),
-            old: 3,
-            weight: 1,
-        },
-        Arc {
-            left: end(0, false),
-            right: Some(end(1, false)),
-            old: 2,
-            weight: 7,
-        },
-        Arc {
-            left: end(1, true),
-            right: Some(end(1, false)),
-            old: 5,
-            weight: 1,
-        },
-        Arc {
-            left: end(0, false),
-            right: None,
-            old: 4,
-            weight: 2,
-        },
-        Arc {
-            left: end(1, false),
-            right: None,
-            old: 1,
-            weight: 1000,
-        },
-    ]
-}
+const MIXED: &str = "net nodes 2 arcs 5 floor 2 scale 1/2
+arc 3 1 0 + 1 +
+arc 2 7 0 - 1 -
+arc 5 1 1 + 1 -
+arc 4 2 0 - rim
+arc 1 1000 1 - rim";
 
 #[test]
 fn lists_over_a_network(rt: HostRuntime) -> Result<(), Fail> {
-    let net = Net {
-        nodes: 2,
-        arcs: Vec::from_slice(rt.alloc(), &arcs())?,
-        floor: 2,
-        p: 1,
-        q: 2,
-    };
+    let net = read_net(rt.alloc(), MIXED)?;
     assert!(rt; is_within_bounds(&net));
     assert_eq!(rt; tangle_of(rt.alloc(), &net)?, 544);
     let table: [(&[u64], bool, i128); 6] = [

@@ -2,14 +2,11 @@
 //! its matching graph is.
 #![tactic(auto)]
 
-mod read;
-
-use crate::read::read_net;
-use def_flow::{Arc, MAX_TANGLE, Net};
+use def_flow::MAX_TANGLE;
 use qm_gadget::graph_of;
-use qm_net::{are_lengths, deviation, is_within_bounds, tangle_of};
-use qm_solve::is_start;
-use std::alloc::{AllocError, Global};
+use qm_net::{deviation, is_within_bounds, tangle_of};
+use qm_nettext::{NetFail, read_net};
+use qm_solve::{is_start, old_multiple};
 use std::io;
 use std::process::ExitCode;
 
@@ -17,8 +14,10 @@ use std::process::ExitCode;
 /// of the old lengths is no start.
 fn main(rt: HostRuntime) -> io::Result<ExitCode> {
     let text = io::read_to_string(rt.alloc(), rt.reader())?;
-    let Some(net) = read_net(rt.alloc(), text.as_str())? else {
-        return Ok(ExitCode::from(2));
+    let net = match read_net(rt.alloc(), text.as_str()) {
+        Ok(net) => net,
+        Err(NetFail::NoNetwork) => return Ok(ExitCode::from(2)),
+        Err(NetFail::Memory(refused)) => return Err(refused.into()),
     };
     if !is_within_bounds(&net) {
         return Ok(ExitCode::from(3));
@@ -27,10 +26,7 @@ fn main(rt: HostRuntime) -> io::Result<ExitCode> {
     if tangle > u128::from(MAX_TANGLE) {
         return Ok(ExitCode::from(4));
     }
-    let start = multiple(rt.alloc(), &net.arcs, net.floor.max(net.p / net.q.max(1)))?;
-    if !are_lengths(&net, &start) {
-        return Ok(ExitCode::from(5));
-    }
+    let start = old_multiple(rt.alloc(), &net)?;
     if !is_start(&net, &start) {
         return Ok(ExitCode::from(5));
     }
@@ -42,13 +38,4 @@ fn main(rt: HostRuntime) -> io::Result<ExitCode> {
         "tangle {tangle}, deviation of the start {far}, {vertices} vertices, {edges} edges"
     )?;
     Ok(ExitCode::from(0))
-}
-
-/// The old lengths, so many times.
-fn multiple(alloc: Global, arcs: &[Arc], times: u32) -> Result<Vec<u64>, AllocError> {
-    let mut lengths = Vec::with_capacity(alloc, arcs.len())?;
-    for arc in arcs {
-        lengths.push(u64::from(times) * u64::from(arc.old))?;
-    }
-    Ok(lengths)
 }

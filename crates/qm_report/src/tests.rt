@@ -1,3 +1,5 @@
+//! The text of a benchmark, on lines that are worked out by hand.
+
 use super::*;
 use std::test::Fail;
 

@@ -16,7 +16,7 @@ use Rattle.def_flow.specs.Descent.{IsStartOf}
 use Rattle.def_flow.specs.declared.net.Arc.{Arc}
 use Rattle.def_flow.specs.declared.net.End.{End}
 use Rattle.qm_net.proofs.Within.{arc_bounded}
-use Rattle.qm_solve.specs.Rounds.{multiple_of}
+use Rattle.def_flow.specs.Descent.{multiple_of}
 
 -- A factor of all terms.
 total_times : {X : Type 0} (c : ℤ) (f : X → ℤ) (xs : List X) → total (λ x. c *ℤ f x) xs ≡ c *ℤ total f xs

@@ -1,5 +1,5 @@
 -- What a round of the descent finds.
-use Rattle.std.specs.Prelude.{◌≡◌, ℕ, ◌*◌, ◌<◌, Bool, not, List, length, map, ℤ, pos, ◌-ℤ◌, ◌*ℤ◌, int_lt}
+use Rattle.std.specs.Prelude.{◌≡◌, ℕ, ◌*◌, ◌<◌, Bool, not, List, length, ℤ, pos, ◌-ℤ◌, ◌*ℤ◌, int_lt}
 use Rattle.def_matching.specs.Dual.{dual, verdict, IsSmallDual}
 use Rattle.def_matching.specs.declared.weighted.Verdict.TheVariants.{Yes}
 use Rattle.def_flow.specs.Network.{Network}
@@ -21,10 +21,6 @@ pub record IsBetter (net : Network) (xs ys : List ℕ) : Type 0 where
 abbrev pub IsRound : (net : Network) (step : ℕ) (xs : List ℕ) (round : Round) → Type 0
 IsRound net step xs (Better x) = IsBetter net xs x.items
 IsRound net step xs (Least d) = (verdict (matching_graph net step xs) (dual d) ≡ Yes (pos 2 *ℤ on_cost net step xs)) × IsSmallDual (dual d)
-
--- The old lengths, so many times.
-abbrev pub multiple_of : (times : ℕ) (arcs : List Arc) → List ℕ
-multiple_of times arcs = map (λ a. times * a.old) arcs
 
 -- The length of an arc stays in range where the deviation is no greater.
 abbrev pub is_near_arc : (net : Network) (far : ℤ) (a : Arc) → Bool

@@ -43,7 +43,8 @@ pub fn solve_from<M: Matcher>(
 
 /// The first step: the greatest power of two that some arc is twice as far from what is wanted. Linear.
 fn first_step(net: &Net, start: &[u64]) -> u64
-    requires { IsStartOf (network net.now) start.now }
+    requires scale { 1 ≤ net.now.q }
+    requires start { IsStartOf (network net.now) start.now }
     ensures { (1 ≤ result) × (result ≤ MAX_STEP) }
 {
     let mut step = 1;
@@ -66,7 +67,9 @@ fn longer_step(step: u64, far: u64) -> u64
 }
 
 /// How far an arc of this length is from what is wanted of it, rounded down.
-fn distance(net: &Net, arc: &Arc, length: u64) -> u64 {
-    let wanted = u64::from(net.p) * u64::from(arc.old) / u64::from(net.q.max(1));
+fn distance(net: &Net, arc: &Arc, length: u64) -> u64
+    requires { 1 ≤ net.now.q }
+{
+    let wanted = u64::from(net.p) * u64::from(arc.old) / u64::from(net.q);
     length.abs_diff(wanted)
 }

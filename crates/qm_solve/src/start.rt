@@ -1,12 +1,12 @@
 //! The start of the descent for an even network.
 
-ghost use Rattle.std.specs.Prelude.{◌≡◌, ◌*◌, ◌/◌, ◌^◌, ◌≤◌, ◌↔◌, max, IfOk, IsTrue};
+ghost use Rattle.std.specs.Prelude.{◌≡◌, ◌≤◌, ◌↔◌, IfOk, IsTrue};
 ghost use Rattle.std.specs.List.{list_all};
 ghost use Rattle.def_flow.specs.Network.{network, tangle_number, IsWithinBounds};
 ghost use Rattle.def_flow.specs.Accepted.{certificate};
 ghost use Rattle.def_flow.specs.Admissible.{IsEven};
-ghost use Rattle.def_flow.specs.Descent.{IsSolution, IsStartOf};
-ghost use Rattle.qm_solve.specs.Rounds.{is_near_arc, multiple_of};
+ghost use Rattle.def_flow.specs.Descent.{IsSolution, IsStartOf, multiple_of, old_multiple};
+ghost use Rattle.qm_solve.specs.Rounds.{is_near_arc};
 
 use crate::Memory;
 use crate::descent::solve_from;
@@ -23,8 +23,17 @@ pub fn solve<M: Matcher>(alloc: Global, matcher: &M, net: &Net) -> Result<Cert, 
     requires tangle { tangle_number (network net.now) ≤ MAX_TANGLE }
     ensures { IfOk result (λ cert. IsSolution (network net.now) (certificate cert)) }
 {
-    let start = multiple(alloc, &net.arcs, u64::from(net.floor.max(net.p / net.q)))?;
+    let start = old_multiple(alloc, net)?;
     solve_from(alloc, matcher, net, &start)
+}
+
+/// The list that `solve` starts from: the old lengths, so many times that each is at least the floor and near what is
+/// wanted. It is admissible where the old lengths are. Linear.
+pub fn old_multiple(alloc: Global, net: &Net) -> Result<Vec<u64>, Memory>
+    requires { IsWithinBounds (network net.now) }
+    ensures { IfOk result (λ lengths. lengths.items ≡ old_multiple (network net.now)) }
+{
+    multiple(alloc, &net.arcs, u64::from(net.floor.max(net.p / net.q)))
 }
 
 /// The old lengths, so many times. Linear.

@@ -2,10 +2,11 @@
 
 use crate::round::cost_of;
 use crate::{Matched, Matcher, is_start, solve_from};
-use def_flow::{Arc, End, MAX_TANGLE, Net};
+use def_flow::MAX_TANGLE;
 use def_matching::{Dual, Verdict, WGraph};
 use qm_dual::dual_ok;
 use qm_net::{is_within_bounds, tangle_of};
+use qm_nettext::read_net;
 use std::alloc::{AllocError, Global};
 use std::test::Fail;
 
@@ -30,29 +31,15 @@ impl Matcher for Zeros {
 }
 
 /// The network of one quad: each arc has one end.
-fn quad(alloc: Global) -> Result<Net, AllocError> {
-    let mut arcs = Vec::new(alloc);
-    for (node, plus) in [(0, true), (1, true), (0, false), (1, false)] {
-        let left = End { node, plus };
-        arcs.push(Arc {
-            left,
-            right: None,
-            old: 1,
-            weight: 1,
-        })?;
-    }
-    Ok(Net {
-        nodes: 2,
-        arcs,
-        floor: 1,
-        p: 1,
-        q: 1,
-    })
-}
+const QUAD: &str = "net nodes 2 arcs 4 floor 1 scale 1/1
+arc 1 1 0 + rim
+arc 1 1 1 + rim
+arc 1 1 0 - rim
+arc 1 1 1 - rim";
 
 #[test]
 fn one_quad(rt: HostRuntime) -> Result<(), Fail> {
-    let net = quad(rt.alloc())?;
+    let net = read_net(rt.alloc(), QUAD)?;
     assert!(rt; is_within_bounds(&net));
     let tangle = tangle_of(rt.alloc(), &net)?;
     assert!(rt; tangle <= u128::from(MAX_TANGLE));
@@ -65,7 +52,7 @@ fn one_quad(rt: HostRuntime) -> Result<(), Fail> {
 
 #[test]
 fn starts(rt: HostRuntime) -> Result<(), Fail> {
-    let net = quad(rt.alloc())?;
+    let net = read_net(rt.alloc(), QUAD)?;
     assert!(rt; is_within_bounds(&net));
     let table: [(&[u64], bool); 6] = [
         (&[1, 1, 1, 1], true),

@@ -3,7 +3,7 @@ use Rattle.std.proofs.Common.{◌≡◌, ℕ, zero, suc, ◌+◌, ◌-◌, ◌*�
 use Rattle.std.proofs.lemmas.Int.{ints}
 use Rattle.std.proofs.lemmas.Bool.{cases_lt}
 use Rattle.std.proofs.lemmas.List.{length-take-le, length-drop, length-map}
-use Rattle.def_flow.specs.Network.{Network, IsWithinBounds}
+use Rattle.def_flow.specs.Network.{EndsBelow, Network, IsWithinBounds}
 use Rattle.def_flow.specs.Admissible.{IsAdmissible, IsBalanced, arc_deviation, deviation, entries}
 use Rattle.def_matching.specs.Matching.{IsPerfect, matching_cost}
 use Rattle.def_flow.specs.Units.{down, low, cap, units_from, units, states_at, active, rim_active, cost_on}
@@ -17,7 +17,7 @@ use Rattle.qm_units.specs.Marks.{trues}
 use Rattle.def_flow.specs.Gadget.{IsInBox, lows, caps}
 use Rattle.qm_units.specs.Box.{IsRaised}
 use Rattle.qm_units.specs.Told.{marks_from, states_told, steps_told, lengths_on, lengths_told}
-use Rattle.qm_units.proofs.Unit.{AreNodes, ends_active}
+use Rattle.qm_units.proofs.Unit.{ends_active}
 use Rattle.qm_units.proofs.Units.{UnitsAt}
 use Rattle.qm_units.proofs.Box.{own_box, box_length, arc_active, weighted_ends, units_length, box_active, box_ends, side_list, balanced_list, deviations, deviation_list}
 use Rattle.qm_units.proofs.Law.{arcs_at, units_at}
@@ -25,7 +25,7 @@ use Rattle.qm_units.proofs.Steps.{raised_in_box}
 use Rattle.qm_units.proofs.Reading.{told_length, told_fills, told_cost}
 
 -- The active ends of an arc with any states of its units.
-any_active : (net : Network) (step v : ℕ) (a : Arc) (x k n : ℕ) (os : List Bool) → length os ≡ n → active v (units_from net step a x k n) os + trues os * arc_active v false a ≡ trues os * arc_active v true a + n * arc_active v false a
+any_active : (net : Network) (step v : ℕ) (a : Arc) (x k n : ℕ) (os : List Bool) → length os ≡ n → active v (units_from net step a (low net step x) k n) os + trues os * arc_active v false a ≡ trues os * arc_active v true a + n * arc_active v false a
 any_active net step v a x k zero [] l = omega arith
 any_active net step v a x k zero (o ∷ os) l = absurd (omega arith)
 any_active net step v a x k (suc n) [] l = absurd (omega arith)
@@ -59,7 +59,7 @@ increments net step a x k t = omega (arith, arc_convex net a here there (pos ste
     less = omega (arith, ints, spread, add-mul k t step)
 
 -- Any units of an arc that are on cost no less than the first ones.
-any_cost : (net : Network) (step : ℕ) (a : Arc) (x k n : ℕ) (os : List Bool) → length os ≡ n → pos (at_step net step a x (k + trues os)) ≤ℤ (cost_on (units_from net step a x k n) os +ℤ pos (at_step net step a x k))
+any_cost : (net : Network) (step : ℕ) (a : Arc) (x k n : ℕ) (os : List Bool) → length os ≡ n → pos (at_step net step a x (k + trues os)) ≤ℤ (cost_on (units_from net step a (low net step x) k n) os +ℤ pos (at_step net step a x k))
 any_cost net step a x k zero [] l = rw (add-zero k) (omega (arith, ints))
 any_cost net step a x k zero (o ∷ os) l = absurd (omega arith)
 any_cost net step a x k (suc n) [] l = absurd (omega arith)
@@ -105,7 +105,7 @@ told_box net step (x ∷ xs) ons = (trues_take (cap net step x) ons, refl, told_
 -- The units and states of the first arc, and those of the others.
 first_length : (net : Network) (step : ℕ) (a : Arc) (arcs : List Arc) (x : ℕ) (xs : List ℕ) (ons : List Bool) → length ons ≡ length (units net step (a ∷ arcs) (x ∷ xs)) → (length (take (cap net step x) ons) ≡ cap net step x) × (length (drop (cap net step x) ons) ≡ length (units net step arcs xs))
 first_length net step a arcs x xs ons l =
-    let whole : length ons ≡ cap net step x + length (units net step arcs xs) = omega (arith, l, length-append (units_from net step a x 0 (cap net step x)) (units net step arcs xs), units_length net step a x 0 (cap net step x)) in
+    let whole : length ons ≡ cap net step x + length (units net step arcs xs) = omega (arith, l, length-append (units_from net step a (low net step x) 0 (cap net step x)) (units net step arcs xs), units_length net step a x 0 (cap net step x)) in
     (length-take-le (cap net step x) ons (omega (arith, whole)), omega (arith, whole, length-drop (cap net step x) ons))
 
 told_active : (net : Network) (step v : ℕ) (arcs : List Arc) (xs : List ℕ) (ons : List Bool) → length xs ≡ length arcs → length ons ≡ length (units net step arcs xs) → active v (units net step arcs xs) ons + weighted_ends v false arcs (steps_told net step xs ons) ≡ weighted_ends v true arcs (steps_told net step xs ons) + weighted_ends v false arcs (map (cap net step) xs)
@@ -115,14 +115,14 @@ told_active net step v (a ∷ arcs) [] ons l m = absurd (omega arith)
 told_active net step v (a ∷ arcs) (x ∷ xs) ons l m =
     let n : ℕ = cap net step x in
     let ls : (length (take n ons) ≡ n) × (length (drop n ons) ≡ length (units net step arcs xs)) = first_length net step a arcs x xs ons m in
-    let len : length (units_from net step a x 0 n) ≡ n = units_length net step a x 0 n in
-    let first : active v (units_from net step a x 0 n) (take (length (units_from net step a x 0 n)) ons) ≡ active v (units_from net step a x 0 n) (take n ons) = ap (λ k. active v (units_from net step a x 0 n) (take k ons)) len in
-    let others : active v (units net step arcs xs) (drop (length (units_from net step a x 0 n)) ons) ≡ active v (units net step arcs xs) (drop n ons) = ap (λ k. active v (units net step arcs xs) (drop k ons)) len in
+    let len : length (units_from net step a (low net step x) 0 n) ≡ n = units_length net step a x 0 n in
+    let first : active v (units_from net step a (low net step x) 0 n) (take (length (units_from net step a (low net step x) 0 n)) ons) ≡ active v (units_from net step a (low net step x) 0 n) (take n ons) = ap (λ k. active v (units_from net step a (low net step x) 0 n) (take k ons)) len in
+    let others : active v (units net step arcs xs) (drop (length (units_from net step a (low net step x) 0 n)) ons) ≡ active v (units net step arcs xs) (drop n ons) = ap (λ k. active v (units net step arcs xs) (drop k ons)) len in
     omega (
       arith,
       first,
       others,
-      active_split v (units_from net step a x 0 n) (units net step arcs xs) ons,
+      active_split v (units_from net step a (low net step x) 0 n) (units net step arcs xs) ons,
       any_active net step v a x 0 n (take n ons) ls.0,
       told_active net step v arcs xs (drop n ons) (omega arith) ls.1,
     )
@@ -138,9 +138,9 @@ told_dear net step (a ∷ arcs) (x ∷ xs) ons l m =
     let n : ℕ = cap net step x in
     let t : ℕ = trues (take n ons) in
     let ls : (length (take n ons) ≡ n) × (length (drop n ons) ≡ length (units net step arcs xs)) = first_length net step a arcs x xs ons m in
-    let len : length (units_from net step a x 0 n) ≡ n = units_length net step a x 0 n in
-    let first : cost_on (units_from net step a x 0 n) (take (length (units_from net step a x 0 n)) ons) ≡ cost_on (units_from net step a x 0 n) (take n ons) = ap (λ k. cost_on (units_from net step a x 0 n) (take k ons)) len in
-    let others : cost_on (units net step arcs xs) (drop (length (units_from net step a x 0 n)) ons) ≡ cost_on (units net step arcs xs) (drop n ons) = ap (λ k. cost_on (units net step arcs xs) (drop k ons)) len in
+    let len : length (units_from net step a (low net step x) 0 n) ≡ n = units_length net step a x 0 n in
+    let first : cost_on (units_from net step a (low net step x) 0 n) (take (length (units_from net step a (low net step x) 0 n)) ons) ≡ cost_on (units_from net step a (low net step x) 0 n) (take n ons) = ap (λ k. cost_on (units_from net step a (low net step x) 0 n) (take k ons)) len in
+    let others : cost_on (units net step arcs xs) (drop (length (units_from net step a (low net step x) 0 n)) ons) ≡ cost_on (units net step arcs xs) (drop n ons) = ap (λ k. cost_on (units net step arcs xs) (drop k ons)) len in
     let begin : low net step x + 0 * step ≡ low net step x = omega (arith, zero-mul step) in
     let bottom : at_step net step a x 0 ≡ arc_deviation net a (pos (low net step x)) = ap (λ k. arc_deviation net a (pos k)) begin in
     let top : at_step net step a x (0 + t) ≡ at_step net step a x t = ap (at_step net step a x) (zero-add t) in
@@ -151,13 +151,13 @@ told_dear net step (a ∷ arcs) (x ∷ xs) ons l m =
       others,
       bottom,
       top,
-      cost_split (units_from net step a x 0 n) (units net step arcs xs) ons,
+      cost_split (units_from net step a (low net step x) 0 n) (units net step arcs xs) ons,
       any_cost net step a x 0 n (take n ons) ls.0,
       told_dear net step arcs xs (drop n ons) (omega arith) ls.1,
     )
 
 -- No end is at a node past the last.
-ends_past : (nodes v : ℕ) (on : Bool) (left : End) (right : Option End) → nodes ≤ v → AreNodes nodes left right → ends_active v on left right ≡ 0
+ends_past : (nodes v : ℕ) (on : Bool) (left : End) (right : Option End) → nodes ≤ v → EndsBelow nodes left right → ends_active v on left right ≡ 0
 ends_past nodes v on left None le at = rw (ne_eqb left.node v (λ e. omega arith)) refl
 ends_past nodes v on left (Some right) le at = rw (ne_eqb left.node v (λ e. omega (arith, at.0)), ne_eqb right.node v (λ e. omega (arith, at.1))) refl
 

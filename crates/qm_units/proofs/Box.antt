@@ -30,7 +30,7 @@ own_box net step (x ∷ xs) = (omega arith, sym (low_is net step x), own_box net
 abbrev pub arc_active : ℕ → Bool → Arc → ℕ
 arc_active v on a = count (λ e. cond ((e.node == v) && is_active on e) 1 0) (ends a)
 
-pub units_length : (net : Network) (step : ℕ) (a : Arc) (x k n : ℕ) → length (units_from net step a x k n) ≡ n
+pub units_length : (net : Network) (step : ℕ) (a : Arc) (x k n : ℕ) → length (units_from net step a (low net step x) k n) ≡ n
 units_length net step a x k zero = refl
 units_length net step a x k (suc n) = omega (arith, units_length net step a x (k + 1) n)
 
@@ -50,7 +50,7 @@ states_count net step [] [] (j ∷ js) ys l box = absurd box
 states_count net step [] [] [] (y ∷ ys) l box = absurd box
 states_count net step (a ∷ arcs) (x ∷ xs) (j ∷ js) (y ∷ ys) l box = omega (
   arith,
-  length-append (units_from net step a x 0 (cap net step x)) (units net step arcs xs),
+  length-append (units_from net step a (low net step x) 0 (cap net step x)) (units net step arcs xs),
   length-append (run j (cap net step x)) (states net step xs js),
   units_length net step a x 0 (cap net step x),
   run_length j (cap net step x),
@@ -70,7 +70,7 @@ cost_append (u ∷ us) vs [] os l = absurd (omega arith)
 cost_append (u ∷ us) vs (on ∷ ons) os l = omega (arith, ints, cost_append us vs ons os (omega arith))
 
 -- The active ends of an arc with j units on.
-run_active : (net : Network) (step v : ℕ) (a : Arc) (x k j n : ℕ) → j ≤ n → active v (units_from net step a x k n) (run j n) + j * arc_active v false a ≡ j * arc_active v true a + n * arc_active v false a
+run_active : (net : Network) (step v : ℕ) (a : Arc) (x k j n : ℕ) → j ≤ n → active v (units_from net step a (low net step x) k n) (run j n) + j * arc_active v false a ≡ j * arc_active v true a + n * arc_active v false a
 run_active net step v a x k zero zero le = omega arith
 run_active net step v a x k (suc j) zero le = absurd (omega arith)
 run_active net step v a x k zero (suc n) le = omega (arith, run_active net step v a x (k + 1) zero n (omega arith))
@@ -90,10 +90,10 @@ box_active net step v arcs (x ∷ xs) (j ∷ js) [] l box = absurd box
 box_active net step v [] [] (j ∷ js) ys l box = absurd box
 box_active net step v [] [] [] (y ∷ ys) l box = absurd box
 box_active net step v (a ∷ arcs) (x ∷ xs) (j ∷ js) (y ∷ ys) l box =
-    let same : length (units_from net step a x 0 (cap net step x)) ≡ length (run j (cap net step x)) = omega (arith, units_length net step a x 0 (cap net step x), run_length j (cap net step x)) in
+    let same : length (units_from net step a (low net step x) 0 (cap net step x)) ≡ length (run j (cap net step x)) = omega (arith, units_length net step a x 0 (cap net step x), run_length j (cap net step x)) in
     omega (
       arith,
-      active_append v (units_from net step a x 0 (cap net step x)) (units net step arcs xs) (run j (cap net step x)) (states net step xs js) same,
+      active_append v (units_from net step a (low net step x) 0 (cap net step x)) (units net step arcs xs) (run j (cap net step x)) (states net step xs js) same,
       run_active net step v a x 0 j (cap net step x) box.0,
       box_active net step v arcs xs js ys (omega arith) box.2,
     )
@@ -192,12 +192,12 @@ deviation_list net [] (y ∷ ys) l = absurd (omega arith)
 deviation_list net (a ∷ arcs) [] l = absurd (omega arith)
 deviation_list net (a ∷ arcs) (y ∷ ys) l = omega (arith, count_below_front (λ k. arc_deviation net (arc_at (a ∷ arcs) k) (entries (y ∷ ys) k)) (length arcs), deviation_list net arcs ys (omega arith))
 
-none_cost : (net : Network) (step : ℕ) (a : Arc) (x k n : ℕ) → cost_on (units_from net step a x k n) (run 0 n) ≡ pos 0
+none_cost : (net : Network) (step : ℕ) (a : Arc) (x k n : ℕ) → cost_on (units_from net step a (low net step x) k n) (run 0 n) ≡ pos 0
 none_cost net step a x k zero = refl
 none_cost net step a x k (suc n) = omega (arith, ints, none_cost net step a x (k + 1) n)
 
 -- The units of an arc that are on cost the change of its deviation.
-run_cost : (net : Network) (step : ℕ) (a : Arc) (x k j n : ℕ) → j ≤ n → cost_on (units_from net step a x k n) (run j n) +ℤ pos (arc_deviation net a (pos (low net step x + k * step))) ≡ pos (arc_deviation net a (pos (low net step x + (k + j) * step)))
+run_cost : (net : Network) (step : ℕ) (a : Arc) (x k j n : ℕ) → j ≤ n → cost_on (units_from net step a (low net step x) k n) (run j n) +ℤ pos (arc_deviation net a (pos (low net step x + k * step))) ≡ pos (arc_deviation net a (pos (low net step x + (k + j) * step)))
 run_cost net step a x k zero zero le = rw (add-zero k) (omega (arith, ints))
 run_cost net step a x k (suc j) zero le = absurd (omega arith)
 run_cost net step a x k zero (suc n) le = rw (add-zero k) (omega (arith, ints, none_cost net step a x (k + 1) n))
@@ -214,7 +214,7 @@ box_cost net step arcs (x ∷ xs) (j ∷ js) [] l box = absurd box
 box_cost net step [] [] (j ∷ js) ys l box = absurd box
 box_cost net step [] [] [] (y ∷ ys) l box = absurd box
 box_cost net step (a ∷ arcs) (x ∷ xs) (j ∷ js) (y ∷ ys) l box =
-    let same : length (units_from net step a x 0 (cap net step x)) ≡ length (run j (cap net step x)) = omega (arith, units_length net step a x 0 (cap net step x), run_length j (cap net step x)) in
+    let same : length (units_from net step a (low net step x) 0 (cap net step x)) ≡ length (run j (cap net step x)) = omega (arith, units_length net step a x 0 (cap net step x), run_length j (cap net step x)) in
     let begin : low net step x + 0 * step ≡ low net step x = omega (arith, zero-mul step) in
     let end : low net step x + (0 + j) * step ≡ y = ap (λ n. low net step x + n * step) (zero-add j) ∙ sym box.1 in
     let first : arc_deviation net a (pos (low net step x + 0 * step)) ≡ arc_deviation net a (pos (low net step x)) = ap (λ n. arc_deviation net a (pos n)) begin in
@@ -222,7 +222,7 @@ box_cost net step (a ∷ arcs) (x ∷ xs) (j ∷ js) (y ∷ ys) l box =
     omega (
       arith,
       ints,
-      cost_append (units_from net step a x 0 (cap net step x)) (units net step arcs xs) (run j (cap net step x)) (states net step xs js) same,
+      cost_append (units_from net step a (low net step x) 0 (cap net step x)) (units net step arcs xs) (run j (cap net step x)) (states net step xs js) same,
       run_cost net step a x 0 j (cap net step x) box.0,
       first,
       last,

@@ -4,7 +4,7 @@ use Rattle.std.specs.List.{list_all}
 use Rattle.std.proofs.lemmas.List.{length-map}
 use Rattle.std.proofs.lemmas.Int.{ints}
 use Rattle.std.proofs.lemmas.Bool.{and_parts, cases_eq}
-use Rattle.def_flow.specs.Network.{Network, IsWithinBounds, is_bounded}
+use Rattle.def_flow.specs.Network.{EndsBelow, Network, IsWithinBounds, is_bounded}
 use Rattle.def_flow.specs.Admissible.{IsAdmissible, IsBalanced, deviation, entries}
 use Rattle.def_matching.specs.Matching.{IsGraph, IsPerfect, matching_cost}
 use Rattle.def_flow.specs.Units.{down, low, cap, units_from, units, states, states_at, active, rim_active, cost_on}
@@ -14,7 +14,6 @@ use Rattle.def_flow.specs.declared.net.End.{End}
 use Rattle.def_flow.specs.declared.units.ArcUnit.{ArcUnit}
 use Rattle.def_flow.specs.Gadget.{lows}
 use Rattle.qm_units.specs.Box.{IsRaised, matching_told}
-use Rattle.qm_units.proofs.Unit.{AreNodes}
 use Rattle.qm_units.proofs.Units.{UnitsAt}
 use Rattle.qm_units.proofs.Whole.{StatesFit, states_perfect, states_cost, rim_parity}
 use Rattle.qm_units.proofs.Box.{own_box, box_length, states_count, same_active, deviation_list, box_cost}
@@ -23,9 +22,9 @@ use Rattle.qm_units.proofs.Links.{graph_lawful}
 -- The ends of all arcs are at nodes.
 abbrev pub ArcsAt : ℕ → List Arc → Type 0
 ArcsAt nodes [] = Unit {0}
-ArcsAt nodes (a ∷ arcs) = AreNodes nodes a.left a.right × ArcsAt nodes arcs
+ArcsAt nodes (a ∷ arcs) = EndsBelow nodes a.left a.right × ArcsAt nodes arcs
 
-arc_at_nodes : (nodes : ℕ) (left : End) (right : Option End) → list_all (λ e. nat_lt e.node nodes) (left ∷ option_to_list right) ≡ true → AreNodes nodes left right
+arc_at_nodes : (nodes : ℕ) (left : End) (right : Option End) → list_all (λ e. nat_lt e.node nodes) (left ∷ option_to_list right) ≡ true → EndsBelow nodes left right
 arc_at_nodes nodes left None h = ltb-true left.node nodes (and_parts _ _ h).0
 arc_at_nodes nodes left (Some right) h = (ltb-true left.node nodes (and_parts _ _ h).0, ltb-true right.node nodes (and_parts _ _ (and_parts _ _ h).1).0)
 
@@ -33,7 +32,7 @@ pub arcs_at : (nodes : ℕ) (arcs : List Arc) → IsTrue (list_all (is_bounded n
 arcs_at nodes [] h = tt
 arcs_at nodes (a ∷ arcs) h = (arc_at_nodes nodes a.left a.right (and_parts (nat_le 1 a.weight && nat_le a.weight 1000 && nat_le a.old 4000000000) _ (and_parts _ _ h).0).1, arcs_at nodes arcs (and_parts _ _ h).1)
 
-from_at : (net : Network) (step : ℕ) (a : Arc) (x k n : ℕ) → AreNodes net.nodes a.left a.right → UnitsAt net.nodes (units_from net step a x k n)
+from_at : (net : Network) (step : ℕ) (a : Arc) (x k n : ℕ) → EndsBelow net.nodes a.left a.right → UnitsAt net.nodes (units_from net step a (low net step x) k n)
 from_at net step a x k zero at = tt
 from_at net step a x k (suc n) at = (at, from_at net step a x (k + 1) n at)
 
@@ -44,7 +43,7 @@ at_append nodes (u ∷ us) vs a b = (a.0, at_append nodes us vs a.1 b)
 pub units_at : (net : Network) (step : ℕ) (arcs : List Arc) (xs : List ℕ) → ArcsAt net.nodes arcs → UnitsAt net.nodes (units net step arcs xs)
 units_at net step [] xs at = tt
 units_at net step (a ∷ arcs) [] at = tt
-units_at net step (a ∷ arcs) (x ∷ xs) at = at_append net.nodes (units_from net step a x 0 (cap net step x)) (units net step arcs xs) (from_at net step a x 0 (cap net step x) at.0) (units_at net step arcs xs at.1)
+units_at net step (a ∷ arcs) (x ∷ xs) at = at_append net.nodes (units_from net step a (low net step x) 0 (cap net step x)) (units net step arcs xs) (from_at net step a x 0 (cap net step x) at.0) (units_at net step arcs xs at.1)
 
 -- The matching graph is a graph.
 pub graph_law : (net : Network) (step : ℕ) (xs : List ℕ) → IsWithinBounds net → IsGraph (matching_graph net step xs)

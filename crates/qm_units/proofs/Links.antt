@@ -3,11 +3,11 @@ use Rattle.std.proofs.Common.{◌≡◌, ◌≢◌, ℕ, zero, suc, ◌+◌, ◌
 use Rattle.std.proofs.lemmas.Bool.{cases_eq}
 use Rattle.def_math.specs.Counts.{count, count_below}
 use Rattle.def_matching.specs.Matching.{IsGraph, edge_at}
+use Rattle.def_flow.specs.Network.{EndsBelow}
 use Rattle.def_flow.specs.MatchingGraph.{link, fan, to_copies, inner_link, are_alike, links_by, size_by, unit_links, unit_size, units_links, with_rim, rim, link_from, rung, rim_links, first_fresh, lone_vertex, graph_by}
 use Rattle.def_flow.specs.declared.net.End.{End}
 use Rattle.def_flow.specs.declared.units.ArcUnit.{ArcUnit}
 use Rattle.def_matching.specs.declared.weighted.WEdge.{WEdge}
-use Rattle.qm_units.proofs.Unit.{AreNodes}
 use Rattle.qm_units.proofs.Units.{UnitsAt}
 use Rattle.qm_units.proofs.Chain.{pairs}
 
@@ -36,7 +36,7 @@ copies_below room v (suc n) l = by_last (cases_eq v n) (copies_below room v n)
 copies_links : (n nodes : ℕ) (room : ℕ → ℕ) (b : ℕ) (c : ℤ) (e : End) → e.node < nodes → count_below room nodes ≤ b → b < n → AreLinks n (to_copies room b c e)
 copies_links n nodes room b c e l le lt = fan_links n b (cond e.plus c (pos 0)) (count_below room e.node) (room e.node) (omega (arith, copies_below room e.node nodes l)) lt
 
-unit_lawful : (n nodes : ℕ) (room : ℕ → ℕ) (b : ℕ) (c : ℤ) (left : End) (right : Option End) → AreNodes nodes left right → count_below room nodes ≤ b → b + size_by left right ≤ n → AreLinks n (links_by room b c left right)
+unit_lawful : (n nodes : ℕ) (room : ℕ → ℕ) (b : ℕ) (c : ℤ) (left : End) (right : Option End) → EndsBelow nodes left right → count_below room nodes ≤ b → b + size_by left right ≤ n → AreLinks n (links_by room b c left right)
 unit_lawful n nodes room b c left None ends le lt = links_append n (to_copies room b c left) (inner_link b c left ∷ []) (copies_links n nodes room b c left ends le (omega arith)) ((omega arith, omega arith, λ e. omega arith), tt)
 unit_lawful n nodes room b c left (Some right) ends le lt = by_alike (are_alike left right) lt
   where

@@ -5,6 +5,7 @@ use Rattle.std.proofs.Math.IntN.{*ℤ-zero}
 use Rattle.def_math.specs.Sums.{total_below}
 use Rattle.def_math.specs.Counts.{count, count_below}
 use Rattle.qm_laws.proofs.Sums.{total_below_one}
+use Rattle.def_flow.specs.Network.{EndsBelow}
 use Rattle.def_flow.specs.MatchingGraph.{link, to_copies, inner_link, are_alike, links_by, size_by, unit_links, unit_size, units_links, with_rim, rim, link_from, rung, rim_links}
 use Rattle.def_flow.specs.declared.net.End.{End}
 use Rattle.def_flow.specs.declared.units.ArcUnit.{ArcUnit}
@@ -12,7 +13,6 @@ use Rattle.def_matching.specs.declared.weighted.WEdge.{WEdge}
 use Rattle.qm_units.specs.Told.{width_by}
 use Rattle.qm_units.proofs.Pick.{picked}
 use Rattle.qm_units.proofs.Chain.{at_ends}
-use Rattle.qm_units.proofs.Unit.{AreNodes}
 use Rattle.qm_units.proofs.Units.{UnitsAt}
 use Rattle.qm_units.proofs.Links.{copies_below, AreBelow, IsPast}
 use Rattle.qm_units.proofs.Touch.{pick_split, AreZero, zero_append, picked_zero, fan_zero}
@@ -92,7 +92,7 @@ pair_ok nodes room b c left right ms at le first second = record {
 copies_zero : (w : ℕ → ℤ) (nodes : ℕ) (room : ℕ → ℕ) (b : ℕ) (c : ℤ) (e : End) → e.node < nodes → ((k : ℕ) → k < count_below room nodes → w k ≡ pos 0) → w b ≡ pos 0 → AreZero w (to_copies room b c e)
 copies_zero w nodes room b c e l low here = fan_zero w b (cond e.plus c (pos 0)) (count_below room e.node) (room e.node) here (λ k lk. low k (omega (arith, copies_below room e.node nodes l)))
 
-pub unit_zero : (w : ℕ → ℤ) (nodes : ℕ) (room : ℕ → ℕ) (b : ℕ) (c : ℤ) (left : End) (right : Option End) → AreNodes nodes left right → ((k : ℕ) → k < count_below room nodes → w k ≡ pos 0) → ((k : ℕ) → b ≤ k → k < b + size_by left right → w k ≡ pos 0) → AreZero w (links_by room b c left right)
+pub unit_zero : (w : ℕ → ℤ) (nodes : ℕ) (room : ℕ → ℕ) (b : ℕ) (c : ℤ) (left : End) (right : Option End) → EndsBelow nodes left right → ((k : ℕ) → k < count_below room nodes → w k ≡ pos 0) → ((k : ℕ) → b ≤ k → k < b + size_by left right → w k ≡ pos 0) → AreZero w (links_by room b c left right)
 unit_zero w nodes room b c left None at low own = zero_append w (to_copies room b c left) _ (copies_zero w nodes room b c left at low (own b (omega arith) (omega arith))) (own b (omega arith) (omega arith), own (b + 1) (omega arith) (omega arith), tt)
 unit_zero w nodes room b c left (Some right) at low own = by_alike (are_alike left right) own
   where
@@ -206,7 +206,7 @@ units_ok n nodes room b m (u ∷ us) ms rs rest rms at le fits within has nothin
     first : (d : ℕ) → b ≤ d → d < b + unit_size u → AreNil (only d) (with_rim u.right (b + 1) (rim (b + unit_size u) us)) → picked (at_ends (only d)) ms (unit_links room b u) ≡ pos 1
     first d low high nil = first_unit n nodes room b m d u us ms has.front rs rest rms at.1 le low high fits within has.below has.is nil nothing full
 
-    by_right : (right : Option End) → AreNodes nodes u.left right → picked (at_ends (only b)) ms (links_by room b u.cost u.left right) ≡ pos 1 → (size_by u.left right ≡ 2 → AreNil (only (b + 1)) (with_rim right (b + 1) (rim (b + size_by u.left right) us)) → picked (at_ends (only (b + 1))) ms (links_by room b u.cost u.left right) ≡ pos 1) → IsUnitOk room ms u.left right
+    by_right : (right : Option End) → EndsBelow nodes u.left right → picked (at_ends (only b)) ms (links_by room b u.cost u.left right) ≡ pos 1 → (size_by u.left right ≡ 2 → AreNil (only (b + 1)) (with_rim right (b + 1) (rim (b + size_by u.left right) us)) → picked (at_ends (only (b + 1))) ms (links_by room b u.cost u.left right) ≡ pos 1) → IsUnitOk room ms u.left right
     by_right None a one two = lone_ok nodes room b u.cost u.left ms a le one
     by_right (Some right) a one two = pair_ok nodes room b u.cost u.left right ms a le one (λ e. two (ap (λ t. cond t 2 1) e) (nil_rim (only (b + 1)) (b + size_by u.left (Some right)) us (λ k l. only_there (b + 1) k (λ q. omega (arith, size_low u.left (Some right))))))
 

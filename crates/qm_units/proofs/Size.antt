@@ -4,16 +4,15 @@ use Rattle.std.proofs.lemmas.Int.{ints}
 use Rattle.std.proofs.lemmas.Bool.{cases_eq}
 use Rattle.def_math.specs.Counts.{count, count_below}
 use Rattle.qm_laws.proofs.Counts.{count_append, count_sum, count_below_sum, count_below_le, count_below_same, count_below_one, count_below_none, count_below_times}
-use Rattle.def_flow.specs.Network.{Network, IsWithinBounds, ends, degree, tangle_number}
+use Rattle.def_flow.specs.Network.{EndsBelow, Network, IsWithinBounds, ends, degree, tangle_number}
 use Rattle.def_flow.specs.Admissible.{IsAdmissible, entries}
-use Rattle.def_flow.specs.Units.{down, cap, units_from, units, states_at, is_active, active, alone_active, rim_active}
+use Rattle.def_flow.specs.Units.{down, low, cap, units_from, units, states_at, is_active, active, alone_active, rim_active}
 use Rattle.def_flow.specs.MatchingGraph.{link_from, rung, rim_links, with_rim, rim, size_by, unit_size, are_alike, unit_links, units_links, first_fresh, lone_vertex, matching_graph}
 use Rattle.def_flow.specs.declared.net.Arc.{Arc}
 use Rattle.def_flow.specs.declared.net.End.{End}
 use Rattle.def_flow.specs.declared.units.ArcUnit.{ArcUnit}
 use Rattle.def_matching.specs.declared.weighted.WEdge.{WEdge}
 use Rattle.qm_units.specs.Told.{width_by}
-use Rattle.qm_units.proofs.Unit.{AreNodes}
 use Rattle.qm_units.proofs.Box.{own_box, arc_active, weighted_ends, box_active, balanced_list}
 use Rattle.qm_units.proofs.Law.{ArcsAt, arcs_at}
 use Rattle.qm_units.proofs.Facts.{links_width}
@@ -98,7 +97,7 @@ one_node f nodes u l = count_below_one (λ v. cond (u == v) 1 0 * f v) nodes u l
     here : cond (u == u) 1 0 * f u ≡ f u
     here = rw (eq-eqb u u refl) (omega arith)
 
-arc_exchange : (f : ℕ → ℕ) (nodes : ℕ) (left : End) (right : Option End) → AreNodes nodes left right → count_below (λ v. count (λ e. cond (e.node == v) 1 0) (left ∷ option_to_list right) * f v) nodes ≡ count (λ e. f e.node) (left ∷ option_to_list right)
+arc_exchange : (f : ℕ → ℕ) (nodes : ℕ) (left : End) (right : Option End) → EndsBelow nodes left right → count_below (λ v. count (λ e. cond (e.node == v) 1 0) (left ∷ option_to_list right) * f v) nodes ≡ count (λ e. f e.node) (left ∷ option_to_list right)
 arc_exchange f nodes left None at =
     let same : count_below (λ v. (cond (left.node == v) 1 0 + 0) * f v) nodes ≡ count_below (λ v. cond (left.node == v) 1 0 * f v) nodes = count_below_same _ _ nodes (λ v l. omega (arith, add-mul (cond (left.node == v) 1 0) 0 (f v))) in
     omega (arith, same, one_node f nodes left.node at)
@@ -177,7 +176,7 @@ rim_low before fresh (r ∷ []) = omega (arith, from_low before r)
 rim_low before fresh (r ∷ s ∷ rs) = omega (arith, length-append (rung before fresh r) (rim_links (Some (fresh + 1)) (fresh + 2) (s ∷ rs)), rung_low before fresh r, rim_low (Some (fresh + 1)) (fresh + 2) (s ∷ rs))
 
 -- Of each arc there are at most four units, all of its shape.
-shape_count : (g : End → Option End → ℕ) (net : Network) (step : ℕ) (a : Arc) (x k n : ℕ) → count (λ u. g u.left u.right) (units_from net step a x k n) ≡ n * g a.left a.right
+shape_count : (g : End → Option End → ℕ) (net : Network) (step : ℕ) (a : Arc) (x k n : ℕ) → count (λ u. g u.left u.right) (units_from net step a (low net step x) k n) ≡ n * g a.left a.right
 shape_count g net step a x k zero = omega (arith, zero-mul (g a.left a.right))
 shape_count g net step a x k (suc n) = omega (arith, add-mul 1 n (g a.left a.right), shape_count g net step a x (k + 1) n)
 
@@ -191,7 +190,7 @@ units_few g f net step (a ∷ arcs) (x ∷ xs) le =
       arith,
       here,
       le a.left a.right,
-      count_append (λ (u : ArcUnit). g u.left u.right) (units_from net step a x 0 (cap net step x)) (units net step arcs xs),
+      count_append (λ (u : ArcUnit). g u.left u.right) (units_from net step a (low net step x) 0 (cap net step x)) (units net step arcs xs),
       shape_count g net step a x 0 (cap net step x),
       units_few g f net step arcs xs le,
     )

@@ -4,6 +4,7 @@ use Rattle.std.proofs.lemmas.Int.{ints}
 use Rattle.def_math.specs.Sums.{total_below, span}
 use Rattle.def_math.specs.Counts.{count, count_below}
 use Rattle.qm_laws.proofs.Sums.{total_below_same, total_below_sum, total_below_one, span_sum}
+use Rattle.def_flow.specs.Network.{EndsBelow}
 use Rattle.def_flow.specs.Units.{is_active}
 use Rattle.def_flow.specs.MatchingGraph.{link, to_copies, inner_link, are_alike, links_by}
 use Rattle.def_flow.specs.declared.net.End.{End}
@@ -42,11 +43,6 @@ held_end nodes room w used some e l = omega (arith, ints, parts, total_below_sum
 
     here : (b : Bool) → cond ((e.node == e.node) && b) (w (count_below room e.node + used e.node)) (pos 0) ≡ cond b (w (count_below room e.node + used e.node)) (pos 0)
     here b = rw (eq-eqb e.node e.node refl) refl
-
--- The ends of a unit are at nodes.
-abbrev pub AreNodes : ℕ → End → Option End → Type 0
-AreNodes nodes left None = left.node < nodes
-AreNodes nodes left (Some right) = (left.node < nodes) × (right.node < nodes)
 
 -- What the own vertices of a unit weigh that get a mate among its edges.
 abbrev pub own : (ℕ → ℤ) → ℕ → Bool → End → Option End → ℤ
@@ -141,7 +137,7 @@ unlike_active on left right = by_signs on left.plus right.plus
     by_signs o false false e = absurd (true≢false e)
 
 -- At a unit its own vertices and the copies that it takes get one mate each.
-pub unit_weight : (w : ℕ → ℤ) (nodes : ℕ) (room used : ℕ → ℕ) (b : ℕ) (c : ℤ) (on : Bool) (left : End) (right : Option End) → AreNodes nodes left right → ((v : ℕ) → used v + ends_active v on left right ≤ room v) → picked (at_ends w) (marks_by room used on left right) (links_by room b c left right) +ℤ held nodes room w used ≡ own w b on left right +ℤ held nodes room w (λ v. used v + ends_active v on left right)
+pub unit_weight : (w : ℕ → ℤ) (nodes : ℕ) (room used : ℕ → ℕ) (b : ℕ) (c : ℤ) (on : Bool) (left : End) (right : Option End) → EndsBelow nodes left right → ((v : ℕ) → used v + ends_active v on left right ≤ room v) → picked (at_ends w) (marks_by room used on left right) (links_by room b c left right) +ℤ held nodes room w used ≡ own w b on left right +ℤ held nodes room w (λ v. used v + ends_active v on left right)
 unit_weight w nodes room used b c on left None ends free = omega (arith, ints, pick_unit (at_ends w) room used b c on left None free, held_end nodes room w used (is_active on left) left ends, same, by_active (is_active on left))
   where
     same : held nodes room w (λ v. used v + ends_active v on left None) ≡ held nodes room w (take_end used (is_active on left) left)

@@ -4,6 +4,7 @@ use Rattle.std.proofs.lemmas.Int.{ints}
 use Rattle.def_math.specs.Sums.{span}
 use Rattle.def_math.specs.Counts.{count}
 use Rattle.qm_laws.proofs.Sums.{span_sum}
+use Rattle.def_flow.specs.Network.{EndsBelow}
 use Rattle.def_flow.specs.Units.{is_active, active, active_at, alone_active, rim_active, cost_on}
 use Rattle.def_flow.specs.MatchingGraph.{are_alike, size_by, unit_size, unit_links, units_links, with_rim, rim}
 use Rattle.def_flow.specs.declared.net.End.{End}
@@ -12,12 +13,12 @@ use Rattle.def_matching.specs.declared.weighted.WEdge.{WEdge}
 use Rattle.qm_units.specs.Marks.{trues, marks_by, units_marks, with_state, rim_states}
 use Rattle.qm_units.proofs.Pick.{picked, pick_append}
 use Rattle.qm_units.proofs.Chain.{at_ends}
-use Rattle.qm_units.proofs.Unit.{AreNodes, ends_active, held, held_same, own, unit_weight, unit_cost, unit_length}
+use Rattle.qm_units.proofs.Unit.{ends_active, held, held_same, own, unit_weight, unit_cost, unit_length}
 
 -- The ends of all units are at nodes.
 abbrev pub UnitsAt : ℕ → List ArcUnit → Type 0
 UnitsAt nodes [] = Unit {0}
-UnitsAt nodes (u ∷ us) = AreNodes nodes u.left u.right × UnitsAt nodes us
+UnitsAt nodes (u ∷ us) = EndsBelow nodes u.left u.right × UnitsAt nodes us
 
 -- A unit's vertices are its own ones and the one that waits at the rim.
 all_own : (w : ℕ → ℤ) (b : ℕ) (on : Bool) (left : End) (right : Option End) (os : List Bool) (rs : List ℕ) → own w b on left right +ℤ picked w (with_state right (is_active on left) os) (with_rim right (b + 1) rs) ≡ span w b (size_by left right) +ℤ picked w os rs

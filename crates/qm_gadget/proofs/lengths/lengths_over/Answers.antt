@@ -3,7 +3,7 @@ use Rattle.def_flow.specs.Network.{network}
 use Rattle.def_flow.specs.Units.{active}
 use Rattle.qm_units.specs.Told.{marks_from, states_told}
 use Rattle.qm_gadget.specs.Layout.{room_of}
-use Rattle.qm_gadget.specs.Over.{units_over}
+use Rattle.def_flow.specs.Units.{units_over}
 use Rattle.qm_gadget.specs.Ready.{own_states}
 use Rattle.qm_gadget.proofs.OfList.{plan_rooms}
 use Rattle.qm_gadget.proofs.Steps.{plan_few}

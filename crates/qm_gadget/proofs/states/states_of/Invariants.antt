@@ -1,5 +1,5 @@
 use Rattle.std.proofs.Common.{◌≡◌, ◌++◌, drop}
-use Rattle.qm_gadget.specs.Over.{states_over}
+use Rattle.def_flow.specs.Units.{states_over}
 use Rattle.qm_gadget.proofs.states.states_of.Given as goal
 
 abbrev pub invariant-loop-k : goal.invariant-loop-k

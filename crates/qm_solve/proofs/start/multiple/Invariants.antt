@@ -1,5 +1,5 @@
 use Rattle.std.proofs.Common.{◌≡◌, take}
-use Rattle.qm_solve.specs.Rounds.{multiple_of}
+use Rattle.def_flow.specs.Descent.{multiple_of}
 use Rattle.qm_solve.proofs.start.multiple.Given as goal
 
 abbrev pub invariant-loop-arc : goal.invariant-loop-arc

@@ -1,6 +1,7 @@
 //! The text of a network: a line `net nodes N arcs A floor F scale P/Q`, and for each arc a line
 //! `arc OLD WEIGHT NODE SIGN NODE SIGN`, with `rim` in place of the second end at the boundary.
 
+use crate::fail::NetFail;
 use def_flow::{Arc, End, Net};
 use std::alloc::{AllocError, Global};
 use std::str::SplitWhitespace;
@@ -15,29 +16,25 @@ struct Head {
     q: u32,
 }
 
-/// The network of a text, if it is one.
-pub(crate) fn read_net(alloc: Global, text: &str) -> Result<Option<Net>, AllocError> {
+/// The network of a text. Linear.
+pub fn read_net(alloc: Global, text: &str) -> Result<Net, NetFail> {
     let mut words = text.split_whitespace();
-    let Some(head) = read_head(&mut words) else {
-        return Ok(None);
-    };
+    let head = read_head(&mut words).ok_or(NetFail::NoNetwork)?;
     let mut arcs = Vec::new(alloc);
     for _ in 0..head.arcs {
-        let Some(arc) = read_arc(&mut words) else {
-            return Ok(None);
-        };
-        arcs.push(arc)?;
+        let arc = read_arc(&mut words).ok_or(NetFail::NoNetwork)?;
+        arcs.push(arc).map_err(AllocError::from)?;
     }
     if words.next().is_some() {
-        return Ok(None);
+        return Err(NetFail::NoNetwork);
     }
-    Ok(Some(Net {
+    Ok(Net {
         nodes: head.nodes,
         arcs,
         floor: head.floor,
         p: head.p,
         q: head.q,
-    }))
+    })
 }
 
 /// The first line.
