@@ -1,6 +1,7 @@
 -- Who goes on at a vertex with four faces, told by two bits: the rider by d, where neither the rider to whom it gives
 -- way arrives nor the one from the opposite side.
 use Rattle.std.proofs.Common.{◌≡◌, ◌≢◌, ◌⊎◌, ℕ, zero, suc, ◌<◌, Bool, true, false, not, cond, eqb, ◌&&◌, ◌||◌, List, [], ◌∷◌, Some, None, sym, subst, ap, ◌∙◌, refl, inl, inr, arith}
+use Rattle.std.proofs.Math.Bool.{or-false}
 use Rattle.std.proofs.lemmas.Bool.{eq-eqb, ne_eqb, eqb-true, eqb-false, false≢true, false_from_ne_true, cases_Bool, or_parts, and_from, and_parts, not_from_false}
 use Rattle.def_mesh.specs.HalfEdges.{HalfEdges, IsQuadManifold}
 use Rattle.def_cut.specs.Cuts.{IsCross, HasCross}
@@ -46,11 +47,7 @@ module _ (g : Terrain) (d p q r : ℕ) (round : AreRound g d p q r) where
 
   second_of_two : (x y : ℕ) → d ≡ y → x ≢ y → IsOfFour d p q r x → goes_on g (x ∷ y ∷ []) d ≡ (not (is_among p (x ∷ y ∷ [])) && not (is_among q (x ∷ y ∷ [])))
   second_of_two x y s ne o = rw (ne_eqb d x (λ k. ne (sym k ∙ s)), eq-eqb d y s, ne_eqb p y (λ k. round.d_p (s ∙ sym k)), ne_eqb q y (λ k. round.d_q (s ∙ sym k)))
-      (by_test (gives_way g x y) ∙ (ap (λ k. gives_way g x k) (sym s) ∙ other x (not_d x (λ k. ne (sym k ∙ s)) o)))
-    where
-      by_test : (b : Bool) → (b || false) ≡ b
-      by_test true = refl
-      by_test false = refl
+      (or-false (gives_way g x y) ∙ (ap (λ k. gives_way g x k) (sym s) ∙ other x (not_d x (λ k. ne (sym k ∙ s)) o)))
 
   -- Of three that differ, one is p or q.
   side : (x : ℕ) → IsOfFour d p q r x → ((x ≡ p) ⊎ (x ≡ q)) ⊎ ((x ≡ d) ⊎ (x ≡ r))

@@ -1,6 +1,7 @@
 -- Lists of marks and of riders by index, and lists of darts that differ.
 use Rattle.std.proofs.Common.{◌≡◌, ◌≢◌, ◌⊎◌, ℕ, zero, suc, ◌+◌, ◌<◌, ◌≤◌, Bool, true, false, cond, eqb, ◌||◌, List, [], ◌∷◌, ◌++◌, length, get_or, set, replicate, map, Option, Some, None, sym, subst, ap, ◌∙◌, refl, inl, inr, arith}
 use Rattle.std.specs.List.{list_any}
+use Rattle.std.proofs.Math.Bool.{or-false}
 use Rattle.std.proofs.lemmas.Bool.{eq-eqb, ne_eqb, cases_eq, false≢true, false_from_ne_true, or_cases, cases_Bool}
 use Rattle.std.proofs.lemmas.List.{get_or-set_same, get_or-set_other, length-set, length-append}
 use Rattle.def_mesh.specs.HalfEdges.{HalfEdges, IsQuadManifold}
@@ -14,16 +15,17 @@ use Rattle.motion_laws.proofs.Among.{among_here, among_later, among_cases, AreAp
 pub mark_is : (marks : List Bool) (k d : ℕ) → k < length marks → is_on (set marks k true) d ≡ (is_on marks d || eqb d k)
 mark_is marks k d l = elim (cases_eq d k) [
   | inl e ↦ rw (eq-eqb d k e, e) (get_or-set_same marks k true false l ∙ sym (at (is_on marks k)))
-  | inr ne ↦ rw (ne_eqb d k ne) (get_or-set_other marks k d true false ne ∙ sym (off (is_on marks d)))
+  | inr ne ↦ rw (ne_eqb d k ne) (get_or-set_other marks k d true false ne ∙ sym (or-false (is_on marks d)))
 ]
   where
     at : (b : Bool) → (b || true) ≡ true
     at true = refl
     at false = refl
 
-    off : (b : Bool) → (b || false) ≡ b
-    off true = refl
-    off false = refl
+-- In no darts none is found.
+pub none_found : (o : Option ℕ) → is_found o [] ≡ false
+none_found None = refl
+none_found (Some t) = refl
 
 -- No marks.
 pub none_on : (n d : ℕ) → is_on (replicate n false) d ≡ false

@@ -2,6 +2,7 @@
 use Rattle.std.proofs.Common.{◌≡◌, ◌≢◌, ◌⊎◌, ℕ, zero, suc, ◌+◌, ◌-◌, ◌<◌, ◌≤◌, Bool, true, false, not, cond, eqb, ◌&&◌, ◌||◌, List, [], ◌∷◌, ◌++◌, map, length, get_or, set, replicate, Option, Some, None, sym, subst, ap, ◌∙◌, refl, inl, inr, arith}
 use Rattle.std.specs.List.{list_any}
 use Rattle.std.proofs.lemmas.Option.{none-some, same_Some}
+use Rattle.std.proofs.Math.Bool.{or-false}
 use Rattle.std.proofs.lemmas.Bool.{eq-eqb, ne_eqb, eqb-true, false≢true, cases_Bool, cases_eq, cases_lt, or_left, or_right, or_cases, and_parts, and_from, not_from_false, not_from_true}
 use Rattle.std.proofs.lemmas.List.{get_or-set_same, get_or-set_other, length-set, length-replicate, length-map, length-append}
 use Rattle.def_cut.specs.FullCut.{is_on}
@@ -13,20 +14,12 @@ use Rattle.def_cut.specs.Events.{EventState, waiting, darts_in, rider_at, note_a
 use Rattle.def_cut.specs.Events.Event.{Ride, Settle}
 use Rattle.qm_laws.proofs.Counts.{count_below_lt, count_below_ones}
 use Rattle.motion_laws.proofs.Among.{among_here, among_later, any_at, any_where, all_at, not_all, AreApart}
-use Rattle.motion_laws.proofs.Marks.{none_on, no_darts, twin_marks, from_marks, marked_long, noted_more, noted_longer, found_more, apart_few, among_append, apart_append}
+use Rattle.motion_laws.proofs.Marks.{none_on, none_found, no_darts, twin_marks, from_marks, marked_long, noted_more, noted_longer, found_more, apart_few, among_append, apart_append}
 use Rattle.motion_laws.proofs.Next.{with_later}
 use Rattle.motion_laws.proofs.Shown.{IsShown, AreShown, AllNoted, long, all_noted, darts_are, noted_rides, notes_apart, ride_shown, waits_as_was, waits_not_all, somebody, as_was, still_runs, closed_is, none_shown, told_shown, told_long}
 use Rattle.motion_laws.proofs.Steps.{same_test, step_keeps, back}
 use Rattle.motion_laws.proofs.Terrains.{IsTerrain, IsStarted, IsReached}
 use Rattle.motion_laws.proofs.Traced.{start_reached, after_reached, ridden_once, at_rest, runs_on, fresh, rests_or_falls, nobody_runs}
-
-none_found : (o : Option ℕ) → is_found o [] ≡ false
-none_found None = refl
-none_found (Some t) = refl
-
-plain : (b : Bool) → (b || false) ≡ b
-plain true = refl
-plain false = refl
 
 mark_twin_long : (o : Option ℕ) (marks : List Bool) → length (mark_twin o marks) ≡ length marks
 mark_twin_long None marks = refl
@@ -103,7 +96,7 @@ module _ (g : Terrain) (t : IsTerrain g) (starts : List ℕ) (begin : IsStarted 
               at : (o : Option ℕ) → g.half.twin d ≡ o → is_found o (e ∷ []) ≡ true → is_found (g.half.twin e) (d ∷ []) ≡ true
               at None is f = absurd (false≢true f)
               at (Some u) is f =
-                  let same : u ≡ e = eqb-true u e (sym (plain (eqb u e)) ∙ f) in
+                  let same : u ≡ e = eqb-true u e (sym (or-false (eqb u e)) ∙ f) in
                   ap (λ o. is_found o (d ∷ [])) (back g t d e ld (is ∙ ap Some same)) ∙ among_here d d [] refl
 
       shuffle : (c m f a b : Bool) → ((c || (m || f)) || (a || b)) ≡ (c || ((m || a) || (f || b)))
@@ -111,10 +104,7 @@ module _ (g : Terrain) (t : IsTerrain g) (starts : List ℕ) (begin : IsStarted 
       shuffle false true f a b = refl
       shuffle false false true true b = refl
       shuffle false false true false b = refl
-      shuffle false false false a b = at a b
-        where
-          at : (a b : Bool) → (a || b) ≡ (a || b)
-          at a b = refl
+      shuffle false false false a b = refl
 
       pub ride_keeps : IsShown g n s (after_ride_of g x r)
       ride_keeps = record {
@@ -147,7 +137,7 @@ module _ (g : Terrain) (t : IsTerrain g) (starts : List ℕ) (begin : IsStarted 
 
       -- Where v is not settled, somebody has stood there where somebody had when the instant began.
       pub stood_then : (v : ℕ) → v < n → is_on x.settled v ≡ false → is_on x.stood v ≡ s.stood v
-      stood_then v l off = h.stood v l ∙ (ap (λ b. s.stood v || (b && list_any (arrives_at g (ridden s.riders) v) (ridden s.riders))) off ∙ plain (s.stood v))
+      stood_then v l off = h.stood v l ∙ (ap (λ b. s.stood v || (b && list_any (arrives_at g (ridden s.riders) v) (ridden s.riders))) off ∙ or-false (s.stood v))
 
     -- A settling.
     module _ (v : ℕ) (may : may_settle g x v ≡ true) where
@@ -213,8 +203,8 @@ module _ (g : Terrain) (t : IsTerrain g) (starts : List ℕ) (begin : IsStarted 
         stood_long = length-set x.stood v _ ∙ h.stood_long;
         covered_long = h.covered_long;
         settled_long = length-replicate (length (set x.settled v true)) false ∙ (length-set x.settled v true ∙ h.settled_long);
-        stood = λ u l. stands_now u l ∙ (settled_in u (cases_Bool (is_on (set x.settled v true) u)) ∙ sym (ap (λ b. (step g s).stood u || (b && list_any (arrives_at g (ridden (step g s).riders) u) (ridden (step g s).riders))) (none_on (length (set x.settled v true)) u) ∙ plain ((step g s).stood u)));
-        covered = λ d l. h.covered d l ∙ (ap (λ (ds : List ℕ). s.covered d || (is_among d ds || is_met g ds d)) (all_ridden parts.0) ∙ sym (ap (λ (ds : List ℕ). (step g s).covered d || (is_among d ds || is_met g ds d)) (no_darts (length x.noted)) ∙ (ap (λ b. (step g s).covered d || b) (none_found (g.half.twin d)) ∙ plain ((step g s).covered d))));
+        stood = λ u l. stands_now u l ∙ (settled_in u (cases_Bool (is_on (set x.settled v true) u)) ∙ sym (ap (λ b. (step g s).stood u || (b && list_any (arrives_at g (ridden (step g s).riders) u) (ridden (step g s).riders))) (none_on (length (set x.settled v true)) u) ∙ or-false ((step g s).stood u)));
+        covered = λ d l. h.covered d l ∙ (ap (λ (ds : List ℕ). s.covered d || (is_among d ds || is_met g ds d)) (all_ridden parts.0) ∙ sym (ap (λ (ds : List ℕ). (step g s).covered d || (is_among d ds || is_met g ds d)) (no_darts (length x.noted)) ∙ (ap (λ b. (step g s).covered d || b) (none_found (g.half.twin d)) ∙ or-false ((step g s).covered d))));
         phase = inr (none_on (length (set x.settled v true)));
         rest = inl (no_darts (length x.noted), none_on (length (set x.settled v true)));
       }
@@ -346,7 +336,7 @@ module _ (g : Terrain) (t : IsTerrain g) (starts : List ℕ) (begin : IsStarted 
       let still : ridden (after g starts (j + k)).riders ≡ [] = ap ridden r.0 ∙ none in
       rw e (
         still_riders g (after g starts (j + k)).stood (ridden (after g starts (j + k)).riders) (after g starts (j + k)).riders still ∙ r.0,
-        λ d. ap (λ (ds : List ℕ). (after g starts (j + k)).covered d || (is_among d ds || is_met g ds d)) still ∙ (ap (λ b. (after g starts (j + k)).covered d || b) (none_found (g.half.twin d)) ∙ (plain ((after g starts (j + k)).covered d) ∙ r.1 d)),
+        λ d. ap (λ (ds : List ℕ). (after g starts (j + k)).covered d || (is_among d ds || is_met g ds d)) still ∙ (ap (λ b. (after g starts (j + k)).covered d || b) (none_found (g.half.twin d)) ∙ (or-false ((after g starts (j + k)).covered d) ∙ r.1 d)),
       )
 
   finish_is : (k i : ℕ) → (j : ℕ) × (finish g k (after g starts i) ≡ after g starts j)
@@ -372,7 +362,7 @@ module _ (g : Terrain) (t : IsTerrain g) (starts : List ℕ) (begin : IsStarted 
       let f : (j : ℕ) × (end_state g n starts ≡ after g starts j) = finish_is (suc n) 0 in
       let r : ((after g starts w.instant).riders ≡ (after g starts f.0).riders) × ((d : ℕ) → (after g starts w.instant).covered d ≡ (after g starts f.0).covered d) = alike w.instant f.0 e.1 (sym (ap (λ (s : State). ridden s.riders) f.1) ∙ nobody_runs g t starts begin n few) in (
         e.0 ∙ (r.0 ∙ sym (ap (λ (s : State). s.riders) f.1)),
-        λ d l. w.shown.covered d l ∙ (ap (λ (ds : List ℕ). (after g starts w.instant).covered d || (is_among d ds || is_met g ds d)) e.2 ∙ (ap (λ b. (after g starts w.instant).covered d || b) (none_found (g.half.twin d)) ∙ (plain ((after g starts w.instant).covered d) ∙ (r.1 d ∙ sym (ap (λ (s : State). s.covered d) f.1))))),
+        λ d l. w.shown.covered d l ∙ (ap (λ (ds : List ℕ). (after g starts w.instant).covered d || (is_among d ds || is_met g ds d)) e.2 ∙ (ap (λ b. (after g starts w.instant).covered d || b) (none_found (g.half.twin d)) ∙ (or-false ((after g starts w.instant).covered d) ∙ (r.1 d ∙ sym (ap (λ (s : State). s.covered d) f.1))))),
       )
 
   -- After as many steps as there are vertices nobody runs, and the state is the last.

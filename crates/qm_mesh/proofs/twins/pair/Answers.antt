@@ -19,7 +19,7 @@ pub returns-clause-ok : goal.returns-clause-ok
 returns-clause-ok c =
     let a = c.pair_all-twice.ensures in
     subst (λ twins. ArePartners c.args.faces.now twins) (sym (come_back _ c.pair_all-twice.new.twins _ (omega (arith, a.long))))
-      (record { long = a.long; each = λ e l. a.each e l (end_low c.args.faces.now _ _ c.requires.within l) })
+    (record { long = a.long; each = λ e l. a.each e l (end_low c.args.faces.now _ _ c.requires.within l) })
 
 pub returns-clause-once : goal.returns-clause-once
 returns-clause-once c =
