@@ -4,7 +4,7 @@
 
 use def_flow::MAX_TANGLE;
 use qm_gadget::graph_of;
-use qm_net::{deviation, is_within_bounds, tangle_of};
+use qm_net::{are_lengths, deviation, is_within_bounds, tangle_of};
 use qm_nettext::{NetFail, read_net};
 use qm_solve::{is_start, old_multiple};
 use std::io;
@@ -27,7 +27,7 @@ fn main(rt: HostRuntime) -> io::Result<ExitCode> {
         return Ok(ExitCode::from(4));
     }
     let start = old_multiple(rt.alloc(), &net)?;
-    if !is_start(&net, &start) {
+    if !are_lengths(&net, &start) || !is_start(&net, &start) {
         return Ok(ExitCode::from(5));
     }
     let far = deviation(&net, &start);
