@@ -1,25 +1,14 @@
 -- The head line of a written text, and where the last one stands.
-use Rattle.std.specs.Prelude.{◌≡◌, ℕ, ◌<◌, Bool, true, false, nat_eq, if◌then◌else◌, Option, [], ◌∷◌, ◌++◌, codes, decimal, length, slice_index_or}
-use Rattle.std.specs.List.{list_any, starts_with}
+use Rattle.std.specs.Prelude.{◌≡◌, ℕ, ◌<◌, Bool, true, false, nat_eq, [], ◌++◌, codes, length, slice_index_or}
+use Rattle.std.specs.List.{starts_with}
 use Rattle.def_io.specs.Bytes.{Bytes, Lines}
-use Rattle.def_text.specs.declared.letters.TheConstants.{SLASH}
 use Rattle.def_flow.specs.declared.net.Settings.{Settings}
-use Rattle.def_flow.specs.declared.net.Weight.{Weight}
-use Rattle.def_flow.specs.declared.net.Weight.TheVariants.{Plain, Length}
-
--- How a floor is written: a chosen one as `auto`.
-abbrev pub floor_text : (floor : ℕ) (auto : Bool) → Bytes
-floor_text floor auto = if auto then codes "auto" else decimal floor
-
--- How the weights are named.
-abbrev pub weight_text : (weight : Weight) → Bytes
-weight_text Plain = codes "plain"
-weight_text Length = codes "length"
+use Rattle.def_certtext.specs.Settings.{floor_text, scale_text, weight_text}
 
 -- The head line of a remesh with these settings. The scale stands as it was given.
 abbrev pub head_line : (settings : Settings) (auto : Bool) → Bytes
 head_line settings auto =
-    codes "#quadq 1 remesh scale " ++ decimal settings.p ++ SLASH ∷ decimal settings.q
+    codes "#quadq 1 remesh scale " ++ scale_text settings
     ++ codes " floor " ++ floor_text settings.floor auto ++ codes " weight " ++ weight_text settings.weight
 
 -- A line that begins as a head line does.

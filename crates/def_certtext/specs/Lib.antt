@@ -1,2 +1,3 @@
 pub mod CertLines
 pub mod HeadLine
+pub mod Settings

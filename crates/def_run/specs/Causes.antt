@@ -14,13 +14,15 @@ use Rattle.def_run.specs.declared.answer.Answer.TheVariants.{Done, Usage, Limit,
 use Rattle.def_run.specs.declared.command.Command.{Command}
 use Rattle.def_run.specs.declared.command.Command.TheVariants.{Tidy}
 
--- The text that a command writes for the bytes that it read.
+-- The text that a command writes for the bytes that it read. One that is not built writes none.
 abbrev pub Writes : (command : Command) (bytes text : Bytes) → Type 0
 Writes Tidy bytes text = WritesTidied bytes text
+Writes command bytes text = ⊥
 
 -- The answer with which a command refuses the bytes that it read.
 abbrev pub Refuses : (command : Command) (bytes : Bytes) (answer : Answer) → Type 0
 Refuses Tidy bytes answer = RefusesToTidy bytes answer
+Refuses command bytes answer = ⊥
 
 -- The source gave bytes and ended, and the sink took the command's text for them.
 pub record Wrote (command : Command) (input out : Change) : Type 0 where
@@ -55,7 +57,7 @@ Cause command input out WriteFault = WroteFront command input out
 Cause command input out Memory = ⊤
 Cause command input out answer = Refused command input answer
 
--- The words are an accepted line, and the answer has its cause.
+-- The words are a command's line, and the answer has its cause.
 pub record Ran (words : Words) (input out : Change) (answer : Answer) : Type 0 where
   pub command : Command
   pub line : IsCommand words command

@@ -1,18 +1,67 @@
 -- The accepted command lines.
-use Rattle.std.specs.Prelude.{◌≡◌, [], ◌∷◌, codes}
+use Rattle.std.specs.Prelude.{◌≡◌, ◌≤◌, ℕ, Bool, true, false, [], ◌∷◌, codes, decimal}
 use Rattle.def_text.specs.Types.{Word, Words}
+use Rattle.def_flow.specs.declared.net.Settings.{Settings}
+use Rattle.def_certtext.specs.Settings.{floor_text, scale_text, weight_text, AreInRange}
+use Rattle.def_run.specs.Options.{value_of, AreOptions, Uses}
 use Rattle.def_run.specs.declared.command.Command.{Command}
-use Rattle.def_run.specs.declared.command.Command.TheVariants.{Tidy}
+use Rattle.def_run.specs.declared.command.Command.TheVariants.{Tidy, Graph, Refine, Remesh, Check, Bench}
+use Rattle.def_run.specs.declared.command.TheConstants.{MAX_MULTIPLE, MAX_SIZE}
 
 -- The word of a command.
 abbrev pub name_of : (command : Command) → Word
 name_of Tidy = codes "tidy"
+name_of Graph = codes "graph"
+name_of (Refine by) = codes "refine"
+name_of (Remesh settings auto) = codes "remesh"
+name_of Check = codes "check"
+name_of (Bench size) = codes "bench"
+
+-- The word is this whole number, from 1 to the greatest, in digits without a leading zero.
+pub record IsCount (greatest : ℕ) (word : Word) (n : ℕ) : Type 0 where
+  pub written : word ≡ decimal n
+  pub low : 1 ≤ n
+  pub high : n ≤ greatest
+
+-- The words are this one option, with this number.
+pub record HasCount (name : Word) (greatest : ℕ) (words : Words) (n : ℕ) : Type 0 where
+  pub uses : Uses
+  pub options : AreOptions (name ∷ []) words uses
+  pub count : IsCount greatest (value_of name uses) n
+
+-- The options of a remesh.
+abbrev pub remesh_options : Words
+remesh_options = codes "scale" ∷ codes "floor" ∷ codes "weight" ∷ []
+
+-- The words are the options of a remesh, with these settings.
+pub record HasSettings (words : Words) (settings : Settings) (auto : Bool) : Type 0 where
+  pub uses : Uses
+  pub options : AreOptions remesh_options words uses
+  pub scale : value_of (codes "scale") uses ≡ scale_text settings
+  pub floor : value_of (codes "floor") uses ≡ floor_text settings.floor auto
+  pub weight : value_of (codes "weight") uses ≡ weight_text settings.weight
+  pub in_range : AreInRange settings auto
+
+-- The words behind the word of a command are its options, each once.
+abbrev pub HasOptions : (command : Command) (words : Words) → Type 0
+HasOptions (Refine by) words = HasCount (codes "by") MAX_MULTIPLE words by
+HasOptions (Remesh settings auto) words = HasSettings words settings auto
+HasOptions (Bench size) words = HasCount (codes "size") MAX_SIZE words size
+HasOptions command words = words ≡ []
 
 -- These words, those after the program's name, are an accepted line of this command.
-abbrev pub IsCommand : (words : Words) (command : Command) → Type 0
-IsCommand words command = words ≡ name_of command ∷ []
+pub record IsCommand (words : Words) (command : Command) : Type 0 where
+  pub rest : Words
+  pub first : words ≡ name_of command ∷ rest
+  pub options : HasOptions command rest
+
+-- The commands that this program runs; the line of any other is refused as no accepted one.
+abbrev pub is_built : (command : Command) → Bool
+is_built Tidy = true
+is_built command = false
 
 -- These words are an accepted line.
 pub record IsAccepted (words : Words) : Type 0 where
   pub command : Command
   pub line : IsCommand words command
+  pub built : is_built command ≡ true

@@ -4,5 +4,6 @@ pub mod ErrorLines
 pub mod Exits
 pub mod Mesh
 pub mod Messages
+pub mod Options
 pub mod Status
 pub mod Tidy

@@ -1,7 +1,37 @@
-//! The commands.
+//! The commands and their limits.
+
+ghost use Rattle.std.specs.Prelude.{◌≡◌};
+ghost use Rattle.def_run.specs.CommandLines.{is_built};
+
+use def_flow::Settings;
+
+/// The greatest multiple of `refine`.
+pub const MAX_MULTIPLE: u32 = 1000;
+
+/// The greatest size of `bench`.
+pub const MAX_SIZE: u32 = 10_000;
+
+/// `=`, between the name of an option and its value.
+pub const EQUALS: u8 = b'=';
 
 /// What a command line asks for.
 #[derive(Clone, Copy, Debug, PartialEq, Eq)]
 pub enum Command {
     Tidy,
+    Graph,
+    /// Each length is this multiple of the old one.
+    Refine { by: u32 },
+    /// With `auto` the floor of the settings is 1, and rises where it must.
+    Remesh { settings: Settings, auto: bool },
+    Check,
+    Bench { size: u32 },
+}
+
+impl Command {
+    /// Whether this program runs the command. It refuses the line of any other as no accepted one.
+    pub fn is_built(&self) -> bool
+        ensures { result ≡ is_built self.now }
+    {
+        matches!(self, Command::Tidy)
+    }
 }

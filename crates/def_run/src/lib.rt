@@ -3,6 +3,8 @@
 
 mod answer;
 mod command;
+mod words;
 
 pub use answer::Answer;
-pub use command::Command;
+pub use command::{Command, EQUALS, MAX_MULTIPLE, MAX_SIZE};
+pub use words::WordsFail;

@@ -3,7 +3,8 @@
 ghost use Rattle.std.specs.Prelude.{◌≡◌, ◌≤◌, ◌++◌, ◌∷◌, [], codes, nat_eq, IfOk, IsTrue, OnOk, MatchOption};
 ghost use Rattle.std.specs.List.{starts_with};
 ghost use Rattle.def_io.specs.Lines.{lines_of};
-ghost use Rattle.def_certtext.specs.HeadLine.{begins_head, floor_text, head_line, HasNoHead, IsLastHead, weight_text};
+ghost use Rattle.def_certtext.specs.HeadLine.{begins_head, head_line, HasNoHead, IsLastHead};
+ghost use Rattle.def_certtext.specs.Settings.{floor_text, weight_text};
 
 use crate::Memory;
 use def_flow::{Settings, Weight};

@@ -1,5 +1,5 @@
 -- Bytes for which a command writes a text are not refused.
-use Rattle.std.proofs.Common.{◌≡◌, ◌≤◌, ◌<◌, ◌⊎◌, ℕ, List, [], ◌++◌, length, Option, Some, None, Result, Ok, Err, sym, ◌∙◌, ap, subst, arith, refl, inl, inr, length-append}
+use Rattle.std.proofs.Common.{◌≡◌, ◌≤◌, ◌<◌, ◌⊎◌, ℕ, List, [], ◌++◌, length, Option, Some, None, true, Result, Ok, Err, sym, ◌∙◌, ap, subst, arith, refl, inl, inr, length-append}
 use Rattle.std.proofs.lemmas.List.{append-nil}
 use Rattle.def_io.specs.Bytes.{Bytes, Told}
 use Rattle.def_io.specs.Faults.{Rose}
@@ -14,7 +14,12 @@ use Rattle.def_run.specs.Mesh.{IsMesh, IsNoMesh}
 use Rattle.def_run.specs.declared.answer.Answer.{Answer}
 use Rattle.def_run.specs.declared.answer.Answer.TheVariants.{Done, Usage, Syntax, NotQuad, Range, Limit, NotManifold, ReadFault, WriteFault, Memory}
 use Rattle.def_run.specs.declared.command.Command.{Command}
-use Rattle.def_run.specs.declared.command.Command.TheVariants.{Tidy}
+use Rattle.def_run.specs.declared.command.Command.TheVariants.{Tidy, Graph, Refine, Remesh, Check, Bench}
+use Rattle.def_run.specs.declared.words.WordsFail.{WordsFail}
+use Rattle.def_run.specs.declared.words.WordsFail.TheVariants as words_fail
+use Rattle.def_run.specs.CommandLines.{is_built, IsAccepted, IsCommand}
+use Rattle.def_text.specs.Types.{Words}
+use Rattle.qm_top.specs.Refusals.{answer_of_words}
 
 -- Bytes that have a mesh have no refusal of one.
 pub mesh_not_refused : (bytes : Bytes) (soup : FaceSet) (answer : Answer) → IsMesh bytes soup → IsNoMesh bytes answer → ⊥
@@ -35,6 +40,11 @@ mesh_not_refused bytes soup Memory mesh none = absurd none
 -- No command both writes a text for bytes and refuses them.
 not_both : (command : Command) (bytes text : Bytes) (answer : Answer) → Writes command bytes text → Refuses command bytes answer → ⊥
 not_both Tidy bytes text answer writes refuses = mesh_not_refused bytes writes.soup answer writes.mesh refuses
+not_both Graph bytes text answer writes refuses = absurd writes
+not_both (Refine by) bytes text answer writes refuses = absurd writes
+not_both (Remesh settings auto) bytes text answer writes refuses = absurd writes
+not_both Check bytes text answer writes refuses = absurd writes
+not_both (Bench size) bytes text answer writes refuses = absurd writes
 
 -- What a source gave whole is what it held.
 same_bytes : (before now : Told) (bytes held : Bytes) → before ≡ Some held → before ≡ gave bytes now → IsEmptied now → bytes ≡ held
@@ -78,16 +88,28 @@ completes command input out ReadFault why good = inr (inr (inl why))
 completes command input out WriteFault why good = inr (inr (inr why.fault))
 completes command input out Memory why good = inr (inl refl)
 
--- An accepted line has one command.
-pub one_command : (a b : Command) → a ≡ b
-one_command Tidy Tidy = refl
-
 -- The same of the answer that a run gives, and of a line's one command.
-pub completes_as : (read command : Command) (input out : Change) (answer said : Answer) → answer ≡ said → Cause read input out said
+pub completes_as : (read command : Command) (input out : Change) (answer said : Answer) → answer ≡ said → command ≡ read → Cause read input out said
     → IsGood command input.told
     → (answer ≡ Done) ⊎ ((answer ≡ Memory) ⊎ (Rose input.faults input.faults_now ⊎ Rose out.faults out.faults_now))
-completes_as read command input out answer said is cause good =
+completes_as read command input out answer said is one cause good =
     subst
     (λ (a : Answer). (a ≡ Done) ⊎ ((a ≡ Memory) ⊎ (Rose input.faults input.faults_now ⊎ Rose out.faults out.faults_now)))
     (sym is)
-    (completes read input out said cause (subst (λ (k : Command). IsGood k input.told) (one_command command read) good))
+    (completes read input out said cause (subst (λ (k : Command). IsGood k input.told) one good))
+
+-- A source with good bytes is one of a command that is built.
+good_built : (command : Command) (left : Told) → IsGood command left → is_built command ≡ true
+good_built Tidy left good = refl
+good_built Graph left good = absurd good.said
+good_built (Refine by) left good = absurd good.said
+good_built (Remesh settings auto) left good = absurd good.said
+good_built Check left good = absurd good.said
+good_built (Bench size) left good = absurd good.said
+
+-- Words that are no accepted line have no good bytes, unless memory is wanting.
+pub not_read : (words : Words) (command : Command) (left : Told) (fail : WordsFail) (answer : Answer) → answer ≡ answer_of_words fail
+    → IsCommand words command → IsGood command left → (fail ≡ words_fail.Usage → ¬ IsAccepted words) → answer ≡ Memory
+not_read words command left words_fail.Usage answer is line good refused =
+    absurd (refused refl (record { command = command; line = line; built = good_built command left good }))
+not_read words command left words_fail.Memory answer is line good refused = is

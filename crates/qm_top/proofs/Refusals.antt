@@ -1,6 +1,6 @@
 -- Refusals of the steps of a run as answers with their causes.
 use Rattle.std.specs.Prelude.{IfErr, IsErrAnd}
-use Rattle.std.proofs.Common.{◌≡◌, ◌≢◌, ℕ, List, Result, Ok, Err, sym, ap, ◌∙◌, subst, refl}
+use Rattle.std.proofs.Common.{◌≡◌, ◌≢◌, ℕ, List, [], Result, Ok, Err, sym, ap, ◌∙◌, subst, refl}
 use Rattle.def_io.specs.Bytes.{Bytes}
 use Rattle.def_io.specs.Moves.{Change}
 use Rattle.def_io.specs.declared.fails.WriteFail.{WriteFail}
@@ -24,7 +24,9 @@ use Rattle.qm_top.specs.declared.refusal.Refusal.TheVariants.{Soup, NotManifold,
 use Rattle.qm_top.specs.declared.refusal.Refusal.TheVariants as refusals
 use Rattle.def_run.specs.ErrorLines.{error_line}
 use Rattle.def_run.specs.Messages.{AreNames, Said, SaidWhy}
-use Rattle.qm_top.specs.Refusals.{answer_of, answer_of_obj, names_of, Ended, IsInputRefusal, IsNoMeshOf}
+use Rattle.def_run.specs.declared.words.WordsFail.{WordsFail}
+use Rattle.def_run.specs.declared.words.WordsFail.TheVariants as words
+use Rattle.qm_top.specs.Refusals.{answer_of, answer_of_obj, answer_of_words, names_of, Ended, IsInputRefusal, IsNoMeshOf}
 use Rattle.qm_top.proofs.NeverBytes.{never_bytes}
 
 -- A command that refuses what has no mesh.
@@ -106,3 +108,17 @@ pub handed_on : {T : Type 0} (command : Command) (input out : Change) (result : 
     → IsErrAnd result (λ e. e ≡ r) → Ended command input out r → IfErr result (Ended command input out)
 handed_on command input out (Ok x) r is ended = absurd is
 handed_on command input out (Err e) r is ended = subst (Ended command input out) (sym is) ended
+
+-- No answer to words names a place.
+words_place : (fail : WordsFail) (p : Place) → answer_of_words fail ≡ answers.NotManifold p → ⊥
+words_place words.Usage p is = cc
+words_place words.Memory p is = cc
+
+-- The line that was said of words has their answer.
+pub says_words : (input err : Change) (fail : WordsFail) (answer : Answer) (line : Bytes) → answer ≡ answer_of_words fail
+    → line ≡ error_line [] answer → Said line err → SaidWhy input err answer
+says_words input err fail answer line is says said = record {
+  names = [];
+  of_the_file = λ p named. absurd (words_place fail p (sym is ∙ named));
+  said = subst (λ (l : Bytes). Said l err) says said;
+}

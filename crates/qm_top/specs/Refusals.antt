@@ -15,12 +15,19 @@ use Rattle.def_text.specs.declared.refusal.Which.TheVariants.{Bytes}
 use Rattle.def_run.specs.Causes.{Cause, Wrote}
 use Rattle.def_run.specs.Messages.{AreNames}
 use Rattle.def_run.specs.declared.answer.Answer.{Answer}
-use Rattle.def_run.specs.declared.answer.Answer.TheVariants.{Syntax, NotQuad, Range, Limit, ReadFault, WriteFault, Memory}
+use Rattle.def_run.specs.declared.answer.Answer.TheVariants.{Usage, Syntax, NotQuad, Range, Limit, ReadFault, WriteFault, Memory}
 use Rattle.def_run.specs.declared.answer.Answer.TheVariants as answers
 use Rattle.def_run.specs.declared.command.Command.{Command}
+use Rattle.def_run.specs.declared.words.WordsFail.{WordsFail}
+use Rattle.def_run.specs.declared.words.WordsFail.TheVariants as words
 use Rattle.qm_top.specs.declared.refusal.Refusal.{Refusal}
 use Rattle.qm_top.specs.declared.refusal.Refusal.TheVariants.{Soup, NotManifold, Write}
 use Rattle.qm_top.specs.declared.refusal.Refusal.TheVariants as refusals
+
+-- The answer to words that are no command.
+abbrev pub answer_of_words : (fail : WordsFail) → Answer
+answer_of_words words.Usage = Usage
+answer_of_words words.Memory = Memory
 
 -- The answer to a text that has no soup.
 abbrev pub answer_of_obj : (fail : ObjFail) → Answer

@@ -1,17 +1,17 @@
 //! One command line, from its words to its answer.
 
-ghost use Rattle.std.specs.Prelude.{◌≡◌, ◌≢◌, ◌⊎◌, map, string_bytes, OnOk, IfErr};
+ghost use Rattle.std.specs.Prelude.{◌≡◌, ◌≢◌, ◌⊎◌, true, map, string_bytes, OnOk, IfErr};
 ghost use Rattle.def_io.specs.Faults.{Rose};
 ghost use Rattle.def_io.specs.Moves.{change};
-ghost use Rattle.def_run.specs.CommandLines.{IsAccepted, IsCommand};
+ghost use Rattle.def_run.specs.CommandLines.{is_built, IsAccepted, IsCommand};
 ghost use Rattle.def_run.specs.Causes.{IsGood, Ran};
 ghost use Rattle.def_run.specs.Messages.{Said, SaidWhy};
 ghost use Rattle.qm_top.specs.Refusals.{answer_of, Ended, Finished};
 
 use crate::error_line::error_line_of;
-use crate::refusal::Refusal;
+use crate::refusal::{Refusal, words_answer};
 use crate::tidy::tidy;
-use crate::words::read_words;
+use crate::words::command_of;
 use def_run::{Answer, Command};
 use qm_io::{Sink, Source, write_all};
 use qm_print::Line;
@@ -29,7 +29,7 @@ pub fn run<S: Source, O: Sink, E: Sink>(
     err: &mut E,
 ) -> Answer
     ensures usage { result ≡ Answer.Usage → ¬ IsAccepted (map string_bytes words.now) }
-    ensures ran { result ≢ Answer.Usage → Ran (map string_bytes words.now)
+    ensures ran { result ≢ Answer.Usage → result ≢ Answer.Memory → Ran (map string_bytes words.now)
         (change (S.left input.old) (S.left input.new) (S.faults input.old) (S.faults input.new))
         (change (O.taken out.old) (O.taken out.new) (O.faults out.old) (O.faults out.new)) result }
 
@@ -48,9 +48,13 @@ pub fn run<S: Source, O: Sink, E: Sink>(
         (change (S.left input.old) (S.left input.new) (S.faults input.old) (S.faults input.new))
         (change (E.taken err.old) (E.taken err.new) (E.faults err.old) (E.faults err.new)) result }
 {
-    let Some(command) = read_words(words) else {
-        say(err, &error_line_of(&Answer::Usage, &[]));
-        return Answer::Usage;
+    let command = match command_of(words) {
+        Ok(command) => command,
+        Err(fail) => {
+            let answer = words_answer(fail);
+            say(err, &error_line_of(&answer, &[]));
+            return answer;
+        }
     };
     match run_command(alloc, command, input, out) {
         Ok(()) => Answer::Done,
@@ -62,12 +66,14 @@ pub fn run<S: Source, O: Sink, E: Sink>(
     }
 }
 
+/// Runs a command that is built.
 fn run_command<S: Source, O: Sink>(
     alloc: Global,
     command: Command,
     input: &mut S,
     out: &mut O,
 ) -> Result<(), Refusal>
+    requires { is_built command ≡ true }
     ensures done { OnOk result (Finished command
         (change (S.left input.old) (S.left input.new) (S.faults input.old) (S.faults input.new))
         (change (O.taken out.old) (O.taken out.new) (O.faults out.old) (O.faults out.new))) }
@@ -78,6 +84,7 @@ fn run_command<S: Source, O: Sink>(
 {
     match command {
         Command::Tidy => tidy(alloc, input, out),
+        _ => unreachable!(),
     }
 }
 

@@ -1,12 +1,12 @@
 //! Why a command ends without its output.
 
 ghost use Rattle.std.specs.Prelude.{◌≡◌, ◌≢◌};
-ghost use Rattle.qm_top.specs.Refusals.{answer_of, answer_of_obj, answer_of_soup, names_of};
+ghost use Rattle.qm_top.specs.Refusals.{answer_of, answer_of_obj, answer_of_soup, answer_of_words, names_of};
 ghost use Rattle.qm_top.specs.declared.refusal.Refusal.TheVariants as refusals;
 
 use def_io::WriteFail;
 use def_mesh::Place;
-use def_run::Answer;
+use def_run::{Answer, WordsFail};
 use def_text::{ObjFail, SoupFail, Which};
 use std::alloc::AllocError;
 
@@ -67,6 +67,16 @@ impl From<AllocError> for Refusal {
 
     fn from(_: AllocError) -> Refusal {
         Refusal::Memory
+    }
+}
+
+/// The answer to words that are no command.
+pub(crate) fn words_answer(fail: WordsFail) -> Answer
+    ensures { result ≡ answer_of_words fail }
+{
+    match fail {
+        WordsFail::Usage => Answer::Usage,
+        WordsFail::Memory => Answer::Memory,
     }
 }
 

@@ -1,18 +1,21 @@
 //! The words of a command line.
 
-ghost use Rattle.std.specs.Prelude.{◌≡◌, ◌↔◌, ◌∷◌, [], map, string_bytes, IsTrue, MatchOption};
-ghost use Rattle.def_run.specs.CommandLines.{IsAccepted, IsCommand};
+ghost use Rattle.std.specs.Prelude.{◌≡◌, ◌↔◌, ◌∷◌, [], true, map, string_bytes, IfOk, IfErr, IsTrue};
+ghost use Rattle.def_run.specs.CommandLines.{is_built, IsAccepted, IsCommand};
 
-use def_run::Command;
+use def_run::{Command, WordsFail};
 
-/// The command that these words, those after the program's name, ask for.
-pub(crate) fn read_words(words: &[String]) -> Option<Command>
-    ensures { MatchOption result (¬ IsAccepted (map string_bytes words.now)) (IsCommand (map string_bytes words.now)) }
+/// The command that these words, those after the program's name, ask for, where the program runs it.
+pub(crate) fn command_of(words: &[String]) -> Result<Command, WordsFail>
+    ensures reads { IfOk result (IsCommand (map string_bytes words.now)) }
+    ensures built { IfOk result (λ command. is_built command ≡ true) }
+    ensures only { IfOk result (λ command. (other : Command) → IsCommand (map string_bytes words.now) other → other ≡ command) }
+    ensures refuses { IfErr result (λ fail. fail ≡ WordsFail.Usage → ¬ IsAccepted (map string_bytes words.now)) }
 {
     if is_lone(words, "tidy") {
-        return Some(Command::Tidy);
+        return Ok(Command::Tidy);
     }
-    None
+    Err(WordsFail::Usage)
 }
 
 /// Whether the words are this one alone.

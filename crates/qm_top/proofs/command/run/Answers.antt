@@ -1,12 +1,22 @@
-use Rattle.qm_top.proofs.Complete.{completes_as}
-use Rattle.qm_top.proofs.Refusals.{says_why}
+use Rattle.std.proofs.Common.{inl, inr}
+use Rattle.qm_top.proofs.Complete.{completes_as, not_read}
+use Rattle.qm_top.proofs.Refusals.{says_why, says_words}
 use Rattle.qm_top.proofs.command.run.Goals as goal
 
 pub returns-in-Err-clause-complete : goal.returns-in-Err-clause-complete
 returns-in-Err-clause-complete g c = λ command line good.
-    completes_as c.in-Some.command command _ _ c.answer-answer.result _ c.answer-answer.ensures.answer c.in-Err.ensures.refused.cause good
+    inr (inl (not_read _ command _ c.in-Err.fail c.words_answer-answer.result c.words_answer-answer.ensures line good c.in-Err.ensures.refuses))
 
 pub returns-in-Err-clause-told : goal.returns-in-Err-clause-told
 returns-in-Err-clause-told g c = λ refused.
-    says_why _ _ c.in-Err.refusal c.answer-answer.result c.names.result.now _ c.answer-answer.ensures.answer c.names.ensures
-    c.in-Err.ensures.refused.names c.error_line_of-in-Err.ensures c.say-in-Err.ensures
+    says_words _ _ c.in-Err.fail c.words_answer-answer.result _ c.words_answer-answer.ensures c.error_line_of.ensures c.say.ensures
+
+pub returns-in-Err-run_command-clause-complete : goal.returns-in-Err-run_command-clause-complete
+returns-in-Err-run_command-clause-complete g c = λ command line good.
+    completes_as c.in-Ok.command command _ _ c.answer-answer.result _ c.answer-answer.ensures.answer (c.in-Ok.ensures.only command line)
+    c.in-Err-run_command.ensures.refused.cause good
+
+pub returns-in-Err-run_command-clause-told : goal.returns-in-Err-run_command-clause-told
+returns-in-Err-run_command-clause-told g c = λ refused.
+    says_why _ _ c.in-Err-run_command.refusal c.answer-answer.result c.names.result.now _ c.answer-answer.ensures.answer c.names.ensures
+    c.in-Err-run_command.ensures.refused.names c.error_line_of-in-Err-run_command.ensures c.say-in-Err-run_command.ensures
