@@ -35,11 +35,11 @@ pub fn euler(_alloc: Global, mesh: &Mesh) -> Result<i64, Memory>
     ensures { result ≡ Ok (euler_of mesh.now) }
 {
     let faces = mesh.faces().len() as i64;
-    Ok(mesh.vertices() as i64 - edges(mesh) as i64 + faces)
+    Ok(mesh.vertices() as i64 - edge_count(mesh) as i64 + faces)
 }
 
-/// How many edges there are.
-fn edges(mesh: &Mesh) -> u32
+/// How many edges there are. Linear in the darts.
+pub fn edge_count(mesh: &Mesh) -> u32
     ensures { result ≡ edge_count mesh.now }
 {
     let mut edges = 0;

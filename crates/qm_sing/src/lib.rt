@@ -7,7 +7,7 @@ mod flooding;
 mod origins;
 mod rings;
 
-pub use classes::{classify, euler};
+pub use classes::{classify, edge_count, euler};
 pub use def_mesh::{Kind, Starts};
 pub use flooding::components;
 pub use origins::sources;

@@ -2,8 +2,8 @@ use Rattle.std.proofs.Common.{ℕ, cond, Bool, ap, ◌∙◌, arith}
 use Rattle.def_mesh.specs.Darts.{twin_of}
 use Rattle.def_mesh.specs.Components.{is_lesser}
 use Rattle.qm_sing.proofs.Edges.{filter_few, one_more}
-use Rattle.qm_sing.proofs.classes.edges.Goals.{then-is_lesser_dart, else-is_lesser_dart}
-use Rattle.qm_sing.proofs.classes.edges.Goals as goal
+use Rattle.qm_sing.proofs.classes.edge_count.Goals.{then-is_lesser_dart, else-is_lesser_dart}
+use Rattle.qm_sing.proofs.classes.edge_count.Goals as goal
 
 pub overflow_add-edges : goal.overflow_add-edges
 overflow_add-edges c = omega (arith, c.loop-d.invariant, filter_few (λ d. is_lesser d (twin_of c.args.mesh.now d)) c.loop-d.d, c.loop-d-test.true, c.faces.ensures.mesh.few, ap Rattle.std.proofs.Common.length c.faces.ensures.value)

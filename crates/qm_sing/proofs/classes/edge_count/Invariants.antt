@@ -2,7 +2,7 @@ use Rattle.std.proofs.Common.{◌≡◌, length}
 use Rattle.std.specs.List.{filter, range_with_len}
 use Rattle.def_mesh.specs.Darts.{twin_of}
 use Rattle.def_mesh.specs.Components.{is_lesser}
-use Rattle.qm_sing.proofs.classes.edges.Given as goal
+use Rattle.qm_sing.proofs.classes.edge_count.Given as goal
 
 -- The edges of the darts before d have been counted.
 abbrev pub invariant-loop-d : goal.invariant-loop-d
