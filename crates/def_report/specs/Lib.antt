@@ -1,1 +1,2 @@
 pub mod BenchLine
+pub mod GraphText

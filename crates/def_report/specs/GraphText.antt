@@ -1,0 +1,109 @@
+-- The text of a traced mesh with its layout. Vertices, arcs and patches count from 1.
+use Rattle.std.specs.Prelude.{ℕ, ◌+◌, List, [], ◌∷◌, ◌++◌, length, map, codes, decimal}
+use Rattle.std.specs.Fmt.{signed_decimal}
+use Rattle.std.specs.List.{flat_map, range_with_len}
+use Rattle.def_io.specs.Bytes.{Bytes}
+use Rattle.def_io.specs.declared.TheConstants.{LINE_FEED}
+use Rattle.def_text.specs.declared.letters.TheConstants.{SPACE}
+use Rattle.def_mesh.specs.Faces.{Faces}
+use Rattle.def_mesh.specs.Darts.{from_of, to_of}
+use Rattle.def_mesh.specs.Vertices.{all_vertices, vertex_count, faces_at}
+use Rattle.def_mesh.specs.Kinds.{kind_of}
+use Rattle.def_mesh.specs.Components.{edge_count, euler, least_faces, seeds}
+use Rattle.def_mesh.specs.declared.Kind.{Kind}
+use Rattle.def_mesh.specs.declared.Kind.TheVariants.{Regular, Singular, Corner, Reflex}
+use Rattle.def_cut.specs.Grids.{Rectangle, patch_at}
+use Rattle.def_cut.specs.declared.graph.Rider.{Rider}
+use Rattle.def_cut.specs.declared.graph.Stop.{Stop}
+use Rattle.def_cut.specs.declared.graph.Stop.TheVariants as stop
+use Rattle.def_layout.specs.Arcs.{arc_at, long_at}
+use Rattle.def_layout.specs.Layouts.{Way, south, east, north, west}
+use Rattle.def_layout.specs.Plans.{Plan, side_at, vertex_at}
+use Rattle.def_layout.specs.declared.tmesh.SideArc.{SideArc}
+
+-- Numbers, each after a space.
+abbrev pub numbers_text : (numbers : List ℕ) → Bytes
+numbers_text numbers = flat_map (λ n. SPACE ∷ decimal n) numbers
+
+-- A line of a word and numbers.
+abbrev pub line_of : (word : Bytes) (numbers : List ℕ) → Bytes
+line_of word numbers = word ++ numbers_text numbers ++ LINE_FEED ∷ []
+
+-- How many vertices, edges, faces and components there are, and Euler's number.
+abbrev pub counts_line : (faces : Faces) → Bytes
+counts_line faces =
+    codes "vertices " ++ decimal (vertex_count faces)
+    ++ codes " edges " ++ decimal (edge_count faces)
+    ++ codes " faces " ++ decimal (length faces)
+    ++ codes " euler " ++ signed_decimal (euler faces)
+    ++ codes " components " ++ decimal (length (least_faces faces)) ++ LINE_FEED ∷ []
+
+-- The line of a vertex of some kind with so many faces. Regular vertices have none.
+abbrev pub kind_line : (kind : Kind) (vertex faces_there : ℕ) → Bytes
+kind_line Regular vertex faces_there = []
+kind_line Singular vertex faces_there = line_of (codes "singular") ((vertex + 1) ∷ faces_there ∷ [])
+kind_line Corner vertex faces_there = line_of (codes "corner") ((vertex + 1) ∷ faces_there ∷ [])
+kind_line Reflex vertex faces_there = line_of (codes "reflex") ((vertex + 1) ∷ faces_there ∷ [])
+
+-- The line of a vertex of a mesh.
+abbrev pub vertex_line : (faces : Faces) (vertex : ℕ) → Bytes
+vertex_line faces vertex = kind_line (kind_of faces vertex) vertex (faces_at faces vertex)
+
+-- The line of a seed.
+abbrev pub seed_line : (vertex : ℕ) → Bytes
+seed_line vertex = line_of (codes "seed") ((vertex + 1) ∷ [])
+
+-- Why a rider stopped, and where, at the end of its line.
+abbrev pub stop_line : (stop : Stop) → Bytes
+stop_line (stop.Middle from to) = line_of (codes " middle") ((from + 1) ∷ (to + 1) ∷ [])
+stop_line (stop.Boundary vertex) = line_of (codes " boundary") ((vertex + 1) ∷ [])
+stop_line (stop.Singular vertex) = line_of (codes " singular") ((vertex + 1) ∷ [])
+stop_line (stop.Trail vertex) = line_of (codes " trail") ((vertex + 1) ∷ [])
+stop_line (stop.Tie vertex) = line_of (codes " tie") ((vertex + 1) ∷ [])
+
+-- The line of a rider: the ends of its first dart, its rides, and its stop.
+abbrev pub rider_line : (faces : Faces) (rider : Rider) → Bytes
+rider_line faces rider = codes "rider"
+    ++ numbers_text ((from_of faces rider.start + 1) ∷ (to_of faces rider.start + 1) ∷ rider.rides ∷ [])
+    ++ stop_line rider.stop
+
+-- The line of an arc: its number, the vertices at its ends, and its length.
+abbrev pub arc_line : (plan : Plan) (arc : ℕ) → Bytes
+arc_line plan arc = line_of (codes "arc")
+    ((arc + 1) ∷ (vertex_at plan (arc_at plan.arcs arc).first + 1)
+    ∷ (vertex_at plan (arc_at plan.arcs arc).last + 1) ∷ long_at plan.arcs arc ∷ [])
+
+-- The word of a side.
+abbrev pub side_word : (side : Way) → Bytes
+side_word south = codes "south"
+side_word east = codes "east"
+side_word north = codes "north"
+side_word west = codes "west"
+
+-- The line of a side of a patch: its arcs, in order.
+abbrev pub side_line : (plan : Plan) (patch : ℕ) (side : Way) → Bytes
+side_line plan patch side = line_of (side_word side) (map (λ (used : SideArc). used.arc + 1) (side_at plan patch side))
+
+-- The line of a patch: its number, its width and its height.
+abbrev pub size_line : (plan : Plan) (patch : ℕ) → Bytes
+size_line plan patch =
+    line_of (codes "patch") ((patch + 1) ∷ (patch_at plan.patches patch).w ∷ (patch_at plan.patches patch).h ∷ [])
+
+-- The lines of its sides.
+abbrev pub side_lines : (plan : Plan) (patch : ℕ) → Bytes
+side_lines plan patch = side_line plan patch south ++ side_line plan patch east
+    ++ side_line plan patch north ++ side_line plan patch west
+
+-- The lines of a patch and its sides.
+abbrev pub patch_lines : (plan : Plan) (patch : ℕ) → Bytes
+patch_lines plan patch = size_line plan patch ++ side_lines plan patch
+
+-- The whole text of a mesh with these riders and this layout.
+abbrev pub graph_text : (faces : Faces) (riders : List Rider) (plan : Plan) → Bytes
+graph_text faces riders plan = codes "quadq graph 1\n"
+    ++ counts_line faces
+    ++ flat_map (vertex_line faces) (all_vertices faces)
+    ++ flat_map seed_line (seeds faces)
+    ++ flat_map (rider_line faces) riders
+    ++ flat_map (arc_line plan) (range_with_len 0 (length plan.arcs))
+    ++ flat_map (patch_lines plan) (range_with_len 0 (length plan.patches))

@@ -1,0 +1,39 @@
+use mir.Syntax.{w64, w128}
+use Rattle.std.proofs.Common.{◌≡◌, ◌≤◌, ℤ, ◌++◌, ◌∷◌, [], length}
+use Rattle.std.proofs.Common.{to_z, of_z, Result, Ok, ap, sym, ◌∙◌, arith}
+use Rattle.std.proofs.lemmas.Int.{ints}
+use Rattle.std.specs.Prelude.{codes}
+use Rattle.def_io.specs.declared.TheConstants.{LINE_FEED}
+use Rattle.def_mesh.specs.Components.{edge_count, euler, is_lesser, used_count}
+use Rattle.def_mesh.specs.Darts.{darts, twin_of}
+use Rattle.def_mesh.specs.Vertices.{is_used, vertex_count}
+use Rattle.qm_report.proofs.TableReads.{filter_few}
+use Rattle.qm_report.proofs.Texts.{behind, nothing_behind, number_behind, signed_behind}
+use Rattle.qm_report.proofs.graph.push_counts.Goals as goal
+
+pub returns : goal.returns
+returns c =
+    let mesh = c.args.mesh.now in
+    let said : Ok c.in_ok-euler.field-0 ≡ Ok (euler mesh) = sym c.in_ok-euler.was ∙ c.euler.ensures in
+    let is : c.in_ok-euler.field-0 ≡ euler mesh = cc in
+    let used : used_count mesh ≤ vertex_count mesh = filter_few (is_used mesh) (vertex_count mesh) in
+    let edges : edge_count mesh ≤ darts mesh = filter_few (λ d. is_lesser d (twin_of mesh d)) (darts mesh) in
+    let fits : to_z w128 (of_z w128 (to_z w64 (of_z w64 c.in_ok-euler.field-0))) ≡ c.in_ok-euler.field-0 =
+    omega (arith, ints, is, used, edges, c.faces.ensures.mesh.few, c.vertices.ensures.value, c.vertices.type_inv) in
+    let passed = ap (λ (z : ℤ). to_z w128 (of_z w128 z)) c.from.ensures ∙ (fits ∙ is) in
+    let t = c.args.text.now.items in
+    let t1 = c.push_count.new.text.items in
+    let t2 = c.push_count-2.new.text.items in
+    let t3 = c.push_count-3.new.text.items in
+    let t4 = c.push_signed.new.text.items in
+    let t5 = c.push_count-4.new.text.items in
+    let vertices = number_behind t [] (codes "vertices ") _ _ t t1
+    c.vertices.ensures.value (nothing_behind t) c.in_ok-push_count.ensures in
+    let edges = number_behind t _ (codes " edges ") _ _ t1 t2
+    c.edge_count.ensures vertices c.in_ok-push_count-2.ensures in
+    let faces = number_behind t _ (codes " faces ") _ _ t2 t3
+    (ap length c.faces.ensures.value) edges c.in_ok-push_count-3.ensures in
+    let euler = signed_behind t _ (codes " euler ") _ (euler mesh) t3 t4 faces c.in_ok-push_signed.ensures passed in
+    let components = number_behind t _ (codes " components ") _ _ t4 t5
+    c.requires euler c.in_ok-push_count-4.ensures in
+    behind t _ (LINE_FEED ∷ []) t5 c.push.new.self.items components c.in_ok-push.ensures.items

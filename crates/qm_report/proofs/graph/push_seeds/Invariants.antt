@@ -1,0 +1,7 @@
+use Rattle.std.proofs.Common.{◌≡◌, ◌++◌, take}
+use Rattle.std.specs.List.{flat_map}
+use Rattle.def_report.specs.GraphText.{seed_line}
+use Rattle.qm_report.proofs.graph.push_seeds.Given as goal
+
+abbrev pub invariant-loop-seed : goal.invariant-loop-seed
+invariant-loop-seed l = l.text.items ≡ l.fn.text.items ++ flat_map seed_line (take l.seed-index l.seeds)

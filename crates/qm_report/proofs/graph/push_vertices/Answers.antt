@@ -1,0 +1,34 @@
+use Rattle.std.proofs.Common.{◌≡◌, ◌<◌, ℕ, ◌++◌, length, get_or, ap, ◌∙◌, arith}
+use Rattle.std.proofs.lemmas.List.{length-map}
+use Rattle.std.proofs.lemmas.List.FromFn.{length-range_with_len}
+use Rattle.def_mesh.specs.Kinds.{kind_of}
+use Rattle.def_mesh.specs.Vertices.{all_vertices, vertex_count}
+use Rattle.def_mesh.specs.declared.Kind.{Kind}
+use Rattle.def_mesh.specs.declared.Kind.TheVariants.{Regular}
+use Rattle.def_report.specs.GraphText.{kind_line, vertex_line}
+use Rattle.qm_report.proofs.TableReads.{read_kind}
+use Rattle.qm_report.proofs.Texts.{piece_behind}
+use Rattle.qm_report.proofs.graph.push_vertices.Goals as goal
+
+pub bounds-kinds-v : goal.bounds-kinds-v
+bounds-kinds-v c = omega (
+  arith,
+  c.loop-v-test.true,
+  c.vertices-v-end.ensures.value,
+  ap length c.requires,
+  length-map (all_vertices c.args.mesh.now) (kind_of c.args.mesh.now),
+  length-range_with_len 0 (vertex_count c.args.mesh.now),
+)
+
+pub loop-v-preserved : goal.loop-v-preserved
+loop-v-preserved c =
+    let mesh = c.args.mesh.now in
+    let v = c.loop-v.v in
+    let t = c.loop-v.text.items in
+    let low : v < vertex_count mesh = omega (arith, c.loop-v-test.true, c.vertices-v-end.ensures.value) in
+    let kind = read_kind mesh c.args.kinds.now v Regular low c.requires in
+    let line : c.push_vertex.new.text.items ≡ t ++ vertex_line mesh v =
+    c.in_ok-push_vertex.ensures
+    ∙ (ap (λ (k : Kind). t ++ kind_line k v c.faces_at.result) kind
+    ∙ ap (λ (n : ℕ). t ++ kind_line (kind_of mesh v) v n) c.faces_at.ensures) in
+    piece_behind (vertex_line mesh) v c.args.text.now.items t c.push_vertex.new.text.items c.loop-v.invariant line

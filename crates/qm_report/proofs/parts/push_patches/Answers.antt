@@ -1,0 +1,15 @@
+use Rattle.std.proofs.Common.{◌≡◌, ◌++◌, ◌∙◌, ap}
+use Rattle.std.proofs.lemmas.List.{append_assoc}
+use Rattle.def_layout.specs.Plans.{plan}
+use Rattle.def_report.specs.GraphText.{patch_lines, side_lines, size_line}
+use Rattle.qm_report.proofs.Texts.{behind, piece_behind}
+use Rattle.qm_report.proofs.parts.push_patches.Goals as goal
+
+pub loop-p-preserved : goal.loop-p-preserved
+loop-p-preserved c =
+    let layout = plan c.args.t.now in
+    let t = c.loop-p.text.items in
+    let now = c.push_sides.new.text.items in
+    let both = behind t (size_line layout c.loop-p.p) (side_lines layout c.loop-p.p) c.push_size.new.text.items now
+    c.in_ok-push_size.ensures c.in_ok-push_sides.ensures in
+    piece_behind (patch_lines layout) c.loop-p.p c.args.text.now.items t now c.loop-p.invariant both
