@@ -28,6 +28,8 @@ pub record ForestTables : Type 0 where
   pub head : List Blossom
   pub parts : List ℕ
   pub rank : List ℕ
+  -- The vertices whose outermost blossoms got a place in the tree since the search began.
+  pub trail : List Vertex
 
 -- The outermost blossom of a vertex, by its handle.
 abbrev pub out_of : (hand top : List ℕ) (v : Vertex) → Blossom

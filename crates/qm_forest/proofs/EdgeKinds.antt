@@ -1,17 +1,17 @@
 -- What an edge's kind says of its dart that begins in an outer blossom.
-use Rattle.std.proofs.Common.{◌≡◌, ◌≢◌, ℕ, ◌+◌, ◌*◌, ◌<◌, ◌≤◌, Bool, true, false, cond, eqb, length, ℤ, pos, ◌+ℤ◌, ◌-ℤ◌, ◌*ℤ◌, ◌≤ℤ◌, Option, Some, None, is_some, ◌⊎◌, refl, sym, ◌∙◌, ap, subst, inl, inr, arith}
+use Rattle.std.proofs.Common.{◌≡◌, ◌≢◌, ℕ, ◌+◌, ◌*◌, ◌<◌, Bool, true, false, cond, eqb, length, ℤ, pos, ◌+ℤ◌, ◌-ℤ◌, ◌*ℤ◌, ◌≤ℤ◌, Option, is_some, ◌⊎◌, refl, sym, ◌∙◌, ap, subst, inl, inr, arith}
 use Rattle.std.specs.Prelude.{int_lt}
 use Rattle.std.proofs.lemmas.Int.{ints}
 use Rattle.std.proofs.lemmas.Bool.{cases_Bool, cond-true, cond-false}
-use Rattle.def_matching.specs.Matching.{IsSmallGraph, Graph, IsGraph, edge_at}
-use Rattle.def_forest.specs.Darts.{Darts, AreDarts, darts_of, twin_of, far}
+use Rattle.def_matching.specs.Matching.{IsSmallGraph, Graph, edge_at}
+use Rattle.def_forest.specs.Darts.{darts_of, twin_of, far}
 use Rattle.def_forest.specs.Forests.{Forest, load, IsTight}
 use Rattle.def_forest.specs.Tables.{kind_of, kind_by, slack_of, outer_dart, dart_by}
 use Rattle.def_forest.specs.Valid.{IsFeasible}
 use Rattle.def_forest.specs.declared.kinds.Label.{Label}
 use Rattle.def_forest.specs.declared.kinds.Label.TheVariants.{Outer, Inner, Outside}
 use Rattle.def_forest.specs.declared.kinds.EdgeKind.{EdgeKind}
-use Rattle.def_forest.specs.declared.kinds.EdgeKind.TheVariants.{Loose, Augment, Grow, Shrink, Idle}
+use Rattle.def_forest.specs.declared.kinds.EdgeKind.TheVariants.{Loose, Augment, Grow}
 use Rattle.def_forest.specs.Ways.{Reaches}
 use Rattle.forest_laws.proofs.Facts.{tight_twin, far_twin}
 use Rattle.forest_laws.proofs.Graphs.{are_darts, twin_even, dart_near, dart_far, dart_cost}

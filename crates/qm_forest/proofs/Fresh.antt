@@ -1,23 +1,25 @@
 -- The tables of a forest of single vertices are tied, and valid for a graph whose costs the weights stay below.
-use Rattle.std.proofs.Common.{◌≡◌, ◌≢◌, ℕ, zero, suc, ◌+◌, ◌-◌, ◌*◌, ◌/◌, ◌%◌, ◌<◌, ◌≤◌, ◌^◌, Bool, true, false, not, cond, eqb, ◌||◌, List, length, get_or, replicate, ℤ, pos, ◌+ℤ◌, ◌-ℤ◌, ◌≤ℤ◌, ◌⊎◌, Option, Some, None, refl, sym, ◌∙◌, ap, subst, inl, inr, arith}
+use Rattle.std.proofs.Common.{◌≡◌, ◌≢◌, ℕ, zero, suc, ◌+◌, ◌-◌, ◌*◌, ◌/◌, ◌%◌, ◌<◌, ◌≤◌, ◌^◌, Bool, true, false, cond, eqb, ◌||◌, List, length, get_or, replicate, ℤ, pos, ◌+ℤ◌, ◌≤ℤ◌, ◌⊎◌, Option, Some, None, refl, sym, ◌∙◌, ap, subst, inl, inr, arith}
 use Rattle.std.specs.Prelude.{unsigned_abs}
 use Rattle.std.proofs.lemmas.Int.{ints}
 use Rattle.std.proofs.lemmas.List.{get_or-replicate, length-replicate, get_or_past}
 use Rattle.std.proofs.lemmas.Bool.{cases_eq, cases_lt, cond-true, cond-false, eq-eqb, ne_eqb, eqb-true}
-use Rattle.def_math.specs.Sums.{total_below}
 use Rattle.qm_laws.proofs.Sums.{total_below_one}
-use Rattle.def_matching.specs.Matching.{Graph, IsGraph, IsSmallGraph, edge_at}
-use Rattle.def_forest.specs.Darts.{Darts, AreDarts, darts_of, far}
-use Rattle.def_forest.specs.Forests.{Forest, walk, load, dual_sum_of}
+use Rattle.def_matching.specs.Matching.{Graph, IsGraph, edge_at}
+use Rattle.def_forest.specs.Darts.{darts_of, far}
+use Rattle.def_forest.specs.Forests.{walk, load, dual_sum_of}
 use Rattle.def_forest.specs.Steps.{change}
-use Rattle.def_forest.specs.Tables.{ForestTables, forest_of, up_at, label_at, out_of, climbs, IsValidFor, IsOutermostIn}
-use Rattle.def_forest.specs.Valid.{AreOutermost, IsNested, IsFeasible, IsValid}
+use Rattle.def_forest.specs.Tables.{ForestTables, forest_of, up_at, label_at, out_of, climbs, IsValidFor}
+use Rattle.def_forest.specs.Valid.{AreOutermost, IsNested, IsFeasible}
 use Rattle.def_forest.specs.declared.kinds.Label.{Label}
 use Rattle.def_forest.specs.declared.kinds.Label.TheVariants.{Outside}
 use Rattle.forest_laws.proofs.Bounds.{eqb_order}
-use Rattle.forest_laws.proofs.Graphs.{are_darts, near_even, near_odd, twin_even, twin_odd}
+use Rattle.forest_laws.proofs.Graphs.{near_even, near_odd, twin_even, twin_odd}
+use Rattle.forest_laws.proofs.Writes.{true_false}
 use Rattle.forest_laws.proofs.Loads.{load_across}
-use Rattle.qm_forest.specs.Ties.{AreTied, IsClimb, IsCounted, IsFresh, HasLowCosts, potential, added, told}
+use Rattle.qm_pool.specs.declared.pool.Node.{Node}
+use Rattle.qm_forest.specs.Ties.{AreTied, HasSizes, IsLaidOut, IsListed, HiddenTables, IsCounted, IsFresh, HasLowCosts, potential, added}
+use Rattle.qm_forest.proofs.Forgets.{none_counted}
 use Rattle.qm_forest.proofs.Apart.{walk_stays}
 use Rattle.qm_forest.proofs.Ranges.{sum_small, read_nat}
 
@@ -29,6 +31,10 @@ same_everywhere xs n x e k = ap (λ ys. get_or ys k x) e ∙ by_place (cases_lt 
     by_place (inl l) = get_or-replicate n k x x l
     by_place (inr h) = get_or_past (replicate n x) k x (subst (λ m. m ≤ k) (sym (length-replicate n x)) h)
 
+-- The numbers from 0 on, where the bound is told otherwise.
+pub counted_as : (m n : ℕ) {xs : List ℕ} → m ≡ n → IsCounted m xs → IsCounted n xs
+counted_as m n {xs} e counted = subst (λ k. IsCounted k xs) e counted
+
 or_same : (a : Bool) → (a || a) ≡ a
 or_same true = refl
 or_same false = refl
@@ -38,7 +44,10 @@ climbs_self : (up : ℕ → ℕ) (k b v : ℕ) → up v ≡ v → climbs up k b 
 climbs_self up zero b v e = refl
 climbs_self up (suc k) b v e = ap (λ (x : ℕ). eqb v b || climbs up k b x) e ∙ (ap (λ (x : Bool). eqb v b || x) (climbs_self up k b v e) ∙ or_same (eqb v b))
 
-module _ (n size : ℕ) (lows : List ℤ) (t : ForestTables) (q off : List ℤ) (fresh : IsFresh n size lows t q off) where
+module _ (n size : ℕ) (lows : List ℤ) (t : ForestTables) (hid : HiddenTables) (fresh : IsFresh n size lows t hid) where
+  vertices : n ≤ size
+  vertices = omega (arith, fresh.size_is)
+
   size_up : length t.up ≡ size
   size_up = fresh.up.size
 
@@ -75,44 +84,125 @@ module _ (n size : ℕ) (lows : List ℤ) (t : ForestTables) (q off : List ℤ) 
 
   potential_is : (v : ℕ) → v < n → potential (forest_of t) v ≡ get_or lows v (pos 0)
   potential_is v l =
-      total_below_one (λ b. cond ((forest_of t).holds b v) ((forest_of t).weight b) (pos 0)) (length t.up) v (subst (λ m. v < m) (sym size_up) (omega (arith, fresh.vertices)))
+      total_below_one (λ b. cond ((forest_of t).holds b v) ((forest_of t).weight b) (pos 0)) (length t.up) v (subst (λ m. v < m) (sym size_up) (omega (arith, vertices)))
       (λ k lk ne. cond-false ((forest_of t).holds k v) ((forest_of t).weight k) (pos 0) (holds_is k v ∙ ne_eqb v k (λ e. ne (sym e))))
       ∙ (cond-true ((forest_of t).holds v v) ((forest_of t).weight v) (pos 0) (holds_is v v ∙ eq-eqb v v refl) ∙ weight_is v)
 
-  added_is : (v : ℕ) → v < n → added t.hand t.top off t.label t.delta v ≡ pos 0
+  added_is : (v : ℕ) → v < n → added t.hand t.top hid.off t.label t.delta v ≡ pos 0
   added_is v l =
-      let o : get_or off (get_or t.hand v 0) (pos 0) ≡ pos 0 = same_everywhere off n (pos 0) fresh.offs (get_or t.hand v 0) in
+      let o : get_or hid.off (get_or t.hand v 0) (pos 0) ≡ pos 0 = same_everywhere hid.off n (pos 0) fresh.offs (get_or t.hand v 0) in
       omega (arith, ints, o, change_none (out_of t.hand t.top v) t.delta)
 
-  -- The tie, where the weights are small.
-  pub fresh_tied : ((v : ℕ) → unsigned_abs (get_or lows v (pos 0)) ≤ 2 ^ 60) → AreTied t q off
-  fresh_tied small = record {
-    hands = λ v l. subst (λ k. k < length t.top) (sym (hand_is v (in_n v l))) (subst (λ m. v < m) (sym fresh.top.size) (in_n v l));
-    outs = λ h l. (let lh : h < n = subst (λ m. h < m) fresh.top.size l in subst (λ k. k < length t.up) (sym (fresh.top.each h lh)) (subst (λ m. h < m) (sym size_up) (omega (arith, fresh.vertices))));
+  -- Each is the list of itself.
+  list_at : (xs : List ℕ) (x : ℕ) → IsCounted size xs → x < n → get_or xs x 0 ≡ x
+  list_at xs x counted l = counted.each x (omega (arith, vertices))
+
+  used_low : (x : ℕ) → (x < n) ⊎ (get_or t.parts x 0 ≢ 0) → x < n
+  used_low x (inl l) = l
+  used_low x (inr live) = absurd (live (same_everywhere t.parts size 0 fresh.parts x))
+
+  rank_is : (x : ℕ) → x < n → get_or t.rank x 0 ≡ 1
+  rank_is x l = ap (λ xs. get_or xs x 0) fresh.rank ∙ get_or-replicate size x 1 0 (omega (arith, vertices))
+
+  rank_low : (x : ℕ) → get_or t.rank x 0 ≤ 1
+  rank_low x = by_size (cases_lt x size)
+    where
+      by_size : (x < size) ⊎ (size ≤ x) → get_or t.rank x 0 ≤ 1
+      by_size (inl l) = (let e : get_or t.rank x 0 ≡ 1 = ap (λ xs. get_or xs x 0) fresh.rank ∙ get_or-replicate size x 1 0 l in omega (arith, e))
+      by_size (inr h) = (let e : get_or t.rank x 0 ≡ 0 = get_or_past t.rank x 0 (subst (λ m. m ≤ x) (sym (ap length fresh.rank ∙ length-replicate size 1)) h) in omega (arith, e))
+
+  listed_self : (x : ℕ) → x < n → IsListed n (λ k. get_or hid.following k 0) (get_or hid.first x 0) (get_or hid.last x 0) (get_or t.rank x 0) (climbs (up_at t.up) n x)
+  listed_self x l =
+      subst (λ k. IsListed n (λ k. get_or hid.following k 0) (get_or hid.first x 0) (get_or hid.last x 0) k (climbs (up_at t.up) n x)) (sym (rank_is x l))
+      (subst (λ k. IsListed n (λ k. get_or hid.following k 0) (get_or hid.first x 0) k 1 (climbs (up_at t.up) n x)) (sym (list_at hid.last x fresh.lists.2 l))
+      (subst (λ k. IsListed n (λ k. get_or hid.following k 0) k x 1 (climbs (up_at t.up) n x)) (sym (list_at hid.first x fresh.lists.1 l))
+      (record { all = λ v lv. eqb_order x v ∙ sym (climbs_self (up_at t.up) n x v (up_self v)); low = λ k lk. first_low k lk; distinct = λ i j lij lj. absurd (omega (arith, lij, lj)); ends = λ k e. first_is k e; some = omega arith })))
+    where
+      first_low : (k : ℕ) → k < 1 → walk (λ k. get_or hid.following k 0) x k < n
+      first_low zero lk = l
+      first_low (suc k) lk = absurd (omega (arith, lk))
+
+      first_is : (k : ℕ) → suc k ≡ 1 → walk (λ k. get_or hid.following k 0) x k ≡ x
+      first_is zero e = refl
+      first_is (suc k) e = absurd (omega (arith, e))
+
+  none_touched : (v : ℕ) → get_or hid.touched v false ≡ false
+  none_touched v = same_everywhere hid.touched n false fresh.touched v
+
+  fresh_sizes : HasSizes t hid
+  fresh_sizes = record {
     few = omega (arith, size_up, fresh.few);
-    vertices = omega (arith, size_up, fresh.hand.size, fresh.vertices);
-    size_q = ap length fresh.kept ∙ (fresh.size_lows ∙ sym fresh.hand.size);
-    size_off = ap length fresh.offs ∙ (length-replicate n (pos 0) ∙ sym fresh.top.size);
-    size_base = fresh.size_base ∙ sym size_up;
-    size_label = ap length fresh.label ∙ (length-replicate size Outside ∙ sym size_up);
-    size_mate = ap length fresh.mate ∙ (length-replicate size None ∙ sym size_up);
-    size_link = fresh.sizes.0 ∙ sym size_up;
-    size_rank = fresh.sizes.4 ∙ sym size_up;
-    size_after = fresh.sizes.1 ∙ sym size_up;
-    size_joint = fresh.sizes.2 ∙ sym size_up;
-    size_head = fresh.sizes.3 ∙ sym size_up;
-    size_parts = ap length fresh.parts ∙ (length-replicate size 0 ∙ sym size_up);
-    ups = λ b l. (let lb : b < size = subst (λ m. b < m) size_up l in subst (λ k. k < length t.up) (sym (fresh.up.each b lb)) l);
-    climb = record { ends = λ v l. walk_stays (up_at t.up) v (length t.hand) (up_self v) ∙ sym (out_is v (in_n v l)); tops = λ v l. up_self (out_of t.hand t.top v) };
-    potentials = λ v l. potential_is v (in_n v l) ∙ (let e : get_or q v (pos 0) ≡ get_or lows v (pos 0) = ap (λ (xs : List ℤ). get_or xs v (pos 0)) fresh.kept in omega (arith, ints, e, added_is v (in_n v l)));
-    small = λ b. (let e : (forest_of t).weight b ≡ get_or lows b (pos 0) = weight_is b in omega (arith, ints, e, small b));
-    one_hand = λ u v lu lv e. hand_is u (in_n u lu) ∙ (sym (out_is u (in_n u lu)) ∙ (e ∙ (out_is v (in_n v lv) ∙ sym (hand_is v (in_n v lv)))));
-    start = dual_sum_of (forest_of t);
-    small_start = omega (arith, ints, sum_small (forest_of t).weight (length t.up) (λ k l. (let e : (forest_of t).weight k ≡ get_or lows k (pos 0) = weight_is k in omega (arith, ints, e, small k))), size_up, fresh.few);
-    moved = λ v l. omega (arith, ints, added_is v (in_n v l));
-    risen = (omega (arith, ints, fresh.delta), omega (arith, ints, fresh.delta));
-    still = λ none. fresh.delta;
-    named = λ b named. absurd (named (label_is b));
+    vertices = omega (arith, size_up, fresh.hand.size, vertices);
+    top = fresh.top.size ∙ sym fresh.hand.size;
+    q = ap length fresh.kept ∙ (fresh.size_lows ∙ sym fresh.hand.size);
+    off = ap length fresh.offs ∙ (length-replicate n (pos 0) ∙ sym fresh.top.size);
+    following = fresh.lists.3.size ∙ sym fresh.hand.size;
+    touched = ap length fresh.touched ∙ (length-replicate n false ∙ sym fresh.hand.size);
+    base = fresh.size_base ∙ sym size_up;
+    label = ap length fresh.label ∙ (length-replicate size Outside ∙ sym size_up);
+    mate = ap length fresh.mate ∙ (length-replicate size None ∙ sym size_up);
+    link = fresh.sizes.0 ∙ sym size_up;
+    rank = ap length fresh.rank ∙ (length-replicate size 1 ∙ sym size_up);
+    after = fresh.sizes.1 ∙ sym size_up;
+    joint = fresh.sizes.2 ∙ sym size_up;
+    head = fresh.sizes.3 ∙ sym size_up;
+    parts = ap length fresh.parts ∙ (length-replicate size 0 ∙ sym size_up);
+    leader = fresh.lists.0.size ∙ sym size_up;
+    first = fresh.lists.1.size ∙ sym size_up;
+    last = fresh.lists.2.size ∙ sym size_up;
+    room = subst (λ m. m ≤ hid.room) (sym fresh.hand.size) fresh.room;
+  }
+
+  fresh_nest : IsLaidOut n size t.hand t.top t.up t.rank t.parts hid.leader hid.first hid.last hid.following
+  fresh_nest = record {
+    hands = λ v l. subst (λ k. k < length t.top) (sym (hand_is v l)) (subst (λ m. v < m) (sym fresh.top.size) l);
+    outs = λ h l. (let lh : h < n = subst (λ m. h < m) fresh.top.size l in subst (λ k. k < size) (sym (fresh.top.each h lh)) (omega (arith, vertices)));
+    ups = λ b l. subst (λ k. k < size) (sym (fresh.up.each b l)) l;
+    climb = record { ends = λ v l. walk_stays (up_at t.up) v n (up_self v) ∙ sym (out_is v l); tops = λ v l. up_self (out_of t.hand t.top v) };
+    led = λ v l. hand_is v l ∙ (sym (list_at hid.leader v fresh.lists.0 l) ∙ ap (λ b. get_or hid.leader b 0) (sym (out_is v l)));
+    leaders = λ x lx used. (let l : x < n = used_low x used in let e : get_or hid.leader x 0 ≡ x = list_at hid.leader x fresh.lists.0 l in
+        (subst (λ k. k < n) (sym e) l, climbs_self (up_at t.up) n x (get_or hid.leader x 0) (up_self (get_or hid.leader x 0)) ∙ eq-eqb (get_or hid.leader x 0) x e));
+    members = λ x lx used. listed_self x (used_low x used);
+    ended = λ v l. (let e : get_or hid.last (out_of t.hand t.top v) 0 ≡ v = ap (λ b. get_or hid.last b 0) (out_is v l) ∙ list_at hid.last v fresh.lists.2 l in ap (λ k. get_or hid.following k 0) e ∙ (fresh.lists.3.each v l ∙ sym e));
+    idle = λ x high none. up_self x;
+    rises = λ x inner. absurd (inner (up_self x));
+    ranks = λ x. rank_few x (cases_lt 0 n);
+  }
+    where
+      rank_few : (x : ℕ) → (0 < n) ⊎ (n ≤ 0) → get_or t.rank x 0 ≤ n
+      rank_few x (inl some) = omega (arith, rank_low x)
+      rank_few x (inr none) = (let e : get_or t.rank x 0 ≡ 0 = get_or_past t.rank x 0 (subst (λ m. m ≤ x) (sym (ap length fresh.rank ∙ length-replicate size 1)) (omega (arith, fresh.size_is))) in omega (arith, e))
+
+  pool_size : length hid.pool ≡ n / 2
+  pool_size = ap length fresh.pool ∙ length-replicate {A = Option Node} (n / 2) None
+
+  -- The tie, where the weights are small.
+  pub fresh_tied : ((v : ℕ) → unsigned_abs (get_or lows v (pos 0)) ≤ 2 ^ 60) → AreTied t hid
+  fresh_tied small = record {
+    sizes = fresh_sizes;
+    nest = subst (λ m. IsLaidOut m (length t.up) t.hand t.top t.up t.rank t.parts hid.leader hid.first hid.last hid.following) (sym fresh.hand.size) (subst (λ m. IsLaidOut n m t.hand t.top t.up t.rank t.parts hid.leader hid.first hid.last hid.following) (sym size_up) fresh_nest);
+    numbers = record {
+      potentials = λ v l. potential_is v (in_n v l) ∙ (let e : get_or hid.q v (pos 0) ≡ get_or lows v (pos 0) = ap (λ (xs : List ℤ). get_or xs v (pos 0)) fresh.kept in omega (arith, ints, e, added_is v (in_n v l)));
+      small = λ b. (let e : (forest_of t).weight b ≡ get_or lows b (pos 0) = weight_is b in omega (arith, ints, e, small b));
+      start = dual_sum_of (forest_of t);
+      small_start = omega (arith, ints, sum_small (forest_of t).weight (length t.up) (λ k l. (let e : (forest_of t).weight k ≡ get_or lows k (pos 0) = weight_is k in omega (arith, ints, e, small k))), size_up, fresh.few);
+      moved = λ v l. omega (arith, ints, added_is v (in_n v l));
+      risen = (omega (arith, ints, fresh.delta), omega (arith, ints, fresh.delta));
+      still = λ none. fresh.delta;
+    };
+    trail = record {
+      low = λ k l. absurd (omega (arith, l, fresh.trail));
+      counted = fresh.trail ∙ sym (none_counted hid.touched none_touched);
+      marked = λ v on. absurd (true_false (get_or hid.touched v false) on (none_touched v));
+      named = λ b named. absurd (named (label_is b));
+    };
+    pool = record {
+      room = omega (arith, pool_size, fresh.size_is, fresh.hand.size, size_up);
+      half = pool_size ∙ ap (λ m. m / 2) (sym fresh.hand.size);
+      free = λ k is. same_everywhere t.parts size 0 fresh.parts (length t.hand + k);
+      live = λ k live. absurd (live (same_everywhere t.parts size 0 fresh.parts (length t.hand + k)));
+      vertices = λ v l. same_everywhere t.parts size 0 fresh.parts v;
+    };
   }
 
   module _ (g : Graph) (is : IsGraph g) (n_is : n ≡ g.n) (costs : HasLowCosts g (length g.edges) lows) where
@@ -124,8 +214,8 @@ module _ (n size : ℕ) (lows : List ℤ) (t : ForestTables) (q off : List ℤ) 
 
     outermost : AreOutermost g.n (forest_of t)
     outermost = record {
-      vertices = omega (arith, size_up, fresh.vertices, n_is);
-      out_low = λ v l. subst (λ k. k < length t.up) (sym (outs v l)) (omega (arith, size_up, fresh.vertices, n_is));
+      vertices = omega (arith, size_up, vertices, n_is);
+      out_low = λ v l. subst (λ k. k < length t.up) (sym (outs v l)) (omega (arith, size_up, vertices, n_is));
       held = λ u v lu lv. holds_is ((forest_of t).out u) v ∙ ap (λ k. eqb k ((forest_of t).out u)) (sym (outs v lv));
       tops = λ v l. up_self ((forest_of t).out v);
       together = λ b u v lu lv hu hv. outs u lu ∙ (eqb-true u b (sym (holds_is b u) ∙ hu) ∙ (sym (eqb-true v b (sym (holds_is b v) ∙ hv)) ∙ sym (outs v lv)));

@@ -6,5 +6,6 @@ pub mod Lows
 pub mod Meeting
 pub mod OnWays
 pub mod Ranges
-pub mod Tables
+pub mod TiedWrites
 pub mod Shifted
+pub mod Trails

@@ -1,11 +1,10 @@
 -- Two climbers in a valid forest: each turn keeps what they know, and brings them nearer.
-use Rattle.std.proofs.Common.{◌≡◌, ◌≢◌, ℕ, suc, ◌+◌, ◌-◌, ◌*◌, ◌<◌, ◌≤◌, ◌^◌, length, get_or, ℤ, pos, ◌+ℤ◌, ◌⊎◌, refl, sym, ◌∙◌, ap, subst, inl, inr, arith}
+use Rattle.std.proofs.Common.{◌≡◌, ◌≢◌, ℕ, suc, ◌+◌, ◌-◌, ◌<◌, ◌≤◌, ◌^◌, length, get_or, ℤ, pos, ◌+ℤ◌, ◌⊎◌, refl, sym, ◌∙◌, ap, subst, inl, inr, arith}
 use Rattle.std.specs.Prelude.{unsigned_abs, slice_index}
 use Rattle.std.proofs.lemmas.Int.{ints}
-use Rattle.std.proofs.lemmas.Bool.{cases_eq}
 use Rattle.def_matching.specs.Matching.{Graph}
 use Rattle.def_forest.specs.Darts.{darts_of}
-use Rattle.def_forest.specs.Forests.{Forest, IsOutermost, walk, load}
+use Rattle.def_forest.specs.Forests.{IsOutermost, walk, load}
 use Rattle.def_forest.specs.Steps.{change}
 use Rattle.def_forest.specs.Tables.{up_at, ForestTables, forest_of, label_at, IsValidFor}
 use Rattle.def_forest.specs.Valid.{IsRing}
@@ -13,7 +12,7 @@ use Rattle.def_forest.specs.declared.kinds.Label.{Label}
 use Rattle.def_forest.specs.declared.kinds.Label.TheVariants.{Outside}
 use Rattle.forest_laws.proofs.Writes.{label_cases}
 use Rattle.qm_forest.specs.Ties.{IsClimb, IsWithin, IsMeeting, apart}
-use Rattle.qm_forest.proofs.Apart.{can_climb, rank_low, goes_on, apart_step, apart_order, apart_met, apart_small}
+use Rattle.qm_forest.proofs.Apart.{can_climb, rank_low, apart_step, apart_order, apart_met, apart_small}
 
 module _ (g : Graph) (t : ForestTables) (valid : IsValidFor g t) (climb : IsClimb (length t.hand) (up_at t.up) (forest_of t).out) (few : length t.up ≤ 2 ^ 26) (small : (b : ℕ) → unsigned_abs ((forest_of t).weight b) ≤ 2 ^ 62) where
   abbrev up : ℕ → ℕ

@@ -1,13 +1,13 @@
 -- Steps of the tree in the tables: growing, and changing the matching along the way to the root.
-use Rattle.std.proofs.Common.{◌≡◌, ◌≢◌, ℕ, suc, ◌+◌, ◌*◌, ◌<◌, ◌≤◌, ◌^◌, length, Option, Some, None, Bool, true, false, is_some, refl, sym, ◌∙◌, ap, subst, ◌⊎◌, inl, inr, arith}
-use Rattle.def_matching.specs.Matching.{IsSmallGraph, Graph, IsGraph}
-use Rattle.def_forest.specs.Darts.{Darts, darts_of, far}
+use Rattle.std.proofs.Common.{◌≡◌, ◌≢◌, ℕ, suc, ◌+◌, ◌*◌, ◌<◌, List, length, get_or, Option, Some, None, true, false, is_some, refl, sym, ◌∙◌, ap, subst, ◌⊎◌, inl, inr, arith}
+use Rattle.def_matching.specs.Matching.{IsSmallGraph, Graph}
+use Rattle.def_forest.specs.Darts.{darts_of, far}
 use Rattle.def_forest.specs.Forests.{Forest, IsOutermost, set_at}
 use Rattle.def_forest.specs.Steps.{grown, with_mates, IsAugmented}
 use Rattle.def_forest.specs.Tables.{ForestTables, forest_of, IsValidFor}
-use Rattle.def_forest.specs.Valid.{IsValid, IsMate, IsTree, IsInner}
+use Rattle.def_forest.specs.Valid.{IsValid, IsTree}
 use Rattle.def_forest.specs.declared.kinds.Label.{Label}
-use Rattle.def_forest.specs.declared.kinds.Label.TheVariants.{Outer, Inner, Outside}
+use Rattle.def_forest.specs.declared.kinds.Label.TheVariants.{Outer, Outside}
 use Rattle.def_forest.specs.Ways.{Reaches, IsAlmost, steps, parent_of}
 use Rattle.forest_laws.proofs.Climbs.{fewer_steps, inner_is}
 use Rattle.forest_laws.proofs.Facts.{tree_of, outer_mate}
@@ -170,14 +170,15 @@ seen_own t0 t1 mate e = e ∙ ap (remated (forest_of t0)) (sym (ap (λ (f : Fore
 pub labels_own : (t0 t1 : ForestTables) (label : ℕ → Label) → forest_of t1 ≡ relabelled (forest_of t0) label → forest_of t1 ≡ relabelled (forest_of t0) (forest_of t1).label
 labels_own t0 t1 label e = e ∙ ap (relabelled (forest_of t0)) (sym (ap (λ (f : Forest). f.label) e))
 
--- One more outermost blossom is put outside.
-pub one_more_outside : (f1 f2 : Forest) (v : ℕ) → f2 ≡ labelled f1 (f1.out v) Outside → ((u : ℕ) → u < v → f1.label (f1.out u) ≡ Outside) → (u : ℕ) → u < v + 1 → f2.label (f2.out u) ≡ Outside
-one_more_outside f1 f2 v e2 done u l = ap (λ (f : Forest). f.label (f.out u)) e2 ∙ by_place (cases_eq (f1.out u) (f1.out v)) (cases_eq u v)
+-- The outermost blossom of one more vertex of a list is put outside.
+pub one_more_outside : (f1 f2 : Forest) (trail : List ℕ) (k v : ℕ) → v ≡ get_or trail k 0 → f2 ≡ labelled f1 (f1.out v) Outside → ((i : ℕ) → i < k → f1.label (f1.out (get_or trail i 0)) ≡ Outside)
+    → (i : ℕ) → i < k + 1 → f2.label (f2.out (get_or trail i 0)) ≡ Outside
+one_more_outside f1 f2 trail k v v_is e2 done i l = ap (λ (f : Forest). f.label (f.out (get_or trail i 0))) e2 ∙ by_place (cases_eq (f1.out (get_or trail i 0)) (f1.out v)) (cases_eq i k)
   where
-    by_place : (f1.out u ≡ f1.out v) ⊎ (f1.out u ≢ f1.out v) → (u ≡ v) ⊎ (u ≢ v) → set_at f1.label (f1.out v) Outside (f1.out u) ≡ Outside
+    by_place : (f1.out (get_or trail i 0) ≡ f1.out v) ⊎ (f1.out (get_or trail i 0) ≢ f1.out v) → (i ≡ k) ⊎ (i ≢ k) → set_at f1.label (f1.out v) Outside (f1.out (get_or trail i 0)) ≡ Outside
     by_place (inl e) x = ap (set_at f1.label (f1.out v) Outside) e ∙ set_here f1.label (f1.out v) Outside
-    by_place (inr ne) (inl e) = absurd (ne (ap f1.out e))
-    by_place (inr ne) (inr nv) = set_there f1.label (f1.out v) (f1.out u) Outside ne ∙ done u (omega arith)
+    by_place (inr ne) (inl e) = absurd (ne (ap (λ j. f1.out (get_or trail j 0)) e ∙ ap f1.out (sym v_is)))
+    by_place (inr ne) (inr nk) = set_there f1.label (f1.out v) (f1.out (get_or trail i 0)) Outside ne ∙ done i (omega arith)
 
 -- The forest is valid after an augmentation.
 pub valid_augmented : (t u : ForestTables) (g : Graph) → IsValidFor g t → (mate : ℕ → Option ℕ) → IsValid (darts_of g) (with_mates (forest_of t) mate) None → forest_of u ≡ with_mates (forest_of t) mate → u.hand ≡ t.hand → u.root ≡ None → IsValidFor g u

@@ -1,5 +1,5 @@
 -- What a shift does to the tables.
-use Rattle.std.proofs.Common.{◌≡◌, ◌≢◌, ℕ, ◌+◌, ◌<◌, ◌≤◌, ◌^◌, List, length, get_or, ℤ, pos, ◌+ℤ◌, ◌-ℤ◌, ◌≤ℤ◌, Option, Some, None, is_some, Bool, true, false, refl, sym, ◌∙◌, ap, subst, arith}
+use Rattle.std.proofs.Common.{◌≡◌, ℕ, ◌<◌, ◌≤◌, ◌^◌, length, ℤ, pos, ◌+ℤ◌, ◌≤ℤ◌, Option, Some, None, is_some, true, false, refl, sym, ◌∙◌, ap, subst, arith}
 use Rattle.std.specs.Prelude.{unsigned_abs}
 use Rattle.std.proofs.lemmas.Int.{ints}
 use Rattle.def_matching.specs.Matching.{Graph, IsGraph}
@@ -15,7 +15,8 @@ use Rattle.forest_laws.proofs.Loads.{potential_shifted}
 use Rattle.forest_laws.proofs.Rises.{sum_rises}
 use Rattle.forest_laws.proofs.Shifts.{shift_valid}
 use Rattle.forest_laws.proofs.Grows.{rooted_valid}
-use Rattle.qm_forest.specs.Ties.{AreTied, potential, added, told}
+use Rattle.qm_forest.specs.Ties.{AreTied, HiddenTables, potential, added, told}
+use Rattle.qm_forest.proofs.TiedWrites.{sizes_kept}
 
 -- A shift after another.
 change_sum : (l : Label) (d s : ℤ) → change l (d +ℤ s) ≡ change l d +ℤ change l s
@@ -60,7 +61,7 @@ seen_still g t s valid none i = record {
     weight : (b : ℕ) → (forest_of t).weight b ≡ (forest_of t).weight b +ℤ change (label_at t.label b) s
     weight b = let h : change (label_at t.label b) s ≡ pos 0 = ap (λ (l : Label). change l s) (valid.valid.no_tree none b) in omega (arith, ints, h)
 
-module _ (t : ForestTables) (q off : List ℤ) (tied : AreTied t q off) (g : Graph) (is : IsGraph g) (valid : IsValidFor g t) (r : ℕ) (root : t.root ≡ Some r) (s d : ℤ) (d_is : d ≡ t.delta +ℤ s) (high : pos 0 ≤ℤ s)
+module _ (t : ForestTables) (hid : HiddenTables) (tied : AreTied t hid) (g : Graph) (is : IsGraph g) (valid : IsValidFor g t) (r : ℕ) (root : t.root ≡ Some r) (s d : ℤ) (d_is : d ≡ t.delta +ℤ s) (high : pos 0 ≤ℤ s)
     (small : (b : ℕ) → unsigned_abs ((shifted (forest_of t) s).weight b) ≤ 2 ^ 62) where
   valid_root : IsValid (darts_of g) (forest_of t) (Some r)
   valid_root = subst (λ (o : Option ℕ). IsValid (darts_of g) (forest_of t) o) root valid.valid
@@ -68,48 +69,35 @@ module _ (t : ForestTables) (q off : List ℤ) (tied : AreTied t q off) (g : Gra
   sum_is : dual_sum_of (forest_of (record t { delta = d })) ≡ dual_sum_of (forest_of t) +ℤ s
   sum_is = ap dual_sum_of (seen_shift t s d d_is) ∙ sum_rises (darts_of g) (are_darts g is) (forest_of t) r valid_root (valid_root.tree r refl) s
 
-  added_is : (v : ℕ) → added t.hand t.top off t.label d v ≡ added t.hand t.top off t.label t.delta v +ℤ change (label_at t.label (out_of t.hand t.top v)) s
+  added_is : (v : ℕ) → added t.hand t.top hid.off t.label d v ≡ added t.hand t.top hid.off t.label t.delta v +ℤ change (label_at t.label (out_of t.hand t.top v)) s
   added_is v = let h : change (label_at t.label (out_of t.hand t.top v)) d ≡ change (label_at t.label (out_of t.hand t.top v)) t.delta +ℤ change (label_at t.label (out_of t.hand t.top v)) s = ap (change (label_at t.label (out_of t.hand t.top v))) d_is ∙ change_sum (label_at t.label (out_of t.hand t.top v)) t.delta s in omega (arith, ints, h)
 
   -- The tie after a shift.
-  pub tied_shift : AreTied (record t { delta = d }) q off
+  pub tied_shift : AreTied (record t { delta = d }) hid
   tied_shift = record {
-    hands = tied.hands;
-    outs = tied.outs;
-    few = tied.few;
-    vertices = tied.vertices;
-    size_q = tied.size_q;
-    size_off = tied.size_off;
-    size_base = tied.size_base;
-    size_label = tied.size_label;
-    size_mate = tied.size_mate;
-    size_link = tied.size_link;
-    size_rank = tied.size_rank;
-    size_after = tied.size_after;
-    size_joint = tied.size_joint;
-    size_head = tied.size_head;
-    size_parts = tied.size_parts;
-    ups = tied.ups;
-    climb = tied.climb;
-    potentials = potentials;
-    small = λ b. subst (λ (f : Forest). unsigned_abs (f.weight b) ≤ 2 ^ 62) (sym (seen_shift t s d d_is)) (small b);
-    one_hand = tied.one_hand;
-    start = tied.start;
-    small_start = tied.small_start;
-    moved = λ v lv. omega (arith, ints, sum_is, added_is v, tied.moved v lv, change_low (label_at t.label (out_of t.hand t.top v)) s high);
-    risen = (omega (arith, ints, d_is, tied.risen.0), omega (arith, ints, d_is, sum_is, tied.risen.1));
-    still = λ none. absurd (clash (sym root ∙ none));
-    named = tied.named;
+    sizes = sizes_kept t hid tied.sizes d t.root t.trail hid.touched hid.room tied.sizes.touched (omega arith);
+    nest = tied.nest;
+    numbers = record {
+      potentials = potentials;
+      small = λ b. subst (λ (f : Forest). unsigned_abs (f.weight b) ≤ 2 ^ 62) (sym (seen_shift t s d d_is)) (small b);
+      start = tied.numbers.start;
+      small_start = tied.numbers.small_start;
+      moved = λ v lv. omega (arith, ints, sum_is, added_is v, tied.numbers.moved v lv, change_low (label_at t.label (out_of t.hand t.top v)) s high);
+      risen = (omega (arith, ints, d_is, tied.numbers.risen.0), omega (arith, ints, d_is, sum_is, tied.numbers.risen.1));
+      still = λ none. absurd (clash (sym root ∙ none));
+    };
+    trail = tied.trail;
+    pool = tied.pool;
   }
     where
       clash : Some r ≡ None → ⊥
       clash e = cc
 
-      potentials : (v : ℕ) → v < length t.hand → potential (forest_of (record t { delta = d })) v ≡ told q t.hand t.top off t.label d v
+      potentials : (v : ℕ) → v < length t.hand → potential (forest_of (record t { delta = d })) v ≡ told hid.q t.hand t.top hid.off t.label d v
       potentials v lv =
           let p : potential (forest_of (record t { delta = d })) v ≡ potential (shifted (forest_of t) s) v = ap (λ (f : Forest). potential f v) (seen_shift t s d d_is) in
           let h : potential (shifted (forest_of t) s) v ≡ potential (forest_of t) v +ℤ change (label_at t.label (out_of t.hand t.top v)) s = potential_shifted g.n (forest_of t) valid.valid.outermost s v (subst (λ n. v < n) valid.vertices lv) in
-          omega (arith, ints, p, h, tied.potentials v lv, added_is v)
+          omega (arith, ints, p, h, tied.numbers.potentials v lv, added_is v)
 
 -- The forest is valid after a shift whose end is feasible.
 pub valid_shift : (t u : ForestTables) (g : Graph) (s : ℤ) → IsGraph g → IsValidFor g t → IsFeasible (darts_of g) (shifted (forest_of t) s) → forest_of u ≡ shifted (forest_of t) s → u.hand ≡ t.hand → u.root ≡ t.root → IsValidFor g u
@@ -137,5 +125,5 @@ none_of None e = refl
 none_of (Some r) e = absurd (cc e)
 
 -- The forest sees the shift, of tables that are tied.
-pub seen_shift_tied : (t : ForestTables) (q off : List ℤ) → AreTied t q off → (s d : ℤ) → d ≡ t.delta +ℤ s → forest_of (record t { delta = d }) ≡ shifted (forest_of t) s
-seen_shift_tied t q off tied s d e = seen_shift t s d e
+pub seen_shift_tied : (t : ForestTables) (hid : HiddenTables) → AreTied t hid → (s d : ℤ) → d ≡ t.delta +ℤ s → forest_of (record t { delta = d }) ≡ shifted (forest_of t) s
+seen_shift_tied t hid tied s d e = seen_shift t s d e

@@ -1,14 +1,15 @@
 -- How a forest's hidden tables are tied to those that contracts see.
-use Rattle.std.specs.Prelude.{replicate, ◌⊎◌, ◌≡◌, ◌≢◌, ℕ, ◌+◌, ◌<◌, ◌≤◌, ◌^◌, List, length, slice_index, slice_index_or, Option, Some, None, ℤ, pos, ◌+ℤ◌, ◌-ℤ◌, ◌≤ℤ◌, unsigned_abs, if◌then◌else◌}
+use Rattle.std.specs.Prelude.{replicate, ◌⊎◌, ◌≡◌, ◌≢◌, ℕ, zero, suc, ◌+◌, ◌/◌, ◌<◌, ◌≤◌, ◌^◌, ◌==◌, ◌||◌, Bool, true, false, List, length, count_by, slice_get, slice_index, slice_index_or, Option, Some, None, ℤ, pos, ◌+ℤ◌, ◌-ℤ◌, ◌≤ℤ◌, unsigned_abs, if◌then◌else◌}
 use Rattle.def_math.specs.Sums.{total_below}
 use Rattle.def_matching.specs.Matching.{IsSmallGraph, Vertex, Graph, edge_at}
 use Rattle.def_forest.specs.Darts.{darts_of}
 use Rattle.def_forest.specs.Valid.{IsTree}
 use Rattle.def_forest.specs.Ways.{IsAlmost}
-use Rattle.def_forest.specs.Forests.{Blossom, Forest, splits, walk, set_at, dual_sum_of}
+use Rattle.def_forest.specs.Forests.{Blossom, Forest, splits, walk, set_at}
 use Rattle.def_forest.specs.Steps.{change}
-use Rattle.def_forest.specs.Tables.{up_at, ForestTables, forest_of, out_of, label_at, IsOutermostIn, climbs, IsValidFor}
+use Rattle.def_forest.specs.Tables.{up_at, ForestTables, forest_of, out_of, label_at, weight_at, climbs, IsValidFor}
 use Rattle.def_forest.specs.declared.kinds.Label.{Label}
+use Rattle.qm_pool.specs.declared.pool.Node.{Node}
 use Rattle.def_forest.specs.declared.kinds.Label.TheVariants.{Outside}
 
 -- The sum of the weights of the blossoms around a vertex.
@@ -29,37 +30,129 @@ pub record IsClimb (n : ℕ) (up out : ℕ → ℕ) : Type 0 where
   pub ends : (v : Vertex) → v < n → walk up v n ≡ out v
   pub tops : (v : Vertex) → v < n → up (out v) ≡ out v
 
--- The hidden tables fit those that contracts see: the potentials are told, and no number is large.
-pub record AreTied (t : ForestTables) (q off : List ℤ) : Type 0 where
-  pub hands : (v : Vertex) → v < length t.hand → slice_index t.hand v < length t.top
-  pub outs : (h : ℕ) → h < length t.top → slice_index t.top h < length t.up
+-- The tables that contracts do not see. A blossom has a leader, a vertex of it, whose number is the handle of all its
+-- vertices where it is outermost. Its vertices are a list, from the first to the last.
+pub record HiddenTables : Type 0 where
+  pub q : List ℤ
+  pub off : List ℤ
+  pub leader : List Vertex
+  pub first : List Vertex
+  pub last : List Vertex
+  pub following : List Vertex
+  -- A mark for each vertex of the trail, and how many entries the trail has room for.
+  pub touched : List Bool
+  pub room : ℕ
+  -- The numbers of sets that are in use.
+  pub pool : List (Option Node)
+
+-- The tables are as long as there are vertices, or numbers of blossoms.
+pub record HasSizes (t : ForestTables) (h : HiddenTables) : Type 0 where
   pub few : length t.up ≤ 2 ^ 26
   pub vertices : length t.hand ≤ length t.up
-  pub size_q : length q ≡ length t.hand
-  pub size_off : length off ≡ length t.top
-  pub size_base : length t.base ≡ length t.up
-  pub size_label : length t.label ≡ length t.up
-  pub size_mate : length t.mate ≡ length t.up
-  pub size_link : length t.link ≡ length t.up
-  pub size_rank : length t.rank ≡ length t.up
-  pub size_after : length t.after ≡ length t.up
-  pub size_joint : length t.joint ≡ length t.up
-  pub size_head : length t.head ≡ length t.up
-  pub size_parts : length t.parts ≡ length t.up
-  pub ups : (b : Blossom) → b < length t.up → slice_index t.up b < length t.up
-  pub climb : IsClimb (length t.hand) (up_at t.up) (out_of t.hand t.top)
-  pub potentials : (v : Vertex) → v < length t.hand → potential (forest_of t) v
-      ≡ told q t.hand t.top off t.label t.delta v
-  pub small : (b : Blossom) → unsigned_abs ((forest_of t).weight b) ≤ 2 ^ 62
-  pub one_hand : (u v : Vertex) → u < length t.hand → v < length t.hand → out_of t.hand t.top u
-      ≡ out_of t.hand t.top v → slice_index t.hand u ≡ slice_index t.hand v
+  pub top : length t.top ≡ length t.hand
+  pub q : length h.q ≡ length t.hand
+  pub off : length h.off ≡ length t.top
+  pub following : length h.following ≡ length t.hand
+  pub touched : length h.touched ≡ length t.hand
+  pub base : length t.base ≡ length t.up
+  pub label : length t.label ≡ length t.up
+  pub mate : length t.mate ≡ length t.up
+  pub link : length t.link ≡ length t.up
+  pub rank : length t.rank ≡ length t.up
+  pub after : length t.after ≡ length t.up
+  pub joint : length t.joint ≡ length t.up
+  pub head : length t.head ≡ length t.up
+  pub parts : length t.parts ≡ length t.up
+  pub leader : length h.leader ≡ length t.up
+  pub first : length h.first ≡ length t.up
+  pub last : length h.last ≡ length t.up
+  pub room : length t.hand ≤ h.room
+
+-- Following from one vertex so many times, one comes past another.
+abbrev pub listed : (next : ℕ → ℕ) (from many x : ℕ) → Bool
+listed next from zero x = false
+listed next from (suc k) x = listed next from k x || (walk next from k == x)
+
+-- So many different vertices follow each other from one to another, and they are those of a set.
+pub record IsListed (n : ℕ) (next : ℕ → ℕ) (from to many : ℕ) (set : Vertex → Bool) : Type 0 where
+  pub all : (v : Vertex) → v < n → listed next from many v ≡ set v
+  pub low : (k : ℕ) → k < many → walk next from k < n
+  pub distinct : (i j : ℕ) → i < j → j < many → walk next from i ≢ walk next from j
+  pub ends : (k : ℕ) → suc k ≡ many → walk next from k ≡ to
+  pub some : 1 ≤ many
+
+-- A number that is in use: that of a vertex, or of a set with parts.
+abbrev pub IsInUse : (n : ℕ) (parts : List ℕ) (x : Blossom) → Type 0
+IsInUse n parts x = (x < n) ⊎ (slice_index parts x ≢ 0)
+
+-- The tables of the nest fit each other.
+pub record IsLaidOut (n size : ℕ) (hand top up rank parts leader first last following : List ℕ) : Type 0 where
+  pub hands : (v : Vertex) → v < n → slice_index hand v < length top
+  pub outs : (h : ℕ) → h < length top → slice_index top h < size
+  pub ups : (b : Blossom) → b < size → slice_index up b < size
+  pub climb : IsClimb n (up_at up) (out_of hand top)
+  pub led : (v : Vertex) → v < n → slice_index hand v ≡ slice_index leader (out_of hand top v)
+  pub leaders : (x : Blossom) → x < size → IsInUse n parts x
+      → (slice_index leader x < n) × (climbs (up_at up) n x (slice_index leader x) ≡ true)
+  pub members : (x : Blossom) → x < size → IsInUse n parts x
+      → IsListed n (slice_index following) (slice_index first x) (slice_index last x) (slice_index rank x)
+      (climbs (up_at up) n x)
+  pub ended : (v : Vertex) → v < n
+      → slice_index following (slice_index last (out_of hand top v)) ≡ slice_index last (out_of hand top v)
+  pub idle : (x : Blossom) → n ≤ x → slice_index parts x ≡ 0 → up_at up x ≡ x
+  pub rises : (x : Blossom) → up_at up x ≢ x → slice_index rank x < slice_index rank (up_at up x)
+  pub ranks : (x : Blossom) → slice_index rank x ≤ n
+
+-- The sum of the weights of the blossoms that one climbs past from a vertex, and of all.
+abbrev pub weights_around : (hand up : List ℕ) (base : List ℤ) (label : List Label) (delta : ℤ) (v : Vertex) → ℤ
+weights_around hand up base label delta v =
+    total_below (λ b. if climbs (up_at up) (length hand) b v then weight_at base label delta b else pos 0) (length up)
+
+abbrev pub all_weights : (up : List ℕ) (base : List ℤ) (label : List Label) (delta : ℤ) → ℤ
+all_weights up base label delta = total_below (weight_at base label delta) (length up)
+
+-- The potentials are told, and no number is large.
+pub record HasNumbers (hand top up : List ℕ) (base : List ℤ) (label : List Label) (delta : ℤ) (root : Option ℕ)
+    (q off : List ℤ) : Type 0 where
+  pub potentials : (v : Vertex) → v < length hand → weights_around hand up base label delta v
+      ≡ told q hand top off label delta v
+  pub small : (b : Blossom) → unsigned_abs (weight_at base label delta b) ≤ 2 ^ 62
   pub start : ℤ
   pub small_start : unsigned_abs start ≤ 2 ^ 90
-  pub moved : (v : Vertex) → v < length t.hand
-      → pos (unsigned_abs (added t.hand t.top off t.label t.delta v)) ≤ℤ (dual_sum_of (forest_of t) -ℤ start)
-  pub risen : (pos 0 ≤ℤ t.delta) × (t.delta ≤ℤ (dual_sum_of (forest_of t) -ℤ start))
-  pub still : t.root ≡ None → t.delta ≡ pos 0
-  pub named : (b : Blossom) → label_at t.label b ≢ Outside → IsOutermostIn t b
+  pub moved : (v : Vertex) → v < length hand
+      → pos (unsigned_abs (added hand top off label delta v)) ≤ℤ (all_weights up base label delta -ℤ start)
+  pub risen : (pos 0 ≤ℤ delta) × (delta ≤ℤ (all_weights up base label delta -ℤ start))
+  pub still : root ≡ None → delta ≡ pos 0
+
+-- A vertex is on the trail.
+abbrev pub IsOnTrail : (trail : List Vertex) (v : Vertex) → Type 0
+IsOnTrail trail v = (k : ℕ) × (k < length trail) × (slice_index trail k ≡ v)
+
+-- Each blossom with a place in the tree has a vertex on the trail, and each vertex is there at most once.
+pub record IsTrailed (n : ℕ) (hand top : List ℕ) (label : List Label) (trail : List Vertex) (touched : List Bool)
+    : Type 0 where
+  pub low : (k : ℕ) → k < length trail → slice_index trail k < n
+  pub counted : length trail ≡ count_by (λ mark. mark) touched
+  pub marked : (v : Vertex) → slice_index_or touched v false ≡ true → IsOnTrail trail v
+  pub named : (b : Blossom) → label_at label b ≢ Outside → (k : ℕ) × (k < length trail)
+      × (out_of hand top (slice_index trail k) ≡ b)
+
+-- The sets in use are those that live in the pool.
+pub record IsPooled (n size : ℕ) (parts : List ℕ) (pool : List (Option Node)) : Type 0 where
+  pub room : n + length pool ≡ size
+  pub half : length pool ≡ n / 2
+  pub free : (k : ℕ) → slice_get pool k ≡ Some None → slice_index parts (n + k) ≡ 0
+  pub live : (k : ℕ) → slice_index parts (n + k) ≢ 0 → (node : Node) × (slice_get pool k ≡ Some (Some node))
+  pub vertices : (v : Vertex) → v < n → slice_index parts v ≡ 0
+
+-- The hidden tables fit those that contracts see.
+pub record AreTied (t : ForestTables) (h : HiddenTables) : Type 0 where
+  pub sizes : HasSizes t h
+  pub nest : IsLaidOut (length t.hand) (length t.up) t.hand t.top t.up t.rank t.parts h.leader h.first h.last
+      h.following
+  pub numbers : HasNumbers t.hand t.top t.up t.base t.label t.delta t.root h.q h.off
+  pub trail : IsTrailed (length t.hand) t.hand t.top t.label t.trail h.touched
+  pub pool : IsPooled (length t.hand) (length t.up) t.parts h.pool
 
 -- Only labels, mates, links and weights may differ: the blossoms and the root are the same.
 pub record HasSameNest (old new : ForestTables) : Type 0 where
@@ -134,21 +227,26 @@ pub record HasLowCosts (g : Graph) (edges : ℕ) (lows : List ℤ) : Type 0 wher
   pub second : (e : ℕ) → e < edges → slice_index_or lows (edge_at g e).v (pos 0) ≤ℤ (edge_at g e).cost
 
 -- The tables of a forest of single vertices, of the weights `lows`.
-pub record IsFresh (n size : ℕ) (lows : List ℤ) (t : ForestTables) (q off : List ℤ) : Type 0 where
-  pub vertices : n ≤ size
+pub record IsFresh (n size : ℕ) (lows : List ℤ) (t : ForestTables) (h : HiddenTables) : Type 0 where
+  pub size_is : size ≡ n + n / 2
   pub few : size ≤ 2 ^ 26
   pub hand : IsCounted n t.hand
   pub top : IsCounted n t.top
   pub up : IsCounted size t.up
+  pub lists : IsCounted size h.leader × IsCounted size h.first × IsCounted size h.last × IsCounted n h.following
   pub size_lows : length lows ≡ n
-  pub kept : q ≡ lows
-  pub offs : off ≡ replicate n (pos 0)
+  pub kept : h.q ≡ lows
+  pub offs : h.off ≡ replicate n (pos 0)
   pub size_base : length t.base ≡ size
   pub base : (k : ℕ) → slice_index_or t.base k (pos 0) ≡ slice_index_or lows k (pos 0)
   pub label : t.label ≡ replicate size Outside
   pub mate : t.mate ≡ replicate size None
   pub parts : t.parts ≡ replicate size 0
-  pub sizes : (length t.link ≡ size) × (length t.after ≡ size) × (length t.joint ≡ size) × (length t.head
-      ≡ size) × (length t.rank ≡ size)
+  pub rank : t.rank ≡ replicate size 1
+  pub sizes : (length t.link ≡ size) × (length t.after ≡ size) × (length t.joint ≡ size) × (length t.head ≡ size)
   pub delta : t.delta ≡ pos 0
   pub root : t.root ≡ None
+  pub trail : length t.trail ≡ 0
+  pub touched : h.touched ≡ replicate n false
+  pub room : n ≤ h.room
+  pub pool : h.pool ≡ replicate (n / 2) None

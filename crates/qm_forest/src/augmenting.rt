@@ -1,6 +1,6 @@
 //! Augmenting: the matching is changed along the way to the root, and the tree is given up.
 
-ghost use Rattle.std.specs.Prelude.{◌≡◌, ◌≢◌, ◌<◌, ℕ, length, Option, Some, None};
+ghost use Rattle.std.specs.Prelude.{◌≡◌, ◌≢◌, ◌<◌, ℕ, length, slice_index, slice_index_or, true, false, Option, Some, None};
 ghost use Rattle.def_matching.specs.Matching.{IsSmallGraph, graph};
 ghost use Rattle.def_forest.specs.Darts.{darts_of, far};
 ghost use Rattle.def_forest.specs.Forests.{Blossom};
@@ -62,26 +62,60 @@ impl Forest {
         self.set_mate(at, Some(next));
     }
 
-    /// Puts all blossoms outside: no tree stands.
+    /// Puts all blossoms outside: no tree stands. Takes the time of what the search touched.
     fn end_search(&mut self)
         ensures seen { forest_of self.new ≡ with_mates (forest_of self.old) (forest_of self.old).mate }
         ensures root { self.new.root ≡ None }
         ensures hand { self.new.hand ≡ self.old.hand }
     {
-        for v in 0..self.vertices() {
+        for k in 0..self.trail_length() {
+            let v = self.trail_at(k);
             self.set_label(v, Label::Outside);
         }
         self.forget_tree();
     }
 
+    /// How many vertices are on the trail.
+    fn trail_length(&self) -> usize
+        ensures { result ≡ length self.now.trail }
+    {
+        self.trail.vertices.len()
+    }
+
+    /// A vertex on the trail.
+    fn trail_at(&self, k: usize) -> u32
+        requires { k < length self.now.trail }
+        ensures value { result ≡ slice_index self.now.trail k }
+        ensures low { result < length self.now.hand }
+    {
+        self.trail.vertices[k]
+    }
+
     /// Forgets the tree where all blossoms are outside it.
     fn forget_tree(&mut self)
-        requires { (v : ℕ) → v < length self.old.hand → (forest_of self.old).label ((forest_of self.old).out v) ≡ Outside }
+        requires { (k : ℕ) → k < length self.old.trail
+            → (forest_of self.old).label ((forest_of self.old).out (slice_index self.old.trail k)) ≡ Outside }
         ensures seen { forest_of self.new ≡ relabelled (forest_of self.old) (λ b. Outside) }
         ensures root { self.new.root ≡ None }
         ensures hand { self.new.hand ≡ self.old.hand }
     {
-        self.root = None;
-        self.delta = 0;
+        self.tree.root = None;
+        self.weights.delta = 0;
+        clear(&mut self.trail.touched, &self.trail.vertices);
+        self.trail.vertices.clear();
+    }
+}
+
+/// Takes the marks away that stand at some places.
+fn clear(marks: &mut Vec<bool>, places: &[u32])
+    requires { (k : ℕ) → k < length places.now → slice_index places.now k < length marks.old.items }
+    ensures size { length marks.new.items ≡ length marks.old.items }
+    ensures old { (v : ℕ) → slice_index_or marks.new.items v false ≡ true
+        → slice_index_or marks.old.items v false ≡ true }
+    ensures gone { (k : ℕ) → k < length places.now
+        → slice_index_or marks.new.items (slice_index places.now k) false ≡ false }
+{
+    for place in places {
+        marks[*place as usize] = false;
     }
 }

@@ -6,7 +6,9 @@ ghost use Rattle.def_forest.specs.Tables.{forest_of, label_at, IsOutermostIn};
 ghost use Rattle.qm_forest.specs.Ties.{potential, HasSameNest, labelled, mated, linked};
 
 use crate::numbers::{added_at, hand_of, label_of, sum_at, top_of, weight_from};
+use crate::tables::{Handles, Lists, Rings, Trail, Tree, Weights};
 use def_forest::Label;
+use qm_pool::Pool;
 use std::marker::Model;
 
 /// The matching, the duals, the blossoms as odd rings of blossoms, and at most one alternating tree.
@@ -16,65 +18,43 @@ use std::marker::Model;
 /// vertices of an outermost blossom have one handle.
 #[derive(Drop)]
 pub struct Forest {
-    /// The handle of a vertex, and its potential but for what the handle adds.
-    pub(crate) hand: Vec<u32>,
-    pub(crate) q: Vec<i128>,
-    /// The outermost blossom of a handle, and what it adds to the potentials.
-    pub(crate) top: Vec<u32>,
-    pub(crate) off: Vec<i128>,
-    pub(crate) base: Vec<i128>,
-    pub(crate) delta: i128,
-    pub(crate) label: Vec<Label>,
-    pub(crate) mate: Vec<Option<u32>>,
-    pub(crate) link: Vec<u32>,
-    pub(crate) root: Option<u32>,
-    pub(crate) up: Vec<u32>,
-    pub(crate) after: Vec<u32>,
-    pub(crate) joint: Vec<u32>,
-    pub(crate) head: Vec<u32>,
-    pub(crate) parts: Vec<u32>,
-    pub(crate) rank: Vec<u32>,
+    pub(crate) handles: Handles,
+    pub(crate) lists: Lists,
+    pub(crate) rings: Rings,
+    pub(crate) trail: Trail,
+    pub(crate) weights: Weights,
+    pub(crate) tree: Tree,
+    /// The numbers of sets that are in use.
+    pub(crate) pool: Pool,
 }
 
 impl Model for Forest {
     ghost use Rattle.def_forest.specs.Tables.{ForestTables};
     ghost use Rattle.qm_forest.specs.Ties.{AreTied};
+    ghost use Rattle.qm_forest.specs.Views.{tables_of, hidden_of};
 
     ghost Value = { ForestTables };
 
     ghost view = { λ f. record {
-      hand = f.hand.items;
-      top = f.top.items;
-      base = f.base.items;
-      delta = f.delta;
-      label = f.label.items;
-      mate = f.mate.items;
-      link = f.link.items;
-      root = f.root;
-      up = f.up.items;
-      after = f.after.items;
-      joint = f.joint.items;
-      head = f.head.items;
-      parts = f.parts.items;
-      rank = f.rank.items;
+      hand = f.handles.hand.items;
+      top = f.handles.top.items;
+      base = f.weights.base.items;
+      delta = f.weights.delta;
+      label = f.tree.label.items;
+      mate = f.tree.mate.items;
+      link = f.tree.link.items;
+      root = f.tree.root;
+      up = f.rings.up.items;
+      after = f.rings.after.items;
+      joint = f.rings.joint.items;
+      head = f.rings.head.items;
+      parts = f.rings.parts.items;
+      rank = f.lists.rank.items;
+      trail = f.trail.vertices.items;
     } };
 
-    ghost invariant = { λ f. AreTied (record {
-      hand = f.hand.items;
-      top = f.top.items;
-      base = f.base.items;
-      delta = f.delta;
-      label = f.label.items;
-      mate = f.mate.items;
-      link = f.link.items;
-      root = f.root;
-      up = f.up.items;
-      after = f.after.items;
-      joint = f.joint.items;
-      head = f.head.items;
-      parts = f.parts.items;
-      rank = f.rank.items;
-    }) f.q.items f.off.items };
+    ghost invariant = { λ f. AreTied (tables_of f.handles f.lists f.rings f.trail f.weights f.tree)
+        (hidden_of f.handles f.lists f.trail f.pool) };
 }
 
 impl Forest {
@@ -85,7 +65,7 @@ impl Forest {
         ensures outermost { IsOutermostIn self.now result }
         ensures low { result < length self.now.up }
     {
-        top_of(&self.hand, &self.top, v)
+        top_of(&self.handles.hand, &self.handles.top, v)
     }
 
     /// Where an outermost blossom stands.
@@ -93,7 +73,7 @@ impl Forest {
         requires { IsOutermostIn self.now b }
         ensures { result ≡ (forest_of self.now).label b }
     {
-        label_of(&self.label, b)
+        label_of(&self.tree.label, b)
     }
 
     /// Whether an outermost blossom is matched.
@@ -101,7 +81,7 @@ impl Forest {
         requires { IsOutermostIn self.now b }
         ensures { result ≡ is_some ((forest_of self.now).mate b) }
     {
-        self.mate[b as usize].is_some()
+        self.tree.mate[b as usize].is_some()
     }
 
     /// The weight of an outermost blossom.
@@ -109,14 +89,14 @@ impl Forest {
         requires { IsOutermostIn self.now b }
         ensures { result ≡ (forest_of self.now).weight b }
     {
-        weight_from(&self.base, &self.label, self.delta, b) as i64
+        weight_from(&self.weights.base, &self.tree.label, self.weights.delta, b) as i64
     }
 
     /// How many vertices there are.
     pub(crate) fn vertices(&self) -> u32
         ensures { result ≡ length self.now.hand }
     {
-        self.hand.len() as u32
+        self.handles.hand.len() as u32
     }
 
     /// The dart by which an outermost blossom is matched.
@@ -124,7 +104,7 @@ impl Forest {
         requires { b < length self.now.up }
         ensures { result ≡ (forest_of self.now).mate b }
     {
-        self.mate[b as usize]
+        self.tree.mate[b as usize]
     }
 
     /// The dart from an inner blossom towards the root.
@@ -132,7 +112,7 @@ impl Forest {
         requires { b < length self.now.up }
         ensures { result ≡ (forest_of self.now).link b }
     {
-        self.link[b as usize]
+        self.tree.link[b as usize]
     }
 
     /// The sum of the weights of the blossoms around a vertex.
@@ -141,9 +121,12 @@ impl Forest {
         ensures value { result ≡ potential (forest_of self.now) v }
         ensures small { unsigned_abs result ≤ 2 ^ 90 }
     {
-        let handle = hand_of(&self.hand, v);
-        let label = label_of(&self.label, top_of(&self.hand, &self.top, v));
-        let more = added_at(&self.off, handle, label, self.delta);
-        sum_at(&self.q, v, more)
+        let handle = hand_of(&self.handles.hand, v);
+        let label = label_of(
+            &self.tree.label,
+            top_of(&self.handles.hand, &self.handles.top, v),
+        );
+        let more = added_at(&self.handles.off, handle, label, self.weights.delta);
+        sum_at(&self.handles.q, v, more)
     }
 }

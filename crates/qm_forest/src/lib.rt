@@ -9,6 +9,7 @@ mod loads;
 mod numbers;
 mod search;
 mod start;
+mod tables;
 mod writes;
 
 pub use forest::Forest;

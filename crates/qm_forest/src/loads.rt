@@ -76,7 +76,7 @@ impl Forest {
         ensures value { result ≡ up_at self.now.up b }
         ensures low { result < length self.now.up }
     {
-        self.up[b as usize]
+        self.rings.up[b as usize]
     }
 
     /// The weight that is kept of a blossom. All weights are small.
@@ -88,7 +88,7 @@ impl Forest {
         ensures climb { IsClimb (length self.now.hand) (up_at self.now.up) (forest_of self.now).out }
         ensures small { (k : Blossom) → unsigned_abs ((forest_of self.now).weight k) ≤ 2 ^ 62 }
     {
-        self.base[b as usize]
+        self.weights.base[b as usize]
     }
 
     /// Two blossoms, that of lower rank first.
@@ -97,7 +97,7 @@ impl Forest {
         ensures either { ((result.0 ≡ x) × (result.1 ≡ y)) ⊎ ((result.0 ≡ y) × (result.1 ≡ x)) }
         ensures order { slice_index self.now.rank result.0 ≤ slice_index self.now.rank result.1 }
     {
-        if self.rank[x as usize] <= self.rank[y as usize] {
+        if self.lists.rank[x as usize] <= self.lists.rank[y as usize] {
             (x, y)
         } else {
             (y, x)

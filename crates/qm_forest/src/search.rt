@@ -34,7 +34,7 @@ impl Forest {
         ensures hand { self.new.hand ≡ self.old.hand }
         ensures root { self.new.root ≡ Some b }
     {
-        self.root = Some(b);
+        self.tree.root = Some(b);
     }
 
     /// Adds `t` at outer blossoms, and takes it away at inner ones.
@@ -49,8 +49,8 @@ impl Forest {
         ensures valid { IsValidFor (graph g.now) self.new }
     {
         let _ = g;
-        if self.root.is_some() {
-            self.delta += i128::from(t);
+        if self.tree.root.is_some() {
+            self.weights.delta += i128::from(t);
         }
     }
 }

@@ -1,14 +1,18 @@
 //! A forest of single vertices, whose weights are the least costs.
 
-ghost use Rattle.std.specs.Prelude.{◌≡◌, ◌+◌, ◌*◌, ◌/◌, ◌^◌, ◌<◌, ◌≤◌, ℕ, pos, length, slice_index, slice_index_or, unsigned_abs, replicate, IfOk, None};
+ghost use Rattle.std.specs.Prelude.{◌≡◌, ◌+◌, ◌*◌, ◌/◌, ◌^◌, ◌<◌, ◌≤◌, ℕ, pos, length, slice_index, slice_index_or, unsigned_abs, replicate, false, IfOk, None};
+ghost use Rattle.std.specs.Vec.{vec_capacity};
 ghost use Rattle.def_matching.specs.Matching.{graph, edge_at, IsSmallGraph};
 ghost use Rattle.def_forest.specs.Tables.{forest_of, IsValidFor};
+ghost use Rattle.def_forest.specs.declared.kinds.Label.TheVariants.{Outside};
 ghost use Rattle.qm_forest.specs.Ties.{HasLowCosts, IsCounted, IsLowered};
 
 use crate::darts::edge_of;
 use crate::forest::Forest;
+use crate::tables::{Handles, Lists, Rings, Trail, Tree, Weights};
 use def_forest::Label;
 use def_matching::WGraph;
+use qm_pool::Pool;
 use std::alloc::{AllocError, Global};
 
 /// Want of memory.
@@ -30,24 +34,108 @@ impl Forest {
         let size = n + n / 2;
         let lows = least_costs(alloc, g)?;
         Ok(Forest {
-            hand: numbers_below(alloc, n)?,
-            top: numbers_below(alloc, n)?,
-            off: vec![in alloc; 0i128; n]?,
-            base: padded(alloc, &lows, size)?,
-            q: lows,
-            delta: 0,
-            label: vec![in alloc; Label::Outside; size]?,
-            mate: vec![in alloc; None; size]?,
-            link: vec![in alloc; 0u32; size]?,
-            root: None,
-            up: numbers_below(alloc, size)?,
-            after: vec![in alloc; 0u32; size]?,
-            joint: vec![in alloc; 0u32; size]?,
-            head: vec![in alloc; 0u32; size]?,
-            parts: vec![in alloc; 0u32; size]?,
-            rank: vec![in alloc; 1u32; size]?,
+            weights: Weights {
+                base: padded(alloc, &lows, size)?,
+                delta: 0,
+            },
+            handles: single_handles(alloc, lows)?,
+            lists: single_lists(alloc, n, size)?,
+            rings: no_rings(alloc, size)?,
+            trail: empty_trail(alloc, n)?,
+            tree: no_tree(alloc, size)?,
+            pool: empty_pool(alloc, n / 2)?,
         })
     }
+}
+
+/// A handle for each vertex, its own.
+fn single_handles(alloc: Global, lows: Vec<i128>) -> Result<Handles, Memory>
+    requires { length lows.items ≤ 2 ^ 26 }
+    ensures hand { IfOk result (λ h. IsCounted (length lows.items) h.hand.items) }
+    ensures top { IfOk result (λ h. IsCounted (length lows.items) h.top.items) }
+    ensures q { IfOk result (λ h. h.q.items ≡ lows.items) }
+    ensures off { IfOk result (λ h. h.off.items ≡ replicate (length lows.items) (pos 0)) }
+{
+    let n = lows.len();
+    Ok(Handles {
+        hand: numbers_below(alloc, n)?,
+        top: numbers_below(alloc, n)?,
+        off: vec![in alloc; 0i128; n]?,
+        q: lows,
+    })
+}
+
+/// Each blossom is the list of its one vertex.
+fn single_lists(alloc: Global, n: usize, size: usize) -> Result<Lists, Memory>
+    requires { (n ≤ 2 ^ 26) × (size ≤ 2 ^ 26) }
+    ensures leader { IfOk result (λ l. IsCounted size l.leader.items) }
+    ensures first { IfOk result (λ l. IsCounted size l.first.items) }
+    ensures last { IfOk result (λ l. IsCounted size l.last.items) }
+    ensures following { IfOk result (λ l. IsCounted n l.following.items) }
+    ensures rank { IfOk result (λ l. l.rank.items ≡ replicate size 1) }
+{
+    Ok(Lists {
+        leader: numbers_below(alloc, size)?,
+        first: numbers_below(alloc, size)?,
+        last: numbers_below(alloc, size)?,
+        following: numbers_below(alloc, n)?,
+        rank: vec![in alloc; 1u32; size]?,
+    })
+}
+
+/// No set has parts.
+fn no_rings(alloc: Global, size: usize) -> Result<Rings, Memory>
+    requires { size ≤ 2 ^ 26 }
+    ensures up { IfOk result (λ r. IsCounted size r.up.items) }
+    ensures parts { IfOk result (λ r. r.parts.items ≡ replicate size 0) }
+    ensures after { IfOk result (λ r. length r.after.items ≡ size) }
+    ensures joint { IfOk result (λ r. length r.joint.items ≡ size) }
+    ensures head { IfOk result (λ r. length r.head.items ≡ size) }
+{
+    Ok(Rings {
+        up: numbers_below(alloc, size)?,
+        after: vec![in alloc; 0u32; size]?,
+        joint: vec![in alloc; 0u32; size]?,
+        head: vec![in alloc; 0u32; size]?,
+        parts: vec![in alloc; 0u32; size]?,
+    })
+}
+
+/// No blossom is matched, and no tree stands.
+fn no_tree(alloc: Global, size: usize) -> Result<Tree, Memory>
+    ensures label { IfOk result (λ t. t.label.items ≡ replicate size Outside) }
+    ensures mate { IfOk result (λ t. t.mate.items ≡ replicate size None) }
+    ensures link { IfOk result (λ t. length t.link.items ≡ size) }
+    ensures root { IfOk result (λ t. t.root ≡ None) }
+{
+    Ok(Tree {
+        label: vec![in alloc; Label::Outside; size]?,
+        mate: vec![in alloc; None; size]?,
+        link: vec![in alloc; 0u32; size]?,
+        root: None,
+    })
+}
+
+/// A trail without vertices, with room for all.
+fn empty_trail(alloc: Global, n: usize) -> Result<Trail, Memory>
+    ensures vertices { IfOk result (λ t. length t.vertices.items ≡ 0) }
+    ensures touched { IfOk result (λ t. t.touched.items ≡ replicate n false) }
+    ensures room { IfOk result (λ t. n ≤ vec_capacity t.vertices) }
+{
+    Ok(Trail {
+        vertices: Vec::with_capacity(alloc, n)?,
+        touched: vec![in alloc; false; n]?,
+    })
+}
+
+/// A pool of so many sets, none of them in use.
+fn empty_pool(alloc: Global, room: usize) -> Result<Pool, Memory>
+    requires { room ≤ 2 ^ 26 }
+    ensures { IfOk result (λ p. p ≡ replicate room None) }
+{
+    let mut pool = Pool::new(alloc);
+    pool.reserve(room as u32)?;
+    Ok(pool)
 }
 
 /// The least cost at each vertex.

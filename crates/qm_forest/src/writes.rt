@@ -3,7 +3,7 @@
 ghost use Rattle.std.specs.Prelude.{◌≡◌, ◌≢◌, ◌+ℤ◌, ◌-ℤ◌, ◌^◌, ◌<◌, ◌≤◌, ℕ, pos, length, slice_index_or, unsigned_abs, Option, None};
 ghost use Rattle.def_forest.specs.Tables.{forest_of, IsOutermostIn};
 ghost use Rattle.def_forest.specs.declared.kinds.Label.TheVariants.{Outside};
-ghost use Rattle.qm_forest.specs.Ties.{HasSameNest, labelled, mated, linked, relabelled};
+ghost use Rattle.qm_forest.specs.Ties.{HasSameNest, IsOnTrail, labelled, mated, linked, relabelled};
 
 use crate::forest::Forest;
 use crate::numbers::{hand_of, label_of, shift_at, top_of};
@@ -16,7 +16,7 @@ impl Forest {
         ensures seen { forest_of self.new ≡ mated (forest_of self.old) b mate }
         ensures same { HasSameNest self.old self.new }
     {
-        self.mate[b as usize] = mate;
+        self.tree.mate[b as usize] = mate;
     }
 
     /// Gives an inner blossom its dart towards the root.
@@ -25,7 +25,7 @@ impl Forest {
         ensures seen { forest_of self.new ≡ linked (forest_of self.old) b link }
         ensures same { HasSameNest self.old self.new }
     {
-        self.link[b as usize] = link;
+        self.tree.link[b as usize] = link;
     }
 
     /// Gives the outermost blossom of a vertex another label. No weight and no potential changes.
@@ -33,16 +33,43 @@ impl Forest {
         requires { v < length self.old.hand }
         ensures seen { forest_of self.new ≡ labelled (forest_of self.old) ((forest_of self.old).out v) label }
         ensures same { HasSameNest self.old self.new }
+        ensures trail { label ≡ Outside → self.new.trail ≡ self.old.trail }
     {
-        let b = top_of(&self.hand, &self.top, v);
-        let handle = hand_of(&self.hand, v);
-        let before = shift_at(label_of(&self.label, b), self.delta);
-        let after = shift_at(label, self.delta);
-        let base = exchanged(&self.base, b, before, after);
-        let off = exchanged(&self.off, handle, before, after);
-        self.base[b as usize] = base;
-        self.off[handle as usize] = off;
-        self.label[b as usize] = label;
+        if label != Label::Outside {
+            self.touch(v);
+        }
+        self.write_label(v, label);
+    }
+
+    /// Puts a vertex on the trail, if it is not there.
+    fn touch(&mut self, v: u32)
+        requires { v < length self.old.hand }
+        ensures here { IsOnTrail self.new.trail v }
+        ensures others { self.new ≡ record self.old { trail = self.new.trail } }
+    {
+        if !self.trail.touched[v as usize] {
+            self.trail.touched[v as usize] = true;
+            self.trail.vertices.push(v).unwrap();
+        }
+    }
+
+    /// Writes the label of the outermost blossom of a vertex, which is on the trail where that is in the tree.
+    fn write_label(&mut self, v: u32, label: Label)
+        requires low { v < length self.old.hand }
+        requires here { label ≢ Outside → IsOnTrail self.old.trail v }
+        ensures seen { forest_of self.new ≡ labelled (forest_of self.old) ((forest_of self.old).out v) label }
+        ensures same { HasSameNest self.old self.new }
+        ensures trail { self.new.trail ≡ self.old.trail }
+    {
+        let b = top_of(&self.handles.hand, &self.handles.top, v);
+        let handle = hand_of(&self.handles.hand, v);
+        let before = shift_at(label_of(&self.tree.label, b), self.weights.delta);
+        let after = shift_at(label, self.weights.delta);
+        let base = exchanged(&self.weights.base, b, before, after);
+        let off = exchanged(&self.handles.off, handle, before, after);
+        self.weights.base[b as usize] = base;
+        self.handles.off[handle as usize] = off;
+        self.tree.label[b as usize] = label;
     }
 }
 

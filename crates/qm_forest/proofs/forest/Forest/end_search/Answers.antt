@@ -1,4 +1,4 @@
-use Rattle.std.proofs.Common.{◌≡◌, ◌∙◌, ap}
+use Rattle.std.proofs.Common.{◌∙◌, ap, refl, get_or}
 use Rattle.def_forest.specs.Forests.{Forest}
 use Rattle.def_forest.specs.Tables.{forest_of}
 use Rattle.def_forest.specs.declared.kinds.Label.TheVariants.{Outside}
@@ -6,9 +6,10 @@ use Rattle.qm_forest.specs.Ties.{labelled}
 use Rattle.qm_forest.proofs.OnWays.{labels_own, one_more_outside, same_nest}
 use Rattle.qm_forest.proofs.forest.Forest.end_search.Goals as goal
 
-pub loop-v-preserved : goal.loop-v-preserved
-loop-v-preserved c = record {
-  seen = labels_own c.args.self.now c.set_label.new.self _ (c.set_label.ensures.seen ∙ ap (λ (f : Forest). labelled f (f.out c.loop-v.v) Outside) c.loop-v.invariant.seen);
-  done = one_more_outside (forest_of c.loop-v.self) (forest_of c.set_label.new.self) c.loop-v.v c.set_label.ensures.seen c.loop-v.invariant.done;
-  same = same_nest _ _ _ c.loop-v.invariant.same c.set_label.ensures.same;
+pub loop-k-preserved : goal.loop-k-preserved
+loop-k-preserved c = record {
+  seen = labels_own c.args.self.now c.set_label.new.self _ (c.set_label.ensures.seen ∙ ap (λ (f : Forest). labelled f (f.out c.trail_at-v.result) Outside) c.loop-k.invariant.seen);
+  done = one_more_outside (forest_of c.loop-k.self) (forest_of c.set_label.new.self) c.args.self.now.trail c.loop-k.k c.trail_at-v.result (c.trail_at-v.ensures.value ∙ ap (λ xs. get_or xs c.loop-k.k 0) c.loop-k.invariant.trail) c.set_label.ensures.seen c.loop-k.invariant.done;
+  same = same_nest _ _ _ c.loop-k.invariant.same c.set_label.ensures.same;
+  trail = c.set_label.ensures.trail refl ∙ c.loop-k.invariant.trail;
 }

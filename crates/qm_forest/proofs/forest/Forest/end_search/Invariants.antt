@@ -1,12 +1,13 @@
-use Rattle.std.proofs.Common.{◌≡◌, ℕ, ◌<◌}
+use Rattle.std.proofs.Common.{◌≡◌, ℕ, ◌<◌, get_or}
 use Rattle.def_forest.specs.Tables.{forest_of}
 use Rattle.def_forest.specs.declared.kinds.Label.TheVariants.{Outside}
 use Rattle.qm_forest.specs.Ties.{HasSameNest, relabelled}
 use Rattle.qm_forest.proofs.forest.Forest.end_search.Given as goal
 
-abbrev pub invariant-loop-v : goal.invariant-loop-v
-invariant-loop-v l = record {
+abbrev pub invariant-loop-k : goal.invariant-loop-k
+invariant-loop-k l = record {
   seen : forest_of l.self ≡ relabelled (forest_of l.fn.self) (forest_of l.self).label;
-  done : (u : ℕ) → u < l.v → (forest_of l.self).label ((forest_of l.self).out u) ≡ Outside;
+  done : (i : ℕ) → i < l.k → (forest_of l.self).label ((forest_of l.self).out (get_or l.fn.self.trail i 0)) ≡ Outside;
   same : HasSameNest l.fn.self l.self;
+  trail : l.self.trail ≡ l.fn.self.trail;
 }

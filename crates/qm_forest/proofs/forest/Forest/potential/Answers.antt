@@ -1,36 +1,43 @@
-use Rattle.std.proofs.Common.{◌≤◌, ◌<◌, ◌^◌, ◌≡◌, length, arith, rules, subst, sym, ap, ◌∙◌, get_or, pos, ◌+ℤ◌, ℤ, List}
-use Rattle.std.specs.Prelude.{unsigned_abs}
+use Rattle.std.proofs.Common.{◌<◌, ◌≡◌, length, arith, subst, sym, ap, get_or, pos, ◌+ℤ◌}
 use Rattle.std.proofs.lemmas.Int.{ints}
 use mir.Syntax.{w128}
 use mir.Val.{to_z, of_z}
 use Rattle.def_forest.specs.Steps.{change}
-use Rattle.def_forest.specs.Tables.{ForestTables, label_at, out_of, forest_of}
-use Rattle.qm_forest.specs.Ties.{added, told, potential}
-use Rattle.qm_forest.proofs.Ranges.{delta_small, added_small, added_bound, told_bound, told_small, potential_small, kept_in_bits}
+use Rattle.def_forest.specs.Tables.{ForestTables, forest_of}
+use Rattle.qm_forest.specs.Ties.{added, potential}
+use Rattle.qm_forest.proofs.Ranges.{delta_small, added_small, added_bound, told_bound, potential_small, kept_in_bits}
 use Rattle.qm_forest.proofs.forest.Forest.potential.Goals as goal
 
 pub added_at-more-requires-clause-delta : goal.added_at-more-requires-clause-delta
-added_at-more-requires-clause-delta c = omega (arith, ints, delta_small _ _ _ c.self.invariant)
+added_at-more-requires-clause-delta c = omega (arith, ints, delta_small _ _ c.self.invariant)
 
 pub added_at-more-requires-clause-small : goal.added_at-more-requires-clause-small
 added_at-more-requires-clause-small c =
-    let low : c.args.v < length c.self.inside.hand.items = subst (λ (t : ForestTables). c.args.v < length t.hand) (sym c.self.view_is) c.requires in
-    let more : get_or c.deref-5.result.now c.hand_of-handle.result (pos 0) +ℤ change c.label_of-label.result (to_z w128 (of_z w128 c.self.inside.delta)) ≡ added c.self.inside.hand.items c.self.inside.top.items c.self.inside.off.items c.self.inside.label.items c.self.inside.delta c.args.v =
-    added_bound _ _ _ c.self.invariant c.args.v low _ _ _ _ c.deref-5.ensures.value (cc) (cc) (kept_in_bits _ (omega (arith, delta_small _ _ _ c.self.invariant))) in
-    omega (arith, ints, more, added_small _ _ _ c.self.invariant c.args.v low)
+    let low : c.args.v < length c.self.inside.handles.hand.items = subst (λ (t : ForestTables). c.args.v < length t.hand) (sym c.self.view_is) c.requires in
+    let more : get_or c.deref-5.result.now c.hand_of-handle.result (pos 0) +ℤ change c.label_of-label.result (to_z w128 (of_z w128 c.self.inside.weights.delta)) ≡ added c.self.inside.handles.hand.items c.self.inside.handles.top.items c.self.inside.handles.off.items c.self.inside.tree.label.items c.self.inside.weights.delta c.args.v =
+    added_bound _ _ c.self.invariant c.args.v low _ _ _ _ c.deref-5.ensures.value (cc) (cc) (kept_in_bits _ (omega (arith, delta_small _ _ c.self.invariant))) in
+    omega (arith, ints, more, added_small _ _ c.self.invariant c.args.v low)
 
 pub sum_at-requires-clause-small : goal.sum_at-requires-clause-small
 sum_at-requires-clause-small c =
-    let low : c.args.v < length c.self.inside.hand.items = subst (λ (t : ForestTables). c.args.v < length t.hand) (sym c.self.view_is) c.requires in
-    let more : get_or c.deref-5.result.now c.hand_of-handle.result (pos 0) +ℤ change c.label_of-label.result (to_z w128 (of_z w128 c.self.inside.delta)) ≡ added c.self.inside.hand.items c.self.inside.top.items c.self.inside.off.items c.self.inside.label.items c.self.inside.delta c.args.v =
-    added_bound _ _ _ c.self.invariant c.args.v low _ _ _ _ c.deref-5.ensures.value (cc) (cc) (kept_in_bits _ (omega (arith, delta_small _ _ _ c.self.invariant))) in
-    let kept : to_z w128 (of_z w128 c.added_at-more.result) ≡ added c.self.inside.hand.items c.self.inside.top.items c.self.inside.off.items c.self.inside.label.items c.self.inside.delta c.args.v = omega (arith, ints, more, c.added_at-more.ensures, added_small _ _ _ c.self.invariant c.args.v low) in
-    omega (arith, ints, told_bound _ _ _ c.self.invariant c.args.v low c.deref-6.result.now _ c.deref-6.ensures.value kept, potential_small _ _ _ c.self.invariant c.args.v)
+    let low : c.args.v < length c.self.inside.handles.hand.items = subst (λ (t : ForestTables). c.args.v < length t.hand) (sym c.self.view_is) c.requires in
+    let more : get_or c.deref-5.result.now c.hand_of-handle.result (pos 0) +ℤ change c.label_of-label.result (to_z w128 (of_z w128 c.self.inside.weights.delta)) ≡ added c.self.inside.handles.hand.items c.self.inside.handles.top.items c.self.inside.handles.off.items c.self.inside.tree.label.items c.self.inside.weights.delta c.args.v =
+    added_bound _ _ c.self.invariant c.args.v low _ _ _ _ c.deref-5.ensures.value (cc) (cc) (kept_in_bits _ (omega (arith, delta_small _ _ c.self.invariant))) in
+    let kept : to_z w128 (of_z w128 c.added_at-more.result) ≡ added c.self.inside.handles.hand.items c.self.inside.handles.top.items c.self.inside.handles.off.items c.self.inside.tree.label.items c.self.inside.weights.delta c.args.v = omega (arith, ints, more, c.added_at-more.ensures, added_small _ _ c.self.invariant c.args.v low) in
+    omega (arith, ints, told_bound _ _ c.self.invariant c.args.v low c.deref-6.result.now _ c.deref-6.ensures.value kept, potential_small _ _ c.self.invariant c.args.v)
 
 pub returns-clause-small : goal.returns-clause-small
 returns-clause-small c =
-    let low : c.args.v < length c.self.inside.hand.items = subst (λ (t : ForestTables). c.args.v < length t.hand) (sym c.self.view_is) c.requires in
-    let more : get_or c.deref-5.result.now c.hand_of-handle.result (pos 0) +ℤ change c.label_of-label.result (to_z w128 (of_z w128 c.self.inside.delta)) ≡ added c.self.inside.hand.items c.self.inside.top.items c.self.inside.off.items c.self.inside.label.items c.self.inside.delta c.args.v =
-    added_bound _ _ _ c.self.invariant c.args.v low _ _ _ _ c.deref-5.ensures.value (cc) (cc) (kept_in_bits _ (omega (arith, delta_small _ _ _ c.self.invariant))) in
-    let kept : to_z w128 (of_z w128 c.added_at-more.result) ≡ added c.self.inside.hand.items c.self.inside.top.items c.self.inside.off.items c.self.inside.label.items c.self.inside.delta c.args.v = omega (arith, ints, more, c.added_at-more.ensures, added_small _ _ _ c.self.invariant c.args.v low) in
-    omega (arith, ints, c.sum_at.ensures, told_bound _ _ _ c.self.invariant c.args.v low c.deref-6.result.now _ c.deref-6.ensures.value kept, potential_small _ _ _ c.self.invariant c.args.v)
+    let low : c.args.v < length c.self.inside.handles.hand.items = subst (λ (t : ForestTables). c.args.v < length t.hand) (sym c.self.view_is) c.requires in
+    let more : get_or c.deref-5.result.now c.hand_of-handle.result (pos 0) +ℤ change c.label_of-label.result (to_z w128 (of_z w128 c.self.inside.weights.delta)) ≡ added c.self.inside.handles.hand.items c.self.inside.handles.top.items c.self.inside.handles.off.items c.self.inside.tree.label.items c.self.inside.weights.delta c.args.v =
+    added_bound _ _ c.self.invariant c.args.v low _ _ _ _ c.deref-5.ensures.value (cc) (cc) (kept_in_bits _ (omega (arith, delta_small _ _ c.self.invariant))) in
+    let kept : to_z w128 (of_z w128 c.added_at-more.result) ≡ added c.self.inside.handles.hand.items c.self.inside.handles.top.items c.self.inside.handles.off.items c.self.inside.tree.label.items c.self.inside.weights.delta c.args.v = omega (arith, ints, more, c.added_at-more.ensures, added_small _ _ c.self.invariant c.args.v low) in
+    omega (arith, ints, c.sum_at.ensures, told_bound _ _ c.self.invariant c.args.v low c.deref-6.result.now _ c.deref-6.ensures.value kept, potential_small _ _ c.self.invariant c.args.v)
+
+pub returns-clause-value : goal.returns-clause-value
+returns-clause-value c =
+    let low : c.args.v < length c.self.inside.handles.hand.items = subst (λ (t : ForestTables). c.args.v < length t.hand) (sym c.self.view_is) c.requires in
+    let more : get_or c.deref-5.result.now c.hand_of-handle.result (pos 0) +ℤ change c.label_of-label.result (to_z w128 (of_z w128 c.self.inside.weights.delta)) ≡ added c.self.inside.handles.hand.items c.self.inside.handles.top.items c.self.inside.handles.off.items c.self.inside.tree.label.items c.self.inside.weights.delta c.args.v =
+    added_bound _ _ c.self.invariant c.args.v low _ _ _ _ c.deref-5.ensures.value (cc) (cc) (kept_in_bits _ (omega (arith, delta_small _ _ c.self.invariant))) in
+    let kept : to_z w128 (of_z w128 c.added_at-more.result) ≡ added c.self.inside.handles.hand.items c.self.inside.handles.top.items c.self.inside.handles.off.items c.self.inside.tree.label.items c.self.inside.weights.delta c.args.v = omega (arith, ints, more, c.added_at-more.ensures, added_small _ _ c.self.invariant c.args.v low) in
+    omega (arith, ints, c.sum_at.ensures, told_bound _ _ c.self.invariant c.args.v low c.deref-6.result.now _ c.deref-6.ensures.value kept, potential_small _ _ c.self.invariant c.args.v, ap (λ (t : ForestTables). potential (forest_of t) c.args.v) c.self.view_is)

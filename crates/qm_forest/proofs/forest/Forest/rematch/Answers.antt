@@ -1,4 +1,4 @@
-use Rattle.std.proofs.Common.{◌≡◌, ◌<◌, ◌*◌, ◌^◌, ℕ, List, length, Some, ◌∙◌, sym, ap, subst, refl, arith}
+use Rattle.std.proofs.Common.{◌<◌, ℕ, List, length, Some, ◌∙◌, sym, ap, subst, arith}
 use Rattle.def_matching.specs.Matching.{graph}
 use Rattle.def_forest.specs.Darts.{darts_of, far}
 use Rattle.def_forest.specs.Forests.{Forest, set_at}
