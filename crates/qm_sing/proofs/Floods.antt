@@ -1,18 +1,18 @@
 -- A flood, face by face.
 use Rattle.std.proofs.Common.{◌≡◌, ◌≢◌, ◌⊎◌, ℕ, zero, suc, ◌+◌, ◌*◌, ◌/◌, ◌<◌, ◌≤◌, Bool, true, false, cond, eqb, List, [], ◌∷◌, ◌++◌, length, get_or, set, Option, Some, None, sym, subst, ap, ◌∙◌, refl, inl, inr, arith}
-use Rattle.std.specs.List.{list_any, sum_by, count_by, range_with_len}
+use Rattle.std.specs.List.{list_any, count_by, range_with_len}
 use Rattle.std.proofs.lemmas.Option.{none-some, same_Some}
-use Rattle.std.proofs.lemmas.Bool.{cases_Bool, cases_eq, cases_lt, eq-eqb, ne_eqb, eqb-true, eqb-false, or_left, or_right, or_cases, and_parts, false≢true}
+use Rattle.std.proofs.lemmas.Bool.{cases_eq, cases_lt, eq-eqb, ne_eqb, eqb-true, eqb-false, or_left, or_right, or_cases, false≢true}
 use Rattle.std.proofs.lemmas.List.{get_or-set_same, get_or-set_other, length-set, length-append}
 use Rattle.std.proofs.lemmas.List.Sums.{sum_by-set}
 use Rattle.def_mesh.specs.Faces.{Faces}
-use Rattle.def_mesh.specs.Darts.{darts, from_of, to_of, is_reverse, twin_of, IsTwin}
+use Rattle.def_mesh.specs.Darts.{is_reverse, twin_of}
 use Rattle.def_mesh.specs.Manifold.{IsManifold}
 use Rattle.def_mesh.specs.Components.{share_edge, is_marked, component_of}
 use Rattle.qm_laws.proofs.Filters.{any_in_range, range_any}
 use Rattle.mesh_laws.proofs.Flood.{Shares, sound, closed, own_mark, share_back}
 use Rattle.mesh_laws.proofs.Twins.{reverse_twin, twin_reverse, twin_found, twin_is}
-use Rattle.qm_sing.specs.Floods.{IsNumbered, Waits, IsClosed, to_do, numbers_with, waiting_with, IsSpread, IsFlood, IsFlooded}
+use Rattle.qm_sing.specs.Floods.{IsNumbered, Waits, IsClosed, numbers_with, waiting_with, IsSpread, IsFlood, IsFlooded}
 use Rattle.qm_sing.specs.declared.flooding.TheConstants.{NONE}
 
 -- Who waits after one more came.

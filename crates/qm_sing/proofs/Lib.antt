@@ -2,3 +2,5 @@ mod Floods
 mod Numberings
 mod Edges
 mod Seeds
+mod Walking
+mod Longest

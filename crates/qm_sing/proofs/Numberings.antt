@@ -1,14 +1,14 @@
 -- Components are numbered by their least faces.
-use Rattle.std.proofs.Common.{◌≡◌, ◌≢◌, ◌⊎◌, ℕ, zero, suc, ◌+◌, ◌<◌, ◌≤◌, Bool, true, false, cond, eqb, ltb, ◌&&◌, List, [], ◌∷◌, ◌++◌, length, get_or, replicate, map, sym, subst, ap, ◌∙◌, refl, inl, inr, arith}
+use Rattle.std.proofs.Common.{◌≡◌, ◌≢◌, ◌⊎◌, ℕ, zero, suc, ◌+◌, ◌<◌, ◌≤◌, Bool, true, false, cond, eqb, ltb, List, [], ◌∷◌, length, get_or, replicate, sym, subst, ap, ◌∙◌, refl, inl, inr, arith}
 use Rattle.std.specs.List.{filter, range_with_len}
-use Rattle.std.proofs.lemmas.Bool.{cases_Bool, cases_eq, cases_lt, eq-eqb, ne_eqb, lt-ltb, le-ltb, ltb-true, false≢true, cond-true, cond-false}
+use Rattle.std.proofs.lemmas.Bool.{cases_eq, cases_lt, eq-eqb, ne_eqb, lt-ltb, le-ltb}
 use Rattle.std.proofs.lemmas.List.{length-append, length-replicate, get_or-replicate, length-map, ext_get_or}
 use Rattle.std.proofs.lemmas.List.Elements.{filter-append}
 use Rattle.std.proofs.lemmas.List.FromFn.{length-range_with_len, get_or-map-range_with_len}
 use Rattle.def_mesh.specs.Faces.{Faces, all_faces}
-use Rattle.def_mesh.specs.Components.{share_edge, is_marked, component_of, least_face, least_faces, place_among, component_numbers}
+use Rattle.def_mesh.specs.Components.{is_marked, component_of, least_face, least_faces, place_among, component_numbers}
 use Rattle.qm_laws.proofs.Filters.{filter_range_more}
-use Rattle.mesh_laws.proofs.Flood.{sound, closed, complete, own_mark, same_component, least_most, least_low, least_marked, least_same, least_again, shares_back}
+use Rattle.mesh_laws.proofs.Flood.{closed, own_mark, same_component, least_most, least_low, least_marked, least_same, least_again}
 use Rattle.qm_sing.proofs.Edges.{filter_all}
 use Rattle.qm_sing.specs.Floods.{IsNumbered, IsClosed, IsFlooded, IsNumbering}
 use Rattle.qm_sing.specs.declared.flooding.TheConstants.{NONE}

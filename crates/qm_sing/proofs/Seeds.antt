@@ -1,17 +1,17 @@
 -- Components by number, and which vertices are seeds.
-use Rattle.std.proofs.Common.{◌≡◌, ◌≢◌, ◌⊎◌, ℕ, zero, suc, ◌+◌, ◌-◌, ◌*◌, ◌/◌, ◌<◌, ◌≤◌, Bool, true, false, cond, not, eqb, ltb, ◌&&◌, ◌||◌, List, [], ◌∷◌, ◌++◌, length, get_or, set, replicate, map, Option, Some, None, is_some, sym, subst, ap, ◌∙◌, refl, inl, inr, arith}
+use Rattle.std.proofs.Common.{◌≡◌, ◌⊎◌, ℕ, zero, suc, ◌+◌, ◌-◌, ◌/◌, ◌<◌, ◌≤◌, Bool, true, false, cond, not, eqb, ltb, ◌&&◌, ◌||◌, List, ◌∷◌, length, get_or, set, replicate, map, Some, is_some, sym, subst, ap, ◌∙◌, refl, inl, inr, arith}
 use Rattle.std.specs.List.{filter, list_any, list_all, range_with_len}
 use Rattle.std.proofs.lemmas.Bool.{cases_Bool, cases_eq, cases_lt, cases_order, eq-eqb, ne_eqb, eqb-true, lt-ltb, le-ltb, ltb-true, ltb-false, or_left, or_right, or_cases, and_parts, and_from, false≢true, false_from_ne_true}
 use Rattle.std.proofs.lemmas.List.{get_or-set_same, get_or-set_other, length-set, length-replicate, get_or-replicate}
 use Rattle.std.proofs.lemmas.List.FromFn.{get_or-map-range_with_len}
-use Rattle.def_mesh.specs.Faces.{Faces, all_faces}
-use Rattle.def_mesh.specs.Darts.{darts, all_darts, from_of, next_of, prev_of, twin_of}
+use Rattle.def_mesh.specs.Faces.{Faces}
+use Rattle.def_mesh.specs.Darts.{darts, all_darts, from_of, prev_of, twin_of}
 use Rattle.def_mesh.specs.Manifold.{IsManifold}
 use Rattle.def_mesh.specs.Vertices.{vertex_count, all_vertices, fan_of, faces_at}
 use Rattle.def_mesh.specs.Kinds.{is_inner, is_corner, is_singular, is_reflex, is_regular, kind_of}
 use Rattle.def_mesh.specs.declared.Kind.{Kind}
 use Rattle.def_mesh.specs.declared.Kind.TheVariants.{Regular, Singular, Corner, Reflex}
-use Rattle.def_mesh.specs.Components.{share_edge, is_marked, component_of, least_face, least_faces, place_among, component_numbers, vertices_in, is_ring, is_first, is_seed_in, seeds, is_start}
+use Rattle.def_mesh.specs.Components.{is_marked, component_of, least_face, least_faces, place_among, component_numbers, vertices_in, is_ring, is_first, is_seed_in, seeds, is_start}
 use Rattle.def_mesh.specs.HalfEdges.{AreTurned, Turns, IsQuadManifold, half_edges}
 use Rattle.qm_laws.proofs.Filters.{any_in_range, range_any, last_or}
 use Rattle.mesh_laws.proofs.Darts.{next_face}

@@ -2,7 +2,7 @@
 use Rattle.std.specs.Prelude.{◌≡◌, ◌⊎◌, ℕ, ◌/◌, ◌<◌, ◌≤◌, Bool, true, false, List, length, slice_index, slice_index_or}
 use Rattle.std.specs.List.{list_any}
 use Rattle.def_mesh.specs.Faces.{Faces}
-use Rattle.def_mesh.specs.Darts.{darts, from_of}
+use Rattle.def_mesh.specs.Darts.{from_of}
 use Rattle.def_mesh.specs.Kinds.{is_regular}
 use Rattle.def_mesh.specs.Components.{component_of, component_numbers, least_faces, is_seed_in}
 use Rattle.def_mesh.specs.declared.Kind.{Kind}

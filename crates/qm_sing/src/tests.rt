@@ -3,7 +3,7 @@
 ghost use Rattle.std.specs.Prelude.{◌≤◌, length, IsTrue};
 ghost use Rattle.def_mesh.specs.Vertices.{names_below, UsesEach};
 
-use crate::{Kind, euler, sources};
+use crate::{Kind, euler, runs, sources};
 use def_mesh::MAX_FACES;
 use qm_mesh::{Mesh, build};
 use std::alloc::Global;
@@ -51,5 +51,42 @@ fn a_ring_has_a_seed_and_a_bend_a_reflex_vertex(rt: HostRuntime) -> Result<(), F
     let mesh = mesh_of(rt.alloc(), 8, &bend)?;
     let found = sources(rt.alloc(), &mesh)?;
     assert_eq!(rt; found.starts.as_slice(), [2, 7].as_slice());
+    Ok(())
+}
+
+const TORUS: [[u32; 4]; 16] = [
+    [0, 1, 5, 4],
+    [1, 2, 6, 5],
+    [2, 3, 7, 6],
+    [3, 0, 4, 7],
+    [4, 5, 9, 8],
+    [5, 6, 10, 9],
+    [6, 7, 11, 10],
+    [7, 4, 8, 11],
+    [8, 9, 13, 12],
+    [9, 10, 14, 13],
+    [10, 11, 15, 14],
+    [11, 8, 12, 15],
+    [12, 13, 1, 0],
+    [13, 14, 2, 1],
+    [14, 15, 3, 2],
+    [15, 12, 0, 3],
+];
+
+#[test]
+fn a_quad_has_four_open_runs_and_a_torus_sixteen_closed_ones(rt: HostRuntime) -> Result<(), Fail> {
+    let mesh = mesh_of(rt.alloc(), 4, &[[0, 1, 2, 3]])?;
+    let table = runs(rt.alloc(), &mesh)?;
+    assert_eq!(rt; table.run.as_slice(), [0, 1, 2, 3].as_slice());
+    assert_eq!(rt; table.at.as_slice(), [0, 0, 0, 0].as_slice());
+    assert_eq!(rt; table.len.as_slice(), [1, 1, 1, 1].as_slice());
+    assert_eq!(rt;
+        table.closed.as_slice(),
+        [false, false, false, false].as_slice()
+    );
+    let mesh = mesh_of(rt.alloc(), 16, &TORUS)?;
+    let table = runs(rt.alloc(), &mesh)?;
+    assert_eq!(rt; table.len.as_slice(), [4; 16].as_slice());
+    assert_eq!(rt; table.closed.as_slice(), [true; 16].as_slice());
     Ok(())
 }

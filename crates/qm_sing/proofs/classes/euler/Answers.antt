@@ -1,7 +1,6 @@
-use Rattle.std.proofs.Common.{ℕ, ℤ, pos, ◌≤◌, ◌≡◌, length, Ok, ap, arith}
+use Rattle.std.proofs.Common.{length, Ok, ap, arith}
 use Rattle.std.proofs.lemmas.Int.{ints}
-use Rattle.def_mesh.specs.Components.{edge_count}
-use Rattle.qm_sing.proofs.Edges.{used_is, filter_few}
+use Rattle.qm_sing.proofs.Edges.{used_is}
 use Rattle.qm_sing.proofs.classes.euler.Goals as goal
 
 pub returns : goal.returns

@@ -1,4 +1,4 @@
-use Rattle.std.proofs.Common.{◌≡◌, ◌≢◌, List, ◌++◌, ◌∷◌, [], length, arith}
+use Rattle.std.proofs.Common.{arith}
 use Rattle.qm_sing.proofs.Floods.{flood_none, flood_more, flood_over, taken_low}
 use Rattle.qm_sing.proofs.flooding.flood.Goals as goal
 

@@ -1,4 +1,4 @@
-use Rattle.std.proofs.Common.{◌≡◌, ◌++◌, ◌∷◌, [], ap, ◌∙◌, sym}
+use Rattle.std.proofs.Common.{◌∙◌, sym}
 use Rattle.def_mesh.specs.Kinds.{kind_of}
 use Rattle.qm_sing.proofs.Edges.{map_more}
 use Rattle.qm_sing.proofs.origins.kinds.Goals as goal

@@ -1,4 +1,4 @@
-use Rattle.std.proofs.Common.{◌≡◌, get_or, false, ◌++◌, ◌∷◌, [], ap, ◌∙◌, sym, arith}
+use Rattle.std.proofs.Common.{◌≡◌, get_or, false, ◌++◌, ◌∷◌, [], ap, ◌∙◌, sym}
 use Rattle.qm_sing.specs.Rings.{is_seed}
 use Rattle.qm_sing.proofs.Edges.{filter_on, filter_off}
 use Rattle.qm_sing.proofs.Seeds.{mark_test}
