@@ -36,6 +36,7 @@ arc 1 1 0 - rim
 arc 1 1 1 - rim";
 
 /// A list of lengths with a dual: numbers of vertices, numbers of sets, and the entries of both.
+#[derive(Clone, Copy, Debug, PartialEq, Eq)]
 struct Sheet<'a> {
     x: &'a [u64],
     y: &'a [i64],

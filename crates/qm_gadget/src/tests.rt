@@ -1,6 +1,6 @@
 //! Matching graphs of small networks, with their matchings and lists.
 
-ghost use Rattle.std.specs.Prelude.{IsTrue, IfOk};
+ghost use Rattle.std.specs.Prelude.{◌≤◌, IsTrue, IfOk};
 ghost use Rattle.def_flow.specs.Network.{network, IsWithinBounds};
 ghost use Rattle.def_matching.specs.Matching.{graph, IsPerfect};
 ghost use Rattle.def_flow.specs.Gadget.{IsGadgetOf, IsInBox, IsStepUp};
@@ -187,6 +187,11 @@ fn cost_of(graph: &WGraph, m: &[u32]) -> i64 {
     total
 }
 
+/// A network at another floor and scale.
+fn scaled(net: Net, [floor, p, q]: [u32; 3]) -> Net {
+    Net { floor, p, q, ..net }
+}
+
 /// The gadget of a list.
 fn built(rt: &impl Abort, alloc: Global, net: &Net, x: &[u64], step: u64) -> Result<Gadget, Fail>
     requires { IsWithinBounds (network net.now) }
@@ -219,13 +224,8 @@ fn matched(
 
 #[test]
 fn graphs_and_matchings(rt: HostRuntime) -> Result<(), Fail> {
-    for (text, [floor, p, q], step, x, other, (vertices, edges, cost)) in CASES {
-        let net = Net {
-            floor,
-            p,
-            q,
-            ..read_net(rt.alloc(), text)?
-        };
+    for (text, scale, step, x, other, (vertices, edges, cost)) in CASES {
+        let net = scaled(read_net(rt.alloc(), text)?, scale);
         assert!(rt; is_within_bounds(&net));
         let g = built(&rt, rt.alloc(), &net, x, step)?;
         assert_eq!(rt; g.graph.n, vertices, "at {x:?}");
