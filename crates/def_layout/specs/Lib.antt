@@ -9,3 +9,4 @@ pub mod Nodes
 pub mod Borders
 pub mod Plans
 pub mod NodeLaws
+pub mod FaceLayouts

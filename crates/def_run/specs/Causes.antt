@@ -8,21 +8,31 @@ use Rattle.def_text.specs.Types.{Words}
 use Rattle.def_text.specs.declared.limits.TheConstants.{MAX_BYTES}
 use Rattle.def_text.specs.declared.refusal.Which.TheVariants.{Bytes as AllBytes}
 use Rattle.def_run.specs.CommandLines.{IsCommand}
+use Rattle.def_run.specs.Graph.{RefusesToTrace, WritesGraph}
+use Rattle.def_run.specs.Mesh.{HasMesh}
 use Rattle.def_run.specs.Tidy.{RefusesToTidy, WritesTidied}
 use Rattle.def_run.specs.declared.answer.Answer.{Answer}
 use Rattle.def_run.specs.declared.answer.Answer.TheVariants.{Done, Usage, Limit, ReadFault, WriteFault, Memory}
 use Rattle.def_run.specs.declared.command.Command.{Command}
-use Rattle.def_run.specs.declared.command.Command.TheVariants.{Tidy}
+use Rattle.def_run.specs.declared.command.Command.TheVariants.{Tidy, Graph}
 
 -- The text that a command writes for the bytes that it read. One that is not built writes none.
 abbrev pub Writes : (command : Command) (bytes text : Bytes) → Type 0
 Writes Tidy bytes text = WritesTidied bytes text
+Writes Graph bytes text = WritesGraph bytes text
 Writes command bytes text = ⊥
 
 -- The answer with which a command refuses the bytes that it read.
 abbrev pub Refuses : (command : Command) (bytes : Bytes) (answer : Answer) → Type 0
 Refuses Tidy bytes answer = RefusesToTidy bytes answer
+Refuses Graph bytes answer = RefusesToTrace bytes answer
 Refuses command bytes answer = ⊥
+
+-- The bytes for which a command has a text to write: those that have a mesh.
+abbrev pub Takes : (command : Command) (bytes : Bytes) → Type 0
+Takes Tidy bytes = HasMesh bytes
+Takes Graph bytes = HasMesh bytes
+Takes command bytes = ⊥
 
 -- The source gave bytes and ended, and the sink took the command's text for them.
 pub record Wrote (command : Command) (input out : Change) : Type 0 where
@@ -63,10 +73,9 @@ pub record Ran (words : Words) (input out : Change) (answer : Answer) : Type 0 w
   pub line : IsCommand words command
   pub cause : Cause command input out answer
 
--- A source that holds bytes, within the limit, for which the command writes some text.
+-- A source that holds bytes, within the limit, which the command takes.
 pub record IsGood (command : Command) (left : Told) : Type 0 where
   pub bytes : Bytes
   pub told : left ≡ Some bytes
   pub few : length bytes ≤ MAX_BYTES
-  pub text : Bytes
-  pub said : Writes command bytes text
+  pub taken : Takes command bytes

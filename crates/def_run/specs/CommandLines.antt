@@ -58,6 +58,7 @@ pub record IsCommand (words : Words) (command : Command) : Type 0 where
 -- The commands that this program runs; the line of any other is refused as no accepted one.
 abbrev pub is_built : (command : Command) → Bool
 is_built Tidy = true
+is_built Graph = true
 is_built command = false
 
 -- These words are an accepted line.

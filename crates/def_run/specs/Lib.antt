@@ -2,6 +2,7 @@ pub mod Causes
 pub mod CommandLines
 pub mod ErrorLines
 pub mod Exits
+pub mod Graph
 pub mod Mesh
 pub mod Messages
 pub mod Options

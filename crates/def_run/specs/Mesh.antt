@@ -15,6 +15,11 @@ pub record IsMesh (bytes : Bytes) (soup : FaceSet) : Type 0 where
   pub said : soup_in bytes ≡ Ok soup
   pub manifold : IsManifold soup.faces
 
+-- The bytes have a mesh.
+pub record HasMesh (bytes : Bytes) : Type 0 where
+  pub soup : FaceSet
+  pub mesh : IsMesh bytes soup
+
 -- The bytes are a text with a soup whose faces are no manifold, first at this place.
 pub record IsNoManifold (bytes : Bytes) (place : Place) : Type 0 where
   pub soup : FaceSet

@@ -3,15 +3,12 @@
 ghost use Rattle.std.specs.Prelude.{◌≡◌, ◌++◌, length, map, IfOk, OnOk};
 ghost use Rattle.std.specs.List.{flat_map};
 ghost use Rattle.def_mesh.specs.Components.{least_faces};
-ghost use Rattle.def_mesh.specs.HalfEdges.{half_edges};
 ghost use Rattle.def_mesh.specs.Kinds.{kind_of};
 ghost use Rattle.def_mesh.specs.Sources.{AreSources};
-ghost use Rattle.def_mesh.specs.Vertices.{all_vertices, vertex_count};
-ghost use Rattle.def_cut.specs.FullCut.{is_on};
-ghost use Rattle.def_cut.specs.Steps.{face_of};
+ghost use Rattle.def_mesh.specs.Vertices.{all_vertices};
 ghost use Rattle.def_cut.specs.Traced.{IsGraphOf};
-ghost use Rattle.def_layout.specs.Nodes.{is_node};
-ghost use Rattle.def_layout.specs.Plans.{plan, IsLayout};
+ghost use Rattle.def_layout.specs.FaceLayouts.{IsLayoutOf};
+ghost use Rattle.def_layout.specs.Plans.{plan};
 ghost use Rattle.def_report.specs.GraphText.{counts_line, graph_text as text_of, kind_line, seed_line, vertex_line};
 
 use crate::Memory;
@@ -36,8 +33,7 @@ pub fn graph_text(
 ) -> Result<Vec<u8>, Memory>
     requires sources { AreSources mesh.now src.now }
     requires graph { IsGraphOf mesh.now g.now }
-    requires layout { IsLayout (half_edges mesh.now) (is_on g.now.covered.items)
-        (is_node mesh.now g.now.covered.items) face_of (vertex_count mesh.now) (plan t.now) }
+    requires layout { IsLayoutOf mesh.now g.now.covered.items (plan t.now) }
     ensures { IfOk result (λ text. text.items ≡ text_of mesh.now g.now.riders.items (plan t.now)) }
 {
     let mut text = Vec::new(alloc);

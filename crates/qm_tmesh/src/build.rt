@@ -2,12 +2,11 @@
 
 ghost use Rattle.std.specs.Prelude.{map, IfOk};
 ghost use Rattle.def_mesh.specs.HalfEdges.{half_edges};
-ghost use Rattle.def_mesh.specs.Vertices.{vertex_count};
 ghost use Rattle.def_cut.specs.FullCut.{is_on, IsFullCut};
 ghost use Rattle.def_cut.specs.Grids.{rectangle, IsPartition};
 ghost use Rattle.def_cut.specs.Steps.{face_of};
-ghost use Rattle.def_layout.specs.Nodes.{is_node};
-ghost use Rattle.def_layout.specs.Plans.{plan, IsLayout};
+ghost use Rattle.def_layout.specs.FaceLayouts.{IsLayoutOf};
+ghost use Rattle.def_layout.specs.Plans.{plan};
 
 use crate::Memory;
 use crate::arcs::arcs;
@@ -29,8 +28,9 @@ pub fn layout(
     patches: Vec<Patch>,
 ) -> Result<TMesh, Memory>
     requires cut { IsFullCut mesh.now graph.now.covered.items }
-    requires patches { IsPartition (half_edges mesh.now) (is_on graph.now.covered.items) face_of (map rectangle patches.items) }
-    ensures { IfOk result (λ t. IsLayout (half_edges mesh.now) (is_on graph.now.covered.items) (is_node mesh.now graph.now.covered.items) face_of (vertex_count mesh.now) (plan t)) }
+    requires patches { IsPartition (half_edges mesh.now) (is_on graph.now.covered.items) face_of
+        (map rectangle patches.items) }
+    ensures { IfOk result (λ t. IsLayoutOf mesh.now graph.now.covered.items (plan t)) }
 {
     let cut = graph.covered.as_slice();
     let nodes = find_nodes(alloc, mesh, cut)?;

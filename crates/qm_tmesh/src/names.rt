@@ -54,6 +54,7 @@ fn named_run(
     }
 }
 
+/// The least of some darts.
 fn least(darts: &[u32]) -> u32
     requires { 0 < length darts.now }
     ensures { result ≡ least_of darts.now }

@@ -40,6 +40,7 @@ pub(crate) fn find_nodes(alloc: Global, mesh: &Mesh, cut: &[bool]) -> Result<Nod
     Ok(Nodes { marks, listed })
 }
 
+/// The marked vertices and their places. Linear in the vertices.
 fn list_marked(alloc: Global, marks: &[bool]) -> Result<Listed, AllocError>
     requires { length marks.now < 2 ^ 32 }
     ensures list { IfOk result (λ n. n.list.items ≡ filter (is_on marks.now) (range_with_len 0 (length marks.now))) }
@@ -56,6 +57,7 @@ fn list_marked(alloc: Global, marks: &[bool]) -> Result<Listed, AllocError>
     Ok(Listed { list, places })
 }
 
+/// A mark for each vertex: whether it is a node.
 fn node_marks(alloc: Global, mesh: &Mesh, cut: &[bool]) -> Result<Vec<bool>, AllocError>
     requires { length cut.now ≡ darts mesh.now }
     ensures marks { IfOk result (λ marks. marks.items ≡ map (is_node mesh.now cut.now) (range_with_len 0 (vertex_count mesh.now))) }
@@ -69,6 +71,7 @@ fn node_marks(alloc: Global, mesh: &Mesh, cut: &[bool]) -> Result<Vec<bool>, All
     Ok(marks)
 }
 
+/// Whether v is irregular, or at least three edges of the cut meet there.
 fn is_node(mesh: &Mesh, cut: &[bool], v: u32) -> bool
     requires cut { length cut.now ≡ darts mesh.now }
     requires vertex { v < vertex_count mesh.now }
@@ -78,6 +81,7 @@ fn is_node(mesh: &Mesh, cut: &[bool], v: u32) -> bool
     !is_regular(mesh, v) || leaving(cut, fan) + arriving(mesh, cut, fan) > 2
 }
 
+/// Whether v has as many faces as a regular vertex of its place, inside or at the boundary.
 fn is_regular(mesh: &Mesh, v: u32) -> bool
     requires { v < vertex_count mesh.now }
     ensures { result ≡ is_regular mesh.now v }

@@ -1,4 +1,4 @@
--- Bytes for which a command writes a text are not refused.
+-- Bytes that a command takes are not refused.
 use Rattle.std.proofs.Common.{◌≡◌, ◌≤◌, ◌<◌, ◌⊎◌, ℕ, List, [], ◌++◌, length, Option, Some, None, true, Result, Ok, Err, sym, ◌∙◌, ap, subst, arith, refl, inl, inr, length-append}
 use Rattle.std.proofs.lemmas.List.{append-nil}
 use Rattle.def_io.specs.Bytes.{Bytes, Told}
@@ -9,7 +9,7 @@ use Rattle.def_text.specs.FaceSet.{FaceSet}
 use Rattle.def_text.specs.declared.limits.TheConstants.{MAX_BYTES}
 use Rattle.def_text.specs.declared.refusal.ObjFail.{ObjFail}
 use Rattle.def_text.specs.declared.refusal.Which.TheVariants.{Bytes as AllBytes, Line, Vertices, Faces}
-use Rattle.def_run.specs.Causes.{Cause, IsGood, Refused, Refuses, Writes}
+use Rattle.def_run.specs.Causes.{Cause, IsGood, Refused, Refuses, Takes}
 use Rattle.def_run.specs.Mesh.{IsMesh, IsNoMesh}
 use Rattle.def_run.specs.declared.answer.Answer.{Answer}
 use Rattle.def_run.specs.declared.answer.Answer.TheVariants.{Done, Usage, Syntax, NotQuad, Range, Limit, NotManifold, ReadFault, WriteFault, Memory}
@@ -37,14 +37,14 @@ mesh_not_refused bytes soup ReadFault mesh none = absurd none
 mesh_not_refused bytes soup WriteFault mesh none = absurd none
 mesh_not_refused bytes soup Memory mesh none = absurd none
 
--- No command both writes a text for bytes and refuses them.
-not_both : (command : Command) (bytes text : Bytes) (answer : Answer) → Writes command bytes text → Refuses command bytes answer → ⊥
-not_both Tidy bytes text answer writes refuses = mesh_not_refused bytes writes.soup answer writes.mesh refuses
-not_both Graph bytes text answer writes refuses = absurd writes
-not_both (Refine by) bytes text answer writes refuses = absurd writes
-not_both (Remesh settings auto) bytes text answer writes refuses = absurd writes
-not_both Check bytes text answer writes refuses = absurd writes
-not_both (Bench size) bytes text answer writes refuses = absurd writes
+-- No command both takes bytes and refuses them.
+not_both : (command : Command) (bytes : Bytes) (answer : Answer) → Takes command bytes → Refuses command bytes answer → ⊥
+not_both Tidy bytes answer takes refuses = mesh_not_refused bytes takes.soup answer takes.mesh refuses
+not_both Graph bytes answer takes refuses = mesh_not_refused bytes takes.soup answer takes.mesh refuses
+not_both (Refine by) bytes answer takes refuses = absurd takes
+not_both (Remesh settings auto) bytes answer takes refuses = absurd takes
+not_both Check bytes answer takes refuses = absurd takes
+not_both (Bench size) bytes answer takes refuses = absurd takes
 
 -- What a source gave whole is what it held.
 same_bytes : (before now : Told) (bytes held : Bytes) → before ≡ Some held → before ≡ gave bytes now → IsEmptied now → bytes ≡ held
@@ -58,7 +58,7 @@ same_bytes before (Some rest) bytes held told given end =
 not_refused : (command : Command) (input : Change) (answer : Answer) → IsGood command input.told → Refused command input answer → ⊥
 not_refused command input answer good bad =
     let same = same_bytes input.told input.told_now bad.bytes good.bytes good.told bad.whole.given bad.whole.ended in
-    not_both command good.bytes good.text answer good.said (subst (λ (xs : Bytes). Refuses command xs answer) same bad.said)
+    not_both command good.bytes answer good.taken (subst (λ (xs : Bytes). Refuses command xs answer) same bad.said)
 
 -- They are not too many.
 not_too_long : (command : Command) (before now : Told) → IsGood command before → GaveMore MAX_BYTES before now → ⊥
@@ -101,11 +101,11 @@ completes_as read command input out answer said is one cause good =
 -- A source with good bytes is one of a command that is built.
 good_built : (command : Command) (left : Told) → IsGood command left → is_built command ≡ true
 good_built Tidy left good = refl
-good_built Graph left good = absurd good.said
-good_built (Refine by) left good = absurd good.said
-good_built (Remesh settings auto) left good = absurd good.said
-good_built Check left good = absurd good.said
-good_built (Bench size) left good = absurd good.said
+good_built Graph left good = refl
+good_built (Refine by) left good = absurd good.taken
+good_built (Remesh settings auto) left good = absurd good.taken
+good_built Check left good = absurd good.taken
+good_built (Bench size) left good = absurd good.taken
 
 -- Words that are no accepted line have no good bytes, unless memory is wanting.
 pub not_read : (words : Words) (command : Command) (left : Told) (fail : WordsFail) (answer : Answer) → answer ≡ answer_of_words fail

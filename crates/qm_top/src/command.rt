@@ -9,6 +9,7 @@ ghost use Rattle.def_run.specs.Messages.{Said, SaidWhy};
 ghost use Rattle.qm_top.specs.Refusals.{answer_of, Ended, Finished};
 
 use crate::error_line::error_line_of;
+use crate::graph::graph;
 use crate::refusal::{Refusal, words_answer};
 use crate::tidy::tidy;
 use crate::words::command_of;
@@ -84,6 +85,7 @@ fn run_command<S: Source, O: Sink>(
 {
     match command {
         Command::Tidy => tidy(alloc, input, out),
+        Command::Graph => graph(alloc, input, out),
         _ => unreachable!(),
     }
 }

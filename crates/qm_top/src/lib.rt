@@ -3,6 +3,7 @@
 
 mod command;
 mod error_line;
+mod graph;
 mod input;
 mod process;
 mod refusal;

@@ -132,7 +132,7 @@ fn other_words_are_a_matter_of_usage(rt: HostRuntime) -> Result<(), Fail> {
         "tidy --help",
         "--help",
         "Tidy",
-        "graph",
+        "graph --",
         "tidy extra",
     ] {
         let mut words = Vec::new(rt.alloc());

@@ -15,6 +15,9 @@ pub(crate) fn command_of(words: &[String]) -> Result<Command, WordsFail>
     if is_lone(words, "tidy") {
         return Ok(Command::Tidy);
     }
+    if is_lone(words, "graph") {
+        return Ok(Command::Graph);
+    }
     Err(WordsFail::Usage)
 }
 

@@ -1,0 +1,14 @@
+-- Layouts of a list of faces and a cut of it.
+use Rattle.std.specs.Prelude.{Bool, List}
+use Rattle.def_mesh.specs.Faces.{Faces}
+use Rattle.def_mesh.specs.HalfEdges.{half_edges}
+use Rattle.def_mesh.specs.Vertices.{vertex_count}
+use Rattle.def_cut.specs.FullCut.{is_on}
+use Rattle.def_cut.specs.Steps.{face_of}
+use Rattle.def_layout.specs.Nodes.{is_node}
+use Rattle.def_layout.specs.Plans.{Plan, IsLayout}
+
+-- The layout of these faces, cut along the marked edges.
+abbrev pub IsLayoutOf : (faces : Faces) (marks : List Bool) (plan : Plan) → Type 0
+IsLayoutOf faces marks plan =
+    IsLayout (half_edges faces) (is_on marks) (is_node faces marks) face_of (vertex_count faces) plan

@@ -1,0 +1,23 @@
+use Rattle.std.proofs.Common.{◌≡◌, ℕ, Bool, List, Vec, Global, subst}
+use Rattle.std.proofs.lemmas.Result.{IfOk-weaker}
+use Rattle.def_layout.specs.FaceLayouts.{IsLayoutOf}
+use Rattle.def_layout.specs.Plans.{plan}
+use Rattle.def_report.specs.GraphText.{graph_text}
+use Rattle.def_run.specs.Graph.{IsGraphText}
+use Rattle.qm_top.proofs.graph.text_of.Goals as goal
+
+pub returns : goal.returns
+returns c =
+    let faces = c.args.mesh.now in
+    let graph = c.in_ok-graph.graph in
+    let layout = plan c.in_ok-layout.layout in
+    IfOk-weaker c.graph_text.result (λ text. text.items ≡ graph_text faces graph.riders.items layout)
+    (λ text. IsGraphText faces text.items)
+    (λ text said. record {
+      riders = graph.riders.items;
+      rode = c.in_ok-graph.ensures.graph.riders;
+      layout = layout;
+      laid = subst (λ (marks : List Bool). IsLayoutOf faces marks layout) c.in_ok-graph.ensures.graph.covered c.in_ok-layout.ensures;
+      said = said;
+    })
+    c.graph_text.ensures

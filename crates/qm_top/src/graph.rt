@@ -1,0 +1,49 @@
+//! `graph`: a mesh is read, and the text of its traced graph and layout is written.
+
+ghost use Rattle.std.specs.Prelude.{◌≡◌, ◌≢◌, OnOk, IfOk, IfErr};
+ghost use Rattle.def_io.specs.Moves.{change};
+ghost use Rattle.def_run.specs.Graph.{IsGraphText};
+ghost use Rattle.qm_top.specs.Refusals.{answer_of, Ended, Finished};
+
+use crate::input::read_mesh;
+use crate::refusal::Refusal;
+use def_run::{Answer, Command};
+use qm_grid::patches;
+use qm_io::{Memory, Sink, Source, write_all};
+use qm_mesh::Mesh;
+use qm_report::graph_text;
+use qm_sing::sources;
+use qm_tmesh::layout;
+use qm_trace::trace;
+use std::alloc::Global;
+
+/// Reads a mesh, traces its graph and writes the graph and the layout that it cuts.
+pub(crate) fn graph<S: Source, O: Sink>(
+    alloc: Global,
+    input: &mut S,
+    out: &mut O,
+) -> Result<(), Refusal>
+    ensures done { OnOk result (Finished Command.Graph
+        (change (S.left input.old) (S.left input.new) (S.faults input.old) (S.faults input.new))
+        (change (O.taken out.old) (O.taken out.new) (O.faults out.old) (O.faults out.new))) }
+    ensures refused { IfErr result (Ended Command.Graph
+        (change (S.left input.old) (S.left input.new) (S.faults input.old) (S.faults input.new))
+        (change (O.taken out.old) (O.taken out.new) (O.faults out.old) (O.faults out.new))) }
+    ensures untouched { IfErr result (λ r. answer_of r ≢ Answer.WriteFault → out.new ≡ out.old) }
+{
+    let read = read_mesh(alloc, input)?;
+    let text = text_of(alloc, &read.mesh)?;
+    write_all(out, &text)?;
+    Ok(())
+}
+
+/// The graph text of a mesh.
+fn text_of(alloc: Global, mesh: &Mesh) -> Result<Vec<u8>, Memory>
+    ensures { IfOk result (λ text. IsGraphText mesh.now text.items) }
+{
+    let sources = sources(alloc, mesh)?;
+    let graph = trace(alloc, mesh, &sources)?;
+    let patches = patches(alloc, mesh, &graph)?;
+    let layout = layout(alloc, mesh, &graph, patches)?;
+    graph_text(alloc, mesh, &sources, &graph, &layout)
+}
