@@ -1,4 +1,4 @@
-//! Decimals and ratios: their words read exactly, the canonical text of a number of millionths.
+//! Decimals, ratios and counts: their words read exactly, the canonical text of a number of millionths.
 
 #![tactic(auto)]
 
@@ -12,7 +12,7 @@ mod write;
 
 pub use def_text::{DecFail, Micro};
 pub use law::canonical_law;
-pub use ratio::read_ratio;
+pub use ratio::{read_count, read_ratio};
 pub use read::read_micro;
 pub use write::write_micro;
 

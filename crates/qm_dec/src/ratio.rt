@@ -16,24 +16,26 @@ pub fn read_ratio(word: &[u8]) -> Option<(u32, u32)>
     if rest.is_empty() {
         return None;
     }
-    let Some(p) = read_part(above) else {
+    let Some(p) = read_count(above, MAX_PART) else {
         return None;
     };
-    let Some(q) = read_part(behind_first(rest)) else {
+    let Some(q) = read_count(behind_first(rest), MAX_PART) else {
         return None;
     };
     Some((p, q))
 }
 
-/// A number from 1 to 1000 that is written as it would be printed.
-fn read_part(word: &[u8]) -> Option<u32>
-    ensures { MatchOption result ((n : ℕ) → 1 ≤ n → n ≤ 1000 → ¬ (word.now ≡ decimal n)) (λ n. (word.now ≡ decimal n) × (1 ≤ n) × (n ≤ 1000)) }
+/// A number from 1 to the greatest, which is at most 10,000, that is written as it would be printed.
+pub fn read_count(word: &[u8], greatest: u32) -> Option<u32>
+    requires { greatest ≤ 10000 }
+    ensures { MatchOption result ((n : ℕ) → 1 ≤ n → n ≤ greatest → ¬ (word.now ≡ decimal n))
+        (λ n. (word.now ≡ decimal n) × (1 ≤ n) × (n ≤ greatest)) }
 {
     if !are_digits(word) {
         return None;
     }
-    let n = number_after(0, word).min(1001) as u32;
-    if n == 0 || n > MAX_PART {
+    let n = number_after(0, word).min(10_001) as u32;
+    if n == 0 || n > greatest {
         return None;
     }
     if is_written(word, n) { Some(n) } else { None }

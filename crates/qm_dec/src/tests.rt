@@ -1,6 +1,6 @@
 //! Words with the numbers that they are, both ways.
 
-use crate::{DecFail, canonical_law, read_micro, read_ratio, write_micro};
+use crate::{DecFail, canonical_law, read_count, read_micro, read_ratio, write_micro};
 
 #[test]
 fn words_read_and_write(rt: HostRuntime) {
@@ -67,5 +67,20 @@ fn ratios(rt: HostRuntime) {
     ];
     for (word, want) in table {
         assert!(rt; read_ratio(word) == want);
+    }
+}
+
+#[test]
+fn counts(rt: HostRuntime) {
+    let table: [(&[u8], Option<u32>); 6] = [
+        (b"1", Some(1)),
+        (b"1000", Some(1000)),
+        (b"1001", None),
+        (b"0", None),
+        (b"007", None),
+        (b"", None),
+    ];
+    for (word, want) in table {
+        assert!(rt; read_count(word, 1000) == want);
     }
 }
