@@ -1,6 +1,7 @@
 -- The settings of a remesh: how they are written, and the values that may be asked for.
 use Rattle.std.specs.Prelude.{◌≡◌, ◌≤◌, ℕ, Bool, true, if◌then◌else◌, ◌∷◌, ◌++◌, codes, decimal}
 use Rattle.def_io.specs.Bytes.{Bytes}
+use Rattle.def_text.specs.Types.{Word}
 use Rattle.def_text.specs.declared.letters.TheConstants.{SLASH}
 use Rattle.def_text.specs.declared.limits.TheConstants.{MAX_PART}
 use Rattle.def_flow.specs.declared.limits.TheConstants.{MAX_FLOOR}
@@ -21,7 +22,7 @@ abbrev pub weight_text : (weight : Weight) → Bytes
 weight_text Plain = codes "plain"
 weight_text Length = codes "length"
 
--- A floor that may be asked for. With `auto` it is 1 at first.
+-- A floor that may be asked for. With `auto` the program begins with floor 1, and takes 3 where the lengths double an edge.
 pub record IsFloor (floor : ℕ) (auto : Bool) : Type 0 where
   pub low : 1 ≤ floor
   pub high : floor ≤ MAX_FLOOR
@@ -34,3 +35,10 @@ pub record AreInRange (settings : Settings) (auto : Bool) : Type 0 where
   pub q_low : 1 ≤ settings.q
   pub q_high : settings.q ≤ MAX_PART
   pub floor : IsFloor settings.floor auto
+
+-- The words of these settings, which may be asked for.
+pub record AreWordsOf (scale floor weight : Word) (settings : Settings) (auto : Bool) : Type 0 where
+  pub scaled : scale ≡ scale_text settings
+  pub bounded : floor ≡ floor_text settings.floor auto
+  pub weighed : weight ≡ weight_text settings.weight
+  pub in_range : AreInRange settings auto

@@ -13,6 +13,13 @@ pub const VERTEX: u8 = b'y';
 /// `s`, before the number of a set.
 pub const SET: u8 = b's';
 
+/// What a remesh was asked for. With `auto` the floor of the settings is 1.
+#[derive(Clone, Copy, Debug, PartialEq, Eq)]
+pub struct Asked {
+    pub settings: Settings,
+    pub auto: bool,
+}
+
 /// What a written text says of how it was made. `first` is the certificate for floor 1, where floor 3 was used because
 /// the lengths for floor 1 double an edge; then `auto` holds.
 #[derive(Debug, Drop)]

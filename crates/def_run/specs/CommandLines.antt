@@ -2,7 +2,7 @@
 use Rattle.std.specs.Prelude.{◌≡◌, ◌≤◌, ℕ, Bool, true, false, [], ◌∷◌, codes, decimal}
 use Rattle.def_text.specs.Types.{Word, Words}
 use Rattle.def_flow.specs.declared.net.Settings.{Settings}
-use Rattle.def_certtext.specs.Settings.{floor_text, scale_text, weight_text, AreInRange}
+use Rattle.def_certtext.specs.Settings.{AreWordsOf}
 use Rattle.def_run.specs.Options.{value_of, AreOptions, Uses}
 use Rattle.def_run.specs.declared.command.Command.{Command}
 use Rattle.def_run.specs.declared.command.Command.TheVariants.{Tidy, Graph, Refine, Remesh, Check, Bench}
@@ -37,10 +37,7 @@ remesh_options = codes "scale" ∷ codes "floor" ∷ codes "weight" ∷ []
 pub record HasSettings (words : Words) (settings : Settings) (auto : Bool) : Type 0 where
   pub uses : Uses
   pub options : AreOptions remesh_options words uses
-  pub scale : value_of (codes "scale") uses ≡ scale_text settings
-  pub floor : value_of (codes "floor") uses ≡ floor_text settings.floor auto
-  pub weight : value_of (codes "weight") uses ≡ weight_text settings.weight
-  pub in_range : AreInRange settings auto
+  pub values : AreWordsOf (value_of (codes "scale") uses) (value_of (codes "floor") uses) (value_of (codes "weight") uses) settings auto
 
 -- The words behind the word of a command are its options, each once.
 abbrev pub HasOptions : (command : Command) (words : Words) → Type 0

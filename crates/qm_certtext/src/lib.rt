@@ -3,10 +3,12 @@
 
 mod cert;
 mod head;
+mod settings;
 
 pub use cert::cert_text;
-pub use def_certtext::{CertFail, Written};
+pub use def_certtext::{Asked, CertFail, Written};
 pub use head::{head_text, last_head};
+pub use settings::read_settings;
 
 /// Want of memory.
 pub type Memory = std::alloc::AllocError;

@@ -46,3 +46,24 @@ fn the_last_head_line_is_found(rt: HostRuntime) -> Result<(), Fail> {
     assert_eq!(rt; last_head(&lines), Some(0));
     Ok(())
 }
+
+#[test]
+fn settings_are_read_from_their_words(rt: HostRuntime) {
+    let settings = Settings {
+        p: 2,
+        q: 4,
+        floor: 1,
+        weight: Weight::Length,
+    };
+    for (floor, wanted) in [
+        (b"1".as_slice(), Some(false)),
+        (b"auto", Some(true)),
+        (b"01", None),
+        (b"4", None),
+    ] {
+        let wanted = wanted.map(|auto| Asked { settings, auto });
+        assert_eq!(rt; read_settings(b"2/4", floor, b"length"), wanted);
+    }
+    assert_eq!(rt; read_settings(b"1/0", b"1", b"plain"), None);
+    assert_eq!(rt; read_settings(b"1/1", b"1", b"long"), None);
+}
