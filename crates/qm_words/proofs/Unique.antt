@@ -1,0 +1,65 @@
+-- A line has one command.
+use Rattle.std.proofs.Common.{◌≡◌, ◌⊎◌, ◌≤◌, ◌<◌, ℕ, Bool, true, false, List, [], ◌∷◌, Option, Some, None, Result, Ok, Err, IfOk, IfErr, inl, inr, refl, ap, sym, ◌∙◌, subst, arith}
+use Rattle.std.specs.Str.{bytes_eq}
+use Rattle.std.proofs.lemmas.Bool.{true≢false}
+use Rattle.std.proofs.lemmas.Slice.Eq.{bytes_eq-Decides}
+use Rattle.def_flow.specs.declared.net.Settings.{Settings}
+use Rattle.std.specs.Prelude.{codes}
+use Rattle.def_certtext.specs.Settings.{AreWordsOf}
+use Rattle.def_run.specs.CommandLines.{name_of, HasCount, HasOptions, HasSettings, IsCommand}
+use Rattle.def_run.specs.Options.{uses_of, value_of, Uses}
+use Rattle.def_run.specs.declared.command.Command.{Command}
+use Rattle.def_run.specs.declared.command.Command.TheVariants.{Tidy, Graph, Refine, Remesh, Check, Bench}
+use Rattle.def_run.specs.declared.words.WordsFail.{WordsFail}
+use Rattle.def_run.specs.declared.words.WordsFail.TheVariants.{Memory, Usage}
+use Rattle.def_text.specs.Types.{Word, Words}
+use Rattle.qm_certtext.proofs.Unique.{decimal_once, same_settings}
+
+-- Other names are other lines.
+apart : (x y : Word) → bytes_eq x y ≡ false → x ≡ y → ⊥
+apart x y other same = true≢false (sym ((bytes_eq-Decides x y).1 same) ∙ other)
+
+same_uses : (words : Words) (one two : Uses) → uses_of words ≡ Some one → uses_of words ≡ Some two → one ≡ two
+same_uses words one two first second =
+    let both : ◌≡◌ {A = Option Uses} (Some one) (Some two) = sym first ∙ second in
+    cc
+
+same_count : (name : Word) (greatest : ℕ) (words : Words) (m n : ℕ) → greatest ≤ 10000 → HasCount name greatest words m → HasCount name greatest words n → m ≡ n
+same_count name greatest words m n few one two =
+    let uses = same_uses words one.uses two.uses one.options.spelled two.options.spelled in
+    decimal_once m n (omega (arith, one.count.high)) (omega (arith, two.count.high))
+    (sym one.count.written ∙ ap (value_of name) uses ∙ two.count.written)
+
+same_asked : (words : Words) (s t : Settings) (a b : Bool) → HasSettings words s a → HasSettings words t b → (s ≡ t) × (a ≡ b)
+same_asked words s t a b one two =
+    let uses = same_uses words two.uses one.uses two.options.spelled one.options.spelled in
+    same_settings _ _ _ s t a b one.values (subst (HasValues t b) uses two.values)
+  where
+    HasValues : Settings → Bool → Uses → Type 0
+    HasValues settings auto uses = AreWordsOf (value_of (codes "scale") uses) (value_of (codes "floor") uses) (value_of (codes "weight") uses) settings auto
+
+same_options : (a b : Command) (words : Words) → name_of a ≡ name_of b → HasOptions a words → HasOptions b words → a ≡ b
+same_options Tidy Tidy words name one two = refl
+same_options Graph Graph words name one two = refl
+same_options (Refine m) (Refine n) words name one two = ap (λ (k : ℕ). Refine k) (same_count _ 1000 words m n (omega arith) one two)
+same_options (Remesh s x) (Remesh t y) words name one two =
+    let both = same_asked words s t x y one two in
+    λ i. Remesh (both.0 i) (both.1 i)
+same_options Check Check words name one two = refl
+same_options (Bench m) (Bench n) words name one two = ap (λ (k : ℕ). Bench k) (same_count _ 10000 words m n (omega arith) one two)
+same_options a b words name one two = absurd (apart (name_of a) (name_of b) refl name)
+
+pub one_command : (words : Words) (a b : Command) → IsCommand words a → IsCommand words b → a ≡ b
+one_command words a b one two =
+    let both : name_of a ∷ one.rest ≡ name_of b ∷ two.rest = sym one.first ∙ two.first in
+    let names : name_of a ≡ name_of b = cc in
+    let rests : one.rest ≡ two.rest = cc in
+    same_options a b two.rest names (subst (HasOptions a) rests one.options) two.options
+
+-- So an exact reader accepts each line.
+pub accepted : (words : Words) (command : Command) (result : Result Command WordsFail) → IfOk result (IsCommand words)
+    → IfErr result (λ fail. fail ≡ Usage → (other : Command) → IsCommand words other → ⊥) → IsCommand words command
+    → (result ≡ Ok command) ⊎ (result ≡ Err Memory)
+accepted words command (Ok read) reads refuses line = inl (ap (λ (c : Command). Ok c) (one_command words read command reads line))
+accepted words command (Err Usage) reads refuses line = absurd (refuses refl command line)
+accepted words command (Err Memory) reads refuses line = inr refl

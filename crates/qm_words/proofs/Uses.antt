@@ -1,0 +1,211 @@
+-- Uses counted, and the rows that clap keeps of them.
+use Rattle.std.proofs.Common.{◌≡◌, ◌⊎◌, ◌≤◌, ◌<◌, ◌+◌, ◌&&◌, ◌||◌, ◌==◌, not, ℕ, suc, Bool, true, false, List, [], ◌∷◌, ◌++◌, Option, Some, None, length, map, cond, eqb, inl, inr, refl, ap, sym, ◌∙◌, subst, arith, append-nil, append_assoc, option_map, option_and_then, slice_get}
+use Rattle.std.specs.List.{find, list_all, list_any}
+use Rattle.std.specs.Option.{option_map_or}
+use Rattle.std.specs.Str.{bytes_eq}
+use Rattle.std.proofs.lemmas.Bool.{and_from, and_parts, cases_Bool, eq-eqb, false≢true, or_parts, true≢false}
+use Rattle.std.proofs.lemmas.List.{map-append}
+use Rattle.std.proofs.lemmas.List.Folds.{list_all-append}
+use Rattle.std.proofs.lemmas.Slice.Eq.{bytes_eq-Decides}
+use Rattle.clap.specs.Facts.{explicit_source}
+use Rattle.clap.specs.Faults.{use_fault}
+use Rattle.clap.specs.Kinds.{Kinds}
+use Rattle.clap.specs.Takes.{is_given}
+use Rattle.clap.specs.Walk.{at_row, first_of, has_row, more_values, settled_rows, used, Row}
+use Rattle.clap.specs.declared.builder.value_parser.Reading.TheVariants.{AsWritten}
+use Rattle.clap.specs.declared.error.kind.ErrorKind.TheVariants.{ArgumentConflict}
+use Rattle.clap.specs.declared.parser.matches.ValueSource.TheVariants.{CommandLine}
+use Rattle.def_run.specs.Options.{are_once, count_of, is_of, value_of, Use, Uses}
+use Rattle.def_text.specs.Types.{Word, Words}
+use Rattle.qm_words.specs.Parsing.{is_known}
+use Rattle.qm_words.proofs.Rules.{by_id, full_rule, rules}
+use Rattle.qm_words.proofs.Steps.{settle, Pending}
+use Rattle.qm_words.proofs.Words.{with_hyphens}
+
+-- The row of a use without hyphens.
+abbrev pub row_of : (one : Use) → Row
+row_of one = record {
+  id = one.name;
+  values = one.value ∷ [];
+  count = None;
+  source = Some CommandLine;
+  reading = AsWritten;
+}
+
+abbrev pub rows_of : (uses : Uses) → List Row
+rows_of uses = map row_of uses
+
+-- How often a name is used.
+abbrev pub count : (name : Word) (uses : Uses) → ℕ
+count name [] = 0
+count name (one ∷ uses) = cond (bytes_eq one.name name) 1 0 + count name uses
+
+pub same_name : (name : Word) → bytes_eq name name ≡ true
+same_name name = (bytes_eq-Decides name name).1 refl
+
+pub either_way : (a b : Word) → bytes_eq a b ≡ bytes_eq b a
+either_way a b = by_test (cases_Bool (bytes_eq a b))
+  where
+    by_test : (bytes_eq a b ≡ true) ⊎ (bytes_eq a b ≡ false) → bytes_eq a b ≡ bytes_eq b a
+    by_test (inl is) = is ∙ sym ((bytes_eq-Decides b a).1 (sym ((bytes_eq-Decides a b).0 is)))
+    by_test (inr other) = other ∙ sym (back (cases_Bool (bytes_eq b a)))
+      where
+        back : (bytes_eq b a ≡ true) ⊎ (bytes_eq b a ≡ false) → bytes_eq b a ≡ false
+        back (inl is) = absurd (true≢false (sym ((bytes_eq-Decides a b).1 (sym ((bytes_eq-Decides b a).0 is))) ∙ other))
+        back (inr same) = same
+
+-- Hyphens change no count.
+pub count_hyphens : (name : Word) (uses : Uses) → count_of name (map with_hyphens uses) ≡ count name uses
+count_hyphens name [] = refl
+count_hyphens name (one ∷ uses) = ap (λ (n : ℕ). cond (bytes_eq one.name name) 1 0 + n) (count_hyphens name uses)
+
+pub count_append : (name : Word) (uses more : Uses) → count name (uses ++ more) ≡ count name uses + count name more
+count_append name [] more = omega arith
+count_append name (one ∷ uses) more = omega (arith, count_append name uses more)
+
+-- No row of a name is no use of it.
+pub fresh_count : (name : Word) (uses : Uses) → has_row name (rows_of uses) ≡ false → count name uses ≡ 0
+fresh_count name [] none = refl
+fresh_count name (one ∷ uses) none =
+    let parts : (bytes_eq one.name name ≡ false) × (has_row name (rows_of uses) ≡ false) = or_parts (bytes_eq one.name name) (has_row name (rows_of uses)) none in
+    rw parts.0 (omega (arith, fresh_count name uses parts.1))
+
+pub count_fresh : (name : Word) (uses : Uses) → count name uses ≡ 0 → has_row name (rows_of uses) ≡ false
+count_fresh name [] none = refl
+count_fresh name (one ∷ uses) none =
+    let later : count name uses ≡ 0 → has_row name (rows_of uses) ≡ false = count_fresh name uses in
+    elim (cases_Bool (bytes_eq one.name name)) [
+      | inl is ↦
+          let bad : 1 + count name uses ≡ 0 = rw is at none in
+          absurd (omega arith)
+      | inr other ↦
+          let rest : 0 + count name uses ≡ 0 = rw other at none in
+          rw other (later (omega arith))
+    ]
+
+-- A row of a name that was given is a use of it.
+pub given_count : (name : Word) (uses : Uses) → is_given name (rows_of uses) ≡ true → 1 ≤ count name uses
+given_count name [] given = absurd (false≢true given)
+given_count name (one ∷ uses) given =
+    let later : is_given name (rows_of uses) ≡ true → 1 ≤ count name uses = given_count name uses in
+    elim (cases_Bool (bytes_eq one.name name)) [
+      | inl is ↦ rw is (omega arith)
+      | inr other ↦
+          let some : 1 ≤ count name uses = later (rw other at given) in
+          rw other (omega arith)
+    ]
+
+pub count_given : (name : Word) (uses : Uses) → 1 ≤ count name uses → is_given name (rows_of uses) ≡ true
+count_given name [] some = absurd (omega arith)
+count_given name (one ∷ uses) some =
+    let later : 1 ≤ count name uses → is_given name (rows_of uses) ≡ true = count_given name uses in
+    elim (cases_Bool (bytes_eq one.name name)) [
+      | inl is ↦ rw is refl
+      | inr other ↦
+          let rest : 1 ≤ 0 + count name uses = rw other at some in
+          rw other (later (omega arith))
+    ]
+
+-- The first row of a name has the value of its first use.
+pub first_value_of : (name : Word) (uses : Uses) → 1 ≤ count name uses → first_of name (rows_of uses) ≡ Some (value_of name (map with_hyphens uses))
+first_value_of name [] some = absurd (omega arith)
+first_value_of name (one ∷ uses) some =
+    let later : 1 ≤ count name uses → first_of name (rows_of uses) ≡ Some (value_of name (map with_hyphens uses)) = first_value_of name uses in
+    elim (cases_Bool (bytes_eq one.name name)) [
+      | inl is ↦ rw is refl
+      | inr other ↦
+          let rest : 1 ≤ 0 + count name uses = rw other at some in
+          rw other (later (omega arith))
+    ]
+
+-- A row that is not there is put at the end.
+at_row_fresh : (id : Word) (change : Row → List Row) (missing rows : List Row) → has_row id rows ≡ false → at_row id change missing rows ≡ rows ++ missing
+at_row_fresh id change missing [] none = refl
+at_row_fresh id change missing (r ∷ rows) none =
+    let parts : (bytes_eq r.id id ≡ false) × (has_row id rows ≡ false) = or_parts (bytes_eq r.id id) (has_row id rows) none in
+    rw parts.0 (ap (λ (rs : List Row). r ∷ rs) (at_row_fresh id change missing rows parts.1))
+
+pub used_fresh : (one : Use) (uses : Uses) → has_row one.name (rows_of uses) ≡ false
+    → used (full_rule one.name) (one.value ∷ []) (rows_of uses) ≡ rows_of (uses ++ one ∷ [])
+used_fresh one uses none =
+    rw (at_row_fresh one.name (λ r. []) [] (rows_of uses) none, append-nil (rows_of uses))
+    (at_row_fresh one.name (more_values CommandLine (one.value ∷ [])) (row_of one ∷ []) (rows_of uses) none ∙ sym (map-append row_of uses (one ∷ [])))
+
+-- A use has no fault exactly where it is the first of its name.
+pub fresh_from : (id value : Word) (rows : List Row) → use_fault false (full_rule id) (value ∷ []) rows ≡ [] → has_row id rows ≡ false
+fresh_from id value rows quiet = elim (cases_Bool (has_row id rows)) [
+  | inl has ↦
+      let bad : ◌≡◌ {A = Kinds} (ArgumentConflict ∷ []) [] = rw has at quiet in
+      cc
+  | inr none ↦ none
+]
+
+pub fresh_quiet : (id value : Word) (rows : List Row) → has_row id rows ≡ false → use_fault false (full_rule id) (value ∷ []) rows ≡ []
+fresh_quiet id value rows none = rw none refl
+
+-- Uses of known options, none of them used twice.
+pub record Good (names : Words) (uses : Uses) : Type 0 where
+  pub once : (name : Word) → count name uses ≤ 1
+  pub known : list_all (λ (one : Use). is_known names one.name) uses ≡ true
+
+pub good_more : (names : Words) (uses : Uses) (one : Use) → Good names uses → is_known names one.name ≡ true → count one.name uses ≡ 0
+    → Good names (uses ++ one ∷ [])
+good_more names uses one good known none = record {
+  once = λ name. elim (cases_Bool (bytes_eq one.name name)) [
+    | inl is ↦
+        let zero_of : count name uses ≡ 0 = subst (λ (n : Word). count n uses ≡ 0) ((bytes_eq-Decides one.name name).0 is) none in
+        let one_of : count name (one ∷ []) ≡ 1 = rw is refl in
+        omega (arith, count_append name uses (one ∷ []))
+    | inr other ↦
+        let none_of : count name (one ∷ []) ≡ 0 = rw other refl in
+        omega (arith, count_append name uses (one ∷ []), good.once name)
+  ];
+  known = list_all-append (λ (u : Use). is_known names u.name) uses (one ∷ []) ∙ rw (good.known, known) refl;
+}
+
+pub good_front : (names : Words) (uses more : Uses) → Good names (uses ++ more) → Good names uses
+good_front names uses more good = record {
+  once = λ name. omega (arith, count_append name uses more, good.once name);
+  known = (and_parts _ _ (sym (list_all-append (λ (u : Use). is_known names u.name) uses more) ∙ good.known)).0;
+}
+
+pub good_back : (names : Words) (uses more : Uses) → Good names (uses ++ more) → list_all (λ (one : Use). is_known names one.name) more ≡ true
+good_back names uses more good =
+    (and_parts (list_all (λ (u : Use). is_known names u.name) uses) _ (sym (list_all-append (λ (u : Use). is_known names u.name) uses more) ∙ good.known)).1
+
+-- The last of such uses is the first of its name.
+pub last_fresh : (names : Words) (uses : Uses) (one : Use) → Good names (uses ++ one ∷ []) → count one.name uses ≡ 0
+last_fresh names uses one good =
+    let one_of : count one.name (one ∷ []) ≡ 1 = rw (same_name one.name) refl in
+    omega (arith, count_append one.name uses (one ∷ []), good.once one.name)
+
+-- The uses with the one that is pending, and how clap keeps that.
+abbrev pub all_of : (uses : Uses) (last : Option Use) → Uses
+all_of uses None = uses
+all_of uses (Some one) = uses ++ one ∷ []
+
+abbrev pub pending : (last : Option Use) → Pending
+pending None = None
+pending (Some one) = Some (one.name, one.value ∷ [])
+
+abbrev pub IsKnown : (names : Words) (last : Option Use) → Type 0
+IsKnown names None = Unit {0}
+IsKnown names (Some one) = is_known names one.name ≡ true
+
+-- Where settling it has no fault, it joins the others.
+pub settled : (names : Words) (uses : Uses) (last : Option Use) → Good names uses → IsKnown names last → settle names (rows_of uses) (pending last) ≡ []
+    → Good names (all_of uses last) × (settled_rows (rules names) (pending last) (rows_of uses) ≡ rows_of (all_of uses last))
+settled names uses None good known quiet = (good, refl)
+settled names uses (Some one) good known quiet =
+    let rule = by_id names one.name known in
+    let none : has_row one.name (rows_of uses) ≡ false = fresh_from one.name one.value (rows_of uses) (rw rule at quiet) in
+    (good_more names uses one good known (fresh_count one.name uses none), rw rule (used_fresh one uses none))
+
+-- It has none where it is the first of its name.
+pub settles : (names : Words) (uses : Uses) (last : Option Use) → IsKnown names last → Good names (all_of uses last)
+    → (settle names (rows_of uses) (pending last) ≡ []) × (settled_rows (rules names) (pending last) (rows_of uses) ≡ rows_of (all_of uses last))
+settles names uses None known good = (refl, refl)
+settles names uses (Some one) known good =
+    let rule = by_id names one.name known in
+    let none : has_row one.name (rows_of uses) ≡ false = count_fresh one.name uses (last_fresh names uses one good) in
+    (rw rule (fresh_quiet one.name one.value (rows_of uses) none), rw rule (used_fresh one uses none))
