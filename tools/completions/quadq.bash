@@ -1,2 +1,2 @@
 # The commands of quadq, for bash.
-complete -W "tidy" quadq
+complete -W "tidy graph" quadq
