@@ -1,0 +1,74 @@
+-- The network of a layout: each patch has two nodes, one for its width and one for its height.
+use Rattle.std.specs.Prelude.{◌≡◌, ℕ, ◌+◌, ◌*◌, ◌<◌, ◌≤◌, Bool, true, false, min, Some, None, length, ⊤}
+use Rattle.def_flow.specs.Network.{Network, Node, arc_at, tangle_number}
+use Rattle.def_flow.specs.declared.limits.TheConstants.{MAX_FLOOR, MAX_SCALE, MAX_TANGLE, MAX_WEIGHT}
+use Rattle.def_flow.specs.declared.net.End.{End}
+use Rattle.def_flow.specs.declared.net.Settings.{Settings}
+use Rattle.def_flow.specs.declared.net.Weight.{Weight}
+use Rattle.def_flow.specs.declared.net.Weight.TheVariants.{Plain, Length}
+use Rattle.def_layout.specs.Layouts.{Way, south, east, north, west, Layout, Slot, IsSlot, use_of}
+use Rattle.def_layout.specs.Lengths.{Lengths}
+use Rattle.def_layoutnet.specs.declared.NetFail.{NetFail}
+use Rattle.def_layoutnet.specs.declared.NetFail.TheVariants as fail
+
+-- The node at which the arcs of a side count: south and north are opposite, and so are east and west.
+abbrev pub node_of : (patch : ℕ) (side : Way) → Node
+node_of patch south = 2 * patch
+node_of patch east = 2 * patch + 1
+node_of patch north = 2 * patch
+node_of patch west = 2 * patch + 1
+
+-- South and east count on the plus side.
+abbrev pub is_plus : (side : Way) → Bool
+is_plus south = true
+is_plus east = true
+is_plus north = false
+is_plus west = false
+
+-- The end of an arc on a side of a patch.
+abbrev pub end_at : (patch : ℕ) (side : Way) → End
+end_at patch side = record { node = node_of patch side; plus = is_plus side }
+
+-- The weight of an arc with this old length.
+abbrev pub weight_of : (weight : Weight) (old : ℕ) → ℕ
+weight_of Plain old = 1
+weight_of Length old = min old MAX_WEIGHT
+
+-- Settings within their limits.
+pub record AreSettings (settings : Settings) : Type 0 where
+  pub p_low : 1 ≤ settings.p
+  pub p_high : settings.p ≤ MAX_SCALE
+  pub q_low : 1 ≤ settings.q
+  pub q_high : settings.q ≤ MAX_SCALE
+  pub floor_low : 1 ≤ settings.floor
+  pub floor_high : settings.floor ≤ MAX_FLOOR
+
+-- The network of a layout with these old lengths. Its arcs are those of the layout. The left end of an arc is on the
+-- side that uses it in its own direction, the right end on the side that uses it in the other, if there is one.
+pub record IsNetOf (layout : Layout) (old : Lengths) (settings : Settings) (net : Network) : Type 0 where
+  pub nodes : net.nodes ≡ 2 * layout.patches
+  pub floor : net.floor ≡ settings.floor
+  pub p : net.p ≡ settings.p
+  pub q : net.q ≡ settings.q
+  pub long : length net.arcs ≡ layout.arcs
+  pub olds : (a : ℕ) → a < layout.arcs → (arc_at net.arcs a).old ≡ old a
+  pub weights : (a : ℕ) → a < layout.arcs → (arc_at net.arcs a).weight ≡ weight_of settings.weight (old a)
+  pub left : (w : Slot) → IsSlot layout w → (use_of layout w).forward ≡ true
+      → (arc_at net.arcs (use_of layout w).arc).left ≡ end_at w.patch w.side
+  pub right : (w : Slot) → IsSlot layout w → (use_of layout w).forward ≡ false
+      → (arc_at net.arcs (use_of layout w).arc).right ≡ Some (end_at w.patch w.side)
+  pub alone : (a : ℕ) → a < layout.arcs
+      → ((w : Slot) → IsSlot layout w → (use_of layout w).arc ≡ a → (use_of layout w).forward ≡ true)
+      → (arc_at net.arcs a).right ≡ None
+
+-- A network of the layout, with a tangle number that is too great.
+pub record IsTangled (layout : Layout) (old : Lengths) (settings : Settings) (count : ℕ) : Type 0 where
+  pub net : Network
+  pub is : IsNetOf layout old settings net
+  pub told : count ≡ tangle_number net
+  pub high : MAX_TANGLE < count
+
+-- Why a layout has no network, where there is memory.
+abbrev pub HasNoNet : (layout : Layout) (old : Lengths) (settings : Settings) (fail : NetFail) → Type 0
+HasNoNet layout old settings (fail.Tangled count) = IsTangled layout old settings count
+HasNoNet layout old settings fail.Memory = ⊤

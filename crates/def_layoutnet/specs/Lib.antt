@@ -1,0 +1,3 @@
+pub mod LayoutNet
+pub mod LayoutNetLaws
+pub mod MeshLayouts

@@ -1,0 +1,172 @@
+-- The network of a layout is even and within bounds.
+use Rattle.std.proofs.Common.{◌≡◌, ◌⊎◌, ℕ, zero, suc, ◌*◌, ◌^◌, ◌<◌, ◌≤◌, Bool, true, false, List, [], ◌∷◌, length, map, Option, Some, pos}
+use Rattle.std.proofs.Common.{refl, sym, ap, ◌∙◌, subst, inl, inr, arith, ◌&&◌}
+use Rattle.std.specs.Prelude.{nat_le, nat_lt, option_to_list}
+use Rattle.std.specs.List.{list_all}
+use Rattle.std.proofs.lemmas.Bool.{le-leb, lt-ltb}
+use Rattle.def_math.specs.Counts.{count, count_below}
+use Rattle.qm_laws.proofs.Counts.{count_below_front, count_below_le, count_below_ones, count_below_same, count_below_total}
+use Rattle.qm_laws.proofs.Sums.{total_below_same}
+use Rattle.def_flow.specs.Admissible.{IsEven}
+use Rattle.def_flow.specs.Network.{Network, arc_at, ends, is_bounded, tangle_number, IsWithinBounds}
+use Rattle.def_flow.specs.declared.limits.TheConstants.{MAX_OLD, MAX_WEIGHT}
+use Rattle.def_flow.specs.declared.net.Arc.{Arc}
+use Rattle.def_flow.specs.declared.net.End.{End}
+use Rattle.def_flow.specs.declared.net.Settings.{Settings}
+use Rattle.def_flow.specs.declared.net.Weight.{Weight}
+use Rattle.def_flow.specs.declared.net.Weight.TheVariants.{Plain, Length}
+use Rattle.def_layout.specs.declared.tmesh.SideArc.{SideArc}
+use Rattle.def_layout.specs.declared.tmesh.TArc.{TArc}
+use Rattle.def_layout.specs.Arcs.{path, long_at}
+use Rattle.def_layout.specs.Layouts.{Way, south, east, north, west, Layout, Slot, IsSlot, use_of}
+use Rattle.def_layout.specs.Laid.{IsLaid}
+use Rattle.def_layout.specs.Lengths.{Lengths, size, AreLengths}
+use Rattle.def_layoutnet.specs.LayoutNet.{end_at, weight_of, AreSettings, IsNetOf}
+use Rattle.def_layoutnet.specs.LayoutNetLaws.{along}
+use Rattle.qm_layoutnet.specs.Ends.{arc_of, open_arc, AreEnds, PatchesBelow}
+use Rattle.qm_layoutnet.proofs.Hits.{use_of_arc}
+use Rattle.qm_layoutnet.proofs.Balance.{balance_law, has_ends, node_low, HasEnds}
+use Rattle.qm_layoutnet.proofs.Tangles.{tangle_small, term_low}
+
+-- A count along a list is one over its places.
+count_at : (f : Arc → ℕ) (xs : List Arc) → count f xs ≡ count_below (λ k. f (arc_at xs k)) (length xs)
+count_at f [] = refl
+count_at f (x ∷ xs) = omega (arith, count_at f xs, count_below_front (λ k. f (arc_at (x ∷ xs) k)) (length xs))
+
+-- What each arc passes all pass.
+all_pass : (p : Arc → Bool) (xs : List Arc) → ((k : ℕ) → k < length xs → p (arc_at xs k) ≡ true) → list_all p xs ≡ true
+all_pass p [] each = refl
+all_pass p (x ∷ xs) each = ap (λ (b : Bool). b && list_all p xs) (each 0 (omega arith)) ∙ all_pass p xs (λ k l. each (suc k) (omega arith))
+
+-- The arcs before any end is put in.
+open_at : (w : Weight) (runs : List TArc) (a : ℕ) → a < length runs → arc_at (map (open_arc w) runs) a ≡ arc_of w (long_at (map path runs) a)
+open_at w [] a l = absurd (omega arith)
+open_at w (r ∷ rs) zero l = refl
+open_at w (r ∷ rs) (suc a) l = open_at w rs a (omega arith)
+
+open_long : (w : Weight) (runs : List TArc) → length (map (open_arc w) runs) ≡ length (map path runs)
+open_long w [] = refl
+open_long w (r ∷ rs) = omega (arith, open_long w rs)
+
+path_long : (runs : List TArc) → length (map path runs) ≡ length runs
+path_long [] = refl
+path_long (r ∷ rs) = omega (arith, path_long rs)
+
+pub ends_begin : (l : Layout) (w : Weight) (runs : List TArc) → length (map path runs) ≡ l.arcs
+    → AreEnds l (long_at (map path runs)) w (PatchesBelow 0) (map (open_arc w) runs)
+ends_begin l w runs long = record {
+  long = open_long w runs ∙ long;
+  olds = λ a low. ap (λ (x : Arc). x.old) (at a low);
+  weights = λ a low. ap (λ (x : Arc). x.weight) (at a low);
+  left = λ v slot none f. absurd (omega (arith, none));
+  right = λ v slot none f. absurd (omega (arith, none));
+  alone = λ a low only. ap (λ (x : Arc). x.right) (at a low);
+}
+  where
+    at : (a : ℕ) → a < l.arcs → arc_at (map (open_arc w) runs) a ≡ arc_of w (long_at (map path runs) a)
+    at a low = open_at w runs a (omega (arith, low, long, path_long runs))
+
+-- When all slots are done, these are the arcs of the network.
+pub net_is : (l : Layout) (old : Lengths) (set : Settings) (net : Network) → net.nodes ≡ 2 * l.patches → net.floor ≡ set.floor → net.p ≡ set.p → net.q ≡ set.q
+    → AreEnds l old set.weight (PatchesBelow l.patches) net.arcs → IsNetOf l old set net
+net_is l old set net nodes floor p q are = record {
+  nodes = nodes;
+  floor = floor;
+  p = p;
+  q = q;
+  long = are.long;
+  olds = are.olds;
+  weights = are.weights;
+  left = λ w slot f. are.left w slot slot.patch_low f;
+  right = λ w slot f. are.right w slot slot.patch_low f;
+  alone = λ a low only. are.alone a low (λ w slot d e. only w slot e);
+}
+
+module _ (l : Layout) (x : Lengths) (set : Settings) (net : Network) (laid : IsLaid l) (len : AreLengths l x) (few : count_below x l.arcs ≤ 2 ^ 23)
+    (in_range : AreSettings set) (is : IsNetOf l x set net) where
+  -- The arcs are few.
+  arcs_few : l.arcs ≤ 2 ^ 23
+  arcs_few = omega (arith, few, count_below_ones l.arcs, count_below_le (λ k. 1) x l.arcs (λ k low. len.some k low))
+
+  old_at : (k : ℕ) → k < length net.arcs → (arc_at net.arcs k).old ≡ x k
+  old_at k low = is.olds k (omega (arith, low, is.long))
+
+  -- The sum along a side is the size of the side.
+  along_is : (p : ℕ) (s : Way) → p < l.patches → along l (λ k. pos (arc_at net.arcs k).old) p s ≡ pos (size l x p s)
+  along_is p s low =
+      total_below_same (λ k. pos (arc_at net.arcs (l.use_at p s k).arc).old) (λ k. pos (x (l.use_at p s k).arc)) (l.many p s)
+      (λ k less. ap pos (is.olds (l.use_at p s k).arc (laid.paved.arc_low (record { patch = p; side = s; at = k }) (record { patch_low = low; low = less }))))
+      ∙ sym (count_below_total (λ k. x (l.use_at p s k).arc) (l.many p s))
+
+  pub even : IsEven net
+  even = record {
+    high = λ k low. omega (arith, old_at k low, len.some k (omega (arith, low, is.long)));
+    small = omega (arith, count_at (λ a. a.old) net.arcs, count_below_same (λ k. (arc_at net.arcs k).old) x (length net.arcs) old_at, ap (count_below x) is.long, few);
+    balanced = (balance_law l x set net laid is (λ k. pos (arc_at net.arcs k).old)).1 (record {
+      across = λ p low. along_is p south low ∙ (ap pos (sym (len.across p low)) ∙ sym (along_is p north low));
+      upright = λ p low. along_is p east low ∙ (ap pos (len.upright p low) ∙ sym (along_is p west low));
+    });
+  }
+
+  -- Weights are from 1 on.
+  weight_low : (w : Weight) (n : ℕ) → 1 ≤ n → 1 ≤ weight_of w n
+  weight_low Plain n h = omega arith
+  weight_low Length n h = omega (arith, h)
+
+  weight_high : (w : Weight) (n : ℕ) → weight_of w n ≤ MAX_WEIGHT
+  weight_high Plain n = omega arith
+  weight_high Length n = omega arith
+
+  abbrev rest : (right : Option End) → Bool
+  rest right = list_all (λ (e : End). nat_lt e.node net.nodes) (option_to_list right)
+
+  ends_low : (k : ℕ) → k < l.arcs → list_all (λ (e : End). nat_lt e.node net.nodes) (ends (arc_at net.arcs k)) ≡ true
+  ends_low k low = by_ends (has_ends l x set net laid is (λ k. pos 0) k low)
+    where
+      by_ends : HasEnds l x set net laid is (λ k. pos 0) k → list_all (λ (e : End). nat_lt e.node net.nodes) (ends (arc_at net.arcs k)) ≡ true
+      by_ends h = ap (λ (b : Bool). b && rest (arc_at net.arcs k).right) (low_at (arc_at net.arcs k).left h.ahead left h.ahead_is) ∙ by_right h.right
+        where
+          low_at : (e : End) (v : Slot) → e ≡ end_at v.patch v.side → IsSlot l v → nat_lt e.node net.nodes ≡ true
+          low_at e v same slot = lt-ltb e.node net.nodes (omega (arith, ap (λ (f : End). f.node) same, node_low v.patch v.side l.patches slot.patch_low, is.nodes))
+
+          left : (arc_at net.arcs k).left ≡ end_at h.ahead.patch h.ahead.side
+          left = subst (λ (u : SideArc). (arc_at net.arcs u.arc).left ≡ end_at h.ahead.patch h.ahead.side) h.ahead_use
+              (is.left h.ahead h.ahead_is (ap (λ (u : SideArc). u.forward) h.ahead_use))
+
+          by_right : ((v : Slot) × IsSlot l v × (use_of l v ≡ use_of_arc k false)) ⊎ ((v : Slot) → IsSlot l v → use_of l v ≡ use_of_arc k false → ⊥) → rest (arc_at net.arcs k).right ≡ true
+          by_right (inl v) =
+              let right : (arc_at net.arcs k).right ≡ Some (end_at v.0.patch v.0.side) =
+              subst (λ (u : SideArc). (arc_at net.arcs u.arc).right ≡ Some (end_at v.0.patch v.0.side)) v.2 (is.right v.0 v.1 (ap (λ (u : SideArc). u.forward) v.2)) in
+              ap rest right ∙ ap (λ (b : Bool). b && true) (low_at (end_at v.0.patch v.0.side) v.0 refl v.1)
+          by_right (inr none) = ap rest (is.alone k low (λ w slot e. only w slot e (use_of l w).forward refl))
+            where
+              only : (w : Slot) → IsSlot l w → (use_of l w).arc ≡ k → (b : Bool) → (use_of l w).forward ≡ b → (use_of l w).forward ≡ true
+              only w slot e true f = f
+              only w slot e false f = absurd (none w slot (ap (λ (a : ℕ). use_of_arc a (use_of l w).forward) e ∙ ap (λ (b : Bool). use_of_arc k b) f))
+
+  bounded : (k : ℕ) → k < length net.arcs → is_bounded net.nodes (arc_at net.arcs k) ≡ true
+  bounded k low =
+      let k_low : k < l.arcs = omega (arith, low, is.long) in
+      let a = arc_at net.arcs k in
+      let o : a.old ≤ 2 ^ 23 = omega (arith, old_at k low, term_low x l.arcs k k_low, few) in
+      let w1 : 1 ≤ a.weight = omega (arith, is.weights k k_low, weight_low set.weight (x k) (len.some k k_low)) in
+      let w2 : a.weight ≤ MAX_WEIGHT = omega (arith, is.weights k k_low, weight_high set.weight (x k)) in
+      let all = list_all (λ (e : End). nat_lt e.node net.nodes) (ends a) in
+      ap (λ (b : Bool). b && nat_le a.weight MAX_WEIGHT && nat_le a.old MAX_OLD && all) (le-leb 1 a.weight w1)
+      ∙ (ap (λ (b : Bool). b && nat_le a.old MAX_OLD && all) (le-leb a.weight MAX_WEIGHT w2)
+      ∙ (ap (λ (b : Bool). b && all) (le-leb a.old MAX_OLD (omega (arith, o))) ∙ ends_low k k_low))
+
+  pub within : IsWithinBounds net
+  within = record {
+    floor_low = omega (arith, is.floor, in_range.floor_low);
+    floor_high = omega (arith, is.floor, in_range.floor_high);
+    p_low = omega (arith, is.p, in_range.p_low);
+    p_high = omega (arith, is.p, in_range.p_high);
+    q_low = omega (arith, is.q, in_range.q_low);
+    q_high = omega (arith, is.q, in_range.q_high);
+    arcs = all_pass (is_bounded net.nodes) net.arcs bounded;
+    few = omega (arith, is.long, arcs_few);
+  }
+
+  pub small : tangle_number net < 2 ^ 64
+  small = tangle_small net (omega (arith, is.long, arcs_few))

@@ -1,0 +1,81 @@
+-- The tangle number of few arcs is below 2^64.
+use Rattle.std.proofs.Common.{◌≡◌, ℕ, zero, suc, ◌+◌, ◌*◌, ◌^◌, ◌<◌, ◌≤◌, Bool, true, false, cond, ◌==◌, List, [], ◌∷◌, length, Option, Some, None, refl, ap, inl, inr, arith}
+use Rattle.std.proofs.Math.Nat.{mul-le-mul_right}
+use Rattle.std.specs.Prelude.{option_to_list}
+use Rattle.std.proofs.lemmas.Bool.{cases_eq, eq-eqb, ne_eqb}
+use Rattle.def_math.specs.Counts.{count, count_below}
+use Rattle.qm_laws.proofs.Counts.{count_below_le, count_below_none, count_below_sum, count_below_times}
+use Rattle.def_flow.specs.Network.{degree, ends, tangle_number, Network}
+use Rattle.def_flow.specs.declared.net.Arc.{Arc}
+use Rattle.def_flow.specs.declared.net.End.{End}
+
+-- A term is at most the sum.
+pub term_low : (f : ℕ → ℕ) (n k : ℕ) → k < n → f k ≤ count_below f n
+term_low f zero k l = absurd (omega arith)
+term_low f (suc n) k l = elim (cases_eq k n) [
+  | inl e ↦ omega (arith, ap f e)
+  | inr ne ↦ omega (arith, term_low f n k (omega arith))
+]
+
+-- A number below a bound is one of them at most.
+one_below : (u n : ℕ) → count_below (λ v. cond (u == v) 1 0) n ≤ 1
+one_below u zero = omega arith
+one_below u (suc n) = elim (cases_eq u n) [
+  | inl e ↦
+      let none : count_below (λ v. cond (u == v) 1 0) n ≡ 0 =
+      count_below_none (λ v. cond (u == v) 1 0) n (λ v l. ap (λ (b : Bool). cond b 1 0) (ne_eqb u v (λ s. omega (arith, s, e)))) in
+      let here : ◌≡◌ {A = ℕ} (cond (u == n) 1 0) 1 = ap (λ (b : Bool). cond b 1 0) (eq-eqb u n e) in
+      omega (arith, none, here)
+  | inr ne ↦ let off : ◌≡◌ {A = ℕ} (cond (u == n) 1 0) 0 = ap (λ (b : Bool). cond b 1 0) (ne_eqb u n ne) in omega (arith, one_below u n, off)
+]
+
+-- The ends at the nodes below a bound, of an arc and of all arcs.
+arc_ends : (a : Arc) (n : ℕ) → count_below (λ v. count (λ e. cond (e.node == v) 1 0) (ends a)) n ≤ 2
+arc_ends a n = by_right a.right
+  where
+    by_right : (right : Option End) → count_below (λ v. cond (a.left.node == v) 1 0 + count (λ (e : End). cond (e.node == v) 1 0) (option_to_list right)) n ≤ 2
+    by_right None =
+        let sum = count_below_sum (λ v. cond (a.left.node == v) 1 0) (λ v. 0) n in
+        omega (arith, sum, one_below a.left.node n, count_below_none (λ v. 0) n (λ v l. refl))
+    by_right (Some r) =
+        let sum = count_below_sum (λ v. cond (a.left.node == v) 1 0) (λ v. cond (r.node == v) 1 0 + 0) n in
+        let more = count_below_sum (λ v. cond (r.node == v) 1 0) (λ v. 0) n in
+        omega (arith, sum, more, one_below a.left.node n, one_below r.node n, count_below_none (λ v. 0) n (λ v l. refl))
+
+degrees_few : (arcs : List Arc) (n : ℕ) → count_below (degree arcs) n ≤ 2 * length arcs
+degrees_few [] n = omega (arith, count_below_none (λ v. 0) n (λ v l. refl))
+degrees_few (a ∷ arcs) n = omega (
+  arith,
+  count_below_sum (λ v. count (λ e. cond (e.node == v) 1 0) (ends a)) (degree arcs) n,
+  arc_ends a n,
+  degrees_few arcs n,
+)
+
+-- No node has more than two ends of each arc.
+arc_degree : (a : Arc) (v : ℕ) → count (λ e. cond (e.node == v) 1 0) (ends a) ≤ 2
+arc_degree a v = by_right a.right
+  where
+    small : (b : Bool) → cond b 1 0 ≤ 1
+    small true = omega arith
+    small false = omega arith
+
+    by_right : (right : Option End) → cond (a.left.node == v) 1 0 + count (λ (e : End). cond (e.node == v) 1 0) (option_to_list right) ≤ 2
+    by_right None = omega (arith, small (a.left.node == v))
+    by_right (Some r) = omega (arith, small (a.left.node == v), small (r.node == v))
+
+degree_few : (arcs : List Arc) (v : ℕ) → degree arcs v ≤ 2 * length arcs
+degree_few [] v = omega arith
+degree_few (a ∷ arcs) v = omega (arith, arc_degree a v, degree_few arcs v)
+
+pub tangle_small : (net : Network) → length net.arcs ≤ 2 ^ 23 → tangle_number net < 2 ^ 64
+tangle_small net few = omega (arith, each, times, degrees_few net.arcs net.nodes)
+  where
+    square : (d : ℕ) → d ≤ 2 ^ 24 → 16 * (d * d) ≤ 2 ^ 28 * d
+    square d l = omega (arith, mul-le-mul_right {m = d} {n = 2 ^ 24} d l)
+
+    each : tangle_number net ≤ count_below (λ v. 2 ^ 28 * degree net.arcs v) net.nodes
+    each = count_below_le (λ v. 16 * (degree net.arcs v * degree net.arcs v)) (λ v. 2 ^ 28 * degree net.arcs v) net.nodes
+        (λ v l. square (degree net.arcs v) (omega (arith, degree_few net.arcs v)))
+
+    times : count_below (λ v. 2 ^ 28 * degree net.arcs v) net.nodes ≡ 2 ^ 28 * count_below (degree net.arcs) net.nodes
+    times = count_below_times (2 ^ 28) (degree net.arcs) net.nodes

@@ -1,0 +1,105 @@
+-- What the layout of a mesh gives: its arcs have at most all darts, and its patches at most all faces.
+use Rattle.std.proofs.Common.{◌≡◌, ℕ, ◌-◌, ◌^◌, ◌<◌, ◌≤◌, [], length, get_or, refl, ap, arith}
+use Rattle.std.proofs.lemmas.List.{get_or-map, length-map}
+use Rattle.def_math.specs.Counts.{count_below}
+use Rattle.def_mesh.specs.Darts.{darts}
+use Rattle.def_mesh.specs.HalfEdges.{half_edges, IsQuadManifold}
+use Rattle.def_cut.specs.Cuts.{IsCut}
+use Rattle.def_cut.specs.FullCut.{is_on}
+use Rattle.def_cut.specs.Grids.{cell_of, patch_at, rectangle, IsSide}
+use Rattle.std.specs.List.{All}
+use Rattle.def_layout.specs.Arcs.{dart_at, long_at, path, Path}
+use Rattle.def_layout.specs.declared.tmesh.TArc.{TArc}
+use Rattle.def_layout.specs.declared.tmesh.TMesh.{TMesh}
+use Rattle.def_layout.specs.Laid.{IsLaid}
+use Rattle.def_layout.specs.Lengths.{AreLengths}
+use Rattle.def_layout.specs.Nodes.{is_node, AreNodes}
+use Rattle.def_layout.specs.Plans.{Plan, layout_of, plan, vertex_at}
+use Rattle.def_written.specs.Laws.{LiesIn}
+use Rattle.def_layoutnet.specs.MeshLayouts.{IsMeshLayout}
+use Rattle.qm_layoutnet.proofs.Tangles.{term_low}
+use Rattle.qm_laws.proofs.Runs.{run_here, IsInRun}
+use Rattle.def_math.specs.Runs.{run_at}
+use Rattle.cut_laws.proofs.Pigeon.{no_more}
+use Rattle.mesh_laws.proofs.HalfEdges.{manifold_law}
+use Rattle.face_laws.proofs.FullCuts.{full_cut_law}
+use Rattle.layout_laws.proofs.FaceNodes.{are_nodes}
+use Rattle.plan_laws.proofs.ArcUses.{dart_low, same_dart}
+use Rattle.plan_laws.proofs.PlanLies.{plan_law}
+use Rattle.written_laws.proofs.Shape.{laid_law}
+
+module _ (plan : Plan) (is : IsMeshLayout plan) where
+  lies : LiesIn is.faces (layout_of plan) (long_at plan.arcs) (vertex_at plan)
+  lies = plan_law is.faces is.marks plan is.mesh is.quads is.cut is.laid
+
+  pub laid_of : IsLaid (layout_of plan)
+  laid_of = (laid_law is.faces (layout_of plan) (long_at plan.arcs) (vertex_at plan) lies).0
+
+  pub lengths_of : AreLengths (layout_of plan) (long_at plan.arcs)
+  lengths_of = lies.lengths
+
+  laws : IsQuadManifold (half_edges is.faces)
+  laws = manifold_law is.faces is.mesh.manifold
+
+  cut : IsCut (half_edges is.faces) (is_on is.marks)
+  cut = ((full_cut_law is.faces is.marks is.mesh.manifold).0 is.cut).1
+
+  nodes : AreNodes (half_edges is.faces) (is_on is.marks) (is_node is.faces is.marks)
+  nodes = are_nodes is.faces laws is.marks cut
+
+  -- The darts of all arcs, one after the other.
+  abbrev run_of : (t : ℕ) → ℕ
+  run_of t = run_at (count_below (long_at plan.arcs)) (length plan.arcs) t
+
+  abbrev place_of : (t : ℕ) → ℕ
+  place_of t = t - count_below (long_at plan.arcs) (run_of t)
+
+  here : (t : ℕ) → t < count_below (long_at plan.arcs) (length plan.arcs) → IsInRun (long_at plan.arcs) (length plan.arcs) t (run_of t) (place_of t)
+  here t l = run_here (long_at plan.arcs) (length plan.arcs) t l
+
+  -- They differ, so there are no more than the mesh has.
+  pub lengths_few : count_below (long_at plan.arcs) (length plan.arcs) ≤ darts is.faces
+  lengths_few = no_more (count_below (long_at plan.arcs) (length plan.arcs)) (darts is.faces) (λ t. dart_at plan.arcs (run_of t) (place_of t)) (λ d. d) apart there
+    where
+      apart : (i j : ℕ) → i < count_below (long_at plan.arcs) (length plan.arcs) → j < count_below (long_at plan.arcs) (length plan.arcs)
+          → dart_at plan.arcs (run_of i) (place_of i) ≡ dart_at plan.arcs (run_of j) (place_of j) → i ≡ j
+      apart i j li lj e =
+          by_same (same_dart (half_edges is.faces) laws (is_on is.marks) cut (is_node is.faces is.marks) nodes plan.arcs is.laid.arcs
+          (run_of i) (run_of j) (place_of i) (place_of j) (here i li).low (here j lj).low (here i li).inside (here j lj).inside e)
+        where
+          by_same : (run_of i ≡ run_of j) × (place_of i ≡ place_of j) → i ≡ j
+          by_same s = omega (arith, (here i li).place, (here j lj).place, ap (count_below (long_at plan.arcs)) s.0, s.1)
+
+      there : (i : ℕ) → i < count_below (long_at plan.arcs) (length plan.arcs) → (j : ℕ) × (j < darts is.faces) × (j ≡ dart_at plan.arcs (run_of i) (place_of i))
+      there i l = (
+        dart_at plan.arcs (run_of i) (place_of i),
+        dart_low (half_edges is.faces) laws (is_on is.marks) cut (is_node is.faces is.marks) nodes plan.arcs is.laid.arcs (run_of i) (place_of i) (here i l).low (here i l).inside,
+        refl,
+      )
+
+  -- The first cells of patches differ, too.
+  pub patches_few : length plan.patches ≤ darts is.faces
+  patches_few = no_more (length plan.patches) (darts is.faces) first (λ d. d) apart (λ p l. (first p, low p l, refl))
+    where
+      first : (p : ℕ) → ℕ
+      first p = cell_of (patch_at plan.patches p) 0 0
+
+      low : (p : ℕ) → p < length plan.patches → first p < darts is.faces
+      low p l = let g = (is.laid.patches.patch p l).grid in g.low 0 0 g.wide g.tall
+
+      side : (p q : ℕ) → p < length plan.patches → first q ≡ first p → IsSide (half_edges is.faces) (patch_at plan.patches p) 0 0 0 (first q)
+      side p q l e = let g = (is.laid.patches.patch p l).grid in record { i_low = g.wide; j_low = g.tall; is = e }
+
+      apart : (p q : ℕ) → p < length plan.patches → q < length plan.patches → first p ≡ first q → p ≡ q
+      apart p q lp lq e = (is.laid.patches.once (first p) p 0 0 0 q 0 0 0 lp lq (side p p lp refl) (side q p lq e)).0
+
+-- So each arc is short.
+pub runs_short : (t : TMesh) → IsMeshLayout (plan t) → All (λ (run : TArc). length run.darts.items < 2 ^ 32) t.arcs.items
+runs_short t is k d l =
+    let low : k < length (plan t).arcs = omega (arith, l, length-map t.arcs.items path) in
+    let long : long_at (plan t).arcs k ≡ length (get_or t.arcs.items k d).darts.items =
+    ap (λ (p : Path). length p.darts) (get_or-map path t.arcs.items k d (record { first = 0; last = 0; darts = [] }) l) in
+    omega (arith, long, term_low (long_at (plan t).arcs) (length (plan t).arcs) k low, lengths_few (plan t) is, is.mesh.few)
+
+pub few_patches : (t : TMesh) → IsMeshLayout (plan t) → length t.patches.items ≤ 2 ^ 23
+few_patches t is = omega (arith, patches_few (plan t) is, is.mesh.few, length-map t.patches.items rectangle)

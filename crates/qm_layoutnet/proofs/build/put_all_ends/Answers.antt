@@ -1,0 +1,41 @@
+use Rattle.std.proofs.Common.{◌≡◌, ℕ, ◌+◌, ◌<◌, true, List, map, length, sym, ap, refl, subst, arith}
+use Rattle.std.proofs.lemmas.List.{get_or_default, length-map}
+use Rattle.def_flow.specs.declared.net.Arc.{Arc}
+use Rattle.def_layout.specs.declared.tmesh.SideArc.{SideArc}
+use Rattle.def_layout.specs.Arcs.{path, long_at}
+use Rattle.def_cut.specs.Grids.{rectangle}
+use Rattle.def_layout.specs.Layouts.{Slot}
+use Rattle.def_layout.specs.Plans.{layout_of, plan, side_at}
+use Rattle.qm_layoutnet.specs.Ends.{AreEnds, PatchesBelow}
+use Rattle.qm_layoutnet.proofs.EndTables.{patch_more}
+use Rattle.qm_layoutnet.proofs.build.put_all_ends.Goals as goal
+
+pub put_four-requires-clause-uses : goal.put_four-requires-clause-uses
+put_four-requires-clause-uses c s k d less =
+    let t = c.args.t.now in
+    let slot : Slot = record { patch = c.loop-p.p; side = s; at = k } in
+    let p_low : c.loop-p.p < length (map rectangle t.patches.items) =
+    omega (arith, c.loop-p-test.true, c.len-p-end.ensures, t.sides.ok.0, c.requires.sided, length-map t.patches.items rectangle) in
+    let low = c.requires.laid.paved.arc_low slot (record { patch_low = p_low; low = less }) in
+    let same = get_or_default (side_at (plan t) c.loop-p.p s) k d (record { arc = 0; forward = true }) less in
+    omega (arith, low, ap (λ (u : SideArc). u.arc) same, c.loop-p.invariant.long, c.requires.long, length-map t.arcs.items path)
+
+pub loop-p-preserved : goal.loop-p-preserved
+loop-p-preserved c =
+    let t = c.args.t.now in
+    let p_low : c.loop-p.p < length (map rectangle t.patches.items) =
+    omega (arith, c.loop-p-test.true, c.len-p-end.ensures, t.sides.ok.0, c.requires.sided, length-map t.patches.items rectangle) in
+    record {
+      done = λ weight begin. subst (λ (xs : List Arc). AreEnds (layout_of (plan t)) (long_at (map path t.arcs.items)) weight (PatchesBelow (c.loop-p.p + 1)) xs)
+          (sym c.put_four.ensures)
+          (patch_more (layout_of (plan t)) (long_at (map path t.arcs.items)) weight c.requires.laid c.loop-p.p (side_at (plan t) c.loop-p.p) c.loop-p.arcs p_low
+          (λ s j d h. get_or_default (side_at (plan t) c.loop-p.p s) j d _ h) (λ s. refl) (c.loop-p.invariant.done weight begin));
+      long = omega (arith, c.put_four.auto.arcs, c.loop-p.invariant.long);
+    }
+
+pub returns : goal.returns
+returns c weight begin =
+    let t = c.args.t.now in
+    let all : c.loop-p.p ≡ length t.patches.items =
+    omega (arith, c.loop-p-test.false, c.loop-p.auto.p-end, c.len-p-end.ensures, t.sides.ok.0, c.requires.sided) in
+    subst (λ (p : ℕ). AreEnds (layout_of (plan t)) (long_at (map path t.arcs.items)) weight (PatchesBelow p) c.loop-p.arcs) all (c.loop-p.invariant.done weight begin)

@@ -1,0 +1,11 @@
+//! The network of a layout.
+#![tactic(auto)]
+
+mod arcs;
+mod build;
+mod ends;
+mod law;
+
+pub use build::net_of;
+pub use def_layoutnet::NetFail;
+pub use law::balance_law;
