@@ -1,38 +1,62 @@
 -- The lines of a certificate.
-use Rattle.std.specs.Prelude.{◌≡◌, ℕ, ◌+◌, ℤ, unsigned_abs, List, [], ◌∷◌, ◌++◌, decimal, length, take, drop}
+use Rattle.std.specs.Prelude.{◌≡◌, ℕ, ◌+◌, ℤ, unsigned_abs, List, [], ◌∷◌, ◌++◌, decimal, length, take, drop, map}
 use Rattle.std.specs.List.{flat_map}
 use Rattle.def_io.specs.Bytes.{Bytes}
 use Rattle.def_io.specs.declared.TheConstants.{LINE_FEED}
 use Rattle.def_text.specs.Canonical.{minus_text}
 use Rattle.def_text.specs.declared.letters.TheConstants.{HASH, SPACE}
 use Rattle.def_flow.specs.declared.cert.Cert.{Cert}
-use Rattle.def_certtext.specs.declared.TheConstants.{LENGTH, SET, VERTEX}
+use Rattle.def_certtext.specs.declared.CertLine.{CertLine}
+use Rattle.def_certtext.specs.declared.CertLine.TheVariants as lines
+use Rattle.def_certtext.specs.declared.TheConstants.{FLOOR, LENGTH, SET, VERTEX}
+
+-- A certificate as its four lists.
+pub record Lists : Type 0 where
+  pub x : List ℕ
+  pub y : List ℤ
+  pub z : List ℤ
+  pub up : List ℕ
+
+-- The lists of a certificate.
+abbrev pub lists_of : (cert : Cert) → Lists
+lists_of cert = record { x = cert.x.items; y = cert.dual.y.items; z = cert.dual.z.items; up = cert.dual.up.items }
+
+-- Each vertex and each set of the dual has its `up`.
+abbrev pub HasUps : (lists : Lists) → Type 0
+HasUps lists = length lists.up ≡ length lists.y + length lists.z
 
 -- A whole number, with a minus where it is below 0.
 abbrev pub signed_text : (z : ℤ) → Bytes
 signed_text z = minus_text z ++ decimal (unsigned_abs z)
 
--- The line `#x N` of an arc.
-abbrev pub length_line : (n : ℕ) → Bytes
-length_line n = HASH ∷ LENGTH ∷ SPACE ∷ decimal n ++ LINE_FEED ∷ []
+-- A number and its `up` behind this letter.
+abbrev pub dual_text : (letter : ℕ) (number : ℤ) (up : ℕ) → Bytes
+dual_text letter number up = HASH ∷ letter ∷ SPACE ∷ signed_text number ++ SPACE ∷ decimal up
 
--- The line `#y N U` or `#s N U` of a vertex or a set, with its number and its `up`.
-abbrev pub dual_line : (letter : ℕ) (z : ℤ) (up : ℕ) → Bytes
-dual_line letter z up = HASH ∷ letter ∷ SPACE ∷ signed_text z ++ SPACE ∷ decimal up ++ LINE_FEED ∷ []
+-- A line without its end.
+abbrev pub line_text : (line : CertLine) → Bytes
+line_text (lines.Length n) = HASH ∷ LENGTH ∷ SPACE ∷ decimal n
+line_text (lines.Vertex number up) = dual_text VERTEX number up
+line_text (lines.Set number up) = dual_text SET number up
+line_text (lines.Floor floor) = HASH ∷ FLOOR ∷ SPACE ∷ decimal floor
 
--- A line for each number and its `up`, in order.
-abbrev pub dual_lines : (letter : ℕ) (numbers : List ℤ) (ups : List ℕ) → Bytes
-dual_lines letter [] ups = []
-dual_lines letter (z ∷ numbers) [] = []
-dual_lines letter (z ∷ numbers) (up ∷ ups) = dual_line letter z up ++ dual_lines letter numbers ups
+-- Lines as a text, each with its end.
+abbrev pub text_of : (said : List CertLine) → Bytes
+text_of said = flat_map (λ line. line_text line ++ LINE_FEED ∷ []) said
 
--- Each vertex and each set of the dual has its `up`.
-abbrev pub HasUps : (cert : Cert) → Type 0
-HasUps cert = length cert.dual.up.items ≡ length cert.dual.y.items + length cert.dual.z.items
+-- A line for each number and its `up`.
+abbrev pub numbered : (kind : ℤ → ℕ → CertLine) (numbers : List ℤ) (ups : List ℕ) → List CertLine
+numbered kind [] ups = []
+numbered kind (number ∷ numbers) [] = []
+numbered kind (number ∷ numbers) (up ∷ ups) = kind number up ∷ numbered kind numbers ups
 
--- All lines of a certificate: first the arcs, then the vertices, then the sets.
+-- The lines of a certificate: first the arcs, then the vertices, then the sets.
+abbrev pub said_by : (lists : Lists) → List CertLine
+said_by lists =
+    map lines.Length lists.x
+    ++ numbered lines.Vertex lists.y (take (length lists.y) lists.up)
+    ++ numbered lines.Set lists.z (drop (length lists.y) lists.up)
+
+-- The same as a text.
 abbrev pub cert_lines : (cert : Cert) → Bytes
-cert_lines cert =
-    flat_map length_line cert.x.items
-    ++ dual_lines VERTEX cert.dual.y.items (take (length cert.dual.y.items) cert.dual.up.items)
-    ++ dual_lines SET cert.dual.z.items (drop (length cert.dual.y.items) cert.dual.up.items)
+cert_lines cert = text_of (said_by (lists_of cert))

@@ -1,3 +1,4 @@
 pub mod CertLines
 pub mod HeadLine
+pub mod Reading
 pub mod Settings

@@ -13,6 +13,25 @@ pub const VERTEX: u8 = b'y';
 /// `s`, before the number of a set.
 pub const SET: u8 = b's';
 
+/// `f`, before the floor of the certificate that follows.
+pub const FLOOR: u8 = b'f';
+
+/// The numbers of a dual are below this in absolute value: they have at most 18 digits.
+pub const NUMBER_LIMIT: u64 = 1_000_000_000_000_000_000;
+
+/// What one line of a certificate says.
+#[derive(Clone, Copy, Debug, PartialEq, Eq)]
+pub enum CertLine {
+    /// The length of an arc.
+    Length { n: u64 },
+    /// The number of a vertex of the matching graph, and its `up`.
+    Vertex { number: i64, up: u32 },
+    /// The number of a set, and its `up`.
+    Set { number: i64, up: u32 },
+    /// The lines of the certificate for this floor follow, in a text of `auto`.
+    Floor { floor: u32 },
+}
+
 /// What a remesh was asked for. With `auto` the floor of the settings is 1.
 #[derive(Clone, Copy, Debug, PartialEq, Eq)]
 pub struct Asked {

@@ -1,1 +1,6 @@
+mod Counts
+mod Cutting
+mod Holding
+mod Letters
+mod Marks
 pub mod Unique

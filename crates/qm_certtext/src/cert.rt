@@ -1,11 +1,20 @@
 //! The lines of a certificate.
 
-ghost use Rattle.std.specs.Prelude.{◌≡◌, ◌++◌, length, IfOk, OnOk};
-ghost use Rattle.std.specs.List.{flat_map};
-ghost use Rattle.def_certtext.specs.CertLines.{cert_lines, dual_line, dual_lines, length_line, signed_text, HasUps};
+ghost use Rattle.std.specs.Prelude.{◌≡◌, ◌++◌, ◌∷◌, [], decimal, length, map, IfOk, OnOk};
+ghost use Rattle.def_certtext.specs.CertLines.{
+  cert_lines,
+  dual_text,
+  line_text,
+  lists_of,
+  numbered,
+  signed_text,
+  text_of,
+  HasUps,
+};
+ghost use Rattle.def_certtext.specs.declared.CertLine.TheVariants.{Length, Set, Vertex};
 
 use crate::Memory;
-use def_certtext::{LENGTH, SET, VERTEX};
+use def_certtext::{CertLine, FLOOR, LENGTH, SET, VERTEX};
 use def_flow::Cert;
 use def_io::LINE_FEED;
 use def_text::{HASH, MINUS, SPACE};
@@ -14,57 +23,90 @@ use std::alloc::Global;
 
 /// The lines of a certificate: its lengths, the numbers of its vertices, those of its sets. Linear.
 pub fn cert_text(alloc: Global, cert: &Cert) -> Result<Vec<u8>, Memory>
-    requires { HasUps cert.now }
+    requires { HasUps (lists_of cert.now) }
     ensures { IfOk result (λ text. text.items ≡ cert_lines cert.now) }
 {
     let mut text = Vec::new(alloc);
     let (vertices, sets) = cert.dual.up.split_at(cert.dual.y.len());
     push_lengths(&mut text, &cert.x)?;
-    push_numbers(&mut text, VERTEX, &cert.dual.y, vertices)?;
-    push_numbers(&mut text, SET, &cert.dual.z, sets)?;
+    push_vertices(&mut text, &cert.dual.y, vertices)?;
+    push_sets(&mut text, &cert.dual.z, sets)?;
     Ok(text)
 }
 
 fn push_lengths(text: &mut Vec<u8>, lengths: &[u64]) -> Result<(), Memory>
-    ensures { OnOk result (text.new.items ≡ text.old.items ++ flat_map length_line lengths.now) }
+    ensures { OnOk result (text.new.items ≡ text.old.items ++ text_of (map Length lengths.now)) }
 {
     for n in lengths {
-        push_length(text, *n)?;
+        push_line(text, CertLine::Length { n: *n })?;
     }
     Ok(())
 }
 
-fn push_length(text: &mut Vec<u8>, n: u64) -> Result<(), Memory>
-    ensures { OnOk result (text.new.items ≡ text.old.items ++ length_line n) }
+/// A line for each number of a vertex and its `up`.
+fn push_vertices(text: &mut Vec<u8>, numbers: &[i64], ups: &[u32]) -> Result<(), Memory>
+    requires { length ups.now ≡ length numbers.now }
+    ensures { OnOk result (text.new.items ≡ text.old.items ++ text_of (numbered Vertex numbers.now ups.now)) }
 {
-    text.push(HASH)?;
-    text.push(LENGTH)?;
-    push_spaced(text, n)?;
+    for (i, number) in numbers.iter().enumerate() {
+        push_line(
+            text,
+            CertLine::Vertex {
+                number: *number,
+                up: ups[i],
+            },
+        )?;
+    }
+    Ok(())
+}
+
+/// A line for each number of a set and its `up`.
+fn push_sets(text: &mut Vec<u8>, numbers: &[i64], ups: &[u32]) -> Result<(), Memory>
+    requires { length ups.now ≡ length numbers.now }
+    ensures { OnOk result (text.new.items ≡ text.old.items ++ text_of (numbered Set numbers.now ups.now)) }
+{
+    for (i, number) in numbers.iter().enumerate() {
+        push_line(
+            text,
+            CertLine::Set {
+                number: *number,
+                up: ups[i],
+            },
+        )?;
+    }
+    Ok(())
+}
+
+/// One line and its end.
+fn push_line(text: &mut Vec<u8>, line: CertLine) -> Result<(), Memory>
+    ensures { OnOk result (text.new.items ≡ text.old.items ++ line_text line ++ LINE_FEED ∷ []) }
+{
+    match line {
+        CertLine::Length { n } => push_count(text, LENGTH, n)?,
+        CertLine::Vertex { number, up } => push_dual(text, VERTEX, number, up)?,
+        CertLine::Set { number, up } => push_dual(text, SET, number, up)?,
+        CertLine::Floor { floor } => push_count(text, FLOOR, u64::from(floor))?,
+    }
     text.push(LINE_FEED)?;
     Ok(())
 }
 
-/// A line for each number and its `up`.
-fn push_numbers(text: &mut Vec<u8>, letter: u8, numbers: &[i64], ups: &[u32]) -> Result<(), Memory>
-    requires { length ups.now ≡ length numbers.now }
-    ensures { OnOk result (text.new.items ≡ text.old.items ++ dual_lines letter numbers.now ups.now) }
+fn push_count(text: &mut Vec<u8>, letter: u8, n: u64) -> Result<(), Memory>
+    ensures { OnOk result (text.new.items ≡ text.old.items ++ HASH ∷ letter ∷ SPACE ∷ decimal n) }
 {
-    for (i, number) in numbers.iter().enumerate() {
-        push_line(text, letter, *number, ups[i])?;
-    }
-    Ok(())
+    text.push(HASH)?;
+    text.push(letter)?;
+    push_spaced(text, n)
 }
 
-fn push_line(text: &mut Vec<u8>, letter: u8, number: i64, up: u32) -> Result<(), Memory>
-    ensures { OnOk result (text.new.items ≡ text.old.items ++ dual_line letter number up) }
+fn push_dual(text: &mut Vec<u8>, letter: u8, number: i64, up: u32) -> Result<(), Memory>
+    ensures { OnOk result (text.new.items ≡ text.old.items ++ dual_text letter number up) }
 {
     text.push(HASH)?;
     text.push(letter)?;
     text.push(SPACE)?;
     push_signed(text, number)?;
-    push_spaced(text, u64::from(up))?;
-    text.push(LINE_FEED)?;
-    Ok(())
+    push_spaced(text, u64::from(up))
 }
 
 fn push_signed(text: &mut Vec<u8>, number: i64) -> Result<(), Memory>

@@ -1,17 +1,24 @@
 //! Head lines.
 
-ghost use Rattle.std.specs.Prelude.{◌≡◌, ◌≤◌, ◌++◌, ◌∷◌, [], codes, nat_eq, IfOk, IsTrue, OnOk, MatchOption};
+ghost use Rattle.std.specs.Prelude.{◌≡◌, ◌++◌, ◌∷◌, [], Bool, true, codes, nat_eq, slice_index, IfOk, OnOk, MatchOption};
 ghost use Rattle.std.specs.List.{starts_with};
 ghost use Rattle.def_io.specs.Lines.{lines_of};
 ghost use Rattle.def_certtext.specs.HeadLine.{begins_head, head_line, HasNoHead, IsLastHead};
+ghost use Rattle.def_certtext.specs.Reading.{IsHead};
 ghost use Rattle.def_certtext.specs.Settings.{floor_text, weight_text};
+ghost use Rattle.def_flow.specs.declared.net.Settings.{Settings as AnySettings};
+ghost use Rattle.def_text.specs.Types.{Word};
+ghost use Rattle.qm_certtext.specs.Cuts.{is_bare, IsCut};
 
 use crate::Memory;
+use crate::settings::read_settings;
+use def_certtext::Asked;
 use def_flow::{Settings, Weight};
 use def_io::LINE_FEED;
-use def_text::SLASH;
+use def_text::{SLASH, SPACE};
 use qm_io::Lines;
 use qm_print::push_number;
+use qm_scan::find_byte;
 use std::alloc::Global;
 
 /// The head line of a remesh with these settings, and its line feed.
@@ -66,4 +73,59 @@ fn begins_head(line: &[u8]) -> bool
     ensures { result ≡ begins_head line.now }
 {
     line.starts_with(b"#quadq 1 remesh")
+}
+
+/// The settings that a head line asks for.
+pub(crate) fn read_head(line: &[u8]) -> Option<Asked>
+    ensures { MatchOption result
+        ((settings : AnySettings) (auto : Bool) → ¬ IsHead line.now settings auto)
+        (λ asked. IsHead line.now asked.settings asked.auto) }
+{
+    match cut_head(line) {
+        Some(words) => read_settings(words.scale, words.floor, words.weight),
+        None => None,
+    }
+}
+
+/// The three words of settings in a head line.
+#[derive(Clone, Copy)]
+struct HeadWords<'a> {
+    scale: &'a [u8],
+    floor: &'a [u8],
+    weight: &'a [u8],
+}
+
+fn cut_head(line: &[u8]) -> Option<HeadWords<'_>>
+    ensures { MatchOption result
+        ((scale floor weight : Word) → ¬ IsCut line.now scale floor weight)
+        (λ words. IsCut line.now words.scale.now words.floor.now words.weight.now) }
+{
+    let Some(rest) = line.strip_prefix(b"#quadq 1 remesh scale ") else {
+        return None;
+    };
+    let Some((scale, rest)) = cut_word(rest, b" floor ") else {
+        return None;
+    };
+    match cut_word(rest, b" weight ") {
+        Some((floor, weight)) => Some(HeadWords {
+            scale,
+            floor,
+            weight,
+        }),
+        None => None,
+    }
+}
+
+/// The first word, and what stands behind the mark, which begins with a space and follows it.
+fn cut_word<'a>(text: &'a [u8], mark: &[u8]) -> Option<(&'a [u8], &'a [u8])>
+    requires { slice_index mark.now 0 ≡ SPACE }
+    ensures { MatchOption result
+        ((word rest : Word) → is_bare word ≡ true → ¬ (text.now ≡ word ++ (mark.now ++ rest)))
+        (λ cut. (is_bare cut.0.now ≡ true) × (text.now ≡ cut.0.now ++ (mark.now ++ cut.1.now))) }
+{
+    let (word, behind) = text.split_at(find_byte(text, SPACE));
+    match behind.strip_prefix(mark) {
+        Some(rest) => Some((word, rest)),
+        None => None,
+    }
 }

@@ -1,14 +1,19 @@
-//! Writing the text of a certificate, and finding the last head line of a text.
+//! The text of a certificate, written and read: its head line, its lines, and which head line of a text is the last.
 #![tactic(auto)]
 
 mod cert;
 mod head;
+mod line;
+mod numbers;
+mod parts;
 mod settings;
+mod written;
 
 pub use cert::cert_text;
 pub use def_certtext::{Asked, CertFail, Written};
 pub use head::{head_text, last_head};
 pub use settings::read_settings;
+pub use written::read_written;
 
 /// Want of memory.
 pub type Memory = std::alloc::AllocError;

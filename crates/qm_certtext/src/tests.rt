@@ -3,7 +3,8 @@
 use super::*;
 use def_flow::{Cert, Settings, Weight};
 use def_matching::Dual;
-use qm_io::{MemSource, read_lines};
+use qm_io::{Lines, MemSource, read_lines};
+use std::alloc::Global;
 use std::test::Fail;
 
 #[test]
@@ -66,4 +67,61 @@ fn settings_are_read_from_their_words(rt: HostRuntime) {
     }
     assert_eq!(rt; read_settings(b"1/0", b"1", b"plain"), None);
     assert_eq!(rt; read_settings(b"1/1", b"1", b"long"), None);
+}
+
+fn read(alloc: Global, text: &[u8]) -> Result<Lines, Fail> {
+    let mut source = MemSource::new(Vec::from_slice(alloc, text)?, 9, Vec::new(alloc));
+    Ok(read_lines(alloc, &mut source, 1000)?)
+}
+
+#[test]
+fn a_written_text_tells_how_it_was_made(rt: HostRuntime) -> Result<(), Fail> {
+    let text =
+        b"#quadq 1 remesh scale 1/1 floor auto weight plain\nv 0 0 0\n#f 1\n#s 7 1\n#x 1\n#y -12 0\n#f 3\n#x 3\n#f 1\n#x 1000000000000\n";
+    let lines = read(rt.alloc(), text)?;
+    assert!(rt; lines.count() > 0);
+    let written = read_written(rt.alloc(), &lines, 0)?;
+    assert_eq!(rt; written.auto, true);
+    assert_eq!(rt; written.settings.floor, 1);
+    assert_eq!(rt;
+        written.cert.x.as_slice(),
+        [3, 1_000_000_000_000].as_slice()
+    );
+    match &written.first {
+        Some(cert) => {
+            assert_eq!(rt; cert.x.as_slice(), [1].as_slice());
+            assert_eq!(rt; cert.dual.y.as_slice(), [-12].as_slice());
+            assert_eq!(rt; cert.dual.z.as_slice(), [7].as_slice());
+            assert_eq!(rt; cert.dual.up.as_slice(), [0, 1].as_slice());
+        }
+        None => assert!(rt; false),
+    }
+    Ok(())
+}
+
+#[test]
+fn the_first_wrong_line_is_named(rt: HostRuntime) -> Result<(), Fail> {
+    for (behind, wanted) in [
+        (b"#x 01\n".as_slice(), CertFail::Line { line: 2 }),
+        (b"#y -0 0\n", CertFail::Line { line: 2 }),
+        (
+            b"v 1\n#y 1000000000000000000 0\n",
+            CertFail::Line { line: 3 },
+        ),
+        (b"#x 1\n#x 1000000000001\n", CertFail::Line { line: 3 }),
+        (b"#s 1 4294967296\n", CertFail::Line { line: 2 }),
+        (b"#f 3\n", CertFail::Line { line: 2 }),
+        (b"\n# \n", CertFail::Line { line: 3 }),
+    ] {
+        let mut text = Vec::from_slice(
+            rt.alloc(),
+            b"#quadq 1 remesh scale 1/1 floor 3 weight plain\n",
+        )?;
+        text.extend_from_slice(behind)?;
+        let lines = read(rt.alloc(), &text)?;
+        if lines.count() > 0 {
+            assert!(rt; matches!(read_written(rt.alloc(), &lines, 0), Err(fail) if fail == wanted));
+        }
+    }
+    Ok(())
 }

@@ -29,7 +29,7 @@ pub below_is : (word : List ℕ) (p q : ℕ) → IsRatio word p q → drop (posi
 below_is word p q r = subst (λ (w : List ℕ). drop (position_or_len (λ b. eqb b 47) w) w ≡ 47 ∷ decimal q) (sym r.written) (drop_at (decimal p) (47 ∷ decimal q) _ (sym (place p q r.p_high)))
 
 -- what stands at the first byte that passes does pass
-first_passes : (b : ℕ → Bool) (xs : List ℕ) → 0 < length (drop (position_or_len b xs) xs) → b (get_or (drop (position_or_len b xs) xs) 0 0) ≡ true
+pub first_passes : (b : ℕ → Bool) (xs : List ℕ) → 0 < length (drop (position_or_len b xs) xs) → b (get_or (drop (position_or_len b xs) xs) 0 0) ≡ true
 first_passes b [] l = absurd (omega arith)
 first_passes b (x ∷ xs) l = at (b x) refl l (first_passes b xs)
   where

@@ -1,7 +1,8 @@
-use Rattle.std.proofs.Common.{◌≡◌, ◌++◌, take}
-use Rattle.std.specs.List.{flat_map}
-use Rattle.def_certtext.specs.CertLines.{length_line}
+use Rattle.std.proofs.Common.{◌≡◌, ◌++◌, drop, map}
+use Rattle.def_certtext.specs.CertLines.{text_of}
+use Rattle.def_certtext.specs.declared.CertLine.TheVariants.{Length}
 use Rattle.qm_certtext.proofs.cert.push_lengths.Given as goal
 
 abbrev pub invariant-loop-n : goal.invariant-loop-n
-invariant-loop-n l = l.text.items ≡ l.fn.text.items ++ flat_map length_line (take l.n-index l.lengths)
+invariant-loop-n l =
+    l.text.items ++ text_of (map Length (drop l.n-index l.lengths)) ≡ l.fn.text.items ++ text_of (map Length l.lengths)

@@ -1,0 +1,203 @@
+-- Numbers as certificate lines have them.
+use Rattle.std.proofs.Common.{◌≡◌, ◌⊎◌, ◌≤◌, ◌<◌, ◌+◌, ◌-◌, ◌*◌, ◌^◌, ◌&&◌, ◌||◌, min, ℕ, zero, suc, ℤ, pos, negsuc, Bool, true, false, not, List, [], ◌∷◌, ◌++◌, Option, Some, None, length, take, drop, get_or, map, cond, eqb, ltb, leb, inl, inr, refl, ap, ap₂, sym, ◌∙◌, subst, arith}
+use Rattle.std.specs.Prelude.{decimal, int_lt, unsigned_abs}
+use Rattle.std.specs.Char.{is_ascii_digit}
+use Rattle.std.specs.Fmt.{digits}
+use Rattle.std.specs.Int.Digits.{number_from_digits, number_from_digits_after}
+use Rattle.std.specs.List.{list_all, position_or_len}
+use Rattle.std.proofs.lemmas.Bool.{and_cases, and_from, and_parts, cases_Bool, eq-eqb, eqb-false, eqb-true, false≢true, leb-true, le-leb, lt-ltb, ltb-false, ltb-true, ne_eqb, not-true, not_from_false, and_right, true≢false}
+use Rattle.std.proofs.lemmas.Bool.Decides.{nat_tests}
+use Rattle.std.proofs.lemmas.Fmt.{decimal-digits_value, decimal_nonempty, first_decimal}
+use Rattle.std.proofs.lemmas.List.{drop_at, take_at, take-append-drop}
+use Rattle.std.proofs.lemmas.Str.Parse.{numerals_by_fold, FoldsDigits, IsDigitsTest, IsNumeralModel}
+use Rattle.def_certtext.specs.CertLines.{signed_text}
+use Rattle.def_certtext.specs.Reading.{is_small}
+use Rattle.def_text.specs.Canonical.{minus_text}
+use Rattle.def_text.specs.Digits.{is_number, number}
+use Rattle.def_text.specs.Types.{Word}
+use Rattle.qm_dec.proofs.Texts.{decimal_digits, decimal_number, digit_other, digits_fail, first_at}
+use Rattle.qm_dec.proofs.Ratios.{first_passes}
+use Rattle.qm_scan.proofs.Numbers.{digit_small, number_all}
+use Rattle.qm_certtext.proofs.Unique.{decimal_once}
+
+-- Digits, and the number that they write.
+abbrev AreDigits : (word : Word) → Type 0
+AreDigits word = list_all is_ascii_digit word ≡ true
+
+digits_test : IsDigitsTest AreDigits
+digits_test = record {
+  empty = refl;
+  parts = λ c cs all. let both = and_parts (is_ascii_digit c) (list_all is_ascii_digit cs) all in (digit_small c both.0, both.1);
+  more = λ c cs small all. and_from _ _ (and_from _ _ (le-leb 48 c small.0) (le-leb c 57 small.1)) all;
+}
+
+after : ℕ → Word → ℕ
+after n word = number_from_digits_after 10 n (map (λ d. d - 48) word)
+
+numeral : IsNumeralModel AreDigits number
+unfolding after
+numeral = numerals_by_fold AreDigits digits_test after (record { empty = λ n. refl; more = λ n c cs small. refl })
+
+-- A number that is not written with a leading zero is written so.
+pub written : (word : Word) → is_number word ≡ true → (ltb 1 (length word) && eqb (get_or word 0 0) 48) ≡ false → number word < 2 ^ 64 → word ≡ decimal (number word)
+written word is lead small =
+    let parts = and_parts (not (eqb (length word) 0)) (list_all is_ascii_digit word) (sym (number_all word) ∙ is) in
+    let some : 0 < length word = omega (arith, eqb-false (length word) 0 (not-true _ parts.0)) in
+    sym (decimal-digits_value numeral word parts.1 some (λ zero_first. by_lead zero_first (and_cases (ltb 1 (length word)) (eqb (get_or word 0 0) 48) lead)) small)
+  where
+    by_lead : get_or word 0 0 ≡ 48 → (ltb 1 (length word) ≡ false) ⊎ (eqb (get_or word 0 0) 48 ≡ false) → length word ≡ 1
+    by_lead zero_first (inl short) = omega (arith, ltb-false 1 (length word) short, some_of (is_some word is))
+      where
+        is_some : (w : Word) → is_number w ≡ true → 0 < length w
+        is_some [] none = absurd (false≢true none)
+        is_some (b ∷ bs) all = omega arith
+
+        some_of : 0 < length word → 0 < length word
+        some_of l = l
+    by_lead zero_first (inr other) = absurd (true≢false (sym (eq-eqb _ 48 zero_first) ∙ other))
+
+-- A printed number is a number, without a leading zero.
+pub decimal_is_number : (n : ℕ) → n < 2 ^ 64 → is_number (decimal n) ≡ true
+decimal_is_number n low =
+    number_all (decimal n)
+    ∙ and_from _ _ (not_from_false (eqb (length (decimal n)) 0) (ne_eqb _ _ (λ e. absurd (omega (arith, decimal_nonempty n low))))) (decimal_digits n low)
+
+pub no_lead : (n : ℕ) → n < 2 ^ 64 → (ltb 1 (length (decimal n)) && eqb (get_or (decimal n) 0 0) 48) ≡ false
+unfolding digits
+no_lead zero low = refl
+no_lead (suc n) low = and_right (ltb 1 (length (decimal (suc n)))) _ (ne_eqb _ _ (λ e. absurd (omega (arith, first_decimal (suc n) (omega arith) low))))
+
+-- What is not read as a count is none.
+pub no_count : (word : Word) (greatest n : ℕ) (o : Option ℕ) → greatest < 10 ^ 18 → n ≤ greatest → word ≡ decimal n
+    → o ≡ cond (is_number word) (Some (min (number word) (2 ^ 64 - 1))) None → (o ≡ Some n)
+no_count word greatest n o few low is read =
+    let number_is : is_number word ≡ true = ap is_number is ∙ decimal_is_number n (omega arith) in
+    let value : number word ≡ n = ap number is ∙ decimal_number n (omega arith) in
+    read ∙ rw number_is (ap (λ k. Some k) (omega arith))
+
+-- The sign of a number.
+pub signed_pos : (n : ℕ) → signed_text (pos n) ≡ decimal n
+signed_pos n = by_test (int_lt (pos n) (pos 0)) (not_below n)
+  where
+    not_below : (m : ℕ) → int_lt (pos m) (pos 0) ≡ false
+    not_below m = grind (arith, nat_tests)
+
+    by_test : (t : Bool) → t ≡ false → cond t (45 ∷ []) [] ++ decimal n ≡ decimal n
+    by_test true is = absurd (true≢false is)
+    by_test false is = refl
+
+pub signed_neg : (n : ℕ) → signed_text (negsuc n) ≡ 45 ∷ decimal (suc n)
+signed_neg n = refl
+
+-- A count is read where there is one.
+pub count_read : (word : Word) (greatest n : ℕ) → greatest < 10 ^ 18 → n ≤ greatest → (ltb 1 (length word) && eqb (get_or word 0 0) 48) ≡ false
+    → Some n ≡ cond (is_number word) (Some (min (number word) (2 ^ 64 - 1))) None → word ≡ decimal n
+count_read word greatest n few low lead read = by_form (is_number word) refl read
+  where
+    by_form : (t : Bool) → is_number word ≡ t → Some n ≡ cond t (Some (min (number word) (2 ^ 64 - 1))) None → word ≡ decimal n
+    by_form true is same =
+        let value : n ≡ min (number word) (2 ^ 64 - 1) = cc in
+        let whole : number word ≡ n = omega arith in
+        written word is lead (omega arith) ∙ ap decimal whole
+    by_form false isnt same = absurd cc
+
+-- And nowhere else.
+pub count_other : (word : Word) (greatest m n : ℕ) → greatest < 10 ^ 18 → greatest < m → n ≤ greatest → word ≡ decimal n
+    → Some m ≡ cond (is_number word) (Some (min (number word) (2 ^ 64 - 1))) None → ⊥
+count_other word greatest m n few high low is read =
+    let same : Some m ≡ Some n = no_count word greatest n (Some m) few low is read in
+    let equal : m ≡ n = cc in
+    omega arith
+
+pub count_none : (word : Word) (greatest n : ℕ) → greatest < 10 ^ 18 → n ≤ greatest → word ≡ decimal n
+    → None ≡ cond (is_number word) (Some (min (number word) (2 ^ 64 - 1))) None → ⊥
+count_none word greatest n few low is read =
+    let same : None ≡ Some n = no_count word greatest n None few low is read in
+    cc
+
+pub count_lead : (word : Word) (greatest n : ℕ) → greatest < 10 ^ 18 → n ≤ greatest → (ltb 1 (length word) && eqb (get_or word 0 0) 48) ≡ true → word ≡ decimal n → ⊥
+count_lead word greatest n few low lead is =
+    true≢false (sym lead ∙ ap (λ (w : Word). ltb 1 (length w) && eqb (get_or w 0 0) 48) is ∙ no_lead n (omega arith))
+
+-- A number with a minus is below 0.
+no_minus : (n : ℕ) (digits : Word) → n < 2 ^ 64 → 45 ∷ digits ≡ decimal n → ⊥
+no_minus n digits low is =
+    let minus : is_ascii_digit 45 ≡ true =
+    (and_parts (is_ascii_digit 45) (list_all is_ascii_digit digits) (ap (list_all is_ascii_digit) is ∙ decimal_digits n low)).0 in
+    false≢true minus
+
+pub negative_form : (z : ℤ) (digits : Word) → unsigned_abs z < 10 ^ 18 → 45 ∷ digits ≡ signed_text z → (k : ℕ) × (z ≡ negsuc k) × (digits ≡ decimal (suc k)) × (suc k < 10 ^ 18)
+negative_form (pos n) digits low is = absurd (no_minus n digits (omega arith) (is ∙ signed_pos n))
+negative_form (negsuc k) digits low is = (k, refl, ap (drop 1) is, low)
+
+-- Where the digits behind the minus are those of 0, or of none.
+pub not_negative : (z : ℤ) (digits : Word) (n : ℕ) → unsigned_abs z < 10 ^ 18 → n ≡ 0 → digits ≡ decimal n → 45 ∷ digits ≡ signed_text z → ⊥
+not_negative z digits n low none is same =
+    let form = negative_form z digits low same in
+    let equal : n ≡ suc form.0 = decimal_once n (suc form.0) (omega arith) (omega (arith, form.3)) (sym is ∙ form.2) in
+    omega arith
+
+pub none_negative : (z : ℤ) (digits : Word) → ((n : ℕ) → n ≤ 10 ^ 18 - 1 → digits ≡ decimal n → ⊥) → unsigned_abs z < 10 ^ 18 → 45 ∷ digits ≡ signed_text z → ⊥
+none_negative z digits none low same =
+    let form = negative_form z digits low same in
+    none (suc form.0) (omega (arith, form.3)) form.2
+
+-- A number has no space, and the first space stands behind it.
+abbrev no_space : (word : Word) → Bool
+no_space word = list_all (λ b. not (eqb b 32)) word
+
+signed_bare : (z : ℤ) → unsigned_abs z < 10 ^ 18 → no_space (signed_text z) ≡ true
+signed_bare (pos n) low = ap no_space (signed_pos n) ∙ digits_fail (λ b. eqb b 32) (digit_other 32 (omega arith)) (decimal n) (decimal_digits n (omega arith))
+signed_bare (negsuc k) low = digits_fail (λ b. eqb b 32) (digit_other 32 (omega arith)) (decimal (suc k)) (decimal_digits (suc k) (omega arith))
+
+pub place_of_space : (text : Word) (z : ℤ) (up : ℕ) → unsigned_abs z < 10 ^ 18 → text ≡ signed_text z ++ 32 ∷ decimal up
+    → position_or_len (λ b. eqb b 32) text ≡ length (signed_text z)
+place_of_space text z up low is =
+    ap (position_or_len (λ b. eqb b 32)) is ∙ first_at (λ b. eqb b 32) (signed_text z) 32 (decimal up) (signed_bare z low) refl
+
+small_parts : (z : ℤ) (up : ℕ) → is_small z up ≡ true → (unsigned_abs z < 10 ^ 18) × (up < 2 ^ 32)
+small_parts z up is =
+    let parts = and_parts (ltb (unsigned_abs z) (10 ^ 18)) (ltb up (2 ^ 32)) is in
+    (ltb-true _ _ parts.0, ltb-true _ _ parts.1)
+
+module _ (text front behind : Word) (i : ℕ) (place : i ≡ position_or_len (λ b. eqb b 32) text) (before : front ≡ take i text) (back : behind ≡ drop i text) where
+  parts_are : (z : ℤ) (up : ℕ) → unsigned_abs z < 10 ^ 18 → text ≡ signed_text z ++ 32 ∷ decimal up → (front ≡ signed_text z) × (behind ≡ 32 ∷ decimal up)
+  parts_are z up low is =
+      let at : i ≡ length (signed_text z) = place ∙ place_of_space text z up low is in (
+        before ∙ ap₂ (λ (k : ℕ) (t : Word). take k t) at is ∙ take_at (signed_text z) (32 ∷ decimal up) _ refl,
+        back ∙ ap₂ (λ (k : ℕ) (t : Word). drop k t) at is ∙ drop_at (signed_text z) (32 ∷ decimal up) _ refl,
+      )
+
+  pub no_behind : length behind ≡ 0 → (z : ℤ) (up : ℕ) → is_small z up ≡ true → text ≡ signed_text z ++ 32 ∷ decimal up → ⊥
+  no_behind none z up small is = omega (arith, none, ap length (parts_are z up (small_parts z up small).0 is).1)
+
+  pub no_number : ((z : ℤ) → unsigned_abs z < 10 ^ 18 → front ≡ signed_text z → ⊥) → (z : ℤ) (up : ℕ) → is_small z up ≡ true → text ≡ signed_text z ++ 32 ∷ decimal up → ⊥
+  no_number none z up small is = none z (small_parts z up small).0 (parts_are z up (small_parts z up small).0 is).0
+
+  pub no_up : (rest : Word) → rest ≡ drop 1 behind → ((n : ℕ) → n ≤ 2 ^ 32 - 1 → rest ≡ decimal n → ⊥) → (z : ℤ) (up : ℕ) → is_small z up ≡ true
+      → text ≡ signed_text z ++ 32 ∷ decimal up → ⊥
+  no_up rest is none z up small same =
+      none up (omega (arith, (small_parts z up small).1)) (is ∙ ap (drop 1) (parts_are z up (small_parts z up small).0 same).1)
+
+  pub both_read : (rest : Word) (z : ℤ) (up : ℕ) → 0 < length behind → rest ≡ drop 1 behind → unsigned_abs z < 10 ^ 18 → front ≡ signed_text z → up ≤ 2 ^ 32 - 1 → rest ≡ decimal up
+      → (is_small z up ≡ true) × (text ≡ signed_text z ++ 32 ∷ decimal up)
+  both_read rest z up some is low written_so few ups = (
+    and_from _ _ (lt-ltb _ _ low) (lt-ltb _ _ (omega arith)),
+    sym (take-append-drop i text) ∙ ap₂ ◌++◌ (sym before ∙ written_so) (sym back ∙ begins ∙ ap (λ (w : Word). 32 ∷ w) (sym is ∙ ups)),
+  )
+    where
+      first_space : (x : ℕ) (xs : Word) → x ∷ xs ≡ drop (position_or_len (λ b. eqb b 32) text) text → eqb x 32 ≡ true
+      first_space x xs same =
+          ap (λ (w : Word). eqb (get_or w 0 0) 32) same ∙ first_passes (λ b. eqb b 32) text (subst (λ (w : Word). 0 < length w) same (omega arith))
+
+      by_behind : (b : Word) → behind ≡ b → 0 < length b → b ≡ 32 ∷ drop 1 b
+      by_behind [] same none = absurd (omega arith)
+      by_behind (x ∷ xs) same more =
+          ap (λ (y : ℕ). y ∷ xs) (eqb-true x 32 (first_space x xs (sym same ∙ back ∙ ap (λ (k : ℕ). drop k text) place)))
+
+      begins : behind ≡ 32 ∷ drop 1 behind
+      begins = by_behind behind refl some
+
+pub some_behind : (behind : Word) → false ≡ eqb (length behind) 0 → 0 < length behind
+some_behind [] is = absurd (false≢true is)
+some_behind (x ∷ xs) is = omega arith

@@ -1,0 +1,160 @@
+-- A head line is cut into its words in one way.
+use Rattle.std.proofs.Common.{◌≡◌, ◌⊎◌, ◌≤◌, ◌<◌, ◌+◌, ◌^◌, ◌&&◌, not, ℕ, zero, suc, Bool, true, false, List, [], ◌∷◌, ◌++◌, Option, Some, None, MatchOption, codes, length, take, drop, get_or, cond, eqb, inl, inr, refl, ap, ap₂, sym, ◌∙◌, subst, arith, append_assoc}
+use Rattle.std.specs.Prelude.{decimal}
+use Rattle.std.specs.Char.{is_ascii_digit}
+use Rattle.std.specs.List.{list_all, position_or_len}
+use Rattle.std.specs.Str.{bytes_eq}
+use Rattle.std.proofs.lemmas.Bool.{and_from, and_parts, cases_Bool, false≢true, true≢false}
+use Rattle.std.proofs.lemmas.List.{append_cancel_left, drop_at, take_at, take-append-drop}
+use Rattle.std.proofs.lemmas.List.Folds.{list_all-append}
+use Rattle.std.proofs.lemmas.Slice.Eq.{bytes_eq-Decides}
+use Rattle.def_certtext.specs.HeadLine.{head_line}
+use Rattle.def_certtext.specs.Reading.{IsHead}
+use Rattle.def_certtext.specs.Settings.{floor_text, scale_text, weight_text, AreInRange, AreWordsOf, IsFloor}
+use Rattle.def_certtext.specs.declared.Asked.{Asked}
+use Rattle.def_flow.specs.declared.net.Settings.{Settings}
+use Rattle.def_text.specs.Types.{Word}
+use Rattle.qm_certtext.specs.Cuts.{is_bare, IsCut}
+use Rattle.qm_dec.proofs.Texts.{decimal_digits, digit_other, digits_fail, first_at}
+
+-- A text with and without this front.
+pub stripped : (front text rest : Word) → bytes_eq (take (length front) text) front ≡ true → rest ≡ drop (length front) text → text ≡ front ++ rest
+stripped front text rest is behind =
+    sym (take-append-drop (length front) text) ∙ ap₂ ◌++◌ ((bytes_eq-Decides (take (length front) text) front).0 is) (sym behind)
+
+pub not_stripped : (front text rest : Word) → bytes_eq (take (length front) text) front ≡ false → text ≡ front ++ rest → ⊥
+not_stripped front text rest other is =
+    true≢false (sym ((bytes_eq-Decides (take (length front) text) front).1 (ap (take (length front)) is ∙ take_at front rest (length front) refl)) ∙ other)
+
+-- What stands before the first space has none.
+front_bare : (text : Word) → is_bare (take (position_or_len (λ b. eqb b 32) text) text) ≡ true
+front_bare [] = refl
+front_bare (x ∷ xs) = elim (cases_Bool (eqb x 32)) [
+  | inl is ↦ rw is refl
+  | inr other ↦ rw other (step (front_bare xs) other)
+]
+  where
+    step : is_bare (take (position_or_len (λ b. eqb b 32) xs) xs) ≡ true → eqb x 32 ≡ false → is_bare (take (1 + position_or_len (λ b. eqb b 32) xs) (x ∷ xs)) ≡ true
+    step rest other =
+        let next : 1 + position_or_len (λ b. eqb b 32) xs ≡ suc (position_or_len (λ b. eqb b 32) xs) = omega arith in
+        rw next (and_from (not (eqb x 32)) _ (ap not other) rest)
+
+pub word_bare : (text word : Word) (i : ℕ) → i ≡ position_or_len (λ b. eqb b 32) text → word ≡ take i text → is_bare word ≡ true
+word_bare text word i place is = ap is_bare (is ∙ ap (λ (k : ℕ). take k text) place) ∙ front_bare text
+
+-- A mark that begins with a space.
+mark_form : (mark : Word) → get_or mark 0 0 ≡ 32 → (rest : Word) × (mark ≡ 32 ∷ rest)
+mark_form [] is = absurd (omega arith)
+mark_form (x ∷ xs) is = (xs, ap (λ (b : ℕ). b ∷ xs) is)
+
+-- The word before it is the front.
+place_of : (word mark rest : Word) → is_bare word ≡ true → get_or mark 0 0 ≡ 32 → position_or_len (λ b. eqb b 32) (word ++ (mark ++ rest)) ≡ length word
+place_of word mark rest bare begins =
+    let form = mark_form mark begins in
+    ap (λ (m : Word). position_or_len (λ b. eqb b 32) (word ++ (m ++ rest))) form.1 ∙ first_at (λ b. eqb b 32) word 32 (form.0 ++ rest) bare refl
+
+pub behind_is : (text word mark rest behind : Word) (i : ℕ) → is_bare word ≡ true → get_or mark 0 0 ≡ 32 → text ≡ word ++ (mark ++ rest)
+    → i ≡ position_or_len (λ b. eqb b 32) text → behind ≡ drop i text → behind ≡ mark ++ rest
+behind_is text word mark rest behind i bare begins is place back =
+    let at : i ≡ length word = place ∙ ap (position_or_len (λ b. eqb b 32)) is ∙ place_of word mark rest bare begins in
+    back ∙ ap₂ (λ (k : ℕ) (t : Word). drop k t) at is ∙ drop_at word (mark ++ rest) (length word) refl
+
+-- So one word stands before the first mark.
+pub one_word : (a b x y mark : Word) → is_bare a ≡ true → is_bare b ≡ true → get_or mark 0 0 ≡ 32 → a ++ (mark ++ x) ≡ b ++ (mark ++ y) → (a ≡ b) × (x ≡ y)
+one_word a b x y mark bare_a bare_b begins same =
+    let long : length a ≡ length b =
+    sym (place_of a mark x bare_a begins) ∙ ap (position_or_len (λ c. eqb c 32)) same ∙ place_of b mark y bare_b begins in
+    let front : a ≡ b = sym (take_at a (mark ++ x) (length a) refl) ∙ ap (take (length a)) same ∙ take_at b (mark ++ y) (length a) (sym long) in
+    let behind : mark ++ x ≡ mark ++ y = append_cancel_left a _ _ (same ∙ ap (λ (w : Word). w ++ (mark ++ y)) (sym front)) in
+    (front, append_cancel_left mark x y behind)
+
+abbrev pub head_front : Word
+head_front = codes "#quadq 1 remesh scale "
+
+abbrev floor_mark : Word
+floor_mark = codes " floor "
+
+abbrev weight_mark : Word
+weight_mark = codes " weight "
+
+-- What stands behind the front of a head line.
+pub behind_front : (line rest scale floor weight : Word) → line ≡ head_front ++ rest → IsCut line scale floor weight
+    → rest ≡ scale ++ (floor_mark ++ (floor ++ (weight_mark ++ weight)))
+behind_front line rest scale floor weight is cut = append_cancel_left head_front _ _ (sym is ∙ cut.written)
+
+-- A line has one cut.
+pub one_cut : (line a b c d e f : Word) → IsCut line a b c → IsCut line d e f → (a ≡ d) × (b ≡ e) × (c ≡ f)
+one_cut line a b c d e f one two =
+    let scales : (a ≡ d) × (b ++ (weight_mark ++ c) ≡ e ++ (weight_mark ++ f)) =
+    one_word a d (b ++ (weight_mark ++ c)) (e ++ (weight_mark ++ f)) floor_mark one.scale_bare two.scale_bare refl
+    (behind_front line (a ++ (floor_mark ++ (b ++ (weight_mark ++ c)))) d e f one.written two) in
+    let floors : (b ≡ e) × (c ≡ f) = one_word b e c f weight_mark one.floor_bare two.floor_bare refl scales.1 in
+    (scales.0, floors.0, floors.1)
+
+-- The words of settings have no space.
+digits_bare : (digits : Word) → list_all is_ascii_digit digits ≡ true → is_bare digits ≡ true
+digits_bare digits all = digits_fail (λ b. eqb b 32) (digit_other 32 (omega arith)) digits all
+
+scale_bare : (settings : Settings) (auto : Bool) → AreInRange settings auto → is_bare (scale_text settings) ≡ true
+scale_bare settings auto range =
+    list_all-append (λ b. not (eqb b 32)) (decimal settings.p) (47 ∷ decimal settings.q)
+    ∙ and_from _ _ (digits_bare (decimal settings.p) (decimal_digits settings.p (omega (arith, range.p_high)))) (digits_bare (decimal settings.q) (decimal_digits settings.q (omega (arith, range.q_high))))
+
+floor_bare : (floor : ℕ) (auto : Bool) → IsFloor floor auto → is_bare (floor_text floor auto) ≡ true
+floor_bare floor true may = refl
+floor_bare floor false may = digits_bare (decimal floor) (decimal_digits floor (omega (arith, may.high)))
+
+-- The parts of a head line, from the right.
+nested : (a b c d e f : Word) → a ++ b ++ c ++ d ++ e ++ f ≡ a ++ (b ++ (c ++ (d ++ (e ++ f))))
+nested a b c d e f =
+    append_assoc (((a ++ b) ++ c) ++ d) e f ∙ append_assoc ((a ++ b) ++ c) d (e ++ f) ∙ append_assoc (a ++ b) c (d ++ (e ++ f)) ∙ append_assoc a b (c ++ (d ++ (e ++ f)))
+
+pub head_cut : (line : Word) (settings : Settings) (auto : Bool) → IsHead line settings auto
+    → IsCut line (scale_text settings) (floor_text settings.floor auto) (weight_text settings.weight)
+head_cut line settings auto head = record {
+  written = head.written ∙ nested head_front (scale_text settings) floor_mark (floor_text settings.floor auto) weight_mark (weight_text settings.weight);
+  scale_bare = scale_bare settings auto head.in_range;
+  floor_bare = floor_bare settings.floor auto head.in_range.floor;
+}
+
+-- Its words are those of the settings.
+pub head_words : (line scale floor weight : Word) (settings : Settings) (auto : Bool) → IsCut line scale floor weight → IsHead line settings auto
+    → AreWordsOf scale floor weight settings auto
+head_words line scale floor weight settings auto cut head =
+    let same = one_cut line scale floor weight _ _ _ cut (head_cut line settings auto head) in
+    record { scaled = same.0; bounded = same.1; weighed = same.2; in_range = head.in_range }
+
+pub words_head : (line scale floor weight : Word) (settings : Settings) (auto : Bool) → IsCut line scale floor weight → AreWordsOf scale floor weight settings auto
+    → IsHead line settings auto
+words_head line scale floor weight settings auto cut words = record {
+  written = cut.written ∙ (λ i. head_front ++ (words.scaled i ++ (floor_mark ++ (words.bounded i ++ (weight_mark ++ words.weighed i)))))
+      ∙ sym (nested head_front (scale_text settings) floor_mark (floor_text settings.floor auto) weight_mark (weight_text settings.weight));
+  in_range = words.in_range;
+}
+
+-- Where the line was cut so far, it is cut whole, or it has no cut.
+pub cut_of : (line rest scale more floor weight : Word) → line ≡ head_front ++ rest → is_bare scale ≡ true → rest ≡ scale ++ (floor_mark ++ more)
+    → is_bare floor ≡ true → more ≡ floor ++ (weight_mark ++ weight) → IsCut line scale floor weight
+cut_of line rest scale more floor weight is scale_is first floor_is second = record {
+  written = is ∙ ap (λ (w : Word). head_front ++ w) (first ∙ ap (λ (w : Word). scale ++ (floor_mark ++ w)) second);
+  scale_bare = scale_is;
+  floor_bare = floor_is;
+}
+
+pub no_scale : (line rest : Word) → line ≡ head_front ++ rest → ((word more : Word) → is_bare word ≡ true → rest ≡ word ++ (floor_mark ++ more) → ⊥)
+    → (scale floor weight : Word) → IsCut line scale floor weight → ⊥
+no_scale line rest is none scale floor weight cut =
+    none scale (floor ++ (weight_mark ++ weight)) cut.scale_bare (behind_front line rest scale floor weight is cut)
+
+pub no_floor : (line rest first more : Word) → line ≡ head_front ++ rest → is_bare first ≡ true → rest ≡ first ++ (floor_mark ++ more)
+    → ((word last : Word) → is_bare word ≡ true → more ≡ word ++ (weight_mark ++ last) → ⊥) → (scale floor weight : Word) → IsCut line scale floor weight → ⊥
+no_floor line rest first more is bare_is split none scale floor weight cut =
+    let one = one_word first scale more (floor ++ (weight_mark ++ weight)) floor_mark bare_is cut.scale_bare refl (sym split ∙ behind_front line rest scale floor weight is cut) in
+    none floor weight cut.floor_bare one.1
+
+-- The settings of a cut line are those of its words.
+pub head_read : (line scale floor weight : Word) (o : Option Asked) → IsCut line scale floor weight
+    → MatchOption o ((settings : Settings) (auto : Bool) → AreWordsOf scale floor weight settings auto → ⊥) (λ asked. AreWordsOf scale floor weight asked.settings asked.auto)
+    → MatchOption o ((settings : Settings) (auto : Bool) → IsHead line settings auto → ⊥) (λ asked. IsHead line asked.settings asked.auto)
+head_read line scale floor weight None cut none = λ settings auto head. none settings auto (head_words line scale floor weight settings auto cut head)
+head_read line scale floor weight (Some asked) cut words = words_head line scale floor weight asked.settings asked.auto cut words

@@ -1,0 +1,105 @@
+//! What a written text says of how it was made.
+
+ghost use Rattle.std.specs.Prelude.{◌≡◌, ◌<◌, ◌+◌, [], drop, length, option_map, slice_index_or, IfOk, IfErr, OnOk};
+ghost use Rattle.def_io.specs.Lines.{lines_of};
+ghost use Rattle.def_certtext.specs.CertLines.{lists_of};
+ghost use Rattle.def_certtext.specs.Reading.{is_marked, made_of, IsCertFail, TellHow};
+ghost use Rattle.qm_certtext.specs.Parts.{lists_in_parts, IsBehindFail, IsLineFail, ReadSome, TakesText};
+
+use crate::Memory;
+use crate::head::read_head;
+use crate::line::read_line;
+use crate::parts::Found;
+use def_certtext::{Asked, CertFail, Written};
+use qm_io::Lines;
+use std::alloc::Global;
+
+/// Reads the head line `first`, from 0, and all later lines that begin with `#`. Lengths and numbers stand in the order
+/// of their lines; `up` has those of all vertices and then those of all sets. Linear.
+pub fn read_written(alloc: Global, lines: &Lines, first: u32) -> Result<Written, CertFail>
+    requires { first < length (lines_of lines.now) }
+    ensures reads { IfOk result (λ written. TellHow (slice_index_or (lines_of lines.now) first [])
+        (drop (first + 1) (lines_of lines.now)) (made_of written)) }
+    ensures fails { IfErr result (IsCertFail (slice_index_or (lines_of lines.now) first []) (first + 2)
+        (drop (first + 1) (lines_of lines.now))) }
+{
+    let Some(asked) = read_head(lines.line(first)) else {
+        return Err(CertFail::Head);
+    };
+    let found = match read_behind(alloc, lines, first, asked.auto) {
+        Ok(found) => found,
+        Err(fail) => return Err(fail),
+    };
+    match written_of(asked, found) {
+        Ok(written) => Ok(written),
+        Err(_) => Err(CertFail::Memory),
+    }
+}
+
+/// What the lines behind line `first` say, in a text of `auto` or not.
+fn read_behind(alloc: Global, lines: &Lines, first: u32, auto: bool) -> Result<Found, CertFail>
+    requires { first < length (lines_of lines.now) }
+    ensures reads { IfOk result (ReadSome auto (drop (first + 1) (lines_of lines.now))) }
+    ensures fails { IfErr result (IsBehindFail auto (first + 2) (drop (first + 1) (lines_of lines.now))) }
+{
+    let mut found = Found::new(alloc);
+    let count = lines.count();
+    for i in first + 1..count {
+        match take_text(alloc, &mut found, lines.line(i), auto, i + 1) {
+            Ok(()) => {}
+            Err(fail) => return Err(fail),
+        }
+    }
+    Ok(found)
+}
+
+/// Takes the next line, which has this number.
+fn take_text(
+    alloc: Global,
+    found: &mut Found,
+    line: &[u8],
+    auto: bool,
+    number: u32,
+) -> Result<(), CertFail>
+    ensures taken { OnOk result (TakesText auto line.now found.old found.new) }
+    ensures fails { IfErr result (IsLineFail auto line.now number) }
+{
+    if !is_marked(line) {
+        return Ok(());
+    }
+    match read_line(line, auto) {
+        Some(said) => match found.take(alloc, said) {
+            Ok(()) => Ok(()),
+            Err(_) => Err(CertFail::Memory),
+        },
+        None => Err(CertFail::Line { line: number }),
+    }
+}
+
+fn is_marked(line: &[u8]) -> bool
+    ensures { result ≡ is_marked line.now }
+{
+    match line {
+        [b'#', ..] => true,
+        _ => false,
+    }
+}
+
+fn written_of(asked: Asked, found: Found) -> Result<Written, Memory>
+    ensures asked { IfOk result (λ written. (written.settings ≡ asked.settings) × (written.auto ≡ asked.auto)) }
+    ensures first { IfOk result (λ written. option_map lists_of written.first ≡ option_map lists_in_parts found.first) }
+    ensures cert { IfOk result (λ written. lists_of written.cert ≡ lists_in_parts found.last) }
+{
+    let Found { first, last } = found;
+    let first = match first {
+        Some(parts) => Some(parts.into_cert()?),
+        None => None,
+    };
+    let cert = last.into_cert()?;
+    Ok(Written {
+        settings: asked.settings,
+        auto: asked.auto,
+        first,
+        cert,
+    })
+}
