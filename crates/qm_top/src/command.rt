@@ -49,7 +49,7 @@ pub fn run<S: Source, O: Sink, E: Sink>(
         (change (S.left input.old) (S.left input.new) (S.faults input.old) (S.faults input.new))
         (change (E.taken err.old) (E.taken err.new) (E.faults err.old) (E.faults err.new)) result }
 {
-    let command = match command_of(words) {
+    let command = match command_of(alloc, words) {
         Ok(command) => command,
         Err(fail) => {
             let answer = words_answer(fail);

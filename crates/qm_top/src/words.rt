@@ -1,32 +1,22 @@
 //! The words of a command line.
 
-ghost use Rattle.std.specs.Prelude.{◌≡◌, ◌↔◌, ◌∷◌, [], true, map, string_bytes, IfOk, IfErr, IsTrue};
+ghost use Rattle.std.specs.Prelude.{◌≡◌, true, map, string_bytes, IfOk, IfErr};
 ghost use Rattle.def_run.specs.CommandLines.{is_built, IsAccepted, IsCommand};
 
 use def_run::{Command, WordsFail};
+use qm_words::read_words;
+use std::alloc::Global;
 
 /// The command that these words, those after the program's name, ask for, where the program runs it.
-pub(crate) fn command_of(words: &[String]) -> Result<Command, WordsFail>
+pub(crate) fn command_of(alloc: Global, words: &[String]) -> Result<Command, WordsFail>
     ensures reads { IfOk result (IsCommand (map string_bytes words.now)) }
     ensures built { IfOk result (λ command. is_built command ≡ true) }
     ensures only { IfOk result (λ command. (other : Command) → IsCommand (map string_bytes words.now) other → other ≡ command) }
     ensures refuses { IfErr result (λ fail. fail ≡ WordsFail.Usage → ¬ IsAccepted (map string_bytes words.now)) }
 {
-    if is_lone(words, "tidy") {
-        return Ok(Command::Tidy);
-    }
-    if is_lone(words, "graph") {
-        return Ok(Command::Graph);
-    }
-    Err(WordsFail::Usage)
-}
-
-/// Whether the words are this one alone.
-fn is_lone(words: &[String], name: &str) -> bool
-    ensures { IsTrue result ↔ (map string_bytes words.now ≡ name.now ∷ []) }
-{
-    match words {
-        [word] => word.as_str() == name,
-        _ => false,
+    match read_words(alloc, words) {
+        Ok(command) if command.is_built() => Ok(command),
+        Ok(_) => Err(WordsFail::Usage),
+        Err(fail) => Err(fail),
     }
 }
