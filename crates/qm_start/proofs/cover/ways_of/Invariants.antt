@@ -1,0 +1,7 @@
+use Rattle.std.proofs.Common.{◌≡◌, ◌+◌, ◌*◌, length}
+use Rattle.std.specs.List.{All}
+use Rattle.qm_start.specs.Tables.{LeadsWithin}
+use Rattle.qm_start.proofs.cover.ways_of.Given as goal
+
+abbrev pub invariant-loop-arc : goal.invariant-loop-arc
+invariant-loop-arc l = (length l.ways.items ≡ 2 * l.arc-index) × All (LeadsWithin (2 * l.net.nodes + 1)) l.ways.items

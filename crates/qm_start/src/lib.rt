@@ -1,0 +1,23 @@
+//! A list of lengths near what is wanted, from which a descent to a least one has little left to do.
+//!
+//! The relaxation, in which lengths may be halves, is solved by shortest augmenting paths in the double cover of the
+//! network, and its solution is rounded to a list. Nothing is promised of that list but that there is a length for each
+//! arc: who starts from it tests it. A mistake here costs time and never a wrong answer.
+
+#![tactic(auto)]
+
+mod costs;
+mod cover;
+mod flow;
+mod paths;
+mod repair;
+mod search;
+mod start;
+#[cfg(test)]
+mod tests;
+mod trails;
+
+pub use start::{Start, near_start};
+
+/// Want of memory.
+pub type Memory = std::alloc::AllocError;
