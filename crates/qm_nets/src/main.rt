@@ -6,12 +6,12 @@ use def_flow::MAX_TANGLE;
 use qm_gadget::graph_of;
 use qm_net::{are_lengths, deviation, is_within_bounds, tangle_of};
 use qm_nettext::{NetFail, read_net};
-use qm_solve::{is_start, old_multiple};
+use qm_solve::{is_start, start_of};
 use std::io;
 use std::process::ExitCode;
 
-/// The status is 2 for a text that is no network, 3 for one out of bounds, 4 for one too tangled, and 5 where a multiple
-/// of the old lengths is no start.
+/// The status is 2 for a text that is no network, 3 for one out of bounds, 4 for one too tangled, and 5 where no start was
+/// found.
 fn main(rt: HostRuntime) -> io::Result<ExitCode> {
     let text = io::read_to_string(rt.alloc(), rt.reader())?;
     let net = match read_net(rt.alloc(), text.as_str()) {
@@ -26,7 +26,7 @@ fn main(rt: HostRuntime) -> io::Result<ExitCode> {
     if tangle > u128::from(MAX_TANGLE) {
         return Ok(ExitCode::from(4));
     }
-    let start = old_multiple(rt.alloc(), &net)?;
+    let start = start_of(rt.alloc(), &net)?;
     if !are_lengths(&net, &start) || !is_start(&net, &start) {
         return Ok(ExitCode::from(5));
     }

@@ -1,12 +1,11 @@
 -- The cost of a matching, one edge at a time.
-use Rattle.std.proofs.Common.{◌≡◌, ℕ, zero, suc, ◌+◌, ◌-◌, ◌<◌, ◌≤◌, List, [], ◌∷◌, length, map, take, ℤ, pos, ◌+ℤ◌, refl, ◌∙◌, sym, ap, arith}
+use Rattle.std.proofs.Common.{◌≡◌, ℕ, zero, suc, ◌+◌, ◌-◌, ◌<◌, ◌≤◌, List, [], ◌∷◌, length, take, ◌+ℤ◌, refl, arith}
 use Rattle.std.specs.Prelude.{slice_index}
 use Rattle.std.proofs.lemmas.Int.{ints}
 use Rattle.def_math.specs.Rising.{IsRising}
 use Rattle.def_math.specs.Sums.{total}
 use Rattle.qm_laws.proofs.Entries.{total_take}
 use Rattle.def_matching.specs.Matching.{Graph, edge_at, matching_cost}
-use Rattle.def_matching.specs.declared.weighted.WEdge.{WEdge}
 
 -- Rising numbers are below the bound.
 pub rising_below : (low high : ℕ) (m : List ℕ) → IsRising low high m → (i : ℕ) → i < length m → slice_index m i < high

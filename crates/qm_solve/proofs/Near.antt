@@ -1,5 +1,5 @@
 -- A list that is no farther from what is wanted than the start has no great length.
-use Rattle.std.proofs.Common.{◌≡◌, ℕ, suc, ◌+◌, ◌*◌, ◌^◌, ◌<◌, ◌≤◌, ◌&&◌, ◌↔◌, true, false, not, nat_le, List, length, pos, ◌-ℤ◌, ◌*ℤ◌, mul-add, mul_comm, mul-one, inl, inr, refl, sym, ◌∙◌, ap, subst, None, true≢false, leb-true, arith}
+use Rattle.std.proofs.Common.{◌≡◌, ℕ, suc, ◌+◌, ◌*◌, ◌^◌, ◌<◌, ◌≤◌, ◌&&◌, ◌↔◌, true, false, not, nat_le, List, length, pos, ◌-ℤ◌, ◌*ℤ◌, mul-add, mul_comm, mul-one, inl, inr, sym, ◌∙◌, ap, subst, None, true≢false, leb-true, arith}
 use Rattle.std.specs.Prelude.{slice_index, unsigned_abs, int_lt}
 use Rattle.std.specs.List.{list_all}
 use Rattle.std.proofs.lemmas.List.{get_or_default}

@@ -1,5 +1,5 @@
 -- A multiple of the old lengths is a start of the descent.
-use Rattle.std.proofs.Common.{◌≡◌, ℕ, zero, suc, ◌+◌, ◌-◌, ◌*◌, ◌/◌, ◌%◌, ◌^◌, ◌<◌, ◌≤◌, ◌&&◌, Bool, true, false, cond, nat_le, max, List, [], ◌∷◌, length, map, get_or, ℤ, pos, ◌+ℤ◌, ◌-ℤ◌, ◌*ℤ◌, ◌≤ℤ◌, refl, sym, ◌∙◌, ap, mul-add, add-mul, mul_comm, mul_assoc, mul-one, mul-zero, inl, inr, ◌⊎◌, leb-true, arith}
+use Rattle.std.proofs.Common.{◌≡◌, ℕ, zero, suc, ◌+◌, ◌*◌, ◌/◌, ◌%◌, ◌^◌, ◌<◌, ◌≤◌, ◌&&◌, Bool, true, false, cond, nat_le, max, List, [], ◌∷◌, length, ℤ, pos, ◌-ℤ◌, ◌*ℤ◌, ◌≤ℤ◌, refl, sym, ◌∙◌, ap, add-mul, mul_assoc, mul-one, inl, inr, ◌⊎◌, leb-true, arith}
 use Rattle.std.specs.Prelude.{slice_index, unsigned_abs}
 use Rattle.std.proofs.Math.Nat.{mul-le-mul_left, mul-le-mul_right, mul-le-mul}
 use Rattle.std.proofs.lemmas.Int.{ints}
@@ -11,7 +11,7 @@ use Rattle.qm_laws.proofs.Counts.{count_below_front, count_below_le, count_below
 use Rattle.qm_laws.proofs.Sums.{times_sum, total_below_same, total_same}
 use Rattle.qm_table.proofs.Ranges.{part_low}
 use Rattle.def_flow.specs.Network.{Network, IsWithinBounds, arc_at, ends}
-use Rattle.def_flow.specs.Admissible.{IsAdmissible, IsBalanced, IsEven, arc_deviation, deviation, entries, is_on_side, side_sum}
+use Rattle.def_flow.specs.Admissible.{IsBalanced, IsEven, arc_deviation, deviation, entries, is_on_side, side_sum}
 use Rattle.def_flow.specs.Descent.{IsStartOf}
 use Rattle.def_flow.specs.declared.net.Arc.{Arc}
 use Rattle.def_flow.specs.declared.net.End.{End}

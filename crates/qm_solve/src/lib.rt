@@ -11,7 +11,7 @@ mod tests;
 pub use def_flow::{Cert, Net};
 pub use descent::solve_from;
 pub use matcher::{Matched, Matcher};
-pub use start::{is_start, old_multiple, solve};
+pub use start::{is_start, solve, start_of};
 
 /// Want of memory.
 pub type Memory = std::alloc::AllocError;

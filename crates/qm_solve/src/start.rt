@@ -13,23 +13,39 @@ use crate::descent::solve_from;
 use crate::matcher::Matcher;
 use def_flow::{Arc, Cert, MAX_LENGTH, MAX_TANGLE, Net};
 use qm_net::{admissible, are_lengths, deviation};
+use qm_start::near_start;
 use std::alloc::Global;
 
-/// A least list of lengths of an even network, with the certificate that shows it to be least. The descent begins at a
-/// multiple of the old lengths.
+/// A least list of lengths of an even network, with the certificate that shows it to be least. The descent begins at a list
+/// near what is wanted, where one is found, and else at a multiple of the old lengths.
 pub fn solve<M: Matcher>(alloc: Global, matcher: &M, net: &Net) -> Result<Cert, Memory>
     requires bounds { IsWithinBounds (network net.now) }
     requires even { IsEven (network net.now) }
     requires tangle { tangle_number (network net.now) ≤ MAX_TANGLE }
     ensures { IfOk result (λ cert. IsSolution (network net.now) (certificate cert)) }
 {
-    let start = old_multiple(alloc, net)?;
+    let start = start_of(alloc, net)?;
     solve_from(alloc, matcher, net, &start)
 }
 
-/// The list that `solve` starts from: the old lengths, so many times that each is at least the floor and near what is
-/// wanted. It is admissible where the old lengths are. Linear.
-pub fn old_multiple(alloc: Global, net: &Net) -> Result<Vec<u64>, Memory>
+/// The list that `solve` starts from: one near what is wanted where that serves, and else a multiple of the old lengths,
+/// which serves for each even network.
+pub fn start_of(alloc: Global, net: &Net) -> Result<Vec<u64>, Memory>
+    requires { IsWithinBounds (network net.now) }
+    ensures { IsEven (network net.now) → IfOk result (λ start. IsStartOf (network net.now) start.items) }
+{
+    if let Some(near) = near_start(alloc, net)? {
+        if is_start(net, &near.lengths) {
+            return Ok(near.lengths);
+        }
+    }
+    let multiple = old_multiple(alloc, net)?;
+    Ok(multiple)
+}
+
+/// The old lengths, so many times that each is at least the floor and near what is wanted. The list is admissible where
+/// the old lengths are. Linear.
+fn old_multiple(alloc: Global, net: &Net) -> Result<Vec<u64>, Memory>
     requires { IsWithinBounds (network net.now) }
     ensures { IfOk result (λ lengths. lengths.items ≡ old_multiple (network net.now)) }
 {

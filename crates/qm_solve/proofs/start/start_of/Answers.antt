@@ -1,0 +1,7 @@
+use Rattle.std.proofs.Common.{refl}
+use Rattle.def_flow.specs.Network.{network}
+use Rattle.qm_solve.proofs.Starts.{even_start}
+use Rattle.qm_solve.proofs.start.start_of.Goals as goal
+
+pub returns : goal.returns
+returns c = λ even. rw c.in_ok-multiple.ensures (even_start (network c.args.net.now) _ c.requires even refl)
