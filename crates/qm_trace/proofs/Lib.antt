@@ -5,3 +5,9 @@ mod Instants
 mod Steps
 mod Beginnings
 mod Ends
+mod Counting
+mod Reaching
+mod Settled
+mod Noting
+mod Tellings
+mod Calls

@@ -1,5 +1,6 @@
 -- Marks at the darts of a list, one after another.
 use Rattle.std.proofs.Common.{◌≡◌, ℕ, ◌+◌, ◌<◌, Bool, true, false, cond, eqb, ◌||◌, List, [], ◌∷◌, ◌++◌, length, get_or, set, take, Option, Some, None, sym, ap, ◌∙◌, refl, inl, inr, arith}
+use Rattle.std.proofs.Math.Bool.{or-false}
 use Rattle.std.specs.List.{list_any}
 use Rattle.std.proofs.lemmas.Bool.{cases_eq, eq-eqb, ne_eqb, eqb-true, false≢true}
 use Rattle.std.proofs.lemmas.List.{take_more, get_or-set_same, get_or-set_other}
@@ -17,11 +18,7 @@ use Rattle.motion_laws.proofs.Steps.{same_test}
 
 -- One more at the end of a list.
 any_snoc : (p : ℕ → Bool) (xs : List ℕ) (x : ℕ) → list_any p (xs ++ x ∷ []) ≡ (list_any p xs || p x)
-any_snoc p [] x = at (p x)
-  where
-    at : (b : Bool) → (b || false) ≡ b
-    at true = refl
-    at false = refl
+any_snoc p [] x = or-false (p x)
 any_snoc p (y ∷ ys) x = ap (λ b. p y || b) (any_snoc p ys x) ∙ at (p y) (list_any p ys) (p x)
   where
     at : (a b c : Bool) → (a || (b || c)) ≡ ((a || b) || c)
@@ -35,32 +32,24 @@ among_more ds i d l = ap (is_among d) (take_more ds i 0 l) ∙ any_snoc (λ e. e
 pub marks_more : (ds : List ℕ) (i : ℕ) (value : Bool) (marks old : List Bool) → i < length ds → get_or ds i 0 < length marks → ((d : ℕ) → is_on marks d ≡ cond (is_among d (take i ds)) value (is_on old d)) → (d : ℕ) → is_on (set marks (get_or ds i 0) value) d ≡ cond (is_among d (take (i + 1) ds)) value (is_on old d)
 marks_more ds i value marks old l low each d = elim (cases_eq d (get_or ds i 0)) [
   | inl e ↦ ap (λ x. get_or (set marks (get_or ds i 0) value) x false) e ∙ (get_or-set_same marks (get_or ds i 0) value false low ∙ sym (ap (λ (b : Bool). cond b value (is_on old d)) (among_more ds i d l ∙ (ap (λ b. is_among d (take i ds) || b) (eq-eqb d (get_or ds i 0) e) ∙ on (is_among d (take i ds))))))
-  | inr ne ↦ get_or-set_other marks (get_or ds i 0) d value false ne ∙ (each d ∙ sym (ap (λ (b : Bool). cond b value (is_on old d)) (among_more ds i d l ∙ (ap (λ b. is_among d (take i ds) || b) (ne_eqb d (get_or ds i 0) ne) ∙ off (is_among d (take i ds))))))
+  | inr ne ↦ get_or-set_other marks (get_or ds i 0) d value false ne ∙ (each d ∙ sym (ap (λ (b : Bool). cond b value (is_on old d)) (among_more ds i d l ∙ (ap (λ b. is_among d (take i ds) || b) (ne_eqb d (get_or ds i 0) ne) ∙ or-false (is_among d (take i ds))))))
 ]
   where
     on : (b : Bool) → (b || true) ≡ true
     on true = refl
     on false = refl
 
-    off : (b : Bool) → (b || false) ≡ b
-    off true = refl
-    off false = refl
-
 -- One edge more.
 twin_test : (faces : Faces) → IsManifold faces → (d e : ℕ) → d < darts faces → e < darts faces → is_found (twin_of faces d) (e ∷ []) ≡ is_found (twin_of faces e) (d ∷ [])
 twin_test faces m d e ld le = same_test _ _ (one_way d e ld) (one_way e d le)
   where
-    plain : (b : Bool) → (b || false) ≡ b
-    plain true = refl
-    plain false = refl
-
     one_way : (d e : ℕ) → d < darts faces → is_found (twin_of faces d) (e ∷ []) ≡ true → is_found (twin_of faces e) (d ∷ []) ≡ true
     one_way d e ld f = at (twin_of faces d) refl f
       where
         at : (o : Option ℕ) → twin_of faces d ≡ o → is_found o (e ∷ []) ≡ true → is_found (twin_of faces e) (d ∷ []) ≡ true
         at None is f = absurd (false≢true f)
         at (Some u) is f =
-            let same : u ≡ e = eqb-true u e (sym (plain (eqb u e)) ∙ f) in
+            let same : u ≡ e = eqb-true u e (sym (or-false (eqb u e)) ∙ f) in
             let laws : IsQuadManifold (half_edges faces) = manifold_law faces m in
             ap (λ o. is_found o (d ∷ [])) (laws.twin_twin d e ld (is ∙ ap Some same)) ∙ among_here d d [] refl
 

@@ -1,5 +1,6 @@
 -- The queue, rider by rider.
 use Rattle.std.proofs.Common.{◌≡◌, ℕ, zero, suc, ◌+◌, ◌<◌, Bool, true, false, cond, eqb, ◌||◌, List, [], ◌∷◌, ◌++◌, length, get_or, set, take, map, sym, ap, ◌∙◌, refl, inl, inr, arith}
+use Rattle.std.proofs.Math.Bool.{or-false}
 use Rattle.std.specs.List.{filter}
 use Rattle.std.proofs.lemmas.Bool.{cases_eq, eq-eqb, ne_eqb, false≢true, false_from_ne_true, or_right}
 use Rattle.std.proofs.lemmas.List.{take_more, get_or-set_same, get_or-set_other}
@@ -15,7 +16,7 @@ use Rattle.qm_trace.proofs.Marking.{among_more}
 use Rattle.qm_trace.specs.Tables.{AreEachOnce, AreRode, rode, dart_of}
 
 -- What stands at a place stands not before it.
-once : (q : List ℕ) (i : ℕ) → AreEachOnce q → i < length q → is_among (get_or q i 0) (take i q) ≡ false
+pub once : (q : List ℕ) (i : ℕ) → AreEachOnce q → i < length q → is_among (get_or q i 0) (take i q) ≡ false
 once [] i a l = absurd (omega arith)
 once (x ∷ xs) zero a l = refl
 once (x ∷ xs) (suc i) a l = false_from_ne_true _ (λ m. elim (among_cases (get_or xs i 0) x (take i xs) m) [
@@ -31,13 +32,9 @@ unmoved faces stood now q i old riders a l low each = each (get_or q i 0) low �
 pub rode_more : (faces : Faces) (stood now : List Bool) (q : List ℕ) (i : ℕ) (old riders : List Moving) (rider : Moving) → AreEachOnce q → i < length q → get_or q i 0 < length old → length riders ≡ length old → rider ≡ rode faces stood now (rider_at riders (get_or q i 0)) → AreRode faces stood now (take i q) old riders → AreRode faces stood now (take (i + 1) q) old (set riders (get_or q i 0) rider)
 rode_more faces stood now q i old riders rider a l low long is each r lr = elim (cases_eq r (get_or q i 0)) [
   | inl e ↦ ap (λ x. get_or (set riders (get_or q i 0) rider) x (begun 0)) e ∙ (get_or-set_same riders (get_or q i 0) rider (begun 0) (omega (arith, low, long)) ∙ (is ∙ (ap (rode faces stood now) was ∙ sym (ap (λ (b : Bool). cond b (rode faces stood now (rider_at old r)) (rider_at old r)) (on e) ∙ ap (λ x. rode faces stood now (rider_at old x)) e))))
-  | inr ne ↦ get_or-set_other riders (get_or q i 0) r rider (begun 0) ne ∙ (each r lr ∙ sym (ap (λ (b : Bool). cond b (rode faces stood now (rider_at old r)) (rider_at old r)) (among_more q i r l ∙ (ap (λ b. is_among r (take i q) || b) (ne_eqb r (get_or q i 0) ne) ∙ off (is_among r (take i q))))))
+  | inr ne ↦ get_or-set_other riders (get_or q i 0) r rider (begun 0) ne ∙ (each r lr ∙ sym (ap (λ (b : Bool). cond b (rode faces stood now (rider_at old r)) (rider_at old r)) (among_more q i r l ∙ (ap (λ b. is_among r (take i q) || b) (ne_eqb r (get_or q i 0) ne) ∙ or-false (is_among r (take i q))))))
 ]
   where
-    off : (b : Bool) → (b || false) ≡ b
-    off true = refl
-    off false = refl
-
     on : r ≡ get_or q i 0 → is_among r (take (i + 1) q) ≡ true
     on e = among_more q i r l ∙ or_right (is_among r (take i q)) (eqb r (get_or q i 0)) (eq-eqb r (get_or q i 0) e)
 

@@ -57,7 +57,7 @@ same_darts riders queue ds q e d = ap (is_among d) e ∙ same_test _ _ to from
         ap (λ k. is_among k (map (dart_of riders) queue)) (sym r.3) ∙ map_among (dart_of riders) queue r.0 (q.all r.0 r.1 r.2)
 
 -- At most one ride a step.
-rides_low : (faces : Faces) (k r : ℕ) → (rider_at (after (terrain_of faces) (start_darts faces) k).riders r).rides ≤ k
+pub rides_low : (faces : Faces) (k r : ℕ) → (rider_at (after (terrain_of faces) (start_darts faces) k).riders r).rides ≤ k
 rides_low faces zero r = first (start_darts faces) r
   where
     first : (ds : List ℕ) (r : ℕ) → (rider_at (map begun ds) r).rides ≤ 0

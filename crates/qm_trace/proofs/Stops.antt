@@ -1,23 +1,23 @@
 -- Why a rider stops, as the code has it.
-use Rattle.std.proofs.Common.{◌≡◌, ℕ, ◌+◌, ◌<◌, Bool, true, false, cond, not, eqb, ◌&&◌, List, [], ◌∷◌, ◌++◌, length, get_or, map, Some, None, ◌∙◌, refl, arith}
+use Rattle.std.proofs.Common.{◌≡◌, ℕ, ◌+◌, ◌<◌, Bool, true, false, cond, not, eqb, ◌&&◌, List, [], ◌∷◌, ◌++◌, length, get_or, map, ◌∙◌, refl, arith}
 use Rattle.std.specs.List.{range_with_len}
 use Rattle.std.proofs.lemmas.List.{get_or_default, length-map}
 use Rattle.std.proofs.lemmas.List.FromFn.{length-range_with_len, get_or-map-range_with_len, map-range_with_len_more}
 use Rattle.def_mesh.specs.Faces.{Faces}
-use Rattle.def_mesh.specs.Darts.{from_of, to_of, twin_of}
+use Rattle.def_mesh.specs.Darts.{to_of}
 use Rattle.def_mesh.specs.Vertices.{vertex_count, faces_at}
 use Rattle.def_mesh.specs.Kinds.{is_inner, is_singular}
 use Rattle.def_cut.specs.FullCut.{is_on}
-use Rattle.def_cut.specs.declared.graph.Stop.TheVariants.{Middle, Boundary, Singular, Trail, Tie}
-use Rattle.qm_trace.specs.Tables.{IsGround, is_met_now, is_crowded, stop_now}
+use Rattle.qm_trace.specs.declared.ground.Site.{Site}
+use Rattle.qm_trace.specs.Tables.{IsGround, IsSite, stop_here, stop_now}
 
 -- A mark that was read.
 pub read_on : (marks : List Bool) (v : ℕ) (b : Bool) → v < length marks → b ≡ get_or marks v b → b ≡ is_on marks v
 read_on marks v b l e = e ∙ get_or_default marks v b false l
 
-pub told : (faces : Faces) (boundary singular stood now : List Bool) (d v : ℕ) → IsGround faces boundary singular → v ≡ to_of faces d → v < vertex_count faces → (met b s t cr : Bool) → met ≡ is_met_now (twin_of faces d) now → b ≡ is_on boundary v → s ≡ is_on singular v → t ≡ is_on stood v → cr ≡ is_crowded faces (twin_of faces d) now → stop_now faces stood now d ≡ cond met (Some (Middle (from_of faces d) v)) (cond b (Some (Boundary v)) (cond s (Some (Singular v)) (cond t (Some (Trail v)) (cond cr (Some (Tie v)) None))))
-told faces boundary singular stood now d v g is_v low met b s t cr is_met is_b is_s is_t is_cr =
-    rw (is_met, is_b ∙ g.at_boundary v low, is_s ∙ g.at_singular v low, is_t, is_cr, is_v) refl
+-- What is known of a vertex says why a rider stops there.
+pub here_now : (faces : Faces) (stood now : List Bool) (d : ℕ) (site : Site) → IsSite faces (is_on stood (to_of faces d)) (to_of faces d) site → stop_here faces site now d ≡ stop_now faces stood now d
+here_now faces stood now d site s = rw (s.boundary, s.singular, s.stood_is) refl
 
 -- The ground, vertex by vertex.
 pub ground_is : (faces : Faces) (boundary singular : List Bool) → boundary ≡ map (λ v. not (is_inner faces v)) (range_with_len 0 (vertex_count faces)) → singular ≡ map (is_singular faces) (range_with_len 0 (vertex_count faces)) → IsGround faces boundary singular

@@ -1,5 +1,6 @@
 -- The tables of the trace.
-use Rattle.std.specs.Prelude.{◌≡◌, ℕ, suc, slice_set, ◌+◌, ◌^◌, ◌<◌, Bool, true, false, cond, not, [], ◌∷◌, ◌||◌, List, length, Option, Some, None}
+use Rattle.std.specs.Prelude.{◌≡◌, ℕ, suc, slice_set, ◌+◌, ◌^◌, ◌<◌, Bool, true, false}
+use Rattle.std.specs.Prelude.{cond, not, [], ◌∷◌, ◌||◌, List, length, Option, Some, None}
 use Rattle.def_mesh.specs.Faces.{Faces}
 use Rattle.def_mesh.specs.Darts.{darts, from_of, prev_of, twin_of}
 use Rattle.def_mesh.specs.Vertices.{vertex_count}
@@ -9,6 +10,7 @@ use Rattle.def_cut.specs.FullCut.{is_on}
 use Rattle.def_cut.specs.declared.graph.Stop.{Stop}
 use Rattle.def_cut.specs.declared.graph.Stop.TheVariants.{Middle, Boundary, Singular, Trail, Tie}
 use Rattle.def_cut.specs.declared.moving.Moving.{Moving}
+use Rattle.qm_trace.specs.declared.ground.Site.{Site}
 use Rattle.def_cut.specs.Motion.{end_of, ridden, is_among, after_ride, after}
 use Rattle.def_cut.specs.Events.{rider_at}
 use Rattle.def_cut.specs.Traced.{finish, last_state, terrain_of}
@@ -35,14 +37,29 @@ abbrev pub is_crowded : (faces : Faces) (twin : Option ℕ) (now : List Bool) �
 is_crowded faces None now = false
 is_crowded faces (Some a) now = is_on now (prev_of a) || is_faced (twin_of faces (prev_of a)) now
 
--- Why the rider by d stops, by the marks of the darts that are ridden now.
+-- What is known of vertex v, where `stood` says whether a rider has stood there.
+pub record IsSite (faces : Faces) (stood : Bool) (v : ℕ) (site : Site) : Type 0 where
+  pub boundary : site.boundary ≡ not (is_inner faces v)
+  pub singular : site.singular ≡ is_singular faces v
+  pub stood_is : site.stood ≡ stood
+
+-- Why the rider by d stops at its end, of which this is known, by the marks of the darts that are ridden now.
+abbrev pub stop_by : (faces : Faces) (boundary singular stood : Bool) (now : List Bool) (d : ℕ) → Option Stop
+stop_by faces boundary singular stood now d =
+    cond (is_met_now (twin_of faces d) now) (Some (Middle (from_of faces d) (end_of (terrain_of faces) d)))
+    (cond boundary (Some (Boundary (end_of (terrain_of faces) d)))
+    (cond singular (Some (Singular (end_of (terrain_of faces) d)))
+    (cond stood (Some (Trail (end_of (terrain_of faces) d)))
+    (cond (is_crowded faces (twin_of faces d) now) (Some (Tie (end_of (terrain_of faces) d))) None))))
+
+abbrev pub stop_here : (faces : Faces) (site : Site) (now : List Bool) (d : ℕ) → Option Stop
+stop_here faces site now d = stop_by faces site.boundary site.singular site.stood now d
+
+-- The same, where the end of d and the marks of the vertices say what is known.
 abbrev pub stop_now : (faces : Faces) (stood now : List Bool) (d : ℕ) → Option Stop
 stop_now faces stood now d =
-    cond (is_met_now (twin_of faces d) now) (Some (Middle (from_of faces d) (end_of (terrain_of faces) d)))
-    (cond (not (is_inner faces (end_of (terrain_of faces) d))) (Some (Boundary (end_of (terrain_of faces) d)))
-    (cond (is_singular faces (end_of (terrain_of faces) d)) (Some (Singular (end_of (terrain_of faces) d)))
-    (cond (is_on stood (end_of (terrain_of faces) d)) (Some (Trail (end_of (terrain_of faces) d)))
-    (cond (is_crowded faces (twin_of faces d) now) (Some (Tie (end_of (terrain_of faces) d))) None))))
+    stop_by faces (not (is_inner faces (end_of (terrain_of faces) d))) (is_singular faces (end_of (terrain_of faces) d))
+    (is_on stood (end_of (terrain_of faces) d)) now d
 
 -- A rider after its ride.
 abbrev pub rode : (faces : Faces) (stood now : List Bool) (r : Moving) → Moving

@@ -2,12 +2,12 @@
 
 ghost use Rattle.std.specs.Prelude.{◌≡◌, ◌<◌, ◌+◌, ◌^◌, length};
 ghost use Rattle.def_mesh.specs.Darts.{darts, prev_of, twin_of};
-ghost use Rattle.def_mesh.specs.Vertices.{vertex_count};
-ghost use Rattle.def_cut.specs.Motion.{gives_way as gives_way_on, or_else, straight};
+ghost use Rattle.def_cut.specs.Motion.{after_ride, gives_way as gives_way_on, or_else, straight};
 ghost use Rattle.def_cut.specs.Traced.{terrain_of};
-ghost use Rattle.qm_trace.specs.Tables.{IsGround, is_crowded as crowds, is_faced as faces_it, is_met_now, rode, stop_now};
+ghost use Rattle.def_cut.specs.Events.{told};
+ghost use Rattle.qm_trace.specs.Tables.{is_crowded as crowds, is_faced as faces_it, is_met_now, stop_here};
 
-use crate::ground::Ground;
+use crate::ground::Site;
 use def_cut::{Moving, Stop};
 use qm_mesh::Mesh;
 
@@ -23,23 +23,34 @@ pub fn gives_way(mesh: &Mesh, d1: u32, d2: u32) -> bool
     }
 }
 
-/// The rider after its ride.
-pub(crate) fn ride(mesh: &Mesh, ground: &Ground, stood: &[bool], now: &[bool], r: Moving) -> Moving
-    requires dart { r.dart < darts mesh.now }
-    requires rides { r.rides + 1 < 2 ^ 32 }
-    requires ground { IsGround mesh.now ground.now.boundary.items ground.now.singular.items }
-    requires stood { length stood.now ≡ vertex_count mesh.now }
+/// The rider after its ride, in which the darts marked in `now` are ridden.
+pub(crate) fn ride(mesh: &Mesh, site: Site, now: &[bool], rider: Moving) -> Moving
+    requires dart { rider.dart < darts mesh.now }
+    requires rides { rider.rides + 1 < 2 ^ 32 }
     requires now { length now.now ≡ darts mesh.now }
-    ensures { result ≡ rode mesh.now stood.now now.now r }
+    ensures { result ≡ after_ride (terrain_of mesh.now) rider.dart rider.rides (stop_here mesh.now site now.now rider.dart) }
 {
-    let stop = stop_at(mesh, ground, stood, now, r.dart);
+    let rider = Moving {
+        rides: rider.rides + 1,
+        ..rider
+    };
+    tell(mesh, site, now, rider)
+}
+
+/// A rider that has ridden its dart, with its stop or its next dart.
+pub(crate) fn tell(mesh: &Mesh, site: Site, now: &[bool], rider: Moving) -> Moving
+    requires dart { rider.dart < darts mesh.now }
+    requires now { length now.now ≡ darts mesh.now }
+    ensures { result ≡ told (terrain_of mesh.now) rider.dart rider (stop_here mesh.now site now.now rider.dart) }
+{
+    let stop = stop_at(mesh, site, now, rider.dart);
     let dart = match stop {
-        Some(_) => r.dart,
-        None => next_dart(mesh, r.dart),
+        Some(_) => rider.dart,
+        None => next_dart(mesh, rider.dart),
     };
     Moving {
         dart,
-        rides: r.rides + 1,
+        rides: rider.rides,
         stop,
     }
 }
@@ -55,26 +66,23 @@ fn next_dart(mesh: &Mesh, d: u32) -> u32
     }
 }
 
-/// Why the rider by d stops, if it does.
-fn stop_at(mesh: &Mesh, ground: &Ground, stood: &[bool], now: &[bool], d: u32) -> Option<Stop>
+/// Why the rider by d stops, if it does, at a vertex of which this is known.
+fn stop_at(mesh: &Mesh, site: Site, now: &[bool], d: u32) -> Option<Stop>
     requires dart { d < darts mesh.now }
-    requires ground { IsGround mesh.now ground.now.boundary.items ground.now.singular.items }
-    requires stood { length stood.now ≡ vertex_count mesh.now }
     requires now { length now.now ≡ darts mesh.now }
-    ensures { result ≡ stop_now mesh.now stood.now now.now d }
+    ensures { result ≡ stop_here mesh.now site now.now d }
 {
     let vertex = mesh.to(d);
-    let v = vertex as usize;
     if is_met(mesh, now, d) {
         Some(Stop::Middle {
             from: mesh.from(d),
             to: vertex,
         })
-    } else if ground.boundary[v] {
+    } else if site.boundary {
         Some(Stop::Boundary { vertex })
-    } else if ground.singular[v] {
+    } else if site.singular {
         Some(Stop::Singular { vertex })
-    } else if stood[v] {
+    } else if site.stood {
         Some(Stop::Trail { vertex })
     } else if is_crowded(mesh, now, d) {
         Some(Stop::Tie { vertex })

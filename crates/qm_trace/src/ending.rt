@@ -1,16 +1,15 @@
 //! What the motion leaves when no rider runs: the marks of the graph, and what became of each rider.
 
-ghost use Rattle.std.specs.Prelude.{◌≡◌, ◌<◌, ◌*◌, ◌||◌, not, is_some, ℕ, IfOk, IsSome, length};
+ghost use Rattle.std.specs.Prelude.{◌≡◌, ◌<◌, ◌*◌, ◌||◌, ◌≤◌, not, is_some, ℕ, [], IsSome, length};
+ghost use Rattle.std.specs.Vec.{vec_capacity};
 ghost use Rattle.def_cut.specs.FullCut.{is_on};
 ghost use Rattle.def_cut.specs.Traced.{AreRiders, IsRiderOf, last_state, traced_marks};
 ghost use Rattle.def_mesh.specs.Components.{start_darts};
 ghost use Rattle.def_mesh.specs.Darts.{darts, twin_of};
 ghost use Rattle.qm_trace.specs.Tables.{AreCovered, closed_at};
 
-use crate::Memory;
 use def_cut::{Moving, Rider};
 use qm_mesh::Mesh;
-use std::alloc::Global;
 
 /// The marks of the graph, by those of the covered darts. Linear in the darts.
 pub(crate) fn close(mesh: &Mesh, mut covered: Vec<bool>) -> Vec<bool>
@@ -43,23 +42,18 @@ fn close_edge(mesh: &Mesh, d: u32, covered: &mut [bool])
     }
 }
 
-/// What became of each rider.
-pub(crate) fn told(
-    alloc: Global,
-    mesh: &Mesh,
-    starts: &[u32],
-    riders: &[Moving],
-) -> Result<Vec<Rider>, Memory>
+/// Puts down what became of each rider.
+pub(crate) fn told(mesh: &Mesh, starts: &[u32], riders: &[Moving], told: &mut Vec<Rider>)
     requires starts { starts.now ≡ start_darts mesh.now }
     requires riders { riders.now ≡ (last_state mesh.now).riders }
-    ensures { IfOk result (λ told. AreRiders (last_state mesh.now).riders (start_darts mesh.now) told.items) }
+    requires empty { told.old.items ≡ [] }
+    requires room { length starts.now ≤ vec_capacity told.old }
+    ensures { AreRiders (last_state mesh.now).riders (start_darts mesh.now) told.new.items }
 {
     let _known = mesh.faces();
-    let mut told = Vec::with_capacity(alloc, starts.len())?;
     for (r, start) in starts.iter().enumerate() {
-        told.push(rider_of(*start, riders[r]))?;
+        told.push(rider_of(*start, riders[r])).unwrap();
     }
-    Ok(told)
 }
 
 /// What became of a rider that has stopped.

@@ -1,9 +1,10 @@
 //! What stops riders at vertices, looked up once.
 
-ghost use Rattle.std.specs.Prelude.{◌≡◌, ◌<◌, IfOk};
+ghost use Rattle.std.specs.Prelude.{◌≡◌, ◌<◌, length, IfOk};
 ghost use Rattle.def_mesh.specs.Kinds.{is_singular as is_singular_at};
 ghost use Rattle.def_mesh.specs.Vertices.{vertex_count};
-ghost use Rattle.qm_trace.specs.Tables.{IsGround};
+ghost use Rattle.def_cut.specs.FullCut.{is_on};
+ghost use Rattle.qm_trace.specs.Tables.{IsGround, IsSite};
 
 use crate::Memory;
 use qm_mesh::Mesh;
@@ -14,6 +15,41 @@ use std::alloc::Global;
 pub(crate) struct Ground {
     pub(crate) boundary: Vec<bool>,
     pub(crate) singular: Vec<bool>,
+}
+
+/// What stops a rider at one vertex: that it lies at the boundary, that it is singular, or that one has stood there.
+#[derive(Clone, Copy, Debug)]
+pub(crate) struct Site {
+    pub(crate) boundary: bool,
+    pub(crate) singular: bool,
+    pub(crate) stood: bool,
+}
+
+/// What stops a rider at v, looked up.
+pub(crate) fn site_of(mesh: &Mesh, ground: &Ground, stood: &[bool], v: u32) -> Site
+    requires vertex { v < vertex_count mesh.now }
+    requires ground { IsGround mesh.now ground.now.boundary.items ground.now.singular.items }
+    requires stood { length stood.now ≡ vertex_count mesh.now }
+    ensures { IsSite mesh.now (is_on stood.now v) v result }
+{
+    let _known = mesh.faces();
+    Site {
+        boundary: ground.boundary[v as usize],
+        singular: ground.singular[v as usize],
+        stood: stood[v as usize],
+    }
+}
+
+/// What stops a rider at v. Linear in the faces at v.
+pub(crate) fn site_at(mesh: &Mesh, stood: bool, v: u32) -> Site
+    requires { v < vertex_count mesh.now }
+    ensures { IsSite mesh.now stood v result }
+{
+    Site {
+        boundary: !mesh.is_inner(v),
+        singular: is_singular(mesh, v),
+        stood,
+    }
 }
 
 /// The ground of a mesh. Linear in the darts.

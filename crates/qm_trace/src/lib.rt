@@ -1,4 +1,4 @@
-//! How riders ride on a mesh, instant by instant, and the graph that they trace.
+//! How riders ride on a mesh, instant by instant or event by event, and the graph that they trace.
 
 #![tactic(auto)]
 
@@ -6,15 +6,22 @@ mod deciding;
 mod ending;
 mod ground;
 mod marks;
+mod motion;
+mod notes;
 mod queue;
 mod starting;
 mod stepping;
+mod telling;
 mod tracing;
 
 pub use deciding::gives_way;
 pub use def_cut::{Graph, Moving, Rider, Stop};
 pub use def_mesh::Starts;
+pub use motion::Motion;
 pub use tracing::trace;
 
 /// Memory was refused.
 pub type Memory = std::alloc::AllocError;
+
+#[cfg(test)]
+mod tests;

@@ -35,7 +35,7 @@ fn cover_each(mesh: &Mesh, ridden: &[u32], covered: &mut [bool])
 }
 
 /// Marks a dart and its twin.
-fn cover_edge(mesh: &Mesh, d: u32, covered: &mut [bool])
+pub(crate) fn cover_edge(mesh: &Mesh, d: u32, covered: &mut [bool])
     requires dart { d < darts mesh.now }
     requires long { length covered.old ≡ darts mesh.now }
     ensures { covered.new ≡ mark_twin (twin_of mesh.now d) (slice_set covered.old d true) }

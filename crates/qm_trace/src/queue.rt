@@ -1,6 +1,6 @@
 //! The queue of the riders that run.
 
-ghost use Rattle.std.specs.Prelude.{◌≡◌, ◌<◌, ℕ, suc, length, map, filter, true, IfOk};
+ghost use Rattle.std.specs.Prelude.{◌≡◌, ◌<◌, ◌+◌, ◌^◌, ℕ, suc, length, map, filter, true, IfOk};
 ghost use Rattle.std.specs.List.{range_with_len};
 ghost use Rattle.def_cut.specs.Events.{rider_at};
 ghost use Rattle.def_cut.specs.Motion.{after, begun, is_among};
@@ -8,11 +8,11 @@ ghost use Rattle.def_cut.specs.Traced.{terrain_of};
 ghost use Rattle.def_mesh.specs.Components.{start_darts};
 ghost use Rattle.def_mesh.specs.Darts.{darts};
 ghost use Rattle.def_mesh.specs.Vertices.{vertex_count};
-ghost use Rattle.qm_trace.specs.Tables.{AreRode, CanRide, IsGround, IsInstant, dart_of, is_running};
+ghost use Rattle.qm_trace.specs.Tables.{AreRode, CanRide, IsGround, IsInstant, dart_of, is_running, rode};
 
 use crate::Memory;
 use crate::deciding::ride;
-use crate::ground::Ground;
+use crate::ground::{Ground, site_of};
 use def_cut::Moving;
 use qm_mesh::Mesh;
 use std::alloc::Global;
@@ -121,6 +121,19 @@ fn ride_each(mesh: &Mesh, sight: &Sight, queue: &[u32], riders: &mut [Moving])
 {
     for r in queue {
         let rider = riders[*r as usize];
-        riders[*r as usize] = ride(mesh, &sight.ground, &sight.stood, &sight.taken, rider);
+        riders[*r as usize] = ride_one(mesh, sight, rider);
     }
+}
+
+/// The rider after its ride.
+fn ride_one(mesh: &Mesh, sight: &Sight, rider: Moving) -> Moving
+    requires dart { rider.dart < darts mesh.now }
+    requires rides { rider.rides + 1 < 2 ^ 32 }
+    requires ground { IsGround mesh.now sight.now.ground.boundary.items sight.now.ground.singular.items }
+    requires stood { length sight.now.stood.items ≡ vertex_count mesh.now }
+    requires taken { length sight.now.taken.items ≡ darts mesh.now }
+    ensures { result ≡ rode mesh.now sight.now.stood.items sight.now.taken.items rider }
+{
+    let site = site_of(mesh, &sight.ground, &sight.stood, mesh.to(rider.dart));
+    ride(mesh, site, &sight.taken, rider)
 }

@@ -25,7 +25,8 @@ pub fn trace(alloc: Global, mesh: &Mesh, src: &Starts) -> Result<Graph, Memory>
 {
     let _known = mesh.faces();
     let end = last_tables(alloc, mesh, &src.starts)?;
-    let riders = told(alloc, mesh, &src.starts, &end.riders)?;
+    let mut riders = Vec::with_capacity(alloc, src.starts.len())?;
+    told(mesh, &src.starts, &end.riders, &mut riders);
     let covered = close(mesh, end.covered);
     Ok(Graph { covered, riders })
 }

@@ -1,10 +1,9 @@
-use Rattle.std.proofs.Common.{◌≡◌, true, Bool, List, get_or, ap, ◌∙◌, arith}
+use Rattle.std.proofs.Common.{◌≡◌, true, get_or, ap, arith}
 use Rattle.def_cut.specs.declared.moving.Moving.{Moving}
 use Rattle.def_cut.specs.Motion.{is_among}
 use Rattle.def_cut.specs.Events.{rider_at}
 use Rattle.motion_laws.proofs.Marks.{among_at}
 use Rattle.qm_trace.proofs.Riding.{unmoved, rode_more}
-use Rattle.qm_trace.specs.Tables.{rode}
 use Rattle.qm_trace.proofs.queue.ride_each.Goals as goal
 
 pub slice_copy_out-rider : goal.slice_copy_out-rider
@@ -12,15 +11,15 @@ slice_copy_out-rider c =
     let m : is_among (get_or c.args.queue.now c.loop-r.r-index 0) c.args.queue.now ≡ true = among_at c.args.queue.now c.loop-r.r-index c.loop-r-test.true in
     omega (arith, c.requires.can.low (get_or c.args.queue.now c.loop-r.r-index 0) m, c.loop-r.auto.riders)
 
-pub ride-requires-clause-dart : goal.ride-requires-clause-dart
-ride-requires-clause-dart c =
+pub ride_one-requires-clause-dart : goal.ride_one-requires-clause-dart
+ride_one-requires-clause-dart c =
     let m : is_among (get_or c.args.queue.now c.loop-r.r-index 0) c.args.queue.now ≡ true = among_at c.args.queue.now c.loop-r.r-index c.loop-r-test.true in
     let same : rider_at c.loop-r.riders (get_or c.args.queue.now c.loop-r.r-index 0) ≡ rider_at c.args.riders.now (get_or c.args.queue.now c.loop-r.r-index 0) =
     unmoved c.args.mesh.now c.args.sight.now.stood.items c.args.sight.now.taken.items c.args.queue.now c.loop-r.r-index c.args.riders.now c.loop-r.riders c.requires.can.apart c.loop-r-test.true (c.requires.can.low _ m) c.loop-r.invariant in
     omega (arith, ap (λ (r : Moving). r.dart) same, c.requires.can.dart (get_or c.args.queue.now c.loop-r.r-index 0) m)
 
-pub ride-requires-clause-rides : goal.ride-requires-clause-rides
-ride-requires-clause-rides c =
+pub ride_one-requires-clause-rides : goal.ride_one-requires-clause-rides
+ride_one-requires-clause-rides c =
     let m : is_among (get_or c.args.queue.now c.loop-r.r-index 0) c.args.queue.now ≡ true = among_at c.args.queue.now c.loop-r.r-index c.loop-r-test.true in
     let same : rider_at c.loop-r.riders (get_or c.args.queue.now c.loop-r.r-index 0) ≡ rider_at c.args.riders.now (get_or c.args.queue.now c.loop-r.r-index 0) =
     unmoved c.args.mesh.now c.args.sight.now.stood.items c.args.sight.now.taken.items c.args.queue.now c.loop-r.r-index c.args.riders.now c.loop-r.riders c.requires.can.apart c.loop-r-test.true (c.requires.can.low _ m) c.loop-r.invariant in
@@ -34,7 +33,4 @@ bounds-riders-r c =
 pub loop-r-preserved : goal.loop-r-preserved
 loop-r-preserved c =
     let m : is_among (get_or c.args.queue.now c.loop-r.r-index 0) c.args.queue.now ≡ true = among_at c.args.queue.now c.loop-r.r-index c.loop-r-test.true in
-    let told : c.ride.result ≡ rode c.args.mesh.now c.args.sight.now.stood.items c.args.sight.now.taken.items (rider_at c.loop-r.riders (get_or c.args.queue.now c.loop-r.r-index 0)) =
-    c.ride.ensures ∙ (ap (λ (xs : List Bool). rode c.args.mesh.now xs c.deref-in-loop-r.result.now (rider_at c.loop-r.riders (get_or c.args.queue.now c.loop-r.r-index 0))) c.deref.ensures.value
-    ∙ ap (λ (xs : List Bool). rode c.args.mesh.now c.args.sight.now.stood.items xs (rider_at c.loop-r.riders (get_or c.args.queue.now c.loop-r.r-index 0))) c.deref-in-loop-r.ensures.value) in
-    rode_more c.args.mesh.now c.args.sight.now.stood.items c.args.sight.now.taken.items c.args.queue.now c.loop-r.r-index c.args.riders.now c.loop-r.riders c.ride.result c.requires.can.apart c.loop-r-test.true (c.requires.can.low _ m) c.loop-r.auto.riders told c.loop-r.invariant
+    rode_more c.args.mesh.now c.args.sight.now.stood.items c.args.sight.now.taken.items c.args.queue.now c.loop-r.r-index c.args.riders.now c.loop-r.riders c.ride_one.result c.requires.can.apart c.loop-r-test.true (c.requires.can.low _ m) c.loop-r.auto.riders c.ride_one.ensures c.loop-r.invariant

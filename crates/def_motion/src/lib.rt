@@ -1,0 +1,3 @@
+//! What a caller sees who moves riders one at a time: the event state of the motion, and where its riders started.
+
+#![tactic(auto)]
