@@ -1,0 +1,87 @@
+//! From the text of a mesh to that of its network.
+
+ghost use Rattle.std.specs.Prelude.{IfOk};
+ghost use Rattle.def_layout.specs.Plans.{plan};
+ghost use Rattle.def_written.specs.Laws.{AreQuads};
+ghost use Rattle.def_layoutnet.specs.LayoutNet.{AreSettings};
+ghost use Rattle.def_layoutnet.specs.MeshLayouts.{IsMeshLayout};
+
+use def_flow::{Arc, End, Net, Settings};
+use def_layout::TMesh;
+use def_text::MAX_BYTES;
+use qm_grid::patches;
+use qm_io::Source;
+use qm_layoutnet::{NetFail, net_of};
+use qm_mesh::{Mesh, build};
+use qm_obj::read_soup;
+use qm_sing::sources;
+use qm_tmesh::layout;
+use qm_trace::trace;
+use std::alloc::{AllocError, Global};
+
+/// The text of the network of the mesh that a source gives, or how tangled it is; none where there is no mesh.
+pub(crate) fn network_text<S: Source>(
+    alloc: Global,
+    input: &mut S,
+    set: &Settings,
+) -> Result<Option<String>, AllocError>
+    requires { AreSettings set.now }
+{
+    let Ok(soup) = read_soup(alloc, input, MAX_BYTES) else {
+        return Ok(None);
+    };
+    let Ok(mesh) = build(alloc, soup.pos.len() as u32, &soup.faces) else {
+        return Ok(None);
+    };
+    let layout = layout_of(alloc, &mesh)?;
+    match net_of(alloc, &layout, set) {
+        Ok(net) => Ok(Some(text_of(alloc, &net)?)),
+        Err(NetFail::Tangled { count }) => Ok(Some(format!(in alloc; "tangled {count}\n")?)),
+        Err(NetFail::Memory) => Ok(None),
+    }
+}
+
+/// The layout that the traced graph of a mesh cuts.
+fn layout_of(alloc: Global, mesh: &Mesh) -> Result<TMesh, AllocError>
+    ensures { IfOk result (λ t. IsMeshLayout (plan t)) }
+{
+    are_quads(mesh.faces());
+    let sources = sources(alloc, mesh)?;
+    let graph = trace(alloc, mesh, &sources)?;
+    let patches = patches(alloc, mesh, &graph)?;
+    layout(alloc, mesh, &graph, patches)
+}
+
+/// Faces of four corners are quads.
+fn are_quads(faces: &[[u32; 4]])
+    ensures { AreQuads faces.now }
+{}
+
+/// A line for the network, and one for each arc.
+fn text_of(alloc: Global, net: &Net) -> Result<String, AllocError> {
+    let (nodes, arcs, floor, p, q) = (net.nodes, net.arcs.len(), net.floor, net.p, net.q);
+    let mut text = format!(in alloc;
+        "net nodes {nodes} arcs {arcs} floor {floor} scale {p}/{q}\n"
+    )?;
+    for arc in &net.arcs {
+        push_arc(alloc, &mut text, arc)?;
+    }
+    Ok(text)
+}
+
+/// The line of an arc.
+fn push_arc(alloc: Global, text: &mut String, arc: &Arc) -> Result<(), AllocError> {
+    let (old, weight) = (arc.old, arc.weight);
+    let left = end_text(alloc, arc.left)?;
+    let right = match arc.right {
+        Some(end) => end_text(alloc, end)?,
+        None => "rim".to_string(alloc)?,
+    };
+    text.push_str(format!(in alloc; "arc {old} {weight} {left} {right}\n")?.as_str())
+}
+
+/// The node of an end and its sign.
+fn end_text(alloc: Global, end: End) -> Result<String, AllocError> {
+    let (node, sign) = (end.node, if end.plus { '+' } else { '-' });
+    format!(in alloc; "{node} {sign}")
+}
