@@ -39,12 +39,12 @@ use Rattle.def_mesh.specs.Faces.{Faces}
 use Rattle.def_io.specs.Bytes.{Lines}
 
 -- What holds at each position of two lists holds at each position of both together, and of a map what holds of each image.
-each_both : {X : Type 0} (P : X → Type 0) (xs ys : List X) (d : X) → ((k : ℕ) → k < length xs → P (get_or xs k d)) → ((k : ℕ) → k < length ys → P (get_or ys k d)) → (k : ℕ) → k < length (xs ++ ys) → P (get_or (xs ++ ys) k d)
+pub each_both : {X : Type 0} (P : X → Type 0) (xs ys : List X) (d : X) → ((k : ℕ) → k < length xs → P (get_or xs k d)) → ((k : ℕ) → k < length ys → P (get_or ys k d)) → (k : ℕ) → k < length (xs ++ ys) → P (get_or (xs ++ ys) k d)
 each_both P [] ys d a b k l = b k l
 each_both P (x ∷ xs) ys d a b zero l = a 0 (omega arith)
 each_both P (x ∷ xs) ys d a b (suc k) l = each_both P xs ys d (λ j m. a (suc j) (omega arith)) b k (omega arith)
 
-each_map : {X Y : Type 0} (P : Y → Type 0) (f : X → Y) (xs : List X) (c : X) (d : Y) → ((k : ℕ) → k < length xs → P (f (get_or xs k c))) → (k : ℕ) → k < length (map f xs) → P (get_or (map f xs) k d)
+pub each_map : {X Y : Type 0} (P : Y → Type 0) (f : X → Y) (xs : List X) (c : X) (d : Y) → ((k : ℕ) → k < length xs → P (f (get_or xs k c))) → (k : ℕ) → k < length (map f xs) → P (get_or (map f xs) k d)
 each_map {X} {Y} P f xs c d each k l =
     let there : k < length xs = omega (arith, length-map xs f) in
     subst (λ (y : Y). P y) (sym (get_or-map f xs k c d there)) (each k there)
@@ -66,7 +66,7 @@ ended : {X : Type 0} (text line : X → List ℕ) → ((x : X) → text x ≡ li
 ended text line same [] = refl
 ended text line same (x ∷ xs) = rw (same x, ended text line same xs) refl
 
-text_lines : (s : FaceSet) → canonical_text s ≡ flat_map (λ l. l ++ 10 ∷ []) (canonical_lines s)
+pub text_lines : (s : FaceSet) → canonical_text s ≡ flat_map (λ l. l ++ 10 ∷ []) (canonical_lines s)
 text_lines s =
     rw (
       ended position_text position_line (λ p. ap (λ ws. 118 ∷ ws ++ 10 ∷ []) (sym (flat_map-map (λ w. 32 ∷ w) micro_text p))) s.pos,
@@ -90,7 +90,7 @@ position_back (z ∷ zs) all =
     let again : (list_all is_decimal (map micro_text zs) ≡ true) × (list_any (λ w. is_far (rounded w)) (map micro_text zs) ≡ false) × (map rounded (map micro_text zs) ≡ zs) = position_back zs parts.1 in
     (and_from _ _ back.0 again.0, or_from _ _ (ap is_far back.1 ∙ not-true _ parts.0) again.1, rw (back.1, again.2) refl)
 
-position_line_is : (position : List ℤ) → is_position position ≡ true → IsLine (position_line position)
+pub position_line_is : (position : List ℤ) → is_position position ≡ true → IsLine (position_line position)
 position_line_is position is =
     let three : length position ≡ 3 = eqb-true _ _ (and_parts _ _ is).0 in
     line_tame 118 (map micro_text position) refl (omega (arith, length-map position micro_text)) (position_words position is)

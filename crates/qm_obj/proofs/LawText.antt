@@ -154,37 +154,48 @@ pub record IsLine (line : List ℕ) : Type 0 where
 pub line_tame : (letter : ℕ) (ws : Words) → is_tame letter ≡ true → length ws ≤ 4 → ((k : ℕ) → k < length ws → IsWord (get_or ws k [])) → IsLine (line_text letter ws)
 line_tame letter ws tame few each = record { tame = and_from _ _ tame (behind_tame ws each); short = omega (arith, behind_short ws each) }
 
+-- A byte that ends no line.
+abbrev pub is_inside : ℕ → Bool
+is_inside b = not (eqb b 10) && not (eqb b 13)
+
+pub tame_inside : (line : List ℕ) → list_all is_tame line ≡ true → list_all is_inside line ≡ true
+tame_inside line tame = all_from is_tame is_inside (λ b is. (and_parts (is_inside b) (not (eqb b 35) && not (eqb b 92)) is).0) line tame
+
 -- A text is cut after the first LF.
-piece_then : (line rest : List ℕ) → list_all is_tame line ≡ true → pieces (line ++ 10 ∷ rest) ≡ (line ++ 10 ∷ []) ∷ pieces rest
-piece_then [] rest tame = refl
-piece_then (b ∷ bs) rest tame =
-    let parts : (is_tame b ≡ true) × (list_all is_tame bs ≡ true) = and_parts _ _ tame in
-    let other : eqb b 10 ≡ false = not-true _ (and_parts _ _ (and_parts _ _ parts.0).0).0 in
+piece_then : (line rest : List ℕ) → list_all is_inside line ≡ true → pieces (line ++ 10 ∷ rest) ≡ (line ++ 10 ∷ []) ∷ pieces rest
+piece_then [] rest inside = refl
+piece_then (b ∷ bs) rest inside =
+    let parts : (is_inside b ≡ true) × (list_all is_inside bs ≡ true) = and_parts _ _ inside in
+    let other : eqb b 10 ≡ false = not-true _ (and_parts (not (eqb b 10)) (not (eqb b 13)) parts.0).0 in
     rw (other, piece_then bs rest parts.1) refl
 
 -- A line with its LF, without it.
-bare_line : (line : List ℕ) → list_all is_tame line ≡ true → line_of (line ++ 10 ∷ []) ≡ line
-bare_line line tame =
+bare_line : (line : List ℕ) → list_all is_inside line ≡ true → line_of (line ++ 10 ∷ []) ≡ line
+bare_line line inside =
     let long : length (line ++ 10 ∷ []) - 1 ≡ length line = omega (arith, length-append line (10 ∷ [])) in
     let last : get_or (line ++ 10 ∷ []) (length line) 0 ≡ 10 = get_or_at line 10 [] 0 (length line) refl in
     let front : take (length line) (line ++ 10 ∷ []) ≡ line = take_at line (10 ∷ []) (length line) refl in
     let cut : without_last 10 (line ++ 10 ∷ []) ≡ line = rw (long, last) front in
-    ap (without_last 13) cut ∙ no_return line tame
+    ap (without_last 13) cut ∙ no_return line inside
   where
-    no_return : (line : List ℕ) → list_all is_tame line ≡ true → without_last 13 line ≡ line
-    no_return [] tame = refl
-    no_return (b ∷ bs) tame =
-        let there : is_tame (get_or (b ∷ bs) (length (b ∷ bs) - 1) 0) ≡ true = passes_at is_tame (b ∷ bs) (length (b ∷ bs) - 1) 0 tame (omega arith) in
-        let other : eqb (get_or (b ∷ bs) (length (b ∷ bs) - 1) 0) 13 ≡ false = not-true _ (and_parts _ _ (and_parts _ _ there).0).1 in
+    no_return : (line : List ℕ) → list_all is_inside line ≡ true → without_last 13 line ≡ line
+    no_return [] inside = refl
+    no_return (b ∷ bs) inside =
+        let there : is_inside (get_or (b ∷ bs) (length (b ∷ bs) - 1) 0) ≡ true = passes_at is_inside (b ∷ bs) (length (b ∷ bs) - 1) 0 inside (omega arith) in
+        let other : eqb (get_or (b ∷ bs) (length (b ∷ bs) - 1) 0) 13 ≡ false = not-true _ (and_parts (not (eqb (get_or (b ∷ bs) (length (b ∷ bs) - 1) 0) 10)) _ there).1 in
         rw other refl
+
+-- The lines of a text whose lines have no byte that ends one.
+pub lines_back : (ls : Lines) → ((k : ℕ) → k < length ls → list_all is_inside (get_or ls k []) ≡ true) → lines_of (flat_map (λ l. l ++ 10 ∷ []) ls) ≡ ls
+lines_back [] each = refl
+lines_back (l ∷ ls) each =
+    let first : list_all is_inside l ≡ true = each 0 (omega arith) in
+    ap (map line_of) (ap pieces (append_assoc l (10 ∷ []) (flat_map (λ l. l ++ 10 ∷ []) ls)) ∙ piece_then l (flat_map (λ l. l ++ 10 ∷ []) ls) first)
+    ∙ rw (bare_line l first, lines_back ls (λ k m. each (suc k) (omega arith))) refl
 
 -- The lines of a text of tame lines.
 pub lines_split : (ls : Lines) → ((k : ℕ) → k < length ls → IsLine (get_or ls k [])) → lines_of (flat_map (λ l. l ++ 10 ∷ []) ls) ≡ ls
-lines_split [] each = refl
-lines_split (l ∷ ls) each =
-    let first : IsLine l = each 0 (omega arith) in
-    ap (map line_of) (ap pieces (append_assoc l (10 ∷ []) (flat_map (λ l. l ++ 10 ∷ []) ls)) ∙ piece_then l (flat_map (λ l. l ++ 10 ∷ []) ls) first.tame)
-    ∙ rw (bare_line l first.tame, lines_split ls (λ k m. each (suc k) (omega arith))) refl
+lines_split ls each = lines_back ls (λ k l. tame_inside (get_or ls k []) (each k l).tame)
 
 -- Each of them is a logical line.
 abbrev pub plain_lines : ℕ → Lines → List Logical

@@ -2,10 +2,10 @@ mod CornerLemmas
 pub mod Groups
 mod InputLemmas
 mod JoinLemmas
-mod LawSoup
-mod LawText
+pub mod LawSoup
+pub mod LawText
 mod LineLemmas
-mod ListLemmas
+pub mod ListLemmas
 mod ReadLemmas
 mod SoupLemmas
 mod SuitLemmas

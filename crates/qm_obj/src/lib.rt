@@ -24,6 +24,7 @@ pub use piece::Logical;
 pub use read::read_obj;
 pub use soup::read_soup;
 pub use text::obj_text;
+pub use used::soup_of;
 
 /// Want of memory.
 pub type Memory = std::alloc::AllocError;

@@ -7,7 +7,7 @@ ghost use Rattle.qm_obj.specs.Kept.{first_late, IsLate};
 ghost use Rattle.qm_obj.specs.Lines.{next_said, Took, uncommented};
 
 use crate::line::read_line;
-use crate::used::{drop_unused, late_line};
+use crate::used::{late_line, soup_of};
 use def_text::{MAX_FACES, MAX_VERTICES, Micro, ObjFail, Reading, Soup};
 use std::alloc::Global;
 
@@ -83,19 +83,15 @@ impl Reader {
             (first_late (length self.positions.items) self.faces.items self.lines.items)) }
     {
         let Reader {
-            mut positions,
-            mut faces,
+            positions,
+            faces,
             lines,
         } = self;
         if let Some(line) = late_line(positions.len() as u32, &faces, &lines) {
             return Err(ObjFail::Range { line });
         }
-        match drop_unused(alloc, &mut positions, &mut faces) {
-            Ok(names) => Ok(Soup {
-                pos: positions,
-                faces,
-                names,
-            }),
+        match soup_of(alloc, positions, faces) {
+            Ok(soup) => Ok(soup),
             Err(_) => Err(ObjFail::Memory),
         }
     }

@@ -7,6 +7,7 @@ ghost use Rattle.std.specs.Prelude.{
   ◌-◌,
   ◌^◌,
   ◌||◌,
+  ◌&&◌,
   ◌==◌,
   ◌++◌,
   ◌∷◌,
@@ -16,6 +17,7 @@ ghost use Rattle.std.specs.Prelude.{
   suc,
   false,
   nat_lt,
+  nat_le,
   length,
   map,
   slice_index,
@@ -30,7 +32,7 @@ ghost use Rattle.def_text.specs.Text.{face_set, position_of};
 ghost use Rattle.qm_obj.specs.Kept.{are_numbers, chosen, first_late, IsCounted, IsMarked};
 
 use crate::Memory;
-use def_text::Micro;
+use def_text::{MAX_VERTICES, Micro, Soup};
 use std::alloc::Global;
 
 /// The line of the first face that names a `v` line above the last.
@@ -52,9 +54,26 @@ fn is_late(vertices: u32, face: &[u32; 4]) -> bool
     face.iter().any(|corner| vertices < *corner)
 }
 
+/// The soup of positions and of faces over their numbers from 1. Positions that no face names are dropped, and the
+/// names of the others are their numbers. Linear.
+pub fn soup_of(
+    alloc: Global,
+    positions: Vec<[Micro; 3]>,
+    faces: Vec<[u32; 4]>,
+) -> Result<Soup, Memory>
+    requires few { length positions.items ≤ MAX_VERTICES }
+    requires known { IsTrue (list_all (list_all (λ corner. nat_lt 0 corner && nat_le corner (length positions.items))) faces.items) }
+    ensures { IfOk result (λ soup. soup ≡ face_set positions.items faces.items) }
+{
+    let mut pos = positions;
+    let mut faces = faces;
+    let names = drop_unused(alloc, &mut pos, &mut faces)?;
+    Ok(Soup { pos, faces, names })
+}
+
 /// Drops the positions that no face names, numbers the corners from 0 among those that are left, and answers the
 /// numbers in the file of these, from 1. Linear.
-pub(crate) fn drop_unused(
+fn drop_unused(
     alloc: Global,
     positions: &mut Vec<[Micro; 3]>,
     faces: &mut Vec<[u32; 4]>,
