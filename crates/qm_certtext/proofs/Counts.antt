@@ -155,7 +155,7 @@ pub place_of_space : (text : Word) (z : ℤ) (up : ℕ) → unsigned_abs z < 10 
 place_of_space text z up low is =
     ap (position_or_len (λ b. eqb b 32)) is ∙ first_at (λ b. eqb b 32) (signed_text z) 32 (decimal up) (signed_bare z low) refl
 
-small_parts : (z : ℤ) (up : ℕ) → is_small z up ≡ true → (unsigned_abs z < 10 ^ 18) × (up < 2 ^ 32)
+pub small_parts : (z : ℤ) (up : ℕ) → is_small z up ≡ true → (unsigned_abs z < 10 ^ 18) × (up < 2 ^ 32)
 small_parts z up is =
     let parts = and_parts (ltb (unsigned_abs z) (10 ^ 18)) (ltb up (2 ^ 32)) is in
     (ltb-true _ _ parts.0, ltb-true _ _ parts.1)
@@ -201,3 +201,20 @@ module _ (text front behind : Word) (i : ℕ) (place : i ≡ position_or_len (λ
 pub some_behind : (behind : Word) → false ≡ eqb (length behind) 0 → 0 < length behind
 some_behind [] is = absurd (false≢true is)
 some_behind (x ∷ xs) is = omega arith
+
+-- A text is one number and one `up`, and a number has one text.
+pub split_once : (text : Word) (y z : ℤ) (u v : ℕ) → unsigned_abs y < 10 ^ 18 → unsigned_abs z < 10 ^ 18 → text ≡ signed_text y ++ 32 ∷ decimal u
+    → text ≡ signed_text z ++ 32 ∷ decimal v → (signed_text y ≡ signed_text z) × (decimal u ≡ decimal v)
+split_once text y z u v low_y low_z one two =
+    let first = parts_are text (take (length (signed_text y)) text) (drop (length (signed_text y)) text) (length (signed_text y)) (sym (place_of_space text y u low_y one)) refl refl in
+    let by_y = first y u low_y one in
+    let by_z = first z v low_z two in
+    (sym by_y.0 ∙ by_z.0, ap (drop 1) (sym by_y.1 ∙ by_z.1))
+
+pub signed_once : (y z : ℤ) → unsigned_abs y < 10 ^ 18 → unsigned_abs z < 10 ^ 18 → signed_text y ≡ signed_text z → y ≡ z
+signed_once (pos m) (pos n) low_m low_n same = ap pos (decimal_once m n (omega arith) (omega arith) (sym (signed_pos m) ∙ same ∙ signed_pos n))
+signed_once (pos m) (negsuc n) low_m low_n same = absurd (no_minus m (decimal (suc n)) (omega arith) (sym same ∙ signed_pos m))
+signed_once (negsuc m) (pos n) low_m low_n same = absurd (no_minus n (decimal (suc m)) (omega arith) (same ∙ signed_pos n))
+signed_once (negsuc m) (negsuc n) low_m low_n same =
+    let equal : suc m ≡ suc n = decimal_once (suc m) (suc n) (omega arith) (omega arith) (ap (drop 1) same) in
+    ap negsuc (omega arith)

@@ -10,7 +10,7 @@ use Rattle.def_text.specs.Types.{Word}
 use Rattle.qm_certtext.proofs.Unique.{decimal_once}
 
 -- The letter of a line, and what stands behind it.
-letter_is : (a b : ℕ) (rest more : Word) → 35 ∷ a ∷ rest ≡ 35 ∷ b ∷ more → a ≡ b
+pub letter_is : (a b : ℕ) (rest more : Word) → 35 ∷ a ∷ rest ≡ 35 ∷ b ∷ more → a ≡ b
 letter_is a b rest more same = ap (λ (w : Word). get_or w 1 0) same
 
 pub not_length : (auto : Bool) (rest : Word) → ((n : ℕ) → n ≤ 10 ^ 12 → rest ≡ decimal n → ⊥) → (said : CertLine) → Says auto (35 ∷ 120 ∷ 32 ∷ rest) said → ⊥

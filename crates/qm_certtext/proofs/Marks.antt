@@ -13,7 +13,7 @@ use Rattle.def_certtext.specs.declared.CertFail.TheVariants.{Head, Line, Memory}
 use Rattle.qm_certtext.specs.Parts.{IsBehindFail, IsLineFail, ReadSome, TakesLine, TakesText}
 use Rattle.qm_certtext.specs.declared.parts.Found.{Found}
 
-filter_append : {X : Type 0} (p : X → Bool) (xs ys : List X) → filter p (xs ++ ys) ≡ filter p xs ++ filter p ys
+pub filter_append : {X : Type 0} (p : X → Bool) (xs ys : List X) → filter p (xs ++ ys) ≡ filter p xs ++ filter p ys
 filter_append p [] ys = refl
 filter_append p (x ∷ xs) ys = by_test (p x) (filter_append p xs ys)
   where

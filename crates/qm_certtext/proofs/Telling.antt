@@ -1,0 +1,197 @@
+-- The lines of a certificate are read back, each in one way.
+use Rattle.std.proofs.Common.{◌≡◌, ◌⊎◌, ◌≤◌, ◌<◌, ◌+◌, ◌-◌, ◌^◌, ◌&&◌, ◌||◌, not, ℕ, zero, suc, ℤ, pos, negsuc, Bool, true, false, List, [], ◌∷◌, ◌++◌, Option, Some, None, length, take, drop, get_or, map, filter, cond, eqb, ltb, leb, inl, inr, refl, ap, ap₂, sym, ◌∙◌, subst, arith, append-nil, append_assoc, take-append-drop, length-append}
+use Rattle.std.specs.Prelude.{decimal, unsigned_abs}
+use Rattle.std.specs.List.{after_first, before_first, flat_map, list_all, list_any}
+use Rattle.std.proofs.lemmas.Bool.{and_from, and_parts, eqb-true, false≢true, leb-true, ltb-true, or_cases, or_from}
+use Rattle.std.proofs.lemmas.List.{length-drop, length-take-le, length-map}
+use Rattle.std.proofs.lemmas.List.Concat.{flat_map-append}
+use Rattle.std.proofs.lemmas.List.Folds.{list_all-append}
+use Rattle.def_certtext.specs.CertLines.{line_text, numbered, said_by, signed_text, HasUps, Lists}
+use Rattle.def_certtext.specs.Laws.{chosen, chosen_lines, IsWritable}
+use Rattle.def_certtext.specs.Reading.{cert_in, first_in, is_marked, is_small, is_third, length_in, lists_in, may_stand, set_in, set_up_in, vertex_in, vertex_up_in}
+use Rattle.def_certtext.specs.declared.CertLine.{CertLine}
+use Rattle.def_certtext.specs.declared.CertLine.TheVariants.{Length, Vertex, Set, Floor}
+use Rattle.def_flow.specs.declared.net.Settings.{Settings}
+use Rattle.def_text.specs.Types.{Word}
+use Rattle.qm_certtext.proofs.Counts.{signed_once, small_parts, split_once}
+use Rattle.qm_certtext.proofs.Holding.{after_first_one, any_append, before_first_one}
+use Rattle.qm_certtext.proofs.Letters.{letter_is}
+use Rattle.qm_certtext.proofs.Unique.{decimal_once}
+
+-- The same number and the same `up` behind a letter.
+same_dual : (rest : Word) (y z : ℤ) (u v : ℕ) → is_small y u ≡ true → is_small z v ≡ true → rest ≡ signed_text y ++ 32 ∷ decimal u → rest ≡ signed_text z ++ 32 ∷ decimal v
+    → (y ≡ z) × (u ≡ v)
+same_dual rest y z u v small_y small_z one two =
+    let first = small_parts y u small_y in
+    let second = small_parts z v small_z in
+    let both = split_once rest y z u v first.0 second.0 one two in
+    (signed_once y z first.0 second.0 both.0, decimal_once u v (omega (arith, first.1)) (omega (arith, second.1)) both.1)
+
+pub floor_low : (auto : Bool) (floor : ℕ) → may_stand auto (Floor floor) ≡ true → floor ≤ 3
+floor_low auto floor may = by_test (or_cases (eqb floor 1) (eqb floor 3) (and_parts auto (eqb floor 1 || eqb floor 3) may).1)
+  where
+    by_test : (eqb floor 1 ≡ true) ⊎ (eqb floor 3 ≡ true) → floor ≤ 3
+    by_test (inl one) = omega (arith, eqb-true floor 1 one)
+    by_test (inr three) = omega (arith, eqb-true floor 3 three)
+
+-- A text is one line.
+pub one_line : (auto : Bool) (a b : CertLine) → may_stand auto a ≡ true → may_stand auto b ≡ true → line_text a ≡ line_text b → a ≡ b
+one_line auto (Length m) (Length n) p q same =
+    ap (λ (k : ℕ). Length k) (decimal_once m n (omega (arith, leb-true m (10 ^ 12) p)) (omega (arith, leb-true n (10 ^ 12) q)) (ap (drop 3) same))
+one_line auto (Vertex y u) (Vertex z v) p q same =
+    let both = same_dual (signed_text y ++ 32 ∷ decimal u) y z u v p q refl (ap (drop 3) same) in
+    λ i. Vertex (both.0 i) (both.1 i)
+one_line auto (Set y u) (Set z v) p q same =
+    let both = same_dual (signed_text y ++ 32 ∷ decimal u) y z u v p q refl (ap (drop 3) same) in
+    λ i. Set (both.0 i) (both.1 i)
+one_line auto (Floor f) (Floor g) p q same =
+    ap (λ (k : ℕ). Floor k) (decimal_once f g (omega (arith, floor_low auto f p)) (omega (arith, floor_low auto g q)) (ap (drop 3) same))
+one_line auto (Length m) (Vertex z v) p q same = absurd (omega (arith, letter_is 120 121 _ _ same))
+one_line auto (Length m) (Set z v) p q same = absurd (omega (arith, letter_is 120 115 _ _ same))
+one_line auto (Length m) (Floor g) p q same = absurd (omega (arith, letter_is 120 102 _ _ same))
+one_line auto (Vertex y u) (Length n) p q same = absurd (omega (arith, letter_is 121 120 _ _ same))
+one_line auto (Vertex y u) (Set z v) p q same = absurd (omega (arith, letter_is 121 115 _ _ same))
+one_line auto (Vertex y u) (Floor g) p q same = absurd (omega (arith, letter_is 121 102 _ _ same))
+one_line auto (Set y u) (Length n) p q same = absurd (omega (arith, letter_is 115 120 _ _ same))
+one_line auto (Set y u) (Vertex z v) p q same = absurd (omega (arith, letter_is 115 121 _ _ same))
+one_line auto (Set y u) (Floor g) p q same = absurd (omega (arith, letter_is 115 102 _ _ same))
+one_line auto (Floor f) (Length n) p q same = absurd (omega (arith, letter_is 102 120 _ _ same))
+one_line auto (Floor f) (Vertex z v) p q same = absurd (omega (arith, letter_is 102 121 _ _ same))
+one_line auto (Floor f) (Set z v) p q same = absurd (omega (arith, letter_is 102 115 _ _ same))
+
+-- Texts are one list of lines.
+pub one_list : (auto : Bool) (said other : List CertLine) → list_all (may_stand auto) said ≡ true → list_all (may_stand auto) other ≡ true
+    → map line_text said ≡ map line_text other → said ≡ other
+one_list auto [] [] p q same = refl
+one_list auto [] (b ∷ other) p q same = absurd cc
+one_list auto (a ∷ said) [] p q same = absurd cc
+one_list auto (a ∷ said) (b ∷ other) p q same =
+    let first : line_text a ≡ line_text b = cc in
+    let rest : map line_text said ≡ map line_text other = cc in
+    let pa = and_parts (may_stand auto a) (list_all (may_stand auto) said) p in
+    let qb = and_parts (may_stand auto b) (list_all (may_stand auto) other) q in
+    let head : a ≡ b = one_line auto a b pa.0 qb.0 first in
+    let tail : said ≡ other = one_list auto said other pa.1 qb.1 rest in
+    λ i. head i ∷ tail i
+
+-- Each line is marked.
+pub all_marked : (said : List CertLine) → filter is_marked (map line_text said) ≡ map line_text said
+all_marked [] = refl
+all_marked (Length n ∷ said) = ap (λ (ls : List Word). line_text (Length n) ∷ ls) (all_marked said)
+all_marked (Vertex z u ∷ said) = ap (λ (ls : List Word). line_text (Vertex z u) ∷ ls) (all_marked said)
+all_marked (Set z u ∷ said) = ap (λ (ls : List Word). line_text (Set z u) ∷ ls) (all_marked said)
+all_marked (Floor f ∷ said) = ap (λ (ls : List Word). line_text (Floor f) ∷ ls) (all_marked said)
+
+-- The lists of the lines of lists.
+module _ {Y : Type 0} where
+  lengths_none : (f : CertLine → List Y) → ((n : ℕ) → f (Length n) ≡ []) → (xs : List ℕ) → flat_map f (map Length xs) ≡ []
+  lengths_none f none [] = refl
+  lengths_none f none (x ∷ xs) = rw (none x) (lengths_none f none xs)
+
+  numbered_none : (f : CertLine → List Y) (kind : ℤ → ℕ → CertLine) → ((z : ℤ) (u : ℕ) → f (kind z u) ≡ []) → (zs : List ℤ) (us : List ℕ) → flat_map f (numbered kind zs us) ≡ []
+  numbered_none f kind none [] us = refl
+  numbered_none f kind none (z ∷ zs) [] = refl
+  numbered_none f kind none (z ∷ zs) (u ∷ us) = rw (none z u) (numbered_none f kind none zs us)
+
+lengths_all : (xs : List ℕ) → flat_map length_in (map Length xs) ≡ xs
+lengths_all [] = refl
+lengths_all (x ∷ xs) = ap (λ (ys : List ℕ). x ∷ ys) (lengths_all xs)
+
+numbers_all : (f : CertLine → List ℤ) (kind : ℤ → ℕ → CertLine) → ((z : ℤ) (u : ℕ) → f (kind z u) ≡ z ∷ []) → (zs : List ℤ) (us : List ℕ) → length us ≡ length zs
+    → flat_map f (numbered kind zs us) ≡ zs
+numbers_all f kind one [] us long = refl
+numbers_all f kind one (z ∷ zs) [] long = absurd (omega arith)
+numbers_all f kind one (z ∷ zs) (u ∷ us) long = rw (one z u) (ap (λ (ys : List ℤ). z ∷ ys) (numbers_all f kind one zs us (omega arith)))
+
+ups_all : (f : CertLine → List ℕ) (kind : ℤ → ℕ → CertLine) → ((z : ℤ) (u : ℕ) → f (kind z u) ≡ u ∷ []) → (zs : List ℤ) (us : List ℕ) → length us ≡ length zs
+    → flat_map f (numbered kind zs us) ≡ us
+ups_all f kind one [] [] long = refl
+ups_all f kind one [] (u ∷ us) long = absurd (omega arith)
+ups_all f kind one (z ∷ zs) [] long = absurd (omega arith)
+ups_all f kind one (z ∷ zs) (u ∷ us) long = rw (one z u) (ap (λ (ys : List ℕ). u ∷ ys) (ups_all f kind one zs us (omega arith)))
+
+three : {Y : Type 0} (f : CertLine → List Y) (a b c : List CertLine) → flat_map f (a ++ b ++ c) ≡ flat_map f a ++ flat_map f b ++ flat_map f c
+three f a b c = flat_map-append f (a ++ b) c ∙ ap (λ (ys : List _). ys ++ flat_map f c) (flat_map-append f a b)
+
+pub lists_back : (lists : Lists) → HasUps lists → lists_in (said_by lists) ≡ lists
+lists_back lists ups =
+    let front : length (take (length lists.y) lists.up) ≡ length lists.y = length-take-le (length lists.y) lists.up (omega (arith, ups)) in
+    let back : length (drop (length lists.y) lists.up) ≡ length lists.z = omega (arith, length-drop (length lists.y) lists.up, ups) in
+    let a = map Length lists.x in
+    let b = numbered Vertex lists.y (take (length lists.y) lists.up) in
+    let c = numbered Set lists.z (drop (length lists.y) lists.up) in
+    let x : flat_map length_in (said_by lists) ≡ lists.x =
+    three length_in a b c
+    ∙ ap₂ ◌++◌ (ap₂ ◌++◌ (lengths_all lists.x) (numbered_none length_in Vertex (λ z u. refl) lists.y _)) (numbered_none length_in Set (λ z u. refl) lists.z _)
+    ∙ append-nil _ ∙ append-nil lists.x in
+    let y : flat_map vertex_in (said_by lists) ≡ lists.y =
+    three vertex_in a b c
+    ∙ ap₂ ◌++◌ (ap₂ ◌++◌ (lengths_none vertex_in (λ n. refl) lists.x) (numbers_all vertex_in Vertex (λ z u. refl) lists.y _ front)) (numbered_none vertex_in Set (λ z u. refl) lists.z _)
+    ∙ append-nil lists.y in
+    let z : flat_map set_in (said_by lists) ≡ lists.z =
+    three set_in a b c
+    ∙ ap₂ ◌++◌ (ap₂ ◌++◌ (lengths_none set_in (λ n. refl) lists.x) (numbered_none set_in Vertex (λ z u. refl) lists.y _)) (numbers_all set_in Set (λ z u. refl) lists.z _ back) in
+    let u : flat_map vertex_up_in (said_by lists) ≡ take (length lists.y) lists.up =
+    three vertex_up_in a b c
+    ∙ ap₂ ◌++◌ (ap₂ ◌++◌ (lengths_none vertex_up_in (λ n. refl) lists.x) (ups_all vertex_up_in Vertex (λ z u. refl) lists.y _ front)) (numbered_none vertex_up_in Set (λ z u. refl) lists.z _)
+    ∙ append-nil _ in
+    let v : flat_map set_up_in (said_by lists) ≡ drop (length lists.y) lists.up =
+    three set_up_in a b c
+    ∙ ap₂ ◌++◌ (ap₂ ◌++◌ (lengths_none set_up_in (λ n. refl) lists.x) (numbered_none set_up_in Vertex (λ z u. refl) lists.y _)) (ups_all set_up_in Set (λ z u. refl) lists.z _ back) in
+    let up : flat_map vertex_up_in (said_by lists) ++ flat_map set_up_in (said_by lists) ≡ lists.up = ap₂ ◌++◌ u v ∙ take-append-drop (length lists.y) lists.up in
+    λ i. record { x = x i; y = y i; z = z i; up = up i }
+
+-- None of the lines of a certificate names a floor.
+no_third_lengths : (xs : List ℕ) → list_any is_third (map Length xs) ≡ false
+no_third_lengths [] = refl
+no_third_lengths (x ∷ xs) = no_third_lengths xs
+
+no_third_numbered : (kind : ℤ → ℕ → CertLine) → ((z : ℤ) (u : ℕ) → is_third (kind z u) ≡ false) → (zs : List ℤ) (us : List ℕ) → list_any is_third (numbered kind zs us) ≡ false
+no_third_numbered kind none [] us = refl
+no_third_numbered kind none (z ∷ zs) [] = refl
+no_third_numbered kind none (z ∷ zs) (u ∷ us) = rw (none z u) (no_third_numbered kind none zs us)
+
+pub no_third : (lists : Lists) → list_any is_third (said_by lists) ≡ false
+no_third lists =
+    let a = map Length lists.x in
+    let b = numbered Vertex lists.y (take (length lists.y) lists.up) in
+    let c = numbered Set lists.z (drop (length lists.y) lists.up) in
+    any_append is_third (a ++ b) c
+    ∙ or_from _ _ (any_append is_third a b ∙ or_from _ _ (no_third_lengths lists.x) (no_third_numbered Vertex (λ z u. refl) lists.y _)) (no_third_numbered Set (λ z u. refl) lists.z _)
+
+-- The certificates of the lines of one, and of two.
+pub one_cert : (lists : Lists) → IsWritable lists → (first_in (said_by lists) ≡ None) × (cert_in (said_by lists) ≡ lists)
+one_cert lists able = (rw (no_third lists) refl, rw (no_third lists) (lists_back lists able.ups))
+
+pub chosen_certs : (settings : Settings) (first : Lists) (third : Option Lists) → IsWritable first → ((lists : Lists) → third ≡ Some lists → IsWritable lists)
+    → ((chosen settings first third).first ≡ first_in (chosen_lines first third)) × ((chosen settings first third).cert ≡ cert_in (chosen_lines first third))
+chosen_certs settings first None able ables =
+    (sym (rw (no_third first) refl), sym (rw (no_third first) (lists_back first able.ups)))
+chosen_certs settings first (Some third) able ables =
+    let front : List CertLine = Floor 1 ∷ said_by first in
+    let some : list_any is_third (front ++ Floor 3 ∷ said_by third) ≡ true = any_append is_third front (Floor 3 ∷ said_by third) ∙ rw (no_third first) refl in
+    let before : before_first is_third (front ++ Floor 3 ∷ said_by third) ≡ front = before_first_one is_third front (Floor 3) (said_by third) (no_third first) refl in
+    let after : after_first is_third (front ++ Floor 3 ∷ said_by third) ≡ said_by third = after_first_one is_third front (Floor 3) (said_by third) (no_third first) refl in (
+      sym (rw some (ap (λ (ls : List CertLine). Some (lists_in ls)) before ∙ ap (λ (l : Lists). Some l) (lists_back first able.ups))),
+      sym (rw some (ap lists_in after ∙ lists_back third (ables third refl).ups)),
+    )
+
+-- What may stand without `auto` may stand with it.
+may_more : (line : CertLine) → may_stand false line ≡ true → may_stand true line ≡ true
+may_more (Length n) may = may
+may_more (Vertex z u) may = may
+may_more (Set z u) may = may
+may_more (Floor f) may = absurd (false≢true may)
+
+all_more : (said : List CertLine) → list_all (may_stand false) said ≡ true → list_all (may_stand true) said ≡ true
+all_more [] all = refl
+all_more (line ∷ said) all =
+    let parts = and_parts (may_stand false line) (list_all (may_stand false) said) all in
+    and_from _ _ (may_more line parts.0) (all_more said parts.1)
+
+pub chosen_allowed : (first : Lists) (third : Option Lists) → IsWritable first → ((lists : Lists) → third ≡ Some lists → IsWritable lists)
+    → list_all (may_stand true) (chosen_lines first third) ≡ true
+chosen_allowed first None able ables = all_more (said_by first) able.allowed
+chosen_allowed first (Some third) able ables =
+    list_all-append (may_stand true) (Floor 1 ∷ said_by first) (Floor 3 ∷ said_by third)
+    ∙ and_from _ _ (all_more (said_by first) able.allowed) (all_more (said_by third) (ables third refl).allowed)

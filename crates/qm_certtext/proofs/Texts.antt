@@ -1,0 +1,197 @@
+-- The lines of a written text, and what they tell.
+use Rattle.std.proofs.Common.{◌≡◌, ◌↔◌, ◌⊎◌, ◌≤◌, ◌<◌, ◌+◌, ◌-◌, ◌^◌, ◌&&◌, ◌||◌, not, ℕ, zero, suc, ℤ, pos, negsuc, Bool, true, false, List, [], ◌∷◌, ◌++◌, Option, Some, None, codes, length, drop, get_or, slice_index_or, map, filter, cond, eqb, ltb, leb, inl, inr, refl, ap, ap₂, sym, ◌∙◌, subst, arith, append-nil, append_assoc}
+use Rattle.std.specs.Prelude.{decimal, unsigned_abs}
+use Rattle.std.specs.Char.{is_ascii_digit}
+use Rattle.std.specs.List.{flat_map, list_all, list_any}
+use Rattle.std.proofs.lemmas.Bool.{and_from, and_parts, eqb-true, leb-true, ltb-true}
+use Rattle.std.proofs.lemmas.List.{length-map}
+use Rattle.std.proofs.lemmas.List.Concat.{flat_map-append}
+use Rattle.std.proofs.lemmas.List.Folds.{flat_map-map, list_all-append}
+use Rattle.def_io.specs.Bytes.{Bytes, Lines}
+use Rattle.def_io.specs.Lines.{lines_of}
+use Rattle.def_mesh.specs.Vertices.{names_below}
+use Rattle.def_text.specs.Canonical.{canonical_text, micro_text}
+use Rattle.def_text.specs.FaceSet.{FaceSet}
+use Rattle.def_text.specs.Laws.{is_position, is_quad}
+use Rattle.def_text.specs.Types.{Word}
+use Rattle.def_flow.specs.declared.net.Settings.{Settings}
+use Rattle.def_flow.specs.declared.net.Weight.{Weight}
+use Rattle.def_flow.specs.declared.net.Weight.TheVariants.{Plain, Length as ByLength}
+use Rattle.def_certtext.specs.CertLines.{line_text, said_by, signed_text, text_of, Lists}
+use Rattle.def_certtext.specs.HeadLine.{head_line}
+use Rattle.def_certtext.specs.Laws.{chosen, chosen_lines, written_text, ChosenLaw, IsPrintable, IsWritable, TellsOnly, WrittenLaw}
+use Rattle.def_certtext.specs.Reading.{cert_in, first_in, is_marked, may_stand, IsHead, Made, TellHow}
+use Rattle.def_certtext.specs.Settings.{floor_text, scale_text, weight_text, AreInRange, IsFloor}
+use Rattle.def_certtext.specs.declared.CertLine.{CertLine}
+use Rattle.def_certtext.specs.declared.CertLine.TheVariants.{Length, Vertex, Set, Floor}
+use Rattle.qm_dec.proofs.Texts.{decimal_digits, digit_other}
+use Rattle.qm_obj.proofs.LawSoup.{canonical_lines, each_both, each_map, face_line, position_line, position_line_is, text_lines, vertex_word}
+use Rattle.qm_obj.proofs.LawText.{decimal_word, is_inside, line_tame, lines_back, tame_inside, IsLine, IsWord}
+use Rattle.qm_obj.proofs.ListLemmas.{passes_at}
+use Rattle.qm_certtext.proofs.Counts.{signed_pos, small_parts}
+use Rattle.qm_certtext.proofs.Cutting.{head_cut, head_words}
+use Rattle.qm_certtext.proofs.Marks.{filter_append}
+use Rattle.qm_certtext.proofs.Telling.{all_marked, chosen_allowed, chosen_certs, floor_low, one_cert, one_list}
+use Rattle.qm_certtext.proofs.Unique.{same_settings}
+
+-- Digits end no line.
+digits_inside : (digits : Word) → list_all is_ascii_digit digits ≡ true → list_all is_inside digits ≡ true
+digits_inside [] all = refl
+digits_inside (d ∷ ds) all =
+    let parts = and_parts (is_ascii_digit d) (list_all is_ascii_digit ds) all in
+    and_from _ _ (and_from _ _ (ap not (digit_other 10 (omega arith) d parts.0)) (ap not (digit_other 13 (omega arith) d parts.0))) (digits_inside ds parts.1)
+
+number_inside : (n : ℕ) → n < 2 ^ 64 → list_all is_inside (decimal n) ≡ true
+number_inside n low = digits_inside (decimal n) (decimal_digits n low)
+
+both_inside : (a b : Word) → list_all is_inside a ≡ true → list_all is_inside b ≡ true → list_all is_inside (a ++ b) ≡ true
+both_inside a b p q = list_all-append is_inside a b ∙ and_from _ _ p q
+
+signed_inside : (z : ℤ) → unsigned_abs z < 10 ^ 18 → list_all is_inside (signed_text z) ≡ true
+signed_inside (pos n) low = ap (list_all is_inside) (signed_pos n) ∙ number_inside n (omega arith)
+signed_inside (negsuc n) low = number_inside (suc n) (omega arith)
+
+-- A certificate line is one line.
+line_inside : (auto : Bool) (line : CertLine) → may_stand auto line ≡ true → list_all is_inside (line_text line) ≡ true
+line_inside auto (Length n) may = number_inside n (omega (arith, leb-true n (10 ^ 12) may))
+line_inside auto (Vertex z u) may =
+    let parts = small_parts z u may in
+    both_inside (35 ∷ 121 ∷ 32 ∷ signed_text z) (32 ∷ decimal u) (signed_inside z parts.0) (number_inside u (omega (arith, parts.1)))
+line_inside auto (Set z u) may =
+    let parts = small_parts z u may in
+    both_inside (35 ∷ 115 ∷ 32 ∷ signed_text z) (32 ∷ decimal u) (signed_inside z parts.0) (number_inside u (omega (arith, parts.1)))
+line_inside auto (Floor f) may = number_inside f (omega (arith, floor_low auto f may))
+
+lines_inside : (auto : Bool) (said : List CertLine) → list_all (may_stand auto) said ≡ true → (k : ℕ) → k < length (map line_text said)
+    → list_all is_inside (get_or (map line_text said) k []) ≡ true
+lines_inside auto [] all k low = absurd (omega arith)
+lines_inside auto (line ∷ said) all zero low = line_inside auto line (and_parts (may_stand auto line) (list_all (may_stand auto) said) all).0
+lines_inside auto (line ∷ said) all (suc k) low = lines_inside auto said (and_parts (may_stand auto line) (list_all (may_stand auto) said) all).1 k (omega arith)
+
+-- So is the head line.
+floor_inside : (floor : ℕ) (auto : Bool) → IsFloor floor auto → list_all is_inside (floor_text floor auto) ≡ true
+floor_inside floor true may = refl
+floor_inside floor false may = number_inside floor (omega (arith, may.high))
+
+weight_inside : (weight : Weight) → list_all is_inside (weight_text weight) ≡ true
+weight_inside Plain = refl
+weight_inside ByLength = refl
+
+head_inside : (settings : Settings) (auto : Bool) → AreInRange settings auto → list_all is_inside (head_line settings auto) ≡ true
+head_inside settings auto range =
+    let scale : Word = codes "#quadq 1 remesh scale " ++ scale_text settings in
+    let floor : Word = scale ++ codes " floor " ++ floor_text settings.floor auto in
+    let parts : list_all is_inside scale ≡ true =
+    both_inside (codes "#quadq 1 remesh scale ") (scale_text settings) refl
+    (both_inside (decimal settings.p) (47 ∷ decimal settings.q) (number_inside settings.p (omega (arith, range.p_high))) (number_inside settings.q (omega (arith, range.q_high)))) in
+    both_inside (floor ++ codes " weight ") (weight_text settings.weight)
+    (both_inside floor (codes " weight ")
+    (both_inside (scale ++ codes " floor ") (floor_text settings.floor auto) (both_inside scale (codes " floor ") parts refl) (floor_inside settings.floor auto range.floor)) refl)
+    (weight_inside settings.weight)
+
+-- The lines of a mesh.
+face_words_are : (face : List ℕ) → list_all (λ v. ltb v (2 ^ 32)) face ≡ true → (k : ℕ) → k < length (map vertex_word face) → IsWord (get_or (map vertex_word face) k [])
+face_words_are face low = each_map IsWord vertex_word face 0 [] (λ k l.
+    let small : get_or face k 0 < 2 ^ 32 = ltb-true _ _ (passes_at (λ v. ltb v (2 ^ 32)) face k 0 low l) in
+    decimal_word (get_or face k 0 + 1) (omega arith))
+
+face_line_is : (face : List ℕ) → is_quad face ≡ true → list_all (λ v. ltb v (2 ^ 32)) face ≡ true → IsLine (face_line face)
+face_line_is face quad low =
+    let four : length face ≡ 4 = eqb-true _ _ quad in
+    line_tame 102 (map vertex_word face) refl (omega (arith, length-map face vertex_word)) (face_words_are face low)
+
+mesh_inside : (soup : FaceSet) → IsPrintable soup → (k : ℕ) → k < length (canonical_lines soup) → list_all is_inside (get_or (canonical_lines soup) k []) ≡ true
+mesh_inside soup able =
+    each_both (λ l. list_all is_inside l ≡ true) (map position_line soup.pos) (map face_line soup.faces) []
+    (each_map (λ l. list_all is_inside l ≡ true) position_line soup.pos [] [] (λ k l.
+    tame_inside (position_line (get_or soup.pos k [])) (position_line_is (get_or soup.pos k []) (passes_at is_position soup.pos k [] able.positions l)).tame))
+    (each_map (λ l. list_all is_inside l ≡ true) face_line soup.faces [] [] (λ k l.
+    tame_inside (face_line (get_or soup.faces k [])) (face_line_is (get_or soup.faces k []) (passes_at is_quad soup.faces k [] able.quads l)
+    (passes_at (λ face. list_all (λ v. ltb v (2 ^ 32)) face) soup.faces k [] able.corners l)).tame))
+
+no_marks_in : (xs : List (List ℤ)) → filter is_marked (map position_line xs) ≡ []
+no_marks_in [] = refl
+no_marks_in (x ∷ xs) = no_marks_in xs
+
+no_marks_at : (xs : List (List ℕ)) → filter is_marked (map face_line xs) ≡ []
+no_marks_at [] = refl
+no_marks_at (x ∷ xs) = no_marks_at xs
+
+-- All lines of the text.
+abbrev whole : (settings : Settings) (auto : Bool) (soup : FaceSet) (said : List CertLine) → Lines
+whole settings auto soup said = head_line settings auto ∷ canonical_lines soup ++ map line_text said
+
+text_is : (settings : Settings) (auto : Bool) (soup : FaceSet) (said : List CertLine)
+    → written_text settings auto soup said ≡ flat_map (λ l. l ++ 10 ∷ []) (whole settings auto soup said)
+text_is settings auto soup said =
+    let mesh : canonical_text soup ≡ flat_map (λ l. l ++ 10 ∷ []) (canonical_lines soup) = text_lines soup in
+    let cert : text_of said ≡ flat_map (λ l. l ++ 10 ∷ []) (map line_text said) = sym (flat_map-map (λ l. l ++ 10 ∷ []) line_text said) in
+    ap₂ (λ (m c : Word). head_line settings auto ++ 10 ∷ (m ++ c)) mesh cert
+    ∙ ap (λ (t : Word). head_line settings auto ++ 10 ∷ t) (sym (flat_map-append (λ l. l ++ 10 ∷ []) (canonical_lines soup) (map line_text said)))
+    ∙ sym (append_assoc (head_line settings auto) (10 ∷ []) _)
+
+lines_are : (settings : Settings) (auto : Bool) (soup : FaceSet) (said : List CertLine) → AreInRange settings auto → IsPrintable soup → list_all (may_stand auto) said ≡ true
+    → lines_of (written_text settings auto soup said) ≡ whole settings auto soup said
+lines_are settings auto soup said range able allowed =
+    ap lines_of (text_is settings auto soup said)
+    ∙ lines_back (whole settings auto soup said) (by_place)
+  where
+    by_place : (k : ℕ) → k < length (whole settings auto soup said) → list_all is_inside (get_or (whole settings auto soup said) k []) ≡ true
+    by_place zero low = head_inside settings auto range
+    by_place (suc k) low =
+        each_both (λ l. list_all is_inside l ≡ true) (canonical_lines soup) (map line_text said) [] (mesh_inside soup able) (lines_inside auto said allowed) k (omega arith)
+
+-- Those that are marked.
+marked_are : (soup : FaceSet) (said : List CertLine) → filter is_marked (canonical_lines soup ++ map line_text said) ≡ map line_text said
+marked_are soup said =
+    filter_append is_marked (canonical_lines soup) (map line_text said)
+    ∙ ap₂ ◌++◌ (filter_append is_marked (map position_line soup.pos) (map face_line soup.faces) ∙ ap₂ ◌++◌ (no_marks_in soup.pos) (no_marks_at soup.faces)) (all_marked said)
+
+-- One head line is of one settings.
+same_head : (line : Word) (s t : Settings) (a b : Bool) → IsHead line s a → IsHead line t b → (s ≡ t) × (a ≡ b)
+same_head line s t a b one two =
+    let cut = head_cut line s a one in
+    same_settings _ _ _ s t a b (head_words line _ _ _ s a cut one) (head_words line _ _ _ t b cut two)
+
+-- A text tells what it was made of, and nothing else.
+pub tells : (made : Made) (soup : FaceSet) (said : List CertLine) → AreInRange made.settings made.auto → IsPrintable soup → list_all (may_stand made.auto) said ≡ true
+    → made.first ≡ first_in said → made.cert ≡ cert_in said → TellsOnly (written_text made.settings made.auto soup said) made
+tells made soup said range able allowed first cert other =
+    subst (λ (ls : Lines). TellHow (slice_index_or ls 0 []) (drop 1 ls) other ↔ (other ≡ made)) (sym (lines_are made.settings made.auto soup said range able allowed)) (only, is)
+  where
+    head : IsHead (head_line made.settings made.auto) made.settings made.auto
+    head = record { written = refl; in_range = range }
+
+    only : TellHow (head_line made.settings made.auto) (canonical_lines soup ++ map line_text said) other → other ≡ made
+    only tell =
+        let same = same_head (head_line made.settings made.auto) made.settings other.settings made.auto other.auto head tell.settings in
+        let lines : said ≡ tell.said =
+        one_list made.auto said tell.said allowed (subst (λ (b : Bool). list_all (may_stand b) tell.said ≡ true) (sym same.1) tell.allowed)
+        (sym (marked_are soup said) ∙ tell.texts) in
+        let firsts : other.first ≡ made.first = tell.first ∙ ap first_in (sym lines) ∙ sym first in
+        let certs : other.cert ≡ made.cert = tell.cert ∙ ap cert_in (sym lines) ∙ sym cert in
+        λ i. record { settings = sym same.0 i; auto = sym same.1 i; first = firsts i; cert = certs i }
+
+    is : other ≡ made → TellHow (head_line made.settings made.auto) (canonical_lines soup ++ map line_text said) other
+    is same = subst (TellHow (head_line made.settings made.auto) (canonical_lines soup ++ map line_text said)) (sym same) (record {
+      settings = head;
+      said = said;
+      texts = marked_are soup said;
+      allowed = allowed;
+      first = first;
+      cert = cert;
+    })
+
+pub written_law : WrittenLaw
+written_law settings soup cert range able writable =
+    let certs = one_cert cert writable in
+    tells (record { settings = settings; auto = false; first = None; cert = cert }) soup (said_by cert) range able writable.allowed (sym certs.0) (sym certs.1)
+
+pub chosen_law : ChosenLaw
+chosen_law settings soup first third range able writable writables = by_third third (chosen_allowed first third writable writables) (chosen_certs settings first third writable writables)
+  where
+    by_third : (t : Option Lists) → list_all (may_stand true) (chosen_lines first t) ≡ true
+        → ((chosen settings first t).first ≡ first_in (chosen_lines first t)) × ((chosen settings first t).cert ≡ cert_in (chosen_lines first t))
+        → TellsOnly (written_text settings true soup (chosen_lines first t)) (chosen settings first t)
+    by_third None allowed certs = tells (chosen settings first None) soup (chosen_lines first None) range able allowed certs.0 certs.1
+    by_third (Some l) allowed certs = tells (chosen settings first (Some l)) soup (chosen_lines first (Some l)) range able allowed certs.0 certs.1
