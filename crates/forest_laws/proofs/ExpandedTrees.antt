@@ -7,7 +7,7 @@ use Rattle.qm_laws.proofs.Searches.{least_some}
 use Rattle.def_forest.specs.Darts.{Darts, AreDarts, far}
 use Rattle.def_forest.specs.Forests.{Forest, IsTight, IsOutermost}
 use Rattle.def_forest.specs.Opened.{Opening, IsOpening, IsOpened}
-use Rattle.def_forest.specs.Valid.{AreOutermost, IsNested, IsFeasible, IsMate, IsMatched, IsTree, IsInner, IsOuter, IsValid, KeepsOutside}
+use Rattle.def_forest.specs.Valid.{IsMate, IsMatched, IsTree, IsInner, IsOuter, IsValid, KeepsOutside}
 use Rattle.def_forest.specs.declared.kinds.Label.TheVariants.{Outer, Inner, Outside}
 use Rattle.def_forest.specs.Ways.{dart_or}
 use Rattle.forest_laws.proofs.Writes.{some_is}

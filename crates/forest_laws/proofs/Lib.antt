@@ -13,3 +13,6 @@ pub mod Shrinks
 pub mod ShrunkTrees
 pub mod WayLaws
 pub mod Writes
+pub mod Levels
+pub mod Walks
+pub mod Forks

@@ -92,7 +92,7 @@ module _ (n : ℕ) (up rank out : ℕ → ℕ) (climb : IsClimb n up out) (rises
   rank_low v x l w = subst (λ y. rank x ≤ rank y) (comes_out v x l w) (rank_walk x n)
 
   -- Where one stays is the outermost blossom.
-  fixed_top : (v x : ℕ) → v < n → OnWayFrom v x → up x ≡ x → x ≡ out v
+  pub fixed_top : (v x : ℕ) → v < n → OnWayFrom v x → up x ≡ x → x ≡ out v
   fixed_top v x l w e = sym (walk_stays up x n e) ∙ comes_out v x l w
 
   pub goes_on : (v x : ℕ) → OnWayFrom v x → OnWayFrom v (up x)

@@ -1,8 +1,9 @@
 -- The tables of a forest of single vertices are tied, and valid for a graph whose costs the weights stay below.
-use Rattle.std.proofs.Common.{◌≡◌, ◌≢◌, ℕ, zero, suc, ◌+◌, ◌-◌, ◌*◌, ◌/◌, ◌%◌, ◌<◌, ◌≤◌, ◌^◌, Bool, true, false, cond, eqb, ◌||◌, List, length, get_or, replicate, ℤ, pos, ◌+ℤ◌, ◌≤ℤ◌, ◌⊎◌, Option, Some, None, refl, sym, ◌∙◌, ap, subst, inl, inr, arith}
+use Rattle.std.proofs.Common.{count_by, is_some, not, ◌≡◌, ◌≢◌, ℕ, zero, suc, ◌+◌, ◌-◌, ◌*◌, ◌/◌, ◌%◌, ◌<◌, ◌≤◌, ◌^◌, Bool, true, false, cond, eqb, ◌||◌, List, length, get_or, replicate, ℤ, pos, ◌+ℤ◌, ◌≤ℤ◌, ◌⊎◌, Option, Some, None, refl, sym, ◌∙◌, ap, subst, inl, inr, arith}
 use Rattle.std.specs.Prelude.{unsigned_abs}
 use Rattle.std.proofs.lemmas.Int.{ints}
 use Rattle.std.proofs.lemmas.List.{get_or-replicate, length-replicate, get_or_past}
+use Rattle.std.proofs.lemmas.List.Folds.{sum_by-replicate}
 use Rattle.std.proofs.lemmas.Bool.{cases_eq, cases_lt, cond-true, cond-false, eq-eqb, ne_eqb, eqb-true}
 use Rattle.qm_laws.proofs.Sums.{total_below_one}
 use Rattle.def_matching.specs.Matching.{Graph, IsGraph, edge_at}
@@ -40,7 +41,7 @@ or_same true = refl
 or_same false = refl
 
 -- Where each is around itself, one climbs past oneself alone.
-climbs_self : (up : ℕ → ℕ) (k b v : ℕ) → up v ≡ v → climbs up k b v ≡ eqb v b
+pub climbs_self : (up : ℕ → ℕ) (k b v : ℕ) → up v ≡ v → climbs up k b v ≡ eqb v b
 climbs_self up zero b v e = refl
 climbs_self up (suc k) b v e = ap (λ (x : ℕ). eqb v b || climbs up k b x) e ∙ (ap (λ (x : Bool). eqb v b || x) (climbs_self up k b v e) ∙ or_same (eqb v b))
 
@@ -104,13 +105,6 @@ module _ (n size : ℕ) (lows : List ℤ) (t : ForestTables) (hid : HiddenTables
   rank_is : (x : ℕ) → x < n → get_or t.rank x 0 ≡ 1
   rank_is x l = ap (λ xs. get_or xs x 0) fresh.rank ∙ get_or-replicate size x 1 0 (omega (arith, vertices))
 
-  rank_low : (x : ℕ) → get_or t.rank x 0 ≤ 1
-  rank_low x = by_size (cases_lt x size)
-    where
-      by_size : (x < size) ⊎ (size ≤ x) → get_or t.rank x 0 ≤ 1
-      by_size (inl l) = (let e : get_or t.rank x 0 ≡ 1 = ap (λ xs. get_or xs x 0) fresh.rank ∙ get_or-replicate size x 1 0 l in omega (arith, e))
-      by_size (inr h) = (let e : get_or t.rank x 0 ≡ 0 = get_or_past t.rank x 0 (subst (λ m. m ≤ x) (sym (ap length fresh.rank ∙ length-replicate size 1)) h) in omega (arith, e))
-
   listed_self : (x : ℕ) → x < n → IsListed n (λ k. get_or hid.following k 0) (get_or hid.first x 0) (get_or hid.last x 0) (get_or t.rank x 0) (climbs (up_at t.up) n x)
   listed_self x l =
       subst (λ k. IsListed n (λ k. get_or hid.following k 0) (get_or hid.first x 0) (get_or hid.last x 0) k (climbs (up_at t.up) n x)) (sym (rank_is x l))
@@ -166,12 +160,14 @@ module _ (n size : ℕ) (lows : List ℤ) (t : ForestTables) (hid : HiddenTables
     ended = λ v l. (let e : get_or hid.last (out_of t.hand t.top v) 0 ≡ v = ap (λ b. get_or hid.last b 0) (out_is v l) ∙ list_at hid.last v fresh.lists.2 l in ap (λ k. get_or hid.following k 0) e ∙ (fresh.lists.3.each v l ∙ sym e));
     idle = λ x high none. up_self x;
     rises = λ x inner. absurd (inner (up_self x));
-    ranks = λ x. rank_few x (cases_lt 0 n);
+    around = λ x inner. absurd (inner (up_self x));
   }
-    where
-      rank_few : (x : ℕ) → (0 < n) ⊎ (n ≤ 0) → get_or t.rank x 0 ≤ n
-      rank_few x (inl some) = omega (arith, rank_low x)
-      rank_few x (inr none) = (let e : get_or t.rank x 0 ≡ 0 = get_or_past t.rank x 0 (subst (λ m. m ≤ x) (sym (ap length fresh.rank ∙ length-replicate size 1)) (omega (arith, fresh.size_is))) in omega (arith, e))
+
+  none_some : count_by is_some hid.pool ≡ 0
+  none_some = ap (count_by is_some) fresh.pool ∙ (sum_by-replicate (λ (o : Option Node). cond (is_some o) 1 0) (n / 2) None ∙ (let e : (n / 2) * 0 ≡ 0 = omega arith in e))
+
+  none_many : count_by (λ many. not (eqb many 0)) t.parts ≡ 0
+  none_many = ap (count_by (λ many. not (eqb many 0))) fresh.parts ∙ (sum_by-replicate (λ (many : ℕ). cond (not (eqb many 0)) 1 0) size 0 ∙ (let e : size * 0 ≡ 0 = omega arith in e))
 
   pool_size : length hid.pool ≡ n / 2
   pool_size = ap length fresh.pool ∙ length-replicate {A = Option Node} (n / 2) None
@@ -202,6 +198,7 @@ module _ (n size : ℕ) (lows : List ℤ) (t : ForestTables) (hid : HiddenTables
       free = λ k is. same_everywhere t.parts size 0 fresh.parts (length t.hand + k);
       live = λ k live. absurd (live (same_everywhere t.parts size 0 fresh.parts (length t.hand + k)));
       vertices = λ v l. same_everywhere t.parts size 0 fresh.parts v;
+      counted = none_some ∙ sym none_many;
     };
   }
 

@@ -9,3 +9,12 @@ pub mod Ranges
 pub mod TiedWrites
 pub mod Shifted
 pub mod Trails
+pub mod Risings
+pub mod Layings
+pub mod Enclosed
+pub mod JoinedLists
+pub mod RenamedRows
+pub mod JoinedRows
+pub mod Nests
+pub mod Gathered
+pub mod Gatherings

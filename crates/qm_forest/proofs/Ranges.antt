@@ -18,7 +18,7 @@ pub sum_small : (f : ℕ → ℤ) (n : ℕ) → ((k : ℕ) → k < n → unsigne
 sum_small f zero each = omega (arith, ints)
 sum_small f (suc n) each = omega (arith, ints, each n (omega arith), sum_small f n (λ k l. each k (omega arith)))
 
-change_small : (l : Label) (d : ℤ) → unsigned_abs (change l d) ≤ unsigned_abs d
+pub change_small : (l : Label) (d : ℤ) → unsigned_abs (change l d) ≤ unsigned_abs d
 change_small Outer d = omega (arith, ints)
 change_small Inner d = omega (arith, ints)
 change_small Outside d = omega (arith, ints)

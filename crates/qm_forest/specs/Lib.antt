@@ -1,2 +1,4 @@
+pub mod Gathers
+pub mod Rings
 pub mod Ties
 pub mod Views

@@ -1,5 +1,5 @@
 -- How a forest's hidden tables are tied to those that contracts see.
-use Rattle.std.specs.Prelude.{replicate, ◌⊎◌, ◌≡◌, ◌≢◌, ℕ, zero, suc, ◌+◌, ◌/◌, ◌<◌, ◌≤◌, ◌^◌, ◌==◌, ◌||◌, Bool, true, false, List, length, count_by, slice_get, slice_index, slice_index_or, Option, Some, None, ℤ, pos, ◌+ℤ◌, ◌-ℤ◌, ◌≤ℤ◌, unsigned_abs, if◌then◌else◌}
+use Rattle.std.specs.Prelude.{replicate, ◌⊎◌, ◌≡◌, ◌≢◌, ℕ, suc, ◌+◌, ◌/◌, ◌<◌, ◌≤◌, ◌^◌, ◌==◌, Bool, true, false, List, length, count_by, slice_get, slice_index, slice_index_or, not, is_some, Option, Some, None, ℤ, pos, ◌+ℤ◌, ◌-ℤ◌, ◌≤ℤ◌, unsigned_abs, if◌then◌else◌}
 use Rattle.def_math.specs.Sums.{total_below}
 use Rattle.def_matching.specs.Matching.{IsSmallGraph, Vertex, Graph, edge_at}
 use Rattle.def_forest.specs.Darts.{darts_of}
@@ -9,6 +9,7 @@ use Rattle.def_forest.specs.Forests.{Blossom, Forest, splits, walk, set_at}
 use Rattle.def_forest.specs.Steps.{change}
 use Rattle.def_forest.specs.Tables.{up_at, ForestTables, forest_of, out_of, label_at, weight_at, climbs, IsValidFor}
 use Rattle.def_forest.specs.declared.kinds.Label.{Label}
+use Rattle.forest_laws.specs.Walks.{listed}
 use Rattle.qm_pool.specs.declared.pool.Node.{Node}
 use Rattle.def_forest.specs.declared.kinds.Label.TheVariants.{Outside}
 
@@ -68,11 +69,6 @@ pub record HasSizes (t : ForestTables) (h : HiddenTables) : Type 0 where
   pub last : length h.last ≡ length t.up
   pub room : length t.hand ≤ h.room
 
--- Following from one vertex so many times, one comes past another.
-abbrev pub listed : (next : ℕ → ℕ) (from many x : ℕ) → Bool
-listed next from zero x = false
-listed next from (suc k) x = listed next from k x || (walk next from k == x)
-
 -- So many different vertices follow each other from one to another, and they are those of a set.
 pub record IsListed (n : ℕ) (next : ℕ → ℕ) (from to many : ℕ) (set : Vertex → Bool) : Type 0 where
   pub all : (v : Vertex) → v < n → listed next from many v ≡ set v
@@ -100,8 +96,8 @@ pub record IsLaidOut (n size : ℕ) (hand top up rank parts leader first last fo
   pub ended : (v : Vertex) → v < n
       → slice_index following (slice_index last (out_of hand top v)) ≡ slice_index last (out_of hand top v)
   pub idle : (x : Blossom) → n ≤ x → slice_index parts x ≡ 0 → up_at up x ≡ x
+  pub around : (x : Blossom) → up_at up x ≢ x → (n ≤ up_at up x) × (slice_index parts (up_at up x) ≢ 0)
   pub rises : (x : Blossom) → up_at up x ≢ x → slice_index rank x < slice_index rank (up_at up x)
-  pub ranks : (x : Blossom) → slice_index rank x ≤ n
 
 -- The sum of the weights of the blossoms that one climbs past from a vertex, and of all.
 abbrev pub weights_around : (hand up : List ℕ) (base : List ℤ) (label : List Label) (delta : ℤ) (v : Vertex) → ℤ
@@ -144,6 +140,7 @@ pub record IsPooled (n size : ℕ) (parts : List ℕ) (pool : List (Option Node)
   pub free : (k : ℕ) → slice_get pool k ≡ Some None → slice_index parts (n + k) ≡ 0
   pub live : (k : ℕ) → slice_index parts (n + k) ≢ 0 → (node : Node) × (slice_get pool k ≡ Some (Some node))
   pub vertices : (v : Vertex) → v < n → slice_index parts v ≡ 0
+  pub counted : count_by is_some pool ≡ count_by (λ many. not (many == 0)) parts
 
 -- The hidden tables fit those that contracts see.
 pub record AreTied (t : ForestTables) (h : HiddenTables) : Type 0 where

@@ -2,11 +2,14 @@
 #![tactic(auto)]
 
 mod augmenting;
+mod climbing;
 mod darts;
 mod forest;
+mod gathering;
 mod growing;
 mod loads;
 mod numbers;
+mod ring;
 mod search;
 mod start;
 mod tables;

@@ -1,0 +1,23 @@
+-- One list of a row more is joined.
+use Rattle.std.proofs.Common.{◌≡◌, ℕ, zero, suc, ◌+◌, ◌-◌, ◌<◌, ◌≤◌, List, length, get_or, sym, ◌∙◌, ap, subst, arith}
+use Rattle.std.proofs.Math.ListN.{set}
+use Rattle.def_forest.specs.Forests.{walk, ring_sum, set_at}
+use Rattle.forest_laws.specs.Walks.{writes}
+use Rattle.qm_forest.proofs.TiedWrites.{entry_set}
+
+-- A sum over fewer places is no greater.
+pub ring_sum_low : (next f : ℕ → ℕ) (from k m : ℕ) → ring_sum next f from k ≤ ring_sum next f from (k + m)
+ring_sum_low next f from k zero = (let e : k + 0 ≡ k = omega arith in let s : ring_sum next f from (k + 0) ≡ ring_sum next f from k = ap (ring_sum next f from) e in omega (arith, s))
+ring_sum_low next f from k (suc m) =
+    let e : k + suc m ≡ suc (k + m) = omega arith in
+    let s : ring_sum next f from (k + suc m) ≡ ring_sum next f from (k + m) + f (walk next from (k + m)) = ap (ring_sum next f from) e in
+    omega (arith, s, ring_sum_low next f from k m)
+
+pub ring_sum_below : (next f : ℕ → ℕ) (from k n : ℕ) → k ≤ n → ring_sum next f from k ≤ ring_sum next f from n
+ring_sum_below next f from k n l = (let e : k + (n - k) ≡ n = omega (arith, l) in subst (λ m. ring_sum next f from k ≤ ring_sum next f from m) e (ring_sum_low next f from k (n - k)))
+
+-- One entry more is written.
+pub written_more : (xs ys : List ℕ) (place value : ℕ → ℕ) (k j p v : ℕ) → p < length xs → (λ i. get_or xs i 0) ≡ writes (λ i. get_or ys i 0) place value k → p ≡ place k → v ≡ value k → j ≡ suc k → (λ i. get_or (set xs p v) i 0) ≡ writes (λ i. get_or ys i 0) place value j
+written_more xs ys place value k j p v low was p_is v_is j_is =
+    entry_set xs p v 0 low ∙ (ap (λ (f : ℕ → ℕ). set_at f p v) was ∙ (ap (λ e. set_at (writes (λ i. get_or ys i 0) place value k) e v) p_is
+    ∙ (ap (set_at (writes (λ i. get_or ys i 0) place value k) (place k)) v_is ∙ ap (writes (λ i. get_or ys i 0) place value) (sym j_is))))

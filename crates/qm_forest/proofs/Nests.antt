@@ -1,0 +1,74 @@
+-- What the tables of a nest say at once: the outermost blossoms are in use, and their leaders are theirs.
+use Rattle.std.proofs.Common.{◌≡◌, ◌≢◌, ℕ, zero, suc, ◌<◌, ◌≤◌, Bool, true, false, eqb, ◌||◌, List, get_or, ◌⊎◌, refl, sym, ◌∙◌, subst, inl, inr, arith}
+use Rattle.std.proofs.lemmas.Bool.{cases_eq, eq-eqb, eqb-true}
+use Rattle.def_forest.specs.Forests.{walk}
+use Rattle.def_forest.specs.Tables.{climbs, out_of, up_at}
+use Rattle.forest_laws.proofs.Walks.{walk_front}
+use Rattle.qm_forest.specs.Ties.{IsInUse, IsLaidOut, IsListed}
+use Rattle.qm_forest.proofs.Apart.{fixed_top}
+use Rattle.qm_forest.proofs.JoinedLists.{list_few}
+
+-- What one comes past lies on the way.
+pub climbs_place : (up : ℕ → ℕ) (k b from : ℕ) → climbs up k b from ≡ true → (i : ℕ) × (walk up from i ≡ b)
+climbs_place up zero b from on = (0, eqb-true from b on)
+climbs_place up (suc k) b from on = by_or (or_parts (eqb from b) (climbs up k b (up from)) on) (climbs_place up k b (up from))
+  where
+    or_parts : (p q : Bool) → (p || q) ≡ true → (p ≡ true) ⊎ (q ≡ true)
+    or_parts true q e = inl refl
+    or_parts false q e = inr e
+
+    by_or : (eqb from b ≡ true) ⊎ (climbs up k b (up from) ≡ true) → (climbs up k b (up from) ≡ true → (i : ℕ) × (walk up (up from) i ≡ b)) → (i : ℕ) × (walk up from i ≡ b)
+    by_or (inl e) more = (0, eqb-true from b e)
+    by_or (inr e) more = let w : (i : ℕ) × (walk up (up from) i ≡ b) = more e in (suc w.0, walk_front up from w.0 ∙ w.1)
+
+-- Where one comes to from elsewhere one comes by a step.
+pub comes_by : (up : ℕ → ℕ) (v i x : ℕ) → walk up v i ≡ x → v ≢ x → (y : ℕ) × (up y ≡ x) × (y ≢ x)
+comes_by up v zero x e ne = absurd (ne e)
+comes_by up v (suc i) x e ne = elim (cases_eq (walk up v i) x) [ inl at ↦ comes_by up v i x at ne | inr off ↦ (walk up v i, e, off) ]
+
+module _ (n size : ℕ) (hand top up rank parts leader first last following : List ℕ) (nest : IsLaidOut n size hand top up rank parts leader first last following) where
+  abbrev out : ℕ → ℕ
+  out = out_of hand top
+
+  -- What one comes to is in use.
+  pub reached_used : (v i x : ℕ) → v < n → walk (up_at up) v i ≡ x → IsInUse n parts x
+  reached_used v i x l e = by_place (cases_eq v x)
+    where
+      by_place : (v ≡ x) ⊎ (v ≢ x) → IsInUse n parts x
+      by_place (inl at) = inl (subst (λ y. y < n) at l)
+      by_place (inr ne) = (let w : (y : ℕ) × (up_at up y ≡ x) × (y ≢ x) = comes_by (up_at up) v i x e ne in inr (subst (λ y. get_or parts y 0 ≢ 0) w.1 (nest.around w.0 (λ s. w.2 (sym s ∙ w.1))).1))
+
+  pub out_used : (v : ℕ) → v < n → IsInUse n parts (out v)
+  out_used v l = reached_used v n (out v) l (nest.climb.ends v l)
+
+  pub out_size : (v : ℕ) → v < n → out v < size
+  out_size v l = nest.outs (get_or hand v 0) (nest.hands v l)
+
+  pub list_of : (v : ℕ) → v < n → IsListed n (λ k. get_or following k 0) (get_or first (out v) 0) (get_or last (out v) 0) (get_or rank (out v) 0) (climbs (up_at up) n (out v))
+  list_of v l = nest.members (out v) (out_size v l) (out_used v l)
+
+  pub rank_few : (v : ℕ) → v < n → get_or rank (out v) 0 ≤ n
+  rank_few v l = list_few n (λ k. get_or following k 0) (get_or first (out v) 0) (get_or last (out v) 0) (get_or rank (out v) 0) (climbs (up_at up) n (out v)) (list_of v l)
+
+  pub rank_some : (v : ℕ) → v < n → n ≤ size → 1 ≤ get_or rank v 0
+  rank_some v l le = (nest.members v (omega (arith, l, le)) (inl l)).some
+
+  -- A vertex in an outermost blossom has it as its own.
+  pub held_out : (v w : ℕ) → v < n → w < n → climbs (up_at up) n (out v) w ≡ true → out w ≡ out v
+  held_out v w lv lw on = sym (fixed_top n (up_at up) (λ x. get_or rank x 0) out nest.climb nest.rises w (out v) lw (climbs_place (up_at up) n (out v) w on) (nest.climb.tops v lv))
+
+  -- The leader of an outermost blossom is one of its vertices.
+  pub leader_low : (v : ℕ) → v < n → get_or leader (out v) 0 < n
+  leader_low v l = (nest.leaders (out v) (out_size v l) (out_used v l)).0
+
+  pub leader_out : (v : ℕ) → v < n → out (get_or leader (out v) 0) ≡ out v
+  leader_out v l = held_out v (get_or leader (out v) 0) l (leader_low v l) (nest.leaders (out v) (out_size v l) (out_used v l)).1
+
+-- One comes past where one comes to.
+pub came_past : (up : ℕ → ℕ) (k v x : ℕ) → walk up v k ≡ x → climbs up k x v ≡ true
+came_past up zero v x e = eq-eqb v x e
+came_past up (suc k) v x e = or_right (eqb v x) (climbs up k x (up v)) (came_past up k (up v) x (sym (walk_front up v k) ∙ e))
+  where
+    or_right : (p q : Bool) → q ≡ true → (p || q) ≡ true
+    or_right true q f = refl
+    or_right false q f = f
