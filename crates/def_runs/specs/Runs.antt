@@ -1,28 +1,6 @@
 -- The runs of a mesh: longest straight lines of darts over regular inner vertices.
-use Rattle.std.specs.Prelude.{
-  ◌≡◌,
-  ◌≢◌,
-  ℕ,
-  suc,
-  ◌-◌,
-  ◌<◌,
-  ◌≤◌,
-  Bool,
-  true,
-  false,
-  cond,
-  ◌&&◌,
-  ◌==◌,
-  List,
-  [],
-  map,
-  length,
-  slice_index,
-  slice_index_or,
-  Option,
-  Some,
-  None,
-}
+use Rattle.std.specs.Prelude.{◌≡◌, ◌≢◌, ℕ, suc, ◌-◌, ◌<◌, ◌≤◌, Bool, true, false, cond, ◌&&◌, ◌==◌, List, []}
+use Rattle.std.specs.Prelude.{map, length, slice_index, slice_index_or, Option, Some, None}
 use Rattle.def_mesh.specs.Faces.{Faces}
 use Rattle.def_mesh.specs.Darts.{darts, to_of, straight_of}
 use Rattle.def_mesh.specs.Kinds.{is_inner, is_regular}

@@ -1,10 +1,8 @@
 -- A walk onward from the end of a walk back is a longest run, and with it the runs of one dart more are found.
 use Rattle.std.proofs.Common.{◌≡◌, ◌≢◌, ◌⊎◌, ℕ, zero, suc, ◌+◌, ◌-◌, ◌<◌, ◌≤◌, Bool, true, false, Option, Some, None, List, [], ◌∷◌, ◌++◌, map, length, replicate, get_or, sym, subst, ap, ◌∙◌, refl, inl, inr, arith}
-use Rattle.std.specs.List.{range_with_len}
 use Rattle.std.proofs.lemmas.Option.{none-some, same_Some}
 use Rattle.std.proofs.lemmas.Bool.{cases_Bool, cases_eq, cases_lt, eq-eqb}
-use Rattle.std.proofs.lemmas.List.{length-append, length-map, length-replicate, map-append, get_or_append_left, get_or-append-add}
-use Rattle.std.proofs.lemmas.List.FromFn.{length-range_with_len, get_or-map-range_with_len}
+use Rattle.std.proofs.lemmas.List.{length-append, length-replicate, map-append, get_or_append_left, get_or-append-add}
 use Rattle.def_mesh.specs.Faces.{Faces}
 use Rattle.def_mesh.specs.Darts.{darts}
 use Rattle.def_mesh.specs.Manifold.{IsManifold}
@@ -14,20 +12,7 @@ use Rattle.cut_laws.proofs.Pigeon.{sent_or_not}
 use Rattle.qm_sing.specs.declared.flooding.TheConstants.{NONE}
 use Rattle.qm_sing.specs.declared.lines.Line.{Line}
 use Rattle.qm_sing.specs.Walks.{AreRunsBelow, AreRunsSoFar, IsBack, IsLine, leader, walked}
-use Rattle.qm_sing.proofs.Walking.{back_of, follower_low, leader_low, on_from, one_follower, one_leader, places_differ, walk_low}
-
--- The darts of a walk, as a list.
-abbrev pub walk_list : (walk : ℕ → ℕ) (last : ℕ) → List ℕ
-walk_list walk last = map walk (range_with_len 0 (suc last))
-
-pub walk_long : (walk : ℕ → ℕ) (last : ℕ) → length (walk_list walk last) ≡ suc last
-walk_long walk last = length-map (range_with_len 0 (suc last)) walk ∙ length-range_with_len 0 (suc last)
-
-pub walk_at : (walk : ℕ → ℕ) (last k : ℕ) → k < suc last → get_or (walk_list walk last) k 0 ≡ walk k
-walk_at walk last k l = get_or-map-range_with_len walk 0 (suc last) k k 0 l (omega arith)
-
-holds_at : (walk : ℕ → ℕ) (last k d : ℕ) → k < suc last → walk k ≡ d → Holds (walk_list walk last) d
-holds_at walk last k d l e = (k, omega (arith, l, walk_long walk last), walk_at walk last k l ∙ e)
+use Rattle.qm_sing.proofs.Walking.{back_of, follower_low, leader_low, on_from, one_follower, one_leader, places_differ, walk_low, walk_list, walk_long, walk_at, holds_at}
 
 module _ (faces : Faces) (m : IsManifold faces) (d first r : ℕ) (line : Line) (run_old run at_old at : List ℕ) (low : d < darts faces) (back : IsBack faces d first) (on : IsLine faces first r line run_old run at_old at) where
   abbrev ahead : (k : ℕ) → ℕ

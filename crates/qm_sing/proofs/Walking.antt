@@ -1,13 +1,16 @@
 -- Walks along runs: the step back undoes the step onward, and a walk ends or comes back to its start.
-use Rattle.std.proofs.Common.{◌≡◌, ◌≢◌, ℕ, zero, suc, ◌<◌, ◌≤◌, Bool, true, false, cond, Option, Some, None, option_map, List, length, get_or, set, sym, subst, ap, ◌∙◌, refl, inl, inr, arith}
+use Rattle.std.proofs.Common.{◌≡◌, ◌≢◌, ℕ, zero, suc, ◌<◌, ◌≤◌, Bool, true, false, cond, Option, Some, None, option_map, List, map, length, get_or, set, sym, subst, ap, ◌∙◌, refl, inl, inr, arith}
 use Rattle.std.proofs.lemmas.Option.{none-some, same_Some}
 use Rattle.std.proofs.lemmas.Bool.{cases_eq}
 use Rattle.std.proofs.lemmas.List.{get_or-set_same, get_or-set_other}
+use Rattle.std.specs.List.{range_with_len}
+use Rattle.std.proofs.lemmas.List.{length-map}
+use Rattle.std.proofs.lemmas.List.FromFn.{length-range_with_len, get_or-map-range_with_len}
 use Rattle.def_mesh.specs.Faces.{Faces}
 use Rattle.def_mesh.specs.Darts.{darts, from_of, next_of, prev_of, to_of, twin_of, straight_of}
 use Rattle.def_mesh.specs.Manifold.{IsManifold}
 use Rattle.def_mesh.specs.HalfEdges.{IsQuadManifold, half_edges}
-use Rattle.def_runs.specs.Runs.{follower, is_passed}
+use Rattle.def_runs.specs.Runs.{Holds, follower, is_passed}
 use Rattle.cut_laws.proofs.Pigeon.{comes_back}
 use Rattle.mesh_laws.proofs.HalfEdges.{manifold_law}
 use Rattle.qm_sing.specs.Walks.{AreTold, Goes, StaysAway, leader, or_stay, walked}
@@ -126,3 +129,17 @@ told_here faces m first r place dart run_old run at_old at low is long_run long_
   where
     there : walked (follower faces) first place < darts faces
     there = walk_low (follower faces) (darts faces) (λ x z. follower_low faces m x z) (λ x y z. one_follower faces m x y z) first low place goes place (omega arith)
+
+-- The darts of a walk, as a list.
+abbrev pub walk_list : (walk : ℕ → ℕ) (last : ℕ) → List ℕ
+walk_list walk last = map walk (range_with_len 0 (suc last))
+
+pub walk_long : (walk : ℕ → ℕ) (last : ℕ) → length (walk_list walk last) ≡ suc last
+walk_long walk last = length-map (range_with_len 0 (suc last)) walk ∙ length-range_with_len 0 (suc last)
+
+pub walk_at : (walk : ℕ → ℕ) (last k : ℕ) → k < suc last → get_or (walk_list walk last) k 0 ≡ walk k
+walk_at walk last k l = get_or-map-range_with_len walk 0 (suc last) k k 0 l (omega arith)
+
+-- A dart of the walk stands in it.
+pub holds_at : (walk : ℕ → ℕ) (last k d : ℕ) → k < suc last → walk k ≡ d → Holds (walk_list walk last) d
+holds_at walk last k d l e = (k, omega (arith, l, walk_long walk last), walk_at walk last k l ∙ e)

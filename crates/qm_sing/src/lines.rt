@@ -1,10 +1,10 @@
 //! The runs of a mesh: each is walked once back from its least dart and once onward.
 
-ghost use Rattle.std.specs.Prelude.{◌≡◌, ◌<◌, IfOk, IfSome, OnOk, length};
+ghost use Rattle.std.specs.Prelude.{◌≡◌, ◌<◌, IfOk, IfSome, length};
 ghost use Rattle.def_mesh.specs.Darts.{darts};
 ghost use Rattle.def_mesh.specs.Vertices.{vertex_count};
 ghost use Rattle.def_runs.specs.Runs.{AreRuns, follower as follower_of, is_passed as passes};
-ghost use Rattle.qm_sing.specs.Walks.{AreRunsSoFar, IsBack, IsLine, leader as leader_of};
+ghost use Rattle.qm_sing.specs.Walks.{IsBack, IsLine, leader as leader_of};
 
 use crate::Memory;
 use crate::flooding::NONE;
@@ -30,36 +30,16 @@ pub fn runs(alloc: Global, mesh: &Mesh) -> Result<RunTable, Memory>
         len: Vec::new(alloc),
         closed: Vec::new(alloc),
     };
-    find(
-        mesh,
-        &mut table.run,
-        &mut table.at,
-        &mut table.len,
-        &mut table.closed,
-    )?;
-    Ok(table)
-}
-
-/// Finds the runs one after another, each from its least dart.
-fn find(
-    mesh: &Mesh,
-    run: &mut [u32],
-    at: &mut [u32],
-    len: &mut Vec<u32>,
-    closed: &mut Vec<bool>,
-) -> Result<(), Memory>
-    requires { AreRunsSoFar mesh.now 0 run.old at.old len.old.items closed.old.items }
-    ensures { OnOk result (AreRunsSoFar mesh.now (darts mesh.now) run.new at.new len.new.items closed.new.items) }
-{
-    for d in 0..4 * mesh.faces().len() as u32 {
-        if run[d as usize] == NONE {
+    for d in 0..darts as u32 {
+        if table.run[d as usize] == NONE {
             let first = first_of(mesh, d);
-            let line = number(mesh, first, len.len() as u32, run, at);
-            len.push(line.len)?;
-            closed.push(line.closed)?;
+            let r = table.len.len() as u32;
+            let line = number(mesh, first, r, &mut table.run, &mut table.at);
+            table.len.push(line.len)?;
+            table.closed.push(line.closed)?;
         }
     }
-    Ok(())
+    Ok(table)
 }
 
 /// The first dart of the run of d; d itself where the run is closed.
