@@ -5,7 +5,7 @@ ghost use Rattle.def_io.specs.Moves.{change};
 ghost use Rattle.def_run.specs.Graph.{IsGraphText};
 ghost use Rattle.qm_top.specs.Refusals.{answer_of, Ended, Finished};
 
-use crate::input::read_mesh;
+use crate::input::{MeshInput, read_mesh};
 use crate::refusal::Refusal;
 use def_run::{Answer, Command};
 use qm_grid::patches;
@@ -31,8 +31,8 @@ pub(crate) fn graph<S: Source, O: Sink>(
         (change (O.taken out.old) (O.taken out.new) (O.faults out.old) (O.faults out.new))) }
     ensures untouched { IfErr result (λ r. answer_of r ≢ Answer.WriteFault → out.new ≡ out.old) }
 {
-    let read = read_mesh(alloc, input)?;
-    let text = text_of(alloc, &read.mesh)?;
+    let MeshInput { mesh, soup: _ } = read_mesh(alloc, input)?;
+    let text = text_of(alloc, &mesh)?;
     write_all(out, &text)?;
     Ok(())
 }
