@@ -7,7 +7,7 @@ pub mod LawText
 mod LineLemmas
 pub mod ListLemmas
 mod ReadLemmas
-mod SoupLemmas
+pub mod SoupLemmas
 mod SuitLemmas
 mod UsedLemmas
 mod WordLemmas

@@ -32,7 +32,7 @@ numbers_at (suc n) k lt = by_position (cases_lt k n) (λ below. numbers_at n k b
     by_position (inl below) again = get_or_append_left (numbers_to n) (suc n ∷ []) 0 k (omega (arith, length-numbers_to n)) ∙ again below
     by_position (inr at) again = get_or_push (numbers_to n) (suc n) 0 k (omega (arith, length-numbers_to n)) ∙ omega arith
 
-numbers_rise : (n : ℕ) → IsStrictlyIncreasing (numbers_to n)
+pub numbers_rise : (n : ℕ) → IsStrictlyIncreasing (numbers_to n)
 numbers_rise n k l = let m : length (numbers_to n) ≡ n = length-numbers_to n in omega (arith, numbers_at n k (omega arith), numbers_at n (k + 1) (omega arith))
 
 -- One number more is kept where it is used.

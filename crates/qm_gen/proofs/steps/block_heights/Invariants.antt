@@ -1,0 +1,12 @@
+use Rattle.std.proofs.Common.{◌≡◌, ◌<◌, map}
+use Rattle.std.specs.List.{range_with_len}
+use Rattle.def_gen.specs.Steps.{block_height, state_after}
+use Rattle.def_gen.specs.declared.TheConstants.{STATES}
+use Rattle.qm_gen.proofs.steps.block_heights.Given as goal
+
+abbrev pub invariant-loop : goal.invariant-loop
+invariant-loop l = record {
+  heights : l.heights.items ≡ map (block_height l.n) (range_with_len 0 l.counter);
+  state : l.state ≡ state_after l.n l.counter;
+  small : l.state < STATES;
+}
