@@ -41,17 +41,17 @@ tally test (r ∷ rs) [] = 0
 tally test (r ∷ rs) (n ∷ ns) = more_if (test r n) (tally test rs ns)
 
 -- A rider runs.
-abbrev pub runs_on : (rider : Moving) (note : Option ℕ) → Bool
-runs_on rider note = is_running rider.stop
+abbrev pub runs_on : (rider : Moving) (noted : Option ℕ) → Bool
+runs_on rider noted = is_running rider.stop
 
 -- A rider has ridden and is not told: it runs, and its dart still is the noted one.
-abbrev pub is_untold_by : (stop : Option Stop) (d : ℕ) (note : Option ℕ) → Bool
-is_untold_by (Some s) d note = false
+abbrev pub is_untold_by : (stop : Option Stop) (d : ℕ) (noted : Option ℕ) → Bool
+is_untold_by (Some s) d noted = false
 is_untold_by None d None = false
 is_untold_by None d (Some e) = d == e
 
-abbrev pub is_untold : (rider : Moving) (note : Option ℕ) → Bool
-is_untold rider note = is_untold_by rider.stop rider.dart note
+abbrev pub is_untold : (rider : Moving) (noted : Option ℕ) → Bool
+is_untold rider noted = is_untold_by rider.stop rider.dart noted
 
 -- The notes: each noted dart has a mark and its rider's number, and the queue has the riders with notes.
 pub record AreNotes (notes : Notes) : Type 0 where
@@ -70,7 +70,7 @@ pub record AreCounted (riders : Riders) (noted : List (Option ℕ)) : Type 0 whe
   pub untold : riders.untold ≡ tally is_untold riders.list.items noted
 
 -- A rider after the settling of v.
-abbrev pub told_by : (faces : Faces) (site : Site) (taken : List Bool) (v : ℕ) (note : Option ℕ)
+abbrev pub told_by : (faces : Faces) (site : Site) (taken : List Bool) (v : ℕ) (noted : Option ℕ)
     (rider : Moving) → Moving
 told_by faces site taken v None rider = rider
 told_by faces site taken v (Some d) rider =
@@ -78,7 +78,7 @@ told_by faces site taken v (Some d) rider =
 
 -- A rider where those are told whose noted dart comes before one of these.
 abbrev pub told_along : (faces : Faces) (site : Site) (taken : List Bool) (fan : List ℕ)
-    (note : Option ℕ) (rider : Moving) → Moving
+    (noted : Option ℕ) (rider : Moving) → Moving
 told_along faces site taken fan None rider = rider
 told_along faces site taken fan (Some d) rider =
     cond (is_among (next_of d) fan) (told (terrain_of faces) d rider (stop_here faces site taken d)) rider
