@@ -1,8 +1,9 @@
 -- A cycle of the tree that becomes one blossom.
-use Rattle.std.specs.Prelude.{◌≡◌, ◌≢◌, ℕ, ◌+◌, ◌*◌, ◌<◌, ◌≤◌, ◌==◌, Bool, true, false, if◌then◌else◌, pos, Some, None}
+use Rattle.std.specs.Prelude.{◌≡◌, ◌≢◌, ℕ, ◌+◌, ◌*◌, ◌<◌, ◌≤◌, ◌==◌, Bool, true, false, if◌then◌else◌, pos, Option, Some, None}
 use Rattle.def_matching.specs.Matching.{Vertex}
 use Rattle.def_forest.specs.Darts.{Dart, Darts, far}
 use Rattle.def_forest.specs.Forests.{Blossom, Forest, IsTight, number, walk, ring_sum, set_at}
+use Rattle.def_forest.specs.Valid.{IsTree}
 use Rattle.def_forest.specs.declared.kinds.Label.TheVariants.{Outer, Outside}
 
 -- A number that no blossom has.
@@ -64,3 +65,20 @@ pub record IsShrunk (n : ℕ) (f new : Forest) (inside : Blossom → Bool) (top 
   pub parts : (x : Blossom) → new.nest.parts x ≡ set_at f.nest.parts b many x
   pub rank : (x : Blossom) → x ≢ b → new.nest.rank x ≡ f.nest.rank x
   pub ranked : (x : Blossom) → inside x ≡ true → f.nest.rank x < new.nest.rank b
+
+-- The cycle that dart d closes in the tree has become one blossom, and the root's where the root was on it.
+pub record IsShrinking (g : Darts) (f new : Forest) (root new_root : Option Blossom) (d : Dart) : Type 0 where
+  pub r : Blossom
+  pub old_root : root ≡ Some r
+  pub tree : IsTree g f r
+  pub inside : Blossom → Bool
+  pub top : Blossom
+  pub set : Blossom
+  pub many : ℕ
+  pub begins : inside (f.out (g.near d)) ≡ true
+  pub ends : inside (f.out (far g d)) ≡ true
+  pub cycle : IsCycle g f r tree.depth inside top
+  pub unused : IsUnused g.n f set
+  pub row : IsClosedRow g f new.nest.after new.nest.joint inside top many
+  pub shrunk : IsShrunk g.n f new inside top set top many
+  pub root_is : new_root ≡ Some (if inside r then set else r)

@@ -16,3 +16,4 @@ pub mod Writes
 pub mod Levels
 pub mod Walks
 pub mod Forks
+pub mod Rooms

@@ -2,7 +2,7 @@
 use Rattle.std.proofs.Common.{◌≡◌, ◌≢◌, ℕ, ◌+◌, ◌*◌, ◌<◌, Bool, true, false, cond, eqb, length, ℤ, pos, ◌+ℤ◌, ◌-ℤ◌, ◌*ℤ◌, ◌≤ℤ◌, Option, is_some, ◌⊎◌, refl, sym, ◌∙◌, ap, subst, inl, inr, arith}
 use Rattle.std.specs.Prelude.{int_lt}
 use Rattle.std.proofs.lemmas.Int.{ints}
-use Rattle.std.proofs.lemmas.Bool.{cases_Bool, cond-true, cond-false}
+use Rattle.std.proofs.lemmas.Bool.{cases_Bool, cond-true, cond-false, eq-eqb}
 use Rattle.def_matching.specs.Matching.{IsSmallGraph, Graph, edge_at}
 use Rattle.def_forest.specs.Darts.{darts_of, twin_of, far}
 use Rattle.def_forest.specs.Forests.{Forest, load, IsTight}
@@ -11,7 +11,7 @@ use Rattle.def_forest.specs.Valid.{IsFeasible}
 use Rattle.def_forest.specs.declared.kinds.Label.{Label}
 use Rattle.def_forest.specs.declared.kinds.Label.TheVariants.{Outer, Inner, Outside}
 use Rattle.def_forest.specs.declared.kinds.EdgeKind.{EdgeKind}
-use Rattle.def_forest.specs.declared.kinds.EdgeKind.TheVariants.{Loose, Augment, Grow}
+use Rattle.def_forest.specs.declared.kinds.EdgeKind.TheVariants.{Loose, Augment, Grow, Shrink, Idle}
 use Rattle.def_forest.specs.Ways.{Reaches}
 use Rattle.forest_laws.proofs.Facts.{tight_twin, far_twin}
 use Rattle.forest_laws.proofs.Graphs.{are_darts, twin_even, dart_near, dart_far, dart_cost}
@@ -122,3 +122,48 @@ module _ (g : Graph) (is : IsSmallGraph g) (f : Forest) (feasible : IsFeasible (
 
       by_tight : IsTight (darts_of g) f first × (by_labels ≡ Augment) → Leads false
       by_tight p = by_case p.0 (augment_labels (f.label (f.out (edge_at g e).u)) (f.label (f.out (edge_at g e).v)) (f.mate (f.out (edge_at g e).u)) (f.mate (f.out (edge_at g e).v)) (eqb (f.out (edge_at g e).u) (f.out (edge_at g e).v)) p.1)
+
+  same_kind : (same : Bool) → cond same Idle Shrink ≡ Shrink → same ≡ false
+  same_kind false x = refl
+  same_kind true x = absurd (cc x)
+
+  shrink_labels : (a b : Label) (ma mb : Option ℕ) (same : Bool) → kind_by a b ma mb same ≡ Shrink → (a ≡ Outer) × (b ≡ Outer) × (same ≡ false)
+  shrink_labels Outer Outer ma mb same k = (refl, refl, same_kind same k)
+  shrink_labels Outer Outside ma mb same k = absurd (grow_clash (is_some mb) k)
+    where
+      grow_clash : (o : Bool) → cond o Grow Augment ≡ Shrink → ⊥
+      grow_clash true x = cc x
+      grow_clash false x = cc x
+  shrink_labels Outside Outer ma mb same k = absurd (grow_clash (is_some ma) k)
+    where
+      grow_clash : (o : Bool) → cond o Grow Augment ≡ Shrink → ⊥
+      grow_clash true x = cc x
+      grow_clash false x = cc x
+  shrink_labels Outer Inner ma mb same k = absurd (cc k)
+  shrink_labels Inner b ma mb same k = absurd (cc k)
+  shrink_labels Outside Inner ma mb same k = absurd (cc k)
+  shrink_labels Outside Outside ma mb same k = absurd (cc k)
+
+  -- An edge that closes a cycle: it joins two outer blossoms.
+  pub record IsClosing : Type 0 where
+    pub tight : IsTight (darts_of g) f (2 * e)
+    pub outer_near : f.label (f.out ((darts_of g).near (2 * e))) ≡ Outer
+    pub outer_far : f.label (f.out (far (darts_of g) (2 * e))) ≡ Outer
+    pub apart : f.out ((darts_of g).near (2 * e)) ≢ f.out (far (darts_of g) (2 * e))
+
+  pub shrinks : kind_of g f e ≡ Shrink → IsClosing
+  shrinks k = by_tight (tight_kind Shrink (λ x. absurd (cc x)) k)
+    where
+      by_labels_of : IsTight (darts_of g) f first → (f.label (f.out (edge_at g e).u) ≡ Outer) × (f.label (f.out (edge_at g e).v) ≡ Outer) × (eqb (f.out (edge_at g e).u) (f.out (edge_at g e).v) ≡ false) → IsClosing
+      by_labels_of tight w = record {
+        tight = tight;
+        outer_near = ap (λ x. f.label (f.out x)) (dart_near g e) ∙ w.0;
+        outer_far = ap (λ x. f.label (f.out x)) (dart_far g e) ∙ w.1;
+        apart = λ s. eqb_ne (f.out (edge_at g e).u) (f.out (edge_at g e).v) w.2 (sym (ap f.out (dart_near g e)) ∙ (s ∙ ap f.out (dart_far g e)));
+      }
+        where
+          eqb_ne : (x y : ℕ) → eqb x y ≡ false → x ≡ y → ⊥
+          eqb_ne x y off s = (let h : true ≡ false = sym (eq-eqb x y s) ∙ off in cc)
+
+      by_tight : IsTight (darts_of g) f first × (by_labels ≡ Shrink) → IsClosing
+      by_tight p = by_labels_of p.0 (shrink_labels (f.label (f.out (edge_at g e).u)) (f.label (f.out (edge_at g e).v)) (f.mate (f.out (edge_at g e).u)) (f.mate (f.out (edge_at g e).v)) (eqb (f.out (edge_at g e).u) (f.out (edge_at g e).v)) p.1)

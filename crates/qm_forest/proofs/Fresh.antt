@@ -1,11 +1,14 @@
 -- The tables of a forest of single vertices are tied, and valid for a graph whose costs the weights stay below.
-use Rattle.std.proofs.Common.{count_by, is_some, not, ◌≡◌, ◌≢◌, ℕ, zero, suc, ◌+◌, ◌-◌, ◌*◌, ◌/◌, ◌%◌, ◌<◌, ◌≤◌, ◌^◌, Bool, true, false, cond, eqb, ◌||◌, List, length, get_or, replicate, ℤ, pos, ◌+ℤ◌, ◌≤ℤ◌, ◌⊎◌, Option, Some, None, refl, sym, ◌∙◌, ap, subst, inl, inr, arith}
-use Rattle.std.specs.Prelude.{unsigned_abs}
+use Rattle.std.proofs.Common.{count_by, is_some, ◌≡◌, ◌≢◌, ℕ, zero, suc, ◌+◌, ◌-◌, ◌*◌, ◌/◌, ◌%◌, ◌<◌, ◌≤◌, ◌^◌, Bool, true, false, cond, eqb, ◌||◌, List, length, get_or, replicate, ℤ, pos, ◌+ℤ◌, ◌≤ℤ◌, ◌⊎◌, Option, Some, None, refl, sym, ◌∙◌, ap, subst, inl, inr, arith}
+use Rattle.std.specs.Prelude.{unsigned_abs, nat_lt}
 use Rattle.std.proofs.lemmas.Int.{ints}
 use Rattle.std.proofs.lemmas.List.{get_or-replicate, length-replicate, get_or_past}
 use Rattle.std.proofs.lemmas.List.Folds.{sum_by-replicate}
 use Rattle.std.proofs.lemmas.Bool.{cases_eq, cases_lt, cond-true, cond-false, eq-eqb, ne_eqb, eqb-true}
 use Rattle.qm_laws.proofs.Sums.{total_below_one}
+use Rattle.def_math.specs.Counts.{count_below}
+use Rattle.qm_laws.proofs.Counts.{count_below_none}
+use Rattle.forest_laws.specs.Walks.{live_at}
 use Rattle.def_matching.specs.Matching.{Graph, IsGraph, edge_at}
 use Rattle.def_forest.specs.Darts.{darts_of, far}
 use Rattle.def_forest.specs.Forests.{walk, load, dual_sum_of}
@@ -166,8 +169,12 @@ module _ (n size : ℕ) (lows : List ℤ) (t : ForestTables) (hid : HiddenTables
   none_some : count_by is_some hid.pool ≡ 0
   none_some = ap (count_by is_some) fresh.pool ∙ (sum_by-replicate (λ (o : Option Node). cond (is_some o) 1 0) (n / 2) None ∙ (let e : (n / 2) * 0 ≡ 0 = omega arith in e))
 
-  none_many : count_by (λ many. not (eqb many 0)) t.parts ≡ 0
-  none_many = ap (count_by (λ many. not (eqb many 0))) fresh.parts ∙ (sum_by-replicate (λ (many : ℕ). cond (not (eqb many 0)) 1 0) size 0 ∙ (let e : size * 0 ≡ 0 = omega arith in e))
+  none_many : count_below (live_at (length t.hand) (λ i. get_or t.parts i 0)) (length t.up) ≡ 0
+  none_many = count_below_none (live_at (length t.hand) (λ i. get_or t.parts i 0)) (length t.up) (λ x l. ap (λ m. cond (nat_lt x (length t.hand)) 0 (cond (eqb m 0) 0 1)) (same_everywhere t.parts size 0 fresh.parts x) ∙ none (nat_lt x (length t.hand)))
+    where
+      none : (s : Bool) → ◌≡◌ {A = ℕ} (cond s 0 0) 0
+      none true = refl
+      none false = refl
 
   pool_size : length hid.pool ≡ n / 2
   pool_size = ap length fresh.pool ∙ length-replicate {A = Option Node} (n / 2) None

@@ -1,19 +1,21 @@
 -- The tables after a ring of outermost blossoms was gathered into a set.
-use Rattle.std.proofs.Common.{◌≡◌, ◌≢◌, ℕ, zero, suc, ◌+◌, ◌-◌, ◌<◌, ◌≤◌, Bool, true, false, not, cond, eqb, List, length, get_or, count_by, is_some, ℤ, pos, ◌+ℤ◌, ◌-ℤ◌, ◌≤ℤ◌, ◌⊎◌, Option, Some, None, refl, sym, ◌∙◌, ap, subst, inl, inr, length-set, get_or-set_same, get_or-set_other, arith}
+use Rattle.std.proofs.Common.{◌≡◌, ◌≢◌, ℕ, zero, suc, ◌+◌, ◌-◌, ◌<◌, ◌≤◌, Bool, true, false, cond, eqb, List, length, get_or, count_by, is_some, ℤ, pos, ◌+ℤ◌, ◌-ℤ◌, ◌≤ℤ◌, ◌⊎◌, Option, Some, None, refl, sym, ◌∙◌, ap, subst, inl, inr, length-set, get_or-set_same, get_or-set_other, arith}
 use Rattle.std.proofs.Math.ListN.{set}
-use Rattle.std.specs.Prelude.{unsigned_abs, slice_get}
+use Rattle.std.specs.Prelude.{unsigned_abs, slice_get, nat_lt}
 use Rattle.std.proofs.lemmas.Int.{ints}
-use Rattle.std.proofs.lemmas.Bool.{cases_eq, cases_lt, cases_Bool, cond-true, cond-false, eq-eqb, ne_eqb, eqb-true}
+use Rattle.std.proofs.lemmas.Bool.{cases_eq, cases_lt, cases_Bool, cond-true, cond-false, eq-eqb, ne_eqb, eqb-true, le-ltb}
 use Rattle.std.proofs.lemmas.List.Sums.{sum_by-set}
 use Rattle.std.proofs.lemmas.Option.{slice_get-get_or, slice_get_past, slice_get_within, get_or_from_slice_get}
+use Rattle.def_math.specs.Counts.{count_below}
 use Rattle.def_math.specs.Sums.{total_below}
+use Rattle.qm_laws.proofs.Counts.{count_below_same, count_below_sum, count_below_one}
 use Rattle.qm_laws.proofs.Sums.{total_below_same}
-use Rattle.def_forest.specs.Forests.{walk, ring_sum, set_at}
+use Rattle.def_forest.specs.Forests.{number, walk, ring_sum, set_at}
 use Rattle.def_forest.specs.Steps.{change}
 use Rattle.def_forest.specs.Tables.{ForestTables, forest_of, climbs, label_at, out_of, up_at, weight_at}
 use Rattle.def_forest.specs.declared.kinds.Label.{Label}
 use Rattle.def_forest.specs.declared.kinds.Label.TheVariants.{Outside}
-use Rattle.forest_laws.specs.Walks.{listed, writes}
+use Rattle.forest_laws.specs.Walks.{listed, live_at, writes}
 use Rattle.forest_laws.proofs.Walks.{listed_at, listed_place, listed_off, writes_all, writes_at, writes_off}
 use Rattle.forest_laws.proofs.Writes.{label_cases, by_none, set_here, set_there}
 use Rattle.qm_pool.specs.declared.pool.Node.{Node}
@@ -487,17 +489,29 @@ module _ (t : ForestTables) (hid : HiddenTables) (tied : AreTied t hid) (front m
         live k live' (inl e) = (node, ap (slice_get pool2) e ∙ here)
         live k live' (inr ne) = (let w : (node : Node) × (slice_get hid.pool k ≡ Some (Some node)) = tied.pool.live k (λ none. live' (at_old t.parts parts2 many (n + k) parts_is (other k ne) ∙ none)) in (w.0, there k ne ∙ w.1))
 
-        counted : count_by is_some pool2 ≡ count_by (λ m. not (eqb m 0)) parts2
+        counted : count_by is_some pool2 ≡ count_below (live_at n (λ i. get_or parts2 i 0)) (length t.up)
         counted =
             let none : get_or hid.pool id None ≡ None = get_or_from_slice_get hid.pool id None None id_free in
             let was : ◌≡◌ {A = ℕ} (cond (is_some (get_or hid.pool id None)) 1 0) 0 = ap (λ (o : Option Node). cond (is_some o) 1 0) none in
-            let zero' : ◌≡◌ {A = ℕ} (cond (not (eqb (get_or t.parts b 0) 0)) 1 0) 0 = ap (λ m. cond (not (eqb m 0)) 1 0) dead in
-            let one : ◌≡◌ {A = ℕ} (cond (not (eqb many 0)) 1 0) 1 = ap (λ (s : Bool). cond (not s) 1 0) (ne_eqb many 0 (λ z. absurd (omega (arith, z, two)))) in
             let pools : count_by is_some (set hid.pool id (Some node)) + cond (is_some (get_or hid.pool id None)) 1 0 ≡ count_by is_some hid.pool + 1 = sum_by-set (λ (o : Option Node). cond (is_some o) 1 0) hid.pool id (Some node) None id_low in
-            let sets : count_by (λ m. not (eqb m 0)) (set t.parts b many) + cond (not (eqb (get_or t.parts b 0) 0)) 1 0 ≡ count_by (λ m. not (eqb m 0)) t.parts + cond (not (eqb many 0)) 1 0 = sum_by-set (λ (m : ℕ). cond (not (eqb m 0)) 1 0) t.parts b many 0 (subst (λ m. b < m) (sym tied.sizes.parts) low) in
             let p2 : count_by is_some pool2 ≡ count_by is_some (set hid.pool id (Some node)) = ap (count_by is_some) pool_is in
-            let m2 : count_by (λ m. not (eqb m 0)) parts2 ≡ count_by (λ m. not (eqb m 0)) (set t.parts b many) = ap (count_by (λ m. not (eqb m 0))) parts_is in
-            omega (arith, was, zero', one, pools, sets, p2, m2, tied.pool.counted)
+            let each : count_below (live_at n (λ i. get_or parts2 i 0)) (length t.up) ≡ count_below (λ x. live_at n (λ i. get_or t.parts i 0) x + number (eqb x b)) (length t.up) = count_below_same (live_at n (λ i. get_or parts2 i 0)) (λ x. live_at n (λ i. get_or t.parts i 0) x + number (eqb x b)) (length t.up) (λ x l. live_new x (cases_eq x b)) in
+            let split : count_below (λ x. live_at n (λ i. get_or t.parts i 0) x + number (eqb x b)) (length t.up) ≡ count_below (live_at n (λ i. get_or t.parts i 0)) (length t.up) + count_below (λ x. number (eqb x b)) (length t.up) = count_below_sum (live_at n (λ i. get_or t.parts i 0)) (λ x. number (eqb x b)) (length t.up) in
+            let one : count_below (λ x. number (eqb x b)) (length t.up) ≡ 1 = count_below_one (λ x. number (eqb x b)) (length t.up) b low (λ x l ne. ap number (ne_eqb x b ne)) ∙ ap number (eq-eqb b b refl) in
+            omega (arith, was, pools, p2, each, split, one, tied.pool.counted)
+          where
+            live_new : (x : ℕ) → (x ≡ b) ⊎ (x ≢ b) → live_at n (λ i. get_or parts2 i 0) x ≡ live_at n (λ i. get_or t.parts i 0) x + number (eqb x b)
+            live_new x (inl e) =
+                let not_low : nat_lt x n ≡ false = le-ltb x n (subst (λ y. n ≤ y) (sym e) high) in
+                let new : get_or parts2 x 0 ≡ many = ap (λ y. get_or parts2 y 0) e ∙ at_new t.parts parts2 many parts_is tied.sizes.parts in
+                let here' : live_at n (λ i. get_or parts2 i 0) x ≡ 1 = cond-false (nat_lt x n) 0 (cond (eqb (get_or parts2 x 0) 0) 0 1) not_low ∙ (ap (λ m. cond (eqb m 0) 0 1) new ∙ cond-false (eqb many 0) 0 1 (ne_eqb many 0 (λ z. absurd (omega (arith, z, two))))) in
+                let gone : live_at n (λ i. get_or t.parts i 0) x ≡ 0 = cond-false (nat_lt x n) 0 (cond (eqb (get_or t.parts x 0) 0) 0 1) not_low ∙ (ap (λ y. cond (eqb (get_or t.parts y 0) 0) 0 1) e ∙ cond-true (eqb (get_or t.parts b 0) 0) 0 1 (eq-eqb (get_or t.parts b 0) 0 dead)) in
+                let mark : number (eqb x b) ≡ 1 = ap number (eq-eqb x b e) in
+                omega (arith, here', gone, mark)
+            live_new x (inr ne) =
+                let same : live_at n (λ i. get_or parts2 i 0) x ≡ live_at n (λ i. get_or t.parts i 0) x = ap (λ m. cond (nat_lt x n) 0 (cond (eqb m 0) 0 1)) (at_old t.parts parts2 many x parts_is ne) in
+                let mark : number (eqb x b) ≡ 0 = ap number (ne_eqb x b ne) in
+                omega (arith, same, mark)
 
     abbrev pub gathered : ForestTables
     gathered = record t { hand = hand2; top = top2; up = up2; head = head2; parts = parts2; rank = rank2; root = root2 }

@@ -18,3 +18,5 @@ pub mod JoinedRows
 pub mod Nests
 pub mod Gathered
 pub mod Gatherings
+pub mod Shrinkings
+pub mod Leavings

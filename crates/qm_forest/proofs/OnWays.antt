@@ -161,7 +161,7 @@ near_in g t is valid d v low v_is = subst (λ n. v < n) (sym valid.vertices) (su
 
 -- The same blossoms, over two changes.
 pub same_nest : (a b c : ForestTables) → HasSameNest a b → HasSameNest b c → HasSameNest a c
-same_nest a b c p q = record { hand = q.hand ∙ p.hand; top = q.top ∙ p.top; up = q.up ∙ p.up; root = q.root ∙ p.root }
+same_nest a b c p q = record { hand = q.hand ∙ p.hand; top = q.top ∙ p.top; up = q.up ∙ p.up; after = q.after ∙ p.after; parts = q.parts ∙ p.parts; root = q.root ∙ p.root }
 
 -- What is seen, said of the mates at hand.
 pub seen_own : (t0 t1 : ForestTables) (mate : ℕ → Option ℕ) → forest_of t1 ≡ remated (forest_of t0) mate → forest_of t1 ≡ remated (forest_of t0) (forest_of t1).mate

@@ -1,8 +1,8 @@
 -- The ways to the root in the tables of a valid forest.
 use Rattle.std.proofs.Common.{◌≡◌, ◌≢◌, ℕ, suc, ◌+◌, ◌-◌, ◌*◌, ◌<◌, ◌≤◌, length, Option, Some, None, sym, ◌∙◌, ap, subst, arith}
 use Rattle.def_matching.specs.Matching.{Graph, IsSmallGraph}
-use Rattle.def_forest.specs.Darts.{AreDarts, darts_of, far}
-use Rattle.def_forest.specs.Forests.{IsOutermost}
+use Rattle.def_forest.specs.Darts.{Darts, AreDarts, darts_of, far}
+use Rattle.def_forest.specs.Forests.{Forest, IsOutermost}
 use Rattle.def_forest.specs.Tables.{ForestTables, forest_of, IsValidFor}
 use Rattle.def_forest.specs.Valid.{IsValid, IsTree}
 use Rattle.def_forest.specs.Ways.{dart_or}
@@ -102,3 +102,7 @@ module _ (g : Graph) (is : IsSmallGraph g) (s : ForestTables) (valid : IsValidFo
       climb_turn x y x2 i j is ne high x2_is =
           let one : suc i ≡ i + 1 = omega arith in
           subst (λ k. IsClimbing (darts_of g) (forest_of s) a c x2 y k j) one (climb_on (darts_of g) are (forest_of s) (the_tree a named_a).0 (rooted_here a named_a) (the_tree a named_a).2 a c named_a named_c x y x2 i j is ne high x2_is)
+
+-- Where two ways meet, their beginnings told otherwise.
+pub met_at : (d : Darts) (f : Forest) (a c b e top left right : ℕ) → a ≡ b → c ≡ e → IsClimbing d f a c top top left right → IsClimbing d f b e top top left right
+met_at d f a c b e top left right a_is c_is is = subst (λ x. IsClimbing d f x e top top left right) a_is (subst (λ x. IsClimbing d f a x top top left right) c_is is)

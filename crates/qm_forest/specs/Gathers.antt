@@ -1,10 +1,13 @@
 -- What the loops over a ring need, and what they leave.
-use Rattle.std.specs.Prelude.{◌≡◌, ◌≢◌, ℕ, suc, ◌+◌, ◌-◌, ◌*◌, ◌<◌, ◌≤◌, ◌^◌, ◌==◌, Bool, true, not, if◌then◌else◌, List, length, count_by, slice_get, slice_index, slice_index_or, slice_set, Option, Some, None, ℤ, pos, ◌+ℤ◌, ◌-ℤ◌, unsigned_abs}
+use Rattle.std.specs.Prelude.{◌≡◌, ◌≢◌, ℕ, suc, ◌+◌, ◌-◌, ◌*◌, ◌<◌, ◌≤◌, ◌^◌, ◌==◌, Bool, true, if◌then◌else◌, List, length, slice_get, slice_index, slice_index_or, slice_set, Option, Some, None, ℤ, pos, ◌+ℤ◌, ◌-ℤ◌, unsigned_abs}
 use Rattle.def_matching.specs.Matching.{Vertex}
+use Rattle.def_forest.specs.Darts.{Dart}
 use Rattle.def_forest.specs.Forests.{Blossom, Forest, walk, ring_sum, set_at}
 use Rattle.def_forest.specs.Tables.{ForestTables, forest_of, label_at, out_of, up_at, IsOutermostIn}
-use Rattle.forest_laws.specs.Walks.{listed, writes}
-use Rattle.def_forest.specs.declared.kinds.Label.TheVariants.{Outside}
+use Rattle.def_math.specs.Counts.{count_below}
+use Rattle.forest_laws.specs.Walks.{listed, live_at, writes}
+use Rattle.def_forest.specs.declared.kinds.Label.TheVariants.{Outer, Outside}
+use Rattle.qm_forest.specs.Ties.{HasSameNest, labelled, left_alone, mated}
 use Rattle.qm_pool.specs.declared.pool.Node.{Node}
 use Rattle.qm_forest.specs.declared.tables.Handles.{Handles}
 use Rattle.qm_forest.specs.declared.tables.Lists.{Lists}
@@ -13,7 +16,6 @@ use Rattle.qm_forest.specs.declared.tables.Rings.{Rings}
 -- So many different blossoms follow each other.
 pub record IsRow (size : ℕ) (after : List Blossom) (front many : ℕ) : Type 0 where
   pub some : 1 ≤ many
-  pub few : many ≤ size
   pub low : (k : ℕ) → k < many → walk (slice_index after) front k < size
   pub distinct : (i j : ℕ) → i < j → j < many → walk (slice_index after) front i ≢ walk (slice_index after) front j
 
@@ -143,7 +145,7 @@ pub record TookSet (old new : List (Option Node)) (n set : ℕ) : Type 0 where
 
 -- How many sets are in use.
 abbrev pub live_sets : (t : ForestTables) → ℕ
-live_sets t = count_by (λ many. not (many == 0)) t.parts
+live_sets t = count_below (live_at (length t.hand) (slice_index t.parts)) (length t.up)
 
 -- A ring of outermost blossoms outside the tree, and room for a set more.
 pub record IsFreeRing (t : ForestTables) (front many : ℕ) : Type 0 where
@@ -184,3 +186,20 @@ pub record IsGathered (n : ℕ) (f new : Forest) (inside : Blossom → Bool) (fr
 abbrev pub root_around : (up : List Blossom) (set : Blossom) (root : Option Blossom) → Option Blossom
 root_around up set None = None
 root_around up set (Some r) = Some (if slice_index up r == set then set else r)
+
+-- A ring has become one outer blossom b: its blossoms have left the tree, were gathered, and b got its place.
+pub record HasClosed (old new : ForestTables) (top many : ℕ) (mate : Option Dart) : Type 0 where
+  pub left : ForestTables
+  pub gathered : ForestTables
+  pub b : Blossom
+  pub vertex : Vertex
+  pub gone : forest_of left ≡ left_alone (forest_of old) top many
+  pub same : HasSameNest old left
+  pub is : IsGathered (length left.hand) (forest_of left) (forest_of gathered) (listed (slice_index left.after) top many)
+      top many b
+  pub holds : (forest_of gathered).out vertex ≡ b
+  pub done : forest_of new
+      ≡ mated (labelled (forest_of gathered) ((forest_of gathered).out vertex) Outer) b mate
+  pub root : (r : Blossom) → old.root ≡ Some r
+      → new.root ≡ Some (if listed (slice_index left.after) top many r then b else r)
+  pub hand : length new.hand ≡ length old.hand

@@ -1,5 +1,6 @@
 -- How a forest's hidden tables are tied to those that contracts see.
-use Rattle.std.specs.Prelude.{replicate, ◌⊎◌, ◌≡◌, ◌≢◌, ℕ, suc, ◌+◌, ◌/◌, ◌<◌, ◌≤◌, ◌^◌, ◌==◌, Bool, true, false, List, length, count_by, slice_get, slice_index, slice_index_or, not, is_some, Option, Some, None, ℤ, pos, ◌+ℤ◌, ◌-ℤ◌, ◌≤ℤ◌, unsigned_abs, if◌then◌else◌}
+use Rattle.std.specs.Prelude.{replicate, ◌⊎◌, ◌≡◌, ◌≢◌, ℕ, suc, ◌+◌, ◌/◌, ◌<◌, ◌≤◌, ◌^◌, Bool, true, false, List, length, count_by, slice_get, slice_index, slice_index_or, is_some, Option, Some, None, ℤ, pos, ◌+ℤ◌, ◌-ℤ◌, ◌≤ℤ◌, unsigned_abs, if◌then◌else◌}
+use Rattle.def_math.specs.Counts.{count_below}
 use Rattle.def_math.specs.Sums.{total_below}
 use Rattle.def_matching.specs.Matching.{IsSmallGraph, Vertex, Graph, edge_at}
 use Rattle.def_forest.specs.Darts.{darts_of}
@@ -9,7 +10,7 @@ use Rattle.def_forest.specs.Forests.{Blossom, Forest, splits, walk, set_at}
 use Rattle.def_forest.specs.Steps.{change}
 use Rattle.def_forest.specs.Tables.{up_at, ForestTables, forest_of, out_of, label_at, weight_at, climbs, IsValidFor}
 use Rattle.def_forest.specs.declared.kinds.Label.{Label}
-use Rattle.forest_laws.specs.Walks.{listed}
+use Rattle.forest_laws.specs.Walks.{listed, live_at, writes}
 use Rattle.qm_pool.specs.declared.pool.Node.{Node}
 use Rattle.def_forest.specs.declared.kinds.Label.TheVariants.{Outside}
 
@@ -140,7 +141,7 @@ pub record IsPooled (n size : ℕ) (parts : List ℕ) (pool : List (Option Node)
   pub free : (k : ℕ) → slice_get pool k ≡ Some None → slice_index parts (n + k) ≡ 0
   pub live : (k : ℕ) → slice_index parts (n + k) ≢ 0 → (node : Node) × (slice_get pool k ≡ Some (Some node))
   pub vertices : (v : Vertex) → v < n → slice_index parts v ≡ 0
-  pub counted : count_by is_some pool ≡ count_by (λ many. not (many == 0)) parts
+  pub counted : count_by is_some pool ≡ count_below (live_at n (slice_index parts)) size
 
 -- The hidden tables fit those that contracts see.
 pub record AreTied (t : ForestTables) (h : HiddenTables) : Type 0 where
@@ -156,7 +157,16 @@ pub record HasSameNest (old new : ForestTables) : Type 0 where
   pub hand : new.hand ≡ old.hand
   pub top : new.top ≡ old.top
   pub up : new.up ≡ old.up
+  pub after : new.after ≡ old.after
+  pub parts : new.parts ≡ old.parts
   pub root : new.root ≡ old.root
+
+-- So many blossoms of a ring have left the tree, and have no mates.
+abbrev pub left_alone : (f : Forest) (front many : ℕ) → Forest
+left_alone f front many = record f {
+  label = writes f.label (walk f.nest.after front) (λ k. Outside) many;
+  mate = writes f.mate (walk f.nest.after front) (λ k. None) many;
+}
 
 -- A forest with another label, mate or link at one blossom.
 abbrev pub labelled : (f : Forest) (b : Blossom) (l : Label) → Forest

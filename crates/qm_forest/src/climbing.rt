@@ -74,7 +74,8 @@ impl Forest {
         requires graph { IsSmallGraph (graph g.now) }
         requires valid { IsValidFor (graph g.now) self.now }
         requires named { (forest_of self.now).label b ≢ Outside }
-        ensures { result ≡ level_of (darts_of (graph g.now)) (forest_of self.now) b }
+        ensures value { result ≡ level_of (darts_of (graph g.now)) (forest_of self.now) b }
+        ensures few { length self.now.up ≤ 2 ^ 26 }
     {
         let mut at = b;
         let mut count = 0;
@@ -91,7 +92,9 @@ impl Forest {
         requires valid { IsValidFor (graph g.now) self.now }
         requires first { (forest_of self.now).label a ≢ Outside }
         requires second { (forest_of self.now).label c ≢ Outside }
-        ensures { IsClimbing (darts_of (graph g.now)) (forest_of self.now) a c result.top result.top result.left result.right }
+        ensures meeting { IsClimbing (darts_of (graph g.now)) (forest_of self.now) a c result.top result.top
+            result.left result.right }
+        ensures few { length self.now.up ≤ 2 ^ 26 }
     {
         let high = self.height(g, a);
         let low = self.height(g, c);

@@ -11,6 +11,7 @@ mod loads;
 mod numbers;
 mod ring;
 mod search;
+mod shrinking;
 mod start;
 mod tables;
 mod writes;

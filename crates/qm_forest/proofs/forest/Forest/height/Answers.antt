@@ -21,5 +21,5 @@ loop-d-preserved c = record {
   count = omega (arith, c.loop-d.invariant.count, (reached_level (graph c.args.g.now) c.requires.graph c.args.self.now c.requires.valid c.loop-d.at c.loop-d.invariant.named c.in-Some.d (sym c.rise.ensures.value ∙ c.in-Some.is) c.reached-at.result c.reached-at.ensures.value).1);
 }
 
-pub returns : goal.returns
-returns c = omega (arith, c.loop-d.invariant.count, root_level (graph c.args.g.now) c.requires.graph c.args.self.now c.requires.valid c.loop-d.at c.loop-d.invariant.named (sym c.rise.ensures.value ∙ c.in_default.is))
+pub returns-clause-value : goal.returns-clause-value
+returns-clause-value c = omega (arith, c.loop-d.invariant.count, root_level (graph c.args.g.now) c.requires.graph c.args.self.now c.requires.valid c.loop-d.at c.loop-d.invariant.named (sym c.rise.ensures.value ∙ c.in_default.is))

@@ -1,0 +1,85 @@
+//! Shrinking: the blossoms of a cycle of the tree become one.
+
+ghost use Rattle.std.specs.Prelude.{◌≡◌, ◌*◌, ◌<◌, ℕ, length, slice_index};
+ghost use Rattle.def_matching.specs.Matching.{IsSmallGraph, graph};
+ghost use Rattle.def_forest.specs.Darts.{darts_of};
+ghost use Rattle.def_forest.specs.Forests.{walk};
+ghost use Rattle.def_forest.specs.Shrunk.{IsShrinking};
+ghost use Rattle.def_forest.specs.Tables.{ForestTables, forest_of, kind_of, IsOutermostIn, IsValidFor};
+ghost use Rattle.def_forest.specs.declared.kinds.EdgeKind.TheVariants.{Shrink};
+ghost use Rattle.qm_forest.specs.Gathers.{IsFreeRing, HasClosed};
+ghost use Rattle.qm_forest.specs.Ties.{HasSameNest, left_alone};
+
+use crate::darts::near;
+use crate::forest::Forest;
+use def_forest::Label;
+use def_matching::WGraph;
+
+impl Forest {
+    /// The outermost blossoms on the cycle that an edge closes in the tree become one outer blossom of weight 0.
+    /// Takes the time of the two ways from the edge to the root, and of the vertices in the smaller parts.
+    pub fn shrink(&mut self, g: &WGraph, e: u32)
+        requires graph { IsSmallGraph (graph g.now) }
+        requires valid { IsValidFor (graph g.now) self.old }
+        requires edge { e < length g.now.edges.items }
+        requires kind { kind_of (graph g.now) (forest_of self.old) e ≡ Shrink }
+        ensures changed { IsShrinking (darts_of (graph g.now)) (forest_of self.old) (forest_of self.new) self.old.root
+            self.new.root (2 * e) }
+        ensures valid { IsValidFor (graph g.now) self.new }
+    {
+        let start = 2 * e;
+        let a = self.outermost(near(g, start));
+        let c = self.reached(g, start);
+        let fork = self.fork(g, a, c);
+        let mate = self.mate(fork.top);
+        self.lay_ring(g, start, fork);
+        self.close_ring(fork.top, fork.left + fork.right + 1, mate);
+    }
+
+    /// The blossoms of a ring leave the tree, and are gathered into one outer blossom.
+    fn close_ring(&mut self, top: u32, many: u32, mate: Option<u32>)
+        requires tops { (k : ℕ) → k < many → IsOutermostIn self.old (walk (slice_index self.old.after) top k) }
+        requires free { (left : ForestTables) → forest_of left ≡ left_alone (forest_of self.old) top many
+            → HasSameNest self.old left → IsFreeRing left top many }
+        ensures { HasClosed self.old self.new top many mate }
+    {
+        self.leave(top, many);
+        let set = self.gather(top, many);
+        let v = self.leader(set);
+        self.set_label(v, Label::Outer);
+        self.set_mate(set, mate);
+    }
+
+    /// The blossoms of a ring leave the tree, and have no mates any more.
+    fn leave(&mut self, front: u32, many: u32)
+        requires { (k : ℕ) → k < many → IsOutermostIn self.old (walk (slice_index self.old.after) front k) }
+        ensures seen { forest_of self.new ≡ left_alone (forest_of self.old) front many }
+        ensures same { HasSameNest self.old self.new }
+    {
+        let mut x = front;
+        for _ in 0..many {
+            let v = self.leader(x);
+            self.set_label(v, Label::Outside);
+            self.set_mate(x, None);
+            x = self.next(x);
+        }
+    }
+
+    /// A vertex of an outermost blossom.
+    pub(crate) fn leader(&self, b: u32) -> u32
+        requires { IsOutermostIn self.now b }
+        ensures value { (forest_of self.now).out result ≡ b }
+        ensures low { result < length self.now.hand }
+        ensures blossom { b < length self.now.up }
+    {
+        self.lists.leader[b as usize]
+    }
+
+    /// The blossom after another on the ring.
+    pub(crate) fn next(&self, b: u32) -> u32
+        requires { b < length self.now.up }
+        ensures { result ≡ slice_index self.now.after b }
+    {
+        self.rings.after[b as usize]
+    }
+}
