@@ -1,7 +1,8 @@
 //! A motion on a square with two notches: its end in three orders, and what it tells on the way.
 
 ghost use Rattle.std.specs.Prelude.{◌≡◌, ◌<◌, true, length};
-ghost use Rattle.def_cut.specs.Events.{may_ride as rides_now};
+ghost use Rattle.def_cut.specs.Events.{may_ride as rides_now, may_settle as settles_now};
+ghost use Rattle.def_cut.specs.Traced.{terrain_of};
 ghost use Rattle.def_motion.specs.Views.{IsMotionOn};
 
 use crate::{Motion, Starts, Stop, trace};
@@ -70,6 +71,14 @@ fn ride(motion: &mut Motion, mesh: &Mesh, src: &Starts, r: u32)
     }
 }
 
+/// Whether there is a vertex v that may be settled.
+fn may_settle(motion: &Motion, mesh: &Mesh, v: u32) -> bool
+    requires { IsMotionOn mesh.now motion.now }
+    ensures { result ≡ true → settles_now (terrain_of mesh.now) motion.now.state v ≡ true }
+{
+    v < mesh.vertices() && motion.may_settle(mesh, v)
+}
+
 /// Settles v where it may be settled.
 fn settle(motion: &mut Motion, mesh: &Mesh, src: &Starts, v: u32)
     requires motion { IsMotionOn mesh.now motion.old }
@@ -77,7 +86,7 @@ fn settle(motion: &mut Motion, mesh: &Mesh, src: &Starts, v: u32)
     ensures motion { IsMotionOn mesh.now motion.new }
     ensures starts { motion.new.starts ≡ src.now.starts.items }
 {
-    if v < mesh.vertices() && motion.may_settle(mesh, v) {
+    if may_settle(motion, mesh, v) {
         motion.settle(mesh, v);
     }
 }
@@ -139,6 +148,7 @@ fn each_event_is_seen(rt: HostRuntime) -> Result<(), Fail> {
     ride(&mut motion, &mesh, &src, 0);
     ride(&mut motion, &mesh, &src, 1);
     assert!(rt; !may_ride(&motion, &src, 0) && may_ride(&motion, &src, 2));
+    assert!(rt; !may_settle(&motion, &mesh, 10));
     settle_all(&mut motion, &mesh, &src, false);
     assert!(rt; may_ride(&motion, &src, 2));
     ride_all(&mut motion, &mesh, &src, true);
