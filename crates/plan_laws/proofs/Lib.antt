@@ -2,3 +2,4 @@ pub mod ArcUses
 pub mod NodeEdges
 pub mod Lies
 pub mod PlanLies
+pub mod OnePlan

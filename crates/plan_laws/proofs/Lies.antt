@@ -151,7 +151,7 @@ module _ (m : HalfEdges) (laws : IsQuadManifold m) (cut : Cut) (full : IsCut m c
       subst (λ (xs : List ℕ). get_or xs i 0 < get_or xs j 0) (sym lay.nodes)
       (rises node 0 v_count i j less (subst (λ (xs : List ℕ). j < length xs) lay.nodes low))
 
-  vertex_same : (i j : ℕ) → i < length t.nodes → j < length t.nodes → vertex_at t i ≡ vertex_at t j → i ≡ j
+  pub vertex_same : (i j : ℕ) → i < length t.nodes → j < length t.nodes → vertex_at t i ≡ vertex_at t j → i ≡ j
   vertex_same i j i_low j_low e = elim (cases_order i j) [
     | inl s ↦ s
     | inr o ↦ elim o [

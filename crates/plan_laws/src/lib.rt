@@ -1,9 +1,14 @@
 //! The layout of a mesh and a full cut lies in the mesh: its cells are the faces, and its arcs are runs of darts.
 #![tactic(auto)]
 
-ghost use Rattle.def_written.specs.PlanLaws.{PlanLaw};
+ghost use Rattle.def_written.specs.PlanLaws.{OneLayoutLaw, PlanLaw};
 
 /// What is proved of layouts that lie in a mesh holds for the layout of a mesh and a full cut.
 pub fn plan_law()
     ensures { PlanLaw }
+{}
+
+/// A mesh and a full cut have at most one layout.
+pub fn one_layout_law()
+    ensures { OneLayoutLaw }
 {}
