@@ -1,11 +1,9 @@
 -- A mesh and a full cut have at most one layout.
-use Rattle.std.proofs.Common.{◌≡◌, ◌≢◌, ◌⊎◌, ℕ, zero, suc, ◌+◌, ◌-◌, ◌<◌, ◌≤◌, Bool, true, false, List, [], length, get_or, Some, refl, sym, ◌∙◌, ap, subst, inl, inr, arith}
+use Rattle.std.proofs.Common.{◌≡◌, ◌⊎◌, ℕ, zero, suc, ◌+◌, ◌-◌, ◌<◌, ◌≤◌, Bool, true, false, List, [], length, get_or, sym, ◌∙◌, ap, subst, inl, inr, arith}
 use Rattle.std.proofs.lemmas.Bool.{cases_eq, cases_order}
-use Rattle.std.proofs.lemmas.List.{ext_get_or, get_or_default}
-use Rattle.def_math.specs.Counts.{count_below}
+use Rattle.std.proofs.lemmas.List.{ext_get_or}
 use Rattle.qm_laws.proofs.Counts.{count_below_same}
 use Rattle.qm_laws.proofs.Runs.{count_rises}
-use Rattle.def_mesh.specs.Faces.{Faces}
 use Rattle.def_mesh.specs.HalfEdges.{HalfEdges, IsQuadManifold, half_edges}
 use Rattle.def_mesh.specs.Vertices.{vertex_count}
 use Rattle.def_cut.specs.Cuts.{Cut, IsCut}
@@ -16,11 +14,11 @@ use Rattle.cut_laws.proofs.OneList.{one_list_law}
 use Rattle.cut_laws.proofs.Rising.{AreRising, rising_place, same_many, same_values}
 use Rattle.def_layout.specs.declared.tmesh.SideArc.{SideArc}
 use Rattle.def_layout.specs.Arcs.{to, LiesAt, Path, arc_at, dart_at, long_at, name_at, AreArcs}
-use Rattle.def_layout.specs.Borders.{side_size, border_dart}
-use Rattle.def_layout.specs.Layouts.{Way, south, east, north, west, Layout, Slot, IsSlot, use_of}
+use Rattle.def_layout.specs.Borders.{border_dart}
+use Rattle.def_layout.specs.Layouts.{Way, south, east, north, west, Slot, IsSlot}
 use Rattle.def_layout.specs.Lengths.{reach}
 use Rattle.def_layout.specs.Nodes.{is_node, AreNodes}
-use Rattle.def_layout.specs.Plans.{Plan, number, side_at, vertex_at, layout_of, IsLayout}
+use Rattle.def_layout.specs.Plans.{Plan, side_at, vertex_at, layout_of, IsLayout}
 use Rattle.def_written.specs.PlanLaws.{OneLayoutLaw}
 use Rattle.face_laws.proofs.FullCuts.{full_cut_law}
 use Rattle.layout_laws.proofs.FaceNodes.{are_nodes}
