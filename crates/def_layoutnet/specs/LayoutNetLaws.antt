@@ -24,3 +24,8 @@ pub record AreOpposite (layout : Layout) (lengths : ℕ → ℤ) : Type 0 where
 abbrev pub BalanceLaw : Type 0
 BalanceLaw = (layout : Layout) (old : Lengths) (settings : Settings) (net : Network) → IsLaid layout
     → IsNetOf layout old settings net → (lengths : ℕ → ℤ) → IsBalanced net.arcs lengths ↔ AreOpposite layout lengths
+
+-- A layout has one network.
+abbrev pub OneNetLaw : Type 0
+OneNetLaw = (layout : Layout) (old : Lengths) (settings : Settings) → IsLaid layout → (one other : Network)
+    → IsNetOf layout old settings one → IsNetOf layout old settings other → one ≡ other

@@ -5,3 +5,4 @@ mod SideReads
 mod Whole
 mod Tangles
 mod Built
+mod OneNet

@@ -8,4 +8,4 @@ mod law;
 
 pub use build::net_of;
 pub use def_layoutnet::NetFail;
-pub use law::balance_law;
+pub use law::{balance_law, one_net_law};
