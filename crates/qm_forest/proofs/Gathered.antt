@@ -1,32 +1,26 @@
 -- The tables after a ring of outermost blossoms was gathered into a set.
-use Rattle.std.proofs.Common.{◌≡◌, ◌≢◌, ℕ, zero, suc, ◌+◌, ◌-◌, ◌<◌, ◌≤◌, Bool, true, false, cond, eqb, List, length, get_or, count_by, is_some, ℤ, pos, ◌+ℤ◌, ◌-ℤ◌, ◌≤ℤ◌, ◌⊎◌, Option, Some, None, refl, sym, ◌∙◌, ap, subst, inl, inr, length-set, get_or-set_same, get_or-set_other, arith}
+use Rattle.std.proofs.Common.{◌≡◌, ◌≢◌, ℕ, zero, suc, ◌+◌, ◌-◌, ◌<◌, ◌≤◌, Bool, true, false, cond, eqb, List, length, get_or, ℤ, pos, ◌+ℤ◌, ◌-ℤ◌, ◌⊎◌, Option, Some, None, refl, sym, ◌∙◌, ap, subst, inl, inr, length-set, get_or-set_same, get_or-set_other, arith}
 use Rattle.std.proofs.Math.ListN.{set}
-use Rattle.std.specs.Prelude.{unsigned_abs, slice_get, nat_lt}
-use Rattle.std.proofs.lemmas.Int.{ints}
-use Rattle.std.proofs.lemmas.Bool.{cases_eq, cases_lt, cases_Bool, cond-true, cond-false, eq-eqb, ne_eqb, eqb-true, le-ltb}
-use Rattle.std.proofs.lemmas.List.Sums.{sum_by-set}
-use Rattle.std.proofs.lemmas.Option.{slice_get-get_or, slice_get_past, slice_get_within, get_or_from_slice_get}
-use Rattle.def_math.specs.Counts.{count_below}
-use Rattle.def_math.specs.Sums.{total_below}
-use Rattle.qm_laws.proofs.Counts.{count_below_same, count_below_sum, count_below_one}
-use Rattle.qm_laws.proofs.Sums.{total_below_same}
-use Rattle.def_forest.specs.Forests.{number, walk, ring_sum, set_at}
-use Rattle.def_forest.specs.Steps.{change}
+use Rattle.std.specs.Prelude.{slice_get}
+use Rattle.std.proofs.lemmas.Bool.{cases_eq, cases_Bool, cond-true, cond-false, eq-eqb, ne_eqb}
+use Rattle.def_forest.specs.Forests.{walk, ring_sum, set_at}
 use Rattle.def_forest.specs.Tables.{ForestTables, forest_of, climbs, label_at, out_of, up_at, weight_at}
-use Rattle.def_forest.specs.declared.kinds.Label.{Label}
 use Rattle.def_forest.specs.declared.kinds.Label.TheVariants.{Outside}
-use Rattle.forest_laws.specs.Walks.{listed, live_at, writes}
-use Rattle.forest_laws.proofs.Walks.{listed_at, listed_place, listed_off, writes_all, writes_at, writes_off}
-use Rattle.forest_laws.proofs.Writes.{label_cases, by_none, set_here, set_there}
+use Rattle.forest_laws.specs.Walks.{listed, writes}
+use Rattle.forest_laws.proofs.Walks.{listed_place, writes_all, writes_at, writes_off}
+use Rattle.forest_laws.proofs.Writes.{set_here, set_there}
 use Rattle.qm_pool.specs.declared.pool.Node.{Node}
 use Rattle.qm_forest.specs.Gathers.{IsRow, IsGathered}
-use Rattle.qm_forest.specs.Ties.{AreTied, HiddenTables, HasSizes, HasNumbers, IsClimb, IsInUse, IsLaidOut, IsListed, IsPooled, IsTrailed, added, told, weights_around, all_weights}
+use Rattle.qm_forest.specs.Ties.{AreTied, HiddenTables, HasSizes, HasNumbers, IsClimb, IsInUse, IsLaidOut, IsListed, IsPooled, IsTrailed}
 use Rattle.qm_forest.proofs.Enclosed.{climb_enclosed as the_climb_enclosed, holds_same as the_holds_same, holds_new as the_holds_new}
 use Rattle.qm_forest.proofs.JoinedLists.{list_agrees, list_renamed, list_has_last, last_alone, row_joined}
 use Rattle.qm_forest.proofs.JoinedRows.{ring_sum_low}
 use Rattle.qm_forest.proofs.Ranges.{read_nat}
 use Rattle.qm_forest.proofs.TiedWrites.{entry_set}
-use Rattle.qm_forest.proofs.Nests.{came_past, reached_used, out_used, list_of, rank_few, rank_some, held_out, leader_low, leader_out}
+use Rattle.qm_forest.proofs.Nests.{out_used, list_of, rank_few, rank_some, held_out}
+use Rattle.qm_forest.proofs.GatheredRows.{RowFacts, row_facts}
+use Rattle.qm_forest.proofs.GatheredNumbers.{numbers_new as the_numbers_new}
+use Rattle.qm_forest.proofs.Pooled.{pool_taken}
 
 module _ (t : ForestTables) (hid : HiddenTables) (tied : AreTied t hid) (front many b big : ℕ) (row : IsRow (length t.up) t.after front many)
     (tops : (k : ℕ) → k < many → (v : ℕ) × (v < length t.hand) × (out_of t.hand t.top v ≡ walk (λ i. get_or t.after i 0) front k))
@@ -48,96 +42,8 @@ module _ (t : ForestTables) (hid : HiddenTables) (tied : AreTied t hid) (front m
   abbrev handle : ℕ
   handle = get_or hid.leader big 0
 
-  -- The new number lies on no way.
-  never : (v i : ℕ) → v < n → walk (up_at t.up) v i ≢ b
-  never v i l e = by_use (reached_used n (length t.up) t.hand t.top t.up t.rank t.parts hid.leader hid.first hid.last hid.following tied.nest v i b l e)
-    where
-      by_use : IsInUse n t.parts b → ⊥
-      by_use (inl lb) = omega (arith, lb, high)
-      by_use (inr live) = live dead
-
-  pub no_out : (v : ℕ) → v < n → out v ≢ b
-  no_out v l e = never v n l (tied.nest.climb.ends v l ∙ e)
-
-  unused : (x : ℕ) → x ≢ b → up_at t.up x ≢ b
-  unused x ne e = (tied.nest.around x (λ s. ne (sym s ∙ e))).1 (ap (λ y. get_or t.parts y 0) e ∙ dead)
-
-  alone : up_at t.up b ≡ b
-  alone = tied.nest.idle b high dead
-
-  b_outside : label_at t.label b ≡ Outside
-  b_outside = by_label (label_cases (label_at t.label b))
-    where
-      by_label : (label_at t.label b ≡ Outside) ⊎ (label_at t.label b ≢ Outside) → label_at t.label b ≡ Outside
-      by_label (inl e) = e
-      by_label (inr named) = let w : (k : ℕ) × (k < length t.trail) × (out (get_or t.trail k 0) ≡ b) = tied.trail.named b named in absurd (no_out (get_or t.trail w.0 0) (tied.trail.low w.0 w.1) w.2)
-
-  -- What is in the row is the outermost blossom of a vertex.
-  pub in_row_out : (x : ℕ) → inside x ≡ true → (v : ℕ) × (v < n) × (out v ≡ x)
-  in_row_out x yes' = let w : (k : ℕ) × (k < many) × (at k ≡ x) = listed_place (λ i. get_or t.after i 0) front many x yes' in let v : (v : ℕ) × (v < n) × (out v ≡ at w.0) = tops w.0 w.1 in (v.0, v.1, v.2 ∙ w.2)
-
-  row_top : (x : ℕ) → inside x ≡ true → up_at t.up x ≡ x
-  row_top x yes' = let w : (v : ℕ) × (v < n) × (out v ≡ x) = in_row_out x yes' in ap (up_at t.up) (sym w.2) ∙ (tied.nest.climb.tops w.0 w.1 ∙ w.2)
-
-  row_outside : (x : ℕ) → inside x ≡ true → label_at t.label x ≡ Outside
-  row_outside x yes' = let w : (k : ℕ) × (k < many) × (at k ≡ x) = listed_place (λ i. get_or t.after i 0) front many x yes' in ap (label_at t.label) (sym w.2) ∙ outside w.0 w.1
-
-  at_in : (k : ℕ) → k < many → inside (at k) ≡ true
-  at_in k l = listed_at (λ i. get_or t.after i 0) front many k l
-
-  b_off : inside b ≡ false
-  b_off = listed_off (λ i. get_or t.after i 0) front many b (λ k l e. (let v : (v : ℕ) × (v < n) × (out v ≡ at k) = tops k l in no_out v.0 v.1 (v.2 ∙ e)))
-
-  pub big_in : inside big ≡ true
-  big_in = ap inside (sym on.2) ∙ at_in on.0 on.1
-
-  big_out : (v : ℕ) × (v < n) × (out v ≡ big)
-  big_out = in_row_out big big_in
-
-  pub handle_low : handle < n
-  handle_low = subst (λ x. get_or hid.leader x 0 < n) big_out.2 (leader_low n (length t.up) t.hand t.top t.up t.rank t.parts hid.leader hid.first hid.last hid.following tied.nest big_out.0 big_out.1)
-
-  handle_out : out handle ≡ big
-  handle_out = ap (λ x. out (get_or hid.leader x 0)) (sym big_out.2) ∙ (leader_out n (length t.up) t.hand t.top t.up t.rank t.parts hid.leader hid.first hid.last hid.following tied.nest big_out.0 big_out.1 ∙ big_out.2)
-
-  handle_top : handle < length t.top
-  handle_top = subst (λ m. handle < m) (sym tied.sizes.top) handle_low
-
-  -- Who has the handle that is kept is in the row.
-  own_handle : (v : ℕ) → v < n → get_or t.hand v 0 ≡ handle → out v ≡ big
-  own_handle v l e =
-      let led : get_or t.hand v 0 ≡ get_or hid.leader (out v) 0 = tied.nest.led v l in
-      let same : out (get_or t.hand v 0) ≡ out v = ap out led ∙ leader_out n (length t.up) t.hand t.top t.up t.rank t.parts hid.leader hid.first hid.last hid.following tied.nest v l in
-      sym same ∙ (ap out e ∙ handle_out)
-
-  pub held : (k v : ℕ) → k < many → v < n → climbs (up_at t.up) n (at k) v ≡ eqb (out v) (at k)
-  held k v lk lv = let w : (u : ℕ) × (u < n) × (out u ≡ at k) = tops k lk in by_test w.0 w.1 w.2 (cases_Bool (climbs (up_at t.up) n (at k) v)) (cases_eq (out v) (at k))
-    where
-      by_test : (u : ℕ) → u < n → out u ≡ at k → (climbs (up_at t.up) n (at k) v ≡ true) ⊎ (climbs (up_at t.up) n (at k) v ≡ false) → (out v ≡ at k) ⊎ (out v ≢ at k) → climbs (up_at t.up) n (at k) v ≡ eqb (out v) (at k)
-      by_test u lu e (inl yes') x = yes' ∙ sym (eq-eqb (out v) (at k) (held_out n (length t.up) t.hand t.top t.up t.rank t.parts hid.leader hid.first hid.last hid.following tied.nest u v lu lv (ap (λ y. climbs (up_at t.up) n y v) e ∙ yes') ∙ e))
-      by_test u lu e (inr off) (inr ne) = off ∙ sym (ne_eqb (out v) (at k) ne)
-      by_test u lu e (inr off) (inl same) = absurd (clash off (past (tied.nest.climb.ends v lv ∙ same)))
-        where
-          clash : climbs (up_at t.up) n (at k) v ≡ false → climbs (up_at t.up) n (at k) v ≡ true → ⊥
-          clash p q = (let h : false ≡ true = sym p ∙ q in cc)
-
-          past : walk (up_at t.up) v n ≡ at k → climbs (up_at t.up) n (at k) v ≡ true
-          past w = came_past (up_at t.up) n v (at k) w
-
-  -- The lists of the row.
-  pub row_list : (k : ℕ) → k < many → IsListed n (λ i. get_or hid.following i 0) (get_or hid.first (at k) 0) (get_or hid.last (at k) 0) (get_or t.rank (at k) 0) (climbs (up_at t.up) n (at k))
-  row_list k l = let w : (v : ℕ) × (v < n) × (out v ≡ at k) = tops k l in
-      subst (λ x. IsListed n (λ i. get_or hid.following i 0) (get_or hid.first x 0) (get_or hid.last x 0) (get_or t.rank x 0) (climbs (up_at t.up) n x)) w.2 (list_of n (length t.up) t.hand t.top t.up t.rank t.parts hid.leader hid.first hid.last hid.following tied.nest w.0 w.1)
-
-  row_ended : (k : ℕ) → k < many → get_or hid.following (get_or hid.last (at k) 0) 0 ≡ get_or hid.last (at k) 0
-  row_ended k l = let w : (v : ℕ) × (v < n) × (out v ≡ at k) = tops k l in subst (λ x. get_or hid.following (get_or hid.last x 0) 0 ≡ get_or hid.last x 0) w.2 (tied.nest.ended w.0 w.1)
-
-  pub last_in : (k : ℕ) → k < many → (get_or hid.last (at k) 0 < n) × (out (get_or hid.last (at k) 0) ≡ at k)
-  last_in k l = let w : (get_or hid.last (at k) 0 < n) × (climbs (up_at t.up) n (at k) (get_or hid.last (at k) 0) ≡ true) = list_has_last n (λ i. get_or hid.following i 0) (get_or hid.first (at k) 0) (get_or hid.last (at k) 0) (get_or t.rank (at k) 0) (climbs (up_at t.up) n (at k)) (row_list k l) in
-      (w.0, eqb-true (out (get_or hid.last (at k) 0)) (at k) (sym (held k (get_or hid.last (at k) 0) l w.0) ∙ w.1))
-
-  lasts_differ : (i j : ℕ) → i < j → j < many → get_or hid.last (at i) 0 ≢ get_or hid.last (at j) 0
-  lasts_differ i j lij lj e = row.distinct i j lij lj (sym (last_in i (omega (arith, lij, lj))).1 ∙ (ap out e ∙ (last_in j lj).1))
+  facts : RowFacts t hid front many b big
+  facts = row_facts t hid tied front many b big row tops outside high low dead on
 
   module _ (hand2 top2 up2 head2 parts2 rank2 : List ℕ) (root2 : Option ℕ) (q2 : List ℤ) (leader2 first2 last2 following2 : List ℕ) (pool2 : List (Option Node)) (id : ℕ) (node : Node)
       (hands : (v : ℕ) → v < length t.hand → get_or hand2 v 0 ≡ cond (inside (out v)) (get_or hid.leader big 0) (get_or t.hand v 0)) (hand_size : length hand2 ≡ length t.hand)
@@ -165,13 +71,13 @@ module _ (t : ForestTables) (hid : HiddenTables) (tied : AreTied t hid) (front m
     fresh v = cond (inside (out v)) b (out v)
 
     pub climb_enclosed : IsClimb n (up_at up2) (λ v. cond (inside (out v)) b (out v))
-    climb_enclosed = the_climb_enclosed n (up_at t.up) rank out tied.nest.climb tied.nest.rises ones few (up_at up2) inside b high row_top b_off alone unused ups
+    climb_enclosed = the_climb_enclosed n (up_at t.up) rank out tied.nest.climb tied.nest.rises ones few (up_at up2) inside b high facts.row_top facts.b_off facts.alone facts.unused ups
 
     pub holds_old : (x v : ℕ) → x ≢ b → v < n → climbs (up_at up2) n x v ≡ climbs (up_at t.up) n x v
-    holds_old x v ne l = the_holds_same n (up_at t.up) rank out tied.nest.climb tied.nest.rises ones few (up_at up2) inside b high row_top b_off alone unused ups v x ne l
+    holds_old x v ne l = the_holds_same n (up_at t.up) rank out tied.nest.climb tied.nest.rises ones few (up_at up2) inside b high facts.row_top facts.b_off facts.alone facts.unused ups v x ne l
 
     pub holds_new : (v : ℕ) → v < n → climbs (up_at up2) n b v ≡ inside (out v)
-    holds_new v l = the_holds_new n (up_at t.up) rank out tied.nest.climb tied.nest.rises ones few (up_at up2) inside b high row_top b_off alone unused ups v l
+    holds_new v l = the_holds_new n (up_at t.up) rank out tied.nest.climb tied.nest.rises ones few (up_at up2) inside b high facts.row_top facts.b_off facts.alone facts.unused ups v l
 
     -- The outermost blossoms.
     pub out_new : (v : ℕ) → v < n → out_of hand2 top2 v ≡ cond (inside (out v)) b (out v)
@@ -180,10 +86,10 @@ module _ (t : ForestTables) (hid : HiddenTables) (tied : AreTied t hid) (front m
         by_test : (inside (out v) ≡ true) ⊎ (inside (out v) ≡ false) → out_of hand2 top2 v ≡ cond (inside (out v)) b (out v)
         by_test (inl yes') =
             let h : get_or hand2 v 0 ≡ handle = hands v l ∙ cond-true (inside (out v)) handle (get_or t.hand v 0) yes' in
-            ap (λ k. get_or top2 k 0) h ∙ (ap (λ xs. get_or xs handle 0) top_is ∙ (get_or-set_same t.top handle b 0 handle_top ∙ sym (cond-true (inside (out v)) b (out v) yes')))
+            ap (λ k. get_or top2 k 0) h ∙ (ap (λ xs. get_or xs handle 0) top_is ∙ (get_or-set_same t.top handle b 0 facts.handle_top ∙ sym (cond-true (inside (out v)) b (out v) yes')))
         by_test (inr off) =
             let h : get_or hand2 v 0 ≡ get_or t.hand v 0 = hands v l ∙ cond-false (inside (out v)) handle (get_or t.hand v 0) off in
-            let other : get_or t.hand v 0 ≢ handle = λ e. clash off (ap inside (own_handle v l e) ∙ big_in) in
+            let other : get_or t.hand v 0 ≢ handle = λ e. clash off (ap inside (facts.own_handle v l e) ∙ facts.big_in) in
             ap (λ k. get_or top2 k 0) h ∙ (ap (λ xs. get_or xs (get_or t.hand v 0) 0) top_is ∙ (get_or-set_other t.top handle (get_or t.hand v 0) b 0 other ∙ sym (cond-false (inside (out v)) b (out v) off)))
           where
             clash : inside (out v) ≡ false → inside (out v) ≡ true → ⊥
@@ -208,7 +114,7 @@ module _ (t : ForestTables) (hid : HiddenTables) (tied : AreTied t hid) (front m
     -- The joined list.
     next_at : (k : ℕ) → suc k < many → get_or following2 (get_or hid.last (at k) 0) 0 ≡ get_or hid.first (at (suc k)) 0
     next_at k l = ap (λ (f : ℕ → ℕ). f (get_or hid.last (at k) 0)) following_is
-        ∙ writes_at (λ i. get_or hid.following i 0) (λ j. get_or hid.last (at j) 0) (λ j. get_or hid.first (at (suc j)) 0) (many - 1) k (omega (arith, l)) (λ i j lij lj. lasts_differ i j lij (omega (arith, lj)))
+        ∙ writes_at (λ i. get_or hid.following i 0) (λ j. get_or hid.last (at j) 0) (λ j. get_or hid.first (at (suc j)) 0) (many - 1) k (omega (arith, l)) (λ i j lij lj. facts.lasts_differ i j lij (omega (arith, lj)))
 
     next_off : (x : ℕ) → ((k : ℕ) → suc k < many → get_or hid.last (at k) 0 ≢ x) → get_or following2 x 0 ≡ get_or hid.following x 0
     next_off x off = ap (λ (f : ℕ → ℕ). f x) following_is ∙ writes_off (λ i. get_or hid.following i 0) (λ j. get_or hid.last (at j) 0) (λ j. get_or hid.first (at (suc j)) 0) (many - 1) x (λ k l. off k (omega (arith, l)))
@@ -216,14 +122,14 @@ module _ (t : ForestTables) (hid : HiddenTables) (tied : AreTied t hid) (front m
     -- Each old list stays.
     old_list : (from to count : ℕ) (set' : ℕ → Bool) → IsListed n (λ i. get_or hid.following i 0) from to count set' → IsListed n (λ i. get_or following2 i 0) from to count set'
     old_list from to count set' is = list_agrees n (λ i. get_or hid.following i 0) (λ i. get_or following2 i 0) from to count set' is (λ k l. next_off (walk (λ i. get_or hid.following i 0) from k)
-        (λ j lj e. last_alone n (λ i. get_or hid.following i 0) from to count set' is (get_or hid.last (at j) 0) (row_ended j (omega (arith, lj))) k l (sym e)))
+        (λ j lj e. last_alone n (λ i. get_or hid.following i 0) from to count set' is (get_or hid.last (at j) 0) (facts.row_ended j (omega (arith, lj))) k l (sym e)))
 
     new_list : IsListed n (λ i. get_or following2 i 0) (get_or hid.first front 0) (get_or hid.last (at (many - 1)) 0) total (λ v. inside (out v))
     new_list =
         let whole : suc (many - 1) ≡ many = omega (arith, two) in
         subst (λ m. IsListed n (λ i. get_or following2 i 0) (get_or hid.first front 0) (get_or hid.last (at (many - 1)) 0) (ring_sum (λ i. get_or t.after i 0) rank front m) (λ v. listed (λ i. get_or t.after i 0) front m (out v))) whole
         (row_joined n (λ i. get_or following2 i 0) (λ i. get_or t.after i 0) (λ x. get_or hid.first x 0) (λ x. get_or hid.last x 0) rank front many out row.distinct
-        (λ k l. list_renamed n (λ i. get_or following2 i 0) (get_or hid.first (at k) 0) (get_or hid.last (at k) 0) (rank (at k)) (climbs (up_at t.up) n (at k)) (λ v. eqb (out v) (at k)) (old_list (get_or hid.first (at k) 0) (get_or hid.last (at k) 0) (rank (at k)) (climbs (up_at t.up) n (at k)) (row_list k l)) (λ v lv. held k v l lv))
+        (λ k l. list_renamed n (λ i. get_or following2 i 0) (get_or hid.first (at k) 0) (get_or hid.last (at k) 0) (rank (at k)) (climbs (up_at t.up) n (at k)) (λ v. eqb (out v) (at k)) (old_list (get_or hid.first (at k) 0) (get_or hid.last (at k) 0) (rank (at k)) (climbs (up_at t.up) n (at k)) (facts.row_list k l)) (λ v lv. facts.held k v l lv))
         next_at (many - 1) (omega (arith, two)))
 
     row_rank : (k : ℕ) → k < many → rank (at k) < total
@@ -239,7 +145,7 @@ module _ (t : ForestTables) (hid : HiddenTables) (tied : AreTied t hid) (front m
             below j d e = subst (λ m. ring_sum (λ i. get_or t.after i 0) rank front (suc j) ≤ ring_sum (λ i. get_or t.after i 0) rank front m) e (grows (suc j) d)
 
         some_at : (j : ℕ) → j < many → 1 ≤ rank (at j)
-        some_at j lj = (row_list j lj).some
+        some_at j lj = (facts.row_list j lj).some
 
         positive : (j : ℕ) → 1 ≤ j → j ≤ many → 1 ≤ ring_sum (λ i. get_or t.after i 0) rank front j
         positive zero lj le = absurd (omega (arith, lj))
@@ -270,11 +176,11 @@ module _ (t : ForestTables) (hid : HiddenTables) (tied : AreTied t hid) (front m
         top_size = ap length top_is ∙ length-set t.top handle b
 
         hand_low : (v : ℕ) → v < n → (inside (out v) ≡ true) ⊎ (inside (out v) ≡ false) → get_or hand2 v 0 < length t.top
-        hand_low v l (inl yes') = subst (λ x. x < length t.top) (sym (hands v l ∙ cond-true (inside (out v)) handle (get_or t.hand v 0) yes')) handle_top
+        hand_low v l (inl yes') = subst (λ x. x < length t.top) (sym (hands v l ∙ cond-true (inside (out v)) handle (get_or t.hand v 0) yes')) facts.handle_top
         hand_low v l (inr off) = subst (λ x. x < length t.top) (sym (hands v l ∙ cond-false (inside (out v)) handle (get_or t.hand v 0) off)) (tied.nest.hands v l)
 
         out_low : (h : ℕ) → h < length t.top → (h ≡ handle) ⊎ (h ≢ handle) → get_or top2 h 0 < length t.up
-        out_low h l (inl e) = subst (λ x. x < length t.up) (sym (ap (λ xs. get_or xs h 0) top_is ∙ (ap (λ k. get_or (set t.top handle b) k 0) e ∙ get_or-set_same t.top handle b 0 handle_top))) low
+        out_low h l (inl e) = subst (λ x. x < length t.up) (sym (ap (λ xs. get_or xs h 0) top_is ∙ (ap (λ k. get_or (set t.top handle b) k 0) e ∙ get_or-set_same t.top handle b 0 facts.handle_top))) low
         out_low h l (inr ne) = subst (λ x. x < length t.up) (sym (ap (λ xs. get_or xs h 0) top_is ∙ get_or-set_other t.top handle h b 0 ne)) (tied.nest.outs h l)
 
         read_up : (xs : List ℕ) (x : ℕ) → x < length xs → get_or xs x 0 ≡ up_at xs x
@@ -286,7 +192,7 @@ module _ (t : ForestTables) (hid : HiddenTables) (tied : AreTied t hid) (front m
 
         led : (v : ℕ) → v < n → (inside (out v) ≡ true) ⊎ (inside (out v) ≡ false) → get_or hand2 v 0 ≡ get_or leader2 (out_of hand2 top2 v) 0
         led v l (inl yes') = (hands v l ∙ cond-true (inside (out v)) handle (get_or t.hand v 0) yes') ∙ sym (ap (λ x. get_or leader2 x 0) (out_in v l yes') ∙ at_new hid.leader leader2 handle leader_is tied.sizes.leader)
-        led v l (inr off) = (hands v l ∙ cond-false (inside (out v)) handle (get_or t.hand v 0) off) ∙ (tied.nest.led v l ∙ sym (ap (λ x. get_or leader2 x 0) (out_off v l off) ∙ at_old hid.leader leader2 handle (out v) leader_is (no_out v l)))
+        led v l (inr off) = (hands v l ∙ cond-false (inside (out v)) handle (get_or t.hand v 0) off) ∙ (tied.nest.led v l ∙ sym (ap (λ x. get_or leader2 x 0) (out_off v l off) ∙ at_old hid.leader leader2 handle (out v) leader_is (facts.no_out v l)))
 
         still_used : (x : ℕ) → x ≢ b → IsInUse n parts2 x → IsInUse n t.parts x
         still_used x ne (inl l) = inl l
@@ -295,7 +201,7 @@ module _ (t : ForestTables) (hid : HiddenTables) (tied : AreTied t hid) (front m
         leaders : (x : ℕ) → x < length t.up → IsInUse n parts2 x → (x ≡ b) ⊎ (x ≢ b) → (get_or leader2 x 0 < n) × (climbs (up_at up2) n x (get_or leader2 x 0) ≡ true)
         leaders x l used (inl e) =
             let is : get_or leader2 x 0 ≡ handle = ap (λ y. get_or leader2 y 0) e ∙ at_new hid.leader leader2 handle leader_is tied.sizes.leader in
-            (subst (λ y. y < n) (sym is) handle_low, ap (climbs (up_at up2) n x) is ∙ (ap (λ y. climbs (up_at up2) n y handle) e ∙ (holds_new handle handle_low ∙ (ap inside handle_out ∙ big_in))))
+            (subst (λ y. y < n) (sym is) facts.handle_low, ap (climbs (up_at up2) n x) is ∙ (ap (λ y. climbs (up_at up2) n y handle) e ∙ (holds_new handle facts.handle_low ∙ (ap inside facts.handle_out ∙ facts.big_in))))
         leaders x l used (inr ne) =
             let is : get_or leader2 x 0 ≡ get_or hid.leader x 0 = at_old hid.leader leader2 handle x leader_is ne in
             let was : (get_or hid.leader x 0 < n) × (climbs (up_at t.up) n x (get_or hid.leader x 0) ≡ true) = tied.nest.leaders x l (still_used x ne used) in
@@ -318,9 +224,9 @@ module _ (t : ForestTables) (hid : HiddenTables) (tied : AreTied t hid) (front m
         ended : (v : ℕ) → v < n → (inside (out v) ≡ true) ⊎ (inside (out v) ≡ false) → get_or following2 (get_or last2 (out_of hand2 top2 v) 0) 0 ≡ get_or last2 (out_of hand2 top2 v) 0
         ended v l (inl yes') =
             let is : get_or last2 (out_of hand2 top2 v) 0 ≡ get_or hid.last (at (many - 1)) 0 = ap (λ y. get_or last2 y 0) (out_in v l yes') ∙ at_new hid.last last2 (get_or hid.last (at (many - 1)) 0) last_is tied.sizes.last in
-            ap (λ y. get_or following2 y 0) is ∙ (next_off (get_or hid.last (at (many - 1)) 0) (λ k lk e. lasts_differ k (many - 1) (omega (arith, lk)) (omega (arith, two)) e) ∙ (row_ended (many - 1) (omega (arith, two)) ∙ sym is))
+            ap (λ y. get_or following2 y 0) is ∙ (next_off (get_or hid.last (at (many - 1)) 0) (λ k lk e. facts.lasts_differ k (many - 1) (omega (arith, lk)) (omega (arith, two)) e) ∙ (facts.row_ended (many - 1) (omega (arith, two)) ∙ sym is))
         ended v l (inr off) =
-            let is : get_or last2 (out_of hand2 top2 v) 0 ≡ get_or hid.last (out v) 0 = ap (λ y. get_or last2 y 0) (out_off v l off) ∙ at_old hid.last last2 (get_or hid.last (at (many - 1)) 0) (out v) last_is (no_out v l) in
+            let is : get_or last2 (out_of hand2 top2 v) 0 ≡ get_or hid.last (out v) 0 = ap (λ y. get_or last2 y 0) (out_off v l off) ∙ at_old hid.last last2 (get_or hid.last (at (many - 1)) 0) (out v) last_is (facts.no_out v l) in
             ap (λ y. get_or following2 y 0) is ∙ (next_off (get_or hid.last (out v) 0) (λ k lk e. not_row k (omega (arith, lk)) e) ∙ (tied.nest.ended v l ∙ sym is))
           where
             own_last : (get_or hid.last (out v) 0 < n) × (climbs (up_at t.up) n (out v) (get_or hid.last (out v) 0) ≡ true)
@@ -329,8 +235,8 @@ module _ (t : ForestTables) (hid : HiddenTables) (tied : AreTied t hid) (front m
             not_row : (k : ℕ) → k < many → get_or hid.last (at k) 0 ≡ get_or hid.last (out v) 0 → ⊥
             not_row k lk e =
                 let mine : out (get_or hid.last (out v) 0) ≡ out v = held_out n (length t.up) t.hand t.top t.up t.rank t.parts hid.leader hid.first hid.last hid.following tied.nest v (get_or hid.last (out v) 0) l own_last.0 own_last.1 in
-                let same : out v ≡ at k = sym mine ∙ (ap out (sym e) ∙ (last_in k lk).1) in
-                let s : false ≡ true = sym off ∙ (ap inside same ∙ at_in k lk) in cc
+                let same : out v ≡ at k = sym mine ∙ (ap out (sym e) ∙ (facts.last_in k lk).1) in
+                let s : false ≡ true = sym off ∙ (ap inside same ∙ facts.at_in k lk) in cc
 
         many_some : many ≢ 0
         many_some z = omega (arith, z, two)
@@ -347,7 +253,7 @@ module _ (t : ForestTables) (hid : HiddenTables) (tied : AreTied t hid) (front m
             by_used v l e (inr live) = live (ap (λ y. get_or t.parts y 0) e ∙ old_none)
 
             by_test : (inside x ≡ true) ⊎ (inside x ≡ false) → up_at up2 x ≡ x
-            by_test (inl yes') = let w : (v : ℕ) × (v < n) × (out v ≡ x) = in_row_out x yes' in absurd (by_used w.0 w.1 w.2 (out_used n (length t.up) t.hand t.top t.up t.rank t.parts hid.leader hid.first hid.last hid.following tied.nest w.0 w.1))
+            by_test (inl yes') = let w : (v : ℕ) × (v < n) × (out v ≡ x) = facts.in_row_out x yes' in absurd (by_used w.0 w.1 w.2 (out_used n (length t.up) t.hand t.top t.up t.rank t.parts hid.leader hid.first hid.last hid.following tied.nest w.0 w.1))
             by_test (inr off) = ups x ∙ (cond-false (inside x) b (up_at t.up x) off ∙ tied.nest.idle x hx old_none)
 
         around : (x : ℕ) → up_at up2 x ≢ x → (inside x ≡ true) ⊎ (inside x ≡ false) → (n ≤ up_at up2 x) × (get_or parts2 (up_at up2 x) 0 ≢ 0)
@@ -364,81 +270,23 @@ module _ (t : ForestTables) (hid : HiddenTables) (tied : AreTied t hid) (front m
         rises x inner (inl yes') =
             let is : up_at up2 x ≡ b = ups x ∙ cond-true (inside x) b (up_at t.up x) yes' in
             let w : (k : ℕ) × (k < many) × (at k ≡ x) = listed_place (λ i. get_or t.after i 0) front many x yes' in
-            let ne : x ≢ b = λ e. (let s : false ≡ true = sym b_off ∙ (ap inside (sym e) ∙ yes') in cc) in
+            let ne : x ≢ b = λ e. (let s : false ≡ true = sym facts.b_off ∙ (ap inside (sym e) ∙ yes') in cc) in
             let own : get_or rank2 x 0 ≡ rank (at w.0) = at_old t.rank rank2 total x rank_is ne ∙ ap rank (sym w.2) in
             let new : get_or rank2 (up_at up2 x) 0 ≡ total = ap (λ y. get_or rank2 y 0) is ∙ at_new t.rank rank2 total rank_is tied.sizes.rank in
             omega (arith, own, new, row_rank w.0 w.1)
         rises x inner (inr off) =
             let is : up_at up2 x ≡ up_at t.up x = ups x ∙ cond-false (inside x) b (up_at t.up x) off in
             let was : rank x < rank (up_at t.up x) = tied.nest.rises x (λ e. inner (is ∙ e)) in
-            let x_ne : x ≢ b = λ e. inner (ap (up_at up2) e ∙ (ups b ∙ (cond-false (inside b) b (up_at t.up b) b_off ∙ (alone ∙ sym e)))) in
+            let x_ne : x ≢ b = λ e. inner (ap (up_at up2) e ∙ (ups b ∙ (cond-false (inside b) b (up_at t.up b) facts.b_off ∙ (facts.alone ∙ sym e)))) in
             let own : get_or rank2 x 0 ≡ rank x = at_old t.rank rank2 total x rank_is x_ne in
-            let next : get_or rank2 (up_at up2 x) 0 ≡ rank (up_at t.up x) = ap (λ y. get_or rank2 y 0) is ∙ at_old t.rank rank2 total (up_at t.up x) rank_is (unused x x_ne) in
+            let next : get_or rank2 (up_at up2 x) 0 ≡ rank (up_at t.up x) = ap (λ y. get_or rank2 y 0) is ∙ at_old t.rank rank2 total (up_at t.up x) rank_is (facts.unused x x_ne) in
             omega (arith, own, next, was)
 
-    -- The numbers.
-    weights_same : (v : ℕ) → v < n → total_below (λ x. cond (climbs (up_at up2) n x v) (weight_at t.base t.label t.delta x) (pos 0)) (length t.up) ≡ total_below (λ x. cond (climbs (up_at t.up) n x v) (weight_at t.base t.label t.delta x) (pos 0)) (length t.up)
-    weights_same v l = total_below_same (λ x. cond (climbs (up_at up2) n x v) (weight_at t.base t.label t.delta x) (pos 0)) (λ x. cond (climbs (up_at t.up) n x v) (weight_at t.base t.label t.delta x) (pos 0)) (length t.up) (λ x lx. each x (cases_eq x b))
-      where
-        each : (x : ℕ) → (x ≡ b) ⊎ (x ≢ b) → cond (climbs (up_at up2) n x v) (weight_at t.base t.label t.delta x) (pos 0) ≡ cond (climbs (up_at t.up) n x v) (weight_at t.base t.label t.delta x) (pos 0)
-        each x (inl e) =
-            let z : weight_at t.base t.label t.delta x ≡ pos 0 = ap (weight_at t.base t.label t.delta) e ∙ weightless in
-            ap (λ (w : ℤ). cond (climbs (up_at up2) n x v) w (pos 0)) z ∙ (by_none (climbs (up_at up2) n x v) ∙ sym (ap (λ (w : ℤ). cond (climbs (up_at t.up) n x v) w (pos 0)) z ∙ by_none (climbs (up_at t.up) n x v)))
-        each x (inr ne) = ap (λ (s : Bool). cond s (weight_at t.base t.label t.delta x) (pos 0)) (holds_old x v ne l)
-
-    change_none : (x : ℕ) → label_at t.label x ≡ Outside → change (label_at t.label x) t.delta ≡ pos 0
-    change_none x e = ap (λ (l : Label). change l t.delta) e
-
-    told_same : (v : ℕ) → v < n → told q2 hand2 top2 hid.off t.label t.delta v ≡ told hid.q t.hand t.top hid.off t.label t.delta v
-    told_same v l = by_test (cases_Bool (inside (out v)))
-      where
-        by_test : (inside (out v) ≡ true) ⊎ (inside (out v) ≡ false) → told q2 hand2 top2 hid.off t.label t.delta v ≡ told hid.q t.hand t.top hid.off t.label t.delta v
-        by_test (inl yes') =
-            let q_is : get_or q2 v (pos 0) ≡ (get_or hid.q v (pos 0) +ℤ get_or hid.off (get_or t.hand v 0) (pos 0)) -ℤ get_or hid.off handle (pos 0) = qs v l ∙ cond-true (inside (out v)) ((get_or hid.q v (pos 0) +ℤ get_or hid.off (get_or t.hand v 0) (pos 0)) -ℤ get_or hid.off handle (pos 0)) (get_or hid.q v (pos 0)) yes' in
-            let off_is : get_or hid.off (get_or hand2 v 0) (pos 0) ≡ get_or hid.off handle (pos 0) = ap (λ h. get_or hid.off h (pos 0)) (hands v l ∙ cond-true (inside (out v)) handle (get_or t.hand v 0) yes') in
-            let new : change (label_at t.label (out_of hand2 top2 v)) t.delta ≡ pos 0 = ap (λ x. change (label_at t.label x) t.delta) (out_in v l yes') ∙ change_none b b_outside in
-            let was : change (label_at t.label (out v)) t.delta ≡ pos 0 = change_none (out v) (row_outside (out v) yes') in
-            omega (arith, ints, q_is, off_is, new, was)
-        by_test (inr off) =
-            let q_is : get_or q2 v (pos 0) ≡ get_or hid.q v (pos 0) = qs v l ∙ cond-false (inside (out v)) ((get_or hid.q v (pos 0) +ℤ get_or hid.off (get_or t.hand v 0) (pos 0)) -ℤ get_or hid.off handle (pos 0)) (get_or hid.q v (pos 0)) off in
-            let off_is : get_or hid.off (get_or hand2 v 0) (pos 0) ≡ get_or hid.off (get_or t.hand v 0) (pos 0) = ap (λ h. get_or hid.off h (pos 0)) (hands v l ∙ cond-false (inside (out v)) handle (get_or t.hand v 0) off) in
-            let same : change (label_at t.label (out_of hand2 top2 v)) t.delta ≡ change (label_at t.label (out v)) t.delta = ap (λ x. change (label_at t.label x) t.delta) (out_off v l off) in
-            omega (arith, ints, q_is, off_is, same)
-
-    -- What the handle of a vertex adds is what some handle added.
-    moved_new : (v : ℕ) → v < n → pos (unsigned_abs (added hand2 top2 hid.off t.label t.delta v)) ≤ℤ (all_weights t.up t.base t.label t.delta -ℤ tied.numbers.start)
-    moved_new v l = by_test (cases_Bool (inside (out v)))
-      where
-        by_test : (inside (out v) ≡ true) ⊎ (inside (out v) ≡ false) → pos (unsigned_abs (added hand2 top2 hid.off t.label t.delta v)) ≤ℤ (all_weights t.up t.base t.label t.delta -ℤ tied.numbers.start)
-        by_test (inl yes') =
-            let off_is : get_or hid.off (get_or hand2 v 0) (pos 0) ≡ get_or hid.off handle (pos 0) = ap (λ h. get_or hid.off h (pos 0)) (hands v l ∙ cond-true (inside (out v)) handle (get_or t.hand v 0) yes') in
-            let new : change (label_at t.label (out_of hand2 top2 v)) t.delta ≡ pos 0 = ap (λ x. change (label_at t.label x) t.delta) (out_in v l yes') ∙ change_none b b_outside in
-            let own : get_or hid.off (get_or t.hand handle 0) (pos 0) ≡ get_or hid.off handle (pos 0) = ap (λ h. get_or hid.off h (pos 0)) (tied.nest.led handle handle_low ∙ ap (λ x. get_or hid.leader x 0) handle_out) in
-            let was : change (label_at t.label (out handle)) t.delta ≡ pos 0 = ap (λ x. change (label_at t.label x) t.delta) handle_out ∙ change_none big (row_outside big big_in) in
-            omega (arith, ints, off_is, new, own, was, tied.numbers.moved handle handle_low)
-        by_test (inr off) =
-            let off_is : get_or hid.off (get_or hand2 v 0) (pos 0) ≡ get_or hid.off (get_or t.hand v 0) (pos 0) = ap (λ h. get_or hid.off h (pos 0)) (hands v l ∙ cond-false (inside (out v)) handle (get_or t.hand v 0) off) in
-            let same : change (label_at t.label (out_of hand2 top2 v)) t.delta ≡ change (label_at t.label (out v)) t.delta = ap (λ x. change (label_at t.label x) t.delta) (out_off v l off) in
-            omega (arith, ints, off_is, same, tied.numbers.moved v l)
-
-    weights_new : (v : ℕ) → v < n → weights_around hand2 up2 t.base t.label t.delta v ≡ weights_around t.hand t.up t.base t.label t.delta v
-    weights_new v l =
-        ap (λ m. total_below (λ x. cond (climbs (up_at up2) m x v) (weight_at t.base t.label t.delta x) (pos 0)) (length up2)) hand_size
-        ∙ (ap (λ m. total_below (λ x. cond (climbs (up_at up2) n x v) (weight_at t.base t.label t.delta x) (pos 0)) m) up_size ∙ weights_same v l)
-
-    all_new : all_weights up2 t.base t.label t.delta ≡ all_weights t.up t.base t.label t.delta
-    all_new = ap (total_below (weight_at t.base t.label t.delta)) up_size
-
+    -- The numbers, the trail and the pool.
     numbers_new : HasNumbers hand2 top2 up2 t.base t.label t.delta root2 q2 hid.off
-    numbers_new = record {
-      potentials = λ v l. (let lv : v < n = subst (λ m. v < m) hand_size l in weights_new v lv ∙ (tied.numbers.potentials v lv ∙ sym (told_same v lv)));
-      small = tied.numbers.small;
-      start = tied.numbers.start;
-      small_start = tied.numbers.small_start;
-      moved = λ v l. subst (λ (z : ℤ). pos (unsigned_abs (added hand2 top2 hid.off t.label t.delta v)) ≤ℤ (z -ℤ tied.numbers.start)) (sym all_new) (moved_new v (subst (λ m. v < m) hand_size l));
-      risen = (tied.numbers.risen.0, subst (λ (z : ℤ). t.delta ≤ℤ (z -ℤ tied.numbers.start)) (sym all_new) tied.numbers.risen.1);
-      still = λ none. tied.numbers.still (root_is none);
-    }
+    numbers_new = the_numbers_new t hid tied b handle inside hand2 top2 up2 root2 q2 facts.handle_low
+        (tied.nest.led handle facts.handle_low ∙ ap (λ x. get_or hid.leader x 0) facts.handle_out) (ap inside facts.handle_out ∙ facts.big_in)
+        facts.row_outside facts.b_outside weightless hands hand_size up_size qs holds_old out_in out_off root_is
 
     trail_new : IsTrailed n hand2 top2 t.label t.trail hid.touched
     trail_new = record {
@@ -450,68 +298,11 @@ module _ (t : ForestTables) (hid : HiddenTables) (tied : AreTied t hid) (front m
     }
       where
         named_off : (x : ℕ) → label_at t.label x ≢ Outside → {y : ℕ} → y ≡ x → inside y ≡ false
-        named_off x named {y} e = elim (cases_Bool (inside y)) [ inl yes' ↦ absurd (named (ap (label_at t.label) (sym e) ∙ row_outside y yes')) | inr off ↦ off ]
-
-    id_low : id < length hid.pool
-    id_low = slice_get_within hid.pool id None id_free
+        named_off x named {y} e = elim (cases_Bool (inside y)) [ inl yes' ↦ absurd (named (ap (label_at t.label) (sym e) ∙ facts.row_outside y yes')) | inr off ↦ off ]
 
     pool_new : IsPooled n (length t.up) parts2 pool2
-    pool_new = record {
-      room = ap (λ m. n + m) pool_size ∙ tied.pool.room;
-      half = pool_size ∙ tied.pool.half;
-      free = λ k is. free k is (cases_eq k id);
-      live = λ k live'. live k live' (cases_eq k id);
-      vertices = λ v l. at_old t.parts parts2 many v parts_is (λ e. absurd (omega (arith, e, l, high))) ∙ tied.pool.vertices v l;
-      counted = counted;
-    }
-      where
-        pool_size : length pool2 ≡ length hid.pool
-        pool_size = ap length pool_is ∙ length-set hid.pool id (Some node)
-
-        here : slice_get pool2 id ≡ Some (Some node)
-        here = ap (λ xs. slice_get xs id) pool_is ∙ (slice_get-get_or (set hid.pool id (Some node)) id None (subst (λ m. id < m) (sym (length-set hid.pool id (Some node))) id_low) ∙ ap (λ (o : Option Node). Some o) (get_or-set_same hid.pool id (Some node) None id_low))
-
-        there : (k : ℕ) → k ≢ id → slice_get pool2 k ≡ slice_get hid.pool k
-        there k ne = ap (λ xs. slice_get xs k) pool_is ∙ by_size (cases_lt k (length hid.pool))
-          where
-            by_size : (k < length hid.pool) ⊎ (length hid.pool ≤ k) → slice_get (set hid.pool id (Some node)) k ≡ slice_get hid.pool k
-            by_size (inl l) = slice_get-get_or (set hid.pool id (Some node)) k None (subst (λ m. k < m) (sym (length-set hid.pool id (Some node))) l) ∙ (ap (λ (o : Option Node). Some o) (get_or-set_other hid.pool id k (Some node) None ne) ∙ sym (slice_get-get_or hid.pool k None l))
-            by_size (inr h) = slice_get_past (set hid.pool id (Some node)) k (subst (λ m. m ≤ k) (sym (length-set hid.pool id (Some node))) h) ∙ sym (slice_get_past hid.pool k h)
-
-        other : (k : ℕ) → k ≢ id → n + k ≢ b
-        other k ne e = ne (omega (arith, e, id_is))
-
-        free : (k : ℕ) → slice_get pool2 k ≡ Some None → (k ≡ id) ⊎ (k ≢ id) → get_or parts2 (n + k) 0 ≡ 0
-        free k is (inl e) = (let s : ◌≡◌ {A = Option (Option Node)} (Some (Some node)) (Some None) = sym here ∙ (ap (slice_get pool2) (sym e) ∙ is) in absurd (cc s))
-        free k is (inr ne) = at_old t.parts parts2 many (n + k) parts_is (other k ne) ∙ tied.pool.free k (sym (there k ne) ∙ is)
-
-        live : (k : ℕ) → get_or parts2 (n + k) 0 ≢ 0 → (k ≡ id) ⊎ (k ≢ id) → (node : Node) × (slice_get pool2 k ≡ Some (Some node))
-        live k live' (inl e) = (node, ap (slice_get pool2) e ∙ here)
-        live k live' (inr ne) = (let w : (node : Node) × (slice_get hid.pool k ≡ Some (Some node)) = tied.pool.live k (λ none. live' (at_old t.parts parts2 many (n + k) parts_is (other k ne) ∙ none)) in (w.0, there k ne ∙ w.1))
-
-        counted : count_by is_some pool2 ≡ count_below (live_at n (λ i. get_or parts2 i 0)) (length t.up)
-        counted =
-            let none : get_or hid.pool id None ≡ None = get_or_from_slice_get hid.pool id None None id_free in
-            let was : ◌≡◌ {A = ℕ} (cond (is_some (get_or hid.pool id None)) 1 0) 0 = ap (λ (o : Option Node). cond (is_some o) 1 0) none in
-            let pools : count_by is_some (set hid.pool id (Some node)) + cond (is_some (get_or hid.pool id None)) 1 0 ≡ count_by is_some hid.pool + 1 = sum_by-set (λ (o : Option Node). cond (is_some o) 1 0) hid.pool id (Some node) None id_low in
-            let p2 : count_by is_some pool2 ≡ count_by is_some (set hid.pool id (Some node)) = ap (count_by is_some) pool_is in
-            let each : count_below (live_at n (λ i. get_or parts2 i 0)) (length t.up) ≡ count_below (λ x. live_at n (λ i. get_or t.parts i 0) x + number (eqb x b)) (length t.up) = count_below_same (live_at n (λ i. get_or parts2 i 0)) (λ x. live_at n (λ i. get_or t.parts i 0) x + number (eqb x b)) (length t.up) (λ x l. live_new x (cases_eq x b)) in
-            let split : count_below (λ x. live_at n (λ i. get_or t.parts i 0) x + number (eqb x b)) (length t.up) ≡ count_below (live_at n (λ i. get_or t.parts i 0)) (length t.up) + count_below (λ x. number (eqb x b)) (length t.up) = count_below_sum (live_at n (λ i. get_or t.parts i 0)) (λ x. number (eqb x b)) (length t.up) in
-            let one : count_below (λ x. number (eqb x b)) (length t.up) ≡ 1 = count_below_one (λ x. number (eqb x b)) (length t.up) b low (λ x l ne. ap number (ne_eqb x b ne)) ∙ ap number (eq-eqb b b refl) in
-            omega (arith, was, pools, p2, each, split, one, tied.pool.counted)
-          where
-            live_new : (x : ℕ) → (x ≡ b) ⊎ (x ≢ b) → live_at n (λ i. get_or parts2 i 0) x ≡ live_at n (λ i. get_or t.parts i 0) x + number (eqb x b)
-            live_new x (inl e) =
-                let not_low : nat_lt x n ≡ false = le-ltb x n (subst (λ y. n ≤ y) (sym e) high) in
-                let new : get_or parts2 x 0 ≡ many = ap (λ y. get_or parts2 y 0) e ∙ at_new t.parts parts2 many parts_is tied.sizes.parts in
-                let here' : live_at n (λ i. get_or parts2 i 0) x ≡ 1 = cond-false (nat_lt x n) 0 (cond (eqb (get_or parts2 x 0) 0) 0 1) not_low ∙ (ap (λ m. cond (eqb m 0) 0 1) new ∙ cond-false (eqb many 0) 0 1 (ne_eqb many 0 (λ z. absurd (omega (arith, z, two))))) in
-                let gone : live_at n (λ i. get_or t.parts i 0) x ≡ 0 = cond-false (nat_lt x n) 0 (cond (eqb (get_or t.parts x 0) 0) 0 1) not_low ∙ (ap (λ y. cond (eqb (get_or t.parts y 0) 0) 0 1) e ∙ cond-true (eqb (get_or t.parts b 0) 0) 0 1 (eq-eqb (get_or t.parts b 0) 0 dead)) in
-                let mark : number (eqb x b) ≡ 1 = ap number (eq-eqb x b e) in
-                omega (arith, here', gone, mark)
-            live_new x (inr ne) =
-                let same : live_at n (λ i. get_or parts2 i 0) x ≡ live_at n (λ i. get_or t.parts i 0) x = ap (λ m. cond (nat_lt x n) 0 (cond (eqb m 0) 0 1)) (at_old t.parts parts2 many x parts_is ne) in
-                let mark : number (eqb x b) ≡ 0 = ap number (ne_eqb x b ne) in
-                omega (arith, same, mark)
+    pool_new = subst (λ ps. IsPooled n (length t.up) ps pool2) (sym parts_is) (subst (IsPooled n (length t.up) (set t.parts b many)) (sym pool_is)
+        (pool_taken n (length t.up) t.parts hid.pool tied.pool b many id node high low tied.sizes.parts dead (λ z. omega (arith, z, two)) id_is id_free))
 
     abbrev pub gathered : ForestTables
     gathered = record t { hand = hand2; top = top2; up = up2; head = head2; parts = parts2; rank = rank2; root = root2 }
@@ -559,10 +350,10 @@ module _ (t : ForestTables) (hid : HiddenTables) (tied : AreTied t hid) (front m
       high = high;
       low = low;
       no_parts = dead;
-      alone = alone;
-      around_none = unused;
-      no_out = no_out;
-      outside = b_outside;
+      alone = facts.alone;
+      around_none = facts.unused;
+      no_out = facts.no_out;
+      outside = facts.b_outside;
       size = up_size;
       holds_new = λ v l. ap (λ m. climbs (up_at up2) m b v) hand_size ∙ holds_new v l;
       holds_old = λ x v ne l. ap (λ m. climbs (up_at up2) m x v) hand_size ∙ holds_old x v ne l;
@@ -581,7 +372,7 @@ module _ (t : ForestTables) (hid : HiddenTables) (tied : AreTied t hid) (front m
     }
       where
         up_seen : (x : ℕ) → (x ≡ b) ⊎ (x ≢ b) → up_at up2 x ≡ set_at (λ y. cond (inside y) b (up_at t.up y)) b b x
-        up_seen x (inl e) = ups x ∙ (ap (λ y. cond (inside y) b (up_at t.up y)) e ∙ (cond-false (inside b) b (up_at t.up b) b_off ∙ (alone ∙ sym (ap (set_at (λ y. cond (inside y) b (up_at t.up y)) b b) e ∙ set_here (λ y. cond (inside y) b (up_at t.up y)) b b))))
+        up_seen x (inl e) = ups x ∙ (ap (λ y. cond (inside y) b (up_at t.up y)) e ∙ (cond-false (inside b) b (up_at t.up b) facts.b_off ∙ (facts.alone ∙ sym (ap (set_at (λ y. cond (inside y) b (up_at t.up y)) b b) e ∙ set_here (λ y. cond (inside y) b (up_at t.up y)) b b))))
         up_seen x (inr ne) = ups x ∙ sym (set_there (λ y. cond (inside y) b (up_at t.up y)) b x b ne)
 
         ranked : (x : ℕ) → (k : ℕ) × (k < many) × (at k ≡ x) → rank x < get_or rank2 b 0
@@ -596,4 +387,4 @@ module _ (t : ForestTables) (hid : HiddenTables) (tied : AreTied t hid) (front m
 
         by_test : (inside r ≡ true) ⊎ (inside r ≡ false) → cond (eqb (get_or up2 r 0) b) b r ≡ cond (inside r) b r
         by_test (inl yes') = cond-true (eqb (get_or up2 r 0) b) b r (eq-eqb (get_or up2 r 0) b (read ∙ (ups r ∙ cond-true (inside r) b (up_at t.up r) yes'))) ∙ sym (cond-true (inside r) b r yes')
-        by_test (inr off) = cond-false (eqb (get_or up2 r 0) b) b r (ne_eqb (get_or up2 r 0) b (λ e. unused r ne (sym (ups r ∙ cond-false (inside r) b (up_at t.up r) off) ∙ (sym read ∙ e)))) ∙ sym (cond-false (inside r) b r off)
+        by_test (inr off) = cond-false (eqb (get_or up2 r 0) b) b r (ne_eqb (get_or up2 r 0) b (λ e. facts.unused r ne (sym (ups r ∙ cond-false (inside r) b (up_at t.up r) off) ∙ (sym read ∙ e)))) ∙ sym (cond-false (inside r) b r off)

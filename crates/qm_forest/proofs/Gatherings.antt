@@ -12,7 +12,7 @@ use Rattle.def_forest.specs.Tables.{ForestTables, forest_of, climbs, label_at, o
 use Rattle.forest_laws.specs.Walks.{listed}
 use Rattle.qm_pool.specs.declared.pool.Node.{Node}
 use Rattle.qm_forest.specs.Gathers.{IsRow, HasListsOf, HasRenamedRow, AreJoinable, AreJoined, AreRings, AreEnclosed, TookSet, IsFreeRing, IsGathered, root_around, live_sets}
-use Rattle.qm_forest.specs.Ties.{AreTied, HiddenTables, IsListed, added, told}
+use Rattle.qm_forest.specs.Ties.{AreTied, HiddenTables, added, told}
 use Rattle.qm_forest.specs.Views.{tables_of, hidden_of}
 use Rattle.qm_forest.specs.declared.tables.Handles.{Handles}
 use Rattle.qm_forest.specs.declared.tables.Lists.{Lists}
@@ -20,7 +20,8 @@ use Rattle.qm_forest.specs.declared.tables.Rings.{Rings}
 use Rattle.qm_forest.specs.declared.tables.Trail.{Trail}
 use Rattle.qm_forest.specs.declared.tables.Tree.{Tree}
 use Rattle.qm_forest.specs.declared.tables.Weights.{Weights}
-use Rattle.qm_forest.proofs.Gathered.{row_list as the_row_list, held as the_held, handle_low as the_handle_low, last_in as the_last_in, no_out as the_no_out, gathered, gathered_hidden, tied_gathered, gathered_is, root_new}
+use Rattle.qm_forest.proofs.Gathered.{gathered, gathered_hidden, tied_gathered, gathered_is, root_new}
+use Rattle.qm_forest.proofs.GatheredRows.{RowFacts, row_facts}
 use Rattle.qm_forest.proofs.JoinedLists.{list_few, list_renamed, row_few}
 use Rattle.qm_forest.proofs.Nests.{leader_low, leader_out}
 use Rattle.qm_forest.proofs.Ranges.{added_small, change_small, delta_small, outermost_low, told_small}
@@ -66,11 +67,8 @@ module _ (h : Handles) (l : Lists) (r : Rings) (trail : Trail) (w : Weights) (e 
 
     -- A free number and a blossom of the ring, as far as one is needed to speak of the ring.
     module _ (b : ℕ) (high : length h.hand.items ≤ b) (low : b < length r.up.items) (dead : get_or r.parts.items b 0 ≡ 0) where
-      row_list : (k : ℕ) → k < many → IsListed (length h.hand.items) (λ i. get_or l.following.items i 0) (get_or l.first.items (at k) 0) (get_or l.last.items (at k) 0) (get_or l.rank.items (at k) 0) (climbs (up_at r.up.items) (length h.hand.items) (at k))
-      row_list = the_row_list t hid tied front many b (at 0) ring.row ring.tops ring.outside high low dead (ring.weightless b high dead) (0, ring.row.some, refl) ring.two
-
-      held : (k v : ℕ) → k < many → v < length h.hand.items → climbs (up_at r.up.items) (length h.hand.items) (at k) v ≡ eqb (out_of h.hand.items h.top.items v) (at k)
-      held = the_held t hid tied front many b (at 0) ring.row ring.tops ring.outside high low dead (ring.weightless b high dead) (0, ring.row.some, refl) ring.two
+      facts : RowFacts t hid front many b (at 0)
+      facts = row_facts t hid tied front many b (at 0) ring.row ring.tops ring.outside high low dead (0, ring.row.some, refl)
 
       leader_at : (k : ℕ) → k < many → (get_or l.leader.items (at k) 0 < length h.hand.items) × (get_or h.hand.items (get_or l.leader.items (at k) 0) 0 ≡ get_or l.leader.items (at k) 0)
       leader_at k lk = by_top (ring.tops k lk)
@@ -89,11 +87,11 @@ module _ (h : Handles) (l : Lists) (r : Rings) (trail : Trail) (w : Weights) (e 
           q = tied.sizes.q;
           following = tied.sizes.following;
           few = omega (arith, tied.sizes.few, tied.sizes.vertices);
-          many = list_few (length h.hand.items) (λ i. get_or l.following.items i 0) (get_or l.first.items (at k) 0) (get_or l.last.items (at k) 0) (get_or l.rank.items (at k) 0) (climbs (up_at r.up.items) (length h.hand.items) (at k)) (row_list k lk);
-          low = (row_list k lk).low;
-          distinct = (row_list k lk).distinct;
+          many = list_few (length h.hand.items) (λ i. get_or l.following.items i 0) (get_or l.first.items (at k) 0) (get_or l.last.items (at k) 0) (get_or l.rank.items (at k) 0) (climbs (up_at r.up.items) (length h.hand.items) (at k)) (facts.row_list k lk);
+          low = (facts.row_list k lk).low;
+          distinct = (facts.row_list k lk).distinct;
         };
-        own = λ k v lk lv. (row_list k lk).all v lv ∙ held k v lk lv;
+        own = λ k v lk lv. (facts.row_list k lk).all v lv ∙ facts.held k v lk lv;
         leader = tied.sizes.leader ∙ sym tied.sizes.after;
         rank = tied.sizes.rank ∙ sym tied.sizes.after;
         leaders = λ k lk. subst (λ m. get_or l.leader.items (at k) 0 < m) (sym (tied.sizes.off ∙ tied.sizes.top)) (leader_at k lk).0;
@@ -103,17 +101,14 @@ module _ (h : Handles) (l : Lists) (r : Rings) (trail : Trail) (w : Weights) (e 
         small_leaders = λ k lk. subst (λ i. unsigned_abs (get_or h.off.items i (pos 0)) ≤ 2 ^ 97) (leader_at k lk).1 (off_small (get_or l.leader.items (at k) 0) (leader_at k lk).0);
       }
 
-      last_at : (k : ℕ) → k < many → (get_or l.last.items (at k) 0 < length h.hand.items) × (out_of h.hand.items h.top.items (get_or l.last.items (at k) 0) ≡ at k)
-      last_at = the_last_in t hid tied front many b (at 0) ring.row ring.tops ring.outside high low dead (ring.weightless b high dead) (0, ring.row.some, refl) ring.two
-
       pub joinable : AreJoinable l r.after.items front many
       joinable = record {
         first = tied.sizes.first ∙ sym tied.sizes.after;
         last = tied.sizes.last ∙ sym tied.sizes.after;
         rank = tied.sizes.rank ∙ sym tied.sizes.after;
-        ends = λ k lk. subst (λ m. get_or l.last.items (at k) 0 < m) (sym tied.sizes.following) (last_at k lk).0;
+        ends = λ k lk. subst (λ m. get_or l.last.items (at k) 0 < m) (sym tied.sizes.following) (facts.last_in k lk).0;
         few = (let total : ring_sum (λ i. get_or r.after.items i 0) (λ x. get_or l.rank.items x 0) front many ≤ length h.hand.items = row_few (length h.hand.items) (λ i. get_or l.following.items i 0) (λ i. get_or r.after.items i 0) (λ x. get_or l.first.items x 0) (λ x. get_or l.last.items x 0) (λ x. get_or l.rank.items x 0) front many
-            (out_of h.hand.items h.top.items) ring.row.distinct (λ k lk. list_renamed (length h.hand.items) (λ i. get_or l.following.items i 0) (get_or l.first.items (at k) 0) (get_or l.last.items (at k) 0) (get_or l.rank.items (at k) 0) (climbs (up_at r.up.items) (length h.hand.items) (at k)) (λ v. eqb (out_of h.hand.items h.top.items v) (at k)) (row_list k lk) (λ v lv. held k v lk lv)) in omega (arith, total, tied.sizes.few, tied.sizes.vertices));
+            (out_of h.hand.items h.top.items) ring.row.distinct (λ k lk. list_renamed (length h.hand.items) (λ i. get_or l.following.items i 0) (get_or l.first.items (at k) 0) (get_or l.last.items (at k) 0) (get_or l.rank.items (at k) 0) (climbs (up_at r.up.items) (length h.hand.items) (at k)) (λ v. eqb (out_of h.hand.items h.top.items v) (at k)) (facts.row_list k lk) (λ v lv. facts.held k v lk lv)) in omega (arith, total, tied.sizes.few, tied.sizes.vertices));
       }
 
     -- The number that is taken.
@@ -128,11 +123,14 @@ module _ (h : Handles) (l : Lists) (r : Rings) (trail : Trail) (w : Weights) (e 
       set_dead = ap (λ x. get_or r.parts.items x 0) took.is ∙ tied.pool.free took.id took.free
 
       module _ (big : ℕ) (on : (k : ℕ) × (k < many) × (walk (λ i. get_or r.after.items i 0) front k ≡ big)) where
+        big_facts : RowFacts t hid front many b big
+        big_facts = row_facts t hid tied front many b big ring.row ring.tops ring.outside set_high set_low set_dead on
+
         pub big_low : big < length l.leader.items
         big_low = subst (λ m. big < m) (sym tied.sizes.leader) (subst (λ x. x < length r.up.items) on.2 (ring.row.low on.0 on.1))
 
         pub big_handle : get_or l.leader.items big 0 < length h.top.items
-        big_handle = subst (λ m. get_or l.leader.items big 0 < m) (sym tied.sizes.top) (the_handle_low t hid tied front many b big ring.row ring.tops ring.outside set_high set_low set_dead (ring.weightless b set_high set_dead) on ring.two)
+        big_handle = subst (λ m. get_or l.leader.items big 0 < m) (sym tied.sizes.top) big_facts.handle_low
 
         module _ (h2 : Handles) (l2 : Lists) (r2 : Rings) (leader : ℕ) (root2 : Option ℕ) (renamed : HasRenamedRow h h2 l r.after.items front many big) (joined : AreJoined l l2 r.after.items front many b) (enclosed : AreEnclosed r r2 front many b)
             (leader_is : leader ≡ get_or l.leader.items big 0) (root_is : root2 ≡ root_around r2.up.items b e.root) where
@@ -175,7 +173,7 @@ module _ (h : Handles) (l : Lists) (r : Rings) (trail : Trail) (w : Weights) (e 
               renamed.hand renamed.hands renamed.q renamed.qs top_new enclosed.up enclosed.size enclosed.head enclosed.parts joined.rank leader_new joined.first joined.last joined.following joined.size took.taken took.is took.free root_kept))
 
           root_ne : (x : ℕ) → e.root ≡ Some x → x ≢ b
-          root_ne x is at_b = (let v : IsOutermostIn t x = ring.root x is in the_no_out t hid tied front many b big ring.row ring.tops ring.outside set_high set_low set_dead (ring.weightless b set_high set_dead) on ring.two v.0 v.1 (v.2 ∙ at_b))
+          root_ne x is at_b = (let v : IsOutermostIn t x = ring.root x is in big_facts.no_out v.0 v.1 (v.2 ∙ at_b))
 
           pub root_after : (x : ℕ) → e.root ≡ Some x → root2 ≡ Some (cond (listed (λ i. get_or r.after.items i 0) front many x) b x)
           root_after x is = root_is ∙ (ap (root_around r2.up.items b) is ∙ ap (λ (y : ℕ). Some y)

@@ -17,6 +17,10 @@ pub mod RenamedRows
 pub mod JoinedRows
 pub mod Nests
 pub mod Gathered
+pub mod GatheredRows
+pub mod GatheredNumbers
+pub mod Pooled
 pub mod Gatherings
 pub mod Shrinkings
+pub mod WritesAlong
 pub mod Leavings

@@ -12,19 +12,20 @@ use Rattle.def_forest.specs.Ways.{dart_or}
 use Rattle.def_forest.specs.declared.kinds.Label.{Label}
 use Rattle.def_forest.specs.declared.kinds.Label.TheVariants.{Outer, Outside}
 use Rattle.forest_laws.specs.Climbing.{rise_of, way_of, IsClimbing, ring_at, ring_dart}
-use Rattle.forest_laws.specs.Walks.{listed, live_at, writes}
+use Rattle.forest_laws.specs.Walks.{listed, live_at}
 use Rattle.forest_laws.proofs.Forks.{at_left, at_right, at_named, dart_left, dart_over, dart_right, top_outer, closed_row, ring_cycle, walks}
 use Rattle.forest_laws.proofs.Graphs.{are_darts}
 use Rattle.forest_laws.proofs.Levels.{way_differs}
 use Rattle.forest_laws.proofs.Odds.{IsBlossom}
 use Rattle.forest_laws.proofs.Rooms.{sets_few}
 use Rattle.forest_laws.proofs.ShrunkTrees.{shrunk_valid}
-use Rattle.forest_laws.proofs.Walks.{listed_at, listed_place, writes_all, writes_at, writes_off}
+use Rattle.forest_laws.proofs.Walks.{listed_at, listed_place, writes_all}
 use Rattle.forest_laws.proofs.Writes.{label_cases, outer_named, set_here, set_there}
 use Rattle.qm_forest.specs.Gathers.{IsFreeRing, IsGathered, live_sets}
 use Rattle.qm_forest.specs.Rings.{IsRingedAlike, laid_ring}
 use Rattle.qm_forest.specs.Ties.{HasSameNest, labelled, mated, left_alone}
 use Rattle.qm_forest.proofs.Risings.{the_tree, named_low}
+use Rattle.qm_forest.proofs.WritesAlong.{IsForked, lain_left, lain_over, lain_right, lain_off}
 
 module _ (g : Graph) (is : IsSmallGraph g) (t0 : ForestTables) (valid : IsValidFor g t0) (start : ℕ) (tight : IsTight (darts_of g) (forest_of t0) start)
     (outer_a : (forest_of t0).label ((forest_of t0).out ((darts_of g).near start)) ≡ Outer) (outer_c : (forest_of t0).label ((forest_of t0).out (far (darts_of g) start)) ≡ Outer) (apart : (forest_of t0).out ((darts_of g).near start) ≢ (forest_of t0).out (far (darts_of g) start))
@@ -78,34 +79,9 @@ module _ (g : Graph) (is : IsSmallGraph g) (t0 : ForestTables) (valid : IsValidF
   right_differs : (i j : ℕ) → i < j → j < right → way_of d f c i ≢ way_of d f c j
   right_differs i j lij lj e = (let s : i ≡ j = way_differs d are f tree_is.0 whole tree_is.2 c i j named_c (omega (arith, lij, lj, met.y_low)) (omega (arith, lj, met.y_low)) e in omega (arith, s, lij))
 
-  -- A table that is written along the ring.
-  module _ {X : Type 0} (old : ℕ → X) (down : ℕ → X) (over : X) (up : ℕ → X) where
-    abbrev lain : ℕ → X
-    lain = writes (set_at (writes old (λ i. way_of d f a (suc i)) down left) a over) (λ i. way_of d f c i) up right
-
-    lain_left : (k : ℕ) → k < left → lain (at k) ≡ down (left - k - 1)
-    lain_left k l =
-        let i : suc (left - k - 1) ≡ left - k = omega (arith, l) in
-        let here : at k ≡ way_of d f a (suc (left - k - 1)) = left_is k (omega (arith, l)) ∙ ap (way_of d f a) (sym i) in
-        ap lain here
-        ∙ (writes_off (set_at (writes old (λ i. way_of d f a (suc i)) down left) a over) (λ i. way_of d f c i) up right (way_of d f a (suc (left - k - 1))) (λ m lm e. ways_differ (suc (left - k - 1)) m (omega (arith, l)) lm e)
-        ∙ (set_there (writes old (λ i. way_of d f a (suc i)) down left) a (way_of d f a (suc (left - k - 1))) over (λ e. left_differs 0 (suc (left - k - 1)) (omega arith) (omega (arith, l)) (sym e))
-        ∙ writes_at old (λ i. way_of d f a (suc i)) down left (left - k - 1) (omega (arith, l)) (λ i j lij lj. left_differs (suc i) (suc j) (omega (arith, lij)) (omega (arith, lj)))))
-
-    lain_over : lain (at left) ≡ over
-    lain_over =
-        let z : left - left ≡ 0 = omega arith in
-        ap lain (left_is left (omega arith) ∙ ap (way_of d f a) z)
-        ∙ (writes_off (set_at (writes old (λ i. way_of d f a (suc i)) down left) a over) (λ i. way_of d f c i) up right a (λ m lm e. ways_differ 0 m (omega arith) lm e) ∙ set_here (writes old (λ i. way_of d f a (suc i)) down left) a over)
-
-    lain_right : (k m : ℕ) → k ≡ left + 1 + m → m < right → lain (at k) ≡ up m
-    lain_right k m e l = ap lain (right_is k m e) ∙ writes_at (set_at (writes old (λ i. way_of d f a (suc i)) down left) a over) (λ i. way_of d f c i) up right m l right_differs
-
-    lain_off : (x : ℕ) → ((k : ℕ) → k < many → at k ≢ x) → lain x ≡ old x
-    lain_off x off =
-        writes_off (set_at (writes old (λ i. way_of d f a (suc i)) down left) a over) (λ i. way_of d f c i) up right x (λ m lm e. off (left + 1 + m) (omega (arith, lm)) (right_is (left + 1 + m) m refl ∙ e))
-        ∙ (set_there (writes old (λ i. way_of d f a (suc i)) down left) a x over (λ e. off left (omega arith) (left_is left (omega arith) ∙ ((let z : left - left ≡ 0 = omega arith in ap (way_of d f a) z) ∙ sym e)))
-        ∙ writes_off old (λ i. way_of d f a (suc i)) down left x (λ i li e. off (left - suc i) (omega (arith, li)) (left_is (left - suc i) (omega arith) ∙ ((let s : left - (left - suc i) ≡ suc i = omega (arith, li) in ap (way_of d f a) s) ∙ e))))
+  -- The ring is one of two ways, along which its tables are written.
+  ways : IsForked (way_of d f a) (way_of d f c) at left right
+  ways = record { left_is = left_is; right_is = right_is; apart = ways_differ; left_differs = left_differs; right_differs = right_differs }
 
   abbrev pub after : ℕ → ℕ
   after = (laid_ring d f start left right).nest.after
@@ -117,10 +93,10 @@ module _ (g : Graph) (is : IsSmallGraph g) (t0 : ForestTables) (valid : IsValidF
   after_at k l = by_place (cases_lt k left) (cases_eq k left)
     where
       by_place : (k < left) ⊎ (left ≤ k) → (k ≡ left) ⊎ (k ≢ left) → after (at k) ≡ at (suc k)
-      by_place (inl lk) x = lain_left f.nest.after (way_of d f a) c (λ i. way_of d f c (suc i)) k lk ∙ (let s : left - k - 1 ≡ left - suc k = omega (arith, lk) in ap (way_of d f a) s ∙ sym (left_is (suc k) (omega (arith, lk))))
-      by_place (inr h) (inl e) = ap (λ j. after (at j)) e ∙ (lain_over f.nest.after (way_of d f a) c (λ i. way_of d f c (suc i)) ∙ sym (right_is (suc k) 0 (omega (arith, e))))
+      by_place (inl lk) x = lain_left (way_of d f a) (way_of d f c) at left right ways f.nest.after (way_of d f a) c (λ i. way_of d f c (suc i)) k lk ∙ (let s : left - k - 1 ≡ left - suc k = omega (arith, lk) in ap (way_of d f a) s ∙ sym (left_is (suc k) (omega (arith, lk))))
+      by_place (inr h) (inl e) = ap (λ j. after (at j)) e ∙ (lain_over (way_of d f a) (way_of d f c) at left right ways f.nest.after (way_of d f a) c (λ i. way_of d f c (suc i)) ∙ sym (right_is (suc k) 0 (omega (arith, e))))
       by_place (inr h) (inr ne) = (let m : k ≡ left + 1 + (k - left - 1) = omega (arith, h, ne) in
-          lain_right f.nest.after (way_of d f a) c (λ i. way_of d f c (suc i)) k (k - left - 1) m (omega (arith, h, ne, l)) ∙ sym (right_is (suc k) (suc (k - left - 1)) (omega (arith, h, ne))))
+          lain_right (way_of d f a) (way_of d f c) at left right ways f.nest.after (way_of d f a) c (λ i. way_of d f c (suc i)) k (k - left - 1) m (omega (arith, h, ne, l)) ∙ sym (right_is (suc k) (suc (k - left - 1)) (omega (arith, h, ne))))
 
   joint_at : (k : ℕ) → k < left + right + 1 → joint (at k) ≡ ring_dart d f a c left start k
   joint_at k l = by_place (cases_lt k left) (cases_eq k left)
@@ -129,12 +105,12 @@ module _ (g : Graph) (is : IsSmallGraph g) (t0 : ForestTables) (valid : IsValidF
       downs i = d.twin (dart_or (rise_of f (way_of d f a i)))
 
       by_place : (k < left) ⊎ (left ≤ k) → (k ≡ left) ⊎ (k ≢ left) → joint (at k) ≡ ring_dart d f a c left start k
-      by_place (inl lk) x = lain_left f.nest.joint (λ i. d.twin (dart_or (rise_of f (way_of d f a i)))) start (λ i. dart_or (rise_of f (way_of d f c i))) k lk
+      by_place (inl lk) x = lain_left (way_of d f a) (way_of d f c) at left right ways f.nest.joint (λ i. d.twin (dart_or (rise_of f (way_of d f a i)))) start (λ i. dart_or (rise_of f (way_of d f c i))) k lk
           ∙ sym (dart_left d are f tree_is.0 whole tree_is.2 a c named_a named_c top left right met outer_a outer_c start tight refl refl k lk)
-      by_place (inr h) (inl e) = ap (λ j. joint (at j)) e ∙ (lain_over f.nest.joint (λ i. d.twin (dart_or (rise_of f (way_of d f a i)))) start (λ i. dart_or (rise_of f (way_of d f c i)))
+      by_place (inr h) (inl e) = ap (λ j. joint (at j)) e ∙ (lain_over (way_of d f a) (way_of d f c) at left right ways f.nest.joint (λ i. d.twin (dart_or (rise_of f (way_of d f a i)))) start (λ i. dart_or (rise_of f (way_of d f c i)))
           ∙ sym (dart_over d are f tree_is.0 whole tree_is.2 a c named_a named_c top left right met outer_a outer_c start tight refl refl k e))
       by_place (inr h) (inr ne) = (let m : k ≡ left + 1 + (k - left - 1) = omega (arith, h, ne) in
-          lain_right f.nest.joint (λ i. d.twin (dart_or (rise_of f (way_of d f a i)))) start (λ i. dart_or (rise_of f (way_of d f c i))) k (k - left - 1) m (omega (arith, h, ne, l))
+          lain_right (way_of d f a) (way_of d f c) at left right ways f.nest.joint (λ i. d.twin (dart_or (rise_of f (way_of d f a i)))) start (λ i. dart_or (rise_of f (way_of d f c i))) k (k - left - 1) m (omega (arith, h, ne, l))
           ∙ sym (dart_right d are f tree_is.0 whole tree_is.2 a c named_a named_c top left right met outer_a outer_c start tight refl refl k (k - left - 1) m))
 
   abbrev pub inside : ℕ → Bool
@@ -153,13 +129,13 @@ module _ (g : Graph) (is : IsSmallGraph g) (t0 : ForestTables) (valid : IsValidF
   walk_named k l = subst (λ x. f.label x ≢ Outside) (sym (walk_at k (omega (arith, l)))) (at_named d are f tree_is.0 whole tree_is.2 a c named_a named_c top left right met outer_a outer_c k l)
 
   after_off : (x : ℕ) → inside x ≡ false → after x ≡ f.nest.after x
-  after_off x off = lain_off f.nest.after (way_of d f a) c (λ i. way_of d f c (suc i)) x (λ k l e. clash (sym off ∙ (ap inside (sym (walk_at k (omega (arith, l)) ∙ e)) ∙ listed_at after top many k l)))
+  after_off x off = lain_off (way_of d f a) (way_of d f c) at left right ways f.nest.after (way_of d f a) c (λ i. way_of d f c (suc i)) x (λ k l e. clash (sym off ∙ (ap inside (sym (walk_at k (omega (arith, l)) ∙ e)) ∙ listed_at after top many k l)))
     where
       clash : false ≡ true → ⊥
       clash e = cc
 
   joint_off : (x : ℕ) → inside x ≡ false → joint x ≡ f.nest.joint x
-  joint_off x off = lain_off f.nest.joint (λ i. d.twin (dart_or (rise_of f (way_of d f a i)))) start (λ i. dart_or (rise_of f (way_of d f c i))) x (λ k l e. clash (sym off ∙ (ap inside (sym (walk_at k (omega (arith, l)) ∙ e)) ∙ listed_at after top many k l)))
+  joint_off x off = lain_off (way_of d f a) (way_of d f c) at left right ways f.nest.joint (λ i. d.twin (dart_or (rise_of f (way_of d f a i)))) start (λ i. dart_or (rise_of f (way_of d f c i))) x (λ k l e. clash (sym off ∙ (ap inside (sym (walk_at k (omega (arith, l)) ∙ e)) ∙ listed_at after top many k l)))
     where
       clash : false ≡ true → ⊥
       clash e = cc

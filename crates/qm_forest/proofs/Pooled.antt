@@ -1,0 +1,97 @@
+-- The pool after one of its sets was taken: the number of that set has parts from then on.
+use Rattle.std.proofs.Common.{◌≡◌, ◌≢◌, ℕ, ◌+◌, ◌<◌, ◌≤◌, cond, eqb, List, length, get_or, count_by, is_some, ◌⊎◌}
+use Rattle.std.proofs.Common.{Option, Some, None, refl, sym, ◌∙◌, ap, subst, inl, inr, arith, length-set}
+use Rattle.std.proofs.Common.{get_or-set_same, get_or-set_other}
+use Rattle.std.proofs.Math.ListN.{set}
+use Rattle.std.specs.Prelude.{slice_get, nat_lt}
+use Rattle.std.proofs.lemmas.Bool.{cases_eq, cases_lt, cond-false, eq-eqb, ne_eqb, le-ltb}
+use Rattle.std.proofs.lemmas.List.Sums.{sum_by-set}
+use Rattle.std.proofs.lemmas.Option.{slice_get-get_or, slice_get_past, slice_get_within, get_or_from_slice_get}
+use Rattle.def_math.specs.Counts.{count_below}
+use Rattle.qm_laws.proofs.Counts.{count_below_same, count_below_sum, count_below_one}
+use Rattle.def_forest.specs.Forests.{number}
+use Rattle.forest_laws.specs.Walks.{live_at}
+use Rattle.qm_pool.specs.declared.pool.Node.{Node}
+use Rattle.qm_forest.specs.Ties.{IsPooled}
+
+module _ (n size : ℕ) (parts : List ℕ) (pool : List (Option Node)) (pooled : IsPooled n size parts pool)
+    (b many id : ℕ) (node : Node) (high : n ≤ b) (low : b < size) (wide : length parts ≡ size)
+    (dead : get_or parts b 0 ≡ 0) (some : many ≢ 0) (id_is : b ≡ n + id) (id_free : slice_get pool id ≡ Some None) where
+  abbrev parts2 : List ℕ
+  parts2 = set parts b many
+
+  abbrev pool2 : List (Option Node)
+  pool2 = set pool id (Some node)
+
+  id_low : id < length pool
+  id_low = slice_get_within pool id None id_free
+
+  pool_size : length pool2 ≡ length pool
+  pool_size = length-set pool id (Some node)
+
+  at_b : get_or parts2 b 0 ≡ many
+  at_b = get_or-set_same parts b many 0 (subst (λ m. b < m) (sym wide) low)
+
+  at_old : (x : ℕ) → x ≢ b → get_or parts2 x 0 ≡ get_or parts x 0
+  at_old x ne = get_or-set_other parts b x many 0 ne
+
+  here : slice_get pool2 id ≡ Some (Some node)
+  here = slice_get-get_or pool2 id None (subst (λ m. id < m) (sym pool_size) id_low)
+      ∙ ap (λ (o : Option Node). Some o) (get_or-set_same pool id (Some node) None id_low)
+
+  there : (k : ℕ) → k ≢ id → slice_get pool2 k ≡ slice_get pool k
+  there k ne = by_size (cases_lt k (length pool))
+    where
+      by_size : (k < length pool) ⊎ (length pool ≤ k) → slice_get pool2 k ≡ slice_get pool k
+      by_size (inl l) = slice_get-get_or pool2 k None (subst (λ m. k < m) (sym pool_size) l)
+          ∙ (ap (λ (o : Option Node). Some o) (get_or-set_other pool id k (Some node) None ne) ∙ sym (slice_get-get_or pool k None l))
+      by_size (inr h) = slice_get_past pool2 k (subst (λ m. m ≤ k) (sym pool_size) h) ∙ sym (slice_get_past pool k h)
+
+  other : (k : ℕ) → k ≢ id → n + k ≢ b
+  other k ne e = ne (omega (arith, e, id_is))
+
+  free : (k : ℕ) → slice_get pool2 k ≡ Some None → (k ≡ id) ⊎ (k ≢ id) → get_or parts2 (n + k) 0 ≡ 0
+  free k is (inl e) = (let s : ◌≡◌ {A = Option (Option Node)} (Some (Some node)) (Some None) = sym here ∙ (ap (slice_get pool2) (sym e) ∙ is) in absurd (cc s))
+  free k is (inr ne) = at_old (n + k) (other k ne) ∙ pooled.free k (sym (there k ne) ∙ is)
+
+  live : (k : ℕ) → get_or parts2 (n + k) 0 ≢ 0 → (k ≡ id) ⊎ (k ≢ id) → (node : Node) × (slice_get pool2 k ≡ Some (Some node))
+  live k live' (inl e) = (node, ap (slice_get pool2) e ∙ here)
+  live k live' (inr ne) =
+      let w : (node : Node) × (slice_get pool k ≡ Some (Some node)) = pooled.live k (λ none. live' (at_old (n + k) (other k ne) ∙ none)) in
+      (w.0, there k ne ∙ w.1)
+
+  -- The number that was taken is in use from then on, and was not before.
+  live_b : (parts' : List ℕ) (m : ℕ) → get_or parts' b 0 ≡ m → live_at n (λ i. get_or parts' i 0) b ≡ cond (eqb m 0) 0 1
+  live_b parts' m is = cond-false (nat_lt b n) 0 (cond (eqb (get_or parts' b 0) 0) 0 1) (le-ltb b n high) ∙ ap (λ k. cond (eqb k 0) 0 1) is
+
+  live_new : (x : ℕ) → (x ≡ b) ⊎ (x ≢ b) → live_at n (λ i. get_or parts2 i 0) x ≡ live_at n (λ i. get_or parts i 0) x + number (eqb x b)
+  live_new x (inl e) =
+      let some' : ◌≡◌ {A = ℕ} (cond (eqb many 0) 0 1) 1 = cond-false (eqb many 0) 0 1 (ne_eqb many 0 some) in
+      let here' : live_at n (λ i. get_or parts2 i 0) x ≡ cond (eqb many 0) 0 1 = ap (live_at n (λ i. get_or parts2 i 0)) e ∙ live_b parts2 many at_b in
+      let gone : live_at n (λ i. get_or parts i 0) x ≡ 0 = ap (live_at n (λ i. get_or parts i 0)) e ∙ live_b parts 0 dead in
+      let mark : number (eqb x b) ≡ 1 = ap number (eq-eqb x b e) in
+      omega (arith, some', here', gone, mark)
+  live_new x (inr ne) =
+      let same : live_at n (λ i. get_or parts2 i 0) x ≡ live_at n (λ i. get_or parts i 0) x = ap (λ m. cond (nat_lt x n) 0 (cond (eqb m 0) 0 1)) (at_old x ne) in
+      let mark : number (eqb x b) ≡ 0 = ap number (ne_eqb x b ne) in
+      omega (arith, same, mark)
+
+  counted : count_by is_some pool2 ≡ count_below (live_at n (λ i. get_or parts2 i 0)) size
+  counted =
+      let none : get_or pool id None ≡ None = get_or_from_slice_get pool id None None id_free in
+      let was : ◌≡◌ {A = ℕ} (cond (is_some (get_or pool id None)) 1 0) 0 = ap (λ (o : Option Node). cond (is_some o) 1 0) none in
+      let pools : count_by is_some pool2 + cond (is_some (get_or pool id None)) 1 0 ≡ count_by is_some pool + 1 = sum_by-set (λ (o : Option Node). cond (is_some o) 1 0) pool id (Some node) None id_low in
+      let each : count_below (live_at n (λ i. get_or parts2 i 0)) size ≡ count_below (λ x. live_at n (λ i. get_or parts i 0) x + number (eqb x b)) size = count_below_same (live_at n (λ i. get_or parts2 i 0)) (λ x. live_at n (λ i. get_or parts i 0) x + number (eqb x b)) size (λ x l. live_new x (cases_eq x b)) in
+      let split : count_below (λ x. live_at n (λ i. get_or parts i 0) x + number (eqb x b)) size ≡ count_below (live_at n (λ i. get_or parts i 0)) size + count_below (λ x. number (eqb x b)) size = count_below_sum (live_at n (λ i. get_or parts i 0)) (λ x. number (eqb x b)) size in
+      let one : count_below (λ x. number (eqb x b)) size ≡ 1 = count_below_one (λ x. number (eqb x b)) size b low (λ x l ne. ap number (ne_eqb x b ne)) ∙ ap number (eq-eqb b b refl) in
+      omega (arith, was, pools, each, split, one, pooled.counted)
+
+  pub pool_taken : IsPooled n size (set parts b many) (set pool id (Some node))
+  pool_taken = record {
+    room = ap (λ m. n + m) pool_size ∙ pooled.room;
+    half = pool_size ∙ pooled.half;
+    free = λ k is. free k is (cases_eq k id);
+    live = λ k live'. live k live' (cases_eq k id);
+    vertices = λ v l. at_old v (λ e. absurd (omega (arith, e, l, high))) ∙ pooled.vertices v l;
+    counted = counted;
+  }
