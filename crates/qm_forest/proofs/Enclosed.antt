@@ -38,7 +38,7 @@ module _ (n : ℕ) (up rank out : ℕ → ℕ) (climb : IsClimb n up out) (rises
   off_inner x inner = elim (cases_Bool (inside x)) [ inl on ↦ absurd (inner (tops x on)) | inr off ↦ off ]
 
   -- The new set lies on no way.
-  not_new : (v : ℕ) → v < n → (i : ℕ) → walk up v i ≢ b
+  pub not_new : (v : ℕ) → v < n → (i : ℕ) → walk up v i ≢ b
   not_new v l zero e = absurd (omega (arith, l, high, e))
   not_new v l (suc i) e = unused (walk up v i) (not_new v l i) e
 

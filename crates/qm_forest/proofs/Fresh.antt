@@ -160,7 +160,7 @@ module _ (n size : ℕ) (lows : List ℤ) (t : ForestTables) (hid : HiddenTables
     leaders = λ x lx used. (let l : x < n = used_low x used in let e : get_or hid.leader x 0 ≡ x = list_at hid.leader x fresh.lists.0 l in
         (subst (λ k. k < n) (sym e) l, climbs_self (up_at t.up) n x (get_or hid.leader x 0) (up_self (get_or hid.leader x 0)) ∙ eq-eqb (get_or hid.leader x 0) x e));
     members = λ x lx used. listed_self x (used_low x used);
-    ended = λ v l. (let e : get_or hid.last (out_of t.hand t.top v) 0 ≡ v = ap (λ b. get_or hid.last b 0) (out_is v l) ∙ list_at hid.last v fresh.lists.2 l in ap (λ k. get_or hid.following k 0) e ∙ (fresh.lists.3.each v l ∙ sym e));
+    ended = λ x y k lx ly ux uy l e. (let one : get_or t.rank y 0 ≡ 1 = rank_is y (used_low y uy) in absurd (omega (arith, one, l)));
     idle = λ x high none. up_self x;
     rises = λ x inner. absurd (inner (up_self x));
     around = λ x inner. absurd (inner (up_self x));

@@ -13,11 +13,11 @@ use Rattle.qm_pool.specs.declared.pool.Node.{Node}
 use Rattle.qm_forest.specs.Gathers.{IsRow, IsGathered}
 use Rattle.qm_forest.specs.Ties.{AreTied, HiddenTables, HasSizes, HasNumbers, IsClimb, IsInUse, IsLaidOut, IsListed, IsPooled, IsTrailed}
 use Rattle.qm_forest.proofs.Enclosed.{climb_enclosed as the_climb_enclosed, holds_same as the_holds_same, holds_new as the_holds_new}
-use Rattle.qm_forest.proofs.JoinedLists.{list_agrees, list_renamed, list_has_last, last_alone, row_joined}
+use Rattle.qm_forest.proofs.JoinedLists.{list_agrees, list_renamed, list_has_last, list_last, list_member, row_joined, walk_agrees}
 use Rattle.qm_forest.proofs.JoinedRows.{ring_sum_low}
 use Rattle.qm_forest.proofs.Ranges.{read_nat}
 use Rattle.qm_forest.proofs.TiedWrites.{entry_set}
-use Rattle.qm_forest.proofs.Nests.{out_used, list_of, rank_few, rank_some, held_out}
+use Rattle.qm_forest.proofs.Nests.{out_used, rank_few, rank_some, rank_passed}
 use Rattle.qm_forest.proofs.GatheredRows.{RowFacts, row_facts}
 use Rattle.qm_forest.proofs.GatheredNumbers.{numbers_new as the_numbers_new}
 use Rattle.qm_forest.proofs.Pooled.{pool_taken}
@@ -120,16 +120,23 @@ module _ (t : ForestTables) (hid : HiddenTables) (tied : AreTied t hid) (front m
     next_off x off = ap (λ (f : ℕ → ℕ). f x) following_is ∙ writes_off (λ i. get_or hid.following i 0) (λ j. get_or hid.last (at j) 0) (λ j. get_or hid.first (at (suc j)) 0) (many - 1) x (λ k l. off k (omega (arith, l)))
 
     -- Each old list stays.
-    old_list : (from to count : ℕ) (set' : ℕ → Bool) → IsListed n (λ i. get_or hid.following i 0) from to count set' → IsListed n (λ i. get_or following2 i 0) from to count set'
-    old_list from to count set' is = list_agrees n (λ i. get_or hid.following i 0) (λ i. get_or following2 i 0) from to count set' is (λ k l. next_off (walk (λ i. get_or hid.following i 0) from k)
-        (λ j lj e. last_alone n (λ i. get_or hid.following i 0) from to count set' is (get_or hid.last (at j) 0) (facts.row_ended j (omega (arith, lj))) k l (sym e)))
+    old_next : (y k : ℕ) → y < length t.up → IsInUse n t.parts y → suc k < rank y
+        → get_or following2 (walk (λ i. get_or hid.following i 0) (get_or hid.first y 0) k) 0 ≡ walk (λ i. get_or hid.following i 0) (get_or hid.first y 0) (suc k)
+    old_next y k ly used l = next_off (walk (λ i. get_or hid.following i 0) (get_or hid.first y 0) k) (λ j lj e. facts.row_ended j y k (omega (arith, lj)) ly used l (sym e))
+
+    old_list : (y : ℕ) → y < length t.up → IsInUse n t.parts y → IsListed n (λ i. get_or following2 i 0) (get_or hid.first y 0) (get_or hid.last y 0) (rank y) (climbs (up_at t.up) n y)
+    old_list y ly used = list_agrees n (λ i. get_or hid.following i 0) (λ i. get_or following2 i 0) (get_or hid.first y 0) (get_or hid.last y 0) (rank y) (climbs (up_at t.up) n y) (tied.nest.members y ly used) (λ k l. old_next y k ly used l)
+
+    old_walk : (y k : ℕ) → y < length t.up → IsInUse n t.parts y → k < rank y
+        → walk (λ i. get_or following2 i 0) (get_or hid.first y 0) k ≡ walk (λ i. get_or hid.following i 0) (get_or hid.first y 0) k
+    old_walk y k ly used l = walk_agrees (λ i. get_or hid.following i 0) (λ i. get_or following2 i 0) (get_or hid.first y 0) (rank y) (λ j lj. old_next y j ly used lj) k l
 
     new_list : IsListed n (λ i. get_or following2 i 0) (get_or hid.first front 0) (get_or hid.last (at (many - 1)) 0) total (λ v. inside (out v))
     new_list =
         let whole : suc (many - 1) ≡ many = omega (arith, two) in
         subst (λ m. IsListed n (λ i. get_or following2 i 0) (get_or hid.first front 0) (get_or hid.last (at (many - 1)) 0) (ring_sum (λ i. get_or t.after i 0) rank front m) (λ v. listed (λ i. get_or t.after i 0) front m (out v))) whole
         (row_joined n (λ i. get_or following2 i 0) (λ i. get_or t.after i 0) (λ x. get_or hid.first x 0) (λ x. get_or hid.last x 0) rank front many out row.distinct
-        (λ k l. list_renamed n (λ i. get_or following2 i 0) (get_or hid.first (at k) 0) (get_or hid.last (at k) 0) (rank (at k)) (climbs (up_at t.up) n (at k)) (λ v. eqb (out v) (at k)) (old_list (get_or hid.first (at k) 0) (get_or hid.last (at k) 0) (rank (at k)) (climbs (up_at t.up) n (at k)) (facts.row_list k l)) (λ v lv. facts.held k v l lv))
+        (λ k l. list_renamed n (λ i. get_or following2 i 0) (get_or hid.first (at k) 0) (get_or hid.last (at k) 0) (rank (at k)) (climbs (up_at t.up) n (at k)) (λ v. eqb (out v) (at k)) (old_list (at k) (row.low k l) (facts.row_used k l)) (λ v lv. facts.held k v l lv))
         next_at (many - 1) (omega (arith, two)))
 
     row_rank : (k : ℕ) → k < many → rank (at k) < total
@@ -166,7 +173,7 @@ module _ (t : ForestTables) (hid : HiddenTables) (tied : AreTied t hid) (front m
       led = λ v l. led v l (cases_Bool (inside (out v)));
       leaders = λ x l used. leaders x l used (cases_eq x b);
       members = λ x l used. members x l used (cases_eq x b);
-      ended = λ v l. ended v l (cases_Bool (inside (out v)));
+      ended = λ x y k lx ly ux uy l e. ended x y k lx ly ux uy l e (cases_eq x b) (cases_eq y b);
       idle = λ x hx none. idle x hx none (cases_eq x b);
       around = λ x inner. around x inner (cases_Bool (inside x));
       rises = λ x inner. rises x inner (cases_Bool (inside x));
@@ -219,24 +226,51 @@ module _ (t : ForestTables) (hid : HiddenTables) (tied : AreTied t hid) (front m
             (subst (λ y. IsListed n (λ i. get_or following2 i 0) (get_or hid.first x 0) y (get_or rank2 x 0) (climbs (up_at up2) n x)) (sym (at_old hid.last last2 (get_or hid.last (at (many - 1)) 0) x last_is ne))
             (subst (λ y. IsListed n (λ i. get_or following2 i 0) (get_or hid.first x 0) (get_or hid.last x 0) y (climbs (up_at up2) n x)) (sym (at_old t.rank rank2 total x rank_is ne))
             (list_renamed n (λ i. get_or following2 i 0) (get_or hid.first x 0) (get_or hid.last x 0) (rank x) (climbs (up_at t.up) n x) (climbs (up_at up2) n x)
-            (old_list (get_or hid.first x 0) (get_or hid.last x 0) (rank x) (climbs (up_at t.up) n x) (tied.nest.members x l (still_used x ne used))) (λ v lv. sym (holds_old x v ne lv)))))
+            (old_list x l (still_used x ne used)) (λ v lv. sym (holds_old x v ne lv)))))
 
-        ended : (v : ℕ) → v < n → (inside (out v) ≡ true) ⊎ (inside (out v) ≡ false) → get_or following2 (get_or last2 (out_of hand2 top2 v) 0) 0 ≡ get_or last2 (out_of hand2 top2 v) 0
-        ended v l (inl yes') =
-            let is : get_or last2 (out_of hand2 top2 v) 0 ≡ get_or hid.last (at (many - 1)) 0 = ap (λ y. get_or last2 y 0) (out_in v l yes') ∙ at_new hid.last last2 (get_or hid.last (at (many - 1)) 0) last_is tied.sizes.last in
-            ap (λ y. get_or following2 y 0) is ∙ (next_off (get_or hid.last (at (many - 1)) 0) (λ k lk e. facts.lasts_differ k (many - 1) (omega (arith, lk)) (omega (arith, two)) e) ∙ (facts.row_ended (many - 1) (omega (arith, two)) ∙ sym is))
-        ended v l (inr off) =
-            let is : get_or last2 (out_of hand2 top2 v) 0 ≡ get_or hid.last (out v) 0 = ap (λ y. get_or last2 y 0) (out_off v l off) ∙ at_old hid.last last2 (get_or hid.last (at (many - 1)) 0) (out v) last_is (facts.no_out v l) in
-            ap (λ y. get_or following2 y 0) is ∙ (next_off (get_or hid.last (out v) 0) (λ k lk e. not_row k (omega (arith, lk)) e) ∙ (tied.nest.ended v l ∙ sym is))
-          where
-            own_last : (get_or hid.last (out v) 0 < n) × (climbs (up_at t.up) n (out v) (get_or hid.last (out v) 0) ≡ true)
-            own_last = list_has_last n (λ i. get_or hid.following i 0) (get_or hid.first (out v) 0) (get_or hid.last (out v) 0) (rank (out v)) (climbs (up_at t.up) n (out v)) (list_of n (length t.up) t.hand t.top t.up t.rank t.parts hid.leader hid.first hid.last hid.following tied.nest v l)
+        rank_b : get_or rank2 b 0 ≡ total
+        rank_b = at_new t.rank rank2 total rank_is tied.sizes.rank
 
-            not_row : (k : ℕ) → k < many → get_or hid.last (at k) 0 ≡ get_or hid.last (out v) 0 → ⊥
-            not_row k lk e =
-                let mine : out (get_or hid.last (out v) 0) ≡ out v = held_out n (length t.up) t.hand t.top t.up t.rank t.parts hid.leader hid.first hid.last hid.following tied.nest v (get_or hid.last (out v) 0) l own_last.0 own_last.1 in
-                let same : out v ≡ at k = sym mine ∙ (ap out (sym e) ∙ (facts.last_in k lk).1) in
-                let s : false ≡ true = sym off ∙ (ap inside same ∙ facts.at_in k lk) in cc
+        last_b : get_or last2 b 0 ≡ get_or hid.last (at (many - 1)) 0
+        last_b = at_new hid.last last2 (get_or hid.last (at (many - 1)) 0) last_is tied.sizes.last
+
+        first_b : get_or first2 b 0 ≡ get_or hid.first front 0
+        first_b = at_new hid.first first2 (get_or hid.first front 0) first_is tied.sizes.first
+
+        -- A blossom whose last vertex is on the list of the new set is within one of the row's.
+        within : (x k : ℕ) → x < length t.up → IsInUse n t.parts x → k < total → walk (λ i. get_or following2 i 0) (get_or hid.first front 0) k ≡ get_or hid.last x 0 → rank x < total
+        within x k lx used l e =
+            let mine : (get_or hid.last x 0 < n) × (climbs (up_at t.up) n x (get_or hid.last x 0) ≡ true) = list_has_last n (λ i. get_or hid.following i 0) (get_or hid.first x 0) (get_or hid.last x 0) (rank x) (climbs (up_at t.up) n x) (tied.nest.members x lx used) in
+            let in_new : inside (out (get_or hid.last x 0)) ≡ true = subst (λ v. inside (out v) ≡ true) e (list_member n (λ i. get_or following2 i 0) (get_or hid.first front 0) (get_or hid.last (at (many - 1)) 0) total (λ v. inside (out v)) new_list k l) in
+            let w : (i : ℕ) × (i < many) × (at i ≡ out (get_or hid.last x 0)) = listed_place (λ i. get_or t.after i 0) front many (out (get_or hid.last x 0)) in_new in
+            let low : rank x ≤ rank (out (get_or hid.last x 0)) = rank_passed n (length t.up) t.hand t.top t.up t.rank t.parts hid.leader hid.first hid.last hid.following tied.nest (get_or hid.last x 0) x mine.0 mine.1 in
+            let same : rank (at w.0) ≡ rank (out (get_or hid.last x 0)) = ap rank w.2 in
+            omega (arith, low, same, row_rank w.0 w.1)
+
+        ended : (x y k : ℕ) → x < length t.up → y < length t.up → IsInUse n parts2 x → IsInUse n parts2 y → suc k < get_or rank2 y 0 → walk (λ i. get_or following2 i 0) (get_or first2 y 0) k ≡ get_or last2 x 0
+            → (x ≡ b) ⊎ (x ≢ b) → (y ≡ b) ⊎ (y ≢ b) → get_or rank2 x 0 < get_or rank2 y 0
+        ended x y k lx ly ux uy l e (inl xb) (inl yb) =
+            let w : (j : ℕ) × (suc j ≡ total) × (walk (λ i. get_or following2 i 0) (get_or hid.first front 0) j ≡ get_or hid.last (at (many - 1)) 0) = list_last n (λ i. get_or following2 i 0) (get_or hid.first front 0) (get_or hid.last (at (many - 1)) 0) total (λ v. inside (out v)) new_list in
+            let count : get_or rank2 y 0 ≡ total = ap (λ z. get_or rank2 z 0) yb ∙ rank_b in
+            let here : walk (λ i. get_or following2 i 0) (get_or hid.first front 0) k ≡ get_or hid.last (at (many - 1)) 0 = ap (λ z. walk (λ i. get_or following2 i 0) z k) (sym (ap (λ z. get_or first2 z 0) yb ∙ first_b)) ∙ (e ∙ (ap (λ z. get_or last2 z 0) xb ∙ last_b)) in
+            absurd (new_list.distinct k w.0 (omega (arith, l, count, w.1)) (omega (arith, w.1)) (here ∙ sym w.2))
+        ended x y k lx ly ux uy l e (inr nx) (inl yb) =
+            let count : get_or rank2 y 0 ≡ total = ap (λ z. get_or rank2 z 0) yb ∙ rank_b in
+            let own : get_or rank2 x 0 ≡ rank x = at_old t.rank rank2 total x rank_is nx in
+            let here : walk (λ i. get_or following2 i 0) (get_or hid.first front 0) k ≡ get_or hid.last x 0 = ap (λ z. walk (λ i. get_or following2 i 0) z k) (sym (ap (λ z. get_or first2 z 0) yb ∙ first_b)) ∙ (e ∙ at_old hid.last last2 (get_or hid.last (at (many - 1)) 0) x last_is nx) in
+            omega (arith, count, own, within x k lx (still_used x nx ux) (omega (arith, l, count)) here)
+        ended x y k lx ly ux uy l e (inl xb) (inr ny) =
+            let own : get_or rank2 y 0 ≡ rank y = at_old t.rank rank2 total y rank_is ny in
+            let lk : suc k < rank y = omega (arith, l, own) in
+            absurd (facts.row_ended (many - 1) y k (omega (arith, two)) ly (still_used y ny uy) lk
+            (sym (old_walk y k ly (still_used y ny uy) (omega (arith, lk))) ∙ (ap (λ z. walk (λ i. get_or following2 i 0) z k) (sym (at_old hid.first first2 (get_or hid.first front 0) y first_is ny)) ∙ (e ∙ (ap (λ z. get_or last2 z 0) xb ∙ last_b)))))
+        ended x y k lx ly ux uy l e (inr nx) (inr ny) =
+            let own_x : get_or rank2 x 0 ≡ rank x = at_old t.rank rank2 total x rank_is nx in
+            let own : get_or rank2 y 0 ≡ rank y = at_old t.rank rank2 total y rank_is ny in
+            let lk : suc k < rank y = omega (arith, l, own) in
+            let was : rank x < rank y = tied.nest.ended x y k lx ly (still_used x nx ux) (still_used y ny uy) lk
+            (sym (old_walk y k ly (still_used y ny uy) (omega (arith, lk))) ∙ (ap (λ z. walk (λ i. get_or following2 i 0) z k) (sym (at_old hid.first first2 (get_or hid.first front 0) y first_is ny)) ∙ (e ∙ at_old hid.last last2 (get_or hid.last (at (many - 1)) 0) x last_is nx))) in
+            omega (arith, own_x, own, was)
 
         many_some : many ≢ 0
         many_some z = omega (arith, z, two)

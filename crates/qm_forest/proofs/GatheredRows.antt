@@ -1,5 +1,5 @@
 -- A row of outermost blossoms before it is gathered: what its blossoms, their lists and their handles are.
-use Rattle.std.proofs.Common.{◌≡◌, ◌≢◌, ℕ, ◌<◌, ◌≤◌, Bool, true, false, eqb, length, get_or, ◌⊎◌, sym, ◌∙◌}
+use Rattle.std.proofs.Common.{◌≡◌, ◌≢◌, ℕ, suc, ◌<◌, ◌≤◌, Bool, true, false, eqb, length, get_or, ◌⊎◌, sym, ◌∙◌}
 use Rattle.std.proofs.Common.{ap, subst, inl, inr, arith}
 use Rattle.std.proofs.lemmas.Bool.{cases_eq, cases_Bool, eq-eqb, ne_eqb, eqb-true}
 use Rattle.def_forest.specs.Forests.{walk}
@@ -11,7 +11,7 @@ use Rattle.forest_laws.proofs.Writes.{label_cases}
 use Rattle.qm_forest.specs.Gathers.{IsRow}
 use Rattle.qm_forest.specs.Ties.{AreTied, HiddenTables, IsInUse, IsListed}
 use Rattle.qm_forest.proofs.JoinedLists.{list_has_last}
-use Rattle.qm_forest.proofs.Nests.{came_past, reached_used, list_of, held_out, leader_low, leader_out}
+use Rattle.qm_forest.proofs.Nests.{came_past, last_free, out_used, reached_used, list_of, held_out, leader_low, leader_out}
 
 abbrev pub row_at : (t : ForestTables) (front k : ℕ) → ℕ
 row_at t front k = walk (λ i. get_or t.after i 0) front k
@@ -39,8 +39,9 @@ pub record RowFacts (t : ForestTables) (hid : HiddenTables) (front many b big : 
       → climbs (up_at t.up) (length t.hand) (row_at t front k) v ≡ eqb (out_of t.hand t.top v) (row_at t front k)
   pub row_list : (k : ℕ) → k < many → IsListed (length t.hand) (λ i. get_or hid.following i 0) (get_or hid.first (row_at t front k) 0)
       (get_or hid.last (row_at t front k) 0) (get_or t.rank (row_at t front k) 0) (climbs (up_at t.up) (length t.hand) (row_at t front k))
-  pub row_ended : (k : ℕ) → k < many
-      → get_or hid.following (get_or hid.last (row_at t front k) 0) 0 ≡ get_or hid.last (row_at t front k) 0
+  pub row_used : (k : ℕ) → k < many → IsInUse (length t.hand) t.parts (row_at t front k)
+  pub row_ended : (k y j : ℕ) → k < many → y < length t.up → IsInUse (length t.hand) t.parts y → suc j < get_or t.rank y 0
+      → walk (λ i. get_or hid.following i 0) (get_or hid.first y 0) j ≢ get_or hid.last (row_at t front k) 0
   pub last_in : (k : ℕ) → k < many → (get_or hid.last (row_at t front k) 0 < length t.hand)
       × (out_of t.hand t.top (get_or hid.last (row_at t front k) 0) ≡ row_at t front k)
   pub lasts_differ : (i j : ℕ) → i < j → j < many → get_or hid.last (row_at t front i) 0 ≢ get_or hid.last (row_at t front j) 0
@@ -146,8 +147,14 @@ module _ (t : ForestTables) (hid : HiddenTables) (tied : AreTied t hid) (front m
   row_list k l = let w : (v : ℕ) × (v < n) × (out v ≡ at k) = tops k l in
       subst (λ x. IsListed n (λ i. get_or hid.following i 0) (get_or hid.first x 0) (get_or hid.last x 0) (get_or t.rank x 0) (climbs (up_at t.up) n x)) w.2 (list_of n (length t.up) t.hand t.top t.up t.rank t.parts hid.leader hid.first hid.last hid.following tied.nest w.0 w.1)
 
-  row_ended : (k : ℕ) → k < many → get_or hid.following (get_or hid.last (at k) 0) 0 ≡ get_or hid.last (at k) 0
-  row_ended k l = let w : (v : ℕ) × (v < n) × (out v ≡ at k) = tops k l in subst (λ x. get_or hid.following (get_or hid.last x 0) 0 ≡ get_or hid.last x 0) w.2 (tied.nest.ended w.0 w.1)
+  row_used : (k : ℕ) → k < many → IsInUse n t.parts (at k)
+  row_used k l = let w : (v : ℕ) × (v < n) × (out v ≡ at k) = tops k l in subst (IsInUse n t.parts) w.2 (out_used n (length t.up) t.hand t.top t.up t.rank t.parts hid.leader hid.first hid.last hid.following tied.nest w.0 w.1)
+
+  row_ended : (k y j : ℕ) → k < many → y < length t.up → IsInUse n t.parts y → suc j < get_or t.rank y 0
+      → walk (λ i. get_or hid.following i 0) (get_or hid.first y 0) j ≢ get_or hid.last (at k) 0
+  row_ended k y j l ly used lj e =
+      let w : (v : ℕ) × (v < n) × (out v ≡ at k) = tops k l in
+      last_free n (length t.up) t.hand t.top t.up t.rank t.parts hid.leader hid.first hid.last hid.following tied.nest w.0 y j w.1 ly used lj (e ∙ ap (λ x. get_or hid.last x 0) (sym w.2))
 
   last_in : (k : ℕ) → k < many → (get_or hid.last (at k) 0 < n) × (out (get_or hid.last (at k) 0) ≡ at k)
   last_in k l = let w : (get_or hid.last (at k) 0 < n) × (climbs (up_at t.up) n (at k) (get_or hid.last (at k) 0) ≡ true) = list_has_last n (λ i. get_or hid.following i 0) (get_or hid.first (at k) 0) (get_or hid.last (at k) 0) (get_or t.rank (at k) 0) (climbs (up_at t.up) n (at k)) (row_list k l) in
@@ -158,4 +165,4 @@ module _ (t : ForestTables) (hid : HiddenTables) (tied : AreTied t hid) (front m
 
   -- All of them.
   pub row_facts : RowFacts t hid front many b big
-  row_facts = record { no_out = no_out; unused = unused; alone = alone; b_outside = b_outside; b_off = b_off; at_in = at_in; in_row_out = in_row_out; row_top = row_top; row_outside = row_outside; big_in = big_in; handle_low = handle_low; handle_top = handle_top; handle_out = handle_out; own_handle = own_handle; held = held; row_list = row_list; row_ended = row_ended; last_in = last_in; lasts_differ = lasts_differ }
+  row_facts = record { no_out = no_out; unused = unused; alone = alone; b_outside = b_outside; b_off = b_off; at_in = at_in; in_row_out = in_row_out; row_top = row_top; row_outside = row_outside; big_in = big_in; handle_low = handle_low; handle_top = handle_top; handle_out = handle_out; own_handle = own_handle; held = held; row_list = row_list; row_used = row_used; row_ended = row_ended; last_in = last_in; lasts_differ = lasts_differ }

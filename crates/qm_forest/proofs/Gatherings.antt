@@ -47,7 +47,7 @@ module _ (h : Handles) (l : Lists) (r : Rings) (trail : Trail) (w : Weights) (e 
   off_small v lv = (let is : added h.hand.items h.top.items h.off.items e.label.items w.delta v ≡ get_or h.off.items (get_or h.hand.items v 0) (pos 0) +ℤ change (label_at e.label.items (out_of h.hand.items h.top.items v)) w.delta = refl in
       omega (arith, ints, is, added_small t hid tied v lv, change_small (label_at e.label.items (out_of h.hand.items h.top.items v)) w.delta, delta_small t hid tied))
 
-  q_small : (v : ℕ) → unsigned_abs (get_or h.q.items v (pos 0)) ≤ 2 ^ 97
+  pub q_small : (v : ℕ) → unsigned_abs (get_or h.q.items v (pos 0)) ≤ 2 ^ 97
   q_small v = by_size (cases_lt v (length h.hand.items))
     where
       by_size : (v < length h.hand.items) ⊎ (length h.hand.items ≤ v) → unsigned_abs (get_or h.q.items v (pos 0)) ≤ 2 ^ 97

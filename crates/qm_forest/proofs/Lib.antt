@@ -20,6 +20,10 @@ pub mod Gathered
 pub mod GatheredRows
 pub mod GatheredNumbers
 pub mod Pooled
+pub mod PartedWays
+pub mod Parted
+pub mod Handings
+pub mod Partings
 pub mod Gatherings
 pub mod Shrinkings
 pub mod WritesAlong

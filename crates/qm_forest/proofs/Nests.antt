@@ -1,12 +1,12 @@
 -- What the tables of a nest say at once: the outermost blossoms are in use, and their leaders are theirs.
-use Rattle.std.proofs.Common.{◌≡◌, ◌≢◌, ℕ, zero, suc, ◌<◌, ◌≤◌, Bool, true, false, eqb, ◌||◌, List, get_or, ◌⊎◌, refl, sym, ◌∙◌, subst, inl, inr, arith}
+use Rattle.std.proofs.Common.{◌≡◌, ◌≢◌, ℕ, zero, suc, ◌<◌, ◌≤◌, Bool, true, false, eqb, ◌||◌, List, get_or, ◌⊎◌, refl, sym, ◌∙◌, ap, subst, inl, inr, arith}
 use Rattle.std.proofs.lemmas.Bool.{cases_eq, eq-eqb, eqb-true}
 use Rattle.def_forest.specs.Forests.{walk}
 use Rattle.def_forest.specs.Tables.{climbs, out_of, up_at}
 use Rattle.forest_laws.proofs.Walks.{walk_front}
 use Rattle.qm_forest.specs.Ties.{IsInUse, IsLaidOut, IsListed}
-use Rattle.qm_forest.proofs.Apart.{fixed_top}
-use Rattle.qm_forest.proofs.JoinedLists.{list_few}
+use Rattle.qm_forest.proofs.Apart.{fixed_top, rank_low}
+use Rattle.qm_forest.proofs.JoinedLists.{list_few, list_has_last, list_member}
 
 -- What one comes past lies on the way.
 pub climbs_place : (up : ℕ → ℕ) (k b from : ℕ) → climbs up k b from ≡ true → (i : ℕ) × (walk up from i ≡ b)
@@ -63,6 +63,20 @@ module _ (n size : ℕ) (hand top up rank parts leader first last following : Li
 
   pub leader_out : (v : ℕ) → v < n → out (get_or leader (out v) 0) ≡ out v
   leader_out v l = held_out v (get_or leader (out v) 0) l (leader_low v l) (nest.leaders (out v) (out_size v l) (out_used v l)).1
+
+  -- What one comes past has no more vertices than the outermost.
+  pub rank_passed : (v y : ℕ) → v < n → climbs (up_at up) n y v ≡ true → get_or rank y 0 ≤ get_or rank (out v) 0
+  rank_passed v y l on = rank_low n (up_at up) (λ x. get_or rank x 0) out nest.climb nest.rises v y l (climbs_place (up_at up) n y v on)
+
+  -- The last vertex of an outermost blossom is the last of each list that it is on.
+  pub last_free : (v y j : ℕ) → v < n → y < size → IsInUse n parts y → suc j < get_or rank y 0
+      → walk (λ k. get_or following k 0) (get_or first y 0) j ≢ get_or last (out v) 0
+  last_free v y j lv ly used l e =
+      let more : get_or rank (out v) 0 < get_or rank y 0 = nest.ended (out v) y j (out_size v lv) ly (out_used v lv) used l e in
+      let mine : (get_or last (out v) 0 < n) × (climbs (up_at up) n (out v) (get_or last (out v) 0) ≡ true) = list_has_last n (λ k. get_or following k 0) (get_or first (out v) 0) (get_or last (out v) 0) (get_or rank (out v) 0) (climbs (up_at up) n (out v)) (list_of v lv) in
+      let low : get_or rank y 0 ≤ get_or rank (out (get_or last (out v) 0)) 0 = rank_passed (get_or last (out v) 0) y mine.0 (subst (λ w. climbs (up_at up) n y w ≡ true) e (list_member n (λ k. get_or following k 0) (get_or first y 0) (get_or last y 0) (get_or rank y 0) (climbs (up_at up) n y) (nest.members y ly used) j (omega (arith, l)))) in
+      let same : get_or rank (out (get_or last (out v) 0)) 0 ≡ get_or rank (out v) 0 = ap (λ x. get_or rank x 0) (held_out v (get_or last (out v) 0) lv mine.0 mine.1) in
+      omega (arith, more, low, same)
 
 -- One comes past where one comes to.
 pub came_past : (up : ℕ → ℕ) (k v x : ℕ) → walk up v k ≡ x → climbs up k x v ≡ true

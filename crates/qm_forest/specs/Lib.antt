@@ -1,4 +1,5 @@
 pub mod Gathers
+pub mod Parts
 pub mod Rings
 pub mod Ties
 pub mod Views

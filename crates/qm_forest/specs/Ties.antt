@@ -94,8 +94,10 @@ pub record IsLaidOut (n size : ℕ) (hand top up rank parts leader first last fo
   pub members : (x : Blossom) → x < size → IsInUse n parts x
       → IsListed n (slice_index following) (slice_index first x) (slice_index last x) (slice_index rank x)
       (climbs (up_at up) n x)
-  pub ended : (v : Vertex) → v < n
-      → slice_index following (slice_index last (out_of hand top v)) ≡ slice_index last (out_of hand top v)
+  -- A blossom in whose list the last of another's is not the last has more vertices than that.
+  pub ended : (x y : Blossom) (k : ℕ) → x < size → y < size → IsInUse n parts x → IsInUse n parts y
+      → suc k < slice_index rank y → walk (slice_index following) (slice_index first y) k ≡ slice_index last x
+      → slice_index rank x < slice_index rank y
   pub idle : (x : Blossom) → n ≤ x → slice_index parts x ≡ 0 → up_at up x ≡ x
   pub around : (x : Blossom) → up_at up x ≢ x → (n ≤ up_at up x) × (slice_index parts (up_at up x) ≢ 0)
   pub rises : (x : Blossom) → up_at up x ≢ x → slice_index rank x < slice_index rank (up_at up x)

@@ -74,7 +74,7 @@ fn rename_to(handles: &mut Handles, lists: &Lists, x: u32, big: u32)
 }
 
 /// What a handle adds to the potentials.
-fn off_at(handles: &Handles, handle: u32) -> i128
+pub(crate) fn off_at(handles: &Handles, handle: u32) -> i128
     requires { handle < length handles.now.off.items }
     ensures { result ≡ slice_index_or handles.now.off.items handle (pos 0) }
 {

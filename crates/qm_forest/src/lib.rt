@@ -9,6 +9,7 @@ mod gathering;
 mod growing;
 mod loads;
 mod numbers;
+mod parting;
 mod ring;
 mod search;
 mod shrinking;

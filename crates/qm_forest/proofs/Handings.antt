@@ -1,0 +1,127 @@
+-- Handing the vertices of the parts of a set over to their own leaders, one part after another.
+use Rattle.std.proofs.Common.{◌≡◌, ◌≢◌, ℕ, zero, suc, ◌<◌, ◌≤◌, ◌^◌, true, false, cond, List, length, get_or, ℤ, pos}
+use Rattle.std.proofs.Common.{◌+ℤ◌, ◌⊎◌, refl, sym, ◌∙◌, ap, subst, inl, inr, arith, length-set}
+use Rattle.std.proofs.Math.ListN.{set}
+use Rattle.std.specs.Prelude.{unsigned_abs}
+use Rattle.std.proofs.lemmas.Int.{ints}
+use Rattle.std.proofs.lemmas.Bool.{cases_eq, cases_Bool, cond-true, cond-false}
+use Rattle.def_forest.specs.Forests.{walk, set_at}
+use Rattle.forest_laws.specs.Walks.{writes}
+use Rattle.forest_laws.proofs.Writes.{set_here, set_there}
+use Rattle.qm_forest.specs.Gathers.{HasListAt, HasRenamed, IsRow, lists_at}
+use Rattle.qm_forest.specs.Parts.{HasHandedOver, HasHandedRow, HasOwnLeader, HasPartLists}
+use Rattle.qm_forest.specs.declared.tables.Handles.{Handles}
+use Rattle.qm_forest.specs.declared.tables.Lists.{Lists}
+use Rattle.qm_forest.proofs.TiedWrites.{entry_set}
+
+-- Where each place is written with what stands at one place, that one stays.
+writes_keep : {X : Type 0} (f : ℕ → X) (place : ℕ → ℕ) (a many : ℕ) → writes f place (λ k. f a) many a ≡ f a
+writes_keep f place a zero = refl
+writes_keep f place a (suc k) = by_place (cases_eq a (place k)) (writes_keep f place a k)
+  where
+    by_place : (a ≡ place k) ⊎ (a ≢ place k) → writes f place (λ j. f a) k a ≡ f a → set_at (writes f place (λ j. f a) k) (place k) (f a) a ≡ f a
+    by_place (inl e) was = ap (set_at (writes f place (λ j. f a) k) (place k) (f a)) e ∙ set_here (writes f place (λ j. f a) k) (place k) (f a)
+    by_place (inr ne) was = set_there (writes f place (λ j. f a) k) (place k) a (f a) ne ∙ was
+
+-- The vertices of one part: they were renamed, or had the handle before.
+pub hand_renamed : (h h1 : Handles) (lists : Lists) (x handle : ℕ) → handle ≡ get_or lists.leader.items x 0 → HasRenamed h h1 lists x handle (pos 0)
+    → (v : ℕ) → get_or h1.hand.items v 0 ≡ cond (lists_at lists x v) (get_or lists.leader.items x 0) (get_or h.hand.items v 0)
+hand_renamed h h1 lists x handle e renamed v = renamed.hand v ∙ ap (λ k. cond (lists_at lists x v) k (get_or h.hand.items v 0)) e
+
+pub q_renamed : (h h1 : Handles) (lists : Lists) (x handle : ℕ) → HasRenamed h h1 lists x handle (pos 0) → (v : ℕ) → get_or h1.q.items v (pos 0) ≡ get_or h.q.items v (pos 0)
+q_renamed h h1 lists x handle renamed v = renamed.q v ∙ by_test (cases_Bool (lists_at lists x v))
+  where
+    by_test : (lists_at lists x v ≡ true) ⊎ (lists_at lists x v ≡ false) → cond (lists_at lists x v) (get_or h.q.items v (pos 0) +ℤ pos 0) (get_or h.q.items v (pos 0)) ≡ get_or h.q.items v (pos 0)
+    by_test (inl on) = cond-true (lists_at lists x v) (get_or h.q.items v (pos 0) +ℤ pos 0) (get_or h.q.items v (pos 0)) on ∙ omega (arith, ints)
+    by_test (inr off) = cond-false (lists_at lists x v) (get_or h.q.items v (pos 0) +ℤ pos 0) (get_or h.q.items v (pos 0)) off
+
+pub hand_kept : (h : Handles) (lists : Lists) (x : ℕ) → ((v : ℕ) → lists_at lists x v ≡ true → get_or h.hand.items v 0 ≡ get_or lists.leader.items x 0)
+    → (v : ℕ) → get_or h.hand.items v 0 ≡ cond (lists_at lists x v) (get_or lists.leader.items x 0) (get_or h.hand.items v 0)
+hand_kept h lists x same v = by_test (cases_Bool (lists_at lists x v))
+  where
+    by_test : (lists_at lists x v ≡ true) ⊎ (lists_at lists x v ≡ false) → get_or h.hand.items v 0 ≡ cond (lists_at lists x v) (get_or lists.leader.items x 0) (get_or h.hand.items v 0)
+    by_test (inl on) = same v on ∙ sym (cond-true (lists_at lists x v) (get_or lists.leader.items x 0) (get_or h.hand.items v 0) on)
+    by_test (inr off) = sym (cond-false (lists_at lists x v) (get_or lists.leader.items x 0) (get_or h.hand.items v 0) off)
+
+module _ (h0 h1 : Handles) (lists : Lists) (after : List ℕ) (front many set' k x : ℕ) (has : HasPartLists h0 lists after front many set') (l : k < many)
+    (x_is : x ≡ walk (λ i. get_or after i 0) front k) (done : HasHandedRow h0 h1 lists after front k set') (row : IsRow (length after) after front many) where
+  abbrev at : ℕ → ℕ
+  at i = walk (λ i. get_or after i 0) front i
+
+  was : HasListAt h0 lists (at k)
+  was = has.each k l
+
+  pub part_list : HasListAt h1 lists x
+  part_list = subst (λ y. HasListAt h1 lists y) (sym x_is) (record {
+    first = was.first;
+    rank = was.rank;
+    q = done.qs ∙ (was.q ∙ sym done.hands);
+    following = was.following ∙ sym done.hands;
+    few = omega (arith, was.few, done.hands);
+    many = omega (arith, was.many, done.hands);
+    low = λ j lj. subst (λ n. walk (λ i. get_or lists.following.items i 0) (get_or lists.first.items (at k) 0) j < n) (sym done.hands) (was.low j lj);
+    distinct = was.distinct;
+  })
+
+  -- A vertex of this part is in none before.
+  first_off : (v : ℕ) → lists_at lists (at k) v ≡ true → (i : ℕ) → i < k → lists_at lists (at i) v ≡ false
+  first_off v on i li = by_test (cases_Bool (lists_at lists (at i) v))
+    where
+      by_test : (lists_at lists (at i) v ≡ true) ⊎ (lists_at lists (at i) v ≡ false) → lists_at lists (at i) v ≡ false
+      by_test (inl e) = (let s : i ≡ k = has.apart i k v (omega (arith, li, l)) l e on in absurd (omega (arith, s, li)))
+      by_test (inr e) = e
+
+  pub part_leader : HasOwnLeader h1 lists x set'
+  part_leader = subst (λ y. HasOwnLeader h1 lists y set') (sym x_is) (record {
+    low_x = subst (λ n. at k < n) (sym has.leader) (row.low k l);
+    low_set = subst (λ n. set' < n) (sym has.leader) has.set_low;
+    top = subst (λ n. get_or lists.leader.items (at k) 0 < n) (sym done.tops) (has.tops k l);
+    off = subst (λ n. get_or lists.leader.items (at k) 0 < n) (sym (done.offs ∙ has.offs)) (has.tops k l);
+    set_off = subst (λ n. get_or lists.leader.items set' 0 < n) (sym (done.offs ∙ has.offs)) has.set_top;
+    same = λ e v on. done.other v (first_off v on) ∙ (has.led k v l on ∙ sym e);
+  })
+
+  pub part_small : (v : ℕ) → unsigned_abs (get_or h1.q.items v (pos 0)) ≤ 2 ^ 100
+  part_small v = subst (λ (z : ℤ). unsigned_abs z ≤ 2 ^ 100) (sym (done.q v)) (has.small v)
+
+  -- One part more.
+  pub row_more : (h2 : Handles) (j : ℕ) → j ≡ suc k → HasHandedOver h1 h2 lists x set' → HasHandedRow h0 h2 lists after front j set'
+  row_more h2 j j_is one' = subst (λ m. HasHandedRow h0 h2 lists after front m set') (sym j_is) (record {
+    own = λ i v li on. own i v li on (cases_eq i k);
+    other = λ v off. one.hand v ∙ (cond-false (lists_at lists (at k) v) (get_or lists.leader.items (at k) 0) (get_or h1.hand.items v 0) (off k (omega arith)) ∙ done.other v (λ i li. off i (omega (arith, li))));
+    q = λ v. one.q v ∙ done.q v;
+    hands = one.hands ∙ done.hands;
+    qs = one.qs ∙ done.qs;
+    top = ap (λ xs i. get_or xs i 0) one.top ∙ (entry_set h1.top.items (get_or lists.leader.items (at k) 0) (at k) 0 (subst (λ n. get_or lists.leader.items (at k) 0 < n) (sym done.tops) (has.tops k l))
+        ∙ ap (λ (f : ℕ → ℕ). set_at f (get_or lists.leader.items (at k) 0) (at k)) done.top);
+    tops = ap length one.top ∙ (length-set h1.top.items (get_or lists.leader.items (at k) 0) (at k) ∙ done.tops);
+    off = off_set ∙ (entry_set h1.off.items (get_or lists.leader.items (at k) 0) (get_or h1.off.items (get_or lists.leader.items set' 0) (pos 0)) (pos 0) (subst (λ n. get_or lists.leader.items (at k) 0 < n) (sym (done.offs ∙ has.offs)) (has.tops k l))
+        ∙ (ap (λ (z : ℤ). set_at (λ i. get_or h1.off.items i (pos 0)) (get_or lists.leader.items (at k) 0) z) set_off
+        ∙ ap (λ (f : ℕ → ℤ). set_at f (get_or lists.leader.items (at k) 0) (get_or h0.off.items (get_or lists.leader.items set' 0) (pos 0))) done.off));
+    offs = ap length one.off ∙ (length-set h1.off.items (get_or lists.leader.items (at k) 0) (get_or h1.off.items (get_or lists.leader.items set' 0) (pos 0)) ∙ done.offs);
+  })
+    where
+      one : HasHandedOver h1 h2 lists (at k) set'
+      one = subst (λ y. HasHandedOver h1 h2 lists y set') x_is one'
+
+      read : List ℤ → ℕ → ℤ
+      read xs i = get_or xs i (pos 0)
+
+      off_set : read h2.off.items ≡ read (set h1.off.items (get_or lists.leader.items (at k) 0) (get_or h1.off.items (get_or lists.leader.items set' 0) (pos 0)))
+      off_set = ap read one.off
+
+      set_off : get_or h1.off.items (get_or lists.leader.items set' 0) (pos 0) ≡ get_or h0.off.items (get_or lists.leader.items set' 0) (pos 0)
+      set_off = ap (λ (f : ℕ → ℤ). f (get_or lists.leader.items set' 0)) done.off
+          ∙ writes_keep (λ i. get_or h0.off.items i (pos 0)) (λ i. get_or lists.leader.items (at i) 0) (get_or lists.leader.items set' 0) k
+
+      own : (i v : ℕ) → i < suc k → lists_at lists (at i) v ≡ true → (i ≡ k) ⊎ (i ≢ k) → get_or h2.hand.items v 0 ≡ get_or lists.leader.items (at i) 0
+      own i v li on (inl e) =
+          one.hand v ∙ (cond-true (lists_at lists (at k) v) (get_or lists.leader.items (at k) 0) (get_or h1.hand.items v 0) (subst (λ j. lists_at lists (at j) v ≡ true) e on)
+          ∙ ap (λ j. get_or lists.leader.items (at j) 0) (sym e))
+      own i v li on (inr ne) =
+          one.hand v ∙ (cond-false (lists_at lists (at k) v) (get_or lists.leader.items (at k) 0) (get_or h1.hand.items v 0) (off (cases_Bool (lists_at lists (at k) v)))
+          ∙ done.own i v (omega (arith, li, ne)) on)
+        where
+          off : (lists_at lists (at k) v ≡ true) ⊎ (lists_at lists (at k) v ≡ false) → lists_at lists (at k) v ≡ false
+          off (inl e) = absurd (ne (has.apart i k v (omega (arith, li, l)) l on e))
+          off (inr e) = e
