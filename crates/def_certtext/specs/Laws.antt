@@ -1,5 +1,6 @@
 -- What is written reads back: the head line and the certificate lines of a written text are those that it was made of.
-use Rattle.std.specs.Prelude.{◌≡◌, ◌≤◌, ◌<◌, ◌^◌, ◌↔◌, ◌&&◌, nat_le, nat_lt, ℕ, Bool, true, false, IsTrue, Option, Some, None, List, [], ◌∷◌, ◌++◌, length, drop, slice_index_or}
+use Rattle.std.specs.Prelude.{◌≡◌, ◌≤◌, ◌<◌, ◌^◌, ◌↔◌, ◌&&◌, nat_le, nat_lt, ℕ, Bool, true, false, IsTrue, Option, Some}
+use Rattle.std.specs.Prelude.{None, List, [], ◌∷◌, ◌++◌, length, drop, slice_index_or}
 use Rattle.std.specs.List.{list_all}
 use Rattle.def_io.specs.Bytes.{Bytes, Lines}
 use Rattle.def_io.specs.Lines.{lines_of}
@@ -50,13 +51,15 @@ TellsOnly text made =
 -- A text of a given floor tells its settings and its certificate, and no others.
 abbrev pub WrittenLaw : Type 0
 WrittenLaw =
-    (settings : Settings) (soup : FaceSet) (cert : Lists) → AreInRange settings false → IsPrintable soup → IsWritable cert
+    (settings : Settings) (soup : FaceSet) (cert : Lists) → AreInRange settings false → IsPrintable soup
+    → IsWritable cert
     → TellsOnly (written_text settings false soup (said_by cert))
     (record { settings = settings; auto = false; first = None; cert = cert })
 
 -- A text of a chosen floor tells its settings and its certificates, and no others.
 abbrev pub ChosenLaw : Type 0
 ChosenLaw =
-    (settings : Settings) (soup : FaceSet) (first : Lists) (third : Option Lists) → AreInRange settings true → IsPrintable soup
+    (settings : Settings) (soup : FaceSet) (first : Lists) (third : Option Lists) → AreInRange settings true
+    → IsPrintable soup
     → IsWritable first → ((lists : Lists) → third ≡ Some lists → IsWritable lists)
     → TellsOnly (written_text settings true soup (chosen_lines first third)) (chosen settings first third)

@@ -1,5 +1,7 @@
 -- What a written text says of how it was made.
-use Rattle.std.specs.Prelude.{◌≡◌, ◌<◌, ◌^◌, ◌==◌, ◌&&◌, ◌||◌, ℕ, ℤ, ◌+◌, nat_le, nat_lt, unsigned_abs, Bool, true, false, if◌then◌else◌, Option, Some, None, List, [], ◌∷◌, ◌++◌, length, map, slice_index_or, ⊤}
+use Rattle.std.specs.Prelude.{◌≡◌, ◌<◌, ◌^◌, ◌==◌, ◌&&◌, ◌||◌, ℕ, ℤ, ◌+◌, nat_le, nat_lt, unsigned_abs, Bool, true}
+use Rattle.std.specs.Prelude.{false, if◌then◌else◌, Option, Some, None, List, [], ◌∷◌, ◌++◌, length, map}
+use Rattle.std.specs.Prelude.{slice_index_or, ⊤}
 use Rattle.std.specs.List.{after_first, before_first, filter, flat_map, list_all, list_any}
 use Rattle.std.specs.Option.{option_map}
 use Rattle.def_io.specs.Bytes.{Bytes, Lines}

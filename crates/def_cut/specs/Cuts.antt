@@ -22,7 +22,7 @@ HasCross mesh d = (a : ℕ) × (b : ℕ) × (c : ℕ) × IsCross mesh d a b c
 abbrev pub IsUncut : (mesh : HalfEdges) (cut : Cut) (v : ℕ) → Type 0
 IsUncut mesh cut v = (d : ℕ) → d < mesh.count → mesh.from d ≡ v → (cut d ≡ false) × (cut (mesh.prev d) ≡ false)
 
--- n steps lead from d to e, each round a face or over an edge that is not cut. So the faces of d and e are in one class.
+-- n steps lead from d to e, each round a face or over an edge that is not cut: the faces of d and e are in one class.
 abbrev pub Links : (mesh : HalfEdges) (cut : Cut) (d e n : ℕ) → Type 0
 Links mesh cut d e zero = d ≡ e
 Links mesh cut d e (suc n) =

@@ -1,5 +1,6 @@
 -- A full cut of a list of faces, given as a mark for each dart.
-use Rattle.std.specs.Prelude.{◌≡◌, ◌⊎◌, ℕ, zero, suc, ◌<◌, ◌/◌, Bool, true, false, List, length, slice_index_or, Some, None}
+use Rattle.std.specs.Prelude.{◌≡◌, ◌⊎◌, ℕ, zero, suc, ◌<◌, ◌/◌, Bool, true, false, List, length, slice_index_or, Some}
+use Rattle.std.specs.Prelude.{None}
 use Rattle.def_mesh.specs.Faces.{Faces}
 use Rattle.def_mesh.specs.Darts.{darts, from_of, to_of, next_of, prev_of, twin_of, straight_of}
 use Rattle.def_mesh.specs.Kinds.{is_regular}

@@ -16,22 +16,27 @@ IsKnown faces s v = (s.stood v ≡ true) ⊎ (is_inner faces v ≡ false)
 
 -- The riders' next darts differ and leave vertices where a rider has stood, and both ends of a covered edge are known.
 pub record IsLawful (faces : Faces) (s : State) : Type 0 where
-  pub differ : (i j : ℕ) → i < j → j < length (ridden s.riders) → slice_index (ridden s.riders) i ≢ slice_index (ridden s.riders) j
+  pub differ : (i j : ℕ) → i < j → j < length (ridden s.riders)
+      → slice_index (ridden s.riders) i ≢ slice_index (ridden s.riders) j
   pub left : (i : ℕ) → i < length (ridden s.riders) → s.stood (from_of faces (slice_index (ridden s.riders) i)) ≡ true
-  pub known : (d : ℕ) → d < darts faces → s.covered d ≡ true → IsKnown faces s (from_of faces d) × IsKnown faces s (to_of faces d)
+  pub known : (d : ℕ) → d < darts faces → s.covered d ≡ true
+      → IsKnown faces s (from_of faces d) × IsKnown faces s (to_of faces d)
 
 -- So each state of the motion is.
 abbrev pub StateLaw : Type 0
-StateLaw = (faces : Faces) → IsManifold faces → (steps : ℕ) → IsLawful faces (after (terrain_of faces) (start_darts faces) steps)
+StateLaw = (faces : Faces) → IsManifold faces → (steps : ℕ)
+    → IsLawful faces (after (terrain_of faces) (start_darts faces) steps)
 
 -- The motion ends, and the traced graph is a full cut.
 abbrev pub GraphLaw : Type 0
-GraphLaw = (faces : Faces) → IsManifold faces → (ridden (last_state faces).riders ≡ []) × IsFullCut faces (traced_marks faces)
+GraphLaw = (faces : Faces) → IsManifold faces
+    → (ridden (last_state faces).riders ≡ []) × IsFullCut faces (traced_marks faces)
 
 -- In a state to which these events lead: where a rider runs some event is possible; there are at most as many rides as
 -- darts; and where nobody runs, the riders and the covered edges are those of the last state of the motion.
 pub record IsInOrder (faces : Faces) (events : List Event) (x : EventState) : Type 0 where
-  pub possible : (r : ℕ) → r < length x.riders → (rider_at x.riders r).stop ≡ None → (e : Event) × May (terrain_of faces) x e
+  pub possible : (r : ℕ) → r < length x.riders → (rider_at x.riders r).stop ≡ None
+      → (e : Event) × May (terrain_of faces) x e
   pub bounded : rides_in events ≤ darts faces
   pub same_riders : NobodyRuns x → x.riders ≡ (last_state faces).riders
   pub same_edges : NobodyRuns x → (d : ℕ) → d < darts faces → is_on x.covered d ≡ (last_state faces).covered d

@@ -1,5 +1,6 @@
 -- The laws of forests.
-use Rattle.std.specs.Prelude.{◌≢◌, ◌%◌, ◌<◌, ◌≤◌, ◌⊎◌, ◌+ℤ◌, ◌*ℤ◌, ◌≤ℤ◌, pos, List, ◌≡◌, ℕ, Bool, if◌then◌else◌, ℤ, Option, Some, None}
+use Rattle.std.specs.Prelude.{◌≢◌, ◌%◌, ◌<◌, ◌≤◌, ◌⊎◌, ◌+ℤ◌, ◌*ℤ◌, ◌≤ℤ◌, pos, List, ◌≡◌, ℕ, Bool, if◌then◌else◌, ℤ}
+use Rattle.std.specs.Prelude.{Option, Some, None}
 use Rattle.def_matching.specs.Matching.{Graph, EdgeNumber, IsGraph, IsPerfect, matching_cost}
 use Rattle.def_forest.specs.Darts.{Dart, Darts, AreDarts, darts_of, far}
 use Rattle.def_forest.specs.Forests.{Blossom, Forest, IsOutermost, set_at, dual_sum_of, vertices_in}
@@ -34,7 +35,8 @@ EndLaw =
     (g : Darts) (f : Forest) (root : Blossom) (start : Dart) (mate : Blossom → Option Dart) (a : Blossom) (e : Dart)
     → AreDarts g → IsValid g f (Some root) → (tree : IsTree g f root) → IsAlmost g f tree.depth start mate a e
     → f.mate a ≡ None
-    → IsValid g (with_mates f (set_at mate a (Some e))) None × IsAugmented g f (with_mates f (set_at mate a (Some e))) root start
+    → IsValid g (with_mates f (set_at mate a (Some e))) None
+    × IsAugmented g f (with_mates f (set_at mate a (Some e))) root start
 
 -- A cycle of tight darts in the tree may become one outer blossom.
 abbrev pub ShrinkLaw : Type 0
@@ -67,5 +69,6 @@ OddLaw =
 -- Twice the cost of each perfect matching is at least the sum of the weights.
 abbrev pub BoundLaw : Type 0
 BoundLaw =
-    (g : Graph) (f : Forest) (root : Option Blossom) (m : List EdgeNumber) → IsGraph g → IsValid (darts_of g) f root → IsPerfect g m
+    (g : Graph) (f : Forest) (root : Option Blossom) (m : List EdgeNumber) → IsGraph g → IsValid (darts_of g) f root
+    → IsPerfect g m
     → dual_sum_of f ≤ℤ (pos 2 *ℤ matching_cost g m)

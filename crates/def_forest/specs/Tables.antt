@@ -1,6 +1,7 @@
 -- What a contract sees of a forest that a program keeps: its tables, the forest that they stand for, and the step
 -- that an edge allows.
-use Rattle.std.specs.Prelude.{◌≡◌, ◌≢◌, ℕ, zero, suc, ◌+◌, ◌*◌, ◌<◌, ◌==◌, ◌||◌, Bool, if◌then◌else◌, List, length, slice_index, slice_index_or, Option, None, is_some, ℤ, pos, ◌+ℤ◌, ◌-ℤ◌, ◌*ℤ◌, int_lt}
+use Rattle.std.specs.Prelude.{◌≡◌, ◌≢◌, ℕ, zero, suc, ◌+◌, ◌*◌, ◌<◌, ◌==◌, ◌||◌, Bool, if◌then◌else◌, List, length}
+use Rattle.std.specs.Prelude.{slice_index, slice_index_or, Option, None, is_some, ℤ, pos, ◌+ℤ◌, ◌-ℤ◌, ◌*ℤ◌, int_lt}
 use Rattle.def_matching.specs.Matching.{Graph, Vertex, EdgeNumber, edge_at}
 use Rattle.def_forest.specs.Darts.{Dart, Darts, darts_of, far}
 use Rattle.def_forest.specs.Forests.{Blossom, Forest, load}
@@ -96,7 +97,8 @@ kind_by a b mate_a mate_b same = Idle
 abbrev pub kind_of : (g : Graph) (f : Forest) (e : EdgeNumber) → EdgeKind
 kind_of g f e =
     if int_lt (pos 0) (slack_of g f e) then Loose
-    else kind_by (f.label (f.out (edge_at g e).u)) (f.label (f.out (edge_at g e).v)) (f.mate (f.out (edge_at g e).u)) (f.mate (f.out (edge_at g e).v))
+    else kind_by (f.label (f.out (edge_at g e).u)) (f.label (f.out (edge_at g e).v))
+    (f.mate (f.out (edge_at g e).u)) (f.mate (f.out (edge_at g e).v))
     (f.out (edge_at g e).u == f.out (edge_at g e).v)
 
 -- The dart of an edge that begins in an outer blossom.

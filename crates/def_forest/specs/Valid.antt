@@ -1,5 +1,6 @@
 -- When a forest is valid for a graph.
-use Rattle.std.specs.Prelude.{◌≡◌, ◌≢◌, ℕ, ◌+◌, ◌*◌, ◌<◌, ◌≤◌, ◌==◌, true, false, pos, ◌+ℤ◌, ◌≤ℤ◌, Option, Some, None, ◌⊎◌}
+use Rattle.std.specs.Prelude.{◌≡◌, ◌≢◌, ℕ, ◌+◌, ◌*◌, ◌<◌, ◌≤◌, ◌==◌, true, false, pos, ◌+ℤ◌, ◌≤ℤ◌, Option, Some, None}
+use Rattle.std.specs.Prelude.{◌⊎◌}
 use Rattle.def_matching.specs.Matching.{Vertex}
 use Rattle.def_forest.specs.Darts.{Dart, Darts, far}
 use Rattle.def_forest.specs.Forests.{Blossom, Forest, load, IsTight, IsOutermost, number, walk, ring_sum}

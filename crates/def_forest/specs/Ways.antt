@@ -37,7 +37,8 @@ pub record IsHalf (g : Darts) (f : Forest) (mate : Blossom
   pub tight : IsTight g f d
   pub here : f.out (g.near d) ≡ b
   pub other : f.out (far g d) ≢ b
-  pub back : (mate (f.out (far g d)) ≡ Some (g.twin d)) ⊎ ((f.out (far g d) ≡ a) × ((d ≡ g.twin e) ⊎ (f.mate a ≡ Some (g.twin d))))
+  pub back : (mate (f.out (far g d)) ≡ Some (g.twin d))
+      ⊎ ((f.out (far g d) ≡ a) × ((d ≡ g.twin e) ⊎ (f.mate a ≡ Some (g.twin d))))
 
 -- The matching is changed from dart start on, up to outer blossom a, which is to be matched by dart e.
 pub record IsAlmost (g : Darts) (f : Forest) (depth : Blossom → ℕ) (start : Dart) (mate : Blossom

@@ -5,7 +5,8 @@ use Rattle.def_mesh.specs.Faces.{Face, Faces}
 use Rattle.def_text.specs.FaceSet.{FaceSet}
 use Rattle.def_text.specs.Text.{face_set, numbers_to}
 use Rattle.def_text.specs.Types.{Position, Positions}
-use Rattle.def_gen.specs.declared.TheConstants.{ADDEND, BLOCK_COLUMNS, FACTOR, GREATEST_HEIGHT, HEIGHTS, LEAST_HEIGHT, LOW_STATES, STATES}
+use Rattle.def_gen.specs.declared.TheConstants.{ADDEND, BLOCK_COLUMNS, FACTOR, GREATEST_HEIGHT, HEIGHTS, LEAST_HEIGHT}
+use Rattle.def_gen.specs.declared.TheConstants.{LOW_STATES, STATES}
 
 -- The state of the generator after so many steps from n.
 abbrev pub state_after : (n steps : ℕ) → ℕ
@@ -48,7 +49,8 @@ cell n column row =
 -- The cells of a row: one in each column that is higher.
 abbrev pub row_cells : (n row : ℕ) → Faces
 row_cells n row =
-    map (λ column. cell n column row) (filter (λ column. nat_lt row (column_height n column)) (range_with_len 0 (columns n)))
+    map (λ column. cell n column row)
+    (filter (λ column. nat_lt row (column_height n column)) (range_with_len 0 (columns n)))
 
 -- All cells, row by row.
 abbrev pub cells : (n : ℕ) → Faces

@@ -36,4 +36,5 @@ pub record Change : Type 0 where
 
 -- The change between these.
 abbrev pub change : (told told_now : Told) (faults faults_now : ℕ) → Change
-change told told_now faults faults_now = record { told = told; told_now = told_now; faults = faults; faults_now = faults_now }
+change told told_now faults faults_now =
+    record { told = told; told_now = told_now; faults = faults; faults_now = faults_now }

@@ -1,5 +1,6 @@
 -- Arcs of a cut: straight runs of cut edges from node to node. A test tells which vertices are nodes.
-use Rattle.std.specs.Prelude.{◌≡◌, ℕ, suc, ◌-◌, ◌<◌, Bool, true, false, List, [], length, slice_index, slice_index_or, Some}
+use Rattle.std.specs.Prelude.{◌≡◌, ℕ, suc, ◌-◌, ◌<◌, Bool, true, false, List, [], length, slice_index, slice_index_or}
+use Rattle.std.specs.Prelude.{Some}
 use Rattle.def_mesh.specs.HalfEdges.{HalfEdges}
 use Rattle.def_cut.specs.Cuts.{Cut}
 use Rattle.def_cut.specs.Grids.{least_of}

@@ -1,5 +1,6 @@
 -- The nodes of a cut.
-use Rattle.std.specs.Prelude.{◌≡◌, ◌<◌, true, false, Some, None, ℕ, ◌+◌, Bool, ◌&&◌, ◌||◌, not, nat_lt, is_some, List, filter, length}
+use Rattle.std.specs.Prelude.{◌≡◌, ◌<◌, true, false, Some, None, ℕ, ◌+◌, Bool, ◌&&◌, ◌||◌, not, nat_lt, is_some, List}
+use Rattle.std.specs.Prelude.{filter, length}
 use Rattle.std.specs.List.{range_with_len}
 use Rattle.def_mesh.specs.Faces.{Faces}
 use Rattle.def_mesh.specs.Darts.{prev_of, twin_of}
@@ -29,7 +30,8 @@ nodes_of faces marks = filter (is_node faces marks) (range_with_len 0 (vertex_co
 -- What the laws of layouts need of nodes: other vertices of the cut lie on one straight line of it, inside or along the
 -- boundary, and nothing ends or turns there.
 pub record AreNodes (mesh : HalfEdges) (cut : Cut) (node : ℕ → Bool) : Type 0 where
-  pub through : (d t : ℕ) → d < mesh.count → cut d ≡ true → mesh.twin d ≡ Some t → node (mesh.from d) ≡ false → HasCross mesh d
+  pub through : (d t : ℕ) → d < mesh.count → cut d ≡ true → mesh.twin d ≡ Some t → node (mesh.from d) ≡ false
+      → HasCross mesh d
   pub along : (d : ℕ) → d < mesh.count → mesh.twin d ≡ None → node (mesh.from (mesh.next d)) ≡ false
       → (t : ℕ) × (mesh.twin (mesh.next d) ≡ Some t) × (mesh.twin (mesh.next t) ≡ None)
   pub corner : (d : ℕ) → d < mesh.count → cut d ≡ true → cut (mesh.prev d) ≡ true → node (mesh.from d) ≡ true

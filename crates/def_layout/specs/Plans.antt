@@ -1,5 +1,6 @@
 -- The layout of a mesh and a cut.
-use Rattle.std.specs.Prelude.{◌≡◌, ℕ, suc, ◌+◌, ◌<◌, Bool, List, [], filter, map, length, slice_index, slice_index_or, true}
+use Rattle.std.specs.Prelude.{◌≡◌, ℕ, suc, ◌+◌, ◌<◌, Bool, List, [], filter, map, length, slice_index, slice_index_or}
+use Rattle.std.specs.Prelude.{true}
 use Rattle.std.specs.List.{range_with_len}
 use Rattle.def_mesh.specs.HalfEdges.{HalfEdges}
 use Rattle.def_cut.specs.Cuts.{Cut}
@@ -75,6 +76,7 @@ pub record IsLayout
   pub uses : (slot : Slot) → IsSlot (layout_of plan) slot → (use_of (layout_of plan) slot).arc < length plan.arcs
   pub used : (slot : Slot) (offset : ℕ) → IsSlot (layout_of plan) slot
       → offset < long_at plan.arcs (use_of (layout_of plan) slot).arc
-      → LiesAt mesh (arc_at plan.arcs (use_of (layout_of plan) slot).arc).darts (use_of (layout_of plan) slot).forward offset
+      → LiesAt mesh (arc_at plan.arcs (use_of (layout_of plan) slot).arc).darts
+      (use_of (layout_of plan) slot).forward offset
       (border_dart mesh (patch_at plan.patches slot.patch) slot.side
       (reach (layout_of plan) (long_at plan.arcs) slot.patch slot.side slot.at + offset))

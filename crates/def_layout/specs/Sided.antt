@@ -6,8 +6,8 @@ use Rattle.def_layout.specs.Laid.{IsOther}
 use Rattle.def_layout.specs.Lengths.{Lengths, wide, high}
 use Rattle.def_layout.specs.Cells.{Dart, IsDart, dart, next, rim_at}
 
--- `cell` gives the dart of the mesh for a dart of a cell, `vertex` the vertex for a node, and `arc_dart` the darts of an
--- arc, counted along it. The lengths are the numbers of these darts.
+-- `cell` gives the dart of the mesh for a dart of a cell, `vertex` the vertex for a node, and `arc_dart` the darts of
+-- an arc, counted along it. The lengths are the numbers of these darts.
 pub record IsSided
     (mesh : HalfEdges) (layout : Layout) (lengths : Lengths) (cell : Dart → ℕ) (vertex : ℕ → ℕ) (arc_dart : ℕ → ℕ → ℕ)
     : Type 0 where
@@ -29,7 +29,7 @@ pub record IsSided
       → ((v : Slot) × IsOther layout w v) ⊎ ((v : Slot) → ¬ IsOther layout w v)
   pub reached : (node : ℕ) → node < layout.nodes
       → (w : Slot) × IsSlot layout w × (start_of layout (use_of layout w) ≡ node)
-  -- The darts of an arc, in its own direction, are border darts, and their twins are the border darts on its other side.
+  -- The darts of an arc, in its own direction, are border darts, and so are their twins, on its other side.
   pub arc_low : (arc k : ℕ) → arc < layout.arcs → k < lengths arc → arc_dart arc k < mesh.count
   pub ahead : (w : Slot) (k : ℕ) → IsSlot layout w → k < lengths (use_of layout w).arc
       → (use_of layout w).forward ≡ true → cell (rim_at layout lengths w k) ≡ arc_dart (use_of layout w).arc k

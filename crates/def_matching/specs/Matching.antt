@@ -1,5 +1,6 @@
 -- Perfect matchings of a graph, and their costs.
-use Rattle.std.specs.Prelude.{◌≡◌, ℕ, ◌+◌, ◌*◌, ◌<◌, ◌≤◌, ◌≢◌, ◌==◌, if◌then◌else◌, List, map, length, ℤ, pos, unsigned_abs, slice_index_or}
+use Rattle.std.specs.Prelude.{◌≡◌, ℕ, ◌+◌, ◌*◌, ◌<◌, ◌≤◌, ◌≢◌, ◌==◌, if◌then◌else◌, List, map, length, ℤ, pos}
+use Rattle.std.specs.Prelude.{unsigned_abs, slice_index_or}
 use Rattle.def_math.specs.Counts.{count}
 use Rattle.def_math.specs.Rising.{IsRising}
 use Rattle.def_math.specs.Sums.{total}

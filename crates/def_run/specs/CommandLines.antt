@@ -37,7 +37,8 @@ remesh_options = codes "scale" ∷ codes "floor" ∷ codes "weight" ∷ []
 pub record HasSettings (words : Words) (settings : Settings) (auto : Bool) : Type 0 where
   pub uses : Uses
   pub options : AreOptions remesh_options words uses
-  pub values : AreWordsOf (value_of (codes "scale") uses) (value_of (codes "floor") uses) (value_of (codes "weight") uses) settings auto
+  pub values : AreWordsOf (value_of (codes "scale") uses) (value_of (codes "floor") uses)
+      (value_of (codes "weight") uses) settings auto
 
 -- The words behind the word of a command are its options, each once.
 abbrev pub HasOptions : (command : Command) (words : Words) → Type 0

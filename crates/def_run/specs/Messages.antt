@@ -13,7 +13,8 @@ use Rattle.def_run.specs.declared.answer.Answer.TheVariants.{NotManifold}
 
 -- The sink took this line, or failed and took a front of it.
 abbrev pub Said : (line : Bytes) (err : Change) → Type 0
-Said line err = (err.told_now ≡ took err.told line) ⊎ (Rose err.faults err.faults_now × TookFront err.told err.told_now line)
+Said line err = (err.told_now ≡ took err.told line)
+    ⊎ (Rose err.faults err.faults_now × TookFront err.told err.told_now line)
 
 -- Vertices in the line of an answer have the numbers of the file that was read.
 abbrev pub AreNames : (input : Change) (answer : Answer) (names : List ℕ) → Type 0

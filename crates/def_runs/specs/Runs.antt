@@ -63,7 +63,8 @@ pub record AreRuns (faces : Faces) (table : RunTable) : Type 0 where
   pub run_long : length table.run.items ≡ darts faces
   pub at_long : length table.at.items ≡ darts faces
   pub run_low : (d : ℕ) → d < darts faces → slice_index table.run.items d < length lists
-  pub at_low : (d : ℕ) → d < darts faces → slice_index table.at.items d < length (run_at lists (slice_index table.run.items d))
+  pub at_low : (d : ℕ) → d < darts faces
+      → slice_index table.at.items d < length (run_at lists (slice_index table.run.items d))
   pub stands : (d : ℕ) → d < darts faces
       → slice_index (run_at lists (slice_index table.run.items d)) (slice_index table.at.items d) ≡ d
   pub lengths : table.len.items ≡ map length lists

@@ -1,5 +1,6 @@
 -- Indices, and the corners of faces.
-use Rattle.std.specs.Prelude.{ℕ, ◌+◌, ◌-◌, ◌==◌, ◌&&◌, ◌||◌, nat_le, nat_lt, not, Bool, true, false, if◌then◌else◌, [], ◌∷◌, length}
+use Rattle.std.specs.Prelude.{ℕ, ◌+◌, ◌-◌, ◌==◌, ◌&&◌, ◌||◌, nat_le, nat_lt, not, Bool, true, false, if◌then◌else◌, []}
+use Rattle.std.specs.Prelude.{◌∷◌, length}
 use Rattle.std.specs.List.{before_first, list_all, slice_split}
 use Rattle.def_text.specs.Digits.{is_negative, is_signed, number, unsigned}
 use Rattle.def_text.specs.Types.{Word, Words}

@@ -1,5 +1,6 @@
 -- Decimals: their form, and their exact value rounded to millionths.
-use Rattle.std.specs.Prelude.{◌≡◌, ℕ, suc, ◌+◌, ◌*◌, ◌^◌, ◌/◌, ◌==◌, ◌&&◌, ◌||◌, nat_le, nat_lt, Bool, true, false, ℤ, pos, negsuc, ◌+ℤ◌, ◌-ℤ◌, neg_ℤ, unsigned_abs, if◌then◌else◌, [], ◌∷◌, ◌++◌, length, drop}
+use Rattle.std.specs.Prelude.{◌≡◌, ℕ, suc, ◌+◌, ◌*◌, ◌^◌, ◌/◌, ◌==◌, ◌&&◌, ◌||◌, nat_le, nat_lt, Bool, true, false, ℤ}
+use Rattle.std.specs.Prelude.{pos, negsuc, ◌+ℤ◌, ◌-ℤ◌, neg_ℤ, unsigned_abs, if◌then◌else◌, [], ◌∷◌, ◌++◌, length, drop}
 use Rattle.std.specs.List.{after_first, before_first, position_or_len}
 use Rattle.def_io.specs.Bytes.{Bytes}
 use Rattle.def_text.specs.Digits.{is_negative, is_signed, number, is_number, signed, unsigned}

@@ -1,5 +1,6 @@
 -- What one logical line says.
-use Rattle.std.specs.Prelude.{ℕ, ◌==◌, ◌&&◌, ◌||◌, nat_le, nat_lt, not, Bool, false, if◌then◌else◌, [], ◌∷◌, length, map, take}
+use Rattle.std.specs.Prelude.{ℕ, ◌==◌, ◌&&◌, ◌||◌, nat_le, nat_lt, not, Bool, false, if◌then◌else◌, [], ◌∷◌, length}
+use Rattle.std.specs.Prelude.{map, take}
 use Rattle.std.specs.List.{list_all, list_any}
 use Rattle.def_text.specs.Corner.{is_corner, is_out, resolved, used_index}
 use Rattle.def_text.specs.Decimal.{is_decimal, is_far, rounded}

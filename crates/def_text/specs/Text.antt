@@ -1,5 +1,6 @@
 -- What a list of physical lines says: its soup, or its first refusal.
-use Rattle.std.specs.Prelude.{ℕ, zero, suc, ◌-◌, nat_lt, if◌then◌else◌, Result, Ok, Err, List, [], ◌∷◌, ◌++◌, length, map, slice_index_or}
+use Rattle.std.specs.Prelude.{ℕ, zero, suc, ◌-◌, nat_lt, if◌then◌else◌, Result, Ok, Err, List, [], ◌∷◌, ◌++◌, length}
+use Rattle.std.specs.Prelude.{map, slice_index_or}
 use Rattle.std.specs.List.{count_by, filter, flat_map, list_any}
 use Rattle.def_io.specs.Bytes.{Bytes, Lines}
 use Rattle.def_io.specs.Lines.{lines_of}

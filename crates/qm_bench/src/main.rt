@@ -1,4 +1,5 @@
-//! Work to be timed: the matching graph of a network of 10,000 arcs, or the verdict on a dual over it, as often as is asked.
+//! Work to be timed: the matching graph of a network of 10,000 arcs, or the verdict on a dual over it, as often as is
+//! asked.
 #![tactic(auto)]
 
 mod network;

@@ -1,5 +1,6 @@
 -- What is wrong with a list of lengths, as the judge finds it.
-use Rattle.std.specs.Prelude.{ℕ, ◌==◌, not, if◌then◌else◌, true, false, List, length, slice_index, unsigned_abs, Option, Some, None, option_map}
+use Rattle.std.specs.Prelude.{ℕ, ◌==◌, not, if◌then◌else◌, true, false, List, length, slice_index, unsigned_abs, Option}
+use Rattle.std.specs.Prelude.{Some, None, option_map}
 use Rattle.def_math.specs.Searches.{least}
 use Rattle.def_flow.specs.Network.{Network}
 use Rattle.def_flow.specs.Admissible.{entries, side_sum}
@@ -23,7 +24,11 @@ below_verdict net xs = option_map (λ k. Below k (slice_index xs k)) (below_faul
 
 -- A node with unequal sums.
 abbrev pub unequal_verdict : Network → List ℕ → Option CertVerdict
-unequal_verdict net xs = option_map (λ v. Unequal v (unsigned_abs (side_sum net.arcs (entries xs) true v)) (unsigned_abs (side_sum net.arcs (entries xs) false v))) (unequal_fault net xs)
+unequal_verdict net xs =
+    option_map
+    (λ v. Unequal v (unsigned_abs (side_sum net.arcs (entries xs) true v))
+    (unsigned_abs (side_sum net.arcs (entries xs) false v)))
+    (unequal_fault net xs)
 
 -- The first fault of a list.
 abbrev pub list_verdict : Network → List ℕ → Option CertVerdict
@@ -33,4 +38,6 @@ list_verdict net xs =
 
 -- The least place at which two tables of sums differ, with both sums.
 abbrev pub compared_verdict : List ℕ → List ℕ → Option CertVerdict
-compared_verdict plus minus = option_map (λ v. Unequal v (slice_index plus v) (slice_index minus v)) (least (λ v. not (slice_index plus v == slice_index minus v)) (length plus))
+compared_verdict plus minus =
+    option_map (λ v. Unequal v (slice_index plus v) (slice_index minus v))
+    (least (λ v. not (slice_index plus v == slice_index minus v)) (length plus))

@@ -29,9 +29,11 @@ pub fn accepts(alloc: Global, net: &Net, cert: &Cert) -> Result<CertVerdict, Mem
     requires tangle { tangle_number (network net.now) ≤ MAX_TANGLE }
     ensures exact { IfOk result (λ v. v ≡ cert_verdict (network net.now) (certificate cert.now)) }
     // Yes comes exactly where the certificate is accepted.
-    ensures accepted { IfOk result (λ v. ((d : ℤ) × (v ≡ CertVerdict.Yes d)) ↔ IsAccepted (network net.now) (certificate cert.now)) }
+    ensures accepted { IfOk result (λ v.
+        ((d : ℤ) × (v ≡ CertVerdict.Yes d)) ↔ IsAccepted (network net.now) (certificate cert.now)) }
     // After yes no admissible list of whole numbers, of any size, has a smaller deviation.
-    ensures least { IfOk result (λ v. (d : ℤ) → v ≡ CertVerdict.Yes d → IsLeast (network net.now) (entries cert.now.x.items)) }
+    ensures least { IfOk result (λ v.
+        (d : ℤ) → v ≡ CertVerdict.Yes d → IsLeast (network net.now) (entries cert.now.x.items)) }
 {
     let fault = list_fault(alloc, net, &cert.x)?;
     match fault {
@@ -47,7 +49,9 @@ fn judge_dual(alloc: Global, net: &Net, cert: &Cert) -> Result<CertVerdict, Memo
     requires admissible { IsAdmissible (network net.now) (entries cert.now.x.items) }
     requires dual { IsSmallDual (dual cert.now.dual) }
     requires tangle { tangle_number (network net.now) ≤ MAX_TANGLE }
-    ensures { IfOk result (λ v. v ≡ refuse_dual (verdict (matching_graph (network net.now) 1 cert.now.x.items) (dual cert.now.dual)) (sums_verdict (network net.now) (certificate cert.now))) }
+    ensures { IfOk result (λ v.
+        v ≡ refuse_dual (verdict (matching_graph (network net.now) 1 cert.now.x.items) (dual cert.now.dual))
+        (sums_verdict (network net.now) (certificate cert.now))) }
 {
     let gadget = graph_of(alloc, net, &cert.x, 1)?;
     let verdict = dual_ok(alloc, &gadget.graph, &cert.dual)?;

@@ -1,6 +1,7 @@
 //! The sums on the sides of the nodes, and searches.
 
-ghost use Rattle.std.specs.Prelude.{◌≡◌, ◌+◌, ◌*◌, ◌^◌, ◌<◌, ◌≤◌, ◌==◌, ℕ, not, cond, length, replicate, slice_index, nat_lt, IfOk, IfSome};
+ghost use Rattle.std.specs.Prelude.{◌≡◌, ◌+◌, ◌*◌, ◌^◌, ◌<◌, ◌≤◌, ◌==◌, ℕ, not, cond, length, replicate, slice_index};
+ghost use Rattle.std.specs.Prelude.{nat_lt, IfOk, IfSome};
 ghost use Rattle.def_math.specs.Searches.{least};
 ghost use Rattle.def_math.specs.Tables.{IsRaised};
 ghost use Rattle.def_flow.specs.Network.{network, IsWithinBounds};
@@ -19,7 +20,8 @@ pub(crate) fn side_sums(
 ) -> Result<Vec<u128>, AllocError>
     requires bounds { IsWithinBounds (network net.now) }
     requires lengths { AreLengths net.now.arcs.items x.now }
-    ensures sides { IfOk result (λ sums. AreSides net.now.nodes net.now.arcs.items x.now plus (length net.now.arcs.items) sums.items) }
+    ensures sides { IfOk result (λ sums.
+        AreSides net.now.nodes net.now.arcs.items x.now plus (length net.now.arcs.items) sums.items) }
     ensures few { IfOk result (λ sums. length sums.items < 2 ^ 32) }
 {
     let mut sums = vec![in alloc; 0u128; net.nodes as usize]?;

@@ -10,6 +10,7 @@ is_bare word = list_all (λ byte. not (byte == SPACE)) word
 
 -- The line has these words of a scale, a floor and a weight.
 pub record IsCut (line scale floor weight : Word) : Type 0 where
-  pub written : line ≡ codes "#quadq 1 remesh scale " ++ (scale ++ (codes " floor " ++ (floor ++ (codes " weight " ++ weight))))
+  pub written : line
+      ≡ codes "#quadq 1 remesh scale " ++ (scale ++ (codes " floor " ++ (floor ++ (codes " weight " ++ weight))))
   pub scale_bare : is_bare scale ≡ true
   pub floor_bare : is_bare floor ≡ true

@@ -3,7 +3,8 @@ use Rattle.std.specs.Prelude.{◌≡◌, ◌++◌, ◌+◌, ℕ, Bool, true, fal
 use Rattle.std.specs.List.{after_first, before_first, filter, flat_map, list_all, list_any}
 use Rattle.def_io.specs.Bytes.{Bytes, Lines}
 use Rattle.def_certtext.specs.CertLines.{line_text, Lists}
-use Rattle.def_certtext.specs.Reading.{is_marked, is_third, length_in, may_stand, set_in, set_up_in, vertex_in, vertex_up_in, IsFirstBad, Says}
+use Rattle.def_certtext.specs.Reading.{is_marked, is_third, length_in, may_stand, set_in, set_up_in, vertex_in}
+use Rattle.def_certtext.specs.Reading.{vertex_up_in, IsFirstBad, Says}
 use Rattle.def_certtext.specs.declared.CertFail.{CertFail}
 use Rattle.def_certtext.specs.declared.CertFail.TheVariants.{Head, Line, Memory}
 use Rattle.def_certtext.specs.declared.CertLine.{CertLine}
@@ -35,7 +36,8 @@ HoldBoth (Some first) last said =
 
 -- One line more.
 abbrev pub TakesLine : (old new : Found) (line : CertLine) → Type 0
-TakesLine old new line = (said : List CertLine) → HoldBoth old.first old.last said → HoldBoth new.first new.last (said ++ line ∷ [])
+TakesLine old new line =
+    (said : List CertLine) → HoldBoth old.first old.last said → HoldBoth new.first new.last (said ++ line ∷ [])
 
 -- What the first lines behind a head line say, in a text of `auto` or not.
 pub record ReadSome (auto : Bool) (behind : Lines) (found : Found) : Type 0 where
@@ -51,7 +53,8 @@ TakesText auto line old new = (behind : Lines) → ReadSome auto behind old → 
 -- Why a line of this number was not read.
 abbrev pub IsLineFail : (auto : Bool) (line : Bytes) (number : ℕ) (fail : CertFail) → Type 0
 IsLineFail auto line number Head = ⊥
-IsLineFail auto line number (Line n) = (n ≡ number) × (is_marked line ≡ true) × ((said : CertLine) → ¬ Says auto line said)
+IsLineFail auto line number (Line n) =
+    (n ≡ number) × (is_marked line ≡ true) × ((said : CertLine) → ¬ Says auto line said)
 IsLineFail auto line number Memory = ⊤
 
 -- Why the lines behind the head line, of which the first has this number, were not read.

@@ -1,6 +1,7 @@
 //! The numbers of certificate lines, read as they are written.
 
-ghost use Rattle.std.specs.Prelude.{◌≡◌, ◌≤◌, ◌<◌, ◌==◌, ◌&&◌, ◌++◌, ◌∷◌, ℕ, ℤ, true, decimal, length, nat_lt, slice_index, unsigned_abs, MatchOption};
+ghost use Rattle.std.specs.Prelude.{◌≡◌, ◌≤◌, ◌<◌, ◌==◌, ◌&&◌, ◌++◌, ◌∷◌, ℕ, ℤ, true, decimal, length, nat_lt};
+ghost use Rattle.std.specs.Prelude.{slice_index, unsigned_abs, MatchOption};
 ghost use Rattle.def_certtext.specs.CertLines.{signed_text};
 ghost use Rattle.def_certtext.specs.Reading.{is_small};
 
@@ -22,7 +23,8 @@ pub(crate) struct Numbered {
 pub(crate) fn read_numbered(text: &[u8]) -> Option<Numbered>
     ensures { MatchOption result
         ((number : ℤ) (up : ℕ) → is_small number up ≡ true → ¬ (text.now ≡ signed_text number ++ SPACE ∷ decimal up))
-        (λ read. (is_small read.number read.up ≡ true) × (text.now ≡ signed_text read.number ++ SPACE ∷ decimal read.up)) }
+        (λ read. (is_small read.number read.up ≡ true)
+        × (text.now ≡ signed_text read.number ++ SPACE ∷ decimal read.up)) }
 {
     let (front, rest) = text.split_at(find_byte(text, SPACE));
     if rest.is_empty() {

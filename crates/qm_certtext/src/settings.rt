@@ -60,7 +60,8 @@ fn read_floor(word: &[u8]) -> Option<Least>
 }
 
 fn read_weight(word: &[u8]) -> Option<Weight>
-    ensures { MatchOption result ((weight : AnyWeight) → ¬ (word.now ≡ weight_text weight)) (λ weight. word.now ≡ weight_text weight) }
+    ensures { MatchOption result ((weight : AnyWeight) → ¬ (word.now ≡ weight_text weight))
+        (λ weight. word.now ≡ weight_text weight) }
 {
     match word {
         b"plain" => Some(Weight::Plain),

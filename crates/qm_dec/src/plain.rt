@@ -33,7 +33,8 @@ pub(crate) fn plain_size(word: &[u8]) -> Option<u64>
 fn with_fraction(whole: u64, fraction: &[u8]) -> Option<u64>
     requires { whole < 10 ^ 9 }
     ensures { IfSome result (λ n. (list_all is_ascii_digit fraction.now ≡ true) × (length fraction.now ≤ 6)
-        × (n ≡ number_from_digits_after 10 whole (map (λ digit. digit - 48) fraction.now) * 10 ^ (6 - length fraction.now))) }
+        × (n ≡ number_from_digits_after 10 whole (map (λ digit. digit - 48) fraction.now)
+        * 10 ^ (6 - length fraction.now))) }
 {
     if fraction.len() > 6 {
         return None;

@@ -1,5 +1,6 @@
 //! A decimal's word to its number of millionths.
-ghost use Rattle.std.specs.Prelude.{◌≡◌, ◌≤◌, ◌<◌, ◌+◌, ◌^◌, ◌++◌, neg_ℤ, if◌then◌else◌, pos, ◌+ℤ◌, ◌-ℤ◌, min, true, IsTrue, length, IfOk, IfErr};
+ghost use Rattle.std.specs.Prelude.{◌≡◌, ◌≤◌, ◌<◌, ◌+◌, ◌^◌, ◌++◌, neg_ℤ, if◌then◌else◌, pos, ◌+ℤ◌, ◌-ℤ◌, min, true};
+ghost use Rattle.std.specs.Prelude.{IsTrue, length, IfOk, IfErr};
 ghost use Rattle.def_text.specs.Decimal.{is_exponent, power, scaled, IsDecFail, IsValue};
 ghost use Rattle.def_text.specs.Digits.{is_negative, is_number, number};
 ghost use Rattle.qm_dec.specs.Sizes.{capped};
@@ -48,7 +49,8 @@ fn size_in_millionths(whole: &[u8], fraction: &[u8], exponent: &[u8]) -> u64
     requires number { IsTrue (is_number (whole.now ++ fraction.now)) }
     requires exponent { IsTrue (is_exponent exponent.now) }
     requires short { length whole.now + length fraction.now + length exponent.now ≤ 64 }
-    ensures { result ≡ capped (scaled (number (whole.now ++ fraction.now)) ((power exponent.now +ℤ pos 6) -ℤ pos (length fraction.now))) }
+    ensures { result ≡ capped (scaled (number (whole.now ++ fraction.now))
+        ((power exponent.now +ℤ pos 6) -ℤ pos (length fraction.now))) }
 {
     let digits = fraction.len() as u32;
     if exponent.is_empty() {

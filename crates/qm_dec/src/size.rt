@@ -1,5 +1,6 @@
 //! The size of a decimal in millionths, or the least size that is out of range.
-ghost use Rattle.std.specs.Prelude.{◌≡◌, ◌≤◌, ◌+◌, ◌*◌, ◌-◌, ◌^◌, ◌++◌, ◌<◌, pos, negsuc, ◌-ℤ◌, IsTrue, length, map, slice_index, take};
+ghost use Rattle.std.specs.Prelude.{◌≡◌, ◌≤◌, ◌+◌, ◌*◌, ◌-◌, ◌^◌, ◌++◌, ◌<◌, pos, negsuc, ◌-ℤ◌, IsTrue, length, map};
+ghost use Rattle.std.specs.Prelude.{slice_index, take};
 ghost use Rattle.std.specs.Char.{is_ascii_digit};
 ghost use Rattle.std.specs.Int.Digits.{number_from_digits_after};
 ghost use Rattle.std.specs.List.{list_all};

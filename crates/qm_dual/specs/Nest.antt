@@ -1,5 +1,6 @@
 -- What the tables over the nested sets of a dual hold.
-use Rattle.std.specs.Prelude.{◌≡◌, ℕ, zero, suc, ◌+◌, ◌-◌, ◌<◌, ◌≤◌, ◌≢◌, ◌⊎◌, ◌==◌, ◌&&◌, ◌||◌, nat_lt, Bool, not, if◌then◌else◌, List, length, ℤ, pos, slice_index, slice_index_or, slice_set}
+use Rattle.std.specs.Prelude.{◌≡◌, ℕ, zero, suc, ◌+◌, ◌-◌, ◌<◌, ◌≤◌, ◌≢◌, ◌⊎◌, ◌==◌, ◌&&◌, ◌||◌, nat_lt, Bool, not}
+use Rattle.std.specs.Prelude.{if◌then◌else◌, List, length, ℤ, pos, slice_index, slice_index_or, slice_set}
 use Rattle.std.specs.List.{list_any}
 use Rattle.def_math.specs.Counts.{count_below}
 use Rattle.def_math.specs.Sums.{total_below}
@@ -41,7 +42,13 @@ around n d entry = total_below (λ k. if climbs n d.up (length d.z) k entry then
 
 -- The sum of the numbers of the sets that a climb passes from exactly one of two entries.
 abbrev pub apart : ℕ → DualLists → ℕ → ℕ → ℤ
-apart n d a b = total_below (λ k. if (if climbs n d.up (length d.z) k a then not (climbs n d.up (length d.z) k b) else climbs n d.up (length d.z) k b) then z_at d k else pos 0) (length d.z)
+apart n d a b =
+    total_below
+    (λ k. if
+    (if climbs n d.up (length d.z) k a then not (climbs n d.up (length d.z) k b)
+    else climbs n d.up (length d.z) k b)
+    then z_at d k else pos 0)
+    (length d.z)
 
 -- For each set from k on, the sum of its number and those of the sets around it.
 pub record AreSums (n : ℕ) (d : DualLists) (k : ℕ) (sums : List ℤ) : Type 0 where
@@ -67,7 +74,8 @@ pub record AreTables (n : ℕ) (d : DualLists) (sums : List ℤ) (heads : List �
 
 -- The set k, from 1, where it is greater than the rival, or there is none; or else the rival.
 abbrev pub pick_with : (sizes : List ℕ) (rival k : ℕ) → ℕ
-pick_with sizes rival k = if (rival == 0) || nat_lt (slice_index sizes (rival - 1)) (slice_index sizes k) then k + 1 else rival
+pick_with sizes rival k =
+    if (rival == 0) || nat_lt (slice_index sizes (rival - 1)) (slice_index sizes k) then k + 1 else rival
 
 -- Of the sets below k, one that set q picks is a greatest of those directly inside it, and it picks none where none is.
 abbrev pub IsPick : (n k : ℕ) (up sizes : List ℕ) (q pick : ℕ) → Type 0
@@ -87,7 +95,8 @@ IsMeeting n m up a b entry = (k : ℕ) → climbs n up m k entry ≡ (climbs n u
 
 -- The sets around both of two entries are those around both of two others.
 abbrev pub HaveSameSets : ℕ → ℕ → List ℕ → ℕ → ℕ → ℕ → ℕ → Type 0
-HaveSameSets n m up a b c e = (k : ℕ) → (climbs n up m k a && climbs n up m k b) ≡ (climbs n up m k c && climbs n up m k e)
+HaveSameSets n m up a b c e =
+    (k : ℕ) → (climbs n up m k a && climbs n up m k b) ≡ (climbs n up m k c && climbs n up m k e)
 
 -- What is left to climb from an entry.
 abbrev pub left : ℕ → ℕ → ℕ

@@ -1,6 +1,7 @@
 //! The judge of duals.
 
-ghost use Rattle.std.specs.Prelude.{◌≡◌, ◌+◌, ◌^◌, ◌<◌, ◌≤◌, ◌*ℤ◌, ◌≤ℤ◌, ℕ, ℤ, List, pos, not, length, slice_index, slice_index_or, int_lt, IfOk, IfNone, IfSome};
+ghost use Rattle.std.specs.Prelude.{◌≡◌, ◌+◌, ◌^◌, ◌<◌, ◌≤◌, ◌*ℤ◌, ◌≤ℤ◌, ℕ, ℤ, List, pos, not, length, slice_index};
+ghost use Rattle.std.specs.Prelude.{slice_index_or, int_lt, IfOk, IfNone, IfSome};
 ghost use Rattle.def_math.specs.Searches.{least};
 ghost use Rattle.def_matching.specs.Dual.{dual, verdict, shape_fault, is_odd_size, is_up, IsSmallDual};
 ghost use Rattle.def_matching.specs.Matching.{graph, matching_cost, IsPerfect, IsSmallGraph};
@@ -24,7 +25,9 @@ pub fn dual_ok(alloc: Global, g: &WGraph, d: &Dual) -> Result<Verdict, Memory>
     requires small { IsSmallDual (dual d.now) }
     ensures exact { IfOk result (λ v. v ≡ verdict (graph g.now) (dual d.now)) }
     // No perfect matching is cheaper than half of the sum.
-    ensures bound { IfOk result (λ v. (sum : ℤ) → v ≡ Verdict.Yes sum → (m : List ℕ) → IsPerfect (graph g.now) m → sum ≤ℤ (pos 2 *ℤ matching_cost (graph g.now) m)) }
+    ensures bound { IfOk result (λ v.
+        (sum : ℤ) → v ≡ Verdict.Yes sum → (m : List ℕ) → IsPerfect (graph g.now) m
+        → sum ≤ℤ (pos 2 *ℤ matching_cost (graph g.now) m)) }
 {
     if let Some(index) = shape_fault_of(g.n, d) {
         return Ok(Verdict::Shape { index });

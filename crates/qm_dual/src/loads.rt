@@ -24,7 +24,10 @@ pub(crate) fn judge_loads(g: &WGraph, d: &Dual, tables: &Tables) -> Verdict
     requires numbers { length d.now.y.items ≡ g.now.n }
     requires nest { IsNest g.now.n (dual d.now) }
     requires tables { AreTables g.now.n (dual d.now) tables.now.sums.items tables.now.heads.items }
-    ensures { result ≡ refuse (short_fault (graph g.now) (dual d.now)) (λ k. Verdict.Short k (load g.now.n (dual d.now) (edge_at (graph g.now) k)) (pos 2 *ℤ (edge_at (graph g.now) k).cost)) (Verdict.Yes (dual_sum (dual d.now))) }
+    ensures { result ≡ refuse (short_fault (graph g.now) (dual d.now))
+        (λ k. Verdict.Short k (load g.now.n (dual d.now) (edge_at (graph g.now) k))
+        (pos 2 *ℤ (edge_at (graph g.now) k).cost))
+        (Verdict.Yes (dual_sum (dual d.now))) }
 {
     for (k, edge) in g.edges.iter().enumerate() {
         let load = load_of(g.n, d, tables, edge);

@@ -1,6 +1,7 @@
 //! The paths into which nested sets fall, and the least set around two.
 
-ghost use Rattle.std.specs.Prelude.{◌≡◌, ◌+◌, ◌-◌, ◌^◌, ◌<◌, ◌≤◌, ◌≢◌, ◌==◌, ◌&&◌, not, if◌then◌else◌, length, slice_index, IfOk};
+ghost use Rattle.std.specs.Prelude.{◌≡◌, ◌+◌, ◌-◌, ◌^◌, ◌<◌, ◌≤◌, ◌≢◌, ◌==◌, ◌&&◌, not, if◌then◌else◌, length};
+ghost use Rattle.std.specs.Prelude.{slice_index, IfOk};
 ghost use Rattle.def_matching.specs.Dual.{dual};
 ghost use Rattle.qm_dual.specs.Nest.{AreHeads, ArePicks, IsMeeting, IsNest, HaveSameSets, left, pick_with};
 
@@ -9,8 +10,8 @@ use crate::nest::set_around_set;
 use def_matching::Dual;
 use std::alloc::Global;
 
-/// The paths into which the sets fall: each set's entry names the head of its path, from 1. A path goes from a set
-/// to the set around it as long as that holds no greater set, so climbing leaves one path for another at most as often as
+/// The paths into which the sets fall: each set's entry names the head of its path, from 1. A path goes from a set to
+/// the set around it as long as that holds no greater set, so climbing leaves one path for another at most as often as
 /// the size of a set doubles. Linear in the sets.
 pub(crate) fn path_heads(alloc: Global, n: u32, d: &Dual, sizes: &[u32]) -> Result<Vec<u32>, Memory>
     requires nest { IsNest n (dual d.now) }
@@ -41,7 +42,9 @@ fn head_of(picks: &[u32], heads: &[u32], entry: u32, set: u32) -> u32
     requires picked { entry ≤ length picks.now }
     requires headed { entry ≤ length heads.now }
     requires few { set < 2 ^ 30 }
-    ensures { result ≡ (if slice_index picks.now (entry - 1) == set + 1 && not (entry == 0) then slice_index heads.now (entry - 1) else set + 1) }
+    ensures { result
+        ≡ (if slice_index picks.now (entry - 1) == set + 1 && not (entry == 0)
+        then slice_index heads.now (entry - 1) else set + 1) }
 {
     if entry != 0 && picks[entry as usize - 1] == set + 1 {
         heads[entry as usize - 1]
@@ -54,7 +57,8 @@ fn head_of(picks: &[u32], heads: &[u32], entry: u32, set: u32) -> u32
 fn greatest_inside(alloc: Global, n: u32, d: &Dual, sizes: &[u32]) -> Result<Vec<u32>, Memory>
     requires nest { IsNest n (dual d.now) }
     requires sized { length sizes.now ≡ length d.now.z.items }
-    ensures { IfOk result (λ picks. ArePicks n (length d.now.z.items) (length d.now.z.items) d.now.up.items sizes.now picks.items) }
+    ensures { IfOk result (λ picks.
+        ArePicks n (length d.now.z.items) (length d.now.z.items) d.now.up.items sizes.now picks.items) }
 {
     let mut picks = vec![in alloc; 0u32; d.z.len()]?;
     for k in 0..d.z.len() {
@@ -112,7 +116,8 @@ fn leave_path(n: u32, d: &Dual, heads: &[u32], a: u32, b: u32) -> (u32, u32)
     requires apart { slice_index heads.now (a - 1) ≢ slice_index heads.now (b - 1) }
     ensures low { (result.0 ≤ length d.now.z.items) × (result.1 ≤ length d.now.z.items) }
     ensures same { HaveSameSets n (length d.now.z.items) d.now.up.items a b result.0 result.1 }
-    ensures less { left (length d.now.z.items) result.0 + left (length d.now.z.items) result.1 < left (length d.now.z.items) a + left (length d.now.z.items) b }
+    ensures less { left (length d.now.z.items) result.0 + left (length d.now.z.items) result.1
+        < left (length d.now.z.items) a + left (length d.now.z.items) b }
 {
     if heads[a as usize - 1] < heads[b as usize - 1] {
         (past_head(n, d, heads, a), b)

@@ -1,5 +1,7 @@
 -- What the loops over a ring need, and what they leave.
-use Rattle.std.specs.Prelude.{◌≡◌, ◌≢◌, ℕ, suc, ◌+◌, ◌-◌, ◌*◌, ◌<◌, ◌≤◌, ◌^◌, ◌==◌, Bool, true, if◌then◌else◌, List, length, slice_get, slice_index, slice_index_or, slice_set, Option, Some, None, ℤ, pos, ◌+ℤ◌, ◌-ℤ◌, unsigned_abs}
+use Rattle.std.specs.Prelude.{◌≡◌, ◌≢◌, ℕ, suc, ◌+◌, ◌-◌, ◌*◌, ◌<◌, ◌≤◌, ◌^◌, ◌==◌, Bool, true, if◌then◌else◌, List}
+use Rattle.std.specs.Prelude.{length, slice_get, slice_index, slice_index_or, slice_set, Option, Some, None, ℤ, pos}
+use Rattle.std.specs.Prelude.{◌+ℤ◌, ◌-ℤ◌, unsigned_abs}
 use Rattle.def_matching.specs.Matching.{Vertex}
 use Rattle.def_forest.specs.Darts.{Dart}
 use Rattle.def_forest.specs.Forests.{Blossom, Forest, walk, ring_sum, set_at}
@@ -21,7 +23,8 @@ pub record IsRow (size : ℕ) (after : List Blossom) (front many : ℕ) : Type 0
 
 -- The vertices that a blossom's list has.
 abbrev pub lists_at : (lists : Lists) (x : Blossom) (v : Vertex) → Bool
-lists_at lists x v = listed (slice_index lists.following.items) (slice_index lists.first.items x) (slice_index lists.rank.items x) v
+lists_at lists x v =
+    listed (slice_index lists.following.items) (slice_index lists.first.items x) (slice_index lists.rank.items x) v
 
 -- The list of a blossom is one of vertices, each of which has a handle and a number.
 pub record HasListAt (handles : Handles) (lists : Lists) (x : Blossom) : Type 0 where
@@ -56,9 +59,11 @@ pub record HasLeaders (handles : Handles) (lists : Lists) (x big : Blossom) : Ty
 
 -- The vertices of a blossom got another handle, and as much was added to their numbers.
 pub record HasRenamed (old new : Handles) (lists : Lists) (x : Blossom) (handle : ℕ) (more : ℤ) : Type 0 where
-  pub hand : (v : Vertex) → slice_index new.hand.items v ≡ (if lists_at lists x v then handle else slice_index old.hand.items v)
+  pub hand : (v : Vertex)
+      → slice_index new.hand.items v ≡ (if lists_at lists x v then handle else slice_index old.hand.items v)
   pub q : (v : Vertex) → slice_index_or new.q.items v (pos 0)
-      ≡ (if lists_at lists x v then slice_index_or old.q.items v (pos 0) +ℤ more else slice_index_or old.q.items v (pos 0))
+      ≡ (if lists_at lists x v then slice_index_or old.q.items v (pos 0) +ℤ more
+      else slice_index_or old.q.items v (pos 0))
   pub hands : length new.hand.items ≡ length old.hand.items
   pub qs : length new.q.items ≡ length old.q.items
   pub top : new.top ≡ old.top
@@ -72,9 +77,11 @@ pub record HasListsOf (handles : Handles) (lists : Lists) (after : List Blossom)
       ≡ (out_of handles.hand.items handles.top.items v == walk (slice_index after) front k)
   pub leader : length lists.leader.items ≡ length after
   pub rank : length lists.rank.items ≡ length after
-  pub leaders : (k : ℕ) → k < many → slice_index lists.leader.items (walk (slice_index after) front k) < length handles.off.items
+  pub leaders : (k : ℕ) → k < many
+      → slice_index lists.leader.items (walk (slice_index after) front k) < length handles.off.items
   pub led : (v : Vertex) → v < length handles.hand.items
-      → slice_index handles.hand.items v ≡ slice_index lists.leader.items (out_of handles.hand.items handles.top.items v)
+      → slice_index handles.hand.items v
+      ≡ slice_index lists.leader.items (out_of handles.hand.items handles.top.items v)
   pub small_q : (v : Vertex) → unsigned_abs (slice_index_or handles.q.items v (pos 0)) ≤ 2 ^ 97
   pub small_off : (v : Vertex) → v < length handles.hand.items
       → unsigned_abs (slice_index_or handles.off.items (slice_index handles.hand.items v) (pos 0)) ≤ 2 ^ 97
@@ -83,7 +90,8 @@ pub record HasListsOf (handles : Handles) (lists : Lists) (after : List Blossom)
 
 -- A vertex lies in a blossom of the row, by the handles that were.
 abbrev pub in_row : (handles : Handles) (after : List Blossom) (front many : ℕ) (v : Vertex) → Bool
-in_row handles after front many v = listed (slice_index after) front many (out_of handles.hand.items handles.top.items v)
+in_row handles after front many v =
+    listed (slice_index after) front many (out_of handles.hand.items handles.top.items v)
 
 -- The vertices of all blossoms of a row got the handle of one of them, and their numbers what the handles added more.
 pub record HasRenamedRow (old new : Handles) (lists : Lists) (after : List Blossom) (front many big : ℕ) : Type 0 where
@@ -91,7 +99,8 @@ pub record HasRenamedRow (old new : Handles) (lists : Lists) (after : List Bloss
       ≡ (if in_row old after front many v then slice_index lists.leader.items big else slice_index old.hand.items v)
   pub q : (v : Vertex) → v < length old.hand.items → slice_index_or new.q.items v (pos 0)
       ≡ (if in_row old after front many v
-      then (slice_index_or old.q.items v (pos 0) +ℤ slice_index_or old.off.items (slice_index old.hand.items v) (pos 0)) -ℤ slice_index_or old.off.items (slice_index lists.leader.items big) (pos 0)
+      then (slice_index_or old.q.items v (pos 0) +ℤ slice_index_or old.off.items (slice_index old.hand.items v) (pos 0))
+      -ℤ slice_index_or old.off.items (slice_index lists.leader.items big) (pos 0)
       else slice_index_or old.q.items v (pos 0))
   pub hands : length new.hand.items ≡ length old.hand.items
   pub qs : length new.q.items ≡ length old.q.items
@@ -195,7 +204,8 @@ pub record HasClosed (old new : ForestTables) (top many : ℕ) (mate : Option Da
   pub vertex : Vertex
   pub gone : forest_of left ≡ left_alone (forest_of old) top many
   pub same : HasSameNest old left
-  pub is : IsGathered (length left.hand) (forest_of left) (forest_of gathered) (listed (slice_index left.after) top many)
+  pub is : IsGathered (length left.hand) (forest_of left) (forest_of gathered)
+      (listed (slice_index left.after) top many)
       top many b
   pub holds : (forest_of gathered).out vertex ≡ b
   pub done : forest_of new

@@ -83,7 +83,8 @@ pub record IsPartable (t : ForestTables) (b : Blossom) : Type 0 where
   pub weightless : (forest_of t).weight b ≡ pos 0
   pub live : slice_index t.parts b ≢ 0
   pub row : IsRow (length t.up) t.after (slice_index t.head b) (slice_index t.parts b)
-  pub around : (k : ℕ) → k < slice_index t.parts b → up_at t.up (walk (slice_index t.after) (slice_index t.head b) k) ≡ b
+  pub around : (k : ℕ) → k < slice_index t.parts b
+      → up_at t.up (walk (slice_index t.after) (slice_index t.head b) k) ≡ b
   pub other : (k : ℕ) → k < slice_index t.parts b → walk (slice_index t.after) (slice_index t.head b) k ≢ b
   pub all : (p : Blossom) → up_at t.up p ≡ b → p ≢ b
       → (k : ℕ) × (k < slice_index t.parts b) × (walk (slice_index t.after) (slice_index t.head b) k ≡ p)

@@ -38,5 +38,6 @@ laid_up g f c steps = ringed f
 abbrev pub laid_ring : (g : Darts) (f : Forest) (start : Dart) (left right : ℕ) → Forest
 laid_ring g f start left right =
     let down = laid_down g f (f.out (g.near start)) left in
-    let over = ringed f (set_at down.nest.after (f.out (g.near start)) (f.out (far g start))) (set_at down.nest.joint (f.out (g.near start)) start) in
+    let over = ringed f (set_at down.nest.after (f.out (g.near start)) (f.out (far g start)))
+    (set_at down.nest.joint (f.out (g.near start)) start) in
     laid_up g over (f.out (far g start)) right

@@ -1,5 +1,7 @@
 -- How a forest's hidden tables are tied to those that contracts see.
-use Rattle.std.specs.Prelude.{replicate, ◌⊎◌, ◌≡◌, ◌≢◌, ℕ, suc, ◌+◌, ◌/◌, ◌<◌, ◌≤◌, ◌^◌, Bool, true, false, List, length, count_by, slice_get, slice_index, slice_index_or, is_some, Option, Some, None, ℤ, pos, ◌+ℤ◌, ◌-ℤ◌, ◌≤ℤ◌, unsigned_abs, if◌then◌else◌}
+use Rattle.std.specs.Prelude.{replicate, ◌⊎◌, ◌≡◌, ◌≢◌, ℕ, suc, ◌+◌, ◌/◌, ◌<◌, ◌≤◌, ◌^◌, Bool, true, false, List}
+use Rattle.std.specs.Prelude.{length, count_by, slice_get, slice_index, slice_index_or, is_some, Option, Some, None, ℤ}
+use Rattle.std.specs.Prelude.{pos, ◌+ℤ◌, ◌-ℤ◌, ◌≤ℤ◌, unsigned_abs, if◌then◌else◌}
 use Rattle.def_math.specs.Counts.{count_below}
 use Rattle.def_math.specs.Sums.{total_below}
 use Rattle.def_matching.specs.Matching.{IsSmallGraph, Vertex, Graph, edge_at}

@@ -1,6 +1,7 @@
 //! Augmenting: the matching is changed along the way to the root, and the tree is given up.
 
-ghost use Rattle.std.specs.Prelude.{◌≡◌, ◌≢◌, ◌<◌, ℕ, length, slice_index, slice_index_or, true, false, Option, Some, None};
+ghost use Rattle.std.specs.Prelude.{◌≡◌, ◌≢◌, ◌<◌, ℕ, length, slice_index, slice_index_or, true, false, Option, Some};
+ghost use Rattle.std.specs.Prelude.{None};
 ghost use Rattle.def_matching.specs.Matching.{IsSmallGraph, graph};
 ghost use Rattle.def_forest.specs.Darts.{darts_of, far};
 ghost use Rattle.def_forest.specs.Forests.{Blossom};
@@ -40,7 +41,8 @@ impl Forest {
         requires graph { IsSmallGraph (graph g.now) }
         requires valid { IsValidFor (graph g.now) self.old }
         requires reaches { Reaches (darts_of (graph g.now)) (forest_of self.old) start }
-        requires free { (forest_of self.old).mate ((forest_of self.old).out (far (darts_of (graph g.now)) start)) ≡ None }
+        requires free { (forest_of self.old).mate ((forest_of self.old).out (far (darts_of (graph g.now)) start))
+            ≡ None }
         ensures seen { forest_of self.new ≡ remated (forest_of self.old) (forest_of self.new).mate }
         ensures same { HasSameNest self.old self.new }
         ensures done { let rematched = with_mates (forest_of self.old) (forest_of self.new).mate in

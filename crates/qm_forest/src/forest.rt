@@ -1,6 +1,7 @@
 //! The forest's tables and what can be read from them at once.
 
-ghost use Rattle.std.specs.Prelude.{◌≡◌, ◌+◌, ◌-ℤ◌, ◌*ℤ◌, ◌^◌, ◌<◌, ◌≤◌, ℕ, pos, length, slice_index, slice_index_or, unsigned_abs, is_some, Option, None};
+ghost use Rattle.std.specs.Prelude.{◌≡◌, ◌+◌, ◌-ℤ◌, ◌*ℤ◌, ◌^◌, ◌<◌, ◌≤◌, ℕ, pos, length, slice_index, slice_index_or};
+ghost use Rattle.std.specs.Prelude.{unsigned_abs, is_some, Option, None};
 ghost use Rattle.def_forest.specs.Forests.{set_at};
 ghost use Rattle.def_forest.specs.Tables.{forest_of, label_at, IsOutermostIn};
 ghost use Rattle.qm_forest.specs.Ties.{potential, HasSameNest, labelled, mated, linked};

@@ -34,7 +34,8 @@ fn largest(after: &[u32], rank: &[u32], front: u32, many: u32) -> u32
 fn larger(rank: &[u32], x: u32, y: u32) -> u32
     requires { (x < length rank.now) × (y < length rank.now) }
     ensures either { (result ≡ x) ⊎ (result ≡ y) }
-    ensures most { (slice_index rank.now x ≤ slice_index rank.now result) × (slice_index rank.now y ≤ slice_index rank.now result) }
+    ensures most { (slice_index rank.now x ≤ slice_index rank.now result)
+        × (slice_index rank.now y ≤ slice_index rank.now result) }
 {
     if rank[x as usize] < rank[y as usize] {
         y

@@ -51,7 +51,8 @@ impl Forest {
         requires graph { IsSmallGraph (graph g.now) }
         requires valid { IsValidFor (graph g.now) self.old }
         requires reaches { Reaches (darts_of (graph g.now)) (forest_of self.old) d }
-        requires matched { (forest_of self.old).mate ((forest_of self.old).out (far (darts_of (graph g.now)) d)) ≢ None }
+        requires matched { (forest_of self.old).mate
+            ((forest_of self.old).out (far (darts_of (graph g.now)) d)) ≢ None }
         ensures changed { IsGrown (darts_of (graph g.now)) (forest_of self.old) (forest_of self.new) d }
         ensures root { self.new.root ≡ self.old.root }
         ensures hand { self.new.hand ≡ self.old.hand }

@@ -1,6 +1,7 @@
 //! Where a search begins, and its shifts.
 
-ghost use Rattle.std.specs.Prelude.{◌≡◌, ◌≢◌, ◌+ℤ◌, ◌≤ℤ◌, ◌^◌, ◌<◌, ◌≤◌, ℕ, pos, length, unsigned_abs, Option, Some, None};
+ghost use Rattle.std.specs.Prelude.{◌≡◌, ◌≢◌, ◌+ℤ◌, ◌≤ℤ◌, ◌^◌, ◌<◌, ◌≤◌, ℕ, pos, length, unsigned_abs, Option, Some};
+ghost use Rattle.std.specs.Prelude.{None};
 ghost use Rattle.def_matching.specs.Matching.{IsSmallGraph, Graph, graph, IsGraph};
 ghost use Rattle.def_forest.specs.Darts.{darts_of};
 ghost use Rattle.def_forest.specs.Forests.{Blossom};

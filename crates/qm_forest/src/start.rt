@@ -1,6 +1,7 @@
 //! A forest of single vertices, whose weights are the least costs.
 
-ghost use Rattle.std.specs.Prelude.{◌≡◌, ◌+◌, ◌*◌, ◌/◌, ◌^◌, ◌<◌, ◌≤◌, ℕ, pos, length, slice_index, slice_index_or, unsigned_abs, replicate, false, IfOk, None};
+ghost use Rattle.std.specs.Prelude.{◌≡◌, ◌+◌, ◌*◌, ◌/◌, ◌^◌, ◌<◌, ◌≤◌, ℕ, pos, length, slice_index, slice_index_or};
+ghost use Rattle.std.specs.Prelude.{unsigned_abs, replicate, false, IfOk, None};
 ghost use Rattle.std.specs.Vec.{vec_capacity};
 ghost use Rattle.def_matching.specs.Matching.{graph, edge_at, IsSmallGraph};
 ghost use Rattle.def_forest.specs.Tables.{forest_of, IsValidFor};
@@ -167,7 +168,8 @@ fn lower(numbers: &mut Vec<i128>, place: u32, most: i128)
 fn padded(alloc: Global, numbers: &[i128], size: usize) -> Result<Vec<i128>, Memory>
     requires { length numbers.now ≤ size }
     ensures size { IfOk result (λ v. length v.items ≡ size) }
-    ensures each { IfOk result (λ v. (k : ℕ) → slice_index_or v.items k (pos 0) ≡ slice_index_or numbers.now k (pos 0)) }
+    ensures each { IfOk result (λ v.
+        (k : ℕ) → slice_index_or v.items k (pos 0) ≡ slice_index_or numbers.now k (pos 0)) }
 {
     let mut all = Vec::from_slice(alloc, numbers)?;
     for _ in numbers.len()..size {

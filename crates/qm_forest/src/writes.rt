@@ -1,6 +1,7 @@
 //! The writes that each keep the tables in order.
 
-ghost use Rattle.std.specs.Prelude.{◌≡◌, ◌≢◌, ◌+ℤ◌, ◌-ℤ◌, ◌^◌, ◌<◌, ◌≤◌, ℕ, pos, length, slice_index_or, unsigned_abs, Option, None};
+ghost use Rattle.std.specs.Prelude.{◌≡◌, ◌≢◌, ◌+ℤ◌, ◌-ℤ◌, ◌^◌, ◌<◌, ◌≤◌, ℕ, pos, length, slice_index_or, unsigned_abs};
+ghost use Rattle.std.specs.Prelude.{Option, None};
 ghost use Rattle.def_forest.specs.Tables.{forest_of, IsOutermostIn};
 ghost use Rattle.def_forest.specs.declared.kinds.Label.TheVariants.{Outside};
 ghost use Rattle.qm_forest.specs.Ties.{HasSameNest, IsOnTrail, labelled, mated, linked, relabelled};

@@ -7,7 +7,9 @@ use Rattle.qm_units.specs.Marks.{end_marks, differ}
 
 -- The marks of the edges of a unit's second end, and of the edge inside it where the signs are alike.
 abbrev pub right_marks : (ℕ → ℕ) → (ℕ → ℕ) → Bool → End → End → List Bool
-right_marks room used on left right = cond (are_alike left right) (end_marks room used (is_active on right) right ++ not (is_active on left) ∷ []) (end_marks room used (is_active on right) right)
+right_marks room used on left right =
+    cond (are_alike left right) (end_marks room used (is_active on right) right ++ not (is_active on left) ∷ [])
+    (end_marks room used (is_active on right) right)
 
 -- The mark of an edge that may be missing.
 abbrev pub mark_if : Bool → Bool → List Bool
@@ -18,9 +20,13 @@ mark_if false m = []
 abbrev pub rim_by : Bool → Bool → List Bool → List Bool
 rim_by there waits [] = []
 rim_by there waits (o ∷ []) = mark_if there (waits && o)
-rim_by there waits (o ∷ p ∷ os) = mark_if there (waits && o) ++ ((not waits && o) ∷ mark_if there (waits && not o) ++ (not (differ waits o) ∷ rim_by true (differ waits o) (p ∷ os)))
+rim_by there waits (o ∷ p ∷ os) =
+    mark_if there (waits && o)
+    ++ ((not waits && o) ∷ mark_if there (waits && not o)
+    ++ (not (differ waits o) ∷ rim_by true (differ waits o) (p ∷ os)))
 
 -- The marks of the edges of one vertex at the rim and of the pair after it, if it is not the last.
 abbrev pub turn_marks : Bool → Bool → Bool → Bool → List Bool
 turn_marks there waits o true = mark_if there (waits && o)
-turn_marks there waits o false = mark_if there (waits && o) ++ ((not waits && o) ∷ mark_if there (waits && not o) ++ not (differ waits o) ∷ [])
+turn_marks there waits o false =
+    mark_if there (waits && o) ++ ((not waits && o) ∷ mark_if there (waits && not o) ++ not (differ waits o) ∷ [])

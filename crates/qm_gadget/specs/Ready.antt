@@ -30,7 +30,8 @@ pub record IsPlan (net : Network) (step : ℕ) (lows caps : List ℕ) (p : Plan)
 abbrev pub marks_over : Network → ℕ → List ℕ → List ℕ → List ℕ → List Bool
 marks_over net step lows caps js =
     let us = units_over net step net.arcs lows caps in
-    states_marks net.nodes (λ v. active v us (own_states caps)) (rim_active us (own_states caps) % 2 == 1) us (states_over caps js)
+    states_marks net.nodes (λ v. active v us (own_states caps)) (rim_active us (own_states caps) % 2 == 1) us
+    (states_over caps js)
 
 -- The graph of the units with these lows and caps.
 abbrev pub graph_by_lows : Network → ℕ → List ℕ → List ℕ → Graph

@@ -59,7 +59,8 @@ fn graph_over(alloc: Global, net: &Net, boxes: &Boxes) -> Result<WGraph, AllocEr
     requires step { (1 ≤ boxes.now.step) × (boxes.now.step ≤ MAX_STEP) }
     requires ready { IsReady (network net.now) boxes.now.step boxes.now.lows.now boxes.now.caps.now }
     requires small { (graph_by_lows (network net.now) boxes.now.step boxes.now.lows.now boxes.now.caps.now).n ≤ 2 ^ 25 }
-    ensures { IfOk result (λ g. graph g ≡ graph_by_lows (network net.now) boxes.now.step boxes.now.lows.now boxes.now.caps.now) }
+    ensures { IfOk result (λ g.
+        graph g ≡ graph_by_lows (network net.now) boxes.now.step boxes.now.lows.now boxes.now.caps.now) }
 {
     let plan = plan_of(alloc, net, boxes)?;
     let copies = Copies::new(alloc, plan.rooms)?;

@@ -1,7 +1,8 @@
 //! The edges of units.
 
 ghost use Rattle.std.specs.Prelude.{◌≡◌, ◌+◌, ◌^◌, ◌<◌, ◌≤◌, [], ◌∷◌, ◌++◌, pos, length, OnOk};
-ghost use Rattle.def_flow.specs.MatchingGraph.{link, fan, to_copies, inner_link, links_by, unit_links, are_alike, unit_size};
+ghost use Rattle.def_flow.specs.MatchingGraph.{link, fan, to_copies, inner_link, links_by, unit_links, are_alike};
+ghost use Rattle.def_flow.specs.MatchingGraph.{unit_size};
 ghost use Rattle.qm_gadget.specs.Layout.{room_of, IsAtNodes};
 
 use crate::copies::Copies;
@@ -44,7 +45,8 @@ fn push_to_copies(
     end: &End,
 ) -> Result<(), AllocError>
     requires at { end.now.node < length copies.now.counts.items }
-    ensures { OnOk result (edges.new.items ≡ edges.old.items ++ to_copies (room_of copies.now.counts.items) u cost end.now) }
+    ensures { OnOk result
+        (edges.new.items ≡ edges.old.items ++ to_copies (room_of copies.now.counts.items) u cost end.now) }
 {
     let node = end.node as usize;
     let paid = if end.plus { cost } else { 0 };
@@ -71,7 +73,8 @@ fn push_lone(
 ) -> Result<(), AllocError>
     requires small { b < 2 ^ 26 }
     requires at { left.now.node < length copies.now.counts.items }
-    ensures { OnOk result (edges.new.items ≡ edges.old.items ++ links_by (room_of copies.now.counts.items) b cost left.now None) }
+    ensures { OnOk result
+        (edges.new.items ≡ edges.old.items ++ links_by (room_of copies.now.counts.items) b cost left.now None) }
 {
     push_to_copies(edges, copies, b, cost, left)?;
     push_inner(edges, b, cost, left)
@@ -87,8 +90,13 @@ fn push_alike(
     right: &End,
 ) -> Result<(), AllocError>
     requires small { b < 2 ^ 26 }
-    requires at { (unit.now.left.node < length copies.now.counts.items) × (right.now.node < length copies.now.counts.items) }
-    ensures { OnOk result (edges.new.items ≡ edges.old.items ++ (to_copies (room_of copies.now.counts.items) b unit.now.cost unit.now.left ++ (to_copies (room_of copies.now.counts.items) (b + 1) (pos 0) right.now ++ inner_link b unit.now.cost unit.now.left ∷ []))) }
+    requires at { (unit.now.left.node < length copies.now.counts.items)
+        × (right.now.node < length copies.now.counts.items) }
+    ensures { OnOk result
+        (edges.new.items ≡ edges.old.items
+        ++ (to_copies (room_of copies.now.counts.items) b unit.now.cost unit.now.left
+        ++ (to_copies (room_of copies.now.counts.items) (b + 1) (pos 0) right.now
+        ++ inner_link b unit.now.cost unit.now.left ∷ []))) }
 {
     push_to_copies(edges, copies, b, unit.cost, &unit.left)?;
     push_to_copies(edges, copies, b + 1, 0, right)?;
@@ -104,8 +112,12 @@ fn push_unlike(
     unit: &ArcUnit,
     right: &End,
 ) -> Result<(), AllocError>
-    requires at { (unit.now.left.node < length copies.now.counts.items) × (right.now.node < length copies.now.counts.items) }
-    ensures { OnOk result (edges.new.items ≡ edges.old.items ++ (to_copies (room_of copies.now.counts.items) b unit.now.cost unit.now.left ++ to_copies (room_of copies.now.counts.items) b unit.now.cost right.now)) }
+    requires at { (unit.now.left.node < length copies.now.counts.items)
+        × (right.now.node < length copies.now.counts.items) }
+    ensures { OnOk result
+        (edges.new.items ≡ edges.old.items
+        ++ (to_copies (room_of copies.now.counts.items) b unit.now.cost unit.now.left
+        ++ to_copies (room_of copies.now.counts.items) b unit.now.cost right.now)) }
 {
     push_to_copies(edges, copies, b, unit.cost, &unit.left)?;
     push_to_copies(edges, copies, b, unit.cost, right)
@@ -127,7 +139,8 @@ pub(crate) fn push_unit(
 ) -> Result<(), AllocError>
     requires small { b < 2 ^ 26 }
     requires at { IsAtNodes (length copies.now.counts.items) unit.now }
-    ensures { OnOk result (edges.new.items ≡ edges.old.items ++ unit_links (room_of copies.now.counts.items) b unit.now) }
+    ensures { OnOk result
+        (edges.new.items ≡ edges.old.items ++ unit_links (room_of copies.now.counts.items) b unit.now) }
 {
     match &unit.right {
         None => push_lone(edges, copies, b, unit.cost, &unit.left),

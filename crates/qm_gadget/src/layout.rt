@@ -21,8 +21,11 @@ pub(crate) fn lay_out(
     units: &[ArcUnit],
 ) -> Result<WGraph, AllocError>
     requires at { AreAtNodes (length copies.now.counts.items) units.now }
-    requires small { first_fresh (length copies.now.counts.items) (room_of copies.now.counts.items) lone units.now + 2 * length (rim (count_below (room_of copies.now.counts.items) (length copies.now.counts.items)) units.now) < 2 ^ 26 }
-    ensures { IfOk result (λ g. graph g ≡ graph_by (length copies.now.counts.items) (room_of copies.now.counts.items) lone units.now) }
+    requires small { first_fresh (length copies.now.counts.items) (room_of copies.now.counts.items) lone units.now
+        + 2 * length (rim (count_below (room_of copies.now.counts.items) (length copies.now.counts.items)) units.now)
+        < 2 ^ 26 }
+    ensures { IfOk result (λ g.
+        graph g ≡ graph_by (length copies.now.counts.items) (room_of copies.now.counts.items) lone units.now) }
 {
     let first = all_copies(copies);
     let mut edges = Vec::new(alloc);
@@ -53,7 +56,8 @@ fn push_units(
 ) -> Result<u32, AllocError>
     requires at { AreAtNodes (length copies.now.counts.items) units.now }
     requires small { first + count unit_size units.now < 2 ^ 26 }
-    ensures edges { OnOk result (edges.new.items ≡ edges.old.items ++ units_links (room_of copies.now.counts.items) first units.now) }
+    ensures edges { OnOk result
+        (edges.new.items ≡ edges.old.items ++ units_links (room_of copies.now.counts.items) first units.now) }
     ensures past { IfOk result (λ past. past ≡ first + count unit_size units.now) }
 {
     let mut b = first;

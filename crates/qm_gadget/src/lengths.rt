@@ -1,6 +1,7 @@
 //! The list that a matching tells.
 
-ghost use Rattle.std.specs.Prelude.{◌≡◌, ◌+◌, ◌*◌, ◌^◌, ◌<◌, ◌≤◌, ◌≤ℤ◌, ◌-ℤ◌, ◌++◌, [], ◌∷◌, ℕ, pos, drop, length, slice_index, IfOk, OnOk};
+ghost use Rattle.std.specs.Prelude.{◌≡◌, ◌+◌, ◌*◌, ◌^◌, ◌<◌, ◌≤◌, ◌≤ℤ◌, ◌-ℤ◌, ◌++◌, [], ◌∷◌, ℕ, pos, drop, length};
+ghost use Rattle.std.specs.Prelude.{slice_index, IfOk, OnOk};
 ghost use Rattle.std.specs.Bool.{beq};
 ghost use Rattle.def_math.specs.Counts.{count};
 ghost use Rattle.def_flow.specs.Network.{network, IsWithinBounds};
@@ -31,7 +32,9 @@ pub fn lengths_of(alloc: Global, net: &Net, g: &Gadget, m: &[u32]) -> Result<Vec
     ensures count { IfOk result (λ ys. length ys.items ≡ length net.now.arcs.items) }
     ensures admissible { IfOk result (λ ys. IsAdmissible (network net.now) (entries ys.items)) }
     ensures inside { IfOk result (λ ys. IsInBox g.now.step g.now.low.items g.now.cap.items ys.items) }
-    ensures cost { IfOk result (λ ys. (pos (deviation (network net.now) (entries ys.items)) -ℤ pos (deviation (network net.now) (entries g.now.low.items))) ≤ℤ matching_cost (graph g.now.graph) m.now) }
+    ensures cost { IfOk result (λ ys.
+        (pos (deviation (network net.now) (entries ys.items))
+        -ℤ pos (deviation (network net.now) (entries g.now.low.items))) ≤ℤ matching_cost (graph g.now.graph) m.now) }
 {
     let boxes = Boxes {
         lows: &g.low,
@@ -55,7 +58,8 @@ fn lengths_over(
     requires few { edges ≤ 2 ^ 26 }
     requires rising { IsRising 0 edges m.now }
     requires wide { widths_over (network net.now) boxes.now.step boxes.now.lows.now boxes.now.caps.now ≤ edges }
-    ensures { IfOk result (λ ys. ys.items ≡ lengths_read (network net.now) boxes.now.step boxes.now.lows.now boxes.now.caps.now edges m.now) }
+    ensures { IfOk result (λ ys.
+        ys.items ≡ lengths_read (network net.now) boxes.now.step boxes.now.lows.now boxes.now.caps.now edges m.now) }
 {
     let plan = plan_of(alloc, net, boxes)?;
     let ons = states_in(alloc, &plan.rooms, &plan.units, m, edges)?;
@@ -98,7 +102,8 @@ fn push_on(ons: &mut Vec<bool>, on: bool) -> Result<(), AllocError>
 fn is_on(rooms: &[u32], unit: &ArcUnit, m: &[u32], at: usize, k: u32) -> bool
     requires at { unit.now.left.node < length rooms.now }
     requires few { (k ≤ 2 ^ 26) × ((v : ℕ) → slice_index rooms.now v ≤ 2 ^ 27) }
-    ensures { result ≡ (beq unit.now.left.plus (first_below (drop at m.now) (k + slice_index rooms.now unit.now.left.node))) }
+    ensures { result
+        ≡ (beq unit.now.left.plus (first_below (drop at m.now) (k + slice_index rooms.now unit.now.left.node))) }
 {
     let end = k + rooms[unit.left.node as usize];
     let chosen = at < m.len() && m[at] < end;

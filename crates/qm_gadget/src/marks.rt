@@ -1,6 +1,7 @@
 //! The edges that a list chooses at its units.
 
-ghost use Rattle.std.specs.Prelude.{◌≡◌, ◌+◌, ◌*◌, ◌^◌, ◌<◌, ◌≤◌, [], ◌∷◌, ◌++◌, replicate, ℕ, length, slice_index, OnOk, IfOk};
+ghost use Rattle.std.specs.Prelude.{◌≡◌, ◌+◌, ◌*◌, ◌^◌, ◌<◌, ◌≤◌, [], ◌∷◌, ◌++◌, replicate, ℕ, length, slice_index};
+ghost use Rattle.std.specs.Prelude.{OnOk, IfOk};
 ghost use Rattle.def_math.specs.Tables.{IsRaised};
 ghost use Rattle.def_flow.specs.Units.{active_at};
 ghost use Rattle.def_flow.specs.Units.{is_active as is_active_end};
@@ -60,7 +61,9 @@ fn push_end_marks(
     requires at { end.now.node < length copied.now.rooms.now }
     requires same { length copied.now.used.now ≡ length copied.now.rooms.now }
     requires few { (k ≤ 2 ^ 28) × (slice_index copied.now.rooms.now end.now.node ≤ 2 ^ 28) }
-    ensures { OnOk result (m.new.items ≡ m.old.items ++ places k (end_marks (room_of copied.now.rooms.now) (room_of copied.now.used.now) (is_active_end on end.now) end.now)) }
+    ensures { OnOk result
+        (m.new.items ≡ m.old.items ++ places k
+        (end_marks (room_of copied.now.rooms.now) (room_of copied.now.used.now) (is_active_end on end.now) end.now)) }
 {
     let node = end.node as usize;
     push_choice(
@@ -83,7 +86,10 @@ fn push_right_marks(
     requires at { right.now.node < length copied.now.rooms.now }
     requires same { length copied.now.used.now ≡ length copied.now.rooms.now }
     requires few { (k ≤ 2 ^ 28) × (slice_index copied.now.rooms.now right.now.node ≤ 2 ^ 28) }
-    ensures { OnOk result (m.new.items ≡ m.old.items ++ places k (right_marks (room_of copied.now.rooms.now) (room_of copied.now.used.now) switched.now.on switched.now.unit.now.left right.now)) }
+    ensures { OnOk result
+        (m.new.items ≡ m.old.items ++ places k
+        (right_marks (room_of copied.now.rooms.now) (room_of copied.now.used.now)
+        switched.now.on switched.now.unit.now.left right.now)) }
 {
     push_end_marks(m, k, copied, right, switched.on)?;
     let left = &switched.unit.left;
@@ -109,7 +115,10 @@ fn push_unit_marks(
     requires same { length used.old ≡ length rooms.now }
     requires few { (k ≤ 2 ^ 27) × ((v : ℕ) → slice_index rooms.now v ≤ 2 ^ 27) }
     requires small { (v : ℕ) → slice_index used.old v ≤ 2 ^ 30 }
-    ensures marks { OnOk result (m.new.items ≡ m.old.items ++ places k (marks_by (room_of rooms.now) (room_of used.old) switched.now.on switched.now.unit.now.left switched.now.unit.now.right)) }
+    ensures marks { OnOk result
+        (m.new.items ≡ m.old.items ++ places k
+        (marks_by (room_of rooms.now) (room_of used.old)
+        switched.now.on switched.now.unit.now.left switched.now.unit.now.right)) }
     ensures used { OnOk result (IsRaised (λ v. active_at v switched.now.unit.now switched.now.on) used.old used.new) }
 {
     let left = &switched.unit.left;
@@ -176,7 +185,8 @@ pub(crate) fn push_units_marks(
     requires states { length units.now ≡ length ons.now }
     requires few { (length units.now ≤ 2 ^ 25) × ((v : ℕ) → slice_index rooms.now v ≤ 2 ^ 27) }
     requires short { length (units_marks (room_of rooms.now) (λ v. 0) units.now ons.now) ≤ 2 ^ 26 }
-    ensures marks { OnOk result (m.new.items ≡ m.old.items ++ places 0 (units_marks (room_of rooms.now) (λ v. 0) units.now ons.now)) }
+    ensures marks { OnOk result
+        (m.new.items ≡ m.old.items ++ places 0 (units_marks (room_of rooms.now) (λ v. 0) units.now ons.now)) }
     ensures past { IfOk result (λ past. past ≡ length (units_marks (room_of rooms.now) (λ v. 0) units.now ons.now)) }
 {
     let mut used = vec![in alloc; 0u32; rooms.len()]?;
@@ -196,8 +206,10 @@ fn push_all_marks(
     requires few { (length units.now ≤ 2 ^ 25) × ((v : ℕ) → slice_index rooms.now v ≤ 2 ^ 27) }
     requires start { used.old ≡ replicate (length rooms.now) 0 }
     requires short { length (units_marks (room_of rooms.now) (room_of used.old) units.now ons.now) ≤ 2 ^ 26 }
-    ensures marks { OnOk result (m.new.items ≡ m.old.items ++ places 0 (units_marks (room_of rooms.now) (room_of used.old) units.now ons.now)) }
-    ensures past { IfOk result (λ past. past ≡ length (units_marks (room_of rooms.now) (room_of used.old) units.now ons.now)) }
+    ensures marks { OnOk result
+        (m.new.items ≡ m.old.items ++ places 0 (units_marks (room_of rooms.now) (room_of used.old) units.now ons.now)) }
+    ensures past { IfOk result (λ past.
+        past ≡ length (units_marks (room_of rooms.now) (room_of used.old) units.now ons.now)) }
 {
     let mut k = 0;
     for (i, unit) in units.iter().enumerate() {

@@ -27,7 +27,10 @@ pub fn matching_of(alloc: Global, net: &Net, g: &Gadget, x2: &[u64]) -> Result<V
     requires admissible { IsAdmissible (network net.now) (entries x2.now) }
     requires inside { IsInBox g.now.step g.now.low.items g.now.cap.items x2.now }
     ensures perfect { IfOk result (λ m. IsPerfect (graph g.now.graph) m.items) }
-    ensures cost { IfOk result (λ m. matching_cost (graph g.now.graph) m.items ≡ pos (deviation (network net.now) (entries x2.now)) -ℤ pos (deviation (network net.now) (entries g.now.low.items))) }
+    ensures cost { IfOk result (λ m.
+        matching_cost (graph g.now.graph) m.items
+        ≡ pos (deviation (network net.now) (entries x2.now))
+        -ℤ pos (deviation (network net.now) (entries g.now.low.items))) }
 {
     let boxes = Boxes {
         lows: &g.low,
@@ -43,8 +46,12 @@ fn matching_by(alloc: Global, net: &Net, boxes: &Boxes, x2: &[u64]) -> Result<Ve
     requires step { (1 ≤ boxes.now.step) × (boxes.now.step ≤ MAX_STEP) }
     requires ready { IsReady (network net.now) boxes.now.step boxes.now.lows.now boxes.now.caps.now }
     requires inside { IsInBox boxes.now.step boxes.now.lows.now boxes.now.caps.now x2.now }
-    requires short { length (marks_over (network net.now) boxes.now.step boxes.now.lows.now boxes.now.caps.now (ups boxes.now.step boxes.now.lows.now x2.now)) ≤ 2 ^ 26 }
-    ensures { IfOk result (λ m. m.items ≡ places 0 (marks_over (network net.now) boxes.now.step boxes.now.lows.now boxes.now.caps.now (ups boxes.now.step boxes.now.lows.now x2.now))) }
+    requires short { length (marks_over (network net.now) boxes.now.step boxes.now.lows.now boxes.now.caps.now
+        (ups boxes.now.step boxes.now.lows.now x2.now)) ≤ 2 ^ 26 }
+    ensures { IfOk result (λ m.
+        m.items ≡ places 0
+        (marks_over (network net.now) boxes.now.step boxes.now.lows.now boxes.now.caps.now
+        (ups boxes.now.step boxes.now.lows.now x2.now))) }
 {
     let plan = plan_of(alloc, net, boxes)?;
     let raised = ups_of(alloc, boxes.step, boxes.lows, x2)?;
@@ -72,8 +79,12 @@ fn marks_told(alloc: Global, plan: &Plan, ons: &[bool]) -> Result<Vec<u32>, Allo
     requires at { AreAtNodes (length plan.now.rooms.items) plan.now.units.items }
     requires states { length plan.now.units.items ≡ length ons.now }
     requires few { (length plan.now.units.items ≤ 2 ^ 25) × ((v : ℕ) → slice_index plan.now.rooms.items v ≤ 2 ^ 27) }
-    requires short { length (states_marks (length plan.now.rooms.items) (room_of plan.now.rooms.items) plan.now.lone plan.now.units.items ons.now) ≤ 2 ^ 26 }
-    ensures { IfOk result (λ m. m.items ≡ places 0 (states_marks (length plan.now.rooms.items) (room_of plan.now.rooms.items) plan.now.lone plan.now.units.items ons.now)) }
+    requires short { length (states_marks (length plan.now.rooms.items) (room_of plan.now.rooms.items)
+        plan.now.lone plan.now.units.items ons.now) ≤ 2 ^ 26 }
+    ensures { IfOk result (λ m.
+        m.items ≡ places 0
+        (states_marks (length plan.now.rooms.items) (room_of plan.now.rooms.items)
+        plan.now.lone plan.now.units.items ons.now)) }
 {
     let mut m = Vec::new(alloc);
     let past = push_units_marks(alloc, &mut m, &plan.rooms, &plan.units, ons)?;

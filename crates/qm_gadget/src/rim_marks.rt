@@ -28,7 +28,8 @@ pub(crate) fn rim_states_of(
 
 /// Adds whether a unit waits at the rim, if it has one end.
 fn push_rim_state(states: &mut Vec<bool>, unit: &ArcUnit, on: bool) -> Result<(), AllocError>
-    ensures { OnOk result (states.new.items ≡ states.old.items ++ with_state unit.now.right (is_active_end on unit.now.left) []) }
+    ensures { OnOk result
+        (states.new.items ≡ states.old.items ++ with_state unit.now.right (is_active_end on unit.now.left) []) }
 {
     if unit.right.is_none() {
         states.push(is_active(&unit.left, on))?;
@@ -73,7 +74,8 @@ fn push_rim_turn(
     last: bool,
 ) -> Result<u32, AllocError>
     requires { k ≤ 2 ^ 28 }
-    ensures marks { OnOk result (m.new.items ≡ m.old.items ++ places k (turn_marks before.there before.waits here last)) }
+    ensures marks { OnOk result
+        (m.new.items ≡ m.old.items ++ places k (turn_marks before.there before.waits here last)) }
     ensures past { IfOk result (λ past. past ≡ k + length (turn_marks before.there before.waits here last)) }
 {
     push_if(m, k, before.there, before.waits && here)?;
@@ -109,7 +111,10 @@ fn push_if(m: &mut Vec<u32>, k: u32, there: bool, mark: bool) -> Result<(), Allo
 /// Adds the chosen edges of the pair of vertices after one at the rim.
 fn push_pair_marks(m: &mut Vec<u32>, k: u32, before: Before, here: bool) -> Result<(), AllocError>
     requires { k ≤ 2 ^ 30 }
-    ensures { OnOk result (m.new.items ≡ m.old.items ++ places k ((not before.waits && here) ∷ mark_if before.there (before.waits && not here) ++ not (differ before.waits here) ∷ [])) }
+    ensures { OnOk result
+        (m.new.items ≡ m.old.items ++ places k
+        ((not before.waits && here) ∷ mark_if before.there (before.waits && not here)
+        ++ not (differ before.waits here) ∷ [])) }
 {
     push_mark(m, k, !before.waits && here)?;
     push_if(m, k + 1, before.there, before.waits && !here)?;

@@ -1,6 +1,7 @@
 //! The states of units, and how many active ends there are at each node.
 
-ghost use Rattle.std.specs.Prelude.{◌≡◌, ◌+◌, ◌-◌, ◌*◌, ◌%◌, ◌^◌, ◌<◌, ◌≤◌, ◌++◌, ◌==◌, [], ◌∷◌, ℕ, cond, length, slice_index, map, replicate, OnOk, IfOk};
+ghost use Rattle.std.specs.Prelude.{◌≡◌, ◌+◌, ◌-◌, ◌*◌, ◌%◌, ◌^◌, ◌<◌, ◌≤◌, ◌++◌, ◌==◌, [], ◌∷◌, ℕ, cond, length};
+ghost use Rattle.std.specs.Prelude.{slice_index, map, replicate, OnOk, IfOk};
 ghost use Rattle.def_math.specs.Tables.{IsRaised};
 ghost use Rattle.def_flow.specs.Units.{active_at, run, rim_active, alone_active};
 ghost use Rattle.def_flow.specs.Units.{is_active as is_active_end};

@@ -16,7 +16,9 @@ pub(crate) fn units_of(alloc: Global, net: &Net, boxes: &Boxes) -> Result<Vec<Ar
     requires bounds { IsWithinBounds (network net.now) }
     requires step { (1 ≤ boxes.now.step) × (boxes.now.step ≤ MAX_STEP) }
     requires boxes { AreBoxes (length net.now.arcs.items) boxes.now.lows.now boxes.now.caps.now }
-    ensures { IfOk result (λ units. units.items ≡ units_over (network net.now) boxes.now.step net.now.arcs.items boxes.now.lows.now boxes.now.caps.now) }
+    ensures { IfOk result (λ units.
+        units.items
+        ≡ units_over (network net.now) boxes.now.step net.now.arcs.items boxes.now.lows.now boxes.now.caps.now) }
 {
     let mut units = Vec::new(alloc);
     for (k, arc) in net.arcs.iter().enumerate() {
@@ -37,10 +39,13 @@ fn push_units_of(
     own: &OwnBox,
     units: &mut Vec<ArcUnit>,
 ) -> Result<(), AllocError>
-    requires bounds { (net.now.p ≤ MAX_SCALE) × (net.now.q ≤ MAX_SCALE) × (arc.now.weight ≤ MAX_WEIGHT) × (arc.now.old ≤ MAX_OLD) }
+    requires bounds { (net.now.p ≤ MAX_SCALE) × (net.now.q ≤ MAX_SCALE) × (arc.now.weight ≤ MAX_WEIGHT)
+        × (arc.now.old ≤ MAX_OLD) }
     requires step { (1 ≤ own.now.step) × (own.now.step ≤ MAX_STEP) }
     requires small { (own.now.low ≤ MAX_LENGTH) × (own.now.cap ≤ 4) }
-    ensures { OnOk result (units.new.items ≡ units.old.items ++ units_from (network net.now) own.now.step arc.now own.now.low 0 own.now.cap) }
+    ensures { OnOk result
+        (units.new.items
+        ≡ units.old.items ++ units_from (network net.now) own.now.step arc.now own.now.low 0 own.now.cap) }
 {
     for k in 0..own.cap {
         push_unit(unit_at(net, own.step, arc, own.low, k), units)?;
@@ -50,7 +55,8 @@ fn push_units_of(
 
 /// One unit of an arc.
 fn unit_at(net: &Net, step: u64, arc: &Arc, low: u64, k: u32) -> ArcUnit
-    requires bounds { (net.now.p ≤ MAX_SCALE) × (net.now.q ≤ MAX_SCALE) × (arc.now.weight ≤ MAX_WEIGHT) × (arc.now.old ≤ MAX_OLD) }
+    requires bounds { (net.now.p ≤ MAX_SCALE) × (net.now.q ≤ MAX_SCALE) × (arc.now.weight ≤ MAX_WEIGHT)
+        × (arc.now.old ≤ MAX_OLD) }
     requires step { (1 ≤ step) × (step ≤ MAX_STEP) }
     requires small { (low ≤ MAX_LENGTH) × (k < 4) }
     ensures { result ≡ unit_at (network net.now) step arc.now low k }
@@ -72,9 +78,12 @@ fn push_unit(unit: ArcUnit, units: &mut Vec<ArcUnit>) -> Result<(), AllocError>
 
 /// What a unit costs that begins at this length: the deviation at its upper end less that at its lower end.
 fn unit_cost(net: &Net, arc: &Arc, lower: u64, step: u64) -> i64
-    requires bounds { (net.now.p ≤ MAX_SCALE) × (net.now.q ≤ MAX_SCALE) × (arc.now.weight ≤ MAX_WEIGHT) × (arc.now.old ≤ MAX_OLD) }
+    requires bounds { (net.now.p ≤ MAX_SCALE) × (net.now.q ≤ MAX_SCALE) × (arc.now.weight ≤ MAX_WEIGHT)
+        × (arc.now.old ≤ MAX_OLD) }
     requires small { (lower ≤ 2 * 10 ^ 12) × (step ≤ MAX_STEP) }
-    ensures { result ≡ pos (deviation_of_arc (network net.now) arc.now (pos (lower + step))) -ℤ pos (deviation_of_arc (network net.now) arc.now (pos lower)) }
+    ensures { result
+        ≡ pos (deviation_of_arc (network net.now) arc.now (pos (lower + step)))
+        -ℤ pos (deviation_of_arc (network net.now) arc.now (pos lower)) }
 {
     arc_deviation(net, arc, lower + step) as i64 - arc_deviation(net, arc, lower) as i64
 }

@@ -24,5 +24,6 @@ pub record IsHead (faces : Faces) (cut : List Bool) (f e : ℕ) : Type 0 where
 pub record AreHeadsSoFar (faces : Faces) (cut : List Bool) (d : ℕ) (heads : List ℕ) : Type 0 where
   pub long : length heads ≡ length faces
   pub right : (f : ℕ) → f < length faces → slice_index heads f ≢ length cut → IsHead faces cut f (slice_index heads f)
-  pub alike : (f g : ℕ) → f < length faces → g < length faces → AreOfOne faces cut (4 * f) (4 * g) → slice_index heads g ≡ slice_index heads f
+  pub alike : (f g : ℕ) → f < length faces → g < length faces → AreOfOne faces cut (4 * f) (4 * g)
+      → slice_index heads g ≡ slice_index heads f
   pub first : (e : ℕ) → e < d → IsCorner (half_edges faces) (is_on cut) e → slice_index heads (e / 4) ≢ length cut

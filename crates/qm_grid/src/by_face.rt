@@ -19,7 +19,8 @@ use std::alloc::{AllocError, Global};
 /// The rectangular patches of a full cut, in order of their least faces. Linear in the faces.
 pub fn patches(alloc: Global, mesh: &Mesh, graph: &Graph) -> Result<Vec<Patch>, Memory>
     requires cut { IsFullCut mesh.now graph.now.covered.items }
-    ensures patches { IfOk result (λ ps. IsPartition (half_edges mesh.now) (is_on graph.now.covered.items) face_of (map rectangle ps.items)) }
+    ensures patches { IfOk result (λ ps.
+        IsPartition (half_edges mesh.now) (is_on graph.now.covered.items) face_of (map rectangle ps.items)) }
 {
     let cut = graph.covered.as_slice();
     let mut seen = vec![in alloc; false; mesh.faces().len()]?;
@@ -39,7 +40,8 @@ fn in_order(
     requires long { length heads.now ≡ length mesh.now }
     requires heads { (f : ℕ) → f < length mesh.now → IsHead mesh.now cut.now f (slice_index heads.now f) }
     requires unseen { seen.old ≡ replicate (length mesh.now) false }
-    ensures patches { IfOk result (λ ps. IsPartition (half_edges mesh.now) (is_on cut.now) face_of (map rectangle ps.items)) }
+    ensures patches { IfOk result (λ ps.
+        IsPartition (half_edges mesh.now) (is_on cut.now) face_of (map rectangle ps.items)) }
 {
     let mut found = Vec::new(alloc);
     for (f, head) in heads.iter().enumerate() {

@@ -17,7 +17,8 @@ use std::alloc::{AllocError, Global};
 pub(crate) fn heads(alloc: Global, mesh: &Mesh, cut: &[bool]) -> Result<Vec<u32>, AllocError>
     requires cutting { IsCutting mesh.now cut.now }
     ensures long { IfOk result (λ hs. length hs.items ≡ length mesh.now) }
-    ensures heads { IfOk result (λ hs. (f : ℕ) → f < length mesh.now → IsHead mesh.now cut.now f (slice_index hs.items f)) }
+    ensures heads { IfOk result (λ hs.
+        (f : ℕ) → f < length mesh.now → IsHead mesh.now cut.now f (slice_index hs.items f)) }
 {
     let mut heads = vec![in alloc; cut.len() as u32; mesh.faces().len()]?;
     fill_heads(alloc, mesh, cut, &mut heads)?;

@@ -31,7 +31,8 @@ use crate::traits::{Failed, Sink, Source};
 use std::alloc::Global;
 use std::marker::Model;
 
-/// A source in memory: it gives at most `step` bytes a call, and the calls whose numbers, from 1, are in `fail_at` fail.
+/// A source in memory: it gives at most `step` bytes a call, and the calls whose numbers, from 1, are in `fail_at`
+/// fail.
 #[derive(Debug, Drop)]
 pub struct MemSource {
     bytes: Vec<u8>,

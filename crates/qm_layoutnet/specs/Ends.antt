@@ -31,7 +31,9 @@ with_four patch side arcs = with_ends (end_at patch west) (side west)
     (with_ends (end_at patch east) (side east) (with_ends (end_at patch south) (side south) arcs)))
 
 -- The arcs of a layout have the ends of the slots that are done.
-pub record AreEnds (layout : Layout) (old : Lengths) (weight : Weight) (done : Slot → Type 0) (arcs : List Arc) : Type 0 where
+pub record AreEnds
+    (layout : Layout) (old : Lengths) (weight : Weight) (done : Slot → Type 0) (arcs : List Arc)
+    : Type 0 where
   pub long : length arcs ≡ layout.arcs
   pub olds : (a : ℕ) → a < layout.arcs → (arc_at arcs a).old ≡ old a
   pub weights : (a : ℕ) → a < layout.arcs → (arc_at arcs a).weight ≡ weight_of weight (old a)

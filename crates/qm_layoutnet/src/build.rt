@@ -26,7 +26,8 @@ use std::alloc::{AllocError, Global};
 pub fn net_of(alloc: Global, t: &TMesh, set: &Settings) -> Result<Net, NetFail>
     requires layout { IsMeshLayout (plan t.now) }
     requires settings { AreSettings set.now }
-    ensures net { IfOk result (λ net. IsNetOf (layout_of (plan t.now)) (long_at (plan t.now).arcs) set.now (network net)) }
+    ensures net { IfOk result (λ net.
+        IsNetOf (layout_of (plan t.now)) (long_at (plan t.now).arcs) set.now (network net)) }
     ensures even { IfOk result (λ net. IsEven (network net)) }
     ensures bounds { IfOk result (λ net. IsWithinBounds (network net)) }
     ensures small { IfOk result (λ net. tangle_number (network net) ≤ MAX_TANGLE) }
@@ -50,7 +51,8 @@ pub fn net_of(alloc: Global, t: &TMesh, set: &Settings) -> Result<Net, NetFail>
 fn any_net_of(alloc: Global, t: &TMesh, set: &Settings) -> Result<Net, AllocError>
     requires layout { IsMeshLayout (plan t.now) }
     requires settings { AreSettings set.now }
-    ensures net { IfOk result (λ net. IsNetOf (layout_of (plan t.now)) (long_at (plan t.now).arcs) set.now (network net)) }
+    ensures net { IfOk result (λ net.
+        IsNetOf (layout_of (plan t.now)) (long_at (plan t.now).arcs) set.now (network net)) }
     ensures even { IfOk result (λ net. IsEven (network net)) }
     ensures bounds { IfOk result (λ net. IsWithinBounds (network net)) }
     ensures small { IfOk result (λ net. tangle_number (network net) < 2 ^ 64) }
@@ -75,7 +77,8 @@ fn put_all_ends(arcs: &mut [Arc], t: &TMesh)
     requires long { length arcs.old ≡ length t.now.arcs.items }
     ensures { (weight : Weight)
         → AreEnds (layout_of (plan t.now)) (long_at (plan t.now).arcs) weight (PatchesBelow 0) arcs.old
-        → AreEnds (layout_of (plan t.now)) (long_at (plan t.now).arcs) weight (PatchesBelow (length t.now.patches.items)) arcs.new }
+        → AreEnds (layout_of (plan t.now)) (long_at (plan t.now).arcs) weight
+        (PatchesBelow (length t.now.patches.items)) arcs.new }
 {
     for p in 0..t.sides.len() {
         put_four(arcs, t, p as u32);

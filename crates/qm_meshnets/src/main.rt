@@ -1,5 +1,5 @@
-//! Writes the network of a mesh's layout as text, for the programs of the solver: of the mesh that is read from standard
-//! input, or of so many quads that have nothing in common.
+//! Writes the network of a mesh's layout as text, for the programs of the solver: of the mesh that is read from
+//! standard input, or of so many quads that have nothing in common.
 #![tactic(auto)]
 
 mod made;
@@ -15,8 +15,8 @@ use std::env::{self, Env};
 use std::io;
 use std::process::ExitCode;
 
-/// The words are the scale's two parts, the floor and `plain` or `length`, and then numbers of quads, if any. The status
-/// is 2 for other words, and 3 for a text without a mesh.
+/// The words are the scale's two parts, the floor and `plain` or `length`, and then numbers of quads, if any. The
+/// status is 2 for other words, and 3 for a text without a mesh.
 fn main(rt: HostRuntime) -> io::Result<ExitCode> {
     let words = words_of(&rt)?;
     let Some(job) = read_job(rt.alloc(), &words)? else {

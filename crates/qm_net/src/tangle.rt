@@ -68,7 +68,8 @@ fn count_end(end: &End, degrees: &mut [u64])
 fn sum_of_squares(degrees: &[u64]) -> u128
     requires few { length degrees.now < 2 ^ 32 }
     requires small { (v : ℕ) → slice_index degrees.now v ≤ 2 ^ 34 }
-    ensures { result ≡ count_below (λ v. 16 * (slice_index degrees.now v * slice_index degrees.now v)) (length degrees.now) }
+    ensures { result
+        ≡ count_below (λ v. 16 * (slice_index degrees.now v * slice_index degrees.now v)) (length degrees.now) }
 {
     let mut total = 0u128;
     for degree in degrees {

@@ -10,8 +10,8 @@ use qm_solve::{is_start, start_of};
 use std::io;
 use std::process::ExitCode;
 
-/// The status is 2 for a text that is no network, 3 for one out of bounds, 4 for one too tangled, and 5 where no start was
-/// found.
+/// The status is 2 for a text that is no network, 3 for one out of bounds, 4 for one too tangled, and 5 where no start
+/// was found.
 fn main(rt: HostRuntime) -> io::Result<ExitCode> {
     let text = io::read_to_string(rt.alloc(), rt.reader())?;
     let net = match read_net(rt.alloc(), text.as_str()) {

@@ -1,5 +1,7 @@
 -- Which positions some face names.
-use Rattle.std.specs.Prelude.{◌≡◌, ◌<◌, ◌-◌, ◌&&◌, ℕ, suc, Bool, false, nat_lt, nat_le, if◌then◌else◌, ◌≤◌, ℤ, take, drop, map, Option, Some, None, MatchOption, List, [], ◌∷◌, length, slice_index, slice_index_or}
+use Rattle.std.specs.Prelude.{◌≡◌, ◌<◌, ◌-◌, ◌&&◌, ℕ, suc, Bool, false, nat_lt, nat_le, if◌then◌else◌, ◌≤◌, ℤ, take}
+use Rattle.std.specs.Prelude.{drop, map, Option, Some, None, MatchOption, List, [], ◌∷◌, length, slice_index}
+use Rattle.std.specs.Prelude.{slice_index_or}
 use Rattle.std.specs.List.{filter, list_all, list_any}
 use Rattle.def_text.specs.declared.refusal.ObjFail.{ObjFail}
 use Rattle.def_text.specs.declared.refusal.ObjFail.TheVariants.{Range}
@@ -37,7 +39,8 @@ pub record IsCounted (marks : List Bool) (vertices : List ℕ) : Type 0 where
 abbrev pub IsLate : ObjFail → Option ℕ → Type 0
 IsLate fail late = MatchOption late ⊥ (λ line. fail ≡ Range line)
 
--- The marked ones of the first k positions stand in front, with their numbers, and the positions from k on are as they were.
+-- The marked ones of the first k positions stand in front, with their numbers, and the positions from k on are as they
+-- were.
 pub record IsKept (marks : List Bool) (old positions : Positions) (names : List ℕ) (k : ℕ) : Type 0 where
   pub names_are : names ≡ chosen marks k
   pub few : length names ≤ k

@@ -1,5 +1,6 @@
 -- Words one after another, and what a reader keeps of the lines.
-use Rattle.std.specs.Prelude.{◌≡◌, ◌<◌, ◌||◌, ℕ, ℤ, Bool, if◌then◌else◌, List, [], ◌∷◌, ◌++◌, length, map, slice_index_or}
+use Rattle.std.specs.Prelude.{◌≡◌, ◌<◌, ◌||◌, ℕ, ℤ, Bool, if◌then◌else◌, List, [], ◌∷◌, ◌++◌, length, map}
+use Rattle.std.specs.Prelude.{slice_index_or}
 use Rattle.std.specs.List.{flat_map}
 use Rattle.def_io.specs.Bytes.{Bytes, Lines}
 use Rattle.def_text.specs.Logical.{Logical, is_hash}
@@ -50,8 +51,8 @@ pub record Took (positions positions' : Positions) (faces faces' : Faces) (lines
   pub face : faces' ≡ faces ++ face_in said
   pub line : lines' ≡ lines ++ line_in said
 
--- These are all positions, all faces with capped corners, and the lines of the faces in some logical lines, none of which
--- is refused.
+-- These are all positions, all faces with capped corners, and the lines of the faces in some logical lines, none of
+-- which is refused.
 pub record HasRead (lines : List Logical) (kept : Positions) (corners : Faces) (numbers : List ℕ) : Type 0 where
   pub accepted : flat_map refusal_in (readings [] lines) ≡ []
   pub positions_are : kept ≡ positions (readings [] lines)

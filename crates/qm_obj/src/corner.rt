@@ -1,6 +1,7 @@
 //! Indices, and the corners of faces.
 
-ghost use Rattle.std.specs.Prelude.{◌≡◌, ◌≤◌, ◌<◌, ◌+◌, ◌^◌, ◌-◌, ◌==◌, ◌&&◌, ◌||◌, nat_le, nat_lt, min, Some, None, if◌then◌else◌, length};
+ghost use Rattle.std.specs.Prelude.{◌≡◌, ◌≤◌, ◌<◌, ◌+◌, ◌^◌, ◌-◌, ◌==◌, ◌&&◌, ◌||◌, nat_le, nat_lt, min, Some, None};
+ghost use Rattle.std.specs.Prelude.{if◌then◌else◌, length};
 ghost use Rattle.std.specs.List.{list_all};
 ghost use Rattle.def_text.specs.Corner.{index_of, is_corner, is_optional};
 ghost use Rattle.def_text.specs.Digits.{is_signed};
@@ -76,7 +77,8 @@ fn resolve(word: &[u8], before: u32) -> Option<u64>
 
 fn count_from(negative: bool, k: u64, before: u64) -> u64
     requires { before < 2 ^ 32 }
-    ensures { result ≡ (if (k == 0) || (negative && nat_lt before k) then 0 else (if negative then before + 1 - k else k)) }
+    ensures { result
+        ≡ (if (k == 0) || (negative && nat_lt before k) then 0 else (if negative then before + 1 - k else k)) }
 {
     if k == 0 || (negative && k > before) {
         0

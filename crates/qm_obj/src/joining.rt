@@ -28,8 +28,10 @@ use std::alloc::Global;
 pub fn logical(alloc: Global, lines: &Lines, i: u32, after: u32) -> Result<Logical, Memory>
     requires begins { i < after }
     requires within { after ≤ length (lines_of lines.now) }
-    ensures bytes { IfOk result (λ line. line.bytes.items ≡ joined (first_group (slice_range (lines_of lines.now) i after))) }
-    ensures next { IfOk result (λ line. line.next ≡ i + length (first_group (slice_range (lines_of lines.now) i after))) }
+    ensures bytes { IfOk result (λ line.
+        line.bytes.items ≡ joined (first_group (slice_range (lines_of lines.now) i after))) }
+    ensures next { IfOk result (λ line.
+        line.next ≡ i + length (first_group (slice_range (lines_of lines.now) i after))) }
 {
     let Joined { bytes, next, .. } = join(alloc, lines, i, after)?;
     Ok(Logical { bytes, next })

@@ -16,7 +16,8 @@ use def_text::{FACE, MAX_FACES, MAX_LINE, MAX_VERTICES, ObjFail, Reading, VERTEX
 #[tactic(auto, using(crate::proofs::WordLemmas::by_first_word))]
 pub(crate) fn read_line(line: u32, vertices: u32, faces: u32, size: usize, text: &[u8]) -> Reading
     requires { length text.now ≤ size }
-    ensures { result ≡ with_capped (reading vertices faces (record { number = line; size = size; text = uncommented text.now })) }
+    ensures { result
+        ≡ with_capped (reading vertices faces (record { number = line; size = size; text = uncommented text.now })) }
 {
     if size > MAX_LINE {
         return Reading::Refused(ObjFail::Limit {

@@ -18,7 +18,8 @@ use std::alloc::Global;
 pub fn read_obj(alloc: Global, lines: &Lines, first: u32, after: u32) -> Result<Soup, ObjFail>
     requires order { first ≤ after }
     requires within { after ≤ length (lines_of lines.now) }
-    ensures soup { IfOk result (λ soup. text_soup (first + 1) (slice_range (lines_of lines.now) first after) ≡ Ok soup) }
+    ensures soup { IfOk result (λ soup.
+        text_soup (first + 1) (slice_range (lines_of lines.now) first after) ≡ Ok soup) }
     ensures few { IfOk result (λ soup. (length soup.pos ≤ MAX_VERTICES) × (length soup.faces ≤ MAX_FACES)) }
     ensures refused { IfErr result (λ fail. fail ≢ ObjFail.Memory
         → text_soup (first + 1) (slice_range (lines_of lines.now) first after) ≡ Err fail) }
@@ -47,7 +48,8 @@ fn take_logical(
     requires vertices { length reader.old.positions.items ≤ MAX_VERTICES }
     requires faces { length reader.old.faces.items ≤ MAX_FACES }
     ensures next { IfOk result (λ next. next ≡ i + span (slice_range (lines_of lines.now) i after)) }
-    ensures kept { OnOk result (Took reader.old.positions.items reader.new.positions.items reader.old.faces.items reader.new.faces.items
+    ensures kept { OnOk result
+        (Took reader.old.positions.items reader.new.positions.items reader.old.faces.items reader.new.faces.items
         reader.old.lines.items reader.new.lines.items
         (next_said reader.old.positions.items reader.old.faces.items
         (first_logical (i + 1) (slice_range (lines_of lines.now) i after)))) }
@@ -77,7 +79,8 @@ fn take_joined(
     requires vertices { length reader.old.positions.items ≤ MAX_VERTICES }
     requires faces { length reader.old.faces.items ≤ MAX_FACES }
     ensures next { IfOk result (λ next. next ≡ i + span (slice_range (lines_of lines.now) i after)) }
-    ensures kept { OnOk result (Took reader.old.positions.items reader.new.positions.items reader.old.faces.items reader.new.faces.items
+    ensures kept { OnOk result
+        (Took reader.old.positions.items reader.new.positions.items reader.old.faces.items reader.new.faces.items
         reader.old.lines.items reader.new.lines.items
         (next_said reader.old.positions.items reader.old.faces.items
         (first_logical (i + 1) (slice_range (lines_of lines.now) i after)))) }

@@ -1,6 +1,7 @@
 //! What is known of a text after some of its lines.
 
-ghost use Rattle.std.specs.Prelude.{◌≡◌, ◌≢◌, ◌≤◌, ◌<◌, ◌^◌, ◌++◌, ◌∷◌, [], length, nat_lt, None, IsTrue, IfOk, OnOk, IfErr};
+ghost use Rattle.std.specs.Prelude.{◌≡◌, ◌≢◌, ◌≤◌, ◌<◌, ◌^◌, ◌++◌, ◌∷◌, [], length, nat_lt, None, IsTrue, IfOk, OnOk};
+ghost use Rattle.std.specs.Prelude.{IfErr};
 ghost use Rattle.std.specs.List.{list_all};
 ghost use Rattle.def_text.specs.Text.{face_set};
 ghost use Rattle.qm_obj.specs.Kept.{first_late, IsLate};
@@ -37,7 +38,8 @@ impl Reader {
         requires vertices { length self.old.positions.items ≤ MAX_VERTICES }
         requires faces { length self.old.faces.items ≤ MAX_FACES }
         requires cut { length text.now ≤ size }
-        ensures kept { OnOk result (Took self.old.positions.items self.new.positions.items self.old.faces.items self.new.faces.items
+        ensures kept { OnOk result
+            (Took self.old.positions.items self.new.positions.items self.old.faces.items self.new.faces.items
             self.old.lines.items self.new.lines.items
             (next_said self.old.positions.items self.old.faces.items
             (record { number = line; size = size; text = uncommented text.now }))) }
@@ -77,7 +79,8 @@ impl Reader {
         requires few { length self.positions.items ≤ MAX_VERTICES }
         requires lines { length self.lines.items ≡ length self.faces.items }
         requires positive { IsTrue (list_all (list_all (λ corner. nat_lt 0 corner)) self.faces.items) }
-        ensures soup { IfOk result (λ soup. (first_late (length self.positions.items) self.faces.items self.lines.items ≡ None)
+        ensures soup { IfOk result (λ soup.
+            (first_late (length self.positions.items) self.faces.items self.lines.items ≡ None)
             × (soup ≡ face_set self.positions.items self.faces.items)) }
         ensures late { IfErr result (λ fail. fail ≢ ObjFail.Memory → IsLate fail
             (first_late (length self.positions.items) self.faces.items self.lines.items)) }

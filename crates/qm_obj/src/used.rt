@@ -62,7 +62,8 @@ pub fn soup_of(
     faces: Vec<[u32; 4]>,
 ) -> Result<Soup, Memory>
     requires few { length positions.items ≤ MAX_VERTICES }
-    requires known { IsTrue (list_all (list_all (λ corner. nat_lt 0 corner && nat_le corner (length positions.items))) faces.items) }
+    requires known { IsTrue
+        (list_all (list_all (λ corner. nat_lt 0 corner && nat_le corner (length positions.items))) faces.items) }
     ensures { IfOk result (λ soup. soup ≡ face_set positions.items faces.items) }
 {
     let mut pos = positions;
@@ -125,7 +126,8 @@ fn keep_marked(
     requires few { length marks.now ≤ 2 ^ 21 }
     requires each { length positions.old.items ≡ length marks.now }
     ensures names { IfOk result (λ kept. kept.names.items ≡ chosen marks.now (length marks.now)) }
-    ensures positions { IfOk result (λ kept. positions.new.items ≡ map (position_of positions.old.items) (chosen marks.now (length marks.now))) }
+    ensures positions { IfOk result (λ kept.
+        positions.new.items ≡ map (position_of positions.old.items) (chosen marks.now (length marks.now))) }
     ensures vertices { IfOk result (λ kept. IsCounted marks.now kept.vertices.items) }
 {
     let mut names = Vec::new(alloc);
@@ -161,7 +163,8 @@ fn keep_position(
 
 fn renumber(faces: &mut Vec<[u32; 4]>, vertices: &[u32])
     requires { IsTrue (list_all (are_numbers (length vertices.now)) faces.old.items) }
-    ensures { faces.new.items ≡ map (λ corners. map (λ corner. slice_index vertices.now (corner - 1)) corners) faces.old.items }
+    ensures { faces.new.items
+        ≡ map (λ corners. map (λ corner. slice_index vertices.now (corner - 1)) corners) faces.old.items }
 {
     for f in 0..faces.len() {
         faces[f] = renumbered(faces[f], vertices);

@@ -1,5 +1,6 @@
 -- The identities of a pool that are not live.
-use Rattle.std.specs.Prelude.{◌≡◌, ◌≢◌, ℕ, ◌+◌, ◌<◌, ◌^◌, List, length, count_by, is_some, slice_index, slice_index_or, Option, None}
+use Rattle.std.specs.Prelude.{◌≡◌, ◌≢◌, ℕ, ◌+◌, ◌<◌, ◌^◌, List, length, count_by, is_some, slice_index, slice_index_or}
+use Rattle.std.specs.Prelude.{Option, None}
 use Rattle.qm_pool.specs.declared.pool.Node.{Node}
 
 -- The first entries of a list are different places without a node, and there are as many of them as such places.

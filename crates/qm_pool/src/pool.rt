@@ -1,6 +1,7 @@
 //! Nodes under identities, in room that is made once.
 
-ghost use Rattle.std.specs.Prelude.{◌≡◌, ◌≢◌, ◌+◌, ◌<◌, ◌↔◌, ℕ, length, count_by, is_some, replicate, slice_get, slice_index, slice_set, IfOk, IsNone, OnOk, OnErr, MatchOption};
+ghost use Rattle.std.specs.Prelude.{◌≡◌, ◌≢◌, ◌+◌, ◌<◌, ◌↔◌, ℕ, length, count_by, is_some, replicate, slice_get};
+ghost use Rattle.std.specs.Prelude.{slice_index, slice_set, IfOk, IsNone, OnOk, OnErr, MatchOption};
 
 use std::alloc::{AllocError, Global};
 use std::marker::Model;
@@ -75,7 +76,8 @@ impl Pool {
     /// Adds a node under an identity that was not live, or answers `None` where the pool is full.
     pub fn take(&mut self, node: Node) -> Option<NodeId>
         ensures full { IsNone result ↔ (count_by is_some self.old ≡ length self.old) }
-        ensures taken { MatchOption result (self.new ≡ self.old) (λ id. (slice_get self.old id.0 ≡ Some None) × (self.new ≡ slice_set self.old id.0 (Some node))) }
+        ensures taken { MatchOption result (self.new ≡ self.old)
+            (λ id. (slice_get self.old id.0 ≡ Some None) × (self.new ≡ slice_set self.old id.0 (Some node))) }
     {
         if self.left == 0 {
             return None;

@@ -78,7 +78,8 @@ pub record IsFlood (faces : Faces) (first component : ℕ) (old numbers waiting 
       → (slice_index numbers g ≡ component) × (is_marked (component_of faces first) g ≡ true)
   pub done : (g : ℕ) → g < length faces → IsNumbered numbers g → slice_index old g ≡ NONE
       → Waits waiting g ⊎ ((h : ℕ) → h < length faces → share_edge faces g h ≡ true → IsNumbered numbers h)
-  pub low : (g : ℕ) → Waits waiting g → (g < length faces) × (slice_index numbers g ≡ component) × (slice_index old g ≡ NONE)
+  pub low : (g : ℕ) → Waits waiting g
+      → (g < length faces) × (slice_index numbers g ≡ component) × (slice_index old g ≡ NONE)
 
 -- The whole component of `first` has its number.
 pub record IsFlooded (faces : Faces) (first component : ℕ) (old numbers : List ℕ) : Type 0 where

@@ -46,10 +46,12 @@ pub record AreRings (faces : Faces) (top : ℕ) (regular : List Bool) (least : L
       → (d : ℕ) × (d < top) × (number_of faces d ≡ c) × (is_regular faces (from_of faces d) ≡ false)
   pub lowest : (d : ℕ) → d < top → slice_index least (number_of faces d) ≤ from_of faces d
   pub there : (c : ℕ) → c < length least
-      → (slice_index least c ≡ NONE) ⊎ ((d : ℕ) × (d < top) × (number_of faces d ≡ c) × (from_of faces d ≡ slice_index least c))
+      → (slice_index least c ≡ NONE)
+      ⊎ ((d : ℕ) × (d < top) × (number_of faces d ≡ c) × (from_of faces d ≡ slice_index least c))
 
 -- The marks of seeds after the darts below `top`.
 pub record AreSeedMarks (faces : Faces) (vertices top : ℕ) (marks : List Bool) : Type 0 where
   pub long : length marks ≡ vertices
   pub on : (v : ℕ) → slice_index_or marks v false ≡ true → is_seed faces v ≡ true
-  pub all : (d : ℕ) → d < top → is_seed faces (from_of faces d) ≡ true → slice_index_or marks (from_of faces d) false ≡ true
+  pub all : (d : ℕ) → d < top → is_seed faces (from_of faces d) ≡ true
+      → slice_index_or marks (from_of faces d) false ≡ true

@@ -1,5 +1,6 @@
 -- Walks along runs, and the runs found so far.
-use Rattle.std.specs.Prelude.{◌≡◌, ◌≢◌, ◌⊎◌, ℕ, zero, suc, ◌<◌, ◌≤◌, Bool, true, false, cond, List, map, length, slice_index, Option, Some, None, option_map}
+use Rattle.std.specs.Prelude.{◌≡◌, ◌≢◌, ◌⊎◌, ℕ, zero, suc, ◌<◌, ◌≤◌, Bool, true, false, cond, List, map, length}
+use Rattle.std.specs.Prelude.{slice_index, Option, Some, None, option_map}
 use Rattle.def_mesh.specs.Faces.{Faces}
 use Rattle.def_mesh.specs.Darts.{darts, from_of, prev_of, twin_of}
 use Rattle.def_runs.specs.Runs.{IsBefore, IsLongestRun, first_dart, follower, is_closed, is_passed, run_at}
@@ -58,7 +59,8 @@ pub record AreRunsBelow (faces : Faces) (d : ℕ) (run at : List ℕ) (lists : L
   pub least : (r k : ℕ) → r < length lists → is_closed faces (run_at lists r) ≡ true → k < length (run_at lists r)
       → first_dart (run_at lists r) ≤ slice_index (run_at lists r) k
   pub rising : (q r : ℕ) → q < r → r < length lists → IsBefore (run_at lists q) (run_at lists r)
-  pub below : (r : ℕ) → r < length lists → (k : ℕ) × (k < length (run_at lists r)) × (slice_index (run_at lists r) k < d)
+  pub below : (r : ℕ) → r < length lists
+      → (k : ℕ) × (k < length (run_at lists r)) × (slice_index (run_at lists r) k < d)
   pub told : (r k : ℕ) → r < length lists → k < length (run_at lists r)
       → (slice_index run (slice_index (run_at lists r) k) ≡ r) × (slice_index at (slice_index (run_at lists r) k) ≡ k)
   pub there : (e : ℕ) → e < darts faces → slice_index run e ≢ NONE

@@ -74,7 +74,8 @@ fn spread(
     requires number { component < NONE }
     requires long { length numbers.old ≡ length mesh.now }
     requires low { (g : ℕ) → Waits waiting.old.items g → g < length mesh.now }
-    ensures { OnOk result (IsSpread mesh.now f component 4 numbers.old numbers.new waiting.old.items waiting.new.items) }
+    ensures { OnOk result
+        (IsSpread mesh.now f component 4 numbers.old numbers.new waiting.old.items waiting.new.items) }
 {
     let _known = mesh.faces();
     for i in 0..4 {
@@ -94,7 +95,8 @@ fn look(
     requires dart { d < darts mesh.now }
     requires long { length numbers.old ≡ length mesh.now }
     ensures numbers { OnOk result (numbers.new ≡ numbers_with (twin_of mesh.now d) component numbers.old) }
-    ensures waiting { OnOk result (waiting.new.items ≡ waiting_with (twin_of mesh.now d) numbers.old waiting.old.items) }
+    ensures waiting { OnOk result
+        (waiting.new.items ≡ waiting_with (twin_of mesh.now d) numbers.old waiting.old.items) }
 {
     if let Some(twin) = mesh.twin(d) {
         let g = twin / 4;

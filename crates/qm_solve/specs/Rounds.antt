@@ -20,7 +20,8 @@ pub record IsBetter (net : Network) (xs ys : List ℕ) : Type 0 where
 -- A better list, or a dual over the matching graph of xs that says yes with twice the cost of the units that are on.
 abbrev pub IsRound : (net : Network) (step : ℕ) (xs : List ℕ) (round : Round) → Type 0
 IsRound net step xs (Better x) = IsBetter net xs x.items
-IsRound net step xs (Least d) = (verdict (matching_graph net step xs) (dual d) ≡ Yes (pos 2 *ℤ on_cost net step xs)) × IsSmallDual (dual d)
+IsRound net step xs (Least d) =
+    (verdict (matching_graph net step xs) (dual d) ≡ Yes (pos 2 *ℤ on_cost net step xs)) × IsSmallDual (dual d)
 
 -- The length of an arc stays in range where the deviation is no greater.
 abbrev pub is_near_arc : (net : Network) (far : ℤ) (a : Arc) → Bool

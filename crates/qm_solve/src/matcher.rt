@@ -24,5 +24,7 @@ pub trait Matcher {
         requires known { IsPerfect (graph g.now) known.now }
         ensures perfect { IfOk result (λ found. IsPerfect (graph g.now) found.edges.items) }
         ensures dual { IfOk result (λ found. IsSmallDual (dual found.dual)) }
-        ensures least { IfOk result (λ found. verdict (graph g.now) (dual found.dual) ≡ Verdict.Yes (pos 2 *ℤ matching_cost (graph g.now) found.edges.items)) };
+        ensures least { IfOk result (λ found.
+            verdict (graph g.now) (dual found.dual)
+            ≡ Verdict.Yes (pos 2 *ℤ matching_cost (graph g.now) found.edges.items)) };
 }

@@ -16,8 +16,8 @@ use qm_net::{admissible, are_lengths, deviation};
 use qm_start::near_start;
 use std::alloc::Global;
 
-/// A least list of lengths of an even network, with the certificate that shows it to be least. The descent begins at a list
-/// near what is wanted, where one is found, and else at a multiple of the old lengths.
+/// A least list of lengths of an even network, with the certificate that shows it to be least. The descent begins at a
+/// list near what is wanted, where one is found, and else at a multiple of the old lengths.
 pub fn solve<M: Matcher>(alloc: Global, matcher: &M, net: &Net) -> Result<Cert, Memory>
     requires bounds { IsWithinBounds (network net.now) }
     requires even { IsEven (network net.now) }
@@ -28,8 +28,8 @@ pub fn solve<M: Matcher>(alloc: Global, matcher: &M, net: &Net) -> Result<Cert, 
     solve_from(alloc, matcher, net, &start)
 }
 
-/// The list that `solve` starts from: one near what is wanted where that serves, and else a multiple of the old lengths,
-/// which serves for each even network.
+/// The list that `solve` starts from: one near what is wanted where that serves, and else a multiple of the old
+/// lengths, which serves for each even network.
 pub fn start_of(alloc: Global, net: &Net) -> Result<Vec<u64>, Memory>
     requires { IsWithinBounds (network net.now) }
     ensures { IsEven (network net.now) → IfOk result (λ start. IsStartOf (network net.now) start.items) }

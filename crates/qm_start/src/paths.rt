@@ -8,8 +8,8 @@ use crate::cover::{Cover, Step};
 use crate::flow::{Flow, go, is_even};
 use crate::search::{Aim, Path, Search, clear, find, reprice};
 
-/// Brings what is too much at nodes to where there is too little, until each node is balanced, at least cost; or gives up
-/// where the fuel runs out.
+/// Brings what is too much at nodes to where there is too little, until each node is balanced, at least cost; or gives
+/// up where the fuel runs out.
 pub(crate) fn relax(
     cover: &Cover,
     flow: &mut Flow,

@@ -11,8 +11,8 @@ use crate::search::{Aim, Path, Search, clear, find};
 /// What the ground takes: all that is brought there.
 const ALL: i64 = i64::MIN / 2;
 
-/// Gives both ways of each arc its length, and balances the nodes, at little cost; or gives up where the fuel runs out or
-/// a length would leave its range.
+/// Gives both ways of each arc its length, and balances the nodes, at little cost; or gives up where the fuel runs out
+/// or a length would leave its range.
 pub(crate) fn repair(
     cover: &Cover,
     lengths: &[u64],

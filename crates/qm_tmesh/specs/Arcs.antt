@@ -17,7 +17,8 @@ pub record IsArcFrom (faces : Faces) (cut : List Bool) (nodes : List ℕ) (s : �
   pub first_low : path.first < length nodes
   pub last_low : path.last < length nodes
   pub first_at : slice_index nodes path.first ≡ from_of faces s
-  pub last_at : (k : ℕ) → suc k ≡ length path.darts → slice_index nodes path.last ≡ to_of faces (easts (half_edges faces) s k)
+  pub last_at : (k : ℕ) → suc k ≡ length path.darts
+      → slice_index nodes path.last ≡ to_of faces (easts (half_edges faces) s k)
 
 -- These are the arcs whose names are below m, in order of their names.
 pub record AreArcsBelow (faces : Faces) (cut : List Bool) (nodes : List ℕ) (m : ℕ) (arcs : List Path) : Type 0 where

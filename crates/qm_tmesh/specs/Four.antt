@@ -34,13 +34,19 @@ pub record IsPatchOf (faces : Faces) (cut : List Bool) (patch : Rectangle) : Typ
 
 -- A side of a patch of that cut begins with this dart, and has so many.
 abbrev pub HasSide : (faces : Faces) (arcs : List Path) (uses : List SideArc) (first size : ℕ) → Type 0
-HasSide faces arcs uses first size = (runs : AreRuns faces arcs uses) × (patch : Rectangle) × IsPatchOf faces runs.cut patch
+HasSide faces arcs uses first size =
+    (runs : AreRuns faces arcs uses) × (patch : Rectangle) × IsPatchOf faces runs.cut patch
     × (way : Way) × (first ≡ border_dart (half_edges faces) patch way 0) × (size ≡ side_size patch way)
 
 -- The four sides of a patch.
-pub record AreFour (faces : Faces) (arcs : List Path) (uses : List SideArc) (patch : Rectangle) (four : List (List SideArc)) : Type 0 where
+pub record AreFour
+    (faces : Faces) (arcs : List Path) (uses : List SideArc) (patch : Rectangle) (four : List (List SideArc))
+    : Type 0 where
   pub count : length four ≡ 4
-  pub each : (way : Way) → IsSideOf arcs uses (run_list (half_edges faces) (border_dart (half_edges faces) patch way 0) (side_size patch way)) (slice_index_or four (number way) [])
+  pub each : (way : Way)
+      → IsSideOf arcs uses
+      (run_list (half_edges faces) (border_dart (half_edges faces) patch way 0) (side_size patch way))
+      (slice_index_or four (number way) [])
 
 abbrev pub HasPatch : (faces : Faces) (arcs : List Path) (uses : List SideArc) (patch : Rectangle) → Type 0
 HasPatch faces arcs uses patch = (runs : AreRuns faces arcs uses) × IsPatchOf faces runs.cut patch
@@ -55,6 +61,9 @@ abbrev pub four_of : (four : List Side) → List (List SideArc)
 four_of four = map (λ (side : Side). side.arcs.items) four
 
 -- The sides of all patches.
-pub record AreAllFour (faces : Faces) (arcs : List Path) (uses : List SideArc) (patches : List Rectangle) (sides : List (List (List SideArc))) : Type 0 where
+pub record AreAllFour
+    (faces : Faces) (arcs : List Path) (uses : List SideArc) (patches : List Rectangle)
+    (sides : List (List (List SideArc)))
+    : Type 0 where
   pub count : length sides ≡ length patches
   pub each : (p : ℕ) → p < length patches → AreFour faces arcs uses (patch_at patches p) (slice_index_or sides p [])

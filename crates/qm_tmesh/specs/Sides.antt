@@ -30,7 +30,9 @@ pub record IsSideOf (arcs : List Path) (uses : List SideArc) (line : List ℕ) (
       → (reach_in arcs used k < length line) × (use_in used k ≡ use_in uses (slice_index line (reach_in arcs used k)))
 
 -- The same while the side grows.
-pub record IsSideSoFar (arcs : List Path) (uses : List SideArc) (line : List ℕ) (begins : ℕ → Bool) (t : ℕ) (used : List SideArc) : Type 0 where
+pub record IsSideSoFar
+    (arcs : List Path) (uses : List SideArc) (line : List ℕ) (begins : ℕ → Bool) (t : ℕ) (used : List SideArc)
+    : Type 0 where
   pub at : reach_in arcs used (length used) ≡ t
   pub high : t ≤ length line
   pub next : t < length line → begins t ≡ true

@@ -35,5 +35,6 @@ IsNamedRun faces cut s n = IsNamed (half_edges faces) (is_on cut) (is_node faces
 pub record AreStarts (faces : Faces) (cut : List Bool) (d : ℕ) (starts : List ℕ) : Type 0 where
   pub long : length starts ≡ length cut
   pub right : (m : ℕ) → m < length starts → slice_index starts m ≢ length cut
-      → (n : ℕ) × IsNamedRun faces cut (slice_index starts m) n × (run_name (half_edges faces) (slice_index starts m) n ≡ m)
+      → (n : ℕ) × IsNamedRun faces cut (slice_index starts m) n
+      × (run_name (half_edges faces) (slice_index starts m) n ≡ m)
   pub first : (s n : ℕ) → s < d → IsNamedRun faces cut s n → slice_index starts (run_name (half_edges faces) s n) ≡ s

@@ -25,7 +25,8 @@ pub(crate) fn arcs(
     requires marked { IsMarked mesh.now cut.now nodes.now.marks.items }
     requires places { ArePlaces nodes.now.marks.items nodes.now.listed.list.items nodes.now.listed.places.items }
     requires starts { AreStarts mesh.now cut.now (darts mesh.now) starts.now }
-    ensures { IfOk result (λ arcs. AreArcsBelow mesh.now cut.now nodes.now.listed.list.items (darts mesh.now) (map path arcs.items)) }
+    ensures { IfOk result (λ arcs.
+        AreArcsBelow mesh.now cut.now nodes.now.listed.list.items (darts mesh.now) (map path arcs.items)) }
 {
     let mut arcs = Vec::new(alloc);
     for start in starts {

@@ -40,7 +40,9 @@ fn named_run(
 ) -> Result<Option<u32>, AllocError>
     requires marked { IsMarked mesh.now cut.now nodes.now }
     requires dart { s < darts mesh.now }
-    ensures { IfOk result (λ o. MatchOption o ((n : ℕ) → ¬ IsNamedRun mesh.now cut.now s n) (λ name. (n : ℕ) × IsNamedRun mesh.now cut.now s n × (run_name (half_edges mesh.now) s n ≡ name))) }
+    ensures { IfOk result (λ o.
+        MatchOption o ((n : ℕ) → ¬ IsNamedRun mesh.now cut.now s n)
+        (λ name. (n : ℕ) × IsNamedRun mesh.now cut.now s n × (run_name (half_edges mesh.now) s n ≡ name))) }
 {
     if !cut[s as usize] || !nodes[mesh.from(s) as usize] {
         return Ok(None);
@@ -69,7 +71,9 @@ fn least(darts: &[u32]) -> u32
 /// Whether a name is less than all twins of these darts.
 fn is_least(mesh: &Mesh, run: &[u32], name: u32) -> bool
     requires { (k : ℕ) → k < length run.now → slice_index run.now k < darts mesh.now }
-    ensures { MatchBool result ((k t : ℕ) → k < length run.now → twin_of mesh.now (slice_index run.now k) ≡ Some t → name < t) ((k : ℕ) × (t : ℕ) × (k < length run.now) × (twin_of mesh.now (slice_index run.now k) ≡ Some t) × (t ≤ name)) }
+    ensures { MatchBool result
+        ((k t : ℕ) → k < length run.now → twin_of mesh.now (slice_index run.now k) ≡ Some t → name < t)
+        ((k : ℕ) × (t : ℕ) × (k < length run.now) × (twin_of mesh.now (slice_index run.now k) ≡ Some t) × (t ≤ name)) }
 {
     for d in run {
         if let Some(t) = mesh.twin(*d) {

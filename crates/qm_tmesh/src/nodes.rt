@@ -30,8 +30,10 @@ pub(crate) struct Listed {
 /// Finds the nodes. Linear in the darts.
 pub(crate) fn find_nodes(alloc: Global, mesh: &Mesh, cut: &[bool]) -> Result<Nodes, AllocError>
     requires { length cut.now ≡ darts mesh.now }
-    ensures marks { IfOk result (λ n. n.marks.items ≡ map (is_node mesh.now cut.now) (range_with_len 0 (vertex_count mesh.now))) }
-    ensures list { IfOk result (λ n. n.listed.list.items ≡ filter (is_on n.marks.items) (range_with_len 0 (length n.marks.items))) }
+    ensures marks { IfOk result (λ n.
+        n.marks.items ≡ map (is_node mesh.now cut.now) (range_with_len 0 (vertex_count mesh.now))) }
+    ensures list { IfOk result (λ n.
+        n.listed.list.items ≡ filter (is_on n.marks.items) (range_with_len 0 (length n.marks.items))) }
     ensures places { IfOk result (λ n. ArePlaces n.marks.items n.listed.list.items n.listed.places.items) }
     ensures mesh { IfOk result (λ n. IsMesh mesh.now) }
 {
@@ -60,7 +62,8 @@ fn list_marked(alloc: Global, marks: &[bool]) -> Result<Listed, AllocError>
 /// A mark for each vertex: whether it is a node.
 fn node_marks(alloc: Global, mesh: &Mesh, cut: &[bool]) -> Result<Vec<bool>, AllocError>
     requires { length cut.now ≡ darts mesh.now }
-    ensures marks { IfOk result (λ marks. marks.items ≡ map (is_node mesh.now cut.now) (range_with_len 0 (vertex_count mesh.now))) }
+    ensures marks { IfOk result (λ marks.
+        marks.items ≡ map (is_node mesh.now cut.now) (range_with_len 0 (vertex_count mesh.now))) }
     ensures small { IfOk result (λ marks. length marks.items < 2 ^ 32) }
     ensures mesh { IfOk result (λ marks. IsMesh mesh.now) }
 {

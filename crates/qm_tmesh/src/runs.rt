@@ -24,7 +24,8 @@ pub(crate) fn run(
     requires dart { start < darts mesh.now }
     requires on { is_on cut.now start ≡ true }
     requires begins { is_node mesh.now cut.now (from_of mesh.now start) ≡ true }
-    ensures run { IfOk result (λ ds. IsRun (half_edges mesh.now) (is_on cut.now) (is_node mesh.now cut.now) start (length ds.items)) }
+    ensures run { IfOk result (λ ds.
+        IsRun (half_edges mesh.now) (is_on cut.now) (is_node mesh.now cut.now) start (length ds.items)) }
     ensures darts { IfOk result (λ ds. ds.items ≡ run_list (half_edges mesh.now) start (length ds.items)) }
 {
     let mut darts = Vec::new(alloc);

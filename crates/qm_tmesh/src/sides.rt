@@ -31,7 +31,9 @@ pub(crate) fn line(
 ) -> Result<Vec<u32>, AllocError>
     requires dart { first < darts mesh.now }
     requires some { 0 < size }
-    requires straight { (t : ℕ) → t + 1 < size → straight_of mesh.now (easts (half_edges mesh.now) first t) ≡ Some (easts (half_edges mesh.now) first (t + 1)) }
+    requires straight { (t : ℕ) → t + 1 < size
+        → straight_of mesh.now (easts (half_edges mesh.now) first t)
+        ≡ Some (easts (half_edges mesh.now) first (t + 1)) }
     ensures { IfOk result (λ line. line.items ≡ run_list (half_edges mesh.now) first size) }
 {
     let mut line = Vec::new(alloc);
@@ -47,7 +49,8 @@ pub(crate) fn line(
 /// The arcs that make up a line.
 pub(crate) fn side(alloc: Global, runs: &Runs, line: &[u32]) -> Result<Side, AllocError>
     requires { (begins : ℕ → Bool) × IsSplit (map path runs.now.arcs.items) runs.now.uses.items line.now begins }
-    ensures { IfOk result (λ side. IsSideOf (map path runs.now.arcs.items) runs.now.uses.items line.now side.arcs.items) }
+    ensures { IfOk result (λ side.
+        IsSideOf (map path runs.now.arcs.items) runs.now.uses.items line.now side.arcs.items) }
 {
     let mut arcs = Vec::new(alloc);
     let mut t = 0usize;
@@ -68,7 +71,9 @@ pub(crate) fn side_from(
     size: u32,
 ) -> Result<Side, AllocError>
     requires { HasSide mesh.now (map path runs.now.arcs.items) runs.now.uses.items first size }
-    ensures { IfOk result (λ side. IsSideOf (map path runs.now.arcs.items) runs.now.uses.items (run_list (half_edges mesh.now) first size) side.arcs.items) }
+    ensures { IfOk result (λ side.
+        IsSideOf (map path runs.now.arcs.items) runs.now.uses.items
+        (run_list (half_edges mesh.now) first size) side.arcs.items) }
 {
     let darts = line(alloc, mesh, first, size)?;
     side(alloc, runs, &darts)
@@ -82,7 +87,8 @@ fn four_sides(
     runs: &Runs,
 ) -> Result<[Side; 4], AllocError>
     requires { HasPatch mesh.now (map path runs.now.arcs.items) runs.now.uses.items (rectangle patch.now) }
-    ensures { IfOk result (λ four. AreFour mesh.now (map path runs.now.arcs.items) runs.now.uses.items (rectangle patch.now) (four_of four)) }
+    ensures { IfOk result (λ four.
+        AreFour mesh.now (map path runs.now.arcs.items) runs.now.uses.items (rectangle patch.now) (four_of four)) }
 {
     let (w, h) = (patch.w, patch.h);
     let south_east = mesh.next(patch.cells[w as usize - 1]);
@@ -103,7 +109,9 @@ pub(crate) fn sides(
     runs: &Runs,
 ) -> Result<Vec<[Side; 4]>, AllocError>
     requires { HavePatches mesh.now (map path runs.now.arcs.items) runs.now.uses.items (map rectangle patches.now) }
-    ensures { IfOk result (λ sides. AreAllFour mesh.now (map path runs.now.arcs.items) runs.now.uses.items (map rectangle patches.now) (map four_of sides.items)) }
+    ensures { IfOk result (λ sides.
+        AreAllFour mesh.now (map path runs.now.arcs.items) runs.now.uses.items (map rectangle patches.now)
+        (map four_of sides.items)) }
 {
     let mut sides = Vec::new(alloc);
     for patch in patches {

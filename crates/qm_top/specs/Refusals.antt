@@ -15,7 +15,8 @@ use Rattle.def_text.specs.declared.refusal.Which.TheVariants.{Bytes}
 use Rattle.def_run.specs.Causes.{Cause, Wrote}
 use Rattle.def_run.specs.Messages.{AreNames}
 use Rattle.def_run.specs.declared.answer.Answer.{Answer}
-use Rattle.def_run.specs.declared.answer.Answer.TheVariants.{Usage, Syntax, NotQuad, Range, Limit, ReadFault, WriteFault, Memory}
+use Rattle.def_run.specs.declared.answer.Answer.TheVariants.{Usage, Syntax, NotQuad, Range, Limit, ReadFault}
+use Rattle.def_run.specs.declared.answer.Answer.TheVariants.{WriteFault, Memory}
 use Rattle.def_run.specs.declared.answer.Answer.TheVariants as answers
 use Rattle.def_run.specs.declared.command.Command.{Command}
 use Rattle.def_run.specs.declared.words.WordsFail.{WordsFail}

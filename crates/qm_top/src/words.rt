@@ -11,7 +11,8 @@ use std::alloc::Global;
 pub(crate) fn command_of(alloc: Global, words: &[String]) -> Result<Command, WordsFail>
     ensures reads { IfOk result (IsCommand (map string_bytes words.now)) }
     ensures built { IfOk result (λ command. is_built command ≡ true) }
-    ensures only { IfOk result (λ command. (other : Command) → IsCommand (map string_bytes words.now) other → other ≡ command) }
+    ensures only { IfOk result (λ command.
+        (other : Command) → IsCommand (map string_bytes words.now) other → other ≡ command) }
     ensures refuses { IfErr result (λ fail. fail ≡ WordsFail.Usage → ¬ IsAccepted (map string_bytes words.now)) }
 {
     match read_words(alloc, words) {

@@ -1,6 +1,7 @@
 //! A tournament of keys: the least is at its root.
 
-ghost use Rattle.std.specs.Prelude.{◌≡◌, ◌+◌, ◌-◌, ◌*◌, ◌^◌, ◌<◌, ◌≤◌, ℕ, length, replicate, slice_index, slice_set, IfOk, All};
+ghost use Rattle.std.specs.Prelude.{◌≡◌, ◌+◌, ◌-◌, ◌*◌, ◌^◌, ◌<◌, ◌≤◌, ℕ, length, replicate, slice_index, slice_set};
+ghost use Rattle.std.specs.Prelude.{IfOk, All};
 ghost use Rattle.qm_tour.specs.Trees.{IsTree, IsTreeBut, HasSameLeaves};
 
 use std::alloc::{AllocError, Global};

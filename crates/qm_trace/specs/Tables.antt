@@ -81,7 +81,9 @@ pub record IsQueue (riders : List Moving) (queue : List ℕ) : Type 0 where
   pub apart : AreEachOnce queue
 
 -- The riders after k steps of the motion, with marks where riders have stood and at the darts that are ridden next.
-pub record IsInstant (faces : Faces) (k : ℕ) (riders : List Moving) (queue : List ℕ) (stood taken : List Bool) : Type 0 where
+pub record IsInstant
+    (faces : Faces) (k : ℕ) (riders : List Moving) (queue : List ℕ) (stood taken : List Bool)
+    : Type 0 where
   pub riders_are : riders ≡ (after (terrain_of faces) (start_darts faces) k).riders
   pub waits : IsQueue riders queue
   pub stood_is : (v : ℕ) → v < vertex_count faces

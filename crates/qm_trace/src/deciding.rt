@@ -28,7 +28,8 @@ pub(crate) fn ride(mesh: &Mesh, site: Site, now: &[bool], rider: Moving) -> Movi
     requires dart { rider.dart < darts mesh.now }
     requires rides { rider.rides + 1 < 2 ^ 32 }
     requires now { length now.now ≡ darts mesh.now }
-    ensures { result ≡ after_ride (terrain_of mesh.now) rider.dart rider.rides (stop_here mesh.now site now.now rider.dart) }
+    ensures { result
+        ≡ after_ride (terrain_of mesh.now) rider.dart rider.rides (stop_here mesh.now site now.now rider.dart) }
 {
     let rider = Moving {
         rides: rider.rides + 1,

@@ -26,7 +26,8 @@ fn cover_each(mesh: &Mesh, ridden: &[u32], covered: &mut [bool])
     requires darts { AreDarts mesh.now ridden.now }
     requires long { length covered.old ≡ darts mesh.now }
     ensures { (d : ℕ) → d < darts mesh.now
-        → is_on covered.new d ≡ (is_on covered.old d || (is_among d ridden.now || is_found (twin_of mesh.now d) ridden.now)) }
+        → is_on covered.new d
+        ≡ (is_on covered.old d || (is_among d ridden.now || is_found (twin_of mesh.now d) ridden.now)) }
 {
     let _known = mesh.faces();
     for d in ridden {
@@ -73,7 +74,8 @@ pub(crate) fn cover(mesh: &Mesh, ridden: &[u32], mut covered: Vec<bool>) -> Vec<
     requires long { length covered.items ≡ darts mesh.now }
     ensures long { length result.items ≡ length covered.items }
     ensures each { (d : ℕ) → d < darts mesh.now
-        → is_on result.items d ≡ (is_on covered.items d || (is_among d ridden.now || is_found (twin_of mesh.now d) ridden.now)) }
+        → is_on result.items d
+        ≡ (is_on covered.items d || (is_among d ridden.now || is_found (twin_of mesh.now d) ridden.now)) }
 {
     cover_each(mesh, ridden, &mut covered);
     covered
@@ -84,7 +86,8 @@ pub(crate) fn stand(mesh: &Mesh, ridden: &[u32], mut stood: Vec<bool>) -> Vec<bo
     requires darts { AreDarts mesh.now ridden.now }
     requires long { length stood.items ≡ vertex_count mesh.now }
     ensures long { length result.items ≡ length stood.items }
-    ensures each { (v : ℕ) → is_on result.items v ≡ (is_on stood.items v || list_any (λ d. to_of mesh.now d == v) ridden.now) }
+    ensures each { (v : ℕ)
+        → is_on result.items v ≡ (is_on stood.items v || list_any (λ d. to_of mesh.now d == v) ridden.now) }
 {
     stand_each(mesh, ridden, &mut stood);
     stood
@@ -95,7 +98,8 @@ pub(crate) fn leave(mesh: &Mesh, starts: &[u32], mut stood: Vec<bool>) -> Vec<bo
     requires darts { AreDarts mesh.now starts.now }
     requires long { length stood.items ≡ vertex_count mesh.now }
     ensures long { length result.items ≡ length stood.items }
-    ensures each { (v : ℕ) → is_on result.items v ≡ (is_on stood.items v || list_any (λ d. from_of mesh.now d == v) starts.now) }
+    ensures each { (v : ℕ)
+        → is_on result.items v ≡ (is_on stood.items v || list_any (λ d. from_of mesh.now d == v) starts.now) }
 {
     leave_each(mesh, starts, &mut stood);
     stood

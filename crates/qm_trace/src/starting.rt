@@ -16,7 +16,8 @@ use std::alloc::Global;
 pub(crate) fn first_tables(alloc: Global, mesh: &Mesh, starts: &[u32]) -> Result<Tables, Memory>
     requires { starts.now ≡ start_darts mesh.now }
     ensures ground { IfOk result (λ t. IsGround mesh.now t.sight.ground.boundary.items t.sight.ground.singular.items) }
-    ensures at { IfOk result (λ t. IsTableAt mesh.now 0 t.riders.items t.sight.stood.items t.covered.items t.sight.taken.items) }
+    ensures at { IfOk result (λ t.
+        IsTableAt mesh.now 0 t.riders.items t.sight.stood.items t.covered.items t.sight.taken.items) }
 {
     let darts = 4 * mesh.faces().len();
     let ground = ground_of(alloc, mesh)?;

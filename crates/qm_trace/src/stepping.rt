@@ -20,13 +20,16 @@ pub(crate) struct Tables {
 pub(crate) fn step(mesh: &Mesh, queue: &[u32], ridden: &[u32], tables: Tables) -> Tables
     requires ground { IsGround mesh.now tables.sight.ground.boundary.items tables.sight.ground.singular.items }
     requires at { (k : ℕ) × (k + 1 < 2 ^ 32)
-        × IsTableAt mesh.now k tables.riders.items tables.sight.stood.items tables.covered.items tables.sight.taken.items }
+        × IsTableAt mesh.now k
+        tables.riders.items tables.sight.stood.items tables.covered.items tables.sight.taken.items }
     requires queue { IsQueue tables.riders.items queue.now }
     requires ridden { ridden.now ≡ map (dart_of tables.riders.items) queue.now }
     ensures ground { IsGround mesh.now result.sight.ground.boundary.items result.sight.ground.singular.items }
     ensures at { (k : ℕ)
-        → IsTableAt mesh.now k tables.riders.items tables.sight.stood.items tables.covered.items tables.sight.taken.items
-        → IsTableAt mesh.now (suc k) result.riders.items result.sight.stood.items result.covered.items result.sight.taken.items }
+        → IsTableAt mesh.now k
+        tables.riders.items tables.sight.stood.items tables.covered.items tables.sight.taken.items
+        → IsTableAt mesh.now (suc k)
+        result.riders.items result.sight.stood.items result.covered.items result.sight.taken.items }
 {
     let _known = mesh.faces();
     let Tables {

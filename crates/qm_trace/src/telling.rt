@@ -66,7 +66,8 @@ fn tell_one(mesh: &Mesh, notes: &Notes, site: Site, r: u32, riders: &mut Riders)
     requires counted { AreCounted riders.old notes.now.noted.items }
     requires untold { is_untold (rider_at riders.old.list.items r) (note_at notes.now.noted.items r) ≡ true }
     requires onward { stop_here mesh.now site notes.now.taken.items (rider_at riders.old.list.items r).dart ≡ None
-        → or_else (straight (terrain_of mesh.now) (rider_at riders.old.list.items r).dart) (rider_at riders.old.list.items r).dart
+        → or_else (straight (terrain_of mesh.now) (rider_at riders.old.list.items r).dart)
+        (rider_at riders.old.list.items r).dart
         ≢ (rider_at riders.old.list.items r).dart }
     ensures list { riders.new.list.items ≡ slice_set riders.old.list.items r
         (told (terrain_of mesh.now) (rider_at riders.old.list.items r).dart (rider_at riders.old.list.items r)

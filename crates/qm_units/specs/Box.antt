@@ -7,7 +7,8 @@ use Rattle.qm_units.specs.Marks.{places, states_marks}
 -- Each entry of ys is the low and j steps, with j at most the number of units.
 abbrev pub IsRaised : (net : Network) (step : ℕ) (xs js ys : List ℕ) → Type 0
 IsRaised net step [] [] [] = Unit {0}
-IsRaised net step (x ∷ xs) (j ∷ js) (y ∷ ys) = (j ≤ cap net step x) × (y ≡ low net step x + j * step) × IsRaised net step xs js ys
+IsRaised net step (x ∷ xs) (j ∷ js) (y ∷ ys) =
+    (j ≤ cap net step x) × (y ≡ low net step x + j * step) × IsRaised net step xs js ys
 IsRaised net step _ _ _ = ⊥
 
 -- How many steps each entry of a list is above its low.
@@ -19,4 +20,6 @@ ups step _ _ = []
 abbrev pub matching_told : (net : Network) (step : ℕ) (xs js : List ℕ) → List ℕ
 matching_told net step xs js =
     let us = units net step net.arcs xs in
-    places 0 (states_marks net.nodes (λ v. active v us (states_at net step xs)) (rim_active us (states_at net step xs) % 2 == 1) us (states net step xs js))
+    places 0
+    (states_marks net.nodes (λ v. active v us (states_at net step xs))
+    (rim_active us (states_at net step xs) % 2 == 1) us (states net step xs js))

@@ -1,5 +1,6 @@
 -- The perfect matching that states of the units tell: a mark for each edge of the graph.
-use Rattle.std.specs.Prelude.{ℕ, zero, suc, ◌+◌, Bool, true, false, cond, not, ◌&&◌, ◌==◌, List, [], ◌∷◌, ◌++◌, Option, Some, None}
+use Rattle.std.specs.Prelude.{ℕ, zero, suc, ◌+◌, Bool, true, false, cond, not, ◌&&◌, ◌==◌, List, [], ◌∷◌, ◌++◌, Option}
+use Rattle.std.specs.Prelude.{Some, None}
 use Rattle.def_math.specs.Counts.{count}
 use Rattle.def_flow.specs.Units.{is_active, active_at}
 use Rattle.def_flow.specs.MatchingGraph.{are_alike, first_fresh, lone_vertex}
@@ -42,12 +43,16 @@ end_marks room used some e = choice some (used e.node) (room e.node)
 abbrev pub marks_by : (ℕ → ℕ) → (ℕ → ℕ) → Bool → End → Option End → List Bool
 marks_by room used on left None = end_marks room used (is_active on left) left ++ not (is_active on left) ∷ []
 marks_by room used on left (Some right) = cond (are_alike left right)
-    (end_marks room used (is_active on left) left ++ (end_marks room (take_end used (is_active on left) left) (is_active on right) right ++ not (is_active on left) ∷ []))
-    (end_marks room used (is_active on left) left ++ end_marks room (take_end used (is_active on left) left) (is_active on right) right)
+    (end_marks room used (is_active on left) left
+    ++ (end_marks room (take_end used (is_active on left) left) (is_active on right) right
+    ++ not (is_active on left) ∷ []))
+    (end_marks room used (is_active on left) left
+    ++ end_marks room (take_end used (is_active on left) left) (is_active on right) right)
 
 -- The marks of all units' edges, where so many copies are in use before.
 abbrev pub units_marks : (ℕ → ℕ) → (ℕ → ℕ) → List ArcUnit → List Bool → List Bool
-units_marks room used (u ∷ us) (on ∷ ons) = marks_by room used on u.left u.right ++ units_marks room (λ v. used v + active_at v u on) us ons
+units_marks room used (u ∷ us) (on ∷ ons) =
+    marks_by room used on u.left u.right ++ units_marks room (λ v. used v + active_at v u on) us ons
 units_marks room used _ _ = []
 
 -- The states of the units at the rim: whether each waits for a mate there.
@@ -72,8 +77,13 @@ mark_from (Some _) m = m ∷ []
 abbrev pub rim_marks : Option ℕ → Bool → ℕ → List Bool → List Bool
 rim_marks before waits fresh [] = []
 rim_marks before waits fresh (o ∷ []) = mark_from before (waits && o)
-rim_marks before waits fresh (o ∷ p ∷ os) = mark_from before (waits && o) ++ ((not waits && o) ∷ mark_from before (waits && not o) ++ (not (differ waits o) ∷ rim_marks (Some (fresh + 1)) (differ waits o) (fresh + 2) (p ∷ os)))
+rim_marks before waits fresh (o ∷ p ∷ os) =
+    mark_from before (waits && o)
+    ++ ((not waits && o) ∷ mark_from before (waits && not o)
+    ++ (not (differ waits o) ∷ rim_marks (Some (fresh + 1)) (differ waits o) (fresh + 2) (p ∷ os)))
 
 -- The marks of all edges of the graph.
 abbrev pub states_marks : ℕ → (ℕ → ℕ) → Bool → List ArcUnit → List Bool → List Bool
-states_marks nodes room lone us ons = units_marks room (λ v. 0) us ons ++ rim_marks (lone_vertex nodes room lone us) lone (first_fresh nodes room lone us) (rim_states us ons)
+states_marks nodes room lone us ons =
+    units_marks room (λ v. 0) us ons
+    ++ rim_marks (lone_vertex nodes room lone us) lone (first_fresh nodes room lone us) (rim_states us ons)

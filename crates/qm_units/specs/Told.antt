@@ -1,5 +1,6 @@
 -- The list of lengths that a perfect matching tells.
-use Rattle.std.specs.Prelude.{ℕ, zero, suc, ◌+◌, ◌*◌, Bool, true, false, cond, not, ◌==◌, nat_lt, List, [], ◌∷◌, length, take, drop, Option, Some, None}
+use Rattle.std.specs.Prelude.{ℕ, zero, suc, ◌+◌, ◌*◌, Bool, true, false, cond, not, ◌==◌, nat_lt, List, [], ◌∷◌, length}
+use Rattle.std.specs.Prelude.{take, drop, Option, Some, None}
 use Rattle.def_flow.specs.Network.{Network}
 use Rattle.def_flow.specs.Units.{low, cap, units, states_at, active}
 use Rattle.def_flow.specs.MatchingGraph.{are_alike, matching_graph}
@@ -21,12 +22,14 @@ marks_from k (suc n) (e ∷ m) = (e == k) ∷ marks_from (k + 1) n (past (e == k
 -- How many edges a unit has.
 abbrev pub width_by : (ℕ → ℕ) → End → Option End → ℕ
 width_by room left None = room left.node + 1
-width_by room left (Some right) = cond (are_alike left right) (room left.node + (room right.node + 1)) (room left.node + room right.node)
+width_by room left (Some right) =
+    cond (are_alike left right) (room left.node + (room right.node + 1)) (room left.node + room right.node)
 
 -- A unit is on where one of the edges of its first end is marked and this is a plus end, or none is and it is a
 -- minus end.
 abbrev pub state_told : (ℕ → ℕ) → List Bool → End → Bool
-state_told room ms left = cond left.plus (nat_lt 0 (trues (take (room left.node) ms))) (not (nat_lt 0 (trues (take (room left.node) ms))))
+state_told room ms left =
+    cond left.plus (nat_lt 0 (trues (take (room left.node) ms))) (not (nat_lt 0 (trues (take (room left.node) ms))))
 
 abbrev pub states_told : (ℕ → ℕ) → List ArcUnit → List Bool → List Bool
 states_told room [] ms = []
@@ -35,7 +38,8 @@ states_told room (u ∷ us) ms = state_told room ms u.left ∷ states_told room 
 -- The number of units of each arc that are on.
 abbrev pub steps_told : Network → ℕ → List ℕ → List Bool → List ℕ
 steps_told net step [] ons = []
-steps_told net step (x ∷ xs) ons = trues (take (cap net step x) ons) ∷ steps_told net step xs (drop (cap net step x) ons)
+steps_told net step (x ∷ xs) ons =
+    trues (take (cap net step x) ons) ∷ steps_told net step xs (drop (cap net step x) ons)
 
 -- The lengths with so many units on.
 abbrev pub lengths_on : Network → ℕ → List ℕ → List ℕ → List ℕ
@@ -46,4 +50,7 @@ lengths_on net step _ _ = []
 abbrev pub lengths_told : Network → ℕ → List ℕ → List ℕ → List ℕ
 lengths_told net step xs m =
     let us = units net step net.arcs xs in
-    lengths_on net step xs (steps_told net step xs (states_told (λ v. active v us (states_at net step xs)) us (marks_from 0 (length (matching_graph net step xs).edges) m)))
+    lengths_on net step xs
+    (steps_told net step xs
+    (states_told (λ v. active v us (states_at net step xs)) us
+    (marks_from 0 (length (matching_graph net step xs).edges) m)))

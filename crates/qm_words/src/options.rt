@@ -20,7 +20,8 @@ pub(crate) fn read_options<'a>(
     words: &'a [String],
 ) -> Result<ArgMatches<'a>, WordsFail>
     requires { is_known (map (λ name. name.now) names.now) [] ≡ false }
-    ensures reads { IfOk result (λ m. Reads (map (λ name. name.now) names.now) (map string_bytes words.now) (found_of m)) }
+    ensures reads { IfOk result (λ m.
+        Reads (map (λ name. name.now) names.now) (map string_bytes words.now) (found_of m)) }
     ensures refuses { IfErr result (λ fail. fail ≡ WordsFail.Usage
         → Refuses (map (λ name. name.now) names.now) (map string_bytes words.now)) }
 {

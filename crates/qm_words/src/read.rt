@@ -32,7 +32,8 @@ fn read_line(alloc: Global, words: &[String]) -> Result<Command, WordsFail>
 
 /// The command of this name with these options.
 fn read_command(alloc: Global, name: &str, rest: &[String]) -> Result<Command, WordsFail>
-    ensures reads { IfOk result (λ command. (name.now ≡ name_of command) × HasOptions command (map string_bytes rest.now)) }
+    ensures reads { IfOk result (λ command.
+        (name.now ≡ name_of command) × HasOptions command (map string_bytes rest.now)) }
     ensures refuses { IfErr result (λ fail. fail ≡ WordsFail.Usage
         → (command : AnyCommand) → name.now ≡ name_of command → ¬ HasOptions command (map string_bytes rest.now)) }
 {

@@ -1,7 +1,8 @@
 //! The laws of the mesh that a layout gives at new lengths: it is a manifold with the shape of the old mesh.
 #![tactic(auto)]
 
-ghost use Rattle.def_written.specs.Laws.{BetweenLaw, KeepsShapeLaw, LaidLaw, MultipleLaw, NewManifoldLaw, NumbersLaw, ThreeLaw};
+ghost use Rattle.def_written.specs.Laws.{BetweenLaw, KeepsShapeLaw, LaidLaw, MultipleLaw, NewManifoldLaw, NumbersLaw};
+ghost use Rattle.def_written.specs.Laws.{ThreeLaw};
 
 /// A layout that lies in a mesh is that of a surface, with one fan round each node.
 pub fn laid_law()
