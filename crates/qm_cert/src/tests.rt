@@ -7,7 +7,7 @@ use crate::accepts;
 use def_flow::{Cert, CertVerdict, MAX_TANGLE};
 use def_matching::{Dual, Verdict};
 use qm_net::{is_within_bounds, tangle_of};
-use qm_nettext::read_net;
+use qm_nettext::{FIVE_SHAPES, FLAPS, QUAD, TREBLED, read_net};
 use std::alloc::Global;
 use std::process::Abort;
 use std::test::Fail;
@@ -27,13 +27,6 @@ fn are_small(numbers: &[i64]) -> bool
         .iter()
         .all(|number| number.unsigned_abs() < 1_000_000_000_000_000_000)
 }
-
-/// The network of one quad.
-const QUAD: &str = "net nodes 2 arcs 4 floor 1 scale 1/1
-arc 1 1 0 + rim
-arc 1 1 1 + rim
-arc 1 1 0 - rim
-arc 1 1 1 - rim";
 
 /// A list of lengths with a dual: numbers of vertices, numbers of sets, and the entries of both.
 #[derive(Clone, Copy, Debug, PartialEq, Eq)]
@@ -125,13 +118,6 @@ fn verdicts_on_one_quad(rt: HostRuntime) -> Result<(), Fail> {
     Ok(())
 }
 
-/// A quad at three times its size.
-const TREBLED: &str = "net nodes 2 arcs 4 floor 1 scale 3/1
-arc 1 1 0 + rim
-arc 1 1 1 + rim
-arc 1 1 0 - rim
-arc 1 1 1 - rim";
-
 /// A quad with lengths of at least 2.
 const FLOOR_2: &str = "net nodes 2 arcs 4 floor 2 scale 1/1
 arc 2 1 0 + rim
@@ -145,37 +131,6 @@ arc 2 1 0 + rim
 arc 2 1 1 + rim
 arc 2 1 0 - rim
 arc 2 1 1 - rim";
-
-/// Arcs of all shapes, with both ends of one at one node.
-const FIVE_SHAPES: &str = "net nodes 3 arcs 7 floor 1 scale 2/3
-arc 5 2 0 + 1 -
-arc 2 1 1 + 1 +
-arc 3 3 2 - 2 -
-arc 4 1 0 - 2 +
-arc 3 2 1 - 1 +
-arc 3 1 0 + rim
-arc 2 4 2 - rim";
-
-/// Three squares round a vertex with a flap between each two: no dual without sets is accepted.
-const FLAPS: &str = "net nodes 12 arcs 18 floor 1 scale 1/2
-arc 3 1 0 + 3 -
-arc 3 1 0 - 8 +
-arc 3 1 1 + 6 +
-arc 3 1 1 - 4 +
-arc 3 1 2 + 5 -
-arc 3 1 2 - 6 +
-arc 3 1 3 + 10 +
-arc 3 1 4 - 10 +
-arc 3 1 5 + 8 +
-arc 6 1 6 - rim
-arc 2 1 7 + rim
-arc 2 1 7 - rim
-arc 6 1 8 - rim
-arc 2 1 9 + rim
-arc 2 1 9 - rim
-arc 6 1 10 - rim
-arc 2 1 11 + rim
-arc 2 1 11 - rim";
 
 /// Numbers of vertices, by another program.
 const TREBLED_Y: [i64; 70] = [

@@ -9,7 +9,7 @@ use crate::{Gadget, graph_of, lengths_of, matching_of};
 use def_flow::{MAX_TANGLE, Net};
 use def_matching::WGraph;
 use qm_net::{admissible, are_lengths, is_within_bounds, tangle_of};
-use qm_nettext::{edge_lines, read_net};
+use qm_nettext::{MIXED, QUAD, edge_lines, read_net};
 use std::alloc::Global;
 use std::process::Abort;
 use std::test::Fail;
@@ -39,21 +39,6 @@ fn is_step_up(low: u64, cap: u32, step: u64, length: u64) -> bool
     let above = length - low;
     above % step == 0 && above / step <= u64::from(cap)
 }
-
-/// One quad: each arc has one end.
-const QUAD: &str = "net nodes 2 arcs 4 floor 1 scale 1/1
-arc 1 1 0 + rim
-arc 1 1 1 + rim
-arc 1 1 0 - rim
-arc 1 1 1 - rim";
-
-/// Like signs at two nodes, unlike signs at one node, and arcs with one end.
-const MIXED: &str = "net nodes 2 arcs 5 floor 1 scale 1/1
-arc 3 1 0 + 1 +
-arc 2 7 0 - 1 -
-arc 5 1 1 + 1 -
-arc 4 2 0 - rim
-arc 1 1000 1 - rim";
 
 /// Like and unlike signs at one node and at two.
 const LOOPS: &str = "net nodes 3 arcs 7 floor 1 scale 1/1

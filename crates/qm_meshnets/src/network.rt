@@ -6,13 +6,14 @@ ghost use Rattle.def_written.specs.Laws.{AreQuads};
 ghost use Rattle.def_layoutnet.specs.LayoutNet.{AreSettings};
 ghost use Rattle.def_layoutnet.specs.MeshLayouts.{IsMeshLayout};
 
-use def_flow::{Arc, End, Net, Settings};
+use def_flow::Settings;
 use def_layout::TMesh;
 use def_text::MAX_BYTES;
 use qm_grid::patches;
 use qm_io::Source;
 use qm_layoutnet::{NetFail, net_of};
 use qm_mesh::{Mesh, build};
+use qm_nettext::net_text;
 use qm_obj::read_soup;
 use qm_sing::sources;
 use qm_tmesh::layout;
@@ -35,9 +36,9 @@ pub(crate) fn network_text<S: Source>(
     };
     let layout = layout_of(alloc, &mesh)?;
     match net_of(alloc, &layout, set) {
-        Ok(net) => Ok(Some(text_of(alloc, &net)?)),
+        Ok(net) => Ok(Some(net_text(alloc, &net)?)),
         Err(NetFail::Tangled { count }) => Ok(Some(format!(in alloc; "tangled {count}\n")?)),
-        Err(NetFail::Memory) => Ok(None),
+        Err(NetFail::Memory) => Err(AllocError),
     }
 }
 
@@ -56,32 +57,3 @@ fn layout_of(alloc: Global, mesh: &Mesh) -> Result<TMesh, AllocError>
 fn are_quads(faces: &[[u32; 4]])
     ensures { AreQuads faces.now }
 {}
-
-/// A line for the network, and one for each arc.
-fn text_of(alloc: Global, net: &Net) -> Result<String, AllocError> {
-    let (nodes, arcs, floor, p, q) = (net.nodes, net.arcs.len(), net.floor, net.p, net.q);
-    let mut text = format!(in alloc;
-        "net nodes {nodes} arcs {arcs} floor {floor} scale {p}/{q}\n"
-    )?;
-    for arc in &net.arcs {
-        push_arc(alloc, &mut text, arc)?;
-    }
-    Ok(text)
-}
-
-/// The line of an arc.
-fn push_arc(alloc: Global, text: &mut String, arc: &Arc) -> Result<(), AllocError> {
-    let (old, weight) = (arc.old, arc.weight);
-    let left = end_text(alloc, arc.left)?;
-    let right = match arc.right {
-        Some(end) => end_text(alloc, end)?,
-        None => "rim".to_string(alloc)?,
-    };
-    text.push_str(format!(in alloc; "arc {old} {weight} {left} {right}\n")?.as_str())
-}
-
-/// The node of an end and its sign.
-fn end_text(alloc: Global, end: End) -> Result<String, AllocError> {
-    let (node, sign) = (end.node, if end.plus { '+' } else { '-' });
-    format!(in alloc; "{node} {sign}")
-}

@@ -1,16 +1,8 @@
 //! Small networks: sums of sides, deviations and tangle numbers.
 
 use crate::{admissible, are_lengths, deviation, is_within_bounds, tangle_of};
-use qm_nettext::read_net;
+use qm_nettext::{MIXED, read_net};
 use std::test::Fail;
-
-/// Like signs at two nodes, unlike signs at one node, and arcs with one end.
-const MIXED: &str = "net nodes 2 arcs 5 floor 2 scale 1/2
-arc 3 1 0 + 1 +
-arc 2 7 0 - 1 -
-arc 5 1 1 + 1 -
-arc 4 2 0 - rim
-arc 1 1000 1 - rim";
 
 #[test]
 fn lists_over_a_network(rt: HostRuntime) -> Result<(), Fail> {

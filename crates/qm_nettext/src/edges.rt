@@ -3,7 +3,7 @@
 use def_matching::WGraph;
 use std::alloc::{AllocError, Global};
 
-/// The edges of a graph, one a line: its two vertices and its cost. Linear.
+/// The edges of a graph, one a line: its two vertices and its cost. Linear. Tests alone compare these lines.
 pub fn edge_lines(alloc: Global, g: &WGraph) -> Result<String, AllocError> {
     let mut text = String::new(alloc);
     for edge in &g.edges {

@@ -16,7 +16,7 @@ struct Head {
     q: u32,
 }
 
-/// The network of a text. Linear.
+/// The network of a text. Linear. The network may have any numbers: who goes on with it tests it.
 pub fn read_net(alloc: Global, text: &str) -> Result<Net, NetFail> {
     let mut words = text.split_whitespace();
     let head = read_head(&mut words).ok_or(NetFail::NoNetwork)?;

@@ -6,7 +6,7 @@ use def_flow::MAX_TANGLE;
 use def_matching::{Dual, Verdict, WGraph};
 use qm_dual::dual_ok;
 use qm_net::{is_within_bounds, tangle_of};
-use qm_nettext::read_net;
+use qm_nettext::{QUAD, read_net};
 use std::alloc::{AllocError, Global};
 use std::test::Fail;
 
@@ -29,13 +29,6 @@ impl Matcher for Zeros {
         Ok(Matched { edges, dual })
     }
 }
-
-/// The network of one quad: each arc has one end.
-const QUAD: &str = "net nodes 2 arcs 4 floor 1 scale 1/1
-arc 1 1 0 + rim
-arc 1 1 1 + rim
-arc 1 1 0 - rim
-arc 1 1 1 - rim";
 
 #[test]
 fn one_quad(rt: HostRuntime) -> Result<(), Fail> {
