@@ -23,44 +23,61 @@ pub(crate) fn relax(
     ensures search { OnOk result (IsSearch (node_count cover.now) (way_count cover.now) search.new) }
 {
     for from in 0..cover.ground() + 1 {
-        if drain(cover, flow, search, from, fuel)?.is_none() {
+        let site = Site {
+            from,
+            shared: false,
+        };
+        if drain(cover, flow, search, site, fuel)?.is_none() {
             return Ok(None);
         }
     }
     Ok(Some(()))
 }
 
-/// Brings away what is too much at a node.
-fn drain(
+/// A node that has too much, and whether both ways of an arc have one length.
+#[derive(Clone, Copy)]
+pub(crate) struct Site {
+    pub(crate) from: u32,
+    pub(crate) shared: bool,
+}
+
+/// Brings away what is too much at a node: much at once, or one by one where both ways of an arc go together.
+pub(crate) fn drain(
     cover: &Cover,
     flow: &mut Flow,
     search: &mut Search,
-    from: u32,
+    site: Site,
     fuel: &mut u32,
 ) -> Result<Option<()>, Memory>
     requires cover { (IsCover cover.now) × (1 ≤ way_count cover.now) }
     requires flow { IsOver cover.now flow.old }
     requires search { IsSearch (node_count cover.now) (way_count cover.now) search.old }
-    requires from { from < node_count cover.now }
+    requires from { site.from < node_count cover.now }
     ensures flow { OnOk result (IsOver cover.now flow.new) }
     ensures search { OnOk result (IsSearch (node_count cover.now) (way_count cover.now) search.new) }
 {
+    let Site { from, shared } = site;
     for _ in 0..*fuel {
-        if flow.excess[from as usize] <= 0 {
+        let much = flow.excess[from as usize];
+        if much <= 0 {
             return Ok(Some(()));
         }
-        let aim = Aim {
-            from,
-            but: None,
-            shared: false,
+        // One alone cannot go to the node's own other copy: both would turn over.
+        let but = if shared && much == 1 {
+            Some(from ^ 1)
+        } else {
+            None
         };
-        let Some(to) = find(cover, flow, aim, search, fuel)? else {
+        let Some(to) = find(cover, flow, Aim { from, but, shared }, search, fuel)? else {
             return Ok(None);
         };
-        reprice(search, to, &mut flow.prices);
         let path = Path { from, to };
-        let times = even_times(cover, flow, search, path);
-        if go_along(cover, flow, search, path, times).is_none() {
+        let mut times = 1;
+        if !shared {
+            reprice(search, to, &mut flow.prices);
+            times = even_times(cover, flow, search, path);
+        }
+        if go_along(cover, flow, search, path, Going { times, shared }).is_none() {
             return Ok(None);
         }
         clear(search);
@@ -105,8 +122,15 @@ fn even_part(cover: &Cover, flow: &Flow, step: Step, times: u64) -> u64
     part
 }
 
-/// Goes so many times along a path.
-fn go_along(cover: &Cover, flow: &mut Flow, search: &Search, path: Path, times: u64) -> Option<()>
+/// How often a path is gone, and whether its mirror image is gone with it, on the other ways of its arcs.
+#[derive(Clone, Copy)]
+struct Going {
+    times: u64,
+    shared: bool,
+}
+
+/// Goes along a path.
+fn go_along(cover: &Cover, flow: &mut Flow, search: &Search, path: Path, going: Going) -> Option<()>
     requires cover { IsCover cover.now }
     requires flow { IsOver cover.now flow.old }
     requires search { IsSearch (node_count cover.now) (way_count cover.now) search.now }
@@ -119,7 +143,14 @@ fn go_along(cover: &Cover, flow: &mut Flow, search: &Search, path: Path, times: 
             return Some(());
         }
         let step = search.by[node as usize];
-        go(cover, flow, step, times)?;
+        go(cover, flow, step, going.times)?;
+        if going.shared {
+            let mirrored = Step {
+                way: cover.other(step.way),
+                more: step.more,
+            };
+            go(cover, flow, mirrored, going.times)?;
+        }
         node = cover.origin(step);
     }
     None

@@ -4,9 +4,10 @@ ghost use Rattle.std.specs.Prelude.{◌≡◌, ◌*◌, ◌<◌, ◌≤◌, leng
 ghost use Rattle.qm_start.specs.Tables.{IsCover, IsOver, IsSearch, node_count, way_count};
 
 use crate::Memory;
-use crate::cover::{Cover, Step};
-use crate::flow::{Flow, go, weigh};
-use crate::search::{Aim, Path, Search, clear, find};
+use crate::cover::Cover;
+use crate::flow::{Flow, weigh};
+use crate::paths::{Site, drain};
+use crate::search::Search;
 
 /// What the ground takes: all that is brought there.
 const ALL: i64 = i64::MIN / 2;
@@ -30,7 +31,8 @@ pub(crate) fn repair(
         return Ok(None);
     }
     for from in 0..cover.ground() {
-        if settle(cover, flow, search, from, fuel)?.is_none() {
+        let site = Site { from, shared: true };
+        if drain(cover, flow, search, site, fuel)?.is_none() {
             return Ok(None);
         }
     }
@@ -54,66 +56,4 @@ fn share(cover: &Cover, lengths: &[u64], flow: &mut Flow) -> Option<()>
     weigh(cover, flow)?;
     flow.excess[cover.ground() as usize] = ALL;
     Some(())
-}
-
-/// Brings away what is too much at a node, one by one, with both ways of each arc.
-fn settle(
-    cover: &Cover,
-    flow: &mut Flow,
-    search: &mut Search,
-    from: u32,
-    fuel: &mut u32,
-) -> Result<Option<()>, Memory>
-    requires cover { (IsCover cover.now) × (1 ≤ way_count cover.now) }
-    requires flow { IsOver cover.now flow.old }
-    requires search { IsSearch (node_count cover.now) (way_count cover.now) search.old }
-    requires from { from < node_count cover.now }
-    ensures flow { OnOk result (IsOver cover.now flow.new) }
-    ensures search { OnOk result (IsSearch (node_count cover.now) (way_count cover.now) search.new) }
-{
-    for _ in 0..*fuel {
-        let much = flow.excess[from as usize];
-        if much <= 0 {
-            return Ok(Some(()));
-        }
-        // One alone cannot go to the node's own other copy: both would turn over.
-        let aim = Aim {
-            from,
-            but: if much == 1 { Some(from ^ 1) } else { None },
-            shared: true,
-        };
-        let Some(to) = find(cover, flow, aim, search, fuel)? else {
-            return Ok(None);
-        };
-        if go_both(cover, flow, search, Path { from, to }).is_none() {
-            return Ok(None);
-        }
-        clear(search);
-    }
-    Ok(None)
-}
-
-/// Goes along a path, and along its mirror image on the other ways of its arcs.
-fn go_both(cover: &Cover, flow: &mut Flow, search: &Search, path: Path) -> Option<()>
-    requires cover { IsCover cover.now }
-    requires flow { IsOver cover.now flow.old }
-    requires search { IsSearch (node_count cover.now) (way_count cover.now) search.now }
-    requires path { (path.from < node_count cover.now) × (path.to < node_count cover.now) }
-    ensures { IsOver cover.now flow.new }
-{
-    let mut node = path.to;
-    for _ in 0..cover.at.len() {
-        if node == path.from {
-            return Some(());
-        }
-        let step = search.by[node as usize];
-        let mirrored = Step {
-            way: cover.other(step.way),
-            more: step.more,
-        };
-        go(cover, flow, step, 1)?;
-        go(cover, flow, mirrored, 1)?;
-        node = cover.origin(step);
-    }
-    None
 }
