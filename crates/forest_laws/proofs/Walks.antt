@@ -1,25 +1,9 @@
 -- What a walk comes past, and a function that is written at the places of a walk.
 use Rattle.std.proofs.Common.{◌≡◌, ◌≢◌, ℕ, zero, suc, ◌+◌, ◌<◌, ◌≤◌, Bool, true, false, cond, ◌||◌, eqb, ◌⊎◌, refl, sym, ◌∙◌, ap, subst, inl, inr, arith}
-use Rattle.std.proofs.lemmas.Bool.{cases_eq, cases_lt, cond-true, eq-eqb, ne_eqb, eqb-true}
+use Rattle.std.proofs.lemmas.Bool.{cases_eq, cases_lt, cond-true, eq-eqb, ne_eqb, eqb-true, or_right, or_left, or_cases, or_from}
 use Rattle.def_forest.specs.Forests.{number, walk, ring_sum, set_at}
 use Rattle.forest_laws.specs.Walks.{listed, writes}
 use Rattle.forest_laws.proofs.Writes.{set_here, set_there}
-
-or_right : (a b : Bool) → b ≡ true → (a || b) ≡ true
-or_right true b e = refl
-or_right false b e = e
-
-or_left : (a b : Bool) → a ≡ true → (a || b) ≡ true
-or_left true b e = refl
-or_left false b e = absurd (cc e)
-
-or_parts : (a b : Bool) → (a || b) ≡ true → (a ≡ true) ⊎ (b ≡ true)
-or_parts true b e = inl refl
-or_parts false b e = inr e
-
-or_none : (a b : Bool) → a ≡ false → b ≡ false → (a || b) ≡ false
-or_none true b e n = absurd (cc e)
-or_none false b e n = n
 
 -- A walk in two parts, and one that has come to stay.
 pub walk_sum : (f : ℕ → ℕ) (a i j : ℕ) → walk f a (i + j) ≡ walk f (walk f a i) j
@@ -38,7 +22,7 @@ listed_at next from (suc many) k l = by_place (cases_eq k many) (listed_at next 
 -- And past no other.
 pub listed_place : (next : ℕ → ℕ) (from many x : ℕ) → listed next from many x ≡ true → (k : ℕ) × (k < many) × (walk next from k ≡ x)
 listed_place next from zero x on = absurd (cc on)
-listed_place next from (suc many) x on = by_or (or_parts (listed next from many x) (eqb (walk next from many) x) on) (listed_place next from many x)
+listed_place next from (suc many) x on = by_or (or_cases (listed next from many x) (eqb (walk next from many) x) on) (listed_place next from many x)
   where
     by_or : (listed next from many x ≡ true) ⊎ (eqb (walk next from many) x ≡ true) → (listed next from many x ≡ true → (k : ℕ) × (k < many) × (walk next from k ≡ x)) → (k : ℕ) × (k < suc many) × (walk next from k ≡ x)
     by_or (inl e) more = let w : (k : ℕ) × (k < many) × (walk next from k ≡ x) = more e in (w.0, omega (arith, w.1), w.2)
@@ -46,7 +30,7 @@ listed_place next from (suc many) x on = by_or (or_parts (listed next from many 
 
 pub listed_off : (next : ℕ → ℕ) (from many x : ℕ) → ((k : ℕ) → k < many → walk next from k ≢ x) → listed next from many x ≡ false
 listed_off next from zero x off = refl
-listed_off next from (suc many) x off = or_none (listed next from many x) (eqb (walk next from many) x) (listed_off next from many x (λ k l. off k (omega arith))) (ne_eqb (walk next from many) x (off many (omega arith)))
+listed_off next from (suc many) x off = or_from (listed next from many x) (eqb (walk next from many) x) (listed_off next from many x (λ k l. off k (omega arith))) (ne_eqb (walk next from many) x (off many (omega arith)))
 
 -- A walk that is closed stays among its places.
 pub listed_closed : (next : ℕ → ℕ) (from many : ℕ) → 1 ≤ many → walk next from many ≡ from → (k : ℕ) → listed next from many (walk next from k) ≡ true

@@ -1,4 +1,5 @@
 pub mod Borders
 pub mod FaceNodes
 pub mod Runs
+pub mod SideReads
 pub mod Uses

@@ -2,6 +2,7 @@
 use Rattle.std.proofs.Common.{◌≡◌, ◌≢◌, ◌⊎◌, ℕ, zero, suc, ◌+◌, ◌*◌, ◌<◌, ◌≤◌, Bool, true, false, not, cond, eqb, ◌&&◌, ◌||◌, List, map, length, get_or, Some, None, sym, subst, ap, ◌∙◌, refl, inl, inr, arith}
 use Rattle.std.specs.List.{list_any, range_with_len, position_or_len}
 use Rattle.std.proofs.lemmas.Bool.{eq-eqb, eqb-true, cases_Bool, cases_lt, cases_eq, cases_order, or_left, or_right, or_cases, and_parts, and_from, false≢true, false_from_ne_true, not_from_false}
+use Rattle.qm_laws.proofs.Tests.{once_at_most, same_test}
 use Rattle.std.proofs.lemmas.List.{length-map}
 use Rattle.std.proofs.lemmas.List.FromFn.{length-range_with_len, get_or-map-range_with_len}
 use Rattle.std.proofs.lemmas.List.Sums.{passes_at_first, fails_before_first}
@@ -16,12 +17,6 @@ use Rattle.def_mesh.specs.Components.{share_edge, is_marked, spread, within, com
 abbrev pub Shares : (faces : Faces) (f g edges : ℕ) → Type 0
 Shares faces f g zero = f ≡ g
 Shares faces f g (suc n) = (h : ℕ) × Shares faces f h n × (h < length faces) × (g < length faces) × (share_edge faces h g ≡ true)
-
--- Two tests that imply each other are equal.
-pub same_test : (a b : Bool) → (a ≡ true → b ≡ true) → (b ≡ true → a ≡ true) → a ≡ b
-same_test true b f h = sym (f refl)
-same_test false true f h = h refl
-same_test false false f h = refl
 
 -- Faces share an edge both ways.
 pub share_back : (faces : Faces) (f g : ℕ) → share_edge faces f g ≡ true → share_edge faces g f ≡ true
@@ -143,11 +138,7 @@ module _ (faces : Faces) where
     where
       by_round : IsStable f (length faces) ⊎ (suc (length faces) ≤ size f (length faces)) → mark f (length faces) g ≡ true
       by_round (inl stable) = stable g lg (reaches f (length faces) h g lh lg m s)
-      by_round (inr big) = absurd (omega (arith, big, count_below_le (λ x. cond (mark f (length faces) x) 1 0) (λ x. 1) (length faces) (λ x l. at (mark f (length faces) x)), count_below_ones (length faces)))
-        where
-          at : (b : Bool) → cond b 1 0 ≤ 1
-          at true = omega arith
-          at false = omega arith
+      by_round (inr big) = absurd (omega (arith, big, count_below_le (λ x. cond (mark f (length faces) x) 1 0) (λ x. 1) (length faces) (λ x l. once_at_most (mark f (length faces) x)), count_below_ones (length faces)))
 
   -- It has its own face, and each to which a chain leads.
   own : (f k : ℕ) → f < length faces → mark f k f ≡ true

@@ -4,6 +4,7 @@ use Rattle.std.specs.List.{list_any}
 use Rattle.std.proofs.lemmas.Option.{none-some, same_Some}
 use Rattle.std.proofs.Math.Bool.{or-false}
 use Rattle.std.proofs.lemmas.Bool.{eq-eqb, ne_eqb, eqb-true, false≢true, cases_Bool, cases_eq, cases_lt, or_left, or_right, or_cases, and_parts, and_from, not_from_false, not_from_true}
+use Rattle.qm_laws.proofs.Tests.{same_test}
 use Rattle.std.proofs.lemmas.List.{get_or-set_same, get_or-set_other, length-set, length-replicate, length-map, length-append}
 use Rattle.def_cut.specs.FullCut.{is_on}
 use Rattle.def_cut.specs.declared.graph.Stop.{Stop}
@@ -17,7 +18,7 @@ use Rattle.motion_laws.proofs.Among.{among_here, among_later, any_at, any_where,
 use Rattle.motion_laws.proofs.Marks.{none_on, none_found, no_darts, twin_marks, from_marks, marked_long, noted_more, noted_longer, found_more, apart_few, among_append, apart_append}
 use Rattle.motion_laws.proofs.Next.{with_later}
 use Rattle.motion_laws.proofs.Shown.{IsShown, AreShown, AllNoted, long, all_noted, darts_are, noted_rides, notes_apart, ride_shown, waits_as_was, waits_not_all, somebody, as_was, still_runs, closed_is, none_shown, told_shown, told_long}
-use Rattle.motion_laws.proofs.Steps.{same_test, step_keeps, back}
+use Rattle.motion_laws.proofs.Steps.{step_keeps, back}
 use Rattle.motion_laws.proofs.Terrains.{IsTerrain, IsStarted, IsReached}
 use Rattle.motion_laws.proofs.Traced.{start_reached, after_reached, ridden_once, at_rest, runs_on, fresh, rests_or_falls, nobody_runs}
 

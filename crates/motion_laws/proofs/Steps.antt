@@ -3,6 +3,7 @@ use Rattle.std.proofs.Common.{◌≡◌, ◌≢◌, ◌⊎◌, ℕ, zero, suc, �
 use Rattle.std.specs.List.{list_any}
 use Rattle.std.proofs.lemmas.Option.{none-some, same_Some}
 use Rattle.std.proofs.lemmas.Bool.{eq-eqb, eqb-true, false≢true, false_from_ne_true, cases_Bool, or_left, or_right, or_cases, and_from, and_parts, not_from_false}
+use Rattle.qm_laws.proofs.Tests.{same_test}
 use Rattle.def_mesh.specs.HalfEdges.{HalfEdges, IsQuadManifold}
 use Rattle.def_cut.specs.Cuts.{IsCross, HasCross}
 use Rattle.def_cut.specs.Trails.{IsStraight, Trail, IsTracked}
@@ -15,12 +16,6 @@ use Rattle.motion_laws.proofs.Among.{any_at, any_where, in_filter, from_filter, 
 use Rattle.motion_laws.proofs.Terrains.{IsTerrain, IsStarted, IsReached, IsKnown, IsSoon, IsCrossedAt}
 use Rattle.motion_laws.proofs.Bits.{rotated, round_of, of_round, two_bits_of}
 use Rattle.motion_laws.proofs.Next.{next_from, next_to, next_apart}
-
--- Two tests that imply each other are equal.
-pub same_test : (a b : Bool) → (a ≡ true → b ≡ true) → (b ≡ true → a ≡ true) → a ≡ b
-same_test true b f h = sym (f refl)
-same_test false true f h = h refl
-same_test false false f h = refl
 
 -- Trails stay where more is covered.
 pub trail_more : (m : HalfEdges) (begin cut more : ℕ → Bool) → ((d : ℕ) → cut d ≡ true → more d ≡ true) → (d k : ℕ) → Trail m begin cut d k → Trail m begin more d k

@@ -1,5 +1,6 @@
 pub mod ArcUses
 pub mod NodeEdges
+mod Spins
 pub mod Lies
 pub mod PlanLies
 pub mod OnePlan

@@ -20,6 +20,7 @@ use Rattle.qm_laws.proofs.Filters.{IsKept, kept_at, rises}
 use Rattle.layout_laws.proofs.Runs.{run_inner}
 use Rattle.layout_laws.proofs.Borders.{IsLine, line, on_side, line_from}
 use Rattle.written_laws.proofs.Sides.{slot, IsOn, place_on}
+use Rattle.plan_laws.proofs.Spins.{spin_low, spin_after, spin_way, spin_once, prev_is}
 use Rattle.plan_laws.proofs.ArcUses.{on_run, dart_low, same_use}
 
 -- The dart of the mesh for a dart of a cell.
@@ -62,52 +63,6 @@ module _ (m : HalfEdges) (laws : IsQuadManifold m) (cut : Cut) (full : IsCut m c
   grid : (p : ℕ) → p < length t.patches → IsGrid m cut (patch_at t.patches p).w (patch_at t.patches p).h (cell_of (patch_at t.patches p))
   grid p low = (lay.patches.patch p low).grid
 
-  -- Sides of a face by number.
-  spin_low : (k c : ℕ) → c < m.count → spin m k c < m.count
-  spin_low zero c low = low
-  spin_low (suc k) c low = laws.next_low (spin m k c) (spin_low k c low)
-
-  spin_after : (w : Way) (c : ℕ) → spin m (number (after w)) c ≡ m.next (spin m (number w) c)
-  spin_after south c = refl
-  spin_after east c = refl
-  spin_after north c = refl
-  spin_after west c = sym (laws.four_sides c)
-
-  spin_way : (k c : ℕ) → (w : Way) × (spin m k c ≡ spin m (number w) c)
-  spin_way zero c = (south, refl)
-  spin_way (suc k) c =
-      let w : (w : Way) × (spin m k c ≡ spin m (number w) c) = spin_way k c in (after w.0, ap m.next w.1 ∙ sym (spin_after w.0 c))
-
-  one_on : (d : ℕ) → d < m.count → d ≢ m.next d
-  one_on d low e = (laws.corners_differ d low).0 (ap m.from e)
-
-  two_on : (d : ℕ) → d < m.count → d ≢ m.next (m.next d)
-  two_on d low e = (laws.corners_differ d low).1 (ap m.from e)
-
-  three_on : (d : ℕ) → d < m.count → d ≢ m.next (m.next (m.next d))
-  three_on d low e = one_on d low (sym (ap m.next e ∙ laws.four_sides d))
-
-  spin_once : (c : ℕ) (w v : Way) → c < m.count → spin m (number w) c ≡ spin m (number v) c → w ≡ v
-  spin_once c south south low e = refl
-  spin_once c south east low e = absurd (one_on c low e)
-  spin_once c south north low e = absurd (two_on c low e)
-  spin_once c south west low e = absurd (three_on c low e)
-  spin_once c east south low e = absurd (one_on c low (sym e))
-  spin_once c east east low e = refl
-  spin_once c east north low e = absurd (one_on (m.next c) (spin_low 1 c low) e)
-  spin_once c east west low e = absurd (two_on (m.next c) (spin_low 1 c low) e)
-  spin_once c north south low e = absurd (two_on c low (sym e))
-  spin_once c north east low e = absurd (one_on (m.next c) (spin_low 1 c low) (sym e))
-  spin_once c north north low e = refl
-  spin_once c north west low e = absurd (one_on (m.next (m.next c)) (spin_low 2 c low) e)
-  spin_once c west south low e = absurd (three_on c low (sym e))
-  spin_once c west east low e = absurd (two_on (m.next c) (spin_low 1 c low) (sym e))
-  spin_once c west north low e = absurd (one_on (m.next (m.next c)) (spin_low 2 c low) (sym e))
-  spin_once c west west low e = refl
-
-  prev_is : (c : ℕ) → m.next (m.next (m.next c)) ≡ m.prev c
-  prev_is c = ap (λ d. m.next (m.next (m.next d))) (sym (laws.next_prev c)) ∙ laws.four_sides (m.prev c)
-
   cell_side : (d : Dart) → IsDart l x d → IsSide m (patch_at t.patches d.patch) d.i d.j (number d.way) (cell_dart m t d)
   cell_side d is = record {
     i_low = omega (arith, is.i_low, lay.sizes d.patch south is.patch_low);
@@ -124,7 +79,7 @@ module _ (m : HalfEdges) (laws : IsQuadManifold m) (cut : Cut) (full : IsCut m c
       lay.patches.once (cell_dart m t d) d.patch d.i d.j (number d.way) e.patch e.i e.j (number e.way) is_d.patch_low is_e.patch_low
       (cell_side d is_d) (subst (λ (k : ℕ). IsSide m (patch_at t.patches e.patch) e.i e.j (number e.way) k) (sym equal) (cell_side e is_e)) in
       let ways : d.way ≡ e.way =
-      spin_once (cell_of (patch_at t.patches e.patch) e.i e.j) d.way e.way (corner_low e is_e)
+      spin_once m laws (cell_of (patch_at t.patches e.patch) e.i e.j) d.way e.way (corner_low e is_e)
       ((λ r. spin m (number d.way) (cell_of (patch_at t.patches (sym s.0 r)) (sym s.1 r) (sym s.2 r))) ∙ equal) in
       λ r. dart (s.0 r) (s.1 r) (s.2 r) (ways r)
 
@@ -134,7 +89,7 @@ module _ (m : HalfEdges) (laws : IsQuadManifold m) (cut : Cut) (full : IsCut m c
       by_cover : (p : ℕ) × (i : ℕ) × (j : ℕ) × (q : ℕ) × (p < length t.patches) × IsSide m (patch_at t.patches p) i j q k → (d : Dart) × IsDart l x d × (cell_dart m t d ≡ k)
       by_cover c =
           let w : (w : Way) × (spin m c.3 (cell_of (patch_at t.patches c.0) c.1 c.2) ≡ spin m (number w) (cell_of (patch_at t.patches c.0) c.1 c.2)) =
-          spin_way c.3 (cell_of (patch_at t.patches c.0) c.1 c.2) in (
+          spin_way m laws c.3 (cell_of (patch_at t.patches c.0) c.1 c.2) in (
             dart c.0 c.1 c.2 w.0,
             record { patch_low = c.4; i_low = omega (arith, c.5.i_low, lay.sizes c.0 south c.4); j_low = omega (arith, c.5.j_low, lay.sizes c.0 west c.4) },
             sym w.1 ∙ sym c.5.is,
@@ -168,7 +123,7 @@ module _ (m : HalfEdges) (laws : IsQuadManifold m) (cut : Cut) (full : IsCut m c
       λ r. m.next (m.next (cell_of (patch_at t.patches p) (lay.sizes p south low r - 1 - k) (lay.sizes p west low r - 1)))
   rim_dart p west k low =
       ap (λ h. m.next (m.next (m.next (cell_of (patch_at t.patches p) 0 (h - 1 - k))))) (lay.sizes p west low)
-      ∙ prev_is (cell_of (patch_at t.patches p) 0 ((patch_at t.patches p).h - 1 - k))
+      ∙ prev_is m laws (cell_of (patch_at t.patches p) 0 ((patch_at t.patches p).h - 1 - k))
 
   -- A dart of the cut lies at a slot.
   pub record StandsAt (d : ℕ) (w : Slot) (o : ℕ) : Type 0 where
@@ -384,11 +339,11 @@ module _ (m : HalfEdges) (laws : IsQuadManifold m) (cut : Cut) (full : IsCut m c
   pub sided : ((n : ℕ) → n < l.nodes → (e : ℕ) × (e < m.count) × (cut e ≡ true) × ((m.from e ≡ vertex_at t n) ⊎ (to m e ≡ vertex_at t n)))
       → IsSided m l x (cell_dart m t) (vertex_at t) (dart_at t.arcs)
   sided met = record {
-    low = λ d is. spin_low (number d.way) (cell_of (patch_at t.patches d.patch) d.i d.j) (corner_low d is);
+    low = λ d is. spin_low m laws (number d.way) (cell_of (patch_at t.patches d.patch) d.i d.j) (corner_low d is);
     same = same;
     onto = onto;
     vertex_same = vertex_same;
-    turned = λ d. spin_after d.way (cell_of (patch_at t.patches d.patch) d.i d.j);
+    turned = λ d. spin_after m laws d.way (cell_of (patch_at t.patches d.patch) d.i d.j);
     east_of = east_of;
     north_of = north_of;
     forward = forward;
@@ -407,7 +362,7 @@ module _ (m : HalfEdges) (laws : IsQuadManifold m) (cut : Cut) (full : IsCut m c
       east_of p i j low i_low j_low =
           let one : suc i ≡ i + 1 = omega arith in
           (grid p low).east i j (omega (arith, lay.sizes p south low)) (omega (arith, lay.sizes p west low))
-          ∙ ap Some (ap (λ k. m.prev (cell_of (patch_at t.patches p) k j)) one ∙ sym (prev_is (cell_of (patch_at t.patches p) (i + 1) j)))
+          ∙ ap Some (ap (λ k. m.prev (cell_of (patch_at t.patches p) k j)) one ∙ sym (prev_is m laws (cell_of (patch_at t.patches p) (i + 1) j)))
 
       north_of : (p i j : ℕ) → p < l.patches → i < wide l x p → j + 1 < high l x p
           → m.twin (cell_dart m t (dart p i j north)) ≡ Some (cell_dart m t (dart p i (j + 1) south))

@@ -3,7 +3,7 @@ use Rattle.std.proofs.Common.{◌≡◌, ◌≢◌, ℕ, ℤ, ◌<◌, ◌≤◌
 use Rattle.std.specs.Prelude.{slice_index, if◌then◌else◌}
 use Rattle.std.specs.Ordering.{int_eq}
 use Rattle.std.proofs.lemmas.Int.{ints}
-use Rattle.std.proofs.lemmas.Bool.{cases_lt}
+use Rattle.std.proofs.lemmas.Bool.{cases_lt, not-false}
 use Rattle.std.proofs.lemmas.Bool.Decides.{Decides-int_eq}
 use Rattle.qm_laws.proofs.Searches.{least_none, none_below}
 use Rattle.def_flow.specs.Network.{Network, IsWithinBounds}
@@ -68,10 +68,6 @@ by_list net c = by_count (length c.x == length net.arcs)
     by_count false = refl
 
 -- No fault of the list: it has one length for each arc, and is admissible.
-not_false : (b : Bool) → not b ≡ false → b ≡ true
-not_false true e = refl
-not_false false e = absurd (true≢false e)
-
 none_of : (f : ℕ → CertVerdict) (o : Option ℕ) → option_map f o ≡ None → o ≡ None
 none_of f None e = refl
 none_of f (Some k) e = absurd cc
@@ -96,7 +92,7 @@ no_fault net xs bounds none = by_count (length xs == length net.arcs) refl none
         high k l = (let h : net.floor ≤ slice_index xs k = ltb-false (slice_index xs k) net.floor (none_below (λ j. nat_lt (slice_index xs j) net.floor) (length net.arcs) below k l) in omega (arith, ints, h))
 
         balanced : (v : ℕ) → (v < net.nodes) ⊎ (net.nodes ≤ v) → side_sum net.arcs (entries xs) true v ≡ side_sum net.arcs (entries xs) false v
-        balanced v (inl l) = (Decides-int_eq (side_sum net.arcs (entries xs) true v) (side_sum net.arcs (entries xs) false v)).0 (not_false _ (none_below (λ u. not (int_eq (side_sum net.arcs (entries xs) true u) (side_sum net.arcs (entries xs) false u))) net.nodes unequal v l))
+        balanced v (inl l) = (Decides-int_eq (side_sum net.arcs (entries xs) true v) (side_sum net.arcs (entries xs) false v)).0 (not-false _ (none_below (λ u. not (int_eq (side_sum net.arcs (entries xs) true u) (side_sum net.arcs (entries xs) false u))) net.nodes unequal v l))
         balanced v (inr h) = no_side_past net bounds xs true v h ∙ sym (no_side_past net bounds xs false v h)
 
     by_count : (b : Bool) → (length xs == length net.arcs) ≡ b → cond (not b) (Some (Count (length net.arcs) (length xs))) (first_of_two (below_verdict net xs) (unequal_verdict net xs)) ≡ None → (length xs ≡ length net.arcs) × IsAdmissible net (entries xs)

@@ -1,20 +1,12 @@
 -- The least set around two entries, by leaving paths below their heads.
 use Rattle.std.proofs.Common.{◌≡◌, ℕ, zero, suc, ◌+◌, ◌<◌, ◌≤◌, ◌≢◌, ◌||◌, ◌&&◌, Bool, true, false, max, List, refl, sym, ◌∙◌, ap, inl, inr, ◌⊎◌, arith}
 use Rattle.std.specs.Prelude.{slice_index}
-use Rattle.std.proofs.lemmas.Bool.{cases_eq, cases_lt, eq-eqb, and_parts}
+use Rattle.std.proofs.lemmas.Bool.{cases_eq, cases_lt, eq-eqb, and_parts, and_from}
+use Rattle.qm_laws.proofs.Tests.{same_test}
 use Rattle.def_matching.specs.Dual.{IsNested}
 use Rattle.qm_dual.specs.Nest.{climbs, AreHeads, IsMeeting, HaveSameSets, left}
 use Rattle.qm_dual.proofs.Climbs.{set_later, climb_on, climb_none, passed_further, passed_inner}
 use Rattle.qm_dual.proofs.OnPaths.{head_later, head_of_passed, past_head, from_head, path_chain}
-
--- Tests that follow from each other are equal.
-pub same_tests : (b c : Bool) → (b ≡ true → c ≡ true) → (c ≡ true → b ≡ true) → b ≡ c
-same_tests true c there back = sym (there refl)
-same_tests false true there back = back refl
-same_tests false false there back = refl
-
-pub both_true : (b c : Bool) → b ≡ true → c ≡ true → (b && c) ≡ true
-both_true b c on on' = rw (on, on') refl
 
 -- A climb from a set passes it.
 pub passes_itself : (n m : ℕ) (up : List ℕ) → IsNested n m up → (k : ℕ) → k < m → climbs n up m k (suc k) ≡ true
@@ -24,7 +16,7 @@ passes_itself n m up nested k l = climb_on n m up nested k k l ∙ ap (λ x. x |
 pub leave_path : (n m : ℕ) (up heads : List ℕ) → IsNested n m up → AreHeads n m up heads → (a b t : ℕ) → a < m → b < m → slice_index heads a ≡ suc t → slice_index heads a < slice_index heads b
     → HaveSameSets n m up (suc a) (suc b) (slice_index up (n + t)) (suc b)
 leave_path n m up heads nested are a b t la lb top lower k =
-    same_tests (climbs n up m k (suc a) && climbs n up m k (suc b)) (climbs n up m k (slice_index up (n + t)) && climbs n up m k (suc b)) there back
+    same_test (climbs n up m k (suc a) && climbs n up m k (suc b)) (climbs n up m k (slice_index up (n + t)) && climbs n up m k (suc b)) there back
   where
     there : (climbs n up m k (suc a) && climbs n up m k (suc b)) ≡ true → (climbs n up m k (slice_index up (n + t)) && climbs n up m k (suc b)) ≡ true
     there on = by_both (and_parts (climbs n up m k (suc a)) (climbs n up m k (suc b)) on)
@@ -33,7 +25,7 @@ leave_path n m up heads nested are a b t la lb top lower k =
         by_both both = by_past (past_head n m up heads nested are m k a t la top both.0) (head_of_passed n m up heads nested are m k b lb both.1)
           where
             past : (further : ℕ) × (climbs n up further k (slice_index up (n + t)) ≡ true) → (climbs n up m k (slice_index up (n + t)) && climbs n up m k (suc b)) ≡ true
-            past p = both_true _ _ (passed_further n m up nested p.0 k k (slice_index up (n + t)) low p.1 (passes_itself n m up nested k inner)) both.1
+            past p = and_from _ _ (passed_further n m up nested p.0 k k (slice_index up (n + t)) low p.1 (passes_itself n m up nested k inner)) both.1
               where
                 low : slice_index up (n + t) ≤ m
                 low = let p : (slice_index up (n + t) ≡ 0) ⊎ ((t + 1 < slice_index up (n + t)) × (slice_index up (n + t) ≤ m)) = set_later n m up nested t in omega arith
@@ -49,11 +41,11 @@ leave_path n m up heads nested are a b t la lb top lower k =
     back : (climbs n up m k (slice_index up (n + t)) && climbs n up m k (suc b)) ≡ true → (climbs n up m k (suc a) && climbs n up m k (suc b)) ≡ true
     back on =
         let both : (climbs n up m k (slice_index up (n + t)) ≡ true) × (climbs n up m k (suc b) ≡ true) = and_parts (climbs n up m k (slice_index up (n + t))) (climbs n up m k (suc b)) on in
-        both_true _ _ (from_head n m up heads nested are m k a t (omega arith) la top both.0) both.1
+        and_from _ _ (from_head n m up heads nested are m k a t (omega arith) la top both.0) both.1
 
 -- On one path the later set is the least around both.
 pub one_path : (n m : ℕ) (up heads : List ℕ) → IsNested n m up → AreHeads n m up heads → (a b : ℕ) → a ≤ b → b < m → slice_index heads a ≡ slice_index heads b → IsMeeting n m up (suc a) (suc b) (suc b)
-one_path n m up heads nested are a b le low same k = same_tests (climbs n up m k (suc b)) (climbs n up m k (suc a) && climbs n up m k (suc b)) (λ on. both_true _ _ (from_lower on) on) (λ on. (and_parts (climbs n up m k (suc a)) (climbs n up m k (suc b)) on).1)
+one_path n m up heads nested are a b le low same k = same_test (climbs n up m k (suc b)) (climbs n up m k (suc a) && climbs n up m k (suc b)) (λ on. and_from _ _ (from_lower on) on) (λ on. (and_parts (climbs n up m k (suc a)) (climbs n up m k (suc b)) on).1)
   where
     from_lower : climbs n up m k (suc b) ≡ true → climbs n up m k (suc a) ≡ true
     from_lower on = elim (cases_eq a b) [

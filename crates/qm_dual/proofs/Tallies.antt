@@ -8,15 +8,12 @@ use Rattle.qm_laws.proofs.Counts.{count_below_same, count_below_sum}
 use Rattle.def_matching.specs.Dual.{DualLists, IsNested, set_size}
 use Rattle.qm_dual.specs.Nest.{climbs, stand_of, tally, tally_with, AreTallies, AreSizes}
 use Rattle.qm_dual.proofs.Climbs.{set_later, entry_low, climb_on, climb_none, passed_later}
+use Rattle.qm_laws.proofs.Tests.{once_at_most}
 
 -- A count of tests is at most the number of things tested.
 pub tests_low : (p : ℕ → Bool) (n : ℕ) → count_below (λ v. cond (p v) 1 0) n ≤ n
 tests_low p zero = omega arith
-tests_low p (suc n) = omega (arith, one (p n), tests_low p n)
-  where
-    one : (b : Bool) → cond b 1 0 ≤ 1
-    one true = omega arith
-    one false = omega arith
+tests_low p (suc n) = omega (arith, once_at_most (p n), tests_low p n)
 
 -- A climb stands at no set below the ones that passed on, and at one of the sets.
 pub stands_later : (n m : ℕ) (up : List ℕ) → IsNested n m up → (t entry : ℕ) → entry ≤ m → ((stand_of n up t entry ≡ 0) ⊎ (t < stand_of n up t entry)) × (stand_of n up t entry ≤ m)

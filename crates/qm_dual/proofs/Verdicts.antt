@@ -1,7 +1,7 @@
 -- The verdict yes is that the dual says yes.
 use Rattle.std.proofs.Common.{◌≡◌, ℕ, ◌+◌, ◌<◌, ◌≢◌, ◌==◌, Bool, true, false, not, cond, List, length, ℤ, pos, ◌*ℤ◌, ◌≤ℤ◌, ◌^◌, ◌≤◌, Option, Some, None, IfNone, Result, Ok, Err, IfOk, refl, sym, ◌∙◌, ap, arith}
 use Rattle.std.proofs.lemmas.Int.{ints}
-use Rattle.std.proofs.lemmas.Bool.{eq-eqb}
+use Rattle.std.proofs.lemmas.Bool.{eq-eqb, not-false}
 use Rattle.std.proofs.lemmas.Bool.Decides.{nat_tests}
 use Rattle.std.specs.Prelude.{int_lt, slice_index}
 use Rattle.def_math.specs.Searches.{least}
@@ -18,11 +18,6 @@ pub not_refused : (o : Option ℕ) (at : ℕ → Verdict) (after : Verdict) (s :
 not_refused (Some k) at after s other is = absurd (other k is)
 not_refused None at after s other is = (refl, is)
 
--- A test that was not negated.
-pub not_false : (b : Bool) → not b ≡ false → b ≡ true
-not_false true off = refl
-not_false false off = absurd cc
-
 -- No fault of the shape: all that is asked of it.
 pub shaped : (n : ℕ) (d : DualLists) → shape_fault n d ≡ None → (length d.y ≡ n) × IsNested n (length d.z) d.up
 shaped n d none = by_tests (length d.y == n) (length d.up == n + length d.z) refl refl none
@@ -34,7 +29,7 @@ shaped n d none = by_tests (length d.y == n) (length d.up == n + length d.z) ref
       grind (arith, nat_tests),
       record {
         entries = grind (arith, nat_tests);
-        later = λ i l. not_false (is_up n (length d.z) i (slice_index d.up i)) (none_below (λ j. not (is_up n (length d.z) j (slice_index d.up j))) (n + length d.z) off i l);
+        later = λ i l. not-false (is_up n (length d.z) i (slice_index d.up i)) (none_below (λ j. not (is_up n (length d.z) j (slice_index d.up j))) (n + length d.z) off i l);
       },
     )
     by_tests true false ny nu off = absurd cc
@@ -53,7 +48,7 @@ yes_says g d s is = (
   record {
     numbers = shape.0;
     nested = shape.1;
-    odd = λ k l. not_false _ (none_below (λ j. not (is_odd_size (set_size g.n d j))) (length d.z) b.0 k l);
+    odd = λ k l. not-false _ (none_below (λ j. not (is_odd_size (set_size g.n d j))) (length d.z) b.0 k l);
     positive = λ k l. high (z_at d k) (none_below (λ j. int_lt (z_at d j) (pos 0)) (length d.z) c.0 k l);
     loaded = λ k l. not_above (load g.n d (edge_at g k)) (pos 2 *ℤ (edge_at g k).cost) (none_below (λ j. int_lt (pos 2 *ℤ (edge_at g j).cost) (load g.n d (edge_at g j))) (length g.edges) e.0 k l);
   },
@@ -119,7 +114,7 @@ yes_bounds g d v is value s here m perfect =
 -- A dual of the right lengths, with no entry out of range.
 pub nested_where_placed : (n m : ℕ) (up : List ℕ) (o : Option ℕ) → length up ≡ n + m → o ≡ least (λ i. not (is_up n m i (slice_index up i))) (n + m) → IfNone o (IsNested n m up)
 nested_where_placed n m up (Some k) long is = tt
-nested_where_placed n m up None long is = record { entries = long; later = λ i l. not_false (is_up n m i (slice_index up i)) (none_below (λ j. not (is_up n m j (slice_index up j))) (n + m) (sym is) i l) }
+nested_where_placed n m up None long is = record { entries = long; later = λ i l. not-false (is_up n m i (slice_index up i)) (none_below (λ j. not (is_up n m j (slice_index up j))) (n + m) (sym is) i l) }
 
 -- Few sets that are nested.
 pub nest_where_placed : (n : ℕ) (d : DualLists) (o : Option ℕ) → n ≤ 2 ^ 25 → length d.z ≤ 2 ^ 30 → IfNone o (IsNested n (length d.z) d.up) → IfNone o (IsNest n d)

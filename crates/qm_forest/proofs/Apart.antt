@@ -2,7 +2,7 @@
 use Rattle.std.proofs.Common.{◌≡◌, ◌≢◌, ℕ, zero, suc, ◌+◌, ◌*◌, ◌<◌, ◌≤◌, ◌^◌, Bool, true, false, not, cond, eqb, ◌||◌, ℤ, pos, ◌+ℤ◌, ◌⊎◌, refl, sym, ◌∙◌, ap, subst, inl, inr, arith}
 use Rattle.std.specs.Prelude.{unsigned_abs}
 use Rattle.std.proofs.lemmas.Int.{ints}
-use Rattle.std.proofs.lemmas.Bool.{cases_eq, cases_Bool, cond-true, cond-false, eq-eqb, ne_eqb, eqb-true}
+use Rattle.std.proofs.lemmas.Bool.{cases_eq, cases_Bool, cond-true, cond-false, eq-eqb, ne_eqb, eqb-true, or_cases, or_left}
 use Rattle.def_math.specs.Sums.{total_below}
 use Rattle.qm_laws.proofs.Sums.{total_below_same, total_below_sum, total_below_one, total_below_none}
 use Rattle.def_forest.specs.Forests.{splits, walk}
@@ -29,17 +29,6 @@ or_first true b e = absurd (clash e)
     clash x = cc
 or_first false b e = refl
 
-or_true : (a b : Bool) → (a || b) ≡ true → (a ≡ true) ⊎ (b ≡ true)
-or_true true b e = inl refl
-or_true false b e = inr e
-
-or_on : (a b : Bool) → a ≡ true → (a || b) ≡ true
-or_on true b e = refl
-or_on false b e = absurd (clash e)
-  where
-    clash : false ≡ true → ⊥
-    clash x = cc
-
 or_twice : (a : Bool) → (a || a) ≡ a
 or_twice true = refl
 or_twice false = refl
@@ -57,7 +46,7 @@ module _ (n : ℕ) (up rank out : ℕ → ℕ) (climb : IsClimb n up out) (rises
   -- One comes past a blossom only from below.
   passed_rank : (k b from : ℕ) → climbs up k b from ≡ true → from ≢ b → rank from < rank b
   passed_rank zero b from on ne = absurd (ne (eqb-true from b on))
-  passed_rank (suc k) b from on ne = by_or (or_true (eqb from b) (climbs up k b (up from)) on) (passed_rank k b (up from))
+  passed_rank (suc k) b from on ne = by_or (or_cases (eqb from b) (climbs up k b (up from)) on) (passed_rank k b (up from))
     where
       climbing : (up from ≡ b) ⊎ (up from ≢ b) → (climbs up k b (up from) ≡ true → up from ≢ b → rank (up from) < rank b) → climbs up k b (up from) ≡ true → rank from < rank b
       climbing (inl e) more on' = subst (λ x. rank from < rank x) e (rises from (λ s. ne (sym s ∙ e)))
@@ -137,7 +126,7 @@ module _ (n : ℕ) (up rank out : ℕ → ℕ) (climb : IsClimb n up out) (rises
     not_further = elim (cases_Bool (climbs up n x (up x))) [ inl on ↦ (let h : rank (up x) < rank x = passed_rank n x (up x) on inner in let r : rank x < rank (up x) = rises x inner in absurd (omega arith)) | inr off ↦ off ]
 
     here_true : climbs up n x x ≡ true
-    here_true = climbs_step u x x lu wx ∙ or_on (eqb x x) (climbs up n x (up x)) (eq-eqb x x refl)
+    here_true = climbs_step u x x lu wx ∙ or_left (eqb x x) (climbs up n x (up x)) (eq-eqb x x refl)
 
     term : (b : ℕ) → cond (splits (climbs up n b) x y) (weight b) (pos 0) ≡ cond (splits (climbs up n b) (up x) y) (weight b) (pos 0) +ℤ cond (eqb b x) (weight x) (pos 0)
     term b = by_place (cases_eq b x)

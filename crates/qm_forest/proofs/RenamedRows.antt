@@ -3,7 +3,7 @@ use Rattle.std.proofs.Common.{◌≡◌, ◌≢◌, ℕ, suc, ◌+◌, ◌<◌, 
 use Rattle.std.proofs.Math.ListN.{set}
 use Rattle.std.specs.Prelude.{unsigned_abs}
 use Rattle.std.proofs.lemmas.Int.{ints}
-use Rattle.std.proofs.lemmas.Bool.{cases_eq, cases_lt, cases_Bool, cond-true, cond-false, eq-eqb, ne_eqb, eqb-true}
+use Rattle.std.proofs.lemmas.Bool.{cases_eq, cases_lt, cases_Bool, cond-true, cond-false, eq-eqb, ne_eqb, eqb-true, or_right}
 use Rattle.def_forest.specs.Forests.{walk}
 use Rattle.def_forest.specs.Tables.{out_of}
 use Rattle.forest_laws.specs.Walks.{listed}
@@ -12,10 +12,6 @@ use Rattle.std.proofs.lemmas.List.{get_or_past}
 use Rattle.qm_forest.specs.Gathers.{lists_at, differ_by, in_row, HasListAt, HasListsOf, HasLeaders, HasRenamed, IsRow}
 use Rattle.qm_forest.specs.declared.tables.Handles.{Handles}
 use Rattle.qm_forest.specs.declared.tables.Lists.{Lists}
-
-or_last : (a b : Bool) → b ≡ true → (a || b) ≡ true
-or_last true b e = refl
-or_last false b e = e
 
 or_same : (a b : Bool) → b ≡ false → (a || b) ≡ a
 or_same true b e = refl
@@ -29,7 +25,7 @@ one_more xs d next from k new old low distinct was x x_is v = by_place (cases_eq
     by_place : (v ≡ walk next from k) ⊎ (v ≢ walk next from k) → get_or (set xs (walk next from k) x) v d ≡ cond (listed next from k v || eqb (walk next from k) v) (new v) (old v)
     by_place (inl e) =
         ap (λ j. get_or (set xs (walk next from k) x) j d) e ∙ (get_or-set_same xs (walk next from k) x d low ∙ (x_is ∙ (ap new (sym e)
-        ∙ sym (cond-true (listed next from k v || eqb (walk next from k) v) (new v) (old v) (or_last (listed next from k v) (eqb (walk next from k) v) (eq-eqb (walk next from k) v (sym e)))))))
+        ∙ sym (cond-true (listed next from k v || eqb (walk next from k) v) (new v) (old v) (or_right (listed next from k v) (eqb (walk next from k) v) (eq-eqb (walk next from k) v (sym e)))))))
     by_place (inr ne) =
         get_or-set_other xs (walk next from k) v x d ne ∙ (was v ∙ ap (λ (s : Bool). cond s (new v) (old v)) (sym (or_same (listed next from k v) (eqb (walk next from k) v) (ne_eqb (walk next from k) v (λ e. ne (sym e))))))
 
@@ -87,7 +83,7 @@ module _ (h0 : Handles) (lists : Lists) (after : List ℕ) (front many big k : �
         by_place : (at k ≡ out v) ⊎ (at k ≢ out v) → cond (eqb (at k) (out v)) handle (get_or h1.hand.items v 0) ≡ cond (in_row h0 after front k v || eqb (at k) (out v)) handle (get_or h0.hand.items v 0)
         by_place (inl e) =
             cond-true (eqb (at k) (out v)) handle (get_or h1.hand.items v 0) (eq-eqb (at k) (out v) e)
-            ∙ sym (cond-true (in_row h0 after front k v || eqb (at k) (out v)) handle (get_or h0.hand.items v 0) (or_last (in_row h0 after front k v) (eqb (at k) (out v)) (eq-eqb (at k) (out v) e)))
+            ∙ sym (cond-true (in_row h0 after front k v || eqb (at k) (out v)) handle (get_or h0.hand.items v 0) (or_right (in_row h0 after front k v) (eqb (at k) (out v)) (eq-eqb (at k) (out v) e)))
         by_place (inr ne) =
             cond-false (eqb (at k) (out v)) handle (get_or h1.hand.items v 0) (ne_eqb (at k) (out v) ne)
             ∙ (hand1 v lv ∙ ap (λ (s : Bool). cond s handle (get_or h0.hand.items v 0)) (sym (or_same (in_row h0 after front k v) (eqb (at k) (out v)) (ne_eqb (at k) (out v) ne))))
@@ -103,7 +99,7 @@ module _ (h0 : Handles) (lists : Lists) (after : List ℕ) (front many big k : �
             let lead : get_or h0.off.items (get_or h0.hand.items v 0) (pos 0) ≡ get_or h0.off.items (get_or lists.leader.items (at k) 0) (pos 0) = ap (λ j. get_or h0.off.items j (pos 0)) (has.led v lv ∙ ap (λ b. get_or lists.leader.items b 0) (sym e)) in
             let new : get_or h1.q.items v (pos 0) +ℤ more ≡ moved v = omega (arith, ints, was, lead, more_is) in
             cond-true (eqb (at k) (out v)) (get_or h1.q.items v (pos 0) +ℤ more) (get_or h1.q.items v (pos 0)) (eq-eqb (at k) (out v) e)
-            ∙ (new ∙ sym (cond-true (in_row h0 after front k v || eqb (at k) (out v)) (moved v) (get_or h0.q.items v (pos 0)) (or_last (in_row h0 after front k v) (eqb (at k) (out v)) (eq-eqb (at k) (out v) e))))
+            ∙ (new ∙ sym (cond-true (in_row h0 after front k v || eqb (at k) (out v)) (moved v) (get_or h0.q.items v (pos 0)) (or_right (in_row h0 after front k v) (eqb (at k) (out v)) (eq-eqb (at k) (out v) e))))
         by_place (inr ne) =
             cond-false (eqb (at k) (out v)) (get_or h1.q.items v (pos 0) +ℤ more) (get_or h1.q.items v (pos 0)) (ne_eqb (at k) (out v) ne)
             ∙ (q1 v lv ∙ ap (λ (s : Bool). cond s (moved v) (get_or h0.q.items v (pos 0))) (sym (or_same (in_row h0 after front k v) (eqb (at k) (out v)) (ne_eqb (at k) (out v) ne))))

@@ -13,6 +13,7 @@ use Rattle.qm_gadget.specs.Layout.{IsAtNodes, AreAtNodes}
 use Rattle.def_math.specs.Tables.{at_place, IsRaised, IsTally}
 use Rattle.qm_table.proofs.Tallies.{raised_as, raised_none, raised_twice, tally_low, tally_more}
 use Rattle.qm_gadget.specs.Over.{end_active}
+use Rattle.qm_laws.proofs.Tests.{once_at_most}
 
 -- Functions that agree everywhere are equal.
 pub same_everywhere : {X : Type 0} (f g : ℕ → X) → ((v : ℕ) → f v ≡ g v) → f ≡ g
@@ -53,23 +54,15 @@ two_active u right on old mid new some first second =
 
 -- 1 at most.
 pub end_low : (e : End) (on : Bool) (v : ℕ) → end_active e on v ≤ 1
-end_low e on v = by_test ((e.node == v) && is_active on e)
-  where
-    by_test : (b : Bool) → cond b 1 0 ≤ 1
-    by_test true = omega arith
-    by_test false = omega arith
+end_low e on v = once_at_most ((e.node == v) && is_active on e)
 
 -- A unit has at most two active ends at a node.
 pub active_at_low : (v : ℕ) (u : ArcUnit) (on : Bool) → active_at v u on ≤ 2
 active_at_low v u on = by_right u.right
   where
-    one : (b : Bool) → cond b 1 0 ≤ 1
-    one true = omega arith
-    one false = omega arith
-
     by_right : (o : Option End) → count (λ (e : End). end_active e on v) (u.left ∷ option_to_list o) ≤ 2
-    by_right None = omega (arith, one ((u.left.node == v) && is_active on u.left))
-    by_right (Some e) = omega (arith, one ((u.left.node == v) && is_active on u.left), one ((e.node == v) && is_active on e))
+    by_right None = omega (arith, once_at_most ((u.left.node == v) && is_active on u.left))
+    by_right (Some e) = omega (arith, once_at_most ((u.left.node == v) && is_active on u.left), once_at_most ((e.node == v) && is_active on e))
 
 -- There are at most two active ends for each unit.
 pub active_low : (v : ℕ) (us : List ArcUnit) (ons : List Bool) → active v us ons ≤ 2 * length us

@@ -6,3 +6,4 @@ pub mod Searches
 pub mod Sums
 pub mod Runs
 pub mod Tallies
+pub mod Tests

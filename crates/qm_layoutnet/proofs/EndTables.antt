@@ -1,7 +1,7 @@
 -- The arcs of a network while their ends are put in.
 use Rattle.std.proofs.Common.{◌≡◌, ◌≢◌, ◌⊎◌, ℕ, suc, ◌+◌, ◌<◌, Bool, true, false, cond, List, [], ◌∷◌, length, get_or, Some, None}
 use Rattle.std.proofs.Common.{refl, sym, ap, ◌∙◌, subst, inl, inr, arith}
-use Rattle.std.proofs.lemmas.Bool.{cases_eq, false≢true}
+use Rattle.std.proofs.lemmas.Bool.{cases_eq, false≢true, cases_Bool}
 use Rattle.std.proofs.lemmas.List.{get_or-set_same, get_or-set_other, length-set}
 use Rattle.std.specs.List.{All}
 use Rattle.def_flow.specs.Network.{arc_at}
@@ -69,10 +69,6 @@ same_number west east e = absurd (omega arith)
 same_number west north e = absurd (omega arith)
 same_number west west e = refl
 
-either_way : (b : Bool) → (b ≡ true) ⊎ (b ≡ false)
-either_way true = inl refl
-either_way false = inr refl
-
 module _ (l : Layout) (old : Lengths) (weight : Weight) (laid : IsLaid l) where
   -- The ends are those of the slots that are done, however that is said.
   pub same_ends : (done now : Slot → Type 0) (arcs : List Arc) → ((w : Slot) → IsSlot l w → now w → done w) → ((w : Slot) → IsSlot l w → done w → now w)
@@ -138,7 +134,7 @@ module _ (l : Layout) (old : Lengths) (weight : Weight) (laid : IsLaid l) where
 
       left : (w : Slot) → IsSlot l w → now w → (use_of l w).forward ≡ true → (arc_at after (use_of l w).arc).left ≡ end_at w.patch w.side
       left w slot n f = elim (cases_eq (use_of l w).arc u.arc) [
-        | inl e ↦ by_way e (either_way u.forward)
+        | inl e ↦ by_way e (cases_Bool u.forward)
         | inr ne ↦ by_done ne (back w slot n)
       ]
         where
@@ -157,7 +153,7 @@ module _ (l : Layout) (old : Lengths) (weight : Weight) (laid : IsLaid l) where
 
       right : (w : Slot) → IsSlot l w → now w → (use_of l w).forward ≡ false → (arc_at after (use_of l w).arc).right ≡ Some (end_at w.patch w.side)
       right w slot n f = elim (cases_eq (use_of l w).arc u.arc) [
-        | inl e ↦ by_way e (either_way u.forward)
+        | inl e ↦ by_way e (cases_Bool u.forward)
         | inr ne ↦ by_done ne (back w slot n)
       ]
         where

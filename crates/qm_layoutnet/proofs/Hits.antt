@@ -1,7 +1,7 @@
 -- How often a side uses an arc in one direction, and the sum along a side as a sum over all arcs.
 use Rattle.std.proofs.Common.{◌≡◌, ℕ, zero, suc, ◌<◌, Bool, true, false, cond, not, ◌&&◌, ◌==◌, ℤ, pos, ◌+ℤ◌}
 use Rattle.std.proofs.Common.{refl, sym, ap, ◌∙◌, inl, inr, arith}
-use Rattle.std.proofs.lemmas.Bool.{cases_eq, eq-eqb, ne_eqb, false≢true}
+use Rattle.std.proofs.lemmas.Bool.{cases_eq, eq-eqb, ne_eqb, false≢true, and_parts}
 use Rattle.std.proofs.lemmas.Int.{ints}
 use Rattle.def_math.specs.Sums.{total_below}
 use Rattle.qm_laws.proofs.Sums.{total_below_none, total_below_one, total_below_same, total_below_sum}
@@ -31,14 +31,9 @@ same_way true false e = absurd (false≢true e)
 same_way false true e = absurd (false≢true e)
 same_way false false e = refl
 
-both : (a b : Bool) → (a && b) ≡ true → (a ≡ true) × (b ≡ true)
-both true true e = (refl, refl)
-both true false e = absurd (false≢true e)
-both false b e = absurd (false≢true e)
-
 -- A hit is such a use.
 pub hit_is : (k : ℕ) (forward : Bool) (used : SideArc) → is_hit k forward used ≡ true → used ≡ use_of_arc k forward
-hit_is k forward used e = by_parts (both (used.arc == k) (cond forward used.forward (not used.forward)) e)
+hit_is k forward used e = by_parts (and_parts (used.arc == k) (cond forward used.forward (not used.forward)) e)
   where
     by_parts : (((used.arc == k) ≡ true) × (cond forward used.forward (not used.forward) ≡ true)) → used ≡ use_of_arc k forward
     by_parts p = elim (cases_eq used.arc k) [

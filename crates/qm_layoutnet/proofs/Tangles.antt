@@ -8,6 +8,7 @@ use Rattle.qm_laws.proofs.Counts.{count_below_le, count_below_none, count_below_
 use Rattle.def_flow.specs.Network.{degree, ends, tangle_number, Network}
 use Rattle.def_flow.specs.declared.net.Arc.{Arc}
 use Rattle.def_flow.specs.declared.net.End.{End}
+use Rattle.qm_laws.proofs.Tests.{once_at_most}
 
 -- A term is at most the sum.
 pub term_low : (f : ℕ → ℕ) (n k : ℕ) → k < n → f k ≤ count_below f n
@@ -55,13 +56,9 @@ degrees_few (a ∷ arcs) n = omega (
 arc_degree : (a : Arc) (v : ℕ) → count (λ e. cond (e.node == v) 1 0) (ends a) ≤ 2
 arc_degree a v = by_right a.right
   where
-    small : (b : Bool) → cond b 1 0 ≤ 1
-    small true = omega arith
-    small false = omega arith
-
     by_right : (right : Option End) → cond (a.left.node == v) 1 0 + count (λ (e : End). cond (e.node == v) 1 0) (option_to_list right) ≤ 2
-    by_right None = omega (arith, small (a.left.node == v))
-    by_right (Some r) = omega (arith, small (a.left.node == v), small (r.node == v))
+    by_right None = omega (arith, once_at_most (a.left.node == v))
+    by_right (Some r) = omega (arith, once_at_most (a.left.node == v), once_at_most (r.node == v))
 
 degree_few : (arcs : List Arc) (v : ℕ) → degree arcs v ≤ 2 * length arcs
 degree_few [] v = omega arith

@@ -16,6 +16,7 @@ use Rattle.qm_table.proofs.Ranges.{count_take}
 use Rattle.qm_table.proofs.Tallies.{raised_as, raised_twice, tally_low, tally_more}
 use Rattle.qm_net.specs.Degrees.{ends_at, AreEndsBelow}
 use Rattle.qm_net.proofs.Within.{ends_bounded}
+use Rattle.qm_laws.proofs.Tests.{once_at_most}
 
 -- Where one end after the other is counted, all ends of an arc are.
 pub one_end : (a : Arc) (old new : List ℕ) → a.right ≡ None → IsRaised (at_place a.left.node 1) old new → IsRaised (ends_at a) old new
@@ -29,13 +30,9 @@ two_ends a right old mid new some first second =
 pub ends_low : (v : ℕ) (a : Arc) → ends_at a v ≤ 2
 ends_low v a = by_right a.right
   where
-    one : (b : Bool) → cond b 1 0 ≤ 1
-    one true = omega arith
-    one false = omega arith
-
     by_right : (o : Option End) → count (λ (e : End). cond (e.node == v) 1 0) (a.left ∷ option_to_list o) ≤ 2
-    by_right None = omega (arith, one (a.left.node == v))
-    by_right (Some e) = omega (arith, one (a.left.node == v), one (e.node == v))
+    by_right None = omega (arith, once_at_most (a.left.node == v))
+    by_right (Some e) = omega (arith, once_at_most (a.left.node == v), once_at_most (e.node == v))
 
 -- The ends of a network within bounds are at nodes.
 pub network_ends : (net : Network) → IsWithinBounds net → AreEndsBelow net.nodes net.arcs

@@ -1,6 +1,7 @@
 mod Floods
 mod Numberings
 mod Edges
+pub mod KindReads
 mod Seeds
 mod Walking
 mod Longest

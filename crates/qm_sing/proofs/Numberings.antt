@@ -12,6 +12,7 @@ use Rattle.mesh_laws.proofs.Flood.{closed, own_mark, same_component, least_most,
 use Rattle.qm_sing.proofs.Edges.{filter_all}
 use Rattle.qm_sing.specs.Floods.{IsNumbered, IsClosed, IsFlooded, IsNumbering}
 use Rattle.qm_sing.specs.declared.flooding.TheConstants.{NONE}
+use Rattle.qm_laws.proofs.Tests.{once_at_most}
 
 -- How many of the numbers below n that pass are less than f.
 abbrev before : (p : ℕ → Bool) (f n : ℕ) → ℕ
@@ -66,11 +67,7 @@ module _ (faces : Faces) where
 
   pub place_low : (f : ℕ) → f ≤ length faces → place_among (least_faces faces) f ≤ f
   place_low zero l = omega (arith, place_none)
-  place_low (suc f) l = let e : suc f ≡ f + 1 = omega arith in rw e (omega (arith, place_next f (omega arith), place_low f (omega arith), at (eqb (least_face faces f) f)))
-    where
-      at : (b : Bool) → cond b 1 0 ≤ 1
-      at true = omega arith
-      at false = omega arith
+  place_low (suc f) l = let e : suc f ≡ f + 1 = omega arith in rw e (omega (arith, place_next f (omega arith), place_low f (omega arith), once_at_most (eqb (least_face faces f) f)))
 
   pub place_all : place_among (least_faces faces) (length faces) ≡ length (least_faces faces)
   place_all = all (length faces) (length faces) (omega arith)

@@ -2,6 +2,7 @@
 use Rattle.std.proofs.Common.{◌≡◌, ◌⊎◌, ℕ, zero, suc, ◌+◌, ◌-◌, ◌/◌, ◌<◌, ◌≤◌, Bool, true, false, cond, not, eqb, ltb, ◌&&◌, ◌||◌, List, ◌∷◌, length, get_or, set, replicate, map, Some, is_some, sym, subst, ap, ◌∙◌, refl, inl, inr, arith}
 use Rattle.std.specs.List.{filter, list_any, list_all, range_with_len}
 use Rattle.std.proofs.lemmas.Bool.{cases_Bool, cases_eq, cases_lt, cases_order, eq-eqb, ne_eqb, eqb-true, lt-ltb, le-ltb, ltb-true, ltb-false, or_left, or_right, or_cases, and_parts, and_from, false≢true, false_from_ne_true}
+use Rattle.qm_laws.proofs.Tests.{same_test}
 use Rattle.std.proofs.lemmas.List.{get_or-set_same, get_or-set_other, length-set, length-replicate, get_or-replicate}
 use Rattle.std.proofs.lemmas.List.FromFn.{get_or-map-range_with_len}
 use Rattle.def_mesh.specs.Faces.{Faces}
@@ -16,10 +17,11 @@ use Rattle.def_mesh.specs.HalfEdges.{AreTurned, Turns, IsQuadManifold, half_edge
 use Rattle.qm_laws.proofs.Filters.{any_in_range, range_any, last_or}
 use Rattle.mesh_laws.proofs.Darts.{next_face}
 use Rattle.mesh_laws.proofs.Fans.{is_fan}
-use Rattle.mesh_laws.proofs.Flood.{same_test, closed, own_mark, same_component, least_low, least_marked, least_same, least_again}
+use Rattle.mesh_laws.proofs.Flood.{closed, own_mark, same_component, least_low, least_marked, least_same, least_again}
 use Rattle.mesh_laws.proofs.HalfEdges.{manifold_law}
 use Rattle.mesh_laws.proofs.Vertices.{all_below}
 use Rattle.qm_sing.proofs.Floods.{shared_by}
+use Rattle.qm_sing.proofs.KindReads.{regular_is, singular_is, reflex_is}
 use Rattle.qm_sing.proofs.Numberings.{place_next, place_all}
 use Rattle.qm_sing.specs.Rings.{number_of, is_seed, is_regular_kind, is_singular_kind, is_reflex_kind, AreRings, AreSeedMarks}
 use Rattle.qm_sing.specs.declared.flooding.TheConstants.{NONE}
@@ -338,49 +340,9 @@ marks_on faces n d marks low s k = record {
 pub marks_off : (faces : Faces) (n d : ℕ) (marks : List Bool) → is_seed faces (from_of faces d) ≡ false → AreSeedMarks faces n d marks → AreSeedMarks faces n (d + 1) marks
 marks_off faces n d marks s k = record { long = k.long; on = k.on; all = λ e l t. elim (last_or d e l) [ inl h ↦ k.all e h t | inr q ↦ absurd (false≢true (sym s ∙ (ap (λ x. is_seed faces (from_of faces x)) (sym q) ∙ t))) ] }
 
--- What kinds say.
-pub regular_is : (faces : Faces) (v : ℕ) → is_regular_kind (kind_of faces v) ≡ is_regular faces v
-regular_is faces v = at (is_regular faces v) (is_inner faces v) (is_corner faces v)
-  where
-    at : (a b e : Bool) → is_regular_kind (cond a Regular (cond b Singular (cond e Corner Reflex))) ≡ a
-    at true b e = refl
-    at false true e = refl
-    at false false true = refl
-    at false false false = refl
-
-pub singular_is : (faces : Faces) (v : ℕ) → is_singular_kind (kind_of faces v) ≡ is_singular faces v
-singular_is faces v = at (is_regular faces v) (is_inner faces v) (is_corner faces v)
-  where
-    at : (a b e : Bool) → is_singular_kind (cond a Regular (cond b Singular (cond e Corner Reflex))) ≡ (b && not a)
-    at true true e = refl
-    at true false e = refl
-    at false true e = refl
-    at false false true = refl
-    at false false false = refl
-
-pub reflex_is : (faces : Faces) (v : ℕ) → 0 < faces_at faces v → is_reflex_kind (kind_of faces v) ≡ is_reflex faces v
-reflex_is faces v used = at (is_inner faces v) (faces_at faces v) used
-  where
-    by_test : (b : Bool) → is_reflex_kind (cond b Regular Singular) ≡ false
-    by_test true = refl
-    by_test false = refl
-
-    at : (inner : Bool) (n : ℕ) → 0 < n → is_reflex_kind (cond (eqb n (cond inner 4 2)) Regular (cond inner Singular (cond (not inner && eqb n 1) Corner Reflex))) ≡ (not inner && ltb 2 n)
-    at true n l = by_test (eqb n 4)
-    at false n l = elim (cases_eq n 2) [
-      | inl e ↦ rw (eq-eqb n 2 e, le-ltb 2 n (omega arith)) refl
-      | inr two ↦ elim (cases_eq n 1) [
-        | inl e ↦ rw (ne_eqb n 2 two, eq-eqb n 1 e, le-ltb 2 n (omega arith)) refl
-        | inr one ↦ rw (ne_eqb n 2 two, ne_eqb n 1 one, lt-ltb 2 n (omega arith)) refl
-      ]
-    ]
-
 -- What the tables have.
 pub number_read : (faces : Faces) (component : List ℕ) (d : ℕ) → component ≡ component_numbers faces → get_or component (d / 4) 0 ≡ number_of faces d
 number_read faces component d e = ap (λ (xs : List ℕ). get_or xs (d / 4) 0) e
-
-pub kind_read : (faces : Faces) (kinds : List Kind) (v : ℕ) (k : Kind) → v < vertex_count faces → kinds ≡ map (kind_of faces) (all_vertices faces) → get_or kinds v k ≡ kind_of faces v
-kind_read faces kinds v k l e = ap (λ (xs : List Kind). get_or xs v k) e ∙ get_or-map-range_with_len (kind_of faces) 0 (vertex_count faces) v v k l (omega arith)
 
 -- One dart more, as the code has it.
 pub gathered : (faces : Faces) → IsManifold faces → (d c v : ℕ) (kind : Kind) (regular regular_now : List Bool) (least least_now : List ℕ) → d < darts faces → c ≡ number_of faces d → v ≡ from_of faces d → kind ≡ kind_of faces v → regular_now ≡ cond (is_regular_kind kind) regular (set regular c false) → least_now ≡ cond (ltb v (get_or least c 0)) (set least c v) least → AreRings faces d regular least → AreRings faces (d + 1) regular_now least_now

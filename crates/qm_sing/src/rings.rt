@@ -64,6 +64,7 @@ fn take_corner(kind: Kind, c: u32, v: u32, regular: &mut [bool], least: &mut [u3
     }
 }
 
+/// Whether a vertex of this kind is regular.
 fn is_regular(kind: Kind) -> bool
     ensures { result ≡ is_regular_kind kind }
 {

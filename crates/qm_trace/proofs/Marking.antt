@@ -3,6 +3,7 @@ use Rattle.std.proofs.Common.{◌≡◌, ℕ, ◌+◌, ◌<◌, Bool, true, fals
 use Rattle.std.proofs.Math.Bool.{or-false}
 use Rattle.std.specs.List.{list_any}
 use Rattle.std.proofs.lemmas.Bool.{cases_eq, eq-eqb, ne_eqb, eqb-true, false≢true}
+use Rattle.qm_laws.proofs.Tests.{same_test}
 use Rattle.std.proofs.lemmas.List.{take_more, get_or-set_same, get_or-set_other}
 use Rattle.def_mesh.specs.Faces.{Faces}
 use Rattle.def_mesh.specs.Darts.{darts, twin_of}
@@ -14,7 +15,6 @@ use Rattle.def_cut.specs.Events.{mark_twin}
 use Rattle.mesh_laws.proofs.HalfEdges.{manifold_law}
 use Rattle.motion_laws.proofs.Among.{among_here}
 use Rattle.motion_laws.proofs.Marks.{twin_marks, found_more}
-use Rattle.motion_laws.proofs.Steps.{same_test}
 
 -- One more at the end of a list.
 any_snoc : (p : ℕ → Bool) (xs : List ℕ) (x : ℕ) → list_any p (xs ++ x ∷ []) ≡ (list_any p xs || p x)

@@ -2,6 +2,7 @@
 use Rattle.std.proofs.Common.{◌≡◌, ℕ, zero, suc, ◌+◌, ◌-◌, ◌<◌, Bool, true, false, cond, List, [], ◌∷◌, ◌++◌, length, Option, Some, None, sym, subst, ap, ◌∙◌, refl, inl, inr, arith}
 use Rattle.std.proofs.lemmas.Option.{none-some, same_Some}
 use Rattle.std.proofs.lemmas.Bool.{cases_lt, false≢true, false_from_ne_true}
+use Rattle.qm_laws.proofs.Tests.{same_test}
 use Rattle.def_mesh.specs.Faces.{Faces}
 use Rattle.def_mesh.specs.Darts.{darts}
 use Rattle.def_mesh.specs.Manifold.{IsManifold}
@@ -19,7 +20,7 @@ use Rattle.mesh_laws.proofs.Vertices.{all_below}
 use Rattle.motion_laws.proofs.Among.{AreApart, among_here, among_later, among_cases}
 use Rattle.motion_laws.proofs.Order.{IsWithin, within, rode, rode_low, at_last, runs_ridden}
 use Rattle.motion_laws.proofs.Shown.{AreShown, IsNoted, IsShown, long, noted_rides, shown_by}
-use Rattle.motion_laws.proofs.Steps.{is_next, next_is, same_test, stands}
+use Rattle.motion_laws.proofs.Steps.{is_next, next_is, stands}
 use Rattle.motion_laws.proofs.Terrains.{IsReached}
 use Rattle.motion_laws.proofs.Traced.{after_reached}
 use Rattle.site_laws.proofs.Sites.{terrain, started}

@@ -2,6 +2,7 @@
 use Rattle.std.proofs.Common.{◌≡◌, ◌≢◌, ℕ, ◌<◌, Bool, true, false, not, cond, eqb, ◌||◌, List, [], ◌∷◌, ◌++◌, length, set, Option, Some, None, sym, subst, ap, ◌∙◌, refl, inl, inr, arith}
 use Rattle.std.specs.List.{list_any}
 use Rattle.std.proofs.lemmas.Bool.{cases_eq, eq-eqb, ne_eqb, eqb-true, false≢true, or_left}
+use Rattle.qm_laws.proofs.Tests.{same_test}
 use Rattle.std.proofs.lemmas.List.{ext_get_or, get_or-set_same, get_or-set_other}
 use Rattle.def_mesh.specs.Faces.{Faces}
 use Rattle.def_mesh.specs.Darts.{darts, all_darts, from_of, next_of, prev_of, to_of}
@@ -20,7 +21,7 @@ use Rattle.motion_laws.proofs.Among.{any_at, any_where, among_range, in_filter, 
 use Rattle.motion_laws.proofs.Marks.{none_on, noted_more}
 use Rattle.motion_laws.proofs.Order.{all_ridden, parts, stood_then, v_low}
 use Rattle.motion_laws.proofs.Shown.{AreShown, IsNoted, long, noted_rides, shown_by, told_shown, told_long}
-use Rattle.motion_laws.proofs.Steps.{IsNext, is_next, same_test, stands}
+use Rattle.motion_laws.proofs.Steps.{IsNext, is_next, stands}
 use Rattle.site_laws.proofs.Sites.{terrain, started}
 use Rattle.qm_trace.specs.declared.ground.Site.{Site}
 use Rattle.qm_trace.specs.declared.notes.Notes.{Notes}

@@ -2,6 +2,7 @@
 use Rattle.std.proofs.Common.{◌≡◌, ◌⊎◌, ℕ, zero, suc, ◌+◌, ◌^◌, ◌<◌, ◌≤◌, Bool, true, false, cond, not, eqb, ◌||◌, List, [], ◌∷◌, length, map, Option, Some, None, sym, subst, ap, ◌∙◌, refl, inl, inr, arith}
 use Rattle.std.specs.List.{list_any}
 use Rattle.std.proofs.lemmas.Bool.{cases_lt, eqb-true, false≢true, or_left, or_right, or_cases, and_parts}
+use Rattle.qm_laws.proofs.Tests.{same_test}
 use Rattle.std.proofs.lemmas.List.{get_or-map, get_or_past, length-map}
 use Rattle.def_mesh.specs.Faces.{Faces}
 use Rattle.def_mesh.specs.Darts.{darts, to_of, twin_of}
@@ -16,7 +17,7 @@ use Rattle.def_cut.specs.Events.{rider_at}
 use Rattle.motion_laws.proofs.Among.{among_here, among_later, among_cases, any_at, any_where}
 use Rattle.motion_laws.proofs.Next.{with_cases}
 use Rattle.motion_laws.proofs.Order.{runs_ridden}
-use Rattle.motion_laws.proofs.Steps.{same_test, stands}
+use Rattle.motion_laws.proofs.Steps.{stands}
 use Rattle.motion_laws.proofs.Terrains.{IsReached}
 use Rattle.motion_laws.proofs.Traced.{after_reached}
 use Rattle.site_laws.proofs.Sites.{terrain, started}

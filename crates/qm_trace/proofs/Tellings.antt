@@ -2,6 +2,7 @@
 use Rattle.std.proofs.Common.{◌≡◌, ◌≢◌, ℕ, ◌+◌, ◌<◌, Bool, true, false, cond, eqb, ◌||◌, List, length, get_or, set, take, Option, Some, None, is_some, sym, subst, ap, ◌∙◌, refl, inl, inr, arith}
 use Rattle.std.proofs.Math.Bool.{or-false}
 use Rattle.std.proofs.lemmas.Bool.{cases_eq, eq-eqb, ne_eqb, eqb-true, false≢true, or_right}
+use Rattle.qm_laws.proofs.Tests.{same_test}
 use Rattle.std.proofs.lemmas.List.{get_or-set_same, get_or-set_other}
 use Rattle.def_mesh.specs.Faces.{Faces}
 use Rattle.def_mesh.specs.Darts.{darts, all_darts, from_of, next_of, prev_of, to_of}
@@ -16,7 +17,6 @@ use Rattle.mesh_laws.proofs.Darts.{next_of-prev_of, prev_of-next_of}
 use Rattle.mesh_laws.proofs.Fans.{fan_of_is}
 use Rattle.mesh_laws.proofs.Darts.{next_of_low}
 use Rattle.motion_laws.proofs.Among.{among_range, apart_filter, from_filter, in_filter, range_apart}
-use Rattle.motion_laws.proofs.Steps.{same_test}
 use Rattle.qm_trace.specs.declared.ground.Site.{Site}
 use Rattle.qm_trace.specs.declared.notes.Notes.{Notes}
 use Rattle.qm_trace.specs.declared.telling.Riders.{Riders}

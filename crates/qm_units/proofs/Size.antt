@@ -16,6 +16,7 @@ use Rattle.qm_units.specs.Told.{width_by}
 use Rattle.qm_units.proofs.Box.{own_box, arc_active, weighted_ends, box_active, balanced_list}
 use Rattle.qm_units.proofs.Law.{ArcsAt, arcs_at}
 use Rattle.qm_units.proofs.Facts.{links_width}
+use Rattle.qm_laws.proofs.Tests.{once_at_most}
 
 -- The ends at a node on one side.
 abbrev ends_on : ℕ → Bool → List Arc → ℕ
@@ -154,11 +155,7 @@ rim_active_low (u ∷ us) [] = omega arith
 rim_active_low (u ∷ us) (on ∷ ons) = omega (arith, by_right u.right, rim_active_low us ons)
   where
     by_right : (right : Option End) → alone_active u.left right on ≤ lone_by right
-    by_right None = by_active (is_active on u.left)
-      where
-        by_active : (a : Bool) → cond a 1 0 ≤ 1
-        by_active true = omega arith
-        by_active false = omega arith
+    by_right None = once_at_most (is_active on u.left)
     by_right (Some right) = omega arith
 
 -- The edges at the rim are at most four for each vertex there.
@@ -270,16 +267,12 @@ size_law net step xs bounds l a = (omega (arith, copies, vertices, tangle), omeg
     pairs_low : cond lone 1 0 + 2 * (length (rim (count_below room net.nodes) us) - 1) ≤ m + m
     pairs_low = by_rim (cases_eq m 0)
       where
-        lone_low : (b : Bool) → cond b 1 0 ≤ 1
-        lone_low true = omega arith
-        lone_low false = omega arith
-
         by_rim : (m ≡ 0) ⊎ (m ≢ 0) → cond lone 1 0 + 2 * (length (rim (count_below room net.nodes) us) - 1) ≤ m + m
         by_rim (inl none) =
             let even : ◌≡◌ {A = ℕ} (rim_active us (states_at net step xs) % 2) 0 = omega (arith, none, rim_active_low us (states_at net step xs)) in
             let off : ◌≡◌ {A = ℕ} (cond lone 1 0) 0 = rw (ne_eqb (rim_active us (states_at net step xs) % 2) 1 (λ e. omega (arith, even, e))) refl in
             omega (arith, off, none, rim_count (count_below room net.nodes) us)
-        by_rim (inr some) = omega (arith, some, lone_low lone, rim_count (count_below room net.nodes) us)
+        by_rim (inr some) = omega (arith, some, once_at_most lone, rim_count (count_below room net.nodes) us)
 
     vertices : (matching_graph net step xs).n ≤ count_below room net.nodes + 16 * all_ends net.arcs
     vertices = omega (arith, pairs_low, sizes_split us, units_few size_and_rim (λ v. 4) net step net.arcs xs size_low, along_const 4 net.arcs)

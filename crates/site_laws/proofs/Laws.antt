@@ -23,10 +23,7 @@ use Rattle.motion_laws.proofs.Order.{IsWithin, within, bounded, possible, one_en
 use Rattle.motion_laws.proofs.Terrains.{IsReached}
 use Rattle.motion_laws.proofs.Traced.{after_reached, nobody_runs, end_reached, full_cut}
 use Rattle.site_laws.proofs.Sites.{terrain, started}
-
-off_of : (b : Bool) → not b ≡ true → b ≡ false
-off_of true e = absurd (Rattle.std.proofs.lemmas.Bool.false≢true e)
-off_of false e = refl
+use Rattle.std.proofs.lemmas.Bool.{not-true}
 
 pub state_law : StateLaw
 state_law faces m n = record {
@@ -40,7 +37,7 @@ state_law faces m n = record {
 
     by_known : (v : ℕ) → Rattle.motion_laws.proofs.Terrains.IsKnown (terrain_of faces) (after (terrain_of faces) (start_darts faces) n) v → IsKnown faces (after (terrain_of faces) (start_darts faces) n) v
     by_known v (inl y) = inl y
-    by_known v (inr b) = inr (off_of _ b)
+    by_known v (inr b) = inr (not-true _ b)
 
 -- A cut that agrees with a full cut on all darts is one.
 module _ (mesh : HalfEdges) (laws : IsQuadManifold mesh) (cut other : ℕ → Bool) (same : (d : ℕ) → d < mesh.count → other d ≡ cut d) where

@@ -2,7 +2,7 @@
 use Rattle.std.proofs.Common.{◌≡◌, ◌≢◌, ◌⊎◌, ℕ, zero, suc, ◌+◌, ◌<◌, ◌≤◌, Bool, true, false, not, cond, eqb, ltb, ◌&&◌, ◌||◌, List, length, Option, Some, None, is_some, sym, subst, ap, ◌∙◌, refl, inl, inr, arith}
 use Rattle.std.specs.List.{list_any}
 use Rattle.std.proofs.lemmas.Option.{none-some}
-use Rattle.std.proofs.lemmas.Bool.{cases_Bool, eqb-true, lt-ltb, or_left, or_right, or_cases, or_parts, and_from, and_parts, not_from_false, false≢true, false_from_ne_true}
+use Rattle.std.proofs.lemmas.Bool.{cases_Bool, eqb-true, lt-ltb, or_left, or_right, or_cases, or_parts, and_from, and_parts, not_from_false, false≢true, false_from_ne_true, not-false, not-true}
 use Rattle.def_mesh.specs.Faces.{Faces}
 use Rattle.def_mesh.specs.Darts.{darts, all_darts, from_of, to_of, next_of, prev_of, twin_of}
 use Rattle.def_mesh.specs.Manifold.{IsManifold}
@@ -19,15 +19,6 @@ use Rattle.motion_laws.proofs.Among.{not_all, from_filter, range_among, range_ap
 use Rattle.motion_laws.proofs.Terrains.{IsTerrain, IsStarted}
 use Rattle.site_laws.proofs.Fans.{three_faces}
 use Rattle.site_laws.proofs.Sources.{start_in, start_of, found}
-
--- What a test denied says.
-on_of : (b : Bool) → not b ≡ false → b ≡ true
-on_of true e = refl
-on_of false e = absurd (false≢true (sym e))
-
-off_of : (b : Bool) → not b ≡ true → b ≡ false
-off_of true e = absurd (false≢true e)
-off_of false e = refl
 
 module _ (faces : Faces) (m : IsManifold faces) where
   abbrev laws : IsQuadManifold (half_edges faces)
@@ -46,7 +37,7 @@ module _ (faces : Faces) (m : IsManifold faces) where
       none_of (Some t) e = absurd (false≢true (sym e))
 
       by_dart : (d : ℕ) × (is_among d (all_darts faces) ≡ true) × ((not (is_end faces v d) || is_some (twin_of faces d)) ≡ false) → (e : ℕ) × (e < darts faces) × (from_of faces e ≡ v) × ((twin_of faces e ≡ None) ⊎ (twin_of faces (prev_of e) ≡ None))
-      by_dart (d, k, t) = by_end (or_cases _ _ (on_of (is_end faces v d) p.0))
+      by_dart (d, k, t) = by_end (or_cases _ _ (not-false (is_end faces v d) p.0))
         where
           p : (not (is_end faces v d) ≡ false) × (is_some (twin_of faces d) ≡ false)
           p = or_parts _ _ t
@@ -65,8 +56,8 @@ module _ (faces : Faces) (m : IsManifold faces) where
   terrain = record {
     half = laws;
     edged = λ d l w. (at_boundary d (from_of faces d) l w (inl refl), at_boundary d (to_of faces d) l w (inr refl));
-    crossed = λ d l inner regular. regular_cross faces laws d l (on_of _ inner) (on_of _ (sing d (on_of (is_inner faces (from_of faces d)) inner) regular));
-    rimmed = λ d l out. rim (from_of faces d) (off_of _ out);
+    crossed = λ d l inner regular. regular_cross faces laws d l (not-false _ inner) (not-false _ (sing d (not-false (is_inner faces (from_of faces d)) inner) regular));
+    rimmed = λ d l out. rim (from_of faces d) (not-true _ out);
   }
     where
       sing : (d : ℕ) → is_inner faces (from_of faces d) ≡ true → is_singular faces (from_of faces d) ≡ false → not (is_regular faces (from_of faces d)) ≡ false
@@ -102,5 +93,5 @@ module _ (faces : Faces) (m : IsManifold faces) where
     low = λ d k. (start_of faces d k).0;
     sources = record { all = λ d e t ld le k at w. all_start d e t le k at w; found = found faces m };
     singular = λ d l s. start_in faces d l (or_left _ _ s);
-    sided = λ d l out. sides d l (off_of _ out);
+    sided = λ d l out. sides d l (not-true _ out);
   }

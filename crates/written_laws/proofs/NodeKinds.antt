@@ -2,6 +2,7 @@
 use Rattle.std.proofs.Common.{◌≡◌, ◌⊎◌, ℕ, zero, suc, ◌+◌, ◌-◌, ◌<◌, ◌≤◌, Bool, true, false, cond, refl, sym, ◌∙◌, ap, subst, inl, inr, arith}
 use Rattle.std.specs.Prelude.{◌==◌}
 use Rattle.std.proofs.lemmas.Bool.{cases_eq, eqb-true, eq-eqb}
+use Rattle.qm_laws.proofs.Tests.{same_test}
 use Rattle.def_mesh.specs.Faces.{Faces}
 use Rattle.def_mesh.specs.Darts.{darts, from_of}
 use Rattle.def_mesh.specs.Vertices.{faces_at}
@@ -21,12 +22,6 @@ use Rattle.written_laws.proofs.Borders.{IsAt, sort_dart, inner_from}
 use Rattle.written_laws.proofs.Spots.{place_at, spot_dart, at_once, spot_is, spot_at, sort_spot, spot_once}
 use Rattle.written_laws.proofs.Models.{IsModel}
 use Rattle.written_laws.proofs.Inners.{AreShared, IsVertex, inner_if, inner_only}
-
--- Tests that are true together are equal.
-same_test : (b c : Bool) → (b ≡ true → c ≡ true) → (c ≡ true → b ≡ true) → b ≡ c
-same_test true c to back = sym (to refl)
-same_test false true to back = back refl
-same_test false false to back = refl
 
 module _ (l : Layout) (x : Lengths) (laid : IsLaid l) (len : AreLengths l x) where
   -- A point of an arc that is a node is one of its ends.

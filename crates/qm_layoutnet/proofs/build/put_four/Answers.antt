@@ -4,7 +4,7 @@ use Rattle.def_layout.specs.declared.tmesh.SideArc.{SideArc}
 use Rattle.def_layout.specs.Layouts.{south, east, north, west}
 use Rattle.def_layout.specs.Plans.{plan, side_at}
 use Rattle.qm_layoutnet.proofs.EndTables.{low_among}
-use Rattle.qm_layoutnet.proofs.SideReads.{read_side}
+use Rattle.layout_laws.proofs.SideReads.{read_side}
 use Rattle.qm_layoutnet.proofs.build.put_four.Goals as goal
 
 pub put_ends-requires : goal.put_ends-requires

@@ -6,7 +6,7 @@ use Rattle.def_mesh.specs.Vertices.{all_vertices, vertex_count}
 use Rattle.def_mesh.specs.declared.Kind.{Kind}
 use Rattle.def_mesh.specs.declared.Kind.TheVariants.{Regular}
 use Rattle.def_report.specs.GraphText.{kind_line, vertex_line}
-use Rattle.qm_report.proofs.TableReads.{read_kind}
+use Rattle.qm_sing.proofs.KindReads.{kind_read}
 use Rattle.qm_report.proofs.Texts.{piece_behind}
 use Rattle.qm_report.proofs.graph.push_vertices.Goals as goal
 
@@ -26,7 +26,7 @@ loop-v-preserved c =
     let v = c.loop-v.v in
     let t = c.loop-v.text.items in
     let low : v < vertex_count mesh = omega (arith, c.loop-v-test.true, c.vertices-v-end.ensures.value) in
-    let kind = read_kind mesh c.args.kinds.now v Regular low c.requires in
+    let kind = kind_read mesh c.args.kinds.now v Regular low c.requires in
     let line : c.push_vertex.new.text.items ≡ t ++ vertex_line mesh v =
     c.in_ok-push_vertex.ensures
     ∙ (ap (λ (k : Kind). t ++ kind_line k v c.faces_at.result) kind

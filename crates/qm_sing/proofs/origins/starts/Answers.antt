@@ -4,7 +4,8 @@ use Rattle.std.proofs.lemmas.List.FromFn.{length-range_with_len}
 use Rattle.def_mesh.specs.Kinds.{kind_of}
 use Rattle.def_mesh.specs.Vertices.{all_vertices, vertex_count}
 use Rattle.qm_sing.proofs.Edges.{filter_on, filter_off}
-use Rattle.qm_sing.proofs.Seeds.{mark_test, kind_read, start_told}
+use Rattle.qm_sing.proofs.KindReads.{kind_read}
+use Rattle.qm_sing.proofs.Seeds.{mark_test, start_told}
 use Rattle.def_mesh.specs.Darts.{darts}
 use Rattle.def_mesh.specs.Components.{is_start, seeds}
 use Rattle.def_mesh.specs.declared.Kind.TheVariants.{Regular}

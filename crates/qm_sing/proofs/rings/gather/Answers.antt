@@ -7,7 +7,8 @@ use Rattle.def_mesh.specs.declared.Kind.TheVariants.{Regular}
 use Rattle.def_mesh.specs.Kinds.{kind_of}
 use Rattle.def_mesh.specs.Vertices.{all_vertices, vertex_count}
 use Rattle.def_mesh.specs.Components.{least_face, least_faces, place_among}
-use Rattle.qm_sing.proofs.Seeds.{number_low, gathered, number_read, kind_read}
+use Rattle.qm_sing.proofs.KindReads.{kind_read}
+use Rattle.qm_sing.proofs.Seeds.{number_low, gathered, number_read}
 use Rattle.qm_sing.proofs.rings.gather.Goals as goal
 
 pub bounds-component-d : goal.bounds-component-d

@@ -5,7 +5,7 @@ use Rattle.def_layout.specs.declared.tmesh.Side.{Side}
 use Rattle.def_layout.specs.declared.tmesh.SideArc.{SideArc}
 
 -- The arcs of a side.
-abbrev arcs_of : (side : Side) → List SideArc
+abbrev pub arcs_of : (side : Side) → List SideArc
 arcs_of side = side.arcs.items
 
 -- The side that was read.
