@@ -1,0 +1,6 @@
+//! A first dual for a matching: numbers that are feasible, and as near to given ones as is easily had.
+#![tactic(auto)]
+
+mod initial;
+
+pub use initial::{MAX_WISH, Memory, initial_dual};
