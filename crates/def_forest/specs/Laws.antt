@@ -1,11 +1,13 @@
 -- The laws of forests.
-use Rattle.std.specs.Prelude.{◌≢◌, ◌%◌, ◌<◌, ◌≤◌, ◌⊎◌, ◌+ℤ◌, ◌*ℤ◌, ◌≤ℤ◌, pos, List, ◌≡◌, ℕ, Bool, if◌then◌else◌, ℤ}
+use Rattle.std.specs.Prelude.{◌≢◌, ◌%◌, ◌<◌, ◌≤◌, ◌⊎◌, ◌+ℤ◌, ◌*ℤ◌, ◌≤ℤ◌, pos, List, length, ◌≡◌, ℕ, Bool, if◌then◌else◌, ℤ}
 use Rattle.std.specs.Prelude.{Option, Some, None}
-use Rattle.def_matching.specs.Matching.{Graph, EdgeNumber, IsGraph, IsPerfect, matching_cost}
+use Rattle.def_matching.specs.Matching.{Graph, EdgeNumber, IsGraph, IsPerfect, edge_at, matching_cost}
 use Rattle.def_forest.specs.Darts.{Dart, Darts, AreDarts, darts_of, far}
 use Rattle.def_forest.specs.Forests.{Blossom, Forest, IsOutermost, set_at, dual_sum_of, vertices_in}
 use Rattle.def_forest.specs.Steps.{shifted, rooted, grown, with_mates, IsAugmented}
+use Rattle.def_forest.specs.Tables.{slack_of}
 use Rattle.def_forest.specs.Valid.{IsFeasible, IsNested, IsTree, IsValid}
+use Rattle.def_forest.specs.declared.kinds.Label.TheVariants.{Outer}
 use Rattle.def_forest.specs.Opened.{Opening, IsOpening, IsOpened}
 use Rattle.def_forest.specs.Shrunk.{IsUnused, IsCycle, IsClosedRow, IsShrunk}
 use Rattle.def_forest.specs.Ways.{Reaches, IsAlmost}
@@ -72,3 +74,10 @@ BoundLaw =
     (g : Graph) (f : Forest) (root : Option Blossom) (m : List EdgeNumber) → IsGraph g → IsValid (darts_of g) f root
     → IsPerfect g m
     → dual_sum_of f ≤ℤ (pos 2 *ℤ matching_cost g m)
+
+-- The slack between two outer blossoms is even.
+abbrev pub EvenLaw : Type 0
+EvenLaw =
+    (g : Graph) (f : Forest) (root : Option Blossom) (e : EdgeNumber) → IsGraph g → IsValid (darts_of g) f root
+    → e < length g.edges → f.label (f.out (edge_at g e).u) ≡ Outer → f.label (f.out (edge_at g e).v) ≡ Outer
+    → (half : ℤ) × (slack_of g f e ≡ half +ℤ half)

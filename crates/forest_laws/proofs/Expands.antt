@@ -88,7 +88,7 @@ module _ (g : Darts) (are : AreDarts g) (f : Forest) (r : ℕ) (valid : IsValid 
   other_not_b x ne e = ne (ap f.nest.up e ∙ b_top)
 
   -- No load changes.
-  same_load : (u v : ℕ) → u < g.n → v < g.n → load new u v ≡ load f u v
+  pub same_load : (u v : ℕ) → u < g.n → v < g.n → load new u v ≡ load f u v
   same_load u v lu lv =
       ap (λ (s : ℕ). sum s) is.size ∙ total_below_same (λ x. cond (splits (new.holds x) u v) (new.weight x) (pos 0)) (λ x. cond (splits (f.holds x) u v) (f.weight x) (pos 0)) f.size (λ x l. each x (cases_eq x b))
     where

@@ -7,6 +7,7 @@ pub mod Graphs
 pub mod Grows
 pub mod Loads
 pub mod Odds
+pub mod Parities
 pub mod Rises
 pub mod Shifts
 pub mod Shrinks

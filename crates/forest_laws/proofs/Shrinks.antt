@@ -76,7 +76,7 @@ module _ (g : Darts) (are : AreDarts g) (f : Forest) (r : ℕ) (valid : IsValid 
   marked_top x on = let w : IsOutermost g.n f x = valid.outermost.named x (cycle.in_tree x on) in ap f.nest.up (sym w.2) ∙ (valid.outermost.tops w.0 w.1 ∙ w.2)
 
   -- No load changes.
-  same_load : (u v : ℕ) → u < g.n → v < g.n → load new u v ≡ load f u v
+  pub same_load : (u v : ℕ) → u < g.n → v < g.n → load new u v ≡ load f u v
   same_load u v lu lv =
       ap (λ (s : ℕ). sum s) is.size ∙ total_below_same (λ x. cond (splits (new.holds x) u v) (new.weight x) (pos 0)) (λ x. cond (splits (f.holds x) u v) (f.weight x) (pos 0)) f.size (λ x l. each x (cases_eq x b))
     where

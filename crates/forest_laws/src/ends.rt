@@ -1,6 +1,6 @@
 //! The laws of the sum of weights, by which a search ends.
 
-ghost use Rattle.def_forest.specs.Laws.{BoundLaw, OddLaw, RiseLaw};
+ghost use Rattle.def_forest.specs.Laws.{BoundLaw, EvenLaw, OddLaw, RiseLaw};
 
 /// A shift by t raises the sum of the weights by t: the tree has one outer blossom more than inner ones.
 pub fn rise_law()
@@ -15,4 +15,9 @@ pub fn odd_law()
 /// Twice the cost of each perfect matching is at least the sum of the weights.
 pub fn bound_law()
     ensures { BoundLaw }
+{}
+
+/// The slack between two outer blossoms is even.
+pub fn even_law()
+    ensures { EvenLaw }
 {}

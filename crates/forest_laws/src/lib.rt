@@ -4,5 +4,5 @@
 mod ends;
 mod steps;
 
-pub use ends::{bound_law, odd_law, rise_law};
+pub use ends::{bound_law, even_law, odd_law, rise_law};
 pub use steps::{end_law, expand_law, grow_law, root_law, shift_law, shrink_law};

@@ -1,5 +1,5 @@
 mod Climbs
-mod Gathered
+pub mod Gathered
 mod Meets
 mod OnPaths
 mod Picks
