@@ -1,0 +1,163 @@
+-- Each step lessens what is left of a search.
+use Rattle.std.proofs.Common.{◌≡◌, ◌≢◌, ℕ, zero, suc, ◌+◌, ◌*◌, ◌<◌, ◌≤◌, Bool, true, false, cond, eqb, Option, Some, ◌⊎◌, refl, sym, ◌∙◌, ap, subst, inl, inr, arith}
+use Rattle.std.specs.Prelude.{nat_lt}
+use Rattle.std.proofs.lemmas.Bool.{cases_eq, cases_lt, cases_Bool, cond-true, cond-false, eq-eqb, ne_eqb, le-ltb}
+use Rattle.def_math.specs.Counts.{count_below}
+use Rattle.qm_laws.proofs.Counts.{count_below_le, count_below_lt, count_below_ones}
+use Rattle.def_matching.specs.Matching.{Graph, IsGraph}
+use Rattle.def_forest.specs.Darts.{darts_of, far}
+use Rattle.def_forest.specs.Forests.{Forest, IsOutermost, set_at, walk}
+use Rattle.def_forest.specs.Opened.{Opening, IsOpening, IsOpened}
+use Rattle.def_forest.specs.Shrunk.{IsShrinking}
+use Rattle.def_forest.specs.Steps.{grown}
+use Rattle.def_forest.specs.Valid.{IsMate, IsOuter, IsValid}
+use Rattle.def_forest.specs.declared.kinds.Label.{Label}
+use Rattle.def_forest.specs.declared.kinds.Label.TheVariants.{Outer, Inner, Outside}
+use Rattle.forest_laws.specs.Walks.{live_at}
+use Rattle.forest_laws.proofs.Facts.{far_low}
+use Rattle.forest_laws.proofs.Graphs.{are_darts}
+use Rattle.forest_laws.proofs.Writes.{set_here, set_there, inner_named}
+use Rattle.search_laws.specs.Searches.{not_outer, vertices_left, sets_of, steps_left}
+use Rattle.search_laws.proofs.Kept.{on_cycle, opened_old, opened_label, shrunk_on, shrunk_off, shrunk_set, shrunk_label}
+
+not_outer_low : (l : Label) → not_outer l ≤ 1
+not_outer_low Outer = omega arith
+not_outer_low Inner = omega arith
+not_outer_low Outside = omega arith
+
+-- No more sets are in use than there are numbers of blossoms.
+sets_low : (n : ℕ) (f : Forest) → sets_of n f ≤ f.size
+sets_low n f = omega (arith, count_below_le (live_at n f.nest.parts) (λ b. 1) f.size (λ b l. one b (nat_lt b n) (eqb (f.nest.parts b) 0)), count_below_ones f.size)
+  where
+    one : (b : ℕ) (p q : Bool) → cond p 0 (cond q 0 1) ≤ 1
+    one b true q = omega arith
+    one b false true = omega arith
+    one b false false = omega arith
+
+-- So many times as much.
+times_more : (w a b : ℕ) → a < b → a * w + w ≤ b * w
+times_more w a zero l = absurd (omega (arith, l))
+times_more w a (suc b) l = by_order (cases_lt a b) (times_more w a b)
+  where
+    next : suc b * w ≡ b * w + w
+    next = omega arith
+
+    by_order : (a < b) ⊎ (b ≤ a) → (a < b → a * w + w ≤ b * w) → a * w + w ≤ suc b * w
+    by_order (inl h) more = omega (arith, next, more h)
+    by_order (inr h) more = let e : a ≡ b = omega (arith, h, l) in let same : a * w ≡ b * w = ap (λ x. x * w) e in omega (arith, next, same)
+
+fewer_vertices : (n : ℕ) (f new : Forest) → new.size ≡ f.size → vertices_left n new < vertices_left n f → steps_left n new < steps_left n f
+fewer_vertices n f new size l =
+    let step : vertices_left n new * (f.size + 1) + (f.size + 1) ≤ vertices_left n f * (f.size + 1) = times_more (f.size + 1) (vertices_left n new) (vertices_left n f) l in
+    let few : sets_of n new ≤ f.size = subst (λ s. sets_of n new ≤ s) size (sets_low n new) in
+    subst (λ s. vertices_left n new * (s + 1) + sets_of n new < steps_left n f) (sym size) (omega (arith, step, few))
+
+fewer_sets : (n : ℕ) (f new : Forest) → new.size ≡ f.size → vertices_left n new ≤ vertices_left n f → sets_of n new < sets_of n f → steps_left n new < steps_left n f
+fewer_sets n f new size h l = subst (λ s. vertices_left n new * (s + 1) + sets_of n new < steps_left n f) (sym size) (by_order (cases_lt (vertices_left n new) (vertices_left n f)))
+  where
+    by_order : (vertices_left n new < vertices_left n f) ⊎ (vertices_left n f ≤ vertices_left n new) → vertices_left n new * (f.size + 1) + sets_of n new < steps_left n f
+    by_order (inl lt) = omega (arith, times_more (f.size + 1) (vertices_left n new) (vertices_left n f) lt, l)
+    by_order (inr ge) = let e : vertices_left n new ≡ vertices_left n f = omega (arith, h, ge) in let same : vertices_left n new * (f.size + 1) ≡ vertices_left n f * (f.size + 1) = ap (λ x. x * (f.size + 1)) e in omega (arith, same, l)
+
+module _ (g : Graph) (is : IsGraph g) (f : Forest) (root : Option ℕ) (valid : IsValid (darts_of g) f root) (d m : ℕ) (off : f.label (f.out (far (darts_of g) d)) ≡ Outside) (mate : f.mate (f.out (far (darts_of g) d)) ≡ Some m) where
+  abbrev inn : ℕ
+  inn = f.out (far (darts_of g) d)
+
+  abbrev outer : ℕ
+  outer = f.out (far (darts_of g) m)
+
+  pair : IsMate (darts_of g) f inn m
+  pair = valid.matched inn m mate
+
+  outer_off : f.label outer ≡ Outside
+  outer_off = valid.outside inn m off mate
+
+  labels : ℕ → Label
+  labels = set_at (set_at f.label inn Inner) outer Outer
+
+  now : (w : ℕ) → (f.out w ≡ outer) ⊎ (f.out w ≢ outer) → (f.out w ≡ inn) ⊎ (f.out w ≢ inn) → not_outer (set_at (set_at f.label inn Inner) outer Outer (f.out w)) ≤ not_outer (f.label (f.out w))
+  now w (inl e) y = (let x : not_outer (set_at (set_at f.label inn Inner) outer Outer (f.out w)) ≡ 0 = ap (λ b. not_outer (set_at (set_at f.label inn Inner) outer Outer b)) e ∙ ap not_outer (set_here (set_at f.label inn Inner) outer Outer) in omega (arith, x))
+  now w (inr nu) (inl e) =
+      let x : not_outer (f.label (f.out w)) ≡ 1 = ap (λ b. not_outer (f.label b)) e ∙ ap not_outer off in
+      omega (arith, x, not_outer_low (set_at (set_at f.label inn Inner) outer Outer (f.out w)))
+  now w (inr nu) (inr ni) = let x : not_outer (set_at (set_at f.label inn Inner) outer Outer (f.out w)) ≡ not_outer (f.label (f.out w)) = ap not_outer (set_there (set_at f.label inn Inner) outer (f.out w) Outer nu ∙ set_there f.label inn (f.out w) Inner ni) in omega (arith, x)
+
+  -- A tree that grows.
+  pub grown_fewer : steps_left g.n (grown (darts_of g) f d m) < steps_left g.n f
+  grown_fewer = fewer_vertices g.n f (grown (darts_of g) f d m) refl
+      (count_below_lt (λ w. not_outer (set_at (set_at f.label inn Inner) outer Outer (f.out w))) (λ w. not_outer (f.label (f.out w))) g.n (far (darts_of g) m) (far_low (darts_of g) (are_darts g is) m pair.tight.low)
+      (λ w l. now w (cases_eq (f.out w) outer) (cases_eq (f.out w) inn))
+      (let x : not_outer (set_at (set_at f.label inn Inner) outer Outer outer) ≡ 0 = ap not_outer (set_here (set_at f.label inn Inner) outer Outer) in let y : not_outer (f.label outer) ≡ 1 = ap not_outer outer_off in omega (arith, x, y)))
+
+module _ (g : Graph) (is : IsGraph g) (f new : Forest) (root after : Option ℕ) (d : ℕ) (valid : IsValid (darts_of g) f root) (s : IsShrinking (darts_of g) f new root after d) where
+  -- Some blossom on the cycle is inner.
+  inner_on_cycle : (x : ℕ) × (s.inside x ≡ true) × (f.label x ≡ Inner)
+  inner_on_cycle = by_label (on_cycle g is f new root after d valid s second (s.row.marked 1))
+    where
+      second : ℕ
+      second = walk new.nest.after s.top 1
+
+      not_top : walk new.nest.after s.top 1 ≢ s.top
+      not_top e = s.row.distinct 0 1 (omega arith) (omega (arith, s.row.odd, s.row.some)) (sym e)
+
+      by_outer : IsOuter (darts_of g) f s.r second → (x : ℕ) × (s.inside x ≡ true) × (f.label x ≡ Inner)
+      by_outer (inl e) = absurd (not_top (e ∙ s.cycle.root_top (ap s.inside (sym e) ∙ s.row.marked 1)))
+      by_outer (inr w) = (f.out (far (darts_of g) w.0), s.cycle.mates second w.0 (s.row.marked 1) not_top w.1, w.2)
+
+      by_label : (f.label second ≡ Outer) ⊎ (f.label second ≡ Inner) → (x : ℕ) × (s.inside x ≡ true) × (f.label x ≡ Inner)
+      by_label (inl outer) = by_outer (s.tree.outer second outer)
+      by_label (inr inner) = (second, s.row.marked 1, inner)
+
+  now_outer : (w : ℕ) → w < g.n → s.inside (f.out w) ≡ true → not_outer (new.label (new.out w)) ≡ 0
+  now_outer w l on = ap (λ b. not_outer (new.label b)) (shrunk_on g is f new root after d valid s w l on) ∙ ap not_outer (shrunk_set g is f new root after d valid s)
+
+  each : (w : ℕ) → w < g.n → (s.inside (f.out w) ≡ true) ⊎ (s.inside (f.out w) ≡ false) → not_outer (new.label (new.out w)) ≤ not_outer (f.label (f.out w))
+  each w l (inl on) = omega (arith, now_outer w l on)
+  each w l (inr off) = let e : not_outer (new.label (new.out w)) ≡ not_outer (f.label (f.out w)) = ap (λ b. not_outer (new.label b)) (shrunk_off g is f new root after d valid s w l off) ∙ ap not_outer (shrunk_label g is f new root after d valid s (f.out w) (s.unused.no_out w l) off) in omega (arith, e)
+
+  -- A cycle that becomes one blossom.
+  pub shrunk_fewer : steps_left g.n new < steps_left g.n f
+  shrunk_fewer = by_inner inner_on_cycle
+    where
+      by_vertex : (x : ℕ) → s.inside x ≡ true → f.label x ≡ Inner → IsOutermost g.n f x → steps_left g.n new < steps_left g.n f
+      by_vertex x on inner w = fewer_vertices g.n f new s.shrunk.size
+          (count_below_lt (λ v. not_outer (new.label (new.out v))) (λ v. not_outer (f.label (f.out v))) g.n w.0 w.1 (λ v l. each v l (cases_Bool (s.inside (f.out v))))
+          (let y : not_outer (f.label (f.out w.0)) ≡ 1 = ap (λ b. not_outer (f.label b)) w.2 ∙ ap not_outer inner in omega (arith, y, now_outer w.0 w.1 (ap s.inside w.2 ∙ on))))
+
+      by_inner : (x : ℕ) × (s.inside x ≡ true) × (f.label x ≡ Inner) → steps_left g.n new < steps_left g.n f
+      by_inner p = by_vertex p.0 p.1 p.2 (valid.outermost.named p.0 (inner_named (f.label p.0) p.2))
+
+module _ (g : Graph) (is : IsGraph g) (f new : Forest) (r : ℕ) (o : Opening) (valid : IsValid (darts_of g) f (Some r)) (opening : IsOpening (darts_of g) f o) (opened : IsOpened (darts_of g) f new o) where
+  -- An inner set that is opened.
+  pub opened_fewer : steps_left g.n new < steps_left g.n f
+  opened_fewer = fewer_sets g.n f new opened.size (count_below_le (λ w. not_outer (new.label (new.out w))) (λ w. not_outer (f.label (f.out w))) g.n (λ w l. vertex w l (cases_eq (f.out w) o.b)))
+      (subst (λ s. count_below (live_at g.n new.nest.parts) s < sets_of g.n f) (sym opened.size) (count_below_lt (live_at g.n new.nest.parts) (live_at g.n f.nest.parts) f.size o.b b_low (λ x l. set x (cases_eq x o.b)) here))
+    where
+      vertex : (w : ℕ) → w < g.n → (f.out w ≡ o.b) ⊎ (f.out w ≢ o.b) → not_outer (new.label (new.out w)) ≤ not_outer (f.label (f.out w))
+      vertex w l (inl e) = let x : not_outer (f.label (f.out w)) ≡ 1 = ap (λ b. not_outer (f.label b)) e ∙ ap not_outer opening.label in omega (arith, x, not_outer_low (new.label (new.out w)))
+      vertex w l (inr ne) = let x : not_outer (new.label (new.out w)) ≡ not_outer (f.label (f.out w)) = ap (λ b. not_outer (new.label b)) (opened_old g is f new r o valid opening opened w l ne) ∙ ap not_outer (opened_label g is f new r o valid opening opened w l ne) in omega (arith, x)
+
+      b_low : o.b < f.size
+      b_low = by_vertex (valid.outermost.named o.b (inner_named (f.label o.b) opening.label))
+        where
+          by_vertex : IsOutermost g.n f o.b → o.b < f.size
+          by_vertex w = subst (λ x. x < f.size) w.2 (valid.outermost.out_low w.0 w.1)
+
+      live : f.nest.parts o.b ≢ 0
+      live =
+          let p : (f.nest.up (o.q 0) ≡ o.b) × (o.q 0 ≢ o.b) × (o.q 0 < f.size) = opening.parts 0 (omega arith) in
+          let inner : f.nest.up (o.q 0) ≢ o.q 0 = λ e. p.1 (sym e ∙ p.0) in
+          λ none. (valid.nested.live (o.q 0) inner).1 (ap f.nest.parts p.0 ∙ none)
+
+      live_is : (parts : ℕ → ℕ) (x : ℕ) → g.n ≤ x → parts x ≢ 0 → live_at g.n parts x ≡ 1
+      live_is parts x h ne = cond-false (nat_lt x g.n) 0 (cond (eqb (parts x) 0) 0 1) (le-ltb x g.n h) ∙ cond-false (eqb (parts x) 0) 0 1 (ne_eqb (parts x) 0 ne)
+
+      none_is : (parts : ℕ → ℕ) (x : ℕ) → g.n ≤ x → parts x ≡ 0 → live_at g.n parts x ≡ 0
+      none_is parts x h e = cond-false (nat_lt x g.n) 0 (cond (eqb (parts x) 0) 0 1) (le-ltb x g.n h) ∙ cond-true (eqb (parts x) 0) 0 1 (eq-eqb (parts x) 0 e)
+
+      here : live_at g.n new.nest.parts o.b < live_at g.n f.nest.parts o.b
+      here = omega (arith, none_is new.nest.parts o.b opening.high opened.no_parts, live_is f.nest.parts o.b opening.high live)
+
+      set : (x : ℕ) → (x ≡ o.b) ⊎ (x ≢ o.b) → live_at g.n new.nest.parts x ≤ live_at g.n f.nest.parts x
+      set x (inl e) = let z : live_at g.n new.nest.parts x ≡ 0 = ap (live_at g.n new.nest.parts) e ∙ none_is new.nest.parts o.b opening.high opened.no_parts in omega (arith, z)
+      set x (inr ne) = let z : live_at g.n new.nest.parts x ≡ live_at g.n f.nest.parts x = ap (λ (y : ℕ). cond (nat_lt x g.n) 0 (cond (eqb y 0) 0 1)) (opened.sets x ne).many in omega (arith, z)

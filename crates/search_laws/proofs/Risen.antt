@@ -1,0 +1,135 @@
+-- How far the sum of the weights rises, and so how large keys and weights are.
+use Rattle.std.proofs.Common.{◌≡◌, ℕ, zero, suc, ◌+◌, ◌-◌, ◌*◌, ◌<◌, ◌≤◌, Bool, true, false, eqb, List, [], ◌∷◌, length, map, Option, Some, ℤ, pos, ◌+ℤ◌, ◌*ℤ◌, ◌≤ℤ◌, ◌⊎◌, refl, sym, subst, inl, inr, arith}
+use Rattle.std.specs.Int.RustNames.{unsigned_abs}
+use Rattle.std.proofs.lemmas.Int.{ints}
+use Rattle.std.proofs.lemmas.Bool.{cases_lt}
+use Rattle.def_math.specs.Rising.{IsRising}
+use Rattle.def_math.specs.Sums.{total, total_below}
+use Rattle.qm_laws.proofs.Ends.{ends_once}
+use Rattle.qm_dual.proofs.Gathered.{total_below_small}
+use Rattle.qm_dual.proofs.Weak.{chosen_below}
+use Rattle.def_matching.specs.Matching.{Graph, IsGraph, IsCheap, IsPerfect, edge_at, matching_cost}
+use Rattle.def_matching.specs.declared.limits.TheConstants.{MAX_PRODUCT}
+use Rattle.def_matching.specs.declared.weighted.WEdge.{WEdge}
+use Rattle.def_forest.specs.Darts.{darts_of}
+use Rattle.def_forest.specs.Forests.{Forest, dual_sum_of}
+use Rattle.def_forest.specs.Steps.{change, shifted}
+use Rattle.def_forest.specs.Tables.{slack_of}
+use Rattle.def_forest.specs.Valid.{IsFeasible, IsValid}
+use Rattle.def_forest.specs.declared.kinds.Label.{Label}
+use Rattle.def_forest.specs.declared.kinds.Label.TheVariants.{Outer, Inner, Outside}
+use Rattle.forest_laws.proofs.Bounds.{sum_bounds}
+use Rattle.forest_laws.proofs.Graphs.{are_darts}
+use Rattle.forest_laws.proofs.Rises.{sum_rises}
+use Rattle.forest_laws.proofs.Shifts.{shift_valid}
+use Rattle.search_laws.specs.Keys.{no_key, edge_key_by, set_key_by, set_of, true_key}
+use Rattle.search_laws.specs.Searches.{IsInRange}
+use Rattle.search_laws.proofs.Keys.{at_edge, at_set, lawful}
+
+-- The greatest of the costs' absolute values.
+greatest : (g : Graph) → IsCheap g → (k : ℕ) → k ≤ length g.edges → (most : ℕ) × ((e : ℕ) → e < k → unsigned_abs (edge_at g e).cost ≤ most) × (g.n * most ≤ MAX_PRODUCT)
+greatest g cheap zero l = (0, (λ e le. absurd (omega (arith, le))), omega arith)
+greatest g cheap (suc k) l = by_rest (greatest g cheap k (omega (arith, l)))
+  where
+    by_order : (most : ℕ) → ((e : ℕ) → e < k → unsigned_abs (edge_at g e).cost ≤ most) → g.n * most ≤ MAX_PRODUCT → (unsigned_abs (edge_at g k).cost < most) ⊎ (most ≤ unsigned_abs (edge_at g k).cost)
+        → (more : ℕ) × ((e : ℕ) → e < suc k → unsigned_abs (edge_at g e).cost ≤ more) × (g.n * more ≤ MAX_PRODUCT)
+    by_order most each few (inl h) = (most, (λ e le. by_place e (cases_lt e k) le), few)
+      where
+        by_place : (e : ℕ) → (e < k) ⊎ (k ≤ e) → e < suc k → unsigned_abs (edge_at g e).cost ≤ most
+        by_place e (inl lt) le = each e lt
+        by_place e (inr ge) le = let same : e ≡ k = omega (arith, ge, le) in subst (λ x. unsigned_abs (edge_at g x).cost ≤ most) (sym same) (omega (arith, h))
+    by_order most each few (inr h) = (unsigned_abs (edge_at g k).cost, (λ e le. by_place e (cases_lt e k) le), cheap k (omega (arith, l)))
+      where
+        by_place : (e : ℕ) → (e < k) ⊎ (k ≤ e) → e < suc k → unsigned_abs (edge_at g e).cost ≤ unsigned_abs (edge_at g k).cost
+        by_place e (inl lt) le = omega (arith, each e lt, h)
+        by_place e (inr ge) le = let same : e ≡ k = omega (arith, ge, le) in subst (λ x. unsigned_abs (edge_at g x).cost ≤ unsigned_abs (edge_at g k).cost) (sym same) (omega arith)
+
+    by_rest : (most : ℕ) × ((e : ℕ) → e < k → unsigned_abs (edge_at g e).cost ≤ most) × (g.n * most ≤ MAX_PRODUCT) → (more : ℕ) × ((e : ℕ) → e < suc k → unsigned_abs (edge_at g e).cost ≤ more) × (g.n * more ≤ MAX_PRODUCT)
+    by_rest w = by_order w.0 w.1 w.2 (cases_lt (unsigned_abs (edge_at g k).cost) w.0)
+
+costs_low : (g : Graph) (most low : ℕ) (m : List ℕ) → ((e : ℕ) → e < length g.edges → unsigned_abs (edge_at g e).cost ≤ most) → IsRising low (length g.edges) m → (pos 2 *ℤ matching_cost g m) ≤ℤ total (λ (e : WEdge). pos most +ℤ pos most) (map (edge_at g) m)
+costs_low g most low [] each rising = omega (arith, ints)
+costs_low g most low (k ∷ ks) each rising = omega (arith, ints, each k rising.1, costs_low g most (k + 1) ks each rising.2)
+
+-- Twice the cost of a perfect matching is small.
+pub known_low : (g : Graph) → IsGraph g → IsCheap g → (m : List ℕ) → IsPerfect g m → (pos 2 *ℤ matching_cost g m) ≤ℤ pos MAX_PRODUCT
+known_low g is cheap m perfect = by_most (greatest g cheap (length g.edges) (omega arith))
+  where
+    by_most : (most : ℕ) × ((e : ℕ) → e < length g.edges → unsigned_abs (edge_at g e).cost ≤ most) × (g.n * most ≤ MAX_PRODUCT) → (pos 2 *ℤ matching_cost g m) ≤ℤ pos MAX_PRODUCT
+    by_most w = bound w.0 w.1 w.2
+      where
+        bound : (most : ℕ) → ((e : ℕ) → e < length g.edges → unsigned_abs (edge_at g e).cost ≤ most) → g.n * most ≤ MAX_PRODUCT → (pos 2 *ℤ matching_cost g m) ≤ℤ pos MAX_PRODUCT
+        bound most each few =
+            let ends : total (λ (e : WEdge). pos most +ℤ pos most) (map (edge_at g) m) ≡ total_below (λ v. pos most) g.n = ends_once (λ (e : WEdge). e.u) (λ (e : WEdge). e.v) (λ v. pos most) g.n (map (edge_at g) m) (chosen_below g is 0 m perfect.rising) perfect.once in
+            let small : unsigned_abs (total_below (λ v. pos most) g.n) ≤ g.n * most = total_below_small (λ v. pos most) most g.n (λ v l. omega (arith, ints)) in
+            omega (arith, ints, ends, small, few, costs_low g most 0 m each perfect.rising)
+
+change_low : (l : Label) (w : ℤ) (x : ℕ) → unsigned_abs (w +ℤ change l (pos x)) ≤ unsigned_abs w + x
+change_low Outer w x = omega (arith, ints)
+change_low Inner w x = omega (arith, ints)
+change_low Outside w x = omega (arith, ints)
+
+edge_key_high : (a b : Label) (s : Bool) (slack risen : ℕ) → risen ≤ no_key → risen ≤ edge_key_by a b s slack risen
+edge_key_high Outer Outer true slack risen l = l
+edge_key_high Outer Outer false slack risen l = omega (arith, l)
+edge_key_high Outer Outside s slack risen l = omega (arith, l)
+edge_key_high Outside Outer s slack risen l = omega (arith, l)
+edge_key_high Outer Inner s slack risen l = l
+edge_key_high Inner b s slack risen l = l
+edge_key_high Outside Inner s slack risen l = l
+edge_key_high Outside Outside s slack risen l = l
+
+set_key_high : (l : Label) (w : ℤ) (risen : ℕ) → risen ≤ no_key → risen ≤ set_key_by l w risen
+set_key_high Outer w risen h = h
+set_key_high Outside w risen h = h
+set_key_high Inner w risen h = omega (arith, h)
+
+-- Nothing happens before what has happened.
+pub key_high : (g : Graph) (f : Forest) (risen k : ℕ) → risen ≤ no_key → risen ≤ true_key g f risen k
+key_high g f risen k few = by_leaf (cases_lt k (length g.edges))
+  where
+    by_leaf : (k < length g.edges) ⊎ (length g.edges ≤ k) → risen ≤ true_key g f risen k
+    by_leaf (inl le) = subst (λ x. risen ≤ x) (sym (at_edge g f risen k le)) (edge_key_high (f.label (f.out (edge_at g k).u)) (f.label (f.out (edge_at g k).v)) (eqb (f.out (edge_at g k).u) (f.out (edge_at g k).v)) (unsigned_abs (slack_of g f k)) risen few)
+    by_leaf (inr he) = subst (λ x. risen ≤ x) (sym (at_set g f risen k he)) (set_key_high (f.label (set_of g k)) (f.weight (set_of g k)) risen few)
+
+module _ (g : Graph) (is : IsGraph g) (cheap : IsCheap g) (m : List ℕ) (perfect : IsPerfect g m) (f : Forest) (risen : ℕ) (range : IsInRange f risen) where
+  -- How far the sum has risen.
+  pub risen_low : (root : Option ℕ) → IsValid (darts_of g) f root → risen ≤ 2 * MAX_PRODUCT
+  risen_low root valid =
+      let bound : dual_sum_of f ≤ℤ (pos 2 *ℤ matching_cost g m) = sum_bounds g is f valid.outermost.vertices valid.nested valid.feasible m perfect in
+      omega (arith, ints, bound, range.sum, range.start_high, known_low g is cheap m perfect)
+
+  -- What the shifts leave in range.
+  pub small_weights : (root : Option ℕ) → IsValid (darts_of g) f root → (b : ℕ) → unsigned_abs (f.weight b) ≤ 3 * MAX_PRODUCT
+  small_weights root valid b = omega (arith, range.weights b, risen_low root valid)
+
+  module _ (r : ℕ) (valid : IsValid (darts_of g) f (Some r)) where
+    -- A shift.
+    pub range_shifted : (x : ℕ) → IsInRange (shifted f (pos x)) (risen + x)
+    range_shifted x = record {
+      start = range.start;
+      start_high = range.start_high;
+      sum = omega (arith, ints, sum_rises (darts_of g) (are_darts g is) f r valid (valid.tree r refl) (pos x), range.sum);
+      weights = λ b. omega (arith, change_low (f.label b) (f.weight b) x, range.weights b);
+    }
+
+    module _ (most : ℕ) (sets : length g.edges + (f.size - g.n) ≤ most) where
+      -- How far a lawful shift goes.
+      pub reach_low : (x : ℕ) → IsFeasible (darts_of g) (shifted f (pos x)) → risen + x ≤ 2 * MAX_PRODUCT
+      reach_low x feasible =
+          let then : IsValid (darts_of g) (shifted f (pos x)) (Some r) = shift_valid (darts_of g) (are_darts g is) f (Some r) valid (pos x) feasible in
+          let bound : dual_sum_of (shifted f (pos x)) ≤ℤ (pos 2 *ℤ matching_cost g m) = sum_bounds g is (shifted f (pos x)) then.outermost.vertices then.nested then.feasible m perfect in
+          omega (arith, ints, bound, sum_rises (darts_of g) (are_darts g is) f r valid (valid.tree r refl) (pos x), range.sum, range.start_high, known_low g is cheap m perfect)
+
+      -- Something happens soon: the least key is small.
+      pub key_soon : (key : ℕ) → ((k : ℕ) → k < most → key ≤ true_key g f risen k) → key ≤ 2 * MAX_PRODUCT
+      key_soon key low = by_order (cases_lt (2 * MAX_PRODUCT) key)
+        where
+          clash : (x : ℕ) → risen + x ≡ 2 * MAX_PRODUCT + 1 → 2 * MAX_PRODUCT < key → ⊥
+          clash x e h =
+              let far : risen + x ≤ 2 * MAX_PRODUCT = reach_low x (lawful g is f valid.outermost valid.feasible risen x most sets (λ k l. omega (arith, e, h, low k l))) in
+              omega (arith, e, far)
+
+          by_order : (2 * MAX_PRODUCT < key) ⊎ (key ≤ 2 * MAX_PRODUCT) → key ≤ 2 * MAX_PRODUCT
+          by_order (inr l) = l
+          by_order (inl h) = absurd (clash (2 * MAX_PRODUCT + 1 - risen) (omega (arith, risen_low (Some r) valid)) h)
