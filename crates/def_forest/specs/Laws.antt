@@ -1,6 +1,6 @@
 -- The laws of forests.
-use Rattle.std.specs.Prelude.{◌≢◌, ◌%◌, ◌<◌, ◌≤◌, ◌⊎◌, ◌+ℤ◌, ◌*ℤ◌, ◌≤ℤ◌, pos, List, length, ◌≡◌, ℕ, Bool, if◌then◌else◌, ℤ}
-use Rattle.std.specs.Prelude.{Option, Some, None}
+use Rattle.std.specs.Prelude.{◌≢◌, ◌%◌, ◌<◌, ◌≤◌, ◌⊎◌, ◌+ℤ◌, ◌*ℤ◌, ◌≤ℤ◌, pos, List, ◌≡◌, ℕ, Bool, if◌then◌else◌, ℤ}
+use Rattle.std.specs.Prelude.{length, Option, Some, None}
 use Rattle.def_matching.specs.Matching.{Graph, EdgeNumber, IsGraph, IsPerfect, edge_at, matching_cost}
 use Rattle.def_forest.specs.Darts.{Dart, Darts, AreDarts, darts_of, far}
 use Rattle.def_forest.specs.Forests.{Blossom, Forest, IsOutermost, set_at, dual_sum_of, vertices_in}

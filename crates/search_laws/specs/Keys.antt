@@ -1,5 +1,6 @@
 -- The keys of edges and sets: by how much the dual's sum has risen in all when something happens there.
-use Rattle.std.specs.Prelude.{◌≡◌, ℕ, ◌+◌, ◌-◌, ◌/◌, ◌<◌, ◌≤◌, ◌==◌, ◌^◌, ◌⊎◌, min, nat_lt, if◌then◌else◌, Bool, true, List, length, slice_index, ℤ, unsigned_abs}
+use Rattle.std.specs.Prelude.{◌≡◌, ℕ, ◌+◌, ◌-◌, ◌/◌, ◌<◌, ◌≤◌, ◌==◌, ◌^◌, ◌⊎◌, min, nat_lt, if◌then◌else◌}
+use Rattle.std.specs.Prelude.{Bool, true, List, length, slice_index, ℤ, unsigned_abs}
 use Rattle.def_matching.specs.Matching.{Graph, EdgeNumber, edge_at}
 use Rattle.def_forest.specs.Forests.{Blossom, Forest}
 use Rattle.def_forest.specs.Tables.{slack_of}
@@ -27,8 +28,8 @@ edge_key_by a b same slack risen = no_key
 
 abbrev pub edge_key : (g : Graph) (f : Forest) (risen : ℕ) (e : EdgeNumber) → ℕ
 edge_key g f risen e =
-    edge_key_by (f.label (f.out (edge_at g e).u)) (f.label (f.out (edge_at g e).v)) (f.out (edge_at g e).u == f.out (edge_at g e).v)
-    (unsigned_abs (slack_of g f e)) risen
+    edge_key_by (f.label (f.out (edge_at g e).u)) (f.label (f.out (edge_at g e).v))
+    (f.out (edge_at g e).u == f.out (edge_at g e).v) (unsigned_abs (slack_of g f e)) risen
 
 -- The key of a set: its weight is used up where it is inner.
 abbrev pub set_key_by : (l : Label) (weight : ℤ) (risen : ℕ) → ℕ

@@ -1,2 +1,2 @@
-//! Laws of a search for a place where the matching grows: its keys, what each step leaves to do, and how far numbers go.
+//! Laws of a search that lets the matching grow: its keys, what each step leaves to do, and how far numbers go.
 #![tactic(auto)]
