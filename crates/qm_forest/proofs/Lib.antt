@@ -1,4 +1,5 @@
 pub mod Apart
+pub mod Copied
 pub mod EdgeKinds
 pub mod Forgets
 pub mod Fresh

@@ -40,6 +40,14 @@ pub record HasListAt (handles : Handles) (lists : Lists) (x : Blossom) : Type 0 
       → walk (slice_index lists.following.items) (slice_index lists.first.items x) i
       ≢ walk (slice_index lists.following.items) (slice_index lists.first.items x) j
 
+-- The list of a blossom is one of vertices.
+pub record IsListAt (n : ℕ) (lists : Lists) (x : Blossom) : Type 0 where
+  pub first : x < length lists.first.items
+  pub rank : x < length lists.rank.items
+  pub many : slice_index lists.rank.items x ≤ n
+  pub low : (k : ℕ) → k < slice_index lists.rank.items x
+      → walk (slice_index lists.following.items) (slice_index lists.first.items x) k < n
+
 -- How much more the handle of one blossom adds than that of another.
 abbrev pub differ_by : (handles : Handles) (lists : Lists) (x big : Blossom) → ℤ
 differ_by handles lists x big =

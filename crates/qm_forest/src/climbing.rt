@@ -35,7 +35,7 @@ impl Forest {
     }
 
     /// Where a blossom stands.
-    fn label_at(&self, b: u32) -> Label
+    pub fn label_at(&self, b: u32) -> Label
         requires { b < length self.now.up }
         ensures value { result ≡ (forest_of self.now).label b }
         ensures few { length self.now.up ≤ 2 ^ 26 }

@@ -7,7 +7,7 @@ ghost use Rattle.def_forest.specs.Darts.{darts_of, twin_of, far};
 use def_matching::{WEdge, WGraph};
 
 /// The other dart of the same edge.
-pub(crate) fn twin(d: u32) -> u32
+pub fn twin(d: u32) -> u32
     requires { d < 2 ^ 31 }
     ensures { result ≡ twin_of d }
 {
@@ -23,7 +23,7 @@ pub(crate) fn edge_of(g: &WGraph, e: u32) -> WEdge
 }
 
 /// Where a dart begins.
-pub(crate) fn near(g: &WGraph, d: u32) -> u32
+pub fn near(g: &WGraph, d: u32) -> u32
     requires { d < 2 * length g.now.edges.items }
     ensures { result ≡ (darts_of (graph g.now)).near d }
 {

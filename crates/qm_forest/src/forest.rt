@@ -101,7 +101,7 @@ impl Forest {
     }
 
     /// The dart by which an outermost blossom is matched.
-    pub(crate) fn mate(&self, b: u32) -> Option<u32>
+    pub fn mate(&self, b: u32) -> Option<u32>
         requires { b < length self.now.up }
         ensures { result ≡ (forest_of self.now).mate b }
     {

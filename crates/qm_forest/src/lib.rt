@@ -8,6 +8,7 @@ mod forest;
 mod gathering;
 mod growing;
 mod loads;
+mod members;
 mod numbers;
 mod parting;
 mod ring;
@@ -17,5 +18,6 @@ mod start;
 mod tables;
 mod writes;
 
+pub use darts::{near, twin};
 pub use forest::Forest;
 pub use start::Memory;

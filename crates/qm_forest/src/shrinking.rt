@@ -76,7 +76,7 @@ impl Forest {
     }
 
     /// The blossom after another on the ring.
-    pub(crate) fn next(&self, b: u32) -> u32
+    pub fn next(&self, b: u32) -> u32
         requires { b < length self.now.up }
         ensures { result ≡ slice_index self.now.after b }
     {

@@ -1,0 +1,60 @@
+//! The parts and the vertices of a blossom, for a caller that goes over them.
+
+ghost use Rattle.std.specs.Prelude.{◌≡◌, ◌≢◌, ◌<◌, ◌≤◌, ◌⊎◌, ℕ, length, slice_index, true};
+ghost use Rattle.std.specs.Vec.{vec_capacity};
+ghost use Rattle.def_matching.specs.Matching.{Vertex};
+ghost use Rattle.def_forest.specs.Forests.{walk};
+ghost use Rattle.def_forest.specs.Tables.{forest_of};
+ghost use Rattle.qm_forest.specs.Gathers.{IsListAt};
+
+use crate::forest::Forest;
+use crate::tables::Lists;
+
+/// Lists the vertices of a blossom.
+fn list_members(lists: &Lists, x: u32, list: &mut Vec<u32>)
+    requires lists { IsListAt (length lists.now.following.items) lists.now x }
+    requires room { length lists.now.following.items ≤ vec_capacity list.old }
+    ensures count { length list.new.items ≡ slice_index lists.now.rank.items x }
+    ensures each { (k : ℕ) → k < slice_index lists.now.rank.items x → slice_index list.new.items k
+        ≡ walk (slice_index lists.now.following.items) (slice_index lists.now.first.items x) k }
+    ensures room { vec_capacity list.old ≤ vec_capacity list.new }
+{
+    list.clear();
+    let mut v = lists.first[x as usize];
+    for _ in 0..lists.rank[x as usize] {
+        list.push(v).unwrap();
+        v = lists.following[v as usize];
+    }
+}
+
+impl Forest {
+    /// The part of a set at which its ring begins.
+    pub fn head(&self, b: u32) -> u32
+        requires { b < length self.now.up }
+        ensures { result ≡ slice_index self.now.head b }
+    {
+        self.rings.head[b as usize]
+    }
+
+    /// How many parts a set has: none where the number is not in use.
+    pub fn parts(&self, b: u32) -> u32
+        requires { b < length self.now.up }
+        ensures { result ≡ slice_index self.now.parts b }
+    {
+        self.rings.parts[b as usize]
+    }
+
+    /// Lists the vertices of a blossom, in any order, in place of what was in the list. Linear in them.
+    pub fn members(&self, b: u32, list: &mut Vec<u32>)
+        requires low { b < length self.now.up }
+        requires used { (b < length self.now.hand) ⊎ (slice_index self.now.parts b ≢ 0) }
+        requires room { length self.now.hand ≤ vec_capacity list.old }
+        ensures all { (v : Vertex) → v < length self.now.hand → (forest_of self.now).holds b v ≡ true
+            → (k : ℕ) × (k < length list.new.items) × (slice_index list.new.items k ≡ v) }
+        ensures low { (k : ℕ) → k < length list.new.items
+            → slice_index list.new.items k < length self.now.hand }
+        ensures room { vec_capacity list.old ≤ vec_capacity list.new }
+    {
+        list_members(&self.lists, b, list);
+    }
+}
