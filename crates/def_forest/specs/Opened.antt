@@ -74,3 +74,10 @@ pub record IsOpened (g : Darts) (f new : Forest) (o : Opening) : Type 0 where
   pub parts_out : (x : Blossom) → f.nest.up x ≡ o.b → new.nest.up x ≡ x
   pub no_parts : new.nest.parts o.b ≡ 0
   pub sets : (x : Blossom) → x ≢ o.b → KeepsParts f new x
+
+-- Inner blossom b was opened.
+pub record IsExpanding (g : Darts) (f new : Forest) (b : Blossom) : Type 0 where
+  pub o : Opening
+  pub is : o.b ≡ b
+  pub opening : IsOpening g f o
+  pub opened : IsOpened g f new o

@@ -1,4 +1,5 @@
 pub mod Bounds
+pub mod Circles
 pub mod Climbs
 pub mod ExpandedTrees
 pub mod Expands

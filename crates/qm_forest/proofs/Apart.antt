@@ -72,7 +72,7 @@ module _ (n : ℕ) (up rank out : ℕ → ℕ) (climb : IsClimb n up out) (rises
   OnWayFrom v x = (i : ℕ) × (walk up v i ≡ x)
 
   -- Climbing further one comes to the outermost blossom.
-  comes_out : (v x : ℕ) → v < n → OnWayFrom v x → walk up x n ≡ out v
+  pub comes_out : (v x : ℕ) → v < n → OnWayFrom v x → walk up x n ≡ out v
   comes_out v x l w =
       let order : w.0 + n ≡ n + w.0 = omega arith in
       ap (λ y. walk up y n) (sym w.1) ∙ (sym (walk_sum up v w.0 n) ∙ (ap (walk up v) order ∙ (walk_sum up v n w.0 ∙ (ap (λ y. walk up y w.0) (climb.ends v l) ∙ walk_stays up (out v) w.0 (climb.tops v l)))))

@@ -29,3 +29,7 @@ pub mod Gatherings
 pub mod Shrinkings
 pub mod WritesAlong
 pub mod Leavings
+pub mod Hangings
+pub mod Expandings
+pub mod Openings
+pub mod Openeds

@@ -14,14 +14,14 @@ use Rattle.def_forest.specs.Tables.{ForestTables, forest_of, climbs, label_at, o
 use Rattle.def_forest.specs.declared.kinds.Label.{Label}
 use Rattle.def_forest.specs.declared.kinds.Label.TheVariants.{Outside}
 use Rattle.forest_laws.specs.Walks.{listed, writes}
-use Rattle.forest_laws.proofs.Walks.{writes_at, writes_off}
+use Rattle.forest_laws.proofs.Walks.{listed_place, writes_at, writes_off}
 use Rattle.forest_laws.proofs.Writes.{by_none, set_here, set_there}
 use Rattle.qm_pool.specs.declared.pool.Node.{Node}
 use Rattle.qm_forest.specs.Parts.{IsPartable, IsParted}
 use Rattle.qm_forest.specs.Ties.{AreTied, HiddenTables, HasSizes, HasNumbers, IsInUse, IsLaidOut, IsPooled, IsTrailed, added, told, weights_around}
 use Rattle.qm_forest.proofs.JoinedLists.{list_renamed}
 use Rattle.qm_forest.proofs.Nests.{came_past, leader_out}
-use Rattle.qm_forest.proofs.PartedWays.{ups as the_ups, up_in as the_up_in, up_off as the_up_off, at_in as the_at_in, unused as the_unused, rises as the_rises, climb_parted, holds_old as the_holds_old, holds_none as the_holds_none, never as the_never, part_fresh as the_part_fresh, part_used as the_part_used, fresh_part as the_fresh_part, fresh_place as the_fresh_place, out_is as the_out_is, out_in as the_out_in, out_off as the_out_off, part_outside as the_part_outside, leader_in as the_leader_in, leaders_differ as the_leaders_differ, alone as the_alone}
+use Rattle.qm_forest.proofs.PartedWays.{ups as the_ups, up_in as the_up_in, up_off as the_up_off, at_in as the_at_in, unused as the_unused, rises as the_rises, climb_parted, holds_old as the_holds_old, holds_none as the_holds_none, never as the_never, part_fresh as the_part_fresh, fresh_together, part_used as the_part_used, fresh_part as the_fresh_part, fresh_place as the_fresh_place, out_is as the_out_is, out_in as the_out_in, out_off as the_out_off, part_outside as the_part_outside, leader_in as the_leader_in, leaders_differ as the_leaders_differ, alone as the_alone}
 use Rattle.qm_forest.proofs.Pooled.{pool_given}
 use Rattle.qm_forest.proofs.Ranges.{read_nat}
 use Rattle.qm_forest.proofs.TiedWrites.{entry_set}
@@ -321,6 +321,10 @@ module _ (t : ForestTables) (hid : HiddenTables) (tied : AreTied t hid) (b : ℕ
     holds_none = λ v l. ap (λ m. climbs (up_at up2) m b v) hand_size ∙ the_holds_none t hid tied b ready up2 up_is v l;
     out = λ v l. the_out_is t hid tied b ready up2 up_is v l ∙ ap (λ x. cond (inside x) b x) (sym (out_new v l));
     holds_out = λ v l. ap (λ x. climbs (up_at t.up) n x v) (out_new v l) ∙ (sym (holds_old (fresh v) v (the_never t hid tied b ready up2 up_is v n l) l) ∙ came_past (up_at up2) n v (fresh v) refl);
+    own = λ x v on l held. (let w : (k : ℕ) × (k < many) × (at k ≡ x) = listed_place (λ i. get_or t.after i 0) (get_or t.head b 0) many x on in
+        out_new v l ∙ (the_part_fresh t hid tied b ready up2 up_is w.0 v w.1 l (subst (λ y. climbs (up_at t.up) n y v ≡ true) (sym w.2) held) ∙ w.2));
+    ended = λ v l e. the_never t hid tied b ready up2 up_is v n l (sym (out_new v l) ∙ e);
+    together = λ x u v lu lv ne hu hv. out_new u lu ∙ (fresh_together t hid tied b ready up2 up_is x u v lu lv ne hu hv ∙ sym (out_new v lv));
     weight = refl;
     label = refl;
     mate = refl;

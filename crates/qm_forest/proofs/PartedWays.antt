@@ -10,7 +10,7 @@ use Rattle.forest_laws.proofs.Walks.{listed_at, listed_place, listed_off}
 use Rattle.forest_laws.proofs.Writes.{label_cases, set_here, set_there}
 use Rattle.qm_forest.specs.Parts.{IsPartable}
 use Rattle.qm_forest.specs.Ties.{AreTied, HiddenTables, IsClimb, IsInUse}
-use Rattle.qm_forest.proofs.Apart.{fixed_top, rank_low}
+use Rattle.qm_forest.proofs.Apart.{comes_out, fixed_top, rank_low}
 use Rattle.qm_forest.proofs.Enclosed.{climb_enclosed, holds_same as the_holds_same, not_new as the_not_new}
 use Rattle.qm_forest.proofs.Nests.{came_past, climbs_place, rank_few, rank_some}
 
@@ -168,6 +168,12 @@ module _ (t : ForestTables) (hid : HiddenTables) (tied : AreTied t hid) (b : ℕ
   pub part_fresh : (k v : ℕ) → k < many → v < n → climbs (up_at t.up) n (at k) v ≡ true → fresh v ≡ at k
   part_fresh k v lk l on = sym (fixed_top n (up_at up2) rank fresh climb_parted rises v (at k) l
       (climbs_place (up_at up2) n (at k) v (holds_old (at k) v (ready.other k lk) l ∙ on)) (up_in (at k) (at_in k lk)))
+
+  -- The vertices of any other blossom lie in one part.
+  pub fresh_together : (x u v : ℕ) → u < n → v < n → x ≢ b → climbs (up_at t.up) n x u ≡ true → climbs (up_at t.up) n x v ≡ true → fresh u ≡ fresh v
+  fresh_together x u v lu lv ne hu hv =
+      sym (comes_out n (up_at up2) rank fresh climb_parted rises u x lu (climbs_place (up_at up2) n x u (holds_old x u ne lu ∙ hu)))
+      ∙ comes_out n (up_at up2) rank fresh climb_parted rises v x lv (climbs_place (up_at up2) n x v (holds_old x v ne lv ∙ hv))
 
   pub fresh_part : (k v : ℕ) → k < many → v < n → fresh v ≡ at k → climbs (up_at t.up) n (at k) v ≡ true
   fresh_part k v lk l e = sym (holds_old (at k) v (ready.other k lk) l) ∙ came_past (up_at up2) n v (at k) e

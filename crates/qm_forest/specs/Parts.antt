@@ -1,12 +1,16 @@
 -- What parting a set into the blossoms of its ring needs, and what it leaves.
-use Rattle.std.specs.Prelude.{◌≡◌, ◌≢◌, ℕ, ◌<◌, ◌≤◌, ◌^◌, Bool, true, false, if◌then◌else◌, List, length, slice_index}
-use Rattle.std.specs.Prelude.{slice_index_or, slice_set, pos, unsigned_abs}
+use Rattle.std.specs.Prelude.{◌≡◌, ◌≢◌, ℕ, ◌+◌, ◌-◌, ◌%◌, ◌<◌, ◌≤◌, ◌^◌, ◌==◌, ◌⊎◌, Bool, true, false, if◌then◌else◌}
+use Rattle.std.specs.Prelude.{List, length, slice_index, slice_index_or, slice_set, pos, unsigned_abs, Some, None}
 use Rattle.def_matching.specs.Matching.{Vertex}
+use Rattle.def_forest.specs.Darts.{Dart, twin_of}
 use Rattle.def_forest.specs.Forests.{Blossom, Forest, walk, set_at}
 use Rattle.def_forest.specs.Tables.{ForestTables, forest_of, label_at, up_at, IsOutermostIn}
-use Rattle.def_forest.specs.declared.kinds.Label.TheVariants.{Outside}
-use Rattle.forest_laws.specs.Walks.{writes}
+use Rattle.def_forest.specs.declared.kinds.Label.{Label}
+use Rattle.def_forest.specs.declared.kinds.Label.TheVariants.{Outer, Inner, Outside}
+use Rattle.forest_laws.specs.Walks.{listed, writes}
 use Rattle.qm_forest.specs.Gathers.{HasListAt, IsRow, lists_at}
+use Rattle.qm_forest.specs.Ties.{HasSameNest, labelled, mated}
+use Rattle.qm_forest.specs.declared.expanding.Course.{Course}
 use Rattle.qm_forest.specs.declared.tables.Handles.{Handles}
 use Rattle.qm_forest.specs.declared.tables.Lists.{Lists}
 use Rattle.qm_forest.specs.declared.tables.Rings.{Rings}
@@ -96,6 +100,10 @@ pub record IsParted (n : ℕ) (f new : Forest) (inside : Blossom → Bool) (b : 
   pub holds_none : (v : Vertex) → v < n → new.holds b v ≡ false
   pub out : (v : Vertex) → v < n → f.out v ≡ (if inside (new.out v) then b else new.out v)
   pub holds_out : (v : Vertex) → v < n → f.holds (new.out v) v ≡ true
+  pub own : (x : Blossom) (v : Vertex) → inside x ≡ true → v < n → f.holds x v ≡ true → new.out v ≡ x
+  pub ended : (v : Vertex) → v < n → new.out v ≢ b
+  pub together : (x : Blossom) (u v : Vertex) → u < n → v < n → x ≢ b → f.holds x u ≡ true → f.holds x v ≡ true
+      → new.out u ≡ new.out v
   pub weight : new.weight ≡ f.weight
   pub label : new.label ≡ f.label
   pub mate : new.mate ≡ f.mate
@@ -106,3 +114,44 @@ pub record IsParted (n : ℕ) (f new : Forest) (inside : Blossom → Bool) (b : 
   pub head : new.nest.head ≡ f.nest.head
   pub parts : (x : Blossom) → new.nest.parts x ≡ set_at f.nest.parts b 0 x
   pub rank : new.nest.rank ≡ f.nest.rank
+
+-- A set has left the tree and was parted.
+pub record HasOpened (old new : ForestTables) (b : Blossom) : Type 0 where
+  pub left : ForestTables
+  pub gone : forest_of left ≡ mated (labelled (forest_of old) b Outside) b None
+  pub same : HasSameNest old left
+  pub is : IsParted (length left.hand) (forest_of left) (forest_of new)
+      (listed (slice_index left.after) (slice_index left.head b) (slice_index left.parts b)) b
+  pub root : new.root ≡ left.root
+  pub hand : length new.hand ≡ length left.hand
+
+-- The dart from a blossom of a ring to the next, or else to the one before.
+abbrev pub side_dart : (f : Forest) (before x : Blossom) (forward : Bool) → Dart
+side_dart f before x forward = if forward then f.nest.joint x else twin_of (f.nest.joint before)
+
+-- So many blossoms of a ring are matched: those at odd places to the next, the others to the one before.
+abbrev pub paired : (f : Forest) (front many : ℕ) → Forest
+paired f front many = record f {
+  mate = writes f.mate (walk f.nest.after front)
+      (λ k. Some (side_dart f (walk f.nest.after front (k - 1)) (walk f.nest.after front k) (k % 2 == 1))) many;
+}
+
+-- The labels of a way in the tree that begins with an inner blossom.
+abbrev pub turn_label : (k : ℕ) → Label
+turn_label k = if k % 2 == 0 then Inner else Outer
+
+-- So many blossoms of a ring are inner and outer by turns, and hang on the next, or else on the one before.
+abbrev pub hung : (f : Forest) (front many : ℕ) (forward : Bool) → Forest
+hung f front many forward = record f {
+  label = writes f.label (walk f.nest.after front) turn_label many;
+  link = writes f.link (walk f.nest.after front)
+      (λ k. side_dart f (walk f.nest.after front (k - 1)) (walk f.nest.after front k) forward) many;
+}
+
+-- The way of even length between two blossoms of a ring: from the first to the last, or from the last to the first.
+pub record IsCourse (next : ℕ → ℕ) (first last many : ℕ) (course : Course) : Type 0 where
+  pub steps : ℕ
+  pub low : steps < many
+  pub at : walk next first steps ≡ last
+  pub way : ((course.forward ≡ true) × (course.front ≡ first) × (course.many ≡ steps + 1) × (steps % 2 ≡ 0))
+      ⊎ ((course.forward ≡ false) × (course.front ≡ last) × (course.many ≡ (many - steps) + 1) × (steps % 2 ≡ 1))

@@ -4,6 +4,7 @@
 mod augmenting;
 mod climbing;
 mod darts;
+mod expanding;
 mod forest;
 mod gathering;
 mod growing;

@@ -1,0 +1,247 @@
+-- The ring of an inner set that is opened: what holds of the set before, and of its parts after.
+use Rattle.std.proofs.Common.{◌≡◌, ◌≢◌, ℕ, suc, ◌+◌, ◌*◌, ◌<◌, ◌≤◌, Bool, true, false, cond, eqb, length, pos, Some, None, ◌⊎◌, sym, ◌∙◌, ap, subst, inl, inr, arith}
+use Rattle.std.proofs.lemmas.Bool.{cases_Bool, cases_eq, cond-true, cond-false, eq-eqb, eqb-true, ne_eqb}
+use Rattle.def_matching.specs.Matching.{Graph, IsSmallGraph}
+use Rattle.def_forest.specs.Darts.{AreDarts, Darts, darts_of, far}
+use Rattle.def_forest.specs.Forests.{Forest, IsOutermost, IsTight, walk}
+use Rattle.def_forest.specs.Opened.{Opening, IsOpening}
+use Rattle.def_forest.specs.Tables.{ForestTables, forest_of, IsOutermostIn, IsValidFor}
+use Rattle.def_forest.specs.Valid.{IsInner, IsJoint, IsMate, IsRing, IsTree}
+use Rattle.def_forest.specs.declared.kinds.Label.TheVariants.{Inner, Outside}
+use Rattle.forest_laws.specs.Walks.{listed}
+use Rattle.forest_laws.proofs.Circles.{IsCircle, circle_from}
+use Rattle.forest_laws.proofs.Expands.{holds_up}
+use Rattle.forest_laws.proofs.Facts.{far_low, tree_of}
+use Rattle.forest_laws.proofs.Graphs.{are_darts}
+use Rattle.forest_laws.proofs.Walks.{listed_at, listed_closed, listed_place}
+use Rattle.forest_laws.proofs.Writes.{inner_named, label_cases, set_here, true_false}
+use Rattle.qm_forest.specs.Parts.{IsPartable, IsParted}
+use Rattle.qm_forest.specs.Ties.{HasSameNest, labelled, mated}
+use Rattle.qm_forest.proofs.Risings.{named_low}
+
+-- An inner set of weight 0 of a valid forest.
+module _ (g : Graph) (is : IsSmallGraph g) (t0 : ForestTables) (valid : IsValidFor g t0) (b : ℕ) (high : g.n ≤ b) (inner : (forest_of t0).label b ≡ Inner) (weightless : (forest_of t0).weight b ≡ pos 0) where
+  abbrev d : Darts
+  d = darts_of g
+
+  abbrev f0 : Forest
+  f0 = forest_of t0
+
+  abbrev many : ℕ
+  many = f0.nest.parts b
+
+  abbrev pub inside : ℕ → Bool
+  inside = listed f0.nest.after (f0.nest.head b) (f0.nest.parts b)
+
+  pub are : AreDarts d
+  are = are_darts g is.lawful
+
+  top_is : IsOutermost g.n f0 b
+  top_is = valid.valid.outermost.named b (inner_named (f0.label b) inner)
+
+  pub set_top : IsOutermostIn t0 b
+  set_top = (top_is.0, subst (λ n. top_is.0 < n) (sym valid.vertices) top_is.1, top_is.2)
+
+  pub set_low : b < length t0.up
+  set_low = named_low g is t0 valid b (inner_named (f0.label b) inner)
+
+  up_b : f0.nest.up b ≡ b
+  up_b = ap f0.nest.up (sym top_is.2) ∙ (valid.valid.outermost.tops top_is.0 top_is.1 ∙ top_is.2)
+
+  held_b : (v : ℕ) → v < g.n → f0.holds b v ≡ eqb (f0.out v) b
+  held_b v l = subst (λ x. f0.holds x v ≡ eqb (f0.out v) x) top_is.2 (valid.valid.outermost.held top_is.0 v top_is.1 l)
+
+  pub set_live : many ≢ 0
+  set_live none = true_false (f0.holds b top_is.0) (held_b top_is.0 top_is.1 ∙ eq-eqb (f0.out top_is.0) b top_is.2) (valid.valid.nested.empty b top_is.0 high top_is.1 none)
+
+  pub ring_is : IsRing d f0 b
+  ring_is = valid.valid.nested.rings b high set_live
+
+  pub tree_is : (r : ℕ) × (t0.root ≡ Some r) × IsTree d f0 r
+  tree_is = tree_of d are f0 t0.root valid.valid b (inner_named (f0.label b) inner)
+
+  pub in_tree : IsInner d f0 tree_is.2.depth b
+  in_tree = tree_is.2.inner b inner
+
+  pub mate_is : IsMate d f0 b in_tree.dart
+  mate_is = valid.valid.matched b in_tree.dart in_tree.mate
+
+  pub part_around : (x : ℕ) → inside x ≡ true → f0.nest.up x ≡ b
+  part_around x on = (let w : (k : ℕ) × (k < many) × (walk f0.nest.after (f0.nest.head b) k ≡ x) = listed_place f0.nest.after (f0.nest.head b) many x on in ap f0.nest.up (sym w.2) ∙ ring_is.inside w.0)
+
+  pub part_other : (x : ℕ) → inside x ≡ true → x ≢ b
+  part_other x on e =
+      let w : (k : ℕ) × (k < many) × (walk f0.nest.after (f0.nest.head b) k ≡ x) = listed_place f0.nest.after (f0.nest.head b) many x on in
+      let low : f0.nest.rank (walk f0.nest.after (f0.nest.head b) w.0) < f0.nest.rank b = ring_is.lower w.0 in
+      let same : f0.nest.rank (walk f0.nest.after (f0.nest.head b) w.0) ≡ f0.nest.rank b = ap f0.nest.rank (w.2 ∙ e) in
+      absurd (omega (arith, low, same))
+
+  pub part_low : (x : ℕ) → inside x ≡ true → x < f0.size
+  part_low x on = (let w : (k : ℕ) × (k < many) × (walk f0.nest.after (f0.nest.head b) k ≡ x) = listed_place f0.nest.after (f0.nest.head b) many x on in subst (λ y. y < f0.size) w.2 (ring_is.below w.0))
+
+  pub around_part : (x : ℕ) → f0.nest.up x ≡ b → x ≢ b → inside x ≡ true
+  around_part x up ne = (let w : (k : ℕ) × (k < many) × (walk f0.nest.after (f0.nest.head b) k ≡ x) = ring_is.all x up ne in subst (λ y. inside y ≡ true) w.2 (listed_at f0.nest.after (f0.nest.head b) many w.0 w.1))
+
+  part_inner : (x : ℕ) → inside x ≡ true → f0.nest.up x ≢ x
+  part_inner x on e = part_other x on (sym e ∙ part_around x on)
+
+  -- Parts are outside the tree.
+  pub part_outside : (x : ℕ) → inside x ≡ true → f0.label x ≡ Outside
+  part_outside x on = by_label (label_cases (f0.label x))
+    where
+      by_label : (f0.label x ≡ Outside) ⊎ (f0.label x ≢ Outside) → f0.label x ≡ Outside
+      by_label (inl e) = e
+      by_label (inr named) = (let w : IsOutermost g.n f0 x = valid.valid.outermost.named x named in absurd (part_inner x on (ap f0.nest.up (sym w.2) ∙ (valid.valid.outermost.tops w.0 w.1 ∙ w.2))))
+
+  pub circle_is : IsCircle f0.nest.after (f0.nest.head b) many inside
+  circle_is = record {
+    some = omega (arith, ring_is.odd);
+    closed = ring_is.closed;
+    distinct = ring_is.distinct;
+    marked = listed_closed f0.nest.after (f0.nest.head b) many (omega (arith, ring_is.odd)) ring_is.closed;
+    all = λ x on. listed_place f0.nest.after (f0.nest.head b) many x on;
+  }
+
+  pub next_part : (x : ℕ) → inside x ≡ true → inside (f0.nest.after x) ≡ true
+  next_part x on = (let w : (k : ℕ) × (k < many) × (walk f0.nest.after (f0.nest.head b) k ≡ x) = circle_is.all x on in subst (λ y. inside (f0.nest.after y) ≡ true) w.2 (circle_is.marked (suc w.0)))
+
+  -- What a part holds is in the set.
+  part_in : (x v : ℕ) → inside x ≡ true → v < g.n → f0.holds x v ≡ true → f0.out v ≡ b
+  part_in x v on l held = (let up : f0.holds (f0.nest.up x) v ≡ true = holds_up d f0 valid.valid.nested x v l (part_inner x on) held in
+      eqb-true (f0.out v) b (sym (held_b v l) ∙ subst (λ y. f0.holds y v ≡ true) (part_around x on) up))
+
+  -- The tables, once the set has left the tree, can be parted.
+  pub partable : (t1 : ForestTables) → forest_of t1 ≡ mated (labelled f0 b Outside) b None → HasSameNest t0 t1 → IsPartable t1 b
+  partable t1 gone same = record {
+    high = subst (λ n. n ≤ b) (sym (ap length same.hand ∙ valid.vertices)) high;
+    low = subst (λ n. b < n) (sym (ap length same.up)) set_low;
+    top = (set_top.0, subst (λ xs. set_top.0 < length xs) (sym same.hand) set_top.1, ap (λ (f : Forest). f.out set_top.0) gone ∙ set_top.2);
+    outside = ap (λ (f : Forest). f.label b) gone ∙ set_here f0.label b Outside;
+    weightless = ap (λ (f : Forest). f.weight b) gone ∙ weightless;
+    live = λ none. set_live (sym (ap (λ (f : Forest). f.nest.parts b) gone) ∙ none);
+    row = record {
+      some = subst (λ m. 1 ≤ m) (sym many1) circle_is.some;
+      low = λ k l. subst (λ x. x < length t1.up) (sym (at1 k)) (subst (λ m. walk f0.nest.after (f0.nest.head b) k < m) (sym (ap length same.up)) (ring_is.below k));
+      distinct = λ i j lij lj e. ring_is.distinct i j lij (subst (λ m. j < m) many1 lj) (sym (at1 i) ∙ (e ∙ at1 j));
+    };
+    around = λ k l. ap (λ (f : Forest). f.nest.up (walk f.nest.after (f.nest.head b) k)) gone ∙ ring_is.inside k;
+    other = λ k l e. part_other (walk f0.nest.after (f0.nest.head b) k) (circle_is.marked k) (sym (at1 k) ∙ e);
+    all = λ p up ne. (let w : (k : ℕ) × (k < many) × (walk f0.nest.after (f0.nest.head b) k ≡ p) = ring_is.all p (sym (ap (λ (f : Forest). f.nest.up p) gone) ∙ up) ne in
+        (w.0, subst (λ m. w.0 < m) (sym many1) w.1, at1 w.0 ∙ w.2));
+  }
+    where
+      many1 : (forest_of t1).nest.parts b ≡ many
+      many1 = ap (λ (f : Forest). f.nest.parts b) gone
+
+      at1 : (k : ℕ) → walk (forest_of t1).nest.after ((forest_of t1).nest.head b) k ≡ walk f0.nest.after (f0.nest.head b) k
+      at1 k = ap (λ (f : Forest). walk f.nest.after (f.nest.head b) k) gone
+
+  -- The set is parted.
+  module _ (f2 : Forest) (parted : IsParted g.n (mated (labelled f0 b Outside) b None) f2 (listed f0.nest.after (f0.nest.head b) (f0.nest.parts b)) b) where
+    abbrev pub next : ℕ → ℕ
+    next = f2.nest.after
+
+    abbrev pub joint : ℕ → ℕ
+    joint = f2.nest.joint
+
+    abbrev part : ℕ → ℕ
+    part = f2.out
+
+    -- The joint of a part is tight, and leads from it to the next.
+    pub record IsJoined (after darts : ℕ → ℕ) (x : ℕ) : Type 0 where
+      pub tight : IsTight d f0 (darts x)
+      pub near_in : f0.out (d.near (darts x)) ≡ b
+      pub near_part : part (d.near (darts x)) ≡ x
+      pub far_in : f0.out (far d (darts x)) ≡ b
+      pub far_part : part (far d (darts x)) ≡ after x
+
+    pub joined : (x : ℕ) → inside x ≡ true → IsJoined next joint x
+    joined x on = subst (λ (h : ℕ → ℕ). IsJoined next h x) (sym parted.joint) (subst (λ (h : ℕ → ℕ). IsJoined h f0.nest.joint x) (sym parted.after) (record {
+      tight = old.tight;
+      near_in = part_in x (d.near (f0.nest.joint x)) on near_low old.begins;
+      near_part = parted.own x (d.near (f0.nest.joint x)) on near_low old.begins;
+      far_in = part_in (f0.nest.after x) (far d (f0.nest.joint x)) (next_part x on) far_is_low old.ends;
+      far_part = parted.own (f0.nest.after x) (far d (f0.nest.joint x)) (next_part x on) far_is_low old.ends;
+    }))
+      where
+        old : IsJoint d f0 x
+        old = valid.valid.nested.joints x (part_inner x on)
+
+        near_low : d.near (f0.nest.joint x) < g.n
+        near_low = are.near_low (f0.nest.joint x) old.tight.low
+
+        far_is_low : far d (f0.nest.joint x) < g.n
+        far_is_low = far_low d are (f0.nest.joint x) old.tight.low
+
+    -- The vertices of the set are those of its parts.
+    pub in_part : (v : ℕ) → v < g.n → f0.out v ≡ b → inside (part v) ≡ true
+    in_part v l e = by_test (cases_Bool (inside (part v)))
+      where
+        by_test : (inside (part v) ≡ true) ⊎ (inside (part v) ≡ false) → inside (part v) ≡ true
+        by_test (inl on) = on
+        by_test (inr off) = absurd (parted.ended v l (sym (parted.out v l ∙ cond-false (inside (part v)) b (part v) off) ∙ e))
+
+    pub out_is : (v : ℕ) → v < g.n → f2.out v ≡ cond (eqb (f0.out v) b) (part v) (f0.out v)
+    out_is v l = by_test (cases_eq (f0.out v) b) (cases_Bool (inside (part v)))
+      where
+        by_test : (f0.out v ≡ b) ⊎ (f0.out v ≢ b) → (inside (part v) ≡ true) ⊎ (inside (part v) ≡ false) → part v ≡ cond (eqb (f0.out v) b) (part v) (f0.out v)
+        by_test (inl e) x = sym (cond-true (eqb (f0.out v) b) (part v) (f0.out v) (eq-eqb (f0.out v) b e))
+        by_test (inr ne) (inl on) = absurd (ne (parted.out v l ∙ cond-true (inside (part v)) b (part v) on))
+        by_test (inr ne) (inr off) = sym (parted.out v l ∙ cond-false (inside (part v)) b (part v) off) ∙ sym (cond-false (eqb (f0.out v) b) (part v) (f0.out v) (ne_eqb (f0.out v) b ne))
+
+    held_part : (x v : ℕ) → inside x ≡ true → v < g.n → f0.holds x v ≡ eqb (part v) x
+    held_part x v on l = by_test (cases_Bool (f0.holds x v)) (cases_eq (part v) x)
+      where
+        by_test : (f0.holds x v ≡ true) ⊎ (f0.holds x v ≡ false) → (part v ≡ x) ⊎ (part v ≢ x) → f0.holds x v ≡ eqb (part v) x
+        by_test (inl held) y = held ∙ sym (eq-eqb (part v) x (parted.own x v on l held))
+        by_test (inr free) (inl e) = absurd (true_false (f0.holds x v) (subst (λ y. f0.holds y v ≡ true) e (parted.holds_out v l)) free)
+        by_test (inr free) (inr ne) = free ∙ sym (ne_eqb (part v) x ne)
+
+    abbrev pub first : ℕ
+    first = part (d.near in_tree.dart)
+
+    abbrev pub last : ℕ
+    last = part (d.near (f0.link b))
+
+    pub first_in : inside first ≡ true
+    first_in = in_part (d.near in_tree.dart) (are.near_low in_tree.dart mate_is.tight.low) mate_is.here
+
+    pub last_in : inside last ≡ true
+    last_in = in_part (d.near (f0.link b)) (are.near_low (f0.link b) in_tree.tight.low) in_tree.here
+
+    pub ring_from : (x : ℕ) → inside x ≡ true → IsCircle next x many inside
+    ring_from x on = subst (λ (h : ℕ → ℕ). IsCircle h x many inside) (sym parted.after) (circle_from f0.nest.after (f0.nest.head b) many inside circle_is x on)
+
+    -- The parts in the order in which the tree goes through them, and the darts between them.
+    pub record IsRoute (q e : ℕ → ℕ) : Type 0 where
+      pub begins : q 0 ≡ first
+      pub marked : (j : ℕ) → inside (q j) ≡ true
+      pub distinct : (i j : ℕ) → i < j → j ≤ 2 * ring_is.half → q i ≢ q j
+      pub all : (x : ℕ) → inside x ≡ true → (j : ℕ) × (j ≤ 2 * ring_is.half) × (q j ≡ x)
+      pub tight : (j : ℕ) → j < 2 * ring_is.half → IsTight d f0 (e j)
+      pub near : (j : ℕ) → j < 2 * ring_is.half → (f0.out (d.near (e j)) ≡ b) × (part (d.near (e j)) ≡ q j)
+      pub far : (j : ℕ) → j < 2 * ring_is.half → (f0.out (far d (e j)) ≡ b) × (part (far d (e j)) ≡ q (j + 1))
+
+    abbrev pub opening_at : (q e : ℕ → ℕ) (turns : ℕ) → Opening
+    opening_at q e turns = record { b = b; m = in_tree.dart; half = ring_is.half; turns = turns; q = q; e = e; part = part }
+
+    pub opening_is : (q e : ℕ → ℕ) (turns : ℕ) → IsRoute q e → turns ≤ ring_is.half → q (2 * turns) ≡ last → IsOpening d f0 (opening_at q e turns)
+    opening_is q e turns route short ends = record {
+      high = high;
+      label = inner;
+      weightless = weightless;
+      mate = in_tree.mate;
+      some = ring_is.some;
+      short = short;
+      parts = λ j l. (part_around (q j) (route.marked j), part_other (q j) (route.marked j), part_low (q j) (route.marked j));
+      distinct = route.distinct;
+      all = λ p up ne. route.all p (around_part p up ne);
+      tight = route.tight;
+      begins = route.near;
+      ends = route.far;
+      part_of = λ v l e. route.all (part v) (in_part v l e);
+      held = λ v j l e lj. held_part (q j) v (route.marked j) l;
+      parted = λ x u v lu lv ne hu hv eu ev. parted.together x u v lu lv ne hu hv;
+      first = sym route.begins;
+      last = sym ends;
+    }
