@@ -1,0 +1,3 @@
+pub mod NewPoints
+pub mod NewSoup
+pub mod Refined

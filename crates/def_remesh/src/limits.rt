@@ -1,0 +1,7 @@
+//! The greatest sizes of a new mesh.
+
+/// The faces of a new mesh.
+pub const MAX_NEW_FACES: u32 = 2_097_152;
+
+/// The length of an arc.
+pub const MAX_LENGTH: u64 = 1_000_000_000_000;
