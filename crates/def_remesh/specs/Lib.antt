@@ -1,3 +1,4 @@
 pub mod NewPoints
 pub mod NewSoup
 pub mod Refined
+pub mod Remeshed
