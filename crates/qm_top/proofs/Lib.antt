@@ -1,3 +1,4 @@
 mod Complete
+mod Naming
 mod NeverBytes
 mod Refusals

@@ -36,7 +36,7 @@ NeedsMesh command = (bytes : Bytes) (answer : Answer) → IsNoMesh bytes answer 
 -- The refusal of a soup that was read is one of the input.
 pub no_mesh_read : (input : Change) (s : FaceSet) (r : Refusal) → ReadSoup MAX_BYTES input.told input.told_now s
     → input.faults_now ≡ input.faults → IsNoMeshOf s r → IsInputRefusal input r
-no_mesh_read input s (NotManifold place names) read calm none =
+no_mesh_read input s (NotManifold named) read calm none =
     record { soup = s; read = read; fault = none.0; refuted = none.1; named = none.2; calm = calm }
 no_mesh_read input s refusals.Memory read calm none = tt
 no_mesh_read input s (Soup fail) read calm none = absurd none
@@ -72,11 +72,11 @@ input_ended command input out (Soup (soup.Obj fail)) needs why = record {
   calm = λ f m. why.2;
 }
 input_ended command input out (Soup soup.Memory) needs why = record { cause = tt; names = λ p is. cc; calm = λ f m. absurd (m refl) }
-input_ended command input out (NotManifold place names) needs why = record {
+input_ended command input out (NotManifold named) needs why = record {
   cause = record {
     bytes = why.read.bytes;
     whole = why.read.whole;
-    said = needs why.read.bytes (answers.NotManifold place) (record { soup = why.soup; said = why.read.said; fault = why.fault; refuted = why.refuted });
+    said = needs why.read.bytes (answers.NotManifold named.place) (record { soup = why.soup; said = why.read.said; fault = why.fault; refuted = why.refuted });
   };
   names = λ p is. (why.soup, why.read, why.named);
   calm = λ f m. why.calm;

@@ -48,13 +48,13 @@ answer_of_soup soup.Memory = Memory
 -- The answer to a refusal.
 abbrev pub answer_of : (refusal : Refusal) → Answer
 answer_of (Soup fail) = answer_of_soup fail
-answer_of (NotManifold place names) = answers.NotManifold place
+answer_of (NotManifold named) = answers.NotManifold named.place
 answer_of (Write fail) = WriteFault
 answer_of refusals.Memory = Memory
 
 -- The numbers in the file of the vertices that a refusal may name.
 abbrev pub names_of : (refusal : Refusal) → List ℕ
-names_of (NotManifold place names) = names.items
+names_of (NotManifold named) = named.names.items
 names_of _ = []
 
 -- The source gave this soup, whose faces are no manifold, first at this place.
@@ -68,15 +68,15 @@ pub record ReadNoManifold (input : Change) (place : Place) (names : List ℕ) : 
 
 -- Why a soup is no mesh, where there is memory.
 abbrev pub IsNoMeshOf : (soup : FaceSet) (refusal : Refusal) → Type 0
-IsNoMeshOf soup (NotManifold place names) =
-    IsFirstFault soup.faces place × (¬ IsManifold soup.faces) × (names.items ≡ soup.names)
+IsNoMeshOf soup (NotManifold named) =
+    IsFirstFault soup.faces named.place × (¬ IsManifold soup.faces) × (named.names.items ≡ soup.names)
 IsNoMeshOf soup refusals.Memory = ⊤
 IsNoMeshOf soup _ = ⊥
 
 -- Why the source gave no mesh.
 abbrev pub IsInputRefusal : (input : Change) (refusal : Refusal) → Type 0
 IsInputRefusal input (Soup fail) = IsSoupFail MAX_BYTES input fail
-IsInputRefusal input (NotManifold place names) = ReadNoManifold input place names.items
+IsInputRefusal input (NotManifold named) = ReadNoManifold input named.place named.names.items
 IsInputRefusal input refusals.Memory = ⊤
 IsInputRefusal input (Write fail) = ⊥
 

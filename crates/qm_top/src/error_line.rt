@@ -1,8 +1,9 @@
 //! The line that is said of an answer.
 
-ghost use Rattle.std.specs.Prelude.{◌≡◌, ◌≤◌, slice_index};
+ghost use Rattle.std.specs.Prelude.{◌≡◌, ◌≤◌, ◌<◌, length, slice_index};
 ghost use Rattle.arrayvec.specs.ArrayString.{array_string_len};
 ghost use Rattle.def_run.specs.ErrorLines.{corners_text, error_line, limit_text, name_text, place_text, reason_text};
+ghost use Rattle.qm_top.specs.Named.{HasNames, IsNamed};
 
 use def_mesh::Place;
 use def_run::Answer;
@@ -11,6 +12,7 @@ use qm_print::{Line, line_of, numbered_line, push_numbered};
 
 /// The whole line of an answer, where `names` has the vertices' numbers in the file. It takes no memory.
 pub(crate) fn error_line_of(answer: &Answer, names: &[u32]) -> Line
+    requires { HasNames names.now answer.now }
     ensures { result.bytes ≡ error_line names.now answer.now }
 {
     let reason = reason_of(answer, names);
@@ -25,6 +27,7 @@ const USAGE: &str =
     "usage: quadq tidy | graph | refine --by K | remesh --scale P/Q --floor F --weight plain|length | check | bench --size N";
 
 fn reason_of(answer: &Answer, names: &[u32]) -> Line
+    requires { HasNames names.now answer.now }
     ensures text { result.bytes ≡ reason_text names.now answer.now }
     ensures short { array_string_len result ≤ 200 }
 {
@@ -68,6 +71,7 @@ fn limit_of(which: Which, line: u32) -> Line
 }
 
 fn place_of(place: Place, names: &[u32]) -> Line
+    requires { IsNamed names.now place }
     ensures text { result.bytes ≡ place_text names.now place }
     ensures short { array_string_len result ≤ 200 }
 {
@@ -95,7 +99,8 @@ fn place_of(place: Place, names: &[u32]) -> Line
 
 /// The number that the file gave the vertex.
 fn name_of(vertex: u32, names: &[u32]) -> u64
+    requires { vertex < length names.now }
     ensures { result ≡ slice_index names.now vertex }
 {
-    names.get(vertex as usize).copied().unwrap_or(0) as u64
+    u64::from(names[vertex as usize])
 }

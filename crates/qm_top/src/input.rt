@@ -6,6 +6,7 @@ ghost use Rattle.def_mesh.specs.Manifold.{IsManifold};
 ghost use Rattle.def_text.specs.Input.{ReadSoup};
 ghost use Rattle.qm_top.specs.Refusals.{IsInputRefusal, IsNoMeshOf};
 
+use crate::named::named_place;
 use crate::refusal::Refusal;
 use def_text::{MAX_BYTES, MAX_FACES, MAX_VERTICES, Soup};
 use qm_io::Source;
@@ -43,10 +44,7 @@ fn with_mesh(alloc: Global, soup: Soup) -> Result<MeshInput, Refusal>
 {
     match build(alloc, soup.pos.len() as u32, &soup.faces) {
         Ok(mesh) => Ok(MeshInput { soup, mesh }),
-        Err(MeshFail::NotManifold(place)) => {
-            let Soup { names, .. } = soup;
-            Err(Refusal::NotManifold { place, names })
-        }
+        Err(MeshFail::NotManifold(place)) => Err(Refusal::NotManifold(named_place(place, soup))),
         Err(MeshFail::Memory) => Err(Refusal::Memory),
     }
 }

@@ -5,6 +5,7 @@ mod command;
 mod error_line;
 mod graph;
 mod input;
+mod named;
 mod process;
 mod refusal;
 mod tidy;

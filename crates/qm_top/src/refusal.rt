@@ -1,11 +1,12 @@
 //! Why a command ends without its output.
 
-ghost use Rattle.std.specs.Prelude.{◌≡◌, ◌≢◌};
+ghost use Rattle.std.specs.Prelude.{◌≡◌, ◌≢◌, []};
+ghost use Rattle.qm_top.specs.Named.{HasNames};
 ghost use Rattle.qm_top.specs.Refusals.{answer_of, answer_of_obj, answer_of_soup, answer_of_words, names_of};
 ghost use Rattle.qm_top.specs.declared.refusal.Refusal.TheVariants as refusals;
 
+use crate::named::NamedPlace;
 use def_io::WriteFail;
-use def_mesh::Place;
 use def_run::{Answer, WordsFail};
 use def_text::{ObjFail, SoupFail, Which};
 use std::alloc::AllocError;
@@ -14,8 +15,7 @@ use std::alloc::AllocError;
 #[derive(Debug, Drop)]
 pub(crate) enum Refusal {
     Soup(SoupFail),
-    /// The faces are no manifold; `names` has the vertices' numbers in the file.
-    NotManifold { place: Place, names: Vec<u32> },
+    NotManifold(NamedPlace),
     Write(WriteFail),
     Memory,
 }
@@ -24,12 +24,13 @@ impl Refusal {
     /// The answer of the run.
     pub(crate) fn answer(&self) -> Answer
         ensures answer { result ≡ answer_of self.now }
+        ensures named { HasNames (names_of self.now) result }
         ensures refusal { result ≢ Answer.Done }
         ensures accepted { result ≢ Answer.Usage }
     {
         match self {
             Refusal::Soup(fail) => soup_answer(*fail),
-            Refusal::NotManifold { place, .. } => Answer::NotManifold { place: *place },
+            Refusal::NotManifold(named) => Answer::NotManifold { place: named.place },
             Refusal::Write(_) => Answer::WriteFault,
             Refusal::Memory => Answer::Memory,
         }
@@ -40,7 +41,7 @@ impl Refusal {
         ensures { result.now ≡ names_of self.now }
     {
         match self {
-            Refusal::NotManifold { names, .. } => names,
+            Refusal::NotManifold(named) => &named.names,
             _ => &[],
         }
     }
@@ -72,7 +73,8 @@ impl From<AllocError> for Refusal {
 
 /// The answer to words that are no command.
 pub(crate) fn words_answer(fail: WordsFail) -> Answer
-    ensures { result ≡ answer_of_words fail }
+    ensures answer { result ≡ answer_of_words fail }
+    ensures unnamed { HasNames [] result }
 {
     match fail {
         WordsFail::Usage => Answer::Usage,

@@ -5,11 +5,11 @@ use Rattle.qm_top.proofs.command.run.Goals as goal
 
 pub returns-in-Err-clause-complete : goal.returns-in-Err-clause-complete
 returns-in-Err-clause-complete g c = λ command line good.
-    inr (inl (not_read _ command _ c.in-Err.fail c.words_answer-answer.result c.words_answer-answer.ensures line good c.in-Err.ensures.refuses))
+    inr (inl (not_read _ command _ c.in-Err.fail c.words_answer-answer.result c.words_answer-answer.ensures.answer line good c.in-Err.ensures.refuses))
 
 pub returns-in-Err-clause-told : goal.returns-in-Err-clause-told
 returns-in-Err-clause-told g c = λ refused.
-    says_words _ _ c.in-Err.fail c.words_answer-answer.result _ c.words_answer-answer.ensures c.error_line_of.ensures c.say.ensures
+    says_words _ _ c.in-Err.fail c.words_answer-answer.result _ c.words_answer-answer.ensures.answer c.error_line_of.ensures c.say.ensures
 
 pub returns-in-Err-run_command-clause-complete : goal.returns-in-Err-run_command-clause-complete
 returns-in-Err-run_command-clause-complete g c = λ command line good.

@@ -1,0 +1,15 @@
+use Rattle.std.proofs.Common.{sym, subst}
+use Rattle.def_mesh.specs.Faults.{IsFirstFault}
+use Rattle.def_text.specs.FaceSet.{FaceSet}
+use Rattle.qm_top.specs.Named.{AreQuads}
+use Rattle.qm_top.proofs.Naming.{named_where}
+use Rattle.qm_top.proofs.named.named_place.Goals as goal
+
+pub invariant_of-result : goal.invariant_of-result
+invariant_of-result c =
+    let inside : FaceSet =
+    record { pos = c.soup.inside.pos.items; faces = c.soup.inside.faces.items; names = c.soup.inside.names.items } in
+    record {
+      named = named_where inside c.args.place c.soup.invariant (subst AreQuads c.deref.ensures.value c.are_quads.ensures)
+          (subst (λ (s : FaceSet). IsFirstFault s.faces c.args.place) (sym c.soup.view_is) c.requires.fault);
+    }

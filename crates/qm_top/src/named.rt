@@ -1,0 +1,33 @@
+//! A place where faces fail to be a manifold, with the numbers that the file gave the vertices.
+
+ghost use Rattle.std.specs.Prelude.{◌≡◌, length};
+ghost use Rattle.std.specs.List.{list_all};
+ghost use Rattle.def_mesh.specs.Faults.{IsFirstFault};
+ghost use Rattle.qm_top.specs.Named.{AreQuads, IsNamed};
+
+use def_mesh::Place;
+use def_text::Soup;
+
+/// A place whose vertices all have numbers in the file.
+#[derive(Debug, Drop)]
+pub(crate) struct NamedPlace {
+    pub(crate) place: Place,
+    pub(crate) names: Vec<u32>,
+    ghost named: { IsNamed names.items place },
+}
+
+/// The first place where the faces of a soup fail to be a manifold, with the soup's numbers.
+pub(crate) fn named_place(place: Place, soup: Soup) -> NamedPlace
+    requires fault { IsFirstFault soup.faces place }
+    ensures place { result.place ≡ place }
+    ensures names { result.names.items ≡ soup.names }
+{
+    are_quads(&soup.faces);
+    let Soup { names, .. } = soup;
+    NamedPlace { place, names }
+}
+
+/// Faces of four corners are quads.
+fn are_quads(faces: &[[u32; 4]])
+    ensures { AreQuads faces.now }
+{}
