@@ -11,3 +11,4 @@ mod Settled
 mod Noting
 mod Tellings
 mod Calls
+mod Moves
