@@ -52,7 +52,8 @@ pub(crate) fn side(alloc: Global, runs: &Runs, line: &[u32]) -> Result<Side, All
     ensures { IfOk result (λ side.
         IsSideOf (map path runs.now.arcs.items) runs.now.uses.items line.now side.arcs.items) }
 {
-    let mut arcs = Vec::new(alloc);
+    // Most sides are one arc.
+    let mut arcs = Vec::with_capacity(alloc, 1)?;
     let mut t = 0usize;
     while t < line.len() {
         let used = runs.uses[line[t] as usize];
