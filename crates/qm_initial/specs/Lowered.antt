@@ -1,9 +1,13 @@
 -- Numbers of vertices, lowered so far that the first edges have room.
 use Rattle.std.specs.Prelude.{◌≡◌, ℕ, ◌+◌, ◌<◌, ◌^◌, nat_lt, if◌then◌else◌, List, length, slice_index_or, slice_set}
-use Rattle.std.specs.Prelude.{ℤ, pos, neg_ℤ, ◌+ℤ◌, ◌-ℤ◌, ◌*ℤ◌, ◌≤ℤ◌, int_lt}
+use Rattle.std.specs.Prelude.{ℤ, pos, neg_ℤ, ◌+ℤ◌, ◌-ℤ◌, ◌*ℤ◌, ◌≤ℤ◌, ◌≤◌, int_lt, unsigned_abs}
 use Rattle.def_matching.specs.declared.weighted.WEdge.{WEdge}
 use Rattle.def_matching.specs.Matching.{Graph, EdgeNumber, Vertex, edge_at}
 use Rattle.qm_initial.specs.declared.initial.TheConstants.{MAX_WISH}
+
+-- No number is farther from 0 than a wish.
+abbrev pub AreNear : (numbers : List ℤ) → Type 0
+AreNear numbers = (v : Vertex) → unsigned_abs (slice_index_or numbers v (pos 0)) ≤ MAX_WISH
 
 -- No number is far from 0. One that was lowered has another's number, which was at most the greatest wish, taken from
 -- twice a cost.

@@ -27,11 +27,11 @@ fn main(rt: HostRuntime) -> io::Result<ExitCode> {
         return Ok(ExitCode::from(4));
     }
     let start = start_of(rt.alloc(), &net)?;
-    if !are_lengths(&net, &start) || !is_start(&net, &start) {
+    if !are_lengths(&net, &start.lengths) || !is_start(&net, &start.lengths) {
         return Ok(ExitCode::from(5));
     }
-    let far = deviation(&net, &start);
-    let gadget = graph_of(rt.alloc(), &net, &start, 1)?;
+    let far = deviation(&net, &start.lengths);
+    let gadget = graph_of(rt.alloc(), &net, &start.lengths, 1)?;
     let vertices = gadget.graph.n;
     let edges = gadget.graph.edges.len();
     println!(rt;

@@ -7,7 +7,7 @@ ghost use Rattle.def_flow.specs.Descent.{IsSolution, IsStartOf};
 
 use crate::Memory;
 use crate::matcher::Matcher;
-use crate::round::{Round, improve};
+use crate::round::{Guide, Round, improve};
 use def_flow::{Arc, Cert, MAX_OLD, MAX_SCALE, MAX_STEP, MAX_TANGLE, Net};
 use std::alloc::Global;
 
@@ -26,10 +26,30 @@ pub fn solve_from<M: Matcher>(
     requires start { IsStartOf (network net.now) start.now }
     ensures { IfOk result (λ cert. IsSolution (network net.now) (certificate cert)) }
 {
+    let prices = [];
+    let guide = Guide {
+        matcher,
+        prices: &prices,
+    };
+    descend(alloc, &guide, net, start)
+}
+
+/// The descent from an admissible list, with prices for its last rounds.
+pub(crate) fn descend<M: Matcher>(
+    alloc: Global,
+    guide: &Guide<M>,
+    net: &Net,
+    start: &[u64],
+) -> Result<Cert, Memory>
+    requires bounds { IsWithinBounds (network net.now) }
+    requires tangle { tangle_number (network net.now) ≤ MAX_TANGLE }
+    requires start { IsStartOf (network net.now) start.now }
+    ensures { IfOk result (λ cert. IsSolution (network net.now) (certificate cert)) }
+{
     let mut x = Vec::from_slice(alloc, start)?;
     let mut step = first_step(net, start);
     loop {
-        match improve(alloc, matcher, net, &x, step)? {
+        match improve(alloc, guide, net, &x, step)? {
             Round::Better { x: better } => x = better,
             Round::Least { dual } => {
                 if step == 1 {

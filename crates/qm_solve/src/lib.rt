@@ -3,6 +3,7 @@
 
 mod descent;
 mod matcher;
+mod priced;
 mod round;
 mod start;
 #[cfg(test)]

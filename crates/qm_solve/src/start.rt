@@ -9,11 +9,12 @@ ghost use Rattle.def_flow.specs.Descent.{IsSolution, IsStartOf, multiple_of, old
 ghost use Rattle.qm_solve.specs.Rounds.{is_near_arc};
 
 use crate::Memory;
-use crate::descent::solve_from;
+use crate::descent::descend;
 use crate::matcher::Matcher;
+use crate::round::Guide;
 use def_flow::{Arc, Cert, MAX_LENGTH, MAX_TANGLE, Net};
 use qm_net::{admissible, are_lengths, deviation};
-use qm_start::near_start;
+use qm_start::{Start, near_start};
 use std::alloc::Global;
 
 /// A least list of lengths of an even network, with the certificate that shows it to be least. The descent begins at a
@@ -25,22 +26,30 @@ pub fn solve<M: Matcher>(alloc: Global, matcher: &M, net: &Net) -> Result<Cert, 
     ensures { IfOk result (λ cert. IsSolution (network net.now) (certificate cert)) }
 {
     let start = start_of(alloc, net)?;
-    solve_from(alloc, matcher, net, &start)
+    let guide = Guide {
+        matcher,
+        prices: &start.prices,
+    };
+    descend(alloc, &guide, net, &start.lengths)
 }
 
 /// The list that `solve` starts from: one near what is wanted where that serves, and else a multiple of the old
-/// lengths, which serves for each even network.
-pub fn start_of(alloc: Global, net: &Net) -> Result<Vec<u64>, Memory>
+/// lengths, which serves for each even network. The former comes with prices of the nodes, the latter with none.
+pub fn start_of(alloc: Global, net: &Net) -> Result<Start, Memory>
     requires { IsWithinBounds (network net.now) }
-    ensures { IsEven (network net.now) → IfOk result (λ start. IsStartOf (network net.now) start.items) }
+    ensures { IsEven (network net.now)
+        → IfOk result (λ start. IsStartOf (network net.now) start.lengths.items) }
 {
     if let Some(near) = near_start(alloc, net)? {
         if is_start(net, &near.lengths) {
-            return Ok(near.lengths);
+            return Ok(near);
         }
     }
-    let multiple = old_multiple(alloc, net)?;
-    Ok(multiple)
+    let lengths = old_multiple(alloc, net)?;
+    Ok(Start {
+        lengths,
+        prices: Vec::new(alloc),
+    })
 }
 
 /// The old lengths, so many times that each is at least the floor and near what is wanted. The list is admissible where

@@ -14,7 +14,13 @@ use std::test::Fail;
 struct Zeros;
 
 impl Matcher for Zeros {
-    fn best(&self, alloc: Global, g: &WGraph, known: &[u32]) -> Result<Matched, AllocError> {
+    fn best(
+        &self,
+        alloc: Global,
+        g: &WGraph,
+        known: &[u32],
+        _wish: &[i64],
+    ) -> Result<Matched, AllocError> {
         let n = g.n as usize;
         let dual = Dual {
             y: vec![in alloc; 0i64; n]?,

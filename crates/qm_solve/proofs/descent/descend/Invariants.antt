@@ -1,7 +1,7 @@
 use Rattle.std.proofs.Common.{◌≡◌, ◌+◌, ◌≤◌, length}
 use Rattle.def_flow.specs.Network.{network}
 use Rattle.def_flow.specs.Admissible.{IsAdmissible, deviation, entries}
-use Rattle.qm_solve.proofs.descent.solve_from.Given as goal
+use Rattle.qm_solve.proofs.descent.descend.Given as goal
 
 abbrev pub invariant-loop-x : goal.invariant-loop-x
 invariant-loop-x g l = record {

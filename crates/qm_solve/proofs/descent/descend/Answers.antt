@@ -5,7 +5,7 @@ use Rattle.qm_solve.specs.Rounds.{IsRound}
 use Rattle.qm_solve.specs.declared.round.Round.{Round}
 use Rattle.qm_solve.proofs.Near.{lengths_near}
 use Rattle.qm_solve.proofs.Rounds.{solved}
-use Rattle.qm_solve.proofs.descent.solve_from.Goals as goal
+use Rattle.qm_solve.proofs.descent.descend.Goals as goal
 
 pub improve-requires-clause-lengths : goal.improve-requires-clause-lengths
 improve-requires-clause-lengths g c = rw c.deref.ensures.value (lengths_near (network c.args.net.now) c.args.start.now c.loop-x.x.items c.requires.bounds c.requires.start c.loop-x.invariant.count c.loop-x.invariant.nearer)
