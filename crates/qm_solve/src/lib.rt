@@ -2,6 +2,7 @@
 #![tactic(auto)]
 
 mod descent;
+mod idle;
 mod matcher;
 mod priced;
 mod round;

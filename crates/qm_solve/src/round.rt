@@ -9,6 +9,7 @@ ghost use Rattle.qm_initial.specs.Lowered.{AreNear};
 ghost use Rattle.qm_solve.specs.Rounds.{IsRound};
 
 use crate::Memory;
+use crate::idle::without_idle_sets;
 use crate::matcher::Matcher;
 use crate::priced::wishes_of;
 use def_flow::{Gadget, MAX_STEP, MAX_TANGLE, Net};
@@ -54,7 +55,8 @@ pub(crate) fn improve<M: Matcher>(
         let x = lengths_of(alloc, net, &gadget, &found.edges)?;
         Ok(Round::Better { x })
     } else {
-        Ok(Round::Least { dual: found.dual })
+        let dual = without_idle_sets(alloc, &gadget.graph, found.dual)?;
+        Ok(Round::Least { dual })
     }
 }
 

@@ -26,6 +26,6 @@ returns g c =
     let no_less : known ≤ℤ found = omega (arith, ints, c.if-cost_of.false, c.cost_of.ensures, c.cost_of-2.ensures, ap (matching_cost (graph c.in_ok-gadget.gadget.graph)) c.deref-3.ensures.value, ap (matching_cost (graph c.in_ok-gadget.gadget.graph)) c.deref-4.ensures.value) in
     let of_list : known ≡ pos (deviation (network c.args.net.now) (entries c.args.x.now)) -ℤ pos (deviation (network c.args.net.now) (entries (lows (network c.args.net.now) c.args.step c.args.x.now))) =
     c.in_ok-known.ensures.cost ∙ ap (λ ls. pos (deviation (network c.args.net.now) (entries c.args.x.now)) -ℤ pos (deviation (network c.args.net.now) (entries ls))) c.in_ok-gadget.ensures.low in (
-      sums_meet (network c.args.net.now) c.args.step c.args.x.now (graph c.in_ok-gadget.gadget.graph) (dual c.in_ok-found.found.dual) c.in_ok-found.found.edges.items c.in_ok-known.known.items c.requires.lengths.count c.in_ok-gadget.ensures.graph c.in_ok-gadget.ensures.small.lawful c.in_ok-known.ensures.perfect of_list c.in_ok-found.ensures.least no_less,
-      c.in_ok-found.ensures.dual,
+      sums_meet (network c.args.net.now) c.args.step c.args.x.now (graph c.in_ok-gadget.gadget.graph) (dual c.in_ok-dual.dual) c.in_ok-found.found.edges.items c.in_ok-known.known.items c.requires.lengths.count c.in_ok-gadget.ensures.graph c.in_ok-gadget.ensures.small.lawful c.in_ok-known.ensures.perfect of_list (c.in_ok-dual.ensures.same ∙ c.in_ok-found.ensures.least) no_less,
+      c.in_ok-dual.ensures.small,
     )

@@ -1,0 +1,108 @@
+//! A dual without the sets that say nothing, those whose number is 0.
+
+ghost use Rattle.std.specs.Prelude.{◌≡◌, ◌+◌, ◌≤◌, ℕ, length, slice_index, IfOk};
+ghost use Rattle.def_matching.specs.Matching.{graph, IsSmallGraph};
+ghost use Rattle.def_matching.specs.Dual.{dual, verdict, AreSmall, IsSmallDual};
+ghost use Rattle.qm_solve.specs.Idle.{AreNamed};
+
+use crate::Memory;
+use def_matching::{Dual, Verdict, WGraph};
+use qm_dual::dual_ok;
+use std::alloc::Global;
+
+/// The dual without the sets whose number is 0, if both have one verdict: so a mistake here could keep sets, and never
+/// cost an answer. Linear, but for the judgement.
+pub(crate) fn without_idle_sets(alloc: Global, g: &WGraph, d: Dual) -> Result<Dual, Memory>
+    requires graph { IsSmallGraph (graph g.now) }
+    requires small { IsSmallDual (dual d) }
+    ensures same { IfOk result (λ kept. verdict (graph g.now) (dual kept) ≡ verdict (graph g.now) (dual d)) }
+    ensures small { IfOk result (λ kept. IsSmallDual (dual kept)) }
+{
+    let Verdict::Yes { sum: old } = dual_ok(alloc, g, &d)? else {
+        return Ok(d);
+    };
+    let kept = kept_sets(alloc, g, &d, old)?;
+    let Verdict::Yes { sum: new } = dual_ok(alloc, g, &kept)? else {
+        return Ok(d);
+    };
+    if new == old { Ok(kept) } else { Ok(d) }
+}
+
+/// The dual with new names for the sets that are kept.
+fn kept_sets(alloc: Global, g: &WGraph, d: &Dual, sum: i128) -> Result<Dual, Memory>
+    requires small { IsSmallDual (dual d.now) }
+    requires yes { verdict (graph g.now) (dual d.now) ≡ Verdict.Yes sum }
+    ensures small { IfOk result (λ kept. IsSmallDual (dual kept)) }
+{
+    let names = new_names(alloc, &d.z, &d.up)?;
+    let z = without_zeros(alloc, &d.z)?;
+    let up = renamed(alloc, &d.up, &d.z, &names)?;
+    let y = Vec::from_slice(alloc, &d.y)?;
+    Ok(Dual { y, z, up })
+}
+
+/// What an entry that names a set becomes: the set's number among the kept ones, from 1, or the entry of the least kept
+/// set around it.
+fn new_names(alloc: Global, z: &[i64], up: &[u32]) -> Result<Vec<u32>, Memory>
+    requires low { AreNamed (length z.now) up.now }
+    requires long { length z.now ≤ length up.now }
+    requires few { length z.now ≤ 1_073_741_824 }
+    ensures { IfOk result (λ names. length names.items ≡ length z.now) }
+{
+    let mut names = vec![in alloc; 0u32; z.len()]?;
+    let mut name = 0u32;
+    for (k, number) in z.iter().enumerate() {
+        if *number != 0 {
+            name += 1;
+            names[k] = name;
+        }
+    }
+    let vertices = up.len() - z.len();
+    for k in (0..z.len()).rev() {
+        if z[k] == 0 {
+            names[k] = new_name(&names, up[vertices + k]);
+        }
+    }
+    Ok(names)
+}
+
+/// The new entry for an old one.
+fn new_name(names: &[u32], entry: u32) -> u32
+    requires { entry ≤ length names.now }
+{
+    if entry == 0 {
+        0
+    } else {
+        names[entry as usize - 1]
+    }
+}
+
+/// The entries of the vertices and of the kept sets.
+fn renamed(alloc: Global, up: &[u32], z: &[i64], names: &[u32]) -> Result<Vec<u32>, Memory>
+    requires low { AreNamed (length names.now) up.now }
+    requires long { length z.now ≤ length up.now }
+{
+    let mut entries = Vec::with_capacity(alloc, up.len())?;
+    let vertices = up.len() - z.len();
+    for (i, entry) in up.iter().enumerate() {
+        if i < vertices || z[i - vertices] != 0 {
+            entries.push(new_name(names, *entry))?;
+        }
+    }
+    Ok(entries)
+}
+
+/// The numbers that are not 0.
+fn without_zeros(alloc: Global, z: &[i64]) -> Result<Vec<i64>, Memory>
+    requires { AreSmall z.now }
+    ensures small { IfOk result (λ kept. AreSmall kept.items) }
+    ensures fewer { IfOk result (λ kept. length kept.items ≤ length z.now) }
+{
+    let mut kept = Vec::new(alloc);
+    for number in z {
+        if *number != 0 {
+            kept.push(*number)?;
+        }
+    }
+    Ok(kept)
+}
