@@ -1,6 +1,7 @@
 -- Facts on the pieces of a text and on the positions after them.
 use Rattle.std.proofs.Common.{◌≡◌, ℕ, zero, suc, ◌+◌, ◌-◌, ◌==◌, ◌<◌, ◌≤◌, Bool, true, false, if◌then◌else◌, List, [], ◌∷◌, ◌++◌, length, take, drop, map, get_or, slice_index, slice_index_or, refl, sym, ◌∙◌, ap, arith, length-append}
-use Rattle.std.specs.List.{flat_map}
+use Rattle.std.specs.List.{flat_map, list_any}
+use Rattle.std.proofs.lemmas.Bool.{or_from}
 use Rattle.std.proofs.lemmas.List.{length-map}
 use Rattle.def_io.specs.Lines.{in_front, pieces, line_of, lines_of, tail_of}
 use Rattle.qm_io.specs.Ends.{ends_from}
@@ -159,3 +160,15 @@ pub tail-cut : (bs : List ℕ) (i : ℕ) → i < length (pieces bs) → drop (be
 tail-cut bs i l =
     ap (drop (begin 0 (pieces bs) i)) (sym (flat-pieces bs))
     ∙ drop-begin 0 (begin 0 (pieces bs) i) (pieces bs) i (omega arith) (omega arith)
+
+-- Where no byte before `k` is a LF, the front up to `k` has none.
+pub none_in_front : (bs : List ℕ) (k : ℕ) → ((j : ℕ) → j < k → (slice_index bs j == 10) ≡ true → ⊥)
+    → list_any (λ b. b == 10) (take k bs) ≡ false
+none_in_front bs zero none = refl
+none_in_front [] (suc k) none = refl
+none_in_front (b ∷ bs) (suc k) none =
+    or_from _ _ (by_test (b == 10) (none 0 (omega arith))) (none_in_front bs k (λ j l. none (suc j) (omega arith)))
+  where
+    by_test : (t : Bool) → (t ≡ true → ⊥) → t ≡ false
+    by_test true off = absurd (off refl)
+    by_test false off = refl

@@ -1,12 +1,28 @@
 //! Where the pieces of a text end.
 
-ghost use Rattle.std.specs.Prelude.{◌≡◌, ◌≤◌, ◌<◌, ◌-◌, ◌^◌, ◌++◌, ◌∷◌, [], length, take, drop, IfOk};
+ghost use Rattle.std.specs.Prelude.{◌≡◌, ◌≤◌, ◌<◌, ◌-◌, ◌^◌, ◌==◌, ◌++◌, ◌∷◌, [], false, length, take, drop, slice_index};
+ghost use Rattle.std.specs.Prelude.{IfOk, IfSome, IfNone};
+ghost use Rattle.std.specs.List.{list_any};
 ghost use Rattle.def_io.specs.Lines.{pieces};
 ghost use Rattle.qm_io.specs.Ends.{ends_from};
 
 use def_io::LINE_FEED;
 use memchr::memchr;
 use std::alloc::{AllocError, Global};
+
+/// The position after the first line feed, where there is one. Linear.
+pub fn end_of_line(bytes: &[u8]) -> Option<usize>
+    ensures more { IfSome result (λ end. 0 < end) }
+    ensures within { IfSome result (λ end. end ≤ length bytes.now) }
+    ensures feed { IfSome result (λ end. slice_index bytes.now (end - 1) ≡ LINE_FEED) }
+    ensures first { IfSome result (λ end. list_any (λ byte. byte == LINE_FEED) (take (end - 1) bytes.now) ≡ false) }
+    ensures none { IfNone result (list_any (λ byte. byte == LINE_FEED) bytes.now ≡ false) }
+{
+    match memchr(LINE_FEED, bytes) {
+        Some(at) => Some(at + 1),
+        None => None,
+    }
+}
 
 /// The position after the piece that begins at `start`.
 fn end_of_piece(bytes: &[u8], start: usize) -> usize

@@ -12,7 +12,8 @@ mod traits;
 mod writing;
 
 pub use def_io::{ReadFail, WriteFail};
-pub use lines::Lines;
+pub use ends::end_of_line;
+pub use lines::{Lines, line_of};
 pub use memory::{MemSink, MemSource};
 pub use reading::read_lines;
 pub use streams::{StdSink, StdSource};

@@ -105,10 +105,14 @@ fn line_at<'a>(bytes: &'a [u8], ends: &[u32], i: usize) -> &'a [u8]
     requires there { i < length (lines_of bytes.now) }
     ensures { result.now ≡ slice_index_or (lines_of bytes.now) i [] }
 {
-    strip_last(
-        strip_last(piece_at(bytes, ends, i), LINE_FEED),
-        CARRIAGE_RETURN,
-    )
+    line_of(piece_at(bytes, ends, i))
+}
+
+/// A piece of a text without its line feed, and then without a carriage return at its end.
+pub fn line_of(piece: &[u8]) -> &[u8]
+    ensures { result.now ≡ line_of piece.now }
+{
+    strip_last(strip_last(piece, LINE_FEED), CARRIAGE_RETURN)
 }
 
 fn strip_last(piece: &[u8], byte: u8) -> &[u8]

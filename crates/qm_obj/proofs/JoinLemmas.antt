@@ -22,7 +22,7 @@ no_hash (b ∷ bs) = by_hash (is_hash b) (no_hash bs)
     by_hash false again = grind (arith, nat_tests)
 
 -- A line that continues is as long with the space.
-length-with_space : (line : List ℕ) → continues line ≡ true → length (with_space line) ≡ length line
+pub length-with_space : (line : List ℕ) → continues line ≡ true → length (with_space line) ≡ length line
 length-with_space [] on = absurd (false≢true on)
 length-with_space (b ∷ bs) on = omega (arith, length-append (take (suc (length bs) - 1) (b ∷ bs)) (32 ∷ []), length-take (suc (length bs) - 1) (b ∷ bs))
 
@@ -117,12 +117,12 @@ single_logical all i after line lt within is off =
     ap (λ text. record { number = i + 1; size = length line; text = text }) (uncommented_is line) ∙ sym (ap (first_logical (i + 1)) cut ∙ rw off refl)
 
 -- What is left to read of a logical line has no comment.
-any_take : (n : ℕ) (xs : List ℕ) → list_any is_hash xs ≡ false → list_any is_hash (take n xs) ≡ false
+pub any_take : (n : ℕ) (xs : List ℕ) → list_any is_hash xs ≡ false → list_any is_hash (take n xs) ≡ false
 any_take zero xs none = refl
 any_take (suc n) [] none = refl
 any_take (suc n) (x ∷ xs) none = let parts : (is_hash x ≡ false) × (list_any is_hash xs ≡ false) = or_parts _ _ none in or_from _ _ parts.0 (any_take n xs parts.1)
 
-cut_none : (line : List ℕ) → list_any is_hash (uncommented line) ≡ false
+pub cut_none : (line : List ℕ) → list_any is_hash (uncommented line) ≡ false
 cut_none [] = refl
 cut_none (b ∷ bs) = by_hash (is_hash b) refl (cut_none bs)
   where

@@ -1,7 +1,10 @@
 mod CornerLemmas
+mod FeedLemmas
+mod FrontLemmas
 pub mod Groups
 mod InputLemmas
 mod JoinLemmas
+mod KeptLemmas
 pub mod LawSoup
 pub mod LawText
 mod LineLemmas
@@ -9,5 +12,6 @@ pub mod ListLemmas
 mod ReadLemmas
 pub mod SoupLemmas
 mod SuitLemmas
+mod TailLemmas
 mod UsedLemmas
 mod WordLemmas

@@ -44,7 +44,7 @@ record IsCountedIn (before lines : List Logical) (said : List Reading) : Type 0 
   few_vertices : count_by is_vertex_line before ≤ 2 ^ 21 → count_by is_vertex_line (before ++ lines) ≤ 2 ^ 21
   few_faces : count_by is_face_line before ≤ 2 ^ 20 → count_by is_face_line (before ++ lines) ≤ 2 ^ 20
 
-parts_none : {X : Type 0} (xs ys : List X) → xs ++ ys ≡ [] → (xs ≡ []) × (ys ≡ [])
+pub parts_none : {X : Type 0} (xs ys : List X) → xs ++ ys ≡ [] → (xs ≡ []) × (ys ≡ [])
 parts_none [] ys none = (refl, none)
 parts_none (x ∷ xs) ys none = cc none
 
@@ -89,7 +89,7 @@ lines_of_faces (Refused e ∷ said) = lines_of_faces said
 lines_of_faces (Face n corners ∷ said) = ap suc (lines_of_faces said)
 
 -- The late refusals are those of the faces, in order.
-late_none : (n : ℕ) (said : List Reading) → first_late n (faces said) (flat_map line_in said) ≡ None → flat_map (late_in n) said ≡ []
+pub late_none : (n : ℕ) (said : List Reading) → first_late n (faces said) (flat_map line_in said) ≡ None → flat_map (late_in n) said ≡ []
 late_none n [] none = refl
 late_none n (Passed ∷ said) none = late_none n said none
 late_none n (Position p ∷ said) none = late_none n said none
@@ -101,7 +101,7 @@ late_none n (Face line corners ∷ said) none = by_late (list_any (λ corner. lt
     by_late true found again = cc found
     by_late false found again = again found
 
-late_some : {X : Type 0} (n : ℕ) (said : List Reading) (line : ℕ) (x : X) → first_late n (faces said) (flat_map line_in said) ≡ Some line → first_refusal (flat_map (late_in n) said) x ≡ Err (Range line)
+pub late_some : {X : Type 0} (n : ℕ) (said : List Reading) (line : ℕ) (x : X) → first_late n (faces said) (flat_map line_in said) ≡ Some line → first_refusal (flat_map (late_in n) said) x ≡ Err (Range line)
 late_some n [] line x found = cc found
 late_some n (Passed ∷ said) line x found = late_some n said line x found
 late_some n (Position p ∷ said) line x found = late_some n said line x found
@@ -115,38 +115,38 @@ late_some {X} n (Face at corners ∷ said) line x found = by_late (list_any (λ 
     by_late false found again = again found
 
 -- Capping changes corners alone.
-refusal_capped : (said : Reading) → refusal_in (with_capped said) ≡ refusal_in said
+pub refusal_capped : (said : Reading) → refusal_in (with_capped said) ≡ refusal_in said
 refusal_capped Passed = refl
 refusal_capped (Position p) = refl
 refusal_capped (Face n cs) = refl
 refusal_capped (Refused e) = refl
 
-position_capped : (said : Reading) → position_in (with_capped said) ≡ position_in said
+pub position_capped : (said : Reading) → position_in (with_capped said) ≡ position_in said
 position_capped Passed = refl
 position_capped (Position p) = refl
 position_capped (Face n cs) = refl
 position_capped (Refused e) = refl
 
-face_capped : (said : Reading) → face_in (with_capped said) ≡ map (λ face. map capped face) (face_in said)
+pub face_capped : (said : Reading) → face_in (with_capped said) ≡ map (λ face. map capped face) (face_in said)
 face_capped Passed = refl
 face_capped (Position p) = refl
 face_capped (Face n cs) = refl
 face_capped (Refused e) = refl
 
-line_capped : (said : Reading) → line_in (with_capped said) ≡ line_in said
+pub line_capped : (said : Reading) → line_in (with_capped said) ≡ line_in said
 line_capped Passed = refl
 line_capped (Position p) = refl
 line_capped (Face n cs) = refl
 line_capped (Refused e) = refl
 
-refused_capped : (said : Reading) (fail : ObjFail) → with_capped said ≡ Refused fail → said ≡ Refused fail
+pub refused_capped : (said : Reading) (fail : ObjFail) → with_capped said ≡ Refused fail → said ≡ Refused fail
 refused_capped Passed fail is = cc is
 refused_capped (Position p) fail is = cc is
 refused_capped (Face n cs) fail is = cc is
 refused_capped (Refused e) fail is = is
 
 -- Capped corners are positive where the corners are, and late where they are; those that are not late are not capped.
-positive_capped : (faces : Faces) → list_all (list_all (λ corner. ltb 0 corner)) faces ≡ true → list_all (list_all (λ corner. ltb 0 corner)) (map (λ face. map capped face) faces) ≡ true
+pub positive_capped : (faces : Faces) → list_all (list_all (λ corner. ltb 0 corner)) faces ≡ true → list_all (list_all (λ corner. ltb 0 corner)) (map (λ face. map capped face) faces) ≡ true
 positive_capped [] all = refl
 positive_capped (face ∷ faces) all =
     let parts : (list_all (λ corner. ltb 0 corner) face ≡ true) × (list_all (list_all (λ corner. ltb 0 corner)) faces ≡ true) = and_parts _ _ all in
@@ -161,7 +161,7 @@ positive_capped (face ∷ faces) all =
         one : (corner : ℕ) → ltb 0 corner ≡ true → ltb 0 (min corner (2 ^ 32 - 1)) ≡ true
         one corner some = grind (arith, nat_tests)
 
-any_capped : (n : ℕ) → n ≤ 2 ^ 21 → (corners : List ℕ) → list_any (λ corner. ltb n corner) (map capped corners) ≡ list_any (λ corner. ltb n corner) corners
+pub any_capped : (n : ℕ) → n ≤ 2 ^ 21 → (corners : List ℕ) → list_any (λ corner. ltb n corner) (map capped corners) ≡ list_any (λ corner. ltb n corner) corners
 any_capped n few [] = refl
 any_capped n few (corner ∷ corners) = rw (one corner, any_capped n few corners) refl
   where
@@ -173,22 +173,23 @@ late_capped n few [] lines = refl
 late_capped n few (face ∷ faces) [] = refl
 late_capped n few (face ∷ faces) (line ∷ lines) = rw (any_capped n few face, late_capped n few faces lines) refl
 
+-- A face that is not late has no capped corner.
+pub uncapped_face : (n : ℕ) → n ≤ 2 ^ 21 → (corners : List ℕ) → list_any (λ corner. ltb n corner) corners ≡ false → map capped corners ≡ corners
+uncapped_face n few [] calm = refl
+uncapped_face n few (corner ∷ corners) calm =
+    let parts : (ltb n corner ≡ false) × (list_any (λ corner. ltb n corner) corners ≡ false) = or_parts _ _ calm in
+    let same : min corner (2 ^ 32 - 1) ≡ corner = omega (arith, ltb-false n corner parts.0) in
+    rw (same, uncapped_face n few corners parts.1) refl
+
 uncapped : (n : ℕ) → n ≤ 2 ^ 21 → (faces : Faces) (lines : List ℕ) → length lines ≡ length faces → first_late n faces lines ≡ None → map (λ face. map capped face) faces ≡ faces
 uncapped n few [] lines size none = refl
 uncapped n few (face ∷ faces) [] size none = absurd (omega arith)
 uncapped n few (face ∷ faces) (line ∷ lines) size none = by_late (list_any (λ corner. ltb n corner) face) refl none (uncapped n few faces lines (omega arith))
   where
-    along : (corners : List ℕ) → list_any (λ corner. ltb n corner) corners ≡ false → map capped corners ≡ corners
-    along [] calm = refl
-    along (corner ∷ corners) calm =
-        let parts : (ltb n corner ≡ false) × (list_any (λ corner. ltb n corner) corners ≡ false) = or_parts _ _ calm in
-        let same : min corner (2 ^ 32 - 1) ≡ corner = omega (arith, ltb-false n corner parts.0) in
-        rw (same, along corners parts.1) refl
-
     by_late : (t : Bool) → list_any (λ corner. ltb n corner) face ≡ t → cond t (Some line) (first_late n faces lines) ≡ None → (first_late n faces lines ≡ None → map (λ face. map capped face) faces ≡ faces)
         → map (λ face. map capped face) (face ∷ faces) ≡ face ∷ faces
     by_late true is none again = cc none
-    by_late false is none again = rw (along face is, again none) refl
+    by_late false is none again = rw (uncapped_face n few face is, again none) refl
 
 -- The counts of a reader are those of the lines.
 record IsWithin (lines : List Logical) (kept : Positions) (corners : Faces) (numbers : List ℕ) : Type 0 where

@@ -9,6 +9,7 @@ ghost use Rattle.std.specs.Prelude.{
   length,
   slice_range,
   IfOk,
+  IfErr,
   OnOk,
 };
 ghost use Rattle.std.specs.List.{before_first};
@@ -18,7 +19,7 @@ ghost use Rattle.def_io.specs.Lines.{lines_of};
 
 use crate::Memory;
 use crate::piece::Logical;
-use def_text::{BACKSLASH, HASH, SPACE};
+use def_text::{BACKSLASH, HASH, ObjFail, SPACE};
 use qm_io::Lines;
 use qm_scan::find_byte;
 use std::alloc::Global;
@@ -94,4 +95,20 @@ fn push_spaced(bytes: &mut Vec<u8>, line: &[u8]) -> Result<(), Memory>
     }
     bytes.push(SPACE)?;
     Ok(())
+}
+
+/// Puts bytes behind others.
+pub(crate) fn append(bytes: &mut Vec<u8>, more: &[u8]) -> Result<(), ObjFail>
+    ensures grown { OnOk result (bytes.new.items ≡ bytes.old.items ++ more.now) }
+    ensures memory { IfErr result (λ fail. fail ≡ ObjFail.Memory) }
+{
+    bytes.extend_from_slice(more).map_err(|_| ObjFail::Memory)
+}
+
+/// The same with a line that goes on, and a space for its backslash.
+pub(crate) fn append_spaced(bytes: &mut Vec<u8>, line: &[u8]) -> Result<(), ObjFail>
+    ensures grown { OnOk result (bytes.new.items ≡ bytes.old.items ++ with_space line.now) }
+    ensures memory { IfErr result (λ fail. fail ≡ ObjFail.Memory) }
+{
+    push_spaced(bytes, line).map_err(|_| ObjFail::Memory)
 }

@@ -1,12 +1,15 @@
-//! Reading OBJ text into a soup, line by line, and writing the canonical text.
+//! Reading OBJ text into a soup, line by line or in pieces, and writing the canonical text.
 #![tactic(auto)]
 
 mod corner;
+mod feed;
+mod joiner;
 mod joining;
 mod law;
 mod line;
 mod piece;
 mod position;
+mod progress;
 mod read;
 mod reader;
 mod soup;
@@ -18,6 +21,7 @@ mod words;
 
 pub use corner::read_index;
 pub use def_text::{Index, Micro, ObjFail, Soup, SoupFail, Which};
+pub use feed::ObjFeed;
 pub use joining::logical;
 pub use law::reads_back;
 pub use piece::Logical;

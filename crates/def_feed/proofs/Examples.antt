@@ -1,0 +1,37 @@
+-- What is kept of a small text, computed with more bytes behind it.
+use Rattle.std.proofs.Common.{◌≡◌, ◌++◌, ℕ, pos, List, [], ◌∷◌, Err, refl}
+use Rattle.std.specs.Prelude.{codes}
+use Rattle.def_text.specs.Text.{soup_in}
+use Rattle.def_text.specs.declared.refusal.ObjFail.TheVariants.{Range, Syntax}
+use Rattle.def_feed.specs.Kept.{Kept, soup_with}
+
+-- A text that is cut within its third physical line.
+front : List ℕ
+front = codes "v 0 0 0\r\nf 1 1 \\\n1 "
+
+half : Kept
+half = record {
+  positions = (pos 0 ∷ pos 0 ∷ pos 0 ∷ []) ∷ [];
+  faces = [];
+  lines = [];
+  next = 3;
+  begun = 2;
+  joined = codes "f 1 1  ";
+  tail = codes "1 ";
+}
+
+whole_row : soup_with half (codes "1\n") ≡ soup_in (front ++ codes "1\n")
+unfolding front half
+whole_row = refl
+
+split_row : soup_with half (codes "\\\r\n1#") ≡ soup_in (front ++ codes "\\\r\n1#")
+unfolding front half
+split_row = refl
+
+late_row : soup_with half (codes "2\nf -1 1 1 1") ≡ Err (Range 2)
+unfolding half
+late_row = refl
+
+refused_row : soup_with half (codes "1\n\nv 1") ≡ Err (Syntax 5)
+unfolding half
+refused_row = refl

@@ -1,0 +1,136 @@
+-- Physical lines of a text whose last bytes are not ended.
+use Rattle.std.proofs.Common.{◌≡◌, ℕ, zero, suc, ◌+◌, ◌-◌, ◌<◌, ◌≤◌, Bool, true, false, cond, ◌||◌, eqb, List, [], ◌∷◌, ◌++◌, length, take, drop, map, get_or, refl, sym, ap, ◌∙◌, arith}
+use Rattle.std.specs.List.{count_by, list_any, sum_by}
+use Rattle.std.proofs.Math.Seq.{take-add}
+use Rattle.std.proofs.lemmas.Bool.{or_parts}
+use Rattle.std.proofs.lemmas.List.{append-nil, append_assoc, get_or_push, length-append, length-take-le, take-append-drop, take_at, take_more, take_rest}
+use Rattle.std.proofs.lemmas.List.Sums.{sum_by-append, sum_by-cons}
+use Rattle.def_feed.specs.Feed.{is_line_feed}
+use Rattle.def_io.specs.Bytes.{Bytes, Lines}
+use Rattle.def_io.specs.Lines.{in_front, line_of, lines_of, pieces, without_last}
+
+-- What no element of a list passes, no element passes.
+none_at : (p : ℕ → Bool) (xs : Bytes) (i : ℕ) → list_any p xs ≡ false → i < length xs → p (get_or xs i 0) ≡ false
+none_at p [] i none there = absurd (omega arith)
+none_at p (x ∷ xs) zero none there = (or_parts _ _ none).0
+none_at p (x ∷ xs) (suc i) none there = none_at p xs i (or_parts _ _ none).1 (omega arith)
+
+-- A piece with its last byte taken off is at most one shorter.
+short_last : (byte : ℕ) (piece : Bytes) → length piece ≤ length (without_last byte piece) + 1
+short_last byte piece = by_test (eqb (get_or piece (length piece - 1) 0) byte)
+  where
+    by_test : (t : Bool) → length piece ≤ length (cond t (take (length piece - 1) piece) piece) + 1
+    by_test true = omega (arith, length-take-le (length piece - 1) piece (omega arith))
+    by_test false = omega arith
+
+-- A line feed is taken off, and nothing where there is none.
+fed_last : (front : Bytes) → without_last 10 (front ++ 10 ∷ []) ≡ front
+fed_last front =
+    let last : length (front ++ 10 ∷ []) - 1 ≡ length front = omega (arith, length-append front (10 ∷ [])) in
+    let at : eqb (get_or (front ++ 10 ∷ []) (length front) 0) 10 ≡ true = rw (get_or_push front 10 0 (length front) refl) refl in
+    rw (last, at) (take_at front (10 ∷ []) (length front) refl)
+
+unfed_last : (front : Bytes) → list_any is_line_feed front ≡ false → without_last 10 front ≡ front
+unfed_last [] none = refl
+unfed_last (b ∷ bs) none = rw (none_at is_line_feed (b ∷ bs) (length (b ∷ bs) - 1) none (omega arith)) refl
+
+line_of_fed : (front : Bytes) → list_any is_line_feed front ≡ false → line_of (front ++ 10 ∷ []) ≡ line_of front
+line_of_fed front none = ap (without_last 13) (fed_last front ∙ sym (unfed_last front none))
+
+pieces_fed : (front more : Bytes) → list_any is_line_feed front ≡ false → pieces (front ++ 10 ∷ more) ≡ (front ++ 10 ∷ []) ∷ pieces more
+pieces_fed [] more none = refl
+pieces_fed (b ∷ bs) more none =
+    let parts : (eqb b 10 ≡ false) × (list_any is_line_feed bs ≡ false) = or_parts _ _ none in
+    rw parts.0 (ap (in_front b) (pieces_fed bs more parts.1))
+
+-- A line that ends.
+pub lines_fed : (front more : Bytes) → list_any is_line_feed front ≡ false → lines_of (front ++ 10 ∷ more) ≡ line_of front ∷ lines_of more
+lines_fed front more none = ap (map line_of) (pieces_fed front more none) ∙ ap (λ line. line ∷ lines_of more) (line_of_fed front none)
+
+-- The first piece of a text begins with its bytes before the first line feed.
+record Opens (front all : Bytes) : Type 0 where
+  behind : Bytes
+  rest : Lines
+  are : pieces all ≡ (front ++ behind) ∷ rest
+
+opens : (front more : Bytes) → list_any is_line_feed front ≡ false → 0 < length front → Opens front (front ++ more)
+opens [] more none some = absurd (omega arith)
+opens (b ∷ []) more none some =
+    by_pieces (pieces more) refl
+  where
+    by_pieces : (ps : Lines) → pieces more ≡ ps → Opens (b ∷ []) (b ∷ more)
+    by_pieces [] is = record { behind = []; rest = []; are = rw ((or_parts (eqb b 10) false none).0, is) refl }
+    by_pieces (p ∷ ps) is = record { behind = p; rest = ps; are = rw ((or_parts (eqb b 10) false none).0, is) refl }
+opens (b ∷ c ∷ cs) more none some =
+    by_next (opens (c ∷ cs) more (or_parts (eqb b 10) (list_any is_line_feed (c ∷ cs)) none).1 (omega arith))
+  where
+    by_next : Opens (c ∷ cs) (c ∷ cs ++ more) → Opens (b ∷ c ∷ cs) (b ∷ c ∷ cs ++ more)
+    by_next next = record {
+      behind = next.behind;
+      rest = next.rest;
+      are = rw (or_parts (eqb b 10) (list_any is_line_feed (c ∷ cs)) none).0 (ap (in_front b) next.are);
+    }
+
+-- The first line of a text with these bytes in front.
+pub record FirstLine (front all : Bytes) : Type 0 where
+  pub line : Bytes
+  pub rest : Lines
+  pub are : lines_of all ≡ line ∷ rest
+  pub long : length front ≤ length line + 1
+
+pub first_line : (front more : Bytes) → list_any is_line_feed front ≡ false → 0 < length front → FirstLine front (front ++ more)
+first_line front more none some = by_opening (opens front more none some)
+  where
+    kept : (behind : Bytes) → length front ≤ length (without_last 10 (front ++ behind))
+    kept [] = rw (append-nil front, unfed_last front none) (omega arith)
+    kept (b ∷ bs) = omega (arith, short_last 10 (front ++ b ∷ bs), length-append front (b ∷ bs))
+
+    by_opening : Opens front (front ++ more) → FirstLine front (front ++ more)
+    by_opening first = record {
+      line = line_of (front ++ first.behind);
+      rest = map line_of first.rest;
+      are = ap (map line_of) first.are;
+      long = omega (arith, kept first.behind, short_last 13 (without_last 10 (front ++ first.behind)));
+    }
+
+-- A text without line feed is one line, where it is not empty.
+pub lines_open : (front : Bytes) → list_any is_line_feed front ≡ false → 0 < length front → lines_of front ≡ line_of front ∷ []
+lines_open front none some = ap (map line_of) (one_piece front none some)
+  where
+    one_piece : (front : Bytes) → list_any is_line_feed front ≡ false → 0 < length front → pieces front ≡ front ∷ []
+    one_piece [] none some = absurd (omega arith)
+    one_piece (b ∷ []) none some = rw (or_parts (eqb b 10) false none).0 refl
+    one_piece (b ∷ c ∷ cs) none some =
+        let parts : (eqb b 10 ≡ false) × (list_any is_line_feed (c ∷ cs) ≡ false) = or_parts _ _ none in
+        rw parts.0 (ap (in_front b) (one_piece (c ∷ cs) parts.1 (omega arith)))
+
+-- How many line feeds there are.
+pub count_none : (xs : Bytes) → list_any is_line_feed xs ≡ false → count_by is_line_feed xs ≡ 0
+count_none [] none = refl
+count_none (x ∷ xs) none =
+    let parts : (eqb x 10 ≡ false) × (list_any is_line_feed xs ≡ false) = or_parts _ _ none in
+    let rest : count_by is_line_feed xs ≡ 0 = count_none xs parts.1 in
+    sum_by-cons (λ b. cond (eqb b 10) 1 0) x xs ∙ rw (parts.0, rest) refl
+
+pub count_append : (xs ys : Bytes) → count_by is_line_feed (xs ++ ys) ≡ count_by is_line_feed xs + count_by is_line_feed ys
+count_append xs ys = sum_by-append (λ b. cond (eqb b 10) 1 0) xs ys
+
+-- The front of what is left of a piece up to a line feed, and the line feed.
+pub front_fed : (piece : Bytes) (at end : ℕ) → 0 < end → end ≤ length (take (length piece - at) (drop at piece)) → get_or (take (length piece - at) (drop at piece)) (end - 1) 0 ≡ 10
+    → take (at + end) piece ≡ take at piece ++ (take (at + end - 1 - at) (drop at piece) ++ 10 ∷ [])
+front_fed piece at end some within feed =
+    let one : end - 1 + 1 ≡ end = omega arith in
+    let many : at + end - 1 - at ≡ end - 1 = omega arith in
+    let rest : take (length piece - at) (drop at piece) ≡ drop at piece = take_rest piece at in
+    let fits : end ≤ length (drop at piece) = omega (arith, ap length rest) in
+    let at_end : get_or (drop at piece) (end - 1) 0 ≡ 10 = ap (λ xs. get_or xs (end - 1) 0) (sym rest) ∙ feed in
+    take-add at end piece ∙ ap (λ xs. take at piece ++ xs) (
+    ap (λ n. take n (drop at piece)) (sym one)
+    ∙ take_more (drop at piece) (end - 1) 0 (omega arith)
+    ∙ ap (λ b. take (end - 1) (drop at piece) ++ b ∷ []) at_end
+    ∙ ap (λ n. take n (drop at piece) ++ 10 ∷ []) (sym many)
+    )
+
+-- The front of a piece and what is left of it.
+pub front_rest : (piece : Bytes) (at : ℕ) → take at piece ++ take (length piece - at) (drop at piece) ≡ piece
+front_rest piece at = ap (λ xs. take at piece ++ xs) (take_rest piece at) ∙ take-append-drop at piece
