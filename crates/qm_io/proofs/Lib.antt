@@ -1,2 +1,2 @@
-mod Moved
+pub mod Moved
 mod Pieces

@@ -1,19 +1,18 @@
--- Refusals of a text that was read whole.
-use Rattle.std.proofs.Common.{◌≡◌, ◌≢◌, ℕ, ◌-◌, List, length, take, Result, Ok, Err, sym, ap, ◌∙◌, subst, arith}
-use Rattle.std.specs.Prelude.{slice_range, IsErrAnd, IfErr}
-use Rattle.std.proofs.Math.Seq.{take-length}
-use Rattle.def_io.specs.Bytes.{Bytes}
-use Rattle.def_io.specs.Moves.{Change}
+-- Texts that were read whole, their soups and their refusals.
+use Rattle.std.proofs.Common.{◌≡◌, ◌≢◌, ◌≤◌, ℕ, ◌+◌, ◌-◌, ◌++◌, length, Result, Ok, Err, refl, sym, ◌∙◌, subst, arith}
+use Rattle.std.specs.Prelude.{IsErrAnd, IsErrOf, IfErr}
+use Rattle.std.proofs.lemmas.List.{length-append}
+use Rattle.def_feed.specs.Feed.{Fed}
+use Rattle.def_io.specs.Bytes.{Bytes, Told}
+use Rattle.def_io.specs.Moves.{Change, GaveMore, IsEmptied}
 use Rattle.def_text.specs.Fails.{of_obj}
 use Rattle.def_text.specs.Input.{IsSoupFail, ReadWhole}
 use Rattle.def_text.specs.Text.{soup_in}
 use Rattle.def_text.specs.declared.refusal.ObjFail.{ObjFail}
 use Rattle.def_text.specs.declared.refusal.ObjFail.TheVariants.{Syntax, NotQuad, Range, Limit, Memory}
 use Rattle.def_text.specs.declared.refusal.SoupFail.{SoupFail}
-
--- All of a list, as a range.
-pub whole_range : {X : Type 0} (xs : List X) (n : ℕ) → n ≡ length xs → slice_range xs 0 n ≡ xs
-whole_range xs n is = let many : n - 0 ≡ length xs = omega arith in ap (λ (m : ℕ). take m xs) many ∙ take-length xs
+use Rattle.qm_io.proofs.Moved.{gave_more}
+use Rattle.qm_obj.specs.Feeding.{FedPiece, FedTo, FedWhole}
 
 -- A refusal of the text is one of its soup.
 refused : (limit : ℕ) (source : Change) (bytes : Bytes) (fail : ObjFail) → ReadWhole limit source.told source.told_now bytes
@@ -30,3 +29,33 @@ pub soup_refused : {T : Type 0} (limit : ℕ) (source : Change) (bytes : Bytes) 
 soup_refused limit source bytes fail (Ok x) whole calm said is = tt
 soup_refused limit source bytes fail (Err e) whole calm said is =
     subst (IsSoupFail limit source) (sym is) (refused limit source bytes fail whole calm said)
+
+-- An error that is passed on is the one that came.
+pub error_on : {T E : Type 0} (r : Result T E) (fail error : E) (P : Type 0) → (fail ≡ error → P) → IsErrAnd r (λ e. e ≡ fail) → IsErrOf r error → P
+error_on (Ok x) fail error P holds is said = absurd (cc said)
+error_on (Err e) fail error P holds is said = let same : e ≡ error = cc said in holds (sym is ∙ same)
+
+-- A source gave one piece more to a feed.
+pub fed_more : (before mid now : Told) (old new : Fed) (count more : ℕ) → FedTo before mid count old → FedPiece mid now old new more → FedTo before now (count + more) new
+fed_more before mid now old new count more fed piece = record {
+  text = fed.text ++ piece.piece;
+  given = gave_more before mid now fed.text piece.piece (fed.text ++ piece.piece) refl fed.given piece.moved;
+  many = omega (arith, length-append fed.text piece.piece, fed.many, piece.many);
+  stands = piece.stands fed.text fed.stands;
+}
+
+-- It gave its last piece.
+pub fed_whole : (limit count : ℕ) (before now : Told) (fed : Fed) → FedTo before now count fed → count ≤ limit → IsEmptied now → FedWhole limit before now fed
+fed_whole limit count before now fed to few ended = record {
+  text = to.text;
+  whole = record { given = to.given; ended = ended; few = omega (arith, to.many) };
+  stands = to.stands;
+}
+
+-- It gave more than it may.
+pub gave_beyond : (limit room : ℕ) (before mid now : Told) (fed : Fed) → FedTo before mid (limit - room) fed → room ≤ limit → GaveMore room mid now → GaveMore limit before now
+gave_beyond limit room before mid now fed to few more = record {
+  piece = to.text ++ more.piece;
+  many = omega (arith, length-append to.text more.piece, to.many, more.many);
+  moved = gave_more before mid now to.text more.piece (to.text ++ more.piece) refl to.given more.moved;
+}

@@ -1,9 +1,11 @@
 -- What a reader of pieces keeps true, line by line and piece by piece.
 use Rattle.std.specs.Prelude.{◌≡◌, ◌≤◌, ℕ, ◌+◌, nat_lt, false, IsTrue, None, Err, List, [], ◌∷◌, ◌++◌, length}
 use Rattle.std.specs.List.{count_by, list_all, list_any}
-use Rattle.def_feed.specs.Feed.{Fed, is_line_feed}
+use Rattle.def_feed.specs.Feed.{Fed, is_line_feed, StandsFor}
 use Rattle.def_feed.specs.Kept.{Kept, soup_with, soup_with_lines}
-use Rattle.def_io.specs.Bytes.{Bytes, Lines}
+use Rattle.def_io.specs.Bytes.{Bytes, Lines, Told}
+use Rattle.def_io.specs.Moves.{gave}
+use Rattle.def_text.specs.Input.{ReadWhole}
 use Rattle.def_text.specs.Logical.{is_hash}
 use Rattle.def_text.specs.declared.limits.TheConstants.{MAX_BYTES, MAX_FACES, MAX_LINE, MAX_VERTICES}
 use Rattle.def_text.specs.declared.refusal.ObjFail.{ObjFail}
@@ -48,3 +50,23 @@ pub record IsFeed (fed : Fed) : Type 0 where
   pub sound : fed.refused ≡ None → IsSound fed.kept
   pub short : fed.refused ≡ None → fed.kept.next ≤ MAX_BYTES + 1
   pub held : length fed.kept.joined + length fed.kept.tail ≤ MAX_LINE + 1
+
+-- A source gave a piece of so many bytes to a feed.
+pub record FedPiece (before now : Told) (old new : Fed) (count : ℕ) : Type 0 where
+  pub piece : Bytes
+  pub moved : before ≡ gave piece now
+  pub many : length piece ≡ count
+  pub stands : (text : Bytes) → StandsFor old text → StandsFor new (text ++ piece)
+
+-- A source gave the bytes for which a feed stands.
+pub record FedTo (before now : Told) (count : ℕ) (fed : Fed) : Type 0 where
+  pub text : Bytes
+  pub given : before ≡ gave text now
+  pub many : length text ≡ count
+  pub stands : StandsFor fed text
+
+-- A source gave all its bytes, at most so many, to a feed.
+pub record FedWhole (limit : ℕ) (before now : Told) (fed : Fed) : Type 0 where
+  pub text : Bytes
+  pub whole : ReadWhole limit before now text
+  pub stands : StandsFor fed text

@@ -1,15 +1,24 @@
 //! The soup of a source.
 
-ghost use Rattle.std.specs.Prelude.{◌≡◌, ◌≤◌, length, IfOk, OnOk, IfErr};
-ghost use Rattle.def_io.specs.Moves.{change};
+ghost use Rattle.std.specs.Prelude.{◌≡◌, ◌≤◌, ◌<◌, ◌+◌, [], length, IfOk, OnOk, IfErr, IsErrOf};
+ghost use Rattle.def_feed.specs.Feed.{StandsFor};
+ghost use Rattle.def_io.specs.Bytes.{Bytes};
+ghost use Rattle.def_io.specs.Faults.{Rose};
+ghost use Rattle.def_io.specs.Moves.{change, GaveMore, IsEmptied};
 ghost use Rattle.def_text.specs.Input.{IsSoupFail, ReadSoup};
+ghost use Rattle.qm_obj.specs.Feeding.{FedPiece, FedWhole};
 
-use crate::read::read_obj;
+use crate::Memory;
+use crate::feed::ObjFeed;
+use def_io::ReadFail;
 use def_text::{MAX_BYTES, MAX_FACES, MAX_VERTICES, Soup, SoupFail};
-use qm_io::{Source, read_lines};
+use qm_io::Source;
 use std::alloc::Global;
 
-/// Reads a source to its end, at most `limit` bytes, and answers the soup of its text. Linear.
+const BUFFER: usize = 65_536;
+
+/// Reads a source to its end, at most `limit` bytes, and answers the soup of its text. Linear. The text is read as it
+/// comes, and no more of it is kept than a line.
 pub fn read_soup<S: Source>(alloc: Global, src: &mut S, limit: u32) -> Result<Soup, SoupFail>
     requires { limit ≤ MAX_BYTES }
     ensures soup { IfOk result (ReadSoup limit (S.left src.old) (S.left src.new)) }
@@ -19,6 +28,61 @@ pub fn read_soup<S: Source>(alloc: Global, src: &mut S, limit: u32) -> Result<So
     ensures fails { IfErr result (IsSoupFail limit
         (change (S.left src.old) (S.left src.new) (S.faults src.old) (S.faults src.new))) }
 {
-    let lines = read_lines(alloc, src, limit)?;
-    Ok(read_obj(alloc, &lines, 0, lines.count())?)
+    let feed = feed_of(alloc, src, limit)?;
+    Ok(feed.finish()?)
+}
+
+/// A feed of all bytes of the source.
+fn feed_of<S: Source>(alloc: Global, src: &mut S, limit: u32) -> Result<ObjFeed, ReadFail>
+    requires { limit ≤ MAX_BYTES }
+    ensures whole { IfOk result (FedWhole limit (S.left src.old) (S.left src.new)) }
+    ensures calm { OnOk result (S.faults src.new ≡ S.faults src.old) }
+    ensures later { S.faults src.old ≤ S.faults src.new }
+    ensures fault { IsErrOf result ReadFail.Fault → Rose (S.faults src.old) (S.faults src.new) }
+    ensures too_long { IsErrOf result ReadFail.TooLong →
+        GaveMore limit (S.left src.old) (S.left src.new) × (S.faults src.new ≡ S.faults src.old) }
+{
+    let mut buffer = empty_buffer(alloc).map_err(|_| ReadFail::Memory)?;
+    let mut feed = ObjFeed::new(alloc);
+    let mut room = limit;
+    'pieces: loop {
+        let count = feed_piece(src, room, &mut buffer, &mut feed)?;
+        if count == 0 {
+            return Ok(feed);
+        }
+        room -= count;
+    }
+}
+
+fn empty_buffer(alloc: Global) -> Result<Vec<u8>, Memory>
+    ensures { IfOk result (λ buffer. 0 < length buffer.items) }
+{
+    let buffer = vec![in alloc; 0u8; BUFFER]?;
+    Ok(buffer)
+}
+
+/// Feeds what one read gives, at most `room` bytes, and says how much it was.
+fn feed_piece<S: Source>(
+    src: &mut S,
+    room: u32,
+    buffer: &mut [u8],
+    feed: &mut ObjFeed,
+) -> Result<u32, ReadFail>
+    requires buffer { 0 < length buffer.old }
+    requires stands { (text : Bytes) × StandsFor feed.old text × (length text + room ≤ MAX_BYTES) }
+    ensures fed { IfOk result (FedPiece (S.left src.old) (S.left src.new) feed.old feed.new) }
+    ensures fits { IfOk result (λ n. n ≤ room) }
+    ensures end { IfOk result (λ n. n ≡ 0 → IsEmptied (S.left src.new)) }
+    ensures calm { OnOk result (S.faults src.new ≡ S.faults src.old) }
+    ensures later { S.faults src.old ≤ S.faults src.new }
+    ensures fault { IsErrOf result ReadFail.Fault → Rose (S.faults src.old) (S.faults src.new) }
+    ensures too_long { IsErrOf result ReadFail.TooLong →
+        GaveMore room (S.left src.old) (S.left src.new) × (S.faults src.new ≡ S.faults src.old) }
+{
+    let count = src.read(buffer).map_err(|_| ReadFail::Fault)?;
+    if count > room as usize {
+        return Err(ReadFail::TooLong);
+    }
+    feed.feed(&buffer[..count]).map_err(|_| ReadFail::Memory)?;
+    Ok(count as u32)
 }

@@ -1,26 +1,13 @@
-use Rattle.std.proofs.Common.{List, sym, ap, ◌∙◌}
-use Rattle.def_io.specs.Lines.{lines_of}
-use Rattle.def_text.specs.Text.{text_soup}
-use Rattle.qm_obj.proofs.InputLemmas.{soup_refused, whole_range}
+use Rattle.qm_obj.proofs.InputLemmas.{soup_refused}
 use Rattle.qm_obj.proofs.soup.read_soup.Goals as goal
-
-pub returns-in_err-read_obj-clause-fails : goal.returns-in_err-read_obj-clause-fails
-returns-in_err-read_obj-clause-fails g c =
-    let read = c.in_ok-lines.ensures in
-    soup_refused c.args.limit _ c.in_ok-lines.lines c.in_err-read_obj.field-0.0 _
-    (record { given = read.bytes; ended = read.whole; few = read.short }) read.calm
-    (λ some.
-    ap (λ ls. text_soup 1 ls) (sym (whole_range (lines_of c.in_ok-lines.lines) c.count.result c.count.ensures))
-    ∙ c.in_err-read_obj.ensures.refused some)
-    c.from_residual-in_err-read_obj.ensures.1
 
 pub returns-clause-soup : goal.returns-clause-soup
 returns-clause-soup g c =
-    let read = c.in_ok-lines.ensures in
-    record {
-      bytes = c.in_ok-lines.lines;
-      whole = record { given = read.bytes; ended = read.whole; few = read.short };
-      said =
-          ap (λ ls. text_soup 1 ls) (sym (whole_range (lines_of c.in_ok-lines.lines) c.count.result c.count.ensures))
-          ∙ c.in_ok-read_obj.ensures.soup;
-    }
+    let whole = c.in_ok-feed.ensures.whole in
+    record { bytes = whole.text; whole = whole.whole; said = c.in_ok-finish.ensures.soup whole.text whole.stands }
+
+pub returns-in_err-finish-clause-fails : goal.returns-in_err-finish-clause-fails
+returns-in_err-finish-clause-fails g c =
+    let whole = c.in_ok-feed.ensures.whole in
+    soup_refused c.args.limit _ whole.text c.in_err-finish.field-0.0 _ whole.whole c.in_ok-feed.ensures.calm
+    (λ some. c.in_err-finish.ensures.refused some whole.text whole.stands) c.from_residual-in_err-finish.ensures.1
