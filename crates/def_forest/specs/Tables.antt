@@ -31,6 +31,8 @@ pub record ForestTables : Type 0 where
   pub rank : List ℕ
   -- The vertices whose outermost blossoms got a place in the tree since the search began.
   pub trail : List Vertex
+  -- Where each dart of the graph begins.
+  pub near : List Vertex
 
 -- The outermost blossom of a vertex, by its handle.
 abbrev pub out_of : (hand top : List ℕ) (v : Vertex) → Blossom
@@ -73,9 +75,11 @@ forest_of t = record {
   };
 }
 
--- The forest is valid for a graph.
+-- The forest is valid for a graph, whose darts begin where they do in the forest.
 pub record IsValidFor (g : Graph) (t : ForestTables) : Type 0 where
   pub vertices : length t.hand ≡ g.n
+  pub darts : length t.near ≡ 2 * length g.edges
+  pub ends : (d : Dart) → d < 2 * length g.edges → slice_index t.near d ≡ (darts_of g).near d
   pub valid : IsValid (darts_of g) (forest_of t) t.root
 
 -- Some vertex has b as its outermost blossom.

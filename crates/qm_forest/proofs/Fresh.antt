@@ -1,5 +1,5 @@
 -- The tables of a forest of single vertices are tied, and valid for a graph whose costs the weights stay below.
-use Rattle.std.proofs.Common.{count_by, is_some, ◌≡◌, ◌≢◌, ℕ, zero, suc, ◌+◌, ◌-◌, ◌*◌, ◌/◌, ◌%◌, ◌<◌, ◌≤◌, ◌^◌, Bool, true, false, cond, eqb, ◌||◌, List, length, get_or, replicate, ℤ, pos, ◌+ℤ◌, ◌≤ℤ◌, ◌⊎◌, Option, Some, None, refl, sym, ◌∙◌, ap, subst, inl, inr, arith}
+use Rattle.std.proofs.Common.{count_by, is_some, ◌≡◌, ◌≢◌, ℕ, zero, suc, ◌+◌, ◌-◌, ◌*◌, ◌/◌, ◌%◌, ◌<◌, ◌≤◌, ◌^◌, Bool, true, false, cond, eqb, ◌||◌, List, length, get_or, replicate, ℤ, pos, ◌+ℤ◌, ◌*ℤ◌, ◌≤ℤ◌, ◌⊎◌, Option, Some, None, refl, sym, ◌∙◌, ap, subst, inl, inr, arith}
 use Rattle.std.specs.Prelude.{unsigned_abs, nat_lt}
 use Rattle.std.proofs.lemmas.Int.{ints}
 use Rattle.std.proofs.lemmas.List.{get_or-replicate, length-replicate, get_or_past}
@@ -22,7 +22,7 @@ use Rattle.forest_laws.proofs.Graphs.{near_even, near_odd, twin_even, twin_odd}
 use Rattle.forest_laws.proofs.Writes.{true_false}
 use Rattle.forest_laws.proofs.Loads.{load_across}
 use Rattle.qm_pool.specs.declared.pool.Node.{Node}
-use Rattle.qm_forest.specs.Ties.{AreTied, HasSizes, IsLaidOut, IsListed, HiddenTables, IsCounted, IsFresh, HasLowCosts, potential, added}
+use Rattle.qm_forest.specs.Ties.{AreTied, HasSizes, IsLaidOut, IsListed, HiddenTables, IsCounted, IsFresh, AreFeasible, AreStarts, potential, added}
 use Rattle.qm_forest.proofs.Forgets.{none_counted}
 use Rattle.qm_forest.proofs.Apart.{walk_stays}
 use Rattle.qm_forest.proofs.Ranges.{sum_small, read_nat}
@@ -209,7 +209,7 @@ module _ (n size : ℕ) (lows : List ℤ) (t : ForestTables) (hid : HiddenTables
     };
   }
 
-  module _ (g : Graph) (is : IsGraph g) (n_is : n ≡ g.n) (costs : HasLowCosts g (length g.edges) lows) where
+  module _ (g : Graph) (is : IsGraph g) (n_is : n ≡ g.n) (costs : AreFeasible g lows) where
     up_to : (v : ℕ) → v < g.n → v < n
     up_to v l = subst (λ m. v < m) (sym n_is) l
 
@@ -237,8 +237,8 @@ module _ (n size : ℕ) (lows : List ℤ) (t : ForestTables) (hid : HiddenTables
     }
 
     -- No load between two vertices is above twice the cost of an edge between them.
-    feasible_dart : (u v : ℕ) (c : ℤ) → u < g.n → v < g.n → u ≢ v → get_or lows u (pos 0) ≤ℤ c → get_or lows v (pos 0) ≤ℤ c → load (forest_of t) u v ≤ℤ (c +ℤ c)
-    feasible_dart u v c lu lv ne hu hv = omega (arith, ints, load_across g.n (forest_of t) outermost u v lu lv (λ e. ne (sym (outs u lu) ∙ (e ∙ outs v lv))), potential_is u (up_to u lu), potential_is v (up_to v lv))
+    feasible_dart : (u v : ℕ) (c : ℤ) → u < g.n → v < g.n → u ≢ v → (get_or lows u (pos 0) +ℤ get_or lows v (pos 0)) ≤ℤ (pos 2 *ℤ c) → load (forest_of t) u v ≤ℤ (c +ℤ c)
+    feasible_dart u v c lu lv ne h = omega (arith, ints, load_across g.n (forest_of t) outermost u v lu lv (λ e. ne (sym (outs u lu) ∙ (e ∙ outs v lv))), potential_is u (up_to u lu), potential_is v (up_to v lv))
 
     feasible : IsFeasible (darts_of g) (forest_of t)
     feasible = record {
@@ -246,22 +246,24 @@ module _ (n size : ℕ) (lows : List ℤ) (t : ForestTables) (hid : HiddenTables
       darts = λ d low. by_side d low (cases_eq (d % 2) 0);
     }
       where
-        at : (d u v : ℕ) → d / 2 < length g.edges → (darts_of g).near d ≡ u → far (darts_of g) d ≡ v → u < g.n → v < g.n → u ≢ v → get_or lows u (pos 0) ≤ℤ (edge_at g (d / 2)).cost → get_or lows v (pos 0) ≤ℤ (edge_at g (d / 2)).cost
+        at : (d u v : ℕ) → d / 2 < length g.edges → (darts_of g).near d ≡ u → far (darts_of g) d ≡ v → u < g.n → v < g.n → u ≢ v → (get_or lows u (pos 0) +ℤ get_or lows v (pos 0)) ≤ℤ (pos 2 *ℤ (edge_at g (d / 2)).cost)
             → load (forest_of t) ((darts_of g).near d) (far (darts_of g) d) ≤ℤ ((edge_at g (d / 2)).cost +ℤ (edge_at g (d / 2)).cost)
-        at d u v l eu ev lu lv ne hu hv = subst (λ k. load (forest_of t) k (far (darts_of g) d) ≤ℤ ((edge_at g (d / 2)).cost +ℤ (edge_at g (d / 2)).cost)) (sym eu) (subst (λ k. load (forest_of t) u k ≤ℤ ((edge_at g (d / 2)).cost +ℤ (edge_at g (d / 2)).cost)) (sym ev) (feasible_dart u v (edge_at g (d / 2)).cost lu lv ne hu hv))
+        at d u v l eu ev lu lv ne h = subst (λ k. load (forest_of t) k (far (darts_of g) d) ≤ℤ ((edge_at g (d / 2)).cost +ℤ (edge_at g (d / 2)).cost)) (sym eu) (subst (λ k. load (forest_of t) u k ≤ℤ ((edge_at g (d / 2)).cost +ℤ (edge_at g (d / 2)).cost)) (sym ev) (feasible_dart u v (edge_at g (d / 2)).cost lu lv ne h))
 
         by_side : (d : ℕ) → d < 2 * length g.edges → (d % 2 ≡ 0) ⊎ (d % 2 ≢ 0) → load (forest_of t) ((darts_of g).near d) (far (darts_of g) d) ≤ℤ ((edge_at g (d / 2)).cost +ℤ (edge_at g (d / 2)).cost)
         by_side d low (inl e) =
             let l : d / 2 < length g.edges = omega arith in
-            at d (edge_at g (d / 2)).u (edge_at g (d / 2)).v l (near_even g d (d / 2) (omega arith)) (ap (darts_of g).near (twin_even d e) ∙ near_odd g (d + 1) (d / 2) (omega arith)) (is.left (d / 2) l) (is.right (d / 2) l) (is.apart (d / 2) l) (costs.first (d / 2) l) (costs.second (d / 2) l)
+            at d (edge_at g (d / 2)).u (edge_at g (d / 2)).v l (near_even g d (d / 2) (omega arith)) (ap (darts_of g).near (twin_even d e) ∙ near_odd g (d + 1) (d / 2) (omega arith)) (is.left (d / 2) l) (is.right (d / 2) l) (is.apart (d / 2) l) (costs.edges (d / 2) l)
         by_side d low (inr ne) =
             let l : d / 2 < length g.edges = omega arith in
-            at d (edge_at g (d / 2)).v (edge_at g (d / 2)).u l (near_odd g d (d / 2) (omega arith)) (ap (darts_of g).near (twin_odd d ne) ∙ near_even g (d - 1) (d / 2) (omega arith)) (is.right (d / 2) l) (is.left (d / 2) l) (λ e. is.apart (d / 2) l (sym e)) (costs.second (d / 2) l) (costs.first (d / 2) l)
+            at d (edge_at g (d / 2)).v (edge_at g (d / 2)).u l (near_odd g d (d / 2) (omega arith)) (ap (darts_of g).near (twin_odd d ne) ∙ near_even g (d - 1) (d / 2) (omega arith)) (is.right (d / 2) l) (is.left (d / 2) l) (λ e. is.apart (d / 2) l (sym e)) (omega (arith, ints, costs.edges (d / 2) l))
 
     -- The forest of single vertices is valid.
-    pub fresh_valid : IsValidFor g t
-    fresh_valid = record {
+    pub fresh_valid : AreStarts g (2 * length g.edges) t.near → IsValidFor g t
+    fresh_valid starts = record {
       vertices = fresh.hand.size ∙ n_is;
+      darts = starts.size;
+      ends = starts.each;
       valid = record {
         outermost = outermost;
         nested = nested;

@@ -31,5 +31,9 @@ pub mod WritesAlong
 pub mod Leavings
 pub mod Hangings
 pub mod Expandings
+pub mod Withins
+pub mod Pairings
+pub mod Laminars
+pub mod RingRounds
 pub mod Openings
 pub mod Openeds

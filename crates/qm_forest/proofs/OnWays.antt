@@ -31,11 +31,17 @@ pub none_is : (o : Option ℕ) → is_some o ≡ false → o ≡ None
 none_is None e = refl
 none_is (Some x) e = absurd (cc e)
 
+-- Darts begin where they did.
+pub ends_kept : (g : Graph) (t u : ForestTables) → IsValidFor g t → u.near ≡ t.near → (d : ℕ) → d < 2 * length g.edges → get_or u.near d 0 ≡ (darts_of g).near d
+ends_kept g t u valid near d l = ap (λ xs. get_or xs d 0) near ∙ valid.ends d l
+
 -- The forest is valid after the tree has grown.
 pub valid_grown : (t u : ForestTables) (g : Graph) → IsSmallGraph g → IsValidFor g t → (d m : ℕ) → Reaches (darts_of g) (forest_of t) d → (forest_of t).mate ((forest_of t).out (far (darts_of g) d)) ≡ Some m
-    → forest_of u ≡ grown (darts_of g) (forest_of t) d m → u.hand ≡ t.hand → u.root ≡ t.root → IsValidFor g u
-valid_grown t u g is valid d m reach mate seen hand root = record {
+    → forest_of u ≡ grown (darts_of g) (forest_of t) d m → u.hand ≡ t.hand → u.root ≡ t.root → u.near ≡ t.near → IsValidFor g u
+valid_grown t u g is valid d m reach mate seen hand root near = record {
   vertices = ap length hand ∙ valid.vertices;
+  darts = ap length near ∙ valid.darts;
+  ends = ends_kept g t u valid near;
   valid = by_tree (tree_of (darts_of g) (are_darts g is.lawful) (forest_of t) t.root valid.valid ((forest_of t).out ((darts_of g).near d)) (λ off. outer off reach.outer));
 }
   where
@@ -161,7 +167,7 @@ near_in g t is valid d v low v_is = subst (λ n. v < n) (sym valid.vertices) (su
 
 -- The same blossoms, over two changes.
 pub same_nest : (a b c : ForestTables) → HasSameNest a b → HasSameNest b c → HasSameNest a c
-same_nest a b c p q = record { hand = q.hand ∙ p.hand; top = q.top ∙ p.top; up = q.up ∙ p.up; after = q.after ∙ p.after; parts = q.parts ∙ p.parts; root = q.root ∙ p.root }
+same_nest a b c p q = record { hand = q.hand ∙ p.hand; top = q.top ∙ p.top; up = q.up ∙ p.up; after = q.after ∙ p.after; parts = q.parts ∙ p.parts; root = q.root ∙ p.root; near = q.near ∙ p.near }
 
 -- What is seen, said of the mates at hand.
 pub seen_own : (t0 t1 : ForestTables) (mate : ℕ → Option ℕ) → forest_of t1 ≡ remated (forest_of t0) mate → forest_of t1 ≡ remated (forest_of t0) (forest_of t1).mate
@@ -181,18 +187,20 @@ one_more_outside f1 f2 trail k v v_is e2 done i l = ap (λ (f : Forest). f.label
     by_place (inr ne) (inr nk) = set_there f1.label (f1.out v) (f1.out (get_or trail i 0)) Outside ne ∙ done i (omega arith)
 
 -- The forest is valid after an augmentation.
-pub valid_augmented : (t u : ForestTables) (g : Graph) → IsValidFor g t → (mate : ℕ → Option ℕ) → IsValid (darts_of g) (with_mates (forest_of t) mate) None → forest_of u ≡ with_mates (forest_of t) mate → u.hand ≡ t.hand → u.root ≡ None → IsValidFor g u
-valid_augmented t u g valid mate whole seen hand root = record {
+pub valid_augmented : (t u : ForestTables) (g : Graph) → IsValidFor g t → (mate : ℕ → Option ℕ) → IsValid (darts_of g) (with_mates (forest_of t) mate) None → forest_of u ≡ with_mates (forest_of t) mate → u.hand ≡ t.hand → u.root ≡ None → u.near ≡ t.near → IsValidFor g u
+valid_augmented t u g valid mate whole seen hand root near = record {
   vertices = ap length hand ∙ valid.vertices;
+  darts = ap length near ∙ valid.darts;
+  ends = ends_kept g t u valid near;
   valid = subst (λ (f : Forest). IsValid (darts_of g) f u.root) (sym seen) (subst (λ (o : Option ℕ). IsValid (darts_of g) (with_mates (forest_of t) mate) o) (sym root) whole);
 }
 
 -- What has come of an augmentation.
 pub augmented : (t s u : ForestTables) (g : Graph) → IsSmallGraph g → IsValidFor g t → (start : ℕ) → Reaches (darts_of g) (forest_of t) start
     → ((r : ℕ) → t.root ≡ Some r → IsValid (darts_of g) (with_mates (forest_of t) (forest_of s).mate) None × IsAugmented (darts_of g) (forest_of t) (with_mates (forest_of t) (forest_of s).mate) r start)
-    → forest_of s ≡ remated (forest_of t) (forest_of s).mate → forest_of u ≡ with_mates (forest_of s) (forest_of s).mate → u.hand ≡ t.hand → u.root ≡ None
+    → forest_of s ≡ remated (forest_of t) (forest_of s).mate → forest_of u ≡ with_mates (forest_of s) (forest_of s).mate → u.hand ≡ t.hand → u.root ≡ None → u.near ≡ t.near
     → ((r : ℕ) × (t.root ≡ Some r) × IsAugmented (darts_of g) (forest_of t) (forest_of u) r start) × IsValidFor g u
-augmented t s u g is valid start reach done seen ended hand root = by_tree (tree_of (darts_of g) (are_darts g is.lawful) (forest_of t) t.root valid.valid ((forest_of t).out ((darts_of g).near start)) (λ off. outer off reach.outer))
+augmented t s u g is valid start reach done seen ended hand root near = by_tree (tree_of (darts_of g) (are_darts g is.lawful) (forest_of t) t.root valid.valid ((forest_of t).out ((darts_of g).near start)) (λ off. outer off reach.outer))
   where
     outer : {l : Label} → l ≡ Outside → l ≡ Outer → ⊥
     outer x y = let h : Outside ≡ Outer = sym x ∙ y in cc
@@ -201,4 +209,4 @@ augmented t s u g is valid start reach done seen ended hand root = by_tree (tree
     whole = ended ∙ ap (λ (f : Forest). with_mates f (forest_of s).mate) seen
 
     by_tree : (r : ℕ) × (t.root ≡ Some r) × IsTree (darts_of g) (forest_of t) r → ((r : ℕ) × (t.root ≡ Some r) × IsAugmented (darts_of g) (forest_of t) (forest_of u) r start) × IsValidFor g u
-    by_tree w = ((w.0, w.1, subst (λ (f : Forest). IsAugmented (darts_of g) (forest_of t) f w.0 start) (sym whole) (done w.0 w.1).1), valid_augmented t u g valid (forest_of s).mate (done w.0 w.1).0 whole hand root)
+    by_tree w = ((w.0, w.1, subst (λ (f : Forest). IsAugmented (darts_of g) (forest_of t) f w.0 start) (sym whole) (done w.0 w.1).1), valid_augmented t u g valid (forest_of s).mate (done w.0 w.1).0 whole hand root near)

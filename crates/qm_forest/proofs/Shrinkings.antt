@@ -22,6 +22,7 @@ use Rattle.forest_laws.proofs.ShrunkTrees.{shrunk_valid}
 use Rattle.forest_laws.proofs.Walks.{listed_at, listed_place, writes_all}
 use Rattle.forest_laws.proofs.Writes.{label_cases, outer_named, set_here, set_there}
 use Rattle.qm_forest.specs.Gathers.{IsFreeRing, IsGathered, live_sets}
+use Rattle.qm_forest.proofs.OnWays.{ends_kept}
 use Rattle.qm_forest.specs.Rings.{IsRingedAlike, laid_ring}
 use Rattle.qm_forest.specs.Ties.{HasSameNest, labelled, mated, left_alone}
 use Rattle.qm_forest.proofs.Risings.{the_tree, named_low}
@@ -378,8 +379,10 @@ module _ (g : Graph) (is : IsSmallGraph g) (t0 : ForestTables) (valid : IsValidF
           end_marked (inr nz) = ap inside (sym (walk_at (left + 1) (omega (arith, nz)) ∙ right_is (left + 1) 0 (omega arith))) ∙ listed_at after top many (left + 1) (omega (arith, nz))
 
       -- And the forest is valid.
-      pub shrunk_tables : IsValidFor g t5
-      shrunk_tables = record {
+      pub shrunk_tables : t5.near ≡ t1.near → IsValidFor g t5
+      shrunk_tables near = record {
+        darts = ap length (near ∙ ap (λ (t : ForestTables). t.near) alike) ∙ valid.darts;
+        ends = ends_kept g t0 t5 valid (near ∙ ap (λ (t : ForestTables). t.near) alike);
         vertices = hand ∙ (ap (λ (t : ForestTables). length t.hand) alike ∙ valid.vertices);
         valid = subst (λ (o : Option ℕ). IsValid (darts_of g) (forest_of t5) o) (sym new_root) (shrunk_valid (darts_of g) are (forest_of t0) tree_is.0 whole tree_is.2 (forest_of t5) inside top b top (left + right + 1) cycle_is unused row_is shrunk_is);
       }

@@ -221,3 +221,4 @@ pub record HasClosed (old new : ForestTables) (top many : ℕ) (mate : Option Da
   pub root : (r : Blossom) → old.root ≡ Some r
       → new.root ≡ Some (if listed (slice_index left.after) top many r then b else r)
   pub hand : length new.hand ≡ length old.hand
+  pub near : new.near ≡ old.near

@@ -1,5 +1,6 @@
 pub mod Gathers
 pub mod Parts
 pub mod Rings
+pub mod Rounds
 pub mod Ties
 pub mod Views

@@ -124,6 +124,7 @@ pub record HasOpened (old new : ForestTables) (b : Blossom) : Type 0 where
       (listed (slice_index left.after) (slice_index left.head b) (slice_index left.parts b)) b
   pub root : new.root ≡ left.root
   pub hand : length new.hand ≡ length left.hand
+  pub near : new.near ≡ left.near
 
 -- The dart from a blossom of a ring to the next, or else to the one before.
 abbrev pub side_dart : (f : Forest) (before x : Blossom) (forward : Bool) → Dart

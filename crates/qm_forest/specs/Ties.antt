@@ -1,7 +1,7 @@
 -- How a forest's hidden tables are tied to those that contracts see.
 use Rattle.std.specs.Prelude.{replicate, ◌⊎◌, ◌≡◌, ◌≢◌, ℕ, suc, ◌+◌, ◌/◌, ◌<◌, ◌≤◌, ◌^◌, Bool, true, false, List}
 use Rattle.std.specs.Prelude.{length, count_by, slice_get, slice_index, slice_index_or, is_some, Option, Some, None, ℤ}
-use Rattle.std.specs.Prelude.{pos, ◌+ℤ◌, ◌-ℤ◌, ◌≤ℤ◌, unsigned_abs, if◌then◌else◌}
+use Rattle.std.specs.Prelude.{pos, ◌+ℤ◌, ◌-ℤ◌, ◌*ℤ◌, ◌≤ℤ◌, unsigned_abs, if◌then◌else◌}
 use Rattle.def_math.specs.Counts.{count_below}
 use Rattle.def_math.specs.Sums.{total_below}
 use Rattle.def_matching.specs.Matching.{IsSmallGraph, Vertex, Graph, edge_at}
@@ -164,6 +164,7 @@ pub record HasSameNest (old new : ForestTables) : Type 0 where
   pub after : new.after ≡ old.after
   pub parts : new.parts ≡ old.parts
   pub root : new.root ≡ old.root
+  pub near : new.near ≡ old.near
 
 -- So many blossoms of a ring have left the tree, and have no mates.
 abbrev pub left_alone : (f : Forest) (front many : ℕ) → Forest
@@ -217,6 +218,11 @@ pub record IsMeeting (t : ForestTables) (u v x y : Blossom) (load : ℤ) : Type 
   pub low_y : y < length t.up
   pub small : unsigned_abs load ≤ 2 ^ 90
 
+-- Where each of the first darts of a graph begins.
+pub record AreStarts (g : Graph) (darts : ℕ) (starts : List Vertex) : Type 0 where
+  pub size : length starts ≡ darts
+  pub each : (d : ℕ) → d < darts → slice_index starts d ≡ (darts_of g).near d
+
 -- The numbers from 0 on.
 pub record IsCounted (n : ℕ) (xs : List ℕ) : Type 0 where
   pub size : length xs ≡ n
@@ -230,12 +236,25 @@ pub record IsLowered (old new : List ℤ) (place : ℕ) (most : ℤ) : Type 0 wh
   pub from : (k : ℕ) → (slice_index_or new k (pos 0) ≡ slice_index_or old k (pos 0)) ⊎ (slice_index_or new k
       (pos 0) ≡ most)
 
--- A number for each vertex, at most the cost of each of the first edges at it.
-pub record HasLowCosts (g : Graph) (edges : ℕ) (lows : List ℤ) : Type 0 where
+-- A number for each vertex, at most the cost of each of the first edges at it, and none large.
+pub record HasLowCosts (g : Graph) (most edges : ℕ) (lows : List ℤ) : Type 0 where
   pub size : length lows ≡ g.n
-  pub small : (v : Vertex) → unsigned_abs (slice_index_or lows v (pos 0)) ≤ 2 ^ 60
+  pub small : (v : Vertex) → unsigned_abs (slice_index_or lows v (pos 0)) ≤ most
   pub first : (e : ℕ) → e < edges → slice_index_or lows (edge_at g e).u (pos 0) ≤ℤ (edge_at g e).cost
   pub second : (e : ℕ) → e < edges → slice_index_or lows (edge_at g e).v (pos 0) ≤ℤ (edge_at g e).cost
+
+-- A number for each vertex, none of them large, such that no edge has more at its ends than twice its cost.
+pub record AreFeasible (g : Graph) (lows : List ℤ) : Type 0 where
+  pub size : length lows ≡ g.n
+  pub small : (v : Vertex) → unsigned_abs (slice_index_or lows v (pos 0)) ≤ 2 ^ 60
+  pub edges : (e : ℕ) → e < length g.edges
+      → (slice_index_or lows (edge_at g e).u (pos 0) +ℤ slice_index_or lows (edge_at g e).v (pos 0))
+      ≤ℤ (pos 2 *ℤ (edge_at g e).cost)
+
+-- No cost of the first edges is above a number, up or down, and it is the least such number.
+pub record IsGreatestTo (g : Graph) (edges most : ℕ) : Type 0 where
+  pub above : (e : ℕ) → e < edges → unsigned_abs (edge_at g e).cost ≤ most
+  pub least : (c : ℕ) → ((e : ℕ) → e < edges → unsigned_abs (edge_at g e).cost ≤ c) → most ≤ c
 
 -- The tables of a forest of single vertices, of the weights `lows`.
 pub record IsFresh (n size : ℕ) (lows : List ℤ) (t : ForestTables) (h : HiddenTables) : Type 0 where

@@ -28,6 +28,7 @@ tables_of h l r trail w t = record {
   parts = r.parts.items;
   rank = l.rank.items;
   trail = trail.vertices.items;
+  near = t.near.items;
 }
 
 abbrev pub hidden_of : (h : Handles) (l : Lists) (trail : Trail) (pool : List (Option Node)) → HiddenTables

@@ -69,6 +69,7 @@ impl Forest {
         ensures seen { forest_of self.new ≡ with_mates (forest_of self.old) (forest_of self.old).mate }
         ensures root { self.new.root ≡ None }
         ensures hand { self.new.hand ≡ self.old.hand }
+        ensures near { self.new.near ≡ self.old.near }
     {
         for k in 0..self.trail_length() {
             let v = self.trail_at(k);
@@ -100,6 +101,7 @@ impl Forest {
         ensures seen { forest_of self.new ≡ relabelled (forest_of self.old) (λ b. Outside) }
         ensures root { self.new.root ≡ None }
         ensures hand { self.new.hand ≡ self.old.hand }
+        ensures near { self.new.near ≡ self.old.near }
     {
         self.tree.root = None;
         self.weights.delta = 0;

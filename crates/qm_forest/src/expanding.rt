@@ -39,7 +39,7 @@ impl Forest {
         ensures root { self.new.root ≡ self.old.root }
         ensures valid { IsValidFor (graph g.now) self.new }
     {
-        let many = self.part_count(b);
+        let many = self.parts(b);
         let mate = self.mate_dart(b);
         let link = self.link(b);
         self.open(b);
@@ -49,14 +49,6 @@ impl Forest {
         let course = self.course(first, last, many);
         self.hang_parts(course);
         self.set_link(last, link);
-    }
-
-    /// How many parts a set has.
-    fn part_count(&self, b: u32) -> u32
-        requires { b < length self.now.up }
-        ensures { result ≡ slice_index self.now.parts b }
-    {
-        self.rings.parts[b as usize]
     }
 
     /// The dart by which a matched blossom is matched.

@@ -52,6 +52,7 @@ impl Model for Forest {
       parts = f.rings.parts.items;
       rank = f.lists.rank.items;
       trail = f.trail.vertices.items;
+      near = f.tree.near.items;
     } };
 
     ghost invariant = { λ f. AreTied (tables_of f.handles f.lists f.rings f.trail f.weights f.tree)

@@ -181,6 +181,7 @@ impl Forest {
             ≡ Some (if listed (slice_index self.old.after) front many r then result else r) }
         ensures none { self.old.root ≡ None → self.new.root ≡ None }
         ensures hand { length self.new.hand ≡ length self.old.hand }
+        ensures near { self.new.near ≡ self.old.near }
     {
         let set = take_set(&mut self.pool, self.handles.hand.len() as u32, front);
         let big = rename_row(

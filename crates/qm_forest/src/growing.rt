@@ -56,6 +56,7 @@ impl Forest {
         ensures changed { IsGrown (darts_of (graph g.now)) (forest_of self.old) (forest_of self.new) d }
         ensures root { self.new.root ≡ self.old.root }
         ensures hand { self.new.hand ≡ self.old.hand }
+        ensures near { self.new.near ≡ self.old.near }
     {
         let v = near(g, twin(d));
         let reached = self.outermost(v);

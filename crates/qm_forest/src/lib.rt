@@ -13,6 +13,7 @@ mod members;
 mod numbers;
 mod parting;
 mod ring;
+mod rounds;
 mod search;
 mod shrinking;
 mod start;

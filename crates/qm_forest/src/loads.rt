@@ -72,7 +72,7 @@ impl Forest {
     }
 
     /// The set around a blossom.
-    fn up_at(&self, b: u32) -> u32
+    pub(crate) fn up_at(&self, b: u32) -> u32
         requires { b < length self.now.up }
         ensures value { result ≡ up_at self.now.up b }
         ensures low { result < length self.now.up }

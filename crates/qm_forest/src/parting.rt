@@ -82,6 +82,7 @@ impl Forest {
             (listed (slice_index self.old.after) (slice_index self.old.head b) (slice_index self.old.parts b)) b }
         ensures root { self.new.root ≡ self.old.root }
         ensures hand { length self.new.hand ≡ length self.old.hand }
+        ensures near { self.new.near ≡ self.old.near }
     {
         let front = self.rings.head[b as usize];
         let many = self.rings.parts[b as usize];

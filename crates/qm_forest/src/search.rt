@@ -33,6 +33,7 @@ impl Forest {
     fn set_root(&mut self, b: u32)
         ensures seen { forest_of self.new ≡ forest_of self.old }
         ensures hand { self.new.hand ≡ self.old.hand }
+        ensures near { self.new.near ≡ self.old.near }
         ensures root { self.new.root ≡ Some b }
     {
         self.tree.root = Some(b);

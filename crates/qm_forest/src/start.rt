@@ -1,14 +1,15 @@
-//! A forest of single vertices, whose weights are the least costs.
+//! A forest of single vertices: the weights are the least costs, or are given.
 
-ghost use Rattle.std.specs.Prelude.{◌≡◌, ◌+◌, ◌*◌, ◌/◌, ◌^◌, ◌<◌, ◌≤◌, ℕ, pos, length, slice_index, slice_index_or};
-ghost use Rattle.std.specs.Prelude.{unsigned_abs, replicate, false, IfOk, None};
+ghost use Rattle.std.specs.Prelude.{◌≡◌, ◌+◌, ◌*◌, ◌/◌, ◌^◌, ◌<◌, ◌≤◌, ◌+ℤ◌, ◌*ℤ◌, ◌≤ℤ◌, ℕ, pos, length};
+ghost use Rattle.std.specs.Prelude.{slice_index, slice_index_or, unsigned_abs, max, replicate, false, IfOk, None};
 ghost use Rattle.std.specs.Vec.{vec_capacity};
-ghost use Rattle.def_matching.specs.Matching.{graph, edge_at, IsSmallGraph};
+ghost use Rattle.def_matching.specs.Matching.{graph, edge_at, IsSmallGraph, Vertex};
+ghost use Rattle.def_forest.specs.Forests.{Blossom};
 ghost use Rattle.def_forest.specs.Tables.{forest_of, IsValidFor};
 ghost use Rattle.def_forest.specs.declared.kinds.Label.TheVariants.{Outside};
-ghost use Rattle.qm_forest.specs.Ties.{HasLowCosts, IsCounted, IsLowered};
+ghost use Rattle.qm_forest.specs.Ties.{AreFeasible, AreStarts, HasLowCosts, IsCounted, IsGreatestTo, IsLowered};
 
-use crate::darts::edge_of;
+use crate::darts::{edge_of, near};
 use crate::forest::Forest;
 use crate::tables::{Handles, Lists, Rings, Trail, Tree, Weights};
 use def_forest::Label;
@@ -19,34 +20,118 @@ use std::alloc::{AllocError, Global};
 /// Want of memory.
 pub type Memory = AllocError;
 
-/// The weight of a vertex without edges.
-const GREATEST: i128 = 1_152_921_504_606_846_976;
-
 impl Forest {
-    /// A forest without matching, sets and tree. The weight of a vertex is the least cost at it.
+    /// A forest without matching, sets and tree. The weight of a vertex is the least cost at it, or where it has no
+    /// edge, the greatest cost: no weight is above all costs, up or down.
     pub fn new(alloc: Global, g: &WGraph) -> Result<Forest, Memory>
         requires graph { IsSmallGraph (graph g.now) }
         requires costs { (e : ℕ) → e < length g.now.edges.items → unsigned_abs (edge_at (graph g.now) e).cost ≤ 2 ^ 60 }
         ensures valid { IfOk result (λ f. IsValidFor (graph g.now) f) }
-        ensures empty { IfOk result (λ f. (b : ℕ) → (forest_of f).mate b ≡ None) }
+        ensures empty { IfOk result (λ f. (b : Blossom) → (forest_of f).mate b ≡ None) }
         ensures no_tree { IfOk result (λ f. f.root ≡ None) }
+        ensures size { IfOk result (λ f. length f.up ≡ g.now.n + g.now.n / 2) }
+        ensures small { IfOk result (λ f. (c : ℕ)
+            → ((e : ℕ) → e < length g.now.edges.items → unsigned_abs (edge_at (graph g.now) e).cost ≤ c)
+            → (b : Blossom) → unsigned_abs ((forest_of f).weight b) ≤ c) }
     {
-        let n = g.n as usize;
-        let size = n + n / 2;
-        let lows = least_costs(alloc, g)?;
-        Ok(Forest {
-            weights: Weights {
-                base: padded(alloc, &lows, size)?,
-                delta: 0,
-            },
-            handles: single_handles(alloc, lows)?,
-            lists: single_lists(alloc, n, size)?,
-            rings: no_rings(alloc, size)?,
-            trail: empty_trail(alloc, n)?,
-            tree: no_tree(alloc, size)?,
-            pool: empty_pool(alloc, n / 2)?,
-        })
+        let most = greatest_cost(g);
+        let lows = least_costs(alloc, g, most)?;
+        single_vertices(alloc, g, lows)
     }
+
+    /// A forest without matching, sets and tree. The weights of the vertices are given: a feasible dual.
+    pub fn new_from(alloc: Global, g: &WGraph, y: &[i64]) -> Result<Forest, Memory>
+        requires graph { IsSmallGraph (graph g.now) }
+        requires numbers { length y.now ≡ g.now.n }
+        requires small { (v : Vertex) → unsigned_abs (slice_index_or y.now v (pos 0)) ≤ 2 ^ 60 }
+        requires feasible { (e : ℕ) → e < length g.now.edges.items
+            → (slice_index_or y.now (edge_at (graph g.now) e).u (pos 0)
+            +ℤ slice_index_or y.now (edge_at (graph g.now) e).v (pos 0))
+            ≤ℤ (pos 2 *ℤ (edge_at (graph g.now) e).cost) }
+        ensures valid { IfOk result (λ f. IsValidFor (graph g.now) f) }
+        ensures empty { IfOk result (λ f. (b : Blossom) → (forest_of f).mate b ≡ None) }
+        ensures no_tree { IfOk result (λ f. f.root ≡ None) }
+        ensures size { IfOk result (λ f. length f.up ≡ g.now.n + g.now.n / 2) }
+        ensures single { IfOk result (λ f. (v : Vertex) → v < g.now.n → (forest_of f).out v ≡ v) }
+        ensures weights { IfOk result (λ f.
+            (b : Blossom) → (forest_of f).weight b ≡ slice_index_or y.now b (pos 0)) }
+    {
+        let lows = widened(alloc, y)?;
+        single_vertices(alloc, g, lows)
+    }
+}
+
+/// A forest of single vertices, of given weights.
+fn single_vertices(alloc: Global, g: &WGraph, lows: Vec<i128>) -> Result<Forest, Memory>
+    requires graph { IsSmallGraph (graph g.now) }
+    requires weights { AreFeasible (graph g.now) lows.items }
+    ensures valid { IfOk result (λ f. IsValidFor (graph g.now) f) }
+    ensures empty { IfOk result (λ f. (b : Blossom) → (forest_of f).mate b ≡ None) }
+    ensures no_tree { IfOk result (λ f. f.root ≡ None) }
+    ensures size { IfOk result (λ f. length f.up ≡ g.now.n + g.now.n / 2) }
+    ensures single { IfOk result (λ f. (v : Vertex) → v < g.now.n → (forest_of f).out v ≡ v) }
+    ensures weights { IfOk result (λ f.
+        (b : Blossom) → (forest_of f).weight b ≡ slice_index_or lows.items b (pos 0)) }
+{
+    let n = g.n as usize;
+    let size = n + n / 2;
+    let near = dart_starts(alloc, g)?;
+    Ok(Forest {
+        weights: Weights {
+            base: padded(alloc, &lows, size)?,
+            delta: 0,
+        },
+        handles: single_handles(alloc, lows)?,
+        lists: single_lists(alloc, n, size)?,
+        rings: no_rings(alloc, size)?,
+        trail: empty_trail(alloc, n)?,
+        tree: no_tree(alloc, size, near)?,
+        pool: empty_pool(alloc, n / 2)?,
+    })
+}
+
+/// Where each dart of a graph begins.
+fn dart_starts(alloc: Global, g: &WGraph) -> Result<Vec<u32>, Memory>
+    requires { IsSmallGraph (graph g.now) }
+    ensures { IfOk result (λ v. AreStarts (graph g.now) (2 * length g.now.edges.items) v.items) }
+{
+    let count = 2 * g.edges.len();
+    let mut starts = Vec::with_capacity(alloc, count)?;
+    for d in 0..count {
+        starts.push(near(g, d as u32))?;
+    }
+    Ok(starts)
+}
+
+/// The greatest cost, up or down.
+fn greatest_cost(g: &WGraph) -> u64
+    requires graph { IsSmallGraph (graph g.now) }
+    requires costs { (e : ℕ) → e < length g.now.edges.items → unsigned_abs (edge_at (graph g.now) e).cost ≤ 2 ^ 60 }
+    ensures { IsGreatestTo (graph g.now) (length g.now.edges.items) result }
+{
+    let mut most = 0;
+    for e in 0..g.edges.len() {
+        most = greater_of(most, edge_of(g, e as u32).cost.unsigned_abs());
+    }
+    most
+}
+
+/// The greater of two numbers.
+fn greater_of(a: u64, b: u64) -> u64
+    ensures { result ≡ max a b }
+{
+    if a < b { b } else { a }
+}
+
+/// Numbers in 64 bits, in 128.
+fn widened(alloc: Global, numbers: &[i64]) -> Result<Vec<i128>, Memory>
+    ensures { IfOk result (λ v. v.items ≡ numbers.now) }
+{
+    let mut wide = Vec::with_capacity(alloc, numbers.len())?;
+    for x in numbers {
+        wide.push(i128::from(*x))?;
+    }
+    Ok(wide)
 }
 
 /// A handle for each vertex, its own.
@@ -103,17 +188,19 @@ fn no_rings(alloc: Global, size: usize) -> Result<Rings, Memory>
 }
 
 /// No blossom is matched, and no tree stands.
-fn no_tree(alloc: Global, size: usize) -> Result<Tree, Memory>
+fn no_tree(alloc: Global, size: usize, near: Vec<u32>) -> Result<Tree, Memory>
     ensures label { IfOk result (λ t. t.label.items ≡ replicate size Outside) }
     ensures mate { IfOk result (λ t. t.mate.items ≡ replicate size None) }
     ensures link { IfOk result (λ t. length t.link.items ≡ size) }
     ensures root { IfOk result (λ t. t.root ≡ None) }
+    ensures near { IfOk result (λ t. t.near.items ≡ near.items) }
 {
     Ok(Tree {
         label: vec![in alloc; Label::Outside; size]?,
         mate: vec![in alloc; None; size]?,
         link: vec![in alloc; 0u32; size]?,
         root: None,
+        near,
     })
 }
 
@@ -139,13 +226,13 @@ fn empty_pool(alloc: Global, room: usize) -> Result<Pool, Memory>
     Ok(pool)
 }
 
-/// The least cost at each vertex.
-fn least_costs(alloc: Global, g: &WGraph) -> Result<Vec<i128>, Memory>
+/// The least cost at each vertex, or where it has no edge, the greatest one.
+fn least_costs(alloc: Global, g: &WGraph, most: u64) -> Result<Vec<i128>, Memory>
     requires graph { IsSmallGraph (graph g.now) }
-    requires costs { (e : ℕ) → e < length g.now.edges.items → unsigned_abs (edge_at (graph g.now) e).cost ≤ 2 ^ 60 }
-    ensures { IfOk result (λ lows. HasLowCosts (graph g.now) (length g.now.edges.items) lows.items) }
+    requires costs { (e : ℕ) → e < length g.now.edges.items → unsigned_abs (edge_at (graph g.now) e).cost ≤ most }
+    ensures { IfOk result (λ lows. HasLowCosts (graph g.now) most (length g.now.edges.items) lows.items) }
 {
-    let mut lows = vec![in alloc; GREATEST; g.n as usize]?;
+    let mut lows = vec![in alloc; i128::from(most); g.n as usize]?;
     for e in 0..g.edges.len() as u32 {
         let edge = edge_of(g, e);
         lower(&mut lows, edge.u, i128::from(edge.cost));

@@ -57,4 +57,6 @@ pub(crate) struct Tree {
     pub(crate) mate: Vec<Option<u32>>,
     pub(crate) link: Vec<u32>,
     pub(crate) root: Option<u32>,
+    /// Where each dart of the graph begins, so that mates and joints can be followed without it.
+    pub(crate) near: Vec<u32>,
 }

@@ -24,7 +24,7 @@ returns-then-is_some-clause-changed c = seen_shift_tied _ _ c.self.invariant c.a
 
 pub returns-then-is_some-clause-valid : goal.returns-then-is_some-clause-valid
 returns-then-is_some-clause-valid c = valid_shift _ _ (graph c.args.g.now) c.args.t c.requires.graph.lawful (subst (λ (t : ForestTables). IsValidFor (graph c.args.g.now) t) (sym c.self.view_is) c.requires.valid)
-    (subst (λ (t : ForestTables). IsFeasible (darts_of (graph c.args.g.now)) (shifted (forest_of t) c.args.t)) (sym c.self.view_is) c.requires.feasible) (seen_shift_tied _ _ c.self.invariant c.args.t _ (omega (arith, ints, delta_small _ _ c.self.invariant, c.from.ensures, c.ranges.t))) refl refl
+    (subst (λ (t : ForestTables). IsFeasible (darts_of (graph c.args.g.now)) (shifted (forest_of t) c.args.t)) (sym c.self.view_is) c.requires.feasible) (seen_shift_tied _ _ c.self.invariant c.args.t _ (omega (arith, ints, delta_small _ _ c.self.invariant, c.from.ensures, c.ranges.t))) refl refl refl
 
 pub returns-else-is_some-clause-changed : goal.returns-else-is_some-clause-changed
 returns-else-is_some-clause-changed c = seen_still (graph c.args.g.now) _ c.args.t c.requires.valid (none_of _ (ap (λ (t : ForestTables). is_some t.root) (sym c.self.view_is) ∙ cc))

@@ -1,0 +1,187 @@
+-- What tied tables say of how blossoms lie in each other, and the two parts that a joint joins.
+use Rattle.std.proofs.Common.{◌≡◌, ◌≢◌, ℕ, zero, suc, ◌+◌, ◌*◌, ◌^◌, ◌<◌, ◌≤◌, Bool, true, false, eqb, List, length, get_or, ◌⊎◌, refl, sym, ◌∙◌, ap, subst, inl, inr, arith}
+use Rattle.std.proofs.lemmas.Bool.{cases_eq, cases_lt, cases_Bool, eq-eqb, ne_eqb}
+use Rattle.def_matching.specs.Matching.{Graph, IsSmallGraph}
+use Rattle.def_forest.specs.Darts.{AreDarts, darts_of, twin_of}
+use Rattle.def_forest.specs.Forests.{Forest, number, walk}
+use Rattle.def_forest.specs.Tables.{ForestTables, forest_of, climbs, out_of, up_at, IsValidFor}
+use Rattle.def_forest.specs.Valid.{IsJoint, IsRing}
+use Rattle.forest_laws.proofs.Facts.{far_low}
+use Rattle.forest_laws.proofs.Graphs.{are_darts}
+use Rattle.forest_laws.proofs.Writes.{true_false}
+use Rattle.qm_forest.specs.Rounds.{IsLaminar, IsPairing, far_at, near_at, within}
+use Rattle.qm_forest.specs.Ties.{AreTied, HiddenTables, IsInUse, IsListed}
+use Rattle.qm_forest.proofs.Enclosed.{climbs_here}
+use Rattle.qm_forest.proofs.JoinedLists.{list_few, list_member}
+use Rattle.qm_forest.proofs.Nests.{climbs_place, comes_by, rank_few, rank_passed}
+use Rattle.qm_forest.proofs.Withins.{none_in_both, off_where, pair_law}
+
+pub laminar : (t : ForestTables) (hid : HiddenTables) → AreTied t hid → IsLaminar t
+laminar t hid tied = record {
+  vertices = tied.sizes.vertices;
+  few = tied.sizes.few;
+  rises = tied.nest.rises;
+  low = λ x l used. list_few (length t.hand) (λ k. get_or hid.following k 0) (get_or hid.first x 0) (get_or hid.last x 0) (get_or t.rank x 0) (climbs (up_at t.up) (length t.hand) x) (tied.nest.members x l used);
+  passed = λ b v l on. (
+      let low : get_or t.rank b 0 ≤ get_or t.rank (out_of t.hand t.top v) 0 = rank_passed (length t.hand) (length t.up) t.hand t.top t.up t.rank t.parts hid.leader hid.first hid.last hid.following tied.nest v b l on in
+      omega (arith, low, rank_few (length t.hand) (length t.up) t.hand t.top t.up t.rank t.parts hid.leader hid.first hid.last hid.following tied.nest v l));
+  own = λ b x l on. own b x l (climbs_place (up_at t.up) (length t.hand) x b on) (cases_eq b x);
+  two = λ x l used more. two x more (tied.nest.members x l used);
+  some = λ x l used. (tied.nest.members x l used).some;
+}
+  where
+    own : (b x : ℕ) → x < length t.hand → (i : ℕ) × (walk (up_at t.up) b i ≡ x) → (b ≡ x) ⊎ (b ≢ x) → b ≡ x
+    own b x l w (inl e) = e
+    own b x l w (inr ne) =
+        let y : (y : ℕ) × (up_at t.up y ≡ x) × (y ≢ x) = comes_by (up_at t.up) b w.0 x w.1 ne in
+        let around : (length t.hand ≤ up_at t.up y.0) × (get_or t.parts (up_at t.up y.0) 0 ≢ 0) = tied.nest.around y.0 (λ s. y.2 (sym s ∙ y.1)) in
+        let high : length t.hand ≤ x = subst (λ z. length t.hand ≤ z) y.1 around.0 in
+        absurd (omega (arith, l, high))
+
+    two : (x : ℕ) → 2 ≤ get_or t.rank x 0 → IsListed (length t.hand) (λ k. get_or hid.following k 0) (get_or hid.first x 0) (get_or hid.last x 0) (get_or t.rank x 0) (climbs (up_at t.up) (length t.hand) x)
+        → (u : ℕ) × (v : ℕ) × (u < length t.hand) × (v < length t.hand) × (u ≢ v) × (within t u x ≡ true) × (within t v x ≡ true)
+    two x more list = (
+      walk (λ k. get_or hid.following k 0) (get_or hid.first x 0) 0,
+      walk (λ k. get_or hid.following k 0) (get_or hid.first x 0) 1,
+      list.low 0 (omega (arith, more)),
+      list.low 1 (omega (arith, more)),
+      list.distinct 0 1 (omega arith) (omega (arith, more)),
+      list_member (length t.hand) (λ k. get_or hid.following k 0) (get_or hid.first x 0) (get_or hid.last x 0) (get_or t.rank x 0) (climbs (up_at t.up) (length t.hand) x) list 0 (omega (arith, more)),
+      list_member (length t.hand) (λ k. get_or hid.following k 0) (get_or hid.first x 0) (get_or hid.last x 0) (get_or t.rank x 0) (climbs (up_at t.up) (length t.hand) x) list 1 (omega (arith, more)),
+    )
+
+module _ (t : ForestTables) (known : IsLaminar t) where
+  abbrev n : ℕ
+  n = length t.hand
+
+  -- A vertex holds itself alone.
+  pub alone : (v w : ℕ) → v < length t.hand → w < length t.hand → (forest_of t).holds v w ≡ eqb v w
+  alone v w lv lw = by_eq (cases_eq v w)
+    where
+      by_eq : (v ≡ w) ⊎ (v ≢ w) → (forest_of t).holds v w ≡ eqb v w
+      by_eq (inl e) = ap (λ x. climbs (up_at t.up) (length t.hand) v x) (sym e) ∙ (climbs_here (up_at t.up) (length t.hand) v ∙ sym (eq-eqb v w e))
+      by_eq (inr ne) = off_where (climbs (up_at t.up) (length t.hand) v w) (λ on. ne (sym (known.own w v lv on))) ∙ sym (ne_eqb v w ne)
+
+  module _ (g : Graph) (is : IsSmallGraph g) (valid : IsValidFor g t) where
+    abbrev are : AreDarts (darts_of g)
+    are = are_darts g is.lawful
+
+    -- A set has another vertex than any one.
+    pub another : (x w : ℕ) → length t.hand ≤ x → x < length t.up → get_or t.parts x 0 ≢ 0 → (v : ℕ) × (v < length t.hand) × (v ≢ w) × ((forest_of t).holds x v ≡ true)
+    another x w high low live = by_two (known.two x low (inr live) (omega (arith, ring.lower 0, known.some (walk (forest_of t).nest.after ((forest_of t).nest.head x) 0) (ring.below 0) part_used)))
+      where
+        ring : IsRing (darts_of g) (forest_of t) x
+        ring = valid.valid.nested.rings x (subst (λ m. m ≤ x) valid.vertices high) live
+
+        part_used : IsInUse (length t.hand) t.parts (get_or t.head x 0)
+        part_used = by_size (cases_lt (get_or t.head x 0) (length t.hand))
+          where
+            inner : (forest_of t).nest.up (get_or t.head x 0) ≢ get_or t.head x 0
+            inner e = (let r : get_or t.rank (get_or t.head x 0) 0 < get_or t.rank x 0 = ring.lower 0 in let s : get_or t.rank x 0 ≡ get_or t.rank (get_or t.head x 0) 0 = ap (λ y. get_or t.rank y 0) (sym (ring.inside 0) ∙ e) in absurd (omega (arith, r, s)))
+
+            joint : IsJoint (darts_of g) (forest_of t) (get_or t.head x 0)
+            joint = valid.valid.nested.joints (get_or t.head x 0) inner
+
+            by_size : (get_or t.head x 0 < length t.hand) ⊎ (length t.hand ≤ get_or t.head x 0) → IsInUse (length t.hand) t.parts (get_or t.head x 0)
+            by_size (inl l) = inl l
+            by_size (inr h) = inr (λ none. true_false ((forest_of t).holds (get_or t.head x 0) ((darts_of g).near (get_or t.joint (get_or t.head x 0) 0))) joint.begins
+                (valid.valid.nested.empty (get_or t.head x 0) ((darts_of g).near (get_or t.joint (get_or t.head x 0) 0)) (subst (λ m. m ≤ get_or t.head x 0) valid.vertices h) (are.near_low (get_or t.joint (get_or t.head x 0) 0) joint.tight.low) none))
+
+        by_two : (u : ℕ) × (v : ℕ) × (u < length t.hand) × (v < length t.hand) × (u ≢ v) × (within t u x ≡ true) × (within t v x ≡ true) → (v : ℕ) × (v < length t.hand) × (v ≢ w) × ((forest_of t).holds x v ≡ true)
+        by_two s = elim (cases_eq s.0 w) [ inl e ↦ (s.1, s.3, (λ f. s.4 (e ∙ sym f)), s.6) | inr ne ↦ (s.0, s.2, ne, s.5) ]
+
+    -- A part and the next are joined.
+    module _ (x : ℕ) (inner : up_at t.up x ≢ x) where
+      abbrev q : ℕ
+      q = up_at t.up x
+
+      abbrev d : ℕ
+      d = get_or t.joint x 0
+
+      abbrev y : ℕ
+      y = get_or t.after x 0
+
+      live_q : (g.n ≤ q) × (get_or t.parts q 0 ≢ 0)
+      live_q = valid.valid.nested.live x inner
+
+      pub ring_around : IsRing (darts_of g) (forest_of t) q
+      ring_around = valid.valid.nested.rings q live_q.0 live_q.1
+
+      joint_is : IsJoint (darts_of g) (forest_of t) x
+      joint_is = valid.valid.nested.joints x inner
+
+      x_place : (k : ℕ) × (k < get_or t.parts q 0) × (walk (λ i. get_or t.after i 0) (get_or t.head q 0) k ≡ x)
+      x_place = ring_around.all x refl (λ e. inner (sym e))
+
+      pub next_around : up_at t.up y ≡ q
+      next_around = ap (λ z. up_at t.up (get_or t.after z 0)) (sym x_place.2) ∙ ring_around.inside (suc x_place.0)
+
+      part_other : (z : ℕ) → up_at t.up z ≡ q → (k : ℕ) → walk (λ i. get_or t.after i 0) (get_or t.head q 0) k ≡ z → z ≢ q
+      part_other z e k at s = (let r : get_or t.rank (walk (λ i. get_or t.after i 0) (get_or t.head q 0) k) 0 < get_or t.rank q 0 = ring_around.lower k in let same : get_or t.rank (walk (λ i. get_or t.after i 0) (get_or t.head q 0) k) 0 ≡ get_or t.rank q 0 = ap (λ w. get_or t.rank w 0) (at ∙ s) in absurd (omega (arith, r, same)))
+
+      pub next_other : y ≢ q
+      next_other = part_other y next_around (suc x_place.0) (ap (λ z. get_or t.after z 0) x_place.2)
+
+      pub x_low : x < length t.up
+      x_low = subst (λ z. z < length t.up) x_place.2 (ring_around.below x_place.0)
+
+      pub y_low : y < length t.up
+      y_low = subst (λ z. z < length t.up) (ap (λ z. get_or t.after z 0) x_place.2) (ring_around.below (suc x_place.0))
+
+      differ : x ≢ y
+      differ e = by_end (cases_eq (suc x_place.0) (get_or t.parts q 0))
+        where
+          same : walk (λ i. get_or t.after i 0) (get_or t.head q 0) x_place.0 ≡ walk (λ i. get_or t.after i 0) (get_or t.head q 0) (suc x_place.0)
+          same = x_place.2 ∙ (e ∙ sym (ap (λ z. get_or t.after z 0) x_place.2))
+
+          by_end : (suc x_place.0 ≡ get_or t.parts q 0) ⊎ (suc x_place.0 ≢ get_or t.parts q 0) → ⊥
+          by_end (inr l) = ring_around.distinct x_place.0 (suc x_place.0) (omega arith) (omega (arith, l, x_place.1)) same
+          by_end (inl at) = ring_around.distinct 0 x_place.0 (omega (arith, at, ring_around.odd, ring_around.some)) x_place.1
+              (sym ring_around.closed ∙ (ap (walk (λ i. get_or t.after i 0) (get_or t.head q 0)) (sym at) ∙ sym same))
+
+      d_low : d < 2 * length g.edges
+      d_low = joint_is.tight.low
+
+      near_is : near_at t d ≡ (darts_of g).near d
+      near_is = valid.ends d d_low
+
+      far_is : far_at t d ≡ (darts_of g).near ((darts_of g).twin d)
+      far_is = valid.ends (twin_of d) (are.twin_low d d_low)
+
+      near_ok : near_at t d < length t.hand
+      near_ok = subst (λ m. near_at t d < m) (sym valid.vertices) (subst (λ v. v < g.n) (sym near_is) (are.near_low d d_low))
+
+      far_ok : far_at t d < length t.hand
+      far_ok = subst (λ m. far_at t d < m) (sym valid.vertices) (subst (λ v. v < g.n) (sym far_is) (far_low (darts_of g) are d d_low))
+
+      near_in : within t (near_at t d) x ≡ true
+      near_in = subst (λ v. (forest_of t).holds x v ≡ true) (sym near_is) joint_is.begins
+
+      far_in : within t (far_at t d) y ≡ true
+      far_in = subst (λ v. (forest_of t).holds y v ≡ true) (sym far_is) joint_is.ends
+
+      used : (z v : ℕ) → v < length t.hand → within t v z ≡ true → length t.hand ≤ z → get_or t.parts z 0 ≢ 0
+      used z v l on high none = true_false ((forest_of t).holds z v) on (valid.valid.nested.empty z v (subst (λ m. m ≤ z) valid.vertices high) (subst (λ m. v < m) valid.vertices l) none)
+
+      pub part_rank : (z v : ℕ) → v < length t.hand → within t v z ≡ true → get_or t.rank z 0 ≤ length t.hand
+      part_rank z v l on = known.passed z v l on
+
+      -- The two are a pair.
+      pub ring_pairing : IsPairing t x y d
+      ring_pairing = record {
+        dart = subst (λ m. d < m) (sym valid.darts) d_low;
+        small = omega (arith, d_low, is.edges);
+        low_x = x_low;
+        low_y = y_low;
+        other = differ;
+        apart = λ e. none_in_both (length t.hand) (up_at t.up) (λ z. get_or t.rank z 0) known.rises (near_at t d) x y q refl next_around (λ s. inner (sym s)) next_other differ near_in (subst (λ v. within t v y ≡ true) (sym e) far_in);
+        near_low = near_ok;
+        far_low = far_ok;
+        near_held = near_in;
+        far_held = far_in;
+        live_x = used x (near_at t d) near_ok near_in;
+        live_y = used y (far_at t d) far_ok far_in;
+        law = λ b l. pair_law (length t.hand) (up_at t.up) (λ z. get_or t.rank z 0) known.rises x y q (near_at t d) (far_at t d) refl next_around (λ s. inner (sym s)) next_other differ near_in far_in (known.passed x (near_at t d) near_ok near_in) (known.passed y (far_at t d) far_ok far_in) b
+            (λ on. known.passed b (near_at t d) near_ok on) (λ on. known.passed b (far_at t d) far_ok on);
+        tight = λ h is' valid'. (valid'.valid.nested.joints x inner).tight;
+      }

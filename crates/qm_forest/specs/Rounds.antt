@@ -1,0 +1,99 @@
+-- Choosing the matched edges within blossoms: which are chosen, and which blossoms wait.
+use Rattle.std.specs.Prelude.{◌≡◌, ◌≢◌, ℕ, ◌+◌, ◌*◌, ◌^◌, ◌<◌, ◌≤◌, ◌&&◌, nat_lt, Bool, not, true, false, if◌then◌else◌}
+use Rattle.std.specs.Prelude.{List, length, slice_index, slice_index_or, slice_set, Option, Some, None}
+use Rattle.def_math.specs.Counts.{count_below}
+use Rattle.def_matching.specs.Matching.{Graph, Vertex, IsSmallGraph}
+use Rattle.def_forest.specs.Darts.{Dart, darts_of, twin_of}
+use Rattle.def_forest.specs.Forests.{Blossom, IsTight, number, splits}
+use Rattle.def_forest.specs.Tables.{ForestTables, forest_of, climbs, up_at, IsValidFor}
+use Rattle.qm_forest.specs.Ties.{IsInUse}
+use Rattle.qm_forest.specs.declared.rounds.Round.{Round}
+
+-- Blossom b is blossom c, or lies in it.
+abbrev pub within : (t : ForestTables) (b c : Blossom) → Bool
+within t b c = climbs (up_at t.up) (length t.hand) c b
+
+-- Where a dart begins and where it ends.
+abbrev pub near_at : (t : ForestTables) (d : Dart) → Vertex
+near_at t d = slice_index t.near d
+
+abbrev pub far_at : (t : ForestTables) (d : Dart) → Vertex
+far_at t d = slice_index t.near (twin_of d)
+
+-- How many of the chosen edges leave a blossom.
+abbrev pub leaving : (t : ForestTables) (marks : List Bool) (b : Blossom) → ℕ
+leaving t marks b =
+    count_below (λ e. number (slice_index_or marks e false && splits ((forest_of t).holds b) (near_at t (2 * e)) (near_at t (2 * e + 1))))
+    (length marks)
+
+-- 1 where blossom b lies in c and does not hold a vertex: of the blossoms in c all but those around it wait.
+abbrev pub waits_but : (t : ForestTables) (b c : Blossom) (v : Vertex) → ℕ
+waits_but t b c v = if within t b c then (if (forest_of t).holds b v then 0 else 1) else 0
+
+abbrev pub waits_for : (t : ForestTables) (b c : Blossom) (entry : Option Vertex) → ℕ
+waits_for t b c None = 0
+waits_for t b c (Some v) = waits_but t b c v
+
+-- In how many of the sets that wait blossom b does.
+abbrev pub waiting : (t : ForestTables) (left_out : List (Option Vertex)) (b : Blossom) → ℕ
+waiting t left_out b = count_below (λ c. waits_for t b c (slice_index_or left_out c None)) (length left_out)
+
+-- A set waits with all its vertices but one of them.
+pub record IsEntry (t : ForestTables) (c : Blossom) (v : Vertex) : Type 0 where
+  pub high : length t.hand ≤ c
+  pub live : slice_index t.parts c ≢ 0
+  pub low : v < length t.hand
+  pub held : (forest_of t).holds c v ≡ true
+
+-- Each blossom is left by so many chosen edges, or waits, or else is one of the rest: so often as is due.
+pub record IsRound (t : ForestTables) (marks : List Bool) (left_out : List (Option Vertex)) (rest due : Blossom → ℕ)
+    : Type 0 where
+  pub each : (b : Blossom) → b < length t.up → leaving t marks b + (waiting t left_out b + rest b) ≡ due b
+  pub entry : (c : Blossom) (v : Vertex) → slice_index_or left_out c None ≡ Some v → IsEntry t c v
+  pub once : (v : Vertex) → v < length t.hand → due v ≤ 1
+  pub tight : (g : Graph) → IsSmallGraph g → IsValidFor g t → (e : ℕ) → slice_index_or marks e false ≡ true
+      → IsTight (darts_of g) (forest_of t) (2 * e)
+
+-- What the tables say of how blossoms lie in each other: the way out rises, and ends soon.
+pub record IsLaminar (t : ForestTables) : Type 0 where
+  pub vertices : length t.hand ≤ length t.up
+  pub few : length t.up ≤ 2 ^ 26
+  pub rises : (x : Blossom) → up_at t.up x ≢ x → slice_index t.rank x < slice_index t.rank (up_at t.up x)
+  pub low : (x : Blossom) → x < length t.up → IsInUse (length t.hand) t.parts x
+      → slice_index t.rank x ≤ length t.hand
+  pub passed : (b : Blossom) (v : Vertex) → v < length t.hand → within t v b ≡ true
+      → slice_index t.rank b ≤ length t.hand
+  pub own : (b x : Blossom) → x < length t.hand → within t b x ≡ true → b ≡ x
+  pub two : (x : Blossom) → x < length t.up → IsInUse (length t.hand) t.parts x → 2 ≤ slice_index t.rank x
+      → (u : Vertex) × (v : Vertex) × (u < length t.hand) × (v < length t.hand) × (u ≢ v) × (within t u x ≡ true)
+      × (within t v x ≡ true)
+  pub some : (x : Blossom) → x < length t.up → IsInUse (length t.hand) t.parts x → 1 ≤ slice_index t.rank x
+
+-- There is a mark for each edge and an entry for each blossom.
+pub record HasRoom (t : ForestTables) (round : Round) : Type 0 where
+  pub laminar : IsLaminar t
+  pub marks : length t.near ≡ 2 * length round.marks.items
+  pub left_out : length round.left_out.items ≡ length t.up
+
+-- Two blossoms are joined by a dart, and a blossom is left by it or waits as often as it lies in one of them.
+pub record IsPairing (t : ForestTables) (x y : Blossom) (d : Dart) : Type 0 where
+  pub dart : d < length t.near
+  pub small : d < 2 ^ 31
+  pub low_x : x < length t.up
+  pub low_y : y < length t.up
+  pub other : x ≢ y
+  pub apart : near_at t d ≢ far_at t d
+  pub near_low : near_at t d < length t.hand
+  pub far_low : far_at t d < length t.hand
+  pub near_held : (forest_of t).holds x (near_at t d) ≡ true
+  pub far_held : (forest_of t).holds y (far_at t d) ≡ true
+  pub live_x : length t.hand ≤ x → slice_index t.parts x ≢ 0
+  pub live_y : length t.hand ≤ y → slice_index t.parts y ≢ 0
+  pub law : (b : Blossom) → b < length t.up
+      → number (splits ((forest_of t).holds b) (near_at t d) (far_at t d))
+      + (waits_but t b x (near_at t d) + waits_but t b y (far_at t d)) ≡ number (within t b x) + number (within t b y)
+  pub tight : (g : Graph) → IsSmallGraph g → IsValidFor g t → IsTight (darts_of g) (forest_of t) d
+
+-- A set waits from now on; a single vertex does not.
+abbrev pub entered : (n : ℕ) (left_out : List (Option Vertex)) (c : Blossom) (v : Vertex) → List (Option Vertex)
+entered n left_out c v = if nat_lt c n then left_out else slice_set left_out c (Some v)

@@ -1,0 +1,108 @@
+//! Choosing the matched edges within blossoms, from the outermost ones inwards.
+
+ghost use Rattle.std.specs.Prelude.{◌≡◌, ◌≢◌, ◌+◌, ◌-◌, ◌*◌, ◌/◌, ◌<◌, ◌≤◌, ◌⊎◌, ℕ, true, length, slice_index, slice_index_or};
+ghost use Rattle.std.specs.Prelude.{slice_set, Some, None};
+ghost use Rattle.def_forest.specs.Forests.{Blossom, number, ring_sum};
+ghost use Rattle.def_matching.specs.Matching.{Graph, IsSmallGraph, Vertex};
+ghost use Rattle.def_forest.specs.Tables.{forest_of, up_at, IsValidFor};
+ghost use Rattle.qm_forest.specs.Rounds.{IsRound, HasRoom, IsPairing, within, waits_but, entered, near_at, far_at};
+
+use crate::darts::twin;
+use crate::forest::Forest;
+
+/// The edges that are chosen; and of each set that waits the vertex that is matched elsewhere, or not at all.
+#[derive(Drop)]
+pub(crate) struct Round {
+    pub(crate) marks: Vec<bool>,
+    pub(crate) left_out: Vec<Option<u32>>,
+}
+
+impl Forest {
+    /// Matches two blossoms by a dart from the one to the other. Of a set all vertices but the dart's end wait then.
+    pub(crate) fn pair(&self, x: u32, y: u32, d: u32, round: &mut Round)
+        requires room { HasRoom self.now round.old }
+        requires pairing { IsPairing self.now x y d }
+        ensures room { HasRoom self.now round.new }
+        ensures marks { round.new.marks.items ≡ slice_set round.old.marks.items (d / 2) true }
+        ensures left_out { round.new.left_out.items ≡ entered (length self.now.hand)
+            (entered (length self.now.hand) round.old.left_out.items x (near_at self.now d)) y (far_at self.now d) }
+    {
+        round.marks[(d / 2) as usize] = true;
+        self.enter(x, self.start_of(d), round);
+        self.enter(y, self.start_of(twin(d)), round);
+    }
+
+    /// A set waits, with all its vertices but one.
+    fn enter(&self, c: u32, v: u32, round: &mut Round)
+        requires { c < length round.old.left_out.items }
+        ensures marks { round.new.marks ≡ round.old.marks }
+        ensures left_out { round.new.left_out.items
+            ≡ entered (length self.now.hand) round.old.left_out.items c v }
+    {
+        if c >= self.vertices() {
+            round.left_out[c as usize] = Some(v);
+        }
+    }
+
+    /// Where a dart begins.
+    fn start_of(&self, d: u32) -> u32
+        requires { d < length self.now.near }
+        ensures { result ≡ near_at self.now d }
+    {
+        self.tree.near[d as usize]
+    }
+
+    /// The dart from a part to the next on the ring.
+    fn joint(&self, x: u32) -> u32
+        requires { x < length self.now.up }
+        ensures { result ≡ slice_index self.now.joint x }
+    {
+        self.rings.joint[x as usize]
+    }
+
+    /// Matches the parts of a set in pairs along the ring, but for one part.
+    fn match_ring(&self, p: u32, round: &mut Round)
+        requires room { HasRoom self.now round.old }
+        requires valid { (g : Graph) × IsSmallGraph g × IsValidFor g self.now }
+        requires inner { up_at self.now.up p ≢ p }
+        requires low { p < length self.now.up }
+        ensures room { HasRoom self.now round.new }
+        ensures done { (rest due : Blossom → ℕ) → IsRound self.now round.old.marks.items round.old.left_out.items
+            (λ b. ring_sum (slice_index self.now.after) (λ r. number (within self.now b r)) (slice_index self.now.after p)
+            (slice_index self.now.parts (up_at self.now.up p) - 1) + rest b) due
+            → IsRound self.now round.new.marks.items round.new.left_out.items rest due }
+        ensures entries { (c : Blossom) (v : Vertex) → slice_index_or round.new.left_out.items c None ≡ Some v
+            → (slice_index_or round.old.left_out.items c None ≡ Some v)
+            ⊎ (slice_index self.now.rank c < slice_index self.now.rank (up_at self.now.up p)) }
+    {
+        let mut x = self.next(p);
+        for _ in 0..self.parts(self.up_at(p)) / 2 {
+            let y = self.next(x);
+            let d = self.joint(x);
+            self.pair(x, y, d, round);
+            x = self.next(y);
+        }
+    }
+
+    /// Matches all vertices of a blossom but one, going up from that one; parts that are sets wait.
+    pub(crate) fn match_up(&self, c: u32, v: u32, round: &mut Round)
+        requires room { HasRoom self.now round.old }
+        requires valid { (g : Graph) × IsSmallGraph g × IsValidFor g self.now }
+        requires low { c < length self.now.up }
+        requires vertex { v < length self.now.hand }
+        requires held { (forest_of self.now).holds c v ≡ true }
+        ensures room { HasRoom self.now round.new }
+        ensures done { (rest due : Blossom → ℕ) → IsRound self.now round.old.marks.items round.old.left_out.items
+            (λ b. waits_but self.now b c v + rest b) due
+            → IsRound self.now round.new.marks.items round.new.left_out.items rest due }
+        ensures entries { (b : Blossom) (w : Vertex) → slice_index_or round.new.left_out.items b None ≡ Some w
+            → (slice_index_or round.old.left_out.items b None ≡ Some w)
+            ⊎ (slice_index self.now.rank b < slice_index self.now.rank c) }
+    {
+        let mut p = v;
+        while p != c {
+            self.match_ring(p, round);
+            p = self.up_at(p);
+        }
+    }
+}
