@@ -34,7 +34,7 @@ module _ (g : Darts) (are : AreDarts g) (f : Forest) (nested : IsNested g f) whe
       ∙ ap number (nested.alone b b l l ∙ eq-eqb b b refl)
 
   -- A part is in use.
-  part_used : (b : ℕ) → IsRing g f b → (k : ℕ) → IsBlossom g f (walk f.nest.after (f.nest.head b) k)
+  pub part_used : (b : ℕ) → IsRing g f b → (k : ℕ) → IsBlossom g f (walk f.nest.after (f.nest.head b) k)
   part_used b ring k = by_size (cases_lt p g.n)
     where
       p : ℕ

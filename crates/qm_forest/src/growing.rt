@@ -18,7 +18,7 @@ use def_matching::WGraph;
 
 impl Forest {
     /// The dart of an edge that begins in an outer blossom.
-    pub(crate) fn outer_dart(&self, g: &WGraph, e: u32) -> u32
+    pub fn outer_dart(&self, g: &WGraph, e: u32) -> u32
         requires graph { IsSmallGraph (graph g.now) }
         requires vertices { length self.now.hand ≡ g.now.n }
         requires edge { e < length g.now.edges.items }

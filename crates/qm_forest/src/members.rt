@@ -1,6 +1,6 @@
 //! The parts and the vertices of a blossom, for a caller that goes over them.
 
-ghost use Rattle.std.specs.Prelude.{◌≡◌, ◌≢◌, ◌<◌, ◌≤◌, ◌⊎◌, ℕ, length, slice_index, true};
+ghost use Rattle.std.specs.Prelude.{◌≡◌, ◌≢◌, ◌^◌, ◌<◌, ◌≤◌, ◌⊎◌, ℕ, length, slice_index, true};
 ghost use Rattle.std.specs.Vec.{vec_capacity};
 ghost use Rattle.def_matching.specs.Matching.{Vertex};
 ghost use Rattle.def_forest.specs.Forests.{walk};
@@ -28,6 +28,14 @@ fn list_members(lists: &Lists, x: u32, list: &mut Vec<u32>)
 }
 
 impl Forest {
+    /// How many numbers blossoms may have, those of the vertices among them.
+    pub fn numbers(&self) -> u32
+        ensures value { result ≡ length self.now.up }
+        ensures few { result ≤ 2 ^ 26 }
+    {
+        self.rings.up.len() as u32
+    }
+
     /// The part of a set at which its ring begins.
     pub fn head(&self, b: u32) -> u32
         requires { b < length self.now.up }
