@@ -44,7 +44,7 @@ impl Forest {
     }
 
     /// The outermost blossom that a dart reaches.
-    pub(crate) fn reached(&self, g: &WGraph, d: u32) -> u32
+    pub fn reached(&self, g: &WGraph, d: u32) -> u32
         requires graph { IsSmallGraph (graph g.now) }
         requires vertices { length self.now.hand ≡ g.now.n }
         requires dart { d < 2 * length g.now.edges.items }

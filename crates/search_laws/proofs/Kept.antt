@@ -118,6 +118,14 @@ stay_low g is f new risen old keys low mended turned k l = by_mended (mended.eac
     by_mended (inl e) = exact e
     by_mended (inr same) = by_leaf same (cases_lt k (length g.edges))
 
+-- No key is above the one where nothing happens.
+pub true_key_low : (g : Graph) (f : Forest) (risen k : ℕ) → true_key g f risen k ≤ no_key
+true_key_low g f risen k = by_leaf (cases_lt k (length g.edges))
+  where
+    by_leaf : (k < length g.edges) ⊎ (length g.edges ≤ k) → true_key g f risen k ≤ no_key
+    by_leaf (inl le) = subst (λ x. x ≤ no_key) (sym (at_edge g f risen k le)) (edge_key_low (f.label (f.out (edge_at g k).u)) (f.label (f.out (edge_at g k).v)) (eqb (f.out (edge_at g k).u) (f.out (edge_at g k).v)) (unsigned_abs (slack_of g f k)) risen)
+    by_leaf (inr he) = subst (λ x. x ≤ no_key) (sym (at_set g f risen k he)) (set_key_low (f.label (set_of g k)) (f.weight (set_of g k)) risen)
+
 -- The edges at a vertex of a set of vertices.
 right_at : (g : Graph) (f : Forest) (risen : ℕ) (keys : List ℕ) (set : ℕ → Bool) (w : ℕ) → AreRightAt g f risen keys set → set w ≡ true
     → (e : ℕ) → e < length g.edges → ((edge_at g e).u ≡ w) ⊎ ((edge_at g e).v ≡ w) → get_or keys e 0 ≡ true_key g f risen e
@@ -129,17 +137,17 @@ pub held_out : (g : Graph) (f : Forest) (root : Option ℕ) → IsValid (darts_o
 held_out g f root valid w l = valid.outermost.held w w l l ∙ eq-eqb (f.out w) (f.out w) refl
 
 -- Where no tree stands nothing happens.
-pub idle_low : (g : Graph) (f : Forest) (risen : ℕ) (keys : List ℕ) → ((b : ℕ) → f.label b ≡ Outside) → ((k : ℕ) → get_or keys k 0 ≤ no_key) → AreLow g f risen keys
+pub idle_low : (g : Graph) (f : Forest) (risen : ℕ) (keys : List ℕ) → ((b : ℕ) → f.label b ≡ Outside) → ((k : ℕ) → k < length keys → get_or keys k 0 ≤ no_key) → AreLow g f risen keys
 idle_low g f risen keys outside few k l = by_leaf (cases_lt k (length g.edges))
   where
     by_leaf : (k < length g.edges) ⊎ (length g.edges ≤ k) → get_or keys k 0 ≤ true_key g f risen k
     by_leaf (inl le) =
         let e : true_key g f risen k ≡ no_key = at_edge g f risen k le ∙ (ap (λ (x : Label). edge_key_by x (f.label (f.out (edge_at g k).v)) (eqb (f.out (edge_at g k).u) (f.out (edge_at g k).v)) (unsigned_abs (slack_of g f k)) risen) (outside (f.out (edge_at g k).u))
         ∙ ap (λ (x : Label). edge_key_by Outside x (eqb (f.out (edge_at g k).u) (f.out (edge_at g k).v)) (unsigned_abs (slack_of g f k)) risen) (outside (f.out (edge_at g k).v))) in
-        omega (arith, e, few k)
+        omega (arith, e, few k l)
     by_leaf (inr he) =
         let e : true_key g f risen k ≡ no_key = at_set g f risen k he ∙ ap (λ (x : Label). set_key_by x (f.weight (set_of g k)) risen) (outside (set_of g k)) in
-        omega (arith, e, few k)
+        omega (arith, e, few k l)
 
 -- A tree begins.
 pub rooted_turned : (g : Graph) (f : Forest) (b risen : ℕ) (keys : List ℕ) → IsValid (darts_of g) f None → AreRightAt g (rooted f b) risen keys (f.holds b) → IsTurned g f (rooted f b) risen keys
@@ -221,12 +229,21 @@ module _ (g : Graph) (is : IsGraph g) (f new : Forest) (root after : Option ℕ)
   part_holds : (w : ℕ) → w < g.n → new.holds (f.out w) w ≡ true
   part_holds w l = s.shrunk.holds_old (f.out w) w (s.unused.no_out w l) l ∙ held_out g f root valid w l
 
+  -- No blossom becomes inner.
+  pub shrunk_inner : (x : ℕ) → new.label x ≡ Inner → f.label x ≡ Inner
+  shrunk_inner x inner = by_place (cases_eq x s.set) (cases_Bool (s.inside x))
+    where
+      by_place : (x ≡ s.set) ⊎ (x ≢ s.set) → (s.inside x ≡ true) ⊎ (s.inside x ≡ false) → f.label x ≡ Inner
+      by_place (inl e) y = absurd (let c : Outer ≡ Inner = sym shrunk_set ∙ (ap new.label (sym e) ∙ inner) in cc c)
+      by_place (inr ne) (inl on) = absurd (let c : Outside ≡ Inner = sym (shrunk_inside x on) ∙ inner in cc c)
+      by_place (inr ne) (inr off) = sym (shrunk_label x ne off) ∙ inner
+
   pub shrunk_turned : (risen : ℕ) (keys : List ℕ) → ((p : ℕ) → s.inside p ≡ true → f.label p ≡ Inner → AreRightAt g new risen keys (new.holds p)) → IsTurned g f new risen keys
   shrunk_turned risen keys right = record {
     slacks = λ e l. ap (λ x. (pos 2 *ℤ (edge_at g e).cost) -ℤ x) (shrunk_load (edge_at g e).u (edge_at g e).v (is.left e l) (is.right e l));
     ends = λ w l. ends w l (cases_Bool (s.inside (f.out w)));
     same = λ u v lu lv on e. s.shrunk.out u lu ∙ (ap (λ x. cond (s.inside x) s.set x) e ∙ sym (s.shrunk.out v lv));
-    sets = λ x h inner. inl (sets x inner (cases_eq x s.set) (cases_Bool (s.inside x)));
+    sets = λ x h inner. inl (shrunk_inner x inner, s.shrunk.weight x);
   }
     where
       by_label : (w : ℕ) → w < g.n → s.inside (f.out w) ≡ true → (f.label (f.out w) ≡ Outer) ⊎ (f.label (f.out w) ≡ Inner) → IsQuiet f new w ⊎ ((e : ℕ) → e < length g.edges → ((edge_at g e).u ≡ w) ⊎ ((edge_at g e).v ≡ w) → get_or keys e 0 ≡ true_key g new risen e)
@@ -236,11 +253,6 @@ module _ (g : Graph) (is : IsGraph g) (f new : Forest) (root after : Option ℕ)
       ends : (w : ℕ) → w < g.n → (s.inside (f.out w) ≡ true) ⊎ (s.inside (f.out w) ≡ false) → IsQuiet f new w ⊎ ((e : ℕ) → e < length g.edges → ((edge_at g e).u ≡ w) ⊎ ((edge_at g e).v ≡ w) → get_or keys e 0 ≡ true_key g new risen e)
       ends w l (inl on) = by_label w l on (on_cycle (f.out w) on)
       ends w l (inr off) = inl (inl (ap new.label (shrunk_off w l off) ∙ shrunk_label (f.out w) (s.unused.no_out w l) off))
-
-      sets : (x : ℕ) → new.label x ≡ Inner → (x ≡ s.set) ⊎ (x ≢ s.set) → (s.inside x ≡ true) ⊎ (s.inside x ≡ false) → (f.label x ≡ Inner) × (new.weight x ≡ f.weight x)
-      sets x inner (inl e) y = absurd (let c : Outer ≡ Inner = sym shrunk_set ∙ (ap new.label (sym e) ∙ inner) in cc)
-      sets x inner (inr ne) (inl on) = absurd (let c : Outside ≡ Inner = sym (shrunk_inside x on) ∙ inner in cc)
-      sets x inner (inr ne) (inr off) = (sym (shrunk_label x ne off) ∙ inner, s.shrunk.weight x)
 
 -- An inner set is opened.
 module _ (g : Graph) (is : IsGraph g) (f new : Forest) (r : ℕ) (o : Opening) (valid : IsValid (darts_of g) f (Some r)) (opening : IsOpening (darts_of g) f o) (opened : IsOpened (darts_of g) f new o) where
@@ -260,6 +272,15 @@ module _ (g : Graph) (is : IsGraph g) (f new : Forest) (r : ℕ) (o : Opening) (
   pub opened_label : (w : ℕ) → w < g.n → f.out w ≢ o.b → new.label (f.out w) ≡ f.label (f.out w)
   opened_label w l ne = (opened.others (f.out w) (expands.out_not_part (darts_of g) (are_darts g is) f r valid opened_tree new o opening opened w l ne)).label
 
+  -- An inner blossom is a part of the opened one, or was inner.
+  pub opened_inner : (x : ℕ) → new.label x ≡ Inner → ((j : ℕ) × (j ≤ 2 * o.half) × (o.q j ≡ x)) ⊎ (f.label x ≡ Inner)
+  opened_inner x inner = by_place (expands.place (darts_of g) (are_darts g is) f r valid opened_tree new o opening opened x)
+    where
+      by_place : (x ≡ o.b) ⊎ (((j : ℕ) × (j ≤ 2 * o.half) × (o.q j ≡ x)) ⊎ (f.nest.up x ≢ o.b)) → ((j : ℕ) × (j ≤ 2 * o.half) × (o.q j ≡ x)) ⊎ (f.label x ≡ Inner)
+      by_place (inl e) = absurd (let c : Outside ≡ Inner = sym opened.gone.0 ∙ (ap new.label (sym e) ∙ inner) in cc c)
+      by_place (inr (inl p)) = inl p
+      by_place (inr (inr ne)) = inr (sym (opened.others x ne).label ∙ inner)
+
   part_held : (w j : ℕ) → w < g.n → f.out w ≡ o.b → j ≤ 2 * o.half → o.q j ≡ o.part w → new.holds (o.q j) w ≡ true
   part_held w j l at lj e = opened.holds (o.q j) w (opening.parts j lj).1 l ∙ (opening.held w j l at lj ∙ eq-eqb (o.part w) (o.q j) (sym e))
 
@@ -269,7 +290,7 @@ module _ (g : Graph) (is : IsGraph g) (f new : Forest) (r : ℕ) (o : Opening) (
     slacks = λ e l. ap (λ x. (pos 2 *ℤ (edge_at g e).cost) -ℤ x) (opened_load (edge_at g e).u (edge_at g e).v (is.left e l) (is.right e l));
     ends = λ w l. ends w l (cases_eq (f.out w) o.b);
     same = λ u v lu lv outer e. same u v lu lv outer e;
-    sets = λ x h inner. sets x h inner (expands.place (darts_of g) (are_darts g is) f r valid opened_tree new o opening opened x);
+    sets = λ x h inner. sets x h inner (opened_inner x inner);
   }
     where
       by_label : (w j : ℕ) → w < g.n → f.out w ≡ o.b → j ≤ 2 * o.half → o.q j ≡ o.part w → (new.label (o.q j) ≡ Inner) ⊎ (new.label (o.q j) ≢ Inner) → IsQuiet f new w ⊎ ((e : ℕ) → e < length g.edges → ((edge_at g e).u ≡ w) ⊎ ((edge_at g e).v ≡ w) → get_or keys e 0 ≡ true_key g new risen e)
@@ -286,7 +307,6 @@ module _ (g : Graph) (is : IsGraph g) (f new : Forest) (r : ℕ) (o : Opening) (
       same : (u v : ℕ) → u < g.n → v < g.n → f.label (f.out u) ≡ Outer → f.out u ≡ f.out v → new.out u ≡ new.out v
       same u v lu lv outer e = opened_old u lu (not_b u outer) ∙ (e ∙ sym (opened_old v lv (λ x. not_b u outer (e ∙ x))))
 
-      sets : (x : ℕ) → g.n ≤ x → new.label x ≡ Inner → (x ≡ o.b) ⊎ (((j : ℕ) × (j ≤ 2 * o.half) × (o.q j ≡ x)) ⊎ (f.nest.up x ≢ o.b)) → ((f.label x ≡ Inner) × (new.weight x ≡ f.weight x)) ⊎ (get_or keys (leaf_of g x) 0 ≡ true_key g new risen (leaf_of g x))
-      sets x h inner (inl e) = absurd (let c : Outside ≡ Inner = sym opened.gone.0 ∙ (ap new.label (sym e) ∙ inner) in cc)
-      sets x h inner (inr (inl p)) = inr (subst (λ y. get_or keys (leaf_of g y) 0 ≡ true_key g new risen (leaf_of g y)) p.2 (leaves p.0 p.1 (ap new.label p.2 ∙ inner) (subst (λ y. g.n ≤ y) (sym p.2) h)))
-      sets x h inner (inr (inr ne)) = inl (sym (opened.others x ne).label ∙ inner, opened.weight x)
+      sets : (x : ℕ) → g.n ≤ x → new.label x ≡ Inner → ((j : ℕ) × (j ≤ 2 * o.half) × (o.q j ≡ x)) ⊎ (f.label x ≡ Inner) → ((f.label x ≡ Inner) × (new.weight x ≡ f.weight x)) ⊎ (get_or keys (leaf_of g x) 0 ≡ true_key g new risen (leaf_of g x))
+      sets x h inner (inl p) = inr (subst (λ y. get_or keys (leaf_of g y) 0 ≡ true_key g new risen (leaf_of g y)) p.2 (leaves p.0 p.1 (ap new.label p.2 ∙ inner) (subst (λ y. g.n ≤ y) (sym p.2) h)))
+      sets x h inner (inr was) = inl (was, opened.weight x)

@@ -1,0 +1,4 @@
+mod Chains
+mod Mended
+mod Refreshed
+mod Taken

@@ -1,0 +1,45 @@
+//! The edges at each vertex, as chains of darts.
+
+ghost use Rattle.std.specs.Prelude.{◌≡◌, ◌^◌, ◌<◌, ◌≤◌, length, IfOk};
+ghost use Rattle.def_matching.specs.Matching.{graph, IsSmallGraph};
+ghost use Rattle.qm_match.specs.Fans.{AreFans, AreFansOf, HasPut};
+
+use crate::Memory;
+use def_matching::WGraph;
+use std::alloc::Global;
+
+/// The darts that begin at each vertex, each chain from the latest to the first. An entry is one more than a dart's
+/// number, or 0 where the chain ends.
+#[derive(Drop)]
+pub(crate) struct Fans {
+    pub(crate) first: Vec<u32>,
+    pub(crate) next: Vec<u32>,
+}
+
+/// The fans of a graph.
+pub(crate) fn fans_of(alloc: Global, g: &WGraph) -> Result<Fans, Memory>
+    requires { IsSmallGraph (graph g.now) }
+    ensures { IfOk result (λ fans. AreFans (graph g.now) fans.first.items fans.next.items) }
+{
+    let mut fans = Fans {
+        first: vec![in alloc; 0u32; g.n as usize]?,
+        next: vec![in alloc; 0u32; 2 * g.edges.len()]?,
+    };
+    for e in 0..g.edges.len() as u32 {
+        let edge = g.edges[e as usize];
+        put(&mut fans, edge.u, 2 * e);
+        put(&mut fans, edge.v, 2 * e + 1);
+    }
+    Ok(fans)
+}
+
+/// Puts a dart at the front of the chain of a vertex.
+fn put(fans: &mut Fans, v: u32, d: u32)
+    requires vertex { v < length fans.old.first.items }
+    requires dart { d < length fans.old.next.items }
+    requires few { length fans.old.next.items ≤ 2 ^ 31 }
+    ensures { HasPut fans.old fans.new v d }
+{
+    fans.next[d as usize] = fans.first[v as usize];
+    fans.first[v as usize] = d + 1;
+}

@@ -1,0 +1,105 @@
+//! The keys that the leaves ought to have.
+
+ghost use Rattle.std.specs.Prelude.{◌≡◌, ◌+◌, ◌^◌, ◌<◌, ◌≤◌, length, slice_set, unsigned_abs};
+ghost use Rattle.def_matching.specs.Matching.{graph};
+ghost use Rattle.def_forest.specs.Tables.{forest_of, slack_of, IsValidFor};
+ghost use Rattle.search_laws.specs.Keys.{key_after, edge_key, set_key, true_key};
+ghost use Rattle.qm_match.specs.States.{IsMade};
+
+use crate::search::Search;
+use def_forest::Label;
+use def_matching::WGraph;
+
+/// The key of what happens when the sum has risen by so much more. What does not fit never happens.
+fn key_after(gap: u128, risen: u64) -> u64
+    requires { gap ≤ 2 ^ 127 }
+    ensures { result ≡ key_after gap risen }
+{
+    (gap + u128::from(risen)).min(u128::from(u64::MAX)) as u64
+}
+
+impl Search {
+    /// The slack of an edge.
+    fn gap(&self, g: &WGraph, e: u32) -> u128
+        requires made { IsMade (graph g.now) self.now }
+        requires valid { IsValidFor (graph g.now) self.now.forest }
+        requires edge { e < length g.now.edges.items }
+        ensures value { result ≡ unsigned_abs (slack_of (graph g.now) (forest_of self.now.forest) e) }
+        ensures small { result ≤ 2 ^ 127 }
+    {
+        self.forest.slack(g, e).unsigned_abs()
+    }
+
+    /// The key of an edge.
+    fn edge_key(&self, g: &WGraph, e: u32) -> u64
+        requires made { IsMade (graph g.now) self.now }
+        requires valid { IsValidFor (graph g.now) self.now.forest }
+        requires edge { e < length g.now.edges.items }
+        ensures { result ≡ edge_key (graph g.now) (forest_of self.now.forest) self.now.risen e }
+    {
+        let edge = g.edges[e as usize];
+        let a = self.forest.outermost(edge.u);
+        let b = self.forest.outermost(edge.v);
+        match (self.forest.label(a), self.forest.label(b)) {
+            (Label::Outer, Label::Outer) => if a == b {
+                u64::MAX
+            } else {
+                key_after(self.gap(g, e) / 2, self.risen)
+            },
+            (Label::Outer, Label::Outside) => key_after(self.gap(g, e), self.risen),
+            (Label::Outside, Label::Outer) => key_after(self.gap(g, e), self.risen),
+            _ => u64::MAX,
+        }
+    }
+
+    /// The key of a set.
+    fn set_key(&self, g: &WGraph, b: u32) -> u64
+        requires valid { IsValidFor (graph g.now) self.now.forest }
+        ensures { result ≡ set_key (forest_of self.now.forest) self.now.risen b }
+    {
+        match self.label_of(g, b) {
+            Label::Inner => key_after(u128::from(self.forest.weight(b).unsigned_abs()), self.risen),
+            _ => u64::MAX,
+        }
+    }
+
+    /// Where a blossom stands. Numbers past the end are outside.
+    pub(crate) fn label_of(&self, g: &WGraph, b: u32) -> Label
+        requires valid { IsValidFor (graph g.now) self.now.forest }
+        ensures { result ≡ (forest_of self.now.forest).label b }
+    {
+        let _ = g;
+        if b < self.forest.numbers() {
+            self.forest.label_at(b)
+        } else {
+            Label::Outside
+        }
+    }
+
+    /// The key that a leaf ought to have.
+    pub(crate) fn true_key(&self, g: &WGraph, leaf: usize) -> u64
+        requires made { IsMade (graph g.now) self.now }
+        requires valid { IsValidFor (graph g.now) self.now.forest }
+        requires leaf { leaf < length self.now.tour }
+        ensures { result ≡ true_key (graph g.now) (forest_of self.now.forest) self.now.risen leaf }
+    {
+        let edges = g.edges.len();
+        if leaf < edges {
+            self.edge_key(g, leaf as u32)
+        } else {
+            self.set_key(g, g.n + (leaf - edges) as u32)
+        }
+    }
+
+    /// Gives a leaf the key that it ought to have.
+    pub(crate) fn mend(&mut self, g: &WGraph, leaf: usize)
+        requires made { IsMade (graph g.now) self.old }
+        requires valid { IsValidFor (graph g.now) self.old.forest }
+        requires leaf { leaf < length self.old.tour }
+        ensures { self.new ≡ record self.old { tour = slice_set self.old.tour leaf
+            (true_key (graph g.now) (forest_of self.old.forest) self.old.risen leaf) } }
+    {
+        let key = self.true_key(g, leaf);
+        self.tour.set(leaf, key);
+    }
+}

@@ -1,0 +1,181 @@
+//! The steps of a search, with the keys that they change.
+
+ghost use Rattle.std.specs.Prelude.{◌≡◌, ◌≢◌, ◌*◌, ◌<◌, ◌≤◌, ◌⊎◌, ℕ, pos, length, slice_index};
+ghost use Rattle.std.specs.Prelude.{slice_index_or, true, false, Some, None};
+ghost use Rattle.std.specs.Vec.{vec_capacity};
+ghost use Rattle.def_matching.specs.Matching.{graph};
+ghost use Rattle.def_forest.specs.Darts.{Dart, darts_of, far};
+ghost use Rattle.def_forest.specs.Forests.{walk};
+ghost use Rattle.def_forest.specs.Tables.{forest_of, kind_of, IsValidFor};
+ghost use Rattle.def_forest.specs.declared.kinds.EdgeKind.TheVariants.{Augment, Grow, Shrink};
+ghost use Rattle.def_forest.specs.declared.kinds.Label.TheVariants.{Inner};
+ghost use Rattle.search_laws.specs.Keys.{AreRightAt, IsMended};
+ghost use Rattle.search_laws.specs.Searches.{steps_left, AreMatchedBefore, IsSeeking};
+ghost use Rattle.qm_match.specs.States.{GoesOn, HasEnded, IsFreshAt, IsIdle, IsMade, IsRefreshed, IsUnderWay, MayRefresh};
+
+use crate::search::Search;
+use def_matching::WGraph;
+
+impl Search {
+    /// The tree grows along an edge.
+    pub(crate) fn grow(&mut self, g: &WGraph, e: u32)
+        requires way { IsUnderWay (graph g.now) self.old }
+        requires edge { e < length g.now.edges.items }
+        requires kind { kind_of (graph g.now) (forest_of self.old.forest) e ≡ Grow }
+        ensures way { IsUnderWay (graph g.now) self.new }
+        ensures goes_on { GoesOn g.now.n self.old.forest self.new.forest }
+        ensures fewer { steps_left g.now.n (forest_of self.new.forest) < steps_left g.now.n (forest_of self.old.forest) }
+    {
+        let d = self.forest.outer_dart(g, e);
+        let inner = self.forest.reached(g, d);
+        let outer = self.partner(g, inner);
+        self.forest.grow(g, e);
+        self.refresh(g, inner);
+        self.refresh(g, outer);
+    }
+
+    /// The blossom to which an outermost one is matched; itself where it has no mate.
+    fn partner(&self, g: &WGraph, b: u32) -> u32
+        requires made { IsMade (graph g.now) self.now }
+        requires valid { IsValidFor (graph g.now) self.now.forest }
+        requires low { b < length self.now.forest.up }
+        ensures value { (m : Dart) → (forest_of self.now.forest).mate b ≡ Some m
+            → result ≡ (forest_of self.now.forest).out (far (darts_of (graph g.now)) m) }
+        ensures low { result < length self.now.forest.up }
+    {
+        match self.forest.mate(b) {
+            Some(m) => self.forest.reached(g, m),
+            None => b,
+        }
+    }
+
+    /// The cycle that an edge closes in the tree becomes one blossom.
+    pub(crate) fn shrink(&mut self, g: &WGraph, e: u32)
+        requires way { IsUnderWay (graph g.now) self.old }
+        requires edge { e < length g.now.edges.items }
+        requires kind { kind_of (graph g.now) (forest_of self.old.forest) e ≡ Shrink }
+        ensures way { IsUnderWay (graph g.now) self.new }
+        ensures goes_on { GoesOn g.now.n self.old.forest self.new.forest }
+        ensures fewer { steps_left g.now.n (forest_of self.new.forest) < steps_left g.now.n (forest_of self.old.forest) }
+    {
+        self.forest.shrink(g, e);
+        let set = self.forest.outermost(g.edges[e as usize].u);
+        self.mend_parts(g, set);
+        self.inner[set as usize] = false;
+    }
+
+    /// Mends the keys at the parts of a set that have marks: they were inner.
+    fn mend_parts(&mut self, g: &WGraph, set: u32)
+        requires made { IsMade (graph g.now) self.old }
+        requires valid { IsValidFor (graph g.now) self.old.forest }
+        requires set { g.now.n ≤ set }
+        requires low { set < length self.old.forest.up }
+        requires live { slice_index self.old.forest.parts set ≢ 0 }
+        ensures same { self.new ≡ record self.old { tour = self.new.tour; members = self.new.members } }
+        ensures room { g.now.n ≤ vec_capacity self.new.members }
+        ensures mended { IsMended (graph g.now) (forest_of self.old.forest) self.old.risen self.old.tour self.new.tour }
+        ensures right { let part = walk (slice_index self.old.forest.after) (slice_index self.old.forest.head set) in
+            (k : ℕ) → k < slice_index self.old.forest.parts set
+            → slice_index_or self.old.inner.items (part k) false ≡ true
+            → AreRightAt (graph g.now) (forest_of self.old.forest) self.old.risen self.new.tour
+            ((forest_of self.old.forest).holds (part k)) }
+    {
+        let mut part = self.forest.head(set);
+        for _ in 0..self.forest.parts(set) {
+            self.mend_marked(g, part);
+            part = self.forest.next(part);
+        }
+    }
+
+    /// Mends the keys at a blossom that has a mark.
+    fn mend_marked(&mut self, g: &WGraph, b: u32)
+        requires { MayRefresh (graph g.now) self.old b }
+        ensures same { self.new ≡ record self.old { tour = self.new.tour; members = self.new.members } }
+        ensures room { g.now.n ≤ vec_capacity self.new.members }
+        ensures mended { IsMended (graph g.now) (forest_of self.old.forest) self.old.risen self.old.tour self.new.tour }
+        ensures right { slice_index_or self.old.inner.items b false ≡ true
+            → AreRightAt (graph g.now) (forest_of self.old.forest) self.old.risen self.new.tour
+            ((forest_of self.old.forest).holds b) }
+    {
+        if self.inner[b as usize] {
+            self.mend_blossom(g, b);
+        }
+    }
+
+    /// An inner set of weight 0 is opened.
+    pub(crate) fn expand(&mut self, g: &WGraph, b: u32)
+        requires way { IsUnderWay (graph g.now) self.old }
+        requires set { g.now.n ≤ b }
+        requires inner { (forest_of self.old.forest).label b ≡ Inner }
+        requires weightless { (forest_of self.old.forest).weight b ≡ pos 0 }
+        ensures way { IsUnderWay (graph g.now) self.new }
+        ensures goes_on { GoesOn g.now.n self.old.forest self.new.forest }
+        ensures fewer { steps_left g.now.n (forest_of self.new.forest) < steps_left g.now.n (forest_of self.old.forest) }
+    {
+        self.list_parts(g, b);
+        self.forest.expand(g, b);
+        self.refresh_parts(g);
+    }
+
+    /// Lists the parts of a set.
+    fn list_parts(&mut self, g: &WGraph, b: u32)
+        requires made { IsMade (graph g.now) self.old }
+        requires valid { IsValidFor (graph g.now) self.old.forest }
+        requires set { g.now.n ≤ b }
+        requires low { b < length self.old.forest.up }
+        requires live { slice_index self.old.forest.parts b ≢ 0 }
+        ensures same { self.new ≡ record self.old { parts = self.new.parts } }
+        ensures room { g.now.n ≤ vec_capacity self.new.parts }
+        ensures count { length self.new.parts.items ≡ slice_index self.old.forest.parts b }
+        ensures each { (k : ℕ) → k < slice_index self.old.forest.parts b → slice_index self.new.parts.items k
+            ≡ walk (slice_index self.old.forest.after) (slice_index self.old.forest.head b) k }
+    {
+        let _ = g;
+        self.parts.clear();
+        let mut part = self.forest.head(b);
+        for _ in 0..self.forest.parts(b) {
+            self.parts.push(part).unwrap();
+            part = self.forest.next(part);
+        }
+    }
+
+    /// Makes the keys and marks of the listed blossoms right.
+    fn refresh_parts(&mut self, g: &WGraph)
+        requires made { IsMade (graph g.now) self.old }
+        requires may { (k : ℕ) → k < length self.old.parts.items
+            → MayRefresh (graph g.now) self.old (slice_index self.old.parts.items k) }
+        ensures refreshed { IsRefreshed (graph g.now) self.old self.new }
+        ensures here { (k : ℕ) → k < length self.old.parts.items
+            → IsFreshAt (graph g.now) self.new (slice_index self.old.parts.items k) }
+    {
+        for k in 0..self.parts.len() {
+            let p = self.parts[k];
+            self.refresh(g, p);
+        }
+    }
+
+    /// The matching grows along an edge, and the search ends.
+    pub(crate) fn augment(&mut self, g: &WGraph, e: u32)
+        requires way { IsUnderWay (graph g.now) self.old }
+        requires edge { e < length g.now.edges.items }
+        requires kind { kind_of (graph g.now) (forest_of self.old.forest) e ≡ Augment }
+        ensures idle { IsIdle (graph g.now) self.new }
+        ensures ended { HasEnded g.now.n self.old.forest self.new.forest }
+    {
+        self.forest.augment(g, e);
+    }
+
+    /// A search begins at a vertex that is not matched.
+    pub(crate) fn begin(&mut self, g: &WGraph, v: u32)
+        requires idle { IsIdle (graph g.now) self.old }
+        requires vertex { v < g.now.n }
+        requires free { (forest_of self.old.forest).mate ((forest_of self.old.forest).out v) ≡ None }
+        requires before { AreMatchedBefore (forest_of self.old.forest) v }
+        ensures way { IsUnderWay (graph g.now) self.new }
+        ensures seeking { IsSeeking g.now.n (forest_of self.new.forest) self.new.forest.root v }
+    {
+        let b = self.forest.outermost(v);
+        self.forest.root(v);
+        self.refresh(g, b);
+    }
+}
