@@ -2,3 +2,4 @@ mod Chains
 mod Mended
 mod Refreshed
 mod Taken
+mod Turned

@@ -1,5 +1,5 @@
 -- A step that is taken, and the keys that are mended after it.
-use Rattle.std.proofs.Common.{◌≡◌, ◌≢◌, ℕ, zero, suc, ◌+◌, ◌-◌, ◌*◌, ◌/◌, ◌%◌, ◌<◌, ◌≤◌, ◌^◌, Bool, true, false, List, length, get_or, Option, Some, None, pos, ◌⊎◌, refl, sym, ◌∙◌, ap, subst, inl, inr, arith}
+use Rattle.std.proofs.Common.{◌≡◌, ◌≢◌, ℕ, zero, suc, ◌+◌, ◌-◌, ◌*◌, ◌/◌, ◌%◌, ◌<◌, ◌≤◌, ◌^◌, Bool, true, false, cond, List, length, get_or, Option, Some, None, pos, ◌⊎◌, refl, sym, ◌∙◌, ap, subst, inl, inr, arith}
 use Rattle.std.specs.Int.RustNames.{unsigned_abs}
 use Rattle.std.specs.Vec.{vec_capacity}
 use Rattle.std.proofs.Math.ListN.{set}
@@ -33,16 +33,17 @@ use Rattle.qm_match.specs.declared.search.Search.{Search}
 use Rattle.qm_match.proofs.Refreshed.{made_like}
 
 -- After a step of the forest, and when keys and marks are made right, the search goes on.
-pub step_way : (g : Graph) (old : Search) (t : ForestTables) (new : Search) → IsUnderWay g old → IsValidFor g t → IsRefreshed g (record old { forest = t }) new
+pub step_taken : (g : Graph) (old : Search) (t : ForestTables) (new : Search) → IsMade g old → AreLow g (forest_of old.forest) old.risen old.tour → IsInRange (forest_of old.forest) old.risen → IsValidFor g t → IsRefreshed g (record old { forest = t }) new
     → IsTurned g (forest_of old.forest) (forest_of t) old.risen new.tour → (forest_of t).size ≡ (forest_of old.forest).size → ((b : ℕ) → (forest_of t).weight b ≡ (forest_of old.forest).weight b)
-    → ((b : ℕ) → (forest_of t).label b ≡ Inner → get_or new.inner.items b false ≡ true) → IsUnderWay g new
-step_way g old t new way valid is turned size weights marked = record {
+    → ((b : ℕ) → (forest_of t).label b ≡ Inner → get_or new.inner.items b false ≡ true) → (r : ℕ) × (t.root ≡ Some r) → IsUnderWay g new
+step_taken g old t new made low range valid is turned size weights marked tree = record {
+  tree = subst (λ (x : ForestTables). (r : ℕ) × (x.root ≡ Some r)) (sym is.forest) tree;
   made = is.made;
   valid = subst (λ (x : ForestTables). IsValidFor g x) (sym is.forest) valid;
   low = subst (λ (x : ForestTables). AreLow g (forest_of x) new.risen new.tour) (sym is.forest) (subst (λ r. AreLow g (forest_of t) r new.tour) (sym is.risen)
-      (stay_low g is.made.small.lawful (forest_of old.forest) (forest_of t) old.risen old.tour new.tour way.low is.mended turned));
+      (stay_low g is.made.small.lawful (forest_of old.forest) (forest_of t) old.risen old.tour new.tour low is.mended turned));
   marked = λ b inner. marked b (ap (λ (x : ForestTables). (forest_of x).label b) (sym is.forest) ∙ inner);
-  range = subst (λ (x : ForestTables). IsInRange (forest_of x) new.risen) (sym is.forest) (subst (λ r. IsInRange (forest_of t) r) (sym is.risen) (range_same (forest_of old.forest) (forest_of t) old.risen size weights way.range));
+  range = subst (λ (x : ForestTables). IsInRange (forest_of x) new.risen) (sym is.forest) (subst (λ r. IsInRange (forest_of t) r) (sym is.risen) (range_same (forest_of old.forest) (forest_of t) old.risen size weights range));
 }
 
 -- What is right at a blossom, said of the forest's tables after the step.
@@ -77,12 +78,12 @@ module _ (g : Graph) (old : Search) (t : ForestTables) (new : Search) (d m : ℕ
   outer_label : (forest_of t).label outer ≡ Outer
   outer_label = labels outer ∙ set_here (set_at (forest_of old.forest).label inn Inner) outer Outer
 
-  pub grown_way : IsRightIn g t old.risen new inn → IsRightIn g t old.risen new outer → inn ≢ outer → IsUnderWay g new
-  grown_way at_inner at_outer apart = step_way g old t new way valid is
+  pub grown_way : t.root ≡ old.forest.root → IsRightIn g t old.risen new inn → IsRightIn g t old.risen new outer → inn ≢ outer → IsUnderWay g new
+  grown_way root at_inner at_outer apart = step_taken g old t new way.made way.low way.range valid is
       (subst (λ (f : Forest). IsTurned g (forest_of old.forest) f old.risen new.tour) (sym grown_is) (grown_turned g (forest_of old.forest) old.forest.root way.valid.valid d m old.risen new.tour mate
       (subst (λ (f : Forest). AreRightAt g f old.risen new.tour (f.holds outer)) grown_is (at_outer.edges (λ inner. (let c : Outer ≡ Inner = sym outer_label ∙ inner in absurd (cc c)))))
       (λ h. subst (λ (f : Forest). get_or new.tour (leaf_of g inn) 0 ≡ true_key g f old.risen (leaf_of g inn)) grown_is (at_inner.leaf inner_label h))))
-      (ap (λ (f : Forest). f.size) grown_is) (λ b. ap (λ (f : Forest). f.weight b) grown_is) (λ b inner. marks b inner (cases_eq b outer) (cases_eq b inn))
+      (ap (λ (f : Forest). f.size) grown_is) (λ b. ap (λ (f : Forest). f.weight b) grown_is) (λ b inner. marks b inner (cases_eq b outer) (cases_eq b inn)) (way.tree.0, root ∙ way.tree.1)
     where
       inner_label : (forest_of t).label inn ≡ Inner
       inner_label = labels inn ∙ (set_there (set_at (forest_of old.forest).label inn Inner) outer inn Outer apart ∙ set_here (forest_of old.forest).label inn Inner)
@@ -104,13 +105,10 @@ module _ (g : Graph) (old : Search) (t : ForestTables) (new : Search) (d m : ℕ
 module _ (g : Graph) (old : Search) (t : ForestTables) (new : Search) (d : ℕ) (way : IsUnderWay g old) (valid : IsValidFor g t) (is : IsRefreshed g (record old { forest = t }) new)
     (s : IsShrinking (darts_of g) (forest_of old.forest) (forest_of t) old.forest.root t.root d) where
   pub shrunk_way : ((p : ℕ) → s.inside p ≡ true → get_or old.inner.items p false ≡ true → AreRightAt g (forest_of t) old.risen new.tour ((forest_of t).holds p)) → IsUnderWay g new
-  shrunk_way right = step_way g old t new way valid is turned s.shrunk.size s.shrunk.weight (λ b inner. is.marked b inner (way.marked b (was b inner)))
+  shrunk_way right = step_taken g old t new way.made way.low way.range valid is turned s.shrunk.size s.shrunk.weight (λ b inner. is.marked b inner (way.marked b (was b inner))) (cond (s.inside s.r) s.set s.r, s.root_is)
     where
       turned : IsTurned g (forest_of old.forest) (forest_of t) old.risen new.tour
       turned = shrunk_turned g way.made.small.lawful (forest_of old.forest) (forest_of t) old.forest.root t.root d way.valid.valid s old.risen new.tour (λ p on inner. right p on (way.marked p inner))
-
-
-
 
       was : (b : ℕ) → (forest_of t).label b ≡ Inner → (forest_of old.forest).label b ≡ Inner
       was = shrunk_inner g way.made.small.lawful (forest_of old.forest) (forest_of t) old.forest.root t.root d way.valid.valid s
@@ -128,10 +126,10 @@ module _ (g : Graph) (old : Search) (t : ForestTables) (new : Search) (b : ℕ) 
     rooted_valid : IsValid (darts_of g) (forest_of old.forest) (Some r)
     rooted_valid = subst (λ (o : Option ℕ). IsValid (darts_of g) (forest_of old.forest) o) root way.valid.valid
 
-    opened_way : ((j : ℕ) → j ≤ 2 * x.o.half → IsRightIn g t old.risen new (x.o.q j)) → IsUnderWay g new
-    opened_way right = step_way g old t new way valid is
+    opened_way : t.root ≡ old.forest.root → ((j : ℕ) → j ≤ 2 * x.o.half → IsRightIn g t old.risen new (x.o.q j)) → IsUnderWay g new
+    opened_way root_is right = step_taken g old t new way.made way.low way.range valid is
         (opened_turned g way.made.small.lawful (forest_of old.forest) (forest_of t) r x.o rooted_valid x.opening x.opened old.risen new.tour (λ j l other. (right j l).edges other) (λ j l inner h. (right j l).leaf inner h))
-        x.opened.size x.opened.weight (λ c inner. marks c inner (opened_inner g way.made.small.lawful (forest_of old.forest) (forest_of t) r x.o rooted_valid x.opening x.opened c inner))
+        x.opened.size x.opened.weight (λ c inner. marks c inner (opened_inner g way.made.small.lawful (forest_of old.forest) (forest_of t) r x.o rooted_valid x.opening x.opened c inner)) (way.tree.0, root_is ∙ way.tree.1)
       where
         marks : (c : ℕ) → (forest_of t).label c ≡ Inner → ((j : ℕ) × (j ≤ 2 * x.o.half) × (x.o.q j ≡ c)) ⊎ ((forest_of old.forest).label c ≡ Inner) → get_or new.inner.items c false ≡ true
         marks c inner (inl p) = subst (λ y. get_or new.inner.items y false ≡ true) p.2 ((right p.0 p.1).mark (ap (forest_of t).label p.2 ∙ inner))
@@ -143,8 +141,8 @@ module _ (g : Graph) (old : Search) (t : ForestTables) (new : Search) (b : ℕ) 
   by_root : (r : ℕ) × (old.forest.root ≡ Some r) × IsTree (darts_of g) (forest_of old.forest) r
   by_root = tree_of (darts_of g) (are_darts g way.made.small.lawful) (forest_of old.forest) old.forest.root way.valid.valid x.o.b (inner_named ((forest_of old.forest).label x.o.b) x.opening.label)
 
-  pub expanded_way : ((j : ℕ) → j ≤ 2 * x.o.half → IsRightIn g t old.risen new (x.o.q j)) → IsUnderWay g new
-  expanded_way right = opened_way by_root.0 by_root.1 right
+  pub expanded_way : t.root ≡ old.forest.root → ((j : ℕ) → j ≤ 2 * x.o.half → IsRightIn g t old.risen new (x.o.q j)) → IsUnderWay g new
+  expanded_way root_is right = opened_way by_root.0 by_root.1 root_is right
 
   pub expanded_less : steps_left g.n (forest_of new.forest) < steps_left g.n (forest_of old.forest)
   expanded_less = opened_less by_root.0 by_root.1
@@ -209,13 +207,16 @@ made_after g s t made size = record { small = made.small; cheap = made.cheap; fa
 -- The matching has grown.
 pub augmented_idle : (g : Graph) (old : Search) (t : ForestTables) (d : ℕ) → IsUnderWay g old → IsValidFor g t → t.root ≡ None → (r : ℕ) × (old.forest.root ≡ Some r) × IsAugmented (darts_of g) (forest_of old.forest) (forest_of t) r d
     → (made : IsMade g (record old { forest = t })) → IsIdle g (record old { forest = t }) × HasEnded g.n old.forest t
-augmented_idle g old t d way valid root w made = (record {
-  made = made;
-  valid = valid;
-  no_tree = root;
-  few = λ k l. omega (arith, way.low k l, true_key_low g (forest_of old.forest) old.risen k);
-  range = range_same (forest_of old.forest) (forest_of t) old.risen (ap (λ (f : Forest). f.size) w.2.changed) (λ b. ap (λ (f : Forest). f.weight b) w.2.changed) way.range;
-}, λ v seeking. matched_more g.n g (forest_of old.forest) (forest_of t) w.0 d v w.2 (subst (λ (o : Option ℕ). IsSeeking g.n (forest_of old.forest) o v) w.1 seeking))
+augmented_idle g old t d way valid root w made = (
+  record {
+    made = made;
+    valid = valid;
+    no_tree = root;
+    few = λ k l. omega (arith, way.low k l, true_key_low g (forest_of old.forest) old.risen k);
+    range = range_same (forest_of old.forest) (forest_of t) old.risen (ap (λ (f : Forest). f.size) w.2.changed) (λ b. ap (λ (f : Forest). f.weight b) w.2.changed) way.range;
+  },
+  λ v seeking. matched_more g.n g (forest_of old.forest) (forest_of t) w.0 d v w.2 (subst (λ (o : Option ℕ). IsSeeking g.n (forest_of old.forest) o v) w.1 seeking),
+)
 
 -- A search has begun.
 module _ (g : Graph) (old : Search) (t : ForestTables) (new : Search) (v : ℕ) (idle : IsIdle g old) (valid : IsValidFor g t) (is : IsRefreshed g (record old { forest = t }) new)
@@ -225,15 +226,6 @@ module _ (g : Graph) (old : Search) (t : ForestTables) (new : Search) (v : ℕ) 
 
   idle_valid : IsValid (darts_of g) (forest_of old.forest) None
   idle_valid = subst (λ (o : Option ℕ). IsValid (darts_of g) (forest_of old.forest) o) idle.no_tree idle.valid.valid
-
-  idle_way : IsUnderWay g old
-  idle_way = record {
-    made = idle.made;
-    valid = idle.valid;
-    low = idle_low g (forest_of old.forest) old.risen old.tour (idle_valid.no_tree refl) idle.few;
-    marked = λ x inner. absurd (let c : Outside ≡ Inner = sym (idle_valid.no_tree refl x) ∙ inner in cc c);
-    range = idle.range;
-  }
 
   labels_rooted : (x : ℕ) → (forest_of t).label x ≡ set_at (forest_of old.forest).label b Outer x
   labels_rooted x = ap (λ (f : Forest). f.label x) rooted_is
@@ -245,11 +237,14 @@ module _ (g : Graph) (old : Search) (t : ForestTables) (new : Search) (v : ℕ) 
       by_place (inl e) = let c : Outer ≡ Inner = sym (set_here (forest_of old.forest).label b Outer) ∙ (ap (set_at (forest_of old.forest).label b Outer) (sym e) ∙ (sym (labels_rooted x) ∙ inner)) in cc c
       by_place (inr ne) = let c : Outside ≡ Inner = sym (set_there (forest_of old.forest).label b x Outer ne ∙ idle_valid.no_tree refl x) ∙ (sym (labels_rooted x) ∙ inner) in cc c
 
-  pub begun_way : IsRightIn g t old.risen new b → IsUnderWay g new
-  begun_way at = step_way g old t new idle_way valid is
+  idle_keys : AreLow g (forest_of old.forest) old.risen old.tour
+  idle_keys = idle_low g (forest_of old.forest) old.risen old.tour (idle_valid.no_tree refl) idle.few
+
+  pub begun_way : t.root ≡ Some b → IsRightIn g t old.risen new b → IsUnderWay g new
+  begun_way root at = step_taken g old t new idle.made idle_keys idle.range valid is
       (subst (λ (f : Forest). IsTurned g (forest_of old.forest) f old.risen new.tour) (sym rooted_is) (rooted_turned g (forest_of old.forest) b old.risen new.tour idle_valid
       (subst (λ (f : Forest). AreRightAt g f old.risen new.tour (f.holds b)) rooted_is (at.edges (not_inner b)))))
-      (ap (λ (f : Forest). f.size) rooted_is) (λ x. ap (λ (f : Forest). f.weight x) rooted_is) (λ x inner. absurd (not_inner x inner))
+      (ap (λ (f : Forest). f.size) rooted_is) (λ x. ap (λ (f : Forest). f.weight x) rooted_is) (λ x inner. absurd (not_inner x inner)) (b, root)
 
   pub begun_seeking : v < g.n → AreMatchedBefore (forest_of old.forest) v → t.root ≡ Some b → IsSeeking g.n (forest_of new.forest) new.forest.root v
   begun_seeking l before root = subst (λ (y : ForestTables). IsSeeking g.n (forest_of y) y.root v) (sym is.forest) (subst (λ (o : Option ℕ). IsSeeking g.n (forest_of t) o v) (sym root)
@@ -278,7 +273,7 @@ module _ (g : Graph) (old : Search) (t : ForestTables) (b : ℕ) (way : IsUnderW
     valid = subst (λ (y : ForestTables). IsValidFor g y) (sym e) valid;
     low = subst (λ (y : ForestTables). part_of old.forest b k < length y.up) (sym e) (subst (λ n. part_of old.forest b k < n) (sym x.opened.size) ((ring_of g old.forest b way.valid b_high opened_live).below k));
     used = subst (λ (y : ForestTables). (part_of old.forest b k < g.n) ⊎ (get_or y.parts (part_of old.forest b k) 0 ≢ 0)) (sym e) (elim (part_in_use g way.made.small.lawful old.forest b k way.valid b_high opened_live) [
-      inl l ↦ inl l
+      | inl l ↦ inl l
       | inr live ↦ inr (λ none. live (sym (x.opened.sets (part_of old.forest b k) (part_not_b k)).many ∙ none))
     ]);
   }
@@ -363,6 +358,7 @@ way_with_parts g old new way same room = record {
   low = subst (λ (s : Search). AreLow g (forest_of s.forest) s.risen s.tour) (sym same) way.low;
   marked = subst (λ (s : Search). AreMarked (forest_of s.forest) s.inner.items) (sym same) way.marked;
   range = subst (λ (s : Search). IsInRange (forest_of s.forest) s.risen) (sym same) way.range;
+  tree = subst (λ (s : Search). (r : ℕ) × (s.forest.root ≡ Some r)) (sym same) way.tree;
 }
 
 -- The new set is the outermost blossom of the edge's first end.

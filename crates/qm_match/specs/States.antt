@@ -1,5 +1,5 @@
 -- The states of a search.
-use Rattle.std.specs.Prelude.{◌≡◌, ◌≢◌, ℕ, ◌+◌, ◌*◌, ◌/◌, ◌<◌, ◌≤◌, ◌⊎◌, true, false, List, length, None}
+use Rattle.std.specs.Prelude.{◌≡◌, ◌≢◌, ℕ, ◌+◌, ◌*◌, ◌/◌, ◌<◌, ◌≤◌, ◌⊎◌, true, false, List, length, None, Some}
 use Rattle.std.specs.Prelude.{slice_index, slice_index_or}
 use Rattle.std.specs.Vec.{vec_capacity}
 use Rattle.def_matching.specs.Matching.{Graph, Vertex, EdgeNumber, IsCheap, IsPerfect, IsSmallGraph}
@@ -34,6 +34,7 @@ pub record IsIdle (g : Graph) (s : Search) : Type 0 where
 pub record IsUnderWay (g : Graph) (s : Search) : Type 0 where
   pub made : IsMade g s
   pub valid : IsValidFor g s.forest
+  pub tree : (r : Blossom) × (s.forest.root ≡ Some r)
   pub low : AreLow g (forest_of s.forest) s.risen s.tour
   pub marked : AreMarked (forest_of s.forest) s.inner.items
   pub range : IsInRange (forest_of s.forest) s.risen

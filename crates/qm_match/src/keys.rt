@@ -96,8 +96,10 @@ impl Search {
         requires made { IsMade (graph g.now) self.old }
         requires valid { IsValidFor (graph g.now) self.old.forest }
         requires leaf { leaf < length self.old.tour }
-        ensures { self.new ≡ record self.old { tour = slice_set self.old.tour leaf
-            (true_key (graph g.now) (forest_of self.old.forest) self.old.risen leaf) } }
+        ensures { self.new ≡ record self.old {
+          tour = slice_set self.old.tour leaf
+              (true_key (graph g.now) (forest_of self.old.forest) self.old.risen leaf);
+        } }
     {
         let key = self.true_key(g, leaf);
         self.tour.set(leaf, key);

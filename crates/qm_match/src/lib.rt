@@ -6,6 +6,7 @@ mod keys;
 mod mending;
 mod search;
 mod steps;
+mod turns;
 
 /// Want of memory.
 pub type Memory = std::alloc::AllocError;

@@ -1,6 +1,8 @@
 -- Each step lessens what is left of a search.
-use Rattle.std.proofs.Common.{◌≡◌, ◌≢◌, ℕ, zero, suc, ◌+◌, ◌*◌, ◌<◌, ◌≤◌, Bool, true, false, cond, eqb, Option, Some, ◌⊎◌, refl, sym, ◌∙◌, ap, subst, inl, inr, arith}
+use Rattle.std.proofs.Common.{◌≡◌, ◌≢◌, ℕ, zero, suc, ◌+◌, ◌*◌, ◌<◌, ◌≤◌, Bool, true, false, cond, eqb, List, length, get_or, Option, Some, ◌⊎◌, refl, sym, ◌∙◌, ap, subst, inl, inr, arith}
 use Rattle.std.specs.Prelude.{nat_lt}
+use Rattle.std.proofs.Math.ListN.{set}
+use Rattle.std.proofs.lemmas.List.{length-set, get_or-set_same, get_or-set_other}
 use Rattle.std.proofs.lemmas.Bool.{cases_eq, cases_lt, cases_Bool, cond-true, cond-false, eq-eqb, ne_eqb, le-ltb}
 use Rattle.def_math.specs.Counts.{count_below}
 use Rattle.qm_laws.proofs.Counts.{count_below_le, count_below_lt, count_below_ones}
@@ -17,7 +19,8 @@ use Rattle.forest_laws.specs.Walks.{live_at}
 use Rattle.forest_laws.proofs.Facts.{far_low}
 use Rattle.forest_laws.proofs.Graphs.{are_darts}
 use Rattle.forest_laws.proofs.Writes.{set_here, set_there, inner_named}
-use Rattle.search_laws.specs.Searches.{not_outer, vertices_left, sets_of, steps_left}
+use Rattle.search_laws.specs.Keys.{is_stale, true_key}
+use Rattle.search_laws.specs.Searches.{not_outer, vertices_left, sets_of, steps_left, turns_left}
 use Rattle.search_laws.proofs.Kept.{on_cycle, opened_old, opened_label, shrunk_on, shrunk_off, shrunk_set, shrunk_label}
 
 not_outer_low : (l : Label) → not_outer l ≤ 1
@@ -161,3 +164,37 @@ module _ (g : Graph) (is : IsGraph g) (f new : Forest) (r : ℕ) (o : Opening) (
       set : (x : ℕ) → (x ≡ o.b) ⊎ (x ≢ o.b) → live_at g.n new.nest.parts x ≤ live_at g.n f.nest.parts x
       set x (inl e) = let z : live_at g.n new.nest.parts x ≡ 0 = ap (live_at g.n new.nest.parts) e ∙ none_is new.nest.parts o.b opening.high opened.no_parts in omega (arith, z)
       set x (inr ne) = let z : live_at g.n new.nest.parts x ≡ live_at g.n f.nest.parts x = ap (λ (y : ℕ). cond (nat_lt x g.n) 0 (cond (eqb y 0) 0 1)) (opened.sets x ne).many in omega (arith, z)
+
+-- Where fewer steps are left, or one leaf less is stale, fewer turns are left.
+stale_low : (g : Graph) (f : Forest) (risen : ℕ) (keys : List ℕ) (n : ℕ) → count_below (is_stale g f risen keys) n ≤ n
+stale_low g f risen keys n = omega (arith, count_below_le (is_stale g f risen keys) (λ k. 1) n (λ k l. one (eqb (get_or keys k 0) (true_key g f risen k))), count_below_ones n)
+  where
+    one : (p : Bool) → cond p 0 1 ≤ 1
+    one true = omega arith
+    one false = omega arith
+
+pub fewer_turns : (g : Graph) (f new : Forest) (risen after : ℕ) (old keys : List ℕ) → length keys ≡ length old → steps_left g.n new < steps_left g.n f → turns_left g new after keys < turns_left g f risen old
+fewer_turns g f new risen after old keys size l = subst (λ n. steps_left g.n new * (n + 1) + count_below (is_stale g new after keys) n < turns_left g f risen old) (sym size)
+    (omega (arith, times_more (length old + 1) (steps_left g.n new) (steps_left g.n f) l, stale_low g new after keys (length old)))
+
+pub fewer_stale : (g : Graph) (f : Forest) (risen leaf : ℕ) (keys new : List ℕ) → leaf < length keys → get_or keys leaf 0 ≢ true_key g f risen leaf → new ≡ set keys leaf (true_key g f risen leaf) → turns_left g f risen new < turns_left g f risen keys
+fewer_stale g f risen leaf keys new l ne is =
+    let size : length new ≡ length keys = ap length is ∙ length-set keys leaf (true_key g f risen leaf) in
+    subst (λ n. steps_left g.n f * (n + 1) + count_below (is_stale g f risen new) n < turns_left g f risen keys) (sym size)
+    (let less : count_below (is_stale g f risen new) (length keys) < count_below (is_stale g f risen keys) (length keys) = count_below_lt (is_stale g f risen new) (is_stale g f risen keys) (length keys) leaf l (λ k lk. each k (cases_eq k leaf)) here in omega (arith, less))
+  where
+    right : get_or new leaf 0 ≡ true_key g f risen leaf
+    right = ap (λ xs. get_or xs leaf 0) is ∙ get_or-set_same keys leaf (true_key g f risen leaf) 0 l
+
+    none : is_stale g f risen new leaf ≡ 0
+    none = cond-true (eqb (get_or new leaf 0) (true_key g f risen leaf)) 0 1 (eq-eqb (get_or new leaf 0) (true_key g f risen leaf) right)
+
+    one : is_stale g f risen keys leaf ≡ 1
+    one = cond-false (eqb (get_or keys leaf 0) (true_key g f risen leaf)) 0 1 (ne_eqb (get_or keys leaf 0) (true_key g f risen leaf) ne)
+
+    here : is_stale g f risen new leaf < is_stale g f risen keys leaf
+    here = omega (arith, none, one)
+
+    each : (k : ℕ) → (k ≡ leaf) ⊎ (k ≢ leaf) → is_stale g f risen new k ≤ is_stale g f risen keys k
+    each k (inl e) = let z : is_stale g f risen new k ≡ 0 = ap (is_stale g f risen new) e ∙ none in omega (arith, z)
+    each k (inr nk) = let same : is_stale g f risen new k ≡ is_stale g f risen keys k = ap (λ x. cond (eqb x (true_key g f risen k)) 0 1) (ap (λ xs. get_or xs k 0) is ∙ get_or-set_other keys leaf k (true_key g f risen leaf) 0 nk) in omega (arith, same)

@@ -1,5 +1,5 @@
 -- How far the sum of the weights rises, and so how large keys and weights are.
-use Rattle.std.proofs.Common.{◌≡◌, ℕ, zero, suc, ◌+◌, ◌-◌, ◌*◌, ◌<◌, ◌≤◌, Bool, true, false, eqb, List, [], ◌∷◌, length, map, Option, Some, ℤ, pos, ◌+ℤ◌, ◌*ℤ◌, ◌≤ℤ◌, ◌⊎◌, refl, sym, subst, inl, inr, arith}
+use Rattle.std.proofs.Common.{◌≡◌, ℕ, zero, suc, ◌+◌, ◌-◌, ◌*◌, ◌<◌, ◌≤◌, ◌^◌, Bool, true, false, eqb, List, [], ◌∷◌, length, map, Option, Some, ℤ, pos, ◌+ℤ◌, ◌*ℤ◌, ◌≤ℤ◌, ◌⊎◌, refl, sym, subst, inl, inr, arith}
 use Rattle.std.specs.Int.RustNames.{unsigned_abs}
 use Rattle.std.proofs.lemmas.Int.{ints}
 use Rattle.std.proofs.lemmas.Bool.{cases_lt}
@@ -23,7 +23,7 @@ use Rattle.forest_laws.proofs.Graphs.{are_darts}
 use Rattle.forest_laws.proofs.Rises.{sum_rises}
 use Rattle.forest_laws.proofs.Shifts.{shift_valid}
 use Rattle.search_laws.specs.Keys.{no_key, edge_key_by, set_key_by, set_of, true_key}
-use Rattle.search_laws.specs.Searches.{IsInRange}
+use Rattle.search_laws.specs.Searches.{IsInRange, risen_limit}
 use Rattle.search_laws.proofs.Keys.{at_edge, at_set, lawful}
 
 -- The greatest of the costs' absolute values.
@@ -94,13 +94,13 @@ key_high g f risen k few = by_leaf (cases_lt k (length g.edges))
 
 module _ (g : Graph) (is : IsGraph g) (cheap : IsCheap g) (m : List ℕ) (perfect : IsPerfect g m) (f : Forest) (risen : ℕ) (range : IsInRange f risen) where
   -- How far the sum has risen.
-  pub risen_low : (root : Option ℕ) → IsValid (darts_of g) f root → risen ≤ 2 * MAX_PRODUCT
+  pub risen_low : (root : Option ℕ) → IsValid (darts_of g) f root → risen ≤ risen_limit
   risen_low root valid =
       let bound : dual_sum_of f ≤ℤ (pos 2 *ℤ matching_cost g m) = sum_bounds g is f valid.outermost.vertices valid.nested valid.feasible m perfect in
       omega (arith, ints, bound, range.sum, range.start_high, known_low g is cheap m perfect)
 
   -- What the shifts leave in range.
-  pub small_weights : (root : Option ℕ) → IsValid (darts_of g) f root → (b : ℕ) → unsigned_abs (f.weight b) ≤ 3 * MAX_PRODUCT
+  pub small_weights : (root : Option ℕ) → IsValid (darts_of g) f root → (b : ℕ) → unsigned_abs (f.weight b) ≤ 12 * 2 ^ 56
   small_weights root valid b = omega (arith, range.weights b, risen_low root valid)
 
   module _ (r : ℕ) (valid : IsValid (darts_of g) f (Some r)) where
@@ -115,21 +115,21 @@ module _ (g : Graph) (is : IsGraph g) (cheap : IsCheap g) (m : List ℕ) (perfec
 
     module _ (most : ℕ) (sets : length g.edges + (f.size - g.n) ≤ most) where
       -- How far a lawful shift goes.
-      pub reach_low : (x : ℕ) → IsFeasible (darts_of g) (shifted f (pos x)) → risen + x ≤ 2 * MAX_PRODUCT
+      pub reach_low : (x : ℕ) → IsFeasible (darts_of g) (shifted f (pos x)) → risen + x ≤ risen_limit
       reach_low x feasible =
           let then : IsValid (darts_of g) (shifted f (pos x)) (Some r) = shift_valid (darts_of g) (are_darts g is) f (Some r) valid (pos x) feasible in
           let bound : dual_sum_of (shifted f (pos x)) ≤ℤ (pos 2 *ℤ matching_cost g m) = sum_bounds g is (shifted f (pos x)) then.outermost.vertices then.nested then.feasible m perfect in
           omega (arith, ints, bound, sum_rises (darts_of g) (are_darts g is) f r valid (valid.tree r refl) (pos x), range.sum, range.start_high, known_low g is cheap m perfect)
 
       -- Something happens soon: the least key is small.
-      pub key_soon : (key : ℕ) → ((k : ℕ) → k < most → key ≤ true_key g f risen k) → key ≤ 2 * MAX_PRODUCT
-      key_soon key low = by_order (cases_lt (2 * MAX_PRODUCT) key)
+      pub key_soon : (key : ℕ) → ((k : ℕ) → k < most → key ≤ true_key g f risen k) → key ≤ risen_limit
+      key_soon key low = by_order (cases_lt (risen_limit) key)
         where
-          clash : (x : ℕ) → risen + x ≡ 2 * MAX_PRODUCT + 1 → 2 * MAX_PRODUCT < key → ⊥
+          clash : (x : ℕ) → risen + x ≡ risen_limit + 1 → risen_limit < key → ⊥
           clash x e h =
-              let far : risen + x ≤ 2 * MAX_PRODUCT = reach_low x (lawful g is f valid.outermost valid.feasible risen x most sets (λ k l. omega (arith, e, h, low k l))) in
+              let far : risen + x ≤ risen_limit = reach_low x (lawful g is f valid.outermost valid.feasible risen x most sets (λ k l. omega (arith, e, h, low k l))) in
               omega (arith, e, far)
 
-          by_order : (2 * MAX_PRODUCT < key) ⊎ (key ≤ 2 * MAX_PRODUCT) → key ≤ 2 * MAX_PRODUCT
+          by_order : (risen_limit < key) ⊎ (key ≤ risen_limit) → key ≤ risen_limit
           by_order (inr l) = l
-          by_order (inl h) = absurd (clash (2 * MAX_PRODUCT + 1 - risen) (omega (arith, risen_low (Some r) valid)) h)
+          by_order (inl h) = absurd (clash (risen_limit + 1 - risen) (omega (arith, risen_low (Some r) valid)) h)

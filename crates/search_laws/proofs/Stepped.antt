@@ -5,7 +5,6 @@ use Rattle.std.specs.Prelude.{int_lt}
 use Rattle.std.proofs.lemmas.Int.{ints}
 use Rattle.std.proofs.lemmas.Bool.{cases_eq, cases_lt, cases_Bool, cond-false}
 use Rattle.def_matching.specs.Matching.{Graph, IsGraph, edge_at}
-use Rattle.def_matching.specs.declared.limits.TheConstants.{MAX_PRODUCT}
 use Rattle.def_forest.specs.Darts.{darts_of}
 use Rattle.def_forest.specs.Forests.{Forest, dual_sum_of}
 use Rattle.def_forest.specs.Opened.{Opening, IsOpening, IsOpened}
@@ -26,7 +25,7 @@ use Rattle.forest_laws.proofs.Shrinks as shrinks
 use Rattle.forest_laws.proofs.WayLaws.{some_none}
 use Rattle.forest_laws.proofs.Writes.{some_is}
 use Rattle.search_laws.specs.Keys.{no_key, edge_key_by, set_key_by, set_of, true_key}
-use Rattle.search_laws.specs.Searches.{IsSeeking, AreMatchedBefore, IsInRange}
+use Rattle.search_laws.specs.Searches.{IsSeeking, AreMatchedBefore, IsInRange, first_limit}
 use Rattle.search_laws.proofs.Keys.{at_edge, at_set, slack_high}
 use Rattle.search_laws.proofs.Kept.{opened_old, shrunk_on, shrunk_off}
 
@@ -36,7 +35,7 @@ range_same f new risen size weights range = record {
   start = range.start;
   start_high = range.start_high;
   sum = sums size ∙ range.sum;
-  weights = λ b. subst (λ w. unsigned_abs w ≤ MAX_PRODUCT + risen) (sym (weights b)) (range.weights b);
+  weights = λ b. subst (λ w. unsigned_abs w ≤ first_limit + risen) (sym (weights b)) (range.weights b);
 }
   where
     sums : new.size ≡ f.size → dual_sum_of new ≡ dual_sum_of f

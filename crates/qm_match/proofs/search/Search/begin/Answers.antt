@@ -15,7 +15,7 @@ refresh-requires c =
 pub returns-clause-way : goal.returns-clause-way
 returns-clause-way c =
     let valid : IsValidFor (graph c.args.g.now) c.root.new.self = c.root.ensures.valid (graph c.args.g.now) c.requires.idle.made.small.lawful c.requires.idle.valid in
-    begun_way (graph c.args.g.now) c.args.self.now c.root.new.self c.refresh.new.self c.args.v c.requires.idle valid c.refresh.ensures.refreshed c.root.ensures.changed
+    begun_way (graph c.args.g.now) c.args.self.now c.root.new.self c.refresh.new.self c.args.v c.requires.idle valid c.refresh.ensures.refreshed c.root.ensures.changed c.root.ensures.root
     (right_in (graph c.args.g.now) c.args.self.now c.root.new.self c.refresh.new.self ((forest_of c.args.self.now.forest).out c.args.v) c.refresh.ensures.refreshed (subst (λ x. IsFreshAt (graph c.args.g.now) c.refresh.new.self x) c.outermost-b.ensures.value c.refresh.ensures.here))
 
 pub returns-clause-seeking : goal.returns-clause-seeking

@@ -24,7 +24,7 @@ returns-clause-way c =
     let way : IsUnderWay (graph c.args.g.now) c.list_parts.new.self = way_with_parts (graph c.args.g.now) c.args.self.now c.list_parts.new.self c.requires.way c.list_parts.ensures.same c.list_parts.ensures.room in
     let forest_is : c.list_parts.new.self.forest ≡ c.args.self.now.forest = ap (λ (s : Search). s.forest) c.list_parts.ensures.same in
     let x = c.expand.ensures.changed in
-    expanded_way (graph c.args.g.now) c.list_parts.new.self c.expand.new.self c.refresh_parts.new.self c.args.b way c.expand.ensures.valid c.refresh_parts.ensures.refreshed x
+    expanded_way (graph c.args.g.now) c.list_parts.new.self c.expand.new.self c.refresh_parts.new.self c.args.b way c.expand.ensures.valid c.refresh_parts.ensures.refreshed x c.expand.ensures.root
     (λ j l. (let w : (k : ℕ) × (k < get_or c.list_parts.new.self.forest.parts c.args.b 0) × (part_of c.list_parts.new.self.forest c.args.b k ≡ x.o.q j) = opened_place (graph c.args.g.now) c.list_parts.new.self c.expand.new.self c.args.b way c.expand.ensures.valid x j l in
     let few : w.0 < get_or c.args.self.now.forest.parts c.args.b 0 = subst (λ (t : ForestTables). w.0 < get_or t.parts c.args.b 0) forest_is w.1 in
     let at : get_or c.list_parts.new.self.parts.items w.0 0 ≡ x.o.q j = c.list_parts.ensures.each w.0 few ∙ (ap (λ (t : ForestTables). part_of t c.args.b w.0) (sym forest_is) ∙ w.2) in

@@ -22,7 +22,7 @@ loop-k-preserved c =
       same = keys_twice c.args.self.now c.loop-k.self c.mend_vertex.new.self _ c.loop-k.invariant.same c.mend_vertex.ensures.same;
       mended = mended_on (graph c.args.g.now) (forest_of c.args.self.now.forest) c.args.self.now.risen _ _ _ c.loop-k.invariant.mended mended;
       done = λ j l. elim (cases_lt j c.loop-k.k) [
-        inl lt ↦ stay_right (graph c.args.g.now) (forest_of c.args.self.now.forest) c.args.self.now.risen c.loop-k.self.tour c.mend_vertex.new.self.tour (λ w. eqb w (get_or c.args.self.now.members.items j 0)) mended (c.loop-k.invariant.done j lt)
+        | inl lt ↦ stay_right (graph c.args.g.now) (forest_of c.args.self.now.forest) c.args.self.now.risen c.loop-k.self.tour c.mend_vertex.new.self.tour (λ w. eqb w (get_or c.args.self.now.members.items j 0)) mended (c.loop-k.invariant.done j lt)
         | inr ge ↦ (let e : c.loop-k.k ≡ j = omega (arith, ge, l) in subst (λ x. AreRightAt (graph c.args.g.now) (forest_of c.args.self.now.forest) c.args.self.now.risen c.mend_vertex.new.self.tour (λ w. eqb w x)) (v_is ∙ ap (λ i. get_or c.args.self.now.members.items i 0) e) right)
       ];
     }

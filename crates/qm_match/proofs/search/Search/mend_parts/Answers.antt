@@ -34,7 +34,7 @@ loop-preserved c =
       here = c.next-part.ensures ∙ (ap (λ (s : Search). get_or s.forest.after c.loop.part 0) c.mend_marked.ensures.same ∙ (ap (λ (s : Search). get_or s.forest.after c.loop.part 0) c.loop.invariant.same ∙ (ap (λ p. get_or c.args.self.now.forest.after p 0) c.loop.invariant.here ∙ ap (part_of c.args.self.now.forest c.args.set) one)));
       mended = mended_on (graph c.args.g.now) (forest_of c.args.self.now.forest) c.args.self.now.risen _ _ _ c.loop.invariant.mended mended;
       right = λ k l. elim (cases_lt k c.loop.counter) [
-        inl lt ↦ (λ mark. stay_right (graph c.args.g.now) (forest_of c.args.self.now.forest) c.args.self.now.risen c.loop.self.tour c.mend_marked.new.self.tour ((forest_of c.args.self.now.forest).holds (part_of c.args.self.now.forest c.args.set k)) mended (c.loop.invariant.right k lt mark))
+        | inl lt ↦ (λ mark. stay_right (graph c.args.g.now) (forest_of c.args.self.now.forest) c.args.self.now.risen c.loop.self.tour c.mend_marked.new.self.tour ((forest_of c.args.self.now.forest).holds (part_of c.args.self.now.forest c.args.set k)) mended (c.loop.invariant.right k lt mark))
         | inr ge ↦ (let e : c.loop.counter ≡ k = omega (arith, ge, l) in subst (λ p. get_or c.args.self.now.inner.items p false ≡ true → AreRightAt (graph c.args.g.now) (forest_of c.args.self.now.forest) c.args.self.now.risen c.mend_marked.new.self.tour ((forest_of c.args.self.now.forest).holds p)) (c.loop.invariant.here ∙ ap (part_of c.args.self.now.forest c.args.set) e) right)
       ];
     }

@@ -19,7 +19,7 @@ loop-k-preserved c =
     record {
       refreshed = refreshed_on (graph c.args.g.now) c.args.self.now c.loop-k.self c.refresh.new.self c.loop-k.invariant.refreshed c.refresh.ensures.refreshed;
       here = λ j l. elim (cases_lt j c.loop-k.k) [
-        inl lt ↦ stays_fresh (graph c.args.g.now) c.loop-k.self c.refresh.new.self (get_or c.args.self.now.parts.items j 0) c.refresh.ensures.refreshed (c.loop-k.invariant.here j lt)
+        | inl lt ↦ stays_fresh (graph c.args.g.now) c.loop-k.self c.refresh.new.self (get_or c.args.self.now.parts.items j 0) c.refresh.ensures.refreshed (c.loop-k.invariant.here j lt)
         | inr ge ↦ (let e : c.loop-k.k ≡ j = omega (arith, ge, l) in subst (λ p. IsFreshAt (graph c.args.g.now) c.refresh.new.self p) (p_is ∙ ap (λ i. get_or c.args.self.now.parts.items i 0) e) c.refresh.ensures.here)
       ];
     }
