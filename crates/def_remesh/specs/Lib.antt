@@ -1,3 +1,4 @@
+pub mod Checked
 pub mod NewPoints
 pub mod NewSoup
 pub mod Refined

@@ -31,11 +31,13 @@ with_floor settings floor =
 abbrev pub certificate_of : (lists : Lists) → Certificate
 certificate_of lists = record { x = lists.x; dual = record { y = lists.y; z = lists.z; up = lists.up } }
 
--- A certificate that is accepted for the network of a layout, and can be written. So its lengths are at least the
--- floor, equal on opposite sides of each patch, and their deviation is least among all such lengths.
+-- A certificate that is accepted for the network of a layout, which is not too tangled, and can be written. So its
+-- lengths are at least the floor, equal on opposite sides of each patch, and their deviation is least among all such
+-- lengths.
 pub record IsCertified (plan : Plan) (settings : Settings) (cert : Lists) : Type 0 where
   pub net : Network
   pub of_layout : IsNetOf (layout_of plan) (long_at plan.arcs) settings net
+  pub untangled : tangle_number net ≤ MAX_TANGLE
   pub accepted : IsAccepted net (certificate_of cert)
   pub opposite : AreOpposite (layout_of plan) (entries cert.x)
   pub least : IsLeast net (entries cert.x)
