@@ -10,6 +10,7 @@ pub mod Loads
 pub mod Odds
 pub mod Parities
 pub mod Rises
+mod SameLoads
 pub mod Shifts
 pub mod Shrinks
 pub mod ShrunkTrees

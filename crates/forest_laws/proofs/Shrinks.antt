@@ -1,13 +1,13 @@
 -- A shrink keeps a forest valid.
 use Rattle.std.proofs.Common.{◌≡◌, ◌≢◌, ℕ, zero, suc, ◌<◌, ◌≤◌, Bool, true, false, not, cond, eqb, Some, None, ℤ, pos, ◌+ℤ◌, ◌≤ℤ◌, ◌⊎◌, refl, sym, ◌∙◌, ap, subst, inl, inr, arith}
 use Rattle.std.proofs.lemmas.Bool.{cases_eq, cases_Bool, cond-true, cond-false, eq-eqb, ne_eqb}
-use Rattle.qm_laws.proofs.Sums.{total_below_same}
 use Rattle.def_forest.specs.Darts.{Darts, AreDarts, far}
 use Rattle.def_forest.specs.Forests.{Forest, load, splits, IsTight, IsOutermost, number, walk, ring_sum}
 use Rattle.def_forest.specs.Shrunk.{IsUnused, IsCycle, IsClosedRow, IsShrunk}
 use Rattle.def_forest.specs.Valid.{AreOutermost, IsNested, IsRing, IsJoint, IsFeasible, IsMate, IsMatched, IsTree, IsValid}
 use Rattle.def_forest.specs.declared.kinds.Label.TheVariants.{Outer, Outside}
-use Rattle.forest_laws.proofs.Writes.{set_here, set_there, by_none, true_false}
+use Rattle.forest_laws.proofs.Writes.{set_here, set_there, true_false}
+use Rattle.forest_laws.proofs.SameLoads as loads
 use Rattle.forest_laws.proofs.Facts.{far_low, far_twin}
 use Rattle.forest_laws.proofs.WayLaws.{some_none}
 
@@ -77,21 +77,7 @@ module _ (g : Darts) (are : AreDarts g) (f : Forest) (r : ℕ) (valid : IsValid 
 
   -- No load changes.
   pub same_load : (u v : ℕ) → u < g.n → v < g.n → load new u v ≡ load f u v
-  same_load u v lu lv =
-      ap (λ (s : ℕ). sum s) is.size ∙ total_below_same (λ x. cond (splits (new.holds x) u v) (new.weight x) (pos 0)) (λ x. cond (splits (f.holds x) u v) (f.weight x) (pos 0)) f.size (λ x l. each x (cases_eq x b))
-    where
-      sum : ℕ → ℤ
-      sum s = load (record new { size = s }) u v
-
-      each : (x : ℕ) → (x ≡ b) ⊎ (x ≢ b) → cond (splits (new.holds x) u v) (new.weight x) (pos 0) ≡ cond (splits (f.holds x) u v) (f.weight x) (pos 0)
-      each x (inl e) =
-          let w : f.weight x ≡ pos 0 = ap f.weight e ∙ unused.weightless in
-          let w' : new.weight x ≡ pos 0 = is.weight x ∙ w in
-          ap (λ (z : ℤ). cond (splits (new.holds x) u v) z (pos 0)) w' ∙ (by_none (splits (new.holds x) u v) ∙ sym (ap (λ (z : ℤ). cond (splits (f.holds x) u v) z (pos 0)) w ∙ by_none (splits (f.holds x) u v)))
-      each x (inr ne) =
-          ap (λ (z : ℤ). cond (splits (new.holds x) u v) z (pos 0)) (is.weight x)
-          ∙ (ap (λ (s : Bool). cond (cond s (not (new.holds x v)) (new.holds x v)) (f.weight x) (pos 0)) (is.holds_old x u ne lu)
-          ∙ ap (λ (s : Bool). cond (cond (f.holds x u) (not s) s) (f.weight x) (pos 0)) (is.holds_old x v ne lv))
+  same_load = loads.same_load g.n f new b is.size is.weight unused.weightless is.holds_old
 
   pub same_tight : (d : ℕ) → IsTight g f d → IsTight g new d
   same_tight d tight = record { low = tight.low; exact = same_load (g.near d) (far g d) (are.near_low d tight.low) (far_low g are d tight.low) ∙ tight.exact }
