@@ -3,3 +3,4 @@ pub mod NewPoints
 pub mod NewSoup
 pub mod Refined
 pub mod Remeshed
+pub mod Numberings

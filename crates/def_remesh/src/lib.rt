@@ -1,6 +1,10 @@
-//! The mesh that is written anew: its soup, its text, and the tables that number its points. Definitions alone.
+//! The mesh that is written anew: its soup, its text, and the tables that number its points. Types and definitions alone.
 #![tactic(auto)]
 
+mod fail;
 mod limits;
+mod tables;
 
+pub use fail::StitchFail;
 pub use limits::{MAX_LENGTH, MAX_NEW_FACES};
+pub use tables::{Starts, Tables};

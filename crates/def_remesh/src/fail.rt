@@ -1,0 +1,16 @@
+//! Why there is no new mesh.
+
+use thiserror::Error;
+
+/// Why a layout with lengths has no new mesh.
+#[derive(Clone, Copy, Debug, PartialEq, Eq, Error)]
+pub enum StitchFail {
+    /// So many faces are more than the limit.
+    #[error("{faces} faces")]
+    TooFine { faces: u128 },
+    /// Two edges join these vertices, or both ends of one are the same vertex.
+    #[error("doubled edge {u} {v}")]
+    Doubled { u: u32, v: u32 },
+    #[error("out of memory")]
+    Memory,
+}

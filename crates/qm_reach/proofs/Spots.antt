@@ -1,0 +1,53 @@
+-- Searches in tables of starts.
+use Rattle.std.proofs.Common.{◌≡◌, ◌⊎◌, ℕ, zero, suc, ◌+◌, ◌-◌, ◌<◌, ◌≤◌, List, length, get_or, sym, ◌∙◌, ap, inl, inr, subst, arith}
+use Rattle.std.specs.Prelude.{nat_lt}
+use Rattle.std.proofs.lemmas.Bool.{cases_eq, cases_lt, cond-true, cond-false, lt-ltb, le-ltb}
+use Rattle.def_math.specs.Counts.{count_below}
+use Rattle.def_math.specs.Runs.{run_at}
+use Rattle.def_remesh.specs.Numberings.{AreStarts}
+use Rattle.qm_laws.proofs.Runs.{count_rises, run_low, run_from, run_to, run_last}
+
+-- The run that begins at or before a place, and ends behind it, holds it.
+pub spot_between : (f : ℕ → ℕ) (n t k : ℕ) → k < n → (k ≡ 0) ⊎ (count_below f k ≤ t) → (k + 1 ≡ n) ⊎ (t < count_below f (k + 1))
+    → run_at (count_below f) n t ≡ k
+spot_between f zero t k low from to = absurd (omega arith)
+spot_between f (suc n) t k low from to = elim (cases_eq k n) [
+  | inl e ↦ at_last e from
+  | inr ne ↦
+      let before : k < n = omega arith in
+      cond-true (nat_lt t (count_below f n)) _ _ (lt-ltb _ _ (below before to)) ∙ spot_between f n t k before from (onward before to)
+]
+  where
+    at_last : k ≡ n → (k ≡ 0) ⊎ (count_below f k ≤ t) → run_at (count_below f) (suc n) t ≡ k
+    at_last e (inl z) =
+        let none : suc n - 1 ≡ 0 = omega arith in
+        run_last (count_below f) (suc n) t (omega arith) (omega (arith, ap (count_below f) none)) ∙ omega arith
+    at_last e (inr le) =
+        let same : suc n - 1 ≡ k = omega arith in
+        run_last (count_below f) (suc n) t (omega arith) (omega (arith, ap (count_below f) same)) ∙ omega arith
+
+    below : k < n → (k + 1 ≡ suc n) ⊎ (t < count_below f (k + 1)) → t < count_below f n
+    below before (inl e) = absurd (omega arith)
+    below before (inr less) = omega (arith, count_rises f (k + 1) n (omega arith))
+
+    onward : k < n → (k + 1 ≡ suc n) ⊎ (t < count_below f (k + 1)) → (k + 1 ≡ n) ⊎ (t < count_below f (k + 1))
+    onward before (inl e) = absurd (omega arith)
+    onward before (inr less) = inr less
+
+-- A place up to the end lies no farther behind the beginning of its run than the run is long.
+pub within_run : (f : ℕ → ℕ) (n t : ℕ) → 0 < n → t ≤ count_below f n
+    → (count_below f (run_at (count_below f) n t) ≤ t) × (t - count_below f (run_at (count_below f) n t) ≤ f (run_at (count_below f) n t))
+within_run f n t some le = (
+  from,
+  elim (cases_lt t (count_below f n)) [
+    | inl less ↦ omega (arith, run_to (count_below f) n t some less)
+    | inr more ↦
+        let one : suc (n - 1) ≡ n = omega arith in
+        let whole : count_below f (n - 1) + f (n - 1) ≡ count_below f n = ap (count_below f) one in
+        let last : run_at (count_below f) n t ≡ n - 1 = run_last (count_below f) n t some (omega (arith, whole, more)) in
+        omega (arith, whole, le, ap f last, ap (count_below f) last)
+  ],
+)
+  where
+    from : count_below f (run_at (count_below f) n t) ≤ t
+    from = run_from (count_below f) n t (omega arith)

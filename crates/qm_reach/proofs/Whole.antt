@@ -1,0 +1,40 @@
+-- What the layout of a mesh gives.
+use Rattle.std.proofs.Common.{◌≡◌, ℕ, ◌<◌, true, List, length, sym, ap, subst, arith}
+use Rattle.std.specs.List.{All}
+use Rattle.std.proofs.lemmas.List.{get_or_default}
+use Rattle.def_math.specs.Counts.{count_below}
+use Rattle.def_layout.specs.Arcs.{long_at}
+use Rattle.def_layout.specs.Laid.{IsLaid}
+use Rattle.def_layout.specs.Layouts.{Way}
+use Rattle.def_layout.specs.Lengths.{Lengths, size, AreLengths}
+use Rattle.def_layout.specs.Plans.{Plan, layout_of, side_at, vertex_at}
+use Rattle.def_layout.specs.declared.tmesh.SideArc.{SideArc}
+use Rattle.def_remesh.specs.Numberings.{sizes_on}
+use Rattle.def_written.specs.Laws.{LiesIn}
+use Rattle.def_layoutnet.specs.MeshLayouts.{IsMeshLayout}
+use Rattle.plan_laws.proofs.PlanLies.{plan_law}
+use Rattle.written_laws.proofs.Shape.{laid_law}
+
+module _ (plan : Plan) (is : IsMeshLayout plan) where
+  pub lies : LiesIn is.faces (layout_of plan) (long_at plan.arcs) (vertex_at plan)
+  lies = plan_law is.faces is.marks plan is.mesh is.quads is.cut is.laid
+
+  pub laid_of : IsLaid (layout_of plan)
+  laid_of = (laid_law is.faces (layout_of plan) (long_at plan.arcs) (vertex_at plan) lies).0
+
+  pub lengths_of : AreLengths (layout_of plan) (long_at plan.arcs)
+  lengths_of = lies.lengths
+
+  -- The arcs that sides use.
+  pub uses_low : (patch : ℕ) (side : Way) (n : ℕ) (list : List SideArc) → patch < length plan.patches → n ≡ length plan.arcs
+      → list ≡ side_at plan patch side → All (λ (used : SideArc). used.arc < n) list
+  uses_low patch side n list low long same =
+      subst (λ (us : List SideArc). All (λ (used : SideArc). used.arc < n) us) (sym same)
+      (λ k d less. let arc = laid_of.paved.arc_low (record { patch = patch; side = side; at = k }) (record { patch_low = low; low = less }) in
+      let read = get_or_default (side_at plan patch side) k d (record { arc = 0; forward = true }) less in
+      omega (arith, arc, ap (λ (u : SideArc). u.arc) read, long))
+
+-- A side that is read is as long as its lengths say.
+pub side_long : (plan : Plan) (patch : ℕ) (side : Way) (lengths : Lengths) (list : List SideArc) → list ≡ side_at plan patch side
+    → count_below (sizes_on list lengths) (length list) ≡ size (layout_of plan) lengths patch side
+side_long plan patch side lengths list same = ap (λ (us : List SideArc). count_below (sizes_on us lengths) (length us)) same

@@ -1,0 +1,18 @@
+-- The tables of the four sides of a patch.
+use Rattle.std.specs.Prelude.{◌≡◌, ℕ, List, [], length, map, slice_index_or}
+use Rattle.def_layout.specs.Layouts.{Way}
+use Rattle.def_layout.specs.Lengths.{Lengths}
+use Rattle.def_layout.specs.Plans.{Plan, number, side_at}
+use Rattle.def_remesh.specs.Numberings.{sizes_on, AreStarts}
+use Rattle.def_remesh.specs.declared.tables.Starts.{Starts}
+
+-- Where the arcs on four sides begin.
+abbrev pub begins_of : (four : List Starts) → List (List ℕ)
+begins_of four = map (λ (starts : Starts). starts.begin.items) four
+
+-- The tables are those of the sides of a patch.
+pub record AreFourStarts (plan : Plan) (lengths : Lengths) (patch : ℕ) (four : List (List ℕ)) : Type 0 where
+  pub count : length four ≡ 4
+  pub each : (side : Way)
+      → AreStarts (sizes_on (side_at plan patch side) lengths) (length (side_at plan patch side))
+      (slice_index_or four (number side) [])

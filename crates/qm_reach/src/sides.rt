@@ -1,0 +1,95 @@
+//! The sides of patches, and where the arcs on them begin.
+
+ghost use Rattle.std.specs.Prelude.{◌≡◌, ◌<◌, ◌^◌, ℕ, [], length, map, slice_index_or, IfOk};
+ghost use Rattle.std.specs.List.{All};
+ghost use Rattle.def_math.specs.Counts.{count_below};
+ghost use Rattle.def_layout.specs.Layouts.{Way};
+ghost use Rattle.def_layout.specs.Lengths.{size};
+ghost use Rattle.def_layout.specs.Plans.{layout_of, number, plan, side_at};
+ghost use Rattle.def_layout.specs.declared.tmesh.SideArc.{SideArc as Used};
+ghost use Rattle.def_layoutnet.specs.MeshLayouts.{IsMeshLayout};
+ghost use Rattle.def_remesh.specs.NewPoints.{lengths_in};
+ghost use Rattle.def_remesh.specs.Numberings.{sizes_on, tables_of, AreSideStarts, AreStarts};
+ghost use Rattle.qm_reach.specs.Fours.{begins_of, AreFourStarts};
+
+use crate::starts::{no_starts, push_start};
+use def_layout::{SideArc, TMesh};
+use def_remesh::Starts;
+use std::alloc::{AllocError, Global};
+
+/// The arcs on a side of a patch: 0 is south, 1 east, 2 north and 3 west.
+pub fn side_of(t: &TMesh, patch: usize, side: usize) -> &[SideArc]
+    requires layout { IsMeshLayout (plan t.now) }
+    requires low { patch < length t.now.patches.items }
+    requires side { side < 4 }
+    ensures { result.now ≡ slice_index_or (slice_index_or (plan t.now).sides patch []) side [] }
+{
+    let four = &t.sides[patch];
+    &four[side].arcs
+}
+
+/// Where the arcs on a side of a patch begin.
+pub fn starts_on(sides: &[[Starts; 4]], patch: usize, side: usize) -> &[u32]
+    requires low { patch < length sides.now }
+    requires four { length (slice_index_or (tables_of sides.now) patch []) ≡ 4 }
+    requires side { side < 4 }
+    ensures { result.now ≡ slice_index_or (slice_index_or (tables_of sides.now) patch []) side [] }
+{
+    let four = &sides[patch];
+    &four[side].begin
+}
+
+/// Where arcs of these lengths begin on a side.
+fn side_starts(alloc: Global, side: &[SideArc], lengths: &[u32]) -> Result<Starts, AllocError>
+    requires low { All (λ (used : Used). used.arc < length lengths.now) side.now }
+    requires small { count_below (sizes_on side.now (lengths_in lengths.now)) (length side.now) < 2 ^ 32 }
+    ensures { IfOk result (λ starts.
+        AreStarts (sizes_on side.now (lengths_in lengths.now)) (length side.now) starts.begin.items) }
+{
+    let mut starts = no_starts(alloc, side.len())?;
+    for used in side {
+        push_start(&mut starts, lengths[used.arc as usize])?;
+    }
+    Ok(starts)
+}
+
+/// The tables of the four sides of a patch.
+fn four_starts(
+    alloc: Global,
+    t: &TMesh,
+    patch: usize,
+    lengths: &[u32],
+) -> Result<[Starts; 4], AllocError>
+    requires layout { IsMeshLayout (plan t.now) }
+    requires low { patch < length t.now.patches.items }
+    requires long { length lengths.now ≡ length t.now.arcs.items }
+    requires small { (side : Way) → size (layout_of (plan t.now)) (lengths_in lengths.now) patch side < 2 ^ 32 }
+    ensures { IfOk result (λ four.
+        AreFourStarts (plan t.now) (lengths_in lengths.now) patch (begins_of four)) }
+{
+    let south = side_starts(alloc, side_of(t, patch, 0), lengths)?;
+    let east = side_starts(alloc, side_of(t, patch, 1), lengths)?;
+    let north = side_starts(alloc, side_of(t, patch, 2), lengths)?;
+    let west = side_starts(alloc, side_of(t, patch, 3), lengths)?;
+    Ok([south, east, north, west])
+}
+
+/// The tables of all sides. Linear in the arcs on them.
+pub fn side_tables(
+    alloc: Global,
+    t: &TMesh,
+    lengths: &[u32],
+) -> Result<Vec<[Starts; 4]>, AllocError>
+    requires layout { IsMeshLayout (plan t.now) }
+    requires long { length lengths.now ≡ length t.now.arcs.items }
+    requires small { (patch : ℕ) (side : Way) → patch < length t.now.patches.items
+        → size (layout_of (plan t.now)) (lengths_in lengths.now) patch side < 2 ^ 32 }
+    ensures { IfOk result (λ sides. AreSideStarts (plan t.now) (lengths_in lengths.now) (tables_of sides.items)) }
+{
+    let mut tables = Vec::with_capacity(alloc, t.patches.len())?;
+    for patch in 0..t.patches.len() {
+        let four = four_starts(alloc, t, patch, lengths)?;
+        tables.push(four)?;
+    }
+    Ok(tables)
+}
