@@ -1,6 +1,6 @@
 -- Searches in tables of starts.
 use Rattle.std.proofs.Common.{◌≡◌, ◌⊎◌, ℕ, zero, suc, ◌+◌, ◌-◌, ◌<◌, ◌≤◌, List, length, get_or, sym, ◌∙◌, ap, inl, inr, subst, arith}
-use Rattle.std.specs.Prelude.{nat_lt}
+use Rattle.std.specs.Prelude.{nat_lt, slice_index}
 use Rattle.std.proofs.lemmas.Bool.{cases_eq, cases_lt, cond-true, cond-false, lt-ltb, le-ltb}
 use Rattle.def_math.specs.Counts.{count_below}
 use Rattle.def_math.specs.Runs.{run_at}
@@ -51,3 +51,20 @@ within_run f n t some le = (
   where
     from : count_below f (run_at (count_below f) n t) ≤ t
     from = run_from (count_below f) n t (omega arith)
+
+-- Counts, one by one.
+pub count_step : (f : ℕ → ℕ) (k : ℕ) → count_below f (k + 1) ≡ count_below f k + f k
+count_step f k = let e : k + 1 ≡ suc k = omega arith in ap (count_below f) e
+
+pub term_room : (f : ℕ → ℕ) (n k : ℕ) → k < n → count_below f k + f k ≤ count_below f n
+term_room f n k low = count_rises f (suc k) n (omega (arith, low))
+
+-- The end of the last run.
+pub last_is : (f : ℕ → ℕ) (n : ℕ) (starts : List ℕ) → AreStarts f n starts → slice_index starts (length starts - 1) ≡ count_below f n
+last_is f n starts are =
+    let last : length starts - 1 ≡ n = omega (arith, are.count) in ap (slice_index starts) last ∙ are.each n (omega arith)
+
+-- There is room for another run.
+pub next_room : (f : ℕ → ℕ) (n k : ℕ) (starts : List ℕ) → k < n → AreStarts f k starts
+    → slice_index starts (length starts - 1) + f k ≤ count_below f n
+next_room f n k starts low are = omega (arith, last_is f k starts are, term_room f n k low)

@@ -1,15 +1,15 @@
 -- What the layout of a mesh gives.
-use Rattle.std.proofs.Common.{◌≡◌, ℕ, ◌<◌, true, List, length, sym, ap, subst, arith}
+use Rattle.std.proofs.Common.{◌≡◌, ℕ, zero, suc, ◌<◌, true, false, List, length, get_or, refl, sym, ap, subst, arith}
 use Rattle.std.specs.List.{All}
 use Rattle.std.proofs.lemmas.List.{get_or_default}
 use Rattle.def_math.specs.Counts.{count_below}
 use Rattle.def_layout.specs.Arcs.{long_at}
 use Rattle.def_layout.specs.Laid.{IsLaid}
-use Rattle.def_layout.specs.Layouts.{Way}
+use Rattle.def_layout.specs.Layouts.{Way, south, east, north, west}
 use Rattle.def_layout.specs.Lengths.{Lengths, size, AreLengths}
-use Rattle.def_layout.specs.Plans.{Plan, layout_of, side_at, vertex_at}
+use Rattle.def_layout.specs.Plans.{Plan, layout_of, number, side_at, vertex_at}
 use Rattle.def_layout.specs.declared.tmesh.SideArc.{SideArc}
-use Rattle.def_remesh.specs.Numberings.{sizes_on}
+use Rattle.def_remesh.specs.Numberings.{sizes_on, used_at}
 use Rattle.def_written.specs.Laws.{LiesIn}
 use Rattle.def_layoutnet.specs.MeshLayouts.{IsMeshLayout}
 use Rattle.plan_laws.proofs.PlanLies.{plan_law}
@@ -38,3 +38,20 @@ module _ (plan : Plan) (is : IsMeshLayout plan) where
 pub side_long : (plan : Plan) (patch : ℕ) (side : Way) (lengths : Lengths) (list : List SideArc) → list ≡ side_at plan patch side
     → count_below (sizes_on list lengths) (length list) ≡ size (layout_of plan) lengths patch side
 side_long plan patch side lengths list same = ap (λ (us : List SideArc). count_below (sizes_on us lengths) (length us)) same
+
+-- What is read of a side.
+pub read_used : (side : List SideArc) (k : ℕ) → k < length side
+    → used_at side k ≡ get_or side k (record { arc = 0; forward = false })
+read_used side k low = get_or_default side k (record { arc = 0; forward = true }) (record { arc = 0; forward = false }) low
+
+pub read_size : (side : List SideArc) (lengths : Lengths) (k : ℕ) → k < length side
+    → sizes_on side lengths k ≡ lengths (get_or side k (record { arc = 0; forward = false })).arc
+read_size side lengths k low = ap (λ (used : SideArc). lengths used.arc) (read_used side k low)
+
+-- The side with a number.
+pub way_for : (s : ℕ) → s < 4 → (w : Way) × (number w ≡ s)
+way_for zero low = (south, refl)
+way_for (suc zero) low = (east, refl)
+way_for (suc (suc zero)) low = (north, refl)
+way_for (suc (suc (suc zero))) low = (west, refl)
+way_for (suc (suc (suc (suc s)))) low = absurd (omega arith)

@@ -1,0 +1,230 @@
+-- What the tables of a numbering say.
+use Rattle.std.proofs.Common.{◌≡◌, ◌≢◌, ℕ, ◌+◌, ◌-◌, ◌*◌, ◌/◌, ◌%◌, ◌^◌, ◌<◌, ◌≤◌, false, List, [], length, get_or, refl, sym, ◌∙◌, ap, subst, arith}
+use Rattle.std.specs.Prelude.{◌==◌, slice_index}
+use Rattle.std.specs.List.{All}
+use Rattle.std.proofs.lemmas.Bool.{cond-true, cond-false, eq-eqb, ne_eqb}
+use Rattle.std.proofs.lemmas.List.{get_or_read}
+use Rattle.def_math.specs.Counts.{count_below}
+use Rattle.def_math.specs.Runs.{run_at}
+use Rattle.def_layout.specs.declared.tmesh.SideArc.{SideArc}
+use Rattle.def_layout.specs.Laid.{IsLaid}
+use Rattle.def_layout.specs.Layouts.{Way, south, east, north, west, Layout}
+use Rattle.def_layout.specs.Lengths.{Lengths, size, wide, high, AreLengths}
+use Rattle.def_layout.specs.Plans.{Plan, layout_of, number, side_at}
+use Rattle.def_written.specs.Numbers.{vertices, before_arc, before_patch, number as point_name}
+use Rattle.def_written.specs.NewFaces.{cells_before, face_count, patch_of, cell_in}
+use Rattle.def_written.specs.Points.{along, inside, arc_point, use_point, side_point, point}
+use Rattle.def_remesh.specs.NewPoints.{lengths_in}
+use Rattle.def_remesh.specs.Numberings.{sizes_on, table_at, tables_of, used_at, AreStarts, IsNumbering}
+use Rattle.def_remesh.specs.declared.tables.Starts.{Starts}
+use Rattle.def_remesh.specs.declared.tables.Tables.{Tables}
+use Rattle.qm_laws.proofs.Runs.{run_here, run_low, IsInRun}
+use Rattle.qm_reach.proofs.Spots.{last_is, within_run}
+use Rattle.qm_reach.proofs.Whole.{laid_of, read_size, read_used, uses_low, way_for}
+use Rattle.qm_stitch.specs.Sizes.{long_by, table_in, point_on}
+use Rattle.qm_stitch.proofs.Bounds.{vertices_few}
+use Rattle.written_laws.proofs.EdgeNumbers.{in_rows}
+use Rattle.written_laws.proofs.Numbers.{number_low}
+use Rattle.written_laws.proofs.Sides.{arc_inner}
+use Rattle.std.proofs.Math.Nat.{mul_comm}
+
+-- Which side a grid point lies on.
+module _ (l : Layout) (x : Lengths) (p i j : ℕ) where
+  pub on_north : j ≢ 0 → j ≡ high l x p → point l x p i j ≡ side_point l x p north (wide l x p - i)
+  on_north j_some top = cond-false (j == 0) _ _ (ne_eqb j 0 j_some) ∙ cond-true (j == high l x p) _ _ (eq-eqb j (high l x p) top)
+
+  pub on_west : j ≢ 0 → j ≢ high l x p → i ≡ 0 → point l x p i j ≡ side_point l x p west (high l x p - j)
+  on_west j_some j_low none =
+      cond-false (j == 0) _ _ (ne_eqb j 0 j_some) ∙ cond-false (j == high l x p) _ _ (ne_eqb j (high l x p) j_low)
+      ∙ cond-true (i == 0) _ _ (eq-eqb i 0 none)
+
+  pub on_east : j ≢ 0 → j ≢ high l x p → i ≢ 0 → i ≡ wide l x p → point l x p i j ≡ side_point l x p east j
+  on_east j_some j_low i_some end =
+      cond-false (j == 0) _ _ (ne_eqb j 0 j_some) ∙ cond-false (j == high l x p) _ _ (ne_eqb j (high l x p) j_low)
+      ∙ cond-false (i == 0) _ _ (ne_eqb i 0 i_some) ∙ cond-true (i == wide l x p) _ _ (eq-eqb i (wide l x p) end)
+
+  pub on_inside : j ≢ 0 → j ≢ high l x p → i ≢ 0 → i ≢ wide l x p → point l x p i j ≡ inside p i j
+  on_inside j_some j_low i_some i_low =
+      cond-false (j == 0) _ _ (ne_eqb j 0 j_some) ∙ cond-false (j == high l x p) _ _ (ne_eqb j (high l x p) j_low)
+      ∙ cond-false (i == 0) _ _ (ne_eqb i 0 i_some) ∙ cond-false (i == wide l x p) _ _ (ne_eqb i (wide l x p) i_low)
+
+module _ (plan : Plan) (t : Tables) (is : IsNumbering plan t) where
+  abbrev l : Layout
+  l = layout_of plan
+
+  abbrev x : Lengths
+  x = lengths_in t.lengths.items
+
+  pub laid : IsLaid (layout_of plan)
+  laid = laid_of plan is.mesh
+
+  -- All numbers are small.
+  pub all_few : vertices (layout_of plan) (lengths_in t.lengths.items) ≤ 2 ^ 23
+  all_few = omega (arith, vertices_few l x laid is.lengths, is.few)
+
+  -- The tables of a side.
+  pub long_is : (p : ℕ) (s : Way) → p < length plan.patches
+      → long_by (tables_of t.sides.items) p (number s) ≡ size (layout_of plan) (lengths_in t.lengths.items) p s
+  long_is p s low = last_is (sizes_on (side_at plan p s) x) (length (side_at plan p s)) (table_at (tables_of t.sides.items) p s) (is.sides.each p s low)
+
+  pub table_some : (p s : ℕ) → p < length plan.patches → s < 4 → 0 < length (table_in (tables_of t.sides.items) p s)
+  table_some p s low way = by_way (way_for s way)
+    where
+      by_way : (w : Way) × (number w ≡ s) → 0 < length (table_in (tables_of t.sides.items) p s)
+      by_way w = subst (λ (k : ℕ). 0 < length (table_in (tables_of t.sides.items) p k)) w.1 (omega (arith, (is.sides.each p w.0 low).count))
+
+  -- What is read of the tables.
+  pub along_at : (a v : ℕ) → a < length plan.arcs → v ≡ get_or t.along.begin.items a v → v ≡ before_arc (lengths_in t.lengths.items) a
+  along_at a v low read = get_or_read t.along.begin.items a v (omega (arith, low, is.along.count)) read 0 ∙ is.along.each a (omega (arith, low))
+
+  -- An inner point of an arc.
+  pub arc_here : (a k v w : ℕ) → a < length plan.arcs → k ≤ lengths_in t.lengths.items a → k ≢ 0 → k ≢ v
+      → v ≡ get_or t.lengths.items a v → w ≡ get_or t.along.begin.items a w
+      → (t.nodes + w + (k - 1) ≡ point_name l x (arc_point l x a k)) × (t.nodes + w + (k - 1) < 2 ^ 23)
+  arc_here a k v w low upto some other read_v read_w =
+      let long : v ≡ x a = get_or_read t.lengths.items a v (omega (arith, low, is.long)) read_v 0 in
+      let begin : w ≡ before_arc x a = along_at a w low read_w in
+      let less : k < x a = omega (arith, upto, other, long) in
+      let name : t.nodes + w + (k - 1) ≡ l.nodes + before_arc x a + (k - 1) = omega (arith, begin, is.nodes) in (
+        name ∙ ap (point_name l x) (sym (arc_inner l x a k (omega (arith, some)) less)),
+        omega (arith, name, number_low l x (along a k) (low, omega (arith, some), less), all_few),
+      )
+
+  -- A place of a side.
+  pub record IsThere (side : List SideArc) (starts : List ℕ) (place at : ℕ) : Type 0 where
+    pub from : get_or starts at 0 ≤ place
+    pub upto : place - get_or starts at 0 ≤ lengths_in t.lengths.items (get_or side at (record { arc = 0; forward = false })).arc
+    pub point : use_point (layout_of plan) (lengths_in t.lengths.items) (get_or side at (record { arc = 0; forward = false })) (place - get_or starts at 0)
+        ≡ point_on (layout_of plan) (lengths_in t.lengths.items) side place
+
+  pub there : (side : List SideArc) (starts : List ℕ) (place at : ℕ) → 0 < length side
+      → AreStarts (sizes_on side (lengths_in t.lengths.items)) (length side) starts
+      → place ≤ count_below (sizes_on side (lengths_in t.lengths.items)) (length side)
+      → at ≡ run_at (count_below (sizes_on side (lengths_in t.lengths.items))) (length side) place → IsThere side starts place at
+  there side starts place at some are upto same =
+      let low : at < length side = omega (arith, same, run_low (count_below (sizes_on side x)) (length side) place some) in
+      let w = within_run (sizes_on side x) (length side) place some upto in
+      let begin : get_or starts at 0 ≡ count_below (sizes_on side x) at = are.each at (omega (arith, low)) in
+      let begins : count_below (sizes_on side x) at ≡ count_below (sizes_on side x) (run_at (count_below (sizes_on side x)) (length side) place) =
+      ap (count_below (sizes_on side x)) same in
+      let size : sizes_on side x at ≡ sizes_on side x (run_at (count_below (sizes_on side x)) (length side) place) = ap (sizes_on side x) same in
+      record {
+        from = omega (arith, w.0, begin, begins);
+        upto = omega (arith, w.1, begin, begins, size, read_size side x at low);
+        point = (λ i. use_point l x (sym (read_used side at low) i) (place - begin i))
+            ∙ ap (λ m. use_point l x (used_at side m) (place - count_below (sizes_on side x) m)) same;
+      }
+
+  -- A side of a patch and its table.
+  pub record IsBorder (p s : ℕ) (side : List SideArc) (starts : List ℕ) : Type 0 where
+    pub some : 0 < length side
+    pub low : All (λ (used : SideArc). used.arc < length plan.arcs) side
+    pub starts_are : AreStarts (sizes_on side (lengths_in t.lengths.items)) (length side) starts
+    pub long : count_below (sizes_on side (lengths_in t.lengths.items)) (length side) ≡ long_by (tables_of t.sides.items) p s
+
+  pub border : (p s : ℕ) (side : List SideArc) (starts : List ℕ) → p < length plan.patches → s < 4
+      → side ≡ get_or (get_or plan.sides p []) s [] → starts ≡ table_in (tables_of t.sides.items) p s → IsBorder p s side starts
+  border p s side starts low way side_is starts_is =
+      subst (λ (us : List SideArc). IsBorder p s us starts) (sym side_is)
+      (subst (λ (xs : List ℕ). IsBorder p s (get_or (get_or plan.sides p []) s []) xs) (sym starts_is) (by_way (way_for s way)))
+    where
+      by_way : (w : Way) × (number w ≡ s) → IsBorder p s (get_or (get_or plan.sides p []) s []) (table_in (tables_of t.sides.items) p s)
+      by_way w =
+          subst (λ (k : ℕ). IsBorder p k (get_or (get_or plan.sides p []) k []) (table_in (tables_of t.sides.items) p k)) w.1
+          (record {
+            some = laid.paved.sides_full p w.0 low;
+            low = uses_low plan is.mesh p w.0 (length plan.arcs) (side_at plan p w.0) low refl refl;
+            starts_are = is.sides.each p w.0 low;
+            long = sym (long_is p w.0 low);
+          })
+
+  -- The end of a table is the length of its side.
+  pub table_full : (p s : ℕ) (sides : List (List Starts)) (table : List ℕ) → p < length plan.patches → s < 4 → sides ≡ t.sides.items
+      → table ≡ table_in (tables_of sides) p s → 0 < length table
+  table_full p s sides table low way same table_is =
+      subst (λ (xs : List ℕ). 0 < length xs) (sym (table_is ∙ ap (λ (ys : List (List Starts)). table_in (tables_of ys) p s) same)) (table_some p s low way)
+
+  pub size_read : (p : ℕ) (s : Way) (sides : List (List Starts)) (table : List ℕ) (v : ℕ) → p < length plan.patches → sides ≡ t.sides.items
+      → table ≡ table_in (tables_of sides) p (number s) → v ≡ slice_index table (length table - 1)
+      → v ≡ size (layout_of plan) (lengths_in t.lengths.items) p s
+  size_read p s sides table v low same table_is read =
+      read ∙ ap (λ (xs : List ℕ). slice_index xs (length xs - 1)) (table_is ∙ ap (λ (ys : List (List Starts)). table_in (tables_of ys) p (number s)) same)
+      ∙ long_is p s low
+
+  -- The cell with a number.
+  pub record IsCell (f : ℕ) : Type 0 where
+    pub patch_low : patch_of (layout_of plan) (lengths_in t.lengths.items) f < length plan.patches
+    pub from : cells_before (layout_of plan) (lengths_in t.lengths.items) (patch_of (layout_of plan) (lengths_in t.lengths.items) f) ≤ f
+    pub some : 0 < wide (layout_of plan) (lengths_in t.lengths.items) (patch_of (layout_of plan) (lengths_in t.lengths.items) f)
+    pub column : cell_in (layout_of plan) (lengths_in t.lengths.items) f % wide (layout_of plan) (lengths_in t.lengths.items) (patch_of (layout_of plan) (lengths_in t.lengths.items) f)
+        < wide (layout_of plan) (lengths_in t.lengths.items) (patch_of (layout_of plan) (lengths_in t.lengths.items) f)
+    pub row : cell_in (layout_of plan) (lengths_in t.lengths.items) f / wide (layout_of plan) (lengths_in t.lengths.items) (patch_of (layout_of plan) (lengths_in t.lengths.items) f)
+        < high (layout_of plan) (lengths_in t.lengths.items) (patch_of (layout_of plan) (lengths_in t.lengths.items) f)
+
+  pub cell_is : (f : ℕ) → f < face_count (layout_of plan) (lengths_in t.lengths.items) → IsCell f
+  cell_is f low =
+      let h : IsInRun (λ p. wide l x p * high l x p) (length plan.patches) f (patch_of l x f) (cell_in l x f) = run_here (λ p. wide l x p * high l x p) (length plan.patches) f low in
+      let less : cell_in l x f < high l x (patch_of l x f) * wide l x (patch_of l x f) =
+      subst (λ k. cell_in l x f < k) (mul_comm (wide l x (patch_of l x f)) (high l x (patch_of l x f))) h.inside in
+      let r = in_rows (wide l x (patch_of l x f)) (high l x (patch_of l x f)) (cell_in l x f) less in
+      record { patch_low = h.low; from = omega (arith, h.place); some = omega (arith, r.0); column = r.0; row = r.1 }
+
+  -- A face that is found: its patch, where the cells of that begin, and how wide it is.
+  pub record IsFaceAt (f patch begin columns : ℕ) : Type 0 where
+    pub patch_is : patch ≡ patch_of (layout_of plan) (lengths_in t.lengths.items) f
+    pub begin_is : begin ≡ cells_before (layout_of plan) (lengths_in t.lengths.items) (patch_of (layout_of plan) (lengths_in t.lengths.items) f)
+    pub columns_are : columns ≡ wide (layout_of plan) (lengths_in t.lengths.items) (patch_of (layout_of plan) (lengths_in t.lengths.items) f)
+
+  pub column_low : (f patch begin columns : ℕ) → f < face_count (layout_of plan) (lengths_in t.lengths.items) → IsFaceAt f patch begin columns
+      → (f - begin) % columns < wide (layout_of plan) (lengths_in t.lengths.items) patch
+  column_low f patch begin columns low at =
+      let e : (f - begin) % columns ≡ cell_in l x f % wide l x (patch_of l x f) = λ k. (f - at.begin_is k) % at.columns_are k in
+      omega (arith, e, (cell_is f low).column, ap (wide l x) at.patch_is)
+
+  pub row_low : (f patch begin columns : ℕ) → f < face_count (layout_of plan) (lengths_in t.lengths.items) → IsFaceAt f patch begin columns
+      → (f - begin) / columns < high (layout_of plan) (lengths_in t.lengths.items) patch
+  row_low f patch begin columns low at =
+      let e : (f - begin) / columns ≡ cell_in l x f / wide l x (patch_of l x f) = λ k. (f - at.begin_is k) / at.columns_are k in
+      omega (arith, e, (cell_is f low).row, ap (high l x) at.patch_is)
+
+  pub cells_at : (p v : ℕ) → p < length plan.patches → v ≡ get_or t.cells.begin.items p v → v ≡ cells_before (layout_of plan) (lengths_in t.lengths.items) p
+  cells_at p v low read = get_or_read t.cells.begin.items p v (omega (arith, low, is.cells.count)) read 0 ∙ is.cells.each p (omega (arith, low))
+
+  pub inside_at : (p v : ℕ) → p < length plan.patches → v ≡ get_or t.inside.begin.items p v → v ≡ before_patch (layout_of plan) (lengths_in t.lengths.items) p
+  inside_at p v low read = get_or_read t.inside.begin.items p v (omega (arith, low, is.inside.count)) read 0 ∙ is.inside.each p (omega (arith, low))
+
+  -- The end of the arcs' inner points.
+  pub along_end : (list : List ℕ) (v : ℕ) → list ≡ t.along.begin.items → v ≡ slice_index list (length list - 1)
+      → v ≡ before_arc (lengths_in t.lengths.items) (length plan.arcs)
+  along_end list v same read =
+      read ∙ ap (λ (xs : List ℕ). slice_index xs (length xs - 1)) same
+      ∙ last_is (λ a. lengths_in t.lengths.items a - 1) (length plan.arcs) t.along.begin.items is.along
+
+  -- The end of the patches' inner points.
+  pub inside_end : (list : List ℕ) (v : ℕ) → list ≡ t.inside.begin.items → v ≡ slice_index list (length list - 1)
+      → v ≡ before_patch (layout_of plan) (lengths_in t.lengths.items) (length plan.patches)
+  inside_end list v same read =
+      read ∙ ap (λ (xs : List ℕ). slice_index xs (length xs - 1)) same
+      ∙ last_is (λ p. (wide l x p - 1) * (high l x p - 1)) (length plan.patches) t.inside.begin.items is.inside
+
+  -- An inner point of a patch.
+  pub inside_here : (p i j columns begin end : ℕ) → p < length plan.patches → i ≤ wide (layout_of plan) (lengths_in t.lengths.items) p
+      → j ≤ high (layout_of plan) (lengths_in t.lengths.items) p → j ≢ 0 → j ≢ high (layout_of plan) (lengths_in t.lengths.items) p
+      → i ≢ 0 → i ≢ wide (layout_of plan) (lengths_in t.lengths.items) p
+      → columns ≡ wide (layout_of plan) (lengths_in t.lengths.items) p → begin ≡ before_patch (layout_of plan) (lengths_in t.lengths.items) p
+      → end ≡ before_arc (lengths_in t.lengths.items) (length plan.arcs)
+      → (t.nodes + end + begin + ((j - 1) * (columns - 1) + (i - 1)) ≡ point_name l x (point l x p i j))
+      × (t.nodes + end + begin + ((j - 1) * (columns - 1) + (i - 1)) < 2 ^ 23)
+  inside_here p i j columns begin end low i_upto j_upto j_some j_low i_some i_low columns_are begin_is end_is =
+      let product : (j - 1) * (columns - 1) ≡ (j - 1) * (wide l x p - 1) = ap (λ n. (j - 1) * (n - 1)) columns_are in
+      let name : t.nodes + end + begin + ((j - 1) * (columns - 1) + (i - 1)) ≡ point_name l x (inside p i j) =
+      omega (arith, product, begin_is, end_is, is.nodes) in (
+        name ∙ ap (point_name l x) (sym (on_inside l x p i j j_some j_low i_some i_low)),
+        omega (
+          arith,
+          name,
+          all_few,
+          number_low l x (inside p i j)
+              (low, omega (arith, i_some), omega (arith, i_low, i_upto), omega (arith, j_some), omega (arith, j_low, j_upto)),
+        ),
+      )

@@ -1,0 +1,3 @@
+mod Bounds
+mod Built
+mod Grids

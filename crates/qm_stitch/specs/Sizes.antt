@@ -1,0 +1,46 @@
+-- Sizes of sides and patches, as they are read from tables.
+use Rattle.std.specs.Prelude.{◌≡◌, ℕ, ◌+◌, ◌-◌, ◌*◌, ◌<◌, ◌≤◌, List, [], length, slice_index, slice_index_or}
+use Rattle.def_math.specs.Counts.{count_below}
+use Rattle.def_math.specs.Runs.{run_at}
+use Rattle.def_layout.specs.declared.tmesh.SideArc.{SideArc}
+use Rattle.def_layout.specs.Lengths.{Lengths, AreLengths}
+use Rattle.def_layout.specs.Plans.{Plan, layout_of}
+use Rattle.def_layoutnet.specs.MeshLayouts.{IsMeshLayout}
+use Rattle.def_written.specs.NewFaces.{face_count}
+use Rattle.def_written.specs.Points.{Point, use_point}
+use Rattle.def_layout.specs.Layouts.{Layout}
+use Rattle.def_remesh.specs.NewPoints.{lengths_in}
+use Rattle.def_remesh.specs.Numberings.{sizes_on, used_at}
+use Rattle.def_remesh.specs.declared.limits.TheConstants.{MAX_NEW_FACES}
+
+-- Lengths that give no more faces than a new mesh may have.
+pub record IsFine (plan : Plan) (list : List ℕ) : Type 0 where
+  pub mesh : IsMeshLayout plan
+  pub long : length list ≡ length plan.arcs
+  pub lengths : AreLengths (layout_of plan) (lengths_in list)
+  pub few : face_count (layout_of plan) (lengths_in list) ≤ MAX_NEW_FACES
+
+-- The table of a side.
+abbrev pub table_in : (tables : List (List (List ℕ))) (patch side : ℕ) → List ℕ
+table_in tables patch side = slice_index_or (slice_index_or tables patch []) side []
+
+-- How long a side is, by its table.
+abbrev pub long_by : (tables : List (List (List ℕ))) (patch side : ℕ) → ℕ
+long_by tables patch side = slice_index (table_in tables patch side) (length (table_in tables patch side) - 1)
+
+-- The product of width and height of a patch, each less so much.
+abbrev pub product_by : (tables : List (List (List ℕ))) (less patch : ℕ) → ℕ
+product_by tables less patch = (long_by tables patch 0 - less) * (long_by tables patch 3 - less)
+
+-- The tables say how long each side is.
+pub record AreRows (tables : List (List (List ℕ))) (less : ℕ) : Type 0 where
+  pub four : (patch : ℕ) → patch < length tables → length (slice_index_or tables patch []) ≡ 4
+  pub some : (patch side : ℕ) → patch < length tables → side < 4 → 0 < length (table_in tables patch side)
+  pub long : (patch side : ℕ) → patch < length tables → side < 4 → (less ≤ long_by tables patch side) × (0 < long_by tables patch side)
+  pub small : count_below (product_by tables less) (length tables) ≤ 2 * MAX_NEW_FACES * 2
+
+-- The point at a place of a side.
+abbrev pub point_on : (layout : Layout) (lengths : Lengths) (side : List SideArc) (place : ℕ) → Point
+point_on layout lengths side place =
+    let at = run_at (count_below (sizes_on side lengths)) (length side) place in
+    use_point layout lengths (used_at side at) (place - count_below (sizes_on side lengths) at)

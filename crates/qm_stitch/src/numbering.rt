@@ -1,0 +1,59 @@
+//! A numbering of the points and faces of a layout with lengths.
+
+ghost use Rattle.std.specs.Prelude.{◌≡◌, ◌<◌};
+ghost use Rattle.def_layout.specs.Plans.{layout_of, plan, Plan};
+ghost use Rattle.def_written.specs.NewFaces.{face_count, new_face};
+ghost use Rattle.def_written.specs.Numbers.{vertices};
+ghost use Rattle.def_remesh.specs.NewPoints.{lengths_in};
+ghost use Rattle.def_remesh.specs.Numberings.{HoldsFor, IsNumbering};
+
+use crate::build::last_of;
+use crate::face::face_of;
+use def_layout::TMesh;
+use def_remesh::Tables;
+use std::marker::Model;
+
+/// The numbers of the points of a layout with lengths. Contracts see its tables.
+#[derive(Debug, Drop)]
+pub struct Numbering {
+    pub(crate) tables: Tables,
+}
+
+impl Model for Numbering {
+    ghost use Rattle.def_remesh.specs.declared.tables.Tables.{Tables};
+
+    ghost Value = { Tables };
+
+    ghost view = { λ n. n.tables };
+
+    ghost invariant = { λ n. Unit {0} };
+}
+
+impl Numbering {
+    /// How many vertices there are.
+    pub fn vertices(&self) -> u32
+        requires { HoldsFor self.now }
+        ensures { (plan : Plan) → IsNumbering plan self.now
+            → result ≡ vertices (layout_of plan) (lengths_in self.now.lengths.items) }
+    {
+        self.tables.nodes + last_of(&self.tables.along.begin) + last_of(&self.tables.inside.begin)
+    }
+
+    /// How many faces there are.
+    pub fn faces(&self) -> u32
+        requires { HoldsFor self.now }
+        ensures { (plan : Plan) → IsNumbering plan self.now
+            → result ≡ face_count (layout_of plan) (lengths_in self.now.lengths.items) }
+    {
+        last_of(&self.tables.cells.begin)
+    }
+
+    /// Face f, for the layout that was numbered.
+    pub fn face(&self, t: &TMesh, f: u32) -> [u32; 4]
+        requires numbering { IsNumbering (plan t.now) self.now }
+        requires face { f < face_count (layout_of (plan t.now)) (lengths_in self.now.lengths.items) }
+        ensures { result ≡ new_face (layout_of (plan t.now)) (lengths_in self.now.lengths.items) f }
+    {
+        face_of(&self.tables, t, f)
+    }
+}
