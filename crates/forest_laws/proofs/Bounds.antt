@@ -47,7 +47,7 @@ just_once s z (e ∷ es) one = by_test (crosses s e) one (just_once s z es) (onc
 
 module _ (g : Graph) (is : IsGraph g) (f : Forest) (vertices : g.n ≤ f.size) (nested : IsNested (darts_of g) f) where
   -- An edge that leaves a vertex ends there.
-  leaves_vertex : (v k : ℕ) → v < g.n → k < length g.edges → ◌≡◌ {A = ℕ} (cond (crosses (f.holds v) (edge_at g k)) 1 0) (ends_at v (edge_at g k))
+  pub leaves_vertex : (v k : ℕ) → v < g.n → k < length g.edges → ◌≡◌ {A = ℕ} (cond (crosses (f.holds v) (edge_at g k)) 1 0) (ends_at v (edge_at g k))
   leaves_vertex v k lv lk =
       ap (λ (s : Bool). cond (cond s (not (f.holds v (edge_at g k).v)) (f.holds v (edge_at g k).v)) 1 0) (nested.alone v (edge_at g k).u lv (is.left k lk) ∙ eqb_order v (edge_at g k).u)
       ∙ (ap (λ (s : Bool). cond (cond (eqb (edge_at g k).u v) (not s) s) 1 0) (nested.alone v (edge_at g k).v lv (is.right k lk) ∙ eqb_order v (edge_at g k).v)

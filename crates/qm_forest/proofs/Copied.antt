@@ -1,10 +1,9 @@
 -- The list that the vertices of a blossom are copied to.
-use Rattle.std.proofs.Common.{◌≡◌, ◌≢◌, ℕ, ◌+◌, ◌<◌, ◌≤◌, ◌++◌, Bool, true, List, [], ◌∷◌, length, get_or, ◌⊎◌, sym, ◌∙◌, ap, subst, inl, inr, arith}
+use Rattle.std.proofs.Common.{◌≡◌, ℕ, ◌+◌, ◌<◌, ◌≤◌, ◌++◌, true, List, [], ◌∷◌, length, get_or, ◌⊎◌, sym, ◌∙◌, ap, subst, inl, inr, arith}
 use Rattle.std.proofs.lemmas.Bool.{cases_lt}
 use Rattle.std.proofs.lemmas.List.{get_or_append_left, get_or_push}
 use Rattle.def_forest.specs.Forests.{walk}
 use Rattle.def_forest.specs.Tables.{ForestTables, climbs, up_at}
-use Rattle.forest_laws.specs.Walks.{listed}
 use Rattle.forest_laws.proofs.Walks.{listed_place}
 use Rattle.qm_forest.specs.Gathers.{IsListAt}
 use Rattle.qm_forest.specs.Ties.{AreTied, HiddenTables, IsInUse, IsListed}

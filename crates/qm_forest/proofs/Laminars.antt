@@ -1,9 +1,9 @@
 -- What tied tables say of how blossoms lie in each other, and the two parts that a joint joins.
-use Rattle.std.proofs.Common.{◌≡◌, ◌≢◌, ℕ, zero, suc, ◌+◌, ◌*◌, ◌^◌, ◌<◌, ◌≤◌, Bool, true, false, eqb, List, length, get_or, ◌⊎◌, refl, sym, ◌∙◌, ap, subst, inl, inr, arith}
-use Rattle.std.proofs.lemmas.Bool.{cases_eq, cases_lt, cases_Bool, eq-eqb, ne_eqb}
+use Rattle.std.proofs.Common.{◌≡◌, ◌≢◌, ℕ, suc, ◌*◌, ◌<◌, ◌≤◌, true, eqb, length, get_or, ◌⊎◌, refl, sym, ◌∙◌, ap, subst, inl, inr, arith}
+use Rattle.std.proofs.lemmas.Bool.{cases_eq, cases_lt, eq-eqb, ne_eqb}
 use Rattle.def_matching.specs.Matching.{Graph, IsSmallGraph}
 use Rattle.def_forest.specs.Darts.{AreDarts, darts_of, twin_of}
-use Rattle.def_forest.specs.Forests.{Forest, number, walk}
+use Rattle.def_forest.specs.Forests.{walk}
 use Rattle.def_forest.specs.Tables.{ForestTables, forest_of, climbs, out_of, up_at, IsValidFor}
 use Rattle.def_forest.specs.Valid.{IsJoint, IsRing}
 use Rattle.forest_laws.proofs.Facts.{far_low}

@@ -35,5 +35,7 @@ pub mod Withins
 pub mod Pairings
 pub mod Laminars
 pub mod RingRounds
+pub mod Waitings
+pub mod Chosens
 pub mod Openings
 pub mod Openeds

@@ -9,12 +9,12 @@ use Rattle.def_forest.specs.Valid.{IsRing}
 use Rattle.forest_laws.specs.Walks.{listed}
 use Rattle.forest_laws.proofs.Circles.{IsCircle, circle_from}
 use Rattle.forest_laws.proofs.Walks.{listed_at, listed_closed, listed_place, walk_front}
-use Rattle.qm_forest.specs.Rounds.{IsEntry, IsLaminar, IsPairing, IsRound, entered, far_at, near_at, waits_but, within}
+use Rattle.qm_forest.specs.Rounds.{IsLaminar, IsPairing, IsRound, entered, far_at, near_at, waits_but, within}
 use Rattle.qm_forest.proofs.Apart.{walk_stays}
 use Rattle.qm_forest.proofs.Enclosed.{climbs_here}
 use Rattle.qm_forest.proofs.Nests.{climbs_place}
 use Rattle.std.proofs.lemmas.Bool.{cases_Bool, cond-true, cond-false}
-use Rattle.qm_forest.proofs.Laminars.{alone, another, part_rank, ring_around, ring_pairing, x_low}
+use Rattle.qm_forest.proofs.Laminars.{alone, another, ring_around, ring_pairing, x_low}
 use Rattle.qm_forest.proofs.Pairings.{entered_size, entry_cases, paired_round}
 use Rattle.qm_forest.proofs.Withins.{climb_law, in_where, rank_walk, ring_front}
 

@@ -1,7 +1,10 @@
 -- Choosing the matched edges within blossoms: which are chosen, and which blossoms wait.
-use Rattle.std.specs.Prelude.{◌≡◌, ◌≢◌, ℕ, ◌+◌, ◌*◌, ◌^◌, ◌<◌, ◌≤◌, ◌&&◌, nat_lt, Bool, not, true, false, if◌then◌else◌}
+use Rattle.std.specs.Prelude.{◌≡◌, ◌≢◌, ℕ, ◌+◌, ◌*◌, ◌^◌, ◌<◌, ◌≤◌, ◌&&◌, nat_lt, Bool, true, false, if◌then◌else◌}
 use Rattle.std.specs.Prelude.{List, length, slice_index, slice_index_or, slice_set, Option, Some, None}
-use Rattle.def_math.specs.Counts.{count_below}
+use Rattle.std.specs.List.{All, Contains}
+use Rattle.std.specs.List.Sorted.{IsNonDecreasingBy}
+use Rattle.def_math.specs.Counts.{count, count_below}
+use Rattle.def_math.specs.Rising.{IsRising}
 use Rattle.def_matching.specs.Matching.{Graph, Vertex, IsSmallGraph}
 use Rattle.def_forest.specs.Darts.{Dart, darts_of, twin_of}
 use Rattle.def_forest.specs.Forests.{Blossom, IsTight, number, splits}
@@ -23,8 +26,8 @@ far_at t d = slice_index t.near (twin_of d)
 -- How many of the chosen edges leave a blossom.
 abbrev pub leaving : (t : ForestTables) (marks : List Bool) (b : Blossom) → ℕ
 leaving t marks b =
-    count_below (λ e. number (slice_index_or marks e false && splits ((forest_of t).holds b) (near_at t (2 * e)) (near_at t (2 * e + 1))))
-    (length marks)
+    count_below (λ e. number (slice_index_or marks e false
+    && splits ((forest_of t).holds b) (near_at t (2 * e)) (near_at t (2 * e + 1)))) (length marks)
 
 -- 1 where blossom b lies in c and does not hold a vertex: of the blossoms in c all but those around it wait.
 abbrev pub waits_but : (t : ForestTables) (b c : Blossom) (v : Vertex) → ℕ
@@ -97,3 +100,32 @@ pub record IsPairing (t : ForestTables) (x y : Blossom) (d : Dart) : Type 0 wher
 -- A set waits from now on; a single vertex does not.
 abbrev pub entered : (n : ℕ) (left_out : List (Option Vertex)) (c : Blossom) (v : Vertex) → List (Option Vertex)
 entered n left_out c v = if nat_lt c n then left_out else slice_set left_out c (Some v)
+
+-- A set that is in use, with how many vertices it has.
+pub record IsSized (t : ForestTables) (bound : ℕ) (sized : ℕ × Blossom) : Type 0 where
+  pub rank : sized.0 ≡ slice_index t.rank sized.1
+  pub high : length t.hand ≤ sized.1
+  pub low : sized.1 < bound
+  pub live : slice_index t.parts sized.1 ≢ 0
+
+-- A list has all sets below a number that are in use.
+pub record HasSets (t : ForestTables) (bound : ℕ) (sets : List (ℕ × Blossom)) : Type 0 where
+  pub each : All (IsSized t bound) sets
+  pub all : (b : Blossom) → length t.hand ≤ b → b < bound → slice_index t.parts b ≢ 0
+      → Contains sets (slice_index t.rank b, b)
+
+-- All sets in use, those with fewer vertices first.
+pub record AreInOrder (t : ForestTables) (sets : List (ℕ × Blossom)) : Type 0 where
+  pub has : HasSets t (length t.up) sets
+  pub rising : IsNonDecreasingBy (λ (set : ℕ × Blossom). set.0) sets
+
+-- Each set that waits is one of the first of a list.
+abbrev pub WaitWithin : (left_out : List (Option Vertex)) (sets : List (ℕ × Blossom)) (many : ℕ) → Type 0
+WaitWithin left_out sets many = (c : Blossom) (v : Vertex) → slice_index_or left_out c None ≡ Some v
+    → (k : ℕ) × (k < many) × (k < length sets) × ((slice_index_or sets k (0, 0)).1 ≡ c)
+
+-- The numbers at which marks stand, in rising order.
+pub record AreMarked (marks : List Bool) (bound : ℕ) (list : List ℕ) : Type 0 where
+  pub rising : IsRising 0 bound list
+  pub each : (k : ℕ) → k < length list → slice_index_or marks (slice_index list k) false ≡ true
+  pub counts : (f : ℕ → ℕ) → count f list ≡ count_below (λ e. if slice_index_or marks e false then f e else 0) bound

@@ -1,11 +1,13 @@
 //! Choosing the matched edges within blossoms, from the outermost ones inwards.
 
-ghost use Rattle.std.specs.Prelude.{◌≡◌, ◌≢◌, ◌+◌, ◌-◌, ◌*◌, ◌/◌, ◌<◌, ◌≤◌, ◌⊎◌, ℕ, true, length, slice_index, slice_index_or};
+ghost use Rattle.std.specs.Prelude.{◌≡◌, ◌≢◌, ◌+◌, ◌-◌, ◌*◌, ◌/◌, ◌<◌, ◌≤◌, ◌⊎◌, ℕ, true, length, slice_index};
+ghost use Rattle.std.specs.Prelude.{slice_index_or};
 ghost use Rattle.std.specs.Prelude.{slice_set, Some, None};
 ghost use Rattle.def_forest.specs.Forests.{Blossom, number, ring_sum};
 ghost use Rattle.def_matching.specs.Matching.{Graph, IsSmallGraph, Vertex};
 ghost use Rattle.def_forest.specs.Tables.{forest_of, up_at, IsValidFor};
-ghost use Rattle.qm_forest.specs.Rounds.{IsRound, HasRoom, IsPairing, within, waits_but, entered, near_at, far_at};
+ghost use Rattle.qm_forest.specs.Rounds.{IsRound, HasRoom, IsPairing, AreInOrder, within, waits_but, entered};
+ghost use Rattle.qm_forest.specs.Rounds.{near_at, far_at};
 
 use crate::darts::twin;
 use crate::forest::Forest;
@@ -67,9 +69,10 @@ impl Forest {
         requires inner { up_at self.now.up p ≢ p }
         requires low { p < length self.now.up }
         ensures room { HasRoom self.now round.new }
-        ensures done { (rest due : Blossom → ℕ) → IsRound self.now round.old.marks.items round.old.left_out.items
-            (λ b. ring_sum (slice_index self.now.after) (λ r. number (within self.now b r)) (slice_index self.now.after p)
-            (slice_index self.now.parts (up_at self.now.up p) - 1) + rest b) due
+        ensures done { let after = slice_index self.now.after in
+            let many = slice_index self.now.parts (up_at self.now.up p) in
+            (rest due : Blossom → ℕ) → IsRound self.now round.old.marks.items round.old.left_out.items
+            (λ b. ring_sum after (λ r. number (within self.now b r)) (after p) (many - 1) + rest b) due
             → IsRound self.now round.new.marks.items round.new.left_out.items rest due }
         ensures entries { (c : Blossom) (v : Vertex) → slice_index_or round.new.left_out.items c None ≡ Some v
             → (slice_index_or round.old.left_out.items c None ≡ Some v)
@@ -105,4 +108,52 @@ impl Forest {
             p = self.up_at(p);
         }
     }
+
+    /// Matches a set that waits: from now on it does not, and parts of it may.
+    fn match_set(&self, c: u32, round: &mut Round)
+        requires room { HasRoom self.now round.old }
+        requires valid { (g : Graph) × IsSmallGraph g × IsValidFor g self.now }
+        requires begun { (rest : Blossom → ℕ) × (due : Blossom → ℕ)
+            × IsRound self.now round.old.marks.items round.old.left_out.items rest due }
+        requires low { c < length self.now.up }
+        ensures room { HasRoom self.now round.new }
+        ensures done { (rest due : Blossom → ℕ)
+            → IsRound self.now round.old.marks.items round.old.left_out.items rest due
+            → IsRound self.now round.new.marks.items round.new.left_out.items rest due }
+        ensures entries { (b : Blossom) (w : Vertex) → slice_index_or round.new.left_out.items b None ≡ Some w
+            → ((slice_index_or round.old.left_out.items b None ≡ Some w) × (b ≢ c))
+            ⊎ (slice_index self.now.rank b < slice_index self.now.rank c) }
+    {
+        if let Some(v) = round.left_out[c as usize] {
+            round.left_out[c as usize] = None;
+            self.match_up(c, v, round);
+        }
+    }
+
+    /// Matches all sets that wait, and those that wait then: those with more vertices first.
+    pub(crate) fn match_waiting(&self, sets: &[(u32, u32)], round: &mut Round)
+        requires room { HasRoom self.now round.old }
+        requires valid { (g : Graph) × IsSmallGraph g × IsValidFor g self.now }
+        requires sets { AreInOrder self.now sets.now }
+        requires begun { (rest : Blossom → ℕ) × (due : Blossom → ℕ)
+            × IsRound self.now round.old.marks.items round.old.left_out.items rest due }
+        ensures room { HasRoom self.now round.new }
+        ensures done { (rest due : Blossom → ℕ)
+            → IsRound self.now round.old.marks.items round.old.left_out.items rest due
+            → IsRound self.now round.new.marks.items round.new.left_out.items rest due }
+        ensures ended { (c : Blossom) → slice_index_or round.new.left_out.items c None ≡ None }
+    {
+        let count = sets.len();
+        for k in 0..count {
+            self.match_set(set_at(sets, count - 1 - k), round);
+        }
+    }
+}
+
+/// The set at a place of a list.
+fn set_at(sets: &[(u32, u32)], k: usize) -> u32
+    requires { k < length sets.now }
+    ensures { result ≡ (slice_index_or sets.now k (0, 0)).1 }
+{
+    sets[k].1
 }

@@ -1,4 +1,4 @@
-use Rattle.std.proofs.Common.{◌≡◌, ℕ, ◌+◌, ◌-◌, ◌<◌, ◌≤◌, ◌⊎◌, cond, length, get_or, sym, ◌∙◌, ap, subst, inl, inr, arith, Some, None}
+use Rattle.std.proofs.Common.{◌≡◌, ℕ, ◌+◌, ◌<◌, ◌⊎◌, cond, length, get_or, sym, ◌∙◌, ap, subst, inl, inr, arith, Some, None}
 use Rattle.def_forest.specs.Forests.{walk}
 use Rattle.def_forest.specs.Tables.{up_at}
 use Rattle.qm_forest.specs.Rounds.{IsRound, waits_but, within}

@@ -1,4 +1,4 @@
-use Rattle.std.proofs.Common.{◌≡◌, ◌≤◌, ℕ, length, get_or, pos, sym, subst, ◌∙◌, ap, arith, ℤ}
+use Rattle.std.proofs.Common.{◌≤◌, get_or, pos, sym, subst, arith, ℤ}
 use Rattle.std.specs.Prelude.{unsigned_abs}
 use Rattle.std.proofs.lemmas.Result.{IfOk-weaker}
 use Rattle.qm_forest.proofs.forest.Forest.new.Goals as goal

@@ -1,0 +1,11 @@
+use Rattle.std.proofs.Common.{◌+◌, ◌≤◌, length}
+use Rattle.std.specs.Vec.{vec_capacity}
+use Rattle.qm_forest.specs.Rounds.{HasSets}
+use Rattle.qm_forest.proofs.forest.Forest.list_sets.Given as goal
+
+abbrev pub invariant-loop-b : goal.invariant-loop-b
+invariant-loop-b l = record {
+  count : length l.sets.items + length l.self.hand ≤ l.b;
+  room : length l.self.up ≤ length l.self.hand + vec_capacity l.sets;
+  has : HasSets l.self l.b l.sets.items;
+}
