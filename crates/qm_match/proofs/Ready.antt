@@ -1,0 +1,87 @@
+-- Searches that are about to begin, and edges that are matched before.
+use Rattle.std.proofs.Common.{◌≡◌, ◌≢◌, ℕ, ◌+◌, ◌*◌, ◌/◌, ◌<◌, ◌≤◌, List, length, get_or, Option, Some, None, is_some, Bool, cond, eqb, true, false, ℤ, pos, refl, sym, ◌∙◌, ap, subst, arith}
+use Rattle.std.specs.Prelude.{int_lt}
+use Rattle.std.proofs.lemmas.Int.{ints}
+use Rattle.std.proofs.lemmas.Bool.{cond-false}
+use Rattle.def_matching.specs.Matching.{Graph, IsCheap, IsSmallGraph, edge_at}
+use Rattle.def_forest.specs.Darts.{darts_of}
+use Rattle.def_forest.specs.Forests.{Forest, set_at}
+use Rattle.qm_match.specs.Made.{IsMadeFor}
+use Rattle.def_forest.specs.Steps.{rooted, IsAugmented}
+use Rattle.def_forest.specs.Tables.{ForestTables, forest_of, kind_by, kind_of, slack_of, IsValidFor}
+use Rattle.def_forest.specs.Valid.{IsValid}
+use Rattle.def_forest.specs.declared.kinds.EdgeKind.TheVariants.{Augment, Grow, Loose}
+use Rattle.def_forest.specs.declared.kinds.Label.{Label}
+use Rattle.def_forest.specs.declared.kinds.Label.TheVariants.{Outer, Inner, Outside}
+use Rattle.forest_laws.proofs.Writes.{set_here, set_there}
+use Rattle.search_laws.specs.Searches.{IsInRange}
+use Rattle.search_laws.proofs.Risen.{range_begun}
+use Rattle.search_laws.proofs.Stepped.{range_same}
+use Rattle.qm_match.specs.Fans.{AreFans, IsOn}
+use Rattle.qm_match.specs.States.{IsFreeEdge, IsIdle, IsMade, IsReady}
+use Rattle.qm_match.specs.declared.search.Search.{Search}
+use Rattle.qm_match.proofs.Taken.{made_after}
+
+-- The tables that are ready fit the graph for which the matcher is made.
+pub ready_idle : (g : Graph) (s : Search) → IsSmallGraph g → IsCheap g → IsReady s → IsMadeFor g s.forest → IsIdle g s
+ready_idle g s small cheap ready for = record {
+  made = record {
+    small = small;
+    cheap = cheap;
+    fans = record {
+      vertices = ready.vertices ∙ for.valid.vertices;
+      darts = ready.darts ∙ for.valid.darts;
+      firsts = λ v. subst (λ n. get_or s.fans.first.items v 0 ≤ n) for.valid.darts (ready.firsts v);
+      nexts = ready.nexts;
+      all = λ d l. subst (λ w. IsOn s.fans.next.items (get_or s.fans.first.items w 0) d) (for.valid.ends d l) (ready.all d (subst (λ n. d < n) (sym for.valid.darts) l));
+    };
+    size = for.size;
+    leaves = omega (arith, ready.leaves, for.valid.darts, halves);
+    marks = subst (λ n. length s.inner.items ≡ n + n / 2) for.valid.vertices ready.marks;
+    members = omega (arith, ready.members, for.valid.vertices);
+    parts = omega (arith, ready.parts, for.valid.vertices);
+  };
+  valid = for.valid;
+  no_tree = for.no_tree;
+  few = ready.few;
+  range = subst (λ r. IsInRange (forest_of s.forest) r) (sym ready.risen) (range_begun g.n (forest_of s.forest) for.size for.sets (for.small cheap));
+}
+  where
+    halves : length s.forest.hand / 2 ≡ g.n / 2
+    halves = ap (λ n. n / 2) for.valid.vertices
+
+-- Chains that fit a graph fit the forest's table of darts.
+pub chains_ready : (g : Graph) (t : ForestTables) (first next : List ℕ) → AreFans g first next → IsValidFor g t → (d : ℕ) → d < length t.near → IsOn next (get_or first (get_or t.near d 0) 0) d
+chains_ready g t first next fans valid d l =
+    let low : d < 2 * length g.edges = subst (λ n. d < n) valid.darts l in
+    subst (λ w. IsOn next (get_or first w 0) d) (sym (valid.ends d low)) (fans.all d low)
+
+by_kind : (a b : Label) (ma mb : Option ℕ) (same : Bool) → a ≡ Outer → b ≡ Outside → mb ≡ None → kind_by a b ma mb same ≡ Augment
+by_kind Outer Outside ma None same ea eb em = refl
+by_kind Outer Outside ma (Some m) same ea eb em = absurd (cc em)
+by_kind Outer Outer ma mb same ea eb em = absurd (cc eb)
+by_kind Outer Inner ma mb same ea eb em = absurd (cc eb)
+by_kind Inner b ma mb same ea eb em = absurd (cc ea)
+by_kind Outside b ma mb same ea eb em = absurd (cc ea)
+
+no_slack : (x : ℤ) → x ≡ pos 0 → int_lt (pos 0) x ≡ false
+no_slack x e = subst (λ y. int_lt (pos 0) y ≡ false) (sym e) refl
+
+-- A free edge may be matched once its one end is the root.
+pub free_augments : (g : Graph) (f : Forest) (e : ℕ) → IsValid (darts_of g) f None → IsFreeEdge g f e → kind_of g (rooted f (f.out (edge_at g e).u)) e ≡ Augment
+free_augments g f e valid free = cond-false (int_lt (pos 0) (slack_of g f e)) Loose _ (no_slack (slack_of g f e) (omega (arith, ints, free.tight)))
+    ∙ by_kind _ _ (f.mate (f.out (edge_at g e).u)) (f.mate (f.out (edge_at g e).v)) _ (set_here f.label (f.out (edge_at g e).u) Outer)
+    (set_there f.label (f.out (edge_at g e).u) (f.out (edge_at g e).v) Outer (λ same. free.apart (sym same)) ∙ valid.no_tree refl (f.out (edge_at g e).v)) free.right
+
+-- Then no search goes on.
+pub matched_idle : (g : Graph) (old : Search) (t u : ForestTables) (b d : ℕ) → IsIdle g old → forest_of t ≡ rooted (forest_of old.forest) b → IsValidFor g u → u.root ≡ None → (r : ℕ) × (t.root ≡ Some r) × IsAugmented (darts_of g) (forest_of t) (forest_of u) r d → IsIdle g (record old { forest = u })
+matched_idle g old t u b d idle rooted_is valid root w = record {
+  made = made_after g old u idle.made size;
+  valid = valid;
+  no_tree = root;
+  few = idle.few;
+  range = range_same (forest_of old.forest) (forest_of u) old.risen size (λ x. ap (λ (f : Forest). f.weight x) w.2.changed ∙ ap (λ (f : Forest). f.weight x) rooted_is) idle.range;
+}
+  where
+    size : (forest_of u).size ≡ (forest_of old.forest).size
+    size = ap (λ (f : Forest). f.size) w.2.changed ∙ ap (λ (f : Forest). f.size) rooted_is
