@@ -30,6 +30,7 @@ impl Forest {
         ensures empty { IfOk result (λ f. (b : Blossom) → (forest_of f).mate b ≡ None) }
         ensures no_tree { IfOk result (λ f. f.root ≡ None) }
         ensures size { IfOk result (λ f. length f.up ≡ g.now.n + g.now.n / 2) }
+        ensures sets { IfOk result (λ f. (b : Blossom) → g.now.n ≤ b → (forest_of f).weight b ≡ pos 0) }
         ensures small { IfOk result (λ f. (c : ℕ)
             → ((e : ℕ) → e < length g.now.edges.items → unsigned_abs (edge_at (graph g.now) e).cost ≤ c)
             → (b : Blossom) → unsigned_abs ((forest_of f).weight b) ≤ c) }

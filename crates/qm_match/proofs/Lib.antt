@@ -3,3 +3,4 @@ mod Mended
 mod Refreshed
 mod Taken
 mod Turned
+mod Ready

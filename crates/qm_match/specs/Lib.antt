@@ -1,2 +1,3 @@
 pub mod Fans
+pub mod Made
 pub mod States

@@ -1,14 +1,15 @@
 -- The states of a search.
 use Rattle.std.specs.Prelude.{◌≡◌, ◌≢◌, ℕ, ◌+◌, ◌*◌, ◌/◌, ◌<◌, ◌≤◌, ◌⊎◌, true, false, List, length, None, Some}
-use Rattle.std.specs.Prelude.{slice_index, slice_index_or}
+use Rattle.std.specs.Prelude.{slice_index, slice_index_or, unsigned_abs}
 use Rattle.std.specs.Vec.{vec_capacity}
-use Rattle.def_matching.specs.Matching.{Graph, Vertex, EdgeNumber, IsCheap, IsPerfect, IsSmallGraph}
-use Rattle.def_forest.specs.Forests.{Blossom}
-use Rattle.def_forest.specs.Tables.{ForestTables, forest_of, IsValidFor}
+use Rattle.def_matching.specs.Matching.{Graph, Vertex, EdgeNumber, edge_at, IsCheap, IsPerfect, IsSmallGraph}
+use Rattle.def_forest.specs.Darts.{Dart}
+use Rattle.def_forest.specs.Forests.{Blossom, Forest}
+use Rattle.def_forest.specs.Tables.{ForestTables, forest_of, slack_of, IsValidFor}
 use Rattle.def_forest.specs.declared.kinds.Label.TheVariants.{Inner}
 use Rattle.search_laws.specs.Keys.{Leaf, no_key, leaf_of, true_key, AreLow, AreRightAt, IsMended}
 use Rattle.search_laws.specs.Searches.{AreMarked, AreMatchedBefore, IsInRange, IsSeeking}
-use Rattle.qm_match.specs.Fans.{AreFans}
+use Rattle.qm_match.specs.Fans.{AreFans, IsOn}
 use Rattle.qm_match.specs.declared.search.Search.{Search}
 
 -- The tables have room for a graph.
@@ -75,3 +76,25 @@ pub record IsFreshAt (g : Graph) (s : Search) (b : Blossom) : Type 0 where
       → slice_index s.tour (leaf_of g b) ≡ true_key g (forest_of s.forest) s.risen (leaf_of g b)
   pub edges : (forest_of s.forest).label b ≢ Inner
       → AreRightAt g (forest_of s.forest) s.risen s.tour ((forest_of s.forest).holds b)
+
+-- The tables have room for the graphs for which their forest is valid, and no search has begun.
+pub record IsReady (s : Search) : Type 0 where
+  pub vertices : length s.fans.first.items ≡ length s.forest.hand
+  pub darts : length s.fans.next.items ≡ length s.forest.near
+  pub firsts : (v : Vertex) → slice_index s.fans.first.items v ≤ length s.forest.near
+  pub nexts : (d : Dart) → slice_index s.fans.next.items d ≤ d
+  pub all : (d : Dart) → d < length s.forest.near
+      → IsOn s.fans.next.items (slice_index s.fans.first.items (slice_index s.forest.near d)) d
+  pub leaves : 2 * length s.tour ≡ length s.forest.near + 2 * (length s.forest.hand / 2 + 1)
+  pub marks : length s.inner.items ≡ length s.forest.hand + length s.forest.hand / 2
+  pub members : length s.forest.hand ≤ vec_capacity s.members
+  pub parts : length s.forest.hand ≤ vec_capacity s.parts
+  pub few : (k : Leaf) → k < length s.tour → slice_index s.tour k ≤ no_key
+  pub risen : s.risen ≡ 0
+
+-- A tight edge joins two outermost blossoms that are not matched.
+pub record IsFreeEdge (g : Graph) (f : Forest) (e : EdgeNumber) : Type 0 where
+  pub apart : f.out (edge_at g e).u ≢ f.out (edge_at g e).v
+  pub left : f.mate (f.out (edge_at g e).u) ≡ None
+  pub right : f.mate (f.out (edge_at g e).v) ≡ None
+  pub tight : unsigned_abs (slack_of g f e) ≡ 0

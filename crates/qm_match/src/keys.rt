@@ -20,7 +20,7 @@ fn key_after(gap: u128, risen: u64) -> u64
 
 impl Search {
     /// The slack of an edge.
-    fn gap(&self, g: &WGraph, e: u32) -> u128
+    pub(crate) fn gap(&self, g: &WGraph, e: u32) -> u128
         requires made { IsMade (graph g.now) self.now }
         requires valid { IsValidFor (graph g.now) self.now.forest }
         requires edge { e < length g.now.edges.items }

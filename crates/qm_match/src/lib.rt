@@ -5,6 +5,7 @@ mod fans;
 mod keys;
 mod mending;
 mod search;
+mod start;
 mod steps;
 mod turns;
 

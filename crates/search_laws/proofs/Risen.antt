@@ -1,5 +1,5 @@
 -- How far the sum of the weights rises, and so how large keys and weights are.
-use Rattle.std.proofs.Common.{◌≡◌, ℕ, zero, suc, ◌+◌, ◌-◌, ◌*◌, ◌<◌, ◌≤◌, ◌^◌, Bool, true, false, eqb, List, [], ◌∷◌, length, map, Option, Some, ℤ, pos, ◌+ℤ◌, ◌*ℤ◌, ◌≤ℤ◌, ◌⊎◌, refl, sym, subst, inl, inr, arith}
+use Rattle.std.proofs.Common.{◌≡◌, ℕ, zero, suc, ◌+◌, ◌-◌, ◌*◌, ◌/◌, ap, ◌∙◌, ◌<◌, ◌≤◌, ◌^◌, Bool, true, false, eqb, List, [], ◌∷◌, length, map, Option, Some, ℤ, pos, ◌+ℤ◌, ◌*ℤ◌, ◌≤ℤ◌, ◌⊎◌, refl, sym, subst, inl, inr, arith}
 use Rattle.std.specs.Int.RustNames.{unsigned_abs}
 use Rattle.std.proofs.lemmas.Int.{ints}
 use Rattle.std.proofs.lemmas.Bool.{cases_lt}
@@ -23,29 +23,62 @@ use Rattle.forest_laws.proofs.Graphs.{are_darts}
 use Rattle.forest_laws.proofs.Rises.{sum_rises}
 use Rattle.forest_laws.proofs.Shifts.{shift_valid}
 use Rattle.search_laws.specs.Keys.{no_key, edge_key_by, set_key_by, set_of, true_key}
-use Rattle.search_laws.specs.Searches.{IsInRange, risen_limit}
+use Rattle.search_laws.specs.Searches.{IsInRange, first_limit, risen_limit}
 use Rattle.search_laws.proofs.Keys.{at_edge, at_set, lawful}
 
--- The greatest of the costs' absolute values.
-greatest : (g : Graph) → IsCheap g → (k : ℕ) → k ≤ length g.edges → (most : ℕ) × ((e : ℕ) → e < k → unsigned_abs (edge_at g e).cost ≤ most) × (g.n * most ≤ MAX_PRODUCT)
-greatest g cheap zero l = (0, (λ e le. absurd (omega (arith, le))), omega arith)
-greatest g cheap (suc k) l = by_rest (greatest g cheap k (omega (arith, l)))
+-- The greatest of some numbers, where the product of each with another is small.
+pub greatest_of : (f : ℕ → ℕ) (n limit k : ℕ) → ((i : ℕ) → i < k → n * f i ≤ limit) → (most : ℕ) × ((i : ℕ) → i < k → f i ≤ most) × (n * most ≤ limit)
+greatest_of f n limit zero few = (0, (λ i l. absurd (omega (arith, l))), omega arith)
+greatest_of f n limit (suc k) few = by_rest (greatest_of f n limit k (λ i l. few i (omega (arith, l))))
   where
-    by_order : (most : ℕ) → ((e : ℕ) → e < k → unsigned_abs (edge_at g e).cost ≤ most) → g.n * most ≤ MAX_PRODUCT → (unsigned_abs (edge_at g k).cost < most) ⊎ (most ≤ unsigned_abs (edge_at g k).cost)
-        → (more : ℕ) × ((e : ℕ) → e < suc k → unsigned_abs (edge_at g e).cost ≤ more) × (g.n * more ≤ MAX_PRODUCT)
-    by_order most each few (inl h) = (most, (λ e le. by_place e (cases_lt e k) le), few)
+    by_order : (most : ℕ) → ((i : ℕ) → i < k → f i ≤ most) → n * most ≤ limit → (f k < most) ⊎ (most ≤ f k) → (more : ℕ) × ((i : ℕ) → i < suc k → f i ≤ more) × (n * more ≤ limit)
+    by_order most each small (inl h) = (most, (λ i l. by_place i (cases_lt i k) l), small)
       where
-        by_place : (e : ℕ) → (e < k) ⊎ (k ≤ e) → e < suc k → unsigned_abs (edge_at g e).cost ≤ most
-        by_place e (inl lt) le = each e lt
-        by_place e (inr ge) le = let same : e ≡ k = omega (arith, ge, le) in subst (λ x. unsigned_abs (edge_at g x).cost ≤ most) (sym same) (omega (arith, h))
-    by_order most each few (inr h) = (unsigned_abs (edge_at g k).cost, (λ e le. by_place e (cases_lt e k) le), cheap k (omega (arith, l)))
+        by_place : (i : ℕ) → (i < k) ⊎ (k ≤ i) → i < suc k → f i ≤ most
+        by_place i (inl lt) l = each i lt
+        by_place i (inr ge) l = let same : i ≡ k = omega (arith, ge, l) in subst (λ x. f x ≤ most) (sym same) (omega (arith, h))
+    by_order most each small (inr h) = (f k, (λ i l. by_place i (cases_lt i k) l), few k (omega arith))
       where
-        by_place : (e : ℕ) → (e < k) ⊎ (k ≤ e) → e < suc k → unsigned_abs (edge_at g e).cost ≤ unsigned_abs (edge_at g k).cost
-        by_place e (inl lt) le = omega (arith, each e lt, h)
-        by_place e (inr ge) le = let same : e ≡ k = omega (arith, ge, le) in subst (λ x. unsigned_abs (edge_at g x).cost ≤ unsigned_abs (edge_at g k).cost) (sym same) (omega arith)
+        by_place : (i : ℕ) → (i < k) ⊎ (k ≤ i) → i < suc k → f i ≤ f k
+        by_place i (inl lt) l = omega (arith, each i lt, h)
+        by_place i (inr ge) l = let same : i ≡ k = omega (arith, ge, l) in subst (λ x. f x ≤ f k) (sym same) (omega arith)
 
-    by_rest : (most : ℕ) × ((e : ℕ) → e < k → unsigned_abs (edge_at g e).cost ≤ most) × (g.n * most ≤ MAX_PRODUCT) → (more : ℕ) × ((e : ℕ) → e < suc k → unsigned_abs (edge_at g e).cost ≤ more) × (g.n * more ≤ MAX_PRODUCT)
-    by_rest w = by_order w.0 w.1 w.2 (cases_lt (unsigned_abs (edge_at g k).cost) w.0)
+    by_rest : (most : ℕ) × ((i : ℕ) → i < k → f i ≤ most) × (n * most ≤ limit) → (more : ℕ) × ((i : ℕ) → i < suc k → f i ≤ more) × (n * more ≤ limit)
+    by_rest w = by_order w.0 w.1 w.2 (cases_lt (f k) w.0)
+
+-- A number that bounds all costs.
+pub greatest : (g : Graph) → IsCheap g → (most : ℕ) × ((e : ℕ) → e < length g.edges → unsigned_abs (edge_at g e).cost ≤ most) × (g.n * most ≤ MAX_PRODUCT)
+greatest g cheap = greatest_of (λ e. unsigned_abs (edge_at g e).cost) g.n MAX_PRODUCT (length g.edges) cheap
+
+-- A sum of which only the first terms are not 0.
+first_terms : (f : ℕ → ℤ) (n k : ℕ) → ((b : ℕ) → n ≤ b → f b ≡ pos 0) → total_below f (n + k) ≡ total_below f n
+first_terms f n zero none = let e : n + 0 ≡ n = omega arith in ap (total_below f) e
+first_terms f n (suc k) none =
+    let e : n + suc k ≡ suc (n + k) = omega arith in
+    ap (total_below f) e ∙ (let h : total_below f (n + k) ≡ total_below f n = first_terms f n k none in omega (arith, ints, h, none (n + k) (omega arith)))
+
+-- The first weights are in range.
+pub range_begun : (n : ℕ) (f : Forest) → f.size ≡ n + n / 2 → ((b : ℕ) → n ≤ b → f.weight b ≡ pos 0) → ((b : ℕ) → n * unsigned_abs (f.weight b) ≤ first_limit) → IsInRange f 0
+range_begun n f size sets small = by_most (greatest_of (λ b. unsigned_abs (f.weight b)) n first_limit n (λ b l. small b))
+  where
+    sum_is : dual_sum_of f ≡ total_below f.weight n
+    sum_is = ap (total_below f.weight) size ∙ first_terms f.weight n (n / 2) sets
+
+    weight_low : (b : ℕ) → (b < n) ⊎ (n ≤ b) → unsigned_abs (f.weight b) ≤ first_limit + 0
+    weight_low b (inl l) = omega (arith, small b, one_of n (unsigned_abs (f.weight b)) (omega (arith, l)))
+      where
+        one_of : (k x : ℕ) → 1 ≤ k → x ≤ k * x
+        one_of zero x l = absurd (omega (arith, l))
+        one_of (suc k) x l = omega arith
+    weight_low b (inr h) = omega (arith, ints, sets b h)
+
+    by_most : (most : ℕ) × ((b : ℕ) → b < n → unsigned_abs (f.weight b) ≤ most) × (n * most ≤ first_limit) → IsInRange f 0
+    by_most w = record {
+      start = dual_sum_of f;
+      start_high = omega (arith, ints, sum_is, total_below_small f.weight w.0 n w.1, w.2);
+      sum = omega (arith, ints);
+      weights = λ b. weight_low b (cases_lt b n);
+    }
 
 costs_low : (g : Graph) (most low : ℕ) (m : List ℕ) → ((e : ℕ) → e < length g.edges → unsigned_abs (edge_at g e).cost ≤ most) → IsRising low (length g.edges) m → (pos 2 *ℤ matching_cost g m) ≤ℤ total (λ (e : WEdge). pos most +ℤ pos most) (map (edge_at g) m)
 costs_low g most low [] each rising = omega (arith, ints)
@@ -53,7 +86,7 @@ costs_low g most low (k ∷ ks) each rising = omega (arith, ints, each k rising.
 
 -- Twice the cost of a perfect matching is small.
 pub known_low : (g : Graph) → IsGraph g → IsCheap g → (m : List ℕ) → IsPerfect g m → (pos 2 *ℤ matching_cost g m) ≤ℤ pos MAX_PRODUCT
-known_low g is cheap m perfect = by_most (greatest g cheap (length g.edges) (omega arith))
+known_low g is cheap m perfect = by_most (greatest g cheap)
   where
     by_most : (most : ℕ) × ((e : ℕ) → e < length g.edges → unsigned_abs (edge_at g e).cost ≤ most) × (g.n * most ≤ MAX_PRODUCT) → (pos 2 *ℤ matching_cost g m) ≤ℤ pos MAX_PRODUCT
     by_most w = bound w.0 w.1 w.2
@@ -100,7 +133,7 @@ module _ (g : Graph) (is : IsGraph g) (cheap : IsCheap g) (m : List ℕ) (perfec
       omega (arith, ints, bound, range.sum, range.start_high, known_low g is cheap m perfect)
 
   -- What the shifts leave in range.
-  pub small_weights : (root : Option ℕ) → IsValid (darts_of g) f root → (b : ℕ) → unsigned_abs (f.weight b) ≤ 12 * 2 ^ 56
+  pub small_weights : (root : Option ℕ) → IsValid (darts_of g) f root → (b : ℕ) → unsigned_abs (f.weight b) ≤ 5 * MAX_PRODUCT
   small_weights root valid b = omega (arith, range.weights b, risen_low root valid)
 
   module _ (r : ℕ) (valid : IsValid (darts_of g) f (Some r)) where

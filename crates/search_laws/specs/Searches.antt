@@ -1,8 +1,9 @@
 -- What holds while a search goes on, and how much of it is left.
-use Rattle.std.specs.Prelude.{◌≡◌, ◌≢◌, ℕ, ◌+◌, ◌*◌, ◌^◌, ◌<◌, ◌≤◌, Bool, true, false, List, length, slice_index_or}
+use Rattle.std.specs.Prelude.{◌≡◌, ◌≢◌, ℕ, ◌+◌, ◌*◌, ◌<◌, ◌≤◌, Bool, true, false, List, length, slice_index_or}
 use Rattle.std.specs.Prelude.{Option, Some, None, ℤ, pos, ◌+ℤ◌, ◌-ℤ◌, ◌≤ℤ◌, unsigned_abs}
 use Rattle.def_math.specs.Counts.{count_below}
 use Rattle.def_matching.specs.Matching.{Graph, Vertex}
+use Rattle.def_matching.specs.declared.limits.TheConstants.{MAX_PRODUCT}
 use Rattle.def_forest.specs.Forests.{Blossom, Forest, dual_sum_of}
 use Rattle.def_forest.specs.declared.kinds.Label.{Label}
 use Rattle.def_forest.specs.declared.kinds.Label.TheVariants.{Outer, Inner, Outside}
@@ -22,10 +23,10 @@ AreMatchedBefore f v = (u : Vertex) → u < v → f.mate (f.out u) ≢ None
 
 -- The number of vertices times a first weight is at most this in absolute value; and so far the sum may rise.
 abbrev pub first_limit : ℕ
-first_limit = 5 * 2 ^ 56
+first_limit = 2 * MAX_PRODUCT
 
 abbrev pub risen_limit : ℕ
-risen_limit = 7 * 2 ^ 56
+risen_limit = 3 * MAX_PRODUCT
 
 -- All weights are small where the sum has risen little.
 pub record IsInRange (f : Forest) (risen : ℕ) : Type 0 where

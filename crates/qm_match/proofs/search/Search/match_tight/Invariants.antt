@@ -1,0 +1,9 @@
+use Rattle.def_matching.specs.Matching.{graph}
+use Rattle.qm_match.specs.States.{IsIdle}
+use Rattle.qm_match.proofs.search.Search.match_tight.Given as goal
+
+abbrev pub invariant-loop-e : goal.invariant-loop-e
+invariant-loop-e l = IsIdle (graph l.g) l.self
+
+abbrev pub invariant-loop-e-2 : goal.invariant-loop-e-2
+invariant-loop-e-2 l = IsIdle (graph l.g) l.self

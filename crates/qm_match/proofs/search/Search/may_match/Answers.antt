@@ -1,0 +1,10 @@
+use Rattle.std.proofs.Common.{◌≡◌, ◌<◌, length, pos, sym, subst}
+use Rattle.std.proofs.lemmas.List.{get_or_read}
+use Rattle.def_matching.specs.Matching.{edge_at, graph}
+use Rattle.def_matching.specs.declared.weighted.WEdge.{WEdge}
+use Rattle.qm_match.proofs.search.Search.may_match.Goals as goal
+
+pub outermost-b-requires : goal.outermost-b-requires
+outermost-b-requires c =
+    let edge : c.index-edge.result.now ≡ edge_at (graph c.args.g.now) c.args.e = get_or_read c.args.g.now.edges.items c.args.e _ c.requires.edge c.index-edge.ensures (record { u = 0; v = 0; cost = pos 0 }) in
+    subst (λ n. c.index-edge.result.now.v < n) (sym c.requires.idle.valid.vertices) (subst (λ (x : WEdge). x.v < c.args.g.now.n) (sym edge) (c.requires.idle.made.small.lawful.right c.args.e c.requires.edge))

@@ -1,0 +1,26 @@
+use Rattle.std.proofs.Common.{◌≡◌, ◌+◌, ◌-◌, ◌*◌, ◌/◌, ◌^◌, ◌<◌, ◌≤◌, ◌∙◌, ℕ, length, get_or, replicate, refl, sym, subst, ap, arith}
+use Rattle.std.proofs.lemmas.Grind.{get_or_default_zero}
+use Rattle.std.proofs.lemmas.List.{length-replicate}
+use Rattle.def_matching.specs.Matching.{graph}
+use Rattle.qm_forest.proofs.Fresh.{same_everywhere}
+use Rattle.qm_match.proofs.Ready.{chains_ready}
+use Rattle.qm_match.proofs.start.search_of.Goals as goal
+
+pub returns-clause-ready : goal.returns-clause-ready
+returns-clause-ready c =
+    let many : c.len.result ≡ length c.args.g.now.edges.items = omega (arith, c.len.ensures, c.args.g.now.edges.ok.0) in
+    let size : length c.in_ok-new.field-0 ≡ c.len.result + (c.args.g.now.n / 2 + 1) = ap length c.in_ok-new.ensures ∙ length-replicate (c.len.result + (c.args.g.now.n / 2 + 1)) (2 ^ 64 - 1) in
+    let halves : length c.args.forest.hand / 2 ≡ c.args.g.now.n / 2 = ap (λ n. n / 2) c.requires.valid.vertices in
+    record {
+      vertices = c.in_ok-fans_of.ensures.vertices ∙ sym c.requires.valid.vertices;
+      darts = c.in_ok-fans_of.ensures.darts ∙ sym c.requires.valid.darts;
+      firsts = λ v. subst (λ n. get_or c.in_ok-fans_of.field-0.first.items v 0 ≤ n) (sym c.requires.valid.darts) (c.in_ok-fans_of.ensures.firsts v);
+      nexts = c.in_ok-fans_of.ensures.nexts;
+      all = chains_ready (graph c.args.g.now) c.args.forest c.in_ok-fans_of.field-0.first.items c.in_ok-fans_of.field-0.next.items c.in_ok-fans_of.ensures c.requires.valid;
+      leaves = omega (arith, size, many, halves, c.requires.valid.darts);
+      marks = subst (λ n. length c.in_ok-vec.field-0.items ≡ n + n / 2) (sym c.requires.valid.vertices) (omega (arith, c.in_ok-vec.ensures.len, c.in_ok-vec.field-0.ok.0));
+      members = omega (arith, c.in_ok-with_capacity.ensures.capacity, c.requires.valid.vertices);
+      parts = omega (arith, c.in_ok-with_capacity-2.ensures.capacity, c.requires.valid.vertices);
+      few = λ k l. omega (arith, same_everywhere c.in_ok-new.field-0 (c.len.result + (c.args.g.now.n / 2 + 1)) (2 ^ 64 - 1) c.in_ok-new.ensures k, get_or_default_zero c.in_ok-new.field-0 k (2 ^ 64 - 1) l);
+      risen = refl;
+    }
