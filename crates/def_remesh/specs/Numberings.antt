@@ -1,5 +1,6 @@
 -- When tables number the points and the faces of a layout with lengths.
-use Rattle.std.specs.Prelude.{◌≡◌, ℕ, ◌+◌, ◌-◌, ◌*◌, ◌<◌, ◌≤◌, true, List, [], length, map, slice_index, slice_index_or, ⊤}
+use Rattle.std.specs.Prelude.{◌≡◌, ℕ, ◌+◌, ◌-◌, ◌*◌, ◌<◌, ◌≤◌, true, List, [], length, map, ⊤}
+use Rattle.std.specs.Prelude.{slice_index, slice_index_or}
 use Rattle.def_math.specs.Counts.{count_below}
 use Rattle.def_layout.specs.declared.tmesh.SideArc.{SideArc}
 use Rattle.def_layout.specs.Layouts.{Way, Layout}

@@ -1,4 +1,4 @@
-//! The mesh that is written anew: its soup, its text, and the tables that number its points. Types and definitions alone.
+//! The mesh that is written anew: its soup, its text, and the tables that number its points. No algorithm is here.
 #![tactic(auto)]
 
 mod fail;

@@ -8,8 +8,8 @@ pub struct Starts {
     pub begin: Vec<u32>,
 }
 
-/// The lengths of the arcs, and where their inner points, those of the patches, the cells of the patches and the arcs on
-/// each side begin.
+/// The lengths of the arcs, and where their inner points, those of the patches, the cells of the patches and the arcs
+/// on each side begin.
 #[derive(Debug, Drop)]
 pub struct Tables {
     pub nodes: u32,

@@ -36,7 +36,8 @@ product_by tables less patch = (long_by tables patch 0 - less) * (long_by tables
 pub record AreRows (tables : List (List (List ℕ))) (less : ℕ) : Type 0 where
   pub four : (patch : ℕ) → patch < length tables → length (slice_index_or tables patch []) ≡ 4
   pub some : (patch side : ℕ) → patch < length tables → side < 4 → 0 < length (table_in tables patch side)
-  pub long : (patch side : ℕ) → patch < length tables → side < 4 → (less ≤ long_by tables patch side) × (0 < long_by tables patch side)
+  pub long : (patch side : ℕ) → patch < length tables → side < 4
+      → (less ≤ long_by tables patch side) × (0 < long_by tables patch side)
   pub small : count_below (product_by tables less) (length tables) ≤ 2 * MAX_NEW_FACES * 2
 
 -- The point at a place of a side.
