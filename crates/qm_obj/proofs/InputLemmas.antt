@@ -1,5 +1,5 @@
 -- Texts that were read whole, their soups and their refusals.
-use Rattle.std.proofs.Common.{◌≡◌, ◌≢◌, ◌≤◌, ℕ, ◌+◌, ◌-◌, ◌++◌, length, Result, Ok, Err, refl, sym, ◌∙◌, subst, arith}
+use Rattle.std.proofs.Common.{◌≡◌, ◌≢◌, ◌≤◌, ℕ, ◌+◌, ◌-◌, ◌++◌, Result, Ok, Err, refl, sym, ◌∙◌, subst, arith}
 use Rattle.std.specs.Prelude.{IsErrAnd, IsErrOf, IfErr}
 use Rattle.std.proofs.lemmas.List.{length-append}
 use Rattle.def_feed.specs.Feed.{Fed}

@@ -1,9 +1,9 @@
 -- Physical lines of a text whose last bytes are not ended.
-use Rattle.std.proofs.Common.{◌≡◌, ℕ, zero, suc, ◌+◌, ◌-◌, ◌<◌, ◌≤◌, Bool, true, false, cond, ◌||◌, eqb, List, [], ◌∷◌, ◌++◌, length, take, drop, map, get_or, refl, sym, ap, ◌∙◌, arith}
-use Rattle.std.specs.List.{count_by, list_any, sum_by}
+use Rattle.std.proofs.Common.{◌≡◌, ℕ, zero, suc, ◌+◌, ◌-◌, ◌<◌, ◌≤◌, Bool, true, false, cond, eqb, [], ◌∷◌, ◌++◌, length, take, drop, map, get_or, refl, sym, ap, ◌∙◌, arith}
+use Rattle.std.specs.List.{count_by, list_any}
 use Rattle.std.proofs.Math.Seq.{take-add}
 use Rattle.std.proofs.lemmas.Bool.{or_parts}
-use Rattle.std.proofs.lemmas.List.{append-nil, append_assoc, get_or_push, length-append, length-take-le, take-append-drop, take_at, take_more, take_rest}
+use Rattle.std.proofs.lemmas.List.{append-nil, get_or_push, length-append, length-take-le, take-append-drop, take_at, take_more, take_rest}
 use Rattle.std.proofs.lemmas.List.Sums.{sum_by-append, sum_by-cons}
 use Rattle.def_feed.specs.Feed.{is_line_feed}
 use Rattle.def_io.specs.Bytes.{Bytes, Lines}

@@ -1,5 +1,5 @@
 -- The positions that some face names, and the numbers of the vertices that they become.
-use Rattle.std.proofs.Common.{◌≡◌, ℕ, ℤ, zero, suc, ◌+◌, ◌-◌, ◌<◌, ◌≤◌, Bool, true, false, cond, ◌&&◌, List, [], ◌∷◌, ◌++◌, length, drop, set, map, get_or, refl, sym, ap, ◌∙◌, arith, ltb, leb, add-one}
+use Rattle.std.proofs.Common.{◌≡◌, ℕ, zero, suc, ◌+◌, ◌-◌, ◌<◌, ◌≤◌, Bool, true, false, cond, ◌&&◌, List, [], ◌∷◌, ◌++◌, length, drop, set, map, get_or, refl, sym, ap, ◌∙◌, arith, ltb, leb, add-one}
 use Rattle.std.specs.Prelude.{IsTrue}
 use Rattle.std.specs.List.{filter, list_all, list_any}
 use Rattle.std.proofs.lemmas.List.{append-nil, take_more_set, map_push, length_push, drop-drop, drop_more, length-set}

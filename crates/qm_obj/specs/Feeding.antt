@@ -1,5 +1,5 @@
 -- What a reader of pieces keeps true, line by line and piece by piece.
-use Rattle.std.specs.Prelude.{◌≡◌, ◌≤◌, ℕ, ◌+◌, nat_lt, false, IsTrue, None, Err, List, [], ◌∷◌, ◌++◌, length}
+use Rattle.std.specs.Prelude.{◌≡◌, ◌≤◌, ℕ, ◌+◌, nat_lt, false, IsTrue, None, Err, [], ◌∷◌, ◌++◌, length}
 use Rattle.std.specs.List.{count_by, list_all, list_any}
 use Rattle.def_feed.specs.Feed.{Fed, is_line_feed, StandsFor}
 use Rattle.def_feed.specs.Kept.{Kept, soup_with, soup_with_lines}

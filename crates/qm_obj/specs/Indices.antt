@@ -1,5 +1,5 @@
 -- The `v` lines that indices name, as the code keeps them: capped where they can name none.
-use Rattle.std.specs.Prelude.{ℕ, ◌-◌, ◌^◌, min, if◌then◌else◌, List, [], ◌∷◌, map}
+use Rattle.std.specs.Prelude.{ℕ, ◌-◌, ◌^◌, min, if◌then◌else◌, [], ◌∷◌, map}
 use Rattle.std.specs.List.{slice_split}
 use Rattle.def_text.specs.Corner.{is_out, is_slash, resolved, used_index}
 use Rattle.def_text.specs.declared.reading.Reading.{Reading}

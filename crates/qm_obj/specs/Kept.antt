@@ -1,5 +1,5 @@
 -- Which positions some face names.
-use Rattle.std.specs.Prelude.{◌≡◌, ◌<◌, ◌-◌, ◌&&◌, ℕ, suc, Bool, false, nat_lt, nat_le, if◌then◌else◌, ◌≤◌, ℤ, take}
+use Rattle.std.specs.Prelude.{◌≡◌, ◌<◌, ◌-◌, ◌&&◌, ℕ, suc, Bool, false, nat_lt, nat_le, if◌then◌else◌, ◌≤◌, take}
 use Rattle.std.specs.Prelude.{drop, map, Option, Some, None, MatchOption, List, [], ◌∷◌, length, slice_index}
 use Rattle.std.specs.Prelude.{slice_index_or}
 use Rattle.std.specs.List.{filter, list_all, list_any}

@@ -1,5 +1,5 @@
 -- The numbers of a `v` line.
-use Rattle.std.specs.Prelude.{ℤ, if◌then◌else◌, Option, Some, None, List, [], ◌∷◌}
+use Rattle.std.specs.Prelude.{if◌then◌else◌, Option, Some, None, List, [], ◌∷◌}
 use Rattle.def_text.specs.Decimal.{is_far, rounded}
 use Rattle.def_text.specs.Types.{Position, Word}
 use Rattle.qm_obj.specs.declared.position.Coordinate.{Coordinate}

@@ -1,4 +1,4 @@
-use Rattle.std.proofs.Common.{◌≡◌, ◌≤◌, ◌+◌, ◌-◌, ℕ, Err, ap, subst, ◌∙◌, arith}
+use Rattle.std.proofs.Common.{◌≡◌, ◌+◌, ◌-◌, ℕ, Err, ap, subst, ◌∙◌, arith}
 use Rattle.std.specs.List.{length_refill}
 use Rattle.qm_obj.specs.Feeding.{FedTo}
 use Rattle.qm_obj.proofs.InputLemmas.{error_on, fed_more, fed_whole, gave_beyond}

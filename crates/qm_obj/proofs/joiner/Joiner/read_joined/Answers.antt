@@ -1,7 +1,6 @@
 use Rattle.std.proofs.Common.{◌≡◌, ◌+◌, [], ◌++◌, ◌∙◌, length, sym, ap, subst, arith}
 use Rattle.std.specs.List.{before_first}
 use Rattle.def_text.specs.Logical.{Logical, is_hash}
-use Rattle.def_text.specs.declared.reading.Reading.TheVariants.{Refused}
 use Rattle.qm_obj.specs.Lines.{Took, next_said, uncommented}
 use Rattle.qm_obj.specs.Views.{kept_of}
 use Rattle.qm_obj.proofs.FeedLemmas.{ended_line, long_line, number_some, passed_on, refused_line}

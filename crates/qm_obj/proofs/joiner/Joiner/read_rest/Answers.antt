@@ -1,4 +1,4 @@
-use Rattle.std.proofs.Common.{◌≡◌, ◌<◌, [], ◌∙◌, length, refl, sym, ap, subst, arith}
+use Rattle.std.proofs.Common.{[], ◌∙◌, length, refl, sym, ap, subst, arith}
 use Rattle.def_text.specs.Logical.{Logical}
 use Rattle.qm_obj.specs.Lines.{Took, next_said, uncommented}
 use Rattle.qm_obj.specs.Views.{kept_of}

@@ -1,6 +1,6 @@
-use Rattle.std.proofs.Common.{◌≡◌, ◌≢◌, ◌∙◌, [], Ok, Err, sym, refl, ap}
+use Rattle.std.proofs.Common.{◌≡◌, ◌≢◌, ◌∙◌, [], Err, refl, ap}
 use Rattle.std.proofs.lemmas.Result.{IfErr-weaker, on_ok_weaker}
-use Rattle.def_feed.specs.Kept.{soup_with, soup_with_lines}
+use Rattle.def_feed.specs.Kept.{soup_with}
 use Rattle.def_io.specs.Lines.{line_of}
 use Rattle.def_text.specs.declared.refusal.ObjFail.TheVariants.{Memory}
 use Rattle.qm_obj.specs.Feeding.{RefusesLine, TookLine}

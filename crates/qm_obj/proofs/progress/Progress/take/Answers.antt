@@ -1,4 +1,4 @@
-use Rattle.std.proofs.Common.{◌≡◌, ◌≢◌, ◌+◌, ◌-◌, ◌++◌, ◌∷◌, [], List, ℕ, length, take, drop, sym, subst, arith}
+use Rattle.std.proofs.Common.{◌≢◌, ◌+◌, ◌-◌, ◌++◌, ◌∷◌, [], length, take, drop, sym, subst, arith}
 use Rattle.std.proofs.lemmas.List.{length-drop, length-take, take-append-drop}
 use Rattle.std.proofs.lemmas.Result.{IfErr-weaker, on_ok_weaker}
 use Rattle.def_io.specs.Bytes.{Bytes}
