@@ -114,7 +114,7 @@ pub(crate) fn sides(
         AreAllFour mesh.now (map path runs.now.arcs.items) runs.now.uses.items (map rectangle patches.now)
         (map four_of sides.items)) }
 {
-    let mut sides = Vec::new(alloc);
+    let mut sides = Vec::with_capacity(alloc, patches.len())?;
     for patch in patches {
         let four = four_sides(alloc, mesh, patch, runs)?;
         sides.push(four)?;
