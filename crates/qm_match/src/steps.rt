@@ -11,7 +11,8 @@ ghost use Rattle.def_forest.specs.declared.kinds.EdgeKind.TheVariants.{Augment, 
 ghost use Rattle.def_forest.specs.declared.kinds.Label.TheVariants.{Inner};
 ghost use Rattle.search_laws.specs.Keys.{AreRightAt, IsMended};
 ghost use Rattle.search_laws.specs.Searches.{steps_left, AreMatchedBefore, IsSeeking};
-ghost use Rattle.qm_match.specs.States.{GoesOn, HasEnded, IsFreshAt, IsIdle, IsMade, IsRefreshed, IsUnderWay, MayRefresh};
+ghost use Rattle.qm_match.specs.States.{GoesOn, HasEnded, IsFreshAt, IsIdle, IsMade, IsRefreshed, IsUnderWay};
+ghost use Rattle.qm_match.specs.States.{MayRefresh};
 
 use crate::search::Search;
 use def_matching::WGraph;
@@ -24,7 +25,8 @@ impl Search {
         requires kind { kind_of (graph g.now) (forest_of self.old.forest) e ≡ Grow }
         ensures way { IsUnderWay (graph g.now) self.new }
         ensures goes_on { GoesOn g.now.n self.old.forest self.new.forest }
-        ensures fewer { steps_left g.now.n (forest_of self.new.forest) < steps_left g.now.n (forest_of self.old.forest) }
+        ensures fewer { steps_left g.now.n (forest_of self.new.forest)
+            < steps_left g.now.n (forest_of self.old.forest) }
     {
         let d = self.forest.outer_dart(g, e);
         let inner = self.forest.reached(g, d);
@@ -56,7 +58,8 @@ impl Search {
         requires kind { kind_of (graph g.now) (forest_of self.old.forest) e ≡ Shrink }
         ensures way { IsUnderWay (graph g.now) self.new }
         ensures goes_on { GoesOn g.now.n self.old.forest self.new.forest }
-        ensures fewer { steps_left g.now.n (forest_of self.new.forest) < steps_left g.now.n (forest_of self.old.forest) }
+        ensures fewer { steps_left g.now.n (forest_of self.new.forest)
+            < steps_left g.now.n (forest_of self.old.forest) }
     {
         self.forest.shrink(g, e);
         let set = self.forest.outermost(g.edges[e as usize].u);
@@ -110,7 +113,8 @@ impl Search {
         requires weightless { (forest_of self.old.forest).weight b ≡ pos 0 }
         ensures way { IsUnderWay (graph g.now) self.new }
         ensures goes_on { GoesOn g.now.n self.old.forest self.new.forest }
-        ensures fewer { steps_left g.now.n (forest_of self.new.forest) < steps_left g.now.n (forest_of self.old.forest) }
+        ensures fewer { steps_left g.now.n (forest_of self.new.forest)
+            < steps_left g.now.n (forest_of self.old.forest) }
     {
         self.list_parts(g, b);
         self.forest.expand(g, b);
