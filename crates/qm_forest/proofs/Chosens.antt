@@ -93,12 +93,12 @@ waits_low t b c v = low (within t b c) ((forest_of t).holds b v)
     low true false = omega arith
     low false q = omega arith
 
-count_map : {X : Type 0} (f : X → ℕ) (h : ℕ → X) (xs : List ℕ) → count f (map h xs) ≡ count (λ k. f (h k)) xs
+pub count_map : {X : Type 0} (f : X → ℕ) (h : ℕ → X) (xs : List ℕ) → count f (map h xs) ≡ count (λ k. f (h k)) xs
 count_map f h [] = refl
 count_map f h (x ∷ xs) = ap (λ m. f (h x) + m) (count_map f h xs)
 
 module _ (t : ForestTables) (known : IsLaminar t) (g : Graph) (is : IsSmallGraph g) (valid : IsValidFor g t) (marks : List Bool) (size : length t.near ≡ 2 * length marks) (list : List ℕ) (are : AreMarked marks (length marks) list) where
-  edges_is : length marks ≡ length g.edges
+  pub edges_is : length marks ≡ length g.edges
   edges_is = omega (arith, size, valid.darts)
 
   sides : (e : ℕ) → e < length marks → (near_at t (2 * e) ≡ (edge_at g e).u) × (near_at t (2 * e + 1) ≡ (edge_at g e).v)

@@ -37,5 +37,7 @@ pub mod Laminars
 pub mod RingRounds
 pub mod Waitings
 pub mod Chosens
+pub mod MateRounds
+pub mod Ends
 pub mod Openings
 pub mod Openeds

@@ -1,5 +1,5 @@
 -- Choosing the matched edges within blossoms: which are chosen, and which blossoms wait.
-use Rattle.std.specs.Prelude.{◌≡◌, ◌≢◌, ℕ, ◌+◌, ◌*◌, ◌^◌, ◌<◌, ◌≤◌, ◌&&◌, nat_lt, Bool, true, false, if◌then◌else◌}
+use Rattle.std.specs.Prelude.{◌≡◌, ◌≢◌, ℕ, ◌+◌, ◌*◌, ◌^◌, ◌<◌, ◌≤◌, ◌==◌, ◌&&◌, nat_lt, Bool, true, false, if◌then◌else◌}
 use Rattle.std.specs.Prelude.{List, length, slice_index, slice_index_or, slice_set, Option, Some, None}
 use Rattle.std.specs.List.{All, Contains}
 use Rattle.std.specs.List.Sorted.{IsNonDecreasingBy}
@@ -129,3 +129,18 @@ pub record AreMarked (marks : List Bool) (bound : ℕ) (list : List ℕ) : Type 
   pub rising : IsRising 0 bound list
   pub each : (k : ℕ) → k < length list → slice_index_or marks (slice_index list k) false ≡ true
   pub counts : (f : ℕ → ℕ) → count f list ≡ count_below (λ e. if slice_index_or marks e false then f e else 0) bound
+
+-- A matched dart is this one.
+abbrev pub is_dart : (mate : Option Dart) (d : Dart) → Bool
+is_dart None d = false
+is_dart (Some m) d = m == d
+
+-- An edge matches the outermost blossoms of its ends.
+abbrev pub matches : (t : ForestTables) (e : ℕ) → Bool
+matches t e = is_dart ((forest_of t).mate ((forest_of t).out (near_at t (2 * e)))) (2 * e)
+
+-- In how many of the outermost blossoms that the first edges match a blossom lies.
+abbrev pub matched_by : (t : ForestTables) (edges : ℕ) (b : Blossom) → ℕ
+matched_by t edges b = count_below (λ e. if matches t e
+    then number (within t b ((forest_of t).out (near_at t (2 * e))))
+    + number (within t b ((forest_of t).out (near_at t (2 * e + 1)))) else 0) edges

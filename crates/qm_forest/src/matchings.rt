@@ -1,10 +1,10 @@
 //! The matching edges of a blossom that match all of its vertices but one.
 
-ghost use Rattle.std.specs.Prelude.{◌≡◌, ◌*◌, ◌+◌, ◌^◌, ◌<◌, ◌≤◌, ℕ, true, false, length, slice_index_or, replicate};
-ghost use Rattle.std.specs.Prelude.{IfOk, None};
+ghost use Rattle.std.specs.Prelude.{◌≡◌, ◌≢◌, ◌*ℤ◌, ◌*◌, ◌+◌, ◌^◌, ◌<◌, ◌≤◌, ℕ, true, false, length, slice_index_or};
+ghost use Rattle.std.specs.Prelude.{replicate, pos, IfOk, None};
 ghost use Rattle.std.specs.Vec.{vec_capacity};
-ghost use Rattle.def_matching.specs.Matching.{Graph, IsSmallGraph, Vertex};
-ghost use Rattle.def_forest.specs.Forests.{Blossom};
+ghost use Rattle.def_matching.specs.Matching.{Graph, IsPerfect, IsSmallGraph, Vertex, matching_cost};
+ghost use Rattle.def_forest.specs.Forests.{Blossom, dual_sum_of};
 ghost use Rattle.def_forest.specs.Tables.{forest_of, IsValidFor, MatchesBut};
 ghost use Rattle.qm_forest.specs.Rounds.{IsRound, HasRoom, AreMarked};
 
@@ -28,6 +28,24 @@ impl Forest {
         let mut edges = Vec::with_capacity(alloc, round.marks.len())?;
         self.list_sets(&mut sets);
         self.match_up(b, v, &mut round);
+        self.match_waiting(&sets, &mut round);
+        list_marked(&round.marks, &mut edges);
+        Ok(edges)
+    }
+
+    /// The matching edges of all blossoms that are matched, in rising order. Where all are it is perfect, and twice its
+    /// cost is the sum of the dual.
+    pub fn matching(&self, alloc: Global) -> Result<Vec<u32>, Memory>
+        requires valid { (g : Graph) × IsSmallGraph g × IsValidFor g self.now }
+        ensures { IfOk result (λ m. (g : Graph) → IsSmallGraph g → IsValidFor g self.now
+            → ((v : Vertex) → v < g.n → (forest_of self.now).mate ((forest_of self.now).out v) ≢ None)
+            → IsPerfect g m.items × (dual_sum_of (forest_of self.now) ≡ (pos 2 *ℤ matching_cost g m.items))) }
+    {
+        let mut round = self.new_round(alloc)?;
+        let mut sets = Vec::with_capacity(alloc, round.left_out.len())?;
+        let mut edges = Vec::with_capacity(alloc, round.marks.len())?;
+        self.list_sets(&mut sets);
+        self.match_mates(&mut round);
         self.match_waiting(&sets, &mut round);
         list_marked(&round.marks, &mut edges);
         Ok(edges)

@@ -7,7 +7,7 @@ ghost use Rattle.def_forest.specs.Forests.{Blossom, number, ring_sum};
 ghost use Rattle.def_matching.specs.Matching.{Graph, IsSmallGraph, Vertex};
 ghost use Rattle.def_forest.specs.Tables.{forest_of, up_at, IsValidFor};
 ghost use Rattle.qm_forest.specs.Rounds.{IsRound, HasRoom, IsPairing, AreInOrder, within, waits_but, entered};
-ghost use Rattle.qm_forest.specs.Rounds.{near_at, far_at};
+ghost use Rattle.qm_forest.specs.Rounds.{near_at, far_at, is_dart, matched_by};
 
 use crate::darts::twin;
 use crate::forest::Forest;
@@ -106,6 +106,50 @@ impl Forest {
         while p != c {
             self.match_ring(p, round);
             p = self.up_at(p);
+        }
+    }
+
+    /// Matches the outermost blossoms as they are matched. All sets among them wait then.
+    pub(crate) fn match_mates(&self, round: &mut Round)
+        requires room { HasRoom self.now round.old }
+        requires valid { (g : Graph) × IsSmallGraph g × IsValidFor g self.now }
+        requires begun { IsRound self.now round.old.marks.items round.old.left_out.items (λ b. 0) (λ b. 0) }
+        ensures room { HasRoom self.now round.new }
+        ensures done { IsRound self.now round.new.marks.items round.new.left_out.items (λ b. 0)
+            (matched_by self.now (length round.new.marks.items)) }
+    {
+        for e in 0..round.marks.len() as u32 {
+            self.match_edge(e, round);
+        }
+    }
+
+    /// Matches two outermost blossoms by an edge, if they are matched by it.
+    fn match_edge(&self, e: u32, round: &mut Round)
+        requires room { HasRoom self.now round.old }
+        requires valid { (g : Graph) × IsSmallGraph g × IsValidFor g self.now }
+        requires edge { e < length round.old.marks.items }
+        requires begun { IsRound self.now round.old.marks.items round.old.left_out.items (λ b. 0) (matched_by self.now e) }
+        ensures room { HasRoom self.now round.new }
+        ensures edges { length round.new.marks.items ≡ length round.old.marks.items }
+        ensures done { IsRound self.now round.new.marks.items round.new.left_out.items (λ b. 0)
+            (matched_by self.now (e + 1)) }
+    {
+        let a = self.outermost(self.start_of(2 * e));
+        let matched = self.is_mate(a, 2 * e);
+        if matched {
+            let b = self.outermost(self.start_of(2 * e + 1));
+            self.pair(a, b, 2 * e, round);
+        }
+    }
+
+    /// Whether a blossom is matched by a dart.
+    fn is_mate(&self, a: u32, d: u32) -> bool
+        requires { a < length self.now.up }
+        ensures { result ≡ is_dart ((forest_of self.now).mate a) d }
+    {
+        match self.mate(a) {
+            Some(m) => m == d,
+            None => false,
         }
     }
 
