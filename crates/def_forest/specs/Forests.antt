@@ -1,5 +1,5 @@
 -- A forest of blossoms over a graph: the blossoms, their weights, the matching among the outermost ones, and a tree.
-use Rattle.std.specs.Prelude.{◌≡◌, ℕ, zero, suc, ◌+◌, ◌<◌, ◌==◌, Bool, not, if◌then◌else◌, ℤ, pos, ◌+ℤ◌, Option}
+use Rattle.std.specs.Prelude.{◌≡◌, ℕ, zero, suc, ◌+◌, ◌<◌, ◌==◌, nat_lt, Bool, not, if◌then◌else◌, ℤ, pos, ◌+ℤ◌, Option}
 use Rattle.def_math.specs.Counts.{count_below}
 use Rattle.def_math.specs.Sums.{total_below}
 use Rattle.def_matching.specs.Matching.{Vertex}
@@ -79,3 +79,11 @@ set_at f place value k = if k == place then value else f k
 -- How many vertices a blossom holds.
 abbrev pub vertices_in : (n : ℕ) (f : Forest) (b : Blossom) → ℕ
 vertices_in n f b = count_below (λ v. number (f.holds b v)) n
+
+-- 1 for the number of a set that is in use: a number from n on that has parts.
+abbrev pub live_at : (n : ℕ) (parts : Blossom → ℕ) (b : Blossom) → ℕ
+live_at n parts b = if nat_lt b n then 0 else if parts b == 0 then 0 else 1
+
+-- How many sets are in use.
+abbrev pub sets_of : (n : ℕ) (f : Forest) → ℕ
+sets_of n f = count_below (live_at n f.nest.parts) f.size

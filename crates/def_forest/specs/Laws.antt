@@ -1,12 +1,12 @@
 -- The laws of forests.
-use Rattle.std.specs.Prelude.{◌≢◌, ◌%◌, ◌<◌, ◌≤◌, ◌⊎◌, ◌+ℤ◌, ◌*ℤ◌, ◌≤ℤ◌, pos, List, ◌≡◌, ℕ, Bool, if◌then◌else◌, ℤ}
+use Rattle.std.specs.Prelude.{◌≢◌, ◌*◌, ◌%◌, ◌<◌, ◌≤◌, ◌⊎◌, ◌+ℤ◌, ◌*ℤ◌, ◌≤ℤ◌, pos, List, ◌≡◌, ℕ, Bool, if◌then◌else◌, ℤ}
 use Rattle.std.specs.Prelude.{length, Option, Some, None}
 use Rattle.def_matching.specs.Matching.{Graph, EdgeNumber, IsGraph, IsPerfect, edge_at, matching_cost}
 use Rattle.def_forest.specs.Darts.{Dart, Darts, AreDarts, darts_of, far}
-use Rattle.def_forest.specs.Forests.{Blossom, Forest, IsOutermost, set_at, dual_sum_of, vertices_in}
+use Rattle.def_forest.specs.Forests.{Blossom, Forest, IsOutermost, set_at, dual_sum_of, sets_of, vertices_in}
 use Rattle.def_forest.specs.Steps.{shifted, rooted, grown, with_mates, IsAugmented}
 use Rattle.def_forest.specs.Tables.{slack_of}
-use Rattle.def_forest.specs.Valid.{IsFeasible, IsNested, IsTree, IsValid}
+use Rattle.def_forest.specs.Valid.{AreOutermost, IsFeasible, IsNested, IsTree, IsValid}
 use Rattle.def_forest.specs.declared.kinds.Label.TheVariants.{Outer}
 use Rattle.def_forest.specs.Opened.{Opening, IsOpening, IsOpened}
 use Rattle.def_forest.specs.Shrunk.{IsUnused, IsCycle, IsClosedRow, IsShrunk}
@@ -67,6 +67,18 @@ abbrev pub OddLaw : Type 0
 OddLaw =
     (g : Darts) (f : Forest) (b : Blossom) → AreDarts g → IsNested g f → (b < g.n) ⊎ ((g.n ≤ b) × (f.nest.parts b ≢ 0))
     → vertices_in g.n f b % 2 ≡ 1
+
+-- Each set holds three vertices at least.
+abbrev pub LargeLaw : Type 0
+LargeLaw =
+    (g : Darts) (f : Forest) (b : Blossom) → AreDarts g → IsNested g f → g.n ≤ b → f.nest.parts b ≢ 0
+    → 3 ≤ vertices_in g.n f b
+
+-- There are fewer than half as many sets as vertices where there is a vertex, and none where there is none.
+abbrev pub FewLaw : Type 0
+FewLaw =
+    (g : Darts) (f : Forest) → AreDarts g → AreOutermost g.n f → IsNested g f
+    → (0 < g.n → 2 * sets_of g.n f < g.n) × (g.n ≡ 0 → sets_of g.n f ≡ 0)
 
 -- Twice the cost of each perfect matching is at least the sum of the weights.
 abbrev pub BoundLaw : Type 0

@@ -7,3 +7,4 @@ pub mod Steps
 pub mod Tables
 pub mod Valid
 pub mod Ways
+pub mod Written

@@ -1,7 +1,7 @@
 -- What a contract sees of a forest that a program keeps: its tables, the forest that they stand for, and the step
 -- that an edge allows.
 use Rattle.std.specs.Prelude.{◌≡◌, ℕ, zero, suc, ◌+◌, ◌*◌, ◌<◌, ◌==◌, ◌||◌, Bool, if◌then◌else◌, List, length, map}
-use Rattle.std.specs.Prelude.{slice_index, slice_index_or, Option, None, is_some, ℤ, pos, ◌+ℤ◌, ◌-ℤ◌, ◌*ℤ◌, int_lt}
+use Rattle.std.specs.Prelude.{slice_index, slice_index_or, Option, Some, None, is_some, ℤ, pos, ◌+ℤ◌, ◌-ℤ◌, ◌*ℤ◌, int_lt}
 use Rattle.def_math.specs.Counts.{count}
 use Rattle.def_math.specs.Rising.{IsRising}
 use Rattle.def_matching.specs.Matching.{Graph, Vertex, EdgeNumber, edge_at, ends_at}
@@ -13,6 +13,14 @@ use Rattle.def_forest.specs.declared.kinds.Label.{Label}
 use Rattle.def_forest.specs.declared.kinds.Label.TheVariants.{Outer, Inner, Outside}
 use Rattle.def_forest.specs.declared.kinds.EdgeKind.{EdgeKind}
 use Rattle.def_forest.specs.declared.kinds.EdgeKind.TheVariants.{Loose, Augment, Grow, Shrink, Idle}
+
+-- How many vertices and edges a graph has.
+pub record GraphSize : Type 0 where
+  pub vertices : ℕ
+  pub edges : ℕ
+
+abbrev pub size_of : (g : Graph) → GraphSize
+size_of g = record { vertices = g.n; edges = length g.edges }
 
 -- The tables. A vertex has a handle, and a handle its outermost blossom. A weight is kept without what the shifts of
 -- this search changed of it, `delta` in all.
@@ -35,6 +43,8 @@ pub record ForestTables : Type 0 where
   pub trail : List Vertex
   -- Where each dart of the graph begins.
   pub near : List Vertex
+  -- For graphs of what size there is room to write the matching and the dual down.
+  pub room : Option GraphSize
 
 -- The outermost blossom of a vertex, by its handle.
 abbrev pub out_of : (hand top : List ℕ) (v : Vertex) → Blossom
@@ -77,12 +87,14 @@ forest_of t = record {
   };
 }
 
--- The forest is valid for a graph, whose darts begin where they do in the forest.
+-- The forest is valid for a graph, whose darts begin where they do in the forest, and what it comes to can be written
+-- down.
 pub record IsValidFor (g : Graph) (t : ForestTables) : Type 0 where
   pub vertices : length t.hand ≡ g.n
   pub darts : length t.near ≡ 2 * length g.edges
   pub ends : (d : Dart) → d < 2 * length g.edges → slice_index t.near d ≡ (darts_of g).near d
   pub valid : IsValid (darts_of g) (forest_of t) t.root
+  pub room : t.room ≡ Some (size_of g)
 
 -- Some vertex has b as its outermost blossom.
 abbrev pub IsOutermostIn : (t : ForestTables) (b : Blossom) → Type 0

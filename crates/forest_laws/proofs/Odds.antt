@@ -53,12 +53,16 @@ module _ (g : Darts) (are : AreDarts g) (f : Forest) (nested : IsNested g f) whe
       by_size (inl l) = inl l
       by_size (inr h) = inr (h, λ none. true_false (f.holds p (g.near (f.nest.joint p))) joint.begins (nested.empty p (g.near (f.nest.joint p)) h near_low none))
 
+  -- A set has the vertices of its parts.
+  set_sum : (b : ℕ) → IsRing g f b → vertices_in g.n f b ≡ ring_sum f.nest.after (vertices_in g.n f) (f.nest.head b) (f.nest.parts b)
+  set_sum b ring =
+      count_below_same (λ v. number (f.holds b v)) (λ v. ring_sum f.nest.after (λ p. number (f.holds p v)) (f.nest.head b) (f.nest.parts b)) g.n ring.shared
+      ∙ counts_exchanged f.nest.after (λ p v. number (f.holds p v)) (f.nest.head b) g.n (f.nest.parts b)
+
   set_odd : (b : ℕ) → IsRing g f b → ((k : ℕ) → vertices_in g.n f (walk f.nest.after (f.nest.head b) k) % 2 ≡ 1) → vertices_in g.n f b % 2 ≡ 1
   set_odd b ring odd =
-      let shared : vertices_in g.n f b ≡ count_below (λ v. ring_sum f.nest.after (λ p. number (f.holds p v)) (f.nest.head b) (f.nest.parts b)) g.n = count_below_same (λ v. number (f.holds b v)) (λ v. ring_sum f.nest.after (λ p. number (f.holds p v)) (f.nest.head b) (f.nest.parts b)) g.n ring.shared in
-      let sums : count_below (λ v. ring_sum f.nest.after (λ p. number (f.holds p v)) (f.nest.head b) (f.nest.parts b)) g.n ≡ ring_sum f.nest.after (vertices_in g.n f) (f.nest.head b) (f.nest.parts b) = counts_exchanged f.nest.after (λ p v. number (f.holds p v)) (f.nest.head b) g.n (f.nest.parts b) in
       let parity : ring_sum f.nest.after (vertices_in g.n f) (f.nest.head b) (f.nest.parts b) % 2 ≡ f.nest.parts b % 2 = odd_sum f.nest.after (vertices_in g.n f) (f.nest.head b) (f.nest.parts b) odd in
-      let whole : vertices_in g.n f b % 2 ≡ f.nest.parts b % 2 = ap (λ x. x % 2) (shared ∙ sums) ∙ parity in
+      let whole : vertices_in g.n f b % 2 ≡ f.nest.parts b % 2 = ap (λ x. x % 2) (set_sum b ring) ∙ parity in
       omega (arith, whole, ring.odd)
 
   odd_below : (fuel b : ℕ) → f.nest.rank b < fuel → IsBlossom g f b → vertices_in g.n f b % 2 ≡ 1
@@ -72,3 +76,14 @@ module _ (g : Darts) (are : AreDarts g) (f : Forest) (nested : IsNested g f) whe
   -- A blossom holds an odd number of vertices.
   pub odd_blossom : (b : ℕ) → IsBlossom g f b → vertices_in g.n f b % 2 ≡ 1
   odd_blossom b used = odd_below (suc (f.nest.rank b)) b (omega arith) used
+
+  -- A set holds at least as many vertices as it has parts.
+  pub large_set : (b : ℕ) → g.n ≤ b → f.nest.parts b ≢ 0 → 3 ≤ vertices_in g.n f b
+  large_set b high live = by_ring (nested.rings b high live)
+    where
+      by_ring : IsRing g f b → 3 ≤ vertices_in g.n f b
+      by_ring ring = (let sum : vertices_in g.n f b ≡ ring_sum f.nest.after (vertices_in g.n f) (f.nest.head b) (f.nest.parts b) = set_sum b ring in omega (arith, sum, each (f.nest.parts b), ring.odd, ring.some))
+        where
+          each : (k : ℕ) → k ≤ ring_sum f.nest.after (vertices_in g.n f) (f.nest.head b) k
+          each zero = omega arith
+          each (suc k) = (let one : vertices_in g.n f (walk f.nest.after (f.nest.head b) k) % 2 ≡ 1 = odd_blossom (walk f.nest.after (f.nest.head b) k) (part_used b ring k) in omega (arith, each k, one))

@@ -5,9 +5,8 @@ use Rattle.std.proofs.lemmas.Bool.{cases_eq, cases_lt, cond-true, cond-false, eq
 use Rattle.def_math.specs.Counts.{count_below}
 use Rattle.qm_laws.proofs.Counts.{count_below_same, count_below_le, count_below_sum, count_below_none, count_below_one, count_below_ones, count_below_times}
 use Rattle.def_forest.specs.Darts.{Darts, AreDarts}
-use Rattle.def_forest.specs.Forests.{Forest, number, walk}
-use Rattle.def_forest.specs.Valid.{IsNested, IsRing, IsJoint}
-use Rattle.forest_laws.specs.Walks.{live_at}
+use Rattle.def_forest.specs.Forests.{Forest, live_at, number, sets_of, walk}
+use Rattle.def_forest.specs.Valid.{AreOutermost, IsNested, IsRing, IsJoint}
 use Rattle.forest_laws.proofs.Odds.{IsBlossom}
 use Rattle.forest_laws.proofs.Writes.{true_false}
 
@@ -171,6 +170,53 @@ module _ (g : Darts) (are : AreDarts g) (f : Forest) (nested : IsNested g f) (ve
       by_size (inl l) = inl l
       by_size (inr h) = inr (h, λ none. true_false (f.holds p (g.near (f.nest.joint p))) joint.begins (nested.empty p (g.near (f.nest.joint p)) h (are.near_low (f.nest.joint p) joint.tight.low) none))
 
+  -- What is in use, with so many outermost blossoms marked that are no parts: three times the sets are few.
+  sets_beside : (tops : ℕ → ℕ) → ((p : ℕ) → p < f.size → inner p + tops p ≤ used p) → 2 * sets_of g.n f + count_below tops f.size ≤ g.n
+  sets_beside tops each =
+      let triple : count_below (λ x. 3 * live_at g.n f.nest.parts x) f.size ≡ 3 * sets_of g.n f = count_below_times 3 (live_at g.n f.nest.parts) f.size in
+      let below : count_below (λ x. 3 * live_at g.n f.nest.parts x) f.size ≤ count_below (λ x. count_below (λ p. part p x) f.size) f.size = count_below_le (λ x. 3 * live_at g.n f.nest.parts x) (λ x. count_below (λ p. part p x) f.size) f.size (λ x l. live_parts x) in
+      let swap : count_below (λ x. count_below (λ p. part p x) f.size) f.size ≡ count_below (λ p. count_below (part p) f.size) f.size = counts_swapped (λ x p. part p x) f.size f.size in
+      let inners : count_below (λ p. count_below (part p) f.size) f.size ≤ count_below inner f.size = count_below_le (λ p. count_below (part p) f.size) inner f.size (λ p l. one_set p) in
+      let all : count_below (λ p. inner p + tops p) f.size ≤ count_below used f.size = count_below_le (λ p. inner p + tops p) used f.size each in
+      let split : count_below (λ p. inner p + tops p) f.size ≡ count_below inner f.size + count_below tops f.size = count_below_sum inner tops f.size in
+      let uses : count_below used f.size ≡ count_below (λ p. number (nat_lt p g.n)) f.size + sets_of g.n f = count_below_sum (λ p. number (nat_lt p g.n)) (live_at g.n f.nest.parts) f.size in
+      omega (arith, triple, below, swap, inners, all, split, uses, count_low g.n f.size vertices)
+
+  inner_low : (p : ℕ) → inner p ≤ used p
+  inner_low p = elim (cases_eq (f.nest.up p) p) [
+    | inl top ↦ (let z : inner p ≡ 0 = cond-true (eqb (f.nest.up p) p) 0 1 (eq-eqb (f.nest.up p) p top) in omega (arith, z))
+    | inr ne ↦ (let o : inner p ≡ 1 = cond-false (eqb (f.nest.up p) p) 0 1 (ne_eqb (f.nest.up p) p ne) in omega (arith, o, is_used p (inner_used p ne)))
+  ]
+
+  -- Where there is no vertex there is no set.
+  pub no_sets : g.n ≡ 0 → sets_of g.n f ≡ 0
+  no_sets none = omega (arith, sets_beside (λ p. 0) (λ p l. omega (arith, inner_low p)), none)
+
+  -- The outermost blossom of a vertex is in use, and no part.
+  pub few_sets : AreOutermost g.n f → 0 < g.n → 2 * sets_of g.n f < g.n
+  few_sets outermost some = omega (arith, sets_beside (λ p. number (eqb p top)) each, one_at top f.size (outermost.out_low 0 some))
+    where
+      top : ℕ
+      top = f.out 0
+
+      held : f.holds top 0 ≡ true
+      held = outermost.held 0 0 some some ∙ eq-eqb (f.out 0) (f.out 0) refl
+
+      in_use : (top < g.n) ⊎ (g.n ≤ top) → IsBlossom g f top
+      in_use (inl l) = inl l
+      in_use (inr h) = inr (h, λ none. true_false (f.holds top 0) held (nested.empty top 0 h some none))
+
+      each : (p : ℕ) → p < f.size → inner p + number (eqb p top) ≤ used p
+      each p l = by_place (cases_eq p top)
+        where
+          by_place : (p ≡ top) ⊎ (p ≢ top) → inner p + number (eqb p top) ≤ used p
+          by_place (inr ne) = (let z : number (eqb p top) ≡ 0 = ap number (ne_eqb p top ne) in omega (arith, z, inner_low p))
+          by_place (inl e) =
+              let o : number (eqb p top) ≡ 1 = ap number (eq-eqb p top e) in
+              let z : inner p ≡ 0 = cond-true (eqb (f.nest.up p) p) 0 1 (eq-eqb (f.nest.up p) p (ap f.nest.up e ∙ (outermost.tops 0 some ∙ sym e))) in
+              let u : used p ≡ 1 = ap used e ∙ is_used top (in_use (cases_lt top g.n)) in
+              omega (arith, o, z, u)
+
   -- Three outermost blossoms that are in use.
   module _ (a b c : ℕ) (la : a < f.size) (lb : b < f.size) (lc : c < f.size) (ab : a ≢ b) (ac : a ≢ c) (bc : b ≢ c) (ta : f.nest.up a ≡ a) (tb : f.nest.up b ≡ b) (tc : f.nest.up c ≡ c) (ua : IsBlossom g f a) (ub : IsBlossom g f b) (uc : IsBlossom g f c) where
     top_used : (p : ℕ) → (p ≡ a) ⊎ ((p ≡ b) ⊎ (p ≡ c)) → (f.nest.up p ≡ p) × (used p ≡ 1)
@@ -191,12 +237,4 @@ module _ (g : Darts) (are : AreDarts g) (f : Forest) (nested : IsNested g f) (ve
 
     -- Then there is room for a set more.
     pub sets_few : 2 * count_below (live_at g.n f.nest.parts) f.size + 3 ≤ g.n
-    sets_few =
-        let triple : count_below (λ x. 3 * live_at g.n f.nest.parts x) f.size ≡ 3 * count_below (live_at g.n f.nest.parts) f.size = count_below_times 3 (live_at g.n f.nest.parts) f.size in
-        let below : count_below (λ x. 3 * live_at g.n f.nest.parts x) f.size ≤ count_below (λ x. count_below (λ p. part p x) f.size) f.size = count_below_le (λ x. 3 * live_at g.n f.nest.parts x) (λ x. count_below (λ p. part p x) f.size) f.size (λ x l. live_parts x) in
-        let swap : count_below (λ x. count_below (λ p. part p x) f.size) f.size ≡ count_below (λ p. count_below (part p) f.size) f.size = counts_swapped (λ x p. part p x) f.size f.size in
-        let inners : count_below (λ p. count_below (part p) f.size) f.size ≤ count_below inner f.size = count_below_le (λ p. count_below (part p) f.size) inner f.size (λ p l. one_set p) in
-        let all : count_below (λ p. inner p + three a b c p) f.size ≤ count_below used f.size = count_below_le (λ p. inner p + three a b c p) used f.size (λ p l. each p (three_at a b c p ab ac bc)) in
-        let split : count_below (λ p. inner p + three a b c p) f.size ≡ count_below inner f.size + count_below (three a b c) f.size = count_below_sum inner (three a b c) f.size in
-        let uses : count_below used f.size ≡ count_below (λ p. number (nat_lt p g.n)) f.size + count_below (live_at g.n f.nest.parts) f.size = count_below_sum (λ p. number (nat_lt p g.n)) (live_at g.n f.nest.parts) f.size in
-        omega (arith, triple, below, swap, inners, all, split, uses, three_count a b c f.size la lb lc, count_low g.n f.size vertices)
+    sets_few = omega (arith, sets_beside (three a b c) (λ p l. each p (three_at a b c p ab ac bc)), three_count a b c f.size la lb lc)

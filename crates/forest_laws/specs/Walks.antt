@@ -1,5 +1,5 @@
 -- What a walk comes past.
-use Rattle.std.specs.Prelude.{ℕ, zero, suc, ◌==◌, ◌||◌, Bool, false, nat_lt, if◌then◌else◌}
+use Rattle.std.specs.Prelude.{ℕ, zero, suc, ◌==◌, ◌||◌, Bool, false}
 use Rattle.def_forest.specs.Forests.{walk, set_at}
 
 -- Walking so many steps from a place, that place counted, one comes past another.
@@ -11,7 +11,3 @@ listed next from (suc k) x = listed next from k x || (walk next from k == x)
 abbrev pub writes : {X : Type 0} (f : ℕ → X) (place : ℕ → ℕ) (value : ℕ → X) (many : ℕ) → ℕ → X
 writes f place value zero = f
 writes f place value (suc k) = set_at (writes f place value k) (place k) (value k)
-
--- 1 for the number of a set that is in use: a number from n on that has parts.
-abbrev pub live_at : (n : ℕ) (parts : ℕ → ℕ) (b : ℕ) → ℕ
-live_at n parts b = if nat_lt b n then 0 else if parts b == 0 then 0 else 1

@@ -7,10 +7,10 @@ use Rattle.def_math.specs.Rising.{IsRising}
 use Rattle.qm_laws.proofs.Counts.{count_append, count_below_none, count_below_same}
 use Rattle.def_matching.specs.Matching.{Graph, IsSmallGraph, edge_at, ends_at}
 use Rattle.def_forest.specs.Forests.{number, splits}
-use Rattle.def_forest.specs.Tables.{ForestTables, forest_of, IsValidFor, MatchesBut}
+use Rattle.def_forest.specs.Tables.{ForestTables, forest_of, MatchesBut}
 use Rattle.forest_laws.proofs.Bounds.{leaves_vertex}
 use Rattle.forest_laws.proofs.Graphs.{dart_near, near_odd}
-use Rattle.qm_forest.specs.Rounds.{AreMarked, HasRoom, IsLaminar, IsRound, leaving, near_at, waiting, waits_but, waits_for, within}
+use Rattle.qm_forest.specs.Rounds.{IsSoundFor, AreMarked, HasRoom, IsLaminar, IsRound, leaving, near_at, waiting, waits_but, waits_for, within}
 use Rattle.qm_forest.specs.declared.rounds.Round.{Round}
 use Rattle.qm_forest.proofs.Fresh.{same_everywhere}
 use Rattle.qm_forest.proofs.Laminars.{alone}
@@ -97,7 +97,7 @@ pub count_map : {X : Type 0} (f : X → ℕ) (h : ℕ → X) (xs : List ℕ) →
 count_map f h [] = refl
 count_map f h (x ∷ xs) = ap (λ m. f (h x) + m) (count_map f h xs)
 
-module _ (t : ForestTables) (known : IsLaminar t) (g : Graph) (is : IsSmallGraph g) (valid : IsValidFor g t) (marks : List Bool) (size : length t.near ≡ 2 * length marks) (list : List ℕ) (are : AreMarked marks (length marks) list) where
+module _ (t : ForestTables) (known : IsLaminar t) (g : Graph) (is : IsSmallGraph g) (valid : IsSoundFor g t) (marks : List Bool) (size : length t.near ≡ 2 * length marks) (list : List ℕ) (are : AreMarked marks (length marks) list) where
   pub edges_is : length marks ≡ length g.edges
   edges_is = omega (arith, size, valid.darts)
 

@@ -11,10 +11,10 @@ use Rattle.def_matching.specs.Dual.{crosses}
 use Rattle.def_matching.specs.declared.weighted.WEdge.{WEdge}
 use Rattle.def_forest.specs.Darts.{darts_of}
 use Rattle.def_forest.specs.Forests.{Forest, IsTight, dual_sum_of, load}
-use Rattle.def_forest.specs.Tables.{ForestTables, forest_of, IsValidFor}
+use Rattle.def_forest.specs.Tables.{ForestTables, forest_of}
 use Rattle.forest_laws.proofs.Bounds.{just_once}
 use Rattle.forest_laws.proofs.Graphs.{dart_near, dart_far, dart_cost}
-use Rattle.qm_forest.specs.Rounds.{AreMarked, IsLaminar, IsRound, leaving, matched_by}
+use Rattle.qm_forest.specs.Rounds.{IsSoundFor, AreMarked, IsLaminar, IsRound, leaving, matched_by}
 use Rattle.qm_forest.proofs.Chosens.{count_map, edges_is, leaving_listed, met_as_left, round_ends}
 use Rattle.qm_forest.proofs.Laminars.{another}
 use Rattle.qm_forest.proofs.MateRounds.{due_one, due_same}
@@ -36,7 +36,7 @@ loads_exact g f (x ∷ xs) tight =
     let here : load f (edge_at g x).u (edge_at g x).v ≡ (edge_at g x).cost +ℤ (edge_at g x).cost = ap (λ u. load f u (edge_at g x).v) (sym (dart_near g x)) ∙ (ap (λ v. load f ((darts_of g).near (2 * x)) v) (sym (dart_far g x)) ∙ ((tight 0 (omega arith)).exact ∙ ap (λ (c : ℤ). c +ℤ c) (dart_cost g x))) in
     omega (arith, ints, rest, here)
 
-module _ (t : ForestTables) (known : IsLaminar t) (g : Graph) (is : IsSmallGraph g) (valid : IsValidFor g t) (marks : List Bool) (size : length t.near ≡ 2 * length marks) (list : List ℕ) (are : AreMarked marks (length marks) list)
+module _ (t : ForestTables) (known : IsLaminar t) (g : Graph) (is : IsSmallGraph g) (valid : IsSoundFor g t) (marks : List Bool) (size : length t.near ≡ 2 * length marks) (list : List ℕ) (are : AreMarked marks (length marks) list)
     (left : List (Option ℕ)) (round : IsRound t marks left (λ b. 0) (matched_by t (length marks))) (ended : (c : ℕ) → get_or left c None ≡ None)
     (matched : (v : ℕ) → v < g.n → (forest_of t).mate ((forest_of t).out v) ≢ None) where
   abbrev f : Forest

@@ -12,10 +12,10 @@ use Rattle.forest_laws.specs.Walks.{listed}
 use Rattle.forest_laws.proofs.Circles.{IsCircle}
 use Rattle.forest_laws.proofs.ExpandedTrees.{opened_valid}
 use Rattle.qm_forest.specs.Parts.{HasOpened, IsCourse, IsParted, hung, paired}
-use Rattle.qm_forest.specs.Ties.{HasSameNest, labelled, linked, mated}
+use Rattle.qm_forest.specs.Ties.{fixed_of, HasSameNest, labelled, linked, mated}
 use Rattle.qm_forest.specs.declared.expanding.Course.{Course}
 use Rattle.qm_forest.proofs.Leavings.{outermost_kept}
-use Rattle.qm_forest.proofs.OnWays.{ends_kept}
+use Rattle.qm_forest.proofs.OnWays.{darts_kept, ends_kept, room_kept}
 use Rattle.qm_forest.proofs.Openeds.{expanding}
 use Rattle.qm_forest.proofs.Openings.{IsJoined, are, inside as the_inside, in_tree, joined, mate_is, part_low, ring_from, first_in, last_in, tree_is}
 
@@ -165,10 +165,11 @@ module _ (g : Graph) (is : IsSmallGraph g) (t0 : ForestTables) (valid : IsValidF
             abbrev tree : (r : ℕ) × (t0.root ≡ Some r) × IsTree d f0 r
             tree = tree_is g is t0 valid b high inner weightless
 
-            pub expanded_valid : (t6 : ForestTables) → forest_of t6 ≡ f6 → length t6.hand ≡ length t2.hand → t6.root ≡ t0.root → t6.near ≡ t2.near → IsValidFor g t6
-            expanded_valid t6 seen hand root near = record {
-              darts = ap length (near ∙ (opened.near ∙ opened.same.near)) ∙ valid.darts;
-              ends = ends_kept g t0 t6 valid (near ∙ (opened.near ∙ opened.same.near));
+            pub expanded_valid : (t6 : ForestTables) → forest_of t6 ≡ f6 → length t6.hand ≡ length t2.hand → t6.root ≡ t0.root → fixed_of t6 ≡ fixed_of t2 → IsValidFor g t6
+            expanded_valid t6 seen hand root fixed = record {
+              darts = darts_kept g t0 t6 valid (fixed ∙ (opened.fixed ∙ opened.same.fixed));
+              ends = ends_kept g t0 t6 valid (fixed ∙ (opened.fixed ∙ opened.same.fixed));
+              room = room_kept g t0 t6 valid (fixed ∙ (opened.fixed ∙ opened.same.fixed));
               vertices = hand ∙ hand2;
               valid = subst (λ o. IsValid d (forest_of t6) o) (sym (root ∙ tree.1)) (subst (λ (f : Forest). IsValid d f (Some tree.0)) (sym seen)
                   (opened_valid d (are g is t0 valid b high inner weightless) f0 tree.0 (subst (λ o. IsValid d f0 o) tree.1 valid.valid) tree.2 f6 expanded.o expanded.opening expanded.opened));

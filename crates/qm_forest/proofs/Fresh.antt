@@ -8,12 +8,11 @@ use Rattle.std.proofs.lemmas.Bool.{cases_eq, cases_lt, cond-true, cond-false, eq
 use Rattle.qm_laws.proofs.Sums.{total_below_one}
 use Rattle.def_math.specs.Counts.{count_below}
 use Rattle.qm_laws.proofs.Counts.{count_below_none}
-use Rattle.forest_laws.specs.Walks.{live_at}
 use Rattle.def_matching.specs.Matching.{Graph, IsGraph, edge_at}
 use Rattle.def_forest.specs.Darts.{darts_of, far}
-use Rattle.def_forest.specs.Forests.{walk, load, dual_sum_of}
+use Rattle.def_forest.specs.Forests.{walk, live_at, load, dual_sum_of}
 use Rattle.def_forest.specs.Steps.{change}
-use Rattle.def_forest.specs.Tables.{ForestTables, forest_of, up_at, label_at, out_of, climbs, IsValidFor}
+use Rattle.def_forest.specs.Tables.{size_of, ForestTables, forest_of, up_at, label_at, out_of, climbs, IsValidFor}
 use Rattle.def_forest.specs.Valid.{AreOutermost, IsNested, IsFeasible}
 use Rattle.def_forest.specs.declared.kinds.Label.{Label}
 use Rattle.def_forest.specs.declared.kinds.Label.TheVariants.{Outside}
@@ -259,8 +258,9 @@ module _ (n size : ℕ) (lows : List ℤ) (t : ForestTables) (hid : HiddenTables
             at d (edge_at g (d / 2)).v (edge_at g (d / 2)).u l (near_odd g d (d / 2) (omega arith)) (ap (darts_of g).near (twin_odd d ne) ∙ near_even g (d - 1) (d / 2) (omega arith)) (is.right (d / 2) l) (is.left (d / 2) l) (λ e. is.apart (d / 2) l (sym e)) (omega (arith, ints, costs.edges (d / 2) l))
 
     -- The forest of single vertices is valid.
-    pub fresh_valid : AreStarts g (2 * length g.edges) t.near → IsValidFor g t
-    fresh_valid starts = record {
+    pub fresh_valid : AreStarts g (2 * length g.edges) t.near → t.room ≡ Some (size_of g) → IsValidFor g t
+    fresh_valid starts room = record {
+      room = room;
       vertices = fresh.hand.size ∙ n_is;
       darts = starts.size;
       ends = starts.each;

@@ -8,7 +8,7 @@ use Rattle.std.proofs.lemmas.List.{get_or_past}
 use Rattle.std.proofs.lemmas.Option.{slice_get_within}
 use Rattle.def_forest.specs.Forests.{Forest, walk, ring_sum}
 use Rattle.def_forest.specs.Steps.{change}
-use Rattle.def_forest.specs.Tables.{ForestTables, forest_of, climbs, label_at, out_of, up_at, IsOutermostIn}
+use Rattle.def_forest.specs.Tables.{GraphSize, ForestTables, forest_of, climbs, label_at, out_of, up_at, IsOutermostIn}
 use Rattle.forest_laws.specs.Walks.{listed}
 use Rattle.qm_pool.specs.declared.pool.Node.{Node}
 use Rattle.qm_forest.specs.Gathers.{IsRow, HasListsOf, HasRenamedRow, AreJoinable, AreJoined, AreRings, AreEnclosed, TookSet, IsFreeRing, IsGathered, root_around, live_sets}
@@ -26,9 +26,9 @@ use Rattle.qm_forest.proofs.JoinedLists.{list_few, list_renamed, row_few}
 use Rattle.qm_forest.proofs.Nests.{leader_low, leader_out}
 use Rattle.qm_forest.proofs.Ranges.{added_small, change_small, delta_small, outermost_low, told_small}
 
-module _ (h : Handles) (l : Lists) (r : Rings) (trail : Trail) (w : Weights) (e : Tree) (pool : List (Option Node)) (tied : AreTied (tables_of h l r trail w e) (hidden_of h l trail pool)) where
+module _ (h : Handles) (l : Lists) (r : Rings) (trail : Trail) (w : Weights) (e : Tree) (pool : List (Option Node)) (room : Option GraphSize) (tied : AreTied (tables_of h l r trail w e room) (hidden_of h l trail pool)) where
   abbrev t : ForestTables
-  t = tables_of h l r trail w e
+  t = tables_of h l r trail w e room
 
   abbrev hid : HiddenTables
   hid = hidden_of h l trail pool
@@ -55,7 +55,7 @@ module _ (h : Handles) (l : Lists) (r : Rings) (trail : Trail) (w : Weights) (e 
           omega (arith, ints, is, told_small t hid tied v lv, added_small t hid tied v lv))
       by_size (inr past) = (let z : get_or h.q.items v (pos 0) ≡ pos 0 = get_or_past h.q.items v (pos 0) (subst (λ m. m ≤ v) (sym tied.sizes.q) past) in omega (arith, ints, z))
 
-  module _ (front many : ℕ) (ring : IsFreeRing (tables_of h l r trail w e) front many) where
+  module _ (front many : ℕ) (ring : IsFreeRing (tables_of h l r trail w e room) front many) where
     abbrev at : ℕ → ℕ
     at k = walk (λ i. get_or r.after.items i 0) front k
 

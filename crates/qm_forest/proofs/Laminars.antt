@@ -9,7 +9,7 @@ use Rattle.def_forest.specs.Valid.{IsJoint, IsRing}
 use Rattle.forest_laws.proofs.Facts.{far_low}
 use Rattle.forest_laws.proofs.Graphs.{are_darts}
 use Rattle.forest_laws.proofs.Writes.{true_false}
-use Rattle.qm_forest.specs.Rounds.{IsLaminar, IsPairing, far_at, near_at, within}
+use Rattle.qm_forest.specs.Rounds.{IsSoundFor, IsLaminar, IsPairing, far_at, near_at, within}
 use Rattle.qm_forest.specs.Ties.{AreTied, HiddenTables, IsInUse, IsListed}
 use Rattle.qm_forest.proofs.Enclosed.{climbs_here}
 use Rattle.qm_forest.proofs.JoinedLists.{list_few, list_member}
@@ -50,6 +50,10 @@ laminar t hid tied = record {
       list_member (length t.hand) (λ k. get_or hid.following k 0) (get_or hid.first x 0) (get_or hid.last x 0) (get_or t.rank x 0) (climbs (up_at t.up) (length t.hand) x) list 1 (omega (arith, more)),
     )
 
+-- A valid forest is sound.
+pub sound : (g : Graph) (t : ForestTables) → IsValidFor g t → IsSoundFor g t
+sound g t valid = record { vertices = valid.vertices; darts = valid.darts; ends = valid.ends; valid = valid.valid }
+
 module _ (t : ForestTables) (known : IsLaminar t) where
   abbrev n : ℕ
   n = length t.hand
@@ -62,7 +66,7 @@ module _ (t : ForestTables) (known : IsLaminar t) where
       by_eq (inl e) = ap (λ x. climbs (up_at t.up) (length t.hand) v x) (sym e) ∙ (climbs_here (up_at t.up) (length t.hand) v ∙ sym (eq-eqb v w e))
       by_eq (inr ne) = off_where (climbs (up_at t.up) (length t.hand) v w) (λ on. ne (sym (known.own w v lv on))) ∙ sym (ne_eqb v w ne)
 
-  module _ (g : Graph) (is : IsSmallGraph g) (valid : IsValidFor g t) where
+  module _ (g : Graph) (is : IsSmallGraph g) (valid : IsSoundFor g t) where
     abbrev are : AreDarts (darts_of g)
     are = are_darts g is.lawful
 

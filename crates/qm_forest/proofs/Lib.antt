@@ -41,3 +41,7 @@ pub mod MateRounds
 pub mod Ends
 pub mod Openings
 pub mod Openeds
+pub mod Orders
+pub mod Outlined
+pub mod Rooms
+pub mod Handed

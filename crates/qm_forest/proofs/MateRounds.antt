@@ -7,18 +7,18 @@ use Rattle.qm_laws.proofs.Counts.{count_below_none, count_below_one, count_below
 use Rattle.def_matching.specs.Matching.{Graph, IsSmallGraph}
 use Rattle.def_forest.specs.Darts.{AreDarts, darts_of, far, twin_of}
 use Rattle.def_forest.specs.Forests.{Forest, number, splits, walk}
-use Rattle.def_forest.specs.Tables.{ForestTables, forest_of, up_at, IsValidFor}
+use Rattle.def_forest.specs.Tables.{ForestTables, forest_of, up_at}
 use Rattle.def_forest.specs.Valid.{IsMate}
 use Rattle.forest_laws.proofs.Graphs.{are_darts, twin_even, twin_odd}
 use Rattle.forest_laws.proofs.Writes.{some_is, true_false}
 use Rattle.forest_laws.proofs.Walks.{walk_sum}
-use Rattle.qm_forest.specs.Rounds.{IsLaminar, IsPairing, IsRound, entered, far_at, is_dart, matched_by, matches, near_at, waits_but, within}
+use Rattle.qm_forest.specs.Rounds.{IsSoundFor, IsLaminar, IsPairing, IsRound, entered, far_at, is_dart, matched_by, matches, near_at, waits_but, within}
 use Rattle.qm_forest.proofs.Apart.{walk_stays}
 use Rattle.qm_forest.proofs.Laminars.{alone, another}
 use Rattle.qm_forest.proofs.Pairings.{option_cases, paired_round}
 use Rattle.qm_forest.proofs.Withins.{by_pair, in_line, in_where, off_where, where_in}
 
-module _ (t : ForestTables) (known : IsLaminar t) (g : Graph) (is : IsSmallGraph g) (valid : IsValidFor g t) where
+module _ (t : ForestTables) (known : IsLaminar t) (g : Graph) (is : IsSmallGraph g) (valid : IsSoundFor g t) where
   abbrev f : Forest
   f = forest_of t
 

@@ -4,7 +4,7 @@ use Rattle.def_matching.specs.Matching.{IsSmallGraph, Graph}
 use Rattle.def_forest.specs.Darts.{darts_of, far}
 use Rattle.def_forest.specs.Forests.{Forest, IsOutermost, set_at}
 use Rattle.def_forest.specs.Steps.{grown, with_mates, IsAugmented}
-use Rattle.def_forest.specs.Tables.{ForestTables, forest_of, IsValidFor}
+use Rattle.def_forest.specs.Tables.{GraphSize, size_of, ForestTables, forest_of, IsValidFor}
 use Rattle.def_forest.specs.Valid.{IsValid, IsTree}
 use Rattle.def_forest.specs.declared.kinds.Label.{Label}
 use Rattle.def_forest.specs.declared.kinds.Label.TheVariants.{Outer, Outside}
@@ -14,7 +14,7 @@ use Rattle.forest_laws.proofs.Facts.{tree_of, outer_mate}
 use Rattle.forest_laws.proofs.Graphs.{are_darts}
 use Rattle.forest_laws.proofs.Grows.{grown_valid}
 use Rattle.forest_laws.proofs.WayLaws.{begin, turn, end_valid, end_augmented, some_none}
-use Rattle.qm_forest.specs.Ties.{IsOnWay, HasSameNest, mated, remated, labelled, relabelled}
+use Rattle.qm_forest.specs.Ties.{fixed_of, IsOnWay, HasSameNest, mated, remated, labelled, relabelled}
 use Rattle.std.proofs.lemmas.Bool.{cases_eq}
 use Rattle.forest_laws.proofs.Writes.{set_here, set_there}
 
@@ -32,16 +32,23 @@ none_is None e = refl
 none_is (Some x) e = absurd (cc e)
 
 -- Darts begin where they did.
-pub ends_kept : (g : Graph) (t u : ForestTables) → IsValidFor g t → u.near ≡ t.near → (d : ℕ) → d < 2 * length g.edges → get_or u.near d 0 ≡ (darts_of g).near d
-ends_kept g t u valid near d l = ap (λ xs. get_or xs d 0) near ∙ valid.ends d l
+pub ends_kept : (g : Graph) (t u : ForestTables) → IsValidFor g t → fixed_of u ≡ fixed_of t → (d : ℕ) → d < 2 * length g.edges → get_or u.near d 0 ≡ (darts_of g).near d
+ends_kept g t u valid fixed d l = ap (λ (p : List ℕ × Option GraphSize). get_or p.0 d 0) fixed ∙ valid.ends d l
+
+pub darts_kept : (g : Graph) (t u : ForestTables) → IsValidFor g t → fixed_of u ≡ fixed_of t → length u.near ≡ 2 * length g.edges
+darts_kept g t u valid fixed = ap (λ (p : List ℕ × Option GraphSize). length p.0) fixed ∙ valid.darts
+
+pub room_kept : (g : Graph) (t u : ForestTables) → IsValidFor g t → fixed_of u ≡ fixed_of t → u.room ≡ Some (size_of g)
+room_kept g t u valid fixed = ap (λ (p : List ℕ × Option GraphSize). p.1) fixed ∙ valid.room
 
 -- The forest is valid after the tree has grown.
 pub valid_grown : (t u : ForestTables) (g : Graph) → IsSmallGraph g → IsValidFor g t → (d m : ℕ) → Reaches (darts_of g) (forest_of t) d → (forest_of t).mate ((forest_of t).out (far (darts_of g) d)) ≡ Some m
-    → forest_of u ≡ grown (darts_of g) (forest_of t) d m → u.hand ≡ t.hand → u.root ≡ t.root → u.near ≡ t.near → IsValidFor g u
-valid_grown t u g is valid d m reach mate seen hand root near = record {
+    → forest_of u ≡ grown (darts_of g) (forest_of t) d m → u.hand ≡ t.hand → u.root ≡ t.root → fixed_of u ≡ fixed_of t → IsValidFor g u
+valid_grown t u g is valid d m reach mate seen hand root fixed = record {
   vertices = ap length hand ∙ valid.vertices;
-  darts = ap length near ∙ valid.darts;
-  ends = ends_kept g t u valid near;
+  darts = darts_kept g t u valid fixed;
+  ends = ends_kept g t u valid fixed;
+  room = room_kept g t u valid fixed;
   valid = by_tree (tree_of (darts_of g) (are_darts g is.lawful) (forest_of t) t.root valid.valid ((forest_of t).out ((darts_of g).near d)) (λ off. outer off reach.outer));
 }
   where
@@ -167,7 +174,7 @@ near_in g t is valid d v low v_is = subst (λ n. v < n) (sym valid.vertices) (su
 
 -- The same blossoms, over two changes.
 pub same_nest : (a b c : ForestTables) → HasSameNest a b → HasSameNest b c → HasSameNest a c
-same_nest a b c p q = record { hand = q.hand ∙ p.hand; top = q.top ∙ p.top; up = q.up ∙ p.up; after = q.after ∙ p.after; parts = q.parts ∙ p.parts; root = q.root ∙ p.root; near = q.near ∙ p.near }
+same_nest a b c p q = record { hand = q.hand ∙ p.hand; top = q.top ∙ p.top; up = q.up ∙ p.up; after = q.after ∙ p.after; parts = q.parts ∙ p.parts; root = q.root ∙ p.root; fixed = q.fixed ∙ p.fixed }
 
 -- What is seen, said of the mates at hand.
 pub seen_own : (t0 t1 : ForestTables) (mate : ℕ → Option ℕ) → forest_of t1 ≡ remated (forest_of t0) mate → forest_of t1 ≡ remated (forest_of t0) (forest_of t1).mate
@@ -187,20 +194,21 @@ one_more_outside f1 f2 trail k v v_is e2 done i l = ap (λ (f : Forest). f.label
     by_place (inr ne) (inr nk) = set_there f1.label (f1.out v) (f1.out (get_or trail i 0)) Outside ne ∙ done i (omega arith)
 
 -- The forest is valid after an augmentation.
-pub valid_augmented : (t u : ForestTables) (g : Graph) → IsValidFor g t → (mate : ℕ → Option ℕ) → IsValid (darts_of g) (with_mates (forest_of t) mate) None → forest_of u ≡ with_mates (forest_of t) mate → u.hand ≡ t.hand → u.root ≡ None → u.near ≡ t.near → IsValidFor g u
-valid_augmented t u g valid mate whole seen hand root near = record {
+pub valid_augmented : (t u : ForestTables) (g : Graph) → IsValidFor g t → (mate : ℕ → Option ℕ) → IsValid (darts_of g) (with_mates (forest_of t) mate) None → forest_of u ≡ with_mates (forest_of t) mate → u.hand ≡ t.hand → u.root ≡ None → fixed_of u ≡ fixed_of t → IsValidFor g u
+valid_augmented t u g valid mate whole seen hand root fixed = record {
   vertices = ap length hand ∙ valid.vertices;
-  darts = ap length near ∙ valid.darts;
-  ends = ends_kept g t u valid near;
+  darts = darts_kept g t u valid fixed;
+  ends = ends_kept g t u valid fixed;
+  room = room_kept g t u valid fixed;
   valid = subst (λ (f : Forest). IsValid (darts_of g) f u.root) (sym seen) (subst (λ (o : Option ℕ). IsValid (darts_of g) (with_mates (forest_of t) mate) o) (sym root) whole);
 }
 
 -- What has come of an augmentation.
 pub augmented : (t s u : ForestTables) (g : Graph) → IsSmallGraph g → IsValidFor g t → (start : ℕ) → Reaches (darts_of g) (forest_of t) start
     → ((r : ℕ) → t.root ≡ Some r → IsValid (darts_of g) (with_mates (forest_of t) (forest_of s).mate) None × IsAugmented (darts_of g) (forest_of t) (with_mates (forest_of t) (forest_of s).mate) r start)
-    → forest_of s ≡ remated (forest_of t) (forest_of s).mate → forest_of u ≡ with_mates (forest_of s) (forest_of s).mate → u.hand ≡ t.hand → u.root ≡ None → u.near ≡ t.near
+    → forest_of s ≡ remated (forest_of t) (forest_of s).mate → forest_of u ≡ with_mates (forest_of s) (forest_of s).mate → u.hand ≡ t.hand → u.root ≡ None → fixed_of u ≡ fixed_of t
     → ((r : ℕ) × (t.root ≡ Some r) × IsAugmented (darts_of g) (forest_of t) (forest_of u) r start) × IsValidFor g u
-augmented t s u g is valid start reach done seen ended hand root near = by_tree (tree_of (darts_of g) (are_darts g is.lawful) (forest_of t) t.root valid.valid ((forest_of t).out ((darts_of g).near start)) (λ off. outer off reach.outer))
+augmented t s u g is valid start reach done seen ended hand root fixed = by_tree (tree_of (darts_of g) (are_darts g is.lawful) (forest_of t) t.root valid.valid ((forest_of t).out ((darts_of g).near start)) (λ off. outer off reach.outer))
   where
     outer : {l : Label} → l ≡ Outside → l ≡ Outer → ⊥
     outer x y = let h : Outside ≡ Outer = sym x ∙ y in cc
@@ -209,4 +217,4 @@ augmented t s u g is valid start reach done seen ended hand root near = by_tree 
     whole = ended ∙ ap (λ (f : Forest). with_mates f (forest_of s).mate) seen
 
     by_tree : (r : ℕ) × (t.root ≡ Some r) × IsTree (darts_of g) (forest_of t) r → ((r : ℕ) × (t.root ≡ Some r) × IsAugmented (darts_of g) (forest_of t) (forest_of u) r start) × IsValidFor g u
-    by_tree w = ((w.0, w.1, subst (λ (f : Forest). IsAugmented (darts_of g) (forest_of t) f w.0 start) (sym whole) (done w.0 w.1).1), valid_augmented t u g valid (forest_of s).mate (done w.0 w.1).0 whole hand root near)
+    by_tree w = ((w.0, w.1, subst (λ (f : Forest). IsAugmented (darts_of g) (forest_of t) f w.0 start) (sym whole) (done w.0 w.1).1), valid_augmented t u g valid (forest_of s).mate (done w.0 w.1).0 whole hand root fixed)

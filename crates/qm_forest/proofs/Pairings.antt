@@ -8,11 +8,11 @@ use Rattle.qm_laws.proofs.Counts.{count_below_same, count_below_sum, count_below
 use Rattle.def_matching.specs.Matching.{Graph, IsSmallGraph}
 use Rattle.def_forest.specs.Darts.{darts_of, twin_of}
 use Rattle.def_forest.specs.Forests.{IsTight, number, splits}
-use Rattle.def_forest.specs.Tables.{ForestTables, forest_of, IsValidFor}
+use Rattle.def_forest.specs.Tables.{ForestTables, forest_of}
 use Rattle.forest_laws.proofs.Facts.{tight_twin}
 use Rattle.forest_laws.proofs.Graphs.{are_darts, twin_even, twin_odd}
 use Rattle.forest_laws.proofs.Writes.{by_order, some_is}
-use Rattle.qm_forest.specs.Rounds.{IsEntry, IsPairing, IsRound, entered, far_at, leaving, near_at, waiting, waits_but, waits_for, within}
+use Rattle.qm_forest.specs.Rounds.{IsSoundFor, IsEntry, IsPairing, IsRound, entered, far_at, leaving, near_at, waiting, waits_but, waits_for, within}
 
 -- A term of a count, and a count with more at one place.
 pub term_low : (f : ℕ → ℕ) (n k : ℕ) → k < n → f k ≤ count_below f n
@@ -187,7 +187,7 @@ module _ (t : ForestTables) (vertices : length t.hand ≤ length t.up)
       tight = λ g is valid k on. tight_now g is valid k on (cases_eq k e);
     }
       where
-        tight_now : (g : Graph) → IsSmallGraph g → IsValidFor g t → (k : ℕ) → get_or (set marks e true) k false ≡ true → (k ≡ e) ⊎ (k ≢ e) → IsTight (darts_of g) (forest_of t) (2 * k)
+        tight_now : (g : Graph) → IsSmallGraph g → IsSoundFor g t → (k : ℕ) → get_or (set marks e true) k false ≡ true → (k ≡ e) ⊎ (k ≢ e) → IsTight (darts_of g) (forest_of t) (2 * k)
         tight_now g is valid k on (inr ne) = round.tight g is valid k (sym (get_or-set_other marks e k true false ne) ∙ on)
         tight_now g is valid k on (inl at) = by_side (cases_eq (d % 2) 0)
           where

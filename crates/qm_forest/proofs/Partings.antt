@@ -5,7 +5,7 @@ use Rattle.std.proofs.Math.ListN.{set}
 use Rattle.std.specs.Prelude.{slice_get, unsigned_abs}
 use Rattle.std.proofs.lemmas.Bool.{cases_eq, cases_lt}
 use Rattle.def_forest.specs.Forests.{Forest, walk}
-use Rattle.def_forest.specs.Tables.{ForestTables, forest_of, climbs, up_at}
+use Rattle.def_forest.specs.Tables.{GraphSize, ForestTables, forest_of, climbs, up_at}
 use Rattle.forest_laws.specs.Walks.{listed}
 use Rattle.forest_laws.proofs.Walks.{listed_place}
 use Rattle.qm_pool.specs.declared.pool.Node.{Node}
@@ -24,10 +24,10 @@ use Rattle.qm_forest.proofs.JoinedLists.{list_few}
 use Rattle.qm_forest.proofs.Parted.{tied_parted, parted_is}
 use Rattle.qm_forest.proofs.PartedWays.{part_fresh, part_used, leader_in, out_in, at_in}
 
-module _ (h : Handles) (l : Lists) (r : Rings) (trail : Trail) (w : Weights) (e : Tree) (pool : List (Option Node)) (tied : AreTied (tables_of h l r trail w e) (hidden_of h l trail pool))
-    (b : ℕ) (ready : IsPartable (tables_of h l r trail w e) b) where
+module _ (h : Handles) (l : Lists) (r : Rings) (trail : Trail) (w : Weights) (e : Tree) (pool : List (Option Node)) (room : Option GraphSize) (tied : AreTied (tables_of h l r trail w e room) (hidden_of h l trail pool))
+    (b : ℕ) (ready : IsPartable (tables_of h l r trail w e room) b) where
   abbrev t : ForestTables
-  t = tables_of h l r trail w e
+  t = tables_of h l r trail w e room
 
   abbrev hid : HiddenTables
   hid = hidden_of h l trail pool
@@ -102,7 +102,7 @@ module _ (h : Handles) (l : Lists) (r : Rings) (trail : Trail) (w : Weights) (e 
       tops = λ k lk. subst (λ m. get_or l.leader.items (at k) 0 < m) (sym tied.sizes.top) (leader_in t hid tied b ready r2.up.items opened.up k lk).0;
       set_top = subst (λ m. get_or l.leader.items b 0 < m) (sym tied.sizes.top) (tied.nest.leaders b ready.low (inr ready.live)).0;
       led = led;
-      small = λ v. (let s : unsigned_abs (get_or h.q.items v (pos 0)) ≤ 2 ^ 97 = q_small h l r trail w e pool tied v in omega (arith, s));
+      small = λ v. (let s : unsigned_abs (get_or h.q.items v (pos 0)) ≤ 2 ^ 97 = q_small h l r trail w e pool room tied v in omega (arith, s));
     })
 
     pub row2 : IsRow (length r2.after.items) r2.after.items front many
@@ -120,7 +120,7 @@ module _ (h : Handles) (l : Lists) (r : Rings) (trail : Trail) (w : Weights) (e 
           handed_row.own handed_row.other handed_row.q handed_row.hands handed_row.qs handed_row.top handed_row.tops handed_row.off handed_row.offs opened.up opened.size opened.parts gave.2 gave.1 node_at.1
 
       -- The tie after the loops.
-      pub tied_after : AreTied (tables_of h2 l r2 trail w e) (hidden_of h2 l trail pool2)
+      pub tied_after : AreTied (tables_of h2 l r2 trail w e room) (hidden_of h2 l trail pool2)
       tied_after =
           subst (λ o. AreTied (record t { hand = h2.hand.items; top = h2.top.items; up = r2.up.items; parts = r2.parts.items; after = o.items; joint = r2.joint.items; head = r2.head.items }) (record hid { q = h2.q.items; off = h2.off.items; pool = pool2 })) (sym opened.after)
           (subst (λ o. AreTied (record t { hand = h2.hand.items; top = h2.top.items; up = r2.up.items; parts = r2.parts.items; joint = o.items; head = r2.head.items }) (record hid { q = h2.q.items; off = h2.off.items; pool = pool2 })) (sym opened.joint)
@@ -131,7 +131,7 @@ module _ (h : Handles) (l : Lists) (r : Rings) (trail : Trail) (w : Weights) (e 
           handed_row.own handed_row.other handed_row.q handed_row.hands handed_row.qs handed_row.top handed_row.tops handed_row.off handed_row.offs opened.up opened.size opened.parts gave.2 gave.1 node_at.1
 
       -- And what the forest sees.
-      pub seen_after : IsParted n (forest_of t) (forest_of (tables_of h2 l r2 trail w e)) (listed (λ i. get_or r.after.items i 0) front many) b
+      pub seen_after : IsParted n (forest_of t) (forest_of (tables_of h2 l r2 trail w e room)) (listed (λ i. get_or r.after.items i 0) front many) b
       seen_after =
           subst (λ o. IsParted n (forest_of t) (forest_of (record t { hand = h2.hand.items; top = h2.top.items; up = r2.up.items; parts = r2.parts.items; after = o.items; joint = r2.joint.items; head = r2.head.items })) (listed (λ i. get_or r.after.items i 0) front many) b) (sym opened.after)
           (subst (λ o. IsParted n (forest_of t) (forest_of (record t { hand = h2.hand.items; top = h2.top.items; up = r2.up.items; parts = r2.parts.items; joint = o.items; head = r2.head.items })) (listed (λ i. get_or r.after.items i 0) front many) b) (sym opened.joint)

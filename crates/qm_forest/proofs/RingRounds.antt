@@ -4,12 +4,12 @@ use Rattle.std.proofs.Math.ListN.{set}
 use Rattle.def_matching.specs.Matching.{Graph, IsSmallGraph}
 use Rattle.def_forest.specs.Darts.{darts_of}
 use Rattle.def_forest.specs.Forests.{number, walk, ring_sum}
-use Rattle.def_forest.specs.Tables.{ForestTables, forest_of, up_at, IsValidFor}
+use Rattle.def_forest.specs.Tables.{ForestTables, forest_of, up_at}
 use Rattle.def_forest.specs.Valid.{IsRing}
 use Rattle.forest_laws.specs.Walks.{listed}
 use Rattle.forest_laws.proofs.Circles.{IsCircle, circle_from}
 use Rattle.forest_laws.proofs.Walks.{listed_at, listed_closed, listed_place, walk_front}
-use Rattle.qm_forest.specs.Rounds.{IsLaminar, IsPairing, IsRound, entered, far_at, near_at, waits_but, within}
+use Rattle.qm_forest.specs.Rounds.{IsSoundFor, IsLaminar, IsPairing, IsRound, entered, far_at, near_at, waits_but, within}
 use Rattle.qm_forest.proofs.Apart.{walk_stays}
 use Rattle.qm_forest.proofs.Enclosed.{climbs_here}
 use Rattle.qm_forest.proofs.Nests.{climbs_place}
@@ -22,7 +22,7 @@ use Rattle.qm_forest.proofs.Withins.{climb_law, in_where, rank_walk, ring_front}
 pub round_rest : (t : ForestTables) (marks : List Bool) (left : List (Option ℕ)) (rest rest2 due : ℕ → ℕ) → ((b : ℕ) → b < length t.up → rest b ≡ rest2 b) → IsRound t marks left rest due → IsRound t marks left rest2 due
 round_rest t marks left rest rest2 due same round = record { each = λ b l. omega (arith, round.each b l, same b l); entry = round.entry; once = round.once; tight = round.tight }
 
-module _ (t : ForestTables) (known : IsLaminar t) (g : Graph) (is_small : IsSmallGraph g) (valid : IsValidFor g t) (p : ℕ) (inner : up_at t.up p ≢ p) where
+module _ (t : ForestTables) (known : IsLaminar t) (g : Graph) (is_small : IsSmallGraph g) (valid : IsSoundFor g t) (p : ℕ) (inner : up_at t.up p ≢ p) where
   abbrev after : ℕ → ℕ
   after k = get_or t.after k 0
 

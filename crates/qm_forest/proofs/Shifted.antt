@@ -15,9 +15,9 @@ use Rattle.forest_laws.proofs.Loads.{potential_shifted}
 use Rattle.forest_laws.proofs.Rises.{sum_rises}
 use Rattle.forest_laws.proofs.Shifts.{shift_valid}
 use Rattle.forest_laws.proofs.Grows.{rooted_valid}
-use Rattle.qm_forest.specs.Ties.{AreTied, HiddenTables, potential, added, told}
+use Rattle.qm_forest.specs.Ties.{fixed_of, AreTied, HiddenTables, potential, added, told}
 use Rattle.qm_forest.proofs.TiedWrites.{sizes_kept}
-use Rattle.qm_forest.proofs.OnWays.{ends_kept}
+use Rattle.qm_forest.proofs.OnWays.{darts_kept, ends_kept, room_kept}
 
 -- A shift after another.
 change_sum : (l : Label) (d s : ℤ) → change l (d +ℤ s) ≡ change l d +ℤ change l s
@@ -101,21 +101,23 @@ module _ (t : ForestTables) (hid : HiddenTables) (tied : AreTied t hid) (g : Gra
           omega (arith, ints, p, h, tied.numbers.potentials v lv, added_is v)
 
 -- The forest is valid after a shift whose end is feasible.
-pub valid_shift : (t u : ForestTables) (g : Graph) (s : ℤ) → IsGraph g → IsValidFor g t → IsFeasible (darts_of g) (shifted (forest_of t) s) → forest_of u ≡ shifted (forest_of t) s → u.hand ≡ t.hand → u.root ≡ t.root → u.near ≡ t.near → IsValidFor g u
-valid_shift t u g s is valid feasible seen hand root near = record {
+pub valid_shift : (t u : ForestTables) (g : Graph) (s : ℤ) → IsGraph g → IsValidFor g t → IsFeasible (darts_of g) (shifted (forest_of t) s) → forest_of u ≡ shifted (forest_of t) s → u.hand ≡ t.hand → u.root ≡ t.root → fixed_of u ≡ fixed_of t → IsValidFor g u
+valid_shift t u g s is valid feasible seen hand root fixed = record {
   vertices = ap length hand ∙ valid.vertices;
-  darts = ap length near ∙ valid.darts;
-  ends = ends_kept g t u valid near;
+  darts = darts_kept g t u valid fixed;
+  ends = ends_kept g t u valid fixed;
+  room = room_kept g t u valid fixed;
   valid = subst (λ (f : Forest). IsValid (darts_of g) f u.root) (sym seen) (subst (λ (o : Option ℕ). IsValid (darts_of g) (shifted (forest_of t) s) o) (sym root) (shift_valid (darts_of g) (are_darts g is) (forest_of t) t.root valid.valid s feasible));
 }
 
 -- The forest is valid after a blossom has become the root.
 pub valid_rooted : (t u : ForestTables) (g : Graph) → IsGraph g → IsValidFor g t → (v : ℕ) → v < length t.hand → t.root ≡ None → (forest_of t).mate ((forest_of t).out v) ≡ None
-    → forest_of u ≡ rooted (forest_of t) ((forest_of t).out v) → u.hand ≡ t.hand → u.root ≡ Some ((forest_of t).out v) → u.near ≡ t.near → IsValidFor g u
-valid_rooted t u g is valid v low none free seen hand root near = record {
+    → forest_of u ≡ rooted (forest_of t) ((forest_of t).out v) → u.hand ≡ t.hand → u.root ≡ Some ((forest_of t).out v) → fixed_of u ≡ fixed_of t → IsValidFor g u
+valid_rooted t u g is valid v low none free seen hand root fixed = record {
   vertices = ap length hand ∙ valid.vertices;
-  darts = ap length near ∙ valid.darts;
-  ends = ends_kept g t u valid near;
+  darts = darts_kept g t u valid fixed;
+  ends = ends_kept g t u valid fixed;
+  room = room_kept g t u valid fixed;
   valid = subst (λ (f : Forest). IsValid (darts_of g) f u.root) (sym seen) (subst (λ (o : Option ℕ). IsValid (darts_of g) (rooted (forest_of t) ((forest_of t).out v)) o) (sym root)
       (rooted_valid (darts_of g) (are_darts g is) (forest_of t) (subst (λ (o : Option ℕ). IsValid (darts_of g) (forest_of t) o) none valid.valid) ((forest_of t).out v) (v, subst (λ n. v < n) valid.vertices low, refl) free));
 }

@@ -4,7 +4,7 @@ use Rattle.std.proofs.lemmas.Bool.{cases_eq, cases_lt, cases_Bool, cond-true, eq
 use Rattle.def_math.specs.Counts.{count_below}
 use Rattle.def_matching.specs.Matching.{Graph, IsSmallGraph}
 use Rattle.def_forest.specs.Darts.{Darts, AreDarts, darts_of, far}
-use Rattle.def_forest.specs.Forests.{Forest, IsTight, IsOutermost, set_at, walk}
+use Rattle.def_forest.specs.Forests.{Forest, IsTight, IsOutermost, live_at, set_at, walk}
 use Rattle.def_forest.specs.Shrunk.{IsClosedRow, IsCycle, IsShrunk, IsShrinking, IsUnused}
 use Rattle.def_forest.specs.Tables.{ForestTables, forest_of, label_at, IsOutermostIn, IsValidFor}
 use Rattle.def_forest.specs.Valid.{IsMate, IsValid, IsTree}
@@ -12,7 +12,7 @@ use Rattle.def_forest.specs.Ways.{dart_or}
 use Rattle.def_forest.specs.declared.kinds.Label.{Label}
 use Rattle.def_forest.specs.declared.kinds.Label.TheVariants.{Outer, Outside}
 use Rattle.forest_laws.specs.Climbing.{rise_of, way_of, IsClimbing, ring_at, ring_dart}
-use Rattle.forest_laws.specs.Walks.{listed, live_at}
+use Rattle.forest_laws.specs.Walks.{listed}
 use Rattle.forest_laws.proofs.Forks.{at_left, at_right, at_named, dart_left, dart_over, dart_right, top_outer, closed_row, ring_cycle, walks}
 use Rattle.forest_laws.proofs.Graphs.{are_darts}
 use Rattle.forest_laws.proofs.Levels.{way_differs}
@@ -22,9 +22,9 @@ use Rattle.forest_laws.proofs.ShrunkTrees.{shrunk_valid}
 use Rattle.forest_laws.proofs.Walks.{listed_at, listed_place, writes_all}
 use Rattle.forest_laws.proofs.Writes.{label_cases, outer_named, set_here, set_there}
 use Rattle.qm_forest.specs.Gathers.{IsFreeRing, IsGathered, live_sets}
-use Rattle.qm_forest.proofs.OnWays.{ends_kept}
+use Rattle.qm_forest.proofs.OnWays.{darts_kept, ends_kept, room_kept}
 use Rattle.qm_forest.specs.Rings.{IsRingedAlike, laid_ring}
-use Rattle.qm_forest.specs.Ties.{HasSameNest, labelled, mated, left_alone}
+use Rattle.qm_forest.specs.Ties.{fixed_of, HasSameNest, labelled, mated, left_alone}
 use Rattle.qm_forest.proofs.Risings.{the_tree, named_low}
 use Rattle.qm_forest.proofs.WritesAlong.{IsForked, lain_left, lain_over, lain_right, lain_off}
 
@@ -379,10 +379,11 @@ module _ (g : Graph) (is : IsSmallGraph g) (t0 : ForestTables) (valid : IsValidF
           end_marked (inr nz) = ap inside (sym (walk_at (left + 1) (omega (arith, nz)) ∙ right_is (left + 1) 0 (omega arith))) ∙ listed_at after top many (left + 1) (omega (arith, nz))
 
       -- And the forest is valid.
-      pub shrunk_tables : t5.near ≡ t1.near → IsValidFor g t5
-      shrunk_tables near = record {
-        darts = ap length (near ∙ ap (λ (t : ForestTables). t.near) alike) ∙ valid.darts;
-        ends = ends_kept g t0 t5 valid (near ∙ ap (λ (t : ForestTables). t.near) alike);
+      pub shrunk_tables : fixed_of t5 ≡ fixed_of t1 → IsValidFor g t5
+      shrunk_tables fixed = record {
+        darts = darts_kept g t0 t5 valid (fixed ∙ ap fixed_of alike);
+        ends = ends_kept g t0 t5 valid (fixed ∙ ap fixed_of alike);
+        room = room_kept g t0 t5 valid (fixed ∙ ap fixed_of alike);
         vertices = hand ∙ (ap (λ (t : ForestTables). length t.hand) alike ∙ valid.vertices);
         valid = subst (λ (o : Option ℕ). IsValid (darts_of g) (forest_of t5) o) (sym new_root) (shrunk_valid (darts_of g) are (forest_of t0) tree_is.0 whole tree_is.2 (forest_of t5) inside top b top (left + right + 1) cycle_is unused row_is shrunk_is);
       }

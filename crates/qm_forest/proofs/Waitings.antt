@@ -1,15 +1,19 @@
 -- Sets that wait, from the one with the most vertices on, and the sets in order.
-use Rattle.std.proofs.Common.{◌≡◌, ◌≢◌, ℕ, suc, ◌+◌, ◌<◌, ◌≤◌, Bool, false, List, ◌∷◌, [], ◌++◌, length, get_or, Option, Some, None, ◌⊎◌, refl, sym, ◌∙◌, ap, subst, inl, inr, arith, length-set, get_or-set_same, get_or-set_other}
+use Rattle.std.proofs.Common.{◌≡◌, ◌≢◌, ℕ, suc, ◌+◌, ◌*◌, ◌<◌, ◌≤◌, Bool, true, false, cond, eqb, sum_by, List, ◌∷◌, [], ◌++◌, length, get_or, Option, Some, None, ◌⊎◌, refl, sym, ◌∙◌, ap, subst, inl, inr, arith, length-set, get_or-set_same, get_or-set_other}
 use Rattle.std.proofs.Math.ListN.{set}
 use Rattle.std.specs.List.{Contains}
 use Rattle.std.specs.List.Sorted.{IsNonDecreasingBy, IsPermutation, IsSorted}
 use Rattle.std.specs.Ordering.{is_lt, nat_cmp, ordering_then}
-use Rattle.std.proofs.lemmas.Bool.{cases_eq, cases_lt}
+use Rattle.std.specs.Prelude.{nat_lt}
+use Rattle.std.proofs.lemmas.Bool.{cases_eq, cases_lt, cond-false, cond-true, eq-eqb, le-ltb, lt-ltb, ne_eqb}
 use Rattle.std.proofs.lemmas.Bool.Decides.{nat_tests}
 use Rattle.std.proofs.lemmas.List.{get_or_read, get_or_past}
 use Rattle.std.proofs.lemmas.List.Elements.{All-push, Contains-push, Contains-append_left}
-use Rattle.std.proofs.lemmas.List.Sorted.{All-permutation, Contains-permutation, IsNonDecreasingBy-from_all_adjacent}
-use Rattle.def_math.specs.Counts.{count_below}
+use Rattle.std.proofs.lemmas.List.Sums.{sum_by-cons}
+use Rattle.std.proofs.lemmas.List.Sorted.{sum_by-IsPermutation, All-permutation, Contains-permutation, IsNonDecreasingBy-from_all_adjacent}
+use Rattle.def_math.specs.Counts.{count, count_below}
+use Rattle.qm_laws.proofs.Counts.{count_append, count_below_none}
+use Rattle.def_forest.specs.Forests.{live_at}
 use Rattle.def_forest.specs.Tables.{ForestTables}
 use Rattle.qm_forest.specs.Rounds.{AreInOrder, HasSets, IsEntry, IsRound, IsSized, WaitWithin, waiting, waits_but, waits_for}
 use Rattle.qm_forest.proofs.Pairings.{count_more}
@@ -49,11 +53,17 @@ firsts_rise xs sorted = IsNonDecreasingBy-from_all_adjacent (λ (x : ℕ × ℕ)
     at a b c d off (inr le) = le
     at a b c d off (inl lt) = absurd (grind (arith, nat_tests))
 
+-- A count along a list is a sum along it.
+count_is : {X : Type 0} (f : X → ℕ) (xs : List X) → count f xs ≡ sum_by f xs
+count_is f [] = refl
+count_is f (x ∷ xs) = ap (λ m. f x + m) (count_is f xs) ∙ sym (sum_by-cons f x xs)
+
 -- The sets of a list, moved about.
 pub sets_moved : (t : ForestTables) (bound : ℕ) (xs ys : List (ℕ × ℕ)) → IsPermutation xs ys → HasSets t bound xs → HasSets t bound ys
 sets_moved t bound xs ys moved has = record {
   each = All-permutation (IsSized t bound) xs ys moved has.each;
   all = λ b high low live. Contains-permutation xs ys (get_or t.rank b 0, b) moved (has.all b high low live);
+  counts = λ f. count_is (λ (set : ℕ × ℕ). f set.1) ys ∙ (sum_by-IsPermutation (λ (set : ℕ × ℕ). f set.1) xs ys moved ∙ (sym (count_is (λ (set : ℕ × ℕ). f set.1) xs) ∙ has.counts f));
 }
 
 -- What waits after a set was matched has fewer vertices, so that it is one of those before.
@@ -104,6 +114,11 @@ pub sets_more : (t : ForestTables) (b : ℕ) (xs : List (ℕ × ℕ)) → length
 sets_more t b xs high live has = record {
   each = All-push (IsSized t (b + 1)) xs (get_or t.rank b 0, b) (λ k d l. record { rank = (has.each k d l).rank; high = (has.each k d l).high; low = omega (arith, (has.each k d l).low); live = (has.each k d l).live }) (record { rank = refl; high = high; low = omega arith; live = live });
   all = λ c hc lc used. by_place c hc lc used (cases_eq c b);
+  counts = λ f. (
+      let last : count (λ (set : ℕ × ℕ). f set.1) (xs ++ (get_or t.rank b 0, b) ∷ []) ≡ count (λ (set : ℕ × ℕ). f set.1) xs + (f b + 0) = count_append (λ (set : ℕ × ℕ). f set.1) xs ((get_or t.rank b 0, b) ∷ []) in
+      let here : live_at (length t.hand) (λ k. get_or t.parts k 0) b * f b ≡ 1 * f b = ap (λ (m : ℕ). m * f b) (cond-false (nat_lt b (length t.hand)) 0 (cond (eqb (get_or t.parts b 0) 0) 0 1) (le-ltb b (length t.hand) high) ∙ cond-false (eqb (get_or t.parts b 0) 0) 0 1 (ne_eqb (get_or t.parts b 0) 0 live)) in
+      let up : count_below (λ c. live_at (length t.hand) (λ k. get_or t.parts k 0) c * f c) (b + 1) ≡ count_below (λ c. live_at (length t.hand) (λ k. get_or t.parts k 0) c * f c) (suc b) = (let o : b + 1 ≡ suc b = omega arith in ap (count_below (λ c. live_at (length t.hand) (λ k. get_or t.parts k 0) c * f c)) o) in
+      omega (arith, last, here, up, has.counts f));
 }
   where
     by_place : (c : ℕ) → length t.hand ≤ c → c < b + 1 → get_or t.parts c 0 ≢ 0 → (c ≡ b) ⊎ (c ≢ b) → Contains (xs ++ (get_or t.rank b 0, b) ∷ []) (get_or t.rank c 0, c)
@@ -112,14 +127,31 @@ sets_more t b xs high live has = record {
 
 pub sets_same : (t : ForestTables) (b : ℕ) (xs : List (ℕ × ℕ)) → get_or t.parts b 0 ≡ 0 → HasSets t b xs → HasSets t (b + 1) xs
 sets_same t b xs none has = record {
+  counts = λ f. (
+      let here : live_at (length t.hand) (λ k. get_or t.parts k 0) b * f b ≡ 0 * f b = ap (λ (m : ℕ). m * f b) (dead (nat_lt b (length t.hand)) (eqb (get_or t.parts b 0) 0) (eq-eqb (get_or t.parts b 0) 0 none)) in
+      let up : count_below (λ c. live_at (length t.hand) (λ k. get_or t.parts k 0) c * f c) (b + 1) ≡ count_below (λ c. live_at (length t.hand) (λ k. get_or t.parts k 0) c * f c) (suc b) = (let o : b + 1 ≡ suc b = omega arith in ap (count_below (λ c. live_at (length t.hand) (λ k. get_or t.parts k 0) c * f c)) o) in
+      omega (arith, here, up, has.counts f));
   each = λ k d l. record { rank = (has.each k d l).rank; high = (has.each k d l).high; low = omega (arith, (has.each k d l).low); live = (has.each k d l).live };
   all = λ c hc lc used. by_place c hc lc used (cases_eq c b);
 }
   where
+    dead : (low off : Bool) → off ≡ true → ◌≡◌ {A = ℕ} (cond low 0 (cond off 0 1)) 0
+    dead true off e = refl
+    dead false true e = refl
+    dead false false e = absurd (cc e)
+
     by_place : (c : ℕ) → length t.hand ≤ c → c < b + 1 → get_or t.parts c 0 ≢ 0 → (c ≡ b) ⊎ (c ≢ b) → Contains xs (get_or t.rank c 0, c)
     by_place c hc lc used (inl e) = absurd (used (ap (λ z. get_or t.parts z 0) e ∙ none))
     by_place c hc lc used (inr ne) = has.all c hc (omega (arith, lc, ne)) used
 
 -- No set below the vertices' number is one.
 pub sets_none : (t : ForestTables) (xs : List (ℕ × ℕ)) → length xs ≡ 0 → HasSets t (length t.hand) xs
-sets_none t xs none = record { each = λ k d l. absurd (omega (arith, l, none)); all = λ b high low live. absurd (omega (arith, high, low)) }
+sets_none t xs none = record {
+  each = λ k d l. absurd (omega (arith, l, none));
+  all = λ b high low live. absurd (omega (arith, high, low));
+  counts = λ f. none_in f xs none ∙ sym (count_below_none (λ b. live_at (length t.hand) (λ k. get_or t.parts k 0) b * f b) (length t.hand) (λ b l. (let z : live_at (length t.hand) (λ k. get_or t.parts k 0) b * f b ≡ 0 * f b = ap (λ (m : ℕ). m * f b) (cond-true (nat_lt b (length t.hand)) 0 (cond (eqb (get_or t.parts b 0) 0) 0 1) (lt-ltb b (length t.hand) l)) in omega (arith, z))));
+}
+  where
+    none_in : (f : ℕ → ℕ) (ys : List (ℕ × ℕ)) → length ys ≡ 0 → count (λ (set : ℕ × ℕ). f set.1) ys ≡ 0
+    none_in f [] e = refl
+    none_in f (y ∷ ys) e = absurd (omega (arith, e))

@@ -4,12 +4,12 @@ use Rattle.std.specs.Prelude.{length, slice_get, slice_index, slice_index_or, sl
 use Rattle.std.specs.Prelude.{◌+ℤ◌, ◌-ℤ◌, unsigned_abs}
 use Rattle.def_matching.specs.Matching.{Vertex}
 use Rattle.def_forest.specs.Darts.{Dart}
-use Rattle.def_forest.specs.Forests.{Blossom, Forest, walk, ring_sum, set_at}
+use Rattle.def_forest.specs.Forests.{Blossom, Forest, live_at, walk, ring_sum, set_at}
 use Rattle.def_forest.specs.Tables.{ForestTables, forest_of, label_at, out_of, up_at, IsOutermostIn}
 use Rattle.def_math.specs.Counts.{count_below}
-use Rattle.forest_laws.specs.Walks.{listed, live_at, writes}
+use Rattle.forest_laws.specs.Walks.{listed, writes}
 use Rattle.def_forest.specs.declared.kinds.Label.TheVariants.{Outer, Outside}
-use Rattle.qm_forest.specs.Ties.{HasSameNest, labelled, left_alone, mated}
+use Rattle.qm_forest.specs.Ties.{HasSameNest, fixed_of, labelled, left_alone, mated}
 use Rattle.qm_pool.specs.declared.pool.Node.{Node}
 use Rattle.qm_forest.specs.declared.tables.Handles.{Handles}
 use Rattle.qm_forest.specs.declared.tables.Lists.{Lists}
@@ -221,4 +221,4 @@ pub record HasClosed (old new : ForestTables) (top many : ℕ) (mate : Option Da
   pub root : (r : Blossom) → old.root ≡ Some r
       → new.root ≡ Some (if listed (slice_index left.after) top many r then b else r)
   pub hand : length new.hand ≡ length old.hand
-  pub near : new.near ≡ old.near
+  pub fixed : fixed_of new ≡ fixed_of old

@@ -4,3 +4,4 @@ pub mod Rings
 pub mod Rounds
 pub mod Ties
 pub mod Views
+pub mod Outlines

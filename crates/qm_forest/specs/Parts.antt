@@ -9,7 +9,7 @@ use Rattle.def_forest.specs.declared.kinds.Label.{Label}
 use Rattle.def_forest.specs.declared.kinds.Label.TheVariants.{Outer, Inner, Outside}
 use Rattle.forest_laws.specs.Walks.{listed, writes}
 use Rattle.qm_forest.specs.Gathers.{HasListAt, IsRow, lists_at}
-use Rattle.qm_forest.specs.Ties.{HasSameNest, labelled, mated}
+use Rattle.qm_forest.specs.Ties.{HasSameNest, fixed_of, labelled, mated}
 use Rattle.qm_forest.specs.declared.expanding.Course.{Course}
 use Rattle.qm_forest.specs.declared.tables.Handles.{Handles}
 use Rattle.qm_forest.specs.declared.tables.Lists.{Lists}
@@ -124,7 +124,7 @@ pub record HasOpened (old new : ForestTables) (b : Blossom) : Type 0 where
       (listed (slice_index left.after) (slice_index left.head b) (slice_index left.parts b)) b
   pub root : new.root ≡ left.root
   pub hand : length new.hand ≡ length left.hand
-  pub near : new.near ≡ left.near
+  pub fixed : fixed_of new ≡ fixed_of left
 
 -- The dart from a blossom of a ring to the next, or else to the one before.
 abbrev pub side_dart : (f : Forest) (before x : Blossom) (forward : Bool) → Dart

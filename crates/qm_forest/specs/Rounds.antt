@@ -7,10 +7,19 @@ use Rattle.def_math.specs.Counts.{count, count_below}
 use Rattle.def_math.specs.Rising.{IsRising}
 use Rattle.def_matching.specs.Matching.{Graph, Vertex, IsSmallGraph}
 use Rattle.def_forest.specs.Darts.{Dart, darts_of, twin_of}
-use Rattle.def_forest.specs.Forests.{Blossom, IsTight, number, splits}
-use Rattle.def_forest.specs.Tables.{ForestTables, forest_of, climbs, up_at, IsValidFor}
+use Rattle.def_forest.specs.Forests.{Blossom, IsTight, live_at, number, splits}
+use Rattle.def_forest.specs.Valid.{IsValid}
+use Rattle.def_forest.specs.Tables.{ForestTables, forest_of, climbs, up_at}
 use Rattle.qm_forest.specs.Ties.{IsInUse}
 use Rattle.qm_forest.specs.declared.rounds.Round.{Round}
+
+-- The forest is valid for a graph, whose darts begin where they do in the forest. There may be no room for what it
+-- comes to.
+pub record IsSoundFor (g : Graph) (t : ForestTables) : Type 0 where
+  pub vertices : length t.hand ≡ g.n
+  pub darts : length t.near ≡ 2 * length g.edges
+  pub ends : (d : Dart) → d < 2 * length g.edges → slice_index t.near d ≡ (darts_of g).near d
+  pub valid : IsValid (darts_of g) (forest_of t) t.root
 
 -- Blossom b is blossom c, or lies in it.
 abbrev pub within : (t : ForestTables) (b c : Blossom) → Bool
@@ -54,7 +63,7 @@ pub record IsRound (t : ForestTables) (marks : List Bool) (left_out : List (Opti
   pub each : (b : Blossom) → b < length t.up → leaving t marks b + (waiting t left_out b + rest b) ≡ due b
   pub entry : (c : Blossom) (v : Vertex) → slice_index_or left_out c None ≡ Some v → IsEntry t c v
   pub once : (v : Vertex) → v < length t.hand → due v ≤ 1
-  pub tight : (g : Graph) → IsSmallGraph g → IsValidFor g t → (e : ℕ) → slice_index_or marks e false ≡ true
+  pub tight : (g : Graph) → IsSmallGraph g → IsSoundFor g t → (e : ℕ) → slice_index_or marks e false ≡ true
       → IsTight (darts_of g) (forest_of t) (2 * e)
 
 -- What the tables say of how blossoms lie in each other: the way out rises, and ends soon.
@@ -95,7 +104,7 @@ pub record IsPairing (t : ForestTables) (x y : Blossom) (d : Dart) : Type 0 wher
   pub law : (b : Blossom) → b < length t.up
       → number (splits ((forest_of t).holds b) (near_at t d) (far_at t d))
       + (waits_but t b x (near_at t d) + waits_but t b y (far_at t d)) ≡ number (within t b x) + number (within t b y)
-  pub tight : (g : Graph) → IsSmallGraph g → IsValidFor g t → IsTight (darts_of g) (forest_of t) d
+  pub tight : (g : Graph) → IsSmallGraph g → IsSoundFor g t → IsTight (darts_of g) (forest_of t) d
 
 -- A set waits from now on; a single vertex does not.
 abbrev pub entered : (n : ℕ) (left_out : List (Option Vertex)) (c : Blossom) (v : Vertex) → List (Option Vertex)
@@ -113,10 +122,14 @@ pub record HasSets (t : ForestTables) (bound : ℕ) (sets : List (ℕ × Blossom
   pub each : All (IsSized t bound) sets
   pub all : (b : Blossom) → length t.hand ≤ b → b < bound → slice_index t.parts b ≢ 0
       → Contains sets (slice_index t.rank b, b)
+  -- Each of them is there once.
+  pub counts : (f : Blossom → ℕ) → count (λ set. f set.1) sets
+      ≡ count_below (λ b. live_at (length t.hand) (slice_index t.parts) b * f b) bound
 
 -- All sets in use, those with fewer vertices first.
 pub record AreInOrder (t : ForestTables) (sets : List (ℕ × Blossom)) : Type 0 where
   pub has : HasSets t (length t.up) sets
+  pub few : length t.hand + length sets ≤ length t.up
   pub rising : IsNonDecreasingBy (λ (set : ℕ × Blossom). set.0) sets
 
 -- Each set that waits is one of the first of a list.

@@ -8,11 +8,11 @@ use Rattle.def_matching.specs.Matching.{IsSmallGraph, Vertex, Graph, edge_at}
 use Rattle.def_forest.specs.Darts.{darts_of}
 use Rattle.def_forest.specs.Valid.{IsTree}
 use Rattle.def_forest.specs.Ways.{IsAlmost}
-use Rattle.def_forest.specs.Forests.{Blossom, Forest, splits, walk, set_at}
+use Rattle.def_forest.specs.Forests.{Blossom, Forest, live_at, splits, walk, set_at}
 use Rattle.def_forest.specs.Steps.{change}
-use Rattle.def_forest.specs.Tables.{up_at, ForestTables, forest_of, out_of, label_at, weight_at, climbs, IsValidFor}
+use Rattle.def_forest.specs.Tables.{up_at, ForestTables, GraphSize, forest_of, out_of, label_at, weight_at, climbs, IsValidFor}
 use Rattle.def_forest.specs.declared.kinds.Label.{Label}
-use Rattle.forest_laws.specs.Walks.{listed, live_at, writes}
+use Rattle.forest_laws.specs.Walks.{listed, writes}
 use Rattle.qm_pool.specs.declared.pool.Node.{Node}
 use Rattle.def_forest.specs.declared.kinds.Label.TheVariants.{Outside}
 
@@ -156,6 +156,10 @@ pub record AreTied (t : ForestTables) (h : HiddenTables) : Type 0 where
   pub trail : IsTrailed (length t.hand) t.hand t.top t.label t.trail h.touched
   pub pool : IsPooled (length t.hand) (length t.up) t.parts h.pool
 
+-- What stays as long as the forest lives: where darts begin, and the room.
+abbrev pub fixed_of : (t : ForestTables) → List Vertex × Option GraphSize
+fixed_of t = (t.near, t.room)
+
 -- Only labels, mates, links and weights may differ: the blossoms and the root are the same.
 pub record HasSameNest (old new : ForestTables) : Type 0 where
   pub hand : new.hand ≡ old.hand
@@ -164,7 +168,7 @@ pub record HasSameNest (old new : ForestTables) : Type 0 where
   pub after : new.after ≡ old.after
   pub parts : new.parts ≡ old.parts
   pub root : new.root ≡ old.root
-  pub near : new.near ≡ old.near
+  pub fixed : fixed_of new ≡ fixed_of old
 
 -- So many blossoms of a ring have left the tree, and have no mates.
 abbrev pub left_alone : (f : Forest) (front many : ℕ) → Forest

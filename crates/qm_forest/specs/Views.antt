@@ -1,7 +1,7 @@
 -- The tables of a forest, those that contracts see and those that they do not.
 use Rattle.std.specs.Prelude.{List, Option}
 use Rattle.std.specs.Vec.{vec_capacity}
-use Rattle.def_forest.specs.Tables.{ForestTables}
+use Rattle.def_forest.specs.Tables.{ForestTables, GraphSize}
 use Rattle.qm_pool.specs.declared.pool.Node.{Node}
 use Rattle.qm_forest.specs.Ties.{HiddenTables}
 use Rattle.qm_forest.specs.declared.tables.Handles.{Handles}
@@ -11,8 +11,9 @@ use Rattle.qm_forest.specs.declared.tables.Trail.{Trail}
 use Rattle.qm_forest.specs.declared.tables.Tree.{Tree}
 use Rattle.qm_forest.specs.declared.tables.Weights.{Weights}
 
-abbrev pub tables_of : (h : Handles) (l : Lists) (r : Rings) (trail : Trail) (w : Weights) (t : Tree) → ForestTables
-tables_of h l r trail w t = record {
+abbrev pub tables_of : (h : Handles) (l : Lists) (r : Rings) (trail : Trail) (w : Weights) (t : Tree) (room : Option GraphSize)
+    → ForestTables
+tables_of h l r trail w t room = record {
   hand = h.hand.items;
   top = h.top.items;
   base = w.base.items;
@@ -29,6 +30,7 @@ tables_of h l r trail w t = record {
   rank = l.rank.items;
   trail = trail.vertices.items;
   near = t.near.items;
+  room = room;
 }
 
 abbrev pub hidden_of : (h : Handles) (l : Lists) (trail : Trail) (pool : List (Option Node)) → HiddenTables

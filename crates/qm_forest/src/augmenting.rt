@@ -11,7 +11,7 @@ ghost use Rattle.def_forest.specs.Valid.{IsValid};
 ghost use Rattle.def_forest.specs.declared.kinds.EdgeKind.TheVariants.{Augment};
 ghost use Rattle.def_forest.specs.declared.kinds.Label.TheVariants.{Outside};
 ghost use Rattle.def_forest.specs.Ways.{Reaches};
-ghost use Rattle.qm_forest.specs.Ties.{HasSameNest, relabelled, remated};
+ghost use Rattle.qm_forest.specs.Ties.{fixed_of, HasSameNest, relabelled, remated};
 
 use crate::darts::{near, twin};
 use crate::forest::Forest;
@@ -69,7 +69,7 @@ impl Forest {
         ensures seen { forest_of self.new ≡ with_mates (forest_of self.old) (forest_of self.old).mate }
         ensures root { self.new.root ≡ None }
         ensures hand { self.new.hand ≡ self.old.hand }
-        ensures near { self.new.near ≡ self.old.near }
+        ensures fixed { fixed_of self.new ≡ fixed_of self.old }
     {
         for k in 0..self.trail_length() {
             let v = self.trail_at(k);
@@ -101,7 +101,7 @@ impl Forest {
         ensures seen { forest_of self.new ≡ relabelled (forest_of self.old) (λ b. Outside) }
         ensures root { self.new.root ≡ None }
         ensures hand { self.new.hand ≡ self.old.hand }
-        ensures near { self.new.near ≡ self.old.near }
+        ensures fixed { fixed_of self.new ≡ fixed_of self.old }
     {
         self.tree.root = None;
         self.weights.delta = 0;

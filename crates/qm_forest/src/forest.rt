@@ -1,12 +1,14 @@
 //! The forest's tables and what can be read from them at once.
 
-ghost use Rattle.std.specs.Prelude.{◌≡◌, ◌+◌, ◌-ℤ◌, ◌*ℤ◌, ◌^◌, ◌<◌, ◌≤◌, ℕ, pos, length, slice_index, slice_index_or};
+ghost use Rattle.std.specs.Prelude.{◌≡◌, ◌+◌, ◌-ℤ◌, ◌*ℤ◌, ◌^◌, ◌<◌, ◌≤◌, ◌⊎◌, ℕ, pos, length, slice_index, slice_index_or};
 ghost use Rattle.std.specs.Prelude.{unsigned_abs, is_some, Option, None};
-ghost use Rattle.def_forest.specs.Forests.{set_at};
+ghost use Rattle.def_forest.specs.Forests.{Blossom, set_at};
 ghost use Rattle.def_forest.specs.Tables.{forest_of, label_at, IsOutermostIn};
 ghost use Rattle.qm_forest.specs.Ties.{potential, HasSameNest, labelled, mated, linked};
 
 use crate::numbers::{added_at, hand_of, label_of, sum_at, top_of, weight_from};
+use crate::room::Room;
+use crate::start::greater_of;
 use crate::tables::{Handles, Lists, Rings, Trail, Tree, Weights};
 use def_forest::Label;
 use qm_pool::Pool;
@@ -27,6 +29,8 @@ pub struct Forest {
     pub(crate) tree: Tree,
     /// The numbers of sets that are in use.
     pub(crate) pool: Pool,
+    /// Room for what the forest comes to.
+    pub(crate) room: Option<Room>,
 }
 
 impl Model for Forest {
@@ -53,9 +57,10 @@ impl Model for Forest {
       rank = f.lists.rank.items;
       trail = f.trail.vertices.items;
       near = f.tree.near.items;
+      room = f.room;
     } };
 
-    ghost invariant = { λ f. AreTied (tables_of f.handles f.lists f.rings f.trail f.weights f.tree)
+    ghost invariant = { λ f. AreTied (tables_of f.handles f.lists f.rings f.trail f.weights f.tree f.room)
         (hidden_of f.handles f.lists f.trail f.pool) };
 }
 
@@ -91,7 +96,36 @@ impl Forest {
         requires { IsOutermostIn self.now b }
         ensures { result ≡ (forest_of self.now).weight b }
     {
+        let _ = &self.weights;
+        self.weight_of(b)
+    }
+
+    /// The weight of a blossom, also of one within a set.
+    pub(crate) fn weight_of(&self, b: u32) -> i64
+        requires { b < length self.now.up }
+        ensures { result ≡ (forest_of self.now).weight b }
+    {
         weight_from(&self.weights.base, &self.tree.label, self.weights.delta, b) as i64
+    }
+
+    /// The greatest weight of a blossom, up or down. Linear.
+    pub fn greatest_weight(&self) -> u64
+        ensures above { (b : Blossom) → b < length self.now.up → unsigned_abs ((forest_of self.now).weight b) ≤ result }
+        ensures attained { (result ≡ 0) ⊎ ((b : Blossom) × (unsigned_abs ((forest_of self.now).weight b) ≡ result)) }
+    {
+        let mut most = 0;
+        for b in 0..self.numbers() {
+            most = greater_of(most, self.weight_size(b));
+        }
+        most
+    }
+
+    /// The weight of a blossom without its sign.
+    fn weight_size(&self, b: u32) -> u64
+        requires { b < length self.now.up }
+        ensures { result ≡ unsigned_abs ((forest_of self.now).weight b) }
+    {
+        self.weight_of(b).unsigned_abs()
     }
 
     /// How many vertices there are.

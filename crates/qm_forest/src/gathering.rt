@@ -7,6 +7,7 @@ ghost use Rattle.def_forest.specs.Tables.{forest_of};
 ghost use Rattle.forest_laws.specs.Walks.{listed};
 ghost use Rattle.qm_forest.specs.Gathers.{HasRenamed, IsRow, HasListAt, HasListsOf, HasRenamedRow};
 ghost use Rattle.qm_forest.specs.Gathers.{TookSet, IsFreeRing, IsGathered, root_around};
+ghost use Rattle.qm_forest.specs.Ties.{fixed_of};
 ghost use Rattle.qm_forest.specs.Gathers.{HasLeaders, differ_by, AreJoinable, AreJoined, AreRings, AreEnclosed};
 
 use crate::forest::Forest;
@@ -181,7 +182,7 @@ impl Forest {
             ≡ Some (if listed (slice_index self.old.after) front many r then result else r) }
         ensures none { self.old.root ≡ None → self.new.root ≡ None }
         ensures hand { length self.new.hand ≡ length self.old.hand }
-        ensures near { self.new.near ≡ self.old.near }
+        ensures fixed { fixed_of self.new ≡ fixed_of self.old }
     {
         let set = take_set(&mut self.pool, self.handles.hand.len() as u32, front);
         let big = rename_row(

@@ -9,7 +9,7 @@ ghost use Rattle.def_forest.specs.Tables.{forest_of, kind_of, outer_dart, IsVali
 ghost use Rattle.def_forest.specs.declared.kinds.EdgeKind.TheVariants.{Grow, Augment};
 ghost use Rattle.def_forest.specs.declared.kinds.Label.TheVariants.{Outside};
 ghost use Rattle.def_forest.specs.Ways.{Reaches};
-ghost use Rattle.qm_forest.specs.Ties.{HasSameNest, relabelled, remated};
+ghost use Rattle.qm_forest.specs.Ties.{fixed_of, HasSameNest, relabelled, remated};
 
 use crate::darts::{edge_of, near, twin};
 use crate::forest::Forest;
@@ -56,7 +56,7 @@ impl Forest {
         ensures changed { IsGrown (darts_of (graph g.now)) (forest_of self.old) (forest_of self.new) d }
         ensures root { self.new.root ≡ self.old.root }
         ensures hand { self.new.hand ≡ self.old.hand }
-        ensures near { self.new.near ≡ self.old.near }
+        ensures fixed { fixed_of self.new ≡ fixed_of self.old }
     {
         let v = near(g, twin(d));
         let reached = self.outermost(v);

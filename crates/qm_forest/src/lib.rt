@@ -15,12 +15,16 @@ mod numbers;
 mod ordering;
 mod parting;
 mod ring;
+mod room;
 mod rounds;
 mod search;
 mod shrinking;
 mod start;
 mod tables;
+#[cfg(test)]
+mod tests;
 mod writes;
+mod writing;
 
 pub use darts::{near, twin};
 pub use forest::Forest;

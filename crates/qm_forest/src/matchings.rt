@@ -1,12 +1,12 @@
 //! The matching edges of a blossom that match all of its vertices but one.
 
-ghost use Rattle.std.specs.Prelude.{◌≡◌, ◌≢◌, ◌*ℤ◌, ◌*◌, ◌+◌, ◌^◌, ◌<◌, ◌≤◌, ℕ, true, false, length, slice_index_or};
-ghost use Rattle.std.specs.Prelude.{replicate, pos, IfOk, None};
+ghost use Rattle.std.specs.Prelude.{◌≡◌, ◌+◌, ◌^◌, ◌<◌, ◌≤◌, ℕ, true, false, length, replicate, IfOk, None};
 ghost use Rattle.std.specs.Vec.{vec_capacity};
-ghost use Rattle.def_matching.specs.Matching.{Graph, IsPerfect, IsSmallGraph, Vertex, matching_cost};
-ghost use Rattle.def_forest.specs.Forests.{Blossom, dual_sum_of};
+ghost use Rattle.def_matching.specs.Matching.{Graph, IsSmallGraph, Vertex};
+ghost use Rattle.def_forest.specs.Forests.{Blossom};
 ghost use Rattle.def_forest.specs.Tables.{forest_of, IsValidFor, MatchesBut};
-ghost use Rattle.qm_forest.specs.Rounds.{IsRound, HasRoom, AreMarked};
+ghost use Rattle.qm_forest.specs.Rounds.{IsRound, IsSoundFor, HasRoom, AreInOrder, AreMarked};
+ghost use Rattle.qm_forest.specs.Outlines.{IsChosen};
 
 use crate::forest::Forest;
 use crate::rounds::Round;
@@ -33,22 +33,19 @@ impl Forest {
         Ok(edges)
     }
 
-    /// The matching edges of all blossoms that are matched, in rising order. Where all are it is perfect, and twice its
-    /// cost is the sum of the dual.
-    pub fn matching(&self, alloc: Global) -> Result<Vec<u32>, Memory>
-        requires valid { (g : Graph) × IsSmallGraph g × IsValidFor g self.now }
-        ensures { IfOk result (λ m. (g : Graph) → IsSmallGraph g → IsValidFor g self.now
-            → ((v : Vertex) → v < g.n → (forest_of self.now).mate ((forest_of self.now).out v) ≢ None)
-            → IsPerfect g m.items × (dual_sum_of (forest_of self.now) ≡ (pos 2 *ℤ matching_cost g m.items))) }
+    /// Chooses the edges that match the matched blossoms and all within them, and lists the sets, those with fewer
+    /// vertices first.
+    pub(crate) fn choose(&self, sets: &mut Vec<(u32, u32)>, round: &mut Round)
+        requires valid { (g : Graph) × IsSmallGraph g × IsSoundFor g self.now }
+        requires sets { length self.now.up ≤ length self.now.hand + vec_capacity sets.old }
+        requires room { HasRoom self.now round.old }
+        requires begun { IsRound self.now round.old.marks.items round.old.left_out.items (λ b. 0) (λ b. 0) }
+        ensures sets { AreInOrder self.now sets.new.items }
+        ensures chosen { IsChosen self.now round.new }
     {
-        let mut round = self.new_round(alloc)?;
-        let mut sets = Vec::with_capacity(alloc, round.left_out.len())?;
-        let mut edges = Vec::with_capacity(alloc, round.marks.len())?;
-        self.list_sets(&mut sets);
-        self.match_mates(&mut round);
-        self.match_waiting(&sets, &mut round);
-        list_marked(&round.marks, &mut edges);
-        Ok(edges)
+        self.list_sets(sets);
+        self.match_mates(round);
+        self.match_waiting(sets, round);
     }
 
     /// Room for the edges that are chosen and the sets that wait: there are none yet.
@@ -65,7 +62,7 @@ impl Forest {
 }
 
 /// No edge is chosen, and no set waits.
-fn empty_round(alloc: Global, edges: usize, size: usize) -> Result<Round, Memory>
+pub(crate) fn empty_round(alloc: Global, edges: usize, size: usize) -> Result<Round, Memory>
     ensures marks { IfOk result (λ round. round.marks.items ≡ replicate edges false) }
     ensures left_out { IfOk result (λ round. round.left_out.items ≡ replicate size None) }
 {
@@ -76,7 +73,7 @@ fn empty_round(alloc: Global, edges: usize, size: usize) -> Result<Round, Memory
 }
 
 /// Lists the numbers at which marks stand.
-fn list_marked(marks: &[bool], list: &mut Vec<u32>)
+pub(crate) fn list_marked(marks: &[bool], list: &mut Vec<u32>)
     requires few { length marks.now ≤ 2 ^ 30 }
     requires room { length marks.now ≤ vec_capacity list.old }
     ensures { AreMarked marks.now (length marks.now) list.new.items }

@@ -7,6 +7,7 @@ ghost use Rattle.forest_laws.specs.Walks.{listed};
 ghost use Rattle.qm_forest.specs.Gathers.{HasListAt, IsRow, AreRings};
 ghost use Rattle.qm_forest.specs.Parts.{HasOwnLeader, HasHandedOver, HasPartLists, HasHandedRow, AreOpened};
 ghost use Rattle.qm_forest.specs.Parts.{IsPartable, IsParted};
+ghost use Rattle.qm_forest.specs.Ties.{fixed_of};
 ghost use Rattle.qm_pool.specs.declared.pool.Node.{Node};
 
 use crate::forest::Forest;
@@ -82,7 +83,7 @@ impl Forest {
             (listed (slice_index self.old.after) (slice_index self.old.head b) (slice_index self.old.parts b)) b }
         ensures root { self.new.root ≡ self.old.root }
         ensures hand { length self.new.hand ≡ length self.old.hand }
-        ensures near { self.new.near ≡ self.old.near }
+        ensures fixed { fixed_of self.new ≡ fixed_of self.old }
     {
         let front = self.rings.head[b as usize];
         let many = self.rings.parts[b as usize];

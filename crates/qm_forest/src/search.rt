@@ -8,7 +8,7 @@ ghost use Rattle.def_forest.specs.Forests.{Blossom};
 ghost use Rattle.def_forest.specs.Steps.{rooted, shifted};
 ghost use Rattle.def_forest.specs.Tables.{forest_of, IsValidFor};
 ghost use Rattle.def_forest.specs.Valid.{IsFeasible};
-ghost use Rattle.qm_forest.specs.Ties.{HasSameNest};
+ghost use Rattle.qm_forest.specs.Ties.{fixed_of, HasSameNest};
 
 use crate::forest::Forest;
 use def_forest::Label;
@@ -33,7 +33,7 @@ impl Forest {
     fn set_root(&mut self, b: u32)
         ensures seen { forest_of self.new ≡ forest_of self.old }
         ensures hand { self.new.hand ≡ self.old.hand }
-        ensures near { self.new.near ≡ self.old.near }
+        ensures fixed { fixed_of self.new ≡ fixed_of self.old }
         ensures root { self.new.root ≡ Some b }
     {
         self.tree.root = Some(b);

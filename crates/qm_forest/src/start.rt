@@ -11,6 +11,7 @@ ghost use Rattle.qm_forest.specs.Ties.{AreFeasible, AreStarts, HasLowCosts, IsCo
 
 use crate::darts::{edge_of, near};
 use crate::forest::Forest;
+use crate::room::Room;
 use crate::tables::{Handles, Lists, Rings, Trail, Tree, Weights};
 use def_forest::Label;
 use def_matching::WGraph;
@@ -88,6 +89,7 @@ fn single_vertices(alloc: Global, g: &WGraph, lows: Vec<i128>) -> Result<Forest,
         trail: empty_trail(alloc, n)?,
         tree: no_tree(alloc, size, near)?,
         pool: empty_pool(alloc, n / 2)?,
+        room: Some(Room::new(alloc, n, g.edges.len())?),
     })
 }
 
@@ -118,7 +120,7 @@ fn greatest_cost(g: &WGraph) -> u64
 }
 
 /// The greater of two numbers.
-fn greater_of(a: u64, b: u64) -> u64
+pub(crate) fn greater_of(a: u64, b: u64) -> u64
     ensures { result ≡ max a b }
 {
     if a < b { b } else { a }

@@ -8,19 +8,18 @@ use Rattle.def_math.specs.Counts.{count_below}
 use Rattle.qm_laws.proofs.Counts.{count_below_le, count_below_lt, count_below_ones}
 use Rattle.def_matching.specs.Matching.{Graph, IsGraph}
 use Rattle.def_forest.specs.Darts.{darts_of, far}
-use Rattle.def_forest.specs.Forests.{Forest, IsOutermost, set_at, walk}
+use Rattle.def_forest.specs.Forests.{Forest, IsOutermost, live_at, set_at, sets_of, walk}
 use Rattle.def_forest.specs.Opened.{Opening, IsOpening, IsOpened}
 use Rattle.def_forest.specs.Shrunk.{IsShrinking}
 use Rattle.def_forest.specs.Steps.{grown}
 use Rattle.def_forest.specs.Valid.{IsMate, IsOuter, IsValid}
 use Rattle.def_forest.specs.declared.kinds.Label.{Label}
 use Rattle.def_forest.specs.declared.kinds.Label.TheVariants.{Outer, Inner, Outside}
-use Rattle.forest_laws.specs.Walks.{live_at}
 use Rattle.forest_laws.proofs.Facts.{far_low}
 use Rattle.forest_laws.proofs.Graphs.{are_darts}
 use Rattle.forest_laws.proofs.Writes.{set_here, set_there, inner_named}
 use Rattle.search_laws.specs.Keys.{is_stale, true_key}
-use Rattle.search_laws.specs.Searches.{not_outer, vertices_left, sets_of, steps_left, turns_left}
+use Rattle.search_laws.specs.Searches.{not_outer, vertices_left, steps_left, turns_left}
 use Rattle.search_laws.proofs.Kept.{on_cycle, opened_old, opened_label, shrunk_on, shrunk_off, shrunk_set, shrunk_label}
 
 not_outer_low : (l : Label) → not_outer l ≤ 1

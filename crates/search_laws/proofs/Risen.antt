@@ -58,44 +58,32 @@ first_terms f n (suc k) none =
     ap (total_below f) e ∙ (let h : total_below f (n + k) ≡ total_below f n = first_terms f n k none in omega (arith, ints, h, none (n + k) (omega arith)))
 
 -- The first weights are in range.
-pub range_begun : (n : ℕ) (f : Forest) → f.size ≡ n + n / 2 → ((b : ℕ) → n ≤ b → f.weight b ≡ pos 0) → ((b : ℕ) → n * unsigned_abs (f.weight b) ≤ first_limit) → IsInRange f 0
-range_begun n f size sets small = by_most (greatest_of (λ b. unsigned_abs (f.weight b)) n first_limit n (λ b l. small b))
+pub range_begun : (n first : ℕ) (f : Forest) → f.size ≡ n + n / 2 → ((b : ℕ) → n ≤ b → f.weight b ≡ pos 0) → ((b : ℕ) → unsigned_abs (f.weight b) ≤ first) → IsInRange n first f 0
+range_begun n first f size sets small = record {
+  start = dual_sum_of f;
+  start_high = omega (arith, ints, sum_is, total_below_small f.weight first n (λ b l. small b));
+  sum = omega (arith, ints);
+  weights = λ b. omega (arith, small b);
+}
   where
     sum_is : dual_sum_of f ≡ total_below f.weight n
     sum_is = ap (total_below f.weight) size ∙ first_terms f.weight n (n / 2) sets
-
-    weight_low : (b : ℕ) → (b < n) ⊎ (n ≤ b) → unsigned_abs (f.weight b) ≤ first_limit + 0
-    weight_low b (inl l) = omega (arith, small b, one_of n (unsigned_abs (f.weight b)) (omega (arith, l)))
-      where
-        one_of : (k x : ℕ) → 1 ≤ k → x ≤ k * x
-        one_of zero x l = absurd (omega (arith, l))
-        one_of (suc k) x l = omega arith
-    weight_low b (inr h) = omega (arith, ints, sets b h)
-
-    by_most : (most : ℕ) × ((b : ℕ) → b < n → unsigned_abs (f.weight b) ≤ most) × (n * most ≤ first_limit) → IsInRange f 0
-    by_most w = record {
-      start = dual_sum_of f;
-      start_high = omega (arith, ints, sum_is, total_below_small f.weight w.0 n w.1, w.2);
-      sum = omega (arith, ints);
-      weights = λ b. weight_low b (cases_lt b n);
-    }
 
 costs_low : (g : Graph) (most low : ℕ) (m : List ℕ) → ((e : ℕ) → e < length g.edges → unsigned_abs (edge_at g e).cost ≤ most) → IsRising low (length g.edges) m → (pos 2 *ℤ matching_cost g m) ≤ℤ total (λ (e : WEdge). pos most +ℤ pos most) (map (edge_at g) m)
 costs_low g most low [] each rising = omega (arith, ints)
 costs_low g most low (k ∷ ks) each rising = omega (arith, ints, each k rising.1, costs_low g most (k + 1) ks each rising.2)
 
--- Twice the cost of a perfect matching is small.
+-- Twice the cost of a perfect matching is at most as often a bound of the costs as there are vertices, and small.
+pub known_most : (g : Graph) → IsGraph g → (most : ℕ) → ((e : ℕ) → e < length g.edges → unsigned_abs (edge_at g e).cost ≤ most) → (m : List ℕ) → IsPerfect g m → (pos 2 *ℤ matching_cost g m) ≤ℤ pos (g.n * most)
+known_most g is most each m perfect =
+    let ends : total (λ (e : WEdge). pos most +ℤ pos most) (map (edge_at g) m) ≡ total_below (λ v. pos most) g.n = ends_once (λ (e : WEdge). e.u) (λ (e : WEdge). e.v) (λ v. pos most) g.n (map (edge_at g) m) (chosen_below g is 0 m perfect.rising) perfect.once in
+    let small : unsigned_abs (total_below (λ v. pos most) g.n) ≤ g.n * most = total_below_small (λ v. pos most) most g.n (λ v l. omega (arith, ints)) in
+    omega (arith, ints, ends, small, costs_low g most 0 m each perfect.rising)
+
 pub known_low : (g : Graph) → IsGraph g → IsCheap g → (m : List ℕ) → IsPerfect g m → (pos 2 *ℤ matching_cost g m) ≤ℤ pos MAX_PRODUCT
-known_low g is cheap m perfect = by_most (greatest g cheap)
-  where
-    by_most : (most : ℕ) × ((e : ℕ) → e < length g.edges → unsigned_abs (edge_at g e).cost ≤ most) × (g.n * most ≤ MAX_PRODUCT) → (pos 2 *ℤ matching_cost g m) ≤ℤ pos MAX_PRODUCT
-    by_most w = bound w.0 w.1 w.2
-      where
-        bound : (most : ℕ) → ((e : ℕ) → e < length g.edges → unsigned_abs (edge_at g e).cost ≤ most) → g.n * most ≤ MAX_PRODUCT → (pos 2 *ℤ matching_cost g m) ≤ℤ pos MAX_PRODUCT
-        bound most each few =
-            let ends : total (λ (e : WEdge). pos most +ℤ pos most) (map (edge_at g) m) ≡ total_below (λ v. pos most) g.n = ends_once (λ (e : WEdge). e.u) (λ (e : WEdge). e.v) (λ v. pos most) g.n (map (edge_at g) m) (chosen_below g is 0 m perfect.rising) perfect.once in
-            let small : unsigned_abs (total_below (λ v. pos most) g.n) ≤ g.n * most = total_below_small (λ v. pos most) most g.n (λ v l. omega (arith, ints)) in
-            omega (arith, ints, ends, small, few, costs_low g most 0 m each perfect.rising)
+known_low g is cheap m perfect =
+    let w : (most : ℕ) × ((e : ℕ) → e < length g.edges → unsigned_abs (edge_at g e).cost ≤ most) × (g.n * most ≤ MAX_PRODUCT) = greatest g cheap in
+    omega (arith, ints, known_most g is w.0 w.1 m perfect, w.2)
 
 change_low : (l : Label) (w : ℤ) (x : ℕ) → unsigned_abs (w +ℤ change l (pos x)) ≤ unsigned_abs w + x
 change_low Outer w x = omega (arith, ints)
@@ -125,20 +113,25 @@ key_high g f risen k few = by_leaf (cases_lt k (length g.edges))
     by_leaf (inl le) = subst (λ x. risen ≤ x) (sym (at_edge g f risen k le)) (edge_key_high (f.label (f.out (edge_at g k).u)) (f.label (f.out (edge_at g k).v)) (eqb (f.out (edge_at g k).u) (f.out (edge_at g k).v)) (unsigned_abs (slack_of g f k)) risen few)
     by_leaf (inr he) = subst (λ x. risen ≤ x) (sym (at_set g f risen k he)) (set_key_high (f.label (set_of g k)) (f.weight (set_of g k)) risen few)
 
-module _ (g : Graph) (is : IsGraph g) (cheap : IsCheap g) (m : List ℕ) (perfect : IsPerfect g m) (f : Forest) (risen : ℕ) (range : IsInRange f risen) where
+module _ (g : Graph) (is : IsGraph g) (cheap : IsCheap g) (m : List ℕ) (perfect : IsPerfect g m) (n first : ℕ) (limit : n * first ≤ first_limit) (low : first ≤ first_limit) (f : Forest) (risen : ℕ) (range : IsInRange n first f risen) where
   -- How far the sum has risen.
   pub risen_low : (root : Option ℕ) → IsValid (darts_of g) f root → risen ≤ risen_limit
   risen_low root valid =
       let bound : dual_sum_of f ≤ℤ (pos 2 *ℤ matching_cost g m) = sum_bounds g is f valid.outermost.vertices valid.nested valid.feasible m perfect in
-      omega (arith, ints, bound, range.sum, range.start_high, known_low g is cheap m perfect)
+      omega (arith, ints, bound, range.sum, range.start_high, limit, known_low g is cheap m perfect)
 
   -- What the shifts leave in range.
-  pub small_weights : (root : Option ℕ) → IsValid (darts_of g) f root → (b : ℕ) → unsigned_abs (f.weight b) ≤ 5 * MAX_PRODUCT
-  small_weights root valid b = omega (arith, range.weights b, risen_low root valid)
+  pub small_weights : (root : Option ℕ) → IsValid (darts_of g) f root → (b : ℕ) → unsigned_abs (f.weight b) ≤ 6 * MAX_PRODUCT
+  small_weights root valid b = omega (arith, low, range.weights b, risen_low root valid)
+
+  pub weights_most : (root : Option ℕ) → IsValid (darts_of g) f root → (most : ℕ) → ((e : ℕ) → e < length g.edges → unsigned_abs (edge_at g e).cost ≤ most) → (b : ℕ) → unsigned_abs (f.weight b) ≤ first + (n * first + g.n * most)
+  weights_most root valid most each b =
+      let bound : dual_sum_of f ≤ℤ (pos 2 *ℤ matching_cost g m) = sum_bounds g is f valid.outermost.vertices valid.nested valid.feasible m perfect in
+      omega (arith, ints, bound, range.sum, range.start_high, known_most g is most each m perfect, range.weights b)
 
   module _ (r : ℕ) (valid : IsValid (darts_of g) f (Some r)) where
     -- A shift.
-    pub range_shifted : (x : ℕ) → IsInRange (shifted f (pos x)) (risen + x)
+    pub range_shifted : (x : ℕ) → IsInRange n first (shifted f (pos x)) (risen + x)
     range_shifted x = record {
       start = range.start;
       start_high = range.start_high;
@@ -152,7 +145,7 @@ module _ (g : Graph) (is : IsGraph g) (cheap : IsCheap g) (m : List ℕ) (perfec
       reach_low x feasible =
           let then : IsValid (darts_of g) (shifted f (pos x)) (Some r) = shift_valid (darts_of g) (are_darts g is) f (Some r) valid (pos x) feasible in
           let bound : dual_sum_of (shifted f (pos x)) ≤ℤ (pos 2 *ℤ matching_cost g m) = sum_bounds g is (shifted f (pos x)) then.outermost.vertices then.nested then.feasible m perfect in
-          omega (arith, ints, bound, sum_rises (darts_of g) (are_darts g is) f r valid (valid.tree r refl) (pos x), range.sum, range.start_high, known_low g is cheap m perfect)
+          omega (arith, ints, bound, sum_rises (darts_of g) (are_darts g is) f r valid (valid.tree r refl) (pos x), range.sum, range.start_high, limit, known_low g is cheap m perfect)
 
       -- Something happens soon: the least key is small.
       pub key_soon : (key : ℕ) → ((k : ℕ) → k < most → key ≤ true_key g f risen k) → key ≤ risen_limit

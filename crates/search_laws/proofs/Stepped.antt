@@ -25,17 +25,17 @@ use Rattle.forest_laws.proofs.Shrinks as shrinks
 use Rattle.forest_laws.proofs.WayLaws.{some_none}
 use Rattle.forest_laws.proofs.Writes.{some_is}
 use Rattle.search_laws.specs.Keys.{no_key, edge_key_by, set_key_by, set_of, true_key}
-use Rattle.search_laws.specs.Searches.{IsSeeking, AreMatchedBefore, IsInRange, first_limit}
+use Rattle.search_laws.specs.Searches.{IsSeeking, AreMatchedBefore, IsInRange}
 use Rattle.search_laws.proofs.Keys.{at_edge, at_set, slack_high}
 use Rattle.search_laws.proofs.Kept.{opened_old, shrunk_on, shrunk_off}
 
 -- Where the weights and their sum are the same they stay in range.
-pub range_same : (f new : Forest) (risen : ℕ) → new.size ≡ f.size → ((b : ℕ) → new.weight b ≡ f.weight b) → IsInRange f risen → IsInRange new risen
-range_same f new risen size weights range = record {
+pub range_same : (n first : ℕ) (f new : Forest) (risen : ℕ) → new.size ≡ f.size → ((b : ℕ) → new.weight b ≡ f.weight b) → IsInRange n first f risen → IsInRange n first new risen
+range_same n first f new risen size weights range = record {
   start = range.start;
   start_high = range.start_high;
   sum = sums size ∙ range.sum;
-  weights = λ b. subst (λ w. unsigned_abs w ≤ first_limit + risen) (sym (weights b)) (range.weights b);
+  weights = λ b. subst (λ w. unsigned_abs w ≤ first + risen) (sym (weights b)) (range.weights b);
 }
   where
     sums : new.size ≡ f.size → dual_sum_of new ≡ dual_sum_of f

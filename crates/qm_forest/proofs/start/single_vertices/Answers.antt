@@ -1,8 +1,8 @@
-use Rattle.std.proofs.Common.{◌≡◌, ◌+◌, ◌*◌, ◌/◌, length, subst, sym, ◌∙◌, ap, refl, arith, get_or, replicate, pos, List, ℤ}
+use Rattle.std.proofs.Common.{◌≡◌, ℕ, ◌+◌, ◌*◌, ◌/◌, length, subst, sym, ◌∙◌, ap, refl, arith, get_or, replicate, pos, List, ℤ, Some}
 use Rattle.def_matching.specs.Matching.{graph}
 use Rattle.std.proofs.lemmas.Int.{ints}
 use Rattle.def_forest.specs.Steps.{change}
-use Rattle.def_forest.specs.Tables.{label_at}
+use Rattle.def_forest.specs.Tables.{GraphSize, label_at}
 use Rattle.def_forest.specs.declared.kinds.Label.{Label}
 use Rattle.def_forest.specs.declared.kinds.Label.TheVariants.{Outside}
 use Rattle.qm_forest.specs.Ties.{AreStarts}
@@ -59,7 +59,7 @@ returns-clause-valid c = fresh_valid c.args.g.now.n (c.args.g.now.n + c.args.g.n
   touched = c.in_ok-empty_trail.ensures.touched;
   room = c.in_ok-empty_trail.ensures.room;
   pool = c.in_ok-empty_pool.ensures;
-}) (graph c.args.g.now) c.requires.graph.lawful refl c.requires.weights (subst (λ xs. AreStarts (graph c.args.g.now) (2 * length c.args.g.now.edges.items) xs) (sym c.in_ok-no_tree.ensures.near) c.in_ok-near.ensures)
+}) (graph c.args.g.now) c.requires.graph.lawful refl c.requires.weights (subst (λ xs. AreStarts (graph c.args.g.now) (2 * length c.args.g.now.edges.items) xs) (sym c.in_ok-no_tree.ensures.near) c.in_ok-near.ensures) (ap (λ (z : GraphSize). Some z) (c.in_ok-new.ensures ∙ (let e : c.len.result ≡ length c.args.g.now.edges.items = omega (arith, c.len.ensures, c.args.g.now.edges.ok.0) in ap (λ (m : ℕ). record { vertices = c.args.g.now.n; edges = m }) e)))
 
 pub returns-clause-weights : goal.returns-clause-weights
 returns-clause-weights c = λ b. (

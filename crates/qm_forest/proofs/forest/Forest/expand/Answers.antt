@@ -48,4 +48,4 @@ pub returns-clause-changed : goal.returns-clause-changed
 returns-clause-changed c = expanded (graph c.args.g.now) c.requires.graph c.args.self.now c.requires.valid c.args.b c.requires.set c.requires.inner c.requires.weightless c.open.new.self c.open.ensures c.mate_dart-mate.result c.link-link.result c.outermost-first.result c.outermost-last.result c.parts-many.result c.near.result c.near-2.result (mate_dart_is (graph c.args.g.now) c.requires.graph c.args.self.now c.requires.valid c.args.b c.requires.set c.requires.inner c.requires.weightless c.mate_dart-mate.result c.mate_dart-mate.ensures) c.link-link.ensures c.near.ensures c.near-2.ensures c.outermost-first.ensures.value c.outermost-last.ensures.value c.parts-many.ensures c.match_parts.new.self c.match_parts.ensures.seen c.match_parts.ensures.same c.course-course.result c.course-course.ensures (forest_of c.set_link.new.self) c.hang_parts.new.self c.hang_parts.ensures.seen c.set_link.ensures.seen
 
 pub returns-clause-valid : goal.returns-clause-valid
-returns-clause-valid c = expanded_valid (graph c.args.g.now) c.requires.graph c.args.self.now c.requires.valid c.args.b c.requires.set c.requires.inner c.requires.weightless c.open.new.self c.open.ensures c.mate_dart-mate.result c.link-link.result c.outermost-first.result c.outermost-last.result c.parts-many.result c.near.result c.near-2.result (mate_dart_is (graph c.args.g.now) c.requires.graph c.args.self.now c.requires.valid c.args.b c.requires.set c.requires.inner c.requires.weightless c.mate_dart-mate.result c.mate_dart-mate.ensures) c.link-link.ensures c.near.ensures c.near-2.ensures c.outermost-first.ensures.value c.outermost-last.ensures.value c.parts-many.ensures c.match_parts.new.self c.match_parts.ensures.seen c.match_parts.ensures.same c.course-course.result c.course-course.ensures (forest_of c.set_link.new.self) c.hang_parts.new.self c.hang_parts.ensures.seen c.set_link.ensures.seen c.set_link.new.self refl (ap length (c.set_link.ensures.same.hand ∙ (c.hang_parts.ensures.same.hand ∙ c.match_parts.ensures.same.hand))) (c.set_link.ensures.same.root ∙ (c.hang_parts.ensures.same.root ∙ (c.match_parts.ensures.same.root ∙ (c.open.ensures.root ∙ c.open.ensures.same.root)))) (c.set_link.ensures.same.near ∙ (c.hang_parts.ensures.same.near ∙ c.match_parts.ensures.same.near))
+returns-clause-valid c = expanded_valid (graph c.args.g.now) c.requires.graph c.args.self.now c.requires.valid c.args.b c.requires.set c.requires.inner c.requires.weightless c.open.new.self c.open.ensures c.mate_dart-mate.result c.link-link.result c.outermost-first.result c.outermost-last.result c.parts-many.result c.near.result c.near-2.result (mate_dart_is (graph c.args.g.now) c.requires.graph c.args.self.now c.requires.valid c.args.b c.requires.set c.requires.inner c.requires.weightless c.mate_dart-mate.result c.mate_dart-mate.ensures) c.link-link.ensures c.near.ensures c.near-2.ensures c.outermost-first.ensures.value c.outermost-last.ensures.value c.parts-many.ensures c.match_parts.new.self c.match_parts.ensures.seen c.match_parts.ensures.same c.course-course.result c.course-course.ensures (forest_of c.set_link.new.self) c.hang_parts.new.self c.hang_parts.ensures.seen c.set_link.ensures.seen c.set_link.new.self refl (ap length (c.set_link.ensures.same.hand ∙ (c.hang_parts.ensures.same.hand ∙ c.match_parts.ensures.same.hand))) (c.set_link.ensures.same.root ∙ (c.hang_parts.ensures.same.root ∙ (c.match_parts.ensures.same.root ∙ (c.open.ensures.root ∙ c.open.ensures.same.root)))) (c.set_link.ensures.same.fixed ∙ (c.hang_parts.ensures.same.fixed ∙ c.match_parts.ensures.same.fixed))

@@ -34,4 +34,4 @@ pub returns-clause-changed : goal.returns-clause-changed
 returns-clause-changed c = shrinking (graph c.args.g.now) c.requires.graph c.args.self.now c.requires.valid (2 * c.args.e) (shrinks (graph c.args.g.now) c.requires.graph (forest_of c.args.self.now) c.requires.valid.valid.feasible c.args.e c.requires.edge c.requires.kind).tight (shrinks (graph c.args.g.now) c.requires.graph (forest_of c.args.self.now) c.requires.valid.valid.feasible c.args.e c.requires.edge c.requires.kind).outer_near (shrinks (graph c.args.g.now) c.requires.graph (forest_of c.args.self.now) c.requires.valid.valid.feasible c.args.e c.requires.edge c.requires.kind).outer_far (shrinks (graph c.args.g.now) c.requires.graph (forest_of c.args.self.now) c.requires.valid.valid.feasible c.args.e c.requires.edge c.requires.kind).apart c.fork-fork.result.top c.fork-fork.result.left c.fork-fork.result.right (met_at (darts_of (graph c.args.g.now)) (forest_of c.args.self.now) c.outermost-a.result c.reached-c.result _ _ _ _ _ (c.outermost-a.ensures.value ∙ ap (forest_of c.args.self.now).out c.near.ensures) c.reached-c.ensures.value c.fork-fork.ensures.meeting) c.lay_ring.new.self c.close_ring.ensures.left c.lay_ring.ensures.seen c.lay_ring.ensures.same c.close_ring.ensures.gone c.close_ring.ensures.same c.close_ring.new.self c.mate-mate.result c.mate-mate.ensures c.close_ring.ensures.gathered c.close_ring.ensures.b c.close_ring.ensures.vertex c.close_ring.ensures.is c.close_ring.ensures.holds c.close_ring.ensures.done c.close_ring.ensures.root c.close_ring.ensures.hand
 
 pub returns-clause-valid : goal.returns-clause-valid
-returns-clause-valid c = shrunk_tables (graph c.args.g.now) c.requires.graph c.args.self.now c.requires.valid (2 * c.args.e) (shrinks (graph c.args.g.now) c.requires.graph (forest_of c.args.self.now) c.requires.valid.valid.feasible c.args.e c.requires.edge c.requires.kind).tight (shrinks (graph c.args.g.now) c.requires.graph (forest_of c.args.self.now) c.requires.valid.valid.feasible c.args.e c.requires.edge c.requires.kind).outer_near (shrinks (graph c.args.g.now) c.requires.graph (forest_of c.args.self.now) c.requires.valid.valid.feasible c.args.e c.requires.edge c.requires.kind).outer_far (shrinks (graph c.args.g.now) c.requires.graph (forest_of c.args.self.now) c.requires.valid.valid.feasible c.args.e c.requires.edge c.requires.kind).apart c.fork-fork.result.top c.fork-fork.result.left c.fork-fork.result.right (met_at (darts_of (graph c.args.g.now)) (forest_of c.args.self.now) c.outermost-a.result c.reached-c.result _ _ _ _ _ (c.outermost-a.ensures.value ∙ ap (forest_of c.args.self.now).out c.near.ensures) c.reached-c.ensures.value c.fork-fork.ensures.meeting) c.lay_ring.new.self c.close_ring.ensures.left c.lay_ring.ensures.seen c.lay_ring.ensures.same c.close_ring.ensures.gone c.close_ring.ensures.same c.close_ring.new.self c.mate-mate.result c.mate-mate.ensures c.close_ring.ensures.gathered c.close_ring.ensures.b c.close_ring.ensures.vertex c.close_ring.ensures.is c.close_ring.ensures.holds c.close_ring.ensures.done c.close_ring.ensures.root c.close_ring.ensures.hand c.close_ring.ensures.near
+returns-clause-valid c = shrunk_tables (graph c.args.g.now) c.requires.graph c.args.self.now c.requires.valid (2 * c.args.e) (shrinks (graph c.args.g.now) c.requires.graph (forest_of c.args.self.now) c.requires.valid.valid.feasible c.args.e c.requires.edge c.requires.kind).tight (shrinks (graph c.args.g.now) c.requires.graph (forest_of c.args.self.now) c.requires.valid.valid.feasible c.args.e c.requires.edge c.requires.kind).outer_near (shrinks (graph c.args.g.now) c.requires.graph (forest_of c.args.self.now) c.requires.valid.valid.feasible c.args.e c.requires.edge c.requires.kind).outer_far (shrinks (graph c.args.g.now) c.requires.graph (forest_of c.args.self.now) c.requires.valid.valid.feasible c.args.e c.requires.edge c.requires.kind).apart c.fork-fork.result.top c.fork-fork.result.left c.fork-fork.result.right (met_at (darts_of (graph c.args.g.now)) (forest_of c.args.self.now) c.outermost-a.result c.reached-c.result _ _ _ _ _ (c.outermost-a.ensures.value ∙ ap (forest_of c.args.self.now).out c.near.ensures) c.reached-c.ensures.value c.fork-fork.ensures.meeting) c.lay_ring.new.self c.close_ring.ensures.left c.lay_ring.ensures.seen c.lay_ring.ensures.same c.close_ring.ensures.gone c.close_ring.ensures.same c.close_ring.new.self c.mate-mate.result c.mate-mate.ensures c.close_ring.ensures.gathered c.close_ring.ensures.b c.close_ring.ensures.vertex c.close_ring.ensures.is c.close_ring.ensures.holds c.close_ring.ensures.done c.close_ring.ensures.root c.close_ring.ensures.hand c.close_ring.ensures.fixed

@@ -2,7 +2,7 @@ use Rattle.std.proofs.Common.{◌≡◌, ap, arith}
 use Rattle.std.proofs.lemmas.Int.{ints}
 use Rattle.def_forest.specs.Tables.{ForestTables, weight_at}
 use Rattle.qm_forest.proofs.Ranges.{delta_small, kept_in_bits, weight_read}
-use Rattle.qm_forest.proofs.forest.Forest.weight.Goals as goal
+use Rattle.qm_forest.proofs.forest.Forest.weight_of.Goals as goal
 
 pub weight_from-requires-clause-delta : goal.weight_from-requires-clause-delta
 weight_from-requires-clause-delta c = omega (arith, ints, delta_small _ _ c.self.invariant)

@@ -1,0 +1,92 @@
+-- Tied tables with another room, and room that is blank.
+use Rattle.std.proofs.Common.{◌≡◌, ◌≢◌, ℕ, ◌+◌, ◌*◌, ◌/◌, ◌<◌, ◌≤◌, Bool, false, List, length, get_or, replicate, Option, None, ◌⊎◌, inl, inr, sym, ◌∙◌, ap, subst, arith}
+use Rattle.std.proofs.lemmas.Bool.{cases_lt}
+use Rattle.std.proofs.lemmas.Grind.{get_or_default_zero}
+use Rattle.std.proofs.lemmas.List.{get_or_past, length-replicate}
+use Rattle.def_matching.specs.Matching.{Graph}
+use Rattle.def_forest.specs.Tables.{ForestTables, GraphSize, size_of, up_at}
+use Rattle.qm_forest.specs.Outlines.{IsBlank}
+use Rattle.qm_forest.specs.Rounds.{HasRoom, IsLaminar, IsRound, IsSoundFor}
+use Rattle.qm_forest.specs.declared.rounds.Round.{Round}
+use Rattle.qm_forest.proofs.Chosens.{round_begins}
+use Rattle.qm_forest.specs.Ties.{AreTied, HiddenTables}
+
+-- The room says nothing of the other tables.
+pub tied_room : (t : ForestTables) (hid : HiddenTables) → AreTied t hid → (room : Option GraphSize) → AreTied (record t { room = room }) hid
+tied_room t hid tied room = record {
+  sizes = record {
+    few = tied.sizes.few;
+    vertices = tied.sizes.vertices;
+    top = tied.sizes.top;
+    q = tied.sizes.q;
+    off = tied.sizes.off;
+    following = tied.sizes.following;
+    touched = tied.sizes.touched;
+    base = tied.sizes.base;
+    label = tied.sizes.label;
+    mate = tied.sizes.mate;
+    link = tied.sizes.link;
+    rank = tied.sizes.rank;
+    after = tied.sizes.after;
+    joint = tied.sizes.joint;
+    head = tied.sizes.head;
+    parts = tied.sizes.parts;
+    leader = tied.sizes.leader;
+    first = tied.sizes.first;
+    last = tied.sizes.last;
+    room = tied.sizes.room;
+  };
+  nest = tied.nest;
+  numbers = tied.numbers;
+  trail = tied.trail;
+  pool = tied.pool;
+}
+
+-- As many marks as there are, none of which stands.
+pub marks_blank : (marks : List Bool) (m : ℕ) → marks ≡ replicate m false → marks ≡ replicate (length marks) false
+marks_blank marks m e = e ∙ ap (λ k. replicate k false) (sym (ap length e ∙ length-replicate m false))
+
+-- The room of a forest is as large as what it comes to.
+module _ (t : ForestTables) (known : IsLaminar t) (whole : length t.up ≡ length t.hand + length t.hand / 2) (g : Graph) (valid : IsSoundFor g t) (n : ℕ) (round : Round) (sets y z : ℕ) (blank : IsBlank n round sets y z)
+    (s : GraphSize) (view_is : ◌≡◌ {A = GraphSize} (record { vertices = n; edges = length round.marks.items }) s) (room : s ≡ size_of g) where
+  n_is : n ≡ length t.hand
+  n_is = ap (λ (r : GraphSize). r.vertices) (view_is ∙ room) ∙ sym valid.vertices
+
+  edges_is : length round.marks.items ≡ length g.edges
+  edges_is = ap (λ (r : GraphSize). r.edges) (view_is ∙ room)
+
+  half_is : n / 2 ≡ length t.hand / 2
+  half_is = ap (λ k. k / 2) n_is
+
+  pub has_room : HasRoom t round
+  has_room = record {
+    laminar = known;
+    marks = omega (arith, edges_is, valid.darts);
+    left_out = ap length blank.left_out ∙ (length-replicate (n + n / 2) None ∙ omega (arith, n_is, half_is, whole));
+  }
+
+  pub room_begun : IsRound t round.marks.items round.left_out.items (λ b. 0) (λ b. 0)
+  room_begun = round_begins t round.marks.items round.left_out.items (length round.marks.items) (n + n / 2) (λ b. 0) blank.marks blank.left_out (λ v l. omega arith)
+
+  pub room_y_is : length t.hand ≤ y
+  room_y_is = omega (arith, blank.room_y, n_is)
+
+  pub room_sets_is : length t.up ≤ length t.hand + sets
+  room_sets_is = omega (arith, blank.room_sets, half_is, whole)
+
+  pub room_z_is : (k : ℕ) → length t.hand + k ≤ length t.up → k ≤ z
+  room_z_is k l = omega (arith, blank.room_z, half_is, whole, l)
+
+-- What tied tables say of the way out.
+module _ (t : ForestTables) (hid : HiddenTables) (tied : AreTied t hid) where
+  pub whole_is : length t.up ≡ length t.hand + length t.hand / 2
+  whole_is = omega (arith, tied.pool.room, tied.pool.half)
+
+  pub inner_low : (x : ℕ) → up_at t.up x ≢ x → x < length t.up
+  inner_low x ne = elim (cases_lt x (length t.up)) [ inl l ↦ l | inr h ↦ absurd (ne (get_or_past t.up x x h)) ]
+
+  pub around_used : (x : ℕ) → up_at t.up x ≢ x → (length t.hand ≤ up_at t.up x) × (up_at t.up x < length t.up) × (get_or t.parts (up_at t.up x) 0 ≢ 0)
+  around_used x ne = ((tied.nest.around x ne).0, subst (λ b. b < length t.up) (sym (get_or_default_zero t.up x x (inner_low x ne))) (tied.nest.ups x (inner_low x ne)), (tied.nest.around x ne).1)
+
+  pub inner_live : (x : ℕ) → up_at t.up x ≢ x → length t.hand ≤ x → get_or t.parts x 0 ≢ 0
+  inner_live x ne high none = ne (tied.nest.idle x high none)

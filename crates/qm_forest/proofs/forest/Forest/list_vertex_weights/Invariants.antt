@@ -1,0 +1,11 @@
+use Rattle.std.proofs.Common.{◌≡◌, ℕ, ◌+◌, ◌<◌, ◌≤◌, get_or, length}
+use Rattle.std.specs.Vec.{vec_capacity}
+use Rattle.def_forest.specs.Tables.{forest_of}
+use Rattle.qm_forest.specs.Outlines.{AreWeights}
+use Rattle.qm_forest.proofs.forest.Forest.list_vertex_weights.Given as goal
+
+abbrev pub invariant-loop-v : goal.invariant-loop-v
+invariant-loop-v l = record {
+  weights : AreWeights (forest_of l.self).weight (λ v. v) l.v l.numbers.items;
+  room : length l.self.hand ≤ vec_capacity l.numbers;
+}
