@@ -1,5 +1,5 @@
 -- What lowering one vertex does to the numbers.
-use Rattle.std.proofs.Common.{◌≡◌, ◌≢◌, ◌⊎◌, ◌+◌, ◌<◌, ◌≤◌, ◌^◌, Bool, true, false, cond, ltb, List, length, get_or, set, ℤ, pos, neg_ℤ, ◌+ℤ◌, ◌-ℤ◌, ◌*ℤ◌, ◌≤ℤ◌, int_lt, unsigned_abs, sym, subst, ap, ◌∙◌, refl, inl, inr, arith}
+use Rattle.std.proofs.Common.{◌≡◌, ◌≢◌, ◌⊎◌, ℕ, ◌+◌, ◌*◌, ◌<◌, ◌≤◌, ◌^◌, Bool, true, false, cond, ltb, List, length, get_or, set, ℤ, pos, neg_ℤ, ◌+ℤ◌, ◌-ℤ◌, ◌*ℤ◌, ◌≤ℤ◌, int_lt, unsigned_abs, sym, subst, ap, ◌∙◌, refl, inl, inr, arith}
 use Rattle.std.proofs.lemmas.Bool.{cases_eq}
 use Rattle.std.proofs.lemmas.Int.{ints}
 use Rattle.std.proofs.lemmas.List.{get_or-set_same, get_or-set_other, length-set}
@@ -77,12 +77,22 @@ module _ (g : Graph) (lawful : IsGraph g)
       from_cost : (c p : ℤ) → unsigned_abs c ≤ 2 ^ 57 → p ≤ℤ pos MAX_WISH → neg_ℤ (pos (2 ^ 58 + MAX_WISH)) ≤ℤ ((pos 2 *ℤ c) -ℤ p)
       from_cost c p small high = grind (arith, ints)
 
+  near : (c : ℕ) → ((e : EdgeNumber) → e < length g.edges → unsigned_abs (edge_at g e).cost ≤ c) → (v : Vertex) → neg_ℤ (pos (2 * c + MAX_WISH)) ≤ℤ get_or lowered v (pos 0)
+  near c small v = elim (cases_eq v b) [
+    | inl e ↦ rw (e, same_b) (from_cost (edge_at g k).cost (at a) (small k low) (so.within a).0)
+    | inr ne ↦ rw (other v ne) (so.near c small v)
+  ]
+    where
+      from_cost : (d p : ℤ) → unsigned_abs d ≤ c → p ≤ℤ pos MAX_WISH → neg_ℤ (pos (2 * c + MAX_WISH)) ≤ℤ ((pos 2 *ℤ d) -ℤ p)
+      from_cost d p small high = grind (arith, ints)
+
   by_test : (test : Bool) → int_lt (most -ℤ at a) (at b) ≡ test → AreWished g wish (cond test lowered y) (k + 1)
   by_test true over =
       let high : most ≤ℤ (at a +ℤ at b) = above (at a) (at b) over in record {
         long = length-set y b (most -ℤ at a) ∙ so.long;
         below = λ v. through (get_or lowered v (pos 0)) (at v) (get_or wish v (pos 0)) (less high v) (so.below v);
         within = λ v. (through (get_or lowered v (pos 0)) (at v) (pos MAX_WISH) (less high v) (so.within v).0, not_far v);
+        near = near;
         feasible = λ e l. elim (last_or k e l) [
           | inl earlier ↦ still lowered (less high) e earlier
           | inr last ↦ rw last (both lowered (rw (other a apart, same_b) (met (at a))))
@@ -101,6 +111,7 @@ module _ (g : Graph) (lawful : IsGraph g)
     long = so.long;
     below = so.below;
     within = so.within;
+    near = so.near;
     feasible = λ e l. elim (last_or k e l) [ inl earlier ↦ so.feasible e earlier | inr last ↦ rw last (both y (not_above (at a) (at b) under)) ];
   }
     where

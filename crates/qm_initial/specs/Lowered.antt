@@ -1,5 +1,5 @@
 -- Numbers of vertices, lowered so far that the first edges have room.
-use Rattle.std.specs.Prelude.{◌≡◌, ℕ, ◌+◌, ◌<◌, ◌^◌, nat_lt, if◌then◌else◌, List, length, slice_index_or, slice_set}
+use Rattle.std.specs.Prelude.{◌≡◌, ℕ, ◌+◌, ◌*◌, ◌<◌, ◌^◌, nat_lt, if◌then◌else◌, List, length, slice_index_or, slice_set}
 use Rattle.std.specs.Prelude.{ℤ, pos, neg_ℤ, ◌+ℤ◌, ◌-ℤ◌, ◌*ℤ◌, ◌≤ℤ◌, ◌≤◌, int_lt, unsigned_abs}
 use Rattle.def_matching.specs.declared.weighted.WEdge.{WEdge}
 use Rattle.def_matching.specs.Matching.{Graph, EdgeNumber, Vertex, edge_at}
@@ -39,4 +39,7 @@ pub record AreWished (g : Graph) (wish y : List ℤ) (edges : ℕ) : Type 0 wher
   pub long : length y ≡ length wish
   pub below : (v : Vertex) → slice_index_or y v (pos 0) ≤ℤ slice_index_or wish v (pos 0)
   pub within : AreWithin y
+  -- A number that was lowered is no farther down than twice a cost and a wish.
+  pub near : (most : ℕ) → ((e : EdgeNumber) → e < length g.edges → unsigned_abs (edge_at g e).cost ≤ most)
+      → (v : Vertex) → neg_ℤ (pos (2 * most + MAX_WISH)) ≤ℤ slice_index_or y v (pos 0)
   pub feasible : AreFeasible g y edges

@@ -1,6 +1,6 @@
 //! Feasible numbers near wished ones.
 
-ghost use Rattle.std.specs.Prelude.{◌≡◌, ◌≢◌, ◌*◌, ◌<◌, ◌≤◌, ◌^◌, ◌+ℤ◌, ◌-ℤ◌, ◌*ℤ◌, ◌≤ℤ◌, ℕ, pos, length, slice_index_or};
+ghost use Rattle.std.specs.Prelude.{◌≡◌, ◌≢◌, ◌+◌, ◌*◌, ◌<◌, ◌≤◌, ◌^◌, ◌+ℤ◌, ◌-ℤ◌, ◌*ℤ◌, ◌≤ℤ◌, ℕ, pos, length, slice_index_or};
 ghost use Rattle.std.specs.Prelude.{int_lt, slice_set, unsigned_abs, if◌then◌else◌, IfOk};
 ghost use Rattle.def_matching.specs.Matching.{edge_at, graph, IsGraph};
 ghost use Rattle.qm_initial.specs.Lowered.{with_room, with_room_on, AreWithin, AreWished};
@@ -30,7 +30,9 @@ pub fn initial_dual(alloc: Global, g: &WGraph, wish: &[i64]) -> Result<Vec<i64>,
         ≤ℤ (pos 2 *ℤ (edge_at (graph g.now) e).cost)) }
     ensures wished { IfOk result (λ y. (v : ℕ)
         → slice_index_or y.items v (pos 0) ≤ℤ slice_index_or wish.now v (pos 0)) }
-    ensures small { IfOk result (λ y. (v : ℕ) → unsigned_abs (slice_index_or y.items v (pos 0)) ≤ 2 ^ 59) }
+    ensures small { IfOk result (λ y. (most : ℕ)
+        → ((e : ℕ) → e < length g.now.edges.items → unsigned_abs (edge_at (graph g.now) e).cost ≤ most)
+        → (v : ℕ) → unsigned_abs (slice_index_or y.items v (pos 0)) ≤ 2 * most + MAX_WISH) }
 {
     let mut y = Vec::from_slice(alloc, wish)?;
     lower_all(&mut y, g);

@@ -4,3 +4,5 @@ mod Refreshed
 mod Taken
 mod Turned
 mod Ready
+pub mod Outcomes
+pub mod Edges

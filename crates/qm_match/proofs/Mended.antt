@@ -79,7 +79,7 @@ module _ (g : Graph) (f : Forest) (risen : ℕ) where
 
 -- Other keys are as many.
 pub made_with : (g : Graph) (s : Search) (keys : List ℕ) → IsMade g s → length keys ≡ length s.tour → IsMade g (record s { tour = keys })
-made_with g s keys made size = record { small = made.small; cheap = made.cheap; fans = made.fans; size = made.size; leaves = size ∙ made.leaves; marks = made.marks; members = made.members; parts = made.parts }
+made_with g s keys made size = record { small = made.small; cheap = made.cheap; fans = made.fans; size = made.size; first = made.first; low = made.low; leaves = size ∙ made.leaves; marks = made.marks; members = made.members; parts = made.parts }
 
 -- Only keys differ, twice.
 pub keys_twice : (a b d : Search) (keys : List ℕ) → b ≡ record a { tour = b.tour } → d ≡ record b { tour = keys } → d ≡ record a { tour = d.tour }

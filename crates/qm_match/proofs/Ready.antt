@@ -1,12 +1,12 @@
 -- Searches that are about to begin, and edges that are matched before.
-use Rattle.std.proofs.Common.{◌≡◌, ◌≢◌, ℕ, ◌+◌, ◌*◌, ◌/◌, ◌<◌, ◌≤◌, List, length, get_or, Option, Some, None, is_some, Bool, cond, eqb, true, false, ℤ, pos, refl, sym, ◌∙◌, ap, subst, arith}
-use Rattle.std.specs.Prelude.{int_lt}
+use Rattle.std.proofs.Common.{◌≡◌, ◌≢◌, ℕ, zero, suc, ◌⊎◌, inl, inr, ◌≤◌, ◌+◌, ◌*◌, ◌/◌, ◌<◌, ◌≤◌, List, length, get_or, Option, Some, None, is_some, Bool, cond, eqb, true, false, ℤ, pos, refl, sym, ◌∙◌, ap, subst, arith}
+use Rattle.std.specs.Prelude.{int_lt, unsigned_abs}
 use Rattle.std.proofs.lemmas.Int.{ints}
-use Rattle.std.proofs.lemmas.Bool.{cond-false}
+use Rattle.std.proofs.lemmas.Bool.{cases_lt, cond-false}
 use Rattle.def_matching.specs.Matching.{Graph, IsCheap, IsSmallGraph, edge_at}
 use Rattle.def_forest.specs.Darts.{darts_of}
 use Rattle.def_forest.specs.Forests.{Forest, set_at}
-use Rattle.qm_match.specs.Made.{IsMadeFor}
+use Rattle.def_match.specs.Made.{IsMadeFor}
 use Rattle.def_forest.specs.Steps.{rooted, IsAugmented}
 use Rattle.def_forest.specs.Tables.{ForestTables, forest_of, kind_by, kind_of, slack_of, IsValidFor}
 use Rattle.def_forest.specs.Valid.{IsValid}
@@ -14,7 +14,7 @@ use Rattle.def_forest.specs.declared.kinds.EdgeKind.TheVariants.{Augment, Grow, 
 use Rattle.def_forest.specs.declared.kinds.Label.{Label}
 use Rattle.def_forest.specs.declared.kinds.Label.TheVariants.{Outer, Inner, Outside}
 use Rattle.forest_laws.proofs.Writes.{set_here, set_there}
-use Rattle.search_laws.specs.Searches.{IsInRange}
+use Rattle.search_laws.specs.Searches.{IsInRange, first_limit}
 use Rattle.search_laws.proofs.Risen.{range_begun}
 use Rattle.search_laws.proofs.Stepped.{range_same}
 use Rattle.qm_match.specs.Fans.{AreFans, IsOn}
@@ -36,6 +36,8 @@ ready_idle g s small cheap ready for = record {
       all = λ d l. subst (λ w. IsOn s.fans.next.items (get_or s.fans.first.items w 0) d) (for.valid.ends d l) (ready.all d (subst (λ n. d < n) (sym for.valid.darts) l));
     };
     size = for.size;
+    first = limit;
+    low = low;
     leaves = omega (arith, ready.leaves, for.valid.darts, halves);
     marks = subst (λ n. length s.inner.items ≡ n + n / 2) for.valid.vertices ready.marks;
     members = omega (arith, ready.members, for.valid.vertices);
@@ -44,11 +46,37 @@ ready_idle g s small cheap ready for = record {
   valid = for.valid;
   no_tree = for.no_tree;
   few = ready.few;
-  range = subst (λ r. IsInRange (forest_of s.forest) r) (sym ready.risen) (range_begun g.n (forest_of s.forest) for.size for.sets (for.small cheap));
+  range = subst (λ r. IsInRange g.n s.first (forest_of s.forest) r) (sym ready.risen) (range_begun g.n s.first (forest_of s.forest) for.size for.sets (λ b. above b (cases_lt b (length s.forest.up))));
 }
   where
     halves : length s.forest.hand / 2 ≡ g.n / 2
     halves = ap (λ n. n / 2) for.valid.vertices
+
+    above : (b : ℕ) → (b < length s.forest.up) ⊎ (length s.forest.up ≤ b) → unsigned_abs ((forest_of s.forest).weight b) ≤ s.first
+    above b (inl l) = ready.above b l
+    above b (inr h) = (let z : (forest_of s.forest).weight b ≡ pos 0 = for.sets b (omega (arith, h, for.size)) in omega (arith, ints, z))
+
+    limit : g.n * s.first ≤ first_limit
+    limit = by_weight ready.attained
+      where
+        by_weight : (s.first ≡ 0) ⊎ ((b : ℕ) × (unsigned_abs ((forest_of s.forest).weight b) ≡ s.first)) → g.n * s.first ≤ first_limit
+        by_weight (inl none) = subst (λ x. g.n * x ≤ first_limit) (sym none) (omega arith)
+        by_weight (inr w) = subst (λ x. g.n * x ≤ first_limit) w.1 (for.small cheap w.0)
+
+    low : s.first ≤ first_limit
+    low = by_weight ready.attained
+      where
+        one_of : (n x : ℕ) → 1 ≤ n → x ≤ n * x
+        one_of zero x l = absurd (omega (arith, l))
+        one_of (suc n) x l = omega arith
+
+        by_size : (b : ℕ) → unsigned_abs ((forest_of s.forest).weight b) ≡ s.first → (b < g.n) ⊎ (g.n ≤ b) → s.first ≤ first_limit
+        by_size b e (inl l) = omega (arith, one_of g.n s.first (omega (arith, l)), limit)
+        by_size b e (inr h) = omega (arith, ints, e, for.sets b h)
+
+        by_weight : (s.first ≡ 0) ⊎ ((b : ℕ) × (unsigned_abs ((forest_of s.forest).weight b) ≡ s.first)) → s.first ≤ first_limit
+        by_weight (inl none) = omega (arith, none)
+        by_weight (inr w) = by_size w.0 w.1 (cases_lt w.0 g.n)
 
 -- Chains that fit a graph fit the forest's table of darts.
 pub chains_ready : (g : Graph) (t : ForestTables) (first next : List ℕ) → AreFans g first next → IsValidFor g t → (d : ℕ) → d < length t.near → IsOn next (get_or first (get_or t.near d 0) 0) d
@@ -80,7 +108,7 @@ matched_idle g old t u b d idle rooted_is valid root w = record {
   valid = valid;
   no_tree = root;
   few = idle.few;
-  range = range_same (forest_of old.forest) (forest_of u) old.risen size (λ x. ap (λ (f : Forest). f.weight x) w.2.changed ∙ ap (λ (f : Forest). f.weight x) rooted_is) idle.range;
+  range = range_same g.n old.first (forest_of old.forest) (forest_of u) old.risen size (λ x. ap (λ (f : Forest). f.weight x) w.2.changed ∙ ap (λ (f : Forest). f.weight x) rooted_is) idle.range;
 }
   where
     size : (forest_of u).size ≡ (forest_of old.forest).size

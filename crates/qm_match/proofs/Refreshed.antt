@@ -1,5 +1,5 @@
 -- Marks and keys that are made right.
-use Rattle.std.proofs.Common.{◌≡◌, ◌≢◌, ℕ, ◌+◌, ◌-◌, ◌/◌, ◌<◌, ◌≤◌, Bool, true, false, List, length, get_or, ◌⊎◌, refl, sym, ◌∙◌, ap, subst, inl, inr, arith}
+use Rattle.std.proofs.Common.{◌≡◌, ◌≢◌, ℕ, ◌+◌, ◌-◌, ◌*◌, ◌/◌, ◌<◌, ◌≤◌, Bool, true, false, List, length, get_or, ◌⊎◌, refl, sym, ◌∙◌, ap, subst, inl, inr, arith}
 use Rattle.std.specs.Vec.{vec_capacity}
 use Rattle.def_matching.specs.Matching.{Graph}
 use Rattle.def_forest.specs.Forests.{Forest}
@@ -7,17 +7,20 @@ use Rattle.def_forest.specs.Tables.{ForestTables, forest_of, IsValidFor}
 use Rattle.def_forest.specs.declared.kinds.Label.TheVariants.{Inner}
 use Rattle.search_laws.specs.Keys.{leaf_of, true_key, AreRightAt, IsMended}
 use Rattle.qm_match.specs.Fans.{AreFans}
+use Rattle.search_laws.specs.Searches.{first_limit}
 use Rattle.qm_match.specs.States.{IsMade, IsRefreshed, IsFreshAt, MayRefresh}
 use Rattle.qm_match.specs.declared.fans.Fans.{Fans}
 use Rattle.qm_match.specs.declared.search.Search.{Search}
 use Rattle.qm_match.proofs.Mended.{mended_none, mended_on, stay_right, stays_right}
 
 -- Room stays where all tables are as long as they were.
-pub made_like : (g : Graph) (old new : Search) → IsMade g old → new.fans ≡ old.fans → length new.forest.up ≡ length old.forest.up → length new.tour ≡ length old.tour → length new.inner.items ≡ length old.inner.items → g.n ≤ vec_capacity new.members → g.n ≤ vec_capacity new.parts → IsMade g new
+pub made_like : (g : Graph) (old new : Search) → IsMade g old → ◌≡◌ {A = Fans × ℕ} (new.fans, new.first) (old.fans, old.first) → length new.forest.up ≡ length old.forest.up → length new.tour ≡ length old.tour → length new.inner.items ≡ length old.inner.items → g.n ≤ vec_capacity new.members → g.n ≤ vec_capacity new.parts → IsMade g new
 made_like g old new made fans up tour inner members parts = record {
   small = made.small;
   cheap = made.cheap;
-  fans = subst (λ (x : Fans). AreFans g x.first.items x.next.items) (sym fans) made.fans;
+  fans = subst (λ (x : Fans × ℕ). AreFans g x.0.first.items x.0.next.items) (sym fans) made.fans;
+  first = subst (λ (x : Fans × ℕ). g.n * x.1 ≤ first_limit) (sym fans) made.first;
+  low = subst (λ (x : Fans × ℕ). x.1 ≤ first_limit) (sym fans) made.low;
   size = up ∙ made.size;
   leaves = tour ∙ made.leaves;
   marks = inner ∙ made.marks;
@@ -43,6 +46,7 @@ pub refreshed_on : (g : Graph) (a b d : Search) → IsRefreshed g a b → IsRefr
 refreshed_on g a b d p q = record {
   forest = q.forest ∙ p.forest;
   risen = q.risen ∙ p.risen;
+  first = q.first ∙ p.first;
   parts = q.parts ∙ p.parts;
   made = q.made;
   mended = mended_on g (forest_of a.forest) a.risen a.tour b.tour d.tour p.mended (subst (λ (t : ForestTables). IsMended g (forest_of t) a.risen b.tour d.tour) p.forest (subst (λ r. IsMended g (forest_of b.forest) r b.tour d.tour) p.risen q.mended));
@@ -51,7 +55,7 @@ refreshed_on g a b d p q = record {
 
 -- Nothing is made right.
 pub refreshed_none : (g : Graph) (s : Search) → IsMade g s → IsRefreshed g s s
-refreshed_none g s made = record { forest = refl; risen = refl; parts = refl; made = made; mended = mended_none g (forest_of s.forest) s.risen s.tour; marked = λ b inner on. on }
+refreshed_none g s made = record { forest = refl; risen = refl; first = refl; parts = refl; made = made; mended = mended_none g (forest_of s.forest) s.risen s.tour; marked = λ b inner on. on }
 
 -- What may be made right may still be.
 pub may_later : (g : Graph) (old new : Search) (b : ℕ) → IsRefreshed g old new → MayRefresh g old b → MayRefresh g new b
@@ -67,4 +71,4 @@ pub members_twice : (a b d : Search) → b ≡ record a { tour = b.tour; members
 members_twice a b d e1 e2 = e2 ∙ ap (λ (s : Search). record s { tour = d.tour; members = d.members }) e1
 
 pub made_members : (g : Graph) (a b : Search) → IsMade g a → b ≡ record a { tour = b.tour; members = b.members } → length b.tour ≡ length a.tour → g.n ≤ vec_capacity b.members → IsMade g b
-made_members g a b made same size room = made_like g a b made (ap (λ (s : Search). s.fans) same) (ap (λ (s : Search). length s.forest.up) same) size (ap (λ (s : Search). length s.inner.items) same) room (subst (λ (s : Search). g.n ≤ vec_capacity s.parts) (sym same) made.parts)
+made_members g a b made same size room = made_like g a b made (ap (λ (s : Search). (s.fans, s.first)) same) (ap (λ (s : Search). length s.forest.up) same) size (ap (λ (s : Search). length s.inner.items) same) room (subst (λ (s : Search). g.n ≤ vec_capacity s.parts) (sym same) made.parts)

@@ -33,7 +33,7 @@ use Rattle.qm_match.specs.declared.search.Search.{Search}
 use Rattle.qm_match.proofs.Refreshed.{made_like}
 
 -- After a step of the forest, and when keys and marks are made right, the search goes on.
-pub step_taken : (g : Graph) (old : Search) (t : ForestTables) (new : Search) → IsMade g old → AreLow g (forest_of old.forest) old.risen old.tour → IsInRange (forest_of old.forest) old.risen → IsValidFor g t → IsRefreshed g (record old { forest = t }) new
+pub step_taken : (g : Graph) (old : Search) (t : ForestTables) (new : Search) → IsMade g old → AreLow g (forest_of old.forest) old.risen old.tour → IsInRange g.n old.first (forest_of old.forest) old.risen → IsValidFor g t → IsRefreshed g (record old { forest = t }) new
     → IsTurned g (forest_of old.forest) (forest_of t) old.risen new.tour → (forest_of t).size ≡ (forest_of old.forest).size → ((b : ℕ) → (forest_of t).weight b ≡ (forest_of old.forest).weight b)
     → ((b : ℕ) → (forest_of t).label b ≡ Inner → get_or new.inner.items b false ≡ true) → (r : ℕ) × (t.root ≡ Some r) → IsUnderWay g new
 step_taken g old t new made low range valid is turned size weights marked tree = record {
@@ -43,7 +43,7 @@ step_taken g old t new made low range valid is turned size weights marked tree =
   low = subst (λ (x : ForestTables). AreLow g (forest_of x) new.risen new.tour) (sym is.forest) (subst (λ r. AreLow g (forest_of t) r new.tour) (sym is.risen)
       (stay_low g is.made.small.lawful (forest_of old.forest) (forest_of t) old.risen old.tour new.tour low is.mended turned));
   marked = λ b inner. marked b (ap (λ (x : ForestTables). (forest_of x).label b) (sym is.forest) ∙ inner);
-  range = subst (λ (x : ForestTables). IsInRange (forest_of x) new.risen) (sym is.forest) (subst (λ r. IsInRange (forest_of t) r) (sym is.risen) (range_same (forest_of old.forest) (forest_of t) old.risen size weights range));
+  range = subst (λ n. IsInRange g.n n (forest_of new.forest) new.risen) (sym is.first) (subst (λ (x : ForestTables). IsInRange g.n old.first (forest_of x) new.risen) (sym is.forest) (subst (λ r. IsInRange g.n old.first (forest_of t) r) (sym is.risen) (range_same g.n old.first (forest_of old.forest) (forest_of t) old.risen size weights range)));
 }
 
 -- What is right at a blossom, said of the forest's tables after the step.
@@ -202,7 +202,7 @@ may_vertex g s v b made valid l e = subst (λ x. MayRefresh g s x) e (record { m
 
 -- Room stays through a step of the forest.
 pub made_after : (g : Graph) (s : Search) (t : ForestTables) → IsMade g s → (forest_of t).size ≡ (forest_of s.forest).size → IsMade g (record s { forest = t })
-made_after g s t made size = record { small = made.small; cheap = made.cheap; fans = made.fans; size = size ∙ made.size; leaves = made.leaves; marks = made.marks; members = made.members; parts = made.parts }
+made_after g s t made size = record { small = made.small; cheap = made.cheap; fans = made.fans; size = size ∙ made.size; first = made.first; low = made.low; leaves = made.leaves; marks = made.marks; members = made.members; parts = made.parts }
 
 -- The matching has grown.
 pub augmented_idle : (g : Graph) (old : Search) (t : ForestTables) (d : ℕ) → IsUnderWay g old → IsValidFor g t → t.root ≡ None → (r : ℕ) × (old.forest.root ≡ Some r) × IsAugmented (darts_of g) (forest_of old.forest) (forest_of t) r d
@@ -213,7 +213,7 @@ augmented_idle g old t d way valid root w made = (
     valid = valid;
     no_tree = root;
     few = λ k l. omega (arith, way.low k l, true_key_low g (forest_of old.forest) old.risen k);
-    range = range_same (forest_of old.forest) (forest_of t) old.risen (ap (λ (f : Forest). f.size) w.2.changed) (λ b. ap (λ (f : Forest). f.weight b) w.2.changed) way.range;
+    range = range_same g.n old.first (forest_of old.forest) (forest_of t) old.risen (ap (λ (f : Forest). f.size) w.2.changed) (λ b. ap (λ (f : Forest). f.weight b) w.2.changed) way.range;
   },
   λ v seeking. matched_more g.n g (forest_of old.forest) (forest_of t) w.0 d v w.2 (subst (λ (o : Option ℕ). IsSeeking g.n (forest_of old.forest) o v) w.1 seeking),
 )
@@ -332,8 +332,9 @@ module _ (g : Graph) (old : Search) (t : ForestTables) (d : ℕ) (way : IsUnderW
   unmarked mid new made same room mended e marks = record {
     forest = ap (λ (x : Search). x.forest) e ∙ ap (λ (x : Search). x.forest) same;
     risen = ap (λ (x : Search). x.risen) e ∙ ap (λ (x : Search). x.risen) same;
+    first = ap (λ (x : Search). x.first) e ∙ ap (λ (x : Search). x.first) same;
     parts = ap (λ (x : Search). x.parts.items) e ∙ ap (λ (x : Search). x.parts.items) same;
-    made = made_like g (record old { forest = t }) new made (ap (λ (x : Search). x.fans) e ∙ ap (λ (x : Search). x.fans) same) (ap (λ (x : Search). length x.forest.up) e ∙ ap (λ (x : Search). length x.forest.up) same)
+    made = made_like g (record old { forest = t }) new made (ap (λ (x : Search). (x.fans, x.first)) e ∙ ap (λ (x : Search). (x.fans, x.first)) same) (ap (λ (x : Search). length x.forest.up) e ∙ ap (λ (x : Search). length x.forest.up) same)
         (ap (λ (x : Search). length x.tour) e ∙ mended.size) (ap length marks ∙ (length-set mid.inner.items b false ∙ ap (λ (x : Search). length x.inner.items) same))
         (subst (λ (x : Search). g.n ≤ vec_capacity x.members) (sym e) room) (subst (λ (x : Search). g.n ≤ vec_capacity x.parts) (sym e) (subst (λ (x : Search). g.n ≤ vec_capacity x.parts) (sym same) made.parts));
     mended = subst (λ (x : Search). IsMended g (forest_of t) old.risen old.tour x.tour) (sym e) mended;
@@ -353,11 +354,11 @@ inner_live g t b valid h inner none = by_vertex (valid.valid.outermost.named b (
 -- A search goes on with another list of parts.
 pub way_with_parts : (g : Graph) (old new : Search) → IsUnderWay g old → new ≡ record old { parts = new.parts } → g.n ≤ vec_capacity new.parts → IsUnderWay g new
 way_with_parts g old new way same room = record {
-  made = made_like g old new way.made (ap (λ (s : Search). s.fans) same) (ap (λ (s : Search). length s.forest.up) same) (ap (λ (s : Search). length s.tour) same) (ap (λ (s : Search). length s.inner.items) same) (subst (λ (s : Search). g.n ≤ vec_capacity s.members) (sym same) way.made.members) room;
+  made = made_like g old new way.made (ap (λ (s : Search). (s.fans, s.first)) same) (ap (λ (s : Search). length s.forest.up) same) (ap (λ (s : Search). length s.tour) same) (ap (λ (s : Search). length s.inner.items) same) (subst (λ (s : Search). g.n ≤ vec_capacity s.members) (sym same) way.made.members) room;
   valid = subst (λ (s : Search). IsValidFor g s.forest) (sym same) way.valid;
   low = subst (λ (s : Search). AreLow g (forest_of s.forest) s.risen s.tour) (sym same) way.low;
   marked = subst (λ (s : Search). AreMarked (forest_of s.forest) s.inner.items) (sym same) way.marked;
-  range = subst (λ (s : Search). IsInRange (forest_of s.forest) s.risen) (sym same) way.range;
+  range = subst (λ (s : Search). IsInRange g.n s.first (forest_of s.forest) s.risen) (sym same) way.range;
   tree = subst (λ (s : Search). (r : ℕ) × (s.forest.root ≡ Some r)) (sym same) way.tree;
 }
 

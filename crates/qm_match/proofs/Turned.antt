@@ -31,11 +31,11 @@ module _ (g : Graph) (s : Search) (r : ℕ) (root : s.forest.root ≡ Some r) (w
   sets = omega (arith, way.made.size, way.made.leaves)
 
   pub risen_few : s.risen ≤ risen_limit
-  risen_few = risen_low g way.made.small.lawful way.made.cheap known.0 known.1 (forest_of s.forest) s.risen way.range (Some r) valid_at
+  risen_few = risen_low g way.made.small.lawful way.made.cheap known.0 known.1 g.n s.first way.made.first way.made.low (forest_of s.forest) s.risen way.range (Some r) valid_at
 
   -- The least key is small.
   pub soon : (key : ℕ) → ((k : ℕ) → k < length s.tour → key ≤ true_key g (forest_of s.forest) s.risen k) → key ≤ risen_limit
-  soon key low = key_soon g way.made.small.lawful way.made.cheap known.0 known.1 (forest_of s.forest) s.risen way.range r valid_at (length s.tour) sets key low
+  soon key low = key_soon g way.made.small.lawful way.made.cheap known.0 known.1 g.n s.first way.made.first way.made.low (forest_of s.forest) s.risen way.range r valid_at (length s.tour) sets key low
 
   module _ (x : ℕ) (room : (k : ℕ) → k < length s.tour → s.risen + x ≤ true_key g (forest_of s.forest) s.risen k) where
     pub shift_feasible : IsFeasible (darts_of g) (shifted (forest_of s.forest) (pos x))
@@ -44,21 +44,21 @@ module _ (g : Graph) (s : Search) (r : ℕ) (root : s.forest.root ≡ Some r) (w
     pub shift_keys : (k : ℕ) → k < length s.tour → true_key g (shifted (forest_of s.forest) (pos x)) (s.risen + x) k ≡ true_key g (forest_of s.forest) s.risen k
     shift_keys = keys_same g way.made.small.lawful (forest_of s.forest) way.valid.valid.outermost way.valid.valid.feasible s.risen x (length s.tour) sets room
 
-    pub shift_range : IsInRange (shifted (forest_of s.forest) (pos x)) (s.risen + x)
-    shift_range = range_shifted g way.made.small.lawful way.made.cheap known.0 known.1 (forest_of s.forest) s.risen way.range r valid_at x
+    pub shift_range : IsInRange g.n s.first (shifted (forest_of s.forest) (pos x)) (s.risen + x)
+    shift_range = range_shifted g way.made.small.lawful way.made.cheap known.0 known.1 g.n s.first way.made.first way.made.low (forest_of s.forest) s.risen way.range r valid_at x
 
     pub shift_small : s.risen + x ≤ risen_limit → (b : ℕ) → unsigned_abs ((shifted (forest_of s.forest) (pos x)).weight b) ≤ 2 ^ 62
-    shift_small few b = omega (arith, shift_range.weights b, few)
+    shift_small few b = omega (arith, shift_range.weights b, way.made.low, few)
 
     -- The search after the shift.
     pub shifted_way : (t : ForestTables) (new : Search) (key : ℕ) → new ≡ record s { forest = t; risen = key } → key ≡ s.risen + x → IsValidFor g t → forest_of t ≡ shifted (forest_of s.forest) (pos x) → t.root ≡ s.forest.root → IsUnderWay g new
     shifted_way t new key e key_is valid shift_is root_is = subst (λ (y : Search). IsUnderWay g y) (sym e) (record {
-      made = record { small = way.made.small; cheap = way.made.cheap; fans = way.made.fans; size = ap (λ (f : Forest). f.size) shift_is ∙ way.made.size; leaves = way.made.leaves; marks = way.made.marks; members = way.made.members; parts = way.made.parts };
+      made = record { small = way.made.small; cheap = way.made.cheap; fans = way.made.fans; first = way.made.first; low = way.made.low; size = ap (λ (f : Forest). f.size) shift_is ∙ way.made.size; leaves = way.made.leaves; marks = way.made.marks; members = way.made.members; parts = way.made.parts };
       valid = valid;
       tree = (way.tree.0, root_is ∙ way.tree.1);
       low = λ k l. subst (λ (f : Forest). get_or s.tour k 0 ≤ true_key g f key k) (sym shift_is) (subst (λ y. get_or s.tour k 0 ≤ true_key g (shifted (forest_of s.forest) (pos x)) y k) (sym key_is) (omega (arith, shift_keys k l, way.low k l)));
       marked = λ b inner. way.marked b (ap (λ (f : Forest). f.label b) (sym shift_is) ∙ inner);
-      range = subst (λ (f : Forest). IsInRange f key) (sym shift_is) (subst (λ y. IsInRange (shifted (forest_of s.forest) (pos x)) y) (sym key_is) shift_range);
+      range = subst (λ (f : Forest). IsInRange g.n s.first f key) (sym shift_is) (subst (λ y. IsInRange g.n s.first (shifted (forest_of s.forest) (pos x)) y) (sym key_is) shift_range);
     })
 
 -- The search goes on from the same vertex.

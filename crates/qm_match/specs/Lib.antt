@@ -1,3 +1,2 @@
 pub mod Fans
-pub mod Made
 pub mod States

@@ -8,7 +8,7 @@ use Rattle.def_forest.specs.Forests.{Blossom, Forest}
 use Rattle.def_forest.specs.Tables.{ForestTables, forest_of, slack_of, IsValidFor}
 use Rattle.def_forest.specs.declared.kinds.Label.TheVariants.{Inner}
 use Rattle.search_laws.specs.Keys.{Leaf, no_key, leaf_of, true_key, AreLow, AreRightAt, IsMended}
-use Rattle.search_laws.specs.Searches.{AreMarked, AreMatchedBefore, IsInRange, IsSeeking}
+use Rattle.search_laws.specs.Searches.{AreMarked, AreMatchedBefore, IsInRange, IsSeeking, first_limit}
 use Rattle.qm_match.specs.Fans.{AreFans, IsOn}
 use Rattle.qm_match.specs.declared.search.Search.{Search}
 
@@ -18,6 +18,8 @@ pub record IsMade (g : Graph) (s : Search) : Type 0 where
   pub cheap : IsCheap g
   pub fans : AreFans g s.fans.first.items s.fans.next.items
   pub size : length s.forest.up ≡ g.n + g.n / 2
+  pub first : g.n * s.first ≤ first_limit
+  pub low : s.first ≤ first_limit
   pub leaves : length s.tour ≡ length g.edges + (g.n / 2 + 1)
   pub marks : length s.inner.items ≡ g.n + g.n / 2
   pub members : g.n ≤ vec_capacity s.members
@@ -29,7 +31,7 @@ pub record IsIdle (g : Graph) (s : Search) : Type 0 where
   pub valid : IsValidFor g s.forest
   pub no_tree : s.forest.root ≡ None
   pub few : (k : Leaf) → k < length s.tour → slice_index s.tour k ≤ no_key
-  pub range : IsInRange (forest_of s.forest) s.risen
+  pub range : IsInRange g.n s.first (forest_of s.forest) s.risen
 
 -- A search goes on.
 pub record IsUnderWay (g : Graph) (s : Search) : Type 0 where
@@ -38,7 +40,7 @@ pub record IsUnderWay (g : Graph) (s : Search) : Type 0 where
   pub tree : (r : Blossom) × (s.forest.root ≡ Some r)
   pub low : AreLow g (forest_of s.forest) s.risen s.tour
   pub marked : AreMarked (forest_of s.forest) s.inner.items
-  pub range : IsInRange (forest_of s.forest) s.risen
+  pub range : IsInRange g.n s.first (forest_of s.forest) s.risen
 
 -- The search goes on from the vertex from which it began.
 abbrev pub GoesOn : (n : ℕ) (old new : ForestTables) → Type 0
@@ -56,6 +58,7 @@ HasPerfect g = (m : List EdgeNumber) × IsPerfect g m
 pub record IsRefreshed (g : Graph) (old new : Search) : Type 0 where
   pub forest : new.forest ≡ old.forest
   pub risen : new.risen ≡ old.risen
+  pub first : new.first ≡ old.first
   pub parts : new.parts.items ≡ old.parts.items
   pub made : IsMade g new
   pub mended : IsMended g (forest_of old.forest) old.risen old.tour new.tour
@@ -91,6 +94,9 @@ pub record IsReady (s : Search) : Type 0 where
   pub parts : length s.forest.hand ≤ vec_capacity s.parts
   pub few : (k : Leaf) → k < length s.tour → slice_index s.tour k ≤ no_key
   pub risen : s.risen ≡ 0
+  -- The greatest weight, up or down.
+  pub above : (b : Blossom) → b < length s.forest.up → unsigned_abs ((forest_of s.forest).weight b) ≤ s.first
+  pub attained : (s.first ≡ 0) ⊎ ((b : Blossom) × (unsigned_abs ((forest_of s.forest).weight b) ≡ s.first))
 
 -- A tight edge joins two outermost blossoms that are not matched.
 pub record IsFreeEdge (g : Graph) (f : Forest) (e : EdgeNumber) : Type 0 where

@@ -3,11 +3,19 @@
 
 mod fans;
 mod keys;
+mod matcher;
 mod mending;
+mod perfect;
 mod search;
 mod start;
 mod steps;
+#[cfg(test)]
+mod tests;
 mod turns;
+
+pub use matcher::{Matcher, best, best_from, best_near};
+pub use perfect::is_perfect;
+pub use qm_initial::MAX_WISH;
 
 /// Want of memory.
 pub type Memory = std::alloc::AllocError;

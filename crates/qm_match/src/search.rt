@@ -12,6 +12,8 @@ pub(crate) struct Search {
     pub(crate) tour: Tour,
     /// By how much the sum of the weights has risen since the first search began.
     pub(crate) risen: u64,
+    /// The greatest weight, up or down, that there was then.
+    pub(crate) first: u64,
     pub(crate) fans: Fans,
     /// A mark for each inner blossom. Others may have one.
     pub(crate) inner: Vec<bool>,

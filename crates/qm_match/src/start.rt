@@ -25,6 +25,7 @@ pub(crate) fn search_of(alloc: Global, g: &WGraph, forest: Forest) -> Result<Sea
     Ok(Search {
         tour: Tour::new(alloc, g.edges.len() + (n / 2 + 1))?,
         risen: 0,
+        first: forest.greatest_weight(),
         fans: fans_of(alloc, g)?,
         inner: vec![in alloc; false; n + n / 2]?,
         members: Vec::with_capacity(alloc, n)?,
@@ -38,7 +39,8 @@ impl Search {
     pub(crate) fn match_tight(&mut self, g: &WGraph, known: &[u32])
         requires idle { IsIdle (graph g.now) self.old }
         requires known { (k : ℕ) → k < length known.now → slice_index known.now k < length g.now.edges.items }
-        ensures { IsIdle (graph g.now) self.new }
+        ensures idle { IsIdle (graph g.now) self.new }
+        ensures first { self.new.first ≡ self.old.first }
     {
         for e in known {
             self.match_if_tight(g, *e);
@@ -52,7 +54,8 @@ impl Search {
     fn match_if_tight(&mut self, g: &WGraph, e: u32)
         requires idle { IsIdle (graph g.now) self.old }
         requires edge { e < length g.now.edges.items }
-        ensures { IsIdle (graph g.now) self.new }
+        ensures idle { IsIdle (graph g.now) self.new }
+        ensures first { self.new.first ≡ self.old.first }
     {
         if self.may_match(g, e) {
             self.match_edge(g, e);
@@ -76,7 +79,8 @@ impl Search {
         requires idle { IsIdle (graph g.now) self.old }
         requires edge { e < length g.now.edges.items }
         requires free { IsFreeEdge (graph g.now) (forest_of self.old.forest) e }
-        ensures { IsIdle (graph g.now) self.new }
+        ensures idle { IsIdle (graph g.now) self.new }
+        ensures first { self.new.first ≡ self.old.first }
     {
         self.forest.root(g.edges[e as usize].u);
         self.forest.augment(g, e);

@@ -27,6 +27,7 @@ impl Search {
         ensures goes_on { GoesOn g.now.n self.old.forest self.new.forest }
         ensures fewer { steps_left g.now.n (forest_of self.new.forest)
             < steps_left g.now.n (forest_of self.old.forest) }
+        ensures first { self.new.first ≡ self.old.first }
     {
         let d = self.forest.outer_dart(g, e);
         let inner = self.forest.reached(g, d);
@@ -60,6 +61,7 @@ impl Search {
         ensures goes_on { GoesOn g.now.n self.old.forest self.new.forest }
         ensures fewer { steps_left g.now.n (forest_of self.new.forest)
             < steps_left g.now.n (forest_of self.old.forest) }
+        ensures first { self.new.first ≡ self.old.first }
     {
         self.forest.shrink(g, e);
         let set = self.forest.outermost(g.edges[e as usize].u);
@@ -115,6 +117,7 @@ impl Search {
         ensures goes_on { GoesOn g.now.n self.old.forest self.new.forest }
         ensures fewer { steps_left g.now.n (forest_of self.new.forest)
             < steps_left g.now.n (forest_of self.old.forest) }
+        ensures first { self.new.first ≡ self.old.first }
     {
         self.list_parts(g, b);
         self.forest.expand(g, b);
@@ -165,6 +168,7 @@ impl Search {
         requires kind { kind_of (graph g.now) (forest_of self.old.forest) e ≡ Augment }
         ensures idle { IsIdle (graph g.now) self.new }
         ensures ended { HasEnded g.now.n self.old.forest self.new.forest }
+        ensures first { self.new.first ≡ self.old.first }
     {
         self.forest.augment(g, e);
     }
@@ -177,6 +181,7 @@ impl Search {
         requires before { AreMatchedBefore (forest_of self.old.forest) v }
         ensures way { IsUnderWay (graph g.now) self.new }
         ensures seeking { IsSeeking g.now.n (forest_of self.new.forest) self.new.forest.root v }
+        ensures first { self.new.first ≡ self.old.first }
     {
         let b = self.forest.outermost(v);
         self.forest.root(v);

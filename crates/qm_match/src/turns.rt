@@ -1,16 +1,18 @@
 //! Searches: the step with the least key is taken, again and again, until the matching grows.
 
-ghost use Rattle.std.specs.Prelude.{◌≡◌, ◌≢◌, ◌+◌, ◌<◌, ◌≤◌, ℕ, length, true, false};
-ghost use Rattle.def_matching.specs.Matching.{graph};
+ghost use Rattle.std.specs.Prelude.{◌≡◌, ◌≢◌, ◌+◌, ◌*◌, ◌*ℤ◌, ◌<◌, ◌≤◌, ℕ, pos, length, true, false};
+ghost use Rattle.def_matching.specs.Matching.{graph, matching_cost, IsPerfect};
+ghost use Rattle.def_matching.specs.Dual.{dual, verdict, IsSmallDual};
 ghost use Rattle.def_forest.specs.Tables.{forest_of, kind_of};
 ghost use Rattle.def_forest.specs.declared.kinds.EdgeKind.TheVariants.{Idle, Loose};
 ghost use Rattle.search_laws.specs.Keys.{Leaf, no_key, true_key};
 ghost use Rattle.search_laws.specs.Searches.{AreMatchedBefore, steps_left, turns_left};
+ghost use Rattle.def_match.specs.Made.{AreAtMost, AreCostsBelow};
 ghost use Rattle.qm_match.specs.States.{GoesOn, HasEnded, HasPerfect, IsIdle, IsUnderWay};
 
 use crate::search::Search;
 use def_forest::EdgeKind;
-use def_matching::WGraph;
+use def_matching::{Dual, Verdict, WGraph};
 
 impl Search {
     /// Shifts the dual until the sum of the weights has risen to a key that is the least.
@@ -29,6 +31,7 @@ impl Search {
             ≡ true_key (graph g.now) (forest_of self.old.forest) self.old.risen k }
         ensures tour { self.new.tour ≡ self.old.tour }
         ensures risen { self.new.risen ≡ key }
+        ensures first { self.new.first ≡ self.old.first }
     {
         let t = key - self.risen;
         self.forest.shift(g, t as i64);
@@ -47,6 +50,7 @@ impl Search {
             < steps_left g.now.n (forest_of self.old.forest) }
         ensures idle { result ≡ true → IsIdle (graph g.now) self.new }
         ensures ended { result ≡ true → HasEnded g.now.n self.old.forest self.new.forest }
+        ensures first { self.new.first ≡ self.old.first }
     {
         match self.forest.kind(g, e) {
             EdgeKind::Grow => self.grow(g, e),
@@ -72,6 +76,7 @@ impl Search {
             < steps_left g.now.n (forest_of self.old.forest) }
         ensures idle { result ≡ true → IsIdle (graph g.now) self.new }
         ensures ended { result ≡ true → HasEnded g.now.n self.old.forest self.new.forest }
+        ensures first { self.new.first ≡ self.old.first }
     {
         let edges = g.edges.len();
         if leaf < edges {
@@ -92,6 +97,7 @@ impl Search {
             < turns_left (graph g.now) (forest_of self.old.forest) self.old.risen self.old.tour }
         ensures idle { result ≡ true → IsIdle (graph g.now) self.new }
         ensures ended { result ≡ true → HasEnded g.now.n self.old.forest self.new.forest }
+        ensures first { self.new.first ≡ self.old.first }
     {
         let leaf = self.tour.least_leaf();
         let key = self.true_key(g, leaf);
@@ -109,6 +115,7 @@ impl Search {
         requires known { HasPerfect (graph g.now) }
         ensures idle { IsIdle (graph g.now) self.new }
         ensures ended { HasEnded g.now.n self.old.forest self.new.forest }
+        ensures first { self.new.first ≡ self.old.first }
     {
         let mut ended = false;
         while !ended {
@@ -124,6 +131,7 @@ impl Search {
         requires before { AreMatchedBefore (forest_of self.old.forest) v }
         ensures idle { IsIdle (graph g.now) self.new }
         ensures after { AreMatchedBefore (forest_of self.new.forest) (v + 1) }
+        ensures first { self.new.first ≡ self.old.first }
     {
         if !self.forest.matched(self.forest.outermost(v)) {
             self.begin(g, v);
@@ -137,9 +145,35 @@ impl Search {
         requires known { HasPerfect (graph g.now) }
         ensures idle { IsIdle (graph g.now) self.new }
         ensures all { AreMatchedBefore (forest_of self.new.forest) g.now.n }
+        ensures first { self.new.first ≡ self.old.first }
     {
         for v in 0..g.n {
             self.match_vertex(g, v);
         }
+    }
+    /// The matching and the dual, where all searches are done.
+    pub(crate) fn into_parts(self, g: &WGraph) -> (Vec<u32>, Dual)
+        requires idle { IsIdle (graph g.now) self }
+        requires known { HasPerfect (graph g.now) }
+        requires all { AreMatchedBefore (forest_of self.forest) g.now.n }
+        ensures perfect { IsPerfect (graph g.now) result.0.items }
+        ensures dual { IsSmallDual (dual result.1) }
+        ensures bounded { (most : ℕ) → AreCostsBelow (graph g.now) most
+            → AreAtMost (2 * (g.now.n * self.first) + g.now.n * most) (dual result.1) }
+        ensures least { verdict (graph g.now) (dual result.1)
+            ≡ Verdict.Yes (pos 2 *ℤ matching_cost (graph g.now) result.0.items) }
+    {
+        let Search {
+            forest,
+            tour: _,
+            risen: _,
+            first: _,
+            fans: _,
+            inner: _,
+            members: _,
+            parts: _,
+        } = self;
+        let _ = g;
+        forest.into_parts()
     }
 }

@@ -23,4 +23,6 @@ returns-clause-ready c =
       parts = omega (arith, c.in_ok-with_capacity-2.ensures.capacity, c.requires.valid.vertices);
       few = λ k l. omega (arith, same_everywhere c.in_ok-new.field-0 (c.len.result + (c.args.g.now.n / 2 + 1)) (2 ^ 64 - 1) c.in_ok-new.ensures k, get_or_default_zero c.in_ok-new.field-0 k (2 ^ 64 - 1) l);
       risen = refl;
+      above = c.greatest_weight.ensures.above;
+      attained = c.greatest_weight.ensures.attained;
     }

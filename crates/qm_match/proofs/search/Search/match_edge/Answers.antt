@@ -1,4 +1,4 @@
-use Rattle.std.proofs.Common.{◌≡◌, ◌∙◌, pos, None, Option, ℕ, sym, subst, ap}
+use Rattle.std.proofs.Common.{refl, ◌≡◌, ◌∙◌, pos, None, Option, ℕ, sym, subst, ap}
 use Rattle.std.proofs.lemmas.List.{get_or_read}
 use Rattle.def_matching.specs.Matching.{edge_at, graph}
 use Rattle.def_matching.specs.declared.weighted.WEdge.{WEdge}
@@ -21,4 +21,4 @@ augment-requires-clause-kind c =
     ∙ free_augments (graph c.args.g.now) (forest_of c.args.self.now.forest) c.args.e valid c.requires.free
 
 pub returns : goal.returns
-returns c = matched_idle (graph c.args.g.now) c.args.self.now c.root.new.self c.augment.new.self _ _ c.requires.idle c.root.ensures.changed c.augment.ensures.valid c.augment.ensures.root c.augment.ensures.changed
+returns c = record { first = refl; idle = matched_idle (graph c.args.g.now) c.args.self.now c.root.new.self c.augment.new.self _ _ c.requires.idle c.root.ensures.changed c.augment.ensures.valid c.augment.ensures.root c.augment.ensures.changed }

@@ -10,6 +10,7 @@ invariant-loop-ended l = record {
   way : l.ended ≡ false → IsUnderWay (graph l.g) l.self;
   goes_on : l.ended ≡ false → GoesOn l.g.n l.fn.self.forest l.self.forest;
   idle : l.ended ≡ true → IsIdle (graph l.g) l.self;
+  first : l.self.first ≡ l.fn.self.first;
   end : l.ended ≡ true → HasEnded l.g.n l.fn.self.forest l.self.forest;
 }
 

@@ -1,0 +1,136 @@
+-- What a match begins with, and what has come of it.
+use Rattle.std.proofs.Common.{◌≡◌, ℕ, zero, suc, ◌+◌, ◌*◌, ◌/◌, ◌<◌, ◌≤◌, ◌^◌, List, [], ◌∷◌, length, get_or, Option, None, ℤ, pos, ◌+ℤ◌, ◌*ℤ◌, ◌≤ℤ◌, ◌⊎◌, refl, sym, ◌∙◌, ap, subst, inl, inr, arith}
+use Rattle.std.specs.Int.RustNames.{unsigned_abs}
+use Rattle.std.proofs.lemmas.Int.{ints}
+use Rattle.std.proofs.lemmas.Bool.{cases_lt}
+use Rattle.std.proofs.lemmas.List.{get_or_past}
+use Rattle.def_math.specs.Rising.{IsRising}
+use Rattle.def_matching.specs.Matching.{Graph, IsCheap, IsSmallGraph, edge_at}
+use Rattle.def_matching.specs.Dual.{DualLists, IsSmallDual, SaysYes, dual_sum, verdict}
+use Rattle.def_matching.specs.declared.limits.TheConstants.{MAX_PRODUCT}
+use Rattle.def_matching.specs.declared.weighted.Verdict.{Verdict}
+use Rattle.def_matching.specs.declared.weighted.Verdict.TheVariants.{Yes}
+use Rattle.def_forest.specs.Forests.{Forest}
+use Rattle.def_forest.specs.Tables.{ForestTables, forest_of, IsValidFor}
+use Rattle.def_forest.specs.Written.{IsDualOf}
+use Rattle.def_match.specs.Made.{AreAtMost, AreCostsBelow, AreFirst, IsMadeFor, MAX_FIRST}
+use Rattle.qm_dual.proofs.Verdicts.{says_yes}
+use Rattle.qm_initial.specs.declared.initial.TheConstants.{MAX_WISH}
+use Rattle.search_laws.proofs.Risen.{greatest, small_weights, weights_most}
+use Rattle.qm_match.specs.States.{HasPerfect, IsIdle, IsReady}
+use Rattle.qm_match.specs.declared.search.Search.{Search}
+
+-- The numbers of a rising list are below its bound.
+pub rising_low : (low bound : ℕ) (xs : List ℕ) → IsRising low bound xs → (k : ℕ) → k < length xs → get_or xs k 0 < bound
+rising_low low bound [] rising k l = absurd (omega (arith, l))
+rising_low low bound (x ∷ xs) rising zero l = rising.1
+rising_low low bound (x ∷ xs) rising (suc k) l = rising_low (x + 1) bound xs rising.2 k (omega (arith, l))
+
+times_low : (n x y : ℕ) → x ≤ y → n * x ≤ n * y
+times_low zero x y l = omega arith
+times_low (suc n) x y l = omega (arith, times_low n x y l, l)
+
+times_sum : (n x : ℕ) → n * (2 * x + MAX_WISH) ≡ 2 * (n * x) + n * MAX_WISH
+times_sum zero x = omega arith
+times_sum (suc n) x = omega (arith, times_sum n x)
+
+one_of : (n x : ℕ) → 1 ≤ n → x ≤ n * x
+one_of zero x l = absurd (omega (arith, l))
+one_of (suc n) x l = omega arith
+
+-- A forest whose weights are no greater than the costs.
+pub made_least : (g : Graph) (t u : ForestTables) → u ≡ t → IsValidFor g t → t.root ≡ None → length t.up ≡ g.n + g.n / 2 → ((b : ℕ) → g.n ≤ b → (forest_of t).weight b ≡ pos 0)
+    → ((c : ℕ) → ((e : ℕ) → e < length g.edges → unsigned_abs (edge_at g e).cost ≤ c) → (b : ℕ) → unsigned_abs ((forest_of t).weight b) ≤ c) → IsMadeFor g u
+made_least g t u same valid none size sets small = subst (λ (s : ForestTables). IsMadeFor g s) (sym same) (record {
+  valid = valid;
+  no_tree = none;
+  size = size;
+  sets = sets;
+  small = λ cheap b. (let w : (most : ℕ) × ((e : ℕ) → e < length g.edges → unsigned_abs (edge_at g e).cost ≤ most) × (g.n * most ≤ MAX_PRODUCT) = greatest g cheap in
+      omega (arith, times_low g.n (unsigned_abs ((forest_of t).weight b)) w.0 (small w.0 w.1 b), w.2));
+})
+
+-- A forest whose weights were given.
+pub made_first : (g : Graph) (y : List ℤ) (t u : ForestTables) → AreFirst g y → u ≡ t → IsValidFor g t → t.root ≡ None → length t.up ≡ g.n + g.n / 2 → ((b : ℕ) → (forest_of t).weight b ≡ get_or y b (pos 0)) → IsMadeFor g u
+made_first g y t u first same valid none size weights = subst (λ (s : ForestTables). IsMadeFor g s) (sym same) (record {
+  valid = valid;
+  no_tree = none;
+  size = size;
+  sets = λ b high. weights b ∙ get_or_past y b (pos 0) (omega (arith, high, first.long));
+  small = λ cheap b. subst (λ (w : ℤ). g.n * unsigned_abs w ≤ MAX_FIRST) (sym (weights b)) (first.range b);
+})
+
+-- First weights are small.
+pub first_small : (g : Graph) (y : List ℤ) → AreFirst g y → (v : ℕ) → unsigned_abs (get_or y v (pos 0)) ≤ 2 ^ 60
+first_small g y first v = by_size (cases_lt v g.n)
+  where
+    by_size : (v < g.n) ⊎ (g.n ≤ v) → unsigned_abs (get_or y v (pos 0)) ≤ 2 ^ 60
+    by_size (inl l) = omega (arith, one_of g.n (unsigned_abs (get_or y v (pos 0))) (omega (arith, l)), first.range v)
+    by_size (inr h) = (let z : get_or y v (pos 0) ≡ pos 0 = get_or_past y v (pos 0) (omega (arith, h, first.long)) in omega (arith, ints, z))
+
+-- Numbers near wished ones may be the first.
+pub wished_first : (g : Graph) (ys y : List ℤ) → y ≡ ys → IsSmallGraph g → IsCheap g → length ys ≡ g.n
+    → ((most : ℕ) → ((e : ℕ) → e < length g.edges → unsigned_abs (edge_at g e).cost ≤ most) → (v : ℕ) → unsigned_abs (get_or ys v (pos 0)) ≤ 2 * most + MAX_WISH)
+    → ((e : ℕ) → e < length g.edges → (get_or ys (edge_at g e).u (pos 0) +ℤ get_or ys (edge_at g e).v (pos 0)) ≤ℤ (pos 2 *ℤ (edge_at g e).cost)) → AreFirst g y
+wished_first g ys y same small cheap long near feasible = subst (λ (zs : List ℤ). AreFirst g zs) (sym same) (record {
+  long = long;
+  range = λ v. (let w : (most : ℕ) × ((e : ℕ) → e < length g.edges → unsigned_abs (edge_at g e).cost ≤ most) × (g.n * most ≤ MAX_PRODUCT) = greatest g cheap in
+      omega (arith, times_low g.n (unsigned_abs (get_or ys v (pos 0))) (2 * w.0 + MAX_WISH) (near w.0 w.1 v), times_sum g.n w.0, w.2, small.vertices));
+  feasible = feasible;
+})
+
+-- The dual of a forest in range is small.
+pub small_dual : (g : Graph) (s : Search) (d : DualLists) → IsIdle g s → HasPerfect g → IsDualOf (length s.forest.hand) (forest_of s.forest) d → 2 * length d.z ≤ length s.forest.hand → IsSmallDual d
+small_dual g s d idle known is few = record {
+  sets = omega (arith, few, idle.valid.vertices, idle.made.small.vertices);
+  small_y = λ k l. (let w : get_or d.y k (pos 0) ≡ (forest_of s.forest).weight k = is.y k (omega (arith, l, is.vertices)) in omega (arith, ints, w, weight_low k));
+  small_z = λ k l. (let w : get_or d.z k (pos 0) ≡ (forest_of s.forest).weight (is.sets k l).0 = (is.sets k l).3 in omega (arith, ints, w, weight_low (is.sets k l).0));
+}
+  where
+    weight_low : (b : ℕ) → unsigned_abs ((forest_of s.forest).weight b) ≤ 6 * MAX_PRODUCT
+    weight_low b = small_weights g idle.made.small.lawful idle.made.cheap known.0 known.1 g.n s.first idle.made.first idle.made.low (forest_of s.forest) s.risen idle.range s.forest.root idle.valid.valid b
+
+-- And no number is far above the first weights and the costs.
+pub bounded_dual : (g : Graph) (s : Search) (d : DualLists) → IsIdle g s → HasPerfect g → IsDualOf (length s.forest.hand) (forest_of s.forest) d → 2 * length d.z ≤ length s.forest.hand
+    → (most : ℕ) → AreCostsBelow g most → AreAtMost (2 * (g.n * s.first) + g.n * most) d
+bounded_dual g s d idle known is few most each = record {
+  vertices = λ k l. (let w : get_or d.y k (pos 0) ≡ (forest_of s.forest).weight k = is.y k (omega (arith, l, is.vertices)) in omega (arith, ints, w, weight_low k (omega (arith, l, is.vertices, idle.valid.vertices))));
+  sets = λ k l. (let w : get_or d.z k (pos 0) ≡ (forest_of s.forest).weight (is.sets k l).0 = (is.sets k l).3 in omega (arith, ints, w, weight_low (is.sets k l).0 (omega (arith, l, few, idle.valid.vertices))));
+}
+  where
+    weight_low : (b : ℕ) → 1 ≤ g.n → unsigned_abs ((forest_of s.forest).weight b) ≤ 2 * (g.n * s.first) + g.n * most
+    weight_low b some = omega (arith, one_of g.n s.first some, weights_most g idle.made.small.lawful idle.made.cheap known.0 known.1 g.n s.first idle.made.first idle.made.low (forest_of s.forest) s.risen idle.range s.forest.root idle.valid.valid most each b)
+
+-- Greater bounds hold too.
+pub at_most_more : (d : DualLists) (x y : ℕ) → x ≤ y → AreAtMost x d → AreAtMost y d
+at_most_more d x y le are = record {
+  vertices = λ k l. omega (arith, le, are.vertices k l);
+  sets = λ k l. omega (arith, le, are.sets k l);
+}
+
+-- What the run of a matcher comes to is bounded by its first weights.
+pub run_bounded : (g : Graph) (s end : Search) (d : DualLists) → IsReady s → end.first ≡ s.first → (first most : ℕ) → ((b : ℕ) → unsigned_abs ((forest_of s.forest).weight b) ≤ first) → AreAtMost (2 * (g.n * end.first) + g.n * most) d → AreAtMost (2 * (g.n * first) + g.n * most) d
+run_bounded g s end d ready same first most each are = at_most_more d (2 * (g.n * end.first) + g.n * most) (2 * (g.n * first) + g.n * most) (omega (arith, times_low g.n end.first first low)) are
+  where
+    by_weight : (s.first ≡ 0) ⊎ ((b : ℕ) × (unsigned_abs ((forest_of s.forest).weight b) ≡ s.first)) → end.first ≤ first
+    by_weight (inl none) = omega (arith, none, same)
+    by_weight (inr w) = omega (arith, same, w.1, each w.0)
+
+    low : end.first ≤ first
+    low = by_weight ready.attained
+
+-- The bound for the usual first weights.
+pub best_bounded : (n most : ℕ) (d : DualLists) → AreAtMost (2 * (n * most) + n * most) d → AreAtMost (4 * n * most) d
+best_bounded n most d are = at_most_more d (2 * (n * most) + n * most) (4 * n * most) (omega (arith, four n most)) are
+  where
+    four : (k x : ℕ) → 4 * k * x ≡ 4 * (k * x)
+    four zero x = omega arith
+    four (suc k) x = (let e : 4 * suc k * x ≡ (4 * k + 4) * x = (let f : 4 * suc k ≡ 4 * k + 4 = omega arith in ap (λ m. m * x) f) in let h : (4 * k + 4) * x ≡ 4 * k * x + 4 * x = sum (4 * k) 4 x in omega (arith, e, h, four k x))
+      where
+        sum : (a c y : ℕ) → (a + c) * y ≡ a * y + c * y
+        sum a c zero = omega arith
+        sum a c (suc y) = omega (arith, sum a c y)
+
+-- The verdict on a dual that says yes.
+pub met_verdict : (g : Graph) (d : DualLists) (cost : ℤ) → SaysYes g d → dual_sum d ≡ cost → verdict g d ≡ Yes cost
+met_verdict g d cost says sum = says_yes g d says ∙ ap (λ (x : ℤ). Yes x) sum

@@ -1,0 +1,144 @@
+//! Least perfect matchings: all memory of one is taken first, and finding it takes none.
+
+ghost use Rattle.std.specs.Prelude.{◌≡◌, ◌+◌, ◌*◌, ◌*ℤ◌, ◌^◌, ◌<◌, ◌≤◌, ℕ, length, pos, slice_index_or};
+ghost use Rattle.std.specs.Prelude.{unsigned_abs, IfOk};
+ghost use Rattle.def_matching.specs.Matching.{graph, edge_at, matching_cost, IsCheap, IsPerfect, IsSmallGraph};
+ghost use Rattle.def_matching.specs.Dual.{dual, verdict, IsSmallDual};
+ghost use Rattle.def_forest.specs.Forests.{Blossom};
+ghost use Rattle.def_forest.specs.Tables.{forest_of};
+ghost use Rattle.def_match.specs.Made.{AreAtMost, AreCostsBelow, AreFirst, IsMadeFor};
+
+use crate::Memory;
+use crate::search::Search;
+use crate::start::search_of;
+use def_matching::{Dual, Verdict, WGraph};
+use qm_forest::Forest;
+use qm_initial::{MAX_WISH, initial_dual};
+use std::alloc::Global;
+use std::marker::Model;
+
+/// The room for one least matching, seen as the forest in which it is searched.
+#[derive(Drop)]
+pub struct Matcher {
+    search: Search,
+}
+
+impl Model for Matcher {
+    ghost use Rattle.def_forest.specs.Tables.{ForestTables};
+    ghost use Rattle.qm_match.specs.States.{IsReady};
+
+    ghost Value = { ForestTables };
+
+    ghost view = { λ m. m.search.forest };
+
+    ghost invariant = { λ m. IsReady m.search };
+}
+
+impl Matcher {
+    /// Takes all memory of a match. The first weights are the least costs.
+    pub fn new(alloc: Global, g: &WGraph) -> Result<Matcher, Memory>
+        requires graph { IsSmallGraph (graph g.now) }
+        requires costs { (e : ℕ) → e < length g.now.edges.items → unsigned_abs (edge_at (graph g.now) e).cost ≤ 2 ^ 60 }
+        ensures made { IfOk result (λ m. IsMadeFor (graph g.now) m) }
+        ensures small { IfOk result (λ m. (most : ℕ) → AreCostsBelow (graph g.now) most
+            → (b : Blossom) → unsigned_abs ((forest_of m).weight b) ≤ most) }
+    {
+        let forest = Forest::new(alloc, g)?;
+        let search = search_of(alloc, g, forest)?;
+        Ok(Matcher { search })
+    }
+
+    /// Takes all memory of a match. The first weights are given, a feasible dual.
+    pub fn new_from(alloc: Global, g: &WGraph, y: &[i64]) -> Result<Matcher, Memory>
+        requires graph { IsSmallGraph (graph g.now) }
+        requires first { AreFirst (graph g.now) y.now }
+        ensures made { IfOk result (λ m. IsMadeFor (graph g.now) m) }
+    {
+        let forest = Forest::new_from(alloc, g, y)?;
+        let search = search_of(alloc, g, forest)?;
+        Ok(Matcher { search })
+    }
+
+    /// Finds a least perfect matching, in rising order, and a dual that shows it to be least. One perfect matching is
+    /// known: its edges that are tight from the start are matched first. It takes no memory and cannot fail.
+    pub fn run(self, g: &WGraph, known: &[u32]) -> (Vec<u32>, Dual)
+        requires small { IsSmallGraph (graph g.now) }
+        requires cheap { IsCheap (graph g.now) }
+        requires made { IsMadeFor (graph g.now) self }
+        requires known { IsPerfect (graph g.now) known.now }
+        ensures perfect { IsPerfect (graph g.now) result.0.items }
+        ensures dual { IsSmallDual (dual result.1) }
+        // No number is far above the first weights and the costs.
+        ensures bounded { (first most : ℕ) → ((b : Blossom) → unsigned_abs ((forest_of self).weight b) ≤ first)
+            → AreCostsBelow (graph g.now) most
+            → AreAtMost (2 * (g.now.n * first) + g.now.n * most) (dual result.1) }
+        ensures least { verdict (graph g.now) (dual result.1)
+            ≡ Verdict.Yes (pos 2 *ℤ matching_cost (graph g.now) result.0.items) }
+    {
+        let Matcher { mut search } = self;
+        search.match_tight(g, known);
+        search.match_all(g);
+        search.into_parts(g)
+    }
+}
+
+/// A least perfect matching, in rising order, and a dual that shows it to be least: the verdict on it is yes, with twice
+/// the matching's cost. One perfect matching is known.
+///
+/// It fails for want of memory alone.
+pub fn best(alloc: Global, g: &WGraph, known: &[u32]) -> Result<(Vec<u32>, Dual), Memory>
+    requires small { IsSmallGraph (graph g.now) }
+    requires cheap { IsCheap (graph g.now) }
+    requires known { IsPerfect (graph g.now) known.now }
+    ensures perfect { IfOk result (λ found. IsPerfect (graph g.now) found.0.items) }
+    ensures dual { IfOk result (λ found. IsSmallDual (dual found.1)) }
+    // No number is above four times the product of the vertices with the greatest cost.
+    ensures bounded { IfOk result (λ found. (most : ℕ) → AreCostsBelow (graph g.now) most
+        → AreAtMost (4 * g.now.n * most) (dual found.1)) }
+    ensures least { IfOk result (λ found. verdict (graph g.now) (dual found.1)
+        ≡ Verdict.Yes (pos 2 *ℤ matching_cost (graph g.now) found.0.items)) }
+{
+    let matcher = Matcher::new(alloc, g)?;
+    Ok(matcher.run(g, known))
+}
+
+/// The same, from given first weights of the vertices, a feasible dual. One near a least dual leaves little to do.
+pub fn best_from(
+    alloc: Global,
+    g: &WGraph,
+    known: &[u32],
+    y: &[i64],
+) -> Result<(Vec<u32>, Dual), Memory>
+    requires small { IsSmallGraph (graph g.now) }
+    requires cheap { IsCheap (graph g.now) }
+    requires known { IsPerfect (graph g.now) known.now }
+    requires first { AreFirst (graph g.now) y.now }
+    ensures perfect { IfOk result (λ found. IsPerfect (graph g.now) found.0.items) }
+    ensures dual { IfOk result (λ found. IsSmallDual (dual found.1)) }
+    ensures least { IfOk result (λ found. verdict (graph g.now) (dual found.1)
+        ≡ Verdict.Yes (pos 2 *ℤ matching_cost (graph g.now) found.0.items)) }
+{
+    let matcher = Matcher::new_from(alloc, g, y)?;
+    Ok(matcher.run(g, known))
+}
+
+/// The same, from first weights near wished ones. Any wish will do.
+pub fn best_near(
+    alloc: Global,
+    g: &WGraph,
+    known: &[u32],
+    wish: &[i64],
+) -> Result<(Vec<u32>, Dual), Memory>
+    requires small { IsSmallGraph (graph g.now) }
+    requires cheap { IsCheap (graph g.now) }
+    requires known { IsPerfect (graph g.now) known.now }
+    requires long { length wish.now ≡ g.now.n }
+    requires near { (v : ℕ) → unsigned_abs (slice_index_or wish.now v (pos 0)) ≤ MAX_WISH }
+    ensures perfect { IfOk result (λ found. IsPerfect (graph g.now) found.0.items) }
+    ensures dual { IfOk result (λ found. IsSmallDual (dual found.1)) }
+    ensures least { IfOk result (λ found. verdict (graph g.now) (dual found.1)
+        ≡ Verdict.Yes (pos 2 *ℤ matching_cost (graph g.now) found.0.items)) }
+{
+    let y = initial_dual(alloc, g, wish)?;
+    best_from(alloc, g, known, &y)
+}

@@ -1,0 +1,65 @@
+//! Whether edges are a perfect matching.
+
+ghost use Rattle.std.specs.Prelude.{◌≡◌, ◌+◌, ◌<◌, ℕ, map, length, slice_index_or, true, false, IfOk};
+ghost use Rattle.def_math.specs.Counts.{count};
+ghost use Rattle.def_math.specs.Rising.{IsRising};
+ghost use Rattle.def_matching.specs.Matching.{graph, edge_at, ends_at, IsPerfect, IsSmallGraph};
+ghost use Rattle.def_forest.specs.Forests.{number};
+
+use crate::Memory;
+use def_matching::WGraph;
+use std::alloc::Global;
+
+/// Whether a list of edge numbers is a perfect matching: rising, and each vertex at exactly one of the edges. Linear.
+pub fn is_perfect(alloc: Global, g: &WGraph, edges: &[u32]) -> Result<bool, Memory>
+    requires { IsSmallGraph (graph g.now) }
+    ensures { IfOk result (λ yes. yes ≡ true → IsPerfect (graph g.now) edges.now) }
+{
+    let mut seen = vec![in alloc; false; g.n as usize]?;
+    Ok(meet(g, edges, &mut seen) && are_all(&seen))
+}
+
+/// Marks the ends of edges. Whether the edges rise, and no two of them meet.
+fn meet(g: &WGraph, edges: &[u32], seen: &mut Vec<bool>) -> bool
+    requires graph { IsSmallGraph (graph g.now) }
+    requires size { length seen.old.items ≡ g.now.n }
+    requires none { (v : ℕ) → slice_index_or seen.old.items v false ≡ false }
+    ensures rising { result ≡ true → IsRising 0 (length g.now.edges.items) edges.now }
+    ensures size { length seen.new.items ≡ g.now.n }
+    ensures counts { result ≡ true → (v : ℕ) → v < g.now.n
+        → count (ends_at v) (map (edge_at (graph g.now)) edges.now) ≡ number (slice_index_or seen.new.items v false) }
+{
+    let mut next = 0;
+    for e in edges {
+        if *e < next || *e as usize >= g.edges.len() || !mark(g, *e, seen) {
+            return false;
+        }
+        next = *e + 1;
+    }
+    true
+}
+
+/// Marks the ends of an edge. Whether neither had a mark.
+fn mark(g: &WGraph, e: u32, seen: &mut Vec<bool>) -> bool
+    requires graph { IsSmallGraph (graph g.now) }
+    requires size { length seen.old.items ≡ g.now.n }
+    requires edge { e < length g.now.edges.items }
+    ensures size { length seen.new.items ≡ g.now.n }
+    ensures counts { result ≡ true → (v : ℕ) → number (slice_index_or seen.new.items v false)
+        ≡ number (slice_index_or seen.old.items v false) + ends_at v (edge_at (graph g.now) e) }
+{
+    let edge = g.edges[e as usize];
+    if seen[edge.u as usize] || seen[edge.v as usize] {
+        return false;
+    }
+    seen[edge.u as usize] = true;
+    seen[edge.v as usize] = true;
+    true
+}
+
+/// Whether all marks stand.
+fn are_all(seen: &[bool]) -> bool
+    ensures { result ≡ true → (v : ℕ) → v < length seen.now → slice_index_or seen.now v false ≡ true }
+{
+    seen.iter().all(|mark| *mark)
+}
