@@ -1,14 +1,24 @@
 #!/usr/bin/env python3
-"""Measures least perfect matchings of random sparse graphs and of the matching graphs of layouts by LEMON, where
-Debian's liblemon-dev is installed: the peer that quadq's own matcher is to be measured against."""
+"""Measures least perfect matchings against LEMON, where Debian's liblemon-dev is installed: of random sparse graphs, and
+of the matching graphs of networks. Both have to find the same cost.
+
+usage: bench/matching.py [FILE.net..]     without files: the networks of generated meshes
+
+quadq is given a perfect matching of each graph, as its solver has one; LEMON takes none.
+"""
 import os
 import re
 import subprocess
 import sys
 import tempfile
+import time
+
+from solve import net_of_graph
 
 HERE = os.path.dirname(os.path.realpath(__file__))
-RANDOM = ["1000", "5000", "20000"]
+ROOT = os.path.dirname(HERE)
+QUADQ = f"{ROOT}/crates/qm_matchings/out/qm_matchings"
+RANDOM = [1000, 5000, 20000]
 LAYOUTS = [["holes", "1024", "1024"], ["voxels", "30"], ["voxels", "70"]]
 ROUNDS = 3
 
@@ -19,42 +29,76 @@ def built(room, name, *more):
     return program if subprocess.run(command, stderr=subprocess.DEVNULL).returncode == 0 else None
 
 
-def graphs(room):
-    """The name and the file of each graph."""
+def piped(words, text):
+    return subprocess.run(words, input=text, stdout=subprocess.PIPE, check=True).stdout
+
+
+def net_text(net):
+    """The text of a network."""
+    nodes, floor, p, q, arcs = net
+    lines = [f"net nodes {nodes} arcs {len(arcs)} floor {floor} scale {p}/{q}"]
+    for old, weight, ends in arcs:
+        lines.append(f"arc {old} {weight} " + " ".join(f"{n} {s}" for n, s in ends) + (" rim" if len(ends) == 1 else ""))
+    return "\n".join(lines) + "\n"
+
+
+def graphs(room, files):
+    """The name and the text of each graph, with a perfect matching."""
     writer, mesher, tracer = (built(room, it) for it in ("graphs", "meshes", "graph"))
     for n in RANDOM:
-        with open(f"{room}/it", "wb") as out:
-            subprocess.run([writer, "random", "1", n], stdout=out, check=True)
-        yield f"random {n}", f"{room}/it"
-    for words in LAYOUTS:
-        for program, source, target in (
-            ([mesher, *words], os.devnull, "mesh"),
-            ([tracer], f"{room}/mesh", "layout"),
-            ([writer, "network", "1"], f"{room}/layout", "it"),
-        ):
-            with open(source, "rb") as text, open(f"{room}/{target}", "wb") as out:
-                subprocess.run(program, stdin=text, stdout=out, check=True)
-        yield " ".join(words), f"{room}/it"
+        text = piped([writer, "random", "1", str(n)], b"")
+        known = " ".join(map(str, range(n // 2)))
+        yield f"random {n}", text + f"known {known}\n".encode()
+    nets = [(os.path.basename(file)[:-4], open(file, "rb").read()) for file in files]
+    if not files:
+        for words in LAYOUTS:
+            layout = piped([tracer], piped([mesher, *words], b"")).decode()
+            nets.append((" ".join(words), net_text(net_of_graph(layout, 1, 2)).encode()))
+    for name, text in nets:
+        yield name, piped([QUADQ, "graph"], text)
+
+
+def run(words, text):
+    """Seconds, MB and output of a run."""
+    with tempfile.TemporaryFile() as file:
+        file.write(text)
+        file.seek(0)
+        start = time.perf_counter()
+        child = subprocess.Popen(words, stdin=file, stdout=subprocess.PIPE)
+        said = child.stdout.read().decode()
+        _, status, usage = os.wait4(child.pid, 0)
+        seconds = time.perf_counter() - start
+    if status != 0:
+        sys.exit(f"{words} ended with {status}")
+    return seconds, usage.ru_maxrss / 1024, said
 
 
 def main():
+    crate = f"{ROOT}/crates/qm_matchings"
+    with open(f"{crate}/stdin", "rb") as text:
+        subprocess.run(["rt", "run"], cwd=crate, check=True, stdin=text, stdout=subprocess.DEVNULL)
     with tempfile.TemporaryDirectory() as room:
         lemon = built(room, "matching", "-llemon")
         if lemon is None:
-            sys.exit("LEMON: not measured, since Debian's liblemon-dev is not installed")
-        print(f"{'graph':<18}{'vertices':>9}{'edges':>9}{'cost':>10}{'LEMON s':>9}{'MB':>6}")
-        for name, file in graphs(room):
-            vertices, edges = open(file, encoding="ascii").readline().split()[1:]
-            least, megabytes = None, 0
+            print("LEMON: not measured, since Debian's liblemon-dev is not installed")
+        print(f"{'graph':<44}{'vertices':>9}{'edges':>9}{'sets':>7}{'quadq s':>9}{'MB':>6}{'LEMON s':>9}{'MB':>6}{'ratio':>7}")
+        for name, text in graphs(room, sys.argv[1:]):
+            vertices, edges = map(int, text.split(b"\n", 1)[0].split()[1:])
+            ours, theirs, megabytes = None, None, [0, 0]
             for _ in range(ROUNDS):
-                with open(file, "rb") as text:
-                    child = subprocess.Popen([lemon], stdin=text, stdout=subprocess.PIPE)
-                    said = child.stdout.read().decode()
-                    _, _, usage = os.wait4(child.pid, 0)
-                cost, seconds = re.fullmatch(r"cost (-?\d+) seconds ([\d.]+)\n", said).groups()
-                least = min(float(seconds), least or float(seconds))
-                megabytes = usage.ru_maxrss / 1024
-            print(f"{name:<18}{vertices:>9}{edges:>9}{cost:>10}{least:>9.3f}{megabytes:>6.0f}")
+                none, base, _ = run([QUADQ, "0"], text)
+                one, peak, said = run([QUADQ, "1"], text)
+                cost, sets = re.fullmatch(r"cost (-?\d+) sets (\d+)\n", said).groups()
+                ours = min(one - none, ours or one - none)
+                megabytes[0] = peak - base
+                if lemon:
+                    _, megabytes[1], said = run([lemon], text)
+                    other, seconds = re.fullmatch(r"cost (-?\d+) seconds ([\d.]+)\n", said).groups()
+                    theirs = min(float(seconds), theirs or float(seconds))
+                    if other != cost:
+                        sys.exit(f"{name}: quadq {cost}, LEMON {other}")
+            peer = f"{theirs:>9.3f}{megabytes[1]:>6.0f}{ours / max(theirs, 0.001):>7.2f}" if lemon else ""
+            print(f"{name:<44}{vertices:>9}{edges:>9}{sets:>7}{ours:>9.3f}{megabytes[0]:>6.0f}{peer}")
 
 
 main()
