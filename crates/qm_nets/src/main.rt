@@ -1,18 +1,22 @@
-//! Reads a network from standard input, and tells how far the start of the descent is from what is wanted and how large
-//! its matching graph is.
+//! Reads a network from standard input, and tells its least deviation and what it took to find it. The seconds of the
+//! parts go to standard error.
 #![tactic(auto)]
 
+mod left;
+
+use crate::left::{deviation_of, searches_left};
 use def_flow::MAX_TANGLE;
-use qm_gadget::graph_of;
-use qm_net::{are_lengths, deviation, is_within_bounds, tangle_of};
+use qm_net::{is_within_bounds, tangle_of};
 use qm_nettext::{NetFail, read_net};
-use qm_solve::{is_start, start_of};
+use qm_solve::{first_descent, is_start, start_of, turn};
 use std::io;
 use std::process::ExitCode;
+use std::time::{Duration, Instant};
 
 /// The status is 2 for a text that is no network, 3 for one out of bounds, 4 for one too tangled, and 5 where no start
 /// was found.
 fn main(rt: HostRuntime) -> io::Result<ExitCode> {
+    let begun = Instant::now(&rt)?;
     let text = io::read_to_string(rt.alloc(), rt.reader())?;
     let net = match read_net(rt.alloc(), text.as_str()) {
         Ok(net) => net,
@@ -26,16 +30,41 @@ fn main(rt: HostRuntime) -> io::Result<ExitCode> {
     if tangle > u128::from(MAX_TANGLE) {
         return Ok(ExitCode::from(4));
     }
+    let reading = begun.elapsed(&rt)?;
+    let begun = Instant::now(&rt)?;
     let start = start_of(rt.alloc(), &net)?;
-    if !are_lengths(&net, &start.lengths) || !is_start(&net, &start.lengths) {
+    let starting = begun.elapsed(&rt)?;
+    if !is_start(&net, &start.lengths) {
         return Ok(ExitCode::from(5));
     }
-    let far = deviation(&net, &start.lengths);
-    let gadget = graph_of(rt.alloc(), &net, &start.lengths, 1)?;
-    let vertices = gadget.graph.n;
-    let edges = gadget.graph.edges.len();
+    let mut descent = first_descent(&net, start);
     println!(rt;
-        "tangle {tangle}, deviation of the start {far}, {vertices} vertices, {edges} edges"
+        "tangle: {tangle}\nstart: {}",
+        deviation_of(&net, &descent.x)
     )?;
+    let (mut rounds, mut left, mut turning) = (0u64, 0u64, Duration::ZERO);
+    let sets = loop {
+        rounds = rounds.saturating_add(1);
+        left = left.saturating_add(searches_left(rt.alloc(), &net, &descent)?);
+        let begun = Instant::now(&rt)?;
+        let found = turn(rt.alloc(), &net, &mut descent)?;
+        turning = turning.saturating_add(begun.elapsed(&rt)?);
+        if let Some(dual) = found {
+            break dual.z.len();
+        }
+    };
+    let least = deviation_of(&net, &descent.x);
+    println!(rt; "rounds: {rounds}\nsearches left: {left}\nsets: {sets}\nleast: {least}")?;
+    for (name, time) in [
+        ("reading", reading),
+        ("start", starting),
+        ("rounds", turning),
+    ] {
+        eprintln!(rt;
+            "{name} seconds: {}.{:06}",
+            time.as_secs(),
+            time.subsec_micros()
+        )?;
+    }
     Ok(ExitCode::from(0))
 }

@@ -16,7 +16,7 @@ use Rattle.qm_units.proofs.Box.{own_box}
 use Rattle.qm_units.proofs.Law.{box_deviation}
 use Rattle.qm_units.proofs.Steps.{raised_in_box}
 use Rattle.qm_solve.specs.Rounds.{IsBetter}
-use Rattle.qm_solve.proofs.Near.{lengths_near}
+use Rattle.qm_solve.proofs.Near.{start_lengths}
 
 -- A list is in its own box.
 pub own_inside : (net : Network) (step s : ℕ) (xs ls cs : List ℕ) → s ≡ step → ls ≡ lows net step xs → cs ≡ caps net step xs → IsInBox s ls cs xs
@@ -44,14 +44,22 @@ certified net c count admissible good =
     let says : SaysYes (matching_graph net 1 c.x) c.dual × (pos 2 *ℤ on_cost net 1 c.x ≡ dual_sum c.dual) = yes_says (matching_graph net 1 c.x) c.dual (pos 2 *ℤ on_cost net 1 c.x) good in
     record { count = count; admissible = admissible; yes = says.0; sums = sym says.1 }
 
+-- A better list is a start as well.
+pub better_start : (net : Network) (xs ys : List ℕ) → IsStartOf net xs → IsBetter net xs ys → IsStartOf net ys
+better_start net xs ys from better = record {
+  count = better.count;
+  admissible = better.admissible;
+  near = λ k l. omega (arith, from.near k l, better.less);
+}
+
 -- With step 1 and no better list the descent is done.
-pub solved : (net : Network) (start xs read : List ℕ) (step : ℕ) (d : DualLists) → IsWithinBounds net → IsStartOf net start → length xs ≡ length net.arcs → IsAdmissible net (entries xs) → deviation net (entries xs) ≤ deviation net (entries start) → step ≡ 1 → read ≡ xs
-    → (verdict (matching_graph net step read) d ≡ Yes (pos 2 *ℤ on_cost net step read)) × IsSmallDual d → IsSolution net (record { x = xs; dual = d })
-solved net start xs read step d bounds from count admissible nearer one same found = record {
-  accepted = certified net (record { x = xs; dual = d }) count admissible said;
-  lengths = lengths_near net start xs bounds from count nearer;
+pub solved : (net : Network) (xs : List ℕ) (step : ℕ) (d : DualLists) → IsWithinBounds net → IsStartOf net xs → step ≡ 1
+    → (verdict (matching_graph net step xs) d ≡ Yes (pos 2 *ℤ on_cost net step xs)) × IsSmallDual d → IsSolution net (record { x = xs; dual = d })
+solved net xs step d bounds from one found = record {
+  accepted = certified net (record { x = xs; dual = d }) from.count from.admissible said;
+  lengths = start_lengths net xs bounds from;
   small = found.1;
 }
   where
     said : verdict (matching_graph net 1 xs) d ≡ Yes (pos 2 *ℤ on_cost net 1 xs)
-    said = subst (λ (ys : List ℕ). verdict (matching_graph net 1 ys) d ≡ Yes (pos 2 *ℤ on_cost net 1 ys)) same (subst (λ (s : ℕ). verdict (matching_graph net s read) d ≡ Yes (pos 2 *ℤ on_cost net s read)) one found.0)
+    said = subst (λ (s : ℕ). verdict (matching_graph net s xs) d ≡ Yes (pos 2 *ℤ on_cost net s xs)) one found.0

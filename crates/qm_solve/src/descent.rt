@@ -1,64 +1,101 @@
 //! The descent in rounds.
 
-ghost use Rattle.std.specs.Prelude.{◌≤◌, ◌*◌, ◌^◌, IfOk};
+ghost use Rattle.std.specs.Prelude.{◌≡◌, ◌+◌, ◌≤◌, ◌<◌, ◌*◌, ◌^◌, None, length, IfOk, IfSome, OnOk};
+ghost use Rattle.def_matching.specs.Dual.{dual};
 ghost use Rattle.def_flow.specs.Network.{network, tangle_number, IsWithinBounds};
 ghost use Rattle.def_flow.specs.Accepted.{certificate};
+ghost use Rattle.def_flow.specs.Admissible.{deviation, entries};
 ghost use Rattle.def_flow.specs.Descent.{IsSolution, IsStartOf};
 
 use crate::Memory;
-use crate::matcher::Matcher;
-use crate::round::{Guide, Round, improve};
+use crate::round::{Round, improve};
 use def_flow::{Arc, Cert, MAX_OLD, MAX_SCALE, MAX_STEP, MAX_TANGLE, Net};
+use def_matching::Dual;
+use qm_start::Start;
 use std::alloc::Global;
+
+/// A descent on its way: an admissible list, how far the next round steps, and prices of the nodes for rounds of step
+/// 1, where any are known.
+#[derive(Debug, Drop)]
+pub struct Descent {
+    pub x: Vec<u64>,
+    pub step: u64,
+    pub prices: Vec<i64>,
+}
 
 /// A least list of lengths, with the certificate that shows it to be least, by a descent from an admissible list.
 ///
 /// Where a least matching costs less than the one of the list, the descent moves to its list; where it does not, the
 /// step is halved. With step 1 the dual is the certificate.
-pub fn solve_from<M: Matcher>(
-    alloc: Global,
-    matcher: &M,
-    net: &Net,
-    start: &[u64],
-) -> Result<Cert, Memory>
+pub fn solve_from(alloc: Global, net: &Net, start: &[u64]) -> Result<Cert, Memory>
     requires bounds { IsWithinBounds (network net.now) }
     requires tangle { tangle_number (network net.now) ≤ MAX_TANGLE }
     requires start { IsStartOf (network net.now) start.now }
     ensures { IfOk result (λ cert. IsSolution (network net.now) (certificate cert)) }
 {
-    let prices = [];
-    let guide = Guide {
-        matcher,
-        prices: &prices,
+    let start = Start {
+        lengths: Vec::from_slice(alloc, start)?,
+        prices: Vec::new(alloc),
     };
-    descend(alloc, &guide, net, start)
+    descend(alloc, net, start)
 }
 
-/// The descent from an admissible list, with prices for its last rounds.
-pub(crate) fn descend<M: Matcher>(
-    alloc: Global,
-    guide: &Guide<M>,
-    net: &Net,
-    start: &[u64],
-) -> Result<Cert, Memory>
+/// The descent from an admissible list.
+pub(crate) fn descend(alloc: Global, net: &Net, start: Start) -> Result<Cert, Memory>
     requires bounds { IsWithinBounds (network net.now) }
     requires tangle { tangle_number (network net.now) ≤ MAX_TANGLE }
-    requires start { IsStartOf (network net.now) start.now }
+    requires start { IsStartOf (network net.now) start.lengths.items }
     ensures { IfOk result (λ cert. IsSolution (network net.now) (certificate cert)) }
 {
-    let mut x = Vec::from_slice(alloc, start)?;
-    let mut step = first_step(net, start);
+    let mut descent = first_descent(net, start);
     loop {
-        match improve(alloc, guide, net, &x, step)? {
-            Round::Better { x: better } => x = better,
-            Round::Least { dual } => {
-                if step == 1 {
-                    return Ok(Cert { x, dual });
-                }
-                step /= 2;
-            }
+        if let Some(dual) = turn(alloc, net, &mut descent)? {
+            let Descent { x, .. } = descent;
+            return Ok(Cert { x, dual });
         }
     }
+}
+
+/// A descent that has not begun. Linear.
+pub fn first_descent(net: &Net, start: Start) -> Descent
+    requires bounds { IsWithinBounds (network net.now) }
+    requires start { IsStartOf (network net.now) start.lengths.items }
+    ensures start { IsStartOf (network net.now) result.x.items }
+    ensures step { (1 ≤ result.step) × (result.step ≤ MAX_STEP) }
+{
+    let step = first_step(net, &start.lengths);
+    Descent {
+        x: start.lengths,
+        step,
+        prices: start.prices,
+    }
+}
+
+/// One round: where it finds no better list with step 1, the dual of its matching makes the list's certificate. Else
+/// the list is better or the step is shorter.
+pub fn turn(alloc: Global, net: &Net, descent: &mut Descent) -> Result<Option<Dual>, Memory>
+    requires bounds { IsWithinBounds (network net.now) }
+    requires tangle { tangle_number (network net.now) ≤ MAX_TANGLE }
+    requires start { IsStartOf (network net.now) descent.old.x.items }
+    requires step { (1 ≤ descent.old.step) × (descent.old.step ≤ MAX_STEP) }
+    ensures done { IfOk result (λ found. IfSome found (λ d.
+        IsSolution (network net.now) (record { x = descent.new.x.items; dual = dual d }))) }
+    ensures start { OnOk result (IsStartOf (network net.now) descent.new.x.items) }
+    ensures step { OnOk result ((1 ≤ descent.new.step) × (descent.new.step ≤ MAX_STEP)) }
+    ensures nearer { IfOk result (λ found. found ≡ None
+        → deviation (network net.now) (entries descent.new.x.items) + descent.new.step
+        < deviation (network net.now) (entries descent.old.x.items) + descent.old.step) }
+{
+    match improve(alloc, net, &descent.x, descent.step, &descent.prices)? {
+        Round::Better { x } => descent.x = x,
+        Round::Least { dual } => {
+            if descent.step == 1 {
+                return Ok(Some(dual));
+            }
+            descent.step /= 2;
+        }
+    }
+    Ok(None)
 }
 
 /// The first step: the greatest power of two that some arc is twice as far from what is wanted. Linear.

@@ -3,7 +3,6 @@
 
 mod descent;
 mod idle;
-mod matcher;
 mod priced;
 mod round;
 mod start;
@@ -11,8 +10,8 @@ mod start;
 mod tests;
 
 pub use def_flow::{Cert, Net};
-pub use descent::solve_from;
-pub use matcher::{Matched, Matcher};
+pub use descent::{Descent, first_descent, solve_from, turn};
+pub use round::first_wishes;
 pub use start::{is_start, solve, start_of};
 
 /// Want of memory.

@@ -1,21 +1,21 @@
 //! One round of the descent.
 
-ghost use Rattle.std.specs.Prelude.{◌≡◌, ◌≤◌, ◌<◌, ◌^◌, ◌*◌, length, IfOk};
+ghost use Rattle.std.specs.Prelude.{◌≡◌, ◌≤◌, ◌<◌, ◌^◌, ◌*◌, ℕ, pos, length, slice_index_or};
+ghost use Rattle.std.specs.Prelude.{unsigned_abs, IfOk};
 ghost use Rattle.def_math.specs.Rising.{IsRising};
 ghost use Rattle.def_matching.specs.Matching.{graph, matching_cost, IsGraph};
 ghost use Rattle.def_flow.specs.Network.{network, tangle_number, IsWithinBounds};
 ghost use Rattle.def_flow.specs.Admissible.{entries, AreLengths, IsAdmissible};
-ghost use Rattle.qm_initial.specs.Lowered.{AreNear};
 ghost use Rattle.qm_solve.specs.Rounds.{IsRound};
 
 use crate::Memory;
 use crate::idle::without_idle_sets;
-use crate::matcher::Matcher;
 use crate::priced::wishes_of;
 use def_flow::{Gadget, MAX_STEP, MAX_TANGLE, Net};
 use def_matching::{Dual, WGraph};
 use qm_gadget::{graph_of, lengths_of, matching_of};
-use qm_initial::least_costs;
+use qm_initial::{MAX_WISH, least_costs};
+use qm_match::best_near;
 use std::alloc::Global;
 
 /// What a round finds: a list of less deviation, or a dual by which no list a few steps away has less.
@@ -25,20 +25,13 @@ pub(crate) enum Round {
     Least { dual: Dual },
 }
 
-/// What leads the descent: a matcher, and prices of the nodes, if any are known.
-#[derive(Clone, Copy)]
-pub(crate) struct Guide<'a, M> {
-    pub(crate) matcher: &'a M,
-    pub(crate) prices: &'a [i64],
-}
-
 /// A round with steps of this length, from the admissible list `x`. It takes one least matching.
-pub(crate) fn improve<M: Matcher>(
+pub(crate) fn improve(
     alloc: Global,
-    guide: &Guide<M>,
     net: &Net,
     x: &[u64],
     step: u64,
+    prices: &[i64],
 ) -> Result<Round, Memory>
     requires bounds { IsWithinBounds (network net.now) }
     requires lengths { AreLengths net.now.arcs.items x.now }
@@ -49,22 +42,28 @@ pub(crate) fn improve<M: Matcher>(
 {
     let gadget = graph_of(alloc, net, x, step)?;
     let known = matching_of(alloc, net, &gadget, x)?;
-    let wish = wish_of(alloc, net, &gadget, guide.prices)?;
-    let found = guide.matcher.best(alloc, &gadget.graph, &known, &wish)?;
-    if cost_of(&gadget.graph, &found.edges) < cost_of(&gadget.graph, &known) {
-        let x = lengths_of(alloc, net, &gadget, &found.edges)?;
+    let wish = first_wishes(alloc, net, &gadget, prices)?;
+    let (edges, dual) = best_near(alloc, &gadget.graph, &known, &wish)?;
+    if cost_of(&gadget.graph, &edges) < cost_of(&gadget.graph, &known) {
+        let x = lengths_of(alloc, net, &gadget, &edges)?;
         Ok(Round::Better { x })
     } else {
-        let dual = without_idle_sets(alloc, &gadget.graph, found.dual)?;
+        let dual = without_idle_sets(alloc, &gadget.graph, dual)?;
         Ok(Round::Least { dual })
     }
 }
 
-/// What is wished of the first dual: by the prices, which are those of steps of 1, or by the costs.
-fn wish_of(alloc: Global, net: &Net, gadget: &Gadget, prices: &[i64]) -> Result<Vec<i64>, Memory>
+/// What is wished of the first dual of a round: by the prices of the nodes, which are those of steps of 1, or by the
+/// costs. Linear in the graph.
+pub fn first_wishes(
+    alloc: Global,
+    net: &Net,
+    gadget: &Gadget,
+    prices: &[i64],
+) -> Result<Vec<i64>, Memory>
     requires { IsGraph (graph gadget.now.graph) }
     ensures long { IfOk result (λ wish. length wish.items ≡ gadget.now.graph.n) }
-    ensures near { IfOk result (λ wish. AreNear wish.items) }
+    ensures near { IfOk result (λ wish. (v : ℕ) → unsigned_abs (slice_index_or wish.items v (pos 0)) ≤ MAX_WISH) }
 {
     if gadget.step == 1 && !prices.is_empty() {
         wishes_of(alloc, net, gadget, prices)

@@ -10,8 +10,6 @@ ghost use Rattle.qm_solve.specs.Rounds.{is_near_arc};
 
 use crate::Memory;
 use crate::descent::descend;
-use crate::matcher::Matcher;
-use crate::round::Guide;
 use def_flow::{Arc, Cert, MAX_LENGTH, MAX_TANGLE, Net};
 use qm_net::{admissible, are_lengths, deviation};
 use qm_start::{Start, near_start};
@@ -19,18 +17,14 @@ use std::alloc::Global;
 
 /// A least list of lengths of an even network, with the certificate that shows it to be least. The descent begins at a
 /// list near what is wanted, where one is found, and else at a multiple of the old lengths.
-pub fn solve<M: Matcher>(alloc: Global, matcher: &M, net: &Net) -> Result<Cert, Memory>
+pub fn solve(alloc: Global, net: &Net) -> Result<Cert, Memory>
     requires bounds { IsWithinBounds (network net.now) }
     requires even { IsEven (network net.now) }
     requires tangle { tangle_number (network net.now) ≤ MAX_TANGLE }
     ensures { IfOk result (λ cert. IsSolution (network net.now) (certificate cert)) }
 {
     let start = start_of(alloc, net)?;
-    let guide = Guide {
-        matcher,
-        prices: &start.prices,
-    };
-    descend(alloc, &guide, net, &start.lengths)
+    descend(alloc, net, start)
 }
 
 /// The list that `solve` starts from: one near what is wanted where that serves, and else a multiple of the old
@@ -54,7 +48,7 @@ pub fn start_of(alloc: Global, net: &Net) -> Result<Start, Memory>
 
 /// The old lengths, so many times that each is at least the floor and near what is wanted. The list is admissible where
 /// the old lengths are. Linear.
-fn old_multiple(alloc: Global, net: &Net) -> Result<Vec<u64>, Memory>
+pub(crate) fn old_multiple(alloc: Global, net: &Net) -> Result<Vec<u64>, Memory>
     requires { IsWithinBounds (network net.now) }
     ensures { IfOk result (λ lengths. lengths.items ≡ old_multiple (network net.now)) }
 {
@@ -62,7 +56,7 @@ fn old_multiple(alloc: Global, net: &Net) -> Result<Vec<u64>, Memory>
 }
 
 /// The old lengths, so many times. Linear.
-fn multiple(alloc: Global, arcs: &[Arc], times: u64) -> Result<Vec<u64>, Memory>
+pub(crate) fn multiple(alloc: Global, arcs: &[Arc], times: u64) -> Result<Vec<u64>, Memory>
     requires { times ≤ 1000 }
     ensures { IfOk result (λ lengths. lengths.items ≡ multiple_of times arcs.now) }
 {

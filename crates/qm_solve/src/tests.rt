@@ -1,51 +1,83 @@
-//! A descent that ends at once, and starts that are none.
+//! Networks whose least deviations are known, and small ones by chance against a search over all lists.
 
-use crate::round::cost_of;
-use crate::{Matched, Matcher, is_start, solve_from};
-use def_flow::MAX_TANGLE;
-use def_matching::{Dual, Verdict, WGraph};
-use qm_dual::dual_ok;
-use qm_net::{is_within_bounds, tangle_of};
-use qm_nettext::{QUAD, read_net};
-use std::alloc::{AllocError, Global};
+ghost use Rattle.std.specs.Prelude.{◌≡◌, true, IfOk};
+ghost use Rattle.def_flow.specs.Network.{network, IsWithinBounds};
+ghost use Rattle.def_flow.specs.Admissible.{IsEven};
+
+use crate::start::{multiple, old_multiple};
+use crate::{Memory, is_start, solve, solve_from};
+use def_flow::{Arc, End, MAX_TANGLE, Net};
+use qm_net::{admissible, are_lengths, deviation, is_within_bounds, tangle_of};
+use qm_nettext::{FLAPS, QUAD, TREBLED, read_net};
+use std::alloc::Global;
 use std::test::Fail;
 
-/// A matcher that has the dual of zeros alone, and gives up as if out of memory where that does not serve.
-struct Zeros;
+/// A cube of three by three faces a side, at half its size.
+const CUBE: &str = "net nodes 12 arcs 12 floor 1 scale 1/2
+arc 3 1 0 + 8 +
+arc 3 1 1 - 10 +
+arc 3 1 1 + 6 +
+arc 3 1 0 - 4 +
+arc 3 1 2 + 4 -
+arc 3 1 3 - 10 -
+arc 3 1 3 + 6 -
+arc 3 1 2 - 8 -
+arc 3 1 5 - 11 +
+arc 3 1 5 + 7 -
+arc 3 1 7 + 9 -
+arc 3 1 9 + 11 -";
 
-impl Matcher for Zeros {
-    fn best(
-        &self,
-        alloc: Global,
-        g: &WGraph,
-        known: &[u32],
-        _wish: &[i64],
-    ) -> Result<Matched, AllocError> {
-        let n = g.n as usize;
-        let dual = Dual {
-            y: vec![in alloc; 0i64; n]?,
-            z: Vec::new(alloc),
-            up: vec![in alloc; 0u32; n]?,
-        };
-        let verdict = dual_ok(alloc, g, &dual)?;
-        if verdict != (Verdict::Yes { sum: 0 }) || cost_of(g, known) != 0 {
-            return Err(AllocError);
-        }
-        let edges = Vec::from_slice(alloc, known)?;
-        Ok(Matched { edges, dual })
+/// Two sheets of three by three faces with one rim, at a third of their size.
+const PILLOW: &str = "net nodes 4 arcs 4 floor 1 scale 1/3
+arc 3 1 0 + 3 -
+arc 3 1 1 - 2 +
+arc 3 1 1 + 2 -
+arc 3 1 0 - 3 +";
+
+/// A cylinder with a step, at a third of its size, with lengths of at least 3.
+const CYLINDER: &str = "net nodes 6 arcs 9 floor 3 scale 1/3
+arc 3 1 0 + rim
+arc 3 1 1 - 3 +
+arc 3 1 1 + 3 -
+arc 3 1 2 + rim
+arc 3 1 0 - 4 +
+arc 3 1 2 - rim
+arc 3 1 5 - rim
+arc 3 1 5 + rim
+arc 3 1 4 - rim";
+
+/// A torus of four by four faces, at half its size, with lengths of at least 3.
+const TORUS: &str = "net nodes 2 arcs 2 floor 3 scale 1/2
+arc 4 1 0 + 0 -
+arc 4 1 1 + 1 -";
+
+#[test]
+fn known_networks(rt: HostRuntime) -> Result<(), Fail> {
+    let table = [
+        (QUAD, 0),
+        (TREBLED, 0),
+        (FLAPS, 11),
+        (CUBE, 12),
+        (PILLOW, 0),
+        (CYLINDER, 54),
+        (TORUS, 4),
+    ];
+    for (text, least) in table {
+        let net = read_net(rt.alloc(), text)?;
+        assert_eq!(rt; least_of(rt.alloc(), &net)?, Some((least, least)), "{text}");
     }
+    Ok(())
 }
 
 #[test]
-fn one_quad(rt: HostRuntime) -> Result<(), Fail> {
-    let net = read_net(rt.alloc(), QUAD)?;
+fn a_start_far_away(rt: HostRuntime) -> Result<(), Fail> {
+    let net = read_net(rt.alloc(), PILLOW)?;
     assert!(rt; is_within_bounds(&net));
     let tangle = tangle_of(rt.alloc(), &net)?;
     assert!(rt; tangle <= u128::from(MAX_TANGLE));
-    let start = [1, 1, 1, 1];
-    assert!(rt; is_start(&net, &start));
-    let cert = solve_from(rt.alloc(), &Zeros, &net, &start)?;
-    assert!(rt; cert.x.as_slice() == start.as_slice());
+    assert!(rt; is_start(&net, &[3, 3, 3, 3]));
+    let cert = solve_from(rt.alloc(), &net, &[3, 3, 3, 3])?;
+    assert!(rt; cert.x.as_slice() == [1, 1, 1, 1].as_slice());
     Ok(())
 }
 
@@ -65,4 +97,165 @@ fn starts(rt: HostRuntime) -> Result<(), Fail> {
         assert_eq!(rt; is_start(&net, x), want, "at {x:?}");
     }
     Ok(())
+}
+
+/// Networks of two nodes and at most six arcs.
+#[test]
+fn networks_by_chance(rt: HostRuntime) -> Result<(), Fail> {
+    let mut chance = 2026;
+    for _ in 0..12 {
+        let net = net_by_chance(rt.alloc(), &mut chance)?;
+        let least = least_in_box(rt.alloc(), &net)?;
+        assert!(rt; least.is_some());
+        assert_eq!(rt;
+            least_of(rt.alloc(), &net)?,
+            least.map(|far| (far, far)),
+            "{net:?}"
+        );
+    }
+    Ok(())
+}
+
+/// The deviations of the lists that are found from a start near what is wanted and from a multiple of the old lengths,
+/// if the network is even.
+fn least_of(alloc: Global, net: &Net) -> Result<Option<(i128, i128)>, Memory> {
+    if !is_within_bounds(net) || tangle_of(alloc, net)? > u128::from(MAX_TANGLE) {
+        return Ok(None);
+    }
+    if !is_even(alloc, net)? {
+        return Ok(None);
+    }
+    let near = solve(alloc, net)?;
+    let start = old_multiple(alloc, net)?;
+    if !is_start(net, &start) {
+        return Ok(None);
+    }
+    let far = solve_from(alloc, net, &start)?;
+    Ok(Some((deviation(net, &near.x), deviation(net, &far.x))))
+}
+
+/// Whether a network is known to be even.
+fn is_even(alloc: Global, net: &Net) -> Result<bool, Memory>
+    requires { IsWithinBounds (network net.now) }
+    ensures { IfOk result (λ even. even ≡ true → IsEven (network net.now)) }
+{
+    let old = multiple(alloc, &net.arcs, 1)?;
+    Ok(are_lengths(net, &old) && admissible(net, &old) && are_few(&net.arcs))
+}
+
+/// Whether the old lengths have a small sum.
+fn are_few(arcs: &[Arc]) -> bool {
+    let mut all = 0u64;
+    for arc in arcs {
+        all = all.saturating_add(u64::from(arc.old));
+    }
+    all <= 8_388_608
+}
+
+/// The next number, below a bound.
+fn draw(chance: &mut u64, bound: u64) -> u64
+    requires { 1 ≤ bound }
+{
+    *chance = chance
+        .wrapping_mul(6_364_136_223_846_793_005)
+        .wrapping_add(1_442_695_040_888_963_407);
+    (*chance >> 33) % bound
+}
+
+/// Four arcs between two nodes, and at each node one with one end for what is missing there.
+fn net_by_chance(alloc: Global, chance: &mut u64) -> Result<Net, Memory> {
+    let mut arcs = Vec::new(alloc);
+    let mut sums = [0i64; 2];
+    for _ in 0..4 {
+        let old = 1 + draw(chance, 3) as u32;
+        let left = end_by_chance(chance, &mut sums, old);
+        let right = Some(end_by_chance(chance, &mut sums, old));
+        let weight = 1 + draw(chance, 3) as u32;
+        arcs.push(Arc {
+            left,
+            right,
+            old,
+            weight,
+        })?;
+    }
+    for (node, sum) in sums.iter().enumerate() {
+        if *sum != 0 {
+            arcs.push(Arc {
+                left: End {
+                    node: node as u32,
+                    plus: *sum < 0,
+                },
+                right: None,
+                old: sum.unsigned_abs() as u32,
+                weight: 1,
+            })?;
+        }
+    }
+    Ok(Net {
+        nodes: 2,
+        arcs,
+        floor: 1,
+        p: 1 + draw(chance, 3) as u32,
+        q: 2 + draw(chance, 3) as u32,
+    })
+}
+
+/// An end, whose length is added at its node.
+fn end_by_chance(chance: &mut u64, sums: &mut [i64; 2], old: u32) -> End {
+    let node = draw(chance, 2) as u32;
+    let plus = draw(chance, 2) == 1;
+    if let Some(sum) = sums.get_mut(node as usize) {
+        *sum = sum.saturating_add(if plus {
+            i64::from(old)
+        } else {
+            -i64::from(old)
+        });
+    }
+    End { node, plus }
+}
+
+/// The least deviation of the balanced lists with lengths from 1 to 5.
+fn least_in_box(alloc: Global, net: &Net) -> Result<Option<i128>, Memory> {
+    let mut x = vec![in alloc; 1u64; net.arcs.len()]?;
+    let mut least = None;
+    for _ in 0..20_000 {
+        if is_within_bounds(net) && are_lengths(net, &x) && are_balanced(net, &x) {
+            let far = deviation(net, &x);
+            least = Some(least.map_or(far, |least: i128| least.min(far)));
+        }
+        if !advance(&mut x) {
+            return Ok(least);
+        }
+    }
+    Ok(None)
+}
+
+/// The next list of lengths from 1 to 5, if there is one.
+fn advance(x: &mut [u64]) -> bool {
+    for length in x {
+        if *length < 5 {
+            *length += 1;
+            return true;
+        }
+        *length = 1;
+    }
+    false
+}
+
+/// Whether both nodes are balanced.
+fn are_balanced(net: &Net, x: &[u64]) -> bool {
+    let mut sums = [0i64; 2];
+    for (arc, length) in net.arcs.iter().zip(x) {
+        let mut ends = [Some(arc.left), arc.right];
+        for end in ends.iter().flatten() {
+            if let Some(sum) = sums.get_mut(end.node as usize) {
+                *sum = sum.saturating_add(if end.plus {
+                    *length as i64
+                } else {
+                    0i64.saturating_sub(*length as i64)
+                });
+            }
+        }
+    }
+    sums == [0, 0]
 }

@@ -1,0 +1,63 @@
+//! What the first dual of a round leaves to be searched.
+
+ghost use Rattle.std.specs.Prelude.{◌≡◌, ◌≤◌, ◌<◌, ℕ, length, slice_index};
+ghost use Rattle.def_matching.specs.Matching.{graph, IsGraph};
+ghost use Rattle.def_flow.specs.Network.{network, tangle_number, IsWithinBounds};
+ghost use Rattle.def_flow.specs.Descent.{IsStartOf};
+
+use def_flow::{MAX_STEP, MAX_TANGLE, Net};
+use def_matching::WGraph;
+use qm_gadget::{graph_of, matching_of};
+use qm_initial::initial_dual;
+use qm_net::deviation;
+use qm_solve::{Descent, first_wishes};
+use std::alloc::{AllocError, Global};
+
+/// How many searches the matching of the next round needs: each matches two vertices that no tight edge matched.
+pub(crate) fn searches_left(alloc: Global, net: &Net, descent: &Descent) -> Result<u64, AllocError>
+    requires bounds { IsWithinBounds (network net.now) }
+    requires tangle { tangle_number (network net.now) ≤ MAX_TANGLE }
+    requires start { IsStartOf (network net.now) descent.now.x.items }
+    requires step { (1 ≤ descent.now.step) × (descent.now.step ≤ MAX_STEP) }
+{
+    let gadget = graph_of(alloc, net, &descent.x, descent.step)?;
+    let known = matching_of(alloc, net, &gadget, &descent.x)?;
+    let wish = first_wishes(alloc, net, &gadget, &descent.prices)?;
+    let y = initial_dual(alloc, &gadget.graph, &wish)?;
+    let mut matched = vec![in alloc; false; y.len()]?;
+    for e in &known {
+        match_tight(&gadget.graph, &y, &mut matched, *e);
+    }
+    for e in 0..gadget.graph.edges.len() as u32 {
+        match_tight(&gadget.graph, &y, &mut matched, e);
+    }
+    let left = matched.iter().filter(|matched| !**matched).count();
+    Ok(left as u64 / 2)
+}
+
+/// How far a list that a descent may start from is from what is wanted.
+pub(crate) fn deviation_of(net: &Net, x: &[u64]) -> i128
+    requires bounds { IsWithinBounds (network net.now) }
+    requires start { IsStartOf (network net.now) x.now }
+{
+    deviation(net, x)
+}
+
+/// Matches an edge that is tight and whose ends are not matched.
+fn match_tight(g: &WGraph, y: &[i64], matched: &mut [bool], e: u32)
+    ensures { length matched.new ≡ length matched.old }
+{
+    let Some(edge) = g.edges.get(e as usize) else {
+        return;
+    };
+    let (u, v) = (edge.u as usize, edge.v as usize);
+    let (Some(at_u), Some(at_v)) = (y.get(u), y.get(v)) else {
+        return;
+    };
+    let is_free = matched.get(u) == Some(&false) && matched.get(v) == Some(&false);
+    let is_tight = i128::from(*at_u) + i128::from(*at_v) == 2 * i128::from(edge.cost);
+    if is_free && is_tight && u < matched.len() && v < matched.len() {
+        matched[u] = true;
+        matched[v] = true;
+    }
+}
