@@ -4,5 +4,5 @@ mod Holding
 mod Letters
 mod Marks
 mod Telling
-mod Texts
+pub mod Texts
 pub mod Unique

@@ -148,7 +148,7 @@ marked_are soup said =
     ∙ ap₂ ◌++◌ (filter_append is_marked (map position_line soup.pos) (map face_line soup.faces) ∙ ap₂ ◌++◌ (no_marks_in soup.pos) (no_marks_at soup.faces)) (all_marked said)
 
 -- One head line is of one settings.
-same_head : (line : Word) (s t : Settings) (a b : Bool) → IsHead line s a → IsHead line t b → (s ≡ t) × (a ≡ b)
+pub same_head : (line : Word) (s t : Settings) (a b : Bool) → IsHead line s a → IsHead line t b → (s ≡ t) × (a ≡ b)
 same_head line s t a b one two =
     let cut = head_cut line s a one in
     same_settings _ _ _ s t a b (head_words line _ _ _ s a cut one) (head_words line _ _ _ t b cut two)

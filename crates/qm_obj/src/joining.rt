@@ -19,7 +19,7 @@ ghost use Rattle.def_io.specs.Lines.{lines_of};
 
 use crate::Memory;
 use crate::piece::Logical;
-use def_text::{BACKSLASH, HASH, ObjFail, SPACE};
+use def_text::{BACKSLASH, HASH, MAX_LINE, ObjFail, SPACE};
 use qm_io::Lines;
 use qm_scan::find_byte;
 use std::alloc::Global;
@@ -97,11 +97,23 @@ fn push_spaced(bytes: &mut Vec<u8>, line: &[u8]) -> Result<(), Memory>
     Ok(())
 }
 
+/// Takes the room of the longest line at once for bytes that are kept of a line.
+fn make_room(bytes: &mut Vec<u8>) -> Result<(), ObjFail>
+    ensures same { bytes.new.items ≡ bytes.old.items }
+    ensures memory { IfErr result (λ fail. fail ≡ ObjFail.Memory) }
+{
+    if bytes.capacity() > 0 {
+        return Ok(());
+    }
+    bytes.reserve(MAX_LINE + 1).map_err(|_| ObjFail::Memory)
+}
+
 /// Puts bytes behind others.
 pub(crate) fn append(bytes: &mut Vec<u8>, more: &[u8]) -> Result<(), ObjFail>
     ensures grown { OnOk result (bytes.new.items ≡ bytes.old.items ++ more.now) }
     ensures memory { IfErr result (λ fail. fail ≡ ObjFail.Memory) }
 {
+    make_room(bytes)?;
     bytes.extend_from_slice(more).map_err(|_| ObjFail::Memory)
 }
 
@@ -110,5 +122,6 @@ pub(crate) fn append_spaced(bytes: &mut Vec<u8>, line: &[u8]) -> Result<(), ObjF
     ensures grown { OnOk result (bytes.new.items ≡ bytes.old.items ++ with_space line.now) }
     ensures memory { IfErr result (λ fail. fail ≡ ObjFail.Memory) }
 {
+    make_room(bytes)?;
     push_spaced(bytes, line).map_err(|_| ObjFail::Memory)
 }

@@ -12,6 +12,7 @@ mod position;
 mod progress;
 mod read;
 mod reader;
+mod row;
 mod soup;
 #[cfg(test)]
 mod tests;
@@ -27,7 +28,7 @@ pub use law::reads_back;
 pub use piece::Logical;
 pub use read::read_obj;
 pub use soup::read_soup;
-pub use text::obj_text;
+pub use text::{obj_text, put_face, put_position, put_soup};
 pub use used::soup_of;
 
 /// Want of memory.

@@ -55,13 +55,20 @@ impl Reader {
             text,
         ) {
             Reading::Passed => Ok(()),
-            Reading::Position(position) => self
-                .positions
-                .push(position)
-                .map_err(|_| ObjFail::Memory),
+            Reading::Position(position) => self.keep_position(position),
             Reading::Face { line, corners } => self.keep_face(line, corners),
             Reading::Refused(fail) => Err(fail),
         }
+    }
+
+    fn keep_position(&mut self, position: [Micro; 3]) -> Result<(), ObjFail>
+        ensures positions { OnOk result (self.new.positions.items ≡ self.old.positions.items ++ position ∷ []) }
+        ensures faces { self.new.faces ≡ self.old.faces }
+        ensures lines { self.new.lines ≡ self.old.lines }
+        ensures memory { IfErr result (λ fail. fail ≡ ObjFail.Memory) }
+    {
+        make_room(&mut self.positions, MAX_VERTICES as usize)?;
+        self.positions.push(position).map_err(|_| ObjFail::Memory)
     }
 
     fn keep_face(&mut self, line: u32, corners: [u32; 4]) -> Result<(), ObjFail>
@@ -70,6 +77,8 @@ impl Reader {
         ensures lines { OnOk result (self.new.lines.items ≡ self.old.lines.items ++ line ∷ []) }
         ensures memory { IfErr result (λ fail. fail ≡ ObjFail.Memory) }
     {
+        make_room(&mut self.faces, MAX_FACES as usize)?;
+        make_room(&mut self.lines, MAX_FACES as usize)?;
         self.faces.push(corners).map_err(|_| ObjFail::Memory)?;
         self.lines.push(line).map_err(|_| ObjFail::Memory)
     }
@@ -98,4 +107,22 @@ impl Reader {
             Err(_) => Err(ObjFail::Memory),
         }
     }
+}
+
+/// The entries of a table that is no longer small.
+const MANY: usize = 65_536;
+
+/// Where a table that is no longer small is full, takes all the room that it may need. A page of memory counts once it
+/// is written, and the entries are copied no more.
+fn make_room<T>(table: &mut Vec<T>, most: usize) -> Result<(), ObjFail>
+    ensures same { table.new.items ≡ table.old.items }
+    ensures memory { IfErr result (λ fail. fail ≡ ObjFail.Memory) }
+{
+    let len = table.len();
+    if len < MANY || len < table.capacity() {
+        return Ok(());
+    }
+    table
+        .reserve(most.saturating_sub(len))
+        .map_err(|_| ObjFail::Memory)
 }

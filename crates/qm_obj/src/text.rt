@@ -1,71 +1,68 @@
-//! The canonical text of a soup.
+//! The canonical text of a soup, line by line.
 
-ghost use Rattle.std.specs.Prelude.{◌≡◌, ◌++◌, OnOk, IfOk};
+ghost use Rattle.std.specs.Prelude.{◌≡◌, OnOk, OnErr, IfOk};
 ghost use Rattle.std.specs.List.{flat_map};
-ghost use Rattle.def_text.specs.Canonical.{canonical_text, face_text, micro_text, position_text};
+ghost use Rattle.def_text.specs.Canonical.{canonical_text, face_text, position_text};
 
 use crate::Memory;
-use def_io::LINE_FEED;
-use def_text::{FACE, Micro, SPACE, Soup, VERTEX};
-use qm_dec::write_micro;
-use qm_print::push_spaced;
-use std::alloc::Global;
+use crate::row::{face_row, position_row};
+use def_output::Stopped;
+use def_text::{Micro, Soup};
+use qm_output::{MemText, Output};
+use std::alloc::{AllocError, Global};
 
 /// The canonical text: a line `v x y z` for each vertex, then a line `f a b c d` for each face.
 pub fn obj_text(alloc: Global, soup: &Soup) -> Result<Vec<u8>, Memory>
     ensures { IfOk result (λ text. text.items ≡ canonical_text soup.now) }
 {
-    let mut text = Vec::new(alloc);
-    push_positions(&mut text, &soup.pos)?;
-    push_faces(&mut text, &soup.faces)?;
-    Ok(text)
+    let mut text = MemText::new(alloc);
+    match put_soup(&mut text, soup) {
+        Ok(()) => Ok(text.into_bytes()),
+        Err(_) => Err(AllocError),
+    }
 }
 
-fn push_positions(text: &mut Vec<u8>, positions: &[[Micro; 3]]) -> Result<(), Memory>
-    ensures { OnOk result (text.new.items ≡ text.old.items ++ flat_map position_text positions.now) }
+/// Puts the canonical text of a soup. Linear, without memory.
+pub fn put_soup<T: Output>(out: &mut T, soup: &Soup) -> Result<(), Stopped>
+    ensures whole { OnOk result (T.takes out.old out.new (canonical_text soup.now)) }
+    ensures part { OnErr result (T.stops out.old out.new (canonical_text soup.now)) }
+{
+    put_positions(out, &soup.pos)?;
+    put_faces(out, &soup.faces)
+}
+
+fn put_positions<T: Output>(out: &mut T, positions: &[[Micro; 3]]) -> Result<(), Stopped>
+    ensures whole { OnOk result (T.takes out.old out.new (flat_map position_text positions.now)) }
+    ensures part { OnErr result (T.stops out.old out.new (flat_map position_text positions.now)) }
 {
     for position in positions {
-        push_position(text, position)?;
+        put_position(out, position)?;
     }
     Ok(())
 }
 
-fn push_faces(text: &mut Vec<u8>, faces: &[[u32; 4]]) -> Result<(), Memory>
-    ensures { OnOk result (text.new.items ≡ text.old.items ++ flat_map face_text faces.now) }
+fn put_faces<T: Output>(out: &mut T, faces: &[[u32; 4]]) -> Result<(), Stopped>
+    ensures whole { OnOk result (T.takes out.old out.new (flat_map face_text faces.now)) }
+    ensures part { OnErr result (T.stops out.old out.new (flat_map face_text faces.now)) }
 {
     for face in faces {
-        push_face(text, face)?;
+        put_face(out, face)?;
     }
     Ok(())
 }
 
-fn push_position(text: &mut Vec<u8>, position: &[Micro; 3]) -> Result<(), Memory>
-    ensures { OnOk result (text.new.items ≡ text.old.items ++ position_text position.now) }
+/// Puts the line of a vertex.
+pub fn put_position<T: Output>(out: &mut T, position: &[Micro; 3]) -> Result<(), Stopped>
+    ensures whole { OnOk result (T.takes out.old out.new (position_text position.now)) }
+    ensures part { OnErr result (T.stops out.old out.new (position_text position.now)) }
 {
-    text.push(VERTEX)?;
-    for number in position {
-        text.push(SPACE)?;
-        push_micro(text, *number)?;
-    }
-    text.push(LINE_FEED)?;
-    Ok(())
+    out.put(position_row(position).as_slice())
 }
 
-fn push_micro(text: &mut Vec<u8>, number: Micro) -> Result<(), Memory>
-    ensures { OnOk result (text.new.items ≡ text.old.items ++ micro_text number) }
+/// Puts the line of a face.
+pub fn put_face<T: Output>(out: &mut T, face: &[u32; 4]) -> Result<(), Stopped>
+    ensures whole { OnOk result (T.takes out.old out.new (face_text face.now)) }
+    ensures part { OnErr result (T.stops out.old out.new (face_text face.now)) }
 {
-    let mut digits = [0; 24];
-    let end = write_micro(&mut digits, number);
-    text.extend_from_slice(&digits[..end])
-}
-
-fn push_face(text: &mut Vec<u8>, face: &[u32; 4]) -> Result<(), Memory>
-    ensures { OnOk result (text.new.items ≡ text.old.items ++ face_text face.now) }
-{
-    text.push(FACE)?;
-    for vertex in face {
-        push_spaced(text, u64::from(*vertex) + 1)?;
-    }
-    text.push(LINE_FEED)?;
-    Ok(())
+    out.put(face_row(face).as_slice())
 }

@@ -4,7 +4,7 @@
 mod line;
 mod text;
 
-pub use line::{Line, line_of, numbered_line, push_numbered};
+pub use line::{Line, line_of, numbered_line, push_integer, push_numbered};
 pub use text::{push_number, push_spaced};
 
 /// Want of memory.

@@ -4,7 +4,7 @@ ghost use Rattle.std.specs.Prelude.{◌≡◌, ◌≤◌, ◌+◌, ◌++◌, len
 ghost use Rattle.arrayvec.specs.ArrayString.{array_string_len};
 
 use arrayvec::ArrayString;
-use itoa::Buffer;
+use itoa::{Buffer, Integer};
 
 /// A line in the making.
 pub type Line = ArrayString<256>;
@@ -41,4 +41,15 @@ pub fn push_numbered(line: &mut Line, number: u64, after: &str)
     let mut buffer = Buffer::new();
     line.push_str(buffer.format(number));
     line.push_str(after);
+}
+
+/// Puts a whole number of any width, which may be below 0, and a text behind it at the end of a line.
+pub fn push_integer<I: Integer>(line: &mut Line, number: I, behind: &str)
+    requires { array_string_len line.old + length behind.now ≤ 200 }
+    ensures text { line.new.bytes ≡ line.old.bytes ++ I.text number ++ behind.now }
+    ensures short { array_string_len line.new ≤ array_string_len line.old + length behind.now + 40 }
+{
+    let mut buffer = Buffer::new();
+    line.push_str(buffer.format(number));
+    line.push_str(behind);
 }

@@ -12,6 +12,10 @@ fn numbers_stand_in_their_texts(rt: HostRuntime) -> Result<(), Fail> {
     let mut line = numbered_line("face ", 7, ": vertex ");
     push_numbered(&mut line, 1, " repeated");
     assert_eq!(rt; line.as_str(), "face 7: vertex 1 repeated");
+    let mut sums = line_of("sums ");
+    push_integer(&mut sums, -1i128, " ");
+    push_integer(&mut sums, 7u128, "");
+    assert_eq!(rt; sums.as_str(), "sums -1 7");
     assert_eq!(rt; line_of("read fault").as_str(), "read fault");
     Ok(())
 }

@@ -1,7 +1,0 @@
-use Rattle.std.proofs.Common.{◌≡◌, ◌++◌, take}
-use Rattle.std.specs.List.{flat_map}
-use Rattle.def_text.specs.Canonical.{face_text}
-use Rattle.qm_obj.proofs.text.push_faces.Given as goal
-
-abbrev pub invariant-loop-face : goal.invariant-loop-face
-invariant-loop-face l = l.text.items ≡ l.fn.text.items ++ flat_map face_text (take l.face-index l.faces)

@@ -1,7 +1,0 @@
-use Rattle.std.proofs.Common.{◌≡◌, ◌++◌, take}
-use Rattle.std.specs.List.{flat_map}
-use Rattle.def_text.specs.Canonical.{position_text}
-use Rattle.qm_obj.proofs.text.push_positions.Given as goal
-
-abbrev pub invariant-loop-position : goal.invariant-loop-position
-invariant-loop-position l = l.text.items ≡ l.fn.text.items ++ flat_map position_text (take l.position-index l.positions)

@@ -1,0 +1,11 @@
+use Rattle.def_text.specs.Canonical.{face_text}
+use Rattle.qm_output.proofs.Fronts.{of_error}
+use Rattle.qm_output.proofs.Lists.{stops_at_item}
+use Rattle.qm_obj.proofs.text.put_faces.Goals as goal
+
+pub returns-in_err-put_face-clause-part : goal.returns-in_err-put_face-clause-part
+returns-in_err-put_face-clause-part g c =
+    let laws = g.met.T.Output in
+    of_error c.from_residual.result
+    (stops_at_item g.T.Output.takes g.T.Output.stops laws.stops_later laws.stops_before face_text c.args.faces.now c.loop-face.face-index _ _ _ _
+    c.loop-face-test.true c.loop-face.invariant c.in_err-put_face.ensures.part)

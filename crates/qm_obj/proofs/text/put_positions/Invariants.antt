@@ -1,0 +1,8 @@
+use Rattle.std.proofs.Common.{take}
+use Rattle.std.specs.List.{flat_map}
+use Rattle.def_text.specs.Canonical.{position_text}
+use Rattle.qm_obj.proofs.text.put_positions.Given as goal
+
+abbrev pub invariant-loop-position : goal.invariant-loop-position
+invariant-loop-position g l =
+    g.T.Output.takes l.initial.out l.out (flat_map position_text (take l.position-index l.positions))
