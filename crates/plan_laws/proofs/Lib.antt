@@ -4,3 +4,4 @@ mod Spins
 pub mod Lies
 pub mod PlanLies
 pub mod OnePlan
+pub mod MeshLayouts

@@ -9,6 +9,7 @@ use Rattle.def_cut.specs.Cuts.{IsCut}
 use Rattle.def_cut.specs.FullCut.{IsFullCut, is_on}
 use Rattle.def_cut.specs.Steps.{face_of}
 use Rattle.def_layout.specs.Arcs.{dart_at, long_at}
+use Rattle.def_layout.specs.Sided.{IsSided}
 use Rattle.def_layout.specs.Nodes.{is_node, AreNodes}
 use Rattle.def_layout.specs.Plans.{Plan, IsLayout, layout_of, vertex_at}
 use Rattle.def_written.specs.Laws.{AreQuads, LiesIn}
@@ -44,6 +45,10 @@ module _ (faces : Faces) (marks : List Bool) (plan : Plan) (mesh : IsMesh faces)
           let below : vertex_at plan n < vertex_count faces = omega (arith, kept.high) in
           by_dart kept.passes (used_dart faces (vertex_at plan n) quads (mesh.used (vertex_at plan n) below))
 
+  -- Cells are the darts of the patches' lists, and the darts of arcs are those of their lists.
+  pub in_mesh : IsSided (half_edges faces) (layout_of plan) (long_at plan.arcs) (cell_dart (half_edges faces) plan) (vertex_at plan) (dart_at plan.arcs)
+  in_mesh = sided (half_edges faces) laws (is_on marks) cut (is_node faces marks) nodes face_of (vertex_count faces) plan lay met
+
   lies : LiesIn faces (layout_of plan) (long_at plan.arcs) (vertex_at plan)
   lies = record {
     manifold = mesh.manifold;
@@ -53,7 +58,7 @@ module _ (faces : Faces) (marks : List Bool) (plan : Plan) (mesh : IsMesh faces)
     lengths = lengths (half_edges faces) laws (is_on marks) cut (is_node faces marks) nodes face_of (vertex_count faces) plan lay;
     cell = cell_dart (half_edges faces) plan;
     arc_dart = dart_at plan.arcs;
-    sided = sided (half_edges faces) laws (is_on marks) cut (is_node faces marks) nodes face_of (vertex_count faces) plan lay met;
+    sided = in_mesh;
   }
 
 pub plan_law : PlanLaw

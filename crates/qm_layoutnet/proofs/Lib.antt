@@ -4,4 +4,4 @@ mod EndTables
 mod Whole
 mod Tangles
 mod Built
-mod OneNet
+pub mod OneNet

@@ -11,11 +11,8 @@ use Rattle.std.specs.List.{All}
 use Rattle.def_layout.specs.Arcs.{dart_at, long_at, path, Path}
 use Rattle.def_layout.specs.declared.tmesh.TArc.{TArc}
 use Rattle.def_layout.specs.declared.tmesh.TMesh.{TMesh}
-use Rattle.def_layout.specs.Laid.{IsLaid}
-use Rattle.def_layout.specs.Lengths.{AreLengths}
 use Rattle.def_layout.specs.Nodes.{is_node, AreNodes}
 use Rattle.def_layout.specs.Plans.{Plan, layout_of, plan, vertex_at}
-use Rattle.def_written.specs.Laws.{LiesIn}
 use Rattle.def_layoutnet.specs.MeshLayouts.{IsMeshLayout}
 use Rattle.qm_layoutnet.proofs.Tangles.{term_low}
 use Rattle.qm_laws.proofs.Runs.{run_here, IsInRun}
@@ -25,19 +22,8 @@ use Rattle.mesh_laws.proofs.HalfEdges.{manifold_law}
 use Rattle.face_laws.proofs.FullCuts.{full_cut_law}
 use Rattle.layout_laws.proofs.FaceNodes.{are_nodes}
 use Rattle.plan_laws.proofs.ArcUses.{dart_low, same_dart}
-use Rattle.plan_laws.proofs.PlanLies.{plan_law}
-use Rattle.written_laws.proofs.Shape.{laid_law}
 
 module _ (plan : Plan) (is : IsMeshLayout plan) where
-  lies : LiesIn is.faces (layout_of plan) (long_at plan.arcs) (vertex_at plan)
-  lies = plan_law is.faces is.marks plan is.mesh is.quads is.cut is.laid
-
-  pub laid_of : IsLaid (layout_of plan)
-  laid_of = (laid_law is.faces (layout_of plan) (long_at plan.arcs) (vertex_at plan) lies).0
-
-  pub lengths_of : AreLengths (layout_of plan) (long_at plan.arcs)
-  lengths_of = lies.lengths
-
   laws : IsQuadManifold (half_edges is.faces)
   laws = manifold_law is.faces is.mesh.manifold
 

@@ -12,7 +12,8 @@ use Rattle.def_layout.specs.declared.tmesh.TArc.{TArc}
 use Rattle.def_layoutnet.specs.LayoutNet.{IsNetOf}
 use Rattle.qm_layoutnet.specs.Ends.{open_arc, AreEnds, PatchesBelow}
 use Rattle.qm_layoutnet.proofs.Built.{ends_begin, even, net_is, small, within}
-use Rattle.qm_layoutnet.proofs.Whole.{laid_of, lengths_of, few_patches, lengths_few, runs_short}
+use Rattle.plan_laws.proofs.MeshLayouts.{laid_of, lengths_of}
+use Rattle.qm_layoutnet.proofs.Whole.{few_patches, lengths_few, runs_short}
 use Rattle.qm_layoutnet.proofs.build.any_net_of.Goals as goal
 
 pub open_arcs-requires : goal.open_arcs-requires

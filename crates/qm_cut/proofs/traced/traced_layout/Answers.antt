@@ -1,0 +1,25 @@
+use Rattle.std.proofs.Common.{◌≡◌, Bool, List, refl, subst}
+use Rattle.std.proofs.lemmas.Result.{IfOk-weaker}
+use Rattle.def_layout.specs.FaceLayouts.{IsLayoutOf}
+use Rattle.def_layout.specs.Plans.{plan}
+use Rattle.def_written.specs.Laws.{AreQuads}
+use Rattle.def_layoutnet.specs.MeshLayouts.{IsMeshLayout}
+use Rattle.qm_cut.proofs.traced.traced_layout.Goals as goal
+
+pub returns-clause-mesh : goal.returns-clause-mesh
+returns-clause-mesh c =
+    let faces = c.args.mesh.now in
+    let marks = c.in_ok-graph.graph.covered.items in
+    IfOk-weaker c.layout.result (λ t. IsLayoutOf faces marks (plan t)) (λ t. (is : IsMeshLayout (plan t)) × (is.faces ≡ faces))
+    (λ t laid. (
+      record {
+        faces = faces;
+        mesh = c.faces.ensures.mesh;
+        quads = subst AreQuads c.faces.ensures.value c.are_quads.ensures;
+        marks = marks;
+        cut = c.in_ok-graph.ensures.cut;
+        laid = laid;
+      },
+      refl,
+    ))
+    c.layout.ensures

@@ -1,0 +1,6 @@
+//! From a mesh to the layout that its motorcycle graph cuts.
+#![tactic(auto)]
+
+mod traced;
+
+pub use traced::traced_layout;

@@ -1,0 +1,33 @@
+//! The layout that the motorcycle graph of a mesh cuts.
+
+ghost use Rattle.std.specs.Prelude.{◌≡◌, IfOk};
+ghost use Rattle.def_cut.specs.Traced.{traced_marks};
+ghost use Rattle.def_layout.specs.FaceLayouts.{IsLayoutOf};
+ghost use Rattle.def_layout.specs.Plans.{plan};
+ghost use Rattle.def_layoutnet.specs.MeshLayouts.{IsMeshLayout};
+ghost use Rattle.def_written.specs.Laws.{AreQuads};
+
+use def_layout::TMesh;
+use qm_grid::patches;
+use qm_mesh::Mesh;
+use qm_sing::sources;
+use qm_tmesh::layout;
+use qm_trace::trace;
+use std::alloc::{AllocError, Global};
+
+/// The layout that the motorcycle graph of a mesh cuts. Linear in the faces.
+pub fn traced_layout(alloc: Global, mesh: &Mesh) -> Result<TMesh, AllocError>
+    ensures traced { IfOk result (λ t. IsLayoutOf mesh.now (traced_marks mesh.now) (plan t)) }
+    ensures mesh { IfOk result (λ t. (is : IsMeshLayout (plan t)) × (is.faces ≡ mesh.now)) }
+{
+    are_quads(mesh.faces());
+    let sources = sources(alloc, mesh)?;
+    let graph = trace(alloc, mesh, &sources)?;
+    let patches = patches(alloc, mesh, &graph)?;
+    layout(alloc, mesh, &graph, patches)
+}
+
+/// Faces of four corners are quads.
+fn are_quads(faces: &[[u32; 4]])
+    ensures { AreQuads faces.now }
+{}
