@@ -1,6 +1,11 @@
 pub mod Checked
+pub mod Keeping
 pub mod NewPoints
 pub mod NewSoup
-pub mod Refined
-pub mod Remeshed
 pub mod Numberings
+pub mod Placings
+pub mod Refined
+pub mod Refusals
+pub mod Remeshed
+pub mod Stitched
+pub mod TextLaws

@@ -1,5 +1,5 @@
 -- The soup of the new mesh: the places of its points and its faces.
-use Rattle.std.specs.Prelude.{ℕ, map, slice_index_or, List, [], ◌∷◌, ℤ, pos}
+use Rattle.std.specs.Prelude.{ℕ, map, slice_index_or, [], ◌∷◌, ℤ, pos}
 use Rattle.std.specs.List.{range_with_len}
 use Rattle.def_mesh.specs.Faces.{Faces}
 use Rattle.def_layout.specs.Arcs.{long_at}

@@ -1,5 +1,5 @@
 -- When tables number the points and the faces of a layout with lengths.
-use Rattle.std.specs.Prelude.{◌≡◌, ℕ, ◌+◌, ◌-◌, ◌*◌, ◌<◌, ◌≤◌, true, List, [], length, map, ⊤}
+use Rattle.std.specs.Prelude.{◌≡◌, ℕ, ◌+◌, ◌-◌, ◌*◌, ◌<◌, ◌≤◌, true, List, [], length, map}
 use Rattle.std.specs.Prelude.{slice_index, slice_index_or}
 use Rattle.def_math.specs.Counts.{count_below}
 use Rattle.def_layout.specs.declared.tmesh.SideArc.{SideArc}
@@ -9,8 +9,6 @@ use Rattle.def_layout.specs.Plans.{Plan, layout_of, number, side_at}
 use Rattle.def_layoutnet.specs.MeshLayouts.{IsMeshLayout}
 use Rattle.def_written.specs.NewFaces.{face_count}
 use Rattle.def_remesh.specs.NewPoints.{lengths_in}
-use Rattle.def_remesh.specs.declared.fail.StitchFail.{StitchFail}
-use Rattle.def_remesh.specs.declared.fail.StitchFail.TheVariants.{TooFine, Doubled, Memory}
 use Rattle.def_remesh.specs.declared.limits.TheConstants.{MAX_NEW_FACES}
 use Rattle.def_remesh.specs.declared.tables.Starts.{Starts}
 use Rattle.def_remesh.specs.declared.tables.Tables.{Tables}
@@ -61,13 +59,6 @@ pub record IsNumbering (plan : Plan) (tables : Tables) : Type 0 where
       * high (layout_of plan) (lengths_in tables.lengths.items) p)
       (length plan.patches) tables.cells.begin.items
   pub sides : AreSideStarts plan (lengths_in tables.lengths.items) (tables_of tables.sides.items)
-
--- The layout with these lengths has so many faces, more than a new mesh may have.
-abbrev pub IsTooFine : (layout : Layout) (lengths : Lengths) (fail : StitchFail) → Type 0
-IsTooFine layout lengths (TooFine faces) =
-    (faces ≡ face_count layout lengths) × (MAX_NEW_FACES < face_count layout lengths)
-IsTooFine layout lengths (Doubled u v) = ⊥
-IsTooFine layout lengths Memory = ⊤
 
 -- The tables number the layout of some mesh.
 pub record HoldsFor (tables : Tables) : Type 0 where

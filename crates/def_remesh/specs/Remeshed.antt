@@ -1,5 +1,5 @@
 -- What `remesh` makes of a mesh: the cut, the lengths, the text and the shape.
-use Rattle.std.specs.Prelude.{◌≡◌, ◌≤◌, ℕ, Bool, true, false, Option, Some, None, List, ⊤}
+use Rattle.std.specs.Prelude.{◌≡◌, ◌≤◌, ℕ, Bool, true, false, Option, Some, None, List}
 use Rattle.def_cut.specs.Traced.{traced_marks}
 use Rattle.def_flow.specs.Accepted.{Certificate, IsAccepted}
 use Rattle.def_flow.specs.Admissible.{entries, IsLeast}

@@ -2,6 +2,3 @@
 
 /// The faces of a new mesh.
 pub const MAX_NEW_FACES: u32 = 2_097_152;
-
-/// The length of an arc.
-pub const MAX_LENGTH: u64 = 1_000_000_000_000;

@@ -5,6 +5,7 @@ use Rattle.std.proofs.lemmas.Bool.{cases_eq, cases_lt, cond-true, cond-false, lt
 use Rattle.def_math.specs.Counts.{count_below}
 use Rattle.def_math.specs.Runs.{run_at}
 use Rattle.def_remesh.specs.Numberings.{AreStarts}
+use Rattle.qm_laws.proofs.Counts.{count_below_same}
 use Rattle.qm_laws.proofs.Runs.{count_rises, run_low, run_from, run_to, run_last}
 
 -- The run that begins at or before a place, and ends behind it, holds it.
@@ -68,3 +69,10 @@ last_is f n starts are =
 pub next_room : (f : ℕ → ℕ) (n k : ℕ) (starts : List ℕ) → k < n → AreStarts f k starts
     → slice_index starts (length starts - 1) + f k ≤ count_below f n
 next_room f n k starts low are = omega (arith, last_is f k starts are, term_room f n k low)
+
+-- Starts of other sizes that are the same.
+pub starts_same : (f g : ℕ → ℕ) (n : ℕ) (starts : List ℕ) → ((k : ℕ) → k < n → f k ≡ g k) → AreStarts f n starts → AreStarts g n starts
+starts_same f g n starts same are = record {
+  count = are.count;
+  each = λ k low. are.each k low ∙ count_below_same f g k (λ j less. same j (omega arith));
+}

@@ -3,34 +3,21 @@ use Rattle.std.proofs.Common.{◌≡◌, ℕ, zero, suc, ◌<◌, true, false, L
 use Rattle.std.specs.List.{All}
 use Rattle.std.proofs.lemmas.List.{get_or_default}
 use Rattle.def_math.specs.Counts.{count_below}
-use Rattle.def_layout.specs.Arcs.{long_at}
-use Rattle.def_layout.specs.Laid.{IsLaid}
 use Rattle.def_layout.specs.Layouts.{Way, south, east, north, west}
-use Rattle.def_layout.specs.Lengths.{Lengths, size, AreLengths}
-use Rattle.def_layout.specs.Plans.{Plan, layout_of, number, side_at, vertex_at}
+use Rattle.def_layout.specs.Lengths.{Lengths, size}
+use Rattle.def_layout.specs.Plans.{Plan, layout_of, number, side_at}
 use Rattle.def_layout.specs.declared.tmesh.SideArc.{SideArc}
 use Rattle.def_remesh.specs.Numberings.{sizes_on, used_at}
-use Rattle.def_written.specs.Laws.{LiesIn}
 use Rattle.def_layoutnet.specs.MeshLayouts.{IsMeshLayout}
-use Rattle.plan_laws.proofs.PlanLies.{plan_law}
-use Rattle.written_laws.proofs.Shape.{laid_law}
+pub use Rattle.plan_laws.proofs.MeshLayouts.{laid_of, lengths_of, lies}
 
 module _ (plan : Plan) (is : IsMeshLayout plan) where
-  pub lies : LiesIn is.faces (layout_of plan) (long_at plan.arcs) (vertex_at plan)
-  lies = plan_law is.faces is.marks plan is.mesh is.quads is.cut is.laid
-
-  pub laid_of : IsLaid (layout_of plan)
-  laid_of = (laid_law is.faces (layout_of plan) (long_at plan.arcs) (vertex_at plan) lies).0
-
-  pub lengths_of : AreLengths (layout_of plan) (long_at plan.arcs)
-  lengths_of = lies.lengths
-
   -- The arcs that sides use.
   pub uses_low : (patch : ℕ) (side : Way) (n : ℕ) (list : List SideArc) → patch < length plan.patches → n ≡ length plan.arcs
       → list ≡ side_at plan patch side → All (λ (used : SideArc). used.arc < n) list
   uses_low patch side n list low long same =
       subst (λ (us : List SideArc). All (λ (used : SideArc). used.arc < n) us) (sym same)
-      (λ k d less. let arc = laid_of.paved.arc_low (record { patch = patch; side = side; at = k }) (record { patch_low = low; low = less }) in
+      (λ k d less. let arc = (laid_of plan is).paved.arc_low (record { patch = patch; side = side; at = k }) (record { patch_low = low; low = less }) in
       let read = get_or_default (side_at plan patch side) k d (record { arc = 0; forward = true }) less in
       omega (arith, arc, ap (λ (u : SideArc). u.arc) read, long))
 

@@ -10,7 +10,7 @@ ghost use Rattle.def_layout.specs.declared.tmesh.SideArc.{SideArc as Used};
 ghost use Rattle.def_layoutnet.specs.MeshLayouts.{IsMeshLayout};
 ghost use Rattle.def_remesh.specs.NewPoints.{lengths_in};
 ghost use Rattle.def_remesh.specs.Numberings.{sizes_on, tables_of, AreSideStarts, AreStarts};
-ghost use Rattle.qm_reach.specs.Fours.{begins_of, AreFourStarts};
+ghost use Rattle.qm_reach.specs.Fours.{begins_of, AreFourStarts, IsTableOf};
 
 use crate::starts::{no_starts, push_start};
 use def_layout::{SideArc, TMesh};
@@ -53,6 +53,25 @@ fn side_starts(alloc: Global, side: &[SideArc], lengths: &[u32]) -> Result<Start
     Ok(starts)
 }
 
+/// The table of a side of a patch.
+fn starts_of(
+    alloc: Global,
+    t: &TMesh,
+    patch: usize,
+    side: usize,
+    lengths: &[u32],
+) -> Result<Starts, AllocError>
+    requires layout { IsMeshLayout (plan t.now) }
+    requires low { patch < length t.now.patches.items }
+    requires side { side < 4 }
+    requires long { length lengths.now ≡ length t.now.arcs.items }
+    requires small { (way : Way) → size (layout_of (plan t.now)) (lengths_in lengths.now) patch way < 2 ^ 32 }
+    ensures { IfOk result (λ starts.
+        IsTableOf (plan t.now) (lengths_in lengths.now) patch side starts.begin.items) }
+{
+    side_starts(alloc, side_of(t, patch, side), lengths)
+}
+
 /// The tables of the four sides of a patch.
 fn four_starts(
     alloc: Global,
@@ -67,10 +86,10 @@ fn four_starts(
     ensures { IfOk result (λ four.
         AreFourStarts (plan t.now) (lengths_in lengths.now) patch (begins_of four)) }
 {
-    let south = side_starts(alloc, side_of(t, patch, 0), lengths)?;
-    let east = side_starts(alloc, side_of(t, patch, 1), lengths)?;
-    let north = side_starts(alloc, side_of(t, patch, 2), lengths)?;
-    let west = side_starts(alloc, side_of(t, patch, 3), lengths)?;
+    let south = starts_of(alloc, t, patch, 0, lengths)?;
+    let east = starts_of(alloc, t, patch, 1, lengths)?;
+    let north = starts_of(alloc, t, patch, 2, lengths)?;
+    let west = starts_of(alloc, t, patch, 3, lengths)?;
     Ok([south, east, north, west])
 }
 

@@ -1,6 +1,6 @@
 //! Searches in tables of starts.
 
-ghost use Rattle.std.specs.Prelude.{◌≡◌, ◌<◌, ◌+◌, ℕ, length};
+ghost use Rattle.std.specs.Prelude.{◌≡◌, ◌≤◌, ◌<◌, ◌+◌, ℕ, length, slice_index, true};
 ghost use Rattle.def_math.specs.Counts.{count_below};
 ghost use Rattle.def_math.specs.Runs.{run_at};
 ghost use Rattle.def_remesh.specs.Numberings.{AreStarts};
@@ -23,4 +23,35 @@ pub fn spot_in(starts: &[u32], place: u32) -> usize
         }
     }
     low
+}
+
+/// The same, found at once where the run that is near, or the next one, holds the place. Else logarithmic.
+pub fn spot_near(starts: &[u32], place: u32, near: usize) -> usize
+    requires { 1 < length starts.now }
+    ensures low { result + 1 < length starts.now }
+    ensures run { (sizes : ℕ → ℕ) (runs : ℕ) → AreStarts sizes runs starts.now
+        → result ≡ run_at (count_below sizes) runs place }
+{
+    if holds(starts, place, near) {
+        return near;
+    }
+    let next = near.saturating_add(1);
+    if holds(starts, place, next) {
+        return next;
+    }
+    spot_in(starts, place)
+}
+
+/// Whether a run holds a place.
+fn holds(starts: &[u32], place: u32, run: usize) -> bool
+    ensures { result ≡ true → (run + 1 < length starts.now) × (slice_index starts.now run ≤ place)
+        × (place < slice_index starts.now (run + 1)) }
+{
+    match starts.get(run) {
+        Some(begin) if *begin <= place => match starts.get(run.saturating_add(1)) {
+            Some(end) => place < *end,
+            None => false,
+        },
+        _ => false,
+    }
 }

@@ -8,8 +8,8 @@ use Rattle.def_math.specs.Counts.{count_below}
 use Rattle.def_math.specs.Runs.{run_at}
 use Rattle.def_layout.specs.declared.tmesh.SideArc.{SideArc}
 use Rattle.def_layout.specs.Laid.{IsLaid}
-use Rattle.def_layout.specs.Layouts.{Way, south, east, north, west, Layout}
-use Rattle.def_layout.specs.Lengths.{Lengths, size, wide, high, AreLengths}
+use Rattle.def_layout.specs.Layouts.{Way, east, north, west, Layout}
+use Rattle.def_layout.specs.Lengths.{Lengths, size, wide, high}
 use Rattle.def_layout.specs.Plans.{Plan, layout_of, number, side_at}
 use Rattle.def_written.specs.Numbers.{vertices, before_arc, before_patch, number as point_name}
 use Rattle.def_written.specs.NewFaces.{cells_before, face_count, patch_of, cell_in}
@@ -20,9 +20,10 @@ use Rattle.def_remesh.specs.declared.tables.Starts.{Starts}
 use Rattle.def_remesh.specs.declared.tables.Tables.{Tables}
 use Rattle.qm_laws.proofs.Runs.{run_here, run_low, IsInRun}
 use Rattle.qm_reach.proofs.Spots.{last_is, within_run}
-use Rattle.qm_reach.proofs.Whole.{laid_of, read_size, read_used, uses_low, way_for}
+use Rattle.plan_laws.proofs.MeshLayouts.{laid_of}
+use Rattle.qm_reach.proofs.Whole.{read_size, read_used, uses_low, way_for}
 use Rattle.qm_stitch.specs.Sizes.{long_by, table_in, point_on}
-use Rattle.qm_stitch.proofs.Bounds.{vertices_few}
+use Rattle.qm_reach.proofs.Bounds.{side_few, vertices_few}
 use Rattle.written_laws.proofs.EdgeNumbers.{in_rows}
 use Rattle.written_laws.proofs.Numbers.{number_low}
 use Rattle.written_laws.proofs.Sides.{arc_inner}
@@ -61,6 +62,10 @@ module _ (plan : Plan) (t : Tables) (is : IsNumbering plan t) where
   -- All numbers are small.
   pub all_few : vertices (layout_of plan) (lengths_in t.lengths.items) ≤ 2 ^ 23
   all_few = omega (arith, vertices_few l x laid is.lengths, is.few)
+
+  -- Sides are short.
+  pub size_short : (p : ℕ) (s : Way) → p < length plan.patches → size (layout_of plan) (lengths_in t.lengths.items) p s ≤ 2 ^ 21
+  size_short p s low = omega (arith, side_few l x laid is.lengths p s low, is.few)
 
   -- The tables of a side.
   pub long_is : (p : ℕ) (s : Way) → p < length plan.patches

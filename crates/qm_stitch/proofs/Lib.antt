@@ -1,3 +1,7 @@
-mod Bounds
 mod Built
+mod DoubledPairs
 mod Grids
+mod Repeats
+mod RimEdges
+mod RimLists
+mod SafeLengths

@@ -1,5 +1,5 @@
 -- Sizes of sides and patches, as they are read from tables.
-use Rattle.std.specs.Prelude.{◌≡◌, ℕ, ◌+◌, ◌-◌, ◌*◌, ◌<◌, ◌≤◌, List, [], length, slice_index, slice_index_or}
+use Rattle.std.specs.Prelude.{◌≡◌, ℕ, ◌-◌, ◌*◌, ◌<◌, ◌≤◌, List, [], length, slice_index, slice_index_or, ⊤}
 use Rattle.def_math.specs.Counts.{count_below}
 use Rattle.def_math.specs.Runs.{run_at}
 use Rattle.def_layout.specs.declared.tmesh.SideArc.{SideArc}
@@ -11,6 +11,8 @@ use Rattle.def_written.specs.Points.{Point, use_point}
 use Rattle.def_layout.specs.Layouts.{Layout}
 use Rattle.def_remesh.specs.NewPoints.{lengths_in}
 use Rattle.def_remesh.specs.Numberings.{sizes_on, used_at}
+use Rattle.def_remesh.specs.declared.fail.StitchFail.{StitchFail}
+use Rattle.def_remesh.specs.declared.fail.StitchFail.TheVariants.{TooFine, Doubled, Memory}
 use Rattle.def_remesh.specs.declared.limits.TheConstants.{MAX_NEW_FACES}
 
 -- Lengths that give no more faces than a new mesh may have.
@@ -19,6 +21,13 @@ pub record IsFine (plan : Plan) (list : List ℕ) : Type 0 where
   pub long : length list ≡ length plan.arcs
   pub lengths : AreLengths (layout_of plan) (lengths_in list)
   pub few : face_count (layout_of plan) (lengths_in list) ≤ MAX_NEW_FACES
+
+-- The layout with these lengths has so many faces, more than a new mesh may have.
+abbrev pub IsTooFine : (layout : Layout) (lengths : Lengths) (fail : StitchFail) → Type 0
+IsTooFine layout lengths (TooFine faces) =
+    (faces ≡ face_count layout lengths) × (MAX_NEW_FACES < face_count layout lengths)
+IsTooFine layout lengths (Doubled u v) = ⊥
+IsTooFine layout lengths Memory = ⊤
 
 -- The table of a side.
 abbrev pub table_in : (tables : List (List (List ℕ))) (patch side : ℕ) → List ℕ

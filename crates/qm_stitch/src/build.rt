@@ -1,25 +1,26 @@
 //! The numbering of a layout with lengths, whether or not an edge is doubled.
 
 ghost use Rattle.std.specs.Prelude.{◌≡◌, ◌<◌, ◌≤◌, ◌-◌, ◌^◌, ℕ, length, slice_index, IfOk, IfErr};
+ghost use Rattle.def_flow.specs.declared.limits.TheConstants.{MAX_LENGTH};
 ghost use Rattle.def_math.specs.Counts.{count_below};
 ghost use Rattle.def_layout.specs.Lengths.{AreLengths};
 ghost use Rattle.def_layout.specs.Plans.{layout_of, plan};
 ghost use Rattle.def_layoutnet.specs.MeshLayouts.{IsMeshLayout};
 ghost use Rattle.def_remesh.specs.NewPoints.{lengths_in};
-ghost use Rattle.def_remesh.specs.Numberings.{tables_of, AreStarts, IsNumbering, IsTooFine};
-ghost use Rattle.def_remesh.specs.declared.limits.TheConstants.{MAX_LENGTH};
-ghost use Rattle.qm_stitch.specs.Sizes.{product_by, AreRows, IsFine};
+ghost use Rattle.def_remesh.specs.Numberings.{tables_of, AreStarts, IsNumbering};
+ghost use Rattle.qm_stitch.specs.Sizes.{product_by, AreRows, IsFine, IsTooFine};
 
 use crate::count::count_faces;
 use crate::numbering::Numbering;
+use crate::size::last_of;
 use def_layout::TMesh;
 use def_remesh::{MAX_NEW_FACES, Starts, StitchFail, Tables};
-use qm_reach::{no_starts, push_start, side_tables, starts_on};
+use qm_reach::{inner_points, no_starts, push_start, short_lengths, side_tables, starts_on};
 use std::alloc::{AllocError, Global};
 
 /// The numbering of the points and faces of a layout with these lengths, also where an edge is doubled. It is refused
 /// as `TooFine` exactly where there are more faces than the limit.
-pub fn number(alloc: Global, t: &TMesh, lengths: &[u64]) -> Result<Numbering, StitchFail>
+pub(crate) fn number(alloc: Global, t: &TMesh, lengths: &[u64]) -> Result<Numbering, StitchFail>
     requires layout { IsMeshLayout (plan t.now) }
     requires long { length lengths.now ≡ length t.now.arcs.items }
     requires lengths { AreLengths (layout_of (plan t.now)) (lengths_in lengths.now) }
@@ -44,7 +45,7 @@ fn tables(alloc: Global, t: &TMesh, lengths: &[u64]) -> Result<Tables, AllocErro
     ensures numbering { IfOk result (λ tables. IsNumbering (plan t.now) tables) }
     ensures lengths { IfOk result (λ tables. tables.lengths.items ≡ lengths.now) }
 {
-    let lengths = short(alloc, lengths)?;
+    let lengths = short_lengths(alloc, lengths)?;
     let sides = side_tables(alloc, t, &lengths)?;
     let along = inner_points(alloc, &lengths)?;
     let inside = patch_starts(alloc, &sides, 1)?;
@@ -57,32 +58,6 @@ fn tables(alloc: Global, t: &TMesh, lengths: &[u64]) -> Result<Tables, AllocErro
         cells,
         sides,
     })
-}
-
-/// The same lengths, in half the room.
-fn short(alloc: Global, lengths: &[u64]) -> Result<Vec<u32>, AllocError>
-    requires { (arc : ℕ) → arc < length lengths.now → slice_index lengths.now arc < 2 ^ 32 }
-    ensures { IfOk result (λ short. short.items ≡ lengths.now) }
-{
-    let mut short = Vec::with_capacity(alloc, lengths.len())?;
-    for length in lengths {
-        short.push(*length as u32)?;
-    }
-    Ok(short)
-}
-
-/// Where the inner points of arcs begin.
-fn inner_points(alloc: Global, lengths: &[u32]) -> Result<Starts, AllocError>
-    requires some { (arc : ℕ) → arc < length lengths.now → 0 < slice_index lengths.now arc }
-    requires small { count_below (λ arc. lengths_in lengths.now arc - 1) (length lengths.now) < 2 ^ 32 }
-    ensures { IfOk result (λ starts.
-        AreStarts (λ arc. lengths_in lengths.now arc - 1) (length lengths.now) starts.begin.items) }
-{
-    let mut starts = no_starts(alloc, lengths.len())?;
-    for length in lengths {
-        push_start(&mut starts, *length - 1)?;
-    }
-    Ok(starts)
 }
 
 /// Where the cells of patches begin, or, with `less` 1, their inner points.
@@ -98,12 +73,4 @@ fn patch_starts(alloc: Global, sides: &[[Starts; 4]], less: u32) -> Result<Start
         push_start(&mut starts, wide * high)?;
     }
     Ok(starts)
-}
-
-/// The end of the last run.
-pub(crate) fn last_of(starts: &[u32]) -> u32
-    requires { 0 < length starts.now }
-    ensures { result ≡ slice_index starts.now (length starts.now - 1) }
-{
-    starts[starts.len() - 1]
 }

@@ -1,31 +1,14 @@
 //! How many faces a layout with lengths gives.
 
-ghost use Rattle.std.specs.Prelude.{◌≡◌, ◌<◌, ◌≤◌, ◌^◌, ℕ, length};
-ghost use Rattle.std.specs.List.{All};
-ghost use Rattle.def_math.specs.Counts.{count_below};
+ghost use Rattle.std.specs.Prelude.{◌≡◌, ◌≤◌, ℕ, length};
+ghost use Rattle.def_flow.specs.declared.limits.TheConstants.{MAX_LENGTH};
 ghost use Rattle.def_layout.specs.Plans.{layout_of, plan};
-ghost use Rattle.def_layout.specs.declared.tmesh.SideArc.{SideArc as Used};
 ghost use Rattle.def_layoutnet.specs.MeshLayouts.{IsMeshLayout};
 ghost use Rattle.def_written.specs.NewFaces.{face_count};
 ghost use Rattle.def_remesh.specs.NewPoints.{lengths_in};
-ghost use Rattle.def_remesh.specs.Numberings.{sizes_on};
-ghost use Rattle.def_remesh.specs.declared.limits.TheConstants.{MAX_LENGTH};
 
-use def_layout::{SideArc, TMesh};
-use qm_reach::side_of;
-
-/// The length of a side.
-fn size_of(side: &[SideArc], lengths: &[u64]) -> u64
-    requires low { All (λ (used : Used). used.arc < length lengths.now) side.now }
-    requires small { count_below (sizes_on side.now (lengths_in lengths.now)) (length side.now) < 2 ^ 64 }
-    ensures { result ≡ count_below (sizes_on side.now (lengths_in lengths.now)) (length side.now) }
-{
-    let mut size = 0;
-    for used in side {
-        size += lengths[used.arc as usize];
-    }
-    size
-}
+use def_layout::TMesh;
+use qm_reach::size_on;
 
 /// How many faces there are. Linear in the arcs on the sides of patches.
 pub(crate) fn count_faces(t: &TMesh, lengths: &[u64]) -> u128
@@ -36,8 +19,8 @@ pub(crate) fn count_faces(t: &TMesh, lengths: &[u64]) -> u128
 {
     let mut faces = 0u128;
     for patch in 0..t.patches.len() {
-        let wide = size_of(side_of(t, patch, 0), lengths);
-        let high = size_of(side_of(t, patch, 3), lengths);
+        let wide = size_on(t, patch, 0, lengths);
+        let high = size_on(t, patch, 3, lengths);
         faces += u128::from(wide) * u128::from(high);
     }
     faces

@@ -1,12 +1,21 @@
-//! The faces of the new mesh: a numbering of its points, and each face by its number.
+//! The mesh that a layout gives at new lengths: a numbering of its points, each face by its number, and where an edge
+//! is doubled, so that there is none.
 #![tactic(auto)]
 
 mod build;
 mod count;
+mod doubled;
 mod face;
 mod numbering;
+mod planning;
 mod point;
+mod repeat;
+mod rim;
+mod safe;
+mod size;
+mod stitching;
 
-pub use build::number;
-pub use def_remesh::StitchFail;
+pub use def_remesh::{NewMesh, StitchFail};
 pub use numbering::Numbering;
+pub use planning::plan;
+pub use stitching::stitch;

@@ -7,8 +7,8 @@ ghost use Rattle.def_written.specs.Numbers.{vertices};
 ghost use Rattle.def_remesh.specs.NewPoints.{lengths_in};
 ghost use Rattle.def_remesh.specs.Numberings.{HoldsFor, IsNumbering};
 
-use crate::build::last_of;
 use crate::face::face_of;
+use crate::size::last_of;
 use def_layout::TMesh;
 use def_remesh::Tables;
 use std::marker::Model;

@@ -12,13 +12,13 @@ ghost use Rattle.def_remesh.specs.NewPoints.{lengths_in};
 ghost use Rattle.def_remesh.specs.Numberings.{sizes_on, tables_of, AreStarts, IsNumbering};
 ghost use Rattle.qm_stitch.specs.Sizes.{long_by, point_on};
 
-use crate::build::last_of;
+use crate::size::{last_of, size_at};
 use def_layout::{SideArc, TMesh};
 use def_remesh::Tables;
 use qm_reach::{side_of, spot_in, starts_on};
 
 /// The number of the point at place k of an arc.
-fn arc_number(tables: &Tables, t: &TMesh, arc: u32, k: u32) -> u32
+pub(crate) fn arc_number(tables: &Tables, t: &TMesh, arc: usize, k: u32) -> u32
     requires numbering { IsNumbering (plan t.now) tables.now }
     requires arc { arc < length t.now.arcs.items }
     requires upto { k ≤ lengths_in tables.now.lengths.items arc }
@@ -26,12 +26,12 @@ fn arc_number(tables: &Tables, t: &TMesh, arc: u32, k: u32) -> u32
         (arc_point (layout_of (plan t.now)) (lengths_in tables.now.lengths.items) arc k) }
 {
     if k == 0 {
-        return t.arcs[arc as usize].first;
+        return t.arcs[arc].first;
     }
-    if k == tables.lengths[arc as usize] {
-        return t.arcs[arc as usize].last;
+    if k == tables.lengths[arc] {
+        return t.arcs[arc].last;
     }
-    tables.nodes + tables.along.begin[arc as usize] + (k - 1)
+    tables.nodes + tables.along.begin[arc] + (k - 1)
 }
 
 /// The number of the point that lies so far after the beginning of an arc in use.
@@ -42,15 +42,11 @@ fn use_number(tables: &Tables, t: &TMesh, used: SideArc, offset: u32) -> u32
     ensures { result ≡ number (layout_of (plan t.now)) (lengths_in tables.now.lengths.items)
         (use_point (layout_of (plan t.now)) (lengths_in tables.now.lengths.items) used offset) }
 {
+    let arc = used.arc as usize;
     if used.forward {
-        arc_number(tables, t, used.arc, offset)
+        arc_number(tables, t, arc, offset)
     } else {
-        arc_number(
-            tables,
-            t,
-            used.arc,
-            tables.lengths[used.arc as usize] - offset,
-        )
+        arc_number(tables, t, arc, tables.lengths[arc] - offset)
     }
 }
 
@@ -91,8 +87,8 @@ pub(crate) fn point_number(tables: &Tables, t: &TMesh, patch: usize, i: u32, j: 
     ensures { result ≡ number (layout_of (plan t.now)) (lengths_in tables.now.lengths.items)
         (point (layout_of (plan t.now)) (lengths_in tables.now.lengths.items) patch i j) }
 {
-    let wide = last_of(starts_on(&tables.sides, patch, 0));
-    let high = last_of(starts_on(&tables.sides, patch, 3));
+    let wide = size_at(tables, patch, 0);
+    let high = size_at(tables, patch, 3);
     if j == 0 {
         return border_number(tables, t, patch, 0, i);
     }

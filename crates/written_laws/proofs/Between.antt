@@ -60,7 +60,7 @@ quotient_within a lo hi b some above below = by_rest (int_div_euclid a (pos b)) 
     )
 
 -- A part of the way lies between its ends.
-way_within : (p q least greatest : ℤ) (r x : ℕ) → r ≤ x → 0 < x → least ≤ℤ p → p ≤ℤ greatest → least ≤ℤ q → q ≤ℤ greatest
+pub way_within : (p q least greatest : ℤ) (r x : ℕ) → r ≤ x → 0 < x → least ≤ℤ p → p ≤ℤ greatest → least ≤ℤ q → q ≤ℤ greatest
     → (least ≤ℤ on_the_way p q r x) × (on_the_way p q r x ≤ℤ greatest)
 way_within p q least greatest r x le some p_low p_high q_low q_high = by_bounds bounds
   where
@@ -94,7 +94,7 @@ way_within p q least greatest r x le some p_low p_high q_low q_high = by_bounds 
     by_bounds b = (omega (arith, ints, b.0), omega (arith, ints, b.1))
 
 -- A mean lies between the corners.
-blend_within : (s t : ℕ) (a b c d least greatest : ℤ) → s ≤ ONE → t ≤ ONE
+pub blend_within : (s t : ℕ) (a b c d least greatest : ℤ) → s ≤ ONE → t ≤ ONE
     → least ≤ℤ a → least ≤ℤ b → least ≤ℤ c → least ≤ℤ d → a ≤ℤ greatest → b ≤ℤ greatest → c ≤ℤ greatest → d ≤ℤ greatest
     → (least ≤ℤ blend s t a b c d) × (blend s t a b c d ≤ℤ greatest)
 blend_within s t a b c d least greatest s_le t_le a_low b_low c_low d_low a_high b_high c_high d_high =
@@ -120,13 +120,13 @@ blend_within s t a b c d least greatest s_le t_le a_low b_low c_low d_low a_high
         ∙ ap (λ n. pos n *ℤ z) weights
 
 -- A quotient of naturals is at most a number whose product is not less.
-div_most : (n k d : ℕ) → 0 < d → n ≤ k * d → n / d ≤ k
+pub div_most : (n k d : ℕ) → 0 < d → n ≤ k * d → n / d ≤ k
 div_most n k d some le =
     let less : n < (k + 1) * d = omega (arith, le) in
     let below : n / d < k + 1 = (div-lt_iff_lt-mul {k = d} {x = n} {y = k + 1} some).1 less in omega (arith, below)
 
 -- An old column or row, and what is left of a parameter in it.
-rest_most : (n u : ℕ) → 0 < n → u ≤ ONE * n → rest_at n u ≤ ONE
+pub rest_most : (n u : ℕ) → 0 < n → u ≤ ONE * n → rest_at n u ≤ ONE
 rest_most n u some le = omega (arith, le)
 
 module _ (l : Layout) (old new : Lengths) (laid : IsLaid l) (o_len : AreLengths l old) (n_len : AreLengths l new) where
@@ -173,6 +173,19 @@ module _ (l : Layout) (old new : Lengths) (laid : IsLaid l) (o_len : AreLengths 
       by_parts : (c d k : ℕ) → c ≤ m * k → d ≤ m * j → m * (k + j) ≡ m * h → c + d ≤ m * h
       by_parts c d k c_le d_le same = omega (arith, c_le, d_le, same)
 
+  -- The parameters of grid points inside a patch are at most the old sizes.
+  pub u_most : (p i j : ℕ) → IsPoint l new (inside p i j) → parameter_u l old new p i j ≤ ONE * wide l old p
+  u_most p i j is =
+      mean_most (parameter l old new p south i) (parameter_back l old new p north (wide l new p - i)) (ONE * wide l old p) (high l new p) j
+      (omega (arith, is.3, is.4)) (omega (arith, is.4)) (ahead_most p south i is.0 is.2)
+      (omega (arith, o_len.across p is.0, back_most p north (wide l new p - i) is.0 (omega (arith, is.1, is.2, n_len.across p is.0))))
+
+  pub v_most : (p i j : ℕ) → IsPoint l new (inside p i j) → parameter_v l old new p i j ≤ ONE * high l old p
+  v_most p i j is =
+      mean_most (parameter_back l old new p west (high l new p - j)) (parameter l old new p east j) (ONE * high l old p) (wide l new p) i
+      (omega (arith, is.1, is.2)) (omega (arith, is.2)) (back_most p west (high l new p - j) is.0 (omega (arith, is.3, is.4)))
+      (omega (arith, o_len.upright p is.0, ahead_most p east j is.0 (omega (arith, is.4, n_len.upright p is.0))))
+
   module _ (at : Coordinate) (least greatest : ℤ) (bound : (a : Point) → IsPoint l old a → (least ≤ℤ at a) × (at a ≤ℤ greatest)) where
     arc_within : (a k : ℕ) → IsPoint l new (along a k) → (least ≤ℤ arc_place l old new at a k) × (arc_place l old new at a k ≤ℤ greatest)
     arc_within a k is =
@@ -217,26 +230,11 @@ module _ (l : Layout) (old new : Lengths) (laid : IsLaid l) (o_len : AreLengths 
 
     inside_within : (p i j : ℕ) → IsPoint l new (inside p i j) → (least ≤ℤ inside_place l old new at p i j) × (inside_place l old new at p i j ≤ℤ greatest)
     inside_within p i j is =
-        grid_within p (cell_at (wide l old p) u) (cell_at (high l old p) v) (rest_at (wide l old p) u) (rest_at (high l old p) v) is.0
+        grid_within p (cell_at (wide l old p) (parameter_u l old new p i j)) (cell_at (high l old p) (parameter_v l old new p i j))
+        (rest_at (wide l old p) (parameter_u l old new p i j)) (rest_at (high l old p) (parameter_v l old new p i j)) is.0
         (omega (arith, wide_some l old laid.paved o_len p is.0)) (omega (arith, high_some l old laid.paved o_len p is.0))
-        (rest_most (wide l old p) u (wide_some l old laid.paved o_len p is.0) u_most)
-        (rest_most (high l old p) v (high_some l old laid.paved o_len p is.0) v_most)
-      where
-        u : ℕ
-        u = parameter_u l old new p i j
-
-        v : ℕ
-        v = parameter_v l old new p i j
-
-        u_most : u ≤ ONE * wide l old p
-        u_most = mean_most (parameter l old new p south i) (parameter_back l old new p north (wide l new p - i)) (ONE * wide l old p) (high l new p) j
-            (omega (arith, is.3, is.4)) (omega (arith, is.4)) (ahead_most p south i is.0 is.2)
-            (omega (arith, o_len.across p is.0, back_most p north (wide l new p - i) is.0 (omega (arith, is.1, is.2, n_len.across p is.0))))
-
-        v_most : v ≤ ONE * high l old p
-        v_most = mean_most (parameter_back l old new p west (high l new p - j)) (parameter l old new p east j) (ONE * high l old p) (wide l new p) i
-            (omega (arith, is.1, is.2)) (omega (arith, is.2)) (back_most p west (high l new p - j) is.0 (omega (arith, is.3, is.4)))
-            (omega (arith, o_len.upright p is.0, ahead_most p east j is.0 (omega (arith, is.4, n_len.upright p is.0))))
+        (rest_most (wide l old p) (parameter_u l old new p i j) (wide_some l old laid.paved o_len p is.0) (u_most p i j is))
+        (rest_most (high l old p) (parameter_v l old new p i j) (high_some l old laid.paved o_len p is.0) (v_most p i j is))
 
     place_within : (a : Point) → IsPoint l new a → (least ≤ℤ place_of l old new at a) × (place_of l old new at a ≤ℤ greatest)
     place_within (node n) is = bound (node n) is

@@ -1,7 +1,5 @@
-use Rattle.std.proofs.Common.{◌≡◌, ◌⊎◌, ℕ, ◌+◌, ◌<◌, ◌≤◌, length, get_or, ap, sym, inl, inr, arith}
+use Rattle.std.proofs.Common.{◌≡◌, ◌⊎◌, ◌+◌, ◌<◌, ◌≤◌, length, get_or, ap, sym, inl, inr, arith}
 use Rattle.def_math.specs.Counts.{count_below}
-use Rattle.def_math.specs.Runs.{run_at}
-use Rattle.def_remesh.specs.Numberings.{AreStarts}
 use Rattle.qm_reach.proofs.Spots.{spot_between}
 use Rattle.qm_reach.proofs.spot.spot_in.Goals as goal
 

@@ -1,19 +1,16 @@
-use Rattle.std.proofs.Common.{◌≡◌, ℕ, ◌-◌, List, length, sym, ◌∙◌, ap, subst, arith}
+use Rattle.std.proofs.Common.{ℕ, ◌-◌, List, length, sym, ◌∙◌, subst, arith}
 use Rattle.std.proofs.lemmas.List.{length-map}
-use Rattle.def_math.specs.Counts.{count_below}
 use Rattle.def_cut.specs.Grids.{rectangle}
-use Rattle.def_layout.specs.Layouts.{Way}
-use Rattle.def_layout.specs.Lengths.{size}
-use Rattle.def_layout.specs.Plans.{layout_of, plan}
+use Rattle.def_layout.specs.Plans.{plan}
 use Rattle.def_remesh.specs.NewPoints.{lengths_in}
 use Rattle.def_remesh.specs.Numberings.{tables_of, AreStarts, AreSideStarts}
 use Rattle.def_remesh.specs.declared.tables.Starts.{Starts}
-use Rattle.qm_stitch.specs.Sizes.{product_by, AreRows, IsFine}
+use Rattle.qm_stitch.specs.Sizes.{product_by, IsFine}
 use Rattle.qm_stitch.proofs.Built.{built, few_points, lengths_short, points_short, rows, sides_short}
 use Rattle.qm_stitch.proofs.build.tables.Goals as goal
 
-pub short-requires : goal.short-requires
-short-requires c = lengths_short (plan c.args.t.now) c.args.lengths.now c.requires.fine
+pub short_lengths-requires : goal.short_lengths-requires
+short_lengths-requires c = lengths_short (plan c.args.t.now) c.args.lengths.now c.requires.fine
 
 pub side_tables-requires-clause-small : goal.side_tables-requires-clause-small
 side_tables-requires-clause-small c p s low =

@@ -1,4 +1,4 @@
-use Rattle.std.proofs.Common.{◌≡◌, ℕ, ◌+◌, ◌-◌, ◌*◌, ◌^◌, ◌<◌, length, arith}
+use Rattle.std.proofs.Common.{◌≡◌, ◌+◌, ◌-◌, ◌^◌, ◌<◌, arith}
 use Rattle.std.proofs.lemmas.List.{length-map}
 use Rattle.def_layout.specs.Arcs.{path}
 use Rattle.def_layout.specs.Plans.{layout_of, plan}

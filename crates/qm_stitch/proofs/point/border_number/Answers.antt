@@ -1,4 +1,4 @@
-use Rattle.std.proofs.Common.{◌≡◌, ◌<◌, ℕ, List, length, ◌∙◌, ap, subst, arith}
+use Rattle.std.proofs.Common.{◌<◌, ℕ, List, ◌∙◌, ap, subst, arith}
 use Rattle.std.specs.List.{All}
 use Rattle.std.proofs.lemmas.List.{length-map}
 use Rattle.def_cut.specs.Grids.{rectangle}

@@ -1,9 +1,9 @@
-use Rattle.std.proofs.Common.{◌≡◌, ℕ, length, ◌∙◌, ap, arith}
+use Rattle.std.proofs.Common.{length, ◌∙◌, ap}
 use Rattle.def_layout.specs.Plans.{layout_of, plan}
 use Rattle.def_written.specs.Numbers.{number}
 use Rattle.def_remesh.specs.NewPoints.{lengths_in}
 use Rattle.def_remesh.specs.Numberings.{sizes_on}
-use Rattle.qm_stitch.proofs.Grids.{there, IsThere}
+use Rattle.qm_stitch.proofs.Grids.{there}
 use Rattle.qm_stitch.proofs.point.side_number.Goals as goal
 
 pub overflow_sub-place : goal.overflow_sub-place

@@ -1,8 +1,5 @@
-use Rattle.std.proofs.Common.{◌≡◌, ◌+◌, ◌-◌, ◌^◌, ◌<◌, List, length, ◌∙◌, ap, subst, sym, arith}
-use Rattle.std.specs.Prelude.{slice_index}
-use Rattle.def_layout.specs.Plans.{Plan}
-use Rattle.def_remesh.specs.Numberings.{IsNumbering, HoldsFor}
-use Rattle.def_remesh.specs.declared.tables.Tables.{Tables}
+use Rattle.std.proofs.Common.{subst, sym, arith}
+use Rattle.def_remesh.specs.Numberings.{HoldsFor}
 use Rattle.qm_stitch.proofs.Grids.{all_few, along_end, inside_end}
 use Rattle.qm_stitch.proofs.numbering.Numbering.vertices.Goals as goal
 

@@ -1,0 +1,23 @@
+-- What is kept of a layout that is remeshed.
+use Rattle.std.specs.Prelude.{◌≡◌, Bool, Option}
+use Rattle.def_certtext.specs.CertLines.{Lists}
+use Rattle.def_flow.specs.declared.net.Settings.{Settings}
+use Rattle.def_layout.specs.Plans.{Plan, layout_of}
+use Rattle.def_written.specs.Edges.{IsUndoubled}
+use Rattle.def_remesh.specs.NewPoints.{lengths_in}
+use Rattle.def_remesh.specs.Numberings.{IsNumbering}
+use Rattle.def_remesh.specs.Remeshed.{AreCoarse, AreKept, used}
+use Rattle.def_remesh.specs.Stitched.{KeepsShapes}
+use Rattle.def_remesh.specs.declared.tables.Tables.{Tables}
+
+-- The certificates of a remesh, and the numbers of the new mesh at the lengths that are used. It has no more faces than
+-- a new mesh may have, no edge of it is doubled, and it keeps the shape of the old one.
+pub record IsKept
+    (plan : Plan) (settings : Settings) (auto : Bool) (first : Lists) (third : Option Lists) (tables : Tables)
+    : Type 0 where
+  pub kept : AreKept plan settings auto first third
+  pub coarse : AreCoarse plan (used first third).x
+  pub undoubled : IsUndoubled (layout_of plan) (lengths_in (used first third).x)
+  pub shape : KeepsShapes plan (lengths_in (used first third).x)
+  pub numbering : IsNumbering plan tables
+  pub lengths : tables.lengths.items ≡ (used first third).x

@@ -1,0 +1,78 @@
+-- When tables tell the places of the points of a layout with lengths.
+use Rattle.std.specs.Prelude.{◌≡◌, ℕ, ◌+◌, ◌-◌, ◌*◌, ◌<◌, ◌≤◌, List, [], length, slice_index, slice_index_or}
+use Rattle.std.specs.Prelude.{ℤ, pos, ◌≤ℤ◌}
+use Rattle.def_mesh.specs.Faces.{Faces}
+use Rattle.def_layout.specs.Arcs.{long_at}
+use Rattle.def_layout.specs.Layouts.{Way, south, east, north, west, Layout}
+use Rattle.def_layout.specs.Lengths.{Lengths, size, wide, high, AreLengths}
+use Rattle.def_layout.specs.Plans.{Plan, layout_of}
+use Rattle.def_layoutnet.specs.MeshLayouts.{IsMeshLayout}
+use Rattle.def_text.specs.Types.{Position, Positions}
+use Rattle.def_written.specs.NewFaces.{face_count}
+use Rattle.def_written.specs.Places.{parameter, parameter_back}
+use Rattle.def_remesh.specs.NewPoints.{lengths_in}
+use Rattle.def_remesh.specs.Numberings.{AreStarts}
+use Rattle.def_remesh.specs.declared.limits.TheConstants.{MAX_NEW_FACES}
+use Rattle.def_remesh.specs.declared.places.Rim.{Rim}
+use Rattle.def_remesh.specs.declared.places.PlaceTables.{PlaceTables}
+
+-- The layout of this mesh and some full cut of it.
+abbrev pub IsLayoutIn : (faces : Faces) (plan : Plan) → Type 0
+IsLayoutIn faces plan = (is : IsMeshLayout plan) × (is.faces ≡ faces)
+
+-- The parameter of a place of a side, from west to east or from south to north.
+abbrev pub side_parameter : (layout : Layout) (old new : Lengths) (patch : ℕ) (side : Way) (place : ℕ) → ℕ
+side_parameter layout old new patch south place = parameter layout old new patch south place
+side_parameter layout old new patch east place = parameter layout old new patch east place
+side_parameter layout old new patch north place = parameter_back layout old new patch north place
+side_parameter layout old new patch west place = parameter_back layout old new patch west place
+
+-- Where the parameters of a side begin: those of the four sides stand one after the other.
+abbrev pub parameters_from : (rim : Rim) (side : Way) → ℕ
+parameters_from rim south = rim.begin
+parameters_from rim east = rim.begin + rim.wide
+parameters_from rim north = rim.begin + rim.wide + rim.high
+parameters_from rim west = rim.begin + rim.wide + rim.high + rim.wide
+
+-- The parameters of the places of a side stand in the list, from here on.
+pub record AreParameters
+    (plan : Plan) (new : Lengths) (patch : ℕ) (side : Way) (begin : ℕ) (parameters : List ℕ) : Type 0 where
+  pub room : begin + size (layout_of plan) new patch side ≤ length parameters
+  pub each : (place : ℕ) → place < size (layout_of plan) new patch side
+      → slice_index parameters (begin + place)
+      ≡ side_parameter (layout_of plan) (long_at plan.arcs) new patch side place
+
+-- The new size of a patch, and the parameters of its sides.
+pub record IsRim (plan : Plan) (new : Lengths) (patch : ℕ) (rim : Rim) (parameters : List ℕ) : Type 0 where
+  pub wide : rim.wide ≡ wide (layout_of plan) new patch
+  pub high : rim.high ≡ high (layout_of plan) new patch
+  pub sides : (side : Way) → AreParameters plan new patch side (parameters_from rim side) parameters
+
+abbrev pub rim_at : (rims : List Rim) (patch : ℕ) → Rim
+rim_at rims patch = slice_index_or rims patch (record { wide = 0; high = 0; begin = 0 })
+
+-- The tables tell the places of the points of the layout of a mesh, with the lengths that they hold.
+pub record ArePlaces (faces : Faces) (plan : Plan) (tables : PlaceTables) : Type 0 where
+  pub layout : IsLayoutIn faces plan
+  pub long : length tables.lengths.items ≡ length plan.arcs
+  pub lengths : AreLengths (layout_of plan) (lengths_in tables.lengths.items)
+  pub few : face_count (layout_of plan) (lengths_in tables.lengths.items) ≤ MAX_NEW_FACES
+  pub along : AreStarts (λ a. lengths_in tables.lengths.items a - 1) (length plan.arcs) tables.along.begin.items
+  pub inside : AreStarts
+      (λ p. (wide (layout_of plan) (lengths_in tables.lengths.items) p - 1)
+      * (high (layout_of plan) (lengths_in tables.lengths.items) p - 1))
+      (length plan.patches) tables.inside.begin.items
+  pub rimmed : length tables.rims.items ≡ length plan.patches
+  pub rims : (patch : ℕ) → patch < length plan.patches
+      → IsRim plan (lengths_in tables.lengths.items) patch (rim_at tables.rims.items patch) tables.parameters.items
+
+-- A coordinate of a position: 0, 1 and 2 are the axes.
+abbrev pub coordinate_in : (position : Position) (axis : ℕ) → ℤ
+coordinate_in position axis = slice_index_or position axis (pos 0)
+
+-- Each coordinate of a position lies between the least and the greatest of these positions.
+abbrev pub LiesBetween : (places : Positions) (position : Position) → Type 0
+LiesBetween places position = (axis : ℕ) → axis < 3 → (least greatest : ℤ)
+    → ((v : ℕ) → v < length places → (least ≤ℤ coordinate_in (slice_index_or places v []) axis)
+    × (coordinate_in (slice_index_or places v []) axis ≤ℤ greatest))
+    → (least ≤ℤ coordinate_in position axis) × (coordinate_in position axis ≤ℤ greatest)

@@ -1,0 +1,35 @@
+-- What the text of a finished remesh tells.
+use Rattle.std.specs.Prelude.{◌≡◌, ◌↔◌, ◌+◌, Bool, true, false, Option, None, [], drop, slice_index_or}
+use Rattle.def_certtext.specs.CertLines.{Lists}
+use Rattle.def_certtext.specs.Laws.{chosen, IsPrintable, TellsOnly}
+use Rattle.def_certtext.specs.Reading.{Made, TellHow}
+use Rattle.def_certtext.specs.Settings.{AreInRange}
+use Rattle.def_flow.specs.declared.net.Settings.{Settings}
+use Rattle.def_io.specs.Bytes.{Bytes}
+use Rattle.def_io.specs.Lines.{lines_of}
+use Rattle.def_mesh.specs.Meshes.{IsMesh}
+use Rattle.def_text.specs.FaceSet.{FaceSet}
+use Rattle.def_remesh.specs.Checked.{IsCheckedPair}
+use Rattle.def_remesh.specs.Remeshed.{IsRemeshed, used}
+
+-- How it was made, as its lines tell it.
+abbrev pub made_by : (settings : Settings) (auto : Bool) (first : Lists) (third : Option Lists) → Made
+made_by settings true first third = chosen settings first third
+made_by settings false first third =
+    record { settings = settings; auto = false; first = None; cert = used first third }
+
+-- A soup of quads whose numbers can be written, and whose faces are a mesh.
+pub record IsSolid (soup : FaceSet) : Type 0 where
+  pub mesh : IsMesh soup.faces
+  pub printable : IsPrintable soup
+
+-- The text of a finished remesh tells its settings and its certificates, and no others.
+abbrev pub ToldLaw : Type 0
+ToldLaw = (settings : Settings) (auto : Bool) (soup : FaceSet) (text : Bytes) → AreInRange settings auto → IsSolid soup
+    → (is : IsRemeshed settings auto soup text) → TellsOnly text (made_by settings auto is.first is.third)
+
+-- So do the lines of a checked pair from its head line on.
+abbrev pub PairLaw : Type 0
+PairLaw = (bytes : Bytes) (pair : IsCheckedPair bytes) → IsSolid pair.soup → (made : Made)
+    → TellHow (slice_index_or (lines_of bytes) pair.line []) (drop (pair.line + 1) (lines_of bytes)) made
+    ↔ (made ≡ made_by pair.settings pair.auto pair.remeshed.first pair.remeshed.third)

@@ -1,0 +1,28 @@
+//! The lengths that a remesh keeps, and why a layout is not remeshed.
+
+use def_flow::Cert;
+use thiserror::Error;
+
+/// The lengths by which a new mesh is too fine.
+#[derive(Debug, Drop)]
+pub enum Kept {
+    /// Each is this multiple of the old one.
+    Multiple { by: u32 },
+    /// They are least for the floor that was given, or with `auto` for floor 1.
+    Least { cert: Cert },
+    /// With `auto`: those for floor 1 double an edge, and these are least for floor 3.
+    Raised { first: Cert, cert: Cert },
+}
+
+/// Why a layout is not remeshed.
+#[derive(Debug, Drop, Error)]
+pub enum LayoutFail {
+    #[error("tangled: {count}")]
+    Tangled { count: u64 },
+    #[error("too fine: {faces} faces")]
+    TooFine { faces: u128, kept: Kept },
+    #[error("doubled edge: {u} {v}")]
+    Doubled { u: u32, v: u32, cert: Cert },
+    #[error("out of memory")]
+    Memory,
+}

@@ -1,0 +1,22 @@
+//! Tables that tell the places of the points of a layout with lengths.
+
+use crate::tables::Starts;
+
+/// A patch of the new mesh: its width and height, and where the parameters of its sides begin.
+#[derive(Clone, Copy, Debug, PartialEq, Eq)]
+pub struct Rim {
+    pub wide: u32,
+    pub high: u32,
+    pub begin: usize,
+}
+
+/// The lengths of the arcs, where their inner points and those of the patches begin, and the parameters of the places
+/// of all sides: south, east, north and west, patch by patch, each counter-clockwise.
+#[derive(Debug, Drop)]
+pub struct PlaceTables {
+    pub lengths: Vec<u32>,
+    pub along: Starts,
+    pub inside: Starts,
+    pub rims: Vec<Rim>,
+    pub parameters: Vec<u64>,
+}

@@ -1,0 +1,27 @@
+use Rattle.std.proofs.Common.{◌≡◌, ◌+◌, ℕ, Bool, true, false, refl, ◌∙◌, arith}
+use Rattle.def_layout.specs.Layouts.{Layout}
+use Rattle.def_layout.specs.Lengths.{Lengths}
+use Rattle.def_layout.specs.Plans.{layout_of, plan}
+use Rattle.def_written.specs.Numbers.{number}
+use Rattle.def_remesh.specs.NewPoints.{lengths_in}
+use Rattle.qm_stitch.specs.Rims.{along_lines, key_of, line_edge, line_point, pair_key}
+use Rattle.qm_stitch.proofs.Grids.{size_short}
+use Rattle.qm_stitch.proofs.rim.key_at.Goals as goal
+
+key_is : (l : Layout) (x : Lengths) (u : Bool) (p n k : ℕ)
+    → pair_key (number l x (line_point l x u p n k)) (number l x (line_point l x u p n (k + 1))) ≡ key_of l x (line_edge u p n k)
+key_is l x false p n k = refl
+key_is l x true p n k = refl
+
+pub overflow_add-at : goal.overflow_add-at
+overflow_add-at c =
+    omega (
+      arith,
+      c.requires.low,
+      size_short (plan c.args.t.now) c.args.tables.now c.requires.numbering c.args.line.patch (along_lines c.args.line.upright) c.requires.line.patch,
+    )
+
+pub returns : goal.returns
+returns c =
+    c.key_for.ensures ∙ (λ i. pair_key (c.line_point-from.ensures i) (c.line_point-to.ensures i))
+    ∙ key_is (layout_of (plan c.args.t.now)) (lengths_in c.args.tables.now.lengths.items) c.args.line.upright c.args.line.patch c.args.line.number c.args.at

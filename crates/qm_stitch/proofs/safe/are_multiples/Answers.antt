@@ -1,0 +1,22 @@
+use Rattle.std.proofs.Common.{◌≡◌, ◌<◌, ◌/◌, [], length, get_or, refl, sym, ◌∙◌, ap, rules, arith}
+use Rattle.std.proofs.lemmas.List.{get_or-map, length-map}
+use Rattle.def_layout.specs.Arcs.{long_at, path, Path}
+use Rattle.def_layout.specs.Plans.{plan}
+use Rattle.def_layout.specs.declared.tmesh.TArc.{TArc}
+use Rattle.def_layout.specs.declared.tmesh.TMesh.{TMesh}
+use Rattle.def_remesh.specs.NewPoints.{lengths_in}
+use Rattle.qm_stitch.proofs.SafeLengths.{times_found}
+use Rattle.qm_stitch.proofs.safe.are_multiples.Goals as goal
+
+first_old : (t : TMesh) (arc : TArc) → 0 < length t.arcs.items → arc ≡ get_or t.arcs.items 0 arc → length arc.darts.items ≡ long_at (plan t).arcs 0
+first_old t arc some read =
+    ap (λ (a : TArc). length a.darts.items) read
+    ∙ sym (ap (λ (p : Path). length p.darts) (get_or-map path t.arcs.items 0 arc (record { first = 0; last = 0; darts = [] }) some))
+
+pub returns-then-old-gt0 : goal.returns-then-old-gt0
+returns-then-old-gt0 c =
+    let some : 0 < length c.args.lengths.now = search rules in
+    times_found (plan c.args.t.now) c.args.lengths.now (omega (arith, c.requires.long, length-map c.args.t.now.arcs.items path)) c.requires.lengths c.are_times.result
+    c.len-old.result (lengths_in c.args.lengths.now 0 / c.len-old.result) some
+    (omega (arith, c.len-old.ensures, c.index.result.now.darts.ok.0, first_old c.args.t.now c.index.result.now (omega (arith, some, c.requires.long)) c.index.ensures))
+    c.if-old-gt0.true refl c.are_times.ensures

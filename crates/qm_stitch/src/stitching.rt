@@ -1,0 +1,54 @@
+//! The new mesh as a list of faces.
+
+ghost use Rattle.std.specs.Prelude.{◌≡◌, ◌≤◌, ℕ, length, IfErr, IfOk, IsErrOf, OnOk};
+ghost use Rattle.def_flow.specs.declared.limits.TheConstants.{MAX_LENGTH};
+ghost use Rattle.def_layout.specs.Lengths.{AreLengths};
+ghost use Rattle.def_layout.specs.Plans.{layout_of, plan as plan_of};
+ghost use Rattle.def_layoutnet.specs.MeshLayouts.{IsMeshLayout};
+ghost use Rattle.def_written.specs.Edges.{IsUndoubled};
+ghost use Rattle.def_written.specs.NewFaces.{new_faces};
+ghost use Rattle.def_remesh.specs.NewPoints.{lengths_in};
+ghost use Rattle.def_remesh.specs.Numberings.{IsNumbering};
+ghost use Rattle.def_remesh.specs.Stitched.{AreSafe, IsNewMesh, IsUnstitched, KeepsShapes};
+
+use crate::numbering::Numbering;
+use crate::planning::plan;
+use def_layout::TMesh;
+use def_remesh::{NewMesh, StitchFail};
+use std::alloc::{AllocError, Global};
+
+/// The mesh that a layout gives at these lengths, with the refusals of `plan`. Linear in its faces, besides.
+pub fn stitch(alloc: Global, t: &TMesh, lengths: &[u64]) -> Result<NewMesh, StitchFail>
+    requires layout { IsMeshLayout (plan_of t.now) }
+    requires long { length lengths.now ≡ length t.now.arcs.items }
+    requires lengths { AreLengths (layout_of (plan_of t.now)) (lengths_in lengths.now) }
+    requires bounded { (arc : ℕ) → lengths_in lengths.now arc ≤ MAX_LENGTH }
+    ensures mesh { IfOk result (IsNewMesh (plan_of t.now) (lengths_in lengths.now)) }
+    ensures undoubled { OnOk result (IsUndoubled (layout_of (plan_of t.now)) (lengths_in lengths.now)) }
+    ensures shape { OnOk result (KeepsShapes (plan_of t.now) (lengths_in lengths.now)) }
+    ensures refused { IfErr result (IsUnstitched (layout_of (plan_of t.now)) (lengths_in lengths.now)) }
+    ensures safe { AreSafe (plan_of t.now) (lengths_in lengths.now)
+        → (u v : ℕ) → ¬ IsErrOf result (StitchFail.Doubled u v) }
+{
+    let numbering = plan(alloc, t, lengths)?;
+    match all_faces(alloc, &numbering, t) {
+        Ok(faces) => Ok(NewMesh {
+            vertices: numbering.vertices(),
+            faces,
+        }),
+        Err(_) => Err(StitchFail::Memory),
+    }
+}
+
+/// All faces, by their numbers.
+fn all_faces(alloc: Global, numbering: &Numbering, t: &TMesh) -> Result<Vec<[u32; 4]>, AllocError>
+    requires { IsNumbering (plan_of t.now) numbering.now }
+    ensures { IfOk result (λ faces. faces.items
+        ≡ new_faces (layout_of (plan_of t.now)) (lengths_in numbering.now.lengths.items)) }
+{
+    let mut faces = Vec::with_capacity(alloc, numbering.faces() as usize)?;
+    for face in 0..numbering.faces() {
+        faces.push(numbering.face(t, face))?;
+    }
+    Ok(faces)
+}
