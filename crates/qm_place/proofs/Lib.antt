@@ -1,0 +1,8 @@
+mod Casts
+mod OldPoints
+mod Pushes
+mod Rims
+mod Found
+mod Entries
+mod Built
+mod Betweens

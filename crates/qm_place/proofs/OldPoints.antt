@@ -1,0 +1,152 @@
+-- The old vertices at the points of a layout are those that the darts of the mesh leave there.
+use Rattle.std.proofs.Common.{◌≡◌, ℕ, ◌+◌, ◌<◌, true, length, refl, sym, ◌∙◌, ap, subst, arith}
+use Rattle.def_mesh.specs.Darts.{darts, next_of, from_of, to_of}
+use Rattle.def_mesh.specs.HalfEdges.{half_edges}
+use Rattle.def_mesh.specs.Vertices.{vertex_count}
+use Rattle.def_cut.specs.Grids.{cell_of, patch_at}
+use Rattle.def_layout.specs.Arcs.{dart_at, long_at}
+use Rattle.def_layout.specs.Cells.{Dart, IsDart, dart, next, rim_at}
+use Rattle.def_layout.specs.Laid.{IsLaid}
+use Rattle.def_layout.specs.Layouts.{Way, south, east, north, west, Layout, Slot, IsSlot, use_of, start_of}
+use Rattle.def_layout.specs.Lengths.{Lengths, wide, high, AreLengths}
+use Rattle.def_layout.specs.Plans.{Plan, layout_of, vertex_at}
+use Rattle.def_layout.specs.Sided.{IsSided}
+use Rattle.def_layout.specs.declared.tmesh.SideArc.{SideArc}
+use Rattle.def_layoutnet.specs.MeshLayouts.{IsMeshLayout}
+use Rattle.def_written.specs.Laws.{LiesIn}
+use Rattle.def_written.specs.NewFaces.{from}
+use Rattle.def_written.specs.Points.{Point, node, along, inside, IsPoint, arc_point, use_point, point}
+use Rattle.def_remesh.specs.NewPoints.{old_vertex}
+use Rattle.mesh_laws.proofs.HalfEdges.{manifold_law}
+use Rattle.mesh_laws.proofs.Vertices.{all_below}
+use Rattle.plan_laws.proofs.Lies.{cell_dart}
+use Rattle.plan_laws.proofs.PlanLies.{in_mesh as sides_in_mesh}
+use Rattle.qm_reach.proofs.Whole.{lies, laid_of, lengths_of}
+use Rattle.written_laws.proofs.Borders.{at_is, at_from, at_to, from_is}
+use Rattle.written_laws.proofs.Grid.{point_inside}
+use Rattle.written_laws.proofs.NewDarts.{next_is}
+use Rattle.written_laws.proofs.OldModel.{old_model}
+use Rattle.written_laws.proofs.Sided.{starts}
+use Rattle.written_laws.proofs.Sides.{use_begins, use_some, arc_inner}
+
+module _ (plan : Plan) (is : IsMeshLayout plan) where
+  abbrev l : Layout
+  l = layout_of plan
+
+  abbrev x : Lengths
+  x = long_at plan.arcs
+
+  laid : IsLaid (layout_of plan)
+  laid = laid_of plan is
+
+  len : AreLengths (layout_of plan) (long_at plan.arcs)
+  len = lengths_of plan is
+
+  in_mesh : LiesIn is.faces (layout_of plan) (long_at plan.arcs) (vertex_at plan)
+  in_mesh = lies plan is
+
+  -- The dart of the mesh for a dart of a cell.
+  abbrev cell : (d : Dart) → ℕ
+  cell = cell_dart (half_edges is.faces) plan
+
+  sided : IsSided (half_edges is.faces) (layout_of plan) (long_at plan.arcs) (cell_dart (half_edges is.faces) plan) (vertex_at plan) (dart_at plan.arcs)
+  sided = sides_in_mesh is.faces is.marks plan is.mesh is.quads is.cut is.laid
+
+  next_cell : (d : Dart) → cell (next d) ≡ next_of (cell d)
+  next_cell d = sided.turned d
+
+  alike : (d e : Dart) → IsDart l x d → IsDart l x e → from l x d ≡ from l x e
+      → from_of is.faces (cell d) ≡ from_of is.faces (cell e)
+  alike d e is_d is_e same =
+      (old_model is.faces in_mesh.manifold l x in_mesh.paved in_mesh.lengths cell (vertex_at plan) (dart_at plan.arcs) sided in_mesh.quads).alike
+      d e is_d is_e same
+
+  -- At each point a dart leaves the old vertex.
+  point_vertex : (a : Point) → IsPoint l x a
+      → (d : Dart) × IsDart l x d × (from l x d ≡ a) × (from_of is.faces (cell d) ≡ old_vertex is.faces plan a)
+  point_vertex (node n) low =
+      let r : (w : Slot) × IsSlot l w × (start_of l (use_of l w) ≡ n) = laid.reached n low in
+      let some : 0 < x (use_of l r.0).arc = use_some l x laid.paved len r.0 r.1 in (
+        rim_at l x r.0 0,
+        at_is l x laid.paved len r.0 0 r.1 some,
+        at_from l x laid len r.0 0 r.1 some ∙ use_begins l x (use_of l r.0) some ∙ ap node r.2,
+        starts (half_edges is.faces) (manifold_law is.faces in_mesh.manifold) l x in_mesh.paved in_mesh.lengths cell (vertex_at plan) (dart_at plan.arcs) sided r.0 r.1
+            ∙ ap (vertex_at plan) r.2,
+      )
+  point_vertex (along a k) low =
+      let f : (w : Slot) × IsSlot l w × (use_of l w ≡ record { arc = a; forward = true }) = laid.forward a low.0 in
+      let less : k < x (use_of l f.0).arc = omega (arith, low.2, ap (λ (u : SideArc). x u.arc) f.2) in (
+        rim_at l x f.0 k,
+        at_is l x laid.paved len f.0 k f.1 less,
+        at_from l x laid len f.0 k f.1 less ∙ ap (λ (u : SideArc). use_point l x u k) f.2 ∙ arc_inner l x a k low.1 low.2,
+        ap (from_of is.faces) (sided.ahead f.0 k f.1 less (ap (λ (u : SideArc). u.forward) f.2) ∙ ap (λ (u : SideArc). dart_at plan.arcs u.arc k) f.2),
+      )
+  point_vertex (inside p i j) low = (
+    dart p i j south,
+    record { patch_low = low.0; i_low = low.2; j_low = low.4 },
+    point_inside l x laid len p i j low.1 low.2 low.3 low.4,
+    refl,
+  )
+
+  -- It is a vertex of the mesh.
+  pub old_low : (a : Point) → IsPoint (layout_of plan) (long_at plan.arcs) a → old_vertex is.faces plan a < vertex_count is.faces
+  old_low a low =
+      let e = point_vertex a low in subst (λ v. v < vertex_count is.faces) e.3 (all_below is.faces (cell e.0) (sided.low e.0 e.1))
+
+  old_from : (d : Dart) → IsDart l x d → old_vertex is.faces plan (from l x d) ≡ from_of is.faces (cell d)
+  old_from d is_d = by_vertex (point_vertex (from l x d) (from_is l x laid len d is_d))
+    where
+      by_vertex : (e : Dart) × IsDart l x e × (from l x e ≡ from l x d) × (from_of is.faces (cell e) ≡ old_vertex is.faces plan (from l x d))
+          → old_vertex is.faces plan (from l x d) ≡ from_of is.faces (cell d)
+      by_vertex e = sym e.3 ∙ alike e.0 d e.1 is_d e.2
+
+  -- The corners of an old cell.
+  pub record AreCorners (p a b d : ℕ) : Type 0 where
+    pub low : d < darts is.faces
+    pub south_west : old_vertex is.faces plan (point (layout_of plan) (long_at plan.arcs) p a b) ≡ from_of is.faces d
+    pub south_east : old_vertex is.faces plan (point (layout_of plan) (long_at plan.arcs) p (a + 1) b) ≡ from_of is.faces (next_of d)
+    pub north_east : old_vertex is.faces plan (point (layout_of plan) (long_at plan.arcs) p (a + 1) (b + 1)) ≡ from_of is.faces (next_of (next_of d))
+    pub north_west : old_vertex is.faces plan (point (layout_of plan) (long_at plan.arcs) p a (b + 1)) ≡ from_of is.faces (next_of (next_of (next_of d)))
+
+  pub corners : (p a b : ℕ) → p < length plan.patches → a < wide (layout_of plan) (long_at plan.arcs) p → b < high (layout_of plan) (long_at plan.arcs) p
+      → AreCorners p a b (cell_of (patch_at plan.patches p) a b)
+  corners p a b p_low a_low b_low = record {
+    low = sided.low (dart p a b south) (at south);
+    south_west = old_from (dart p a b south) (at south);
+    south_east = old_from (dart p a b east) (at east) ∙ ap (from_of is.faces) (next_cell (dart p a b south));
+    north_east = old_from (dart p a b north) (at north)
+        ∙ ap (from_of is.faces) (next_cell (dart p a b east) ∙ ap next_of (next_cell (dart p a b south)));
+    north_west = old_from (dart p a b west) (at west)
+        ∙ ap (from_of is.faces) (next_cell (dart p a b north) ∙ ap next_of (next_cell (dart p a b east) ∙ ap next_of (next_cell (dart p a b south))));
+  }
+    where
+      at : (w : Way) → IsDart l x (dart p a b w)
+      at w = record { patch_low = p_low; i_low = a_low; j_low = b_low }
+
+  -- The ends of a dart of an arc.
+  pub record AreEnds (a i d : ℕ) : Type 0 where
+    pub low : d < darts is.faces
+    pub first : old_vertex is.faces plan (arc_point (layout_of plan) (long_at plan.arcs) a i) ≡ from_of is.faces d
+    pub last : old_vertex is.faces plan (arc_point (layout_of plan) (long_at plan.arcs) a (i + 1)) ≡ to_of is.faces d
+
+  pub ends : (a i : ℕ) → a < length plan.arcs → i < long_at plan.arcs a → AreEnds a i (dart_at plan.arcs a i)
+  ends a i a_low i_low = by_slot (laid.forward a a_low)
+    where
+      by_slot : (w : Slot) × IsSlot l w × (use_of l w ≡ record { arc = a; forward = true }) → AreEnds a i (dart_at plan.arcs a i)
+      by_slot f = record {
+        low = sided.arc_low a i a_low i_low;
+        first = ap (old_vertex is.faces plan) (sym (at_from l x laid len f.0 i f.1 less ∙ ap (λ (u : SideArc). use_point l x u i) f.2))
+            ∙ old_from (rim_at l x f.0 i) is_dart ∙ ap (from_of is.faces) here;
+        last = ap (old_vertex is.faces plan) (sym (at_to l x laid len f.0 i f.1 less ∙ ap (λ (u : SideArc). use_point l x u (i + 1)) f.2))
+            ∙ old_from (next (rim_at l x f.0 i)) (next_is l x (rim_at l x f.0 i) is_dart)
+            ∙ ap (from_of is.faces) (next_cell (rim_at l x f.0 i) ∙ ap next_of here);
+      }
+        where
+          less : i < x (use_of l f.0).arc
+          less = omega (arith, i_low, ap (λ (u : SideArc). x u.arc) f.2)
+
+          is_dart : IsDart l x (rim_at l x f.0 i)
+          is_dart = at_is l x laid.paved len f.0 i f.1 less
+
+          here : cell (rim_at l x f.0 i) ≡ dart_at plan.arcs a i
+          here = sided.ahead f.0 i f.1 less (ap (λ (u : SideArc). u.forward) f.2) ∙ ap (λ (u : SideArc). dart_at plan.arcs u.arc i) f.2

@@ -1,0 +1,184 @@
+-- The parameters of all sides, as they are put one after the other.
+use Rattle.std.proofs.Common.{◌≡◌, ℕ, ◌+◌, ◌-◌, ◌^◌, ◌<◌, ◌≤◌, Bool, true, false, cond, List, [], length, get_or, refl, sym, ◌∙◌, ap, subst, arith, ◌*◌, ◌/◌}
+use Rattle.std.specs.Prelude.{nat_le}
+use Rattle.std.proofs.lemmas.List.{get_or_default, get_or-map, length-map}
+use Rattle.std.proofs.lemmas.Nat.{mul-le}
+use Rattle.std.proofs.Math.Nat.{div-lt_iff_lt-mul, mul_comm}
+use Rattle.def_cut.specs.Grids.{rectangle}
+use Rattle.def_layout.specs.Arcs.{Path, long_at, path}
+use Rattle.def_layout.specs.Layouts.{Way, south, east, north, west, Slot, IsSlot, use_of}
+use Rattle.def_layout.specs.Lengths.{Lengths, reach, size}
+use Rattle.def_layout.specs.Plans.{Plan, layout_of, number, plan, side_at}
+use Rattle.def_layout.specs.declared.tmesh.SideArc.{SideArc}
+use Rattle.def_layout.specs.declared.tmesh.TArc.{TArc}
+use Rattle.def_layout.specs.declared.tmesh.TMesh.{TMesh}
+use Rattle.def_layoutnet.specs.MeshLayouts.{IsMeshLayout}
+use Rattle.def_remesh.specs.NewPoints.{lengths_in}
+use Rattle.def_remesh.specs.Placings.{parameters_from, side_parameter, AreParameters, IsRim}
+use Rattle.def_remesh.specs.declared.places.Rim.{Rim}
+use Rattle.qm_place.specs.Pushed.{on_arc, AreFine, ArePushed, IsKept}
+use Rattle.qm_place.proofs.Pushes.{is_back, kept_on, parameters_in, parameters_kept, pushed_join, pushed_kept, slot_parameter, start_by}
+use Rattle.qm_reach.proofs.Bounds.{old_faces, side_few}
+use Rattle.qm_reach.proofs.Spots.{count_step}
+use Rattle.qm_reach.proofs.Whole.{laid_of, lengths_of}
+use Rattle.written_laws.proofs.Sides.{reach_low, slot}
+
+-- Sides are short.
+pub old_few : (plan : Plan) → IsMeshLayout plan → (p : ℕ) (s : Way) → p < length plan.patches
+    → size (layout_of plan) (long_at plan.arcs) p s ≤ 2 ^ 21
+old_few plan is p s low =
+    omega (arith, side_few (layout_of plan) (long_at plan.arcs) (laid_of plan is) (lengths_of plan is) p s low, old_faces plan is)
+
+pub new_few : (plan : Plan) (list : List ℕ) → AreFine plan list → (p : ℕ) (s : Way) → p < length plan.patches
+    → size (layout_of plan) (lengths_in list) p s ≤ 2 ^ 21
+new_few plan list fine p s low =
+    omega (arith, side_few (layout_of plan) (lengths_in list) (laid_of plan fine.mesh) fine.lengths p s low, fine.few)
+
+-- Arcs are short, and a place before the end of one lies on one of its darts.
+pub old_short : (plan : Plan) → IsMeshLayout plan → (arc : ℕ) → arc < length plan.arcs → long_at plan.arcs arc ≤ 2 ^ 21
+old_short plan is arc low = by_slot ((laid_of plan is).forward arc low)
+  where
+    by_slot : (w : Slot) × IsSlot (layout_of plan) w × (use_of (layout_of plan) w ≡ record { arc = arc; forward = true }) → long_at plan.arcs arc ≤ 2 ^ 21
+    by_slot f =
+        omega (
+          arith,
+          reach_low (layout_of plan) (long_at plan.arcs) f.0 f.1,
+          old_few plan is f.0.patch f.0.side f.1.patch_low,
+          ap (λ (u : SideArc). long_at plan.arcs u.arc) f.2,
+        )
+
+pub dart_low : (plan : Plan) → IsMeshLayout plan → (arc k parts : ℕ) → arc < length plan.arcs → k < parts → k * long_at plan.arcs arc / parts < long_at plan.arcs arc
+dart_low plan is arc k parts low less =
+    (div-lt_iff_lt-mul {k = parts} {x = k * long_at plan.arcs arc} {y = long_at plan.arcs arc} (omega (arith, less))).1
+    (by_parts (long_at plan.arcs arc) ((lengths_of plan is).some arc low))
+  where
+    by_parts : (m : ℕ) → 0 < m → k * m < m * parts
+    by_parts m some =
+        let le : (k + 1) * m ≤ m * parts = subst (λ z. (k + 1) * m ≤ z) (mul_comm parts m) (mul-le (k + 1) m parts m (omega arith) (omega arith)) in
+        omega (arith, le)
+
+-- What is read of an arc.
+pub old_read : (t : TMesh) (a : ℕ) (arc : TArc) → a < length t.arcs.items → arc ≡ get_or t.arcs.items a arc
+    → length arc.darts.items ≡ long_at (plan t).arcs a
+old_read t a arc low same =
+    ap (λ (z : TArc). length z.darts.items) same
+    ∙ sym (ap (λ (q : Path). length q.darts) (get_or-map path t.arcs.items a arc (record { first = 0; last = 0; darts = [] }) low))
+
+-- The arc at a place of a side, as it is read.
+pub record IsRead (t : TMesh) (list : List ℕ) (p i : ℕ) (s : Way) (used : SideArc) : Type 0 where
+  pub is_slot : IsSlot (layout_of (plan t)) (slot p s i)
+  pub arc_low : used.arc < length t.arcs.items
+  pub listed : used.arc < length list
+  pub arc : used.arc ≡ ((layout_of (plan t)).use_at p s i).arc
+  pub old_upto : reach (layout_of (plan t)) (long_at (plan t).arcs) p s i + long_at (plan t).arcs used.arc
+      ≤ size (layout_of (plan t)) (long_at (plan t).arcs) p s
+  pub old_short : size (layout_of (plan t)) (long_at (plan t).arcs) p s ≤ 2 ^ 21
+  pub old_next : reach (layout_of (plan t)) (long_at (plan t).arcs) p s (i + 1)
+      ≡ reach (layout_of (plan t)) (long_at (plan t).arcs) p s i + long_at (plan t).arcs used.arc
+  pub new_next : reach (layout_of (plan t)) (lengths_in list) p s (i + 1)
+      ≡ reach (layout_of (plan t)) (lengths_in list) p s i + lengths_in list used.arc
+
+pub read : (t : TMesh) (list : List ℕ) (p i side : ℕ) (s : Way) (us : List SideArc) → AreFine (plan t) list → p < length t.patches.items
+    → us ≡ get_or (get_or (plan t).sides p []) side [] → i < length us → number s ≡ side
+    → IsRead t list p i s (get_or us i (record { arc = 0; forward = false }))
+read t list p i side s us fine low us_is i_low way = record {
+  is_slot = is_slot;
+  arc_low = omega (arith, arc, arc_less, length-map t.arcs.items path);
+  listed = omega (arith, arc, arc_less, fine.long);
+  arc = arc;
+  old_upto = omega (arith, reach_low (layout_of (plan t)) (long_at (plan t).arcs) (slot p s i) is_slot, ap (long_at (plan t).arcs) arc);
+  old_short = old_few (plan t) fine.mesh p s p_low;
+  old_next = count_step (λ k. long_at (plan t).arcs ((layout_of (plan t)).use_at p s k).arc) i ∙ ap (λ a. reach (layout_of (plan t)) (long_at (plan t).arcs) p s i + long_at (plan t).arcs a) (sym arc);
+  new_next = count_step (λ k. lengths_in list ((layout_of (plan t)).use_at p s k).arc) i ∙ ap (λ a. reach (layout_of (plan t)) (lengths_in list) p s i + lengths_in list a) (sym arc);
+}
+  where
+    p_low : p < length (plan t).patches
+    p_low = omega (arith, low, length-map t.patches.items rectangle)
+
+    same : us ≡ side_at (plan t) p s
+    same = us_is ∙ ap (λ k. get_or (get_or (plan t).sides p []) k []) (sym way)
+
+    is_slot : IsSlot (layout_of (plan t)) (slot p s i)
+    is_slot = record { patch_low = p_low; low = omega (arith, i_low, ap (λ (xs : List SideArc). length xs) same) }
+
+    arc : (get_or us i (record { arc = 0; forward = false })).arc ≡ ((layout_of (plan t)).use_at p s i).arc
+    arc =
+        ap (λ (u : SideArc). u.arc) (get_or_default us i (record { arc = 0; forward = false }) (record { arc = 0; forward = true }) i_low)
+        ∙ ap (λ (xs : List SideArc). (get_or xs i (record { arc = 0; forward = true })).arc) same
+
+    arc_less : ((layout_of (plan t)).use_at p s i).arc < length (plan t).arcs
+    arc_less = (laid_of (plan t) fine.mesh).paved.arc_low (slot p s i) is_slot
+
+-- North and west are the sides numbered from 2 on.
+pub back_by : (s : Way) (side : ℕ) → number s ≡ side → nat_le 2 side ≡ is_back s
+back_by s side way = ap (λ k. nat_le 2 k) (sym way) ∙ by_way s
+  where
+    by_way : (w : Way) → nat_le 2 (number w) ≡ is_back w
+    by_way south = refl
+    by_way east = refl
+    by_way north = refl
+    by_way west = refl
+
+-- Another arc of a side is put there.
+pub side_more : (t : TMesh) (list : List ℕ) (p i : ℕ) (s : Way) (used : SideArc) (z a b : List ℕ) (start old : ℕ) (back : Bool)
+    → IsRead t list p i s used → back ≡ is_back s → old ≡ long_at (plan t).arcs used.arc
+    → start ≡ start_by (layout_of (plan t)) (long_at (plan t).arcs) p i s
+    → ArePushed z a (reach (layout_of (plan t)) (lengths_in list) p s i)
+    (side_parameter (layout_of (plan t)) (long_at (plan t).arcs) (lengths_in list) p s)
+    → ArePushed a b (lengths_in list used.arc) (on_arc start old (lengths_in list used.arc) back)
+    → ArePushed z b (reach (layout_of (plan t)) (lengths_in list) p s (i + 1))
+    (side_parameter (layout_of (plan t)) (long_at (plan t).arcs) (lengths_in list) p s)
+side_more t list p i s used z a b start old back is back_is old_is start_is before more =
+    subst (λ n. ArePushed z b n (side_parameter (layout_of (plan t)) (long_at (plan t).arcs) (lengths_in list) p s)) (sym is.new_next)
+    (pushed_join z a b (reach (layout_of (plan t)) (lengths_in list) p s i) (lengths_in list used.arc)
+    (side_parameter (layout_of (plan t)) (long_at (plan t).arcs) (lengths_in list) p s)
+    (on_arc start old (lengths_in list used.arc) back) before more same)
+  where
+    same : (o : ℕ) → o < lengths_in list used.arc
+        → on_arc start old (lengths_in list used.arc) back o
+        ≡ side_parameter (layout_of (plan t)) (long_at (plan t).arcs) (lengths_in list) p s (reach (layout_of (plan t)) (lengths_in list) p s i + o)
+    same o low =
+        (λ k. on_arc start ((old_is ∙ ap (long_at (plan t).arcs) is.arc) k) (lengths_in list (is.arc k)) (back_is k) o)
+        ∙ slot_parameter (layout_of (plan t)) (long_at (plan t).arcs) (lengths_in list) p i s is.is_slot o start
+        (omega (arith, low, ap (lengths_in list) is.arc)) start_is
+
+pub start_few : (w b o : ℕ) (back : Bool) → b + o ≤ w → w ≤ 2 ^ 21 → cond back (w - b - o) b ≤ 2 ^ 21
+start_few w b o true le few = omega arith
+start_few w b o false le few = omega arith
+
+-- The four sides of a patch.
+pub rim_built : (plan : Plan) (list : List ℕ) → AreFine plan list → (p : ℕ) → p < length plan.patches → (z a b c d : List ℕ) (begin w h : ℕ)
+    → ArePushed z a (size (layout_of plan) (lengths_in list) p south) (side_parameter (layout_of plan) (long_at plan.arcs) (lengths_in list) p south)
+    → ArePushed a b (size (layout_of plan) (lengths_in list) p east) (side_parameter (layout_of plan) (long_at plan.arcs) (lengths_in list) p east)
+    → ArePushed b c (size (layout_of plan) (lengths_in list) p north) (side_parameter (layout_of plan) (long_at plan.arcs) (lengths_in list) p north)
+    → ArePushed c d (size (layout_of plan) (lengths_in list) p west) (side_parameter (layout_of plan) (long_at plan.arcs) (lengths_in list) p west)
+    → begin ≡ length z → w ≡ length a - begin → h ≡ length b - begin - w
+    → IsRim plan (lengths_in list) p (record { wide = w; high = h; begin = begin }) d
+rim_built plan list fine p low z a b c d begin w h first second third fourth begin_is w_is h_is = record {
+  wide = omega (arith, first.long, begin_is, w_is);
+  high = omega (arith, first.long, second.long, begin_is, w_is, h_is, fine.lengths.upright p low);
+  sides = sides;
+}
+  where
+    from_c : IsKept c d
+    from_c = pushed_kept c d _ _ fourth
+
+    from_b : IsKept b d
+    from_b = kept_on b c d (pushed_kept b c _ _ third) from_c
+
+    from_a : IsKept a d
+    from_a = kept_on a b d (pushed_kept a b _ _ second) from_b
+
+    itself : IsKept d d
+    itself = record { long = omega arith; kept = λ k less. refl }
+
+    sides : (s : Way) → AreParameters plan (lengths_in list) p s (parameters_from (record { wide = w; high = h; begin = begin }) s) d
+    sides south = parameters_in plan (lengths_in list) p south begin z a d begin_is first from_a
+    sides east = parameters_in plan (lengths_in list) p east (begin + w) a b d (omega (arith, first.long, begin_is, w_is)) second from_b
+    sides north = parameters_in plan (lengths_in list) p north (begin + w + h) b c d (omega (arith, first.long, second.long, begin_is, w_is, h_is)) third from_c
+    sides west = parameters_in plan (lengths_in list) p west (begin + w + h + w) c d d
+        (omega (arith, first.long, second.long, third.long, begin_is, w_is, h_is, fine.lengths.across p low)) fourth itself
+
+pub rim_kept : (plan : Plan) (new : Lengths) (p : ℕ) (rim : Rim) (a b : List ℕ) → IsKept a b → IsRim plan new p rim a → IsRim plan new p rim b
+rim_kept plan new p rim a b kept is =
+    record { wide = is.wide; high = is.high; sides = λ s. parameters_kept plan new p s _ a b kept (is.sides s) }

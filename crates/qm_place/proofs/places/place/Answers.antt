@@ -1,0 +1,28 @@
+use Rattle.std.proofs.Common.{◌≡◌, ◌+◌, ◌++◌, ℕ, List, [], ◌∷◌, length, get_or, sym, ◌∙◌, ap, subst, inl, inr, length-append, arith}
+use Rattle.std.proofs.lemmas.Bool.{cases_lt}
+use Rattle.std.proofs.lemmas.List.{get_or_append_left, get_or_push}
+use Rattle.std.proofs.lemmas.List.FromFn.{map-range_with_len_more}
+use Rattle.def_layout.specs.Plans.{plan}
+use Rattle.def_text.specs.Types.{Positions}
+use Rattle.def_remesh.specs.NewPoints.{lengths_in}
+use Rattle.def_remesh.specs.NewSoup.{new_place}
+use Rattle.def_remesh.specs.Placings.{LiesBetween}
+use Rattle.qm_place.proofs.places.place.Goals as goal
+
+pub loop-v-preserved : goal.loop-v-preserved
+loop-v-preserved c = record {
+  places = c.in_ok-push.ensures.items
+      ∙ (λ k. c.loop-v.invariant.places k ++ here k ∷ [])
+      ∙ sym (map-range_with_len_more (new_place c.args.mesh.now (plan c.args.t.now) c.args.pos.now (lengths_in c.args.x.now)) 0 c.loop-v.v c.loop-v.v (omega arith));
+  between = λ v low. subst (λ (xs : Positions). LiesBetween c.args.pos.now (get_or xs v [])) (sym c.in_ok-push.ensures.items)
+      (elim (cases_lt v (length c.loop-v.places.items)) [
+        | inl less ↦ subst (LiesBetween c.args.pos.now) (sym (get_or_append_left c.loop-v.places.items (c.place_near.result ∷ []) [] v less)) (c.loop-v.invariant.between v less)
+        | inr more ↦ subst (LiesBetween c.args.pos.now) (sym (get_or_push c.loop-v.places.items c.place_near.result [] v (omega (arith, more, low, long)))) c.place_near.ensures.between
+      ]);
+}
+  where
+    here : c.place_near.result ≡ new_place c.args.mesh.now (plan c.args.t.now) c.args.pos.now (lengths_in c.args.x.now) c.loop-v.v
+    here = c.place_near.ensures.value ∙ ap (λ (xs : List ℕ). new_place c.args.mesh.now (plan c.args.t.now) c.args.pos.now (lengths_in xs) c.loop-v.v) c.in_ok-placer.ensures.lengths
+
+    long : length c.push.new.self.items ≡ length c.loop-v.places.items + 1
+    long = ap (λ (xs : Positions). length xs) c.in_ok-push.ensures.items ∙ length-append c.loop-v.places.items (c.place_near.result ∷ [])

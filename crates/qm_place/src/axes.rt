@@ -1,0 +1,98 @@
+//! Places between old vertices, axis by axis.
+
+ghost use Rattle.std.specs.Prelude.{◌≡◌, ◌<◌, ◌≤◌, ◌^◌, length, ℕ};
+ghost use Rattle.def_mesh.specs.Darts.{darts};
+ghost use Rattle.def_mesh.specs.Vertices.{vertex_count};
+ghost use Rattle.def_written.specs.Places.{ONE};
+ghost use Rattle.def_layout.specs.Lengths.{Lengths};
+ghost use Rattle.def_layout.specs.Plans.{Plan};
+ghost use Rattle.def_remesh.specs.NewSoup.{new_place};
+ghost use Rattle.qm_place.specs.Spots.{between_ends, coordinate_at, in_face, on_axes, IsSomeSpot, IsSpotOf};
+
+use crate::ways::{blend, on_the_way};
+use def_text::Micro;
+use qm_mesh::Mesh;
+
+/// Between the ends of a dart, some of so many equal parts from its beginning.
+#[derive(Clone, Copy)]
+pub(crate) struct ArcSpot {
+    pub dart: u32,
+    pub some: u32,
+    pub parts: u32,
+}
+
+/// In a face, so much to the east and to the north of the beginning of its south dart.
+#[derive(Clone, Copy)]
+pub(crate) struct CellSpot {
+    pub dart: u32,
+    pub s: u64,
+    pub t: u64,
+}
+
+/// Where a new vertex lies in the old mesh: at an old vertex, between the ends of a dart, or in a face.
+#[derive(Clone, Copy)]
+pub(crate) enum Spot {
+    Vertex(u32),
+    OnArc(ArcSpot),
+    InPatch(CellSpot),
+}
+
+/// The place of a new vertex that lies there.
+pub(crate) fn place_there(mesh: &Mesh, pos: &[[Micro; 3]], spot: Spot) -> [Micro; 3]
+    requires positions { length pos.now ≡ vertex_count mesh.now }
+    requires spot { IsSomeSpot mesh.now spot }
+    ensures { (plan : Plan) (new : Lengths) (v : ℕ) → IsSpotOf mesh.now plan new v spot
+        → result ≡ new_place mesh.now plan pos.now new v }
+{
+    match spot {
+        Spot::Vertex(v) => vertex_place(pos, v),
+        Spot::OnArc(spot) => way_place(mesh, pos, spot),
+        Spot::InPatch(spot) => cell_place(mesh, pos, spot),
+    }
+}
+
+/// The place of an old vertex.
+fn vertex_place(pos: &[[Micro; 3]], v: u32) -> [Micro; 3]
+    requires { v < length pos.now }
+    ensures { result ≡ on_axes (coordinate_at pos.now v) }
+{
+    let [x, y, z] = pos[v as usize];
+    [x, y, z]
+}
+
+/// A place between the ends of a dart.
+fn way_place(mesh: &Mesh, pos: &[[Micro; 3]], spot: ArcSpot) -> [Micro; 3]
+    requires positions { length pos.now ≡ vertex_count mesh.now }
+    requires dart { spot.dart < darts mesh.now }
+    requires parts { (spot.some < spot.parts) × (spot.parts ≤ 2 ^ 31) }
+    ensures { result ≡ on_axes (between_ends mesh.now pos.now spot.dart spot.some spot.parts) }
+{
+    let [px, py, pz] = pos[mesh.from(spot.dart) as usize];
+    let [qx, qy, qz] = pos[mesh.to(spot.dart) as usize];
+    [
+        on_the_way(px, qx, spot.some, spot.parts),
+        on_the_way(py, qy, spot.some, spot.parts),
+        on_the_way(pz, qz, spot.some, spot.parts),
+    ]
+}
+
+/// A place in a face.
+fn cell_place(mesh: &Mesh, pos: &[[Micro; 3]], spot: CellSpot) -> [Micro; 3]
+    requires positions { length pos.now ≡ vertex_count mesh.now }
+    requires dart { spot.dart < darts mesh.now }
+    requires inside { (spot.s ≤ ONE) × (spot.t ≤ ONE) }
+    ensures { result ≡ on_axes (in_face mesh.now pos.now spot.dart spot.s spot.t) }
+{
+    let east = mesh.next(spot.dart);
+    let north = mesh.next(east);
+    let west = mesh.next(north);
+    let [ax, ay, az] = pos[mesh.from(spot.dart) as usize];
+    let [bx, by, bz] = pos[mesh.from(east) as usize];
+    let [cx, cy, cz] = pos[mesh.from(north) as usize];
+    let [dx, dy, dz] = pos[mesh.from(west) as usize];
+    [
+        blend(spot.s, spot.t, [ax, bx, cx, dx]),
+        blend(spot.s, spot.t, [ay, by, cy, dy]),
+        blend(spot.s, spot.t, [az, bz, cz, dz]),
+    ]
+}

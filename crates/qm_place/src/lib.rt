@@ -1,0 +1,15 @@
+//! The places of the vertices of the new mesh.
+#![tactic(auto)]
+
+mod axes;
+mod find;
+mod grid;
+mod places;
+mod sides;
+mod spots;
+#[cfg(test)]
+mod tests;
+mod ways;
+
+pub use find::Near;
+pub use places::{Places, place, placer};

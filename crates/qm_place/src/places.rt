@@ -1,0 +1,151 @@
+//! The places of all new vertices.
+
+ghost use Rattle.std.specs.Prelude.{◌≡◌, ◌<◌, ◌≤◌, ◌-◌, ◌*◌, ◌^◌, ℕ, [], length, slice_index_or, IfOk};
+ghost use Rattle.def_math.specs.Counts.{count_below};
+ghost use Rattle.def_mesh.specs.Faces.{Faces};
+ghost use Rattle.def_mesh.specs.Vertices.{vertex_count};
+ghost use Rattle.def_layout.specs.Lengths.{AreLengths};
+ghost use Rattle.def_layout.specs.Plans.{layout_of, plan};
+ghost use Rattle.def_written.specs.NewFaces.{face_count};
+ghost use Rattle.def_written.specs.Numbers.{vertices};
+ghost use Rattle.def_remesh.specs.NewPoints.{lengths_in};
+ghost use Rattle.def_remesh.specs.NewSoup.{new_place, new_places};
+ghost use Rattle.def_remesh.specs.Numberings.{AreStarts};
+ghost use Rattle.def_remesh.specs.Placings.{rim_at, ArePlaces, IsLayoutIn, LiesBetween};
+ghost use Rattle.def_remesh.specs.declared.limits.TheConstants.{MAX_NEW_FACES};
+ghost use Rattle.qm_place.specs.Spots.{inner_of};
+
+use crate::axes::place_there;
+use crate::find::{Near, arcs_end, find};
+use crate::sides::sides_of;
+use def_layout::TMesh;
+use def_remesh::{PlaceTables, Rim, Starts};
+use def_text::Micro;
+use qm_mesh::Mesh;
+use qm_reach::{inner_points, no_starts, push_start, short_lengths};
+use std::alloc::{AllocError, Global};
+use std::marker::Model;
+
+/// The places of the vertices of a new mesh. Contracts see the tables.
+#[derive(Debug, Drop)]
+pub struct Places {
+    tables: PlaceTables,
+}
+
+impl Model for Places {
+    ghost use Rattle.def_remesh.specs.declared.places.PlaceTables.{PlaceTables};
+
+    ghost Value = { PlaceTables };
+
+    ghost view = { λ p. p.tables };
+
+    ghost invariant = { λ p. Unit {0} };
+}
+
+/// What tells the places of the vertices of a layout with these lengths. Linear in the arcs, the patches and the new
+/// vertices on the sides of patches.
+pub fn placer(alloc: Global, mesh: &Mesh, t: &TMesh, x: &[u64]) -> Result<Places, AllocError>
+    requires layout { IsLayoutIn mesh.now (plan t.now) }
+    requires long { length x.now ≡ length t.now.arcs.items }
+    requires lengths { AreLengths (layout_of (plan t.now)) (lengths_in x.now) }
+    requires few { face_count (layout_of (plan t.now)) (lengths_in x.now) ≤ MAX_NEW_FACES }
+    ensures places { IfOk result (λ places. ArePlaces mesh.now (plan t.now) places) }
+    ensures lengths { IfOk result (λ places. places.lengths.items ≡ x.now) }
+{
+    let lengths = short_lengths(alloc, x)?;
+    let along = inner_points(alloc, &lengths)?;
+    let sides = sides_of(alloc, t, &lengths)?;
+    let inside = inner_starts(alloc, &sides.rims)?;
+    Ok(Places {
+        tables: PlaceTables {
+            lengths,
+            along,
+            inside,
+            rims: sides.rims,
+            parameters: sides.parameters,
+        },
+    })
+}
+
+/// The places of all vertices of a layout with these lengths, in the order of their numbers. Linear in them.
+pub fn place(
+    alloc: Global,
+    mesh: &Mesh,
+    t: &TMesh,
+    pos: &[[Micro; 3]],
+    x: &[u64],
+) -> Result<Vec<[Micro; 3]>, AllocError>
+    requires layout { IsLayoutIn mesh.now (plan t.now) }
+    requires positions { length pos.now ≡ vertex_count mesh.now }
+    requires long { length x.now ≡ length t.now.arcs.items }
+    requires lengths { AreLengths (layout_of (plan t.now)) (lengths_in x.now) }
+    requires few { face_count (layout_of (plan t.now)) (lengths_in x.now) ≤ MAX_NEW_FACES }
+    ensures value { IfOk result (λ places.
+        places.items ≡ new_places mesh.now (plan t.now) pos.now (lengths_in x.now)) }
+    ensures between { IfOk result (λ places.
+        (v : ℕ) → v < length places.items → LiesBetween pos.now (slice_index_or places.items v [])) }
+{
+    let placer = placer(alloc, mesh, t, x)?;
+    let vertices = placer.vertices(t);
+    let mut near = Near::new();
+    let mut places = Vec::with_capacity(alloc, vertices as usize)?;
+    for v in 0..vertices {
+        places.push(placer.place_near(mesh, t, pos, v, &mut near))?;
+    }
+    Ok(places)
+}
+
+/// Where the inner points of patches begin.
+fn inner_starts(alloc: Global, rims: &[Rim]) -> Result<Starts, AllocError>
+    requires some { (patch : ℕ) → patch < length rims.now
+        → (0 < (rim_at rims.now patch).wide) × (0 < (rim_at rims.now patch).high) }
+    requires small { count_below (inner_of rims.now) (length rims.now) < 2 ^ 32 }
+    ensures { IfOk result (λ starts. AreStarts (inner_of rims.now) (length rims.now) starts.begin.items) }
+{
+    let mut starts = no_starts(alloc, rims.len())?;
+    for rim in rims {
+        push_start(&mut starts, (rim.wide - 1) * (rim.high - 1))?;
+    }
+    Ok(starts)
+}
+
+impl Places {
+    /// How many new vertices there are.
+    fn vertices(&self, t: &TMesh) -> u32
+        requires { (faces : Faces) × ArePlaces faces (plan t.now) self.now }
+        ensures { result ≡ vertices (layout_of (plan t.now)) (lengths_in self.now.lengths.items) }
+    {
+        let inside = &self.tables.inside.begin;
+        arcs_end(&self.tables, t) + inside[inside.len() - 1]
+    }
+
+    /// The place of the new vertex v. Logarithmic.
+    pub fn place_at(&self, mesh: &Mesh, t: &TMesh, pos: &[[Micro; 3]], v: u32) -> [Micro; 3]
+        requires places { ArePlaces mesh.now (plan t.now) self.now }
+        requires positions { length pos.now ≡ vertex_count mesh.now }
+        requires vertex { v < vertices (layout_of (plan t.now)) (lengths_in self.now.lengths.items) }
+        ensures value { result ≡ new_place mesh.now (plan t.now) pos.now (lengths_in self.now.lengths.items) v }
+        ensures between { LiesBetween pos.now result }
+    {
+        let mut near = Near::new();
+        self.place_near(mesh, t, pos, v, &mut near)
+    }
+
+    /// The same, and where it was found. In constant time where it is near the last one, else logarithmic.
+    pub fn place_near(
+        &self,
+        mesh: &Mesh,
+        t: &TMesh,
+        pos: &[[Micro; 3]],
+        v: u32,
+        near: &mut Near,
+    ) -> [Micro; 3]
+        requires places { ArePlaces mesh.now (plan t.now) self.now }
+        requires positions { length pos.now ≡ vertex_count mesh.now }
+        requires vertex { v < vertices (layout_of (plan t.now)) (lengths_in self.now.lengths.items) }
+        ensures value { result ≡ new_place mesh.now (plan t.now) pos.now (lengths_in self.now.lengths.items) v }
+        ensures between { LiesBetween pos.now result }
+    {
+        place_there(mesh, pos, find(&self.tables, t, v, near))
+    }
+}
