@@ -1,23 +1,12 @@
 //! From the text of a mesh to that of its network.
 
-ghost use Rattle.std.specs.Prelude.{IfOk};
-ghost use Rattle.def_layout.specs.Plans.{plan};
-ghost use Rattle.def_written.specs.Laws.{AreQuads};
 ghost use Rattle.def_layoutnet.specs.LayoutNet.{AreSettings};
-ghost use Rattle.def_layoutnet.specs.MeshLayouts.{IsMeshLayout};
 
+use crate::layouts::read_layout;
 use def_flow::Settings;
-use def_layout::TMesh;
-use def_text::MAX_BYTES;
-use qm_grid::patches;
 use qm_io::Source;
 use qm_layoutnet::{NetFail, net_of};
-use qm_mesh::{Mesh, build};
 use qm_nettext::net_text;
-use qm_obj::read_soup;
-use qm_sing::sources;
-use qm_tmesh::layout;
-use qm_trace::trace;
 use std::alloc::{AllocError, Global};
 
 /// The text of the network of the mesh that a source gives, or how tangled it is; none where there is no mesh.
@@ -28,32 +17,12 @@ pub(crate) fn network_text<S: Source>(
 ) -> Result<Option<String>, AllocError>
     requires { AreSettings set.now }
 {
-    let Ok(soup) = read_soup(alloc, input, MAX_BYTES) else {
+    let Some(layout) = read_layout(alloc, input)? else {
         return Ok(None);
     };
-    let Ok(mesh) = build(alloc, soup.pos.len() as u32, &soup.faces) else {
-        return Ok(None);
-    };
-    let layout = layout_of(alloc, &mesh)?;
     match net_of(alloc, &layout, set) {
         Ok(net) => Ok(Some(net_text(alloc, &net)?)),
         Err(NetFail::Tangled { count }) => Ok(Some(format!(in alloc; "tangled {count}\n")?)),
         Err(NetFail::Memory) => Err(AllocError),
     }
 }
-
-/// The layout that the traced graph of a mesh cuts.
-fn layout_of(alloc: Global, mesh: &Mesh) -> Result<TMesh, AllocError>
-    ensures { IfOk result (λ t. IsMeshLayout (plan t)) }
-{
-    are_quads(mesh.faces());
-    let sources = sources(alloc, mesh)?;
-    let graph = trace(alloc, mesh, &sources)?;
-    let patches = patches(alloc, mesh, &graph)?;
-    layout(alloc, mesh, &graph, patches)
-}
-
-/// Faces of four corners are quads.
-fn are_quads(faces: &[[u32; 4]])
-    ensures { AreQuads faces.now }
-{}

@@ -60,3 +60,18 @@ fn settings_of(p: &str, q: &str, floor: &str, weight: &str) -> Option<Settings>
         weight,
     })
 }
+
+/// The lengths that the words tell, if each is a number.
+pub(crate) fn read_lengths(
+    alloc: Global,
+    words: &[String],
+) -> Result<Option<Vec<u64>>, AllocError> {
+    let mut lengths = Vec::with_capacity(alloc, words.len())?;
+    for word in words {
+        match word.parse::<u64>() {
+            Ok(length) => lengths.push(length)?,
+            Err(_) => return Ok(None),
+        }
+    }
+    Ok(Some(lengths))
+}

@@ -4,7 +4,7 @@ use Rattle.def_layout.specs.FaceLayouts.{IsLayoutOf}
 use Rattle.def_layout.specs.Plans.{plan}
 use Rattle.def_written.specs.Laws.{AreQuads}
 use Rattle.def_layoutnet.specs.MeshLayouts.{IsMeshLayout}
-use Rattle.qm_meshnets.proofs.network.layout_of.Goals as goal
+use Rattle.qm_meshnets.proofs.layouts.layout_of.Goals as goal
 
 pub returns : goal.returns
 returns c =
