@@ -1,0 +1,97 @@
+-- Multiples of the old lengths as lengths of a layout.
+use Rattle.std.proofs.Common.{◌≡◌, ℕ, ◌*◌, ◌^◌, ◌<◌, ◌≤◌, ◌⊎◌, List, [], ◌∷◌, length, map, get_or, inl, inr, refl, sym, ap, ◌∙◌, subst, arith}
+use Rattle.std.specs.List.{All}
+use Rattle.std.proofs.lemmas.Bool.{cases_lt}
+use Rattle.std.proofs.Math.ListN.{get_or-eq_default, get_or-map}
+use Rattle.std.proofs.lemmas.List.{length-map}
+use Rattle.std.proofs.lemmas.List as lists
+use Rattle.std.proofs.Math.Nat.{mul-le-mul_left, mul-le-mul_right}
+use Rattle.def_cut.specs.Cuts.{IsCut}
+use Rattle.def_cut.specs.FullCut.{is_on}
+use Rattle.def_layout.specs.Arcs.{dart_at, long_at, path, Path}
+use Rattle.def_layout.specs.Lengths.{Lengths, AreLengths}
+use Rattle.def_layout.specs.Nodes.{is_node, AreNodes}
+use Rattle.def_layout.specs.Plans.{Plan, layout_of, plan, vertex_at}
+use Rattle.def_layout.specs.declared.tmesh.TArc.{TArc}
+use Rattle.def_layout.specs.declared.tmesh.TMesh.{TMesh}
+use Rattle.def_layoutnet.specs.MeshLayouts.{IsMeshLayout}
+use Rattle.def_mesh.specs.Darts.{darts}
+use Rattle.def_mesh.specs.HalfEdges.{half_edges, IsQuadManifold}
+use Rattle.def_remesh.specs.NewPoints.{lengths_in, multiple_of}
+use Rattle.def_flow.specs.declared.limits.TheConstants.{MAX_LENGTH}
+use Rattle.def_run.specs.declared.command.TheConstants.{MAX_MULTIPLE}
+use Rattle.def_written.specs.Laws.{LiesIn}
+use Rattle.cut_laws.proofs.Pigeon.{no_more}
+use Rattle.mesh_laws.proofs.HalfEdges.{manifold_law}
+use Rattle.face_laws.proofs.FullCuts.{full_cut_law}
+use Rattle.layout_laws.proofs.FaceNodes.{are_nodes}
+use Rattle.plan_laws.proofs.ArcUses.{dart_low, same_dart}
+use Rattle.plan_laws.proofs.PlanLies.{plan_law}
+use Rattle.written_laws.proofs.Shape.{multiple_law}
+
+-- The lengths of the arcs of a layout, times a number.
+abbrev pub multiples_of : (by : ℕ) (arcs : List Path) → List ℕ
+multiples_of by arcs = map (λ (arc : Path). by * length arc.darts) arcs
+
+-- They are that multiple of the old lengths, also where there is no arc.
+pub multiple_is : (by : ℕ) (arcs : List Path) (lengths : List ℕ) → lengths ≡ multiples_of by arcs
+    → lengths_in lengths ≡ multiple_of by (long_at arcs)
+multiple_is by arcs lengths is = λ i a. (ap (λ (xs : List ℕ). get_or xs a 0) is ∙ each a) i
+  where
+    each : (a : ℕ) → get_or (multiples_of by arcs) a 0 ≡ by * long_at arcs a
+    each a =
+        let none : 0 ≡ by * 0 = omega arith in
+        ap (λ (d : ℕ). get_or (multiples_of by arcs) a d) none
+        ∙ get_or-map (λ (arc : Path). by * length arc.darts) arcs a (record { first = 0; last = 0; darts = [] })
+
+module _ (plan : Plan) (is : IsMeshLayout plan) where
+  laws : IsQuadManifold (half_edges is.faces)
+  laws = manifold_law is.faces is.mesh.manifold
+
+  cut : IsCut (half_edges is.faces) (is_on is.marks)
+  cut = ((full_cut_law is.faces is.marks is.mesh.manifold).0 is.cut).1
+
+  nodes : AreNodes (half_edges is.faces) (is_on is.marks) (is_node is.faces is.marks)
+  nodes = are_nodes is.faces laws is.marks cut
+
+  -- An arc has no dart twice.
+  arc_few : (a : ℕ) → a < length plan.arcs → long_at plan.arcs a ≤ darts is.faces
+  arc_few a low =
+      no_more (long_at plan.arcs a) (darts is.faces) (dart_at plan.arcs a) (λ d. d)
+      (λ i j li lj e. (same_dart (half_edges is.faces) laws (is_on is.marks) cut (is_node is.faces is.marks) nodes plan.arcs is.laid.arcs a a i j low low li lj e).1)
+      (λ k l. (dart_at plan.arcs a k, dart_low (half_edges is.faces) laws (is_on is.marks) cut (is_node is.faces is.marks) nodes plan.arcs is.laid.arcs a k low l, refl))
+
+  -- So no length is great.
+  long_few : (a : ℕ) → long_at plan.arcs a ≤ 2 ^ 23
+  long_few a = by_place (cases_lt a (length plan.arcs))
+    where
+      by_place : (a < length plan.arcs) ⊎ (length plan.arcs ≤ a) → long_at plan.arcs a ≤ 2 ^ 23
+      by_place (inl low) = omega (arith, arc_few a low, is.mesh.few)
+      by_place (inr high) =
+          let none : long_at plan.arcs a ≡ 0 =
+          ap (λ (p : Path). length p.darts) (get_or-eq_default plan.arcs (record { first = 0; last = 0; darts = [] }) high) in
+          omega (arith, none)
+
+  -- Nor is a multiple.
+  pub multiple_few : (by a : ℕ) → by ≤ MAX_MULTIPLE → multiple_of by (long_at plan.arcs) a ≤ MAX_LENGTH
+  multiple_few by a few =
+      let one : by * long_at plan.arcs a ≤ 1000 * long_at plan.arcs a = mul-le-mul_right (long_at plan.arcs a) few in
+      omega (arith, one, long_few a)
+
+  -- A multiple of the old lengths is equal on opposite sides, too.
+  pub are_multiples : (by : ℕ) → 0 < by → AreLengths (layout_of plan) (multiple_of by (long_at plan.arcs))
+  are_multiples by some =
+      (multiple_law is.faces (layout_of plan) (long_at plan.arcs) (vertex_at plan)
+      (plan_law is.faces is.marks plan is.mesh is.quads is.cut is.laid) by some).0
+
+-- Each arc is short.
+pub arcs_short : (t : TMesh) → IsMeshLayout (plan t) → All (λ (run : TArc). length run.darts.items < 2 ^ 32) t.arcs.items
+arcs_short t is k d l =
+    let long : long_at (plan t).arcs k ≡ length (get_or t.arcs.items k d).darts.items =
+    ap (λ (p : Path). length p.darts) (lists.get_or-map path t.arcs.items k d (record { first = 0; last = 0; darts = [] }) l) in
+    omega (arith, long, long_few (plan t) is k)
+
+-- The multiples of a layout's arcs.
+pub multiples_told : (by : ℕ) (arcs : List TArc) → map (λ (arc : TArc). by * length arc.darts.items) arcs ≡ multiples_of by (map path arcs)
+multiples_told by [] = refl
+multiples_told by (arc ∷ arcs) = ap (λ (xs : List ℕ). (by * length arc.darts.items) ∷ xs) (multiples_told by arcs)

@@ -1,0 +1,33 @@
+use Rattle.std.specs.Prelude.{OnErr, OnOk}
+use Rattle.std.proofs.Common.{subst}
+use Rattle.std.proofs.lemmas.Result.{on_err_weaker, on_ok_weaker}
+use Rattle.def_layout.specs.Lengths.{Lengths}
+use Rattle.def_layout.specs.Plans.{plan}
+use Rattle.def_remesh.specs.NewSoup.{new_soup}
+use Rattle.def_remesh.specs.Refined.{refine_head}
+use Rattle.def_text.specs.Canonical.{canonical_text}
+use Rattle.qm_output.proofs.Fronts.{of_error}
+use Rattle.qm_refine.proofs.text.put_refined.Goals as goal
+
+pub returns-in_err-put_head-clause-part : goal.returns-in_err-put_head-clause-part
+returns-in_err-put_head-clause-part g c =
+    let laws = g.met.T.Output in
+    of_error c.from_residual.result (laws.stops_before _ _ (refine_head c.args.by) _ c.in_err-put_head.ensures.part)
+
+pub returns-clause-whole : goal.returns-clause-whole
+returns-clause-whole g c =
+    let laws = g.met.T.Output in
+    on_ok_weaker c.put_new_mesh.result (laws.takes_more _ _ _ (refine_head c.args.by) _ c.in_ok-put_head.ensures.whole)
+    (subst
+    (λ (l : Lengths). OnOk c.put_new_mesh.result (g.T.Output.takes c.put_head.new.out c.put_new_mesh.new.out (canonical_text (new_soup c.args.soup.now (plan c.args.cut.now.layout) l))))
+    c.requires.lengths
+    c.put_new_mesh.ensures.whole)
+
+pub returns-clause-part : goal.returns-clause-part
+returns-clause-part g c =
+    let laws = g.met.T.Output in
+    on_err_weaker c.put_new_mesh.result (laws.stops_later _ _ _ (refine_head c.args.by) _ c.in_ok-put_head.ensures.whole)
+    (subst
+    (λ (l : Lengths). OnErr c.put_new_mesh.result (g.T.Output.stops c.put_head.new.out c.put_new_mesh.new.out (canonical_text (new_soup c.args.soup.now (plan c.args.cut.now.layout) l))))
+    c.requires.lengths
+    c.put_new_mesh.ensures.part)
