@@ -1,0 +1,162 @@
+-- What least lengths and the numbers of their new mesh make, together, of a layout that is remeshed.
+use Rattle.std.proofs.lemmas.Bool.{cases_lt}
+use Rattle.std.proofs.lemmas.List.{get_or_past}
+use Rattle.std.proofs.Common.{◌≡◌, ◌≤◌, ◌<◌, ◌⊎◌, inl, inr, ℕ, Bool, true, false, Some, None, List, length, sym, ◌∙◌, ap, subst, refl, arith}
+use Rattle.std.proofs.lemmas.Int.{ints}
+use Rattle.std.specs.Prelude.{slice_index, IsErrOf, Result, Err}
+use Rattle.def_certtext.specs.CertLines.{lists_of, Lists}
+use Rattle.def_certtext.specs.Settings.{AreInRange}
+use Rattle.def_flow.specs.Accepted.{certificate}
+use Rattle.def_flow.specs.Admissible.{AreLengths, IsEven}
+use Rattle.def_flow.specs.Descent.{IsSolution}
+use Rattle.def_flow.specs.Network.{Network, tangle_number, IsWithinBounds}
+use Rattle.def_flow.specs.declared.cert.Cert.{Cert}
+use Rattle.def_flow.specs.declared.limits.TheConstants.{MAX_FLOOR, MAX_LENGTH, MAX_TANGLE}
+use Rattle.def_flow.specs.declared.net.Settings.{Settings}
+use Rattle.def_layout.specs.Arcs.{long_at}
+use Rattle.def_layout.specs.Lengths.{AreLengths as AreArcLengths}
+use Rattle.def_layout.specs.Plans.{Plan, layout_of}
+use Rattle.def_layoutnet.specs.LayoutNet.{IsNetOf}
+use Rattle.def_layoutnet.specs.MeshLayouts.{IsMeshLayout}
+use Rattle.def_written.specs.Edges.{IsDoubledAt, IsFirstDoubled, IsUndoubled}
+use Rattle.def_written.specs.NewFaces.{face_count}
+use Rattle.def_remesh.specs.Keeping.{IsKept}
+use Rattle.def_remesh.specs.NewPoints.{lengths_in}
+use Rattle.def_remesh.specs.Numberings.{IsNumbering}
+use Rattle.def_remesh.specs.Refusals.{AreTooFine}
+use Rattle.def_remesh.specs.Remeshed.{AreCoarse, AreDoubled, AreKept, IsCertified, used, with_floor}
+use Rattle.def_remesh.specs.Stitched.{AreLong, AreSafe, IsUnstitched, KeepsShapes}
+use Rattle.def_remesh.specs.declared.fail.StitchFail.{StitchFail}
+use Rattle.def_remesh.specs.declared.fail.StitchFail.TheVariants as fails
+use Rattle.def_remesh.specs.declared.limits.TheConstants.{MAX_NEW_FACES}
+use Rattle.def_remesh.specs.declared.tables.Tables.{Tables}
+use Rattle.remesh_laws.proofs.Certified.{certified_lengths}
+use Rattle.remesh_laws.proofs.Solved.{certified}
+
+-- A network of a layout, within bounds and not too tangled.
+pub record IsNetFor (plan : Plan) (settings : Settings) (net : Network) : Type 0 where
+  pub mesh : IsMeshLayout plan
+  pub floor : 1 ≤ settings.floor
+  pub is : IsNetOf (layout_of plan) (long_at plan.arcs) settings net
+  pub bounds : IsWithinBounds net
+  pub untangled : tangle_number net ≤ MAX_TANGLE
+
+-- Its solution is certified.
+pub solved : (plan : Plan) (settings : Settings) (net : Network) (cert : Cert) → IsNetFor plan settings net → IsSolution net (certificate cert)
+    → IsCertified plan settings (lists_of cert)
+solved plan settings net cert for is = certified plan settings net (lists_of cert) for.mesh for.is for.bounds for.untangled is
+
+-- So its lengths are lengths of the layout, also under another name.
+pub are_lengths : (plan : Plan) (settings : Settings) (net : Network) (cert : Cert) (xs : List ℕ) → IsNetFor plan settings net
+    → IsSolution net (certificate cert) → xs ≡ cert.x.items → AreArcLengths (layout_of plan) (lengths_in xs)
+are_lengths plan settings net cert xs for is same =
+    subst (λ (ys : List ℕ). AreArcLengths (layout_of plan) (lengths_in ys)) (sym same)
+    (certified_lengths plan settings (lists_of cert) for.floor (solved plan settings net cert for is))
+
+-- The network with floor 3.
+pub raised_net : (plan : Plan) (settings : Settings) (net other : Network) → IsNetFor plan settings net → other ≡ record net { floor = 3 }
+    → IsNetFor plan (with_floor settings 3) other
+raised_net plan settings net other for same = subst (IsNetFor plan (with_floor settings 3)) (sym same) (record {
+  mesh = for.mesh;
+  floor = omega arith;
+  is = record {
+    nodes = for.is.nodes;
+    floor = refl;
+    p = for.is.p;
+    q = for.is.q;
+    long = for.is.long;
+    olds = for.is.olds;
+    weights = for.is.weights;
+    left = for.is.left;
+    right = for.is.right;
+    alone = for.is.alone;
+  };
+  bounds = record {
+    floor_low = omega arith;
+    floor_high = omega arith;
+    p_low = for.bounds.p_low;
+    p_high = for.bounds.p_high;
+    q_low = for.bounds.q_low;
+    q_high = for.bounds.q_high;
+    arcs = for.bounds.arcs;
+    few = for.bounds.few;
+  };
+  untangled = for.untangled;
+})
+
+pub raised_even : (net other : Network) → IsEven net → other ≡ record net { floor = 3 } → IsEven other
+raised_even net other even same = subst IsEven (sym same) (record { high = even.high; small = even.small; balanced = even.balanced })
+
+-- What a numbering at these lengths shows.
+pub record IsNumbered (plan : Plan) (xs : List ℕ) (tables : Tables) : Type 0 where
+  pub numbering : IsNumbering plan tables
+  pub lengths : tables.lengths.items ≡ xs
+  pub undoubled : IsUndoubled (layout_of plan) (lengths_in xs)
+  pub shape : KeepsShapes plan (lengths_in xs)
+
+coarse_is : (plan : Plan) (xs : List ℕ) (tables : Tables) → IsNumbered plan xs tables → AreCoarse plan xs
+coarse_is plan xs tables is = subst (AreCoarse plan) is.lengths is.numbering.few
+
+keeps : (plan : Plan) (settings : Settings) (auto : Bool) (first : Lists) (third : _) (tables : Tables) → AreKept plan settings auto first third
+    → IsNumbered plan (used first third).x tables → IsKept plan settings auto first third tables
+keeps plan settings auto first third tables kept is = record {
+  kept = kept;
+  coarse = coarse_is plan (used first third).x tables is;
+  undoubled = is.undoubled;
+  shape = is.shape;
+  numbering = is.numbering;
+  lengths = is.lengths;
+}
+
+pub keeps_first : (plan : Plan) (settings : Settings) (auto : Bool) (cert : Cert) (xs : List ℕ) (tables : Tables) → xs ≡ cert.x.items
+    → IsCertified plan settings (lists_of cert) → IsNumbered plan xs tables → IsKept plan settings auto (lists_of cert) None tables
+keeps_first plan settings auto cert xs tables same certified is =
+    keeps plan settings auto (lists_of cert) None tables certified (subst (λ (ys : List ℕ). IsNumbered plan ys tables) same is)
+
+pub keeps_third : (plan : Plan) (settings : Settings) (first third : Cert) (xs : List ℕ) (tables : Tables) → xs ≡ third.x.items
+    → AreKept plan settings true (lists_of first) (Some (lists_of third)) → IsNumbered plan xs tables
+    → IsKept plan settings true (lists_of first) (Some (lists_of third)) tables
+keeps_third plan settings first third xs tables same kept is =
+    keeps plan settings true (lists_of first) (Some (lists_of third)) tables kept (subst (λ (ys : List ℕ). IsNumbered plan ys tables) same is)
+
+-- A refusal of lengths, of this kind, is one of the same lengths under another name.
+pub too_fine : (plan : Plan) (xs ys : List ℕ) (fail : StitchFail) (faces : ℕ) → xs ≡ ys → fail ≡ fails.TooFine faces
+    → IsUnstitched (layout_of plan) (lengths_in xs) fail → AreTooFine plan ys faces
+too_fine plan xs ys fail faces same is refused =
+    let told : IsUnstitched (layout_of plan) (lengths_in xs) (fails.TooFine faces) = subst (IsUnstitched (layout_of plan) (lengths_in xs)) is refused in
+    subst (λ (zs : List ℕ). AreTooFine plan zs faces) same (told.0, omega (arith, told.0, told.1))
+
+pub doubled_first : (plan : Plan) (xs ys : List ℕ) (fail : StitchFail) (u v : ℕ) → xs ≡ ys → fail ≡ fails.Doubled u v
+    → IsUnstitched (layout_of plan) (lengths_in xs) fail → AreCoarse plan ys × IsFirstDoubled (layout_of plan) (lengths_in ys) u v
+doubled_first plan xs ys fail u v same is refused =
+    subst (λ (zs : List ℕ). AreCoarse plan zs × IsFirstDoubled (layout_of plan) (lengths_in zs) u v) same
+    (subst (IsUnstitched (layout_of plan) (lengths_in xs)) is refused)
+
+pub doubled_some : (plan : Plan) (ys : List ℕ) (u v : ℕ) → IsFirstDoubled (layout_of plan) (lengths_in ys) u v → AreDoubled plan ys
+doubled_some plan ys u v first = (u, v, first.doubled)
+
+-- No length is too great, also beyond the last arc.
+pub bounded : (net : Network) (cert : Cert) (xs : List ℕ) → IsSolution net (certificate cert) → xs ≡ cert.x.items → (arc : ℕ)
+    → lengths_in xs arc ≤ MAX_LENGTH
+bounded net cert xs is same arc = subst (λ (ys : List ℕ). lengths_in ys arc ≤ MAX_LENGTH) (sym same) (by_arc (cases_lt arc (length cert.x.items)))
+  where
+    by_arc : (arc < length cert.x.items) ⊎ (length cert.x.items ≤ arc) → lengths_in cert.x.items arc ≤ MAX_LENGTH
+    by_arc (inl low) = is.lengths.small arc low
+    by_arc (inr high) = omega (arith, get_or_past cert.x.items arc 0 high)
+
+-- Lengths for floor 3 double no edge, so lengths that double one are for a lower floor.
+pub low_floor : {T : Type 0} (plan : Plan) (settings : Settings) (cert : Cert) (xs : List ℕ) (result : Result T StitchFail) (fail : StitchFail) (u v : ℕ)
+    → xs ≡ cert.x.items → IsCertified plan settings (lists_of cert)
+    → (AreSafe plan (lengths_in xs) → (a b : ℕ) → ¬ IsErrOf result (fails.Doubled a b))
+    → result ≡ Err fail → fail ≡ fails.Doubled u v → settings.floor < MAX_FLOOR
+low_floor plan settings cert xs result fail u v same is safe told doubled = by_floor (cases_lt settings.floor MAX_FLOOR)
+  where
+    long : MAX_FLOOR ≤ settings.floor → AreLong plan (lengths_in cert.x.items)
+    long high a low =
+        let above = is.accepted.admissible.high a (omega (arith, low, is.of_layout.long)) in
+        omega (arith, ints, above, high, is.of_layout.floor)
+
+    by_floor : (settings.floor < MAX_FLOOR) ⊎ (MAX_FLOOR ≤ settings.floor) → settings.floor < MAX_FLOOR
+    by_floor (inl low) = low
+    by_floor (inr high) = absurd (safe (inl (subst (λ (ys : List ℕ). AreLong plan (lengths_in ys)) (sym same) (long high))) u v
+        (told ∙ ap Err doubled))

@@ -1,0 +1,66 @@
+use Rattle.def_flow.specs.Network.{network}
+use Rattle.std.proofs.Common.{ℕ, sym, subst}
+use Rattle.def_layout.specs.Plans.{plan}
+use Rattle.def_remesh.specs.Refusals.{AreTooFine}
+use Rattle.def_remesh.specs.Remeshed.{with_floor}
+use Rattle.qm_remesh.proofs.Keeps.{are_lengths, bounded, keeps_third, raised_even, raised_net, solved, too_fine}
+use Rattle.qm_remesh.proofs.keeping.raise.Goals as goal
+
+pub solve-requires-clause-even : goal.solve-requires-clause-even
+solve-requires-clause-even c = raised_even (network c.args.net) _ c.requires.even c.with_floor-raised.ensures
+
+pub plan-requires-clause-lengths : goal.plan-requires-clause-lengths
+plan-requires-clause-lengths c =
+    are_lengths _ (with_floor c.args.settings 3) (network c.with_floor-raised.result) c.in-Ok.third _
+    (raised_net _ c.args.settings (network c.args.net) (network c.with_floor-raised.result) (record {
+      mesh = c.requires.layout;
+      floor = c.requires.settings.floor.low;
+      is = c.requires.net;
+      bounds = c.requires.bounds;
+      untangled = c.requires.tangle;
+    }) c.with_floor-raised.ensures) c.in-Ok.ensures c.deref.ensures.value
+
+pub plan-requires-clause-bounded : goal.plan-requires-clause-bounded
+plan-requires-clause-bounded c =
+    bounded (network c.with_floor-raised.result) c.in-Ok.third _ c.in-Ok.ensures c.deref.ensures.value
+
+pub returns-in-Ok-plan-clause-kept : goal.returns-in-Ok-plan-clause-kept
+returns-in-Ok-plan-clause-kept c =
+    keeps_third _ _ c.args.first c.in-Ok.third _ _ c.deref.ensures.value (
+      c.requires.certified,
+      c.requires.coarse,
+      c.requires.doubled,
+      solved _ (with_floor c.args.settings 3) (network c.with_floor-raised.result) c.in-Ok.third
+          (raised_net _ c.args.settings (network c.args.net) (network c.with_floor-raised.result) (record {
+            mesh = c.requires.layout;
+            floor = c.requires.settings.floor.low;
+            is = c.requires.net;
+            bounds = c.requires.bounds;
+            untangled = c.requires.tangle;
+          }) c.with_floor-raised.ensures) c.in-Ok.ensures,
+    )
+    (record {
+      numbering = c.in-Ok-plan.ensures.numbering;
+      lengths = c.in-Ok-plan.ensures.lengths;
+      undoubled = c.in-Ok-plan.ensures.undoubled;
+      shape = c.in-Ok-plan.ensures.shape;
+    })
+
+pub returns-in-Err-TooFine-clause-refused : goal.returns-in-Err-TooFine-clause-refused
+returns-in-Err-TooFine-clause-refused c = (
+  (
+    c.requires.certified,
+    c.requires.coarse,
+    c.requires.doubled,
+    solved _ (with_floor c.args.settings 3) (network c.with_floor-raised.result) c.in-Ok.third
+        (raised_net _ c.args.settings (network c.args.net) (network c.with_floor-raised.result) (record {
+          mesh = c.requires.layout;
+          floor = c.requires.settings.floor.low;
+          is = c.requires.net;
+          bounds = c.requires.bounds;
+          untangled = c.requires.tangle;
+        }) c.with_floor-raised.ensures) c.in-Ok.ensures,
+  ),
+  subst (λ (n : ℕ). AreTooFine (plan c.args.t.now) c.in-Ok.third.x.items n) (sym c.in-Err-TooFine.faces-is)
+      (too_fine _ _ _ c.in-Err-TooFine.field-0 _ c.deref.ensures.value c.in-Err-TooFine.field-0-is c.in-Err-TooFine.ensures.refused),
+)

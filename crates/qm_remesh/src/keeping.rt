@@ -1,0 +1,117 @@
+//! Least lengths for a layout, for the floor that was given or for one that rises where it must.
+
+ghost use Rattle.std.specs.Prelude.{◌≡◌, ◌≤◌, IfOk, IfErr, true};
+ghost use Rattle.std.specs.Option.{option_map};
+ghost use Rattle.def_certtext.specs.CertLines.{lists_of};
+ghost use Rattle.def_certtext.specs.Settings.{AreInRange};
+ghost use Rattle.def_flow.specs.Admissible.{IsEven};
+ghost use Rattle.def_flow.specs.Network.{network, tangle_number, IsWithinBounds};
+ghost use Rattle.def_layout.specs.Arcs.{long_at};
+ghost use Rattle.def_layout.specs.Plans.{layout_of, plan as plan_of};
+ghost use Rattle.def_layoutnet.specs.LayoutNet.{IsNetOf};
+ghost use Rattle.def_layoutnet.specs.MeshLayouts.{IsMeshLayout};
+ghost use Rattle.def_remesh.specs.Keeping.{IsKept};
+ghost use Rattle.def_remesh.specs.Refusals.{IsLayoutFail};
+ghost use Rattle.def_remesh.specs.Remeshed.{AreCoarse, AreDoubled, IsCertified};
+
+use def_certtext::Asked;
+use def_flow::{Cert, MAX_FLOOR, MAX_TANGLE, Net, Settings};
+use def_layout::TMesh;
+use def_layoutnet::NetFail;
+use def_remesh::{Kept, LayoutFail, StitchFail};
+use qm_layoutnet::net_of;
+use qm_remeshed::Remesh;
+use qm_solve::solve;
+use qm_stitch::plan;
+use std::alloc::Global;
+
+/// Finds least lengths for a layout, and numbers the new mesh that they give. With `auto` they are those for floor 1, or
+/// those for floor 3 where the first double an edge.
+///
+/// The time is that of `solve` and, beyond it, near linear in the sizes of the old and the new mesh.
+pub fn keep(alloc: Global, t: &TMesh, asked: Asked) -> Result<Remesh, LayoutFail>
+    requires layout { IsMeshLayout (plan_of t.now) }
+    requires settings { AreInRange asked.settings asked.auto }
+    ensures kept { IfOk result (λ kept. IsKept (plan_of t.now) asked.settings asked.auto
+        (lists_of kept.first) (option_map lists_of kept.third) kept.numbering) }
+    ensures asked { IfOk result (λ kept. kept.asked ≡ asked) }
+    ensures refused { IfErr result (IsLayoutFail (plan_of t.now) asked.settings asked.auto) }
+{
+    let net = match net_of(alloc, t, &asked.settings) {
+        Ok(net) => net,
+        Err(NetFail::Tangled { count }) => return Err(LayoutFail::Tangled { count }),
+        Err(NetFail::Memory) => return Err(LayoutFail::Memory),
+    };
+    let Ok(first) = solve(alloc, &net) else {
+        return Err(LayoutFail::Memory);
+    };
+    match plan(alloc, t, &first.x) {
+        Ok(numbering) => Ok(Remesh {
+            asked,
+            first,
+            third: None,
+            numbering,
+        }),
+        Err(StitchFail::TooFine { faces }) => Err(LayoutFail::TooFine {
+            faces,
+            kept: Kept::Least { cert: first },
+        }),
+        Err(StitchFail::Doubled { .. }) if asked.auto => {
+            raise(alloc, t, asked.settings, net, first)
+        }
+        Err(StitchFail::Doubled { u, v }) => Err(LayoutFail::Doubled { u, v, cert: first }),
+        Err(StitchFail::Memory) => Err(LayoutFail::Memory),
+    }
+}
+
+/// The same with `auto`, where the lengths for floor 1 double an edge: those for floor 3 double none.
+fn raise(
+    alloc: Global,
+    t: &TMesh,
+    settings: Settings,
+    net: Net,
+    first: Cert,
+) -> Result<Remesh, LayoutFail>
+    requires layout { IsMeshLayout (plan_of t.now) }
+    requires settings { AreInRange settings true }
+    requires net { IsNetOf (layout_of (plan_of t.now)) (long_at (plan_of t.now).arcs) settings (network net) }
+    requires even { IsEven (network net) }
+    requires bounds { IsWithinBounds (network net) }
+    requires tangle { tangle_number (network net) ≤ MAX_TANGLE }
+    requires certified { IsCertified (plan_of t.now) settings (lists_of first) }
+    requires coarse { AreCoarse (plan_of t.now) first.x.items }
+    requires doubled { AreDoubled (plan_of t.now) first.x.items }
+    ensures kept { IfOk result (λ kept. IsKept (plan_of t.now) settings true
+        (lists_of kept.first) (option_map lists_of kept.third) kept.numbering) }
+    ensures asked { IfOk result (λ kept. kept.asked ≡ record { settings = settings; auto = true }) }
+    ensures refused { IfErr result (IsLayoutFail (plan_of t.now) settings true) }
+{
+    let raised = with_floor(net, MAX_FLOOR);
+    let Ok(third) = solve(alloc, &raised) else {
+        return Err(LayoutFail::Memory);
+    };
+    match plan(alloc, t, &third.x) {
+        Ok(numbering) => Ok(Remesh {
+            asked: Asked {
+                settings,
+                auto: true,
+            },
+            first,
+            third: Some(third),
+            numbering,
+        }),
+        Err(StitchFail::TooFine { faces }) => Err(LayoutFail::TooFine {
+            faces,
+            kept: Kept::Raised { first, cert: third },
+        }),
+        Err(StitchFail::Doubled { .. }) => unreachable!(),
+        Err(StitchFail::Memory) => Err(LayoutFail::Memory),
+    }
+}
+
+/// The network with another floor.
+fn with_floor(net: Net, floor: u32) -> Net
+    ensures { network result ≡ record (network net) { floor = floor } }
+{
+    Net { floor, ..net }
+}

@@ -1,0 +1,8 @@
+//! The lengths that a remesh keeps: least ones for the floor that was given, or for one that rises where it must.
+#![tactic(auto)]
+
+mod keeping;
+
+pub use def_remesh::{Kept, LayoutFail};
+pub use keeping::keep;
+pub use qm_remeshed::Remesh;

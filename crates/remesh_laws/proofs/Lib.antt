@@ -1,0 +1,7 @@
+pub mod Certified
+pub mod Fits
+pub mod Pairs
+pub mod Printable
+pub mod Solved
+pub mod Tails
+pub mod Told

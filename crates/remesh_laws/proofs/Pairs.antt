@@ -1,0 +1,27 @@
+-- A text is a checked pair in one way: its lines from the head line on tell how the remesh was made, and no other way.
+use Rattle.std.proofs.Common.{◌≡◌, ◌↔◌, ℕ, ◌+◌, [], drop, slice_index_or, ◌∙◌, ap, subst}
+use Rattle.def_certtext.specs.Laws.{TellsOnly}
+use Rattle.def_certtext.specs.Reading.{Made, TellHow}
+use Rattle.def_io.specs.Bytes.{Bytes, Lines}
+use Rattle.def_io.specs.Lines.{lines_of, tail_of}
+use Rattle.def_remesh.specs.TextLaws.{made_by, PairLaw}
+use Rattle.remesh_laws.proofs.Tails.{behind-drop, first-drop, lines-tail}
+use Rattle.remesh_laws.proofs.Told.{told_law}
+
+-- What a tail tells is what the last lines tell.
+pub tail_told : (bytes : Bytes) (line : ℕ) (by : Made) → TellsOnly (tail_of line bytes) by → (made : Made)
+    → TellHow (slice_index_or (lines_of bytes) line []) (drop (line + 1) (lines_of bytes)) made ↔ (made ≡ by)
+tail_told bytes line by only made =
+    subst (λ (head : Bytes). TellHow head (drop (line + 1) (lines_of bytes)) made ↔ (made ≡ by)) head
+    (subst (λ (behind : Lines). TellHow (slice_index_or (lines_of (tail_of line bytes)) 0 []) behind made ↔ (made ≡ by)) behind (only made))
+  where
+    head : slice_index_or (lines_of (tail_of line bytes)) 0 [] ≡ slice_index_or (lines_of bytes) line []
+    head = ap (λ (ls : Lines). slice_index_or ls 0 []) (lines-tail line bytes) ∙ first-drop line (lines_of bytes)
+
+    behind : drop 1 (lines_of (tail_of line bytes)) ≡ drop (line + 1) (lines_of bytes)
+    behind = ap (λ (ls : Lines). drop 1 ls) (lines-tail line bytes) ∙ behind-drop line (lines_of bytes)
+
+pub pair_law : PairLaw
+pair_law bytes pair solid made =
+    tail_told bytes pair.line (made_by pair.settings pair.auto pair.remeshed.first pair.remeshed.third)
+    (told_law pair.settings pair.auto pair.soup (tail_of pair.line bytes) pair.in_range solid pair.remeshed) made

@@ -1,0 +1,159 @@
+-- The soup of a new mesh can be written: its coordinates are in range, and its faces are quads over few vertices.
+use Rattle.std.proofs.Common.{◌≡◌, ◌⊎◌, ℕ, zero, suc, ◌+◌, ◌-◌, ◌*◌, ◌^◌, ◌<◌, ◌≤◌, Bool, true, not, List, [], ◌∷◌, length, refl, sym, ◌∙◌, ap, subst, inl, inr, arith, pos, negsuc, neg_ℤ, ℤ, ◌≤ℤ◌}
+use Rattle.std.specs.Prelude.{nat_lt, unsigned_abs, slice_index_or}
+use Rattle.std.specs.List.{list_all, range_with_len}
+use Rattle.std.proofs.lemmas.Bool.{and_from, and_parts, cases_lt, cond-false, cond-true, false≢true, le-ltb, lt-ltb}
+use Rattle.std.proofs.lemmas.Bool.Decides.{Decides-eqb}
+use Rattle.std.proofs.lemmas.Int.{ints}
+use Rattle.std.proofs.lemmas.List.FromFn.{get_or-range_with_len, length-range_with_len}
+use Rattle.std.proofs.lemmas.List.Folds.{list_all-map}
+use Rattle.std.proofs.lemmas.List.Sums.{list_all-from_AllPass}
+use Rattle.qm_laws.proofs.Runs.{run_here, IsInRun}
+use Rattle.def_math.specs.Runs.{run_at}
+use Rattle.def_mesh.specs.Faces.{Faces}
+use Rattle.def_text.specs.Decimal.{is_far}
+use Rattle.def_text.specs.FaceSet.{FaceSet}
+use Rattle.def_text.specs.Laws.{is_position, is_quad}
+use Rattle.def_text.specs.Types.{Positions}
+use Rattle.def_certtext.specs.Laws.{IsPrintable}
+use Rattle.def_layout.specs.Arcs.{long_at}
+use Rattle.def_layout.specs.Layouts.{Layout, Way, south, east, north, west}
+use Rattle.def_layout.specs.Lengths.{Lengths, wide, high, AreLengths}
+use Rattle.def_layout.specs.Plans.{Plan, layout_of}
+use Rattle.def_written.specs.NewFaces.{face_count, from, new_face, dart_of, vertex_of}
+use Rattle.def_written.specs.Numbers.{before_arc, before_patch, vertices}
+use Rattle.def_written.specs.Points.{IsPoint}
+use Rattle.written_laws.proofs.EdgeNumbers.{in_rows}
+use Rattle.def_cut.specs.Traced.{traced_marks}
+use Rattle.def_layout.specs.FaceLayouts.{IsLayoutOf}
+use Rattle.def_layoutnet.specs.MeshLayouts.{IsMeshLayout}
+use Rattle.def_text.specs.declared.limits.TheConstants.{MAX_MICRO}
+use Rattle.def_written.specs.Laws.{AreQuads}
+use Rattle.def_remesh.specs.TextLaws.{IsSolid}
+use Rattle.def_remesh.specs.declared.limits.TheConstants.{MAX_NEW_FACES}
+use Rattle.qm_reach.proofs.Bounds.{vertices_few}
+use Rattle.qm_reach.proofs.Whole.{laid_of, lengths_of}
+use Rattle.site_laws.proofs.Laws.{graph_law}
+use Rattle.written_laws.proofs.Between.{between_law}
+use Rattle.written_laws.proofs.Borders.{from_is}
+use Rattle.written_laws.proofs.Numbers.{number_low}
+use Rattle.written_laws.proofs.NewDarts.{cell_is}
+use Rattle.def_remesh.specs.NewPoints.{along_arcs, inside_patches, old_vertex, point_at}
+use Rattle.def_remesh.specs.NewSoup.{coordinate, new_coordinate, new_place, new_soup}
+
+-- What holds at each number of a range passes.
+passes_range : (p : ℕ → Bool) (n : ℕ) → ((k : ℕ) → k < n → p k ≡ true) → list_all p (range_with_len 0 n) ≡ true
+passes_range p n each = list_all-from_AllPass p (range_with_len 0 n)
+    (λ k x l. let low : k < n = omega (arith, l, length-range_with_len 0 n) in
+    ap p (get_or-range_with_len 0 n k x low ∙ omega arith) ∙ each k low)
+
+-- The point with a number is a point.
+pub point_is : (l : Layout) (x : Lengths) (v : ℕ) → v < vertices l x → IsPoint l x (point_at l x v)
+point_is l x v low = by_node (cases_lt v l.nodes)
+  where
+    ends : ℕ
+    ends = l.nodes + before_arc x l.arcs
+
+    on_arc : (t : ℕ) → t < before_arc x l.arcs → IsPoint l x (along_arcs l x t)
+    on_arc t l_t =
+        let here = run_here (λ b. x b - 1) l.arcs t l_t in (here.low, omega arith, omega (arith, here.inside))
+
+    in_patch : (t : ℕ) → t < before_patch l x l.patches → IsPoint l x (inside_patches l x t)
+    in_patch t l_t =
+        let p : ℕ = run_at (before_patch l x) l.patches t in
+        let here : IsInRun (λ q. (wide l x q - 1) * (high l x q - 1)) l.patches t p (t - before_patch l x p) =
+        run_here (λ q. (wide l x q - 1) * (high l x q - 1)) l.patches t l_t in
+        let at = in_rows (wide l x p - 1) (high l x p - 1) (t - before_patch l x p) (omega (arith, here.inside)) in
+        (here.low, omega arith, omega (arith, at.0), omega arith, omega (arith, at.1))
+
+    by_arc : l.nodes ≤ v → (v < ends) ⊎ (ends ≤ v) → IsPoint l x (point_at l x v)
+    by_arc le (inl lt) =
+        subst (IsPoint l x) (sym (cond-false _ _ _ (le-ltb v l.nodes le) ∙ cond-true _ _ _ (lt-ltb v ends lt))) (on_arc (v - l.nodes) (omega (arith, le, lt)))
+    by_arc le (inr ge) =
+        subst (IsPoint l x) (sym (cond-false _ _ _ (le-ltb v l.nodes le) ∙ cond-false _ _ _ (le-ltb v ends ge))) (in_patch (v - ends) (omega (arith, ge, low)))
+
+    by_node : (v < l.nodes) ⊎ (l.nodes ≤ v) → IsPoint l x (point_at l x v)
+    by_node (inl lt) = subst (IsPoint l x) (sym (cond-true _ _ _ (lt-ltb v l.nodes lt))) lt
+    by_node (inr le) = by_arc le (cases_lt v ends)
+
+-- A number within the range is not far, and a number that is not far is within it.
+near : (z : ℤ) → neg_ℤ (pos MAX_MICRO) ≤ℤ z → z ≤ℤ pos MAX_MICRO → not (is_far z) ≡ true
+near (pos a) low high = ap not (le-ltb MAX_MICRO a (omega (arith, ints, high)))
+near (negsuc a) low high = ap not (le-ltb MAX_MICRO (suc a) (omega (arith, ints, low)))
+
+by_size : (z : ℤ) → unsigned_abs z ≤ MAX_MICRO → (neg_ℤ (pos MAX_MICRO) ≤ℤ z) × (z ≤ℤ pos MAX_MICRO)
+by_size (pos a) fine = (omega (arith, ints), omega (arith, ints, fine))
+by_size (negsuc a) fine = (omega (arith, ints, fine), omega (arith, ints))
+
+within : (z : ℤ) → not (is_far z) ≡ true → (neg_ℤ (pos MAX_MICRO) ≤ℤ z) × (z ≤ℤ pos MAX_MICRO)
+within z is = by_test (cases_lt MAX_MICRO (unsigned_abs z))
+  where
+    by_test : (MAX_MICRO < unsigned_abs z) ⊎ (unsigned_abs z ≤ MAX_MICRO) → (neg_ℤ (pos MAX_MICRO) ≤ℤ z) × (z ≤ℤ pos MAX_MICRO)
+    by_test (inl far) = absurd (false≢true (sym (ap not (lt-ltb MAX_MICRO (unsigned_abs z) far)) ∙ is))
+    by_test (inr fine) = by_size z fine
+
+-- An entry of a list of numbers that are not far, or 0, is within the range.
+entry_within : (p : List ℤ) (k : ℕ) → list_all (λ z. not (is_far z)) p ≡ true
+    → (neg_ℤ (pos MAX_MICRO) ≤ℤ slice_index_or p k (pos 0)) × (slice_index_or p k (pos 0) ≤ℤ pos MAX_MICRO)
+entry_within [] k all = (omega (arith, ints), omega (arith, ints))
+entry_within (z ∷ p) zero all = within z (and_parts _ _ all).0
+entry_within (z ∷ p) (suc k) all = entry_within p k (and_parts _ _ all).1
+
+-- So is each coordinate in a list of positions.
+coordinate_within : (places : Positions) (v axis : ℕ) → list_all is_position places ≡ true
+    → (neg_ℤ (pos MAX_MICRO) ≤ℤ slice_index_or (slice_index_or places v []) axis (pos 0))
+    × (slice_index_or (slice_index_or places v []) axis (pos 0) ≤ℤ pos MAX_MICRO)
+coordinate_within [] v axis all = (omega (arith, ints), omega (arith, ints))
+coordinate_within (p ∷ places) zero axis all = entry_within p axis (and_parts _ _ (and_parts _ _ all).0).1
+coordinate_within (p ∷ places) (suc v) axis all = coordinate_within places v axis (and_parts _ _ all).1
+
+-- Quads, as a test of the list and of each face.
+pub quads_of : (faces : Faces) → list_all is_quad faces ≡ true → AreQuads faces
+quads_of [] all f low = absurd (omega (arith, low))
+quads_of (face ∷ faces) all zero low = (Decides-eqb (length face) 4).0 (and_parts _ _ all).0
+quads_of (face ∷ faces) all (suc f) low = quads_of faces (and_parts _ _ all).1 f (omega (arith, low))
+
+-- The layout that a traced graph cuts is the layout of a mesh.
+pub mesh_layout : (soup : FaceSet) (plan : Plan) → IsSolid soup → IsLayoutOf soup.faces (traced_marks soup.faces) plan → IsMeshLayout plan
+mesh_layout soup plan solid cut = record {
+  faces = soup.faces;
+  mesh = solid.mesh;
+  quads = quads_of soup.faces solid.printable.quads;
+  marks = traced_marks soup.faces;
+  cut = (graph_law soup.faces solid.mesh.manifold).1;
+  laid = cut;
+}
+
+module _ (soup : FaceSet) (solid : IsSolid soup) (plan : Plan) (is : IsMeshLayout plan) (x : Lengths) (len : AreLengths (layout_of plan) x)
+    (few : face_count (layout_of plan) x ≤ MAX_NEW_FACES) where
+  place_fine : (v : ℕ) → v < vertices (layout_of plan) x → is_position (new_place soup.faces plan soup.pos x v) ≡ true
+  place_fine v low = and_from _ _ (fine 0) (and_from _ _ (fine 1) (and_from _ _ (fine 2) refl))
+    where
+      fine : (axis : ℕ) → not (is_far (new_coordinate soup.faces plan soup.pos x (point_at (layout_of plan) x v) axis)) ≡ true
+      fine axis =
+          let both = between_law (layout_of plan) (long_at plan.arcs) x (coordinate soup.faces plan soup.pos axis) (neg_ℤ (pos MAX_MICRO)) (pos MAX_MICRO)
+          (laid_of plan is) (lengths_of plan is) len
+          (λ a at. coordinate_within soup.pos (old_vertex soup.faces plan a) axis solid.printable.positions)
+          (point_at (layout_of plan) x v) (point_is (layout_of plan) x v low) in
+          near _ both.0 both.1
+
+  corner_fine : (f : ℕ) (w : Way) → f < face_count (layout_of plan) x → nat_lt (vertex_of (layout_of plan) x f w) (2 ^ 32) ≡ true
+  corner_fine f w low =
+      let at : vertex_of (layout_of plan) x f w < vertices (layout_of plan) x =
+      number_low (layout_of plan) x (from (layout_of plan) x (dart_of (layout_of plan) x f w))
+      (from_is (layout_of plan) x (laid_of plan is) len (dart_of (layout_of plan) x f w) (cell_is (layout_of plan) x (laid_of plan is) len f w low)) in
+      lt-ltb _ _ (omega (arith, at, few, vertices_few (layout_of plan) x (laid_of plan is) len))
+
+  face_fine : (f : ℕ) → f < face_count (layout_of plan) x → list_all (λ v. nat_lt v (2 ^ 32)) (new_face (layout_of plan) x f) ≡ true
+  face_fine f low = and_from _ _ (corner_fine f south low) (and_from _ _ (corner_fine f east low)
+      (and_from _ _ (corner_fine f north low) (and_from _ _ (corner_fine f west low) refl)))
+
+  pub printable : IsPrintable (new_soup soup plan x)
+  printable = record {
+    positions = list_all-map is_position (new_place soup.faces plan soup.pos x) (range_with_len 0 (vertices (layout_of plan) x))
+        ∙ passes_range _ (vertices (layout_of plan) x) place_fine;
+    quads = list_all-map is_quad (new_face (layout_of plan) x) (range_with_len 0 (face_count (layout_of plan) x))
+        ∙ passes_range _ (face_count (layout_of plan) x) (λ f low. refl);
+    corners = list_all-map (λ face. list_all (λ v. nat_lt v (2 ^ 32)) face) (new_face (layout_of plan) x) (range_with_len 0 (face_count (layout_of plan) x))
+        ∙ passes_range _ (face_count (layout_of plan) x) face_fine;
+  }

@@ -1,0 +1,128 @@
+-- An accepted certificate of the network of a layout certifies its lengths, and can be written.
+use Rattle.std.proofs.Common.{◌≡◌, ◌⊎◌, ℕ, zero, suc, ◌+◌, ◌^◌, ◌<◌, ◌≤◌, Bool, true, false, ◌&&◌, List, [], ◌∷◌, ◌++◌, length, map, take, drop, get_or, refl, sym, ◌∙◌, ap, subst, arith, inl, inr, pos, ℤ}
+use Rattle.std.specs.Prelude.{nat_lt, nat_le, slice_index, slice_index_or, unsigned_abs}
+use Rattle.std.specs.List.{list_all}
+use Rattle.std.proofs.lemmas.Bool.{and_from, and_parts, le-leb, leb-true, lt-ltb}
+use Rattle.std.proofs.lemmas.Bool.Decides.{nat_tests}
+use Rattle.std.proofs.lemmas.List.Folds.{list_all-append, list_all-map}
+use Rattle.def_certtext.specs.CertLines.{lists_of, numbered, said_by, HasUps, Lists}
+use Rattle.def_certtext.specs.Laws.{IsWritable}
+use Rattle.def_certtext.specs.Reading.{is_small, may_stand}
+use Rattle.def_certtext.specs.declared.CertLine.{CertLine}
+use Rattle.def_certtext.specs.declared.CertLine.TheVariants as lines
+use Rattle.def_flow.specs.Accepted.{Certificate, IsAccepted}
+use Rattle.def_flow.specs.Admissible.{entries, AreLengths}
+use Rattle.def_flow.specs.Descent.{IsSolution}
+use Rattle.def_flow.specs.Network.{Network, tangle_number, IsWithinBounds}
+use Rattle.def_flow.specs.declared.limits.TheConstants.{MAX_LENGTH, MAX_TANGLE}
+use Rattle.def_flow.specs.declared.net.Settings.{Settings}
+use Rattle.def_layout.specs.Arcs.{long_at}
+use Rattle.def_layout.specs.Plans.{Plan, layout_of}
+use Rattle.def_layoutnet.specs.LayoutNet.{IsNetOf}
+use Rattle.def_layoutnet.specs.MeshLayouts.{IsMeshLayout}
+use Rattle.def_matching.specs.Dual.{is_up, AreSmall}
+use Rattle.def_remesh.specs.Remeshed.{certificate_of, IsCertified}
+use Rattle.qm_layoutnet.proofs.Balance.{balance_law}
+use Rattle.qm_reach.proofs.Whole.{laid_of}
+use Rattle.qm_units.proofs.Sound.{sound}
+
+-- What passes in a list passes in each front and in each tail of it.
+all_take : (p : ℕ → Bool) (n : ℕ) (xs : List ℕ) → list_all p xs ≡ true → list_all p (take n xs) ≡ true
+all_take p zero xs all = refl
+all_take p (suc n) [] all = refl
+all_take p (suc n) (x ∷ xs) all = and_from _ _ (and_parts _ _ all).0 (all_take p n xs (and_parts _ _ all).1)
+
+all_drop : (p : ℕ → Bool) (n : ℕ) (xs : List ℕ) → list_all p xs ≡ true → list_all p (drop n xs) ≡ true
+all_drop p zero xs all = all
+all_drop p (suc n) [] all = refl
+all_drop p (suc n) (x ∷ xs) all = all_drop p n xs (and_parts _ _ all).1
+
+-- Lines of small numbers may stand.
+numbered_stand : (kind : ℤ → ℕ → CertLine) → ((z : ℤ) (u : ℕ) → may_stand false (kind z u) ≡ is_small z u) → (numbers : List ℤ) (ups : List ℕ)
+    → AreSmall numbers → list_all (λ u. nat_lt u (2 ^ 32)) ups ≡ true → list_all (may_stand false) (numbered kind numbers ups) ≡ true
+numbered_stand kind same [] ups small low = refl
+numbered_stand kind same (z ∷ zs) [] small low = refl
+numbered_stand kind same (z ∷ zs) (u ∷ us) small low =
+    and_from _ _ (same z u ∙ and_from _ _ (lt-ltb _ _ (small 0 (omega arith))) (and_parts _ _ low).0)
+    (numbered_stand kind same zs us (λ k l. small (suc k) (omega (arith, l))) (and_parts _ _ low).1)
+
+lengths_stand : (xs : List ℕ) → ((k : ℕ) → k < length xs → slice_index xs k ≤ MAX_LENGTH) → list_all (may_stand false) (map lines.Length xs) ≡ true
+lengths_stand [] low = refl
+lengths_stand (x ∷ xs) low = and_from _ _ (le-leb _ _ (low 0 (omega arith))) (lengths_stand xs (λ k l. low (suc k) (omega (arith, l))))
+
+entry_is : (n m i e : ℕ) → is_up n m i e ≡ true → (e ≡ 0) ⊎ (e ≤ m)
+entry_is n m i e on = grind (arith, nat_tests)
+
+-- An entry that nests names one of the sets, or none.
+up_low : (n m i e : ℕ) → is_up n m i e ≡ true → e ≤ m
+up_low n m i e is = by_entry (entry_is n m i e is)
+  where
+    by_entry : (e ≡ 0) ⊎ (e ≤ m) → e ≤ m
+    by_entry (inl none) = omega (arith, none)
+    by_entry (inr some) = some
+
+all_low : (xs : List ℕ) → ((k : ℕ) → k < length xs → slice_index xs k < 2 ^ 32) → list_all (λ u. nat_lt u (2 ^ 32)) xs ≡ true
+all_low [] low = refl
+all_low (x ∷ xs) low = and_from _ _ (lt-ltb _ _ (low 0 (omega arith))) (all_low xs (λ k l. low (suc k) (omega (arith, l))))
+
+pub certified : (plan : Plan) (settings : Settings) (net : Network) (cert : Lists) → IsMeshLayout plan
+    → IsNetOf (layout_of plan) (long_at plan.arcs) settings net → IsWithinBounds net → tangle_number net ≤ MAX_TANGLE
+    → IsSolution net (certificate_of cert) → IsCertified plan settings cert
+certified plan settings net cert is of_layout bounds untangled solved = record {
+  net = net;
+  of_layout = of_layout;
+  untangled = untangled;
+  accepted = solved.accepted;
+  opposite = (balance_law (layout_of plan) (long_at plan.arcs) settings net (laid_of plan is) of_layout (entries cert.x)).0 solved.accepted.admissible.balanced;
+  least = sound net (certificate_of cert) bounds solved.accepted;
+  writable = record { ups = ups; allowed = allowed };
+}
+  where
+    ups : HasUps cert
+    ups = omega (arith, solved.accepted.yes.nested.entries, solved.accepted.yes.numbers)
+
+    low : list_all (λ u. nat_lt u (2 ^ 32)) cert.up ≡ true
+    low = all_low cert.up (λ k l. omega (
+      arith,
+      solved.small.sets,
+      up_low _ (length cert.z) k (slice_index cert.up k) (solved.accepted.yes.nested.later k (omega (arith, l, solved.accepted.yes.nested.entries))),
+    ))
+
+    vertices : List CertLine
+    vertices = numbered lines.Vertex cert.y (take (length cert.y) cert.up)
+
+    sets : List CertLine
+    sets = numbered lines.Set cert.z (drop (length cert.y) cert.up)
+
+    arcs : List CertLine
+    arcs = map lines.Length cert.x
+
+    allowed : list_all (may_stand false) ((arcs ++ vertices) ++ sets) ≡ true
+    allowed = list_all-append (may_stand false) (arcs ++ vertices) sets ∙ and_from _ _
+        (list_all-append (may_stand false) arcs vertices ∙ and_from _ _ (lengths_stand cert.x solved.lengths.small)
+        (numbered_stand lines.Vertex (λ z u. refl) cert.y (take (length cert.y) cert.up) solved.small.small_y (all_take _ (length cert.y) cert.up low)))
+        (numbered_stand lines.Set (λ z u. refl) cert.z (drop (length cert.y) cert.up) solved.small.small_z (all_drop _ (length cert.y) cert.up low))
+
+-- The lengths of a certificate that can be written are not too great.
+standing_short : (xs : List ℕ) → list_all (may_stand false) (map lines.Length xs) ≡ true → (k : ℕ) → k < length xs → slice_index xs k ≤ MAX_LENGTH
+standing_short [] all k l = absurd (omega (arith, l))
+standing_short (x ∷ xs) all zero l = leb-true x MAX_LENGTH (and_parts _ _ all).0
+standing_short (x ∷ xs) all (suc k) l = standing_short xs (and_parts _ _ all).1 k (omega (arith, l))
+
+pub writable_short : (cert : Lists) → IsWritable cert → (k : ℕ) → k < length cert.x → slice_index cert.x k ≤ MAX_LENGTH
+writable_short cert is = standing_short cert.x (and_parts _ _ both).0
+  where
+    arcs : List CertLine
+    arcs = map lines.Length cert.x
+
+    vertices : List CertLine
+    vertices = numbered lines.Vertex cert.y (take (length cert.y) cert.up)
+
+    sets : List CertLine
+    sets = numbered lines.Set cert.z (drop (length cert.y) cert.up)
+
+    all : (list_all (may_stand false) (arcs ++ vertices) && list_all (may_stand false) sets) ≡ true
+    all = sym (list_all-append (may_stand false) (arcs ++ vertices) sets) ∙ is.allowed
+
+    both : (list_all (may_stand false) arcs && list_all (may_stand false) vertices) ≡ true
+    both = sym (list_all-append (may_stand false) arcs vertices) ∙ (and_parts _ _ all).0
