@@ -1,5 +1,5 @@
 -- What each answer means for the bytes that a run read and wrote.
-use Rattle.std.specs.Prelude.{◌≡◌, ◌≤◌, ℕ, length, Some, ⊤}
+use Rattle.std.specs.Prelude.{◌≡◌, ◌≤◌, [], length, Some, ⊤}
 use Rattle.def_io.specs.Bytes.{Bytes, Told}
 use Rattle.def_io.specs.Faults.{Rose}
 use Rattle.def_io.specs.Moves.{Change, took, GaveMore, TookFront}
@@ -10,34 +10,61 @@ use Rattle.def_text.specs.declared.refusal.Which.TheVariants.{Bytes as AllBytes}
 use Rattle.def_run.specs.CommandLines.{IsCommand}
 use Rattle.def_run.specs.Graph.{RefusesToTrace, WritesGraph}
 use Rattle.def_run.specs.Mesh.{HasMesh}
+use Rattle.def_run.specs.Refine.{HasRefined, RefusesToRefine, WritesRefined}
+use Rattle.def_run.specs.Remesh.{HasRemesh, RefusesToRemesh, WritesRemeshed}
 use Rattle.def_run.specs.Tidy.{RefusesToTidy, WritesTidied}
 use Rattle.def_run.specs.declared.answer.Answer.{Answer}
 use Rattle.def_run.specs.declared.answer.Answer.TheVariants.{Done, Usage, Limit, ReadFault, WriteFault, Memory}
 use Rattle.def_run.specs.declared.command.Command.{Command}
-use Rattle.def_run.specs.declared.command.Command.TheVariants.{Tidy, Graph}
+use Rattle.def_run.specs.declared.command.Command.TheVariants.{Tidy, Graph, Refine, Remesh, Bench}
 
 -- The text that a command writes for the bytes that it read. One that is not built writes none.
 abbrev pub Writes : (command : Command) (bytes text : Bytes) → Type 0
 Writes Tidy bytes text = WritesTidied bytes text
 Writes Graph bytes text = WritesGraph bytes text
+Writes (Refine by) bytes text = WritesRefined by bytes text
+Writes (Remesh settings auto) bytes text = WritesRemeshed settings auto bytes text
 Writes command bytes text = ⊥
 
 -- The answer with which a command refuses the bytes that it read.
 abbrev pub Refuses : (command : Command) (bytes : Bytes) (answer : Answer) → Type 0
 Refuses Tidy bytes answer = RefusesToTidy bytes answer
 Refuses Graph bytes answer = RefusesToTrace bytes answer
+Refuses (Refine by) bytes answer = RefusesToRefine by bytes answer
+Refuses (Remesh settings auto) bytes answer = RefusesToRemesh settings auto bytes answer
 Refuses command bytes answer = ⊥
 
--- The bytes for which a command has a text to write: those that have a mesh.
+-- The bytes for which a command has a text to write, whatever is free in it. One that is not built takes none.
 abbrev pub Takes : (command : Command) (bytes : Bytes) → Type 0
 Takes Tidy bytes = HasMesh bytes
 Takes Graph bytes = HasMesh bytes
+Takes (Refine by) bytes = HasRefined by bytes
+Takes (Remesh settings auto) bytes = HasRemesh settings auto bytes
 Takes command bytes = ⊥
 
--- The source gave bytes and ended, and the sink took the command's text for them.
+-- The source is as it was, as far as it tells.
+abbrev pub IsUnread : (input : Change) → Type 0
+IsUnread input = (input.told_now ≡ input.told) × (input.faults_now ≡ input.faults)
+
+-- The source gave these bytes and ended. A benchmark reads nothing.
+abbrev pub Reads : (command : Command) (input : Change) (bytes : Bytes) → Type 0
+Reads (Bench size) input bytes = IsUnread input × (bytes ≡ [])
+Reads command input bytes = ReadWhole MAX_BYTES input.told input.told_now bytes
+
+-- The source gave too many bytes for a command that reads them.
+abbrev pub ReadsTooMany : (command : Command) (input : Change) → Type 0
+ReadsTooMany (Bench size) input = ⊥
+ReadsTooMany command input = GaveMore MAX_BYTES input.told input.told_now
+
+-- The source failed for a command that reads it.
+abbrev pub FailsToRead : (command : Command) (input : Change) → Type 0
+FailsToRead (Bench size) input = ⊥
+FailsToRead command input = Rose input.faults input.faults_now
+
+-- The command read bytes, and the sink took the command's text for them.
 pub record Wrote (command : Command) (input out : Change) : Type 0 where
   pub bytes : Bytes
-  pub whole : ReadWhole MAX_BYTES input.told input.told_now bytes
+  pub whole : Reads command input bytes
   pub text : Bytes
   pub said : Writes command bytes text
   pub written : out.told_now ≡ took out.told text
@@ -45,24 +72,24 @@ pub record Wrote (command : Command) (input out : Change) : Type 0 where
 -- The same, where the sink failed and took only a front of the text.
 pub record WroteFront (command : Command) (input out : Change) : Type 0 where
   pub bytes : Bytes
-  pub whole : ReadWhole MAX_BYTES input.told input.told_now bytes
+  pub whole : Reads command input bytes
   pub text : Bytes
   pub said : Writes command bytes text
   pub front : TookFront out.told out.told_now text
   pub fault : Rose out.faults out.faults_now
 
--- The source gave bytes and ended, and the command refuses them.
+-- The command read bytes and refuses them.
 pub record Refused (command : Command) (input : Change) (answer : Answer) : Type 0 where
   pub bytes : Bytes
-  pub whole : ReadWhole MAX_BYTES input.told input.told_now bytes
+  pub whole : Reads command input bytes
   pub said : Refuses command bytes answer
 
 -- What each answer to an accepted line means.
 abbrev pub Cause : (command : Command) (input out : Change) (answer : Answer) → Type 0
 Cause command input out Done = Wrote command input out
 Cause command input out Usage = ⊥
-Cause command input out (Limit AllBytes line) = (line ≡ 0) × GaveMore MAX_BYTES input.told input.told_now
-Cause command input out ReadFault = Rose input.faults input.faults_now
+Cause command input out (Limit AllBytes line) = (line ≡ 0) × ReadsTooMany command input
+Cause command input out ReadFault = FailsToRead command input
 Cause command input out WriteFault = WroteFront command input out
 Cause command input out Memory = ⊤
 Cause command input out answer = Refused command input answer
@@ -73,9 +100,13 @@ pub record Ran (words : Words) (input out : Change) (answer : Answer) : Type 0 w
   pub line : IsCommand words command
   pub cause : Cause command input out answer
 
--- A source that holds bytes, within the limit, which the command takes.
+-- The source holds these bytes, within the limit. Of a benchmark's source nothing is asked.
+abbrev pub Holds : (command : Command) (left : Told) (bytes : Bytes) → Type 0
+Holds (Bench size) left bytes = bytes ≡ []
+Holds command left bytes = (left ≡ Some bytes) × (length bytes ≤ MAX_BYTES)
+
+-- A source that holds bytes which the command takes.
 pub record IsGood (command : Command) (left : Told) : Type 0 where
   pub bytes : Bytes
-  pub told : left ≡ Some bytes
-  pub few : length bytes ≤ MAX_BYTES
+  pub held : Holds command left bytes
   pub taken : Takes command bytes

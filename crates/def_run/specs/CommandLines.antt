@@ -57,6 +57,8 @@ pub record IsCommand (words : Words) (command : Command) : Type 0 where
 abbrev pub is_built : (command : Command) → Bool
 is_built Tidy = true
 is_built Graph = true
+is_built (Refine by) = true
+is_built (Remesh settings auto) = true
 is_built command = false
 
 -- These words are an accepted line.

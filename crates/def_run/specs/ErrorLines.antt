@@ -1,11 +1,19 @@
 -- The line that each refusal writes to the error sink.
-use Rattle.std.specs.Prelude.{ℕ, ◌+◌, List, [], ◌++◌, codes, decimal, slice_index}
+use Rattle.std.specs.Prelude.{ℕ, ◌+◌, ◌/◌, ◌%◌, ◌==◌, if◌then◌else◌, List, [], ◌++◌, codes, decimal, slice_index}
+use Rattle.std.specs.Fmt.{signed_decimal}
+use Rattle.def_flow.specs.declared.cert.CertVerdict.{CertVerdict}
+use Rattle.def_flow.specs.declared.cert.CertVerdict.TheVariants as certs
 use Rattle.def_io.specs.Bytes.{Bytes}
+use Rattle.def_matching.specs.declared.weighted.Verdict.{Verdict}
+use Rattle.def_matching.specs.declared.weighted.Verdict.TheVariants.{Yes, Shape, Even, Negative, Short}
 use Rattle.def_text.specs.declared.refusal.Which.{Which}
 use Rattle.def_text.specs.declared.refusal.Which.TheVariants.{Bytes as AllBytes, Line, Vertices, Faces}
 use Rattle.def_run.specs.declared.answer.Answer.{Answer}
-use Rattle.def_run.specs.declared.answer.Answer.TheVariants.{Done, Usage, Syntax, NotQuad, Range, Limit, NotManifold}
+use Rattle.def_run.specs.declared.answer.Answer.TheVariants.{Done, NotAccepted, Usage, Syntax, NotQuad, Range, Limit}
+use Rattle.def_run.specs.declared.answer.Answer.TheVariants.{NotManifold, Tangled, TooFine, Doubled}
 use Rattle.def_run.specs.declared.answer.Answer.TheVariants.{ReadFault, WriteFault, Memory}
+use Rattle.def_run.specs.declared.answer.Why.{Why}
+use Rattle.def_run.specs.declared.answer.Why.TheVariants as why
 use Rattle.def_mesh.specs.declared.Place.{Place}
 use Rattle.def_mesh.specs.declared.Place.TheVariants.{Repeated, EdgeTwice, TwoFans}
 
@@ -34,6 +42,42 @@ abbrev pub corners_text : (line corners : ℕ) → Bytes
 corners_text line corners =
     codes "line " ++ decimal line ++ codes ": face with " ++ decimal corners ++ codes " corners"
 
+-- What is wrong with a dual of the matching graph. Sets and edges count from 1.
+abbrev pub dual_text : (verdict : Verdict) → Bytes
+dual_text (Yes sum) = []
+dual_text (Shape index) = codes "shape " ++ decimal (index + 1)
+dual_text (Even set size) = codes "set " ++ decimal (set + 1) ++ codes " size " ++ decimal size
+dual_text (Negative set) = codes "set " ++ decimal (set + 1) ++ codes " negative"
+dual_text (Short edge load cost) =
+    codes "edge " ++ decimal (edge + 1) ++ codes " load " ++ signed_decimal load ++ codes " cost " ++ signed_decimal cost
+
+-- A patch whose opposite sides differ: its first node has the south and the north side, its second one the east and
+-- the west side.
+abbrev pub unequal_text : (node plus minus : ℕ) → Bytes
+unequal_text node plus minus =
+    codes "patch " ++ decimal (node / 2 + 1)
+    ++ (if node % 2 == 0 then codes " south " else codes " east ") ++ decimal plus
+    ++ (if node % 2 == 0 then codes " north " else codes " west ") ++ decimal minus
+
+-- What is wrong with a certificate. Arcs count from 1.
+abbrev pub verdict_text : (verdict : CertVerdict) → Bytes
+verdict_text (certs.Yes deviation) = []
+verdict_text (certs.Count arcs given) = codes "arcs " ++ decimal arcs ++ codes " given " ++ decimal given
+verdict_text (certs.Below arc length) = codes "arc " ++ decimal (arc + 1) ++ codes " length " ++ decimal length
+verdict_text (certs.Unequal node plus minus) = unequal_text node plus minus
+verdict_text (certs.Dual verdict) = dual_text verdict
+verdict_text (certs.Sums dual cost) = codes "sums " ++ signed_decimal dual ++ codes " " ++ signed_decimal cost
+
+-- Why nothing is accepted. Vertices count from 1.
+abbrev pub why_text : (why : Why) → Bytes
+why_text why.NoHead = codes "no head line"
+why_text why.Head = codes "head"
+why_text (why.CertLine line) = codes "certificate line " ++ decimal line
+why_text (why.Verdict verdict) = verdict_text verdict
+why_text (why.TooFine faces) = codes "faces " ++ decimal faces
+why_text (why.Doubled u v) = codes "doubled " ++ decimal (u + 1) ++ codes " " ++ decimal (v + 1)
+why_text (why.Byte at) = codes "byte " ++ decimal at
+
 -- The accepted command lines.
 abbrev pub usage_text : Bytes
 usage_text =
@@ -43,12 +87,16 @@ usage_text =
 -- Why the run ended so, where `names` has the vertices' numbers in the file.
 abbrev pub reason_text : (names : List ℕ) (answer : Answer) → Bytes
 reason_text names Done = []
+reason_text names (NotAccepted why) = codes "not accepted: " ++ why_text why
 reason_text names Usage = usage_text
 reason_text names (Syntax line) = codes "line " ++ decimal line ++ codes ": not an OBJ line of this profile"
 reason_text names (NotQuad line corners) = corners_text line corners
 reason_text names (Range line) = codes "line " ++ decimal line ++ codes ": number out of range"
 reason_text names (Limit which line) = limit_text which line
 reason_text names (NotManifold place) = place_text names place
+reason_text names (Tangled count) = codes "tangled: " ++ decimal count
+reason_text names (TooFine faces kept) = codes "too fine: " ++ decimal faces ++ codes " faces"
+reason_text names (Doubled u v cert) = codes "doubled edge: " ++ decimal (u + 1) ++ codes " " ++ decimal (v + 1)
 reason_text names ReadFault = codes "read fault"
 reason_text names WriteFault = codes "write fault"
 reason_text names Memory = codes "out of memory"

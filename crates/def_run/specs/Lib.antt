@@ -1,4 +1,6 @@
+pub mod Bench
 pub mod Causes
+pub mod Check
 pub mod CommandLines
 pub mod ErrorLines
 pub mod Exits
@@ -6,5 +8,7 @@ pub mod Graph
 pub mod Mesh
 pub mod Messages
 pub mod Options
+pub mod Refine
+pub mod Remesh
 pub mod Status
 pub mod Tidy

@@ -32,6 +32,9 @@ impl Command {
     pub fn is_built(&self) -> bool
         ensures { result ≡ is_built self.now }
     {
-        matches!(self, Command::Tidy | Command::Graph)
+        matches!(
+            self,
+            Command::Tidy | Command::Graph | Command::Refine { .. } | Command::Remesh { .. }
+        )
     }
 }

@@ -5,6 +5,7 @@ mod answer;
 mod command;
 mod words;
 
-pub use answer::Answer;
+pub use answer::{Answer, Why};
 pub use command::{Command, EQUALS, MAX_MULTIPLE, MAX_SIZE};
+pub use def_remesh::Kept;
 pub use words::WordsFail;

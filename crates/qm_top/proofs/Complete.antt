@@ -1,5 +1,5 @@
 -- Bytes that a command takes are not refused.
-use Rattle.std.proofs.Common.{◌≡◌, ◌≤◌, ◌<◌, ◌⊎◌, ℕ, List, [], ◌++◌, length, Option, Some, None, true, Result, Ok, Err, sym, ◌∙◌, ap, subst, arith, refl, inl, inr, length-append}
+use Rattle.std.proofs.Common.{Bool, ◌≡◌, ◌≤◌, ◌<◌, ◌⊎◌, ℕ, List, [], ◌++◌, length, Option, Some, None, true, Result, Ok, Err, sym, ◌∙◌, ap, subst, arith, refl, inl, inr, length-append}
 use Rattle.std.proofs.lemmas.List.{append-nil}
 use Rattle.def_io.specs.Bytes.{Bytes, Told}
 use Rattle.def_io.specs.Faults.{Rose}
@@ -9,16 +9,26 @@ use Rattle.def_text.specs.FaceSet.{FaceSet}
 use Rattle.def_text.specs.declared.limits.TheConstants.{MAX_BYTES}
 use Rattle.def_text.specs.declared.refusal.ObjFail.{ObjFail}
 use Rattle.def_text.specs.declared.refusal.Which.TheVariants.{Bytes as AllBytes, Line, Vertices, Faces}
-use Rattle.def_run.specs.Causes.{Cause, IsGood, Refused, Refuses, Takes}
+use Rattle.def_run.specs.Causes.{Cause, FailsToRead, Holds, IsGood, Reads, ReadsTooMany, Refused, Refuses, Takes}
 use Rattle.def_run.specs.Mesh.{IsMesh, IsNoMesh}
+use Rattle.def_flow.specs.declared.net.Settings.{Settings}
+use Rattle.def_remesh.specs.Refusals.{IsRemeshable}
+use Rattle.def_run.specs.Refine.{HasRefined, RefusesToRefine}
+use Rattle.def_run.specs.Remesh.{HasCut, HasRemesh, IsCutTo, RefusesLayout, RefusesToRemesh}
+use Rattle.def_cut.specs.Traced.{traced_marks}
+use Rattle.def_layout.specs.Plans.{Plan}
+use Rattle.plan_laws.proofs.OnePlan.{one_layout_law}
+use Rattle.site_laws.proofs.Laws.{graph_law}
+use Rattle.def_remesh.specs.Refined.{refined_faces}
 use Rattle.def_run.specs.declared.answer.Answer.{Answer}
-use Rattle.def_run.specs.declared.answer.Answer.TheVariants.{Done, Usage, Syntax, NotQuad, Range, Limit, NotManifold, ReadFault, WriteFault, Memory}
+use Rattle.def_run.specs.declared.answer.Answer.TheVariants.{Done, NotAccepted, Usage, Syntax, NotQuad, Range, Limit, NotManifold, Tangled, TooFine, Doubled, ReadFault, WriteFault, Memory}
 use Rattle.def_run.specs.declared.command.Command.{Command}
 use Rattle.def_run.specs.declared.command.Command.TheVariants.{Tidy, Graph, Refine, Remesh, Check, Bench}
 use Rattle.def_run.specs.declared.words.WordsFail.{WordsFail}
 use Rattle.def_run.specs.declared.words.WordsFail.TheVariants as words_fail
 use Rattle.def_run.specs.CommandLines.{is_built, IsAccepted, IsCommand}
 use Rattle.def_text.specs.Types.{Words}
+use Rattle.remesh_laws.proofs.Fits.{fits_not_doubled, fits_not_fine}
 use Rattle.qm_top.specs.Refusals.{answer_of_words}
 
 -- Bytes that have a mesh have no refusal of one.
@@ -32,17 +42,74 @@ mesh_not_refused bytes soup (NotManifold place) mesh none =
     let same : soup ≡ none.soup = cc in
     none.refuted (subst (λ (s : FaceSet). IsManifold s.faces) same mesh.manifold)
 mesh_not_refused bytes soup Done mesh none = absurd none
+mesh_not_refused bytes soup (NotAccepted why) mesh none = absurd none
 mesh_not_refused bytes soup Usage mesh none = absurd none
+mesh_not_refused bytes soup (Tangled count) mesh none = absurd none
+mesh_not_refused bytes soup (TooFine faces kept) mesh none = absurd none
+mesh_not_refused bytes soup (Doubled u v cert) mesh none = absurd none
 mesh_not_refused bytes soup ReadFault mesh none = absurd none
 mesh_not_refused bytes soup WriteFault mesh none = absurd none
 mesh_not_refused bytes soup Memory mesh none = absurd none
+
+-- A mesh has one layout of its motorcycle graph.
+one_cut : (bytes : Bytes) (one other : Plan) → HasCut bytes one → HasCut bytes other → one ≡ other
+one_cut bytes one other has also =
+    let both : ◌≡◌ {A = Result FaceSet ObjFail} (Ok has.soup) (Ok also.soup) = sym has.mesh.said ∙ also.mesh.said in
+    let same : has.soup ≡ also.soup = cc in
+    one_layout_law has.soup.faces (traced_marks has.soup.faces) has.mesh.manifold (graph_law has.soup.faces has.mesh.manifold).1 one other has.cut
+    (subst (λ (s : FaceSet). IsCutTo s.faces other) (sym same) also.cut)
+
+-- Bytes whose mesh is refined are not refused.
+refine_not_both : (by : ℕ) (bytes : Bytes) (answer : Answer) → HasRefined by bytes → RefusesToRefine by bytes answer → ⊥
+refine_not_both by bytes (TooFine faces kept) takes (plan, cut, fine) =
+    let same : plan ≡ takes.plan = one_cut bytes plan takes.plan cut takes.cut in
+    let count : refined_faces by plan ≡ refined_faces by takes.plan = ap (refined_faces by) same in
+    absurd (omega (arith, count, fine.counted, fine.many, takes.fits))
+refine_not_both by bytes Done takes refuses = absurd refuses
+refine_not_both by bytes (NotAccepted why) takes refuses = absurd refuses
+refine_not_both by bytes Usage takes refuses = absurd refuses
+refine_not_both by bytes (Syntax line) takes refuses = mesh_not_refused bytes takes.cut.soup (Syntax line) takes.cut.mesh refuses
+refine_not_both by bytes (NotQuad line corners) takes refuses = mesh_not_refused bytes takes.cut.soup (NotQuad line corners) takes.cut.mesh refuses
+refine_not_both by bytes (Range line) takes refuses = mesh_not_refused bytes takes.cut.soup (Range line) takes.cut.mesh refuses
+refine_not_both by bytes (Limit which line) takes refuses = mesh_not_refused bytes takes.cut.soup (Limit which line) takes.cut.mesh refuses
+refine_not_both by bytes (NotManifold place) takes refuses = mesh_not_refused bytes takes.cut.soup (NotManifold place) takes.cut.mesh refuses
+refine_not_both by bytes (Tangled count) takes refuses = absurd refuses
+refine_not_both by bytes (Doubled u v cert) takes refuses = absurd refuses
+refine_not_both by bytes ReadFault takes refuses = absurd refuses
+refine_not_both by bytes WriteFault takes refuses = absurd refuses
+refine_not_both by bytes Memory takes refuses = absurd refuses
+
+-- Bytes whose mesh is remeshed whatever least lists are kept are not refused.
+layout_not_both : (settings : Settings) (auto : Bool) (plan : Plan) (answer : Answer) → IsRemeshable plan settings auto
+    → RefusesLayout plan settings auto answer → ⊥
+layout_not_both settings auto plan (Tangled count) fits refuses = fits.untangled count refuses
+layout_not_both settings auto plan (TooFine faces kept) fits refuses = fits_not_fine plan settings auto faces kept fits refuses
+layout_not_both settings auto plan (Doubled u v cert) fits refuses = fits_not_doubled plan settings auto u v cert fits refuses
+layout_not_both settings auto plan Done fits refuses = absurd refuses
+layout_not_both settings auto plan (NotAccepted why) fits refuses = absurd refuses
+layout_not_both settings auto plan Usage fits refuses = absurd refuses
+layout_not_both settings auto plan (Syntax line) fits refuses = absurd refuses
+layout_not_both settings auto plan (NotQuad line corners) fits refuses = absurd refuses
+layout_not_both settings auto plan (Range line) fits refuses = absurd refuses
+layout_not_both settings auto plan (Limit which line) fits refuses = absurd refuses
+layout_not_both settings auto plan (NotManifold place) fits refuses = absurd refuses
+layout_not_both settings auto plan ReadFault fits refuses = absurd refuses
+layout_not_both settings auto plan WriteFault fits refuses = absurd refuses
+layout_not_both settings auto plan Memory fits refuses = absurd refuses
+
+remesh_not_both : (settings : Settings) (auto : Bool) (bytes : Bytes) (answer : Answer) → HasRemesh settings auto bytes
+    → RefusesToRemesh settings auto bytes answer → ⊥
+remesh_not_both settings auto bytes answer takes (inl none) = mesh_not_refused bytes takes.cut.soup answer takes.cut.mesh none
+remesh_not_both settings auto bytes answer takes (inr (plan, cut, why)) =
+    layout_not_both settings auto takes.plan answer takes.fits
+    (subst (λ (p : Plan). RefusesLayout p settings auto answer) (one_cut bytes plan takes.plan cut takes.cut) why)
 
 -- No command both takes bytes and refuses them.
 not_both : (command : Command) (bytes : Bytes) (answer : Answer) → Takes command bytes → Refuses command bytes answer → ⊥
 not_both Tidy bytes answer takes refuses = mesh_not_refused bytes takes.soup answer takes.mesh refuses
 not_both Graph bytes answer takes refuses = mesh_not_refused bytes takes.soup answer takes.mesh refuses
-not_both (Refine by) bytes answer takes refuses = absurd takes
-not_both (Remesh settings auto) bytes answer takes refuses = absurd takes
+not_both (Refine by) bytes answer takes refuses = refine_not_both by bytes answer takes refuses
+not_both (Remesh settings auto) bytes answer takes refuses = remesh_not_both settings auto bytes answer takes refuses
 not_both Check bytes answer takes refuses = absurd takes
 not_both (Bench size) bytes answer takes refuses = absurd takes
 
@@ -54,37 +121,68 @@ same_bytes before (Some rest) bytes held told given end =
     let same : bytes ++ rest ≡ held = cc in
     sym (append-nil bytes) ∙ ap (λ (xs : List ℕ). bytes ++ xs) (sym end) ∙ same
 
+-- What a command read is what its source held.
+same_read : (command : Command) (input : Change) (bytes held : Bytes) → Reads command input bytes → Holds command input.told held → bytes ≡ held
+same_read Tidy input bytes held read holds = same_bytes input.told input.told_now bytes held holds.0 read.given read.ended
+same_read Graph input bytes held read holds = same_bytes input.told input.told_now bytes held holds.0 read.given read.ended
+same_read (Refine by) input bytes held read holds = same_bytes input.told input.told_now bytes held holds.0 read.given read.ended
+same_read (Remesh settings auto) input bytes held read holds =
+    same_bytes input.told input.told_now bytes held holds.0 read.given read.ended
+same_read Check input bytes held read holds = same_bytes input.told input.told_now bytes held holds.0 read.given read.ended
+same_read (Bench size) input bytes held read holds = read.1 ∙ sym holds
+
 -- Good bytes are not refused.
 not_refused : (command : Command) (input : Change) (answer : Answer) → IsGood command input.told → Refused command input answer → ⊥
 not_refused command input answer good bad =
-    let same = same_bytes input.told input.told_now bad.bytes good.bytes good.told bad.whole.given bad.whole.ended in
-    not_both command good.bytes answer good.taken (subst (λ (xs : Bytes). Refuses command xs answer) same bad.said)
+    not_both command good.bytes answer good.taken
+    (subst (λ (xs : Bytes). Refuses command xs answer) (same_read command input bad.bytes good.bytes bad.whole good.held) bad.said)
 
 -- They are not too many.
-not_too_long : (command : Command) (before now : Told) → IsGood command before → GaveMore MAX_BYTES before now → ⊥
-not_too_long command before now good more = by_rest now more.moved
+not_too_long : (before now : Told) (held : Bytes) → before ≡ Some held → length held ≤ MAX_BYTES → GaveMore MAX_BYTES before now → ⊥
+not_too_long before now held told few more = by_rest now more.moved
   where
     by_rest : (o : Told) → before ≡ gave more.piece o → ⊥
-    by_rest None given = let never : Some good.bytes ≡ None = sym good.told ∙ given in cc
+    by_rest None given = let never : Some held ≡ None = sym told ∙ given in cc
     by_rest (Some rest) given =
-        let joined : Some (more.piece ++ rest) ≡ Some good.bytes = sym given ∙ good.told in
-        let same : more.piece ++ rest ≡ good.bytes = cc in
-        absurd (omega (arith, ap length same, length-append more.piece rest, more.many, good.few))
+        let joined : Some (more.piece ++ rest) ≡ Some held = sym given ∙ told in
+        let same : more.piece ++ rest ≡ held = cc in
+        absurd (omega (arith, ap length same, length-append more.piece rest, more.many, few))
+
+not_too_many : (command : Command) (input : Change) → IsGood command input.told → ReadsTooMany command input → ⊥
+not_too_many Tidy input good more = not_too_long _ _ good.bytes good.held.0 good.held.1 more
+not_too_many Graph input good more = not_too_long _ _ good.bytes good.held.0 good.held.1 more
+not_too_many (Refine by) input good more = not_too_long _ _ good.bytes good.held.0 good.held.1 more
+not_too_many (Remesh settings auto) input good more = not_too_long _ _ good.bytes good.held.0 good.held.1 more
+not_too_many Check input good more = not_too_long _ _ good.bytes good.held.0 good.held.1 more
+not_too_many (Bench size) input good more = absurd more
+
+-- A fault of reading is one of the source.
+rose_if : (command : Command) (input : Change) → FailsToRead command input → Rose input.faults input.faults_now
+rose_if Tidy input fault = fault
+rose_if Graph input fault = fault
+rose_if (Refine by) input fault = fault
+rose_if (Remesh settings auto) input fault = fault
+rose_if Check input fault = fault
+rose_if (Bench size) input fault = absurd fault
 
 -- So the command is done, or memory is wanting or a stream failed.
 pub completes : (command : Command) (input out : Change) (answer : Answer) → Cause command input out answer → IsGood command input.told
     → (answer ≡ Done) ⊎ ((answer ≡ Memory) ⊎ (Rose input.faults input.faults_now ⊎ Rose out.faults out.faults_now))
 completes command input out Done why good = inl refl
+completes command input out (NotAccepted why) cause good = absurd (not_refused command input _ good cause)
 completes command input out Usage why good = absurd why
 completes command input out (Syntax line) why good = absurd (not_refused command input _ good why)
 completes command input out (NotQuad line corners) why good = absurd (not_refused command input _ good why)
 completes command input out (Range line) why good = absurd (not_refused command input _ good why)
-completes command input out (Limit AllBytes line) why good = absurd (not_too_long command input.told input.told_now good why.1)
+completes command input out (Limit AllBytes line) why good = absurd (not_too_many command input good why.1)
 completes command input out (Limit Line line) why good = absurd (not_refused command input _ good why)
 completes command input out (Limit Vertices line) why good = absurd (not_refused command input _ good why)
 completes command input out (Limit Faces line) why good = absurd (not_refused command input _ good why)
 completes command input out (NotManifold place) why good = absurd (not_refused command input _ good why)
-completes command input out ReadFault why good = inr (inr (inl why))
+completes command input out (Tangled count) why good = absurd (not_refused command input _ good why)
+completes command input out (TooFine faces kept) why good = absurd (not_refused command input _ good why)
+completes command input out (Doubled u v cert) why good = absurd (not_refused command input _ good why)
+completes command input out ReadFault why good = inr (inr (inl (rose_if command input why)))
 completes command input out WriteFault why good = inr (inr (inr why.fault))
 completes command input out Memory why good = inr (inl refl)
 
@@ -102,8 +200,8 @@ completes_as read command input out answer said is one cause good =
 good_built : (command : Command) (left : Told) → IsGood command left → is_built command ≡ true
 good_built Tidy left good = refl
 good_built Graph left good = refl
-good_built (Refine by) left good = absurd good.taken
-good_built (Remesh settings auto) left good = absurd good.taken
+good_built (Refine by) left good = refl
+good_built (Remesh settings auto) left good = refl
 good_built Check left good = absurd good.taken
 good_built (Bench size) left good = absurd good.taken
 

@@ -1,4 +1,7 @@
 mod Complete
 mod Naming
 mod NeverBytes
+mod Refined
 mod Refusals
+mod Remeshed
+mod Writers

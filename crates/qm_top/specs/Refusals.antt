@@ -12,6 +12,8 @@ use Rattle.def_text.specs.declared.refusal.ObjFail.TheVariants as obj
 use Rattle.def_text.specs.declared.refusal.SoupFail.{SoupFail}
 use Rattle.def_text.specs.declared.refusal.SoupFail.TheVariants as soup
 use Rattle.def_text.specs.declared.refusal.Which.TheVariants.{Bytes}
+use Rattle.def_remesh.specs.declared.kept.LayoutFail.{LayoutFail}
+use Rattle.def_remesh.specs.declared.kept.LayoutFail.TheVariants as layouts
 use Rattle.def_run.specs.Causes.{Cause, Wrote}
 use Rattle.def_run.specs.Messages.{AreNames}
 use Rattle.def_run.specs.declared.answer.Answer.{Answer}
@@ -22,7 +24,7 @@ use Rattle.def_run.specs.declared.command.Command.{Command}
 use Rattle.def_run.specs.declared.words.WordsFail.{WordsFail}
 use Rattle.def_run.specs.declared.words.WordsFail.TheVariants as words
 use Rattle.qm_top.specs.declared.refusal.Refusal.{Refusal}
-use Rattle.qm_top.specs.declared.refusal.Refusal.TheVariants.{Soup, NotManifold, Write}
+use Rattle.qm_top.specs.declared.refusal.Refusal.TheVariants.{Soup, NotManifold, Layout, Write}
 use Rattle.qm_top.specs.declared.refusal.Refusal.TheVariants as refusals
 
 -- The answer to words that are no command.
@@ -45,10 +47,18 @@ answer_of_soup soup.TooLong = Limit Bytes 0
 answer_of_soup (soup.Obj fail) = answer_of_obj fail
 answer_of_soup soup.Memory = Memory
 
+-- The answer to a layout that gives no new mesh.
+abbrev pub answer_of_layout : (fail : LayoutFail) → Answer
+answer_of_layout (layouts.Tangled count) = answers.Tangled count
+answer_of_layout (layouts.TooFine faces kept) = answers.TooFine faces kept
+answer_of_layout (layouts.Doubled u v cert) = answers.Doubled u v cert
+answer_of_layout layouts.Memory = Memory
+
 -- The answer to a refusal.
 abbrev pub answer_of : (refusal : Refusal) → Answer
 answer_of (Soup fail) = answer_of_soup fail
 answer_of (NotManifold named) = answers.NotManifold named.place
+answer_of (Layout fail) = answer_of_layout fail
 answer_of (Write fail) = WriteFault
 answer_of refusals.Memory = Memory
 
@@ -78,6 +88,7 @@ abbrev pub IsInputRefusal : (input : Change) (refusal : Refusal) → Type 0
 IsInputRefusal input (Soup fail) = IsSoupFail MAX_BYTES input fail
 IsInputRefusal input (NotManifold named) = ReadNoManifold input named.place named.names.items
 IsInputRefusal input refusals.Memory = ⊤
+IsInputRefusal input (Layout fail) = ⊥
 IsInputRefusal input (Write fail) = ⊥
 
 -- A command's text was written, and the source had no fault.
@@ -88,5 +99,5 @@ pub record Finished (command : Command) (input out : Change) : Type 0 where
 -- A command ended with a refusal that has its cause, and with the numbers of the file.
 pub record Ended (command : Command) (input out : Change) (refusal : Refusal) : Type 0 where
   pub cause : Cause command input out (answer_of refusal)
-  pub names : AreNames input (answer_of refusal) (names_of refusal)
+  pub names : AreNames command input (answer_of refusal) (names_of refusal)
   pub calm : answer_of refusal ≢ ReadFault → answer_of refusal ≢ Memory → input.faults_now ≡ input.faults

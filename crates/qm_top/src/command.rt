@@ -1,18 +1,22 @@
 //! One command line, from its words to its answer.
 
-ghost use Rattle.std.specs.Prelude.{◌≡◌, ◌≢◌, ◌⊎◌, true, map, string_bytes, OnOk, IfErr};
+ghost use Rattle.std.specs.Prelude.{◌≡◌, ◌≢◌, ◌⊎◌, ℕ, true, map, string_bytes, OnOk, IfErr};
 ghost use Rattle.def_io.specs.Faults.{Rose};
 ghost use Rattle.def_io.specs.Moves.{change};
 ghost use Rattle.def_run.specs.CommandLines.{is_built, IsAccepted, IsCommand};
 ghost use Rattle.def_run.specs.Causes.{IsGood, Ran};
 ghost use Rattle.def_run.specs.Messages.{Said, SaidWhy};
-ghost use Rattle.qm_top.specs.Refusals.{answer_of, Ended, Finished};
+ghost use Rattle.def_text.specs.Types.{Words};
+ghost use Rattle.qm_top.specs.Runs.{HasRun};
 
 use crate::error_line::error_line_of;
 use crate::graph::graph;
+use crate::refine::refine;
 use crate::refusal::{Refusal, words_answer};
+use crate::remesh::remesh;
 use crate::tidy::tidy;
 use crate::words::command_of;
+use def_certtext::Asked;
 use def_run::{Answer, Command};
 use qm_io::{Sink, Source, write_all};
 use qm_print::Line;
@@ -42,10 +46,11 @@ pub fn run<S: Source, O: Sink, E: Sink>(
     // What stays as it was.
     ensures untouched { result ≢ Answer.Done → result ≢ Answer.WriteFault → out.new ≡ out.old }
     ensures unread { result ≡ Answer.Usage → input.new ≡ input.old }
+    ensures unasked { (size : ℕ) → IsCommand (map string_bytes words.now) (Command.Bench size) → input.new ≡ input.old }
     ensures calm { result ≢ Answer.ReadFault → result ≢ Answer.Memory → S.faults input.new ≡ S.faults input.old }
     ensures quiet { result ≡ Answer.Done → err.new ≡ err.old }
 
-    ensures told { result ≢ Answer.Done → SaidWhy
+    ensures told { result ≢ Answer.Done → SaidWhy (map string_bytes words.now)
         (change (S.left input.old) (S.left input.new) (S.faults input.old) (S.faults input.new))
         (change (E.taken err.old) (E.taken err.new) (E.faults err.old) (E.faults err.new)) result }
 {
@@ -60,9 +65,9 @@ pub fn run<S: Source, O: Sink, E: Sink>(
     match run_command(alloc, command, input, out) {
         Ok(()) => Answer::Done,
         Err(refusal) => {
-            let answer = refusal.answer();
-            say(err, &error_line_of(&answer, refusal.names()));
-            answer
+            let reply = refusal.into_reply(alloc);
+            say(err, &error_line_of(&reply.answer, &reply.names));
+            reply.answer
         }
     }
 }
@@ -74,18 +79,17 @@ fn run_command<S: Source, O: Sink>(
     input: &mut S,
     out: &mut O,
 ) -> Result<(), Refusal>
-    requires { is_built command ≡ true }
-    ensures done { OnOk result (Finished command
+    requires built { is_built command ≡ true }
+    requires spoken { (words : Words) × IsCommand words command }
+    ensures { HasRun command
         (change (S.left input.old) (S.left input.new) (S.faults input.old) (S.faults input.new))
-        (change (O.taken out.old) (O.taken out.new) (O.faults out.old) (O.faults out.new))) }
-    ensures refused { IfErr result (Ended command
-        (change (S.left input.old) (S.left input.new) (S.faults input.old) (S.faults input.new))
-        (change (O.taken out.old) (O.taken out.new) (O.faults out.old) (O.faults out.new))) }
-    ensures untouched { IfErr result (λ r. answer_of r ≢ Answer.WriteFault → out.new ≡ out.old) }
+        (change (O.taken out.old) (O.taken out.new) (O.faults out.old) (O.faults out.new)) out.old out.new result }
 {
     match command {
         Command::Tidy => tidy(alloc, input, out),
         Command::Graph => graph(alloc, input, out),
+        Command::Refine { by } => refine(alloc, by, input, out),
+        Command::Remesh { settings, auto } => remesh(alloc, Asked { settings, auto }, input, out),
         _ => unreachable!(),
     }
 }

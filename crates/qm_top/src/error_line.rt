@@ -1,14 +1,15 @@
 //! The line that is said of an answer.
 
-ghost use Rattle.std.specs.Prelude.{◌≡◌, ◌≤◌, ◌<◌, length, slice_index};
+ghost use Rattle.std.specs.Prelude.{◌≡◌, ◌≤◌, ◌<◌, ◌+◌, ◌++◌, length, codes, decimal, slice_index};
 ghost use Rattle.arrayvec.specs.ArrayString.{array_string_len};
 ghost use Rattle.def_run.specs.ErrorLines.{corners_text, error_line, limit_text, name_text, place_text, reason_text};
 ghost use Rattle.qm_top.specs.Named.{HasNames, IsNamed};
 
+use crate::why_line::why_of;
 use def_mesh::Place;
 use def_run::Answer;
 use def_text::Which;
-use qm_print::{Line, line_of, numbered_line, push_numbered};
+use qm_print::{Line, line_of, numbered_line, push_integer, push_numbered};
 
 /// The whole line of an answer, where `names` has the vertices' numbers in the file. It takes no memory.
 pub(crate) fn error_line_of(answer: &Answer, names: &[u32]) -> Line
@@ -31,18 +32,22 @@ fn reason_of(answer: &Answer, names: &[u32]) -> Line
     ensures text { result.bytes ≡ reason_text names.now answer.now }
     ensures short { array_string_len result ≤ 200 }
 {
-    match *answer {
+    match answer {
         Answer::Done => line_of(""),
+        Answer::NotAccepted { why } => why_of(why),
         Answer::Usage => line_of(USAGE),
         Answer::Syntax { line } => numbered_line(
             "line ",
-            u64::from(line),
+            u64::from(*line),
             ": not an OBJ line of this profile",
         ),
-        Answer::NotQuad { line, corners } => corners_of(u64::from(line), u64::from(corners)),
-        Answer::Range { line } => numbered_line("line ", u64::from(line), ": number out of range"),
-        Answer::Limit { which, line } => limit_of(which, line),
-        Answer::NotManifold { place } => place_of(place, names),
+        Answer::NotQuad { line, corners } => corners_of(u64::from(*line), u64::from(*corners)),
+        Answer::Range { line } => numbered_line("line ", u64::from(*line), ": number out of range"),
+        Answer::Limit { which, line } => limit_of(*which, *line),
+        Answer::NotManifold { place } => place_of(*place, names),
+        Answer::Tangled { count } => numbered_line("tangled: ", *count, ""),
+        Answer::TooFine { faces, .. } => too_fine_of(*faces),
+        Answer::Doubled { u, v, .. } => doubled_of(*u, *v),
         Answer::ReadFault => line_of("read fault"),
         Answer::WriteFault => line_of("write fault"),
         Answer::Memory => line_of("out of memory"),
@@ -55,6 +60,26 @@ fn corners_of(line: u64, corners: u64) -> Line
 {
     let mut text = numbered_line("line ", line, ": face with ");
     push_numbered(&mut text, corners, " corners");
+    text
+}
+
+/// So many faces. The number may be as wide as the product of two lengths.
+fn too_fine_of(faces: u128) -> Line
+    ensures text { result.bytes ≡ codes "too fine: " ++ decimal faces ++ codes " faces" }
+    ensures short { array_string_len result ≤ 200 }
+{
+    let mut text = line_of("too fine: ");
+    push_integer(&mut text, faces, " faces");
+    text
+}
+
+/// The ends of an edge, which count from 1.
+fn doubled_of(u: u32, v: u32) -> Line
+    ensures text { result.bytes ≡ codes "doubled edge: " ++ decimal (u + 1) ++ codes " " ++ decimal (v + 1) }
+    ensures short { array_string_len result ≤ 200 }
+{
+    let mut text = numbered_line("doubled edge: ", u64::from(u) + 1, " ");
+    push_numbered(&mut text, u64::from(v) + 1, "");
     text
 }
 

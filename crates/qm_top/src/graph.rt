@@ -1,13 +1,13 @@
 //! `graph`: a mesh is read, and the text of its traced graph and layout is written.
 
-ghost use Rattle.std.specs.Prelude.{◌≡◌, ◌≢◌, OnOk, IfOk, IfErr};
+ghost use Rattle.std.specs.Prelude.{IfOk};
 ghost use Rattle.def_io.specs.Moves.{change};
 ghost use Rattle.def_run.specs.Graph.{IsGraphText};
-ghost use Rattle.qm_top.specs.Refusals.{answer_of, Ended, Finished};
+ghost use Rattle.qm_top.specs.Runs.{HasRun};
 
 use crate::input::{MeshInput, read_mesh};
 use crate::refusal::Refusal;
-use def_run::{Answer, Command};
+use def_run::Command;
 use qm_grid::patches;
 use qm_io::{Memory, Sink, Source, write_all};
 use qm_mesh::Mesh;
@@ -23,13 +23,9 @@ pub(crate) fn graph<S: Source, O: Sink>(
     input: &mut S,
     out: &mut O,
 ) -> Result<(), Refusal>
-    ensures done { OnOk result (Finished Command.Graph
+    ensures { HasRun Command.Graph
         (change (S.left input.old) (S.left input.new) (S.faults input.old) (S.faults input.new))
-        (change (O.taken out.old) (O.taken out.new) (O.faults out.old) (O.faults out.new))) }
-    ensures refused { IfErr result (Ended Command.Graph
-        (change (S.left input.old) (S.left input.new) (S.faults input.old) (S.faults input.new))
-        (change (O.taken out.old) (O.taken out.new) (O.faults out.old) (O.faults out.new))) }
-    ensures untouched { IfErr result (λ r. answer_of r ≢ Answer.WriteFault → out.new ≡ out.old) }
+        (change (O.taken out.old) (O.taken out.new) (O.faults out.old) (O.faults out.new)) out.old out.new result }
 {
     let MeshInput { mesh, soup: _ } = read_mesh(alloc, input)?;
     let text = text_of(alloc, &mesh)?;

@@ -7,13 +7,16 @@ mod graph;
 mod input;
 mod named;
 mod process;
+mod refine;
 mod refusal;
+mod remesh;
 mod tidy;
+mod why_line;
 mod words;
 
 pub use command::run;
 pub use def_mesh::Place;
-pub use def_run::Answer;
+pub use def_run::{Answer, Kept, Why};
 pub use process::{exit_status, run_process};
 
 #[cfg(test)]

@@ -1,49 +1,68 @@
 //! Why a command ends without its output.
 
 ghost use Rattle.std.specs.Prelude.{◌≡◌, ◌≢◌, []};
+ghost use Rattle.def_io.specs.declared.fails.WriteFail.TheVariants as fails;
 ghost use Rattle.qm_top.specs.Named.{HasNames};
-ghost use Rattle.qm_top.specs.Refusals.{answer_of, answer_of_obj, answer_of_soup, answer_of_words, names_of};
+ghost use Rattle.qm_top.specs.Refusals.{answer_of, answer_of_layout, answer_of_obj, answer_of_soup, answer_of_words, names_of};
+ghost use Rattle.qm_top.specs.Writing.{refusal_of_put};
 ghost use Rattle.qm_top.specs.declared.refusal.Refusal.TheVariants as refusals;
 
 use crate::named::NamedPlace;
 use def_io::WriteFail;
+use def_output::Stopped;
+use def_remesh::LayoutFail;
 use def_run::{Answer, WordsFail};
 use def_text::{ObjFail, SoupFail, Which};
-use std::alloc::AllocError;
+use qm_remeshed::PutFail;
+use std::alloc::{AllocError, Global};
 
 /// Why a command ends without its output.
 #[derive(Debug, Drop)]
 pub(crate) enum Refusal {
     Soup(SoupFail),
     NotManifold(NamedPlace),
+    Layout(LayoutFail),
     Write(WriteFail),
     Memory,
 }
 
+/// The answer of a run that is not done, with the numbers in the file of the vertices that it may name.
+#[derive(Debug, Drop)]
+pub(crate) struct Reply {
+    pub(crate) answer: Answer,
+    pub(crate) names: Vec<u32>,
+}
+
 impl Refusal {
-    /// The answer of the run.
-    pub(crate) fn answer(&self) -> Answer
-        ensures answer { result ≡ answer_of self.now }
-        ensures named { HasNames (names_of self.now) result }
-        ensures refusal { result ≢ Answer.Done }
-        ensures accepted { result ≢ Answer.Usage }
+    /// The answer of the run. It takes no memory.
+    pub(crate) fn into_reply(self, alloc: Global) -> Reply
+        ensures answer { result.answer ≡ answer_of self }
+        ensures names { result.names.items ≡ names_of self }
+        ensures named { HasNames result.names.items result.answer }
+        ensures refusal { result.answer ≢ Answer.Done }
+        ensures accepted { result.answer ≢ Answer.Usage }
     {
         match self {
-            Refusal::Soup(fail) => soup_answer(*fail),
-            Refusal::NotManifold(named) => Answer::NotManifold { place: named.place },
-            Refusal::Write(_) => Answer::WriteFault,
-            Refusal::Memory => Answer::Memory,
+            Refusal::Soup(fail) => unnamed(alloc, soup_answer(fail)),
+            Refusal::NotManifold(named) => Reply {
+                answer: Answer::NotManifold { place: named.place },
+                names: named.names,
+            },
+            Refusal::Layout(fail) => unnamed(alloc, layout_answer(fail)),
+            Refusal::Write(_) => unnamed(alloc, Answer::WriteFault),
+            Refusal::Memory => unnamed(alloc, Answer::Memory),
         }
     }
+}
 
-    /// The numbers in the file of the vertices that the answer may name.
-    pub(crate) fn names(&self) -> &[u32]
-        ensures { result.now ≡ names_of self.now }
-    {
-        match self {
-            Refusal::NotManifold(named) => &named.names,
-            _ => &[],
-        }
+/// An answer that names no vertex.
+fn unnamed(alloc: Global, answer: Answer) -> Reply
+    ensures answer { result.answer ≡ answer }
+    ensures names { result.names.items ≡ [] }
+{
+    Reply {
+        answer,
+        names: Vec::new(alloc),
     }
 }
 
@@ -55,11 +74,38 @@ impl From<SoupFail> for Refusal {
     }
 }
 
+impl From<LayoutFail> for Refusal {
+    ghost from_gives = { λ fail e. e ≡ refusals.Layout fail };
+
+    fn from(fail: LayoutFail) -> Refusal {
+        Refusal::Layout(fail)
+    }
+}
+
 impl From<WriteFail> for Refusal {
     ghost from_gives = { λ fail e. e ≡ refusals.Write fail };
 
     fn from(fail: WriteFail) -> Refusal {
         Refusal::Write(fail)
+    }
+}
+
+impl From<Stopped> for Refusal {
+    ghost from_gives = { λ _ e. e ≡ refusals.Write fails.Fault };
+
+    fn from(_: Stopped) -> Refusal {
+        Refusal::Write(WriteFail::Fault)
+    }
+}
+
+impl From<PutFail> for Refusal {
+    ghost from_gives = { λ fail e. e ≡ refusal_of_put fail };
+
+    fn from(fail: PutFail) -> Refusal {
+        match fail {
+            PutFail::Stopped => Refusal::Write(WriteFail::Fault),
+            PutFail::Memory => Refusal::Memory,
+        }
     }
 }
 
@@ -84,6 +130,7 @@ pub(crate) fn words_answer(fail: WordsFail) -> Answer
 
 fn soup_answer(fail: SoupFail) -> Answer
     ensures answer { result ≡ answer_of_soup fail }
+    ensures unnamed { HasNames [] result }
     ensures refusal { result ≢ Answer.Done }
     ensures accepted { result ≢ Answer.Usage }
 {
@@ -100,6 +147,7 @@ fn soup_answer(fail: SoupFail) -> Answer
 
 fn obj_answer(fail: ObjFail) -> Answer
     ensures answer { result ≡ answer_of_obj fail }
+    ensures unnamed { HasNames [] result }
     ensures refusal { result ≢ Answer.Done }
     ensures accepted { result ≢ Answer.Usage }
 {
@@ -109,5 +157,19 @@ fn obj_answer(fail: ObjFail) -> Answer
         ObjFail::Range { line } => Answer::Range { line },
         ObjFail::Limit { which, line } => Answer::Limit { which, line },
         ObjFail::Memory => Answer::Memory,
+    }
+}
+
+fn layout_answer(fail: LayoutFail) -> Answer
+    ensures answer { result ≡ answer_of_layout fail }
+    ensures unnamed { HasNames [] result }
+    ensures refusal { result ≢ Answer.Done }
+    ensures accepted { result ≢ Answer.Usage }
+{
+    match fail {
+        LayoutFail::Tangled { count } => Answer::Tangled { count },
+        LayoutFail::TooFine { faces, kept } => Answer::TooFine { faces, kept },
+        LayoutFail::Doubled { u, v, cert } => Answer::Doubled { u, v, cert },
+        LayoutFail::Memory => Answer::Memory,
     }
 }

@@ -59,7 +59,7 @@ fn pieces_of_any_size_give_the_same(rt: HostRuntime) -> Result<(), Fail> {
     for step in [1, 7, 10, 1000] {
         let ends = Ends { step, fails: 0 };
         let (answer, out, err) = tidied(rt.alloc(), QUAD, ends, ends, ends)?;
-        assert_eq!(rt; answer, Answer::Done);
+        assert!(rt; matches!(answer, Answer::Done));
         assert_eq!(rt; out.taken(), QUAD);
         assert_eq!(rt; err.taken(), b"".as_slice());
     }
@@ -70,12 +70,12 @@ fn pieces_of_any_size_give_the_same(rt: HostRuntime) -> Result<(), Fail> {
 fn each_fault_of_the_source_is_told(rt: HostRuntime) -> Result<(), Fail> {
     for fails in 1..7 {
         let (answer, out, err) = tidied(rt.alloc(), QUAD, Ends { step: 10, fails }, WELL, WELL)?;
-        assert_eq!(rt; answer, Answer::ReadFault);
+        assert!(rt; matches!(answer, Answer::ReadFault));
         assert_eq!(rt; out.taken(), b"".as_slice());
         assert_eq!(rt; err.taken(), b"quadq: read fault\n".as_slice());
     }
     let (answer, _out, _err) = tidied(rt.alloc(), QUAD, Ends { step: 10, fails: 7 }, WELL, WELL)?;
-    assert_eq!(rt; answer, Answer::Done);
+    assert!(rt; matches!(answer, Answer::Done));
     Ok(())
 }
 
@@ -83,7 +83,7 @@ fn each_fault_of_the_source_is_told(rt: HostRuntime) -> Result<(), Fail> {
 fn each_fault_of_the_sink_leaves_a_front(rt: HostRuntime) -> Result<(), Fail> {
     for fails in 1..6u64 {
         let (answer, out, err) = tidied(rt.alloc(), QUAD, WELL, Ends { step: 10, fails }, WELL)?;
-        assert_eq!(rt; answer, Answer::WriteFault);
+        assert!(rt; matches!(answer, Answer::WriteFault));
         assert!(rt; QUAD.starts_with(out.taken()));
         assert_eq!(rt; out.taken().len() as u64, 10 * (fails - 1));
         assert_eq!(rt; err.taken(), b"quadq: write fault\n".as_slice());
@@ -102,7 +102,7 @@ fn a_fault_of_the_error_sink_changes_nothing(rt: HostRuntime) -> Result<(), Fail
     let line = b"quadq: edge 1 2: faces 1 and 2\n".as_slice();
     for fails in 0..6 {
         let (answer, out, err) = tidied(rt.alloc(), TWICE, WELL, WELL, Ends { step: 10, fails })?;
-        assert_eq!(rt; answer, Answer::NotManifold { place });
+        assert!(rt; matches!(answer, Answer::NotManifold { place: found } if found == place));
         assert_eq!(rt; answer.status(), 7);
         assert_eq!(rt; out.taken(), b"".as_slice());
         assert!(rt; line.starts_with(err.taken()));
@@ -114,7 +114,7 @@ fn a_fault_of_the_error_sink_changes_nothing(rt: HostRuntime) -> Result<(), Fail
 fn a_text_cut_anywhere_is_done_or_refused(rt: HostRuntime) -> Result<(), Fail> {
     for end in 0..QUAD.len() {
         let (answer, out, err) = tidied(rt.alloc(), &QUAD[..end], WELL, WELL, WELL)?;
-        if answer == Answer::Done {
+        if matches!(answer, Answer::Done) {
             assert_eq!(rt; err.taken(), b"".as_slice());
         } else {
             assert_eq!(rt; out.taken(), b"".as_slice());
@@ -144,10 +144,8 @@ fn other_words_are_a_matter_of_usage(rt: HostRuntime) -> Result<(), Fail> {
             sink(rt.alloc(), WELL)?,
             sink(rt.alloc(), WELL)?,
         );
-        assert_eq!(rt;
-            run(rt.alloc(), &words, &mut input, &mut out, &mut err),
-            Answer::Usage
-        );
+        let answer = run(rt.alloc(), &words, &mut input, &mut out, &mut err);
+        assert!(rt; matches!(answer, Answer::Usage));
         assert_eq!(rt; out.taken(), b"".as_slice());
         assert!(rt;
             err.taken()

@@ -1,14 +1,19 @@
 //! `tidy`: a mesh is read, and its canonical text is written.
 
-ghost use Rattle.std.specs.Prelude.{◌≡◌, ◌≢◌, OnOk, IfErr};
-ghost use Rattle.def_io.specs.Moves.{change};
-ghost use Rattle.qm_top.specs.Refusals.{answer_of, Ended, Finished};
+ghost use Rattle.std.specs.Prelude.{◌≡◌, OnOk, OnErr};
+ghost use Rattle.def_io.specs.Faults.{Rose};
+ghost use Rattle.def_io.specs.Moves.{change, took, TookFront};
+ghost use Rattle.def_text.specs.Canonical.{canonical_text};
+ghost use Rattle.qm_top.specs.Runs.{HasRun};
 
-use crate::input::read_mesh;
+use crate::input::{MeshInput, read_mesh};
 use crate::refusal::Refusal;
-use def_run::{Answer, Command};
-use qm_io::{Sink, Source, write_all};
-use qm_obj::obj_text;
+use def_output::Stopped;
+use def_run::Command;
+use def_text::Soup;
+use qm_io::{Sink, Source};
+use qm_obj::put_soup;
+use qm_output::{Buffer, Room};
 use std::alloc::Global;
 
 /// Reads a mesh, checks that it is a manifold and writes its canonical text.
@@ -17,16 +22,23 @@ pub(crate) fn tidy<S: Source, O: Sink>(
     input: &mut S,
     out: &mut O,
 ) -> Result<(), Refusal>
-    ensures done { OnOk result (Finished Command.Tidy
+    ensures { HasRun Command.Tidy
         (change (S.left input.old) (S.left input.new) (S.faults input.old) (S.faults input.new))
-        (change (O.taken out.old) (O.taken out.new) (O.faults out.old) (O.faults out.new))) }
-    ensures refused { IfErr result (Ended Command.Tidy
-        (change (S.left input.old) (S.left input.new) (S.faults input.old) (S.faults input.new))
-        (change (O.taken out.old) (O.taken out.new) (O.faults out.old) (O.faults out.new))) }
-    ensures untouched { IfErr result (λ r. answer_of r ≢ Answer.WriteFault → out.new ≡ out.old) }
+        (change (O.taken out.old) (O.taken out.new) (O.faults out.old) (O.faults out.new)) out.old out.new result }
 {
-    let read = read_mesh(alloc, input)?;
-    let text = obj_text(alloc, &read.soup)?;
-    write_all(out, &text)?;
+    let MeshInput { soup, mesh: _ } = read_mesh(alloc, input)?;
+    let mut room = Room::new(alloc)?;
+    write_soup(&soup, out, &mut room)?;
     Ok(())
+}
+
+/// Writes the canonical text of a soup.
+fn write_soup<O: Sink>(soup: &Soup, out: &mut O, room: &mut Room) -> Result<(), Stopped>
+    ensures whole { OnOk result (O.taken out.new ≡ took (O.taken out.old) (canonical_text soup.now)) }
+    ensures front { OnErr result (TookFront (O.taken out.old) (O.taken out.new) (canonical_text soup.now)) }
+    ensures fault { OnErr result (Rose (O.faults out.old) (O.faults out.new)) }
+{
+    let mut text = Buffer::new(out, room);
+    put_soup(&mut text, soup)?;
+    text.flush()
 }

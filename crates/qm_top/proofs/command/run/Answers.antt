@@ -1,4 +1,4 @@
-use Rattle.std.proofs.Common.{inl, inr}
+use Rattle.std.proofs.Common.{inl, inr, ◌∙◌}
 use Rattle.qm_top.proofs.Complete.{completes_as, not_read}
 use Rattle.qm_top.proofs.Refusals.{says_why, says_words}
 use Rattle.qm_top.proofs.command.run.Goals as goal
@@ -9,14 +9,15 @@ returns-in-Err-clause-complete g c = λ command line good.
 
 pub returns-in-Err-clause-told : goal.returns-in-Err-clause-told
 returns-in-Err-clause-told g c = λ refused.
-    says_words _ _ c.in-Err.fail c.words_answer-answer.result _ c.words_answer-answer.ensures.answer c.error_line_of.ensures c.say.ensures
+    says_words _ _ _ c.in-Err.fail c.words_answer-answer.result _ c.words_answer-answer.ensures.answer c.error_line_of.ensures c.say.ensures
 
 pub returns-in-Err-run_command-clause-complete : goal.returns-in-Err-run_command-clause-complete
 returns-in-Err-run_command-clause-complete g c = λ command line good.
-    completes_as c.in-Ok.command command _ _ c.answer-answer.result _ c.answer-answer.ensures.answer (c.in-Ok.ensures.only command line)
+    completes_as c.in-Ok.command command _ _ c.into_reply-reply.result.answer _ c.into_reply-reply.ensures.answer (c.in-Ok.ensures.only command line)
     c.in-Err-run_command.ensures.refused.cause good
 
 pub returns-in-Err-run_command-clause-told : goal.returns-in-Err-run_command-clause-told
 returns-in-Err-run_command-clause-told g c = λ refused.
-    says_why _ _ c.in-Err-run_command.refusal c.answer-answer.result c.names.result.now _ c.answer-answer.ensures.answer c.names.ensures
+    says_why _ c.in-Ok.command _ _ c.in-Err-run_command.refusal c.into_reply-reply.result.answer c.deref.result.now _ c.in-Ok.ensures.reads
+    c.into_reply-reply.ensures.answer (c.deref.ensures.value ∙ c.into_reply-reply.ensures.names)
     c.in-Err-run_command.ensures.refused.names c.error_line_of-in-Err-run_command.ensures c.say-in-Err-run_command.ensures

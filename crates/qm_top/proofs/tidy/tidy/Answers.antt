@@ -1,6 +1,8 @@
-use Rattle.qm_top.proofs.Refusals.{handed_on, input_ended}
+use Rattle.std.proofs.Common.{refl}
+use Rattle.qm_top.proofs.Refusals.{handed_run, input_ended, tidy_needs}
 use Rattle.qm_top.proofs.tidy.tidy.Goals as goal
 
-pub returns-in_err-read-clause-refused : goal.returns-in_err-read-clause-refused
-returns-in_err-read-clause-refused g c =
-    handed_on _ _ _ _ c.in_err-read.field-0.0 c.from_residual.ensures.1 (input_ended _ _ _ c.in_err-read.field-0.0 (λ bytes answer none. none) c.in_err-read.ensures.refused)
+pub returns-in_err-soup : goal.returns-in_err-soup
+returns-in_err-soup g c =
+    handed_run _ _ _ _ _ _ c.in_err-soup.field-0.0 c.from_residual.ensures.1
+    (input_ended _ _ _ c.in_err-soup.field-0.0 tidy_needs c.in_err-soup.ensures.refused) refl

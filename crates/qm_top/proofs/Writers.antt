@@ -1,0 +1,81 @@
+-- What a command keeps that writes a new mesh.
+use Rattle.std.specs.Prelude.{IfErr, OnOk}
+use Rattle.std.proofs.Common.{◌≡◌, ◌≢◌, Result, Ok, Err, refl}
+use Rattle.def_io.specs.Bytes.{Bytes}
+use Rattle.def_io.specs.Moves.{Change}
+use Rattle.def_mesh.specs.declared.Place.{Place}
+use Rattle.def_remesh.specs.declared.kept.LayoutFail.{LayoutFail}
+use Rattle.def_remesh.specs.declared.kept.LayoutFail.TheVariants as layouts
+use Rattle.def_run.specs.Causes.{Cause, Reads, Writes}
+use Rattle.def_run.specs.declared.answer.Answer.TheVariants as answers
+use Rattle.def_run.specs.declared.command.Command.{Command}
+use Rattle.qm_top.specs.Refusals.{answer_of, answer_of_layout, Ended}
+use Rattle.qm_top.specs.Runs.{HasRun}
+use Rattle.qm_top.specs.Writing.{IsUnwritten, WroteText}
+use Rattle.qm_top.specs.declared.refusal.Refusal.{Refusal}
+use Rattle.qm_top.specs.declared.refusal.Refusal.TheVariants.{Soup, NotManifold, Layout, Write}
+use Rattle.qm_top.specs.declared.refusal.Refusal.TheVariants as refusals
+
+-- No layout's refusal names a place.
+layout_place : (fail : LayoutFail) (p : Place) → answer_of_layout fail ≡ answers.NotManifold p → ⊥
+layout_place (layouts.Tangled count) p is = cc
+layout_place (layouts.TooFine faces kept) p is = cc
+layout_place (layouts.Doubled u v cert) p is = cc
+layout_place layouts.Memory p is = cc
+
+-- What is known of a command that has read its bytes: what it writes for them, and how it refuses their layout.
+pub record IsWriter (command : Command) (says : Bytes → Type 0) (fails : LayoutFail → Type 0) (input out : Change) : Type 0 where
+  pub bytes : Bytes
+  pub whole : Reads command input bytes
+  pub calm : input.faults_now ≡ input.faults
+  pub writes : (text : Bytes) → says text → Writes command bytes text
+  pub refuses : (fail : LayoutFail) → fails fail → Cause command input out (answer_of_layout fail)
+
+module _ (command : Command) (says : Bytes → Type 0) (fails : LayoutFail → Type 0) (input out : Change)
+    (is : IsWriter command says fails input out) where
+  -- A text that was not written whole ends the command.
+  unwritten_ends : {O : Type 0} (before now : O) (r : Refusal) → IsUnwritten says fails out before now r → Ended command input out r
+  unwritten_ends before now (Layout fail) none =
+      record { cause = is.refuses fail none.1; names = λ p same. absurd (layout_place fail p same); calm = λ _ _. is.calm }
+  unwritten_ends before now (Write fail) broke = record {
+    cause = record {
+      bytes = is.bytes;
+      whole = is.whole;
+      text = broke.text;
+      said = is.writes broke.text broke.said;
+      front = broke.front;
+      fault = broke.fault;
+    };
+    names = λ p same. cc;
+    calm = λ _ _. is.calm;
+  }
+  unwritten_ends before now refusals.Memory same = record { cause = tt; names = λ p same. cc; calm = λ _ _. is.calm }
+  unwritten_ends before now (Soup fail) none = absurd none
+  unwritten_ends before now (NotManifold named) none = absurd none
+
+  -- The sink is as it was, unless the write failed.
+  same_sink : {O : Type 0} (before now : O) (r : Refusal) → IsUnwritten says fails out before now r → answer_of r ≢ answers.WriteFault → now ≡ before
+  same_sink before now (Layout fail) none other = none.0
+  same_sink before now (Write fail) broke other = absurd (other refl)
+  same_sink before now refusals.Memory same other = same
+  same_sink before now (Soup fail) none other = absurd none
+  same_sink before now (NotManifold named) none other = absurd none
+
+  pub writer_runs : {O : Type 0} (before now : O) (result : Result (Unit {0}) Refusal)
+      → OnOk result (WroteText says out) → IfErr result (IsUnwritten says fails out before now) → HasRun command input out before now result
+  writer_runs before now (Ok x) wrote none = record {
+    done = record {
+      wrote = record {
+        bytes = is.bytes;
+        whole = is.whole;
+        text = wrote.text;
+        said = is.writes wrote.text wrote.said;
+        written = wrote.written;
+      };
+      calm = is.calm;
+    };
+    refused = tt;
+    untouched = tt;
+  }
+  writer_runs before now (Err r) wrote none =
+      record { done = tt; refused = unwritten_ends before now r none; untouched = same_sink before now r none }

@@ -1,0 +1,56 @@
+-- What a command does that writes a new mesh.
+use Rattle.std.specs.Prelude.{◌≡◌}
+use Rattle.def_io.specs.Bytes.{Bytes}
+use Rattle.def_io.specs.Faults.{Rose}
+use Rattle.def_io.specs.Moves.{Change, took, TookFront}
+use Rattle.def_certtext.specs.declared.Asked.{Asked}
+use Rattle.def_layout.specs.Plans.{Plan}
+use Rattle.std.specs.Option.{option_map}
+use Rattle.def_certtext.specs.CertLines.{lists_of}
+use Rattle.def_io.specs.declared.fails.WriteFail.TheVariants as writes
+use Rattle.def_remesh.specs.Refusals.{IsLayoutFail}
+use Rattle.def_remesh.specs.Remeshed.{remeshed_text}
+use Rattle.qm_remeshed.specs.declared.remesh.Remesh.{Remesh}
+use Rattle.qm_remeshed.specs.declared.text.PutFail.{PutFail}
+use Rattle.qm_remeshed.specs.declared.text.PutFail.TheVariants as puts
+use Rattle.def_remesh.specs.declared.kept.LayoutFail.{LayoutFail}
+use Rattle.def_run.specs.Remesh.{IsCutTo}
+use Rattle.def_text.specs.FaceSet.{FaceSet}
+use Rattle.qm_top.specs.declared.refusal.Refusal.{Refusal}
+use Rattle.qm_top.specs.declared.refusal.Refusal.TheVariants.{Layout, Write}
+use Rattle.qm_top.specs.declared.refusal.Refusal.TheVariants as refusals
+
+-- The sink took a text that says this.
+pub record WroteText (says : Bytes → Type 0) (out : Change) : Type 0 where
+  pub text : Bytes
+  pub said : says text
+  pub written : out.told_now ≡ took out.told text
+
+-- It failed, and took only a front of one.
+pub record BrokeText (says : Bytes → Type 0) (out : Change) : Type 0 where
+  pub text : Bytes
+  pub said : says text
+  pub front : TookFront out.told out.told_now text
+  pub fault : Rose out.faults out.faults_now
+
+-- Why no text was written whole. Where the sink did not fail it is as it was.
+abbrev pub IsUnwritten : {O : Type 0} (says : Bytes → Type 0) (fails : LayoutFail → Type 0) (out : Change) (before now : O)
+    (refusal : Refusal) → Type 0
+IsUnwritten says fails out before now (Layout fail) = (now ≡ before) × fails fail
+IsUnwritten says fails out before now (Write fail) = BrokeText says out
+IsUnwritten says fails out before now refusals.Memory = now ≡ before
+IsUnwritten says fails out before now _ = ⊥
+
+-- Why a soup is not remeshed as it was asked for: its layout is refused.
+abbrev pub FailsToRemesh : (asked : Asked) (soup : FaceSet) (failed : LayoutFail) → Type 0
+FailsToRemesh asked soup failed = (plan : Plan) × IsCutTo soup.faces plan × IsLayoutFail plan asked.settings asked.auto failed
+
+-- The text of what is kept of a layout.
+abbrev pub text_of : (kept : Remesh) (soup : FaceSet) (plan : Plan) → Bytes
+text_of kept soup plan =
+    remeshed_text kept.asked.settings kept.asked.auto soup plan (lists_of kept.first) (option_map lists_of kept.third)
+
+-- The refusal of a text that was not put whole.
+abbrev pub refusal_of_put : (fail : PutFail) → Refusal
+refusal_of_put puts.Stopped = Write writes.Fault
+refusal_of_put puts.Memory = refusals.Memory

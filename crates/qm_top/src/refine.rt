@@ -1,0 +1,107 @@
+//! `refine`: a mesh is read, and written with each edge divided in so many.
+
+ghost use Rattle.std.specs.Prelude.{◌≡◌, ◌≤◌, IfOk, IfErr, OnOk, OnErr};
+ghost use Rattle.def_io.specs.Faults.{Rose};
+ghost use Rattle.def_io.specs.Moves.{change, took, TookFront};
+ghost use Rattle.def_layout.specs.Plans.{plan};
+ghost use Rattle.def_remesh.specs.Placings.{IsLayoutIn};
+ghost use Rattle.def_remesh.specs.Refined.{refined_text};
+ghost use Rattle.def_run.specs.declared.command.TheConstants.{MAX_MULTIPLE};
+ghost use Rattle.qm_top.specs.Refining.{ArePointsBy, HasNoPoints, IsNotRefined, WroteRefined};
+ghost use Rattle.qm_top.specs.Runs.{HasRun};
+
+use crate::input::{MeshInput, read_mesh};
+use crate::refusal::Refusal;
+use def_output::Stopped;
+use def_remesh::{Kept, LayoutFail, StitchFail};
+use def_run::Command;
+use def_text::Soup;
+use qm_cut::traced_layout;
+use qm_io::{Sink, Source};
+use qm_output::{Buffer, Room};
+use qm_refine::{put_refined, refined_points};
+use qm_write::{CutMesh, NewPoints};
+use std::alloc::Global;
+
+/// The points of the mesh in which each edge is divided in so many.
+#[derive(Drop)]
+struct Refined {
+    by: u32,
+    points: NewPoints,
+}
+
+/// Reads a mesh, divides each edge in so many, and writes the new mesh.
+pub(crate) fn refine<S: Source, O: Sink>(
+    alloc: Global,
+    by: u32,
+    input: &mut S,
+    out: &mut O,
+) -> Result<(), Refusal>
+    requires some { 1 ≤ by }
+    requires few { by ≤ MAX_MULTIPLE }
+    ensures { HasRun (Command.Refine by)
+        (change (S.left input.old) (S.left input.new) (S.faults input.old) (S.faults input.new))
+        (change (O.taken out.old) (O.taken out.new) (O.faults out.old) (O.faults out.new)) out.old out.new result }
+{
+    let read = read_mesh(alloc, input)?;
+    refine_mesh(alloc, by, read, out)
+}
+
+/// Writes a mesh with each edge divided in so many.
+fn refine_mesh<O: Sink>(alloc: Global, by: u32, read: MeshInput, out: &mut O) -> Result<(), Refusal>
+    requires some { 1 ≤ by }
+    requires few { by ≤ MAX_MULTIPLE }
+    requires mesh { read.mesh ≡ read.soup.faces }
+    ensures done { OnOk result (WroteRefined by read.soup
+        (change (O.taken out.old) (O.taken out.new) (O.faults out.old) (O.faults out.new))) }
+    ensures refused { IfErr result (IsNotRefined by read.soup
+        (change (O.taken out.old) (O.taken out.new) (O.faults out.old) (O.faults out.new)) out.old out.new) }
+{
+    let MeshInput { soup, mesh } = read;
+    let layout = traced_layout(alloc, &mesh)?;
+    let cut = CutMesh { mesh, layout };
+    let refined = points_by(alloc, by, &cut)?;
+    let mut room = Room::new(alloc)?;
+    write_refined(&soup, &cut, &refined, out, &mut room)?;
+    Ok(())
+}
+
+/// The points of the new mesh.
+fn points_by(alloc: Global, by: u32, cut: &CutMesh) -> Result<Refined, LayoutFail>
+    requires some { 1 ≤ by }
+    requires few { by ≤ MAX_MULTIPLE }
+    requires layout { IsLayoutIn cut.now.mesh (plan cut.now.layout) }
+    ensures by { IfOk result (λ refined. refined.by ≡ by) }
+    ensures points { IfOk result (λ refined. ArePointsBy by cut.now.mesh (plan cut.now.layout) refined.points) }
+    ensures refused { IfErr result (HasNoPoints by (plan cut.now.layout)) }
+{
+    match refined_points(alloc, &cut.mesh, &cut.layout, by) {
+        Ok(points) => Ok(Refined { by, points }),
+        Err(StitchFail::TooFine { faces }) => Err(LayoutFail::TooFine {
+            faces,
+            kept: Kept::Multiple { by },
+        }),
+        Err(_) => Err(LayoutFail::Memory),
+    }
+}
+
+/// Writes the text of the new mesh through a buffer.
+fn write_refined<O: Sink>(
+    soup: &Soup,
+    cut: &CutMesh,
+    refined: &Refined,
+    out: &mut O,
+    room: &mut Room,
+) -> Result<(), Stopped>
+    requires mesh { cut.now.mesh ≡ soup.now.faces }
+    requires points { ArePointsBy refined.now.by cut.now.mesh (plan cut.now.layout) refined.now.points }
+    ensures whole { OnOk result (O.taken out.new
+        ≡ took (O.taken out.old) (refined_text refined.now.by soup.now (plan cut.now.layout))) }
+    ensures front { OnErr result (TookFront (O.taken out.old) (O.taken out.new)
+        (refined_text refined.now.by soup.now (plan cut.now.layout))) }
+    ensures fault { OnErr result (Rose (O.faults out.old) (O.faults out.new)) }
+{
+    let mut text = Buffer::new(out, room);
+    put_refined(&mut text, refined.by, soup, cut, &refined.points)?;
+    text.flush()
+}

@@ -1,0 +1,95 @@
+//! `remesh`: a mesh is read, and written with least lengths and the certificates that show it.
+
+ghost use Rattle.std.specs.Prelude.{◌≡◌, IfErr, IsErrOf, OnOk};
+ghost use Rattle.std.specs.Option.{option_map};
+ghost use Rattle.def_certtext.specs.CertLines.{lists_of};
+ghost use Rattle.def_certtext.specs.Settings.{AreInRange};
+ghost use Rattle.def_io.specs.Faults.{Rose};
+ghost use Rattle.def_io.specs.Moves.{change, took, TookFront};
+ghost use Rattle.def_layout.specs.Plans.{plan};
+ghost use Rattle.def_remesh.specs.Keeping.{IsKept};
+ghost use Rattle.def_remesh.specs.Placings.{IsLayoutIn};
+ghost use Rattle.def_remesh.specs.Remeshed.{IsRemeshed};
+ghost use Rattle.qm_top.specs.Runs.{HasRun};
+ghost use Rattle.qm_top.specs.Writing.{text_of, FailsToRemesh, IsUnwritten, WroteText};
+
+use crate::input::{MeshInput, read_mesh};
+use crate::refusal::Refusal;
+use def_certtext::Asked;
+use def_run::Command;
+use def_text::Soup;
+use qm_cut::traced_layout;
+use qm_io::{Sink, Source};
+use qm_output::{Buffer, Room};
+use qm_remesh::keep;
+use qm_remeshed::{PutFail, Remesh, put_remeshed};
+use qm_write::CutMesh;
+use std::alloc::Global;
+
+/// Reads a mesh, finds least lengths for its layout, and writes the new mesh with their certificates.
+pub(crate) fn remesh<S: Source, O: Sink>(
+    alloc: Global,
+    asked: Asked,
+    input: &mut S,
+    out: &mut O,
+) -> Result<(), Refusal>
+    requires { AreInRange asked.settings asked.auto }
+    ensures { HasRun (Command.Remesh asked.settings asked.auto)
+        (change (S.left input.old) (S.left input.new) (S.faults input.old) (S.faults input.new))
+        (change (O.taken out.old) (O.taken out.new) (O.faults out.old) (O.faults out.new)) out.old out.new result }
+{
+    let read = read_mesh(alloc, input)?;
+    remesh_mesh(alloc, asked, read, out)
+}
+
+/// Writes a mesh with least lengths.
+fn remesh_mesh<O: Sink>(
+    alloc: Global,
+    asked: Asked,
+    read: MeshInput,
+    out: &mut O,
+) -> Result<(), Refusal>
+    requires range { AreInRange asked.settings asked.auto }
+    requires mesh { read.mesh ≡ read.soup.faces }
+    ensures done { OnOk result (WroteText (IsRemeshed asked.settings asked.auto read.soup)
+        (change (O.taken out.old) (O.taken out.new) (O.faults out.old) (O.faults out.new))) }
+    ensures refused { IfErr result (IsUnwritten (IsRemeshed asked.settings asked.auto read.soup)
+        (FailsToRemesh asked read.soup)
+        (change (O.taken out.old) (O.taken out.new) (O.faults out.old) (O.faults out.new)) out.old out.new) }
+{
+    let MeshInput { soup, mesh } = read;
+    let layout = traced_layout(alloc, &mesh)?;
+    let kept = keep(alloc, &layout, asked)?;
+    let cut = CutMesh { mesh, layout };
+    write_remeshed(alloc, &soup, &cut, kept, out)?;
+    Ok(())
+}
+
+/// Writes the text of a remesh through a buffer.
+fn write_remeshed<O: Sink>(
+    alloc: Global,
+    soup: &Soup,
+    cut: &CutMesh,
+    kept: Remesh,
+    out: &mut O,
+) -> Result<(), PutFail>
+    requires mesh { cut.now.mesh ≡ soup.now.faces }
+    requires layout { IsLayoutIn cut.now.mesh (plan cut.now.layout) }
+    requires kept { IsKept (plan cut.now.layout) kept.asked.settings kept.asked.auto
+        (lists_of kept.first) (option_map lists_of kept.third) kept.numbering }
+    ensures whole { OnOk result (O.taken out.new ≡ took (O.taken out.old) (text_of kept soup.now (plan cut.now.layout))) }
+    ensures front { IsErrOf result PutFail.Stopped → TookFront (O.taken out.old) (O.taken out.new)
+        (text_of kept soup.now (plan cut.now.layout)) }
+    ensures fault { IsErrOf result PutFail.Stopped → Rose (O.faults out.old) (O.faults out.new) }
+    ensures untouched { IsErrOf result PutFail.Memory → out.new ≡ out.old }
+{
+    let Ok(mut room) = Room::new(alloc) else {
+        return Err(PutFail::Memory);
+    };
+    let mut text = Buffer::new(out, &mut room);
+    put_remeshed(alloc, &mut text, soup, cut, kept)?;
+    match text.flush() {
+        Ok(()) => Ok(()),
+        Err(_) => Err(PutFail::Stopped),
+    }
+}
