@@ -1,12 +1,13 @@
 //! Networks whose least deviations are known, and small ones by chance against a search over all lists.
 
-ghost use Rattle.std.specs.Prelude.{◌≡◌, true, IfOk};
+ghost use Rattle.std.specs.Prelude.{◌≡◌, ◌<◌, ◌≤◌, true, IfOk};
+ghost use Rattle.def_math.specs.Counts.{count};
 ghost use Rattle.def_flow.specs.Network.{network, IsWithinBounds};
 ghost use Rattle.def_flow.specs.Admissible.{IsEven};
 
 use crate::start::{multiple, old_multiple};
 use crate::{Memory, is_start, solve, solve_from};
-use def_flow::{Arc, End, MAX_TANGLE, Net};
+use def_flow::{Arc, End, MAX_SUM, MAX_TANGLE, Net};
 use qm_net::{admissible, are_lengths, deviation, is_within_bounds, tangle_of};
 use qm_nettext::{FLAPS, QUAD, TREBLED, read_net};
 use std::alloc::Global;
@@ -140,21 +141,27 @@ fn is_even(alloc: Global, net: &Net) -> Result<bool, Memory>
     ensures { IfOk result (λ even. even ≡ true → IsEven (network net.now)) }
 {
     let old = multiple(alloc, &net.arcs, 1)?;
-    Ok(are_lengths(net, &old) && admissible(net, &old) && are_few(&net.arcs))
+    if !are_lengths(net, &old) || !admissible(net, &old) {
+        return Ok(false);
+    }
+    Ok(are_few(&net.arcs))
 }
 
 /// Whether the old lengths have a small sum.
-fn are_few(arcs: &[Arc]) -> bool {
+fn are_few(arcs: &[Arc]) -> bool
+    ensures { result ≡ true → count (λ (a : Arc). a.old) arcs.now ≤ MAX_SUM }
+{
     let mut all = 0u64;
     for arc in arcs {
         all = all.saturating_add(u64::from(arc.old));
     }
-    all <= 8_388_608
+    all <= u64::from(MAX_SUM)
 }
 
 /// The next number, below a bound.
 fn draw(chance: &mut u64, bound: u64) -> u64
     requires { 1 ≤ bound }
+    ensures { result < bound }
 {
     *chance = chance
         .wrapping_mul(6_364_136_223_846_793_005)
@@ -186,7 +193,7 @@ fn net_by_chance(alloc: Global, chance: &mut u64) -> Result<Net, Memory> {
                     plus: *sum < 0,
                 },
                 right: None,
-                old: sum.unsigned_abs() as u32,
+                old: u32::try_from(sum.unsigned_abs()).unwrap_or(u32::MAX),
                 weight: 1,
             })?;
         }
@@ -249,11 +256,8 @@ fn are_balanced(net: &Net, x: &[u64]) -> bool {
         let mut ends = [Some(arc.left), arc.right];
         for end in ends.iter().flatten() {
             if let Some(sum) = sums.get_mut(end.node as usize) {
-                *sum = sum.saturating_add(if end.plus {
-                    *length as i64
-                } else {
-                    0i64.saturating_sub(*length as i64)
-                });
+                let length = i64::try_from(*length).unwrap_or(i64::MAX);
+                *sum = sum.saturating_add(if end.plus { length } else { -length });
             }
         }
     }
