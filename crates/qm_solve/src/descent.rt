@@ -56,14 +56,19 @@ pub(crate) fn descend(alloc: Global, net: &Net, start: Start) -> Result<Cert, Me
     }
 }
 
-/// A descent that has not begun. Linear.
+/// A descent that has not begun. A list with prices is near a least one, and its prices are those of steps of 1, so
+/// they are taken at once. Linear.
 pub fn first_descent(net: &Net, start: Start) -> Descent
     requires bounds { IsWithinBounds (network net.now) }
     requires start { IsStartOf (network net.now) start.lengths.items }
     ensures start { IsStartOf (network net.now) result.x.items }
     ensures step { (1 ≤ result.step) × (result.step ≤ MAX_STEP) }
 {
-    let step = first_step(net, &start.lengths);
+    let step = if start.prices.is_empty() {
+        first_step(net, &start.lengths)
+    } else {
+        1
+    };
     Descent {
         x: start.lengths,
         step,
