@@ -1,10 +1,9 @@
 -- The root's key is at most each leaf's.
-use Rattle.std.proofs.Common.{◌≡◌, ◌≢◌, ℕ, zero, suc, ◌+◌, ◌-◌, ◌*◌, ◌/◌, ◌<◌, ◌≤◌, ◌⊎◌, min, List, length, get_or, drop, refl, sym, ◌∙◌, ap, subst, inl, inr, arith}
-use Rattle.std.proofs.Math.ListN.{set}
+use Rattle.std.proofs.Common.{◌≡◌, ◌≢◌, ℕ, zero, suc, ◌+◌, ◌-◌, ◌*◌, ◌/◌, ◌<◌, ◌≤◌, ◌⊎◌, min, List, length, get_or, drop, ◌∙◌, ap, inl, inr, arith}
 use Rattle.std.proofs.lemmas.Bool.{cases_eq}
 use Rattle.std.proofs.lemmas.Grind.{get_or_default_zero}
 use Rattle.std.proofs.lemmas.List.{get_or-drop, length-drop}
-use Rattle.qm_tour.specs.Trees.{IsTree, IsTreeBut, HasSameLeaves}
+use Rattle.qm_tour.specs.Trees.{IsTree}
 
 -- A node's key is at most those below it.
 node_low : (room : ℕ) (keys : List ℕ) → IsTree room keys → (k : ℕ) → 2 ≤ k → k < room + room → get_or keys (k / 2) 0 ≤ get_or keys k 0

@@ -70,7 +70,7 @@ impl Tour {
     }
 }
 
-/// Mends the nodes from one up to the root, below which all are in order.
+/// Mends the nodes from one up to the root, below which all are in order. It stops at the first that keeps its key.
 fn settle(keys: &mut [u64], room: usize, from: usize)
     requires tree { IsTreeBut room from keys.old }
     requires low { from < room }
@@ -79,9 +79,11 @@ fn settle(keys: &mut [u64], room: usize, from: usize)
 {
     let mut node = from;
     while node > 0 {
-        let left = keys[2 * node];
-        let right = keys[2 * node + 1];
-        keys[node] = if left <= right { left } else { right };
+        let least = keys[2 * node].min(keys[2 * node + 1]);
+        if keys[node] == least {
+            return;
+        }
+        keys[node] = least;
         node /= 2;
     }
 }
