@@ -1,5 +1,5 @@
 -- The tables after a ring of outermost blossoms was gathered into a set.
-use Rattle.std.proofs.Common.{◌≡◌, ◌≢◌, ℕ, zero, suc, ◌+◌, ◌-◌, ◌<◌, ◌≤◌, Bool, true, false, cond, eqb, List, length, get_or, ℤ, pos, ◌+ℤ◌, ◌-ℤ◌, ◌⊎◌, Option, Some, None, refl, sym, ◌∙◌, ap, subst, inl, inr, length-set, get_or-set_same, get_or-set_other, arith}
+use Rattle.std.proofs.Common.{◌≡◌, ◌≢◌, ℕ, suc, ◌+◌, ◌-◌, ◌<◌, ◌≤◌, Bool, true, false, cond, eqb, List, length, get_or, ℤ, pos, ◌+ℤ◌, ◌-ℤ◌, ◌⊎◌, Option, Some, None, refl, sym, ◌∙◌, ap, subst, inl, inr, length-set, get_or-set_same, get_or-set_other, arith}
 use Rattle.std.proofs.Math.ListN.{set}
 use Rattle.std.specs.Prelude.{slice_get}
 use Rattle.std.proofs.lemmas.Bool.{cases_eq, cases_Bool, cond-true, cond-false, eq-eqb, ne_eqb}
@@ -14,12 +14,12 @@ use Rattle.qm_forest.specs.Gathers.{IsRow, IsGathered}
 use Rattle.qm_forest.specs.Ties.{AreTied, HiddenTables, HasSizes, HasNumbers, IsClimb, IsInUse, IsLaidOut, IsListed, IsPooled, IsTrailed}
 use Rattle.qm_forest.proofs.Enclosed.{climb_enclosed as the_climb_enclosed, holds_same as the_holds_same, holds_new as the_holds_new}
 use Rattle.qm_forest.proofs.JoinedLists.{list_agrees, list_renamed, list_has_last, list_last, list_member, row_joined, walk_agrees}
-use Rattle.qm_forest.proofs.JoinedRows.{ring_sum_low}
+use Rattle.qm_forest.proofs.JoinedRows.{ring_sum_above}
 use Rattle.qm_forest.proofs.Ranges.{read_nat}
 use Rattle.qm_forest.proofs.TiedWrites.{entry_set}
 use Rattle.qm_forest.proofs.Nests.{out_used, rank_few, rank_some, rank_passed}
 use Rattle.qm_forest.proofs.GatheredRows.{RowFacts, row_facts}
-use Rattle.qm_forest.proofs.GatheredNumbers.{numbers_new as the_numbers_new}
+use Rattle.qm_forest.proofs.GatheredNumbers.{numbers_new as the_numbers_new, trail_new as the_trail_new}
 use Rattle.qm_forest.proofs.Pooled.{pool_taken}
 
 module _ (t : ForestTables) (hid : HiddenTables) (tied : AreTied t hid) (front many b big : ℕ) (row : IsRow (length t.up) t.after front many)
@@ -140,29 +140,7 @@ module _ (t : ForestTables) (hid : HiddenTables) (tied : AreTied t hid) (front m
         next_at (many - 1) (omega (arith, two)))
 
     row_rank : (k : ℕ) → k < many → rank (at k) < total
-    row_rank k l = by_first (cases_eq k 0)
-      where
-        more : (j : ℕ) → suc j ≤ many → ring_sum (λ i. get_or t.after i 0) rank front (suc j) ≤ total
-        more j lj = below j (many - suc j) (omega (arith, lj))
-          where
-            grows : (a m : ℕ) → ring_sum (λ i. get_or t.after i 0) rank front a ≤ ring_sum (λ i. get_or t.after i 0) rank front (a + m)
-            grows a m = ring_sum_low (λ i. get_or t.after i 0) rank front a m
-
-            below : (j d : ℕ) → suc j + d ≡ many → ring_sum (λ i. get_or t.after i 0) rank front (suc j) ≤ total
-            below j d e = subst (λ m. ring_sum (λ i. get_or t.after i 0) rank front (suc j) ≤ ring_sum (λ i. get_or t.after i 0) rank front m) e (grows (suc j) d)
-
-        some_at : (j : ℕ) → j < many → 1 ≤ rank (at j)
-        some_at j lj = (facts.row_list j lj).some
-
-        positive : (j : ℕ) → 1 ≤ j → j ≤ many → 1 ≤ ring_sum (λ i. get_or t.after i 0) rank front j
-        positive zero lj le = absurd (omega (arith, lj))
-        positive (suc j) lj le = omega (arith, some_at j (omega (arith, le)))
-
-        by_first : (k ≡ 0) ⊎ (k ≢ 0) → rank (at k) < total
-        by_first (inl z) =
-            let first : rank (at k) ≡ rank front = ap (λ j. rank (at j)) z in
-            omega (arith, first, some_at 1 (omega (arith, two)), more 1 (omega (arith, two)))
-        by_first (inr nz) = omega (arith, more k (omega (arith, l)), positive k (omega (arith, nz)) (omega (arith, l)))
+    row_rank k l = ring_sum_above (λ i. get_or t.after i 0) rank front many two (λ j lj. (facts.row_list j lj).some) k l
 
     nest_new : IsLaidOut n (length t.up) hand2 top2 up2 rank2 parts2 leader2 first2 last2 following2
     nest_new = record {
@@ -323,16 +301,9 @@ module _ (t : ForestTables) (hid : HiddenTables) (tied : AreTied t hid) (front m
         facts.row_outside facts.b_outside weightless hands hand_size up_size qs holds_old out_in out_off root_is
 
     trail_new : IsTrailed n hand2 top2 t.label t.trail hid.touched
-    trail_new = record {
-      low = tied.trail.low;
-      counted = tied.trail.counted;
-      marked = tied.trail.marked;
-      named = λ x named. (let w : (k : ℕ) × (k < length t.trail) × (out (get_or t.trail k 0) ≡ x) = tied.trail.named x named in
-          (w.0, w.1, out_off (get_or t.trail w.0 0) (tied.trail.low w.0 w.1) (named_off x named w.2) ∙ w.2));
-    }
-      where
-        named_off : (x : ℕ) → label_at t.label x ≢ Outside → {y : ℕ} → y ≡ x → inside y ≡ false
-        named_off x named {y} e = elim (cases_Bool (inside y)) [ inl yes' ↦ absurd (named (ap (label_at t.label) (sym e) ∙ facts.row_outside y yes')) | inr off ↦ off ]
+    trail_new = the_trail_new t hid tied b handle inside hand2 top2 up2 root2 q2 facts.handle_low
+        (tied.nest.led handle facts.handle_low ∙ ap (λ x. get_or hid.leader x 0) facts.handle_out) (ap inside facts.handle_out ∙ facts.big_in)
+        facts.row_outside facts.b_outside weightless hands hand_size up_size qs holds_old out_in out_off root_is
 
     pool_new : IsPooled n (length t.up) parts2 pool2
     pool_new = subst (λ ps. IsPooled n (length t.up) ps pool2) (sym parts_is) (subst (IsPooled n (length t.up) (set t.parts b many)) (sym pool_is)

@@ -1,4 +1,5 @@
--- The numbers after a ring was gathered: each vertex of the new set took its own shares along, and the set has none.
+-- The numbers and the trail after a ring was gathered: each vertex of the new set took its own shares along, and the set
+-- has none.
 use Rattle.std.proofs.Common.{◌≡◌, ◌≢◌, ℕ, ◌<◌, Bool, true, false, cond, List, length, get_or, ℤ, pos, ◌+ℤ◌, ◌-ℤ◌, ◌≤ℤ◌}
 use Rattle.std.proofs.Common.{◌⊎◌, Option, None, sym, ◌∙◌, ap, subst, inl, inr, arith}
 use Rattle.std.specs.Prelude.{unsigned_abs}
@@ -11,7 +12,7 @@ use Rattle.def_forest.specs.Tables.{ForestTables, climbs, label_at, out_of, up_a
 use Rattle.def_forest.specs.declared.kinds.Label.{Label}
 use Rattle.def_forest.specs.declared.kinds.Label.TheVariants.{Outside}
 use Rattle.forest_laws.proofs.Writes.{by_none}
-use Rattle.qm_forest.specs.Ties.{AreTied, HiddenTables, HasNumbers, added, told, weights_around, all_weights}
+use Rattle.qm_forest.specs.Ties.{AreTied, HiddenTables, HasNumbers, IsTrailed, added, told, weights_around, all_weights}
 
 module _ (t : ForestTables) (hid : HiddenTables) (tied : AreTied t hid) (b handle : ℕ) (inside : ℕ → Bool)
     (hand2 top2 up2 : List ℕ) (root2 : Option ℕ) (q2 : List ℤ) (low : handle < length t.hand)
@@ -93,3 +94,16 @@ module _ (t : ForestTables) (hid : HiddenTables) (tied : AreTied t hid) (b handl
     risen = (tied.numbers.risen.0, subst (λ (z : ℤ). t.delta ≤ℤ (z -ℤ tied.numbers.start)) (sym all_new) tied.numbers.risen.1);
     still = λ none. tied.numbers.still (root_is none);
   }
+
+  -- The trail stays: who is on it is not in the row.
+  pub trail_new : IsTrailed n hand2 top2 t.label t.trail hid.touched
+  trail_new = record {
+    low = tied.trail.low;
+    counted = tied.trail.counted;
+    marked = tied.trail.marked;
+    named = λ x named. (let w : (k : ℕ) × (k < length t.trail) × (out (get_or t.trail k 0) ≡ x) = tied.trail.named x named in
+        (w.0, w.1, out_off (get_or t.trail w.0 0) (tied.trail.low w.0 w.1) (named_off x named w.2) ∙ w.2));
+  }
+    where
+      named_off : (x : ℕ) → label_at t.label x ≢ Outside → {y : ℕ} → y ≡ x → inside y ≡ false
+      named_off x named {y} e = elim (cases_Bool (inside y)) [ inl yes' ↦ absurd (named (ap (label_at t.label) (sym e) ∙ outside y yes')) | inr off ↦ off ]
