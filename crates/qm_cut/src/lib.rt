@@ -3,4 +3,4 @@
 
 mod traced;
 
-pub use traced::traced_layout;
+pub use traced::{layout_from, traced_layout};

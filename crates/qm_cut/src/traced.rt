@@ -5,9 +5,11 @@ ghost use Rattle.def_cut.specs.Traced.{traced_marks};
 ghost use Rattle.def_layout.specs.FaceLayouts.{IsLayoutOf};
 ghost use Rattle.def_layout.specs.Plans.{plan};
 ghost use Rattle.def_layoutnet.specs.MeshLayouts.{IsMeshLayout};
+ghost use Rattle.def_mesh.specs.Sources.{AreSources};
 ghost use Rattle.def_written.specs.Laws.{AreQuads};
 
 use def_layout::TMesh;
+use def_mesh::Starts;
 use qm_grid::patches;
 use qm_mesh::Mesh;
 use qm_sing::sources;
@@ -20,9 +22,18 @@ pub fn traced_layout(alloc: Global, mesh: &Mesh) -> Result<TMesh, AllocError>
     ensures traced { IfOk result (λ t. IsLayoutOf mesh.now (traced_marks mesh.now) (plan t)) }
     ensures mesh { IfOk result (λ t. (is : IsMeshLayout (plan t)) × (is.faces ≡ mesh.now)) }
 {
-    are_quads(mesh.faces());
     let sources = sources(alloc, mesh)?;
-    let graph = trace(alloc, mesh, &sources)?;
+    layout_from(alloc, mesh, &sources)
+}
+
+/// The same, where the sources of the mesh are at hand.
+pub fn layout_from(alloc: Global, mesh: &Mesh, sources: &Starts) -> Result<TMesh, AllocError>
+    requires { AreSources mesh.now sources.now }
+    ensures traced { IfOk result (λ t. IsLayoutOf mesh.now (traced_marks mesh.now) (plan t)) }
+    ensures mesh { IfOk result (λ t. (is : IsMeshLayout (plan t)) × (is.faces ≡ mesh.now)) }
+{
+    are_quads(mesh.faces());
+    let graph = trace(alloc, mesh, sources)?;
     let patches = patches(alloc, mesh, &graph)?;
     layout(alloc, mesh, &graph, patches)
 }

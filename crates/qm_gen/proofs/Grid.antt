@@ -11,7 +11,7 @@ use Rattle.def_gen.specs.Steps.{cell, cells, column_height, columns, grid_points
 use Rattle.def_mesh.specs.Faces.{Face, Faces}
 use Rattle.def_mesh.specs.Vertices.{is_used}
 use Rattle.def_text.specs.FaceSet.{FaceSet, IsSoup}
-use Rattle.def_text.specs.Text.{face_set, numbers_to, position_of, used_to}
+use Rattle.def_text.specs.Text.{face_set, numbers_to, position_of, used_to, vertex_of}
 use Rattle.def_text.specs.Types.{Positions}
 use Rattle.qm_obj.proofs.SoupLemmas.{length-numbers_to, numbers_rise}
 
@@ -84,6 +84,32 @@ few_used n few soup points faces is used =
       length-numbers_to (length points),
       ap length is,
       few_points n few,
+    )
+
+-- How many cells there are.
+row_few : (n row : ℕ) → length (row_cells n row) ≤ 3 * n
+row_few n row = omega (
+  arith,
+  length-map (filter (λ column. nat_lt row (column_height n column)) (range_with_len 0 (3 * n))) (λ column. cell n column row),
+  filter_few (λ column. nat_lt row (column_height n column)) (range_with_len 0 (3 * n)),
+  length-range_with_len 0 (3 * n),
+)
+
+rows_few : (n y k : ℕ) → length (flat_map (row_cells n) (range_with_len y k)) ≤ k * (3 * n)
+rows_few n y zero = omega arith
+rows_few n y (suc k) =
+    let product : suc k * (3 * n) ≡ k * (3 * n) + 3 * n = suc-mul k (3 * n) in
+    omega (arith, length-append (row_cells n y) (flat_map (row_cells n) (range_with_len (y + 1) k)), row_few n y, rows_few n (y + 1) k, product)
+
+pub few_faces : (n : ℕ) → n ≤ 10000 → (soup : FaceSet) → (points : Positions) (faces : Faces) → faces ≡ cells n → soup ≡ face_set points faces
+    → length soup.faces ≤ 2 ^ 20
+few_faces n few soup points faces is used =
+    omega (
+      arith,
+      ap (λ (s : FaceSet). length s.faces) used,
+      length-map faces (λ corners. map (vertex_of faces) corners),
+      ap length is,
+      rows_few n 0 8,
     )
 
 -- A soup whose vertices are numbered anew is one.

@@ -1,6 +1,6 @@
 //! The stepped mesh.
 
-ghost use Rattle.std.specs.Prelude.{◌≡◌, ◌≤◌, ◌<◌, ◌+◌, ◌*◌, ◌%◌, ◌^◌, ◌++◌, pos, map, IfOk, OnOk};
+ghost use Rattle.std.specs.Prelude.{◌≡◌, ◌≤◌, ◌<◌, ◌+◌, ◌*◌, ◌%◌, ◌^◌, ◌++◌, pos, length, map, IfOk, OnOk};
 ghost use Rattle.std.specs.List.{range_with_len};
 ghost use Rattle.def_gen.specs.Steps.{block_height, cell, cells, column_height, columns, grid_points, point};
 ghost use Rattle.def_gen.specs.Steps.{point_number, row_cells, row_points, state_after, steps_soup};
@@ -11,7 +11,7 @@ use def_gen::{
     ADDEND, BLOCK_COLUMNS, FACTOR, GREATEST_HEIGHT, HEIGHTS, LEAST_HEIGHT, LOW_STATES, MAX_BLOCKS,
     STATES,
 };
-use def_text::{Micro, Soup};
+use def_text::{MAX_FACES, MAX_VERTICES, Micro, Soup};
 use qm_obj::soup_of;
 use std::alloc::Global;
 
@@ -19,7 +19,8 @@ use std::alloc::Global;
 pub fn steps_mesh(alloc: Global, n: u32) -> Result<Soup, Memory>
     requires some { 1 ≤ n }
     requires few { n ≤ MAX_BLOCKS }
-    ensures { IfOk result (λ soup. soup ≡ steps_soup n) }
+    ensures soup { IfOk result (λ soup. soup ≡ steps_soup n) }
+    ensures small { IfOk result (λ soup. (length soup.pos ≤ MAX_VERTICES) × (length soup.faces ≤ MAX_FACES)) }
 {
     let heights = block_heights(alloc, n)?;
     let points = grid_points(alloc, n)?;

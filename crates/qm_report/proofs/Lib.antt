@@ -1,3 +1,3 @@
 mod Texts
-mod TableReads
+pub mod TableReads
 mod FirstDarts

@@ -1,7 +1,7 @@
 use Rattle.std.proofs.Common.{◌≡◌, ℕ, List, length, arith, ap, subst, sym, ◌∙◌}
 use Rattle.def_text.specs.FaceSet.{IsSoup}
 use Rattle.def_text.specs.Text.{numbers_to}
-use Rattle.qm_gen.proofs.Grid.{are_known, few_points, few_used, with_numbers}
+use Rattle.qm_gen.proofs.Grid.{are_known, few_faces, few_points, few_used, with_numbers}
 use Rattle.qm_gen.proofs.steps.steps_mesh.Goals as goal
 
 pub soup_of-requires-clause-few : goal.soup_of-requires-clause-few
@@ -25,3 +25,10 @@ invariant_of-result c =
     subst (λ (names : List ℕ). IsSoup (record { pos = c.pos.inside.pos.items; faces = c.pos.inside.faces.items; names = names }))
     (sym (c.in_ok-names.ensures ∙ ap numbers_to count))
     (with_numbers c.pos.inside.pos.items c.pos.inside.faces.items c.pos.inside.names.items c.pos.invariant)
+
+pub returns-clause-small : goal.returns-clause-small
+returns-clause-small c =
+    let used = c.pos.view_is ∙ c.in_ok-pos.ensures in (
+      few_used c.args.n c.requires.few _ c.in_ok-points.points.items c.in_ok-cells.cells.items c.in_ok-points.ensures used,
+      few_faces c.args.n c.requires.few _ c.in_ok-points.points.items c.in_ok-cells.cells.items c.in_ok-cells.ensures used,
+    )

@@ -4,7 +4,7 @@ use Rattle.def_layout.specs.FaceLayouts.{IsLayoutOf}
 use Rattle.def_layout.specs.Plans.{plan}
 use Rattle.def_written.specs.Laws.{AreQuads}
 use Rattle.def_layoutnet.specs.MeshLayouts.{IsMeshLayout}
-use Rattle.qm_cut.proofs.traced.traced_layout.Goals as goal
+use Rattle.qm_cut.proofs.traced.layout_from.Goals as goal
 
 pub returns-clause-mesh : goal.returns-clause-mesh
 returns-clause-mesh c =

@@ -1,0 +1,2 @@
+mod Deviations
+mod Lines

@@ -1,0 +1,46 @@
+-- The line of counts that are told, and why a size is refused.
+use Rattle.std.specs.Prelude.{IfErr, IsErrAnd}
+use Rattle.std.proofs.Common.{◌≡◌, ℕ, pos, false, Result, Ok, Err, length, ap, sym, subst}
+use Rattle.def_layout.specs.Plans.{Plan}
+use Rattle.def_mesh.specs.Components.{edge_count, start_darts}
+use Rattle.def_mesh.specs.Faces.{Faces}
+use Rattle.def_mesh.specs.Vertices.{vertex_count}
+use Rattle.def_remesh.specs.Refusals.{IsLayoutFail}
+use Rattle.def_remesh.specs.declared.kept.LayoutFail.{LayoutFail}
+use Rattle.def_remesh.specs.declared.kept.LayoutFail.TheVariants as fail
+use Rattle.def_report.specs.BenchLine.{bench_line}
+use Rattle.def_report.specs.declared.Counts.{Counts}
+use Rattle.def_run.specs.Bench.{bench_faces, bench_settings, counts_of, IsBenchFail}
+use Rattle.def_run.specs.Remesh.{IsCutTo}
+
+-- Counts that are those of a mesh and its layout give its line.
+pub same_line : (size : ℕ) (told : Counts) (faces : Faces) (plan : Plan) (deviation : ℕ)
+    → told.vertices ≡ vertex_count faces → told.edges ≡ edge_count faces → told.faces ≡ length faces
+    → told.riders ≡ length (start_darts faces) → told.patches ≡ length plan.patches → told.arcs ≡ length plan.arcs
+    → told.deviation ≡ pos deviation → bench_line size told ≡ bench_line size (counts_of faces plan deviation)
+same_line size told faces plan deviation vertices edges many riders patches arcs far =
+    let same : told ≡ counts_of faces plan deviation = λ i. record {
+      vertices = vertices i;
+      edges = edges i;
+      faces = many i;
+      riders = riders i;
+      patches = patches i;
+      arcs = arcs i;
+      deviation = far i;
+    } in
+    ap (bench_line size) same
+
+-- A layout of the mesh of a size that is refused is why the size is.
+size_fails : (size : ℕ) (plan : Plan) (failed : LayoutFail) → IsCutTo (bench_faces size) plan
+    → IsLayoutFail plan bench_settings false failed → IsBenchFail size failed
+size_fails size plan (fail.Tangled count) cut why = (plan, cut, why)
+size_fails size plan (fail.TooFine faces kept) cut why = (plan, cut, why)
+size_fails size plan (fail.Doubled u v cert) cut why = (plan, cut, why)
+size_fails size plan fail.Memory cut why = tt
+
+-- So it is for a refusal that is handed on.
+pub handed_fails : {T : Type 0} (size : ℕ) (plan : Plan) (result : Result T LayoutFail) (failed : LayoutFail)
+    → IsErrAnd result (λ e. e ≡ failed) → IsCutTo (bench_faces size) plan → IsLayoutFail plan bench_settings false failed
+    → IfErr result (IsBenchFail size)
+handed_fails size plan (Ok x) failed is cut why = absurd is
+handed_fails size plan (Err e) failed is cut why = subst (IsBenchFail size) (sym is) (size_fails size plan failed cut why)

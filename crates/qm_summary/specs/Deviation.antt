@@ -1,0 +1,17 @@
+-- What a benchmark measures of a layout.
+use Rattle.std.specs.Prelude.{◌≡◌, ℤ, pos}
+use Rattle.def_certtext.specs.CertLines.{Lists}
+use Rattle.def_flow.specs.Admissible.{deviation, entries}
+use Rattle.def_layout.specs.Plans.{Plan, layout_of}
+use Rattle.def_remesh.specs.NewPoints.{lengths_in}
+use Rattle.def_remesh.specs.Remeshed.{AreCoarse, IsCertified}
+use Rattle.def_run.specs.Bench.{bench_settings}
+use Rattle.def_written.specs.Edges.{IsUndoubled}
+
+-- The deviation of lengths of a layout that are shown to be least and give a new mesh.
+pub record IsKeptDeviation (plan : Plan) (told : ℤ) : Type 0 where
+  pub cert : Lists
+  pub certified : IsCertified plan bench_settings cert
+  pub coarse : AreCoarse plan cert.x
+  pub undoubled : IsUndoubled (layout_of plan) (lengths_in cert.x)
+  pub is : told ≡ pos (deviation certified.net (entries cert.x))

@@ -1,0 +1,54 @@
+//! The deviation of the lengths that a benchmark keeps.
+
+ghost use Rattle.std.specs.Prelude.{◌≡◌, ◌<◌, ◌^◌, ◌<ℤ◌, pos, false, length, IfOk, IfErr, OnOk};
+ghost use Rattle.def_layout.specs.Plans.{plan};
+ghost use Rattle.def_layoutnet.specs.MeshLayouts.{IsMeshLayout};
+ghost use Rattle.def_remesh.specs.Refusals.{IsLayoutFail};
+ghost use Rattle.def_run.specs.Bench.{bench_settings};
+ghost use Rattle.qm_summary.specs.Deviation.{IsKeptDeviation};
+
+use def_certtext::Asked;
+use def_flow::{Settings, Weight};
+use def_layout::TMesh;
+use def_layoutnet::NetFail;
+use def_remesh::LayoutFail;
+use qm_layoutnet::net_of;
+use qm_net::deviation;
+use qm_remesh::keep;
+use std::alloc::Global;
+
+/// The deviation of the lengths that a remesh of this layout keeps, with the settings of a benchmark.
+///
+/// The time is that of `keep`.
+pub(crate) fn kept_deviation(alloc: Global, t: &TMesh) -> Result<i128, LayoutFail>
+    requires { IsMeshLayout (plan t.now) }
+    ensures kept { IfOk result (IsKeptDeviation (plan t.now)) }
+    ensures small { IfOk result (λ deviation. deviation <ℤ pos (2 ^ 127)) }
+    ensures few { OnOk result ((length (plan t.now).patches < 2 ^ 32) × (length (plan t.now).arcs < 2 ^ 32)) }
+    ensures refused { IfErr result (IsLayoutFail (plan t.now) bench_settings false) }
+{
+    let settings = half();
+    let asked = Asked {
+        settings,
+        auto: false,
+    };
+    let kept = keep(alloc, t, asked)?;
+    let net = match net_of(alloc, t, &settings) {
+        Ok(net) => net,
+        Err(NetFail::Tangled { count }) => return Err(LayoutFail::Tangled { count }),
+        Err(NetFail::Memory) => return Err(LayoutFail::Memory),
+    };
+    Ok(deviation(&net, &kept.first.x))
+}
+
+/// Half of the old lengths, at least 1, all arcs alike.
+fn half() -> Settings
+    ensures { result ≡ bench_settings }
+{
+    Settings {
+        p: 1,
+        q: 2,
+        floor: 1,
+        weight: Weight::Plain,
+    }
+}
