@@ -1,14 +1,13 @@
 // The peer of `best`: the least cost of a perfect matching by LEMON's MaxWeightedPerfectMatching, of the graph that
-// graphs.cpp writes. Prints the cost and the seconds that LEMON took.
-#include <chrono>
+// graphs.cpp writes. Prints the cost and the seconds of the processor that LEMON took.
 #include <cstdint>
 #include <cstdio>
+#include <ctime>
 #include <lemon/matching.h>
 #include <lemon/smart_graph.h>
 #include <vector>
 
 int main() {
-    using Clock = std::chrono::steady_clock;
     unsigned n = 0;
     size_t m = 0;
     if (std::scanf("graph %u %zu", &n, &m) != 2) return 2;
@@ -24,10 +23,10 @@ int main() {
         if (std::scanf("%u %u %lld", &u, &v, &cost) != 3) return 2;
         weights[graph.addEdge(nodes[u], nodes[v])] = -cost;
     }
-    auto start = Clock::now();
+    const std::clock_t start = std::clock();
     lemon::MaxWeightedPerfectMatching<lemon::SmartGraph, lemon::SmartGraph::EdgeMap<int64_t>> matching(graph, weights);
     if (!matching.run()) return std::puts("no perfect matching"), 1;
-    double seconds = std::chrono::duration<double>(Clock::now() - start).count();
+    double seconds = double(std::clock() - start) / CLOCKS_PER_SEC;
     std::printf("cost %lld seconds %.3f\n", -(long long)matching.matchingWeight(), seconds);
     return 0;
 }

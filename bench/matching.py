@@ -4,14 +4,14 @@ of the matching graphs of networks. Both have to find the same cost.
 
 usage: bench/matching.py [FILE.net..]     without files: the networks of generated meshes
 
-quadq is given a perfect matching of each graph, as its solver has one; LEMON takes none.
+quadq is given a perfect matching of each graph, as its solver has one; LEMON takes none. All seconds are those that the
+processor spent, which other work on the machine changes little.
 """
 import os
 import re
 import subprocess
 import sys
 import tempfile
-import time
 
 from solve import net_of_graph
 
@@ -59,18 +59,16 @@ def graphs(room, files):
 
 
 def run(words, text):
-    """Seconds, MB and output of a run."""
+    """Seconds of the processor, MB and output of a run."""
     with tempfile.TemporaryFile() as file:
         file.write(text)
         file.seek(0)
-        start = time.perf_counter()
         child = subprocess.Popen(words, stdin=file, stdout=subprocess.PIPE)
         said = child.stdout.read().decode()
         _, status, usage = os.wait4(child.pid, 0)
-        seconds = time.perf_counter() - start
     if status != 0:
         sys.exit(f"{words} ended with {status}")
-    return seconds, usage.ru_maxrss / 1024, said
+    return usage.ru_utime + usage.ru_stime, usage.ru_maxrss / 1024, said
 
 
 def main():
