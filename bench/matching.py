@@ -1,6 +1,6 @@
 #!/usr/bin/env python3
-"""Measures least perfect matchings against LEMON, where Debian's liblemon-dev is installed: of random sparse graphs, and
-of the matching graphs of networks. Both have to find the same cost.
+"""Measures least perfect matchings against LEMON, where Debian's liblemon-dev is installed: of random sparse graphs,
+and of the matching graphs of networks. Both have to find the same cost.
 
 usage: bench/matching.py [FILE.net..]     without files: the networks of generated meshes
 
@@ -38,7 +38,8 @@ def net_text(net):
     nodes, floor, p, q, arcs = net
     lines = [f"net nodes {nodes} arcs {len(arcs)} floor {floor} scale {p}/{q}"]
     for old, weight, ends in arcs:
-        lines.append(f"arc {old} {weight} " + " ".join(f"{n} {s}" for n, s in ends) + (" rim" if len(ends) == 1 else ""))
+        rim = " rim" if len(ends) == 1 else ""
+        lines.append(f"arc {old} {weight} " + " ".join(f"{n} {s}" for n, s in ends) + rim)
     return "\n".join(lines) + "\n"
 
 
@@ -79,7 +80,8 @@ def main():
         lemon = built(room, "matching", "-llemon")
         if lemon is None:
             print("LEMON: not measured, since Debian's liblemon-dev is not installed")
-        print(f"{'graph':<44}{'vertices':>9}{'edges':>9}{'sets':>7}{'quadq s':>9}{'MB':>6}{'LEMON s':>9}{'MB':>6}{'ratio':>7}")
+        head = f"{'graph':<44}{'vertices':>9}{'edges':>9}{'sets':>7}"
+        print(head + f"{'quadq s':>9}{'MB':>6}{'LEMON s':>9}{'MB':>6}{'ratio':>7}")
         for name, text in graphs(room, sys.argv[1:]):
             vertices, edges = map(int, text.split(b"\n", 1)[0].split()[1:])
             ours, theirs, megabytes = None, None, [0, 0]
