@@ -4,8 +4,13 @@ both end, their least deviations have to be equal.
 
 usage: bench/solve.py [--alone] [FILE.net..]     without files: the networks of generated meshes; alone: without cbc
 
-The columns: the searches that are left to the matching in all rounds, the seconds and megabytes of the whole program,
-and the seconds of its parts: reading, the start, and the rounds. A network is a text: a line `net nodes N arcs A floor F scale P/Q`, and for each arc a line `arc OLD WEIGHT NODE SIGN
+All seconds but those of the parts are of the processor, user and system, so that they mean something on a busy machine
+too. The columns: the searches that are left to the matching in all rounds; the seconds and megabytes of the whole
+program, and its microseconds for each arc; the percentages of the clock's time that went into reading, the start and
+the rounds; the seconds of cbc, and the ratio of quadq's to these. Where cbc did not end within its time, what it has
+found by then stands behind.
+
+A network is a text: a line `net nodes N arcs A floor F scale P/Q`, and for each arc a line `arc OLD WEIGHT NODE SIGN
 NODE SIGN` with `rim` in place of the second end at the boundary.
 """
 import os
@@ -15,14 +20,13 @@ import shutil
 import subprocess
 import sys
 import tempfile
-import time
 
 HERE = os.path.dirname(os.path.realpath(__file__))
 ROOT = os.path.dirname(HERE)
 SOLVER = f"{ROOT}/crates/qm_nets/out/qm_nets"
 MESHES = [["holes", "512", "512"], ["holes", "1024", "1024"], ["voxels", "20"], ["voxels", "40"]]
 LARGE = [["holes", "4096", "4096"], ["voxels", "100"], ["voxels", "208"]]
-SECONDS = 120
+SECONDS = 60
 
 
 def read_net(text):
@@ -71,17 +75,33 @@ def programme(net):
     return "\n".join(lines) + "\n"
 
 
+# A child is charged with the memory that its parent had, so a small process stands between.
+BETWEEN = """import os, subprocess, sys
+child = subprocess.Popen(sys.argv[1:])
+_, status, usage = os.wait4(child.pid, 0)
+print(f"taken: {status} {usage.ru_utime + usage.ru_stime} {usage.ru_maxrss / 1024}", file=sys.stderr)"""
+
+
+def run(words, text=os.devnull):
+    """What a command prints, and the seconds of the processor and the megabytes that it takes."""
+    with open(text, "rb") as given:
+        words = [sys.executable, "-c", BETWEEN, *words]
+        ran = subprocess.run(words, stdin=given, stdout=subprocess.PIPE, stderr=subprocess.PIPE, check=True)
+    status, seconds, megabytes = re.search(r"^taken: (\S+) (\S+) (\S+)$", ran.stderr.decode(), re.MULTILINE).groups()
+    if status != "0":
+        sys.exit(f"{words[3]} ended with {status}")
+    return (ran.stdout + ran.stderr).decode(), float(seconds), float(megabytes)
+
+
 def solved(net, room):
-    """The least deviation and the seconds that cbc took, or None where it did not end in time."""
+    """The deviation that cbc found, if any, whether it is known to be the least, and the seconds."""
     with open(f"{room}/it.lp", "w", encoding="ascii") as out:
         out.write(programme(net))
-    start = time.perf_counter()
-    words = ["cbc", f"{room}/it.lp", "sec", str(SECONDS), "solve", "solution", f"{room}/it.sol"]
-    subprocess.run(words, stdout=subprocess.DEVNULL, check=True)
-    seconds = time.perf_counter() - start
-    head = open(f"{room}/it.sol", encoding="ascii").readline()
-    found = re.match(r"Optimal - objective value ([-\d.]+)", head)
-    return (round(float(found[1])), seconds) if found else (None, seconds)
+    _, seconds, _ = run(["cbc", f"{room}/it.lp", "sec", str(SECONDS), "solve", "solution", f"{room}/it.sol"])
+    with open(f"{room}/it.sol", encoding="ascii") as told:
+        head = told.readline()
+    found = re.search(r"objective value +([-\d.]+)", head)
+    return round(float(found[1])) if found else None, head.startswith("Optimal"), seconds
 
 
 def text_of(net):
@@ -98,16 +118,9 @@ def measured(net, room):
     """What quadq tells of a network, by name, with the seconds and megabytes of the run."""
     with open(f"{room}/it.net", "w", encoding="ascii") as out:
         out.write(text_of(net))
-    start = time.perf_counter()
-    with open(f"{room}/it.net", "rb") as text:
-        child = subprocess.Popen([SOLVER], stdin=text, stdout=subprocess.PIPE, stderr=subprocess.PIPE)
-        told = (child.stdout.read() + child.stderr.read()).decode()
-        _, status, usage = os.wait4(child.pid, 0)
-    seconds = time.perf_counter() - start
-    if status != 0:
-        sys.exit(f"qm_nets ended with {status}")
+    told, seconds, megabytes = run([SOLVER], f"{room}/it.net")
     found = {name: float(value) for name, value in re.findall(r"^([a-z ]+): ([-\d.]+)", told, re.MULTILINE)}
-    return found, seconds, usage.ru_maxrss / 1024
+    return found, seconds, megabytes
 
 
 def with_targets(net, factor):
@@ -131,27 +144,45 @@ def generated(room):
         yield f"{' '.join(words)}, targets x 1000", with_targets(net_of_graph(text, 1, 1), 1000)
 
 
+def row_of(name, net, room):
+    """A network's line of the table, without the peer, and its least deviation and seconds."""
+    nodes, floor, p, q, arcs = net
+    told, seconds, megabytes = measured(net, room)
+    row = f"{name[-39:]:<40}{nodes:>8}{len(arcs):>8}{floor:>6}{f'{p}/{q}':>7}"
+    row += f"{told['start']:>12.0f}{told['least']:>12.0f}"
+    row += f"{told['rounds']:>7.0f}{told['searches left']:>6.0f}{told['sets']:>6.0f}"
+    row += f"{seconds:>8.3f}{megabytes:>6.0f}{seconds * 1e6 / len(arcs):>8.1f}"
+    parts = [told[f"{part} seconds"] for part in ("reading", "start", "rounds")]
+    row += "".join(f"{100 * part / sum(parts):>8.0f}" for part in parts)
+    return row, told["least"], seconds
+
+
+def peer_of(net, room, least, seconds):
+    """What cbc adds to the line."""
+    found, is_least, peer_seconds = solved(net, room)
+    row = f"{peer_seconds:>8.2f}{seconds / peer_seconds:>8.3f}"
+    if not is_least:
+        return f"{row} stopped at {found}"
+    return row if found == least else f"{row} OTHER LEAST DEVIATION {found}"
+
+
 def main():
     names = [word for word in sys.argv[1:] if word != "--alone"]
-    peer = shutil.which("cbc") if len(names) == len(sys.argv) - 1 else None
-    if not peer:
+    has_peer = shutil.which("cbc") and len(names) == len(sys.argv) - 1
+    if not has_peer:
         print("cbc: not measured")
-    subprocess.run(["rt", "run"], cwd=f"{ROOT}/crates/qm_nets", check=True, stdout=subprocess.DEVNULL)
-    head = f"{'network':<40}{'nodes':>8}{'arcs':>8}{'floor':>6}{'scale':>7}{'least':>12}{'rounds':>7}{'left':>6}{'sets':>6}"
-    print(f"{head}{'s':>8}{'MB':>6}{'start':>8}{'rest':>8}{'cbc s':>8}{'ratio':>8}")
+    with open(f"{ROOT}/crates/qm_nets/stdin", "rb") as text:
+        command = ["rt", "run"]
+        subprocess.run(command, cwd=f"{ROOT}/crates/qm_nets", check=True, stdin=text, stdout=subprocess.DEVNULL)
+    head = f"{'network':<40}{'nodes':>8}{'arcs':>8}{'floor':>6}{'scale':>7}{'start':>12}{'least':>12}"
+    head += f"{'rounds':>7}{'left':>6}{'sets':>6}{'s':>8}{'MB':>6}{'us/arc':>8}{'read %':>8}{'start %':>8}{'rest %':>8}"
+    print(head + f"{'cbc s':>8}{'ratio':>8}" * bool(has_peer))
     with tempfile.TemporaryDirectory() as room:
         files = ((os.path.basename(it)[:-4], read_net(open(it, encoding="ascii").read())) for it in names)
         for name, net in files if names else generated(room):
-            nodes, floor, p, q, arcs = net
-            told, seconds, megabytes = measured(net, room)
-            row = f"{name[-39:]:<40}{nodes:>8}{len(arcs):>8}{floor:>6}{f'{p}/{q}':>7}{told['least']:>12.0f}"
-            row += f"{told['rounds']:>7.0f}{told['searches left']:>6.0f}{told['sets']:>6.0f}{seconds:>8.3f}{megabytes:>6.0f}"
-            row += f"{told['start seconds']:>8.3f}{told['rounds seconds']:>8.3f}"
-            if peer:
-                least, peer_seconds = solved(net, room)
-                row += f"{peer_seconds:>8.1f}{seconds / peer_seconds:>8.3f}"
-                row += "" if least is not None else " stopped"
-                row += "" if least in (None, told["least"]) else f" OTHER LEAST DEVIATION {least}"
+            row, least, seconds = row_of(name, net, room)
+            if has_peer:
+                row += peer_of(net, room, least, seconds)
             print(row, flush=True)
 
 
