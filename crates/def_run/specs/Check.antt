@@ -86,6 +86,7 @@ pub record HasNoHeadLine (bytes : Bytes) : Type 0 where
   pub old : HasOldSoup bytes line soup
   pub manifold : IsManifold soup.faces
   pub headless : (settings : Settings) (auto : Bool) → ¬ IsHead (head_of bytes line) settings auto
+  pub refuted : ¬ IsCheckedPair bytes
 
 -- The old text has a mesh that is cut to a layout, and the head line behind it has these settings.
 pub record IsAsked (bytes : Bytes) : Type 0 where
@@ -183,6 +184,7 @@ IsNotAccepted bytes why = IsNoPair bytes why
 pub record IsTangledOld (bytes : Bytes) (count : ℕ) : Type 0 where
   pub asked : IsAsked bytes
   pub tangled : IsTangledAt asked.plan asked.settings count
+  pub refuted : ¬ IsCheckedPair bytes
 
 -- It refuses these bytes with this answer.
 abbrev pub RefusesToCheck : (bytes : Bytes) (answer : Answer) → Type 0

@@ -1,6 +1,7 @@
 pub mod Bench
 pub mod Causes
 pub mod Check
+pub mod CheckFails
 pub mod CommandLines
 pub mod ErrorLines
 pub mod Exits

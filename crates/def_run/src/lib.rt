@@ -2,10 +2,12 @@
 #![tactic(auto)]
 
 mod answer;
+mod check_fail;
 mod command;
 mod words;
 
 pub use answer::{Answer, Why};
+pub use check_fail::CheckFail;
 pub use command::{Command, EQUALS, MAX_MULTIPLE, MAX_SIZE};
 pub use def_remesh::Kept;
 pub use words::WordsFail;

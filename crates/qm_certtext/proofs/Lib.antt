@@ -2,7 +2,7 @@ mod Counts
 mod Cutting
 mod Holding
 mod Letters
-mod Marks
+pub mod Marks
 mod Telling
 pub mod Texts
 pub mod Unique

@@ -76,8 +76,8 @@ fn begins_head(line: &[u8]) -> bool
     line.starts_with(b"#quadq 1 remesh")
 }
 
-/// The settings that a head line asks for.
-pub(crate) fn read_head(line: &[u8]) -> Option<Asked>
+/// The settings that a head line asks for. Linear.
+pub fn read_head(line: &[u8]) -> Option<Asked>
     ensures { MatchOption result
         ((settings : AnySettings) (auto : Bool) → ¬ IsHead line.now settings auto)
         (λ asked. IsHead line.now asked.settings asked.auto) }

@@ -12,7 +12,7 @@ mod written;
 
 pub use cert::cert_text;
 pub use def_certtext::{Asked, CertFail, Written};
-pub use head::{head_text, last_head};
+pub use head::{head_text, last_head, read_head};
 pub use law::{chosen_law, written_law};
 pub use settings::read_settings;
 pub use written::read_written;

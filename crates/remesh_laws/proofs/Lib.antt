@@ -1,5 +1,6 @@
 pub mod Certified
 pub mod Fits
+pub mod Keeps
 pub mod Pairs
 pub mod Printable
 pub mod Solved

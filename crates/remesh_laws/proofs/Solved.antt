@@ -27,12 +27,12 @@ use Rattle.qm_reach.proofs.Whole.{laid_of}
 use Rattle.qm_units.proofs.Sound.{sound}
 
 -- What passes in a list passes in each front and in each tail of it.
-all_take : (p : ℕ → Bool) (n : ℕ) (xs : List ℕ) → list_all p xs ≡ true → list_all p (take n xs) ≡ true
+pub all_take : {X : Type 0} (p : X → Bool) (n : ℕ) (xs : List X) → list_all p xs ≡ true → list_all p (take n xs) ≡ true
 all_take p zero xs all = refl
 all_take p (suc n) [] all = refl
 all_take p (suc n) (x ∷ xs) all = and_from _ _ (and_parts _ _ all).0 (all_take p n xs (and_parts _ _ all).1)
 
-all_drop : (p : ℕ → Bool) (n : ℕ) (xs : List ℕ) → list_all p xs ≡ true → list_all p (drop n xs) ≡ true
+pub all_drop : {X : Type 0} (p : X → Bool) (n : ℕ) (xs : List X) → list_all p xs ≡ true → list_all p (drop n xs) ≡ true
 all_drop p zero xs all = all
 all_drop p (suc n) [] all = refl
 all_drop p (suc n) (x ∷ xs) all = all_drop p n xs (and_parts _ _ all).1

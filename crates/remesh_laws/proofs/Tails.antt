@@ -11,7 +11,7 @@ flat-in_front b [] = refl
 flat-in_front b (p ∷ ps) = refl
 
 -- The pieces joined are the text.
-flat-pieces : (bs : Bytes) → flat_map (λ p. p) (pieces bs) ≡ bs
+pub flat-pieces : (bs : Bytes) → flat_map (λ p. p) (pieces bs) ≡ bs
 flat-pieces [] = refl
 flat-pieces (b ∷ bs) = by_test (b == 10) (ap (λ xs. b ∷ xs) (flat-pieces bs))
   where

@@ -1,5 +1,5 @@
 use Rattle.def_flow.specs.Network.{network}
-use Rattle.qm_remesh.proofs.Keeps.{are_lengths, doubled_first, doubled_some, keeps_first, low_floor, solved, too_fine}
+use Rattle.remesh_laws.proofs.Keeps.{are_lengths, doubled_first, doubled_some, keeps_first, low_floor, solved, too_fine}
 use Rattle.qm_remesh.proofs.keeping.keep.Goals as goal
 
 pub plan-requires-clause-lengths : goal.plan-requires-clause-lengths

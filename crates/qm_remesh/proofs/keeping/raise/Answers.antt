@@ -3,7 +3,7 @@ use Rattle.std.proofs.Common.{ℕ, sym, subst}
 use Rattle.def_layout.specs.Plans.{plan}
 use Rattle.def_remesh.specs.Refusals.{AreTooFine}
 use Rattle.def_remesh.specs.Remeshed.{with_floor}
-use Rattle.qm_remesh.proofs.Keeps.{are_lengths, bounded, keeps_third, raised_even, raised_net, solved, too_fine}
+use Rattle.remesh_laws.proofs.Keeps.{are_lengths, bounded, keeps_third, raised_even, raised_net, solved, too_fine}
 use Rattle.qm_remesh.proofs.keeping.raise.Goals as goal
 
 pub solve-requires-clause-even : goal.solve-requires-clause-even

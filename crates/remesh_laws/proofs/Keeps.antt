@@ -15,11 +15,15 @@ use Rattle.def_flow.specs.declared.limits.TheConstants.{MAX_FLOOR, MAX_LENGTH, M
 use Rattle.def_flow.specs.declared.net.Settings.{Settings}
 use Rattle.def_layout.specs.Arcs.{long_at}
 use Rattle.def_layout.specs.Lengths.{AreLengths as AreArcLengths}
-use Rattle.def_layout.specs.Plans.{Plan, layout_of}
+use Rattle.def_layout.specs.Plans.{Plan, layout_of, vertex_at}
 use Rattle.def_layoutnet.specs.LayoutNet.{IsNetOf}
 use Rattle.def_layoutnet.specs.MeshLayouts.{IsMeshLayout}
+use Rattle.def_mesh.specs.Faces.{Faces}
+use Rattle.def_remesh.specs.Placings.{IsLayoutIn}
+use Rattle.def_text.specs.FaceSet.{FaceSet}
+use Rattle.def_written.specs.Shape.{KeepsShape}
 use Rattle.def_written.specs.Edges.{IsDoubledAt, IsFirstDoubled, IsUndoubled}
-use Rattle.def_written.specs.NewFaces.{face_count}
+use Rattle.def_written.specs.NewFaces.{face_count, new_faces}
 use Rattle.def_remesh.specs.Keeping.{IsKept}
 use Rattle.def_remesh.specs.NewPoints.{lengths_in}
 use Rattle.def_remesh.specs.Numberings.{IsNumbering}
@@ -30,16 +34,9 @@ use Rattle.def_remesh.specs.declared.fail.StitchFail.{StitchFail}
 use Rattle.def_remesh.specs.declared.fail.StitchFail.TheVariants as fails
 use Rattle.def_remesh.specs.declared.limits.TheConstants.{MAX_NEW_FACES}
 use Rattle.def_remesh.specs.declared.tables.Tables.{Tables}
+use Rattle.remesh_laws.specs.Keeps.{IsNetFor, IsNumbered}
 use Rattle.remesh_laws.proofs.Certified.{certified_lengths}
 use Rattle.remesh_laws.proofs.Solved.{certified}
-
--- A network of a layout, within bounds and not too tangled.
-pub record IsNetFor (plan : Plan) (settings : Settings) (net : Network) : Type 0 where
-  pub mesh : IsMeshLayout plan
-  pub floor : 1 ≤ settings.floor
-  pub is : IsNetOf (layout_of plan) (long_at plan.arcs) settings net
-  pub bounds : IsWithinBounds net
-  pub untangled : tangle_number net ≤ MAX_TANGLE
 
 -- Its solution is certified.
 pub solved : (plan : Plan) (settings : Settings) (net : Network) (cert : Cert) → IsNetFor plan settings net → IsSolution net (certificate cert)
@@ -86,13 +83,6 @@ raised_net plan settings net other for same = subst (IsNetFor plan (with_floor s
 
 pub raised_even : (net other : Network) → IsEven net → other ≡ record net { floor = 3 } → IsEven other
 raised_even net other even same = subst IsEven (sym same) (record { high = even.high; small = even.small; balanced = even.balanced })
-
--- What a numbering at these lengths shows.
-pub record IsNumbered (plan : Plan) (xs : List ℕ) (tables : Tables) : Type 0 where
-  pub numbering : IsNumbering plan tables
-  pub lengths : tables.lengths.items ≡ xs
-  pub undoubled : IsUndoubled (layout_of plan) (lengths_in xs)
-  pub shape : KeepsShapes plan (lengths_in xs)
 
 coarse_is : (plan : Plan) (xs : List ℕ) (tables : Tables) → IsNumbered plan xs tables → AreCoarse plan xs
 coarse_is plan xs tables is = subst (AreCoarse plan) is.lengths is.numbering.few
@@ -160,3 +150,11 @@ low_floor plan settings cert xs result fail u v same is safe told doubled = by_f
     by_floor (inl low) = low
     by_floor (inr high) = absurd (safe (inl (subst (λ (ys : List ℕ). AreLong plan (lengths_in ys)) (sym same) (long high))) u v
         (told ∙ ap Err doubled))
+
+-- The new mesh has the shape of the one that the layout lies in.
+pub kept_shape : (soup : FaceSet) (plan : Plan) (xs : List ℕ) → IsLayoutIn soup.faces plan → KeepsShapes plan (lengths_in xs)
+    → KeepsShape soup.faces (new_faces (layout_of plan) (lengths_in xs)) (layout_of plan).nodes (vertex_at plan)
+kept_shape soup plan xs lies shapes = subst
+    (λ (fs : Faces). KeepsShape fs (new_faces (layout_of plan) (lengths_in xs)) (layout_of plan).nodes (vertex_at plan))
+    lies.1
+    (shapes lies.0.faces lies.0.marks lies.0.mesh lies.0.quads lies.0.cut lies.0.laid)

@@ -1,0 +1,97 @@
+-- What is kept by certificates that are judged, and why none is.
+use Rattle.std.proofs.Common.{◌≡◌, ℕ, Bool, true, Some, None, inl, inr, refl, ap, sym, ◌∙◌, subst}
+use Rattle.def_certtext.specs.CertLines.{lists_of, Lists}
+use Rattle.def_certtext.specs.Reading.{Made}
+use Rattle.def_certtext.specs.declared.Asked.{Asked}
+use Rattle.def_flow.specs.Accepted.{certificate}
+use Rattle.def_flow.specs.Admissible.{deviation, entries}
+use Rattle.def_flow.specs.Descent.{IsSolution}
+use Rattle.def_flow.specs.Network.{Network}
+use Rattle.def_flow.specs.declared.cert.Cert.{Cert}
+use Rattle.def_layout.specs.Plans.{Plan}
+use Rattle.def_remesh.specs.Keeping.{IsKept}
+use Rattle.def_remesh.specs.Remeshed.{AreCoarse, AreDoubled, IsCertified, with_floor}
+use Rattle.def_remesh.specs.declared.tables.Tables.{Tables}
+use Rattle.def_run.specs.Check.{first_of, IsWrong}
+use Rattle.def_run.specs.declared.answer.Why.{Why}
+use Rattle.def_run.specs.declared.answer.Why.TheVariants as why
+use Rattle.qm_check.specs.Judged.{made_once, made_twice, Gives, GivesNone, IsJudged, IsUnused}
+use Rattle.def_run.specs.declared.check_fail.CheckFail.{CheckFail}
+use Rattle.def_run.specs.declared.check_fail.CheckFail.TheVariants.{NotAccepted, Old, NotManifold, Tangled, Memory}
+use Rattle.qm_check.specs.declared.lengths.Lengths.TheVariants.{Whole, Doubled}
+use Rattle.remesh_laws.proofs.Keeps.{keeps_first, keeps_third, solved}
+use Rattle.remesh_laws.specs.Keeps.{IsNetFor}
+
+-- A certificate that gives no lengths is wrong.
+wrong_of : (plan : Plan) (net : Network) (made : Made) (cert : Cert) (why : Why) → IsNetFor plan made.settings net
+    → GivesNone plan net cert (NotAccepted why) → IsWrong plan made.settings (lists_of cert) why
+wrong_of plan net made cert (why.Verdict verdict) for (told, refuted) = record { net = net; of_layout = for.is; told = told; refuted = refuted }
+wrong_of plan net made cert (why.TooFine faces) for (is, fine) = (solved plan made.settings net cert for is, fine)
+wrong_of plan net made cert why.NoHead for none = absurd none
+wrong_of plan net made cert why.Head for none = absurd none
+wrong_of plan net made cert (why.CertLine line) for none = absurd none
+wrong_of plan net made cert (why.Doubled u v) for none = absurd none
+wrong_of plan net made cert (why.Byte at) for none = absurd none
+
+pub unused_first : (plan : Plan) (net : Network) (made : Made) (cert : Cert) (fail : CheckFail) → first_of made ≡ lists_of cert
+    → IsNetFor plan made.settings net → GivesNone plan net cert fail → IsUnused plan made fail
+unused_first plan net made cert (NotAccepted why) same for none =
+    inl (subst (λ (c : Lists). IsWrong plan made.settings c why) (sym same) (wrong_of plan net made cert why for none))
+unused_first plan net made cert Memory same for none = tt
+unused_first plan net made cert (Old fail) same for none = absurd none
+unused_first plan net made cert (NotManifold place soup) same for none = absurd none
+unused_first plan net made cert (Tangled count) same for none = absurd none
+
+pub unused_lone : (plan : Plan) (net : Network) (asked : Asked) (cert : Cert) (u v : ℕ) → IsNetFor plan asked.settings net
+    → IsSolution net (certificate cert) → Gives plan net cert.x.items (Doubled u v)
+    → IsUnused plan (made_once asked (lists_of cert)) (NotAccepted (why.Doubled u v))
+unused_lone plan net asked cert u v for is gives = inr (inl (refl, solved plan asked.settings net cert for is, gives.0, gives.1))
+
+pub unused_third : (plan : Plan) (net : Network) (asked : Asked) (first third : Cert) (fail : CheckFail)
+    → IsCertified plan asked.settings (lists_of first) → AreCoarse plan first.x.items → AreDoubled plan first.x.items
+    → IsNetFor plan (with_floor asked.settings 3) net → GivesNone plan net third fail
+    → IsUnused plan (made_twice asked (lists_of first) (lists_of third)) fail
+unused_third plan net asked first third (NotAccepted why) certified coarse doubled for none = inr (inr (record {
+  first = lists_of first;
+  there = refl;
+  certified = certified;
+  coarse = coarse;
+  doubled = doubled;
+  wrong = wrong_of plan net (record { settings = with_floor asked.settings 3; auto = true; first = None; cert = lists_of third }) third why for none;
+}))
+unused_third plan net asked first third Memory certified coarse doubled for none = tt
+unused_third plan net asked first third (Old fail) certified coarse doubled for none = absurd none
+unused_third plan net asked first third (NotManifold place soup) certified coarse doubled for none = absurd none
+unused_third plan net asked first third (Tangled count) certified coarse doubled for none = absurd none
+
+-- The first certificate is used.
+pub judged_first : (plan : Plan) (net : Network) (asked : Asked) (made : Made) (cert : Cert) (tables : Tables) (deviates : ℕ)
+    → asked.settings ≡ made.settings → asked.auto ≡ made.auto → first_of made ≡ lists_of cert → IsNetFor plan made.settings net
+    → IsSolution net (certificate cert) → Gives plan net cert.x.items (Whole tables deviates)
+    → IsJudged plan net made (record { remesh = record { asked = asked; first = cert; third = None; numbering = tables }; deviation = deviates })
+judged_first plan net asked made cert tables deviates settings auto same for is gives = record {
+  kept = keeps_first plan made.settings made.auto cert cert.x.items tables refl (solved plan made.settings net cert for is) gives.0;
+  settings = settings;
+  auto = auto;
+  first = sym same;
+  chosen = inl refl;
+  deviates = gives.1;
+}
+
+-- The one for floor 3 is used.
+pub judged_third : (plan : Plan) (net raised : Network) (asked : Asked) (first third : Cert) (tables : Tables) (deviates : ℕ)
+    → asked.auto ≡ true → IsCertified plan asked.settings (lists_of first) → AreCoarse plan first.x.items → AreDoubled plan first.x.items
+    → IsNetFor plan (with_floor asked.settings 3) raised → raised ≡ record net { floor = 3 }
+    → IsSolution raised (certificate third) → Gives plan raised third.x.items (Whole tables deviates)
+    → IsJudged plan net (made_twice asked (lists_of first) (lists_of third))
+    (record { remesh = record { asked = asked; first = first; third = Some third; numbering = tables }; deviation = deviates })
+judged_third plan net raised asked first third tables deviates auto certified coarse doubled for same is gives = record {
+  kept = subst (λ (b : Bool). IsKept plan asked.settings b (lists_of first) (Some (lists_of third)) tables) (sym auto)
+      (keeps_third plan asked.settings first third third.x.items tables refl
+      (certified, coarse, doubled, solved plan (with_floor asked.settings 3) raised third for is) gives.0);
+  settings = refl;
+  auto = refl;
+  first = refl;
+  chosen = inr (refl, refl);
+  deviates = gives.1 ∙ ap (λ (n : Network). deviation n (entries third.x.items)) same;
+}

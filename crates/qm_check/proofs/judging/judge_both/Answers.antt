@@ -1,0 +1,26 @@
+use Rattle.std.proofs.Common.{refl, subst}
+use Rattle.def_certtext.specs.CertLines.{lists_of}
+use Rattle.def_flow.specs.Network.{network}
+use Rattle.def_layout.specs.Plans.{plan}
+use Rattle.qm_check.proofs.Handed.{handed}
+use Rattle.qm_check.proofs.Kept.{judged_first, unused_first}
+use Rattle.qm_check.specs.Judged.{made_twice, Gives, IsUnused}
+use Rattle.remesh_laws.proofs.Keeps.{solved}
+use Rattle.qm_check.proofs.judging.judge_both.Goals as goal
+
+pub returns-in_err-numbering-clause-unused : goal.returns-in_err-numbering-clause-unused
+returns-in_err-numbering-clause-unused c =
+    handed (IsUnused (plan c.args.t.now) (made_twice c.args.asked (lists_of c.args.pair.first) (lists_of c.args.pair.third))) c.from_residual.result
+    c.in_err-numbering.field-0.0 c.from_residual.ensures.1
+    (unused_first (plan c.args.t.now) (network c.args.net) (made_twice c.args.asked (lists_of c.args.pair.first) (lists_of c.args.pair.third))
+    c.args.pair.first c.in_err-numbering.field-0.0 refl c.requires.net c.in_err-numbering.ensures.refused)
+
+pub judge_third-requires-clause-first : goal.judge_third-requires-clause-first
+judge_third-requires-clause-first c =
+    solved (plan c.args.t.now) c.args.asked.settings (network c.args.net) c.args.pair.first c.requires.net c.in_ok-numbering.ensures.solved
+
+pub returns-in-Whole-clause-judged : goal.returns-in-Whole-clause-judged
+returns-in-Whole-clause-judged c =
+    judged_first (plan c.args.t.now) (network c.args.net) c.args.asked (made_twice c.args.asked (lists_of c.args.pair.first) (lists_of c.args.pair.third))
+    c.args.pair.first c.in-Whole.numbering c.in-Whole.deviation refl refl refl c.requires.net c.in_ok-numbering.ensures.solved
+    (subst (Gives (plan c.args.t.now) (network c.args.net) c.args.pair.first.x.items) c.in-Whole.is c.in_ok-numbering.ensures.gives)

@@ -1,0 +1,13 @@
+use Rattle.def_flow.specs.Accepted.{certificate, IsAccepted}
+use Rattle.def_flow.specs.Network.{network}
+use Rattle.qm_check.proofs.lengths.accepted_deviation.Goals as goal
+
+pub returns-in-Yes-clause-solved : goal.returns-in-Yes-clause-solved
+returns-in-Yes-clause-solved c =
+    let accepted : IsAccepted (network c.args.net.now) (certificate c.args.cert.now)
+    = c.in_ok-verdict.ensures.accepted.0 (c.in-Yes.deviation, c.in-Yes.is) in
+    record {
+      accepted = accepted;
+      lengths = record { count = accepted.count; small = c.requires.cert.short };
+      small = c.requires.cert.small;
+    }

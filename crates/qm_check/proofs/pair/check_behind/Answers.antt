@@ -1,0 +1,20 @@
+use Rattle.std.proofs.Common.{Bool, subst}
+use Rattle.def_certtext.specs.Reading.{IsHead}
+use Rattle.def_flow.specs.declared.net.Settings.{Settings}
+use Rattle.def_io.specs.Bytes.{Bytes}
+use Rattle.qm_check.proofs.Handed.{handed}
+use Rattle.qm_check.proofs.Refusals.{no_head, no_network}
+use Rattle.def_run.specs.CheckFails.{IsCheckFail}
+use Rattle.qm_check.proofs.pair.check_behind.Goals as goal
+
+pub returns-in_err-ready-in-Some-clause-refused : goal.returns-in_err-ready-in-Some-clause-refused
+returns-in_err-ready-in-Some-clause-refused c =
+    handed (IsCheckFail c.args.lines.now) c.from_residual.result c.in_err-ready-in-Some.field-0.0 c.from_residual.ensures.1
+    (no_network c.args.lines.now c.args.line c.args.old c.in-Some.asked c.in_err-ready-in-Some.field-0.0 c.requires.old
+    (subst (λ (line : Bytes). IsHead line c.in-Some.asked.settings c.in-Some.asked.auto) c.line.ensures c.in-Some.ensures)
+    c.in_err-ready-in-Some.ensures.unfit)
+
+pub returns-in-None-clause-refused : goal.returns-in-None-clause-refused
+returns-in-None-clause-refused c =
+    no_head c.args.lines.now c.args.line c.args.old c.requires.old
+    (subst (λ (line : Bytes). (settings : Settings) (auto : Bool) → ¬ IsHead line settings auto) c.line.ensures c.in-None.ensures)

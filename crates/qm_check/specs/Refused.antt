@@ -1,0 +1,10 @@
+-- Why a text is no pair.
+use Rattle.def_run.specs.declared.check_fail.CheckFail.{CheckFail}
+use Rattle.def_run.specs.declared.check_fail.CheckFail.TheVariants.{Old, Memory}
+use Rattle.def_text.specs.declared.refusal.ObjFail.{ObjFail}
+use Rattle.def_text.specs.declared.refusal.ObjFail.TheVariants as obj
+
+-- The refusal of an old text that has no soup.
+abbrev pub of_obj : (fail : ObjFail) → CheckFail
+of_obj obj.Memory = Memory
+of_obj fail = Old fail

@@ -1,0 +1,172 @@
+//! Which certificate of a text is used.
+
+ghost use Rattle.std.specs.Prelude.{◌≡◌, Some, true, IfErr, IfOk};
+ghost use Rattle.def_certtext.specs.CertLines.{lists_of};
+ghost use Rattle.def_certtext.specs.Reading.{made_of};
+ghost use Rattle.def_flow.specs.Network.{network};
+ghost use Rattle.def_flow.specs.declared.cert.Cert.{Cert as AnyCert};
+ghost use Rattle.def_layout.specs.Plans.{plan};
+ghost use Rattle.def_remesh.specs.Remeshed.{AreCoarse, AreDoubled, IsCertified};
+ghost use Rattle.qm_check.specs.Judged.{made_once, made_twice, IsInReach, IsJudged, IsUnused};
+ghost use Rattle.remesh_laws.specs.Keeps.{IsNetFor};
+
+use crate::lengths::{Lengths, judge};
+use def_certtext::{Asked, Written};
+use def_flow::{Cert, MAX_FLOOR, Net};
+use def_layout::TMesh;
+use def_run::{CheckFail, Why};
+use qm_remeshed::Remesh;
+use std::alloc::Global;
+
+/// What is kept by the certificates of a text, and how far the used lengths are from what is wanted.
+#[derive(Drop)]
+pub(crate) struct Judged {
+    pub(crate) remesh: Remesh,
+    pub(crate) deviation: u128,
+}
+
+/// Judges the certificates of a text: the only one, or the one for floor 1 and, where its lengths double an edge, the
+/// one for floor 3.
+pub(crate) fn judge_written(
+    alloc: Global,
+    t: &TMesh,
+    net: Net,
+    written: Written,
+) -> Result<Judged, CheckFail>
+    requires net { IsNetFor (plan t.now) written.settings (network net) }
+    requires cert { IsInReach (lists_of written.cert) }
+    requires first { (cert : AnyCert) → written.first ≡ Some cert
+        → IsInReach (lists_of cert) × (written.auto ≡ true) }
+    ensures judged { IfOk result (IsJudged (plan t.now) (network net) (made_of written)) }
+    ensures unused { IfErr result (IsUnused (plan t.now) (made_of written)) }
+{
+    let Written {
+        settings,
+        auto,
+        first,
+        cert,
+    } = written;
+    let asked = Asked { settings, auto };
+    match first {
+        Some(first) => judge_both(alloc, t, net, asked, Pair { first, third: cert }),
+        None => judge_only(alloc, t, &net, asked, cert),
+    }
+}
+
+/// The certificates for floor 1 and for floor 3.
+#[derive(Drop)]
+struct Pair {
+    first: Cert,
+    third: Cert,
+}
+
+/// Judges the only certificate.
+fn judge_only(
+    alloc: Global,
+    t: &TMesh,
+    net: &Net,
+    asked: Asked,
+    cert: Cert,
+) -> Result<Judged, CheckFail>
+    requires net { IsNetFor (plan t.now) asked.settings (network net.now) }
+    requires cert { IsInReach (lists_of cert) }
+    ensures judged { IfOk result (IsJudged (plan t.now) (network net.now) (made_once asked (lists_of cert))) }
+    ensures unused { IfErr result (IsUnused (plan t.now) (made_once asked (lists_of cert))) }
+{
+    match judge(alloc, t, net, &cert)? {
+        Lengths::Whole {
+            numbering,
+            deviation,
+        } => Ok(Judged {
+            remesh: Remesh {
+                asked,
+                first: cert,
+                third: None,
+                numbering,
+            },
+            deviation,
+        }),
+        Lengths::Doubled { u, v } => Err(CheckFail::NotAccepted {
+            why: Why::Doubled { u, v },
+        }),
+    }
+}
+
+/// Judges the certificate for floor 1, and the one for floor 3 where the lengths of the first double an edge.
+fn judge_both(
+    alloc: Global,
+    t: &TMesh,
+    net: Net,
+    asked: Asked,
+    pair: Pair,
+) -> Result<Judged, CheckFail>
+    requires net { IsNetFor (plan t.now) asked.settings (network net) }
+    requires auto { asked.auto ≡ true }
+    requires third { IsInReach (lists_of pair.third) }
+    requires first { IsInReach (lists_of pair.first) }
+    ensures judged { IfOk result
+        (IsJudged (plan t.now) (network net) (made_twice asked (lists_of pair.first) (lists_of pair.third))) }
+    ensures unused { IfErr result
+        (IsUnused (plan t.now) (made_twice asked (lists_of pair.first) (lists_of pair.third))) }
+{
+    match judge(alloc, t, &net, &pair.first)? {
+        Lengths::Whole {
+            numbering,
+            deviation,
+        } => Ok(Judged {
+            remesh: Remesh {
+                asked,
+                first: pair.first,
+                third: None,
+                numbering,
+            },
+            deviation,
+        }),
+        Lengths::Doubled { .. } => judge_third(alloc, t, net, asked, pair),
+    }
+}
+
+/// Judges the certificate for floor 3. Lengths of at least 3 double no edge.
+fn judge_third(
+    alloc: Global,
+    t: &TMesh,
+    net: Net,
+    asked: Asked,
+    pair: Pair,
+) -> Result<Judged, CheckFail>
+    requires net { IsNetFor (plan t.now) asked.settings (network net) }
+    requires auto { asked.auto ≡ true }
+    requires third { IsInReach (lists_of pair.third) }
+    requires first { IsCertified (plan t.now) asked.settings (lists_of pair.first) }
+    requires coarse { AreCoarse (plan t.now) pair.first.x.items }
+    requires doubled { AreDoubled (plan t.now) pair.first.x.items }
+    ensures judged { IfOk result
+        (IsJudged (plan t.now) (network net) (made_twice asked (lists_of pair.first) (lists_of pair.third))) }
+    ensures unused { IfErr result
+        (IsUnused (plan t.now) (made_twice asked (lists_of pair.first) (lists_of pair.third))) }
+{
+    let raised = with_floor(net, MAX_FLOOR);
+    let Pair { first, third } = pair;
+    match judge(alloc, t, &raised, &third)? {
+        Lengths::Whole {
+            numbering,
+            deviation,
+        } => Ok(Judged {
+            remesh: Remesh {
+                asked,
+                first,
+                third: Some(third),
+                numbering,
+            },
+            deviation,
+        }),
+        Lengths::Doubled { .. } => unreachable!(),
+    }
+}
+
+/// The network with another floor.
+fn with_floor(net: Net, floor: u32) -> Net
+    ensures { network result ≡ record (network net) { floor = floor } }
+{
+    Net { floor, ..net }
+}

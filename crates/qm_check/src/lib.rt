@@ -1,0 +1,12 @@
+//! The judge of pairs: whether a text is one with a mesh and, behind it, the text of a finished remesh of this mesh.
+#![tactic(auto)]
+
+mod comparing;
+mod judging;
+mod lengths;
+mod old;
+mod pair;
+mod ready;
+
+pub use def_run::{CheckFail, Why};
+pub use pair::{Accepted, check_pair};
