@@ -3,9 +3,9 @@
 time with twice the faces by the time before."""
 import os
 import subprocess
-import sys
 import tempfile
-import time
+
+from measuring import best, count_lines
 
 HERE = os.path.dirname(os.path.realpath(__file__))
 ROOT = os.path.dirname(HERE)
@@ -17,31 +17,6 @@ MESHES = [
     ("voxels", ["182"], ["258"]),
     ("grid", ["1024", "512"], ["1024", "1024"]),
 ]
-
-
-def measured(words, text, out):
-    """Seconds and MB of one run."""
-    with open(text, "rb") as source, open(out, "wb") as sink:
-        start = time.perf_counter()
-        child = subprocess.Popen(words, stdin=source, stdout=sink)
-        _, status, usage = os.wait4(child.pid, 0)
-        seconds = time.perf_counter() - start
-    if status != 0:
-        sys.exit(f"{words[0]} ended with {status}")
-    return seconds, usage.ru_maxrss / 1024
-
-
-def best(programs, text, room):
-    """The least seconds and MB of each program, and whether all wrote the same bytes."""
-    least, outputs = {}, set()
-    for _ in range(ROUNDS):
-        for name, words in programs:
-            seconds, megabytes = measured(words, text, f"{room}/out")
-            old = least.get(name, (seconds, megabytes))
-            least[name] = (min(old[0], seconds), min(old[1], megabytes))
-            with open(f"{room}/out", "rb") as written:
-                outputs.add(written.read())
-    return least, len(outputs) == 1
 
 
 def main():
@@ -59,13 +34,13 @@ def main():
                 text = f"{room}/mesh.obj"
                 with open(text, "wb") as out:
                     subprocess.run([f"{room}/meshes", mesh, *size], stdout=out, check=True)
-                faces = sum(line.startswith(b"f") for line in open(text, "rb"))
-                least, are_same = best(programs, text, room)
+                faces = count_lines(text, b"f")
+                least, outputs = best(programs, text, room, ROUNDS)
                 (ours, ours_mb), (peer, peer_mb) = least["quadq"], least["plain C++"]
                 row = f"{mesh:<8}{faces:>9}{ours:>9.3f}{ours_mb:>6.0f}{peer:>8.3f}{peer_mb:>6.0f}"
                 row += f"{ours / peer:>7.2f}{ours_mb / peer_mb:>8.2f}"
                 row += f"{ours / before:>9.2f}" if before else ""
-                print(row if are_same else f"{row}  OTHER BYTES")
+                print(row if len(set(outputs.values())) == 1 else f"{row}  OTHER BYTES")
                 before = ours
 
 

@@ -1,11 +1,12 @@
 #!/usr/bin/env python3
-"""Measures `quadq refine` on two meshes against plain C++: wall time and peak memory of a run, their ratios, and the
-bytes of memory for each new face."""
+"""Measures `quadq refine` against plain C++: wall time and peak memory of a run, their ratios, and the bytes of memory
+for each new face. Where Blender is installed, its simple scheme divides the first mesh too."""
 import os
+import shutil
 import subprocess
-import sys
 import tempfile
-import time
+
+from measuring import best, count_lines, measured
 
 HERE = os.path.dirname(os.path.realpath(__file__))
 ROOT = os.path.dirname(HERE)
@@ -19,35 +20,17 @@ MESHES = [
 ]
 
 
-def measured(words, text, out):
-    """Seconds and MB of one run."""
-    with open(text, "rb") as source, open(out, "wb") as sink:
-        start = time.perf_counter()
-        child = subprocess.Popen(words, stdin=source, stdout=sink)
-        _, status, usage = os.wait4(child.pid, 0)
-        seconds = time.perf_counter() - start
-    if status != 0:
-        sys.exit(f"{words[0]} ended with {status}")
-    return seconds, usage.ru_maxrss / 1024
-
-
-def best(programs, text, room):
-    """The least seconds and MB of each program, and whether all wrote the same bytes."""
-    least, outputs = {}, set()
-    for _ in range(ROUNDS):
-        for name, words in programs:
-            seconds, megabytes = measured(words, text, f"{room}/out")
-            old = least.get(name, (seconds, megabytes))
-            least[name] = (min(old[0], seconds), min(old[1], megabytes))
-            with open(f"{room}/out", "rb") as written:
-                outputs.add(written.read())
-    return least, len(outputs) == 1
-
-
-def count_faces(path):
-    """How many `f` lines a text has."""
-    with open(path, "rb") as lines:
-        return sum(line.startswith(b"f") for line in lines)
+def show_blender(text, room):
+    """A row for Blender, which reads the mesh, divides each face in four and writes it."""
+    blender = shutil.which("blender")
+    if blender is None:
+        print("Blender is not installed")
+        return
+    words = [blender, "--background", "--factory-startup", "--python-exit-code", "1"]
+    words += ["--python", f"{HERE}/subdivide.py", "--", text, f"{room}/divided.obj"]
+    seconds, megabytes = measured(words, text, f"{room}/told")
+    faces = count_lines(f"{room}/divided.obj", b"f")
+    print(f"{'the same in Blender':<44}{2:>4}{faces:>11}{seconds:>9.3f}{megabytes:>6.0f}")
 
 
 def main():
@@ -56,7 +39,8 @@ def main():
         for name in ("refine", "meshes"):
             command = ["g++", "-O2", "-std=c++20", "-o", f"{room}/{name}", f"{HERE}/{name}.cpp"]
             subprocess.run(command, check=True)
-        head = f"{'mesh':<44}{'by':>4}{'new faces':>11}{'quadq s':>9}{'MB':>6}{'C++ s':>8}{'MB':>6}{'time':>7}{'memory':>8}"
+        head = f"{'mesh':<44}{'by':>4}{'new faces':>11}{'quadq s':>9}{'MB':>6}{'C++ s':>8}"
+        head += f"{'MB':>6}{'time':>7}{'memory':>8}"
         print(f"{head}{'bytes a face':>14}")
         for title, words, by in MESHES:
             text = f"{room}/mesh.obj"
@@ -67,12 +51,14 @@ def main():
                 ("quadq", [f"{ROOT}/build/quadq", "refine", "--by", str(by)]),
                 ("plain C++", [f"{room}/refine", str(by)]),
             ]
-            least, are_same = best(programs, text, room)
+            least, outputs = best(programs, text, room, ROUNDS)
             (ours, ours_mb), (peer, peer_mb) = least["quadq"], least["plain C++"]
-            faces = count_faces(f"{room}/out")
+            faces = count_lines(f"{room}/out", b"f")
             row = f"{title:<44}{by:>4}{faces:>11}{ours:>9.3f}{ours_mb:>6.0f}{peer:>8.3f}{peer_mb:>6.0f}"
             row += f"{ours / peer:>7.2f}{ours_mb / peer_mb:>8.2f}{ours_mb * 2**20 / faces:>14.0f}"
-            print(row if are_same else f"{row}  OTHER BYTES")
+            print(row if len(set(outputs.values())) == 1 else f"{row}  OTHER BYTES")
+            if by == 2:
+                show_blender(text, room)
 
 
 main()

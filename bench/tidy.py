@@ -2,42 +2,23 @@
 """Measures `quadq tidy` on a grid of 1,048,576 faces against its peers: wall time and peak memory, as ratios."""
 import os
 import subprocess
-import sys
 import tempfile
-import time
+
+from measuring import best, measured
 
 HERE = os.path.dirname(os.path.realpath(__file__))
 ROOT = os.path.dirname(HERE)
 ROUNDS = 7
 
 
-def measured(words, text, out):
-    """Seconds and MB of one run."""
-    with open(text, "rb") as source, open(out, "wb") as sink:
-        start = time.perf_counter()
-        child = subprocess.Popen(words, stdin=source, stdout=sink)
-        _, status, usage = os.wait4(child.pid, 0)
-        seconds = time.perf_counter() - start
-    if status != 0:
-        sys.exit(f"{words[0]} ended with {status}")
-    return seconds, usage.ru_maxrss / 1024
-
-
 def table(title, programs, text, room):
     """One row a program: the best of some rounds, taken by turns, and the ratios of the first to each."""
-    best = {}
-    outputs = {}
-    for _ in range(ROUNDS):
-        for name, words in programs:
-            seconds, megabytes = measured(words, text, f"{room}/out")
-            old = best.get(name, (seconds, megabytes))
-            best[name] = (min(old[0], seconds), min(old[1], megabytes))
-            outputs[name] = open(f"{room}/out", "rb").read()
+    least, outputs = best(programs, text, room, ROUNDS)
     print(f"{title}, {os.path.getsize(text) / 1e6:.0f} MB, best of {ROUNDS}")
     print(f"{'program':<28}{'seconds':>9}{'MB':>7}{'time ratio':>12}{'memory ratio':>14}")
-    ours = best[programs[0][0]]
+    ours = least[programs[0][0]]
     for name, _ in programs:
-        seconds, megabytes = best[name]
+        seconds, megabytes = least[name]
         print(f"{name:<28}{seconds:>9.3f}{megabytes:>7.0f}{ours[0] / seconds:>12.2f}{ours[1] / megabytes:>14.2f}")
     same = outputs[programs[0][0]] == outputs[programs[1][0]]
     print("the first two wrote the same bytes" if same else "THE FIRST TWO WROTE OTHER BYTES")

@@ -1,0 +1,55 @@
+"""Runs programs and measures them: what the benchmarks of whole files share."""
+import hashlib
+import re
+import subprocess
+import sys
+
+# A child is charged with the memory that its parent had, so a small process stands between.
+BETWEEN = """import os, subprocess, sys, time
+start = time.perf_counter()
+child = subprocess.Popen(sys.argv[1:])
+_, status, usage = os.wait4(child.pid, 0)
+seconds = time.perf_counter() - start
+print(f"taken: {os.waitstatus_to_exitcode(status)} {seconds} {usage.ru_maxrss / 1024}", file=sys.stderr)"""
+
+
+def run(words, source, target):
+    """The seconds and megabytes of one run from one file to another, and its status."""
+    with open(source, "rb") as text, open(target, "wb") as out:
+        words = [sys.executable, "-c", BETWEEN, *words]
+        ran = subprocess.run(words, stdin=text, stdout=out, stderr=subprocess.PIPE, check=True)
+    taken = re.search(r"^taken: (\S+) (\S+) (\S+)$", ran.stderr.decode(), re.MULTILINE)
+    status, seconds, megabytes = taken.groups()
+    return float(seconds), float(megabytes), int(status)
+
+
+def measured(words, source, target):
+    """The seconds and megabytes of a run that ends well."""
+    seconds, megabytes, status = run(words, source, target)
+    if status != 0:
+        sys.exit(f"{words[0]} ended with {status}")
+    return seconds, megabytes
+
+
+def digest(path):
+    """What tells the bytes of a file from others."""
+    with open(path, "rb") as text:
+        return hashlib.file_digest(text, "sha256").hexdigest()
+
+
+def best(programs, text, room, rounds):
+    """The least seconds and megabytes of each program, taken by turns, and the digests of what they wrote."""
+    least, outputs = {}, {}
+    for _ in range(rounds):
+        for name, words in programs:
+            seconds, megabytes = measured(words, text, f"{room}/out")
+            old = least.get(name, (seconds, megabytes))
+            least[name] = (min(old[0], seconds), min(old[1], megabytes))
+            outputs[name] = digest(f"{room}/out")
+    return least, outputs
+
+
+def count_lines(path, front):
+    """How many lines of a file begin so."""
+    with open(path, "rb") as lines:
+        return sum(line.startswith(front) for line in lines)
