@@ -2,9 +2,11 @@
 _quadq() {
     local word=${COMP_WORDS[COMP_CWORD]} words=
     if [ "$COMP_CWORD" -eq 1 ]; then
-        words="tidy graph refine remesh"
+        words="tidy graph refine remesh bench"
     elif [ "${COMP_WORDS[1]}" = refine ] && [ "$COMP_CWORD" -eq 2 ]; then
         words="--by"
+    elif [ "${COMP_WORDS[1]}" = bench ] && [ "$COMP_CWORD" -eq 2 ]; then
+        words="--size"
     elif [ "${COMP_WORDS[1]}" = remesh ]; then
         case ${COMP_WORDS[COMP_CWORD - 1]} in
             --scale) ;;

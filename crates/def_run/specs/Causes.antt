@@ -7,6 +7,7 @@ use Rattle.def_text.specs.Input.{ReadWhole}
 use Rattle.def_text.specs.Types.{Words}
 use Rattle.def_text.specs.declared.limits.TheConstants.{MAX_BYTES}
 use Rattle.def_text.specs.declared.refusal.Which.TheVariants.{Bytes as AllBytes}
+use Rattle.def_run.specs.Bench.{HasBench, RefusesToBench, WritesBench}
 use Rattle.def_run.specs.CommandLines.{IsCommand}
 use Rattle.def_run.specs.Graph.{RefusesToTrace, WritesGraph}
 use Rattle.def_run.specs.Mesh.{HasMesh}
@@ -24,6 +25,7 @@ Writes Tidy bytes text = WritesTidied bytes text
 Writes Graph bytes text = WritesGraph bytes text
 Writes (Refine by) bytes text = WritesRefined by bytes text
 Writes (Remesh settings auto) bytes text = WritesRemeshed settings auto bytes text
+Writes (Bench size) bytes text = WritesBench size text
 Writes command bytes text = ⊥
 
 -- The answer with which a command refuses the bytes that it read.
@@ -32,6 +34,7 @@ Refuses Tidy bytes answer = RefusesToTidy bytes answer
 Refuses Graph bytes answer = RefusesToTrace bytes answer
 Refuses (Refine by) bytes answer = RefusesToRefine by bytes answer
 Refuses (Remesh settings auto) bytes answer = RefusesToRemesh settings auto bytes answer
+Refuses (Bench size) bytes answer = RefusesToBench size answer
 Refuses command bytes answer = ⊥
 
 -- The bytes for which a command has a text to write, whatever is free in it. One that is not built takes none.
@@ -40,6 +43,7 @@ Takes Tidy bytes = HasMesh bytes
 Takes Graph bytes = HasMesh bytes
 Takes (Refine by) bytes = HasRefined by bytes
 Takes (Remesh settings auto) bytes = HasRemesh settings auto bytes
+Takes (Bench size) bytes = HasBench size
 Takes command bytes = ⊥
 
 -- The source is as it was, as far as it tells.

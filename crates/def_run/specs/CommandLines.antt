@@ -59,7 +59,8 @@ is_built Tidy = true
 is_built Graph = true
 is_built (Refine by) = true
 is_built (Remesh settings auto) = true
-is_built command = false
+is_built Check = false
+is_built (Bench size) = true
 
 -- These words are an accepted line.
 pub record IsAccepted (words : Words) : Type 0 where

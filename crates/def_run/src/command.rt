@@ -32,9 +32,6 @@ impl Command {
     pub fn is_built(&self) -> bool
         ensures { result ≡ is_built self.now }
     {
-        matches!(
-            self,
-            Command::Tidy | Command::Graph | Command::Refine { .. } | Command::Remesh { .. }
-        )
+        !matches!(self, Command::Check)
     }
 }

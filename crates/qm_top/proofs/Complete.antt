@@ -1,14 +1,16 @@
 -- Bytes that a command takes are not refused.
-use Rattle.std.proofs.Common.{Bool, ◌≡◌, ◌≤◌, ◌<◌, ◌⊎◌, ℕ, List, [], ◌++◌, length, Option, Some, None, true, Result, Ok, Err, sym, ◌∙◌, ap, subst, arith, refl, inl, inr, length-append}
+use Rattle.std.proofs.Common.{Bool, false, ◌≡◌, ◌≤◌, ◌<◌, ◌⊎◌, ℕ, List, [], ◌++◌, length, Option, Some, None, true, Result, Ok, Err, sym, ◌∙◌, ap, subst, arith, refl, inl, inr, length-append}
 use Rattle.std.proofs.lemmas.List.{append-nil}
 use Rattle.def_io.specs.Bytes.{Bytes, Told}
 use Rattle.def_io.specs.Faults.{Rose}
 use Rattle.def_io.specs.Moves.{Change, gave, GaveMore, IsEmptied}
+use Rattle.def_mesh.specs.Faces.{Faces}
 use Rattle.def_mesh.specs.Manifold.{IsManifold}
 use Rattle.def_text.specs.FaceSet.{FaceSet}
 use Rattle.def_text.specs.declared.limits.TheConstants.{MAX_BYTES}
 use Rattle.def_text.specs.declared.refusal.ObjFail.{ObjFail}
-use Rattle.def_text.specs.declared.refusal.Which.TheVariants.{Bytes as AllBytes, Line, Vertices, Faces}
+use Rattle.def_text.specs.declared.refusal.Which.TheVariants.{Bytes as AllBytes, Line, Vertices, Faces as AllFaces}
+use Rattle.def_run.specs.Bench.{bench_faces, bench_settings, HasBench, RefusesToBench}
 use Rattle.def_run.specs.Causes.{Cause, FailsToRead, Holds, IsGood, Reads, ReadsTooMany, Refused, Refuses, Takes}
 use Rattle.def_run.specs.Mesh.{IsMesh, IsNoMesh}
 use Rattle.def_flow.specs.declared.net.Settings.{Settings}
@@ -52,12 +54,15 @@ mesh_not_refused bytes soup WriteFault mesh none = absurd none
 mesh_not_refused bytes soup Memory mesh none = absurd none
 
 -- A mesh has one layout of its motorcycle graph.
+one_layout : (faces : Faces) → IsManifold faces → (one other : Plan) → IsCutTo faces one → IsCutTo faces other → one ≡ other
+one_layout faces manifold one other cut also =
+    one_layout_law faces (traced_marks faces) manifold (graph_law faces manifold).1 one other cut also
+
 one_cut : (bytes : Bytes) (one other : Plan) → HasCut bytes one → HasCut bytes other → one ≡ other
 one_cut bytes one other has also =
     let both : ◌≡◌ {A = Result FaceSet ObjFail} (Ok has.soup) (Ok also.soup) = sym has.mesh.said ∙ also.mesh.said in
     let same : has.soup ≡ also.soup = cc in
-    one_layout_law has.soup.faces (traced_marks has.soup.faces) has.mesh.manifold (graph_law has.soup.faces has.mesh.manifold).1 one other has.cut
-    (subst (λ (s : FaceSet). IsCutTo s.faces other) (sym same) also.cut)
+    one_layout has.soup.faces has.mesh.manifold one other has.cut (subst (λ (s : FaceSet). IsCutTo s.faces other) (sym same) also.cut)
 
 -- Bytes whose mesh is refined are not refused.
 refine_not_both : (by : ℕ) (bytes : Bytes) (answer : Answer) → HasRefined by bytes → RefusesToRefine by bytes answer → ⊥
@@ -104,6 +109,30 @@ remesh_not_both settings auto bytes answer takes (inr (plan, cut, why)) =
     layout_not_both settings auto takes.plan answer takes.fits
     (subst (λ (p : Plan). RefusesLayout p settings auto answer) (one_cut bytes plan takes.plan cut takes.cut) why)
 
+-- So is the mesh of a size.
+bench_layout : (size : ℕ) (answer : Answer) → HasBench size → (plan : Plan) → IsCutTo (bench_faces size) plan
+    → RefusesLayout plan bench_settings false answer → ⊥
+bench_layout size answer takes plan cut why =
+    layout_not_both bench_settings false takes.plan answer takes.fits
+    (subst (λ (p : Plan). RefusesLayout p bench_settings false answer)
+    (one_layout (bench_faces size) takes.manifold plan takes.plan cut takes.cut) why)
+
+bench_not_both : (size : ℕ) (answer : Answer) → HasBench size → RefusesToBench size answer → ⊥
+bench_not_both size (NotManifold place) takes refuses = refuses.1 takes.manifold
+bench_not_both size (Tangled count) takes (plan, cut, why) = bench_layout size (Tangled count) takes plan cut why
+bench_not_both size (TooFine faces kept) takes (plan, cut, why) = bench_layout size (TooFine faces kept) takes plan cut why
+bench_not_both size (Doubled u v cert) takes (plan, cut, why) = bench_layout size (Doubled u v cert) takes plan cut why
+bench_not_both size Done takes (plan, cut, why) = absurd why
+bench_not_both size (NotAccepted why) takes (plan, cut, none) = absurd none
+bench_not_both size Usage takes (plan, cut, why) = absurd why
+bench_not_both size (Syntax line) takes (plan, cut, why) = absurd why
+bench_not_both size (NotQuad line corners) takes (plan, cut, why) = absurd why
+bench_not_both size (Range line) takes (plan, cut, why) = absurd why
+bench_not_both size (Limit which line) takes (plan, cut, why) = absurd why
+bench_not_both size ReadFault takes (plan, cut, why) = absurd why
+bench_not_both size WriteFault takes (plan, cut, why) = absurd why
+bench_not_both size Memory takes (plan, cut, why) = absurd why
+
 -- No command both takes bytes and refuses them.
 not_both : (command : Command) (bytes : Bytes) (answer : Answer) → Takes command bytes → Refuses command bytes answer → ⊥
 not_both Tidy bytes answer takes refuses = mesh_not_refused bytes takes.soup answer takes.mesh refuses
@@ -111,7 +140,7 @@ not_both Graph bytes answer takes refuses = mesh_not_refused bytes takes.soup an
 not_both (Refine by) bytes answer takes refuses = refine_not_both by bytes answer takes refuses
 not_both (Remesh settings auto) bytes answer takes refuses = remesh_not_both settings auto bytes answer takes refuses
 not_both Check bytes answer takes refuses = absurd takes
-not_both (Bench size) bytes answer takes refuses = absurd takes
+not_both (Bench size) bytes answer takes refuses = bench_not_both size answer takes refuses
 
 -- What a source gave whole is what it held.
 same_bytes : (before now : Told) (bytes held : Bytes) → before ≡ Some held → before ≡ gave bytes now → IsEmptied now → bytes ≡ held
@@ -177,7 +206,7 @@ completes command input out (Range line) why good = absurd (not_refused command 
 completes command input out (Limit AllBytes line) why good = absurd (not_too_many command input good why.1)
 completes command input out (Limit Line line) why good = absurd (not_refused command input _ good why)
 completes command input out (Limit Vertices line) why good = absurd (not_refused command input _ good why)
-completes command input out (Limit Faces line) why good = absurd (not_refused command input _ good why)
+completes command input out (Limit AllFaces line) why good = absurd (not_refused command input _ good why)
 completes command input out (NotManifold place) why good = absurd (not_refused command input _ good why)
 completes command input out (Tangled count) why good = absurd (not_refused command input _ good why)
 completes command input out (TooFine faces kept) why good = absurd (not_refused command input _ good why)
@@ -203,7 +232,7 @@ good_built Graph left good = refl
 good_built (Refine by) left good = refl
 good_built (Remesh settings auto) left good = refl
 good_built Check left good = absurd good.taken
-good_built (Bench size) left good = absurd good.taken
+good_built (Bench size) left good = refl
 
 -- Words that are no accepted line have no good bytes, unless memory is wanting.
 pub not_read : (words : Words) (command : Command) (left : Told) (fail : WordsFail) (answer : Answer) → answer ≡ answer_of_words fail

@@ -1,3 +1,4 @@
+mod Benched
 mod Complete
 mod Naming
 mod NeverBytes

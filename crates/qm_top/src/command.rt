@@ -9,6 +9,7 @@ ghost use Rattle.def_run.specs.Messages.{Said, SaidWhy};
 ghost use Rattle.def_text.specs.Types.{Words};
 ghost use Rattle.qm_top.specs.Runs.{HasRun};
 
+use crate::bench::bench;
 use crate::error_line::error_line_of;
 use crate::graph::graph;
 use crate::refine::refine;
@@ -81,15 +82,17 @@ fn run_command<S: Source, O: Sink>(
 ) -> Result<(), Refusal>
     requires built { is_built command ≡ true }
     requires spoken { (words : Words) × IsCommand words command }
-    ensures { HasRun command
+    ensures run { HasRun command
         (change (S.left input.old) (S.left input.new) (S.faults input.old) (S.faults input.new))
         (change (O.taken out.old) (O.taken out.new) (O.faults out.old) (O.faults out.new)) out.old out.new result }
+    ensures unasked { (size : ℕ) → Command.Bench size ≡ command → input.new ≡ input.old }
 {
     match command {
         Command::Tidy => tidy(alloc, input, out),
         Command::Graph => graph(alloc, input, out),
         Command::Refine { by } => refine(alloc, by, input, out),
         Command::Remesh { settings, auto } => remesh(alloc, Asked { settings, auto }, input, out),
+        Command::Bench { size } => bench(alloc, size, out),
         _ => unreachable!(),
     }
 }

@@ -35,7 +35,7 @@ pub(crate) fn read_mesh<S: Source>(alloc: Global, input: &mut S) -> Result<MeshI
 }
 
 /// The mesh of the soup's faces, or the first place where they are no manifold.
-fn with_mesh(alloc: Global, soup: Soup) -> Result<MeshInput, Refusal>
+pub(crate) fn with_mesh(alloc: Global, soup: Soup) -> Result<MeshInput, Refusal>
     requires few { (length soup.pos ≤ MAX_VERTICES) × (length soup.faces ≤ MAX_FACES) }
     ensures soup { IfOk result (λ read. read.soup ≡ soup) }
     ensures mesh { IfOk result (λ read. read.mesh ≡ soup.faces) }

@@ -1,6 +1,7 @@
 //! The top call: one command line, run from a source to a sink, with every refusal told.
 #![tactic(auto)]
 
+mod bench;
 mod command;
 mod error_line;
 mod graph;

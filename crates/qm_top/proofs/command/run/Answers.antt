@@ -14,10 +14,13 @@ returns-in-Err-clause-told g c = λ refused.
 pub returns-in-Err-run_command-clause-complete : goal.returns-in-Err-run_command-clause-complete
 returns-in-Err-run_command-clause-complete g c = λ command line good.
     completes_as c.in-Ok.command command _ _ c.into_reply-reply.result.answer _ c.into_reply-reply.ensures.answer (c.in-Ok.ensures.only command line)
-    c.in-Err-run_command.ensures.refused.cause good
+    c.in-Err-run_command.ensures.run.refused.cause good
 
 pub returns-in-Err-run_command-clause-told : goal.returns-in-Err-run_command-clause-told
 returns-in-Err-run_command-clause-told g c = λ refused.
     says_why _ c.in-Ok.command _ _ c.in-Err-run_command.refusal c.into_reply-reply.result.answer c.deref.result.now _ c.in-Ok.ensures.reads
     c.into_reply-reply.ensures.answer (c.deref.ensures.value ∙ c.into_reply-reply.ensures.names)
-    c.in-Err-run_command.ensures.refused.names c.error_line_of-in-Err-run_command.ensures c.say-in-Err-run_command.ensures
+    c.in-Err-run_command.ensures.run.refused.names c.error_line_of-in-Err-run_command.ensures c.say-in-Err-run_command.ensures
+
+pub returns-in-Err-run_command-clause-unasked : goal.returns-in-Err-run_command-clause-unasked
+returns-in-Err-run_command-clause-unasked g c = λ size line. c.in-Err-run_command.ensures.unasked size (c.in-Ok.ensures.only _ line)

@@ -1,0 +1,42 @@
+//! `bench`: a mesh that is made from a number is remeshed, and a line that sums it up is written.
+
+ghost use Rattle.std.specs.Prelude.{◌≡◌, ◌≤◌, ℕ, IfErr, OnOk};
+ghost use Rattle.def_io.specs.Bytes.{Told};
+ghost use Rattle.def_io.specs.Moves.{change};
+ghost use Rattle.def_run.specs.Bench.{bench_faces, IsBenchFail, WritesBench};
+ghost use Rattle.qm_top.specs.Runs.{HasRun};
+ghost use Rattle.qm_top.specs.Writing.{IsUnwritten, WroteText};
+
+use crate::input::{MeshInput, with_mesh};
+use crate::refusal::Refusal;
+use def_run::{Command, MAX_SIZE};
+use qm_gen::steps_mesh;
+use qm_io::{Sink, write_all};
+use qm_mesh::Mesh;
+use qm_summary::summary_of;
+use std::alloc::Global;
+
+/// Makes the mesh of a size, remeshes it, and writes the line that sums it up. It reads nothing.
+pub(crate) fn bench<O: Sink>(alloc: Global, size: u32, out: &mut O) -> Result<(), Refusal>
+    requires low { 1 ≤ size }
+    requires high { size ≤ MAX_SIZE }
+    ensures { (left : Told) (faults : ℕ) → HasRun (Command.Bench size) (change left left faults faults)
+        (change (O.taken out.old) (O.taken out.new) (O.faults out.old) (O.faults out.new)) out.old out.new result }
+{
+    let soup = steps_mesh(alloc, size)?;
+    let MeshInput { mesh, soup: _ } = with_mesh(alloc, soup)?;
+    bench_mesh(alloc, size, &mesh, out)
+}
+
+/// Writes the line of the benchmark of this size, whose mesh this is.
+fn bench_mesh<O: Sink>(alloc: Global, size: u32, mesh: &Mesh, out: &mut O) -> Result<(), Refusal>
+    requires { mesh.now ≡ bench_faces size }
+    ensures done { OnOk result (WroteText (WritesBench size)
+        (change (O.taken out.old) (O.taken out.new) (O.faults out.old) (O.faults out.new))) }
+    ensures refused { IfErr result (IsUnwritten (WritesBench size) (IsBenchFail size)
+        (change (O.taken out.old) (O.taken out.new) (O.faults out.old) (O.faults out.new)) out.old out.new) }
+{
+    let text = summary_of(alloc, mesh, size)?;
+    write_all(out, &text)?;
+    Ok(())
+}
