@@ -2,7 +2,7 @@
 _quadq() {
     local word=${COMP_WORDS[COMP_CWORD]} words=
     if [ "$COMP_CWORD" -eq 1 ]; then
-        words="tidy graph refine remesh bench"
+        words="tidy graph refine remesh check bench"
     elif [ "${COMP_WORDS[1]}" = refine ] && [ "$COMP_CWORD" -eq 2 ]; then
         words="--by"
     elif [ "${COMP_WORDS[1]}" = bench ] && [ "$COMP_CWORD" -eq 2 ]; then

@@ -3,11 +3,13 @@ use Rattle.std.specs.Prelude.{◌≡◌, ◌≤◌, [], length, Some, ⊤}
 use Rattle.def_io.specs.Bytes.{Bytes, Told}
 use Rattle.def_io.specs.Faults.{Rose}
 use Rattle.def_io.specs.Moves.{Change, took, GaveMore, TookFront}
+use Rattle.def_remesh.specs.Checked.{IsCheckedPair}
 use Rattle.def_text.specs.Input.{ReadWhole}
 use Rattle.def_text.specs.Types.{Words}
 use Rattle.def_text.specs.declared.limits.TheConstants.{MAX_BYTES}
 use Rattle.def_text.specs.declared.refusal.Which.TheVariants.{Bytes as AllBytes}
 use Rattle.def_run.specs.Bench.{HasBench, RefusesToBench, WritesBench}
+use Rattle.def_run.specs.Check.{RefusesToCheck, WritesAccepted}
 use Rattle.def_run.specs.CommandLines.{IsCommand}
 use Rattle.def_run.specs.Graph.{RefusesToTrace, WritesGraph}
 use Rattle.def_run.specs.Mesh.{HasMesh}
@@ -17,16 +19,16 @@ use Rattle.def_run.specs.Tidy.{RefusesToTidy, WritesTidied}
 use Rattle.def_run.specs.declared.answer.Answer.{Answer}
 use Rattle.def_run.specs.declared.answer.Answer.TheVariants.{Done, Usage, Limit, ReadFault, WriteFault, Memory}
 use Rattle.def_run.specs.declared.command.Command.{Command}
-use Rattle.def_run.specs.declared.command.Command.TheVariants.{Tidy, Graph, Refine, Remesh, Bench}
+use Rattle.def_run.specs.declared.command.Command.TheVariants.{Tidy, Graph, Refine, Remesh, Check, Bench}
 
--- The text that a command writes for the bytes that it read. One that is not built writes none.
+-- The text that a command writes for the bytes that it read.
 abbrev pub Writes : (command : Command) (bytes text : Bytes) → Type 0
 Writes Tidy bytes text = WritesTidied bytes text
 Writes Graph bytes text = WritesGraph bytes text
 Writes (Refine by) bytes text = WritesRefined by bytes text
 Writes (Remesh settings auto) bytes text = WritesRemeshed settings auto bytes text
+Writes Check bytes text = WritesAccepted bytes text
 Writes (Bench size) bytes text = WritesBench size text
-Writes command bytes text = ⊥
 
 -- The answer with which a command refuses the bytes that it read.
 abbrev pub Refuses : (command : Command) (bytes : Bytes) (answer : Answer) → Type 0
@@ -34,17 +36,17 @@ Refuses Tidy bytes answer = RefusesToTidy bytes answer
 Refuses Graph bytes answer = RefusesToTrace bytes answer
 Refuses (Refine by) bytes answer = RefusesToRefine by bytes answer
 Refuses (Remesh settings auto) bytes answer = RefusesToRemesh settings auto bytes answer
+Refuses Check bytes answer = RefusesToCheck bytes answer
 Refuses (Bench size) bytes answer = RefusesToBench size answer
-Refuses command bytes answer = ⊥
 
--- The bytes for which a command has a text to write, whatever is free in it. One that is not built takes none.
+-- The bytes for which a command has a text to write, whatever is free in it.
 abbrev pub Takes : (command : Command) (bytes : Bytes) → Type 0
 Takes Tidy bytes = HasMesh bytes
 Takes Graph bytes = HasMesh bytes
 Takes (Refine by) bytes = HasRefined by bytes
 Takes (Remesh settings auto) bytes = HasRemesh settings auto bytes
+Takes Check bytes = IsCheckedPair bytes
 Takes (Bench size) bytes = HasBench size
-Takes command bytes = ⊥
 
 -- The source is as it was, as far as it tells.
 abbrev pub IsUnread : (input : Change) → Type 0

@@ -1,5 +1,5 @@
 -- The accepted command lines.
-use Rattle.std.specs.Prelude.{◌≡◌, ◌≤◌, ℕ, Bool, true, false, [], ◌∷◌, codes, decimal}
+use Rattle.std.specs.Prelude.{◌≡◌, ◌≤◌, ℕ, Bool, [], ◌∷◌, codes, decimal}
 use Rattle.def_text.specs.Types.{Word, Words}
 use Rattle.def_flow.specs.declared.net.Settings.{Settings}
 use Rattle.def_certtext.specs.Settings.{AreWordsOf}
@@ -53,17 +53,7 @@ pub record IsCommand (words : Words) (command : Command) : Type 0 where
   pub first : words ≡ name_of command ∷ rest
   pub options : HasOptions command rest
 
--- The commands that this program runs; the line of any other is refused as no accepted one.
-abbrev pub is_built : (command : Command) → Bool
-is_built Tidy = true
-is_built Graph = true
-is_built (Refine by) = true
-is_built (Remesh settings auto) = true
-is_built Check = false
-is_built (Bench size) = true
-
 -- These words are an accepted line.
 pub record IsAccepted (words : Words) : Type 0 where
   pub command : Command
   pub line : IsCommand words command
-  pub built : is_built command ≡ true

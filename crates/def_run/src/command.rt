@@ -1,8 +1,5 @@
 //! The commands and their limits.
 
-ghost use Rattle.std.specs.Prelude.{◌≡◌};
-ghost use Rattle.def_run.specs.CommandLines.{is_built};
-
 use def_flow::Settings;
 
 /// The greatest multiple of `refine`.
@@ -25,13 +22,4 @@ pub enum Command {
     Remesh { settings: Settings, auto: bool },
     Check,
     Bench { size: u32 },
-}
-
-impl Command {
-    /// Whether this program runs the command. It refuses the line of any other as no accepted one.
-    pub fn is_built(&self) -> bool
-        ensures { result ≡ is_built self.now }
-    {
-        !matches!(self, Command::Check)
-    }
 }

@@ -9,7 +9,7 @@ use Rattle.def_run.specs.Causes.{Cause, IsUnread}
 use Rattle.def_run.specs.declared.command.Command.TheVariants.{Bench}
 use Rattle.qm_top.specs.Refusals.{answer_of_layout, Ended, IsNoMeshOf}
 use Rattle.qm_top.specs.declared.refusal.Refusal.{Refusal}
-use Rattle.qm_top.specs.declared.refusal.Refusal.TheVariants.{Soup, NotManifold, Layout, Write}
+use Rattle.qm_top.specs.declared.refusal.Refusal.TheVariants.{NotAccepted, Soup, NotManifold, Layout, Write}
 use Rattle.qm_top.specs.declared.refusal.Refusal.TheVariants as refusals
 use Rattle.qm_top.proofs.Refusals.{memory_ended}
 use Rattle.qm_top.proofs.Writers.{IsWriter}
@@ -41,3 +41,4 @@ module _ (size : ℕ) (input out : Change) (unread : IsUnread input) where
   made_ended (Soup fail) none = absurd none
   made_ended (Layout fail) none = absurd none
   made_ended (Write fail) none = absurd none
+  made_ended (NotAccepted why) none = absurd none

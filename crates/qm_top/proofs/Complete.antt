@@ -1,5 +1,5 @@
 -- Bytes that a command takes are not refused.
-use Rattle.std.proofs.Common.{Bool, false, ◌≡◌, ◌≤◌, ◌<◌, ◌⊎◌, ℕ, List, [], ◌++◌, length, Option, Some, None, true, Result, Ok, Err, sym, ◌∙◌, ap, subst, arith, refl, inl, inr, length-append}
+use Rattle.std.proofs.Common.{Bool, false, ◌≡◌, ◌≤◌, ◌⊎◌, ℕ, List, ◌++◌, length, Some, None, Result, Ok, Err, sym, ◌∙◌, ap, subst, arith, refl, inl, inr, length-append}
 use Rattle.std.proofs.lemmas.List.{append-nil}
 use Rattle.def_io.specs.Bytes.{Bytes, Told}
 use Rattle.def_io.specs.Faults.{Rose}
@@ -28,9 +28,10 @@ use Rattle.def_run.specs.declared.command.Command.{Command}
 use Rattle.def_run.specs.declared.command.Command.TheVariants.{Tidy, Graph, Refine, Remesh, Check, Bench}
 use Rattle.def_run.specs.declared.words.WordsFail.{WordsFail}
 use Rattle.def_run.specs.declared.words.WordsFail.TheVariants as words_fail
-use Rattle.def_run.specs.CommandLines.{is_built, IsAccepted, IsCommand}
+use Rattle.def_run.specs.CommandLines.{IsAccepted, IsCommand}
 use Rattle.def_text.specs.Types.{Words}
 use Rattle.remesh_laws.proofs.Fits.{fits_not_doubled, fits_not_fine}
+use Rattle.qm_top.proofs.Checked.{pair_not_refused}
 use Rattle.qm_top.specs.Refusals.{answer_of_words}
 
 -- Bytes that have a mesh have no refusal of one.
@@ -139,7 +140,7 @@ not_both Tidy bytes answer takes refuses = mesh_not_refused bytes takes.soup ans
 not_both Graph bytes answer takes refuses = mesh_not_refused bytes takes.soup answer takes.mesh refuses
 not_both (Refine by) bytes answer takes refuses = refine_not_both by bytes answer takes refuses
 not_both (Remesh settings auto) bytes answer takes refuses = remesh_not_both settings auto bytes answer takes refuses
-not_both Check bytes answer takes refuses = absurd takes
+not_both Check bytes answer takes refuses = pair_not_refused bytes answer takes refuses
 not_both (Bench size) bytes answer takes refuses = bench_not_both size answer takes refuses
 
 -- What a source gave whole is what it held.
@@ -225,18 +226,20 @@ completes_as read command input out answer said is one cause good =
     (sym is)
     (completes read input out said cause (subst (λ (k : Command). IsGood k input.told) one good))
 
--- A source with good bytes is one of a command that is built.
-good_built : (command : Command) (left : Told) → IsGood command left → is_built command ≡ true
-good_built Tidy left good = refl
-good_built Graph left good = refl
-good_built (Refine by) left good = refl
-good_built (Remesh settings auto) left good = refl
-good_built Check left good = absurd good.taken
-good_built (Bench size) left good = refl
+-- What was read is what was said.
+pub same_command : (read other : Command) → (◌≡◌ {A = Result Command WordsFail} (Ok read) (Ok other)) ⊎ (Ok read ≡ Err words_fail.Memory) → other ≡ read
+same_command read other (inl is) = cc
+same_command read other (inr none) = absurd cc
 
 -- Words that are no accepted line have no good bytes, unless memory is wanting.
 pub not_read : (words : Words) (command : Command) (left : Told) (fail : WordsFail) (answer : Answer) → answer ≡ answer_of_words fail
-    → IsCommand words command → IsGood command left → (fail ≡ words_fail.Usage → ¬ IsAccepted words) → answer ≡ Memory
+    → IsCommand words command → IsGood command left → (fail ≡ words_fail.Usage → (k : Command) → ¬ IsCommand words k) → answer ≡ Memory
 not_read words command left words_fail.Usage answer is line good refused =
-    absurd (refused refl (record { command = command; line = line; built = good_built command left good }))
+    absurd (refused refl command line)
 not_read words command left words_fail.Memory answer is line good refused = is
+
+-- Where words are a matter of usage they are no accepted line.
+pub not_accepted : (words : Words) (fail : WordsFail) (answer : Answer) → answer ≡ answer_of_words fail
+    → (fail ≡ words_fail.Usage → (k : Command) → ¬ IsCommand words k) → answer ≡ Usage → ¬ IsAccepted words
+not_accepted words words_fail.Usage answer is refused usage = λ accepted. refused refl accepted.command accepted.line
+not_accepted words words_fail.Memory answer is refused usage = λ accepted. let never : ◌≡◌ {A = Answer} Usage Memory = sym usage ∙ is in absurd cc

@@ -1,4 +1,5 @@
 mod Benched
+mod Checked
 mod Complete
 mod Naming
 mod NeverBytes

@@ -1,10 +1,10 @@
 -- Where the faces of a soup first fail to be a manifold, each vertex has a number.
-use Rattle.std.proofs.Common.{◌≡◌, ◌⊎◌, ℕ, suc, ◌+◌, ◌*◌, ◌/◌, ◌%◌, ◌<◌, ◌≤◌, Bool, true, false, cond, eqb, ltb, List, [], ◌∷◌, length, get_or, Option, Some, sym, subst, ap, ◌∙◌, refl, inl, inr, arith}
+use Rattle.std.proofs.Common.{◌≡◌, ◌⊎◌, ℕ, suc, ◌+◌, ◌*◌, ◌%◌, ◌<◌, ◌≤◌, Bool, true, false, cond, eqb, ltb, List, [], ◌∷◌, length, get_or, Some, sym, subst, ap, ◌∙◌, refl, inl, inr, arith}
 use Rattle.std.specs.List.{list_all, list_any}
 use Rattle.std.proofs.lemmas.Bool.{and_from, cases_lt, lt-ltb}
 use Rattle.std.proofs.lemmas.Option.{none-some, same_Some}
-use Rattle.def_mesh.specs.Faces.{Faces, corner, face_at}
-use Rattle.def_mesh.specs.Darts.{darts, from_of}
+use Rattle.def_mesh.specs.Faces.{corner, face_at}
+use Rattle.def_mesh.specs.Darts.{from_of}
 use Rattle.def_mesh.specs.Faults.{repeat_after, IsFirstFault}
 use Rattle.def_mesh.specs.declared.Place.{Place}
 use Rattle.def_mesh.specs.declared.Place.TheVariants.{Repeated, EdgeTwice, TwoFans}

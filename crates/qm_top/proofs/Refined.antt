@@ -27,10 +27,10 @@ use Rattle.def_written.specs.NewFaces.{face_count, new_faces}
 use Rattle.def_written.specs.Shape.{KeepsShape}
 use Rattle.qm_write.specs.declared.body.NewPoints.{NewPoints}
 use Rattle.qm_top.specs.Refining.{ArePointsBy, HasNoPoints, IsNotRefined, WroteRefined}
-use Rattle.qm_top.specs.Refusals.{answer_of, answer_of_layout, Ended, Finished}
+use Rattle.qm_top.specs.Refusals.{answer_of, answer_of_layout, Ended}
 use Rattle.qm_top.specs.Runs.{HasRun}
 use Rattle.qm_top.specs.declared.refusal.Refusal.{Refusal}
-use Rattle.qm_top.specs.declared.refusal.Refusal.TheVariants.{Soup, NotManifold, Layout, Write}
+use Rattle.qm_top.specs.declared.refusal.Refusal.TheVariants.{NotAccepted, Soup, NotManifold, Layout, Write}
 use Rattle.qm_top.specs.declared.refusal.Refusal.TheVariants as refusals
 
 -- The text of a mesh with multiples of the old lengths is one of a refined mesh.
@@ -102,6 +102,7 @@ module _ (by : ℕ) (input out : Change) (soup : FaceSet) (manifold : IsManifold
   }
   not_refined before now refusals.Memory same = record { cause = tt; names = λ p is. cc; calm = λ _ _. calm }
   not_refined before now (Soup fail) none = absurd none
+  not_refined before now (NotAccepted why) none = absurd none
   not_refined before now (NotManifold named) none = absurd none
 
   -- The sink is as it was, unless the write failed.
@@ -110,6 +111,7 @@ module _ (by : ℕ) (input out : Change) (soup : FaceSet) (manifold : IsManifold
   same_sink before now (Write fail) broke other = absurd (other refl)
   same_sink before now refusals.Memory same other = same
   same_sink before now (Soup fail) none other = absurd none
+  same_sink before now (NotAccepted why) none other = absurd none
   same_sink before now (NotManifold named) none other = absurd none
 
   -- A mesh that was refined, or was not, is what the command keeps.

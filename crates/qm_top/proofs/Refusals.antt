@@ -1,7 +1,7 @@
 -- Refusals of the steps of a run as answers with their causes.
-use Rattle.std.specs.Prelude.{IfErr, IsErrAnd}
+use Rattle.std.specs.Prelude.{IsErrAnd}
 use Rattle.def_flow.specs.declared.net.Settings.{Settings}
-use Rattle.std.proofs.Common.{inl, Bool, ◌≡◌, ◌≢◌, ℕ, List, [], Result, Ok, Err, sym, ap, ◌∙◌, subst, refl}
+use Rattle.std.proofs.Common.{inl, Bool, ◌≡◌, ℕ, List, [], Result, Ok, Err, sym, ◌∙◌, subst, refl}
 use Rattle.def_io.specs.Bytes.{Bytes}
 use Rattle.def_io.specs.Faults.{Rose}
 use Rattle.def_io.specs.Moves.{Change, GaveMore}
@@ -9,13 +9,12 @@ use Rattle.def_io.specs.declared.fails.WriteFail.{WriteFail}
 use Rattle.def_io.specs.Lines.{lines_of}
 use Rattle.def_mesh.specs.declared.Place.{Place}
 use Rattle.def_text.specs.FaceSet.{FaceSet}
-use Rattle.def_text.specs.Input.{IsSoupFail, ReadRefused, ReadSoup, ReadWhole}
+use Rattle.def_text.specs.Input.{ReadRefused, ReadSoup, ReadWhole}
 use Rattle.def_text.specs.Text.{soup_in}
 use Rattle.def_text.specs.Types.{Words}
 use Rattle.def_text.specs.declared.limits.TheConstants.{MAX_BYTES}
 use Rattle.def_text.specs.declared.refusal.ObjFail.{ObjFail}
 use Rattle.def_text.specs.declared.refusal.ObjFail.TheVariants as obj
-use Rattle.def_text.specs.declared.refusal.SoupFail.{SoupFail}
 use Rattle.def_text.specs.declared.refusal.SoupFail.TheVariants as soup
 use Rattle.def_text.specs.declared.refusal.Which.TheVariants.{Bytes as AllBytes, Line, Vertices, Faces}
 use Rattle.def_run.specs.Causes.{Cause, FailsToRead, Reads, ReadsTooMany, Refuses, WroteFront}
@@ -26,7 +25,7 @@ use Rattle.def_run.specs.declared.answer.Answer.TheVariants as answers
 use Rattle.def_run.specs.declared.command.Command.{Command}
 use Rattle.def_run.specs.declared.command.Command.TheVariants.{Tidy, Graph, Refine, Remesh}
 use Rattle.qm_top.specs.declared.refusal.Refusal.{Refusal}
-use Rattle.qm_top.specs.declared.refusal.Refusal.TheVariants.{Soup, NotManifold, Layout, Write}
+use Rattle.qm_top.specs.declared.refusal.Refusal.TheVariants.{NotAccepted, Soup, NotManifold, Layout, Write}
 use Rattle.qm_top.specs.declared.refusal.Refusal.TheVariants as refusals
 use Rattle.def_run.specs.ErrorLines.{error_line}
 use Rattle.def_run.specs.Messages.{AreNames, LooksAt, Said, SaidWhy}
@@ -103,6 +102,7 @@ no_mesh_read input s (NotManifold named) read calm none =
     record { soup = s; read = read; fault = none.0; refuted = none.1; named = none.2; calm = calm }
 no_mesh_read input s refusals.Memory read calm none = tt
 no_mesh_read input s (Soup fail) read calm none = absurd none
+no_mesh_read input s (NotAccepted why) read calm none = absurd none
 no_mesh_read input s (Layout fail) read calm none = absurd none
 no_mesh_read input s (Write fail) read calm none = absurd none
 
@@ -119,7 +119,7 @@ text_cause command input out (obj.Limit Faces line) needs read = record { bytes 
 text_cause command input out obj.Memory needs read = tt
 
 -- No refusal of a text names a place.
-obj_place : (fail : ObjFail) (p : Place) → answer_of_obj fail ≡ answers.NotManifold p → ⊥
+pub obj_place : (fail : ObjFail) (p : Place) → answer_of_obj fail ≡ answers.NotManifold p → ⊥
 obj_place (obj.Syntax line) p is = cc
 obj_place (obj.NotQuad line corners) p is = cc
 obj_place (obj.Range line) p is = cc
@@ -154,6 +154,7 @@ input_ended command input out (NotManifold named) needs why = record {
 input_ended command input out refusals.Memory needs why = record { cause = tt; names = λ p is. cc; calm = λ f m. absurd (m refl) }
 input_ended command input out (Layout fail) needs why = absurd why
 input_ended command input out (Write fail) needs why = absurd why
+input_ended command input out (NotAccepted reason) needs why = absurd why
 
 -- So does want of memory.
 pub memory_ended : (command : Command) (input out : Change) → Ended command input out refusals.Memory

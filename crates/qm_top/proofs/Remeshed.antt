@@ -1,6 +1,6 @@
 -- The text of kept certificates is one of a finished remesh, and what `remesh` keeps.
 use Rattle.std.specs.Prelude.{IsErrAnd, IsErrOf}
-use Rattle.std.proofs.Common.{ap, ◌≡◌, ◌⊎◌, Bool, Option, Result, Ok, Err, inl, inr, sym, ◌∙◌, subst, refl}
+use Rattle.std.proofs.Common.{ap, ◌≡◌, Bool, Option, Result, Ok, Err, inr, sym, ◌∙◌, subst, refl}
 use Rattle.std.specs.Option.{option_map}
 use Rattle.def_certtext.specs.CertLines.{lists_of, Lists}
 use Rattle.def_certtext.specs.declared.Asked.{Asked}

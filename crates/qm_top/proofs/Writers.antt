@@ -13,7 +13,7 @@ use Rattle.qm_top.specs.Refusals.{answer_of, answer_of_layout, Ended}
 use Rattle.qm_top.specs.Runs.{HasRun}
 use Rattle.qm_top.specs.Writing.{IsUnwritten, WroteText}
 use Rattle.qm_top.specs.declared.refusal.Refusal.{Refusal}
-use Rattle.qm_top.specs.declared.refusal.Refusal.TheVariants.{Soup, NotManifold, Layout, Write}
+use Rattle.qm_top.specs.declared.refusal.Refusal.TheVariants.{NotAccepted, Soup, NotManifold, Layout, Write}
 use Rattle.qm_top.specs.declared.refusal.Refusal.TheVariants as refusals
 
 -- No layout's refusal names a place.
@@ -51,6 +51,7 @@ module _ (command : Command) (says : Bytes → Type 0) (fails : LayoutFail → T
   }
   unwritten_ends before now refusals.Memory same = record { cause = tt; names = λ p same. cc; calm = λ _ _. is.calm }
   unwritten_ends before now (Soup fail) none = absurd none
+  unwritten_ends before now (NotAccepted why) none = absurd none
   unwritten_ends before now (NotManifold named) none = absurd none
 
   -- The sink is as it was, unless the write failed.
@@ -59,6 +60,7 @@ module _ (command : Command) (says : Bytes → Type 0) (fails : LayoutFail → T
   same_sink before now (Write fail) broke other = absurd (other refl)
   same_sink before now refusals.Memory same other = same
   same_sink before now (Soup fail) none other = absurd none
+  same_sink before now (NotAccepted why) none other = absurd none
   same_sink before now (NotManifold named) none other = absurd none
 
   pub writer_runs : {O : Type 0} (before now : O) (result : Result (Unit {0}) Refusal)

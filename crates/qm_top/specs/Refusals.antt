@@ -24,7 +24,7 @@ use Rattle.def_run.specs.declared.command.Command.{Command}
 use Rattle.def_run.specs.declared.words.WordsFail.{WordsFail}
 use Rattle.def_run.specs.declared.words.WordsFail.TheVariants as words
 use Rattle.qm_top.specs.declared.refusal.Refusal.{Refusal}
-use Rattle.qm_top.specs.declared.refusal.Refusal.TheVariants.{Soup, NotManifold, Layout, Write}
+use Rattle.qm_top.specs.declared.refusal.Refusal.TheVariants.{NotAccepted, Soup, NotManifold, Layout, Write}
 use Rattle.qm_top.specs.declared.refusal.Refusal.TheVariants as refusals
 
 -- The answer to words that are no command.
@@ -56,6 +56,7 @@ answer_of_layout layouts.Memory = Memory
 
 -- The answer to a refusal.
 abbrev pub answer_of : (refusal : Refusal) → Answer
+answer_of (NotAccepted why) = answers.NotAccepted why
 answer_of (Soup fail) = answer_of_soup fail
 answer_of (NotManifold named) = answers.NotManifold named.place
 answer_of (Layout fail) = answer_of_layout fail
@@ -88,8 +89,7 @@ abbrev pub IsInputRefusal : (input : Change) (refusal : Refusal) → Type 0
 IsInputRefusal input (Soup fail) = IsSoupFail MAX_BYTES input fail
 IsInputRefusal input (NotManifold named) = ReadNoManifold input named.place named.names.items
 IsInputRefusal input refusals.Memory = ⊤
-IsInputRefusal input (Layout fail) = ⊥
-IsInputRefusal input (Write fail) = ⊥
+IsInputRefusal input _ = ⊥
 
 -- A command's text was written, and the source had no fault.
 pub record Finished (command : Command) (input out : Change) : Type 0 where

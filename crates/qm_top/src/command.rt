@@ -3,24 +3,25 @@
 ghost use Rattle.std.specs.Prelude.{◌≡◌, ◌≢◌, ◌⊎◌, ℕ, true, map, string_bytes, OnOk, IfErr};
 ghost use Rattle.def_io.specs.Faults.{Rose};
 ghost use Rattle.def_io.specs.Moves.{change};
-ghost use Rattle.def_run.specs.CommandLines.{is_built, IsAccepted, IsCommand};
+ghost use Rattle.def_run.specs.CommandLines.{IsAccepted, IsCommand};
 ghost use Rattle.def_run.specs.Causes.{IsGood, Ran};
 ghost use Rattle.def_run.specs.Messages.{Said, SaidWhy};
 ghost use Rattle.def_text.specs.Types.{Words};
 ghost use Rattle.qm_top.specs.Runs.{HasRun};
 
 use crate::bench::bench;
+use crate::check::check;
 use crate::error_line::error_line_of;
 use crate::graph::graph;
 use crate::refine::refine;
 use crate::refusal::{Refusal, words_answer};
 use crate::remesh::remesh;
 use crate::tidy::tidy;
-use crate::words::command_of;
 use def_certtext::Asked;
 use def_run::{Answer, Command};
 use qm_io::{Sink, Source, write_all};
 use qm_print::Line;
+use qm_words::read_words;
 use std::alloc::Global;
 
 /// Runs one command line: `words` are the words after the program's name.
@@ -55,7 +56,7 @@ pub fn run<S: Source, O: Sink, E: Sink>(
         (change (S.left input.old) (S.left input.new) (S.faults input.old) (S.faults input.new))
         (change (E.taken err.old) (E.taken err.new) (E.faults err.old) (E.faults err.new)) result }
 {
-    let command = match command_of(alloc, words) {
+    let command = match read_words(alloc, words) {
         Ok(command) => command,
         Err(fail) => {
             let answer = words_answer(fail);
@@ -73,14 +74,13 @@ pub fn run<S: Source, O: Sink, E: Sink>(
     }
 }
 
-/// Runs a command that is built.
+/// Runs a command.
 fn run_command<S: Source, O: Sink>(
     alloc: Global,
     command: Command,
     input: &mut S,
     out: &mut O,
 ) -> Result<(), Refusal>
-    requires built { is_built command ≡ true }
     requires spoken { (words : Words) × IsCommand words command }
     ensures run { HasRun command
         (change (S.left input.old) (S.left input.new) (S.faults input.old) (S.faults input.new))
@@ -92,8 +92,8 @@ fn run_command<S: Source, O: Sink>(
         Command::Graph => graph(alloc, input, out),
         Command::Refine { by } => refine(alloc, by, input, out),
         Command::Remesh { settings, auto } => remesh(alloc, Asked { settings, auto }, input, out),
+        Command::Check => check(alloc, input, out),
         Command::Bench { size } => bench(alloc, size, out),
-        _ => unreachable!(),
     }
 }
 

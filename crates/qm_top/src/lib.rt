@@ -2,6 +2,7 @@
 #![tactic(auto)]
 
 mod bench;
+mod check;
 mod command;
 mod error_line;
 mod graph;
@@ -13,7 +14,6 @@ mod refusal;
 mod remesh;
 mod tidy;
 mod why_line;
-mod words;
 
 pub use command::run;
 pub use def_mesh::Place;

@@ -2,16 +2,17 @@
 
 ghost use Rattle.std.specs.Prelude.{◌≡◌, ◌≢◌, []};
 ghost use Rattle.def_io.specs.declared.fails.WriteFail.TheVariants as fails;
+ghost use Rattle.def_text.specs.Fails.{of_read};
 ghost use Rattle.qm_top.specs.Named.{HasNames};
 ghost use Rattle.qm_top.specs.Refusals.{answer_of, answer_of_layout, answer_of_obj, answer_of_soup, answer_of_words, names_of};
 ghost use Rattle.qm_top.specs.Writing.{refusal_of_put};
 ghost use Rattle.qm_top.specs.declared.refusal.Refusal.TheVariants as refusals;
 
 use crate::named::NamedPlace;
-use def_io::WriteFail;
+use def_io::{ReadFail, WriteFail};
 use def_output::Stopped;
 use def_remesh::LayoutFail;
-use def_run::{Answer, WordsFail};
+use def_run::{Answer, Why, WordsFail};
 use def_text::{ObjFail, SoupFail, Which};
 use qm_remeshed::PutFail;
 use std::alloc::{AllocError, Global};
@@ -19,6 +20,7 @@ use std::alloc::{AllocError, Global};
 /// Why a command ends without its output.
 #[derive(Debug, Drop)]
 pub(crate) enum Refusal {
+    NotAccepted(Why),
     Soup(SoupFail),
     NotManifold(NamedPlace),
     Layout(LayoutFail),
@@ -43,6 +45,7 @@ impl Refusal {
         ensures accepted { result.answer ≢ Answer.Usage }
     {
         match self {
+            Refusal::NotAccepted(why) => unnamed(alloc, Answer::NotAccepted { why }),
             Refusal::Soup(fail) => unnamed(alloc, soup_answer(fail)),
             Refusal::NotManifold(named) => Reply {
                 answer: Answer::NotManifold { place: named.place },
@@ -71,6 +74,14 @@ impl From<SoupFail> for Refusal {
 
     fn from(fail: SoupFail) -> Refusal {
         Refusal::Soup(fail)
+    }
+}
+
+impl From<ReadFail> for Refusal {
+    ghost from_gives = { λ fail e. e ≡ refusals.Soup (of_read fail) };
+
+    fn from(fail: ReadFail) -> Refusal {
+        Refusal::Soup(SoupFail::from(fail))
     }
 }
 

@@ -1,7 +1,11 @@
 use Rattle.std.proofs.Common.{inl, inr, ◌∙◌}
-use Rattle.qm_top.proofs.Complete.{completes_as, not_read}
+use Rattle.qm_top.proofs.Complete.{completes_as, not_accepted, not_read, same_command}
 use Rattle.qm_top.proofs.Refusals.{says_why, says_words}
 use Rattle.qm_top.proofs.command.run.Goals as goal
+
+pub returns-in-Err-clause-usage : goal.returns-in-Err-clause-usage
+returns-in-Err-clause-usage g c =
+    not_accepted _ c.in-Err.fail c.words_answer-answer.result c.words_answer-answer.ensures.answer c.in-Err.ensures.refuses
 
 pub returns-in-Err-clause-complete : goal.returns-in-Err-clause-complete
 returns-in-Err-clause-complete g c = λ command line good.
@@ -13,7 +17,7 @@ returns-in-Err-clause-told g c = λ refused.
 
 pub returns-in-Err-run_command-clause-complete : goal.returns-in-Err-run_command-clause-complete
 returns-in-Err-run_command-clause-complete g c = λ command line good.
-    completes_as c.in-Ok.command command _ _ c.into_reply-reply.result.answer _ c.into_reply-reply.ensures.answer (c.in-Ok.ensures.only command line)
+    completes_as c.in-Ok.command command _ _ c.into_reply-reply.result.answer _ c.into_reply-reply.ensures.answer (same_command c.in-Ok.command command (c.in-Ok.ensures.accepts command line))
     c.in-Err-run_command.ensures.run.refused.cause good
 
 pub returns-in-Err-run_command-clause-told : goal.returns-in-Err-run_command-clause-told
@@ -23,4 +27,5 @@ returns-in-Err-run_command-clause-told g c = λ refused.
     c.in-Err-run_command.ensures.run.refused.names c.error_line_of-in-Err-run_command.ensures c.say-in-Err-run_command.ensures
 
 pub returns-in-Err-run_command-clause-unasked : goal.returns-in-Err-run_command-clause-unasked
-returns-in-Err-run_command-clause-unasked g c = λ size line. c.in-Err-run_command.ensures.unasked size (c.in-Ok.ensures.only _ line)
+returns-in-Err-run_command-clause-unasked g c = λ size line.
+    c.in-Err-run_command.ensures.unasked size (same_command c.in-Ok.command _ (c.in-Ok.ensures.accepts _ line))

@@ -1,4 +1,4 @@
-use Rattle.std.proofs.Common.{◌≡◌, ℕ, ◌≤◌, refl, ◌∙◌, subst}
+use Rattle.std.proofs.Common.{◌≡◌, ℕ, refl, ◌∙◌, subst}
 use Rattle.def_cut.specs.Traced.{traced_marks}
 use Rattle.def_io.specs.Moves.{took, TookFront}
 use Rattle.def_layout.specs.FaceLayouts.{IsLayoutOf}
@@ -6,7 +6,6 @@ use Rattle.def_layout.specs.Plans.{plan}
 use Rattle.def_mesh.specs.Faces.{Faces}
 use Rattle.def_remesh.specs.Placings.{IsLayoutIn}
 use Rattle.def_remesh.specs.Refined.{refined_text}
-use Rattle.def_run.specs.Refine.{IsRefined}
 use Rattle.def_run.specs.Remesh.{IsCutTo}
 use Rattle.qm_top.proofs.Refined.{fits_of, handed_if, is_refined}
 use Rattle.qm_top.proofs.refine.refine_mesh.Goals as goal

@@ -1,4 +1,4 @@
-use Rattle.std.proofs.Common.{◌≡◌, refl, ◌∙◌, subst, sym}
+use Rattle.std.proofs.Common.{refl, ◌∙◌, subst, sym}
 use Rattle.std.specs.Option.{option_map}
 use Rattle.def_certtext.specs.CertLines.{lists_of}
 use Rattle.def_certtext.specs.declared.Asked.{Asked}

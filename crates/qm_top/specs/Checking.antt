@@ -1,0 +1,35 @@
+-- What `check` does with the bytes that it read.
+use Rattle.std.specs.Prelude.{◌≡◌, ◌≢◌}
+use Rattle.def_io.specs.Bytes.{Bytes}
+use Rattle.def_io.specs.Moves.{Change}
+use Rattle.def_remesh.specs.declared.kept.LayoutFail.TheVariants as layouts
+use Rattle.def_run.specs.Check.{IsNotAccepted, IsTangledOld, RefusesOldText, WritesAccepted}
+use Rattle.def_text.specs.FaceSet.{FaceSet}
+use Rattle.def_text.specs.declared.refusal.ObjFail.TheVariants as obj
+use Rattle.def_text.specs.declared.refusal.SoupFail.TheVariants as soup
+use Rattle.def_run.specs.CheckFails.{HasOldFault}
+use Rattle.qm_top.specs.Writing.{BrokeText}
+use Rattle.qm_top.specs.declared.named.NamedPlace.{NamedPlace}
+use Rattle.qm_top.specs.declared.refusal.Refusal.{Refusal}
+use Rattle.qm_top.specs.declared.refusal.Refusal.TheVariants.{NotAccepted, Soup, NotManifold, Layout, Write}
+use Rattle.qm_top.specs.declared.refusal.Refusal.TheVariants as refusals
+
+-- The faces of the old text are no manifold, first at this place, with the numbers of the old text.
+pub record NamesOldFault (bytes : Bytes) (named : NamedPlace) : Type 0 where
+  pub old : FaceSet
+  pub fault : HasOldFault bytes old named.place
+  pub numbers : named.names.items ≡ old.names
+
+-- Why bytes are no pair.
+abbrev pub IsNoPairFor : (bytes : Bytes) (refusal : Refusal) → Type 0
+IsNoPairFor bytes (NotAccepted why) = IsNotAccepted bytes why
+IsNoPairFor bytes (Soup (soup.Obj fail)) = RefusesOldText bytes fail × (fail ≢ obj.Memory)
+IsNoPairFor bytes (NotManifold named) = NamesOldFault bytes named
+IsNoPairFor bytes (Layout (layouts.Tangled count)) = IsTangledOld bytes count
+IsNoPairFor bytes refusals.Memory = Unit {0}
+IsNoPairFor bytes _ = ⊥
+
+-- Why the line that accepts them was not written. Where the sink did not fail it is as it was.
+abbrev pub IsUnaccepted : {O : Type 0} (bytes : Bytes) (out : Change) (before now : O) (refusal : Refusal) → Type 0
+IsUnaccepted bytes out before now (Write fail) = BrokeText (WritesAccepted bytes) out
+IsUnaccepted bytes out before now refusal = (now ≡ before) × IsNoPairFor bytes refusal

@@ -1,0 +1,76 @@
+//! `check`: an old text and the text of a remesh of its mesh are judged.
+
+ghost use Rattle.std.specs.Prelude.{◌≡◌, ◌≤◌, length, IfErr, OnOk};
+ghost use Rattle.def_io.specs.Bytes.{Bytes};
+ghost use Rattle.def_io.specs.Moves.{change};
+ghost use Rattle.def_remesh.specs.Checked.{accepted_line};
+ghost use Rattle.def_run.specs.Check.{WritesAccepted};
+ghost use Rattle.def_run.specs.CheckFails.{IsCheckFail};
+ghost use Rattle.qm_top.specs.Checking.{IsNoPairFor, IsUnaccepted};
+ghost use Rattle.qm_top.specs.Runs.{HasRun};
+ghost use Rattle.qm_top.specs.Writing.{WroteText};
+
+use crate::named::named_place;
+use crate::refusal::Refusal;
+use def_remesh::LayoutFail;
+use def_run::Command;
+use def_text::{MAX_BYTES, SoupFail};
+use qm_check::{Accepted, CheckFail, check_pair};
+use qm_io::{Lines, Sink, Source, read_lines, write_all};
+use qm_print::{Line, numbered_line, push_integer, push_numbered};
+use std::alloc::Global;
+
+/// Reads an old text and the text of a remesh behind it, and writes the line that accepts them.
+pub(crate) fn check<S: Source, O: Sink>(
+    alloc: Global,
+    input: &mut S,
+    out: &mut O,
+) -> Result<(), Refusal>
+    ensures { HasRun Command.Check
+        (change (S.left input.old) (S.left input.new) (S.faults input.old) (S.faults input.new))
+        (change (O.taken out.old) (O.taken out.new) (O.faults out.old) (O.faults out.new)) out.old out.new result }
+{
+    let lines = read_lines(alloc, input, MAX_BYTES)?;
+    check_lines(alloc, &lines, out)
+}
+
+/// Judges the lines, and writes the line that accepts them.
+fn check_lines<O: Sink>(alloc: Global, lines: &Lines, out: &mut O) -> Result<(), Refusal>
+    requires { length lines.now ≤ MAX_BYTES }
+    ensures done { OnOk result (WroteText (WritesAccepted lines.now)
+        (change (O.taken out.old) (O.taken out.new) (O.faults out.old) (O.faults out.new))) }
+    ensures refused { IfErr result (IsUnaccepted lines.now
+        (change (O.taken out.old) (O.taken out.new) (O.faults out.old) (O.faults out.new)) out.old out.new) }
+{
+    match check_pair(alloc, lines) {
+        Ok(accepted) => {
+            write_all(out, accepted_line(accepted).as_str().as_bytes())?;
+            Ok(())
+        }
+        Err(fail) => Err(refusal_of(fail)),
+    }
+}
+
+/// The line that accepts a pair.
+fn accepted_line(accepted: Accepted) -> Line
+    ensures { result.bytes ≡ accepted_line accepted.arcs accepted.faces accepted.deviation }
+{
+    let mut line = numbered_line("accepted arcs ", u64::from(accepted.arcs), " faces ");
+    push_numbered(&mut line, u64::from(accepted.faces), " deviation ");
+    push_integer(&mut line, accepted.deviation, "\n");
+    line
+}
+
+/// The refusal of a text that is no pair.
+fn refusal_of(fail: CheckFail) -> Refusal
+    requires { (bytes : Bytes) × IsCheckFail bytes fail }
+    ensures { (bytes : Bytes) → IsCheckFail bytes fail → IsNoPairFor bytes result }
+{
+    match fail {
+        CheckFail::NotAccepted { why } => Refusal::NotAccepted(why),
+        CheckFail::Old { fail } => Refusal::Soup(SoupFail::Obj(fail)),
+        CheckFail::NotManifold { place, soup } => Refusal::NotManifold(named_place(place, soup)),
+        CheckFail::Tangled { count } => Refusal::Layout(LayoutFail::Tangled { count }),
+        CheckFail::Memory => Refusal::Memory,
+    }
+}
