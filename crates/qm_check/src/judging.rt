@@ -15,6 +15,7 @@ use def_certtext::{Asked, Written};
 use def_flow::{Cert, MAX_FLOOR, Net};
 use def_layout::TMesh;
 use def_run::{CheckFail, Why};
+use qm_layoutnet::with_floor;
 use qm_remeshed::Remesh;
 use std::alloc::Global;
 
@@ -162,11 +163,4 @@ fn judge_third(
         }),
         Lengths::Doubled { .. } => unreachable!(),
     }
-}
-
-/// The network with another floor.
-fn with_floor(net: Net, floor: u32) -> Net
-    ensures { network result ≡ record (network net) { floor = floor } }
-{
-    Net { floor, ..net }
 }

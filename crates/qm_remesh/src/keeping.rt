@@ -19,7 +19,7 @@ use def_flow::{Cert, MAX_FLOOR, MAX_TANGLE, Net, Settings};
 use def_layout::TMesh;
 use def_layoutnet::NetFail;
 use def_remesh::{Kept, LayoutFail, StitchFail};
-use qm_layoutnet::net_of;
+use qm_layoutnet::{net_of, with_floor};
 use qm_remeshed::Remesh;
 use qm_solve::solve;
 use qm_stitch::plan;
@@ -107,11 +107,4 @@ fn raise(
         Err(StitchFail::Doubled { .. }) => unreachable!(),
         Err(StitchFail::Memory) => Err(LayoutFail::Memory),
     }
-}
-
-/// The network with another floor.
-fn with_floor(net: Net, floor: u32) -> Net
-    ensures { network result ≡ record (network net) { floor = floor } }
-{
-    Net { floor, ..net }
 }
