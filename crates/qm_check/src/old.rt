@@ -1,6 +1,6 @@
 //! The old text, in front of the head line.
 
-ghost use Rattle.std.specs.Prelude.{◌≡◌, ◌≤◌, ◌<◌, ℕ, [], false, true, length, slice_index_or, IfErr, IfOk, OnOk};
+ghost use Rattle.std.specs.Prelude.{◌≡◌, ◌≤◌, false, true, length, IfErr, IfOk, OnOk};
 ghost use Rattle.std.specs.List.{list_all};
 ghost use Rattle.def_certtext.specs.HeadLine.{IsLastHead};
 ghost use Rattle.def_io.specs.Lines.{lines_of};
@@ -14,6 +14,7 @@ ghost use Rattle.qm_check.specs.Refused.{of_obj};
 
 use def_run::CheckFail;
 use def_text::{MAX_FACES, MAX_VERTICES, Micro, ObjFail, Soup};
+use qm_cut::are_quads;
 use qm_io::Lines;
 use qm_mesh::{Mesh, MeshFail, build};
 use qm_obj::read_obj;
@@ -88,9 +89,4 @@ fn is_near(position: &[Micro; 3])
 /// Coordinates are within the range.
 fn are_within(x: Micro, y: Micro, z: Micro)
     ensures { (is_far x ≡ false) × (is_far y ≡ false) × (is_far z ≡ false) }
-{}
-
-/// Faces of four corners are quads.
-fn are_quads(faces: &[[u32; 4]])
-    ensures { (f : ℕ) → f < length faces.now → length (slice_index_or faces.now f []) ≡ 4 }
 {}

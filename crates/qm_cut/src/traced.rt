@@ -6,8 +6,8 @@ ghost use Rattle.def_layout.specs.FaceLayouts.{IsLayoutOf};
 ghost use Rattle.def_layout.specs.Plans.{plan};
 ghost use Rattle.def_layoutnet.specs.MeshLayouts.{IsMeshLayout};
 ghost use Rattle.def_mesh.specs.Sources.{AreSources};
-ghost use Rattle.def_written.specs.Laws.{AreQuads};
 
+use crate::quads::are_quads;
 use def_layout::TMesh;
 use def_mesh::Starts;
 use qm_grid::patches;
@@ -37,8 +37,3 @@ pub fn layout_from(alloc: Global, mesh: &Mesh, sources: &Starts) -> Result<TMesh
     let patches = patches(alloc, mesh, &graph)?;
     layout(alloc, mesh, &graph, patches)
 }
-
-/// Faces of four corners are quads.
-fn are_quads(faces: &[[u32; 4]])
-    ensures { AreQuads faces.now }
-{}

@@ -9,9 +9,10 @@ use Rattle.def_mesh.specs.Faults.{repeat_after, IsFirstFault}
 use Rattle.def_mesh.specs.declared.Place.{Place}
 use Rattle.def_mesh.specs.declared.Place.TheVariants.{Repeated, EdgeTwice, TwoFans}
 use Rattle.def_text.specs.FaceSet.{FaceSet, IsSoup}
+use Rattle.def_written.specs.Laws.{AreQuads}
 use Rattle.qm_mesh.proofs.Vertices.{below_from, end_low}
 use Rattle.qm_mesh.specs.Tables.{NamesBelow}
-use Rattle.qm_top.specs.Named.{AreQuads, IsNamed}
+use Rattle.qm_top.specs.Named.{IsNamed}
 
 -- What is repeated stands in the list.
 repeat_low : (n : ℕ) (seen vs : List ℕ) (v : ℕ) → repeat_after seen vs ≡ Some v

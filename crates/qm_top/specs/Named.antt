@@ -1,7 +1,6 @@
 -- Places whose vertices have numbers in the file.
-use Rattle.std.specs.Prelude.{◌≡◌, ℕ, ◌<◌, nat_lt, true, List, [], ◌∷◌, length, slice_index_or, ⊤}
+use Rattle.std.specs.Prelude.{◌≡◌, ℕ, nat_lt, true, List, [], ◌∷◌, length, ⊤}
 use Rattle.std.specs.List.{list_all}
-use Rattle.def_mesh.specs.Faces.{Faces}
 use Rattle.def_mesh.specs.declared.Place.{Place}
 use Rattle.def_mesh.specs.declared.Place.TheVariants.{Repeated, EdgeTwice, TwoFans}
 use Rattle.def_run.specs.declared.answer.Answer.{Answer}
@@ -21,7 +20,3 @@ IsNamed names place = list_all (λ v. nat_lt v (length names)) (vertices_of plac
 abbrev pub HasNames : (names : List ℕ) (answer : Answer) → Type 0
 HasNames names (NotManifold place) = IsNamed names place
 HasNames names _ = ⊤
-
--- Each face has four corners.
-abbrev pub AreQuads : (faces : Faces) → Type 0
-AreQuads faces = (f : ℕ) → f < length faces → length (slice_index_or faces f []) ≡ 4

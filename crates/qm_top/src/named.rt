@@ -3,10 +3,11 @@
 ghost use Rattle.std.specs.Prelude.{◌≡◌, length};
 ghost use Rattle.std.specs.List.{list_all};
 ghost use Rattle.def_mesh.specs.Faults.{IsFirstFault};
-ghost use Rattle.qm_top.specs.Named.{AreQuads, IsNamed};
+ghost use Rattle.qm_top.specs.Named.{IsNamed};
 
 use def_mesh::Place;
 use def_text::Soup;
+use qm_cut::are_quads;
 
 /// A place whose vertices all have numbers in the file.
 #[derive(Debug, Drop)]
@@ -26,8 +27,3 @@ pub(crate) fn named_place(place: Place, soup: Soup) -> NamedPlace
     let Soup { names, .. } = soup;
     NamedPlace { place, names }
 }
-
-/// Faces of four corners are quads.
-fn are_quads(faces: &[[u32; 4]])
-    ensures { AreQuads faces.now }
-{}

@@ -1,9 +1,9 @@
-use Rattle.std.proofs.Common.{rules, ◌≡◌, ◌<◌, ℕ, List, [], ℤ, true, length, slice_index_or, ◌∙◌, subst}
+use Rattle.std.proofs.Common.{rules, ◌≡◌, List, ℤ, true, length, ◌∙◌, subst}
 use Rattle.std.specs.List.{list_all}
-use Rattle.def_mesh.specs.Faces.{Faces}
 use Rattle.def_mesh.specs.Meshes.{IsMesh}
 use Rattle.def_mesh.specs.Vertices.{names_below}
 use Rattle.def_text.specs.Laws.{is_position}
+use Rattle.def_written.specs.Laws.{AreQuads}
 use Rattle.qm_check.proofs.OldTexts.{solid_of}
 use Rattle.qm_check.proofs.old.with_mesh.Goals as goal
 
@@ -15,5 +15,5 @@ returns-in-Ok-clause-solid c =
     let below : names_below (length c.args.soup.pos) c.args.soup.faces ≡ true = search rules in
     solid_of c.args.soup (subst IsMesh same c.faces.ensures.mesh)
     (subst (λ (ps : List (List ℤ)). list_all is_position ps ≡ true) places c.are_near.ensures)
-    (subst (λ (fs : Faces). (f : ℕ) → f < length fs → length (slice_index_or fs f []) ≡ 4) faces c.are_quads.ensures)
+    (subst AreQuads faces c.are_quads.ensures)
     (length c.args.soup.pos) c.requires.few.0 below

@@ -1,7 +1,7 @@
 use Rattle.std.proofs.Common.{sym, subst}
 use Rattle.def_mesh.specs.Faults.{IsFirstFault}
 use Rattle.def_text.specs.FaceSet.{FaceSet}
-use Rattle.qm_top.specs.Named.{AreQuads}
+use Rattle.def_written.specs.Laws.{AreQuads}
 use Rattle.qm_top.proofs.Naming.{named_where}
 use Rattle.qm_top.proofs.named.named_place.Goals as goal
 
