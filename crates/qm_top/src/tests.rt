@@ -36,19 +36,38 @@ fn sink(alloc: Global, ends: Ends) -> Result<MemSink, Memory> {
     Ok(MemSink::new(alloc, ends.step, Vec::from_slice(alloc, &[ends.fails])?))
 }
 
-/// A run of `tidy`: its answer, what went out, and what was said of it.
-fn tidied(
-    alloc: Global,
-    text: &[u8],
+/// The streams of a run.
+#[derive(Clone, Copy)]
+struct Streams {
     input: Ends,
     out: Ends,
     err: Ends,
+}
+
+const ALL_WELL: Streams = Streams {
+    input: WELL,
+    out: WELL,
+    err: WELL,
+};
+
+/// Commands that write a mesh: the one whole, the other line by line.
+const LINES: [&str; 2] = ["tidy", "remesh --scale 3/1 --floor 1 --weight plain"];
+
+/// A run of a command line: its answer, what went out, and what was said of it.
+fn ran(
+    alloc: Global,
+    line: &str,
+    text: &[u8],
+    streams: Streams,
 ) -> Result<(Answer, MemSink, MemSink), Memory> {
-    let words = vec![in alloc; "tidy".to_string(alloc)?]?;
+    let mut words = Vec::new(alloc);
+    for word in line.split_whitespace() {
+        words.push(word.to_string(alloc)?)?;
+    }
     let (mut input, mut out, mut err) = (
-        source(alloc, text, input)?,
-        sink(alloc, out)?,
-        sink(alloc, err)?,
+        source(alloc, text, streams.input)?,
+        sink(alloc, streams.out)?,
+        sink(alloc, streams.err)?,
     );
     let answer = run(alloc, &words, &mut input, &mut out, &mut err);
     Ok((answer, out, err))
@@ -56,37 +75,56 @@ fn tidied(
 
 #[test]
 fn pieces_of_any_size_give_the_same(rt: HostRuntime) -> Result<(), Fail> {
-    for step in [1, 7, 10, 1000] {
-        let ends = Ends { step, fails: 0 };
-        let (answer, out, err) = tidied(rt.alloc(), QUAD, ends, ends, ends)?;
-        assert!(rt; matches!(answer, Answer::Done));
-        assert_eq!(rt; out.taken(), QUAD);
-        assert_eq!(rt; err.taken(), b"".as_slice());
+    for line in LINES {
+        let (_answer, whole, _err) = ran(rt.alloc(), line, QUAD, ALL_WELL)?;
+        for step in [1, 7, 10, 1000] {
+            let ends = Ends { step, fails: 0 };
+            let streams = Streams {
+                input: ends,
+                out: ends,
+                err: ends,
+            };
+            let (answer, out, err) = ran(rt.alloc(), line, QUAD, streams)?;
+            assert!(rt; matches!(answer, Answer::Done));
+            assert_eq!(rt; out.taken(), whole.taken());
+            assert_eq!(rt; err.taken(), b"".as_slice());
+        }
     }
     Ok(())
 }
 
 #[test]
 fn each_fault_of_the_source_is_told(rt: HostRuntime) -> Result<(), Fail> {
-    for fails in 1..7 {
-        let (answer, out, err) = tidied(rt.alloc(), QUAD, Ends { step: 10, fails }, WELL, WELL)?;
-        assert!(rt; matches!(answer, Answer::ReadFault));
-        assert_eq!(rt; out.taken(), b"".as_slice());
-        assert_eq!(rt; err.taken(), b"quadq: read fault\n".as_slice());
+    for line in LINES {
+        for fails in 1..8 {
+            let input = Ends { step: 10, fails };
+            let (answer, out, err) = ran(rt.alloc(), line, QUAD, Streams { input, ..ALL_WELL })?;
+            // The source is read in five pieces, and once more at its end.
+            if fails == 7 {
+                assert!(rt; matches!(answer, Answer::Done));
+                continue;
+            }
+            assert!(rt; matches!(answer, Answer::ReadFault));
+            assert_eq!(rt; out.taken(), b"".as_slice());
+            assert_eq!(rt; err.taken(), b"quadq: read fault\n".as_slice());
+        }
     }
-    let (answer, _out, _err) = tidied(rt.alloc(), QUAD, Ends { step: 10, fails: 7 }, WELL, WELL)?;
-    assert!(rt; matches!(answer, Answer::Done));
     Ok(())
 }
 
 #[test]
 fn each_fault_of_the_sink_leaves_a_front(rt: HostRuntime) -> Result<(), Fail> {
-    for fails in 1..6u64 {
-        let (answer, out, err) = tidied(rt.alloc(), QUAD, WELL, Ends { step: 10, fails }, WELL)?;
-        assert!(rt; matches!(answer, Answer::WriteFault));
-        assert!(rt; QUAD.starts_with(out.taken()));
-        assert_eq!(rt; out.taken().len() as u64, 10 * (fails - 1));
-        assert_eq!(rt; err.taken(), b"quadq: write fault\n".as_slice());
+    for line in LINES {
+        let (_answer, whole, _err) = ran(rt.alloc(), line, QUAD, ALL_WELL)?;
+        let calls = whole.taken().len().div_ceil(10) as u64;
+        for fails in 1..=calls {
+            let out = Ends { step: 10, fails };
+            let (answer, out, err) = ran(rt.alloc(), line, QUAD, Streams { out, ..ALL_WELL })?;
+            assert!(rt; matches!(answer, Answer::WriteFault));
+            assert!(rt; whole.taken().starts_with(out.taken()));
+            assert_eq!(rt; out.taken().len() as u64, 10 * (fails - 1));
+            assert_eq!(rt; err.taken(), b"quadq: write fault\n".as_slice());
+        }
     }
     Ok(())
 }
@@ -99,26 +137,31 @@ fn a_fault_of_the_error_sink_changes_nothing(rt: HostRuntime) -> Result<(), Fail
         face1: 0,
         face2: 1,
     };
-    let line = b"quadq: edge 1 2: faces 1 and 2\n".as_slice();
-    for fails in 0..6 {
-        let (answer, out, err) = tidied(rt.alloc(), TWICE, WELL, WELL, Ends { step: 10, fails })?;
-        assert!(rt; matches!(answer, Answer::NotManifold { place: found } if found == place));
-        assert_eq!(rt; answer.status(), 7);
-        assert_eq!(rt; out.taken(), b"".as_slice());
-        assert!(rt; line.starts_with(err.taken()));
+    let told = b"quadq: edge 1 2: faces 1 and 2\n".as_slice();
+    for line in LINES {
+        for fails in 0..6 {
+            let err = Ends { step: 10, fails };
+            let (answer, out, err) = ran(rt.alloc(), line, TWICE, Streams { err, ..ALL_WELL })?;
+            assert!(rt; matches!(answer, Answer::NotManifold { place: found } if found == place));
+            assert_eq!(rt; answer.status(), 7);
+            assert_eq!(rt; out.taken(), b"".as_slice());
+            assert!(rt; told.starts_with(err.taken()));
+        }
     }
     Ok(())
 }
 
 #[test]
 fn a_text_cut_anywhere_is_done_or_refused(rt: HostRuntime) -> Result<(), Fail> {
-    for end in 0..QUAD.len() {
-        let (answer, out, err) = tidied(rt.alloc(), &QUAD[..end], WELL, WELL, WELL)?;
-        if matches!(answer, Answer::Done) {
-            assert_eq!(rt; err.taken(), b"".as_slice());
-        } else {
-            assert_eq!(rt; out.taken(), b"".as_slice());
-            assert!(rt; err.taken().ends_with(b"\n"));
+    for line in LINES {
+        for end in 0..QUAD.len() {
+            let (answer, out, err) = ran(rt.alloc(), line, &QUAD[..end], ALL_WELL)?;
+            if matches!(answer, Answer::Done) {
+                assert_eq!(rt; err.taken(), b"".as_slice());
+            } else {
+                assert_eq!(rt; out.taken(), b"".as_slice());
+                assert!(rt; err.taken().ends_with(b"\n"));
+            }
         }
     }
     Ok(())
@@ -135,16 +178,7 @@ fn other_words_are_a_matter_of_usage(rt: HostRuntime) -> Result<(), Fail> {
         "graph --",
         "tidy extra",
     ] {
-        let mut words = Vec::new(rt.alloc());
-        for word in line.split_whitespace() {
-            words.push(word.to_string(rt.alloc())?)?;
-        }
-        let (mut input, mut out, mut err) = (
-            source(rt.alloc(), QUAD, WELL)?,
-            sink(rt.alloc(), WELL)?,
-            sink(rt.alloc(), WELL)?,
-        );
-        let answer = run(rt.alloc(), &words, &mut input, &mut out, &mut err);
+        let (answer, out, err) = ran(rt.alloc(), line, QUAD, ALL_WELL)?;
         assert!(rt; matches!(answer, Answer::Usage));
         assert_eq!(rt; out.taken(), b"".as_slice());
         assert!(rt;
