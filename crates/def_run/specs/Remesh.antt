@@ -1,17 +1,18 @@
 -- What `remesh` means.
-use Rattle.std.specs.Prelude.{◌⊎◌, Bool}
+use Rattle.std.specs.Prelude.{◌≡◌, ◌≤◌, ◌⊎◌, ℕ, Bool, Some, length, ⊤}
 use Rattle.def_cut.specs.Traced.{traced_marks}
 use Rattle.def_flow.specs.declared.net.Settings.{Settings}
-use Rattle.def_io.specs.Bytes.{Bytes}
+use Rattle.def_io.specs.Bytes.{Bytes, Told}
 use Rattle.def_layout.specs.FaceLayouts.{IsLayoutOf}
 use Rattle.def_layout.specs.Plans.{Plan}
 use Rattle.def_mesh.specs.Faces.{Faces}
 use Rattle.def_remesh.specs.Refusals.{IsDoubledBy, IsFineBy, IsRemeshable, IsTangledAt}
 use Rattle.def_remesh.specs.Remeshed.{IsRemeshed}
 use Rattle.def_text.specs.FaceSet.{FaceSet}
+use Rattle.def_text.specs.declared.limits.TheConstants.{MAX_BYTES}
 use Rattle.def_run.specs.Mesh.{IsMesh, IsNoMesh}
 use Rattle.def_run.specs.declared.answer.Answer.{Answer}
-use Rattle.def_run.specs.declared.answer.Answer.TheVariants.{Tangled, TooFine, Doubled}
+use Rattle.def_run.specs.declared.answer.Answer.TheVariants.{Done, Tangled, TooFine, Doubled}
 
 -- For these bytes it writes this text: that of a finished remesh of their mesh.
 pub record WritesRemeshed (settings : Settings) (auto : Bool) (bytes text : Bytes) : Type 0 where
@@ -46,3 +47,19 @@ pub record HasRemesh (settings : Settings) (auto : Bool) (bytes : Bytes) : Type 
   pub plan : Plan
   pub cut : HasCut bytes plan
   pub fits : IsRemeshable plan settings auto
+
+-- A source that holds the bytes of a mesh whose network is not too tangled.
+pub record IsUntangled (settings : Settings) (left : Told) : Type 0 where
+  pub bytes : Bytes
+  pub held : left ≡ Some bytes
+  pub within : length bytes ≤ MAX_BYTES
+  pub plan : Plan
+  pub cut : HasCut bytes plan
+  pub untangled : (count : ℕ) → ¬ IsTangledAt plan settings count
+
+-- Least lengths were found: they are written, or they give too many faces or double an edge.
+abbrev pub IsSettled : (answer : Answer) → Type 0
+IsSettled Done = ⊤
+IsSettled (TooFine faces kept) = ⊤
+IsSettled (Doubled u v cert) = ⊤
+IsSettled _ = ⊥

@@ -59,7 +59,7 @@ one_layout : (faces : Faces) → IsManifold faces → (one other : Plan) → IsC
 one_layout faces manifold one other cut also =
     one_layout_law faces (traced_marks faces) manifold (graph_law faces manifold).1 one other cut also
 
-one_cut : (bytes : Bytes) (one other : Plan) → HasCut bytes one → HasCut bytes other → one ≡ other
+pub one_cut : (bytes : Bytes) (one other : Plan) → HasCut bytes one → HasCut bytes other → one ≡ other
 one_cut bytes one other has also =
     let both : ◌≡◌ {A = Result FaceSet ObjFail} (Ok has.soup) (Ok also.soup) = sym has.mesh.said ∙ also.mesh.said in
     let same : has.soup ≡ also.soup = cc in
@@ -144,7 +144,7 @@ not_both Check bytes answer takes refuses = pair_not_refused bytes answer takes 
 not_both (Bench size) bytes answer takes refuses = bench_not_both size answer takes refuses
 
 -- What a source gave whole is what it held.
-same_bytes : (before now : Told) (bytes held : Bytes) → before ≡ Some held → before ≡ gave bytes now → IsEmptied now → bytes ≡ held
+pub same_bytes : (before now : Told) (bytes held : Bytes) → before ≡ Some held → before ≡ gave bytes now → IsEmptied now → bytes ≡ held
 same_bytes before None bytes held told given end = let never : Some held ≡ None = sym told ∙ given in cc
 same_bytes before (Some rest) bytes held told given end =
     let joined : Some (bytes ++ rest) ≡ Some held = sym given ∙ told in
@@ -168,7 +168,7 @@ not_refused command input answer good bad =
     (subst (λ (xs : Bytes). Refuses command xs answer) (same_read command input bad.bytes good.bytes bad.whole good.held) bad.said)
 
 -- They are not too many.
-not_too_long : (before now : Told) (held : Bytes) → before ≡ Some held → length held ≤ MAX_BYTES → GaveMore MAX_BYTES before now → ⊥
+pub not_too_long : (before now : Told) (held : Bytes) → before ≡ Some held → length held ≤ MAX_BYTES → GaveMore MAX_BYTES before now → ⊥
 not_too_long before now held told few more = by_rest now more.moved
   where
     by_rest : (o : Told) → before ≡ gave more.piece o → ⊥
@@ -231,12 +231,11 @@ pub same_command : (read other : Command) → (◌≡◌ {A = Result Command Wor
 same_command read other (inl is) = cc
 same_command read other (inr none) = absurd cc
 
--- Words that are no accepted line have no good bytes, unless memory is wanting.
-pub not_read : (words : Words) (command : Command) (left : Told) (fail : WordsFail) (answer : Answer) → answer ≡ answer_of_words fail
-    → IsCommand words command → IsGood command left → (fail ≡ words_fail.Usage → (k : Command) → ¬ IsCommand words k) → answer ≡ Memory
-not_read words command left words_fail.Usage answer is line good refused =
-    absurd (refused refl command line)
-not_read words command left words_fail.Memory answer is line good refused = is
+-- Words that are an accepted line are read, unless memory is wanting.
+pub not_read : (words : Words) (command : Command) (fail : WordsFail) (answer : Answer) → answer ≡ answer_of_words fail
+    → IsCommand words command → (fail ≡ words_fail.Usage → (k : Command) → ¬ IsCommand words k) → answer ≡ Memory
+not_read words command words_fail.Usage answer is line refused = absurd (refused refl command line)
+not_read words command words_fail.Memory answer is line refused = is
 
 -- Where words are a matter of usage they are no accepted line.
 pub not_accepted : (words : Words) (fail : WordsFail) (answer : Answer) → answer ≡ answer_of_words fail

@@ -6,4 +6,5 @@ mod NeverBytes
 mod Refined
 mod Refusals
 mod Remeshed
+mod Settled
 mod Writers

@@ -1,11 +1,13 @@
 //! One command line, from its words to its answer.
 
-ghost use Rattle.std.specs.Prelude.{◌≡◌, ◌≢◌, ◌⊎◌, ℕ, true, map, string_bytes, OnOk, IfErr};
+ghost use Rattle.std.specs.Prelude.{◌≡◌, ◌≢◌, ◌⊎◌, ℕ, Bool, true, map, string_bytes, OnOk, IfErr};
+ghost use Rattle.def_flow.specs.declared.net.Settings.{Settings};
 ghost use Rattle.def_io.specs.Faults.{Rose};
 ghost use Rattle.def_io.specs.Moves.{change};
 ghost use Rattle.def_run.specs.CommandLines.{IsAccepted, IsCommand};
 ghost use Rattle.def_run.specs.Causes.{IsGood, Ran};
 ghost use Rattle.def_run.specs.Messages.{Said, SaidWhy};
+ghost use Rattle.def_run.specs.Remesh.{IsSettled, IsUntangled};
 ghost use Rattle.def_text.specs.Types.{Words};
 ghost use Rattle.qm_top.specs.Runs.{HasRun};
 
@@ -44,6 +46,11 @@ pub fn run<S: Source, O: Sink, E: Sink>(
     ensures complete { (command : Command) → IsCommand (map string_bytes words.now) command
         → IsGood command (S.left input.old) → (result ≡ Answer.Done) ⊎ ((result ≡ Answer.Memory) ⊎
         (Rose (S.faults input.old) (S.faults input.new) ⊎ Rose (O.faults out.old) (O.faults out.new))) }
+
+    // A mesh that is not too tangled has least lengths, and a remesh finds them.
+    ensures settled { (settings : Settings) (auto : Bool) → IsCommand (map string_bytes words.now)
+        (Command.Remesh settings auto) → IsUntangled settings (S.left input.old) → IsSettled result ⊎ ((result ≡ Answer.Memory)
+        ⊎ (Rose (S.faults input.old) (S.faults input.new) ⊎ Rose (O.faults out.old) (O.faults out.new))) }
 
     // What stays as it was.
     ensures untouched { result ≢ Answer.Done → result ≢ Answer.WriteFault → out.new ≡ out.old }

@@ -1,6 +1,7 @@
 use Rattle.std.proofs.Common.{inl, inr, ◌∙◌}
 use Rattle.qm_top.proofs.Complete.{completes_as, not_accepted, not_read, same_command}
 use Rattle.qm_top.proofs.Refusals.{says_why, says_words}
+use Rattle.qm_top.proofs.Settled.{settles_as}
 use Rattle.qm_top.proofs.command.run.Goals as goal
 
 pub returns-in-Err-clause-usage : goal.returns-in-Err-clause-usage
@@ -9,7 +10,11 @@ returns-in-Err-clause-usage g c =
 
 pub returns-in-Err-clause-complete : goal.returns-in-Err-clause-complete
 returns-in-Err-clause-complete g c = λ command line good.
-    inr (inl (not_read _ command _ c.in-Err.fail c.words_answer-answer.result c.words_answer-answer.ensures.answer line good c.in-Err.ensures.refuses))
+    inr (inl (not_read _ command c.in-Err.fail c.words_answer-answer.result c.words_answer-answer.ensures.answer line c.in-Err.ensures.refuses))
+
+pub returns-in-Err-clause-settled : goal.returns-in-Err-clause-settled
+returns-in-Err-clause-settled g c = λ settings auto line held.
+    inr (inl (not_read _ _ c.in-Err.fail c.words_answer-answer.result c.words_answer-answer.ensures.answer line c.in-Err.ensures.refuses))
 
 pub returns-in-Err-clause-told : goal.returns-in-Err-clause-told
 returns-in-Err-clause-told g c = λ refused.
@@ -19,6 +24,11 @@ pub returns-in-Err-run_command-clause-complete : goal.returns-in-Err-run_command
 returns-in-Err-run_command-clause-complete g c = λ command line good.
     completes_as c.in-Ok.command command _ _ c.into_reply-reply.result.answer _ c.into_reply-reply.ensures.answer (same_command c.in-Ok.command command (c.in-Ok.ensures.accepts command line))
     c.in-Err-run_command.ensures.run.refused.cause good
+
+pub returns-in-Err-run_command-clause-settled : goal.returns-in-Err-run_command-clause-settled
+returns-in-Err-run_command-clause-settled g c = λ settings auto line held.
+    settles_as c.in-Ok.command settings auto _ _ c.into_reply-reply.result.answer _ c.into_reply-reply.ensures.answer (same_command c.in-Ok.command _ (c.in-Ok.ensures.accepts _ line))
+    c.in-Err-run_command.ensures.run.refused.cause held
 
 pub returns-in-Err-run_command-clause-told : goal.returns-in-Err-run_command-clause-told
 returns-in-Err-run_command-clause-told g c = λ refused.
