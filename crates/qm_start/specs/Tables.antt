@@ -4,7 +4,6 @@ use Rattle.std.specs.List.{All}
 use Rattle.std.specs.BinaryHeap.{heap_items}
 use Rattle.std.specs.declared.cmp.Reverse.{Reverse}
 use Rattle.smallvec.specs.SmallVec.{SmallVec}
-use Rattle.qm_start.specs.declared.costs.Cost.{Cost}
 use Rattle.qm_start.specs.declared.cover.Cover.{Cover}
 use Rattle.qm_start.specs.declared.cover.Step.{Step}
 use Rattle.qm_start.specs.declared.cover.Way.{Way}
@@ -31,14 +30,21 @@ LeadsWithin nodes way = (way.plus < nodes) × (way.minus < nodes)
 abbrev pub MeetWithin : (ways : ℕ) (at : List (SmallVec ℕ)) → Type 0
 MeetWithin ways at = All (λ meeting. All (λ way. way < ways) meeting) (meetings at)
 
+-- The arcs of each chain are among so many, each told by one of its two ends.
+abbrev pub AreChains : (arcs : ℕ) (chains : List (SmallVec ℕ)) → Type 0
+AreChains arcs chains = All (λ (chain : SmallVec ℕ). All (λ end. end < 2 * arcs) chain.items) chains
+
+-- For each end of so many arcs, an end of one of them.
+abbrev pub AreEnds : (arcs : ℕ) (joined : List ℕ) → Type 0
+AreEnds arcs joined = (length joined ≡ 2 * arcs) × All (λ end. end < 2 * arcs) joined
+
 -- The tables of a cover fit each other.
 pub record IsCover (cover : Cover) : Type 0 where
-  pub arcs : way_count cover ≡ 2 * length cover.costs.items
+  pub chains : way_count cover ≡ 2 * length cover.costs.items
   pub few : way_count cover ≤ 2 ^ 30
   pub grounded : 1 ≤ node_count cover
   pub small : node_count cover ≤ 2 ^ 30
   pub ways : All (LeadsWithin (node_count cover)) cover.ways.items
-  pub scaled : All (λ (cost : Cost). 1 ≤ cost.q) cover.costs.items
   pub meetings : MeetWithin (way_count cover) cover.at.items
 
 -- A flow has a length for each way, and a sum and a price for each node.
@@ -61,7 +67,7 @@ pub record IsSearch (nodes ways : ℕ) (search : Search) : Type 0 where
   pub settled : All (λ node. node < nodes) search.settled.items
   pub nearest : All (IsKey nodes) (heap_items search.nearest)
 
--- The tables of halves have room for each arc and each node.
+-- The tables of halves have room for each chain and each node.
 pub record IsHalved (cover : Cover) (halves : Halves) : Type 0 where
   pub missing : length halves.missing.items ≡ length cover.costs.items
   pub ups : length halves.ups.items ≡ length cover.costs.items

@@ -1,6 +1,12 @@
-//! What an arc costs by its length.
+//! What an arc costs by its length, and what the arcs of a chain cost together.
 
-ghost use Rattle.std.specs.Prelude.{◌^◌, ◌≤◌};
+ghost use Rattle.std.specs.Prelude.{◌*◌, ◌^◌, ◌<◌, ◌≤◌, length};
+ghost use Rattle.std.specs.List.{All};
+ghost use Rattle.def_flow.specs.Network.{network, IsWithinBounds};
+
+use crate::Memory;
+use def_flow::Net;
+use std::alloc::Global;
 
 /// The cost of an arc: its weight times how far `q` times its length is from `p` times its old one.
 #[derive(Clone, Copy, Debug, PartialEq, Eq)]
@@ -31,17 +37,94 @@ impl Cost {
         };
         i64::from(self.weight) * (i64::from(self.q) - 2 * below)
     }
+}
+
+/// The cost of an arc of a network.
+pub(crate) fn cost_of(net: &Net, arc: u32) -> Cost
+    requires bounds { IsWithinBounds (network net.now) }
+    requires arc { arc < length net.now.arcs.items }
+    ensures { 1 ≤ result.q }
+{
+    let arc = &net.arcs[arc as usize];
+    Cost {
+        weight: arc.weight as u16,
+        p: net.p as u16,
+        q: net.q as u16,
+        old: arc.old,
+    }
+}
+
+/// From a length on, one more costs so much.
+#[derive(Clone, Copy, Debug, PartialEq, Eq)]
+pub(crate) struct Turn {
+    pub(crate) from: u64,
+    pub(crate) rise: i64,
+}
+
+/// What one more costs at each length, for all arcs of a chain together: before the first turn, and from each turn on
+/// to the next.
+#[derive(Debug, Drop)]
+pub(crate) struct Slope {
+    before: i64,
+    turns: Vec<Turn>,
+}
+
+impl Slope {
+    /// What one more costs at this length. Logarithmic in the turns.
+    pub(crate) fn rise(&self, length: u64) -> i64 {
+        let turns = self.turns.as_slice();
+        let passed = turns.partition_point(|turn| turn.from <= length);
+        if passed == 0 {
+            self.before
+        } else {
+            turns[passed - 1].rise
+        }
+    }
 
     /// The length of least cost that is at least the floor.
     pub(crate) fn least(&self, floor: u64) -> u64
-        requires { 1 ≤ self.now.q }
+        ensures { floor ≤ result }
     {
-        let below = self.wanted() / u64::from(self.q);
-        let least = if self.rise(below) < 0 {
-            below + 1
-        } else {
-            below
-        };
-        floor.max(least)
+        for turn in &self.turns {
+            if turn.rise >= 0 {
+                return floor.max(turn.from);
+            }
+        }
+        floor
     }
+}
+
+/// What one more costs by how long a chain is, its arcs told by their ends.
+pub(crate) fn slope_of(alloc: Global, net: &Net, chain: &[u32]) -> Result<Slope, Memory>
+    requires bounds { IsWithinBounds (network net.now) }
+    requires chain { All (λ end. end < 2 * length net.now.arcs.items) chain.now }
+{
+    let mut bends = Vec::with_capacity(alloc, chain.len().saturating_mul(2))?;
+    let mut before = 0i64;
+    for end in chain {
+        let cost = cost_of(net, *end / 2);
+        let most = i64::from(cost.weight) * i64::from(cost.q);
+        // One more costs least up to what is wanted, most beyond it, and something between on the step across.
+        let across = cost.wanted() / u64::from(cost.q);
+        let rise = cost.rise(across);
+        before = before.saturating_sub(most);
+        bends.push((across, rise.saturating_add(most)))?;
+        bends.push((across + 1, most.saturating_sub(rise)))?;
+    }
+    bends.sort_unstable();
+    let turns = turns_of(alloc, before, &bends)?;
+    Ok(Slope { before, turns })
+}
+
+/// The turns where what one more costs grows so much at each bend, given in order of their lengths.
+fn turns_of(alloc: Global, before: i64, bends: &[(u64, i64)]) -> Result<Vec<Turn>, Memory> {
+    let mut turns = Vec::new(alloc);
+    let mut rise = before;
+    for (k, (from, more)) in bends.iter().enumerate() {
+        rise = rise.saturating_add(*more);
+        if k + 1 == bends.len() || bends[k + 1].0 != *from {
+            turns.push(Turn { from: *from, rise })?;
+        }
+    }
+    Ok(turns)
 }

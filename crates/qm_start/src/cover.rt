@@ -1,14 +1,15 @@
 //! The double cover of a network.
 
 ghost use Rattle.std.specs.Prelude.{◌≡◌, ◌+◌, ◌*◌, ◌/◌, ◌^◌, ◌<◌, ◌≤◌, [], ◌∷◌, ◌++◌, length, slice_index_or};
-ghost use Rattle.std.specs.Prelude.{slice_set, IfOk, OnOk};
+ghost use Rattle.std.specs.Prelude.{slice_set, IfOk, IfSome, OnOk};
 ghost use Rattle.std.specs.List.{All};
-ghost use Rattle.def_flow.specs.Network.{network, EndsBelow, IsWithinBounds};
-ghost use Rattle.qm_start.specs.Tables.{IsCover, LeadsWithin, MeetWithin, meetings, node_count, way_count};
+ghost use Rattle.def_flow.specs.Network.{network, IsWithinBounds};
+ghost use Rattle.qm_start.specs.Tables.{AreChains, IsCover, LeadsWithin, MeetWithin, meetings, node_count, way_count};
 
 use crate::Memory;
-use crate::costs::Cost;
-use def_flow::{Arc, End, Net};
+use crate::chains::{Chain, across, end_at};
+use crate::costs::{Slope, slope_of};
+use def_flow::{End, Net};
 use smallvec::SmallVec;
 use std::alloc::Global;
 
@@ -29,14 +30,14 @@ pub(crate) struct Step {
 /// The ways at a node. Most nodes have few.
 pub(crate) type Meeting = SmallVec<u32, 4>;
 
-/// The double cover: node `v` is there as `2 * v` and, with all signs turned, as `2 * v + 1`; arc `a` as the ways
-/// `2 * a` and `2 * a + 1`. Behind all other nodes is the ground, where the arcs with one end have their other.
+/// The double cover: node `v` is there as `2 * v` and, with all signs turned, as `2 * v + 1`; chain `c` as the ways
+/// `2 * c` and `2 * c + 1`. Behind all other nodes is the ground, where the ends lie that are at no node.
 #[derive(Debug, Drop)]
 pub(crate) struct Cover {
     pub(crate) ways: Vec<Way>,
     pub(crate) at: Vec<Meeting>,
-    /// The costs of the arcs, and the least length.
-    pub(crate) costs: Vec<Cost>,
+    /// The costs of the chains, and the least length.
+    pub(crate) costs: Vec<Slope>,
     pub(crate) floor: u64,
 }
 
@@ -67,15 +68,15 @@ impl Cover {
         self.at[node as usize].as_slice()
     }
 
-    /// What the arc of a way costs.
-    pub(crate) fn cost(&self, way: u32) -> Cost
+    /// What the chain of a way costs.
+    pub(crate) fn cost(&self, way: u32) -> &Slope
         requires cover { IsCover self.now }
         requires way { way < way_count self.now }
     {
-        self.costs[way as usize / 2]
+        &self.costs[way as usize / 2]
     }
 
-    /// The other way of an arc.
+    /// The other way of a chain.
     pub(crate) fn other(&self, way: u32) -> u32
         requires cover { IsCover self.now }
         requires way { way < way_count self.now }
@@ -95,88 +96,86 @@ impl Cover {
     }
 }
 
-/// The double cover of a network. Linear.
-pub(crate) fn cover_of(alloc: Global, net: &Net) -> Result<Cover, Memory>
+/// The double cover of a network in chains. Linear.
+pub(crate) fn cover_of(alloc: Global, net: &Net, chains: &[Chain]) -> Result<Cover, Memory>
     requires bounds { IsWithinBounds (network net.now) }
-    requires few { (net.now.nodes ≤ 2 ^ 28) × (length net.now.arcs.items ≤ 2 ^ 28) }
+    requires few { (net.now.nodes ≤ 2 ^ 28) × (length net.now.arcs.items ≤ 2 ^ 28) × (length chains.now ≤ 2 ^ 28) }
+    requires chains { AreChains (length net.now.arcs.items) chains.now }
     ensures cover { IfOk result IsCover }
-    ensures arcs { IfOk result (λ cover. way_count cover ≡ 2 * length net.now.arcs.items) }
+    ensures chains { IfOk result (λ cover. way_count cover ≡ 2 * length chains.now) }
     ensures nodes { IfOk result (λ cover. node_count cover ≡ 2 * net.now.nodes + 1) }
 {
-    let ways = ways_of(alloc, net)?;
+    let ways = ways_of(alloc, net, chains)?;
     let at = meetings_of(alloc, 2 * net.nodes + 1, &ways)?;
     Ok(Cover {
         ways,
         at,
-        costs: costs_of(alloc, net)?,
+        costs: costs_of(alloc, net, chains)?,
         floor: u64::from(net.floor),
     })
 }
 
-/// What the arcs cost.
-fn costs_of(alloc: Global, net: &Net) -> Result<Vec<Cost>, Memory>
-    requires { IsWithinBounds (network net.now) }
-    ensures count { IfOk result (λ costs. length costs.items ≡ length net.now.arcs.items) }
-    ensures scaled { IfOk result (λ costs. All (λ cost. 1 ≤ cost.q) costs.items) }
+/// What the chains cost.
+fn costs_of(alloc: Global, net: &Net, chains: &[Chain]) -> Result<Vec<Slope>, Memory>
+    requires bounds { IsWithinBounds (network net.now) }
+    requires chains { AreChains (length net.now.arcs.items) chains.now }
+    ensures { IfOk result (λ costs. length costs.items ≡ length chains.now) }
 {
-    let mut costs = Vec::with_capacity(alloc, net.arcs.len())?;
-    for arc in &net.arcs {
-        costs.push(Cost {
-            weight: arc.weight as u16,
-            p: net.p as u16,
-            q: net.q as u16,
-            old: arc.old,
-        })?;
+    let mut costs = Vec::with_capacity(alloc, chains.len())?;
+    for chain in chains {
+        costs.push(slope_of(alloc, net, chain.as_slice())?)?;
     }
     Ok(costs)
 }
 
-/// Two ways for each arc.
-fn ways_of(alloc: Global, net: &Net) -> Result<Vec<Way>, Memory>
+/// Two ways for each chain, between its first end and its last.
+fn ways_of(alloc: Global, net: &Net, chains: &[Chain]) -> Result<Vec<Way>, Memory>
     requires bounds { IsWithinBounds (network net.now) }
-    requires few { (net.now.nodes ≤ 2 ^ 28) × (length net.now.arcs.items ≤ 2 ^ 28) }
-    ensures count { IfOk result (λ ways. length ways.items ≡ 2 * length net.now.arcs.items) }
+    requires few { (net.now.nodes ≤ 2 ^ 28) × (length net.now.arcs.items ≤ 2 ^ 28) × (length chains.now ≤ 2 ^ 28) }
+    requires chains { AreChains (length net.now.arcs.items) chains.now }
+    ensures count { IfOk result (λ ways. length ways.items ≡ 2 * length chains.now) }
     ensures within { IfOk result (λ ways. All (LeadsWithin (2 * net.now.nodes + 1)) ways.items) }
 {
     let ground = 2 * net.nodes;
-    let mut ways = Vec::with_capacity(alloc, 2 * net.arcs.len())?;
-    for arc in &net.arcs {
-        ways.push(way_of(arc, false, ground))?;
-        ways.push(way_of(arc, true, ground))?;
+    let mut ways = Vec::with_capacity(alloc, chains.len().saturating_mul(2))?;
+    for chain in chains {
+        let (first, last) = ends_of(net, chain.as_slice());
+        ways.push(Way {
+            plus: copy_of(first, true, ground),
+            minus: copy_of(last, false, ground),
+        })?;
+        ways.push(Way {
+            plus: copy_of(last, true, ground),
+            minus: copy_of(first, false, ground),
+        })?;
     }
     Ok(ways)
 }
 
-/// The way of an arc in one of its copies.
-fn way_of(arc: &Arc, second: bool, ground: u32) -> Way
-    requires few { ground ≤ 2 ^ 29 }
-    requires ends { EndsBelow (ground / 2) arc.now.left arc.now.right }
-    ensures { LeadsWithin (ground + 1) result }
+/// The two ends of a chain, where they lie at a node.
+fn ends_of(net: &Net, chain: &[u32]) -> (Option<End>, Option<End>)
+    requires bounds { IsWithinBounds (network net.now) }
+    requires few { length net.now.arcs.items ≤ 2 ^ 28 }
+    requires chain { All (λ end. end < 2 * length net.now.arcs.items) chain.now }
+    ensures first { IfSome result.0 (λ end. end.node < net.now.nodes) }
+    ensures last { IfSome result.1 (λ end. end.node < net.now.nodes) }
 {
-    let start = copy_of(&arc.left, second);
-    let end = match &arc.right {
-        None => ground,
-        Some(right) => copy_of(right, (right.plus == arc.left.plus) != second),
-    };
-    if arc.left.plus != second {
-        Way {
-            plus: start,
-            minus: end,
-        }
-    } else {
-        Way {
-            plus: end,
-            minus: start,
-        }
+    match (chain.first(), chain.last()) {
+        (Some(first), Some(last)) => (end_at(net, *first), end_at(net, across(*last))),
+        _ => (None, None),
     }
 }
 
-/// A copy of the node of an end.
-fn copy_of(end: &End, second: bool) -> u32
-    requires { end.now.node < 2 ^ 28 }
-    ensures { result ≤ 2 * end.now.node + 1 }
+/// The copy of its node in which an end has this sign, or the ground.
+fn copy_of(end: Option<End>, plus: bool, ground: u32) -> u32
+    requires few { ground ≤ 2 ^ 29 }
+    requires end { IfSome end (λ end. end.node < ground / 2) }
+    ensures { result < ground + 1 }
 {
-    2 * end.node + u32::from(second)
+    match end {
+        None => ground,
+        Some(end) => 2 * end.node + u32::from(end.plus != plus),
+    }
 }
 
 /// The ways at each of so many nodes.

@@ -34,14 +34,14 @@ pub(crate) fn relax(
     Ok(Some(()))
 }
 
-/// A node that has too much, and whether both ways of an arc have one length.
+/// A node that has too much, and whether both ways of a chain have one length.
 #[derive(Clone, Copy)]
 pub(crate) struct Site {
     pub(crate) from: u32,
     pub(crate) shared: bool,
 }
 
-/// Brings away what is too much at a node: much at once, or one by one where both ways of an arc go together.
+/// Brings away what is too much at a node: much at once, or one by one where both ways of a chain go together.
 pub(crate) fn drain(
     cover: &Cover,
     flow: &mut Flow,
@@ -122,7 +122,7 @@ fn even_part(cover: &Cover, flow: &Flow, step: Step, times: u64) -> u64
     part
 }
 
-/// How often a path is gone, and whether its mirror image is gone with it, on the other ways of its arcs.
+/// How often a path is gone, and whether its mirror image is gone with it, on the other ways of its chains.
 #[derive(Clone, Copy)]
 struct Going {
     times: u64,

@@ -12,8 +12,8 @@ use crate::search::Search;
 /// What the ground takes: all that is brought there.
 const ALL: i64 = i64::MIN / 2;
 
-/// Gives both ways of each arc its length, and balances the nodes, at little cost; or gives up where the fuel runs out
-/// or a length would leave its range.
+/// Gives both ways of each chain its length, and balances the nodes, at little cost; or gives up where the fuel runs
+/// out or a length would leave its range.
 pub(crate) fn repair(
     cover: &Cover,
     lengths: &[u64],
@@ -39,16 +39,16 @@ pub(crate) fn repair(
     Ok(Some(()))
 }
 
-/// Gives both ways of each arc its length.
+/// Gives both ways of each chain its length.
 fn share(cover: &Cover, lengths: &[u64], flow: &mut Flow) -> Option<()>
     requires cover { IsCover cover.now }
     requires lengths { way_count cover.now ≡ 2 * length lengths.now }
     requires flow { IsOver cover.now flow.old }
     ensures { IsOver cover.now flow.new }
 {
-    for (arc, length) in lengths.iter().enumerate() {
-        flow.lengths[2 * arc] = *length;
-        flow.lengths[2 * arc + 1] = *length;
+    for (chain, length) in lengths.iter().enumerate() {
+        flow.lengths[2 * chain] = *length;
+        flow.lengths[2 * chain + 1] = *length;
     }
     for excess in &mut flow.excess {
         *excess = 0;

@@ -33,7 +33,7 @@ pub(crate) struct Aim {
     pub(crate) from: u32,
     /// A node that does not serve as an end.
     pub(crate) but: Option<u32>,
-    /// Whether both ways of an arc have one length.
+    /// Whether both ways of a chain have one length.
     pub(crate) shared: bool,
 }
 
@@ -158,7 +158,7 @@ fn look_from(
     Ok(())
 }
 
-/// Whether one less is the last that an arc can give, and the path to a node has taken it along its other way.
+/// Whether one less is the last that a chain can give, and the path to a node has taken it along its other way.
 fn is_twice(cover: &Cover, flow: &Flow, search: &Search, path: Path, step: Step) -> bool
     requires cover { IsCover cover.now }
     requires flow { IsOver cover.now flow.now }

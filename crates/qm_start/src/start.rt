@@ -1,16 +1,19 @@
 //! The start: lengths and prices.
 
-ghost use Rattle.std.specs.Prelude.{◌≡◌, ◌*◌, ◌+◌, ◌^◌, ◌≤◌, length, IfOk, IfSome};
+ghost use Rattle.std.specs.Prelude.{◌≡◌, ◌*◌, ◌<◌, length, IfOk, IfSome};
 ghost use Rattle.def_flow.specs.Network.{network, IsWithinBounds};
-ghost use Rattle.qm_start.specs.Tables.{IsCover, IsOver, node_count, way_count};
+ghost use Rattle.std.specs.List.{All};
+ghost use Rattle.qm_start.specs.Tables.{AreChains};
 
 use crate::Memory;
-use crate::cover::{Cover, cover_of};
+use crate::chains::{Chain, chains_of};
+use crate::cover::cover_of;
 use crate::flow::{Flow, first_flow};
 use crate::paths::relax;
 use crate::repair::repair;
 use crate::search::no_search;
 use crate::trails::round;
+use crate::worth::prices_of;
 use def_flow::Net;
 use std::alloc::Global;
 
@@ -38,7 +41,8 @@ pub fn near_start(alloc: Global, net: &Net) -> Result<Option<Start>, Memory>
     if net.arcs.is_empty() || net.nodes > MOST || net.arcs.len() > MOST as usize {
         return Ok(None);
     }
-    let cover = cover_of(alloc, net)?;
+    let chains = chains_of(alloc, net)?;
+    let cover = cover_of(alloc, net, &chains)?;
     let Some(mut flow) = first_flow(alloc, &cover)? else {
         return Ok(None);
     };
@@ -47,36 +51,34 @@ pub fn near_start(alloc: Global, net: &Net) -> Result<Option<Start>, Memory>
     if relax(&cover, &mut flow, &mut search, &mut fuel)?.is_none() {
         return Ok(None);
     }
-    let prices = prices_of(alloc, net.nodes, &flow)?;
+    let prices = prices_of(alloc, net, &chains, &flow)?;
     let rounded = round(alloc, &cover, &flow)?;
     if repair(&cover, &rounded, &mut flow, &mut search, &mut fuel)?.is_none() {
         return Ok(None);
     }
-    let lengths = lengths_of(alloc, net.arcs.len(), &flow)?;
+    let lengths = lengths_of(alloc, net.arcs.len(), &chains, &flow)?;
     Ok(Some(Start { lengths, prices }))
 }
 
-/// What the two copies of each node differ in price.
-fn prices_of(alloc: Global, nodes: u32, flow: &Flow) -> Result<Vec<i64>, Memory>
-    requires { length flow.now.prices.items ≡ 2 * nodes + 1 }
-    ensures { IfOk result (λ prices. length prices.items ≡ nodes) }
-{
-    let mut prices = Vec::with_capacity(alloc, nodes as usize)?;
-    for node in 0..nodes as usize {
-        let second = flow.prices[2 * node + 1];
-        prices.push(flow.prices[2 * node].saturating_sub(second))?;
-    }
-    Ok(prices)
-}
-
-/// The length of the first way of each arc.
-fn lengths_of(alloc: Global, arcs: usize, flow: &Flow) -> Result<Vec<u64>, Memory>
-    requires { length flow.now.lengths.items ≡ 2 * arcs }
+/// The length of each arc: that of the first way of its chain.
+fn lengths_of(alloc: Global, arcs: usize, chains: &[Chain], flow: &Flow) -> Result<Vec<u64>, Memory>
+    requires chains { AreChains arcs chains.now }
+    requires lengths { length flow.now.lengths.items ≡ 2 * length chains.now }
     ensures { IfOk result (λ lengths. length lengths.items ≡ arcs) }
 {
-    let mut lengths = Vec::with_capacity(alloc, arcs)?;
-    for arc in 0..arcs {
-        lengths.push(flow.lengths[2 * arc])?;
+    let mut lengths = vec![in alloc; 0u64; arcs]?;
+    for (k, chain) in chains.iter().enumerate() {
+        give(&mut lengths, chain.as_slice(), flow.lengths[2 * k]);
     }
     Ok(lengths)
+}
+
+/// Gives each arc of a chain its length.
+fn give(lengths: &mut [u64], chain: &[u32], long: u64)
+    requires { All (λ end. end < 2 * length lengths.old) chain.now }
+    ensures { length lengths.new ≡ length lengths.old }
+{
+    for end in chain {
+        lengths[*end as usize / 2] = long;
+    }
 }

@@ -22,3 +22,30 @@ fn starts_that_fit(rt: HostRuntime) -> Result<(), Fail> {
     }
     Ok(())
 }
+
+/// A chain of three arcs between two boundaries: all have the length that is wanted in the middle, and the nodes have
+/// prices at which no arc would rather be longer or shorter.
+const CHAIN: &str = "net nodes 2 arcs 3 floor 1 scale 1/1
+arc 2 1 0 + rim
+arc 5 1 0 - 1 +
+arc 9 1 1 - rim";
+
+/// The same as a ring at one node.
+const RING: &str = "net nodes 3 arcs 3 floor 1 scale 1/1
+arc 2 1 0 + 1 -
+arc 5 1 1 + 2 -
+arc 9 1 2 + 0 -";
+
+#[test]
+fn chains_have_one_length(rt: HostRuntime) -> Result<(), Fail> {
+    for (text, prices) in [(CHAIN, [2, 2].as_slice()), (RING, [0, -2, -2].as_slice())] {
+        let net = read_net(rt.alloc(), text)?;
+        assert!(rt; is_within_bounds(&net));
+        let Some(start) = near_start(rt.alloc(), &net)? else {
+            panic!(rt; "no start");
+        };
+        assert!(rt; start.lengths.as_slice() == [5, 5, 5].as_slice());
+        assert!(rt; start.prices.as_slice() == prices, "{:?}", start.prices);
+    }
+    Ok(())
+}

@@ -1,4 +1,4 @@
-//! Halves are rounded along trails, so that what one arc of a node gains its next one loses.
+//! Halves are rounded along trails, so that what one chain of a node gains its next one loses.
 
 ghost use Rattle.std.specs.Prelude.{◌≡◌, ◌+◌, ◌*◌, ◌<◌, ◌≤◌, length, IfOk, IfSome};
 ghost use Rattle.qm_start.specs.Tables.{IsCover, IsHalved, IsOver, node_count, way_count};
@@ -8,7 +8,7 @@ use crate::cover::{Cover, Way};
 use crate::flow::Flow;
 use std::alloc::Global;
 
-/// Which arcs still miss a half, and which have been rounded up.
+/// Which chains still miss a half, and which have been rounded up.
 #[derive(Debug, Drop)]
 pub(crate) struct Halves {
     pub(crate) missing: Vec<bool>,
@@ -17,76 +17,76 @@ pub(crate) struct Halves {
     pub(crate) looked: Vec<usize>,
 }
 
-/// A whole length for each arc, next to the mean of its two. Linear.
+/// A whole length for each chain, next to the mean of its two. Linear.
 pub(crate) fn round(alloc: Global, cover: &Cover, flow: &Flow) -> Result<Vec<u64>, Memory>
     requires cover { IsCover cover.now }
     requires flow { IsOver cover.now flow.now }
     ensures { IfOk result (λ lengths. way_count cover.now ≡ 2 * length lengths.items) }
 {
     let mut halves = halves_of(alloc, cover, flow)?;
-    for arc in 0..cover.costs.len() as u32 {
-        let Way { plus, minus } = cover.way(2 * arc);
+    for chain in 0..cover.costs.len() as u32 {
+        let Way { plus, minus } = cover.way(2 * chain);
         let ground = cover.ground();
-        if halves.missing[arc as usize] && (plus == ground || minus == ground) {
-            begin(cover, flow, &mut halves, arc, plus.min(minus));
+        if halves.missing[chain as usize] && (plus == ground || minus == ground) {
+            begin(cover, flow, &mut halves, chain, plus.min(minus));
         }
     }
-    for arc in 0..cover.costs.len() as u32 {
-        let Way { plus, minus } = cover.way(2 * arc);
-        if halves.missing[arc as usize] {
-            begin(cover, flow, &mut halves, arc, plus.max(minus));
+    for chain in 0..cover.costs.len() as u32 {
+        let Way { plus, minus } = cover.way(2 * chain);
+        if halves.missing[chain as usize] {
+            begin(cover, flow, &mut halves, chain, plus.max(minus));
         }
     }
     let mut lengths = Vec::with_capacity(alloc, cover.costs.len())?;
-    for arc in 0..cover.costs.len() {
-        let up = u128::from(halves.ups[arc]);
-        lengths.push(((sum_of(flow, arc) + up) / 2) as u64)?;
+    for chain in 0..cover.costs.len() {
+        let up = u128::from(halves.ups[chain]);
+        lengths.push(((sum_of(flow, chain) + up) / 2) as u64)?;
     }
     Ok(lengths)
 }
 
-/// The two lengths of an arc together.
-fn sum_of(flow: &Flow, arc: usize) -> u128
-    requires { 2 * arc + 1 < length flow.now.lengths.items }
+/// The two lengths of a chain together.
+fn sum_of(flow: &Flow, chain: usize) -> u128
+    requires { 2 * chain + 1 < length flow.now.lengths.items }
     ensures { result ≤ 36893488147419103230 }
 {
-    u128::from(flow.lengths[2 * arc]) + u128::from(flow.lengths[2 * arc + 1])
+    u128::from(flow.lengths[2 * chain]) + u128::from(flow.lengths[2 * chain + 1])
 }
 
-/// The arcs that miss a half.
+/// The chains that miss a half.
 fn halves_of(alloc: Global, cover: &Cover, flow: &Flow) -> Result<Halves, Memory>
     requires cover { IsCover cover.now }
     requires flow { IsOver cover.now flow.now }
     ensures { IfOk result (IsHalved cover.now) }
 {
-    let arcs = cover.costs.len();
-    let mut missing = Vec::with_capacity(alloc, arcs)?;
-    for arc in 0..arcs {
-        missing.push(sum_of(flow, arc) % 2 == 1)?;
+    let chains = cover.costs.len();
+    let mut missing = Vec::with_capacity(alloc, chains)?;
+    for chain in 0..chains {
+        missing.push(sum_of(flow, chain) % 2 == 1)?;
     }
     Ok(Halves {
         missing,
-        ups: vec![in alloc; false; arcs]?,
+        ups: vec![in alloc; false; chains]?,
         looked: vec![in alloc; 0usize; cover.at.len()]?,
     })
 }
 
-/// Rounds an arc to its cheaper side, and follows the trail that leaves it at a node of the cover.
-fn begin(cover: &Cover, flow: &Flow, halves: &mut Halves, arc: u32, node: u32)
+/// Rounds a chain to its cheaper side, and follows the trail that leaves it at a node of the cover.
+fn begin(cover: &Cover, flow: &Flow, halves: &mut Halves, chain: u32, node: u32)
     requires cover { IsCover cover.now }
     requires flow { IsOver cover.now flow.now }
     requires halves { IsHalved cover.now halves.old }
-    requires arc { 2 * arc + 1 < way_count cover.now }
+    requires chain { 2 * chain + 1 < way_count cover.now }
     requires node { node < node_count cover.now }
     ensures { IsHalved cover.now halves.new }
 {
     let up = cover
-        .cost(2 * arc)
-        .rise((sum_of(flow, arc as usize) / 2) as u64)
+        .cost(2 * chain)
+        .rise((sum_of(flow, chain as usize) / 2) as u64)
         < 0;
-    halves.missing[arc as usize] = false;
-    halves.ups[arc as usize] = up;
-    let Way { plus, minus } = cover.way(2 * arc);
+    halves.missing[chain as usize] = false;
+    halves.ups[chain as usize] = up;
+    let Way { plus, minus } = cover.way(2 * chain);
     if plus != minus {
         follow(cover, halves, node, (plus == node) == up);
     }
@@ -123,7 +123,7 @@ fn follow(cover: &Cover, halves: &mut Halves, first: u32, gained: bool)
     }
 }
 
-/// The next way at a node whose arc misses a half.
+/// The next way at a node whose chain misses a half.
 fn next_at(cover: &Cover, halves: &mut Halves, node: u32) -> Option<u32>
     requires cover { IsCover cover.now }
     requires halves { IsHalved cover.now halves.old }

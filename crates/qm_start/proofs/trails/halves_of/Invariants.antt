@@ -1,5 +1,5 @@
 use Rattle.std.proofs.Common.{◌≡◌, length}
 use Rattle.qm_start.proofs.trails.halves_of.Given as goal
 
-abbrev pub invariant-loop-arc : goal.invariant-loop-arc
-invariant-loop-arc l = length l.missing.items ≡ l.arc
+abbrev pub invariant-loop-chain : goal.invariant-loop-chain
+invariant-loop-chain l = length l.missing.items ≡ l.chain
