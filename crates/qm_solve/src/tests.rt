@@ -1,13 +1,18 @@
 //! Networks whose least deviations are known, and small ones by chance against a search over all lists.
 
-ghost use Rattle.std.specs.Prelude.{◌≡◌, ◌<◌, ◌≤◌, true, IfOk};
+ghost use Rattle.std.specs.Prelude.{◌≡◌, ◌<◌, ◌≤◌, ◌==◌, ◌&&◌, nat_lt, not, unsigned_abs, true, IfOk};
+ghost use Rattle.std.specs.List.{list_all};
 ghost use Rattle.def_math.specs.Counts.{count};
 ghost use Rattle.def_flow.specs.Network.{network, IsWithinBounds};
 ghost use Rattle.def_flow.specs.Admissible.{IsEven};
 
+use crate::round::cost_of;
 use crate::start::{multiple, old_multiple};
 use crate::{Memory, is_start, solve, solve_from};
 use def_flow::{Arc, End, MAX_SUM, MAX_TANGLE, Net};
+use def_matching::{WEdge, WGraph};
+use qm_gadget::{graph_of, matching_of};
+use qm_match::{best, is_perfect};
 use qm_net::{admissible, are_lengths, deviation, is_within_bounds, tangle_of};
 use qm_nettext::{FLAPS, QUAD, TREBLED, read_net};
 use std::alloc::Global;
@@ -68,6 +73,90 @@ fn known_networks(rt: HostRuntime) -> Result<(), Fail> {
         assert_eq!(rt; least_of(rt.alloc(), &net)?, Some((least, least)), "{text}");
     }
     Ok(())
+}
+
+/// The six least lists of the flaps, whose deviation is 11, have no certificate without sets.
+///
+/// Without sets the numbers of the two ends of an edge are at most twice its cost. A perfect matching of the double
+/// cover of the matching graph meets each vertex twice, so all numbers have at most the sum of its cost. A certificate
+/// needs twice the cost of the list's own matching, and that is 4 more.
+#[test]
+fn flaps_need_sets(rt: HostRuntime) -> Result<(), Fail> {
+    let net = read_net(rt.alloc(), FLAPS)?;
+    assert!(rt; is_within_bounds(&net));
+    let tangle = tangle_of(rt.alloc(), &net)?;
+    assert!(rt; tangle <= u128::from(MAX_TANGLE));
+    let table: [[u64; 18]; 6] = [
+        [1, 1, 1, 1, 2, 2, 1, 1, 2, 3, 1, 1, 3, 1, 1, 2, 1, 1],
+        [1, 1, 2, 2, 1, 1, 1, 2, 1, 3, 1, 1, 2, 1, 1, 3, 1, 1],
+        [2, 2, 1, 1, 1, 1, 2, 1, 1, 2, 1, 1, 3, 1, 1, 3, 1, 1],
+        [1, 1, 2, 2, 2, 2, 1, 2, 2, 4, 1, 1, 3, 1, 1, 3, 1, 1],
+        [2, 2, 1, 1, 2, 2, 2, 1, 2, 3, 1, 1, 4, 1, 1, 3, 1, 1],
+        [2, 2, 2, 2, 1, 1, 2, 2, 1, 3, 1, 1, 3, 1, 1, 4, 1, 1],
+    ];
+    for x in table {
+        assert!(rt; is_start(&net, &x) && are_lengths(&net, &x));
+        assert_eq!(rt; deviation(&net, &x), 11);
+        let gadget = graph_of(rt.alloc(), &net, &x, 1)?;
+        let own = matching_of(rt.alloc(), &net, &gadget, &x)?;
+        let needed = cost_of(&gadget.graph, &own).saturating_mul(2);
+        let cover = double_cover(rt.alloc(), &gadget.graph)?;
+        let known = on_both_copies(rt.alloc(), &own)?;
+        let most = least_matching(rt.alloc(), &cover, &known)?;
+        assert_eq!(rt; most, Some(needed.saturating_sub(4)));
+    }
+    Ok(())
+}
+
+/// The least cost of a perfect matching of a small graph, of which one is known.
+fn least_matching(alloc: Global, g: &WGraph, known: &[u32]) -> Result<Option<i128>, Memory> {
+    if g.n >= 4096 || g.edges.len() >= 65_536 || !are_edges(g.n, &g.edges) {
+        return Ok(None);
+    }
+    if !is_perfect(alloc, g, known)? {
+        return Ok(None);
+    }
+    let (edges, _) = best(alloc, g, known)?;
+    Ok(Some(cost_of(g, &edges)))
+}
+
+/// The double cover of a graph: each edge joins the first copy of either end to the second copy of the other.
+fn double_cover(alloc: Global, g: &WGraph) -> Result<WGraph, Memory> {
+    let mut edges = Vec::new(alloc);
+    for edge in &g.edges {
+        for (u, v) in [(edge.u, edge.v), (edge.v, edge.u)] {
+            edges.push(WEdge {
+                u,
+                v: g.n.saturating_add(v),
+                cost: edge.cost,
+            })?;
+        }
+    }
+    Ok(WGraph {
+        n: g.n.saturating_mul(2),
+        edges,
+    })
+}
+
+/// A matching, in both copies.
+fn on_both_copies(alloc: Global, matching: &[u32]) -> Result<Vec<u32>, Memory> {
+    let mut edges = Vec::new(alloc);
+    for edge in matching {
+        let first = edge.saturating_mul(2);
+        edges.push(first)?;
+        edges.push(first.saturating_add(1))?;
+    }
+    Ok(edges)
+}
+
+/// Whether the ends of each edge are two vertices, and its cost is small.
+fn are_edges(n: u32, edges: &[WEdge]) -> bool
+    ensures { result ≡ list_all (λ e. (nat_lt e.u n && (nat_lt e.v n && not (e.u == e.v)))
+        && nat_lt (unsigned_abs e.cost) 10000) edges.now }
+{
+    edges.iter().all(|edge| {
+        (edge.u < n && (edge.v < n && !(edge.u == edge.v))) && edge.cost.unsigned_abs() < 10_000
+    })
 }
 
 #[test]
