@@ -1,8 +1,9 @@
 #!/usr/bin/env python3
-"""Measures quadq's solver on networks, and integer programming with cbc, where Debian's coinor-cbc is installed. Where
-both end, their least deviations have to be equal.
+"""Measures quadq's solver on networks, and on even ones integer programming with cbc, where Debian's coinor-cbc is
+installed. Where both end, their least deviations have to be equal.
 
-usage: bench/solve.py [--alone] [FILE.net..]     without files: the networks of generated meshes; alone: without cbc
+usage: bench/solve.py [--alone] [--far] [FILE.net..]     without files: the networks of generated meshes; alone: without
+cbc; far: with far targets only
 
 All seconds but those of the parts are of the processor, user and system, so that they mean something on a busy machine
 too. The columns: the searches that are left to the matching in all rounds; the seconds and megabytes of the whole
@@ -13,6 +14,7 @@ found by then stands behind.
 A network is a text: a line `net nodes N arcs A floor F scale P/Q`, and for each arc a line `arc OLD WEIGHT NODE SIGN
 NODE SIGN` with `rim` in place of the second end at the boundary.
 """
+import math
 import os
 import random
 import re
@@ -27,6 +29,8 @@ SOLVER = f"{ROOT}/crates/qm_nets/out/qm_nets"
 MESHES = [["holes", "512", "512"], ["holes", "1024", "1024"], ["voxels", "20"], ["voxels", "40"]]
 LARGE = [["holes", "4096", "4096"], ["voxels", "100"], ["voxels", "208"]]
 SECONDS = 60
+# The greatest sum of the old lengths of an even network.
+MAX_SUM = 8388608
 
 
 def read_net(text):
@@ -100,7 +104,7 @@ def solved(net, room):
     _, seconds, _ = run(["cbc", f"{room}/it.lp", "sec", str(SECONDS), "solve", "solution", f"{room}/it.sol"])
     with open(f"{room}/it.sol", encoding="ascii") as told:
         head = told.readline()
-    found = re.search(r"objective value +([-\d.]+)", head)
+    found = None if "no integer solution" in head else re.search(r"objective value +([-\d.]+)", head)
     return round(float(found[1])) if found else None, head.startswith("Optimal"), seconds
 
 
@@ -123,15 +127,41 @@ def measured(net, room):
     return found, seconds, megabytes
 
 
-def with_targets(net, factor):
-    """The network with old lengths so many times as great and by chance up to a half more or less, which are in no
-    balance: so are the lengths that a size in place of a scale asks for."""
+def is_even(net):
+    """Whether the old lengths are in balance and have no great sum: then quadq promises an answer."""
+    nodes, _, _, _, arcs = net
+    sums = [0] * nodes
+    for old, _, ends in arcs:
+        for node, sign in ends:
+            sums[node] += old if sign == "+" else -old
+    return not any(sums) and sum(old for old, *_ in arcs) <= MAX_SUM
+
+
+def far_even(net):
+    """The network with old lengths up to 997 times as great, as far as an even network's sum goes, and in balance. The
+    factor has no divisor in common with the scale's, so that wishes come no nearer to whole numbers."""
     nodes, floor, p, q, arcs = net
+    most = min(997, MAX_SUM // sum(old for old, *_ in arcs))
+    factor = next(it for it in range(most, 0, -1) if math.gcd(it, q) == 1)
+    return nodes, floor, p, q, [(old * factor, *rest) for old, *rest in arcs]
+
+
+def far_uneven(net):
+    """The network with old lengths a thousand times as great and by chance up to a half more or less, which are in no
+    balance: so are the lengths that a size in place of a scale asks for."""
+    nodes, floor, _, _, arcs = net
     chance = random.Random(1)
-    return nodes, floor, p, q, [(max(1, int(old * factor * chance.uniform(0.5, 1.5))), *rest) for old, *rest in arcs]
+    moved = [(max(1, int(old * 1000 * chance.uniform(0.5, 1.5))), *rest) for old, *rest in arcs]
+    return nodes, floor, 1, 1, moved
 
 
-def generated(room):
+def far(name, net):
+    """The network with far targets, in balance and in none."""
+    yield f"{name}, far", far_even(net)
+    yield f"{name}, far, in no balance", far_uneven(net)
+
+
+def generated(room, only_far):
     """The networks of generated meshes at two scales, and with far targets."""
     for name in ("meshes", "graph"):
         command = ["g++", "-O2", "-std=c++20", "-o", f"{room}/{name}", f"{HERE}/{name}.cpp"]
@@ -139,9 +169,18 @@ def generated(room):
     for words in MESHES + LARGE:
         mesh = subprocess.run([f"{room}/meshes", *words], stdout=subprocess.PIPE, check=True).stdout
         text = subprocess.run([f"{room}/graph"], input=mesh, stdout=subprocess.PIPE, check=True).stdout.decode()
-        for p, q in ((1, 2), (3, 2)):
-            yield " ".join(words), net_of_graph(text, p, q)
-        yield f"{' '.join(words)}, targets x 1000", with_targets(net_of_graph(text, 1, 1), 1000)
+        name = " ".join(words)
+        for p, q in () if only_far else ((1, 2), (3, 2)):
+            yield name, net_of_graph(text, p, q)
+        yield from far(name, net_of_graph(text, 1, 2))
+
+
+def given(names, only_far):
+    """The networks of files, or these with far targets."""
+    for it in names:
+        with open(it, encoding="ascii") as text:
+            name, net = os.path.basename(it)[:-4], read_net(text.read())
+        yield from far(name, net) if only_far else ((name, net),)
 
 
 def row_of(name, net, room):
@@ -162,13 +201,14 @@ def peer_of(net, room, least, seconds):
     found, is_least, peer_seconds = solved(net, room)
     row = f"{peer_seconds:>8.2f}{seconds / peer_seconds:>8.3f}"
     if not is_least:
-        return f"{row} stopped at {found}"
+        return f"{row} stopped at {'no list' if found is None else found}"
     return row if found == least else f"{row} OTHER LEAST DEVIATION {found}"
 
 
 def main():
-    names = [word for word in sys.argv[1:] if word != "--alone"]
-    has_peer = shutil.which("cbc") and len(names) == len(sys.argv) - 1
+    names = [word for word in sys.argv[1:] if word not in ("--alone", "--far")]
+    only_far = "--far" in sys.argv
+    has_peer = shutil.which("cbc") and "--alone" not in sys.argv
     if not has_peer:
         print("cbc: not measured")
     with open(f"{ROOT}/crates/qm_nets/stdin", "rb") as text:
@@ -178,10 +218,9 @@ def main():
     head += f"{'rounds':>7}{'left':>6}{'sets':>6}{'s':>8}{'MB':>6}{'us/arc':>8}{'read %':>8}{'start %':>8}{'rest %':>8}"
     print(head + f"{'cbc s':>8}{'ratio':>8}" * bool(has_peer))
     with tempfile.TemporaryDirectory() as room:
-        files = ((os.path.basename(it)[:-4], read_net(open(it, encoding="ascii").read())) for it in names)
-        for name, net in files if names else generated(room):
+        for name, net in given(names, only_far) if names else generated(room, only_far):
             row, least, seconds = row_of(name, net, room)
-            if has_peer:
+            if has_peer and is_even(net):
                 row += peer_of(net, room, least, seconds)
             print(row, flush=True)
 
