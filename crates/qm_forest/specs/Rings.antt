@@ -17,6 +17,17 @@ ringed f after joint = record f { nest = record f.nest { after = after; joint = 
 abbrev pub IsRingedAlike : (old new : ForestTables) → Type 0
 IsRingedAlike old new = new ≡ record old { after = new.after; joint = new.joint }
 
+-- A climber from a blossom has come to another, so many steps towards the root.
+pub record HasClimbed (g : Darts) (f : Forest) (b at : Blossom) (count : ℕ) : Type 0 where
+  pub way : at ≡ way_of g f b count
+  pub low : count ≤ level_of g f b
+
+-- So many steps from two blossoms there is one that is on the ways of both to the root.
+pub record AreOnBoth (g : Darts) (f : Forest) (a c : Blossom) (left right : ℕ) : Type 0 where
+  pub met : way_of g f a left ≡ way_of g f c right
+  pub left_low : left ≤ level_of g f a
+  pub right_low : right ≤ level_of g f c
+
 -- The tables are those of a valid forest but for what is laid, and so many steps lead towards the root from a
 -- blossom of its tree.
 abbrev pub MayClimb : (g : Graph) (t : ForestTables) (a : Blossom) (steps : ℕ) → Type 0

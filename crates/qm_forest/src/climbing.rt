@@ -1,11 +1,12 @@
 //! Climbing the tree one blossom at a time, and where two ways to the root meet.
 
-ghost use Rattle.std.specs.Prelude.{◌≡◌, ◌≢◌, ◌*◌, ◌^◌, ◌<◌, ◌≤◌, length, None};
+ghost use Rattle.std.specs.Prelude.{◌≡◌, ◌≢◌, ◌*◌, ◌^◌, ◌<◌, ◌≤◌, ℕ, length, min, Some, None};
 ghost use Rattle.def_matching.specs.Matching.{IsSmallGraph, graph};
 ghost use Rattle.def_forest.specs.Darts.{darts_of, far};
 ghost use Rattle.def_forest.specs.Tables.{forest_of, IsValidFor};
 ghost use Rattle.def_forest.specs.declared.kinds.Label.TheVariants.{Outside};
-ghost use Rattle.forest_laws.specs.Climbing.{rise_of, above_of, level_of, IsClimbing};
+ghost use Rattle.forest_laws.specs.Climbing.{rise_of, above_of, level_of, way_of, IsClimbing};
+ghost use Rattle.qm_forest.specs.Rings.{AreOnBoth, HasClimbed};
 
 use crate::darts::{near, twin};
 use crate::forest::Forest;
@@ -69,21 +70,70 @@ impl Forest {
         }
     }
 
-    /// How many steps it is from a blossom of the tree to the root.
-    fn height(&self, g: &WGraph, b: u32) -> u32
+    /// The blossom so many steps towards the root, or the root where the way is shorter; and how many steps it is.
+    fn climbed(&self, g: &WGraph, b: u32, most: u32) -> (u32, u32)
         requires graph { IsSmallGraph (graph g.now) }
         requires valid { IsValidFor (graph g.now) self.now }
         requires named { (forest_of self.now).label b ≢ Outside }
-        ensures value { result ≡ level_of (darts_of (graph g.now)) (forest_of self.now) b }
-        ensures few { length self.now.up ≤ 2 ^ 26 }
+        ensures way { result.0 ≡ way_of (darts_of (graph g.now)) (forest_of self.now) b result.1 }
+        ensures steps { result.1 ≡ min most (level_of (darts_of (graph g.now)) (forest_of self.now) b) }
     {
         let mut at = b;
         let mut count = 0;
         while let Some(d) = self.rise(at) {
+            if count == most {
+                return (at, count);
+            }
             at = self.reached(g, d);
             count += 1;
         }
-        count
+        (at, count)
+    }
+
+    /// How many steps it is from a blossom of the tree to one towards the root, where it is at most so many.
+    fn steps_to(&self, g: &WGraph, b: u32, goal: u32, most: u32) -> Option<u32>
+        requires graph { IsSmallGraph (graph g.now) }
+        requires valid { IsValidFor (graph g.now) self.now }
+        requires named { (forest_of self.now).label b ≢ Outside }
+        ensures { (k : ℕ) → result ≡ Some k
+            → HasClimbed (darts_of (graph g.now)) (forest_of self.now) b goal k }
+    {
+        let mut at = b;
+        let mut count = 0;
+        while at != goal {
+            match self.rise(at) {
+                Some(d) if count < most => at = self.reached(g, d),
+                _ => return None,
+            }
+            count += 1;
+        }
+        Some(count)
+    }
+
+    /// How many steps it is from two blossoms of the tree to one that is on the ways of both to the root. One climber
+    /// waits, each time twice as far up, and the other looks for it from below, twice as far. So it takes the time of
+    /// the steps to where the ways meet, and not of those to the root.
+    fn meeting(&self, g: &WGraph, a: u32, c: u32) -> (u32, u32)
+        requires graph { IsSmallGraph (graph g.now) }
+        requires valid { IsValidFor (graph g.now) self.now }
+        requires first { (forest_of self.now).label a ≢ Outside }
+        requires second { (forest_of self.now).label c ≢ Outside }
+        ensures both { AreOnBoth (darts_of (graph g.now)) (forest_of self.now) a c result.0 result.1 }
+        ensures few { length self.now.up ≤ 2 ^ 26 }
+    {
+        let mut at = a;
+        let mut left = 0;
+        let mut reach = 2u32;
+        while self.rise(at).is_some() {
+            if let Some(right) = self.steps_to(g, c, at, reach.saturating_mul(2)) {
+                return (left, right);
+            }
+            let (next, steps) = self.climbed(g, at, reach);
+            at = next;
+            left += steps;
+            reach = reach.saturating_mul(2);
+        }
+        (left, self.climbed(g, c, u32::MAX).1)
     }
 
     /// Where the ways from two blossoms of the tree to the root meet: the higher climber goes on.
@@ -96,8 +146,7 @@ impl Forest {
             result.left result.right }
         ensures few { length self.now.up ≤ 2 ^ 26 }
     {
-        let high = self.height(g, a);
-        let low = self.height(g, c);
+        let (high, low) = self.meeting(g, a, c);
         let mut x = a;
         let mut y = c;
         let mut left = 0;

@@ -17,7 +17,7 @@ use def_matching::WGraph;
 
 impl Forest {
     /// The outermost blossoms on the cycle that an edge closes in the tree become one outer blossom of weight 0.
-    /// Takes the time of the two ways from the edge to the root, and of the vertices in the smaller parts.
+    /// Takes the time of the two ways from the edge to where they meet, and of the vertices in the smaller parts.
     pub fn shrink(&mut self, g: &WGraph, e: u32)
         requires graph { IsSmallGraph (graph g.now) }
         requires valid { IsValidFor (graph g.now) self.old }
