@@ -102,6 +102,14 @@ impl Search {
         } }
     {
         let key = self.true_key(g, leaf);
+        self.set_leaf(leaf, key);
+    }
+
+    /// Gives a leaf a key.
+    pub(crate) fn set_leaf(&mut self, leaf: usize, key: u64)
+        requires { leaf < length self.old.tour }
+        ensures { self.new ≡ record self.old { tour = slice_set self.old.tour leaf key } }
+    {
         self.tour.set(leaf, key);
     }
 }

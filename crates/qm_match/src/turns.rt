@@ -102,7 +102,7 @@ impl Search {
         let leaf = self.tour.least_leaf();
         let key = self.true_key(g, leaf);
         if self.tour.key(leaf) != key {
-            self.mend(g, leaf);
+            self.set_leaf(leaf, key);
             return false;
         }
         self.rise_to(g, key);

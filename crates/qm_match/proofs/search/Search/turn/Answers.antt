@@ -1,19 +1,18 @@
-use Rattle.std.proofs.Common.{◌≡◌, ◌≢◌, ◌<◌, ◌≤◌, ◌∙◌, ℕ, length, get_or, sym, subst, ap, arith}
-use Rattle.std.proofs.lemmas.List.{get_or_read}
+use Rattle.std.proofs.Common.{◌≡◌, ◌<◌, ◌∙◌, sym, subst, arith}
+use Rattle.std.proofs.Math.ListN.{set}
 use Rattle.def_matching.specs.Matching.{graph}
 use Rattle.def_forest.specs.Tables.{forest_of}
-use Rattle.search_laws.specs.Keys.{true_key}
-use Rattle.search_laws.specs.Searches.{risen_limit, steps_left}
+use Rattle.search_laws.specs.Searches.{steps_left}
 use Rattle.search_laws.proofs.Counted.{fewer_turns}
 use Rattle.search_laws.proofs.Risen.{key_high}
-use Rattle.qm_match.proofs.Turned.{mended_fewer, mended_way, risen_few, soon}
+use Rattle.qm_match.proofs.Turned.{mended_fewer, mended_way, risen_few}
 use Rattle.qm_match.proofs.search.Search.turn.Goals as goal
 
 pub returns-then-key-clause-way : goal.returns-then-key-clause-way
-returns-then-key-clause-way c = λ e. mended_way (graph c.args.g.now) c.args.self.now c.mend.new.self c.least_leaf-leaf.result c.requires.way c.least_leaf-leaf.ensures.low c.mend.ensures
+returns-then-key-clause-way c = λ e. mended_way (graph c.args.g.now) c.args.self.now c.set_leaf.new.self c.least_leaf-leaf.result c.requires.way c.least_leaf-leaf.ensures.low (subst (λ key. c.set_leaf.new.self ≡ record c.args.self.now { tour = set c.args.self.now.tour c.least_leaf-leaf.result key }) c.true_key-key.ensures c.set_leaf.ensures)
 
 pub returns-then-key-clause-fewer : goal.returns-then-key-clause-fewer
-returns-then-key-clause-fewer c = λ e. mended_fewer (graph c.args.g.now) c.args.self.now c.mend.new.self c.least_leaf-leaf.result c.least_leaf-leaf.ensures.low (λ same. c.if-key.true (c.key.ensures ∙ (same ∙ sym c.true_key-key.ensures))) c.mend.ensures
+returns-then-key-clause-fewer c = λ e. mended_fewer (graph c.args.g.now) c.args.self.now c.set_leaf.new.self c.least_leaf-leaf.result c.least_leaf-leaf.ensures.low (λ same. c.if-key.true (c.key.ensures ∙ (same ∙ sym c.true_key-key.ensures))) (subst (λ key. c.set_leaf.new.self ≡ record c.args.self.now { tour = set c.args.self.now.tour c.least_leaf-leaf.result key }) c.true_key-key.ensures c.set_leaf.ensures)
 
 pub rise_to-requires-clause-high : goal.rise_to-requires-clause-high
 rise_to-requires-clause-high c = omega (arith, c.true_key-key.ensures, key_high (graph c.args.g.now) (forest_of c.args.self.now.forest) c.args.self.now.risen c.least_leaf-leaf.result (omega (arith, risen_few (graph c.args.g.now) c.args.self.now c.requires.way.tree.0 c.requires.way.tree.1 c.requires.way c.requires.known)))
