@@ -28,4 +28,4 @@ mod writing;
 
 pub use darts::{near, twin};
 pub use forest::Forest;
-pub use start::Memory;
+pub use start::{Memory, greatest_cost, least_costs};

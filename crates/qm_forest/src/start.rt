@@ -7,7 +7,7 @@ ghost use Rattle.def_matching.specs.Matching.{graph, edge_at, IsSmallGraph, Vert
 ghost use Rattle.def_forest.specs.Forests.{Blossom};
 ghost use Rattle.def_forest.specs.Tables.{forest_of, IsValidFor};
 ghost use Rattle.def_forest.specs.declared.kinds.Label.TheVariants.{Outside};
-ghost use Rattle.qm_forest.specs.Ties.{AreFeasible, AreStarts, HasLowCosts, IsCounted, IsGreatestTo, IsLowered};
+ghost use Rattle.qm_forest.specs.Ties.{AreFeasible, AreStarts, IsCounted, IsLowered};
 
 use crate::darts::{edge_of, near};
 use crate::forest::Forest;
@@ -38,7 +38,7 @@ impl Forest {
     {
         let most = greatest_cost(g);
         let lows = least_costs(alloc, g, most)?;
-        single_vertices(alloc, g, lows)
+        Forest::new_from(alloc, g, &lows)
     }
 
     /// A forest without matching, sets and tree. The weights of the vertices are given: a feasible dual.
@@ -107,10 +107,12 @@ fn dart_starts(alloc: Global, g: &WGraph) -> Result<Vec<u32>, Memory>
 }
 
 /// The greatest cost, up or down.
-fn greatest_cost(g: &WGraph) -> u64
+pub fn greatest_cost(g: &WGraph) -> u64
     requires graph { IsSmallGraph (graph g.now) }
     requires costs { (e : ℕ) → e < length g.now.edges.items → unsigned_abs (edge_at (graph g.now) e).cost ≤ 2 ^ 60 }
-    ensures { IsGreatestTo (graph g.now) (length g.now.edges.items) result }
+    ensures above { (e : ℕ) → e < length g.now.edges.items → unsigned_abs (edge_at (graph g.now) e).cost ≤ result }
+    ensures least { (c : ℕ) → ((e : ℕ) → e < length g.now.edges.items → unsigned_abs (edge_at (graph g.now) e).cost ≤ c)
+        → result ≤ c }
 {
     let mut most = 0;
     for e in 0..g.edges.len() {
@@ -229,23 +231,29 @@ fn empty_pool(alloc: Global, room: usize) -> Result<Pool, Memory>
     Ok(pool)
 }
 
-/// The least cost at each vertex, or where it has no edge, the greatest one.
-fn least_costs(alloc: Global, g: &WGraph, most: u64) -> Result<Vec<i128>, Memory>
+/// The least cost at each vertex, or where it has no edge, the greatest one: a feasible dual.
+pub fn least_costs(alloc: Global, g: &WGraph, most: u64) -> Result<Vec<i64>, Memory>
     requires graph { IsSmallGraph (graph g.now) }
     requires costs { (e : ℕ) → e < length g.now.edges.items → unsigned_abs (edge_at (graph g.now) e).cost ≤ most }
-    ensures { IfOk result (λ lows. HasLowCosts (graph g.now) most (length g.now.edges.items) lows.items) }
+    requires few { most ≤ 2 ^ 60 }
+    ensures numbers { IfOk result (λ lows. length lows.items ≡ g.now.n) }
+    ensures small { IfOk result (λ lows. (v : Vertex) → unsigned_abs (slice_index_or lows.items v (pos 0)) ≤ most) }
+    ensures feasible { IfOk result (λ lows. (e : ℕ) → e < length g.now.edges.items
+        → (slice_index_or lows.items (edge_at (graph g.now) e).u (pos 0)
+        +ℤ slice_index_or lows.items (edge_at (graph g.now) e).v (pos 0))
+        ≤ℤ (pos 2 *ℤ (edge_at (graph g.now) e).cost)) }
 {
-    let mut lows = vec![in alloc; i128::from(most); g.n as usize]?;
+    let mut lows = vec![in alloc; most as i64; g.n as usize]?;
     for e in 0..g.edges.len() as u32 {
         let edge = edge_of(g, e);
-        lower(&mut lows, edge.u, i128::from(edge.cost));
-        lower(&mut lows, edge.v, i128::from(edge.cost));
+        lower(&mut lows, edge.u, edge.cost);
+        lower(&mut lows, edge.v, edge.cost);
     }
     Ok(lows)
 }
 
 /// Lowers a number to another, if that is less.
-fn lower(numbers: &mut Vec<i128>, place: u32, most: i128)
+fn lower(numbers: &mut Vec<i64>, place: u32, most: i64)
     requires { place < length numbers.old.items }
     ensures { IsLowered numbers.old.items numbers.new.items place most }
 {

@@ -4,5 +4,6 @@ mod Refreshed
 mod Taken
 mod Turned
 mod Ready
+mod Raised
 pub mod Outcomes
 pub mod Edges

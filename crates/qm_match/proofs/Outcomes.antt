@@ -1,5 +1,5 @@
 -- What a match begins with, and what has come of it.
-use Rattle.std.proofs.Common.{◌≡◌, ℕ, zero, suc, ◌+◌, ◌*◌, ◌/◌, ◌<◌, ◌≤◌, ◌^◌, List, [], ◌∷◌, length, get_or, Option, None, ℤ, pos, ◌+ℤ◌, ◌*ℤ◌, ◌≤ℤ◌, ◌⊎◌, refl, sym, ◌∙◌, ap, subst, inl, inr, arith}
+use Rattle.std.proofs.Common.{◌≡◌, ℕ, zero, suc, ◌+◌, ◌*◌, ◌/◌, ◌<◌, ◌≤◌, ◌^◌, List, [], ◌∷◌, length, get_or, None, ℤ, pos, ◌+ℤ◌, ◌*ℤ◌, ◌≤ℤ◌, ◌⊎◌, sym, ◌∙◌, ap, subst, inl, inr, arith}
 use Rattle.std.specs.Int.RustNames.{unsigned_abs}
 use Rattle.std.proofs.lemmas.Int.{ints}
 use Rattle.std.proofs.lemmas.Bool.{cases_lt}
@@ -8,9 +8,7 @@ use Rattle.def_math.specs.Rising.{IsRising}
 use Rattle.def_matching.specs.Matching.{Graph, IsCheap, IsSmallGraph, edge_at}
 use Rattle.def_matching.specs.Dual.{DualLists, IsSmallDual, SaysYes, dual_sum, verdict}
 use Rattle.def_matching.specs.declared.limits.TheConstants.{MAX_PRODUCT}
-use Rattle.def_matching.specs.declared.weighted.Verdict.{Verdict}
 use Rattle.def_matching.specs.declared.weighted.Verdict.TheVariants.{Yes}
-use Rattle.def_forest.specs.Forests.{Forest}
 use Rattle.def_forest.specs.Tables.{ForestTables, forest_of, IsValidFor}
 use Rattle.def_forest.specs.Written.{IsDualOf}
 use Rattle.def_match.specs.Made.{AreAtMost, AreCostsBelow, AreFirst, IsMadeFor, MAX_FIRST}
@@ -18,6 +16,7 @@ use Rattle.qm_dual.proofs.Verdicts.{says_yes}
 use Rattle.qm_initial.specs.declared.initial.TheConstants.{MAX_WISH}
 use Rattle.search_laws.proofs.Risen.{greatest, small_weights, weights_most}
 use Rattle.qm_match.specs.States.{HasPerfect, IsIdle, IsReady}
+use Rattle.qm_match.specs.Weights.{HaveRoom}
 use Rattle.qm_match.specs.declared.search.Search.{Search}
 
 -- The numbers of a rising list are below its bound.
@@ -49,6 +48,17 @@ made_least g t u same valid none size sets small = subst (λ (s : ForestTables).
   small = λ cheap b. (let w : (most : ℕ) × ((e : ℕ) → e < length g.edges → unsigned_abs (edge_at g e).cost ≤ most) × (g.n * most ≤ MAX_PRODUCT) = greatest g cheap in
       omega (arith, times_low g.n (unsigned_abs ((forest_of t).weight b)) w.0 (small w.0 w.1 b), w.2));
 })
+
+-- A forest whose weights are the raised costs.
+pub made_raised : (g : Graph) (y : List ℤ) (t u : ForestTables) → AreCostsBelow g (2 ^ 60) → ((most : ℕ) → AreCostsBelow g most → HaveRoom g most y) → u ≡ t → IsValidFor g t → t.root ≡ None → length t.up ≡ g.n + g.n / 2 → ((b : ℕ) → (forest_of t).weight b ≡ get_or y b (pos 0))
+    → IsMadeFor g u × ((most : ℕ) → AreCostsBelow g most → (b : ℕ) → unsigned_abs ((forest_of u).weight b) ≤ most)
+made_raised g y t u costs have same valid none size weights = (made_least g t u same valid none size sets small, subst (λ (s : ForestTables). (most : ℕ) → AreCostsBelow g most → (b : ℕ) → unsigned_abs ((forest_of s).weight b) ≤ most) (sym same) small)
+  where
+    sets : (b : ℕ) → g.n ≤ b → (forest_of t).weight b ≡ pos 0
+    sets b high = weights b ∙ get_or_past y b (pos 0) (omega (arith, high, (have (2 ^ 60) costs).long))
+
+    small : (most : ℕ) → AreCostsBelow g most → (b : ℕ) → unsigned_abs ((forest_of t).weight b) ≤ most
+    small most below b = subst (λ (w : ℤ). unsigned_abs w ≤ most) (sym (weights b)) ((have most below).small b)
 
 -- A forest whose weights were given.
 pub made_first : (g : Graph) (y : List ℤ) (t u : ForestTables) → AreFirst g y → u ≡ t → IsValidFor g t → t.root ≡ None → length t.up ≡ g.n + g.n / 2 → ((b : ℕ) → (forest_of t).weight b ≡ get_or y b (pos 0)) → IsMadeFor g u

@@ -1,2 +1,3 @@
 pub mod Fans
 pub mod States
+pub mod Weights

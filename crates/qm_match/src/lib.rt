@@ -12,6 +12,7 @@ mod steps;
 #[cfg(test)]
 mod tests;
 mod turns;
+mod weights;
 
 pub use matcher::{Matcher, best, best_from, best_near};
 pub use perfect::is_perfect;

@@ -9,8 +9,10 @@ ghost use Rattle.def_forest.specs.Tables.{forest_of};
 ghost use Rattle.def_match.specs.Made.{AreAtMost, AreCostsBelow, AreFirst, IsMadeFor};
 
 use crate::Memory;
+use crate::fans::fans_of;
 use crate::search::Search;
 use crate::start::search_of;
+use crate::weights::first_weights;
 use def_matching::{Dual, Verdict, WGraph};
 use qm_forest::Forest;
 use qm_initial::{MAX_WISH, initial_dual};
@@ -35,7 +37,8 @@ impl Model for Matcher {
 }
 
 impl Matcher {
-    /// Takes all memory of a match. The first weights are the least costs.
+    /// Takes all memory of a match. The first weights are the least costs, raised as far as the edges at each vertex
+    /// allow, and at most to the greatest cost.
     pub fn new(alloc: Global, g: &WGraph) -> Result<Matcher, Memory>
         requires graph { IsSmallGraph (graph g.now) }
         requires costs { (e : ℕ) → e < length g.now.edges.items → unsigned_abs (edge_at (graph g.now) e).cost ≤ 2 ^ 60 }
@@ -43,8 +46,11 @@ impl Matcher {
         ensures small { IfOk result (λ m. (most : ℕ) → AreCostsBelow (graph g.now) most
             → (b : Blossom) → unsigned_abs ((forest_of m).weight b) ≤ most) }
     {
-        let forest = Forest::new(alloc, g)?;
-        let search = search_of(alloc, g, forest)?;
+        let fans = fans_of(alloc, g)?;
+        let y = first_weights(alloc, g, &fans)?;
+        let forest = Forest::new_from(alloc, g, &y)?;
+        drop(y);
+        let search = search_of(alloc, g, forest, fans)?;
         Ok(Matcher { search })
     }
 
@@ -55,7 +61,8 @@ impl Matcher {
         ensures made { IfOk result (λ m. IsMadeFor (graph g.now) m) }
     {
         let forest = Forest::new_from(alloc, g, y)?;
-        let search = search_of(alloc, g, forest)?;
+        let fans = fans_of(alloc, g)?;
+        let search = search_of(alloc, g, forest, fans)?;
         Ok(Matcher { search })
     }
 

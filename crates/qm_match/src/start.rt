@@ -3,10 +3,11 @@
 ghost use Rattle.std.specs.Prelude.{◌≡◌, ◌<◌, ◌+◌, ◌/◌, ℕ, length, slice_index, true, IfOk};
 ghost use Rattle.def_matching.specs.Matching.{graph, IsSmallGraph};
 ghost use Rattle.def_forest.specs.Tables.{forest_of, IsValidFor};
+ghost use Rattle.qm_match.specs.Fans.{AreFans};
 ghost use Rattle.qm_match.specs.States.{IsFreeEdge, IsIdle, IsReady};
 
 use crate::Memory;
-use crate::fans::fans_of;
+use crate::fans::Fans;
 use crate::search::Search;
 use def_matching::WGraph;
 use qm_forest::Forest;
@@ -14,8 +15,14 @@ use qm_tour::Tour;
 use std::alloc::Global;
 
 /// The tables of the searches in a forest of single vertices.
-pub(crate) fn search_of(alloc: Global, g: &WGraph, forest: Forest) -> Result<Search, Memory>
+pub(crate) fn search_of(
+    alloc: Global,
+    g: &WGraph,
+    forest: Forest,
+    fans: Fans,
+) -> Result<Search, Memory>
     requires graph { IsSmallGraph (graph g.now) }
+    requires fans { AreFans (graph g.now) fans.first.items fans.next.items }
     requires valid { IsValidFor (graph g.now) forest }
     requires size { length forest.up ≡ g.now.n + g.now.n / 2 }
     ensures ready { IfOk result (λ s. IsReady s) }
@@ -26,7 +33,7 @@ pub(crate) fn search_of(alloc: Global, g: &WGraph, forest: Forest) -> Result<Sea
         tour: Tour::new(alloc, g.edges.len() + (n / 2 + 1))?,
         risen: 0,
         first: forest.greatest_weight(),
-        fans: fans_of(alloc, g)?,
+        fans,
         inner: vec![in alloc; false; n + n / 2]?,
         members: Vec::with_capacity(alloc, n)?,
         parts: Vec::with_capacity(alloc, n)?,

@@ -1,4 +1,4 @@
-use Rattle.std.proofs.Common.{◌≡◌, ◌+◌, ◌-◌, ◌*◌, ◌/◌, ◌^◌, ◌<◌, ◌≤◌, ◌∙◌, ℕ, length, get_or, replicate, refl, sym, subst, ap, arith}
+use Rattle.std.proofs.Common.{◌≡◌, ◌+◌, ◌-◌, ◌/◌, ◌^◌, ◌≤◌, ◌∙◌, length, get_or, refl, sym, subst, ap, arith}
 use Rattle.std.proofs.lemmas.Grind.{get_or_default_zero}
 use Rattle.std.proofs.lemmas.List.{length-replicate}
 use Rattle.def_matching.specs.Matching.{graph}
@@ -12,11 +12,11 @@ returns-clause-ready c =
     let size : length c.in_ok-new.field-0 ≡ c.len.result + (c.args.g.now.n / 2 + 1) = ap length c.in_ok-new.ensures ∙ length-replicate (c.len.result + (c.args.g.now.n / 2 + 1)) (2 ^ 64 - 1) in
     let halves : length c.args.forest.hand / 2 ≡ c.args.g.now.n / 2 = ap (λ n. n / 2) c.requires.valid.vertices in
     record {
-      vertices = c.in_ok-fans_of.ensures.vertices ∙ sym c.requires.valid.vertices;
-      darts = c.in_ok-fans_of.ensures.darts ∙ sym c.requires.valid.darts;
-      firsts = λ v. subst (λ n. get_or c.in_ok-fans_of.field-0.first.items v 0 ≤ n) (sym c.requires.valid.darts) (c.in_ok-fans_of.ensures.firsts v);
-      nexts = c.in_ok-fans_of.ensures.nexts;
-      all = chains_ready (graph c.args.g.now) c.args.forest c.in_ok-fans_of.field-0.first.items c.in_ok-fans_of.field-0.next.items c.in_ok-fans_of.ensures c.requires.valid;
+      vertices = c.requires.fans.vertices ∙ sym c.requires.valid.vertices;
+      darts = c.requires.fans.darts ∙ sym c.requires.valid.darts;
+      firsts = λ v. subst (λ n. get_or c.args.fans.first.items v 0 ≤ n) (sym c.requires.valid.darts) (c.requires.fans.firsts v);
+      nexts = c.requires.fans.nexts;
+      all = chains_ready (graph c.args.g.now) c.args.forest c.args.fans.first.items c.args.fans.next.items c.requires.fans c.requires.valid;
       leaves = omega (arith, size, many, halves, c.requires.valid.darts);
       marks = subst (λ n. length c.in_ok-vec.field-0.items ≡ n + n / 2) (sym c.requires.valid.vertices) (omega (arith, c.in_ok-vec.ensures.len, c.in_ok-vec.field-0.ok.0));
       members = omega (arith, c.in_ok-with_capacity.ensures.capacity, c.requires.valid.vertices);

@@ -1,0 +1,14 @@
+use Rattle.std.proofs.Common.{◌≡◌, ℤ, refl, subst, sym, arith}
+use Rattle.std.proofs.lemmas.Int.{ints, to_z-of_z}
+use Rattle.def_matching.specs.Matching.{graph}
+use Rattle.qm_match.specs.Weights.{IsRoom}
+use Rattle.qm_match.proofs.Raised.{raised_room}
+use Rattle.qm_match.proofs.weights.raise.Goals as goal
+use mir.Val.{to_z, of_z}
+use mir.Syntax.{w64}
+
+pub returns-then-y-v : goal.returns-then-y-v
+returns-then-y-v c =
+    let kept : to_z w64 (of_z w64 c.room_at-room.result) ≡ c.room_at-room.result = to_z-of_z w64 c.room_at-room.result (record { sfits = c.room_at-room.type_inv }) in
+    raised_room (graph c.args.g.now) c.requires.graph.lawful c.args.most c.args.y.now c.requires.room c.args.v c.requires.vertex _ (subst (λ (z : ℤ). IsRoom (graph c.args.g.now) c.args.most c.args.y.now c.args.v z) (sym kept) c.room_at-room.ensures)
+    (omega (arith, ints, c.if-y-v.true, kept, c.requires.room.small c.args.v, c.requires.few)) _ refl
