@@ -1,10 +1,9 @@
 -- Where all blossoms are matched, the edges that are chosen are a perfect matching, and twice its cost is the sum.
-use Rattle.std.proofs.Common.{◌≡◌, ◌≢◌, ℕ, zero, suc, ◌+◌, ◌*◌, ◌<◌, ◌≤◌, Bool, true, false, cond, List, [], ◌∷◌, map, length, get_or, ℤ, pos, ◌+ℤ◌, ◌*ℤ◌, Option, Some, None, ◌⊎◌, refl, sym, ◌∙◌, ap, subst, inl, inr, arith}
+use Rattle.std.proofs.Common.{◌≡◌, ◌≢◌, ℕ, suc, ◌*◌, ◌<◌, ◌≤◌, Bool, true, false, cond, List, [], ◌∷◌, map, length, get_or, ℤ, pos, ◌+ℤ◌, ◌*ℤ◌, Option, None, ◌⊎◌, refl, sym, ◌∙◌, ap, subst, inl, inr, arith}
 use Rattle.std.proofs.lemmas.Int.{ints}
 use Rattle.std.proofs.lemmas.Bool.{cases_eq, cases_lt}
-use Rattle.def_math.specs.Counts.{count}
 use Rattle.def_math.specs.Rising.{IsRising}
-use Rattle.def_math.specs.Sums.{total, total_below}
+use Rattle.def_math.specs.Sums.{total}
 use Rattle.qm_laws.proofs.Sums.{total_below_same, two_orders}
 use Rattle.def_matching.specs.Matching.{Graph, IsSmallGraph, IsPerfect, edge_at, matching_cost}
 use Rattle.def_matching.specs.Dual.{crosses}

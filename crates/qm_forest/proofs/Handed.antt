@@ -1,8 +1,8 @@
 -- What a forest hands out, whose room was taken out before.
-use Rattle.std.proofs.Common.{◌≡◌, ◌≢◌, ℕ, ◌*◌, ◌<◌, ◌≤◌, List, length, Option, Some, None, pos, ◌*ℤ◌, refl, sym, ◌∙◌, ap, subst}
+use Rattle.std.proofs.Common.{◌≡◌, ◌≢◌, ℕ, ◌*◌, ◌<◌, ◌≤◌, List, length, Option, Some, None, pos, ◌*ℤ◌, sym, ◌∙◌, ap, subst}
 use Rattle.def_matching.specs.Matching.{Graph, IsSmallGraph, IsPerfect, matching_cost}
 use Rattle.def_matching.specs.Dual.{DualLists, SaysYes, dual_sum}
-use Rattle.def_forest.specs.Tables.{ForestTables, GraphSize, forest_of, IsValidFor, size_of}
+use Rattle.def_forest.specs.Tables.{ForestTables, GraphSize, forest_of, IsValidFor}
 use Rattle.def_forest.specs.Written.{IsDualOf}
 use Rattle.qm_forest.specs.Outlines.{IsChosen, IsOutline}
 use Rattle.qm_forest.specs.Rounds.{AreMarked, IsLaminar, IsSoundFor}

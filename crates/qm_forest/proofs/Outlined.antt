@@ -1,12 +1,9 @@
 -- A forest that is written down as a dual: the sets hold what they held, and the dual says yes.
-use Rattle.std.proofs.Common.{◌≡◌, ◌≢◌, ℕ, zero, suc, ◌+◌, ◌-◌, ◌*◌, ◌%◌, ◌<◌, ◌≤◌, Bool, true, false, not, cond, eqb, ◌&&◌, ◌||◌, List, [], ◌∷◌, length, get_or, ℤ, pos, ◌+ℤ◌, ◌*ℤ◌, ◌≤ℤ◌, ◌⊎◌, refl, sym, ◌∙◌, ap, subst, inl, inr, arith}
+use Rattle.std.proofs.Common.{◌≡◌, ◌≢◌, ℕ, zero, suc, ◌+◌, ◌-◌, ◌*◌, ◌%◌, ◌<◌, ◌≤◌, Bool, true, false, not, cond, eqb, ◌&&◌, ◌||◌, List, length, get_or, ℤ, pos, ◌+ℤ◌, ◌*ℤ◌, ◌≤ℤ◌, ◌⊎◌, refl, sym, ◌∙◌, ap, subst, inl, inr, arith}
 use Rattle.std.specs.Prelude.{nat_lt, nat_le}
 use Rattle.std.specs.List.{list_any}
 use Rattle.std.proofs.lemmas.Int.{ints}
-use Rattle.std.proofs.lemmas.Bool.{cases_Bool, cases_eq, cases_lt, cond-false, cond-true, eq-eqb, eqb-true, le-leb, le-ltb, lt-ltb, ne_eqb}
-use Rattle.std.proofs.lemmas.Bool.Decides.{nat_tests}
-use Rattle.std.proofs.lemmas.List.{get_or_past}
-use Rattle.def_math.specs.Counts.{count_below}
+use Rattle.std.proofs.lemmas.Bool.{cases_eq, cases_lt, cond-false, cond-true, eq-eqb, eqb-true, le-leb, le-ltb, lt-ltb, ne_eqb}
 use Rattle.def_math.specs.Sums.{total, total_below}
 use Rattle.qm_laws.proofs.Counts.{count_below_same}
 use Rattle.qm_laws.proofs.Entries.{total_entries}
@@ -17,12 +14,12 @@ use Rattle.def_matching.specs.Dual.{DualLists, SaysYes, IsNested, crosses, dual_
 use Rattle.def_forest.specs.Darts.{AreDarts, darts_of}
 use Rattle.def_forest.specs.Forests.{Forest, dual_sum_of, load, number, splits, vertices_in, walk}
 use Rattle.def_forest.specs.Tables.{ForestTables, forest_of, climbs, up_at}
-use Rattle.def_forest.specs.Written.{IsDualOf, IsSetOf}
+use Rattle.def_forest.specs.Written.{IsDualOf}
 use Rattle.forest_laws.proofs.Graphs.{are_darts, dart_cost, dart_far, dart_near}
 use Rattle.forest_laws.proofs.Odds.{large_set, odd_blossom}
-use Rattle.forest_laws.proofs.Writes.{by_two, true_false}
+use Rattle.forest_laws.proofs.Writes.{by_two}
 use Rattle.qm_forest.specs.Outlines.{IsOutline, entry_of, set_in}
-use Rattle.qm_forest.specs.Rounds.{IsLaminar, IsSoundFor, within}
+use Rattle.qm_forest.specs.Rounds.{IsLaminar, IsSoundFor}
 use Rattle.qm_forest.proofs.Laminars.{alone}
 use Rattle.qm_forest.proofs.Nests.{climbs_place}
 use Rattle.qm_forest.proofs.Orders.{place_of, set_low, sized, sum_parts}

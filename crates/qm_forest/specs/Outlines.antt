@@ -1,5 +1,5 @@
 -- Writing a forest down: its sets in an order, their names, and what names the set around a blossom.
-use Rattle.std.specs.Prelude.{◌≡◌, ℕ, suc, ◌+◌, ◌*◌, ◌/◌, ◌<◌, ◌≤◌, ◌==◌, ◌≢◌, false, if◌then◌else◌, List, length}
+use Rattle.std.specs.Prelude.{◌≡◌, ℕ, suc, ◌+◌, ◌/◌, ◌<◌, ◌≤◌, ◌==◌, ◌≢◌, false, if◌then◌else◌, List, length}
 use Rattle.std.specs.Prelude.{slice_index, slice_index_or, replicate, None, ℤ, pos}
 use Rattle.def_matching.specs.Dual.{DualLists}
 use Rattle.def_forest.specs.Forests.{Blossom}

@@ -1,8 +1,7 @@
 -- Marks and keys that are made right.
-use Rattle.std.proofs.Common.{◌≡◌, ◌≢◌, ℕ, ◌+◌, ◌-◌, ◌*◌, ◌/◌, ◌<◌, ◌≤◌, Bool, true, false, List, length, get_or, ◌⊎◌, refl, sym, ◌∙◌, ap, subst, inl, inr, arith}
+use Rattle.std.proofs.Common.{◌≡◌, ◌≢◌, ℕ, ◌*◌, ◌<◌, ◌≤◌, length, get_or, ◌⊎◌, refl, sym, ◌∙◌, ap, subst}
 use Rattle.std.specs.Vec.{vec_capacity}
 use Rattle.def_matching.specs.Matching.{Graph}
-use Rattle.def_forest.specs.Forests.{Forest}
 use Rattle.def_forest.specs.Tables.{ForestTables, forest_of, IsValidFor}
 use Rattle.def_forest.specs.declared.kinds.Label.TheVariants.{Inner}
 use Rattle.search_laws.specs.Keys.{leaf_of, true_key, AreRightAt, IsMended}

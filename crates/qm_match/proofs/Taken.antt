@@ -1,6 +1,5 @@
 -- A step that is taken, and the keys that are mended after it.
-use Rattle.std.proofs.Common.{◌≡◌, ◌≢◌, ℕ, zero, suc, ◌+◌, ◌-◌, ◌*◌, ◌/◌, ◌%◌, ◌<◌, ◌≤◌, ◌^◌, Bool, true, false, cond, List, length, get_or, Option, Some, None, pos, ◌⊎◌, refl, sym, ◌∙◌, ap, subst, inl, inr, arith}
-use Rattle.std.specs.Int.RustNames.{unsigned_abs}
+use Rattle.std.proofs.Common.{◌≡◌, ◌≢◌, ℕ, zero, suc, ◌*◌, ◌%◌, ◌<◌, ◌≤◌, Bool, true, false, cond, List, length, get_or, Option, Some, None, ◌⊎◌, refl, sym, ◌∙◌, ap, subst, inl, inr, arith}
 use Rattle.std.specs.Vec.{vec_capacity}
 use Rattle.std.proofs.Math.ListN.{set}
 use Rattle.std.proofs.lemmas.Bool.{cases_eq, cases_lt}
@@ -10,9 +9,9 @@ use Rattle.def_forest.specs.Darts.{darts_of, far}
 use Rattle.def_forest.specs.Forests.{Forest, IsOutermost, set_at, walk, number, ring_sum, vertices_in}
 use Rattle.def_math.specs.Counts.{count_below}
 use Rattle.qm_laws.proofs.Counts.{count_below_le, count_below_ones, count_below_same}
-use Rattle.def_forest.specs.Opened.{Opening, IsOpening, IsOpened, IsExpanding}
+use Rattle.def_forest.specs.Opened.{IsExpanding}
 use Rattle.def_forest.specs.Shrunk.{IsShrinking}
-use Rattle.def_forest.specs.Steps.{grown, rooted, IsGrown, IsAugmented}
+use Rattle.def_forest.specs.Steps.{grown, rooted, IsAugmented}
 use Rattle.def_forest.specs.Tables.{ForestTables, forest_of, kind_of, outer_dart, IsValidFor}
 use Rattle.def_forest.specs.Ways.{Reaches}
 use Rattle.def_forest.specs.declared.kinds.EdgeKind.TheVariants.{Grow}
@@ -22,7 +21,7 @@ use Rattle.forest_laws.proofs.Graphs.{are_darts, dart_near}
 use Rattle.forest_laws.proofs.Odds.{IsBlossom, counts_exchanged, odd_blossom, part_used}
 use Rattle.forest_laws.proofs.Facts.{far_low, tree_of}
 use Rattle.forest_laws.proofs.Writes.{set_here, set_there, inner_named, true_false}
-use Rattle.search_laws.specs.Keys.{no_key, leaf_of, true_key, AreLow, AreRightAt, IsMended}
+use Rattle.search_laws.specs.Keys.{leaf_of, true_key, AreLow, AreRightAt, IsMended}
 use Rattle.search_laws.specs.Searches.{AreMarked, AreMatchedBefore, IsInRange, IsSeeking, steps_left}
 use Rattle.search_laws.proofs.Counted.{grown_fewer, shrunk_fewer, opened_fewer}
 use Rattle.search_laws.proofs.Kept.{IsTurned, stay_low, idle_low, true_key_low, held_out, rooted_turned, grown_turned, shrunk_turned, opened_turned, shrunk_on, shrunk_set, shrunk_inner, opened_inner}

@@ -1,25 +1,22 @@
 -- A shift by the least key, and a turn of a search.
-use Rattle.std.proofs.Common.{◌≡◌, ◌≢◌, ℕ, ◌+◌, ◌-◌, ◌*◌, ◌/◌, ◌^◌, ◌<◌, ◌≤◌, List, length, get_or, Option, Some, ℤ, pos, ◌≤ℤ◌, ◌⊎◌, refl, sym, ◌∙◌, ap, subst, inl, inr, arith}
+use Rattle.std.proofs.Common.{◌≡◌, ◌≢◌, ℕ, ◌+◌, ◌-◌, ◌^◌, ◌<◌, ◌≤◌, List, length, get_or, Option, Some, pos, refl, sym, ◌∙◌, ap, subst, inl, inr, arith}
 use Rattle.std.specs.Int.RustNames.{unsigned_abs}
-use Rattle.std.proofs.lemmas.Int.{ints}
-use Rattle.std.proofs.lemmas.Bool.{cases_lt}
-use Rattle.def_matching.specs.Matching.{Graph, IsGraph, IsPerfect}
+use Rattle.def_matching.specs.Matching.{Graph}
 use Rattle.def_forest.specs.Darts.{darts_of}
 use Rattle.def_forest.specs.Forests.{Forest}
 use Rattle.def_forest.specs.Steps.{shifted}
 use Rattle.def_forest.specs.Tables.{ForestTables, forest_of, IsValidFor}
-use Rattle.def_forest.specs.Valid.{IsFeasible, IsTree, IsValid}
-use Rattle.def_forest.specs.declared.kinds.Label.TheVariants.{Outer}
+use Rattle.def_forest.specs.Valid.{IsFeasible, IsValid}
 use Rattle.std.proofs.Math.ListN.{set}
 use Rattle.def_forest.specs.declared.kinds.EdgeKind.{EdgeKind}
 use Rattle.def_forest.specs.declared.kinds.EdgeKind.TheVariants.{Loose, Idle}
-use Rattle.search_laws.specs.Keys.{true_key, AreLow, IsMended}
+use Rattle.search_laws.specs.Keys.{true_key, IsMended}
 use Rattle.search_laws.proofs.Counted.{fewer_stale}
 use Rattle.search_laws.proofs.Stepped.{IsStep}
-use Rattle.search_laws.specs.Searches.{AreMarked, IsInRange, IsSeeking, risen_limit, turns_left}
+use Rattle.search_laws.specs.Searches.{IsInRange, IsSeeking, risen_limit, turns_left}
 use Rattle.search_laws.proofs.Keys.{keys_same, lawful}
-use Rattle.search_laws.proofs.Risen.{key_high, key_soon, reach_low, risen_low, range_shifted, small_weights}
-use Rattle.qm_match.specs.States.{GoesOn, HasPerfect, IsMade, IsUnderWay}
+use Rattle.search_laws.proofs.Risen.{key_soon, risen_low, range_shifted}
+use Rattle.qm_match.specs.States.{GoesOn, HasPerfect, IsUnderWay}
 use Rattle.qm_match.specs.declared.search.Search.{Search}
 use Rattle.qm_match.proofs.Mended.{made_with, mended_one}
 

@@ -1,4 +1,4 @@
-use Rattle.std.proofs.Common.{◌≡◌, ℕ, ◌+◌, ◌<◌, ◌≤◌, get_or, length}
+use Rattle.std.proofs.Common.{◌≡◌, ◌≤◌, length}
 use Rattle.std.specs.Vec.{vec_capacity}
 use Rattle.def_forest.specs.Tables.{up_at}
 use Rattle.qm_forest.specs.Outlines.{AreEntries}

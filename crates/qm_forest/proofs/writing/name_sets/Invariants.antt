@@ -1,5 +1,4 @@
-use Rattle.std.proofs.Common.{◌≡◌, ℕ, ◌+◌, ◌<◌, ◌≤◌, get_or, length}
-use Rattle.std.specs.Vec.{vec_capacity}
+use Rattle.std.proofs.Common.{◌≡◌, length}
 use Rattle.qm_forest.specs.Outlines.{AreNames}
 use Rattle.qm_forest.proofs.writing.name_sets.Given as goal
 

@@ -2,7 +2,6 @@ use Rattle.std.proofs.Common.{◌≡◌, ◌+◌, ◌*◌, ◌<◌, ◌∙◌, l
 use Rattle.std.proofs.lemmas.List.{get_or_read}
 use Rattle.def_matching.specs.Matching.{graph, edge_at}
 use Rattle.def_matching.specs.declared.weighted.WEdge.{WEdge}
-use Rattle.def_forest.specs.Darts.{darts_of}
 use Rattle.forest_laws.proofs.Graphs.{dart_near, near_odd}
 use Rattle.qm_match.specs.Fans.{AreFansOf}
 use Rattle.qm_match.proofs.Chains.{put_more}

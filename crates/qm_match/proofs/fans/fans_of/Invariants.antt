@@ -1,4 +1,4 @@
-use Rattle.std.proofs.Common.{◌≡◌, ◌*◌}
+use Rattle.std.proofs.Common.{◌*◌}
 use Rattle.def_matching.specs.Matching.{graph}
 use Rattle.qm_match.specs.Fans.{AreFansOf}
 use Rattle.qm_match.proofs.fans.fans_of.Given as goal

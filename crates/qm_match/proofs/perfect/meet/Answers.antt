@@ -1,4 +1,4 @@
-use Rattle.std.proofs.Common.{◌≡◌, ℕ, ◌∙◌, length, subst, take, arith}
+use Rattle.std.proofs.Common.{◌∙◌, length, subst, take, arith}
 use Rattle.std.proofs.lemmas.List.{take_all}
 use Rattle.def_math.specs.Rising.{IsRising}
 use Rattle.def_matching.specs.Matching.{graph}

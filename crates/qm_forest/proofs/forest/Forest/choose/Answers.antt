@@ -1,4 +1,4 @@
-use Rattle.std.proofs.Common.{◌≡◌, ℕ, length, subst, arith}
+use Rattle.std.proofs.Common.{◌≡◌, length, subst, arith}
 use Rattle.qm_forest.specs.Rounds.{IsRound, matched_by}
 use Rattle.qm_forest.proofs.forest.Forest.choose.Goals as goal
 

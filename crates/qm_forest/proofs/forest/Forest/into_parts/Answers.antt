@@ -1,4 +1,4 @@
-use Rattle.std.proofs.Common.{◌≡◌, sym, ◌∙◌, ap}
+use Rattle.std.proofs.Common.{◌∙◌, ap}
 use Rattle.def_matching.specs.Dual.{dual}
 use Rattle.def_forest.specs.Tables.{ForestTables, size_of}
 use Rattle.qm_forest.proofs.Handed.{dual_handed, few_handed, in_some, perfect_handed, sound_still, yes_handed}

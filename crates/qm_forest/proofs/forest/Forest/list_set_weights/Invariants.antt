@@ -1,4 +1,4 @@
-use Rattle.std.proofs.Common.{◌≡◌, ℕ, ◌+◌, ◌<◌, ◌≤◌, get_or, length}
+use Rattle.std.proofs.Common.{◌≤◌, length}
 use Rattle.std.specs.Vec.{vec_capacity}
 use Rattle.def_forest.specs.Tables.{forest_of}
 use Rattle.qm_forest.specs.Outlines.{AreWeights, set_in}

@@ -1,8 +1,8 @@
-use Rattle.std.proofs.Common.{◌≡◌, ◌+◌, ◌*◌, true, false, length, Some, refl, sym, ◌∙◌, ap, subst}
+use Rattle.std.proofs.Common.{◌≡◌, ◌+◌, ◌*◌, true, false, length, refl, sym, ◌∙◌, ap, subst}
 use Rattle.def_forest.specs.Tables.{forest_of}
 use Rattle.forest_laws.proofs.Writes.{true_false}
 use Rattle.qm_forest.specs.Rounds.{IsPairing, entered, far_at, is_dart, matches, near_at}
-use Rattle.qm_forest.proofs.MateRounds.{IsMateEdge, dart_is, edge_more, edge_same, matches_is}
+use Rattle.qm_forest.proofs.MateRounds.{dart_is, edge_more, edge_same, matches_is}
 use Rattle.qm_forest.proofs.forest.Forest.match_edge.Goals as goal
 
 pub pair-requires-clause-pairing : goal.pair-requires-clause-pairing

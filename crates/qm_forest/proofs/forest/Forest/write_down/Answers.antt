@@ -1,4 +1,4 @@
-use Rattle.std.proofs.Common.{◌≡◌, ◌≢◌, ◌+◌, ◌/◌, ◌<◌, ◌≤◌, ℕ, List, length, get_or, sym, ◌∙◌, ap, subst, arith}
+use Rattle.std.proofs.Common.{◌≡◌, ◌≢◌, ◌+◌, ◌/◌, ◌<◌, ◌≤◌, ℕ, List, length, get_or, sym, subst}
 use Rattle.def_forest.specs.Tables.{ForestTables, forest_of, up_at}
 use Rattle.qm_forest.specs.Outlines.{AreNames, AreWeights, IsListOf, set_in}
 use Rattle.qm_forest.specs.Rounds.{AreMarked, IsLaminar}

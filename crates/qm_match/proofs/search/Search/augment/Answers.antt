@@ -1,4 +1,4 @@
-use Rattle.std.proofs.Common.{◌≡◌, ap}
+use Rattle.std.proofs.Common.{ap}
 use Rattle.def_matching.specs.Matching.{graph}
 use Rattle.def_forest.specs.Forests.{Forest}
 use Rattle.qm_match.proofs.Taken.{augmented_idle, made_after}

@@ -1,4 +1,4 @@
-use Rattle.std.proofs.Common.{◌≡◌, ◌∙◌, sym, subst, ap}
+use Rattle.std.proofs.Common.{◌∙◌, sym, subst, ap}
 use Rattle.def_matching.specs.Matching.{graph}
 use Rattle.def_forest.specs.Forests.{Forest}
 use Rattle.def_forest.specs.Tables.{forest_of, IsValidFor}

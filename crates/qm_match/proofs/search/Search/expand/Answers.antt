@@ -1,5 +1,4 @@
-use Rattle.std.proofs.Common.{◌≡◌, ◌<◌, ◌∙◌, ℕ, length, get_or, refl, sym, subst, ap}
-use Rattle.std.specs.Vec.{vec_capacity}
+use Rattle.std.proofs.Common.{◌≡◌, ◌<◌, ◌∙◌, ℕ, get_or, refl, sym, subst, ap}
 use Rattle.def_matching.specs.Matching.{graph}
 use Rattle.def_forest.specs.Tables.{ForestTables, forest_of}
 use Rattle.search_laws.specs.Searches.{steps_left}

@@ -1,9 +1,9 @@
-use Rattle.std.proofs.Common.{◌≡◌, ◌∙◌, ℕ, Some, sym, subst, ap}
+use Rattle.std.proofs.Common.{◌≡◌, ◌∙◌, sym, subst, ap}
 use Rattle.def_matching.specs.Matching.{graph}
 use Rattle.def_forest.specs.Darts.{darts_of, far}
 use Rattle.def_forest.specs.Forests.{Forest}
 use Rattle.def_forest.specs.Tables.{forest_of, outer_dart}
-use Rattle.qm_match.specs.States.{IsFreshAt, IsRefreshed, MayRefresh}
+use Rattle.qm_match.specs.States.{IsFreshAt, IsRefreshed}
 use Rattle.qm_match.proofs.Refreshed.{may_later, refreshed_on, stays_fresh}
 use Rattle.qm_match.proofs.Taken.{Growth, growth_of, grown_less, grown_on, grown_way, made_after, may_vertex, right_in}
 use Rattle.qm_match.proofs.search.Search.grow.Goals as goal

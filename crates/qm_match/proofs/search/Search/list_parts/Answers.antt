@@ -1,8 +1,7 @@
-use Rattle.std.proofs.Common.{◌≡◌, suc, ◌+◌, ◌<◌, ◌++◌, ◌∙◌, List, [], ◌∷◌, length, get_or, sym, subst, ap, arith}
+use Rattle.std.proofs.Common.{◌≡◌, suc, ◌+◌, ◌<◌, ◌++◌, ◌∙◌, [], ◌∷◌, length, get_or, sym, subst, ap, arith}
 use Rattle.std.proofs.lemmas.Grind.{common_steps}
 use Rattle.std.proofs.lemmas.List.{length_push}
 use Rattle.def_matching.specs.Matching.{graph}
-use Rattle.def_forest.specs.Forests.{walk}
 use Rattle.def_forest.specs.Tables.{ForestTables}
 use Rattle.qm_forest.proofs.Copied.{copied_more}
 use Rattle.qm_match.specs.declared.search.Search.{Search}

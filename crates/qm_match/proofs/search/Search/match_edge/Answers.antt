@@ -1,4 +1,4 @@
-use Rattle.std.proofs.Common.{refl, ◌≡◌, ◌∙◌, pos, None, Option, ℕ, sym, subst, ap}
+use Rattle.std.proofs.Common.{refl, ◌≡◌, ◌∙◌, pos, None, Option, ℕ, subst, ap}
 use Rattle.std.proofs.lemmas.List.{get_or_read}
 use Rattle.def_matching.specs.Matching.{edge_at, graph}
 use Rattle.def_matching.specs.declared.weighted.WEdge.{WEdge}

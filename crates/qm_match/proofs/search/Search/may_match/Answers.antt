@@ -1,4 +1,4 @@
-use Rattle.std.proofs.Common.{◌≡◌, ◌<◌, length, pos, sym, subst}
+use Rattle.std.proofs.Common.{◌≡◌, ◌<◌, pos, sym, subst}
 use Rattle.std.proofs.lemmas.List.{get_or_read}
 use Rattle.def_matching.specs.Matching.{edge_at, graph}
 use Rattle.def_matching.specs.declared.weighted.WEdge.{WEdge}

@@ -1,4 +1,4 @@
-use Rattle.std.proofs.Common.{◌≡◌, ℕ, ◌<◌, ◌⊎◌, true, eqb, length, get_or, sym, inl, inr, subst}
+use Rattle.std.proofs.Common.{◌≡◌, ℕ, ◌<◌, ◌⊎◌, true, length, get_or, sym, inl, inr, subst}
 use Rattle.std.proofs.lemmas.Bool.{eq-eqb}
 use Rattle.def_matching.specs.Matching.{graph, edge_at}
 use Rattle.def_forest.specs.Tables.{forest_of}

@@ -1,7 +1,7 @@
-use Rattle.std.proofs.Common.{◌≡◌, ℕ, suc, ◌+◌, ◌<◌, ◌≤◌, ◌∙◌, ◌⊎◌, length, get_or, true, false, inl, inr, sym, subst, ap, arith}
+use Rattle.std.proofs.Common.{◌≡◌, suc, ◌+◌, ◌<◌, ◌∙◌, length, get_or, true, false, inl, inr, sym, subst, ap, arith}
 use Rattle.std.proofs.lemmas.Bool.{cases_lt}
 use Rattle.def_matching.specs.Matching.{graph}
-use Rattle.def_forest.specs.Tables.{ForestTables, forest_of}
+use Rattle.def_forest.specs.Tables.{forest_of}
 use Rattle.search_laws.specs.Keys.{AreRightAt, IsMended}
 use Rattle.qm_match.specs.States.{IsMade, MayRefresh}
 use Rattle.qm_match.specs.declared.search.Search.{Search}

@@ -1,4 +1,4 @@
-use Rattle.std.proofs.Common.{◌≡◌, sym, ◌∙◌}
+use Rattle.std.proofs.Common.{sym, ◌∙◌}
 use Rattle.qm_match.proofs.search.Search.partner.Goals as goal
 
 pub reached-requires-clause-dart : goal.reached-requires-clause-dart

@@ -1,4 +1,4 @@
-use Rattle.std.proofs.Common.{◌≡◌, ℕ, ◌<◌, get_or}
+use Rattle.std.proofs.Common.{ℕ, ◌<◌, get_or}
 use Rattle.def_matching.specs.Matching.{graph}
 use Rattle.qm_match.specs.States.{IsRefreshed, IsFreshAt}
 use Rattle.qm_match.proofs.search.Search.refresh_parts.Given as goal

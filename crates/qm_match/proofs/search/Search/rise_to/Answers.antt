@@ -1,5 +1,5 @@
-use Rattle.std.proofs.Common.{◌≡◌, ◌+◌, ◌-◌, ◌^◌, ◌<◌, ◌≤◌, ◌∙◌, ℕ, length, pos, ◌≤ℤ◌, ℤ, refl, sym, subst, ap, arith, to_z, w64}
-use Rattle.std.specs.Int.RustNames.{FitsSigned, unsigned_abs}
+use Rattle.std.proofs.Common.{◌≡◌, ◌+◌, ◌-◌, ◌^◌, ◌<◌, ◌≤◌, ◌∙◌, ℕ, length, pos, ◌≤ℤ◌, refl, sym, subst, ap, arith, to_z, w64}
+use Rattle.std.specs.Int.RustNames.{unsigned_abs}
 use Rattle.std.proofs.lemmas.Int.{ints, to_z_pos}
 use Rattle.def_matching.specs.Matching.{graph}
 use Rattle.def_forest.specs.Darts.{darts_of}

@@ -1,4 +1,4 @@
-use Rattle.std.proofs.Common.{◌≡◌, ℕ, ◌+◌, true, false, cond}
+use Rattle.std.proofs.Common.{◌≡◌, ◌+◌, true, false, cond}
 use Rattle.def_matching.specs.Matching.{graph}
 use Rattle.def_forest.specs.Tables.{forest_of}
 use Rattle.search_laws.specs.Searches.{turns_left}

@@ -1,10 +1,9 @@
-use Rattle.std.proofs.Common.{◌≡◌, ◌*◌, ◌<◌, ◌∙◌, pos, refl, sym, subst, ap}
+use Rattle.std.proofs.Common.{◌≡◌, ◌*◌, ◌<◌, pos, refl, sym, subst, ap}
 use Rattle.std.proofs.lemmas.List.{get_or_read}
 use Rattle.std.specs.Vec.{with_item}
 use Rattle.std.proofs.Common.{false}
 use Rattle.def_matching.specs.Matching.{edge_at, graph}
 use Rattle.def_matching.specs.declared.weighted.WEdge.{WEdge}
-use Rattle.def_forest.specs.Tables.{forest_of}
 use Rattle.qm_match.specs.States.{IsMade, IsRefreshed}
 use Rattle.qm_match.proofs.Taken.{closed_high, closed_live, closed_right, closed_set, made_after, shrunk_goes_on, shrunk_less, shrunk_way, unmarked}
 use Rattle.qm_match.proofs.search.Search.shrink.Goals as goal
