@@ -1,7 +1,7 @@
 -- Climbing through nested sets, one set at a time.
 use Rattle.std.proofs.Common.{◌≡◌, ℕ, zero, suc, ◌+◌, ◌<◌, ◌≤◌, ◌≢◌, ◌==◌, ◌||◌, Bool, true, false, List, refl, sym, ◌∙◌, ap, inl, inr, ◌⊎◌, arith}
 use Rattle.std.specs.Prelude.{slice_index}
-use Rattle.std.proofs.lemmas.Bool.{cases_eq, cases_lt, ne_eqb, false≢true}
+use Rattle.std.proofs.lemmas.Bool.{cases_eq, cases_lt, ne_eqb}
 use Rattle.std.proofs.lemmas.Bool.Decides.{nat_tests}
 use Rattle.std.proofs.lemmas.List.{get_or_past}
 use Rattle.def_matching.specs.Dual.{IsNested, is_up}
@@ -46,8 +46,7 @@ climb_on n (suc steps) up nested k j l =
 
 -- No set: nothing is passed.
 pub climb_none : (n : ℕ) (up : List ℕ) (steps k : ℕ) → climbs n up steps k 0 ≡ false
-climb_none n up zero k = refl
-climb_none n up (suc steps) k = refl
+climb_none n up steps k = grind (arith)
 
 -- A set that is passed: it is the first, or passed from the set around that.
 pub passed_on : (j k : ℕ) (rest : Bool) → ((j == k) || rest) ≡ true → (j ≡ k) ⊎ (rest ≡ true)
@@ -67,8 +66,7 @@ passed_later n m up nested (suc steps) k (suc j) on = by_step (passed_on j k (cl
     by_step (inr there) rest = by_around (set_later n m up nested j) (rest there)
       where
         by_around : (slice_index up (n + j) ≡ 0) ⊎ ((j + 1 < slice_index up (n + j)) × (slice_index up (n + j) ≤ m)) → slice_index up (n + j) ≤ suc k → suc j ≤ suc k
-        by_around (inl e) le = absurd (false≢true (sym (climb_none n up steps k) ∙ (sym (ap (climbs n up steps k) e) ∙ there)))
-        by_around (inr h) le = omega arith
+        by_around on le = grind (arith)
 
 -- Where climbing from a set passes another, what the other passes is passed.
 pub passed_further : (n m : ℕ) (up : List ℕ) → IsNested n m up → (steps b k entry : ℕ) → entry ≤ m → climbs n up steps b entry ≡ true → climbs n up m k (suc b) ≡ true → climbs n up m k entry ≡ true
@@ -80,8 +78,7 @@ passed_further n m up nested (suc steps) b k (suc j) low on further = by_step (p
     bound p = omega arith
 
     or_true : (b c : Bool) → c ≡ true → (b || c) ≡ true
-    or_true true c on = refl
-    or_true false c on = on
+    or_true b c on = grind (arith)
 
     by_step : (j ≡ b) ⊎ (climbs n up steps b (slice_index up (n + j)) ≡ true) → (climbs n up steps b (slice_index up (n + j)) ≡ true → climbs n up m k (slice_index up (n + j)) ≡ true) → climbs n up m k (suc j) ≡ true
     by_step (inl e) rest = ap (λ i. climbs n up m k (suc i)) e ∙ further

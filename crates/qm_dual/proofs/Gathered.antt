@@ -1,5 +1,5 @@
 -- The load of an edge, by the sets around each of its ends and around both.
-use Rattle.std.proofs.Common.{◌≡◌, ℕ, zero, suc, ◌+◌, ◌-◌, ◌*◌, ◌^◌, ◌<◌, ◌≤◌, ◌==◌, ◌||◌, ◌&&◌, Bool, true, false, not, cond, List, length, ℤ, pos, ◌+ℤ◌, ◌-ℤ◌, refl, sym, ◌∙◌, ap, subst, set, add-one, inl, inr, ◌⊎◌, arith}
+use Rattle.std.proofs.Common.{◌≡◌, ℕ, zero, suc, ◌+◌, ◌-◌, ◌*◌, ◌^◌, ◌<◌, ◌≤◌, ◌==◌, ◌||◌, true, false, not, cond, List, length, ℤ, pos, ◌+ℤ◌, ◌-ℤ◌, refl, sym, ◌∙◌, ap, subst, set, add-one, inl, inr, ◌⊎◌, arith}
 use Rattle.std.specs.Prelude.{slice_index, slice_index_or, unsigned_abs}
 use mir.Syntax.{w128}
 use mir.Val.{to_z, of_z}
@@ -19,11 +19,7 @@ total_below_small f c (suc n) small = omega (arith, ints, small n (omega arith),
 
 -- What a climb gathers is small.
 pub around_small : (n : ℕ) (d : DualLists) → AreSmall d.z → (entry : ℕ) → unsigned_abs (around n d entry) ≤ length d.z * 10 ^ 18
-around_small n d small entry = total_below_small _ (10 ^ 18) (length d.z) (λ k l. by_test (climbs n d.up (length d.z) k entry) (z_at d k) (small k l))
-  where
-    by_test : (b : Bool) (z : ℤ) → unsigned_abs z < 10 ^ 18 → unsigned_abs (cond b z (pos 0)) ≤ 10 ^ 18
-    by_test true z low = omega arith
-    by_test false z low = omega arith
+around_small n d small entry = total_below_small _ (10 ^ 18) (length d.z) (λ k l. grind (arith, ints, small k l))
 
 -- From no set nothing is gathered.
 pub around_none : (n : ℕ) (d : DualLists) → around n d 0 ≡ pos 0
@@ -93,14 +89,8 @@ apart_is n d a b entry meets =
     let right : ℕ → ℤ = λ (k : ℕ). cond (climbs n d.up (length d.z) k b) (z_at d k) (pos 0) in
     let both : ℕ → ℤ = λ (k : ℕ). cond (climbs n d.up (length d.z) k entry) (z_at d k) (pos 0) in
     let parts : total_below (λ k. crossing k +ℤ (both k +ℤ both k)) (length d.z) ≡ total_below (λ k. left k +ℤ right k) (length d.z) =
-    total_below_same _ _ (length d.z) (λ k l. ap (λ x. crossing k +ℤ (cond x (z_at d k) (pos 0) +ℤ cond x (z_at d k) (pos 0))) (meets k) ∙ by_tests (climbs n d.up (length d.z) k a) (climbs n d.up (length d.z) k b) (z_at d k)) in
+    total_below_same _ _ (length d.z) (λ k l. ap (λ x. crossing k +ℤ (cond x (z_at d k) (pos 0) +ℤ cond x (z_at d k) (pos 0))) (meets k) ∙ grind (arith, ints)) in
     omega (arith, ints, parts, total_below_sum crossing (λ k. both k +ℤ both k) (length d.z), total_below_sum both both (length d.z), total_below_sum left right (length d.z))
-  where
-    by_tests : (a b : Bool) (z : ℤ) → cond (cond a (not b) b) z (pos 0) +ℤ (cond (a && b) z (pos 0) +ℤ cond (a && b) z (pos 0)) ≡ cond a z (pos 0) +ℤ cond b z (pos 0)
-    by_tests true true z = omega (arith, ints)
-    by_tests true false z = omega (arith, ints)
-    by_tests false true z = omega (arith, ints)
-    by_tests false false z = omega (arith, ints)
 
 -- The sum of a named set is small.
 pub named_small : (n : ℕ) (d : DualLists) (sums : List ℤ) → AreSums n d 0 sums → AreSmall d.z → (entry : ℕ) → entry ≤ length d.z → unsigned_abs (named_sum sums entry) ≤ length d.z * 10 ^ 18
@@ -112,7 +102,7 @@ pub apart_sums : (n : ℕ) (d : DualLists) (sums : List ℤ) → AreSums n d 0 s
 apart_sums n d sums are a b entry la lb le meets = omega (arith, ints, apart_is n d a b entry meets, named_around n d sums are a la, named_around n d sums are b lb, named_around n d sums are entry le)
 
 -- The sum that the code makes of three small numbers wraps nowhere.
-pub plain_difference : (x y z : ℤ) → unsigned_abs x ≤ 2 ^ 90 → unsigned_abs y ≤ 2 ^ 90 → unsigned_abs z ≤ 2 ^ 90
+pub plain_difference : (x y z : ℤ) → unsigned_abs x ≤ 2 ^ 30 * 10 ^ 18 → unsigned_abs y ≤ 2 ^ 30 * 10 ^ 18 → unsigned_abs z ≤ 2 ^ 30 * 10 ^ 18
     → to_z w128 (of_z w128 (to_z w128 (of_z w128 (to_z w128 (of_z w128 x) +ℤ to_z w128 (of_z w128 y))) -ℤ to_z w128 (of_z w128 (to_z w128 (of_z w128 z) +ℤ to_z w128 (of_z w128 z))))) ≡ (x +ℤ y) -ℤ (z +ℤ z)
 plain_difference x y z lx ly lz =
     let a : to_z w128 (of_z w128 x) ≡ x = omega (arith, ints) in

@@ -1,5 +1,5 @@
 -- The least set around two entries, by leaving paths below their heads.
-use Rattle.std.proofs.Common.{◌≡◌, ℕ, zero, suc, ◌+◌, ◌<◌, ◌≤◌, ◌≢◌, ◌||◌, ◌&&◌, Bool, true, false, max, List, refl, sym, ◌∙◌, ap, inl, inr, ◌⊎◌, arith}
+use Rattle.std.proofs.Common.{◌≡◌, ℕ, suc, ◌+◌, ◌<◌, ◌≤◌, ◌≢◌, ◌||◌, ◌&&◌, Bool, true, max, List, refl, sym, ◌∙◌, ap, inl, inr, ◌⊎◌, arith}
 use Rattle.std.specs.Prelude.{slice_index}
 use Rattle.std.proofs.lemmas.Bool.{cases_eq, cases_lt, eq-eqb, and_parts, and_from}
 use Rattle.qm_laws.proofs.Tests.{same_test}
@@ -55,10 +55,7 @@ one_path n m up heads nested are a b le low same k = same_test (climbs n up m k 
 
 -- Both tests in the other order.
 pub swapped : (x y : Bool) → (x && y) ≡ (y && x)
-swapped true true = refl
-swapped true false = refl
-swapped false true = refl
-swapped false false = refl
+swapped x y = grind (arith)
 
 -- The same, with the two exchanged.
 pub one_path_back : (n m : ℕ) (up heads : List ℕ) → IsNested n m up → AreHeads n m up heads → (a b : ℕ) → b ≤ a → a < m → slice_index heads a ≡ slice_index heads b → IsMeeting n m up (suc a) (suc b) (suc a)
@@ -87,6 +84,4 @@ meeting_none n m up a b (inr e) k = rw e (climb_none n up m k ∙ sym (swapped (
 
 -- A climb has less left from a later entry, or from none.
 pub left_less : (m entry next : ℕ) → entry ≢ 0 → entry ≤ m → (next ≡ 0) ⊎ ((entry < next) × (next ≤ m)) → left m next < left m entry
-left_less m zero next some low later = absurd (some refl)
-left_less m (suc k) zero some low later = omega arith
-left_less m (suc k) (suc j) some low later = omega arith
+left_less m entry next some low later = grind (arith)

@@ -1,5 +1,5 @@
 -- The paths into which nested sets fall, and the least set around two entries.
-use Rattle.std.proofs.Common.{◌≡◌, ℕ, zero, suc, ◌+◌, ◌<◌, ◌≤◌, ◌==◌, ◌||◌, Bool, true, false, List, refl, sym, ◌∙◌, ap, subst, inl, inr, ◌⊎◌, arith}
+use Rattle.std.proofs.Common.{◌≡◌, ℕ, zero, suc, ◌+◌, ◌<◌, ◌≤◌, ◌==◌, ◌||◌, Bool, true, List, refl, sym, ◌∙◌, ap, subst, inl, inr, ◌⊎◌, arith}
 use Rattle.std.specs.Prelude.{slice_index}
 use Rattle.std.proofs.lemmas.Bool.{cases_eq, cases_order, eq-eqb, false≢true}
 use Rattle.def_matching.specs.Dual.{IsNested}
@@ -76,8 +76,7 @@ from_head n m up heads nested are zero k j t enough l top on = absurd (omega ari
 from_head n m up heads nested are (suc fuel) k j t enough l top on = by_head (are.each j l) (λ q later low head. from_head n m up heads nested are fuel k q t (omega arith) low head on)
   where
     or_true : (b c : Bool) → c ≡ true → (b || c) ≡ true
-    or_true true c is = refl
-    or_true false c is = is
+    or_true b c is = grind (arith)
 
     by_head : IsHead n up are.picks heads j → ((q : ℕ) → j < q → q < m → slice_index heads q ≡ suc t → climbs n up m k (suc q) ≡ true) → climbs n up m k (suc j) ≡ true
     by_head (inl e) rest =
@@ -98,8 +97,7 @@ last_before n m up nested (suc steps) q b l on ne = by_step (passed_on b q (clim
     Wanted = (c : ℕ) × (c < m) × (slice_index up (n + c) ≡ suc q) × ((b ≡ c) ⊎ (climbs n up m c (suc b) ≡ true))
 
     or_true : (d c : Bool) → c ≡ true → (d || c) ≡ true
-    or_true true c is = refl
-    or_true false c is = is
+    or_true d c is = grind (arith)
 
     by_step : (b ≡ q) ⊎ (climbs n up steps q (slice_index up (n + b)) ≡ true)
         → ((p : ℕ) → slice_index up (n + b) ≡ suc p → p < m → climbs n up steps q (slice_index up (n + b)) ≡ true → (p ≡ q → ⊥) → (c : ℕ) × (c < m) × (slice_index up (n + c) ≡ suc q) × ((p ≡ c) ⊎ (climbs n up m c (suc p) ≡ true)))
@@ -130,8 +128,7 @@ path_chain n m up heads nested are (suc fuel) a b enough less low same = by_head
     high j l = head_later n m up heads nested are m j (omega arith) l
 
     or_true : (d c : Bool) → c ≡ true → (d || c) ≡ true
-    or_true true c is = refl
-    or_true false c is = is
+    or_true d c is = grind (arith)
 
     by_head : IsHead n up are.picks heads a
         → ((c d : ℕ) → a < c → c < d → d < m → slice_index heads c ≡ slice_index heads d → climbs n up m d (suc c) ≡ true)

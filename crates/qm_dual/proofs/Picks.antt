@@ -1,7 +1,7 @@
 -- The greatest of the sets directly inside a set, one set at a time.
-use Rattle.std.proofs.Common.{◌≡◌, ◌≢◌, ℕ, zero, suc, ◌+◌, ◌-◌, ◌<◌, ◌≤◌, ◌==◌, ◌||◌, true, false, cond, List, length, refl, sym, ◌∙◌, ap, subst, inl, inr, ◌⊎◌, add-one, get_or, arith}
+use Rattle.std.proofs.Common.{◌≡◌, ◌≢◌, ℕ, zero, suc, ◌+◌, ◌-◌, ◌<◌, ◌≤◌, ◌==◌, ◌||◌, true, false, List, refl, sym, ◌∙◌, ap, subst, inl, inr, add-one, arith}
 use Rattle.std.specs.Prelude.{slice_index, slice_set, nat_lt, replicate}
-use Rattle.std.proofs.lemmas.Bool.{cases_eq, cases_lt, cond-true, cond-false}
+use Rattle.std.proofs.lemmas.Bool.{cases_eq, cases_lt}
 use Rattle.std.proofs.lemmas.Bool.Decides.{nat_tests}
 use Rattle.std.proofs.lemmas.List.{length-set, get_or-set_same, get_or-set_other, length-replicate, get_or-replicate}
 use Rattle.qm_dual.specs.Nest.{IsPick, ArePicks, pick_with}
@@ -65,8 +65,4 @@ picks_none n m up sizes = record { count = length-replicate m 0; each = λ q l. 
 
 -- A pick names one of the sets.
 pub pick_low : (n m k : ℕ) (up sizes picks : List ℕ) → ArePicks n m k up sizes picks → (q : ℕ) → q < m → slice_index picks q ≤ k
-pick_low n m k up sizes picks are q l = by_pick (slice_index picks q) (are.each q l)
-  where
-    by_pick : (pick : ℕ) → IsPick n k up sizes q pick → pick ≤ k
-    by_pick zero none = omega arith
-    by_pick (suc p) greatest = omega (arith, greatest.0)
+pick_low n m k up sizes picks are q l = grind (arith, are.each q l)

@@ -61,20 +61,12 @@ stand_step n up k j entry other = elim (cases_eq (stand_of n up k entry) (suc k)
     here e =
         let on : (stand_of n up k entry == suc k) ≡ true = eq-eqb (stand_of n up k entry) (suc k) e in
         let off : (stand_of n up k entry == suc j) ≡ false = ne_eqb (stand_of n up k entry) (suc j) (λ same. other (omega arith)) in
-        rw (on, off) (by_test (slice_index up (n + k) == suc j))
-      where
-        by_test : (b : Bool) → cond b 1 0 ≡ 0 + cond b 1 0
-        by_test true = refl
-        by_test false = refl
+        rw (on, off) (grind (arith))
 
     there : (stand_of n up k entry ≡ suc k → ⊥) → cond (stand_of n up (suc k) entry == suc j) 1 0 ≡ cond (stand_of n up k entry == suc j) 1 0 + cond (slice_index up (n + k) == suc j) (cond (stand_of n up k entry == suc k) 1 0) 0
     there ne =
         let off : (stand_of n up k entry == suc k) ≡ false = ne_eqb (stand_of n up k entry) (suc k) ne in
-        rw off (by_test (cond (stand_of n up k entry == suc j) 1 0) (slice_index up (n + k) == suc j))
-      where
-        by_test : (x : ℕ) (b : Bool) → x ≡ x + cond b 0 0
-        by_test x true = omega arith
-        by_test x false = omega arith
+        rw off (grind (arith))
 
 -- A tally when one more set has passed on.
 pub tally_step : (n : ℕ) (up : List ℕ) (vertices k j : ℕ) → j ≢ k → tally n up vertices (suc k) j ≡ tally n up vertices k j + cond (slice_index up (n + k) == suc j) (tally n up vertices k k) 0

@@ -95,15 +95,9 @@ pub says_yes : (g : Graph) (d : DualLists) → SaysYes g d → verdict g d ≡ Y
 says_yes g d says =
     let shape : shape_fault g.n d ≡ None = no_shape_fault g.n d says.numbers says.nested in
     let even : even_fault g.n d ≡ None = least_none (λ k. not (is_odd_size (set_size g.n d k))) (length d.z) (λ k l. ap not (says.odd k l)) in
-    let negative : negative_fault d ≡ None = least_none (λ k. int_lt (z_at d k) (pos 0)) (length d.z) (λ k l. low (z_at d k) (says.positive k l)) in
-    let short : short_fault g d ≡ None = least_none (λ k. int_lt (pos 2 *ℤ (edge_at g k).cost) (load g.n d (edge_at g k))) (length g.edges) (λ k l. not_below (load g.n d (edge_at g k)) (pos 2 *ℤ (edge_at g k).cost) (says.loaded k l)) in
+    let negative : negative_fault d ≡ None = least_none (λ k. int_lt (z_at d k) (pos 0)) (length d.z) (λ k l. grind (arith, ints, says.positive k l)) in
+    let short : short_fault g d ≡ None = least_none (λ k. int_lt (pos 2 *ℤ (edge_at g k).cost) (load g.n d (edge_at g k))) (length g.edges) (λ k l. grind (arith, ints, says.loaded k l)) in
     rw (shape, even, negative, short) refl
-  where
-    low : (z : ℤ) → pos 0 ≤ℤ z → int_lt z (pos 0) ≡ false
-    low z high = grind (arith, ints)
-
-    not_below : (x y : ℤ) → x ≤ℤ y → int_lt y x ≡ false
-    not_below x y le = grind (arith, ints)
 
 -- After yes each perfect matching has twice its cost at least the sum.
 pub yes_bounds : (g : Graph) (d : DualLists) (v : Verdict) → IsGraph g → v ≡ verdict g d → (s : ℤ) → v ≡ Yes s → (m : List ℕ) → IsPerfect g m → s ≤ℤ (pos 2 *ℤ matching_cost g m)

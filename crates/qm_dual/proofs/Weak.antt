@@ -1,5 +1,5 @@
 -- Weak duality: where a dual says yes, each perfect matching has twice its cost at least the dual's sum.
-use Rattle.std.proofs.Common.{◌≡◌, ℕ, ◌+◌, ◌*◌, ◌%◌, ◌<◌, ◌≤◌, Bool, true, false, not, cond, List, [], ◌∷◌, map, length, ℤ, pos, ◌+ℤ◌, ◌*ℤ◌, ◌≤ℤ◌, refl, arith}
+use Rattle.std.proofs.Common.{◌≡◌, ℕ, ◌+◌, ◌*◌, ◌%◌, ◌<◌, ◌≤◌, Bool, true, false, cond, List, [], ◌∷◌, map, length, ℤ, pos, ◌+ℤ◌, ◌*ℤ◌, ◌≤ℤ◌, refl, arith}
 use Rattle.std.proofs.lemmas.Int.{ints}
 use Rattle.std.proofs.lemmas.Bool.Decides.{nat_tests}
 use Rattle.def_math.specs.Counts.{count, count_below}
@@ -32,22 +32,12 @@ leaving s e = cond (crosses s e) 1 0
 -- The ends that a set holds: two of each edge inside, one of each edge that leaves.
 pub ends_held : (s : ℕ → Bool) (es : List WEdge) → total (λ e. pos (cond (s e.u) 1 0) +ℤ pos (cond (s e.v) 1 0)) es ≡ pos (2 * count (inside s) es + count (leaving s) es)
 ends_held s [] = refl
-ends_held s (e ∷ es) = omega (arith, ints, by_tests (s e.u) (s e.v), ends_held s es)
-  where
-    by_tests : (b c : Bool) → pos (cond b 1 0) +ℤ pos (cond c 1 0) ≡ pos (2 * cond b (cond c 1 0) 0 + cond (cond b (not c) c) 1 0)
-    by_tests true true = refl
-    by_tests true false = refl
-    by_tests false true = refl
-    by_tests false false = refl
+ends_held s (e ∷ es) = grind (arith, ints, ends_held s es)
 
 -- A sum of a number over the edges that leave is not negative where the number is not.
 pub leaving_high : (s : ℕ → Bool) (z : ℤ) (es : List WEdge) → pos 0 ≤ℤ z → pos 0 ≤ℤ total (λ e. cond (crosses s e) z (pos 0)) es
 leaving_high s z [] high = omega (arith, ints)
-leaving_high s z (e ∷ es) high = by_test (crosses s e) (leaving_high s z es high)
-  where
-    by_test : (b : Bool) → pos 0 ≤ℤ total (λ x. cond (crosses s x) z (pos 0)) es → pos 0 ≤ℤ (cond b z (pos 0) +ℤ total (λ x. cond (crosses s x) z (pos 0)) es)
-    by_test true rest = omega (arith, ints)
-    by_test false rest = omega (arith, ints)
+leaving_high s z (e ∷ es) high = grind (arith, ints, leaving_high s z es high)
 
 -- Where an edge leaves, the number counts at least once.
 pub at_least_once : (s : ℕ → Bool) (z : ℤ) (es : List WEdge) → pos 0 ≤ℤ z → 1 ≤ count (leaving s) es → z ≤ℤ total (λ e. cond (crosses s e) z (pos 0)) es
