@@ -2,14 +2,13 @@
 use Rattle.std.proofs.Common.{◌≡◌, ℕ, suc, ◌+◌, ◌-◌, ◌^◌, ◌<◌, ◌≤◌, min, Bool, true, false, cond, not, ◌&&◌, ◌||◌, List, [], ◌∷◌, length, take, drop, refl, sym, ap, ◌∙◌, arith, eqb, ltb, leb, Some, None, inl, inr, ◌⊎◌}
 use Rattle.std.specs.Char.{is_ascii_digit}
 use Rattle.std.specs.List.{before_first, list_all, list_any, onto_first, position_or_len, slice_split}
-use Rattle.std.proofs.lemmas.Bool.{and_left, and_parts, and_right, eqb-true, false≢true, leb-true, lt-leb, ne_eqb, or_cases, or_from, true≢false}
+use Rattle.std.proofs.lemmas.Bool.{and_left, and_parts, and_right, eqb-true, false≢true, leb-true, lt-leb, ne_eqb, or_cases, or_from}
 use Rattle.std.proofs.lemmas.List.{take_all}
 use Rattle.std.proofs.lemmas.Bool.Decides.{nat_tests}
 use Rattle.def_text.specs.Corner.{are_indices, index_of, is_corner, is_optional, is_slash, used_index}
 use Rattle.def_text.specs.Digits.{is_negative, is_number, is_sign, is_signed, number, unsigned}
 use Rattle.def_text.specs.declared.index.Index.TheVariants.{Vertex, Out}
 use Rattle.qm_obj.specs.Indices.{capped, corner_of, named, parts_behind}
-use Rattle.def_text.specs.Types.{Words}
 
 -- A word is cut at its first slash.
 pub split_word : (word : List ℕ) → slice_split is_slash word ≡ before_first is_slash word ∷ parts_behind (drop (position_or_len is_slash word) word)
@@ -49,11 +48,7 @@ slash_none (b ∷ bs) is = by_sign (is_sign b) refl (or_cases _ _ is)
 -- The parts of a word without and with a slash.
 pub behind_none : (word : List ℕ) → list_any is_slash word ≡ false → slice_split is_slash word ≡ word ∷ []
 behind_none [] none = refl
-behind_none (b ∷ bs) none = by_slash (is_slash b) none (behind_none bs)
-  where
-    by_slash : (t : Bool) → (t || list_any is_slash bs) ≡ false → (list_any is_slash bs ≡ false → slice_split is_slash bs ≡ bs ∷ []) → cond t ([] ∷ slice_split is_slash bs) (onto_first b (slice_split is_slash bs)) ≡ (b ∷ bs) ∷ []
-    by_slash true none again = cc
-    by_slash false none again = rw (again none) refl
+behind_none (b ∷ bs) none = grind (arith, behind_none bs)
 
 behind_some : (word : List ℕ) → list_any is_slash word ≡ true → leb (length (slice_split is_slash word)) 1 ≡ false
 behind_some word is = ap (λ parts. leb (length parts) 1) (split_word word) ∙ more word is
@@ -73,19 +68,12 @@ last_word word = by_slash (list_any is_slash word) refl
   where
     by_slash : (t : Bool) → list_any is_slash word ≡ t → (leb (length (slice_split is_slash word)) 1 && list_all is_optional (slice_split is_slash word)) ≡ is_optional word
     by_slash true is = and_left _ _ (behind_some word is) ∙ sym (slash_none word is)
-    by_slash false is = rw (behind_none word is) (and_true (is_optional word))
-      where
-        and_true : (t : Bool) → (t && true) ≡ t
-        and_true true = refl
-        and_true false = refl
+    by_slash false is = rw (behind_none word is) (grind (arith))
 
 -- The two last parts of a corner.
 two_words : (word : List ℕ) → (leb (length (slice_split is_slash word)) 2 && list_all is_optional (slice_split is_slash word))
     ≡ (is_optional (before_first is_slash word) && (leb (length (parts_behind (drop (position_or_len is_slash word) word))) 1 && list_all is_optional (parts_behind (drop (position_or_len is_slash word) word))))
-two_words word = rw (split_word word) (by_parts (parts_behind (drop (position_or_len is_slash word) word)) (is_optional (before_first is_slash word)))
-  where
-    by_parts : (parts : Words) (t : Bool) → (leb (suc (length parts)) 2 && (t && list_all is_optional parts)) ≡ (t && (leb (length parts) 1 && list_all is_optional parts))
-    by_parts parts t = grind (arith, nat_tests)
+two_words word = rw (split_word word) (grind (arith, nat_tests))
 
 -- The same of what stands behind the first part, with its slash.
 pub last_part : (tail : List ℕ) → (leb (length (parts_behind tail)) 1 && list_all is_optional (parts_behind tail)) ≡ is_optional (drop 1 tail)
@@ -107,12 +95,7 @@ corner_parts word = ap are_indices (split_word word)
 pub named_count : (before : ℕ) (word : List ℕ) → before < 2 ^ 32
     → cond (eqb (min (number (unsigned word)) (2 ^ 64 - 1)) 0 || (is_negative word && ltb before (min (number (unsigned word)) (2 ^ 64 - 1)))) 0
     (cond (is_negative word) (before + 1 - min (number (unsigned word)) (2 ^ 64 - 1)) (min (number (unsigned word)) (2 ^ 64 - 1))) ≡ named before word
-named_count before word small = by_number (number (unsigned word)) (is_negative word)
-  where
-    by_number : (n : ℕ) (t : Bool) → cond (eqb (min n (2 ^ 64 - 1)) 0 || (t && ltb before (min n (2 ^ 64 - 1)))) 0 (cond t (before + 1 - min n (2 ^ 64 - 1)) (min n (2 ^ 64 - 1)))
-        ≡ cond (eqb n 0 || (t && ltb before n)) 0 (min (cond t (before + 1 - n) n) (2 ^ 64 - 1))
-    by_number n true = grind (arith, nat_tests)
-    by_number n false = grind (arith, nat_tests)
+named_count before word small = grind (arith, nat_tests)
 
 -- An index by the line that it names.
 pub index_named : (all before : ℕ) (word : List ℕ) → before ≤ all → all < 2 ^ 32 → is_signed word ≡ true
@@ -172,5 +155,4 @@ plain_corner before (b ∷ bs) k corner is caps = by_form (is_number (b ∷ bs))
         rw shape (ap Some (caps ∙ ap capped (sym (ap (named before) used ∙ line))))
       where
         named_digits : (n : ℕ) (t : Bool) → t ≡ false → cond (eqb n 0 || (t && ltb before n)) 0 (min (cond t (before + 1 - n) n) (2 ^ 64 - 1)) ≡ min n (2 ^ 64 - 1)
-        named_digits n true off = absurd (true≢false off)
-        named_digits n false off = grind (arith, nat_tests)
+        named_digits n t off = grind (arith, nat_tests)

@@ -2,7 +2,7 @@
 use Rattle.std.proofs.Common.{◌≡◌, ℕ, ◌+◌, ◌-◌, ◌<◌, ◌≤◌, true, false, eqb, ltb, List, [], ◌∷◌, ◌++◌, length, refl, sym, ap, ◌∙◌, subst, arith, Option, Some, None, Result, Ok, Err}
 use Rattle.std.specs.Prelude.{IfErr, IsErrAnd, is_some}
 use Rattle.std.specs.List.{list_any}
-use Rattle.std.proofs.lemmas.Bool.{eq-eqb, eqb-true, false≢true, lt-ltb, or_from}
+use Rattle.std.proofs.lemmas.Bool.{eqb-true, false≢true, lt-ltb, or_from}
 use Rattle.std.proofs.lemmas.List.{append-nil, append_assoc, length-append}
 use Rattle.std.proofs.lemmas.List.Folds.{list_any-append}
 use Rattle.def_feed.specs.Feed.{StandsFor, is_line_feed}
@@ -36,8 +36,7 @@ is_nothing [] n is many = refl
 is_nothing (x ∷ xs) n is many = absurd (omega (arith, eqb-true n 0 (sym is), many))
 
 pub is_something : (xs : Bytes) (n : ℕ) → false ≡ eqb n 0 → n ≡ length xs → 0 < length xs
-is_something [] n is many = absurd (false≢true (is ∙ eq-eqb n 0 many))
-is_something (x ∷ xs) n is many = omega arith
+is_something xs n is many = grind (arith)
 
 -- A logical line, by its size and the text before its comment.
 pub same_line : (number size size' : ℕ) (bytes bytes' : Bytes) → size ≡ size' → bytes ≡ bytes'
@@ -48,8 +47,7 @@ same_line number size size' bytes bytes' many are =
 
 -- The number of the logical line, where some physical line is joined.
 pub number_some : (joined : Bytes) (next begun : ℕ) → 0 < length joined → begun ≡ number_by joined next begun
-number_some [] next begun some = absurd (omega arith)
-number_some (b ∷ bs) next begun some = refl
+number_some joined next begun some = grind (arith)
 
 -- What is kept fits the limits.
 pub fits : (kept : Kept) → IsSound kept → Fits kept.positions kept.faces kept.lines

@@ -1,5 +1,5 @@
 -- Logical lines of which the first begins with text that is joined.
-use Rattle.std.proofs.Common.{◌≡◌, ℕ, suc, ◌+◌, ◌-◌, ◌<◌, ◌≤◌, Bool, true, false, cond, List, [], ◌∷◌, ◌++◌, length, take, drop, refl, sym, ap, ◌∙◌, arith}
+use Rattle.std.proofs.Common.{◌≡◌, ℕ, suc, ◌+◌, ◌-◌, ◌<◌, ◌≤◌, Bool, true, false, cond, List, [], ◌∷◌, ◌++◌, length, take, refl, sym, ap, ◌∙◌, arith}
 use Rattle.std.specs.List.{before_first, flat_map, list_any}
 use Rattle.std.proofs.lemmas.Bool.{and_parts, not-true, or_from}
 use Rattle.std.proofs.lemmas.List.{append-nil, append_assoc, length-append}
@@ -7,7 +7,7 @@ use Rattle.std.proofs.lemmas.List.Folds.{list_any-append}
 use Rattle.def_feed.specs.Kept.{Kept, logical_behind, with_front, with_joined}
 use Rattle.def_io.specs.Bytes.{Bytes, Lines}
 use Rattle.def_text.specs.Logical.{Logical, continues, groups_of, is_hash, joined, logical, logical_lines, numbered, part_of, with_line, with_space}
-use Rattle.qm_obj.specs.Ahead.{size_ahead, span, text_ahead}
+use Rattle.qm_obj.specs.Ahead.{size_ahead}
 use Rattle.qm_obj.specs.Feeding.{number_by}
 use Rattle.qm_obj.specs.Lines.{first_logical, uncommented}
 use Rattle.qm_obj.proofs.Groups.{logical_step}
@@ -16,8 +16,7 @@ use Rattle.qm_obj.proofs.WordLemmas.{uncommented_is, uncommented_none}
 
 -- Joined text that is there stands in front.
 pub joined_some : (number : ℕ) (front : Bytes) (lines : List Logical) → 0 < length front → with_joined number front lines ≡ with_front number front lines
-joined_some number [] lines some = absurd (omega arith)
-joined_some number (b ∷ bs) lines some = refl
+joined_some number front lines some = grind (arith)
 
 -- Text in front of text in front.
 front_more : (number other : ℕ) (front more : Bytes) (lines : List Logical) → with_front number front (with_front other more lines) ≡ with_front number (front ++ more) lines
@@ -54,19 +53,12 @@ logical_goes_on number line lines on = by_groups (groups_of lines)
         ∙ ap (λ m. record { number = number; size = length (with_space line) + length (flat_map (λ l. l) group); text = with_space line ++ joined group } ∷ numbered m groups) n
       where
         by_more : (t : Bool) → t ≡ true → cond t ((line ∷ group) ∷ groups) ((line ∷ []) ∷ group ∷ groups) ≡ (line ∷ group) ∷ groups
-        by_more true is = refl
-        by_more false is = absurd (cc is)
+        by_more t is = grind (arith)
 
 -- A line that does not go on is a logical line.
 pub logical_ends : (number : ℕ) (line : Bytes) (lines : Lines) → continues line ≡ false
     → logical_lines number (line ∷ lines) ≡ record { number = number; size = length line; text = before_first is_hash line } ∷ logical_lines (number + 1) lines
-logical_ends number line lines off = logical_step number line lines ∙ by_more (continues line) off
-  where
-    by_more : (t : Bool) → t ≡ false
-        → record { number = number; size = cond t (length line + size_ahead lines) (length line); text = cond t (with_space line ++ text_ahead lines) (before_first is_hash line) } ∷ logical_lines (number + cond t (1 + span lines) 1) (drop (cond t (1 + span lines) 1) (line ∷ lines))
-        ≡ record { number = number; size = length line; text = before_first is_hash line } ∷ logical_lines (number + 1) lines
-    by_more true is = absurd (cc is)
-    by_more false is = refl
+logical_ends number line lines off = logical_step number line lines ∙ grind (arith)
 
 -- The first of these lines has this number and at least so many bytes.
 pub record BeginsWith (lines : List Logical) (number least : ℕ) : Type 0 where
@@ -86,8 +78,7 @@ begins_line number line lines = record {
 }
   where
     by_more : (t : Bool) → length line ≤ cond t (length line + size_ahead lines) (length line)
-    by_more true = omega arith
-    by_more false = omega arith
+    by_more t = grind (arith)
 
 begins_front : (lines : List Logical) (number other least : ℕ) (front : Bytes) → BeginsWith lines other least → BeginsWith (with_front number front lines) number (length front + least)
 begins_front lines number other least front begins = record {

@@ -15,11 +15,7 @@ front (line ∷ lines) = cond (continues line) (line ∷ front lines) (line ∷ 
 -- They stand in front of the groups of all lines behind them.
 pub groups_step : (line : List ℕ) (lines : Lines)
     → groups_of (line ∷ lines) ≡ front (line ∷ lines) ∷ groups_of (drop (span (line ∷ lines)) (line ∷ lines))
-groups_step line [] = by_more (continues line)
-  where
-    by_more : (t : Bool) → (line ∷ []) ∷ [] ≡ cond t (line ∷ []) (line ∷ []) ∷ groups_of (drop (cond t (1 + span []) 1) (line ∷ []))
-    by_more true = refl
-    by_more false = refl
+groups_step line [] = grind (arith)
 groups_step line (l ∷ ls) = ap (with_line line) (groups_step l ls) ∙ by_more (continues line) (groups_step l ls)
   where
     by_more : (t : Bool) → groups_of (l ∷ ls) ≡ front (l ∷ ls) ∷ groups_of (drop (span (l ∷ ls)) (l ∷ ls))
@@ -32,11 +28,7 @@ groups_step line (l ∷ ls) = ap (with_line line) (groups_step l ls) ∙ by_more
 
 pub front_span : (lines : Lines) → length (front lines) ≡ span lines
 front_span [] = refl
-front_span (line ∷ lines) = by_more (continues line) (front_span lines)
-  where
-    by_more : (t : Bool) → length (front lines) ≡ span lines → length (cond t (line ∷ front lines) (line ∷ [])) ≡ cond t (1 + span lines) 1
-    by_more true again = omega (arith, again)
-    by_more false again = refl
+front_span (line ∷ lines) = grind (arith, front_span lines)
 
 pub front_size : (lines : Lines) → length (flat_map (λ l. l) (front lines)) ≡ size_ahead lines
 front_size [] = refl

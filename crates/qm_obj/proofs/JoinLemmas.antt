@@ -1,5 +1,5 @@
 -- Physical lines text_ahead to logical lines.
-use Rattle.std.proofs.Common.{◌≡◌, ℕ, zero, suc, ◌+◌, ◌-◌, ◌<◌, ◌≤◌, Bool, true, false, cond, not, ◌||◌, List, [], ◌∷◌, ◌++◌, length, take, get_or, refl, sym, ap, ◌∙◌, arith, subst, eqb}
+use Rattle.std.proofs.Common.{◌≡◌, ℕ, zero, suc, ◌+◌, ◌-◌, ◌<◌, ◌≤◌, Bool, true, false, cond, not, List, [], ◌∷◌, ◌++◌, length, take, get_or, refl, sym, ap, ◌∙◌, arith, subst, eqb}
 use Rattle.std.specs.List.{before_first, list_any, position_or_len}
 use Rattle.std.proofs.lemmas.Bool.Decides.{nat_tests}
 use Rattle.std.specs.Prelude.{slice_range}
@@ -15,11 +15,7 @@ use Rattle.def_io.specs.Bytes.{Lines}
 -- A comment is found before the end exactly where there is one.
 pub no_hash : (line : List ℕ) → eqb (position_or_len is_hash line) (length line) ≡ not (list_any is_hash line)
 no_hash [] = refl
-no_hash (b ∷ bs) = by_hash (is_hash b) (no_hash bs)
-  where
-    by_hash : (t : Bool) → eqb (position_or_len is_hash bs) (length bs) ≡ not (list_any is_hash bs) → eqb (cond (not t) (1 + position_or_len is_hash bs) 0) (suc (length bs)) ≡ not (t || list_any is_hash bs)
-    by_hash true again = grind (arith, nat_tests)
-    by_hash false again = grind (arith, nat_tests)
+no_hash (b ∷ bs) = grind (arith, nat_tests, no_hash bs)
 
 -- A line that continues is as long with the space.
 pub length-with_space : (line : List ℕ) → continues line ≡ true → length (with_space line) ≡ length line
@@ -81,19 +77,11 @@ joined_last all i next after bytes line lt within is off so_far =
 
 -- At least one physical line is in a logical line, and no more than there are.
 pub span_some : (line : List ℕ) (lines : Lines) → 1 ≤ span (line ∷ lines)
-span_some line lines = by_more (continues line)
-  where
-    by_more : (t : Bool) → 1 ≤ cond t (1 + span lines) 1
-    by_more true = omega arith
-    by_more false = omega arith
+span_some line lines = grind (arith)
 
 pub span_few : (lines : Lines) → span lines ≤ length lines
 span_few [] = omega arith
-span_few (line ∷ lines) = by_more (continues line) (span_few lines)
-  where
-    by_more : (t : Bool) → span lines ≤ length lines → cond t (1 + span lines) 1 ≤ suc (length lines)
-    by_more true few = omega arith
-    by_more false few = omega arith
+span_few (line ∷ lines) = grind (arith, span_few lines)
 
 -- What is left to read is no longer than the physical lines.
 pub joined_short : (lines : Lines) → length (text_ahead lines) ≤ size_ahead lines

@@ -175,10 +175,7 @@ pub record Fits (p : Positions) (c : Faces) (l : List ℕ) : Type 0 where
   pub positive : list_all (list_all (λ corner. ltb 0 corner)) c ≡ true
 
 line_face : (said : Reading) → length (line_in said) ≡ length (face_in said)
-line_face Passed = refl
-line_face (Position p) = refl
-line_face (Face n corners) = refl
-line_face (Refused e) = refl
+line_face said = grind (arith)
 
 -- How much longer the lists of what is kept are behind a line.
 record Grown (p p' : Positions) (c c' : Faces) (l l' : List ℕ) (line : Logical) : Type 0 where

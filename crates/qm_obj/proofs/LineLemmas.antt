@@ -1,11 +1,10 @@
 -- What `v` lines and `f` lines say, refusal by refusal.
-use Rattle.std.proofs.Common.{◌≡◌, ℕ, ℤ, ◌+◌, ◌-◌, ◌^◌, ◌≤◌, min, Bool, true, false, cond, ◌&&◌, ◌||◌, List, [], ◌∷◌, length, map, take, refl, sym, ap, ◌∙◌, arith, eqb, ltb, leb, Some, None}
+use Rattle.std.proofs.Common.{◌≡◌, ℕ, ℤ, ◌^◌, ◌≤◌, Bool, true, false, cond, ◌&&◌, ◌||◌, List, [], ◌∷◌, length, map, take, refl, sym, ap, ◌∙◌, arith, eqb, leb, Some, None}
 use Rattle.std.specs.List.{list_all, list_any}
 use Rattle.std.proofs.lemmas.Bool.{or_parts}
 use Rattle.std.proofs.lemmas.Bool.Decides.{nat_tests}
 use Rattle.def_text.specs.Corner.{is_corner, is_out, resolved, used_index}
 use Rattle.def_text.specs.Decimal.{is_decimal, is_far, rounded}
-use Rattle.def_text.specs.Digits.{is_negative, number, unsigned}
 use Rattle.def_text.specs.Reading.{face_reading, is_position_count, vertex_reading}
 use Rattle.def_text.specs.declared.reading.Reading.TheVariants.{Position, Face, Refused}
 use Rattle.def_text.specs.declared.refusal.ObjFail.TheVariants.{Syntax, NotQuad, Range}
@@ -49,11 +48,7 @@ vertex_position line vertices ws position few right is =
 pub vertex_far : (line vertices : ℕ) (ws : Words) → leb (2 ^ 21) vertices ≡ false → (is_position_count (length ws) && list_all is_decimal ws) ≡ true
     → all_near (map coordinate (take 3 ws)) ≡ None → Refused (Range line) ≡ vertex_reading line vertices ws
 vertex_far line vertices ws few right is =
-    by_far (list_any (λ w. is_far (rounded w)) (take 3 ws)) (sym (all_coordinates (take 3 ws)) ∙ is) ∙ sym (vertex_rest line vertices ws few right)
-  where
-    by_far : (t : Bool) → cond t None (Some (map rounded (take 3 ws))) ≡ None → Refused (Range line) ≡ cond t (Refused (Range line)) (Position (map rounded (take 3 ws)))
-    by_far true is = refl
-    by_far false is = cc is
+    grind (arith, sym (all_coordinates (take 3 ws)) ∙ is) ∙ sym (vertex_rest line vertices ws few right)
 
 -- An `f` line with a word that is no corner, and one with another number of corners.
 pub face_syntax : (line vertices faces : ℕ) (ws : Words) → leb (2 ^ 20) faces ≡ false → list_all is_corner ws ≡ false
@@ -71,11 +66,7 @@ face_rest line vertices faces ws few corners four = rw (few, corners, four) refl
 
 -- A corner that is out is kept as 0, and no other.
 out_zero : (vertices : ℕ) (word : List ℕ) → eqb (corner_of vertices word) 0 ≡ is_out vertices (used_index word)
-out_zero vertices word = by_number (number (unsigned (used_index word))) (is_negative (used_index word))
-  where
-    by_number : (n : ℕ) (t : Bool) → eqb (min (cond (eqb n 0 || (t && ltb vertices n)) 0 (min (cond t (vertices + 1 - n) n) (2 ^ 64 - 1))) (2 ^ 32 - 1)) 0 ≡ (eqb n 0 || (t && ltb vertices n))
-    by_number n true = grind (arith, nat_tests)
-    by_number n false = grind (arith, nat_tests)
+out_zero vertices word = grind (arith, nat_tests)
 
 in_capped : (vertices : ℕ) (word : List ℕ) → is_out vertices (used_index word) ≡ false → corner_of vertices word ≡ capped (resolved vertices (used_index word))
 in_capped vertices word inside = rw inside (omega arith)

@@ -116,34 +116,19 @@ late_some {X} n (Face at corners ∷ said) line x found = by_late (list_any (λ 
 
 -- Capping changes corners alone.
 pub refusal_capped : (said : Reading) → refusal_in (with_capped said) ≡ refusal_in said
-refusal_capped Passed = refl
-refusal_capped (Position p) = refl
-refusal_capped (Face n cs) = refl
-refusal_capped (Refused e) = refl
+refusal_capped said = grind (arith)
 
 pub position_capped : (said : Reading) → position_in (with_capped said) ≡ position_in said
-position_capped Passed = refl
-position_capped (Position p) = refl
-position_capped (Face n cs) = refl
-position_capped (Refused e) = refl
+position_capped said = grind (arith)
 
 pub face_capped : (said : Reading) → face_in (with_capped said) ≡ map (λ face. map capped face) (face_in said)
-face_capped Passed = refl
-face_capped (Position p) = refl
-face_capped (Face n cs) = refl
-face_capped (Refused e) = refl
+face_capped said = grind (arith)
 
 pub line_capped : (said : Reading) → line_in (with_capped said) ≡ line_in said
-line_capped Passed = refl
-line_capped (Position p) = refl
-line_capped (Face n cs) = refl
-line_capped (Refused e) = refl
+line_capped said = grind (arith)
 
 pub refused_capped : (said : Reading) (fail : ObjFail) → with_capped said ≡ Refused fail → said ≡ Refused fail
-refused_capped Passed fail is = cc is
-refused_capped (Position p) fail is = cc is
-refused_capped (Face n cs) fail is = cc is
-refused_capped (Refused e) fail is = is
+refused_capped said fail is = grind (arith)
 
 -- Capped corners are positive where the corners are, and late where they are; those that are not late are not capped.
 pub positive_capped : (faces : Faces) → list_all (list_all (λ corner. ltb 0 corner)) faces ≡ true → list_all (list_all (λ corner. ltb 0 corner)) (map (λ face. map capped face) faces) ≡ true
@@ -156,10 +141,7 @@ positive_capped (face ∷ faces) all =
     along [] all = refl
     along (corner ∷ corners) all =
         let parts : (ltb 0 corner ≡ true) × (list_all (λ corner. ltb 0 corner) corners ≡ true) = and_parts _ _ all in
-        and_from _ _ (one corner parts.0) (along corners parts.1)
-      where
-        one : (corner : ℕ) → ltb 0 corner ≡ true → ltb 0 (min corner (2 ^ 32 - 1)) ≡ true
-        one corner some = grind (arith, nat_tests)
+        and_from _ _ (grind (arith, nat_tests)) (along corners parts.1)
 
 pub any_capped : (n : ℕ) → n ≤ 2 ^ 21 → (corners : List ℕ) → list_any (λ corner. ltb n corner) (map capped corners) ≡ list_any (λ corner. ltb n corner) corners
 any_capped n few [] = refl

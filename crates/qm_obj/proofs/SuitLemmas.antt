@@ -1,11 +1,10 @@
 -- What one line says fits its kind and the limits.
-use Rattle.std.proofs.Common.{◌≡◌, ℕ, ℤ, ◌+◌, ◌-◌, ◌^◌, ◌<◌, ◌≤◌, Bool, true, false, cond, ◌&&◌, ◌||◌, List, [], ◌∷◌, length, take, map, refl, sym, ap, ◌∙◌, arith, eqb, ltb, leb}
+use Rattle.std.proofs.Common.{◌≡◌, ℕ, ℤ, ◌+◌, ◌^◌, ◌<◌, ◌≤◌, Bool, true, false, cond, List, [], ◌∷◌, length, take, map, refl, sym, ap, ◌∙◌, arith, ltb, leb}
 use Rattle.std.specs.List.{list_all, list_any}
 use Rattle.std.proofs.lemmas.Bool.{and_from, eqb-true, leb-false, ne_eqb, or_parts}
 use Rattle.std.proofs.lemmas.Bool.Decides.{nat_tests}
 use Rattle.def_text.specs.Corner.{is_out, resolved, used_index}
 use Rattle.def_text.specs.Decimal.{rounded}
-use Rattle.def_text.specs.Digits.{is_negative, number, unsigned}
 use Rattle.def_text.specs.Logical.{Logical}
 use Rattle.def_text.specs.Reading.{begins_with, face_reading, is_face_line, is_letter, is_vertex_line, reading, vertex_reading, words_reading}
 use Rattle.def_text.specs.Text.{face_in, faces, position_in, refusal_in}
@@ -70,11 +69,7 @@ one_letter a b ne (c ∷ d ∷ ds) is = refl
 
 -- An index that is not out names a positive number.
 resolved_positive : (vertices : ℕ) (word : List ℕ) → is_out vertices word ≡ false → ltb 0 (resolved vertices word) ≡ true
-resolved_positive vertices word inside = by_number (number (unsigned word)) (is_negative word) inside
-  where
-    by_number : (n : ℕ) (t : Bool) → (eqb n 0 || (t && ltb vertices n)) ≡ false → ltb 0 (cond t (vertices + 1 - n) n) ≡ true
-    by_number n true inside = grind (arith, nat_tests)
-    by_number n false inside = grind (arith, nat_tests)
+resolved_positive vertices word inside = grind (arith, nat_tests)
 
 positive_corners : (vertices : ℕ) (ws : Words) → list_any (λ w. is_out vertices (used_index w)) ws ≡ false
     → list_all (λ corner. ltb 0 corner) (map (λ w. resolved vertices (used_index w)) ws) ≡ true

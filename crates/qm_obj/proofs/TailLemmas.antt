@@ -17,11 +17,7 @@ none_at p (x ∷ xs) (suc i) none there = none_at p xs i (or_parts _ _ none).1 (
 
 -- A piece with its last byte taken off is at most one shorter.
 short_last : (byte : ℕ) (piece : Bytes) → length piece ≤ length (without_last byte piece) + 1
-short_last byte piece = by_test (eqb (get_or piece (length piece - 1) 0) byte)
-  where
-    by_test : (t : Bool) → length piece ≤ length (cond t (take (length piece - 1) piece) piece) + 1
-    by_test true = omega (arith, length-take-le (length piece - 1) piece (omega arith))
-    by_test false = omega arith
+short_last byte piece = grind (arith, length-take-le (length piece - 1) piece (omega arith))
 
 -- A line feed is taken off, and nothing where there is none.
 fed_last : (front : Bytes) → without_last 10 (front ++ 10 ∷ []) ≡ front

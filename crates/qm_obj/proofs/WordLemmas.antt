@@ -1,17 +1,15 @@
 -- The words of a line, one after another.
-use Rattle.std.proofs.Common.{◌≡◌, ℕ, suc, ◌+◌, ◌<◌, ◌≤◌, Bool, true, false, cond, not, List, [], ◌∷◌, length, take, drop, set, map, get_or, below_more, refl, sym, ap, ◌∙◌, arith, eqb, Some, None, leb, ◌^◌, ◌&&◌}
-use Rattle.std.proofs.lemmas.Bool.{eqb-true, or_from, or_left, or_parts, or_right, true≢false}
-use Rattle.std.proofs.lemmas.List.{drop_more, get_or-map, get_or-set_other, get_or-set_same, get_or-take, length-drop, length-map, length-set, length-take-le, same_lists}
+use Rattle.std.proofs.Common.{◌≡◌, ℕ, suc, ◌+◌, ◌<◌, ◌≤◌, Bool, true, false, cond, not, List, [], ◌∷◌, length, take, drop, set, map, get_or, below_more, refl, sym, ap, ◌∙◌, arith, eqb, Some, None}
+use Rattle.std.proofs.lemmas.Bool.{and_from, eqb-true, or_from, or_left, or_parts, or_right, true≢false}
+use Rattle.std.proofs.lemmas.List.{drop_more, get_or-map, get_or-set_other, get_or-set_same, get_or-take, length-drop, length-map, length-set, length-take-le, same_lists, take_all}
+use Rattle.std.proofs.lemmas.List.Folds.{list_all_at, list_all_more}
 use Rattle.std.specs.List.{before_first, list_all, list_any, position_or_len}
-use Rattle.def_text.specs.Decimal.{is_decimal, is_far, rounded}
 use Rattle.def_text.specs.Logical.{is_hash}
-use Rattle.def_text.specs.Reading.{face_reading, is_letter, is_position_count, vertex_reading, words_reading}
-use Rattle.def_text.specs.declared.refusal.ObjFail.TheVariants.{Limit, Range, Syntax}
-use Rattle.def_text.specs.declared.refusal.Which.TheVariants.{Vertices}
-use Rattle.def_text.specs.declared.reading.Reading.TheVariants.{Passed, Position, Refused}
+use Rattle.def_text.specs.Reading.{face_reading, is_letter, vertex_reading, words_reading}
+use Rattle.def_text.specs.declared.reading.Reading.TheVariants.{Passed}
 use Rattle.def_text.specs.Words.{ends_word, in_front, is_blank, words}
 use Rattle.qm_obj.specs.Indices.{with_capped}
-use Rattle.qm_obj.specs.Lines.{IsFilled, is_end, uncommented, with_word}
+use Rattle.qm_obj.specs.Lines.{IsFilled, IsReadTo, is_end, uncommented, with_word}
 use Rattle.def_text.specs.Types.{Words}
 
 -- A text that begins with no blank has its front up to the first blank as its first word.
@@ -70,11 +68,7 @@ first_word (b ∷ bs) at_word = by_hash (is_hash b) refl (at_word (omega arith))
 -- A line is no longer without its comment, which is what stands from its first `#` on.
 pub uncommented_short : (line : List ℕ) → length (uncommented line) ≤ length line
 uncommented_short [] = omega arith
-uncommented_short (b ∷ bs) = by_hash (is_hash b) (uncommented_short bs)
-  where
-    by_hash : (t : Bool) → length (uncommented bs) ≤ length bs → length (cond t [] (b ∷ uncommented bs)) ≤ suc (length bs)
-    by_hash true short = omega arith
-    by_hash false short = omega arith
+uncommented_short (b ∷ bs) = grind (arith, uncommented_short bs)
 
 pub uncommented_is : (line : List ℕ) → uncommented line ≡ before_first is_hash line
 uncommented_is [] = refl
@@ -96,13 +90,7 @@ words_few [] = omega arith
 words_few (b ∷ bs) = by_blank (is_blank b) (words_few bs)
   where
     by_blank : (t : Bool) → length (words bs) ≤ length bs → length (cond t (words bs) (cond (ends_word bs) ((b ∷ []) ∷ words bs) (in_front b (words bs)))) ≤ suc (length bs)
-    by_blank true few = omega arith
-    by_blank false few = by_end (ends_word bs) (words bs) few
-      where
-        by_end : (t : Bool) (ws : Words) → length ws ≤ length bs → length (cond t ((b ∷ []) ∷ ws) (in_front b ws)) ≤ suc (length bs)
-        by_end true ws few = omega arith
-        by_end false [] few = omega arith
-        by_end false (w ∷ ws) few = omega arith
+    by_blank t few = grind (arith)
 
 -- Where the next word is one, it is the word at this position.
 pub record IsNext (all : Words) (count : ℕ) (word : List ℕ) (after : Words) : Type 0 where
@@ -143,25 +131,57 @@ filled_all {X} says all count size slots read fits filled =
     (λ k d l. let there : k < size = omega (arith, filled.many) in
     filled.each k d (omega arith) there ∙ sym (get_or-map says (take size all) k [] d (omega arith) ∙ ap says (get_or-take size all k [] there)))
 
+-- All words are read, each passes the test, and the slots have what the first ones say.
+pub record AreRead {X : Type 0} (test : List ℕ → Bool) (says : List ℕ → X) (all : Words) (size count : ℕ) (slots : List X) : Type 0 where
+  pub many : length all ≡ count
+  pub passed : list_all test all ≡ true
+  pub filled : size ≤ count → slots ≡ map says (take size all)
+
 -- What a test gives, where it gives something, and where it gives nothing.
 pub some_from : {X : Type 0} (t : Bool) (x y : X) → cond t (Some x) None ≡ Some y → (t ≡ true) × (y ≡ x)
 some_from true x y is = (refl, cc)
 some_from false x y is = cc
 
 pub none_from : {X : Type 0} (t : Bool) (x : X) → cond t (Some x) None ≡ None → t ≡ false
-none_from true x is = cc
-none_from false x is = refl
+none_from t x is = grind (arith)
+
+-- Where the next word is one, fewer are left behind it.
+pub fewer_left : (word : List ℕ) (after rest : Words) → with_word word after ≡ rest → eqb (length word) 0 ≡ false → length after < length rest
+fewer_left word after rest first some = grind (arith, ap length first)
+
+module _ {X : Type 0} (test : List ℕ → Bool) (says : List ℕ → X) (all : Words) (size count : ℕ) (rest : Words) (slots : List X) (word : List ℕ) (after : Words)
+    (read : IsReadTo test says all size count rest slots) (first : with_word word after ≡ rest) where
+  -- The next word passes the test, and what it says is put into its slot.
+  pub read_more : (x : X) → eqb (length word) 0 ≡ false → cond (test word) (Some (says word)) None ≡ Some x → IsReadTo test says all size (count + 1) after (set slots count x)
+  read_more x some is =
+      let next : IsNext all count word after = next_is all count word after (first ∙ read.rest_is) some in
+      let got : (test word ≡ true) × (x ≡ says word) = some_from (test word) (says word) x is in
+      record {
+        within = omega (arith, next.there);
+        rest_is = next.behind;
+        passed = list_all_more test all count [] next.there ∙ and_from _ _ read.passed (ap test next.here ∙ got.0);
+        filled = filled_more says all count size slots x (got.1 ∙ ap says (sym next.here)) read.filled;
+      }
+
+  -- The next word does not pass it.
+  pub read_bad : eqb (length word) 0 ≡ false → cond (test word) (Some (says word)) None ≡ None → list_all test all ≡ false
+  read_bad some is =
+      let next : IsNext all count word after = next_is all count word after (first ∙ read.rest_is) some in
+      list_all_at test all count [] next.there (ap test next.here ∙ none_from (test word) (says word) is)
+
+  -- No word is left, so all are read.
+  pub all_read : eqb (length word) 0 ≡ true → AreRead test says all size count slots
+  all_read empty =
+      let none : length all ≤ count = next_none all count word after (first ∙ read.rest_is) empty in
+      record {
+        many = omega (arith, none, read.within);
+        passed = ap (list_all test) (sym (take_all count all none)) ∙ read.passed;
+        filled = λ fits. filled_all says all count size slots fits (omega (arith, read.within)) read.filled;
+      }
 
 -- A `v` line says no face.
 vertex_capped : (line vertices : ℕ) (words : Words) → with_capped (vertex_reading line vertices words) ≡ vertex_reading line vertices words
-vertex_capped line vertices words = by_tests (leb (2 ^ 21) vertices) (not (is_position_count (length words) && list_all is_decimal words)) (list_any (λ w. is_far (rounded w)) (take 3 words))
-  where
-    by_tests : (many bad far : Bool) → with_capped (cond many (Refused (Limit Vertices line)) (cond bad (Refused (Syntax line)) (cond far (Refused (Range line)) (Position (map rounded (take 3 words))))))
-        ≡ cond many (Refused (Limit Vertices line)) (cond bad (Refused (Syntax line)) (cond far (Refused (Range line)) (Position (map rounded (take 3 words)))))
-    by_tests true bad far = refl
-    by_tests false true far = refl
-    by_tests false false true = refl
-    by_tests false false false = refl
+vertex_capped line vertices words = grind (arith)
 
 -- What the first word and the words behind it say.
 pub by_first_word : (line vertices faces : ℕ) (all rest : Words) (first : List ℕ) → all ≡ with_word first rest

@@ -1,7 +1,7 @@
 -- Words one after another, and what a reader keeps of the lines.
-use Rattle.std.specs.Prelude.{◌≡◌, ◌<◌, ◌||◌, ℕ, Bool, if◌then◌else◌, List, [], ◌∷◌, ◌++◌, length, map}
+use Rattle.std.specs.Prelude.{◌≡◌, ◌<◌, ◌≤◌, ◌||◌, ℕ, Bool, true, if◌then◌else◌, List, [], ◌∷◌, ◌++◌, length, map, take, drop}
 use Rattle.std.specs.Prelude.{slice_index_or}
-use Rattle.std.specs.List.{flat_map}
+use Rattle.std.specs.List.{flat_map, list_all}
 use Rattle.def_io.specs.Bytes.{Bytes, Lines}
 use Rattle.def_text.specs.Logical.{Logical, is_hash}
 use Rattle.qm_obj.specs.Ahead.{text_ahead, size_ahead}
@@ -69,3 +69,11 @@ pub record HasReadTo (all rest : List Logical) (kept : Positions) (corners : Fac
 pub record IsFilled {X : Type 0} (says : List ℕ → X) (words : Words) (count size : ℕ) (slots : List X) : Type 0 where
   pub many : length slots ≡ size
   pub each : (k : ℕ) (d : X) → k < count → k < size → slice_index_or slots k d ≡ says (slice_index_or words k [])
+
+-- So many words of a line are read: each passes a test, the slots have what the words say, and the rest is left.
+pub record IsReadTo {X : Type 0} (test : List ℕ → Bool) (says : List ℕ → X) (words : Words) (size count : ℕ)
+    (rest : Words) (slots : List X) : Type 0 where
+  pub within : count ≤ length words
+  pub rest_is : rest ≡ drop count words
+  pub passed : list_all test (take count words) ≡ true
+  pub filled : IsFilled says words count size slots

@@ -1,18 +1,12 @@
-use Rattle.std.proofs.Common.{◌≡◌, ◌≤◌, true, length, take, drop}
-use Rattle.std.specs.List.{list_all}
+use Rattle.std.proofs.Common.{length}
 use Rattle.def_text.specs.Corner.{is_corner}
 use Rattle.qm_obj.specs.Indices.{corner_of}
 use Rattle.def_text.specs.Words.{words}
-use Rattle.qm_obj.specs.Lines.{IsFilled, uncommented}
+use Rattle.qm_obj.specs.Lines.{IsReadTo, uncommented}
 use Rattle.qm_obj.proofs.line.read_face.Given as goal
 
 abbrev pub invariant-words : goal.invariant-words
-invariant-words l = record {
-  within : l.count ≤ length (words (uncommented l.text));
-  rest_is : words (uncommented l.rest) ≡ drop l.count (words (uncommented l.text));
-  passed : list_all is_corner (take l.count (words (uncommented l.text))) ≡ true;
-  filled : IsFilled (corner_of l.vertices) (words (uncommented l.text)) l.count 4 l.corners;
-}
+invariant-words l = IsReadTo is_corner (corner_of l.vertices) (words (uncommented l.text)) 4 l.count (words (uncommented l.rest)) l.corners
 
 abbrev pub decreases-words : goal.decreases-words
 decreases-words l = length (words (uncommented l.rest))

@@ -1,22 +1,18 @@
-use Rattle.std.proofs.Common.{◌≡◌, ◌≤◌, ◌+◌, ◌^◌, [], true, false, length, map, take, arith, sym, ◌∙◌, ap, length-drop, leb}
+use Rattle.std.proofs.Common.{◌≡◌, ◌&&◌, true, length, map, take, arith, sym, ◌∙◌, ap}
 use Rattle.std.specs.List.{list_all}
 use Rattle.std.proofs.lemmas.Bool.{and_from, and_left, and_right, lt-leb}
-use Rattle.std.proofs.lemmas.List.{take_all}
-use Rattle.std.proofs.lemmas.List.Folds.{list_all_at, list_all_more}
 use Rattle.def_text.specs.Decimal.{is_decimal}
 use Rattle.def_text.specs.Reading.{is_position_count}
 use Rattle.qm_obj.specs.Positions.{all_near, coordinate}
 use Rattle.qm_obj.proofs.LineLemmas.{position_words, vertex_far, vertex_position, vertex_syntax}
 use Rattle.def_text.specs.Words.{words}
 use Rattle.qm_obj.specs.Lines.{uncommented}
-use Rattle.qm_obj.proofs.WordLemmas.{IsNext, next_is, next_none, words_few, uncommented_short, filled_more, filled_all, some_from, none_from}
+use Rattle.qm_obj.proofs.WordLemmas.{AreRead, IsNext, all_read, fewer_left, next_is, read_bad, read_more, words_few, uncommented_short}
+use Rattle.qm_obj.proofs.line.read_vertex.Goals.{After-is_empty}
 use Rattle.qm_obj.proofs.line.read_vertex.Goals as goal
 
 pub words-smaller : goal.words-smaller
-words-smaller c =
-    let next : IsNext (words (uncommented c.args.text.now)) c.words.count c.next_word.result.0.now (words (uncommented c.next_word.result.1.now)) =
-    next_is _ _ _ _ (sym c.next_word.ensures.first ∙ c.words.invariant.rest_is) (sym c.is_empty.ensures ∙ c.if-is_empty.false) in
-    omega (arith, ap length next.behind, ap length c.words.invariant.rest_is, length-drop c.words.count (words (uncommented c.args.text.now)), length-drop (c.words.count + 1) (words (uncommented c.args.text.now)), next.there)
+words-smaller c = fewer_left _ _ _ (sym c.next_word.ensures.first) (sym c.is_empty.ensures ∙ c.if-is_empty.false)
 
 pub overflow_add-count : goal.overflow_add-count
 overflow_add-count c =
@@ -25,52 +21,39 @@ overflow_add-count c =
     omega (arith, next.there, words_few (uncommented c.args.text.now), uncommented_short c.args.text.now)
 
 pub words-preserved : goal.words-preserved
-words-preserved c =
-    let next : IsNext (words (uncommented c.args.text.now)) c.words.count c.next_word.result.0.now (words (uncommented c.next_word.result.1.now)) =
-    next_is _ _ _ _ (sym c.next_word.ensures.first ∙ c.words.invariant.rest_is) (sym c.is_empty.ensures ∙ c.if-is_empty.false) in
-    let got : (is_decimal c.next_word.result.0.now ≡ true) × (c.in-Some.number ≡ coordinate c.next_word.result.0.now) = some_from _ _ _ (sym c.read_coordinate.ensures ∙ c.in-Some.is) in
-    record {
-      within = omega (arith, next.there);
-      rest_is = next.behind;
-      passed = list_all_more is_decimal (words (uncommented c.args.text.now)) c.words.count [] next.there ∙ and_from _ _ c.words.invariant.passed (ap is_decimal next.here ∙ got.0);
-      filled = rw c.put.ensures (filled_more coordinate (words (uncommented c.args.text.now)) c.words.count 3 c.words.slots c.in-Some.number (got.1 ∙ ap coordinate (sym next.here)) c.words.invariant.filled);
-    }
+words-preserved c = rw c.put.ensures (read_more _ _ _ _ _ _ _ _ _ c.words.invariant (sym c.next_word.ensures.first) _ (sym c.is_empty.ensures ∙ c.if-is_empty.false) (sym c.read_coordinate.ensures ∙ c.in-Some.is))
 
 pub returns-in_default : goal.returns-in_default
 returns-in_default c =
-    let next : IsNext (words (uncommented c.args.text.now)) c.words.count c.next_word.result.0.now (words (uncommented c.next_word.result.1.now)) =
-    next_is _ _ _ _ (sym c.next_word.ensures.first ∙ c.words.invariant.rest_is) (sym c.is_empty.ensures ∙ c.if-is_empty.false) in
-    let bad : list_all is_decimal (words (uncommented c.args.text.now)) ≡ false =
-    list_all_at is_decimal (words (uncommented c.args.text.now)) c.words.count [] next.there (ap is_decimal next.here ∙ none_from _ (coordinate c.next_word.result.0.now) (sym c.read_coordinate.ensures ∙ c.in_default.is)) in
-    let few : leb (2 ^ 21) c.args.vertices ≡ false = lt-leb _ _ (omega arith) in
-    vertex_syntax c.args.line c.args.vertices (words (uncommented c.args.text.now)) few (and_right _ _ bad)
+    vertex_syntax c.args.line c.args.vertices (words (uncommented c.args.text.now)) (lt-leb _ _ (omega arith))
+    (and_right _ _ (read_bad _ _ _ _ _ _ _ _ _ c.words.invariant (sym c.next_word.ensures.first) (sym c.is_empty.ensures ∙ c.if-is_empty.false) (sym c.read_coordinate.ensures ∙ c.in_default.is)))
+
+-- Where no word is left, all are decimals.
+read : (c : After-is_empty) → c.is_empty.result ≡ true → AreRead is_decimal coordinate (words (uncommented c.args.text.now)) 3 c.words.count c.words.slots
+read c empty = all_read _ _ _ _ _ _ _ _ _ c.words.invariant (sym c.next_word.ensures.first) (sym c.is_empty.ensures ∙ empty)
 
 pub returns-then-not-is_right_count : goal.returns-then-not-is_right_count
 returns-then-not-is_right_count c =
-    let read : length (words (uncommented c.args.text.now)) ≤ c.words.count = next_none _ _ _ _ (sym c.next_word.ensures.first ∙ c.words.invariant.rest_is) (sym c.is_empty.ensures ∙ c.if-is_empty.true) in
-    let many : length (words (uncommented c.args.text.now)) ≡ c.words.count = omega (arith, c.words.invariant.within) in
-    let few : leb (2 ^ 21) c.args.vertices ≡ false = lt-leb _ _ (omega arith) in
-    let other : is_position_count (length (words (uncommented c.args.text.now))) ≡ false = ap is_position_count many ∙ sym c.is_right_count.ensures ∙ c.if-not-is_right_count.true in
-    vertex_syntax c.args.line c.args.vertices (words (uncommented c.args.text.now)) few (and_left _ _ other)
+    let all : AreRead is_decimal coordinate (words (uncommented c.args.text.now)) 3 c.words.count c.words.slots = read (goal.at.returns-then-not-is_right_count c).After-is_empty c.if-is_empty.true in
+    vertex_syntax c.args.line c.args.vertices (words (uncommented c.args.text.now)) (lt-leb _ _ (omega arith)) (and_left _ _ (ap is_position_count all.many ∙ sym c.is_right_count.ensures ∙ c.if-not-is_right_count.true))
+
+-- As many decimals as a position has, of which the slots have the first three.
+right : (c : After-is_empty) → c.is_empty.result ≡ true → is_position_count c.words.count ≡ true → (is_position_count (length (words (uncommented c.args.text.now))) && list_all is_decimal (words (uncommented c.args.text.now))) ≡ true
+right c empty many = and_from _ _ (ap is_position_count (read c empty).many ∙ many) (read c empty).passed
+
+slots : (c : After-is_empty) → c.is_empty.result ≡ true → is_position_count c.words.count ≡ true → c.words.slots ≡ map coordinate (take 3 (words (uncommented c.args.text.now)))
+slots c empty many = (read c empty).filled (position_words c.words.count many)
 
 pub returns-in-Some-read_position : goal.returns-in-Some-read_position
 returns-in-Some-read_position c =
-    let read : length (words (uncommented c.args.text.now)) ≤ c.words.count = next_none _ _ _ _ (sym c.next_word.ensures.first ∙ c.words.invariant.rest_is) (sym c.is_empty.ensures ∙ c.if-is_empty.true) in
-    let many : length (words (uncommented c.args.text.now)) ≡ c.words.count = omega (arith, c.words.invariant.within) in
-    let few : leb (2 ^ 21) c.args.vertices ≡ false = lt-leb _ _ (omega arith) in
-    let right : is_position_count c.words.count ≡ true = sym c.is_right_count.ensures ∙ c.if-not-is_right_count.false in
-    let passed : list_all is_decimal (words (uncommented c.args.text.now)) ≡ true = ap (list_all is_decimal) (sym (take_all c.words.count (words (uncommented c.args.text.now)) read)) ∙ c.words.invariant.passed in
-    let three : 3 ≤ c.words.count = position_words c.words.count right in
-    let slots : c.words.slots ≡ map coordinate (take 3 (words (uncommented c.args.text.now))) = filled_all coordinate (words (uncommented c.args.text.now)) c.words.count 3 c.words.slots three (omega arith) c.words.invariant.filled in
-    vertex_position c.args.line c.args.vertices (words (uncommented c.args.text.now)) c.in-Some-read_position.position few (and_from _ _ (ap is_position_count many ∙ right) passed) (ap all_near (sym slots) ∙ sym c.read_position.ensures ∙ c.in-Some-read_position.is)
+    let at : After-is_empty = (goal.at.returns-in-Some-read_position c).After-is_empty in
+    let many : is_position_count c.words.count ≡ true = sym c.is_right_count.ensures ∙ c.if-not-is_right_count.false in
+    vertex_position c.args.line c.args.vertices (words (uncommented c.args.text.now)) c.in-Some-read_position.position (lt-leb _ _ (omega arith)) (right at c.if-is_empty.true many)
+    (ap all_near (sym (slots at c.if-is_empty.true many)) ∙ sym c.read_position.ensures ∙ c.in-Some-read_position.is)
 
 pub returns-in-None : goal.returns-in-None
 returns-in-None c =
-    let read : length (words (uncommented c.args.text.now)) ≤ c.words.count = next_none _ _ _ _ (sym c.next_word.ensures.first ∙ c.words.invariant.rest_is) (sym c.is_empty.ensures ∙ c.if-is_empty.true) in
-    let many : length (words (uncommented c.args.text.now)) ≡ c.words.count = omega (arith, c.words.invariant.within) in
-    let few : leb (2 ^ 21) c.args.vertices ≡ false = lt-leb _ _ (omega arith) in
-    let right : is_position_count c.words.count ≡ true = sym c.is_right_count.ensures ∙ c.if-not-is_right_count.false in
-    let passed : list_all is_decimal (words (uncommented c.args.text.now)) ≡ true = ap (list_all is_decimal) (sym (take_all c.words.count (words (uncommented c.args.text.now)) read)) ∙ c.words.invariant.passed in
-    let three : 3 ≤ c.words.count = position_words c.words.count right in
-    let slots : c.words.slots ≡ map coordinate (take 3 (words (uncommented c.args.text.now))) = filled_all coordinate (words (uncommented c.args.text.now)) c.words.count 3 c.words.slots three (omega arith) c.words.invariant.filled in
-    vertex_far c.args.line c.args.vertices (words (uncommented c.args.text.now)) few (and_from _ _ (ap is_position_count many ∙ right) passed) (ap all_near (sym slots) ∙ sym c.read_position.ensures ∙ c.in-None.is)
+    let at : After-is_empty = (goal.at.returns-in-None c).After-is_empty in
+    let many : is_position_count c.words.count ≡ true = sym c.is_right_count.ensures ∙ c.if-not-is_right_count.false in
+    vertex_far c.args.line c.args.vertices (words (uncommented c.args.text.now)) (lt-leb _ _ (omega arith)) (right at c.if-is_empty.true many)
+    (ap all_near (sym (slots at c.if-is_empty.true many)) ∙ sym c.read_position.ensures ∙ c.in-None.is)
