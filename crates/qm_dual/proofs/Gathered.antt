@@ -31,9 +31,8 @@ around_step n d nested j l =
     let own : ℕ → ℤ = λ (k : ℕ). cond (j == k) (z_at d k) (pos 0) in
     let rest : ℕ → ℤ = λ (k : ℕ). cond (climbs n d.up (length d.z) k (slice_index d.up (n + j))) (z_at d k) (pos 0) in
     let parts : around n d (suc j) ≡ total_below (λ k. own k +ℤ rest k) (length d.z) = total_below_same _ _ (length d.z) (λ k lk. ap (λ b. cond b (z_at d k) (pos 0)) (climb_on n (length d.z) d.up nested k j l) ∙ by_tests k (cases_eq j k)) in
-    let one : total_below own (length d.z) ≡ own j = total_below_one own (length d.z) j l (λ k lk ne. ap (λ b. cond b (z_at d k) (pos 0)) (ne_eqb j k (λ e. ne (sym e)))) in
     let here : own j ≡ z_at d j = ap (λ b. cond b (z_at d j) (pos 0)) (eq-eqb j j refl) in
-    omega (arith, ints, parts, total_below_sum own rest (length d.z), one, here)
+    omega (arith, ints, parts, total_below_sum own rest (length d.z), total_below_one own (length d.z) j l (λ k lk ne. ap (λ b. cond b (z_at d k) (pos 0)) (ne_eqb j k (λ e. ne (sym e)))), here)
   where
     m : ℕ
     m = length d.z

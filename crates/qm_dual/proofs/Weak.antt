@@ -52,9 +52,7 @@ at_least_once s z (e ∷ es) high some = by_test (crosses s e) some (at_least_on
 pub odd_leaves : (s : ℕ → Bool) (n : ℕ) (es : List WEdge) → EndsBelow (λ (e : WEdge). e.u) (λ (e : WEdge). e.v) n es → ((v : ℕ) → v < n → count (ends_at v) es ≡ 1)
     → count_below (λ v. cond (s v) 1 0) n % 2 ≡ 1 → 1 ≤ count (leaving s) es
 odd_leaves s n es below once odd =
-    let held : total (λ (e : WEdge). pos (cond (s e.u) 1 0) +ℤ pos (cond (s e.v) 1 0)) es ≡ total_below (λ v. pos (cond (s v) 1 0)) n = ends_once (λ (e : WEdge). e.u) (λ (e : WEdge). e.v) (λ v. pos (cond (s v) 1 0)) n es below once in
-    let size : pos (count_below (λ v. cond (s v) 1 0) n) ≡ total_below (λ v. pos (cond (s v) 1 0)) n = count_below_total (λ v. cond (s v) 1 0) n in
-    let is : count_below (λ v. cond (s v) 1 0) n ≡ 2 * count (inside s) es + count (leaving s) es = omega (arith, ints, held, size, ends_held s es) in
+    let is : count_below (λ v. cond (s v) 1 0) n ≡ 2 * count (inside s) es + count (leaving s) es = omega (arith, ints, ends_once (λ (e : WEdge). e.u) (λ (e : WEdge). e.v) (λ v. pos (cond (s v) 1 0)) n es below once, count_below_total (λ v. cond (s v) 1 0) n, ends_held s es) in
     omega arith
 
 -- A lawful size is odd.
@@ -66,13 +64,7 @@ weak_duality g d is says m perfect =
     let es : List WEdge = map (edge_at g) m in
     let below : EndsBelow (λ (e : WEdge). e.u) (λ (e : WEdge). e.v) g.n es = chosen_below g is 0 m perfect.rising in
     let sets : ℕ → WEdge → ℤ = λ (k : ℕ) (e : WEdge). cond (crosses (holds g.n d k) e) (z_at d k) (pos 0) in
-    let low : total (load g.n d) es ≤ℤ (pos 2 *ℤ matching_cost g m) = loads_low g d says 0 m perfect.rising in
-    let split : total (load g.n d) es ≡ total (λ (e : WEdge). y_at d e.u +ℤ y_at d e.v) es +ℤ total (λ (e : WEdge). total_below (λ k. sets k e) (length d.z)) es = total_sum (λ (e : WEdge). y_at d e.u +ℤ y_at d e.v) (λ (e : WEdge). total_below (λ k. sets k e) (length d.z)) es in
-    let ys : total (λ (e : WEdge). y_at d e.u +ℤ y_at d e.v) es ≡ total_below (y_at d) g.n = ends_once (λ (e : WEdge). e.u) (λ (e : WEdge). e.v) (y_at d) g.n es below perfect.once in
-    let swap : total (λ (e : WEdge). total_below (λ k. sets k e) (length d.z)) es ≡ total_below (λ k. total (sets k) es) (length d.z) = two_orders sets (length d.z) es in
     let zs : total_below (z_at d) (length d.z) ≤ℤ total_below (λ k. total (sets k) es) (length d.z) =
     total_below_le (z_at d) (λ k. total (sets k) es) (length d.z) (λ k l. at_least_once (holds g.n d k) (z_at d k) es (says.positive k l) (odd_leaves (holds g.n d k) g.n es below perfect.once (odd_size (set_size g.n d k) (says.odd k l)))) in
-    let all_y : total (λ y. y) d.y ≡ total_below (y_at d) (length d.y) = total_entries (λ y. y) (pos 0) d.y in
-    let all_z : total (λ z. z) d.z ≡ total_below (z_at d) (length d.z) = total_entries (λ z. z) (pos 0) d.z in
     let all_n : total_below (y_at d) (length d.y) ≡ total_below (y_at d) g.n = rw says.numbers refl in
-    omega (arith, ints, low, split, ys, swap, zs, all_y, all_z, all_n)
+    omega (arith, ints, loads_low g d says 0 m perfect.rising, total_sum (λ (e : WEdge). y_at d e.u +ℤ y_at d e.v) (λ (e : WEdge). total_below (λ k. sets k e) (length d.z)) es, ends_once (λ (e : WEdge). e.u) (λ (e : WEdge). e.v) (y_at d) g.n es below perfect.once, two_orders sets (length d.z) es, zs, total_entries (λ y. y) (pos 0) d.y, total_entries (λ z. z) (pos 0) d.z, all_n)
