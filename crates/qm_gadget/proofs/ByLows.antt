@@ -4,7 +4,7 @@ use Rattle.std.specs.Prelude.{slice_index, slice_index_or, nat_lt}
 use Rattle.std.proofs.lemmas.Bool.Decides.{nat_tests}
 use Rattle.std.proofs.lemmas.List.{drop_more, length-append}
 use Rattle.def_flow.specs.Network.{Network}
-use Rattle.def_flow.specs.Units.{down, low, cap, run, units_from, units, states, states_at}
+use Rattle.def_flow.specs.Units.{down, cap, run, units_from, states, states_at}
 use Rattle.def_flow.specs.declared.net.Arc.{Arc}
 use Rattle.def_flow.specs.Units.{unit_at, units_from, units_over, states_over}
 

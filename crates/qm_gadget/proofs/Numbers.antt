@@ -56,7 +56,7 @@ marks_two room used on left right = by_signs (are_alike left right)
 -- A unit has as many marks as edges.
 pub marks_width : (room used : ℕ → ℕ) (on : Bool) (left : End) (right : Option End) → length (marks_by room used on left right) ≡ width_by room left right
 marks_width room used on left None = length-append (end_marks room used (is_active on left) left) (not (is_active on left) ∷ []) ∙ ap (λ n. n + 1) (choice_length (is_active on left) (used left.node) (room left.node))
-marks_width room used on left (Some right) = by_signs (are_alike left right)
+marks_width room used on left (Some right) = grind (arith, length-append firsts (seconds ++ not (is_active on left) ∷ []), length-append seconds (not (is_active on left) ∷ []), first, second, length-append firsts seconds)
   where
     firsts : List Bool
     firsts = end_marks room used (is_active on left) left
@@ -70,18 +70,13 @@ marks_width room used on left (Some right) = by_signs (are_alike left right)
     second : length seconds ≡ room right.node
     second = choice_length (is_active on right) (take_end used (is_active on left) left right.node) (room right.node)
 
-    by_signs : (b : Bool) → length (cond b (firsts ++ (seconds ++ not (is_active on left) ∷ [])) (firsts ++ seconds)) ≡ cond b (room left.node + (room right.node + 1)) (room left.node + room right.node)
-    by_signs true = omega (arith, length-append firsts (seconds ++ not (is_active on left) ∷ []), length-append seconds (not (is_active on left) ∷ []), first, second)
-    by_signs false = omega (arith, length-append firsts seconds, first, second)
-
 -- The marks at the rim, by whether there is a vertex before.
 abbrev pub is_there : Option ℕ → Bool
 is_there None = false
 is_there (Some b) = true
 
 mark_is : (before : Option ℕ) (m : Bool) → mark_from before m ≡ mark_if (is_there before) m
-mark_is None m = refl
-mark_is (Some b) m = refl
+mark_is before m = grind (arith)
 
 pub rim_is : (before : Option ℕ) (waits : Bool) (fresh : ℕ) (os : List Bool) → rim_marks before waits fresh os ≡ rim_by (is_there before) waits os
 rim_is before waits fresh [] = refl
@@ -140,17 +135,14 @@ marks_step m now k w part rest whole split width pushed =
 
 -- The state of a unit at the rim, and those of the units after it.
 pub with_state_first : (o : Option End) (b : Bool) (bs : List Bool) → with_state o b bs ≡ with_state o b [] ++ bs
-with_state_first None b bs = refl
-with_state_first (Some e) b bs = refl
+with_state_first o b bs = grind (arith)
 
 pub if_width : (there m : Bool) → length (mark_if there m) ≡ cond there 1 0
-if_width true m = refl
-if_width false m = refl
+if_width there m = grind (arith)
 
 -- The marks of one vertex at the rim, and of those after it.
 rim_first : (there waits o p : Bool) (os : List Bool) → rim_by there waits (o ∷ p ∷ os) ≡ turn_marks there waits o false ++ rim_by true (differ waits o) (p ∷ os)
-rim_first true waits o p os = refl
-rim_first false waits o p os = refl
+rim_first there waits o p os = grind (arith)
 
 pub rim_step : (there waits : Bool) (os : List Bool) (i : ℕ) → i < length os → rim_by there waits (drop i os) ≡ turn_marks there waits (slice_index_or os i false) (i + 1 == length os) ++ rim_by true (differ waits (slice_index_or os i false)) (drop (i + 1) os)
 rim_step there waits os i l = ap (rim_by there waits) (drop_more os i false l) ∙ by_order (cases_eq (i + 1) (length os))
@@ -170,7 +162,4 @@ rim_step there waits os i l = ap (rim_by there waits) (drop_more os i false l) �
 
 -- One vertex at the rim has at most 4 edges here.
 pub turn_low : (there waits o last : Bool) → length (turn_marks there waits o last) ≤ 4
-turn_low true waits o true = omega arith
-turn_low true waits o false = omega arith
-turn_low false waits o true = omega arith
-turn_low false waits o false = omega arith
+turn_low there waits o last = grind (arith)

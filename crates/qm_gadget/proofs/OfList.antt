@@ -1,6 +1,6 @@
 -- The lows and caps of an admissible list are ready for a plan, and its plan gives its matching graph.
-use Rattle.std.proofs.Common.{◌≡◌, ℕ, zero, suc, ◌+◌, ◌-◌, ◌*◌, ◌%◌, ◌^◌, ◌<◌, ◌≤◌, ◌==◌, Bool, true, false, cond, List, [], ◌∷◌, length, map, Option, Some, None, refl, sym, ◌∙◌, ap, inl, inr, arith}
-use Rattle.std.specs.Prelude.{slice_index, unsigned_abs}
+use Rattle.std.proofs.Common.{◌≡◌, ℕ, zero, suc, ◌+◌, ◌-◌, ◌*◌, ◌%◌, ◌^◌, ◌<◌, ◌≤◌, ◌==◌, Bool, cond, List, [], ◌∷◌, length, map, Option, Some, None, sym, ◌∙◌, ap, inl, inr, arith}
+use Rattle.std.specs.Prelude.{unsigned_abs}
 use Rattle.std.proofs.Math.Nat.{mul-le-mul}
 use Rattle.std.proofs.lemmas.Bool.{cases_lt}
 use Rattle.std.proofs.lemmas.List.{length-map, get_or-map, get_or_past}
@@ -37,8 +37,7 @@ units_few [] = omega arith
 units_few (u ∷ us) = omega (arith, one u.left u.right, units_few us)
   where
     by_signs : (b : Bool) → 1 ≤ cond b 2 1
-    by_signs true = omega arith
-    by_signs false = omega arith
+    by_signs b = grind (arith)
 
     one : (left : End) (right : Option End) → 1 ≤ size_by left right
     one left None = omega arith

@@ -1,5 +1,5 @@
 -- Reading a rising list of edges unit by unit.
-use Rattle.std.proofs.Common.{◌≡◌, ℕ, zero, suc, ◌+◌, ◌*◌, ◌<◌, ◌≤◌, ◌==◌, Bool, true, false, not, cond, List, [], ◌∷◌, length, take, drop, map, Option, Some, None, refl, sym, ◌∙◌, ap, subst, inl, inr, ◌⊎◌, add-zero, length-append, arith}
+use Rattle.std.proofs.Common.{◌≡◌, ℕ, zero, suc, ◌+◌, ◌*◌, ◌<◌, ◌≤◌, ◌==◌, Bool, true, false, not, cond, List, [], ◌∷◌, length, take, drop, map, Option, refl, sym, ◌∙◌, ap, subst, inl, inr, ◌⊎◌, add-zero, length-append, arith}
 use Rattle.std.specs.Prelude.{nat_lt, slice_index, slice_index_or}
 use Rattle.std.specs.Bool.{beq}
 use Rattle.std.proofs.lemmas.Bool.{cases_eq, cases_lt, eq-eqb, ne_eqb, lt-ltb}
@@ -9,7 +9,7 @@ use Rattle.def_math.specs.Counts.{count}
 use Rattle.def_flow.specs.Network.{Network}
 use Rattle.def_math.specs.Rising.{IsRising}
 use Rattle.def_flow.specs.Units.{low, cap, active_at}
-use Rattle.def_flow.specs.MatchingGraph.{are_alike, graph_by, units_links, rim_links, lone_vertex, first_fresh, rim}
+use Rattle.def_flow.specs.MatchingGraph.{graph_by, units_links, rim_links, lone_vertex, first_fresh, rim}
 use Rattle.def_math.specs.Counts.{count_below}
 use Rattle.def_flow.specs.declared.net.End.{End}
 use Rattle.def_flow.specs.declared.units.ArcUnit.{ArcUnit}
@@ -97,13 +97,7 @@ some_marked (suc room) (suc t) k high (x ∷ m) le rising = elim (cases_eq x k) 
 
 -- The state of a unit, by the first number.
 pub state_read : (room : ℕ → ℕ) (left : End) (t k high : ℕ) (m : List ℕ) → room left.node ≤ t → IsRising k high m → state_told room (marks_from k t m) left ≡ beq left.plus (first_below m (k + room left.node))
-state_read room left t k high m le rising = ap (λ b. cond left.plus b (not b)) (some_marked (room left.node) t k high m le rising) ∙ by_sign left.plus (first_below m (k + room left.node))
-  where
-    by_sign : (p b : Bool) → cond p b (not b) ≡ beq p b
-    by_sign true true = refl
-    by_sign true false = refl
-    by_sign false true = refl
-    by_sign false false = refl
+state_read room left t k high m le rising = ap (λ b. cond left.plus b (not b)) (some_marked (room left.node) t k high m le rising) ∙ grind (arith)
 
 -- The states from a unit on: its own, and those from the next on.
 pub states_read : (room : ℕ → ℕ) (us : List ArcUnit) (i : ℕ) (u : ArcUnit) (t n k high : ℕ) (m : List ℕ) → i < length us → t ≡ width_of_unit room (slice_index_or us i u) + n → room (slice_index_or us i u).left.node ≤ t → IsRising k high m
@@ -113,12 +107,7 @@ states_read room us i u t n k high m l long le rising =
 
 -- The first end's copies are among a unit's edges.
 pub room_in_width : (room : ℕ → ℕ) (left : End) (right : Option End) → room left.node ≤ width_by room left right
-room_in_width room left None = omega arith
-room_in_width room left (Some right) = by_signs (are_alike left right)
-  where
-    by_signs : (b : Bool) → room left.node ≤ cond b (room left.node + (room right.node + 1)) (room left.node + room right.node)
-    by_signs true = omega arith
-    by_signs false = omega arith
+room_in_width room left right = grind (arith)
 
 -- The widths from a unit on.
 pub widths_step : (room : ℕ → ℕ) (us : List ArcUnit) (i : ℕ) (u : ArcUnit) → i < length us → count (width_of_unit room) (drop i us) ≡ width_of_unit room (slice_index_or us i u) + count (width_of_unit room) (drop (i + 1) us)

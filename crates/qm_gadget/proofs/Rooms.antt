@@ -1,5 +1,5 @@
 -- Counts of active ends, one unit at a time.
-use Rattle.std.proofs.Common.{◌≡◌, ℕ, zero, suc, ◌+◌, ◌*◌, ◌%◌, ◌<◌, ◌≤◌, ◌==◌, Bool, true, false, not, ◌&&◌, cond, List, [], ◌∷◌, length, take, drop, Option, Some, None, refl, sym, ◌∙◌, subst, inl, inr, arith}
+use Rattle.std.proofs.Common.{◌≡◌, ℕ, zero, suc, ◌+◌, ◌*◌, ◌%◌, ◌<◌, ◌≤◌, ◌==◌, Bool, true, false, not, ◌&&◌, cond, List, [], ◌∷◌, length, take, drop, Option, Some, None, refl, subst, inl, inr, arith}
 use Rattle.std.specs.Prelude.{slice_index, slice_index_or, option_to_list}
 use mathlib.Core.Bool.{beq}
 use Rattle.std.proofs.lemmas.Bool.{cases_lt, ne_eqb}
@@ -30,19 +30,11 @@ right_at nodes left right o is at = (subst (λ (p : Option End). EndsBelow nodes
 
 -- Counting at the node of an active end.
 pub end_raised : (e : End) (on : Bool) (old new : List ℕ) → is_active on e ≡ true → IsRaised (at_place e.node 1) old new → IsRaised (end_active e on) old new
-end_raised e on old new active raised = raised_as (at_place e.node 1) (end_active e on) old new (λ v l. rw active (by_place (e.node == v))) raised
-  where
-    by_place : (b : Bool) → ◌≡◌ {A = ℕ} (cond b 1 0) (cond (b && true) 1 0)
-    by_place true = refl
-    by_place false = refl
+end_raised e on old new active raised = raised_as (at_place e.node 1) (end_active e on) old new (λ v l. rw active (grind (arith))) raised
 
 -- An end that is not active counts nowhere.
 pub end_still : (e : End) (on : Bool) (table : List ℕ) → is_active on e ≡ false → IsRaised (end_active e on) table table
-end_still e on table off = raised_none (end_active e on) table (λ v l. rw off (by_place (e.node == v)))
-  where
-    by_place : (b : Bool) → ◌≡◌ {A = ℕ} (cond (b && false) 1 0) 0
-    by_place true = refl
-    by_place false = refl
+end_still e on table off = raised_none (end_active e on) table (λ v l. rw off (grind (arith)))
 
 -- Where one end after the other is counted, all active ends of a unit are.
 pub one_active : (u : ArcUnit) (on : Bool) (old new : List ℕ) → u.right ≡ None → IsRaised (end_active u.left on) old new → IsRaised (λ v. active_at v u on) old new
@@ -58,11 +50,7 @@ end_low e on v = once_at_most ((e.node == v) && is_active on e)
 
 -- A unit has at most two active ends at a node.
 pub active_at_low : (v : ℕ) (u : ArcUnit) (on : Bool) → active_at v u on ≤ 2
-active_at_low v u on = by_right u.right
-  where
-    by_right : (o : Option End) → count (λ (e : End). end_active e on v) (u.left ∷ option_to_list o) ≤ 2
-    by_right None = omega (arith, once_at_most ((u.left.node == v) && is_active on u.left))
-    by_right (Some e) = omega (arith, once_at_most ((u.left.node == v) && is_active on u.left), once_at_most ((e.node == v) && is_active on e))
+active_at_low v u on = grind (arith, once_at_most ((u.left.node == v) && is_active on u.left))
 
 -- There are at most two active ends for each unit.
 pub active_low : (v : ℕ) (us : List ArcUnit) (ons : List Bool) → active v us ons ≤ 2 * length us
@@ -112,10 +100,7 @@ none_past nodes (u ∷ us) (on ∷ ons) at v past = omega (arith, unit_past node
 
 -- The parity of a count where one more may be added.
 pub differ_parity : (a b : Bool) (r : ℕ) → (cond (not (beq a b)) 1 0 + r) % 2 ≡ (cond a 1 0 + (cond b 1 0 + r)) % 2
-differ_parity true true r = omega arith
-differ_parity true false r = omega arith
-differ_parity false true r = omega arith
-differ_parity false false r = omega arith
+differ_parity a b r = grind (arith)
 
 -- A table with the active ends of a unit added, at each number, also past the nodes.
 pub raised_read : (u : ArcUnit) (on : Bool) (nodes : ℕ) (old new : List ℕ) → length old ≡ nodes → IsAtNodes nodes u → IsRaised (λ v. active_at v u on) old new → (v : ℕ) → slice_index new v ≡ slice_index old v + active_at v u on

@@ -1,19 +1,17 @@
 -- Lists in the box, by the steps that their entries are above the lows.
-use Rattle.std.proofs.Common.{◌≡◌, ℕ, suc, ◌+◌, ◌-◌, ◌*◌, ◌/◌, ◌%◌, ◌^◌, ◌<◌, ◌≤◌, ◌==◌, Bool, true, false, List, [], ◌∷◌, length, drop, map, Option, Some, None, refl, sym, ◌∙◌, ap, inl, inr, ◌⊎◌, length-append, arith}
+use Rattle.std.proofs.Common.{◌≡◌, ℕ, suc, ◌+◌, ◌-◌, ◌*◌, ◌/◌, ◌%◌, ◌^◌, ◌<◌, ◌≤◌, ◌==◌, Bool, true, false, List, [], ◌∷◌, length, drop, map, refl, sym, ◌∙◌, ap, inl, inr, ◌⊎◌, length-append, arith}
 use Rattle.std.specs.Prelude.{slice_index}
-use Rattle.std.proofs.Math.Nat.{mul-le-mul_left}
-use Rattle.std.proofs.lemmas.Bool.{cases_order, cases_lt}
+use Rattle.std.proofs.lemmas.Bool.{cases_lt}
 use Rattle.std.proofs.lemmas.List.{drop_more, get_or_past}
 use Rattle.def_math.specs.Counts.{count_below}
 use Rattle.def_flow.specs.Network.{Network}
-use Rattle.def_flow.specs.Units.{low, cap, units_over, units, states_over, states, states_at, is_active, active, rim_active}
+use Rattle.def_flow.specs.Units.{low, cap, units_over, units, states_over, states, active, rim_active}
 use Rattle.def_flow.specs.MatchingGraph.{graph_by, lone_vertex, first_fresh, rim, units_links, rim_links}
-use Rattle.def_flow.specs.declared.net.End.{End}
 use Rattle.def_flow.specs.declared.units.ArcUnit.{ArcUnit}
 use Rattle.def_flow.specs.Gadget.{IsStepUp, IsInBox}
 use Rattle.qm_units.specs.Box.{ups, matching_told}
 use Rattle.qm_units.proofs.Steps.{quotient, step_up}
-use Rattle.qm_units.specs.Marks.{places, states_marks, units_marks, rim_marks, rim_states, with_state}
+use Rattle.qm_units.specs.Marks.{places, states_marks, units_marks, rim_marks, rim_states}
 use Rattle.qm_units.proofs.Chain.{rim_length}
 use Rattle.qm_units.proofs.Units.{units_length, states_length}
 use Rattle.qm_gadget.specs.Layout.{room_of}
@@ -75,11 +73,7 @@ marks_long nodes room lone us ons same = omega (
 pub rim_states_few : (us : List ArcUnit) (ons : List Bool) → length (rim_states us ons) ≤ length us
 rim_states_few [] ons = omega arith
 rim_states_few (u ∷ us) [] = omega arith
-rim_states_few (u ∷ us) (on ∷ ons) = omega (arith, one u.right (is_active on u.left) (rim_states us ons), rim_states_few us ons)
-  where
-    one : (o : Option End) (b : Bool) (bs : List Bool) → length (with_state o b bs) ≤ length bs + 1
-    one None b bs = omega arith
-    one (Some e) b bs = omega arith
+rim_states_few (u ∷ us) (on ∷ ons) = grind (arith, rim_states_few us ons)
 
 -- The rim begins with the lone vertex, where there is one.
 pub rim_from_lone : (nodes : ℕ) (room : ℕ → ℕ) (lone : Bool) (us : List ArcUnit) (fresh : ℕ) (os : List Bool) → rim_marks (lone_vertex nodes room lone us) lone fresh os ≡ rim_by lone lone os

@@ -106,15 +106,20 @@ gadget_wide net g bounds of = omega (arith, widths_low net.nodes (λ v. active v
         ap (λ (h : Graph). length h.edges) (same ∙ sym of.graphs)
 
 -- The list that a perfect matching of a gadget's graph tells.
+pub record AreTold (net : Network) (g : Gadget) (m ys : List ℕ) : Type 0 where
+  pub count : length ys ≡ length net.arcs
+  pub admissible : IsAdmissible net (entries ys)
+  pub cost : (pos (deviation net (entries ys)) -ℤ pos (deviation net (entries g.low.items))) ≤ℤ matching_cost (graph g.graph) m
+  pub inside : IsInBox g.step g.low.items g.cap.items ys
+
 pub gadget_lengths : (net : Network) (g : Gadget) (m : List ℕ) → IsWithinBounds net → IsGadgetOf net g → IsPerfect (graph g.graph) m → (edges : ℕ) → edges ≡ length g.graph.edges.items
-    → (ys : List ℕ) → ys ≡ lengths_read net g.step g.low.items g.cap.items edges m
-    → (length ys ≡ length net.arcs) × IsAdmissible net (entries ys) × ((pos (deviation net (entries ys)) -ℤ pos (deviation net (entries g.low.items))) ≤ℤ matching_cost (graph g.graph) m) × IsInBox g.step g.low.items g.cap.items ys
-gadget_lengths net g m bounds of perfect edges long ys is = (
-  ap length told ∙ law.0,
-  subst (λ (zs : List ℕ). IsAdmissible net (entries zs)) (sym told) law.1,
-  omega (arith, ints, law.2, ap (λ zs. deviation net (entries zs)) told, ap (λ zs. deviation net (entries zs)) of.lows, ap (λ (h : Graph). matching_cost h m) of.graphs),
-  subst (λ (ls : List ℕ). IsInBox g.step ls g.cap.items ys) (sym of.lows) (subst (λ (cs : List ℕ). IsInBox g.step (lows net g.step xs) cs ys) (sym of.caps) (subst (λ (zs : List ℕ). IsInBox g.step (lows net g.step xs) (caps net g.step xs) zs) (sym told) (told_in_box net g.step xs m))),
-)
+    → (ys : List ℕ) → ys ≡ lengths_read net g.step g.low.items g.cap.items edges m → AreTold net g m ys
+gadget_lengths net g m bounds of perfect edges long ys is = record {
+  count = ap length told ∙ law.0;
+  admissible = subst (λ (zs : List ℕ). IsAdmissible net (entries zs)) (sym told) law.1;
+  cost = omega (arith, ints, law.2, ap (λ zs. deviation net (entries zs)) told, ap (λ zs. deviation net (entries zs)) of.lows, ap (λ (h : Graph). matching_cost h m) of.graphs);
+  inside = subst (λ (ls : List ℕ). IsInBox g.step ls g.cap.items ys) (sym of.lows) (subst (λ (cs : List ℕ). IsInBox g.step (lows net g.step xs) cs ys) (sym of.caps) (subst (λ (zs : List ℕ). IsInBox g.step (lows net g.step xs) (caps net g.step xs) zs) (sym told) (told_in_box net g.step xs m)));
+}
   where
     xs : List ℕ
     xs = of.x

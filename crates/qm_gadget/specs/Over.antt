@@ -1,11 +1,8 @@
 -- The lows and caps that a gadget keeps, and the tables that count the active ends of units.
-use Rattle.std.specs.Prelude.{◌≡◌, ℕ, zero, suc, ◌+◌, ◌*◌, ◌^◌, ◌<◌, ◌≤◌, Bool, cond, ◌&&◌, ◌==◌, List, [], ◌∷◌, ◌++◌}
-use Rattle.std.specs.Prelude.{length, pos, ◌-ℤ◌, slice_index}
+use Rattle.std.specs.Prelude.{◌≡◌, ℕ, ◌^◌, ◌<◌, ◌≤◌, Bool, cond, ◌&&◌, ◌==◌, List}
+use Rattle.std.specs.Prelude.{length, slice_index}
 use Rattle.def_math.specs.Tables.{IsTally}
-use Rattle.def_flow.specs.Network.{Network}
-use Rattle.def_flow.specs.Admissible.{arc_deviation}
-use Rattle.def_flow.specs.Units.{is_active, active, run}
-use Rattle.def_flow.specs.declared.net.Arc.{Arc}
+use Rattle.def_flow.specs.Units.{is_active, active}
 use Rattle.def_flow.specs.declared.net.End.{End}
 use Rattle.def_flow.specs.declared.units.ArcUnit.{ArcUnit}
 

@@ -1,5 +1,5 @@
 -- What a plan of a matching graph holds, and what it needs.
-use Rattle.std.specs.Prelude.{◌≡◌, ℕ, ◌-◌, ◌%◌, ◌^◌, ◌<◌, ◌≤◌, ◌==◌, Bool, List, [], ◌∷◌, length, map}
+use Rattle.std.specs.Prelude.{◌≡◌, ℕ, ◌-◌, ◌%◌, ◌^◌, ◌≤◌, ◌==◌, Bool, List, length, map}
 use Rattle.def_flow.specs.Network.{Network}
 use Rattle.def_matching.specs.Matching.{Graph}
 use Rattle.def_flow.specs.MatchingGraph.{graph_of_units}

@@ -1,8 +1,5 @@
-use Rattle.std.proofs.Common.{◌+◌, ◌*◌, ◌<◌, ◌^◌, length, arith}
-use Rattle.def_math.specs.Counts.{count_below}
+use Rattle.std.proofs.Common.{arith}
 use Rattle.def_flow.specs.Network.{network}
-use Rattle.def_flow.specs.MatchingGraph.{first_fresh, rim}
-use Rattle.qm_gadget.specs.Layout.{room_of}
 use Rattle.qm_gadget.proofs.OfList.{plan_graph, plan_at, plan_small}
 use Rattle.qm_gadget.proofs.build.graph_over.Goals as goal
 

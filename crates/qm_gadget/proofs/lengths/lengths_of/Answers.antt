@@ -1,7 +1,8 @@
 use Rattle.std.proofs.Common.{ℕ, Vec, Global, arith}
+use Rattle.std.specs.Prelude.{IfOk}
 use Rattle.std.proofs.lemmas.Result.{IfOk-weaker}
 use Rattle.def_flow.specs.Network.{network}
-use Rattle.qm_gadget.proofs.Told.{gadget_ready, gadget_edges, gadget_wide, gadget_lengths}
+use Rattle.qm_gadget.proofs.Told.{gadget_ready, gadget_edges, gadget_wide, gadget_lengths, AreTold}
 use Rattle.qm_gadget.proofs.lengths.lengths_of.Goals as goal
 
 pub overflow_cast-len : goal.overflow_cast-len
@@ -16,22 +17,20 @@ lengths_over-requires-clause-few c = omega (arith, gadget_edges (network c.args.
 pub lengths_over-requires-clause-wide : goal.lengths_over-requires-clause-wide
 lengths_over-requires-clause-wide c = rw (c.deref.ensures.value, c.deref-2.ensures.value) (omega (arith, gadget_wide (network c.args.net.now) c.args.g.now c.requires.bounds c.requires.gadget, c.len.ensures, c.args.g.now.graph.edges.ok.0))
 
-pub returns-clause-count : goal.returns-clause-count
-returns-clause-count c = IfOk-weaker c.lengths_over.result _ _
-    (λ (ys : Vec ℕ Global) is. (gadget_lengths (network c.args.net.now) c.args.g.now c.args.m.now c.requires.bounds c.requires.gadget c.requires.perfect c.len.result (omega (arith, c.len.ensures, c.args.g.now.graph.edges.ok.0)) ys.items is).0)
+-- The list that is read has all that is told of it.
+told : (c : goal.After-lengths_over) → IfOk c.lengths_over.result (λ (ys : Vec ℕ Global). AreTold (network c.args.net.now) c.args.g.now c.args.m.now ys.items)
+told c = IfOk-weaker c.lengths_over.result _ _
+    (λ (ys : Vec ℕ Global) is. gadget_lengths (network c.args.net.now) c.args.g.now c.args.m.now c.requires.bounds c.requires.gadget c.requires.perfect c.len.result (omega (arith, c.len.ensures, c.args.g.now.graph.edges.ok.0)) ys.items is)
     (rw (← c.deref.ensures.value, ← c.deref-2.ensures.value) c.lengths_over.ensures)
+
+pub returns-clause-count : goal.returns-clause-count
+returns-clause-count c = IfOk-weaker c.lengths_over.result _ _ (λ (ys : Vec ℕ Global) all. all.count) (told c)
 
 pub returns-clause-admissible : goal.returns-clause-admissible
-returns-clause-admissible c = IfOk-weaker c.lengths_over.result _ _
-    (λ (ys : Vec ℕ Global) is. (gadget_lengths (network c.args.net.now) c.args.g.now c.args.m.now c.requires.bounds c.requires.gadget c.requires.perfect c.len.result (omega (arith, c.len.ensures, c.args.g.now.graph.edges.ok.0)) ys.items is).1)
-    (rw (← c.deref.ensures.value, ← c.deref-2.ensures.value) c.lengths_over.ensures)
+returns-clause-admissible c = IfOk-weaker c.lengths_over.result _ _ (λ (ys : Vec ℕ Global) all. all.admissible) (told c)
 
 pub returns-clause-cost : goal.returns-clause-cost
-returns-clause-cost c = IfOk-weaker c.lengths_over.result _ _
-    (λ (ys : Vec ℕ Global) is. (gadget_lengths (network c.args.net.now) c.args.g.now c.args.m.now c.requires.bounds c.requires.gadget c.requires.perfect c.len.result (omega (arith, c.len.ensures, c.args.g.now.graph.edges.ok.0)) ys.items is).2)
-    (rw (← c.deref.ensures.value, ← c.deref-2.ensures.value) c.lengths_over.ensures)
+returns-clause-cost c = IfOk-weaker c.lengths_over.result _ _ (λ (ys : Vec ℕ Global) all. all.cost) (told c)
 
 pub returns-clause-inside : goal.returns-clause-inside
-returns-clause-inside c = IfOk-weaker c.lengths_over.result _ _
-    (λ (ys : Vec ℕ Global) is. (gadget_lengths (network c.args.net.now) c.args.g.now c.args.m.now c.requires.bounds c.requires.gadget c.requires.perfect c.len.result (omega (arith, c.len.ensures, c.args.g.now.graph.edges.ok.0)) ys.items is).3)
-    (rw (← c.deref.ensures.value, ← c.deref-2.ensures.value) c.lengths_over.ensures)
+returns-clause-inside c = IfOk-weaker c.lengths_over.result _ _ (λ (ys : Vec ℕ Global) all. all.inside) (told c)
