@@ -14,16 +14,14 @@ ends_sum v plus x y [] = refl
 ends_sum v plus x y (e ∷ es) = omega (arith, ints, by_test (is_on_side v plus e), ends_sum v plus x y es)
   where
     by_test : (b : Bool) → cond b (x +ℤ y) (pos 0) ≡ cond b x (pos 0) +ℤ cond b y (pos 0)
-    by_test true = refl
-    by_test false = refl
+    by_test b = grind (arith, ints)
 
 ends_minus : (v : ℕ) (plus : Bool) (x y : ℤ) (es : List End) → total (λ e. cond (is_on_side v plus e) (x -ℤ y) (pos 0)) es ≡ total (λ e. cond (is_on_side v plus e) x (pos 0)) es -ℤ total (λ e. cond (is_on_side v plus e) y (pos 0)) es
 ends_minus v plus x y [] = refl
 ends_minus v plus x y (e ∷ es) = omega (arith, ints, by_test (is_on_side v plus e), ends_minus v plus x y es)
   where
     by_test : (b : Bool) → cond b (x -ℤ y) (pos 0) ≡ cond b x (pos 0) -ℤ cond b y (pos 0)
-    by_test true = refl
-    by_test false = refl
+    by_test b = grind (arith, ints)
 
 -- The sum of two balanced lists is balanced.
 pub balanced_sum : (arcs : List Arc) (x y : ℕ → ℤ) → IsBalanced arcs x → IsBalanced arcs y → IsBalanced arcs (λ k. x k +ℤ y k)

@@ -46,12 +46,10 @@ arc_convex net a x other c part = omega (arith, mul-le-mul_left a.weight shifted
 
     shifted : unsigned_abs (times (x +ℤ c) -ℤ t) + unsigned_abs (times (other -ℤ c) -ℤ t) ≤ unsigned_abs (times x -ℤ t) + unsigned_abs (times other -ℤ t)
     shifted =
-        let near : times (x +ℤ c) ≡ times x +ℤ times c = times_sum (pos net.q) x c in
-        let convex : unsigned_abs ((times x -ℤ t) +ℤ times c) + unsigned_abs (((times x -ℤ t) +ℤ times (other -ℤ x)) -ℤ times c) ≤ unsigned_abs (times x -ℤ t) + unsigned_abs ((times x -ℤ t) +ℤ times (other -ℤ x)) = abs_convex (times x -ℤ t) (times c) (times (other -ℤ x)) (part_times net.q c (other -ℤ x) part) in
-        let first : (times x -ℤ t) +ℤ times c ≡ times (x +ℤ c) -ℤ t = omega (arith, ints, near) in
+        let first : (times x -ℤ t) +ℤ times c ≡ times (x +ℤ c) -ℤ t = omega (arith, ints, times_sum (pos net.q) x c) in
         let second : ((times x -ℤ t) +ℤ times (other -ℤ x)) -ℤ times c ≡ times (other -ℤ c) -ℤ t = omega (arith, ints, far, rest) in
         let third : (times x -ℤ t) +ℤ times (other -ℤ x) ≡ times other -ℤ t = omega (arith, ints, far) in
-        omega (arith, convex, ap unsigned_abs first, ap unsigned_abs second, ap unsigned_abs third)
+        omega (arith, abs_convex (times x -ℤ t) (times c) (times (other -ℤ x)) (part_times net.q c (other -ℤ x) part), ap unsigned_abs first, ap unsigned_abs second, ap unsigned_abs third)
 
 -- Taking a part of the way from one list, and leaving it off the way to the other, costs nothing together.
 deviation_convex : (net : Network) (x other c : ℕ → ℤ) → ((k : ℕ) → k < length net.arcs → IsPart (c k) (other k -ℤ x k)) → deviation net (λ k. x k +ℤ c k) + deviation net (λ k. other k -ℤ c k) ≤ deviation net x + deviation net other
@@ -117,8 +115,7 @@ nearer net x other ax ao better on = by_differ (differ_or_not x other (length ne
 
     by_differ : ((k : ℕ) × (k < length net.arcs) × (x k ≢ other k)) ⊎ ((k : ℕ) → k < length net.arcs → x k ≡ other k) → Near net x
     by_differ (inr same) =
-        let equal : deviation net x ≡ deviation net other = count_below_same _ _ (length net.arcs) (λ k l. ap (arc_deviation net (arc_at net.arcs k)) (same k l)) in
-        absurd (omega (arith, equal))
+        absurd (omega (arith, count_below_same _ _ (length net.arcs) (λ k l. ap (arc_deviation net (arc_at net.arcs k)) (same k l))))
     by_differ (inl (k, l, differ)) = taken (walk_law net x other k ax ao l differ)
       where
         taken : (c : ℕ → ℤ) × IsSmallPart net x other c → Near net x

@@ -1,5 +1,5 @@
 -- The walk law: a tour through the copies of a difference is a small part of it.
-use Rattle.std.proofs.Common.{◌≡◌, ◌≢◌, ℕ, zero, suc, ◌<◌, ◌≤◌, Bool, true, false, cond, not, ◌&&◌, ◌==◌, List, ◌∷◌, length, option_to_list, Option, Some, None, ℤ, pos, negsuc, ◌+ℤ◌, ◌-ℤ◌, neg_ℤ, unsigned_abs, refl, sym, ◌∙◌, ap, inl, inr, arith, eq-eqb}
+use Rattle.std.proofs.Common.{◌≡◌, ◌≢◌, ℕ, zero, suc, ◌<◌, ◌≤◌, Bool, true, false, cond, not, List, ◌∷◌, length, option_to_list, Option, Some, None, ℤ, pos, negsuc, ◌+ℤ◌, ◌-ℤ◌, neg_ℤ, unsigned_abs, refl, sym, ◌∙◌, ap, inl, inr, arith, eq-eqb}
 use Rattle.std.proofs.lemmas.Int.{ints}
 use Rattle.def_math.specs.Sums.{total, total_below}
 use Rattle.qm_laws.proofs.Sums.{total_below_same, total_below_minus, total_below_none}
@@ -30,14 +30,7 @@ effect_of up (Some e) = Some (effect up e)
 
 -- What an end adds on the plus side less what it adds on the minus side is what its effect weighs.
 end_weighs : (v : ℕ) (up : Bool) (m : ℕ) (e : End) → cond (is_on_side v true e) (signed up m) (pos 0) -ℤ cond (is_on_side v false e) (signed up m) (pos 0) ≡ weigh (record { node = v; up = true }) (Some (effect up e)) (pos m)
-end_weighs v up m e = by_tests (e.node == v) e.plus up
-  where
-    by_tests : (b c d : Bool) → cond (b && c) (cond d (pos m) (neg_ℤ (pos m))) (pos 0) -ℤ cond (b && not c) (cond d (pos m) (neg_ℤ (pos m))) (pos 0) ≡ cond b (cond (cond d c (not c)) (pos m) (neg_ℤ (pos m))) (pos 0)
-    by_tests false c d = refl
-    by_tests true true true = omega (arith, ints)
-    by_tests true true false = omega (arith, ints)
-    by_tests true false true = omega (arith, ints)
-    by_tests true false false = omega (arith, ints)
+end_weighs v up m e = grind (arith, ints)
 
 -- The same for both ends of an arc.
 arc_weighs : (v : ℕ) (up : Bool) (m : ℕ) (left : End) (right : Option End) → total (λ e. cond (is_on_side v true e) (signed up m) (pos 0)) (left ∷ option_to_list right) -ℤ total (λ e. cond (is_on_side v false e) (signed up m) (pos 0)) (left ∷ option_to_list right) ≡ weigh (record { node = v; up = true }) (Some (effect up left)) (pos m) +ℤ weigh (record { node = v; up = true }) (effect_of up right) (pos m)
@@ -47,17 +40,11 @@ arc_weighs v up m left (Some right) = omega (arith, ints, end_weighs v up m left
 -- The other effect at the same node weighs the opposite.
 weigh_down : (v : ℕ) (q : Option Port) (m : ℤ) → weigh (record { node = v; up = false }) q m ≡ pos 0 -ℤ weigh (record { node = v; up = true }) q m
 weigh_down v None m = refl
-weigh_down v (Some q) m = by_tests (q.node == v) q.up
-  where
-    by_tests : (b d : Bool) → cond b (cond d (neg_ℤ m) m) (pos 0) ≡ pos 0 -ℤ cond b (cond d m (neg_ℤ m)) (pos 0)
-    by_tests false d = refl
-    by_tests true true = omega (arith, ints)
-    by_tests true false = omega (arith, ints)
+weigh_down v (Some q) m = grind (arith, ints)
 
 -- A whole number is its absolute value with its sign.
 signed_self : (z : ℤ) → signed (goes_up z) (unsigned_abs z) ≡ z
-signed_self (pos n) = refl
-signed_self (negsuc n) = refl
+signed_self z = grind (arith, ints)
 
 module _ (arcs : List Arc) (d : ℕ → ℤ) where
   left : ℕ → Option Port
@@ -94,8 +81,7 @@ module _ (arcs : List Arc) (d : ℕ → ℤ) where
   part_of (negsuc n) m le = inr (omega (arith, ints), omega (arith, ints))
 
   abs_signed : (up : Bool) (m : ℕ) → unsigned_abs (signed up m) ≡ m
-  abs_signed true m = refl
-  abs_signed false m = omega (arith, ints)
+  abs_signed up m = grind (arith, ints)
 
   -- A tour, as a change of the lengths.
   changed : Tour left right (length arcs) (λ k. unsigned_abs (d k)) → ℕ → ℤ

@@ -51,67 +51,31 @@ same_is (Some p) (Some q) e = by_node (cases_eq p.node q.node)
 -- What is one, the test says is one.
 pub is_same_self : (q : Option Port) → is_same q q ≡ true
 is_same_self None = refl
-is_same_self (Some q) = rw (eq-eqb q.node q.node refl) (by_up q.up)
-  where
-    by_up : (b : Bool) → (true && cond b b (not b)) ≡ true
-    by_up true = refl
-    by_up false = refl
+is_same_self (Some q) = rw (eq-eqb q.node q.node refl) (grind (arith))
 
 -- The opposite effect weighs the opposite.
 pub weigh_opposite : (p : Port) (q : Option Port) (m : ℤ) → weigh p (opposite q) m ≡ neg_ℤ (weigh p q m)
 weigh_opposite p None m = refl
-weigh_opposite p (Some q) m = by_tests (q.node == p.node) p.up q.up
-  where
-    by_tests : (b c d : Bool) → cond b (cond c (cond (not d) m (neg_ℤ m)) (cond (not d) (neg_ℤ m) m)) (pos 0) ≡ neg_ℤ (cond b (cond c (cond d m (neg_ℤ m)) (cond d (neg_ℤ m) m)) (pos 0))
-    by_tests false c d = refl
-    by_tests true true true = refl
-    by_tests true true false = omega (arith, ints)
-    by_tests true false true = omega (arith, ints)
-    by_tests true false false = refl
+weigh_opposite p (Some q) m = grind (arith, ints)
 
 -- Copies together weigh what they weigh one by one.
 pub weigh_sum : (p : Port) (q : Option Port) (m n : ℤ) → weigh p q (m +ℤ n) ≡ weigh p q m +ℤ weigh p q n
 weigh_sum p None m n = refl
-weigh_sum p (Some q) m n = by_tests (q.node == p.node) p.up q.up
-  where
-    by_tests : (b c d : Bool) → cond b (cond c (cond d (m +ℤ n) (neg_ℤ (m +ℤ n))) (cond d (neg_ℤ (m +ℤ n)) (m +ℤ n))) (pos 0) ≡ cond b (cond c (cond d m (neg_ℤ m)) (cond d (neg_ℤ m) m)) (pos 0) +ℤ cond b (cond c (cond d n (neg_ℤ n)) (cond d (neg_ℤ n) n)) (pos 0)
-    by_tests false c d = refl
-    by_tests true true true = refl
-    by_tests true true false = omega (arith, ints)
-    by_tests true false true = omega (arith, ints)
-    by_tests true false false = refl
+weigh_sum p (Some q) m n = grind (arith, ints)
 
 -- No copy weighs nothing.
 pub weigh_none : (p : Port) (q : Option Port) → weigh p q (pos 0) ≡ pos 0
 weigh_none p None = refl
-weigh_none p (Some q) = by_tests (q.node == p.node) p.up q.up
-  where
-    by_tests : (b c d : Bool) → cond b (cond c (cond d (pos 0) (neg_ℤ (pos 0))) (cond d (neg_ℤ (pos 0)) (pos 0))) (pos 0) ≡ pos 0
-    by_tests false c d = refl
-    by_tests true true true = refl
-    by_tests true true false = refl
-    by_tests true false true = refl
-    by_tests true false false = refl
+weigh_none p (Some q) = grind (arith, ints)
 
 -- An effect weighs 1 for itself.
 pub weigh_self : (p : Port) → weigh p (Some p) (pos 1) ≡ pos 1
-weigh_self p = rw (eq-eqb p.node p.node refl) (by_up p.up)
-  where
-    by_up : (b : Bool) → cond true (cond b (cond b (pos 1) (neg_ℤ (pos 1))) (cond b (neg_ℤ (pos 1)) (pos 1))) (pos 0) ≡ pos 1
-    by_up true = refl
-    by_up false = refl
+weigh_self p = rw (eq-eqb p.node p.node refl) (grind (arith, ints))
 
 -- Another effect weighs nothing or less.
 pub weigh_other : (p : Port) (q : Option Port) → is_same (Some p) q ≡ false → weigh p q (pos 1) ≤ℤ pos 0
 weigh_other p None e = omega (arith, ints)
-weigh_other p (Some q) e = by_tests (q.node == p.node) p.up q.up e
-  where
-    by_tests : (b c d : Bool) → (b && cond c d (not d)) ≡ false → cond b (cond c (cond d (pos 1) (neg_ℤ (pos 1))) (cond d (neg_ℤ (pos 1)) (pos 1))) (pos 0) ≤ℤ pos 0
-    by_tests false c d e = omega (arith, ints)
-    by_tests true true true e = absurd (true≢false e)
-    by_tests true true false e = omega (arith, ints)
-    by_tests true false true e = omega (arith, ints)
-    by_tests true false false e = absurd (true≢false e)
+weigh_other p (Some q) e = grind (arith, ints)
 
 -- What weighs less than nothing is the opposite effect.
 pub weigh_low : (p : Port) (q : Option Port) (m : ℤ) → pos 0 ≤ℤ m → weigh p q m <ℤ pos 0 → (opposite q ≡ Some p) × (pos 0 <ℤ m)

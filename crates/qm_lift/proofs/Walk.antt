@@ -52,11 +52,7 @@ module _ (left right : ℕ → Option Port) where
 
   -- A step weighs what the two ends of its arc weigh.
   one_way : (p : Port) (s : Step) → weigh p (tail s) (pos 1) +ℤ weigh p (head s) (pos 1) ≡ weigh p (left s.arc) (pos 1) +ℤ weigh p (right s.arc) (pos 1)
-  one_way p s = by_back s.back
-    where
-      by_back : (b : Bool) → weigh p (cond b (right s.arc) (left s.arc)) (pos 1) +ℤ weigh p (cond b (left s.arc) (right s.arc)) (pos 1) ≡ weigh p (left s.arc) (pos 1) +ℤ weigh p (right s.arc) (pos 1)
-      by_back true = omega (arith, ints)
-      by_back false = refl
+  one_way p s = grind (arith, ints)
 
   -- The steps weigh what the uses of the arcs weigh.
   pub used_sum : (n : ℕ) (p : Port) (l : List Step) → IsLow n l → total_below (λ k. weigh p (left k) (pos (uses k l)) +ℤ weigh p (right k) (pos (uses k l))) n ≡ gain p l
@@ -67,8 +63,7 @@ module _ (left right : ℕ → Option Port) where
       let parts : total_below (λ k. weigh p (left k) (pos (cond (s.arc == k) 1 0 + uses k l)) +ℤ weigh p (right k) (pos (cond (s.arc == k) 1 0 + uses k l))) n ≡ total_below (λ k. one k +ℤ rest k) n =
       total_below_same (λ k. weigh p (left k) (pos (cond (s.arc == k) 1 0 + uses k l)) +ℤ weigh p (right k) (pos (cond (s.arc == k) 1 0 + uses k l))) (λ k. one k +ℤ rest k) n (λ k lk. omega (arith, ints, weigh_sum p (left k) (pos (cond (s.arc == k) 1 0)) (pos (uses k l)), weigh_sum p (right k) (pos (cond (s.arc == k) 1 0)) (pos (uses k l)))) in
       let here : one s.arc ≡ weigh p (left s.arc) (pos 1) +ℤ weigh p (right s.arc) (pos 1) = rw (eq-eqb s.arc s.arc refl) refl in
-      let single : total_below one n ≡ one s.arc = total_below_one one n s.arc low.0 (λ k lk ne. rw (ne_eqb s.arc k (λ e. ne (sym e))) (omega (arith, ints, weigh_none p (left k), weigh_none p (right k)))) in
-      omega (arith, ints, parts, total_below_sum one rest n, here, single, used_sum n p l low.1, one_way p s)
+      omega (arith, ints, parts, total_below_sum one rest n, here, total_below_one one n s.arc low.0 (λ k lk ne. rw (ne_eqb s.arc k (λ e. ne (sym e))) (omega (arith, ints, weigh_none p (left k), weigh_none p (right k)))), used_sum n p l low.1, one_way p s)
 
   -- What is left of a path since it reached a port last.
   record Since (n : ℕ) (q : Option Port) (l : List Step) (r : Option Port) : Type 0 where
@@ -150,8 +145,7 @@ module _ (left right : ℕ → Option Port) where
 
       negative : total_below rest n <ℤ pos 0
       negative =
-          let parts : total_below rest n ≡ total_below (λ k. all k -ℤ used k) n = total_below_same rest (λ k. all k -ℤ used k) n (λ k lk. omega (arith, ints, one (left k) k, one (right k) k)) in
-          omega (arith, ints, parts, total_below_minus all used n, even p, used_sum n p l low, telescope p a (Some p) l path, weigh_self p, weigh_other p a open_end)
+          omega (arith, ints, total_below_same rest (λ k. all k -ℤ used k) n (λ k lk. omega (arith, ints, one (left k) k, one (right k) k)), total_below_minus all used n, even p, used_sum n p l low, telescope p a (Some p) l path, weigh_self p, weigh_other p a open_end)
 
       high : (k : ℕ) → pos 0 ≤ℤ left_over k
       high k = omega (arith, ints, within k)
@@ -337,8 +331,7 @@ module _ (left right : ℕ → Option Port) where
   uses_low k (s ∷ l) = omega (arith, here, uses_low k l)
     where
       reached : (back : Bool) → 1 ≤ cond (is_same (left k) (cond back (left k) (right k))) 1 0 + cond (is_same (right k) (cond back (left k) (right k))) 1 0
-      reached true = rw (is_same_self (left k)) (omega arith)
-      reached false = rw (is_same_self (right k)) (omega arith)
+      reached back = grind (arith)
 
       at : (s.arc ≡ k) ⊎ (s.arc ≢ k) → cond (s.arc == k) 1 0 ≤ cond (is_same (left k) (head s)) 1 0 + cond (is_same (right k) (head s)) 1 0
       at (inl e) =
