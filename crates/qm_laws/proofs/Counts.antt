@@ -73,16 +73,13 @@ count_below_one f (suc n) u l other = elim (cases_eq u n) [ inl e ↦ at_end e |
   where
     at_end : u ≡ n → count_below f (suc n) ≡ f u
     at_end e =
-        let none : count_below f n ≡ 0 = count_below_none f n (λ k lk. other k (omega arith) (λ ek. omega arith)) in
         let here : f n ≡ f u = ap f (sym e) in
-        omega (arith, none, here)
+        omega (arith, count_below_none f n (λ k lk. other k (omega arith) (λ ek. omega arith)), here)
 
     before : (u ≡ n → ⊥) → ((v : ℕ) → v < n → ((k : ℕ) → k < n → (k ≡ v → ⊥) → f k ≡ 0) → count_below f n ≡ f v) → count_below f (suc n) ≡ f u
     before ne rest =
         let lower : u < n = omega arith in
-        let ih : count_below f n ≡ f u = rest u lower (λ k lk nk. other k (omega arith) nk) in
-        let end : f n ≡ 0 = other n (omega arith) (λ en. ne (sym en)) in
-        omega (arith, ih, end)
+        omega (arith, rest u lower (λ k lk nk. other k (omega arith) nk), other n (omega arith) (λ en. ne (sym en)))
 
 -- A factor comes out of a count.
 pub count_below_times : (c : ℕ) (f : ℕ → ℕ) (n : ℕ) → count_below (λ k. c * f k) n ≡ c * count_below f n

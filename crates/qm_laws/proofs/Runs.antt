@@ -54,8 +54,7 @@ run_place f (suc n) k o l in_run = elim (cases_eq k n) [
       cond-false (nat_lt (count_below f k + o) (count_below f n)) _ _
       (le-ltb _ _ (omega (arith, ap (count_below f) e))) ∙ sym e
   | inr ne ↦
-      let le : count_below f (suc k) ≤ count_below f n = count_rises f (suc k) n (omega arith) in
-      cond-true (nat_lt (count_below f k + o) (count_below f n)) _ _ (lt-ltb _ _ (omega (arith, le)))
+      cond-true (nat_lt (count_below f k + o) (count_below f n)) _ _ (lt-ltb _ _ (omega (arith, count_rises f (suc k) n (omega arith))))
       ∙ run_place f n k o (omega arith) in_run
 ]
 
@@ -71,8 +70,7 @@ pub run_here : (f : ℕ → ℕ) (n t : ℕ) → t < count_below f n
 run_here f zero t l = absurd (omega arith)
 run_here f (suc n) t l =
     let from : count_below f (run_at (count_below f) (suc n) t) ≤ t = run_from (count_below f) (suc n) t (omega arith) in
-    let to : t < count_below f (suc (run_at (count_below f) (suc n) t)) = run_to (count_below f) (suc n) t (omega arith) l in
-    record { low = run_low (count_below f) (suc n) t (omega arith); inside = omega (arith, from, to); place = omega (arith, from) }
+    record { low = run_low (count_below f) (suc n) t (omega arith); inside = omega (arith, from, run_to (count_below f) (suc n) t (omega arith) l); place = omega (arith, from) }
 
 -- Places of runs are below the end.
 pub place_low : (f : ℕ → ℕ) (n k o : ℕ) → k < n → o < f k → count_below f k + o < count_below f n

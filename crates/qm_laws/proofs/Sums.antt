@@ -58,16 +58,13 @@ total_below_one f (suc n) u l other = elim (cases_eq u n) [ inl e ↦ at_end e |
   where
     at_end : u ≡ n → total_below f (suc n) ≡ f u
     at_end e =
-        let none : total_below f n ≡ pos 0 = total_below_none f n (λ k lk. other k (omega arith) (λ ek. omega arith)) in
         let here : f n ≡ f u = ap f (sym e) in
-        omega (arith, ints, none, here)
+        omega (arith, ints, total_below_none f n (λ k lk. other k (omega arith) (λ ek. omega arith)), here)
 
     before : (u ≡ n → ⊥) → ((v : ℕ) → v < n → ((k : ℕ) → k < n → (k ≡ v → ⊥) → f k ≡ pos 0) → total_below f n ≡ f v) → total_below f (suc n) ≡ f u
     before ne rest =
         let lower : u < n = omega arith in
-        let ih : total_below f n ≡ f u = rest u lower (λ k lk nk. other k (omega arith) nk) in
-        let end : f n ≡ pos 0 = other n (omega arith) (λ en. ne (sym en)) in
-        omega (arith, ints, ih, end)
+        omega (arith, ints, rest u lower (λ k lk nk. other k (omega arith) nk), other n (omega arith) (λ en. ne (sym en)))
 
 -- The sums along a list and below a bound change places.
 pub two_orders : {X : Type 0} (f : ℕ → X → ℤ) (n : ℕ) (xs : List X) → total (λ x. total_below (λ k. f k x) n) xs ≡ total_below (λ k. total (f k) xs) n

@@ -38,9 +38,8 @@ passing_but p (suc n) u low on = elim (cases_eq n u) [
       let none : one_if (but p u n) ≡ 0 = ap one_if (but_none p u n e) in
       omega (arith, rest, last, none)
   | inr apart ↦
-      let rest : passing p n ≡ suc (passing (but p u) n) = passing_but p n u (omega arith) on in
       let last : one_if (p n) ≡ one_if (but p u n) = ap one_if (sym (but_same p u n apart)) in
-      omega (arith, rest, last)
+      omega (arith, passing_but p n u (omega arith) on, last)
 ]
 
 -- Where what passes p below m is mapped one to one to what passes q below n, there is no more of it.
@@ -96,5 +95,4 @@ filter_long p (suc n) =
     ∙ (λ t. filter_long p n t + last (p n) t)
   where
     last : (b : Bool) → length (cond b (n ∷ []) []) ≡ one_if b
-    last true = refl
-    last false = refl
+    last b = grind (arith)

@@ -9,5 +9,4 @@ same_test false false f h = refl
 
 -- A test counts at most once.
 pub once_at_most : (b : Bool) → cond b 1 0 ≤ 1
-once_at_most true = omega arith
-once_at_most false = omega arith
+once_at_most b = grind (arith)
