@@ -1,5 +1,5 @@
 -- Any states of the units tell a list of the box: the cost of the units that are on is at least its deviation.
-use Rattle.std.proofs.Common.{◌≡◌, ℕ, zero, suc, ◌+◌, ◌-◌, ◌*◌, ◌%◌, ◌/◌, ◌<◌, ◌≤◌, Bool, true, false, ◌==◌, List, [], ◌∷◌, ◌++◌, length, map, take, drop, Option, Some, None, ℤ, pos, ◌+ℤ◌, ◌-ℤ◌, ◌≤ℤ◌, refl, sym, ◌∙◌, ap, inl, inr, ◌⊎◌, add-mul, mul-add, one-mul, zero-mul, zero-add, add-zero, div-mul-le_self, mul-le-mul_right, length-append, ne_eqb, arith}
+use Rattle.std.proofs.Common.{◌≡◌, ℕ, zero, suc, ◌+◌, ◌-◌, ◌*◌, ◌%◌, ◌/◌, ◌<◌, ◌≤◌, Bool, true, false, ◌==◌, List, [], ◌∷◌, ◌++◌, length, map, take, drop, Option, ℤ, pos, ◌+ℤ◌, ◌-ℤ◌, ◌≤ℤ◌, refl, sym, ◌∙◌, ap, inl, inr, ◌⊎◌, add-mul, mul-add, one-mul, zero-mul, zero-add, add-zero, div-mul-le_self, mul-le-mul_right, length-append, arith}
 use Rattle.std.proofs.lemmas.Int.{ints}
 use Rattle.std.proofs.lemmas.Bool.{cases_lt}
 use Rattle.std.proofs.lemmas.List.{length-take-le, length-drop, length-map}
@@ -158,8 +158,7 @@ told_dear net step (a ∷ arcs) (x ∷ xs) ons l m =
 
 -- No end is at a node past the last.
 ends_past : (nodes v : ℕ) (on : Bool) (left : End) (right : Option End) → nodes ≤ v → EndsBelow nodes left right → ends_active v on left right ≡ 0
-ends_past nodes v on left None le at = rw (ne_eqb left.node v (λ e. omega arith)) refl
-ends_past nodes v on left (Some right) le at = rw (ne_eqb left.node v (λ e. omega (arith, at.0)), ne_eqb right.node v (λ e. omega (arith, at.1))) refl
+ends_past nodes v on left right le at = grind (arith)
 
 active_past : (nodes v : ℕ) (us : List ArcUnit) (ons : List Bool) → nodes ≤ v → UnitsAt nodes us → active v us ons ≡ 0
 active_past nodes v [] ons le at = refl

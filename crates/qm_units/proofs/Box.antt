@@ -1,5 +1,5 @@
 -- Lists in the box, as states of the units: the active ends at a node, and the cost.
-use Rattle.std.proofs.Common.{◌≡◌, ℕ, zero, suc, ◌+◌, ◌-◌, ◌*◌, ◌/◌, ◌≤◌, Bool, true, false, cond, not, ◌&&◌, ◌==◌, List, [], ◌∷◌, ◌++◌, length, map, pos, ◌+ℤ◌, refl, sym, ◌∙◌, ap, add-mul, mul-add, mul_comm, mul_assoc, div-mul-le_self, mul-le-mul_right, zero-mul, zero-add, add-zero, length-append, arith}
+use Rattle.std.proofs.Common.{◌≡◌, ℕ, zero, suc, ◌+◌, ◌-◌, ◌*◌, ◌/◌, ◌≤◌, Bool, true, false, cond, ◌&&◌, ◌==◌, List, [], ◌∷◌, ◌++◌, length, map, pos, ◌+ℤ◌, refl, sym, ◌∙◌, ap, add-mul, mul-add, mul_comm, mul_assoc, div-mul-le_self, mul-le-mul_right, zero-mul, zero-add, add-zero, length-append, arith}
 use Rattle.std.proofs.lemmas.Int.{ints}
 use Rattle.std.proofs.Math.Nat.{mul-div_cancel_left}
 use Rattle.def_math.specs.Sums.{total}
@@ -118,14 +118,7 @@ box_ends net step v on (a ∷ arcs) (x ∷ xs) (j ∷ js) (y ∷ ys) l box =
 
 -- The sum on one side of a node, along the list.
 end_side : (v y : ℕ) (on : Bool) (e : End) → cond (is_on_side v on e) (pos y) (pos 0) ≡ pos (y * cond ((e.node == v) && is_active on e) 1 0)
-end_side v y on e = by_tests (e.node == v) e.plus on
-  where
-    by_tests : (b p o : Bool) → cond (b && cond o p (not p)) (pos y) (pos 0) ≡ pos (y * cond (b && cond p o (not o)) 1 0)
-    by_tests false p o = omega (arith, ints)
-    by_tests true true true = omega (arith, ints)
-    by_tests true true false = omega (arith, ints)
-    by_tests true false true = omega (arith, ints)
-    by_tests true false false = omega (arith, ints)
+end_side v y on e = grind (arith, ints)
 
 ends_side : (v y : ℕ) (on : Bool) (es : List End) → total (λ e. cond (is_on_side v on e) (pos y) (pos 0)) es ≡ pos (y * count (λ e. cond ((e.node == v) && is_active on e) 1 0) es)
 ends_side v y on [] = omega (arith, ints)

@@ -1,5 +1,5 @@
 -- No edge of a matching graph is dear.
-use Rattle.std.proofs.Common.{◌≡◌, ℕ, zero, suc, ◌+◌, ◌*◌, ◌<◌, ◌≤◌, Bool, true, false, cond, ◌&&◌, nat_le, IsTrue, List, [], ◌∷◌, ◌++◌, length, Option, Some, None, ℤ, pos, ◌-ℤ◌, ◌*ℤ◌, mul-add, add-mul, one-mul, ap, leb-true, arith}
+use Rattle.std.proofs.Common.{◌≡◌, ℕ, zero, suc, ◌+◌, ◌*◌, ◌<◌, ◌≤◌, Bool, true, false, cond, ◌&&◌, nat_le, IsTrue, List, [], ◌∷◌, ◌++◌, length, Option, Some, None, ℤ, pos, ◌-ℤ◌, ◌*ℤ◌, mul-add, add-mul, ap, leb-true, arith}
 use Rattle.std.specs.Prelude.{slice_index_or, unsigned_abs}
 use Rattle.std.specs.List.{list_all}
 use Rattle.std.proofs.Math.Nat.{mul-le-mul_left, mul-le-mul}
@@ -10,8 +10,8 @@ use Rattle.def_matching.specs.Matching.{edge_at}
 use Rattle.def_matching.specs.declared.weighted.WEdge.{WEdge}
 use Rattle.def_flow.specs.Network.{Network, IsWithinBounds, is_bounded}
 use Rattle.def_flow.specs.Admissible.{arc_deviation}
-use Rattle.def_flow.specs.Units.{low, cap, units_from, units, states_at, active, rim_active}
-use Rattle.def_flow.specs.MatchingGraph.{link, fan, to_copies, inner_link, are_alike, links_by, unit_size, units_links, rim_links, lone_vertex, first_fresh, rim, matching_graph}
+use Rattle.def_flow.specs.Units.{low, cap, units_from, units, states_at, active}
+use Rattle.def_flow.specs.MatchingGraph.{fan, to_copies, inner_link, are_alike, links_by, unit_size, units_links, rim, matching_graph}
 use Rattle.def_flow.specs.declared.net.Arc.{Arc}
 use Rattle.def_flow.specs.declared.net.End.{End}
 use Rattle.def_flow.specs.declared.units.ArcUnit.{ArcUnit}

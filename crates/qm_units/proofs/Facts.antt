@@ -1,5 +1,5 @@
 -- What the marks of a unit's edges tell, where each of its own vertices has one mate.
-use Rattle.std.proofs.Common.{◌≡◌, ℕ, ◌+◌, ◌<◌, ◌≤◌, Bool, true, false, cond, not, nat_lt, List, [], ◌∷◌, ◌++◌, length, take, drop, Option, Some, None, ℤ, pos, ◌+ℤ◌, ◌*ℤ◌, refl, ap, inl, inr, ◌⊎◌, lt-ltb, le-ltb, length-append, arith}
+use Rattle.std.proofs.Common.{◌≡◌, ℕ, ◌+◌, ◌<◌, ◌≤◌, Bool, true, false, cond, not, nat_lt, List, [], ◌∷◌, ◌++◌, length, take, drop, Option, Some, None, ℤ, pos, ◌+ℤ◌, ◌*ℤ◌, ap, length-append, arith}
 use Rattle.std.proofs.lemmas.Int.{ints}
 use Rattle.std.proofs.lemmas.Bool.{cases_lt}
 use Rattle.def_math.specs.Counts.{count_below}
@@ -64,17 +64,13 @@ unlike_pick f room b c left right s t ms worth other = omega (
 -- A unit has as many edges as its width says.
 pub links_width : (room : ℕ → ℕ) (b : ℕ) (c : ℤ) (left : End) (right : Option End) → length (links_by room b c left right) ≡ width_by room left right
 links_width room b c left None = omega (arith, length-append (to_copies room b c left) (inner_link b c left ∷ []), fan_length b (cond left.plus c (pos 0)) (count_below room left.node) (room left.node))
-links_width room b c left (Some right) = by_alike (are_alike left right)
+links_width room b c left (Some right) = grind (arith, ints, length-append (to_copies room b c left) (to_copies room (b + 1) (pos 0) right ++ inner_link b c left ∷ []), length-append (to_copies room (b + 1) (pos 0) right) (inner_link b c left ∷ []), first, second (b + 1) (pos 0), length-append (to_copies room b c left) (to_copies room b c right), second b c)
   where
     first : length (to_copies room b c left) ≡ room left.node
     first = fan_length b (cond left.plus c (pos 0)) (count_below room left.node) (room left.node)
 
     second : (u : ℕ) (d : ℤ) → length (to_copies room u d right) ≡ room right.node
     second u d = fan_length u (cond right.plus d (pos 0)) (count_below room right.node) (room right.node)
-
-    by_alike : (a : Bool) → length (cond a (to_copies room b c left ++ (to_copies room (b + 1) (pos 0) right ++ inner_link b c left ∷ [])) (to_copies room b c left ++ to_copies room b c right)) ≡ cond a (room left.node + (room right.node + 1)) (room left.node + room right.node)
-    by_alike true = omega (arith, length-append (to_copies room b c left) (to_copies room (b + 1) (pos 0) right ++ inner_link b c left ∷ []), length-append (to_copies room (b + 1) (pos 0) right) (inner_link b c left ∷ []), first, second (b + 1) (pos 0))
-    by_alike false = omega (arith, length-append (to_copies room b c left) (to_copies room b c right), first, second b c)
 
 -- Each own vertex of a unit has one mate among the unit's edges, but for the one at the rim.
 pub record IsPairOk (room : ℕ → ℕ) (ms : List Bool) (left right : End) : Type 0 where
@@ -88,26 +84,14 @@ IsUnitOk room ms left (Some right) = IsPairOk room ms left right
 
 -- The state that is told makes the first end active exactly where one of its edges is marked.
 left_active : (room : ℕ → ℕ) (ms : List Bool) (left : End) → is_active (state_told room ms left) left ≡ nat_lt 0 (left_marks room ms left)
-left_active room ms left = by_sign left.plus (nat_lt 0 (left_marks room ms left))
-  where
-    by_sign : (p b : Bool) → cond p (cond p b (not b)) (not (cond p b (not b))) ≡ b
-    by_sign true b = refl
-    by_sign false true = refl
-    by_sign false false = refl
+left_active room ms left = grind (arith)
 
 pub left_told : (room : ℕ → ℕ) (ms : List Bool) (left : End) → left_marks room ms left ≤ 1 → left_marks room ms left ≡ cond (is_active (state_told room ms left) left) 1 0
-left_told room ms left le = rw (left_active room ms left) (by_marks (cases_lt 0 (left_marks room ms left)))
-  where
-    by_marks : (0 < left_marks room ms left) ⊎ (left_marks room ms left ≤ 0) → left_marks room ms left ≡ cond (nat_lt 0 (left_marks room ms left)) 1 0
-    by_marks (inl some) = rw (lt-ltb 0 (left_marks room ms left) some) (omega arith)
-    by_marks (inr none) = rw (le-ltb 0 (left_marks room ms left) none) (omega arith)
+left_told room ms left le = rw (left_active room ms left) (grind (arith, cases_lt 0 (left_marks room ms left)))
 
 -- Of a number and a mark that are 1 together, the mark is the rest.
 pub mark_rest : (m a : Bool) (n : ℕ) → n ≡ cond a 1 0 → n + cond m 1 0 ≡ 1 → m ≡ not a
-mark_rest true true n e s = absurd (omega arith)
-mark_rest true false n e s = refl
-mark_rest false true n e s = refl
-mark_rest false false n e s = absurd (omega arith)
+mark_rest m a n e s = grind (arith)
 
 abbrev pub told : (ℕ → ℕ) → List Bool → End → End → Bool
 told room ms left e = is_active (state_told room ms left) e
@@ -129,8 +113,4 @@ unlike_told room ms left right ok unlike =
     let first : left_marks room ms left ≡ cond (told room ms left left) 1 0 = left_told room ms left (omega (arith, ok.unlike unlike)) in
     let other : told room ms left left ≡ not (told room ms left right) = unlike_active (state_told room ms left) left right unlike in
     let equal : ◌≡◌ {A = ℕ} (cond (told room ms left left) 1 0) (cond (not (told room ms left right)) 1 0) = ap (λ a. cond a 1 0) other in
-    (first, omega (arith, first, equal, ok.unlike unlike, rest (told room ms left right)))
-  where
-    rest : (a : Bool) → cond (not a) 1 0 + cond a 1 0 ≡ 1
-    rest true = refl
-    rest false = refl
+    (first, grind (arith, first, equal, ok.unlike unlike))

@@ -1,5 +1,5 @@
 -- The matching law: an admissible list in the box tells a perfect matching.
-use Rattle.std.proofs.Common.{◌≡◌, ℕ, zero, suc, ◌+◌, ◌%◌, ◌≤◌, Bool, true, cond, ◌&&◌, ◌==◌, nat_le, nat_lt, IsTrue, List, [], ◌∷◌, ◌++◌, length, map, Option, Some, None, option_to_list, pos, ◌-ℤ◌, refl, ◌∙◌, ◌≢◌, ltb-true, eq-eqb, ne_eqb, inl, inr, ◌⊎◌, arith}
+use Rattle.std.proofs.Common.{◌≡◌, ℕ, zero, suc, ◌+◌, ◌%◌, ◌≤◌, Bool, true, cond, ◌&&◌, ◌==◌, nat_le, nat_lt, IsTrue, List, [], ◌∷◌, ◌++◌, length, map, Option, Some, None, option_to_list, pos, ◌-ℤ◌, refl, ◌∙◌, ltb-true, arith}
 use Rattle.std.specs.List.{list_all}
 use Rattle.std.proofs.lemmas.List.{length-map}
 use Rattle.std.proofs.lemmas.Int.{ints}
@@ -51,11 +51,7 @@ graph_law net step xs bounds = graph_lawful net.nodes (λ v. active v (units net
 
 -- The lone vertex makes the number at the rim even.
 lone_even : (m : ℕ) → (cond (m % 2 == 1) 1 0 + m) % 2 ≡ 0
-lone_even m = by_parity (cases_eq (m % 2) 1)
-  where
-    by_parity : (m % 2 ≡ 1) ⊎ (m % 2 ≢ 1) → (cond (m % 2 == 1) 1 0 + m) % 2 ≡ 0
-    by_parity (inl odd) = rw (eq-eqb (m % 2) 1 odd) (omega arith)
-    by_parity (inr not_odd) = rw (ne_eqb (m % 2) 1 not_odd) (omega arith)
+lone_even m = grind (arith, cases_eq (m % 2) 1)
 
 -- An admissible list in the box fits the matching graph.
 pub box_fits : (net : Network) (step : ℕ) (xs js ys : List ℕ) → IsWithinBounds net → 1 ≤ step → length xs ≡ length net.arcs → IsBalanced net.arcs (entries xs) → IsBalanced net.arcs (entries ys) → IsRaised net step xs js ys

@@ -39,8 +39,7 @@ copies_worth w nodes room b c e s l zero_copies here i li = omega (arith, ints, 
 
 -- n edges worth 1, and one more where it is marked.
 one_more : (n : ℕ) (i : Bool) (x : ℤ) → x ≡ pos 1 → pos n *ℤ pos 1 +ℤ cond i x (pos 0) ≡ pos (n + cond i 1 0)
-one_more n true x e = omega (arith, ints, e)
-one_more n false x e = omega (arith, ints, e)
+one_more n i x e = grind (arith, ints)
 
 -- The inner edge of a unit weighs 1 where one of its ends does and the other weighs nothing.
 inner_one : (b : ℕ) → (only b b +ℤ only b (b + 1) ≡ pos 1) × (only (b + 1) b +ℤ only (b + 1) (b + 1) ≡ pos 1)
@@ -191,12 +190,7 @@ next_rim b u us rs h = by_right u.right h.is
     by_right (Some right) e = record { front = h.front; below = below_more b _ h.front (omega arith) h.below; is = e }
 
 size_low : (left : End) (right : Option End) → 1 ≤ size_by left right
-size_low left None = omega arith
-size_low left (Some right) = by_alike (are_alike left right)
-  where
-    by_alike : (a : Bool) → 1 ≤ cond a 2 1
-    by_alike true = omega arith
-    by_alike false = omega arith
+size_low left right = grind (arith)
 
 -- Each own vertex of each unit has one mate.
 pub units_ok : (n nodes : ℕ) (room : ℕ → ℕ) (b m : ℕ) (us : List ArcUnit) (ms : List Bool) (rs : List ℕ) (rest : List WEdge) (rms : List Bool) → UnitsAt nodes us → count_below room nodes ≤ b → b + count unit_size us ≤ m → m ≤ n → HasRim b us rs → RestZero m rs rest → IsFull n room b us ms rest rms → UnitsOk room us ms

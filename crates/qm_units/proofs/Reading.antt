@@ -1,5 +1,5 @@
 -- A perfect matching tells states of the units that fill the copies, at its own cost.
-use Rattle.std.proofs.Common.{◌≡◌, ◌≢◌, ℕ, zero, suc, ◌+◌, ◌<◌, ◌≤◌, min, Bool, true, false, cond, not, ◌&&◌, ◌==◌, nat_lt, List, [], ◌∷◌, ◌++◌, length, map, drop, Option, Some, None, ℤ, pos, ◌+ℤ◌, ◌-ℤ◌, ◌*ℤ◌, refl, sym, ◌∙◌, ap, subst, inl, inr, ◌⊎◌, zero-add, eq-eqb, ne_eqb, lt-ltb, le-ltb, true≢false, arith}
+use Rattle.std.proofs.Common.{◌≡◌, ◌≢◌, ℕ, zero, suc, ◌+◌, ◌<◌, ◌≤◌, min, Bool, true, false, cond, not, ◌&&◌, ◌==◌, nat_lt, List, [], ◌∷◌, ◌++◌, length, map, drop, Option, Some, None, ℤ, pos, ◌+ℤ◌, ◌-ℤ◌, ◌*ℤ◌, refl, sym, ◌∙◌, ap, subst, inl, inr, ◌⊎◌, zero-add, eq-eqb, ne_eqb, lt-ltb, le-ltb, arith}
 use Rattle.std.proofs.lemmas.Int.{ints}
 use Rattle.std.proofs.lemmas.Bool.{cases_eq, cases_lt}
 use Rattle.std.proofs.Math.IntN.{*ℤ-zero}
@@ -56,11 +56,7 @@ at_copies room v k = pos (cond (nat_lt k (count_below room v + room v)) 1 0) -�
 
 less_total : (a n : ℕ) → total_below (λ k. pos (cond (nat_lt k a) 1 0)) n ≡ pos (min n a)
 less_total a zero = omega (arith, ints)
-less_total a (suc n) = by_last (cases_lt n a) (less_total a n)
-  where
-    by_last : (n < a) ⊎ (a ≤ n) → total_below (λ k. pos (cond (nat_lt k a) 1 0)) n ≡ pos (min n a) → total_below (λ k. pos (cond (nat_lt k a) 1 0)) n +ℤ pos (cond (nat_lt n a) 1 0) ≡ pos (min (suc n) a)
-    by_last (inl l) ih = rw (lt-ltb n a l) (omega (arith, ints, ih))
-    by_last (inr l) ih = rw (le-ltb n a l) (omega (arith, ints, ih))
+less_total a (suc n) = grind (arith, ints, cases_lt n a, less_total a n)
 
 copies_total : (room : ℕ → ℕ) (v n : ℕ) → count_below room v + room v ≤ n → total_below (at_copies room v) n ≡ pos (room v)
 copies_total room v n le = omega (arith, ints, total_below_minus (λ k. pos (cond (nat_lt k (count_below room v + room v)) 1 0)) (λ k. pos (cond (nat_lt k (count_below room v)) 1 0)) n, less_total (count_below room v + room v) n, less_total (count_below room v) n)
@@ -89,10 +85,7 @@ copy_weight room v u i l = by_order (cases_eq u v) (cases_lt u v)
         rw (le-ltb k (count_below room v + room v) (omega arith), le-ltb k (count_below room v) (omega arith), ne_eqb u v ne) refl
 
 times_cond : (a b : Bool) → pos (cond a 1 0) *ℤ pos (cond b 1 0) ≡ pos (cond (b && a) 1 0)
-times_cond true true = omega (arith, ints)
-times_cond true false = omega (arith, ints)
-times_cond false true = omega (arith, ints)
-times_cond false false = omega (arith, ints)
+times_cond a b = grind (arith, ints)
 
 module _ (room : ℕ → ℕ) (v : ℕ) (w : ℕ → ℤ) (copy : (u i : ℕ) → i < room u → w (count_below room u + i) ≡ pos (cond (u == v) 1 0)) where
   end_worth : (b : ℕ) (c : ℤ) (e : End) → w b ≡ pos 0 → IsWorth (at_ends w) room b c e (pos (cond (e.node == v) 1 0))
@@ -102,8 +95,7 @@ module _ (room : ℕ → ℕ) (v : ℕ) (w : ℕ → ℤ) (copy : (u i : ℕ) �
   marked n a e is = ap (λ k. pos k *ℤ pos (cond (e.node == v) 1 0)) is ∙ times_cond a (e.node == v)
 
   inner_none : (i : Bool) (x : ℤ) → x ≡ pos 0 → cond i x (pos 0) ≡ pos 0
-  inner_none true x e = e
-  inner_none false x e = refl
+  inner_none i x e = grind (arith, ints)
 
   -- The copies of node v that a unit takes are its active ends there.
   unit_copies : (b : ℕ) (c : ℤ) (left : End) (right : Option End) (ms : List Bool) → ((k : ℕ) → b ≤ k → w k ≡ pos 0) → IsUnitOk room ms left right → picked (at_ends w) ms (links_by room b c left right) ≡ pos (ends_active v (state_told room ms left) left right)
@@ -137,32 +129,17 @@ unit_cost_told room b c left None ms ok =
     let facts : (left_marks room ms left ≡ cond (told room ms left left) 1 0) × (lone_inner room ms left ≡ not (told room ms left left)) = lone_told room ms left ok in
     let first : pos (left_marks room ms left) *ℤ cond left.plus c (pos 0) ≡ pos (cond (told room ms left left) 1 0) *ℤ cond left.plus c (pos 0) = ap (λ n. pos n *ℤ cond left.plus c (pos 0)) facts.0 in
     let inner : cond (lone_inner room ms left) (cond left.plus (pos 0) c) (pos 0) ≡ cond (not (told room ms left left)) (cond left.plus (pos 0) c) (pos 0) = ap (λ t. cond t (cond left.plus (pos 0) c) (pos 0)) facts.1 in
-    omega (arith, ints, lone_pick (λ e. e.cost) room b c left (cond left.plus c (pos 0)) ms (cost_worth room b c left), first, inner, by_signs left.plus (state_told room ms left))
-  where
-    by_signs : (p o : Bool) → pos (cond (cond p o (not o)) 1 0) *ℤ cond p c (pos 0) +ℤ cond (not (cond p o (not o))) (cond p (pos 0) c) (pos 0) ≡ cond o c (pos 0)
-    by_signs true true = omega (arith, ints)
-    by_signs true false = omega (arith, ints)
-    by_signs false true = omega (arith, ints)
-    by_signs false false = omega (arith, ints)
+    grind (arith, ints, lone_pick (λ e. e.cost) room b c left (cond left.plus c (pos 0)) ms (cost_worth room b c left), first, inner)
 unit_cost_told room b c left (Some right) ms ok = by_alike (are_alike left right) refl
   where
     by_signs : (p o : Bool) → pos (cond (cond p o (not o)) 1 0) *ℤ cond p c (pos 0) +ℤ cond (not (cond p o (not o))) (cond p (pos 0) c) (pos 0) ≡ cond o c (pos 0)
-    by_signs true true = omega (arith, ints)
-    by_signs true false = omega (arith, ints)
-    by_signs false true = omega (arith, ints)
-    by_signs false false = omega (arith, ints)
+    by_signs p o = grind (arith, ints)
 
     by_both : (p q o : Bool) → cond p q (not q) ≡ false → pos (cond (cond p o (not o)) 1 0) *ℤ cond p c (pos 0) +ℤ pos (cond (cond q o (not o)) 1 0) *ℤ cond q c (pos 0) ≡ cond o c (pos 0)
-    by_both true true o e = absurd (true≢false e)
-    by_both true false true e = omega (arith, ints)
-    by_both true false false e = omega (arith, ints)
-    by_both false true true e = omega (arith, ints)
-    by_both false true false e = omega (arith, ints)
-    by_both false false o e = absurd (true≢false e)
+    by_both p q o e = grind (arith, ints)
 
     free_end : (q : Bool) → cond q (pos 0) (pos 0) ≡ pos 0
-    free_end true = refl
-    free_end false = refl
+    free_end q = grind (arith, ints)
 
     first : left_marks room ms left ≡ cond (told room ms left left) 1 0 → pos (left_marks room ms left) *ℤ cond left.plus c (pos 0) ≡ pos (cond (told room ms left left) 1 0) *ℤ cond left.plus c (pos 0)
     first e = ap (λ n. pos n *ℤ cond left.plus c (pos 0)) e

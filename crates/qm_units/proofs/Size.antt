@@ -1,5 +1,5 @@
 -- The matching graph has at most 9/16 of the tangle number of vertices, and at most 9/8 of it of edges.
-use Rattle.std.proofs.Common.{◌≡◌, ◌≢◌, ℕ, zero, suc, ◌+◌, ◌-◌, ◌*◌, ◌%◌, ◌<◌, ◌≤◌, Bool, true, false, cond, ◌&&◌, ◌==◌, List, [], ◌∷◌, ◌++◌, length, map, Option, Some, None, option_to_list, pos, ◌≤ℤ◌, refl, sym, ◌∙◌, ap, inl, inr, ◌⊎◌, add-mul, mul-add, mul_comm, mul_left_comm, zero-mul, mul-le-mul_left, mul-le-mul_right, length-append, eq-eqb, ne_eqb, arith}
+use Rattle.std.proofs.Common.{◌≡◌, ◌≢◌, ℕ, zero, suc, ◌+◌, ◌-◌, ◌*◌, ◌%◌, ◌<◌, ◌≤◌, Bool, true, false, cond, ◌&&◌, ◌==◌, List, [], ◌∷◌, length, map, Option, Some, None, option_to_list, pos, ◌≤ℤ◌, refl, sym, ◌∙◌, ap, inl, inr, ◌⊎◌, add-mul, mul-add, mul_comm, mul_left_comm, zero-mul, mul-le-mul_left, mul-le-mul_right, length-append, eq-eqb, ne_eqb, arith}
 use Rattle.std.proofs.lemmas.Int.{ints}
 use Rattle.std.proofs.lemmas.Bool.{cases_eq}
 use Rattle.def_math.specs.Counts.{count, count_below}
@@ -7,11 +7,10 @@ use Rattle.qm_laws.proofs.Counts.{count_append, count_sum, count_below_sum, coun
 use Rattle.def_flow.specs.Network.{EndsBelow, Network, IsWithinBounds, ends, degree, tangle_number}
 use Rattle.def_flow.specs.Admissible.{IsAdmissible, entries}
 use Rattle.def_flow.specs.Units.{down, low, cap, units_from, units, states_at, is_active, active, alone_active, rim_active}
-use Rattle.def_flow.specs.MatchingGraph.{link_from, rung, rim_links, with_rim, rim, size_by, unit_size, are_alike, unit_links, units_links, first_fresh, lone_vertex, matching_graph}
+use Rattle.def_flow.specs.MatchingGraph.{link_from, rung, rim_links, rim, size_by, unit_size, unit_links, units_links, first_fresh, lone_vertex, matching_graph}
 use Rattle.def_flow.specs.declared.net.Arc.{Arc}
 use Rattle.def_flow.specs.declared.net.End.{End}
 use Rattle.def_flow.specs.declared.units.ArcUnit.{ArcUnit}
-use Rattle.def_matching.specs.declared.weighted.WEdge.{WEdge}
 use Rattle.qm_units.specs.Told.{width_by}
 use Rattle.qm_units.proofs.Box.{own_box, arc_active, weighted_ends, box_active, balanced_list}
 use Rattle.qm_units.proofs.Law.{ArcsAt, arcs_at}
@@ -25,12 +24,7 @@ ends_on v on arcs = count (arc_active v on) arcs
 -- All ends at a node are on one side or the other.
 both_sides : (v : ℕ) (es : List End) → count (λ e. cond (e.node == v) 1 0) es ≡ count (λ e. cond ((e.node == v) && is_active true e) 1 0) es + count (λ e. cond ((e.node == v) && is_active false e) 1 0) es
 both_sides v [] = refl
-both_sides v (e ∷ es) = omega (arith, by_tests (e.node == v) e.plus, both_sides v es)
-  where
-    by_tests : (b p : Bool) → cond b 1 0 ≡ cond (b && cond p true false) 1 0 + cond (b && cond p false true) 1 0
-    by_tests true true = refl
-    by_tests true false = refl
-    by_tests false p = refl
+both_sides v (e ∷ es) = grind (arith, both_sides v es)
 
 degree_sides : (v : ℕ) (arcs : List Arc) → degree arcs v ≡ ends_on v true arcs + ends_on v false arcs
 degree_sides v [] = refl
@@ -143,11 +137,7 @@ is_lone u = lone_by u.right
 
 rim_count : (b : ℕ) (us : List ArcUnit) → length (rim b us) ≡ count is_lone us
 rim_count b [] = refl
-rim_count b (u ∷ us) = by_right u.right (rim_count (b + unit_size u) us)
-  where
-    by_right : (right : Option End) → length (rim (b + unit_size u) us) ≡ count is_lone us → length (with_rim right (b + 1) (rim (b + unit_size u) us)) ≡ lone_by right + count is_lone us
-    by_right None ih = omega (arith, ih)
-    by_right (Some right) ih = omega (arith, ih)
+rim_count b (u ∷ us) = grind (arith, rim_count (b + unit_size u) us)
 
 rim_active_low : (us : List ArcUnit) (ons : List Bool) → rim_active us ons ≤ count is_lone us
 rim_active_low [] ons = omega arith
@@ -160,12 +150,10 @@ rim_active_low (u ∷ us) (on ∷ ons) = omega (arith, by_right u.right, rim_act
 
 -- The edges at the rim are at most four for each vertex there.
 from_low : (before : Option ℕ) (v : ℕ) → length (link_from before v) ≤ 1
-from_low None v = omega arith
-from_low (Some b) v = omega arith
+from_low before v = grind (arith)
 
 rung_low : (before : Option ℕ) (fresh r : ℕ) → length (rung before fresh r) ≤ 4
-rung_low None fresh r = omega arith
-rung_low (Some b) fresh r = omega arith
+rung_low before fresh r = grind (arith)
 
 rim_low : (before : Option ℕ) (fresh : ℕ) (rs : List ℕ) → length (rim_links before fresh rs) ≤ 4 * length rs
 rim_low before fresh [] = omega arith
@@ -212,12 +200,7 @@ abbrev size_and_rim : End → Option End → ℕ
 size_and_rim left right = size_by left right + (lone_by right + lone_by right)
 
 size_low : (left : End) (right : Option End) → size_and_rim left right ≤ count (λ e. 4) (left ∷ option_to_list right)
-size_low left None = omega arith
-size_low left (Some right) = by_alike (are_alike left right)
-  where
-    by_alike : (a : Bool) → cond a 2 1 + (0 + 0) ≤ 8
-    by_alike true = omega arith
-    by_alike false = omega arith
+size_low left right = grind (arith)
 
 sizes_split : (us : List ArcUnit) → count (λ u. size_and_rim u.left u.right) us ≡ count unit_size us + (count is_lone us + count is_lone us)
 sizes_split [] = refl
@@ -228,12 +211,7 @@ abbrev width_and_rim : (ℕ → ℕ) → End → Option End → ℕ
 width_and_rim room left right = width_by room left right + 4 * lone_by right
 
 width_low : (room : ℕ → ℕ) (left : End) (right : Option End) → width_and_rim room left right ≤ count (λ e. room e.node + 5) (left ∷ option_to_list right)
-width_low room left None = omega arith
-width_low room left (Some right) = by_alike (are_alike left right)
-  where
-    by_alike : (a : Bool) → cond a (room left.node + (room right.node + 1)) (room left.node + room right.node) + 0 ≤ room left.node + 5 + (room right.node + 5 + 0)
-    by_alike true = omega arith
-    by_alike false = omega arith
+width_low room left right = grind (arith)
 
 widths_split : (room : ℕ → ℕ) (b : ℕ) (us : List ArcUnit) → count (λ u. width_and_rim room u.left u.right) us ≡ length (units_links room b us) + 4 * count is_lone us
 widths_split room b [] = refl

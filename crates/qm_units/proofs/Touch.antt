@@ -30,14 +30,10 @@ pick_last f (m ∷ ms) x = omega (arith, ints, no_pick f ms)
 pub fan_pick : (f : WEdge → ℤ) (ms : List Bool) (u : ℕ) (c : ℤ) (a n : ℕ) (s : ℤ) → ((i : ℕ) → i < n → f (link u (a + i) c) ≡ s) → picked f ms (fan u c a n) ≡ pos (trues (take n ms)) *ℤ s
 fan_pick f ms u c a zero s each = omega (arith, ints, no_pick f ms)
 fan_pick f [] u c a (suc n) s each = omega (arith, ints)
-fan_pick f (m ∷ ms) u c a (suc n) s each = by_mark m (fan_pick f ms u c (a + 1) n s (λ i l. (let e : a + 1 + i ≡ a + suc i = omega arith in ap (λ k. f (link u k c)) e ∙ each (suc i) (omega arith))))
+fan_pick f (m ∷ ms) u c a (suc n) s each = grind (arith, ints, here, plus_times 1 (trues (take n ms)) s, plus_times 0 (trues (take n ms)) s, fan_pick f ms u c (a + 1) n s (λ i l. (let e : a + 1 + i ≡ a + suc i = omega arith in ap (λ k. f (link u k c)) e ∙ each (suc i) (omega arith))))
   where
     here : f (link u a c) ≡ s
     here = (let e : a + 0 ≡ a = add-zero a in ap (λ k. f (link u k c)) (sym e) ∙ each 0 (omega arith))
-
-    by_mark : (b : Bool) → picked f ms (fan u c (a + 1) n) ≡ pos (trues (take n ms)) *ℤ s → cond b (f (link u a c)) (pos 0) +ℤ picked f ms (fan u c (a + 1) n) ≡ pos (cond b 1 0 + trues (take n ms)) *ℤ s
-    by_mark true rest = omega (arith, ints, here, rest, plus_times 1 (trues (take n ms)) s)
-    by_mark false rest = omega (arith, ints, rest, plus_times 0 (trues (take n ms)) s)
 
 -- Edges whose ends weigh nothing.
 abbrev pub AreZero : (ℕ → ℤ) → List WEdge → Type 0

@@ -22,8 +22,7 @@ held_same nodes room w used other same = total_below_same _ _ nodes (λ v l. ap 
 
 -- One copy more at a node.
 one_more : (w : ℕ → ℤ) (a n : ℕ) (b : Bool) → span w a (n + cond b 1 0) ≡ span w a n +ℤ cond b (w (a + n)) (pos 0)
-one_more w a n true = omega (arith, ints, span_sum w a n 1)
-one_more w a n false = omega (arith, ints, span_sum w a n 0)
+one_more w a n b = grind (arith, ints, span_sum w a n 1, span_sum w a n 0)
 
 -- An active end takes one copy of its node.
 pub held_end : (nodes : ℕ) (room : ℕ → ℕ) (w : ℕ → ℤ) (used : ℕ → ℕ) (some : Bool) (e : End) → e.node < nodes → held nodes room w (take_end used some e) ≡ held nodes room w used +ℤ cond some (w (count_below room e.node + used e.node)) (pos 0)
@@ -117,24 +116,10 @@ pick_unit f room used b c on left (Some right) free = by_alike (are_alike left r
 
 -- The signs decide which ends are active together.
 pub alike_active : (on : Bool) (left right : End) → are_alike left right ≡ true → is_active on left ≡ is_active on right
-alike_active on left right = by_signs on left.plus right.plus
-  where
-    by_signs : (o a b : Bool) → cond a b (not b) ≡ true → cond a o (not o) ≡ cond b o (not o)
-    by_signs o true true e = refl
-    by_signs o true false e = absurd (true≢false (sym e))
-    by_signs o false true e = absurd (true≢false (sym e))
-    by_signs o false false e = refl
+alike_active on left right = grind (arith)
 
 pub unlike_active : (on : Bool) (left right : End) → are_alike left right ≡ false → is_active on left ≡ not (is_active on right)
-unlike_active on left right = by_signs on left.plus right.plus
-  where
-    by_signs : (o a b : Bool) → cond a b (not b) ≡ false → cond a o (not o) ≡ not (cond b o (not o))
-    by_signs o true true e = absurd (true≢false e)
-    by_signs true true false e = refl
-    by_signs false true false e = refl
-    by_signs true false true e = refl
-    by_signs false false true e = refl
-    by_signs o false false e = absurd (true≢false e)
+unlike_active on left right = grind (arith)
 
 -- At a unit its own vertices and the copies that it takes get one mate each.
 pub unit_weight : (w : ℕ → ℤ) (nodes : ℕ) (room used : ℕ → ℕ) (b : ℕ) (c : ℤ) (on : Bool) (left : End) (right : Option End) → EndsBelow nodes left right → ((v : ℕ) → used v + ends_active v on left right ≤ room v) → picked (at_ends w) (marks_by room used on left right) (links_by room b c left right) +ℤ held nodes room w used ≡ own w b on left right +ℤ held nodes room w (λ v. used v + ends_active v on left right)
@@ -147,8 +132,7 @@ unit_weight w nodes room used b c on left None ends free = omega (arith, ints, p
     x = w (count_below room left.node + used left.node)
 
     by_active : (a : Bool) → cond a (w b +ℤ x) (pos 0) +ℤ cond (not a) (w b +ℤ w (b + 1)) (pos 0) ≡ (w b +ℤ cond a (pos 0) (w (b + 1))) +ℤ cond a x (pos 0)
-    by_active true = omega (arith, ints)
-    by_active false = omega (arith, ints)
+    by_active a = grind (arith, ints)
 unit_weight w nodes room used b c on left (Some right) ends free = omega (arith, ints, pick_unit (at_ends w) room used b c on left (Some right) free, held_end nodes room w used (is_active on left) left ends.0, held_end nodes room w next (is_active on right) right ends.1, same, by_alike (are_alike left right) refl)
   where
     next : ℕ → ℕ
@@ -181,33 +165,13 @@ unit_weight w nodes room used b c on left (Some right) ends free = omega (arith,
 
 -- A unit costs its cost where it is on, and nothing where it is off.
 pub unit_cost : (room used : ℕ → ℕ) (b : ℕ) (c : ℤ) (on : Bool) (left : End) (right : Option End) → ((v : ℕ) → used v + ends_active v on left right ≤ room v) → picked (λ e. e.cost) (marks_by room used on left right) (links_by room b c left right) ≡ cond on c (pos 0)
-unit_cost room used b c on left None free = pick_unit (λ e. e.cost) room used b c on left None free ∙ by_signs left.plus on
-  where
-    by_signs : (p o : Bool) → cond (cond p o (not o)) (cond p c (pos 0)) (pos 0) +ℤ cond (not (cond p o (not o))) (cond p (pos 0) c) (pos 0) ≡ cond o c (pos 0)
-    by_signs true true = omega (arith, ints)
-    by_signs true false = omega (arith, ints)
-    by_signs false true = omega (arith, ints)
-    by_signs false false = omega (arith, ints)
-unit_cost room used b c on left (Some right) free = pick_unit (λ e. e.cost) room used b c on left (Some right) free ∙ by_signs left.plus right.plus on
-  where
-    by_signs : (p q o : Bool) → cond (cond p q (not q)) (cond (cond p o (not o)) (cond p c (pos 0)) (pos 0) +ℤ (cond (cond q o (not o)) (cond q (pos 0) (pos 0)) (pos 0) +ℤ cond (not (cond p o (not o))) (cond p (pos 0) c) (pos 0))) (cond (cond p o (not o)) (cond p c (pos 0)) (pos 0) +ℤ cond (cond q o (not o)) (cond q c (pos 0)) (pos 0)) ≡ cond o c (pos 0)
-    by_signs true true true = omega (arith, ints)
-    by_signs true true false = omega (arith, ints)
-    by_signs true false true = omega (arith, ints)
-    by_signs true false false = omega (arith, ints)
-    by_signs false true true = omega (arith, ints)
-    by_signs false true false = omega (arith, ints)
-    by_signs false false true = omega (arith, ints)
-    by_signs false false false = omega (arith, ints)
+unit_cost room used b c on left None free = pick_unit (λ e. e.cost) room used b c on left None free ∙ grind (arith, ints)
+unit_cost room used b c on left (Some right) free = pick_unit (λ e. e.cost) room used b c on left (Some right) free ∙ grind (arith, ints)
 
 -- A unit has as many marks as edges.
 pub unit_length : (room used : ℕ → ℕ) (b : ℕ) (c : ℤ) (on : Bool) (left : End) (right : Option End) → length (marks_by room used on left right) ≡ length (links_by room b c left right)
 unit_length room used b c on left None = omega (arith, length-append (end_marks room used (is_active on left) left) (not (is_active on left) ∷ []), length-append (to_copies room b c left) (inner_link b c left ∷ []), end_length room used (is_active on left) left b c)
-unit_length room used b c on left (Some right) = by_alike (are_alike left right)
+unit_length room used b c on left (Some right) = grind (arith, ints, length-append (end_marks room used (is_active on left) left) (end_marks room next (is_active on right) right ++ not (is_active on left) ∷ []), length-append (end_marks room next (is_active on right) right) (not (is_active on left) ∷ []), length-append (to_copies room b c left) (to_copies room (b + 1) (pos 0) right ++ inner_link b c left ∷ []), length-append (to_copies room (b + 1) (pos 0) right) (inner_link b c left ∷ []), end_length room used (is_active on left) left b c, end_length room next (is_active on right) right (b + 1) (pos 0), length-append (end_marks room used (is_active on left) left) (end_marks room next (is_active on right) right), length-append (to_copies room b c left) (to_copies room b c right), end_length room next (is_active on right) right b c)
   where
     next : ℕ → ℕ
     next = take_end used (is_active on left) left
-
-    by_alike : (alike : Bool) → length (cond alike (end_marks room used (is_active on left) left ++ (end_marks room next (is_active on right) right ++ not (is_active on left) ∷ [])) (end_marks room used (is_active on left) left ++ end_marks room next (is_active on right) right)) ≡ length (cond alike (to_copies room b c left ++ (to_copies room (b + 1) (pos 0) right ++ inner_link b c left ∷ [])) (to_copies room b c left ++ to_copies room b c right))
-    by_alike true = omega (arith, length-append (end_marks room used (is_active on left) left) (end_marks room next (is_active on right) right ++ not (is_active on left) ∷ []), length-append (end_marks room next (is_active on right) right) (not (is_active on left) ∷ []), length-append (to_copies room b c left) (to_copies room (b + 1) (pos 0) right ++ inner_link b c left ∷ []), length-append (to_copies room (b + 1) (pos 0) right) (inner_link b c left ∷ []), end_length room used (is_active on left) left b c, end_length room next (is_active on right) right (b + 1) (pos 0))
-    by_alike false = omega (arith, length-append (end_marks room used (is_active on left) left) (end_marks room next (is_active on right) right), length-append (to_copies room b c left) (to_copies room b c right), end_length room used (is_active on left) left b c, end_length room next (is_active on right) right b c)

@@ -5,8 +5,8 @@ use Rattle.def_math.specs.Sums.{span}
 use Rattle.def_math.specs.Counts.{count}
 use Rattle.qm_laws.proofs.Sums.{span_sum}
 use Rattle.def_flow.specs.Network.{EndsBelow}
-use Rattle.def_flow.specs.Units.{is_active, active, active_at, alone_active, rim_active, cost_on}
-use Rattle.def_flow.specs.MatchingGraph.{are_alike, size_by, unit_size, unit_links, units_links, with_rim, rim}
+use Rattle.def_flow.specs.Units.{is_active, active, active_at, rim_active, cost_on}
+use Rattle.def_flow.specs.MatchingGraph.{size_by, unit_size, unit_links, units_links, with_rim, rim}
 use Rattle.def_flow.specs.declared.net.End.{End}
 use Rattle.def_flow.specs.declared.units.ArcUnit.{ArcUnit}
 use Rattle.def_matching.specs.declared.weighted.WEdge.{WEdge}
@@ -27,11 +27,7 @@ all_own w b on left None os rs = by_active (is_active on left)
     by_active : (a : Bool) → (w b +ℤ cond a (pos 0) (w (b + 1))) +ℤ (cond a (w (b + 1)) (pos 0) +ℤ picked w os rs) ≡ (w b +ℤ (w (b + 1) +ℤ pos 0)) +ℤ picked w os rs
     by_active true = omega (arith, ints)
     by_active false = omega (arith, ints)
-all_own w b on left (Some right) os rs = by_alike (are_alike left right)
-  where
-    by_alike : (a : Bool) → cond a (w b +ℤ w (b + 1)) (w b) +ℤ picked w os rs ≡ span w b (cond a 2 1) +ℤ picked w os rs
-    by_alike true = omega (arith, ints)
-    by_alike false = omega (arith, ints)
+all_own w b on left (Some right) os rs = grind (arith, ints)
 
 -- At the units all their vertices and the copies that they take get one mate each, but for those at the rim
 -- that wait.
@@ -92,18 +88,10 @@ pub states_length : (b : ℕ) (us : List ArcUnit) (ons : List Bool) → length u
 states_length b [] [] l = refl
 states_length b [] (on ∷ ons) l = absurd (omega arith)
 states_length b (u ∷ us) [] l = absurd (omega arith)
-states_length b (u ∷ us) (on ∷ ons) l = by_right u.right (states_length (b + unit_size u) us ons (omega arith))
-  where
-    by_right : (right : Option End) → length (rim_states us ons) ≡ length (rim (b + unit_size u) us) → length (with_state right (is_active on u.left) (rim_states us ons)) ≡ length (with_rim right (b + 1) (rim (b + unit_size u) us))
-    by_right None ih = omega (arith, ih)
-    by_right (Some right) ih = ih
+states_length b (u ∷ us) (on ∷ ons) l = grind (arith, states_length (b + unit_size u) us ons (omega arith))
 
 -- Those that wait are the active ones.
 pub rim_trues : (us : List ArcUnit) (ons : List Bool) → trues (rim_states us ons) ≡ rim_active us ons
 rim_trues [] ons = refl
 rim_trues (u ∷ us) [] = refl
-rim_trues (u ∷ us) (on ∷ ons) = by_right u.right (rim_trues us ons)
-  where
-    by_right : (right : Option End) → trues (rim_states us ons) ≡ rim_active us ons → trues (with_state right (is_active on u.left) (rim_states us ons)) ≡ alone_active u.left right on + rim_active us ons
-    by_right None ih = omega (arith, ih)
-    by_right (Some right) ih = omega (arith, ih)
+rim_trues (u ∷ us) (on ∷ ons) = grind (arith, rim_trues us ons)
