@@ -39,23 +39,29 @@ run_length j zero = refl
 run_length zero (suc n) = omega (arith, run_length zero n)
 run_length (suc j) (suc n) = omega (arith, run_length j n)
 
+-- What holds of no arcs, and of one arc more, holds of all arcs with the lists of one box.
+by_raised : (net : Network) (step : ℕ) (P : List Arc → List ℕ → List ℕ → List ℕ → Type 0) → P [] [] [] []
+    → ((a : Arc) (arcs : List Arc) (x j y : ℕ) (xs js ys : List ℕ) → IsRaised net step (x ∷ xs) (j ∷ js) (y ∷ ys) → P arcs xs js ys → P (a ∷ arcs) (x ∷ xs) (j ∷ js) (y ∷ ys))
+    → (arcs : List Arc) (xs js ys : List ℕ) → length xs ≡ length arcs → IsRaised net step xs js ys → P arcs xs js ys
+by_raised net step P none more [] [] [] [] l box = none
+by_raised net step P none more (a ∷ arcs) [] js ys l box = absurd (omega arith)
+by_raised net step P none more [] (x ∷ xs) js ys l box = absurd (omega arith)
+by_raised net step P none more arcs (x ∷ xs) [] ys l box = absurd box
+by_raised net step P none more arcs (x ∷ xs) (j ∷ js) [] l box = absurd box
+by_raised net step P none more [] [] (j ∷ js) ys l box = absurd box
+by_raised net step P none more [] [] [] (y ∷ ys) l box = absurd box
+by_raised net step P none more (a ∷ arcs) (x ∷ xs) (j ∷ js) (y ∷ ys) l box = more a arcs x j y xs js ys box (by_raised net step P none more arcs xs js ys (omega arith) box.2)
+
 -- There are as many states as units.
 pub states_count : (net : Network) (step : ℕ) (arcs : List Arc) (xs js ys : List ℕ) → length xs ≡ length arcs → IsRaised net step xs js ys → length (units net step arcs xs) ≡ length (states net step xs js)
-states_count net step [] [] [] [] l box = refl
-states_count net step (a ∷ arcs) [] js ys l box = absurd (omega arith)
-states_count net step [] (x ∷ xs) js ys l box = absurd (omega arith)
-states_count net step arcs (x ∷ xs) [] ys l box = absurd box
-states_count net step arcs (x ∷ xs) (j ∷ js) [] l box = absurd box
-states_count net step [] [] (j ∷ js) ys l box = absurd box
-states_count net step [] [] [] (y ∷ ys) l box = absurd box
-states_count net step (a ∷ arcs) (x ∷ xs) (j ∷ js) (y ∷ ys) l box = omega (
+states_count net step = by_raised net step (λ arcs xs js ys. length (units net step arcs xs) ≡ length (states net step xs js)) refl (λ a arcs x j y xs js ys box again. omega (
   arith,
   length-append (units_from net step a (low net step x) 0 (cap net step x)) (units net step arcs xs),
   length-append (run j (cap net step x)) (states net step xs js),
   units_length net step a x 0 (cap net step x),
   run_length j (cap net step x),
-  states_count net step arcs xs js ys (omega arith) box.2,
-)
+  again,
+))
 
 active_append : (v : ℕ) (us vs : List ArcUnit) (ons os : List Bool) → length us ≡ length ons → active v (us ++ vs) (ons ++ os) ≡ active v us ons + active v vs os
 active_append v [] vs [] os l = omega arith
@@ -82,21 +88,14 @@ weighted_ends v on (a ∷ arcs) (j ∷ js) = j * arc_active v on a + weighted_en
 weighted_ends v on _ _ = 0
 
 pub box_active : (net : Network) (step v : ℕ) (arcs : List Arc) (xs js ys : List ℕ) → length xs ≡ length arcs → IsRaised net step xs js ys → active v (units net step arcs xs) (states net step xs js) + weighted_ends v false arcs js ≡ weighted_ends v true arcs js + weighted_ends v false arcs (map (cap net step) xs)
-box_active net step v [] [] [] [] l box = refl
-box_active net step v (a ∷ arcs) [] js ys l box = absurd (omega arith)
-box_active net step v [] (x ∷ xs) js ys l box = absurd (omega arith)
-box_active net step v arcs (x ∷ xs) [] ys l box = absurd box
-box_active net step v arcs (x ∷ xs) (j ∷ js) [] l box = absurd box
-box_active net step v [] [] (j ∷ js) ys l box = absurd box
-box_active net step v [] [] [] (y ∷ ys) l box = absurd box
-box_active net step v (a ∷ arcs) (x ∷ xs) (j ∷ js) (y ∷ ys) l box =
+box_active net step v = by_raised net step (λ arcs xs js ys. active v (units net step arcs xs) (states net step xs js) + weighted_ends v false arcs js ≡ weighted_ends v true arcs js + weighted_ends v false arcs (map (cap net step) xs)) refl (λ a arcs x j y xs js ys box again.
     let same : length (units_from net step a (low net step x) 0 (cap net step x)) ≡ length (run j (cap net step x)) = omega (arith, units_length net step a x 0 (cap net step x), run_length j (cap net step x)) in
     omega (
       arith,
       active_append v (units_from net step a (low net step x) 0 (cap net step x)) (units net step arcs xs) (run j (cap net step x)) (states net step xs js) same,
       run_active net step v a x 0 j (cap net step x) box.0,
-      box_active net step v arcs xs js ys (omega arith) box.2,
-    )
+      again,
+    ))
 
 -- A list of the box has the ends of its lows, and a step's worth for each unit.
 scaled : (l j s a : ℕ) → (l + j * s) * a ≡ l * a + s * (j * a)
@@ -105,16 +104,9 @@ scaled l j s a =
     omega (arith, add-mul l (j * s) a, turned)
 
 pub box_ends : (net : Network) (step v : ℕ) (on : Bool) (arcs : List Arc) (xs js ys : List ℕ) → length xs ≡ length arcs → IsRaised net step xs js ys → weighted_ends v on arcs ys ≡ weighted_ends v on arcs (lows net step xs) + step * weighted_ends v on arcs js
-box_ends net step v on [] [] [] [] l box = omega (arith, mul_comm step 0, zero-mul step)
-box_ends net step v on (a ∷ arcs) [] js ys l box = absurd (omega arith)
-box_ends net step v on [] (x ∷ xs) js ys l box = absurd (omega arith)
-box_ends net step v on arcs (x ∷ xs) [] ys l box = absurd box
-box_ends net step v on arcs (x ∷ xs) (j ∷ js) [] l box = absurd box
-box_ends net step v on [] [] (j ∷ js) ys l box = absurd box
-box_ends net step v on [] [] [] (y ∷ ys) l box = absurd box
-box_ends net step v on (a ∷ arcs) (x ∷ xs) (j ∷ js) (y ∷ ys) l box =
+box_ends net step v on = by_raised net step (λ arcs xs js ys. weighted_ends v on arcs ys ≡ weighted_ends v on arcs (lows net step xs) + step * weighted_ends v on arcs js) (omega (arith, mul_comm step 0, zero-mul step)) (λ a arcs x j y xs js ys box again.
     let here : y * arc_active v on a ≡ low net step x * arc_active v on a + step * (j * arc_active v on a) = ap (λ n. n * arc_active v on a) box.1 ∙ scaled (low net step x) j step (arc_active v on a) in
-    omega (arith, here, mul-add step (j * arc_active v on a) (weighted_ends v on arcs js), box_ends net step v on arcs xs js ys (omega arith) box.2)
+    omega (arith, here, mul-add step (j * arc_active v on a) (weighted_ends v on arcs js), again))
 
 -- The sum on one side of a node, along the list.
 end_side : (v y : ℕ) (on : Bool) (e : End) → cond (is_on_side v on e) (pos y) (pos 0) ≡ pos (y * cond ((e.node == v) && is_active on e) 1 0)
@@ -199,14 +191,7 @@ run_cost net step a x k (suc j) (suc n) le =
     rw past (omega (arith, ints, run_cost net step a x (k + 1) j n (omega arith)))
 
 pub box_cost : (net : Network) (step : ℕ) (arcs : List Arc) (xs js ys : List ℕ) → length xs ≡ length arcs → IsRaised net step xs js ys → cost_on (units net step arcs xs) (states net step xs js) +ℤ pos (deviations net arcs (lows net step xs)) ≡ pos (deviations net arcs ys)
-box_cost net step [] [] [] [] l box = refl
-box_cost net step (a ∷ arcs) [] js ys l box = absurd (omega arith)
-box_cost net step [] (x ∷ xs) js ys l box = absurd (omega arith)
-box_cost net step arcs (x ∷ xs) [] ys l box = absurd box
-box_cost net step arcs (x ∷ xs) (j ∷ js) [] l box = absurd box
-box_cost net step [] [] (j ∷ js) ys l box = absurd box
-box_cost net step [] [] [] (y ∷ ys) l box = absurd box
-box_cost net step (a ∷ arcs) (x ∷ xs) (j ∷ js) (y ∷ ys) l box =
+box_cost net step = by_raised net step (λ arcs xs js ys. cost_on (units net step arcs xs) (states net step xs js) +ℤ pos (deviations net arcs (lows net step xs)) ≡ pos (deviations net arcs ys)) refl (λ a arcs x j y xs js ys box again.
     let same : length (units_from net step a (low net step x) 0 (cap net step x)) ≡ length (run j (cap net step x)) = omega (arith, units_length net step a x 0 (cap net step x), run_length j (cap net step x)) in
     let begin : low net step x + 0 * step ≡ low net step x = omega (arith, zero-mul step) in
     let end : low net step x + (0 + j) * step ≡ y = ap (λ n. low net step x + n * step) (zero-add j) ∙ sym box.1 in
@@ -219,5 +204,5 @@ box_cost net step (a ∷ arcs) (x ∷ xs) (j ∷ js) (y ∷ ys) l box =
       run_cost net step a x 0 j (cap net step x) box.0,
       first,
       last,
-      box_cost net step arcs xs js ys (omega arith) box.2,
-    )
+      again,
+    ))

@@ -1,8 +1,10 @@
 -- Lists in a box, and the steps that their entries are above the lows.
-use Rattle.std.proofs.Common.{◌≡◌, ℕ, zero, suc, ◌+◌, ◌-◌, ◌*◌, ◌/◌, ◌%◌, ◌<◌, ◌≤◌, List, [], ◌∷◌, length, map, refl, sym, ◌∙◌, ap, inl, inr, ◌⊎◌, arith}
+use Rattle.std.proofs.Common.{◌≡◌, ℕ, zero, suc, ◌+◌, ◌-◌, ◌*◌, ◌/◌, ◌%◌, ◌<◌, ◌≤◌, List, [], ◌∷◌, length, map, sym, ◌∙◌, ap, inl, inr, ◌⊎◌, arith}
 use Rattle.std.specs.Prelude.{slice_index}
 use Rattle.std.proofs.Math.Nat.{mul-le-mul_left}
 use Rattle.std.proofs.lemmas.Bool.{cases_order}
+use Rattle.std.proofs.lemmas.List.{length-map}
+use Rattle.qm_units.proofs.Box.{box_length}
 use Rattle.def_flow.specs.Network.{Network}
 use Rattle.def_flow.specs.Units.{low, cap}
 use Rattle.def_flow.specs.Gadget.{IsStepUp, IsInBox, lows, caps}
@@ -44,14 +46,6 @@ in_box net step (x ∷ xs) (y ∷ ys) some are = at_head (are.each 0 (omega arit
         (high, place, after)
 
 -- The other way round.
-raised_length : (net : Network) (step : ℕ) (xs js ys : List ℕ) → IsRaised net step xs js ys → length ys ≡ length (lows net step xs)
-raised_length net step [] [] [] raised = refl
-raised_length net step [] [] (y ∷ ys) raised = absurd raised
-raised_length net step [] (j ∷ js) ys raised = absurd raised
-raised_length net step (x ∷ xs) [] ys raised = absurd raised
-raised_length net step (x ∷ xs) (j ∷ js) [] raised = absurd raised
-raised_length net step (x ∷ xs) (j ∷ js) (y ∷ ys) raised = ap suc (raised_length net step xs js ys raised.2)
-
 raised_each : (net : Network) (step : ℕ) (xs js ys : List ℕ) → IsRaised net step xs js ys → (k : ℕ) → k < length ys → IsStepUp (slice_index (lows net step xs) k) (slice_index (caps net step xs) k) step (slice_index ys k)
 raised_each net step [] [] [] raised k l = absurd (omega arith)
 raised_each net step [] [] (y ∷ ys) raised k l = absurd raised
@@ -62,4 +56,4 @@ raised_each net step (x ∷ xs) (j ∷ js) (y ∷ ys) raised zero l = record { u
 raised_each net step (x ∷ xs) (j ∷ js) (y ∷ ys) raised (suc k) l = raised_each net step xs js ys raised.2 k (omega arith)
 
 pub raised_in_box : (net : Network) (step : ℕ) (xs js ys : List ℕ) → IsRaised net step xs js ys → IsInBox step (lows net step xs) (caps net step xs) ys
-raised_in_box net step xs js ys raised = record { count = raised_length net step xs js ys raised; each = raised_each net step xs js ys raised }
+raised_in_box net step xs js ys raised = record { count = box_length net step xs js ys raised ∙ sym (length-map xs (low net step)); each = raised_each net step xs js ys raised }
