@@ -177,9 +177,7 @@ box_high net step [] js ys box high k l = absurd (omega arith)
 box_high net step (x ∷ xs) [] ys box high k l = absurd box
 box_high net step (x ∷ xs) (j ∷ js) [] box high k l = absurd box
 box_high net step (x ∷ xs) (j ∷ js) (y ∷ ys) box high zero l =
-    let own : pos net.floor ≤ℤ pos x = high 0 (omega arith) in
-    let floor_low : net.floor ≤ low net step x = low_high net step x (omega (arith, ints, own)) in
-    omega (arith, ints, box.1, floor_low)
+    omega (arith, ints, box.1, low_high net step x (omega (arith, ints, high 0 (omega arith))))
 box_high net step (x ∷ xs) (j ∷ js) (y ∷ ys) box high (suc k) l = box_high net step xs js ys box.2 (λ i li. high (suc i) (omega arith)) k (omega arith)
 
 -- The list that a matching tells is in the box.

@@ -73,8 +73,7 @@ downs_ends net step v [] xs = omega arith
 downs_ends net step v (a ∷ arcs) [] = omega arith
 downs_ends net step v (a ∷ arcs) (x ∷ xs) =
     let low : down net step x ≤ 2 = omega arith in
-    let here : down net step x * arc_active v true a ≤ 2 * arc_active v true a = mul-le-mul_right (arc_active v true a) low in
-    omega (arith, here, downs_ends net step v arcs xs)
+    omega (arith, mul-le-mul_right (arc_active v true a) low, downs_ends net step v arcs xs)
 
 pub room_low : (net : Network) (step : ℕ) (xs : List ℕ) → length xs ≡ length net.arcs → (v : ℕ) → active v (units net step net.arcs xs) (states_at net step xs) ≤ 2 * degree net.arcs v
 room_low net step xs l v = omega (arith, degree_sides v net.arcs, box_active net step v net.arcs xs (map (down net step) xs) xs l (own_box net step xs), caps_ends net step v net.arcs xs l, downs_ends net step v net.arcs xs)
@@ -106,8 +105,7 @@ exchange f nodes [] at = count_below_none (λ v. 0 * f v) nodes (λ v l. zero-mu
 exchange f nodes (a ∷ arcs) at =
     let here : ℕ → ℕ = λ v. count (λ (e : End). cond (e.node == v) 1 0) (ends a) * f v in
     let rest : ℕ → ℕ = λ v. degree arcs v * f v in
-    let same : count_below (λ v. degree (a ∷ arcs) v * f v) nodes ≡ count_below (λ v. here v + rest v) nodes = count_below_same _ _ nodes (λ v l. add-mul (count (λ (e : End). cond (e.node == v) 1 0) (ends a)) (degree arcs v) (f v)) in
-    omega (arith, same, count_below_sum here rest nodes, arc_exchange f nodes a.left a.right at.0, exchange f nodes arcs at.1)
+    omega (arith, count_below_same _ _ nodes (λ v l. add-mul (count (λ (e : End). cond (e.node == v) 1 0) (ends a)) (degree arcs v) (f v)), count_below_sum here rest nodes, arc_exchange f nodes a.left a.right at.0, exchange f nodes arcs at.1)
 
 -- The number of all ends.
 abbrev all_ends : List Arc → ℕ
@@ -170,10 +168,9 @@ units_few g f net step [] xs le = omega arith
 units_few g f net step (a ∷ arcs) [] le = omega arith
 units_few g f net step (a ∷ arcs) (x ∷ xs) le =
     let four : cap net step x ≤ 4 = omega arith in
-    let here : cap net step x * g a.left a.right ≤ 4 * g a.left a.right = mul-le-mul_right (g a.left a.right) four in
     omega (
       arith,
-      here,
+      mul-le-mul_right (g a.left a.right) four,
       le a.left a.right,
       count_append (λ (u : ArcUnit). g u.left u.right) (units_from net step a (low net step x) 0 (cap net step x)) (units net step arcs xs),
       shape_count g net step a x 0 (cap net step x),
@@ -278,5 +275,4 @@ size_law net step xs bounds l a = (omega (arith, copies, vertices, tangle), omeg
       where
         each : (v : ℕ) → 32 * (degree net.arcs v * room v) ≤ 4 * (16 * (degree net.arcs v * degree net.arcs v))
         each v =
-            let h : degree net.arcs v * room v ≤ degree net.arcs v * (2 * degree net.arcs v) = mul-le-mul_left (degree net.arcs v) (room_low net step xs l v) in
-            omega (arith, h, mul_left_comm (degree net.arcs v) 2 (degree net.arcs v))
+            omega (arith, mul-le-mul_left (degree net.arcs v) (room_low net step xs l v), mul_left_comm (degree net.arcs v) 2 (degree net.arcs v))

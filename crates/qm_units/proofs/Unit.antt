@@ -55,16 +55,14 @@ ends_active v on left right = count (λ e. cond ((e.node == v) && is_active on e
 -- The first end finds a free copy.
 left_free : (room used : ℕ → ℕ) (on : Bool) (left : End) (right : Option End) → ((v : ℕ) → used v + ends_active v on left right ≤ room v) → is_active on left ≡ true → used left.node < room left.node
 left_free room used on left right free a =
-    let h : used left.node + (cond ((left.node == left.node) && is_active on left) 1 0 + count (λ e. cond ((e.node == left.node) && is_active on e) 1 0) (option_to_list right)) ≤ room left.node = free left.node in
     let one : ◌≡◌ {A = ℕ} (cond ((left.node == left.node) && is_active on left) 1 0) 1 = rw (eq-eqb left.node left.node refl, a) refl in
-    omega (arith, h, one)
+    omega (arith, free left.node, one)
 
 -- The second end finds another.
 right_free : (room used : ℕ → ℕ) (on : Bool) (left right : End) → ((v : ℕ) → used v + ends_active v on left (Some right) ≤ room v) → is_active on right ≡ true → take_end used (is_active on left) left right.node < room right.node
 right_free room used on left right free a =
-    let h : used right.node + (cond ((left.node == right.node) && is_active on left) 1 0 + (cond ((right.node == right.node) && is_active on right) 1 0 + 0)) ≤ room right.node = free right.node in
     let one : ◌≡◌ {A = ℕ} (cond ((right.node == right.node) && is_active on right) 1 0) 1 = rw (eq-eqb right.node right.node refl, a) refl in
-    omega (arith, h, one)
+    omega (arith, free right.node, one)
 
 -- What is picked at a unit, for any f, by the shape of the unit.
 abbrev pub picked_unit : (WEdge → ℤ) → (ℕ → ℕ) → (ℕ → ℕ) → ℕ → ℤ → Bool → End → Option End → ℤ
