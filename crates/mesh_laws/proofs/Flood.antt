@@ -1,7 +1,7 @@
 -- The flood of a component is exact: it marks just the faces to which chains of shared edges lead.
-use Rattle.std.proofs.Common.{◌≡◌, ◌≢◌, ◌⊎◌, ℕ, zero, suc, ◌+◌, ◌*◌, ◌<◌, ◌≤◌, Bool, true, false, not, cond, eqb, ◌&&◌, ◌||◌, List, map, length, get_or, Some, None, sym, subst, ap, ◌∙◌, refl, inl, inr, arith}
+use Rattle.std.proofs.Common.{◌≡◌, ◌⊎◌, ℕ, zero, suc, ◌+◌, ◌*◌, ◌<◌, ◌≤◌, Bool, true, false, not, cond, eqb, ◌&&◌, ◌||◌, map, length, sym, subst, ap, ◌∙◌, refl, inl, inr, arith}
 use Rattle.std.specs.List.{list_any, range_with_len, position_or_len}
-use Rattle.std.proofs.lemmas.Bool.{eq-eqb, eqb-true, cases_Bool, cases_lt, cases_eq, cases_order, or_left, or_right, or_cases, and_parts, and_from, false≢true, false_from_ne_true, not_from_false}
+use Rattle.std.proofs.lemmas.Bool.{eq-eqb, eqb-true, cases_Bool, cases_lt, or_left, or_right, or_cases, and_parts, and_from, false≢true, not_from_false}
 use Rattle.qm_laws.proofs.Tests.{once_at_most, same_test}
 use Rattle.std.proofs.lemmas.List.{length-map}
 use Rattle.std.proofs.lemmas.List.FromFn.{length-range_with_len, get_or-map-range_with_len}
@@ -11,7 +11,7 @@ use Rattle.qm_laws.proofs.Counts.{count_below_lt, count_below_le, count_below_no
 use Rattle.qm_laws.proofs.Filters.{any_in_range, range_any, map_range_same}
 use Rattle.def_mesh.specs.Faces.{Faces, all_faces}
 use Rattle.def_mesh.specs.Darts.{from_of, to_of, is_reverse}
-use Rattle.def_mesh.specs.Components.{share_edge, is_marked, spread, within, component_of, least_face, least_faces}
+use Rattle.def_mesh.specs.Components.{share_edge, is_marked, within, component_of, least_face}
 
 -- So many shared edges lead from face f to face g.
 abbrev pub Shares : (faces : Faces) (f g edges : ℕ) → Type 0
@@ -98,10 +98,7 @@ module _ (faces : Faces) where
               reaches f k h g lh l (stable h lh p.0) p.1
 
   more_at : (b c : Bool) → (b ≡ true → c ≡ true) → cond b 1 0 ≤ cond c 1 0
-  more_at true true f = omega arith
-  more_at true false f = absurd (false≢true (f refl))
-  more_at false true f = omega arith
-  more_at false false f = omega arith
+  more_at b c f = grind (arith)
 
   one_more : (b c : Bool) → b ≡ false → c ≡ true → cond b 1 0 < cond c 1 0
   one_more b c off on = rw (off, on) (omega arith)
@@ -114,8 +111,7 @@ module _ (faces : Faces) where
       by_search big (inl new) = at (range_any (λ g. mark f (suc k) g && not (mark f k g)) 0 (length faces) new)
         where
           unmarked : (b : Bool) → not b ≡ true → b ≡ false
-          unmarked true e = absurd (false≢true e)
-          unmarked false e = refl
+          unmarked b e = grind (arith)
 
           at : (g : ℕ) × (0 ≤ g) × (g < 0 + length faces) × ((mark f (suc k) g && not (mark f k g)) ≡ true) → IsStable f (suc k) ⊎ (suc (suc k) ≤ size f (suc k))
           at (g, l, u, t) =

@@ -1,11 +1,11 @@
 -- The number of vertices, and the length of a fan.
-use Rattle.std.proofs.Common.{◌≡◌, ℕ, zero, suc, ◌+◌, ◌<◌, ◌≤◌, eqb, not, List, [], ◌∷◌, map, length, get_or, ◌∙◌, refl, arith}
+use Rattle.std.proofs.Common.{◌≡◌, ℕ, zero, suc, ◌<◌, ◌≤◌, eqb, not, List, [], ◌∷◌, map, length, get_or, ◌∙◌, refl, arith}
 use Rattle.std.proofs.lemmas.List.{length-map}
 use Rattle.std.proofs.lemmas.List.FromFn.{length-range_with_len, get_or-map-range_with_len}
 use Rattle.std.proofs.lemmas.List.Filters.{length-filter_both}
 use Rattle.def_mesh.specs.Faces.{Faces}
 use Rattle.def_mesh.specs.Darts.{darts, all_darts, from_of}
-use Rattle.def_mesh.specs.Vertices.{above_all, vertex_count, faces_at, fan_of}
+use Rattle.def_mesh.specs.Vertices.{above_all, vertex_count, faces_at}
 
 -- Each number of a list is below the bound, which is the least.
 pub below_bound : (xs : List ℕ) (i : ℕ) → i < length xs → get_or xs i 0 < above_all xs
