@@ -1,5 +1,5 @@
 -- The verdict yes is that the certificate is accepted.
-use Rattle.std.proofs.Common.{◌≡◌, ◌≢◌, ℕ, ℤ, ◌<◌, ◌≤◌, ◌==◌, nat_lt, not, length, List, map, Option, Some, None, option_map, pos, unsigned_abs, ◌-ℤ◌, ◌*ℤ◌, ◌≤ℤ◌, true, false, cond, Bool, ◌↔◌, Result, Ok, Err, IfOk, refl, sym, ◌∙◌, ap, inl, inr, ◌⊎◌, ltb-false, le-ltb, eq-eqb, eqb-true, true≢false, arith}
+use Rattle.std.proofs.Common.{◌≡◌, ◌≢◌, ℕ, ℤ, ◌<◌, ◌≤◌, ◌==◌, nat_lt, not, length, List, map, Option, Some, None, option_map, pos, unsigned_abs, ◌-ℤ◌, ◌*ℤ◌, ◌≤ℤ◌, true, false, cond, Bool, ◌↔◌, Result, Ok, Err, IfOk, refl, sym, ◌∙◌, ap, inl, inr, ◌⊎◌, ltb-false, le-ltb, eq-eqb, eqb-true, arith}
 use Rattle.std.specs.Prelude.{slice_index, if◌then◌else◌}
 use Rattle.std.specs.Ordering.{int_eq}
 use Rattle.std.proofs.lemmas.Int.{ints}
@@ -37,16 +37,14 @@ cost_is net xs l = box_deviation net 1 xs (map (down net 1) xs) xs l (own_box ne
 
 -- A refusal, as a verdict that may be missing.
 refuse_is : (o : Option ℕ) (at : ℕ → CertVerdict) (after : CertVerdict) → refuse o at after ≡ or_else (option_map at o) after
-refuse_is None at after = refl
-refuse_is (Some k) at after = refl
+refuse_is o at after = grind (arith)
 
 or_else_two : (a b : Option CertVerdict) (after : CertVerdict) → or_else (first_of_two a b) after ≡ or_else a (or_else b after)
-or_else_two None b after = refl
-or_else_two (Some v) b after = refl
+or_else_two a b after = grind (arith)
 
 -- The verdict is the fault of the list, or what comes after.
 pub by_list : (net : Network) (c : Certificate) → cert_verdict net c ≡ or_else (list_verdict net c.x) (refuse_dual (verdict (matching_graph net 1 c.x) c.dual) (sums_verdict net c))
-by_list net c = by_count (length c.x == length net.arcs)
+by_list net c = grind (arith)
   where
     below : ℕ → CertVerdict
     below k = Below k (slice_index c.x k)
@@ -63,14 +61,9 @@ by_list net c = by_count (length c.x == length net.arcs)
         ∙ (ap (or_else (below_verdict net c.x)) (refuse_is (unequal_fault net c.x) unequal after)
         ∙ sym (or_else_two (below_verdict net c.x) (unequal_verdict net c.x) after))
 
-    by_count : (b : Bool) → cond (not b) (Count (length net.arcs) (length c.x)) (refuse (below_fault net c.x) below (refuse (unequal_fault net c.x) unequal after)) ≡ or_else (cond (not b) (Some (Count (length net.arcs) (length c.x))) (first_of_two (below_verdict net c.x) (unequal_verdict net c.x))) after
-    by_count true = faults
-    by_count false = refl
-
 -- No fault of the list: it has one length for each arc, and is admissible.
 none_of : (f : ℕ → CertVerdict) (o : Option ℕ) → option_map f o ≡ None → o ≡ None
-none_of f None e = refl
-none_of f (Some k) e = absurd cc
+none_of f o e = grind (arith)
 
 none_of_two : (a b : Option CertVerdict) → first_of_two a b ≡ None → (a ≡ None) × (b ≡ None)
 none_of_two None b e = (refl, e)

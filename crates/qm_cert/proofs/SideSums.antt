@@ -1,9 +1,8 @@
 -- Sums on one side of the nodes, one arc at a time.
-use Rattle.std.proofs.Common.{◌≡◌, ℕ, zero, suc, ◌+◌, ◌*◌, ◌^◌, ◌<◌, ◌≤◌, ◌==◌, Bool, true, false, not, ◌&&◌, cond, List, ◌∷◌, length, Option, Some, None, pos, refl, ◌∙◌, add-one, ltb-true, arith}
+use Rattle.std.proofs.Common.{◌≡◌, ℕ, zero, suc, ◌+◌, ◌*◌, ◌^◌, ◌<◌, ◌≤◌, Bool, true, false, not, cond, List, ◌∷◌, length, Option, Some, None, pos, refl, ◌∙◌, add-one, ltb-true, arith}
 use Rattle.std.specs.Prelude.{slice_index, IfSome, option_to_list, nat_lt}
 use Rattle.std.specs.List.{list_all}
 use Rattle.std.proofs.lemmas.Bool.{and_parts}
-use Rattle.def_math.specs.Counts.{count, count_below}
 use Rattle.def_math.specs.Sums.{total}
 use Rattle.def_math.specs.Tables.{at_place, IsRaised}
 use Rattle.qm_laws.proofs.Counts.{count_total, count_below_total}
@@ -18,19 +17,11 @@ use Rattle.qm_cert.specs.Sides.{end_put, arc_put, side_count, AreSides}
 
 -- Adding at the node of an end that is on the side.
 pub end_raised : (plus : Bool) (e : End) (x : ℕ) (old new : List ℕ) → cond plus e.plus (not e.plus) ≡ true → IsRaised (at_place e.node x) old new → IsRaised (end_put plus e x) old new
-end_raised plus e x old new on raised = raised_as (at_place e.node x) (end_put plus e x) old new (λ v l. rw on (by_place (e.node == v))) raised
-  where
-    by_place : (b : Bool) → cond b x 0 ≡ cond (b && true) x 0
-    by_place true = refl
-    by_place false = refl
+end_raised plus e x old new on raised = raised_as (at_place e.node x) (end_put plus e x) old new (λ v l. rw on (grind (arith))) raised
 
 -- An end on the other side puts nothing.
 pub end_still : (plus : Bool) (e : End) (x : ℕ) (table : List ℕ) → cond plus e.plus (not e.plus) ≡ false → IsRaised (end_put plus e x) table table
-end_still plus e x table off = raised_none (end_put plus e x) table (λ v l. rw off (by_place (e.node == v)))
-  where
-    by_place : (b : Bool) → cond (b && false) x 0 ≡ 0
-    by_place true = refl
-    by_place false = refl
+end_still plus e x table off = raised_none (end_put plus e x) table (λ v l. rw off (grind (arith)))
 
 -- Where one end after the other is added, the arc is.
 pub one_put : (plus : Bool) (a : Arc) (x : ℕ) (old new : List ℕ) → a.right ≡ None → IsRaised (end_put plus a.left x) old new → IsRaised (arc_put plus a x) old new
@@ -42,18 +33,10 @@ two_put plus a right x old mid new some first second =
 
 -- An end puts its length at most, and an arc twice its length.
 pub end_low : (plus : Bool) (e : End) (x v : ℕ) → end_put plus e x v ≤ x
-end_low plus e x v = by_test (is_on_side v plus e)
-  where
-    by_test : (b : Bool) → cond b x 0 ≤ x
-    by_test true = omega arith
-    by_test false = omega arith
+end_low plus e x v = grind (arith)
 
 arc_low : (plus : Bool) (a : Arc) (x v : ℕ) → arc_put plus a x v ≤ 2 * x
-arc_low plus a x v = by_right a.right
-  where
-    by_right : (o : Option End) → count (λ (e : End). end_put plus e x v) (a.left ∷ option_to_list o) ≤ 2 * x
-    by_right None = omega (arith, end_low plus a.left x v)
-    by_right (Some e) = omega (arith, end_low plus a.left x v, end_low plus e x v)
+arc_low plus a x v = grind (arith, end_low plus a.left x v)
 
 side_low : (arcs : List Arc) (xs : List ℕ) (plus : Bool) (k v : ℕ) → ((i : ℕ) → i < k → slice_index xs i ≤ 10 ^ 12) → side_count arcs xs plus k v ≤ k * (2 * 10 ^ 12)
 side_low arcs xs plus zero v short = omega arith

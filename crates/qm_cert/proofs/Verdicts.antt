@@ -30,8 +30,7 @@ same_test m n = by_order (cases_eq m n)
     by_order (inr ne) = ne_eqb m n ne ∙ sym (off (int_eq (pos m) (pos n)) (λ on. ne (omega (arith, ints, (Decides-int_eq (pos m) (pos n)).0 on))))
       where
         off : (b : Bool) → (b ≡ true → ⊥) → b ≡ false
-        off true no_way = absurd (no_way refl)
-        off false no_way = refl
+        off b no_way = grind (arith)
 
 -- The tables tell the least node with unequal sums, and these.
 pub compared_is : (net : Network) (xs : List ℕ) (plus minus : List ℕ) → AreSides net.nodes net.arcs xs true (length net.arcs) plus → AreSides net.nodes net.arcs xs false (length net.arcs) minus → compared_verdict plus minus ≡ unequal_verdict net xs
