@@ -1,10 +1,10 @@
 -- The form of a decimal by its parts.
-use Rattle.std.proofs.Common.{◌≡◌, ℕ, ◌+◌, ◌<◌, ◌≤◌, Bool, true, false, ◌&&◌, List, [], ◌∷◌, ◌++◌, length, drop, cond, eqb, pos, neg_ℤ, sym, ap, ◌∙◌, refl, arith}
+use Rattle.std.proofs.Common.{◌≡◌, ℕ, ◌+◌, ◌<◌, ◌≤◌, Bool, true, false, ◌&&◌, List, [], ◌∷◌, ◌++◌, length, drop, eqb, pos, neg_ℤ, sym, ap, ◌∙◌, refl, arith}
 use Rattle.std.specs.Char.{is_ascii_digit}
 use Rattle.std.specs.List.{list_all, before_first, position_or_len}
 use Rattle.std.proofs.lemmas.List.Folds.{list_all-append}
 use Rattle.std.proofs.lemmas.Bool.{and_parts, false≢true, cond-true, cond-false}
-use Rattle.def_text.specs.Digits.{is_number, is_negative, is_sign, number, signed, unsigned}
+use Rattle.def_text.specs.Digits.{is_number, is_negative, number, signed, unsigned}
 use Rattle.def_text.specs.Decimal.{exponent, fraction_digits, is_exponent, is_mark, is_point, mantissa, power}
 use Rattle.std.proofs.lemmas.List.{length-take, length-drop}
 
@@ -25,17 +25,14 @@ number_parts [] (y ∷ ys) is = (refl, is)
 number_parts (x ∷ xs) ys is = and_parts _ _ (sym (list_all-append is_ascii_digit (x ∷ xs) ys) ∙ is)
 
 pub number_digits : (xs : List ℕ) → is_number xs ≡ true → list_all is_ascii_digit xs ≡ true
-number_digits [] is = absurd (false≢true is)
-number_digits (x ∷ xs) is = is
+number_digits xs is = grind (arith)
 
 -- an exponent by what stands behind its mark
 pub exponent_is : (xs : List ℕ) → 0 < length xs → is_exponent xs ≡ is_number (unsigned (drop 1 xs))
-exponent_is [] l = absurd (omega arith)
-exponent_is (x ∷ xs) l = refl
+exponent_is xs l = grind (arith)
 
 power_is : (xs : List ℕ) → 0 < length xs → power xs ≡ signed (drop 1 xs)
-power_is [] l = absurd (omega arith)
-power_is (x ∷ xs) l = refl
+power_is xs l = grind (arith)
 
 pub power_below : (xs : List ℕ) → 0 < length xs → is_negative (drop 1 xs) ≡ true → power xs ≡ neg_ℤ (pos (number (unsigned (drop 1 xs))))
 power_below xs l e = power_is xs l ∙ cond-true (is_negative (drop 1 xs)) _ _ e
@@ -49,16 +46,11 @@ parts_short word l = omega (arith, unsigned_short word, length-take (position_or
   where
     unsigned_short : (xs : List ℕ) → length (unsigned xs) ≤ length xs
     unsigned_short [] = omega arith
-    unsigned_short (x ∷ xs) = by_sign (is_sign x)
-      where
-        by_sign : (b : Bool) → length (cond b xs (x ∷ xs)) ≤ length (x ∷ xs)
-        by_sign true = omega arith
-        by_sign false = omega arith
+    unsigned_short (x ∷ xs) = grind (arith)
 
 -- a test with its first part true
 pub both_of_first : (a b : Bool) → a ≡ true → (a && b) ≡ b
 both_of_first a b e = ap (λ x. x && b) e
 
 pub some_from : (xs : List ℕ) → false ≡ eqb (length xs) 0 → 0 < length xs
-some_from [] e = absurd (false≢true e)
-some_from (x ∷ xs) e = omega arith
+some_from xs e = grind (arith)

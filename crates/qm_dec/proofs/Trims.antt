@@ -1,10 +1,10 @@
 -- The canonical text of a number: zeros at the end of digits, and lengths.
-use Rattle.std.proofs.Common.{◌≡◌, ℕ, ◌+◌, ◌-◌, ◌<◌, ◌≤◌, Bool, true, false, cond, List, [], ◌∷◌, ◌++◌, length, take, refl, ap, ◌∙◌, arith, eqb}
+use Rattle.std.proofs.Common.{◌≡◌, ℕ, ◌+◌, ◌-◌, ◌<◌, ◌≤◌, Bool, cond, List, [], ◌∷◌, ◌++◌, length, take, refl, ap, ◌∙◌, arith, eqb}
 use Rattle.std.specs.List.{suffix_len, prefix_len}
 use Rattle.std.proofs.lemmas.List.{reverse-append, take-append-le, take_all, length_push}
 use Rattle.std.proofs.lemmas.Bool.{ne_eqb}
 use Rattle.std.proofs.lemmas.List.Sums.{suffix_len-le-length}
-use Rattle.std.proofs.Common.{◌^◌, ◌/◌, ℤ, pos, negsuc, ◌<ℤ◌, set}
+use Rattle.std.proofs.Common.{◌^◌, ◌/◌, ℤ, pos, ◌<ℤ◌, set}
 use Rattle.std.specs.Prelude.{decimal}
 use Rattle.std.proofs.lemmas.Int.{ints}
 use Rattle.std.proofs.lemmas.Fmt.{length-decimal-le}
@@ -39,11 +39,7 @@ pub trimmed_short : (r : ℕ) → r < 10 ^ 6 → length (without_zeros (six_digi
 trimmed_short r l = omega (arith, length-take (length (six_digits r) - suffix_len (λ d. eqb d 48) (six_digits r)) (six_digits r), length-drop 1 (decimal (10 ^ 6 + r)), length-decimal-le 7 (10 ^ 6 + r) (omega arith) (omega arith) (omega arith))
 
 pub fraction_short : (r : ℕ) → r < 10 ^ 6 → length (fraction_text r) ≤ 7
-fraction_short r l = at (eqb r 0)
-  where
-    at : (b : Bool) → length (cond b [] (46 ∷ without_zeros (six_digits r))) ≤ 7
-    at true = omega arith
-    at false = omega (arith, trimmed_short r l)
+fraction_short r l = grind (arith, trimmed_short r l)
 
 -- the digits before the point
 pub whole_short : (n : ℕ) → n ≤ 999_999_999_999_999 → length (decimal (n / 10 ^ 6)) ≤ 9
@@ -51,8 +47,7 @@ whole_short n l = length-decimal-le 9 (n / 10 ^ 6) (omega arith) (omega arith) (
 
 -- the sign
 pub minus_of : (z : ℤ) → z <ℤ pos 0 → minus_text z ≡ 45 ∷ []
-minus_of (pos n) l = absurd (omega (arith, ints))
-minus_of (negsuc n) l = refl
+minus_of z l = grind (arith, ints)
 
 pub first_of_write : (out : List ℕ) (b : ℕ) → 1 ≤ length out → take 1 (set out 0 b) ≡ b ∷ []
 first_of_write [] b l = absurd (omega arith)
