@@ -1,8 +1,9 @@
 -- First weights of the vertices.
-use Rattle.std.specs.Prelude.{◌≡◌, ℕ, ◌*◌, ◌/◌, ◌<◌, ◌≤◌, List, length, slice_index_or, unsigned_abs}
+use Rattle.std.specs.Prelude.{◌≡◌, ℕ, ◌*◌, ◌/◌, ◌^◌, ◌<◌, ◌≤◌, List, length, slice_index_or, unsigned_abs}
 use Rattle.std.specs.Prelude.{ℤ, pos, ◌+ℤ◌, ◌-ℤ◌, ◌*ℤ◌, ◌≤ℤ◌}
 use Rattle.def_matching.specs.Matching.{Graph, Vertex, EdgeNumber, edge_at}
 use Rattle.def_forest.specs.Darts.{Dart, darts_of, far}
+use Rattle.def_match.specs.Made.{AreCostsBelow}
 
 -- No number is above a bound, up or down, and no edge has more at its ends than twice its cost.
 pub record HaveRoom (g : Graph) (most : ℕ) (y : List ℤ) : Type 0 where
@@ -11,6 +12,12 @@ pub record HaveRoom (g : Graph) (most : ℕ) (y : List ℤ) : Type 0 where
   pub feasible : (e : EdgeNumber) → e < length g.edges
       → (slice_index_or y (edge_at g e).u (pos 0) +ℤ slice_index_or y (edge_at g e).v (pos 0))
       ≤ℤ (pos 2 *ℤ (edge_at g e).cost)
+
+-- The same where all costs are within the bound, and that is not great: then nothing wraps.
+pub record MayRise (g : Graph) (most : ℕ) (y : List ℤ) : Type 0 where
+  pub few : most ≤ 2 ^ 60
+  pub costs : AreCostsBelow g most
+  pub room : HaveRoom g most y
 
 -- What the number at the far end of a dart leaves to the vertex where it begins.
 abbrev pub left_to : (g : Graph) (y : List ℤ) (d : Dart) → ℤ

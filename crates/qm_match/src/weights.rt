@@ -1,11 +1,10 @@
 //! The first weights: the least costs, each raised as far as the edges at its vertex allow.
 
-ghost use Rattle.std.specs.Prelude.{◌≡◌, ◌*◌, ◌^◌, ◌<◌, ◌≤◌, ◌⊎◌, ◌-ℤ◌, ◌*ℤ◌, ◌≤ℤ◌, ℕ, pos, length, unsigned_abs, IfOk};
-ghost use Rattle.def_matching.specs.Matching.{graph, edge_at, IsSmallGraph};
-ghost use Rattle.def_forest.specs.Darts.{Dart, darts_of};
+ghost use Rattle.std.specs.Prelude.{◌≡◌, ◌*◌, ◌^◌, ◌<◌, ◌≤◌, ◌-ℤ◌, ◌*ℤ◌, ℕ, pos, length, unsigned_abs, IfOk};
+ghost use Rattle.def_matching.specs.Matching.{graph, IsSmallGraph};
 ghost use Rattle.def_match.specs.Made.{AreCostsBelow};
 ghost use Rattle.qm_match.specs.Fans.{AreFans};
-ghost use Rattle.qm_match.specs.Weights.{left_to, IsRoom, HaveRoom};
+ghost use Rattle.qm_match.specs.Weights.{left_to, IsRoom, HaveRoom, MayRise};
 
 use crate::Memory;
 use crate::fans::Fans;
@@ -31,10 +30,8 @@ pub(crate) fn first_weights(alloc: Global, g: &WGraph, fans: &Fans) -> Result<Ve
 fn raise_all(y: &mut [i64], g: &WGraph, fans: &Fans, most: u64)
     requires graph { IsSmallGraph (graph g.now) }
     requires fans { AreFans (graph g.now) fans.now.first.items fans.now.next.items }
-    requires few { most ≤ 2 ^ 60 }
-    requires costs { AreCostsBelow (graph g.now) most }
-    requires room { HaveRoom (graph g.now) most y.old }
-    ensures { HaveRoom (graph g.now) most y.new }
+    requires ready { MayRise (graph g.now) most y.old }
+    ensures { MayRise (graph g.now) most y.new }
 {
     for v in 0..g.n {
         raise(y, g, fans, v, most);
@@ -45,11 +42,9 @@ fn raise_all(y: &mut [i64], g: &WGraph, fans: &Fans, most: u64)
 fn raise(y: &mut [i64], g: &WGraph, fans: &Fans, v: u32, most: u64)
     requires graph { IsSmallGraph (graph g.now) }
     requires fans { AreFans (graph g.now) fans.now.first.items fans.now.next.items }
-    requires few { most ≤ 2 ^ 60 }
-    requires costs { AreCostsBelow (graph g.now) most }
-    requires room { HaveRoom (graph g.now) most y.old }
+    requires ready { MayRise (graph g.now) most y.old }
     requires vertex { v < g.now.n }
-    ensures { HaveRoom (graph g.now) most y.new }
+    ensures { MayRise (graph g.now) most y.new }
 {
     let room = room_at(y, g, fans, v, most);
     if y[v as usize] < room {
@@ -61,33 +56,28 @@ fn raise(y: &mut [i64], g: &WGraph, fans: &Fans, v: u32, most: u64)
 fn room_at(y: &[i64], g: &WGraph, fans: &Fans, v: u32, most: u64) -> i64
     requires graph { IsSmallGraph (graph g.now) }
     requires fans { AreFans (graph g.now) fans.now.first.items fans.now.next.items }
-    requires few { most ≤ 2 ^ 60 }
-    requires costs { AreCostsBelow (graph g.now) most }
-    requires room { HaveRoom (graph g.now) most y.now }
+    requires ready { MayRise (graph g.now) most y.now }
     requires vertex { v < g.now.n }
     ensures { IsRoom (graph g.now) most y.now v result }
 {
     let mut room = most as i64;
     let mut entry = fans.first[v as usize];
     while entry > 0 {
-        let left = left_by(y, g, entry - 1, most);
-        room = lesser_of(room, left);
+        let left = left_by(y, g, entry - 1);
+        room = room.min(left);
         entry = fans.next[(entry - 1) as usize];
     }
     room
 }
 
 /// What the far end of a dart leaves to the vertex where it begins.
-fn left_by(y: &[i64], g: &WGraph, d: u32, most: u64) -> i64
+fn left_by(y: &[i64], g: &WGraph, d: u32) -> i64
     requires graph { IsSmallGraph (graph g.now) }
-    requires few { most ≤ 2 ^ 60 }
-    requires costs { AreCostsBelow (graph g.now) most }
-    requires room { HaveRoom (graph g.now) most y.now }
+    requires ready { (most : ℕ) × MayRise (graph g.now) most y.now }
     requires dart { d < 2 * length g.now.edges.items }
     ensures value { result ≡ left_to (graph g.now) y.now d }
     ensures small { unsigned_abs result ≤ 2 ^ 62 }
 {
-    let _ = most;
     let cost = g.edges[(d / 2) as usize].cost;
     let number = y[near(g, twin(d)) as usize];
     left_of(cost, number)
@@ -101,13 +91,4 @@ fn left_of(cost: i64, number: i64) -> i64
     ensures small { unsigned_abs result ≤ 2 ^ 62 }
 {
     2 * cost - number
-}
-
-/// The lesser of two numbers.
-fn lesser_of(a: i64, b: i64) -> i64
-    ensures first { result ≤ℤ a }
-    ensures second { result ≤ℤ b }
-    ensures either { (result ≡ a) ⊎ (result ≡ b) }
-{
-    if a < b { a } else { b }
 }
