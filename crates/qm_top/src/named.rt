@@ -1,7 +1,6 @@
 //! A place where faces fail to be a manifold, with the numbers that the file gave the vertices.
 
-ghost use Rattle.std.specs.Prelude.{◌≡◌, length};
-ghost use Rattle.std.specs.List.{list_all};
+ghost use Rattle.std.specs.Prelude.{◌≡◌};
 ghost use Rattle.def_mesh.specs.Faults.{IsFirstFault};
 ghost use Rattle.qm_top.specs.Named.{IsNamed};
 
