@@ -6,9 +6,8 @@ ghost use Rattle.def_certtext.specs.Reading.{made_of};
 ghost use Rattle.def_flow.specs.Network.{network};
 ghost use Rattle.def_flow.specs.declared.cert.Cert.{Cert as AnyCert};
 ghost use Rattle.def_layout.specs.Plans.{plan};
-ghost use Rattle.def_remesh.specs.Remeshed.{AreCoarse, AreDoubled, IsCertified};
 ghost use Rattle.qm_check.specs.Judged.{made_once, made_twice, IsInReach, IsJudged, IsUnused};
-ghost use Rattle.remesh_laws.specs.Keeps.{IsNetFor};
+ghost use Rattle.remesh_laws.specs.Keeps.{IsDoubling, IsNetFor};
 
 use crate::lengths::{Lengths, judge};
 use def_certtext::{Asked, Written};
@@ -138,9 +137,7 @@ fn judge_third(
     requires net { IsNetFor (plan t.now) asked.settings (network net) }
     requires auto { asked.auto ≡ true }
     requires third { IsInReach (lists_of pair.third) }
-    requires first { IsCertified (plan t.now) asked.settings (lists_of pair.first) }
-    requires coarse { AreCoarse (plan t.now) pair.first.x.items }
-    requires doubled { AreDoubled (plan t.now) pair.first.x.items }
+    requires doubling { IsDoubling (plan t.now) asked.settings (lists_of pair.first) }
     ensures judged { IfOk result
         (IsJudged (plan t.now) (network net) (made_twice asked (lists_of pair.first) (lists_of pair.third))) }
     ensures unused { IfErr result

@@ -21,10 +21,8 @@ impl Forest {
         requires graph { IsSmallGraph (graph g.now) }
         requires valid { IsValidFor (graph g.now) self.old }
         requires start { start < 2 * length g.now.edges.items }
-        requires first { (forest_of self.old).label
-            ((forest_of self.old).out ((darts_of (graph g.now)).near start)) ≢ Outside }
-        requires second { (forest_of self.old).label
-            ((forest_of self.old).out (far (darts_of (graph g.now)) start)) ≢ Outside }
+        requires ways { let f = forest_of self.old in let d = darts_of (graph g.now) in
+            (f.label (f.out (d.near start)) ≢ Outside) × (f.label (f.out (far d start)) ≢ Outside) }
         requires fork { let f = forest_of self.old in let d = darts_of (graph g.now) in
             IsClimbing d f (f.out (d.near start)) (f.out (far d start)) fork.top fork.top fork.left fork.right }
         ensures seen { forest_of self.new

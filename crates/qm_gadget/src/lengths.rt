@@ -55,9 +55,9 @@ fn lengths_over(
     requires bounds { IsWithinBounds (network net.now) }
     requires step { (1 ≤ boxes.now.step) × (boxes.now.step ≤ MAX_STEP) }
     requires ready { IsReady (network net.now) boxes.now.step boxes.now.lows.now boxes.now.caps.now }
-    requires few { edges ≤ 2 ^ 26 }
+    requires edges { (edges ≤ 2 ^ 26)
+        × (widths_over (network net.now) boxes.now.step boxes.now.lows.now boxes.now.caps.now ≤ edges) }
     requires rising { IsRising 0 edges m.now }
-    requires wide { widths_over (network net.now) boxes.now.step boxes.now.lows.now boxes.now.caps.now ≤ edges }
     ensures { IfOk result (λ ys.
         ys.items ≡ lengths_read (network net.now) boxes.now.step boxes.now.lows.now boxes.now.caps.now edges m.now) }
 {

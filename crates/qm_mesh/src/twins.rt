@@ -148,8 +148,7 @@ fn pair_at(faces: &[[u32; 4]], v: u32, fan: &[u32], by_end: &[u32], twins: &mut 
     requires few { length faces.now ≤ MAX_FACES }
     requires fan { fan.now ≡ fan_of faces.now v }
     requires within { NamesBelow (length by_end.now) faces.now }
-    requires darts { AreDarts faces.now by_end.now }
-    requires marked { AreMarked faces.now v by_end.now }
+    requires marked { AreDarts faces.now by_end.now × AreMarked faces.now v by_end.now }
     requires long { length twins.old ≡ darts faces.now }
     ensures arriving { (e : ℕ) → e < darts faces.now → to_of faces.now e ≡ v
         → IsPartner faces.now e (slice_index twins.new e) }
@@ -166,8 +165,7 @@ fn partner(faces: &[[u32; 4]], v: u32, e: u32, by_end: &[u32]) -> u32
     requires dart { e < darts faces.now }
     requires arrives { to_of faces.now e ≡ v }
     requires within { from_of faces.now e < length by_end.now }
-    requires darts { AreDarts faces.now by_end.now }
-    requires marked { AreMarked faces.now v by_end.now }
+    requires marked { AreDarts faces.now by_end.now × AreMarked faces.now v by_end.now }
     ensures { IsPartner faces.now e result }
 {
     let start = from(faces, e);

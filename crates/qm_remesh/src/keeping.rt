@@ -5,17 +5,15 @@ ghost use Rattle.std.specs.Option.{option_map};
 ghost use Rattle.def_certtext.specs.CertLines.{lists_of};
 ghost use Rattle.def_certtext.specs.Settings.{AreInRange};
 ghost use Rattle.def_flow.specs.Admissible.{IsEven};
-ghost use Rattle.def_flow.specs.Network.{network, tangle_number, IsWithinBounds};
-ghost use Rattle.def_layout.specs.Arcs.{long_at};
-ghost use Rattle.def_layout.specs.Plans.{layout_of, plan as plan_of};
-ghost use Rattle.def_layoutnet.specs.LayoutNet.{IsNetOf};
+ghost use Rattle.def_flow.specs.Network.{network};
+ghost use Rattle.def_layout.specs.Plans.{plan as plan_of};
 ghost use Rattle.def_layoutnet.specs.MeshLayouts.{IsMeshLayout};
 ghost use Rattle.def_remesh.specs.Keeping.{IsKept};
 ghost use Rattle.def_remesh.specs.Refusals.{IsLayoutFail};
-ghost use Rattle.def_remesh.specs.Remeshed.{AreCoarse, AreDoubled, IsCertified};
+ghost use Rattle.remesh_laws.specs.Keeps.{IsDoubling, IsNetFor};
 
 use def_certtext::Asked;
-use def_flow::{Cert, MAX_FLOOR, MAX_TANGLE, Net, Settings};
+use def_flow::{Cert, MAX_FLOOR, Net, Settings};
 use def_layout::TMesh;
 use def_layoutnet::NetFail;
 use def_remesh::{Kept, LayoutFail, StitchFail};
@@ -72,15 +70,10 @@ fn raise(
     net: Net,
     first: Cert,
 ) -> Result<Remesh, LayoutFail>
-    requires layout { IsMeshLayout (plan_of t.now) }
     requires settings { AreInRange settings true }
-    requires net { IsNetOf (layout_of (plan_of t.now)) (long_at (plan_of t.now).arcs) settings (network net) }
+    requires net { IsNetFor (plan_of t.now) settings (network net) }
     requires even { IsEven (network net) }
-    requires bounds { IsWithinBounds (network net) }
-    requires tangle { tangle_number (network net) ≤ MAX_TANGLE }
-    requires certified { IsCertified (plan_of t.now) settings (lists_of first) }
-    requires coarse { AreCoarse (plan_of t.now) first.x.items }
-    requires doubled { AreDoubled (plan_of t.now) first.x.items }
+    requires doubling { IsDoubling (plan_of t.now) settings (lists_of first) }
     ensures kept { IfOk result (λ kept. IsKept (plan_of t.now) settings true
         (lists_of kept.first) (option_map lists_of kept.third) kept.numbering) }
     ensures asked { IfOk result (λ kept. kept.asked ≡ record { settings = settings; auto = true }) }

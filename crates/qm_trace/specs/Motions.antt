@@ -69,6 +69,14 @@ pub record AreCounted (riders : Riders) (noted : List (Option ℕ)) : Type 0 whe
   pub running : riders.running ≡ tally runs_on riders.list.items noted
   pub untold : riders.untold ≡ tally is_untold riders.list.items noted
 
+-- A rider that runs with a note and is not told yet. Where nothing stops it, it has a dart to go on by.
+pub record MayTell (faces : Faces) (site : Site) (notes : Notes) (riders : List Moving) (r : ℕ) : Type 0 where
+  pub rider : r < length riders
+  pub dart : (rider_at riders r).dart < darts faces
+  pub untold : is_untold (rider_at riders r) (note_at notes.noted.items r) ≡ true
+  pub onward : stop_here faces site notes.taken.items (rider_at riders r).dart ≡ None
+      → or_else (straight (terrain_of faces) (rider_at riders r).dart) (rider_at riders r).dart ≢ (rider_at riders r).dart
+
 -- A rider after the settling of v.
 abbrev pub told_by : (faces : Faces) (site : Site) (taken : List Bool) (v : ℕ) (noted : Option ℕ)
     (rider : Moving) → Moving

@@ -92,8 +92,7 @@ fn clear_each(
     requires queue { AreEachOnce queue.now }
     requires notes { (r : ℕ) → is_among r queue.now ≡ true
         → (d : ℕ) × (note_at noted.old.items r ≡ Some d) × (d < darts mesh.now) }
-    requires long { length taken.old.items ≡ darts mesh.now }
-    requires settled_long { length settled.old.items ≡ vertex_count mesh.now }
+    requires long { (length taken.old.items ≡ darts mesh.now) × (length settled.old.items ≡ vertex_count mesh.now) }
     requires taken { (d : ℕ) → is_on taken.old.items d ≡ true → (r : ℕ) × (note_at noted.old.items r ≡ Some d) }
     requires settled { (v : ℕ) → is_on settled.old.items v ≡ true
         → (r : ℕ) × (d : ℕ) × (note_at noted.old.items r ≡ Some d) × (to_of mesh.now d ≡ v) }

@@ -1,14 +1,13 @@
 //! The riders of a motion, and how those that come to a vertex are told what becomes of them.
 
-ghost use Rattle.std.specs.Prelude.{◌≡◌, ◌≢◌, ◌<◌, ℕ, true, length, slice_set, None, List, Option};
+ghost use Rattle.std.specs.Prelude.{◌≡◌, ◌<◌, ℕ, length, slice_set};
 ghost use Rattle.std.specs.List.{list_any};
 ghost use Rattle.def_cut.specs.Events.{note_at, rider_at, told};
 ghost use Rattle.def_cut.specs.FullCut.{is_on};
-ghost use Rattle.def_cut.specs.Motion.{or_else, straight};
 ghost use Rattle.def_cut.specs.Traced.{terrain_of};
 ghost use Rattle.def_mesh.specs.Darts.{darts, prev_of};
 ghost use Rattle.def_mesh.specs.Vertices.{fan_of, vertex_count};
-ghost use Rattle.qm_trace.specs.Motions.{AreCounted, AreNotes, CanTell, is_untold, told_by};
+ghost use Rattle.qm_trace.specs.Motions.{AreCounted, AreNotes, CanTell, MayTell, told_by};
 ghost use Rattle.qm_trace.specs.Tables.{stop_here};
 
 use crate::deciding::tell;
@@ -60,15 +59,9 @@ pub(crate) fn tell_all(mesh: &Mesh, notes: &Notes, site: Site, v: u32, riders: &
 
 /// Tells one rider.
 fn tell_one(mesh: &Mesh, notes: &Notes, site: Site, r: u32, riders: &mut Riders)
-    requires rider { r < length riders.old.list.items }
-    requires dart { (rider_at riders.old.list.items r).dart < darts mesh.now }
+    requires may { MayTell mesh.now site notes.now riders.old.list.items r }
     requires taken { length notes.now.taken.items ≡ darts mesh.now }
     requires counted { AreCounted riders.old notes.now.noted.items }
-    requires untold { is_untold (rider_at riders.old.list.items r) (note_at notes.now.noted.items r) ≡ true }
-    requires onward { stop_here mesh.now site notes.now.taken.items (rider_at riders.old.list.items r).dart ≡ None
-        → or_else (straight (terrain_of mesh.now) (rider_at riders.old.list.items r).dart)
-        (rider_at riders.old.list.items r).dart
-        ≢ (rider_at riders.old.list.items r).dart }
     ensures list { riders.new.list.items ≡ slice_set riders.old.list.items r
         (told (terrain_of mesh.now) (rider_at riders.old.list.items r).dart (rider_at riders.old.list.items r)
         (stop_here mesh.now site notes.now.taken.items (rider_at riders.old.list.items r).dart)) }

@@ -5,7 +5,7 @@ use Rattle.def_layout.specs.Plans.{plan}
 use Rattle.qm_check.proofs.Handed.{handed}
 use Rattle.qm_check.proofs.Kept.{judged_first, unused_first}
 use Rattle.qm_check.specs.Judged.{made_twice, Gives, IsUnused}
-use Rattle.remesh_laws.proofs.Keeps.{solved}
+use Rattle.remesh_laws.proofs.Keeps.{doubled_some, solved}
 use Rattle.qm_check.proofs.judging.judge_both.Goals as goal
 
 pub returns-in_err-numbering-clause-unused : goal.returns-in_err-numbering-clause-unused
@@ -15,9 +15,14 @@ returns-in_err-numbering-clause-unused c =
     (unused_first (plan c.args.t.now) (network c.args.net) (made_twice c.args.asked (lists_of c.args.pair.first) (lists_of c.args.pair.third))
     c.args.pair.first c.in_err-numbering.field-0.0 refl c.requires.net c.in_err-numbering.ensures.refused)
 
-pub judge_third-requires-clause-first : goal.judge_third-requires-clause-first
-judge_third-requires-clause-first c =
-    solved (plan c.args.t.now) c.args.asked.settings (network c.args.net) c.args.pair.first c.requires.net c.in_ok-numbering.ensures.solved
+pub judge_third-requires-clause-doubling : goal.judge_third-requires-clause-doubling
+judge_third-requires-clause-doubling c =
+    let gives = subst (Gives (plan c.args.t.now) (network c.args.net) c.args.pair.first.x.items) c.in-Doubled.is c.in_ok-numbering.ensures.gives in
+    record {
+      certified = solved (plan c.args.t.now) c.args.asked.settings (network c.args.net) c.args.pair.first c.requires.net c.in_ok-numbering.ensures.solved;
+      coarse = gives.0;
+      doubled = doubled_some _ _ _ _ gives.1;
+    }
 
 pub returns-in-Whole-clause-judged : goal.returns-in-Whole-clause-judged
 returns-in-Whole-clause-judged c =

@@ -21,7 +21,7 @@ returns-in_err-numbering-clause-unused c =
     handed (IsUnused (plan c.args.t.now) (made_twice c.args.asked (lists_of c.args.pair.first) (lists_of c.args.pair.third))) c.from_residual.result
     c.in_err-numbering.field-0.0 c.from_residual.ensures.1
     (unused_third (plan c.args.t.now) (network c.with_floor-raised.result) c.args.asked c.args.pair.first c.args.pair.third c.in_err-numbering.field-0.0
-    c.requires.first c.requires.coarse c.requires.doubled
+    c.requires.doubling.certified c.requires.doubling.coarse c.requires.doubling.doubled
     (raised_net (plan c.args.t.now) c.args.asked.settings (network c.args.net) (network c.with_floor-raised.result) c.requires.net
     c.with_floor-raised.ensures)
     c.in_err-numbering.ensures.refused)
@@ -29,7 +29,7 @@ returns-in_err-numbering-clause-unused c =
 pub returns-clause-judged : goal.returns-clause-judged
 returns-clause-judged c =
     judged_third (plan c.args.t.now) (network c.args.net) (network c.with_floor-raised.result) c.args.asked c.args.pair.first c.args.pair.third
-    c.in-Whole.numbering c.in-Whole.deviation c.requires.auto c.requires.first c.requires.coarse c.requires.doubled
+    c.in-Whole.numbering c.in-Whole.deviation c.requires.auto c.requires.doubling.certified c.requires.doubling.coarse c.requires.doubling.doubled
     (raised_net (plan c.args.t.now) c.args.asked.settings (network c.args.net) (network c.with_floor-raised.result) c.requires.net
     c.with_floor-raised.ensures)
     c.with_floor-raised.ensures c.in_ok-numbering.ensures.solved

@@ -11,11 +11,11 @@ overflow_cast-len c = omega (arith, gadget_edges (network c.args.net.now) c.args
 pub lengths_over-requires-clause-ready : goal.lengths_over-requires-clause-ready
 lengths_over-requires-clause-ready c = rw (c.deref.ensures.value, c.deref-2.ensures.value) (gadget_ready (network c.args.net.now) c.args.g.now c.requires.bounds c.requires.gadget)
 
-pub lengths_over-requires-clause-few : goal.lengths_over-requires-clause-few
-lengths_over-requires-clause-few c = omega (arith, gadget_edges (network c.args.net.now) c.args.g.now c.requires.bounds c.requires.gadget, c.len.ensures, c.args.g.now.graph.edges.ok.0)
-
-pub lengths_over-requires-clause-wide : goal.lengths_over-requires-clause-wide
-lengths_over-requires-clause-wide c = rw (c.deref.ensures.value, c.deref-2.ensures.value) (omega (arith, gadget_wide (network c.args.net.now) c.args.g.now c.requires.bounds c.requires.gadget, c.len.ensures, c.args.g.now.graph.edges.ok.0))
+pub lengths_over-requires-clause-edges : goal.lengths_over-requires-clause-edges
+lengths_over-requires-clause-edges c = (
+  omega (arith, gadget_edges (network c.args.net.now) c.args.g.now c.requires.bounds c.requires.gadget, c.len.ensures, c.args.g.now.graph.edges.ok.0),
+  rw (c.deref.ensures.value, c.deref-2.ensures.value) (omega (arith, gadget_wide (network c.args.net.now) c.args.g.now c.requires.bounds c.requires.gadget, c.len.ensures, c.args.g.now.graph.edges.ok.0)),
+)
 
 -- The list that is read has all that is told of it.
 told : (c : goal.After-lengths_over) → IfOk c.lengths_over.result (λ (ys : Vec ℕ Global). AreTold (network c.args.net.now) c.args.g.now c.args.m.now ys.items)

@@ -10,11 +10,11 @@ use Rattle.qm_gadget.proofs.Steps.{plan_few}
 use Rattle.qm_gadget.proofs.lengths.lengths_over.Goals as goal
 
 pub states_in-requires-clause-few : goal.states_in-requires-clause-few
-states_in-requires-clause-few c = rw c.deref.ensures.value (c.requires.few, (plan_few (network c.args.net.now) c.args.boxes.now.step c.args.boxes.now.lows.now c.args.boxes.now.caps.now c.in_ok-plan.plan c.requires.ready c.in_ok-plan.ensures).1)
+states_in-requires-clause-few c = rw c.deref.ensures.value (c.requires.edges.0, (plan_few (network c.args.net.now) c.args.boxes.now.step c.args.boxes.now.lows.now c.args.boxes.now.caps.now c.in_ok-plan.plan c.requires.ready c.in_ok-plan.ensures).1)
 
 pub states_in-requires-clause-wide : goal.states_in-requires-clause-wide
 states_in-requires-clause-wide c =
-    rw (c.deref.ensures.value, c.deref-2.ensures.value, plan_rooms (network c.args.net.now) c.args.boxes.now.step c.args.boxes.now.lows.now c.args.boxes.now.caps.now c.in_ok-plan.plan c.requires.ready c.in_ok-plan.ensures, c.in_ok-plan.ensures.units) c.requires.wide
+    rw (c.deref.ensures.value, c.deref-2.ensures.value, plan_rooms (network c.args.net.now) c.args.boxes.now.step c.args.boxes.now.lows.now c.args.boxes.now.caps.now c.in_ok-plan.plan c.requires.ready c.in_ok-plan.ensures, c.in_ok-plan.ensures.units) c.requires.edges.1
 
 pub returns : goal.returns
 returns c =

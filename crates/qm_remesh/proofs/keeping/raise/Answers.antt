@@ -12,13 +12,7 @@ solve-requires-clause-even c = raised_even (network c.args.net) _ c.requires.eve
 pub plan-requires-clause-lengths : goal.plan-requires-clause-lengths
 plan-requires-clause-lengths c =
     are_lengths _ (with_floor c.args.settings 3) (network c.with_floor-raised.result) c.in-Ok.third _
-    (raised_net _ c.args.settings (network c.args.net) (network c.with_floor-raised.result) (record {
-      mesh = c.requires.layout;
-      floor = c.requires.settings.floor.low;
-      is = c.requires.net;
-      bounds = c.requires.bounds;
-      untangled = c.requires.tangle;
-    }) c.with_floor-raised.ensures) c.in-Ok.ensures c.deref.ensures.value
+    (raised_net _ c.args.settings (network c.args.net) (network c.with_floor-raised.result) c.requires.net c.with_floor-raised.ensures) c.in-Ok.ensures c.deref.ensures.value
 
 pub plan-requires-clause-bounded : goal.plan-requires-clause-bounded
 plan-requires-clause-bounded c =
@@ -27,17 +21,11 @@ plan-requires-clause-bounded c =
 pub returns-in-Ok-plan-clause-kept : goal.returns-in-Ok-plan-clause-kept
 returns-in-Ok-plan-clause-kept c =
     keeps_third _ _ c.args.first c.in-Ok.third _ _ c.deref.ensures.value (
-      c.requires.certified,
-      c.requires.coarse,
-      c.requires.doubled,
+      c.requires.doubling.certified,
+      c.requires.doubling.coarse,
+      c.requires.doubling.doubled,
       solved _ (with_floor c.args.settings 3) (network c.with_floor-raised.result) c.in-Ok.third
-          (raised_net _ c.args.settings (network c.args.net) (network c.with_floor-raised.result) (record {
-            mesh = c.requires.layout;
-            floor = c.requires.settings.floor.low;
-            is = c.requires.net;
-            bounds = c.requires.bounds;
-            untangled = c.requires.tangle;
-          }) c.with_floor-raised.ensures) c.in-Ok.ensures,
+          (raised_net _ c.args.settings (network c.args.net) (network c.with_floor-raised.result) c.requires.net c.with_floor-raised.ensures) c.in-Ok.ensures,
     )
     (record {
       numbering = c.in-Ok-plan.ensures.numbering;
@@ -49,17 +37,11 @@ returns-in-Ok-plan-clause-kept c =
 pub returns-in-Err-TooFine-clause-refused : goal.returns-in-Err-TooFine-clause-refused
 returns-in-Err-TooFine-clause-refused c = (
   (
-    c.requires.certified,
-    c.requires.coarse,
-    c.requires.doubled,
+    c.requires.doubling.certified,
+    c.requires.doubling.coarse,
+    c.requires.doubling.doubled,
     solved _ (with_floor c.args.settings 3) (network c.with_floor-raised.result) c.in-Ok.third
-        (raised_net _ c.args.settings (network c.args.net) (network c.with_floor-raised.result) (record {
-          mesh = c.requires.layout;
-          floor = c.requires.settings.floor.low;
-          is = c.requires.net;
-          bounds = c.requires.bounds;
-          untangled = c.requires.tangle;
-        }) c.with_floor-raised.ensures) c.in-Ok.ensures,
+        (raised_net _ c.args.settings (network c.args.net) (network c.with_floor-raised.result) c.requires.net c.with_floor-raised.ensures) c.in-Ok.ensures,
   ),
   subst (λ (n : ℕ). AreTooFine (plan c.args.t.now) c.in-Ok.third.x.items n) (sym c.in-Err-TooFine.faces-is)
       (too_fine _ _ _ c.in-Err-TooFine.field-0 _ c.deref.ensures.value c.in-Err-TooFine.field-0-is c.in-Err-TooFine.ensures.refused),

@@ -14,37 +14,18 @@ use Rattle.qm_trace.proofs.telling.tell_all.Goals as goal
 pub prev-d-requires : goal.prev-d-requires
 prev-d-requires c = (is_fan c.args.mesh.now c.args.v c.fan-e-items.result.now c.fan-e-items.ensures).dart c.loop-e.e-index c.loop-e-test.true
 
-pub tell_one-requires-clause-rider : goal.tell_one-requires-clause-rider
-tell_one-requires-clause-rider c =
+pub tell_one-requires-clause-may : goal.tell_one-requires-clause-may
+tell_one-requires-clause-may c =
     let fan : c.loop-e.e-index < length (fan_of c.args.mesh.now c.args.v) = omega (arith, c.loop-e-test.true, ap length c.fan-e-items.ensures) in
     let dart : c.prev-d.result ≡ prev_of (get_or (fan_of c.args.mesh.now c.args.v) c.loop-e.e-index 0) = c.prev-d.ensures.value ∙ ap (λ (xs : List ℕ). prev_of (get_or xs c.loop-e.e-index 0)) c.fan-e-items.ensures in
     let on : is_on c.args.notes.now.taken.items c.prev-d.result ≡ true = sym (c.index.ensures ∙ get_or_default c.args.notes.now.taken.items c.prev-d.result c.index.result.now false (omega (arith, c.prev-d.ensures.dart, c.requires.can.taken_long))) ∙ c.if-index.true in
     let place : c.index-then-index.result.now ≡ get_or c.args.notes.now.places.items c.prev-d.result 0 = c.index-then-index.ensures ∙ get_or_default c.args.notes.now.places.items c.prev-d.result c.index-then-index.result.now 0 (omega (arith, c.prev-d.ensures.dart, c.requires.can.taken_long, c.requires.notes.places_long)) in
-    omega (arith, (noted_here c.args.mesh.now c.args.site c.args.v c.args.notes.now c.args.riders.now c.loop-e.riders.list.items c.loop-e.e-index c.requires.can c.requires.notes fan c.loop-e.invariant.told c.prev-d.result dart on c.index-then-index.result.now place).1, c.loop-e.invariant.counted.long)
-
-pub tell_one-requires-clause-dart : goal.tell_one-requires-clause-dart
-tell_one-requires-clause-dart c =
-    let fan : c.loop-e.e-index < length (fan_of c.args.mesh.now c.args.v) = omega (arith, c.loop-e-test.true, ap length c.fan-e-items.ensures) in
-    let dart : c.prev-d.result ≡ prev_of (get_or (fan_of c.args.mesh.now c.args.v) c.loop-e.e-index 0) = c.prev-d.ensures.value ∙ ap (λ (xs : List ℕ). prev_of (get_or xs c.loop-e.e-index 0)) c.fan-e-items.ensures in
-    let on : is_on c.args.notes.now.taken.items c.prev-d.result ≡ true = sym (c.index.ensures ∙ get_or_default c.args.notes.now.taken.items c.prev-d.result c.index.result.now false (omega (arith, c.prev-d.ensures.dart, c.requires.can.taken_long))) ∙ c.if-index.true in
-    let place : c.index-then-index.result.now ≡ get_or c.args.notes.now.places.items c.prev-d.result 0 = c.index-then-index.ensures ∙ get_or_default c.args.notes.now.places.items c.prev-d.result c.index-then-index.result.now 0 (omega (arith, c.prev-d.ensures.dart, c.requires.can.taken_long, c.requires.notes.places_long)) in
-    omega (arith, (runs_here c.args.mesh.now c.args.site c.args.v c.args.notes.now c.args.riders.now c.loop-e.riders.list.items c.loop-e.e-index c.requires.can c.requires.notes fan c.loop-e.invariant.told c.prev-d.result dart on c.index-then-index.result.now place).1, c.prev-d.ensures.dart)
-
-pub tell_one-requires-clause-untold : goal.tell_one-requires-clause-untold
-tell_one-requires-clause-untold c =
-    let fan : c.loop-e.e-index < length (fan_of c.args.mesh.now c.args.v) = omega (arith, c.loop-e-test.true, ap length c.fan-e-items.ensures) in
-    let dart : c.prev-d.result ≡ prev_of (get_or (fan_of c.args.mesh.now c.args.v) c.loop-e.e-index 0) = c.prev-d.ensures.value ∙ ap (λ (xs : List ℕ). prev_of (get_or xs c.loop-e.e-index 0)) c.fan-e-items.ensures in
-    let on : is_on c.args.notes.now.taken.items c.prev-d.result ≡ true = sym (c.index.ensures ∙ get_or_default c.args.notes.now.taken.items c.prev-d.result c.index.result.now false (omega (arith, c.prev-d.ensures.dart, c.requires.can.taken_long))) ∙ c.if-index.true in
-    let place : c.index-then-index.result.now ≡ get_or c.args.notes.now.places.items c.prev-d.result 0 = c.index-then-index.ensures ∙ get_or_default c.args.notes.now.places.items c.prev-d.result c.index-then-index.result.now 0 (omega (arith, c.prev-d.ensures.dart, c.requires.can.taken_long, c.requires.notes.places_long)) in
-    untold_here c.args.mesh.now c.args.site c.args.v c.args.notes.now c.args.riders.now c.loop-e.riders.list.items c.loop-e.e-index c.requires.can c.requires.notes fan c.loop-e.invariant.told c.prev-d.result dart on c.index-then-index.result.now place
-
-pub tell_one-requires-clause-onward : goal.tell_one-requires-clause-onward
-tell_one-requires-clause-onward c =
-    let fan : c.loop-e.e-index < length (fan_of c.args.mesh.now c.args.v) = omega (arith, c.loop-e-test.true, ap length c.fan-e-items.ensures) in
-    let dart : c.prev-d.result ≡ prev_of (get_or (fan_of c.args.mesh.now c.args.v) c.loop-e.e-index 0) = c.prev-d.ensures.value ∙ ap (λ (xs : List ℕ). prev_of (get_or xs c.loop-e.e-index 0)) c.fan-e-items.ensures in
-    let on : is_on c.args.notes.now.taken.items c.prev-d.result ≡ true = sym (c.index.ensures ∙ get_or_default c.args.notes.now.taken.items c.prev-d.result c.index.result.now false (omega (arith, c.prev-d.ensures.dart, c.requires.can.taken_long))) ∙ c.if-index.true in
-    let place : c.index-then-index.result.now ≡ get_or c.args.notes.now.places.items c.prev-d.result 0 = c.index-then-index.ensures ∙ get_or_default c.args.notes.now.places.items c.prev-d.result c.index-then-index.result.now 0 (omega (arith, c.prev-d.ensures.dart, c.requires.can.taken_long, c.requires.notes.places_long)) in
-    onward_here c.args.mesh.now c.args.site c.args.v c.args.notes.now c.args.riders.now c.loop-e.riders.list.items c.loop-e.e-index c.requires.can c.requires.notes fan c.loop-e.invariant.told c.prev-d.result dart on c.index-then-index.result.now place
+    record {
+      rider = omega (arith, (noted_here c.args.mesh.now c.args.site c.args.v c.args.notes.now c.args.riders.now c.loop-e.riders.list.items c.loop-e.e-index c.requires.can c.requires.notes fan c.loop-e.invariant.told c.prev-d.result dart on c.index-then-index.result.now place).1, c.loop-e.invariant.counted.long);
+      dart = omega (arith, (runs_here c.args.mesh.now c.args.site c.args.v c.args.notes.now c.args.riders.now c.loop-e.riders.list.items c.loop-e.e-index c.requires.can c.requires.notes fan c.loop-e.invariant.told c.prev-d.result dart on c.index-then-index.result.now place).1, c.prev-d.ensures.dart);
+      untold = untold_here c.args.mesh.now c.args.site c.args.v c.args.notes.now c.args.riders.now c.loop-e.riders.list.items c.loop-e.e-index c.requires.can c.requires.notes fan c.loop-e.invariant.told c.prev-d.result dart on c.index-then-index.result.now place;
+      onward = onward_here c.args.mesh.now c.args.site c.args.v c.args.notes.now c.args.riders.now c.loop-e.riders.list.items c.loop-e.e-index c.requires.can c.requires.notes fan c.loop-e.invariant.told c.prev-d.result dart on c.index-then-index.result.now place;
+    }
 
 pub loop-e-preserved : goal.loop-e-preserved
 loop-e-preserved c =

@@ -12,11 +12,11 @@ use Rattle.qm_forest.proofs.forest.Forest.shrink.Goals as goal
 pub mate-mate-requires : goal.mate-mate-requires
 mate-mate-requires c = top_low (graph c.args.g.now) c.requires.graph c.args.self.now c.requires.valid (2 * c.args.e) (shrinks (graph c.args.g.now) c.requires.graph (forest_of c.args.self.now) c.requires.valid.valid.feasible c.args.e c.requires.edge c.requires.kind).tight (shrinks (graph c.args.g.now) c.requires.graph (forest_of c.args.self.now) c.requires.valid.valid.feasible c.args.e c.requires.edge c.requires.kind).outer_near (shrinks (graph c.args.g.now) c.requires.graph (forest_of c.args.self.now) c.requires.valid.valid.feasible c.args.e c.requires.edge c.requires.kind).outer_far (shrinks (graph c.args.g.now) c.requires.graph (forest_of c.args.self.now) c.requires.valid.valid.feasible c.args.e c.requires.edge c.requires.kind).apart c.fork-fork.result.top c.fork-fork.result.left c.fork-fork.result.right (met_at (darts_of (graph c.args.g.now)) (forest_of c.args.self.now) c.outermost-a.result c.reached-c.result _ _ _ _ _ (c.outermost-a.ensures.value ∙ ap (forest_of c.args.self.now).out c.near.ensures) c.reached-c.ensures.value c.fork-fork.ensures.meeting)
 
-pub lay_ring-requires-clause-first : goal.lay_ring-requires-clause-first
-lay_ring-requires-clause-first c = outer_named _ (shrinks (graph c.args.g.now) c.requires.graph (forest_of c.args.self.now) c.requires.valid.valid.feasible c.args.e c.requires.edge c.requires.kind).outer_near
-
-pub lay_ring-requires-clause-second : goal.lay_ring-requires-clause-second
-lay_ring-requires-clause-second c = outer_named _ (shrinks (graph c.args.g.now) c.requires.graph (forest_of c.args.self.now) c.requires.valid.valid.feasible c.args.e c.requires.edge c.requires.kind).outer_far
+pub lay_ring-requires-clause-ways : goal.lay_ring-requires-clause-ways
+lay_ring-requires-clause-ways c = (
+  outer_named _ (shrinks (graph c.args.g.now) c.requires.graph (forest_of c.args.self.now) c.requires.valid.valid.feasible c.args.e c.requires.edge c.requires.kind).outer_near,
+  outer_named _ (shrinks (graph c.args.g.now) c.requires.graph (forest_of c.args.self.now) c.requires.valid.valid.feasible c.args.e c.requires.edge c.requires.kind).outer_far,
+)
 
 pub overflow_add-fork : goal.overflow_add-fork
 overflow_add-fork c = omega (arith, (met_at (darts_of (graph c.args.g.now)) (forest_of c.args.self.now) c.outermost-a.result c.reached-c.result _ _ _ _ _ (c.outermost-a.ensures.value ∙ ap (forest_of c.args.self.now).out c.near.ensures) c.reached-c.ensures.value c.fork-fork.ensures.meeting).x_low, (met_at (darts_of (graph c.args.g.now)) (forest_of c.args.self.now) c.outermost-a.result c.reached-c.result _ _ _ _ _ (c.outermost-a.ensures.value ∙ ap (forest_of c.args.self.now).out c.near.ensures) c.reached-c.ensures.value c.fork-fork.ensures.meeting).y_low, level_few (darts_of (graph c.args.g.now)) (forest_of c.args.self.now) ((forest_of c.args.self.now).out ((darts_of (graph c.args.g.now)).near (2 * c.args.e))), level_few (darts_of (graph c.args.g.now)) (forest_of c.args.self.now) ((forest_of c.args.self.now).out (far (darts_of (graph c.args.g.now)) (2 * c.args.e))), c.fork-fork.ensures.few)

@@ -1,0 +1,16 @@
+-- The network of a layout is one that certificates are judged by.
+use Rattle.std.proofs.Common.{Bool, ◌≤◌}
+use Rattle.def_certtext.specs.Settings.{AreInRange}
+use Rattle.def_flow.specs.Network.{Network, tangle_number, IsWithinBounds}
+use Rattle.def_flow.specs.declared.limits.TheConstants.{MAX_TANGLE}
+use Rattle.def_flow.specs.declared.net.Settings.{Settings}
+use Rattle.def_layout.specs.Arcs.{long_at}
+use Rattle.def_layout.specs.Plans.{Plan, layout_of}
+use Rattle.def_layoutnet.specs.LayoutNet.{IsNetOf}
+use Rattle.def_layoutnet.specs.MeshLayouts.{IsMeshLayout}
+use Rattle.remesh_laws.specs.Keeps.{IsNetFor}
+
+pub net_for : (plan : Plan) (settings : Settings) (auto : Bool) (net : Network) → IsMeshLayout plan → AreInRange settings auto
+    → IsNetOf (layout_of plan) (long_at plan.arcs) settings net → IsWithinBounds net → tangle_number net ≤ MAX_TANGLE → IsNetFor plan settings net
+net_for plan settings auto net mesh range is bounds small =
+    record { mesh = mesh; floor = range.floor.low; is = is; bounds = bounds; untangled = small }
