@@ -9,7 +9,7 @@ use Rattle.def_run.specs.Causes.{Cause, IsUnread}
 use Rattle.def_run.specs.declared.command.Command.TheVariants.{Bench}
 use Rattle.qm_top.specs.Refusals.{answer_of_layout, Ended, IsNoMeshOf}
 use Rattle.qm_top.specs.declared.refusal.Refusal.{Refusal}
-use Rattle.qm_top.specs.declared.refusal.Refusal.TheVariants.{NotAccepted, Soup, NotManifold, Layout, Write}
+use Rattle.qm_top.specs.declared.refusal.Refusal.TheVariants.{NotManifold}
 use Rattle.qm_top.specs.declared.refusal.Refusal.TheVariants as refusals
 use Rattle.qm_top.proofs.Refusals.{memory_ended}
 use Rattle.qm_top.proofs.Writers.{IsWriter}
@@ -25,10 +25,8 @@ module _ (size : ℕ) (input out : Change) (unread : IsUnread input) where
   }
     where
       refuses : (fail : LayoutFail) → IsBenchFail size fail → Cause (Bench size) input out (answer_of_layout fail)
-      refuses (layouts.Tangled count) why = record { bytes = []; whole = (unread, refl); said = why }
-      refuses (layouts.TooFine faces kept) why = record { bytes = []; whole = (unread, refl); said = why }
-      refuses (layouts.Doubled u v cert) why = record { bytes = []; whole = (unread, refl); said = why }
       refuses layouts.Memory why = tt
+      refuses _ why = record { bytes = []; whole = (unread, refl); said = why }
 
   -- A mesh that is no manifold ends it.
   pub made_ended : (r : Refusal) → IsNoMeshOf (steps_soup size) r → Ended (Bench size) input out r
@@ -38,7 +36,4 @@ module _ (size : ℕ) (input out : Change) (unread : IsUnread input) where
     calm = λ f m. unread.1;
   }
   made_ended refusals.Memory none = memory_ended (Bench size) input out
-  made_ended (Soup fail) none = absurd none
-  made_ended (Layout fail) none = absurd none
-  made_ended (Write fail) none = absurd none
-  made_ended (NotAccepted why) none = absurd none
+  made_ended _ none = absurd none

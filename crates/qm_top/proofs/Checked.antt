@@ -1,12 +1,9 @@
 -- What `check` keeps: the line that accepts a pair is written, or a refusal has its cause.
-use Rattle.std.specs.Prelude.{IfErr, IsErrOf, OnOk}
+use Rattle.std.specs.Prelude.{IfErr, OnOk}
 use Rattle.std.proofs.Common.{◌≡◌, ◌≢◌, Result, Ok, Err, refl, take}
 use Rattle.def_io.specs.Bytes.{Bytes}
-use Rattle.def_io.specs.Faults.{Rose}
 use Rattle.def_io.specs.Lines.{lines_of}
-use Rattle.def_io.specs.Moves.{Change, GaveMore}
-use Rattle.def_io.specs.declared.fails.ReadFail.{ReadFail}
-use Rattle.def_io.specs.declared.fails.ReadFail.TheVariants as reads
+use Rattle.def_io.specs.Moves.{Change}
 use Rattle.def_remesh.specs.declared.kept.LayoutFail.TheVariants as layouts
 use Rattle.def_run.specs.Causes.{Cause}
 use Rattle.def_run.specs.Check.{RefusesOldText, RefusesToCheck, WritesAccepted}
@@ -15,13 +12,12 @@ use Rattle.def_run.specs.declared.answer.Answer.TheVariants as answers
 use Rattle.def_run.specs.declared.answer.Why.TheVariants as why
 use Rattle.def_run.specs.declared.command.Command.TheVariants.{Check}
 use Rattle.def_remesh.specs.Checked.{IsCheckedPair}
-use Rattle.def_text.specs.Fails.{of_read}
 use Rattle.def_text.specs.Input.{ReadWhole}
 use Rattle.def_text.specs.declared.limits.TheConstants.{MAX_BYTES}
 use Rattle.def_text.specs.declared.refusal.ObjFail.{ObjFail}
 use Rattle.def_text.specs.declared.refusal.ObjFail.TheVariants as obj
 use Rattle.def_text.specs.declared.refusal.SoupFail.TheVariants as soup
-use Rattle.def_text.specs.declared.refusal.Which.TheVariants.{Bytes as AllBytes, Line, Vertices, Faces}
+use Rattle.def_text.specs.declared.refusal.Which.TheVariants.{Bytes as AllBytes}
 use Rattle.qm_check.proofs.Refuted.{headless, old_faulty, old_refused}
 use Rattle.qm_top.proofs.NeverBytes.{never_bytes}
 use Rattle.qm_top.proofs.Refusals.{obj_place}
@@ -33,26 +29,12 @@ use Rattle.qm_top.specs.declared.refusal.Refusal.{Refusal}
 use Rattle.qm_top.specs.declared.refusal.Refusal.TheVariants.{NotAccepted, Soup, NotManifold, Layout, Write}
 use Rattle.qm_top.specs.declared.refusal.Refusal.TheVariants as refusals
 
--- A source that was not read ends the command.
-pub read_ended : {T : Type 0} (input out : Change) (fail : ReadFail)
-    → (IsErrOf {T = T} (Err fail) reads.Fault → Rose input.faults input.faults_now)
-    → (IsErrOf {T = T} (Err fail) reads.TooLong → GaveMore MAX_BYTES input.told input.told_now × (input.faults_now ≡ input.faults))
-    → Ended Check input out (Soup (of_read fail))
-read_ended input out reads.Fault rose more = record { cause = rose refl; names = λ p is. cc; calm = λ f m. absurd (f refl) }
-read_ended input out reads.TooLong rose more = record { cause = (refl, (more refl).0); names = λ p is. cc; calm = λ f m. (more refl).1 }
-read_ended input out reads.Memory rose more = record { cause = tt; names = λ p is. cc; calm = λ f m. absurd (m refl) }
-
 module _ (input out : Change) (bytes : Bytes) (whole : ReadWhole MAX_BYTES input.told input.told_now bytes) (calm : input.faults_now ≡ input.faults) where
   -- The refusal of the old text has its cause.
   old_cause : (fail : ObjFail) → RefusesOldText bytes fail → Cause Check input out (answer_of_obj fail)
-  old_cause (obj.Syntax line) none = record { bytes = bytes; whole = whole; said = none }
-  old_cause (obj.NotQuad line corners) none = record { bytes = bytes; whole = whole; said = none }
-  old_cause (obj.Range line) none = record { bytes = bytes; whole = whole; said = none }
   old_cause (obj.Limit AllBytes line) none = absurd (never_bytes 1 (take none.line (lines_of bytes)) line none.said)
-  old_cause (obj.Limit Line line) none = record { bytes = bytes; whole = whole; said = none }
-  old_cause (obj.Limit Vertices line) none = record { bytes = bytes; whole = whole; said = none }
-  old_cause (obj.Limit Faces line) none = record { bytes = bytes; whole = whole; said = none }
   old_cause obj.Memory none = tt
+  old_cause _ none = record { bytes = bytes; whole = whole; said = none }
 
   -- A pair that is not accepted ends the command.
   unaccepted_ends : {O : Type 0} (before now : O) (r : Refusal) → IsUnaccepted bytes out before now r → Ended Check input out r
@@ -60,9 +42,6 @@ module _ (input out : Change) (bytes : Bytes) (whole : ReadWhole MAX_BYTES input
       record { cause = record { bytes = bytes; whole = whole; said = none.1 }; names = λ p is. cc; calm = λ f m. calm }
   unaccepted_ends before now (Soup (soup.Obj fail)) none =
       record { cause = old_cause fail none.1.0; names = λ p is. absurd (obj_place fail p is); calm = λ f m. calm }
-  unaccepted_ends before now (Soup soup.Fault) none = absurd none.1
-  unaccepted_ends before now (Soup soup.TooLong) none = absurd none.1
-  unaccepted_ends before now (Soup soup.Memory) none = absurd none.1
   unaccepted_ends before now (NotManifold named) none = record {
     cause = record {
       bytes = bytes;
@@ -80,23 +59,17 @@ module _ (input out : Change) (bytes : Bytes) (whole : ReadWhole MAX_BYTES input
   }
   unaccepted_ends before now (Layout (layouts.Tangled count)) none =
       record { cause = record { bytes = bytes; whole = whole; said = none.1 }; names = λ p is. cc; calm = λ f m. calm }
-  unaccepted_ends before now (Layout (layouts.TooFine faces kept)) none = absurd none.1
-  unaccepted_ends before now (Layout (layouts.Doubled u v cert)) none = absurd none.1
-  unaccepted_ends before now (Layout layouts.Memory) none = absurd none.1
   unaccepted_ends before now (Write fail) broke = record {
     cause = record { bytes = bytes; whole = whole; text = broke.text; said = broke.said; front = broke.front; fault = broke.fault };
     names = λ p is. cc;
     calm = λ f m. calm;
   }
   unaccepted_ends before now refusals.Memory none = record { cause = tt; names = λ p is. cc; calm = λ f m. calm }
+  unaccepted_ends before now _ none = absurd none.1
 
   same_sink : {O : Type 0} (before now : O) (r : Refusal) → IsUnaccepted bytes out before now r → answer_of r ≢ answers.WriteFault → now ≡ before
   same_sink before now (Write fail) broke other = absurd (other refl)
-  same_sink before now (NotAccepted why) none other = none.0
-  same_sink before now (Soup fail) none other = none.0
-  same_sink before now (NotManifold named) none other = none.0
-  same_sink before now (Layout fail) none other = none.0
-  same_sink before now refusals.Memory none other = none.0
+  same_sink before now _ none other = none.0
 
   pub check_runs : {O : Type 0} (before now : O) (result : Result (Unit {0}) Refusal) → OnOk result (WroteText (WritesAccepted bytes) out)
       → IfErr result (IsUnaccepted bytes out before now) → HasRun Check input out before now result
@@ -113,32 +86,17 @@ module _ (input out : Change) (bytes : Bytes) (whole : ReadWhole MAX_BYTES input
 
 -- Bytes that are no pair are not accepted, and the sink is as it was.
 pub unaccepted : {O : Type 0} (bytes : Bytes) (out : Change) (sink : O) (r : Refusal) → IsNoPairFor bytes r → IsUnaccepted bytes out sink sink r
-unaccepted bytes out sink (NotAccepted why) none = (refl, none)
-unaccepted bytes out sink (Soup fail) none = (refl, none)
-unaccepted bytes out sink (NotManifold named) none = (refl, none)
-unaccepted bytes out sink (Layout fail) none = (refl, none)
 unaccepted bytes out sink (Write fail) none = absurd none
-unaccepted bytes out sink refusals.Memory none = (refl, none)
+unaccepted bytes out sink _ none = (refl, none)
 
 -- A checked pair is not refused.
 pub pair_not_refused : (bytes : Bytes) (answer : Answer) → IsCheckedPair bytes → RefusesToCheck bytes answer → ⊥
 pair_not_refused bytes (answers.NotAccepted why.NoHead) pair none = headless bytes none pair
-pair_not_refused bytes (answers.NotAccepted why.Head) pair none = none.refuted pair
-pair_not_refused bytes (answers.NotAccepted (why.CertLine line)) pair none = none.refuted pair
-pair_not_refused bytes (answers.NotAccepted (why.Verdict verdict)) pair none = none.refuted pair
-pair_not_refused bytes (answers.NotAccepted (why.TooFine faces)) pair none = none.refuted pair
-pair_not_refused bytes (answers.NotAccepted (why.Doubled u v)) pair none = none.refuted pair
-pair_not_refused bytes (answers.NotAccepted (why.Byte at)) pair none = none.refuted pair
+pair_not_refused bytes (answers.NotAccepted _) pair none = none.refuted pair
 pair_not_refused bytes (answers.Syntax line) pair none = old_refused bytes (obj.Syntax line) none pair
 pair_not_refused bytes (answers.NotQuad line corners) pair none = old_refused bytes (obj.NotQuad line corners) none pair
 pair_not_refused bytes (answers.Range line) pair none = old_refused bytes (obj.Range line) none pair
 pair_not_refused bytes (answers.Limit which line) pair none = old_refused bytes (obj.Limit which line) none pair
 pair_not_refused bytes (answers.NotManifold place) pair none = old_faulty bytes none.line none.soup none.old none.refuted pair
 pair_not_refused bytes (answers.Tangled count) pair none = none.refuted pair
-pair_not_refused bytes answers.Done pair none = absurd none
-pair_not_refused bytes answers.Usage pair none = absurd none
-pair_not_refused bytes (answers.TooFine faces kept) pair none = absurd none
-pair_not_refused bytes (answers.Doubled u v cert) pair none = absurd none
-pair_not_refused bytes answers.ReadFault pair none = absurd none
-pair_not_refused bytes answers.WriteFault pair none = absurd none
-pair_not_refused bytes answers.Memory pair none = absurd none
+pair_not_refused bytes _ pair none = absurd none

@@ -9,7 +9,7 @@ use Rattle.def_mesh.specs.Manifold.{IsManifold}
 use Rattle.def_text.specs.FaceSet.{FaceSet}
 use Rattle.def_text.specs.declared.limits.TheConstants.{MAX_BYTES}
 use Rattle.def_text.specs.declared.refusal.ObjFail.{ObjFail}
-use Rattle.def_text.specs.declared.refusal.Which.TheVariants.{Bytes as AllBytes, Line, Vertices, Faces as AllFaces}
+use Rattle.def_text.specs.declared.refusal.Which.TheVariants.{Bytes as AllBytes}
 use Rattle.def_run.specs.Bench.{bench_faces, bench_settings, HasBench, RefusesToBench}
 use Rattle.def_run.specs.Causes.{Cause, FailsToRead, Holds, IsGood, Reads, ReadsTooMany, Refused, Refuses, Takes}
 use Rattle.def_run.specs.Mesh.{IsMesh, IsNoMesh}
@@ -44,15 +44,7 @@ mesh_not_refused bytes soup (NotManifold place) mesh none =
     let both : ◌≡◌ {A = Result FaceSet ObjFail} (Ok soup) (Ok none.soup) = sym mesh.said ∙ none.said in
     let same : soup ≡ none.soup = cc in
     none.refuted (subst (λ (s : FaceSet). IsManifold s.faces) same mesh.manifold)
-mesh_not_refused bytes soup Done mesh none = absurd none
-mesh_not_refused bytes soup (NotAccepted why) mesh none = absurd none
-mesh_not_refused bytes soup Usage mesh none = absurd none
-mesh_not_refused bytes soup (Tangled count) mesh none = absurd none
-mesh_not_refused bytes soup (TooFine faces kept) mesh none = absurd none
-mesh_not_refused bytes soup (Doubled u v cert) mesh none = absurd none
-mesh_not_refused bytes soup ReadFault mesh none = absurd none
-mesh_not_refused bytes soup WriteFault mesh none = absurd none
-mesh_not_refused bytes soup Memory mesh none = absurd none
+mesh_not_refused bytes soup _ mesh none = absurd none
 
 -- A mesh has one layout of its motorcycle graph.
 one_layout : (faces : Faces) → IsManifold faces → (one other : Plan) → IsCutTo faces one → IsCutTo faces other → one ≡ other
@@ -71,19 +63,7 @@ refine_not_both by bytes (TooFine faces kept) takes (plan, cut, fine) =
     let same : plan ≡ takes.plan = one_cut bytes plan takes.plan cut takes.cut in
     let count : refined_faces by plan ≡ refined_faces by takes.plan = ap (refined_faces by) same in
     absurd (omega (arith, count, fine.counted, fine.many, takes.fits))
-refine_not_both by bytes Done takes refuses = absurd refuses
-refine_not_both by bytes (NotAccepted why) takes refuses = absurd refuses
-refine_not_both by bytes Usage takes refuses = absurd refuses
-refine_not_both by bytes (Syntax line) takes refuses = mesh_not_refused bytes takes.cut.soup (Syntax line) takes.cut.mesh refuses
-refine_not_both by bytes (NotQuad line corners) takes refuses = mesh_not_refused bytes takes.cut.soup (NotQuad line corners) takes.cut.mesh refuses
-refine_not_both by bytes (Range line) takes refuses = mesh_not_refused bytes takes.cut.soup (Range line) takes.cut.mesh refuses
-refine_not_both by bytes (Limit which line) takes refuses = mesh_not_refused bytes takes.cut.soup (Limit which line) takes.cut.mesh refuses
-refine_not_both by bytes (NotManifold place) takes refuses = mesh_not_refused bytes takes.cut.soup (NotManifold place) takes.cut.mesh refuses
-refine_not_both by bytes (Tangled count) takes refuses = absurd refuses
-refine_not_both by bytes (Doubled u v cert) takes refuses = absurd refuses
-refine_not_both by bytes ReadFault takes refuses = absurd refuses
-refine_not_both by bytes WriteFault takes refuses = absurd refuses
-refine_not_both by bytes Memory takes refuses = absurd refuses
+refine_not_both by bytes answer takes refuses = mesh_not_refused bytes takes.cut.soup answer takes.cut.mesh refuses
 
 -- Bytes whose mesh is remeshed whatever least lists are kept are not refused.
 layout_not_both : (settings : Settings) (auto : Bool) (plan : Plan) (answer : Answer) → IsRemeshable plan settings auto
@@ -91,17 +71,7 @@ layout_not_both : (settings : Settings) (auto : Bool) (plan : Plan) (answer : An
 layout_not_both settings auto plan (Tangled count) fits refuses = fits.untangled count refuses
 layout_not_both settings auto plan (TooFine faces kept) fits refuses = fits_not_fine plan settings auto faces kept fits refuses
 layout_not_both settings auto plan (Doubled u v cert) fits refuses = fits_not_doubled plan settings auto u v cert fits refuses
-layout_not_both settings auto plan Done fits refuses = absurd refuses
-layout_not_both settings auto plan (NotAccepted why) fits refuses = absurd refuses
-layout_not_both settings auto plan Usage fits refuses = absurd refuses
-layout_not_both settings auto plan (Syntax line) fits refuses = absurd refuses
-layout_not_both settings auto plan (NotQuad line corners) fits refuses = absurd refuses
-layout_not_both settings auto plan (Range line) fits refuses = absurd refuses
-layout_not_both settings auto plan (Limit which line) fits refuses = absurd refuses
-layout_not_both settings auto plan (NotManifold place) fits refuses = absurd refuses
-layout_not_both settings auto plan ReadFault fits refuses = absurd refuses
-layout_not_both settings auto plan WriteFault fits refuses = absurd refuses
-layout_not_both settings auto plan Memory fits refuses = absurd refuses
+layout_not_both settings auto plan _ fits refuses = absurd refuses
 
 remesh_not_both : (settings : Settings) (auto : Bool) (bytes : Bytes) (answer : Answer) → HasRemesh settings auto bytes
     → RefusesToRemesh settings auto bytes answer → ⊥
@@ -120,19 +90,7 @@ bench_layout size answer takes plan cut why =
 
 bench_not_both : (size : ℕ) (answer : Answer) → HasBench size → RefusesToBench size answer → ⊥
 bench_not_both size (NotManifold place) takes refuses = refuses.1 takes.manifold
-bench_not_both size (Tangled count) takes (plan, cut, why) = bench_layout size (Tangled count) takes plan cut why
-bench_not_both size (TooFine faces kept) takes (plan, cut, why) = bench_layout size (TooFine faces kept) takes plan cut why
-bench_not_both size (Doubled u v cert) takes (plan, cut, why) = bench_layout size (Doubled u v cert) takes plan cut why
-bench_not_both size Done takes (plan, cut, why) = absurd why
-bench_not_both size (NotAccepted why) takes (plan, cut, none) = absurd none
-bench_not_both size Usage takes (plan, cut, why) = absurd why
-bench_not_both size (Syntax line) takes (plan, cut, why) = absurd why
-bench_not_both size (NotQuad line corners) takes (plan, cut, why) = absurd why
-bench_not_both size (Range line) takes (plan, cut, why) = absurd why
-bench_not_both size (Limit which line) takes (plan, cut, why) = absurd why
-bench_not_both size ReadFault takes (plan, cut, why) = absurd why
-bench_not_both size WriteFault takes (plan, cut, why) = absurd why
-bench_not_both size Memory takes (plan, cut, why) = absurd why
+bench_not_both size answer takes (plan, cut, why) = bench_layout size answer takes plan cut why
 
 -- No command both takes bytes and refuses them.
 not_both : (command : Command) (bytes : Bytes) (answer : Answer) → Takes command bytes → Refuses command bytes answer → ⊥
@@ -153,13 +111,8 @@ same_bytes before (Some rest) bytes held told given end =
 
 -- What a command read is what its source held.
 same_read : (command : Command) (input : Change) (bytes held : Bytes) → Reads command input bytes → Holds command input.told held → bytes ≡ held
-same_read Tidy input bytes held read holds = same_bytes input.told input.told_now bytes held holds.0 read.given read.ended
-same_read Graph input bytes held read holds = same_bytes input.told input.told_now bytes held holds.0 read.given read.ended
-same_read (Refine by) input bytes held read holds = same_bytes input.told input.told_now bytes held holds.0 read.given read.ended
-same_read (Remesh settings auto) input bytes held read holds =
-    same_bytes input.told input.told_now bytes held holds.0 read.given read.ended
-same_read Check input bytes held read holds = same_bytes input.told input.told_now bytes held holds.0 read.given read.ended
 same_read (Bench size) input bytes held read holds = read.1 ∙ sym holds
+same_read _ input bytes held read holds = same_bytes input.told input.told_now bytes held holds.0 read.given read.ended
 
 -- Good bytes are not refused.
 not_refused : (command : Command) (input : Change) (answer : Answer) → IsGood command input.told → Refused command input answer → ⊥
@@ -179,21 +132,13 @@ not_too_long before now held told few more = by_rest now more.moved
         absurd (omega (arith, ap length same, length-append more.piece rest, more.many, few))
 
 not_too_many : (command : Command) (input : Change) → IsGood command input.told → ReadsTooMany command input → ⊥
-not_too_many Tidy input good more = not_too_long _ _ good.bytes good.held.0 good.held.1 more
-not_too_many Graph input good more = not_too_long _ _ good.bytes good.held.0 good.held.1 more
-not_too_many (Refine by) input good more = not_too_long _ _ good.bytes good.held.0 good.held.1 more
-not_too_many (Remesh settings auto) input good more = not_too_long _ _ good.bytes good.held.0 good.held.1 more
-not_too_many Check input good more = not_too_long _ _ good.bytes good.held.0 good.held.1 more
 not_too_many (Bench size) input good more = absurd more
+not_too_many _ input good more = not_too_long _ _ good.bytes good.held.0 good.held.1 more
 
 -- A fault of reading is one of the source.
 rose_if : (command : Command) (input : Change) → FailsToRead command input → Rose input.faults input.faults_now
-rose_if Tidy input fault = fault
-rose_if Graph input fault = fault
-rose_if (Refine by) input fault = fault
-rose_if (Remesh settings auto) input fault = fault
-rose_if Check input fault = fault
 rose_if (Bench size) input fault = absurd fault
+rose_if _ input fault = fault
 
 -- So the command is done, or memory is wanting or a stream failed.
 pub completes : (command : Command) (input out : Change) (answer : Answer) → Cause command input out answer → IsGood command input.told
@@ -201,20 +146,11 @@ pub completes : (command : Command) (input out : Change) (answer : Answer) → C
 completes command input out Done why good = inl refl
 completes command input out (NotAccepted why) cause good = absurd (not_refused command input _ good cause)
 completes command input out Usage why good = absurd why
-completes command input out (Syntax line) why good = absurd (not_refused command input _ good why)
-completes command input out (NotQuad line corners) why good = absurd (not_refused command input _ good why)
-completes command input out (Range line) why good = absurd (not_refused command input _ good why)
 completes command input out (Limit AllBytes line) why good = absurd (not_too_many command input good why.1)
-completes command input out (Limit Line line) why good = absurd (not_refused command input _ good why)
-completes command input out (Limit Vertices line) why good = absurd (not_refused command input _ good why)
-completes command input out (Limit AllFaces line) why good = absurd (not_refused command input _ good why)
-completes command input out (NotManifold place) why good = absurd (not_refused command input _ good why)
-completes command input out (Tangled count) why good = absurd (not_refused command input _ good why)
-completes command input out (TooFine faces kept) why good = absurd (not_refused command input _ good why)
-completes command input out (Doubled u v cert) why good = absurd (not_refused command input _ good why)
 completes command input out ReadFault why good = inr (inr (inl (rose_if command input why)))
 completes command input out WriteFault why good = inr (inr (inr why.fault))
 completes command input out Memory why good = inr (inl refl)
+completes command input out _ why good = absurd (not_refused command input _ good why)
 
 -- The same of the answer that a run gives, and of a line's one command.
 pub completes_as : (read command : Command) (input out : Change) (answer said : Answer) → answer ≡ said → command ≡ read → Cause read input out said

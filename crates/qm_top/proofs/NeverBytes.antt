@@ -11,28 +11,23 @@ use Rattle.def_text.specs.Reading.{face_reading, is_face_line, is_letter, is_pos
 use Rattle.def_text.specs.Text.{first_refusal, late_in, positions, readings, refusal_in, refusals, text_soup}
 use Rattle.def_text.specs.Words.{words}
 use Rattle.def_text.specs.declared.reading.Reading.{Reading}
-use Rattle.def_text.specs.declared.reading.Reading.TheVariants.{Passed, Position, Face, Refused}
+use Rattle.def_text.specs.declared.reading.Reading.TheVariants.{Face}
 use Rattle.def_text.specs.declared.refusal.ObjFail.{ObjFail}
-use Rattle.def_text.specs.declared.refusal.ObjFail.TheVariants.{Syntax, NotQuad, Range, Limit, Memory}
+use Rattle.def_text.specs.declared.refusal.ObjFail.TheVariants.{Range, Limit}
 use Rattle.def_text.specs.declared.refusal.Which.{Which}
-use Rattle.def_text.specs.declared.refusal.Which.TheVariants.{Bytes, Line, Vertices, Faces}
+use Rattle.def_text.specs.declared.refusal.Which.TheVariants.{Bytes}
 use Rattle.def_text.specs.Types.{Words}
 use Rattle.def_io.specs.Bytes.{Lines}
 
 -- Another limit than the one on all bytes.
 abbrev is_of_line : Which → Bool
 is_of_line Bytes = false
-is_of_line Line = true
-is_of_line Vertices = true
-is_of_line Faces = true
+is_of_line _ = true
 
 -- A refusal that is not for the number of all bytes.
 abbrev is_fine : ObjFail → Bool
-is_fine (Syntax line) = true
-is_fine (NotQuad line corners) = true
-is_fine (Range line) = true
 is_fine (Limit which line) = is_of_line which
-is_fine Memory = true
+is_fine _ = true
 
 -- A line that is refused finely, if at all.
 abbrev IsFine : Reading → Type 0
@@ -76,14 +71,12 @@ fine_readings before (line ∷ lines) =
     (fine_readings (before ++ line ∷ []) lines)
 
 fine_late : (n : ℕ) (r : Reading) → list_all is_fine (late_in n r) ≡ true
-fine_late n Passed = refl
-fine_late n (Position position) = refl
-fine_late n (Refused fail) = refl
 fine_late n (Face line corners) = by_test (list_any (λ corner. nat_lt n corner) corners)
   where
     by_test : (t : Bool) → list_all is_fine (if t then Range line ∷ [] else []) ≡ true
     by_test true = refl
     by_test false = refl
+fine_late n _ = refl
 
 fine_lates : (n : ℕ) (said : List Reading) → list_all is_fine (flat_map (late_in n) said) ≡ true
 fine_lates n [] = refl

@@ -63,22 +63,12 @@ remesh_writer asked input out soup manifold read calm = record {
 }
   where
     refuses : (fail : LayoutFail) → FailsToRemesh asked soup fail → Cause (commands.Remesh asked.settings asked.auto) input out (answer_of_layout fail)
-    refuses (layouts.Tangled count) (plan, cut, why) = record {
-      bytes = read.bytes;
-      whole = read.whole;
-      said = inr (plan, record { soup = soup; mesh = record { said = read.said; manifold = manifold }; cut = cut }, why);
-    }
-    refuses (layouts.TooFine faces kept) (plan, cut, why) = record {
-      bytes = read.bytes;
-      whole = read.whole;
-      said = inr (plan, record { soup = soup; mesh = record { said = read.said; manifold = manifold }; cut = cut }, why);
-    }
-    refuses (layouts.Doubled u v cert) (plan, cut, why) = record {
-      bytes = read.bytes;
-      whole = read.whole;
-      said = inr (plan, record { soup = soup; mesh = record { said = read.said; manifold = manifold }; cut = cut }, why);
-    }
     refuses layouts.Memory why = tt
+    refuses _ (plan, cut, why) = record {
+      bytes = read.bytes;
+      whole = read.whole;
+      said = inr (plan, record { soup = soup; mesh = record { said = read.said; manifold = manifold }; cut = cut }, why);
+    }
 
 -- A text that was not put whole was not written whole.
 pub put_refused : {O : Type 0} (says : Bytes → Type 0) (fails : LayoutFail → Type 0) (out : Change) (before now : O) (text : Bytes) (fail : PutFail)

@@ -8,10 +8,10 @@ use Rattle.def_layout.specs.Plans.{Plan}
 use Rattle.def_run.specs.Causes.{Cause, Refused}
 use Rattle.def_run.specs.Remesh.{IsSettled, IsUntangled, RefusesLayout, RefusesToRemesh}
 use Rattle.def_run.specs.declared.answer.Answer.{Answer}
-use Rattle.def_run.specs.declared.answer.Answer.TheVariants.{Done, NotAccepted, Usage, Syntax, NotQuad, Range, Limit, NotManifold, Tangled, TooFine, Doubled, ReadFault, WriteFault, Memory}
+use Rattle.def_run.specs.declared.answer.Answer.TheVariants.{Done, Usage, Limit, Tangled, TooFine, Doubled, ReadFault, WriteFault, Memory}
 use Rattle.def_run.specs.declared.command.Command.{Command}
 use Rattle.def_run.specs.declared.command.Command.TheVariants.{Remesh}
-use Rattle.def_text.specs.declared.refusal.Which.TheVariants.{Bytes as AllBytes, Line, Vertices, Faces}
+use Rattle.def_text.specs.declared.refusal.Which.TheVariants.{Bytes as AllBytes}
 use Rattle.qm_top.proofs.Complete.{mesh_not_refused, not_too_long, one_cut, same_bytes}
 
 module _ (settings : Settings) (auto : Bool) (input out : Change) (held : IsUntangled settings input.told) where
@@ -20,17 +20,7 @@ module _ (settings : Settings) (auto : Bool) (input out : Change) (held : IsUnta
   by_layout (Tangled count) why = absurd (held.untangled count why)
   by_layout (TooFine faces kept) why = tt
   by_layout (Doubled u v cert) why = tt
-  by_layout Done why = absurd why
-  by_layout (NotAccepted other) why = absurd why
-  by_layout Usage why = absurd why
-  by_layout (Syntax line) why = absurd why
-  by_layout (NotQuad line corners) why = absurd why
-  by_layout (Range line) why = absurd why
-  by_layout (Limit which line) why = absurd why
-  by_layout (NotManifold place) why = absurd why
-  by_layout ReadFault why = absurd why
-  by_layout WriteFault why = absurd why
-  by_layout Memory why = absurd why
+  by_layout _ why = absurd why
 
   -- So are the bytes.
   by_bytes : (answer : Answer) → RefusesToRemesh settings auto held.bytes answer → IsSettled answer
@@ -47,22 +37,14 @@ module _ (settings : Settings) (auto : Bool) (input out : Change) (held : IsUnta
   pub settles : (answer : Answer) → Cause (Remesh settings auto) input out answer
       → IsSettled answer ⊎ ((answer ≡ Memory) ⊎ (Rose input.faults input.faults_now ⊎ Rose out.faults out.faults_now))
   settles Done why = inl tt
-  settles (NotAccepted other) why = inl (refused _ why)
   settles Usage why = absurd why
-  settles (Syntax line) why = inl (refused _ why)
-  settles (NotQuad line corners) why = inl (refused _ why)
-  settles (Range line) why = inl (refused _ why)
   settles (Limit AllBytes line) why = absurd (not_too_long _ _ held.bytes held.held held.within why.1)
-  settles (Limit Line line) why = inl (refused _ why)
-  settles (Limit Vertices line) why = inl (refused _ why)
-  settles (Limit Faces line) why = inl (refused _ why)
-  settles (NotManifold place) why = inl (refused _ why)
-  settles (Tangled count) why = inl (refused _ why)
   settles (TooFine faces kept) why = inl tt
   settles (Doubled u v cert) why = inl tt
   settles ReadFault why = inr (inr (inl why))
   settles WriteFault why = inr (inr (inr why.fault))
   settles Memory why = inr (inl refl)
+  settles _ why = inl (refused _ why)
 
 -- The same of the answer that a run gives, and of a line's one command.
 pub settles_as : (read : Command) (settings : Settings) (auto : Bool) (input out : Change) (answer said : Answer) → answer ≡ said

@@ -1,6 +1,6 @@
 -- What a command keeps that writes a new mesh.
-use Rattle.std.specs.Prelude.{IfErr, OnOk}
-use Rattle.std.proofs.Common.{◌≡◌, ◌≢◌, Result, Ok, Err, refl}
+use Rattle.std.specs.Prelude.{IfErr, IsErrAnd, OnOk}
+use Rattle.std.proofs.Common.{◌≡◌, ◌≢◌, Result, Ok, Err, sym, subst, refl}
 use Rattle.def_io.specs.Bytes.{Bytes}
 use Rattle.def_io.specs.Moves.{Change}
 use Rattle.def_mesh.specs.declared.Place.{Place}
@@ -13,15 +13,19 @@ use Rattle.qm_top.specs.Refusals.{answer_of, answer_of_layout, Ended}
 use Rattle.qm_top.specs.Runs.{HasRun}
 use Rattle.qm_top.specs.Writing.{IsUnwritten, WroteText}
 use Rattle.qm_top.specs.declared.refusal.Refusal.{Refusal}
-use Rattle.qm_top.specs.declared.refusal.Refusal.TheVariants.{NotAccepted, Soup, NotManifold, Layout, Write}
+use Rattle.qm_top.specs.declared.refusal.Refusal.TheVariants.{NotManifold, Layout, Write}
 use Rattle.qm_top.specs.declared.refusal.Refusal.TheVariants as refusals
+
+-- What is said of a refusal that is handed on.
+pub handed_if : {T : Type 0} (P : Refusal → Type 0) (result : Result T Refusal) (r : Refusal) → IsErrAnd result (λ e. e ≡ r) → P r
+    → IfErr result P
+handed_if P (Ok x) r is p = absurd is
+handed_if P (Err e) r is p = subst P (sym is) p
 
 -- No layout's refusal names a place.
 layout_place : (fail : LayoutFail) (p : Place) → answer_of_layout fail ≡ answers.NotManifold p → ⊥
-layout_place (layouts.Tangled count) p is = cc
-layout_place (layouts.TooFine faces kept) p is = cc
-layout_place (layouts.Doubled u v cert) p is = cc
 layout_place layouts.Memory p is = cc
+layout_place _ p is = cc
 
 -- What is known of a command that has read its bytes: what it writes for them, and how it refuses their layout.
 pub record IsWriter (command : Command) (says : Bytes → Type 0) (fails : LayoutFail → Type 0) (input out : Change) : Type 0 where
@@ -50,18 +54,14 @@ module _ (command : Command) (says : Bytes → Type 0) (fails : LayoutFail → T
     calm = λ _ _. is.calm;
   }
   unwritten_ends before now refusals.Memory same = record { cause = tt; names = λ p same. cc; calm = λ _ _. is.calm }
-  unwritten_ends before now (Soup fail) none = absurd none
-  unwritten_ends before now (NotAccepted why) none = absurd none
-  unwritten_ends before now (NotManifold named) none = absurd none
+  unwritten_ends before now _ none = absurd none
 
   -- The sink is as it was, unless the write failed.
   same_sink : {O : Type 0} (before now : O) (r : Refusal) → IsUnwritten says fails out before now r → answer_of r ≢ answers.WriteFault → now ≡ before
   same_sink before now (Layout fail) none other = none.0
   same_sink before now (Write fail) broke other = absurd (other refl)
   same_sink before now refusals.Memory same other = same
-  same_sink before now (Soup fail) none other = absurd none
-  same_sink before now (NotAccepted why) none other = absurd none
-  same_sink before now (NotManifold named) none other = absurd none
+  same_sink before now _ none other = absurd none
 
   pub writer_runs : {O : Type 0} (before now : O) (result : Result (Unit {0}) Refusal)
       → OnOk result (WroteText says out) → IfErr result (IsUnwritten says fails out before now) → HasRun command input out before now result

@@ -6,9 +6,11 @@ ghost use Rattle.def_io.specs.Moves.{change, took, TookFront};
 ghost use Rattle.def_layout.specs.Plans.{plan};
 ghost use Rattle.def_remesh.specs.Placings.{IsLayoutIn};
 ghost use Rattle.def_remesh.specs.Refined.{refined_text};
+ghost use Rattle.def_run.specs.Refine.{IsRefined};
 ghost use Rattle.def_run.specs.declared.command.TheConstants.{MAX_MULTIPLE};
-ghost use Rattle.qm_top.specs.Refining.{ArePointsBy, HasNoPoints, IsNotRefined, WroteRefined};
+ghost use Rattle.qm_top.specs.Refining.{ArePointsBy, FailsToRefine, HasNoPoints};
 ghost use Rattle.qm_top.specs.Runs.{HasRun};
+ghost use Rattle.qm_top.specs.Writing.{IsUnwritten, WroteText};
 
 use crate::input::{MeshInput, read_mesh};
 use crate::refusal::Refusal;
@@ -52,9 +54,9 @@ fn refine_mesh<O: Sink>(alloc: Global, by: u32, read: MeshInput, out: &mut O) ->
     requires some { 1 ≤ by }
     requires few { by ≤ MAX_MULTIPLE }
     requires mesh { read.mesh ≡ read.soup.faces }
-    ensures done { OnOk result (WroteRefined by read.soup
+    ensures done { OnOk result (WroteText (IsRefined by read.soup)
         (change (O.taken out.old) (O.taken out.new) (O.faults out.old) (O.faults out.new))) }
-    ensures refused { IfErr result (IsNotRefined by read.soup
+    ensures refused { IfErr result (IsUnwritten (IsRefined by read.soup) (FailsToRefine by read.soup)
         (change (O.taken out.old) (O.taken out.new) (O.faults out.old) (O.faults out.new)) out.old out.new) }
 {
     let MeshInput { soup, mesh } = read;

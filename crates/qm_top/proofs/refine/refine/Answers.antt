@@ -1,6 +1,7 @@
 use Rattle.std.proofs.Common.{refl}
-use Rattle.qm_top.proofs.Refined.{refine_runs}
+use Rattle.qm_top.proofs.Refined.{refine_writer}
 use Rattle.qm_top.proofs.Refusals.{handed_run, input_ended, refine_needs}
+use Rattle.qm_top.proofs.Writers.{writer_runs}
 use Rattle.qm_top.proofs.refine.refine.Goals as goal
 
 pub returns-in_err-read : goal.returns-in_err-read
@@ -10,5 +11,5 @@ returns-in_err-read g c =
 
 pub returns : goal.returns
 returns g c =
-    refine_runs c.args.by _ _ c.in_ok-read.read.soup c.in_ok-read.ensures.manifold c.in_ok-read.ensures.soup c.in_ok-read.ensures.calm _ _
-    c.refine_mesh.result c.refine_mesh.ensures.done c.refine_mesh.ensures.refused
+    writer_runs _ _ _ _ _ (refine_writer c.args.by _ _ c.in_ok-read.read.soup c.in_ok-read.ensures.manifold c.in_ok-read.ensures.soup c.in_ok-read.ensures.calm)
+    _ _ c.refine_mesh.result c.refine_mesh.ensures.done c.refine_mesh.ensures.refused

@@ -10,8 +10,8 @@ use Rattle.def_remesh.specs.Keeping.{IsKept}
 use Rattle.def_remesh.specs.Placings.{IsLayoutIn}
 use Rattle.def_run.specs.Remesh.{IsCutTo}
 use Rattle.qm_top.specs.Writing.{refusal_of_put, text_of}
-use Rattle.qm_top.proofs.Refined.{handed_if}
 use Rattle.qm_top.proofs.Remeshed.{kept_remeshed, put_refused}
+use Rattle.qm_top.proofs.Writers.{handed_if}
 use Rattle.qm_top.proofs.remesh.remesh_mesh.Goals as goal
 
 pub write_remeshed-requires-clause-kept : goal.write_remeshed-requires-clause-kept
