@@ -1,10 +1,9 @@
 -- The nodes of a cut.
 use Rattle.std.specs.Prelude.{◌≡◌, ◌<◌, true, false, Some, None, ℕ, ◌+◌, Bool, ◌&&◌, ◌||◌, not, nat_lt, is_some, List}
 use Rattle.std.specs.Prelude.{filter, length}
-use Rattle.std.specs.List.{range_with_len}
 use Rattle.def_mesh.specs.Faces.{Faces}
 use Rattle.def_mesh.specs.Darts.{prev_of, twin_of}
-use Rattle.def_mesh.specs.Vertices.{fan_of, vertex_count}
+use Rattle.def_mesh.specs.Vertices.{fan_of}
 use Rattle.def_mesh.specs.Kinds.{is_regular}
 use Rattle.def_mesh.specs.HalfEdges.{HalfEdges}
 use Rattle.def_cut.specs.Cuts.{Cut, HasCross}
@@ -22,10 +21,6 @@ cut_degree faces marks v =
 -- A node is an irregular vertex, or one with at least three edges of the cut.
 abbrev pub is_node : (faces : Faces) (marks : List Bool) (v : ℕ) → Bool
 is_node faces marks v = not (is_regular faces v) || nat_lt 2 (cut_degree faces marks v)
-
--- All nodes, rising.
-abbrev pub nodes_of : (faces : Faces) (marks : List Bool) → List ℕ
-nodes_of faces marks = filter (is_node faces marks) (range_with_len 0 (vertex_count faces))
 
 -- What the laws of layouts need of nodes: other vertices of the cut lie on one straight line of it, inside or along the
 -- boundary, and nothing ends or turns there.
