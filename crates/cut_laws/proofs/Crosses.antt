@@ -95,10 +95,9 @@ module _ (mesh : HalfEdges) (laws : IsQuadManifold mesh) where
     four_cross fan = by_turns (cases_eq (turned mesh d 2) d) (cases_eq (turned mesh d 3) d) (cases_eq (turned mesh d 4) d)
       where
         down : (i j : ℕ) → i < j → turned mesh d i ≡ turned mesh d j → (k : ℕ) × (turned mesh d (suc k) ≡ d) × (suc k ≤ j)
-        down zero zero l e = absurd (omega arith)
         down zero (suc j) l e = (j, sym e, omega arith)
-        down (suc i) zero l e = absurd (omega arith)
         down (suc i) (suc j) l e = let r : (k : ℕ) × (turned mesh d (suc k) ≡ d) × (suc k ≤ j) = down i j (omega arith) (turned_same i j e) in (r.0, r.1, omega (arith, r.2))
+        down _ zero l e = absurd (omega arith)
 
         early : (turned mesh d 2 ≡ d → ⊥) → (turned mesh d 3 ≡ d → ⊥) → (turned mesh d 4 ≡ d → ⊥) → (k : ℕ) → turned mesh d (suc k) ≡ d → suc k ≤ 4 → ⊥
         early two three four zero e l = no_fix d leaves.low (turned_is 0 ∙ ap Some e)
@@ -199,8 +198,7 @@ module _ (mesh : HalfEdges) (laws : IsQuadManifold mesh) where
     four_apart (suc (suc (suc zero))) (suc zero) li lj e = absurd (a_c (sym e))
     four_apart (suc (suc (suc zero))) (suc (suc zero)) li lj e = absurd (step_apart b c low_b cross.third (sym e))
     four_apart (suc (suc (suc zero))) (suc (suc (suc zero))) li lj e = refl
-    four_apart i (suc (suc (suc (suc j)))) li lj e = absurd (omega arith)
-    four_apart (suc (suc (suc (suc i)))) j li lj e = absurd (omega arith)
+    four_apart _ _ li lj e = absurd (omega arith)
 
     pub four_some : AreSome mesh (mesh.from d) 4 (of_four d a b c)
     four_some = record { each = each; apart = four_apart }

@@ -5,11 +5,10 @@ use Rattle.def_cut.specs.Grids.{least_of}
 
 -- It is at most each of the numbers, and at least what all of them are.
 pub least_high : (xs : List ℕ) (k : ℕ) → k < length xs → least_of xs ≤ get_or xs k 0
-least_high [] k l = absurd (omega arith)
 least_high (x ∷ []) zero l = omega arith
-least_high (x ∷ []) (suc k) l = absurd (omega arith)
 least_high (x ∷ y ∷ xs) zero l = omega arith
 least_high (x ∷ y ∷ xs) (suc k) l = omega (arith, least_high (y ∷ xs) k (omega arith))
+least_high _ _ l = absurd (omega arith)
 
 pub least_low : (xs : List ℕ) (f : ℕ) → 0 < length xs → ((k : ℕ) → k < length xs → f ≤ get_or xs k 0) → f ≤ least_of xs
 least_low [] f some each = absurd (omega arith)

@@ -54,10 +54,9 @@ pub comes_back : (n : ℕ) (f : ℕ → ℕ) → ((k : ℕ) → k ≤ n → f k 
 comes_back n f low apart = let m : Meets f n = pigeon n f low in down m.0 m.1 m.2 m.3 m.4
   where
     down : (i j : ℕ) → i < j → j ≤ n → f i ≡ f j → (k : ℕ) × (k < n) × (f (suc k) ≡ f 0)
-    down zero zero l h e = absurd (omega arith)
     down zero (suc j) l h e = (j, omega arith, sym e)
-    down (suc i) zero l h e = absurd (omega arith)
     down (suc i) (suc j) l h e = down i j (omega arith) (omega arith) (apart i j (omega arith) (omega arith) e)
+    down _ zero l h e = absurd (omega arith)
 
 -- Where a value stands among the first m.
 abbrev place_in : (g : ℕ → ℕ) (m x : ℕ) → ℕ

@@ -1,5 +1,5 @@
 -- The definitions, computed on small meshes.
-use Rattle.std.proofs.Common.{◌≡◌, ◌<◌, ℕ, zero, suc, pos, List, [], ◌∷◌, map, Some, None, refl, sym, subst, inl, inr, arith}
+use Rattle.std.proofs.Common.{◌≡◌, ◌<◌, ℕ, zero, suc, pos, [], ◌∷◌, map, Some, None, refl, sym, subst, arith}
 use Rattle.std.proofs.lemmas.Bool.{false≢true}
 use Rattle.def_mesh.specs.Faces.{Faces}
 use Rattle.def_mesh.specs.Darts.{all_darts, from_of, straight_of, twin_of}
@@ -96,16 +96,11 @@ twice_place = record { is_dart = omega arith; before = omega arith; same = (refl
   where
     none : (j k : ℕ) → j < k → k < 4 → ¬ IsSameEdge twice j k
     none j zero l m s = absurd (omega arith)
-    none zero (suc zero) l m s = absurd (omega (arith, s.0))
-    none zero (suc (suc zero)) l m s = absurd (omega (arith, s.0))
-    none zero (suc (suc (suc zero))) l m s = absurd (omega (arith, s.0))
-    none (suc zero) (suc (suc zero)) l m s = absurd (omega (arith, s.0))
-    none (suc zero) (suc (suc (suc zero))) l m s = absurd (omega (arith, s.0))
-    none (suc (suc zero)) (suc (suc (suc zero))) l m s = absurd (omega (arith, s.0))
     none (suc j) (suc zero) l m s = absurd (omega arith)
     none (suc (suc j)) (suc (suc zero)) l m s = absurd (omega arith)
     none (suc (suc (suc j))) (suc (suc (suc zero))) l m s = absurd (omega arith)
     none j (suc (suc (suc (suc k)))) l m s = absurd (omega arith)
+    none _ _ l m s = absurd (omega (arith, s.0))
 
 -- Two faces with one vertex in common: two fans.
 abbrev bow : Faces
@@ -126,14 +121,9 @@ bow_stays e (suc n) c =
   where
     by_dart : (d : ℕ) → d < 8 → 0 ≡ from_of bow d → AreNeighbours bow 0 d → d ≡ 0
     by_dart zero l s a = refl
-    by_dart (suc zero) l s a = absurd (omega (arith, s))
-    by_dart (suc (suc zero)) l s a = absurd (omega (arith, s))
-    by_dart (suc (suc (suc zero))) l s a = absurd (omega (arith, s))
     by_dart (suc (suc (suc (suc zero)))) l s a = absurd (bow_apart a)
-    by_dart (suc (suc (suc (suc (suc zero))))) l s a = absurd (omega (arith, s))
-    by_dart (suc (suc (suc (suc (suc (suc zero)))))) l s a = absurd (omega (arith, s))
-    by_dart (suc (suc (suc (suc (suc (suc (suc zero))))))) l s a = absurd (omega (arith, s))
     by_dart (suc (suc (suc (suc (suc (suc (suc (suc d)))))))) l s a = absurd (omega arith)
+    by_dart _ l s a = absurd (omega (arith, s))
 
 bow_two_fans : ¬ HasOneFan bow 0
 bow_two_fans one = let c : (n : ℕ) × Chain bow 0 4 n = one 0 4 (omega arith) (omega arith) refl refl in absurd (omega (arith, bow_stays 4 c.0 c.1))

@@ -141,8 +141,7 @@ module _ (faces : Faces) (laws : IsQuadManifold (half_edges faces)) (marks : Lis
               apart (suc (suc zero)) zero li lj e = absurd (x_z (sym e))
               apart (suc (suc zero)) (suc zero) li lj e = absurd (y_z (sym e))
               apart (suc (suc zero)) (suc (suc zero)) li lj e = refl
-              apart i (suc (suc (suc j))) li lj e = absurd (omega arith)
-              apart (suc (suc (suc i))) j li lj e = absurd (omega arith)
+              apart _ _ li lj e = absurd (omega arith)
 
   -- A dart at a boundary vertex with two faces is the first one or the second one.
   pub record IsSecond (d a : ℕ) : Type 0 where
@@ -226,8 +225,7 @@ module _ (faces : Faces) (laws : IsQuadManifold (half_edges faces)) (marks : Lis
                   apart (suc (suc zero)) zero li lj e = absurd (ne e)
                   apart (suc (suc zero)) (suc zero) li lj e = absurd (a_b (sym e))
                   apart (suc (suc zero)) (suc (suc zero)) li lj e = refl
-                  apart i (suc (suc (suc j))) li lj e = absurd (omega arith)
-                  apart (suc (suc (suc i))) j li lj e = absurd (omega arith)
+                  apart _ _ li lj e = absurd (omega arith)
 
               by_place : (b ≡ d) ⊎ (b ≡ d → ⊥) → ⊥
               by_place (inl e) = false≢true (sym outer ∙ closed e)
@@ -328,8 +326,7 @@ module _ (faces : Faces) (laws : IsQuadManifold (half_edges faces)) (marks : Lis
                   apart (suc (suc zero)) zero li lj e = absurd (let f : 3 ≡ 0 = four 3 0 (omega arith) (omega arith) e in omega arith)
                   apart (suc (suc zero)) (suc zero) li lj e = absurd (let f : 3 ≡ 1 = four 3 1 (omega arith) (omega arith) e in omega arith)
                   apart (suc (suc zero)) (suc (suc zero)) li lj e = refl
-                  apart i (suc (suc (suc j))) li lj e = absurd (omega arith)
-                  apart (suc (suc (suc i))) j li lj e = absurd (omega arith)
+                  apart _ _ li lj e = absurd (omega arith)
 
               by_gap : GoesOn (half_edges faces) (is_on marks) (prev_of c) → ⊥
               by_gap (inl c_on) = with_c (ap (is_on marks) (sym (laws.next_prev c)) ∙ c_on)

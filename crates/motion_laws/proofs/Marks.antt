@@ -1,13 +1,12 @@
 -- Lists of marks and of riders by index, and lists of darts that differ.
-use Rattle.std.proofs.Common.{◌≡◌, ◌≢◌, ◌⊎◌, ℕ, zero, suc, ◌+◌, ◌<◌, ◌≤◌, Bool, true, false, cond, eqb, ◌||◌, List, [], ◌∷◌, ◌++◌, length, get_or, set, replicate, map, Option, Some, None, sym, subst, ap, ◌∙◌, refl, inl, inr, arith}
+use Rattle.std.proofs.Common.{◌≡◌, ◌≢◌, ◌⊎◌, ℕ, zero, suc, ◌+◌, ◌<◌, ◌≤◌, Bool, true, false, eqb, ◌||◌, List, [], ◌∷◌, ◌++◌, length, get_or, set, replicate, Option, Some, None, sym, ap, ◌∙◌, refl, inl, inr, arith}
 use Rattle.std.specs.List.{list_any}
 use Rattle.std.proofs.Math.Bool.{or-false}
-use Rattle.std.proofs.lemmas.Bool.{eq-eqb, ne_eqb, cases_eq, false≢true, false_from_ne_true, or_cases, cases_Bool}
-use Rattle.std.proofs.lemmas.List.{get_or-set_same, get_or-set_other, length-set, length-append}
-use Rattle.def_mesh.specs.HalfEdges.{HalfEdges, IsQuadManifold}
+use Rattle.std.proofs.lemmas.Bool.{eq-eqb, ne_eqb, cases_eq, false≢true, false_from_ne_true}
+use Rattle.std.proofs.lemmas.List.{get_or-set_same, get_or-set_other, length-set}
 use Rattle.def_cut.specs.FullCut.{is_on}
-use Rattle.def_cut.specs.Motion.{Terrain, is_among, is_found, is_met}
-use Rattle.def_cut.specs.Events.{mark_twin, marked_from, with_note, darts_in, note_at}
+use Rattle.def_cut.specs.Motion.{Terrain, is_among, is_found}
+use Rattle.def_cut.specs.Events.{mark_twin, marked_from, darts_in, note_at}
 use Rattle.cut_laws.proofs.Pigeon.{no_more}
 use Rattle.motion_laws.proofs.Among.{among_here, among_later, among_cases, AreApart}
 
@@ -32,11 +31,6 @@ pub none_on : (n d : ℕ) → is_on (replicate n false) d ≡ false
 none_on zero d = refl
 none_on (suc n) zero = refl
 none_on (suc n) (suc d) = none_on n d
-
-pub no_note : (n r : ℕ) → note_at (replicate n None) r ≡ None
-no_note zero r = refl
-no_note (suc n) zero = refl
-no_note (suc n) (suc r) = no_note n r
 
 pub no_darts : (n : ℕ) → darts_in (replicate n None) ≡ []
 no_darts zero = refl

@@ -32,18 +32,7 @@ way_is south south e = refl
 way_is east east e = refl
 way_is north north e = refl
 way_is west west e = refl
-way_is south east e = absurd (false≢true e)
-way_is south north e = absurd (false≢true e)
-way_is south west e = absurd (false≢true e)
-way_is east south e = absurd (false≢true e)
-way_is east north e = absurd (false≢true e)
-way_is east west e = absurd (false≢true e)
-way_is north south e = absurd (false≢true e)
-way_is north east e = absurd (false≢true e)
-way_is north west e = absurd (false≢true e)
-way_is west south e = absurd (false≢true e)
-way_is west east e = absurd (false≢true e)
-way_is west north e = absurd (false≢true e)
+way_is _ _ e = absurd (false≢true e)
 
 -- Whether the end on a side of a patch counts at the node of another side, there.
 counts_at : (p q : ℕ) (s w : Way) → is_on_side (node_of p s) (is_plus s) (end_at q w) ≡ ((q == p) && is_way s w)

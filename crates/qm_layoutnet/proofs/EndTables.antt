@@ -53,21 +53,10 @@ side_right end u a e = (
 -- Sides with one number are one.
 same_number : (s t : Way) → number s ≡ number t → s ≡ t
 same_number south south e = refl
-same_number south east e = absurd (omega arith)
-same_number south north e = absurd (omega arith)
-same_number south west e = absurd (omega arith)
-same_number east south e = absurd (omega arith)
 same_number east east e = refl
-same_number east north e = absurd (omega arith)
-same_number east west e = absurd (omega arith)
-same_number north south e = absurd (omega arith)
-same_number north east e = absurd (omega arith)
 same_number north north e = refl
-same_number north west e = absurd (omega arith)
-same_number west south e = absurd (omega arith)
-same_number west east e = absurd (omega arith)
-same_number west north e = absurd (omega arith)
 same_number west west e = refl
+same_number _ _ e = absurd (omega arith)
 
 module _ (l : Layout) (old : Lengths) (weight : Weight) (laid : IsLaid l) where
   -- The ends are those of the slots that are done, however that is said.

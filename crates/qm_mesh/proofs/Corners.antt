@@ -20,10 +20,9 @@ unseen seen (v ∷ vs) e (suc j) l = (or_parts _ _ (unseen (v ∷ seen) vs (none
 
 -- No two places have the same vertex.
 all_differ : (seen vs : List ℕ) → repeat_after seen vs ≡ None → (i j : ℕ) → i < j → j < length vs → get_or vs i 0 ≢ get_or vs j 0
-all_differ seen [] e i j l m = absurd (omega arith)
-all_differ seen (v ∷ vs) e i zero l m = absurd (omega arith)
 all_differ seen (v ∷ vs) e zero (suc j) l m = eqb-false v (get_or vs j 0) (or_parts _ _ (unseen (v ∷ seen) vs (none_by (list_any (λ u. eqb u v) seen) v (repeat_after (v ∷ seen) vs) e).1 j (omega arith))).0
 all_differ seen (v ∷ vs) e (suc i) (suc j) l m = all_differ (v ∷ seen) vs (none_by (list_any (λ u. eqb u v) seen) v (repeat_after (v ∷ seen) vs) e).1 i j (omega arith) (omega arith)
+all_differ seen _ e i _ l m = absurd (omega arith)
 
 pub repeat_free_from : (faces : Faces) → ((f : ℕ) → f < length faces → length (get_or faces f []) ≡ 4) → ((f : ℕ) → f < length faces → repeat_in (get_or faces f []) ≡ None) → IsRepeatFree faces
 repeat_free_from faces four none f i j low l m = all_differ [] (get_or faces f []) (none f low) i j l (omega (arith, four f low))

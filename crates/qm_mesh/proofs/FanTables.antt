@@ -1,7 +1,7 @@
 -- The table of fans as darts are added in order.
-use Rattle.std.proofs.Common.{◌≡◌, ℕ, zero, suc, ◌+◌, ◌<◌, true, false, eqb, List, [], ◌∷◌, ◌++◌, length, get_or, set, sym, ap, ◌∙◌, inl, inr, arith, replicate}
+use Rattle.std.proofs.Common.{◌≡◌, ℕ, zero, suc, ◌+◌, ◌<◌, true, false, eqb, List, [], ◌∷◌, ◌++◌, length, get_or, set, sym, ap, ◌∙◌, inl, inr, arith}
 use Rattle.std.proofs.lemmas.Bool.{cases_eq, eq-eqb, ne_eqb}
-use Rattle.std.proofs.lemmas.List.{append-nil, length-map, length-set, length-replicate, get_or-replicate, get_or-set_same, get_or-set_other}
+use Rattle.std.proofs.lemmas.List.{append-nil, length-map, length-set, get_or-set_same, get_or-set_other}
 use Rattle.std.specs.List.{filter, range_with_len}
 use Rattle.smallvec.specs.SmallVec.{SmallVec}
 use Rattle.def_mesh.specs.Faces.{Faces}
@@ -16,13 +16,6 @@ fan_read [] v fan l e = absurd (omega arith)
 fan_read (f ∷ fs) zero fan l e = ap (λ (x : SmallVec ℕ). x.items) e
 fan_read (f ∷ fs) (suc v) fan l e = fan_read fs v fan (omega arith) e
 
--- Empty fans hold the darts before the first.
-pub hold_none : (faces : Faces) (n : ℕ) (fans : List (SmallVec ℕ)) → fan_lists fans ≡ replicate n [] → HoldDarts faces n 0 fans
-hold_none faces n fans e = record {
-  long = ap length e ∙ length-replicate n [];
-  each = λ v l. rw e (get_or-replicate n v [] [] l);
-}
-
 -- The fan at v, with k put at the end where k leaves v.
 pub hold_more : (faces : Faces) (n k v : ℕ) (fans more : List (SmallVec ℕ)) → HoldDarts faces n k fans → v ≡ from_of faces k → v < n → fan_lists more ≡ set (fan_lists fans) v (fan_at fans v ++ k ∷ []) → HoldDarts faces n (k + 1) more
 hold_more faces n k v fans more h e low put = record { long = ap length put ∙ length-set _ v _ ∙ h.long; each = each }
@@ -34,9 +27,6 @@ hold_more faces n k v fans more h e low put = record { long = ap length put ∙ 
       | inr ne ↦ let t : eqb (from_of faces k) u ≡ false = ne_eqb _ _ (λ q. ne (sym q ∙ sym e)) in
           rw (put, filter_range_more (λ d. eqb (from_of faces d) u) k, t) (get_or-set_other (fan_lists fans) v u _ [] ne ∙ h.each u l ∙ sym (append-nil _))
     ]
-
-pub fans_whole : (faces : Faces) (n k : ℕ) (fans : List (SmallVec ℕ)) → HoldDarts faces n k fans → k ≡ darts faces → AreFans faces n fans
-fans_whole faces n k fans h e = record { long = h.long; each = λ v l. h.each v l ∙ ap (λ m. filter (λ d. eqb (from_of faces d) v) (range_with_len 0 m)) e }
 
 -- The fan that was read is that of its vertex.
 pub fan_found : (faces : Faces) (n v : ℕ) (fans : List (SmallVec ℕ)) (fan : SmallVec ℕ) → AreFans faces n fans → v < length fans → fan ≡ get_or fans v fan → fan.items ≡ fan_of faces v

@@ -1,20 +1,19 @@
 -- Reaches by the table of partners against chains of neighbours: a vertex has one fan where turns from one corner reach all.
-use Rattle.std.proofs.Common.{◌≡◌, ◌≢◌, ◌⊎◌, ℕ, zero, suc, ◌+◌, ◌/◌, ◌%◌, ◌<◌, Bool, true, false, not, cond, eqb, List, [], ◌∷◌, length, get_or, replicate, ◌≤◌, Some, None, sym, subst, ap, ◌∙◌, refl, inl, inr, arith}
+use Rattle.std.proofs.Common.{◌≡◌, ◌≢◌, ◌⊎◌, ℕ, zero, suc, ◌+◌, ◌/◌, ◌%◌, ◌<◌, Bool, true, false, not, cond, eqb, List, [], ◌∷◌, length, get_or, ◌≤◌, Some, None, sym, subst, ap, ◌∙◌, inl, inr, arith}
 use Rattle.std.proofs.lemmas.Bool.{cases_lt, cases_Bool, false≢true, eq-eqb, ne_eqb, false_from_ne_true}
-use Rattle.std.proofs.lemmas.Bool.Decides.{nat_tests}
 use Rattle.std.proofs.lemmas.Option.{none-some, same_Some}
 use Rattle.def_mesh.specs.Faces.{Faces, corner}
 use Rattle.def_mesh.specs.Darts.{darts, from_of, to_of, next_of, prev_of, IsTwin}
-use Rattle.def_mesh.specs.Manifold.{IsRepeatFree, HasEdgesOnce, AreNeighbours, Chain, HasOneFan, meet}
+use Rattle.def_mesh.specs.Manifold.{IsRepeatFree, HasEdgesOnce, Chain, HasOneFan}
 use Rattle.def_mesh.specs.Faults.{IsFirstTwoFans}
 use Rattle.qm_mesh.specs.Tables.{NamesBelow}
 use Rattle.qm_mesh.specs.Pairs.{IsPartner, ArePartners}
 use Rattle.qm_mesh.specs.Turns.{behind, beside_of, IsSeen, Reaches, IsClosed, IsBehind, IsVisit}
 use Rattle.mesh_laws.proofs.Darts.{next_of_low, prev_of_low, prev_of-next_of, next_of-prev_of}
-use Rattle.std.proofs.lemmas.List.{get_or_past, length-replicate, get_or-replicate}
+use Rattle.std.proofs.lemmas.List.{get_or_past}
 use Rattle.qm_laws.proofs.Filters.{last_or}
 use Rattle.mesh_laws.proofs.Fans.{IsFan}
-use Rattle.mesh_laws.proofs.Chains.{Step, neighbour_step, step_back, step_vertex, step_neighbour, step_once, twin_differs, chain_low, chain_vertex, chain_join, chain_back, before_from}
+use Rattle.mesh_laws.proofs.Chains.{Step, neighbour_step, step_back, step_vertex, step_neighbour, step_once, twin_differs, chain_low, chain_vertex, chain_join, chain_back}
 
 -- What the table of partners says is beside a corner is beside it, and all that.
 beside_found : (faces : Faces) (twins : List ℕ) → ArePartners faces twins → (left : Bool) (d e : ℕ) → d < darts faces → beside_of left twins d ≡ Some e → Step faces left d e × (e < darts faces)
@@ -135,13 +134,6 @@ visited faces twins v fan old new h used p free once c long visit = record {
   first_low = h.dart 0 used;
   first_at = h.leaves 0 used;
   unseen = λ d l e. not_seen faces v old c d l e;
-}
-
-pub checked_none : (faces : Faces) (seen : List Bool) (n : ℕ) → seen ≡ replicate n false → n ≡ darts faces → AreChecked faces 0 seen
-checked_none faces seen n is e = record {
-  long = ap length is ∙ length-replicate n false ∙ e;
-  marks = λ d l s. absurd (false≢true (sym (get_or-replicate n d false false (omega arith)) ∙ ap (λ xs. get_or xs d false) (sym is) ∙ s));
-  one_fan = λ u l. absurd (omega arith);
 }
 
 -- A vertex with one fan.

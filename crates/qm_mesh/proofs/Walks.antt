@@ -1,5 +1,5 @@
 -- Walks round a vertex: what stays so as a walk goes on, and two of them together.
-use Rattle.std.proofs.Common.{◌≡◌, ◌≢◌, ◌⊎◌, ℕ, suc, ◌<◌, Bool, true, false, not, List, length, get_or, set, Some, sym, subst, ap, ◌∙◌, refl, inl, inr}
+use Rattle.std.proofs.Common.{◌≡◌, ◌≢◌, ◌⊎◌, ℕ, suc, ◌<◌, Bool, true, false, not, List, length, get_or, set, Some, sym, subst, ap, ◌∙◌, inl, inr}
 use Rattle.std.proofs.lemmas.Bool.{cases_eq, cases_lt, cases_Bool, false≢true}
 use Rattle.std.proofs.lemmas.Option.{same_Some}
 use Rattle.std.proofs.lemmas.List.{get_or-set_same, get_or-set_other, get_or_past}
@@ -15,18 +15,6 @@ pub record IsWalkSoFar (left : Bool) (twins : List ℕ) (start at : ℕ) (old no
   pub closed : (d : ℕ) → d ≢ at → IsSeen now d → get_or old d false ≡ false → IsClosed left twins now d
   pub behind : (d : ℕ) → IsSeen now d → get_or old d false ≡ false → IsBehind left twins now d
   pub reached : (d : ℕ) → IsSeen now d → get_or old d false ≡ false → (n : ℕ) × Reaches twins start d n
-
-pub walk_none : (left : Bool) (twins : List ℕ) (start : ℕ) (seen : List Bool) → start < length twins → IsSeen seen start → IsWalkSoFar left twins start start seen seen
-walk_none left twins start seen low here = record {
-  low = low;
-  here = here;
-  came = (0, refl);
-  grown = λ d s. s;
-  start_closed = λ ne. absurd (ne refl);
-  closed = λ d ne s o. absurd (false≢true (sym o ∙ s));
-  behind = λ d s o. absurd (false≢true (sym o ∙ s));
-  reached = λ d s o. absurd (false≢true (sym o ∙ s));
-}
 
 -- A mark more.
 seen_more : (now : List Bool) (e d : ℕ) → IsSeen now d → IsSeen (set now e true) d

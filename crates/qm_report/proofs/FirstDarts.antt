@@ -18,10 +18,7 @@ from_firsts n (m ∷ ms) (d ∷ ds) (r ∷ rs) are low =
     All-cons (λ (x : Rider). x.start < n) r rs
     (subst (λ (x : ℕ). x < n) (sym are.0.start) (All-head (λ (x : ℕ). x < n) d ds low))
     (from_firsts n ms ds rs are.1 (All-tail (λ (x : ℕ). x < n) d ds low))
-from_firsts n [] [] (r ∷ rs) are low = absurd are
-from_firsts n [] (d ∷ ds) rs are low = absurd are
-from_firsts n (m ∷ ms) [] rs are low = absurd are
-from_firsts n (m ∷ ms) (d ∷ ds) [] are low = absurd are
+from_firsts n _ _ _ are low = absurd are
 
 -- These are darts of the mesh.
 pub starts_low : (faces : Faces) (ms : List Moving) (rs : List Rider)

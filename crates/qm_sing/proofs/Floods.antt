@@ -49,19 +49,6 @@ shared_dart faces m f h lh s = by_dart (range_any (λ x. list_any (is_reverse fa
     by_dart : (d : ℕ) × (4 * f ≤ d) × (d < 4 * f + 4) × (list_any (is_reverse faces d) (range_with_len (4 * h) 4) ≡ true) → (d : ℕ) × (e : ℕ) × (4 * f ≤ d) × (d < 4 * f + 4) × (twin_of faces d ≡ Some e) × (e / 4 ≡ h)
     by_dart (d, l, u, t) = by_twin d l u (range_any (is_reverse faces d) (4 * h) 4 t)
 
--- No side has been looked at.
-pub spread_none : (faces : Faces) (f component : ℕ) (numbers waiting : List ℕ) → length numbers ≡ length faces → ((g : ℕ) → Waits waiting g → g < length faces) → IsSpread faces f component 0 numbers numbers waiting waiting
-spread_none faces f component numbers waiting long low = record {
-  long = long;
-  kept = λ g l k. refl;
-  fresh = λ g l k is. absurd (k is);
-  near = λ d e l h w. absurd (omega arith);
-  waits = λ g w. w;
-  come = λ g w. inl w;
-  low = low;
-  less = omega arith;
-}
-
 -- One side more.
 pub spread_more : (faces : Faces) (f component i : ℕ) (old now w0 w : List ℕ) → component ≢ NONE → i < 4 → f < length faces → IsSpread faces f component i old now w0 w → IsSpread faces f component (i + 1) old (numbers_with (twin_of faces (4 * f + i)) component now) w0 (waiting_with (twin_of faces (4 * f + i)) now w)
 spread_more faces f component i old now w0 w ne less lf s = at (twin_of faces (4 * f + i)) refl

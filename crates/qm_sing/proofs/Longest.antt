@@ -6,8 +6,7 @@ use Rattle.std.proofs.lemmas.List.{length-append, length-replicate, map-append, 
 use Rattle.def_mesh.specs.Faces.{Faces}
 use Rattle.def_mesh.specs.Darts.{darts}
 use Rattle.def_mesh.specs.Manifold.{IsManifold}
-use Rattle.def_runs.specs.Runs.{AreRuns, Holds, IsBefore, IsLongestRun, first_dart, follower, is_closed, is_dart, last_dart, run_at}
-use Rattle.def_runs.specs.declared.RunTable.{RunTable}
+use Rattle.def_runs.specs.Runs.{Holds, IsBefore, IsLongestRun, first_dart, follower, is_closed, is_dart, last_dart, run_at}
 use Rattle.cut_laws.proofs.Pigeon.{sent_or_not}
 use Rattle.qm_sing.specs.declared.flooding.TheConstants.{NONE}
 use Rattle.qm_sing.specs.declared.lines.Line.{Line}
@@ -369,19 +368,3 @@ none_found faces run at is_run is_at = record {
     get_or_replicate_at zero e l = absurd (omega arith)
     get_or_replicate_at (suc n) zero l = refl
     get_or_replicate_at (suc n) (suc e) l = get_or_replicate_at n e (omega arith)
-
--- In the end all are.
-pub all_found : (faces : Faces) (table : RunTable) → AreRunsSoFar faces (darts faces) table.run.items table.at.items table.len.items table.closed.items → AreRuns faces table
-all_found faces table so = record {
-  lists = so.lists;
-  runs = so.found.runs;
-  least = so.found.least;
-  rising = so.found.rising;
-  run_long = so.run_long;
-  at_long = so.at_long;
-  run_low = λ d l. (so.found.there d l (so.found.all d l)).0;
-  at_low = λ d l. (so.found.there d l (so.found.all d l)).1;
-  stands = λ d l. (so.found.there d l (so.found.all d l)).2;
-  lengths = so.lengths;
-  closes = so.closes;
-}

@@ -1,17 +1,16 @@
 -- Components by number, and which vertices are seeds.
-use Rattle.std.proofs.Common.{◌≡◌, ◌⊎◌, ℕ, zero, suc, ◌+◌, ◌-◌, ◌/◌, ◌<◌, ◌≤◌, Bool, true, false, cond, not, eqb, ltb, ◌&&◌, ◌||◌, List, ◌∷◌, length, get_or, set, replicate, map, Some, is_some, sym, subst, ap, ◌∙◌, refl, inl, inr, arith}
+use Rattle.std.proofs.Common.{◌≡◌, ◌⊎◌, ℕ, zero, suc, ◌+◌, ◌-◌, ◌/◌, ◌<◌, ◌≤◌, Bool, true, false, cond, eqb, ltb, ◌&&◌, ◌||◌, List, ◌∷◌, length, get_or, set, Some, is_some, sym, subst, ap, ◌∙◌, refl, inl, inr, arith}
 use Rattle.std.specs.List.{filter, list_any, list_all, range_with_len}
-use Rattle.std.proofs.lemmas.Bool.{cases_Bool, cases_eq, cases_lt, cases_order, eq-eqb, ne_eqb, eqb-true, lt-ltb, le-ltb, ltb-true, ltb-false, or_left, or_right, or_cases, and_parts, and_from, false≢true, false_from_ne_true}
+use Rattle.std.proofs.lemmas.Bool.{cases_Bool, cases_eq, cases_lt, cases_order, eq-eqb, eqb-true, ltb-true, ltb-false, or_left, or_right, or_cases, and_parts, and_from, false≢true, false_from_ne_true}
 use Rattle.qm_laws.proofs.Tests.{same_test}
-use Rattle.std.proofs.lemmas.List.{get_or-set_same, get_or-set_other, length-set, length-replicate, get_or-replicate}
+use Rattle.std.proofs.lemmas.List.{get_or-set_same, get_or-set_other, length-set}
 use Rattle.std.proofs.lemmas.List.FromFn.{get_or-map-range_with_len}
 use Rattle.def_mesh.specs.Faces.{Faces}
 use Rattle.def_mesh.specs.Darts.{darts, all_darts, from_of, prev_of, twin_of}
 use Rattle.def_mesh.specs.Manifold.{IsManifold}
-use Rattle.def_mesh.specs.Vertices.{vertex_count, all_vertices, fan_of, faces_at}
-use Rattle.def_mesh.specs.Kinds.{is_inner, is_corner, is_singular, is_reflex, is_regular, kind_of}
+use Rattle.def_mesh.specs.Vertices.{vertex_count, fan_of, faces_at}
+use Rattle.def_mesh.specs.Kinds.{is_singular, is_reflex, is_regular, kind_of}
 use Rattle.def_mesh.specs.declared.Kind.{Kind}
-use Rattle.def_mesh.specs.declared.Kind.TheVariants.{Regular, Singular, Corner, Reflex}
 use Rattle.def_mesh.specs.Components.{is_marked, component_of, least_face, least_faces, place_among, component_numbers, vertices_in, is_ring, is_first, is_seed_in, seeds, is_start}
 use Rattle.def_mesh.specs.HalfEdges.{AreTurned, Turns, IsQuadManifold, half_edges}
 use Rattle.qm_laws.proofs.Filters.{any_in_range, range_any, last_or}
@@ -242,17 +241,6 @@ module _ (faces : Faces) (m : IsManifold faces) where
       by_seed : is_seed faces v ≡ true → (f : ℕ) × (e : ℕ) × (f < length faces) × (least_face faces f ≡ f) × (e < darts faces) × (from_of faces e ≡ v) × (least_face faces (e / 4) ≡ f) × ((x : ℕ) → x < darts faces → least_face faces (x / 4) ≡ f → (is_regular faces (from_of faces x) ≡ true) × (v ≤ from_of faces x)) → get_or marks v false ≡ true
       by_seed s (f, e, lf, own, le, at, ef, each) = ap (λ u. get_or marks u false) (sym at) ∙ k.all e le (ap (is_seed faces) at ∙ s)
 
--- The tables, dart by dart.
-pub rings_none : (faces : Faces) (regular : List Bool) (least : List ℕ) → regular ≡ replicate (length (least_faces faces)) true → least ≡ replicate (length (least_faces faces)) NONE → AreRings faces 0 regular least
-rings_none faces regular least e f = rw (e, f) (record {
-  regular_long = length-replicate (length (least_faces faces)) true;
-  least_long = length-replicate (length (least_faces faces)) NONE;
-  on = λ d l t. absurd (omega arith);
-  off = λ c l t. absurd (false≢true (sym t ∙ get_or-replicate (length (least_faces faces)) c true false (omega (arith, l, length-replicate (length (least_faces faces)) true))));
-  lowest = λ d l. absurd (omega arith);
-  there = λ c l. inl (get_or-replicate (length (least_faces faces)) c NONE 0 (omega (arith, l, length-replicate (length (least_faces faces)) NONE)));
-})
-
 pub rings_more : (faces : Faces) → IsManifold faces → (d : ℕ) → d < darts faces → (regular : List Bool) (least : List ℕ) → AreRings faces d regular least → AreRings faces (d + 1) (cond (is_regular faces (from_of faces d)) regular (set regular (number_of faces d) false)) (cond (ltb (from_of faces d) (get_or least (number_of faces d) 0)) (set least (number_of faces d) (from_of faces d)) least)
 rings_more faces m d ld regular least r = at (is_regular faces (from_of faces d)) (ltb (from_of faces d) (get_or least (number_of faces d) 0)) refl refl
   where
@@ -314,17 +302,6 @@ rings_more faces m d ld regular least r = at (is_regular faces (from_of faces d)
 
     at : (b e : Bool) → is_regular faces (from_of faces d) ≡ b → ltb (from_of faces d) (get_or least (number_of faces d) 0) ≡ e → AreRings faces (d + 1) (cond b regular (set regular (number_of faces d) false)) (cond e (set least (number_of faces d) (from_of faces d)) least)
     at b e is_b is_e = record { regular_long = reg_long b; least_long = least_l e; on = on b is_b; off = off b is_b; lowest = lowest e is_e; there = there e is_e }
-
-pub marks_none : (faces : Faces) (n : ℕ) (marks : List Bool) → marks ≡ replicate n false → AreSeedMarks faces n 0 marks
-marks_none faces n marks e = rw e (record {
-  long = length-replicate n false;
-  on = λ v t. absurd (by_place v t (cases_lt v n));
-  all = λ d l s. absurd (omega arith);
-})
-  where
-    by_place : (v : ℕ) → get_or (replicate n false) v false ≡ true → (v < n) ⊎ (n ≤ v) → ⊥
-    by_place v t (inl l) = false≢true (sym (get_or-replicate n v false false l) ∙ t)
-    by_place v t (inr h) = false≢true (sym (Rattle.std.proofs.lemmas.List.get_or_past (replicate n false) v false (omega (arith, h, length-replicate n false))) ∙ t)
 
 -- A dart whose vertex is a seed, or is none.
 pub marks_on : (faces : Faces) (n d : ℕ) (marks : List Bool) → from_of faces d < n → is_seed faces (from_of faces d) ≡ true → AreSeedMarks faces n d marks → AreSeedMarks faces n (d + 1) (set marks (from_of faces d) true)

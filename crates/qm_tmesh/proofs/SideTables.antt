@@ -1,12 +1,12 @@
 -- A side as it grows, use by use.
-use Rattle.std.proofs.Common.{◌≡◌, ◌⊎◌, ℕ, suc, ◌+◌, ◌<◌, ◌≤◌, Bool, true, List, [], ◌∷◌, ◌++◌, length, get_or, sym, ◌∙◌, ap, refl, inl, inr, length-append, arith}
+use Rattle.std.proofs.Common.{◌≡◌, ◌⊎◌, ℕ, suc, ◌+◌, ◌<◌, ◌≤◌, Bool, true, List, [], ◌∷◌, ◌++◌, length, get_or, sym, ◌∙◌, ap, inl, inr, length-append, arith}
 use Rattle.std.proofs.lemmas.Bool.{cases_lt}
 use Rattle.std.proofs.lemmas.List.{get_or_append_left, get_or-append-add}
 use Rattle.qm_laws.proofs.Counts.{count_below_same}
 use Rattle.def_layout.specs.Arcs.{Path, long_at}
 use Rattle.def_layout.specs.declared.tmesh.SideArc.{SideArc}
 use Rattle.qm_tmesh.specs.Uses.{use_in}
-use Rattle.qm_tmesh.specs.Sides.{reach_in, HasUseAt, IsSplit, IsSideOf, IsSideSoFar}
+use Rattle.qm_tmesh.specs.Sides.{reach_in, HasUseAt, IsSplit, IsSideSoFar}
 
 use_front : (used : List SideArc) (u : SideArc) (k : ℕ) → k < length used → use_in (used ++ u ∷ []) k ≡ use_in used k
 use_front used u k l = get_or_append_left used (u ∷ []) (record { arc = 0; forward = true }) k l
@@ -22,9 +22,6 @@ reach_end arcs used u =
     let n : length (used ++ u ∷ []) ≡ suc (length used) = length-append used (u ∷ []) ∙ omega arith in
     let last : long_at arcs (use_in (used ++ u ∷ []) (length used)).arc ≡ long_at arcs u.arc = ap (λ (x : SideArc). long_at arcs x.arc) (use_end used u) in
     ap (reach_in arcs (used ++ u ∷ [])) n ∙ omega (arith, last, reach_front arcs used u (length used) (omega arith))
-
-pub side_none : (arcs : List Path) (uses : List SideArc) (line : List ℕ) (begins : ℕ → Bool) → IsSplit arcs uses line begins → IsSideSoFar arcs uses line begins 0 []
-side_none arcs uses line begins split = record { at = refl; high = omega arith; next = split.first; each = λ k l. absurd (omega arith) }
 
 pub side_more : (arcs : List Path) (uses : List SideArc) (line : List ℕ) (begins : ℕ → Bool) (t next : ℕ) (used : List SideArc) (u : SideArc) → IsSplit arcs uses line begins → IsSideSoFar arcs uses line begins t used → t < length line → u ≡ use_in uses (get_or line t 0) → next ≡ t + long_at arcs u.arc → IsSideSoFar arcs uses line begins next (used ++ u ∷ [])
 side_more arcs uses line begins t next used u split so l is on = record {
@@ -52,6 +49,3 @@ side_more arcs uses line begins t next used u split so l is on = record {
             let same : k ≡ length used = omega (arith, length-append used (u ∷ [])) in
             let r : reach_in arcs (used ++ u ∷ []) k ≡ t = ap (reach_in arcs (used ++ u ∷ [])) same ∙ (reach_front arcs used u (length used) (omega arith) ∙ so.at) in
             (omega (arith, r), ap (use_in (used ++ u ∷ [])) same ∙ (use_end used u ∙ (is ∙ ap (λ x. use_in uses (get_or line x 0)) (sym r))))
-
-pub side_done : (arcs : List Path) (uses : List SideArc) (line : List ℕ) (begins : ℕ → Bool) (t : ℕ) (used : List SideArc) → IsSideSoFar arcs uses line begins t used → length line ≤ t → IsSideOf arcs uses line used
-side_done arcs uses line begins t used so far = record { total = so.at ∙ omega (arith, so.high); each = so.each }

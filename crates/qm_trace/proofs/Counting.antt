@@ -16,8 +16,6 @@ use Rattle.qm_trace.specs.Tables.{is_running}
 -- One rider and its note changed.
 pub tally_set : (p : Moving → Option ℕ → Bool) (rs : List Moving) (ns : List (Option ℕ)) (r : ℕ) (x : Moving) (n : Option ℕ) → r < length rs → r < length ns
     → tally p (set rs r x) (set ns r n) + more_if (p (rider_at rs r) (note_at ns r)) 0 ≡ tally p rs ns + more_if (p x n) 0
-tally_set p [] ns r x n l h = absurd (omega arith)
-tally_set p (q ∷ rs) [] r x n l h = absurd (omega arith)
 tally_set p (q ∷ rs) (k ∷ ns) zero x n l h = exchange (p x n) (p q k) (tally p rs ns)
   where
     exchange : (b c : Bool) (t : ℕ) → more_if b t + more_if c 0 ≡ more_if c t + more_if b 0
@@ -31,6 +29,7 @@ tally_set p (q ∷ rs) (k ∷ ns) (suc r) x n l h = behind (p q k) (tally_set p 
         → more_if b (tally p (set rs r x) (set ns r n)) + more_if (p (rider_at rs r) (note_at ns r)) 0 ≡ more_if b (tally p rs ns) + more_if (p x n) 0
     behind true e = omega (arith, e)
     behind false e = e
+tally_set p _ _ r x n l h = absurd (omega arith)
 
 pub tally_rider : (p : Moving → Option ℕ → Bool) (rs : List Moving) (ns : List (Option ℕ)) (r : ℕ) (x : Moving) → r < length rs → r < length ns
     → tally p (set rs r x) ns + more_if (p (rider_at rs r) (note_at ns r)) 0 ≡ tally p rs ns + more_if (p x (note_at ns r)) 0
@@ -44,8 +43,6 @@ tally_some p rs ns r l h e = omega (arith, tally_rider p rs ns r (rider_at rs r)
     one = ap (λ (b : Bool). more_if b 0) e
 
     zero_more : (p : Moving → Option ℕ → Bool) (rs : List Moving) (ns : List (Option ℕ)) (r : ℕ) → r < length rs → r < length ns → more_if (p (rider_at rs r) (note_at ns r)) 0 ≤ tally p rs ns
-    zero_more p [] ns r l h = absurd (omega arith)
-    zero_more p (q ∷ rs) [] r l h = absurd (omega arith)
     zero_more p (q ∷ rs) (k ∷ ns) zero l h = at (p q k)
       where
         at : (b : Bool) → more_if b 0 ≤ more_if b (tally p rs ns)
@@ -56,6 +53,7 @@ tally_some p rs ns r l h e = omega (arith, tally_rider p rs ns r (rider_at rs r)
         at : (b : Bool) → more_if (p (rider_at rs r) (note_at ns r)) 0 ≤ tally p rs ns → more_if (p (rider_at rs r) (note_at ns r)) 0 ≤ more_if b (tally p rs ns)
         at true e = omega (arith, e)
         at false e = e
+    zero_more p _ _ r l h = absurd (omega arith)
 
 pub tally_none : (p : Moving → Option ℕ → Bool) (rs : List Moving) (ns : List (Option ℕ)) → ((r : ℕ) → r < length rs → p (rider_at rs r) (note_at ns r) ≡ false) → tally p rs ns ≡ 0
 tally_none p [] ns none = refl
@@ -94,9 +92,8 @@ all_wait (q ∷ rs) (k ∷ ns) e = at q.stop (all_wait rs ns (omega arith))
 pub tally_runs : (rs : List Moving) (ns ms : List (Option ℕ)) → length ns ≡ length ms → tally runs_on rs ns ≡ tally runs_on rs ms
 tally_runs [] ns ms e = refl
 tally_runs (q ∷ rs) [] [] e = refl
-tally_runs (q ∷ rs) [] (k ∷ ms) e = absurd (omega arith)
-tally_runs (q ∷ rs) (k ∷ ns) [] e = absurd (omega arith)
 tally_runs (q ∷ rs) (k ∷ ns) (j ∷ ms) e = ap (more_if (is_running q.stop)) (tally_runs rs ns ms (omega arith))
+tally_runs (q ∷ rs) _ _ e = absurd (omega arith)
 
 -- At first all run.
 pub all_run : (starts : List ℕ) → tally runs_on (map begun starts) (replicate (length starts) None) ≡ length starts
@@ -121,10 +118,6 @@ pub untold_is : (g : Terrain) (stood : ℕ → Bool) (ds : List ℕ) (V : ℕ �
     → ((d : ℕ) → is_among d (darts_in ns) ≡ true → stop_of g stood ds d ≡ None → or_else (straight g d) d ≢ d)
     → eqb (tally is_untold rs ns) 0 ≡ list_all (λ d. V (end_of g d)) (darts_in ns)
 untold_is g stood ds V [] [] [] a onward = refl
-untold_is g stood ds V [] [] (n ∷ ns) a onward = absurd a
-untold_is g stood ds V [] (r ∷ rs) ns a onward = absurd a
-untold_is g stood ds V (b ∷ bs) [] ns a onward = absurd a
-untold_is g stood ds V (b ∷ bs) (r ∷ rs) [] a onward = absurd a
 untold_is g stood ds V (b ∷ bs) (r ∷ rs) (n ∷ ns) a onward = at n a.0 a.1 onward (untold_is g stood ds V bs rs ns a.2 (λ d m. onward d (later n d m)))
   where
     later : (o : Option ℕ) (d : ℕ) → is_among d (darts_in ns) ≡ true → is_among d (with_note o (darts_in ns)) ≡ true
@@ -153,6 +146,7 @@ untold_is g stood ds V (b ∷ bs) (r ∷ rs) (n ∷ ns) a onward = at n a.0 a.1 
         → eqb (more_if (is_untold r n) (tally is_untold rs ns)) 0 ≡ list_all (λ d. V (end_of g d)) (with_note n (darts_in ns))
     at None i s f rest = ap (λ (q : Bool). eqb (more_if q (tally is_untold rs ns)) 0) (not_noted r.stop r.dart) ∙ rest
     at (Some d) i s f rest = by_end d (V (end_of g d)) refl i s (f d (among_here d d (darts_in ns) refl)) rest
+untold_is g stood ds V _ _ _ a onward = absurd a
 
 -- Nobody is counted as running where nobody runs, and only there.
 pub over_is : (riders : Riders) (noted : List (Option ℕ)) → AreCounted riders noted → (eqb riders.running 0 ≡ true) ↔ ((r : ℕ) → r < length riders.list.items → ¬ ((rider_at riders.list.items r).stop ≡ None))

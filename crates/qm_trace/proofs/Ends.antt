@@ -151,8 +151,5 @@ stopped faces m r l = at (rider_at (last_state faces).riders r).stop refl
 -- One rider more is told.
 pub riders_more : (ms : List Moving) (ds : List ℕ) (rs : List Rider) (m : Moving) (d : ℕ) (r : Rider) → AreRiders ms ds rs → IsRiderOf m d r → AreRiders (ms ++ m ∷ []) (ds ++ d ∷ []) (rs ++ r ∷ [])
 riders_more [] [] [] m d r a i = (i, tt)
-riders_more [] [] (y ∷ rs) m d r a i = absurd a
-riders_more [] (x ∷ ds) rs m d r a i = absurd a
-riders_more (k ∷ ms) [] rs m d r a i = absurd a
-riders_more (k ∷ ms) (x ∷ ds) [] m d r a i = absurd a
 riders_more (k ∷ ms) (x ∷ ds) (y ∷ rs) m d r a i = (a.0, riders_more ms ds rs m d r a.1 i)
+riders_more _ _ _ m d r a i = absurd a

@@ -36,11 +36,8 @@ module _ (faces : Faces) (m : IsManifold faces) (k : ℕ) (taken : List Bool) (m
 
   -- Tests in a row, where the last answers need only agree if all tests fail.
   in_a_row : (a b c e : Bool) (w x y z u v : Option Stop) → (a ≡ false → b ≡ false → c ≡ false → e ≡ false → u ≡ v) → cond a w (cond b x (cond c y (cond e z u))) ≡ cond a w (cond b x (cond c y (cond e z v)))
-  in_a_row true b c e w x y z u v f = refl
-  in_a_row false true c e w x y z u v f = refl
-  in_a_row false false true e w x y z u v f = refl
-  in_a_row false false false true w x y z u v f = refl
   in_a_row false false false false w x y z u v f = f refl refl refl refl
+  in_a_row _ _ _ _ w x y z u v f = refl
 
   tie_or_on : (a b : Bool) (t : Option Stop) → cond (a || b) t None ≡ cond (not a && not b) None t
   tie_or_on true b t = refl

@@ -2,7 +2,6 @@
 use Rattle.std.proofs.Common.{◌≡◌, ℕ, zero, suc, ◌+◌, ◌-◌, ◌<◌, Bool, true, false, cond, List, [], ◌∷◌, ◌++◌, length, Option, Some, None, sym, subst, ap, ◌∙◌, refl, inl, inr, arith}
 use Rattle.std.proofs.lemmas.Option.{none-some, same_Some}
 use Rattle.std.proofs.lemmas.Bool.{cases_lt, false≢true, false_from_ne_true}
-use Rattle.qm_laws.proofs.Tests.{same_test}
 use Rattle.def_mesh.specs.Faces.{Faces}
 use Rattle.def_mesh.specs.Darts.{darts}
 use Rattle.def_mesh.specs.Manifold.{IsManifold}
@@ -19,8 +18,8 @@ use Rattle.def_cut.specs.Events.Event.{Ride}
 use Rattle.mesh_laws.proofs.Vertices.{all_below}
 use Rattle.motion_laws.proofs.Among.{AreApart, among_here, among_later, among_cases}
 use Rattle.motion_laws.proofs.Order.{IsWithin, within, rode, rode_low, at_last, runs_ridden}
-use Rattle.motion_laws.proofs.Shown.{AreShown, IsNoted, IsShown, long, noted_rides, shown_by}
-use Rattle.motion_laws.proofs.Steps.{is_next, next_is, stands}
+use Rattle.motion_laws.proofs.Shown.{AreShown, IsNoted, long, shown_by}
+use Rattle.motion_laws.proofs.Steps.{next_is, stands}
 use Rattle.motion_laws.proofs.Terrains.{IsReached}
 use Rattle.motion_laws.proofs.Traced.{after_reached}
 use Rattle.site_laws.proofs.Sites.{terrain, started}
@@ -41,11 +40,10 @@ noted_where (Some e ∷ ns) d m = elim (among_cases d e (darts_in ns) m) [
 ]
 
 pub noted_among : (ns : List (Option ℕ)) (r d : ℕ) → note_at ns r ≡ Some d → is_among d (darts_in ns) ≡ true
-noted_among [] r d e = absurd (none-some d e)
-noted_among (None ∷ ns) zero d e = absurd (none-some d e)
 noted_among (None ∷ ns) (suc r) d e = noted_among ns r d e
 noted_among (Some k ∷ ns) zero d e = among_here d k (darts_in ns) (sym (same_Some k d e))
 noted_among (Some k ∷ ns) (suc r) d e = among_later d k (darts_in ns) (noted_among ns r d e)
+noted_among _ _ d e = absurd (none-some d e)
 
 pub noted_short : (ns : List (Option ℕ)) (r d : ℕ) → note_at ns r ≡ Some d → r < length ns
 noted_short [] r d e = absurd (none-some d e)
@@ -55,12 +53,11 @@ noted_short (n ∷ ns) (suc r) d e = omega (arith, noted_short ns r d e)
 -- What each rider shows.
 pub shown_at : (g : Terrain) (stood : ℕ → Bool) (ds : List ℕ) (V : ℕ → Bool) (bs rs : List Moving) (ns : List (Option ℕ)) → AreShown g stood ds V bs rs ns → (r : ℕ) → r < length rs
     → IsNoted (rider_at bs r) (note_at ns r) × (rider_at rs r ≡ shown_by g stood ds V (rider_at bs r) (note_at ns r))
-shown_at g stood ds V [] [] ns a r l = absurd (omega arith)
 shown_at g stood ds V [] (q ∷ rs) ns a r l = absurd a
-shown_at g stood ds V (b ∷ bs) [] ns a r l = absurd (omega arith)
 shown_at g stood ds V (b ∷ bs) (q ∷ rs) [] a r l = absurd a
 shown_at g stood ds V (b ∷ bs) (q ∷ rs) (n ∷ ns) a zero l = (a.0, a.1)
 shown_at g stood ds V (b ∷ bs) (q ∷ rs) (n ∷ ns) a (suc r) l = shown_at g stood ds V bs rs ns a.2 r (omega arith)
+shown_at g stood ds V _ [] ns a r l = absurd (omega arith)
 
 -- At most one rider runs along a dart.
 pub one_rider_on : (rs : List Moving) → AreApart (ridden rs) → (i j : ℕ) → i < length rs → j < length rs → (rider_at rs i).stop ≡ None → (rider_at rs j).stop ≡ None → (rider_at rs i).dart ≡ (rider_at rs j).dart → i ≡ j
@@ -87,10 +84,9 @@ pub stop_alike : (g : Terrain) (one other : ℕ → Bool) (ds : List ℕ) (d : �
 stop_alike g one other ds d same = ap (λ (b : Bool). cond (is_met g ds d) (Some (Middle (g.half.from d) (end_of g d))) (cond (g.boundary (end_of g d)) (Some (Boundary (end_of g d))) (cond (g.singular (end_of g d)) (Some (Singular (end_of g d))) (cond b (Some (Trail (end_of g d))) (cond (goes_on g (arrivals g ds (end_of g d)) d) None (Some (Tie (end_of g d)))))))) same
 
 pub told_place : (g : Terrain) (stood : ℕ → Bool) (ds : List ℕ) (v : ℕ) (rs : List Moving) (ns : List (Option ℕ)) (r : ℕ) → length ns ≡ length rs → r < length rs → rider_at (all_told g stood ds v rs ns) r ≡ told_at g stood ds v (rider_at rs r) (note_at ns r)
-told_place g stood ds v [] ns r e l = absurd (omega arith)
-told_place g stood ds v (q ∷ rs) [] r e l = absurd (omega arith)
 told_place g stood ds v (q ∷ rs) (n ∷ ns) zero e l = refl
 told_place g stood ds v (q ∷ rs) (n ∷ ns) (suc r) e l = told_place g stood ds v rs ns r (omega arith) (omega arith)
+told_place g stood ds v _ _ r e l = absurd (omega arith)
 
 module _ (faces : Faces) (m : IsManifold faces) where
   -- A state to which events lead stands within an instant.

@@ -1,11 +1,11 @@
 -- The queue, rider by rider.
-use Rattle.std.proofs.Common.{◌≡◌, ℕ, zero, suc, ◌+◌, ◌<◌, Bool, true, false, cond, eqb, ◌||◌, List, [], ◌∷◌, ◌++◌, length, get_or, set, take, map, sym, ap, ◌∙◌, refl, inl, inr, arith}
+use Rattle.std.proofs.Common.{◌≡◌, ℕ, zero, suc, ◌+◌, ◌<◌, Bool, true, false, cond, eqb, ◌||◌, List, [], ◌∷◌, ◌++◌, length, get_or, set, take, sym, ap, ◌∙◌, refl, inl, inr, arith}
 use Rattle.std.proofs.Math.Bool.{or-false}
 use Rattle.std.specs.List.{filter}
 use Rattle.std.proofs.lemmas.Bool.{cases_eq, eq-eqb, ne_eqb, false≢true, false_from_ne_true, or_right}
 use Rattle.std.proofs.lemmas.List.{take_more, get_or-set_same, get_or-set_other}
 use Rattle.std.proofs.lemmas.List.Elements.{filter-append}
-use Rattle.std.proofs.lemmas.List.{map-append, append-nil}
+use Rattle.std.proofs.lemmas.List.{append-nil}
 use Rattle.def_mesh.specs.Faces.{Faces}
 use Rattle.def_cut.specs.Motion.{is_among, begun}
 use Rattle.def_cut.specs.Events.{rider_at}
@@ -13,7 +13,7 @@ use Rattle.def_cut.specs.declared.moving.Moving.{Moving}
 use Rattle.motion_laws.proofs.Among.{among_cases}
 use Rattle.motion_laws.proofs.Marks.{among_at}
 use Rattle.qm_trace.proofs.Marking.{among_more}
-use Rattle.qm_trace.specs.Tables.{AreEachOnce, AreRode, rode, dart_of}
+use Rattle.qm_trace.specs.Tables.{AreEachOnce, AreRode, rode}
 
 -- What stands at a place stands not before it.
 pub once : (q : List ℕ) (i : ℕ) → AreEachOnce q → i < length q → is_among (get_or q i 0) (take i q) ≡ false
@@ -40,10 +40,6 @@ rode_more faces stood now q i old riders rider a l low long is each r lr = elim 
 
     was : rider_at riders (get_or q i 0) ≡ rider_at old (get_or q i 0)
     was = unmoved faces stood now q i old riders a l low each
-
--- One dart more, and one rider more that runs.
-pub darts_more : (riders : List Moving) (q : List ℕ) (i : ℕ) → i < length q → map (dart_of riders) (take (i + 1) q) ≡ map (dart_of riders) (take i q) ++ dart_of riders (get_or q i 0) ∷ []
-darts_more riders q i l = ap (map (dart_of riders)) (take_more q i 0 l) ∙ map-append (dart_of riders) (take i q) (get_or q i 0 ∷ [])
 
 pub running_more : (p : ℕ → Bool) (q : List ℕ) (i : ℕ) → i < length q → filter p (take (i + 1) q) ≡ filter p (take i q) ++ cond (p (get_or q i 0)) (get_or q i 0 ∷ []) []
 running_more p q i l = ap (filter p) (take_more q i 0 l) ∙ filter-append p (take i q) (get_or q i 0 ∷ [])

@@ -33,9 +33,8 @@ pub untold_runs : (q : Moving) (n : Option ℕ) → is_untold q n ≡ true → (
 untold_runs q n e = at q.stop n refl e
   where
     at : (o : Option Stop) (n : Option ℕ) → q.stop ≡ o → is_untold_by o q.dart n ≡ true → (q.stop ≡ None) × (n ≡ Some q.dart)
-    at (Some s) n is e = absurd (false≢true e)
-    at None None is e = absurd (false≢true e)
     at None (Some d) is e = (is, ap Some (sym (eqb-true q.dart d e)))
+    at _ _ is e = absurd (false≢true e)
 
 pub runs_untold : (q : Moving) (n : Option ℕ) (d : ℕ) → q.stop ≡ None → q.dart ≡ d → n ≡ Some d → is_untold q n ≡ true
 runs_untold q n d run dart is = rw (run, is) (eq-eqb q.dart d dart)

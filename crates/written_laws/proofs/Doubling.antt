@@ -38,12 +38,7 @@ double_same (along a k) (along b m) e =
 double_same (inside p i j) (inside q k m) e =
     let patch : p ≡ q = cc in let c : 2 * i ≡ 2 * k = cc in let r : 2 * j ≡ 2 * m = cc in
     let column : i ≡ k = omega (arith, c) in let row : j ≡ m = omega (arith, r) in λ t. inside (patch t) (column t) (row t)
-double_same (node m) (along b k) e = absurd cc
-double_same (node m) (inside q i j) e = absurd cc
-double_same (along a k) (node n) e = absurd cc
-double_same (along a k) (inside q i j) e = absurd cc
-double_same (inside p i j) (node n) e = absurd cc
-double_same (inside p i j) (along b k) e = absurd cc
+double_same _ _ e = absurd cc
 
 -- The point in the middle of an edge of an arc, where the lengths are doubled.
 abbrev middle : (e : Edge) → Point

@@ -67,8 +67,6 @@ module _ (l : Layout) (x : Lengths) where
   pub edge_same : (e f : Edge) → IsEdge l x e → IsEdge l x f → edge_number e ≡ edge_number f → e ≡ f
   edge_same (on_arc a k) (on_arc b m) is_e is_f same =
       let s : (a ≡ b) × (k ≡ m) = place_same x l.arcs a k b m is_e.0 is_f.0 is_e.1 is_f.1 same in λ t. on_arc (s.0 t) (s.1 t)
-  edge_same (on_arc a k) (flat q c d) is_e is_f same = absurd (omega (arith, arc_place a k is_e, same))
-  edge_same (on_arc a k) (steep q c d) is_e is_f same = absurd (omega (arith, arc_place a k is_e, same))
   edge_same (flat p i j) (on_arc b m) is_e is_f same = absurd (omega (arith, arc_place b m is_f, same))
   edge_same (flat p i j) (flat q c d) is_e is_f same =
       let s : (p ≡ q) × ((j - 1) * wide l x p + i ≡ (d - 1) * wide l x q + c) =
@@ -98,6 +96,7 @@ module _ (l : Layout) (x : Lengths) where
           same_from_place j (i - 1) d (c - 1) (wide l x p - 1) (omega (arith, is_e.1, is_e.2)) (omega (arith, is_f.1, is_f.2, w)) place in
           let columns : i ≡ c = omega (arith, s.1, is_e.1, is_f.1) in
           λ t. steep (patch t) (columns t) (s.0 t)
+  edge_same (on_arc a k) _ is_e is_f same = absurd (omega (arith, arc_place a k is_e, same))
 
   -- Each number below the total is that of an edge.
   pub edge_onto : (n : ℕ) → n < edge_total → (e : Edge) × IsEdge l x e × (edge_number e ≡ n)

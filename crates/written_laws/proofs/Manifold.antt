@@ -140,10 +140,7 @@ module _ (l : Layout) (x : Lengths) (laid : IsLaid l) (len : AreLengths l x) whe
         at (suc zero) (suc (suc zero)) less four = side east north (ends_differ (dart_of l x f east) (is east))
         at (suc zero) (suc (suc (suc j))) less four = side east west (opposite_differ (dart_of l x f east) (is east))
         at (suc (suc zero)) (suc (suc (suc j))) less four = side north west (ends_differ (dart_of l x f north) (is north))
-        at i zero less four = absurd (omega arith)
-        at (suc i) (suc zero) less four = absurd (omega arith)
-        at (suc (suc i)) (suc (suc zero)) less four = absurd (omega arith)
-        at (suc (suc (suc i))) (suc (suc (suc j))) less four = absurd (omega arith)
+        at _ _ less four = absurd (omega arith)
 
     pub repeat_free : IsRepeatFree (new_faces l x)
     repeat_free f i j low less four same =

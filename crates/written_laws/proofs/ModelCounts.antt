@@ -63,12 +63,11 @@ module _ (l : Layout) (x : Lengths) (laid : IsLaid l) (len : AreLengths l x) whe
       arc_sum (suc n) low = omega (arith, arc_sum n (λ a less. low a (omega arith)), len.some n (low n (omega arith)))
 
       rectangle : (w h : ℕ) → 0 < w → 0 < h → (w - 1) * (h - 1) + w * h ≡ (h - 1) * w + h * (w - 1) + 1
-      rectangle zero h w_some h_some = absurd (omega arith)
-      rectangle (suc w) zero w_some h_some = absurd (omega arith)
       rectangle (suc w) (suc h) w_some h_some =
           let a : suc w - 1 ≡ w = omega arith in
           let b : suc h - 1 ≡ h = omega arith in
           rw (a, b) (omega arith)
+      rectangle _ _ w_some h_some = absurd (omega arith)
 
   module _ (F : Faces) (cell : Dart → ℕ) (model : IsModel F l x laid len cell) where
     vertex_dart : (v : ℕ) → is_used F v ≡ true → (d : Dart) × IsDart l x d × (from_of F (cell d) ≡ v)

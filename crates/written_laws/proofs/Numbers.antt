@@ -34,8 +34,6 @@ module _ (l : Layout) (x : Lengths) where
 
   pub number_same : (a b : Point) → IsPoint l x a → IsPoint l x b → number l x a ≡ number l x b → a ≡ b
   number_same (node m) (node n) is_a is_b e = ap node e
-  number_same (node m) (along b j) is_a is_b e = absurd (omega (arith, is_a, e))
-  number_same (node m) (inside q i j) is_a is_b e = absurd (omega (arith, is_a, e))
   number_same (along a k) (node n) is_a is_b e = absurd (omega (arith, is_b, e))
   number_same (along a k) (along b j) is_a is_b e =
       let s : (a ≡ b) × (k - 1 ≡ j - 1) =
@@ -62,3 +60,4 @@ module _ (l : Layout) (x : Lengths) where
           let i_same : i ≡ a = omega (arith, s.1, is_a.1, is_b.1) in
           let j_same : j ≡ b = omega (arith, s.0, is_a.3, is_b.3) in
           λ t. inside (same t) (i_same t) (j_same t)
+  number_same (node m) _ is_a is_b e = absurd (omega (arith, is_a, e))

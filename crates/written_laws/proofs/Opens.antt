@@ -302,10 +302,7 @@ module _ (l : Layout) (x : Lengths) (laid : IsLaid l) (len : AreLengths l x) (op
 
       both_arcs : (g h : Edge) → IsEdge l x g → IsEdge l x h → is_arc g ≡ true → is_arc h ≡ true → Joins l x g (low l x h) (top l x h) → g ≡ h
       both_arcs (on_arc a k) (on_arc b m) is_g is_h g_on h_on both = arcs_once a k b m is_g is_h both
-      both_arcs (on_arc a k) (flat q c d) is_g is_h g_on h_on both = absurd cc
-      both_arcs (on_arc a k) (steep q c d) is_g is_h g_on h_on both = absurd cc
-      both_arcs (flat p i j) h is_g is_h g_on h_on both = absurd cc
-      both_arcs (steep p i j) h is_g is_h g_on h_on both = absurd cc
+      both_arcs _ _ is_g is_h g_on h_on both = absurd cc
 
       by_kinds : (b c : Bool) → is_arc e ≡ b → is_arc f ≡ c → e ≡ f
       by_kinds b false e_kind f_kind = at (edge_spoke f is_f f_kind)

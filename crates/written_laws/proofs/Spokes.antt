@@ -42,21 +42,10 @@ tip_row j south = j - 1
 -- Directions that lead to one place are one.
 pub one_way : (i j : ℕ) (w v : Way) → 0 < i → 0 < j → tip_column i w ≡ tip_column i v → tip_row j w ≡ tip_row j v → w ≡ v
 one_way i j east east i_some j_some c r = refl
-one_way i j east north i_some j_some c r = absurd (omega arith)
-one_way i j east west i_some j_some c r = absurd (omega arith)
-one_way i j east south i_some j_some c r = absurd (omega arith)
-one_way i j north east i_some j_some c r = absurd (omega arith)
 one_way i j north north i_some j_some c r = refl
-one_way i j north west i_some j_some c r = absurd (omega arith)
-one_way i j north south i_some j_some c r = absurd (omega arith)
-one_way i j west east i_some j_some c r = absurd (omega arith)
-one_way i j west north i_some j_some c r = absurd (omega arith)
 one_way i j west west i_some j_some c r = refl
-one_way i j west south i_some j_some c r = absurd (omega arith)
-one_way i j south east i_some j_some c r = absurd (omega arith)
-one_way i j south north i_some j_some c r = absurd (omega arith)
-one_way i j south west i_some j_some c r = absurd (omega arith)
 one_way i j south south i_some j_some c r = refl
+one_way i j _ _ i_some j_some c r = absurd (omega arith)
 
 pub no_tip_at_hub : (i j : ℕ) (w : Way) → 0 < i → 0 < j → tip_column i w ≡ i → tip_row j w ≡ j → ⊥
 no_tip_at_hub i j east i_some j_some c r = omega arith
@@ -89,9 +78,8 @@ module _ (l : Layout) (x : Lengths) where
   arc_sort a k b m e = by_tests (k == 0) (k == x a) e
     where
       by_tests : (c d : Bool) → cond c (node (l.first a)) (cond d (node (l.last a)) (along a k)) ≡ along b m → (a ≡ b) × (k ≡ m)
-      by_tests true d s = absurd cc
-      by_tests false true s = absurd cc
       by_tests false false s = (cc, cc)
+      by_tests _ _ s = absurd cc
 
   module _ (laid : IsLaid l) (len : AreLengths l x) where
     -- The grid point that lies inside.

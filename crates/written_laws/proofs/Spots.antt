@@ -25,13 +25,11 @@ module _ (l : Layout) (x : Lengths) (paved : IsPaved l) (len : AreLengths l x) w
       → side_column l x p s t ≡ side_column l x p r u → side_row l x p s t ≡ side_row l x p r u → (s ≡ r) × (t ≡ u)
   place_once p south south t u low t_low u_low c r = (refl, c)
   place_once p south east t u low t_low u_low c r = absurd (omega (arith, c, t_low))
-  place_once p south north t u low t_low u_low c r = absurd (omega (arith, r, high_some l x paved len p low))
   place_once p south west t u low t_low u_low c r = absurd (omega (arith, r, u_low))
   place_once p east south t u low t_low u_low c r = absurd (omega (arith, c, u_low))
   place_once p east east t u low t_low u_low c r = (refl, r)
   place_once p east north t u low t_low u_low c r = absurd (omega (arith, r, t_low, len.upright p low))
   place_once p east west t u low t_low u_low c r = absurd (omega (arith, c, wide_some l x paved len p low))
-  place_once p north south t u low t_low u_low c r = absurd (omega (arith, r, high_some l x paved len p low))
   place_once p north east t u low t_low u_low c r = absurd (omega (arith, r, u_low, len.upright p low))
   place_once p north north t u low t_low u_low c r = (refl, omega (arith, c, t_low, u_low, len.across p low))
   place_once p north west t u low t_low u_low c r = absurd (omega (arith, c, t_low, len.across p low))
@@ -39,6 +37,7 @@ module _ (l : Layout) (x : Lengths) (paved : IsPaved l) (len : AreLengths l x) w
   place_once p west east t u low t_low u_low c r = absurd (omega (arith, c, wide_some l x paved len p low))
   place_once p west north t u low t_low u_low c r = absurd (omega (arith, c, u_low, len.across p low))
   place_once p west west t u low t_low u_low c r = (refl, omega (arith, r, t_low, u_low))
+  place_once p _ _ t u low t_low u_low c r = absurd (omega (arith, r, high_some l x paved len p low))
 
   -- A border dart tells its slot.
   pub rim_slot : (w v : Slot) (o k : ℕ) → IsSlot l w → IsSlot l v → o < x (use_of l w).arc → k < x (use_of l v).arc
@@ -87,8 +86,6 @@ module _ (l : Layout) (x : Lengths) (paved : IsPaved l) (len : AreLengths l x) w
   border_dart p south south i j t t_low is c r = inl (λ k. dart p (c k) (r k) south)
   border_dart p south east i j t t_low is c r =
       let a : i ≡ t - 1 = omega (arith, c) in inr (omega (arith, c), λ k. dart p (a k) (r k) east)
-  border_dart p south north i j t t_low is c r = absurd (omega (arith, r))
-  border_dart p south west i j t t_low is c r = absurd (omega (arith, r))
   border_dart p east south i j t t_low is c r = absurd (omega (arith, c, is.i_low))
   border_dart p east east i j t t_low is c r =
       let a : i ≡ wide l x p - 1 = omega (arith, c) in inl (λ k. dart p (a k) (r k) east)
@@ -114,6 +111,7 @@ module _ (l : Layout) (x : Lengths) (paved : IsPaved l) (len : AreLengths l x) w
   border_dart p west north i j t t_low is c r = absurd (omega (arith, c))
   border_dart p west west i j t t_low is c r =
       let b : j ≡ high l x p - 1 - t = omega (arith, r) in inl (λ k. dart p (c k) (b k) west)
+  border_dart p south _ i j t t_low is c r = absurd (omega (arith, r))
 
 -- The place on its side that lies o after the beginning of a slot's arc.
 abbrev pub place_at : (l : Layout) (x : Lengths) (w : Slot) (o : ℕ) → ℕ
