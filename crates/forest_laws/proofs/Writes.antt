@@ -31,9 +31,6 @@ outer_named l e off = cc
 pub inner_named : (l : Label) → l ≡ Inner → l ≢ Outside
 inner_named l e off = cc
 
-pub outer_not_inner : (l : Label) → l ≡ Outer → l ≢ Inner
-outer_not_inner l e off = cc
-
 -- Two sets that have nothing in common: what lies in just one of them.
 pub by_two : (p q : Bool) (x : ℤ) → (p ≡ true → q ≡ true → ⊥) → cond (cond p (not q) q) x (pos 0) ≡ cond p x (pos 0) +ℤ cond q x (pos 0)
 by_two true true x off = absurd (off refl refl)
@@ -44,9 +41,8 @@ by_two false false x off = omega (arith, ints)
 -- Nothing lies in just one of two equal sets.
 pub by_same : (p q : Bool) (x : ℤ) → p ≡ q → cond (cond p (not q) q) x (pos 0) ≡ pos 0
 by_same true true x e = refl
-by_same true false x e = absurd (cc e)
-by_same false true x e = absurd (cc e)
 by_same false false x e = refl
+by_same _ _ x e = absurd (cc e)
 
 -- A test with nothing on either side.
 pub by_none : (p : Bool) → cond p (pos 0) (pos 0) ≡ pos 0

@@ -16,7 +16,7 @@ use Rattle.def_flow.specs.declared.cert.CertVerdict.{CertVerdict}
 use Rattle.def_flow.specs.declared.cert.CertVerdict.TheVariants.{Count, Below, Unequal, Sums}
 use Rattle.def_flow.specs.declared.cert.CertVerdict.TheVariants.{Yes as Accepted}
 use Rattle.def_matching.specs.declared.weighted.Verdict.{Verdict}
-use Rattle.def_matching.specs.declared.weighted.Verdict.TheVariants.{Yes, Shape, Even, Negative, Short}
+use Rattle.def_matching.specs.declared.weighted.Verdict.TheVariants.{Yes}
 use Rattle.qm_net.proofs.Balances.{no_side_past}
 use Rattle.qm_dual.proofs.Verdicts.{yes_says, says_yes}
 use Rattle.qm_units.proofs.Box.{own_box}
@@ -107,10 +107,7 @@ list_yes (Some v) after d other e = absurd (other v refl e)
 
 dual_yes : (v : Verdict) (after : CertVerdict) (d : ℤ) → refuse_dual v after ≡ Accepted d → (s : ℤ) × (v ≡ Yes s) × (after ≡ Accepted d)
 dual_yes (Yes s) after d e = (s, refl, e)
-dual_yes (Shape i) after d e = absurd cc
-dual_yes (Even k n) after d e = absurd cc
-dual_yes (Negative k) after d e = absurd cc
-dual_yes (Short k l m) after d e = absurd cc
+dual_yes _ after d e = absurd cc
 
 sums_yes : (far sum cost d : ℤ) → judged far sum cost ≡ Accepted d → sum ≡ cost
 sums_yes far sum cost d e = by_test (int_eq sum cost) refl e

@@ -1,18 +1,15 @@
 -- Sums on one side of the nodes, one arc at a time.
-use Rattle.std.proofs.Common.{◌≡◌, ℕ, zero, suc, ◌+◌, ◌*◌, ◌^◌, ◌<◌, ◌≤◌, Bool, true, false, not, cond, List, ◌∷◌, length, Option, Some, None, pos, refl, ◌∙◌, add-one, ltb-true, arith}
-use Rattle.std.specs.Prelude.{slice_index, IfSome, option_to_list, nat_lt}
-use Rattle.std.specs.List.{list_all}
-use Rattle.std.proofs.lemmas.Bool.{and_parts}
+use Rattle.std.proofs.Common.{◌≡◌, ℕ, zero, suc, ◌+◌, ◌*◌, ◌^◌, ◌<◌, ◌≤◌, Bool, true, false, not, cond, List, ◌∷◌, length, pos, refl, ◌∙◌, add-one, arith}
+use Rattle.std.specs.Prelude.{slice_index}
 use Rattle.def_math.specs.Sums.{total}
 use Rattle.def_math.specs.Tables.{at_place, IsRaised}
 use Rattle.qm_laws.proofs.Counts.{count_total, count_below_total}
 use Rattle.qm_laws.proofs.Sums.{total_same, total_below_same}
-use Rattle.qm_table.proofs.Tallies.{raised_as, raised_none, raised_twice, tally_low, tally_more}
-use Rattle.def_flow.specs.Network.{Network, IsWithinBounds, arc_at, ends}
+use Rattle.qm_table.proofs.Tallies.{raised_as, raised_none, tally_low, tally_more}
+use Rattle.def_flow.specs.Network.{arc_at, ends}
 use Rattle.def_flow.specs.Admissible.{AreLengths, entries, is_on_side, side_sum}
 use Rattle.def_flow.specs.declared.net.Arc.{Arc}
 use Rattle.def_flow.specs.declared.net.End.{End}
-use Rattle.qm_net.proofs.Within.{arc_bounded, ends_bounded}
 use Rattle.qm_cert.specs.Sides.{end_put, arc_put, side_count, AreSides}
 
 -- Adding at the node of an end that is on the side.
@@ -22,14 +19,6 @@ end_raised plus e x old new on raised = raised_as (at_place e.node x) (end_put p
 -- An end on the other side puts nothing.
 pub end_still : (plus : Bool) (e : End) (x : ℕ) (table : List ℕ) → cond plus e.plus (not e.plus) ≡ false → IsRaised (end_put plus e x) table table
 end_still plus e x table off = raised_none (end_put plus e x) table (λ v l. rw off (grind (arith)))
-
--- Where one end after the other is added, the arc is.
-pub one_put : (plus : Bool) (a : Arc) (x : ℕ) (old new : List ℕ) → a.right ≡ None → IsRaised (end_put plus a.left x) old new → IsRaised (arc_put plus a x) old new
-one_put plus a x old new none raised = raised_as (end_put plus a.left x) (arc_put plus a x) old new (λ v l. rw none (omega arith)) raised
-
-pub two_put : (plus : Bool) (a : Arc) (right : End) (x : ℕ) (old mid new : List ℕ) → a.right ≡ Some right → IsRaised (end_put plus a.left x) old mid → IsRaised (end_put plus right x) mid new → IsRaised (arc_put plus a x) old new
-two_put plus a right x old mid new some first second =
-    raised_as (λ v. end_put plus a.left x v + end_put plus right x v) (arc_put plus a x) old new (λ v l. rw some (omega arith)) (raised_twice (end_put plus a.left x) (end_put plus right x) old mid new first second)
 
 -- An end puts its length at most, and an arc twice its length.
 pub end_low : (plus : Bool) (e : End) (x v : ℕ) → end_put plus e x v ≤ x
@@ -63,14 +52,3 @@ side_is arcs xs plus v = count_below_total (λ i. arc_put plus (arc_at arcs i) (
 
     by_arc : (i : ℕ) → pos (arc_put plus (arc_at arcs i) (slice_index xs i) v) ≡ total (λ e. cond (is_on_side v plus e) (entries xs i) (pos 0)) (ends (arc_at arcs i))
     by_arc i = count_total (λ (e : End). end_put plus e (slice_index xs i) v) (ends (arc_at arcs i)) ∙ total_same _ _ (ends (arc_at arcs i)) (one i)
-
--- The ends of an arc of a network within bounds are at nodes.
-pub arc_in_bounds : (net : Network) (k : ℕ) → IsWithinBounds net → k < length net.arcs → ((arc_at net.arcs k).left.node < net.nodes) × IfSome (arc_at net.arcs k).right (λ e. e.node < net.nodes)
-arc_in_bounds net k bounds l = by_right (arc_at net.arcs k).right (ends_bounded net.nodes (arc_at net.arcs k) (arc_bounded net bounds k l))
-  where
-    left : End
-    left = (arc_at net.arcs k).left
-
-    by_right : (o : Option End) → list_all (λ e. nat_lt e.node net.nodes) (left ∷ option_to_list o) ≡ true → (left.node < net.nodes) × IfSome o (λ e. e.node < net.nodes)
-    by_right None on = (ltb-true left.node net.nodes (and_parts _ _ on).0, tt)
-    by_right (Some e) on = (ltb-true left.node net.nodes (and_parts _ _ on).0, ltb-true e.node net.nodes (and_parts _ _ (and_parts _ _ on).1).0)

@@ -1,11 +1,10 @@
 -- The load of an edge, by the sets around each of its ends and around both.
-use Rattle.std.proofs.Common.{◌≡◌, ℕ, zero, suc, ◌+◌, ◌-◌, ◌*◌, ◌^◌, ◌<◌, ◌≤◌, ◌==◌, ◌||◌, true, false, not, cond, List, length, ℤ, pos, ◌+ℤ◌, ◌-ℤ◌, refl, sym, ◌∙◌, ap, subst, set, add-one, inl, inr, ◌⊎◌, arith}
-use Rattle.std.specs.Prelude.{slice_index, slice_index_or, unsigned_abs}
+use Rattle.std.proofs.Common.{◌≡◌, ℕ, zero, suc, ◌+◌, ◌-◌, ◌*◌, ◌^◌, ◌<◌, ◌≤◌, ◌==◌, ◌||◌, true, false, not, cond, List, length, ℤ, pos, ◌+ℤ◌, ◌-ℤ◌, refl, sym, ◌∙◌, ap, set, inl, inr, ◌⊎◌, arith}
+use Rattle.std.specs.Prelude.{slice_index, unsigned_abs}
 use mir.Syntax.{w128}
 use mir.Val.{to_z, of_z}
 use Rattle.std.proofs.lemmas.Int.{ints}
 use Rattle.std.proofs.lemmas.Bool.{cases_eq, eq-eqb, ne_eqb, false_from_ne_true}
-use Rattle.std.proofs.lemmas.List.{length-set, get_or-set_same, get_or-set_other}
 use Rattle.def_math.specs.Sums.{total_below}
 use Rattle.qm_laws.proofs.Sums.{total_below_same, total_below_sum, total_below_none, total_below_one}
 use Rattle.def_matching.specs.Dual.{DualLists, IsNested, AreSmall, z_at}
@@ -62,22 +61,6 @@ named_around n d sums are (suc j) low = are.each j (omega arith) (omega arith)
 pub named_later : (n : ℕ) (d : DualLists) (k : ℕ) (sums : List ℤ) → AreSums n d (k + 1) sums → (entry : ℕ) → (entry ≡ 0) ⊎ ((k + 1 < entry) × (entry ≤ length d.z)) → named_sum sums entry ≡ around n d entry
 named_later n d k sums are zero later = sym (around_none n d)
 named_later n d k sums are (suc j) later = elim later [ inl e ↦ absurd (omega arith) | inr h ↦ are.each j (omega arith) (omega arith) ]
-
--- The sums from a set on, where those after it are known.
-pub sums_more : (n : ℕ) (d : DualLists) (k : ℕ) (sums : List ℤ) (value : ℤ) → k < length d.z → AreSums n d (k + 1) sums → value ≡ around n d (k + 1) → AreSums n d k (set sums k value)
-sums_more n d k sums value l are is = record { count = length-set sums k value ∙ are.count; each = each }
-  where
-    each : (j : ℕ) → k ≤ j → j < length d.z → slice_index_or (set sums k value) j (pos 0) ≡ around n d (suc j)
-    each j le lj = elim (cases_eq j k) [
-      | inl e ↦ subst (λ (i : ℕ). slice_index_or (set sums k value) i (pos 0) ≡ around n d (suc i)) (sym e) (get_or-set_same sums k value (pos 0) (omega (arith, are.count)) ∙ (is ∙ ap (around n d) (add-one k)))
-      | inr ne ↦ get_or-set_other sums k j value (pos 0) ne ∙ are.each j (omega arith) lj
-    ]
-
--- The same at the loop's index, which is one past the set.
-pub sums_step : (n : ℕ) (d : DualLists) (k : ℕ) (sums : List ℤ) (value : ℤ) → 0 < k → k ≤ length d.z → AreSums n d k sums → value ≡ around n d (k - 1 + 1) → AreSums n d (k - 1) (set sums (k - 1) value)
-sums_step n d k sums value some low are is =
-    let there : k - 1 + 1 ≡ k = omega arith in
-    sums_more n d (k - 1) sums value (omega arith) (rw there are) is
 
 -- The sets around exactly one of two entries, by those around each and those around both.
 pub apart_is : (n : ℕ) (d : DualLists) (a b entry : ℕ) → IsMeeting n (length d.z) d.up a b entry

@@ -4,7 +4,7 @@ use Rattle.std.specs.Prelude.{slice_index}
 use Rattle.std.proofs.lemmas.Bool.{cases_eq, cases_lt, eq-eqb, and_parts, and_from}
 use Rattle.qm_laws.proofs.Tests.{same_test}
 use Rattle.def_matching.specs.Dual.{IsNested}
-use Rattle.qm_dual.specs.Nest.{climbs, AreHeads, IsMeeting, HaveSameSets, left}
+use Rattle.qm_dual.specs.Nest.{climbs, AreHeads, IsMeeting, HaveSameSets}
 use Rattle.qm_dual.proofs.Climbs.{set_later, climb_on, climb_none, passed_further, passed_inner}
 use Rattle.qm_dual.proofs.OnPaths.{head_later, head_of_passed, past_head, from_head, path_chain}
 
@@ -81,7 +81,3 @@ meeting_found n m up heads nested are a b i j ai bj li lj same = elim (cases_lt 
 pub meeting_none : (n m : ℕ) (up : List ℕ) (a b : ℕ) → (a ≡ 0) ⊎ (b ≡ 0) → IsMeeting n m up a b 0
 meeting_none n m up a b (inl e) k = rw e (climb_none n up m k ∙ sym (ap (λ x. x && climbs n up m k b) (climb_none n up m k)))
 meeting_none n m up a b (inr e) k = rw e (climb_none n up m k ∙ sym (swapped (climbs n up m k a) (climbs n up m k 0) ∙ ap (λ x. x && climbs n up m k a) (climb_none n up m k)))
-
--- A climb has less left from a later entry, or from none.
-pub left_less : (m entry next : ℕ) → entry ≢ 0 → entry ≤ m → (next ≡ 0) ⊎ ((entry < next) × (next ≤ m)) → left m next < left m entry
-left_less m entry next some low later = grind (arith)

@@ -1,8 +1,8 @@
 -- The sizes of nested sets, as the sets pass on what they hold in their order.
-use Rattle.std.proofs.Common.{◌≡◌, ℕ, zero, suc, ◌+◌, ◌<◌, ◌≤◌, ◌≢◌, ◌==◌, ◌||◌, Bool, true, false, cond, min, List, length, replicate, add-one, refl, sym, ◌∙◌, ap, subst, inl, inr, ◌⊎◌, arith}
+use Rattle.std.proofs.Common.{◌≡◌, ℕ, zero, suc, ◌+◌, ◌<◌, ◌≤◌, ◌≢◌, ◌==◌, ◌||◌, Bool, true, false, cond, min, List, length, refl, sym, ◌∙◌, ap, subst, inl, inr, ◌⊎◌, arith}
 use Rattle.std.specs.Prelude.{slice_index}
 use Rattle.std.proofs.lemmas.Bool.{cases_eq, cases_lt, eq-eqb, ne_eqb, false_from_ne_true, cond-true, cond-false}
-use Rattle.std.proofs.lemmas.List.{get_or_past, length-set, length-replicate, get_or-replicate, get_or-set_same, get_or-set_other}
+use Rattle.std.proofs.lemmas.List.{get_or_past, length-set, get_or-set_same, get_or-set_other}
 use Rattle.def_math.specs.Counts.{count_below}
 use Rattle.qm_laws.proofs.Counts.{count_below_same, count_below_sum}
 use Rattle.def_matching.specs.Dual.{DualLists, IsNested, set_size}
@@ -94,35 +94,9 @@ tallies_low n m up vertices t sizes are k = elim (cases_lt k m) [
   | inr h ↦ omega (arith, get_or_past sizes k 0 (omega (arith, are.count)))
 ]
 
--- At first nothing is tallied.
-pub tallies_none : (n m : ℕ) (up : List ℕ) (t : ℕ → ℕ) → AreTallies n m up 0 t (replicate m 0)
-tallies_none n m up t = record { count = length-replicate m 0; each = λ k l. get_or-replicate m k 0 0 l }
-
 length_with : (sizes : List ℕ) (entry more : ℕ) → length (tally_with sizes entry more) ≡ length sizes
 length_with sizes zero more = refl
 length_with sizes (suc q) more = length-set sizes q (slice_index sizes q + more)
-
--- One vertex more.
-pub tallies_more : (n m : ℕ) (up : List ℕ) (v : ℕ) (sizes : List ℕ) → AreTallies n m up v (λ k. 0) sizes → slice_index up v ≤ m → AreTallies n m up (v + 1) (λ k. 0) (tally_with sizes (slice_index up v) 1)
-tallies_more n m up v sizes are low = record { count = length_with sizes (slice_index up v) 1 ∙ are.count; each = λ k l. at_entry k l (slice_index up v) refl low }
-  where
-    at_entry : (k : ℕ) → k < m → (entry : ℕ) → slice_index up v ≡ entry → entry ≤ m → slice_index (tally_with sizes entry 1) k ≡ tally n up (v + 1) 0 k
-    at_entry k l entry is low = rw (add-one v) (by_entry entry is low)
-      where
-        by_entry : (e : ℕ) → slice_index up v ≡ e → e ≤ m → slice_index (tally_with sizes e 1) k ≡ tally n up v 0 k + cond (slice_index up v == suc k) 1 0
-        by_entry zero is low = let off : (slice_index up v == suc k) ≡ false = ne_eqb (slice_index up v) (suc k) (λ e. omega arith) in rw off (omega (arith, are.each k l))
-        by_entry (suc q) is low = elim (cases_eq k q) [
-          | inl e ↦ at_set e
-          | inr ne ↦ let off : (slice_index up v == suc k) ≡ false = ne_eqb (slice_index up v) (suc k) (λ e. ne (omega arith)) in
-              rw off (omega (arith, are.each k l, get_or-set_other sizes q k (slice_index sizes q + 1) 0 ne))
-        ]
-          where
-            at_set : k ≡ q → slice_index (tally_with sizes (suc q) 1) k ≡ tally n up v 0 k + cond (slice_index up v == suc k) 1 0
-            at_set e =
-                let on : (slice_index up v == suc k) ≡ true = eq-eqb (slice_index up v) (suc k) (is ∙ ap suc (sym e)) in
-                let same : slice_index (tally_with sizes (suc q) 1) k ≡ slice_index sizes q + 1 = ap (slice_index (tally_with sizes (suc q) 1)) e ∙ get_or-set_same sizes q (slice_index sizes q + 1) 0 (omega (arith, are.count)) in
-                let old : slice_index sizes q ≡ tally n up v 0 k = ap (slice_index sizes) (sym e) ∙ are.each k l in
-                rw on (omega (arith, same, old))
 
 -- One set more has passed on what it holds.
 pub tallies_pass : (n m : ℕ) (up : List ℕ) → IsNested n m up → (k : ℕ) (sizes : List ℕ) → k < m → AreTallies n m up n (λ j. min j k) sizes → AreTallies n m up n (λ j. min j (k + 1)) (tally_with sizes (slice_index up (n + k)) (slice_index sizes k))

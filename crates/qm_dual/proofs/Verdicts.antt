@@ -32,8 +32,7 @@ shaped n d none = by_tests (length d.y == n) (length d.up == n + length d.z) ref
         later = λ i l. not-false (is_up n (length d.z) i (slice_index d.up i)) (none_below (λ j. not (is_up n (length d.z) j (slice_index d.up j))) (n + length d.z) off i l);
       },
     )
-    by_tests true false ny nu off = absurd cc
-    by_tests false b ny nu off = absurd cc
+    by_tests _ _ ny nu off = absurd cc
 
 -- A well shaped dual has no fault of the shape.
 pub no_shape_fault : (n : ℕ) (d : DualLists) → length d.y ≡ n → IsNested n (length d.z) d.up → shape_fault n d ≡ None

@@ -50,10 +50,6 @@ marked_same marks e xs off are = record {
       omega (arith, none, up, are.counts f));
 }
 
-pub marked_none : (marks : List Bool) (xs : List ℕ) → length xs ≡ 0 → AreMarked marks 0 xs
-marked_none marks [] none = record { rising = tt; each = λ k l. absurd (omega (arith, l)); counts = λ f. refl }
-marked_none marks (x ∷ xs) none = absurd (omega (arith, none))
-
 -- Nothing is chosen, and nothing waits.
 pub round_begins : (t : ForestTables) (marks : List Bool) (left : List (Option ℕ)) (m size : ℕ) (rest : ℕ → ℕ) → marks ≡ replicate m false → left ≡ replicate size None → ((v : ℕ) → v < length t.hand → rest v ≤ 1) → IsRound t marks left rest rest
 round_begins t marks left m size rest marks_is left_is once = record {

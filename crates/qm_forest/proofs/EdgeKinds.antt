@@ -139,10 +139,7 @@ module _ (g : Graph) (is : IsSmallGraph g) (f : Forest) (feasible : IsFeasible (
       grow_clash : (o : Bool) → cond o Grow Augment ≡ Shrink → ⊥
       grow_clash true x = cc x
       grow_clash false x = cc x
-  shrink_labels Outer Inner ma mb same k = absurd (cc k)
-  shrink_labels Inner b ma mb same k = absurd (cc k)
-  shrink_labels Outside Inner ma mb same k = absurd (cc k)
-  shrink_labels Outside Outside ma mb same k = absurd (cc k)
+  shrink_labels _ _ ma mb same k = absurd (cc k)
 
   -- An edge that closes a cycle: it joins two outer blossoms.
   pub record IsClosing : Type 0 where

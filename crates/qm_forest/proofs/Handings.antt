@@ -1,14 +1,13 @@
 -- Handing the vertices of the parts of a set over to their own leaders, one part after another.
-use Rattle.std.proofs.Common.{◌≡◌, ◌≢◌, ℕ, zero, suc, ◌<◌, ◌≤◌, ◌^◌, true, false, cond, List, length, get_or, ℤ, pos}
+use Rattle.std.proofs.Common.{◌≡◌, ◌≢◌, ℕ, zero, suc, ◌<◌, ◌≤◌, ◌^◌, true, false, List, length, get_or, ℤ, pos}
 use Rattle.std.proofs.Common.{◌+ℤ◌, ◌⊎◌, refl, sym, ◌∙◌, ap, subst, inl, inr, arith, length-set}
 use Rattle.std.proofs.Math.ListN.{set}
 use Rattle.std.specs.Prelude.{unsigned_abs}
-use Rattle.std.proofs.lemmas.Int.{ints}
 use Rattle.std.proofs.lemmas.Bool.{cases_eq, cases_Bool, cond-true, cond-false}
 use Rattle.def_forest.specs.Forests.{walk, set_at}
 use Rattle.forest_laws.specs.Walks.{writes}
 use Rattle.forest_laws.proofs.Writes.{set_here, set_there}
-use Rattle.qm_forest.specs.Gathers.{HasListAt, HasRenamed, IsRow, lists_at}
+use Rattle.qm_forest.specs.Gathers.{HasListAt, IsRow, lists_at}
 use Rattle.qm_forest.specs.Parts.{HasHandedOver, HasHandedRow, HasOwnLeader, HasPartLists}
 use Rattle.qm_forest.specs.declared.tables.Handles.{Handles}
 use Rattle.qm_forest.specs.declared.tables.Lists.{Lists}
@@ -22,26 +21,6 @@ writes_keep f place a (suc k) = by_place (cases_eq a (place k)) (writes_keep f p
     by_place : (a ≡ place k) ⊎ (a ≢ place k) → writes f place (λ j. f a) k a ≡ f a → set_at (writes f place (λ j. f a) k) (place k) (f a) a ≡ f a
     by_place (inl e) was = ap (set_at (writes f place (λ j. f a) k) (place k) (f a)) e ∙ set_here (writes f place (λ j. f a) k) (place k) (f a)
     by_place (inr ne) was = set_there (writes f place (λ j. f a) k) (place k) a (f a) ne ∙ was
-
--- The vertices of one part: they were renamed, or had the handle before.
-pub hand_renamed : (h h1 : Handles) (lists : Lists) (x handle : ℕ) → handle ≡ get_or lists.leader.items x 0 → HasRenamed h h1 lists x handle (pos 0)
-    → (v : ℕ) → get_or h1.hand.items v 0 ≡ cond (lists_at lists x v) (get_or lists.leader.items x 0) (get_or h.hand.items v 0)
-hand_renamed h h1 lists x handle e renamed v = renamed.hand v ∙ ap (λ k. cond (lists_at lists x v) k (get_or h.hand.items v 0)) e
-
-pub q_renamed : (h h1 : Handles) (lists : Lists) (x handle : ℕ) → HasRenamed h h1 lists x handle (pos 0) → (v : ℕ) → get_or h1.q.items v (pos 0) ≡ get_or h.q.items v (pos 0)
-q_renamed h h1 lists x handle renamed v = renamed.q v ∙ by_test (cases_Bool (lists_at lists x v))
-  where
-    by_test : (lists_at lists x v ≡ true) ⊎ (lists_at lists x v ≡ false) → cond (lists_at lists x v) (get_or h.q.items v (pos 0) +ℤ pos 0) (get_or h.q.items v (pos 0)) ≡ get_or h.q.items v (pos 0)
-    by_test (inl on) = cond-true (lists_at lists x v) (get_or h.q.items v (pos 0) +ℤ pos 0) (get_or h.q.items v (pos 0)) on ∙ omega (arith, ints)
-    by_test (inr off) = cond-false (lists_at lists x v) (get_or h.q.items v (pos 0) +ℤ pos 0) (get_or h.q.items v (pos 0)) off
-
-pub hand_kept : (h : Handles) (lists : Lists) (x : ℕ) → ((v : ℕ) → lists_at lists x v ≡ true → get_or h.hand.items v 0 ≡ get_or lists.leader.items x 0)
-    → (v : ℕ) → get_or h.hand.items v 0 ≡ cond (lists_at lists x v) (get_or lists.leader.items x 0) (get_or h.hand.items v 0)
-hand_kept h lists x same v = by_test (cases_Bool (lists_at lists x v))
-  where
-    by_test : (lists_at lists x v ≡ true) ⊎ (lists_at lists x v ≡ false) → get_or h.hand.items v 0 ≡ cond (lists_at lists x v) (get_or lists.leader.items x 0) (get_or h.hand.items v 0)
-    by_test (inl on) = same v on ∙ sym (cond-true (lists_at lists x v) (get_or lists.leader.items x 0) (get_or h.hand.items v 0) on)
-    by_test (inr off) = sym (cond-false (lists_at lists x v) (get_or lists.leader.items x 0) (get_or h.hand.items v 0) off)
 
 module _ (h0 h1 : Handles) (lists : Lists) (after : List ℕ) (front many set' k x : ℕ) (has : HasPartLists h0 lists after front many set') (l : k < many)
     (x_is : x ≡ walk (λ i. get_or after i 0) front k) (done : HasHandedRow h0 h1 lists after front k set') (row : IsRow (length after) after front many) where

@@ -47,10 +47,6 @@ list_has_last n next from to many set is =
     let w : (k : ℕ) × (suc k ≡ many) × (walk next from k ≡ to) = list_last n next from to many set is in
     (subst (λ x. x < n) w.2 (is.low w.0 (omega (arith, w.1))), subst (λ x. set x ≡ true) w.2 (list_member n next from to many set is w.0 (omega (arith, w.1))))
 
--- Where the last follows itself it is followed by no other member.
-pub last_alone : (n : ℕ) (next : ℕ → ℕ) (from to many : ℕ) (set : ℕ → Bool) → IsListed n next from to many set → (x : ℕ) → next x ≡ x → (k : ℕ) → suc k < many → walk next from k ≢ x
-last_alone n next from to many set is x fixed k l e = is.distinct k (suc k) (omega arith) l (e ∙ (sym fixed ∙ sym (ap next e)))
-
 -- A list as many members as it counts.
 pub list_count : (n : ℕ) (next : ℕ → ℕ) (from to many : ℕ) (set : ℕ → Bool) → IsListed n next from to many set → count_below (λ v. number (set v)) n ≡ many
 list_count n next from to many set is =

@@ -1,11 +1,11 @@
 -- One edge more, at whose ends the numbers are lowered to its cost.
-use Rattle.std.proofs.Common.{◌≡◌, ◌≢◌, ℕ, ◌+◌, ◌<◌, ◌≤◌, ◌^◌, List, length, get_or, ℤ, pos, ◌≤ℤ◌, ◌⊎◌, sym, ◌∙◌, ap, max, inl, inr, arith}
+use Rattle.std.proofs.Common.{◌≡◌, ◌≢◌, ℕ, ◌+◌, ◌<◌, ◌≤◌, ◌^◌, List, get_or, ℤ, pos, ◌≤ℤ◌, ◌⊎◌, sym, ◌∙◌, ap, max, inl, inr, arith}
 use Rattle.std.specs.Prelude.{unsigned_abs}
 use Rattle.std.proofs.lemmas.Int.{ints}
 use Rattle.std.proofs.lemmas.Bool.{cases_eq}
 use Rattle.def_matching.specs.Matching.{Graph, edge_at}
 use Rattle.def_matching.specs.declared.weighted.WEdge.{WEdge}
-use Rattle.qm_forest.specs.Ties.{AreFeasible, HasLowCosts, IsGreatestTo, IsLowered}
+use Rattle.qm_forest.specs.Ties.{HasLowCosts, IsGreatestTo, IsLowered}
 
 pub one_more_edge : (g : Graph) (most e : ℕ) (a b d : List ℤ) (x : WEdge) (c1 c2 : ℤ) → HasLowCosts g most e a → x ≡ edge_at g e → c1 ≡ x.cost → c2 ≡ x.cost → unsigned_abs (edge_at g e).cost ≤ most → IsLowered a b x.u c1 → IsLowered b d x.v c2 → HasLowCosts g most (e + 1) d
 one_more_edge g most e a b d x c1 c2 has x_is e1 e2 bound l1 l2 = record {
@@ -45,14 +45,6 @@ one_more_edge g most e a b d x c1 c2 has x_is e1 e2 bound l1 l2 = record {
         let cost : (edge_at g k).cost ≡ c2 = ap (λ j. (edge_at g j).cost) at ∙ sym cost2 in
         let same : get_or d (edge_at g k).v (pos 0) ≡ get_or d x.v (pos 0) = ap (λ j. get_or d j (pos 0)) place in
         omega (arith, ints, l2.least, same, cost)
-
--- No edge has more at its ends than twice its cost.
-pub lows_feasible : (g : Graph) (most : ℕ) (lows : List ℤ) → HasLowCosts g most (length g.edges) lows → most ≤ 2 ^ 60 → AreFeasible g lows
-lows_feasible g most lows has few = record {
-  size = has.size;
-  small = λ v. (let s : unsigned_abs (get_or lows v (pos 0)) ≤ most = has.small v in omega (arith, s, few));
-  edges = λ e l. omega (arith, ints, has.first e l, has.second e l);
-}
 
 -- The greatest of one cost more.
 pub one_more_cost : (g : Graph) (e most new cost : ℕ) → cost ≡ unsigned_abs (edge_at g e).cost → new ≡ max most cost → IsGreatestTo g e most → IsGreatestTo g (e + 1) new

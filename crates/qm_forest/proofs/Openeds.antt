@@ -18,10 +18,6 @@ use Rattle.qm_forest.specs.Ties.{labelled, linked, mated}
 use Rattle.qm_forest.specs.declared.expanding.Course.{Course}
 use Rattle.qm_forest.proofs.Openings.{IsJoined, IsRoute, are as the_are, inside as the_inside, in_tree as the_in_tree, joined as the_joined, opening_at as the_opening_at, opening_is as the_opening_is, out_is, part_around as the_part_around, around_part, part_other, part_outside, ring_from as the_ring_from, ring_is as the_ring_is, first_in, last_in, set_top}
 
--- A dart along the ring, or against it.
-side_forward : (f : Forest) (before x : ℕ) (s : Bool) → s ≡ true → side_dart f before x s ≡ f.nest.joint x
-side_forward f before x s on = cond-true s (f.nest.joint x) _ on
-
 even_is : (k i : ℕ) → k ≡ 2 * i → turn_label k ≡ Inner
 even_is k i e = cond-true (eqb (k % 2) 0) Inner Outer (eq-eqb (k % 2) 0 (omega (arith, e)))
 

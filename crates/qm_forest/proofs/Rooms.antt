@@ -1,5 +1,5 @@
 -- Tied tables with another room, and room that is blank.
-use Rattle.std.proofs.Common.{◌≡◌, ◌≢◌, ℕ, ◌+◌, ◌/◌, ◌<◌, ◌≤◌, Bool, false, List, length, get_or, replicate, Option, None, inl, inr, sym, ◌∙◌, ap, subst, arith}
+use Rattle.std.proofs.Common.{◌≡◌, ◌≢◌, ℕ, ◌+◌, ◌/◌, ◌<◌, ◌≤◌, length, get_or, None, inl, inr, sym, ◌∙◌, ap, subst, arith}
 use Rattle.std.proofs.lemmas.Bool.{cases_lt}
 use Rattle.std.proofs.lemmas.Grind.{get_or_default_zero}
 use Rattle.std.proofs.lemmas.List.{get_or_past, length-replicate}
@@ -10,41 +10,6 @@ use Rattle.qm_forest.specs.Rounds.{HasRoom, IsLaminar, IsRound, IsSoundFor}
 use Rattle.qm_forest.specs.declared.rounds.Round.{Round}
 use Rattle.qm_forest.proofs.Chosens.{round_begins}
 use Rattle.qm_forest.specs.Ties.{AreTied, HiddenTables}
-
--- The room says nothing of the other tables.
-pub tied_room : (t : ForestTables) (hid : HiddenTables) → AreTied t hid → (room : Option GraphSize) → AreTied (record t { room = room }) hid
-tied_room t hid tied room = record {
-  sizes = record {
-    few = tied.sizes.few;
-    vertices = tied.sizes.vertices;
-    top = tied.sizes.top;
-    q = tied.sizes.q;
-    off = tied.sizes.off;
-    following = tied.sizes.following;
-    touched = tied.sizes.touched;
-    base = tied.sizes.base;
-    label = tied.sizes.label;
-    mate = tied.sizes.mate;
-    link = tied.sizes.link;
-    rank = tied.sizes.rank;
-    after = tied.sizes.after;
-    joint = tied.sizes.joint;
-    head = tied.sizes.head;
-    parts = tied.sizes.parts;
-    leader = tied.sizes.leader;
-    first = tied.sizes.first;
-    last = tied.sizes.last;
-    room = tied.sizes.room;
-  };
-  nest = tied.nest;
-  numbers = tied.numbers;
-  trail = tied.trail;
-  pool = tied.pool;
-}
-
--- As many marks as there are, none of which stands.
-pub marks_blank : (marks : List Bool) (m : ℕ) → marks ≡ replicate m false → marks ≡ replicate (length marks) false
-marks_blank marks m e = e ∙ ap (λ k. replicate k false) (sym (ap length e ∙ length-replicate m false))
 
 -- The room of a forest is as large as what it comes to.
 module _ (t : ForestTables) (known : IsLaminar t) (whole : length t.up ≡ length t.hand + length t.hand / 2) (g : Graph) (valid : IsSoundFor g t) (n : ℕ) (round : Round) (sets y z : ℕ) (blank : IsBlank n round sets y z)

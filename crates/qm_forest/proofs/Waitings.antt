@@ -1,11 +1,11 @@
 -- Sets that wait, from the one with the most vertices on, and the sets in order.
-use Rattle.std.proofs.Common.{◌≡◌, ◌≢◌, ℕ, suc, ◌+◌, ◌*◌, ◌<◌, ◌≤◌, Bool, true, false, cond, eqb, sum_by, List, ◌∷◌, [], ◌++◌, length, get_or, Option, Some, None, ◌⊎◌, refl, sym, ◌∙◌, ap, subst, inl, inr, arith, length-set, get_or-set_same, get_or-set_other}
+use Rattle.std.proofs.Common.{◌≡◌, ◌≢◌, ℕ, suc, ◌+◌, ◌*◌, ◌<◌, ◌≤◌, Bool, false, cond, eqb, sum_by, List, ◌∷◌, [], ◌++◌, length, get_or, Option, Some, None, ◌⊎◌, refl, sym, ◌∙◌, ap, subst, inl, inr, arith, length-set, get_or-set_same, get_or-set_other}
 use Rattle.std.proofs.Math.ListN.{set}
 use Rattle.std.specs.List.{Contains}
 use Rattle.std.specs.List.Sorted.{IsNonDecreasingBy, IsPermutation, IsSorted}
 use Rattle.std.specs.Ordering.{is_lt, nat_cmp, ordering_then}
 use Rattle.std.specs.Prelude.{nat_lt}
-use Rattle.std.proofs.lemmas.Bool.{cases_eq, cases_lt, cond-false, cond-true, eq-eqb, le-ltb, lt-ltb, ne_eqb}
+use Rattle.std.proofs.lemmas.Bool.{cases_eq, cases_lt, cond-false, cond-true, le-ltb, lt-ltb, ne_eqb}
 use Rattle.std.proofs.lemmas.Bool.Decides.{nat_tests}
 use Rattle.std.proofs.lemmas.List.{get_or_read, get_or_past}
 use Rattle.std.proofs.lemmas.List.Elements.{All-push, Contains-push, Contains-append_left}
@@ -124,25 +124,6 @@ sets_more t b xs high live has = record {
     by_place : (c : ℕ) → length t.hand ≤ c → c < b + 1 → get_or t.parts c 0 ≢ 0 → (c ≡ b) ⊎ (c ≢ b) → Contains (xs ++ (get_or t.rank b 0, b) ∷ []) (get_or t.rank c 0, c)
     by_place c hc lc used (inl e) = subst (λ z. Contains (xs ++ (get_or t.rank b 0, b) ∷ []) (get_or t.rank z 0, z)) (sym e) (Contains-push xs (get_or t.rank b 0, b))
     by_place c hc lc used (inr ne) = Contains-append_left xs ((get_or t.rank b 0, b) ∷ []) (get_or t.rank c 0, c) (has.all c hc (omega (arith, lc, ne)) used)
-
-pub sets_same : (t : ForestTables) (b : ℕ) (xs : List (ℕ × ℕ)) → get_or t.parts b 0 ≡ 0 → HasSets t b xs → HasSets t (b + 1) xs
-sets_same t b xs none has = record {
-  counts = λ f. (
-      let here : live_at (length t.hand) (λ k. get_or t.parts k 0) b * f b ≡ 0 * f b = ap (λ (m : ℕ). m * f b) (dead (nat_lt b (length t.hand)) (eqb (get_or t.parts b 0) 0) (eq-eqb (get_or t.parts b 0) 0 none)) in
-      let up : count_below (λ c. live_at (length t.hand) (λ k. get_or t.parts k 0) c * f c) (b + 1) ≡ count_below (λ c. live_at (length t.hand) (λ k. get_or t.parts k 0) c * f c) (suc b) = (let o : b + 1 ≡ suc b = omega arith in ap (count_below (λ c. live_at (length t.hand) (λ k. get_or t.parts k 0) c * f c)) o) in
-      omega (arith, here, up, has.counts f));
-  each = λ k d l. record { rank = (has.each k d l).rank; high = (has.each k d l).high; low = omega (arith, (has.each k d l).low); live = (has.each k d l).live };
-  all = λ c hc lc used. by_place c hc lc used (cases_eq c b);
-}
-  where
-    dead : (low off : Bool) → off ≡ true → ◌≡◌ {A = ℕ} (cond low 0 (cond off 0 1)) 0
-    dead true off e = refl
-    dead false true e = refl
-    dead false false e = absurd (cc e)
-
-    by_place : (c : ℕ) → length t.hand ≤ c → c < b + 1 → get_or t.parts c 0 ≢ 0 → (c ≡ b) ⊎ (c ≢ b) → Contains xs (get_or t.rank c 0, c)
-    by_place c hc lc used (inl e) = absurd (used (ap (λ z. get_or t.parts z 0) e ∙ none))
-    by_place c hc lc used (inr ne) = has.all c hc (omega (arith, lc, ne)) used
 
 -- No set below the vertices' number is one.
 pub sets_none : (t : ForestTables) (xs : List (ℕ × ℕ)) → length xs ≡ 0 → HasSets t (length t.hand) xs

@@ -1,8 +1,8 @@
 -- Units and states by lows and caps, one arc and one unit at a time.
-use Rattle.std.proofs.Common.{◌≡◌, ℕ, zero, suc, ◌+◌, ◌-◌, ◌<◌, true, false, List, [], ◌∷◌, ◌++◌, length, drop, map, refl, sym, ◌∙◌, ap, add-one, add-zero, arith}
-use Rattle.std.specs.Prelude.{slice_index, slice_index_or, nat_lt}
+use Rattle.std.proofs.Common.{◌≡◌, ℕ, zero, suc, ◌+◌, ◌-◌, ◌<◌, true, false, List, [], ◌∷◌, ◌++◌, length, map, refl, sym, ◌∙◌, ap, add-one, add-zero, arith}
+use Rattle.std.specs.Prelude.{nat_lt}
 use Rattle.std.proofs.lemmas.Bool.Decides.{nat_tests}
-use Rattle.std.proofs.lemmas.List.{drop_more, length-append}
+use Rattle.std.proofs.lemmas.List.{length-append}
 use Rattle.def_flow.specs.Network.{Network}
 use Rattle.def_flow.specs.Units.{down, cap, run, units_from, states, states_at}
 use Rattle.def_flow.specs.declared.net.Arc.{Arc}
@@ -30,20 +30,6 @@ from_more net step a l n =
     let here : 0 + n ≡ n = omega arith in
     ap (units_from net step a l 0) (add-one n) ∙ (from_suc net step a l 0 n ∙ ap (λ k. units_from net step a l 0 n ++ unit_at net step a l k ∷ []) here)
 
--- The units from an arc on, and those from the next arc on.
-pub units_step : (net : Network) (step : ℕ) (arcs : List Arc) (ls cs : List ℕ) (k : ℕ) (d : Arc) → k < length arcs → length ls ≡ length arcs → length cs ≡ length arcs
-    → units_over net step (drop k arcs) (drop k ls) (drop k cs) ≡ units_from net step (slice_index_or arcs k d) (slice_index ls k) 0 (slice_index cs k) ++ units_over net step (drop (k + 1) arcs) (drop (k + 1) ls) (drop (k + 1) cs)
-units_step net step arcs ls cs k d l ll lc =
-    let inner_l : k < length ls = omega arith in
-    let inner_c : k < length cs = omega arith in
-    rw (drop_more arcs k d l, drop_more ls k 0 inner_l, drop_more cs k 0 inner_c) refl
-
--- The states from an arc on, and those from the next arc on.
-pub states_step : (cs js : List ℕ) (k : ℕ) → k < length cs → length cs ≡ length js → states_over (drop k cs) (drop k js) ≡ run (slice_index js k) (slice_index cs k) ++ states_over (drop (k + 1) cs) (drop (k + 1) js)
-states_step cs js k l same =
-    let inner : k < length js = omega arith in
-    rw (drop_more cs k 0 l, drop_more js k 0 inner) refl
-
 downs : (net : Network) (step : ℕ) (xs : List ℕ) → map (λ c. c - 2) (map (cap net step) xs) ≡ map (down net step) xs
 downs net step [] = refl
 downs net step (x ∷ xs) = let here : down net step x + 2 - 2 ≡ down net step x = omega arith in ap (λ d. d ∷ map (λ c. c - 2) (map (cap net step) xs)) here ∙ ap (λ ds. down net step x ∷ ds) (downs net step xs)
@@ -64,8 +50,5 @@ from_long net step a l k (suc n) = ap suc (from_long net step a l (k + 1) n)
 -- There is a state for each unit.
 pub states_long : (net : Network) (step : ℕ) (arcs : List Arc) (ls cs js : List ℕ) → length ls ≡ length arcs → length cs ≡ length arcs → length js ≡ length arcs → length (units_over net step arcs ls cs) ≡ length (states_over cs js)
 states_long net step [] ls [] js l c j = refl
-states_long net step [] ls (x ∷ cs) js l c j = absurd (omega arith)
-states_long net step (a ∷ arcs) [] cs js l c j = absurd (omega arith)
-states_long net step (a ∷ arcs) (x ∷ ls) [] js l c j = absurd (omega arith)
-states_long net step (a ∷ arcs) (x ∷ ls) (y ∷ cs) [] l c j = absurd (omega arith)
 states_long net step (a ∷ arcs) (x ∷ ls) (y ∷ cs) (z ∷ js) l c j = omega (arith, length-append (units_from net step a x 0 y) (units_over net step arcs ls cs), length-append (run z y) (states_over cs js), from_long net step a x 0 y, run_long z y, states_long net step arcs ls cs js (omega arith) (omega arith) (omega arith))
+states_long net step _ _ _ _ l c j = absurd (omega arith)

@@ -8,7 +8,7 @@ use Rattle.def_flow.specs.Units.{is_active, active_at}
 use Rattle.def_flow.specs.MatchingGraph.{are_alike}
 use Rattle.def_flow.specs.declared.net.End.{End}
 use Rattle.def_flow.specs.declared.units.ArcUnit.{ArcUnit}
-use Rattle.qm_units.specs.Marks.{choice, places, take_end, end_marks, marks_by, units_marks, rim_states, with_state, differ, mark_from, rim_marks}
+use Rattle.qm_units.specs.Marks.{choice, places, take_end, end_marks, marks_by, units_marks, differ, mark_from, rim_marks}
 use Rattle.qm_units.specs.Told.{width_by}
 use Rattle.qm_units.proofs.Pick.{choice_length}
 use Rattle.qm_gadget.specs.Marked.{right_marks, mark_if, rim_by, turn_marks}
@@ -90,12 +90,6 @@ units_marks_step room used us ons k u b l same =
     let inner : k < length ons = omega arith in
     rw (drop_more us k u l, drop_more ons k b inner) refl
 
-pub rim_states_step : (us : List ArcUnit) (ons : List Bool) (k : ℕ) (u : ArcUnit) (b : Bool) → k < length us → length us ≡ length ons
-    → rim_states (drop k us) (drop k ons) ≡ with_state (slice_index_or us k u).right (is_active (slice_index_or ons k b) (slice_index_or us k u).left) (rim_states (drop (k + 1) us) (drop (k + 1) ons))
-rim_states_step us ons k u b l same =
-    let inner : k < length ons = omega arith in
-    rw (drop_more us k u l, drop_more ons k b inner) refl
-
 -- The marks of the second end and of the edge inside, one after the other.
 pub right_alike : (old mid now : List ℕ) (k : ℕ) (room used : ℕ → ℕ) (on : Bool) (left right : End) → are_alike left right ≡ true
     → mid ≡ old ++ places k (end_marks room used (is_active on right) right) → now ≡ mid ++ places (k + room right.node) (not (is_active on left) ∷ []) → now ≡ old ++ places k (right_marks room used on left right)
@@ -132,13 +126,6 @@ marks_step m now k w part rest whole split width pushed =
     ap (λ l. l ++ places (k + w) rest) pushed
     ∙ (append_assoc m (places k part) (places (k + w) rest)
     ∙ ap (λ l. m ++ l) (ap (λ i. places k part ++ places (k + i) rest) (sym width) ∙ (sym (places_append k part rest) ∙ ap (places k) (sym split))))
-
--- The state of a unit at the rim, and those of the units after it.
-pub with_state_first : (o : Option End) (b : Bool) (bs : List Bool) → with_state o b bs ≡ with_state o b [] ++ bs
-with_state_first o b bs = grind (arith)
-
-pub if_width : (there m : Bool) → length (mark_if there m) ≡ cond there 1 0
-if_width there m = grind (arith)
 
 -- The marks of one vertex at the rim, and of those after it.
 rim_first : (there waits o p : Bool) (os : List Bool) → rim_by there waits (o ∷ p ∷ os) ≡ turn_marks there waits o false ++ rim_by true (differ waits o) (p ∷ os)

@@ -1,6 +1,6 @@
 -- Reading a rising list of edges unit by unit.
 use Rattle.std.proofs.Common.{◌≡◌, ℕ, zero, suc, ◌+◌, ◌*◌, ◌<◌, ◌≤◌, ◌==◌, Bool, true, false, not, cond, List, [], ◌∷◌, length, take, drop, map, Option, refl, sym, ◌∙◌, ap, subst, inl, inr, ◌⊎◌, add-zero, length-append, arith}
-use Rattle.std.specs.Prelude.{nat_lt, slice_index, slice_index_or}
+use Rattle.std.specs.Prelude.{nat_lt, slice_index_or}
 use Rattle.std.specs.Bool.{beq}
 use Rattle.std.proofs.lemmas.Bool.{cases_eq, cases_lt, eq-eqb, ne_eqb, lt-ltb}
 use Rattle.std.proofs.lemmas.Bool.Decides.{nat_tests}
@@ -27,11 +27,6 @@ none_below_first k high (e ∷ m) rising = let le : k ≤ e = rising.0 in grind 
 skip_none : (k high : ℕ) (m : List ℕ) → IsRising k high m → skip_below k m ≡ m
 skip_none k high [] rising = refl
 skip_none k high (e ∷ m) rising = let le : k ≤ e = rising.0 in let off : nat_lt e k ≡ false = grind (arith, nat_tests) in rw off refl
-
--- A list that rises from a bound on rises from a lower one on.
-pub rising_lower : (k j high : ℕ) (m : List ℕ) → k ≤ j → IsRising j high m → IsRising k high m
-rising_lower k j high [] le rising = tt
-rising_lower k j high (e ∷ m) le rising = (omega (arith, rising.0), rising.1, rising.2)
 
 -- Without the numbers below a bound it rises from the bound on.
 pub rising_skip : (k end high : ℕ) (m : List ℕ) → IsRising k high m → IsRising end high (skip_below end m)
@@ -126,10 +121,6 @@ widths_low nodes room lone us ons same = omega (
   units_length room (λ v. 0) (count_below room nodes) us ons same,
   length-append (units_links room (count_below room nodes) us) (rim_links (lone_vertex nodes room lone us) (first_fresh nodes room lone us) (rim (count_below room nodes) us)),
 )
-
--- The lengths from an arc on: its own, and those from the next on.
-pub lengths_step : (step : ℕ) (ls cs : List ℕ) (ons : List Bool) (k : ℕ) → k < length ls → length ls ≡ length cs → lengths_by step (drop k ls) (drop k cs) ons ≡ (slice_index ls k + trues (take (slice_index cs k) ons) * step) ∷ lengths_by step (drop (k + 1) ls) (drop (k + 1) cs) (drop (slice_index cs k) ons)
-lengths_step step ls cs ons k l same = let inner : k < length cs = omega arith in rw (drop_more ls k 0 l, drop_more cs k 0 inner) refl
 
 -- The lengths by lows and caps are those with so many units on.
 pub lengths_is : (net : Network) (step : ℕ) (xs : List ℕ) (ons : List Bool) → lengths_by step (map (low net step) xs) (map (cap net step) xs) ons ≡ lengths_on net step xs (steps_told net step xs ons)

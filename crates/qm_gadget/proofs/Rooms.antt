@@ -3,7 +3,7 @@ use Rattle.std.proofs.Common.{◌≡◌, ℕ, zero, suc, ◌+◌, ◌*◌, ◌%�
 use Rattle.std.specs.Prelude.{slice_index, slice_index_or, option_to_list}
 use mathlib.Core.Bool.{beq}
 use Rattle.std.proofs.lemmas.Bool.{cases_lt, ne_eqb}
-use Rattle.std.proofs.lemmas.List.{drop_more, drop_all, get_or_past, length-take}
+use Rattle.std.proofs.lemmas.List.{drop_more, get_or_past, length-take}
 use Rattle.def_math.specs.Counts.{count}
 use Rattle.def_flow.specs.Network.{EndsBelow}
 use Rattle.def_flow.specs.Units.{is_active, active_at, active, alone_active, rim_active}
@@ -11,7 +11,7 @@ use Rattle.def_flow.specs.declared.net.End.{End}
 use Rattle.def_flow.specs.declared.units.ArcUnit.{ArcUnit}
 use Rattle.qm_gadget.specs.Layout.{IsAtNodes, AreAtNodes}
 use Rattle.def_math.specs.Tables.{at_place, IsRaised, IsTally}
-use Rattle.qm_table.proofs.Tallies.{raised_as, raised_none, raised_twice, tally_low, tally_more}
+use Rattle.qm_table.proofs.Tallies.{raised_as, raised_none, tally_low, tally_more}
 use Rattle.qm_gadget.specs.Over.{end_active}
 use Rattle.qm_laws.proofs.Tests.{once_at_most}
 
@@ -36,14 +36,6 @@ end_raised e on old new active raised = raised_as (at_place e.node 1) (end_activ
 pub end_still : (e : End) (on : Bool) (table : List ℕ) → is_active on e ≡ false → IsRaised (end_active e on) table table
 end_still e on table off = raised_none (end_active e on) table (λ v l. rw off (grind (arith)))
 
--- Where one end after the other is counted, all active ends of a unit are.
-pub one_active : (u : ArcUnit) (on : Bool) (old new : List ℕ) → u.right ≡ None → IsRaised (end_active u.left on) old new → IsRaised (λ v. active_at v u on) old new
-one_active u on old new none raised = raised_as (end_active u.left on) (λ v. active_at v u on) old new (λ v l. rw none (omega arith)) raised
-
-pub two_active : (u : ArcUnit) (right : End) (on : Bool) (old mid new : List ℕ) → u.right ≡ Some right → IsRaised (end_active u.left on) old mid → IsRaised (end_active right on) mid new → IsRaised (λ v. active_at v u on) old new
-two_active u right on old mid new some first second =
-    raised_as (λ v. end_active u.left on v + end_active right on v) (λ v. active_at v u on) old new (λ v l. rw some (omega arith)) (raised_twice (end_active u.left on) (end_active right on) old mid new first second)
-
 -- 1 at most.
 pub end_low : (e : End) (on : Bool) (v : ℕ) → end_active e on v ≤ 1
 end_low e on v = once_at_most ((e.node == v) && is_active on e)
@@ -60,10 +52,9 @@ active_low v (u ∷ us) (on ∷ ons) = omega (arith, active_at_low v u on, activ
 
 -- One unit more.
 active_more : (v : ℕ) (us : List ArcUnit) (ons : List Bool) (k : ℕ) (u : ArcUnit) (b : Bool) → k < length us → length us ≡ length ons → active v (take (k + 1) us) (take (k + 1) ons) ≡ active v (take k us) (take k ons) + active_at v (slice_index_or us k u) (slice_index_or ons k b)
-active_more v [] ons k u b l same = absurd (omega arith)
-active_more v (w ∷ us) [] k u b l same = absurd (omega arith)
 active_more v (w ∷ us) (o ∷ ons) zero u b l same = omega arith
 active_more v (w ∷ us) (o ∷ ons) (suc k) u b l same = let next : suc k + 1 ≡ suc (k + 1) = omega arith in rw next (omega (arith, active_more v us ons k u b (omega arith) (omega arith)))
+active_more v _ _ k u b l same = absurd (omega arith)
 
 pub rooms_more : (us : List ArcUnit) (ons : List Bool) (k nodes : ℕ) (u : ArcUnit) (b : Bool) (old new : List ℕ) → k < length us → length us ≡ length ons → IsTally (λ v. active v (take k us) (take k ons)) nodes old
     → IsRaised (λ v. active_at v (slice_index_or us k u) (slice_index_or ons k b)) old new → IsTally (λ v. active v (take (k + 1) us) (take (k + 1) ons)) nodes new
@@ -78,9 +69,6 @@ pub rim_step : (us : List ArcUnit) (ons : List Bool) (k : ℕ) (u : ArcUnit) (b 
 rim_step us ons k u b l same =
     let inner : k < length ons = omega arith in
     rw (drop_more us k u l, drop_more ons k b inner) refl
-
-pub rim_end : (us : List ArcUnit) (ons : List Bool) (k : ℕ) → length us ≤ k → rim_active (drop k us) (drop k ons) ≡ 0
-rim_end us ons k h = rw (drop_all k us h) refl
 
 -- Past the nodes no end is active.
 pub unit_past : (nodes : ℕ) (u : ArcUnit) (on : Bool) → IsAtNodes nodes u → (v : ℕ) → nodes ≤ v → active_at v u on ≡ 0

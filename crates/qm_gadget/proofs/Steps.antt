@@ -1,8 +1,8 @@
 -- Lists in the box, by the steps that their entries are above the lows.
-use Rattle.std.proofs.Common.{◌≡◌, ℕ, suc, ◌+◌, ◌-◌, ◌*◌, ◌/◌, ◌%◌, ◌^◌, ◌<◌, ◌≤◌, ◌==◌, Bool, true, false, List, [], ◌∷◌, length, drop, map, refl, sym, ◌∙◌, ap, inl, inr, ◌⊎◌, length-append, arith}
+use Rattle.std.proofs.Common.{◌≡◌, ℕ, suc, ◌+◌, ◌-◌, ◌*◌, ◌/◌, ◌%◌, ◌^◌, ◌<◌, ◌≤◌, ◌==◌, Bool, true, false, List, [], ◌∷◌, length, map, refl, sym, ◌∙◌, ap, inl, inr, ◌⊎◌, length-append, arith}
 use Rattle.std.specs.Prelude.{slice_index}
 use Rattle.std.proofs.lemmas.Bool.{cases_lt}
-use Rattle.std.proofs.lemmas.List.{drop_more, get_or_past}
+use Rattle.std.proofs.lemmas.List.{get_or_past}
 use Rattle.def_math.specs.Counts.{count_below}
 use Rattle.def_flow.specs.Network.{Network}
 use Rattle.def_flow.specs.Units.{low, cap, units_over, units, states_over, states, active, rim_active}
@@ -44,9 +44,6 @@ pub ups_length : (step : ℕ) (ls ys : List ℕ) → length ls ≡ length ys →
 ups_length step [] ys same = refl
 ups_length step (l ∷ ls) [] same = absurd (omega arith)
 ups_length step (l ∷ ls) (y ∷ ys) same = ap suc (ups_length step ls ys (omega arith))
-
-pub ups_step : (step : ℕ) (ls ys : List ℕ) (k : ℕ) → k < length ls → length ls ≡ length ys → ups step (drop k ls) (drop k ys) ≡ ((slice_index ys k - slice_index ls k) / step) ∷ ups step (drop (k + 1) ls) (drop (k + 1) ys)
-ups_step step ls ys k l same = let inner : k < length ys = omega arith in rw (drop_more ls k 0 l, drop_more ys k 0 inner) refl
 
 -- Marks by lows and caps are those of the matching that is told.
 pub marks_over_is : (net : Network) (step : ℕ) (xs js : List ℕ) → places 0 (marks_over net step (map (low net step) xs) (map (cap net step) xs) js) ≡ matching_told net step xs js

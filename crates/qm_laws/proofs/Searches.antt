@@ -30,9 +30,8 @@ none_below p zero none k l = absurd (omega arith)
 none_below p (suc n) none k l = by_before (least p n) (p n) refl refl none (none_below p n)
   where
     by_before : (o : Option ℕ) (b : Bool) → least p n ≡ o → p n ≡ b → or_this o n b ≡ None → (least p n ≡ None → (i : ℕ) → i < n → p i ≡ false) → p k ≡ false
-    by_before (Some j) b was is off rest = absurd cc
-    by_before None true was is off rest = absurd cc
     by_before None false was is off rest = elim (cases_eq k n) [ inl e ↦ ap p e ∙ is | inr ne ↦ rest was k (omega arith) ]
+    by_before _ _ was is off rest = absurd cc
 
 -- Tests that agree below the bound have the same least number.
 pub least_same : (p q : ℕ → Bool) (n : ℕ) → ((k : ℕ) → k < n → p k ≡ q k) → least p n ≡ least q n

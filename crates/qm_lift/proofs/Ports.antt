@@ -38,8 +38,6 @@ same_up false false e = refl
 -- What the test says is one, is one.
 pub same_is : (p q : Option Port) → is_same p q ≡ true → p ≡ q
 same_is None None e = refl
-same_is None (Some q) e = absurd (true≢false (sym e))
-same_is (Some p) None e = absurd (true≢false (sym e))
 same_is (Some p) (Some q) e = by_node (cases_eq p.node q.node)
   where
     by_node : (p.node ≡ q.node) ⊎ (p.node ≢ q.node) → Some p ≡ Some q
@@ -47,6 +45,7 @@ same_is (Some p) (Some q) e = by_node (cases_eq p.node q.node)
         let b : cond p.up q.up (not q.up) ≡ true = rw (eq-eqb q.node p.node (sym n)) at e in
         ap Some (same_port p q n (same_up p.up q.up b))
     by_node (inr n) = let f : false ≡ true = rw (ne_eqb q.node p.node (λ e. n (sym e))) at e in absurd (true≢false (sym f))
+same_is _ _ e = absurd (true≢false (sym e))
 
 -- What is one, the test says is one.
 pub is_same_self : (q : Option Port) → is_same q q ≡ true
@@ -83,10 +82,9 @@ weigh_low p None m le lt = absurd (omega (arith, ints))
 weigh_low p (Some q) m le lt = by_node (cases_eq p.node q.node)
   where
     by_up : (c d : Bool) → cond true (cond c (cond d m (neg_ℤ m)) (cond d (neg_ℤ m) m)) (pos 0) <ℤ pos 0 → (not d ≡ c) × (pos 0 <ℤ m)
-    by_up true true h = absurd (omega (arith, ints))
     by_up true false h = (refl, omega (arith, ints))
     by_up false true h = (refl, omega (arith, ints))
-    by_up false false h = absurd (omega (arith, ints))
+    by_up _ _ h = absurd (omega (arith, ints))
 
     by_node : (p.node ≡ q.node) ⊎ (p.node ≢ q.node) → (opposite (Some q) ≡ Some p) × (pos 0 <ℤ m)
     by_node (inl n) =

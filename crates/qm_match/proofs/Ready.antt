@@ -87,10 +87,9 @@ chains_ready g t first next fans valid d l =
 by_kind : (a b : Label) (ma mb : Option ℕ) (same : Bool) → a ≡ Outer → b ≡ Outside → mb ≡ None → kind_by a b ma mb same ≡ Augment
 by_kind Outer Outside ma None same ea eb em = refl
 by_kind Outer Outside ma (Some m) same ea eb em = absurd (cc em)
-by_kind Outer Outer ma mb same ea eb em = absurd (cc eb)
-by_kind Outer Inner ma mb same ea eb em = absurd (cc eb)
 by_kind Inner b ma mb same ea eb em = absurd (cc ea)
 by_kind Outside b ma mb same ea eb em = absurd (cc ea)
+by_kind Outer _ ma mb same ea eb em = absurd (cc eb)
 
 no_slack : (x : ℤ) → x ≡ pos 0 → int_lt (pos 0) x ≡ false
 no_slack x e = subst (λ y. int_lt (pos 0) y ≡ false) (sym e) refl

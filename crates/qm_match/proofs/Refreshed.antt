@@ -1,5 +1,5 @@
 -- Marks and keys that are made right.
-use Rattle.std.proofs.Common.{◌≡◌, ◌≢◌, ℕ, ◌*◌, ◌<◌, ◌≤◌, length, get_or, ◌⊎◌, refl, sym, ◌∙◌, ap, subst}
+use Rattle.std.proofs.Common.{◌≡◌, ◌≢◌, ℕ, ◌*◌, ◌<◌, ◌≤◌, length, get_or, ◌⊎◌, sym, ◌∙◌, ap, subst}
 use Rattle.std.specs.Vec.{vec_capacity}
 use Rattle.def_matching.specs.Matching.{Graph}
 use Rattle.def_forest.specs.Tables.{ForestTables, forest_of, IsValidFor}
@@ -10,7 +10,7 @@ use Rattle.search_laws.specs.Searches.{first_limit}
 use Rattle.qm_match.specs.States.{IsMade, IsRefreshed, IsFreshAt, MayRefresh}
 use Rattle.qm_match.specs.declared.fans.Fans.{Fans}
 use Rattle.qm_match.specs.declared.search.Search.{Search}
-use Rattle.qm_match.proofs.Mended.{mended_none, mended_on, stay_right, stays_right}
+use Rattle.qm_match.proofs.Mended.{mended_on, stay_right, stays_right}
 
 -- Room stays where all tables are as long as they were.
 pub made_like : (g : Graph) (old new : Search) → IsMade g old → ◌≡◌ {A = Fans × ℕ} (new.fans, new.first) (old.fans, old.first) → length new.forest.up ≡ length old.forest.up → length new.tour ≡ length old.tour → length new.inner.items ≡ length old.inner.items → g.n ≤ vec_capacity new.members → g.n ≤ vec_capacity new.parts → IsMade g new
@@ -51,10 +51,6 @@ refreshed_on g a b d p q = record {
   mended = mended_on g (forest_of a.forest) a.risen a.tour b.tour d.tour p.mended (subst (λ (t : ForestTables). IsMended g (forest_of t) a.risen b.tour d.tour) p.forest (subst (λ r. IsMended g (forest_of b.forest) r b.tour d.tour) p.risen q.mended));
   marked = λ x inner on. q.marked x (ap (λ (t : ForestTables). (forest_of t).label x) p.forest ∙ inner) (p.marked x inner on);
 }
-
--- Nothing is made right.
-pub refreshed_none : (g : Graph) (s : Search) → IsMade g s → IsRefreshed g s s
-refreshed_none g s made = record { forest = refl; risen = refl; first = refl; parts = refl; made = made; mended = mended_none g (forest_of s.forest) s.risen s.tour; marked = λ b inner on. on }
 
 -- What may be made right may still be.
 pub may_later : (g : Graph) (old new : Search) (b : ℕ) → IsRefreshed g old new → MayRefresh g old b → MayRefresh g new b

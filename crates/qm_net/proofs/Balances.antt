@@ -165,13 +165,6 @@ zeros_by_balanced arcs xs first bs are balanced = list_all-from_AllPass (λ z. i
         let zero_there : get_or bs j d ≡ pos 0 = omega (arith, ints, same, even, are.each j inner) in
         (Decides-int_eq (get_or bs j d) (pos 0)).1 zero_there
 
--- The test of the floor.
-pub high_by_test : (net : Network) (xs : List ℕ) → length xs ≡ length net.arcs → list_all (λ l. nat_le net.floor l) xs ≡ true → (k : ℕ) → k < length net.arcs → pos net.floor ≤ℤ entries xs k
-high_by_test net xs count on k l =
-    let passes : nat_le net.floor (slice_index xs k) ≡ true = AllPass-from_list_all (λ l. nat_le net.floor l) xs on k 0 (omega arith) in
-    let high : net.floor ≤ slice_index xs k = grind (arith, nat_tests) in
-    omega (arith, ints)
-
 pub test_by_high : (net : Network) (xs : List ℕ) → length xs ≡ length net.arcs → ((k : ℕ) → k < length net.arcs → pos net.floor ≤ℤ entries xs k) → list_all (λ l. nat_le net.floor l) xs ≡ true
 test_by_high net xs count high = list_all-from_AllPass (λ l. nat_le net.floor l) xs (λ j d l.
     let same : get_or xs j d ≡ get_or xs j 0 = get_or_default xs j d 0 l in

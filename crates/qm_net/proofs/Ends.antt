@@ -1,30 +1,21 @@
 -- Counts of ends, one arc at a time.
-use Rattle.std.proofs.Common.{◌≡◌, ℕ, ◌+◌, ◌*◌, ◌^◌, ◌<◌, ◌≤◌, ◌==◌, Bool, true, false, ◌&&◌, cond, List, [], ◌∷◌, length, take, Option, Some, None, refl, sym, ◌∙◌, ap, subst, inl, inr, arith}
-use Rattle.std.specs.Prelude.{slice_index, slice_index_or, option_to_list, nat_lt}
-use Rattle.std.specs.List.{list_all}
-use Rattle.std.proofs.lemmas.Bool.{cases_eq, cases_lt, eq-eqb, ne_eqb, and_parts}
-use Rattle.std.proofs.lemmas.Bool.Decides.{nat_tests}
+use Rattle.std.proofs.Common.{◌≡◌, ℕ, ◌+◌, ◌*◌, ◌^◌, ◌<◌, ◌≤◌, ◌==◌, ◌&&◌, cond, List, [], ◌∷◌, length, take, Option, Some, None, ◌∙◌, ap, arith}
+use Rattle.std.specs.Prelude.{slice_index, slice_index_or, option_to_list}
 use Rattle.std.proofs.lemmas.List.{length-take-le}
-use Rattle.std.proofs.lemmas.List.Sums.{AllPass-from_list_all}
 use Rattle.def_math.specs.Counts.{count, count_below}
 use Rattle.qm_laws.proofs.Counts.{count_below_same}
-use Rattle.def_flow.specs.Network.{Network, EndsBelow, IsWithinBounds, is_bounded, degree, ends}
+use Rattle.def_flow.specs.Network.{degree, ends}
 use Rattle.def_flow.specs.declared.net.Arc.{Arc}
 use Rattle.def_flow.specs.declared.net.End.{End}
 use Rattle.def_math.specs.Tables.{at_place, IsRaised, IsTally}
 use Rattle.qm_table.proofs.Ranges.{count_take}
-use Rattle.qm_table.proofs.Tallies.{raised_as, raised_twice, tally_low, tally_more}
-use Rattle.qm_net.specs.Degrees.{ends_at, AreEndsBelow}
-use Rattle.qm_net.proofs.Within.{ends_bounded}
+use Rattle.qm_table.proofs.Tallies.{raised_as, tally_low, tally_more}
+use Rattle.qm_net.specs.Degrees.{ends_at}
 use Rattle.qm_laws.proofs.Tests.{once_at_most}
 
 -- Where one end after the other is counted, all ends of an arc are.
 pub one_end : (a : Arc) (old new : List ℕ) → a.right ≡ None → IsRaised (at_place a.left.node 1) old new → IsRaised (ends_at a) old new
 one_end a old new none raised = raised_as (at_place a.left.node 1) (ends_at a) old new (λ v l. rw none (omega arith)) raised
-
-pub two_ends : (a : Arc) (right : End) (old mid new : List ℕ) → a.right ≡ Some right → IsRaised (at_place a.left.node 1) old mid → IsRaised (at_place right.node 1) mid new → IsRaised (ends_at a) old new
-two_ends a right old mid new some first second =
-    raised_as (λ v. at_place a.left.node 1 v + at_place right.node 1 v) (ends_at a) old new (λ v l. rw some (omega arith)) (raised_twice (at_place a.left.node 1) (at_place right.node 1) old mid new first second)
 
 -- An arc has at most two ends at a node.
 pub ends_low : (v : ℕ) (a : Arc) → ends_at a v ≤ 2
@@ -33,19 +24,6 @@ ends_low v a = by_right a.right
     by_right : (o : Option End) → count (λ (e : End). cond (e.node == v) 1 0) (a.left ∷ option_to_list o) ≤ 2
     by_right None = omega (arith, once_at_most (a.left.node == v))
     by_right (Some e) = omega (arith, once_at_most (a.left.node == v), once_at_most (e.node == v))
-
--- The ends of a network within bounds are at nodes.
-pub network_ends : (net : Network) → IsWithinBounds net → AreEndsBelow net.nodes net.arcs
-network_ends net within k a l = by_right (slice_index_or net.arcs k a).left (slice_index_or net.arcs k a).right (ends_bounded net.nodes (slice_index_or net.arcs k a) (AllPass-from_list_all (is_bounded net.nodes) net.arcs within.arcs k a l))
-  where
-    by_right : (left : End) (right : Option End) → list_all (λ (e : End). nat_lt e.node net.nodes) (left ∷ option_to_list right) ≡ true → EndsBelow net.nodes left right
-    by_right left None on =
-        let both : (nat_lt left.node net.nodes ≡ true) × (list_all (λ (e : End). nat_lt e.node net.nodes) [] ≡ true) = and_parts (nat_lt left.node net.nodes) _ on in
-        grind (arith, nat_tests)
-    by_right left (Some right) on =
-        let both : (nat_lt left.node net.nodes ≡ true) × ((nat_lt right.node net.nodes && true) ≡ true) = and_parts (nat_lt left.node net.nodes) (nat_lt right.node net.nodes && true) on in
-        let last : (nat_lt right.node net.nodes ≡ true) × (true ≡ true) = and_parts (nat_lt right.node net.nodes) true both.1 in
-        (grind (arith, nat_tests), grind (arith, nat_tests))
 
 -- A node has at most two ends for each arc.
 pub degree_low : (arcs : List Arc) (v : ℕ) → degree arcs v ≤ 2 * length arcs

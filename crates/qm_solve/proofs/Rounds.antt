@@ -44,14 +44,6 @@ certified net c count admissible good =
     let says : SaysYes (matching_graph net 1 c.x) c.dual × (pos 2 *ℤ on_cost net 1 c.x ≡ dual_sum c.dual) = yes_says (matching_graph net 1 c.x) c.dual (pos 2 *ℤ on_cost net 1 c.x) good in
     record { count = count; admissible = admissible; yes = says.0; sums = sym says.1 }
 
--- A better list is a start as well.
-pub better_start : (net : Network) (xs ys : List ℕ) → IsStartOf net xs → IsBetter net xs ys → IsStartOf net ys
-better_start net xs ys from better = record {
-  count = better.count;
-  admissible = better.admissible;
-  near = λ k l. omega (arith, from.near k l, better.less);
-}
-
 -- With step 1 and no better list the descent is done.
 pub solved : (net : Network) (xs : List ℕ) (step : ℕ) (d : DualLists) → IsWithinBounds net → IsStartOf net xs → step ≡ 1
     → (verdict (matching_graph net step xs) d ≡ Yes (pos 2 *ℤ on_cost net step xs)) × IsSmallDual d → IsSolution net (record { x = xs; dual = d })

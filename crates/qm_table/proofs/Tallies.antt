@@ -30,16 +30,6 @@ raised_twice f g old mid new first second = record {
 pub raised_as : (f g : ℕ → ℕ) (old new : List ℕ) → ((v : ℕ) → v < length old → f v ≡ g v) → IsRaised f old new → IsRaised g old new
 raised_as f g old new same raised = record { long = raised.long; each = λ v l. omega (arith, raised.each v l, same v l) }
 
--- A number is no greater than before and what is added.
-pub raised_low : (more : ℕ → ℕ) (old new : List ℕ) → IsRaised more old new → (before most : ℕ) → ((v : ℕ) → slice_index old v ≤ before) → ((v : ℕ) → more v ≤ most) → (v : ℕ) → slice_index new v ≤ before + most
-raised_low more old new raised before most low small v = elim (cases_lt v (length old)) [
-  | inl l ↦ omega (arith, raised.each v l, low v, small v)
-  | inr h ↦ omega (arith, get_or_past new v 0 (omega (arith, raised.long)))
-]
-
-pub at_place_low : (place more v : ℕ) → at_place place more v ≤ more
-at_place_low place more v = elim (cases_eq place v) [ inl is ↦ rw (eq-eqb place v is) (omega arith) | inr ne ↦ rw (ne_eqb place v ne) (omega arith) ]
-
 -- At first all is 0.
 pub tally_none : (f : ℕ → ℕ) (bound : ℕ) → ((v : ℕ) → v < bound → f v ≡ 0) → IsTally f bound (replicate bound 0)
 tally_none f bound none = record { count = length-replicate bound 0; each = each }
@@ -55,10 +45,6 @@ tally_more f g more bound old new step are raised = record {
   count = raised.long ∙ are.count;
   each = λ v l. omega (arith, raised.each v (omega (arith, are.count)), are.each v l, step v l);
 }
-
--- The same in other words.
-pub tally_as : (f g : ℕ → ℕ) (bound : ℕ) (table : List ℕ) → ((v : ℕ) → v < bound → f v ≡ g v) → IsTally f bound table → IsTally g bound table
-tally_as f g bound table same are = record { count = are.count; each = λ v l. are.each v l ∙ same v l }
 
 -- A table of small values is small, also past its end.
 pub tally_low : (f : ℕ → ℕ) (bound most : ℕ) (table : List ℕ) → IsTally f bound table → ((v : ℕ) → v < bound → f v ≤ most) → (v : ℕ) → slice_index table v ≤ most

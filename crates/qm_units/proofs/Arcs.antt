@@ -27,10 +27,9 @@ use Rattle.qm_units.proofs.Reading.{told_length, told_fills, told_cost}
 -- The active ends of an arc with any states of its units.
 any_active : (net : Network) (step v : ℕ) (a : Arc) (x k n : ℕ) (os : List Bool) → length os ≡ n → active v (units_from net step a (low net step x) k n) os + trues os * arc_active v false a ≡ trues os * arc_active v true a + n * arc_active v false a
 any_active net step v a x k zero [] l = omega arith
-any_active net step v a x k zero (o ∷ os) l = absurd (omega arith)
-any_active net step v a x k (suc n) [] l = absurd (omega arith)
 any_active net step v a x k (suc n) (true ∷ os) l = omega (arith, add-mul 1 (trues os) (arc_active v false a), add-mul 1 (trues os) (arc_active v true a), any_active net step v a x (k + 1) n os (omega arith))
 any_active net step v a x k (suc n) (false ∷ os) l = omega (arith, any_active net step v a x (k + 1) n os (omega arith))
+any_active net step v a x k _ _ l = absurd (omega arith)
 
 -- The deviation of an arc with so many steps above its low.
 abbrev at_step : Network → ℕ → Arc → ℕ → ℕ → ℕ
@@ -61,8 +60,6 @@ increments net step a x k t = omega (arith, arc_convex net a here there (pos ste
 -- Any units of an arc that are on cost no less than the first ones.
 any_cost : (net : Network) (step : ℕ) (a : Arc) (x k n : ℕ) (os : List Bool) → length os ≡ n → pos (at_step net step a x (k + trues os)) ≤ℤ (cost_on (units_from net step a (low net step x) k n) os +ℤ pos (at_step net step a x k))
 any_cost net step a x k zero [] l = rw (add-zero k) (omega (arith, ints))
-any_cost net step a x k zero (o ∷ os) l = absurd (omega arith)
-any_cost net step a x k (suc n) [] l = absurd (omega arith)
 any_cost net step a x k (suc n) (true ∷ os) l =
     let past : k + (1 + trues os) ≡ k + 1 + trues os = omega arith in
     let same : at_step net step a x (k + (1 + trues os)) ≡ at_step net step a x (k + 1 + trues os) = ap (at_step net step a x) past in
@@ -71,6 +68,7 @@ any_cost net step a x k (suc n) (false ∷ os) l =
     let none : k + (0 + trues os) ≡ k + trues os = omega arith in
     let same : at_step net step a x (k + (0 + trues os)) ≡ at_step net step a x (k + trues os) = ap (at_step net step a x) none in
     omega (arith, ints, same, increments net step a x k (trues os), any_cost net step a x (k + 1) n os (omega arith))
+any_cost net step a x k _ _ l = absurd (omega arith)
 
 -- Units in a row take their states in a row.
 active_none : (v : ℕ) (us : List ArcUnit) → active v us [] ≡ 0
@@ -110,8 +108,6 @@ first_length net step a arcs x xs ons l =
 
 told_active : (net : Network) (step v : ℕ) (arcs : List Arc) (xs : List ℕ) (ons : List Bool) → length xs ≡ length arcs → length ons ≡ length (units net step arcs xs) → active v (units net step arcs xs) ons + weighted_ends v false arcs (steps_told net step xs ons) ≡ weighted_ends v true arcs (steps_told net step xs ons) + weighted_ends v false arcs (map (cap net step) xs)
 told_active net step v [] [] ons l m = refl
-told_active net step v [] (x ∷ xs) ons l m = absurd (omega arith)
-told_active net step v (a ∷ arcs) [] ons l m = absurd (omega arith)
 told_active net step v (a ∷ arcs) (x ∷ xs) ons l m =
     let n : ℕ = cap net step x in
     let ls : (length (take n ons) ≡ n) × (length (drop n ons) ≡ length (units net step arcs xs)) = first_length net step a arcs x xs ons m in
@@ -126,14 +122,13 @@ told_active net step v (a ∷ arcs) (x ∷ xs) ons l m =
       any_active net step v a x 0 n (take n ons) ls.0,
       told_active net step v arcs xs (drop n ons) (omega arith) ls.1,
     )
+told_active net step v _ _ ons l m = absurd (omega arith)
 
 told_dear : (net : Network) (step : ℕ) (arcs : List Arc) (xs : List ℕ) (ons : List Bool) → length xs ≡ length arcs → length ons ≡ length (units net step arcs xs) → pos (deviations net arcs (lengths_on net step xs (steps_told net step xs ons))) ≤ℤ (cost_on (units net step arcs xs) ons +ℤ pos (deviations net arcs (lows net step xs)))
 told_dear net step [] [] ons l m = omega (arith, ints, none ons)
   where
     none : (os : List Bool) → cost_on [] os ≡ pos 0
     none os = refl
-told_dear net step [] (x ∷ xs) ons l m = absurd (omega arith)
-told_dear net step (a ∷ arcs) [] ons l m = absurd (omega arith)
 told_dear net step (a ∷ arcs) (x ∷ xs) ons l m =
     let n : ℕ = cap net step x in
     let t : ℕ = trues (take n ons) in
@@ -155,6 +150,7 @@ told_dear net step (a ∷ arcs) (x ∷ xs) ons l m =
       any_cost net step a x 0 n (take n ons) ls.0,
       told_dear net step arcs xs (drop n ons) (omega arith) ls.1,
     )
+told_dear net step _ _ ons l m = absurd (omega arith)
 
 -- No end is at a node past the last.
 ends_past : (nodes v : ℕ) (on : Bool) (left : End) (right : Option End) → nodes ≤ v → EndsBelow nodes left right → ends_active v on left right ≡ 0
@@ -174,11 +170,10 @@ low_high net step x le =
 
 box_high : (net : Network) (step : ℕ) (xs js ys : List ℕ) → IsRaised net step xs js ys → ((k : ℕ) → k < length xs → pos net.floor ≤ℤ entries xs k) → (k : ℕ) → k < length xs → pos net.floor ≤ℤ entries ys k
 box_high net step [] js ys box high k l = absurd (omega arith)
-box_high net step (x ∷ xs) [] ys box high k l = absurd box
-box_high net step (x ∷ xs) (j ∷ js) [] box high k l = absurd box
 box_high net step (x ∷ xs) (j ∷ js) (y ∷ ys) box high zero l =
     omega (arith, ints, box.1, low_high net step x (omega (arith, ints, high 0 (omega arith))))
 box_high net step (x ∷ xs) (j ∷ js) (y ∷ ys) box high (suc k) l = box_high net step xs js ys box.2 (λ i li. high (suc i) (omega arith)) k (omega arith)
+box_high net step (x ∷ xs) _ _ box high k l = absurd box
 
 -- The list that a matching tells is in the box.
 pub told_in_box : (net : Network) (step : ℕ) (xs m : List ℕ) → IsInBox step (lows net step xs) (caps net step xs) (lengths_told net step xs m)

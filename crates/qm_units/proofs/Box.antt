@@ -46,11 +46,8 @@ by_raised : (net : Network) (step : ℕ) (P : List Arc → List ℕ → List ℕ
 by_raised net step P none more [] [] [] [] l box = none
 by_raised net step P none more (a ∷ arcs) [] js ys l box = absurd (omega arith)
 by_raised net step P none more [] (x ∷ xs) js ys l box = absurd (omega arith)
-by_raised net step P none more arcs (x ∷ xs) [] ys l box = absurd box
-by_raised net step P none more arcs (x ∷ xs) (j ∷ js) [] l box = absurd box
-by_raised net step P none more [] [] (j ∷ js) ys l box = absurd box
-by_raised net step P none more [] [] [] (y ∷ ys) l box = absurd box
 by_raised net step P none more (a ∷ arcs) (x ∷ xs) (j ∷ js) (y ∷ ys) l box = more a arcs x j y xs js ys box (by_raised net step P none more arcs xs js ys (omega arith) box.2)
+by_raised net step P none more _ _ _ _ l box = absurd box
 
 -- There are as many states as units.
 pub states_count : (net : Network) (step : ℕ) (arcs : List Arc) (xs js ys : List ℕ) → length xs ≡ length arcs → IsRaised net step xs js ys → length (units net step arcs xs) ≡ length (states net step xs js)
@@ -65,15 +62,13 @@ states_count net step = by_raised net step (λ arcs xs js ys. length (units net 
 
 active_append : (v : ℕ) (us vs : List ArcUnit) (ons os : List Bool) → length us ≡ length ons → active v (us ++ vs) (ons ++ os) ≡ active v us ons + active v vs os
 active_append v [] vs [] os l = omega arith
-active_append v [] vs (on ∷ ons) os l = absurd (omega arith)
-active_append v (u ∷ us) vs [] os l = absurd (omega arith)
 active_append v (u ∷ us) vs (on ∷ ons) os l = omega (arith, active_append v us vs ons os (omega arith))
+active_append v _ vs _ os l = absurd (omega arith)
 
 pub cost_append : (us vs : List ArcUnit) (ons os : List Bool) → length us ≡ length ons → cost_on (us ++ vs) (ons ++ os) ≡ cost_on us ons +ℤ cost_on vs os
 cost_append [] vs [] os l = omega (arith, ints)
-cost_append [] vs (on ∷ ons) os l = absurd (omega arith)
-cost_append (u ∷ us) vs [] os l = absurd (omega arith)
 cost_append (u ∷ us) vs (on ∷ ons) os l = omega (arith, ints, cost_append us vs ons os (omega arith))
+cost_append _ vs _ os l = absurd (omega arith)
 
 -- The active ends of an arc with j units on.
 run_active : (net : Network) (step v : ℕ) (a : Arc) (x k j n : ℕ) → j ≤ n → active v (units_from net step a (low net step x) k n) (run j n) + j * arc_active v false a ≡ j * arc_active v true a + n * arc_active v false a
@@ -118,8 +113,6 @@ ends_side v y on (e ∷ es) = omega (arith, ints, end_side v y on e, ends_side v
 
 pub side_list : (v : ℕ) (on : Bool) (arcs : List Arc) (ys : List ℕ) → length ys ≡ length arcs → side_sum arcs (entries ys) on v ≡ pos (weighted_ends v on arcs ys)
 side_list v on [] [] l = refl
-side_list v on [] (y ∷ ys) l = absurd (omega arith)
-side_list v on (a ∷ arcs) [] l = absurd (omega arith)
 side_list v on (a ∷ arcs) (y ∷ ys) l = omega (
   arith,
   ints,
@@ -127,6 +120,7 @@ side_list v on (a ∷ arcs) (y ∷ ys) l = omega (
   ends_side v y on (ends a),
   side_list v on arcs ys (omega arith),
 )
+side_list v on _ _ l = absurd (omega arith)
 
 -- Balanced lists have equal ends of both signs.
 pub balanced_list : (arcs : List Arc) (ys : List ℕ) → length ys ≡ length arcs → IsBalanced arcs (entries ys) → (v : ℕ) → weighted_ends v true arcs ys ≡ weighted_ends v false arcs ys
@@ -134,11 +128,8 @@ balanced_list arcs ys l balanced v = omega (arith, ints, balanced v, side_list v
 
 pub box_length : (net : Network) (step : ℕ) (xs js ys : List ℕ) → IsRaised net step xs js ys → length ys ≡ length xs
 box_length net step [] [] [] box = refl
-box_length net step [] [] (y ∷ ys) box = absurd box
-box_length net step [] (j ∷ js) ys box = absurd box
-box_length net step (x ∷ xs) [] ys box = absurd box
-box_length net step (x ∷ xs) (j ∷ js) [] box = absurd box
 box_length net step (x ∷ xs) (j ∷ js) (y ∷ ys) box = omega (arith, box_length net step xs js ys box.2)
+box_length net step _ _ _ box = absurd box
 
 -- Two balanced lists of one box have the same number of active ends at each node.
 pub same_active : (net : Network) (step : ℕ) (xs js ys is zs : List ℕ) → 1 ≤ step → length xs ≡ length net.arcs → IsRaised net step xs js ys → IsRaised net step xs is zs → IsBalanced net.arcs (entries ys) → IsBalanced net.arcs (entries zs) → (v : ℕ) → active v (units net step net.arcs xs) (states net step xs js) ≡ active v (units net step net.arcs xs) (states net step xs is)
@@ -173,9 +164,8 @@ deviations net _ _ = 0
 
 pub deviation_list : (net : Network) (arcs : List Arc) (ys : List ℕ) → length ys ≡ length arcs → count_below (λ k. arc_deviation net (arc_at arcs k) (entries ys k)) (length arcs) ≡ deviations net arcs ys
 deviation_list net [] [] l = refl
-deviation_list net [] (y ∷ ys) l = absurd (omega arith)
-deviation_list net (a ∷ arcs) [] l = absurd (omega arith)
 deviation_list net (a ∷ arcs) (y ∷ ys) l = omega (arith, count_below_front (λ k. arc_deviation net (arc_at (a ∷ arcs) k) (entries (y ∷ ys) k)) (length arcs), deviation_list net arcs ys (omega arith))
+deviation_list net _ _ l = absurd (omega arith)
 
 none_cost : (net : Network) (step : ℕ) (a : Arc) (x k n : ℕ) → cost_on (units_from net step a (low net step x) k n) (run 0 n) ≡ pos 0
 none_cost net step a x k zero = refl

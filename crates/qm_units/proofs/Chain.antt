@@ -89,11 +89,8 @@ picked_free (false ∷ ms) (e ∷ es) free = omega (arith, ints, picked_free ms 
 -- There are as many marks as edges.
 pub rim_length : (before : Option ℕ) (waits : Bool) (fresh : ℕ) (rs : List ℕ) (os : List Bool) → length os ≡ length rs → length (rim_marks before waits fresh os) ≡ length (rim_links before fresh rs)
 rim_length before waits fresh [] [] l = refl
-rim_length before waits fresh [] (o ∷ os) l = absurd (omega arith)
-rim_length before waits fresh (r ∷ rs) [] l = absurd (omega arith)
-rim_length before waits fresh (r ∷ []) (o ∷ p ∷ os) l = absurd (omega arith)
-rim_length before waits fresh (r ∷ s ∷ rs) (o ∷ []) l = absurd (omega arith)
 rim_length None waits fresh (r ∷ []) (o ∷ []) l = refl
 rim_length (Some b) waits fresh (r ∷ []) (o ∷ []) l = refl
 rim_length None waits fresh (r ∷ s ∷ rs) (o ∷ p ∷ os) l = omega (arith, rim_length (Some (fresh + 1)) (differ waits o) (fresh + 2) (s ∷ rs) (p ∷ os) (omega arith))
 rim_length (Some b) waits fresh (r ∷ s ∷ rs) (o ∷ p ∷ os) l = omega (arith, rim_length (Some (fresh + 1)) (differ waits o) (fresh + 2) (s ∷ rs) (p ∷ os) (omega arith))
+rim_length before waits fresh _ _ l = absurd (omega arith)

@@ -24,9 +24,8 @@ picked_chosen f (false ∷ ms) (x ∷ xs) = omega (arith, ints, picked_chosen f 
 -- Two lists in a row, with as many marks.
 pub pick_append : {X : Type 0} (f : X → ℤ) (ms ns : List Bool) (xs ys : List X) → length ms ≡ length xs → picked f (ms ++ ns) (xs ++ ys) ≡ picked f ms xs +ℤ picked f ns ys
 pick_append f [] ns [] ys e = omega (arith, ints)
-pick_append f [] ns (x ∷ xs) ys e = absurd (omega arith)
-pick_append f (m ∷ ms) ns [] ys e = absurd (omega arith)
 pick_append f (m ∷ ms) ns (x ∷ xs) ys e = let l : length ms ≡ length xs = omega arith in omega (arith, ints, pick_append f ms ns xs ys l)
+pick_append f _ ns _ ys e = absurd (omega arith)
 
 pub choice_length : (some : Bool) (i n : ℕ) → length (choice some i n) ≡ n
 choice_length some i zero = refl

@@ -64,9 +64,8 @@ no_single net xs bounds l a v single = by_side (cases_eq (ends_on v true net.arc
 -- A node has at most two copies for each of its ends.
 caps_ends : (net : Network) (step v : ℕ) (arcs : List Arc) (xs : List ℕ) → length xs ≡ length arcs → weighted_ends v false arcs (map (cap net step) xs) ≡ weighted_ends v false arcs (map (down net step) xs) + 2 * ends_on v false arcs
 caps_ends net step v [] [] l = refl
-caps_ends net step v [] (x ∷ xs) l = absurd (omega arith)
-caps_ends net step v (a ∷ arcs) [] l = absurd (omega arith)
 caps_ends net step v (a ∷ arcs) (x ∷ xs) l = omega (arith, add-mul (down net step x) 2 (arc_active v false a), caps_ends net step v arcs xs (omega arith))
+caps_ends net step v _ _ l = absurd (omega arith)
 
 downs_ends : (net : Network) (step v : ℕ) (arcs : List Arc) (xs : List ℕ) → weighted_ends v true arcs (map (down net step) xs) ≤ 2 * ends_on v true arcs
 downs_ends net step v [] xs = omega arith

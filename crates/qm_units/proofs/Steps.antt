@@ -48,12 +48,9 @@ in_box net step (x ∷ xs) (y ∷ ys) some are = at_head (are.each 0 (omega arit
 -- The other way round.
 raised_each : (net : Network) (step : ℕ) (xs js ys : List ℕ) → IsRaised net step xs js ys → (k : ℕ) → k < length ys → IsStepUp (slice_index (lows net step xs) k) (slice_index (caps net step xs) k) step (slice_index ys k)
 raised_each net step [] [] [] raised k l = absurd (omega arith)
-raised_each net step [] [] (y ∷ ys) raised k l = absurd raised
-raised_each net step [] (j ∷ js) ys raised k l = absurd raised
-raised_each net step (x ∷ xs) [] ys raised k l = absurd raised
-raised_each net step (x ∷ xs) (j ∷ js) [] raised k l = absurd raised
 raised_each net step (x ∷ xs) (j ∷ js) (y ∷ ys) raised zero l = record { up = j; few = raised.0; is = raised.1 }
 raised_each net step (x ∷ xs) (j ∷ js) (y ∷ ys) raised (suc k) l = raised_each net step xs js ys raised.2 k (omega arith)
+raised_each net step _ _ _ raised k l = absurd raised
 
 pub raised_in_box : (net : Network) (step : ℕ) (xs js ys : List ℕ) → IsRaised net step xs js ys → IsInBox step (lows net step xs) (caps net step xs) ys
 raised_in_box net step xs js ys raised = record { count = box_length net step xs js ys raised ∙ sym (length-map xs (low net step)); each = raised_each net step xs js ys raised }

@@ -33,8 +33,6 @@ all_own w b on left (Some right) os rs = grind (arith, ints)
 -- that wait.
 pub units_weight : (w : ℕ → ℤ) (nodes : ℕ) (room used : ℕ → ℕ) (b : ℕ) (us : List ArcUnit) (ons : List Bool) → length us ≡ length ons → UnitsAt nodes us → ((v : ℕ) → used v + active v us ons ≤ room v) → picked (at_ends w) (units_marks room used us ons) (units_links room b us) +ℤ (held nodes room w used +ℤ picked w (rim_states us ons) (rim b us)) ≡ span w b (count unit_size us) +ℤ held nodes room w (λ v. used v + active v us ons)
 units_weight w nodes room used b [] [] l at free = omega (arith, ints, held_same nodes room w (λ v. used v + 0) used (λ v lv. omega arith))
-units_weight w nodes room used b [] (on ∷ ons) l at free = absurd (omega arith)
-units_weight w nodes room used b (u ∷ us) [] l at free = absurd (omega arith)
 units_weight w nodes room used b (u ∷ us) (on ∷ ons) l at free =
     let next : ℕ → ℕ = λ v. used v + active_at v u on in
     let here : (v : ℕ) → used v + ends_active v on u.left u.right ≤ room v = λ v. omega (arith, free v) in
@@ -50,12 +48,11 @@ units_weight w nodes room used b (u ∷ us) (on ∷ ons) l at free =
       same,
       units_weight w nodes room next (b + unit_size u) us ons (omega arith) at.1 there,
     )
+units_weight w nodes room used b _ _ l at free = absurd (omega arith)
 
 -- The units cost what those that are on cost.
 pub units_cost : (room used : ℕ → ℕ) (b : ℕ) (us : List ArcUnit) (ons : List Bool) → length us ≡ length ons → ((v : ℕ) → used v + active v us ons ≤ room v) → picked (λ e. e.cost) (units_marks room used us ons) (units_links room b us) ≡ cost_on us ons
 units_cost room used b [] [] l free = refl
-units_cost room used b [] (on ∷ ons) l free = absurd (omega arith)
-units_cost room used b (u ∷ us) [] l free = absurd (omega arith)
 units_cost room used b (u ∷ us) (on ∷ ons) l free =
     let next : ℕ → ℕ = λ v. used v + active_at v u on in
     let here : (v : ℕ) → used v + ends_active v on u.left u.right ≤ room v = λ v. omega (arith, free v) in
@@ -67,12 +64,11 @@ units_cost room used b (u ∷ us) (on ∷ ons) l free =
       unit_cost room used b u.cost on u.left u.right here,
       units_cost room next (b + unit_size u) us ons (omega arith) there,
     )
+units_cost room used b _ _ l free = absurd (omega arith)
 
 -- There are as many marks as edges.
 pub units_length : (room used : ℕ → ℕ) (b : ℕ) (us : List ArcUnit) (ons : List Bool) → length us ≡ length ons → length (units_marks room used us ons) ≡ length (units_links room b us)
 units_length room used b [] [] l = refl
-units_length room used b [] (on ∷ ons) l = absurd (omega arith)
-units_length room used b (u ∷ us) [] l = absurd (omega arith)
 units_length room used b (u ∷ us) (on ∷ ons) l =
     let next : ℕ → ℕ = λ v. used v + active_at v u on in
     omega (
@@ -82,13 +78,13 @@ units_length room used b (u ∷ us) (on ∷ ons) l =
       unit_length room used b u.cost on u.left u.right,
       units_length room next (b + unit_size u) us ons (omega arith),
     )
+units_length room used b _ _ l = absurd (omega arith)
 
 -- There are as many states at the rim as vertices.
 pub states_length : (b : ℕ) (us : List ArcUnit) (ons : List Bool) → length us ≡ length ons → length (rim_states us ons) ≡ length (rim b us)
 states_length b [] [] l = refl
-states_length b [] (on ∷ ons) l = absurd (omega arith)
-states_length b (u ∷ us) [] l = absurd (omega arith)
 states_length b (u ∷ us) (on ∷ ons) l = grind (arith, states_length (b + unit_size u) us ons (omega arith))
+states_length b _ _ l = absurd (omega arith)
 
 -- Those that wait are the active ones.
 pub rim_trues : (us : List ArcUnit) (ons : List Bool) → trues (rim_states us ons) ≡ rim_active us ons

@@ -146,10 +146,9 @@ ones a (suc n) = omega (arith, ints, ones (a + 1) n)
 
 rim_ones : (os : List Bool) (rs : List ℕ) → length os ≡ length rs → picked (λ v. pos 1) os rs ≡ pos (trues os)
 rim_ones [] [] l = refl
-rim_ones [] (r ∷ rs) l = absurd (omega arith)
-rim_ones (o ∷ os) [] l = absurd (omega arith)
 rim_ones (true ∷ os) (r ∷ rs) l = omega (arith, ints, rim_ones os rs (omega arith))
 rim_ones (false ∷ os) (r ∷ rs) l = omega (arith, ints, rim_ones os rs (omega arith))
+rim_ones _ _ l = absurd (omega arith)
 
 -- States that fill the same copies have as many active units at the rim, but for an even number.
 pub rim_parity : (nodes : ℕ) (room : ℕ → ℕ) (us : List ArcUnit) (ons other : List Bool) → UnitsAt nodes us → length us ≡ length ons → length us ≡ length other → ((v : ℕ) → active v us ons ≡ room v) → ((v : ℕ) → active v us other ≡ room v) → rim_active us ons % 2 ≡ rim_active us other % 2

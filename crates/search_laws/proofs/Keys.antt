@@ -92,10 +92,7 @@ edge_same : (a b : Label) (slack new risen x : ℕ) → risen + x ≤ edge_key_b
 edge_same Outer Outer slack new risen x l e = omega (arith, ints, l, e)
 edge_same Outer Outside slack new risen x l e = omega (arith, ints, l, e)
 edge_same Outside Outer slack new risen x l e = omega (arith, ints, l, e)
-edge_same Outer Inner slack new risen x l e = refl
-edge_same Inner b slack new risen x l e = refl
-edge_same Outside Inner slack new risen x l e = refl
-edge_same Outside Outside slack new risen x l e = refl
+edge_same _ _ slack new risen x l e = refl
 
 set_same : (l : Label) (w : ℤ) (risen x : ℕ) → pos 0 ≤ℤ w → risen + x ≤ set_key_by l w risen → set_key_by l (w +ℤ change l (pos x)) (risen + x) ≡ set_key_by l w risen
 set_same Outer w risen x h l = refl
@@ -105,12 +102,11 @@ set_same Inner w risen x h l = omega (arith, ints, h, l)
 -- One blossom has one label.
 one_label : (a b : Label) (slack new risen x : ℕ) → a ≡ b → edge_key_by a b true new (risen + x) ≡ edge_key_by a b true slack risen
 one_label Outer Outer slack new risen x e = refl
-one_label Outer Outside slack new risen x e = absurd (cc e)
-one_label Outside Outer slack new risen x e = absurd (cc e)
 one_label Outer Inner slack new risen x e = refl
 one_label Inner b slack new risen x e = refl
 one_label Outside Inner slack new risen x e = refl
 one_label Outside Outside slack new risen x e = refl
+one_label _ _ slack new risen x e = absurd (cc e)
 
 -- Numbers past the end stand for no blossom.
 pub past_end : (n : ℕ) (f : Forest) → AreOutermost n f → (b : ℕ) → f.size ≤ b → f.label b ≡ Outside

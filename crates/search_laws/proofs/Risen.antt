@@ -1,5 +1,5 @@
 -- How far the sum of the weights rises, and so how large keys and weights are.
-use Rattle.std.proofs.Common.{◌≡◌, ℕ, zero, suc, ◌+◌, ◌-◌, ◌*◌, ◌/◌, ap, ◌∙◌, ◌<◌, ◌≤◌, ◌^◌, Bool, true, false, eqb, List, [], ◌∷◌, length, map, Option, Some, ℤ, pos, ◌+ℤ◌, ◌*ℤ◌, ◌≤ℤ◌, ◌⊎◌, refl, sym, subst, inl, inr, arith}
+use Rattle.std.proofs.Common.{◌≡◌, ℕ, zero, suc, ◌+◌, ◌-◌, ◌*◌, ◌/◌, ap, ◌∙◌, ◌<◌, ◌≤◌, ◌^◌, Bool, false, eqb, List, [], ◌∷◌, length, map, Option, Some, ℤ, pos, ◌+ℤ◌, ◌*ℤ◌, ◌≤ℤ◌, ◌⊎◌, refl, sym, subst, inl, inr, arith}
 use Rattle.std.specs.Int.RustNames.{unsigned_abs}
 use Rattle.std.proofs.lemmas.Int.{ints}
 use Rattle.std.proofs.lemmas.Bool.{cases_lt}
@@ -91,14 +91,10 @@ change_low Inner w x = omega (arith, ints)
 change_low Outside w x = omega (arith, ints)
 
 edge_key_high : (a b : Label) (s : Bool) (slack risen : ℕ) → risen ≤ no_key → risen ≤ edge_key_by a b s slack risen
-edge_key_high Outer Outer true slack risen l = l
 edge_key_high Outer Outer false slack risen l = omega (arith, l)
 edge_key_high Outer Outside s slack risen l = omega (arith, l)
 edge_key_high Outside Outer s slack risen l = omega (arith, l)
-edge_key_high Outer Inner s slack risen l = l
-edge_key_high Inner b s slack risen l = l
-edge_key_high Outside Inner s slack risen l = l
-edge_key_high Outside Outside s slack risen l = l
+edge_key_high _ _ _ slack risen l = l
 
 set_key_high : (l : Label) (w : ℤ) (risen : ℕ) → risen ≤ no_key → risen ≤ set_key_by l w risen
 set_key_high Outer w risen h = h

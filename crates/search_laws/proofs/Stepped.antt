@@ -144,14 +144,10 @@ grow_or false = inr (inr refl)
 
 key_step : (a b : Label) (ma mb : Option ℕ) (same : Bool) (slack risen : ℕ) → edge_key_by a b same slack risen ≡ risen → risen < no_key
     → IsStep (kind_by a b ma mb same) × ((slack ≡ 0) ⊎ ((slack / 2 ≡ 0) × (a ≡ Outer) × (b ≡ Outer)))
-key_step Outer Outer ma mb true slack risen e l = absurd (omega (arith, e, l))
 key_step Outer Outer ma mb false slack risen e l = (inl refl, inr (omega (arith, e, l), refl, refl))
 key_step Outer Outside ma mb same slack risen e l = (grow_or (is_some mb), inl (omega (arith, e, l)))
 key_step Outside Outer ma mb same slack risen e l = (grow_or (is_some ma), inl (omega (arith, e, l)))
-key_step Outer Inner ma mb same slack risen e l = absurd (omega (arith, e, l))
-key_step Inner b ma mb same slack risen e l = absurd (omega (arith, e, l))
-key_step Outside Inner ma mb same slack risen e l = absurd (omega (arith, e, l))
-key_step Outside Outside ma mb same slack risen e l = absurd (omega (arith, e, l))
+key_step _ _ ma mb _ slack risen e l = absurd (omega (arith, e, l))
 
 not_loose : (x : ℤ) → x ≡ pos 0 → int_lt (pos 0) x ≡ false
 not_loose x e = subst (λ y. int_lt (pos 0) y ≡ false) (sym e) refl
@@ -180,9 +176,8 @@ edge_step g is f root risen e valid low key few = by_key (key_step (f.label (f.o
         by_slack (inr w) = tight (by_half (slack_even g f root e is valid low w.1 w.2) w.0) p.0
 
 set_step_by : (l : Label) (w : ℤ) (risen : ℕ) → set_key_by l w risen ≡ risen → risen < no_key → (l ≡ Inner) × (w ≡ pos 0)
-set_step_by Outer w risen e l = absurd (omega (arith, e, l))
-set_step_by Outside w risen e l = absurd (omega (arith, e, l))
 set_step_by Inner w risen e l = (refl, omega (arith, ints, e, l))
+set_step_by _ w risen e l = absurd (omega (arith, e, l))
 
 -- A set whose key has come may be opened.
 pub set_step : (g : Graph) (f : Forest) (risen k : ℕ) → length g.edges ≤ k → true_key g f risen k ≡ risen → risen < no_key → (f.label (set_of g k) ≡ Inner) × (f.weight (set_of g k) ≡ pos 0)
