@@ -1,18 +1,17 @@
 -- Numbers as certificate lines have them.
-use Rattle.std.proofs.Common.{◌≡◌, ◌⊎◌, ◌≤◌, ◌<◌, ◌+◌, ◌-◌, ◌*◌, ◌^◌, ◌&&◌, ◌||◌, min, ℕ, zero, suc, ℤ, pos, negsuc, Bool, true, false, not, List, [], ◌∷◌, ◌++◌, Option, Some, None, length, take, drop, get_or, map, cond, eqb, ltb, leb, inl, inr, refl, ap, ap₂, sym, ◌∙◌, subst, arith}
+use Rattle.std.proofs.Common.{◌≡◌, ◌⊎◌, ◌≤◌, ◌<◌, ◌+◌, ◌-◌, ◌*◌, ◌^◌, ◌&&◌, ◌||◌, min, ℕ, zero, suc, ℤ, pos, negsuc, Bool, true, false, not, [], ◌∷◌, ◌++◌, Option, Some, None, length, take, drop, get_or, map, cond, eqb, ltb, inl, inr, refl, ap, ap₂, sym, ◌∙◌, subst, arith}
 use Rattle.std.specs.Prelude.{decimal, int_lt, unsigned_abs}
 use Rattle.std.specs.Char.{is_ascii_digit}
 use Rattle.std.specs.Fmt.{digits}
-use Rattle.std.specs.Int.Digits.{number_from_digits, number_from_digits_after}
+use Rattle.std.specs.Int.Digits.{number_from_digits_after}
 use Rattle.std.specs.List.{list_all, position_or_len}
-use Rattle.std.proofs.lemmas.Bool.{and_cases, and_from, and_parts, cases_Bool, eq-eqb, eqb-false, eqb-true, false≢true, leb-true, le-leb, lt-ltb, ltb-false, ltb-true, ne_eqb, not-true, not_from_false, and_right, true≢false}
+use Rattle.std.proofs.lemmas.Bool.{and_cases, and_from, and_parts, eq-eqb, eqb-false, eqb-true, false≢true, le-leb, lt-ltb, ltb-false, ltb-true, ne_eqb, not-true, not_from_false, and_right, true≢false}
 use Rattle.std.proofs.lemmas.Bool.Decides.{nat_tests}
 use Rattle.std.proofs.lemmas.Fmt.{decimal-digits_value, decimal_nonempty, first_decimal}
 use Rattle.std.proofs.lemmas.List.{drop_at, take_at, take-append-drop}
-use Rattle.std.proofs.lemmas.Str.Parse.{numerals_by_fold, FoldsDigits, IsDigitsTest, IsNumeralModel}
+use Rattle.std.proofs.lemmas.Str.Parse.{numerals_by_fold, IsDigitsTest, IsNumeralModel}
 use Rattle.def_certtext.specs.CertLines.{signed_text}
 use Rattle.def_certtext.specs.Reading.{is_small}
-use Rattle.def_text.specs.Canonical.{minus_text}
 use Rattle.def_text.specs.Digits.{is_number, number}
 use Rattle.def_text.specs.Types.{Word}
 use Rattle.qm_dec.proofs.Texts.{decimal_digits, decimal_number, digit_other, digits_fail, first_at}
@@ -85,9 +84,6 @@ signed_pos n = by_test (int_lt (pos n) (pos 0)) (not_below n)
     by_test : (t : Bool) → t ≡ false → cond t (45 ∷ []) [] ++ decimal n ≡ decimal n
     by_test true is = absurd (true≢false is)
     by_test false is = refl
-
-pub signed_neg : (n : ℕ) → signed_text (negsuc n) ≡ 45 ∷ decimal (suc n)
-signed_neg n = refl
 
 -- A count is read where there is one.
 pub count_read : (word : Word) (greatest n : ℕ) → greatest < 10 ^ 18 → n ≤ greatest → (ltb 1 (length word) && eqb (get_or word 0 0) 48) ≡ false

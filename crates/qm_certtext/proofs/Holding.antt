@@ -1,10 +1,9 @@
 -- The lists of one line more, and those before and behind the first `#f 3`.
-use Rattle.std.proofs.Common.{◌≡◌, ◌⊎◌, ◌+◌, ◌||◌, not, ℕ, suc, Bool, true, false, List, [], ◌∷◌, ◌++◌, Option, Some, None, is_some, Result, Ok, Err, OnOk, ◌&&◌, take, drop, cond, inl, inr, refl, ap, ap₂, sym, ◌∙◌, subst, arith, append-nil, option_map}
+use Rattle.std.proofs.Common.{◌≡◌, ◌⊎◌, ◌+◌, ◌||◌, not, ℕ, suc, Bool, true, false, List, [], ◌∷◌, ◌++◌, Option, Some, None, is_some, Result, Ok, Err, OnOk, ◌&&◌, take, drop, inl, inr, refl, ap, ap₂, sym, ◌∙◌, subst, arith, append-nil}
 use Rattle.std.specs.List.{after_first, before_first, flat_map, list_any, position_or_len}
-use Rattle.std.proofs.lemmas.Bool.{cases_Bool, false≢true, or_from, or_parts, true≢false}
+use Rattle.std.proofs.lemmas.Bool.{cases_Bool, false≢true, or_parts, true≢false}
 use Rattle.std.proofs.lemmas.List.Concat.{flat_map-append}
-use Rattle.def_certtext.specs.CertLines.{lists_of, Lists}
-use Rattle.def_certtext.specs.Reading.{cert_in, first_in, is_third, length_in, lists_in, set_in, set_up_in, vertex_in, vertex_up_in}
+use Rattle.def_certtext.specs.Reading.{is_third, length_in, lists_in, set_in, set_up_in, vertex_in, vertex_up_in}
 use Rattle.def_certtext.specs.declared.CertLine.{CertLine}
 use Rattle.qm_certtext.specs.Parts.{lists_in_parts, HoldBoth, Holds, TakesLine}
 use Rattle.qm_certtext.specs.declared.parts.Found.{Found}
@@ -123,12 +122,6 @@ held parts said holds = λ i. record {
   z = holds.sets i;
   up = holds.vertex_ups i ++ holds.set_ups i;
 }
-
-pub both_held : (first : Option Parts) (last : Parts) (said : List CertLine) → HoldBoth first last said
-    → (option_map lists_in_parts first ≡ first_in said) × (lists_in_parts last ≡ cert_in said)
-both_held None last said holds = (rw holds.0 refl, rw holds.0 (held last said holds.1))
-both_held (Some first) last said holds =
-    (rw holds.0 (ap (λ (l : Lists). Some l) (held first (before_first is_third said) holds.1)), rw holds.0 (held last (after_first is_third said) holds.2))
 
 -- Whether a line starts the certificate for floor 3.
 pub starts : (first : Option Parts) (line : CertLine) → (not (is_some first) && is_third line) ≡ true → (first ≡ None) × (is_third line ≡ true)

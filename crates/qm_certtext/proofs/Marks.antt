@@ -1,16 +1,15 @@
 -- The marked lines of a text, one line after another.
-use Rattle.std.proofs.Common.{◌≡◌, ◌⊎◌, ◌<◌, ◌≤◌, ◌+◌, ◌-◌, ℕ, zero, suc, Bool, true, false, List, [], ◌∷◌, ◌++◌, length, take, drop, map, filter, slice_index_or, get_or, cond, inl, inr, refl, ap, ap₂, sym, ◌∙◌, subst, arith, append-nil, length-drop}
+use Rattle.std.proofs.Common.{◌≡◌, ◌⊎◌, ◌<◌, ◌≤◌, ◌+◌, ◌-◌, ℕ, zero, suc, Bool, true, false, List, [], ◌∷◌, ◌++◌, length, take, drop, map, filter, slice_index_or, cond, inl, inr, refl, ap, sym, ◌∙◌, subst, arith, length-drop}
 use Rattle.std.specs.List.{list_all}
-use Rattle.std.proofs.lemmas.Bool.{and_from, and_parts, cases_Bool, false≢true, true≢false}
-use Rattle.std.proofs.lemmas.List.{get_or-drop, get_or-take, length-take-le, map-append, take_more}
-use Rattle.std.proofs.lemmas.List.Folds.{list_all-append}
+use Rattle.std.proofs.lemmas.Bool.{and_parts, cases_Bool, false≢true, true≢false}
+use Rattle.std.proofs.lemmas.List.{get_or-drop, get_or-take, length-take-le, take_more}
 use Rattle.def_certtext.specs.CertLines.{line_text}
-use Rattle.def_certtext.specs.Reading.{is_marked, may_stand, IsFirstBad, Says}
+use Rattle.def_certtext.specs.Reading.{is_marked, may_stand, Says}
 use Rattle.def_certtext.specs.declared.CertLine.{CertLine}
 use Rattle.def_io.specs.Bytes.{Bytes, Lines}
 use Rattle.def_certtext.specs.declared.CertFail.{CertFail}
 use Rattle.def_certtext.specs.declared.CertFail.TheVariants.{Head, Line, Memory}
-use Rattle.qm_certtext.specs.Parts.{IsBehindFail, IsLineFail, ReadSome, TakesLine, TakesText}
+use Rattle.qm_certtext.specs.Parts.{IsBehindFail, IsLineFail, ReadSome, TakesText}
 use Rattle.qm_certtext.specs.declared.parts.Found.{Found}
 
 pub filter_append : {X : Type 0} (p : X → Bool) (xs ys : List X) → filter p (xs ++ ys) ≡ filter p xs ++ filter p ys
@@ -20,28 +19,6 @@ filter_append p (x ∷ xs) ys = by_test (p x) (filter_append p xs ys)
     by_test : (t : Bool) → filter p (xs ++ ys) ≡ filter p xs ++ filter p ys → cond t (x ∷ filter p (xs ++ ys)) (filter p (xs ++ ys)) ≡ cond t (x ∷ filter p xs) (filter p xs) ++ filter p ys
     by_test true is = ap (λ (zs : List _). x ∷ zs) is
     by_test false is = is
-
--- A line that is not marked says nothing.
-pub takes_unmarked : (auto : Bool) (line : Bytes) (found : Found) → is_marked line ≡ false → TakesText auto line found found
-takes_unmarked auto line found other behind read = record {
-  said = read.said;
-  texts = filter_append is_marked behind (line ∷ []) ∙ ap (λ (zs : Lines). filter is_marked behind ++ zs) (rw other refl) ∙ append-nil _ ∙ read.texts;
-  allowed = read.allowed;
-  holds = read.holds;
-}
-
--- A marked line says what it says.
-pub takes_marked : (auto : Bool) (line : Bytes) (old new : Found) (said : CertLine) → is_marked line ≡ true → Says auto line said → TakesLine old new said
-    → TakesText auto line old new
-takes_marked auto line old new said is says takes behind read =
-    let one : filter is_marked (line ∷ []) ≡ line ∷ [] = rw is refl in
-    record {
-      said = read.said ++ said ∷ [];
-      texts = filter_append is_marked behind (line ∷ []) ∙ ap₂ ◌++◌ read.texts one ∙ ap (λ (w : Bytes). map line_text read.said ++ w ∷ []) says.written
-          ∙ sym (map-append line_text read.said (said ∷ []));
-      allowed = list_all-append (may_stand auto) read.said (said ∷ []) ∙ and_from _ _ read.allowed (and_from _ _ says.allowed refl);
-      holds = takes read.said read.holds;
-    }
 
 -- Each marked line of those that were read says something.
 pub said_at : (auto : Bool) (behind : Lines) (said : List CertLine) → filter is_marked behind ≡ map line_text said → list_all (may_stand auto) said ≡ true

@@ -1,9 +1,9 @@
 -- The lines of a certificate are read back, each in one way.
-use Rattle.std.proofs.Common.{◌≡◌, ◌⊎◌, ◌≤◌, ◌<◌, ◌+◌, ◌-◌, ◌^◌, ◌&&◌, ◌||◌, not, ℕ, zero, suc, ℤ, pos, negsuc, Bool, true, false, List, [], ◌∷◌, ◌++◌, Option, Some, None, length, take, drop, get_or, map, filter, cond, eqb, ltb, leb, inl, inr, refl, ap, ap₂, sym, ◌∙◌, subst, arith, append-nil, append_assoc, take-append-drop, length-append}
-use Rattle.std.specs.Prelude.{decimal, unsigned_abs}
+use Rattle.std.proofs.Common.{◌≡◌, ◌⊎◌, ◌≤◌, ◌<◌, ◌+◌, ◌-◌, ◌^◌, ◌&&◌, ◌||◌, ℕ, ℤ, Bool, true, false, List, [], ◌∷◌, ◌++◌, Option, Some, None, length, take, drop, map, filter, eqb, inl, inr, refl, ap, ap₂, sym, ◌∙◌, arith, append-nil, take-append-drop}
+use Rattle.std.specs.Prelude.{decimal}
 use Rattle.std.specs.List.{after_first, before_first, flat_map, list_all, list_any}
-use Rattle.std.proofs.lemmas.Bool.{and_from, and_parts, eqb-true, false≢true, leb-true, ltb-true, or_cases, or_from}
-use Rattle.std.proofs.lemmas.List.{length-drop, length-take-le, length-map}
+use Rattle.std.proofs.lemmas.Bool.{and_from, and_parts, eqb-true, false≢true, leb-true, or_cases, or_from}
+use Rattle.std.proofs.lemmas.List.{length-drop, length-take-le}
 use Rattle.std.proofs.lemmas.List.Concat.{flat_map-append}
 use Rattle.std.proofs.lemmas.List.Folds.{list_all-append}
 use Rattle.def_certtext.specs.CertLines.{line_text, numbered, said_by, signed_text, HasUps, Lists}
@@ -63,8 +63,6 @@ one_line auto (Floor f) (Set z v) p q same = absurd (omega (arith, letter_is 102
 pub one_list : (auto : Bool) (said other : List CertLine) → list_all (may_stand auto) said ≡ true → list_all (may_stand auto) other ≡ true
     → map line_text said ≡ map line_text other → said ≡ other
 one_list auto [] [] p q same = refl
-one_list auto [] (b ∷ other) p q same = absurd cc
-one_list auto (a ∷ said) [] p q same = absurd cc
 one_list auto (a ∷ said) (b ∷ other) p q same =
     let first : line_text a ≡ line_text b = cc in
     let rest : map line_text said ≡ map line_text other = cc in
@@ -73,6 +71,7 @@ one_list auto (a ∷ said) (b ∷ other) p q same =
     let head : a ≡ b = one_line auto a b pa.0 qb.0 first in
     let tail : said ≡ other = one_list auto said other pa.1 qb.1 rest in
     λ i. head i ∷ tail i
+one_list auto _ _ p q same = absurd cc
 
 -- Each line is marked.
 pub all_marked : (said : List CertLine) → filter is_marked (map line_text said) ≡ map line_text said
@@ -106,9 +105,8 @@ numbers_all f kind one (z ∷ zs) (u ∷ us) long = rw (one z u) (ap (λ (ys : L
 ups_all : (f : CertLine → List ℕ) (kind : ℤ → ℕ → CertLine) → ((z : ℤ) (u : ℕ) → f (kind z u) ≡ u ∷ []) → (zs : List ℤ) (us : List ℕ) → length us ≡ length zs
     → flat_map f (numbered kind zs us) ≡ us
 ups_all f kind one [] [] long = refl
-ups_all f kind one [] (u ∷ us) long = absurd (omega arith)
-ups_all f kind one (z ∷ zs) [] long = absurd (omega arith)
 ups_all f kind one (z ∷ zs) (u ∷ us) long = rw (one z u) (ap (λ (ys : List ℕ). u ∷ ys) (ups_all f kind one zs us (omega arith)))
+ups_all f kind one _ _ long = absurd (omega arith)
 
 three : {Y : Type 0} (f : CertLine → List Y) (a b c : List CertLine) → flat_map f (a ++ b ++ c) ≡ flat_map f a ++ flat_map f b ++ flat_map f c
 three f a b c = flat_map-append f (a ++ b) c ∙ ap (λ (ys : List _). ys ++ flat_map f c) (flat_map-append f a b)

@@ -1,8 +1,8 @@
 -- Words say one settings, and begin with no hyphen.
-use Rattle.std.proofs.Common.{◌≡◌, ◌≤◌, ◌<◌, ◌^◌, ℕ, Bool, true, false, not, List, [], ◌∷◌, ◌++◌, codes, length, take, drop, eqb, refl, ap, sym, ◌∙◌, subst, arith}
+use Rattle.std.proofs.Common.{◌≡◌, ◌≤◌, ◌<◌, ◌^◌, ℕ, Bool, true, false, [], ◌∷◌, ◌++◌, codes, drop, refl, ap, sym, ◌∙◌, arith}
 use Rattle.std.specs.Prelude.{decimal}
 use Rattle.std.specs.Char.{is_ascii_digit}
-use Rattle.std.specs.List.{list_all, position_or_len}
+use Rattle.std.specs.List.{list_all}
 use Rattle.std.proofs.lemmas.Bool.{false≢true}
 use Rattle.def_certtext.specs.Settings.{floor_text, scale_text, weight_text, AreInRange, AreWordsOf, IsFloor}
 use Rattle.def_flow.specs.declared.net.Settings.{Settings}
@@ -47,9 +47,8 @@ same_floor f g false false one two is = (decimal_once f g (omega (arith, one.hig
 
 same_weight : (v w : Weight) → weight_text v ≡ weight_text w → v ≡ w
 same_weight Plain Plain is = refl
-same_weight Plain Length is = absurd cc
-same_weight Length Plain is = absurd cc
 same_weight Length Length is = refl
+same_weight _ _ is = absurd cc
 
 -- Three words have one settings.
 pub same_settings : (scale floor weight : Word) (s t : Settings) (a b : Bool) → AreWordsOf scale floor weight s a → AreWordsOf scale floor weight t b

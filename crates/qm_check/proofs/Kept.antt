@@ -17,7 +17,7 @@ use Rattle.def_run.specs.declared.answer.Why.{Why}
 use Rattle.def_run.specs.declared.answer.Why.TheVariants as why
 use Rattle.qm_check.specs.Judged.{made_once, made_twice, Gives, GivesNone, IsJudged, IsUnused}
 use Rattle.def_run.specs.declared.check_fail.CheckFail.{CheckFail}
-use Rattle.def_run.specs.declared.check_fail.CheckFail.TheVariants.{NotAccepted, Old, NotManifold, Tangled, Memory}
+use Rattle.def_run.specs.declared.check_fail.CheckFail.TheVariants.{NotAccepted, Memory}
 use Rattle.qm_check.specs.declared.lengths.Lengths.TheVariants.{Whole, Doubled}
 use Rattle.remesh_laws.proofs.Keeps.{keeps_first, keeps_third, solved}
 use Rattle.remesh_laws.specs.Keeps.{IsNetFor}
@@ -27,20 +27,14 @@ wrong_of : (plan : Plan) (net : Network) (made : Made) (cert : Cert) (why : Why)
     → GivesNone plan net cert (NotAccepted why) → IsWrong plan made.settings (lists_of cert) why
 wrong_of plan net made cert (why.Verdict verdict) for (told, refuted) = record { net = net; of_layout = for.is; told = told; refuted = refuted }
 wrong_of plan net made cert (why.TooFine faces) for (is, fine) = (solved plan made.settings net cert for is, fine)
-wrong_of plan net made cert why.NoHead for none = absurd none
-wrong_of plan net made cert why.Head for none = absurd none
-wrong_of plan net made cert (why.CertLine line) for none = absurd none
-wrong_of plan net made cert (why.Doubled u v) for none = absurd none
-wrong_of plan net made cert (why.Byte at) for none = absurd none
+wrong_of plan net made cert _ for none = absurd none
 
 pub unused_first : (plan : Plan) (net : Network) (made : Made) (cert : Cert) (fail : CheckFail) → first_of made ≡ lists_of cert
     → IsNetFor plan made.settings net → GivesNone plan net cert fail → IsUnused plan made fail
 unused_first plan net made cert (NotAccepted why) same for none =
     inl (subst (λ (c : Lists). IsWrong plan made.settings c why) (sym same) (wrong_of plan net made cert why for none))
 unused_first plan net made cert Memory same for none = tt
-unused_first plan net made cert (Old fail) same for none = absurd none
-unused_first plan net made cert (NotManifold place soup) same for none = absurd none
-unused_first plan net made cert (Tangled count) same for none = absurd none
+unused_first plan net made cert _ same for none = absurd none
 
 pub unused_lone : (plan : Plan) (net : Network) (asked : Asked) (cert : Cert) (u v : ℕ) → IsNetFor plan asked.settings net
     → IsSolution net (certificate cert) → Gives plan net cert.x.items (Doubled u v)
@@ -60,9 +54,7 @@ unused_third plan net asked first third (NotAccepted why) certified coarse doubl
   wrong = wrong_of plan net (record { settings = with_floor asked.settings 3; auto = true; first = None; cert = lists_of third }) third why for none;
 }))
 unused_third plan net asked first third Memory certified coarse doubled for none = tt
-unused_third plan net asked first third (Old fail) certified coarse doubled for none = absurd none
-unused_third plan net asked first third (NotManifold place soup) certified coarse doubled for none = absurd none
-unused_third plan net asked first third (Tangled count) certified coarse doubled for none = absurd none
+unused_third plan net asked first third _ certified coarse doubled for none = absurd none
 
 -- The first certificate is used.
 pub judged_first : (plan : Plan) (net : Network) (asked : Asked) (made : Made) (cert : Cert) (tables : Tables) (deviates : ℕ)

@@ -30,7 +30,7 @@ use Rattle.qm_check.specs.Ready.{IsNoOld, IsOld, IsTooTangled, IsUnfit}
 use Rattle.def_run.specs.CheckFails.{IsCheckFail}
 use Rattle.qm_check.specs.Refused.{of_obj}
 use Rattle.def_run.specs.declared.check_fail.CheckFail.{CheckFail}
-use Rattle.def_run.specs.declared.check_fail.CheckFail.TheVariants.{NotAccepted, Old as OldFail, NotManifold, Tangled, Memory}
+use Rattle.def_run.specs.declared.check_fail.CheckFail.TheVariants.{Old as OldFail, NotManifold, Tangled, Memory}
 use Rattle.qm_check.specs.declared.old.Old.{Old}
 
 -- The lines before a line are the first ones.
@@ -79,9 +79,7 @@ module _ (bytes : Bytes) (line : ℕ) (soup : FaceSet) (has : HasOldSoup bytes l
     old_faulty bytes line soup has refuted,
   )
   no_old Memory none = tt
-  no_old (NotAccepted why) none = absurd none
-  no_old (OldFail fail) none = absurd none
-  no_old (Tangled count) none = absurd none
+  no_old _ none = absurd none
 
   pub old_failed : (result : Result Old CheckFail) → IfErr result (IsNoOld soup) → IfErr result (IsCheckFail bytes)
   old_failed (Ok old) none = tt
@@ -91,9 +89,7 @@ pub unfit : (old : Old) (asked : Asked) (plan : Plan) (fail : CheckFail) → IsC
     → IsTooTangled plan asked fail → IsUnfit old asked fail
 unfit old asked plan (Tangled count) cut lies tangled = record { plan = plan; cut = cut; lies = lies; tangled = tangled }
 unfit old asked plan Memory cut lies tangled = tt
-unfit old asked plan (NotAccepted why) cut lies tangled = absurd tangled
-unfit old asked plan (OldFail fail) cut lies tangled = absurd tangled
-unfit old asked plan (NotManifold place soup) cut lies tangled = absurd tangled
+unfit old asked plan _ cut lies tangled = absurd tangled
 
 -- Numbers below a bound are below a greater one.
 below_more : (n m : ℕ) → n ≤ m → (xs : List ℕ) → list_all (λ v. nat_lt v n) xs ≡ true → list_all (λ v. nat_lt v m) xs ≡ true

@@ -60,9 +60,7 @@ no_network bytes line old to (Tangled count) is head unfit =
     let refuted : IsCheckedPair bytes → ⊥ = λ pair. tangle_refuted bytes asked is.solid unfit.lies.0 pair count unfit.tangled in
     (record { asked = asked; tangled = unfit.tangled; refuted = refuted }, refuted)
 no_network bytes line old to Memory is head unfit = tt
-no_network bytes line old to (NotAccepted why) is head unfit = absurd unfit
-no_network bytes line old to (Old fail) is head unfit = absurd unfit
-no_network bytes line old to (NotManifold place soup) is head unfit = absurd unfit
+no_network bytes line old to _ is head unfit = absurd unfit
 
 module _ (bytes : Bytes) (line : ℕ) (ready : Ready) (is : IsReady bytes line ready) where
   abbrev asked : IsAsked bytes
@@ -83,16 +81,8 @@ module _ (bytes : Bytes) (line : ℕ) (ready : Ready) (is : IsReady bytes line r
   tells_nothing (NotAccepted (why.CertLine bad)) has =
       let refuted : IsCheckedPair bytes → ⊥ = λ pair. line_refuted bytes asked is.solid is.net.mesh pair bad has in
       (record { asked = asked; untangled = untangled (plan ready.cut.layout) ready.asked.settings (network ready.net) is.net; reason = has; refuted = refuted }, refuted)
-  tells_nothing (NotAccepted why.NoHead) has = absurd has
-  tells_nothing (NotAccepted why.Head) has = absurd has
-  tells_nothing (NotAccepted (why.Verdict verdict)) has = absurd has
-  tells_nothing (NotAccepted (why.TooFine faces)) has = absurd has
-  tells_nothing (NotAccepted (why.Doubled u v)) has = absurd has
-  tells_nothing (NotAccepted (why.Byte at)) has = absurd has
   tells_nothing Memory has = tt
-  tells_nothing (Old fail) has = absurd has
-  tells_nothing (NotManifold place soup) has = absurd has
-  tells_nothing (Tangled count) has = absurd has
+  tells_nothing _ has = absurd has
 
   module _ (made : Made) (told : Tells bytes line made) where
     abbrev made_asked : IsAsked bytes
@@ -139,17 +129,15 @@ module _ (bytes : Bytes) (line : ℕ) (ready : Ready) (is : IsReady bytes line r
         let wrong = wrong_by (why.Byte at) by in (no_pair (why.Byte at) wrong wrong, wrong_text (why.Byte at) wrong)
     unused (NotAccepted why.NoHead) (inl by) = absurd by
     unused (NotAccepted why.NoHead) (inr (inl by)) = absurd by
-    unused (NotAccepted why.NoHead) (inr (inr by)) = absurd by.wrong
     unused (NotAccepted why.Head) (inl by) = absurd by
     unused (NotAccepted why.Head) (inr (inl by)) = absurd by
-    unused (NotAccepted why.Head) (inr (inr by)) = absurd by.wrong
     unused (NotAccepted (why.CertLine bad)) (inl by) = absurd by
     unused (NotAccepted (why.CertLine bad)) (inr (inl by)) = absurd by
-    unused (NotAccepted (why.CertLine bad)) (inr (inr by)) = absurd by.wrong
     unused Memory by = tt
     unused (Old fail) by = absurd by
     unused (NotManifold place soup) by = absurd by
     unused (Tangled count) by = absurd by
+    unused _ (inr (inr by)) = absurd by.wrong
 
     module _ (judged : Judged) (right : IsJudged (plan ready.cut.layout) (network ready.net) made judged) where
       abbrev third : Option Lists
@@ -182,13 +170,5 @@ module _ (bytes : Bytes) (line : ℕ) (ready : Ready) (is : IsReady bytes line r
                 (kept_text bytes line ready made judged is told right) differ))));
           } in
           (no_pair (why.Byte at) wrong wrong, wrong_text (why.Byte at) wrong)
-      other (NotAccepted why.NoHead) differ = absurd differ
-      other (NotAccepted why.Head) differ = absurd differ
-      other (NotAccepted (why.CertLine bad)) differ = absurd differ
-      other (NotAccepted (why.Verdict verdict)) differ = absurd differ
-      other (NotAccepted (why.TooFine faces)) differ = absurd differ
-      other (NotAccepted (why.Doubled u v)) differ = absurd differ
       other Memory differ = tt
-      other (Old fail) differ = absurd differ
-      other (NotManifold place soup) differ = absurd differ
-      other (Tangled count) differ = absurd differ
+      other _ differ = absurd differ

@@ -83,9 +83,8 @@ kept_coarse plan settings false first (Some third) kept coarse = absurd kept
 -- Where two are told, the second is the one for floor 3.
 some_third : (settings : Settings) (auto : Bool) (first one : Lists) (third : Option Lists) → (made_by settings auto first third).first ≡ Some one
     → third ≡ Some (made_by settings auto first third).cert
-some_third settings true first one None is = absurd (none-some one is)
 some_third settings true first one (Some third) is = refl
-some_third settings false first one third is = absurd (none-some one is)
+some_third settings _ first one _ is = absurd (none-some one is)
 
 module _ (plan : Plan) (mesh : IsMeshLayout plan) where
   -- A layout has one network.
@@ -123,9 +122,8 @@ module _ (plan : Plan) (mesh : IsMeshLayout plan) where
 
   third_fine : (settings : Settings) (auto : Bool) (first : Lists) (third : Option Lists) (why : Why) → AreKept plan settings auto first third
       → AreCoarse plan (used first third).x → IsThirdWrong plan settings (made_by settings auto first third) why → ⊥
-  third_fine settings true first None why kept coarse wrong = absurd (none-some wrong.first wrong.there)
   third_fine settings true first (Some third) why kept coarse wrong = not_wrong (with_floor settings 3) third why kept.3 coarse wrong.wrong
-  third_fine settings false first third why kept coarse wrong = absurd (none-some wrong.first wrong.there)
+  third_fine settings _ first _ why kept coarse wrong = absurd (none-some wrong.first wrong.there)
 
 lone_fine : (plan : Plan) (settings : Settings) (auto : Bool) (first : Lists) (third : Option Lists) (why : Why) → AreKept plan settings auto first third
     → IsUndoubled (layout_of plan) (lengths_in (used first third).x) → IsLoneDoubled plan settings (made_by settings auto first third) why → ⊥
@@ -133,12 +131,7 @@ lone_fine plan settings true first None (why.Doubled u v) kept undoubled lone = 
 lone_fine plan settings true first (Some third) (why.Doubled u v) kept undoubled lone = absurd (none-some first (sym lone.0))
 lone_fine plan settings false first None (why.Doubled u v) kept undoubled lone = undoubled u v lone.3.doubled
 lone_fine plan settings false first (Some third) (why.Doubled u v) kept undoubled lone = absurd kept
-lone_fine plan settings auto first third (why.Verdict verdict) kept undoubled lone = absurd lone
-lone_fine plan settings auto first third (why.TooFine faces) kept undoubled lone = absurd lone
-lone_fine plan settings auto first third why.NoHead kept undoubled lone = absurd lone
-lone_fine plan settings auto first third why.Head kept undoubled lone = absurd lone
-lone_fine plan settings auto first third (why.CertLine line) kept undoubled lone = absurd lone
-lone_fine plan settings auto first third (why.Byte at) kept undoubled lone = absurd lone
+lone_fine plan settings auto first third _ kept undoubled lone = absurd lone
 
 -- The certificates that are compared with are those that were kept.
 same_third : (plan : Plan) (settings : Settings) (auto : Bool) (first one : Lists) (third other : Option Lists) → AreKept plan settings auto first third

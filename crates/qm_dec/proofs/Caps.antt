@@ -29,10 +29,6 @@ grown_more v (suc p) l =
     let e : suc p - 1 ≡ p = omega arith in
     ap (λ k. capped (min (v * 10) (10 ^ 15) * 10 ^ k)) e ∙ cap_scaled (v * 10) (10 ^ p) (ten_power p) ∙ ap capped (omega (arith, ap (λ x. v * x) (pow-suc 10 p)))
 
--- and its ends
-pub grown_none : (p : ℕ) → 0 ≡ capped (0 * 10 ^ p)
-grown_none p = omega arith
-
 pub grown_far : (v p : ℕ) → 10 ^ 15 ≤ v → 10 ^ 15 ≡ capped (v * 10 ^ p)
 grown_far v p far = let a : v * 1 ≤ v * 10 ^ p = mul-le-mul_left v (ten_power p) in omega arith
 

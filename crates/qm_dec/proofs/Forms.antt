@@ -1,23 +1,17 @@
 -- The form of a decimal by its parts.
 use Rattle.std.proofs.Common.{◌≡◌, ℕ, ◌+◌, ◌<◌, ◌≤◌, Bool, true, false, ◌&&◌, List, [], ◌∷◌, ◌++◌, length, drop, eqb, pos, neg_ℤ, sym, ap, ◌∙◌, refl, arith}
 use Rattle.std.specs.Char.{is_ascii_digit}
-use Rattle.std.specs.List.{list_all, before_first, position_or_len}
+use Rattle.std.specs.List.{list_all}
 use Rattle.std.proofs.lemmas.List.Folds.{list_all-append}
 use Rattle.std.proofs.lemmas.Bool.{and_parts, false≢true, cond-true, cond-false}
 use Rattle.def_text.specs.Digits.{is_number, is_negative, number, signed, unsigned}
-use Rattle.def_text.specs.Decimal.{exponent, fraction_digits, is_exponent, is_mark, is_point, mantissa, power}
-use Rattle.std.proofs.lemmas.List.{length-take, length-drop}
+use Rattle.def_text.specs.Decimal.{exponent, is_exponent, power}
 
 -- two runs of digits, not both empty, are a number
 pub number_both : (xs ys : List ℕ) → 0 < length xs + length ys → is_number (xs ++ ys) ≡ (list_all is_ascii_digit xs && list_all is_ascii_digit ys)
 number_both [] [] l = absurd (omega arith)
 number_both [] (y ∷ ys) l = refl
 number_both (x ∷ xs) ys l = list_all-append is_ascii_digit (x ∷ xs) ys
-
-pub number_none : (xs ys : List ℕ) → length xs + length ys ≡ 0 → is_number (xs ++ ys) ≡ false
-number_none [] [] e = refl
-number_none [] (y ∷ ys) e = absurd (omega arith)
-number_none (x ∷ xs) ys e = absurd (omega arith)
 
 pub number_parts : (xs ys : List ℕ) → is_number (xs ++ ys) ≡ true → (list_all is_ascii_digit xs ≡ true) × (list_all is_ascii_digit ys ≡ true)
 number_parts [] [] is = absurd (false≢true is)
@@ -39,14 +33,6 @@ power_below xs l e = power_is xs l ∙ cond-true (is_negative (drop 1 xs)) _ _ e
 
 pub power_above : (xs : List ℕ) → 0 < length xs → is_negative (drop 1 xs) ≡ false → power xs ≡ pos (number (unsigned (drop 1 xs)))
 power_above xs l e = power_is xs l ∙ cond-false (is_negative (drop 1 xs)) _ _ e
-
--- a word and its parts
-pub parts_short : (word : List ℕ) → length word ≤ 64 → length (before_first is_point (mantissa word)) + length (fraction_digits word) + length (exponent word) ≤ 64
-parts_short word l = omega (arith, unsigned_short word, length-take (position_or_len is_mark (unsigned word)) (unsigned word), length-drop (position_or_len is_mark (unsigned word)) (unsigned word), length-take (position_or_len is_point (mantissa word)) (mantissa word), length-drop (position_or_len is_point (mantissa word) + 1) (mantissa word))
-  where
-    unsigned_short : (xs : List ℕ) → length (unsigned xs) ≤ length xs
-    unsigned_short [] = omega arith
-    unsigned_short (x ∷ xs) = grind (arith)
 
 -- a test with its first part true
 pub both_of_first : (a b : Bool) → a ≡ true → (a && b) ≡ b

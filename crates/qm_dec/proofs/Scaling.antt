@@ -20,9 +20,6 @@ use Rattle.qm_scan.proofs.Numbers.{values, number_small, digit_small}
 pub difference_up : (up down : ℕ) → down ≤ up → pos up -ℤ pos down ≡ pos (up - down)
 difference_up up down l = omega (arith, ints)
 
-pub difference_down : (up down : ℕ) → up < down → pos up -ℤ pos down ≡ negsuc (down - up - 1)
-difference_down up down l = omega (arith, ints)
-
 -- the half of the last kept place decides
 rounding : (a d b t : ℕ) → b < t → d ≤ 9 → (2 * ((a * 10 + d) * t + b) + 10 * t) / (2 * (10 * t)) ≡ a + cond (ltb d 5) 0 1
 rounding a d b t low nine = elim (cases_lt d 5) [

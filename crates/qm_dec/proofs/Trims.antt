@@ -1,18 +1,14 @@
 -- The canonical text of a number: zeros at the end of digits, and lengths.
-use Rattle.std.proofs.Common.{◌≡◌, ℕ, ◌+◌, ◌-◌, ◌<◌, ◌≤◌, Bool, cond, List, [], ◌∷◌, ◌++◌, length, take, refl, ap, ◌∙◌, arith, eqb}
+use Rattle.std.proofs.Common.{◌≡◌, ℕ, ◌+◌, ◌-◌, ◌<◌, ◌≤◌, cond, List, [], ◌∷◌, ◌++◌, length, take, refl, ap, ◌∙◌, arith, eqb}
 use Rattle.std.specs.List.{suffix_len, prefix_len}
 use Rattle.std.proofs.lemmas.List.{reverse-append, take-append-le, take_all, length_push}
 use Rattle.std.proofs.lemmas.Bool.{ne_eqb}
 use Rattle.std.proofs.lemmas.List.Sums.{suffix_len-le-length}
-use Rattle.std.proofs.Common.{◌^◌, ◌/◌, ℤ, pos, ◌<ℤ◌, set}
+use Rattle.std.proofs.Common.{◌^◌, ◌/◌, ◌<ℤ◌, set}
 use Rattle.std.specs.Prelude.{decimal}
-use Rattle.std.proofs.lemmas.Int.{ints}
 use Rattle.std.proofs.lemmas.Fmt.{length-decimal-le}
 use Rattle.std.proofs.lemmas.List.{length-take, length-drop}
-use Rattle.def_text.specs.Canonical.{fraction_text, minus_text, six_digits, without_zeros}
-
-is_zero : ℕ → Bool
-is_zero d = eqb d 48
+use Rattle.def_text.specs.Canonical.{fraction_text, six_digits, without_zeros}
 
 -- The zeros at the end of digits with one more.
 suffix_push : (xs : List ℕ) (x : ℕ) → suffix_len (λ d. eqb d 48) (xs ++ x ∷ []) ≡ cond (eqb x 48) (1 + suffix_len (λ d. eqb d 48) xs) 0
@@ -44,10 +40,6 @@ fraction_short r l = grind (arith, trimmed_short r l)
 -- the digits before the point
 pub whole_short : (n : ℕ) → n ≤ 999_999_999_999_999 → length (decimal (n / 10 ^ 6)) ≤ 9
 whole_short n l = length-decimal-le 9 (n / 10 ^ 6) (omega arith) (omega arith) (omega arith)
-
--- the sign
-pub minus_of : (z : ℤ) → z <ℤ pos 0 → minus_text z ≡ 45 ∷ []
-minus_of z l = grind (arith, ints)
 
 pub first_of_write : (out : List ℕ) (b : ℕ) → 1 ≤ length out → take 1 (set out 0 b) ≡ b ∷ []
 first_of_write [] b l = absurd (omega arith)

@@ -1,16 +1,11 @@
 -- One number more of a range.
-use Rattle.std.proofs.Common.{◌≡◌, ◌<◌, ◌≤◌, ◌+◌, ◌*◌, ◌/◌, ◌%◌, ◌&&◌, ℕ, zero, suc, ℤ, Bool, true, false, List, [], ◌∷◌, ◌++◌, length, map, filter, cond, refl, ap, ap₂, sym, ◌∙◌, arith, append-nil, append_assoc}
-use Rattle.std.specs.Prelude.{nat_le, nat_lt}
-use Rattle.std.specs.List.{flat_map, list_all, range_with_len}
-use Rattle.std.proofs.lemmas.Bool.{and_from, le-leb, lt-ltb}
+use Rattle.std.proofs.Common.{◌≡◌, ◌<◌, ◌≤◌, ◌+◌, ◌*◌, ◌/◌, ◌%◌, ◌&&◌, ℕ, suc, Bool, true, false, List, [], ◌∷◌, ◌++◌, map, filter, refl, ap, ap₂, sym, ◌∙◌, arith, append-nil, append_assoc}
+use Rattle.std.specs.List.{flat_map, range_with_len}
 use Rattle.std.proofs.lemmas.List.{map-append}
 use Rattle.std.proofs.lemmas.List.Concat.{flat_map-append}
 use Rattle.std.proofs.lemmas.List.Elements.{filter-append}
-use Rattle.std.proofs.lemmas.List.Folds.{list_all-append}
-use Rattle.std.proofs.lemmas.List.FromFn.{length-range_with_len}
 use Rattle.def_gen.specs.Steps.{block_height, state_after}
 use Rattle.def_gen.specs.declared.TheConstants.{ADDEND, FACTOR, HEIGHTS, LOW_STATES, STATES}
-use Rattle.def_text.specs.Text.{numbers_to}
 use Rattle.qm_laws.proofs.Filters.{range_more}
 
 pub map_more : {X : Type 0} (f : ℕ → X) (n : ℕ) → map f (range_with_len 0 (n + 1)) ≡ map f (range_with_len 0 n) ++ f n ∷ []
@@ -32,11 +27,6 @@ pub left_more : {X : Type 0} (f : ℕ → X) (p : ℕ → Bool) (n : ℕ) → p 
 left_more f p n isnt =
     ap (λ (ns : List ℕ). map f (filter p ns)) (range_more n) ∙ ap (map f) (filter-append p (range_with_len 0 n) (n ∷ []))
     ∙ ap (λ (ns : List ℕ). map f (filter p (range_with_len 0 n) ++ ns)) (rw isnt refl) ∙ ap (map f) (append-nil (filter p (range_with_len 0 n)))
-
-pub numbers_more : (n : ℕ) → numbers_to (n + 1) ≡ numbers_to n ++ (n + 1) ∷ []
-numbers_more n =
-    let next : n + 1 ≡ suc n = omega arith in
-    ap numbers_to next ∙ ap (λ (k : ℕ). numbers_to n ++ k ∷ []) (sym next)
 
 -- One item more of a list in the making.
 pub pushed_more : {X : Type 0} (f : ℕ → X) (n : ℕ) (before old new : List X) → old ≡ before ++ map f (range_with_len 0 n) → new ≡ old ++ f n ∷ []

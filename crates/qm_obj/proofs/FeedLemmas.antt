@@ -211,9 +211,6 @@ refused_behind a b x y fail first stops = λ more. ap (soup_with a) (append_asso
 pub refused_before : (a : Kept) (x y : Bytes) (fail : ObjFail) → RefusesPiece a x fail → RefusesPiece a (x ++ y) fail
 refused_before a x y fail stops = λ more. ap (soup_with a) (append_assoc x y more) ∙ stops (y ++ more)
 
-pub nothing_taken : (a : Kept) → IsSound a → TookPiece a a []
-nothing_taken a sound = record { same = λ more. refl; sound = sound; counted = omega arith }
-
 -- The end of the text is that of its last line.
 pub ended_tail : (old : Kept) (line : Bytes) → IsSound old → 0 < length old.tail → line ≡ line_of old.tail → soup_with old [] ≡ soup_with_lines old (line ∷ [])
 ended_tail old line sound some is =

@@ -9,7 +9,7 @@ use Rattle.def_text.specs.Fails.{of_obj}
 use Rattle.def_text.specs.Input.{IsSoupFail, ReadWhole}
 use Rattle.def_text.specs.Text.{soup_in}
 use Rattle.def_text.specs.declared.refusal.ObjFail.{ObjFail}
-use Rattle.def_text.specs.declared.refusal.ObjFail.TheVariants.{Syntax, NotQuad, Range, Limit, Memory}
+use Rattle.def_text.specs.declared.refusal.ObjFail.TheVariants.{Memory}
 use Rattle.def_text.specs.declared.refusal.SoupFail.{SoupFail}
 use Rattle.qm_io.proofs.Moved.{gave_more}
 use Rattle.qm_obj.specs.Feeding.{FedPiece, FedTo, FedWhole}
@@ -17,11 +17,8 @@ use Rattle.qm_obj.specs.Feeding.{FedPiece, FedTo, FedWhole}
 -- A refusal of the text is one of its soup.
 refused : (limit : ℕ) (source : Change) (bytes : Bytes) (fail : ObjFail) → ReadWhole limit source.told source.told_now bytes
     → source.faults_now ≡ source.faults → (fail ≢ Memory → soup_in bytes ≡ Err fail) → IsSoupFail limit source (of_obj fail)
-refused limit source bytes (Syntax line) whole calm said = (record { bytes = bytes; whole = whole; said = said (λ e. cc) }, λ e. cc, calm)
-refused limit source bytes (NotQuad line corners) whole calm said = (record { bytes = bytes; whole = whole; said = said (λ e. cc) }, λ e. cc, calm)
-refused limit source bytes (Range line) whole calm said = (record { bytes = bytes; whole = whole; said = said (λ e. cc) }, λ e. cc, calm)
-refused limit source bytes (Limit which line) whole calm said = (record { bytes = bytes; whole = whole; said = said (λ e. cc) }, λ e. cc, calm)
 refused limit source bytes Memory whole calm said = tt
+refused limit source bytes _ whole calm said = (record { bytes = bytes; whole = whole; said = said (λ e. cc) }, λ e. cc, calm)
 
 pub soup_refused : {T : Type 0} (limit : ℕ) (source : Change) (bytes : Bytes) (fail : ObjFail) (result : Result T SoupFail)
     → ReadWhole limit source.told source.told_now bytes → source.faults_now ≡ source.faults

@@ -55,9 +55,8 @@ faces_placeless (n ∷ l) (x ∷ c) = faces_placeless l c
 
 faces_said : (l : List ℕ) (c : Faces) → length l ≡ length c → flat_map face_in (face_readings l c) ≡ c
 faces_said [] [] sizes = refl
-faces_said [] (x ∷ c) sizes = absurd (omega (arith, sizes))
-faces_said (n ∷ l) [] sizes = absurd (omega (arith, sizes))
 faces_said (n ∷ l) (x ∷ c) sizes = ap (λ ys. x ∷ ys) (faces_said l c (omega (arith, sizes)))
+faces_said _ _ sizes = absurd (omega (arith, sizes))
 
 faces_lined : (l : List ℕ) (c : Faces) → length l ≡ length c → flat_map line_in (face_readings l c) ≡ l
 faces_lined [] c sizes = refl
@@ -66,9 +65,8 @@ faces_lined (n ∷ l) (x ∷ c) sizes = ap (λ ys. n ∷ ys) (faces_lined l c (o
 
 faces_pushed : (l : List ℕ) (c : Faces) (n : ℕ) (x : List ℕ) → length l ≡ length c → face_readings (l ++ n ∷ []) (c ++ x ∷ []) ≡ face_readings l c ++ Face n x ∷ []
 faces_pushed [] [] n x sizes = refl
-faces_pushed [] (y ∷ c) n x sizes = absurd (omega (arith, sizes))
-faces_pushed (m ∷ l) [] n x sizes = absurd (omega (arith, sizes))
 faces_pushed (m ∷ l) (y ∷ c) n x sizes = ap (λ said. Face m y ∷ said) (faces_pushed l c n x (omega (arith, sizes)))
+faces_pushed _ _ n x sizes = absurd (omega (arith, sizes))
 
 -- The soup of kept positions and faces, with readings behind them.
 abbrev kept_soup : (p : Positions) (c : Faces) (l : List ℕ) (said : List Reading) → Result FaceSet ObjFail

@@ -91,12 +91,9 @@ reading_suits vertices faces line = by_size (ltb 65536 line.size)
     by_face : (ws : Words) (many bad other out : Bool) → leb (2 ^ 20) faces ≡ many → list_any (λ w. is_out vertices (used_index w)) ws ≡ out → is_vertex_line line ≡ false → is_face_line line ≡ true
         → Suits vertices faces line (cond many (Refused (Limit Faces line.number)) (cond bad (Refused (Syntax line.number)) (cond other (Refused (NotQuad line.number (length ws)))
         (cond out (Refused (Range line.number)) (Face line.number (map (λ w. resolved vertices (used_index w)) ws))))))
-    by_face ws true bad other out many is no_vertex face = suits_refused vertices faces line _
-    by_face ws false true other out many is no_vertex face = suits_refused vertices faces line _
-    by_face ws false false true out many is no_vertex face = suits_refused vertices faces line _
-    by_face ws false false false true many is no_vertex face = suits_refused vertices faces line _
     by_face ws false false false false many is no_vertex face =
         suits_face vertices faces line line.number (map (λ w. resolved vertices (used_index w)) ws) no_vertex face (leb-false _ _ many) (positive_corners vertices ws is)
+    by_face ws _ _ _ _ many is no_vertex face = suits_refused vertices faces line _
 
     by_letter : (word : List ℕ) (ws : Words) (v f : Bool) → words line.text ≡ word ∷ ws → is_letter 118 word ≡ v → is_letter 102 word ≡ f
         → Suits vertices faces line (cond v (vertex_reading line.number vertices ws) (cond f (face_reading line.number vertices faces ws) Passed))

@@ -1,10 +1,9 @@
 -- clap takes words that are uses of the options, where each value may stand in a word of its own.
-use Rattle.std.proofs.Common.{◌≡◌, ◌⊎◌, ◌≤◌, ◌||◌, ◌==◌, not, ℕ, Bool, true, false, List, [], ◌∷◌, ◌++◌, Option, Some, None, fold, map, inl, inr, refl, ap, sym, ◌∙◌, subst, append-nil, append_assoc, arith}
+use Rattle.std.proofs.Common.{◌≡◌, ◌⊎◌, ◌≤◌, ◌||◌, ◌==◌, ℕ, Bool, true, false, List, [], ◌∷◌, ◌++◌, Option, Some, None, map, inl, inr, refl, ap, sym, ◌∙◌, subst, append-nil, append_assoc}
 use Rattle.std.specs.List.{after_first, before_first, list_all, list_any}
 use Rattle.std.specs.Str.{bytes_eq}
 use Rattle.std.proofs.lemmas.Bool.{and_parts, cases_Bool, false≢true, true≢false}
 use Rattle.clap.specs.Faults.{use_fault, walk_fault}
-use Rattle.clap.specs.Kinds.{or_else, Kinds}
 use Rattle.clap.specs.Lexer.{long_of}
 use Rattle.clap.specs.Walk.{has_row, idle, option, settled_rows, used, walked, Row, Walk}
 use Rattle.def_run.specs.Options.{attached, dashed, in_front, is_equals, separate, uses_of, Use, Uses}
@@ -14,7 +13,7 @@ use Rattle.qm_words.proofs.Rules.{by_id, by_long, full_rule, rules}
 use Rattle.qm_words.proofs.Steps.{flag_fault, flag_walk, pair_fault, pair_walk, settle, stands, value_fault, value_walk}
 use Rattle.qm_words.proofs.Uses.{all_of, count_fresh, fresh_quiet, good_back, good_front, last_fresh, pending, rows_of, same_name, settles, used_fresh, Good, IsKnown}
 use Rattle.qm_words.proofs.Walks.{end_rows, passes_first, quiet_both, rests, waits, Passes}
-use Rattle.qm_words.proofs.Words.{after_step, attached_dashed, before_all, cut_from, plain_view, uses_flag, uses_pair, with_hyphens}
+use Rattle.qm_words.proofs.Words.{attached_dashed, before_all, cut_from, plain_view, uses_flag, uses_pair, with_hyphens}
 
 -- From this state the words pass, and all uses are read.
 pub record Fit (names words : Words) (all : Uses) (from : Walk) : Type 0 where
@@ -53,13 +52,12 @@ front_is first words uses is = by_behind (uses_of words) refl uses is
   where
     by_behind : (o : Option Uses) → uses_of words ≡ o → (us : Uses) → in_front first o ≡ Some (map with_hyphens us)
         → (one : Use) × (rest : Uses) × (us ≡ one ∷ rest) × (first ≡ with_hyphens one) × (uses_of words ≡ Some (map with_hyphens rest))
-    by_behind None behind us same = absurd cc
-    by_behind (Some found) behind [] same = absurd cc
     by_behind (Some found) behind (one ∷ rest) same =
         let joined : first ∷ found ≡ with_hyphens one ∷ map with_hyphens rest = cc in
         let head : first ≡ with_hyphens one = cc in
         let others : found ≡ map with_hyphens rest = cc in
         (one, rest, refl, head, behind ∙ ap (λ (us : Uses). Some us) others)
+    by_behind _ behind _ same = absurd cc
 
 -- A word with an `=` that is the use of an option.
 pub pair_long : (word : Word) (one : Use) → attached word ≡ with_hyphens one → list_any is_equals word ≡ true
