@@ -216,7 +216,7 @@ def jobs():
     for line in (bytes_of(pathlib.Path("/proc/meminfo")) or b"").splitlines():
         if line.startswith(b"MemAvailable:"):
             fitting = int(line.split()[1]) // KIB_A_JOB
-    return max(min(len(os.sched_getaffinity(0)), fitting, 8), 1)
+    return max(min(len(os.sched_getaffinity(0)), fitting), 1)
 
 
 def stop(tool):
@@ -287,7 +287,7 @@ def build():
         say("not built, and the Rattle kit's command rt is not on the PATH")
         return False
     BUILD.mkdir(exist_ok=True)
-    say("proving and building the program; the first time takes minutes")
+    say("proving and building the program; the first time takes an hour or more")
     started = time.monotonic()
     while True:
         listed, summed = listing(), checksum()
