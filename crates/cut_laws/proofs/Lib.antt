@@ -3,7 +3,7 @@ pub mod Folds
 pub mod Pigeon
 pub mod Rows
 pub mod Grown
-pub mod Rising
+pub mod Increasing
 pub mod Classes
 pub mod OneList
 pub mod Corners

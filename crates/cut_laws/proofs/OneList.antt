@@ -10,7 +10,7 @@ use Rattle.def_cut.specs.Laws.{OneListLaw}
 use Rattle.cut_laws.proofs.Spins.{spun}
 use Rattle.cut_laws.proofs.Folds.{no_fold}
 use Rattle.cut_laws.proofs.Classes.{In, AreOne, one_patch}
-use Rattle.cut_laws.proofs.Rising.{rising_place, same_many, same_values}
+use Rattle.cut_laws.proofs.Increasing.{increasing_place, same_many, same_values}
 
 -- A place among h rows of w.
 pub place_row : (k w h : ℕ) → 0 < w → k < h * w → k / w < h
@@ -59,7 +59,7 @@ module _ (mesh : HalfEdges) (laws : IsQuadManifold mesh) (cut : Cut) (full : IsC
   -- So in one list they stand at one place,
   pub same_place : (ps : List Rectangle) → AreTiles mesh cut face ps → (p q x : ℕ) → p < length ps → q < length ps → LiesIn mesh (patch_at ps p) x → LiesIn mesh (patch_at ps q) x → p ≡ q
   same_place ps a p q x lp lq ip iq =
-      rising_place (least_at face ps) (length ps) (record { step = a.ordered }) p q lp lq (ap (λ (r : Rectangle). least_of (map face r.cells)) (shared ps ps a a p q x lp lq ip iq))
+      increasing_place (least_at face ps) (length ps) (record { step = a.ordered }) p q lp lq (ap (λ (r : Rectangle). least_of (map face r.cells)) (shared ps ps a a p q x lp lq ip iq))
 
   -- and each cell at one place there.
   pub once : (ps : List Rectangle) → AreTiles mesh cut face ps → (d p i j k q a b l : ℕ) → p < length ps → q < length ps → IsSide mesh (patch_at ps p) i j k d → IsSide mesh (patch_at ps q) a b l d → (p ≡ q) × (i ≡ a) × (j ≡ b)
@@ -106,7 +106,7 @@ module _ (mesh : HalfEdges) (laws : IsQuadManifold mesh) (cut : Cut) (full : IsC
           by_found : (q : ℕ) × (q < length qs) × (patch_at ps p ≡ patch_at qs q) → patch_at ps p ≡ patch_at qs p
           by_found f =
               let values : least_at face ps p ≡ least_at face qs p = same_values (least_at face ps) (least_at face qs) (length ps) (length qs) (record { step = a.ordered }) (record { step = b.ordered }) (least_there ps qs a b) (least_there qs ps b a) p l in
-              let place : f.0 ≡ p = rising_place (least_at face qs) (length qs) (record { step = b.ordered }) f.0 p f.1 (omega (arith, many)) (sym (ap (λ (r : Rectangle). least_of (map face r.cells)) f.2) ∙ values) in
+              let place : f.0 ≡ p = increasing_place (least_at face qs) (length qs) (record { step = b.ordered }) f.0 p f.1 (omega (arith, many)) (sym (ap (λ (r : Rectangle). least_of (map face r.cells)) f.2) ∙ values) in
               f.2 ∙ ap (patch_at qs) place
 
 pub one_list_law : OneListLaw

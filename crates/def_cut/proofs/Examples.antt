@@ -65,8 +65,8 @@ instants x rs vs zero = x
 instants x rs vs (suc n) = instants (instant x rs vs) rs vs n
 
 -- Both orders lead to the same end.
-rising : stops (instants (first_of notched) (range_with_len 0 4) (range_with_len 0 23) 3).riders ≡ notched_stops
-rising = refl
+increasing : stops (instants (first_of notched) (range_with_len 0 4) (range_with_len 0 23) 3).riders ≡ notched_stops
+increasing = refl
 
 falling : stops (instants (first_of notched) (reverse (range_with_len 0 4)) (reverse (range_with_len 0 23)) 3).riders ≡ notched_stops
 falling = refl

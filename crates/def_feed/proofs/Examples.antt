@@ -6,8 +6,8 @@ use Rattle.def_text.specs.declared.refusal.ObjFail.TheVariants.{Range, Syntax}
 use Rattle.def_feed.specs.Kept.{Kept, soup_with}
 
 -- A text that is cut within its third physical line.
-front : List ℕ
-front = codes "v 0 0 0\r\nf 1 1 \\\n1 "
+prefix : List ℕ
+prefix = codes "v 0 0 0\r\nf 1 1 \\\n1 "
 
 half : Kept
 half = record {
@@ -20,12 +20,12 @@ half = record {
   tail = codes "1 ";
 }
 
-whole_row : soup_with half (codes "1\n") ≡ soup_in (front ++ codes "1\n")
-unfolding front half
+whole_row : soup_with half (codes "1\n") ≡ soup_in (prefix ++ codes "1\n")
+unfolding prefix half
 whole_row = refl
 
-split_row : soup_with half (codes "\\\r\n1#") ≡ soup_in (front ++ codes "\\\r\n1#")
-unfolding front half
+split_row : soup_with half (codes "\\\r\n1#") ≡ soup_in (prefix ++ codes "\\\r\n1#")
+unfolding prefix half
 split_row = refl
 
 late_row : soup_with half (codes "2\nf -1 1 1 1") ≡ Err (Range 2)

@@ -35,10 +35,10 @@ abbrev pub kept_readings : (kept : Kept) → List Reading
 kept_readings kept = map (λ position. Position position) kept.positions ++ face_readings kept.lines kept.faces
 
 -- Logical lines of which the first has this number and this text in front.
-abbrev pub with_front : (number : ℕ) (front : Bytes) (lines : List Logical) → List Logical
-with_front number front [] = record { number = number; size = length front; text = front } ∷ []
-with_front number front (line ∷ lines) =
-    record { number = number; size = length front + line.size; text = front ++ line.text } ∷ lines
+abbrev pub with_front : (number : ℕ) (prefix : Bytes) (lines : List Logical) → List Logical
+with_front number prefix [] = record { number = number; size = length prefix; text = prefix } ∷ []
+with_front number prefix (line ∷ lines) =
+    record { number = number; size = length prefix + line.size; text = prefix ++ line.text } ∷ lines
 
 -- The same, where there is such a text.
 abbrev pub with_joined : (number : ℕ) (joined : Bytes) (lines : List Logical) → List Logical

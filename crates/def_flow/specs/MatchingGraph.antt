@@ -23,8 +23,8 @@ fan u cost first zero = []
 fan u cost first (suc n) = link u first cost ∷ fan u cost (first + 1) n
 
 -- Edges from u to each copy of the node of an end. A plus end is paid for here.
-abbrev pub to_copies : (room : Copies) (u : Vertex) (cost : ℤ) (e : End) → List WEdge
-to_copies room u cost e = fan u (cond e.plus cost (pos 0)) (count_below room e.node) (room e.node)
+abbrev pub to_copies : (copies_at : Copies) (u : Vertex) (cost : ℤ) (e : End) → List WEdge
+to_copies copies_at u cost e = fan u (cond e.plus cost (pos 0)) (count_below copies_at e.node) (copies_at e.node)
 
 -- The edge inside a unit, from its first vertex to its second. A minus end is paid for here.
 abbrev pub inner_link : (first : Vertex) (cost : ℤ) (e : End) → WEdge
@@ -36,14 +36,14 @@ are_alike e f = cond e.plus f.plus (not f.plus)
 
 -- The edges of a unit, by its first vertex. With unlike signs it has this vertex alone; with like signs it has one
 -- for each end, and the second end is free; with one end it has one for the end, and one at the rim.
-abbrev pub links_by : (room : Copies) (first : Vertex) (cost : ℤ) (left : End) (right : Option End) → List WEdge
-links_by room first cost left None = to_copies room first cost left ++ inner_link first cost left ∷ []
-links_by room first cost left (Some right) = cond (are_alike left right)
-    (to_copies room first cost left ++ (to_copies room (first + 1) (pos 0) right ++ inner_link first cost left ∷ []))
-    (to_copies room first cost left ++ to_copies room first cost right)
+abbrev pub links_by : (copies_at : Copies) (first : Vertex) (cost : ℤ) (left : End) (right : Option End) → List WEdge
+links_by copies_at first cost left None = to_copies copies_at first cost left ++ inner_link first cost left ∷ []
+links_by copies_at first cost left (Some right) = cond (are_alike left right)
+    (to_copies copies_at first cost left ++ (to_copies copies_at (first + 1) (pos 0) right ++ inner_link first cost left ∷ []))
+    (to_copies copies_at first cost left ++ to_copies copies_at first cost right)
 
-abbrev pub unit_links : (room : Copies) (first : Vertex) (u : ArcUnit) → List WEdge
-unit_links room first u = links_by room first u.cost u.left u.right
+abbrev pub unit_links : (copies_at : Copies) (first : Vertex) (u : ArcUnit) → List WEdge
+unit_links copies_at first u = links_by copies_at first u.cost u.left u.right
 
 -- How many vertices a unit has.
 abbrev pub size_by : (left : End) (right : Option End) → ℕ
@@ -54,9 +54,9 @@ abbrev pub unit_size : (u : ArcUnit) → ℕ
 unit_size u = size_by u.left u.right
 
 -- The edges of all units, by the first vertex of the first.
-abbrev pub units_links : (room : Copies) (first : Vertex) (us : List ArcUnit) → List WEdge
-units_links room first [] = []
-units_links room first (u ∷ us) = unit_links room first u ++ units_links room (first + unit_size u) us
+abbrev pub units_links : (copies_at : Copies) (first : Vertex) (us : List ArcUnit) → List WEdge
+units_links copies_at first [] = []
+units_links copies_at first (u ∷ us) = unit_links copies_at first u ++ units_links copies_at (first + unit_size u) us
 
 -- A vertex is at the rim where its unit has one end.
 abbrev pub with_rim : (right : Option End) (r : Vertex) (rs : List Vertex) → List Vertex
@@ -91,20 +91,20 @@ rim_links before fresh (r ∷ []) = link_from before r
 rim_links before fresh (r ∷ s ∷ rs) = rung before fresh r ++ rim_links (Some (fresh + 1)) (fresh + 2) (s ∷ rs)
 
 -- The first vertex past the copies, the units and the lone vertex, where there is one.
-abbrev pub first_fresh : (nodes : ℕ) (room : Copies) (lone : Bool) (us : List ArcUnit) → Vertex
-first_fresh nodes room lone us = count_below room nodes + count unit_size us + cond lone 1 0
+abbrev pub first_fresh : (nodes : ℕ) (copies_at : Copies) (lone : Bool) (us : List ArcUnit) → Vertex
+first_fresh nodes copies_at lone us = count_below copies_at nodes + count unit_size us + cond lone 1 0
 
 -- The lone vertex, where there is one.
-abbrev pub lone_vertex : (nodes : ℕ) (room : Copies) (lone : Bool) (us : List ArcUnit) → Option Vertex
-lone_vertex nodes room lone us = cond lone (Some (count_below room nodes + count unit_size us)) None
+abbrev pub lone_vertex : (nodes : ℕ) (copies_at : Copies) (lone : Bool) (us : List ArcUnit) → Option Vertex
+lone_vertex nodes copies_at lone us = cond lone (Some (count_below copies_at nodes + count unit_size us)) None
 
 -- The graph of units over nodes with copies. Its vertices are the copies, those of the units, the lone vertex
 -- where there is one, and the pairs at the rim.
-abbrev pub graph_by : (nodes : ℕ) (room : Copies) (lone : Bool) (us : List ArcUnit) → Graph
-graph_by nodes room lone us = record {
-  n = first_fresh nodes room lone us + 2 * (length (rim (count_below room nodes) us) - 1);
-  edges = units_links room (count_below room nodes) us
-      ++ rim_links (lone_vertex nodes room lone us) (first_fresh nodes room lone us) (rim (count_below room nodes) us);
+abbrev pub graph_by : (nodes : ℕ) (copies_at : Copies) (lone : Bool) (us : List ArcUnit) → Graph
+graph_by nodes copies_at lone us = record {
+  n = first_fresh nodes copies_at lone us + 2 * (length (rim (count_below copies_at nodes) us) - 1);
+  edges = units_links copies_at (count_below copies_at nodes) us
+      ++ rim_links (lone_vertex nodes copies_at lone us) (first_fresh nodes copies_at lone us) (rim (count_below copies_at nodes) us);
 }
 
 -- The graph of units in their states: a copy for each active end, and a lone vertex where an odd number of

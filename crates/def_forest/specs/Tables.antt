@@ -3,7 +3,7 @@
 use Rattle.std.specs.Prelude.{◌≡◌, ℕ, zero, suc, ◌+◌, ◌*◌, ◌<◌, ◌==◌, ◌||◌, Bool, if◌then◌else◌, List, length, map}
 use Rattle.std.specs.Prelude.{slice_index, slice_index_or, Option, Some, None, is_some, ℤ, pos, ◌+ℤ◌, ◌-ℤ◌, ◌*ℤ◌, int_lt}
 use Rattle.def_math.specs.Counts.{count}
-use Rattle.def_math.specs.Rising.{IsRising}
+use Rattle.def_math.specs.Increasing.{IsIncreasing}
 use Rattle.def_matching.specs.Matching.{Graph, Vertex, EdgeNumber, edge_at, ends_at}
 use Rattle.def_forest.specs.Darts.{Dart, darts_of}
 use Rattle.def_forest.specs.Forests.{Blossom, Forest, IsTight, load}
@@ -128,9 +128,9 @@ dart_by Outside e = 2 * e + 1
 abbrev pub outer_dart : (g : Graph) (f : Forest) (e : EdgeNumber) → Dart
 outer_dart g f e = dart_by (f.label (f.out (edge_at g e).u)) e
 
--- Edges of a blossom, in rising order and tight, that match each of its vertices but one once, and no other.
+-- Edges of a blossom, in increasing order and tight, that match each of its vertices but one once, and no other.
 pub record MatchesBut (g : Graph) (f : Forest) (b : Blossom) (v : Vertex) (m : List EdgeNumber) : Type 0 where
-  pub rising : IsRising 0 (length g.edges) m
+  pub increasing : IsIncreasing 0 (length g.edges) m
   pub tight : (k : ℕ) → k < length m → IsTight (darts_of g) f (2 * slice_index m k)
   pub once : (w : Vertex) → w < g.n → count (ends_at w) (map (edge_at g) m)
       ≡ (if f.holds b w then (if w == v then 0 else 1) else 0)

@@ -16,8 +16,8 @@ abbrev pub IsEmptied : (left : Told) → Type 0
 IsEmptied None = Unit {0}
 IsEmptied (Some rest) = rest ≡ []
 
--- The sink took some front of the piece.
-pub record TookFront (before now : Told) (piece : Bytes) : Type 0 where
+-- The sink took a prefix of the piece.
+pub record TookPrefix (before now : Told) (piece : Bytes) : Type 0 where
   pub count : ℕ
   pub is : now ≡ took before (take count piece)
 

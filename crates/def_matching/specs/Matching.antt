@@ -2,7 +2,7 @@
 use Rattle.std.specs.Prelude.{◌≡◌, ℕ, ◌+◌, ◌*◌, ◌<◌, ◌≤◌, ◌≢◌, ◌==◌, if◌then◌else◌, List, map, length, ℤ, pos}
 use Rattle.std.specs.Prelude.{unsigned_abs, slice_index_or}
 use Rattle.def_math.specs.Counts.{count}
-use Rattle.def_math.specs.Rising.{IsRising}
+use Rattle.def_math.specs.Increasing.{IsIncreasing}
 use Rattle.def_math.specs.Sums.{total}
 use Rattle.def_matching.specs.declared.limits.TheConstants.{MAX_EDGES, MAX_PRODUCT, MAX_VERTICES}
 use Rattle.def_matching.specs.declared.weighted.WEdge.{WEdge}
@@ -48,9 +48,9 @@ IsCheap g = (k : EdgeNumber) → k < length g.edges → g.n * unsigned_abs (edge
 abbrev pub ends_at : (v : Vertex) (e : WEdge) → ℕ
 ends_at v e = (if e.u == v then 1 else 0) + (if e.v == v then 1 else 0)
 
--- A perfect matching: rising edge numbers, such that each vertex is an end of exactly one of these edges.
+-- A perfect matching: increasing edge numbers, such that each vertex is an end of exactly one of these edges.
 pub record IsPerfect (g : Graph) (m : List EdgeNumber) : Type 0 where
-  pub rising : IsRising 0 (length g.edges) m
+  pub increasing : IsIncreasing 0 (length g.edges) m
   pub once : (v : Vertex) → v < g.n → count (ends_at v) (map (edge_at g) m) ≡ 1
 
 -- The cost of a matching is the sum of its edges' costs.

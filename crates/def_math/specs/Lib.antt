@@ -1,5 +1,5 @@
 pub mod Counts
-pub mod Rising
+pub mod Increasing
 pub mod Runs
 pub mod Searches
 pub mod Sums

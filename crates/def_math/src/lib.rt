@@ -1,2 +1,2 @@
-//! Sums, counts, searches and rising lists: definitions alone, which know nothing of meshes or networks.
+//! Sums, counts, searches and increasing lists: definitions alone, which know nothing of meshes or networks.
 #![tactic(auto)]

@@ -66,7 +66,7 @@ component_of faces f = within faces f (length faces)
 abbrev pub least_face : (faces : Faces) (f : ℕ) → ℕ
 least_face faces f = position_or_len (λ b. b) (component_of faces f)
 
--- The least face of each component, rising.
+-- The least face of each component, increasing.
 abbrev pub least_faces : (faces : Faces) → List ℕ
 least_faces faces = filter (λ f. least_face faces f == f) (all_faces faces)
 
@@ -78,7 +78,7 @@ place_among firsts f = length (filter (λ g. nat_lt g f) firsts)
 abbrev pub component_numbers : (faces : Faces) → List ℕ
 component_numbers faces = map (λ f. place_among (least_faces faces) (least_face faces f)) (all_faces faces)
 
--- The vertices of the marked faces, rising.
+-- The vertices of the marked faces, increasing.
 abbrev pub vertices_in : (faces : Faces) (marks : Marks) → List ℕ
 vertices_in faces marks =
     filter (λ v. list_any (λ d. (from_of faces d == v) && is_marked marks (d / 4)) (all_darts faces))
@@ -88,7 +88,7 @@ vertices_in faces marks =
 abbrev pub is_ring : (faces : Faces) (marks : Marks) → Bool
 is_ring faces marks = list_all (is_regular faces) (vertices_in faces marks)
 
--- Whether v is the first of a rising list.
+-- Whether v is the first of an increasing list.
 abbrev pub is_first : (v : ℕ) (vertices : List ℕ) → Bool
 is_first v [] = false
 is_first v (u ∷ us) = v == u
@@ -97,7 +97,7 @@ is_first v (u ∷ us) = v == u
 abbrev pub is_seed_in : (faces : Faces) (v : ℕ) (marks : Marks) → Bool
 is_seed_in faces v marks = is_first v (vertices_in faces marks) && is_ring faces marks
 
--- The seeds of all rings, rising.
+-- The seeds of all rings, increasing.
 abbrev pub seeds : (faces : Faces) → List ℕ
 seeds faces =
     filter (λ v. list_any (λ f. is_seed_in faces v (component_of faces f)) (least_faces faces)) (all_vertices faces)
@@ -109,7 +109,7 @@ is_start faces ring_seeds d = is_singular faces (from_of faces d)
     || (is_some (twin_of faces d)
     && (is_reflex faces (from_of faces d) || list_any (λ v. v == from_of faces d) ring_seeds))
 
--- The darts along which riders start, rising.
+-- The darts along which riders start, increasing.
 abbrev pub start_darts : (faces : Faces) → List ℕ
 start_darts faces = filter (is_start faces (seeds faces)) (all_darts faces)
 

@@ -25,7 +25,7 @@ use Rattle.def_mesh.specs.Faces.{Faces, corner}
 abbrev pub darts : (faces : Faces) → ℕ
 darts faces = 4 * length faces
 
--- All darts, rising.
+-- All darts, increasing.
 abbrev pub all_darts : (faces : Faces) → List ℕ
 all_darts faces = range_with_len 0 (darts faces)
 

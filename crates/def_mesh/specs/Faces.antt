@@ -18,6 +18,6 @@ face_at faces f = slice_index_or faces f []
 abbrev pub corner : (faces : Faces) (f i : ℕ) → ℕ
 corner faces f i = slice_index_or (face_at faces f) i 0
 
--- All faces by number, rising.
+-- All faces by number, increasing.
 abbrev pub all_faces : (faces : Faces) → List ℕ
 all_faces faces = range_with_len 0 (length faces)

@@ -4,7 +4,7 @@ use Rattle.std.specs.List.{list_all, list_any, range_with_len}
 use Rattle.def_mesh.specs.Faces.{Faces}
 use Rattle.def_mesh.specs.Darts.{all_darts, from_of}
 
--- The fan of v: the darts that leave it, rising, one for each corner there.
+-- The fan of v: the darts that leave it, increasing, one for each corner there.
 abbrev pub fan_of : (faces : Faces) (v : ℕ) → List ℕ
 fan_of faces v = filter (λ d. from_of faces d == v) (all_darts faces)
 
@@ -21,7 +21,7 @@ above_all (x ∷ xs) = max (x + 1) (above_all xs)
 abbrev pub vertex_count : (faces : Faces) → ℕ
 vertex_count faces = above_all (map (from_of faces) (all_darts faces))
 
--- All vertices, rising.
+-- All vertices, increasing.
 abbrev pub all_vertices : (faces : Faces) → List ℕ
 all_vertices faces = range_with_len 0 (vertex_count faces)
 

@@ -49,8 +49,8 @@ pub struct Starts {
     /// The number of each face's component.
     pub component: Vec<u32>,
     pub components: u32,
-    /// The darts along which riders start, rising.
+    /// The darts along which riders start, increasing.
     pub starts: Vec<u32>,
-    /// The least vertex of each ring, rising.
+    /// The least vertex of each ring, increasing.
     pub seeds: Vec<u32>,
 }

@@ -14,14 +14,14 @@ pub record Buffered : Type 0 where
 abbrev pub buffered : (taken : Told) (faults : ℕ) (held : Bytes) → Buffered
 buffered taken faults held = record { taken = taken; faults = faults; held = held }
 
--- A text came behind what waited. Of both the sink took a front, and the rest waits.
+-- A text came behind what waited. Of both the sink took a prefix, and the rest waits.
 pub record PassedOn (before now : Buffered) (text : Bytes) : Type 0 where
   pub sent : Bytes
   pub whole : before.held ++ text ≡ sent ++ now.held
   pub moved : now.taken ≡ took before.taken sent
   pub calm : now.faults ≡ before.faults
 
--- A text came behind what waited. Of both the sink took a front, and failed.
+-- A text came behind what waited. Of both the sink took a prefix, and failed.
 pub record BrokeOff (before now : Buffered) (text : Bytes) : Type 0 where
   pub sent : Bytes
   pub lost : Bytes

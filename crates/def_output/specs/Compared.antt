@@ -19,10 +19,10 @@ LacksFirst byte (other ∷ bytes) = byte ≢ other
 
 -- A text came that is alike up to a place, where the given bytes end or have another byte.
 pub record Differs (before now : Compared) (text : Bytes) : Type 0 where
-  pub front : Bytes
+  pub prefix : Bytes
   pub byte : ℕ
   pub more : Bytes
-  pub said : text ≡ front ++ byte ∷ more
-  pub alike : before.rest ≡ front ++ now.rest
+  pub said : text ≡ prefix ++ byte ∷ more
+  pub alike : before.rest ≡ prefix ++ now.rest
   pub lacks : LacksFirst byte now.rest
-  pub counted : now.at ≡ before.at + length front
+  pub counted : now.at ≡ before.at + length prefix

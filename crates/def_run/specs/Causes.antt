@@ -2,7 +2,7 @@
 use Rattle.std.specs.Prelude.{◌≡◌, ◌≤◌, [], length, Some, ⊤}
 use Rattle.def_io.specs.Bytes.{Bytes, Told}
 use Rattle.def_io.specs.Faults.{Rose}
-use Rattle.def_io.specs.Moves.{Change, took, GaveMore, TookFront}
+use Rattle.def_io.specs.Moves.{Change, took, GaveMore, TookPrefix}
 use Rattle.def_remesh.specs.Checked.{IsCheckedPair}
 use Rattle.def_text.specs.Input.{ReadWhole}
 use Rattle.def_text.specs.Types.{Words}
@@ -75,13 +75,13 @@ pub record Wrote (command : Command) (input out : Change) : Type 0 where
   pub said : Writes command bytes text
   pub written : out.told_now ≡ took out.told text
 
--- The same, where the sink failed and took only a front of the text.
-pub record WroteFront (command : Command) (input out : Change) : Type 0 where
+-- The same, where the sink failed and took only a prefix of the text.
+pub record WrotePrefix (command : Command) (input out : Change) : Type 0 where
   pub bytes : Bytes
   pub whole : Reads command input bytes
   pub text : Bytes
   pub said : Writes command bytes text
-  pub front : TookFront out.told out.told_now text
+  pub prefix : TookPrefix out.told out.told_now text
   pub fault : Rose out.faults out.faults_now
 
 -- The command read bytes and refuses them.
@@ -96,7 +96,7 @@ Cause command input out Done = Wrote command input out
 Cause command input out Usage = ⊥
 Cause command input out (Limit AllBytes line) = (line ≡ 0) × ReadsTooMany command input
 Cause command input out ReadFault = FailsToRead command input
-Cause command input out WriteFault = WroteFront command input out
+Cause command input out WriteFault = WrotePrefix command input out
 Cause command input out Memory = ⊤
 Cause command input out answer = Refused command input answer
 

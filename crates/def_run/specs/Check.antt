@@ -1,4 +1,4 @@
--- What `check` means: it judges an input whose last head line divides it into an old text and the text of a remesh.
+-- What `check` means: it checks an input whose last head line divides it into an old text and the text of a remesh.
 use Rattle.std.specs.Prelude.{◌≡◌, ◌≢◌, ◌⊎◌, ◌+◌, ◌-◌, ◌<◌, ℕ, ℤ, Bool, Ok, Err, Option, Some, None}
 use Rattle.std.specs.Prelude.{[], length, take, drop, slice_index_or, unwrap_or}
 use Rattle.def_certtext.specs.CertLines.{Lists}
@@ -113,7 +113,7 @@ IsWrong plan settings cert (why.Verdict verdict) = HasVerdict plan settings cert
 IsWrong plan settings cert (why.TooFine faces) = IsCertified plan settings cert × AreTooFine plan cert.x faces
 IsWrong plan settings cert _ = ⊥
 
--- The certificate that is judged first: the one for floor 1, where another follows, or the only one.
+-- The certificate that is checked first: the one for floor 1, where another follows, or the only one.
 abbrev pub first_of : (made : Made) → Lists
 first_of made = unwrap_or made.first made.cert
 

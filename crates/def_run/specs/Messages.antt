@@ -3,7 +3,7 @@ use Rattle.std.specs.Prelude.{◌≡◌, ◌⊎◌, ℕ, List, Ok}
 use Rattle.def_gen.specs.Steps.{steps_soup}
 use Rattle.def_io.specs.Bytes.{Bytes}
 use Rattle.def_io.specs.Faults.{Rose}
-use Rattle.def_io.specs.Moves.{Change, took, TookFront}
+use Rattle.def_io.specs.Moves.{Change, took, TookPrefix}
 use Rattle.def_mesh.specs.declared.Place.{Place}
 use Rattle.def_text.specs.FaceSet.{FaceSet}
 use Rattle.def_text.specs.Text.{soup_in}
@@ -17,10 +17,10 @@ use Rattle.def_run.specs.declared.answer.Answer.TheVariants.{NotManifold}
 use Rattle.def_run.specs.declared.command.Command.{Command}
 use Rattle.def_run.specs.declared.command.Command.TheVariants.{Check, Bench}
 
--- The sink took this line, or failed and took a front of it.
+-- The sink took this line, or failed and took a prefix of it.
 abbrev pub Said : (line : Bytes) (err : Change) → Type 0
 Said line err = (err.told_now ≡ took err.told line)
-    ⊎ (Rose err.faults err.faults_now × TookFront err.told err.told_now line)
+    ⊎ (Rose err.faults err.faults_now × TookPrefix err.told err.told_now line)
 
 -- The soup whose mesh a command looks at: that of the bytes, or of the old text in front of a head line, or the made one.
 abbrev pub LooksAt : (command : Command) (bytes : Bytes) (soup : FaceSet) → Type 0
@@ -47,7 +47,7 @@ pub record AreNamesOf (words : Words) (input : Change) (answer : Answer) (names 
   pub line : IsCommand words command
   pub numbered : AreNames command input answer names
 
--- The error sink took the answer's line, or failed and took a front of it.
+-- The error sink took the answer's line, or failed and took a prefix of it.
 pub record SaidWhy (words : Words) (input err : Change) (answer : Answer) : Type 0 where
   pub names : List ℕ
   pub of_the_file : (place : Place) → answer ≡ NotManifold place → AreNamesOf words input answer names

@@ -59,7 +59,7 @@ pub record AreRuns (faces : Faces) (table : RunTable) : Type 0 where
   pub runs : (r : ℕ) → r < length lists → IsLongestRun faces (run_at lists r)
   pub least : (r k : ℕ) → r < length lists → is_closed faces (run_at lists r) ≡ true → k < length (run_at lists r)
       → first_dart (run_at lists r) ≤ slice_index (run_at lists r) k
-  pub rising : (q r : ℕ) → q < r → r < length lists → IsBefore (run_at lists q) (run_at lists r)
+  pub increasing : (q r : ℕ) → q < r → r < length lists → IsBefore (run_at lists q) (run_at lists r)
   pub run_long : length table.run.items ≡ darts faces
   pub at_long : length table.at.items ≡ darts faces
   pub run_low : (d : ℕ) → d < darts faces → slice_index table.run.items d < length lists

@@ -16,4 +16,4 @@ pub record IsSoup (s : FaceSet) : Type 0 where
   pub in_range : IsTrue (names_below (length s.pos) s.faces)
   pub used : UsesEach (length s.pos) s.faces
   pub named : length s.names ≡ length s.pos
-  pub rising : IsStrictlyIncreasing s.names
+  pub increasing : IsStrictlyIncreasing s.names

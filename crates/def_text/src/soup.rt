@@ -4,7 +4,7 @@ use crate::Micro;
 use std::marker::Model;
 
 /// Quads over places: every index is below the number of places, every vertex is a corner of some face, and
-/// `names` has for each vertex its number in the file, from 1 and rising.
+/// `names` has for each vertex its number in the file, from 1 and increasing.
 #[derive(Debug, Drop)]
 pub struct Soup {
     pub pos: Vec<[Micro; 3]>,

@@ -31,7 +31,7 @@ has_fan faces v = record {
     apart : (i j : ℕ) → i < length (fan_of faces v) → j < length (fan_of faces v) → at i ≡ at j → i ≡ j
     apart i j li lj e = elim (cases_order i j) [
       | inl s ↦ s
-      | inr o ↦ elim o [ inl l ↦ absurd (omega (arith, e, fan.rising i j l lj)) | inr l ↦ absurd (omega (arith, e, fan.rising j i l li)) ]
+      | inr o ↦ elim o [ inl l ↦ absurd (omega (arith, e, fan.increasing i j l lj)) | inr l ↦ absurd (omega (arith, e, fan.increasing j i l li)) ]
     ]
 
 -- Where a test gives `is_some`, there is a twin, and the other way round.

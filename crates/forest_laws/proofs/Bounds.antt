@@ -3,7 +3,7 @@ use Rattle.std.proofs.Common.{◌≡◌, ◌≢◌, ℕ, ◌+◌, ◌*◌, ◌<�
 use Rattle.std.proofs.lemmas.Int.{ints}
 use Rattle.std.proofs.lemmas.Bool.{cases_eq, cases_lt, eq-eqb, ne_eqb, eqb-true}
 use Rattle.def_math.specs.Counts.{count}
-use Rattle.def_math.specs.Rising.{IsRising}
+use Rattle.def_math.specs.Increasing.{IsIncreasing}
 use Rattle.def_math.specs.Sums.{total, total_below}
 use Rattle.qm_laws.proofs.Sums.{total_below_le, two_orders}
 use Rattle.def_matching.specs.Matching.{Graph, IsGraph, edge_at, ends_at, IsPerfect, matching_cost}
@@ -53,11 +53,11 @@ module _ (g : Graph) (is : IsGraph g) (f : Forest) (vertices : g.n ≤ f.size) (
       ∙ (ap (λ (s : Bool). cond (cond (eqb (edge_at g k).u v) (not s) s) 1 0) (nested.alone v (edge_at g k).v lv (is.right k lk) ∙ eqb_order v (edge_at g k).v)
       ∙ one_of (eqb (edge_at g k).u v) (eqb (edge_at g k).v v) (λ p q. is.apart k lk (eqb-true (edge_at g k).u v p ∙ sym (eqb-true (edge_at g k).v v q))))
 
-  pub counts_vertex : (v low : ℕ) (m : List ℕ) → v < g.n → IsRising low (length g.edges) m → count (λ (e : WEdge). cond (crosses (f.holds v) e) 1 0) (map (edge_at g) m) ≡ count (ends_at v) (map (edge_at g) m)
-  counts_vertex v low [] lv rising = refl
-  counts_vertex v low (k ∷ ks) lv rising =
-      let here : ◌≡◌ {A = ℕ} (cond (crosses (f.holds v) (edge_at g k)) 1 0) (ends_at v (edge_at g k)) = leaves_vertex v k lv rising.1 in
-      let rest : count (λ (e : WEdge). cond (crosses (f.holds v) e) 1 0) (map (edge_at g) ks) ≡ count (ends_at v) (map (edge_at g) ks) = counts_vertex v (k + 1) ks lv rising.2 in
+  pub counts_vertex : (v low : ℕ) (m : List ℕ) → v < g.n → IsIncreasing low (length g.edges) m → count (λ (e : WEdge). cond (crosses (f.holds v) e) 1 0) (map (edge_at g) m) ≡ count (ends_at v) (map (edge_at g) m)
+  counts_vertex v low [] lv increasing = refl
+  counts_vertex v low (k ∷ ks) lv increasing =
+      let here : ◌≡◌ {A = ℕ} (cond (crosses (f.holds v) (edge_at g k)) 1 0) (ends_at v (edge_at g k)) = leaves_vertex v k lv increasing.1 in
+      let rest : count (λ (e : WEdge). cond (crosses (f.holds v) e) 1 0) (map (edge_at g) ks) ≡ count (ends_at v) (map (edge_at g) ks) = counts_vertex v (k + 1) ks lv increasing.2 in
       omega (arith, here, rest)
 
   module _ (feasible : IsFeasible (darts_of g) f) where
@@ -67,16 +67,16 @@ module _ (g : Graph) (is : IsGraph g) (f : Forest) (vertices : g.n ≤ f.size) (
         (subst (λ v. load f (edge_at g k).u v ≤ℤ ((darts_of g).cost (2 * k) +ℤ (darts_of g).cost (2 * k))) (dart_far g k)
         (subst (λ u. load f u (far (darts_of g) (2 * k)) ≤ℤ ((darts_of g).cost (2 * k) +ℤ (darts_of g).cost (2 * k))) (dart_near g k) (feasible.darts (2 * k) (omega arith))))
 
-    loads_low : (low : ℕ) (m : List ℕ) → IsRising low (length g.edges) m → total (λ (e : WEdge). load f e.u e.v) (map (edge_at g) m) ≤ℤ (pos 2 *ℤ matching_cost g m)
-    loads_low low [] rising = omega (arith, ints)
-    loads_low low (k ∷ ks) rising = omega (arith, ints, edge_low k rising.1, loads_low (k + 1) ks rising.2)
+    loads_low : (low : ℕ) (m : List ℕ) → IsIncreasing low (length g.edges) m → total (λ (e : WEdge). load f e.u e.v) (map (edge_at g) m) ≤ℤ (pos 2 *ℤ matching_cost g m)
+    loads_low low [] increasing = omega (arith, ints)
+    loads_low low (k ∷ ks) increasing = omega (arith, ints, edge_low k increasing.1, loads_low (k + 1) ks increasing.2)
 
     -- Twice the cost of a perfect matching is at least the sum.
     pub sum_bounds : (m : List ℕ) → IsPerfect g m → dual_sum_of f ≤ℤ (pos 2 *ℤ matching_cost g m)
     sum_bounds m perfect =
         let swap : total (λ (e : WEdge). total_below (λ b. adds b e) f.size) es ≡ total_below (λ b. total (adds b) es) f.size = two_orders adds f.size es in
         let each : total_below f.weight f.size ≤ℤ total_below (λ b. total (adds b) es) f.size = total_below_le f.weight (λ b. total (adds b) es) f.size (λ b l. at_blossom b l (cases_lt b g.n)) in
-        omega (arith, ints, loads_low 0 m perfect.rising, swap, each)
+        omega (arith, ints, loads_low 0 m perfect.increasing, swap, each)
       where
         es : List WEdge
         es = map (edge_at g) m
@@ -85,10 +85,10 @@ module _ (g : Graph) (is : IsGraph g) (f : Forest) (vertices : g.n ≤ f.size) (
         adds b e = cond (crosses (f.holds b) e) (f.weight b) (pos 0)
 
         exact : (b : ℕ) → b < g.n → total (λ (e : WEdge). cond (crosses (f.holds b) e) (f.weight b) (pos 0)) (map (edge_at g) m) ≡ f.weight b
-        exact b l = just_once (f.holds b) (f.weight b) (map (edge_at g) m) (counts_vertex b 0 m l perfect.rising ∙ perfect.once b l)
+        exact b l = just_once (f.holds b) (f.weight b) (map (edge_at g) m) (counts_vertex b 0 m l perfect.increasing ∙ perfect.once b l)
 
         used : (b : ℕ) → g.n ≤ b → b < f.size → f.nest.parts b ≢ 0 → f.weight b ≤ℤ total (λ (e : WEdge). cond (crosses (f.holds b) e) (f.weight b) (pos 0)) (map (edge_at g) m)
-        used b high l live = at_least_once (f.holds b) (f.weight b) (map (edge_at g) m) (feasible.sets b high l) (odd_leaves (f.holds b) g.n (map (edge_at g) m) (chosen_below g is 0 m perfect.rising) perfect.once (odd_blossom (darts_of g) (are_darts g is) f nested b (inr (high, live))))
+        used b high l live = at_least_once (f.holds b) (f.weight b) (map (edge_at g) m) (feasible.sets b high l) (odd_leaves (f.holds b) g.n (map (edge_at g) m) (chosen_below g is 0 m perfect.increasing) perfect.once (odd_blossom (darts_of g) (are_darts g is) f nested b (inr (high, live))))
 
         unused : (b : ℕ) → g.n ≤ b → f.weight b ≡ pos 0 → (es : List WEdge) → f.weight b ≤ℤ total (λ (e : WEdge). cond (crosses (f.holds b) e) (f.weight b) (pos 0)) es
         unused b high z [] = omega (arith, ints)

@@ -6,19 +6,19 @@ use Rattle.def_mesh.specs.Darts.{darts, from_of}
 use Rattle.def_mesh.specs.Vertices.{fan_of}
 use Rattle.qm_laws.proofs.Filters.{IsKept, kept_at, place_of, rises}
 
--- The fan of v by places: its entries are the darts that leave v, each at one place, rising.
+-- The fan of v by places: its entries are the darts that leave v, each at one place, increasing.
 pub record IsFan (faces : Faces) (v : ℕ) (fan : List ℕ) : Type 0 where
   pub dart : (t : ℕ) → t < length fan → get_or fan t 0 < darts faces
   pub leaves : (t : ℕ) → t < length fan → from_of faces (get_or fan t 0) ≡ v
   pub place : (d : ℕ) → d < darts faces → from_of faces d ≡ v → (t : ℕ) × (t < length fan) × (get_or fan t 0 ≡ d)
-  pub rising : (s t : ℕ) → s < t → t < length fan → get_or fan s 0 < get_or fan t 0
+  pub increasing : (s t : ℕ) → s < t → t < length fan → get_or fan s 0 < get_or fan t 0
 
 pub fan_of_is : (faces : Faces) (v : ℕ) → IsFan faces v (fan_of faces v)
 fan_of_is faces v = record {
   dart = λ t l. omega (arith, (kept t l).high);
   leaves = λ t l. eqb-true _ v (kept t l).passes;
   place = λ d l e. place_of (λ k. eqb (from_of faces k) v) 0 (darts faces) d (record { low = omega arith; high = omega arith; passes = eq-eqb _ v e });
-  rising = rises (λ k. eqb (from_of faces k) v) 0 (darts faces);
+  increasing = rises (λ k. eqb (from_of faces k) v) 0 (darts faces);
 }
   where
     kept : (t : ℕ) → t < length (fan_of faces v) → IsKept (λ d. eqb (from_of faces d) v) 0 (darts faces) (get_or (fan_of faces v) t 0)
@@ -35,4 +35,4 @@ earlier_place faces v fan h i j l m e =
   where
     by_order : (t : ℕ) → t < length fan → get_or fan t 0 ≡ j → (t < i) ⊎ (i ≤ t) → (t : ℕ) × (t < i) × (get_or fan t 0 ≡ j)
     by_order t low s (inl b) = (t, b, s)
-    by_order t low s (inr b) = elim (cases_eq i t) [ inl q ↦ absurd (omega (arith, ap (λ x. get_or fan x 0) q)) | inr ne ↦ absurd (omega (arith, h.rising i t (omega arith) low)) ]
+    by_order t low s (inr b) = elim (cases_eq i t) [ inl q ↦ absurd (omega (arith, ap (λ x. get_or fan x 0) q)) | inr ne ↦ absurd (omega (arith, h.increasing i t (omega arith) low)) ]

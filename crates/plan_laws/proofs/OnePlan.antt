@@ -11,7 +11,7 @@ use Rattle.def_cut.specs.FullCut.{is_on}
 use Rattle.def_cut.specs.Grids.{Rectangle, patch_at}
 use Rattle.def_cut.specs.Steps.{face_of}
 use Rattle.cut_laws.proofs.OneList.{one_list_law}
-use Rattle.cut_laws.proofs.Rising.{AreRising, rising_place, same_many, same_values}
+use Rattle.cut_laws.proofs.Increasing.{AreIncreasing, increasing_place, same_many, same_values}
 use Rattle.def_layout.specs.declared.tmesh.SideArc.{SideArc}
 use Rattle.def_layout.specs.Arcs.{to, LiesAt, Path, arc_at, dart_at, long_at, name_at, AreArcs}
 use Rattle.def_layout.specs.Borders.{border_dart}
@@ -53,8 +53,8 @@ module _ (m : HalfEdges) (laws : IsQuadManifold m) (cut : Cut) (full : IsCut m c
               record { at = b; low = b_low; name = one_name_both m laws cut full node nodes arcs are others them a b 0 o low b_low s; long = s.long; each = s.each }
           by_way b o false b_low o_low lies = absurd (clash m laws cut full node nodes arcs are others them a b 0 (long_at others b - 1 - o) low b_low some (omega arith) lies)
 
-  rising : (arcs : List Path) → AreArcs m cut node arcs → AreRising (name_at arcs) (length arcs)
-  rising arcs are = record { step = are.ordered }
+  increasing : (arcs : List Path) → AreArcs m cut node arcs → AreIncreasing (name_at arcs) (length arcs)
+  increasing arcs are = record { step = are.ordered }
 
   -- So both lists have the same arcs, as far as darts tell.
   record AreSame (arcs others : List Path) : Type 0 where
@@ -71,7 +71,7 @@ module _ (m : HalfEdges) (laws : IsQuadManifold m) (cut : Cut) (full : IsCut m c
       back b low = let f = found others arcs them are b low in (f.at, f.low, f.name)
 
       many : length arcs ≡ length others
-      many = same_many (name_at arcs) (name_at others) (length arcs) (length others) (rising arcs are) (rising others them) there back
+      many = same_many (name_at arcs) (name_at others) (length arcs) (length others) (increasing arcs are) (increasing others them) there back
 
       each : (a : ℕ) → a < length arcs → (arc_at arcs a).darts ≡ (arc_at others a).darts
       each a low = by_found (found arcs others are them a low)
@@ -79,8 +79,8 @@ module _ (m : HalfEdges) (laws : IsQuadManifold m) (cut : Cut) (full : IsCut m c
           by_found : IsFound arcs others a → (arc_at arcs a).darts ≡ (arc_at others a).darts
           by_found f =
               let same : f.at ≡ a =
-              rising_place (name_at others) (length others) (rising others them) f.at a f.low (omega (arith, low, many))
-              (sym f.name ∙ same_values (name_at arcs) (name_at others) (length arcs) (length others) (rising arcs are) (rising others them) there back a low) in
+              increasing_place (name_at others) (length others) (increasing others them) f.at a f.low (omega (arith, low, many))
+              (sym f.name ∙ same_values (name_at arcs) (name_at others) (length arcs) (length others) (increasing arcs are) (increasing others them) there back a low) in
               ext_get_or 0 (arc_at arcs a).darts (arc_at others f.at).darts f.long f.each ∙ ap (λ (b : ℕ). (arc_at others b).darts) same
 
   module _ (face : ℕ → ℕ) (v : ℕ) where

@@ -34,9 +34,9 @@ fn main(rt: HostRuntime) -> io::Result<ExitCode> {
     let Some(name) = words.next() else {
         for task in [
             Task::Graph,
-            Task::Judge(Shape::Nest),
-            Task::Judge(Shape::Tree),
-            Task::Judge(Shape::Comb),
+            Task::DualOk(Shape::Nest),
+            Task::DualOk(Shape::Tree),
+            Task::DualOk(Shape::Comb),
         ] {
             let told = run(rt.alloc(), &net, &x, task, 1)?;
             println!(rt; "{told}")?;
@@ -45,9 +45,9 @@ fn main(rt: HostRuntime) -> io::Result<ExitCode> {
     };
     let task = match name.as_str() {
         "graph" => Task::Graph,
-        "nest" => Task::Judge(Shape::Nest),
-        "tree" => Task::Judge(Shape::Tree),
-        _ => Task::Judge(Shape::Comb),
+        "nest" => Task::DualOk(Shape::Nest),
+        "tree" => Task::DualOk(Shape::Tree),
+        _ => Task::DualOk(Shape::Comb),
     };
     let times = match words.next() {
         Some(word) => word.parse::<u32>().unwrap_or(1),

@@ -17,7 +17,7 @@ use std::alloc::{AllocError, Global};
 #[derive(Clone, Copy, Debug, PartialEq, Eq)]
 pub(crate) enum Task {
     Graph,
-    Judge(Shape),
+    DualOk(Shape),
 }
 
 /// Does a task as often as is asked, and tells what came of it.
@@ -35,9 +35,9 @@ pub(crate) fn run(
 {
     match task {
         Task::Graph => build(alloc, net, x, times),
-        Task::Judge(shape) => {
+        Task::DualOk(shape) => {
             let gadget = graph_of(alloc, net, x, 1)?;
-            judge(alloc, &gadget.graph, shape, times)
+            check_dual(alloc, &gadget.graph, shape, times)
         }
     }
 }
@@ -59,8 +59,8 @@ fn build(alloc: Global, net: &Net, x: &[u64], times: u32) -> Result<String, Allo
     format!(in alloc; "{vertices} vertices, {edges} edges")
 }
 
-/// Judges a dual over the graph, and tells the verdict.
-fn judge(alloc: Global, g: &WGraph, shape: Shape, times: u32) -> Result<String, AllocError>
+/// Checks a dual over the graph, and tells the verdict.
+fn check_dual(alloc: Global, g: &WGraph, shape: Shape, times: u32) -> Result<String, AllocError>
     requires { IsSmallGraph (graph g.now) }
 {
     let dual = dual_of(alloc, g.n, shape)?;

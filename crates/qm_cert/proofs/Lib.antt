@@ -1,4 +1,4 @@
-pub mod Judged
+pub mod Checked
 pub mod Range
 pub mod SideSums
 pub mod Verdicts

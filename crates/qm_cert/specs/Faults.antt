@@ -1,4 +1,4 @@
--- What is wrong with a list of lengths, as the judge finds it.
+-- What is wrong with a list of lengths, as the checker finds it.
 use Rattle.std.specs.Prelude.{ℕ, ◌==◌, not, if◌then◌else◌, true, false, List, length, slice_index, unsigned_abs, Option}
 use Rattle.std.specs.Prelude.{Some, None, option_map}
 use Rattle.def_math.specs.Searches.{least}

@@ -38,12 +38,12 @@ pub fn accepts(alloc: Global, net: &Net, cert: &Cert) -> Result<CertVerdict, Mem
     let fault = list_fault(alloc, net, &cert.x)?;
     match fault {
         Some(verdict) => Ok(verdict),
-        None => judge_dual(alloc, net, cert),
+        None => check_dual(alloc, net, cert),
     }
 }
 
 /// The verdict on a certificate whose list has no fault.
-fn judge_dual(alloc: Global, net: &Net, cert: &Cert) -> Result<CertVerdict, Memory>
+fn check_dual(alloc: Global, net: &Net, cert: &Cert) -> Result<CertVerdict, Memory>
     requires bounds { IsWithinBounds (network net.now) }
     requires lengths { AreLengths net.now.arcs.items cert.now.x.items }
     requires admissible { IsAdmissible (network net.now) (entries cert.now.x.items) }

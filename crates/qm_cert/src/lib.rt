@@ -1,4 +1,4 @@
-//! The judge of certificates: whether a list of lengths is least, as its dual says, and what is wrong if not.
+//! The checker of certificates: whether a list of lengths is least, as its dual says, and what is wrong if not.
 #![tactic(auto)]
 
 mod accept;

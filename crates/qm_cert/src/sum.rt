@@ -21,7 +21,7 @@ pub(crate) fn sum_verdict(net: &Net, cert: &Cert, lows: &[u64], sum: i128) -> Ce
     ensures { result ≡ sums_verdict (network net.now) (certificate cert.now) }
 {
     let far = deviation(net, &cert.x);
-    compared(far, sum, twice_between(deviation(net, lows), far))
+    verdict_by_sum(far, sum, twice_between(deviation(net, lows), far))
 }
 
 /// Twice the way from one number to another.
@@ -34,7 +34,7 @@ fn twice_between(near: i128, far: i128) -> i128
 }
 
 /// The verdict by the sum of a dual and twice the cost.
-fn compared(far: i128, sum: i128, cost: i128) -> CertVerdict
+fn verdict_by_sum(far: i128, sum: i128, cost: i128) -> CertVerdict
     ensures { result ≡ (if int_eq sum cost then CertVerdict.Yes far else CertVerdict.Sums sum cost) }
 {
     if sum == cost {

@@ -38,7 +38,7 @@ struct Sheet<'a> {
 }
 
 /// The verdict on a sheet over the network of a text.
-fn judge(rt: &impl Abort, alloc: Global, text: &str, sheet: Sheet) -> Result<CertVerdict, Fail> {
+fn check(rt: &impl Abort, alloc: Global, text: &str, sheet: Sheet) -> Result<CertVerdict, Fail> {
     let net = read_net(alloc, text)?;
     let dual = Dual {
         y: Vec::from_slice(alloc, sheet.y)?,
@@ -112,7 +112,7 @@ fn verdicts_on_one_quad(rt: HostRuntime) -> Result<(), Fail> {
             z: &[],
             up: &[0; 34],
         };
-        let verdict = judge(&rt, rt.alloc(), QUAD, sheet)?;
+        let verdict = check(&rt, rt.alloc(), QUAD, sheet)?;
         assert_eq!(rt; verdict, want, "at {x:?}, {first}, {last}");
     }
     Ok(())
@@ -267,7 +267,7 @@ fn verdicts_on_networks(rt: HostRuntime) -> Result<(), Fail> {
     ];
     for (text, sheet, want) in table {
         let x = sheet.x;
-        let verdict = judge(&rt, rt.alloc(), text, sheet)?;
+        let verdict = check(&rt, rt.alloc(), text, sheet)?;
         assert_eq!(rt; verdict, want, "at {x:?}");
     }
     Ok(())

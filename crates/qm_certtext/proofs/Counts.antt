@@ -156,8 +156,8 @@ small_parts z up is =
     let parts = and_parts (ltb (unsigned_abs z) (10 ^ 18)) (ltb up (2 ^ 32)) is in
     (ltb-true _ _ parts.0, ltb-true _ _ parts.1)
 
-module _ (text front behind : Word) (i : ℕ) (place : i ≡ position_or_len (λ b. eqb b 32) text) (before : front ≡ take i text) (back : behind ≡ drop i text) where
-  parts_are : (z : ℤ) (up : ℕ) → unsigned_abs z < 10 ^ 18 → text ≡ signed_text z ++ 32 ∷ decimal up → (front ≡ signed_text z) × (behind ≡ 32 ∷ decimal up)
+module _ (text prefix behind : Word) (i : ℕ) (place : i ≡ position_or_len (λ b. eqb b 32) text) (before : prefix ≡ take i text) (back : behind ≡ drop i text) where
+  parts_are : (z : ℤ) (up : ℕ) → unsigned_abs z < 10 ^ 18 → text ≡ signed_text z ++ 32 ∷ decimal up → (prefix ≡ signed_text z) × (behind ≡ 32 ∷ decimal up)
   parts_are z up low is =
       let at : i ≡ length (signed_text z) = place ∙ place_of_space text z up low is in (
         before ∙ ap₂ (λ (k : ℕ) (t : Word). take k t) at is ∙ take_at (signed_text z) (32 ∷ decimal up) _ refl,
@@ -167,7 +167,7 @@ module _ (text front behind : Word) (i : ℕ) (place : i ≡ position_or_len (λ
   pub no_behind : length behind ≡ 0 → (z : ℤ) (up : ℕ) → is_small z up ≡ true → text ≡ signed_text z ++ 32 ∷ decimal up → ⊥
   no_behind none z up small is = omega (arith, none, ap length (parts_are z up (small_parts z up small).0 is).1)
 
-  pub no_number : ((z : ℤ) → unsigned_abs z < 10 ^ 18 → front ≡ signed_text z → ⊥) → (z : ℤ) (up : ℕ) → is_small z up ≡ true → text ≡ signed_text z ++ 32 ∷ decimal up → ⊥
+  pub no_number : ((z : ℤ) → unsigned_abs z < 10 ^ 18 → prefix ≡ signed_text z → ⊥) → (z : ℤ) (up : ℕ) → is_small z up ≡ true → text ≡ signed_text z ++ 32 ∷ decimal up → ⊥
   no_number none z up small is = none z (small_parts z up small).0 (parts_are z up (small_parts z up small).0 is).0
 
   pub no_up : (rest : Word) → rest ≡ drop 1 behind → ((n : ℕ) → n ≤ 2 ^ 32 - 1 → rest ≡ decimal n → ⊥) → (z : ℤ) (up : ℕ) → is_small z up ≡ true
@@ -175,7 +175,7 @@ module _ (text front behind : Word) (i : ℕ) (place : i ≡ position_or_len (λ
   no_up rest is none z up small same =
       none up (omega (arith, (small_parts z up small).1)) (is ∙ ap (drop 1) (parts_are z up (small_parts z up small).0 same).1)
 
-  pub both_read : (rest : Word) (z : ℤ) (up : ℕ) → 0 < length behind → rest ≡ drop 1 behind → unsigned_abs z < 10 ^ 18 → front ≡ signed_text z → up ≤ 2 ^ 32 - 1 → rest ≡ decimal up
+  pub both_read : (rest : Word) (z : ℤ) (up : ℕ) → 0 < length behind → rest ≡ drop 1 behind → unsigned_abs z < 10 ^ 18 → prefix ≡ signed_text z → up ≤ 2 ^ 32 - 1 → rest ≡ decimal up
       → (is_small z up ≡ true) × (text ≡ signed_text z ++ 32 ∷ decimal up)
   both_read rest z up some is low written_so few ups = (
     and_from _ _ (lt-ltb _ _ low) (lt-ltb _ _ (omega arith)),

@@ -17,21 +17,21 @@ use Rattle.def_text.specs.Types.{Word}
 use Rattle.qm_certtext.specs.Cuts.{is_bare, IsCut}
 use Rattle.qm_dec.proofs.Texts.{decimal_digits, digit_other, digits_fail, first_at}
 
--- A text with and without this front.
-pub stripped : (front text rest : Word) → bytes_eq (take (length front) text) front ≡ true → rest ≡ drop (length front) text → text ≡ front ++ rest
-stripped front text rest is behind =
-    sym (take-append-drop (length front) text) ∙ ap₂ ◌++◌ ((bytes_eq-Decides (take (length front) text) front).0 is) (sym behind)
+-- A text with and without this prefix.
+pub stripped : (prefix text rest : Word) → bytes_eq (take (length prefix) text) prefix ≡ true → rest ≡ drop (length prefix) text → text ≡ prefix ++ rest
+stripped prefix text rest is behind =
+    sym (take-append-drop (length prefix) text) ∙ ap₂ ◌++◌ ((bytes_eq-Decides (take (length prefix) text) prefix).0 is) (sym behind)
 
-pub not_stripped : (front text rest : Word) → bytes_eq (take (length front) text) front ≡ false → text ≡ front ++ rest → ⊥
-not_stripped front text rest other is =
-    true≢false (sym ((bytes_eq-Decides (take (length front) text) front).1 (ap (take (length front)) is ∙ take_at front rest (length front) refl)) ∙ other)
+pub not_stripped : (prefix text rest : Word) → bytes_eq (take (length prefix) text) prefix ≡ false → text ≡ prefix ++ rest → ⊥
+not_stripped prefix text rest other is =
+    true≢false (sym ((bytes_eq-Decides (take (length prefix) text) prefix).1 (ap (take (length prefix)) is ∙ take_at prefix rest (length prefix) refl)) ∙ other)
 
 -- What stands before the first space has none.
-front_bare : (text : Word) → is_bare (take (position_or_len (λ b. eqb b 32) text) text) ≡ true
-front_bare [] = refl
-front_bare (x ∷ xs) = elim (cases_Bool (eqb x 32)) [
+prefix_bare : (text : Word) → is_bare (take (position_or_len (λ b. eqb b 32) text) text) ≡ true
+prefix_bare [] = refl
+prefix_bare (x ∷ xs) = elim (cases_Bool (eqb x 32)) [
   | inl is ↦ rw is refl
-  | inr other ↦ rw other (step (front_bare xs) other)
+  | inr other ↦ rw other (step (prefix_bare xs) other)
 ]
   where
     step : is_bare (take (position_or_len (λ b. eqb b 32) xs) xs) ≡ true → eqb x 32 ≡ false → is_bare (take (1 + position_or_len (λ b. eqb b 32) xs) (x ∷ xs)) ≡ true
@@ -40,14 +40,14 @@ front_bare (x ∷ xs) = elim (cases_Bool (eqb x 32)) [
         rw next (and_from (not (eqb x 32)) _ (ap not other) rest)
 
 pub word_bare : (text word : Word) (i : ℕ) → i ≡ position_or_len (λ b. eqb b 32) text → word ≡ take i text → is_bare word ≡ true
-word_bare text word i place is = ap is_bare (is ∙ ap (λ (k : ℕ). take k text) place) ∙ front_bare text
+word_bare text word i place is = ap is_bare (is ∙ ap (λ (k : ℕ). take k text) place) ∙ prefix_bare text
 
 -- A mark that begins with a space.
 mark_form : (mark : Word) → get_or mark 0 0 ≡ 32 → (rest : Word) × (mark ≡ 32 ∷ rest)
 mark_form [] is = absurd (omega arith)
 mark_form (x ∷ xs) is = (xs, ap (λ (b : ℕ). b ∷ xs) is)
 
--- The word before it is the front.
+-- The word before it is the prefix.
 place_of : (word mark rest : Word) → is_bare word ≡ true → get_or mark 0 0 ≡ 32 → position_or_len (λ b. eqb b 32) (word ++ (mark ++ rest)) ≡ length word
 place_of word mark rest bare begins =
     let form = mark_form mark begins in
@@ -64,12 +64,12 @@ pub one_word : (a b x y mark : Word) → is_bare a ≡ true → is_bare b ≡ tr
 one_word a b x y mark bare_a bare_b begins same =
     let long : length a ≡ length b =
     sym (place_of a mark x bare_a begins) ∙ ap (position_or_len (λ c. eqb c 32)) same ∙ place_of b mark y bare_b begins in
-    let front : a ≡ b = sym (take_at a (mark ++ x) (length a) refl) ∙ ap (take (length a)) same ∙ take_at b (mark ++ y) (length a) (sym long) in
-    let behind : mark ++ x ≡ mark ++ y = append_cancel_left a _ _ (same ∙ ap (λ (w : Word). w ++ (mark ++ y)) (sym front)) in
-    (front, append_cancel_left mark x y behind)
+    let prefix : a ≡ b = sym (take_at a (mark ++ x) (length a) refl) ∙ ap (take (length a)) same ∙ take_at b (mark ++ y) (length a) (sym long) in
+    let behind : mark ++ x ≡ mark ++ y = append_cancel_left a _ _ (same ∙ ap (λ (w : Word). w ++ (mark ++ y)) (sym prefix)) in
+    (prefix, append_cancel_left mark x y behind)
 
-abbrev pub head_front : Word
-head_front = codes "#quadq 1 remesh scale "
+abbrev pub head_prefix : Word
+head_prefix = codes "#quadq 1 remesh scale "
 
 abbrev floor_mark : Word
 floor_mark = codes " floor "
@@ -77,17 +77,17 @@ floor_mark = codes " floor "
 abbrev weight_mark : Word
 weight_mark = codes " weight "
 
--- What stands behind the front of a head line.
-pub behind_front : (line rest scale floor weight : Word) → line ≡ head_front ++ rest → IsCut line scale floor weight
+-- What stands behind the prefix of a head line.
+pub behind_prefix : (line rest scale floor weight : Word) → line ≡ head_prefix ++ rest → IsCut line scale floor weight
     → rest ≡ scale ++ (floor_mark ++ (floor ++ (weight_mark ++ weight)))
-behind_front line rest scale floor weight is cut = append_cancel_left head_front _ _ (sym is ∙ cut.written)
+behind_prefix line rest scale floor weight is cut = append_cancel_left head_prefix _ _ (sym is ∙ cut.written)
 
 -- A line has one cut.
 pub one_cut : (line a b c d e f : Word) → IsCut line a b c → IsCut line d e f → (a ≡ d) × (b ≡ e) × (c ≡ f)
 one_cut line a b c d e f one two =
     let scales : (a ≡ d) × (b ++ (weight_mark ++ c) ≡ e ++ (weight_mark ++ f)) =
     one_word a d (b ++ (weight_mark ++ c)) (e ++ (weight_mark ++ f)) floor_mark one.scale_bare two.scale_bare refl
-    (behind_front line (a ++ (floor_mark ++ (b ++ (weight_mark ++ c)))) d e f one.written two) in
+    (behind_prefix line (a ++ (floor_mark ++ (b ++ (weight_mark ++ c)))) d e f one.written two) in
     let floors : (b ≡ e) × (c ≡ f) = one_word b e c f weight_mark one.floor_bare two.floor_bare refl scales.1 in
     (scales.0, floors.0, floors.1)
 
@@ -112,7 +112,7 @@ nested a b c d e f =
 pub head_cut : (line : Word) (settings : Settings) (auto : Bool) → IsHead line settings auto
     → IsCut line (scale_text settings) (floor_text settings.floor auto) (weight_text settings.weight)
 head_cut line settings auto head = record {
-  written = head.written ∙ nested head_front (scale_text settings) floor_mark (floor_text settings.floor auto) weight_mark (weight_text settings.weight);
+  written = head.written ∙ nested head_prefix (scale_text settings) floor_mark (floor_text settings.floor auto) weight_mark (weight_text settings.weight);
   scale_bare = scale_bare settings auto head.in_range;
   floor_bare = floor_bare settings.floor auto head.in_range.floor;
 }
@@ -127,29 +127,29 @@ head_words line scale floor weight settings auto cut head =
 pub words_head : (line scale floor weight : Word) (settings : Settings) (auto : Bool) → IsCut line scale floor weight → AreWordsOf scale floor weight settings auto
     → IsHead line settings auto
 words_head line scale floor weight settings auto cut words = record {
-  written = cut.written ∙ (λ i. head_front ++ (words.scaled i ++ (floor_mark ++ (words.bounded i ++ (weight_mark ++ words.weighed i)))))
-      ∙ sym (nested head_front (scale_text settings) floor_mark (floor_text settings.floor auto) weight_mark (weight_text settings.weight));
+  written = cut.written ∙ (λ i. head_prefix ++ (words.scaled i ++ (floor_mark ++ (words.bounded i ++ (weight_mark ++ words.weighed i)))))
+      ∙ sym (nested head_prefix (scale_text settings) floor_mark (floor_text settings.floor auto) weight_mark (weight_text settings.weight));
   in_range = words.in_range;
 }
 
 -- Where the line was cut so far, it is cut whole, or it has no cut.
-pub cut_of : (line rest scale more floor weight : Word) → line ≡ head_front ++ rest → is_bare scale ≡ true → rest ≡ scale ++ (floor_mark ++ more)
+pub cut_of : (line rest scale more floor weight : Word) → line ≡ head_prefix ++ rest → is_bare scale ≡ true → rest ≡ scale ++ (floor_mark ++ more)
     → is_bare floor ≡ true → more ≡ floor ++ (weight_mark ++ weight) → IsCut line scale floor weight
 cut_of line rest scale more floor weight is scale_is first floor_is second = record {
-  written = is ∙ ap (λ (w : Word). head_front ++ w) (first ∙ ap (λ (w : Word). scale ++ (floor_mark ++ w)) second);
+  written = is ∙ ap (λ (w : Word). head_prefix ++ w) (first ∙ ap (λ (w : Word). scale ++ (floor_mark ++ w)) second);
   scale_bare = scale_is;
   floor_bare = floor_is;
 }
 
-pub no_scale : (line rest : Word) → line ≡ head_front ++ rest → ((word more : Word) → is_bare word ≡ true → rest ≡ word ++ (floor_mark ++ more) → ⊥)
+pub no_scale : (line rest : Word) → line ≡ head_prefix ++ rest → ((word more : Word) → is_bare word ≡ true → rest ≡ word ++ (floor_mark ++ more) → ⊥)
     → (scale floor weight : Word) → IsCut line scale floor weight → ⊥
 no_scale line rest is none scale floor weight cut =
-    none scale (floor ++ (weight_mark ++ weight)) cut.scale_bare (behind_front line rest scale floor weight is cut)
+    none scale (floor ++ (weight_mark ++ weight)) cut.scale_bare (behind_prefix line rest scale floor weight is cut)
 
-pub no_floor : (line rest first more : Word) → line ≡ head_front ++ rest → is_bare first ≡ true → rest ≡ first ++ (floor_mark ++ more)
+pub no_floor : (line rest first more : Word) → line ≡ head_prefix ++ rest → is_bare first ≡ true → rest ≡ first ++ (floor_mark ++ more)
     → ((word last : Word) → is_bare word ≡ true → more ≡ word ++ (weight_mark ++ last) → ⊥) → (scale floor weight : Word) → IsCut line scale floor weight → ⊥
 no_floor line rest first more is bare_is split none scale floor weight cut =
-    let one = one_word first scale more (floor ++ (weight_mark ++ weight)) floor_mark bare_is cut.scale_bare refl (sym split ∙ behind_front line rest scale floor weight is cut) in
+    let one = one_word first scale more (floor ++ (weight_mark ++ weight)) floor_mark bare_is cut.scale_bare refl (sym split ∙ behind_prefix line rest scale floor weight is cut) in
     none floor weight cut.floor_bare one.1
 
 -- The settings of a cut line are those of its words.

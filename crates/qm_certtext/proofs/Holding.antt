@@ -106,11 +106,11 @@ takes_other old new line other first adds said holds = by_first old.first refl h
     by_first None is none =
         let still : list_any is_third (said ++ line ∷ []) ≡ false = any_append is_third said (line ∷ []) ∙ ap₂ (λ a b. a || (b || false)) none.0 (other is) in
         subst (λ (o : Option Parts). HoldBoth o new.last (said ++ line ∷ [])) (sym (first ∙ is)) (still, holds_more old.last new.last said line adds none.1)
-    by_first (Some front) is both =
+    by_first (Some prefix) is both =
         let still : list_any is_third (said ++ line ∷ []) ≡ true = any_append is_third said (line ∷ []) ∙ ap (λ a. a || (is_third line || false)) both.0 in
         subst (λ (o : Option Parts). HoldBoth o new.last (said ++ line ∷ [])) (sym (first ∙ is)) (
           still,
-          subst (Holds front) (sym (before_there is_third said (line ∷ []) both.0)) both.1,
+          subst (Holds prefix) (sym (before_there is_third said (line ∷ []) both.0)) both.1,
           subst (Holds new.last) (sym (after_there is_third said (line ∷ []) both.0)) (holds_more old.last new.last (after_first is_third said) line adds both.2),
         )
 
@@ -126,11 +126,11 @@ held parts said holds = λ i. record {
 -- Whether a line starts the certificate for floor 3.
 pub starts : (first : Option Parts) (line : CertLine) → (not (is_some first) && is_third line) ≡ true → (first ≡ None) × (is_third line ≡ true)
 starts None line is = (refl, is)
-starts (Some front) line is = absurd (false≢true is)
+starts (Some prefix) line is = absurd (false≢true is)
 
 pub starts_not : (first : Option Parts) (line : CertLine) → (not (is_some first) && is_third line) ≡ false → first ≡ None → is_third line ≡ false
 starts_not None line is none = is
-starts_not (Some front) line is none = absurd cc
+starts_not (Some prefix) line is none = absurd cc
 
 -- Where memory was found for the line.
 pub takes_ok : {T E : Type 0} (r : Result T E) (old new : Found) (line : CertLine) → (old.first ≡ None → is_third line ≡ false) → new.first ≡ old.first

@@ -113,7 +113,7 @@ three f a b c = flat_map-append f (a ++ b) c ∙ ap (λ (ys : List _). ys ++ fla
 
 pub lists_back : (lists : Lists) → HasUps lists → lists_in (said_by lists) ≡ lists
 lists_back lists ups =
-    let front : length (take (length lists.y) lists.up) ≡ length lists.y = length-take-le (length lists.y) lists.up (omega (arith, ups)) in
+    let prefix : length (take (length lists.y) lists.up) ≡ length lists.y = length-take-le (length lists.y) lists.up (omega (arith, ups)) in
     let back : length (drop (length lists.y) lists.up) ≡ length lists.z = omega (arith, length-drop (length lists.y) lists.up, ups) in
     let a = map Length lists.x in
     let b = numbered Vertex lists.y (take (length lists.y) lists.up) in
@@ -124,14 +124,14 @@ lists_back lists ups =
     ∙ append-nil _ ∙ append-nil lists.x in
     let y : flat_map vertex_in (said_by lists) ≡ lists.y =
     three vertex_in a b c
-    ∙ ap₂ ◌++◌ (ap₂ ◌++◌ (lengths_none vertex_in (λ n. refl) lists.x) (numbers_all vertex_in Vertex (λ z u. refl) lists.y _ front)) (numbered_none vertex_in Set (λ z u. refl) lists.z _)
+    ∙ ap₂ ◌++◌ (ap₂ ◌++◌ (lengths_none vertex_in (λ n. refl) lists.x) (numbers_all vertex_in Vertex (λ z u. refl) lists.y _ prefix)) (numbered_none vertex_in Set (λ z u. refl) lists.z _)
     ∙ append-nil lists.y in
     let z : flat_map set_in (said_by lists) ≡ lists.z =
     three set_in a b c
     ∙ ap₂ ◌++◌ (ap₂ ◌++◌ (lengths_none set_in (λ n. refl) lists.x) (numbered_none set_in Vertex (λ z u. refl) lists.y _)) (numbers_all set_in Set (λ z u. refl) lists.z _ back) in
     let u : flat_map vertex_up_in (said_by lists) ≡ take (length lists.y) lists.up =
     three vertex_up_in a b c
-    ∙ ap₂ ◌++◌ (ap₂ ◌++◌ (lengths_none vertex_up_in (λ n. refl) lists.x) (ups_all vertex_up_in Vertex (λ z u. refl) lists.y _ front)) (numbered_none vertex_up_in Set (λ z u. refl) lists.z _)
+    ∙ ap₂ ◌++◌ (ap₂ ◌++◌ (lengths_none vertex_up_in (λ n. refl) lists.x) (ups_all vertex_up_in Vertex (λ z u. refl) lists.y _ prefix)) (numbered_none vertex_up_in Set (λ z u. refl) lists.z _)
     ∙ append-nil _ in
     let v : flat_map set_up_in (said_by lists) ≡ drop (length lists.y) lists.up =
     three set_up_in a b c
@@ -166,10 +166,10 @@ pub chosen_certs : (settings : Settings) (first : Lists) (third : Option Lists) 
 chosen_certs settings first None able ables =
     (sym (rw (no_third first) refl), sym (rw (no_third first) (lists_back first able.ups)))
 chosen_certs settings first (Some third) able ables =
-    let front : List CertLine = Floor 1 ∷ said_by first in
-    let some : list_any is_third (front ++ Floor 3 ∷ said_by third) ≡ true = any_append is_third front (Floor 3 ∷ said_by third) ∙ rw (no_third first) refl in
-    let before : before_first is_third (front ++ Floor 3 ∷ said_by third) ≡ front = before_first_one is_third front (Floor 3) (said_by third) (no_third first) refl in
-    let after : after_first is_third (front ++ Floor 3 ∷ said_by third) ≡ said_by third = after_first_one is_third front (Floor 3) (said_by third) (no_third first) refl in (
+    let prefix : List CertLine = Floor 1 ∷ said_by first in
+    let some : list_any is_third (prefix ++ Floor 3 ∷ said_by third) ≡ true = any_append is_third prefix (Floor 3 ∷ said_by third) ∙ rw (no_third first) refl in
+    let before : before_first is_third (prefix ++ Floor 3 ∷ said_by third) ≡ prefix = before_first_one is_third prefix (Floor 3) (said_by third) (no_third first) refl in
+    let after : after_first is_third (prefix ++ Floor 3 ∷ said_by third) ≡ said_by third = after_first_one is_third prefix (Floor 3) (said_by third) (no_third first) refl in (
       sym (rw some (ap (λ (ls : List CertLine). Some (lists_in ls)) before ∙ ap (λ (l : Lists). Some l) (lists_back first able.ups))),
       sym (rw some (ap lists_in after ∙ lists_back third (ables third refl).ups)),
     )

@@ -26,11 +26,11 @@ pub(crate) fn read_numbered(text: &[u8]) -> Option<Numbered>
         (λ read. (is_small read.number read.up ≡ true)
         × (text.now ≡ signed_text read.number ++ SPACE ∷ decimal read.up)) }
 {
-    let (front, rest) = text.split_at(find_byte(text, SPACE));
+    let (prefix, rest) = text.split_at(find_byte(text, SPACE));
     if rest.is_empty() {
         return None;
     }
-    let Some(number) = read_signed(front) else {
+    let Some(number) = read_signed(prefix) else {
         return None;
     };
     let Some(up) = read_count(behind_first(rest), GREATEST_UP) else {

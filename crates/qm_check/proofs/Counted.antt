@@ -13,9 +13,9 @@ use Rattle.def_remesh.specs.Remeshed.{remeshed_text, used}
 use Rattle.def_run.specs.Check.{IsCountedPair}
 use Rattle.def_written.specs.NewFaces.{face_count}
 use Rattle.qm_certtext.proofs.Texts.{same_head}
-use Rattle.qm_check.specs.Judged.{IsJudged}
+use Rattle.qm_check.specs.Checked.{IsChecked}
 use Rattle.qm_check.specs.Ready.{IsReady, Tells}
-use Rattle.qm_check.specs.declared.judging.Judged.{Judged}
+use Rattle.qm_check.specs.declared.certificates.Checked.{Checked}
 use Rattle.qm_check.specs.declared.ready.Ready.{Ready}
 use Rattle.remesh_laws.proofs.Keeps.{kept_shape}
 use Rattle.remesh_laws.specs.Keeps.{IsNetFor}
@@ -31,22 +31,22 @@ pub net_is : (bytes : Bytes) (line : ℕ) (ready : Ready) (made : Made) → IsRe
 net_is bytes line ready made is told =
     subst (λ (s : Settings). IsNetFor (plan ready.cut.layout) s (network ready.net)) (asked_is bytes line ready made is told) is.net
 
-module _ (bytes : Bytes) (line : ℕ) (ready : Ready) (made : Made) (judged : Judged) (is : IsReady bytes line ready)
-    (told : Tells bytes line made) (right : IsJudged (plan ready.cut.layout) (network ready.net) made judged) where
+module _ (bytes : Bytes) (line : ℕ) (ready : Ready) (made : Made) (checked : Checked) (is : IsReady bytes line ready)
+    (told : Tells bytes line made) (right : IsChecked (plan ready.cut.layout) (network ready.net) made checked) where
   -- The text of what is kept, as it was asked for.
-  pub kept_text : remeshed_text judged.remesh.asked.settings judged.remesh.asked.auto ready.soup (plan ready.cut.layout)
-      (lists_of judged.remesh.first) (option_map lists_of judged.remesh.third)
+  pub kept_text : remeshed_text checked.remesh.asked.settings checked.remesh.asked.auto ready.soup (plan ready.cut.layout)
+      (lists_of checked.remesh.first) (option_map lists_of checked.remesh.third)
       ≡ remeshed_text made.settings made.auto ready.soup (plan ready.cut.layout)
-      (lists_of judged.remesh.first) (option_map lists_of judged.remesh.third)
+      (lists_of checked.remesh.first) (option_map lists_of checked.remesh.third)
   kept_text = λ i. remeshed_text (right.settings i) (right.auto i) ready.soup (plan ready.cut.layout)
-      (lists_of judged.remesh.first) (option_map lists_of judged.remesh.third)
+      (lists_of checked.remesh.first) (option_map lists_of checked.remesh.third)
 
   pub counted : (arcs faces : ℕ)
-      → tail_of line bytes ≡ remeshed_text judged.remesh.asked.settings judged.remesh.asked.auto ready.soup (plan ready.cut.layout)
-      (lists_of judged.remesh.first) (option_map lists_of judged.remesh.third)
+      → tail_of line bytes ≡ remeshed_text checked.remesh.asked.settings checked.remesh.asked.auto ready.soup (plan ready.cut.layout)
+      (lists_of checked.remesh.first) (option_map lists_of checked.remesh.third)
       → arcs ≡ length (plan ready.cut.layout).arcs
-      → faces ≡ face_count (layout_of (plan ready.cut.layout)) (lengths_in judged.remesh.numbering.lengths.items)
-      → IsCountedPair bytes arcs faces judged.deviation
+      → faces ≡ face_count (layout_of (plan ready.cut.layout)) (lengths_in checked.remesh.numbering.lengths.items)
+      → IsCountedPair bytes arcs faces checked.deviation
   counted arcs faces text arcs_told faces_told = record {
     pair = record {
       line = line;
@@ -60,13 +60,13 @@ module _ (bytes : Bytes) (line : ℕ) (ready : Ready) (made : Made) (judged : Ju
       remeshed = record {
         plan = plan ready.cut.layout;
         cut = is.cut;
-        first = lists_of judged.remesh.first;
-        third = option_map lists_of judged.remesh.third;
+        first = lists_of checked.remesh.first;
+        third = option_map lists_of checked.remesh.third;
         lengths = right.kept.kept;
         coarse = right.kept.coarse;
         undoubled = right.kept.undoubled;
         written = text ∙ kept_text;
-        shape = kept_shape ready.soup (plan ready.cut.layout) (used (lists_of judged.remesh.first) (option_map lists_of judged.remesh.third)).x
+        shape = kept_shape ready.soup (plan ready.cut.layout) (used (lists_of checked.remesh.first) (option_map lists_of checked.remesh.third)).x
             is.lies right.kept.shape;
       };
     };

@@ -4,25 +4,25 @@ use Rattle.def_io.specs.Bytes.{Bytes}
 use Rattle.def_output.specs.Compared.{Compared, Differs, IsAlike, LacksFirst}
 use Rattle.def_run.specs.Check.{DifferFrom}
 
-take_front : (front rest : Bytes) → take (length front) (front ++ rest) ≡ front
-take_front [] rest = refl
-take_front (x ∷ front) rest = ap (λ (xs : Bytes). x ∷ xs) (take_front front rest)
+take_prefix : (prefix rest : Bytes) → take (length prefix) (prefix ++ rest) ≡ prefix
+take_prefix [] rest = refl
+take_prefix (x ∷ prefix) rest = ap (λ (xs : Bytes). x ∷ xs) (take_prefix prefix rest)
 
--- Behind a common front one goes on with a byte that the other lacks there.
-one_more : (front more rest : Bytes) (byte : ℕ) → LacksFirst byte rest
-    → take (suc (length front)) (front ++ rest) ≡ take (suc (length front)) (front ++ byte ∷ more) → ⊥
+-- Behind a common prefix one goes on with a byte that the other lacks there.
+one_more : (prefix more rest : Bytes) (byte : ℕ) → LacksFirst byte rest
+    → take (suc (length prefix)) (prefix ++ rest) ≡ take (suc (length prefix)) (prefix ++ byte ∷ more) → ⊥
 one_more [] more [] byte lacks same = absurd cc
 one_more [] more (other ∷ rest) byte lacks same = lacks (let first : other ≡ byte = cc in sym first)
-one_more (x ∷ front) more rest byte lacks same =
-    one_more front more rest byte lacks (let later : take (suc (length front)) (front ++ rest) ≡ take (suc (length front)) (front ++ byte ∷ more) = cc in later)
+one_more (x ∷ prefix) more rest byte lacks same =
+    one_more prefix more rest byte lacks (let later : take (suc (length prefix)) (prefix ++ rest) ≡ take (suc (length prefix)) (prefix ++ byte ∷ more) = cc in later)
 
-differ_behind : (front more rest : Bytes) (byte : ℕ) → LacksFirst byte rest → DifferFrom (front ++ rest) (front ++ byte ∷ more) (suc (length front))
-differ_behind front more rest byte lacks = record {
+differ_behind : (prefix more rest : Bytes) (byte : ℕ) → LacksFirst byte rest → DifferFrom (prefix ++ rest) (prefix ++ byte ∷ more) (suc (length prefix))
+differ_behind prefix more rest byte lacks = record {
   counted = omega arith;
-  before = (let back : suc (length front) - 1 ≡ length front = omega arith in
-      ap (λ (n : ℕ). take n (front ++ rest)) back ∙ take_front front rest
-      ∙ sym (ap (λ (n : ℕ). take n (front ++ byte ∷ more)) back ∙ take_front front (byte ∷ more)));
-  there = one_more front more rest byte lacks;
+  before = (let back : suc (length prefix) - 1 ≡ length prefix = omega arith in
+      ap (λ (n : ℕ). take n (prefix ++ rest)) back ∙ take_prefix prefix rest
+      ∙ sym (ap (λ (n : ℕ). take n (prefix ++ byte ∷ more)) back ∙ take_prefix prefix (byte ∷ more)));
+  there = one_more prefix more rest byte lacks;
 }
 
 -- The bytes stop being alike.
@@ -30,14 +30,14 @@ pub stopped_differ : (given text : Bytes) (before now : Compared) → before ≡
     → DifferFrom given text (now.at + 1)
 stopped_differ given text before now fresh is =
     subst (DifferFrom given text) at
-    (subst (λ (xs : Bytes). DifferFrom given xs (suc (length is.front))) (sym is.said)
-    (subst (λ (xs : Bytes). DifferFrom xs (is.front ++ is.byte ∷ is.more) (suc (length is.front))) all
-    (differ_behind is.front is.more now.rest is.byte is.lacks)))
+    (subst (λ (xs : Bytes). DifferFrom given xs (suc (length is.prefix))) (sym is.said)
+    (subst (λ (xs : Bytes). DifferFrom xs (is.prefix ++ is.byte ∷ is.more) (suc (length is.prefix))) all
+    (differ_behind is.prefix is.more now.rest is.byte is.lacks)))
   where
-    all : is.front ++ now.rest ≡ given
+    all : is.prefix ++ now.rest ≡ given
     all = sym is.alike ∙ ap (λ (c : Compared). c.rest) fresh
 
-    at : suc (length is.front) ≡ now.at + 1
+    at : suc (length is.prefix) ≡ now.at + 1
     at = omega (arith, is.counted, ap (λ (c : Compared). c.at) fresh)
 
 -- The text is alike, and more is given.
@@ -57,7 +57,7 @@ longer_differ given text before now fresh is some =
     (subst (λ (xs : Bytes). DifferFrom xs text (suc (length text))) all (record {
       counted = omega arith;
       before = (let back : suc (length text) - 1 ≡ length text = omega arith in
-          ap (λ (n : ℕ). take n (text ++ now.rest)) back ∙ take_front text now.rest
+          ap (λ (n : ℕ). take n (text ++ now.rest)) back ∙ take_prefix text now.rest
           ∙ sym (ap (λ (n : ℕ). take n text) back ∙ take_whole text));
       there = longer text now.rest some;
     }))

@@ -1,4 +1,4 @@
--- What is kept by certificates that are judged, and why none is.
+-- What is kept by certificates that are checked, and why none is.
 use Rattle.std.proofs.Common.{◌≡◌, ℕ, Bool, true, Some, None, inl, inr, refl, ap, sym, ◌∙◌, subst}
 use Rattle.def_certtext.specs.CertLines.{lists_of, Lists}
 use Rattle.def_certtext.specs.Reading.{Made}
@@ -15,7 +15,7 @@ use Rattle.def_remesh.specs.declared.tables.Tables.{Tables}
 use Rattle.def_run.specs.Check.{first_of, IsWrong}
 use Rattle.def_run.specs.declared.answer.Why.{Why}
 use Rattle.def_run.specs.declared.answer.Why.TheVariants as why
-use Rattle.qm_check.specs.Judged.{made_once, made_twice, Gives, GivesNone, IsJudged, IsUnused}
+use Rattle.qm_check.specs.Checked.{made_once, made_twice, Gives, GivesNone, IsChecked, IsUnused}
 use Rattle.def_run.specs.declared.check_fail.CheckFail.{CheckFail}
 use Rattle.def_run.specs.declared.check_fail.CheckFail.TheVariants.{NotAccepted, Memory}
 use Rattle.qm_check.specs.declared.lengths.Lengths.TheVariants.{Whole, Doubled}
@@ -57,11 +57,11 @@ unused_third plan net asked first third Memory certified coarse doubled for none
 unused_third plan net asked first third _ certified coarse doubled for none = absurd none
 
 -- The first certificate is used.
-pub judged_first : (plan : Plan) (net : Network) (asked : Asked) (made : Made) (cert : Cert) (tables : Tables) (deviates : ℕ)
+pub checked_first : (plan : Plan) (net : Network) (asked : Asked) (made : Made) (cert : Cert) (tables : Tables) (deviates : ℕ)
     → asked.settings ≡ made.settings → asked.auto ≡ made.auto → first_of made ≡ lists_of cert → IsNetFor plan made.settings net
     → IsSolution net (certificate cert) → Gives plan net cert.x.items (Whole tables deviates)
-    → IsJudged plan net made (record { remesh = record { asked = asked; first = cert; third = None; numbering = tables }; deviation = deviates })
-judged_first plan net asked made cert tables deviates settings auto same for is gives = record {
+    → IsChecked plan net made (record { remesh = record { asked = asked; first = cert; third = None; numbering = tables }; deviation = deviates })
+checked_first plan net asked made cert tables deviates settings auto same for is gives = record {
   kept = keeps_first plan made.settings made.auto cert cert.x.items tables refl (solved plan made.settings net cert for is) gives.0;
   settings = settings;
   auto = auto;
@@ -71,13 +71,13 @@ judged_first plan net asked made cert tables deviates settings auto same for is 
 }
 
 -- The one for floor 3 is used.
-pub judged_third : (plan : Plan) (net raised : Network) (asked : Asked) (first third : Cert) (tables : Tables) (deviates : ℕ)
+pub checked_third : (plan : Plan) (net raised : Network) (asked : Asked) (first third : Cert) (tables : Tables) (deviates : ℕ)
     → asked.auto ≡ true → IsCertified plan asked.settings (lists_of first) → AreCoarse plan first.x.items → AreDoubled plan first.x.items
     → IsNetFor plan (with_floor asked.settings 3) raised → raised ≡ record net { floor = 3 }
     → IsSolution raised (certificate third) → Gives plan raised third.x.items (Whole tables deviates)
-    → IsJudged plan net (made_twice asked (lists_of first) (lists_of third))
+    → IsChecked plan net (made_twice asked (lists_of first) (lists_of third))
     (record { remesh = record { asked = asked; first = first; third = Some third; numbering = tables }; deviation = deviates })
-judged_third plan net raised asked first third tables deviates auto certified coarse doubled for same is gives = record {
+checked_third plan net raised asked first third tables deviates auto certified coarse doubled for same is gives = record {
   kept = subst (λ (b : Bool). IsKept plan asked.settings b (lists_of first) (Some (lists_of third)) tables) (sym auto)
       (keeps_third plan asked.settings first third third.x.items tables refl
       (certified, coarse, doubled, solved plan (with_floor asked.settings 3) raised third for is) gives.0);

@@ -34,9 +34,9 @@ use Rattle.def_run.specs.declared.check_fail.CheckFail.TheVariants.{Old as OldFa
 use Rattle.qm_check.specs.declared.old.Old.{Old}
 
 -- The lines before a line are the first ones.
-pub front_said : (bytes : Bytes) (line : ℕ) (said : Result FaceSet ObjFail) → text_soup 1 (slice_range (lines_of bytes) 0 line) ≡ said
+pub prefix_said : (bytes : Bytes) (line : ℕ) (said : Result FaceSet ObjFail) → text_soup 1 (slice_range (lines_of bytes) 0 line) ≡ said
     → text_soup 1 (take line (lines_of bytes)) ≡ said
-front_said bytes line said is =
+prefix_said bytes line said is =
     let same : line ≡ line - 0 = omega arith in ap (λ (n : ℕ). text_soup 1 (take n (lines_of bytes))) same ∙ is
 
 -- An old text that has no soup is refused.
@@ -47,7 +47,7 @@ old_fails bytes line fail divided refuses = by_fail fail refuses
     told : (f : ObjFail) → f ≢ obj.Memory → (f ≢ obj.Memory → text_soup 1 (slice_range (lines_of bytes) 0 line) ≡ Err f)
         → IsCheckFail bytes (OldFail f)
     told f other says =
-        let refused : RefusesOldText bytes f = record { line = line; divided = divided; said = front_said bytes line (Err f) (says other) } in
+        let refused : RefusesOldText bytes f = record { line = line; divided = divided; said = prefix_said bytes line (Err f) (says other) } in
         (refused, other, old_refused bytes f refused)
 
     by_fail : (f : ObjFail) → (f ≢ obj.Memory → text_soup 1 (slice_range (lines_of bytes) 0 line) ≡ Err f) → IsCheckFail bytes (of_obj f)

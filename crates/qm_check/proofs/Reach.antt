@@ -1,4 +1,4 @@
--- The certificates that lines tell are within the limits of the judge.
+-- The certificates that lines tell are within the limits of the checker.
 use Rattle.std.proofs.Common.{◌≡◌, ◌<◌, ◌≤◌, ◌+◌, ◌^◌, ℕ, zero, suc, pos, Bool, true, false, List, [], ◌∷◌, ◌==◌, if◌then◌else◌, cond, length, filter, drop, Some, None, refl, ap, sym, ◌∙◌, subst, arith, length-append}
 use Rattle.std.specs.Prelude.{slice_index, slice_index_or, unsigned_abs}
 use Rattle.std.specs.List.{after_first, before_first, flat_map, list_all, list_any, position_or_len}
@@ -15,7 +15,7 @@ use Rattle.def_io.specs.Lines.{in_front, line_of, lines_of, pieces, tail_of}
 use Rattle.def_text.specs.declared.limits.TheConstants.{MAX_BYTES}
 use Rattle.remesh_laws.proofs.Tails.{flat-pieces}
 use Rattle.remesh_laws.proofs.Solved.{all_drop, all_take}
-use Rattle.qm_check.specs.Judged.{IsInReach}
+use Rattle.qm_check.specs.Checked.{IsInReach}
 use Rattle.qm_check.specs.Ready.{Tells}
 
 -- There are no more lines than bytes.
@@ -23,14 +23,14 @@ pieces_few : (bytes : Bytes) → length (pieces bytes) ≤ length bytes
 pieces_few [] = omega arith
 pieces_few (b ∷ bytes) = by_test (b == 10) (pieces_few bytes)
   where
-    front : (ps : Lines) → length ps ≤ length bytes → length (in_front b ps) ≤ suc (length bytes)
-    front [] few = omega arith
-    front (p ∷ ps) few = omega (arith, few)
+    prefix : (ps : Lines) → length ps ≤ length bytes → length (in_front b ps) ≤ suc (length bytes)
+    prefix [] few = omega arith
+    prefix (p ∷ ps) few = omega (arith, few)
 
     by_test : (t : Bool) → length (pieces bytes) ≤ length bytes
         → length (if t then (b ∷ []) ∷ pieces bytes else in_front b (pieces bytes)) ≤ suc (length bytes)
     by_test true few = omega (arith, few)
-    by_test false few = front (pieces bytes) few
+    by_test false few = prefix (pieces bytes) few
 
 lines_few : (bytes : Bytes) → length (lines_of bytes) ≤ length bytes
 lines_few bytes = omega (arith, length-map (pieces bytes) line_of, pieces_few bytes)

@@ -19,12 +19,12 @@ use Rattle.def_run.specs.declared.answer.Why.TheVariants as why
 use Rattle.def_written.specs.Edges.{IsUndoubled}
 use Rattle.qm_check.proofs.Counted.{kept_text, net_is}
 use Rattle.qm_check.proofs.Refuted.{line_refuted, no_head_line, one_net, tangle_refuted, text_refuted}
-use Rattle.qm_check.specs.Judged.{IsDifference, IsJudged, IsUnused}
+use Rattle.qm_check.specs.Checked.{IsDifference, IsChecked, IsUnused}
 use Rattle.qm_check.specs.Ready.{IsOld, IsReady, IsUnfit, Tells, TellsNothing}
 use Rattle.def_run.specs.CheckFails.{IsCheckFail}
 use Rattle.def_run.specs.declared.check_fail.CheckFail.{CheckFail}
 use Rattle.def_run.specs.declared.check_fail.CheckFail.TheVariants.{NotAccepted, Old, NotManifold, Tangled, Memory}
-use Rattle.qm_check.specs.declared.judging.Judged.{Judged}
+use Rattle.qm_check.specs.declared.certificates.Checked.{Checked}
 use Rattle.qm_check.specs.declared.old.Old.{Old as AnyOld}
 use Rattle.qm_check.specs.declared.ready.Ready.{Ready}
 use Rattle.remesh_laws.specs.Keeps.{IsNetFor}
@@ -42,7 +42,7 @@ no_head bytes line old is none =
     let refuted : IsCheckedPair bytes → ⊥ = no_head_line bytes line old.soup is.soup is.solid none in
     (record { line = line; soup = old.soup; old = is.soup; manifold = is.manifold; headless = none; refuted = refuted }, refuted)
 
--- The old mesh has no network that is judged by.
+-- The old mesh has no network that is checked by.
 pub no_network : (bytes : Bytes) (line : ℕ) (old : AnyOld) (to : Asked) (fail : CheckFail) → IsOld bytes line old
     → IsHead (head_of bytes line) to.settings to.auto → IsUnfit old to fail → IsCheckFail bytes fail
 no_network bytes line old to (Tangled count) is head unfit =
@@ -139,12 +139,12 @@ module _ (bytes : Bytes) (line : ℕ) (ready : Ready) (is : IsReady bytes line r
     unused (Tangled count) by = absurd by
     unused _ (inr (inr by)) = absurd by.wrong
 
-    module _ (judged : Judged) (right : IsJudged (plan ready.cut.layout) (network ready.net) made judged) where
+    module _ (checked : Checked) (right : IsChecked (plan ready.cut.layout) (network ready.net) made checked) where
       abbrev third : Option Lists
-      third = option_map lists_of judged.remesh.third
+      third = option_map lists_of checked.remesh.third
 
       other_text : (at : ℕ)
-          → DifferFrom (tail_of line bytes) (remeshed_text made.settings made.auto ready.soup (plan ready.cut.layout) (lists_of judged.remesh.first) third) at
+          → DifferFrom (tail_of line bytes) (remeshed_text made.settings made.auto ready.soup (plan ready.cut.layout) (lists_of checked.remesh.first) third) at
           → IsOtherText bytes made_asked made at
       other_text at differ = record {
         third = third;
@@ -159,15 +159,15 @@ module _ (bytes : Bytes) (line : ℕ) (ready : Ready) (is : IsReady bytes line r
 
       -- The text is another one.
       pub other : (fail : CheckFail)
-          → IsDifference (tail_of line bytes) (remeshed_text judged.remesh.asked.settings judged.remesh.asked.auto ready.soup (plan ready.cut.layout)
-          (lists_of judged.remesh.first) (option_map lists_of judged.remesh.third)) fail
+          → IsDifference (tail_of line bytes) (remeshed_text checked.remesh.asked.settings checked.remesh.asked.auto ready.soup (plan ready.cut.layout)
+          (lists_of checked.remesh.first) (option_map lists_of checked.remesh.third)) fail
           → IsCheckFail bytes fail
       other (NotAccepted (why.Byte at)) differ =
           let wrong : IsWrongText bytes made_asked (why.Byte at) = record {
             made = made;
             told = told;
             wrong = inr (inr (inr (other_text at (subst (λ (text : Bytes). DifferFrom (tail_of line bytes) text at)
-                (kept_text bytes line ready made judged is told right) differ))));
+                (kept_text bytes line ready made checked is told right) differ))));
           } in
           (no_pair (why.Byte at) wrong wrong, wrong_text (why.Byte at) wrong)
       other Memory differ = tt

@@ -30,7 +30,7 @@ use Rattle.def_text.specs.FaceSet.{FaceSet}
 use Rattle.def_text.specs.Text.{text_soup}
 use Rattle.def_text.specs.declared.refusal.ObjFail.{ObjFail}
 use Rattle.def_written.specs.Edges.{IsUndoubled}
-use Rattle.qm_cert.proofs.Judged.{accepted_yes}
+use Rattle.qm_cert.proofs.Checked.{accepted_yes}
 use Rattle.qm_certtext.proofs.Marks.{said_at}
 use Rattle.qm_certtext.proofs.Texts.{same_head}
 use Rattle.qm_layoutnet.proofs.OneNet.{one_net_law}
@@ -60,7 +60,7 @@ pub no_head_line : (bytes : Bytes) (line : ℕ) (soup : FaceSet) → HasOldSoup 
     → ((settings : Settings) (auto : Bool) → ¬ IsHead (head_of bytes line) settings auto) → ¬ IsCheckedPair bytes
 no_head_line bytes line soup old solid none pair = none pair.settings pair.auto (pair_head bytes line soup old solid pair)
 
--- The certificate that is judged first.
+-- The certificate that is checked first.
 kept_first : (plan : Plan) (settings : Settings) (auto : Bool) (first : Lists) (third : Option Lists) → AreKept plan settings auto first third
     → IsCertified plan settings first
 kept_first plan settings auto first None kept = kept

@@ -1,3 +1,3 @@
-pub mod Judged
+pub mod Checked
 pub mod Ready
 pub mod Refused

@@ -1,4 +1,4 @@
--- What certificates are judged by.
+-- What certificates are checked by.
 use Rattle.std.specs.Prelude.{◌≡◌, ℕ, ◌+◌, drop, ⊤}
 use Rattle.def_certtext.specs.Reading.{HasBadLine, IsHead, Made, TellHow}
 use Rattle.def_certtext.specs.declared.Asked.{Asked}
@@ -52,13 +52,13 @@ pub record IsTangledFor (old : Old) (asked : Asked) (count : ℕ) : Type 0 where
   pub lies : IsLayoutIn old.soup.faces plan
   pub tangled : IsTangledAt plan asked.settings count
 
--- Why a layout has no network that is judged by.
+-- Why a layout has no network that is checked by.
 abbrev pub IsTooTangled : (plan : Plan) (asked : Asked) (fail : CheckFail) → Type 0
 IsTooTangled plan asked (Tangled count) = IsTangledAt plan asked.settings count
 IsTooTangled plan asked Memory = ⊤
 IsTooTangled plan asked _ = ⊥
 
--- Why a mesh has no network that is judged by.
+-- Why a mesh has no network that is checked by.
 abbrev pub IsUnfit : (old : Old) (asked : Asked) (fail : CheckFail) → Type 0
 IsUnfit old asked (Tangled count) = IsTangledFor old asked count
 IsUnfit old asked Memory = ⊤

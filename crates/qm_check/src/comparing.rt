@@ -8,7 +8,7 @@ ghost use Rattle.def_remesh.specs.Keeping.{IsKept};
 ghost use Rattle.def_remesh.specs.Placings.{IsLayoutIn};
 ghost use Rattle.def_remesh.specs.Remeshed.{remeshed_text};
 ghost use Rattle.def_text.specs.declared.limits.TheConstants.{MAX_BYTES};
-ghost use Rattle.qm_check.specs.Judged.{IsDifference};
+ghost use Rattle.qm_check.specs.Checked.{IsDifference};
 
 use def_run::{CheckFail, Why};
 use def_text::Soup;

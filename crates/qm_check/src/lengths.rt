@@ -8,7 +8,7 @@ ghost use Rattle.def_flow.specs.Descent.{IsSolution};
 ghost use Rattle.def_flow.specs.Network.{network};
 ghost use Rattle.def_flow.specs.declared.net.Settings.{Settings as AnySettings};
 ghost use Rattle.def_layout.specs.Plans.{plan as plan_of, Plan};
-ghost use Rattle.qm_check.specs.Judged.{Gives, GivesNone, IsInReach};
+ghost use Rattle.qm_check.specs.Checked.{Gives, GivesNone, IsInReach};
 ghost use Rattle.remesh_laws.specs.Keeps.{IsNetFor};
 
 use def_flow::{Cert, CertVerdict, Net};
@@ -34,8 +34,8 @@ pub(crate) enum Lengths {
     },
 }
 
-/// Judges a certificate, and numbers the new mesh that its lengths give.
-pub(crate) fn judge(alloc: Global, t: &TMesh, net: &Net, cert: &Cert) -> Result<Lengths, CheckFail>
+/// Checks a certificate, and numbers the new mesh that its lengths give.
+pub(crate) fn check_lengths(alloc: Global, t: &TMesh, net: &Net, cert: &Cert) -> Result<Lengths, CheckFail>
     requires net { (settings : AnySettings) × IsNetFor (plan_of t.now) settings (network net.now) }
     requires cert { IsInReach (lists_of cert.now) }
     ensures solved { OnOk result (IsSolution (network net.now) (certificate cert.now)) }

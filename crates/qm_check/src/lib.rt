@@ -1,8 +1,8 @@
-//! The judge of pairs: whether a text is one with a mesh and, behind it, the text of a finished remesh of this mesh.
+//! The checker of pairs: whether a text is one with a mesh and, behind it, the text of a finished remesh of this mesh.
 #![tactic(auto)]
 
 mod comparing;
-mod judging;
+mod certificates;
 mod lengths;
 mod old;
 mod pair;

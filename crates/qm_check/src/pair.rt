@@ -1,4 +1,4 @@
-//! One text, from its lines to the judgement.
+//! One text, from its lines to the verdict.
 
 ghost use Rattle.std.specs.Prelude.{◌≤◌, ◌<◌, Bool, length, IfErr, IfOk};
 ghost use Rattle.def_certtext.specs.HeadLine.{IsLastHead};
@@ -11,7 +11,7 @@ ghost use Rattle.qm_check.specs.Ready.{IsOld, IsReady, Tells, TellsNothing};
 ghost use Rattle.def_run.specs.CheckFails.{IsCheckFail};
 
 use crate::comparing::compare;
-use crate::judging::judge_written;
+use crate::certificates::check_written;
 use crate::old::{Old, read_old};
 use crate::ready::{Ready, ready_of};
 use def_certtext::{CertFail, Written};
@@ -28,7 +28,7 @@ pub struct Accepted {
     pub deviation: u128,
 }
 
-/// Judges a text. The last line that begins as a head line does divides it into an old text and the text of a remesh.
+/// Checks a text. The last line that begins as a head line does divides it into an old text and the text of a remesh.
 /// Of the latter only the certificates are kept; it is compared with the text as it is made anew.
 pub fn check_pair(alloc: Global, lines: &Lines) -> Result<Accepted, CheckFail>
     requires { length lines.now ≤ MAX_BYTES }
@@ -41,7 +41,7 @@ pub fn check_pair(alloc: Global, lines: &Lines) -> Result<Accepted, CheckFail>
     }
 }
 
-/// Judges the two parts that this line divides.
+/// Checks the two parts that this line divides.
 fn check_parts(alloc: Global, lines: &Lines, line: u32) -> Result<Accepted, CheckFail>
     requires few { length lines.now ≤ MAX_BYTES }
     requires line { IsLastHead (lines_of lines.now) line }
@@ -52,7 +52,7 @@ fn check_parts(alloc: Global, lines: &Lines, line: u32) -> Result<Accepted, Chec
     check_behind(alloc, lines, line, old)
 }
 
-/// Judges what stands behind the old text.
+/// Checks what stands behind the old text.
 fn check_behind(alloc: Global, lines: &Lines, line: u32, old: Old) -> Result<Accepted, CheckFail>
     requires few { length lines.now ≤ MAX_BYTES }
     requires old { IsOld lines.now line old }
@@ -68,7 +68,7 @@ fn check_behind(alloc: Global, lines: &Lines, line: u32, old: Old) -> Result<Acc
     }
 }
 
-/// Judges the certificates, and compares the text.
+/// Checks the certificates, and compares the text.
 fn check_certificates(
     alloc: Global,
     lines: &Lines,
@@ -87,13 +87,13 @@ fn check_certificates(
         cut,
         net,
     } = ready;
-    let judged = judge_written(alloc, &cut.layout, net, written)?;
+    let checked = check_written(alloc, &cut.layout, net, written)?;
     let accepted = Accepted {
         arcs: cut.layout.arcs.len() as u32,
-        faces: judged.remesh.numbering.faces(),
-        deviation: judged.deviation,
+        faces: checked.remesh.numbering.faces(),
+        deviation: checked.deviation,
     };
-    compare(alloc, lines.tail(line), &soup, &cut, judged.remesh)?;
+    compare(alloc, lines.tail(line), &soup, &cut, checked.remesh)?;
     Ok(accepted)
 }
 

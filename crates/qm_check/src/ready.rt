@@ -20,7 +20,7 @@ use qm_layoutnet::net_of;
 use qm_write::CutMesh;
 use std::alloc::Global;
 
-/// What certificates are judged by.
+/// What certificates are checked by.
 #[derive(Drop)]
 pub(crate) struct Ready {
     pub(crate) asked: Asked,

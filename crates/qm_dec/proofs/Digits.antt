@@ -10,18 +10,18 @@ use Rattle.std.proofs.lemmas.Bool.{and_parts, and_from}
 use Rattle.std.proofs.Math.Nat.{pow-suc}
 use Rattle.std.proofs.Math.Seq.{take-append-add}
 use Rattle.def_text.specs.Digits.{number}
-use Rattle.qm_dec.specs.Sizes.{capped}
+use Rattle.qm_dec.specs.Sizes.{clamped}
 use Rattle.qm_scan.proofs.Numbers.{values}
-use Rattle.qm_dec.proofs.Caps.{cap_linear, ten_power}
+use Rattle.qm_dec.proofs.Clamps.{clamp_linear, ten_power}
 
 -- digits behind a number shift it and add their own
 pub after_is : (n : ℕ) (vs : List ℕ) → number_from_digits_after 10 n vs ≡ n * 10 ^ length vs + number_from_digits 10 vs
 after_is n [] = omega arith
 after_is n (v ∷ vs) = omega (arith, after_is (n * 10 + v) vs, after_is (0 * 10 + v) vs, ap (λ x. n * x) (pow-suc 10 (length vs)))
 
--- so a capped number may be taken for the number
-pub after_capped : (n : ℕ) (vs : List ℕ) → capped (number_from_digits_after 10 (capped n) vs) ≡ capped (number_from_digits_after 10 n vs)
-after_capped n vs = ap capped (after_is (capped n) vs) ∙ cap_linear n (10 ^ length vs) (number_from_digits 10 vs) (ten_power (length vs)) ∙ ap capped (sym (after_is n vs))
+-- so a clamped number may be taken for the number
+pub after_clamped : (n : ℕ) (vs : List ℕ) → clamped (number_from_digits_after 10 (clamped n) vs) ≡ clamped (number_from_digits_after 10 n vs)
+after_clamped n vs = ap clamped (after_is (clamped n) vs) ∙ clamp_linear n (10 ^ length vs) (number_from_digits 10 vs) (ten_power (length vs)) ∙ ap clamped (sym (after_is n vs))
 
 -- one digit more of a loop
 pub after_more : (n : ℕ) (ds : List ℕ) (i : ℕ) → i < length ds → number_from_digits_after 10 n (values (take (i + 1) ds)) ≡ number_from_digits_after 10 n (values (take i ds)) * 10 + (get_or ds i 0 - 48)
@@ -35,13 +35,13 @@ pub number_append : (xs ys : List ℕ) → number (xs ++ ys) ≡ number_from_dig
 number_append xs ys = ap (number_from_digits 10) (map-append (λ d. d - 48) xs ys) ∙ number_after_append 10 0 (values xs) (values ys)
 
 -- a loop over one run of digits and then another
-pub two_parts : (xs ys : List ℕ) (a b : ℕ) → a ≡ capped (number xs) → b ≡ capped (number_from_digits_after 10 a (values ys)) → b ≡ capped (number (xs ++ ys))
-two_parts xs ys a b p q = q ∙ ap (λ n. capped (number_from_digits_after 10 n (values ys))) p ∙ after_capped (number xs) (values ys) ∙ ap capped (sym (number_append xs ys))
+pub two_parts : (xs ys : List ℕ) (a b : ℕ) → a ≡ clamped (number xs) → b ≡ clamped (number_from_digits_after 10 a (values ys)) → b ≡ clamped (number (xs ++ ys))
+two_parts xs ys a b p q = q ∙ ap (λ n. clamped (number_from_digits_after 10 n (values ys))) p ∙ after_clamped (number xs) (values ys) ∙ ap clamped (sym (number_append xs ys))
 
 -- one step of a loop over digits
-pub step_more : (n v x : ℕ) (ds : List ℕ) (i : ℕ) → i < length ds → v ≡ capped (number_from_digits_after 10 n (values (take i ds))) → x ≡ min (v * 10 + (get_or ds i 0 - 48)) (10 ^ 15) → x ≡ capped (number_from_digits_after 10 n (values (take (i + 1) ds)))
+pub step_more : (n v x : ℕ) (ds : List ℕ) (i : ℕ) → i < length ds → v ≡ clamped (number_from_digits_after 10 n (values (take i ds))) → x ≡ min (v * 10 + (get_or ds i 0 - 48)) (10 ^ 15) → x ≡ clamped (number_from_digits_after 10 n (values (take (i + 1) ds)))
 step_more n v x ds i l p q =
-    q ∙ ap (λ m. capped (m * 10 + (get_or ds i 0 - 48))) p ∙ cap_linear (number_from_digits_after 10 n (values (take i ds))) 10 (get_or ds i 0 - 48) (omega arith) ∙ ap capped (sym (after_more n ds i l))
+    q ∙ ap (λ m. clamped (m * 10 + (get_or ds i 0 - 48))) p ∙ clamp_linear (number_from_digits_after 10 n (values (take i ds))) 10 (get_or ds i 0 - 48) (omega arith) ∙ ap clamped (sym (after_more n ds i l))
 
 -- digits before a place
 pub digits_before : (ds : List ℕ) (i : ℕ) → list_all is_ascii_digit ds ≡ true → list_all is_ascii_digit (take i ds) ≡ true

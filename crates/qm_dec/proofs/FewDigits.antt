@@ -11,7 +11,7 @@ use Rattle.std.proofs.Math.Nat.{mul-le-mul_left, mul-le-mul_right, mul_assoc, po
 use Rattle.def_text.specs.Decimal.{is_exponent}
 use Rattle.def_text.specs.Digits.{is_number, number, unsigned}
 use Rattle.qm_dec.specs.Sizes.{IsSize}
-use Rattle.qm_dec.proofs.Caps.{ten_power}
+use Rattle.qm_dec.proofs.Clamps.{ten_power}
 use Rattle.qm_dec.proofs.Digits.{after_is, number_append}
 use Rattle.qm_scan.proofs.Numbers.{number_small, values}
 use Rattle.qm_dec.proofs.ReadBack.{HasParts, digits_number, parts_size, plain_parts, pointed_parts}
@@ -67,15 +67,15 @@ pointed_is word ds ys short is some nine all rest six =
     )
 
 -- The digits that a body begins with, at most nine, and their number.
-pub record IsFront (body : List ℕ) (count n : ℕ) : Type 0 where
+pub record IsPrefix (body : List ℕ) (count n : ℕ) : Type 0 where
   long : length (take count body) ≡ count
   nine : count ≤ 9
   all : list_all is_ascii_digit (take count body) ≡ true
   is : n ≡ number (take count body)
 
-pub front_is : (body : List ℕ) (most count n : ℕ) → most ≡ min (length body) 9 → count ≤ length (take most body) → list_all is_ascii_digit (take count (take most body)) ≡ true
-    → n ≡ number (take count (take most body)) → IsFront body count n
-front_is body most count n is within all value =
+pub prefix_is : (body : List ℕ) (most count n : ℕ) → most ≡ min (length body) 9 → count ≤ length (take most body) → list_all is_ascii_digit (take count (take most body)) ≡ true
+    → n ≡ number (take count (take most body)) → IsPrefix body count n
+prefix_is body most count n is within all value =
     let few : length (take most body) ≡ min most (length body) = length-take most body in
     let same : take count (take most body) ≡ take count body = take-take count most body (omega arith) in
     record {
@@ -85,29 +85,29 @@ front_is body most count n is within all value =
       is = value ∙ ap number same;
     }
 
-pub front_small : (body : List ℕ) (count n : ℕ) → IsFront body count n → n < 10 ^ 9
-front_small body count n front = omega (arith, front.is, nine_small (take count body) front.all (omega (arith, front.long, front.nine)))
+pub prefix_small : (body : List ℕ) (count n : ℕ) → IsPrefix body count n → n < 10 ^ 9
+prefix_small body count n prefix = omega (arith, prefix.is, nine_small (take count body) prefix.all (omega (arith, prefix.long, prefix.nine)))
 
-split_front : (body rest : List ℕ) (count : ℕ) → rest ≡ drop count body → body ≡ take count body ++ rest
-split_front body rest count is = sym (take-append-drop count body) ∙ ap (λ xs. take count body ++ xs) (sym is)
+split_prefix : (body rest : List ℕ) (count : ℕ) → rest ≡ drop count body → body ≡ take count body ++ rest
+split_prefix body rest count is = sym (take-append-drop count body) ∙ ap (λ xs. take count body ++ xs) (sym is)
 
--- The size of a word by its front and what stands behind it.
-pub whole_size : (word body rest : List ℕ) (count n : ℕ) → length word ≤ 64 → body ≡ unsigned word → IsFront body count n → (count ≡ 0 → ⊥) → rest ≡ drop count body → length rest ≡ 0 → IsSize word (n * 10 ^ 6)
-whole_size word body rest count n short is front some behind none =
+-- The size of a word by its prefix and what stands behind it.
+pub whole_size : (word body rest : List ℕ) (count n : ℕ) → length word ≤ 64 → body ≡ unsigned word → IsPrefix body count n → (count ≡ 0 → ⊥) → rest ≡ drop count body → length rest ≡ 0 → IsSize word (n * 10 ^ 6)
+whole_size word body rest count n short is prefix some behind none =
     let nothing : rest ≡ [] = nil_from_length rest none in
-    let body_is : body ≡ take count body = split_front body rest count behind ∙ ap (λ xs. take count body ++ xs) nothing ∙ append-nil (take count body) in
-    subst (λ m. IsSize word (m * 10 ^ 6)) (sym front.is)
-    (whole_is word (take count body) short (sym is ∙ body_is) (omega (arith, front.long)) (omega (arith, front.long, front.nine)) front.all)
+    let body_is : body ≡ take count body = split_prefix body rest count behind ∙ ap (λ xs. take count body ++ xs) nothing ∙ append-nil (take count body) in
+    subst (λ m. IsSize word (m * 10 ^ 6)) (sym prefix.is)
+    (whole_is word (take count body) short (sym is ∙ body_is) (omega (arith, prefix.long)) (omega (arith, prefix.long, prefix.nine)) prefix.all)
 
-pub pointed_size : (word body rest fraction : List ℕ) (count n size : ℕ) → length word ≤ 64 → body ≡ unsigned word → IsFront body count n → (count ≡ 0 → ⊥) → rest ≡ drop count body → 0 < length rest → get_or rest 0 0 ≡ 46
+pub pointed_size : (word body rest fraction : List ℕ) (count n size : ℕ) → length word ≤ 64 → body ≡ unsigned word → IsPrefix body count n → (count ≡ 0 → ⊥) → rest ≡ drop count body → 0 < length rest → get_or rest 0 0 ≡ 46
     → fraction ≡ drop 1 rest → (list_all is_ascii_digit fraction ≡ true) × (length fraction ≤ 6) × (size ≡ number_from_digits_after 10 n (values fraction) * 10 ^ (6 - length fraction)) → IsSize word size
-pointed_size word body rest fraction count n size short is front some behind more point tail good =
+pointed_size word body rest fraction count n size short is prefix some behind more point tail good =
     let rest_is : rest ≡ 46 ∷ fraction = first_is rest 46 more point ∙ ap (λ xs. 46 ∷ xs) (sym tail) in
-    let body_is : body ≡ take count body ++ 46 ∷ fraction = split_front body rest count behind ∙ ap (λ xs. take count body ++ xs) rest_is in
+    let body_is : body ≡ take count body ++ 46 ∷ fraction = split_prefix body rest count behind ∙ ap (λ xs. take count body ++ xs) rest_is in
     let value : number_from_digits_after 10 (number (take count body)) (values fraction) * 10 ^ (6 - length fraction) ≡ size =
-    ap (λ m. number_from_digits_after 10 m (values fraction) * 10 ^ (6 - length fraction)) (sym front.is) ∙ sym good.2 in
+    ap (λ m. number_from_digits_after 10 m (values fraction) * 10 ^ (6 - length fraction)) (sym prefix.is) ∙ sym good.2 in
     subst (λ m. IsSize word m) value
-    (pointed_is word (take count body) fraction short (sym is ∙ body_is) (omega (arith, front.long)) (omega (arith, front.long, front.nine)) front.all good.0 good.1)
+    (pointed_is word (take count body) fraction short (sym is ∙ body_is) (omega (arith, prefix.long)) (omega (arith, prefix.long, prefix.nine)) prefix.all good.0 good.1)
   where
     first_is : (xs : List ℕ) (x : ℕ) → 0 < length xs → get_or xs 0 0 ≡ x → xs ≡ x ∷ drop 1 xs
     first_is [] x some e = absurd (omega arith)

@@ -1,4 +1,4 @@
-pub mod Caps
+pub mod Clamps
 pub mod Digits
 pub mod Scaling
 pub mod Forms

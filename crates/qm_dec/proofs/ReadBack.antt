@@ -55,10 +55,10 @@ push_number ds x = number_append ds (x ∷ [])
 trimmed_number : (n : ℕ) (xs : List ℕ) → length xs ≡ n → (length (without_zeros xs) ≤ n) × (number (without_zeros xs) * 10 ^ (n - length (without_zeros xs)) ≡ number xs)
 trimmed_number zero [] e = (omega arith, omega arith)
 trimmed_number zero (x ∷ xs) e = absurd (omega arith)
-trimmed_number (suc n) xs e = by_last (take n xs) (get_or xs n 0) split (trimmed_number n (take n xs) front)
+trimmed_number (suc n) xs e = by_last (take n xs) (get_or xs n 0) split (trimmed_number n (take n xs) prefix)
   where
-    front : length (take n xs) ≡ n
-    front = length-take n xs ∙ omega arith
+    prefix : length (take n xs) ≡ n
+    prefix = length-take n xs ∙ omega arith
 
     split : xs ≡ take n xs ++ get_or xs n 0 ∷ []
     split = sym (take_all (n + 1) xs (omega arith)) ∙ take_more xs n 0 (omega arith)

@@ -11,8 +11,8 @@ use Rattle.std.specs.Char.{is_ascii_digit}
 use Rattle.std.specs.List.{list_all}
 use Rattle.def_text.specs.Decimal.{scaled}
 use Rattle.def_text.specs.Digits.{number}
-use Rattle.qm_dec.specs.Sizes.{capped}
-use Rattle.qm_dec.proofs.Caps.{both_far}
+use Rattle.qm_dec.specs.Sizes.{clamped}
+use Rattle.qm_dec.proofs.Clamps.{both_far}
 use Rattle.qm_dec.proofs.Digits.{after_is, after_more, number_append}
 use Rattle.qm_scan.proofs.Numbers.{values, number_small, digit_small}
 
@@ -74,28 +74,28 @@ cut_zero ds k all l =
     div-eq_of_lt (omega (arith, number_small ds all, pow-suc 10 k))
 
 -- a power of ten below any that matters, and one above
-pub power_down : (ds : List ℕ) (f p : ℕ) → list_all is_ascii_digit ds ≡ true → length ds ≤ 64 → capped (scaled (number ds) (pos 6 -ℤ pos (f + min p 1000))) ≡ capped (scaled (number ds) ((neg_ℤ (pos p) +ℤ pos 6) -ℤ pos f))
+pub power_down : (ds : List ℕ) (f p : ℕ) → list_all is_ascii_digit ds ≡ true → length ds ≤ 64 → clamped (scaled (number ds) (pos 6 -ℤ pos (f + min p 1000))) ≡ clamped (scaled (number ds) ((neg_ℤ (pos p) +ℤ pos 6) -ℤ pos f))
 power_down ds f p all short = elim (cases_lt p 1001) [
-  | inl l ↦ let e : pos 6 -ℤ pos (f + min p 1000) ≡ (neg_ℤ (pos p) +ℤ pos 6) -ℤ pos f = omega (arith, ints) in ap (λ z. capped (scaled (number ds) z)) e
+  | inl l ↦ let e : pos 6 -ℤ pos (f + min p 1000) ≡ (neg_ℤ (pos p) +ℤ pos 6) -ℤ pos f = omega (arith, ints) in ap (λ z. clamped (scaled (number ds) z)) e
   | inr g ↦
       let a : pos 6 -ℤ pos (f + min p 1000) ≡ negsuc (f + 993) = omega (arith, ints) in
       let b : (neg_ℤ (pos p) +ℤ pos 6) -ℤ pos f ≡ negsuc (f + p - 7) = omega (arith, ints) in
-      ap (λ z. capped (scaled (number ds) z)) a ∙ ap capped (cut_zero ds (f + 993) all (omega arith)) ∙ sym (ap (λ z. capped (scaled (number ds) z)) b ∙ ap capped (cut_zero ds (f + p - 7) all (omega arith)))
+      ap (λ z. clamped (scaled (number ds) z)) a ∙ ap clamped (cut_zero ds (f + 993) all (omega arith)) ∙ sym (ap (λ z. clamped (scaled (number ds) z)) b ∙ ap clamped (cut_zero ds (f + p - 7) all (omega arith)))
 ]
 
-pub power_up : (n f p : ℕ) → f ≤ 64 → capped (scaled n (pos (6 + min p 1000) -ℤ pos f)) ≡ capped (scaled n ((pos p +ℤ pos 6) -ℤ pos f))
+pub power_up : (n f p : ℕ) → f ≤ 64 → clamped (scaled n (pos (6 + min p 1000) -ℤ pos f)) ≡ clamped (scaled n ((pos p +ℤ pos 6) -ℤ pos f))
 power_up n f p short = elim (cases_lt p 1001) [
-  | inl l ↦ let e : pos (6 + min p 1000) -ℤ pos f ≡ (pos p +ℤ pos 6) -ℤ pos f = omega (arith, ints) in ap (λ z. capped (scaled n z)) e
+  | inl l ↦ let e : pos (6 + min p 1000) -ℤ pos f ≡ (pos p +ℤ pos 6) -ℤ pos f = omega (arith, ints) in ap (λ z. clamped (scaled n z)) e
   | inr g ↦
       let a : pos (6 + min p 1000) -ℤ pos f ≡ pos (1006 - f) = omega (arith, ints) in
       let b : (pos p +ℤ pos 6) -ℤ pos f ≡ pos (p + 6 - f) = omega (arith, ints) in
-      ap (λ z. capped (scaled n z)) a ∙ both_far n (1006 - f) (p + 6 - f) (omega arith) (omega arith) ∙ sym (ap (λ z. capped (scaled n z)) b)
+      ap (λ z. clamped (scaled n z)) a ∙ both_far n (1006 - f) (p + 6 - f) (omega arith) (omega arith) ∙ sym (ap (λ z. clamped (scaled n z)) b)
 ]
 
 -- a cut where the number of digits that stay is known, and where none stay
-pub cut_below : (ds : List ℕ) (i last v x : ℕ) → list_all is_ascii_digit ds ≡ true → 1 ≤ last → i + last ≡ length ds → v ≡ capped (number (take i ds)) → x ≡ get_or ds i 0 → x < 53 → v ≡ capped (scaled (number ds) (negsuc (last - 1)))
-cut_below ds i last v x all one e is d low = is ∙ ap capped (sym (cut_exact ds i (last - 1) all (omega arith) ∙ ap (λ b. number (take i ds) + cond b 0 1) (lt-ltb (get_or ds i 0) 53 (omega arith)) ∙ omega arith))
+pub cut_below : (ds : List ℕ) (i last v x : ℕ) → list_all is_ascii_digit ds ≡ true → 1 ≤ last → i + last ≡ length ds → v ≡ clamped (number (take i ds)) → x ≡ get_or ds i 0 → x < 53 → v ≡ clamped (scaled (number ds) (negsuc (last - 1)))
+cut_below ds i last v x all one e is d low = is ∙ ap clamped (sym (cut_exact ds i (last - 1) all (omega arith) ∙ ap (λ b. number (take i ds) + cond b 0 1) (lt-ltb (get_or ds i 0) 53 (omega arith)) ∙ omega arith))
 
-pub cut_above : (ds : List ℕ) (i last v x w : ℕ) → list_all is_ascii_digit ds ≡ true → 1 ≤ last → i + last ≡ length ds → v ≡ capped (number (take i ds)) → x ≡ get_or ds i 0 → 53 ≤ x → w ≡ capped (v + 1) → w ≡ capped (scaled (number ds) (negsuc (last - 1)))
+pub cut_above : (ds : List ℕ) (i last v x w : ℕ) → list_all is_ascii_digit ds ≡ true → 1 ≤ last → i + last ≡ length ds → v ≡ clamped (number (take i ds)) → x ≡ get_or ds i 0 → 53 ≤ x → w ≡ clamped (v + 1) → w ≡ clamped (scaled (number ds) (negsuc (last - 1)))
 cut_above ds i last v x w all one e is d high next =
-    next ∙ omega arith ∙ ap capped (sym (cut_exact ds i (last - 1) all (omega arith) ∙ ap (λ b. number (take i ds) + cond b 0 1) (le-ltb (get_or ds i 0) 53 (omega arith))))
+    next ∙ omega arith ∙ ap clamped (sym (cut_exact ds i (last - 1) all (omega arith) ∙ ap (λ b. number (take i ds) + cond b 0 1) (le-ltb (get_or ds i 0) 53 (omega arith))))

@@ -4,8 +4,8 @@ use Rattle.def_text.specs.Decimal.{is_decimal, rounded_size}
 use Rattle.def_text.specs.Types.{Word}
 
 -- A number, or the least that is out of range.
-abbrev pub capped : (n : ℕ) → ℕ
-capped n = min n (10 ^ 15)
+abbrev pub clamped : (n : ℕ) → ℕ
+clamped n = min n (10 ^ 15)
 
 -- The word is a decimal, and these are its millionths without the sign, in range.
 abbrev pub IsSize : (word : Word) (n : ℕ) → Type 0

@@ -3,7 +3,7 @@ ghost use Rattle.std.specs.Prelude.{◌≡◌, ◌≤◌, ◌<◌, ◌+◌, ◌^
 ghost use Rattle.std.specs.Prelude.{IsTrue, length, IfOk, IfErr};
 ghost use Rattle.def_text.specs.Decimal.{is_exponent, power, scaled, IsDecFail, IsValue};
 ghost use Rattle.def_text.specs.Digits.{is_negative, is_number, number};
-ghost use Rattle.qm_dec.specs.Sizes.{capped};
+ghost use Rattle.qm_dec.specs.Sizes.{clamped};
 
 use crate::parts::{are_number, is_exponent, split_exponent, split_point};
 use crate::plain::plain_size;
@@ -49,7 +49,7 @@ fn size_in_millionths(whole: &[u8], fraction: &[u8], exponent: &[u8]) -> u64
     requires number { IsTrue (is_number (whole.now ++ fraction.now)) }
     requires exponent { IsTrue (is_exponent exponent.now) }
     requires short { length whole.now + length fraction.now + length exponent.now ≤ 64 }
-    ensures { result ≡ capped (scaled (number (whole.now ++ fraction.now))
+    ensures { result ≡ clamped (scaled (number (whole.now ++ fraction.now))
         ((power exponent.now +ℤ pos 6) -ℤ pos (length fraction.now))) }
 {
     let digits = fraction.len() as u32;

@@ -6,7 +6,7 @@ ghost use Rattle.std.specs.Int.Digits.{number_from_digits_after};
 ghost use Rattle.std.specs.List.{list_all};
 ghost use Rattle.def_text.specs.Decimal.{scaled};
 ghost use Rattle.def_text.specs.Digits.{number};
-ghost use Rattle.qm_dec.specs.Sizes.{capped};
+ghost use Rattle.qm_dec.specs.Sizes.{clamped};
 
 /// The least number of millionths that is out of range.
 pub(crate) const FAR: u64 = 1_000_000_000_000_000;
@@ -16,20 +16,20 @@ pub(crate) fn size_of(whole: &[u8], fraction: &[u8], up: u32, down: u32) -> u64
     requires whole { IsTrue (list_all is_ascii_digit whole.now) }
     requires fraction { IsTrue (list_all is_ascii_digit fraction.now) }
     requires short { length whole.now + length fraction.now ≤ 64 }
-    ensures { result ≡ capped (scaled (number (whole.now ++ fraction.now)) (pos up -ℤ pos down)) }
+    ensures { result ≡ clamped (scaled (number (whole.now ++ fraction.now)) (pos up -ℤ pos down)) }
 {
     if down <= up {
         let digits = number_after(number_after(0, whole), fraction);
-        return grown(digits, up - down);
+        return times_power(digits, up - down);
     }
-    cut(whole, fraction, down - up)
+    round_at(whole, fraction, down - up)
 }
 
 /// The number that more digits make of one.
 pub(crate) fn number_after(value: u64, digits: &[u8]) -> u64
     requires small { value ≤ 10 ^ 15 }
     requires digits { IsTrue (list_all is_ascii_digit digits.now) }
-    ensures { result ≡ capped (number_from_digits_after 10 value (map (λ digit. digit - 48) digits.now)) }
+    ensures { result ≡ clamped (number_from_digits_after 10 value (map (λ digit. digit - 48) digits.now)) }
 {
     let mut value = value;
     for digit in digits {
@@ -39,9 +39,9 @@ pub(crate) fn number_after(value: u64, digits: &[u8]) -> u64
 }
 
 /// A number times a power of ten.
-fn grown(value: u64, power: u32) -> u64
+fn times_power(value: u64, power: u32) -> u64
     requires { value ≤ 10 ^ 15 }
-    ensures { result ≡ capped (value * 10 ^ power) }
+    ensures { result ≡ clamped (value * 10 ^ power) }
 {
     let mut value = value;
     let mut power = power;
@@ -53,12 +53,12 @@ fn grown(value: u64, power: u32) -> u64
 }
 
 /// The digits without the last ones, one more where the first of these is 5 or above.
-fn cut(whole: &[u8], fraction: &[u8], last: u32) -> u64
+fn round_at(whole: &[u8], fraction: &[u8], last: u32) -> u64
     requires whole { IsTrue (list_all is_ascii_digit whole.now) }
     requires fraction { IsTrue (list_all is_ascii_digit fraction.now) }
     requires short { length whole.now + length fraction.now ≤ 64 }
     requires some { 1 ≤ last }
-    ensures { result ≡ capped (scaled (number (whole.now ++ fraction.now)) (negsuc (last - 1))) }
+    ensures { result ≡ clamped (scaled (number (whole.now ++ fraction.now)) (negsuc (last - 1))) }
 {
     let count = whole.len() + fraction.len();
     let last = last as usize;
@@ -79,7 +79,7 @@ fn first_digits(whole: &[u8], fraction: &[u8], kept: usize) -> u64
     requires whole { IsTrue (list_all is_ascii_digit whole.now) }
     requires fraction { IsTrue (list_all is_ascii_digit fraction.now) }
     requires kept { kept ≤ length whole.now + length fraction.now }
-    ensures { result ≡ capped (number (take kept (whole.now ++ fraction.now))) }
+    ensures { result ≡ clamped (number (take kept (whole.now ++ fraction.now))) }
 {
     if kept <= whole.len() {
         return number_after(0, &whole[..kept]);

@@ -70,8 +70,8 @@ fn strip_zeros(digits: &[u8]) -> &[u8]
     ensures { result.now ≡ without_zeros digits.now }
 {
     let mut left = digits;
-    while let [front @ .., b'0'] = left {
-        left = front;
+    while let [prefix @ .., b'0'] = left {
+        left = prefix;
     }
     left
 }

@@ -9,19 +9,19 @@ use Rattle.qm_laws.proofs.Ends.{EndsBelow, ends_once}
 use Rattle.qm_laws.proofs.Entries.{total_entries}
 use Rattle.qm_laws.proofs.Sums.{total_sum, total_below_le, two_orders}
 use Rattle.def_matching.specs.declared.weighted.WEdge.{WEdge}
-use Rattle.def_math.specs.Rising.{IsRising}
+use Rattle.def_math.specs.Increasing.{IsIncreasing}
 use Rattle.def_matching.specs.Matching.{Graph, IsGraph, edge_at, ends_at, IsPerfect, matching_cost}
 use Rattle.def_matching.specs.Dual.{DualLists, SaysYes, holds, set_size, is_odd_size, crosses, load, y_at, z_at, dual_sum}
 
--- The edges of rising numbers have their ends among the vertices.
-pub chosen_below : (g : Graph) → IsGraph g → (low : ℕ) (m : List ℕ) → IsRising low (length g.edges) m → EndsBelow (λ (e : WEdge). e.u) (λ (e : WEdge). e.v) g.n (map (edge_at g) m)
-chosen_below g is low [] rising = tt
-chosen_below g is low (k ∷ ks) rising = (is.left k rising.1, is.right k rising.1, chosen_below g is (k + 1) ks rising.2)
+-- The edges of increasing numbers have their ends among the vertices.
+pub chosen_below : (g : Graph) → IsGraph g → (low : ℕ) (m : List ℕ) → IsIncreasing low (length g.edges) m → EndsBelow (λ (e : WEdge). e.u) (λ (e : WEdge). e.v) g.n (map (edge_at g) m)
+chosen_below g is low [] increasing = tt
+chosen_below g is low (k ∷ ks) increasing = (is.left k increasing.1, is.right k increasing.1, chosen_below g is (k + 1) ks increasing.2)
 
 -- No load of the chosen edges is above twice the cost, and so their sum is not.
-pub loads_low : (g : Graph) (d : DualLists) → SaysYes g d → (low : ℕ) (m : List ℕ) → IsRising low (length g.edges) m → total (load g.n d) (map (edge_at g) m) ≤ℤ (pos 2 *ℤ matching_cost g m)
-loads_low g d says low [] rising = omega (arith, ints)
-loads_low g d says low (k ∷ ks) rising = omega (arith, ints, says.loaded k rising.1, loads_low g d says (k + 1) ks rising.2)
+pub loads_low : (g : Graph) (d : DualLists) → SaysYes g d → (low : ℕ) (m : List ℕ) → IsIncreasing low (length g.edges) m → total (load g.n d) (map (edge_at g) m) ≤ℤ (pos 2 *ℤ matching_cost g m)
+loads_low g d says low [] increasing = omega (arith, ints)
+loads_low g d says low (k ∷ ks) increasing = omega (arith, ints, says.loaded k increasing.1, loads_low g d says (k + 1) ks increasing.2)
 
 abbrev inside : (ℕ → Bool) → WEdge → ℕ
 inside s e = cond (s e.u) (cond (s e.v) 1 0) 0
@@ -62,9 +62,9 @@ odd_size size on = grind (arith, nat_tests)
 pub weak_duality : (g : Graph) (d : DualLists) → IsGraph g → SaysYes g d → (m : List ℕ) → IsPerfect g m → dual_sum d ≤ℤ (pos 2 *ℤ matching_cost g m)
 weak_duality g d is says m perfect =
     let es : List WEdge = map (edge_at g) m in
-    let below : EndsBelow (λ (e : WEdge). e.u) (λ (e : WEdge). e.v) g.n es = chosen_below g is 0 m perfect.rising in
+    let below : EndsBelow (λ (e : WEdge). e.u) (λ (e : WEdge). e.v) g.n es = chosen_below g is 0 m perfect.increasing in
     let sets : ℕ → WEdge → ℤ = λ (k : ℕ) (e : WEdge). cond (crosses (holds g.n d k) e) (z_at d k) (pos 0) in
     let zs : total_below (z_at d) (length d.z) ≤ℤ total_below (λ k. total (sets k) es) (length d.z) =
     total_below_le (z_at d) (λ k. total (sets k) es) (length d.z) (λ k l. at_least_once (holds g.n d k) (z_at d k) es (says.positive k l) (odd_leaves (holds g.n d k) g.n es below perfect.once (odd_size (set_size g.n d k) (says.odd k l)))) in
     let all_n : total_below (y_at d) (length d.y) ≡ total_below (y_at d) g.n = rw says.numbers refl in
-    omega (arith, ints, loads_low g d says 0 m perfect.rising, total_sum (λ (e : WEdge). y_at d e.u +ℤ y_at d e.v) (λ (e : WEdge). total_below (λ k. sets k e) (length d.z)) es, ends_once (λ (e : WEdge). e.u) (λ (e : WEdge). e.v) (y_at d) g.n es below perfect.once, two_orders sets (length d.z) es, zs, total_entries (λ y. y) (pos 0) d.y, total_entries (λ z. z) (pos 0) d.z, all_n)
+    omega (arith, ints, loads_low g d says 0 m perfect.increasing, total_sum (λ (e : WEdge). y_at d e.u +ℤ y_at d e.v) (λ (e : WEdge). total_below (λ k. sets k e) (length d.z)) es, ends_once (λ (e : WEdge). e.u) (λ (e : WEdge). e.v) (y_at d) g.n es below perfect.once, two_orders sets (length d.z) es, zs, total_entries (λ y. y) (pos 0) d.y, total_entries (λ z. z) (pos 0) d.z, all_n)

@@ -1,7 +1,7 @@
-//! The judge of duals: whether a dual bounds each perfect matching of a graph, and what is wrong with it if not.
+//! The checker of duals: whether a dual bounds each perfect matching of a graph, and what is wrong with it if not.
 #![tactic(auto)]
 
-mod judge;
+mod check;
 mod loads;
 mod nest;
 mod paths;
@@ -10,4 +10,4 @@ mod sums;
 #[cfg(test)]
 mod tests;
 
-pub use judge::{Memory, dual_ok};
+pub use check::{Memory, dual_ok};

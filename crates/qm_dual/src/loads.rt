@@ -18,7 +18,7 @@ pub(crate) struct Tables {
 }
 
 /// The verdict on a dual whose sets are in order: the least edge whose load is above twice its cost, or the sum.
-pub(crate) fn judge_loads(g: &WGraph, d: &Dual, tables: &Tables) -> Verdict
+pub(crate) fn check_loads(g: &WGraph, d: &Dual, tables: &Tables) -> Verdict
     requires graph { IsSmallGraph (graph g.now) }
     requires small { IsSmallDual (dual d.now) }
     requires numbers { length d.now.y.items ≡ g.now.n }

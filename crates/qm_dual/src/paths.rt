@@ -5,7 +5,7 @@ ghost use Rattle.std.specs.Prelude.{slice_index, IfOk};
 ghost use Rattle.def_matching.specs.Dual.{dual};
 ghost use Rattle.qm_dual.specs.Nest.{AreHeads, ArePicks, IsMeeting, IsNest, HaveSameSets, left, pick_with};
 
-use crate::judge::Memory;
+use crate::check::Memory;
 use crate::nest::set_around_set;
 use def_matching::Dual;
 use std::alloc::Global;

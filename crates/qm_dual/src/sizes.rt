@@ -4,7 +4,7 @@ ghost use Rattle.std.specs.Prelude.{◌≡◌, ◌+◌, ◌-◌, ◌^◌, ◌<�
 ghost use Rattle.def_matching.specs.Dual.{dual};
 ghost use Rattle.qm_dual.specs.Nest.{AreTallies, AreSizes, IsNest, tally_with};
 
-use crate::judge::Memory;
+use crate::check::Memory;
 use crate::nest::{set_around_set, set_around_vertex};
 use def_matching::Dual;
 use std::alloc::Global;

@@ -5,7 +5,7 @@ ghost use Rattle.def_math.specs.Sums.{total};
 ghost use Rattle.def_matching.specs.Dual.{dual, dual_sum, AreSmall, IsSmallDual};
 ghost use Rattle.qm_dual.specs.Nest.{around, named_sum, AreSums, IsNest};
 
-use crate::judge::Memory;
+use crate::check::Memory;
 use crate::nest::set_around_set;
 use def_matching::Dual;
 use std::alloc::Global;

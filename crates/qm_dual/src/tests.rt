@@ -38,7 +38,7 @@ const TRIANGLES: [(u32, u32, i64); 7] = [
 ];
 
 /// The verdict on a dual of two triangles with a dear edge between them.
-fn judge(
+fn check(
     rt: &impl Abort,
     alloc: Global,
     y: &[i64],
@@ -140,7 +140,7 @@ fn verdicts_on_two_triangles(rt: HostRuntime) -> Result<(), Fail> {
         ),
     ];
     for (y, z, up, want) in table {
-        assert_eq!(rt; judge(&rt, rt.alloc(), y, z, up)?, want, "at {z:?} {up:?}");
+        assert_eq!(rt; check(&rt, rt.alloc(), y, z, up)?, want, "at {z:?} {up:?}");
     }
     Ok(())
 }

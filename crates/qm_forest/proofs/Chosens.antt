@@ -3,7 +3,7 @@ use Rattle.std.proofs.Common.{◌≡◌, ℕ, suc, ◌+◌, ◌-◌, ◌*◌, �
 use Rattle.std.proofs.lemmas.Bool.{cases_lt, cond-true, cond-false}
 use Rattle.std.proofs.lemmas.List.{get_or_append_left, get_or-append_right, length-replicate}
 use Rattle.def_math.specs.Counts.{count, count_below}
-use Rattle.def_math.specs.Rising.{IsRising}
+use Rattle.def_math.specs.Increasing.{IsIncreasing}
 use Rattle.qm_laws.proofs.Counts.{count_append, count_below_none, count_below_same}
 use Rattle.def_matching.specs.Matching.{Graph, IsSmallGraph, edge_at, ends_at}
 use Rattle.def_forest.specs.Forests.{number, splits}
@@ -15,19 +15,19 @@ use Rattle.qm_forest.specs.declared.rounds.Round.{Round}
 use Rattle.qm_forest.proofs.Fresh.{same_everywhere}
 use Rattle.qm_forest.proofs.Laminars.{alone}
 
--- A rising list with one number more at its end.
-pub rising_more : (low bound : ℕ) (xs : List ℕ) → low ≤ bound → IsRising low bound xs → IsRising low (bound + 1) (xs ++ bound ∷ [])
-rising_more low bound [] le rising = (le, omega arith, tt)
-rising_more low bound (x ∷ xs) le rising = (rising.0, omega (arith, rising.1), rising_more (x + 1) bound xs (omega (arith, rising.1)) rising.2)
+-- An increasing list with one number more at its end.
+pub increasing_more : (low bound : ℕ) (xs : List ℕ) → low ≤ bound → IsIncreasing low bound xs → IsIncreasing low (bound + 1) (xs ++ bound ∷ [])
+increasing_more low bound [] le increasing = (le, omega arith, tt)
+increasing_more low bound (x ∷ xs) le increasing = (increasing.0, omega (arith, increasing.1), increasing_more (x + 1) bound xs (omega (arith, increasing.1)) increasing.2)
 
-pub rising_higher : (low bound : ℕ) (xs : List ℕ) → IsRising low bound xs → IsRising low (bound + 1) xs
-rising_higher low bound [] rising = tt
-rising_higher low bound (x ∷ xs) rising = (rising.0, omega (arith, rising.1), rising_higher (x + 1) bound xs rising.2)
+pub increasing_higher : (low bound : ℕ) (xs : List ℕ) → IsIncreasing low bound xs → IsIncreasing low (bound + 1) xs
+increasing_higher low bound [] increasing = tt
+increasing_higher low bound (x ∷ xs) increasing = (increasing.0, omega (arith, increasing.1), increasing_higher (x + 1) bound xs increasing.2)
 
 -- One place more, with a mark or without.
 pub marked_more : (marks : List Bool) (e : ℕ) (xs : List ℕ) → get_or marks e false ≡ true → AreMarked marks e xs → AreMarked marks (e + 1) (xs ++ e ∷ [])
 marked_more marks e xs on are = record {
-  rising = rising_more 0 e xs (omega arith) are.rising;
+  increasing = increasing_more 0 e xs (omega arith) are.increasing;
   each = λ k l. each k l (cases_lt k (length xs));
   counts = λ f. (let s : count f (xs ++ e ∷ []) ≡ count f xs + count f (e ∷ []) = count_append f xs (e ∷ []) in
       let one : cond (get_or marks e false) (f e) 0 ≡ f e = cond-true (get_or marks e false) (f e) 0 on in
@@ -43,7 +43,7 @@ marked_more marks e xs on are = record {
 
 pub marked_same : (marks : List Bool) (e : ℕ) (xs : List ℕ) → get_or marks e false ≡ false → AreMarked marks e xs → AreMarked marks (e + 1) xs
 marked_same marks e xs off are = record {
-  rising = rising_higher 0 e xs are.rising;
+  increasing = increasing_higher 0 e xs are.increasing;
   each = are.each;
   counts = λ f. (let none : cond (get_or marks e false) (f e) 0 ≡ 0 = cond-false (get_or marks e false) (f e) 0 off in
       let up : count_below (λ k. cond (get_or marks k false) (f k) 0) (e + 1) ≡ count_below (λ k. cond (get_or marks k false) (f k) 0) (suc e) = (let o : e + 1 ≡ suc e = omega arith in ap (count_below (λ k. cond (get_or marks k false) (f k) 0)) o) in
@@ -112,12 +112,12 @@ module _ (t : ForestTables) (known : IsLaminar t) (g : Graph) (is : IsSmallGraph
 
   -- A vertex is met as often as it is left.
   pub met_as_left : (w : ℕ) → w < length t.hand → count (ends_at w) (map (edge_at g) list) ≡ leaving t marks w
-  met_as_left w lw = sym (leaving_listed w ∙ (counted 0 list rising ∙ sym (count_map (ends_at w) (edge_at g) list)))
+  met_as_left w lw = sym (leaving_listed w ∙ (counted 0 list increasing ∙ sym (count_map (ends_at w) (edge_at g) list)))
     where
-      rising : IsRising 0 (length g.edges) list
-      rising = subst (λ m. IsRising 0 m list) edges_is are.rising
+      increasing : IsIncreasing 0 (length g.edges) list
+      increasing = subst (λ m. IsIncreasing 0 m list) edges_is are.increasing
 
-      counted : (low : ℕ) (xs : List ℕ) → IsRising low (length g.edges) xs → count (λ e. number (splits ((forest_of t).holds w) (edge_at g e).u (edge_at g e).v)) xs ≡ count (λ e. ends_at w (edge_at g e)) xs
+      counted : (low : ℕ) (xs : List ℕ) → IsIncreasing low (length g.edges) xs → count (λ e. number (splits ((forest_of t).holds w) (edge_at g e).u (edge_at g e).v)) xs ≡ count (λ e. ends_at w (edge_at g e)) xs
       counted low [] r = refl
       counted low (x ∷ xs) r =
           let here : number (splits ((forest_of t).holds w) (edge_at g x).u (edge_at g x).v) ≡ ends_at w (edge_at g x) = leaves_vertex g is.lawful (forest_of t) (subst (λ m. m ≤ length t.up) valid.vertices known.vertices) valid.valid.nested w x (subst (λ m. w < m) valid.vertices lw) r.1 in
@@ -127,7 +127,7 @@ module _ (t : ForestTables) (known : IsLaminar t) (g : Graph) (is : IsSmallGraph
   -- The edges match all vertices of a blossom but one.
   pub matches_but : (left : List (Option ℕ)) (b v : ℕ) → v < length t.hand → IsRound t marks left (λ c. 0) (λ c. waits_but t c b v + 0) → ((c : ℕ) → get_or left c None ≡ None) → MatchesBut g (forest_of t) b v list
   matches_but left b v lv round ended = record {
-    rising = subst (λ m. IsRising 0 m list) edges_is are.rising;
+    increasing = subst (λ m. IsIncreasing 0 m list) edges_is are.increasing;
     tight = λ k l. round.tight g is valid (get_or list k 0) (are.each k l);
     once = λ w lw. (
         let low : w < length t.hand = subst (λ m. w < m) (sym valid.vertices) lw in

@@ -2,7 +2,7 @@
 use Rattle.std.proofs.Common.{◌≡◌, ◌≢◌, ℕ, suc, ◌*◌, ◌<◌, ◌≤◌, Bool, true, false, cond, List, [], ◌∷◌, map, length, get_or, ℤ, pos, ◌+ℤ◌, ◌*ℤ◌, Option, None, ◌⊎◌, refl, sym, ◌∙◌, ap, subst, inl, inr, arith}
 use Rattle.std.proofs.lemmas.Int.{ints}
 use Rattle.std.proofs.lemmas.Bool.{cases_eq, cases_lt}
-use Rattle.def_math.specs.Rising.{IsRising}
+use Rattle.def_math.specs.Increasing.{IsIncreasing}
 use Rattle.def_math.specs.Sums.{total}
 use Rattle.qm_laws.proofs.Sums.{total_below_same, two_orders}
 use Rattle.def_matching.specs.Matching.{Graph, IsSmallGraph, IsPerfect, edge_at, matching_cost}
@@ -53,7 +53,7 @@ module _ (t : ForestTables) (known : IsLaminar t) (g : Graph) (is : IsSmallGraph
 
   pub perfect : IsPerfect g list
   perfect = record {
-    rising = subst (λ m. IsRising 0 m list) (edges_is t known g is valid marks size list are) are.rising;
+    increasing = subst (λ m. IsIncreasing 0 m list) (edges_is t known g is valid marks size list are) are.increasing;
     once = λ w l. (let lw : w < length t.hand = subst (λ m. w < m) (sym valid.vertices) l in met_as_left t known g is valid marks size list are w lw ∙ left_once w lw);
   }
 

@@ -11,7 +11,7 @@ use Rattle.forest_laws.specs.Climbing.{rise_of, level_of, way_of}
 use Rattle.qm_forest.specs.Rings.{ringed, IsRingedAlike, MayClimb, laid_down, laid_up, laid_ring}
 use Rattle.qm_forest.specs.Ties.{AreTied, HiddenTables}
 use Rattle.qm_forest.proofs.TiedWrites.{entry_set}
-use Rattle.qm_forest.proofs.Risings.{place_rises, place_low, place_dart, next_low}
+use Rattle.qm_forest.proofs.Increases.{place_rises, place_low, place_dart, next_low}
 
 -- Tables that differ in what is laid alone, over two changes.
 pub alike_more : (a b c : ForestTables) → IsRingedAlike a b → IsRingedAlike b c → IsRingedAlike a c

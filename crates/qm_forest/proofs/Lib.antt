@@ -10,7 +10,7 @@ pub mod Ranges
 pub mod TiedWrites
 pub mod Shifted
 pub mod Trails
-pub mod Risings
+pub mod Increases
 pub mod Layings
 pub mod Enclosed
 pub mod JoinedLists

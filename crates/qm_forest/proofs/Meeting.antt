@@ -94,18 +94,18 @@ module _ (g : Graph) (t : ForestTables) (valid : IsValidFor g t) (climb : IsClim
     pub turn_nearer : (low high x2 : ℕ) → ((low ≡ x) × (high ≡ y)) ⊎ ((low ≡ y) × (high ≡ x)) → rank low ≤ rank high → x2 ≡ up low → (rank top + rank top) - (rank x2 + rank high) < (rank top + rank top) - (rank x + rank y)
     turn_nearer low high x2 either order x2_is = by_side either
       where
-        rising : IsWithin t top low → IsWithin t top high → low ≢ high → (rank low < rank x2) × (rank x2 ≤ rank top) × (rank high ≤ rank top)
-        rising wl wh nlh =
+        increasing : IsWithin t top low → IsWithin t top high → low ≢ high → (rank low < rank x2) × (rank x2 ≤ rank top) × (rank high ≤ rank top)
+        increasing wl wh nlh =
             (subst (λ k. rank low < rank k) (sym x2_is) (rises low (within_climbs top low high wl wh nlh order)), subst (λ k. rank k ≤ rank top) (sym x2_is) (within_rank top (up low) (within_up top low wl)), within_rank top high wh)
 
         by_side : ((low ≡ x) × (high ≡ y)) ⊎ ((low ≡ y) × (high ≡ x)) → (rank top + rank top) - (rank x2 + rank high) < (rank top + rank top) - (rank x + rank y)
         by_side (inl e) =
-            let r : (rank low < rank x2) × (rank x2 ≤ rank top) × (rank high ≤ rank top) = rising (subst (λ k. IsWithin t top k) (sym e.0) meet.first) (subst (λ k. IsWithin t top k) (sym e.1) meet.second) (λ s. ne (sym e.0 ∙ (s ∙ e.1))) in
+            let r : (rank low < rank x2) × (rank x2 ≤ rank top) × (rank high ≤ rank top) = increasing (subst (λ k. IsWithin t top k) (sym e.0) meet.first) (subst (λ k. IsWithin t top k) (sym e.1) meet.second) (λ s. ne (sym e.0 ∙ (s ∙ e.1))) in
             let a : rank low ≡ rank x = ap rank e.0 in
             let b : rank high ≡ rank y = ap rank e.1 in
             omega (arith, r.0, r.1, r.2)
         by_side (inr e) =
-            let r : (rank low < rank x2) × (rank x2 ≤ rank top) × (rank high ≤ rank top) = rising (subst (λ k. IsWithin t top k) (sym e.0) meet.second) (subst (λ k. IsWithin t top k) (sym e.1) meet.first) (λ s. ne (sym (sym e.0 ∙ (s ∙ e.1)))) in
+            let r : (rank low < rank x2) × (rank x2 ≤ rank top) × (rank high ≤ rank top) = increasing (subst (λ k. IsWithin t top k) (sym e.0) meet.second) (subst (λ k. IsWithin t top k) (sym e.1) meet.first) (λ s. ne (sym (sym e.0 ∙ (s ∙ e.1)))) in
             let a : rank low ≡ rank y = ap rank e.0 in
             let b : rank high ≡ rank x = ap rank e.1 in
             omega (arith, r.0, r.1, r.2)

@@ -17,7 +17,7 @@ use Rattle.forest_laws.proofs.Walks.{listed_at, listed_closed, listed_place}
 use Rattle.forest_laws.proofs.Writes.{inner_named, label_cases, set_here, true_false}
 use Rattle.qm_forest.specs.Parts.{IsPartable, IsParted}
 use Rattle.qm_forest.specs.Ties.{HasSameNest, labelled, mated}
-use Rattle.qm_forest.proofs.Risings.{named_low}
+use Rattle.qm_forest.proofs.Increases.{named_low}
 
 -- An inner set of weight 0 of a valid forest.
 module _ (g : Graph) (is : IsSmallGraph g) (t0 : ForestTables) (valid : IsValidFor g t0) (b : ℕ) (high : g.n ≤ b) (inner : (forest_of t0).label b ≡ Inner) (weightless : (forest_of t0).weight b ≡ pos 0) where

@@ -101,7 +101,7 @@ module _ (t : ForestTables) (known : IsLaminar t) (sets : List (ℕ × ℕ)) (d 
       by_order : (j < k) ⊎ (k ≤ j) → j < k
       by_order (inl l) = l
       by_order (inr h) =
-          let rise : (get_or sets k (0, 0)).0 ≤ (get_or sets j (0, 0)).0 = is.order.rising k j (0, 0) h lj in
+          let rise : (get_or sets k (0, 0)).0 ≤ (get_or sets j (0, 0)).0 = is.order.increasing k j (0, 0) h lj in
           absurd (omega (arith, rise, (sized t sets is.order k lk).rank, (sized t sets is.order j lj).rank, less))
 
   inner_later : (j x : ℕ) → j < m → set_in sets j ≡ x → (ne : up x ≢ x) → j < (around_place x ne).0

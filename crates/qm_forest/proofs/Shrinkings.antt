@@ -25,7 +25,7 @@ use Rattle.qm_forest.specs.Gathers.{IsFreeRing, IsGathered, live_sets}
 use Rattle.qm_forest.proofs.OnWays.{darts_kept, ends_kept, room_kept}
 use Rattle.qm_forest.specs.Rings.{IsRingedAlike, laid_ring}
 use Rattle.qm_forest.specs.Ties.{fixed_of, HasSameNest, labelled, mated, left_alone}
-use Rattle.qm_forest.proofs.Risings.{the_tree, named_low}
+use Rattle.qm_forest.proofs.Increases.{the_tree, named_low}
 use Rattle.qm_forest.proofs.WritesAlong.{IsForked, lain_left, lain_over, lain_right, lain_off}
 
 module _ (g : Graph) (is : IsSmallGraph g) (t0 : ForestTables) (valid : IsValidFor g t0) (start : ℕ) (tight : IsTight (darts_of g) (forest_of t0) start)

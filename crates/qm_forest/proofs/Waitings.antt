@@ -90,7 +90,7 @@ wait_before t sets left left2 k c order low at within entries lawful b w is = by
             by_order : (s.0 < k) ⊎ (k ≤ s.0) → (j : ℕ) × (j < k) × (j < length sets) × ((get_or sets j (0, 0)).1 ≡ b)
             by_order (inl l) = (s.0, l, s.1, ap (λ (x : ℕ × ℕ). x.1) here)
             by_order (inr h) =
-                let rise : (get_or sets k (0, 0)).0 ≤ (get_or sets s.0 (0, 0)).0 = order.rising k s.0 (0, 0) h s.1 in
+                let rise : (get_or sets k (0, 0)).0 ≤ (get_or sets s.0 (0, 0)).0 = order.increasing k s.0 (0, 0) h s.1 in
                 let first : (get_or sets k (0, 0)).0 ≡ get_or t.rank c 0 = rank_at k low ∙ ap (λ z. get_or t.rank z 0) at in
                 let second : (get_or sets s.0 (0, 0)).0 ≡ get_or t.rank b 0 = ap (λ (x : ℕ × ℕ). x.0) here in
                 absurd (omega (arith, rise, first, second, less))

@@ -4,7 +4,7 @@ use Rattle.std.specs.Prelude.{List, length, slice_index, slice_index_or, slice_s
 use Rattle.std.specs.List.{All, Contains}
 use Rattle.std.specs.List.Sorted.{IsNonDecreasingBy}
 use Rattle.def_math.specs.Counts.{count, count_below}
-use Rattle.def_math.specs.Rising.{IsRising}
+use Rattle.def_math.specs.Increasing.{IsIncreasing}
 use Rattle.def_matching.specs.Matching.{Graph, Vertex, IsSmallGraph}
 use Rattle.def_forest.specs.Darts.{Dart, darts_of, twin_of}
 use Rattle.def_forest.specs.Forests.{Blossom, IsTight, live_at, number, splits}
@@ -130,16 +130,16 @@ pub record HasSets (t : ForestTables) (bound : ℕ) (sets : List (ℕ × Blossom
 pub record AreInOrder (t : ForestTables) (sets : List (ℕ × Blossom)) : Type 0 where
   pub has : HasSets t (length t.up) sets
   pub few : length t.hand + length sets ≤ length t.up
-  pub rising : IsNonDecreasingBy (λ (set : ℕ × Blossom). set.0) sets
+  pub increasing : IsNonDecreasingBy (λ (set : ℕ × Blossom). set.0) sets
 
 -- Each set that waits is one of the first of a list.
 abbrev pub WaitWithin : (left_out : List (Option Vertex)) (sets : List (ℕ × Blossom)) (many : ℕ) → Type 0
 WaitWithin left_out sets many = (c : Blossom) (v : Vertex) → slice_index_or left_out c None ≡ Some v
     → (k : ℕ) × (k < many) × (k < length sets) × ((slice_index_or sets k (0, 0)).1 ≡ c)
 
--- The numbers at which marks stand, in rising order.
+-- The numbers at which marks stand, in increasing order.
 pub record AreMarked (marks : List Bool) (bound : ℕ) (list : List ℕ) : Type 0 where
-  pub rising : IsRising 0 bound list
+  pub increasing : IsIncreasing 0 bound list
   pub each : (k : ℕ) → k < length list → slice_index_or marks (slice_index list k) false ≡ true
   pub counts : (f : ℕ → ℕ) → count f list ≡ count_below (λ e. if slice_index_or marks e false then f e else 0) bound
 

@@ -45,7 +45,7 @@ impl Forest {
     }
 
     /// The outermost blossom that a dart reaches.
-    pub fn reached(&self, g: &WGraph, d: u32) -> u32
+    pub fn far_blossom(&self, g: &WGraph, d: u32) -> u32
         requires graph { IsSmallGraph (graph g.now) }
         requires vertices { length self.now.hand ≡ g.now.n }
         requires dart { d < 2 * length g.now.edges.items }
@@ -65,13 +65,13 @@ impl Forest {
         ensures low { result < length self.now.up }
     {
         match self.rise(b) {
-            Some(d) => self.reached(g, d),
+            Some(d) => self.far_blossom(g, d),
             None => unreachable!(),
         }
     }
 
     /// The blossom so many steps towards the root, or the root where the way is shorter; and how many steps it is.
-    fn climbed(&self, g: &WGraph, b: u32, most: u32) -> (u32, u32)
+    fn climb(&self, g: &WGraph, b: u32, most: u32) -> (u32, u32)
         requires graph { IsSmallGraph (graph g.now) }
         requires valid { IsValidFor (graph g.now) self.now }
         requires named { (forest_of self.now).label b ≢ Outside }
@@ -84,7 +84,7 @@ impl Forest {
             if count == most {
                 return (at, count);
             }
-            at = self.reached(g, d);
+            at = self.far_blossom(g, d);
             count += 1;
         }
         (at, count)
@@ -102,7 +102,7 @@ impl Forest {
         let mut count = 0;
         while at != goal {
             match self.rise(at) {
-                Some(d) if count < most => at = self.reached(g, d),
+                Some(d) if count < most => at = self.far_blossom(g, d),
                 _ => return None,
             }
             count += 1;
@@ -128,12 +128,12 @@ impl Forest {
             if let Some(right) = self.steps_to(g, c, at, reach.saturating_mul(2)) {
                 return (left, right);
             }
-            let (next, steps) = self.climbed(g, at, reach);
+            let (next, steps) = self.climb(g, at, reach);
             at = next;
             left += steps;
             reach = reach.saturating_mul(2);
         }
-        (left, self.climbed(g, c, u32::MAX).1)
+        (left, self.climb(g, c, u32::MAX).1)
     }
 
     /// Where the ways from two blossoms of the tree to the root meet: the higher climber goes on.

@@ -63,7 +63,7 @@ impl Forest {
         let mut y = v;
         let mut load = 0i128;
         while x != y {
-            let (low, high) = self.ordered(x, y);
+            let (low, high) = self.by_rank(x, y);
             load += self.base_at(low);
             x = self.up_at(low);
             y = high;
@@ -93,7 +93,7 @@ impl Forest {
     }
 
     /// Two blossoms, that of lower rank first.
-    fn ordered(&self, x: u32, y: u32) -> (u32, u32)
+    fn by_rank(&self, x: u32, y: u32) -> (u32, u32)
         requires low { (x < length self.now.up) × (y < length self.now.up) }
         ensures either { ((result.0 ≡ x) × (result.1 ≡ y)) ⊎ ((result.0 ≡ y) × (result.1 ≡ x)) }
         ensures order { slice_index self.now.rank result.0 ≤ slice_index self.now.rank result.1 }

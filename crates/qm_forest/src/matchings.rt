@@ -14,7 +14,7 @@ use crate::start::Memory;
 use std::alloc::Global;
 
 impl Forest {
-    /// The matching edges that match all vertices of a blossom but one, in rising order.
+    /// The matching edges that match all vertices of a blossom but one, in increasing order.
     pub fn matching_missing(&self, alloc: Global, b: u32, v: u32) -> Result<Vec<u32>, Memory>
         requires valid { (g : Graph) × IsSmallGraph g × IsValidFor g self.now }
         requires blossom { b < length self.now.up }

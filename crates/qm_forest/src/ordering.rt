@@ -47,7 +47,7 @@ impl Forest {
 /// Sorts pairs.
 fn sort(sets: &mut Vec<(u32, u32)>)
     ensures moved { IsPermutation sets.old.items sets.new.items }
-    ensures rising { IsNonDecreasingBy (λ (set : ℕ × ℕ). set.0) sets.new.items }
+    ensures increasing { IsNonDecreasingBy (λ (set : ℕ × ℕ). set.0) sets.new.items }
 {
     sets.sort_unstable();
 }

@@ -30,7 +30,7 @@ impl Forest {
         ensures same { IsRingedAlike self.old self.new }
     {
         let a = self.outermost(near(g, start));
-        let c = self.reached(g, start);
+        let c = self.far_blossom(g, start);
         self.lay_down(g, a, fork.left);
         self.lay(a, c, start);
         self.lay_up(g, c, fork.right);
@@ -46,7 +46,7 @@ impl Forest {
         let mut x = a;
         for _ in 0..steps {
             let d = self.rise_from(x);
-            let y = self.reached(g, d);
+            let y = self.far_blossom(g, d);
             self.lay(y, x, twin(d));
             x = y;
         }
@@ -62,7 +62,7 @@ impl Forest {
         let mut x = c;
         for _ in 0..steps {
             let d = self.rise_from(x);
-            let y = self.reached(g, d);
+            let y = self.far_blossom(g, d);
             self.lay(x, y, d);
             x = y;
         }

@@ -29,7 +29,7 @@ impl Forest {
     {
         let start = 2 * e;
         let a = self.outermost(near(g, start));
-        let c = self.reached(g, start);
+        let c = self.far_blossom(g, start);
         let fork = self.fork(g, a, c);
         let mate = self.mate(fork.top);
         self.lay_ring(g, start, fork);

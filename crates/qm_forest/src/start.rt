@@ -58,7 +58,7 @@ impl Forest {
         ensures weights { IfOk result (λ f.
             (b : Blossom) → (forest_of f).weight b ≡ slice_index_or y.now b (pos 0)) }
     {
-        let lows = widened(alloc, y)?;
+        let lows = widen(alloc, y)?;
         single_vertices(alloc, g, lows)
     }
 }
@@ -80,7 +80,7 @@ fn single_vertices(alloc: Global, g: &WGraph, lows: Vec<i128>) -> Result<Forest,
     let near = dart_starts(alloc, g)?;
     Ok(Forest {
         weights: Weights {
-            base: padded(alloc, &lows, size)?,
+            base: pad(alloc, &lows, size)?,
             delta: 0,
         },
         handles: single_handles(alloc, lows)?,
@@ -129,7 +129,7 @@ pub(crate) fn greater_of(a: u64, b: u64) -> u64
 }
 
 /// Numbers in 64 bits, in 128.
-fn widened(alloc: Global, numbers: &[i64]) -> Result<Vec<i128>, Memory>
+fn widen(alloc: Global, numbers: &[i64]) -> Result<Vec<i128>, Memory>
     ensures { IfOk result (λ v. v.items ≡ numbers.now) }
 {
     let mut wide = Vec::with_capacity(alloc, numbers.len())?;
@@ -263,7 +263,7 @@ fn lower(numbers: &mut Vec<i64>, place: u32, most: i64)
 }
 
 /// The numbers of a list, and zeros up to a length.
-fn padded(alloc: Global, numbers: &[i128], size: usize) -> Result<Vec<i128>, Memory>
+fn pad(alloc: Global, numbers: &[i128], size: usize) -> Result<Vec<i128>, Memory>
     requires { length numbers.now ≤ size }
     ensures size { IfOk result (λ v. length v.items ≡ size) }
     ensures each { IfOk result (λ v.
@@ -276,7 +276,7 @@ fn padded(alloc: Global, numbers: &[i128], size: usize) -> Result<Vec<i128>, Mem
     Ok(all)
 }
 
-/// The numbers below a bound, in rising order.
+/// The numbers below a bound, in increasing order.
 fn numbers_below(alloc: Global, n: usize) -> Result<Vec<u32>, Memory>
     requires { n ≤ 2 ^ 26 }
     ensures { IfOk result (λ v. IsCounted n v.items) }

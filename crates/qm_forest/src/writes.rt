@@ -66,8 +66,8 @@ impl Forest {
         let handle = hand_of(&self.handles.hand, v);
         let before = shift_at(label_of(&self.tree.label, b), self.weights.delta);
         let after = shift_at(label, self.weights.delta);
-        let base = exchanged(&self.weights.base, b, before, after);
-        let off = exchanged(&self.handles.off, handle, before, after);
+        let base = exchange(&self.weights.base, b, before, after);
+        let off = exchange(&self.handles.off, handle, before, after);
         self.weights.base[b as usize] = base;
         self.handles.off[handle as usize] = off;
         self.tree.label[b as usize] = label;
@@ -75,7 +75,7 @@ impl Forest {
 }
 
 /// A number with one part of it taken for another.
-fn exchanged(numbers: &[i128], place: u32, before: i128, after: i128) -> i128
+fn exchange(numbers: &[i128], place: u32, before: i128, after: i128) -> i128
     requires low { place < length numbers.now }
     requires small_before { unsigned_abs before ≤ 2 ^ 100 }
     requires small_after { unsigned_abs after ≤ 2 ^ 100 }

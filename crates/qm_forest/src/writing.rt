@@ -21,7 +21,7 @@ use def_matching::Dual;
 use std::mem;
 
 impl Forest {
-    /// The matching, in rising order, and the dual. Where all blossoms are matched the matching is perfect, and twice
+    /// The matching, in increasing order, and the dual. Where all blossoms are matched the matching is perfect, and twice
     /// its cost is the sum of the dual. Linear, but for a logarithm of the sets.
     pub fn into_parts(mut self) -> (Vec<u32>, Dual)
         requires valid { (g : Graph) × IsSmallGraph g × IsValidFor g self }

@@ -4,6 +4,6 @@ mod Fans
 mod Numbers
 mod OfList
 mod Reading
-mod Rooms
+mod NodeCounts
 mod Steps
 mod Told

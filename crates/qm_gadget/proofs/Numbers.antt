@@ -43,32 +43,32 @@ choice_places k true (suc i) (suc n) =
     choice_places (k + 1) true i n ∙ (ap (λ b. cond b ((k + 1 + i) ∷ []) []) same ∙ ap (λ j. cond (nat_lt (suc i) (suc n)) (j ∷ []) []) there)
 
 -- The marks of a unit with two ends: those of the first end, and the others.
-pub marks_two : (room used : ℕ → ℕ) (on : Bool) (left right : End) → marks_by room used on left (Some right) ≡ end_marks room used (is_active on left) left ++ right_marks room (take_end used (is_active on left) left) on left right
-marks_two room used on left right = by_signs (are_alike left right)
+pub marks_two : (copies_at used : ℕ → ℕ) (on : Bool) (left right : End) → marks_by copies_at used on left (Some right) ≡ end_marks copies_at used (is_active on left) left ++ right_marks copies_at (take_end used (is_active on left) left) on left right
+marks_two copies_at used on left right = by_signs (are_alike left right)
   where
     by_signs : (b : Bool) → cond b
-        (end_marks room used (is_active on left) left ++ (end_marks room (take_end used (is_active on left) left) (is_active on right) right ++ not (is_active on left) ∷ []))
-        (end_marks room used (is_active on left) left ++ end_marks room (take_end used (is_active on left) left) (is_active on right) right)
-        ≡ end_marks room used (is_active on left) left ++ cond b (end_marks room (take_end used (is_active on left) left) (is_active on right) right ++ not (is_active on left) ∷ []) (end_marks room (take_end used (is_active on left) left) (is_active on right) right)
+        (end_marks copies_at used (is_active on left) left ++ (end_marks copies_at (take_end used (is_active on left) left) (is_active on right) right ++ not (is_active on left) ∷ []))
+        (end_marks copies_at used (is_active on left) left ++ end_marks copies_at (take_end used (is_active on left) left) (is_active on right) right)
+        ≡ end_marks copies_at used (is_active on left) left ++ cond b (end_marks copies_at (take_end used (is_active on left) left) (is_active on right) right ++ not (is_active on left) ∷ []) (end_marks copies_at (take_end used (is_active on left) left) (is_active on right) right)
     by_signs true = refl
     by_signs false = refl
 
 -- A unit has as many marks as edges.
-pub marks_width : (room used : ℕ → ℕ) (on : Bool) (left : End) (right : Option End) → length (marks_by room used on left right) ≡ width_by room left right
-marks_width room used on left None = length-append (end_marks room used (is_active on left) left) (not (is_active on left) ∷ []) ∙ ap (λ n. n + 1) (choice_length (is_active on left) (used left.node) (room left.node))
-marks_width room used on left (Some right) = grind (arith, length-append firsts (seconds ++ not (is_active on left) ∷ []), length-append seconds (not (is_active on left) ∷ []), first, second, length-append firsts seconds)
+pub marks_width : (copies_at used : ℕ → ℕ) (on : Bool) (left : End) (right : Option End) → length (marks_by copies_at used on left right) ≡ width_by copies_at left right
+marks_width copies_at used on left None = length-append (end_marks copies_at used (is_active on left) left) (not (is_active on left) ∷ []) ∙ ap (λ n. n + 1) (choice_length (is_active on left) (used left.node) (copies_at left.node))
+marks_width copies_at used on left (Some right) = grind (arith, length-append firsts (seconds ++ not (is_active on left) ∷ []), length-append seconds (not (is_active on left) ∷ []), first, second, length-append firsts seconds)
   where
     firsts : List Bool
-    firsts = end_marks room used (is_active on left) left
+    firsts = end_marks copies_at used (is_active on left) left
 
     seconds : List Bool
-    seconds = end_marks room (take_end used (is_active on left) left) (is_active on right) right
+    seconds = end_marks copies_at (take_end used (is_active on left) left) (is_active on right) right
 
-    first : length firsts ≡ room left.node
-    first = choice_length (is_active on left) (used left.node) (room left.node)
+    first : length firsts ≡ copies_at left.node
+    first = choice_length (is_active on left) (used left.node) (copies_at left.node)
 
-    second : length seconds ≡ room right.node
-    second = choice_length (is_active on right) (take_end used (is_active on left) left right.node) (room right.node)
+    second : length seconds ≡ copies_at right.node
+    second = choice_length (is_active on right) (take_end used (is_active on left) left right.node) (copies_at right.node)
 
 -- The marks at the rim, by whether there is a vertex before.
 abbrev pub is_there : Option ℕ → Bool
@@ -84,41 +84,41 @@ rim_is before waits fresh (o ∷ []) = mark_is before (waits && o)
 rim_is before waits fresh (o ∷ p ∷ os) = rw (mark_is before (waits && o), mark_is before (waits && not o), rim_is (Some (fresh + 1)) (differ waits o) (fresh + 2) (p ∷ os)) refl
 
 -- The marks from a unit on, and those from the next on.
-pub units_marks_step : (room used : ℕ → ℕ) (us : List ArcUnit) (ons : List Bool) (k : ℕ) (u : ArcUnit) (b : Bool) → k < length us → length us ≡ length ons
-    → units_marks room used (drop k us) (drop k ons) ≡ marks_by room used (slice_index_or ons k b) (slice_index_or us k u).left (slice_index_or us k u).right ++ units_marks room (λ v. used v + active_at v (slice_index_or us k u) (slice_index_or ons k b)) (drop (k + 1) us) (drop (k + 1) ons)
-units_marks_step room used us ons k u b l same =
+pub units_marks_step : (copies_at used : ℕ → ℕ) (us : List ArcUnit) (ons : List Bool) (k : ℕ) (u : ArcUnit) (b : Bool) → k < length us → length us ≡ length ons
+    → units_marks copies_at used (drop k us) (drop k ons) ≡ marks_by copies_at used (slice_index_or ons k b) (slice_index_or us k u).left (slice_index_or us k u).right ++ units_marks copies_at (λ v. used v + active_at v (slice_index_or us k u) (slice_index_or ons k b)) (drop (k + 1) us) (drop (k + 1) ons)
+units_marks_step copies_at used us ons k u b l same =
     let inner : k < length ons = omega arith in
     rw (drop_more us k u l, drop_more ons k b inner) refl
 
 -- The marks of the second end and of the edge inside, one after the other.
-pub right_alike : (old mid now : List ℕ) (k : ℕ) (room used : ℕ → ℕ) (on : Bool) (left right : End) → are_alike left right ≡ true
-    → mid ≡ old ++ places k (end_marks room used (is_active on right) right) → now ≡ mid ++ places (k + room right.node) (not (is_active on left) ∷ []) → now ≡ old ++ places k (right_marks room used on left right)
-right_alike old mid now k room used on left right alike first second =
-    let width : length (end_marks room used (is_active on right) right) ≡ room right.node = choice_length (is_active on right) (used right.node) (room right.node) in
+pub right_alike : (old mid now : List ℕ) (k : ℕ) (copies_at used : ℕ → ℕ) (on : Bool) (left right : End) → are_alike left right ≡ true
+    → mid ≡ old ++ places k (end_marks copies_at used (is_active on right) right) → now ≡ mid ++ places (k + copies_at right.node) (not (is_active on left) ∷ []) → now ≡ old ++ places k (right_marks copies_at used on left right)
+right_alike old mid now k copies_at used on left right alike first second =
+    let width : length (end_marks copies_at used (is_active on right) right) ≡ copies_at right.node = choice_length (is_active on right) (used right.node) (copies_at right.node) in
     two_parts old mid now _ _ first second
-    ∙ ap (λ l. old ++ l) (ap (λ w. places k (end_marks room used (is_active on right) right) ++ places (k + w) (not (is_active on left) ∷ [])) (sym width)
-    ∙ (sym (places_append k (end_marks room used (is_active on right) right) (not (is_active on left) ∷ [])) ∙ ap (places k) (sym (cond-true (are_alike left right) (end_marks room used (is_active on right) right ++ not (is_active on left) ∷ []) (end_marks room used (is_active on right) right) alike))))
+    ∙ ap (λ l. old ++ l) (ap (λ w. places k (end_marks copies_at used (is_active on right) right) ++ places (k + w) (not (is_active on left) ∷ [])) (sym width)
+    ∙ (sym (places_append k (end_marks copies_at used (is_active on right) right) (not (is_active on left) ∷ [])) ∙ ap (places k) (sym (cond-true (are_alike left right) (end_marks copies_at used (is_active on right) right ++ not (is_active on left) ∷ []) (end_marks copies_at used (is_active on right) right) alike))))
 
 -- The marks of a unit with one end.
-pub unit_lone : (old mid now : List ℕ) (k : ℕ) (room used : ℕ → ℕ) (on : Bool) (left : End)
-    → mid ≡ old ++ places k (end_marks room used (is_active on left) left) → now ≡ mid ++ places (k + room left.node) (not (is_active on left) ∷ []) → now ≡ old ++ places k (marks_by room used on left None)
-unit_lone old mid now k room used on left first second =
-    let width : length (end_marks room used (is_active on left) left) ≡ room left.node = choice_length (is_active on left) (used left.node) (room left.node) in
+pub unit_lone : (old mid now : List ℕ) (k : ℕ) (copies_at used : ℕ → ℕ) (on : Bool) (left : End)
+    → mid ≡ old ++ places k (end_marks copies_at used (is_active on left) left) → now ≡ mid ++ places (k + copies_at left.node) (not (is_active on left) ∷ []) → now ≡ old ++ places k (marks_by copies_at used on left None)
+unit_lone old mid now k copies_at used on left first second =
+    let width : length (end_marks copies_at used (is_active on left) left) ≡ copies_at left.node = choice_length (is_active on left) (used left.node) (copies_at left.node) in
     two_parts old mid now _ _ first second
-    ∙ ap (λ l. old ++ l) (ap (λ w. places k (end_marks room used (is_active on left) left) ++ places (k + w) (not (is_active on left) ∷ [])) (sym width)
-    ∙ sym (places_append k (end_marks room used (is_active on left) left) (not (is_active on left) ∷ [])))
+    ∙ ap (λ l. old ++ l) (ap (λ w. places k (end_marks copies_at used (is_active on left) left) ++ places (k + w) (not (is_active on left) ∷ [])) (sym width)
+    ∙ sym (places_append k (end_marks copies_at used (is_active on left) left) (not (is_active on left) ∷ [])))
 
 -- The marks of a unit with two ends, where the copies in use are counted in between.
-pub unit_two : (old mid now : List ℕ) (k : ℕ) (room used next : ℕ → ℕ) (on : Bool) (left right : End) → next right.node ≡ take_end used (is_active on left) left right.node
-    → mid ≡ old ++ places k (end_marks room used (is_active on left) left) → now ≡ mid ++ places (k + room left.node) (right_marks room next on left right) → now ≡ old ++ places k (marks_by room used on left (Some right))
-unit_two old mid now k room used next on left right taken first second =
-    let width : length (end_marks room used (is_active on left) left) ≡ room left.node = choice_length (is_active on left) (used left.node) (room left.node) in
-    let same : right_marks room next on left right ≡ right_marks room (take_end used (is_active on left) left) on left right =
-    ap (λ i. cond (are_alike left right) (choice (is_active on right) i (room right.node) ++ not (is_active on left) ∷ []) (choice (is_active on right) i (room right.node))) taken in
+pub unit_two : (old mid now : List ℕ) (k : ℕ) (copies_at used next : ℕ → ℕ) (on : Bool) (left right : End) → next right.node ≡ take_end used (is_active on left) left right.node
+    → mid ≡ old ++ places k (end_marks copies_at used (is_active on left) left) → now ≡ mid ++ places (k + copies_at left.node) (right_marks copies_at next on left right) → now ≡ old ++ places k (marks_by copies_at used on left (Some right))
+unit_two old mid now k copies_at used next on left right taken first second =
+    let width : length (end_marks copies_at used (is_active on left) left) ≡ copies_at left.node = choice_length (is_active on left) (used left.node) (copies_at left.node) in
+    let same : right_marks copies_at next on left right ≡ right_marks copies_at (take_end used (is_active on left) left) on left right =
+    ap (λ i. cond (are_alike left right) (choice (is_active on right) i (copies_at right.node) ++ not (is_active on left) ∷ []) (choice (is_active on right) i (copies_at right.node))) taken in
     two_parts old mid now _ _ first second
-    ∙ ap (λ l. old ++ l) (ap (λ ms. places k (end_marks room used (is_active on left) left) ++ places (k + room left.node) ms) same
-    ∙ (ap (λ w. places k (end_marks room used (is_active on left) left) ++ places (k + w) (right_marks room (take_end used (is_active on left) left) on left right)) (sym width)
-    ∙ (sym (places_append k (end_marks room used (is_active on left) left) (right_marks room (take_end used (is_active on left) left) on left right)) ∙ ap (places k) (sym (marks_two room used on left right)))))
+    ∙ ap (λ l. old ++ l) (ap (λ ms. places k (end_marks copies_at used (is_active on left) left) ++ places (k + copies_at left.node) ms) same
+    ∙ (ap (λ w. places k (end_marks copies_at used (is_active on left) left) ++ places (k + w) (right_marks copies_at (take_end used (is_active on left) left) on left right)) (sym width)
+    ∙ (sym (places_append k (end_marks copies_at used (is_active on left) left) (right_marks copies_at (take_end used (is_active on left) left) on left right)) ∙ ap (places k) (sym (marks_two copies_at used on left right)))))
 
 -- The numbers of the first part of the marks, and those of what is left.
 pub marks_step : (m now : List ℕ) (k w : ℕ) (part rest whole : List Bool) → whole ≡ part ++ rest → length part ≡ w → now ≡ m ++ places k part → now ++ places (k + w) rest ≡ m ++ places k whole

@@ -17,13 +17,13 @@ use Rattle.qm_units.proofs.Units.{UnitsAt}
 use Rattle.qm_units.proofs.Costs.{costs}
 use Rattle.qm_units.proofs.Law.{arcs_at, units_at, graph_law}
 use Rattle.qm_units.proofs.Size.{size_law}
-use Rattle.qm_gadget.specs.Layout.{room_of, AreAtNodes}
+use Rattle.qm_gadget.specs.Layout.{copies_in, AreAtNodes}
 use Rattle.def_flow.specs.Units.{units_over}
 use Rattle.qm_gadget.specs.Ready.{graph_by_lows, IsReady, IsPlan}
 use Rattle.qm_gadget.specs.Ready.{own_states as states_of_caps}
 use Rattle.qm_gadget.specs.declared.plan.Plan.{Plan}
 use Rattle.qm_gadget.proofs.ByLows.{own_states}
-use Rattle.qm_gadget.proofs.Rooms.{same_everywhere, none_past}
+use Rattle.qm_gadget.proofs.NodeCounts.{same_everywhere, none_past}
 
 -- Ends at nodes, one unit at a time.
 at_by_index : (nodes : ℕ) (us : List ArcUnit) → UnitsAt nodes us → AreAtNodes nodes us
@@ -78,10 +78,10 @@ list_ready net step xs bounds lengths admissible tangle = record {
 }
 
 -- The copies of a plan are the active ends at each number, also past the nodes.
-pub plan_rooms : (net : Network) (step : ℕ) (ls cs : List ℕ) (p : Plan) → IsReady net step ls cs → IsPlan net step ls cs p → room_of p.rooms.items ≡ (λ v. active v (units_over net step net.arcs ls cs) (states_of_caps cs))
-plan_rooms net step ls cs p ready plan = same_everywhere (room_of p.rooms.items) (λ v. active v (units_over net step net.arcs ls cs) (states_of_caps cs)) (λ v. elim (cases_lt v net.nodes) [
-  | inl l ↦ plan.rooms.each v l
-  | inr h ↦ get_or_past p.rooms.items v 0 (omega (arith, plan.rooms.count)) ∙ sym (none_past net.nodes (units_over net step net.arcs ls cs) (states_of_caps cs) ready.at v h)
+pub plan_counts : (net : Network) (step : ℕ) (ls cs : List ℕ) (p : Plan) → IsReady net step ls cs → IsPlan net step ls cs p → copies_in p.counts.items ≡ (λ v. active v (units_over net step net.arcs ls cs) (states_of_caps cs))
+plan_counts net step ls cs p ready plan = same_everywhere (copies_in p.counts.items) (λ v. active v (units_over net step net.arcs ls cs) (states_of_caps cs)) (λ v. elim (cases_lt v net.nodes) [
+  | inl l ↦ plan.counts.each v l
+  | inr h ↦ get_or_past p.counts.items v 0 (omega (arith, plan.counts.count)) ∙ sym (none_past net.nodes (units_over net step net.arcs ls cs) (states_of_caps cs) ready.at v h)
 ])
 
 -- The graph of units by lows and caps is the matching graph of the list.
@@ -90,10 +90,10 @@ graph_over net step xs = ap (graph_of_units net.nodes (units net step net.arcs x
 
 -- The graph of a plan.
 pub plan_graph : (net : Network) (step : ℕ) (ls cs : List ℕ) (p : Plan) → IsReady net step ls cs → IsPlan net step ls cs p
-    → graph_by (length p.rooms.items) (room_of p.rooms.items) p.lone p.units.items ≡ graph_by_lows net step ls cs
+    → graph_by (length p.counts.items) (copies_in p.counts.items) p.lone p.units.items ≡ graph_by_lows net step ls cs
 plan_graph net step ls cs p ready plan =
-    ap (λ n. graph_by n (room_of p.rooms.items) p.lone p.units.items) plan.rooms.count
-    ∙ (ap (λ f. graph_by net.nodes f p.lone p.units.items) (plan_rooms net step ls cs p ready plan)
+    ap (λ n. graph_by n (copies_in p.counts.items) p.lone p.units.items) plan.counts.count
+    ∙ (ap (λ f. graph_by net.nodes f p.lone p.units.items) (plan_counts net step ls cs p ready plan)
     ∙ (ap (λ b. graph_by net.nodes (λ v. active v over ons) b p.units.items) plan.lone
     ∙ ap (λ us. graph_by net.nodes (λ v. active v over ons) (rim_active over ons % 2 == 1) us) plan.units))
   where
@@ -104,13 +104,13 @@ plan_graph net step ls cs p ready plan =
     ons = states_of_caps cs
 
 -- A plan's units have their ends at the nodes that it counts.
-pub plan_at : (net : Network) (step : ℕ) (ls cs : List ℕ) (p : Plan) → IsReady net step ls cs → IsPlan net step ls cs p → AreAtNodes (length p.rooms.items) p.units.items
-plan_at net step ls cs p ready plan = rw (plan.rooms.count, plan.units) ready.at
+pub plan_at : (net : Network) (step : ℕ) (ls cs : List ℕ) (p : Plan) → IsReady net step ls cs → IsPlan net step ls cs p → AreAtNodes (length p.counts.items) p.units.items
+plan_at net step ls cs p ready plan = rw (plan.counts.count, plan.units) ready.at
 
 -- The graph of a plan is small.
 pub plan_small : (net : Network) (step : ℕ) (ls cs : List ℕ) (p : Plan) → IsReady net step ls cs → IsPlan net step ls cs p → (graph_by_lows net step ls cs).n ≤ 2 ^ 25
-    → first_fresh (length p.rooms.items) (room_of p.rooms.items) p.lone p.units.items + 2 * length (rim (count_below (room_of p.rooms.items) (length p.rooms.items)) p.units.items) < 2 ^ 26
+    → first_fresh (length p.counts.items) (copies_in p.counts.items) p.lone p.units.items + 2 * length (rim (count_below (copies_in p.counts.items) (length p.counts.items)) p.units.items) < 2 ^ 26
 plan_small net step ls cs p ready plan small =
-    let n : first_fresh (length p.rooms.items) (room_of p.rooms.items) p.lone p.units.items + 2 * (length (rim (count_below (room_of p.rooms.items) (length p.rooms.items)) p.units.items) - 1) ≡ (graph_by_lows net step ls cs).n =
+    let n : first_fresh (length p.counts.items) (copies_in p.counts.items) p.lone p.units.items + 2 * (length (rim (count_below (copies_in p.counts.items) (length p.counts.items)) p.units.items) - 1) ≡ (graph_by_lows net step ls cs).n =
     ap (λ (g : Graph). g.n) (plan_graph net step ls cs p ready plan) in
     omega arith

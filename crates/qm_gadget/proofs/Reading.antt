@@ -1,4 +1,4 @@
--- Reading a rising list of edges unit by unit.
+-- Reading an increasing list of edges unit by unit.
 use Rattle.std.proofs.Common.{◌≡◌, ℕ, zero, suc, ◌+◌, ◌*◌, ◌<◌, ◌≤◌, ◌==◌, Bool, true, false, not, cond, List, [], ◌∷◌, length, take, drop, map, Option, refl, sym, ◌∙◌, ap, subst, inl, inr, ◌⊎◌, add-zero, length-append, arith}
 use Rattle.std.specs.Prelude.{nat_lt, slice_index_or}
 use Rattle.std.specs.Bool.{beq}
@@ -7,7 +7,7 @@ use Rattle.std.proofs.lemmas.Bool.Decides.{nat_tests}
 use Rattle.std.proofs.lemmas.List.{drop_more}
 use Rattle.def_math.specs.Counts.{count}
 use Rattle.def_flow.specs.Network.{Network}
-use Rattle.def_math.specs.Rising.{IsRising}
+use Rattle.def_math.specs.Increasing.{IsIncreasing}
 use Rattle.def_flow.specs.Units.{low, cap, active_at}
 use Rattle.def_flow.specs.MatchingGraph.{graph_by, units_links, rim_links, lone_vertex, first_fresh, rim}
 use Rattle.def_math.specs.Counts.{count_below}
@@ -20,106 +20,106 @@ use Rattle.qm_gadget.specs.Read.{width_of_unit, first_below, skip_below, lengths
 use Rattle.qm_gadget.proofs.Numbers.{marks_width}
 
 -- In a list that rises from a bound on, nothing is below the bound.
-none_below_first : (k high : ℕ) (m : List ℕ) → IsRising k high m → first_below m k ≡ false
-none_below_first k high [] rising = refl
-none_below_first k high (e ∷ m) rising = let le : k ≤ e = rising.0 in grind (arith, nat_tests)
+none_below_first : (k high : ℕ) (m : List ℕ) → IsIncreasing k high m → first_below m k ≡ false
+none_below_first k high [] increasing = refl
+none_below_first k high (e ∷ m) increasing = let le : k ≤ e = increasing.0 in grind (arith, nat_tests)
 
-skip_none : (k high : ℕ) (m : List ℕ) → IsRising k high m → skip_below k m ≡ m
-skip_none k high [] rising = refl
-skip_none k high (e ∷ m) rising = let le : k ≤ e = rising.0 in let off : nat_lt e k ≡ false = grind (arith, nat_tests) in rw off refl
+skip_none : (k high : ℕ) (m : List ℕ) → IsIncreasing k high m → skip_below k m ≡ m
+skip_none k high [] increasing = refl
+skip_none k high (e ∷ m) increasing = let le : k ≤ e = increasing.0 in let off : nat_lt e k ≡ false = grind (arith, nat_tests) in rw off refl
 
 -- Without the numbers below a bound it rises from the bound on.
-pub rising_skip : (k end high : ℕ) (m : List ℕ) → IsRising k high m → IsRising end high (skip_below end m)
-rising_skip k end high [] rising = tt
-rising_skip k end high (e ∷ m) rising = by_test (cases_lt e end) (rising_skip (e + 1) end high m rising.2)
+pub increasing_skip : (k end high : ℕ) (m : List ℕ) → IsIncreasing k high m → IsIncreasing end high (skip_below end m)
+increasing_skip k end high [] increasing = tt
+increasing_skip k end high (e ∷ m) increasing = by_test (cases_lt e end) (increasing_skip (e + 1) end high m increasing.2)
   where
-    by_test : (e < end) ⊎ (end ≤ e) → IsRising end high (skip_below end m) → IsRising end high (cond (nat_lt e end) (skip_below end m) (e ∷ m))
+    by_test : (e < end) ⊎ (end ≤ e) → IsIncreasing end high (skip_below end m) → IsIncreasing end high (cond (nat_lt e end) (skip_below end m) (e ∷ m))
     by_test (inl l) rest = let on : nat_lt e end ≡ true = grind (arith, nat_tests) in rw on rest
-    by_test (inr h) rest = let off : nat_lt e end ≡ false = grind (arith, nat_tests) in rw off (h, rising.1, rising.2)
+    by_test (inr h) rest = let off : nat_lt e end ≡ false = grind (arith, nat_tests) in rw off (h, increasing.1, increasing.2)
 
 -- What is left of the marks past a number of edges.
-pub drop_marks : (w n t k high : ℕ) (m : List ℕ) → t ≡ w + n → IsRising k high m → drop w (marks_from k t m) ≡ marks_from (k + w) n (skip_below (k + w) m)
-drop_marks zero n t k high m e rising =
+pub drop_marks : (w n t k high : ℕ) (m : List ℕ) → t ≡ w + n → IsIncreasing k high m → drop w (marks_from k t m) ≡ marks_from (k + w) n (skip_below (k + w) m)
+drop_marks zero n t k high m e increasing =
     let here : k + 0 ≡ k = add-zero k in
     let long : t ≡ n = omega arith in
-    rw (here, long, skip_none k high m rising) refl
-drop_marks (suc w) n zero k high m e rising = absurd (omega arith)
-drop_marks (suc w) n (suc t) k high [] e rising =
+    rw (here, long, skip_none k high m increasing) refl
+drop_marks (suc w) n zero k high m e increasing = absurd (omega arith)
+drop_marks (suc w) n (suc t) k high [] e increasing =
     let there : k + 1 + w ≡ k + suc w = omega arith in
     drop_marks w n t (k + 1) high [] (omega arith) tt ∙ ap (λ i. marks_from i n []) there
-drop_marks (suc w) n (suc t) k high (x ∷ m) e rising = elim (cases_eq x k) [ inl is ↦ here is (drop_marks w n t (k + 1) high m (omega arith)) | inr ne ↦ after ne (drop_marks w n t (k + 1) high (x ∷ m) (omega arith)) ]
+drop_marks (suc w) n (suc t) k high (x ∷ m) e increasing = elim (cases_eq x k) [ inl is ↦ here is (drop_marks w n t (k + 1) high m (omega arith)) | inr ne ↦ after ne (drop_marks w n t (k + 1) high (x ∷ m) (omega arith)) ]
   where
     there : k + 1 + w ≡ k + suc w
     there = omega arith
 
-    here : x ≡ k → (IsRising (k + 1) high m → drop w (marks_from (k + 1) t m) ≡ marks_from (k + 1 + w) n (skip_below (k + 1 + w) m)) → drop w (marks_from (k + 1) t (past (x == k) x m)) ≡ marks_from (k + suc w) n (skip_below (k + suc w) (x ∷ m))
+    here : x ≡ k → (IsIncreasing (k + 1) high m → drop w (marks_from (k + 1) t m) ≡ marks_from (k + 1 + w) n (skip_below (k + 1 + w) m)) → drop w (marks_from (k + 1) t (past (x == k) x m)) ≡ marks_from (k + suc w) n (skip_below (k + suc w) (x ∷ m))
     here is rest =
         let on : (x == k) ≡ true = eq-eqb x k is in
         let low : nat_lt x (k + suc w) ≡ true = lt-ltb x (k + suc w) (omega arith) in
-        let next : IsRising (k + 1) high m = subst (λ (i : ℕ). IsRising (i + 1) high m) is rising.2 in
+        let next : IsIncreasing (k + 1) high m = subst (λ (i : ℕ). IsIncreasing (i + 1) high m) is increasing.2 in
         rw (on, low) (rest next ∙ ap (λ i. marks_from i n (skip_below i m)) there)
 
-    after : (x ≡ k → ⊥) → (IsRising (k + 1) high (x ∷ m) → drop w (marks_from (k + 1) t (x ∷ m)) ≡ marks_from (k + 1 + w) n (skip_below (k + 1 + w) (x ∷ m))) → drop w (marks_from (k + 1) t (past (x == k) x m)) ≡ marks_from (k + suc w) n (skip_below (k + suc w) (x ∷ m))
+    after : (x ≡ k → ⊥) → (IsIncreasing (k + 1) high (x ∷ m) → drop w (marks_from (k + 1) t (x ∷ m)) ≡ marks_from (k + 1 + w) n (skip_below (k + 1 + w) (x ∷ m))) → drop w (marks_from (k + 1) t (past (x == k) x m)) ≡ marks_from (k + suc w) n (skip_below (k + suc w) (x ∷ m))
     after ne rest =
         let off : (x == k) ≡ false = ne_eqb x k ne in
-        let next : IsRising (k + 1) high (x ∷ m) = (omega (arith, rising.0), rising.1, rising.2) in
+        let next : IsIncreasing (k + 1) high (x ∷ m) = (omega (arith, increasing.0), increasing.1, increasing.2) in
         rw off (rest next ∙ ap (λ i. marks_from i n (skip_below i (x ∷ m))) there)
 
 -- Some of the first edges is marked exactly if the first number is among them.
-pub some_marked : (room t k high : ℕ) (m : List ℕ) → room ≤ t → IsRising k high m → nat_lt 0 (trues (take room (marks_from k t m))) ≡ first_below m (k + room)
-some_marked zero t k high m le rising = let here : k + 0 ≡ k = add-zero k in sym (ap (first_below m) here ∙ none_below_first k high m rising)
-some_marked (suc room) zero k high m le rising = absurd (omega arith)
-some_marked (suc room) (suc t) k high [] le rising =
-    let rest : nat_lt 0 (trues (take room (marks_from (k + 1) t []))) ≡ false = some_marked room t (k + 1) high [] (omega arith) tt in
-    let none : 0 + trues (take room (marks_from (k + 1) t [])) ≡ trues (take room (marks_from (k + 1) t [])) = omega arith in
+pub some_marked : (copies_at t k high : ℕ) (m : List ℕ) → copies_at ≤ t → IsIncreasing k high m → nat_lt 0 (trues (take copies_at (marks_from k t m))) ≡ first_below m (k + copies_at)
+some_marked zero t k high m le increasing = let here : k + 0 ≡ k = add-zero k in sym (ap (first_below m) here ∙ none_below_first k high m increasing)
+some_marked (suc copies_at) zero k high m le increasing = absurd (omega arith)
+some_marked (suc copies_at) (suc t) k high [] le increasing =
+    let rest : nat_lt 0 (trues (take copies_at (marks_from (k + 1) t []))) ≡ false = some_marked copies_at t (k + 1) high [] (omega arith) tt in
+    let none : 0 + trues (take copies_at (marks_from (k + 1) t [])) ≡ trues (take copies_at (marks_from (k + 1) t [])) = omega arith in
     ap (nat_lt 0) none ∙ rest
-some_marked (suc room) (suc t) k high (x ∷ m) le rising = elim (cases_eq x k) [ inl is ↦ here is | inr ne ↦ after ne (some_marked room t (k + 1) high (x ∷ m) (omega arith)) ]
+some_marked (suc copies_at) (suc t) k high (x ∷ m) le increasing = elim (cases_eq x k) [ inl is ↦ here is | inr ne ↦ after ne (some_marked copies_at t (k + 1) high (x ∷ m) (omega arith)) ]
   where
-    here : x ≡ k → nat_lt 0 (cond (x == k) 1 0 + trues (take room (marks_from (k + 1) t (past (x == k) x m)))) ≡ nat_lt x (k + suc room)
+    here : x ≡ k → nat_lt 0 (cond (x == k) 1 0 + trues (take copies_at (marks_from (k + 1) t (past (x == k) x m)))) ≡ nat_lt x (k + suc copies_at)
     here is =
         let on : (x == k) ≡ true = eq-eqb x k is in
-        let low : nat_lt x (k + suc room) ≡ true = lt-ltb x (k + suc room) (omega arith) in
-        let some : nat_lt 0 (1 + trues (take room (marks_from (k + 1) t m))) ≡ true = lt-ltb 0 (1 + trues (take room (marks_from (k + 1) t m))) (omega arith) in
+        let low : nat_lt x (k + suc copies_at) ≡ true = lt-ltb x (k + suc copies_at) (omega arith) in
+        let some : nat_lt 0 (1 + trues (take copies_at (marks_from (k + 1) t m))) ≡ true = lt-ltb 0 (1 + trues (take copies_at (marks_from (k + 1) t m))) (omega arith) in
         rw (on, low) some
 
-    after : (x ≡ k → ⊥) → (IsRising (k + 1) high (x ∷ m) → nat_lt 0 (trues (take room (marks_from (k + 1) t (x ∷ m)))) ≡ nat_lt x (k + 1 + room)) → nat_lt 0 (cond (x == k) 1 0 + trues (take room (marks_from (k + 1) t (past (x == k) x m)))) ≡ nat_lt x (k + suc room)
+    after : (x ≡ k → ⊥) → (IsIncreasing (k + 1) high (x ∷ m) → nat_lt 0 (trues (take copies_at (marks_from (k + 1) t (x ∷ m)))) ≡ nat_lt x (k + 1 + copies_at)) → nat_lt 0 (cond (x == k) 1 0 + trues (take copies_at (marks_from (k + 1) t (past (x == k) x m)))) ≡ nat_lt x (k + suc copies_at)
     after ne rest =
         let off : (x == k) ≡ false = ne_eqb x k ne in
-        let next : IsRising (k + 1) high (x ∷ m) = (omega (arith, rising.0), rising.1, rising.2) in
-        let there : k + 1 + room ≡ k + suc room = omega arith in
-        let none : 0 + trues (take room (marks_from (k + 1) t (x ∷ m))) ≡ trues (take room (marks_from (k + 1) t (x ∷ m))) = omega arith in
+        let next : IsIncreasing (k + 1) high (x ∷ m) = (omega (arith, increasing.0), increasing.1, increasing.2) in
+        let there : k + 1 + copies_at ≡ k + suc copies_at = omega arith in
+        let none : 0 + trues (take copies_at (marks_from (k + 1) t (x ∷ m))) ≡ trues (take copies_at (marks_from (k + 1) t (x ∷ m))) = omega arith in
         rw off (ap (nat_lt 0) none ∙ (rest next ∙ ap (nat_lt x) there))
 
 -- The state of a unit, by the first number.
-pub state_read : (room : ℕ → ℕ) (left : End) (t k high : ℕ) (m : List ℕ) → room left.node ≤ t → IsRising k high m → state_told room (marks_from k t m) left ≡ beq left.plus (first_below m (k + room left.node))
-state_read room left t k high m le rising = ap (λ b. cond left.plus b (not b)) (some_marked (room left.node) t k high m le rising) ∙ grind (arith)
+pub state_read : (copies_at : ℕ → ℕ) (left : End) (t k high : ℕ) (m : List ℕ) → copies_at left.node ≤ t → IsIncreasing k high m → state_told copies_at (marks_from k t m) left ≡ beq left.plus (first_below m (k + copies_at left.node))
+state_read copies_at left t k high m le increasing = ap (λ b. cond left.plus b (not b)) (some_marked (copies_at left.node) t k high m le increasing) ∙ grind (arith)
 
 -- The states from a unit on: its own, and those from the next on.
-pub states_read : (room : ℕ → ℕ) (us : List ArcUnit) (i : ℕ) (u : ArcUnit) (t n k high : ℕ) (m : List ℕ) → i < length us → t ≡ width_of_unit room (slice_index_or us i u) + n → room (slice_index_or us i u).left.node ≤ t → IsRising k high m
-    → states_told room (drop i us) (marks_from k t m) ≡ beq (slice_index_or us i u).left.plus (first_below m (k + room (slice_index_or us i u).left.node)) ∷ states_told room (drop (i + 1) us) (marks_from (k + width_of_unit room (slice_index_or us i u)) n (skip_below (k + width_of_unit room (slice_index_or us i u)) m))
-states_read room us i u t n k high m l long le rising =
-    rw (drop_more us i u l, state_read room (slice_index_or us i u).left t k high m le rising, drop_marks (width_of_unit room (slice_index_or us i u)) n t k high m long rising) refl
+pub states_read : (copies_at : ℕ → ℕ) (us : List ArcUnit) (i : ℕ) (u : ArcUnit) (t n k high : ℕ) (m : List ℕ) → i < length us → t ≡ width_of_unit copies_at (slice_index_or us i u) + n → copies_at (slice_index_or us i u).left.node ≤ t → IsIncreasing k high m
+    → states_told copies_at (drop i us) (marks_from k t m) ≡ beq (slice_index_or us i u).left.plus (first_below m (k + copies_at (slice_index_or us i u).left.node)) ∷ states_told copies_at (drop (i + 1) us) (marks_from (k + width_of_unit copies_at (slice_index_or us i u)) n (skip_below (k + width_of_unit copies_at (slice_index_or us i u)) m))
+states_read copies_at us i u t n k high m l long le increasing =
+    rw (drop_more us i u l, state_read copies_at (slice_index_or us i u).left t k high m le increasing, drop_marks (width_of_unit copies_at (slice_index_or us i u)) n t k high m long increasing) refl
 
 -- The first end's copies are among a unit's edges.
-pub room_in_width : (room : ℕ → ℕ) (left : End) (right : Option End) → room left.node ≤ width_by room left right
-room_in_width room left right = grind (arith)
+pub count_in_width : (copies_at : ℕ → ℕ) (left : End) (right : Option End) → copies_at left.node ≤ width_by copies_at left right
+count_in_width copies_at left right = grind (arith)
 
 -- The widths from a unit on.
-pub widths_step : (room : ℕ → ℕ) (us : List ArcUnit) (i : ℕ) (u : ArcUnit) → i < length us → count (width_of_unit room) (drop i us) ≡ width_of_unit room (slice_index_or us i u) + count (width_of_unit room) (drop (i + 1) us)
-widths_step room us i u l = rw (drop_more us i u l) refl
+pub widths_step : (copies_at : ℕ → ℕ) (us : List ArcUnit) (i : ℕ) (u : ArcUnit) → i < length us → count (width_of_unit copies_at) (drop i us) ≡ width_of_unit copies_at (slice_index_or us i u) + count (width_of_unit copies_at) (drop (i + 1) us)
+widths_step copies_at us i u l = rw (drop_more us i u l) refl
 
 -- The widths of all units are no more than the edges of the graph.
-widths_marks : (room used : ℕ → ℕ) (us : List ArcUnit) (ons : List Bool) → length us ≡ length ons → count (width_of_unit room) us ≡ length (units_marks room used us ons)
-widths_marks room used [] ons same = refl
-widths_marks room used (u ∷ us) [] same = absurd (omega arith)
-widths_marks room used (u ∷ us) (on ∷ ons) same = omega (arith, length-append (marks_by room used on u.left u.right) (units_marks room (λ v. used v + active_at v u on) us ons), marks_width room used on u.left u.right, widths_marks room (λ v. used v + active_at v u on) us ons (omega arith))
+widths_marks : (copies_at used : ℕ → ℕ) (us : List ArcUnit) (ons : List Bool) → length us ≡ length ons → count (width_of_unit copies_at) us ≡ length (units_marks copies_at used us ons)
+widths_marks copies_at used [] ons same = refl
+widths_marks copies_at used (u ∷ us) [] same = absurd (omega arith)
+widths_marks copies_at used (u ∷ us) (on ∷ ons) same = omega (arith, length-append (marks_by copies_at used on u.left u.right) (units_marks copies_at (λ v. used v + active_at v u on) us ons), marks_width copies_at used on u.left u.right, widths_marks copies_at (λ v. used v + active_at v u on) us ons (omega arith))
 
-pub widths_low : (nodes : ℕ) (room : ℕ → ℕ) (lone : Bool) (us : List ArcUnit) (ons : List Bool) → length us ≡ length ons → count (width_of_unit room) us ≤ length (graph_by nodes room lone us).edges
-widths_low nodes room lone us ons same = omega (
+pub widths_low : (nodes : ℕ) (copies_at : ℕ → ℕ) (lone : Bool) (us : List ArcUnit) (ons : List Bool) → length us ≡ length ons → count (width_of_unit copies_at) us ≤ length (graph_by nodes copies_at lone us).edges
+widths_low nodes copies_at lone us ons same = omega (
   arith,
-  widths_marks room (λ v. 0) us ons same,
-  units_length room (λ v. 0) (count_below room nodes) us ons same,
-  length-append (units_links room (count_below room nodes) us) (rim_links (lone_vertex nodes room lone us) (first_fresh nodes room lone us) (rim (count_below room nodes) us)),
+  widths_marks copies_at (λ v. 0) us ons same,
+  units_length copies_at (λ v. 0) (count_below copies_at nodes) us ons same,
+  length-append (units_links copies_at (count_below copies_at nodes) us) (rim_links (lone_vertex nodes copies_at lone us) (first_fresh nodes copies_at lone us) (rim (count_below copies_at nodes) us)),
 )
 
 -- The lengths by lows and caps are those with so many units on.

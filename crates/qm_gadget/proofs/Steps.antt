@@ -14,15 +14,15 @@ use Rattle.qm_units.proofs.Steps.{quotient, step_up}
 use Rattle.qm_units.specs.Marks.{places, states_marks, units_marks, rim_marks, rim_states}
 use Rattle.qm_units.proofs.Chain.{rim_length}
 use Rattle.qm_units.proofs.Units.{units_length, states_length}
-use Rattle.qm_gadget.specs.Layout.{room_of}
+use Rattle.qm_gadget.specs.Layout.{copies_in}
 use Rattle.qm_gadget.specs.Marked.{rim_by}
 use Rattle.qm_gadget.specs.Ready.{IsReady, IsPlan, marks_over}
 use Rattle.qm_gadget.specs.Ready.{own_states as states_of_caps}
 use Rattle.qm_gadget.specs.declared.plan.Plan.{Plan}
 use Rattle.qm_gadget.proofs.ByLows.{own_states}
 use Rattle.qm_gadget.proofs.Numbers.{rim_is}
-use Rattle.qm_gadget.proofs.OfList.{plan_rooms}
-use Rattle.qm_gadget.proofs.Rooms.{active_low}
+use Rattle.qm_gadget.proofs.OfList.{plan_counts}
+use Rattle.qm_gadget.proofs.NodeCounts.{active_low}
 
 -- No entry of a list in the box is more than 4 steps up.
 pub ups_small : (step : ℕ) (lows caps ys : List ℕ) → 1 ≤ step → IsInBox step lows caps ys → ((k : ℕ) → k < length lows → slice_index caps k ≤ 4) → (k : ℕ) → (slice_index ys k - slice_index lows k) / step ≤ 4
@@ -57,13 +57,13 @@ marks_over_is net step xs js =
     ons = states_of_caps (map (cap net step) xs)
 
 -- There are as many marks as edges.
-pub marks_long : (nodes : ℕ) (room : ℕ → ℕ) (lone : Bool) (us : List ArcUnit) (ons : List Bool) → length us ≡ length ons → length (states_marks nodes room lone us ons) ≡ length (graph_by nodes room lone us).edges
-marks_long nodes room lone us ons same = omega (
+pub marks_long : (nodes : ℕ) (copies_at : ℕ → ℕ) (lone : Bool) (us : List ArcUnit) (ons : List Bool) → length us ≡ length ons → length (states_marks nodes copies_at lone us ons) ≡ length (graph_by nodes copies_at lone us).edges
+marks_long nodes copies_at lone us ons same = omega (
   arith,
-  length-append (units_marks room (λ v. 0) us ons) (rim_marks (lone_vertex nodes room lone us) lone (first_fresh nodes room lone us) (rim_states us ons)),
-  length-append (units_links room (count_below room nodes) us) (rim_links (lone_vertex nodes room lone us) (first_fresh nodes room lone us) (rim (count_below room nodes) us)),
-  units_length room (λ v. 0) (count_below room nodes) us ons same,
-  rim_length (lone_vertex nodes room lone us) lone (first_fresh nodes room lone us) (rim (count_below room nodes) us) (rim_states us ons) (states_length (count_below room nodes) us ons same),
+  length-append (units_marks copies_at (λ v. 0) us ons) (rim_marks (lone_vertex nodes copies_at lone us) lone (first_fresh nodes copies_at lone us) (rim_states us ons)),
+  length-append (units_links copies_at (count_below copies_at nodes) us) (rim_links (lone_vertex nodes copies_at lone us) (first_fresh nodes copies_at lone us) (rim (count_below copies_at nodes) us)),
+  units_length copies_at (λ v. 0) (count_below copies_at nodes) us ons same,
+  rim_length (lone_vertex nodes copies_at lone us) lone (first_fresh nodes copies_at lone us) (rim (count_below copies_at nodes) us) (rim_states us ons) (states_length (count_below copies_at nodes) us ons same),
 )
 
 -- No more units are at the rim than there are.
@@ -73,16 +73,16 @@ rim_states_few (u ∷ us) [] = omega arith
 rim_states_few (u ∷ us) (on ∷ ons) = grind (arith, rim_states_few us ons)
 
 -- The rim begins with the lone vertex, where there is one.
-pub rim_from_lone : (nodes : ℕ) (room : ℕ → ℕ) (lone : Bool) (us : List ArcUnit) (fresh : ℕ) (os : List Bool) → rim_marks (lone_vertex nodes room lone us) lone fresh os ≡ rim_by lone lone os
-rim_from_lone nodes room true us fresh os = rim_is (lone_vertex nodes room true us) true fresh os
-rim_from_lone nodes room false us fresh os = rim_is (lone_vertex nodes room false us) false fresh os
+pub rim_from_lone : (nodes : ℕ) (copies_at : ℕ → ℕ) (lone : Bool) (us : List ArcUnit) (fresh : ℕ) (os : List Bool) → rim_marks (lone_vertex nodes copies_at lone us) lone fresh os ≡ rim_by lone lone os
+rim_from_lone nodes copies_at true us fresh os = rim_is (lone_vertex nodes copies_at true us) true fresh os
+rim_from_lone nodes copies_at false us fresh os = rim_is (lone_vertex nodes copies_at false us) false fresh os
 
 -- The marks of a plan.
 pub plan_marks : (net : Network) (step : ℕ) (ls cs js : List ℕ) (p : Plan) → IsReady net step ls cs → IsPlan net step ls cs p
-    → states_marks (length p.rooms.items) (room_of p.rooms.items) p.lone p.units.items (states_over cs js) ≡ marks_over net step ls cs js
+    → states_marks (length p.counts.items) (copies_in p.counts.items) p.lone p.units.items (states_over cs js) ≡ marks_over net step ls cs js
 plan_marks net step ls cs js p ready plan =
-    ap (λ n. states_marks n (room_of p.rooms.items) p.lone p.units.items (states_over cs js)) plan.rooms.count
-    ∙ (ap (λ f. states_marks net.nodes f p.lone p.units.items (states_over cs js)) (plan_rooms net step ls cs p ready plan)
+    ap (λ n. states_marks n (copies_in p.counts.items) p.lone p.units.items (states_over cs js)) plan.counts.count
+    ∙ (ap (λ f. states_marks net.nodes f p.lone p.units.items (states_over cs js)) (plan_counts net step ls cs p ready plan)
     ∙ (ap (λ b. states_marks net.nodes (λ v. active v over ons) b p.units.items (states_over cs js)) plan.lone
     ∙ ap (λ us. states_marks net.nodes (λ v. active v over ons) (rim_active over ons % 2 == 1) us (states_over cs js)) plan.units))
   where
@@ -93,11 +93,11 @@ plan_marks net step ls cs js p ready plan =
     ons = states_of_caps cs
 
 -- A plan has few units, and few copies of each node.
-pub plan_few : (net : Network) (step : ℕ) (ls cs : List ℕ) (p : Plan) → IsReady net step ls cs → IsPlan net step ls cs p → (length p.units.items ≤ 2 ^ 25) × ((v : ℕ) → slice_index p.rooms.items v ≤ 2 ^ 27)
-plan_few net step ls cs p ready plan = (omega (arith, ap length plan.units, ready.few), rooms)
+pub plan_few : (net : Network) (step : ℕ) (ls cs : List ℕ) (p : Plan) → IsReady net step ls cs → IsPlan net step ls cs p → (length p.units.items ≤ 2 ^ 25) × ((v : ℕ) → slice_index p.counts.items v ≤ 2 ^ 27)
+plan_few net step ls cs p ready plan = (omega (arith, ap length plan.units, ready.few), counts)
   where
-    rooms : (v : ℕ) → slice_index p.rooms.items v ≤ 2 ^ 27
-    rooms v = elim (cases_lt v net.nodes) [
-      | inl l ↦ omega (arith, plan.rooms.each v l, active_low v (units_over net step net.arcs ls cs) (states_of_caps cs), ready.few)
-      | inr h ↦ omega (arith, get_or_past p.rooms.items v 0 (omega (arith, plan.rooms.count)))
+    counts : (v : ℕ) → slice_index p.counts.items v ≤ 2 ^ 27
+    counts v = elim (cases_lt v net.nodes) [
+      | inl l ↦ omega (arith, plan.counts.each v l, active_low v (units_over net step net.arcs ls cs) (states_of_caps cs), ready.few)
+      | inr h ↦ omega (arith, get_or_past p.counts.items v 0 (omega (arith, plan.counts.count)))
     ]

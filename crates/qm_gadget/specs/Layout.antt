@@ -5,14 +5,14 @@ use Rattle.def_flow.specs.Network.{EndsBelow}
 use Rattle.def_flow.specs.declared.units.ArcUnit.{ArcUnit}
 
 -- The number of copies of each node, by its list.
-abbrev pub room_of : (rooms : List ℕ) (v : ℕ) → ℕ
-room_of rooms v = slice_index rooms v
+abbrev pub copies_in : (counts : List ℕ) (v : ℕ) → ℕ
+copies_in counts v = slice_index counts v
 
 -- The first copy of each node, and past the last node the number of all copies.
-pub record AreFirsts (rooms firsts : List ℕ) : Type 0 where
-  pub count : length firsts ≡ length rooms + 1
-  pub each : (v : ℕ) → v ≤ length rooms → slice_index firsts v ≡ count_below (room_of rooms) v
-  pub few : count_below (room_of rooms) (length rooms) < 2 ^ 26
+pub record AreFirsts (counts firsts : List ℕ) : Type 0 where
+  pub count : length firsts ≡ length counts + 1
+  pub each : (v : ℕ) → v ≤ length counts → slice_index firsts v ≡ count_below (copies_in counts) v
+  pub few : count_below (copies_in counts) (length counts) < 2 ^ 26
 
 -- The ends of a unit are at nodes.
 abbrev pub IsAtNodes : (nodes : ℕ) (u : ArcUnit) → Type 0

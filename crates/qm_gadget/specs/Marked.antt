@@ -7,9 +7,9 @@ use Rattle.qm_units.specs.Marks.{end_marks, differ}
 
 -- The marks of the edges of a unit's second end, and of the edge inside it where the signs are alike.
 abbrev pub right_marks : (ℕ → ℕ) → (ℕ → ℕ) → Bool → End → End → List Bool
-right_marks room used on left right =
-    cond (are_alike left right) (end_marks room used (is_active on right) right ++ not (is_active on left) ∷ [])
-    (end_marks room used (is_active on right) right)
+right_marks copies_at used on left right =
+    cond (are_alike left right) (end_marks copies_at used (is_active on right) right ++ not (is_active on left) ∷ [])
+    (end_marks copies_at used (is_active on right) right)
 
 -- The mark of an edge that may be missing.
 abbrev pub mark_if : Bool → Bool → List Bool

@@ -19,5 +19,5 @@ abbrev pub end_active : (e : End) (on : Bool) (v : ℕ) → ℕ
 end_active e on v = cond ((e.node == v) && is_active on e) 1 0
 
 -- The number of active unit ends at each node.
-abbrev pub AreRooms : (nodes : ℕ) (us : List ArcUnit) (ons : List Bool) (rooms : List ℕ) → Type 0
-AreRooms nodes us ons rooms = IsTally (λ v. active v us ons) nodes rooms
+abbrev pub AreCounts : (nodes : ℕ) (us : List ArcUnit) (ons : List Bool) (counts : List ℕ) → Type 0
+AreCounts nodes us ons counts = IsTally (λ v. active v us ons) nodes counts

@@ -1,4 +1,4 @@
--- What is read off a rising list of edges, unit by unit.
+-- What is read off an increasing list of edges, unit by unit.
 use Rattle.std.specs.Prelude.{ℕ, ◌+◌, ◌*◌, Bool, false, cond, nat_lt, List, [], ◌∷◌, take, drop}
 use Rattle.def_flow.specs.declared.units.ArcUnit.{ArcUnit}
 use Rattle.def_math.specs.Counts.{count}
@@ -11,7 +11,7 @@ use Rattle.qm_gadget.specs.Ready.{own_states}
 
 -- How many edges a unit has.
 abbrev pub width_of_unit : (ℕ → ℕ) → ArcUnit → ℕ
-width_of_unit room u = width_by room u.left u.right
+width_of_unit copies_at u = width_by copies_at u.left u.right
 
 -- Whether the first number of a list is below a bound.
 abbrev pub first_below : List ℕ → ℕ → Bool

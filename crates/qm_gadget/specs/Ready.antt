@@ -7,7 +7,7 @@ use Rattle.def_flow.specs.Units.{active, rim_active}
 use Rattle.qm_units.specs.Marks.{states_marks}
 use Rattle.qm_gadget.specs.Layout.{AreAtNodes}
 use Rattle.def_flow.specs.Units.{units_over, states_over}
-use Rattle.qm_gadget.specs.Over.{AreBoxes, AreRooms}
+use Rattle.qm_gadget.specs.Over.{AreBoxes, AreCounts}
 use Rattle.qm_gadget.specs.declared.plan.Plan.{Plan}
 
 -- Lows and caps of a list whose units are few, with their ends at nodes.
@@ -23,7 +23,7 @@ own_states caps = states_over caps (map (λ c. c - 2) caps)
 -- The plan of the list with these lows and caps.
 pub record IsPlan (net : Network) (step : ℕ) (lows caps : List ℕ) (p : Plan) : Type 0 where
   pub units : p.units.items ≡ units_over net step net.arcs lows caps
-  pub rooms : AreRooms net.nodes (units_over net step net.arcs lows caps) (own_states caps) p.rooms.items
+  pub counts : AreCounts net.nodes (units_over net step net.arcs lows caps) (own_states caps) p.counts.items
   pub lone : p.lone ≡ (rim_active (units_over net step net.arcs lows caps) (own_states caps) % 2 == 1)
 
 -- The marks of the edges that the list with so many units on chooses.

@@ -63,6 +63,6 @@ fn graph_over(alloc: Global, net: &Net, boxes: &Boxes) -> Result<WGraph, AllocEr
         graph g ≡ graph_by_lows (network net.now) boxes.now.step boxes.now.lows.now boxes.now.caps.now) }
 {
     let plan = plan_of(alloc, net, boxes)?;
-    let copies = Copies::new(alloc, plan.rooms)?;
+    let copies = Copies::new(alloc, plan.counts)?;
     lay_out(alloc, &copies, plan.lone, &plan.units)
 }

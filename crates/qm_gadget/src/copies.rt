@@ -2,7 +2,7 @@
 
 ghost use Rattle.std.specs.Prelude.{◌≡◌, ◌+◌, ◌^◌, ◌<◌, ◌≤◌, length, slice_index, IfOk};
 ghost use Rattle.def_math.specs.Counts.{count_below};
-ghost use Rattle.qm_gadget.specs.Layout.{room_of, AreFirsts};
+ghost use Rattle.qm_gadget.specs.Layout.{copies_in, AreFirsts};
 
 use std::alloc::{AllocError, Global};
 
@@ -17,7 +17,7 @@ pub(crate) struct Copies {
 impl Copies {
     /// The copies, by how many each node has. Linear in the nodes.
     pub(crate) fn new(alloc: Global, counts: Vec<u32>) -> Result<Self, AllocError>
-        requires { count_below (room_of counts.items) (length counts.items) < 2 ^ 26 }
+        requires { count_below (copies_in counts.items) (length counts.items) < 2 ^ 26 }
         ensures { IfOk result (λ copies. copies.counts.items ≡ counts.items) }
     {
         let firsts = first_copies(alloc, &counts)?;
@@ -27,7 +27,7 @@ impl Copies {
 
 /// The first copy of each node, and past the last node the number of all copies.
 fn first_copies(alloc: Global, counts: &[u32]) -> Result<Vec<u32>, AllocError>
-    requires { count_below (room_of counts.now) (length counts.now) < 2 ^ 26 }
+    requires { count_below (copies_in counts.now) (length counts.now) < 2 ^ 26 }
     ensures { IfOk result (λ firsts. AreFirsts counts.now firsts.items) }
 {
     let mut firsts = Vec::with_capacity(alloc, counts.len() + 1)?;
@@ -42,7 +42,7 @@ fn first_copies(alloc: Global, counts: &[u32]) -> Result<Vec<u32>, AllocError>
 
 /// How many copies there are.
 pub(crate) fn all_copies(copies: &Copies) -> u32
-    ensures value { result ≡ count_below (room_of copies.now.counts.items) (length copies.now.counts.items) }
+    ensures value { result ≡ count_below (copies_in copies.now.counts.items) (length copies.now.counts.items) }
     ensures few { result < 2 ^ 26 }
 {
     copies.firsts[copies.counts.len()]

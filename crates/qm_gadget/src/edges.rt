@@ -3,7 +3,7 @@
 ghost use Rattle.std.specs.Prelude.{◌≡◌, ◌+◌, ◌^◌, ◌<◌, ◌≤◌, [], ◌∷◌, ◌++◌, pos, length, OnOk};
 ghost use Rattle.def_flow.specs.MatchingGraph.{link, fan, to_copies, inner_link, links_by, unit_links, are_alike};
 ghost use Rattle.def_flow.specs.MatchingGraph.{unit_size};
-ghost use Rattle.qm_gadget.specs.Layout.{room_of, IsAtNodes};
+ghost use Rattle.qm_gadget.specs.Layout.{copies_in, IsAtNodes};
 
 use crate::copies::Copies;
 use def_flow::{ArcUnit, End};
@@ -46,7 +46,7 @@ fn push_to_copies(
 ) -> Result<(), AllocError>
     requires at { end.now.node < length copies.now.counts.items }
     ensures { OnOk result
-        (edges.new.items ≡ edges.old.items ++ to_copies (room_of copies.now.counts.items) u cost end.now) }
+        (edges.new.items ≡ edges.old.items ++ to_copies (copies_in copies.now.counts.items) u cost end.now) }
 {
     let node = end.node as usize;
     let paid = if end.plus { cost } else { 0 };
@@ -74,7 +74,7 @@ fn push_lone(
     requires small { b < 2 ^ 26 }
     requires at { left.now.node < length copies.now.counts.items }
     ensures { OnOk result
-        (edges.new.items ≡ edges.old.items ++ links_by (room_of copies.now.counts.items) b cost left.now None) }
+        (edges.new.items ≡ edges.old.items ++ links_by (copies_in copies.now.counts.items) b cost left.now None) }
 {
     push_to_copies(edges, copies, b, cost, left)?;
     push_inner(edges, b, cost, left)
@@ -94,8 +94,8 @@ fn push_alike(
         × (right.now.node < length copies.now.counts.items) }
     ensures { OnOk result
         (edges.new.items ≡ edges.old.items
-        ++ (to_copies (room_of copies.now.counts.items) b unit.now.cost unit.now.left
-        ++ (to_copies (room_of copies.now.counts.items) (b + 1) (pos 0) right.now
+        ++ (to_copies (copies_in copies.now.counts.items) b unit.now.cost unit.now.left
+        ++ (to_copies (copies_in copies.now.counts.items) (b + 1) (pos 0) right.now
         ++ inner_link b unit.now.cost unit.now.left ∷ []))) }
 {
     push_to_copies(edges, copies, b, unit.cost, &unit.left)?;
@@ -116,8 +116,8 @@ fn push_unlike(
         × (right.now.node < length copies.now.counts.items) }
     ensures { OnOk result
         (edges.new.items ≡ edges.old.items
-        ++ (to_copies (room_of copies.now.counts.items) b unit.now.cost unit.now.left
-        ++ to_copies (room_of copies.now.counts.items) b unit.now.cost right.now)) }
+        ++ (to_copies (copies_in copies.now.counts.items) b unit.now.cost unit.now.left
+        ++ to_copies (copies_in copies.now.counts.items) b unit.now.cost right.now)) }
 {
     push_to_copies(edges, copies, b, unit.cost, &unit.left)?;
     push_to_copies(edges, copies, b, unit.cost, right)
@@ -140,7 +140,7 @@ pub(crate) fn push_unit(
     requires small { b < 2 ^ 26 }
     requires at { IsAtNodes (length copies.now.counts.items) unit.now }
     ensures { OnOk result
-        (edges.new.items ≡ edges.old.items ++ unit_links (room_of copies.now.counts.items) b unit.now) }
+        (edges.new.items ≡ edges.old.items ++ unit_links (copies_in copies.now.counts.items) b unit.now) }
 {
     match &unit.right {
         None => push_lone(edges, copies, b, unit.cost, &unit.left),

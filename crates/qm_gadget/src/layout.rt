@@ -4,7 +4,7 @@ ghost use Rattle.std.specs.Prelude.{◌≡◌, ◌+◌, ◌*◌, ◌-◌, ◌^�
 ghost use Rattle.def_math.specs.Counts.{count, count_below};
 ghost use Rattle.def_matching.specs.Matching.{graph};
 ghost use Rattle.def_flow.specs.MatchingGraph.{units_links, unit_size, graph_by, first_fresh, rim};
-ghost use Rattle.qm_gadget.specs.Layout.{room_of, AreAtNodes};
+ghost use Rattle.qm_gadget.specs.Layout.{copies_in, AreAtNodes};
 
 use crate::copies::{Copies, all_copies};
 use crate::edges::{push_unit, size_of_unit};
@@ -21,11 +21,11 @@ pub(crate) fn lay_out(
     units: &[ArcUnit],
 ) -> Result<WGraph, AllocError>
     requires at { AreAtNodes (length copies.now.counts.items) units.now }
-    requires small { first_fresh (length copies.now.counts.items) (room_of copies.now.counts.items) lone units.now
-        + 2 * length (rim (count_below (room_of copies.now.counts.items) (length copies.now.counts.items)) units.now)
+    requires small { first_fresh (length copies.now.counts.items) (copies_in copies.now.counts.items) lone units.now
+        + 2 * length (rim (count_below (copies_in copies.now.counts.items) (length copies.now.counts.items)) units.now)
         < 2 ^ 26 }
     ensures { IfOk result (λ g.
-        graph g ≡ graph_by (length copies.now.counts.items) (room_of copies.now.counts.items) lone units.now) }
+        graph g ≡ graph_by (length copies.now.counts.items) (copies_in copies.now.counts.items) lone units.now) }
 {
     let first = all_copies(copies);
     let mut edges = Vec::new(alloc);
@@ -57,7 +57,7 @@ fn push_units(
     requires at { AreAtNodes (length copies.now.counts.items) units.now }
     requires small { first + count unit_size units.now < 2 ^ 26 }
     ensures edges { OnOk result
-        (edges.new.items ≡ edges.old.items ++ units_links (room_of copies.now.counts.items) first units.now) }
+        (edges.new.items ≡ edges.old.items ++ units_links (copies_in copies.now.counts.items) first units.now) }
     ensures past { IfOk result (λ past. past ≡ first + count unit_size units.now) }
 {
     let mut b = first;

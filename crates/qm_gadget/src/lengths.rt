@@ -6,12 +6,12 @@ ghost use Rattle.std.specs.Bool.{beq};
 ghost use Rattle.def_math.specs.Counts.{count};
 ghost use Rattle.def_flow.specs.Network.{network, IsWithinBounds};
 ghost use Rattle.def_flow.specs.Admissible.{deviation, entries, IsAdmissible};
-ghost use Rattle.def_math.specs.Rising.{IsRising};
+ghost use Rattle.def_math.specs.Increasing.{IsIncreasing};
 ghost use Rattle.def_flow.specs.Gadget.{IsGadgetOf, IsInBox};
 ghost use Rattle.def_matching.specs.Matching.{graph, matching_cost, IsPerfect};
 ghost use Rattle.qm_units.specs.Marks.{trues};
 ghost use Rattle.qm_units.specs.Told.{marks_from, states_told};
-ghost use Rattle.qm_gadget.specs.Layout.{room_of, AreAtNodes};
+ghost use Rattle.qm_gadget.specs.Layout.{copies_in, AreAtNodes};
 ghost use Rattle.qm_gadget.specs.Over.{AreBoxes};
 ghost use Rattle.qm_gadget.specs.Ready.{IsReady};
 ghost use Rattle.qm_gadget.specs.Read.{first_below, skip_below, width_of_unit, lengths_by, lengths_read, widths_over};
@@ -57,35 +57,35 @@ fn lengths_over(
     requires ready { IsReady (network net.now) boxes.now.step boxes.now.lows.now boxes.now.caps.now }
     requires edges { (edges ≤ 2 ^ 26)
         × (widths_over (network net.now) boxes.now.step boxes.now.lows.now boxes.now.caps.now ≤ edges) }
-    requires rising { IsRising 0 edges m.now }
+    requires increasing { IsIncreasing 0 edges m.now }
     ensures { IfOk result (λ ys.
         ys.items ≡ lengths_read (network net.now) boxes.now.step boxes.now.lows.now boxes.now.caps.now edges m.now) }
 {
     let plan = plan_of(alloc, net, boxes)?;
-    let ons = states_in(alloc, &plan.rooms, &plan.units, m, edges)?;
-    raised(alloc, boxes, &ons)
+    let ons = states_in(alloc, &plan.counts, &plan.units, m, edges)?;
+    raise(alloc, boxes, &ons)
 }
 
 /// The states of the units that a matching among so many edges tells.
 fn states_in(
     alloc: Global,
-    rooms: &[u32],
+    counts: &[u32],
     units: &[ArcUnit],
     m: &[u32],
     edges: u32,
 ) -> Result<Vec<bool>, AllocError>
-    requires at { AreAtNodes (length rooms.now) units.now }
-    requires few { (edges ≤ 2 ^ 26) × ((v : ℕ) → slice_index rooms.now v ≤ 2 ^ 27) }
-    requires rising { IsRising 0 edges m.now }
-    requires wide { count (width_of_unit (room_of rooms.now)) units.now ≤ edges }
-    ensures { IfOk result (λ ons. ons.items ≡ states_told (room_of rooms.now) units.now (marks_from 0 edges m.now)) }
+    requires at { AreAtNodes (length counts.now) units.now }
+    requires few { (edges ≤ 2 ^ 26) × ((v : ℕ) → slice_index counts.now v ≤ 2 ^ 27) }
+    requires increasing { IsIncreasing 0 edges m.now }
+    requires wide { count (width_of_unit (copies_in counts.now)) units.now ≤ edges }
+    ensures { IfOk result (λ ons. ons.items ≡ states_told (copies_in counts.now) units.now (marks_from 0 edges m.now)) }
 {
     let mut ons = Vec::new(alloc);
     let mut k = 0;
     let mut at = 0;
     for unit in units {
-        push_on(&mut ons, is_on(rooms, unit, m, at, k))?;
-        k += width_of(rooms, unit);
+        push_on(&mut ons, is_on(counts, unit, m, at, k))?;
+        k += width_of(counts, unit);
         at = past_below(m, at, k);
     }
     Ok(ons)
@@ -99,13 +99,13 @@ fn push_on(ons: &mut Vec<bool>, on: bool) -> Result<(), AllocError>
 }
 
 /// Whether a unit is on, whose first edge is `k`, where the matching from place `at` on has no earlier edge.
-fn is_on(rooms: &[u32], unit: &ArcUnit, m: &[u32], at: usize, k: u32) -> bool
-    requires at { unit.now.left.node < length rooms.now }
-    requires few { (k ≤ 2 ^ 26) × ((v : ℕ) → slice_index rooms.now v ≤ 2 ^ 27) }
+fn is_on(counts: &[u32], unit: &ArcUnit, m: &[u32], at: usize, k: u32) -> bool
+    requires at { unit.now.left.node < length counts.now }
+    requires few { (k ≤ 2 ^ 26) × ((v : ℕ) → slice_index counts.now v ≤ 2 ^ 27) }
     ensures { result
-        ≡ (beq unit.now.left.plus (first_below (drop at m.now) (k + slice_index rooms.now unit.now.left.node))) }
+        ≡ (beq unit.now.left.plus (first_below (drop at m.now) (k + slice_index counts.now unit.now.left.node))) }
 {
-    let end = k + rooms[unit.left.node as usize];
+    let end = k + counts[unit.left.node as usize];
     let chosen = at < m.len() && m[at] < end;
     unit.left.plus == chosen
 }
@@ -124,7 +124,7 @@ fn past_below(m: &[u32], at: usize, end: u32) -> usize
 }
 
 /// The lengths where of each arc as many units are on as the states say.
-fn raised(alloc: Global, boxes: &Boxes, ons: &[bool]) -> Result<Vec<u64>, AllocError>
+fn raise(alloc: Global, boxes: &Boxes, ons: &[bool]) -> Result<Vec<u64>, AllocError>
     requires step { boxes.now.step ≤ MAX_STEP }
     requires boxes { AreBoxes (length boxes.now.lows.now) boxes.now.lows.now boxes.now.caps.now }
     ensures { IfOk result (λ ys. ys.items ≡ lengths_by boxes.now.step boxes.now.lows.now boxes.now.caps.now ons.now) }

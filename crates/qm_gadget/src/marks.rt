@@ -7,7 +7,7 @@ ghost use Rattle.def_flow.specs.Units.{active_at};
 ghost use Rattle.def_flow.specs.Units.{is_active as is_active_end};
 ghost use Rattle.qm_units.specs.Marks.{places, choice, end_marks, marks_by, units_marks};
 ghost use Rattle.qm_units.specs.Told.{width_by};
-ghost use Rattle.qm_gadget.specs.Layout.{room_of, IsAtNodes, AreAtNodes};
+ghost use Rattle.qm_gadget.specs.Layout.{copies_in, IsAtNodes, AreAtNodes};
 ghost use Rattle.qm_gadget.specs.Marked.{right_marks};
 
 use crate::edges::have_like_signs;
@@ -18,7 +18,7 @@ use std::alloc::{AllocError, Global};
 /// How many copies each node has, and how many of them are in use.
 #[derive(Clone, Copy)]
 struct Copied<'a> {
-    rooms: &'a [u32],
+    counts: &'a [u32],
     used: &'a [u32],
 }
 
@@ -58,12 +58,12 @@ fn push_end_marks(
     end: &End,
     on: bool,
 ) -> Result<(), AllocError>
-    requires at { end.now.node < length copied.now.rooms.now }
-    requires same { length copied.now.used.now ≡ length copied.now.rooms.now }
-    requires few { (k ≤ 2 ^ 28) × (slice_index copied.now.rooms.now end.now.node ≤ 2 ^ 28) }
+    requires at { end.now.node < length copied.now.counts.now }
+    requires same { length copied.now.used.now ≡ length copied.now.counts.now }
+    requires few { (k ≤ 2 ^ 28) × (slice_index copied.now.counts.now end.now.node ≤ 2 ^ 28) }
     ensures { OnOk result
         (m.new.items ≡ m.old.items ++ places k
-        (end_marks (room_of copied.now.rooms.now) (room_of copied.now.used.now) (is_active_end on end.now) end.now)) }
+        (end_marks (copies_in copied.now.counts.now) (copies_in copied.now.used.now) (is_active_end on end.now) end.now)) }
 {
     let node = end.node as usize;
     push_choice(
@@ -71,7 +71,7 @@ fn push_end_marks(
         k,
         is_active(end, on),
         copied.used[node],
-        copied.rooms[node],
+        copied.counts[node],
     )
 }
 
@@ -83,12 +83,12 @@ fn push_right_marks(
     switched: &Switched,
     right: &End,
 ) -> Result<(), AllocError>
-    requires at { right.now.node < length copied.now.rooms.now }
-    requires same { length copied.now.used.now ≡ length copied.now.rooms.now }
-    requires few { (k ≤ 2 ^ 28) × (slice_index copied.now.rooms.now right.now.node ≤ 2 ^ 28) }
+    requires at { right.now.node < length copied.now.counts.now }
+    requires same { length copied.now.used.now ≡ length copied.now.counts.now }
+    requires few { (k ≤ 2 ^ 28) × (slice_index copied.now.counts.now right.now.node ≤ 2 ^ 28) }
     ensures { OnOk result
         (m.new.items ≡ m.old.items ++ places k
-        (right_marks (room_of copied.now.rooms.now) (room_of copied.now.used.now)
+        (right_marks (copies_in copied.now.counts.now) (copies_in copied.now.used.now)
         switched.now.on switched.now.unit.now.left right.now)) }
 {
     push_end_marks(m, k, copied, right, switched.on)?;
@@ -96,7 +96,7 @@ fn push_right_marks(
     if have_like_signs(left, right) {
         push_mark(
             m,
-            k + copied.rooms[right.node as usize],
+            k + copied.counts[right.node as usize],
             !is_active(left, switched.on),
         )?;
     }
@@ -107,17 +107,17 @@ fn push_right_marks(
 fn push_unit_marks(
     m: &mut Vec<u32>,
     k: u32,
-    rooms: &[u32],
+    counts: &[u32],
     used: &mut [u32],
     switched: &Switched,
 ) -> Result<(), AllocError>
-    requires at { IsAtNodes (length rooms.now) switched.now.unit.now }
-    requires same { length used.old ≡ length rooms.now }
-    requires few { (k ≤ 2 ^ 27) × ((v : ℕ) → slice_index rooms.now v ≤ 2 ^ 27) }
+    requires at { IsAtNodes (length counts.now) switched.now.unit.now }
+    requires same { length used.old ≡ length counts.now }
+    requires few { (k ≤ 2 ^ 27) × ((v : ℕ) → slice_index counts.now v ≤ 2 ^ 27) }
     requires small { (v : ℕ) → slice_index used.old v ≤ 2 ^ 30 }
     ensures marks { OnOk result
         (m.new.items ≡ m.old.items ++ places k
-        (marks_by (room_of rooms.now) (room_of used.old)
+        (marks_by (copies_in counts.now) (copies_in used.old)
         switched.now.on switched.now.unit.now.left switched.now.unit.now.right)) }
     ensures used { OnOk result (IsRaised (λ v. active_at v switched.now.unit.now switched.now.on) used.old used.new) }
 {
@@ -126,14 +126,14 @@ fn push_unit_marks(
         m,
         k,
         &Copied {
-            rooms,
+            counts,
             used: &*used,
         },
         left,
         switched.on,
     )?;
     bump(used, left, switched.on);
-    let after = k + rooms[left.node as usize];
+    let after = k + counts[left.node as usize];
     match &switched.unit.right {
         None => push_mark(m, after, !is_active(left, switched.on)),
         Some(right) => {
@@ -141,7 +141,7 @@ fn push_unit_marks(
                 m,
                 after,
                 &Copied {
-                    rooms,
+                    counts,
                     used: &*used,
                 },
                 switched,
@@ -154,20 +154,20 @@ fn push_unit_marks(
 }
 
 /// How many edges a unit has.
-pub(crate) fn width_of(rooms: &[u32], unit: &ArcUnit) -> u32
-    requires at { IsAtNodes (length rooms.now) unit.now }
-    requires few { (v : ℕ) → slice_index rooms.now v ≤ 2 ^ 27 }
-    ensures { result ≡ width_by (room_of rooms.now) unit.now.left unit.now.right }
+pub(crate) fn width_of(counts: &[u32], unit: &ArcUnit) -> u32
+    requires at { IsAtNodes (length counts.now) unit.now }
+    requires few { (v : ℕ) → slice_index counts.now v ≤ 2 ^ 27 }
+    ensures { result ≡ width_by (copies_in counts.now) unit.now.left unit.now.right }
 {
-    let left = rooms[unit.left.node as usize];
+    let left = counts[unit.left.node as usize];
     match &unit.right {
         None => left + 1,
         Some(right) => {
-            let right_room = rooms[right.node as usize];
+            let right_count = counts[right.node as usize];
             if have_like_signs(&unit.left, right) {
-                left + (right_room + 1)
+                left + (right_count + 1)
             } else {
-                left + right_room
+                left + right_count
             }
         }
     }
@@ -177,44 +177,44 @@ pub(crate) fn width_of(rooms: &[u32], unit: &ArcUnit) -> u32
 pub(crate) fn push_units_marks(
     alloc: Global,
     m: &mut Vec<u32>,
-    rooms: &[u32],
+    counts: &[u32],
     units: &[ArcUnit],
     ons: &[bool],
 ) -> Result<u32, AllocError>
-    requires at { AreAtNodes (length rooms.now) units.now }
+    requires at { AreAtNodes (length counts.now) units.now }
     requires states { length units.now ≡ length ons.now }
-    requires few { (length units.now ≤ 2 ^ 25) × ((v : ℕ) → slice_index rooms.now v ≤ 2 ^ 27) }
-    requires short { length (units_marks (room_of rooms.now) (λ v. 0) units.now ons.now) ≤ 2 ^ 26 }
+    requires few { (length units.now ≤ 2 ^ 25) × ((v : ℕ) → slice_index counts.now v ≤ 2 ^ 27) }
+    requires short { length (units_marks (copies_in counts.now) (λ v. 0) units.now ons.now) ≤ 2 ^ 26 }
     ensures marks { OnOk result
-        (m.new.items ≡ m.old.items ++ places 0 (units_marks (room_of rooms.now) (λ v. 0) units.now ons.now)) }
-    ensures past { IfOk result (λ past. past ≡ length (units_marks (room_of rooms.now) (λ v. 0) units.now ons.now)) }
+        (m.new.items ≡ m.old.items ++ places 0 (units_marks (copies_in counts.now) (λ v. 0) units.now ons.now)) }
+    ensures past { IfOk result (λ past. past ≡ length (units_marks (copies_in counts.now) (λ v. 0) units.now ons.now)) }
 {
-    let mut used = vec![in alloc; 0u32; rooms.len()]?;
-    push_all_marks(m, rooms, &mut used, units, ons)
+    let mut used = vec![in alloc; 0u32; counts.len()]?;
+    push_all_marks(m, counts, &mut used, units, ons)
 }
 
 /// The same, where copies are in use before.
 fn push_all_marks(
     m: &mut Vec<u32>,
-    rooms: &[u32],
+    counts: &[u32],
     used: &mut [u32],
     units: &[ArcUnit],
     ons: &[bool],
 ) -> Result<u32, AllocError>
-    requires at { AreAtNodes (length rooms.now) units.now }
+    requires at { AreAtNodes (length counts.now) units.now }
     requires states { length units.now ≡ length ons.now }
-    requires few { (length units.now ≤ 2 ^ 25) × ((v : ℕ) → slice_index rooms.now v ≤ 2 ^ 27) }
-    requires start { used.old ≡ replicate (length rooms.now) 0 }
-    requires short { length (units_marks (room_of rooms.now) (room_of used.old) units.now ons.now) ≤ 2 ^ 26 }
+    requires few { (length units.now ≤ 2 ^ 25) × ((v : ℕ) → slice_index counts.now v ≤ 2 ^ 27) }
+    requires start { used.old ≡ replicate (length counts.now) 0 }
+    requires short { length (units_marks (copies_in counts.now) (copies_in used.old) units.now ons.now) ≤ 2 ^ 26 }
     ensures marks { OnOk result
-        (m.new.items ≡ m.old.items ++ places 0 (units_marks (room_of rooms.now) (room_of used.old) units.now ons.now)) }
+        (m.new.items ≡ m.old.items ++ places 0 (units_marks (copies_in counts.now) (copies_in used.old) units.now ons.now)) }
     ensures past { IfOk result (λ past.
-        past ≡ length (units_marks (room_of rooms.now) (room_of used.old) units.now ons.now)) }
+        past ≡ length (units_marks (copies_in counts.now) (copies_in used.old) units.now ons.now)) }
 {
     let mut k = 0;
     for (i, unit) in units.iter().enumerate() {
-        push_unit_marks(m, k, rooms, used, &Switched { unit, on: ons[i] })?;
-        k += width_of(rooms, unit);
+        push_unit_marks(m, k, counts, used, &Switched { unit, on: ons[i] })?;
+        k += width_of(counts, unit);
     }
     Ok(k)
 }

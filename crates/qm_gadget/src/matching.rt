@@ -6,7 +6,7 @@ ghost use Rattle.def_flow.specs.Admissible.{deviation, entries, IsAdmissible};
 ghost use Rattle.def_flow.specs.Gadget.{IsGadgetOf, IsInBox};
 ghost use Rattle.def_matching.specs.Matching.{graph, matching_cost, IsPerfect};
 ghost use Rattle.qm_units.specs.Marks.{places, states_marks};
-ghost use Rattle.qm_gadget.specs.Layout.{room_of, AreAtNodes};
+ghost use Rattle.qm_gadget.specs.Layout.{copies_in, AreAtNodes};
 ghost use Rattle.qm_units.specs.Box.{ups};
 ghost use Rattle.qm_gadget.specs.Ready.{IsReady, marks_over};
 
@@ -76,18 +76,18 @@ fn ups_of(alloc: Global, step: u64, lows: &[u64], x2: &[u64]) -> Result<Vec<u32>
 
 /// The edges that states of the units choose.
 fn marks_told(alloc: Global, plan: &Plan, ons: &[bool]) -> Result<Vec<u32>, AllocError>
-    requires at { AreAtNodes (length plan.now.rooms.items) plan.now.units.items }
+    requires at { AreAtNodes (length plan.now.counts.items) plan.now.units.items }
     requires states { length plan.now.units.items ≡ length ons.now }
-    requires few { (length plan.now.units.items ≤ 2 ^ 25) × ((v : ℕ) → slice_index plan.now.rooms.items v ≤ 2 ^ 27) }
-    requires short { length (states_marks (length plan.now.rooms.items) (room_of plan.now.rooms.items)
+    requires few { (length plan.now.units.items ≤ 2 ^ 25) × ((v : ℕ) → slice_index plan.now.counts.items v ≤ 2 ^ 27) }
+    requires short { length (states_marks (length plan.now.counts.items) (copies_in plan.now.counts.items)
         plan.now.lone plan.now.units.items ons.now) ≤ 2 ^ 26 }
     ensures { IfOk result (λ m.
         m.items ≡ places 0
-        (states_marks (length plan.now.rooms.items) (room_of plan.now.rooms.items)
+        (states_marks (length plan.now.counts.items) (copies_in plan.now.counts.items)
         plan.now.lone plan.now.units.items ons.now)) }
 {
     let mut m = Vec::new(alloc);
-    let past = push_units_marks(alloc, &mut m, &plan.rooms, &plan.units, ons)?;
+    let past = push_units_marks(alloc, &mut m, &plan.counts, &plan.units, ons)?;
     let states = rim_states_of(alloc, &plan.units, ons)?;
     push_rim_marks(&mut m, past, plan.lone, &states)?;
     Ok(m)

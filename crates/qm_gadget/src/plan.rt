@@ -15,7 +15,7 @@ use std::alloc::{AllocError, Global};
 #[derive(Drop)]
 pub struct Plan {
     pub units: Vec<ArcUnit>,
-    pub rooms: Vec<u32>,
+    pub counts: Vec<u32>,
     pub lone: bool,
 }
 
@@ -29,7 +29,7 @@ pub(crate) fn plan_of(alloc: Global, net: &Net, boxes: &Boxes) -> Result<Plan, A
     let units = units_of(alloc, net, boxes)?;
     let downs = downs_of(alloc, boxes.caps)?;
     let ons = states_of(alloc, boxes.caps, &downs)?;
-    let rooms = count_active(alloc, net.nodes, &units, &ons)?;
+    let counts = count_active(alloc, net.nodes, &units, &ons)?;
     let lone = is_rim_odd(&units, &ons);
-    Ok(Plan { units, rooms, lone })
+    Ok(Plan { units, counts, lone })
 }

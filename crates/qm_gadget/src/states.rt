@@ -7,7 +7,7 @@ ghost use Rattle.def_flow.specs.Units.{active_at, run, rim_active, alone_active}
 ghost use Rattle.def_flow.specs.Units.{is_active as is_active_end};
 ghost use Rattle.qm_gadget.specs.Layout.{AreAtNodes, IsAtNodes};
 ghost use Rattle.def_flow.specs.Units.{states_over};
-ghost use Rattle.qm_gadget.specs.Over.{end_active, AreRooms};
+ghost use Rattle.qm_gadget.specs.Over.{end_active, AreCounts};
 
 use def_flow::{ArcUnit, End};
 use std::alloc::{AllocError, Global};
@@ -66,46 +66,46 @@ pub(crate) fn count_active(
     requires states { length units.now ≡ length ons.now }
     requires few { length units.now ≤ 2 ^ 25 }
     requires at { AreAtNodes nodes units.now }
-    ensures { IfOk result (λ rooms. AreRooms nodes units.now ons.now rooms.items) }
+    ensures { IfOk result (λ counts. AreCounts nodes units.now ons.now counts.items) }
 {
-    let mut rooms = vec![in alloc; 0u32; nodes as usize]?;
-    bump_all(&mut rooms, units, ons);
-    Ok(rooms)
+    let mut counts = vec![in alloc; 0u32; nodes as usize]?;
+    bump_all(&mut counts, units, ons);
+    Ok(counts)
 }
 
 /// Adds to the number of each node its active unit ends.
-fn bump_all(rooms: &mut [u32], units: &[ArcUnit], ons: &[bool])
+fn bump_all(counts: &mut [u32], units: &[ArcUnit], ons: &[bool])
     requires states { length units.now ≡ length ons.now }
     requires few { length units.now ≤ 2 ^ 25 }
-    requires at { AreAtNodes (length rooms.old) units.now }
-    requires start { rooms.old ≡ replicate (length rooms.old) 0 }
-    ensures { AreRooms (length rooms.old) units.now ons.now rooms.new }
+    requires at { AreAtNodes (length counts.old) units.now }
+    requires start { counts.old ≡ replicate (length counts.old) 0 }
+    ensures { AreCounts (length counts.old) units.now ons.now counts.new }
 {
     for (k, unit) in units.iter().enumerate() {
-        bump_unit(rooms, unit, ons[k]);
+        bump_unit(counts, unit, ons[k]);
     }
 }
 
 /// Adds to the numbers of nodes the active ends of a unit.
-fn bump_unit(rooms: &mut [u32], unit: &ArcUnit, on: bool)
-    requires small { (v : ℕ) → slice_index rooms.old v ≤ 2 ^ 30 }
-    requires at { IsAtNodes (length rooms.old) unit.now }
-    ensures { IsRaised (λ v. active_at v unit.now on) rooms.old rooms.new }
+fn bump_unit(counts: &mut [u32], unit: &ArcUnit, on: bool)
+    requires small { (v : ℕ) → slice_index counts.old v ≤ 2 ^ 30 }
+    requires at { IsAtNodes (length counts.old) unit.now }
+    ensures { IsRaised (λ v. active_at v unit.now on) counts.old counts.new }
 {
-    bump(rooms, &unit.left, on);
+    bump(counts, &unit.left, on);
     if let Some(right) = &unit.right {
-        bump(rooms, right, on);
+        bump(counts, right, on);
     }
 }
 
 /// Adds one to the number of the node of an end, if it is active.
-pub(crate) fn bump(rooms: &mut [u32], end: &End, on: bool)
-    requires small { (v : ℕ) → slice_index rooms.old v ≤ 2 ^ 30 + 1 }
-    requires at { end.now.node < length rooms.old }
-    ensures { IsRaised (end_active end.now on) rooms.old rooms.new }
+pub(crate) fn bump(counts: &mut [u32], end: &End, on: bool)
+    requires small { (v : ℕ) → slice_index counts.old v ≤ 2 ^ 30 + 1 }
+    requires at { end.now.node < length counts.old }
+    ensures { IsRaised (end_active end.now on) counts.old counts.new }
 {
     if is_active(end, on) {
-        rooms[end.node as usize] += 1;
+        counts[end.node as usize] += 1;
     }
 }
 

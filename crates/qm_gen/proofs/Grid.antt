@@ -119,5 +119,5 @@ with_numbers pos faces names soup = record {
   in_range = soup.in_range;
   used = soup.used;
   named = length-numbers_to (length pos);
-  rising = numbers_rise (length pos);
+  increasing = numbers_rise (length pos);
 }

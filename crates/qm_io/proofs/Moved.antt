@@ -4,7 +4,7 @@ use Rattle.std.proofs.lemmas.List.{take_rest, drop-drop}
 use Rattle.std.proofs.Math.Seq.{take-add}
 use Rattle.def_io.specs.Moves.{gave, took}
 
--- A sink that took a front, and then a front of the rest, took a front.
+-- A sink that took a prefix, and then a prefix of the rest, took a prefix.
 pub took-split : (before : Option (List ℕ)) (k n : ℕ) (xs : List ℕ)
     → took (took before (take k xs)) (take n (drop k xs)) ≡ took before (take (k + n) xs)
 took-split None k n xs = refl
@@ -20,17 +20,17 @@ rest_more piece rest n fits is =
     omega (arith, ap length left, length-drop n rest, ap length is, length-drop (length piece - length rest) piece) in
     left ∙ ap (drop n) is ∙ drop-drop n (length piece - length rest) piece ∙ ap (λ (m : ℕ). drop m piece) place
 
--- A sink that took `n` bytes more of the rest took the front up to what is left.
-pub front_more : (before mid now : Option (List ℕ)) (piece rest : List ℕ) (n : ℕ) → n ≤ length rest
+-- A sink that took `n` bytes more of the rest took the prefix up to what is left.
+pub prefix_more : (before mid now : Option (List ℕ)) (piece rest : List ℕ) (n : ℕ) → n ≤ length rest
     → rest ≡ drop (length piece - length rest) piece → mid ≡ took before (take (length piece - length rest) piece)
     → now ≡ took mid (take n rest)
     → now ≡ took before (take (length piece - length (take (length rest - n) (drop n rest))) piece)
-front_more before mid now piece rest n fits is front more =
+prefix_more before mid now piece rest n fits is prefix more =
     let left : take (length rest - n) (drop n rest) ≡ drop n rest = take_rest rest n in
     let place : (length piece - length rest) + n ≡ length piece - length (take (length rest - n) (drop n rest)) =
     omega (arith, ap length left, length-drop n rest, ap length is, length-drop (length piece - length rest) piece) in
     more
-    ∙ ap (λ (o : Option (List ℕ)). took o (take n rest)) front
+    ∙ ap (λ (o : Option (List ℕ)). took o (take n rest)) prefix
     ∙ ap (λ (xs : List ℕ). took (took before (take (length piece - length rest) piece)) (take n xs)) is
     ∙ took-split before (length piece - length rest) n piece
     ∙ ap (λ (m : ℕ). took before (take m piece)) place

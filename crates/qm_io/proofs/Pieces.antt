@@ -51,10 +51,10 @@ begin-high s ps zero l = omega arith
 begin-high s [] (suc i) l = omega arith
 begin-high s (p ∷ ps) (suc i) l = omega (arith, begin-high (s + length p) ps i (omega arith))
 
-drop-front : (p xs : List ℕ) (n k : ℕ) → n ≡ length p + k → drop n (p ++ xs) ≡ drop k xs
-drop-front [] xs n k is = let same : n ≡ k = omega arith in ap (λ m. drop m xs) same
-drop-front (b ∷ p) xs zero k is = absurd (omega arith)
-drop-front (b ∷ p) xs (suc n) k is = drop-front p xs n k (omega arith)
+drop-prefix : (p xs : List ℕ) (n k : ℕ) → n ≡ length p + k → drop n (p ++ xs) ≡ drop k xs
+drop-prefix [] xs n k is = let same : n ≡ k = omega arith in ap (λ m. drop m xs) same
+drop-prefix (b ∷ p) xs zero k is = absurd (omega arith)
+drop-prefix (b ∷ p) xs (suc n) k is = drop-prefix p xs n k (omega arith)
 
 -- From the position where a piece begins on stand that piece and all later ones.
 pub drop-begin : (s k : ℕ) (ps : List (List ℕ)) (i : ℕ) → i ≤ length ps → s + k ≡ begin s ps i
@@ -65,7 +65,7 @@ drop-begin s k [] (suc i) l is = absurd (omega arith)
 drop-begin s k (p ∷ ps) (suc i) l is =
     let low : s + length p ≤ begin (s + length p) ps i = begin-high (s + length p) ps i (omega arith) in
     let split : k ≡ length p + (k - length p) = omega arith in
-    drop-front p (flat_map (λ p. p) ps) k (k - length p) split
+    drop-prefix p (flat_map (λ p. p) ps) k (k - length p) split
     ∙ drop-begin (s + length p) (k - length p) ps i (omega arith) (omega arith)
 
 -- A piece ends where the next begins.
@@ -81,10 +81,10 @@ drop-piece [] i l = absurd (omega arith)
 drop-piece (p ∷ ps) zero l = refl
 drop-piece (p ∷ ps) (suc i) l = drop-piece ps i (omega arith)
 
-take-front : (p xs : List ℕ) (n : ℕ) → n ≡ length p → take n (p ++ xs) ≡ p
-take-front [] xs n is = ap (λ m. take m xs) is
-take-front (b ∷ p) xs zero is = absurd (omega arith)
-take-front (b ∷ p) xs (suc n) is = ap (λ ys. b ∷ ys) (take-front p xs n (omega arith))
+take-prefix : (p xs : List ℕ) (n : ℕ) → n ≡ length p → take n (p ++ xs) ≡ p
+take-prefix [] xs n is = ap (λ m. take m xs) is
+take-prefix (b ∷ p) xs zero is = absurd (omega arith)
+take-prefix (b ∷ p) xs (suc n) is = ap (λ ys. b ∷ ys) (take-prefix p xs n (omega arith))
 
 -- The bytes from where a piece begins, as many as it has, are that piece.
 pub piece-cut : (bs : List ℕ) (i n : ℕ) → i < length (pieces bs) → n ≡ length (slice_index_or (pieces bs) i [])
@@ -94,7 +94,7 @@ piece-cut bs i n l is =
     ap (λ xs. drop (begin 0 (pieces bs) i) xs) (sym (flat-pieces bs))
     ∙ drop-begin 0 (begin 0 (pieces bs) i) (pieces bs) i (omega arith) (omega arith) in
     ap (λ xs. take n xs) (at ∙ ap (flat_map (λ p. p)) (drop-piece (pieces bs) i l))
-    ∙ take-front (slice_index_or (pieces bs) i []) (flat_map (λ p. p) (drop (suc i) (pieces bs))) n is
+    ∙ take-prefix (slice_index_or (pieces bs) i []) (flat_map (λ p. p) (drop (suc i) (pieces bs))) n is
 
 -- No piece ends behind the text.
 pub end-low : (s : ℕ) (ps : List (List ℕ)) (i : ℕ) → i ≤ length ps
@@ -161,7 +161,7 @@ tail-cut bs i l =
     ap (drop (begin 0 (pieces bs) i)) (sym (flat-pieces bs))
     ∙ drop-begin 0 (begin 0 (pieces bs) i) (pieces bs) i (omega arith) (omega arith)
 
--- Where no byte before `k` is a LF, the front up to `k` has none.
+-- Where no byte before `k` is a LF, the prefix up to `k` has none.
 pub none_in_front : (bs : List ℕ) (k : ℕ) → ((j : ℕ) → j < k → (slice_index bs j == 10) ≡ true → ⊥)
     → list_any (λ b. b == 10) (take k bs) ≡ false
 none_in_front bs zero none = refl

@@ -119,7 +119,7 @@ fn strip_last(piece: &[u8], byte: u8) -> &[u8]
     ensures { result.now ≡ without_last byte piece.now }
 {
     match piece {
-        [front @ .., last] if *last == byte => front,
+        [prefix @ .., last] if *last == byte => prefix,
         _ => piece,
     }
 }

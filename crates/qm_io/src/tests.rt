@@ -38,7 +38,7 @@ fn a_limit_is_what_may_be_read(rt: HostRuntime) -> Result<(), Fail> {
 }
 
 #[test]
-fn a_sink_takes_all_or_a_front(rt: HostRuntime) -> Result<(), Fail> {
+fn a_sink_takes_all_or_a_prefix(rt: HostRuntime) -> Result<(), Fail> {
     let mut sink = MemSink::new(rt.alloc(), 3, Vec::new(rt.alloc()));
     write_all(&mut sink, b"seven b")?;
     assert_eq!(rt; sink.taken(), b"seven b".as_slice());

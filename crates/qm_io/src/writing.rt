@@ -2,7 +2,7 @@
 
 ghost use Rattle.std.specs.Prelude.{◌≡◌, ◌≤◌, ◌<◌, length, take, drop, IfOk, OnOk, OnErr};
 ghost use Rattle.def_io.specs.Faults.{HasCause};
-ghost use Rattle.def_io.specs.Moves.{took, TookFront};
+ghost use Rattle.def_io.specs.Moves.{took, TookPrefix};
 
 use crate::traits::Sink;
 use def_io::WriteFail;
@@ -10,7 +10,7 @@ use def_io::WriteFail;
 /// Hands the whole piece to the sink. It takes no memory beyond the sink's own.
 pub fn write_all<K: Sink>(sink: &mut K, piece: &[u8]) -> Result<(), WriteFail>
     ensures whole { OnOk result (K.taken sink.new ≡ took (K.taken sink.old) piece.now) }
-    ensures front { OnErr result (TookFront (K.taken sink.old) (K.taken sink.new) piece.now) }
+    ensures prefix { OnErr result (TookPrefix (K.taken sink.old) (K.taken sink.new) piece.now) }
     ensures cause { HasCause (K.faults sink.old) (K.faults sink.new) result }
 {
     let mut rest = piece;

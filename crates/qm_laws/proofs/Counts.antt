@@ -62,9 +62,9 @@ count_below_lt f g (suc n) u l le lt = elim (cases_eq u n) [ inl e ↦ at_end e 
         omega (arith, rest u lower (λ k lk. le k (omega arith)) lt, le n (omega arith))
 
 -- The first term of a count below a bound.
-pub count_below_front : (f : ℕ → ℕ) (n : ℕ) → count_below f (suc n) ≡ f 0 + count_below (λ k. f (suc k)) n
-count_below_front f zero = omega arith
-count_below_front f (suc n) = omega (arith, count_below_front f n)
+pub count_below_prefix : (f : ℕ → ℕ) (n : ℕ) → count_below f (suc n) ≡ f 0 + count_below (λ k. f (suc k)) n
+count_below_prefix f zero = omega arith
+count_below_prefix f (suc n) = omega (arith, count_below_prefix f n)
 
 -- One term alone counts.
 pub count_below_one : (f : ℕ → ℕ) (n u : ℕ) → u < n → ((k : ℕ) → k < n → (k ≡ u → ⊥) → f k ≡ 0) → count_below f n ≡ f u

@@ -5,7 +5,7 @@ use Rattle.std.specs.Prelude.{nat_le, nat_lt, option_to_list}
 use Rattle.std.specs.List.{list_all}
 use Rattle.std.proofs.lemmas.Bool.{le-leb, lt-ltb}
 use Rattle.def_math.specs.Counts.{count, count_below}
-use Rattle.qm_laws.proofs.Counts.{count_below_front, count_below_le, count_below_ones, count_below_same, count_below_total}
+use Rattle.qm_laws.proofs.Counts.{count_below_prefix, count_below_le, count_below_ones, count_below_same, count_below_total}
 use Rattle.qm_laws.proofs.Sums.{total_below_same}
 use Rattle.def_flow.specs.Admissible.{IsEven}
 use Rattle.def_flow.specs.Network.{Network, arc_at, ends, is_bounded, tangle_number, IsWithinBounds}
@@ -31,7 +31,7 @@ use Rattle.qm_layoutnet.proofs.Tangles.{tangle_small, term_low}
 -- A count along a list is one over its places.
 count_at : (f : Arc → ℕ) (xs : List Arc) → count f xs ≡ count_below (λ k. f (arc_at xs k)) (length xs)
 count_at f [] = refl
-count_at f (x ∷ xs) = omega (arith, count_at f xs, count_below_front (λ k. f (arc_at (x ∷ xs) k)) (length xs))
+count_at f (x ∷ xs) = omega (arith, count_at f xs, count_below_prefix (λ k. f (arc_at (x ∷ xs) k)) (length xs))
 
 -- What each arc passes all pass.
 all_pass : (p : Arc → Bool) (xs : List Arc) → ((k : ℕ) → k < length xs → p (arc_at xs k) ≡ true) → list_all p xs ≡ true

@@ -4,7 +4,7 @@ use Rattle.std.specs.Int.RustNames.{unsigned_abs}
 use Rattle.std.proofs.lemmas.Int.{ints}
 use Rattle.std.proofs.lemmas.Bool.{cases_lt}
 use Rattle.std.proofs.lemmas.List.{get_or_past}
-use Rattle.def_math.specs.Rising.{IsRising}
+use Rattle.def_math.specs.Increasing.{IsIncreasing}
 use Rattle.def_matching.specs.Matching.{Graph, IsCheap, IsSmallGraph, edge_at}
 use Rattle.def_matching.specs.Dual.{DualLists, IsSmallDual, SaysYes, dual_sum, verdict}
 use Rattle.def_matching.specs.declared.limits.TheConstants.{MAX_PRODUCT}
@@ -19,11 +19,11 @@ use Rattle.qm_match.specs.States.{HasPerfect, IsIdle, IsReady}
 use Rattle.qm_match.specs.Weights.{HaveRoom}
 use Rattle.qm_match.specs.declared.search.Search.{Search}
 
--- The numbers of a rising list are below its bound.
-pub rising_low : (low bound : ℕ) (xs : List ℕ) → IsRising low bound xs → (k : ℕ) → k < length xs → get_or xs k 0 < bound
-rising_low low bound [] rising k l = absurd (omega (arith, l))
-rising_low low bound (x ∷ xs) rising zero l = rising.1
-rising_low low bound (x ∷ xs) rising (suc k) l = rising_low (x + 1) bound xs rising.2 k (omega (arith, l))
+-- The numbers of an increasing list are below its bound.
+pub increasing_low : (low bound : ℕ) (xs : List ℕ) → IsIncreasing low bound xs → (k : ℕ) → k < length xs → get_or xs k 0 < bound
+increasing_low low bound [] increasing k l = absurd (omega (arith, l))
+increasing_low low bound (x ∷ xs) increasing zero l = increasing.1
+increasing_low low bound (x ∷ xs) increasing (suc k) l = increasing_low (x + 1) bound xs increasing.2 k (omega (arith, l))
 
 times_low : (n x y : ℕ) → x ≤ y → n * x ≤ n * y
 times_low zero x y l = omega arith

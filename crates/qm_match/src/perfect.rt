@@ -2,7 +2,7 @@
 
 ghost use Rattle.std.specs.Prelude.{◌≡◌, ◌+◌, ◌<◌, ℕ, map, length, slice_index_or, true, false, IfOk};
 ghost use Rattle.def_math.specs.Counts.{count};
-ghost use Rattle.def_math.specs.Rising.{IsRising};
+ghost use Rattle.def_math.specs.Increasing.{IsIncreasing};
 ghost use Rattle.def_matching.specs.Matching.{graph, edge_at, ends_at, IsPerfect, IsSmallGraph};
 ghost use Rattle.def_forest.specs.Forests.{number};
 
@@ -10,7 +10,7 @@ use crate::Memory;
 use def_matching::WGraph;
 use std::alloc::Global;
 
-/// Whether a list of edge numbers is a perfect matching: rising, and each vertex at exactly one of the edges. Linear.
+/// Whether a list of edge numbers is a perfect matching: increasing, and each vertex at exactly one of the edges. Linear.
 pub fn is_perfect(alloc: Global, g: &WGraph, edges: &[u32]) -> Result<bool, Memory>
     requires { IsSmallGraph (graph g.now) }
     ensures { IfOk result (λ yes. yes ≡ true → IsPerfect (graph g.now) edges.now) }
@@ -24,7 +24,7 @@ fn meet(g: &WGraph, edges: &[u32], seen: &mut Vec<bool>) -> bool
     requires graph { IsSmallGraph (graph g.now) }
     requires size { length seen.old.items ≡ g.now.n }
     requires none { (v : ℕ) → slice_index_or seen.old.items v false ≡ false }
-    ensures rising { result ≡ true → IsRising 0 (length g.now.edges.items) edges.now }
+    ensures increasing { result ≡ true → IsIncreasing 0 (length g.now.edges.items) edges.now }
     ensures size { length seen.new.items ≡ g.now.n }
     ensures counts { result ≡ true → (v : ℕ) → v < g.now.n
         → count (ends_at v) (map (edge_at (graph g.now)) edges.now) ≡ number (slice_index_or seen.new.items v false) }

@@ -30,7 +30,7 @@ impl Search {
         ensures first { self.new.first ≡ self.old.first }
     {
         let d = self.forest.outer_dart(g, e);
-        let inner = self.forest.reached(g, d);
+        let inner = self.forest.far_blossom(g, d);
         let outer = self.partner(g, inner);
         self.forest.grow(g, e);
         self.refresh(g, inner);
@@ -47,7 +47,7 @@ impl Search {
         ensures low { result < length self.now.forest.up }
     {
         match self.forest.mate(b) {
-            Some(m) => self.forest.reached(g, m),
+            Some(m) => self.forest.far_blossom(g, m),
             None => b,
         }
     }

@@ -24,7 +24,11 @@ fn are_edges(n: u32, edges: &[WEdge]) -> bool
 }
 
 /// What a least perfect matching of the graph of a text costs, and how many sets its dual has. It is found so often.
-pub(crate) fn matched(alloc: Global, text: &str, times: u32) -> Result<Option<String>, AllocError> {
+pub(crate) fn match_text(
+    alloc: Global,
+    text: &str,
+    times: u32,
+) -> Result<Option<String>, AllocError> {
     let Some(task) = read_task(alloc, text)? else {
         return Ok(None);
     };
@@ -55,7 +59,7 @@ fn cost_of(g: &WGraph, edges: &[u32]) -> i64 {
 
 /// The matching graph of the network of a text, with steps of 1 from a multiple of the old lengths, and the matching
 /// of these lengths.
-pub(crate) fn written(alloc: Global, text: &str) -> Result<Option<String>, AllocError> {
+pub(crate) fn write_graph(alloc: Global, text: &str) -> Result<Option<String>, AllocError> {
     let net = match read_net(alloc, text) {
         Ok(net) => net,
         Err(NetFail::NoNetwork) => return Ok(None),

@@ -5,7 +5,7 @@
 mod graphs;
 mod task;
 
-use crate::graphs::{matched, written};
+use crate::graphs::{match_text, write_graph};
 use std::env::{self, Env};
 use std::io;
 use std::process::ExitCode;
@@ -16,9 +16,9 @@ use std::process::ExitCode;
 fn main(rt: HostRuntime) -> io::Result<ExitCode> {
     let text = io::read_to_string(rt.alloc(), rt.reader())?;
     let told = match env::args(&rt)?.nth(1) {
-        Some(word) if word.as_str() == "graph" => written(rt.alloc(), text.as_str())?,
-        Some(word) => matched(rt.alloc(), text.as_str(), word.parse::<u32>().unwrap_or(1))?,
-        None => matched(rt.alloc(), text.as_str(), 1)?,
+        Some(word) if word.as_str() == "graph" => write_graph(rt.alloc(), text.as_str())?,
+        Some(word) => match_text(rt.alloc(), text.as_str(), word.parse::<u32>().unwrap_or(1))?,
+        None => match_text(rt.alloc(), text.as_str(), 1)?,
     };
     match told {
         Some(told) => {

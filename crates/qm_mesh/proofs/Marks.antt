@@ -50,7 +50,7 @@ put_marks faces v fan h i old l low marks new t k = by_place t k (last_or i t k)
         record { runs = (ap (from_of faces) g ∙ h.leaves i l, ap (to_of faces) g); least = omega (arith, g) })
     by_place t k (inl b) = elim (cases_eq (to_of faces (get_or fan t 0)) (to_of faces (get_or fan i 0))) [
       | inl s ↦ absurd (new
-          (omega (arith, ap (λ x. get_or old x 0) s, (marks t b).least, h.rising t i b l))
+          (omega (arith, ap (λ x. get_or old x 0) s, (marks t b).least, h.increasing t i b l))
           (subst (λ (x : ℕ). Runs faces (get_or old x 0) v x) s (marks t b).runs))
       | inr ne ↦ let g : get_or (set old (to_of faces (get_or fan i 0)) (get_or fan i 0)) (to_of faces (get_or fan t 0)) 0 ≡ get_or old (to_of faces (get_or fan t 0)) 0 = get_or-set_other old _ _ _ 0 ne in
           record { runs = subst (λ (x : ℕ). Runs faces x v (to_of faces (get_or fan t 0))) (sym g) (marks t b).runs; least = omega (arith, g, (marks t b).least) }

@@ -1,4 +1,4 @@
-//! The darts that leave each vertex, in rising order.
+//! The darts that leave each vertex, in increasing order.
 
 ghost use Rattle.std.specs.Prelude.{◌≡◌, ◌≤◌, ◌<◌, [], ◌∷◌, ◌++◌, length, OnOk, IfOk, replicate, slice_set};
 ghost use Rattle.qm_mesh.specs.Tables.{fan_lists, fan_at, AreFans, NamesBelow};

@@ -134,7 +134,7 @@ impl Mesh {
         all_paired(&self.twins, self.fan(v))
     }
 
-    /// The darts that leave v, in rising order.
+    /// The darts that leave v, in increasing order.
     pub fn fan(&self, v: u32) -> &[u32]
         requires { v < vertex_count self.now }
         ensures { result.now ≡ fan_of self.now v }

@@ -8,7 +8,7 @@ use Rattle.std.proofs.lemmas.Bool.Decides.{nat_tests}
 use Rattle.def_text.specs.Corner.{are_indices, index_of, is_corner, is_optional, is_slash, used_index}
 use Rattle.def_text.specs.Digits.{is_negative, is_number, is_sign, is_signed, number, unsigned}
 use Rattle.def_text.specs.declared.index.Index.TheVariants.{Vertex, Out}
-use Rattle.qm_obj.specs.Indices.{capped, corner_of, named, parts_behind}
+use Rattle.qm_obj.specs.Indices.{clamped, corner_of, named, parts_behind}
 
 -- A word is cut at its first slash.
 pub split_word : (word : List ℕ) → slice_split is_slash word ≡ before_first is_slash word ∷ parts_behind (drop (position_or_len is_slash word) word)
@@ -91,7 +91,7 @@ pub corner_parts : (word : List ℕ) → is_corner word
     ≡ (is_signed (before_first is_slash word) && (leb (length (parts_behind (drop (position_or_len is_slash word) word))) 2 && list_all is_optional (parts_behind (drop (position_or_len is_slash word) word))))
 corner_parts word = ap are_indices (split_word word)
 
--- The line that an index names, by its capped number.
+-- The line that an index names, by its clamped number.
 pub named_count : (before : ℕ) (word : List ℕ) → before < 2 ^ 32
     → cond (eqb (min (number (unsigned word)) (2 ^ 64 - 1)) 0 || (is_negative word && ltb before (min (number (unsigned word)) (2 ^ 64 - 1)))) 0
     (cond (is_negative word) (before + 1 - min (number (unsigned word)) (2 ^ 64 - 1)) (min (number (unsigned word)) (2 ^ 64 - 1))) ≡ named before word
@@ -137,10 +137,10 @@ whole_word ds none = take_all _ _ (long ds none)
         by_slash false none again = omega (arith, again none)
 
 -- A number alone is a corner.
-pub plain_corner : (before : ℕ) (word : List ℕ) (k corner : ℕ) → cond (is_number word) (Some (min (number word) (2 ^ 64 - 1))) None ≡ Some k → corner ≡ capped k
+pub plain_corner : (before : ℕ) (word : List ℕ) (k corner : ℕ) → cond (is_number word) (Some (min (number word) (2 ^ 64 - 1))) None ≡ Some k → corner ≡ clamped k
     → Some corner ≡ cond (is_corner word) (Some (corner_of before word)) None
-plain_corner before [] k corner is caps = cc is
-plain_corner before (b ∷ bs) k corner is caps = by_form (is_number (b ∷ bs)) refl is
+plain_corner before [] k corner is clamps = cc is
+plain_corner before (b ∷ bs) k corner is clamps = by_form (is_number (b ∷ bs)) refl is
   where
     by_form : (t : Bool) → is_number (b ∷ bs) ≡ t → cond t (Some (min (number (b ∷ bs)) (2 ^ 64 - 1))) None ≡ Some k → Some corner ≡ cond (is_corner (b ∷ bs)) (Some (corner_of before (b ∷ bs))) None
     by_form false form is = cc is
@@ -152,7 +152,7 @@ plain_corner before (b ∷ bs) k corner is caps = by_form (is_number (b ∷ bs))
         let signed : is_signed (b ∷ bs) ≡ true = ap is_number index.0 ∙ form in
         let shape : is_corner (b ∷ bs) ≡ true = ap are_indices (behind_none (b ∷ bs) none) ∙ rw signed refl in
         let line : named before (b ∷ bs) ≡ k = named_digits (number (unsigned (b ∷ bs))) (is_negative (b ∷ bs)) index.1 ∙ ap (λ n. min n (2 ^ 64 - 1)) (ap number index.0) ∙ value in
-        rw shape (ap Some (caps ∙ ap capped (sym (ap (named before) used ∙ line))))
+        rw shape (ap Some (clamps ∙ ap clamped (sym (ap (named before) used ∙ line))))
       where
         named_digits : (n : ℕ) (t : Bool) → t ≡ false → cond (eqb n 0 || (t && ltb before n)) 0 (min (cond t (before + 1 - n) n) (2 ^ 64 - 1)) ≡ min n (2 ^ 64 - 1)
         named_digits n t off = grind (arith, nat_tests)

@@ -20,7 +20,7 @@ use Rattle.def_text.specs.declared.refusal.ObjFail.TheVariants.{Limit}
 use Rattle.def_text.specs.declared.refusal.Which.TheVariants.{Line}
 use Rattle.qm_obj.specs.Feeding.{IsSound, RefusesLine, RefusesPiece, TookLine, TookPiece, number_by}
 use Rattle.qm_obj.specs.Lines.{Took, next_said, uncommented}
-use Rattle.qm_obj.proofs.FrontLemmas.{BeginsWith, bare_more, begins_behind, behind_held, behind_nothing}
+use Rattle.qm_obj.proofs.PrefixLemmas.{BeginsWith, bare_more, begins_behind, behind_held, behind_nothing}
 use Rattle.qm_obj.proofs.JoinLemmas.{length-with_space}
 use Rattle.qm_obj.proofs.KeptLemmas.{Fits, Follows, line_taken, stops_at}
 use Rattle.qm_obj.proofs.TailLemmas.{FirstLine, count_append, count_none, first_line, lines_fed, lines_open}
@@ -145,28 +145,28 @@ last_refused old fail sound some stops =
     ∙ stops_at old.positions old.faces old.lines (record { number = old.begun; size = length old.joined; text = uncommented old.joined }) [] fail sound.sizes stops
 
 -- The lines of a text behind what is kept of it, where the line ends in this piece.
-fed_lines : (tail front more : Bytes) → list_any is_line_feed tail ≡ false → list_any is_line_feed front ≡ false
-    → lines_of (tail ++ ((front ++ 10 ∷ []) ++ more)) ≡ line_of (tail ++ front) ∷ lines_of more
-fed_lines tail front more none off =
-    ap lines_of (ap (λ (xs : Bytes). tail ++ xs) (append_assoc front (10 ∷ []) more) ∙ sym (append_assoc tail front (10 ∷ more)))
-    ∙ lines_fed (tail ++ front) more (list_any-append is_line_feed tail front ∙ or_from _ _ none off)
+fed_lines : (tail prefix more : Bytes) → list_any is_line_feed tail ≡ false → list_any is_line_feed prefix ≡ false
+    → lines_of (tail ++ ((prefix ++ 10 ∷ []) ++ more)) ≡ line_of (tail ++ prefix) ∷ lines_of more
+fed_lines tail prefix more none off =
+    ap lines_of (ap (λ (xs : Bytes). tail ++ xs) (append_assoc prefix (10 ∷ []) more) ∙ sym (append_assoc tail prefix (10 ∷ more)))
+    ∙ lines_fed (tail ++ prefix) more (list_any-append is_line_feed tail prefix ∙ or_from _ _ none off)
 
 -- A piece that ends a physical line.
-pub fed_piece : (old new : Kept) (front line : Bytes) → IsSound old → list_any is_line_feed front ≡ false → line ≡ line_of (old.tail ++ front) → new.tail ≡ []
-    → TookLine (record old { tail = [] }) (record new { tail = [] }) line → TookPiece old new (front ++ 10 ∷ [])
-fed_piece old new front line sound off is none took = record {
+pub fed_piece : (old new : Kept) (prefix line : Bytes) → IsSound old → list_any is_line_feed prefix ≡ false → line ≡ line_of (old.tail ++ prefix) → new.tail ≡ []
+    → TookLine (record old { tail = [] }) (record new { tail = [] }) line → TookPiece old new (prefix ++ 10 ∷ [])
+fed_piece old new prefix line sound off is none took = record {
   same = λ more.
-      ap (soup_with_lines old) (fed_lines old.tail front more sound.unended off ∙ ap (λ (l : Bytes). l ∷ lines_of more) (sym is))
+      ap (soup_with_lines old) (fed_lines old.tail prefix more sound.unended off ∙ ap (λ (l : Bytes). l ∷ lines_of more) (sym is))
       ∙ took.same (lines_of more)
       ∙ ap (λ (xs : Bytes). soup_with_lines new (lines_of (xs ++ more))) (sym none);
   sound = sound_by new (fits (record new { tail = [] }) took.sound) took.sound.bare (omega (arith, took.sound.held)) none;
-  counted = omega (arith, took.next, count_append front (10 ∷ []), count_none front off);
+  counted = omega (arith, took.next, count_append prefix (10 ∷ []), count_none prefix off);
 }
 
-pub fed_refused : (old : Kept) (front line : Bytes) (fail : ObjFail) → IsSound old → list_any is_line_feed front ≡ false → line ≡ line_of (old.tail ++ front)
-    → RefusesLine (record old { tail = [] }) line fail → RefusesPiece old (front ++ 10 ∷ []) fail
-fed_refused old front line fail sound off is stops = λ more.
-    ap (soup_with_lines old) (fed_lines old.tail front more sound.unended off ∙ ap (λ (l : Bytes). l ∷ lines_of more) (sym is))
+pub fed_refused : (old : Kept) (prefix line : Bytes) (fail : ObjFail) → IsSound old → list_any is_line_feed prefix ≡ false → line ≡ line_of (old.tail ++ prefix)
+    → RefusesLine (record old { tail = [] }) line fail → RefusesPiece old (prefix ++ 10 ∷ []) fail
+fed_refused old prefix line fail sound off is stops = λ more.
+    ap (soup_with_lines old) (fed_lines old.tail prefix more sound.unended off ∙ ap (λ (l : Bytes). l ∷ lines_of more) (sym is))
     ∙ stops (lines_of more)
 
 -- A piece that ends no physical line.
@@ -217,7 +217,7 @@ ended_tail old line sound some is =
     ap (λ (xs : Bytes). soup_with_lines old (lines_of xs)) (append-nil old.tail)
     ∙ ap (soup_with_lines old) (lines_open old.tail sound.unended some ∙ ap (λ (l : Bytes). l ∷ []) (sym is))
 
--- The texts for which a feed stands, with one piece more: where it is taken, refused, or passed over.
+-- The texts for which a feed stands, with one piece more: where it is taken, refused, or ignored.
 pub stands_more : (old new : Kept) (refused : Option ObjFail) (piece text : Bytes) → false ≡ is_some refused → TookPiece old new piece
     → StandsFor (record { kept = old; refused = refused }) text → StandsFor (record { kept = new; refused = refused }) (text ++ piece)
 stands_more old new None piece text none took stands = record {

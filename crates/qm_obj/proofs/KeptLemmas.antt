@@ -19,10 +19,10 @@ use Rattle.def_text.specs.declared.reading.Reading.{Reading}
 use Rattle.def_text.specs.declared.reading.Reading.TheVariants.{Passed, Position, Face, Refused}
 use Rattle.def_text.specs.declared.refusal.ObjFail.{ObjFail}
 use Rattle.def_text.specs.declared.refusal.ObjFail.TheVariants.{Memory, Range}
-use Rattle.qm_obj.specs.Indices.{capped, with_capped}
+use Rattle.qm_obj.specs.Indices.{clamped, with_clamped}
 use Rattle.qm_obj.specs.Kept.{IsLate, first_late}
 use Rattle.qm_obj.specs.Lines.{Took, line_in, next_said}
-use Rattle.qm_obj.proofs.ReadLemmas.{any_capped, face_capped, late_none, late_some, line_capped, parts_none, position_capped, positive_capped, refusal_capped, refused_capped, uncapped_face}
+use Rattle.qm_obj.proofs.ReadLemmas.{any_clamped, face_clamped, late_none, late_some, line_clamped, parts_none, position_clamped, positive_clamped, refusal_clamped, refused_clamped, unclamped_face}
 use Rattle.qm_obj.proofs.SoupLemmas.{few_pos, same_faces}
 use Rattle.qm_obj.proofs.SuitLemmas.{Suits, reading_suits}
 
@@ -113,24 +113,24 @@ some_refusal : (fails : List ObjFail) (fail : ObjFail) (more : List ObjFail) (s 
 some_refusal [] fail more s t = refl
 some_refusal (x ∷ xs) fail more s t = refl
 
--- A face more among those that are kept, with capped corners.
+-- A face more among those that are kept, with clamped corners.
 face_more : (p : Positions) (c : Faces) (l : List ℕ) (n : ℕ) (corners : List ℕ) (said : List Reading) → length l ≡ length c → (flat_map refusal_in said ≡ [] → length (p ++ positions said) ≤ 2 ^ 21)
-    → kept_soup p c l (Face n corners ∷ said) ≡ kept_soup p (c ++ map capped corners ∷ []) (l ++ n ∷ []) said
+    → kept_soup p c l (Face n corners ∷ said) ≡ kept_soup p (c ++ map clamped corners ∷ []) (l ++ n ∷ []) said
 face_more p c l n corners said sizes few = by_refusals (flat_map refusal_in said) refl
   where
     by_late : (late : Bool) → list_any (λ corner. ltb (length (p ++ positions said)) corner) corners ≡ late → flat_map refusal_in said ≡ [] → length (p ++ positions said) ≤ 2 ^ 21
         → first_refusal (flat_map (late_in (length (p ++ positions said))) (face_readings l c) ++ (late_in (length (p ++ positions said)) (Face n corners) ++ flat_map (late_in (length (p ++ positions said))) said)) (face_set (p ++ positions said) (c ++ corners ∷ faces said))
-        ≡ first_refusal ((flat_map (late_in (length (p ++ positions said))) (face_readings l c) ++ (late_in (length (p ++ positions said)) (Face n (map capped corners)) ++ [])) ++ flat_map (late_in (length (p ++ positions said))) said) (face_set (p ++ positions said) ((c ++ map capped corners ∷ []) ++ faces said))
+        ≡ first_refusal ((flat_map (late_in (length (p ++ positions said))) (face_readings l c) ++ (late_in (length (p ++ positions said)) (Face n (map clamped corners)) ++ [])) ++ flat_map (late_in (length (p ++ positions said))) said) (face_set (p ++ positions said) ((c ++ map clamped corners ∷ []) ++ faces said))
     by_late true late none short =
-        let again : list_any (λ corner. ltb (length (p ++ positions said)) corner) (map capped corners) ≡ true = any_capped (length (p ++ positions said)) short corners ∙ late in
+        let again : list_any (λ corner. ltb (length (p ++ positions said)) corner) (map clamped corners) ≡ true = any_clamped (length (p ++ positions said)) short corners ∙ late in
         let kept = flat_map (late_in (length (p ++ positions said))) (face_readings l c) in
         let behind = flat_map (late_in (length (p ++ positions said))) said in
         rw (late, again) (
-        some_refusal kept (Range n) behind (face_set (p ++ positions said) (c ++ corners ∷ faces said)) (face_set (p ++ positions said) ((c ++ map capped corners ∷ []) ++ faces said))
-        ∙ ap (λ (fails : List ObjFail). first_refusal fails (face_set (p ++ positions said) ((c ++ map capped corners ∷ []) ++ faces said))) (sym (append_assoc kept (Range n ∷ []) behind))
+        some_refusal kept (Range n) behind (face_set (p ++ positions said) (c ++ corners ∷ faces said)) (face_set (p ++ positions said) ((c ++ map clamped corners ∷ []) ++ faces said))
+        ∙ ap (λ (fails : List ObjFail). first_refusal fails (face_set (p ++ positions said) ((c ++ map clamped corners ∷ []) ++ faces said))) (sym (append_assoc kept (Range n ∷ []) behind))
         )
     by_late false late none short =
-        let same : map capped corners ≡ corners = uncapped_face (length (p ++ positions said)) short corners late in
+        let same : map clamped corners ≡ corners = unclamped_face (length (p ++ positions said)) short corners late in
         let kept = flat_map (late_in (length (p ++ positions said))) (face_readings l c) in
         let behind = flat_map (late_in (length (p ++ positions said))) said in
         rw (same, late) (
@@ -138,15 +138,15 @@ face_more p c l n corners said sizes few = by_refusals (flat_map refusal_in said
         ∙ ap (λ (fs : Faces). first_refusal ((kept ++ []) ++ behind) (face_set (p ++ positions said) fs)) (sym (append_assoc c (corners ∷ []) (faces said)))
         )
 
-    late_pushed : (k : ℕ) → flat_map (late_in k) (face_readings (l ++ n ∷ []) (c ++ map capped corners ∷ [])) ≡ flat_map (late_in k) (face_readings l c) ++ (late_in k (Face n (map capped corners)) ++ [])
-    late_pushed k = ap (flat_map (late_in k)) (faces_pushed l c n (map capped corners) sizes) ∙ flat_map-append (late_in k) (face_readings l c) (Face n (map capped corners) ∷ [])
+    late_pushed : (k : ℕ) → flat_map (late_in k) (face_readings (l ++ n ∷ []) (c ++ map clamped corners ∷ [])) ≡ flat_map (late_in k) (face_readings l c) ++ (late_in k (Face n (map clamped corners)) ++ [])
+    late_pushed k = ap (flat_map (late_in k)) (faces_pushed l c n (map clamped corners) sizes) ∙ flat_map-append (late_in k) (face_readings l c) (Face n (map clamped corners) ∷ [])
 
-    by_refusals : (fails : List ObjFail) → flat_map refusal_in said ≡ fails → kept_soup p c l (Face n corners ∷ said) ≡ kept_soup p (c ++ map capped corners ∷ []) (l ++ n ∷ []) said
+    by_refusals : (fails : List ObjFail) → flat_map refusal_in said ≡ fails → kept_soup p c l (Face n corners ∷ said) ≡ kept_soup p (c ++ map clamped corners ∷ []) (l ++ n ∷ []) said
     by_refusals [] is = rw (is, late_pushed (length (p ++ positions said))) (by_late (list_any (λ corner. ltb (length (p ++ positions said)) corner) corners) refl is (few is))
     by_refusals (fail ∷ fails) is = rw is refl
 
 -- A line more, that is not refused.
-more_said : (p p' : Positions) (c c' : Faces) (l l' : List ℕ) (one : Reading) (said : List Reading) → length l ≡ length c → Took p p' c c' l l' (with_capped one)
+more_said : (p p' : Positions) (c c' : Faces) (l l' : List ℕ) (one : Reading) (said : List Reading) → length l ≡ length c → Took p p' c c' l l' (with_clamped one)
     → (flat_map refusal_in said ≡ [] → length p' + length (positions said) ≤ 2 ^ 21) → kept_soup p c l (one ∷ said) ≡ kept_soup p' c' l' said
 more_said p p' c c' l l' Passed said sizes took few =
     let ps : p' ≡ p = took.position ∙ append-nil p in
@@ -185,11 +185,11 @@ grown : (p p' : Positions) (c c' : Faces) (l l' : List ℕ) (line : Logical) →
 grown p p' c c' l l' line old took =
     let said = reading (length p) (length c) line in
     let suits : Suits (length p) (length c) line said = reading_suits (length p) (length c) line in
-    let calm : refusal_in said ≡ [] = sym (refusal_capped said) ∙ took.accepted in
-    let ps : length p' ≡ length p + length (position_in said) = ap length (took.position ∙ ap (λ xs. p ++ xs) (position_capped said)) ∙ length-append p (position_in said) in
-    let capped_faces : face_in (with_capped said) ≡ map (λ face. map capped face) (face_in said) = face_capped said in
-    let cs : length c' ≡ length c + length (face_in said) = ap length (took.face ∙ ap (λ xs. c ++ xs) capped_faces) ∙ length-append c (map (λ face. map capped face) (face_in said)) ∙ ap (λ n. length c + n) (length-map (face_in said) (λ face. map capped face)) in
-    let ls : length l' ≡ length l + length (line_in said) = ap length (took.line ∙ ap (λ xs. l ++ xs) (line_capped said)) ∙ length-append l (line_in said) in
+    let calm : refusal_in said ≡ [] = sym (refusal_clamped said) ∙ took.accepted in
+    let ps : length p' ≡ length p + length (position_in said) = ap length (took.position ∙ ap (λ xs. p ++ xs) (position_clamped said)) ∙ length-append p (position_in said) in
+    let clamped_faces : face_in (with_clamped said) ≡ map (λ face. map clamped face) (face_in said) = face_clamped said in
+    let cs : length c' ≡ length c + length (face_in said) = ap length (took.face ∙ ap (λ xs. c ++ xs) clamped_faces) ∙ length-append c (map (λ face. map clamped face) (face_in said)) ∙ ap (λ n. length c + n) (length-map (face_in said) (λ face. map clamped face)) in
+    let ls : length l' ≡ length l + length (line_in said) = ap length (took.line ∙ ap (λ xs. l ++ xs) (line_clamped said)) ∙ length-append l (line_in said) in
     let v : length (position_in said) ≡ cond (is_vertex_line line) 1 0 = suits.vertex calm in
     let f : length (face_in said) ≡ cond (is_face_line line) 1 0 = suits.face calm in
     let fewer : length p + length (position_in said) ≤ 2 ^ 21 = suits.few_vertices old.few_vertices in
@@ -201,9 +201,9 @@ grown p p' c c' l l' line old took =
         few_vertices = omega (arith, ps, fewer);
         few_faces = omega (arith, cs, fewer_faces);
         sizes = omega (arith, ls, cs, line_face said, old.sizes);
-        positive = subst (λ (fs : Faces). list_all (list_all (λ corner. ltb 0 corner)) fs ≡ true) (sym (took.face ∙ ap (λ xs. c ++ xs) capped_faces)) (
-            list_all-append (list_all (λ corner. ltb 0 corner)) c (map (λ face. map capped face) (face_in said))
-            ∙ and_from _ _ old.positive (positive_capped (face_in said) suits.positive)
+        positive = subst (λ (fs : Faces). list_all (list_all (λ corner. ltb 0 corner)) fs ≡ true) (sym (took.face ∙ ap (λ xs. c ++ xs) clamped_faces)) (
+            list_all-append (list_all (λ corner. ltb 0 corner)) c (map (λ face. map clamped face) (face_in said))
+            ∙ and_from _ _ old.positive (positive_clamped (face_in said) suits.positive)
             );
       };
     }
@@ -235,7 +235,7 @@ pub stops_at : (p : Positions) (c : Faces) (l : List ℕ) (line : Logical) (rest
     → soup_of ((map (λ position. Position position) p ++ face_readings l c) ++ readings_behind (length p) (length c) (line ∷ rest)) ≡ Err fail
 stops_at p c l line rest fail sizes is =
     let said = reading (length p) (length c) line in
-    kept_soup_is p c l (readings_behind (length p) (length c) (line ∷ rest)) sizes ∙ by_said said (refused_capped said fail is)
+    kept_soup_is p c l (readings_behind (length p) (length c) (line ∷ rest)) sizes ∙ by_said said (refused_clamped said fail is)
   where
     by_said : (one : Reading) → one ≡ Refused fail → kept_soup p c l (one ∷ readings_behind (length p + cond (is_vertex_line line) 1 0) (length c + cond (is_face_line line) 1 0) rest) ≡ Err fail
     by_said one stop = rw stop refl

@@ -334,14 +334,14 @@ text_back s is =
     let cut : lines_of (canonical_text s) ≡ lines = ap lines_of (text_lines s) ∙ lines_split lines each in
     let logical : logical_lines 1 lines ≡ plain_lines 1 (map position_line s.pos) ++ plain_lines (1 + length (map position_line s.pos)) (map face_line s.faces) =
     logical_plain 1 lines each ∙ plain_append 1 (map position_line s.pos) (map face_line s.faces) in
-    let front : (readings [] (plain_lines 1 (map position_line s.pos)) ≡ map Position s.pos)
+    let prefix : (readings [] (plain_lines 1 (map position_line s.pos)) ≡ map Position s.pos)
     × (count_by is_vertex_line ([] ++ plain_lines 1 (map position_line s.pos)) ≡ count_by is_vertex_line [] + length s.pos)
     × (count_by is_face_line ([] ++ plain_lines 1 (map position_line s.pos)) ≡ count_by is_face_line []) =
     positions_said [] 1 s.pos is.positions (omega arith) in
     let behind : readings (plain_lines 1 (map position_line s.pos)) (plain_lines (1 + length (map position_line s.pos)) (map face_line s.faces)) ≡ faces_from (1 + length (map position_line s.pos)) s.faces =
-    faces_said (length s.pos) (plain_lines 1 (map position_line s.pos)) (1 + length (map position_line s.pos)) s.faces is.few_vertices (front.1 ∙ omega arith) is.quads soup.in_range (omega (arith, front.2)) in
+    faces_said (length s.pos) (plain_lines 1 (map position_line s.pos)) (1 + length (map position_line s.pos)) s.faces is.few_vertices (prefix.1 ∙ omega arith) is.quads soup.in_range (omega (arith, prefix.2)) in
     let said : readings [] (logical_lines 1 lines) ≡ map Position s.pos ++ faces_from (1 + length (map position_line s.pos)) s.faces =
-    ap (readings []) logical ∙ readings_append [] (plain_lines 1 (map position_line s.pos)) (plain_lines (1 + length (map position_line s.pos)) (map face_line s.faces)) ∙ rw (front.0, behind) refl in
+    ap (readings []) logical ∙ readings_append [] (plain_lines 1 (map position_line s.pos)) (plain_lines (1 + length (map position_line s.pos)) (map face_line s.faces)) ∙ rw (prefix.0, behind) refl in
     let used : AllUsed (map (λ f. map (λ v. v + 1) f) s.faces) (length s.pos) = all_used_to s soup in
     let names : used_to (map (λ f. map (λ v. v + 1) f) s.faces) (length s.pos) ≡ numbers_to (length s.pos) = used.kept (length s.pos) (omega arith) in
     ap (text_soup 1) cut ∙ ap soup_of said ∙ soup_said s.pos s.faces (1 + length (map position_line s.pos)) soup.in_range

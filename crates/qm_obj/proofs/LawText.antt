@@ -91,7 +91,7 @@ micro_word z near =
     let twenty : length (decimal (unsigned_abs z / 10 ^ 6)) ≤ 20 = length-decimal-le 20 (unsigned_abs z / 10 ^ 6) (omega arith) (omega arith) (omega arith) in
     let behind : (list_all is_plain (fraction_text (unsigned_abs z % 10 ^ 6)) ≡ true) × (length (fraction_text (unsigned_abs z % 10 ^ 6)) ≤ 21) = fraction_plain (unsigned_abs z % 10 ^ 6) (omega arith) in
     let sign : (list_all is_plain (minus_text z) ≡ true) × (length (minus_text z) ≤ 1) = by_sign (int_lt z (pos 0)) in
-    let front : length (minus_text z ++ decimal (unsigned_abs z / 10 ^ 6)) ≡ length (minus_text z) + length (decimal (unsigned_abs z / 10 ^ 6)) = length-append (minus_text z) _ in
+    let prefix : length (minus_text z ++ decimal (unsigned_abs z / 10 ^ 6)) ≡ length (minus_text z) + length (decimal (unsigned_abs z / 10 ^ 6)) = length-append (minus_text z) _ in
     let all : length (micro_text z) ≡ length (minus_text z ++ decimal (unsigned_abs z / 10 ^ 6)) + length (fraction_text (unsigned_abs z % 10 ^ 6)) = length-append (minus_text z ++ decimal (unsigned_abs z / 10 ^ 6)) _ in
     record {
       plain = all_both is_plain (minus_text z ++ decimal (unsigned_abs z / 10 ^ 6)) _ (all_both is_plain (minus_text z) _ sign.0 whole.plain) behind.0;
@@ -174,8 +174,8 @@ bare_line : (line : List ℕ) → list_all is_inside line ≡ true → line_of (
 bare_line line inside =
     let long : length (line ++ 10 ∷ []) - 1 ≡ length line = omega (arith, length-append line (10 ∷ [])) in
     let last : get_or (line ++ 10 ∷ []) (length line) 0 ≡ 10 = get_or_at line 10 [] 0 (length line) refl in
-    let front : take (length line) (line ++ 10 ∷ []) ≡ line = take_at line (10 ∷ []) (length line) refl in
-    let cut : without_last 10 (line ++ 10 ∷ []) ≡ line = rw (long, last) front in
+    let prefix : take (length line) (line ++ 10 ∷ []) ≡ line = take_at line (10 ∷ []) (length line) refl in
+    let cut : without_last 10 (line ++ 10 ∷ []) ≡ line = rw (long, last) prefix in
     ap (without_last 13) cut ∙ no_return line inside
   where
     no_return : (line : List ℕ) → list_all is_inside line ≡ true → without_last 13 line ≡ line

@@ -1,6 +1,6 @@
 mod CornerLemmas
 mod FeedLemmas
-mod FrontLemmas
+mod PrefixLemmas
 pub mod Groups
 mod InputLemmas
 mod JoinLemmas

@@ -8,7 +8,7 @@ use Rattle.def_text.specs.Decimal.{is_decimal, is_far, rounded}
 use Rattle.def_text.specs.Reading.{face_reading, is_position_count, vertex_reading}
 use Rattle.def_text.specs.declared.reading.Reading.TheVariants.{Position, Face, Refused}
 use Rattle.def_text.specs.declared.refusal.ObjFail.TheVariants.{Syntax, NotQuad, Range}
-use Rattle.qm_obj.specs.Indices.{capped, corner_of, with_capped}
+use Rattle.qm_obj.specs.Indices.{clamped, corner_of, with_clamped}
 use Rattle.qm_obj.specs.declared.position.Coordinate.TheVariants.{Near, Far}
 use Rattle.qm_obj.specs.Positions.{all_near, coordinate, in_front}
 use Rattle.def_text.specs.Types.{Words}
@@ -52,11 +52,11 @@ vertex_far line vertices ws few right is =
 
 -- An `f` line with a word that is no corner, and one with another number of corners.
 pub face_syntax : (line vertices faces : ℕ) (ws : Words) → leb (2 ^ 20) faces ≡ false → list_all is_corner ws ≡ false
-    → Refused (Syntax line) ≡ with_capped (face_reading line vertices faces ws)
+    → Refused (Syntax line) ≡ with_clamped (face_reading line vertices faces ws)
 face_syntax line vertices faces ws few bad = rw (few, bad) refl
 
 pub face_count : (line vertices faces : ℕ) (ws : Words) → leb (2 ^ 20) faces ≡ false → list_all is_corner ws ≡ true → eqb (length ws) 4 ≡ false
-    → Refused (NotQuad line (length ws)) ≡ with_capped (face_reading line vertices faces ws)
+    → Refused (NotQuad line (length ws)) ≡ with_clamped (face_reading line vertices faces ws)
 face_count line vertices faces ws few corners other = rw (few, corners, other) refl
 
 -- An `f` line of four corners.
@@ -68,32 +68,32 @@ face_rest line vertices faces ws few corners four = rw (few, corners, four) refl
 out_zero : (vertices : ℕ) (word : List ℕ) → eqb (corner_of vertices word) 0 ≡ is_out vertices (used_index word)
 out_zero vertices word = grind (arith, nat_tests)
 
-in_capped : (vertices : ℕ) (word : List ℕ) → is_out vertices (used_index word) ≡ false → corner_of vertices word ≡ capped (resolved vertices (used_index word))
-in_capped vertices word inside = rw inside (omega arith)
+in_clamped : (vertices : ℕ) (word : List ℕ) → is_out vertices (used_index word) ≡ false → corner_of vertices word ≡ clamped (resolved vertices (used_index word))
+in_clamped vertices word inside = rw inside (omega arith)
 
 any_out : (vertices : ℕ) (ws : Words) → list_any (λ corner. eqb corner 0) (map (corner_of vertices) ws) ≡ list_any (λ w. is_out vertices (used_index w)) ws
 any_out vertices [] = refl
 any_out vertices (w ∷ ws) = rw (out_zero vertices w, any_out vertices ws) refl
 
-all_in : (vertices : ℕ) (ws : Words) → list_any (λ w. is_out vertices (used_index w)) ws ≡ false → map (corner_of vertices) ws ≡ map capped (map (λ w. resolved vertices (used_index w)) ws)
+all_in : (vertices : ℕ) (ws : Words) → list_any (λ w. is_out vertices (used_index w)) ws ≡ false → map (corner_of vertices) ws ≡ map clamped (map (λ w. resolved vertices (used_index w)) ws)
 all_in vertices [] inside = refl
 all_in vertices (w ∷ ws) inside =
     let parts : (is_out vertices (used_index w) ≡ false) × (list_any (λ w. is_out vertices (used_index w)) ws ≡ false) = or_parts _ _ inside in
-    rw (in_capped vertices w parts.0, all_in vertices ws parts.1) refl
+    rw (in_clamped vertices w parts.0, all_in vertices ws parts.1) refl
 
 pub face_out : (line vertices faces : ℕ) (ws : Words) → leb (2 ^ 20) faces ≡ false → list_all is_corner ws ≡ true → eqb (length ws) 4 ≡ true
-    → list_any (λ corner. eqb corner 0) (map (corner_of vertices) ws) ≡ true → Refused (Range line) ≡ with_capped (face_reading line vertices faces ws)
+    → list_any (λ corner. eqb corner 0) (map (corner_of vertices) ws) ≡ true → Refused (Range line) ≡ with_clamped (face_reading line vertices faces ws)
 face_out line vertices faces ws few corners four out =
-    sym (ap with_capped (face_rest line vertices faces ws few corners four)
-    ∙ ap (λ t. with_capped (cond t (Refused (Range line)) (Face line (map (λ w. resolved vertices (used_index w)) ws)))) (sym (any_out vertices ws) ∙ out))
+    sym (ap with_clamped (face_rest line vertices faces ws few corners four)
+    ∙ ap (λ t. with_clamped (cond t (Refused (Range line)) (Face line (map (λ w. resolved vertices (used_index w)) ws)))) (sym (any_out vertices ws) ∙ out))
 
 pub face_in : (line vertices faces : ℕ) (ws : Words) → leb (2 ^ 20) faces ≡ false → list_all is_corner ws ≡ true → eqb (length ws) 4 ≡ true
-    → list_any (λ corner. eqb corner 0) (map (corner_of vertices) ws) ≡ false → Face line (map (corner_of vertices) ws) ≡ with_capped (face_reading line vertices faces ws)
+    → list_any (λ corner. eqb corner 0) (map (corner_of vertices) ws) ≡ false → Face line (map (corner_of vertices) ws) ≡ with_clamped (face_reading line vertices faces ws)
 face_in line vertices faces ws few corners four inside =
     let none : list_any (λ w. is_out vertices (used_index w)) ws ≡ false = sym (any_out vertices ws) ∙ inside in
     ap (Face line) (all_in vertices ws none)
-    ∙ sym (ap with_capped (face_rest line vertices faces ws few corners four)
-    ∙ ap (λ t. with_capped (cond t (Refused (Range line)) (Face line (map (λ w. resolved vertices (used_index w)) ws)))) none)
+    ∙ sym (ap with_clamped (face_rest line vertices faces ws few corners four)
+    ∙ ap (λ t. with_clamped (cond t (Refused (Range line)) (Face line (map (λ w. resolved vertices (used_index w)) ws)))) none)
 
 -- A position has at least three numbers.
 pub position_words : (n : ℕ) → is_position_count n ≡ true → 3 ≤ n

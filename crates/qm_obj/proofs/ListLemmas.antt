@@ -20,14 +20,14 @@ back_more xs ys k i x le same = drop-set-lt (k + 1) xs i x (omega arith) ∙ sym
 -- A map in position, one element further.
 pub mapped_more : {X : Type 0} (f : X → X) (old new : List X) (i : ℕ) (d x : X) → i < length old → length new ≡ length old → x ≡ f (get_or old i d)
     → take i new ≡ map f (take i old) → take (i + 1) (set new i x) ≡ map f (take (i + 1) old)
-mapped_more f old new i d x there size is front =
-    take_more_set new i x (omega arith) ∙ rw (front, is) (sym (map_more f old i d there))
+mapped_more f old new i d x there size is prefix =
+    take_more_set new i x (omega arith) ∙ rw (prefix, is) (sym (map_more f old i d there))
 
 -- What each element of a list passes, the one at a position passes.
 pub passes_at : {X : Type 0} (p : X → Bool) (xs : List X) (i : ℕ) (d : X) → list_all p xs ≡ true → i < length xs → p (get_or xs i d) ≡ true
 passes_at p xs i d all there = AllPass-from_list_all p xs all i d there
 
--- What stands behind the front of a part of a list.
+-- What stands behind the prefix of a part of a list.
 pub range_drop : {X : Type 0} (xs : List X) (a k b : ℕ) → a + k ≤ b → drop k (slice_range xs a b) ≡ slice_range xs (a + k) b
 range_drop xs a k b le =
     let e : b - a ≡ k + (b - (a + k)) = omega arith in

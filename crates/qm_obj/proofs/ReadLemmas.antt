@@ -18,7 +18,7 @@ use Rattle.def_text.specs.declared.refusal.ObjFail.{ObjFail}
 use Rattle.def_text.specs.declared.refusal.ObjFail.TheVariants.{Memory, Range}
 use Rattle.def_text.specs.declared.reading.Reading.{Reading}
 use Rattle.def_text.specs.declared.reading.Reading.TheVariants.{Passed, Position, Face, Refused}
-use Rattle.qm_obj.specs.Indices.{capped, with_capped}
+use Rattle.qm_obj.specs.Indices.{clamped, with_clamped}
 use Rattle.qm_obj.specs.Kept.{first_late, IsLate}
 use Rattle.qm_obj.specs.Lines.{HasRead, HasReadTo, Took, first_logical, line_in, next_said}
 use Rattle.qm_obj.proofs.Groups.{logical_step}
@@ -114,64 +114,64 @@ late_some {X} n (Face at corners ∷ said) line x found = by_late (list_any (λ 
     by_late true found again = let e : at ≡ line = cc found in ap (λ n. Err (Range n)) e
     by_late false found again = again found
 
--- Capping changes corners alone.
-pub refusal_capped : (said : Reading) → refusal_in (with_capped said) ≡ refusal_in said
-refusal_capped said = grind (arith)
+-- Clamping changes corners alone.
+pub refusal_clamped : (said : Reading) → refusal_in (with_clamped said) ≡ refusal_in said
+refusal_clamped said = grind (arith)
 
-pub position_capped : (said : Reading) → position_in (with_capped said) ≡ position_in said
-position_capped said = grind (arith)
+pub position_clamped : (said : Reading) → position_in (with_clamped said) ≡ position_in said
+position_clamped said = grind (arith)
 
-pub face_capped : (said : Reading) → face_in (with_capped said) ≡ map (λ face. map capped face) (face_in said)
-face_capped said = grind (arith)
+pub face_clamped : (said : Reading) → face_in (with_clamped said) ≡ map (λ face. map clamped face) (face_in said)
+face_clamped said = grind (arith)
 
-pub line_capped : (said : Reading) → line_in (with_capped said) ≡ line_in said
-line_capped said = grind (arith)
+pub line_clamped : (said : Reading) → line_in (with_clamped said) ≡ line_in said
+line_clamped said = grind (arith)
 
-pub refused_capped : (said : Reading) (fail : ObjFail) → with_capped said ≡ Refused fail → said ≡ Refused fail
-refused_capped said fail is = grind (arith)
+pub refused_clamped : (said : Reading) (fail : ObjFail) → with_clamped said ≡ Refused fail → said ≡ Refused fail
+refused_clamped said fail is = grind (arith)
 
--- Capped corners are positive where the corners are, and late where they are; those that are not late are not capped.
-pub positive_capped : (faces : Faces) → list_all (list_all (λ corner. ltb 0 corner)) faces ≡ true → list_all (list_all (λ corner. ltb 0 corner)) (map (λ face. map capped face) faces) ≡ true
-positive_capped [] all = refl
-positive_capped (face ∷ faces) all =
+-- Clamped corners are positive where the corners are, and late where they are; those that are not late are not clamped.
+pub positive_clamped : (faces : Faces) → list_all (list_all (λ corner. ltb 0 corner)) faces ≡ true → list_all (list_all (λ corner. ltb 0 corner)) (map (λ face. map clamped face) faces) ≡ true
+positive_clamped [] all = refl
+positive_clamped (face ∷ faces) all =
     let parts : (list_all (λ corner. ltb 0 corner) face ≡ true) × (list_all (list_all (λ corner. ltb 0 corner)) faces ≡ true) = and_parts _ _ all in
-    and_from _ _ (along face parts.0) (positive_capped faces parts.1)
+    and_from _ _ (along face parts.0) (positive_clamped faces parts.1)
   where
-    along : (corners : List ℕ) → list_all (λ corner. ltb 0 corner) corners ≡ true → list_all (λ corner. ltb 0 corner) (map capped corners) ≡ true
+    along : (corners : List ℕ) → list_all (λ corner. ltb 0 corner) corners ≡ true → list_all (λ corner. ltb 0 corner) (map clamped corners) ≡ true
     along [] all = refl
     along (corner ∷ corners) all =
         let parts : (ltb 0 corner ≡ true) × (list_all (λ corner. ltb 0 corner) corners ≡ true) = and_parts _ _ all in
         and_from _ _ (grind (arith, nat_tests)) (along corners parts.1)
 
-pub any_capped : (n : ℕ) → n ≤ 2 ^ 21 → (corners : List ℕ) → list_any (λ corner. ltb n corner) (map capped corners) ≡ list_any (λ corner. ltb n corner) corners
-any_capped n few [] = refl
-any_capped n few (corner ∷ corners) = rw (one corner, any_capped n few corners) refl
+pub any_clamped : (n : ℕ) → n ≤ 2 ^ 21 → (corners : List ℕ) → list_any (λ corner. ltb n corner) (map clamped corners) ≡ list_any (λ corner. ltb n corner) corners
+any_clamped n few [] = refl
+any_clamped n few (corner ∷ corners) = rw (one corner, any_clamped n few corners) refl
   where
     one : (corner : ℕ) → ltb n (min corner (2 ^ 32 - 1)) ≡ ltb n corner
     one corner = grind (arith, nat_tests)
 
-late_capped : (n : ℕ) → n ≤ 2 ^ 21 → (faces : Faces) (lines : List ℕ) → first_late n (map (λ face. map capped face) faces) lines ≡ first_late n faces lines
-late_capped n few [] lines = refl
-late_capped n few (face ∷ faces) [] = refl
-late_capped n few (face ∷ faces) (line ∷ lines) = rw (any_capped n few face, late_capped n few faces lines) refl
+late_clamped : (n : ℕ) → n ≤ 2 ^ 21 → (faces : Faces) (lines : List ℕ) → first_late n (map (λ face. map clamped face) faces) lines ≡ first_late n faces lines
+late_clamped n few [] lines = refl
+late_clamped n few (face ∷ faces) [] = refl
+late_clamped n few (face ∷ faces) (line ∷ lines) = rw (any_clamped n few face, late_clamped n few faces lines) refl
 
--- A face that is not late has no capped corner.
-pub uncapped_face : (n : ℕ) → n ≤ 2 ^ 21 → (corners : List ℕ) → list_any (λ corner. ltb n corner) corners ≡ false → map capped corners ≡ corners
-uncapped_face n few [] calm = refl
-uncapped_face n few (corner ∷ corners) calm =
+-- A face that is not late has no clamped corner.
+pub unclamped_face : (n : ℕ) → n ≤ 2 ^ 21 → (corners : List ℕ) → list_any (λ corner. ltb n corner) corners ≡ false → map clamped corners ≡ corners
+unclamped_face n few [] calm = refl
+unclamped_face n few (corner ∷ corners) calm =
     let parts : (ltb n corner ≡ false) × (list_any (λ corner. ltb n corner) corners ≡ false) = or_parts _ _ calm in
     let same : min corner (2 ^ 32 - 1) ≡ corner = omega (arith, ltb-false n corner parts.0) in
-    rw (same, uncapped_face n few corners parts.1) refl
+    rw (same, unclamped_face n few corners parts.1) refl
 
-uncapped : (n : ℕ) → n ≤ 2 ^ 21 → (faces : Faces) (lines : List ℕ) → length lines ≡ length faces → first_late n faces lines ≡ None → map (λ face. map capped face) faces ≡ faces
-uncapped n few [] lines size none = refl
-uncapped n few (face ∷ faces) [] size none = absurd (omega arith)
-uncapped n few (face ∷ faces) (line ∷ lines) size none = by_late (list_any (λ corner. ltb n corner) face) refl none (uncapped n few faces lines (omega arith))
+unclamped : (n : ℕ) → n ≤ 2 ^ 21 → (faces : Faces) (lines : List ℕ) → length lines ≡ length faces → first_late n faces lines ≡ None → map (λ face. map clamped face) faces ≡ faces
+unclamped n few [] lines size none = refl
+unclamped n few (face ∷ faces) [] size none = absurd (omega arith)
+unclamped n few (face ∷ faces) (line ∷ lines) size none = by_late (list_any (λ corner. ltb n corner) face) refl none (unclamped n few faces lines (omega arith))
   where
-    by_late : (t : Bool) → list_any (λ corner. ltb n corner) face ≡ t → cond t (Some line) (first_late n faces lines) ≡ None → (first_late n faces lines ≡ None → map (λ face. map capped face) faces ≡ faces)
-        → map (λ face. map capped face) (face ∷ faces) ≡ face ∷ faces
+    by_late : (t : Bool) → list_any (λ corner. ltb n corner) face ≡ t → cond t (Some line) (first_late n faces lines) ≡ None → (first_late n faces lines ≡ None → map (λ face. map clamped face) faces ≡ faces)
+        → map (λ face. map clamped face) (face ∷ faces) ≡ face ∷ faces
     by_late true is none again = cc none
-    by_late false is none again = rw (uncapped_face n few face is, again none) refl
+    by_late false is none again = rw (unclamped_face n few face is, again none) refl
 
 -- The counts of a reader are those of the lines.
 record IsWithin (lines : List Logical) (kept : Positions) (corners : Faces) (numbers : List ℕ) : Type 0 where
@@ -187,14 +187,14 @@ read_within lines kept corners numbers has =
     let said = readings [] lines in
     let counted : IsCountedIn [] lines said = counted_in [] lines has.accepted in
     let v : length kept ≡ length (positions said) = ap length has.positions_are in
-    let f : length corners ≡ length (faces said) = ap length has.faces_are ∙ length-map (faces said) (λ face. map capped face) in
+    let f : length corners ≡ length (faces said) = ap length has.faces_are ∙ length-map (faces said) (λ face. map clamped face) in
     record {
       vertices = omega (arith, counted.vertices);
       faces_are = omega (arith, counted.faces_are);
       few_vertices = omega (arith, counted.vertices, counted.few_vertices (omega arith));
       few_faces = omega (arith, counted.faces_are, counted.few_faces (omega arith));
       sizes = ap length has.lines_are ∙ lines_of_faces said ∙ sym f;
-      positive = rw has.faces_are (positive_capped (faces said) (all_positive [] lines));
+      positive = rw has.faces_are (positive_clamped (faces said) (all_positive [] lines));
     }
 
 pushed : {X : Type 0} (f : Reading → List X) (kept : List X) (old new : List Reading) (said : Reading) → kept ≡ flat_map f old → new ≡ old ++ said ∷ [] → kept ++ f said ≡ flat_map f new
@@ -215,14 +215,14 @@ read_more lines line kept kept' corners corners' numbers numbers' has took =
     let old = readings [] lines in
     let said = reading (length kept) (length corners) line in
     let all : readings [] (lines ++ line ∷ []) ≡ old ++ said ∷ [] = read_behind lines [] line kept corners numbers has in
-    let calm : refusal_in said ≡ [] = sym (refusal_capped said) ∙ took.accepted in
+    let calm : refusal_in said ≡ [] = sym (refusal_clamped said) ∙ took.accepted in
     record {
       accepted = ap (flat_map refusal_in) all ∙ flat_map-append refusal_in old (said ∷ []) ∙ rw (has.accepted, calm) refl;
-      positions_are = took.position ∙ ap (λ p. kept ++ p) (position_capped said) ∙ pushed position_in kept old (readings [] (lines ++ line ∷ [])) said has.positions_are all;
-      faces_are = took.face ∙ ap (λ f. corners ++ f) (face_capped said) ∙ ap (λ f. f ++ map (λ face. map capped face) (face_in said)) has.faces_are
-          ∙ sym (map-append (λ face. map capped face) (faces old) (face_in said))
-          ∙ ap (map (λ face. map capped face)) (pushed face_in (faces old) old (readings [] (lines ++ line ∷ [])) said refl all);
-      lines_are = took.line ∙ ap (λ n. numbers ++ n) (line_capped said) ∙ pushed line_in numbers old (readings [] (lines ++ line ∷ [])) said has.lines_are all;
+      positions_are = took.position ∙ ap (λ p. kept ++ p) (position_clamped said) ∙ pushed position_in kept old (readings [] (lines ++ line ∷ [])) said has.positions_are all;
+      faces_are = took.face ∙ ap (λ f. corners ++ f) (face_clamped said) ∙ ap (λ f. f ++ map (λ face. map clamped face) (face_in said)) has.faces_are
+          ∙ sym (map-append (λ face. map clamped face) (faces old) (face_in said))
+          ∙ ap (map (λ face. map clamped face)) (pushed face_in (faces old) old (readings [] (lines ++ line ∷ [])) said refl all);
+      lines_are = took.line ∙ ap (λ n. numbers ++ n) (line_clamped said) ∙ pushed line_in numbers old (readings [] (lines ++ line ∷ [])) said has.lines_are all;
     }
 
 -- The soup of lines that are read, where no face is late.
@@ -231,9 +231,9 @@ read_ok : (lines : List Logical) (kept : Positions) (corners : Faces) (numbers :
 read_ok lines kept corners numbers has calm =
     let said = readings [] lines in
     let within : IsWithin lines kept corners numbers = read_within lines kept corners numbers has in
-    let late : first_late (length kept) (faces said) numbers ≡ None = sym (late_capped (length kept) within.few_vertices (faces said) numbers) ∙ ap (λ cs. first_late (length kept) cs numbers) (sym has.faces_are) ∙ calm in
+    let late : first_late (length kept) (faces said) numbers ≡ None = sym (late_clamped (length kept) within.few_vertices (faces said) numbers) ∙ ap (λ cs. first_late (length kept) cs numbers) (sym has.faces_are) ∙ calm in
     let many : length numbers ≡ length (faces said) = ap length has.lines_are ∙ lines_of_faces said in
-    let same : corners ≡ faces said = has.faces_are ∙ uncapped (length kept) within.few_vertices (faces said) numbers many late in
+    let same : corners ≡ faces said = has.faces_are ∙ unclamped (length kept) within.few_vertices (faces said) numbers many late in
     let none : flat_map (late_in (length (positions said))) said ≡ [] = late_none (length (positions said)) said (rw (← has.positions_are, ← has.lines_are) late) in
     rw (has.positions_are, same) (ap (λ fails. first_refusal (fails ++ flat_map (late_in (length (positions said))) said) (face_set (positions said) (faces said))) has.accepted
     ∙ ap (λ fails. first_refusal fails (face_set (positions said) (faces said))) none)
@@ -244,7 +244,7 @@ read_late : (lines : List Logical) (kept : Positions) (corners : Faces) (numbers
 read_late lines kept corners numbers line has found =
     let said = readings [] lines in
     let within : IsWithin lines kept corners numbers = read_within lines kept corners numbers has in
-    let late : first_late (length kept) (faces said) numbers ≡ Some line = sym (late_capped (length kept) within.few_vertices (faces said) numbers) ∙ ap (λ cs. first_late (length kept) cs numbers) (sym has.faces_are) ∙ found in
+    let late : first_late (length kept) (faces said) numbers ≡ Some line = sym (late_clamped (length kept) within.few_vertices (faces said) numbers) ∙ ap (λ cs. first_late (length kept) cs numbers) (sym has.faces_are) ∙ found in
     ap (λ fails. first_refusal (fails ++ flat_map (late_in (length (positions said))) said) (face_set (positions said) (faces said))) has.accepted
     ∙ late_some (length (positions said)) said line (face_set (positions said) (faces said)) (rw (← has.positions_are, ← has.lines_are) late)
 
@@ -253,7 +253,7 @@ read_refused : (lines rest : List Logical) (line : Logical) (kept : Positions) (
     → next_said kept corners line ≡ Refused fail → soup_of (readings [] (lines ++ line ∷ rest)) ≡ Err fail
 read_refused lines rest line kept corners numbers fail has is =
     by_said (readings [] (lines ++ line ∷ rest)) (reading (length kept) (length corners) line) (readings (lines ++ line ∷ []) rest)
-    (read_behind lines rest line kept corners numbers has) (refused_capped (reading (length kept) (length corners) line) fail is)
+    (read_behind lines rest line kept corners numbers has) (refused_clamped (reading (length kept) (length corners) line) fail is)
   where
     by_said : (all : List Reading) (said : Reading) (behind : List Reading) → all ≡ readings [] lines ++ said ∷ behind → said ≡ Refused fail → soup_of all ≡ Err fail
     by_said all said behind are stops =

@@ -134,7 +134,7 @@ face_set_is_soup positions faces known = record {
       subst (λ (w : ℕ). is_used (map (λ corners. map (vertex_of faces) corners) faces) w ≡ true) (rank_at faces (length positions) v lt)
       (used_renumbered (vertex_of faces) (get_or (used_to faces (length positions)) v 0) faces is);
   named = sym (length-map (used_to faces (length positions)) (position_of positions));
-  rising = IsStrictlyIncreasing-filter (is_used faces) (numbers_to (length positions)) (numbers_rise (length positions));
+  increasing = IsStrictlyIncreasing-filter (is_used faces) (numbers_to (length positions)) (numbers_rise (length positions));
 }
 
 -- Positive corners, none of which is late, are numbers of positions.

@@ -20,36 +20,36 @@ short_last : (byte : ℕ) (piece : Bytes) → length piece ≤ length (without_l
 short_last byte piece = grind (arith, length-take-le (length piece - 1) piece (omega arith))
 
 -- A line feed is taken off, and nothing where there is none.
-fed_last : (front : Bytes) → without_last 10 (front ++ 10 ∷ []) ≡ front
-fed_last front =
-    let last : length (front ++ 10 ∷ []) - 1 ≡ length front = omega (arith, length-append front (10 ∷ [])) in
-    let at : eqb (get_or (front ++ 10 ∷ []) (length front) 0) 10 ≡ true = rw (get_or_push front 10 0 (length front) refl) refl in
-    rw (last, at) (take_at front (10 ∷ []) (length front) refl)
+fed_last : (prefix : Bytes) → without_last 10 (prefix ++ 10 ∷ []) ≡ prefix
+fed_last prefix =
+    let last : length (prefix ++ 10 ∷ []) - 1 ≡ length prefix = omega (arith, length-append prefix (10 ∷ [])) in
+    let at : eqb (get_or (prefix ++ 10 ∷ []) (length prefix) 0) 10 ≡ true = rw (get_or_push prefix 10 0 (length prefix) refl) refl in
+    rw (last, at) (take_at prefix (10 ∷ []) (length prefix) refl)
 
-unfed_last : (front : Bytes) → list_any is_line_feed front ≡ false → without_last 10 front ≡ front
+unfed_last : (prefix : Bytes) → list_any is_line_feed prefix ≡ false → without_last 10 prefix ≡ prefix
 unfed_last [] none = refl
 unfed_last (b ∷ bs) none = rw (none_at is_line_feed (b ∷ bs) (length (b ∷ bs) - 1) none (omega arith)) refl
 
-line_of_fed : (front : Bytes) → list_any is_line_feed front ≡ false → line_of (front ++ 10 ∷ []) ≡ line_of front
-line_of_fed front none = ap (without_last 13) (fed_last front ∙ sym (unfed_last front none))
+line_of_fed : (prefix : Bytes) → list_any is_line_feed prefix ≡ false → line_of (prefix ++ 10 ∷ []) ≡ line_of prefix
+line_of_fed prefix none = ap (without_last 13) (fed_last prefix ∙ sym (unfed_last prefix none))
 
-pieces_fed : (front more : Bytes) → list_any is_line_feed front ≡ false → pieces (front ++ 10 ∷ more) ≡ (front ++ 10 ∷ []) ∷ pieces more
+pieces_fed : (prefix more : Bytes) → list_any is_line_feed prefix ≡ false → pieces (prefix ++ 10 ∷ more) ≡ (prefix ++ 10 ∷ []) ∷ pieces more
 pieces_fed [] more none = refl
 pieces_fed (b ∷ bs) more none =
     let parts : (eqb b 10 ≡ false) × (list_any is_line_feed bs ≡ false) = or_parts _ _ none in
     rw parts.0 (ap (in_front b) (pieces_fed bs more parts.1))
 
 -- A line that ends.
-pub lines_fed : (front more : Bytes) → list_any is_line_feed front ≡ false → lines_of (front ++ 10 ∷ more) ≡ line_of front ∷ lines_of more
-lines_fed front more none = ap (map line_of) (pieces_fed front more none) ∙ ap (λ line. line ∷ lines_of more) (line_of_fed front none)
+pub lines_fed : (prefix more : Bytes) → list_any is_line_feed prefix ≡ false → lines_of (prefix ++ 10 ∷ more) ≡ line_of prefix ∷ lines_of more
+lines_fed prefix more none = ap (map line_of) (pieces_fed prefix more none) ∙ ap (λ line. line ∷ lines_of more) (line_of_fed prefix none)
 
 -- The first piece of a text begins with its bytes before the first line feed.
-record Opens (front all : Bytes) : Type 0 where
+record Opens (prefix all : Bytes) : Type 0 where
   behind : Bytes
   rest : Lines
-  are : pieces all ≡ (front ++ behind) ∷ rest
+  are : pieces all ≡ (prefix ++ behind) ∷ rest
 
-opens : (front more : Bytes) → list_any is_line_feed front ≡ false → 0 < length front → Opens front (front ++ more)
+opens : (prefix more : Bytes) → list_any is_line_feed prefix ≡ false → 0 < length prefix → Opens prefix (prefix ++ more)
 opens [] more none some = absurd (omega arith)
 opens (b ∷ []) more none some =
     by_pieces (pieces more) refl
@@ -68,32 +68,32 @@ opens (b ∷ c ∷ cs) more none some =
     }
 
 -- The first line of a text with these bytes in front.
-pub record FirstLine (front all : Bytes) : Type 0 where
+pub record FirstLine (prefix all : Bytes) : Type 0 where
   pub line : Bytes
   pub rest : Lines
   pub are : lines_of all ≡ line ∷ rest
-  pub long : length front ≤ length line + 1
+  pub long : length prefix ≤ length line + 1
 
-pub first_line : (front more : Bytes) → list_any is_line_feed front ≡ false → 0 < length front → FirstLine front (front ++ more)
-first_line front more none some = by_opening (opens front more none some)
+pub first_line : (prefix more : Bytes) → list_any is_line_feed prefix ≡ false → 0 < length prefix → FirstLine prefix (prefix ++ more)
+first_line prefix more none some = by_opening (opens prefix more none some)
   where
-    kept : (behind : Bytes) → length front ≤ length (without_last 10 (front ++ behind))
-    kept [] = rw (append-nil front, unfed_last front none) (omega arith)
-    kept (b ∷ bs) = omega (arith, short_last 10 (front ++ b ∷ bs), length-append front (b ∷ bs))
+    kept : (behind : Bytes) → length prefix ≤ length (without_last 10 (prefix ++ behind))
+    kept [] = rw (append-nil prefix, unfed_last prefix none) (omega arith)
+    kept (b ∷ bs) = omega (arith, short_last 10 (prefix ++ b ∷ bs), length-append prefix (b ∷ bs))
 
-    by_opening : Opens front (front ++ more) → FirstLine front (front ++ more)
+    by_opening : Opens prefix (prefix ++ more) → FirstLine prefix (prefix ++ more)
     by_opening first = record {
-      line = line_of (front ++ first.behind);
+      line = line_of (prefix ++ first.behind);
       rest = map line_of first.rest;
       are = ap (map line_of) first.are;
-      long = omega (arith, kept first.behind, short_last 13 (without_last 10 (front ++ first.behind)));
+      long = omega (arith, kept first.behind, short_last 13 (without_last 10 (prefix ++ first.behind)));
     }
 
 -- A text without line feed is one line, where it is not empty.
-pub lines_open : (front : Bytes) → list_any is_line_feed front ≡ false → 0 < length front → lines_of front ≡ line_of front ∷ []
-lines_open front none some = ap (map line_of) (one_piece front none some)
+pub lines_open : (prefix : Bytes) → list_any is_line_feed prefix ≡ false → 0 < length prefix → lines_of prefix ≡ line_of prefix ∷ []
+lines_open prefix none some = ap (map line_of) (one_piece prefix none some)
   where
-    one_piece : (front : Bytes) → list_any is_line_feed front ≡ false → 0 < length front → pieces front ≡ front ∷ []
+    one_piece : (prefix : Bytes) → list_any is_line_feed prefix ≡ false → 0 < length prefix → pieces prefix ≡ prefix ∷ []
     one_piece [] none some = absurd (omega arith)
     one_piece (b ∷ []) none some = rw (or_parts (eqb b 10) false none).0 refl
     one_piece (b ∷ c ∷ cs) none some =
@@ -111,10 +111,10 @@ count_none (x ∷ xs) none =
 pub count_append : (xs ys : Bytes) → count_by is_line_feed (xs ++ ys) ≡ count_by is_line_feed xs + count_by is_line_feed ys
 count_append xs ys = sum_by-append (λ b. cond (eqb b 10) 1 0) xs ys
 
--- The front of what is left of a piece up to a line feed, and the line feed.
-pub front_fed : (piece : Bytes) (at end : ℕ) → 0 < end → end ≤ length (take (length piece - at) (drop at piece)) → get_or (take (length piece - at) (drop at piece)) (end - 1) 0 ≡ 10
+-- The prefix of what is left of a piece up to a line feed, and the line feed.
+pub prefix_fed : (piece : Bytes) (at end : ℕ) → 0 < end → end ≤ length (take (length piece - at) (drop at piece)) → get_or (take (length piece - at) (drop at piece)) (end - 1) 0 ≡ 10
     → take (at + end) piece ≡ take at piece ++ (take (at + end - 1 - at) (drop at piece) ++ 10 ∷ [])
-front_fed piece at end some within feed =
+prefix_fed piece at end some within feed =
     let one : end - 1 + 1 ≡ end = omega arith in
     let many : at + end - 1 - at ≡ end - 1 = omega arith in
     let rest : take (length piece - at) (drop at piece) ≡ drop at piece = take_rest piece at in
@@ -127,6 +127,6 @@ front_fed piece at end some within feed =
     ∙ ap (λ n. take n (drop at piece) ++ 10 ∷ []) (sym many)
     )
 
--- The front of a piece and what is left of it.
-pub front_rest : (piece : Bytes) (at : ℕ) → take at piece ++ take (length piece - at) (drop at piece) ≡ piece
-front_rest piece at = ap (λ xs. take at piece ++ xs) (take_rest piece at) ∙ take-append-drop at piece
+-- The prefix of a piece and what is left of it.
+pub prefix_rest : (piece : Bytes) (at : ℕ) → take at piece ++ take (length piece - at) (drop at piece) ≡ piece
+prefix_rest piece at = ap (λ xs. take at piece ++ xs) (take_rest piece at) ∙ take-append-drop at piece

@@ -36,13 +36,13 @@ kept_mark marks old positions names k there on kept = record {
   names_are = ap (λ (xs : List ℕ). xs ++ (k + 1) ∷ []) kept.names_are ∙ sym (chosen_yes marks k on);
   few = omega (arith, length_push names (k + 1), kept.few);
   size = length-set positions (length names) (get_or positions k []) ∙ kept.size;
-  front =
+  prefix =
       let n : length (names ++ (k + 1) ∷ []) ≡ length names + 1 = length_push names (k + 1) in
       let room : length names < length positions = omega (arith, kept.few, kept.size) in
       let e : k + 1 - 1 ≡ k = omega arith in
       let same : get_or positions k [] ≡ position_of old (k + 1) = rw e (at_back positions old k [] kept.back) in
       rw n (take_more_set positions (length names) (get_or positions k []) room
-      ∙ rw (kept.front, same) (sym (map_push (position_of old) (chosen marks k) (k + 1)) ∙ ap (map (position_of old)) (sym (chosen_yes marks k on))));
+      ∙ rw (kept.prefix, same) (sym (map_push (position_of old) (chosen marks k) (k + 1)) ∙ ap (map (position_of old)) (sym (chosen_yes marks k on))));
   back = back_more positions old k (length names) (get_or positions k []) kept.few kept.back;
 }
 
@@ -53,7 +53,7 @@ kept_skip marks old positions names k off kept = record {
   names_are = kept.names_are ∙ sym (chosen_no marks k off);
   few = omega (arith, kept.few);
   size = kept.size;
-  front = kept.front ∙ ap (map (position_of old)) (sym (chosen_no marks k off));
+  prefix = kept.prefix ∙ ap (map (position_of old)) (sym (chosen_no marks k off));
   back = sym (drop-drop 1 k positions) ∙ ap (drop 1) kept.back ∙ drop-drop 1 k old;
 }
 

@@ -8,11 +8,11 @@ use Rattle.def_text.specs.Logical.{is_hash}
 use Rattle.def_text.specs.Reading.{face_reading, is_letter, vertex_reading, words_reading}
 use Rattle.def_text.specs.declared.reading.Reading.TheVariants.{Passed}
 use Rattle.def_text.specs.Words.{ends_word, in_front, is_blank, words}
-use Rattle.qm_obj.specs.Indices.{with_capped}
+use Rattle.qm_obj.specs.Indices.{with_clamped}
 use Rattle.qm_obj.specs.Lines.{IsFilled, IsReadTo, is_end, uncommented, with_word}
 use Rattle.def_text.specs.Types.{Words}
 
--- A text that begins with no blank has its front up to the first blank as its first word.
+-- A text that begins with no blank has its prefix up to the first blank as its first word.
 pub words_word : (b : ℕ) (bs : List ℕ) → is_blank b ≡ false → words (b ∷ bs) ≡ take (suc (position_or_len is_blank bs)) (b ∷ bs) ∷ words (drop (suc (position_or_len is_blank bs)) (b ∷ bs))
 words_word b [] off = rw off refl
 words_word b (c ∷ cs) off = rw off (by_next (is_blank c) refl (words_word c cs))
@@ -25,26 +25,26 @@ words_word b (c ∷ cs) off = rw off (by_next (is_blank c) refl (words_word c cs
 
 -- Up to the first end of a word a line is as it is without its comment, and behind it the comment is cut from the rest.
 record EndsAlike (bs : List ℕ) : Type 0 where
-  front : take (position_or_len is_blank (uncommented bs)) (uncommented bs) ≡ take (position_or_len is_end bs) bs
+  prefix : take (position_or_len is_blank (uncommented bs)) (uncommented bs) ≡ take (position_or_len is_end bs) bs
   behind : drop (position_or_len is_blank (uncommented bs)) (uncommented bs) ≡ uncommented (drop (position_or_len is_end bs) bs)
 
 ends_alike : (bs : List ℕ) → EndsAlike bs
-ends_alike [] = record { front = refl; behind = refl }
+ends_alike [] = record { prefix = refl; behind = refl }
 ends_alike (c ∷ cs) = by_byte (is_blank c) (is_hash c) refl refl (ends_alike cs)
   where
     by_byte : (blank hash : Bool) → is_blank c ≡ blank → is_hash c ≡ hash → EndsAlike cs → EndsAlike (c ∷ cs)
     by_byte blank true b-is h-is again =
         let end : is_end c ≡ true = or_right _ _ h-is in
-        record { front = rw end (rw h-is refl); behind = rw end (rw h-is refl) }
+        record { prefix = rw end (rw h-is refl); behind = rw end (rw h-is refl) }
     by_byte true false b-is h-is again =
         let end : is_end c ≡ true = or_left _ _ b-is in
-        record { front = rw end (rw h-is (rw b-is refl)); behind = rw end (rw h-is (rw b-is refl)) }
+        record { prefix = rw end (rw h-is (rw b-is refl)); behind = rw end (rw h-is (rw b-is refl)) }
     by_byte false false b-is h-is again =
         let more : is_end c ≡ false = or_from _ _ b-is h-is in
         let e : 1 + position_or_len is_blank (uncommented cs) ≡ suc (position_or_len is_blank (uncommented cs)) = omega arith in
         let f : 1 + position_or_len is_end cs ≡ suc (position_or_len is_end cs) = omega arith in
         record {
-          front = rw more (rw h-is (rw (b-is, e, f) (ap (λ xs. c ∷ xs) again.front)));
+          prefix = rw more (rw h-is (rw (b-is, e, f) (ap (λ xs. c ∷ xs) again.prefix)));
           behind = rw more (rw h-is (rw (b-is, e, f) again.behind));
         }
 
@@ -63,7 +63,7 @@ first_word (b ∷ bs) at_word = by_hash (is_hash b) refl (at_word (omega arith))
         let end : position_or_len is_end (b ∷ bs) ≡ suc (position_or_len is_end bs) = let e : is_end b ≡ false = or_from _ _ off is in rw e (omega arith) in
         let bare : uncommented (b ∷ bs) ≡ b ∷ uncommented bs = rw is refl in
         let alike : EndsAlike bs = ends_alike bs in
-        rw end (ap words bare ∙ words_word b (uncommented bs) off ∙ rw (alike.front, alike.behind) refl)
+        rw end (ap words bare ∙ words_word b (uncommented bs) off ∙ rw (alike.prefix, alike.behind) refl)
 
 -- A line is no longer without its comment, which is what stands from its first `#` on.
 pub uncommented_short : (line : List ℕ) → length (uncommented line) ≤ length line
@@ -180,18 +180,18 @@ module _ {X : Type 0} (test : List ℕ → Bool) (says : List ℕ → X) (all : 
       }
 
 -- A `v` line says no face.
-vertex_capped : (line vertices : ℕ) (words : Words) → with_capped (vertex_reading line vertices words) ≡ vertex_reading line vertices words
-vertex_capped line vertices words = grind (arith)
+vertex_clamped : (line vertices : ℕ) (words : Words) → with_clamped (vertex_reading line vertices words) ≡ vertex_reading line vertices words
+vertex_clamped line vertices words = grind (arith)
 
 -- What the first word and the words behind it say.
 pub by_first_word : (line vertices faces : ℕ) (all rest : Words) (first : List ℕ) → all ≡ with_word first rest
-    → with_capped (words_reading line vertices faces all) ≡ cond (is_letter 118 first) (vertex_reading line vertices rest) (cond (is_letter 102 first) (with_capped (face_reading line vertices faces rest)) Passed)
-by_first_word line vertices faces all rest [] is = ap (λ ws. with_capped (words_reading line vertices faces ws)) is
+    → with_clamped (words_reading line vertices faces all) ≡ cond (is_letter 118 first) (vertex_reading line vertices rest) (cond (is_letter 102 first) (with_clamped (face_reading line vertices faces rest)) Passed)
+by_first_word line vertices faces all rest [] is = ap (λ ws. with_clamped (words_reading line vertices faces ws)) is
 by_first_word line vertices faces all rest (b ∷ bs) is =
-    ap (λ ws. with_capped (words_reading line vertices faces ws)) is ∙ by_letter (is_letter 118 (b ∷ bs)) (is_letter 102 (b ∷ bs))
+    ap (λ ws. with_clamped (words_reading line vertices faces ws)) is ∙ by_letter (is_letter 118 (b ∷ bs)) (is_letter 102 (b ∷ bs))
   where
-    by_letter : (v f : Bool) → with_capped (cond v (vertex_reading line vertices rest) (cond f (face_reading line vertices faces rest) Passed))
-        ≡ cond v (vertex_reading line vertices rest) (cond f (with_capped (face_reading line vertices faces rest)) Passed)
-    by_letter true f = vertex_capped line vertices rest
+    by_letter : (v f : Bool) → with_clamped (cond v (vertex_reading line vertices rest) (cond f (face_reading line vertices faces rest) Passed))
+        ≡ cond v (vertex_reading line vertices rest) (cond f (with_clamped (face_reading line vertices faces rest)) Passed)
+    by_letter true f = vertex_clamped line vertices rest
     by_letter false true = refl
     by_letter false false = refl

@@ -45,5 +45,5 @@ pub record IsKept (marks : List Bool) (old positions : Positions) (names : List 
   pub names_are : names ≡ chosen marks k
   pub few : length names ≤ k
   pub size : length positions ≡ length marks
-  pub front : take (length names) positions ≡ map (position_of old) (chosen marks k)
+  pub prefix : take (length names) positions ≡ map (position_of old) (chosen marks k)
   pub back : drop k positions ≡ drop k old

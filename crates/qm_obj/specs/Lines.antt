@@ -10,7 +10,7 @@ use Rattle.def_text.specs.Text.{face_in, faces, position_in, positions, readings
 use Rattle.def_text.specs.Words.{is_blank}
 use Rattle.def_text.specs.declared.reading.Reading.{Reading}
 use Rattle.def_text.specs.declared.reading.Reading.TheVariants.{Passed, Position, Face, Refused}
-use Rattle.qm_obj.specs.Indices.{capped, with_capped}
+use Rattle.qm_obj.specs.Indices.{clamped, with_clamped}
 use Rattle.def_text.specs.Types.{Positions, Words}
 use Rattle.def_mesh.specs.Faces.{Faces}
 
@@ -41,7 +41,7 @@ first_logical number lines = record { number = number; size = size_ahead lines; 
 
 -- What the next line says, behind as many `v` lines and `f` lines as there are positions and faces.
 abbrev pub next_said : (positions : Positions) (faces : Faces) (line : Logical) → Reading
-next_said positions faces line = with_capped (reading (length positions) (length faces) line)
+next_said positions faces line = with_clamped (reading (length positions) (length faces) line)
 
 -- What a reader keeps grew by what a line says, which is no refusal.
 pub record Took (positions positions' : Positions) (faces faces' : Faces) (lines lines' : List ℕ)
@@ -51,15 +51,15 @@ pub record Took (positions positions' : Positions) (faces faces' : Faces) (lines
   pub face : faces' ≡ faces ++ face_in said
   pub line : lines' ≡ lines ++ line_in said
 
--- These are all positions, all faces with capped corners, and the lines of the faces in some logical lines, none of
+-- These are all positions, all faces with clamped corners, and the lines of the faces in some logical lines, none of
 -- which is refused.
 pub record HasRead (lines : List Logical) (kept : Positions) (corners : Faces) (numbers : List ℕ) : Type 0 where
   pub accepted : flat_map refusal_in (readings [] lines) ≡ []
   pub positions_are : kept ≡ positions (readings [] lines)
-  pub faces_are : corners ≡ map (λ face. map capped face) (faces (readings [] lines))
+  pub faces_are : corners ≡ map (λ face. map clamped face) (faces (readings [] lines))
   pub lines_are : numbers ≡ flat_map line_in (readings [] lines)
 
--- The same of the front of all logical lines, of which these are the rest.
+-- The same of the prefix of all logical lines, of which these are the rest.
 pub record HasReadTo (all rest : List Logical) (kept : Positions) (corners : Faces) (numbers : List ℕ) : Type 0 where
   pub done : List Logical
   pub split : all ≡ done ++ rest

@@ -5,7 +5,7 @@ ghost use Rattle.std.specs.Prelude.{if◌then◌else◌, length};
 ghost use Rattle.std.specs.List.{list_all};
 ghost use Rattle.def_text.specs.Corner.{index_of, is_corner, is_optional};
 ghost use Rattle.def_text.specs.Digits.{is_signed};
-ghost use Rattle.qm_obj.specs.Indices.{capped, corner_of, named, parts_behind};
+ghost use Rattle.qm_obj.specs.Indices.{clamped, corner_of, named, parts_behind};
 
 use def_text::{Index, SLASH};
 use qm_scan::{behind_first, find_byte, is_number, read_number, split_sign};
@@ -38,13 +38,13 @@ pub(crate) fn read_corner(word: &[u8], before: u32) -> Option<u32>
     ensures { result ≡ (if is_corner word.now then Some (corner_of before word.now) else None) }
 {
     match read_number(word) {
-        Some(k) => Some(cap(k)),
+        Some(k) => Some(clamp(k)),
         None => read_indices(word, before),
     }
 }
 
-fn cap(k: u64) -> u32
-    ensures { result ≡ capped k }
+fn clamp(k: u64) -> u32
+    ensures { result ≡ clamped k }
 {
     k.min(u64::from(u32::MAX)) as u32
 }
@@ -58,12 +58,12 @@ fn read_indices(word: &[u8], before: u32) -> Option<u32>
         return None;
     }
     match resolve(first, before) {
-        Some(k) => Some(cap(k)),
+        Some(k) => Some(clamp(k)),
         None => None,
     }
 }
 
-/// The number of the `v` line that an index names, or 0 where it is out, capped at `u64::MAX`.
+/// The number of the `v` line that an index names, or 0 where it is out, clamped at `u64::MAX`.
 #[tactic(auto, using(crate::proofs::CornerLemmas::named_count))]
 fn resolve(word: &[u8], before: u32) -> Option<u64>
     ensures { result ≡ (if is_signed word.now then Some (named before word.now) else None) }

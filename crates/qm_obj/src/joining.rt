@@ -90,8 +90,8 @@ pub(crate) fn before_comment(line: &[u8]) -> &[u8]
 fn push_spaced(bytes: &mut Vec<u8>, line: &[u8]) -> Result<(), Memory>
     ensures { OnOk result (bytes.new.items ≡ bytes.old.items ++ with_space line.now) }
 {
-    if let [front @ .., _] = line {
-        bytes.extend_from_slice(front)?;
+    if let [prefix @ .., _] = line {
+        bytes.extend_from_slice(prefix)?;
     }
     bytes.push(SPACE)?;
     Ok(())

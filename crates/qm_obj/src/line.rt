@@ -4,7 +4,7 @@ ghost use Rattle.std.specs.Prelude.{◌≡◌, ◌≤◌, ◌==◌, length, slic
 ghost use Rattle.std.specs.List.{list_any};
 ghost use Rattle.def_text.specs.Reading.{face_reading, is_letter, is_position_count, reading, vertex_reading};
 ghost use Rattle.def_text.specs.Words.{words};
-ghost use Rattle.qm_obj.specs.Indices.{with_capped};
+ghost use Rattle.qm_obj.specs.Indices.{with_clamped};
 ghost use Rattle.qm_obj.specs.Lines.{uncommented};
 
 use crate::corner::read_corner;
@@ -12,12 +12,12 @@ use crate::position::{Coordinate, read_coordinate, read_position};
 use crate::words::next_word;
 use def_text::{FACE, MAX_FACES, MAX_LINE, MAX_VERTICES, ObjFail, Reading, VERTEX, Which};
 
-/// What a logical line of `size` bytes says after so many `v` and `f` lines. Corners above `u32::MAX` are capped.
+/// What a logical line of `size` bytes says after so many `v` and `f` lines. Corners above `u32::MAX` are clamped.
 #[tactic(auto, using(crate::proofs::WordLemmas::by_first_word))]
 pub(crate) fn read_line(line: u32, vertices: u32, faces: u32, size: usize, text: &[u8]) -> Reading
     requires { length text.now ≤ size }
     ensures { result
-        ≡ with_capped (reading vertices faces (record { number = line; size = size; text = uncommented text.now })) }
+        ≡ with_clamped (reading vertices faces (record { number = line; size = size; text = uncommented text.now })) }
 {
     if size > MAX_LINE {
         return Reading::Refused(ObjFail::Limit {
@@ -93,7 +93,7 @@ fn put<T: Copy>(slots: &mut [T], i: usize, value: T)
 
 fn read_face(line: u32, vertices: u32, faces: u32, text: &[u8]) -> Reading
     requires { length text.now ≤ MAX_LINE }
-    ensures { result ≡ with_capped (face_reading line vertices faces (words (uncommented text.now))) }
+    ensures { result ≡ with_clamped (face_reading line vertices faces (words (uncommented text.now))) }
 {
     if faces >= MAX_FACES {
         return Reading::Refused(ObjFail::Limit {

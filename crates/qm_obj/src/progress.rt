@@ -60,20 +60,20 @@ impl Progress {
         self.keep(&piece[at..])
     }
 
-    /// Takes the front of a piece up to a line feed, and the line feed.
-    fn end_line(&mut self, front: &[u8]) -> Result<(), ObjFail>
+    /// Takes the prefix of a piece up to a line feed, and the line feed.
+    fn end_line(&mut self, prefix: &[u8]) -> Result<(), ObjFail>
         requires sound { IsSound (kept_at self.old) }
         requires room { self.old.joiner.next < 2 ^ 32 - 1 }
-        requires unended { list_any is_line_feed front.now ≡ false }
+        requires unended { list_any is_line_feed prefix.now ≡ false }
         ensures took { OnOk result
-            (TookPiece (kept_at self.old) (kept_at self.new) (front.now ++ LINE_FEED ∷ [])) }
+            (TookPiece (kept_at self.old) (kept_at self.new) (prefix.now ++ LINE_FEED ∷ [])) }
         ensures refused { IfErr result (λ fail. fail ≢ ObjFail.Memory →
-            RefusesPiece (kept_at self.old) (front.now ++ LINE_FEED ∷ []) fail) }
+            RefusesPiece (kept_at self.old) (prefix.now ++ LINE_FEED ∷ []) fail) }
     {
         if self.tail.is_empty() {
-            return self.joiner.take(line_of(front));
+            return self.joiner.take(line_of(prefix));
         }
-        self.keep(front)?;
+        self.keep(prefix)?;
         self.end_tail()
     }
 

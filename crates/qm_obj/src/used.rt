@@ -167,11 +167,11 @@ fn renumber(faces: &mut Vec<[u32; 4]>, vertices: &[u32])
         ≡ map (λ corners. map (λ corner. slice_index vertices.now (corner - 1)) corners) faces.old.items }
 {
     for f in 0..faces.len() {
-        faces[f] = renumbered(faces[f], vertices);
+        faces[f] = new_corners(faces[f], vertices);
     }
 }
 
-fn renumbered(face: [u32; 4], vertices: &[u32]) -> [u32; 4]
+fn new_corners(face: [u32; 4], vertices: &[u32]) -> [u32; 4]
     requires { IsTrue (are_numbers (length vertices.now) face) }
     ensures { result ≡ map (λ corner. slice_index vertices.now (corner - 1)) face }
 {

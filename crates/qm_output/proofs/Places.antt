@@ -20,7 +20,7 @@ differs_at : (given piece : Bytes) (at n : ℕ) → n ≤ length (drop at given)
     → n < length piece
     → Differs (record { at = at; rest = drop at given }) (record { at = at + n; rest = drop (at + n) given }) piece
 differs_at given piece at n fits same most inside = record {
-  front = take n piece;
+  prefix = take n piece;
   byte = get_or piece n 0;
   more = drop (suc n) piece;
   said = sym (take-append-drop n piece) ∙ ap (λ (xs : Bytes). take n piece ++ xs) (drop-cons piece n 0 inside);

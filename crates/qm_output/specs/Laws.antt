@@ -76,21 +76,21 @@ alike_more a b c s t p q = record {
 
 pub differs_later : (a b c : Compared) (s t : Bytes) → IsAlike a b s → Differs b c t → Differs a c (s ++ t)
 differs_later a b c s t p q = record {
-  front = s ++ q.front;
+  prefix = s ++ q.prefix;
   byte = q.byte;
   more = q.more;
-  said = ap (λ (xs : Bytes). s ++ xs) q.said ∙ sym (append_assoc s q.front (q.byte ∷ q.more));
-  alike = p.alike ∙ ap (λ (xs : Bytes). s ++ xs) q.alike ∙ sym (append_assoc s q.front c.rest);
+  said = ap (λ (xs : Bytes). s ++ xs) q.said ∙ sym (append_assoc s q.prefix (q.byte ∷ q.more));
+  alike = p.alike ∙ ap (λ (xs : Bytes). s ++ xs) q.alike ∙ sym (append_assoc s q.prefix c.rest);
   lacks = q.lacks;
-  counted = both_counted a.at b.at c.at s q.front p.counted q.counted;
+  counted = both_counted a.at b.at c.at s q.prefix p.counted q.counted;
 }
 
 pub differs_before : (a b : Compared) (s t : Bytes) → Differs a b s → Differs a b (s ++ t)
 differs_before a b s t p = record {
-  front = p.front;
+  prefix = p.prefix;
   byte = p.byte;
   more = p.more ++ t;
-  said = ap (λ (xs : Bytes). xs ++ t) p.said ∙ append_assoc p.front (p.byte ∷ p.more) t;
+  said = ap (λ (xs : Bytes). xs ++ t) p.said ∙ append_assoc p.prefix (p.byte ∷ p.more) t;
   alike = p.alike;
   lacks = p.lacks;
   counted = p.counted;

@@ -10,7 +10,7 @@ pub trait Output {
     /// From the first state to the second it took exactly this text.
     ghost takes: { Self → Self → List ℕ → Type 0 };
 
-    /// From the first state to the second it was handed a front of this text, and took no more.
+    /// From the first state to the second it was handed a prefix of this text, and took no more.
     ghost stops: { Self → Self → List ℕ → Type 0 };
 
     /// Puts a piece behind what was put before. Once it has stopped it is put nothing more.

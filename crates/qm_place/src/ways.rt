@@ -26,7 +26,7 @@ fn part_of(way: i64, some: u32, parts: u32) -> i64
     ensures value { result ≡ int_div_euclid ((pos (2 * some) *ℤ way) +ℤ pos parts) (pos (2 * parts)) }
     ensures short { unsigned_abs result ≤ 2 ^ 52 }
 {
-    let twice = weighed(2 * u64::from(some), 1, way);
+    let twice = weigh(2 * u64::from(some), 1, way);
     let part = (twice + i128::from(parts)).div_euclid(i128::from(2 * u64::from(parts)));
     part as i64
 }
@@ -38,14 +38,14 @@ pub(crate) fn blend(s: u64, t: u64, corners: [Micro; 4]) -> Micro
         (coordinate_in corners 2) }
 {
     let [p00, p10, p11, p01] = corners;
-    let south = weighed(EDGE - s, EDGE - t, p00.n) + weighed(s, EDGE - t, p10.n);
-    let north = weighed(EDGE - s, t, p01.n) + weighed(s, t, p11.n);
+    let south = weigh(EDGE - s, EDGE - t, p00.n) + weigh(s, EDGE - t, p10.n);
+    let north = weigh(EDGE - s, t, p01.n) + weigh(s, t, p11.n);
     let mean = (south + north + (1 << 63)).div_euclid(1 << 64);
     Micro { n: mean as i64 }
 }
 
 /// A number with the weight a * b.
-fn weighed(a: u64, b: u64, n: i64) -> i128
+fn weigh(a: u64, b: u64, n: i64) -> i128
     requires weights { (a ≤ ONE) × (b ≤ ONE) }
     requires short { unsigned_abs n < 2 ^ 52 }
     ensures value { result ≡ pos (a * b) *ℤ n }

@@ -132,7 +132,7 @@ fn node_at(nodes: &[Option<Node>], place: u32) -> Node
     }
 }
 
-/// The numbers below a bound, in rising order.
+/// The numbers below a bound, in increasing order.
 fn numbers_below(alloc: Global, n: u32) -> Result<Vec<u32>, Memory>
     ensures length { IfOk result (λ v. length v.items ≡ n) }
     ensures each { IfOk result (λ v. (k : ℕ) → k < n → slice_index v.items k ≡ k) }

@@ -1,4 +1,4 @@
--- The network of a layout is one that certificates are judged by.
+-- The network of a layout is one that certificates are checked by.
 use Rattle.std.proofs.Common.{Bool, ◌≤◌}
 use Rattle.def_certtext.specs.Settings.{AreInRange}
 use Rattle.def_flow.specs.Network.{Network, tangle_number, IsWithinBounds}

@@ -24,7 +24,7 @@ pub struct Remesh {
 
 impl Remesh {
     /// The certificate whose lengths are used.
-    pub fn used(&self) -> &Cert
+    pub fn used_cert(&self) -> &Cert
         ensures { lists_of result.now ≡ used (lists_of self.now.first) (option_map lists_of self.now.third) }
     {
         match &self.third {

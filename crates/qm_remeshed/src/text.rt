@@ -63,7 +63,7 @@ pub fn put_remeshed<T: Output>(
     let Ok(texts) = cert_texts(alloc, &remesh) else {
         return Err(PutFail::Memory);
     };
-    let Ok(places) = placer(alloc, &cut.mesh, &cut.layout, &remesh.used().x) else {
+    let Ok(places) = placer(alloc, &cut.mesh, &cut.layout, &remesh.used_cert().x) else {
         return Err(PutFail::Memory);
     };
     let frame = Frame {

@@ -40,11 +40,11 @@ number_more word i l =
     ∙ ap (number_from_digits 10) (map_push (λ d. d - 48) (take i word) (get_or word i 0))
     ∙ number_push 10 (map (λ d. d - 48) (take i word)) (get_or word i 0 - 48)
 
--- A capped number takes one digit more.
-pub capped_more : (n d cap : ℕ) → min (min (min n cap * 10) cap + d) cap ≡ min (n * 10 + d) cap
-capped_more n d cap = by_size (cases_lt n cap)
+-- A clamped number takes one digit more.
+pub clamped_more : (n d clamp : ℕ) → min (min (min n clamp * 10) clamp + d) clamp ≡ min (n * 10 + d) clamp
+clamped_more n d clamp = by_size (cases_lt n clamp)
   where
-    by_size : (n < cap) ⊎ (cap ≤ n) → min (min (min n cap * 10) cap + d) cap ≡ min (n * 10 + d) cap
+    by_size : (n < clamp) ⊎ (clamp ≤ n) → min (min (min n clamp * 10) clamp + d) clamp ≡ min (n * 10 + d) clamp
     by_size (inl less) = omega arith
     by_size (inr more) = omega arith
 
@@ -60,9 +60,9 @@ digits_of_number (b ∷ bs) is = is
 ten_power : (i : ℕ) → i ≤ 18 → 10 ^ i ≤ 10 ^ 18
 ten_power i le = pow-le-pow_right {n = 10} (omega arith) {i = i} {j = 18} le
 
--- At most 18 digits need no cap, and fewer of them leave room for one more.
-pub short_uncapped : (word : List ℕ) → length word ≤ 18 → cond (is_number word) (Some (number word)) None ≡ cond (is_number word) (Some (min (number word) (2 ^ 64 - 1))) None
-short_uncapped word short = by_form (is_number word) refl
+-- At most 18 digits need no clamp, and fewer of them leave room for one more.
+pub short_unclamped : (word : List ℕ) → length word ≤ 18 → cond (is_number word) (Some (number word)) None ≡ cond (is_number word) (Some (min (number word) (2 ^ 64 - 1))) None
+short_unclamped word short = by_form (is_number word) refl
   where
     by_form : (t : Bool) → is_number word ≡ t → cond t (Some (number word)) None ≡ cond t (Some (min (number word) (2 ^ 64 - 1))) None
     by_form true is = let e : number word ≡ min (number word) (2 ^ 64 - 1) = omega (arith, number_small word (digits_of_number word is), ten_power (length word) short) in ap Some e

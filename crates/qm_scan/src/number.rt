@@ -14,7 +14,7 @@ pub fn read_number(word: &[u8]) -> Option<u64>
     }
 }
 
-/// A number that needs no cap, which is nearly every one.
+/// A number that needs no clamp, which is nearly every one.
 fn read_short(word: &[u8]) -> Option<u64>
     requires { length word.now ≤ 18 }
     ensures { result ≡ (if is_number word.now then Some (number word.now) else None) }

@@ -281,11 +281,11 @@ module _ (faces : Faces) (m : IsManifold faces) (d first : ℕ) (line : Line) (r
     list_high k l,
   )
 
-  rising_old : (r : ℕ) → r < length so.lists → (q : ℕ) → q < r → IsBefore (run_at (so.lists ++ walk_list (walked (follower faces) first) on.last ∷ []) q) (run_at so.lists r)
-  rising_old r l q less = subst (λ (xs : List ℕ). IsBefore xs (run_at so.lists r)) (sym (old_at q (omega arith))) (so.found.rising q r less l)
+  increasing_old : (r : ℕ) → r < length so.lists → (q : ℕ) → q < r → IsBefore (run_at (so.lists ++ walk_list (walked (follower faces) first) on.last ∷ []) q) (run_at so.lists r)
+  increasing_old r l q less = subst (λ (xs : List ℕ). IsBefore xs (run_at so.lists r)) (sym (old_at q (omega arith))) (so.found.increasing q r less l)
 
-  rising_new : (q : ℕ) → q < length so.lists → IsBefore (run_at (so.lists ++ walk_list (walked (follower faces) first) on.last ∷ []) q) (walk_list (walked (follower faces) first) on.last)
-  rising_new q less = subst (λ (xs : List ℕ). IsBefore xs (walk_list (walked (follower faces) first) on.last)) (sym (old_at q less)) (by_dart (so.found.below q less))
+  increasing_new : (q : ℕ) → q < length so.lists → IsBefore (run_at (so.lists ++ walk_list (walked (follower faces) first) on.last ∷ []) q) (walk_list (walked (follower faces) first) on.last)
+  increasing_new q less = subst (λ (xs : List ℕ). IsBefore xs (walk_list (walked (follower faces) first) on.last)) (sym (old_at q less)) (by_dart (so.found.below q less))
     where
       by_dart : (k : ℕ) × (k < length (run_at so.lists q)) × (get_or (run_at so.lists q) k 0 < d) → IsBefore (run_at so.lists q) (walk_list (walked (follower faces) first) on.last)
       by_dart (k, h, b) = (k, h, λ j l. omega (arith, b, list_high j l))
@@ -309,7 +309,7 @@ module _ (faces : Faces) (m : IsManifold faces) (d first : ℕ) (line : Line) (r
     found = record {
       runs = each_more (λ x xs. IsLongestRun faces xs) so.found.runs (longest faces m d first (length so.lists) line run_old run at_old at low back on);
       least = λ r k l c h. each_more (λ x xs. is_closed faces xs ≡ true → (j : ℕ) → j < length xs → first_dart xs ≤ get_or xs j 0) (λ x b e j t. so.found.least x j b e t) least_new r l c k h;
-      rising = λ q r less l. each_more (λ x xs. (p : ℕ) → p < x → IsBefore (run_at (so.lists ++ walk_list (walked (follower faces) first) on.last ∷ []) p) xs) rising_old rising_new r l q less;
+      increasing = λ q r less l. each_more (λ x xs. (p : ℕ) → p < x → IsBefore (run_at (so.lists ++ walk_list (walked (follower faces) first) on.last ∷ []) p) xs) increasing_old increasing_new r l q less;
       below = each_more (λ x xs. (k : ℕ) × (k < length xs) × (get_or xs k 0 < d + 1)) below_old below_new;
       told = λ r k l h. each_more (λ x xs. (j : ℕ) → j < length xs → (get_or run (get_or xs j 0) 0 ≡ x) × (get_or at (get_or xs j 0) 0 ≡ j)) told_old told_new r l k h;
       there = there;
@@ -329,7 +329,7 @@ passed_by faces d run at len closed old so = record {
   found = record {
     runs = so.found.runs;
     least = so.found.least;
-    rising = so.found.rising;
+    increasing = so.found.increasing;
     below = λ r l. by_dart r (so.found.below r l);
     told = so.found.told;
     there = so.found.there;
@@ -352,7 +352,7 @@ none_found faces run at is_run is_at = record {
   found = record {
     runs = λ r l. absurd (omega arith);
     least = λ r k l c h. absurd (omega arith);
-    rising = λ q r less l. absurd (omega arith);
+    increasing = λ q r less l. absurd (omega arith);
     below = λ r l. absurd (omega arith);
     told = λ r k l h. absurd (omega arith);
     there = λ e l ne. absurd (ne (ap (λ (xs : List ℕ). get_or xs e 0) is_run ∙ get_or_replicate_at (darts faces) e l));

@@ -58,7 +58,7 @@ pub record AreRunsBelow (faces : Faces) (d : ℕ) (run at : List ℕ) (lists : L
   pub runs : (r : ℕ) → r < length lists → IsLongestRun faces (run_at lists r)
   pub least : (r k : ℕ) → r < length lists → is_closed faces (run_at lists r) ≡ true → k < length (run_at lists r)
       → first_dart (run_at lists r) ≤ slice_index (run_at lists r) k
-  pub rising : (q r : ℕ) → q < r → r < length lists → IsBefore (run_at lists q) (run_at lists r)
+  pub increasing : (q r : ℕ) → q < r → r < length lists → IsBefore (run_at lists q) (run_at lists r)
   pub below : (r : ℕ) → r < length lists
       → (k : ℕ) × (k < length (run_at lists r)) × (slice_index (run_at lists r) k < d)
   pub told : (r k : ℕ) → r < length lists → k < length (run_at lists r)

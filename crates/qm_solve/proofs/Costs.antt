@@ -2,21 +2,21 @@
 use Rattle.std.proofs.Common.{◌≡◌, ℕ, zero, suc, ◌+◌, ◌-◌, ◌<◌, ◌≤◌, List, [], ◌∷◌, length, take, ◌+ℤ◌, refl, arith}
 use Rattle.std.specs.Prelude.{slice_index}
 use Rattle.std.proofs.lemmas.Int.{ints}
-use Rattle.def_math.specs.Rising.{IsRising}
+use Rattle.def_math.specs.Increasing.{IsIncreasing}
 use Rattle.def_math.specs.Sums.{total}
 use Rattle.qm_laws.proofs.Entries.{total_take}
 use Rattle.def_matching.specs.Matching.{Graph, edge_at, matching_cost}
 
--- Rising numbers are below the bound.
-pub rising_below : (low high : ℕ) (m : List ℕ) → IsRising low high m → (i : ℕ) → i < length m → slice_index m i < high
-rising_below low high [] rising i l = absurd (omega arith)
-rising_below low high (k ∷ ks) rising zero l = rising.1
-rising_below low high (k ∷ ks) rising (suc i) l = rising_below (k + 1) high ks rising.2 i (omega arith)
+-- Increasing numbers are below the bound.
+pub increasing_below : (low high : ℕ) (m : List ℕ) → IsIncreasing low high m → (i : ℕ) → i < length m → slice_index m i < high
+increasing_below low high [] increasing i l = absurd (omega arith)
+increasing_below low high (k ∷ ks) increasing zero l = increasing.1
+increasing_below low high (k ∷ ks) increasing (suc i) l = increasing_below (k + 1) high ks increasing.2 i (omega arith)
 
 -- There are no more of them than numbers in between.
-pub rising_few : (low high : ℕ) (m : List ℕ) → IsRising low high m → length m ≤ high - low
-rising_few low high [] rising = omega arith
-rising_few low high (k ∷ ks) rising = omega (arith, rising.0, rising.1, rising_few (k + 1) high ks rising.2)
+pub increasing_few : (low high : ℕ) (m : List ℕ) → IsIncreasing low high m → length m ≤ high - low
+increasing_few low high [] increasing = omega arith
+increasing_few low high (k ∷ ks) increasing = omega (arith, increasing.0, increasing.1, increasing_few (k + 1) high ks increasing.2)
 
 -- A sum along a list that is mapped.
 total_map : (g : Graph) (m : List ℕ) → matching_cost g m ≡ total (λ k. (edge_at g k).cost) m

@@ -7,7 +7,7 @@ use Rattle.std.proofs.lemmas.List.{length-map}
 use Rattle.std.proofs.lemmas.Bool.{and_parts, cases_lt}
 use Rattle.def_math.specs.Counts.{count, count_below}
 use Rattle.def_math.specs.Sums.{total, total_below}
-use Rattle.qm_laws.proofs.Counts.{count_below_front, count_below_le, count_below_times}
+use Rattle.qm_laws.proofs.Counts.{count_below_prefix, count_below_le, count_below_times}
 use Rattle.qm_laws.proofs.Sums.{times_sum, total_below_same, total_same}
 use Rattle.qm_table.proofs.Ranges.{part_low}
 use Rattle.def_flow.specs.Network.{Network, IsWithinBounds, arc_at, ends}
@@ -48,7 +48,7 @@ side_times arcs c plus v = total_below_same _ _ (length arcs) (λ k l. total_sam
 -- The sum of the old lengths, by the arcs' numbers.
 old_sum : (arcs : List Arc) → count_below (λ k. (arc_at arcs k).old) (length arcs) ≡ count (λ a. a.old) arcs
 old_sum [] = refl
-old_sum (a ∷ arcs) = count_below_front (λ k. (arc_at (a ∷ arcs) k).old) (length arcs) ∙ ap (λ n. a.old + n) (old_sum arcs)
+old_sum (a ∷ arcs) = count_below_prefix (λ k. (arc_at (a ∷ arcs) k).old) (length arcs) ∙ ap (λ n. a.old + n) (old_sum arcs)
 
 -- How far a multiple of one old length is from the scale.
 apart : (q p c old : ℕ) → p ≤ q * c + q → q * c ≤ p + 3 * q → unsigned_abs (pos q *ℤ pos (c * old) -ℤ pos (p * old)) ≤ 3 * q * old

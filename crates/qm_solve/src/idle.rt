@@ -11,7 +11,7 @@ use qm_dual::dual_ok;
 use std::alloc::Global;
 
 /// The dual without the sets whose number is 0, if both have one verdict: so a mistake here could keep sets, and never
-/// cost an answer. Linear, but for the judgement.
+/// cost an answer. Linear, but for the check.
 pub(crate) fn without_idle_sets(alloc: Global, g: &WGraph, d: Dual) -> Result<Dual, Memory>
     requires graph { IsSmallGraph (graph g.now) }
     requires small { IsSmallDual (dual d) }
@@ -36,7 +36,7 @@ fn kept_sets(alloc: Global, g: &WGraph, d: &Dual, sum: i128) -> Result<Dual, Mem
 {
     let names = new_names(alloc, &d.z, &d.up)?;
     let z = without_zeros(alloc, &d.z)?;
-    let up = renamed(alloc, &d.up, &d.z, &names)?;
+    let up = rename(alloc, &d.up, &d.z, &names)?;
     let y = Vec::from_slice(alloc, &d.y)?;
     Ok(Dual { y, z, up })
 }
@@ -78,7 +78,7 @@ fn new_name(names: &[u32], entry: u32) -> u32
 }
 
 /// The entries of the vertices and of the kept sets.
-fn renamed(alloc: Global, up: &[u32], z: &[i64], names: &[u32]) -> Result<Vec<u32>, Memory>
+fn rename(alloc: Global, up: &[u32], z: &[i64], names: &[u32]) -> Result<Vec<u32>, Memory>
     requires low { AreNamed (length names.now) up.now }
     requires long { length z.now ≤ length up.now }
 {

@@ -2,7 +2,7 @@
 
 ghost use Rattle.std.specs.Prelude.{◌≡◌, ◌≤◌, ◌<◌, ◌^◌, ◌*◌, ℕ, pos, length, slice_index_or};
 ghost use Rattle.std.specs.Prelude.{unsigned_abs, IfOk};
-ghost use Rattle.def_math.specs.Rising.{IsRising};
+ghost use Rattle.def_math.specs.Increasing.{IsIncreasing};
 ghost use Rattle.def_matching.specs.Matching.{graph, matching_cost, IsGraph};
 ghost use Rattle.def_flow.specs.Network.{network, tangle_number, IsWithinBounds};
 ghost use Rattle.def_flow.specs.Admissible.{entries, AreLengths, IsAdmissible};
@@ -75,7 +75,7 @@ pub fn first_wishes(
 /// The cost of a matching. Linear in its edges.
 pub(crate) fn cost_of(g: &WGraph, matching: &[u32]) -> i128
     requires few { length g.now.edges.items ≤ 2 ^ 30 }
-    requires rising { IsRising 0 (length g.now.edges.items) matching.now }
+    requires increasing { IsIncreasing 0 (length g.now.edges.items) matching.now }
     ensures { result ≡ matching_cost (graph g.now) matching.now }
 {
     let mut cost = 0i128;

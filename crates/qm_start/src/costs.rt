@@ -19,7 +19,7 @@ pub(crate) struct Cost {
 
 impl Cost {
     /// What `q` times the length should be.
-    fn wanted(&self) -> u64
+    fn target(&self) -> u64
         ensures { result ≤ 2 ^ 48 }
     {
         u64::from(self.p) * u64::from(self.old)
@@ -29,7 +29,7 @@ impl Cost {
     /// rest raises it.
     pub(crate) fn rise(&self, length: u64) -> i64 {
         let q = u128::from(self.q);
-        let short = u128::from(self.wanted()).saturating_sub(q * u128::from(length));
+        let short = u128::from(self.target()).saturating_sub(q * u128::from(length));
         let below = if short < q {
             short as i64
         } else {
@@ -105,7 +105,7 @@ pub(crate) fn slope_of(alloc: Global, net: &Net, chain: &[u32]) -> Result<Slope,
         let cost = cost_of(net, *end / 2);
         let most = i64::from(cost.weight) * i64::from(cost.q);
         // One more costs least up to what is wanted, most beyond it, and something between on the step across.
-        let across = cost.wanted() / u64::from(cost.q);
+        let across = cost.target() / u64::from(cost.q);
         let rise = cost.rise(across);
         before = before.saturating_sub(most);
         bends.push((across, rise.saturating_add(most)))?;

@@ -62,13 +62,13 @@ repeat_moved xs ys key moved (inl loop) = inl (loop.0, Contains-permutation xs y
 repeat_moved xs ys key moved (inr two) =
     inr (two_places key ys (omega (arith, two_times key xs two, sum_by-IsPermutation (hit key) xs ys moved)))
 
--- In a rising list, what stands twice stands at two places in a row.
+-- In an increasing list, what stands twice stands at two places in a row.
 pub next_to : (xs : List ℕ) (key : ℕ) → IsNonDecreasing xs → StandsTwice xs key
     → (i : ℕ) × (i + 1 < length xs) × (get_or xs i 0 ≡ key) × (get_or xs (i + 1) 0 ≡ key)
-next_to xs key rising (i, j, less, low, at_i, at_j) =
-    (i, omega (arith, less, low), at_i, omega (arith, at_i, at_j, rising i (i + 1) 0 (omega arith) (omega (arith, less, low)), rising (i + 1) j 0 (omega (arith, less)) low))
+next_to xs key increasing (i, j, less, low, at_i, at_j) =
+    (i, omega (arith, less, low), at_i, omega (arith, at_i, at_j, increasing i (i + 1) 0 (omega arith) (omega (arith, less, low)), increasing (i + 1) j 0 (omega (arith, less)) low))
 
-module _ (keys : List ℕ) (rising : IsNonDecreasing keys) where
+module _ (keys : List ℕ) (increasing : IsNonDecreasing keys) where
   at_repeat : (place : ℕ) → place < length keys → is_repeat_at keys place ≡ true → IsRepeat keys (get_or keys place 0)
   at_repeat place low on = elim (or_cases _ _ on) [
     | inl loop ↦ inl (eqb-true (get_or keys place 0 / 2 ^ 32) (get_or keys place 0 % 2 ^ 32) loop, Contains-get_or keys place 0 low)
@@ -86,7 +86,7 @@ module _ (keys : List ℕ) (rising : IsNonDecreasing keys) where
         or_left (is_loop (get_or keys k 0)) (nat_lt (k + 1) (length keys) && get_or keys (k + 1) 0 == get_or keys k 0)
             (eq-eqb (get_or keys k 0 / 2 ^ 32) (get_or keys k 0 % 2 ^ 32) (ap (λ n. n / 2 ^ 32) here ∙ loop ∙ ap (λ n. n % 2 ^ 32) (sym here))),
       )
-  repeat_at key (inr two) = by_next (next_to keys key rising two)
+  repeat_at key (inr two) = by_next (next_to keys key increasing two)
     where
       by_next : (i : ℕ) × (i + 1 < length keys) × (get_or keys i 0 ≡ key) × (get_or keys (i + 1) 0 ≡ key)
           → (k : ℕ) × (k < length keys) × (get_or keys k 0 ≡ key) × (is_repeat_at keys k ≡ true)
@@ -107,7 +107,7 @@ module _ (keys : List ℕ) (rising : IsNonDecreasing keys) where
       by_place : (other : ℕ) → (k : ℕ) × (k < length keys) × (get_or keys k 0 ≡ other) × (is_repeat_at keys k ≡ true) → get_or keys place 0 ≤ other
       by_place other (k, k_low, at, is) = elim (cases_lt k place) [
         | inl less ↦ absurd (false≢true (sym (none k less) ∙ is))
-        | inr more ↦ omega (arith, at, rising place k 0 more k_low)
+        | inr more ↦ omega (arith, at, increasing place k 0 more k_low)
       ]
 
   pub none_is : ((k : ℕ) → k < length keys → is_repeat_at keys k ≡ false) → (key : ℕ) → ¬ IsRepeat keys key

@@ -93,7 +93,7 @@ pub record IsLeastRepeat (keys : List ℕ) (key : ℕ) : Type 0 where
   pub is : IsRepeat keys key
   pub least : (other : ℕ) → IsRepeat keys other → key ≤ other
 
--- The key at a place of a rising list is that of a loop, or stands at the next place, too.
+-- The key at a place of an increasing list is that of a loop, or stands at the next place, too.
 abbrev pub is_repeat_at : (keys : List ℕ) (place : ℕ) → Bool
 is_repeat_at keys place =
     is_loop (slice_index keys place)

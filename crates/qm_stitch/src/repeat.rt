@@ -41,7 +41,7 @@ pub(crate) fn least_repeat(keys: Vec<u64>) -> Option<u64>
 /// Sorts keys.
 fn sort(keys: &mut Vec<u64>)
     ensures moved { IsPermutation keys.old.items keys.new.items }
-    ensures rising { IsNonDecreasing keys.new.items }
+    ensures increasing { IsNonDecreasing keys.new.items }
 {
     keys.sort_unstable();
 }

@@ -14,7 +14,7 @@ use Rattle.def_layout.specs.Nodes.{is_node}
 use Rattle.def_layout.specs.declared.tmesh.SideArc.{SideArc}
 use Rattle.cut_laws.proofs.Darts.{twin_same}
 use Rattle.cut_laws.proofs.Leasts.{least_there}
-use Rattle.cut_laws.proofs.Rising.{rising_place}
+use Rattle.cut_laws.proofs.Increasing.{increasing_place}
 use Rattle.layout_laws.specs.Named.{run_list, run_name}
 use Rattle.layout_laws.proofs.Borders.{each_in_run}
 use Rattle.layout_laws.proofs.Runs.{IsBack, run_low, run_inner, same_place, same_length, back_run}
@@ -77,7 +77,7 @@ module _ (faces : Faces) (cut marks : List Bool) (marked : IsMarked faces cut ma
     same_arc a b la lb s r one two ea eb e =
         let size : long_at arcs a ≡ long_at arcs b = same_length (half_edges faces) marked.laws (is_on cut) marked.full (is_node faces cut) marked.stand r (long_at arcs a) (long_at arcs b) (subst (λ (x : ℕ). IsRun (half_edges faces) (is_on cut) (is_node faces cut) x (long_at arcs a)) e one.run) two.run in
         let name : name_at arcs a ≡ name_at arcs b = ap least_of ea ∙ (ap (λ x. run_name (half_edges faces) x (long_at arcs a)) e ∙ (ap (run_name (half_edges faces) r) size ∙ sym (ap least_of eb))) in
-        rising_place (name_at arcs) (length arcs) (record { step = named.ordered }) a b la lb name
+        increasing_place (name_at arcs) (length arcs) (record { step = named.ordered }) a b la lb name
 
     pub one_use : (a b e : ℕ) (f g : Bool) → a < length arcs → b < length arcs → LiesAt (half_edges faces) (arc_at arcs a).darts f 0 e → LiesAt (half_edges faces) (arc_at arcs b).darts g 0 e → (a ≡ b) × (f ≡ g)
     one_use a b e f g la lb at here = by_ways f g (named.each a la) (named.each b lb) at here

@@ -60,7 +60,7 @@ module _ (input out : Change) (bytes : Bytes) (whole : ReadWhole MAX_BYTES input
   unaccepted_ends before now (Layout (layouts.Tangled count)) none =
       record { cause = record { bytes = bytes; whole = whole; said = none.1 }; names = λ p is. cc; calm = λ f m. calm }
   unaccepted_ends before now (Write fail) broke = record {
-    cause = record { bytes = bytes; whole = whole; text = broke.text; said = broke.said; front = broke.front; fault = broke.fault };
+    cause = record { bytes = bytes; whole = whole; text = broke.text; said = broke.said; prefix = broke.prefix; fault = broke.fault };
     names = λ p is. cc;
     calm = λ f m. calm;
   }

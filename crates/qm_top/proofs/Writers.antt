@@ -47,7 +47,7 @@ module _ (command : Command) (says : Bytes → Type 0) (fails : LayoutFail → T
       whole = is.whole;
       text = broke.text;
       said = is.writes broke.text broke.said;
-      front = broke.front;
+      prefix = broke.prefix;
       fault = broke.fault;
     };
     names = λ p same. cc;

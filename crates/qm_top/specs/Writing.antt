@@ -2,7 +2,7 @@
 use Rattle.std.specs.Prelude.{◌≡◌}
 use Rattle.def_io.specs.Bytes.{Bytes}
 use Rattle.def_io.specs.Faults.{Rose}
-use Rattle.def_io.specs.Moves.{Change, took, TookFront}
+use Rattle.def_io.specs.Moves.{Change, took, TookPrefix}
 use Rattle.def_certtext.specs.declared.Asked.{Asked}
 use Rattle.def_layout.specs.Plans.{Plan}
 use Rattle.std.specs.Option.{option_map}
@@ -26,11 +26,11 @@ pub record WroteText (says : Bytes → Type 0) (out : Change) : Type 0 where
   pub said : says text
   pub written : out.told_now ≡ took out.told text
 
--- It failed, and took only a front of one.
+-- It failed, and took only a prefix of one.
 pub record BrokeText (says : Bytes → Type 0) (out : Change) : Type 0 where
   pub text : Bytes
   pub said : says text
-  pub front : TookFront out.told out.told_now text
+  pub prefix : TookPrefix out.told out.told_now text
   pub fault : Rose out.faults out.faults_now
 
 -- Why no text was written whole. Where the sink did not fail it is as it was.

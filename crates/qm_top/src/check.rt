@@ -1,4 +1,4 @@
-//! `check`: an old text and the text of a remesh of its mesh are judged.
+//! `check`: an old text and the text of a remesh of its mesh are checked.
 
 ghost use Rattle.std.specs.Prelude.{◌≡◌, ◌≤◌, length, IfErr, OnOk};
 ghost use Rattle.def_io.specs.Bytes.{Bytes};
@@ -34,7 +34,7 @@ pub(crate) fn check<S: Source, O: Sink>(
     check_lines(alloc, &lines, out)
 }
 
-/// Judges the lines, and writes the line that accepts them.
+/// Checks the lines, and writes the line that accepts them.
 fn check_lines<O: Sink>(alloc: Global, lines: &Lines, out: &mut O) -> Result<(), Refusal>
     requires { length lines.now ≤ MAX_BYTES }
     ensures done { OnOk result (WroteText (WritesAccepted lines.now)

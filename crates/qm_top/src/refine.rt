@@ -2,7 +2,7 @@
 
 ghost use Rattle.std.specs.Prelude.{◌≡◌, ◌≤◌, IfOk, IfErr, OnOk, OnErr};
 ghost use Rattle.def_io.specs.Faults.{Rose};
-ghost use Rattle.def_io.specs.Moves.{change, took, TookFront};
+ghost use Rattle.def_io.specs.Moves.{change, took, TookPrefix};
 ghost use Rattle.def_layout.specs.Plans.{plan};
 ghost use Rattle.def_remesh.specs.Placings.{IsLayoutIn};
 ghost use Rattle.def_remesh.specs.Refined.{refined_text};
@@ -99,7 +99,7 @@ fn write_refined<O: Sink>(
     requires points { ArePointsBy refined.now.by cut.now.mesh (plan cut.now.layout) refined.now.points }
     ensures whole { OnOk result (O.taken out.new
         ≡ took (O.taken out.old) (refined_text refined.now.by soup.now (plan cut.now.layout))) }
-    ensures front { OnErr result (TookFront (O.taken out.old) (O.taken out.new)
+    ensures prefix { OnErr result (TookPrefix (O.taken out.old) (O.taken out.new)
         (refined_text refined.now.by soup.now (plan cut.now.layout))) }
     ensures fault { OnErr result (Rose (O.faults out.old) (O.faults out.new)) }
 {

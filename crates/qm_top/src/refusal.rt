@@ -45,21 +45,21 @@ impl Refusal {
         ensures accepted { result.answer ≢ Answer.Usage }
     {
         match self {
-            Refusal::NotAccepted(why) => unnamed(alloc, Answer::NotAccepted { why }),
-            Refusal::Soup(fail) => unnamed(alloc, soup_answer(fail)),
+            Refusal::NotAccepted(why) => without_names(alloc, Answer::NotAccepted { why }),
+            Refusal::Soup(fail) => without_names(alloc, soup_answer(fail)),
             Refusal::NotManifold(named) => Reply {
                 answer: Answer::NotManifold { place: named.place },
                 names: named.names,
             },
-            Refusal::Layout(fail) => unnamed(alloc, layout_answer(fail)),
-            Refusal::Write(_) => unnamed(alloc, Answer::WriteFault),
-            Refusal::Memory => unnamed(alloc, Answer::Memory),
+            Refusal::Layout(fail) => without_names(alloc, layout_answer(fail)),
+            Refusal::Write(_) => without_names(alloc, Answer::WriteFault),
+            Refusal::Memory => without_names(alloc, Answer::Memory),
         }
     }
 }
 
 /// An answer that names no vertex.
-fn unnamed(alloc: Global, answer: Answer) -> Reply
+fn without_names(alloc: Global, answer: Answer) -> Reply
     ensures answer { result.answer ≡ answer }
     ensures names { result.names.items ≡ [] }
 {

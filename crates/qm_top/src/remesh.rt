@@ -5,7 +5,7 @@ ghost use Rattle.std.specs.Option.{option_map};
 ghost use Rattle.def_certtext.specs.CertLines.{lists_of};
 ghost use Rattle.def_certtext.specs.Settings.{AreInRange};
 ghost use Rattle.def_io.specs.Faults.{Rose};
-ghost use Rattle.def_io.specs.Moves.{change, took, TookFront};
+ghost use Rattle.def_io.specs.Moves.{change, took, TookPrefix};
 ghost use Rattle.def_layout.specs.Plans.{plan};
 ghost use Rattle.def_remesh.specs.Keeping.{IsKept};
 ghost use Rattle.def_remesh.specs.Placings.{IsLayoutIn};
@@ -78,7 +78,7 @@ fn write_remeshed<O: Sink>(
     requires kept { IsKept (plan cut.now.layout) kept.asked.settings kept.asked.auto
         (lists_of kept.first) (option_map lists_of kept.third) kept.numbering }
     ensures whole { OnOk result (O.taken out.new ≡ took (O.taken out.old) (text_of kept soup.now (plan cut.now.layout))) }
-    ensures front { IsErrOf result PutFail.Stopped → TookFront (O.taken out.old) (O.taken out.new)
+    ensures prefix { IsErrOf result PutFail.Stopped → TookPrefix (O.taken out.old) (O.taken out.new)
         (text_of kept soup.now (plan cut.now.layout)) }
     ensures fault { IsErrOf result PutFail.Stopped → Rose (O.faults out.old) (O.faults out.new) }
     ensures untouched { IsErrOf result PutFail.Memory → out.new ≡ out.old }

@@ -113,7 +113,7 @@ fn each_fault_of_the_source_is_told(rt: HostRuntime) -> Result<(), Fail> {
 }
 
 #[test]
-fn each_fault_of_the_sink_leaves_a_front(rt: HostRuntime) -> Result<(), Fail> {
+fn each_fault_of_the_sink_leaves_a_prefix(rt: HostRuntime) -> Result<(), Fail> {
     for line in LINES {
         let (_answer, whole, _err) = ran(rt.alloc(), line, QUAD, ALL_WELL)?;
         let calls = whole.taken().len().div_ceil(10) as u64;

@@ -2,7 +2,7 @@
 
 ghost use Rattle.std.specs.Prelude.{◌≡◌, OnOk, OnErr};
 ghost use Rattle.def_io.specs.Faults.{Rose};
-ghost use Rattle.def_io.specs.Moves.{change, took, TookFront};
+ghost use Rattle.def_io.specs.Moves.{change, took, TookPrefix};
 ghost use Rattle.def_text.specs.Canonical.{canonical_text};
 ghost use Rattle.qm_top.specs.Runs.{HasRun};
 
@@ -35,7 +35,7 @@ pub(crate) fn tidy<S: Source, O: Sink>(
 /// Writes the canonical text of a soup.
 fn write_soup<O: Sink>(soup: &Soup, out: &mut O, room: &mut Room) -> Result<(), Stopped>
     ensures whole { OnOk result (O.taken out.new ≡ took (O.taken out.old) (canonical_text soup.now)) }
-    ensures front { OnErr result (TookFront (O.taken out.old) (O.taken out.new) (canonical_text soup.now)) }
+    ensures prefix { OnErr result (TookPrefix (O.taken out.old) (O.taken out.new) (canonical_text soup.now)) }
     ensures fault { OnErr result (Rose (O.faults out.old) (O.faults out.new)) }
 {
     let mut text = Buffer::new(out, room);

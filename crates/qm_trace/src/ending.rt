@@ -43,7 +43,7 @@ fn close_edge(mesh: &Mesh, d: u32, covered: &mut [bool])
 }
 
 /// Puts down what became of each rider.
-pub(crate) fn told(mesh: &Mesh, starts: &[u32], riders: &[Moving], told: &mut Vec<Rider>)
+pub(crate) fn tell_riders(mesh: &Mesh, starts: &[u32], riders: &[Moving], told: &mut Vec<Rider>)
     requires starts { starts.now ≡ start_darts mesh.now }
     requires riders { riders.now ≡ (last_state mesh.now).riders }
     requires empty { told.old.items ≡ [] }

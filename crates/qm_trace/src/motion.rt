@@ -17,7 +17,7 @@ ghost use Rattle.def_mesh.specs.Vertices.{vertex_count};
 ghost use Rattle.def_motion.specs.Views.{with_state, IsMotionOn};
 
 use crate::Memory;
-use crate::ending::{close, told};
+use crate::ending::{close, tell_riders};
 use crate::ground::site_at;
 use crate::marks::{cover_edge, leave};
 use crate::notes::{Notes, clear, no_notes, note};
@@ -193,7 +193,7 @@ impl Motion {
             told: mut riders_told,
             ..
         } = self;
-        told(mesh, &starts, &riders.list, &mut riders_told);
+        tell_riders(mesh, &starts, &riders.list, &mut riders_told);
         let covered = close(mesh, covered);
         Graph {
             covered,

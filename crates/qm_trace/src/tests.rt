@@ -36,7 +36,7 @@ const ENDS: [(u32, Stop); 4] = [
     (2, Stop::Tie { vertex: 7 }),
 ];
 
-/// The number in the i-th place of those below n, rising or falling.
+/// The number in the i-th place of those below n, increasing or decreasing.
 fn place(i: u32, n: u32, falling: bool) -> u32
     requires { i < n }
     ensures { result < n }
@@ -91,7 +91,7 @@ fn settle(motion: &mut Motion, mesh: &Mesh, src: &Starts, v: u32)
     }
 }
 
-/// Moves the riders of one instant by rising or by falling numbers.
+/// Moves the riders of one instant by increasing or by decreasing numbers.
 fn ride_all(motion: &mut Motion, mesh: &Mesh, src: &Starts, falling: bool)
     requires motion { IsMotionOn mesh.now motion.old }
     requires starts { motion.old.starts ≡ src.now.starts.items }

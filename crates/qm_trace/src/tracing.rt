@@ -8,7 +8,7 @@ ghost use Rattle.def_mesh.specs.Sources.{AreSources};
 ghost use Rattle.qm_trace.specs.Tables.{IsEnd};
 
 use crate::Memory;
-use crate::ending::{close, told};
+use crate::ending::{close, tell_riders};
 use crate::queue::{darts_of, everyone, still_running};
 use crate::starting::first_tables;
 use crate::stepping::{Tables, step};
@@ -26,7 +26,7 @@ pub fn trace(alloc: Global, mesh: &Mesh, src: &Starts) -> Result<Graph, Memory>
     let _known = mesh.faces();
     let end = last_tables(alloc, mesh, &src.starts)?;
     let mut riders = Vec::with_capacity(alloc, src.starts.len())?;
-    told(mesh, &src.starts, &end.riders, &mut riders);
+    tell_riders(mesh, &src.starts, &end.riders, &mut riders);
     let covered = close(mesh, end.covered);
     Ok(Graph { covered, riders })
 }

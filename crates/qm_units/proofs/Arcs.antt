@@ -190,11 +190,11 @@ lengths_law net step xs m bounds positive l ax perfect = (count, record { high =
     us : List ArcUnit
     us = units net step net.arcs xs
 
-    room : ℕ → ℕ
-    room v = active v us (states_at net step xs)
+    copies_at : ℕ → ℕ
+    copies_at v = active v us (states_at net step xs)
 
     ons : List Bool
-    ons = states_told room us (marks_from 0 (length (matching_graph net step xs).edges) m)
+    ons = states_told copies_at us (marks_from 0 (length (matching_graph net step xs).edges) m)
 
     js : List ℕ
     js = steps_told net step xs ons
@@ -212,13 +212,13 @@ lengths_law net step xs m bounds positive l ax perfect = (count, record { high =
     at = units_at net step net.arcs xs (arcs_at net.nodes net.arcs bounds.arcs)
 
     ons_count : length ons ≡ length us
-    ons_count = told_length room us (marks_from 0 (length (matching_graph net step xs).edges) m)
+    ons_count = told_length copies_at us (marks_from 0 (length (matching_graph net step xs).edges) m)
 
     fills : (v : ℕ) → active v us ons ≡ active v us (states_at net step xs)
     fills v = by_node (cases_lt v net.nodes)
       where
         by_node : (v < net.nodes) ⊎ (net.nodes ≤ v) → active v us ons ≡ active v us (states_at net step xs)
-        by_node (inl low_node) = told_fills net.nodes room (rim_active us (states_at net step xs) % 2 == 1) us at m perfect v low_node
+        by_node (inl low_node) = told_fills net.nodes copies_at (rim_active us (states_at net step xs) % 2 == 1) us at m perfect v low_node
         by_node (inr past) = active_past net.nodes v us ons past at ∙ sym (active_past net.nodes v us (states_at net step xs) past at)
 
     own : IsRaised net step xs (map (down net step) xs) xs
@@ -259,7 +259,7 @@ lengths_law net step xs m bounds positive l ax perfect = (count, record { high =
     dear = omega (
       arith,
       ints,
-      told_cost net.nodes room (rim_active us (states_at net step xs) % 2 == 1) us at m perfect,
+      told_cost net.nodes copies_at (rim_active us (states_at net step xs) % 2 == 1) us at m perfect,
       told_dear net step net.arcs xs ons l ons_count,
       deviation_list net net.arcs ys count,
       deviation_list net net.arcs (lows net step xs) (length-map xs (low net step) ∙ l),

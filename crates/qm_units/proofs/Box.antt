@@ -4,8 +4,8 @@ use Rattle.std.proofs.lemmas.Int.{ints}
 use Rattle.std.proofs.Math.Nat.{mul-div_cancel_left}
 use Rattle.def_math.specs.Sums.{total}
 use Rattle.def_math.specs.Counts.{count, count_below}
-use Rattle.qm_laws.proofs.Entries.{total_below_front}
-use Rattle.qm_laws.proofs.Counts.{count_below_front}
+use Rattle.qm_laws.proofs.Entries.{total_below_prefix}
+use Rattle.qm_laws.proofs.Counts.{count_below_prefix}
 use Rattle.def_flow.specs.Network.{Network, ends, arc_at}
 use Rattle.def_flow.specs.Admissible.{IsBalanced, is_on_side, side_sum, arc_deviation, entries}
 use Rattle.def_flow.specs.Units.{down, low, cap, units_from, units, run, states, is_active, active, cost_on}
@@ -116,7 +116,7 @@ side_list v on [] [] l = refl
 side_list v on (a ∷ arcs) (y ∷ ys) l = omega (
   arith,
   ints,
-  total_below_front (λ k. total (λ e. cond (is_on_side v on e) (entries (y ∷ ys) k) (pos 0)) (ends (arc_at (a ∷ arcs) k))) (length arcs),
+  total_below_prefix (λ k. total (λ e. cond (is_on_side v on e) (entries (y ∷ ys) k) (pos 0)) (ends (arc_at (a ∷ arcs) k))) (length arcs),
   ends_side v y on (ends a),
   side_list v on arcs ys (omega arith),
 )
@@ -164,7 +164,7 @@ deviations net _ _ = 0
 
 pub deviation_list : (net : Network) (arcs : List Arc) (ys : List ℕ) → length ys ≡ length arcs → count_below (λ k. arc_deviation net (arc_at arcs k) (entries ys k)) (length arcs) ≡ deviations net arcs ys
 deviation_list net [] [] l = refl
-deviation_list net (a ∷ arcs) (y ∷ ys) l = omega (arith, count_below_front (λ k. arc_deviation net (arc_at (a ∷ arcs) k) (entries (y ∷ ys) k)) (length arcs), deviation_list net arcs ys (omega arith))
+deviation_list net (a ∷ arcs) (y ∷ ys) l = omega (arith, count_below_prefix (λ k. arc_deviation net (arc_at (a ∷ arcs) k) (entries (y ∷ ys) k)) (length arcs), deviation_list net arcs ys (omega arith))
 deviation_list net _ _ l = absurd (omega arith)
 
 none_cost : (net : Network) (step : ℕ) (a : Arc) (x k n : ℕ) → cost_on (units_from net step a (low net step x) k n) (run 0 n) ≡ pos 0

@@ -35,8 +35,8 @@ deviation_change net a l d small light =
     let less : near ≤ far + net.q * d = omega (arith, ints, mul-add net.q l d) in
     let up : a.weight * far ≤ a.weight * (near + net.q * d) = mul-le-mul_left a.weight more in
     let down : a.weight * near ≤ a.weight * (far + net.q * d) = mul-le-mul_left a.weight less in
-    let room : a.weight * (net.q * d) ≤ 1000 * (1000 * d) = mul-le-mul light (mul-le-mul small (omega arith)) in
-    omega (arith, ints, up, down, mul-add a.weight near (net.q * d), mul-add a.weight far (net.q * d), room)
+    let copies_at : a.weight * (net.q * d) ≤ 1000 * (1000 * d) = mul-le-mul light (mul-le-mul small (omega arith)) in
+    omega (arith, ints, up, down, mul-add a.weight near (net.q * d), mul-add a.weight far (net.q * d), copies_at)
 
 from_cheap : (net : Network) (step : ℕ) (a : Arc) (x k n : ℕ) → net.q ≤ 1000 → a.weight ≤ 1000 → AreCheapUnits (1000 * (1000 * step)) (units_from net step a (low net step x) k n)
 from_cheap net step a x k zero small light = tt
@@ -72,20 +72,20 @@ paid : (c : ℕ) (plus : Bool) (cost : ℤ) → unsigned_abs cost ≤ c → (uns
 paid c true cost le = (le, omega arith)
 paid c false cost le = (omega arith, le)
 
-copies_cheap : (c : ℕ) (room : ℕ → ℕ) (u : ℕ) (cost : ℤ) (e : End) → unsigned_abs cost ≤ c → AreCheap c (to_copies room u cost e)
-copies_cheap c room u cost e le = fan_cheap c u (cond e.plus cost (pos 0)) (count_below room e.node) (room e.node) (paid c e.plus cost le).0
+copies_cheap : (c : ℕ) (copies_at : ℕ → ℕ) (u : ℕ) (cost : ℤ) (e : End) → unsigned_abs cost ≤ c → AreCheap c (to_copies copies_at u cost e)
+copies_cheap c copies_at u cost e le = fan_cheap c u (cond e.plus cost (pos 0)) (count_below copies_at e.node) (copies_at e.node) (paid c e.plus cost le).0
 
-links_cheap : (c : ℕ) (room : ℕ → ℕ) (b : ℕ) (cost : ℤ) (left : End) (right : Option End) → unsigned_abs cost ≤ c → AreCheap c (links_by room b cost left right)
-links_cheap c room b cost left None le = cheap_append c (to_copies room b cost left) _ (copies_cheap c room b cost left le) ((paid c left.plus cost le).1, tt)
-links_cheap c room b cost left (Some right) le = by_signs (are_alike left right)
+links_cheap : (c : ℕ) (copies_at : ℕ → ℕ) (b : ℕ) (cost : ℤ) (left : End) (right : Option End) → unsigned_abs cost ≤ c → AreCheap c (links_by copies_at b cost left right)
+links_cheap c copies_at b cost left None le = cheap_append c (to_copies copies_at b cost left) _ (copies_cheap c copies_at b cost left le) ((paid c left.plus cost le).1, tt)
+links_cheap c copies_at b cost left (Some right) le = by_signs (are_alike left right)
   where
-    by_signs : (s : Bool) → AreCheap c (cond s (to_copies room b cost left ++ (to_copies room (b + 1) (pos 0) right ++ inner_link b cost left ∷ [])) (to_copies room b cost left ++ to_copies room b cost right))
-    by_signs true = cheap_append c (to_copies room b cost left) _ (copies_cheap c room b cost left le) (cheap_append c (to_copies room (b + 1) (pos 0) right) _ (copies_cheap c room (b + 1) (pos 0) right (omega arith)) ((paid c left.plus cost le).1, tt))
-    by_signs false = cheap_append c (to_copies room b cost left) _ (copies_cheap c room b cost left le) (copies_cheap c room b cost right le)
+    by_signs : (s : Bool) → AreCheap c (cond s (to_copies copies_at b cost left ++ (to_copies copies_at (b + 1) (pos 0) right ++ inner_link b cost left ∷ [])) (to_copies copies_at b cost left ++ to_copies copies_at b cost right))
+    by_signs true = cheap_append c (to_copies copies_at b cost left) _ (copies_cheap c copies_at b cost left le) (cheap_append c (to_copies copies_at (b + 1) (pos 0) right) _ (copies_cheap c copies_at (b + 1) (pos 0) right (omega arith)) ((paid c left.plus cost le).1, tt))
+    by_signs false = cheap_append c (to_copies copies_at b cost left) _ (copies_cheap c copies_at b cost left le) (copies_cheap c copies_at b cost right le)
 
-units_links_cheap : (c : ℕ) (room : ℕ → ℕ) (b : ℕ) (us : List ArcUnit) → AreCheapUnits c us → AreCheap c (units_links room b us)
-units_links_cheap c room b [] cheap = tt
-units_links_cheap c room b (u ∷ us) cheap = cheap_append c (links_by room b u.cost u.left u.right) _ (links_cheap c room b u.cost u.left u.right cheap.0) (units_links_cheap c room (b + unit_size u) us cheap.1)
+units_links_cheap : (c : ℕ) (copies_at : ℕ → ℕ) (b : ℕ) (us : List ArcUnit) → AreCheapUnits c us → AreCheap c (units_links copies_at b us)
+units_links_cheap c copies_at b [] cheap = tt
+units_links_cheap c copies_at b (u ∷ us) cheap = cheap_append c (links_by copies_at b u.cost u.left u.right) _ (links_cheap c copies_at b u.cost u.left u.right cheap.0) (units_links_cheap c copies_at (b + unit_size u) us cheap.1)
 
 free_cheap : (c : ℕ) (es : List WEdge) → AreFree es → AreCheap c es
 free_cheap c [] free = tt
@@ -103,10 +103,10 @@ costs net step xs bounds k l = cheap_at (1000 * (1000 * step)) (matching_graph n
     us : List ArcUnit
     us = units net step net.arcs xs
 
-    room : ℕ → ℕ
-    room v = active v us (states_at net step xs)
+    copies_at : ℕ → ℕ
+    copies_at v = active v us (states_at net step xs)
 
     all : AreCheap (1000 * (1000 * step)) (matching_graph net step xs).edges
-    all = cheap_append (1000 * (1000 * step)) (units_links room (count_below room net.nodes) us) _
-        (units_links_cheap (1000 * (1000 * step)) room (count_below room net.nodes) us (units_cheap net step net.nodes net.arcs xs bounds.q_high bounds.arcs))
-        (free_cheap (1000 * (1000 * step)) _ (rim_free _ _ (rim (count_below room net.nodes) us)))
+    all = cheap_append (1000 * (1000 * step)) (units_links copies_at (count_below copies_at net.nodes) us) _
+        (units_links_cheap (1000 * (1000 * step)) copies_at (count_below copies_at net.nodes) us (units_cheap net step net.nodes net.arcs xs bounds.q_high bounds.arcs))
+        (free_cheap (1000 * (1000 * step)) _ (rim_free _ _ (rim (count_below copies_at net.nodes) us)))

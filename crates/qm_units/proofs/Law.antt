@@ -94,7 +94,7 @@ box_deviation net step xs js ys l box = omega (
 -- The matching law.
 pub matching_law : (net : Network) (step : ℕ) (xs js ys : List ℕ) → IsWithinBounds net → 1 ≤ step → length xs ≡ length net.arcs → IsAdmissible net (entries xs) → IsAdmissible net (entries ys) → IsRaised net step xs js ys
     → IsPerfect (matching_graph net step xs) (matching_told net step xs js) × (matching_cost (matching_graph net step xs) (matching_told net step xs js) ≡ pos (deviation net (entries ys)) -ℤ pos (deviation net (entries (lows net step xs))))
-matching_law net step xs js ys bounds positive l ax ay box = (states_perfect net.nodes room lone us ons fit, states_cost net.nodes room lone us ons fit ∙ box_deviation net step xs js ys l box)
+matching_law net step xs js ys bounds positive l ax ay box = (states_perfect net.nodes copies_at lone us ons fit, states_cost net.nodes copies_at lone us ons fit ∙ box_deviation net step xs js ys l box)
   where
     us : List ArcUnit
     us = units net step net.arcs xs
@@ -102,11 +102,11 @@ matching_law net step xs js ys bounds positive l ax ay box = (states_perfect net
     ons : List Bool
     ons = states net step xs js
 
-    room : ℕ → ℕ
-    room v = active v us (states_at net step xs)
+    copies_at : ℕ → ℕ
+    copies_at v = active v us (states_at net step xs)
 
     lone : Bool
     lone = rim_active us (states_at net step xs) % 2 == 1
 
-    fit : StatesFit net.nodes room lone us ons
+    fit : StatesFit net.nodes copies_at lone us ons
     fit = box_fits net step xs js ys bounds positive l ax.balanced ay.balanced box

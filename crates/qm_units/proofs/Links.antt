@@ -25,28 +25,28 @@ fan_links n u c a zero le lt = tt
 fan_links n u c a (suc m) le lt = ((lt, omega arith, λ e. omega arith), fan_links n u c (a + 1) m (omega arith) lt)
 
 -- The copies of a node end below those of the nodes after it.
-pub copies_below : (room : ℕ → ℕ) (v nodes : ℕ) → v < nodes → count_below room v + room v ≤ count_below room nodes
-copies_below room v zero l = absurd (omega arith)
-copies_below room v (suc n) l = by_last (cases_eq v n) (copies_below room v n)
+pub copies_below : (copies_at : ℕ → ℕ) (v nodes : ℕ) → v < nodes → count_below copies_at v + copies_at v ≤ count_below copies_at nodes
+copies_below copies_at v zero l = absurd (omega arith)
+copies_below copies_at v (suc n) l = by_last (cases_eq v n) (copies_below copies_at v n)
   where
-    by_last : (v ≡ n) ⊎ (v ≢ n) → (v < n → count_below room v + room v ≤ count_below room n) → count_below room v + room v ≤ count_below room n + room n
-    by_last (inl e) rest = (let h : count_below room v + room v ≡ count_below room n + room n = ap (λ u. count_below room u + room u) e in omega (arith, h))
+    by_last : (v ≡ n) ⊎ (v ≢ n) → (v < n → count_below copies_at v + copies_at v ≤ count_below copies_at n) → count_below copies_at v + copies_at v ≤ count_below copies_at n + copies_at n
+    by_last (inl e) rest = (let h : count_below copies_at v + copies_at v ≡ count_below copies_at n + copies_at n = ap (λ u. count_below copies_at u + copies_at u) e in omega (arith, h))
     by_last (inr ne) rest = omega (arith, rest (omega arith))
 
-copies_links : (n nodes : ℕ) (room : ℕ → ℕ) (b : ℕ) (c : ℤ) (e : End) → e.node < nodes → count_below room nodes ≤ b → b < n → AreLinks n (to_copies room b c e)
-copies_links n nodes room b c e l le lt = fan_links n b (cond e.plus c (pos 0)) (count_below room e.node) (room e.node) (omega (arith, copies_below room e.node nodes l)) lt
+copies_links : (n nodes : ℕ) (copies_at : ℕ → ℕ) (b : ℕ) (c : ℤ) (e : End) → e.node < nodes → count_below copies_at nodes ≤ b → b < n → AreLinks n (to_copies copies_at b c e)
+copies_links n nodes copies_at b c e l le lt = fan_links n b (cond e.plus c (pos 0)) (count_below copies_at e.node) (copies_at e.node) (omega (arith, copies_below copies_at e.node nodes l)) lt
 
-unit_lawful : (n nodes : ℕ) (room : ℕ → ℕ) (b : ℕ) (c : ℤ) (left : End) (right : Option End) → EndsBelow nodes left right → count_below room nodes ≤ b → b + size_by left right ≤ n → AreLinks n (links_by room b c left right)
-unit_lawful n nodes room b c left None ends le lt = links_append n (to_copies room b c left) (inner_link b c left ∷ []) (copies_links n nodes room b c left ends le (omega arith)) ((omega arith, omega arith, λ e. omega arith), tt)
-unit_lawful n nodes room b c left (Some right) ends le lt = by_alike (are_alike left right) lt
+unit_lawful : (n nodes : ℕ) (copies_at : ℕ → ℕ) (b : ℕ) (c : ℤ) (left : End) (right : Option End) → EndsBelow nodes left right → count_below copies_at nodes ≤ b → b + size_by left right ≤ n → AreLinks n (links_by copies_at b c left right)
+unit_lawful n nodes copies_at b c left None ends le lt = links_append n (to_copies copies_at b c left) (inner_link b c left ∷ []) (copies_links n nodes copies_at b c left ends le (omega arith)) ((omega arith, omega arith, λ e. omega arith), tt)
+unit_lawful n nodes copies_at b c left (Some right) ends le lt = by_alike (are_alike left right) lt
   where
-    by_alike : (a : Bool) → b + cond a 2 1 ≤ n → AreLinks n (cond a (to_copies room b c left ++ (to_copies room (b + 1) (pos 0) right ++ inner_link b c left ∷ [])) (to_copies room b c left ++ to_copies room b c right))
-    by_alike true h = links_append n (to_copies room b c left) _ (copies_links n nodes room b c left ends.0 le (omega arith)) (links_append n (to_copies room (b + 1) (pos 0) right) _ (copies_links n nodes room (b + 1) (pos 0) right ends.1 (omega arith) (omega arith)) ((omega arith, omega arith, λ e. omega arith), tt))
-    by_alike false h = links_append n (to_copies room b c left) _ (copies_links n nodes room b c left ends.0 le (omega arith)) (copies_links n nodes room b c right ends.1 le (omega arith))
+    by_alike : (a : Bool) → b + cond a 2 1 ≤ n → AreLinks n (cond a (to_copies copies_at b c left ++ (to_copies copies_at (b + 1) (pos 0) right ++ inner_link b c left ∷ [])) (to_copies copies_at b c left ++ to_copies copies_at b c right))
+    by_alike true h = links_append n (to_copies copies_at b c left) _ (copies_links n nodes copies_at b c left ends.0 le (omega arith)) (links_append n (to_copies copies_at (b + 1) (pos 0) right) _ (copies_links n nodes copies_at (b + 1) (pos 0) right ends.1 (omega arith) (omega arith)) ((omega arith, omega arith, λ e. omega arith), tt))
+    by_alike false h = links_append n (to_copies copies_at b c left) _ (copies_links n nodes copies_at b c left ends.0 le (omega arith)) (copies_links n nodes copies_at b c right ends.1 le (omega arith))
 
-units_lawful : (n nodes : ℕ) (room : ℕ → ℕ) (b : ℕ) (us : List ArcUnit) → UnitsAt nodes us → count_below room nodes ≤ b → b + count unit_size us ≤ n → AreLinks n (units_links room b us)
-units_lawful n nodes room b [] at le lt = tt
-units_lawful n nodes room b (u ∷ us) at le lt = links_append n (unit_links room b u) (units_links room (b + unit_size u) us) (unit_lawful n nodes room b u.cost u.left u.right at.0 le (omega arith)) (units_lawful n nodes room (b + unit_size u) us at.1 (omega arith) (omega arith))
+units_lawful : (n nodes : ℕ) (copies_at : ℕ → ℕ) (b : ℕ) (us : List ArcUnit) → UnitsAt nodes us → count_below copies_at nodes ≤ b → b + count unit_size us ≤ n → AreLinks n (units_links copies_at b us)
+units_lawful n nodes copies_at b [] at le lt = tt
+units_lawful n nodes copies_at b (u ∷ us) at le lt = links_append n (unit_links copies_at b u) (units_links copies_at (b + unit_size u) us) (unit_lawful n nodes copies_at b u.cost u.left u.right at.0 le (omega arith)) (units_lawful n nodes copies_at (b + unit_size u) us at.1 (omega arith) (omega arith))
 
 -- Numbers below a bound.
 abbrev pub AreBelow : ℕ → List ℕ → Type 0
@@ -89,21 +89,21 @@ link_at n zero (e ∷ es) are l = are.0
 link_at n (suc k) (e ∷ es) are l = link_at n k es are.1 (omega arith)
 
 -- The graph of units at nodes is one.
-pub graph_lawful : (nodes : ℕ) (room : ℕ → ℕ) (lone : Bool) (us : List ArcUnit) → UnitsAt nodes us → IsGraph (graph_by nodes room lone us)
-graph_lawful nodes room lone us at = record { left = λ k l. (each k l).0; right = λ k l. (each k l).1; apart = λ k l. (each k l).2 }
+pub graph_lawful : (nodes : ℕ) (copies_at : ℕ → ℕ) (lone : Bool) (us : List ArcUnit) → UnitsAt nodes us → IsGraph (graph_by nodes copies_at lone us)
+graph_lawful nodes copies_at lone us at = record { left = λ k l. (each k l).0; right = λ k l. (each k l).1; apart = λ k l. (each k l).2 }
   where
     n : ℕ
-    n = (graph_by nodes room lone us).n
+    n = (graph_by nodes copies_at lone us).n
 
     inner : ℕ
-    inner = count_below room nodes + count unit_size us
+    inner = count_below copies_at nodes + count unit_size us
 
     past : (o : Bool) → IsPast inner (inner + cond o 1 0) (cond o (Some inner) None)
     past true = (omega arith, omega arith)
     past false = tt
 
-    all : AreLinks n (graph_by nodes room lone us).edges
-    all = links_append n (units_links room (count_below room nodes) us) _ (units_lawful n nodes room (count_below room nodes) us at (omega arith) (omega arith)) (rim_lawful n inner (first_fresh nodes room lone us) (lone_vertex nodes room lone us) (rim (count_below room nodes) us) (rim_below (count_below room nodes) inner us (omega arith)) (omega arith) (past lone) (omega arith))
+    all : AreLinks n (graph_by nodes copies_at lone us).edges
+    all = links_append n (units_links copies_at (count_below copies_at nodes) us) _ (units_lawful n nodes copies_at (count_below copies_at nodes) us at (omega arith) (omega arith)) (rim_lawful n inner (first_fresh nodes copies_at lone us) (lone_vertex nodes copies_at lone us) (rim (count_below copies_at nodes) us) (rim_below (count_below copies_at nodes) inner us (omega arith)) (omega arith) (past lone) (omega arith))
 
-    each : (k : ℕ) → k < length (graph_by nodes room lone us).edges → ((edge_at (graph_by nodes room lone us) k).u < n) × ((edge_at (graph_by nodes room lone us) k).v < n) × ((edge_at (graph_by nodes room lone us) k).u ≢ (edge_at (graph_by nodes room lone us) k).v)
-    each k l = link_at n k (graph_by nodes room lone us).edges all l
+    each : (k : ℕ) → k < length (graph_by nodes copies_at lone us).edges → ((edge_at (graph_by nodes copies_at lone us) k).u < n) × ((edge_at (graph_by nodes copies_at lone us) k).v < n) × ((edge_at (graph_by nodes copies_at lone us) k).u ≢ (edge_at (graph_by nodes copies_at lone us) k).v)
+    each k l = link_at n k (graph_by nodes copies_at lone us).edges all l

@@ -2,7 +2,7 @@
 use Rattle.std.proofs.Common.{◌≡◌, ℕ, zero, suc, ◌+◌, ◌<◌, ◌≤◌, Bool, true, false, cond, List, [], ◌∷◌, ◌++◌, length, map, get_or, ℤ, pos, ◌+ℤ◌, refl, ◌∙◌, ap, add-zero, arith}
 use Rattle.std.proofs.lemmas.Int.{ints}
 use Rattle.def_math.specs.Sums.{total}
-use Rattle.def_math.specs.Rising.{IsRising}
+use Rattle.def_math.specs.Increasing.{IsIncreasing}
 use Rattle.def_flow.specs.MatchingGraph.{link, fan, to_copies}
 use Rattle.def_flow.specs.declared.net.End.{End}
 use Rattle.def_matching.specs.declared.weighted.WEdge.{WEdge}
@@ -36,8 +36,8 @@ pub fan_length : (u : ℕ) (c : ℤ) (a n : ℕ) → length (fan u c a n) ≡ n
 fan_length u c a zero = refl
 fan_length u c a (suc n) = omega (arith, fan_length u c (a + 1) n)
 
-pub end_length : (room used : ℕ → ℕ) (some : Bool) (e : End) (b : ℕ) (c : ℤ) → length (end_marks room used some e) ≡ length (to_copies room b c e)
-end_length room used some e b c = omega (arith, choice_length some (used e.node) (room e.node), fan_length b (cond e.plus c (pos 0)) (count_below room e.node) (room e.node))
+pub end_length : (copies_at used : ℕ → ℕ) (some : Bool) (e : End) (b : ℕ) (c : ℤ) → length (end_marks copies_at used some e) ≡ length (to_copies copies_at b c e)
+end_length copies_at used some e b c = omega (arith, choice_length some (used e.node) (copies_at e.node), fan_length b (cond e.plus c (pos 0)) (count_below copies_at e.node) (copies_at e.node))
 
 -- Of a fan without a mark nothing is picked.
 pick_none : (f : WEdge → ℤ) (i n u : ℕ) (c : ℤ) (a : ℕ) → picked f (choice false i n) (fan u c a n) ≡ pos 0
@@ -54,19 +54,19 @@ pick_some f (suc i) (suc n) u c a l =
     rw past (omega (arith, ints, pick_some f i n u c (a + 1) (omega arith)))
 
 -- Of the edges to the copies of an end's node one is picked, or none.
-pub pick_end : (f : WEdge → ℤ) (room used : ℕ → ℕ) (some : Bool) (e : End) (b : ℕ) (c : ℤ) → (some ≡ true → used e.node < room e.node) → picked f (end_marks room used some e) (to_copies room b c e) ≡ cond some (f (link b (count_below room e.node + used e.node) (cond e.plus c (pos 0)))) (pos 0)
-pick_end f room used true e b c free = pick_some f (used e.node) (room e.node) b (cond e.plus c (pos 0)) (count_below room e.node) (free refl)
-pick_end f room used false e b c free = pick_none f (used e.node) (room e.node) b (cond e.plus c (pos 0)) (count_below room e.node)
+pub pick_end : (f : WEdge → ℤ) (copies_at used : ℕ → ℕ) (some : Bool) (e : End) (b : ℕ) (c : ℤ) → (some ≡ true → used e.node < copies_at e.node) → picked f (end_marks copies_at used some e) (to_copies copies_at b c e) ≡ cond some (f (link b (count_below copies_at e.node + used e.node) (cond e.plus c (pos 0)))) (pos 0)
+pick_end f copies_at used true e b c free = pick_some f (used e.node) (copies_at e.node) b (cond e.plus c (pos 0)) (count_below copies_at e.node) (free refl)
+pick_end f copies_at used false e b c free = pick_none f (used e.node) (copies_at e.node) b (cond e.plus c (pos 0)) (count_below copies_at e.node)
 
 -- The places rise.
-rising_from : (k high : ℕ) (xs : List ℕ) → IsRising (k + 1) high xs → IsRising k high xs
-rising_from k high [] r = tt
-rising_from k high (x ∷ xs) r = (omega (arith, r.0), r.1, r.2)
+increasing_from : (k high : ℕ) (xs : List ℕ) → IsIncreasing (k + 1) high xs → IsIncreasing k high xs
+increasing_from k high [] r = tt
+increasing_from k high (x ∷ xs) r = (omega (arith, r.0), r.1, r.2)
 
-pub places_rise : (k high : ℕ) (ms : List Bool) → k + length ms ≤ high → IsRising k high (places k ms)
+pub places_rise : (k high : ℕ) (ms : List Bool) → k + length ms ≤ high → IsIncreasing k high (places k ms)
 places_rise k high [] le = tt
 places_rise k high (true ∷ ms) le = (omega arith, omega arith, places_rise (k + 1) high ms (omega arith))
-places_rise k high (false ∷ ms) le = rising_from k high (places (k + 1) ms) (places_rise (k + 1) high ms (omega arith))
+places_rise k high (false ∷ ms) le = increasing_from k high (places (k + 1) ms) (places_rise (k + 1) high ms (omega arith))
 
 -- What stands at the places is what is marked.
 pub at_places : {X : Type 0} (h : ℕ → X) (d : X) (k : ℕ) (ms : List Bool) (xs : List X) → length ms ≡ length xs → ((j : ℕ) → h (k + j) ≡ get_or xs j d) → map h (places k ms) ≡ chosen ms xs

@@ -74,8 +74,8 @@ downs_ends net step v (a ∷ arcs) (x ∷ xs) =
     let low : down net step x ≤ 2 = omega arith in
     omega (arith, mul-le-mul_right (arc_active v true a) low, downs_ends net step v arcs xs)
 
-pub room_low : (net : Network) (step : ℕ) (xs : List ℕ) → length xs ≡ length net.arcs → (v : ℕ) → active v (units net step net.arcs xs) (states_at net step xs) ≤ 2 * degree net.arcs v
-room_low net step xs l v = omega (arith, degree_sides v net.arcs, box_active net step v net.arcs xs (map (down net step) xs) xs l (own_box net step xs), caps_ends net step v net.arcs xs l, downs_ends net step v net.arcs xs)
+pub count_low : (net : Network) (step : ℕ) (xs : List ℕ) → length xs ≡ length net.arcs → (v : ℕ) → active v (units net step net.arcs xs) (states_at net step xs) ≤ 2 * degree net.arcs v
+count_low net step xs l v = omega (arith, degree_sides v net.arcs, box_active net step v net.arcs xs (map (down net step) xs) xs l (own_box net step xs), caps_ends net step v net.arcs xs l, downs_ends net step v net.arcs xs)
 
 -- All ends, and what f is along them.
 abbrev along_ends : (ℕ → ℕ) → List Arc → ℕ
@@ -204,14 +204,14 @@ sizes_split (u ∷ us) = omega (arith, sizes_split us)
 
 -- The edges of a unit, and four at the rim for it where it has one end.
 abbrev width_and_rim : (ℕ → ℕ) → End → Option End → ℕ
-width_and_rim room left right = width_by room left right + 4 * lone_by right
+width_and_rim copies_at left right = width_by copies_at left right + 4 * lone_by right
 
-width_low : (room : ℕ → ℕ) (left : End) (right : Option End) → width_and_rim room left right ≤ count (λ e. room e.node + 5) (left ∷ option_to_list right)
-width_low room left right = grind (arith)
+width_low : (copies_at : ℕ → ℕ) (left : End) (right : Option End) → width_and_rim copies_at left right ≤ count (λ e. copies_at e.node + 5) (left ∷ option_to_list right)
+width_low copies_at left right = grind (arith)
 
-widths_split : (room : ℕ → ℕ) (b : ℕ) (us : List ArcUnit) → count (λ u. width_and_rim room u.left u.right) us ≡ length (units_links room b us) + 4 * count is_lone us
-widths_split room b [] = refl
-widths_split room b (u ∷ us) = omega (arith, length-append (unit_links room b u) (units_links room (b + unit_size u) us), links_width room b u.cost u.left u.right, widths_split room (b + unit_size u) us)
+widths_split : (copies_at : ℕ → ℕ) (b : ℕ) (us : List ArcUnit) → count (λ u. width_and_rim copies_at u.left u.right) us ≡ length (units_links copies_at b us) + 4 * count is_lone us
+widths_split copies_at b [] = refl
+widths_split copies_at b (u ∷ us) = omega (arith, length-append (unit_links copies_at b u) (units_links copies_at (b + unit_size u) us), links_width copies_at b u.cost u.left u.right, widths_split copies_at (b + unit_size u) us)
 
 -- The bounds.
 pub size_law : (net : Network) (step : ℕ) (xs : List ℕ) → IsWithinBounds net → length xs ≡ length net.arcs → IsAdmissible net (entries xs) → (16 * (matching_graph net step xs).n ≤ 9 * tangle_number net) × (8 * length (matching_graph net step xs).edges ≤ 9 * tangle_number net)
@@ -220,8 +220,8 @@ size_law net step xs bounds l a = (omega (arith, copies, vertices, tangle), omeg
     us : List ArcUnit
     us = units net step net.arcs xs
 
-    room : ℕ → ℕ
-    room v = active v us (states_at net step xs)
+    copies_at : ℕ → ℕ
+    copies_at v = active v us (states_at net step xs)
 
     lone : Bool
     lone = rim_active us (states_at net step xs) % 2 == 1
@@ -235,43 +235,43 @@ size_law net step xs bounds l a = (omega (arith, copies, vertices, tangle), omeg
     tangle : 32 * all_ends net.arcs ≤ tangle_number net
     tangle = tangle_high net at (no_single net xs bounds l a)
 
-    copies : count_below room net.nodes ≤ 2 * all_ends net.arcs
-    copies = omega (arith, count_below_le room (λ v. 2 * degree net.arcs v) net.nodes (λ v lv. room_low net step xs l v), count_below_times 2 (degree net.arcs) net.nodes, degrees_sum net.nodes net.arcs at)
+    copies : count_below copies_at net.nodes ≤ 2 * all_ends net.arcs
+    copies = omega (arith, count_below_le copies_at (λ v. 2 * degree net.arcs v) net.nodes (λ v lv. count_low net step xs l v), count_below_times 2 (degree net.arcs) net.nodes, degrees_sum net.nodes net.arcs at)
 
-    pairs_low : cond lone 1 0 + 2 * (length (rim (count_below room net.nodes) us) - 1) ≤ m + m
+    pairs_low : cond lone 1 0 + 2 * (length (rim (count_below copies_at net.nodes) us) - 1) ≤ m + m
     pairs_low = by_rim (cases_eq m 0)
       where
-        by_rim : (m ≡ 0) ⊎ (m ≢ 0) → cond lone 1 0 + 2 * (length (rim (count_below room net.nodes) us) - 1) ≤ m + m
+        by_rim : (m ≡ 0) ⊎ (m ≢ 0) → cond lone 1 0 + 2 * (length (rim (count_below copies_at net.nodes) us) - 1) ≤ m + m
         by_rim (inl none) =
             let even : ◌≡◌ {A = ℕ} (rim_active us (states_at net step xs) % 2) 0 = omega (arith, none, rim_active_low us (states_at net step xs)) in
             let off : ◌≡◌ {A = ℕ} (cond lone 1 0) 0 = rw (ne_eqb (rim_active us (states_at net step xs) % 2) 1 (λ e. omega (arith, even, e))) refl in
-            omega (arith, off, none, rim_count (count_below room net.nodes) us)
-        by_rim (inr some) = omega (arith, some, once_at_most lone, rim_count (count_below room net.nodes) us)
+            omega (arith, off, none, rim_count (count_below copies_at net.nodes) us)
+        by_rim (inr some) = omega (arith, some, once_at_most lone, rim_count (count_below copies_at net.nodes) us)
 
-    vertices : (matching_graph net step xs).n ≤ count_below room net.nodes + 16 * all_ends net.arcs
+    vertices : (matching_graph net step xs).n ≤ count_below copies_at net.nodes + 16 * all_ends net.arcs
     vertices = omega (arith, pairs_low, sizes_split us, units_few size_and_rim (λ v. 4) net step net.arcs xs size_low, along_const 4 net.arcs)
 
-    edges : length (matching_graph net step xs).edges ≤ 4 * along_ends room net.arcs + 20 * all_ends net.arcs
+    edges : length (matching_graph net step xs).edges ≤ 4 * along_ends copies_at net.arcs + 20 * all_ends net.arcs
     edges = omega (
       arith,
-      length-append (units_links room (count_below room net.nodes) us) (rim_links (lone_vertex net.nodes room lone us) (first_fresh net.nodes room lone us) (rim (count_below room net.nodes) us)),
-      widths_split room (count_below room net.nodes) us,
-      rim_low (lone_vertex net.nodes room lone us) (first_fresh net.nodes room lone us) (rim (count_below room net.nodes) us),
-      rim_count (count_below room net.nodes) us,
-      units_few (width_and_rim room) (λ v. room v + 5) net step net.arcs xs (width_low room),
-      along_sum room (λ v. 5) net.arcs,
+      length-append (units_links copies_at (count_below copies_at net.nodes) us) (rim_links (lone_vertex net.nodes copies_at lone us) (first_fresh net.nodes copies_at lone us) (rim (count_below copies_at net.nodes) us)),
+      widths_split copies_at (count_below copies_at net.nodes) us,
+      rim_low (lone_vertex net.nodes copies_at lone us) (first_fresh net.nodes copies_at lone us) (rim (count_below copies_at net.nodes) us),
+      rim_count (count_below copies_at net.nodes) us,
+      units_few (width_and_rim copies_at) (λ v. copies_at v + 5) net step net.arcs xs (width_low copies_at),
+      along_sum copies_at (λ v. 5) net.arcs,
       along_const 5 net.arcs,
     )
 
-    shared : 32 * along_ends room net.arcs ≤ 4 * tangle_number net
+    shared : 32 * along_ends copies_at net.arcs ≤ 4 * tangle_number net
     shared = omega (
       arith,
-      exchange room net.nodes net.arcs at,
-      count_below_times 32 (λ v. degree net.arcs v * room v) net.nodes,
+      exchange copies_at net.nodes net.arcs at,
+      count_below_times 32 (λ v. degree net.arcs v * copies_at v) net.nodes,
       count_below_times 4 (λ v. 16 * (degree net.arcs v * degree net.arcs v)) net.nodes,
-      count_below_le (λ v. 32 * (degree net.arcs v * room v)) (λ v. 4 * (16 * (degree net.arcs v * degree net.arcs v))) net.nodes (λ v lv. each v),
+      count_below_le (λ v. 32 * (degree net.arcs v * copies_at v)) (λ v. 4 * (16 * (degree net.arcs v * degree net.arcs v))) net.nodes (λ v lv. each v),
     )
       where
-        each : (v : ℕ) → 32 * (degree net.arcs v * room v) ≤ 4 * (16 * (degree net.arcs v * degree net.arcs v))
+        each : (v : ℕ) → 32 * (degree net.arcs v * copies_at v) ≤ 4 * (16 * (degree net.arcs v * degree net.arcs v))
         each v =
-            omega (arith, mul-le-mul_left (degree net.arcs v) (room_low net step xs l v), mul_left_comm (degree net.arcs v) 2 (degree net.arcs v))
+            omega (arith, mul-le-mul_left (degree net.arcs v) (count_low net step xs l v), mul_left_comm (degree net.arcs v) 2 (degree net.arcs v))

@@ -31,54 +31,54 @@ all_own w b on left (Some right) os rs = grind (arith, ints)
 
 -- At the units all their vertices and the copies that they take get one mate each, but for those at the rim
 -- that wait.
-pub units_weight : (w : ℕ → ℤ) (nodes : ℕ) (room used : ℕ → ℕ) (b : ℕ) (us : List ArcUnit) (ons : List Bool) → length us ≡ length ons → UnitsAt nodes us → ((v : ℕ) → used v + active v us ons ≤ room v) → picked (at_ends w) (units_marks room used us ons) (units_links room b us) +ℤ (held nodes room w used +ℤ picked w (rim_states us ons) (rim b us)) ≡ span w b (count unit_size us) +ℤ held nodes room w (λ v. used v + active v us ons)
-units_weight w nodes room used b [] [] l at free = omega (arith, ints, held_same nodes room w (λ v. used v + 0) used (λ v lv. omega arith))
-units_weight w nodes room used b (u ∷ us) (on ∷ ons) l at free =
+pub units_weight : (w : ℕ → ℤ) (nodes : ℕ) (copies_at used : ℕ → ℕ) (b : ℕ) (us : List ArcUnit) (ons : List Bool) → length us ≡ length ons → UnitsAt nodes us → ((v : ℕ) → used v + active v us ons ≤ copies_at v) → picked (at_ends w) (units_marks copies_at used us ons) (units_links copies_at b us) +ℤ (held nodes copies_at w used +ℤ picked w (rim_states us ons) (rim b us)) ≡ span w b (count unit_size us) +ℤ held nodes copies_at w (λ v. used v + active v us ons)
+units_weight w nodes copies_at used b [] [] l at free = omega (arith, ints, held_same nodes copies_at w (λ v. used v + 0) used (λ v lv. omega arith))
+units_weight w nodes copies_at used b (u ∷ us) (on ∷ ons) l at free =
     let next : ℕ → ℕ = λ v. used v + active_at v u on in
-    let here : (v : ℕ) → used v + ends_active v on u.left u.right ≤ room v = λ v. omega (arith, free v) in
-    let there : (v : ℕ) → next v + active v us ons ≤ room v = λ v. omega (arith, free v) in
-    let same : held nodes room w (λ v. used v + (active_at v u on + active v us ons)) ≡ held nodes room w (λ v. next v + active v us ons) = held_same nodes room w _ _ (λ v lv. omega arith) in
+    let here : (v : ℕ) → used v + ends_active v on u.left u.right ≤ copies_at v = λ v. omega (arith, free v) in
+    let there : (v : ℕ) → next v + active v us ons ≤ copies_at v = λ v. omega (arith, free v) in
+    let same : held nodes copies_at w (λ v. used v + (active_at v u on + active v us ons)) ≡ held nodes copies_at w (λ v. next v + active v us ons) = held_same nodes copies_at w _ _ (λ v lv. omega arith) in
     omega (
       arith,
       ints,
-      pick_append (at_ends w) (marks_by room used on u.left u.right) (units_marks room next us ons) (unit_links room b u) (units_links room (b + unit_size u) us) (unit_length room used b u.cost on u.left u.right),
-      unit_weight w nodes room used b u.cost on u.left u.right at.0 here,
+      pick_append (at_ends w) (marks_by copies_at used on u.left u.right) (units_marks copies_at next us ons) (unit_links copies_at b u) (units_links copies_at (b + unit_size u) us) (unit_length copies_at used b u.cost on u.left u.right),
+      unit_weight w nodes copies_at used b u.cost on u.left u.right at.0 here,
       all_own w b on u.left u.right (rim_states us ons) (rim (b + unit_size u) us),
       span_sum w b (unit_size u) (count unit_size us),
       same,
-      units_weight w nodes room next (b + unit_size u) us ons (omega arith) at.1 there,
+      units_weight w nodes copies_at next (b + unit_size u) us ons (omega arith) at.1 there,
     )
-units_weight w nodes room used b _ _ l at free = absurd (omega arith)
+units_weight w nodes copies_at used b _ _ l at free = absurd (omega arith)
 
 -- The units cost what those that are on cost.
-pub units_cost : (room used : ℕ → ℕ) (b : ℕ) (us : List ArcUnit) (ons : List Bool) → length us ≡ length ons → ((v : ℕ) → used v + active v us ons ≤ room v) → picked (λ e. e.cost) (units_marks room used us ons) (units_links room b us) ≡ cost_on us ons
-units_cost room used b [] [] l free = refl
-units_cost room used b (u ∷ us) (on ∷ ons) l free =
+pub units_cost : (copies_at used : ℕ → ℕ) (b : ℕ) (us : List ArcUnit) (ons : List Bool) → length us ≡ length ons → ((v : ℕ) → used v + active v us ons ≤ copies_at v) → picked (λ e. e.cost) (units_marks copies_at used us ons) (units_links copies_at b us) ≡ cost_on us ons
+units_cost copies_at used b [] [] l free = refl
+units_cost copies_at used b (u ∷ us) (on ∷ ons) l free =
     let next : ℕ → ℕ = λ v. used v + active_at v u on in
-    let here : (v : ℕ) → used v + ends_active v on u.left u.right ≤ room v = λ v. omega (arith, free v) in
-    let there : (v : ℕ) → next v + active v us ons ≤ room v = λ v. omega (arith, free v) in
+    let here : (v : ℕ) → used v + ends_active v on u.left u.right ≤ copies_at v = λ v. omega (arith, free v) in
+    let there : (v : ℕ) → next v + active v us ons ≤ copies_at v = λ v. omega (arith, free v) in
     omega (
       arith,
       ints,
-      pick_append (λ (e : WEdge). e.cost) (marks_by room used on u.left u.right) (units_marks room next us ons) (unit_links room b u) (units_links room (b + unit_size u) us) (unit_length room used b u.cost on u.left u.right),
-      unit_cost room used b u.cost on u.left u.right here,
-      units_cost room next (b + unit_size u) us ons (omega arith) there,
+      pick_append (λ (e : WEdge). e.cost) (marks_by copies_at used on u.left u.right) (units_marks copies_at next us ons) (unit_links copies_at b u) (units_links copies_at (b + unit_size u) us) (unit_length copies_at used b u.cost on u.left u.right),
+      unit_cost copies_at used b u.cost on u.left u.right here,
+      units_cost copies_at next (b + unit_size u) us ons (omega arith) there,
     )
-units_cost room used b _ _ l free = absurd (omega arith)
+units_cost copies_at used b _ _ l free = absurd (omega arith)
 
 -- There are as many marks as edges.
-pub units_length : (room used : ℕ → ℕ) (b : ℕ) (us : List ArcUnit) (ons : List Bool) → length us ≡ length ons → length (units_marks room used us ons) ≡ length (units_links room b us)
-units_length room used b [] [] l = refl
-units_length room used b (u ∷ us) (on ∷ ons) l =
+pub units_length : (copies_at used : ℕ → ℕ) (b : ℕ) (us : List ArcUnit) (ons : List Bool) → length us ≡ length ons → length (units_marks copies_at used us ons) ≡ length (units_links copies_at b us)
+units_length copies_at used b [] [] l = refl
+units_length copies_at used b (u ∷ us) (on ∷ ons) l =
     let next : ℕ → ℕ = λ v. used v + active_at v u on in
     omega (
       arith,
-      length-append (marks_by room used on u.left u.right) (units_marks room next us ons),
-      length-append (unit_links room b u) (units_links room (b + unit_size u) us),
-      unit_length room used b u.cost on u.left u.right,
-      units_length room next (b + unit_size u) us ons (omega arith),
+      length-append (marks_by copies_at used on u.left u.right) (units_marks copies_at next us ons),
+      length-append (unit_links copies_at b u) (units_links copies_at (b + unit_size u) us),
+      unit_length copies_at used b u.cost on u.left u.right,
+      units_length copies_at next (b + unit_size u) us ons (omega arith),
     )
-units_length room used b _ _ l = absurd (omega arith)
+units_length copies_at used b _ _ l = absurd (omega arith)
 
 -- There are as many states at the rim as vertices.
 pub states_length : (b : ℕ) (us : List ArcUnit) (ons : List Bool) → length us ≡ length ons → length (rim_states us ons) ≡ length (rim b us)

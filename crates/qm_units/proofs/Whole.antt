@@ -18,26 +18,26 @@ use Rattle.qm_units.proofs.Units.{UnitsAt, units_weight, units_cost, units_lengt
 
 -- States fit a graph: one for each unit, as many active ends at each node as it has copies, and an even number at
 -- the rim with the lone vertex.
-pub record StatesFit (nodes : ℕ) (room : ℕ → ℕ) (lone : Bool) (us : List ArcUnit) (ons : List Bool) : Type 0 where
+pub record StatesFit (nodes : ℕ) (copies_at : ℕ → ℕ) (lone : Bool) (us : List ArcUnit) (ons : List Bool) : Type 0 where
   pub count : length us ≡ length ons
   pub at_nodes : UnitsAt nodes us
-  pub fills : (v : ℕ) → active v us ons ≡ room v
+  pub fills : (v : ℕ) → active v us ons ≡ copies_at v
   pub even : (cond lone 1 0 + rim_active us ons) % 2 ≡ 0
 
 -- All copies weigh what the numbers below their count weigh.
-pub copies_weight : (w : ℕ → ℤ) (room : ℕ → ℕ) (nodes : ℕ) → held nodes room w room ≡ total_below w (count_below room nodes)
-copies_weight w room zero = refl
-copies_weight w room (suc n) = omega (arith, ints, copies_weight w room n, total_below_span w (count_below room n) (room n))
+pub copies_weight : (w : ℕ → ℤ) (copies_at : ℕ → ℕ) (nodes : ℕ) → held nodes copies_at w copies_at ≡ total_below w (count_below copies_at nodes)
+copies_weight w copies_at zero = refl
+copies_weight w copies_at (suc n) = omega (arith, ints, copies_weight w copies_at n, total_below_span w (count_below copies_at n) (copies_at n))
 
-held_none : (w : ℕ → ℤ) (room : ℕ → ℕ) (nodes : ℕ) → held nodes room w (λ v. 0) ≡ pos 0
-held_none w room nodes = total_below_none (λ v. pos 0) nodes (λ v l. refl)
+held_none : (w : ℕ → ℤ) (copies_at : ℕ → ℕ) (nodes : ℕ) → held nodes copies_at w (λ v. 0) ≡ pos 0
+held_none w copies_at nodes = total_below_none (λ v. pos 0) nodes (λ v l. refl)
 
 -- The vertices below the bound, in their four groups.
-pub graph_total : (w : ℕ → ℤ) (nodes : ℕ) (room : ℕ → ℕ) (lone : Bool) (us : List ArcUnit) → total_below w (graph_by nodes room lone us).n ≡ ((total_below w (count_below room nodes) +ℤ span w (count_below room nodes) (count unit_size us)) +ℤ waiting w (lone_vertex nodes room lone us) lone) +ℤ span w (first_fresh nodes room lone us) (pairs (length (rim (count_below room nodes) us)))
-graph_total w nodes room lone us = omega (arith, ints, total_below_span w (first_fresh nodes room lone us) (pairs (length (rim copies us))), total_below_span w copies sizes, by_lone lone)
+pub graph_total : (w : ℕ → ℤ) (nodes : ℕ) (copies_at : ℕ → ℕ) (lone : Bool) (us : List ArcUnit) → total_below w (graph_by nodes copies_at lone us).n ≡ ((total_below w (count_below copies_at nodes) +ℤ span w (count_below copies_at nodes) (count unit_size us)) +ℤ waiting w (lone_vertex nodes copies_at lone us) lone) +ℤ span w (first_fresh nodes copies_at lone us) (pairs (length (rim (count_below copies_at nodes) us)))
+graph_total w nodes copies_at lone us = omega (arith, ints, total_below_span w (first_fresh nodes copies_at lone us) (pairs (length (rim copies us))), total_below_span w copies sizes, by_lone lone)
   where
     copies : ℕ
-    copies = count_below room nodes
+    copies = count_below copies_at nodes
 
     sizes : ℕ
     sizes = count unit_size us
@@ -46,76 +46,76 @@ graph_total w nodes room lone us = omega (arith, ints, total_below_span w (first
     by_lone true = total_below_span w (copies + sizes) 1 ∙ omega (arith, ints)
     by_lone false = rw (add-zero (copies + sizes)) (omega (arith, ints))
 
-pub lone_there : (nodes : ℕ) (room : ℕ → ℕ) (lone : Bool) (us : List ArcUnit) → IsThere (lone_vertex nodes room lone us) lone
-lone_there nodes room true us = tt
-lone_there nodes room false us = refl
+pub lone_there : (nodes : ℕ) (copies_at : ℕ → ℕ) (lone : Bool) (us : List ArcUnit) → IsThere (lone_vertex nodes copies_at lone us) lone
+lone_there nodes copies_at true us = tt
+lone_there nodes copies_at false us = refl
 
-module _ (nodes : ℕ) (room : ℕ → ℕ) (lone : Bool) (us : List ArcUnit) (ons : List Bool) (fit : StatesFit nodes room lone us ons) where
+module _ (nodes : ℕ) (copies_at : ℕ → ℕ) (lone : Bool) (us : List ArcUnit) (ons : List Bool) (fit : StatesFit nodes copies_at lone us ons) where
   -- There are as many marks as edges.
-  marks_length : length (states_marks nodes room lone us ons) ≡ length (graph_by nodes room lone us).edges
+  marks_length : length (states_marks nodes copies_at lone us ons) ≡ length (graph_by nodes copies_at lone us).edges
   marks_length = omega (
     arith,
-    length-append (units_marks room (λ v. 0) us ons) (rim_marks (lone_vertex nodes room lone us) lone (first_fresh nodes room lone us) (rim_states us ons)),
-    length-append (units_links room (count_below room nodes) us) (rim_links (lone_vertex nodes room lone us) (first_fresh nodes room lone us) (rim (count_below room nodes) us)),
-    units_length room (λ v. 0) (count_below room nodes) us ons fit.count,
-    rim_length (lone_vertex nodes room lone us) lone (first_fresh nodes room lone us) (rim (count_below room nodes) us) (rim_states us ons) (states_length (count_below room nodes) us ons fit.count),
+    length-append (units_marks copies_at (λ v. 0) us ons) (rim_marks (lone_vertex nodes copies_at lone us) lone (first_fresh nodes copies_at lone us) (rim_states us ons)),
+    length-append (units_links copies_at (count_below copies_at nodes) us) (rim_links (lone_vertex nodes copies_at lone us) (first_fresh nodes copies_at lone us) (rim (count_below copies_at nodes) us)),
+    units_length copies_at (λ v. 0) (count_below copies_at nodes) us ons fit.count,
+    rim_length (lone_vertex nodes copies_at lone us) lone (first_fresh nodes copies_at lone us) (rim (count_below copies_at nodes) us) (rim_states us ons) (states_length (count_below copies_at nodes) us ons fit.count),
   )
 
-  split : (f : WEdge → ℤ) → picked f (states_marks nodes room lone us ons) (graph_by nodes room lone us).edges ≡ picked f (units_marks room (λ v. 0) us ons) (units_links room (count_below room nodes) us) +ℤ picked f (rim_marks (lone_vertex nodes room lone us) lone (first_fresh nodes room lone us) (rim_states us ons)) (rim_links (lone_vertex nodes room lone us) (first_fresh nodes room lone us) (rim (count_below room nodes) us))
-  split f = pick_append f (units_marks room (λ v. 0) us ons) _ (units_links room (count_below room nodes) us) _ (units_length room (λ v. 0) (count_below room nodes) us ons fit.count)
+  split : (f : WEdge → ℤ) → picked f (states_marks nodes copies_at lone us ons) (graph_by nodes copies_at lone us).edges ≡ picked f (units_marks copies_at (λ v. 0) us ons) (units_links copies_at (count_below copies_at nodes) us) +ℤ picked f (rim_marks (lone_vertex nodes copies_at lone us) lone (first_fresh nodes copies_at lone us) (rim_states us ons)) (rim_links (lone_vertex nodes copies_at lone us) (first_fresh nodes copies_at lone us) (rim (count_below copies_at nodes) us))
+  split f = pick_append f (units_marks copies_at (λ v. 0) us ons) _ (units_links copies_at (count_below copies_at nodes) us) _ (units_length copies_at (λ v. 0) (count_below copies_at nodes) us ons fit.count)
 
-  free : (v : ℕ) → 0 + active v us ons ≤ room v
+  free : (v : ℕ) → 0 + active v us ons ≤ copies_at v
   free v = omega (arith, fit.fills v)
 
   -- For each weight the ends of the chosen edges weigh what all vertices weigh.
-  marks_weight : (w : ℕ → ℤ) → picked (at_ends w) (states_marks nodes room lone us ons) (graph_by nodes room lone us).edges ≡ total_below w (graph_by nodes room lone us).n
+  marks_weight : (w : ℕ → ℤ) → picked (at_ends w) (states_marks nodes copies_at lone us ons) (graph_by nodes copies_at lone us).edges ≡ total_below w (graph_by nodes copies_at lone us).n
   marks_weight w = omega (
     arith,
     ints,
     split (at_ends w),
-    units_weight w nodes room (λ v. 0) (count_below room nodes) us ons fit.count fit.at_nodes free,
-    held_none w room nodes,
+    units_weight w nodes copies_at (λ v. 0) (count_below copies_at nodes) us ons fit.count fit.at_nodes free,
+    held_none w copies_at nodes,
     full,
-    copies_weight w room nodes,
-    chain_sum w (lone_vertex nodes room lone us) lone (first_fresh nodes room lone us) (rim (count_below room nodes) us) (rim_states us ons) (states_length (count_below room nodes) us ons fit.count) (lone_there nodes room lone us) even,
-    graph_total w nodes room lone us,
+    copies_weight w copies_at nodes,
+    chain_sum w (lone_vertex nodes copies_at lone us) lone (first_fresh nodes copies_at lone us) (rim (count_below copies_at nodes) us) (rim_states us ons) (states_length (count_below copies_at nodes) us ons fit.count) (lone_there nodes copies_at lone us) even,
+    graph_total w nodes copies_at lone us,
   )
     where
-      full : held nodes room w (λ v. 0 + active v us ons) ≡ held nodes room w room
-      full = held_same nodes room w _ room (λ v l. omega (arith, fit.fills v))
+      full : held nodes copies_at w (λ v. 0 + active v us ons) ≡ held nodes copies_at w copies_at
+      full = held_same nodes copies_at w _ copies_at (λ v l. omega (arith, fit.fills v))
 
       even : (cond lone 1 0 + trues (rim_states us ons)) % 2 ≡ 0
       even = omega (arith, rim_trues us ons, fit.even)
 
   -- The cost of the chosen edges.
-  marks_cost : picked (λ e. e.cost) (states_marks nodes room lone us ons) (graph_by nodes room lone us).edges ≡ cost_on us ons
+  marks_cost : picked (λ e. e.cost) (states_marks nodes copies_at lone us ons) (graph_by nodes copies_at lone us).edges ≡ cost_on us ons
   marks_cost = omega (
     arith,
     ints,
     split (λ e. e.cost),
-    units_cost room (λ v. 0) (count_below room nodes) us ons fit.count free,
-    picked_free (rim_marks (lone_vertex nodes room lone us) lone (first_fresh nodes room lone us) (rim_states us ons)) (rim_links (lone_vertex nodes room lone us) (first_fresh nodes room lone us) (rim (count_below room nodes) us)) (rim_free (lone_vertex nodes room lone us) (first_fresh nodes room lone us) (rim (count_below room nodes) us)),
+    units_cost copies_at (λ v. 0) (count_below copies_at nodes) us ons fit.count free,
+    picked_free (rim_marks (lone_vertex nodes copies_at lone us) lone (first_fresh nodes copies_at lone us) (rim_states us ons)) (rim_links (lone_vertex nodes copies_at lone us) (first_fresh nodes copies_at lone us) (rim (count_below copies_at nodes) us)) (rim_free (lone_vertex nodes copies_at lone us) (first_fresh nodes copies_at lone us) (rim (count_below copies_at nodes) us)),
   )
 
-  chosen_is : map (edge_at (graph_by nodes room lone us)) (places 0 (states_marks nodes room lone us ons)) ≡ chosen (states_marks nodes room lone us ons) (graph_by nodes room lone us).edges
-  chosen_is = at_places (edge_at (graph_by nodes room lone us)) (record { u = 0; v = 0; cost = pos 0 }) 0 (states_marks nodes room lone us ons) (graph_by nodes room lone us).edges marks_length (λ j. ap (edge_at (graph_by nodes room lone us)) (zero-add j))
+  chosen_is : map (edge_at (graph_by nodes copies_at lone us)) (places 0 (states_marks nodes copies_at lone us ons)) ≡ chosen (states_marks nodes copies_at lone us ons) (graph_by nodes copies_at lone us).edges
+  chosen_is = at_places (edge_at (graph_by nodes copies_at lone us)) (record { u = 0; v = 0; cost = pos 0 }) 0 (states_marks nodes copies_at lone us ons) (graph_by nodes copies_at lone us).edges marks_length (λ j. ap (edge_at (graph_by nodes copies_at lone us)) (zero-add j))
 
   -- The places of the marks are a perfect matching.
-  pub states_perfect : IsPerfect (graph_by nodes room lone us) (places 0 (states_marks nodes room lone us ons))
+  pub states_perfect : IsPerfect (graph_by nodes copies_at lone us) (places 0 (states_marks nodes copies_at lone us ons))
   states_perfect = record {
-    rising = places_rise 0 (length (graph_by nodes room lone us).edges) (states_marks nodes room lone us ons) (omega (arith, marks_length));
-    once = λ v l. (let e : count (ends_at v) (map (edge_at (graph_by nodes room lone us)) (places 0 (states_marks nodes room lone us ons))) ≡ count (ends_at v) (chosen (states_marks nodes room lone us ons) (graph_by nodes room lone us).edges) = ap (count (ends_at v)) chosen_is in e ∙ once v l);
+    increasing = places_rise 0 (length (graph_by nodes copies_at lone us).edges) (states_marks nodes copies_at lone us ons) (omega (arith, marks_length));
+    once = λ v l. (let e : count (ends_at v) (map (edge_at (graph_by nodes copies_at lone us)) (places 0 (states_marks nodes copies_at lone us ons))) ≡ count (ends_at v) (chosen (states_marks nodes copies_at lone us ons) (graph_by nodes copies_at lone us).edges) = ap (count (ends_at v)) chosen_is in e ∙ once v l);
   }
     where
-      once : (v : ℕ) → v < (graph_by nodes room lone us).n → count (ends_at v) (chosen (states_marks nodes room lone us ons) (graph_by nodes room lone us).edges) ≡ 1
+      once : (v : ℕ) → v < (graph_by nodes copies_at lone us).n → count (ends_at v) (chosen (states_marks nodes copies_at lone us ons) (graph_by nodes copies_at lone us).edges) ≡ 1
       once v l = omega (
         arith,
         ints,
-        count_total (ends_at v) (chosen (states_marks nodes room lone us ons) (graph_by nodes room lone us).edges),
-        total_same (λ e. pos (ends_at v e)) (at_ends is_v) (chosen (states_marks nodes room lone us ons) (graph_by nodes room lone us).edges) (λ e. omega (arith, ints)),
-        picked_chosen (at_ends is_v) (states_marks nodes room lone us ons) (graph_by nodes room lone us).edges,
+        count_total (ends_at v) (chosen (states_marks nodes copies_at lone us ons) (graph_by nodes copies_at lone us).edges),
+        total_same (λ e. pos (ends_at v e)) (at_ends is_v) (chosen (states_marks nodes copies_at lone us ons) (graph_by nodes copies_at lone us).edges) (λ e. omega (arith, ints)),
+        picked_chosen (at_ends is_v) (states_marks nodes copies_at lone us ons) (graph_by nodes copies_at lone us).edges,
         marks_weight is_v,
-        total_below_one is_v (graph_by nodes room lone us).n v l (λ k lk ne. rw (ne_eqb k v ne) refl),
+        total_below_one is_v (graph_by nodes copies_at lone us).n v l (λ k lk ne. rw (ne_eqb k v ne) refl),
         here,
       )
         where
@@ -126,8 +126,8 @@ module _ (nodes : ℕ) (room : ℕ → ℕ) (lone : Bool) (us : List ArcUnit) (o
           here = rw (eq-eqb v v refl) refl
 
   -- Its cost is that of the units that are on.
-  pub states_cost : matching_cost (graph_by nodes room lone us) (places 0 (states_marks nodes room lone us ons)) ≡ cost_on us ons
-  states_cost = ap (total (λ (e : WEdge). e.cost)) chosen_is ∙ (picked_chosen (λ (e : WEdge). e.cost) (states_marks nodes room lone us ons) (graph_by nodes room lone us).edges ∙ marks_cost)
+  pub states_cost : matching_cost (graph_by nodes copies_at lone us) (places 0 (states_marks nodes copies_at lone us ons)) ≡ cost_on us ons
+  states_cost = ap (total (λ (e : WEdge). e.cost)) chosen_is ∙ (picked_chosen (λ (e : WEdge). e.cost) (states_marks nodes copies_at lone us ons) (graph_by nodes copies_at lone us).edges ∙ marks_cost)
 
 -- Twice as many ends as chosen edges.
 twice : (ms : List Bool) (es : List WEdge) → (k : ℕ) × (picked (at_ends (λ v. pos 1)) ms es ≡ pos (2 * k))
@@ -151,20 +151,20 @@ rim_ones (false ∷ os) (r ∷ rs) l = omega (arith, ints, rim_ones os rs (omega
 rim_ones _ _ l = absurd (omega arith)
 
 -- States that fill the same copies have as many active units at the rim, but for an even number.
-pub rim_parity : (nodes : ℕ) (room : ℕ → ℕ) (us : List ArcUnit) (ons other : List Bool) → UnitsAt nodes us → length us ≡ length ons → length us ≡ length other → ((v : ℕ) → active v us ons ≡ room v) → ((v : ℕ) → active v us other ≡ room v) → rim_active us ons % 2 ≡ rim_active us other % 2
-rim_parity nodes room us ons other at l m fills fills_other = by_two (two ons l fills) (two other m fills_other)
+pub rim_parity : (nodes : ℕ) (copies_at : ℕ → ℕ) (us : List ArcUnit) (ons other : List Bool) → UnitsAt nodes us → length us ≡ length ons → length us ≡ length other → ((v : ℕ) → active v us ons ≡ copies_at v) → ((v : ℕ) → active v us other ≡ copies_at v) → rim_active us ons % 2 ≡ rim_active us other % 2
+rim_parity nodes copies_at us ons other at l m fills fills_other = by_two (two ons l fills) (two other m fills_other)
   where
     vertices : ℤ
-    vertices = span (λ v. pos 1) (count_below room nodes) (count unit_size us) +ℤ held nodes room (λ v. pos 1) room
+    vertices = span (λ v. pos 1) (count_below copies_at nodes) (count unit_size us) +ℤ held nodes copies_at (λ v. pos 1) copies_at
 
-    two : (xs : List Bool) → length us ≡ length xs → ((v : ℕ) → active v us xs ≡ room v) → (k : ℕ) × (pos (2 * k) +ℤ pos (rim_active us xs) ≡ vertices)
-    two xs lx fx = with_k (twice (units_marks room (λ v. 0) us xs) (units_links room (count_below room nodes) us))
+    two : (xs : List Bool) → length us ≡ length xs → ((v : ℕ) → active v us xs ≡ copies_at v) → (k : ℕ) × (pos (2 * k) +ℤ pos (rim_active us xs) ≡ vertices)
+    two xs lx fx = with_k (twice (units_marks copies_at (λ v. 0) us xs) (units_links copies_at (count_below copies_at nodes) us))
       where
-        full : held nodes room (λ v. pos 1) (λ v. 0 + active v us xs) ≡ held nodes room (λ v. pos 1) room
-        full = held_same nodes room (λ v. pos 1) (λ v. 0 + active v us xs) room (λ v lv. omega (arith, fx v))
+        full : held nodes copies_at (λ v. pos 1) (λ v. 0 + active v us xs) ≡ held nodes copies_at (λ v. pos 1) copies_at
+        full = held_same nodes copies_at (λ v. pos 1) (λ v. 0 + active v us xs) copies_at (λ v lv. omega (arith, fx v))
 
-        with_k : (k : ℕ) × (picked (at_ends (λ v. pos 1)) (units_marks room (λ v. 0) us xs) (units_links room (count_below room nodes) us) ≡ pos (2 * k)) → (k : ℕ) × (pos (2 * k) +ℤ pos (rim_active us xs) ≡ vertices)
-        with_k (k, e) = (k, omega (arith, ints, e, full, held_none (λ v. pos 1) room nodes, rim_ones (rim_states us xs) (rim (count_below room nodes) us) (states_length (count_below room nodes) us xs lx), rim_trues us xs, units_weight (λ v. pos 1) nodes room (λ v. 0) (count_below room nodes) us xs lx at (λ v. omega (arith, fx v))))
+        with_k : (k : ℕ) × (picked (at_ends (λ v. pos 1)) (units_marks copies_at (λ v. 0) us xs) (units_links copies_at (count_below copies_at nodes) us) ≡ pos (2 * k)) → (k : ℕ) × (pos (2 * k) +ℤ pos (rim_active us xs) ≡ vertices)
+        with_k (k, e) = (k, omega (arith, ints, e, full, held_none (λ v. pos 1) copies_at nodes, rim_ones (rim_states us xs) (rim (count_below copies_at nodes) us) (states_length (count_below copies_at nodes) us xs lx), rim_trues us xs, units_weight (λ v. pos 1) nodes copies_at (λ v. 0) (count_below copies_at nodes) us xs lx at (λ v. omega (arith, fx v))))
 
     by_two : (k : ℕ) × (pos (2 * k) +ℤ pos (rim_active us ons) ≡ vertices) → (k : ℕ) × (pos (2 * k) +ℤ pos (rim_active us other) ≡ vertices) → rim_active us ons % 2 ≡ rim_active us other % 2
     by_two (k, e) (j, f) = (let same : 2 * k + rim_active us ons ≡ 2 * j + rim_active us other = omega (arith, ints, e, f) in omega (arith, same))

@@ -37,23 +37,23 @@ take_end used some e v = used v + cond ((e.node == v) && some) 1 0
 
 -- An active end takes the first copy that is not in use.
 abbrev pub end_marks : (ℕ → ℕ) → (ℕ → ℕ) → Bool → End → List Bool
-end_marks room used some e = choice some (used e.node) (room e.node)
+end_marks copies_at used some e = choice some (used e.node) (copies_at e.node)
 
 -- The marks of a unit's edges.
 abbrev pub marks_by : (ℕ → ℕ) → (ℕ → ℕ) → Bool → End → Option End → List Bool
-marks_by room used on left None = end_marks room used (is_active on left) left ++ not (is_active on left) ∷ []
-marks_by room used on left (Some right) = cond (are_alike left right)
-    (end_marks room used (is_active on left) left
-    ++ (end_marks room (take_end used (is_active on left) left) (is_active on right) right
+marks_by copies_at used on left None = end_marks copies_at used (is_active on left) left ++ not (is_active on left) ∷ []
+marks_by copies_at used on left (Some right) = cond (are_alike left right)
+    (end_marks copies_at used (is_active on left) left
+    ++ (end_marks copies_at (take_end used (is_active on left) left) (is_active on right) right
     ++ not (is_active on left) ∷ []))
-    (end_marks room used (is_active on left) left
-    ++ end_marks room (take_end used (is_active on left) left) (is_active on right) right)
+    (end_marks copies_at used (is_active on left) left
+    ++ end_marks copies_at (take_end used (is_active on left) left) (is_active on right) right)
 
 -- The marks of all units' edges, where so many copies are in use before.
 abbrev pub units_marks : (ℕ → ℕ) → (ℕ → ℕ) → List ArcUnit → List Bool → List Bool
-units_marks room used (u ∷ us) (on ∷ ons) =
-    marks_by room used on u.left u.right ++ units_marks room (λ v. used v + active_at v u on) us ons
-units_marks room used _ _ = []
+units_marks copies_at used (u ∷ us) (on ∷ ons) =
+    marks_by copies_at used on u.left u.right ++ units_marks copies_at (λ v. used v + active_at v u on) us ons
+units_marks copies_at used _ _ = []
 
 -- The states of the units at the rim: whether each waits for a mate there.
 abbrev pub with_state : Option End → Bool → List Bool → List Bool
@@ -84,6 +84,6 @@ rim_marks before waits fresh (o ∷ p ∷ os) =
 
 -- The marks of all edges of the graph.
 abbrev pub states_marks : ℕ → (ℕ → ℕ) → Bool → List ArcUnit → List Bool → List Bool
-states_marks nodes room lone us ons =
-    units_marks room (λ v. 0) us ons
-    ++ rim_marks (lone_vertex nodes room lone us) lone (first_fresh nodes room lone us) (rim_states us ons)
+states_marks nodes copies_at lone us ons =
+    units_marks copies_at (λ v. 0) us ons
+    ++ rim_marks (lone_vertex nodes copies_at lone us) lone (first_fresh nodes copies_at lone us) (rim_states us ons)

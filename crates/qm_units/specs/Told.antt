@@ -13,7 +13,7 @@ abbrev pub past : Bool → ℕ → List ℕ → List ℕ
 past true e m = m
 past false e m = e ∷ m
 
--- The marks of n edges, from edge k on, of which those of a rising list are marked.
+-- The marks of n edges, from edge k on, of which those of an increasing list are marked.
 abbrev pub marks_from : ℕ → ℕ → List ℕ → List Bool
 marks_from k zero m = []
 marks_from k (suc n) [] = false ∷ marks_from (k + 1) n []
@@ -21,19 +21,19 @@ marks_from k (suc n) (e ∷ m) = (e == k) ∷ marks_from (k + 1) n (past (e == k
 
 -- How many edges a unit has.
 abbrev pub width_by : (ℕ → ℕ) → End → Option End → ℕ
-width_by room left None = room left.node + 1
-width_by room left (Some right) =
-    cond (are_alike left right) (room left.node + (room right.node + 1)) (room left.node + room right.node)
+width_by copies_at left None = copies_at left.node + 1
+width_by copies_at left (Some right) =
+    cond (are_alike left right) (copies_at left.node + (copies_at right.node + 1)) (copies_at left.node + copies_at right.node)
 
 -- A unit is on where one of the edges of its first end is marked and this is a plus end, or none is and it is a
 -- minus end.
 abbrev pub state_told : (ℕ → ℕ) → List Bool → End → Bool
-state_told room ms left =
-    cond left.plus (nat_lt 0 (trues (take (room left.node) ms))) (not (nat_lt 0 (trues (take (room left.node) ms))))
+state_told copies_at ms left =
+    cond left.plus (nat_lt 0 (trues (take (copies_at left.node) ms))) (not (nat_lt 0 (trues (take (copies_at left.node) ms))))
 
 abbrev pub states_told : (ℕ → ℕ) → List ArcUnit → List Bool → List Bool
-states_told room [] ms = []
-states_told room (u ∷ us) ms = state_told room ms u.left ∷ states_told room us (drop (width_by room u.left u.right) ms)
+states_told copies_at [] ms = []
+states_told copies_at (u ∷ us) ms = state_told copies_at ms u.left ∷ states_told copies_at us (drop (width_by copies_at u.left u.right) ms)
 
 -- The number of units of each arc that are on.
 abbrev pub steps_told : Network → ℕ → List ℕ → List Bool → List ℕ

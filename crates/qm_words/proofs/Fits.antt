@@ -11,7 +11,7 @@ use Rattle.def_text.specs.Types.{Word, Words}
 use Rattle.qm_words.specs.Parsing.{is_known, is_plain}
 use Rattle.qm_words.proofs.Rules.{by_id, by_long, full_rule, rules}
 use Rattle.qm_words.proofs.Steps.{flag_fault, flag_walk, pair_fault, pair_walk, settle, stands, value_fault, value_walk}
-use Rattle.qm_words.proofs.Uses.{all_of, count_fresh, fresh_quiet, good_back, good_front, last_fresh, pending, rows_of, same_name, settles, used_fresh, Good, IsKnown}
+use Rattle.qm_words.proofs.Uses.{all_of, count_fresh, fresh_quiet, good_back, good_prefix, last_fresh, pending, rows_of, same_name, settles, used_fresh, Good, IsKnown}
 use Rattle.qm_words.proofs.Walks.{end_rows, passes_first, quiet_both, rests, waits, Passes}
 use Rattle.qm_words.proofs.Words.{attached_dashed, before_all, cut_from, plain_view, uses_flag, uses_pair, with_hyphens}
 
@@ -35,7 +35,7 @@ Waits names words = (uses : Uses) (one : Use) (tail : Words) (rest : Uses) → i
 rests_nil : (names : Words) → Rests names []
 unfolding walk_fault
 rests_nil names uses last [] known spelled plain good =
-    let done = settles names uses last known (good_front names (all_of uses last) [] good) in
+    let done = settles names uses last known (good_prefix names (all_of uses last) [] good) in
     record {
       passes = record { walked = refl; settled = done.0 };
       rows = done.1 ∙ ap rows_of (sym (append-nil (all_of uses last)));
@@ -46,9 +46,9 @@ waits_nil : (names : Words) → Waits names []
 waits_nil names uses one tail rest known split spelled plain all good = absurd cc
 
 -- A use in front of others: which it is, and which are behind.
-pub front_is : (first : Use) (words : Words) (uses : Uses) → in_front first (uses_of words) ≡ Some (map with_hyphens uses)
+pub prefix_is : (first : Use) (words : Words) (uses : Uses) → in_front first (uses_of words) ≡ Some (map with_hyphens uses)
     → (one : Use) × (rest : Uses) × (uses ≡ one ∷ rest) × (first ≡ with_hyphens one) × (uses_of words ≡ Some (map with_hyphens rest))
-front_is first words uses is = by_behind (uses_of words) refl uses is
+prefix_is first words uses is = by_behind (uses_of words) refl uses is
   where
     by_behind : (o : Option Uses) → uses_of words ≡ o → (us : Uses) → in_front first o ≡ Some (map with_hyphens us)
         → (one : Use) × (rest : Uses) × (us ≡ one ∷ rest) × (first ≡ with_hyphens one) × (uses_of words ≡ Some (map with_hyphens rest))
@@ -87,13 +87,13 @@ module _ (names : Words) (word : Word) (words : Words) where
       let all : Uses = all_of uses last in
       let joined : (all ++ one ∷ []) ++ rest ≡ all ++ one ∷ rest = append_assoc all (one ∷ []) rest in
       let whole : Good names ((all ++ one ∷ []) ++ rest) = subst (Good names) (sym joined) good in
-      let front : Good names (all ++ one ∷ []) = good_front names (all ++ one ∷ []) rest whole in
+      let prefix : Good names (all ++ one ∷ []) = good_prefix names (all ++ one ∷ []) rest whole in
       let there : is_known names one.name ≡ true = (and_parts (is_known names one.name) _ (good_back names all (one ∷ rest) good)).0 in
       let rule = by_long names one.name there in
       let form = pair_long word one is some in
       let other = ap is_ended form.3 in
-      let done = settles names uses last known (good_front names all (one ∷ rest) good) in
-      let fresh : has_row one.name (rows_of all) ≡ false = count_fresh one.name all (last_fresh names all one front) in
+      let done = settles names uses last known (good_prefix names all (one ∷ rest) good) in
+      let fresh : has_row one.name (rows_of all) ≡ false = count_fresh one.name all (last_fresh names all one prefix) in
       let quiet : use_fault false (full_rule one.name) (one.value ∷ []) (settled_rows (rules names) (pending last) (rows_of uses)) ≡ [] =
       ap (λ (rows : List Row). use_fault false (full_rule one.name) (one.value ∷ []) rows) done.1 ∙ fresh_quiet one.name one.value (rows_of all) fresh in
       let goes : walked (rules names) [] (rests uses last) word ≡ rests (all ++ one ∷ []) None =
@@ -120,7 +120,7 @@ module _ (names : Words) (word : Word) (words : Words) where
       let all : Uses = all_of uses last in
       let there : is_known names one.name ≡ true = (and_parts (is_known names one.name) _ (good_back names all (one ∷ rest) good)).0 in
       let rule = by_long names one.name there in
-      let done = settles names uses last known (good_front names all (one ∷ rest) good) in
+      let done = settles names uses last known (good_prefix names all (one ∷ rest) good) in
       let bare : list_any is_equals one.name ≡ false = sym (ap (list_any is_equals) form) ∙ none in
       let long : long_of word ≡ Some (one.name, None) = ap long_of form ∙ by_name one.name bare there in
       let other : bytes_eq word (45 ∷ 45 ∷ []) ≡ false = ap is_ended form ∙ not_ended one.name there in
@@ -174,11 +174,11 @@ module _ (names : Words) (word : Word) where
       let never : ◌≡◌ {A = Option Uses} None (Some (map with_hyphens rest)) = rw none at spelled in
       absurd cc
   rests_flag (value ∷ tail) wait named none uses last rest known spelled plain good =
-      by_front (front_is (separate word value) tail rest (sym (uses_flag word value tail none) ∙ spelled))
+      by_prefix (prefix_is (separate word value) tail rest (sym (uses_flag word value tail none) ∙ spelled))
     where
-      by_front : ((one : Use) × (more : Uses) × (rest ≡ one ∷ more) × (separate word value ≡ with_hyphens one) × (uses_of tail ≡ Some (map with_hyphens more)))
+      by_prefix : ((one : Use) × (more : Uses) × (rest ≡ one ∷ more) × (separate word value ≡ with_hyphens one) × (uses_of tail ≡ Some (map with_hyphens more)))
           → Fit names (word ∷ value ∷ tail) (all_of uses last ++ rest) (rests uses last)
-      by_front (one, more, is, head, behind) =
+      by_prefix (one, more, is, head, behind) =
           subst (λ (us : Uses). Fit names (word ∷ value ∷ tail) (all_of uses last ++ us) (rests uses last)) (sym is)
           (by_flag names word (value ∷ tail) wait uses last one tail more known (ap (λ (u : Use). u.value ∷ tail) head) behind
           (sym (ap are_plain is) ∙ plain) (subst (λ (us : Uses). Good names (all_of uses last ++ us)) is good) named (ap (λ (u : Use). u.name) head) none)
@@ -187,11 +187,11 @@ module _ (names : Words) (word : Word) where
       → IsKnown names last → uses_of (word ∷ words) ≡ Some (map with_hyphens rest) → are_plain rest ≡ true
       → Good names (all_of uses last ++ rest) → Fit names (word ∷ words) (all_of uses last ++ rest) (rests uses last)
   rests_pair words later some uses last rest known spelled plain good =
-      by_front (front_is (attached word) words rest (sym (uses_pair word words some) ∙ spelled))
+      by_prefix (prefix_is (attached word) words rest (sym (uses_pair word words some) ∙ spelled))
     where
-      by_front : ((one : Use) × (more : Uses) × (rest ≡ one ∷ more) × (attached word ≡ with_hyphens one) × (uses_of words ≡ Some (map with_hyphens more)))
+      by_prefix : ((one : Use) × (more : Uses) × (rest ≡ one ∷ more) × (attached word ≡ with_hyphens one) × (uses_of words ≡ Some (map with_hyphens more)))
           → Fit names (word ∷ words) (all_of uses last ++ rest) (rests uses last)
-      by_front (one, more, is, head, behind) =
+      by_prefix (one, more, is, head, behind) =
           subst (λ (us : Uses). Fit names (word ∷ words) (all_of uses last ++ us) (rests uses last)) (sym is)
           (by_pair names word words later uses last one more known behind
           (and_parts (is_plain one.value) (are_plain more) (sym (ap are_plain is) ∙ plain)).1 (subst (λ (us : Uses). Good names (all_of uses last ++ us)) is good) head some)

@@ -19,7 +19,7 @@ use Rattle.clap.proofs.WalkLemmas.{first_value-rows}
 use Rattle.def_run.specs.Options.{are_once, attached, count_of, dashed, is_equals, is_of, separate, uses_of, value_of, AreOptions, Use, Uses}
 use Rattle.def_text.specs.Types.{Word, Words}
 use Rattle.qm_words.specs.Parsing.{is_end, is_known, is_plain, options_app, Reads, Refuses}
-use Rattle.qm_words.proofs.Fits.{fits, front_is, pair_long, Fit}
+use Rattle.qm_words.proofs.Fits.{fits, prefix_is, pair_long, Fit}
 use Rattle.qm_words.proofs.Rules.{built_is, full_rule, rules, shape}
 use Rattle.qm_words.proofs.Sound.{sound, Read}
 use Rattle.qm_words.proofs.Steps.{stands}
@@ -254,23 +254,23 @@ no_ends : (names : Words) → is_known names [] ≡ false → (words : Words) (b
     → list_any is_end words ≡ false
 no_ends names named [] bare spelled known plain = refl
 no_ends names named (word ∷ []) bare spelled known plain = elim (cases_Bool (list_any is_equals word)) [
-  | inl some ↦ by_front (front_is (attached word) [] bare (sym (uses_pair word [] some) ∙ spelled)) some
+  | inl some ↦ by_prefix (prefix_is (attached word) [] bare (sym (uses_pair word [] some) ∙ spelled)) some
   | inr none ↦
       let never : ◌≡◌ {A = Option Uses} None (Some (map with_hyphens bare)) = rw none at spelled in
       absurd cc
 ]
   where
-    by_front : ((one : Use) × (more : Uses) × (bare ≡ one ∷ more) × (attached word ≡ with_hyphens one) × (uses_of [] ≡ Some (map with_hyphens more)))
+    by_prefix : ((one : Use) × (more : Uses) × (bare ≡ one ∷ more) × (attached word ≡ with_hyphens one) × (uses_of [] ≡ Some (map with_hyphens more)))
         → list_any is_equals word ≡ true → list_any is_end (word ∷ []) ≡ false
-    by_front (one, more, is, head, behind) some = ap (λ (w : Word). is_end w || false) (pair_long word one head some).3
+    by_prefix (one, more, is, head, behind) some = ap (λ (w : Word). is_end w || false) (pair_long word one head some).3
 no_ends names named (word ∷ value ∷ tail) bare spelled known plain =
     let from_value : (us : Uses) → uses_of (value ∷ tail) ≡ Some (map with_hyphens us) → list_all (λ (one : Use). is_known names one.name) us ≡ true
     → list_all (λ (one : Use). is_plain one.value) us ≡ true → list_any is_end (value ∷ tail) ≡ false = no_ends names named (value ∷ tail) in
     let from_tail : (us : Uses) → uses_of tail ≡ Some (map with_hyphens us) → list_all (λ (one : Use). is_known names one.name) us ≡ true
     → list_all (λ (one : Use). is_plain one.value) us ≡ true → list_any is_end tail ≡ false = no_ends names named tail in
     elim (cases_Bool (list_any is_equals word)) [
-      | inl some ↦ by_pair from_value some (front_is (attached word) (value ∷ tail) bare (sym (uses_pair word (value ∷ tail) some) ∙ spelled))
-      | inr none ↦ by_flag from_tail (front_is (separate word value) tail bare (sym (uses_flag word value tail none) ∙ spelled))
+      | inl some ↦ by_pair from_value some (prefix_is (attached word) (value ∷ tail) bare (sym (uses_pair word (value ∷ tail) some) ∙ spelled))
+      | inr none ↦ by_flag from_tail (prefix_is (separate word value) tail bare (sym (uses_flag word value tail none) ∙ spelled))
     ]
   where
     by_pair : ((us : Uses) → uses_of (value ∷ tail) ≡ Some (map with_hyphens us) → list_all (λ (one : Use). is_known names one.name) us ≡ true

@@ -163,8 +163,8 @@ good_more names uses one good known none = record {
   known = list_all-append (λ (u : Use). is_known names u.name) uses (one ∷ []) ∙ rw (good.known, known) refl;
 }
 
-pub good_front : (names : Words) (uses more : Uses) → Good names (uses ++ more) → Good names uses
-good_front names uses more good = record {
+pub good_prefix : (names : Words) (uses more : Uses) → Good names (uses ++ more) → Good names uses
+good_prefix names uses more good = record {
   once = λ name. omega (arith, count_append name uses more, good.once name);
   known = (and_parts _ _ (sym (list_all-append (λ (u : Use). is_known names u.name) uses more) ∙ good.known)).0;
 }

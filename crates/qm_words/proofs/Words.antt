@@ -111,7 +111,7 @@ cut_from (x ∷ y ∷ ys) name is = elim (cases_Bool (is_equals x)) [
       let none : [] ≡ dashed name = rw eq at is in
       cc
   | inr other ↦
-      let front : x ∷ before_first is_equals (y ∷ ys) ≡ dashed name = sym (before_step x (y ∷ ys) other) ∙ is in
+      let prefix : x ∷ before_first is_equals (y ∷ ys) ≡ dashed name = sym (before_step x (y ∷ ys) other) ∙ is in
       let first : x ≡ 45 = cc in
       let behind : before_first is_equals (y ∷ ys) ≡ 45 ∷ name = cc in
       elim (cases_Bool (is_equals y)) [

@@ -1,4 +1,4 @@
--- The network that certificates are judged by, and the numbering of the new mesh at their lengths.
+-- The network that certificates are checked by, and the numbering of the new mesh at their lengths.
 use Rattle.std.specs.Prelude.{◌≡◌, ◌≤◌, ℕ, List}
 use Rattle.def_certtext.specs.CertLines.{Lists}
 use Rattle.def_flow.specs.Network.{Network, tangle_number, IsWithinBounds}

@@ -3,7 +3,7 @@ use Rattle.std.proofs.Common.{◌≡◌, ℕ, zero, suc, ◌+◌, ◌-◌, ◌*�
 use Rattle.std.specs.Int.RustNames.{unsigned_abs}
 use Rattle.std.proofs.lemmas.Int.{ints}
 use Rattle.std.proofs.lemmas.Bool.{cases_lt}
-use Rattle.def_math.specs.Rising.{IsRising}
+use Rattle.def_math.specs.Increasing.{IsIncreasing}
 use Rattle.def_math.specs.Sums.{total, total_below}
 use Rattle.qm_laws.proofs.Ends.{ends_once}
 use Rattle.qm_dual.proofs.Gathered.{total_below_small}
@@ -69,16 +69,16 @@ range_begun n first f size sets small = record {
     sum_is : dual_sum_of f ≡ total_below f.weight n
     sum_is = ap (total_below f.weight) size ∙ first_terms f.weight n (n / 2) sets
 
-costs_low : (g : Graph) (most low : ℕ) (m : List ℕ) → ((e : ℕ) → e < length g.edges → unsigned_abs (edge_at g e).cost ≤ most) → IsRising low (length g.edges) m → (pos 2 *ℤ matching_cost g m) ≤ℤ total (λ (e : WEdge). pos most +ℤ pos most) (map (edge_at g) m)
-costs_low g most low [] each rising = omega (arith, ints)
-costs_low g most low (k ∷ ks) each rising = omega (arith, ints, each k rising.1, costs_low g most (k + 1) ks each rising.2)
+costs_low : (g : Graph) (most low : ℕ) (m : List ℕ) → ((e : ℕ) → e < length g.edges → unsigned_abs (edge_at g e).cost ≤ most) → IsIncreasing low (length g.edges) m → (pos 2 *ℤ matching_cost g m) ≤ℤ total (λ (e : WEdge). pos most +ℤ pos most) (map (edge_at g) m)
+costs_low g most low [] each increasing = omega (arith, ints)
+costs_low g most low (k ∷ ks) each increasing = omega (arith, ints, each k increasing.1, costs_low g most (k + 1) ks each increasing.2)
 
 -- Twice the cost of a perfect matching is at most as often a bound of the costs as there are vertices, and small.
 pub known_most : (g : Graph) → IsGraph g → (most : ℕ) → ((e : ℕ) → e < length g.edges → unsigned_abs (edge_at g e).cost ≤ most) → (m : List ℕ) → IsPerfect g m → (pos 2 *ℤ matching_cost g m) ≤ℤ pos (g.n * most)
 known_most g is most each m perfect =
-    let ends : total (λ (e : WEdge). pos most +ℤ pos most) (map (edge_at g) m) ≡ total_below (λ v. pos most) g.n = ends_once (λ (e : WEdge). e.u) (λ (e : WEdge). e.v) (λ v. pos most) g.n (map (edge_at g) m) (chosen_below g is 0 m perfect.rising) perfect.once in
+    let ends : total (λ (e : WEdge). pos most +ℤ pos most) (map (edge_at g) m) ≡ total_below (λ v. pos most) g.n = ends_once (λ (e : WEdge). e.u) (λ (e : WEdge). e.v) (λ v. pos most) g.n (map (edge_at g) m) (chosen_below g is 0 m perfect.increasing) perfect.once in
     let small : unsigned_abs (total_below (λ v. pos most) g.n) ≤ g.n * most = total_below_small (λ v. pos most) most g.n (λ v l. omega (arith, ints)) in
-    omega (arith, ints, ends, small, costs_low g most 0 m each perfect.rising)
+    omega (arith, ints, ends, small, costs_low g most 0 m each perfect.increasing)
 
 pub known_low : (g : Graph) → IsGraph g → IsCheap g → (m : List ℕ) → IsPerfect g m → (pos 2 *ℤ matching_cost g m) ≤ℤ pos MAX_PRODUCT
 known_low g is cheap m perfect =

@@ -107,7 +107,7 @@ module _ (faces : Faces) (laws : IsQuadManifold (half_edges faces)) where
 
       by_other : (d ≡ get_or (fan_of faces (from_of faces d)) 0 0) ⊎ (d ≡ get_or (fan_of faces (from_of faces d)) 0 0 → ⊥) → (x : ℕ) × (t : ℕ) × (x < darts faces) × (from_of faces x ≡ from_of faces d) × (twin_of faces x ≡ Some t)
       by_other (inr ne) = to 0 (omega arith) ne
-      by_other (inl e) = to 1 (omega arith) (λ s. absurd (omega (arith, e, s, fan.rising 0 1 (omega arith) (omega arith))))
+      by_other (inl e) = to 1 (omega arith) (λ s. absurd (omega (arith, e, s, fan.increasing 0 1 (omega arith) (omega arith))))
 
   -- At a boundary vertex with at most two faces, the boundary goes on straight after d or beside it.
   module _ (d t u : ℕ) (low : d < darts faces) (first : twin_of faces (next_of d) ≡ Some t) (second : twin_of faces (next_of t) ≡ Some u) where

@@ -6,7 +6,7 @@ use mir.Val.{to_z, of_z}
 use Rattle.def_flow.specs.Network.{Network, network}
 use Rattle.def_flow.specs.Admissible.{deviation, entries}
 use Rattle.def_flow.specs.Units.{low, on_cost}
-use Rattle.qm_cert.proofs.Judged.{cost_is, judged_same}
+use Rattle.qm_cert.proofs.Checked.{cost_is, checked_same}
 use Rattle.qm_cert.proofs.Range.{deviation_small, lows_lengths}
 use Rattle.qm_cert.proofs.sum.sum_verdict.Goals as goal
 
@@ -37,4 +37,4 @@ returns c =
     let twice : pos 2 *ℤ (to_z w128 (of_z w128 c.deviation-far.result) -ℤ to_z w128 (of_z w128 c.deviation.result)) ≡ pos 2 *ℤ on_cost net 1 xs =
     rw (far, near) (ap (λ z. pos 2 *ℤ z) (sym (cost_is net xs c.requires.lengths.count))) in
     let cost : to_z w128 (of_z w128 c.twice_between.result) ≡ pos 2 *ℤ on_cost net 1 xs = back c.twice_between.result c.twice_between.type_inv ∙ (c.twice_between.ensures ∙ twice) in
-    c.compared.ensures ∙ judged_same _ _ _ _ _ _ far (sum ∙ c.requires.sum) cost
+    c.verdict_by_sum.ensures ∙ checked_same _ _ _ _ _ _ far (sum ∙ c.requires.sum) cost

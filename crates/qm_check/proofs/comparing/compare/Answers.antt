@@ -7,7 +7,7 @@ use Rattle.def_layout.specs.Plans.{plan}
 use Rattle.def_remesh.specs.Remeshed.{remeshed_text}
 use Rattle.def_run.specs.Check.{DifferFrom}
 use Rattle.qm_check.proofs.Differences.{longer_differ, stopped_differ}
-use Rattle.qm_check.specs.Judged.{IsDifference}
+use Rattle.qm_check.specs.Checked.{IsDifference}
 use Rattle.qm_check.proofs.comparing.compare.Goals as goal
 
 pub returns-in-Ok-2-clause-other : goal.returns-in-Ok-2-clause-other

@@ -12,7 +12,7 @@ use Rattle.qm_check.proofs.Counted.{counted, net_is}
 use Rattle.qm_check.proofs.Handed.{handed}
 use Rattle.qm_check.proofs.Reach.{cert_reach, first_reach, tail_few}
 use Rattle.qm_check.proofs.Refusals.{other, tells_nothing, unused}
-use Rattle.qm_check.specs.Judged.{IsDifference}
+use Rattle.qm_check.specs.Checked.{IsDifference}
 use Rattle.def_run.specs.CheckFails.{IsCheckFail}
 use Rattle.qm_check.proofs.pair.check_certificates.Goals as goal
 
@@ -21,24 +21,24 @@ returns-in_err-written-clause-refused c =
     handed (IsCheckFail c.args.lines.now) c.from_residual.result c.in_err-written.field-0.0 c.from_residual.ensures.1
     (tells_nothing c.args.lines.now c.args.line c.args.ready c.requires.ready c.in_err-written.field-0.0 c.in_err-written.ensures.refused)
 
-pub judge_written-requires-clause-net : goal.judge_written-requires-clause-net
-judge_written-requires-clause-net c =
+pub check_written-requires-clause-net : goal.check_written-requires-clause-net
+check_written-requires-clause-net c =
     net_is c.args.lines.now c.args.line c.args.ready (made_of c.in_ok-written.written) c.requires.ready c.in_ok-written.ensures.told
 
-pub judge_written-requires-clause-cert : goal.judge_written-requires-clause-cert
-judge_written-requires-clause-cert c =
+pub check_written-requires-clause-cert : goal.check_written-requires-clause-cert
+check_written-requires-clause-cert c =
     cert_reach c.args.lines.now c.args.line (made_of c.in_ok-written.written) c.requires.few c.in_ok-written.ensures.told
 
-pub judge_written-requires-clause-first : goal.judge_written-requires-clause-first
-judge_written-requires-clause-first c = λ cert is.
+pub check_written-requires-clause-first : goal.check_written-requires-clause-first
+check_written-requires-clause-first c = λ cert is.
     first_reach c.args.lines.now c.args.line (made_of c.in_ok-written.written) c.requires.few c.in_ok-written.ensures.told (lists_of cert)
     (ap (option_map lists_of) is)
 
-pub returns-in_err-judged-clause-refused : goal.returns-in_err-judged-clause-refused
-returns-in_err-judged-clause-refused c =
-    handed (IsCheckFail c.args.lines.now) c.from_residual-in_err-judged.result c.in_err-judged.field-0.0 c.from_residual-in_err-judged.ensures.1
+pub returns-in_err-checked-clause-refused : goal.returns-in_err-checked-clause-refused
+returns-in_err-checked-clause-refused c =
+    handed (IsCheckFail c.args.lines.now) c.from_residual-in_err-checked.result c.in_err-checked.field-0.0 c.from_residual-in_err-checked.ensures.1
     (unused c.args.lines.now c.args.line c.args.ready c.requires.ready (made_of c.in_ok-written.written) c.in_ok-written.ensures.told
-    c.in_err-judged.field-0.0 c.in_err-judged.ensures.unused)
+    c.in_err-checked.field-0.0 c.in_err-checked.ensures.unused)
 
 pub compare-requires-clause-few : goal.compare-requires-clause-few
 compare-requires-clause-few c =
@@ -51,17 +51,17 @@ pub returns-in_err-compare-clause-refused : goal.returns-in_err-compare-clause-r
 returns-in_err-compare-clause-refused c =
     handed (IsCheckFail c.args.lines.now) c.from_residual-in_err-compare.result c.in_err-compare.field-0.0 c.from_residual-in_err-compare.ensures.1
     (other c.args.lines.now c.args.line c.args.ready c.requires.ready (made_of c.in_ok-written.written) c.in_ok-written.ensures.told
-    c.in_ok-judged.judged c.in_ok-judged.ensures.judged c.in_err-compare.field-0.0
+    c.in_ok-checked.checked c.in_ok-checked.ensures.checked c.in_err-compare.field-0.0
     (subst
-    (λ (given : Bytes). IsDifference given (remeshed_text c.in_ok-judged.judged.remesh.asked.settings c.in_ok-judged.judged.remesh.asked.auto
-    c.args.ready.soup (plan c.args.ready.cut.layout) (lists_of c.in_ok-judged.judged.remesh.first)
-    (option_map lists_of c.in_ok-judged.judged.remesh.third)) c.in_err-compare.field-0.0)
+    (λ (given : Bytes). IsDifference given (remeshed_text c.in_ok-checked.checked.remesh.asked.settings c.in_ok-checked.checked.remesh.asked.auto
+    c.args.ready.soup (plan c.args.ready.cut.layout) (lists_of c.in_ok-checked.checked.remesh.first)
+    (option_map lists_of c.in_ok-checked.checked.remesh.third)) c.in_err-compare.field-0.0)
     c.tail.ensures c.in_err-compare.ensures.other))
 
 pub returns-clause-accepted : goal.returns-clause-accepted
 returns-clause-accepted c =
-    counted c.args.lines.now c.args.line c.args.ready (made_of c.in_ok-written.written) c.in_ok-judged.judged c.requires.ready
-    c.in_ok-written.ensures.told c.in_ok-judged.ensures.judged _ _
+    counted c.args.lines.now c.args.line c.args.ready (made_of c.in_ok-written.written) c.in_ok-checked.checked c.requires.ready
+    c.in_ok-written.ensures.told c.in_ok-checked.ensures.checked _ _
     (sym c.tail.ensures ∙ c.in_ok-compare.ensures.same)
     (omega (arith, c.len.ensures, length-map c.args.ready.cut.layout.arcs.items path))
-    (c.faces.ensures (plan c.args.ready.cut.layout) c.in_ok-judged.ensures.judged.kept.numbering)
+    (c.faces.ensures (plan c.args.ready.cut.layout) c.in_ok-checked.ensures.checked.kept.numbering)

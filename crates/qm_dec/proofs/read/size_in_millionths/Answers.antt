@@ -3,7 +3,7 @@ use Rattle.std.specs.Char.{is_ascii_digit}
 use Rattle.std.specs.List.{list_all}
 use Rattle.def_text.specs.Decimal.{power, scaled}
 use Rattle.def_text.specs.Digits.{is_negative, is_number, number, unsigned}
-use Rattle.qm_dec.specs.Sizes.{capped}
+use Rattle.qm_dec.specs.Sizes.{clamped}
 use Rattle.qm_dec.proofs.Forms.{exponent_is, number_digits, number_parts, power_above, power_below, some_from}
 use Rattle.qm_dec.proofs.Scaling.{power_up, power_down}
 use Rattle.qm_dec.proofs.read.size_in_millionths.Goals as goal
@@ -37,9 +37,9 @@ returns-then-is_negative c =
     let e : power c.args.exponent.now ≡ neg_ℤ (pos (number (unsigned (drop 1 c.args.exponent.now)))) =
     power_below c.args.exponent.now (some_from _ c.if-is_empty.ensures) (ap is_negative (sym c.behind_first-rest.ensures) ∙ sym c.if-is_negative.ensures) in
     c.size_of-then-is_negative.ensures
-    ∙ ap (λ (k : ℕ). capped (scaled (number (c.args.whole.now ++ c.args.fraction.now)) (pos 6 -ℤ pos (length c.args.fraction.now + k)))) p
+    ∙ ap (λ (k : ℕ). clamped (scaled (number (c.args.whole.now ++ c.args.fraction.now)) (pos 6 -ℤ pos (length c.args.fraction.now + k)))) p
     ∙ power_down (c.args.whole.now ++ c.args.fraction.now) (length c.args.fraction.now) (number (unsigned (drop 1 c.args.exponent.now))) digits (omega (arith, length-append c.args.whole.now c.args.fraction.now, c.requires.short))
-    ∙ ap (λ (z : ℤ). capped (scaled (number (c.args.whole.now ++ c.args.fraction.now)) ((z +ℤ pos 6) -ℤ pos (length c.args.fraction.now)))) (sym e)
+    ∙ ap (λ (z : ℤ). clamped (scaled (number (c.args.whole.now ++ c.args.fraction.now)) ((z +ℤ pos 6) -ℤ pos (length c.args.fraction.now)))) (sym e)
 
 pub returns-else-is_negative : goal.returns-else-is_negative
 returns-else-is_negative c =
@@ -47,6 +47,6 @@ returns-else-is_negative c =
     let e : power c.args.exponent.now ≡ pos (number (unsigned (drop 1 c.args.exponent.now))) =
     power_above c.args.exponent.now (some_from _ c.if-is_empty.ensures) (ap is_negative (sym c.behind_first-rest.ensures) ∙ sym c.if-is_negative.ensures) in
     c.size_of-else-is_negative.ensures
-    ∙ ap (λ (k : ℕ). capped (scaled (number (c.args.whole.now ++ c.args.fraction.now)) (pos (6 + k) -ℤ pos (length c.args.fraction.now)))) p
+    ∙ ap (λ (k : ℕ). clamped (scaled (number (c.args.whole.now ++ c.args.fraction.now)) (pos (6 + k) -ℤ pos (length c.args.fraction.now)))) p
     ∙ power_up (number (c.args.whole.now ++ c.args.fraction.now)) (length c.args.fraction.now) (number (unsigned (drop 1 c.args.exponent.now))) (omega (arith, c.requires.short))
-    ∙ ap (λ (z : ℤ). capped (scaled (number (c.args.whole.now ++ c.args.fraction.now)) ((z +ℤ pos 6) -ℤ pos (length c.args.fraction.now)))) (sym e)
+    ∙ ap (λ (z : ℤ). clamped (scaled (number (c.args.whole.now ++ c.args.fraction.now)) ((z +ℤ pos 6) -ℤ pos (length c.args.fraction.now)))) (sym e)

@@ -1,15 +1,15 @@
 use Rattle.std.proofs.Common.{ℤ, ap, sym, ◌∙◌, ◌*◌, ◌-◌, ◌^◌, ◌++◌}
 use Rattle.def_text.specs.Decimal.{scaled}
 use Rattle.def_text.specs.Digits.{number}
-use Rattle.qm_dec.specs.Sizes.{capped}
-use Rattle.qm_dec.proofs.Caps.{cap_scaled, ten_power}
+use Rattle.qm_dec.specs.Sizes.{clamped}
+use Rattle.qm_dec.proofs.Clamps.{clamp_scaled, ten_power}
 use Rattle.qm_dec.proofs.Digits.{two_parts}
 use Rattle.qm_dec.proofs.Scaling.{difference_up}
 use Rattle.qm_dec.proofs.size.size_of.Goals as goal
 
 pub returns-then-down-up : goal.returns-then-down-up
 returns-then-down-up c =
-    c.grown.ensures
-    ∙ ap (λ v. capped (v * 10 ^ (c.args.up - c.args.down))) (two_parts c.args.whole.now c.args.fraction.now c.number_after.result c.number_after-digits.result c.number_after.ensures c.number_after-digits.ensures)
-    ∙ cap_scaled (number (c.args.whole.now ++ c.args.fraction.now)) (10 ^ (c.args.up - c.args.down)) (ten_power (c.args.up - c.args.down))
-    ∙ ap (λ (z : ℤ). capped (scaled (number (c.args.whole.now ++ c.args.fraction.now)) z)) (sym (difference_up c.args.up c.args.down c.if-down-up.true))
+    c.times_power.ensures
+    ∙ ap (λ v. clamped (v * 10 ^ (c.args.up - c.args.down))) (two_parts c.args.whole.now c.args.fraction.now c.number_after.result c.number_after-digits.result c.number_after.ensures c.number_after-digits.ensures)
+    ∙ clamp_scaled (number (c.args.whole.now ++ c.args.fraction.now)) (10 ^ (c.args.up - c.args.down)) (ten_power (c.args.up - c.args.down))
+    ∙ ap (λ (z : ℤ). clamped (scaled (number (c.args.whole.now ++ c.args.fraction.now)) z)) (sym (difference_up c.args.up c.args.down c.if-down-up.true))

@@ -1,11 +1,11 @@
 use Rattle.std.proofs.Common.{◌≡◌, ◌+◌, ◌++◌, drop}
 use Rattle.def_math.specs.Counts.{count}
 use Rattle.def_flow.specs.MatchingGraph.{units_links, unit_size}
-use Rattle.qm_gadget.specs.Layout.{room_of}
+use Rattle.qm_gadget.specs.Layout.{copies_in}
 use Rattle.qm_gadget.proofs.layout.push_units.Given as goal
 
 abbrev pub invariant-loop-unit : goal.invariant-loop-unit
 invariant-loop-unit l = record {
-  edges : l.edges.items ++ units_links (room_of l.copies.counts.items) l.b (drop l.unit-index l.units) ≡ l.initial.edges.items ++ units_links (room_of l.copies.counts.items) l.first l.units;
+  edges : l.edges.items ++ units_links (copies_in l.copies.counts.items) l.b (drop l.unit-index l.units) ≡ l.initial.edges.items ++ units_links (copies_in l.copies.counts.items) l.first l.units;
   place : l.b + count unit_size (drop l.unit-index l.units) ≡ l.first + count unit_size l.units;
 }

@@ -1,15 +1,15 @@
 use Rattle.std.proofs.Common.{◌≡◌, ◌+◌, ◌-◌, ◌≤◌, ◌++◌, length, drop}
 use Rattle.def_math.specs.Counts.{count}
-use Rattle.def_math.specs.Rising.{IsRising}
+use Rattle.def_math.specs.Increasing.{IsIncreasing}
 use Rattle.qm_units.specs.Told.{marks_from, states_told}
-use Rattle.qm_gadget.specs.Layout.{room_of}
+use Rattle.qm_gadget.specs.Layout.{copies_in}
 use Rattle.qm_gadget.specs.Read.{width_of_unit}
 use Rattle.qm_gadget.proofs.lengths.states_in.Given as goal
 
 abbrev pub invariant-loop-unit : goal.invariant-loop-unit
 invariant-loop-unit l = record {
-  states : l.ons.items ++ states_told (room_of l.rooms) (drop l.unit-index l.units) (marks_from l.k (l.edges - l.k) (drop l.at l.m)) ≡ states_told (room_of l.rooms) l.units (marks_from 0 l.edges l.m);
-  rising : IsRising l.k l.edges (drop l.at l.m);
-  place : l.k + count (width_of_unit (room_of l.rooms)) (drop l.unit-index l.units) ≤ l.edges;
+  states : l.ons.items ++ states_told (copies_in l.counts) (drop l.unit-index l.units) (marks_from l.k (l.edges - l.k) (drop l.at l.m)) ≡ states_told (copies_in l.counts) l.units (marks_from 0 l.edges l.m);
+  increasing : IsIncreasing l.k l.edges (drop l.at l.m);
+  place : l.k + count (width_of_unit (copies_in l.counts)) (drop l.unit-index l.units) ≤ l.edges;
   inside : l.at ≤ length l.m;
 }

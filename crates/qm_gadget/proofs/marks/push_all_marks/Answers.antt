@@ -3,9 +3,9 @@ use Rattle.def_math.specs.Tables.{IsRaised}
 use Rattle.def_flow.specs.declared.units.ArcUnit.{ArcUnit}
 use Rattle.def_flow.specs.Units.{active_at}
 use Rattle.qm_units.specs.Marks.{marks_by, units_marks}
-use Rattle.qm_gadget.specs.Layout.{room_of}
+use Rattle.qm_gadget.specs.Layout.{copies_in}
 use Rattle.qm_gadget.proofs.Numbers.{marks_step, marks_width, units_marks_step}
-use Rattle.qm_gadget.proofs.Rooms.{same_everywhere, active_at_low, raised_read}
+use Rattle.qm_gadget.proofs.NodeCounts.{same_everywhere, active_at_low, raised_read}
 use Rattle.qm_gadget.proofs.marks.push_all_marks.Goals as goal
 
 abbrev no_unit : ArcUnit
@@ -16,14 +16,14 @@ loop-i-preserved c =
     let u : ArcUnit = slice_index_or c.args.units.now c.loop-i.i no_unit in
     let on : Bool = slice_index_or c.args.ons.now c.loop-i.i false in
     let raised : IsRaised (λ v. active_at v u on) c.loop-i.used c.push_unit_marks.new.used = c.in_ok-push_unit_marks.ensures.used in
-    let read : (v : ℕ) → slice_index c.push_unit_marks.new.used v ≡ slice_index c.loop-i.used v + active_at v u on = λ v. raised_read u on (length c.args.rooms.now) c.loop-i.used c.push_unit_marks.new.used c.loop-i.invariant.long (c.requires.at c.loop-i.i no_unit c.loop-i-test.true) raised v in
-    let next : room_of c.push_unit_marks.new.used ≡ (λ v. slice_index c.loop-i.used v + active_at v u on) = same_everywhere (room_of c.push_unit_marks.new.used) (λ v. slice_index c.loop-i.used v + active_at v u on) read in
-    let part : List Bool = marks_by (room_of c.args.rooms.now) (room_of c.loop-i.used) on u.left u.right in
-    let rest : List Bool = units_marks (room_of c.args.rooms.now) (room_of c.push_unit_marks.new.used) (drop (c.loop-i.i + 1) c.args.units.now) (drop (c.loop-i.i + 1) c.args.ons.now) in
-    let split : units_marks (room_of c.args.rooms.now) (room_of c.loop-i.used) (drop c.loop-i.i c.args.units.now) (drop c.loop-i.i c.args.ons.now) ≡ part ++ rest =
-    units_marks_step (room_of c.args.rooms.now) (room_of c.loop-i.used) c.args.units.now c.args.ons.now c.loop-i.i no_unit false c.loop-i-test.true c.requires.states
-    ∙ ap (λ f. part ++ units_marks (room_of c.args.rooms.now) f (drop (c.loop-i.i + 1) c.args.units.now) (drop (c.loop-i.i + 1) c.args.ons.now)) (sym next) in
-    let width : length part ≡ c.width_of-k.result = marks_width (room_of c.args.rooms.now) (room_of c.loop-i.used) on u.left u.right ∙ sym c.width_of-k.ensures in
+    let read : (v : ℕ) → slice_index c.push_unit_marks.new.used v ≡ slice_index c.loop-i.used v + active_at v u on = λ v. raised_read u on (length c.args.counts.now) c.loop-i.used c.push_unit_marks.new.used c.loop-i.invariant.long (c.requires.at c.loop-i.i no_unit c.loop-i-test.true) raised v in
+    let next : copies_in c.push_unit_marks.new.used ≡ (λ v. slice_index c.loop-i.used v + active_at v u on) = same_everywhere (copies_in c.push_unit_marks.new.used) (λ v. slice_index c.loop-i.used v + active_at v u on) read in
+    let part : List Bool = marks_by (copies_in c.args.counts.now) (copies_in c.loop-i.used) on u.left u.right in
+    let rest : List Bool = units_marks (copies_in c.args.counts.now) (copies_in c.push_unit_marks.new.used) (drop (c.loop-i.i + 1) c.args.units.now) (drop (c.loop-i.i + 1) c.args.ons.now) in
+    let split : units_marks (copies_in c.args.counts.now) (copies_in c.loop-i.used) (drop c.loop-i.i c.args.units.now) (drop c.loop-i.i c.args.ons.now) ≡ part ++ rest =
+    units_marks_step (copies_in c.args.counts.now) (copies_in c.loop-i.used) c.args.units.now c.args.ons.now c.loop-i.i no_unit false c.loop-i-test.true c.requires.states
+    ∙ ap (λ f. part ++ units_marks (copies_in c.args.counts.now) f (drop (c.loop-i.i + 1) c.args.units.now) (drop (c.loop-i.i + 1) c.args.ons.now)) (sym next) in
+    let width : length part ≡ c.width_of-k.result = marks_width (copies_in c.args.counts.now) (copies_in c.loop-i.used) on u.left u.right ∙ sym c.width_of-k.ensures in
     record {
       marks = marks_step c.loop-i.m.items c.push_unit_marks.new.m.items c.loop-i.k c.width_of-k.result part rest _ split width c.in_ok-push_unit_marks.ensures.marks ∙ c.loop-i.invariant.marks;
       place = omega (arith, c.loop-i.invariant.place, ap length split, length-append part rest, width);

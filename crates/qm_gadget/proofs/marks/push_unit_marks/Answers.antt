@@ -2,22 +2,22 @@ use Rattle.std.proofs.Common.{◌≡◌, ◌+◌, ◌++◌, [], ◌∷◌, ◌<�
 use Rattle.std.proofs.lemmas.Result.{on_ok_weaker}
 use Rattle.def_flow.specs.Units.{is_active}
 use Rattle.qm_units.specs.Marks.{places, take_end}
-use Rattle.qm_gadget.specs.Layout.{room_of}
+use Rattle.qm_gadget.specs.Layout.{copies_in}
 use Rattle.qm_gadget.proofs.Numbers.{unit_lone, unit_two}
-use Rattle.qm_gadget.proofs.Rooms.{right_at}
+use Rattle.qm_gadget.proofs.NodeCounts.{right_at}
 use Rattle.qm_gadget.proofs.marks.push_unit_marks.Goals as goal
 
 pub returns-in-None-clause-marks : goal.returns-in-None-clause-marks
 returns-in-None-clause-marks c = on_ok_weaker c.push_mark.result
-    (λ pushed. rw c.in-None.is (unit_lone c.args.m.now.items c.push_end_marks.new.m.items c.push_mark.new.m.items c.args.k (room_of c.args.rooms.now) (room_of c.args.used.now) c.args.switched.now.on c.args.switched.now.unit.now.left
+    (λ pushed. rw c.in-None.is (unit_lone c.args.m.now.items c.push_end_marks.new.m.items c.push_mark.new.m.items c.args.k (copies_in c.args.counts.now) (copies_in c.args.used.now) c.args.switched.now.on c.args.switched.now.unit.now.left
     c.in_ok-push_end_marks.ensures
-    (pushed ∙ ap (λ b. c.push_end_marks.new.m.items ++ places (c.args.k + slice_index c.args.rooms.now c.args.switched.now.unit.now.left.node) (not b ∷ [])) c.is_active.ensures)))
+    (pushed ∙ ap (λ b. c.push_end_marks.new.m.items ++ places (c.args.k + slice_index c.args.counts.now c.args.switched.now.unit.now.left.node) (not b ∷ [])) c.is_active.ensures)))
     c.push_mark.ensures
 
 pub returns-in_ok-push_right_marks-in-Some-clause-marks : goal.returns-in_ok-push_right_marks-in-Some-clause-marks
 returns-in_ok-push_right_marks-in-Some-clause-marks c =
-    let at : c.in-Some.right.node < length c.args.used.now = omega (arith, right_at (length c.args.rooms.now) c.args.switched.now.unit.now.left c.in-Some.right c.args.switched.now.unit.now.right c.in-Some.is c.requires.at, c.requires.same) in
-    let taken : slice_index c.bump.new.rooms c.in-Some.right.node ≡ take_end (room_of c.args.used.now) (is_active c.args.switched.now.on c.args.switched.now.unit.now.left) c.args.switched.now.unit.now.left c.in-Some.right.node =
+    let at : c.in-Some.right.node < length c.args.used.now = omega (arith, right_at (length c.args.counts.now) c.args.switched.now.unit.now.left c.in-Some.right c.args.switched.now.unit.now.right c.in-Some.is c.requires.at, c.requires.same) in
+    let taken : slice_index c.bump.new.counts c.in-Some.right.node ≡ take_end (copies_in c.args.used.now) (is_active c.args.switched.now.on c.args.switched.now.unit.now.left) c.args.switched.now.unit.now.left c.in-Some.right.node =
     c.bump.ensures.each c.in-Some.right.node at in
-    rw c.in-Some.is (unit_two c.args.m.now.items c.push_end_marks.new.m.items c.push_right_marks.new.m.items c.args.k (room_of c.args.rooms.now) (room_of c.args.used.now) (room_of c.bump.new.rooms) c.args.switched.now.on c.args.switched.now.unit.now.left c.in-Some.right
+    rw c.in-Some.is (unit_two c.args.m.now.items c.push_end_marks.new.m.items c.push_right_marks.new.m.items c.args.k (copies_in c.args.counts.now) (copies_in c.args.used.now) (copies_in c.bump.new.counts) c.args.switched.now.on c.args.switched.now.unit.now.left c.in-Some.right
     taken c.in_ok-push_end_marks.ensures c.in_ok-push_right_marks-in-Some.ensures)

@@ -1,5 +1,5 @@
 use Rattle.std.proofs.Common.{length, ◌∙◌}
-use Rattle.qm_io.proofs.Moved.{rest_more, front_more}
+use Rattle.qm_io.proofs.Moved.{rest_more, prefix_more}
 use Rattle.qm_io.proofs.writing.write_all.Goals as goal
 
 pub loop-rest-preserved : goal.loop-rest-preserved
@@ -8,6 +8,6 @@ loop-rest-preserved g c =
     let took_more = c.in_ok-count.ensures in
     record {
       part = rest_more c.args.piece.now c.loop-rest.rest.now c.in_ok-count.count took_more.fits was.part;
-      taken = front_more _ _ _ c.args.piece.now c.loop-rest.rest.now c.in_ok-count.count took_more.fits was.part was.taken took_more.takes;
+      taken = prefix_more _ _ _ c.args.piece.now c.loop-rest.rest.now c.in_ok-count.count took_more.fits was.part was.taken took_more.takes;
       calm = took_more.cause.calm ∙ was.calm;
     }

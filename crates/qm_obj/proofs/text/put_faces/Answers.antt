@@ -1,5 +1,5 @@
 use Rattle.def_text.specs.Canonical.{face_text}
-use Rattle.qm_output.proofs.Fronts.{of_error}
+use Rattle.qm_output.proofs.Prefixes.{of_error}
 use Rattle.qm_output.proofs.Lists.{stops_at_item}
 use Rattle.qm_obj.proofs.text.put_faces.Goals as goal
 

@@ -7,18 +7,18 @@ use Rattle.def_written.specs.Places.{blend}
 use Rattle.qm_place.proofs.Casts.{blend_micro, sum_is, sum_fits, mean_is, cast_micro}
 use Rattle.qm_place.proofs.ways.blend.Goals as goal
 
-sum : (c : goal.After-weighed-4) → to_z w128 (of_z w128 (to_z w128 (of_z w128 (to_z w128 (of_z w128 c.weighed.result) +ℤ to_z w128 (of_z w128 c.weighed-2.result)))
-    +ℤ to_z w128 (of_z w128 (to_z w128 (of_z w128 c.weighed-3.result) +ℤ to_z w128 (of_z w128 c.weighed-4.result)))))
-    ≡ (c.weighed.result +ℤ c.weighed-2.result) +ℤ (c.weighed-3.result +ℤ c.weighed-4.result)
-sum c = sum_is c.weighed.result c.weighed-2.result c.weighed-3.result c.weighed-4.result
-    c.weighed.ensures.short c.weighed-2.ensures.short c.weighed-3.ensures.short c.weighed-4.ensures.short
+sum : (c : goal.After-weigh-4) → to_z w128 (of_z w128 (to_z w128 (of_z w128 (to_z w128 (of_z w128 c.weigh.result) +ℤ to_z w128 (of_z w128 c.weigh-2.result)))
+    +ℤ to_z w128 (of_z w128 (to_z w128 (of_z w128 c.weigh-3.result) +ℤ to_z w128 (of_z w128 c.weigh-4.result)))))
+    ≡ (c.weigh.result +ℤ c.weigh-2.result) +ℤ (c.weigh-3.result +ℤ c.weigh-4.result)
+sum c = sum_is c.weigh.result c.weigh-2.result c.weigh-3.result c.weigh-4.result
+    c.weigh.ensures.short c.weigh-2.ensures.short c.weigh-3.ensures.short c.weigh-4.ensures.short
 
-few : (c : goal.After-weighed-4) → unsigned_abs ((c.weighed.result +ℤ c.weighed-2.result) +ℤ (c.weighed-3.result +ℤ c.weighed-4.result)) ≤ 2 ^ 118
-few c = sum_fits c.weighed.result c.weighed-2.result c.weighed-3.result c.weighed-4.result
-    c.weighed.ensures.short c.weighed-2.ensures.short c.weighed-3.ensures.short c.weighed-4.ensures.short
+few : (c : goal.After-weigh-4) → unsigned_abs ((c.weigh.result +ℤ c.weigh-2.result) +ℤ (c.weigh-3.result +ℤ c.weigh-4.result)) ≤ 2 ^ 118
+few c = sum_fits c.weigh.result c.weigh-2.result c.weigh-3.result c.weigh-4.result
+    c.weigh.ensures.short c.weigh-2.ensures.short c.weigh-3.ensures.short c.weigh-4.ensures.short
 
 pub overflow_add-south-2 : goal.overflow_add-south-2
-overflow_add-south-2 c = omega (arith, ints, c.weighed.ensures.short, c.weighed-2.ensures.short, c.weighed-3.ensures.short, c.weighed-4.ensures.short)
+overflow_add-south-2 c = omega (arith, ints, c.weigh.ensures.short, c.weigh-2.ensures.short, c.weigh-3.ensures.short, c.weigh-4.ensures.short)
 
 pub overflow_add-south-3 : goal.overflow_add-south-3
 overflow_add-south-3 c = fits _ _ (sum c) (few c)
@@ -28,7 +28,7 @@ overflow_add-south-3 c = fits _ _ (sum c) (few c)
 
 is : (c : goal.After-div_euclid-mean) → c.div_euclid-mean.result ≡ blend c.args.s c.args.t c.p00.inside.n c.p10.inside.n c.p01.inside.n c.p11.inside.n
 is c = mean_is c.args.s c.args.t c.p00.inside.n c.p10.inside.n c.p01.inside.n c.p11.inside.n
-    c.weighed.result c.weighed-2.result c.weighed-3.result c.weighed-4.result c.div_euclid-mean.result
+    c.weigh.result c.weigh-2.result c.weigh-3.result c.weigh-4.result c.div_euclid-mean.result
     (record {
       s_le = c.requires.0;
       t_le = c.requires.1;
@@ -36,14 +36,14 @@ is c = mean_is c.args.s c.args.t c.p00.inside.n c.p10.inside.n c.p01.inside.n c.
       b_small = c.p10.invariant;
       c_small = c.p01.invariant;
       d_small = c.p11.invariant;
-      a_is = c.weighed.ensures.value;
-      b_is = c.weighed-2.ensures.value;
-      c_is = c.weighed-3.ensures.value;
-      d_is = c.weighed-4.ensures.value;
-      a_short = c.weighed.ensures.short;
-      b_short = c.weighed-2.ensures.short;
-      c_short = c.weighed-3.ensures.short;
-      d_short = c.weighed-4.ensures.short;
+      a_is = c.weigh.ensures.value;
+      b_is = c.weigh-2.ensures.value;
+      c_is = c.weigh-3.ensures.value;
+      d_is = c.weigh-4.ensures.value;
+      a_short = c.weigh.ensures.short;
+      b_short = c.weigh-2.ensures.short;
+      c_short = c.weigh-3.ensures.short;
+      d_short = c.weigh-4.ensures.short;
     }) c.div_euclid-mean.ensures
 
 small : (c : goal.After-div_euclid-mean) → unsigned_abs c.div_euclid-mean.result ≤ 999999999999999

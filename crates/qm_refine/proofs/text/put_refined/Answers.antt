@@ -6,7 +6,7 @@ use Rattle.def_layout.specs.Plans.{plan}
 use Rattle.def_remesh.specs.NewSoup.{new_soup}
 use Rattle.def_remesh.specs.Refined.{refine_head}
 use Rattle.def_text.specs.Canonical.{canonical_text}
-use Rattle.qm_output.proofs.Fronts.{of_error}
+use Rattle.qm_output.proofs.Prefixes.{of_error}
 use Rattle.qm_refine.proofs.text.put_refined.Goals as goal
 
 pub returns-in_err-put_head-clause-part : goal.returns-in_err-put_head-clause-part

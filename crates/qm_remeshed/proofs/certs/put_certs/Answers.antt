@@ -3,7 +3,7 @@ use Rattle.std.specs.Option.{option_map}
 use Rattle.std.specs.Result.{OnErr, OnOk}
 use Rattle.std.proofs.lemmas.Result.{on_err_weaker, on_ok_weaker}
 use Rattle.def_io.specs.Bytes.{Bytes}
-use Rattle.qm_output.proofs.Fronts.{of_error}
+use Rattle.qm_output.proofs.Prefixes.{of_error}
 use Rattle.qm_remeshed.proofs.Joins.{both_is, front_is}
 use Rattle.qm_remeshed.proofs.certs.put_certs.Goals as goal
 

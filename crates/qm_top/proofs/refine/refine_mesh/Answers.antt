@@ -1,6 +1,6 @@
 use Rattle.std.proofs.Common.{◌≡◌, ℕ, refl, ◌∙◌, subst}
 use Rattle.def_cut.specs.Traced.{traced_marks}
-use Rattle.def_io.specs.Moves.{took, TookFront}
+use Rattle.def_io.specs.Moves.{took, TookPrefix}
 use Rattle.def_layout.specs.FaceLayouts.{IsLayoutOf}
 use Rattle.def_layout.specs.Plans.{plan}
 use Rattle.def_mesh.specs.Faces.{Faces}
@@ -28,8 +28,8 @@ returns-in_err-write_refined-clause-refused g c =
     handed_if _ _ _ c.from_residual-in_err-write_refined.ensures.1 (record {
       text = refined_text c.args.by c.args.read.soup t;
       said = is_refined c.args.by c.args.read.soup t lies cut c.in_ok-refined.ensures.points.shape (fits_of _ _ _ _ c.in_ok-refined.ensures.points);
-      front = subst (λ (k : ℕ). TookFront (g.O.Sink.taken c.args.out.now) (g.O.Sink.taken c.write_refined.new.out) (refined_text k c.args.read.soup t))
-          c.in_ok-refined.ensures.by c.in_err-write_refined.ensures.front;
+      prefix = subst (λ (k : ℕ). TookPrefix (g.O.Sink.taken c.args.out.now) (g.O.Sink.taken c.write_refined.new.out) (refined_text k c.args.read.soup t))
+          c.in_ok-refined.ensures.by c.in_err-write_refined.ensures.prefix;
       fault = c.in_err-write_refined.ensures.fault;
     })
 

@@ -1,10 +1,10 @@
 use Rattle.std.proofs.Common.{◌≡◌, Result, Ok, Err, rules}
 use Rattle.std.specs.Prelude.{OnOk}
 use Rattle.std.proofs.lemmas.Result.{on_err_weaker, on_ok_weaker}
-use Rattle.def_io.specs.Moves.{took, TookFront}
+use Rattle.def_io.specs.Moves.{took, TookPrefix}
 use Rattle.def_layout.specs.Plans.{plan}
 use Rattle.def_remesh.specs.Refined.{refined_text}
-use Rattle.qm_output.proofs.Fronts.{of_error, rest_front, text_front, text_whole}
+use Rattle.qm_output.proofs.Prefixes.{of_error, rest_prefix, text_prefix, text_whole}
 use Rattle.qm_top.proofs.refine.write_refined.Goals as goal
 
 -- Two facts of a value are one.
@@ -12,20 +12,20 @@ on_ok_both : {T E : Type 0} (P Q : Type 0) (result : Result T E) → OnOk result
 on_ok_both P Q (Ok value) p q = (p, q)
 on_ok_both P Q (Err error) p q = tt
 
-pub returns-in_err-put_refined-clause-front : goal.returns-in_err-put_refined-clause-front
-returns-in_err-put_refined-clause-front g c =
-    let front : TookFront (g.O.Sink.taken c.new-text.result.sink.now) (g.O.Sink.taken c.put_refined.new.out.sink.now)
+pub returns-in_err-put_refined-clause-prefix : goal.returns-in_err-put_refined-clause-prefix
+returns-in_err-put_refined-clause-prefix g c =
+    let prefix : TookPrefix (g.O.Sink.taken c.new-text.result.sink.now) (g.O.Sink.taken c.put_refined.new.out.sink.now)
     (refined_text c.args.refined.now.by c.args.soup.now (plan c.args.cut.now.layout))
-    = text_front _ _ _ c.new-text.ensures.empty c.in_err-put_refined.ensures.part.1 in
+    = text_prefix _ _ _ c.new-text.ensures.empty c.in_err-put_refined.ensures.part.1 in
     of_error c.from_residual.result (search rules)
 
-pub returns-clause-front : goal.returns-clause-front
-returns-clause-front g c =
+pub returns-clause-prefix : goal.returns-clause-prefix
+returns-clause-prefix g c =
     on_err_weaker c.flush.result
     (λ broke.
-    let front : TookFront (g.O.Sink.taken c.new-text.result.sink.now) (g.O.Sink.taken c.flush.new.self.sink.now)
+    let prefix : TookPrefix (g.O.Sink.taken c.new-text.result.sink.now) (g.O.Sink.taken c.flush.new.self.sink.now)
     (refined_text c.args.refined.now.by c.args.soup.now (plan c.args.cut.now.layout))
-    = rest_front _ _ _ _ c.new-text.ensures.empty c.in_ok-put_refined.ensures.whole.1 broke in
+    = rest_prefix _ _ _ _ c.new-text.ensures.empty c.in_ok-put_refined.ensures.whole.1 broke in
     search rules)
     c.flush.ensures.part
 

@@ -38,7 +38,7 @@ returns-in_err-write_remeshed-clause-refused g c =
     handed_if _ _ (refusal_of_put c.in_err-write_remeshed.field-0.0) c.from_residual-in_err-write_remeshed.ensures.1
     (put_refused _ _ _ _ _ (text_of c.in_ok-kept.kept c.args.read.soup t) c.in_err-write_remeshed.field-0.0
     (kept_remeshed c.args.asked c.args.read.soup t c.in_ok-kept.kept c.in_ok-kept.ensures.asked lies cut c.in_ok-kept.ensures.kept)
-    c.in_err-write_remeshed.ensures.front c.in_err-write_remeshed.ensures.fault c.in_err-write_remeshed.ensures.untouched)
+    c.in_err-write_remeshed.ensures.prefix c.in_err-write_remeshed.ensures.fault c.in_err-write_remeshed.ensures.untouched)
 
 pub returns-clause-done : goal.returns-clause-done
 returns-clause-done g c =

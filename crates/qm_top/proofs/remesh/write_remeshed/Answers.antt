@@ -1,17 +1,17 @@
 use Rattle.std.proofs.Common.{◌≡◌, rules}
-use Rattle.def_io.specs.Moves.{took, TookFront}
+use Rattle.def_io.specs.Moves.{took, TookPrefix}
 use Rattle.def_layout.specs.Plans.{plan}
-use Rattle.qm_output.proofs.Fronts.{rest_front, text_front, text_whole}
+use Rattle.qm_output.proofs.Prefixes.{rest_prefix, text_prefix, text_whole}
 use Rattle.qm_top.specs.Writing.{text_of}
 use Rattle.qm_top.proofs.Remeshed.{same_error}
 use Rattle.qm_top.proofs.remesh.write_remeshed.Goals as goal
 
-pub returns-in_err-put_remeshed-clause-front : goal.returns-in_err-put_remeshed-clause-front
-returns-in_err-put_remeshed-clause-front g c is =
+pub returns-in_err-put_remeshed-clause-prefix : goal.returns-in_err-put_remeshed-clause-prefix
+returns-in_err-put_remeshed-clause-prefix g c is =
     let told = same_error c.from_residual.result c.in_err-put_remeshed.field-0.0 _ c.from_residual.ensures.1 is in
-    let front : TookFront (g.O.Sink.taken c.new-text.result.sink.now) (g.O.Sink.taken c.put_remeshed.new.out.sink.now)
+    let prefix : TookPrefix (g.O.Sink.taken c.new-text.result.sink.now) (g.O.Sink.taken c.put_remeshed.new.out.sink.now)
     (text_of c.args.kept c.args.soup.now (plan c.args.cut.now.layout))
-    = text_front _ _ _ c.new-text.ensures.empty (c.in_err-put_remeshed.ensures.part told).1 in
+    = text_prefix _ _ _ c.new-text.ensures.empty (c.in_err-put_remeshed.ensures.part told).1 in
     search rules
 
 pub returns-in-Ok-flush-clause-whole : goal.returns-in-Ok-flush-clause-whole
@@ -21,9 +21,9 @@ returns-in-Ok-flush-clause-whole g c =
     = text_whole _ _ _ _ c.new-text.ensures.empty c.in_ok-put_remeshed.ensures.whole.1 c.in-Ok-flush.ensures.whole c.in-Ok-flush.ensures.empty in
     search rules
 
-pub returns-clause-front : goal.returns-clause-front
-returns-clause-front g c is =
-    let front : TookFront (g.O.Sink.taken c.new-text.result.sink.now) (g.O.Sink.taken c.flush.new.self.sink.now)
+pub returns-clause-prefix : goal.returns-clause-prefix
+returns-clause-prefix g c is =
+    let prefix : TookPrefix (g.O.Sink.taken c.new-text.result.sink.now) (g.O.Sink.taken c.flush.new.self.sink.now)
     (text_of c.args.kept c.args.soup.now (plan c.args.cut.now.layout))
-    = rest_front _ _ _ _ c.new-text.ensures.empty c.in_ok-put_remeshed.ensures.whole.1 c.in-Err.ensures.part in
+    = rest_prefix _ _ _ _ c.new-text.ensures.empty c.in_ok-put_remeshed.ensures.whole.1 c.in-Err.ensures.part in
     search rules

@@ -9,7 +9,7 @@ use Rattle.def_text.specs.Canonical.{position_text}
 use Rattle.def_text.specs.FaceSet.{FaceSet, IsSoup}
 use Rattle.def_text.specs.Types.{Positions}
 use Rattle.def_written.specs.Numbers.{vertices}
-use Rattle.qm_output.proofs.Fronts.{of_error}
+use Rattle.qm_output.proofs.Prefixes.{of_error}
 use Rattle.qm_write.proofs.Positions.{all_placed, same_lines}
 use Rattle.qm_write.proofs.body.put_new_mesh.Goals as goal
 

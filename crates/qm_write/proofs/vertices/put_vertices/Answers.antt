@@ -6,7 +6,7 @@ use Rattle.def_remesh.specs.NewSoup.{new_place}
 use Rattle.def_text.specs.Canonical.{position_text}
 use Rattle.def_text.specs.Types.{Position}
 use Rattle.def_written.specs.Numbers.{vertices}
-use Rattle.qm_output.proofs.Fronts.{of_error}
+use Rattle.qm_output.proofs.Prefixes.{of_error}
 use Rattle.qm_output.proofs.Lists.{stops_at_number, takes_number}
 use Rattle.qm_write.proofs.vertices.put_vertices.Goals as goal
 

@@ -3,7 +3,7 @@ use Rattle.def_matching.specs.Matching.{graph}
 use Rattle.def_forest.specs.Darts.{darts_of}
 use Rattle.def_forest.specs.Tables.{forest_of}
 use Rattle.forest_laws.proofs.Forks.{swapped}
-use Rattle.qm_forest.proofs.Risings.{climb_named, climb_rises, climb_turn, both_last, both_order, both_swapped}
+use Rattle.qm_forest.proofs.Increases.{climb_named, climb_rises, climb_turn, both_last, both_order, both_swapped}
 use Rattle.qm_forest.proofs.forest.Forest.fork.Goals as goal
 
 pub above-x-requires-clause-named : goal.above-x-requires-clause-named

@@ -4,7 +4,7 @@ use Rattle.def_matching.specs.Matching.{graph}
 use Rattle.def_matching.specs.Dual.{dual}
 use Rattle.def_forest.specs.Tables.{ForestTables, forest_of}
 use Rattle.def_match.specs.Made.{IsMadeFor}
-use Rattle.qm_match.proofs.Outcomes.{rising_low, run_bounded}
+use Rattle.qm_match.proofs.Outcomes.{increasing_low, run_bounded}
 use Rattle.qm_match.proofs.Ready.{ready_idle}
 use Rattle.qm_match.proofs.matcher.Matcher.run.Goals as goal
 
@@ -12,7 +12,7 @@ pub match_tight-requires-clause-idle : goal.match_tight-requires-clause-idle
 match_tight-requires-clause-idle c = ready_idle (graph c.args.g.now) c.self.inside.search c.requires.small c.requires.cheap c.self.invariant (subst (λ (t : ForestTables). IsMadeFor (graph c.args.g.now) t) (sym c.self.view_is) c.requires.made)
 
 pub match_tight-requires-clause-known : goal.match_tight-requires-clause-known
-match_tight-requires-clause-known c = rising_low 0 (length c.args.g.now.edges.items) c.args.known.now c.requires.known.rising
+match_tight-requires-clause-known c = increasing_low 0 (length c.args.g.now.edges.items) c.args.known.now c.requires.known.increasing
 
 pub returns-clause-bounded : goal.returns-clause-bounded
 returns-clause-bounded c = λ first most each costs. run_bounded (graph c.args.g.now) c.self.inside.search c.match_all.new.self (dual c.into_parts.result.1) c.self.invariant (c.match_all.ensures.first ∙ c.match_tight.ensures.first) first most

@@ -4,7 +4,7 @@ use Rattle.def_text.specs.Logical.{Logical, is_hash}
 use Rattle.qm_obj.specs.Lines.{Took, next_said, uncommented}
 use Rattle.qm_obj.specs.Views.{kept_of}
 use Rattle.qm_obj.proofs.FeedLemmas.{ended_line, long_line, number_some, passed_on, refused_line}
-use Rattle.qm_obj.proofs.FrontLemmas.{behind_joined}
+use Rattle.qm_obj.proofs.PrefixLemmas.{behind_joined}
 use Rattle.qm_obj.proofs.joiner.Joiner.read_joined.Goals as goal
 
 pub returns-then-size-gt-MAX_LINE-clause-refused : goal.returns-then-size-gt-MAX_LINE-clause-refused

@@ -7,8 +7,8 @@ use Rattle.qm_trace.specs.contracts.motion.Motion.{the_view}
 use Rattle.qm_trace.proofs.Calls.{end_covered, end_riders}
 use Rattle.qm_trace.proofs.motion.Motion.into_graph.Goals as goal
 
-pub told-requires-clause-riders : goal.told-requires-clause-riders
-told-requires-clause-riders c =
+pub tell_riders-requires-clause-riders : goal.tell_riders-requires-clause-riders
+tell_riders-requires-clause-riders c =
     let z : IsMotionOn c.args.mesh.now (the_view c.self.inside) = subst (IsMotionOn c.args.mesh.now) (sym c.self.view_is) c.requires.motion in
     c.deref-2.ensures.value ∙ end_riders c.args.mesh.now c.faces-known.ensures.mesh.manifold (the_view c.self.inside).state z.reached (subst (λ (q : MotionView). NobodyRuns q.state) (sym c.self.view_is) c.requires.over)
 

@@ -1,0 +1,83 @@
+-- What certificates are checked to be.
+use Rattle.std.specs.Prelude.{◌≡◌, ◌≢◌, ◌⊎◌, ◌<◌, ◌≤◌, ◌^◌, ℕ, ℤ, Some, None, List, length, slice_index, ⊤}
+use Rattle.std.specs.Option.{option_map}
+use Rattle.def_certtext.specs.CertLines.{lists_of, Lists}
+use Rattle.def_certtext.specs.Reading.{Made}
+use Rattle.def_certtext.specs.declared.Asked.{Asked}
+use Rattle.def_flow.specs.Accepted.{certificate, cert_verdict}
+use Rattle.def_flow.specs.Admissible.{deviation, entries}
+use Rattle.def_flow.specs.Descent.{IsSolution}
+use Rattle.def_flow.specs.Network.{Network}
+use Rattle.def_flow.specs.declared.cert.Cert.{Cert}
+use Rattle.def_flow.specs.declared.cert.CertVerdict.TheVariants.{Yes}
+use Rattle.def_flow.specs.declared.limits.TheConstants.{MAX_FLOOR, MAX_LENGTH}
+use Rattle.def_io.specs.Bytes.{Bytes}
+use Rattle.def_layout.specs.Plans.{Plan, layout_of}
+use Rattle.def_matching.specs.Dual.{IsSmallDual}
+use Rattle.def_remesh.specs.Keeping.{IsKept}
+use Rattle.def_remesh.specs.NewPoints.{lengths_in}
+use Rattle.def_remesh.specs.Refusals.{AreTooFine}
+use Rattle.def_remesh.specs.Remeshed.{AreCoarse, certificate_of, used}
+use Rattle.def_run.specs.Check.{DifferFrom, first_of, IsLoneDoubled, IsThirdWrong, IsWrong}
+use Rattle.def_run.specs.declared.answer.Why.TheVariants as why
+use Rattle.def_written.specs.Edges.{IsFirstDoubled}
+use Rattle.remesh_laws.specs.Keeps.{IsNumbered}
+use Rattle.def_run.specs.declared.check_fail.CheckFail.{CheckFail}
+use Rattle.def_run.specs.declared.check_fail.CheckFail.TheVariants.{NotAccepted, Memory}
+use Rattle.qm_check.specs.declared.certificates.Checked.{Checked}
+use Rattle.qm_check.specs.declared.lengths.Lengths.{Lengths}
+use Rattle.qm_check.specs.declared.lengths.Lengths.TheVariants.{Whole, Doubled}
+
+-- A certificate whose numbers are within the limits of the checker.
+pub record IsInReach (cert : Lists) : Type 0 where
+  pub few : length cert.x < 2 ^ 32
+  pub short : (k : ℕ) → k < length cert.x → slice_index cert.x k ≤ MAX_LENGTH
+  pub small : IsSmallDual (certificate_of cert).dual
+
+-- What lengths give: a new mesh, or a doubled edge, which comes only below the greatest floor.
+abbrev pub Gives : (plan : Plan) (net : Network) (xs : List ℕ) (lengths : Lengths) → Type 0
+Gives plan net xs (Whole numbering deviates) = IsNumbered plan xs numbering × (deviates ≡ deviation net (entries xs))
+Gives plan net xs (Doubled u v) =
+    AreCoarse plan xs × IsFirstDoubled (layout_of plan) (lengths_in xs) u v × (net.floor < MAX_FLOOR)
+
+-- Why a certificate gives no lengths: its verdict, or that it is accepted and its lengths give too many faces.
+abbrev pub GivesNone : (plan : Plan) (net : Network) (cert : Cert) (fail : CheckFail) → Type 0
+GivesNone plan net cert (NotAccepted (why.Verdict verdict)) =
+    (verdict ≡ cert_verdict net (certificate cert)) × ((d : ℤ) → verdict ≢ Yes d)
+GivesNone plan net cert (NotAccepted (why.TooFine faces)) =
+    IsSolution net (certificate cert) × AreTooFine plan cert.x.items faces
+GivesNone plan net cert Memory = ⊤
+GivesNone plan net cert _ = ⊥
+
+-- How a text was made with one certificate, and with one for floor 1 and one for floor 3.
+abbrev pub made_once : (asked : Asked) (cert : Lists) → Made
+made_once asked cert = record { settings = asked.settings; auto = asked.auto; first = None; cert = cert }
+
+abbrev pub made_twice : (asked : Asked) (first third : Lists) → Made
+made_twice asked first third = record { settings = asked.settings; auto = asked.auto; first = Some first; cert = third }
+
+-- What is kept by the certificates of a text: those that are used, the numbers of the new mesh, and the deviation.
+pub record IsChecked (plan : Plan) (net : Network) (made : Made) (checked : Checked) : Type 0 where
+  pub kept : IsKept plan made.settings made.auto (lists_of checked.remesh.first)
+      (option_map lists_of checked.remesh.third) checked.remesh.numbering
+  pub settings : checked.remesh.asked.settings ≡ made.settings
+  pub auto : checked.remesh.asked.auto ≡ made.auto
+  pub first : lists_of checked.remesh.first ≡ first_of made
+  pub chosen : (option_map lists_of checked.remesh.third ≡ None)
+      ⊎ ((option_map lists_of checked.remesh.third ≡ Some made.cert) × (made.first ≡ Some (first_of made)))
+  pub deviates : checked.deviation
+      ≡ deviation net (entries (used (lists_of checked.remesh.first) (option_map lists_of checked.remesh.third)).x)
+
+-- Why the certificates of a text are not used.
+abbrev pub IsUnused : (plan : Plan) (made : Made) (fail : CheckFail) → Type 0
+IsUnused plan made (NotAccepted why) =
+    IsWrong plan made.settings (first_of made) why
+    ⊎ (IsLoneDoubled plan made.settings made why ⊎ IsThirdWrong plan made.settings made why)
+IsUnused plan made Memory = ⊤
+IsUnused plan made _ = ⊥
+
+-- The bytes are not this text.
+abbrev pub IsDifference : (given text : Bytes) (fail : CheckFail) → Type 0
+IsDifference given text (NotAccepted (why.Byte at)) = DifferFrom given text at
+IsDifference given text Memory = ⊤
+IsDifference given text _ = ⊥

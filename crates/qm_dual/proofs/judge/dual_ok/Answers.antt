@@ -1,7 +1,0 @@
-use Rattle.def_matching.specs.Matching.{graph}
-use Rattle.def_matching.specs.Dual.{dual}
-use Rattle.qm_dual.proofs.Verdicts.{bound_where_exact}
-use Rattle.qm_dual.proofs.judge.dual_ok.Goals as goal
-
-pub returns-clause-bound : goal.returns-clause-bound
-returns-clause-bound c = bound_where_exact (graph c.args.g.now) (dual c.args.d.now) c.requires.graph.lawful c.judge_sets.result c.judge_sets.ensures

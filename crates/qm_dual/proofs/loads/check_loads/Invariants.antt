@@ -1,0 +1,7 @@
+use Rattle.std.proofs.Common.{◌≡◌, ℕ, ◌<◌, false, pos, ◌*ℤ◌, int_lt}
+use Rattle.def_matching.specs.Matching.{graph, edge_at}
+use Rattle.def_matching.specs.Dual.{dual, load}
+use Rattle.qm_dual.proofs.loads.check_loads.Given as goal
+
+abbrev pub invariant-loop-k : goal.invariant-loop-k
+invariant-loop-k l = (j : ℕ) → j < l.k → int_lt (pos 2 *ℤ (edge_at (graph l.g) j).cost) (load l.g.n (dual l.d) (edge_at (graph l.g) j)) ≡ false

@@ -1,0 +1,123 @@
+//! The checker of duals.
+
+ghost use Rattle.std.specs.Prelude.{◌≡◌, ◌+◌, ◌^◌, ◌<◌, ◌≤◌, ◌*ℤ◌, ◌≤ℤ◌, ℕ, ℤ, List, pos, not, length, slice_index};
+ghost use Rattle.std.specs.Prelude.{slice_index_or, int_lt, IfOk, IfNone, IfSome};
+ghost use Rattle.def_math.specs.Searches.{least};
+ghost use Rattle.def_matching.specs.Dual.{dual, verdict, shape_fault, is_odd_size, is_up, IsSmallDual};
+ghost use Rattle.def_matching.specs.Matching.{graph, matching_cost, IsPerfect, IsSmallGraph};
+ghost use Rattle.qm_dual.specs.Nest.{IsNest};
+
+use crate::loads::{Tables, check_loads};
+use crate::paths::path_heads;
+use crate::sizes::set_sizes;
+use crate::sums::nested_sums;
+use def_matching::{Dual, MAX_SETS, MAX_VERTICES, Verdict, WGraph};
+use std::alloc::{AllocError, Global};
+
+/// Want of memory.
+pub type Memory = AllocError;
+
+/// The verdict on a dual of a graph. After `Yes` twice the cost of each perfect matching is at least the sum.
+///
+/// Linear in the vertices and sets, and logarithmic in them for each edge.
+pub fn dual_ok(alloc: Global, g: &WGraph, d: &Dual) -> Result<Verdict, Memory>
+    requires graph { IsSmallGraph (graph g.now) }
+    requires small { IsSmallDual (dual d.now) }
+    ensures exact { IfOk result (λ v. v ≡ verdict (graph g.now) (dual d.now)) }
+    // No perfect matching is cheaper than half of the sum.
+    ensures bound { IfOk result (λ v.
+        (sum : ℤ) → v ≡ Verdict.Yes sum → (m : List ℕ) → IsPerfect (graph g.now) m
+        → sum ≤ℤ (pos 2 *ℤ matching_cost (graph g.now) m)) }
+{
+    if let Some(index) = shape_fault_of(g.n, d) {
+        return Ok(Verdict::Shape { index });
+    }
+    check_sets(alloc, g, d)
+}
+
+/// The verdict on a dual of the right shape.
+fn check_sets(alloc: Global, g: &WGraph, d: &Dual) -> Result<Verdict, Memory>
+    requires graph { IsSmallGraph (graph g.now) }
+    requires small { IsSmallDual (dual d.now) }
+    requires numbers { length d.now.y.items ≡ g.now.n }
+    requires nest { IsNest g.now.n (dual d.now) }
+    ensures { IfOk result (λ v. v ≡ verdict (graph g.now) (dual d.now)) }
+{
+    let sizes = set_sizes(alloc, g.n, d)?;
+    if let Some(set) = even_set(&sizes) {
+        let size = sizes[set as usize];
+        return Ok(Verdict::Even { set, size });
+    }
+    if let Some(set) = negative_set(&d.z) {
+        return Ok(Verdict::Negative { set });
+    }
+    let sums = nested_sums(alloc, g.n, d)?;
+    let heads = path_heads(alloc, g.n, d, &sizes)?;
+    Ok(check_loads(g, d, &Tables { sums, heads }))
+}
+
+/// Where the lists of a dual have the wrong lengths, or else the least place at which `up` is out of range.
+fn shape_fault_of(n: u32, d: &Dual) -> Option<u32>
+    requires few { n ≤ MAX_VERTICES }
+    requires sets { length d.now.z.items ≤ MAX_SETS }
+    ensures fault { result ≡ shape_fault n (dual d.now) }
+    ensures numbers { IfNone result (length d.now.y.items ≡ n) }
+    ensures nest { IfNone result (IsNest n (dual d.now)) }
+{
+    if d.y.len() != n as usize {
+        return Some(n);
+    }
+    if d.up.len() != n as usize + d.z.len() {
+        return Some(n + 1);
+    }
+    place_fault_of(n, d.z.len() as u32, &d.up)
+}
+
+/// The least place whose entry names no set, or one that comes no later.
+fn place_fault_of(n: u32, sets: u32, up: &[u32]) -> Option<u32>
+    requires few { n ≤ MAX_VERTICES }
+    requires some { sets ≤ MAX_SETS }
+    requires whole { length up.now ≡ n + sets }
+    ensures { result ≡ least (λ i. not (is_up n sets i (slice_index up.now i))) (n + sets) }
+{
+    for (i, entry) in up.iter().enumerate() {
+        if !may_stand(n, sets, i as u32, *entry) {
+            return Some(i as u32);
+        }
+    }
+    None
+}
+
+/// Whether an entry of `up` may stand at place `i`.
+fn may_stand(n: u32, sets: u32, i: u32, entry: u32) -> bool
+    ensures { result ≡ is_up n sets i entry }
+{
+    entry == 0 || (u64::from(i) + 1 < u64::from(n) + u64::from(entry) && entry <= sets)
+}
+
+/// The least set that holds an even number of vertices, or fewer than three.
+fn even_set(sizes: &[u32]) -> Option<u32>
+    requires { length sizes.now ≤ 2 ^ 30 }
+    ensures least { result ≡ least (λ k. not (is_odd_size (slice_index sizes.now k))) (length sizes.now) }
+    ensures low { IfSome result (λ k. k < length sizes.now) }
+{
+    for (k, size) in sizes.iter().enumerate() {
+        if size % 2 != 1 || *size < 3 {
+            return Some(k as u32);
+        }
+    }
+    None
+}
+
+/// The least set whose `z` is below 0.
+fn negative_set(z: &[i64]) -> Option<u32>
+    requires { length z.now ≤ 2 ^ 30 }
+    ensures { result ≡ least (λ k. int_lt (slice_index_or z.now k (pos 0)) (pos 0)) (length z.now) }
+{
+    for (k, number) in z.iter().enumerate() {
+        if *number < 0 {
+            return Some(k as u32);
+        }
+    }
+    None
+}

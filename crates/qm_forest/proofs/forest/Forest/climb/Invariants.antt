@@ -1,0 +1,16 @@
+use Rattle.std.proofs.Common.{◌≤◌}
+use Rattle.def_matching.specs.Matching.{graph}
+use Rattle.def_forest.specs.Darts.{darts_of}
+use Rattle.def_forest.specs.Tables.{forest_of}
+use Rattle.forest_laws.specs.Climbing.{level_of}
+use Rattle.qm_forest.specs.Rings.{HasClimbed}
+use Rattle.qm_forest.proofs.forest.Forest.climb.Given as goal
+
+abbrev pub invariant-loop-d : goal.invariant-loop-d
+invariant-loop-d l = record {
+  climbed : HasClimbed (darts_of (graph l.g)) (forest_of l.self) l.b l.at l.count;
+  few : l.count ≤ l.most;
+}
+
+abbrev pub decreases-loop-d : goal.decreases-loop-d
+decreases-loop-d l = level_of (darts_of (graph l.g)) (forest_of l.self) l.at
