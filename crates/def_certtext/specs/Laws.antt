@@ -1,15 +1,14 @@
 -- What is written reads back: the head line and the certificate lines of a written text are those that it was made of.
-use Rattle.std.specs.Prelude.{◌≡◌, ◌≤◌, ◌<◌, ◌^◌, ◌↔◌, ◌&&◌, nat_le, nat_lt, ℕ, Bool, true, false, IsTrue, Option, Some}
-use Rattle.std.specs.Prelude.{None, List, [], ◌∷◌, ◌++◌, length, drop, slice_index_or}
+use Rattle.std.specs.Prelude.{◌≡◌, ◌^◌, ◌↔◌, ℕ, Bool, true, false, IsTrue, Option, Some}
+use Rattle.std.specs.Prelude.{None, List, [], ◌∷◌, ◌++◌, drop, slice_index_or}
 use Rattle.std.specs.List.{list_all}
-use Rattle.def_io.specs.Bytes.{Bytes, Lines}
+use Rattle.def_io.specs.Bytes.{Bytes}
 use Rattle.def_io.specs.Lines.{lines_of}
 use Rattle.def_io.specs.declared.TheConstants.{LINE_FEED}
 use Rattle.def_mesh.specs.Vertices.{names_below}
 use Rattle.def_text.specs.Canonical.{canonical_text}
 use Rattle.def_text.specs.FaceSet.{FaceSet}
 use Rattle.def_text.specs.Laws.{is_position, is_quad}
-use Rattle.def_flow.specs.declared.limits.TheConstants.{MAX_LENGTH}
 use Rattle.def_flow.specs.declared.net.Settings.{Settings}
 use Rattle.def_certtext.specs.CertLines.{said_by, text_of, HasUps, Lists}
 use Rattle.def_certtext.specs.HeadLine.{head_line}

@@ -1,5 +1,5 @@
 -- The definitions computed on small numbers.
-use Rattle.std.proofs.Common.{◌≡◌, pos, List, [], ◌∷◌, length, map, refl}
+use Rattle.std.proofs.Common.{◌≡◌, pos, [], ◌∷◌, length, refl}
 use Rattle.def_gen.specs.Steps.{block_height, steps_soup}
 
 heights_row : block_height 1 0 ∷ block_height 2 0 ∷ block_height 2 1 ∷ [] ≡ 7 ∷ 7 ∷ 6 ∷ []

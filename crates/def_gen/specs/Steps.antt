@@ -1,5 +1,5 @@
 -- The stepped mesh: blocks of three columns side by side, from four to eight cells high.
-use Rattle.std.specs.Prelude.{ℕ, zero, suc, ◌+◌, ◌*◌, ◌/◌, ◌%◌, ◌^◌, nat_lt, pos, List, [], ◌∷◌, filter, length, map}
+use Rattle.std.specs.Prelude.{ℕ, zero, suc, ◌+◌, ◌*◌, ◌/◌, ◌%◌, ◌^◌, nat_lt, pos, [], ◌∷◌, filter, length, map}
 use Rattle.std.specs.List.{flat_map, range_with_len}
 use Rattle.def_mesh.specs.Faces.{Face, Faces}
 use Rattle.def_text.specs.FaceSet.{FaceSet}

@@ -1,5 +1,5 @@
 -- The physical lines of a text.
-use Rattle.std.specs.Prelude.{ℕ, ◌-◌, ◌==◌, if◌then◌else◌, List, [], ◌∷◌, length, take, drop, map, slice_index}
+use Rattle.std.specs.Prelude.{ℕ, ◌-◌, ◌==◌, if◌then◌else◌, [], ◌∷◌, length, take, drop, map, slice_index}
 use Rattle.std.specs.List.{flat_map}
 use Rattle.def_io.specs.Bytes.{Bytes, Lines}
 use Rattle.def_io.specs.declared.TheConstants.{LINE_FEED, CARRIAGE_RETURN}

@@ -1,5 +1,5 @@
 -- The mesh that a layout with lengths gives, and why it may give none.
-use Rattle.std.specs.Prelude.{◌≡◌, ◌⊎◌, ℕ, ◌*◌, ◌<◌, ◌≤◌, Bool, List, length, ⊤}
+use Rattle.std.specs.Prelude.{◌≡◌, ◌⊎◌, ℕ, ◌<◌, ◌≤◌, Bool, List, length, ⊤}
 use Rattle.def_mesh.specs.Faces.{Faces}
 use Rattle.def_mesh.specs.Meshes.{IsMesh}
 use Rattle.def_cut.specs.FullCut.{IsFullCut}

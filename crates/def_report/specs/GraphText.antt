@@ -12,7 +12,7 @@ use Rattle.def_mesh.specs.Kinds.{kind_of}
 use Rattle.def_mesh.specs.Components.{edge_count, euler, least_faces, seeds}
 use Rattle.def_mesh.specs.declared.Kind.{Kind}
 use Rattle.def_mesh.specs.declared.Kind.TheVariants.{Regular, Singular, Corner, Reflex}
-use Rattle.def_cut.specs.Grids.{Rectangle, patch_at}
+use Rattle.def_cut.specs.Grids.{patch_at}
 use Rattle.def_cut.specs.declared.graph.Rider.{Rider}
 use Rattle.def_cut.specs.declared.graph.Stop.{Stop}
 use Rattle.def_cut.specs.declared.graph.Stop.TheVariants as stop

@@ -1,5 +1,5 @@
 -- The canonical text of a soup.
-use Rattle.std.specs.Prelude.{ℕ, ◌+◌, ◌-◌, ◌/◌, ◌%◌, ◌^◌, ◌==◌, ℤ, pos, int_lt, unsigned_abs, if◌then◌else◌, List, []}
+use Rattle.std.specs.Prelude.{ℕ, ◌+◌, ◌-◌, ◌/◌, ◌%◌, ◌^◌, ◌==◌, ℤ, pos, int_lt, unsigned_abs, if◌then◌else◌, []}
 use Rattle.std.specs.Prelude.{◌∷◌, ◌++◌, length, take, drop, decimal}
 use Rattle.std.specs.List.{flat_map, suffix_len}
 use Rattle.def_io.specs.Bytes.{Bytes}

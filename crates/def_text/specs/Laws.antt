@@ -1,5 +1,5 @@
 -- What is written reads back.
-use Rattle.std.specs.Prelude.{◌≡◌, ◌≤◌, ◌==◌, ◌&&◌, not, ℕ, ℤ, Bool, true, IsTrue, Ok, List, length, unsigned_abs}
+use Rattle.std.specs.Prelude.{◌≡◌, ◌≤◌, ◌==◌, ◌&&◌, not, ℕ, ℤ, Bool, true, IsTrue, Ok, length, unsigned_abs}
 use Rattle.std.specs.List.{list_all}
 use Rattle.def_io.specs.Lines.{lines_of}
 use Rattle.def_text.specs.Canonical.{canonical_text, micro_text}

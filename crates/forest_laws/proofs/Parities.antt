@@ -1,5 +1,5 @@
 -- The potentials of the vertices of one blossom have one parity, and so have those of all vertices in the tree.
-use Rattle.std.proofs.Common.{◌≡◌, ◌≢◌, ℕ, zero, suc, ◌+◌, ◌*◌, ◌<◌, ◌≤◌, Bool, true, false, not, cond, eqb, length, Option, Some, None, ℤ, pos, ◌+ℤ◌, ◌-ℤ◌, ◌*ℤ◌, ◌⊎◌, refl, sym, ◌∙◌, ap, subst, inl, inr, arith}
+use Rattle.std.proofs.Common.{◌≡◌, ◌≢◌, ℕ, zero, suc, ◌+◌, ◌<◌, ◌≤◌, Bool, true, false, not, cond, eqb, length, Option, Some, ℤ, pos, ◌+ℤ◌, ◌-ℤ◌, ◌⊎◌, refl, sym, ◌∙◌, ap, subst, inl, inr, arith}
 use Rattle.std.proofs.lemmas.Int.{ints}
 use Rattle.std.proofs.lemmas.Bool.{cases_lt, eq-eqb, eqb-true}
 use Rattle.def_math.specs.Sums.{total_below}
@@ -8,7 +8,7 @@ use Rattle.def_forest.specs.Darts.{Darts, AreDarts, darts_of, far}
 use Rattle.def_forest.specs.Forests.{Forest, load, splits, IsTight, IsOutermost, number, walk, ring_sum}
 use Rattle.def_forest.specs.Tables.{slack_of}
 use Rattle.def_forest.specs.Valid.{IsNested, IsRing, IsJoint, IsMate, IsInner, IsOuter, IsTree, IsValid}
-use Rattle.def_forest.specs.declared.kinds.Label.TheVariants.{Outer, Inner}
+use Rattle.def_forest.specs.declared.kinds.Label.TheVariants.{Outer}
 use Rattle.forest_laws.proofs.Expands.{number_true}
 use Rattle.forest_laws.proofs.Facts.{far_low, far_twin, tree_of}
 use Rattle.forest_laws.proofs.Graphs.{are_darts}

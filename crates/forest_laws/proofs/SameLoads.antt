@@ -1,5 +1,5 @@
 -- Where only a set of weight 0 holds other vertices than before, no load changes.
-use Rattle.std.proofs.Common.{◌≡◌, ◌≢◌, ℕ, ◌<◌, Bool, not, cond, ℤ, pos, ◌⊎◌, sym, ◌∙◌, ap, inl, inr, arith}
+use Rattle.std.proofs.Common.{◌≡◌, ◌≢◌, ℕ, ◌<◌, Bool, not, cond, ℤ, pos, ◌⊎◌, sym, ◌∙◌, ap, inl, inr}
 use Rattle.std.proofs.lemmas.Bool.{cases_eq}
 use Rattle.qm_laws.proofs.Sums.{total_below_same}
 use Rattle.def_forest.specs.Forests.{Forest, load, splits}

@@ -1,14 +1,13 @@
 -- Who goes on at a vertex with four faces, told by two bits: the rider by d, where neither the rider to whom it gives
 -- way arrives nor the one from the opposite side.
-use Rattle.std.proofs.Common.{◌≡◌, ◌≢◌, ◌⊎◌, ℕ, zero, suc, ◌<◌, Bool, true, false, not, cond, eqb, ◌&&◌, ◌||◌, List, [], ◌∷◌, Some, None, sym, subst, ap, ◌∙◌, refl, inl, inr, arith}
+use Rattle.std.proofs.Common.{◌≡◌, ◌≢◌, ◌⊎◌, ℕ, ◌<◌, Bool, true, false, not, eqb, ◌&&◌, ◌||◌, List, [], ◌∷◌, sym, ap, ◌∙◌, refl, inl, inr, arith}
 use Rattle.std.proofs.Math.Bool.{or-false}
-use Rattle.std.proofs.lemmas.Bool.{eq-eqb, ne_eqb, eqb-true, eqb-false, false≢true, false_from_ne_true, cases_Bool, or_parts, and_from, and_parts, not_from_false}
+use Rattle.std.proofs.lemmas.Bool.{eq-eqb, ne_eqb, false≢true}
 use Rattle.def_mesh.specs.HalfEdges.{HalfEdges, IsQuadManifold}
-use Rattle.def_cut.specs.Cuts.{IsCross, HasCross}
-use Rattle.def_cut.specs.Motion.{Terrain, end_of, is_among, is_found, is_met, is_twin, arrives_at, arrivals, gives_way, goes_on}
-use Rattle.cut_laws.proofs.Crosses.{of_four, one_of_four, four_apart, a_c, low_a, low_b, low_c, at_a, at_b, at_c}
-use Rattle.motion_laws.proofs.Among.{among_here, among_later, among_cases, any_at, in_filter, from_filter, AreApart, apart_filter}
-use Rattle.motion_laws.proofs.Terrains.{IsTerrain}
+use Rattle.def_cut.specs.Cuts.{IsCross}
+use Rattle.def_cut.specs.Motion.{Terrain, end_of, is_among, is_twin, gives_way, goes_on}
+use Rattle.cut_laws.proofs.Crosses.{of_four, one_of_four, four_apart, a_c}
+use Rattle.motion_laws.proofs.Among.{among_here, among_later, among_cases, AreApart}
 
 -- The darts that arrive at a vertex with four faces, going round: d gives way to p, p to q, q to r, and r to d.
 pub record AreRound (g : Terrain) (d p q r : ℕ) : Type 0 where

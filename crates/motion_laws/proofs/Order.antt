@@ -1,24 +1,23 @@
 -- Events keep what event states show, so every order of events has one end.
 use Rattle.std.proofs.Common.{◌≡◌, ◌≢◌, ◌⊎◌, ℕ, zero, suc, ◌+◌, ◌-◌, ◌<◌, ◌≤◌, Bool, true, false, not, cond, eqb, ◌&&◌, ◌||◌, List, [], ◌∷◌, ◌++◌, map, length, get_or, set, replicate, Option, Some, None, sym, subst, ap, ◌∙◌, refl, inl, inr, arith}
 use Rattle.std.specs.List.{list_any}
-use Rattle.std.proofs.lemmas.Option.{none-some, same_Some}
 use Rattle.std.proofs.Math.Bool.{or-false}
-use Rattle.std.proofs.lemmas.Bool.{eq-eqb, ne_eqb, eqb-true, false≢true, cases_Bool, cases_eq, cases_lt, or_left, or_right, or_cases, and_parts, and_from, not_from_false, not_from_true}
+use Rattle.std.proofs.lemmas.Bool.{eq-eqb, eqb-true, false≢true, cases_Bool, cases_eq, cases_lt, or_right, and_parts, and_from, not_from_false}
 use Rattle.qm_laws.proofs.Tests.{same_test}
 use Rattle.std.proofs.lemmas.List.{get_or-set_same, get_or-set_other, length-set, length-replicate, length-map, length-append}
 use Rattle.def_cut.specs.FullCut.{is_on}
 use Rattle.def_cut.specs.declared.graph.Stop.{Stop}
 use Rattle.def_cut.specs.declared.moving.Moving.{Moving}
-use Rattle.def_cut.specs.Motion.{Terrain, State, end_of, with_next, ridden, is_among, is_found, is_met, arrives_at, stop_of, ride_on, ride, begun, step, start, after}
+use Rattle.def_cut.specs.Motion.{Terrain, State, end_of, with_next, ridden, is_among, is_found, is_met, arrives_at, ride_on, ride, begun, step, start, after}
 use Rattle.def_cut.specs.Traced.{finish, end_state}
-use Rattle.def_cut.specs.Events.{EventState, waiting, darts_in, rider_at, note_at, may_ride, mark_twin, after_ride_of, ends_at, may_settle, all_told, decided_at, is_closed, closed, if_closed, after_settling, first_state, Event, May, after_event, Leads, rides_in, NobodyRuns}
+use Rattle.def_cut.specs.Events.{EventState, waiting, darts_in, rider_at, note_at, may_ride, mark_twin, after_ride_of, ends_at, may_settle, all_told, decided_at, is_closed, closed, after_settling, first_state, Event, May, Leads, rides_in, NobodyRuns}
 use Rattle.def_cut.specs.Events.Event.{Ride, Settle}
 use Rattle.qm_laws.proofs.Counts.{count_below_lt, count_below_ones}
-use Rattle.motion_laws.proofs.Among.{among_here, among_later, any_at, any_where, all_at, not_all, AreApart}
+use Rattle.motion_laws.proofs.Among.{among_here, any_at, any_where, all_at, not_all, AreApart}
 use Rattle.motion_laws.proofs.Marks.{none_on, none_found, no_darts, twin_marks, from_marks, marked_long, noted_more, noted_longer, found_more, apart_few, among_append, apart_append}
 use Rattle.motion_laws.proofs.Next.{with_later}
-use Rattle.motion_laws.proofs.Shown.{IsShown, AreShown, AllNoted, long, all_noted, darts_are, noted_rides, notes_apart, ride_shown, waits_as_was, waits_not_all, somebody, as_was, still_runs, closed_is, none_shown, told_shown, told_long}
-use Rattle.motion_laws.proofs.Steps.{step_keeps, back}
+use Rattle.motion_laws.proofs.Shown.{IsShown, AreShown, AllNoted, long, all_noted, darts_are, noted_rides, notes_apart, ride_shown, waits_as_was, waits_not_all, somebody, as_was, still_runs, closed_is, none_shown, told_shown}
+use Rattle.motion_laws.proofs.Steps.{back}
 use Rattle.motion_laws.proofs.Terrains.{IsTerrain, IsStarted, IsReached}
 use Rattle.motion_laws.proofs.Traced.{start_reached, after_reached, ridden_once, at_rest, runs_on, fresh, rests_or_falls, nobody_runs}
 

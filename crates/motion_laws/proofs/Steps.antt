@@ -1,19 +1,18 @@
 -- Each step keeps what reached states know.
-use Rattle.std.proofs.Common.{◌≡◌, ◌≢◌, ◌⊎◌, ℕ, zero, suc, ◌<◌, Bool, true, false, not, cond, ◌&&◌, ◌||◌, List, [], ◌∷◌, map, Option, Some, None, sym, subst, ap, ◌∙◌, refl, inl, inr}
+use Rattle.std.proofs.Common.{◌≡◌, ◌≢◌, ◌⊎◌, ℕ, zero, suc, ◌<◌, Bool, true, false, not, cond, ◌&&◌, List, [], Option, Some, None, sym, subst, ap, ◌∙◌, refl, inl, inr}
 use Rattle.std.specs.List.{list_any}
 use Rattle.std.proofs.lemmas.Option.{none-some, same_Some}
 use Rattle.std.proofs.lemmas.Bool.{eq-eqb, eqb-true, false≢true, false_from_ne_true, cases_Bool, or_left, or_right, or_cases, and_from, and_parts, not_from_false}
 use Rattle.qm_laws.proofs.Tests.{same_test}
-use Rattle.def_mesh.specs.HalfEdges.{HalfEdges, IsQuadManifold}
+use Rattle.def_mesh.specs.HalfEdges.{HalfEdges}
 use Rattle.def_cut.specs.Cuts.{IsCross, HasCross}
 use Rattle.def_cut.specs.Trails.{IsStraight, Trail, IsTracked}
 use Rattle.def_cut.specs.declared.graph.Stop.{Stop}
-use Rattle.def_cut.specs.declared.moving.Moving.{Moving}
-use Rattle.def_cut.specs.Motion.{Terrain, State, end_of, straight, ridden, is_among, is_found, is_met, arrives_at, arrivals, goes_on, stop_of, or_else, ride, step}
-use Rattle.cut_laws.proofs.Crosses.{low_a, low_b, low_c, at_a, at_b, at_c}
+use Rattle.def_cut.specs.Motion.{Terrain, State, end_of, straight, ridden, is_among, is_found, is_met, arrives_at, arrivals, goes_on, stop_of, or_else, step}
+use Rattle.cut_laws.proofs.Crosses.{low_a, low_c, at_a, at_b, at_c}
 use Rattle.cut_laws.proofs.Darts.{next_same, twin_same}
 use Rattle.motion_laws.proofs.Among.{any_at, any_where, in_filter, from_filter, AreApart, apart_filter}
-use Rattle.motion_laws.proofs.Terrains.{IsTerrain, IsStarted, IsReached, IsKnown, IsSoon, IsCrossedAt}
+use Rattle.motion_laws.proofs.Terrains.{IsTerrain, IsReached, IsKnown, IsSoon, IsCrossedAt}
 use Rattle.motion_laws.proofs.Bits.{rotated, round_of, of_round, two_bits_of}
 use Rattle.motion_laws.proofs.Next.{next_from, next_to, next_apart}
 

@@ -1,6 +1,6 @@
 -- Where riders move, from where they start, and what each state that they reach knows.
 use Rattle.std.proofs.Common.{◌≡◌, ◌⊎◌, ℕ, ◌<◌, true, false, List, Some, None}
-use Rattle.def_mesh.specs.HalfEdges.{HalfEdges, IsQuadManifold}
+use Rattle.def_mesh.specs.HalfEdges.{IsQuadManifold}
 use Rattle.def_cut.specs.Cuts.{IsCross, HasCross}
 use Rattle.def_cut.specs.Trails.{Trail, IsTracked, AreStarts}
 use Rattle.def_cut.specs.Motion.{Terrain, State, end_of, ridden, is_among}

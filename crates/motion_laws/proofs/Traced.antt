@@ -1,20 +1,17 @@
 -- The states that the motion reaches, its end, and that what it traces is a full cut.
-use Rattle.std.proofs.Common.{◌≡◌, ◌≢◌, ◌⊎◌, ℕ, zero, suc, ◌+◌, ◌<◌, ◌≤◌, Bool, true, false, not, cond, ◌&&◌, ◌||◌, List, [], ◌∷◌, map, Option, Some, None, is_some, sym, subst, ap, ◌∙◌, refl, inl, inr, arith}
-use Rattle.std.specs.List.{list_any}
-use Rattle.std.proofs.lemmas.Option.{none-some, same_Some}
-use Rattle.std.proofs.lemmas.Bool.{eq-eqb, eqb-true, false≢true, cases_Bool, cases_eq, cases_lt, or_left, or_right, or_cases}
+use Rattle.std.proofs.Common.{◌≡◌, ◌≢◌, ◌⊎◌, ℕ, zero, suc, ◌<◌, ◌≤◌, Bool, true, false, not, cond, ◌||◌, List, [], ◌∷◌, map, Option, Some, None, is_some, sym, subst, ap, ◌∙◌, refl, inl, inr, arith}
+use Rattle.std.proofs.lemmas.Bool.{eq-eqb, eqb-true, false≢true, cases_Bool, cases_eq, or_left, or_right, or_cases}
 use Rattle.def_math.specs.Counts.{count_below}
 use Rattle.qm_laws.proofs.Counts.{count_below_lt}
-use Rattle.def_mesh.specs.HalfEdges.{HalfEdges, IsQuadManifold}
 use Rattle.def_cut.specs.Cuts.{IsCross, HasCross, GoesOn as CutGoesOn, IsUncut, IsCut}
 use Rattle.def_cut.specs.Trails.{Trail, IsTracked, IsTraced}
 use Rattle.def_cut.specs.Motion.{Terrain, State, end_of, ridden, is_among, begun, step, start, after}
 use Rattle.def_cut.specs.Traced.{finish, end_state, is_cut}
 use Rattle.cut_laws.proofs.Corners.{corner_law}
-use Rattle.cut_laws.proofs.Crosses.{one_of_four, low_a, low_b, low_c, at_a, at_b, at_c}
+use Rattle.cut_laws.proofs.Crosses.{one_of_four, low_a, low_b, at_b}
 use Rattle.motion_laws.proofs.Among.{any_at, any_where, AreApart}
 use Rattle.motion_laws.proofs.Terrains.{IsTerrain, IsStarted, IsReached, IsKnown, IsSoon, IsCrossedAt}
-use Rattle.motion_laws.proofs.Steps.{trail_more, IsNext, next_is, step_keeps, back, stands, stood_old}
+use Rattle.motion_laws.proofs.Steps.{trail_more, IsNext, next_is, step_keeps, back, stands}
 
 -- All riders ride at first.
 pub ridden_begun : (starts : List ℕ) → ridden (map begun starts) ≡ starts

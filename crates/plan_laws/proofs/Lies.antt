@@ -7,7 +7,7 @@ use Rattle.def_cut.specs.Cuts.{Cut, IsCut}
 use Rattle.def_cut.specs.Grids.{cell_of, patch_at, IsGrid, IsSide}
 use Rattle.def_cut.specs.Steps.{spin}
 use Rattle.def_layout.specs.declared.tmesh.SideArc.{SideArc}
-use Rattle.def_layout.specs.Layouts.{Way, south, east, north, west, after, Layout, Slot, IsSlot, use_of, start_of}
+use Rattle.def_layout.specs.Layouts.{Way, south, east, north, west, Layout, Slot, IsSlot, use_of, start_of}
 use Rattle.def_layout.specs.Laid.{IsPaved, IsOther}
 use Rattle.def_layout.specs.Lengths.{reach, size, wide, high, AreLengths}
 use Rattle.def_layout.specs.Cells.{Dart, IsDart, dart, rim, rim_at}

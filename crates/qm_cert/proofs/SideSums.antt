@@ -1,5 +1,5 @@
 -- Sums on one side of the nodes, one arc at a time.
-use Rattle.std.proofs.Common.{◌≡◌, ℕ, zero, suc, ◌+◌, ◌*◌, ◌^◌, ◌<◌, ◌≤◌, Bool, true, false, not, cond, List, ◌∷◌, length, pos, refl, ◌∙◌, add-one, arith}
+use Rattle.std.proofs.Common.{◌≡◌, ℕ, zero, suc, ◌+◌, ◌*◌, ◌^◌, ◌<◌, ◌≤◌, Bool, true, false, not, cond, List, length, pos, refl, ◌∙◌, add-one, arith}
 use Rattle.std.specs.Prelude.{slice_index}
 use Rattle.def_math.specs.Sums.{total}
 use Rattle.def_math.specs.Tables.{at_place, IsRaised}

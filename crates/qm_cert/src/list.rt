@@ -1,8 +1,7 @@
 //! The first fault of a list.
 
-ghost use Rattle.std.specs.Prelude.{◌≡◌, ℕ, ◌^◌, ◌<◌, ◌≤◌, length, slice_index, IfOk, IfNone};
+ghost use Rattle.std.specs.Prelude.{◌≡◌, ℕ, ◌^◌, ◌<◌, ◌≤◌, length, slice_index, IfOk};
 ghost use Rattle.def_flow.specs.Network.{network, IsWithinBounds};
-ghost use Rattle.def_flow.specs.Admissible.{entries, IsAdmissible, IsBalanced};
 ghost use Rattle.def_flow.specs.Admissible.{AreLengths};
 ghost use Rattle.qm_cert.specs.Faults.{compared_verdict, list_verdict, unequal_verdict};
 

@@ -1,6 +1,6 @@
 //! The sums on the sides of the nodes, and searches.
 
-ghost use Rattle.std.specs.Prelude.{◌≡◌, ◌+◌, ◌*◌, ◌^◌, ◌<◌, ◌≤◌, ◌==◌, ℕ, not, cond, length, replicate, slice_index};
+ghost use Rattle.std.specs.Prelude.{◌≡◌, ◌+◌, ◌*◌, ◌^◌, ◌<◌, ◌≤◌, ◌==◌, ℕ, not, length, replicate, slice_index};
 ghost use Rattle.std.specs.Prelude.{nat_lt, IfOk, IfSome};
 ghost use Rattle.def_math.specs.Searches.{least};
 ghost use Rattle.def_math.specs.Tables.{IsRaised};

@@ -1,5 +1,5 @@
 -- Numbers as certificate lines have them.
-use Rattle.std.proofs.Common.{◌≡◌, ◌⊎◌, ◌≤◌, ◌<◌, ◌+◌, ◌-◌, ◌*◌, ◌^◌, ◌&&◌, ◌||◌, min, ℕ, zero, suc, ℤ, pos, negsuc, Bool, true, false, not, [], ◌∷◌, ◌++◌, Option, Some, None, length, take, drop, get_or, map, cond, eqb, ltb, inl, inr, refl, ap, ap₂, sym, ◌∙◌, subst, arith}
+use Rattle.std.proofs.Common.{◌≡◌, ◌⊎◌, ◌≤◌, ◌<◌, ◌+◌, ◌-◌, ◌^◌, ◌&&◌, min, ℕ, zero, suc, ℤ, pos, negsuc, Bool, true, false, not, [], ◌∷◌, ◌++◌, Option, Some, None, length, take, drop, get_or, map, cond, eqb, ltb, inl, inr, refl, ap, ap₂, sym, ◌∙◌, subst, arith}
 use Rattle.std.specs.Prelude.{decimal, int_lt, unsigned_abs}
 use Rattle.std.specs.Char.{is_ascii_digit}
 use Rattle.std.specs.Fmt.{digits}

@@ -1,7 +1,7 @@
 -- The lists of one line more, and those before and behind the first `#f 3`.
-use Rattle.std.proofs.Common.{◌≡◌, ◌⊎◌, ◌+◌, ◌||◌, not, ℕ, suc, Bool, true, false, List, [], ◌∷◌, ◌++◌, Option, Some, None, is_some, Result, Ok, Err, OnOk, ◌&&◌, take, drop, inl, inr, refl, ap, ap₂, sym, ◌∙◌, subst, arith, append-nil}
+use Rattle.std.proofs.Common.{◌≡◌, ◌+◌, ◌||◌, not, ℕ, suc, Bool, true, false, List, [], ◌∷◌, ◌++◌, Option, Some, None, is_some, Result, Ok, Err, OnOk, ◌&&◌, take, drop, inl, inr, refl, ap, ap₂, sym, ◌∙◌, subst, arith, append-nil}
 use Rattle.std.specs.List.{after_first, before_first, flat_map, list_any, position_or_len}
-use Rattle.std.proofs.lemmas.Bool.{cases_Bool, false≢true, or_parts, true≢false}
+use Rattle.std.proofs.lemmas.Bool.{cases_Bool, false≢true, or_parts}
 use Rattle.std.proofs.lemmas.List.Concat.{flat_map-append}
 use Rattle.def_certtext.specs.Reading.{is_third, length_in, lists_in, set_in, set_up_in, vertex_in, vertex_up_in}
 use Rattle.def_certtext.specs.declared.CertLine.{CertLine}

@@ -1,7 +1,7 @@
 -- A line of one kind is none of another.
-use Rattle.std.proofs.Common.{◌≡◌, ◌⊎◌, ◌≤◌, ◌<◌, ◌^◌, ◌&&◌, ◌||◌, ℕ, ℤ, Bool, true, [], ◌∷◌, ◌++◌, drop, get_or, eqb, inl, inr, ap, sym, ◌∙◌, arith}
+use Rattle.std.proofs.Common.{◌≡◌, ◌⊎◌, ◌≤◌, ◌||◌, ℕ, ℤ, Bool, true, [], ◌∷◌, ◌++◌, drop, get_or, eqb, inl, inr, ap, sym, ◌∙◌, arith}
 use Rattle.std.specs.Prelude.{decimal}
-use Rattle.std.proofs.lemmas.Bool.{and_parts, eqb-true, false≢true, or_cases}
+use Rattle.std.proofs.lemmas.Bool.{and_parts, eqb-true, or_cases}
 use Rattle.def_certtext.specs.CertLines.{signed_text}
 use Rattle.def_certtext.specs.Reading.{is_small, Says}
 use Rattle.def_certtext.specs.declared.CertLine.{CertLine}

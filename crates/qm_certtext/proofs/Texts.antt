@@ -1,16 +1,15 @@
 -- The lines of a written text, and what they tell.
-use Rattle.std.proofs.Common.{◌≡◌, ◌↔◌, ◌⊎◌, ◌≤◌, ◌<◌, ◌+◌, ◌-◌, ◌^◌, ◌&&◌, ◌||◌, not, ℕ, zero, suc, ℤ, pos, negsuc, Bool, true, false, List, [], ◌∷◌, ◌++◌, Option, Some, None, codes, length, drop, get_or, slice_index_or, map, filter, cond, eqb, ltb, leb, inl, inr, refl, ap, ap₂, sym, ◌∙◌, subst, arith, append-nil, append_assoc}
+use Rattle.std.proofs.Common.{◌≡◌, ◌↔◌, ◌<◌, ◌+◌, ◌-◌, ◌^◌, not, ℕ, zero, suc, ℤ, pos, negsuc, Bool, true, false, List, [], ◌∷◌, ◌++◌, Option, Some, None, codes, length, drop, get_or, slice_index_or, map, filter, eqb, ltb, leb, refl, ap, ap₂, sym, ◌∙◌, subst, arith, append_assoc}
 use Rattle.std.specs.Prelude.{decimal, unsigned_abs}
 use Rattle.std.specs.Char.{is_ascii_digit}
-use Rattle.std.specs.List.{flat_map, list_all, list_any}
+use Rattle.std.specs.List.{flat_map, list_all}
 use Rattle.std.proofs.lemmas.Bool.{and_from, and_parts, eqb-true, leb-true, ltb-true}
 use Rattle.std.proofs.lemmas.List.{length-map}
 use Rattle.std.proofs.lemmas.List.Concat.{flat_map-append}
 use Rattle.std.proofs.lemmas.List.Folds.{flat_map-map, list_all-append}
-use Rattle.def_io.specs.Bytes.{Bytes, Lines}
+use Rattle.def_io.specs.Bytes.{Lines}
 use Rattle.def_io.specs.Lines.{lines_of}
-use Rattle.def_mesh.specs.Vertices.{names_below}
-use Rattle.def_text.specs.Canonical.{canonical_text, micro_text}
+use Rattle.def_text.specs.Canonical.{canonical_text}
 use Rattle.def_text.specs.FaceSet.{FaceSet}
 use Rattle.def_text.specs.Laws.{is_position, is_quad}
 use Rattle.def_text.specs.Types.{Word}
@@ -19,7 +18,7 @@ use Rattle.def_flow.specs.declared.net.Weight.{Weight}
 use Rattle.def_flow.specs.declared.net.Weight.TheVariants.{Plain, Length as ByLength}
 use Rattle.def_certtext.specs.CertLines.{line_text, said_by, signed_text, text_of, Lists}
 use Rattle.def_certtext.specs.HeadLine.{head_line}
-use Rattle.def_certtext.specs.Laws.{chosen, chosen_lines, written_text, ChosenLaw, IsPrintable, IsWritable, TellsOnly, WrittenLaw}
+use Rattle.def_certtext.specs.Laws.{chosen, chosen_lines, written_text, ChosenLaw, IsPrintable, TellsOnly, WrittenLaw}
 use Rattle.def_certtext.specs.Reading.{cert_in, first_in, is_marked, may_stand, IsHead, Made, TellHow}
 use Rattle.def_certtext.specs.Settings.{floor_text, scale_text, weight_text, AreInRange, IsFloor}
 use Rattle.def_certtext.specs.declared.CertLine.{CertLine}

@@ -1,6 +1,6 @@
 //! One line of a certificate.
 
-ghost use Rattle.std.specs.Prelude.{◌≡◌, ◌∷◌, Bool, MatchOption};
+ghost use Rattle.std.specs.Prelude.{◌∷◌, Bool, MatchOption};
 ghost use Rattle.def_certtext.specs.Reading.{Says};
 ghost use Rattle.def_certtext.specs.declared.CertLine.{CertLine as AnyLine};
 

@@ -1,11 +1,11 @@
 -- The form of a decimal by its parts.
-use Rattle.std.proofs.Common.{◌≡◌, ℕ, ◌+◌, ◌<◌, ◌≤◌, Bool, true, false, ◌&&◌, List, [], ◌∷◌, ◌++◌, length, drop, eqb, pos, neg_ℤ, sym, ap, ◌∙◌, refl, arith}
+use Rattle.std.proofs.Common.{◌≡◌, ℕ, ◌+◌, ◌<◌, Bool, true, false, ◌&&◌, List, [], ◌∷◌, ◌++◌, length, drop, eqb, pos, neg_ℤ, sym, ap, ◌∙◌, refl, arith}
 use Rattle.std.specs.Char.{is_ascii_digit}
 use Rattle.std.specs.List.{list_all}
 use Rattle.std.proofs.lemmas.List.Folds.{list_all-append}
 use Rattle.std.proofs.lemmas.Bool.{and_parts, false≢true, cond-true, cond-false}
 use Rattle.def_text.specs.Digits.{is_number, is_negative, number, signed, unsigned}
-use Rattle.def_text.specs.Decimal.{exponent, is_exponent, power}
+use Rattle.def_text.specs.Decimal.{is_exponent, power}
 
 -- two runs of digits, not both empty, are a number
 pub number_both : (xs ys : List ℕ) → 0 < length xs + length ys → is_number (xs ++ ys) ≡ (list_all is_ascii_digit xs && list_all is_ascii_digit ys)

@@ -4,7 +4,7 @@ use Rattle.std.specs.List.{suffix_len, prefix_len}
 use Rattle.std.proofs.lemmas.List.{reverse-append, take-append-le, take_all, length_push}
 use Rattle.std.proofs.lemmas.Bool.{ne_eqb}
 use Rattle.std.proofs.lemmas.List.Sums.{suffix_len-le-length}
-use Rattle.std.proofs.Common.{◌^◌, ◌/◌, ◌<ℤ◌, set}
+use Rattle.std.proofs.Common.{◌^◌, ◌/◌, set}
 use Rattle.std.specs.Prelude.{decimal}
 use Rattle.std.proofs.lemmas.Fmt.{length-decimal-le}
 use Rattle.std.proofs.lemmas.List.{length-take, length-drop}

@@ -1,5 +1,5 @@
 //! A decimal's word to its number of millionths.
-ghost use Rattle.std.specs.Prelude.{◌≡◌, ◌≤◌, ◌<◌, ◌+◌, ◌^◌, ◌++◌, neg_ℤ, if◌then◌else◌, pos, ◌+ℤ◌, ◌-ℤ◌, min, true};
+ghost use Rattle.std.specs.Prelude.{◌≡◌, ◌≤◌, ◌<◌, ◌+◌, ◌^◌, ◌++◌, neg_ℤ, if◌then◌else◌, pos, ◌+ℤ◌, ◌-ℤ◌, min};
 ghost use Rattle.std.specs.Prelude.{IsTrue, length, IfOk, IfErr};
 ghost use Rattle.def_text.specs.Decimal.{is_exponent, power, scaled, IsDecFail, IsValue};
 ghost use Rattle.def_text.specs.Digits.{is_negative, is_number, number};

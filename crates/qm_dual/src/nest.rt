@@ -1,6 +1,6 @@
 //! Reading `up`.
 
-ghost use Rattle.std.specs.Prelude.{◌≡◌, ◌+◌, ◌^◌, ◌<◌, ◌≤◌, ◌⊎◌, length, slice_index};
+ghost use Rattle.std.specs.Prelude.{◌≡◌, ◌+◌, ◌<◌, ◌≤◌, ◌⊎◌, length, slice_index};
 ghost use Rattle.def_matching.specs.Dual.{dual};
 ghost use Rattle.qm_dual.specs.Nest.{IsNest};
 

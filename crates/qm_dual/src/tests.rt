@@ -1,6 +1,6 @@
 //! Duals of small graphs, each with its verdict.
 
-ghost use Rattle.std.specs.Prelude.{◌≡◌, ◌<◌, ◌==◌, ◌&&◌, ◌^◌, nat_lt, not, unsigned_abs, length};
+ghost use Rattle.std.specs.Prelude.{◌≡◌, ◌<◌, ◌==◌, ◌&&◌, ◌^◌, nat_lt, not, unsigned_abs};
 ghost use Rattle.std.specs.List.{list_all};
 
 use crate::dual_ok;

@@ -1,6 +1,6 @@
 -- Handing the vertices of the parts of a set over to their own leaders, one part after another.
 use Rattle.std.proofs.Common.{◌≡◌, ◌≢◌, ℕ, zero, suc, ◌<◌, ◌≤◌, ◌^◌, true, false, List, length, get_or, ℤ, pos}
-use Rattle.std.proofs.Common.{◌+ℤ◌, ◌⊎◌, refl, sym, ◌∙◌, ap, subst, inl, inr, arith, length-set}
+use Rattle.std.proofs.Common.{◌⊎◌, refl, sym, ◌∙◌, ap, subst, inl, inr, arith, length-set}
 use Rattle.std.proofs.Math.ListN.{set}
 use Rattle.std.specs.Prelude.{unsigned_abs}
 use Rattle.std.proofs.lemmas.Bool.{cases_eq, cases_Bool, cond-true, cond-false}

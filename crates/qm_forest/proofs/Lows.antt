@@ -1,5 +1,5 @@
 -- One edge more, at whose ends the numbers are lowered to its cost.
-use Rattle.std.proofs.Common.{◌≡◌, ◌≢◌, ℕ, ◌+◌, ◌<◌, ◌≤◌, ◌^◌, List, get_or, ℤ, pos, ◌≤ℤ◌, ◌⊎◌, sym, ◌∙◌, ap, max, inl, inr, arith}
+use Rattle.std.proofs.Common.{◌≡◌, ◌≢◌, ℕ, ◌+◌, ◌<◌, ◌≤◌, List, get_or, ℤ, pos, ◌≤ℤ◌, ◌⊎◌, sym, ◌∙◌, ap, max, inl, inr, arith}
 use Rattle.std.specs.Prelude.{unsigned_abs}
 use Rattle.std.proofs.lemmas.Int.{ints}
 use Rattle.std.proofs.lemmas.Bool.{cases_eq}

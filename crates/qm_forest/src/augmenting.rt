@@ -1,6 +1,6 @@
 //! Augmenting: the matching is changed along the way to the root, and the tree is given up.
 
-ghost use Rattle.std.specs.Prelude.{◌≡◌, ◌≢◌, ◌<◌, ℕ, length, slice_index, slice_index_or, true, false, Option, Some};
+ghost use Rattle.std.specs.Prelude.{◌≡◌, ◌<◌, ℕ, length, slice_index, slice_index_or, true, false, Some};
 ghost use Rattle.std.specs.Prelude.{None};
 ghost use Rattle.def_matching.specs.Matching.{IsSmallGraph, graph};
 ghost use Rattle.def_forest.specs.Darts.{darts_of, far};

@@ -1,8 +1,8 @@
 //! Darts of a graph: an edge with a direction, told by its last bit.
 
 ghost use Rattle.std.specs.Prelude.{◌≡◌, ◌*◌, ◌^◌, ◌<◌, length};
-ghost use Rattle.def_matching.specs.Matching.{graph, edge_at, IsGraph};
-ghost use Rattle.def_forest.specs.Darts.{darts_of, twin_of, far};
+ghost use Rattle.def_matching.specs.Matching.{graph, edge_at};
+ghost use Rattle.def_forest.specs.Darts.{darts_of, twin_of};
 
 use def_matching::{WEdge, WGraph};
 

@@ -1,9 +1,9 @@
 //! Expanding: an inner set of weight 0 leaves its place in the tree to its parts.
 
-ghost use Rattle.std.specs.Prelude.{◌≡◌, ◌≢◌, ◌+◌, ◌*◌, ◌%◌, ◌^◌, ◌<◌, ◌≤◌, ◌==◌, ◌⊎◌, ℕ, pos, length, slice_index};
+ghost use Rattle.std.specs.Prelude.{◌≡◌, ◌≢◌, ◌+◌, ◌%◌, ◌^◌, ◌<◌, ◌≤◌, ◌==◌, ℕ, pos, length, slice_index};
 ghost use Rattle.std.specs.Prelude.{Some, None};
 ghost use Rattle.def_matching.specs.Matching.{IsSmallGraph, graph};
-ghost use Rattle.def_forest.specs.Darts.{darts_of, twin_of};
+ghost use Rattle.def_forest.specs.Darts.{darts_of};
 ghost use Rattle.def_forest.specs.Forests.{walk};
 ghost use Rattle.def_forest.specs.Opened.{IsExpanding};
 ghost use Rattle.def_forest.specs.Tables.{ForestTables, forest_of, IsOutermostIn, IsValidFor};

@@ -1,10 +1,10 @@
 //! The forest's tables and what can be read from them at once.
 
-ghost use Rattle.std.specs.Prelude.{◌≡◌, ◌+◌, ◌-ℤ◌, ◌*ℤ◌, ◌^◌, ◌<◌, ◌≤◌, ◌⊎◌, ℕ, pos, length, slice_index, slice_index_or};
-ghost use Rattle.std.specs.Prelude.{unsigned_abs, is_some, Option, None};
-ghost use Rattle.def_forest.specs.Forests.{Blossom, set_at};
-ghost use Rattle.def_forest.specs.Tables.{forest_of, label_at, IsOutermostIn};
-ghost use Rattle.qm_forest.specs.Ties.{potential, HasSameNest, labelled, mated, linked};
+ghost use Rattle.std.specs.Prelude.{◌≡◌, ◌^◌, ◌<◌, ◌≤◌, ◌⊎◌, ℕ, length};
+ghost use Rattle.std.specs.Prelude.{unsigned_abs, is_some, Option};
+ghost use Rattle.def_forest.specs.Forests.{Blossom};
+ghost use Rattle.def_forest.specs.Tables.{forest_of, IsOutermostIn};
+ghost use Rattle.qm_forest.specs.Ties.{potential};
 
 use crate::numbers::{added_at, hand_of, label_of, sum_at, top_of, weight_from};
 use crate::room::Room;

@@ -1,15 +1,13 @@
 //! Growing: a matched blossom outside and its mate join the tree.
 
-ghost use Rattle.std.specs.Prelude.{◌≡◌, ◌≢◌, ◌+◌, ◌*◌, ◌<◌, ◌≤◌, ℕ, length, Option, Some, None};
-ghost use Rattle.def_matching.specs.Matching.{IsSmallGraph, graph, edge_at};
+ghost use Rattle.std.specs.Prelude.{◌≡◌, ◌≢◌, ◌+◌, ◌*◌, ◌<◌, ℕ, length, Some, None};
+ghost use Rattle.def_matching.specs.Matching.{IsSmallGraph, graph};
 ghost use Rattle.def_forest.specs.Darts.{darts_of, far};
-ghost use Rattle.def_forest.specs.Forests.{Blossom};
 ghost use Rattle.def_forest.specs.Steps.{IsGrown};
 ghost use Rattle.def_forest.specs.Tables.{forest_of, kind_of, outer_dart, IsValidFor};
-ghost use Rattle.def_forest.specs.declared.kinds.EdgeKind.TheVariants.{Grow, Augment};
-ghost use Rattle.def_forest.specs.declared.kinds.Label.TheVariants.{Outside};
+ghost use Rattle.def_forest.specs.declared.kinds.EdgeKind.TheVariants.{Grow};
 ghost use Rattle.def_forest.specs.Ways.{Reaches};
-ghost use Rattle.qm_forest.specs.Ties.{fixed_of, HasSameNest, relabelled, remated};
+ghost use Rattle.qm_forest.specs.Ties.{fixed_of};
 
 use crate::darts::{edge_of, near, twin};
 use crate::forest::Forest;

@@ -1,8 +1,8 @@
 //! Slacks and kinds of edges: by potentials across blossoms, by climbing within one.
 
-ghost use Rattle.std.specs.Prelude.{◌≡◌, ◌≢◌, ◌+ℤ◌, ◌-ℤ◌, ◌*ℤ◌, ◌^◌, ◌<◌, ◌≤◌, ◌⊎◌, ◌==◌, ℕ, pos, length, slice_index};
+ghost use Rattle.std.specs.Prelude.{◌≡◌, ◌≢◌, ◌^◌, ◌<◌, ◌≤◌, ◌⊎◌, ◌==◌, ℕ, pos, length, slice_index};
 ghost use Rattle.std.specs.Prelude.{slice_index_or, unsigned_abs};
-ghost use Rattle.def_matching.specs.Matching.{IsSmallGraph, graph, edge_at};
+ghost use Rattle.def_matching.specs.Matching.{IsSmallGraph, graph};
 ghost use Rattle.def_forest.specs.Forests.{Blossom, load};
 ghost use Rattle.qm_forest.specs.Ties.{IsClimb};
 ghost use Rattle.def_forest.specs.Tables.{up_at, forest_of, slack_of, kind_of, kind_by, IsValidFor, IsOutermostIn};

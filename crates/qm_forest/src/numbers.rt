@@ -3,7 +3,6 @@
 ghost use Rattle.std.specs.Prelude.{◌≡◌, ◌+ℤ◌, ◌^◌, ◌<◌, ◌≤◌, pos, length, slice_index, slice_index_or, unsigned_abs};
 ghost use Rattle.def_forest.specs.Steps.{change};
 ghost use Rattle.def_forest.specs.Tables.{weight_at, label_at, out_of};
-ghost use Rattle.qm_forest.specs.Ties.{added, told};
 
 use def_forest::Label;
 

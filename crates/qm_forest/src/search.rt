@@ -1,6 +1,6 @@
 //! Where a search begins, and its shifts.
 
-ghost use Rattle.std.specs.Prelude.{◌≡◌, ◌≢◌, ◌+ℤ◌, ◌≤ℤ◌, ◌^◌, ◌<◌, ◌≤◌, ℕ, pos, length, unsigned_abs, Option, Some};
+ghost use Rattle.std.specs.Prelude.{◌≡◌, ◌≤ℤ◌, ◌^◌, ◌<◌, ◌≤◌, ℕ, pos, length, unsigned_abs, Some};
 ghost use Rattle.std.specs.Prelude.{None};
 ghost use Rattle.def_matching.specs.Matching.{IsSmallGraph, Graph, graph, IsGraph};
 ghost use Rattle.def_forest.specs.Darts.{darts_of};
@@ -8,7 +8,7 @@ ghost use Rattle.def_forest.specs.Forests.{Blossom};
 ghost use Rattle.def_forest.specs.Steps.{rooted, shifted};
 ghost use Rattle.def_forest.specs.Tables.{forest_of, IsValidFor};
 ghost use Rattle.def_forest.specs.Valid.{IsFeasible};
-ghost use Rattle.qm_forest.specs.Ties.{fixed_of, HasSameNest};
+ghost use Rattle.qm_forest.specs.Ties.{fixed_of};
 
 use crate::forest::Forest;
 use def_forest::Label;

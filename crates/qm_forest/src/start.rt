@@ -1,7 +1,7 @@
 //! A forest of single vertices: the weights are the least costs, or are given.
 
 ghost use Rattle.std.specs.Prelude.{◌≡◌, ◌+◌, ◌*◌, ◌/◌, ◌^◌, ◌<◌, ◌≤◌, ◌+ℤ◌, ◌*ℤ◌, ◌≤ℤ◌, ℕ, pos, length};
-ghost use Rattle.std.specs.Prelude.{slice_index, slice_index_or, unsigned_abs, max, replicate, false, IfOk, None};
+ghost use Rattle.std.specs.Prelude.{slice_index_or, unsigned_abs, max, replicate, false, IfOk, None};
 ghost use Rattle.std.specs.Vec.{vec_capacity};
 ghost use Rattle.def_matching.specs.Matching.{graph, edge_at, IsSmallGraph, Vertex};
 ghost use Rattle.def_forest.specs.Forests.{Blossom};

@@ -1,10 +1,10 @@
 //! The writes that each keep the tables in order.
 
 ghost use Rattle.std.specs.Prelude.{◌≡◌, ◌≢◌, ◌+ℤ◌, ◌-ℤ◌, ◌^◌, ◌<◌, ◌≤◌, ℕ, pos, length, slice_index_or, unsigned_abs};
-ghost use Rattle.std.specs.Prelude.{Option, None};
-ghost use Rattle.def_forest.specs.Tables.{forest_of, IsOutermostIn};
+ghost use Rattle.std.specs.Prelude.{Option};
+ghost use Rattle.def_forest.specs.Tables.{forest_of};
 ghost use Rattle.def_forest.specs.declared.kinds.Label.TheVariants.{Outside};
-ghost use Rattle.qm_forest.specs.Ties.{HasSameNest, IsOnTrail, labelled, mated, linked, relabelled};
+ghost use Rattle.qm_forest.specs.Ties.{HasSameNest, IsOnTrail, labelled, mated, linked};
 
 use crate::forest::Forest;
 use crate::numbers::{hand_of, label_of, shift_at, top_of};

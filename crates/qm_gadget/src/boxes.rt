@@ -1,6 +1,6 @@
 //! The lows of arcs, and their numbers of units.
 
-ghost use Rattle.std.specs.Prelude.{◌≡◌, ◌+◌, ◌*◌, ◌^◌, ◌≤◌, length, map, IfOk};
+ghost use Rattle.std.specs.Prelude.{◌≡◌, ◌+◌, ◌*◌, ◌≤◌, length, map, IfOk};
 ghost use Rattle.def_flow.specs.Network.{network};
 ghost use Rattle.def_flow.specs.Units.{down, low, cap};
 

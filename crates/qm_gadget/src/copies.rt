@@ -1,6 +1,6 @@
 //! The copies of the nodes, which are the first vertices of a matching graph.
 
-ghost use Rattle.std.specs.Prelude.{◌≡◌, ◌+◌, ◌^◌, ◌<◌, ◌≤◌, length, slice_index, IfOk};
+ghost use Rattle.std.specs.Prelude.{◌≡◌, ◌+◌, ◌^◌, ◌<◌, length, IfOk};
 ghost use Rattle.def_math.specs.Counts.{count_below};
 ghost use Rattle.qm_gadget.specs.Layout.{copies_in, AreFirsts};
 

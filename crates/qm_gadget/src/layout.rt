@@ -1,6 +1,6 @@
 //! The layout of a matching graph.
 
-ghost use Rattle.std.specs.Prelude.{◌≡◌, ◌+◌, ◌*◌, ◌-◌, ◌^◌, ◌<◌, ◌≤◌, ◌++◌, length, cond, OnOk, IfOk};
+ghost use Rattle.std.specs.Prelude.{◌≡◌, ◌+◌, ◌*◌, ◌-◌, ◌^◌, ◌<◌, ◌++◌, length, cond, OnOk, IfOk};
 ghost use Rattle.def_math.specs.Counts.{count, count_below};
 ghost use Rattle.def_matching.specs.Matching.{graph};
 ghost use Rattle.def_flow.specs.MatchingGraph.{units_links, unit_size, graph_by, first_fresh, rim};

@@ -1,6 +1,6 @@
 //! What a matching graph is laid out from.
 
-ghost use Rattle.std.specs.Prelude.{◌≡◌, ◌≤◌, IfOk, length};
+ghost use Rattle.std.specs.Prelude.{◌≤◌, IfOk};
 ghost use Rattle.def_flow.specs.Network.{network, IsWithinBounds};
 ghost use Rattle.qm_gadget.specs.Ready.{IsReady, IsPlan};
 

@@ -1,6 +1,6 @@
 //! The vertices at the rim, and the ladder that joins them.
 
-ghost use Rattle.std.specs.Prelude.{◌≡◌, ◌+◌, ◌*◌, ◌^◌, ◌<◌, ◌≤◌, ◌++◌, length, OnOk, IfOk};
+ghost use Rattle.std.specs.Prelude.{◌≡◌, ◌+◌, ◌*◌, ◌^◌, ◌<◌, ◌++◌, length, OnOk, IfOk};
 ghost use Rattle.def_math.specs.Counts.{count};
 ghost use Rattle.def_flow.specs.MatchingGraph.{link_from, rim, rim_links, rung, unit_size};
 

@@ -2,8 +2,8 @@
 
 ghost use Rattle.std.specs.Prelude.{◌≡◌, ◌≤◌, ◌<◌, ◌+◌, ◌*◌, ◌%◌, ◌^◌, ◌++◌, pos, length, map, IfOk, OnOk};
 ghost use Rattle.std.specs.List.{range_with_len};
-ghost use Rattle.def_gen.specs.Steps.{block_height, cell, cells, column_height, columns, grid_points, point};
-ghost use Rattle.def_gen.specs.Steps.{point_number, row_cells, row_points, state_after, steps_soup};
+ghost use Rattle.def_gen.specs.Steps.{block_height, cell, cells, column_height, columns, grid_points};
+ghost use Rattle.def_gen.specs.Steps.{point_number, row_cells, row_points, steps_soup};
 ghost use Rattle.def_text.specs.Text.{numbers_to};
 
 use crate::Memory;

@@ -1,6 +1,6 @@
 //! A wish that serves where nothing is known: the least cost at each vertex.
 
-ghost use Rattle.std.specs.Prelude.{◌≡◌, ◌<◌, ◌≤◌, ◌≢◌, ℕ, pos, length, slice_index_or, unsigned_abs, IfOk};
+ghost use Rattle.std.specs.Prelude.{◌≡◌, ◌<◌, ◌≤◌, ℕ, pos, length, slice_index_or, unsigned_abs, IfOk};
 ghost use Rattle.def_matching.specs.Matching.{graph, IsGraph};
 ghost use Rattle.qm_initial.specs.Lowered.{AreNear};
 

@@ -1,6 +1,6 @@
 //! Writing a piece whole.
 
-ghost use Rattle.std.specs.Prelude.{◌≡◌, ◌≤◌, ◌<◌, length, take, drop, IfOk, OnOk, OnErr};
+ghost use Rattle.std.specs.Prelude.{◌≡◌, ◌≤◌, ◌<◌, length, take, IfOk, OnOk, OnErr};
 ghost use Rattle.def_io.specs.Faults.{HasCause};
 ghost use Rattle.def_io.specs.Moves.{took, TookPrefix};
 

@@ -12,7 +12,7 @@ use Rattle.def_layout.specs.Arcs.{dart_at, long_at, path, Path}
 use Rattle.def_layout.specs.declared.tmesh.TArc.{TArc}
 use Rattle.def_layout.specs.declared.tmesh.TMesh.{TMesh}
 use Rattle.def_layout.specs.Nodes.{is_node, AreNodes}
-use Rattle.def_layout.specs.Plans.{Plan, layout_of, plan, vertex_at}
+use Rattle.def_layout.specs.Plans.{Plan, plan}
 use Rattle.def_layoutnet.specs.MeshLayouts.{IsMeshLayout}
 use Rattle.qm_layoutnet.proofs.Tangles.{term_low}
 use Rattle.qm_laws.proofs.Runs.{run_here, IsInRun}

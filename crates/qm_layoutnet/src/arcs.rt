@@ -1,6 +1,6 @@
 //! The arcs of a network before their ends are known.
 
-ghost use Rattle.std.specs.Prelude.{◌≡◌, ◌<◌, ◌≤◌, ◌^◌, ℕ, length, map, IfOk};
+ghost use Rattle.std.specs.Prelude.{◌≡◌, ◌<◌, ◌^◌, ℕ, length, map, IfOk};
 ghost use Rattle.std.specs.List.{All};
 ghost use Rattle.def_layout.specs.declared.tmesh.TArc.{TArc as Run};
 ghost use Rattle.def_layoutnet.specs.LayoutNet.{weight_of};

@@ -1,9 +1,8 @@
 //! The arcs of a network get their ends from the sides of patches.
 
-ghost use Rattle.std.specs.Prelude.{◌≡◌, ◌<◌, ◌≤◌, ◌+◌, ◌*◌, ◌^◌, ℕ, length, map, slice_index_or, IfOk};
+ghost use Rattle.std.specs.Prelude.{◌≡◌, ◌<◌, ◌*◌, ℕ, length};
 ghost use Rattle.std.specs.List.{All};
 ghost use Rattle.def_layout.specs.declared.tmesh.SideArc.{SideArc as Used};
-ghost use Rattle.def_layoutnet.specs.LayoutNet.{end_at};
 ghost use Rattle.qm_layoutnet.specs.Ends.{with_end, with_ends};
 
 use def_flow::{Arc, End};

@@ -1,8 +1,8 @@
 //! The edges at each vertex, as chains of darts.
 
-ghost use Rattle.std.specs.Prelude.{◌≡◌, ◌^◌, ◌<◌, ◌≤◌, length, IfOk};
+ghost use Rattle.std.specs.Prelude.{◌^◌, ◌<◌, ◌≤◌, length, IfOk};
 ghost use Rattle.def_matching.specs.Matching.{graph, IsSmallGraph};
-ghost use Rattle.qm_match.specs.Fans.{AreFans, AreFansOf, HasPut};
+ghost use Rattle.qm_match.specs.Fans.{AreFans, HasPut};
 
 use crate::Memory;
 use def_matching::WGraph;

@@ -1,6 +1,6 @@
 //! Matchings of small graphs, whose least costs are found by trying all.
 
-ghost use Rattle.std.specs.Prelude.{◌≡◌, ◌<◌, ◌==◌, ◌&&◌, ◌^◌, nat_lt, not, unsigned_abs, length};
+ghost use Rattle.std.specs.Prelude.{◌≡◌, ◌<◌, ◌==◌, ◌&&◌, nat_lt, not, unsigned_abs};
 ghost use Rattle.std.specs.List.{list_all};
 ghost use Rattle.def_matching.specs.Matching.{graph, IsCheap, IsPerfect, IsSmallGraph};
 

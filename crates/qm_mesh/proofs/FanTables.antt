@@ -5,7 +5,7 @@ use Rattle.std.proofs.lemmas.List.{append-nil, length-map, length-set, get_or-se
 use Rattle.std.specs.List.{filter, range_with_len}
 use Rattle.smallvec.specs.SmallVec.{SmallVec}
 use Rattle.def_mesh.specs.Faces.{Faces}
-use Rattle.def_mesh.specs.Darts.{darts, from_of}
+use Rattle.def_mesh.specs.Darts.{from_of}
 use Rattle.def_mesh.specs.Vertices.{fan_of}
 use Rattle.qm_mesh.specs.Tables.{fan_lists, fan_at, HoldDarts, AreFans}
 use Rattle.qm_laws.proofs.Filters.{filter_range_more}

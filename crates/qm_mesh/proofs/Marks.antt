@@ -1,13 +1,12 @@
 -- The pass over the vertices that pairs darts: each step keeps what the loops know.
-use Rattle.std.proofs.Common.{◌≡◌, ◌≢◌, ◌⊎◌, ℕ, ◌+◌, ◌<◌, ◌≤◌, eqb, List, length, get_or, set, Option, Some, None, sym, subst, ap, ◌∙◌, refl, inl, inr, arith}
-use Rattle.std.proofs.lemmas.Bool.{cases_eq, cases_lt, cases_order, eq-eqb, eqb-true}
+use Rattle.std.proofs.Common.{◌≡◌, ◌≢◌, ◌⊎◌, ℕ, ◌+◌, ◌<◌, ◌≤◌, List, length, get_or, set, Option, Some, None, sym, subst, ap, ◌∙◌, refl, inl, inr, arith}
+use Rattle.std.proofs.lemmas.Bool.{cases_eq, cases_lt, cases_order}
 use Rattle.std.proofs.lemmas.List.{get_or-set_same, get_or-set_other, set_past}
 use Rattle.std.specs.Option.{option_or}
 use Rattle.def_mesh.specs.Faces.{Faces}
 use Rattle.def_mesh.specs.Darts.{darts, from_of, to_of, next_of, prev_of}
 use Rattle.def_mesh.specs.Manifold.{IsSameEdge, HasEdgesOnce}
 use Rattle.def_mesh.specs.Faults.{IsFirstTwice}
-use Rattle.def_mesh.specs.Vertices.{fan_of}
 use Rattle.qm_mesh.specs.declared.twins.Doubled.{Doubled}
 use Rattle.qm_mesh.specs.Tables.{NamesBelow}
 use Rattle.qm_mesh.specs.Pairs.{IsPartner, Runs, AreDarts, AreMarked, IsTwice, NoneTwice, IsFirstAt, IsFirstBelow, MarksOne, IsEarlier}

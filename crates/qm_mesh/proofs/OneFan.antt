@@ -1,8 +1,8 @@
 -- Reaches by the table of partners against chains of neighbours: a vertex has one fan where turns from one corner reach all.
-use Rattle.std.proofs.Common.{◌≡◌, ◌≢◌, ◌⊎◌, ℕ, zero, suc, ◌+◌, ◌/◌, ◌%◌, ◌<◌, Bool, true, false, not, cond, eqb, List, [], ◌∷◌, length, get_or, ◌≤◌, Some, None, sym, subst, ap, ◌∙◌, inl, inr, arith}
+use Rattle.std.proofs.Common.{◌≡◌, ◌≢◌, ◌⊎◌, ℕ, zero, suc, ◌+◌, ◌<◌, Bool, true, false, not, cond, eqb, List, [], length, get_or, ◌≤◌, Some, None, sym, subst, ap, ◌∙◌, inl, inr, arith}
 use Rattle.std.proofs.lemmas.Bool.{cases_lt, cases_Bool, false≢true, eq-eqb, ne_eqb, false_from_ne_true}
 use Rattle.std.proofs.lemmas.Option.{none-some, same_Some}
-use Rattle.def_mesh.specs.Faces.{Faces, corner}
+use Rattle.def_mesh.specs.Faces.{Faces}
 use Rattle.def_mesh.specs.Darts.{darts, from_of, to_of, next_of, prev_of, IsTwin}
 use Rattle.def_mesh.specs.Manifold.{IsRepeatFree, HasEdgesOnce, Chain, HasOneFan}
 use Rattle.def_mesh.specs.Faults.{IsFirstTwoFans}

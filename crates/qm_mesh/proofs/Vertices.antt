@@ -1,15 +1,13 @@
 -- The number of vertices, and the length of a fan.
-use Rattle.std.proofs.Common.{◌≡◌, ℕ, zero, suc, ◌+◌, ◌*◌, ◌/◌, ◌%◌, ◌<◌, ◌≤◌, true, IsTrue, ltb, eqb, not, List, [], ◌∷◌, map, length, get_or, ap, ◌∙◌, sym, subst, refl, arith}
+use Rattle.std.proofs.Common.{◌≡◌, ℕ, zero, suc, ◌+◌, ◌*◌, ◌/◌, ◌%◌, ◌<◌, true, IsTrue, ltb, eqb, List, [], length, get_or, ap, ◌∙◌, sym, subst, refl, arith}
 use Rattle.std.specs.List.{list_all, list_any, Any}
 use Rattle.std.proofs.lemmas.Bool.{ltb-true, eqb-true}
 use Rattle.std.proofs.lemmas.List.Sums.{AllPass-from_list_all}
 use Rattle.std.proofs.lemmas.List.Folds.{Any-from_list_any}
-use Rattle.std.proofs.lemmas.List.{length-map, get_or_default}
-use Rattle.std.proofs.lemmas.List.FromFn.{length-range_with_len, get_or-map-range_with_len}
-use Rattle.std.proofs.lemmas.List.Filters.{length-filter_both}
+use Rattle.std.proofs.lemmas.List.{get_or_default}
 use Rattle.def_mesh.specs.Faces.{Faces, corner}
 use Rattle.def_mesh.specs.Darts.{darts, next_of, to_of, from_of}
-use Rattle.def_mesh.specs.Vertices.{above_all, vertex_count, faces_at, fan_of, names_below, UsesEach}
+use Rattle.def_mesh.specs.Vertices.{vertex_count, faces_at, fan_of, names_below, UsesEach}
 use Rattle.qm_mesh.specs.Tables.{NamesBelow, HasCorners}
 use Rattle.mesh_laws.proofs.Darts.{next_of_low}
 use Rattle.mesh_laws.proofs.Fans.{IsFan, is_fan}

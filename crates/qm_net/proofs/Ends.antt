@@ -1,10 +1,10 @@
 -- Counts of ends, one arc at a time.
-use Rattle.std.proofs.Common.{◌≡◌, ℕ, ◌+◌, ◌*◌, ◌^◌, ◌<◌, ◌≤◌, ◌==◌, ◌&&◌, cond, List, [], ◌∷◌, length, take, Option, Some, None, ◌∙◌, ap, arith}
+use Rattle.std.proofs.Common.{◌≡◌, ℕ, ◌+◌, ◌*◌, ◌^◌, ◌<◌, ◌≤◌, ◌==◌, cond, List, [], ◌∷◌, length, take, Option, Some, None, ◌∙◌, ap, arith}
 use Rattle.std.specs.Prelude.{slice_index, slice_index_or, option_to_list}
 use Rattle.std.proofs.lemmas.List.{length-take-le}
 use Rattle.def_math.specs.Counts.{count, count_below}
 use Rattle.qm_laws.proofs.Counts.{count_below_same}
-use Rattle.def_flow.specs.Network.{degree, ends}
+use Rattle.def_flow.specs.Network.{degree}
 use Rattle.def_flow.specs.declared.net.Arc.{Arc}
 use Rattle.def_flow.specs.declared.net.End.{End}
 use Rattle.def_math.specs.Tables.{at_place, IsRaised, IsTally}

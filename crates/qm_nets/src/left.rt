@@ -1,7 +1,7 @@
 //! What the first dual of a round leaves to be searched.
 
-ghost use Rattle.std.specs.Prelude.{◌≡◌, ◌≤◌, ◌<◌, ℕ, length, slice_index};
-ghost use Rattle.def_matching.specs.Matching.{graph, IsGraph};
+ghost use Rattle.std.specs.Prelude.{◌≡◌, ◌≤◌, ◌<◌, ℕ, length};
+ghost use Rattle.def_matching.specs.Matching.{graph};
 ghost use Rattle.def_flow.specs.Network.{network, tangle_number, IsWithinBounds};
 ghost use Rattle.def_flow.specs.Descent.{IsStartOf};
 

@@ -1,6 +1,6 @@
 //! From lines to a soup, or to the first refusal.
 
-ghost use Rattle.std.specs.Prelude.{◌≡◌, ◌≢◌, ◌≤◌, ◌<◌, ◌+◌, ◌^◌, Ok, Err, length, slice_range, IfOk, OnOk, IfErr};
+ghost use Rattle.std.specs.Prelude.{◌≡◌, ◌≢◌, ◌≤◌, ◌<◌, ◌+◌, Ok, Err, length, slice_range, IfOk, OnOk, IfErr};
 ghost use Rattle.def_text.specs.Text.{text_soup};
 ghost use Rattle.def_text.specs.declared.reading.Reading.TheVariants.{Refused};
 ghost use Rattle.def_io.specs.Lines.{lines_of};

@@ -1,10 +1,10 @@
 -- Places at which texts differ.
-use Rattle.std.proofs.Common.{◌≡◌, ℕ, suc, ◌+◌, ◌-◌, ◌≤◌, ◌<◌, ◌⊎◌, Bool, true, List, [], ◌∷◌, ◌++◌, length, take, drop, get_or, slice_index, eqb, refl, sym, ◌∙◌, ap, subst, inl, inr, arith, length-drop, length-take}
+use Rattle.std.proofs.Common.{◌≡◌, ℕ, suc, ◌+◌, ◌-◌, ◌≤◌, ◌<◌, ◌⊎◌, true, [], ◌++◌, length, take, drop, get_or, slice_index, eqb, sym, ◌∙◌, ap, subst, inl, inr, arith, length-drop, length-take}
 use Rattle.std.proofs.lemmas.Bool.{cases_lt, eq-eqb, eqb-true}
 use Rattle.std.proofs.Math.Seq.{drop-cons}
 use Rattle.std.proofs.lemmas.List.{drop-drop, drop_all, take-append-drop}
 use Rattle.def_io.specs.Bytes.{Bytes}
-use Rattle.def_output.specs.Compared.{Compared, Differs, LacksFirst}
+use Rattle.def_output.specs.Compared.{Differs, LacksFirst}
 
 -- Nothing is left exactly at the end.
 pub nothing_left : (given : Bytes) (at : ℕ) → at ≤ length given

@@ -1,8 +1,7 @@
 //! The parameters of grid points inside a patch.
 
-ghost use Rattle.std.specs.Prelude.{◌≡◌, ◌<◌, ◌≤◌, ◌+◌, ◌-◌, ◌*◌, ◌/◌, ℕ};
+ghost use Rattle.std.specs.Prelude.{◌≡◌, ◌<◌, ◌+◌, ◌-◌, ◌*◌, ◌/◌, ℕ};
 ghost use Rattle.def_layout.specs.Arcs.{long_at};
-ghost use Rattle.def_layout.specs.Layouts.{Way};
 ghost use Rattle.def_layout.specs.Lengths.{AreLengths, Lengths};
 ghost use Rattle.def_layout.specs.Plans.{layout_of, Plan};
 ghost use Rattle.def_written.specs.Places.{cell_at, parameter_u, parameter_v};

@@ -3,14 +3,12 @@
 ghost use Rattle.std.specs.Prelude.{◌≡◌, ◌≤◌, ◌<◌, ◌+◌, ◌-◌, ◌*◌, ◌/◌, ◌^◌, ℕ, cond, length, IfOk, OnOk};
 ghost use Rattle.def_layout.specs.Arcs.{long_at};
 ghost use Rattle.def_layout.specs.Layouts.{Way};
-ghost use Rattle.def_layout.specs.Lengths.{size, AreLengths};
+ghost use Rattle.def_layout.specs.Lengths.{size};
 ghost use Rattle.def_layout.specs.Plans.{layout_of, number, plan};
 ghost use Rattle.def_layoutnet.specs.MeshLayouts.{IsMeshLayout};
-ghost use Rattle.def_written.specs.NewFaces.{face_count};
 ghost use Rattle.def_written.specs.Places.{ONE};
 ghost use Rattle.def_remesh.specs.NewPoints.{lengths_in};
 ghost use Rattle.def_remesh.specs.Placings.{rim_at, side_parameter, IsRim};
-ghost use Rattle.def_remesh.specs.declared.limits.TheConstants.{MAX_NEW_FACES};
 ghost use Rattle.qm_place.specs.Pushed.{on_arc, AreFine, ArePushed, IsKept};
 
 use crate::ways::EDGE;

@@ -1,6 +1,6 @@
 //! Nodes under identities, in room that is made once.
 
-ghost use Rattle.std.specs.Prelude.{◌≡◌, ◌≢◌, ◌+◌, ◌<◌, ◌↔◌, ℕ, length, count_by, is_some, replicate, slice_get};
+ghost use Rattle.std.specs.Prelude.{◌≡◌, ◌+◌, ◌<◌, ◌↔◌, ℕ, length, count_by, is_some, replicate, slice_get};
 ghost use Rattle.std.specs.Prelude.{slice_index, slice_set, IfOk, IsNone, OnOk, OnErr, MatchOption};
 
 use std::alloc::{AllocError, Global};

@@ -1,6 +1,6 @@
 //! Where runs of given sizes begin.
 
-ghost use Rattle.std.specs.Prelude.{◌≡◌, ◌≤◌, ◌<◌, ◌+◌, ◌-◌, ◌^◌, ℕ, length, slice_index, IfOk, OnOk};
+ghost use Rattle.std.specs.Prelude.{◌≡◌, ◌<◌, ◌+◌, ◌-◌, ◌^◌, ℕ, length, slice_index, IfOk, OnOk};
 ghost use Rattle.def_remesh.specs.Numberings.{AreStarts};
 
 use def_remesh::Starts;

@@ -1,15 +1,14 @@
 -- Multiples of the old lengths as lengths of a layout.
-use Rattle.std.proofs.Common.{◌≡◌, ℕ, ◌*◌, ◌^◌, ◌<◌, ◌≤◌, ◌⊎◌, List, [], ◌∷◌, length, map, get_or, inl, inr, refl, sym, ap, ◌∙◌, subst, arith}
+use Rattle.std.proofs.Common.{◌≡◌, ℕ, ◌*◌, ◌^◌, ◌<◌, ◌≤◌, ◌⊎◌, List, [], ◌∷◌, length, map, get_or, inl, inr, refl, ap, ◌∙◌, arith}
 use Rattle.std.specs.List.{All}
 use Rattle.std.proofs.lemmas.Bool.{cases_lt}
 use Rattle.std.proofs.Math.ListN.{get_or-eq_default, get_or-map}
-use Rattle.std.proofs.lemmas.List.{length-map}
 use Rattle.std.proofs.lemmas.List as lists
-use Rattle.std.proofs.Math.Nat.{mul-le-mul_left, mul-le-mul_right}
+use Rattle.std.proofs.Math.Nat.{mul-le-mul_right}
 use Rattle.def_cut.specs.Cuts.{IsCut}
 use Rattle.def_cut.specs.FullCut.{is_on}
 use Rattle.def_layout.specs.Arcs.{dart_at, long_at, path, Path}
-use Rattle.def_layout.specs.Lengths.{Lengths, AreLengths}
+use Rattle.def_layout.specs.Lengths.{AreLengths}
 use Rattle.def_layout.specs.Nodes.{is_node, AreNodes}
 use Rattle.def_layout.specs.Plans.{Plan, layout_of, plan, vertex_at}
 use Rattle.def_layout.specs.declared.tmesh.TArc.{TArc}
@@ -20,7 +19,6 @@ use Rattle.def_mesh.specs.HalfEdges.{half_edges, IsQuadManifold}
 use Rattle.def_remesh.specs.NewPoints.{lengths_in, multiple_of}
 use Rattle.def_flow.specs.declared.limits.TheConstants.{MAX_LENGTH}
 use Rattle.def_run.specs.declared.command.TheConstants.{MAX_MULTIPLE}
-use Rattle.def_written.specs.Laws.{LiesIn}
 use Rattle.cut_laws.proofs.Pigeon.{no_more}
 use Rattle.mesh_laws.proofs.HalfEdges.{manifold_law}
 use Rattle.face_laws.proofs.FullCuts.{full_cut_law}

@@ -1,8 +1,8 @@
 //! The lines of the certificates of a remesh.
 
-ghost use Rattle.std.specs.Prelude.{◌≡◌, ◌++◌, ℕ, List, IfOk, OnOk, OnErr, Some};
+ghost use Rattle.std.specs.Prelude.{◌≡◌, ◌++◌, ℕ, IfOk, OnOk, OnErr, Some};
 ghost use Rattle.std.specs.Option.{option_map};
-ghost use Rattle.def_certtext.specs.CertLines.{cert_lines, lists_of, HasUps, Lists};
+ghost use Rattle.def_certtext.specs.CertLines.{cert_lines, lists_of, HasUps};
 ghost use Rattle.def_flow.specs.declared.cert.Cert.{Cert as AnyCert};
 ghost use Rattle.qm_remeshed.specs.Joined.{joined};
 

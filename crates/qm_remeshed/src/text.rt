@@ -1,6 +1,6 @@
 //! The text of a remesh.
 
-ghost use Rattle.std.specs.Prelude.{◌≡◌, ◌++◌, ◌∷◌, [], IsErrOf, OnOk, OnErr};
+ghost use Rattle.std.specs.Prelude.{◌≡◌, ◌++◌, [], IsErrOf, OnOk, OnErr};
 ghost use Rattle.std.specs.Option.{option_map};
 ghost use Rattle.def_certtext.specs.CertLines.{lists_of};
 ghost use Rattle.def_layout.specs.Plans.{plan};

@@ -1,6 +1,6 @@
 //! Components: each is flooded from its least face.
 
-ghost use Rattle.std.specs.Prelude.{◌≡◌, ◌≤◌, ◌<◌, ◌+◌, ◌*◌, ◌/◌, ℕ, length, OnOk, IfOk, slice_index};
+ghost use Rattle.std.specs.Prelude.{◌≡◌, ◌<◌, ◌+◌, ◌*◌, ◌/◌, ℕ, length, OnOk, IfOk, slice_index};
 ghost use Rattle.def_mesh.specs.Components.{component_numbers, least_faces};
 ghost use Rattle.def_mesh.specs.Darts.{darts, twin_of};
 ghost use Rattle.qm_sing.specs.Floods.{

@@ -1,7 +1,7 @@
 //! Kinds, components, seeds and start darts of a mesh.
 
-ghost use Rattle.std.specs.Prelude.{◌≡◌, ◌<◌, ◌*◌, ◌&&◌, ◌||◌, length, map, IfOk};
-ghost use Rattle.def_mesh.specs.Components.{component_numbers, least_faces, seeds as seeds_of, start_darts};
+ghost use Rattle.std.specs.Prelude.{◌≡◌, ◌<◌, ◌*◌, ◌&&◌, ◌||◌, map, IfOk};
+ghost use Rattle.def_mesh.specs.Components.{seeds as seeds_of, start_darts};
 ghost use Rattle.def_mesh.specs.Darts.{darts};
 ghost use Rattle.def_mesh.specs.Kinds.{kind_of};
 ghost use Rattle.def_mesh.specs.Sources.{AreSources};

@@ -1,5 +1,5 @@
 -- The entries of a dual that says yes name its sets.
-use Rattle.std.proofs.Common.{◌≡◌, ◌⊎◌, ℕ, ◌+◌, ◌<◌, ◌≤◌, Bool, true, eqb, ltb, leb, ◌&&◌, ◌||◌, List, length, get_or, ℤ, inl, inr, subst, sym, arith}
+use Rattle.std.proofs.Common.{◌≡◌, ◌⊎◌, ℕ, ◌+◌, ◌≤◌, true, eqb, ltb, leb, ◌&&◌, List, length, get_or, ℤ, inl, inr, arith}
 use Rattle.std.proofs.lemmas.Bool.{or_cases, and_parts, eqb-true, leb-true}
 use Rattle.def_matching.specs.Matching.{Graph}
 use Rattle.def_matching.specs.Dual.{DualLists, is_up, verdict}

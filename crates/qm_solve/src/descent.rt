@@ -1,6 +1,6 @@
 //! The descent in rounds.
 
-ghost use Rattle.std.specs.Prelude.{◌≡◌, ◌+◌, ◌≤◌, ◌<◌, ◌*◌, ◌^◌, None, length, IfOk, IfSome, OnOk};
+ghost use Rattle.std.specs.Prelude.{◌≡◌, ◌+◌, ◌≤◌, ◌<◌, ◌*◌, None, length, IfOk, IfSome, OnOk};
 ghost use Rattle.def_matching.specs.Dual.{dual};
 ghost use Rattle.def_flow.specs.Network.{network, tangle_number, IsWithinBounds};
 ghost use Rattle.def_flow.specs.Accepted.{certificate};

@@ -1,6 +1,6 @@
 //! A dual without the sets that say nothing, those whose number is 0.
 
-ghost use Rattle.std.specs.Prelude.{◌≡◌, ◌+◌, ◌≤◌, ℕ, length, slice_index, IfOk};
+ghost use Rattle.std.specs.Prelude.{◌≡◌, ◌+◌, ◌≤◌, ℕ, length, IfOk};
 ghost use Rattle.def_matching.specs.Matching.{graph, IsSmallGraph};
 ghost use Rattle.def_matching.specs.Dual.{dual, verdict, AreSmall, IsSmallDual};
 ghost use Rattle.qm_solve.specs.Idle.{AreNamed};

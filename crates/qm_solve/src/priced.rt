@@ -1,6 +1,6 @@
 //! What is wished of a first dual: the prices of the nodes at their copies, and at the units what follows from these.
 
-ghost use Rattle.std.specs.Prelude.{◌≡◌, length, IfOk, OnOk};
+ghost use Rattle.std.specs.Prelude.{◌≡◌, length, IfOk};
 ghost use Rattle.qm_initial.specs.Lowered.{AreNear};
 
 use def_flow::{Arc, End, Gadget, Net};

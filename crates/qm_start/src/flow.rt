@@ -1,6 +1,6 @@
 //! Lengths over the double cover, what is too much at each node, and prices.
 
-ghost use Rattle.std.specs.Prelude.{◌≡◌, ◌*◌, ◌^◌, ◌<◌, ◌≤◌, length, IfOk, IfSome};
+ghost use Rattle.std.specs.Prelude.{◌≡◌, ◌*◌, ◌<◌, ◌≤◌, length, IfOk, IfSome};
 ghost use Rattle.qm_start.specs.Tables.{IsCover, IsOver, node_count, way_count};
 
 use crate::Memory;

@@ -1,6 +1,6 @@
 //! Where an edge of the new mesh is doubled.
 
-ghost use Rattle.std.specs.Prelude.{◌≡◌, IfErr, OnOk};
+ghost use Rattle.std.specs.Prelude.{IfErr, OnOk};
 ghost use Rattle.def_layout.specs.Plans.{layout_of, plan};
 ghost use Rattle.def_written.specs.Edges.{IsUndoubled};
 ghost use Rattle.def_remesh.specs.NewPoints.{lengths_in};

@@ -2,7 +2,7 @@
 
 ghost use Rattle.std.specs.Prelude.{◌≡◌, ◌<◌, ◌+◌, ◌-◌, ◌*◌, ◌/◌, ◌%◌, ◌^◌, ℕ, length, IfSome, IsNone};
 ghost use Rattle.std.specs.List.Sorted.{IsNonDecreasing, IsPermutation};
-ghost use Rattle.qm_stitch.specs.Rims.{is_loop, is_repeat_at, pair_key, IsLeastRepeat, IsRepeat};
+ghost use Rattle.qm_stitch.specs.Rims.{is_repeat_at, pair_key, IsLeastRepeat, IsRepeat};
 
 /// The number of keys of one first vertex.
 const SPAN: u64 = 4_294_967_296;

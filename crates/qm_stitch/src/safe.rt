@@ -1,11 +1,11 @@
 //! Lengths that double no edge, whatever the layout.
 
-ghost use Rattle.std.specs.Prelude.{◌≡◌, ◌<◌, ◌≤◌, ◌↔◌, ◌^◌, ℕ, length, IsTrue};
+ghost use Rattle.std.specs.Prelude.{◌≡◌, ◌<◌, ◌≤◌, ◌↔◌, ℕ, length, IsTrue};
 ghost use Rattle.def_layout.specs.Arcs.{long_at};
 ghost use Rattle.def_layout.specs.Plans.{layout_of, plan};
 ghost use Rattle.def_layout.specs.Lengths.{AreLengths};
 ghost use Rattle.def_remesh.specs.NewPoints.{lengths_in, multiple_of};
-ghost use Rattle.def_remesh.specs.Stitched.{AreLong, AreMultiples, AreSafe};
+ghost use Rattle.def_remesh.specs.Stitched.{AreMultiples, AreSafe};
 ghost use Rattle.def_flow.specs.declared.limits.TheConstants.{MAX_LENGTH};
 
 use def_layout::TMesh;

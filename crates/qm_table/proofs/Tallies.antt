@@ -1,5 +1,5 @@
 -- Tables that something is added to, one place after the other.
-use Rattle.std.proofs.Common.{◌≡◌, ℕ, ◌+◌, ◌<◌, ◌≤◌, ◌==◌, ◌≢◌, List, length, replicate, refl, sym, ◌∙◌, inl, inr, eq-eqb, ne_eqb, arith}
+use Rattle.std.proofs.Common.{◌≡◌, ℕ, ◌+◌, ◌<◌, ◌≤◌, List, length, replicate, refl, sym, ◌∙◌, inl, inr, eq-eqb, ne_eqb, arith}
 use Rattle.std.specs.Prelude.{slice_index}
 use Rattle.std.proofs.lemmas.Bool.{cases_eq, cases_lt}
 use Rattle.std.proofs.lemmas.List.{length-set, get_or_past, get_or-set_same, get_or-set_other, length-replicate, get_or-replicate}
@@ -19,14 +19,7 @@ raised_at table place more low = record { long = length-set table place (slice_i
 pub raised_none : (more : ℕ → ℕ) (table : List ℕ) → ((v : ℕ) → v < length table → more v ≡ 0) → IsRaised more table table
 raised_none more table none = record { long = refl; each = λ v l. omega (arith, none v l) }
 
--- One addition after the other.
-pub raised_twice : (f g : ℕ → ℕ) (old mid new : List ℕ) → IsRaised f old mid → IsRaised g mid new → IsRaised (λ v. f v + g v) old new
-raised_twice f g old mid new first second = record {
-  long = second.long ∙ first.long;
-  each = λ v l. omega (arith, second.each v (omega (arith, first.long)), first.each v l);
-}
-
--- The same in other words.
+-- An addition, in other words.
 pub raised_as : (f g : ℕ → ℕ) (old new : List ℕ) → ((v : ℕ) → v < length old → f v ≡ g v) → IsRaised f old new → IsRaised g old new
 raised_as f g old new same raised = record { long = raised.long; each = λ v l. omega (arith, raised.each v l, same v l) }
 

@@ -1,2 +1,2 @@
-//! Lemmas on tables of numbers: what is added at a place, tallies of lists, and searches.
+//! Lemmas on tables of numbers: what is added at a place, ranges, and tallies of lists.
 #![tactic(auto)]

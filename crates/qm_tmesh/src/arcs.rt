@@ -1,6 +1,6 @@
 //! The arcs in order of their names, and where each use of an arc begins.
 
-ghost use Rattle.std.specs.Prelude.{◌≡◌, ◌<◌, true, length, map, IfOk};
+ghost use Rattle.std.specs.Prelude.{◌≡◌, ◌<◌, true, map, IfOk};
 ghost use Rattle.def_mesh.specs.Darts.{darts, from_of};
 ghost use Rattle.def_cut.specs.FullCut.{is_on};
 ghost use Rattle.def_layout.specs.Arcs.{path};

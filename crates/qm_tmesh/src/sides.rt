@@ -1,6 +1,6 @@
 //! The arcs on the sides of a patch.
 
-ghost use Rattle.std.specs.Prelude.{◌≡◌, ◌+◌, ◌<◌, ℕ, Bool, Some, length, map, IfOk};
+ghost use Rattle.std.specs.Prelude.{◌≡◌, ◌+◌, ◌<◌, ℕ, Bool, Some, map, IfOk};
 ghost use Rattle.def_mesh.specs.Darts.{darts, straight_of};
 ghost use Rattle.def_mesh.specs.HalfEdges.{half_edges};
 ghost use Rattle.def_cut.specs.Steps.{easts};

@@ -1,6 +1,6 @@
 //! Where each use of an arc begins: forward with its first dart, against it with the twin of its last one.
 
-ghost use Rattle.std.specs.Prelude.{◌≡◌, ◌≤◌, length, map, IfOk};
+ghost use Rattle.std.specs.Prelude.{◌≤◌, length, map, IfOk};
 ghost use Rattle.def_mesh.specs.Darts.{darts};
 ghost use Rattle.def_layout.specs.Arcs.{path};
 ghost use Rattle.qm_tmesh.specs.Tables.{IsMarked};

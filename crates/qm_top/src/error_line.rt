@@ -2,7 +2,7 @@
 
 ghost use Rattle.std.specs.Prelude.{◌≡◌, ◌≤◌, ◌<◌, ◌+◌, ◌++◌, length, codes, decimal, slice_index};
 ghost use Rattle.arrayvec.specs.ArrayString.{array_string_len};
-ghost use Rattle.def_run.specs.ErrorLines.{corners_text, error_line, limit_text, name_text, place_text, reason_text};
+ghost use Rattle.def_run.specs.ErrorLines.{corners_text, error_line, limit_text, place_text, reason_text};
 ghost use Rattle.qm_top.specs.Named.{HasNames, IsNamed};
 
 use crate::why_line::why_of;

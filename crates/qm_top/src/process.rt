@@ -1,6 +1,6 @@
 //! One run of the program: its words, its streams and its exit status.
 
-ghost use Rattle.std.specs.Prelude.{◌≡◌, ◌≤◌, ◌⊎◌, [], if◌then◌else◌, is_ok, map, string_bytes, length, IfOk};
+ghost use Rattle.std.specs.Prelude.{◌≡◌, ◌⊎◌, [], if◌then◌else◌, map, string_bytes, IfOk};
 ghost use Rattle.std.specs.Str.{IsUtf8};
 ghost use Rattle.def_io.specs.Moves.{change};
 ghost use Rattle.def_run.specs.Exits.{Exits};

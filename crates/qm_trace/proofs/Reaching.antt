@@ -19,7 +19,7 @@ use Rattle.mesh_laws.proofs.Vertices.{all_below}
 use Rattle.motion_laws.proofs.Among.{AreApart, among_here, among_later, among_cases}
 use Rattle.motion_laws.proofs.Order.{IsWithin, within, rode, rode_low, at_last, runs_ridden}
 use Rattle.motion_laws.proofs.Shown.{AreShown, IsNoted, long, shown_by}
-use Rattle.motion_laws.proofs.Steps.{next_is, stands}
+use Rattle.motion_laws.proofs.Steps.{next_is}
 use Rattle.motion_laws.proofs.Terrains.{IsReached}
 use Rattle.motion_laws.proofs.Traced.{after_reached}
 use Rattle.site_laws.proofs.Sites.{terrain, started}

@@ -11,7 +11,7 @@ use Rattle.def_mesh.specs.Vertices.{fan_of, vertex_count}
 use Rattle.def_mesh.specs.Components.{start_darts}
 use Rattle.def_cut.specs.FullCut.{is_on}
 use Rattle.def_cut.specs.declared.moving.Moving.{Moving}
-use Rattle.def_cut.specs.Motion.{Terrain, State, end_of, ridden, is_among, arrives_at, stop_of, or_else, straight, begun, step, after}
+use Rattle.def_cut.specs.Motion.{State, end_of, ridden, is_among, arrives_at, stop_of, or_else, straight, begun, step, after}
 use Rattle.def_cut.specs.Traced.{terrain_of}
 use Rattle.def_cut.specs.Events.{EventState, waiting, darts_in, rider_at, note_at, may_ride, after_ride_of, ends_at, may_settle, told, told_at, all_told, decided_at, is_closed, closed, after_settling, Event, Leads, first_of, ridden_once_more, IsMotionOf}
 use Rattle.def_cut.specs.Events.Event.{Ride, Settle}
@@ -30,7 +30,7 @@ use Rattle.qm_trace.specs.Motions.{AreNotes, CanTell, is_untold, tally, told_by}
 use Rattle.qm_trace.specs.Tables.{IsSite, stop_by, stop_here}
 use Rattle.qm_trace.proofs.Counting.{untold_is}
 use Rattle.qm_trace.proofs.Instants.{stop_same}
-use Rattle.qm_trace.proofs.Reaching.{leads_more, noted_among, noted_where, reached_at, ride_fresh, ride_noted, shown_at, stop_alike, told_place, within_of}
+use Rattle.qm_trace.proofs.Reaching.{leads_more, noted_among, reached_at, ride_fresh, ride_noted, shown_at, stop_alike, told_place, within_of}
 
 -- Some noted dart ends at v, by the marks at the darts before those that leave v.
 pub end_is : (faces : Faces) (v : ℕ) (ds : List ℕ) (taken : List Bool) → ((d : ℕ) → is_on taken d ≡ is_among d ds) → ((d : ℕ) → is_among d ds ≡ true → d < darts faces) → IsManifold faces

@@ -1,7 +1,7 @@
 //! How one ride ends, by the marks of the darts that are ridden at the same instant.
 
 ghost use Rattle.std.specs.Prelude.{◌≡◌, ◌<◌, ◌+◌, ◌^◌, length};
-ghost use Rattle.def_mesh.specs.Darts.{darts, prev_of, twin_of};
+ghost use Rattle.def_mesh.specs.Darts.{darts, twin_of};
 ghost use Rattle.def_cut.specs.Motion.{after_ride, gives_way as gives_way_on, or_else, straight};
 ghost use Rattle.def_cut.specs.Traced.{terrain_of};
 ghost use Rattle.def_cut.specs.Events.{told};

@@ -1,17 +1,17 @@
 -- The values of a line begin with no hyphen.
-use Rattle.std.proofs.Common.{◌≡◌, ◌⊎◌, ◌≤◌, ◌<◌, ◌+◌, ◌^◌, ◌==◌, ◌&&◌, ◌||◌, not, ℕ, Bool, true, false, List, [], ◌∷◌, ◌++◌, cond, codes, Result, Ok, Err, IfErr, IsErrAnd, inl, inr, refl, ap, sym, ◌∙◌, subst, arith}
+use Rattle.std.proofs.Common.{◌≡◌, ◌⊎◌, ◌≤◌, ◌<◌, ◌+◌, ◌^◌, ◌==◌, not, ℕ, Bool, true, false, [], ◌∷◌, ◌++◌, codes, Result, Ok, Err, IfErr, IsErrAnd, inl, inr, refl, ap, sym, ◌∙◌, subst, arith}
 use Rattle.std.specs.Prelude.{decimal}
 use Rattle.std.specs.Char.{is_ascii_digit}
 use Rattle.std.specs.List.{list_all, list_any}
 use Rattle.std.specs.Str.{bytes_eq}
 use Rattle.std.proofs.lemmas.Bool.{and_from, and_parts, cases_Bool, eqb-true, false≢true, or_left, or_right}
 use Rattle.std.proofs.lemmas.Slice.Eq.{bytes_eq-Decides}
-use Rattle.def_certtext.specs.Settings.{floor_text, scale_text, weight_text, AreWordsOf, IsFloor}
+use Rattle.def_certtext.specs.Settings.{floor_text, weight_text, IsFloor}
 use Rattle.def_flow.specs.declared.net.Settings.{Settings}
 use Rattle.def_flow.specs.declared.net.Weight.{Weight}
 use Rattle.def_flow.specs.declared.net.Weight.TheVariants.{Plain, Length}
-use Rattle.def_run.specs.CommandLines.{remesh_options, HasCount, HasSettings, IsCount}
-use Rattle.def_run.specs.Options.{are_once, count_of, is_of, value_of, AreOptions, Use, Uses}
+use Rattle.def_run.specs.CommandLines.{remesh_options, HasCount, HasSettings}
+use Rattle.def_run.specs.Options.{count_of, is_of, value_of, AreOptions, Use, Uses}
 use Rattle.def_run.specs.declared.words.WordsFail.{WordsFail}
 use Rattle.def_text.specs.Types.{Word, Words}
 use Rattle.qm_dec.proofs.Texts.{decimal_digits, digit_other}

@@ -1,18 +1,18 @@
 -- Words that clap takes are uses of the options.
-use Rattle.std.proofs.Common.{◌≡◌, ◌⊎◌, ◌||◌, ◌==◌, not, ℕ, Bool, true, false, List, [], ◌∷◌, ◌++◌, Option, Some, None, fold, map, inl, inr, arith, ◌≤◌, refl, ap, sym, ◌∙◌, subst, append-nil, append_assoc, slice_get}
+use Rattle.std.proofs.Common.{◌≡◌, ℕ, true, false, List, [], ◌∷◌, ◌++◌, Option, Some, None, map, inl, inr, arith, refl, ap, sym, ◌∙◌, subst, append-nil, append_assoc, slice_get}
 use Rattle.std.specs.List.{list_any}
 use Rattle.std.specs.Str.{chars}
-use Rattle.std.proofs.lemmas.Bool.{cases_Bool, false≢true, or_parts, true≢false}
+use Rattle.std.proofs.lemmas.Bool.{cases_Bool, or_parts, true≢false}
 use Rattle.clap.specs.Faults.{use_fault}
 use Rattle.clap.specs.Kinds.{or_else, Kinds}
-use Rattle.clap.specs.Lexer.{long_of, short_of}
+use Rattle.clap.specs.Lexer.{long_of}
 use Rattle.clap.specs.Walk.{idle, option, settled_rows, used, walked, Row, Walk}
 use Rattle.clap.specs.declared.error.kind.ErrorKind.TheVariants.{InvalidValue, UnknownArgument}
 use Rattle.def_run.specs.Options.{attached, dashed, in_front, is_equals, separate, uses_of, Use, Uses}
 use Rattle.def_text.specs.Types.{Word, Words}
 use Rattle.qm_words.specs.Parsing.{is_end, is_known}
 use Rattle.qm_words.proofs.Rules.{by_id, by_long, full_rule, no_long, rules}
-use Rattle.qm_words.proofs.Steps.{fault_at, flag_fault, flag_walk, garbled_fault, garbled_value_fault, garbled_value_walk, pair_fault, pair_walk, settle, short_fault, stands, stray_fault, unknown_fault, value_fault, value_walk, waits_fault}
+use Rattle.qm_words.proofs.Steps.{fault_at, flag_fault, flag_walk, garbled_fault, garbled_value_walk, pair_fault, pair_walk, settle, short_fault, stands, stray_fault, unknown_fault, value_walk, waits_fault}
 use Rattle.qm_words.proofs.Uses.{all_of, fresh_count, fresh_from, good_more, pending, rows_of, same_name, settled, used_fresh, Good, IsKnown}
 use Rattle.qm_words.proofs.Walks.{both_quiet, end_rows, first_passes, rests, stops, waits, Passes}
 use Rattle.qm_words.proofs.Words.{uses_flag, uses_pair, view, with_hyphens, View}

@@ -1,16 +1,15 @@
 -- One word's step of clap's walk, in each state: its fault, and the state behind it.
-use Rattle.std.proofs.Common.{◌≡◌, ◌&&◌, ◌||◌, ◌==◌, not, ℕ, suc, Bool, true, false, List, [], ◌∷◌, ◌++◌, Option, Some, None, is_some, length, cond, refl, ap, sym, ◌∙◌, subst, arith, option_map}
+use Rattle.std.proofs.Common.{◌≡◌, ℕ, true, false, List, [], ◌∷◌, Option, Some, None, refl}
 use Rattle.std.specs.Prelude.{slice_get}
 use Rattle.std.specs.Str.{bytes_eq, chars}
-use Rattle.clap.specs.Faults.{flags_fault, settle_fault, turn_fault, use_fault, walk_fault}
+use Rattle.clap.specs.Faults.{flags_fault, settle_fault, turn_fault, use_fault}
 use Rattle.clap.specs.Kinds.{or_else, Kinds}
 use Rattle.clap.specs.Lexer.{long_of, short_of}
-use Rattle.clap.specs.Simple.{Shape}
-use Rattle.clap.specs.Walk.{arg_by_id, arg_by_long, bundle_met, idle, option, positional, settled_rows, used, walked, Held, Row, Rule, Waiting, Walk}
+use Rattle.clap.specs.Walk.{arg_by_id, arg_by_long, bundle_met, idle, option, positional, settled_rows, used, walked, Held, Row, Waiting, Walk}
 use Rattle.clap.specs.declared.error.kind.ErrorKind.TheVariants.{UnknownArgument, InvalidValue}
 use Rattle.def_text.specs.Types.{Word, Words}
 use Rattle.qm_words.specs.Parsing.{is_end}
-use Rattle.qm_words.proofs.Rules.{by_id, by_long, full_rule, no_index, no_long, no_short, rules, shape}
+use Rattle.qm_words.proofs.Rules.{full_rule, no_index, no_short, rules, shape}
 
 -- An option with the values that it has so far.
 abbrev pub Pending : Type 0

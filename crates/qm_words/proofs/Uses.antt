@@ -1,13 +1,11 @@
 -- Uses counted, and the rows that clap keeps of them.
-use Rattle.std.proofs.Common.{◌≡◌, ◌⊎◌, ◌≤◌, ◌<◌, ◌+◌, ◌&&◌, ◌||◌, ◌==◌, not, ℕ, suc, Bool, true, false, List, [], ◌∷◌, ◌++◌, Option, Some, None, length, map, cond, eqb, inl, inr, refl, ap, sym, ◌∙◌, subst, arith, append-nil, append_assoc, option_map, option_and_then, slice_get}
-use Rattle.std.specs.List.{find, list_all, list_any}
-use Rattle.std.specs.Option.{option_map_or}
+use Rattle.std.proofs.Common.{◌≡◌, ◌⊎◌, ◌≤◌, ◌+◌, ℕ, true, false, List, [], ◌∷◌, ◌++◌, Option, Some, None, map, cond, inl, inr, refl, ap, sym, ◌∙◌, subst, arith, append-nil}
+use Rattle.std.specs.List.{list_all}
 use Rattle.std.specs.Str.{bytes_eq}
-use Rattle.std.proofs.lemmas.Bool.{and_from, and_parts, cases_Bool, eq-eqb, false≢true, or_parts, true≢false}
+use Rattle.std.proofs.lemmas.Bool.{and_parts, cases_Bool, false≢true, or_parts, true≢false}
 use Rattle.std.proofs.lemmas.List.{map-append}
 use Rattle.std.proofs.lemmas.List.Folds.{list_all-append}
 use Rattle.std.proofs.lemmas.Slice.Eq.{bytes_eq-Decides}
-use Rattle.clap.specs.Facts.{explicit_source}
 use Rattle.clap.specs.Faults.{use_fault}
 use Rattle.clap.specs.Kinds.{Kinds}
 use Rattle.clap.specs.Takes.{is_given}
@@ -15,7 +13,7 @@ use Rattle.clap.specs.Walk.{at_row, first_of, has_row, more_values, settled_rows
 use Rattle.clap.specs.declared.builder.value_parser.Reading.TheVariants.{AsWritten}
 use Rattle.clap.specs.declared.error.kind.ErrorKind.TheVariants.{ArgumentConflict}
 use Rattle.clap.specs.declared.parser.matches.ValueSource.TheVariants.{CommandLine}
-use Rattle.def_run.specs.Options.{are_once, count_of, is_of, value_of, Use, Uses}
+use Rattle.def_run.specs.Options.{count_of, value_of, Use, Uses}
 use Rattle.def_text.specs.Types.{Word, Words}
 use Rattle.qm_words.specs.Parsing.{is_known}
 use Rattle.qm_words.proofs.Rules.{by_id, full_rule, rules}

@@ -1,5 +1,5 @@
 -- clap's walk over words: where it passes, and its first step.
-use Rattle.std.proofs.Common.{◌≡◌, ℕ, Bool, true, false, List, [], ◌∷◌, Option, Some, None, fold, refl, ap, sym, ◌∙◌, subst}
+use Rattle.std.proofs.Common.{◌≡◌, ℕ, false, List, [], ◌∷◌, Option, Some, fold, refl, ap, sym, ◌∙◌}
 use Rattle.clap.specs.Faults.{settle_fault, turn_fault, walk_fault}
 use Rattle.clap.specs.Kinds.{or_else, Kinds}
 use Rattle.clap.specs.Walk.{idle, option, settled_rows, walked, Held, Row, Walk}

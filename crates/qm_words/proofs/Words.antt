@@ -1,11 +1,9 @@
 -- What a word is to clap, and what it is as the use of an option.
-use Rattle.std.proofs.Common.{◌≡◌, ◌&&◌, ◌||◌, ◌+◌, ◌==◌, not, ℕ, suc, Bool, true, false, List, [], ◌∷◌, Option, Some, None, take, drop, length, cond, inl, inr, refl, ap, sym, ◌∙◌, subst, arith, option_map}
+use Rattle.std.proofs.Common.{◌≡◌, ◌+◌, ◌==◌, not, ℕ, suc, true, false, [], ◌∷◌, Some, None, take, drop, inl, inr, refl, ap, sym, ◌∙◌, subst, arith}
 use Rattle.std.specs.List.{after_first, before_first, list_any, position_or_len}
-use Rattle.std.specs.Str.{bytes_eq}
-use Rattle.std.proofs.lemmas.Bool.{cases_Bool, eqb-true, false≢true, not-true, or_parts, true≢false}
-use Rattle.std.proofs.lemmas.Slice.Eq.{bytes_eq-Decides}
+use Rattle.std.proofs.lemmas.Bool.{cases_Bool, eqb-true, not-true, or_parts}
 use Rattle.clap.specs.Lexer.{long_of, short_of}
-use Rattle.def_run.specs.Options.{attached, dashed, in_front, is_equals, separate, uses_of, Use, Uses}
+use Rattle.def_run.specs.Options.{attached, dashed, in_front, is_equals, separate, uses_of, Use}
 use Rattle.def_text.specs.Types.{Word, Words}
 use Rattle.qm_words.specs.Parsing.{is_end, is_plain}
 

@@ -1,5 +1,5 @@
 -- The clap command that reads options, and what its answers say of the words.
-use Rattle.std.specs.Prelude.{◌≡◌, ◌==◌, not, Bool, true, List, [], ◌∷◌, Option, Some, codes, map}
+use Rattle.std.specs.Prelude.{◌≡◌, ◌==◌, not, Bool, true, [], ◌∷◌, Some, codes, map}
 use Rattle.std.specs.List.{list_all, list_any}
 use Rattle.std.specs.Str.{bytes_eq}
 use Rattle.clap.specs.Matches.{first_value}

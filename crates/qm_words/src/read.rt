@@ -1,6 +1,6 @@
 //! The command of a line.
 
-ghost use Rattle.std.specs.Prelude.{◌≡◌, ◌↔◌, ◌⊎◌, ◌∷◌, [], map, string_bytes, IfOk, IfErr, IsTrue};
+ghost use Rattle.std.specs.Prelude.{◌≡◌, ◌↔◌, ◌⊎◌, [], map, string_bytes, IfOk, IfErr, IsTrue};
 ghost use Rattle.def_run.specs.CommandLines.{name_of, HasOptions, IsCommand};
 ghost use Rattle.def_run.specs.declared.command.Command.{Command as AnyCommand};
 

@@ -1,11 +1,11 @@
 -- A layout that is remeshed whatever least lists are kept is refused for no certificate.
-use Rattle.std.proofs.Common.{◌≡◌, ◌≤◌, ◌<◌, ℕ, Bool, true, false, Some, None, List, length, ◌∙◌, refl, arith}
+use Rattle.std.proofs.Common.{ℕ, Bool, true, false, ◌∙◌, refl, arith}
 use Rattle.def_certtext.specs.CertLines.{lists_of, Lists}
 use Rattle.def_flow.specs.declared.cert.Cert.{Cert}
 use Rattle.def_flow.specs.declared.net.Settings.{Settings}
 use Rattle.def_layout.specs.Plans.{Plan}
 use Rattle.def_remesh.specs.Refusals.{AreAllCoarse, AreTooFine, IsDoubledBy, IsFineBy, IsLeastFor, IsRemeshable}
-use Rattle.def_remesh.specs.Remeshed.{AreKept, IsCertified, with_floor}
+use Rattle.def_remesh.specs.Remeshed.{IsCertified, with_floor}
 use Rattle.def_remesh.specs.declared.kept.Kept.{Kept}
 use Rattle.def_remesh.specs.declared.kept.Kept.TheVariants.{Multiple, Least, Raised}
 

@@ -1,38 +1,32 @@
 -- What least lengths and the numbers of their new mesh make, together, of a layout that is remeshed.
 use Rattle.std.proofs.lemmas.Bool.{cases_lt}
 use Rattle.std.proofs.lemmas.List.{get_or_past}
-use Rattle.std.proofs.Common.{◌≡◌, ◌≤◌, ◌<◌, ◌⊎◌, inl, inr, ℕ, Bool, true, false, Some, None, List, length, sym, ◌∙◌, ap, subst, refl, arith}
+use Rattle.std.proofs.Common.{◌≡◌, ◌≤◌, ◌<◌, ◌⊎◌, inl, inr, ℕ, Bool, true, Some, None, List, length, sym, ◌∙◌, ap, subst, refl, arith}
 use Rattle.std.proofs.lemmas.Int.{ints}
-use Rattle.std.specs.Prelude.{slice_index, IsErrOf, Result, Err}
+use Rattle.std.specs.Prelude.{IsErrOf, Result, Err}
 use Rattle.def_certtext.specs.CertLines.{lists_of, Lists}
-use Rattle.def_certtext.specs.Settings.{AreInRange}
 use Rattle.def_flow.specs.Accepted.{certificate}
-use Rattle.def_flow.specs.Admissible.{AreLengths, IsEven}
+use Rattle.def_flow.specs.Admissible.{IsEven}
 use Rattle.def_flow.specs.Descent.{IsSolution}
-use Rattle.def_flow.specs.Network.{Network, tangle_number, IsWithinBounds}
+use Rattle.def_flow.specs.Network.{Network}
 use Rattle.def_flow.specs.declared.cert.Cert.{Cert}
-use Rattle.def_flow.specs.declared.limits.TheConstants.{MAX_FLOOR, MAX_LENGTH, MAX_TANGLE}
+use Rattle.def_flow.specs.declared.limits.TheConstants.{MAX_FLOOR, MAX_LENGTH}
 use Rattle.def_flow.specs.declared.net.Settings.{Settings}
-use Rattle.def_layout.specs.Arcs.{long_at}
 use Rattle.def_layout.specs.Lengths.{AreLengths as AreArcLengths}
 use Rattle.def_layout.specs.Plans.{Plan, layout_of, vertex_at}
-use Rattle.def_layoutnet.specs.LayoutNet.{IsNetOf}
-use Rattle.def_layoutnet.specs.MeshLayouts.{IsMeshLayout}
 use Rattle.def_mesh.specs.Faces.{Faces}
 use Rattle.def_remesh.specs.Placings.{IsLayoutIn}
 use Rattle.def_text.specs.FaceSet.{FaceSet}
 use Rattle.def_written.specs.Shape.{KeepsShape}
-use Rattle.def_written.specs.Edges.{IsDoubledAt, IsFirstDoubled, IsUndoubled}
-use Rattle.def_written.specs.NewFaces.{face_count, new_faces}
+use Rattle.def_written.specs.Edges.{IsFirstDoubled}
+use Rattle.def_written.specs.NewFaces.{new_faces}
 use Rattle.def_remesh.specs.Keeping.{IsKept}
 use Rattle.def_remesh.specs.NewPoints.{lengths_in}
-use Rattle.def_remesh.specs.Numberings.{IsNumbering}
 use Rattle.def_remesh.specs.Refusals.{AreTooFine}
 use Rattle.def_remesh.specs.Remeshed.{AreCoarse, AreDoubled, AreKept, IsCertified, used, with_floor}
 use Rattle.def_remesh.specs.Stitched.{AreLong, AreSafe, IsUnstitched, KeepsShapes}
 use Rattle.def_remesh.specs.declared.fail.StitchFail.{StitchFail}
 use Rattle.def_remesh.specs.declared.fail.StitchFail.TheVariants as fails
-use Rattle.def_remesh.specs.declared.limits.TheConstants.{MAX_NEW_FACES}
 use Rattle.def_remesh.specs.declared.tables.Tables.{Tables}
 use Rattle.remesh_laws.specs.Keeps.{IsNetFor, IsNumbered}
 use Rattle.remesh_laws.proofs.Certified.{certified_lengths}

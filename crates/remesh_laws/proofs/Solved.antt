@@ -1,17 +1,16 @@
 -- An accepted certificate of the network of a layout certifies its lengths, and can be written.
-use Rattle.std.proofs.Common.{◌≡◌, ◌⊎◌, ℕ, zero, suc, ◌+◌, ◌^◌, ◌<◌, ◌≤◌, Bool, true, false, ◌&&◌, List, [], ◌∷◌, ◌++◌, length, map, take, drop, get_or, refl, sym, ◌∙◌, ap, subst, arith, inl, inr, pos, ℤ}
-use Rattle.std.specs.Prelude.{nat_lt, nat_le, slice_index, slice_index_or, unsigned_abs}
+use Rattle.std.proofs.Common.{◌≡◌, ◌⊎◌, ℕ, zero, suc, ◌+◌, ◌^◌, ◌<◌, ◌≤◌, Bool, true, false, ◌&&◌, List, [], ◌∷◌, ◌++◌, length, map, take, drop, refl, sym, ◌∙◌, arith, inl, inr, ℤ}
+use Rattle.std.specs.Prelude.{nat_lt, slice_index}
 use Rattle.std.specs.List.{list_all}
 use Rattle.std.proofs.lemmas.Bool.{and_from, and_parts, le-leb, leb-true, lt-ltb}
 use Rattle.std.proofs.lemmas.Bool.Decides.{nat_tests}
-use Rattle.std.proofs.lemmas.List.Folds.{list_all-append, list_all-map}
-use Rattle.def_certtext.specs.CertLines.{lists_of, numbered, said_by, HasUps, Lists}
+use Rattle.std.proofs.lemmas.List.Folds.{list_all-append}
+use Rattle.def_certtext.specs.CertLines.{numbered, HasUps, Lists}
 use Rattle.def_certtext.specs.Laws.{IsWritable}
 use Rattle.def_certtext.specs.Reading.{is_small, may_stand}
 use Rattle.def_certtext.specs.declared.CertLine.{CertLine}
 use Rattle.def_certtext.specs.declared.CertLine.TheVariants as lines
-use Rattle.def_flow.specs.Accepted.{Certificate, IsAccepted}
-use Rattle.def_flow.specs.Admissible.{entries, AreLengths}
+use Rattle.def_flow.specs.Admissible.{entries}
 use Rattle.def_flow.specs.Descent.{IsSolution}
 use Rattle.def_flow.specs.Network.{Network, tangle_number, IsWithinBounds}
 use Rattle.def_flow.specs.declared.limits.TheConstants.{MAX_LENGTH, MAX_TANGLE}

@@ -1,14 +1,14 @@
 -- The darts round a vertex: with one face both edges are at the boundary, with two or more some edge is not.
-use Rattle.std.proofs.Common.{◌≡◌, ◌≢◌, ◌⊎◌, ℕ, zero, suc, ◌+◌, ◌/◌, ◌<◌, ◌≤◌, true, false, not, cond, List, length, get_or, Option, Some, None, sym, subst, ap, ◌∙◌, refl, inl, inr, arith}
-use Rattle.std.proofs.lemmas.Option.{none-some, same_Some}
-use Rattle.std.proofs.lemmas.Bool.{cases_Bool, cases_eq, cases_lt, false≢true}
+use Rattle.std.proofs.Common.{◌≡◌, ◌≢◌, ◌⊎◌, ℕ, zero, suc, ◌<◌, ◌≤◌, true, false, length, get_or, Option, Some, None, sym, subst, ap, ◌∙◌, refl, inl, inr, arith}
+use Rattle.std.proofs.lemmas.Option.{same_Some}
+use Rattle.std.proofs.lemmas.Bool.{cases_eq, false≢true}
 use Rattle.def_mesh.specs.Faces.{Faces}
 use Rattle.def_mesh.specs.Darts.{darts, from_of, next_of, prev_of, twin_of}
 use Rattle.def_mesh.specs.Vertices.{faces_at, fan_of}
 use Rattle.def_mesh.specs.Kinds.{is_inner}
 use Rattle.def_mesh.specs.HalfEdges.{HalfEdges, AreTurned, Turns, IsQuadManifold, half_edges}
 use Rattle.def_cut.specs.Trails.{Joins}
-use Rattle.cut_laws.proofs.Crosses.{Leaves, HasFan, AreSome, no_fix}
+use Rattle.cut_laws.proofs.Crosses.{Leaves, no_fix}
 use Rattle.cut_laws.proofs.Darts.{turn_from, turn_low}
 use Rattle.mesh_laws.proofs.Fans.{IsFan, is_fan}
 use Rattle.face_laws.proofs.Fans.{has_fan, inner_from}

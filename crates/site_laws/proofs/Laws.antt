@@ -1,19 +1,17 @@
 -- The laws of the motion on a mesh.
-use Rattle.std.proofs.Common.{◌≡◌, ◌≢◌, ◌⊎◌, ℕ, zero, suc, ◌<◌, ◌≤◌, Bool, true, false, not, List, [], ◌∷◌, length, get_or, map, Option, Some, None, sym, subst, ap, ◌∙◌, refl, inl, inr, arith}
+use Rattle.std.proofs.Common.{◌≡◌, ◌⊎◌, ℕ, zero, suc, ◌<◌, Bool, true, false, not, [], length, get_or, map, Some, sym, ◌∙◌, inl, inr, arith}
 use Rattle.std.proofs.lemmas.List.{length-map}
 use Rattle.std.proofs.lemmas.List.FromFn.{length-range_with_len, get_or-map-range_with_len}
-use Rattle.def_mesh.specs.Faces.{Faces}
 use Rattle.def_mesh.specs.Darts.{darts, all_darts, from_of}
-use Rattle.def_mesh.specs.Manifold.{IsManifold}
 use Rattle.def_mesh.specs.Vertices.{vertex_count}
 use Rattle.def_mesh.specs.Components.{start_darts}
 use Rattle.def_mesh.specs.HalfEdges.{HalfEdges, IsQuadManifold, half_edges}
-use Rattle.def_cut.specs.Cuts.{IsUncut, GoesOn, Links, IsCorner, IsCut}
+use Rattle.def_cut.specs.Cuts.{GoesOn, Links, IsCorner, IsCut}
 use Rattle.def_cut.specs.FullCut.{is_on}
-use Rattle.def_cut.specs.Motion.{State, ridden, after}
+use Rattle.def_cut.specs.Motion.{ridden, after}
 use Rattle.def_cut.specs.Traced.{terrain_of, last_state, is_traced, traced_marks}
-use Rattle.def_cut.specs.Events.{EventState, Event, Leads, rides_in, first_of}
-use Rattle.def_cut.specs.MotionLaws.{IsKnown, IsLawful, StateLaw, GraphLaw, IsInOrder, OrderLaw}
+use Rattle.def_cut.specs.Events.{rides_in}
+use Rattle.def_cut.specs.MotionLaws.{IsKnown, StateLaw, GraphLaw, OrderLaw}
 use Rattle.cut_laws.proofs.Classes.{links_low}
 use Rattle.face_laws.proofs.FullCuts.{full_cut_law}
 use Rattle.mesh_laws.proofs.HalfEdges.{manifold_law}

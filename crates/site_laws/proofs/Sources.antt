@@ -1,9 +1,9 @@
 -- Each component of a manifold list has a source: a start dart, or a vertex with one face.
-use Rattle.std.proofs.Common.{◌≡◌, ◌≢◌, ◌⊎◌, ℕ, zero, suc, ◌+◌, ◌*◌, ◌/◌, ◌<◌, ◌≤◌, Bool, true, false, not, cond, eqb, ltb, ◌&&◌, ◌||◌, List, [], ◌∷◌, length, Option, Some, None, is_some, sym, subst, ap, ◌∙◌, refl, inl, inr, arith}
-use Rattle.std.specs.List.{list_any, list_all, range_with_len}
-use Rattle.std.proofs.lemmas.Bool.{cases_Bool, cases_lt, cases_eq, eq-eqb, eqb-true, eqb-false, lt-ltb, or_left, or_right, or_cases, and_from, and_parts, not_from_false, false≢true}
+use Rattle.std.proofs.Common.{◌≡◌, ◌≢◌, ◌⊎◌, ℕ, zero, suc, ◌+◌, ◌*◌, ◌/◌, ◌<◌, ◌≤◌, Bool, true, false, cond, eqb, ltb, ◌&&◌, ◌||◌, List, [], ◌∷◌, length, Some, is_some, sym, subst, ap, ◌∙◌, refl, inl, inr, arith}
+use Rattle.std.specs.List.{list_any, range_with_len}
+use Rattle.std.proofs.lemmas.Bool.{cases_Bool, cases_lt, cases_eq, eq-eqb, eqb-true, eqb-false, lt-ltb, or_left, or_right, and_from, and_parts, not_from_false, false≢true}
 use Rattle.def_mesh.specs.Faces.{Faces, all_faces}
-use Rattle.def_mesh.specs.Darts.{darts, all_darts, from_of, to_of, next_of, prev_of, is_reverse, twin_of, IsTwin}
+use Rattle.def_mesh.specs.Darts.{darts, all_darts, from_of, is_reverse, twin_of}
 use Rattle.def_mesh.specs.Manifold.{IsManifold}
 use Rattle.def_mesh.specs.Vertices.{faces_at, vertex_count, all_vertices}
 use Rattle.def_mesh.specs.Kinds.{is_inner, is_regular, is_singular, is_reflex}
@@ -18,7 +18,7 @@ use Rattle.mesh_laws.proofs.Flood.{Shares, sound, own_mark, same_component, leas
 use Rattle.mesh_laws.proofs.Twins.{reverse_twin, twin_found}
 use Rattle.mesh_laws.proofs.Vertices.{all_below}
 use Rattle.face_laws.proofs.Fans.{same_face}
-use Rattle.motion_laws.proofs.Among.{any_at, any_where, not_all, in_filter, from_filter, among_here, among_range, range_among}
+use Rattle.motion_laws.proofs.Among.{any_at, not_all, in_filter, from_filter, among_here, among_range, range_among}
 use Rattle.site_laws.proofs.Fans.{joins_join, joins_turns, lone_face, some_twin}
 
 -- Going round a face joins.

@@ -1,4 +1,4 @@
-use Rattle.qm_certtext.proofs.Cutting.{cut_of, head_prefix, no_floor, no_scale, not_stripped, stripped}
+use Rattle.qm_certtext.proofs.Cutting.{cut_of, head_prefix, no_floor, stripped}
 use Rattle.qm_certtext.proofs.head.cut_head.Goals as goal
 
 pub returns-in-Some-cut_word-2 : goal.returns-in-Some-cut_word-2

@@ -1,4 +1,4 @@
-use Rattle.std.proofs.Common.{sym, ◌∙◌}
+use Rattle.std.proofs.Common.{sym}
 use Rattle.qm_certtext.proofs.Counts.{count_lead, count_none, count_other, count_read}
 use Rattle.qm_certtext.proofs.numbers.read_count.Goals as goal
 

@@ -1,4 +1,4 @@
-use Rattle.std.proofs.Common.{ℕ, List, length, get_or, arith, ap, ◌∙◌, ◌<◌, ◌/◌}
+use Rattle.std.proofs.Common.{ℕ, List, length, get_or, arith, ap, ◌∙◌, ◌/◌}
 use Rattle.std.proofs.lemmas.List.FromFn.{get_or-map-range_with_len, length-map-range_with_len}
 use Rattle.def_gen.specs.Steps.{block_height}
 use Rattle.qm_gen.proofs.steps.column_height.Goals as goal

@@ -1,4 +1,4 @@
-use Rattle.std.proofs.Common.{◌++◌, List, ℤ, sym, ap, ◌∙◌}
+use Rattle.std.proofs.Common.{◌++◌, ℤ, sym, ap, ◌∙◌}
 use Rattle.def_gen.specs.Steps.{row_points}
 use Rattle.def_text.specs.Types.{Positions}
 use Rattle.qm_gen.proofs.Ranges.{flat_more}

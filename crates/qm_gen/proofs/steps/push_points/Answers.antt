@@ -1,7 +1,6 @@
-use Rattle.std.proofs.Common.{◌≡◌, ◌++◌, ◌∷◌, [], List, arith, ap, sym, ◌∙◌, append_assoc}
+use Rattle.std.proofs.Common.{◌≡◌, ◌++◌, ◌∷◌, [], arith}
 use Rattle.std.proofs.lemmas.Grind.{common_steps}
 use Rattle.def_gen.specs.Steps.{point}
-use Rattle.def_text.specs.Types.{Position, Positions}
 use Rattle.qm_gen.proofs.Ranges.{pushed_more}
 use Rattle.qm_gen.proofs.steps.push_points.Goals as goal
 

@@ -1,4 +1,4 @@
-use Rattle.std.proofs.Common.{◌≡◌, ℕ, List, [], ◌∷◌, ◌+◌, ◌-◌, ◌<◌, ◌≤◌, length, take, drop, slice_index, slice_index_or, ap, sym, ◌∙◌, arith}
+use Rattle.std.proofs.Common.{◌≡◌, ℕ, List, [], ◌∷◌, ◌+◌, ◌-◌, ◌<◌, ◌≤◌, length, take, drop, slice_index, slice_index_or, ap, ◌∙◌, arith}
 use Rattle.def_io.specs.Lines.{lines_of, pieces}
 use Rattle.qm_io.specs.Ends.{ends_from}
 use Rattle.qm_io.proofs.Pieces.{end-there, piece-there, end-within, end-begin, begin, piece-cut}

@@ -1,4 +1,4 @@
-use Rattle.std.proofs.Common.{length, ◌∙◌, arith}
+use Rattle.std.proofs.Common.{◌∙◌, arith}
 use Rattle.qm_io.proofs.Moved.{gave_more}
 use Rattle.qm_io.proofs.reading.read_bytes.Goals as goal
 

@@ -1,4 +1,4 @@
-use Rattle.std.proofs.Common.{length, ◌∙◌}
+use Rattle.std.proofs.Common.{◌∙◌}
 use Rattle.qm_io.proofs.Moved.{rest_more, prefix_more}
 use Rattle.qm_io.proofs.writing.write_all.Goals as goal
 

@@ -1,4 +1,4 @@
-use Rattle.std.proofs.Common.{◌≡◌, ◌<◌, ◌+◌, ℕ, subst, inl, inr, arith}
+use Rattle.std.proofs.Common.{◌≡◌, ℕ, subst, inl, inr, arith}
 use Rattle.std.proofs.lemmas.Bool.{cases_lt}
 use Rattle.def_layout.specs.Plans.{layout_of, plan}
 use Rattle.def_remesh.specs.NewPoints.{lengths_in}

@@ -1,6 +1,6 @@
 use mir.Syntax.{w64, w128}
-use Rattle.std.proofs.Common.{◌≡◌, ◌≤◌, ℤ, ◌++◌, ◌∷◌, [], length}
-use Rattle.std.proofs.Common.{to_z, of_z, Result, Ok, ap, sym, ◌∙◌, arith}
+use Rattle.std.proofs.Common.{◌≡◌, ◌≤◌, ℤ, ◌∷◌, [], length}
+use Rattle.std.proofs.Common.{to_z, of_z, Ok, ap, sym, ◌∙◌, arith}
 use Rattle.std.proofs.lemmas.Int.{ints}
 use Rattle.std.specs.Prelude.{codes}
 use Rattle.def_io.specs.declared.TheConstants.{LINE_FEED}

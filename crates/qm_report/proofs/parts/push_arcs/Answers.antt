@@ -1,4 +1,3 @@
-use Rattle.std.proofs.Common.{◌≡◌}
 use Rattle.def_layout.specs.Plans.{plan}
 use Rattle.def_report.specs.GraphText.{arc_line}
 use Rattle.qm_report.proofs.Texts.{piece_behind}

@@ -1,5 +1,3 @@
-use Rattle.std.proofs.Common.{◌≡◌, ◌++◌, ◌∙◌, ap}
-use Rattle.std.proofs.lemmas.List.{append_assoc}
 use Rattle.def_layout.specs.Plans.{plan}
 use Rattle.def_report.specs.GraphText.{patch_lines, side_lines, size_line}
 use Rattle.qm_report.proofs.Texts.{behind, piece_behind}

@@ -1,4 +1,4 @@
-use Rattle.std.proofs.Common.{◌≡◌, ℕ, arith}
+use Rattle.std.proofs.Common.{ℕ, arith}
 use Rattle.std.specs.Prelude.{codes}
 use Rattle.qm_report.proofs.Texts.{behind}
 use Rattle.qm_report.proofs.TableReads.{side_behind}

@@ -1,4 +1,4 @@
-use Rattle.std.proofs.Common.{ℕ, cond, Bool, ap, ◌∙◌, arith}
+use Rattle.std.proofs.Common.{ℕ, cond, Bool, ap, arith}
 use Rattle.def_mesh.specs.Darts.{twin_of}
 use Rattle.def_mesh.specs.Components.{is_lesser}
 use Rattle.qm_sing.proofs.Edges.{filter_few, one_more}

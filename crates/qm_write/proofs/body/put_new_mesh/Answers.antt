@@ -1,13 +1,9 @@
-use Rattle.std.proofs.Common.{◌≡◌, ◌++◌, sym, ap, ◌∙◌, subst}
-use Rattle.std.specs.List.{flat_map}
+use Rattle.std.proofs.Common.{◌≡◌, sym, ap, ◌∙◌, subst}
 use Rattle.std.proofs.lemmas.Result.{on_err_weaker, on_ok_weaker}
 use Rattle.def_io.specs.Bytes.{Bytes}
 use Rattle.def_layout.specs.Plans.{layout_of, plan}
 use Rattle.def_remesh.specs.NewPoints.{lengths_in}
-use Rattle.def_remesh.specs.NewSoup.{new_places}
-use Rattle.def_text.specs.Canonical.{position_text}
 use Rattle.def_text.specs.FaceSet.{FaceSet, IsSoup}
-use Rattle.def_text.specs.Types.{Positions}
 use Rattle.def_written.specs.Numbers.{vertices}
 use Rattle.qm_output.proofs.Prefixes.{of_error}
 use Rattle.qm_write.proofs.Positions.{all_placed, same_lines}

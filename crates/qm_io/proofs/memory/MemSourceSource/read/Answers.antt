@@ -1,5 +1,5 @@
-use Rattle.std.proofs.Common.{◌≡◌, ℕ, List, ◌+◌, ◌-◌, ◌≤◌, ◌++◌, Option, Some, take, drop, length, min, ap, sym, ◌∙◌, arith}
-use Rattle.std.proofs.lemmas.List.{drop-drop, length-take-le, take-append-drop, take-append-le, take_rest}
+use Rattle.std.proofs.Common.{◌≡◌, ℕ, List, ◌+◌, ◌-◌, ◌++◌, Some, take, drop, length, min, ap, sym, ◌∙◌, arith}
+use Rattle.std.proofs.lemmas.List.{drop-drop, length-take-le, take-append-drop, take_rest}
 use Rattle.std.proofs.Math.Seq.{take-append_seam}
 use Rattle.def_io.specs.Memory.{Feed}
 use Rattle.qm_io.proofs.memory.MemSourceSource.read.Goals as goal

@@ -1,4 +1,4 @@
-use Rattle.std.proofs.Common.{ℕ, List, length, ap, subst, arith}
+use Rattle.std.proofs.Common.{ℕ, length, ap, subst, arith}
 use Rattle.qm_mesh.specs.Tables.{IsMeshOf}
 use Rattle.mesh_laws.proofs.Fans.{is_fan}
 use Rattle.mesh_laws.proofs.Darts.{prev_of_low}

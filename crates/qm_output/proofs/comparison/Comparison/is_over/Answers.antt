@@ -1,4 +1,4 @@
-use Rattle.std.proofs.Common.{◌≡◌, ◌∙◌, sym, ap}
+use Rattle.std.proofs.Common.{sym}
 use Rattle.qm_output.proofs.Places.{nothing_left}
 use Rattle.qm_output.proofs.comparison.Comparison.is_over.Goals as goal
 

@@ -1,10 +1,10 @@
-use Rattle.std.proofs.Common.{◌≡◌, ◌<◌, ◌+◌, true, Bool, List, Option, Some, ℕ, length, set, sym, subst, ap, ◌∙◌, refl, arith}
-use Rattle.std.proofs.lemmas.List.{get_or_default, length-set, with_items_is}
+use Rattle.std.proofs.Common.{◌≡◌, ◌+◌, true, Bool, List, Option, Some, ℕ, length, set, sym, subst, ap, ◌∙◌, refl, arith}
+use Rattle.std.proofs.lemmas.List.{length-set, with_items_is}
 use Rattle.std.specs.Vec.{with_items}
 use Rattle.def_mesh.specs.Darts.{twin_of}
 use Rattle.def_cut.specs.declared.moving.Moving.{Moving}
-use Rattle.def_cut.specs.Motion.{begun, is_among}
-use Rattle.def_cut.specs.Events.{IsMotionOf, after_ride_of, darts_in, mark_twin, may_ride, rider_at, waiting}
+use Rattle.def_cut.specs.Motion.{is_among}
+use Rattle.def_cut.specs.Events.{IsMotionOf, after_ride_of, darts_in, mark_twin, waiting}
 use Rattle.def_cut.specs.Traced.{terrain_of}
 use Rattle.def_motion.specs.Views.{IsMotionOn, MotionView, with_state}
 use Rattle.qm_trace.specs.Motions.{is_untold, runs_on, tally}
