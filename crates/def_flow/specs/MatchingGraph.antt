@@ -39,7 +39,8 @@ are_alike e f = cond e.plus f.plus (not f.plus)
 abbrev pub links_by : (copies_at : Copies) (first : Vertex) (cost : ℤ) (left : End) (right : Option End) → List WEdge
 links_by copies_at first cost left None = to_copies copies_at first cost left ++ inner_link first cost left ∷ []
 links_by copies_at first cost left (Some right) = cond (are_alike left right)
-    (to_copies copies_at first cost left ++ (to_copies copies_at (first + 1) (pos 0) right ++ inner_link first cost left ∷ []))
+    (to_copies copies_at first cost left
+    ++ (to_copies copies_at (first + 1) (pos 0) right ++ inner_link first cost left ∷ []))
     (to_copies copies_at first cost left ++ to_copies copies_at first cost right)
 
 abbrev pub unit_links : (copies_at : Copies) (first : Vertex) (u : ArcUnit) → List WEdge
@@ -104,7 +105,8 @@ abbrev pub graph_by : (nodes : ℕ) (copies_at : Copies) (lone : Bool) (us : Lis
 graph_by nodes copies_at lone us = record {
   n = first_fresh nodes copies_at lone us + 2 * (length (rim (count_below copies_at nodes) us) - 1);
   edges = units_links copies_at (count_below copies_at nodes) us
-      ++ rim_links (lone_vertex nodes copies_at lone us) (first_fresh nodes copies_at lone us) (rim (count_below copies_at nodes) us);
+      ++ rim_links (lone_vertex nodes copies_at lone us) (first_fresh nodes copies_at lone us)
+      (rim (count_below copies_at nodes) us);
 }
 
 -- The graph of units in their states: a copy for each active end, and a lone vertex where an odd number of

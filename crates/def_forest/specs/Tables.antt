@@ -1,7 +1,8 @@
 -- What a contract sees of a forest that a program keeps: its tables, the forest that they stand for, and the step
 -- that an edge allows.
 use Rattle.std.specs.Prelude.{◌≡◌, ℕ, zero, suc, ◌+◌, ◌*◌, ◌<◌, ◌==◌, ◌||◌, Bool, if◌then◌else◌, List, length, map}
-use Rattle.std.specs.Prelude.{slice_index, slice_index_or, Option, Some, None, is_some, ℤ, pos, ◌+ℤ◌, ◌-ℤ◌, ◌*ℤ◌, int_lt}
+use Rattle.std.specs.Prelude.{slice_index, slice_index_or, Option, Some, None, is_some}
+use Rattle.std.specs.Prelude.{ℤ, pos, ◌+ℤ◌, ◌-ℤ◌, ◌*ℤ◌, int_lt}
 use Rattle.def_math.specs.Counts.{count}
 use Rattle.def_math.specs.Increasing.{IsIncreasing}
 use Rattle.def_matching.specs.Matching.{Graph, Vertex, EdgeNumber, edge_at, ends_at}

@@ -13,12 +13,16 @@ use Rattle.def_layout.specs.declared.tmesh.Side.{Side}
 use Rattle.def_layout.specs.declared.tmesh.SideArc.{SideArc}
 use Rattle.def_layout.specs.declared.tmesh.TMesh.{TMesh}
 
--- A layout of a mesh as contracts see it. `sides` has the four sides of each patch.
+-- The arcs along each of the four sides of each patch.
+abbrev pub PatchSides : Type 0
+PatchSides = List (List (List SideArc))
+
+-- A layout of a mesh as contracts see it.
 pub record Plan : Type 0 where
   pub nodes : List ℕ
   pub arcs : List Path
   pub patches : List Rectangle
-  pub sides : List (List (List SideArc))
+  pub sides : PatchSides
 
 abbrev pub plan : (tmesh : TMesh) → Plan
 plan tmesh = record {

@@ -24,7 +24,8 @@ pub struct Side {
     pub arcs: Vec<SideArc>,
 }
 
-/// Nodes, arcs, patches and their sides: south, east, north and west. `nodes` has the vertices of the nodes, increasing.
+/// Nodes, arcs, patches and their sides: south, east, north and west. `nodes` has the vertices of the nodes, in
+/// increasing order.
 #[derive(Debug, Drop)]
 pub struct TMesh {
     pub nodes: Vec<u32>,

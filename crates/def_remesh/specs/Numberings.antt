@@ -26,16 +26,20 @@ used_at side at = slice_index_or side at (record { arc = 0; forward = true })
 abbrev pub sizes_on : (side : List SideArc) (lengths : Lengths) (at : ℕ) → ℕ
 sizes_on side lengths at = lengths (used_at side at).arc
 
+-- Where the arcs begin on each side of each patch.
+abbrev pub SideTables : Type 0
+SideTables = List (List (List ℕ))
+
 -- The tables of all sides, patch by patch.
-abbrev pub tables_of : (sides : List (List Starts)) → List (List (List ℕ))
+abbrev pub tables_of : (sides : List (List Starts)) → SideTables
 tables_of sides = map (λ four. map (λ (starts : Starts). starts.begin.items) four) sides
 
 -- The table of a side of a patch.
-abbrev pub table_at : (sides : List (List (List ℕ))) (patch : ℕ) (side : Way) → List ℕ
+abbrev pub table_at : (sides : SideTables) (patch : ℕ) (side : Way) → List ℕ
 table_at sides patch side = slice_index_or (slice_index_or sides patch []) (number side) []
 
 -- The tables say where the arcs on each side begin.
-pub record AreSideStarts (plan : Plan) (lengths : Lengths) (sides : List (List (List ℕ))) : Type 0 where
+pub record AreSideStarts (plan : Plan) (lengths : Lengths) (sides : SideTables) : Type 0 where
   pub sided : length sides ≡ length plan.patches
   pub four : (patch : ℕ) → patch < length plan.patches → length (slice_index_or sides patch []) ≡ 4
   pub each : (patch : ℕ) (side : Way) → patch < length plan.patches

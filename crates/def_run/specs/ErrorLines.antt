@@ -49,7 +49,8 @@ dual_text (Shape index) = codes "shape " ++ decimal (index + 1)
 dual_text (Even set size) = codes "set " ++ decimal (set + 1) ++ codes " size " ++ decimal size
 dual_text (Negative set) = codes "set " ++ decimal (set + 1) ++ codes " negative"
 dual_text (Short edge load cost) =
-    codes "edge " ++ decimal (edge + 1) ++ codes " load " ++ signed_decimal load ++ codes " cost " ++ signed_decimal cost
+    codes "edge " ++ decimal (edge + 1) ++ codes " load " ++ signed_decimal load
+    ++ codes " cost " ++ signed_decimal cost
 
 -- A patch whose opposite sides differ: its first node has the south and the north side, its second one the east and
 -- the west side.

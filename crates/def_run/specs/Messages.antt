@@ -22,7 +22,7 @@ abbrev pub Said : (line : Bytes) (err : Change) → Type 0
 Said line err = (err.told_now ≡ took err.told line)
     ⊎ (Rose err.faults err.faults_now × TookPrefix err.told err.told_now line)
 
--- The soup whose mesh a command looks at: that of the bytes, or of the old text in front of a head line, or the made one.
+-- The soup whose mesh a command looks at: that of the bytes, of the old text in front of a head line, or the made one.
 abbrev pub LooksAt : (command : Command) (bytes : Bytes) (soup : FaceSet) → Type 0
 LooksAt Check bytes soup = (line : ℕ) × HasOldSoup bytes line soup
 LooksAt (Bench size) bytes soup = soup ≡ steps_soup size

@@ -44,8 +44,12 @@ is_dart (Some e) d = e == d
 abbrev pub is_closed : (faces : Faces) (run : List ℕ) → Bool
 is_closed faces run = is_dart (follower faces (last_dart run)) (first_dart run)
 
+-- Runs, each dart by dart.
+abbrev pub RunLists : Type 0
+RunLists = List (List ℕ)
+
 -- The r-th of these runs.
-abbrev pub run_at : (runs : List (List ℕ)) (r : ℕ) → List ℕ
+abbrev pub run_at : (runs : RunLists) (r : ℕ) → List ℕ
 run_at runs r = slice_index_or runs r []
 
 -- Some dart of one run is less than all of the other.
@@ -55,7 +59,7 @@ IsBefore run other = (k : ℕ) × (k < length run) × ((j : ℕ) → j < length 
 -- All runs of a mesh: a closed one begins with its least dart, and they stand in order of their least darts. The table
 -- has the run of each dart and its place there.
 pub record AreRuns (faces : Faces) (table : RunTable) : Type 0 where
-  pub lists : List (List ℕ)
+  pub lists : RunLists
   pub runs : (r : ℕ) → r < length lists → IsLongestRun faces (run_at lists r)
   pub least : (r k : ℕ) → r < length lists → is_closed faces (run_at lists r) ≡ true → k < length (run_at lists r)
       → first_dart (run_at lists r) ≤ slice_index (run_at lists r) k

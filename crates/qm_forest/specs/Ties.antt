@@ -10,7 +10,8 @@ use Rattle.def_forest.specs.Valid.{IsTree}
 use Rattle.def_forest.specs.Ways.{IsAlmost}
 use Rattle.def_forest.specs.Forests.{Blossom, Forest, live_at, splits, walk, set_at}
 use Rattle.def_forest.specs.Steps.{change}
-use Rattle.def_forest.specs.Tables.{up_at, ForestTables, GraphSize, forest_of, out_of, label_at, weight_at, climbs, IsValidFor}
+use Rattle.def_forest.specs.Tables.{up_at, ForestTables, GraphSize, forest_of, out_of}
+use Rattle.def_forest.specs.Tables.{label_at, weight_at, climbs, IsValidFor}
 use Rattle.def_forest.specs.declared.kinds.Label.{Label}
 use Rattle.forest_laws.specs.Walks.{listed, writes}
 use Rattle.qm_pool.specs.declared.pool.Node.{Node}

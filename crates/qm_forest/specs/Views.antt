@@ -11,8 +11,8 @@ use Rattle.qm_forest.specs.declared.tables.Trail.{Trail}
 use Rattle.qm_forest.specs.declared.tables.Tree.{Tree}
 use Rattle.qm_forest.specs.declared.tables.Weights.{Weights}
 
-abbrev pub tables_of : (h : Handles) (l : Lists) (r : Rings) (trail : Trail) (w : Weights) (t : Tree) (room : Option GraphSize)
-    → ForestTables
+abbrev pub tables_of : (h : Handles) (l : Lists) (r : Rings) (trail : Trail) (w : Weights) (t : Tree)
+    (room : Option GraphSize) → ForestTables
 tables_of h l r trail w t room = record {
   hand = h.hand.items;
   top = h.top.items;

@@ -1,6 +1,7 @@
 //! The forest's tables and what can be read from them at once.
 
-ghost use Rattle.std.specs.Prelude.{◌≡◌, ◌^◌, ◌<◌, ◌≤◌, ◌⊎◌, ℕ, length};
+ghost use Rattle.std.specs.Prelude.{◌≡◌, ◌^◌, ◌<◌, ◌≤◌};
+ghost use Rattle.std.specs.Prelude.{◌⊎◌, ℕ, length};
 ghost use Rattle.std.specs.Prelude.{unsigned_abs, is_some, Option};
 ghost use Rattle.def_forest.specs.Forests.{Blossom};
 ghost use Rattle.def_forest.specs.Tables.{forest_of, IsOutermostIn};

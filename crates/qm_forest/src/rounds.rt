@@ -6,7 +6,8 @@ ghost use Rattle.std.specs.Prelude.{slice_set, Some, None};
 ghost use Rattle.def_forest.specs.Forests.{Blossom, number, ring_sum};
 ghost use Rattle.def_matching.specs.Matching.{Graph, IsSmallGraph, Vertex};
 ghost use Rattle.def_forest.specs.Tables.{forest_of, up_at};
-ghost use Rattle.qm_forest.specs.Rounds.{IsSoundFor, IsRound, HasRoom, IsPairing, AreInOrder, within, waits_but, entered};
+ghost use Rattle.qm_forest.specs.Rounds.{IsSoundFor, IsRound, HasRoom, IsPairing};
+ghost use Rattle.qm_forest.specs.Rounds.{AreInOrder, within, waits_but, entered};
 ghost use Rattle.qm_forest.specs.Rounds.{near_at, far_at, is_dart, matched_by};
 
 use crate::darts::twin;
@@ -128,7 +129,8 @@ impl Forest {
         requires room { HasRoom self.now round.old }
         requires valid { (g : Graph) × IsSmallGraph g × IsSoundFor g self.now }
         requires edge { e < length round.old.marks.items }
-        requires begun { IsRound self.now round.old.marks.items round.old.left_out.items (λ b. 0) (matched_by self.now e) }
+        requires begun { IsRound self.now round.old.marks.items round.old.left_out.items (λ b. 0)
+            (matched_by self.now e) }
         ensures room { HasRoom self.now round.new }
         ensures edges { length round.new.marks.items ≡ length round.old.marks.items }
         ensures done { IsRound self.now round.new.marks.items round.new.left_out.items (λ b. 0)

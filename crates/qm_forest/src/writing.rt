@@ -7,7 +7,8 @@ ghost use Rattle.def_matching.specs.Dual.{dual, dual_sum, SaysYes};
 ghost use Rattle.def_forest.specs.Forests.{Blossom};
 ghost use Rattle.def_forest.specs.Tables.{forest_of, size_of, up_at, IsValidFor};
 ghost use Rattle.def_forest.specs.Written.{IsDualOf};
-ghost use Rattle.qm_forest.specs.Outlines.{AreDistinct, AreEntries, AreNames, AreWeights, IsChosen, IsListOf, IsOutline};
+ghost use Rattle.qm_forest.specs.Outlines.{AreDistinct, AreEntries, AreNames, AreWeights};
+ghost use Rattle.qm_forest.specs.Outlines.{IsChosen, IsListOf, IsOutline};
 ghost use Rattle.qm_forest.specs.Outlines.{entry_of, set_in};
 ghost use Rattle.qm_forest.specs.Rounds.{AreInOrder, AreMarked, IsLaminar, IsSoundFor};
 ghost use Rattle.qm_forest.specs.declared.rounds.Round.{Round};
@@ -21,8 +22,8 @@ use def_matching::Dual;
 use std::mem;
 
 impl Forest {
-    /// The matching, in increasing order, and the dual. Where all blossoms are matched the matching is perfect, and twice
-    /// its cost is the sum of the dual. Linear, but for a logarithm of the sets.
+    /// The matching, in increasing order, and the dual. Where all blossoms are matched the matching is perfect, and
+    /// twice its cost is the sum of the dual. Linear, but for a logarithm of the sets.
     pub fn into_parts(mut self) -> (Vec<u32>, Dual)
         requires valid { (g : Graph) × IsSmallGraph g × IsValidFor g self }
         ensures yes { (g : Graph) → IsSmallGraph g → IsValidFor g self → SaysYes g (dual result.1) }

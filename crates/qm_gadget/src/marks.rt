@@ -63,7 +63,8 @@ fn push_end_marks(
     requires few { (k ≤ 2 ^ 28) × (slice_index copied.now.counts.now end.now.node ≤ 2 ^ 28) }
     ensures { OnOk result
         (m.new.items ≡ m.old.items ++ places k
-        (end_marks (copies_in copied.now.counts.now) (copies_in copied.now.used.now) (is_active_end on end.now) end.now)) }
+        (end_marks (copies_in copied.now.counts.now) (copies_in copied.now.used.now)
+        (is_active_end on end.now) end.now)) }
 {
     let node = end.node as usize;
     push_choice(
@@ -207,7 +208,8 @@ fn push_all_marks(
     requires start { used.old ≡ replicate (length counts.now) 0 }
     requires short { length (units_marks (copies_in counts.now) (copies_in used.old) units.now ons.now) ≤ 2 ^ 26 }
     ensures marks { OnOk result
-        (m.new.items ≡ m.old.items ++ places 0 (units_marks (copies_in counts.now) (copies_in used.old) units.now ons.now)) }
+        (m.new.items ≡ m.old.items
+        ++ places 0 (units_marks (copies_in counts.now) (copies_in used.old) units.now ons.now)) }
     ensures past { IfOk result (λ past.
         past ≡ length (units_marks (copies_in counts.now) (copies_in used.old) units.now ons.now)) }
 {

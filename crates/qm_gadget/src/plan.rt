@@ -31,5 +31,9 @@ pub(crate) fn plan_of(alloc: Global, net: &Net, boxes: &Boxes) -> Result<Plan, A
     let ons = states_of(alloc, boxes.caps, &downs)?;
     let counts = count_active(alloc, net.nodes, &units, &ons)?;
     let lone = is_rim_odd(&units, &ons);
-    Ok(Plan { units, counts, lone })
+    Ok(Plan {
+        units,
+        counts,
+        lone,
+    })
 }

@@ -1,4 +1,4 @@
-//! The least corner of the class of each face. Corners are met in increasing order, so the first of a class is its least.
+//! The least corner of the class of each face. Corners are met in increasing order, so the first of a class is least.
 
 ghost use Rattle.std.specs.Prelude.{◌≡◌, ◌+◌, ◌<◌, ◌↔◌, ℕ, length, IsTrue, IfOk, OnOk, slice_index, replicate};
 ghost use Rattle.def_mesh.specs.Darts.{darts};

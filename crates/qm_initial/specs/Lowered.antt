@@ -1,5 +1,6 @@
 -- Numbers of vertices, lowered so far that the first edges have room.
-use Rattle.std.specs.Prelude.{◌≡◌, ℕ, ◌+◌, ◌*◌, ◌<◌, ◌^◌, nat_lt, if◌then◌else◌, List, length, slice_index_or, slice_set}
+use Rattle.std.specs.Prelude.{◌≡◌, ℕ, ◌+◌, ◌*◌, ◌<◌, ◌^◌}
+use Rattle.std.specs.Prelude.{nat_lt, if◌then◌else◌, List, length, slice_index_or, slice_set}
 use Rattle.std.specs.Prelude.{ℤ, pos, neg_ℤ, ◌+ℤ◌, ◌-ℤ◌, ◌*ℤ◌, ◌≤ℤ◌, ◌≤◌, int_lt, unsigned_abs}
 use Rattle.def_matching.specs.declared.weighted.WEdge.{WEdge}
 use Rattle.def_matching.specs.Matching.{Graph, EdgeNumber, Vertex, edge_at}

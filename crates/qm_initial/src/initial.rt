@@ -1,6 +1,7 @@
 //! Feasible numbers near wished ones.
 
-ghost use Rattle.std.specs.Prelude.{◌≡◌, ◌+◌, ◌*◌, ◌<◌, ◌≤◌, ◌^◌, ◌+ℤ◌, ◌-ℤ◌, ◌*ℤ◌, ◌≤ℤ◌, ℕ, pos, length, slice_index_or};
+ghost use Rattle.std.specs.Prelude.{◌≡◌, ◌+◌, ◌*◌, ◌<◌, ◌≤◌, ◌^◌, ◌+ℤ◌};
+ghost use Rattle.std.specs.Prelude.{◌-ℤ◌, ◌*ℤ◌, ◌≤ℤ◌, ℕ, pos, length, slice_index_or};
 ghost use Rattle.std.specs.Prelude.{unsigned_abs, if◌then◌else◌, IfOk};
 ghost use Rattle.def_matching.specs.Matching.{edge_at, graph, IsGraph};
 ghost use Rattle.qm_initial.specs.Lowered.{with_room, with_room_on, AreWithin, AreWished};

@@ -1,6 +1,7 @@
 //! Where the pieces of a text end.
 
-ghost use Rattle.std.specs.Prelude.{◌≡◌, ◌≤◌, ◌<◌, ◌-◌, ◌^◌, ◌==◌, ◌∷◌, [], false, length, take, drop, slice_index};
+ghost use Rattle.std.specs.Prelude.{◌≡◌, ◌≤◌, ◌<◌, ◌-◌, ◌^◌, ◌==◌};
+ghost use Rattle.std.specs.Prelude.{◌∷◌, [], false, length, take, drop, slice_index};
 ghost use Rattle.std.specs.Prelude.{IfOk, IfSome, IfNone};
 ghost use Rattle.std.specs.List.{list_any};
 ghost use Rattle.def_io.specs.Lines.{pieces};

@@ -1,6 +1,7 @@
 //! A text and its physical lines.
 
-ghost use Rattle.std.specs.Prelude.{◌≡◌, ◌≤◌, ◌<◌, ◌-◌, ◌^◌, [], ◌∷◌, length, slice_index, slice_index_or, if◌then◌else◌, ◌==◌};
+ghost use Rattle.std.specs.Prelude.{◌≡◌, ◌≤◌, ◌<◌, ◌-◌, ◌^◌, []};
+ghost use Rattle.std.specs.Prelude.{◌∷◌, length, slice_index, slice_index_or, if◌then◌else◌, ◌==◌};
 ghost use Rattle.def_io.specs.Lines.{line_of, lines_of, pieces, tail_of, without_last};
 ghost use Rattle.qm_io.specs.Ends.{ends_from};
 

@@ -1,6 +1,7 @@
 //! A source and a sink in memory, whose calls fail where they are told to.
 
-ghost use Rattle.std.specs.Prelude.{◌≡◌, ◌≤◌, ◌<◌, ◌↔◌, ◌+◌, ◌-◌, ◌++◌, ℕ, [], Some, length, drop, take, min, IsErr, IfOk, IfErr, Contains};
+ghost use Rattle.std.specs.Prelude.{◌≡◌, ◌≤◌, ◌<◌, ◌↔◌, ◌+◌, ◌-◌, ◌++◌, ℕ, []};
+ghost use Rattle.std.specs.Prelude.{Some, length, drop, take, min, IsErr, IfOk, IfErr, Contains};
 ghost use Rattle.def_io.specs.Faults.{HasCause};
 ghost use Rattle.def_io.specs.Memory.{one_more};
 ghost use Rattle.def_io.specs.Moves.{gave, took, IsEmptied};

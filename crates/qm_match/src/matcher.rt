@@ -66,8 +66,8 @@ impl Matcher {
         Ok(Matcher { search })
     }
 
-    /// Finds a least perfect matching, in increasing order, and a dual that shows it to be least. One perfect matching is
-    /// known: its edges that are tight from the start are matched first. It takes no memory and cannot fail.
+    /// Finds a least perfect matching, in increasing order, and a dual that shows it to be least. One perfect matching
+    /// is known: its edges that are tight from the start are matched first. It takes no memory and cannot fail.
     pub fn run(self, g: &WGraph, known: &[u32]) -> (Vec<u32>, Dual)
         requires small { IsSmallGraph (graph g.now) }
         requires cheap { IsCheap (graph g.now) }
@@ -89,8 +89,8 @@ impl Matcher {
     }
 }
 
-/// A least perfect matching, in increasing order, and a dual that shows it to be least: the verdict on it is yes, with twice
-/// the matching's cost. One perfect matching is known.
+/// A least perfect matching, in increasing order, and a dual that shows it to be least: the verdict on it is yes, with
+/// twice the matching's cost. One perfect matching is known.
 ///
 /// It fails for want of memory alone.
 pub fn best(alloc: Global, g: &WGraph, known: &[u32]) -> Result<(Vec<u32>, Dual), Memory>

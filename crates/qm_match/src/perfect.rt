@@ -10,7 +10,8 @@ use crate::Memory;
 use def_matching::WGraph;
 use std::alloc::Global;
 
-/// Whether a list of edge numbers is a perfect matching: increasing, and each vertex at exactly one of the edges. Linear.
+/// Whether a list of edge numbers is a perfect matching: increasing, and each vertex at exactly one of the edges.
+/// Linear.
 pub fn is_perfect(alloc: Global, g: &WGraph, edges: &[u32]) -> Result<bool, Memory>
     requires { IsSmallGraph (graph g.now) }
     ensures { IfOk result (λ yes. yes ≡ true → IsPerfect (graph g.now) edges.now) }

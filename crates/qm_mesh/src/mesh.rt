@@ -22,10 +22,10 @@ pub struct Mesh {
 }
 
 impl Model for Mesh {
-    ghost use Rattle.std.specs.Prelude.{ℕ, List};
+    ghost use Rattle.def_mesh.specs.Faces.{Faces};
     ghost use Rattle.qm_mesh.specs.Tables.{IsMeshOf};
 
-    ghost Value = { List (List ℕ) };
+    ghost Value = { Faces };
 
     ghost view = { λ m. m.faces.items };
 

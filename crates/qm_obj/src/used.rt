@@ -79,7 +79,7 @@ fn drop_unused(
     positions: &mut Vec<[Micro; 3]>,
     faces: &mut Vec<[u32; 4]>,
 ) -> Result<Vec<u32>, Memory>
-    requires few { length positions.old.items ≤ 2 ^ 21 }
+    requires few { length positions.old.items ≤ MAX_VERTICES }
     requires known { IsTrue (list_all (are_numbers (length positions.old.items)) faces.old.items) }
     ensures { IfOk result (λ names. record { pos = positions.new.items; faces = faces.new.items; names = names.items }
         ≡ face_set positions.old.items faces.old.items) }
@@ -123,7 +123,7 @@ fn keep_marked(
     positions: &mut Vec<[Micro; 3]>,
     marks: &[bool],
 ) -> Result<Kept, Memory>
-    requires few { length marks.now ≤ 2 ^ 21 }
+    requires few { length marks.now ≤ MAX_VERTICES }
     requires each { length positions.old.items ≡ length marks.now }
     ensures names { IfOk result (λ kept. kept.names.items ≡ chosen marks.now (length marks.now)) }
     ensures positions { IfOk result (λ kept.
@@ -148,7 +148,7 @@ fn keep_position(
     k: usize,
 ) -> Result<(), Memory>
     requires there { k < length positions.old.items }
-    requires few { length positions.old.items ≤ 2 ^ 21 }
+    requires few { length positions.old.items ≤ MAX_VERTICES }
     requires room { length names.old.items ≤ k }
     ensures positions { OnOk result (positions.new.items
         ≡ slice_set positions.old.items (length names.old.items) (slice_index_or positions.old.items k [])) }

@@ -13,6 +13,7 @@ ghost use Rattle.qm_place.specs.Pushed.{on_arc, AreFine, ArePushed, IsKept};
 
 use crate::ways::EDGE;
 use def_layout::TMesh;
+use def_mesh::MAX_FACES;
 use def_remesh::Rim;
 use qm_reach::side_of;
 use std::alloc::{AllocError, Global};
@@ -125,7 +126,7 @@ fn push_arc(
     new: u32,
     back: bool,
 ) -> Result<(), AllocError>
-    requires { (before ≤ 2 ^ 21) × (old ≤ 2 ^ 21) }
+    requires { (before ≤ MAX_FACES) × (old ≤ MAX_FACES) }
     ensures { OnOk result (ArePushed parameters.old.items parameters.new.items new (on_arc before old new back)) }
 {
     for offset in 0..new {
@@ -138,7 +139,7 @@ fn push_arc(
 /// The parameter of place k of an arc.
 fn part_of_arc(k: u32, old: u64, new: u32) -> u64
     requires place { (k ≤ new) × (0 < new) }
-    requires short { old ≤ 2 ^ 21 }
+    requires short { old ≤ MAX_FACES }
     ensures value { result ≡ ONE * k * old / new }
     ensures low { result ≤ ONE * old }
 {

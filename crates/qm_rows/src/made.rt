@@ -1,13 +1,11 @@
 //! The rows that are too large for a file.
 
 use crate::case::Case;
+use def_text::MAX_LINE;
 use std::alloc::{AllocError, Global};
 
 /// The faces of a row of the grid, and of a column.
 const SIDE: u32 = 317;
-
-/// The longest line that is read, in bytes.
-const LONGEST: usize = 65_536;
 
 /// A flat grid of 317 by 317 faces in its canonical text, which `tidy` gives back.
 pub(crate) fn grid_row(alloc: Global) -> Result<Case, AllocError> {
@@ -35,7 +33,7 @@ pub(crate) fn grid_row(alloc: Global) -> Result<Case, AllocError> {
 /// A comment as long as a line may be: the empty mesh.
 pub(crate) fn longest_line_row(alloc: Global) -> Result<Case, AllocError> {
     let mut case = Case::tidy(alloc)?;
-    case.input = comment(alloc, LONGEST)?;
+    case.input = comment(alloc, MAX_LINE)?;
     case.status.extend_from_slice(b"0\n")?;
     Ok(case)
 }
@@ -43,7 +41,7 @@ pub(crate) fn longest_line_row(alloc: Global) -> Result<Case, AllocError> {
 /// A comment that is one byte longer.
 pub(crate) fn too_long_line_row(alloc: Global) -> Result<Case, AllocError> {
     let mut case = Case::tidy(alloc)?;
-    case.input = comment(alloc, LONGEST + 1)?;
+    case.input = comment(alloc, MAX_LINE + 1)?;
     case.status.extend_from_slice(b"6\n")?;
     case.err.extend_from_slice(b"quadq: line 1: limit: line\n")?;
     Ok(case)

@@ -3,7 +3,7 @@ use Rattle.std.specs.Prelude.{◌≡◌, ◌≢◌, ◌⊎◌, ℕ, zero, suc, �
 use Rattle.std.specs.Prelude.{slice_index, Option, Some, None, option_map}
 use Rattle.def_mesh.specs.Faces.{Faces}
 use Rattle.def_mesh.specs.Darts.{darts, from_of, prev_of, twin_of}
-use Rattle.def_runs.specs.Runs.{IsBefore, IsLongestRun, first_dart, follower, is_closed, is_passed, run_at}
+use Rattle.def_runs.specs.Runs.{RunLists, IsBefore, IsLongestRun, first_dart, follower, is_closed, is_passed, run_at}
 use Rattle.qm_sing.specs.declared.flooding.TheConstants.{NONE}
 use Rattle.qm_sing.specs.declared.lines.Line.{Line}
 
@@ -54,7 +54,7 @@ pub record IsLine (faces : Faces) (first r : ℕ) (line : Line) (run_old run at_
   pub told : AreTold (walked (follower faces) first) (suc last) r run_old run at_old at
 
 -- The runs with a dart below d are found.
-pub record AreRunsBelow (faces : Faces) (d : ℕ) (run at : List ℕ) (lists : List (List ℕ)) : Type 0 where
+pub record AreRunsBelow (faces : Faces) (d : ℕ) (run at : List ℕ) (lists : RunLists) : Type 0 where
   pub runs : (r : ℕ) → r < length lists → IsLongestRun faces (run_at lists r)
   pub least : (r k : ℕ) → r < length lists → is_closed faces (run_at lists r) ≡ true → k < length (run_at lists r)
       → first_dart (run_at lists r) ≤ slice_index (run_at lists r) k
@@ -70,7 +70,7 @@ pub record AreRunsBelow (faces : Faces) (d : ℕ) (run at : List ℕ) (lists : L
 
 -- The same, with the tables of runs.
 pub record AreRunsSoFar (faces : Faces) (d : ℕ) (run at len : List ℕ) (closed : List Bool) : Type 0 where
-  pub lists : List (List ℕ)
+  pub lists : RunLists
   pub few : length lists ≤ d
   pub found : AreRunsBelow faces d run at lists
   pub run_long : length run ≡ darts faces

@@ -10,7 +10,7 @@ use Rattle.def_written.specs.NewFaces.{face_count}
 use Rattle.def_written.specs.Points.{Point, use_point}
 use Rattle.def_layout.specs.Layouts.{Layout}
 use Rattle.def_remesh.specs.NewPoints.{lengths_in}
-use Rattle.def_remesh.specs.Numberings.{sizes_on, used_at}
+use Rattle.def_remesh.specs.Numberings.{sizes_on, used_at, SideTables}
 use Rattle.def_remesh.specs.declared.fail.StitchFail.{StitchFail}
 use Rattle.def_remesh.specs.declared.fail.StitchFail.TheVariants.{TooFine, Doubled, Memory}
 use Rattle.def_remesh.specs.declared.limits.TheConstants.{MAX_NEW_FACES}
@@ -30,19 +30,19 @@ IsTooFine layout lengths (Doubled u v) = ⊥
 IsTooFine layout lengths Memory = ⊤
 
 -- The table of a side.
-abbrev pub table_in : (tables : List (List (List ℕ))) (patch side : ℕ) → List ℕ
+abbrev pub table_in : (tables : SideTables) (patch side : ℕ) → List ℕ
 table_in tables patch side = slice_index_or (slice_index_or tables patch []) side []
 
 -- How long a side is, by its table.
-abbrev pub long_by : (tables : List (List (List ℕ))) (patch side : ℕ) → ℕ
+abbrev pub long_by : (tables : SideTables) (patch side : ℕ) → ℕ
 long_by tables patch side = slice_index (table_in tables patch side) (length (table_in tables patch side) - 1)
 
 -- The product of width and height of a patch, each less so much.
-abbrev pub product_by : (tables : List (List (List ℕ))) (less patch : ℕ) → ℕ
+abbrev pub product_by : (tables : SideTables) (less patch : ℕ) → ℕ
 product_by tables less patch = (long_by tables patch 0 - less) * (long_by tables patch 3 - less)
 
 -- The tables say how long each side is.
-pub record AreRows (tables : List (List (List ℕ))) (less : ℕ) : Type 0 where
+pub record AreRows (tables : SideTables) (less : ℕ) : Type 0 where
   pub four : (patch : ℕ) → patch < length tables → length (slice_index_or tables patch []) ≡ 4
   pub some : (patch side : ℕ) → patch < length tables → side < 4 → 0 < length (table_in tables patch side)
   pub long : (patch side : ℕ) → patch < length tables → side < 4

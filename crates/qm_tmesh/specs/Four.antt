@@ -9,7 +9,7 @@ use Rattle.def_layout.specs.Arcs.{Path}
 use Rattle.def_layout.specs.Borders.{side_size, border_dart}
 use Rattle.def_layout.specs.Layouts.{Way}
 use Rattle.def_layout.specs.Nodes.{is_node, AreNodes}
-use Rattle.def_layout.specs.Plans.{number}
+use Rattle.def_layout.specs.Plans.{number, PatchSides}
 use Rattle.def_layout.specs.declared.tmesh.Side.{Side}
 use Rattle.def_layout.specs.declared.tmesh.SideArc.{SideArc}
 use Rattle.layout_laws.specs.Named.{run_list}
@@ -63,7 +63,7 @@ four_of four = map (λ (side : Side). side.arcs.items) four
 -- The sides of all patches.
 pub record AreAllFour
     (faces : Faces) (arcs : List Path) (uses : List SideArc) (patches : List Rectangle)
-    (sides : List (List (List SideArc)))
+    (sides : PatchSides)
     : Type 0 where
   pub count : length sides ≡ length patches
   pub each : (p : ℕ) → p < length patches → AreFour faces arcs uses (patch_at patches p) (slice_index_or sides p [])

@@ -75,7 +75,8 @@ pub record MayTell (faces : Faces) (site : Site) (notes : Notes) (riders : List 
   pub dart : (rider_at riders r).dart < darts faces
   pub untold : is_untold (rider_at riders r) (note_at notes.noted.items r) ≡ true
   pub onward : stop_here faces site notes.taken.items (rider_at riders r).dart ≡ None
-      → or_else (straight (terrain_of faces) (rider_at riders r).dart) (rider_at riders r).dart ≢ (rider_at riders r).dart
+      → or_else (straight (terrain_of faces) (rider_at riders r).dart) (rider_at riders r).dart
+      ≢ (rider_at riders r).dart
 
 -- A rider after the settling of v.
 abbrev pub told_by : (faces : Faces) (site : Site) (taken : List Bool) (v : ℕ) (noted : Option ℕ)

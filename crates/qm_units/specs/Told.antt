@@ -23,17 +23,20 @@ marks_from k (suc n) (e ∷ m) = (e == k) ∷ marks_from (k + 1) n (past (e == k
 abbrev pub width_by : (ℕ → ℕ) → End → Option End → ℕ
 width_by copies_at left None = copies_at left.node + 1
 width_by copies_at left (Some right) =
-    cond (are_alike left right) (copies_at left.node + (copies_at right.node + 1)) (copies_at left.node + copies_at right.node)
+    cond (are_alike left right) (copies_at left.node + (copies_at right.node + 1))
+    (copies_at left.node + copies_at right.node)
 
 -- A unit is on where one of the edges of its first end is marked and this is a plus end, or none is and it is a
 -- minus end.
 abbrev pub state_told : (ℕ → ℕ) → List Bool → End → Bool
 state_told copies_at ms left =
-    cond left.plus (nat_lt 0 (trues (take (copies_at left.node) ms))) (not (nat_lt 0 (trues (take (copies_at left.node) ms))))
+    cond left.plus (nat_lt 0 (trues (take (copies_at left.node) ms)))
+    (not (nat_lt 0 (trues (take (copies_at left.node) ms))))
 
 abbrev pub states_told : (ℕ → ℕ) → List ArcUnit → List Bool → List Bool
 states_told copies_at [] ms = []
-states_told copies_at (u ∷ us) ms = state_told copies_at ms u.left ∷ states_told copies_at us (drop (width_by copies_at u.left u.right) ms)
+states_told copies_at (u ∷ us) ms =
+    state_told copies_at ms u.left ∷ states_told copies_at us (drop (width_by copies_at u.left u.right) ms)
 
 -- The number of units of each arc that are on.
 abbrev pub steps_told : Network → ℕ → List ℕ → List Bool → List ℕ
