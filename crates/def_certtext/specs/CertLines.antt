@@ -1,9 +1,9 @@
 -- The lines of a certificate.
-use Rattle.std.specs.Prelude.{◌≡◌, ℕ, ◌+◌, ℤ, unsigned_abs, List, [], ◌∷◌, ◌++◌, decimal, length, take, drop, map}
+use Rattle.std.specs.Prelude.{◌≡◌, ℕ, ◌+◌, ℤ, List, [], ◌∷◌, ◌++◌, decimal, length, take, drop, map}
 use Rattle.std.specs.List.{flat_map}
+use Rattle.std.specs.Fmt.{signed_decimal}
 use Rattle.def_io.specs.Bytes.{Bytes}
 use Rattle.def_io.specs.declared.TheConstants.{LINE_FEED}
-use Rattle.def_text.specs.Canonical.{minus_text}
 use Rattle.def_text.specs.declared.letters.TheConstants.{HASH, SPACE}
 use Rattle.def_flow.specs.declared.cert.Cert.{Cert}
 use Rattle.def_certtext.specs.declared.CertLine.{CertLine}
@@ -25,13 +25,9 @@ lists_of cert = record { x = cert.x.items; y = cert.dual.y.items; z = cert.dual.
 abbrev pub HasUps : (lists : Lists) → Type 0
 HasUps lists = length lists.up ≡ length lists.y + length lists.z
 
--- A whole number, with a minus where it is below 0.
-abbrev pub signed_text : (z : ℤ) → Bytes
-signed_text z = minus_text z ++ decimal (unsigned_abs z)
-
 -- A number and its `up` behind this letter.
 abbrev pub dual_text : (letter : ℕ) (number : ℤ) (up : ℕ) → Bytes
-dual_text letter number up = HASH ∷ letter ∷ SPACE ∷ signed_text number ++ SPACE ∷ decimal up
+dual_text letter number up = HASH ∷ letter ∷ SPACE ∷ signed_decimal number ++ SPACE ∷ decimal up
 
 -- A line without its end.
 abbrev pub line_text : (line : CertLine) → Bytes

@@ -1,23 +1,22 @@
 -- Numbers as certificate lines have them.
 use Rattle.std.proofs.Common.{◌≡◌, ◌⊎◌, ◌≤◌, ◌<◌, ◌+◌, ◌-◌, ◌^◌, ◌&&◌, min, ℕ, zero, suc, ℤ, pos, negsuc, Bool, true, false, not, [], ◌∷◌, ◌++◌, Option, Some, None, length, take, drop, get_or, map, cond, eqb, ltb, inl, inr, refl, ap, ap₂, sym, ◌∙◌, subst, arith}
-use Rattle.std.specs.Prelude.{decimal, int_lt, unsigned_abs}
+use Rattle.std.specs.Prelude.{decimal, unsigned_abs}
 use Rattle.std.specs.Char.{is_ascii_digit}
 use Rattle.std.specs.Fmt.{digits}
 use Rattle.std.specs.Int.Digits.{number_from_digits_after}
 use Rattle.std.specs.List.{list_all, position_or_len}
 use Rattle.std.proofs.lemmas.Bool.{and_cases, and_from, and_parts, eq-eqb, eqb-false, eqb-true, false≢true, le-leb, lt-ltb, ltb-false, ltb-true, ne_eqb, not-true, not_from_false, and_right, true≢false}
-use Rattle.std.proofs.lemmas.Bool.Decides.{nat_tests}
 use Rattle.std.proofs.lemmas.Fmt.{decimal-digits_value, decimal_nonempty, first_decimal}
 use Rattle.std.proofs.lemmas.List.{drop_at, take_at, take-append-drop}
 use Rattle.std.proofs.lemmas.Str.Parse.{numerals_by_fold, IsDigitsTest, IsNumeralModel}
-use Rattle.def_certtext.specs.CertLines.{signed_text}
+use Rattle.std.specs.Fmt.{signed_decimal}
 use Rattle.def_certtext.specs.Reading.{is_small}
 use Rattle.def_text.specs.Digits.{is_number, number}
 use Rattle.def_text.specs.Types.{Word}
 use Rattle.qm_dec.proofs.Texts.{decimal_digits, decimal_number, digit_other, digits_fail, first_at}
 use Rattle.qm_dec.proofs.Ratios.{first_passes}
 use Rattle.qm_scan.proofs.Numbers.{digit_small, number_all}
-use Rattle.qm_certtext.proofs.Unique.{decimal_once}
+use Rattle.std.proofs.lemmas.Fmt.{decimal_injective}
 
 -- Digits, and the number that they write.
 abbrev AreDigits : (word : Word) → Type 0
@@ -74,17 +73,6 @@ no_count word greatest n o few low is read =
     let value : number word ≡ n = ap number is ∙ decimal_number n (omega arith) in
     read ∙ rw number_is (ap (λ k. Some k) (omega arith))
 
--- The sign of a number.
-pub signed_pos : (n : ℕ) → signed_text (pos n) ≡ decimal n
-signed_pos n = by_test (int_lt (pos n) (pos 0)) (not_below n)
-  where
-    not_below : (m : ℕ) → int_lt (pos m) (pos 0) ≡ false
-    not_below m = grind (arith, nat_tests)
-
-    by_test : (t : Bool) → t ≡ false → cond t (45 ∷ []) [] ++ decimal n ≡ decimal n
-    by_test true is = absurd (true≢false is)
-    by_test false is = refl
-
 -- A count is read where there is one.
 pub count_read : (word : Word) (greatest n : ℕ) → greatest < 10 ^ 18 → n ≤ greatest → (ltb 1 (length word) && eqb (get_or word 0 0) 48) ≡ false
     → Some n ≡ cond (is_number word) (Some (min (number word) (2 ^ 64 - 1))) None → word ≡ decimal n
@@ -122,18 +110,18 @@ no_minus n digits low is =
     (and_parts (is_ascii_digit 45) (list_all is_ascii_digit digits) (ap (list_all is_ascii_digit) is ∙ decimal_digits n low)).0 in
     false≢true minus
 
-pub negative_form : (z : ℤ) (digits : Word) → unsigned_abs z < 10 ^ 18 → 45 ∷ digits ≡ signed_text z → (k : ℕ) × (z ≡ negsuc k) × (digits ≡ decimal (suc k)) × (suc k < 10 ^ 18)
-negative_form (pos n) digits low is = absurd (no_minus n digits (omega arith) (is ∙ signed_pos n))
+pub negative_form : (z : ℤ) (digits : Word) → unsigned_abs z < 10 ^ 18 → 45 ∷ digits ≡ signed_decimal z → (k : ℕ) × (z ≡ negsuc k) × (digits ≡ decimal (suc k)) × (suc k < 10 ^ 18)
+negative_form (pos n) digits low is = absurd (no_minus n digits (omega arith) is)
 negative_form (negsuc k) digits low is = (k, refl, ap (drop 1) is, low)
 
 -- Where the digits behind the minus are those of 0, or of none.
-pub not_negative : (z : ℤ) (digits : Word) (n : ℕ) → unsigned_abs z < 10 ^ 18 → n ≡ 0 → digits ≡ decimal n → 45 ∷ digits ≡ signed_text z → ⊥
+pub not_negative : (z : ℤ) (digits : Word) (n : ℕ) → unsigned_abs z < 10 ^ 18 → n ≡ 0 → digits ≡ decimal n → 45 ∷ digits ≡ signed_decimal z → ⊥
 not_negative z digits n low none is same =
     let form = negative_form z digits low same in
-    let equal : n ≡ suc form.0 = decimal_once n (suc form.0) (omega arith) (omega (arith, form.3)) (sym is ∙ form.2) in
+    let equal : n ≡ suc form.0 = decimal_injective n (suc form.0) (omega arith) (omega (arith, form.3)) (sym is ∙ form.2) in
     omega arith
 
-pub none_negative : (z : ℤ) (digits : Word) → ((n : ℕ) → n ≤ 10 ^ 18 - 1 → digits ≡ decimal n → ⊥) → unsigned_abs z < 10 ^ 18 → 45 ∷ digits ≡ signed_text z → ⊥
+pub none_negative : (z : ℤ) (digits : Word) → ((n : ℕ) → n ≤ 10 ^ 18 - 1 → digits ≡ decimal n → ⊥) → unsigned_abs z < 10 ^ 18 → 45 ∷ digits ≡ signed_decimal z → ⊥
 none_negative z digits none low same =
     let form = negative_form z digits low same in
     none (suc form.0) (omega (arith, form.3)) form.2
@@ -142,14 +130,14 @@ none_negative z digits none low same =
 abbrev no_space : (word : Word) → Bool
 no_space word = list_all (λ b. not (eqb b 32)) word
 
-signed_bare : (z : ℤ) → unsigned_abs z < 10 ^ 18 → no_space (signed_text z) ≡ true
-signed_bare (pos n) low = ap no_space (signed_pos n) ∙ digits_fail (λ b. eqb b 32) (digit_other 32 (omega arith)) (decimal n) (decimal_digits n (omega arith))
+signed_bare : (z : ℤ) → unsigned_abs z < 10 ^ 18 → no_space (signed_decimal z) ≡ true
+signed_bare (pos n) low = digits_fail (λ b. eqb b 32) (digit_other 32 (omega arith)) (decimal n) (decimal_digits n (omega arith))
 signed_bare (negsuc k) low = digits_fail (λ b. eqb b 32) (digit_other 32 (omega arith)) (decimal (suc k)) (decimal_digits (suc k) (omega arith))
 
-pub place_of_space : (text : Word) (z : ℤ) (up : ℕ) → unsigned_abs z < 10 ^ 18 → text ≡ signed_text z ++ 32 ∷ decimal up
-    → position_or_len (λ b. eqb b 32) text ≡ length (signed_text z)
+pub place_of_space : (text : Word) (z : ℤ) (up : ℕ) → unsigned_abs z < 10 ^ 18 → text ≡ signed_decimal z ++ 32 ∷ decimal up
+    → position_or_len (λ b. eqb b 32) text ≡ length (signed_decimal z)
 place_of_space text z up low is =
-    ap (position_or_len (λ b. eqb b 32)) is ∙ first_at (λ b. eqb b 32) (signed_text z) 32 (decimal up) (signed_bare z low) refl
+    ap (position_or_len (λ b. eqb b 32)) is ∙ first_at (λ b. eqb b 32) (signed_decimal z) 32 (decimal up) (signed_bare z low) refl
 
 pub small_parts : (z : ℤ) (up : ℕ) → is_small z up ≡ true → (unsigned_abs z < 10 ^ 18) × (up < 2 ^ 32)
 small_parts z up is =
@@ -157,26 +145,26 @@ small_parts z up is =
     (ltb-true _ _ parts.0, ltb-true _ _ parts.1)
 
 module _ (text prefix behind : Word) (i : ℕ) (place : i ≡ position_or_len (λ b. eqb b 32) text) (before : prefix ≡ take i text) (back : behind ≡ drop i text) where
-  parts_are : (z : ℤ) (up : ℕ) → unsigned_abs z < 10 ^ 18 → text ≡ signed_text z ++ 32 ∷ decimal up → (prefix ≡ signed_text z) × (behind ≡ 32 ∷ decimal up)
+  parts_are : (z : ℤ) (up : ℕ) → unsigned_abs z < 10 ^ 18 → text ≡ signed_decimal z ++ 32 ∷ decimal up → (prefix ≡ signed_decimal z) × (behind ≡ 32 ∷ decimal up)
   parts_are z up low is =
-      let at : i ≡ length (signed_text z) = place ∙ place_of_space text z up low is in (
-        before ∙ ap₂ (λ (k : ℕ) (t : Word). take k t) at is ∙ take_at (signed_text z) (32 ∷ decimal up) _ refl,
-        back ∙ ap₂ (λ (k : ℕ) (t : Word). drop k t) at is ∙ drop_at (signed_text z) (32 ∷ decimal up) _ refl,
+      let at : i ≡ length (signed_decimal z) = place ∙ place_of_space text z up low is in (
+        before ∙ ap₂ (λ (k : ℕ) (t : Word). take k t) at is ∙ take_at (signed_decimal z) (32 ∷ decimal up) _ refl,
+        back ∙ ap₂ (λ (k : ℕ) (t : Word). drop k t) at is ∙ drop_at (signed_decimal z) (32 ∷ decimal up) _ refl,
       )
 
-  pub no_behind : length behind ≡ 0 → (z : ℤ) (up : ℕ) → is_small z up ≡ true → text ≡ signed_text z ++ 32 ∷ decimal up → ⊥
+  pub no_behind : length behind ≡ 0 → (z : ℤ) (up : ℕ) → is_small z up ≡ true → text ≡ signed_decimal z ++ 32 ∷ decimal up → ⊥
   no_behind none z up small is = omega (arith, none, ap length (parts_are z up (small_parts z up small).0 is).1)
 
-  pub no_number : ((z : ℤ) → unsigned_abs z < 10 ^ 18 → prefix ≡ signed_text z → ⊥) → (z : ℤ) (up : ℕ) → is_small z up ≡ true → text ≡ signed_text z ++ 32 ∷ decimal up → ⊥
+  pub no_number : ((z : ℤ) → unsigned_abs z < 10 ^ 18 → prefix ≡ signed_decimal z → ⊥) → (z : ℤ) (up : ℕ) → is_small z up ≡ true → text ≡ signed_decimal z ++ 32 ∷ decimal up → ⊥
   no_number none z up small is = none z (small_parts z up small).0 (parts_are z up (small_parts z up small).0 is).0
 
   pub no_up : (rest : Word) → rest ≡ drop 1 behind → ((n : ℕ) → n ≤ 2 ^ 32 - 1 → rest ≡ decimal n → ⊥) → (z : ℤ) (up : ℕ) → is_small z up ≡ true
-      → text ≡ signed_text z ++ 32 ∷ decimal up → ⊥
+      → text ≡ signed_decimal z ++ 32 ∷ decimal up → ⊥
   no_up rest is none z up small same =
       none up (omega (arith, (small_parts z up small).1)) (is ∙ ap (drop 1) (parts_are z up (small_parts z up small).0 same).1)
 
-  pub both_read : (rest : Word) (z : ℤ) (up : ℕ) → 0 < length behind → rest ≡ drop 1 behind → unsigned_abs z < 10 ^ 18 → prefix ≡ signed_text z → up ≤ 2 ^ 32 - 1 → rest ≡ decimal up
-      → (is_small z up ≡ true) × (text ≡ signed_text z ++ 32 ∷ decimal up)
+  pub both_read : (rest : Word) (z : ℤ) (up : ℕ) → 0 < length behind → rest ≡ drop 1 behind → unsigned_abs z < 10 ^ 18 → prefix ≡ signed_decimal z → up ≤ 2 ^ 32 - 1 → rest ≡ decimal up
+      → (is_small z up ≡ true) × (text ≡ signed_decimal z ++ 32 ∷ decimal up)
   both_read rest z up some is low written_so few ups = (
     and_from _ _ (lt-ltb _ _ low) (lt-ltb _ _ (omega arith)),
     sym (take-append-drop i text) ∙ ap₂ ◌++◌ (sym before ∙ written_so) (sym back ∙ begins ∙ ap (λ (w : Word). 32 ∷ w) (sym is ∙ ups)),
@@ -198,19 +186,11 @@ pub some_behind : (behind : Word) → false ≡ eqb (length behind) 0 → 0 < le
 some_behind [] is = absurd (false≢true is)
 some_behind (x ∷ xs) is = omega arith
 
--- A text is one number and one `up`, and a number has one text.
-pub split_once : (text : Word) (y z : ℤ) (u v : ℕ) → unsigned_abs y < 10 ^ 18 → unsigned_abs z < 10 ^ 18 → text ≡ signed_text y ++ 32 ∷ decimal u
-    → text ≡ signed_text z ++ 32 ∷ decimal v → (signed_text y ≡ signed_text z) × (decimal u ≡ decimal v)
+-- A text is one number and one `up`.
+pub split_once : (text : Word) (y z : ℤ) (u v : ℕ) → unsigned_abs y < 10 ^ 18 → unsigned_abs z < 10 ^ 18 → text ≡ signed_decimal y ++ 32 ∷ decimal u
+    → text ≡ signed_decimal z ++ 32 ∷ decimal v → (signed_decimal y ≡ signed_decimal z) × (decimal u ≡ decimal v)
 split_once text y z u v low_y low_z one two =
-    let first = parts_are text (take (length (signed_text y)) text) (drop (length (signed_text y)) text) (length (signed_text y)) (sym (place_of_space text y u low_y one)) refl refl in
+    let first = parts_are text (take (length (signed_decimal y)) text) (drop (length (signed_decimal y)) text) (length (signed_decimal y)) (sym (place_of_space text y u low_y one)) refl refl in
     let by_y = first y u low_y one in
     let by_z = first z v low_z two in
     (sym by_y.0 ∙ by_z.0, ap (drop 1) (sym by_y.1 ∙ by_z.1))
-
-pub signed_once : (y z : ℤ) → unsigned_abs y < 10 ^ 18 → unsigned_abs z < 10 ^ 18 → signed_text y ≡ signed_text z → y ≡ z
-signed_once (pos m) (pos n) low_m low_n same = ap pos (decimal_once m n (omega arith) (omega arith) (sym (signed_pos m) ∙ same ∙ signed_pos n))
-signed_once (pos m) (negsuc n) low_m low_n same = absurd (no_minus m (decimal (suc n)) (omega arith) (sym same ∙ signed_pos m))
-signed_once (negsuc m) (pos n) low_m low_n same = absurd (no_minus n (decimal (suc m)) (omega arith) (same ∙ signed_pos n))
-signed_once (negsuc m) (negsuc n) low_m low_n same =
-    let equal : suc m ≡ suc n = decimal_once (suc m) (suc n) (omega arith) (omega arith) (ap (drop 1) same) in
-    ap negsuc (omega arith)

@@ -2,18 +2,18 @@
 use Rattle.std.proofs.Common.{◌≡◌, ◌⊎◌, ◌≤◌, ◌||◌, ℕ, ℤ, Bool, true, [], ◌∷◌, ◌++◌, drop, get_or, eqb, inl, inr, ap, sym, ◌∙◌, arith}
 use Rattle.std.specs.Prelude.{decimal}
 use Rattle.std.proofs.lemmas.Bool.{and_parts, eqb-true, or_cases}
-use Rattle.def_certtext.specs.CertLines.{signed_text}
+use Rattle.std.specs.Fmt.{signed_decimal}
 use Rattle.def_certtext.specs.Reading.{is_small, Says}
 use Rattle.def_certtext.specs.declared.CertLine.{CertLine}
 use Rattle.def_certtext.specs.declared.CertLine.TheVariants.{Length, Vertex, Set, Floor}
 use Rattle.def_text.specs.Types.{Word}
-use Rattle.qm_certtext.proofs.Unique.{decimal_once}
+use Rattle.std.proofs.lemmas.Fmt.{decimal_injective}
 
 -- The letter of a line, and what stands behind it.
 pub letter_is : (a b : ℕ) (rest more : Word) → 35 ∷ a ∷ rest ≡ 35 ∷ b ∷ more → a ≡ b
 letter_is a b rest more same = ap (λ (w : Word). get_or w 1 0) same
 
-pub not_set : (auto : Bool) (rest : Word) → ((z : ℤ) (up : ℕ) → is_small z up ≡ true → rest ≡ signed_text z ++ 32 ∷ decimal up → ⊥)
+pub not_set : (auto : Bool) (rest : Word) → ((z : ℤ) (up : ℕ) → is_small z up ≡ true → rest ≡ signed_decimal z ++ 32 ∷ decimal up → ⊥)
     → (said : CertLine) → Says auto (35 ∷ 115 ∷ 32 ∷ rest) said → ⊥
 not_set auto rest none (Length n) says = absurd (omega (arith, letter_is 115 120 _ _ says.written))
 not_set auto rest none (Vertex number up) says = absurd (omega (arith, letter_is 115 121 _ _ says.written))
@@ -35,5 +35,5 @@ not_floor auto rest none (Floor floor) says =
 
 -- A count that is neither 1 nor 3 is no floor.
 pub floor_other : (rest : Word) (m : ℕ) → m ≤ 3 → rest ≡ decimal m → (m ≡ 1 → ⊥) → (m ≡ 3 → ⊥) → (n : ℕ) → (n ≡ 1) ⊎ (n ≡ 3) → rest ≡ decimal n → ⊥
-floor_other rest m low is not_one not_three n (inl one) same = not_one (decimal_once m n (omega arith) (omega arith) (sym is ∙ same) ∙ one)
-floor_other rest m low is not_one not_three n (inr three) same = not_three (decimal_once m n (omega arith) (omega arith) (sym is ∙ same) ∙ three)
+floor_other rest m low is not_one not_three n (inl one) same = not_one (decimal_injective m n (omega arith) (omega arith) (sym is ∙ same) ∙ one)
+floor_other rest m low is not_one not_three n (inr three) same = not_three (decimal_injective m n (omega arith) (omega arith) (sym is ∙ same) ∙ three)

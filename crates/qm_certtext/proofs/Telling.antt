@@ -1,31 +1,38 @@
 -- The lines of a certificate are read back, each in one way.
-use Rattle.std.proofs.Common.{◌≡◌, ◌⊎◌, ◌≤◌, ◌+◌, ◌-◌, ◌^◌, ◌||◌, ℕ, ℤ, Bool, true, false, List, [], ◌∷◌, ◌++◌, Option, Some, None, length, take, drop, map, filter, eqb, inl, inr, refl, ap, ap₂, sym, ◌∙◌, arith, append-nil, take-append-drop}
+use Rattle.std.proofs.Common.{◌≡◌, ◌⊎◌, ◌≤◌, ◌<◌, ◌+◌, ◌-◌, ◌^◌, ◌||◌, ℕ, ℤ, pos, negsuc, unsigned_abs, Bool, true, false, List, [], ◌∷◌, ◌++◌, Option, Some, None, length, take, drop, map, filter, eqb, inl, inr, refl, ap, ap₂, sym, ◌∙◌, arith, append-nil, take-append-drop}
 use Rattle.std.specs.Prelude.{decimal}
 use Rattle.std.specs.List.{after_first, before_first, flat_map, list_all, list_any}
 use Rattle.std.proofs.lemmas.Bool.{and_from, and_parts, eqb-true, false≢true, leb-true, or_cases, or_from}
 use Rattle.std.proofs.lemmas.List.{length-drop, length-take-le}
 use Rattle.std.proofs.lemmas.List.Concat.{flat_map-append}
 use Rattle.std.proofs.lemmas.List.Folds.{list_all-append}
-use Rattle.def_certtext.specs.CertLines.{line_text, numbered, said_by, signed_text, HasUps, Lists}
+use Rattle.std.specs.Fmt.{signed_decimal}
+use Rattle.def_certtext.specs.CertLines.{line_text, numbered, said_by, HasUps, Lists}
 use Rattle.def_certtext.specs.Laws.{chosen, chosen_lines, IsWritable}
 use Rattle.def_certtext.specs.Reading.{cert_in, first_in, is_marked, is_small, is_third, length_in, lists_in, may_stand, set_in, set_up_in, vertex_in, vertex_up_in}
 use Rattle.def_certtext.specs.declared.CertLine.{CertLine}
 use Rattle.def_certtext.specs.declared.CertLine.TheVariants.{Length, Vertex, Set, Floor}
 use Rattle.def_flow.specs.declared.net.Settings.{Settings}
 use Rattle.def_text.specs.Types.{Word}
-use Rattle.qm_certtext.proofs.Counts.{signed_once, small_parts, split_once}
+use Rattle.qm_certtext.proofs.Counts.{small_parts, split_once}
 use Rattle.qm_certtext.proofs.Holding.{after_first_one, any_append, before_first_one}
 use Rattle.qm_certtext.proofs.Letters.{letter_is}
-use Rattle.qm_certtext.proofs.Unique.{decimal_once}
+use Rattle.std.proofs.lemmas.Fmt.{decimal_injective, signed_decimal_injective}
+
+one_number : (y z : ℤ) → unsigned_abs y < 10 ^ 18 → unsigned_abs z < 10 ^ 18 → signed_decimal y ≡ signed_decimal z → y ≡ z
+one_number (pos m) (pos n) p q = signed_decimal_injective (pos m) (pos n) (omega (arith, p)) (omega (arith, q))
+one_number (pos m) (negsuc n) p q = signed_decimal_injective (pos m) (negsuc n) (omega (arith, p)) (omega (arith, q))
+one_number (negsuc m) (pos n) p q = signed_decimal_injective (negsuc m) (pos n) (omega (arith, p)) (omega (arith, q))
+one_number (negsuc m) (negsuc n) p q = signed_decimal_injective (negsuc m) (negsuc n) (omega (arith, p)) (omega (arith, q))
 
 -- The same number and the same `up` behind a letter.
-same_dual : (rest : Word) (y z : ℤ) (u v : ℕ) → is_small y u ≡ true → is_small z v ≡ true → rest ≡ signed_text y ++ 32 ∷ decimal u → rest ≡ signed_text z ++ 32 ∷ decimal v
+same_dual : (rest : Word) (y z : ℤ) (u v : ℕ) → is_small y u ≡ true → is_small z v ≡ true → rest ≡ signed_decimal y ++ 32 ∷ decimal u → rest ≡ signed_decimal z ++ 32 ∷ decimal v
     → (y ≡ z) × (u ≡ v)
 same_dual rest y z u v small_y small_z one two =
     let first = small_parts y u small_y in
     let second = small_parts z v small_z in
     let both = split_once rest y z u v first.0 second.0 one two in
-    (signed_once y z first.0 second.0 both.0, decimal_once u v (omega (arith, first.1)) (omega (arith, second.1)) both.1)
+    (one_number y z first.0 second.0 both.0, decimal_injective u v (omega (arith, first.1)) (omega (arith, second.1)) both.1)
 
 pub floor_low : (auto : Bool) (floor : ℕ) → may_stand auto (Floor floor) ≡ true → floor ≤ 3
 floor_low auto floor may = by_test (or_cases (eqb floor 1) (eqb floor 3) (and_parts auto (eqb floor 1 || eqb floor 3) may).1)
@@ -37,15 +44,15 @@ floor_low auto floor may = by_test (or_cases (eqb floor 1) (eqb floor 3) (and_pa
 -- A text is one line.
 pub one_line : (auto : Bool) (a b : CertLine) → may_stand auto a ≡ true → may_stand auto b ≡ true → line_text a ≡ line_text b → a ≡ b
 one_line auto (Length m) (Length n) p q same =
-    ap (λ (k : ℕ). Length k) (decimal_once m n (omega (arith, leb-true m (10 ^ 12) p)) (omega (arith, leb-true n (10 ^ 12) q)) (ap (drop 3) same))
+    ap (λ (k : ℕ). Length k) (decimal_injective m n (omega (arith, leb-true m (10 ^ 12) p)) (omega (arith, leb-true n (10 ^ 12) q)) (ap (drop 3) same))
 one_line auto (Vertex y u) (Vertex z v) p q same =
-    let both = same_dual (signed_text y ++ 32 ∷ decimal u) y z u v p q refl (ap (drop 3) same) in
+    let both = same_dual (signed_decimal y ++ 32 ∷ decimal u) y z u v p q refl (ap (drop 3) same) in
     λ i. Vertex (both.0 i) (both.1 i)
 one_line auto (Set y u) (Set z v) p q same =
-    let both = same_dual (signed_text y ++ 32 ∷ decimal u) y z u v p q refl (ap (drop 3) same) in
+    let both = same_dual (signed_decimal y ++ 32 ∷ decimal u) y z u v p q refl (ap (drop 3) same) in
     λ i. Set (both.0 i) (both.1 i)
 one_line auto (Floor f) (Floor g) p q same =
-    ap (λ (k : ℕ). Floor k) (decimal_once f g (omega (arith, floor_low auto f p)) (omega (arith, floor_low auto g q)) (ap (drop 3) same))
+    ap (λ (k : ℕ). Floor k) (decimal_injective f g (omega (arith, floor_low auto f p)) (omega (arith, floor_low auto g q)) (ap (drop 3) same))
 one_line auto (Length m) (Vertex z v) p q same = absurd (omega (arith, letter_is 120 121 _ _ same))
 one_line auto (Length m) (Set z v) p q same = absurd (omega (arith, letter_is 120 115 _ _ same))
 one_line auto (Length m) (Floor g) p q same = absurd (omega (arith, letter_is 120 102 _ _ same))

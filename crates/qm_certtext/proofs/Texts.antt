@@ -7,6 +7,7 @@ use Rattle.std.proofs.lemmas.Bool.{and_from, and_parts, eqb-true, leb-true, ltb-
 use Rattle.std.proofs.lemmas.List.{length-map}
 use Rattle.std.proofs.lemmas.List.Concat.{flat_map-append}
 use Rattle.std.proofs.lemmas.List.Folds.{flat_map-map, list_all-append}
+use Rattle.std.specs.Fmt.{signed_decimal}
 use Rattle.def_io.specs.Bytes.{Lines}
 use Rattle.def_io.specs.Lines.{lines_of}
 use Rattle.def_text.specs.Canonical.{canonical_text}
@@ -16,7 +17,7 @@ use Rattle.def_text.specs.Types.{Word}
 use Rattle.def_flow.specs.declared.net.Settings.{Settings}
 use Rattle.def_flow.specs.declared.net.Weight.{Weight}
 use Rattle.def_flow.specs.declared.net.Weight.TheVariants.{Plain, Length as ByLength}
-use Rattle.def_certtext.specs.CertLines.{line_text, said_by, signed_text, text_of, Lists}
+use Rattle.def_certtext.specs.CertLines.{line_text, said_by, text_of, Lists}
 use Rattle.def_certtext.specs.HeadLine.{head_line}
 use Rattle.def_certtext.specs.Laws.{chosen, chosen_lines, written_text, ChosenLaw, IsPrintable, TellsOnly, WrittenLaw}
 use Rattle.def_certtext.specs.Reading.{cert_in, first_in, is_marked, may_stand, IsHead, Made, TellHow}
@@ -27,7 +28,7 @@ use Rattle.qm_dec.proofs.Texts.{decimal_digits, digit_other}
 use Rattle.qm_obj.proofs.LawSoup.{canonical_lines, each_both, each_map, face_line, position_line, position_line_is, text_lines, vertex_word}
 use Rattle.qm_obj.proofs.LawText.{decimal_word, is_inside, line_tame, lines_back, tame_inside, IsLine, IsWord}
 use Rattle.qm_obj.proofs.ListLemmas.{passes_at}
-use Rattle.qm_certtext.proofs.Counts.{signed_pos, small_parts}
+use Rattle.qm_certtext.proofs.Counts.{small_parts}
 use Rattle.qm_certtext.proofs.Cutting.{head_cut, head_words}
 use Rattle.qm_certtext.proofs.Marks.{filter_append}
 use Rattle.qm_certtext.proofs.Telling.{all_marked, chosen_allowed, chosen_certs, floor_low, one_cert, one_list}
@@ -46,8 +47,8 @@ number_inside n low = digits_inside (decimal n) (decimal_digits n low)
 both_inside : (a b : Word) → list_all is_inside a ≡ true → list_all is_inside b ≡ true → list_all is_inside (a ++ b) ≡ true
 both_inside a b p q = list_all-append is_inside a b ∙ and_from _ _ p q
 
-signed_inside : (z : ℤ) → unsigned_abs z < 10 ^ 18 → list_all is_inside (signed_text z) ≡ true
-signed_inside (pos n) low = ap (list_all is_inside) (signed_pos n) ∙ number_inside n (omega arith)
+signed_inside : (z : ℤ) → unsigned_abs z < 10 ^ 18 → list_all is_inside (signed_decimal z) ≡ true
+signed_inside (pos n) low = number_inside n (omega arith)
 signed_inside (negsuc n) low = number_inside (suc n) (omega arith)
 
 -- A certificate line is one line.
@@ -55,10 +56,10 @@ line_inside : (auto : Bool) (line : CertLine) → may_stand auto line ≡ true �
 line_inside auto (Length n) may = number_inside n (omega (arith, leb-true n (10 ^ 12) may))
 line_inside auto (Vertex z u) may =
     let parts = small_parts z u may in
-    both_inside (35 ∷ 121 ∷ 32 ∷ signed_text z) (32 ∷ decimal u) (signed_inside z parts.0) (number_inside u (omega (arith, parts.1)))
+    both_inside (35 ∷ 121 ∷ 32 ∷ signed_decimal z) (32 ∷ decimal u) (signed_inside z parts.0) (number_inside u (omega (arith, parts.1)))
 line_inside auto (Set z u) may =
     let parts = small_parts z u may in
-    both_inside (35 ∷ 115 ∷ 32 ∷ signed_text z) (32 ∷ decimal u) (signed_inside z parts.0) (number_inside u (omega (arith, parts.1)))
+    both_inside (35 ∷ 115 ∷ 32 ∷ signed_decimal z) (32 ∷ decimal u) (signed_inside z parts.0) (number_inside u (omega (arith, parts.1)))
 line_inside auto (Floor f) may = number_inside f (omega (arith, floor_low auto f may))
 
 lines_inside : (auto : Bool) (said : List CertLine) → list_all (may_stand auto) said ≡ true → (k : ℕ) → k < length (map line_text said)

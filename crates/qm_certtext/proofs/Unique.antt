@@ -1,22 +1,18 @@
 -- Words say one settings, and begin with no hyphen.
-use Rattle.std.proofs.Common.{◌≡◌, ◌≤◌, ◌<◌, ◌^◌, ℕ, Bool, true, false, [], ◌∷◌, codes, drop, refl, ap, sym, ◌∙◌, arith}
+use Rattle.std.proofs.Common.{◌≡◌, ◌≤◌, ℕ, Bool, true, false, [], ◌∷◌, codes, drop, refl, ap, sym, ◌∙◌, arith}
 use Rattle.std.specs.Prelude.{decimal}
 use Rattle.std.specs.Char.{is_ascii_digit}
 use Rattle.std.specs.List.{list_all}
 use Rattle.std.proofs.lemmas.Bool.{false≢true}
+use Rattle.std.proofs.lemmas.Fmt.{decimal_injective}
 use Rattle.def_certtext.specs.Settings.{floor_text, scale_text, weight_text, AreInRange, AreWordsOf, IsFloor}
 use Rattle.def_flow.specs.declared.net.Settings.{Settings}
 use Rattle.def_flow.specs.declared.net.Weight.{Weight}
 use Rattle.def_flow.specs.declared.net.Weight.TheVariants.{Plain, Length}
-use Rattle.def_text.specs.Digits.{number}
 use Rattle.def_text.specs.Ratio.{IsRatio}
 use Rattle.def_text.specs.Types.{Word}
 use Rattle.qm_dec.proofs.Ratios.{above_is, below_is}
-use Rattle.qm_dec.proofs.Texts.{decimal_digits, decimal_number}
-
--- A number is read off its digits.
-pub decimal_once : (m n : ℕ) → m < 2 ^ 64 → n < 2 ^ 64 → decimal m ≡ decimal n → m ≡ n
-decimal_once m n low_m low_n same = sym (decimal_number m low_m) ∙ ap number same ∙ decimal_number n low_n
+use Rattle.qm_dec.proofs.Texts.{decimal_digits}
 
 as_ratio : (word : Word) (settings : Settings) (auto : Bool) → word ≡ scale_text settings → AreInRange settings auto → IsRatio word settings.p settings.q
 as_ratio word settings auto is range = record {
@@ -28,12 +24,12 @@ as_ratio word settings auto is range = record {
 }
 
 same_p : (word : Word) (p q r s : ℕ) → IsRatio word p q → IsRatio word r s → p ≡ r
-same_p word p q r s one two = decimal_once p r (omega (arith, one.p_high)) (omega (arith, two.p_high)) (sym (above_is word p q one) ∙ above_is word r s two)
+same_p word p q r s one two = decimal_injective p r (omega (arith, one.p_high)) (omega (arith, two.p_high)) (sym (above_is word p q one) ∙ above_is word r s two)
 
 same_q : (word : Word) (p q r s : ℕ) → IsRatio word p q → IsRatio word r s → q ≡ s
 same_q word p q r s one two =
     let both : 47 ∷ decimal q ≡ 47 ∷ decimal s = sym (below_is word p q one) ∙ below_is word r s two in
-    decimal_once q s (omega (arith, one.q_high)) (omega (arith, two.q_high)) (ap (drop 1) both)
+    decimal_injective q s (omega (arith, one.q_high)) (omega (arith, two.q_high)) (ap (drop 1) both)
 
 -- A chosen floor is written with no digit.
 not_chosen : (floor : ℕ) → floor ≤ 3 → codes "auto" ≡ decimal floor → ⊥
@@ -43,7 +39,7 @@ pub same_floor : (f g : ℕ) (a b : Bool) → IsFloor f a → IsFloor g b → fl
 same_floor f g true true one two is = (one.at_first refl ∙ sym (two.at_first refl), refl)
 same_floor f g true false one two is = absurd (not_chosen g two.high is)
 same_floor f g false true one two is = absurd (not_chosen f one.high (sym is))
-same_floor f g false false one two is = (decimal_once f g (omega (arith, one.high)) (omega (arith, two.high)) is, refl)
+same_floor f g false false one two is = (decimal_injective f g (omega (arith, one.high)) (omega (arith, two.high)) is, refl)
 
 same_weight : (v w : Weight) → weight_text v ≡ weight_text w → v ≡ w
 same_weight Plain Plain is = refl

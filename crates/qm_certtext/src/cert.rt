@@ -7,7 +7,6 @@ ghost use Rattle.def_certtext.specs.CertLines.{
   line_text,
   lists_of,
   numbered,
-  signed_text,
   text_of,
   HasUps,
 };
@@ -17,8 +16,8 @@ use crate::Memory;
 use def_certtext::{CertLine, FLOOR, LENGTH, SET, VERTEX};
 use def_flow::Cert;
 use def_io::LINE_FEED;
-use def_text::{HASH, MINUS, SPACE};
-use qm_print::{push_number, push_spaced};
+use def_text::{HASH, SPACE};
+use qm_print::{push_number, push_signed, push_spaced};
 use std::alloc::Global;
 
 /// The lines of a certificate: its lengths, the numbers of its vertices, those of its sets. Linear.
@@ -107,13 +106,4 @@ fn push_dual(text: &mut Vec<u8>, letter: u8, number: i64, up: u32) -> Result<(),
     text.push(SPACE)?;
     push_signed(text, number)?;
     push_spaced(text, u64::from(up))
-}
-
-fn push_signed(text: &mut Vec<u8>, number: i64) -> Result<(), Memory>
-    ensures { OnOk result (text.new.items ≡ text.old.items ++ signed_text number) }
-{
-    if number < 0 {
-        text.push(MINUS)?;
-    }
-    push_number(text, number.unsigned_abs())
 }

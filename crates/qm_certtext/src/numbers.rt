@@ -2,7 +2,7 @@
 
 ghost use Rattle.std.specs.Prelude.{◌≡◌, ◌≤◌, ◌<◌, ◌==◌, ◌&&◌, ◌++◌, ◌∷◌, ℕ, ℤ, true, decimal, length, nat_lt};
 ghost use Rattle.std.specs.Prelude.{slice_index, unsigned_abs, MatchOption};
-ghost use Rattle.def_certtext.specs.CertLines.{signed_text};
+ghost use Rattle.std.specs.Fmt.{signed_decimal};
 ghost use Rattle.def_certtext.specs.Reading.{is_small};
 
 use def_certtext::NUMBER_LIMIT;
@@ -22,9 +22,9 @@ pub(crate) struct Numbered {
 /// A number and its `up` behind one space.
 pub(crate) fn read_numbered(text: &[u8]) -> Option<Numbered>
     ensures { MatchOption result
-        ((number : ℤ) (up : ℕ) → is_small number up ≡ true → ¬ (text.now ≡ signed_text number ++ SPACE ∷ decimal up))
+        ((number : ℤ) (up : ℕ) → is_small number up ≡ true → ¬ (text.now ≡ signed_decimal number ++ SPACE ∷ decimal up))
         (λ read. (is_small read.number read.up ≡ true)
-        × (text.now ≡ signed_text read.number ++ SPACE ∷ decimal read.up)) }
+        × (text.now ≡ signed_decimal read.number ++ SPACE ∷ decimal read.up)) }
 {
     let (prefix, rest) = text.split_at(find_byte(text, SPACE));
     if rest.is_empty() {
@@ -45,8 +45,8 @@ pub(crate) fn read_numbered(text: &[u8]) -> Option<Numbered>
 /// A whole number of at most 18 digits, with a minus where it is below 0.
 fn read_signed(word: &[u8]) -> Option<i64>
     ensures { MatchOption result
-        ((z : ℤ) → unsigned_abs z < NUMBER_LIMIT → ¬ (word.now ≡ signed_text z))
-        (λ z. (unsigned_abs z < NUMBER_LIMIT) × (word.now ≡ signed_text z)) }
+        ((z : ℤ) → unsigned_abs z < NUMBER_LIMIT → ¬ (word.now ≡ signed_decimal z))
+        (λ z. (unsigned_abs z < NUMBER_LIMIT) × (word.now ≡ signed_decimal z)) }
 {
     match word {
         [b'-', digits @ ..] => read_negative(digits),
@@ -60,8 +60,8 @@ fn read_signed(word: &[u8]) -> Option<i64>
 /// The number below 0 that has these digits behind its minus.
 fn read_negative(digits: &[u8]) -> Option<i64>
     ensures { MatchOption result
-        ((z : ℤ) → unsigned_abs z < NUMBER_LIMIT → ¬ (MINUS ∷ digits.now ≡ signed_text z))
-        (λ z. (unsigned_abs z < NUMBER_LIMIT) × (MINUS ∷ digits.now ≡ signed_text z)) }
+        ((z : ℤ) → unsigned_abs z < NUMBER_LIMIT → ¬ (MINUS ∷ digits.now ≡ signed_decimal z))
+        (λ z. (unsigned_abs z < NUMBER_LIMIT) × (MINUS ∷ digits.now ≡ signed_decimal z)) }
 {
     match read_count(digits, NUMBER_LIMIT - 1) {
         Some(n) if n > 0 => Some(-(n as i64)),

@@ -8,7 +8,7 @@ ghost use Rattle.def_text.specs.Digits.{is_signed};
 ghost use Rattle.qm_obj.specs.Indices.{clamped, corner_of, named, parts_behind};
 
 use def_text::{Index, SLASH};
-use qm_scan::{behind_first, find_byte, is_number, read_number, split_sign};
+use qm_scan::{behind_first, find_byte, is_negative, is_number, read_number, unsigned};
 
 /// What a word says as an index, where `all` counts the `v` lines and `before` those before its line.
 #[tactic(auto, using(crate::proofs::CornerLemmas::index_named))]
@@ -68,9 +68,8 @@ fn read_indices(word: &[u8], before: u32) -> Option<u32>
 fn resolve(word: &[u8], before: u32) -> Option<u64>
     ensures { result ≡ (if is_signed word.now then Some (named before word.now) else None) }
 {
-    let (negative, digits) = split_sign(word);
-    match read_number(digits) {
-        Some(k) => Some(count_from(negative, k, u64::from(before))),
+    match read_number(unsigned(word)) {
+        Some(k) => Some(count_from(is_negative(word), k, u64::from(before))),
         None => None,
     }
 }
@@ -111,9 +110,6 @@ fn is_absent_or_index(word: &[u8]) -> bool
 {
     match word {
         [] => true,
-        _ => {
-            let (_, digits) = split_sign(word);
-            is_number(digits)
-        }
+        _ => is_number(unsigned(word)),
     }
 }

@@ -8,7 +8,8 @@ fn numbers_stand_in_their_texts(rt: HostRuntime) -> Result<(), Fail> {
     let mut text = Vec::new(rt.alloc());
     push_number(&mut text, 0)?;
     push_spaced(&mut text, u64::MAX)?;
-    assert_eq!(rt; text.as_slice(), b"0 18446744073709551615".as_slice());
+    push_signed(&mut text, -1i64)?;
+    assert_eq!(rt; text.as_slice(), b"0 18446744073709551615-1".as_slice());
     let mut line = numbered_line("face ", 7, ": vertex ");
     push_numbered(&mut line, 1, " repeated");
     assert_eq!(rt; line.as_str(), "face 7: vertex 1 repeated");

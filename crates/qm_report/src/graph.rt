@@ -12,7 +12,7 @@ ghost use Rattle.def_layout.specs.Plans.{plan};
 ghost use Rattle.def_report.specs.GraphText.{counts_line, graph_text as text_of, kind_line, seed_line, vertex_line};
 
 use crate::Memory;
-use crate::lines::{push_count, push_line, push_signed};
+use crate::lines::{push_count, push_line, push_named};
 use crate::parts::{push_arcs, push_patches};
 use crate::riders::push_riders;
 use def_cut::Graph;
@@ -60,7 +60,7 @@ fn push_counts(
     push_count(text, b"vertices ", mesh.vertices())?;
     push_count(text, b" edges ", edge_count(mesh))?;
     push_count(text, b" faces ", mesh.faces().len() as u32)?;
-    push_signed(text, b" euler ", i128::from(euler(alloc, mesh)?))?;
+    push_named(text, b" euler ", i128::from(euler(alloc, mesh)?))?;
     push_count(text, b" components ", components)?;
     text.push(LINE_FEED)?;
     Ok(())

@@ -6,8 +6,7 @@ ghost use Rattle.def_report.specs.GraphText.{line_of, numbers_text};
 
 use crate::Memory;
 use def_io::LINE_FEED;
-use itoa::Buffer;
-use qm_print::{push_number, push_spaced};
+use qm_print::{push_number, push_signed, push_spaced};
 
 /// Puts a line of a word and numbers at the end of a text.
 pub(crate) fn push_line(text: &mut Vec<u8>, word: &[u8], numbers: &[u64]) -> Result<(), Memory>
@@ -38,10 +37,9 @@ pub(crate) fn push_count(text: &mut Vec<u8>, name: &[u8], count: u32) -> Result<
 }
 
 /// Puts a name and a whole number, which may be below 0, at the end of a text.
-pub(crate) fn push_signed(text: &mut Vec<u8>, name: &[u8], number: i128) -> Result<(), Memory>
+pub(crate) fn push_named(text: &mut Vec<u8>, name: &[u8], number: i128) -> Result<(), Memory>
     ensures { OnOk result (text.new.items ≡ text.old.items ++ name.now ++ signed_decimal number) }
 {
-    let mut buffer = Buffer::new();
     text.extend_from_slice(name)?;
-    text.extend_from_slice(buffer.format(number).as_bytes())
+    push_signed(text, number)
 }

@@ -4,7 +4,7 @@ ghost use Rattle.std.specs.Prelude.{◌≡◌, IfOk};
 ghost use Rattle.def_report.specs.BenchLine.{bench_line};
 
 use crate::Memory;
-use crate::lines::{push_count, push_signed};
+use crate::lines::{push_count, push_named};
 use def_io::LINE_FEED;
 use def_report::Counts;
 use std::alloc::Global;
@@ -21,7 +21,7 @@ pub fn summary_text(alloc: Global, size: u32, counts: &Counts) -> Result<Vec<u8>
     push_count(&mut text, b" riders ", counts.riders)?;
     push_count(&mut text, b" patches ", counts.patches)?;
     push_count(&mut text, b" arcs ", counts.arcs)?;
-    push_signed(&mut text, b" deviation ", counts.deviation)?;
+    push_named(&mut text, b" deviation ", counts.deviation)?;
     text.push(LINE_FEED)?;
     Ok(text)
 }

@@ -39,11 +39,3 @@ pub fn unsigned(word: &[u8]) -> &[u8]
         _ => word,
     }
 }
-
-/// Whether the word begins with a minus, and the word without its sign.
-pub fn split_sign(word: &[u8]) -> (bool, &[u8])
-    ensures negative { result.0 ≡ is_negative word.now }
-    ensures rest { result.1.now ≡ unsigned word.now }
-{
-    (is_negative(word), unsigned(word))
-}

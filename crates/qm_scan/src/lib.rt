@@ -6,7 +6,7 @@ mod digits;
 mod number;
 
 pub use bytes::{behind_first, find_byte};
-pub use digits::{are_digits, is_negative, is_number, split_sign, unsigned};
+pub use digits::{are_digits, is_negative, is_number, unsigned};
 pub use number::read_number;
 
 #[cfg(test)]

@@ -21,9 +21,9 @@ fn numbers_are_read_as_far_as_they_fit(rt: HostRuntime) -> Result<(), Fail> {
 
 #[test]
 fn a_sign_stands_before_the_rest(rt: HostRuntime) -> Result<(), Fail> {
-    let (negative, rest) = split_sign(b"-12");
-    assert!(rt; negative && is_number(rest) && find_byte(rest, b'2') == 1);
-    let (negative, rest) = split_sign(b"+");
-    assert!(rt; !negative && are_digits(rest) && !is_number(rest));
+    let rest = unsigned(b"-12");
+    assert!(rt; is_negative(b"-12") && is_number(rest) && find_byte(rest, b'2') == 1);
+    let rest = unsigned(b"+");
+    assert!(rt; !is_negative(b"+") && are_digits(rest) && !is_number(rest));
     Ok(())
 }

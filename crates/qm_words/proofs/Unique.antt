@@ -13,7 +13,8 @@ use Rattle.def_run.specs.declared.command.Command.TheVariants.{Tidy, Graph, Refi
 use Rattle.def_run.specs.declared.words.WordsFail.{WordsFail}
 use Rattle.def_run.specs.declared.words.WordsFail.TheVariants.{Memory, Usage}
 use Rattle.def_text.specs.Types.{Word, Words}
-use Rattle.qm_certtext.proofs.Unique.{decimal_once, same_settings}
+use Rattle.std.proofs.lemmas.Fmt.{decimal_injective}
+use Rattle.qm_certtext.proofs.Unique.{same_settings}
 
 -- Other names are other lines.
 apart : (x y : Word) → bytes_eq x y ≡ false → x ≡ y → ⊥
@@ -27,7 +28,7 @@ same_uses words one two first second =
 same_count : (name : Word) (greatest : ℕ) (words : Words) (m n : ℕ) → greatest ≤ 10000 → HasCount name greatest words m → HasCount name greatest words n → m ≡ n
 same_count name greatest words m n few one two =
     let uses = same_uses words one.uses two.uses one.options.spelled two.options.spelled in
-    decimal_once m n (omega (arith, one.count.high)) (omega (arith, two.count.high))
+    decimal_injective m n (omega (arith, one.count.high)) (omega (arith, two.count.high))
     (sym one.count.written ∙ ap (value_of name) uses ∙ two.count.written)
 
 same_asked : (words : Words) (s t : Settings) (a b : Bool) → HasSettings words s a → HasSettings words t b → (s ≡ t) × (a ≡ b)

@@ -4,7 +4,7 @@ use Rattle.std.proofs.lemmas.Bool.{eqb-true}
 use Rattle.std.proofs.lemmas.Int.{ints}
 use mir.Syntax.{w64}
 use mir.Val.{of_z, to_z}
-use Rattle.def_certtext.specs.CertLines.{signed_text}
+use Rattle.std.specs.Fmt.{signed_decimal}
 use Rattle.def_certtext.specs.Reading.{is_small}
 use Rattle.qm_certtext.proofs.Counts.{both_read, no_behind, no_number, no_up, some_behind}
 use Rattle.qm_certtext.proofs.numbers.read_numbered.Goals as goal
@@ -27,7 +27,7 @@ returns-in_default-read_count c =
 pub returns : goal.returns
 returns c =
     let back : to_z w64 (of_z w64 c.in-Some.number) ≡ c.in-Some.number = omega (arith, ints, c.in-Some.ensures.0) in
-    subst (λ (z : ℤ). (is_small z c.in-Some-read_count.up ≡ true) × (c.args.text.now ≡ signed_text z ++ 32 ∷ decimal c.in-Some-read_count.up)) (sym back)
+    subst (λ (z : ℤ). (is_small z c.in-Some-read_count.up ≡ true) × (c.args.text.now ≡ signed_decimal z ++ 32 ∷ decimal c.in-Some-read_count.up)) (sym back)
     (both_read c.args.text.now c.split_at.result.0.now c.split_at.result.1.now _ c.find_byte.ensures.exact c.split_at.ensures.front c.split_at.ensures.back
     c.behind_first.result.now c.in-Some.number c.in-Some-read_count.up (some_behind c.split_at.result.1.now c.if-is_empty.ensures) c.behind_first.ensures
     c.in-Some.ensures.0 c.in-Some.ensures.1 c.in-Some-read_count.ensures.0 c.in-Some-read_count.ensures.1)

@@ -25,7 +25,7 @@ returns c =
     let t1 = c.push_count.new.text.items in
     let t2 = c.push_count-2.new.text.items in
     let t3 = c.push_count-3.new.text.items in
-    let t4 = c.push_signed.new.text.items in
+    let t4 = c.push_named.new.text.items in
     let t5 = c.push_count-4.new.text.items in
     let vertices = number_behind t [] (codes "vertices ") _ _ t t1
     c.vertices.ensures.value (nothing_behind t) c.in_ok-push_count.ensures in
@@ -33,7 +33,7 @@ returns c =
     c.edge_count.ensures vertices c.in_ok-push_count-2.ensures in
     let faces = number_behind t _ (codes " faces ") _ _ t2 t3
     (ap length c.faces.ensures.value) edges c.in_ok-push_count-3.ensures in
-    let euler = signed_behind t _ (codes " euler ") _ (euler mesh) t3 t4 faces c.in_ok-push_signed.ensures passed in
+    let euler = signed_behind t _ (codes " euler ") _ (euler mesh) t3 t4 faces c.in_ok-push_named.ensures passed in
     let components = number_behind t _ (codes " components ") _ _ t4 t5
     c.requires euler c.in_ok-push_count-4.ensures in
     behind t _ (LINE_FEED ∷ []) t5 c.push.new.self.items components c.in_ok-push.ensures.items
