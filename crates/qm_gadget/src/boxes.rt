@@ -1,6 +1,6 @@
 //! The lows of arcs, and their numbers of units.
 
-ghost use Rattle.std.specs.Prelude.{◌≡◌, ◌+◌, ◌*◌, ◌≤◌, length, map, IfOk};
+ghost use Rattle.std.specs.Prelude.{◌≡◌, ◌+◌, ◌*◌, ◌<◌, ◌≤◌, ℕ, length, map, slice_index, IfOk};
 ghost use Rattle.def_flow.specs.Network.{network};
 ghost use Rattle.def_flow.specs.Units.{down, low, cap};
 
@@ -25,19 +25,21 @@ pub(crate) struct OwnBox {
 
 /// How many steps an arc of this length can give up, at most 2 of them.
 fn steps_down(net: &Net, step: u64, length: u64) -> u64
-    requires { 1 ≤ step }
+    requires step { 1 ≤ step }
+    requires high { net.now.floor ≤ length }
     ensures value { result ≡ down (network net.now) step length }
     ensures small { result ≤ 2 }
 {
-    (length.saturating_sub(u64::from(net.floor)) / step).min(2)
+    ((length - u64::from(net.floor)) / step).min(2)
 }
 
 /// The least length that the units of an arc of this length can give.
 fn low_of(net: &Net, step: u64, length: u64) -> u64
-    requires { (1 ≤ step) × (step ≤ MAX_STEP) }
+    requires step { (1 ≤ step) × (step ≤ MAX_STEP) }
+    requires high { net.now.floor ≤ length }
     ensures value { result ≡ low (network net.now) step length }
 {
-    length.saturating_sub(steps_down(net, step, length) * step)
+    length - steps_down(net, step, length) * step
 }
 
 /// The least length of each arc that the units can give.
@@ -47,7 +49,8 @@ pub(crate) fn lows_of(
     step: u64,
     x: &[u64],
 ) -> Result<Vec<u64>, AllocError>
-    requires { (1 ≤ step) × (step ≤ MAX_STEP) }
+    requires step { (1 ≤ step) × (step ≤ MAX_STEP) }
+    requires high { (k : ℕ) → k < length x.now → net.now.floor ≤ slice_index x.now k }
     ensures { IfOk result (λ lows. lows.items ≡ map (low (network net.now) step) x.now) }
 {
     let mut lows = Vec::with_capacity(alloc, x.len())?;
@@ -64,7 +67,8 @@ pub(crate) fn caps_of(
     step: u64,
     x: &[u64],
 ) -> Result<Vec<u32>, AllocError>
-    requires { 1 ≤ step }
+    requires step { 1 ≤ step }
+    requires high { (k : ℕ) → k < length x.now → net.now.floor ≤ slice_index x.now k }
     ensures { IfOk result (λ caps. caps.items ≡ map (cap (network net.now) step) x.now) }
 {
     let mut caps = Vec::with_capacity(alloc, x.len())?;

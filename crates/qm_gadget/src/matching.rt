@@ -1,6 +1,6 @@
 //! The matching that a list tells.
 
-ghost use Rattle.std.specs.Prelude.{◌≡◌, ◌-◌, ◌/◌, ◌^◌, ◌≤◌, ℕ, pos, ◌-ℤ◌, length, slice_index, IfOk};
+ghost use Rattle.std.specs.Prelude.{◌≡◌, ◌-◌, ◌/◌, ◌^◌, ◌≤◌, ◌<◌, ℕ, pos, ◌-ℤ◌, length, slice_index, IfOk};
 ghost use Rattle.def_flow.specs.Network.{network, IsWithinBounds};
 ghost use Rattle.def_flow.specs.Admissible.{deviation, entries, IsAdmissible};
 ghost use Rattle.def_flow.specs.Gadget.{IsGadgetOf, IsInBox};
@@ -63,12 +63,13 @@ fn matching_by(alloc: Global, net: &Net, boxes: &Boxes, x2: &[u64]) -> Result<Ve
 fn ups_of(alloc: Global, step: u64, lows: &[u64], x2: &[u64]) -> Result<Vec<u32>, AllocError>
     requires step { 1 ≤ step }
     requires same { length lows.now ≡ length x2.now }
+    requires above { (k : ℕ) → k < length x2.now → slice_index lows.now k ≤ slice_index x2.now k }
     requires small { (k : ℕ) → (slice_index x2.now k - slice_index lows.now k) / step ≤ 4 }
     ensures { IfOk result (λ raised. raised.items ≡ ups step lows.now x2.now) }
 {
     let mut raised = Vec::new(alloc);
     for (k, low) in lows.iter().enumerate() {
-        let up = x2[k].saturating_sub(*low) / step;
+        let up = (x2[k] - low) / step;
         raised.push(up as u32)?;
     }
     Ok(raised)

@@ -14,9 +14,14 @@ use std::alloc::{AllocError, Global};
 
 /// How many units of each arc are on at the list itself.
 pub(crate) fn downs_of(alloc: Global, caps: &[u32]) -> Result<Vec<u32>, AllocError>
+    requires { (k : ℕ) → k < length caps.now → 2 ≤ slice_index caps.now k }
     ensures { IfOk result (λ downs. downs.items ≡ map (λ cap. cap - 2) caps.now) }
 {
-    caps.iter().map(|cap| cap.saturating_sub(2)).collect(alloc)
+    let mut downs = Vec::with_capacity(alloc, caps.len())?;
+    for cap in caps {
+        downs.push(*cap - 2)?;
+    }
+    Ok(downs)
 }
 
 /// The states of all units, where of each arc so many are on.
