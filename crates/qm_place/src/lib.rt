@@ -12,4 +12,4 @@ mod tests;
 mod ways;
 
 pub use find::Near;
-pub use places::{Places, place, placer};
+pub use places::{OldMesh, Places, place, placer};

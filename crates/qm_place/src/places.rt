@@ -26,6 +26,14 @@ use qm_reach::{inner_points, no_starts, push_start, short_lengths};
 use std::alloc::{AllocError, Global};
 use std::marker::Model;
 
+/// A mesh with its layout, and a position for each of its vertices.
+#[derive(Clone, Copy)]
+pub struct OldMesh<'a> {
+    pub mesh: &'a Mesh,
+    pub t: &'a TMesh,
+    pub pos: &'a [[Micro; 3]],
+}
+
 /// The places of the vertices of a new mesh. Contracts see the tables.
 #[derive(Debug, Drop)]
 pub struct Places {
@@ -87,10 +95,11 @@ pub fn place(
 {
     let placer = placer(alloc, mesh, t, x)?;
     let vertices = placer.vertices(t);
+    let old = OldMesh { mesh, t, pos };
     let mut near = Near::new();
     let mut places = Vec::with_capacity(alloc, vertices as usize)?;
     for v in 0..vertices {
-        places.push(placer.place_near(mesh, t, pos, v, &mut near))?;
+        places.push(placer.place_near(&old, v, &mut near))?;
     }
     Ok(places)
 }
@@ -128,24 +137,18 @@ impl Places {
         ensures between { LiesBetween pos.now result }
     {
         let mut near = Near::new();
-        self.place_near(mesh, t, pos, v, &mut near)
+        self.place_near(&OldMesh { mesh, t, pos }, v, &mut near)
     }
 
     /// The same, and where it was found. In constant time where it is near the last one, else logarithmic.
-    pub fn place_near(
-        &self,
-        mesh: &Mesh,
-        t: &TMesh,
-        pos: &[[Micro; 3]],
-        v: u32,
-        near: &mut Near,
-    ) -> [Micro; 3]
-        requires places { ArePlaces mesh.now (plan t.now) self.now }
-        requires positions { length pos.now ≡ vertex_count mesh.now }
-        requires vertex { v < vertices (layout_of (plan t.now)) (lengths_in self.now.lengths.items) }
-        ensures value { result ≡ new_place mesh.now (plan t.now) pos.now (lengths_in self.now.lengths.items) v }
-        ensures between { LiesBetween pos.now result }
+    pub fn place_near(&self, old: &OldMesh, v: u32, near: &mut Near) -> [Micro; 3]
+        requires places { ArePlaces old.now.mesh.now (plan old.now.t.now) self.now }
+        requires positions { length old.now.pos.now ≡ vertex_count old.now.mesh.now }
+        requires vertex { v < vertices (layout_of (plan old.now.t.now)) (lengths_in self.now.lengths.items) }
+        ensures value { result ≡ new_place old.now.mesh.now (plan old.now.t.now) old.now.pos.now
+            (lengths_in self.now.lengths.items) v }
+        ensures between { LiesBetween old.now.pos.now result }
     {
-        place_there(mesh, pos, find(&self.tables, t, v, near))
+        place_there(old.mesh, old.pos, find(&self.tables, old.t, v, near))
     }
 }

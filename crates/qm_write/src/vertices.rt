@@ -15,7 +15,7 @@ use def_output::Stopped;
 use def_text::Micro;
 use qm_obj::put_position;
 use qm_output::Output;
-use qm_place::{Near, Places};
+use qm_place::{Near, OldMesh, Places};
 
 /// Puts a line for each vertex, of which there are so many.
 pub(crate) fn put_vertices<T: Output>(
@@ -33,9 +33,14 @@ pub(crate) fn put_vertices<T: Output>(
     ensures part { OnErr result (T.stops out.old out.new (flat_map position_text
         (new_places cut.now.mesh (plan cut.now.layout) pos.now (lengths_in places.now.lengths.items)))) }
 {
+    let old = OldMesh {
+        mesh: &cut.mesh,
+        t: &cut.layout,
+        pos,
+    };
     let mut near = Near::new();
     for v in 0..count {
-        let place = places.place_near(&cut.mesh, &cut.layout, pos, v, &mut near);
+        let place = places.place_near(&old, v, &mut near);
         put_position(out, &place)?;
     }
     Ok(())

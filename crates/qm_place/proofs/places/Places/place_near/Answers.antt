@@ -9,22 +9,22 @@ use Rattle.qm_place.proofs.places.Places.place_near.Goals as goal
 
 pub place_there-requires-clause-spot : goal.place_there-requires-clause-spot
 place_there-requires-clause-spot c =
-    let are : ArePlaces c.args.mesh.now (plan c.args.t.now) c.self.inside.tables =
-    subst (λ (s : PlaceTables). ArePlaces c.args.mesh.now (plan c.args.t.now) s) (sym c.self.view_is) c.requires.places in
-    (plan c.args.t.now, lengths_in c.self.inside.tables.lengths.items, c.args.v, c.find.ensures c.args.mesh.now are)
+    let are : ArePlaces c.args.old.now.mesh.now (plan c.args.old.now.t.now) c.self.inside.tables =
+    subst (λ (s : PlaceTables). ArePlaces c.args.old.now.mesh.now (plan c.args.old.now.t.now) s) (sym c.self.view_is) c.requires.places in
+    (plan c.args.old.now.t.now, lengths_in c.self.inside.tables.lengths.items, c.args.v, c.find.ensures c.args.old.now.mesh.now are)
 
 value : (c : goal.After-place_there)
-    → c.place_there.result ≡ new_place c.args.mesh.now (plan c.args.t.now) c.args.pos.now (lengths_in c.args.self.now.lengths.items) c.args.v
+    → c.place_there.result ≡ new_place c.args.old.now.mesh.now (plan c.args.old.now.t.now) c.args.old.now.pos.now (lengths_in c.args.self.now.lengths.items) c.args.v
 value c =
-    let are : ArePlaces c.args.mesh.now (plan c.args.t.now) c.self.inside.tables =
-    subst (λ (s : PlaceTables). ArePlaces c.args.mesh.now (plan c.args.t.now) s) (sym c.self.view_is) c.requires.places in
-    c.place_there.ensures (plan c.args.t.now) (lengths_in c.self.inside.tables.lengths.items) c.args.v (c.find.ensures c.args.mesh.now are)
-    ∙ ap (λ (s : PlaceTables). new_place c.args.mesh.now (plan c.args.t.now) c.args.pos.now (lengths_in s.lengths.items) c.args.v) c.self.view_is
+    let are : ArePlaces c.args.old.now.mesh.now (plan c.args.old.now.t.now) c.self.inside.tables =
+    subst (λ (s : PlaceTables). ArePlaces c.args.old.now.mesh.now (plan c.args.old.now.t.now) s) (sym c.self.view_is) c.requires.places in
+    c.place_there.ensures (plan c.args.old.now.t.now) (lengths_in c.self.inside.tables.lengths.items) c.args.v (c.find.ensures c.args.old.now.mesh.now are)
+    ∙ ap (λ (s : PlaceTables). new_place c.args.old.now.mesh.now (plan c.args.old.now.t.now) c.args.old.now.pos.now (lengths_in s.lengths.items) c.args.v) c.self.view_is
 
 pub returns-clause-value : goal.returns-clause-value
 returns-clause-value c = value c
 
 pub returns-clause-between : goal.returns-clause-between
 returns-clause-between c =
-    subst (LiesBetween c.args.pos.now) (sym (value c))
-    (lies_between c.args.mesh.now (plan c.args.t.now) c.args.self.now c.requires.places c.args.pos.now c.args.v c.requires.positions c.requires.vertex)
+    subst (LiesBetween c.args.old.now.pos.now) (sym (value c))
+    (lies_between c.args.old.now.mesh.now (plan c.args.old.now.t.now) c.args.self.now c.requires.places c.args.old.now.pos.now c.args.v c.requires.positions c.requires.vertex)
