@@ -43,12 +43,7 @@ fn main(rt: HostRuntime) -> io::Result<ExitCode> {
         }
         return Ok(ExitCode::from(0));
     };
-    let task = match name.as_str() {
-        "graph" => Task::Graph,
-        "nest" => Task::DualOk(Shape::Nest),
-        "tree" => Task::DualOk(Shape::Tree),
-        _ => Task::DualOk(Shape::Comb),
-    };
+    let task = task_named(name.as_str());
     let times = match words.next() {
         Some(word) => word.parse::<u32>().unwrap_or(1),
         None => 1,
@@ -56,4 +51,13 @@ fn main(rt: HostRuntime) -> io::Result<ExitCode> {
     let told = run(rt.alloc(), &net, &x, task, times)?;
     println!(rt; "{told}")?;
     Ok(ExitCode::from(0))
+}
+
+fn task_named(name: &str) -> Task {
+    match name {
+        "graph" => Task::Graph,
+        "nest" => Task::DualOk(Shape::Nest),
+        "tree" => Task::DualOk(Shape::Tree),
+        _ => Task::DualOk(Shape::Comb),
+    }
 }

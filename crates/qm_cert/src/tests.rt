@@ -7,7 +7,7 @@ use crate::accepts;
 use def_flow::{Cert, CertVerdict, MAX_TANGLE};
 use def_matching::{Dual, Verdict};
 use qm_net::{is_within_bounds, tangle_of};
-use qm_nettext::{FIVE_SHAPES, FLAPS, QUAD, TREBLED, read_net};
+use qm_nettext::{CUBE, FIVE_SHAPES, FLAPS, QUAD, TREBLED, read_net};
 use std::alloc::Global;
 use std::process::Abort;
 use std::test::Fail;
@@ -172,21 +172,6 @@ const FLAPS_UP: [u32; 152] = [
     0, 0, 0, 5, 0, 0, 0, 0, 0, 0, 0, 1, 1, 0, 0, 0, 0, 0, 0, 2, 2, 0, 0, 0, 0, 0, 0, 3, 3, 0, 0, 0,
     0, 0, 0, 4, 4, 0, 0, 0, 0, 0, 0, 0, 0, 0, 0, 5, 5, 0, 0, 0, 0, 0, 0, 0,
 ];
-
-/// A cube of three by three faces a side, at half its size.
-const CUBE: &str = "net nodes 12 arcs 12 floor 1 scale 1/2
-arc 3 1 0 + 8 +
-arc 3 1 1 + 6 +
-arc 3 1 0 - 4 +
-arc 3 1 1 - 10 +
-arc 3 1 2 + 4 -
-arc 3 1 3 + 6 -
-arc 3 1 2 - 8 -
-arc 3 1 3 - 10 -
-arc 3 1 5 + 7 -
-arc 3 1 5 - 11 +
-arc 3 1 7 + 9 -
-arc 3 1 9 + 11 -";
 
 /// Numbers that only the edge inside a unit with like signs has too great a load for.
 const CUBE_Y: [i64; 56] = [

@@ -3,12 +3,14 @@
 #![tactic(auto)]
 
 mod left;
+mod rounds;
 
-use crate::left::{deviation_of, searches_left};
+use crate::left::deviation_of;
+use crate::rounds::descend;
 use def_flow::MAX_TANGLE;
 use qm_net::{is_within_bounds, tangle_of};
 use qm_nettext::{NetFail, read_net};
-use qm_solve::{first_descent, is_start, start_of, turn};
+use qm_solve::{first_descent, is_start, start_of};
 use std::io;
 use std::process::ExitCode;
 use std::time::{Duration, Instant};
@@ -42,29 +44,23 @@ fn main(rt: HostRuntime) -> io::Result<ExitCode> {
         "tangle: {tangle}\nstart: {}",
         deviation_of(&net, &descent.x)
     )?;
-    let (mut rounds, mut left, mut turning) = (0u64, 0u64, Duration::ZERO);
-    let sets = loop {
-        rounds = rounds.saturating_add(1);
-        left = left.saturating_add(searches_left(rt.alloc(), &net, &descent)?);
-        let begun = Instant::now(&rt)?;
-        let found = turn(rt.alloc(), &net, &mut descent)?;
-        turning = turning.saturating_add(begun.elapsed(&rt)?);
-        if let Some(dual) = found {
-            break dual.z.len();
-        }
-    };
+    let rounds = descend(&rt, &net, &mut descent)?;
     let least = deviation_of(&net, &descent.x);
-    println!(rt; "rounds: {rounds}\nsearches left: {left}\nsets: {sets}\nleast: {least}")?;
-    for (name, time) in [
-        ("reading", reading),
-        ("start", starting),
-        ("rounds", turning),
-    ] {
-        eprintln!(rt;
-            "{name} seconds: {}.{:06}",
-            time.as_secs(),
-            time.subsec_micros()
-        )?;
-    }
+    println!(rt;
+        "rounds: {}\nsearches left: {}\nsets: {}\nleast: {least}",
+        rounds.count, rounds.left, rounds.sets
+    )?;
+    tell_seconds(&rt, "reading", reading)?;
+    tell_seconds(&rt, "start", starting)?;
+    tell_seconds(&rt, "rounds", rounds.turning)?;
     Ok(ExitCode::from(0))
+}
+
+/// Tells how long a part took.
+fn tell_seconds(rt: &HostRuntime, name: &str, time: Duration) -> io::Result<()> {
+    eprintln!(rt;
+        "{name} seconds: {}.{:06}",
+        time.as_secs(),
+        time.subsec_micros()
+    )
 }

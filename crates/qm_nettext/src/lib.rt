@@ -11,5 +11,5 @@ mod write;
 pub use edges::edge_lines;
 pub use fail::NetFail;
 pub use read::read_net;
-pub use samples::{FIVE_SHAPES, FLAPS, MIXED, QUAD, TREBLED};
+pub use samples::{CUBE, FIVE_SHAPES, FLAPS, MIXED, QUAD, TREBLED};
 pub use write::net_text;

@@ -52,3 +52,18 @@ arc 2 1 9 - rim
 arc 6 1 10 - rim
 arc 2 1 11 + rim
 arc 2 1 11 - rim";
+
+/// A cube of three by three faces a side, at half its size.
+pub const CUBE: &str = "net nodes 12 arcs 12 floor 1 scale 1/2
+arc 3 1 0 + 8 +
+arc 3 1 1 + 6 +
+arc 3 1 0 - 4 +
+arc 3 1 1 - 10 +
+arc 3 1 2 + 4 -
+arc 3 1 3 + 6 -
+arc 3 1 2 - 8 -
+arc 3 1 3 - 10 -
+arc 3 1 5 + 7 -
+arc 3 1 5 - 11 +
+arc 3 1 7 + 9 -
+arc 3 1 9 + 11 -";

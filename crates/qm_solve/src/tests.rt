@@ -14,24 +14,9 @@ use def_matching::{WEdge, WGraph};
 use qm_gadget::{graph_of, matching_of};
 use qm_match::{best, is_perfect};
 use qm_net::{admissible, are_lengths, deviation, is_within_bounds, tangle_of};
-use qm_nettext::{FLAPS, QUAD, TREBLED, read_net};
+use qm_nettext::{CUBE, FLAPS, QUAD, TREBLED, read_net};
 use std::alloc::Global;
 use std::test::Fail;
-
-/// A cube of three by three faces a side, at half its size.
-const CUBE: &str = "net nodes 12 arcs 12 floor 1 scale 1/2
-arc 3 1 0 + 8 +
-arc 3 1 1 - 10 +
-arc 3 1 1 + 6 +
-arc 3 1 0 - 4 +
-arc 3 1 2 + 4 -
-arc 3 1 3 - 10 -
-arc 3 1 3 + 6 -
-arc 3 1 2 - 8 -
-arc 3 1 5 - 11 +
-arc 3 1 5 + 7 -
-arc 3 1 7 + 9 -
-arc 3 1 9 + 11 -";
 
 /// Two sheets of three by three faces with one rim, at a third of their size.
 const PILLOW: &str = "net nodes 4 arcs 4 floor 1 scale 1/3

@@ -1,0 +1,47 @@
+//! The rounds of a descent, counted and timed.
+
+ghost use Rattle.std.specs.Prelude.{◌≤◌, OnOk};
+ghost use Rattle.def_flow.specs.Network.{network, tangle_number, IsWithinBounds};
+ghost use Rattle.def_flow.specs.Descent.{IsStartOf};
+
+use crate::left::searches_left;
+use def_flow::{MAX_STEP, MAX_TANGLE, Net};
+use qm_solve::{Descent, turn};
+use std::io;
+use std::time::{Duration, Instant};
+
+/// How many rounds there were, how many searches their first duals left, how many sets the last dual has, and how long
+/// the rounds took.
+#[derive(Clone, Copy, Debug)]
+pub(crate) struct Rounds {
+    pub(crate) count: u64,
+    pub(crate) left: u64,
+    pub(crate) sets: usize,
+    pub(crate) turning: Duration,
+}
+
+/// Turns a descent until its list is least.
+pub(crate) fn descend(rt: &HostRuntime, net: &Net, descent: &mut Descent) -> io::Result<Rounds>
+    requires bounds { IsWithinBounds (network net.now) }
+    requires tangle { tangle_number (network net.now) ≤ MAX_TANGLE }
+    requires start { IsStartOf (network net.now) descent.old.x.items }
+    requires step { (1 ≤ descent.old.step) × (descent.old.step ≤ MAX_STEP) }
+    ensures { OnOk result (IsStartOf (network net.now) descent.new.x.items) }
+{
+    let (mut count, mut left, mut turning) = (0u64, 0u64, Duration::ZERO);
+    loop {
+        count = count.saturating_add(1);
+        left = left.saturating_add(searches_left(rt.alloc(), net, descent)?);
+        let begun = Instant::now(rt)?;
+        let found = turn(rt.alloc(), net, descent)?;
+        turning = turning.saturating_add(begun.elapsed(rt)?);
+        if let Some(dual) = found {
+            return Ok(Rounds {
+                count,
+                left,
+                sets: dual.z.len(),
+                turning,
+            });
+        }
+    }
+}
