@@ -2,6 +2,7 @@
 #![tactic(auto)]
 
 use def_flow::{Cert, Settings};
+use std::alloc::AllocError;
 use thiserror::Error;
 
 /// `x`, before a length.
@@ -58,4 +59,15 @@ pub enum CertFail {
     Line { line: u32 },
     #[error("out of memory")]
     Memory,
+}
+
+impl From<AllocError> for CertFail {
+    ghost use Rattle.std.specs.Prelude.{◌≡◌};
+    ghost use Rattle.def_certtext.specs.declared.CertFail.TheVariants.{Memory};
+
+    ghost from_gives = { λ _ e. e ≡ Memory };
+
+    fn from(_: AllocError) -> CertFail {
+        CertFail::Memory
+    }
 }

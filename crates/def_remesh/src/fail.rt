@@ -1,5 +1,6 @@
 //! Why there is no new mesh.
 
+use std::alloc::AllocError;
 use thiserror::Error;
 
 /// Why a layout with lengths has no new mesh.
@@ -13,4 +14,15 @@ pub enum StitchFail {
     Doubled { u: u32, v: u32 },
     #[error("out of memory")]
     Memory,
+}
+
+impl From<AllocError> for StitchFail {
+    ghost use Rattle.std.specs.Prelude.{◌≡◌};
+    ghost use Rattle.def_remesh.specs.declared.fail.StitchFail.TheVariants.{Memory};
+
+    ghost from_gives = { λ _ e. e ≡ Memory };
+
+    fn from(_: AllocError) -> StitchFail {
+        StitchFail::Memory
+    }
 }

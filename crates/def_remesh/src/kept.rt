@@ -1,6 +1,7 @@
 //! The lengths that a remesh keeps, and why a layout is not remeshed.
 
 use def_flow::Cert;
+use std::alloc::AllocError;
 use thiserror::Error;
 
 /// The lengths by which a new mesh is too fine.
@@ -25,4 +26,15 @@ pub enum LayoutFail {
     Doubled { u: u32, v: u32, cert: Cert },
     #[error("out of memory")]
     Memory,
+}
+
+impl From<AllocError> for LayoutFail {
+    ghost use Rattle.std.specs.Prelude.{◌≡◌};
+    ghost use Rattle.def_remesh.specs.declared.kept.LayoutFail.TheVariants.{Memory};
+
+    ghost from_gives = { λ _ e. e ≡ Memory };
+
+    fn from(_: AllocError) -> LayoutFail {
+        LayoutFail::Memory
+    }
 }

@@ -1,5 +1,6 @@
 //! Why words are no command.
 
+use std::alloc::AllocError;
 use thiserror::Error;
 
 /// Why no command was read.
@@ -9,4 +10,15 @@ pub enum WordsFail {
     Usage,
     #[error("out of memory")]
     Memory,
+}
+
+impl From<AllocError> for WordsFail {
+    ghost use Rattle.std.specs.Prelude.{◌≡◌};
+    ghost use Rattle.def_run.specs.declared.words.WordsFail.TheVariants.{Memory};
+
+    ghost from_gives = { λ _ e. e ≡ Memory };
+
+    fn from(_: AllocError) -> WordsFail {
+        WordsFail::Memory
+    }
 }

@@ -3,6 +3,7 @@
 ghost use Rattle.std.specs.Prelude.{◌≡◌};
 
 use def_io::ReadFail;
+use std::alloc::AllocError;
 use thiserror::Error;
 
 /// The limit that a text exceeds.
@@ -27,6 +28,17 @@ pub enum ObjFail {
     Limit { which: Which, line: u32 },
     #[error("out of memory")]
     Memory,
+}
+
+impl From<AllocError> for ObjFail {
+    ghost use Rattle.std.specs.Prelude.{◌≡◌};
+    ghost use Rattle.def_text.specs.declared.refusal.ObjFail.TheVariants.{Memory};
+
+    ghost from_gives = { λ _ e. e ≡ Memory };
+
+    fn from(_: AllocError) -> ObjFail {
+        ObjFail::Memory
+    }
 }
 
 /// Why a source gives no soup.

@@ -26,14 +26,8 @@ pub fn read_written(alloc: Global, lines: &Lines, first: u32) -> Result<Written,
     let Some(asked) = read_head(lines.line(first)) else {
         return Err(CertFail::Head);
     };
-    let found = match read_behind(alloc, lines, first, asked.auto) {
-        Ok(found) => found,
-        Err(fail) => return Err(fail),
-    };
-    match written_of(asked, found) {
-        Ok(written) => Ok(written),
-        Err(_) => Err(CertFail::Memory),
-    }
+    let found = read_behind(alloc, lines, first, asked.auto)?;
+    Ok(written_of(asked, found)?)
 }
 
 /// What the lines behind line `first` say, in a text of `auto` or not.
@@ -45,10 +39,7 @@ fn read_behind(alloc: Global, lines: &Lines, first: u32, auto: bool) -> Result<F
     let mut found = Found::new(alloc);
     let count = lines.count();
     for i in first + 1..count {
-        match take_text(alloc, &mut found, lines.line(i), auto, i + 1) {
-            Ok(()) => {}
-            Err(fail) => return Err(fail),
-        }
+        take_text(alloc, &mut found, lines.line(i), auto, i + 1)?;
     }
     Ok(found)
 }
@@ -67,13 +58,11 @@ fn take_text(
     if !is_marked(line) {
         return Ok(());
     }
-    match read_line(line, auto) {
-        Some(said) => match found.take(alloc, said) {
-            Ok(()) => Ok(()),
-            Err(_) => Err(CertFail::Memory),
-        },
-        None => Err(CertFail::Line { line: number }),
-    }
+    let Some(said) = read_line(line, auto) else {
+        return Err(CertFail::Line { line: number });
+    };
+    found.take(alloc, said)?;
+    Ok(())
 }
 
 fn is_marked(line: &[u8]) -> bool

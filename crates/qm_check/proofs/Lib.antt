@@ -1,7 +1,6 @@
 mod Aligned
 mod Counted
 mod Differences
-mod Handed
 mod Kept
 mod OldTexts
 mod Reach

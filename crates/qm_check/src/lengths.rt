@@ -35,7 +35,12 @@ pub(crate) enum Lengths {
 }
 
 /// Checks a certificate, and numbers the new mesh that its lengths give.
-pub(crate) fn check_lengths(alloc: Global, t: &TMesh, net: &Net, cert: &Cert) -> Result<Lengths, CheckFail>
+pub(crate) fn check_lengths(
+    alloc: Global,
+    t: &TMesh,
+    net: &Net,
+    cert: &Cert,
+) -> Result<Lengths, CheckFail>
     requires net { (settings : AnySettings) × IsNetFor (plan_of t.now) settings (network net.now) }
     requires cert { IsInReach (lists_of cert.now) }
     ensures solved { OnOk result (IsSolution (network net.now) (certificate cert.now)) }

@@ -1,8 +1,8 @@
 //! The checker of pairs: whether a text is one with a mesh and, behind it, the text of a finished remesh of this mesh.
 #![tactic(auto)]
 
-mod comparing;
 mod certificates;
+mod comparing;
 mod lengths;
 mod old;
 mod pair;

@@ -10,8 +10,8 @@ ghost use Rattle.def_text.specs.declared.limits.TheConstants.{MAX_BYTES};
 ghost use Rattle.qm_check.specs.Ready.{IsOld, IsReady, Tells, TellsNothing};
 ghost use Rattle.def_run.specs.CheckFails.{IsCheckFail};
 
-use crate::comparing::compare;
 use crate::certificates::check_written;
+use crate::comparing::compare;
 use crate::old::{Old, read_old};
 use crate::ready::{Ready, ready_of};
 use def_certtext::{CertFail, Written};

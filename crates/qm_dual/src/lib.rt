@@ -11,3 +11,4 @@ mod sums;
 mod tests;
 
 pub use check::{Memory, dual_ok};
+pub use def_matching::{Dual, Verdict, WEdge, WGraph};

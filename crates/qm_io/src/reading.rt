@@ -11,6 +11,7 @@ use crate::traits::{Memory, Source};
 use def_io::ReadFail;
 use std::alloc::Global;
 
+/// How many bytes one read gives at most.
 const BUFFER: usize = 65_536;
 
 /// Reads a source to its end, at most `limit` bytes, and finds the lines. Linear in the bytes.
@@ -26,7 +27,7 @@ pub fn read_lines<S: Source>(alloc: Global, src: &mut S, limit: u32) -> Result<L
         GaveMore limit (S.left src.old) (S.left src.new) × (S.faults src.new ≡ S.faults src.old) }
 {
     let bytes = read_bytes(alloc, src, limit)?;
-    let ends = ends_of(alloc, &bytes).map_err(|_| ReadFail::Memory)?;
+    let ends = ends_of(alloc, &bytes)?;
     Ok(Lines { bytes, ends })
 }
 
@@ -41,7 +42,7 @@ fn read_bytes<S: Source>(alloc: Global, src: &mut S, limit: u32) -> Result<Vec<u
     ensures too_long { IsErrOf result ReadFail.TooLong →
         GaveMore limit (S.left src.old) (S.left src.new) × (S.faults src.new ≡ S.faults src.old) }
 {
-    let mut buffer = empty_buffer(alloc).map_err(|_| ReadFail::Memory)?;
+    let mut buffer = read_buffer(alloc)?;
     let mut bytes = Vec::new(alloc);
     'pieces: loop {
         if read_piece(src, &mut buffer, &mut bytes)? == 0 {
@@ -53,7 +54,8 @@ fn read_bytes<S: Source>(alloc: Global, src: &mut S, limit: u32) -> Result<Vec<u
     }
 }
 
-fn empty_buffer(alloc: Global) -> Result<Vec<u8>, Memory>
+/// A buffer for what one read gives, of 64 KiB.
+pub fn read_buffer(alloc: Global) -> Result<Vec<u8>, Memory>
     ensures { IfOk result (λ buffer. 0 < length buffer.items) }
 {
     let buffer = vec![in alloc; 0u8; BUFFER]?;
@@ -74,9 +76,7 @@ fn read_piece<S: Source>(
     ensures fault { IsErrOf result ReadFail.Fault → Rose (S.faults src.old) (S.faults src.new) }
     ensures short { IsErrOf result ReadFail.TooLong → ⊥ }
 {
-    let count = src.read(buffer).map_err(|_| ReadFail::Fault)?;
-    bytes
-        .extend_from_slice(&buffer[..count])
-        .map_err(|_| ReadFail::Memory)?;
+    let count = src.read(buffer)?;
+    bytes.extend_from_slice(&buffer[..count])?;
     Ok(count)
 }

@@ -4,6 +4,7 @@ ghost use Rattle.std.specs.Prelude.{◌≡◌, ◌≤◌, ◌<◌, ℕ, List, Op
 ghost use Rattle.def_io.specs.Faults.{HasCause};
 ghost use Rattle.def_io.specs.Moves.{gave, took, IsEmptied};
 
+use def_io::{ReadFail, WriteFail};
 use std::alloc::AllocError;
 use thiserror::Error;
 
@@ -14,6 +15,28 @@ pub type Memory = AllocError;
 #[derive(Clone, Copy, Debug, PartialEq, Eq, Error)]
 #[error("a stream failed")]
 pub struct Failed;
+
+impl From<Failed> for WriteFail {
+    ghost use Rattle.std.specs.Prelude.{◌≡◌};
+    ghost use Rattle.def_io.specs.declared.fails.WriteFail.TheVariants.{Fault};
+
+    ghost from_gives = { λ _ e. e ≡ Fault };
+
+    fn from(_: Failed) -> WriteFail {
+        WriteFail::Fault
+    }
+}
+
+impl From<Failed> for ReadFail {
+    ghost use Rattle.std.specs.Prelude.{◌≡◌};
+    ghost use Rattle.def_io.specs.declared.fails.ReadFail.TheVariants.{Fault};
+
+    ghost from_gives = { λ _ e. e ≡ Fault };
+
+    fn from(_: Failed) -> ReadFail {
+        ReadFail::Fault
+    }
+}
 
 /// Where bytes come from.
 pub trait Source {

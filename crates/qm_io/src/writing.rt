@@ -30,8 +30,5 @@ fn write_some<K: Sink>(sink: &mut K, piece: &[u8]) -> Result<usize, WriteFail>
     ensures still { OnErr result (K.taken sink.new ≡ K.taken sink.old) }
     ensures cause { HasCause (K.faults sink.old) (K.faults sink.new) result }
 {
-    match sink.write(piece) {
-        Ok(count) => Ok(count),
-        Err(_) => Err(WriteFail::Fault),
-    }
+    Ok(sink.write(piece)?)
 }

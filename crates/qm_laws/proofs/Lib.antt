@@ -1,6 +1,7 @@
 pub mod Counts
 pub mod Ends
 pub mod Entries
+pub mod Errors
 pub mod Filters
 pub mod Searches
 pub mod Sums

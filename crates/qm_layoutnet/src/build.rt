@@ -33,12 +33,8 @@ pub fn net_of(alloc: Global, t: &TMesh, set: &Settings) -> Result<Net, NetFail>
     ensures small { IfOk result (λ net. tangle_number (network net) ≤ MAX_TANGLE) }
     ensures tangled { IfErr result (HasNoNet (layout_of (plan t.now)) (long_at (plan t.now).arcs) set.now) }
 {
-    let Ok(net) = any_net_of(alloc, t, set) else {
-        return Err(NetFail::Memory);
-    };
-    let Ok(tangle) = tangle_of(alloc, &net) else {
-        return Err(NetFail::Memory);
-    };
+    let net = any_net_of(alloc, t, set)?;
+    let tangle = tangle_of(alloc, &net)?;
     if tangle > u128::from(MAX_TANGLE) {
         return Err(NetFail::Tangled {
             count: tangle as u64,

@@ -1,6 +1,6 @@
 -- Lines and pieces that are taken one by one, and what is then kept.
-use Rattle.std.proofs.Common.{◌≡◌, ℕ, ◌+◌, ◌-◌, ◌<◌, ◌≤◌, true, false, eqb, ltb, List, [], ◌∷◌, ◌++◌, length, refl, sym, ap, ◌∙◌, subst, arith, Option, Some, None, Result, Ok, Err}
-use Rattle.std.specs.Prelude.{IfErr, IsErrAnd, is_some}
+use Rattle.std.proofs.Common.{◌≡◌, ℕ, ◌+◌, ◌-◌, ◌<◌, ◌≤◌, true, false, eqb, ltb, List, [], ◌∷◌, ◌++◌, length, refl, sym, ap, ◌∙◌, arith, Option, Some, None, Result, Err}
+use Rattle.std.specs.Prelude.{is_some}
 use Rattle.std.specs.List.{list_any}
 use Rattle.std.proofs.lemmas.Bool.{eqb-true, false≢true, lt-ltb, or_from}
 use Rattle.std.proofs.lemmas.List.{append-nil, append_assoc, length-append}
@@ -24,11 +24,6 @@ use Rattle.qm_obj.proofs.PrefixLemmas.{BeginsWith, bare_more, begins_behind, beh
 use Rattle.qm_obj.proofs.JoinLemmas.{length-with_space}
 use Rattle.qm_obj.proofs.KeptLemmas.{Fits, Follows, line_taken, stops_at}
 use Rattle.qm_obj.proofs.TailLemmas.{FirstLine, count_append, count_none, first_line, lines_fed, lines_open}
-
--- An error that is passed on.
-pub passed_on : {T E : Type 0} (P : E → Type 0) (r : Result T E) (fail : E) → P fail → IsErrAnd r (λ e. e ≡ fail) → IfErr r P
-passed_on P (Ok x) fail holds is = tt
-passed_on P (Err e) fail holds is = subst P (sym is) holds
 
 -- Whether bytes are empty, by their number.
 pub is_nothing : (xs : Bytes) (n : ℕ) → true ≡ eqb n 0 → n ≡ length xs → xs ≡ []

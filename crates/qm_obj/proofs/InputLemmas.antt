@@ -1,6 +1,5 @@
 -- Texts that were read whole, their soups and their refusals.
-use Rattle.std.proofs.Common.{◌≡◌, ◌≢◌, ◌≤◌, ℕ, ◌+◌, ◌-◌, ◌++◌, Result, Ok, Err, refl, sym, ◌∙◌, subst, arith}
-use Rattle.std.specs.Prelude.{IsErrAnd, IsErrOf, IfErr}
+use Rattle.std.proofs.Common.{◌≡◌, ◌≢◌, ◌≤◌, ℕ, ◌+◌, ◌-◌, ◌++◌, Err, refl, arith}
 use Rattle.std.proofs.lemmas.List.{length-append}
 use Rattle.def_feed.specs.Feed.{Fed}
 use Rattle.def_io.specs.Bytes.{Bytes, Told}
@@ -10,27 +9,14 @@ use Rattle.def_text.specs.Input.{IsSoupFail, ReadWhole}
 use Rattle.def_text.specs.Text.{soup_in}
 use Rattle.def_text.specs.declared.refusal.ObjFail.{ObjFail}
 use Rattle.def_text.specs.declared.refusal.ObjFail.TheVariants.{Memory}
-use Rattle.def_text.specs.declared.refusal.SoupFail.{SoupFail}
 use Rattle.qm_io.proofs.Moved.{gave_more}
 use Rattle.qm_obj.specs.Feeding.{FedPiece, FedTo, FedWhole}
 
 -- A refusal of the text is one of its soup.
-refused : (limit : ℕ) (source : Change) (bytes : Bytes) (fail : ObjFail) → ReadWhole limit source.told source.told_now bytes
+pub refused : (limit : ℕ) (source : Change) (bytes : Bytes) (fail : ObjFail) → ReadWhole limit source.told source.told_now bytes
     → source.faults_now ≡ source.faults → (fail ≢ Memory → soup_in bytes ≡ Err fail) → IsSoupFail limit source (of_obj fail)
 refused limit source bytes Memory whole calm said = tt
 refused limit source bytes _ whole calm said = (record { bytes = bytes; whole = whole; said = said (λ e. cc) }, λ e. cc, calm)
-
-pub soup_refused : {T : Type 0} (limit : ℕ) (source : Change) (bytes : Bytes) (fail : ObjFail) (result : Result T SoupFail)
-    → ReadWhole limit source.told source.told_now bytes → source.faults_now ≡ source.faults
-    → (fail ≢ Memory → soup_in bytes ≡ Err fail) → IsErrAnd result (λ e. e ≡ of_obj fail) → IfErr result (IsSoupFail limit source)
-soup_refused limit source bytes fail (Ok x) whole calm said is = tt
-soup_refused limit source bytes fail (Err e) whole calm said is =
-    subst (IsSoupFail limit source) (sym is) (refused limit source bytes fail whole calm said)
-
--- An error that is passed on is the one that came.
-pub error_on : {T E : Type 0} (r : Result T E) (fail error : E) (P : Type 0) → (fail ≡ error → P) → IsErrAnd r (λ e. e ≡ fail) → IsErrOf r error → P
-error_on (Ok x) fail error P holds is said = absurd (cc said)
-error_on (Err e) fail error P holds is said = let same : e ≡ error = cc said in holds (sym is ∙ same)
 
 -- A source gave one piece more to a feed.
 pub fed_more : (before mid now : Told) (old new : Fed) (count more : ℕ) → FedTo before mid count old → FedPiece mid now old new more → FedTo before now (count + more) new

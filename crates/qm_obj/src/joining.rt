@@ -105,7 +105,8 @@ fn make_room(bytes: &mut Vec<u8>) -> Result<(), ObjFail>
     if bytes.capacity() > 0 {
         return Ok(());
     }
-    bytes.reserve(MAX_LINE + 1).map_err(|_| ObjFail::Memory)
+    bytes.reserve(MAX_LINE + 1)?;
+    Ok(())
 }
 
 /// Puts bytes behind others.
@@ -114,7 +115,8 @@ pub(crate) fn append(bytes: &mut Vec<u8>, more: &[u8]) -> Result<(), ObjFail>
     ensures memory { IfErr result (λ fail. fail ≡ ObjFail.Memory) }
 {
     make_room(bytes)?;
-    bytes.extend_from_slice(more).map_err(|_| ObjFail::Memory)
+    bytes.extend_from_slice(more)?;
+    Ok(())
 }
 
 /// The same with a line that goes on, and a space for its backslash.
@@ -123,5 +125,6 @@ pub(crate) fn append_spaced(bytes: &mut Vec<u8>, line: &[u8]) -> Result<(), ObjF
     ensures memory { IfErr result (λ fail. fail ≡ ObjFail.Memory) }
 {
     make_room(bytes)?;
-    push_spaced(bytes, line).map_err(|_| ObjFail::Memory)
+    push_spaced(bytes, line)?;
+    Ok(())
 }

@@ -27,10 +27,7 @@ pub fn read_obj(alloc: Global, lines: &Lines, first: u32, after: u32) -> Result<
     let mut reader = Reader::new(alloc);
     let mut i = first;
     while i < after {
-        match take_logical(alloc, &mut reader, lines, i, after) {
-            Ok(next) => i = next,
-            Err(fail) => return Err(fail),
-        }
+        i = take_logical(alloc, &mut reader, lines, i, after)?;
     }
     reader.finish(alloc)
 }
@@ -61,10 +58,8 @@ fn take_logical(
     if goes_on(line) {
         return take_joined(alloc, reader, lines, i, after);
     }
-    match reader.take(i + 1, line.len(), line) {
-        Ok(()) => Ok(i + 1),
-        Err(fail) => Err(fail),
-    }
+    reader.take(i + 1, line.len(), line)?;
+    Ok(i + 1)
 }
 
 fn take_joined(
@@ -88,11 +83,7 @@ fn take_joined(
         next_said reader.old.positions.items reader.old.faces.items
         (first_logical (i + 1) (slice_range (lines_of lines.now) i after)) ≡ Refused fail) }
 {
-    let Ok(joined) = join(alloc, lines, i, after) else {
-        return Err(ObjFail::Memory);
-    };
-    match reader.take(i + 1, joined.size, &joined.bytes) {
-        Ok(()) => Ok(joined.next),
-        Err(fail) => Err(fail),
-    }
+    let joined = join(alloc, lines, i, after)?;
+    reader.take(i + 1, joined.size, &joined.bytes)?;
+    Ok(joined.next)
 }

@@ -7,6 +7,7 @@ ghost use Rattle.def_text.specs.Text.{face_set};
 ghost use Rattle.qm_obj.specs.Kept.{first_late, IsLate};
 ghost use Rattle.qm_obj.specs.Lines.{next_said, Took, uncommented};
 
+use crate::Memory;
 use crate::line::read_line;
 use crate::used::{late_line, soup_of};
 use def_text::{MAX_FACES, MAX_VERTICES, Micro, ObjFail, Reading, Soup};
@@ -67,8 +68,8 @@ impl Reader {
         ensures lines { self.new.lines ≡ self.old.lines }
         ensures memory { IfErr result (λ fail. fail ≡ ObjFail.Memory) }
     {
-        make_room(&mut self.positions, MAX_VERTICES as usize)?;
-        self.positions.push(position).map_err(|_| ObjFail::Memory)
+        push(&mut self.positions, position, MAX_VERTICES as usize)?;
+        Ok(())
     }
 
     fn keep_face(&mut self, line: u32, corners: [u32; 4]) -> Result<(), ObjFail>
@@ -77,10 +78,9 @@ impl Reader {
         ensures lines { OnOk result (self.new.lines.items ≡ self.old.lines.items ++ line ∷ []) }
         ensures memory { IfErr result (λ fail. fail ≡ ObjFail.Memory) }
     {
-        make_room(&mut self.faces, MAX_FACES as usize)?;
-        make_room(&mut self.lines, MAX_FACES as usize)?;
-        self.faces.push(corners).map_err(|_| ObjFail::Memory)?;
-        self.lines.push(line).map_err(|_| ObjFail::Memory)
+        push(&mut self.faces, corners, MAX_FACES as usize)?;
+        push(&mut self.lines, line, MAX_FACES as usize)?;
+        Ok(())
     }
 
     /// The soup of all lines that were taken, or the refusal of the first face that names no position.
@@ -102,27 +102,22 @@ impl Reader {
         if let Some(line) = late_line(positions.len() as u32, &faces, &lines) {
             return Err(ObjFail::Range { line });
         }
-        match soup_of(alloc, positions, faces) {
-            Ok(soup) => Ok(soup),
-            Err(_) => Err(ObjFail::Memory),
-        }
+        Ok(soup_of(alloc, positions, faces)?)
     }
 }
 
 /// The entries of a table that is no longer small.
 const MANY: usize = 65_536;
 
-/// Where a table that is no longer small is full, takes all the room that it may need. A page of memory counts once it
-/// is written, and the entries are copied no more.
-fn make_room<T>(table: &mut Vec<T>, most: usize) -> Result<(), ObjFail>
-    ensures same { table.new.items ≡ table.old.items }
-    ensures memory { IfErr result (λ fail. fail ≡ ObjFail.Memory) }
+/// Puts an entry at the end of a table. Where one that is no longer small is full, it takes all the room that it may
+/// need. A page of memory counts once it is written, and the entries are copied no more.
+fn push<T: Drop>(table: &mut Vec<T>, entry: T, most: usize) -> Result<(), Memory>
+    ensures { OnOk result (table.new.items ≡ table.old.items ++ entry ∷ []) }
 {
     let len = table.len();
-    if len < MANY || len < table.capacity() {
-        return Ok(());
+    if len >= MANY && len < most && len == table.capacity() {
+        table.reserve(most - len)?;
     }
-    table
-        .reserve(most.saturating_sub(len))
-        .map_err(|_| ObjFail::Memory)
+    table.push(entry)?;
+    Ok(())
 }

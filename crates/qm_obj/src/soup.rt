@@ -12,10 +12,8 @@ use crate::Memory;
 use crate::feed::ObjFeed;
 use def_io::ReadFail;
 use def_text::{MAX_BYTES, MAX_FACES, MAX_VERTICES, Soup, SoupFail};
-use qm_io::Source;
+use qm_io::{Source, read_buffer};
 use std::alloc::Global;
-
-const BUFFER: usize = 65_536;
 
 /// Reads a source to its end, at most `limit` bytes, and answers the soup of its text. Linear. The text is read as it
 /// comes, and no more of it is kept than a line.
@@ -42,7 +40,7 @@ fn feed_of<S: Source>(alloc: Global, src: &mut S, limit: u32) -> Result<ObjFeed,
     ensures too_long { IsErrOf result ReadFail.TooLong →
         GaveMore limit (S.left src.old) (S.left src.new) × (S.faults src.new ≡ S.faults src.old) }
 {
-    let mut buffer = empty_buffer(alloc).map_err(|_| ReadFail::Memory)?;
+    let mut buffer = read_buffer(alloc)?;
     let mut feed = ObjFeed::new(alloc);
     let mut room = limit;
     'pieces: loop {
@@ -52,13 +50,6 @@ fn feed_of<S: Source>(alloc: Global, src: &mut S, limit: u32) -> Result<ObjFeed,
         }
         room -= count;
     }
-}
-
-fn empty_buffer(alloc: Global) -> Result<Vec<u8>, Memory>
-    ensures { IfOk result (λ buffer. 0 < length buffer.items) }
-{
-    let buffer = vec![in alloc; 0u8; BUFFER]?;
-    Ok(buffer)
 }
 
 /// Feeds what one read gives, at most `room` bytes, and says how much it was.
@@ -79,10 +70,10 @@ fn feed_piece<S: Source>(
     ensures too_long { IsErrOf result ReadFail.TooLong →
         GaveMore room (S.left src.old) (S.left src.new) × (S.faults src.new ≡ S.faults src.old) }
 {
-    let count = src.read(buffer).map_err(|_| ReadFail::Fault)?;
+    let count = src.read(buffer)?;
     if count > room as usize {
         return Err(ReadFail::TooLong);
     }
-    feed.feed(&buffer[..count]).map_err(|_| ReadFail::Memory)?;
+    feed.feed(&buffer[..count])?;
     Ok(count as u32)
 }

@@ -1,32 +1,8 @@
 //! The vertices that some face names.
 
-ghost use Rattle.std.specs.Prelude.{
-  ◌≡◌,
-  ◌≤◌,
-  ◌<◌,
-  ◌-◌,
-  ◌^◌,
-  ◌||◌,
-  ◌&&◌,
-  ◌==◌,
-  ◌++◌,
-  ◌∷◌,
-  [],
-  ◌+◌,
-  ℕ,
-  suc,
-  false,
-  nat_lt,
-  nat_le,
-  length,
-  map,
-  slice_index,
-  slice_index_or,
-  slice_set,
-  IsTrue,
-  IfOk,
-  OnOk,
-};
+ghost use Rattle.std.specs.Prelude.{◌≡◌, ◌≤◌, ◌<◌, ◌-◌, ◌||◌, ◌&&◌, ◌==◌, ◌++◌, ◌∷◌, [], ◌+◌, ℕ};
+ghost use Rattle.std.specs.Prelude.{suc, false, nat_lt, nat_le, length, map};
+ghost use Rattle.std.specs.Prelude.{slice_index, slice_index_or, slice_set, IsTrue, IfOk, OnOk};
 ghost use Rattle.std.specs.List.{list_all, list_any};
 ghost use Rattle.def_text.specs.Text.{face_set, position_of};
 ghost use Rattle.qm_obj.specs.Kept.{are_numbers, chosen, first_late, IsCounted, IsMarked};

@@ -1,6 +1,6 @@
 //! The parameters of the places of sides.
 
-ghost use Rattle.std.specs.Prelude.{◌≡◌, ◌≤◌, ◌<◌, ◌+◌, ◌-◌, ◌*◌, ◌/◌, ◌^◌, ℕ, cond, length, IfOk, OnOk};
+ghost use Rattle.std.specs.Prelude.{◌≡◌, ◌≤◌, ◌<◌, ◌+◌, ◌-◌, ◌*◌, ◌/◌, ℕ, cond, length, IfOk, OnOk};
 ghost use Rattle.def_layout.specs.Arcs.{long_at};
 ghost use Rattle.def_layout.specs.Layouts.{Way};
 ghost use Rattle.def_layout.specs.Lengths.{size};

@@ -42,9 +42,7 @@ pub fn refined_points(
         (IsUnstitched (layout_of (plan_of t.now)) (multiple_of by (long_at (plan_of t.now).arcs))) }
     ensures undoubled { (u v : ℕ) → ¬ IsErrOf result (StitchFail.Doubled u v) }
 {
-    let Ok(lengths) = multiples(alloc, t, by) else {
-        return Err(StitchFail::Memory);
-    };
+    let lengths = multiples(alloc, t, by)?;
     points_of(alloc, mesh, t, &lengths)
 }
 
@@ -69,8 +67,6 @@ fn points_of(
         → (u v : ℕ) → ¬ IsErrOf result (StitchFail.Doubled u v) }
 {
     let numbering = plan(alloc, t, lengths)?;
-    match placer(alloc, mesh, t, lengths) {
-        Ok(places) => Ok(NewPoints { numbering, places }),
-        Err(_) => Err(StitchFail::Memory),
-    }
+    let places = placer(alloc, mesh, t, lengths)?;
+    Ok(NewPoints { numbering, places })
 }

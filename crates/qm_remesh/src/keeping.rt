@@ -23,8 +23,8 @@ use qm_solve::solve;
 use qm_stitch::plan;
 use std::alloc::Global;
 
-/// Finds least lengths for a layout, and numbers the new mesh that they give. With `auto` they are those for floor 1, or
-/// those for floor 3 where the first double an edge.
+/// Finds least lengths for a layout, and numbers the new mesh that they give. With `auto` they are those for floor 1,
+/// or those for floor 3 where the first double an edge.
 ///
 /// The time is that of `solve` and, beyond it, near linear in the sizes of the old and the new mesh.
 pub fn keep(alloc: Global, t: &TMesh, asked: Asked) -> Result<Remesh, LayoutFail>
@@ -40,9 +40,7 @@ pub fn keep(alloc: Global, t: &TMesh, asked: Asked) -> Result<Remesh, LayoutFail
         Err(NetFail::Tangled { count }) => return Err(LayoutFail::Tangled { count }),
         Err(NetFail::Memory) => return Err(LayoutFail::Memory),
     };
-    let Ok(first) = solve(alloc, &net) else {
-        return Err(LayoutFail::Memory);
-    };
+    let first = solve(alloc, &net)?;
     match plan(alloc, t, &first.x) {
         Ok(numbering) => Ok(Remesh {
             asked,
@@ -80,9 +78,7 @@ fn raise(
     ensures refused { IfErr result (IsLayoutFail (plan_of t.now) settings true) }
 {
     let raised = with_floor(net, MAX_FLOOR);
-    let Ok(third) = solve(alloc, &raised) else {
-        return Err(LayoutFail::Memory);
-    };
+    let third = solve(alloc, &raised)?;
     match plan(alloc, t, &third.x) {
         Ok(numbering) => Ok(Remesh {
             asked: Asked {

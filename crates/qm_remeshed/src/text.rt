@@ -21,7 +21,7 @@ use qm_certtext::head_text;
 use qm_output::Output;
 use qm_place::placer;
 use qm_write::{CutMesh, NewPoints, put_new_mesh};
-use std::alloc::Global;
+use std::alloc::{AllocError, Global};
 use thiserror::Error;
 
 /// Why a text was not put whole.
@@ -33,6 +33,26 @@ pub enum PutFail {
     /// Before any of it was put.
     #[error("out of memory")]
     Memory,
+}
+
+impl From<AllocError> for PutFail {
+    ghost use Rattle.qm_remeshed.specs.declared.text.PutFail.TheVariants.{Memory};
+
+    ghost from_gives = { λ _ e. e ≡ Memory };
+
+    fn from(_: AllocError) -> PutFail {
+        PutFail::Memory
+    }
+}
+
+impl From<Stopped> for PutFail {
+    ghost use Rattle.qm_remeshed.specs.declared.text.PutFail.TheVariants.{Stopped as Broken};
+
+    ghost from_gives = { λ _ e. e ≡ Broken };
+
+    fn from(_: Stopped) -> PutFail {
+        PutFail::Stopped
+    }
 }
 
 /// Puts the text of a remesh: the head line, the lines of the new mesh and those of the certificates. It takes all
@@ -57,15 +77,9 @@ pub fn put_remeshed<T: Output>(
         (lists_of remesh.first) (option_map lists_of remesh.third)) }
     ensures untouched { IsErrOf result PutFail.Memory → out.new ≡ out.old }
 {
-    let Ok(head) = head_text(alloc, &remesh.asked.settings, remesh.asked.auto) else {
-        return Err(PutFail::Memory);
-    };
-    let Ok(texts) = cert_texts(alloc, &remesh) else {
-        return Err(PutFail::Memory);
-    };
-    let Ok(places) = placer(alloc, &cut.mesh, &cut.layout, &remesh.used_cert().x) else {
-        return Err(PutFail::Memory);
-    };
+    let head = head_text(alloc, &remesh.asked.settings, remesh.asked.auto)?;
+    let texts = cert_texts(alloc, &remesh)?;
+    let places = placer(alloc, &cut.mesh, &cut.layout, &remesh.used_cert().x)?;
     let frame = Frame {
         head,
         texts,
@@ -75,10 +89,8 @@ pub fn put_remeshed<T: Output>(
         numbering: remesh.numbering,
         places,
     };
-    match put_framed(out, &frame, soup, cut, &new) {
-        Ok(()) => Ok(()),
-        Err(_) => Err(PutFail::Stopped),
-    }
+    put_framed(out, &frame, soup, cut, &new)?;
+    Ok(())
 }
 
 /// What stands before and behind the lines of the new mesh.
@@ -103,10 +115,12 @@ fn put_framed<T: Output>(
     requires lengths { new.now.places.lengths.items ≡ new.now.numbering.lengths.items }
     ensures whole { OnOk result (T.takes out.old out.new (frame.now.head.items
         ++ (canonical_text (new_soup soup.now (plan cut.now.layout) (lengths_in new.now.numbering.lengths.items))
-        ++ joined frame.now.auto frame.now.texts.first.items (option_map (λ text. text.items) frame.now.texts.third)))) }
+        ++ joined frame.now.auto frame.now.texts.first.items
+        (option_map (λ text. text.items) frame.now.texts.third)))) }
     ensures part { OnErr result (T.stops out.old out.new (frame.now.head.items
         ++ (canonical_text (new_soup soup.now (plan cut.now.layout) (lengths_in new.now.numbering.lengths.items))
-        ++ joined frame.now.auto frame.now.texts.first.items (option_map (λ text. text.items) frame.now.texts.third)))) }
+        ++ joined frame.now.auto frame.now.texts.first.items
+        (option_map (λ text. text.items) frame.now.texts.third)))) }
 {
     out.put(&frame.head)?;
     put_new_mesh(out, soup, cut, new)?;

@@ -32,10 +32,8 @@ pub(crate) fn number(alloc: Global, t: &TMesh, lengths: &[u64]) -> Result<Number
     if faces > u128::from(MAX_NEW_FACES) {
         return Err(StitchFail::TooFine { faces });
     }
-    match tables(alloc, t, lengths) {
-        Ok(tables) => Ok(Numbering { tables }),
-        Err(_) => Err(StitchFail::Memory),
-    }
+    let tables = tables(alloc, t, lengths)?;
+    Ok(Numbering { tables })
 }
 
 /// The tables of a numbering.

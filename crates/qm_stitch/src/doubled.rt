@@ -20,11 +20,7 @@ pub(crate) fn check_edges(alloc: Global, tables: &Tables, t: &TMesh) -> Result<(
     ensures undoubled { OnOk result (IsUndoubled (layout_of (plan t.now)) (lengths_in tables.now.lengths.items)) }
     ensures refused { IfErr result (IsUnstitched (layout_of (plan t.now)) (lengths_in tables.now.lengths.items)) }
 {
-    let keys = match rim_keys(alloc, tables, t) {
-        Ok(keys) => keys,
-        Err(_) => return Err(StitchFail::Memory),
-    };
-    match least_repeat(keys) {
+    match least_repeat(rim_keys(alloc, tables, t)?) {
         Some(key) => Err(StitchFail::Doubled {
             u: lesser(key),
             v: greater(key),

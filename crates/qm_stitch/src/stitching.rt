@@ -31,13 +31,11 @@ pub fn stitch(alloc: Global, t: &TMesh, lengths: &[u64]) -> Result<NewMesh, Stit
         → (u v : ℕ) → ¬ IsErrOf result (StitchFail.Doubled u v) }
 {
     let numbering = plan(alloc, t, lengths)?;
-    match all_faces(alloc, &numbering, t) {
-        Ok(faces) => Ok(NewMesh {
-            vertices: numbering.vertices(),
-            faces,
-        }),
-        Err(_) => Err(StitchFail::Memory),
-    }
+    let faces = all_faces(alloc, &numbering, t)?;
+    Ok(NewMesh {
+        vertices: numbering.vertices(),
+        faces,
+    })
 }
 
 /// All faces, by their numbers.

@@ -1,6 +1,5 @@
 -- The line of counts that are told, and why a size is refused.
-use Rattle.std.specs.Prelude.{IfErr, IsErrAnd}
-use Rattle.std.proofs.Common.{◌≡◌, ℕ, pos, false, Result, Ok, Err, length, ap, sym, subst}
+use Rattle.std.proofs.Common.{◌≡◌, ℕ, pos, false, length, ap}
 use Rattle.def_layout.specs.Plans.{Plan}
 use Rattle.def_mesh.specs.Components.{edge_count, start_darts}
 use Rattle.def_mesh.specs.Faces.{Faces}
@@ -31,16 +30,9 @@ same_line size told faces plan deviation vertices edges many riders patches arcs
     ap (bench_line size) same
 
 -- A layout of the mesh of a size that is refused is why the size is.
-size_fails : (size : ℕ) (plan : Plan) (failed : LayoutFail) → IsCutTo (bench_faces size) plan
+pub size_fails : (size : ℕ) (plan : Plan) (failed : LayoutFail) → IsCutTo (bench_faces size) plan
     → IsLayoutFail plan bench_settings false failed → IsBenchFail size failed
 size_fails size plan (fail.Tangled count) cut why = (plan, cut, why)
 size_fails size plan (fail.TooFine faces kept) cut why = (plan, cut, why)
 size_fails size plan (fail.Doubled u v cert) cut why = (plan, cut, why)
 size_fails size plan fail.Memory cut why = tt
-
--- So it is for a refusal that is handed on.
-pub handed_fails : {T : Type 0} (size : ℕ) (plan : Plan) (result : Result T LayoutFail) (failed : LayoutFail)
-    → IsErrAnd result (λ e. e ≡ failed) → IsCutTo (bench_faces size) plan → IsLayoutFail plan bench_settings false failed
-    → IfErr result (IsBenchFail size)
-handed_fails size plan (Ok x) failed is cut why = absurd is
-handed_fails size plan (Err e) failed is cut why = subst (IsBenchFail size) (sym is) (size_fails size plan failed cut why)

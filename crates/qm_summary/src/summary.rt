@@ -20,12 +20,8 @@ pub fn summary_of(alloc: Global, mesh: &Mesh, size: u32) -> Result<Vec<u8>, Layo
     ensures text { IfOk result (λ text. WritesBench size text.items) }
     ensures refused { IfErr result (IsBenchFail size) }
 {
-    let Ok(sources) = sources(alloc, mesh) else {
-        return Err(LayoutFail::Memory);
-    };
-    let Ok(layout) = layout_from(alloc, mesh, &sources) else {
-        return Err(LayoutFail::Memory);
-    };
+    let sources = sources(alloc, mesh)?;
+    let layout = layout_from(alloc, mesh, &sources)?;
     let counts = Counts {
         deviation: kept_deviation(alloc, &layout)?,
         vertices: mesh.vertices(),
@@ -35,8 +31,5 @@ pub fn summary_of(alloc: Global, mesh: &Mesh, size: u32) -> Result<Vec<u8>, Layo
         patches: layout.patches.len() as u32,
         arcs: layout.arcs.len() as u32,
     };
-    match summary_text(alloc, size, &counts) {
-        Ok(text) => Ok(text),
-        Err(_) => Err(LayoutFail::Memory),
-    }
+    Ok(summary_text(alloc, size, &counts)?)
 }

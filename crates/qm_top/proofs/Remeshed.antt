@@ -1,6 +1,6 @@
 -- The text of kept certificates is one of a finished remesh, and what `remesh` keeps.
-use Rattle.std.specs.Prelude.{IsErrAnd, IsErrOf}
-use Rattle.std.proofs.Common.{ap, ◌≡◌, Bool, Option, Result, Ok, Err, inr, sym, ◌∙◌, subst, refl}
+use Rattle.std.specs.Prelude.{IsErrOf}
+use Rattle.std.proofs.Common.{◌≡◌, Bool, Option, Err, inr, sym, subst, refl}
 use Rattle.std.specs.Option.{option_map}
 use Rattle.def_certtext.specs.CertLines.{lists_of, Lists}
 use Rattle.def_certtext.specs.declared.Asked.{Asked}
@@ -77,12 +77,6 @@ pub put_refused : {O : Type 0} (says : Bytes → Type 0) (fails : LayoutFail →
     → (IsErrOf {T = Unit {0}} (Err fail) puts.Memory → now ≡ before) → IsUnwritten says fails out before now (refusal_of_put fail)
 put_refused says fails out before now text puts.Stopped said prefix rose same = record { text = text; said = said; prefix = prefix refl; fault = rose refl }
 put_refused says fails out before now text puts.Memory said prefix rose same = same refl
-
--- An error that is handed on is the one that came.
-pub same_error : (result : Result (Unit {0}) PutFail) (fail other : PutFail) → IsErrAnd result (λ e. e ≡ fail) → IsErrOf result other
-    → IsErrOf {T = Unit {0}} (Err fail) other
-same_error (Ok x) fail other is same = absurd is
-same_error (Err e) fail other is same = ap Err (sym is) ∙ same
 
 -- The text of what is kept as it was asked for is one of a finished remesh.
 pub kept_remeshed : (asked : Asked) (soup : FaceSet) (plan : Plan) (kept : Remesh) → kept.asked ≡ asked → IsLayoutIn soup.faces plan

@@ -16,12 +16,6 @@ use Rattle.qm_top.specs.declared.refusal.Refusal.{Refusal}
 use Rattle.qm_top.specs.declared.refusal.Refusal.TheVariants.{NotManifold, Layout, Write}
 use Rattle.qm_top.specs.declared.refusal.Refusal.TheVariants as refusals
 
--- What is said of a refusal that is handed on.
-pub handed_if : {T : Type 0} (P : Refusal → Type 0) (result : Result T Refusal) (r : Refusal) → IsErrAnd result (λ e. e ≡ r) → P r
-    → IfErr result P
-handed_if P (Ok x) r is p = absurd is
-handed_if P (Err e) r is p = subst P (sym is) p
-
 -- No layout's refusal names a place.
 layout_place : (fail : LayoutFail) (p : Place) → answer_of_layout fail ≡ answers.NotManifold p → ⊥
 layout_place layouts.Memory p is = cc

@@ -34,8 +34,8 @@ pub record BrokeText (says : Bytes → Type 0) (out : Change) : Type 0 where
   pub fault : Rose out.faults out.faults_now
 
 -- Why no text was written whole. Where the sink did not fail it is as it was.
-abbrev pub IsUnwritten : {O : Type 0} (says : Bytes → Type 0) (fails : LayoutFail → Type 0) (out : Change) (before now : O)
-    (refusal : Refusal) → Type 0
+abbrev pub IsUnwritten : {O : Type 0} (says : Bytes → Type 0) (fails : LayoutFail → Type 0) (out : Change)
+    (before now : O) (refusal : Refusal) → Type 0
 IsUnwritten says fails out before now (Layout fail) = (now ≡ before) × fails fail
 IsUnwritten says fails out before now (Write fail) = BrokeText says out
 IsUnwritten says fails out before now refusals.Memory = now ≡ before
@@ -43,7 +43,8 @@ IsUnwritten says fails out before now _ = ⊥
 
 -- Why a soup is not remeshed as it was asked for: its layout is refused.
 abbrev pub FailsToRemesh : (asked : Asked) (soup : FaceSet) (failed : LayoutFail) → Type 0
-FailsToRemesh asked soup failed = (plan : Plan) × IsCutTo soup.faces plan × IsLayoutFail plan asked.settings asked.auto failed
+FailsToRemesh asked soup failed =
+    (plan : Plan) × IsCutTo soup.faces plan × IsLayoutFail plan asked.settings asked.auto failed
 
 -- The text of what is kept of a layout.
 abbrev pub text_of : (kept : Remesh) (soup : FaceSet) (plan : Plan) → Bytes

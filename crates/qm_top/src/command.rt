@@ -49,7 +49,8 @@ pub fn run<S: Source, O: Sink, E: Sink>(
 
     // A mesh that is not too tangled has least lengths, and a remesh finds them.
     ensures settled { (settings : Settings) (auto : Bool) → IsCommand (map string_bytes words.now)
-        (Command.Remesh settings auto) → IsUntangled settings (S.left input.old) → IsSettled result ⊎ ((result ≡ Answer.Memory)
+        (Command.Remesh settings auto) → IsUntangled settings (S.left input.old)
+        → IsSettled result ⊎ ((result ≡ Answer.Memory)
         ⊎ (Rose (S.faults input.old) (S.faults input.new) ⊎ Rose (O.faults out.old) (O.faults out.new))) }
 
     // What stays as it was.

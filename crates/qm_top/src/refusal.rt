@@ -4,7 +4,8 @@ ghost use Rattle.std.specs.Prelude.{◌≡◌, ◌≢◌, []};
 ghost use Rattle.def_io.specs.declared.fails.WriteFail.TheVariants as fails;
 ghost use Rattle.def_text.specs.Fails.{of_read};
 ghost use Rattle.qm_top.specs.Named.{HasNames};
-ghost use Rattle.qm_top.specs.Refusals.{answer_of, answer_of_layout, answer_of_obj, answer_of_soup, answer_of_words, names_of};
+ghost use Rattle.qm_top.specs.Refusals.{answer_of, answer_of_layout, answer_of_obj};
+ghost use Rattle.qm_top.specs.Refusals.{answer_of_soup, answer_of_words, names_of};
 ghost use Rattle.qm_top.specs.Writing.{refusal_of_put};
 ghost use Rattle.qm_top.specs.declared.refusal.Refusal.TheVariants as refusals;
 

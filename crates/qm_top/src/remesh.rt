@@ -77,19 +77,16 @@ fn write_remeshed<O: Sink>(
     requires layout { IsLayoutIn cut.now.mesh (plan cut.now.layout) }
     requires kept { IsKept (plan cut.now.layout) kept.asked.settings kept.asked.auto
         (lists_of kept.first) (option_map lists_of kept.third) kept.numbering }
-    ensures whole { OnOk result (O.taken out.new ≡ took (O.taken out.old) (text_of kept soup.now (plan cut.now.layout))) }
+    ensures whole { OnOk result (O.taken out.new
+        ≡ took (O.taken out.old) (text_of kept soup.now (plan cut.now.layout))) }
     ensures prefix { IsErrOf result PutFail.Stopped → TookPrefix (O.taken out.old) (O.taken out.new)
         (text_of kept soup.now (plan cut.now.layout)) }
     ensures fault { IsErrOf result PutFail.Stopped → Rose (O.faults out.old) (O.faults out.new) }
     ensures untouched { IsErrOf result PutFail.Memory → out.new ≡ out.old }
 {
-    let Ok(mut room) = Room::new(alloc) else {
-        return Err(PutFail::Memory);
-    };
+    let mut room = Room::new(alloc)?;
     let mut text = Buffer::new(out, &mut room);
     put_remeshed(alloc, &mut text, soup, cut, kept)?;
-    match text.flush() {
-        Ok(()) => Ok(()),
-        Err(_) => Err(PutFail::Stopped),
-    }
+    text.flush()?;
+    Ok(())
 }

@@ -1,5 +1,5 @@
 -- The values of a line begin with no hyphen.
-use Rattle.std.proofs.Common.{◌≡◌, ◌⊎◌, ◌≤◌, ◌<◌, ◌+◌, ◌^◌, ◌==◌, not, ℕ, Bool, true, false, [], ◌∷◌, ◌++◌, codes, Result, Ok, Err, IfErr, IsErrAnd, inl, inr, refl, ap, sym, ◌∙◌, subst, arith}
+use Rattle.std.proofs.Common.{◌≡◌, ◌⊎◌, ◌≤◌, ◌<◌, ◌+◌, ◌^◌, ◌==◌, not, ℕ, Bool, true, false, [], ◌∷◌, ◌++◌, codes, inl, inr, refl, ap, sym, ◌∙◌, subst, arith}
 use Rattle.std.specs.Prelude.{decimal}
 use Rattle.std.specs.Char.{is_ascii_digit}
 use Rattle.std.specs.List.{list_all, list_any}
@@ -12,7 +12,6 @@ use Rattle.def_flow.specs.declared.net.Weight.{Weight}
 use Rattle.def_flow.specs.declared.net.Weight.TheVariants.{Plain, Length}
 use Rattle.def_run.specs.CommandLines.{remesh_options, HasCount, HasSettings}
 use Rattle.def_run.specs.Options.{count_of, is_of, value_of, AreOptions, Use, Uses}
-use Rattle.def_run.specs.declared.words.WordsFail.{WordsFail}
 use Rattle.def_text.specs.Types.{Word, Words}
 use Rattle.qm_dec.proofs.Texts.{decimal_digits, digit_other}
 use Rattle.qm_words.specs.Parsing.{is_known, is_plain, Refuses}
@@ -131,8 +130,3 @@ no_settings words settings auto refuses has = refuses has.uses has.options (valu
 
     by_name : (n : Word) → is_known remesh_options n ≡ true → is_plain (value_of n has.uses) ≡ true
     by_name n known = by_tests n (cases_Bool (bytes_eq (codes "scale") n)) (cases_Bool (bytes_eq (codes "floor") n)) (cases_Bool (bytes_eq (codes "weight") n)) known
-
--- A failure that is handed on says the same.
-pub handed_on : {T : Type 0} (result : Result T WordsFail) (fail : WordsFail) (P : WordsFail → Type 0) → IsErrAnd result (λ e. e ≡ fail) → P fail → IfErr result P
-handed_on (Ok x) fail P is p = absurd is
-handed_on (Err e) fail P is p = subst P (sym is) p

@@ -51,10 +51,7 @@ fn with_option<'a>(
     ensures memory { IfErr result (λ fail. fail ≡ WordsFail.Memory) }
 {
     let option = Arg::new(alloc, name).long(name).required(true);
-    match command.arg(option) {
-        Ok(command) => Ok(command),
-        Err(_) => Err(WordsFail::Memory),
-    }
+    Ok(command.arg(option)?)
 }
 
 /// Whether a word is `--`.

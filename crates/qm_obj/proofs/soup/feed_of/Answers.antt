@@ -1,15 +1,16 @@
 use Rattle.std.proofs.Common.{◌≡◌, ◌+◌, ◌-◌, ℕ, Err, ap, subst, ◌∙◌, arith}
 use Rattle.std.specs.List.{length_refill}
+use Rattle.qm_laws.proofs.Errors.{same_error}
 use Rattle.qm_obj.specs.Feeding.{FedTo}
-use Rattle.qm_obj.proofs.InputLemmas.{error_on, fed_more, fed_whole, gave_beyond}
+use Rattle.qm_obj.proofs.InputLemmas.{fed_more, fed_whole, gave_beyond}
 use Rattle.qm_obj.proofs.soup.feed_of.Goals as goal
 
 pub returns-in_err-count-clause-too_long : goal.returns-in_err-count-clause-too_long
 returns-in_err-count-clause-too_long g c =
-    error_on _ _ _ _ (λ is. let more = c.in_err-count.ensures.too_long (ap Err is) in (
+    λ said. let more = c.in_err-count.ensures.too_long (ap Err (same_error _ _ _ c.from_residual-in_err-count.ensures.1 said)) in (
       gave_beyond c.args.limit c.pieces.room _ _ _ c.pieces.feed c.pieces.invariant.fed c.pieces.invariant.short more.0,
       more.1 ∙ c.pieces.invariant.calm,
-    )) c.from_residual-in_err-count.ensures.1
+    )
 
 pub returns-then-count-eq0-clause-whole : goal.returns-then-count-eq0-clause-whole
 returns-then-count-eq0-clause-whole g c =

@@ -1,4 +1,6 @@
-use Rattle.qm_obj.proofs.InputLemmas.{soup_refused}
+use Rattle.def_text.specs.Input.{IsSoupFail}
+use Rattle.qm_laws.proofs.Errors.{handed}
+use Rattle.qm_obj.proofs.InputLemmas.{refused}
 use Rattle.qm_obj.proofs.soup.read_soup.Goals as goal
 
 pub returns-clause-soup : goal.returns-clause-soup
@@ -9,5 +11,6 @@ returns-clause-soup g c =
 pub returns-in_err-finish-clause-fails : goal.returns-in_err-finish-clause-fails
 returns-in_err-finish-clause-fails g c =
     let whole = c.in_ok-feed.ensures.whole in
-    soup_refused c.args.limit _ whole.text c.in_err-finish.field-0.0 _ whole.whole c.in_ok-feed.ensures.calm
-    (λ some. c.in_err-finish.ensures.refused some whole.text whole.stands) c.from_residual-in_err-finish.ensures.1
+    handed (IsSoupFail c.args.limit _) _ _ c.from_residual-in_err-finish.ensures.1
+    (refused c.args.limit _ whole.text c.in_err-finish.field-0.0 whole.whole c.in_ok-feed.ensures.calm
+    (λ some. c.in_err-finish.ensures.refused some whole.text whole.stands))

@@ -17,40 +17,40 @@ pub points_of-requires-clause-lengths : goal.points_of-requires-clause-lengths
 points_of-requires-clause-lengths c =
     let t = plan c.args.t.now in
     let same : lengths_in c.deref.result.now ≡ multiple_of c.args.by (long_at t.arcs) =
-    multiple_is c.args.by t.arcs c.deref.result.now (c.deref.ensures.value ∙ c.in-Ok.ensures) in
+    multiple_is c.args.by t.arcs c.deref.result.now (c.deref.ensures.value ∙ c.in_ok-lengths.ensures) in
     subst (AreLengths (layout_of t)) (sym same) (are_multiples t c.requires.layout.0 c.args.by c.requires.some)
 
 pub points_of-requires-clause-bounded : goal.points_of-requires-clause-bounded
 points_of-requires-clause-bounded c =
     let t = plan c.args.t.now in
     let same : lengths_in c.deref.result.now ≡ multiple_of c.args.by (long_at t.arcs) =
-    multiple_is c.args.by t.arcs c.deref.result.now (c.deref.ensures.value ∙ c.in-Ok.ensures) in
+    multiple_is c.args.by t.arcs c.deref.result.now (c.deref.ensures.value ∙ c.in_ok-lengths.ensures) in
     subst (λ (l : Lengths). (arc : ℕ) → l arc ≤ MAX_LENGTH) (sym same) (λ arc. multiple_few t c.requires.layout.0 c.args.by arc c.requires.few)
 
 pub returns-clause-lengths : goal.returns-clause-lengths
 returns-clause-lengths c =
     let t = plan c.args.t.now in
     let same : lengths_in c.deref.result.now ≡ multiple_of c.args.by (long_at t.arcs) =
-    multiple_is c.args.by t.arcs c.deref.result.now (c.deref.ensures.value ∙ c.in-Ok.ensures) in
+    multiple_is c.args.by t.arcs c.deref.result.now (c.deref.ensures.value ∙ c.in_ok-lengths.ensures) in
     IfOk-weaker c.points_of.result _ _ (λ new is. ap lengths_in is ∙ same) c.points_of.ensures.lengths
 
 pub returns-clause-refused : goal.returns-clause-refused
 returns-clause-refused c =
     let t = plan c.args.t.now in
     let same : lengths_in c.deref.result.now ≡ multiple_of c.args.by (long_at t.arcs) =
-    multiple_is c.args.by t.arcs c.deref.result.now (c.deref.ensures.value ∙ c.in-Ok.ensures) in
+    multiple_is c.args.by t.arcs c.deref.result.now (c.deref.ensures.value ∙ c.in_ok-lengths.ensures) in
     subst (λ (l : Lengths). IfErr c.points_of.result (IsUnstitched (layout_of t) l)) same c.points_of.ensures.refused
 
 pub returns-clause-shape : goal.returns-clause-shape
 returns-clause-shape c =
     let t = plan c.args.t.now in
     let same : lengths_in c.deref.result.now ≡ multiple_of c.args.by (long_at t.arcs) =
-    multiple_is c.args.by t.arcs c.deref.result.now (c.deref.ensures.value ∙ c.in-Ok.ensures) in
+    multiple_is c.args.by t.arcs c.deref.result.now (c.deref.ensures.value ∙ c.in_ok-lengths.ensures) in
     subst (λ (l : Lengths). OnOk c.points_of.result (KeepsShapes t l)) same c.points_of.ensures.shape
 
 pub returns-clause-undoubled : goal.returns-clause-undoubled
 returns-clause-undoubled c =
     let t = plan c.args.t.now in
     let same : lengths_in c.deref.result.now ≡ multiple_of c.args.by (long_at t.arcs) =
-    multiple_is c.args.by t.arcs c.deref.result.now (c.deref.ensures.value ∙ c.in-Ok.ensures) in
+    multiple_is c.args.by t.arcs c.deref.result.now (c.deref.ensures.value ∙ c.in_ok-lengths.ensures) in
     c.points_of.ensures.safe (inr (c.args.by, c.requires.some, λ arc low. ap (λ (l : Lengths). l arc) same))

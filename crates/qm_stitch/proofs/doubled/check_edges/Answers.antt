@@ -14,11 +14,11 @@ returns-in-Some-clause-refused c = (
       (subst (λ (v : ℕ). IsFirstDoubled (layout_of (plan c.args.t.now)) (lengths_in c.args.tables.now.lengths.items) (c.in-Some.key / 2 ^ 32) v) (sym c.greater.ensures)
       (first_doubled (layout_of (plan c.args.t.now)) (lengths_in c.args.tables.now.lengths.items) (laid (plan c.args.t.now) c.args.tables.now c.requires)
       c.requires.lengths (all_few (plan c.args.t.now) c.args.tables.now c.requires) c.in-Some.key
-      (subst (λ (keys : List ℕ). IsLeastRepeat keys c.in-Some.key) c.in-Ok.ensures c.in-Some.ensures.some))),
+      (subst (λ (keys : List ℕ). IsLeastRepeat keys c.in-Some.key) c.in_ok-rim_keys.ensures c.in-Some.ensures.some))),
 )
 
 pub returns-in-None-clause-undoubled : goal.returns-in-None-clause-undoubled
 returns-in-None-clause-undoubled c =
     none_doubled (layout_of (plan c.args.t.now)) (lengths_in c.args.tables.now.lengths.items) (laid (plan c.args.t.now) c.args.tables.now c.requires)
     c.requires.lengths (all_few (plan c.args.t.now) c.args.tables.now c.requires)
-    (subst (λ (keys : List ℕ). (key : ℕ) → ¬ IsRepeat keys key) c.in-Ok.ensures (c.in-None.ensures.none refl))
+    (subst (λ (keys : List ℕ). (key : ℕ) → ¬ IsRepeat keys key) c.in_ok-rim_keys.ensures (c.in-None.ensures.none refl))

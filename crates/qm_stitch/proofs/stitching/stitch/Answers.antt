@@ -5,9 +5,9 @@ use Rattle.def_written.specs.Numbers.{vertices}
 use Rattle.def_remesh.specs.NewPoints.{lengths_in}
 use Rattle.qm_stitch.proofs.stitching.stitch.Goals as goal
 
-pub returns-in-Ok-clause-mesh : goal.returns-in-Ok-clause-mesh
-returns-in-Ok-clause-mesh c = record {
+pub returns-clause-mesh : goal.returns-clause-mesh
+returns-clause-mesh c = record {
   count = c.vertices.ensures (plan c.args.t.now) c.in_ok-numbering.ensures.numbering
       ∙ ap (λ (list : List ℕ). vertices (layout_of (plan c.args.t.now)) (lengths_in list)) c.in_ok-numbering.ensures.lengths;
-  faces = c.in-Ok.ensures ∙ ap (λ (list : List ℕ). new_faces (layout_of (plan c.args.t.now)) (lengths_in list)) c.in_ok-numbering.ensures.lengths;
+  faces = c.in_ok-faces.ensures ∙ ap (λ (list : List ℕ). new_faces (layout_of (plan c.args.t.now)) (lengths_in list)) c.in_ok-numbering.ensures.lengths;
 }

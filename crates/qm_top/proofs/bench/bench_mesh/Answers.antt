@@ -1,6 +1,6 @@
 use Rattle.std.proofs.Common.{refl}
-use Rattle.qm_top.proofs.Writers.{handed_if}
+use Rattle.qm_laws.proofs.Errors.{handed}
 use Rattle.qm_top.proofs.bench.bench_mesh.Goals as goal
 
 pub returns-in_err-text-clause-refused : goal.returns-in_err-text-clause-refused
-returns-in_err-text-clause-refused g c = handed_if _ _ _ c.from_residual.ensures.1 (refl, c.in_err-text.ensures.refused)
+returns-in_err-text-clause-refused g c = handed _ _ _ c.from_residual.ensures.1 (refl, c.in_err-text.ensures.refused)

@@ -8,7 +8,7 @@ use Rattle.def_remesh.specs.Placings.{IsLayoutIn}
 use Rattle.def_remesh.specs.Refined.{refined_text}
 use Rattle.def_run.specs.Remesh.{IsCutTo}
 use Rattle.qm_top.proofs.Refined.{fits_of, is_refined}
-use Rattle.qm_top.proofs.Writers.{handed_if}
+use Rattle.qm_laws.proofs.Errors.{handed}
 use Rattle.qm_top.proofs.refine.refine_mesh.Goals as goal
 
 pub returns-in_err-refined-clause-refused : goal.returns-in_err-refined-clause-refused
@@ -16,7 +16,7 @@ returns-in_err-refined-clause-refused g c =
     let t = plan c.in_ok-layout.layout in
     let cut : IsCutTo c.args.read.soup.faces t =
     subst (λ (fs : Faces). IsLayoutOf fs (traced_marks fs) t) c.requires.mesh c.in_ok-layout.ensures.traced in
-    handed_if _ _ _ c.from_residual-in_err-refined.ensures.1 (refl, (t, cut, c.in_err-refined.ensures.refused))
+    handed _ _ _ c.from_residual-in_err-refined.ensures.1 (refl, (t, cut, c.in_err-refined.ensures.refused))
 
 pub returns-in_err-write_refined-clause-refused : goal.returns-in_err-write_refined-clause-refused
 returns-in_err-write_refined-clause-refused g c =
@@ -25,7 +25,7 @@ returns-in_err-write_refined-clause-refused g c =
     let lies : IsLayoutIn c.args.read.soup.faces t = (laid.0, laid.1 ∙ c.requires.mesh) in
     let cut : IsCutTo c.args.read.soup.faces t =
     subst (λ (fs : Faces). IsLayoutOf fs (traced_marks fs) t) c.requires.mesh c.in_ok-layout.ensures.traced in
-    handed_if _ _ _ c.from_residual-in_err-write_refined.ensures.1 (record {
+    handed _ _ _ c.from_residual-in_err-write_refined.ensures.1 (record {
       text = refined_text c.args.by c.args.read.soup t;
       said = is_refined c.args.by c.args.read.soup t lies cut c.in_ok-refined.ensures.points.shape (fits_of _ _ _ _ c.in_ok-refined.ensures.points);
       prefix = subst (λ (k : ℕ). TookPrefix (g.O.Sink.taken c.args.out.now) (g.O.Sink.taken c.write_refined.new.out) (refined_text k c.args.read.soup t))

@@ -1,17 +1,18 @@
 use Rattle.std.proofs.Common.{[], length}
+use Rattle.qm_laws.proofs.Errors.{handed}
 use Rattle.qm_obj.specs.Lines.{uncommented}
 use Rattle.qm_obj.specs.Views.{kept_of}
-use Rattle.qm_obj.proofs.FeedLemmas.{ended_line, passed_on, refused_line}
+use Rattle.qm_obj.proofs.FeedLemmas.{ended_line, refused_line}
 use Rattle.qm_obj.proofs.PrefixLemmas.{behind_alone}
 use Rattle.qm_obj.proofs.joiner.Joiner.read_alone.Goals as goal
 
 pub returns-in_err-take-clause-refused : goal.returns-in_err-take-clause-refused
 returns-in_err-take-clause-refused c =
-    passed_on _ _ _ (λ other.
+    handed _ _ _ c.from_residual.ensures.1 (λ other.
     refused_line (kept_of c.args.self.now []) c.args.line.now (record { number = c.args.self.now.next; size = length c.args.line.now; text = uncommented c.args.line.now })
     c.in_err-take.field-0.0 c.requires.sound
     (λ lines. behind_alone (kept_of c.args.self.now []) c.args.line.now lines c.requires.ends c.requires.alone)
-    (c.in_err-take.ensures.refused other)) c.from_residual.ensures.1
+    (c.in_err-take.ensures.refused other))
 
 pub returns-clause-took : goal.returns-clause-took
 returns-clause-took c =

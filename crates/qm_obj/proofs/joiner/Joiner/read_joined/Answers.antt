@@ -1,9 +1,10 @@
 use Rattle.std.proofs.Common.{◌≡◌, ◌+◌, [], ◌++◌, ◌∙◌, length, sym, ap, subst, arith}
 use Rattle.std.specs.List.{before_first}
+use Rattle.qm_laws.proofs.Errors.{handed}
 use Rattle.def_text.specs.Logical.{Logical, is_hash}
 use Rattle.qm_obj.specs.Lines.{Took, next_said, uncommented}
 use Rattle.qm_obj.specs.Views.{kept_of}
-use Rattle.qm_obj.proofs.FeedLemmas.{ended_line, long_line, number_some, passed_on, refused_line}
+use Rattle.qm_obj.proofs.FeedLemmas.{ended_line, long_line, number_some, refused_line}
 use Rattle.qm_obj.proofs.PrefixLemmas.{behind_joined}
 use Rattle.qm_obj.proofs.joiner.Joiner.read_joined.Goals as goal
 
@@ -22,13 +23,12 @@ returns-in_err-take-clause-refused c =
     (record { number = c.args.self.now.begun; size = length c.args.self.now.joined.items + length c.args.line.now; text = uncommented (c.args.self.now.joined.items ++ before_first is_hash c.args.line.now) }) =
     ap (λ n. record { number = c.args.self.now.begun; size = n; text = uncommented c.deref.result.now }) size
     ∙ ap (λ bytes. record { number = c.args.self.now.begun; size = length c.args.self.now.joined.items + length c.args.line.now; text = uncommented bytes }) text in
-    passed_on _ _ _ (λ other.
+    handed _ _ _ c.from_residual-in_err-take.ensures.1 (λ other.
     refused_line (kept_of c.args.self.now []) c.args.line.now
     (record { number = c.args.self.now.begun; size = length c.args.self.now.joined.items + length c.args.line.now; text = uncommented (c.args.self.now.joined.items ++ before_first is_hash c.args.line.now) })
     c.in_err-take.field-0.0 c.requires.sound
     (λ lines. behind_joined (kept_of c.args.self.now []) c.args.line.now lines c.requires.ends c.requires.behind c.requires.sound.bare)
     (sym (ap (next_said c.args.self.now.reader.positions.items c.args.self.now.reader.faces.items) same) ∙ c.in_err-take.ensures.refused other))
-    c.from_residual-in_err-take.ensures.1
 
 pub returns-clause-took : goal.returns-clause-took
 returns-clause-took c =

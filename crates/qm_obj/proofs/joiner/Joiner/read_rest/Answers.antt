@@ -1,8 +1,9 @@
 use Rattle.std.proofs.Common.{[], ◌∙◌, length, refl, sym, ap, subst, arith}
+use Rattle.qm_laws.proofs.Errors.{handed}
 use Rattle.def_text.specs.Logical.{Logical}
 use Rattle.qm_obj.specs.Lines.{Took, next_said, uncommented}
 use Rattle.qm_obj.specs.Views.{kept_of}
-use Rattle.qm_obj.proofs.FeedLemmas.{is_nothing, is_something, last_read, last_refused, last_same, nothing_joined, passed_on, same_line, sound_by}
+use Rattle.qm_obj.proofs.FeedLemmas.{is_nothing, is_something, last_read, last_refused, last_same, nothing_joined, same_line, sound_by}
 use Rattle.qm_obj.proofs.KeptLemmas.{Follows}
 use Rattle.qm_obj.proofs.joiner.Joiner.read_rest.Goals as goal
 
@@ -11,10 +12,10 @@ returns-then-is_empty-clause-same c = nothing_joined (kept_of c.args.self.now []
 
 pub returns-in_err-take-clause-refused : goal.returns-in_err-take-clause-refused
 returns-in_err-take-clause-refused c =
-    passed_on _ _ _ (λ other.
+    handed _ _ _ c.from_residual.ensures.1 (λ other.
     last_refused (kept_of c.args.self.now []) c.in_err-take.field-0.0 c.requires.sound (is_something _ _ c.if-is_empty.ensures c.args.self.now.joined.ok.0)
     (ap (next_said c.args.self.now.reader.positions.items c.args.self.now.reader.faces.items) (same_line c.args.self.now.begun _ _ _ _ (sym (c.len.ensures ∙ c.args.self.now.joined.ok.0)) (sym c.deref.ensures.value))
-    ∙ c.in_err-take.ensures.refused other)) c.from_residual.ensures.1
+    ∙ c.in_err-take.ensures.refused other))
 
 -- The line that was read, and what is kept behind it.
 read : (c : goal.After-clear) → Follows c.args.self.now.reader.positions.items c.take.new.self.positions.items c.args.self.now.reader.faces.items c.take.new.self.faces.items c.args.self.now.reader.lines.items c.take.new.self.lines.items

@@ -1,10 +1,11 @@
 use Rattle.std.proofs.Common.{◌≢◌, ◌∙◌, ◌++◌, ◌∷◌, [], sym, ap}
 use Rattle.std.proofs.lemmas.Result.{IfErr-weaker, on_ok_weaker}
+use Rattle.qm_laws.proofs.Errors.{handed}
 use Rattle.def_io.specs.Lines.{line_of}
 use Rattle.def_text.specs.declared.refusal.ObjFail.TheVariants.{Memory}
 use Rattle.qm_obj.specs.Feeding.{RefusesLine, RefusesPiece, TookLine, TookPiece}
 use Rattle.qm_obj.specs.Views.{kept_at, kept_of}
-use Rattle.qm_obj.proofs.FeedLemmas.{both_taken, fed_piece, fed_refused, is_nothing, passed_on, refused_before, refused_behind}
+use Rattle.qm_obj.proofs.FeedLemmas.{both_taken, fed_piece, fed_refused, is_nothing, refused_before, refused_behind}
 use Rattle.qm_obj.proofs.progress.Progress.end_line.Goals as goal
 
 pub returns-then-is_empty-clause-took : goal.returns-then-is_empty-clause-took
@@ -28,7 +29,7 @@ returns-then-is_empty-clause-refused c =
 
 pub returns-in_err-keep-clause-refused : goal.returns-in_err-keep-clause-refused
 returns-in_err-keep-clause-refused c =
-    passed_on _ _ _ (λ other. refused_before (kept_at c.args.self.now) c.args.prefix.now (10 ∷ []) c.in_err-keep.field-0.0 (c.in_err-keep.ensures.refused other)) c.from_residual.ensures.1
+    handed _ _ _ c.from_residual.ensures.1 (λ other. refused_before (kept_at c.args.self.now) c.args.prefix.now (10 ∷ []) c.in_err-keep.field-0.0 (c.in_err-keep.ensures.refused other))
 
 pub returns-clause-took : goal.returns-clause-took
 returns-clause-took c =

@@ -1,16 +1,17 @@
 use Rattle.std.proofs.Common.{[], ◌∙◌, refl, sym, ap}
 use Rattle.std.proofs.lemmas.List.{append-nil}
+use Rattle.qm_laws.proofs.Errors.{handed}
 use Rattle.def_io.specs.Lines.{line_of}
 use Rattle.qm_obj.specs.Views.{kept_at, kept_of}
-use Rattle.qm_obj.proofs.FeedLemmas.{fed_piece, fed_refused, passed_on}
+use Rattle.qm_obj.proofs.FeedLemmas.{fed_piece, fed_refused}
 use Rattle.qm_obj.proofs.progress.Progress.end_tail.Goals as goal
 
 pub returns-in_err-take-clause-refused : goal.returns-in_err-take-clause-refused
 returns-in_err-take-clause-refused c =
-    passed_on _ _ _ (λ other.
+    handed _ _ _ c.from_residual.ensures.1 (λ other.
     fed_refused (kept_at c.args.self.now) [] c.line_of.result.now c.in_err-take.field-0.0 c.requires.sound refl
     (c.line_of.ensures ∙ ap line_of (c.deref.ensures.value ∙ sym (append-nil c.args.self.now.tail.items)))
-    (c.in_err-take.ensures.refused other)) c.from_residual.ensures.1
+    (c.in_err-take.ensures.refused other))
 
 pub returns-clause-took : goal.returns-clause-took
 returns-clause-took c =

@@ -1,11 +1,12 @@
 use Rattle.std.proofs.Common.{◌≢◌, ◌+◌, ◌-◌, ◌++◌, ◌∷◌, [], length, take, drop, sym, subst, arith}
 use Rattle.std.proofs.lemmas.List.{length-drop, length-take, take-append-drop}
 use Rattle.std.proofs.lemmas.Result.{IfErr-weaker, on_ok_weaker}
+use Rattle.qm_laws.proofs.Errors.{handed}
 use Rattle.def_io.specs.Bytes.{Bytes}
 use Rattle.def_text.specs.declared.refusal.ObjFail.TheVariants.{Memory}
 use Rattle.qm_obj.specs.Feeding.{RefusesPiece, TookPiece}
 use Rattle.qm_obj.specs.Views.{kept_at}
-use Rattle.qm_obj.proofs.FeedLemmas.{both_taken, passed_on, refused_before, refused_behind}
+use Rattle.qm_obj.proofs.FeedLemmas.{both_taken, refused_before, refused_behind}
 use Rattle.qm_obj.proofs.TailLemmas.{prefix_fed, prefix_rest}
 use Rattle.qm_obj.proofs.progress.Progress.take.Goals as goal
 
@@ -21,14 +22,13 @@ loop-end-preserved c = record {
 
 pub returns-in_err-end_line-clause-refused : goal.returns-in_err-end_line-clause-refused
 returns-in_err-end_line-clause-refused c =
-    passed_on _ _ _ (λ other.
+    handed _ _ _ c.from_residual.ensures.1 (λ other.
     subst (λ (xs : Bytes). RefusesPiece (kept_at c.args.self.now) xs c.in_err-end_line.field-0.0) (take-append-drop (c.loop-end.at + c.in-Some.end) c.args.piece.now)
     (refused_before (kept_at c.args.self.now) (take (c.loop-end.at + c.in-Some.end) c.args.piece.now) (drop (c.loop-end.at + c.in-Some.end) c.args.piece.now) c.in_err-end_line.field-0.0
     (subst (λ (xs : Bytes). RefusesPiece (kept_at c.args.self.now) xs c.in_err-end_line.field-0.0)
     (sym (prefix_fed c.args.piece.now c.loop-end.at c.in-Some.end c.in-Some.ensures.more c.in-Some.ensures.within c.in-Some.ensures.feed))
     (refused_behind (kept_at c.args.self.now) (kept_at c.loop-end.self) (take c.loop-end.at c.args.piece.now)
     (take (c.loop-end.at + c.in-Some.end - 1 - c.loop-end.at) (drop c.loop-end.at c.args.piece.now) ++ 10 ∷ []) c.in_err-end_line.field-0.0 c.loop-end.invariant.took (c.in_err-end_line.ensures.refused other)))))
-    c.from_residual.ensures.1
 
 pub returns-clause-took : goal.returns-clause-took
 returns-clause-took c =
