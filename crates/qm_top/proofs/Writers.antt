@@ -1,12 +1,16 @@
 -- What a command keeps that writes a new mesh.
-use Rattle.std.specs.Prelude.{IfErr, IsErrAnd, OnOk}
-use Rattle.std.proofs.Common.{◌≡◌, ◌≢◌, Result, Ok, Err, sym, subst, refl}
+use Rattle.std.specs.Prelude.{IfErr, OnOk}
+use Rattle.std.proofs.Common.{◌≡◌, ◌≢◌, Result, Ok, Err, subst, refl}
 use Rattle.def_io.specs.Bytes.{Bytes}
 use Rattle.def_io.specs.Moves.{Change}
+use Rattle.def_layout.specs.Plans.{Plan}
+use Rattle.def_mesh.specs.Faces.{Faces}
 use Rattle.def_mesh.specs.declared.Place.{Place}
+use Rattle.def_remesh.specs.Placings.{IsLayoutIn}
 use Rattle.def_remesh.specs.declared.kept.LayoutFail.{LayoutFail}
 use Rattle.def_remesh.specs.declared.kept.LayoutFail.TheVariants as layouts
 use Rattle.def_run.specs.Causes.{Cause, Reads, Writes}
+use Rattle.def_run.specs.Remesh.{IsCutTo}
 use Rattle.def_run.specs.declared.answer.Answer.TheVariants as answers
 use Rattle.def_run.specs.declared.command.Command.{Command}
 use Rattle.qm_top.specs.Refusals.{answer_of, answer_of_layout, Ended}
@@ -15,6 +19,11 @@ use Rattle.qm_top.specs.Writing.{IsUnwritten, WroteText}
 use Rattle.qm_top.specs.declared.refusal.Refusal.{Refusal}
 use Rattle.qm_top.specs.declared.refusal.Refusal.TheVariants.{NotManifold, Layout, Write}
 use Rattle.qm_top.specs.declared.refusal.Refusal.TheVariants as refusals
+
+-- A layout that lies in a mesh and is cut to it does so in the faces of the mesh's soup.
+pub of_soup : (mesh faces : Faces) (plan : Plan) → mesh ≡ faces → IsLayoutIn mesh plan → IsCutTo mesh plan
+    → IsLayoutIn faces plan × IsCutTo faces plan
+of_soup mesh faces plan same lies cut = subst (λ (fs : Faces). IsLayoutIn fs plan × IsCutTo fs plan) same (lies, cut)
 
 -- No layout's refusal names a place.
 layout_place : (fail : LayoutFail) (p : Place) → answer_of_layout fail ≡ answers.NotManifold p → ⊥
