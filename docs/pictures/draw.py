@@ -7,8 +7,6 @@ import pathlib
 HERE = pathlib.Path(__file__).resolve().parent
 INK, FAINT, RED, BLUE, GREEN = "#222", "#999", "#c0392b", "#1f5fa8", "#2e7d32"
 FILL, SIDES = "#eef3fa", ["#dbe7f5", "#e3f0df", "#f8e6d2"]
-# Crates without code whose names do not say so.
-LAWS = {"qm_lift", "qm_table", "qm_units"}
 
 
 class Picture:
@@ -265,7 +263,7 @@ def crates():
             picture.text((0.15, y + 0.25), title, 12, INK, "start")
         for i, name in enumerate(names):
             x = 5.0 + 1.58 * i
-            fill = "#eee" if name.endswith("_laws") or name in LAWS else SIDES[1] if name.startswith("def_") else SIDES[0]
+            fill = "#eee" if name.endswith("_laws") else SIDES[1] if name.startswith("def_") else SIDES[0]
             picture.area([(x, y), (x + 1.45, y), (x + 1.45, y + 0.62), (x, y + 0.62)], fill, INK, 1)
             picture.text((x + 0.725, y + 0.22), name, 10.5)
     words = "A crate uses crates of its own band and of those below."

@@ -8,3 +8,4 @@ pub mod Motion
 pub mod Traced
 pub mod Events
 pub mod MotionLaws
+pub mod Views

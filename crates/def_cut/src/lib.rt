@@ -1,4 +1,5 @@
-//! What a cut of a mesh is: the graph that riders trace, full cuts, and the grids of cells that a cut leaves.
+//! What a cut of a mesh is: the graph that riders trace, what a caller sees who moves them one at a time, full cuts,
+//! and the grids of cells that a cut leaves.
 
 #![tactic(auto)]
 

@@ -1,6 +1,7 @@
 pub mod Darts
 pub mod Forests
 pub mod Laws
+pub mod Made
 pub mod Opened
 pub mod Shrunk
 pub mod Steps

@@ -1,4 +1,5 @@
-//! What a forest of blossoms over a graph is, when it is valid, and what its steps do: types and definitions alone.
+//! What a forest of blossoms over a graph is, when it is valid, what its steps do, and when a matcher is made for a
+//! graph: types and definitions alone.
 #![tactic(auto)]
 
 mod kinds;

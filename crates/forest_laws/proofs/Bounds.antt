@@ -5,7 +5,7 @@ use Rattle.std.proofs.lemmas.Bool.{cases_eq, cases_lt, eq-eqb, ne_eqb, eqb-true}
 use Rattle.def_math.specs.Counts.{count}
 use Rattle.def_math.specs.Increasing.{IsIncreasing}
 use Rattle.def_math.specs.Sums.{total, total_below}
-use Rattle.qm_laws.proofs.Sums.{total_below_le, two_orders}
+use Rattle.sum_laws.proofs.Sums.{total_below_le, two_orders}
 use Rattle.def_matching.specs.Matching.{Graph, IsGraph, edge_at, ends_at, IsPerfect, matching_cost}
 use Rattle.def_matching.specs.Dual.{crosses}
 use Rattle.def_matching.specs.declared.weighted.WEdge.{WEdge}

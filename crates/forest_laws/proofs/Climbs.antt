@@ -3,7 +3,7 @@ use Rattle.std.proofs.Common.{◌≡◌, ◌≢◌, ℕ, zero, suc, ◌+◌, ◌
 use Rattle.std.specs.Prelude.{nat_lt}
 use Rattle.std.proofs.lemmas.Bool.{cases_lt, lt-ltb, le-ltb}
 use Rattle.def_math.specs.Counts.{count_below}
-use Rattle.qm_laws.proofs.Counts.{count_below_le, count_below_lt, count_below_ones}
+use Rattle.sum_laws.proofs.Counts.{count_below_le, count_below_lt, count_below_ones}
 use Rattle.def_forest.specs.Darts.{Darts, AreDarts, far}
 use Rattle.def_forest.specs.Forests.{Forest, IsOutermost, number}
 use Rattle.def_forest.specs.Valid.{IsTree, IsInner, IsValid}

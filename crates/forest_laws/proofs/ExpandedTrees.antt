@@ -3,7 +3,7 @@ use Rattle.std.proofs.Common.{◌≡◌, ◌≢◌, ℕ, ◌+◌, ◌*◌, ◌-�
 use Rattle.std.proofs.Math.Nat.{mul-le-mul_left}
 use Rattle.std.proofs.lemmas.Bool.{cases_eq, cases_lt, cond-true, cond-false, eq-eqb, ne_eqb}
 use Rattle.def_math.specs.Searches.{least}
-use Rattle.qm_laws.proofs.Searches.{least_some}
+use Rattle.qm_dual.proofs.Searches.{least_some}
 use Rattle.def_forest.specs.Darts.{Darts, AreDarts, far}
 use Rattle.def_forest.specs.Forests.{Forest, IsTight, IsOutermost}
 use Rattle.def_forest.specs.Opened.{Opening, IsOpening, IsOpened}

@@ -2,7 +2,7 @@
 use Rattle.std.proofs.Common.{◌≡◌, ◌≢◌, ℕ, zero, suc, ◌%◌, ◌<◌, ◌≤◌, ◌⊎◌, refl, sym, ◌∙◌, ap, inl, inr, arith}
 use Rattle.std.proofs.lemmas.Bool.{cases_lt, eq-eqb, ne_eqb}
 use Rattle.def_math.specs.Counts.{count_below}
-use Rattle.qm_laws.proofs.Counts.{count_below_same, count_below_sum, count_below_none, count_below_one}
+use Rattle.sum_laws.proofs.Counts.{count_below_same, count_below_sum, count_below_none, count_below_one}
 use Rattle.def_forest.specs.Darts.{Darts, AreDarts}
 use Rattle.def_forest.specs.Forests.{Forest, number, walk, ring_sum, vertices_in}
 use Rattle.def_forest.specs.Valid.{IsNested, IsRing, IsJoint}

@@ -3,7 +3,7 @@ use Rattle.std.proofs.Common.{◌≡◌, ◌≢◌, ℕ, zero, suc, ◌<◌, Boo
 use Rattle.std.proofs.lemmas.Int.{ints}
 use Rattle.std.proofs.lemmas.Bool.{cond-true, cond-false, eq-eqb, ne_eqb}
 use Rattle.def_math.specs.Sums.{total_below}
-use Rattle.qm_laws.proofs.Sums.{total_below_same, total_below_sum, total_below_minus, total_below_none, total_below_one}
+use Rattle.sum_laws.proofs.Sums.{total_below_same, total_below_sum, total_below_minus, total_below_none, total_below_one}
 use Rattle.def_forest.specs.Darts.{Darts, AreDarts, far}
 use Rattle.def_forest.specs.Forests.{Forest, IsOutermost, dual_sum_of}
 use Rattle.def_forest.specs.Steps.{change, shifted}

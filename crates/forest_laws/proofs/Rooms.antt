@@ -3,7 +3,7 @@ use Rattle.std.proofs.Common.{◌≡◌, ◌≢◌, ℕ, zero, suc, ◌+◌, ◌
 use Rattle.std.specs.Prelude.{nat_lt}
 use Rattle.std.proofs.lemmas.Bool.{cases_eq, cases_lt, cond-true, cond-false, eq-eqb, ne_eqb, lt-ltb, le-ltb}
 use Rattle.def_math.specs.Counts.{count_below}
-use Rattle.qm_laws.proofs.Counts.{count_below_same, count_below_le, count_below_sum, count_below_none, count_below_one, count_below_ones, count_below_times}
+use Rattle.sum_laws.proofs.Counts.{count_below_same, count_below_le, count_below_sum, count_below_none, count_below_one, count_below_ones, count_below_times}
 use Rattle.def_forest.specs.Darts.{Darts, AreDarts}
 use Rattle.def_forest.specs.Forests.{Forest, live_at, number, sets_of, walk}
 use Rattle.def_forest.specs.Valid.{AreOutermost, IsNested, IsRing, IsJoint}

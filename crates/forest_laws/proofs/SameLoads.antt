@@ -1,7 +1,7 @@
 -- Where only a set of weight 0 holds other vertices than before, no load changes.
 use Rattle.std.proofs.Common.{◌≡◌, ◌≢◌, ℕ, ◌<◌, Bool, not, cond, ℤ, pos, ◌⊎◌, sym, ◌∙◌, ap, inl, inr}
 use Rattle.std.proofs.lemmas.Bool.{cases_eq}
-use Rattle.qm_laws.proofs.Sums.{total_below_same}
+use Rattle.sum_laws.proofs.Sums.{total_below_same}
 use Rattle.def_forest.specs.Forests.{Forest, load, splits}
 use Rattle.forest_laws.proofs.Writes.{by_none}
 

@@ -4,7 +4,7 @@ use Rattle.std.proofs.lemmas.Bool.{cases_eq, cases_lt, eq-eqb, eqb-true}
 use Rattle.def_mesh.specs.Faces.{Faces}
 use Rattle.def_mesh.specs.Darts.{darts, from_of}
 use Rattle.def_mesh.specs.Vertices.{fan_of}
-use Rattle.qm_laws.proofs.Filters.{IsKept, kept_at, place_of, rises}
+use Rattle.list_laws.proofs.Filters.{IsKept, kept_at, place_of, rises}
 
 -- The fan of v by places: its entries are the darts that leave v, each at one place, increasing.
 pub record IsFan (faces : Faces) (v : ℕ) (fan : List ℕ) : Type 0 where

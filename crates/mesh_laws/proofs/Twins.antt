@@ -4,7 +4,7 @@ use Rattle.std.proofs.lemmas.Bool.{and_parts, and_from, false_from_ne_true, eq-e
 use Rattle.def_mesh.specs.Faces.{Faces}
 use Rattle.def_mesh.specs.Darts.{darts, from_of, to_of, is_reverse, twin_of, IsTwin}
 use Rattle.def_mesh.specs.Manifold.{HasEdgesOnce}
-use Rattle.qm_laws.proofs.Filters.{find_none, find_one, find_passes}
+use Rattle.list_laws.proofs.Filters.{find_none, find_one, find_passes}
 
 pub reverse_twin : (faces : Faces) (d e : ℕ) → e < darts faces → is_reverse faces d e ≡ true → IsTwin faces d e
 reverse_twin faces d e l r = let b : (eqb (from_of faces e) (to_of faces d) ≡ true) × (eqb (to_of faces e) (from_of faces d) ≡ true) = and_parts _ _ r in (l, eqb-true _ _ b.0, eqb-true _ _ b.1)

@@ -2,7 +2,7 @@
 use Rattle.std.proofs.Common.{◌≡◌, ◌≢◌, ◌⊎◌, ℕ, zero, suc, Bool, true, false, cond, eqb, ◌&&◌, ◌+◌, ◌<◌, ◌≤◌, List, [], ◌∷◌, arith, sym, ap, ◌∙◌, refl, inl, inr}
 use Rattle.std.specs.List.{filter, list_any, list_all, range_with_len}
 use Rattle.std.proofs.lemmas.Bool.{or_left, or_right, or_cases, eq-eqb, eqb-true, and_parts, false≢true, false_from_ne_true}
-use Rattle.qm_laws.proofs.Filters.{any_in_range, range_any}
+use Rattle.list_laws.proofs.Filters.{any_in_range, range_any}
 use Rattle.def_cut.specs.Motion.{is_among}
 
 -- Among a list with one dart more.

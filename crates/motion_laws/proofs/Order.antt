@@ -3,7 +3,7 @@ use Rattle.std.proofs.Common.{◌≡◌, ◌≢◌, ◌⊎◌, ℕ, zero, suc, �
 use Rattle.std.specs.List.{list_any}
 use Rattle.std.proofs.Math.Bool.{or-false}
 use Rattle.std.proofs.lemmas.Bool.{eq-eqb, eqb-true, false≢true, cases_Bool, cases_eq, cases_lt, or_right, and_parts, and_from, not_from_false}
-use Rattle.qm_laws.proofs.Tests.{same_test}
+use Rattle.sum_laws.proofs.Tests.{same_test}
 use Rattle.std.proofs.lemmas.List.{get_or-set_same, get_or-set_other, length-set, length-replicate, length-map, length-append}
 use Rattle.def_cut.specs.FullCut.{is_on}
 use Rattle.def_cut.specs.declared.graph.Stop.{Stop}
@@ -12,7 +12,7 @@ use Rattle.def_cut.specs.Motion.{Terrain, State, end_of, with_next, ridden, is_a
 use Rattle.def_cut.specs.Traced.{finish, end_state}
 use Rattle.def_cut.specs.Events.{EventState, waiting, darts_in, rider_at, note_at, may_ride, mark_twin, after_ride_of, ends_at, may_settle, all_told, decided_at, is_closed, closed, after_settling, first_state, Event, May, Leads, rides_in, NobodyRuns}
 use Rattle.def_cut.specs.Events.Event.{Ride, Settle}
-use Rattle.qm_laws.proofs.Counts.{count_below_lt, count_below_ones}
+use Rattle.sum_laws.proofs.Counts.{count_below_lt, count_below_ones}
 use Rattle.motion_laws.proofs.Among.{among_here, any_at, any_where, all_at, not_all, AreApart}
 use Rattle.motion_laws.proofs.Marks.{none_on, none_found, no_darts, twin_marks, from_marks, marked_long, noted_more, noted_longer, found_more, apart_few, among_append, apart_append}
 use Rattle.motion_laws.proofs.Next.{with_later}

@@ -2,7 +2,7 @@
 use Rattle.std.proofs.Common.{◌≡◌, ◌≢◌, ◌⊎◌, ℕ, zero, suc, ◌<◌, ◌≤◌, Bool, true, false, not, cond, ◌||◌, List, [], ◌∷◌, map, Option, Some, None, is_some, sym, subst, ap, ◌∙◌, refl, inl, inr, arith}
 use Rattle.std.proofs.lemmas.Bool.{eq-eqb, eqb-true, false≢true, cases_Bool, cases_eq, or_left, or_right, or_cases}
 use Rattle.def_math.specs.Counts.{count_below}
-use Rattle.qm_laws.proofs.Counts.{count_below_lt}
+use Rattle.sum_laws.proofs.Counts.{count_below_lt}
 use Rattle.def_cut.specs.Cuts.{IsCross, HasCross, GoesOn as CutGoesOn, IsUncut, IsCut}
 use Rattle.def_cut.specs.Trails.{Trail, IsTracked, IsTraced}
 use Rattle.def_cut.specs.Motion.{Terrain, State, end_of, ridden, is_among, begun, step, start, after}

@@ -5,3 +5,4 @@ pub mod Lies
 pub mod PlanLies
 pub mod OnePlan
 pub mod MeshLayouts
+pub mod Bounds

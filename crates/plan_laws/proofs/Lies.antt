@@ -16,7 +16,7 @@ use Rattle.def_layout.specs.Arcs.{to, IsRun, LiesAt, arc_at, dart_at, long_at}
 use Rattle.def_layout.specs.Borders.{side_size, border_dart}
 use Rattle.def_layout.specs.Nodes.{AreNodes}
 use Rattle.def_layout.specs.Plans.{Plan, number, vertex_at, layout_of, IsLayout}
-use Rattle.qm_laws.proofs.Filters.{IsKept, kept_at, rises}
+use Rattle.list_laws.proofs.Filters.{IsKept, kept_at, rises}
 use Rattle.layout_laws.proofs.Runs.{run_inner}
 use Rattle.layout_laws.proofs.Borders.{IsLine, line, on_side, line_from}
 use Rattle.written_laws.proofs.Sides.{slot, IsOn, place_on}

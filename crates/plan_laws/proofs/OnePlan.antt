@@ -2,8 +2,8 @@
 use Rattle.std.proofs.Common.{◌≡◌, ◌⊎◌, ℕ, zero, suc, ◌+◌, ◌-◌, ◌<◌, ◌≤◌, Bool, true, false, List, [], length, get_or, sym, ◌∙◌, ap, subst, inl, inr, arith}
 use Rattle.std.proofs.lemmas.Bool.{cases_eq, cases_order}
 use Rattle.std.proofs.lemmas.List.{ext_get_or}
-use Rattle.qm_laws.proofs.Counts.{count_below_same}
-use Rattle.qm_laws.proofs.Runs.{count_rises}
+use Rattle.sum_laws.proofs.Counts.{count_below_same}
+use Rattle.written_laws.proofs.Runs.{count_rises}
 use Rattle.def_mesh.specs.HalfEdges.{HalfEdges, IsQuadManifold, half_edges}
 use Rattle.def_mesh.specs.Vertices.{vertex_count}
 use Rattle.def_cut.specs.Cuts.{Cut, IsCut}

@@ -14,7 +14,7 @@ use Rattle.def_layout.specs.Nodes.{is_node, AreNodes}
 use Rattle.def_layout.specs.Plans.{Plan, IsLayout, layout_of, vertex_at}
 use Rattle.def_written.specs.Laws.{AreQuads, LiesIn}
 use Rattle.def_written.specs.PlanLaws.{PlanLaw}
-use Rattle.qm_laws.proofs.Filters.{IsKept}
+use Rattle.list_laws.proofs.Filters.{IsKept}
 use Rattle.mesh_laws.proofs.HalfEdges.{manifold_law}
 use Rattle.face_laws.proofs.FullCuts.{full_cut_law}
 use Rattle.layout_laws.proofs.FaceNodes.{are_nodes}

@@ -5,7 +5,7 @@ use Rattle.std.specs.Ordering.{int_eq}
 use Rattle.std.proofs.lemmas.Int.{ints}
 use Rattle.std.proofs.lemmas.Bool.{cases_lt, not-false}
 use Rattle.std.proofs.lemmas.Bool.Decides.{Decides-int_eq}
-use Rattle.qm_laws.proofs.Searches.{least_none, none_below}
+use Rattle.qm_dual.proofs.Searches.{least_none, none_below}
 use Rattle.def_flow.specs.Network.{Network, IsWithinBounds}
 use Rattle.def_flow.specs.Admissible.{IsAdmissible, IsLeast, deviation, entries, side_sum}
 use Rattle.def_flow.specs.Units.{low, down, on_cost}
@@ -19,9 +19,9 @@ use Rattle.def_matching.specs.declared.weighted.Verdict.{Verdict}
 use Rattle.def_matching.specs.declared.weighted.Verdict.TheVariants.{Yes}
 use Rattle.qm_net.proofs.Balances.{no_side_past}
 use Rattle.qm_dual.proofs.Verdicts.{yes_says, says_yes}
-use Rattle.qm_units.proofs.Box.{own_box}
-use Rattle.qm_units.proofs.Law.{box_deviation}
-use Rattle.qm_units.proofs.Sound.{sound}
+use Rattle.gadget_laws.proofs.Box.{own_box}
+use Rattle.gadget_laws.proofs.Law.{box_deviation}
+use Rattle.gadget_laws.proofs.Sound.{sound}
 use Rattle.qm_cert.specs.Faults.{first_of_two, or_else, below_verdict, unequal_verdict, list_verdict}
 
 -- The verdict on the sum, by its three numbers.

@@ -6,7 +6,7 @@ use Rattle.std.proofs.lemmas.Int.{ints}
 use Rattle.std.proofs.lemmas.Bool.{and_parts}
 use Rattle.std.proofs.lemmas.List.{length-map, get_or-map}
 use Rattle.def_math.specs.Counts.{count_below}
-use Rattle.qm_laws.proofs.Counts.{count_below_le, count_below_ones, count_below_times}
+use Rattle.sum_laws.proofs.Counts.{count_below_le, count_below_ones, count_below_times}
 use Rattle.def_flow.specs.Network.{Network, IsWithinBounds, arc_at, ends}
 use Rattle.def_flow.specs.Admissible.{arc_deviation, deviation, entries}
 use Rattle.def_flow.specs.Units.{low}

@@ -3,9 +3,9 @@ use Rattle.std.proofs.Common.{◌≡◌, ℕ, zero, suc, ◌+◌, ◌*◌, ◌^�
 use Rattle.std.specs.Prelude.{slice_index}
 use Rattle.def_math.specs.Sums.{total}
 use Rattle.def_math.specs.Tables.{at_place, IsRaised}
-use Rattle.qm_laws.proofs.Counts.{count_total, count_below_total}
-use Rattle.qm_laws.proofs.Sums.{total_same, total_below_same}
-use Rattle.qm_table.proofs.Tallies.{raised_as, raised_none, tally_low, tally_more}
+use Rattle.sum_laws.proofs.Counts.{count_total, count_below_total}
+use Rattle.sum_laws.proofs.Sums.{total_same, total_below_same}
+use Rattle.table_laws.proofs.Tallies.{raised_as, raised_none, tally_low, tally_more}
 use Rattle.def_flow.specs.Network.{arc_at, ends}
 use Rattle.def_flow.specs.Admissible.{AreLengths, entries, is_on_side, side_sum}
 use Rattle.def_flow.specs.declared.net.Arc.{Arc}

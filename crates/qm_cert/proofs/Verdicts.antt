@@ -6,7 +6,7 @@ use Rattle.std.proofs.lemmas.Int.{ints}
 use Rattle.std.proofs.lemmas.Bool.{cases_eq}
 use Rattle.std.proofs.lemmas.Bool.Decides.{Decides-int_eq}
 use Rattle.def_math.specs.Searches.{least}
-use Rattle.qm_laws.proofs.Searches.{least_low, least_same}
+use Rattle.qm_dual.proofs.Searches.{least_low, least_same}
 use Rattle.def_flow.specs.Network.{Network}
 use Rattle.def_flow.specs.Admissible.{entries, side_sum}
 use Rattle.def_flow.specs.Accepted.{unequal_fault}

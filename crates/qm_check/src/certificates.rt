@@ -15,7 +15,7 @@ use def_flow::{Cert, MAX_FLOOR, Net};
 use def_layout::TMesh;
 use def_run::{CheckFail, Why};
 use qm_layoutnet::with_floor;
-use qm_remeshed::Remesh;
+use qm_write::Remesh;
 use std::alloc::Global;
 
 /// What is kept by the certificates of a text, and how far the used lengths are from what is wanted.

@@ -13,8 +13,7 @@ ghost use Rattle.qm_check.specs.Checked.{IsDifference};
 use def_run::{CheckFail, Why};
 use def_text::Soup;
 use qm_output::Comparison;
-use qm_remeshed::{PutFail, Remesh, put_remeshed};
-use qm_write::CutMesh;
+use qm_write::{CutMesh, PutFail, Remesh, put_remeshed};
 use std::alloc::Global;
 
 /// Compares the bytes with the text of a remesh, which is made piece by piece and not kept.

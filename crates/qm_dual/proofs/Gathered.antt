@@ -6,7 +6,7 @@ use mir.Val.{to_z, of_z}
 use Rattle.std.proofs.lemmas.Int.{ints}
 use Rattle.std.proofs.lemmas.Bool.{cases_eq, eq-eqb, ne_eqb, false_from_ne_true}
 use Rattle.def_math.specs.Sums.{total_below}
-use Rattle.qm_laws.proofs.Sums.{total_below_same, total_below_sum, total_below_none, total_below_one}
+use Rattle.sum_laws.proofs.Sums.{total_below_same, total_below_sum, total_below_none, total_below_one}
 use Rattle.def_matching.specs.Dual.{DualLists, IsNested, AreSmall, z_at}
 use Rattle.qm_dual.specs.Nest.{climbs, around, apart, named_sum, AreSums, IsMeeting}
 use Rattle.qm_dual.proofs.Climbs.{set_later, climb_on, climb_none, passed_later}

@@ -6,3 +6,6 @@ mod Picks
 mod Tallies
 pub mod Weak
 pub mod Verdicts
+pub mod Ends
+pub mod Entries
+pub mod Searches

@@ -2,7 +2,7 @@
 use Rattle.std.proofs.Common.{◌≡◌, ℕ, suc, ◌+◌, ◌<◌, ◌≤◌, ◌||◌, ◌&&◌, Bool, true, max, List, refl, sym, ◌∙◌, ap, inl, inr, ◌⊎◌, arith}
 use Rattle.std.specs.Prelude.{slice_index}
 use Rattle.std.proofs.lemmas.Bool.{cases_eq, cases_lt, eq-eqb, and_parts, and_from}
-use Rattle.qm_laws.proofs.Tests.{same_test}
+use Rattle.sum_laws.proofs.Tests.{same_test}
 use Rattle.def_matching.specs.Dual.{IsNested}
 use Rattle.qm_dual.specs.Nest.{climbs, AreHeads, IsMeeting, HaveSameSets}
 use Rattle.qm_dual.proofs.Climbs.{set_later, climb_on, climb_none, passed_further, passed_inner}

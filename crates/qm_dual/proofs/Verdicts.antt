@@ -5,7 +5,7 @@ use Rattle.std.proofs.lemmas.Bool.{eq-eqb, not-false}
 use Rattle.std.proofs.lemmas.Bool.Decides.{nat_tests}
 use Rattle.std.specs.Prelude.{int_lt, slice_index}
 use Rattle.def_math.specs.Searches.{least}
-use Rattle.qm_laws.proofs.Searches.{least_none, least_some, least_same, none_below}
+use Rattle.qm_dual.proofs.Searches.{least_none, least_some, least_same, none_below}
 use Rattle.def_matching.specs.declared.weighted.Verdict.{Verdict}
 use Rattle.def_matching.specs.declared.weighted.Verdict.TheVariants.{Yes, Shape, Even, Negative, Short}
 use Rattle.def_matching.specs.Matching.{Graph, IsGraph, edge_at, IsPerfect, matching_cost}

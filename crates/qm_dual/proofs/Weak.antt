@@ -4,10 +4,10 @@ use Rattle.std.proofs.lemmas.Int.{ints}
 use Rattle.std.proofs.lemmas.Bool.Decides.{nat_tests}
 use Rattle.def_math.specs.Counts.{count, count_below}
 use Rattle.def_math.specs.Sums.{total, total_below}
-use Rattle.qm_laws.proofs.Counts.{count_below_total}
-use Rattle.qm_laws.proofs.Ends.{EndsBelow, ends_once}
-use Rattle.qm_laws.proofs.Entries.{total_entries}
-use Rattle.qm_laws.proofs.Sums.{total_sum, total_below_le, two_orders}
+use Rattle.sum_laws.proofs.Counts.{count_below_total}
+use Rattle.qm_dual.proofs.Ends.{EndsBelow, ends_once}
+use Rattle.qm_dual.proofs.Entries.{total_entries}
+use Rattle.sum_laws.proofs.Sums.{total_sum, total_below_le, two_orders}
 use Rattle.def_matching.specs.declared.weighted.WEdge.{WEdge}
 use Rattle.def_math.specs.Increasing.{IsIncreasing}
 use Rattle.def_matching.specs.Matching.{Graph, IsGraph, edge_at, ends_at, IsPerfect, matching_cost}

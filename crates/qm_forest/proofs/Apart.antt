@@ -4,7 +4,7 @@ use Rattle.std.specs.Prelude.{unsigned_abs}
 use Rattle.std.proofs.lemmas.Int.{ints}
 use Rattle.std.proofs.lemmas.Bool.{cases_eq, cases_Bool, cond-true, cond-false, eq-eqb, ne_eqb, eqb-true, or_cases, or_left}
 use Rattle.def_math.specs.Sums.{total_below}
-use Rattle.qm_laws.proofs.Sums.{total_below_same, total_below_sum, total_below_one, total_below_none}
+use Rattle.sum_laws.proofs.Sums.{total_below_same, total_below_sum, total_below_one, total_below_none}
 use Rattle.def_forest.specs.Forests.{splits, walk}
 use Rattle.def_forest.specs.Tables.{climbs}
 use Rattle.forest_laws.proofs.Writes.{by_order, by_same}

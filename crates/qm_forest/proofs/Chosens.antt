@@ -4,7 +4,7 @@ use Rattle.std.proofs.lemmas.Bool.{cases_lt, cond-true, cond-false}
 use Rattle.std.proofs.lemmas.List.{get_or_append_left, get_or-append_right, length-replicate}
 use Rattle.def_math.specs.Counts.{count, count_below}
 use Rattle.def_math.specs.Increasing.{IsIncreasing}
-use Rattle.qm_laws.proofs.Counts.{count_append, count_below_none, count_below_same}
+use Rattle.sum_laws.proofs.Counts.{count_append, count_below_none, count_below_same}
 use Rattle.def_matching.specs.Matching.{Graph, IsSmallGraph, edge_at, ends_at}
 use Rattle.def_forest.specs.Forests.{number, splits}
 use Rattle.def_forest.specs.Tables.{ForestTables, forest_of, MatchesBut}

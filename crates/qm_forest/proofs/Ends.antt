@@ -4,7 +4,7 @@ use Rattle.std.proofs.lemmas.Int.{ints}
 use Rattle.std.proofs.lemmas.Bool.{cases_eq, cases_lt}
 use Rattle.def_math.specs.Increasing.{IsIncreasing}
 use Rattle.def_math.specs.Sums.{total}
-use Rattle.qm_laws.proofs.Sums.{total_below_same, two_orders}
+use Rattle.sum_laws.proofs.Sums.{total_below_same, two_orders}
 use Rattle.def_matching.specs.Matching.{Graph, IsSmallGraph, IsPerfect, edge_at, matching_cost}
 use Rattle.def_matching.specs.Dual.{crosses}
 use Rattle.def_matching.specs.declared.weighted.WEdge.{WEdge}

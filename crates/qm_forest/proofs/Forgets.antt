@@ -4,7 +4,7 @@ use Rattle.std.specs.Prelude.{unsigned_abs}
 use Rattle.std.proofs.lemmas.Int.{ints}
 use Rattle.std.proofs.lemmas.Bool.{cases_Bool}
 use Rattle.std.proofs.lemmas.List.Sums.{sum_by-cons}
-use Rattle.qm_laws.proofs.Sums.{total_below_same}
+use Rattle.sum_laws.proofs.Sums.{total_below_same}
 use Rattle.def_forest.specs.Forests.{dual_sum_of}
 use Rattle.def_forest.specs.Steps.{change}
 use Rattle.def_forest.specs.Tables.{ForestTables, forest_of, label_at, out_of}

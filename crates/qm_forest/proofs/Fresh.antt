@@ -5,9 +5,9 @@ use Rattle.std.proofs.lemmas.Int.{ints}
 use Rattle.std.proofs.lemmas.List.{get_or-replicate, length-replicate, get_or_past}
 use Rattle.std.proofs.lemmas.List.Folds.{sum_by-replicate}
 use Rattle.std.proofs.lemmas.Bool.{cases_eq, cases_lt, cond-true, cond-false, eq-eqb, ne_eqb, eqb-true}
-use Rattle.qm_laws.proofs.Sums.{total_below_one}
+use Rattle.sum_laws.proofs.Sums.{total_below_one}
 use Rattle.def_math.specs.Counts.{count_below}
-use Rattle.qm_laws.proofs.Counts.{count_below_none}
+use Rattle.sum_laws.proofs.Counts.{count_below_none}
 use Rattle.def_matching.specs.Matching.{Graph, IsGraph, edge_at}
 use Rattle.def_forest.specs.Darts.{darts_of, far}
 use Rattle.def_forest.specs.Forests.{walk, live_at, load, dual_sum_of}

@@ -6,7 +6,7 @@ use Rattle.std.specs.Prelude.{unsigned_abs}
 use Rattle.std.proofs.lemmas.Int.{ints}
 use Rattle.std.proofs.lemmas.Bool.{cases_eq, cases_Bool, cond-true, cond-false}
 use Rattle.def_math.specs.Sums.{total_below}
-use Rattle.qm_laws.proofs.Sums.{total_below_same}
+use Rattle.sum_laws.proofs.Sums.{total_below_same}
 use Rattle.def_forest.specs.Steps.{change}
 use Rattle.def_forest.specs.Tables.{ForestTables, climbs, label_at, out_of, up_at, weight_at}
 use Rattle.def_forest.specs.declared.kinds.Label.{Label}

@@ -2,7 +2,7 @@
 use Rattle.std.proofs.Common.{◌≡◌, ◌≢◌, ℕ, suc, ◌+◌, ◌-◌, ◌*◌, ◌/◌, ◌%◌, ◌<◌, ◌≤◌, Bool, true, false, cond, eqb, List, length, get_or, Option, Some, None, ◌⊎◌, refl, sym, ◌∙◌, ap, subst, inl, inr, arith}
 use Rattle.std.proofs.Math.ListN.{set}
 use Rattle.std.proofs.lemmas.Bool.{cases_Bool, cases_eq, cases_lt, cond-true, cond-false, eq-eqb, eqb-true, ne_eqb}
-use Rattle.qm_laws.proofs.Counts.{count_below_none, count_below_one, count_below_same}
+use Rattle.sum_laws.proofs.Counts.{count_below_none, count_below_one, count_below_same}
 use Rattle.def_matching.specs.Matching.{Graph, IsSmallGraph}
 use Rattle.def_forest.specs.Darts.{AreDarts, darts_of, far, twin_of}
 use Rattle.def_forest.specs.Forests.{Forest, number, splits, walk}

@@ -7,9 +7,9 @@ use Rattle.std.proofs.lemmas.Bool.{cases_eq, cases_lt, cond-false, cond-true, eq
 use Rattle.std.proofs.lemmas.List.{get_or_append_left, get_or-append_right, get_or_read, length-append}
 use Rattle.def_math.specs.Counts.{count, count_below}
 use Rattle.def_math.specs.Sums.{total, total_below}
-use Rattle.qm_laws.proofs.Counts.{count_below_one, count_below_total, count_total}
-use Rattle.qm_laws.proofs.Entries.{total_entries}
-use Rattle.qm_laws.proofs.Sums.{total_below_same, total_below_sum}
+use Rattle.sum_laws.proofs.Counts.{count_below_one, count_below_total, count_total}
+use Rattle.qm_dual.proofs.Entries.{total_entries}
+use Rattle.sum_laws.proofs.Sums.{total_below_same, total_below_sum}
 use Rattle.def_forest.specs.Forests.{live_at, number}
 use Rattle.def_forest.specs.Tables.{ForestTables, up_at}
 use Rattle.qm_forest.specs.Outlines.{AreDistinct, AreEntries, AreWeights, IsListOf, entry_of, set_in}

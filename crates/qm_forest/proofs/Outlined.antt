@@ -5,10 +5,10 @@ use Rattle.std.specs.List.{list_any}
 use Rattle.std.proofs.lemmas.Int.{ints}
 use Rattle.std.proofs.lemmas.Bool.{cases_eq, cases_lt, cond-false, cond-true, eq-eqb, eqb-true, le-leb, le-ltb, lt-ltb, ne_eqb}
 use Rattle.def_math.specs.Sums.{total, total_below}
-use Rattle.qm_laws.proofs.Counts.{count_below_same}
-use Rattle.qm_laws.proofs.Entries.{total_entries}
-use Rattle.qm_laws.proofs.Sums.{total_below_one, total_below_same, total_below_sum}
-use Rattle.qm_laws.proofs.Tests.{same_test}
+use Rattle.sum_laws.proofs.Counts.{count_below_same}
+use Rattle.qm_dual.proofs.Entries.{total_entries}
+use Rattle.sum_laws.proofs.Sums.{total_below_one, total_below_same, total_below_sum}
+use Rattle.sum_laws.proofs.Tests.{same_test}
 use Rattle.def_matching.specs.Matching.{Graph, IsSmallGraph, edge_at}
 use Rattle.def_matching.specs.Dual.{DualLists, SaysYes, IsNested, crosses, dual_sum, holds, is_odd_size, is_up, load as dual_load, set_size, sets_from, y_at, z_at}
 use Rattle.def_forest.specs.Darts.{AreDarts, darts_of}

@@ -8,7 +8,7 @@ use Rattle.std.proofs.lemmas.Bool.{cases_eq, cases_lt, cond-false, eq-eqb, ne_eq
 use Rattle.std.proofs.lemmas.List.Sums.{sum_by-set}
 use Rattle.std.proofs.lemmas.Option.{slice_get-get_or, slice_get_past, slice_get_within, get_or_from_slice_get}
 use Rattle.def_math.specs.Counts.{count_below}
-use Rattle.qm_laws.proofs.Counts.{count_below_same, count_below_sum, count_below_one}
+use Rattle.sum_laws.proofs.Counts.{count_below_same, count_below_sum, count_below_one}
 use Rattle.def_forest.specs.Forests.{live_at, number}
 use Rattle.qm_pool.specs.declared.pool.Node.{Node}
 use Rattle.qm_forest.specs.Ties.{IsPooled}

@@ -12,7 +12,7 @@ use Rattle.std.proofs.lemmas.List.Elements.{All-push, Contains-push, Contains-ap
 use Rattle.std.proofs.lemmas.List.Sums.{sum_by-cons}
 use Rattle.std.proofs.lemmas.List.Sorted.{sum_by-IsPermutation, All-permutation, Contains-permutation, IsNonDecreasingBy-from_all_adjacent}
 use Rattle.def_math.specs.Counts.{count, count_below}
-use Rattle.qm_laws.proofs.Counts.{count_append, count_below_none}
+use Rattle.sum_laws.proofs.Counts.{count_append, count_below_none}
 use Rattle.def_forest.specs.Forests.{live_at}
 use Rattle.def_forest.specs.Tables.{ForestTables}
 use Rattle.qm_forest.specs.Rounds.{AreInOrder, HasSets, IsEntry, IsRound, IsSized, WaitWithin, waiting, waits_but, waits_for}

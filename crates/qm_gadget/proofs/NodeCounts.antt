@@ -11,9 +11,9 @@ use Rattle.def_flow.specs.declared.net.End.{End}
 use Rattle.def_flow.specs.declared.units.ArcUnit.{ArcUnit}
 use Rattle.qm_gadget.specs.Layout.{IsAtNodes, AreAtNodes}
 use Rattle.def_math.specs.Tables.{at_place, IsRaised, IsTally}
-use Rattle.qm_table.proofs.Tallies.{raised_as, raised_none, tally_low, tally_more}
+use Rattle.table_laws.proofs.Tallies.{raised_as, raised_none, tally_low, tally_more}
 use Rattle.qm_gadget.specs.Over.{end_active}
-use Rattle.qm_laws.proofs.Tests.{once_at_most}
+use Rattle.sum_laws.proofs.Tests.{once_at_most}
 
 -- Functions that agree everywhere are equal.
 pub same_everywhere : {X : Type 0} (f g : ℕ → X) → ((v : ℕ) → f v ≡ g v) → f ≡ g

@@ -8,9 +8,9 @@ use Rattle.def_flow.specs.Units.{is_active, active_at}
 use Rattle.def_flow.specs.MatchingGraph.{are_alike}
 use Rattle.def_flow.specs.declared.net.End.{End}
 use Rattle.def_flow.specs.declared.units.ArcUnit.{ArcUnit}
-use Rattle.qm_units.specs.Marks.{choice, places, take_end, end_marks, marks_by, units_marks, differ, mark_from, rim_marks}
-use Rattle.qm_units.specs.Told.{width_by}
-use Rattle.qm_units.proofs.Pick.{choice_length}
+use Rattle.gadget_laws.specs.Marks.{choice, places, take_end, end_marks, marks_by, units_marks, differ, mark_from, rim_marks}
+use Rattle.gadget_laws.specs.Told.{width_by}
+use Rattle.gadget_laws.proofs.Pick.{choice_length}
 use Rattle.qm_gadget.specs.Marked.{right_marks, mark_if, rim_by, turn_marks}
 use Rattle.qm_gadget.proofs.Fans.{two_parts}
 

@@ -13,10 +13,10 @@ use Rattle.def_flow.specs.MatchingGraph.{graph_by, graph_of_units, matching_grap
 use Rattle.def_flow.specs.declared.net.End.{End}
 use Rattle.def_flow.specs.declared.units.ArcUnit.{ArcUnit}
 use Rattle.def_flow.specs.Admissible.{AreLengths}
-use Rattle.qm_units.proofs.Units.{UnitsAt}
-use Rattle.qm_units.proofs.Costs.{costs}
-use Rattle.qm_units.proofs.Law.{arcs_at, units_at, graph_law}
-use Rattle.qm_units.proofs.Size.{size_law}
+use Rattle.gadget_laws.proofs.Units.{UnitsAt}
+use Rattle.gadget_laws.proofs.Costs.{costs}
+use Rattle.gadget_laws.proofs.Law.{arcs_at, units_at, graph_law}
+use Rattle.gadget_laws.proofs.Size.{size_law}
 use Rattle.qm_gadget.specs.Layout.{copies_in, AreAtNodes}
 use Rattle.def_flow.specs.Units.{units_over}
 use Rattle.qm_gadget.specs.Ready.{graph_by_lows, IsReady, IsPlan}

@@ -13,9 +13,9 @@ use Rattle.def_flow.specs.MatchingGraph.{graph_by, units_links, rim_links, lone_
 use Rattle.def_math.specs.Counts.{count_below}
 use Rattle.def_flow.specs.declared.net.End.{End}
 use Rattle.def_flow.specs.declared.units.ArcUnit.{ArcUnit}
-use Rattle.qm_units.specs.Marks.{trues, units_marks, marks_by}
-use Rattle.qm_units.specs.Told.{past, marks_from, width_by, state_told, states_told, steps_told, lengths_on}
-use Rattle.qm_units.proofs.Units.{units_length}
+use Rattle.gadget_laws.specs.Marks.{trues, units_marks, marks_by}
+use Rattle.gadget_laws.specs.Told.{past, marks_from, width_by, state_told, states_told, steps_told, lengths_on}
+use Rattle.gadget_laws.proofs.Units.{units_length}
 use Rattle.qm_gadget.specs.Read.{width_of_unit, first_below, skip_below, lengths_by}
 use Rattle.qm_gadget.proofs.Numbers.{marks_width}
 

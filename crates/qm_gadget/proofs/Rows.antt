@@ -2,7 +2,7 @@
 use Rattle.std.proofs.Common.{ℕ, ◌+◌, ◌<◌, ◌≤◌, List, length}
 use Rattle.std.specs.Prelude.{slice_index}
 use Rattle.def_math.specs.Counts.{count_below}
-use Rattle.qm_table.proofs.Ranges.{part_low}
+use Rattle.table_laws.proofs.Ranges.{part_low}
 use Rattle.qm_gadget.specs.Layout.{copies_in}
 
 -- The copies of a node end where those of the next begin.

@@ -9,11 +9,11 @@ use Rattle.def_flow.specs.Units.{low, cap, units_over, units, states_over, state
 use Rattle.def_flow.specs.MatchingGraph.{graph_by, lone_vertex, first_fresh, rim, units_links, rim_links}
 use Rattle.def_flow.specs.declared.units.ArcUnit.{ArcUnit}
 use Rattle.def_flow.specs.Gadget.{IsStepUp, IsInBox}
-use Rattle.qm_units.specs.Box.{ups, matching_told}
-use Rattle.qm_units.proofs.Steps.{quotient, step_up}
-use Rattle.qm_units.specs.Marks.{places, states_marks, units_marks, rim_marks, rim_states}
-use Rattle.qm_units.proofs.Chain.{rim_length}
-use Rattle.qm_units.proofs.Units.{units_length, states_length}
+use Rattle.gadget_laws.specs.Box.{ups, matching_told}
+use Rattle.gadget_laws.proofs.Steps.{quotient, step_up}
+use Rattle.gadget_laws.specs.Marks.{places, states_marks, units_marks, rim_marks, rim_states}
+use Rattle.gadget_laws.proofs.Chain.{rim_length}
+use Rattle.gadget_laws.proofs.Units.{units_length, states_length}
 use Rattle.qm_gadget.specs.Layout.{copies_in}
 use Rattle.qm_gadget.specs.Marked.{rim_by}
 use Rattle.qm_gadget.specs.Ready.{IsReady, IsPlan, marks_over}

@@ -9,13 +9,13 @@ use Rattle.def_flow.specs.Units.{low, cap, units, states_at, active, rim_active}
 use Rattle.def_flow.specs.MatchingGraph.{graph_by, matching_graph}
 use Rattle.def_flow.specs.declared.units.ArcUnit.{ArcUnit}
 use Rattle.def_flow.specs.Gadget.{IsGadgetOf, IsInBox, lows, caps}
-use Rattle.qm_units.specs.Box.{ups, matching_told}
-use Rattle.qm_units.proofs.Steps.{in_box}
-use Rattle.qm_units.specs.Marks.{places}
-use Rattle.qm_units.proofs.Law.{matching_law}
-use Rattle.qm_units.proofs.Size.{size_law}
-use Rattle.qm_units.proofs.Arcs.{lengths_law, told_in_box}
-use Rattle.qm_units.specs.Told.{marks_from, states_told, lengths_told}
+use Rattle.gadget_laws.specs.Box.{ups, matching_told}
+use Rattle.gadget_laws.proofs.Steps.{in_box}
+use Rattle.gadget_laws.specs.Marks.{places}
+use Rattle.gadget_laws.proofs.Law.{matching_law}
+use Rattle.gadget_laws.proofs.Size.{size_law}
+use Rattle.gadget_laws.proofs.Arcs.{lengths_law, told_in_box}
+use Rattle.gadget_laws.specs.Told.{marks_from, states_told, lengths_told}
 use Rattle.def_flow.specs.declared.gadget.Gadget.{Gadget}
 use Rattle.def_flow.specs.Units.{units_over, states_over}
 use Rattle.qm_gadget.specs.Ready.{IsReady, marks_over}

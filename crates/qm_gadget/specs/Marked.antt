@@ -3,7 +3,7 @@ use Rattle.std.specs.Prelude.{ℕ, Bool, true, false, cond, not, ◌&&◌, List,
 use Rattle.def_flow.specs.Units.{is_active}
 use Rattle.def_flow.specs.MatchingGraph.{are_alike}
 use Rattle.def_flow.specs.declared.net.End.{End}
-use Rattle.qm_units.specs.Marks.{end_marks, differ}
+use Rattle.gadget_laws.specs.Marks.{end_marks, differ}
 
 -- The marks of the edges of a unit's second end, and of the edge inside it where the signs are alike.
 abbrev pub right_marks : (ℕ → ℕ) → (ℕ → ℕ) → Bool → End → End → List Bool

@@ -4,8 +4,8 @@ use Rattle.def_flow.specs.declared.units.ArcUnit.{ArcUnit}
 use Rattle.def_math.specs.Counts.{count}
 use Rattle.def_flow.specs.Network.{Network}
 use Rattle.def_flow.specs.Units.{active}
-use Rattle.qm_units.specs.Marks.{trues}
-use Rattle.qm_units.specs.Told.{width_by, marks_from, states_told}
+use Rattle.gadget_laws.specs.Marks.{trues}
+use Rattle.gadget_laws.specs.Told.{width_by, marks_from, states_told}
 use Rattle.def_flow.specs.Units.{units_over}
 use Rattle.qm_gadget.specs.Ready.{own_states}
 

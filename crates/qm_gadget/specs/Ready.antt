@@ -4,7 +4,7 @@ use Rattle.def_flow.specs.Network.{Network}
 use Rattle.def_matching.specs.Matching.{Graph}
 use Rattle.def_flow.specs.MatchingGraph.{graph_of_units}
 use Rattle.def_flow.specs.Units.{active, rim_active}
-use Rattle.qm_units.specs.Marks.{states_marks}
+use Rattle.gadget_laws.specs.Marks.{states_marks}
 use Rattle.qm_gadget.specs.Layout.{AreAtNodes}
 use Rattle.def_flow.specs.Units.{units_over, states_over}
 use Rattle.qm_gadget.specs.Over.{AreBoxes, AreCounts}

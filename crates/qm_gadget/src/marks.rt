@@ -5,8 +5,8 @@ ghost use Rattle.std.specs.Prelude.{OnOk, IfOk};
 ghost use Rattle.def_math.specs.Tables.{IsRaised};
 ghost use Rattle.def_flow.specs.Units.{active_at};
 ghost use Rattle.def_flow.specs.Units.{is_active as is_active_end};
-ghost use Rattle.qm_units.specs.Marks.{places, choice, end_marks, marks_by, units_marks};
-ghost use Rattle.qm_units.specs.Told.{width_by};
+ghost use Rattle.gadget_laws.specs.Marks.{places, choice, end_marks, marks_by, units_marks};
+ghost use Rattle.gadget_laws.specs.Told.{width_by};
 ghost use Rattle.qm_gadget.specs.Layout.{copies_in, IsAtNodes, AreAtNodes};
 ghost use Rattle.qm_gadget.specs.Marked.{right_marks};
 

@@ -5,9 +5,9 @@ ghost use Rattle.def_flow.specs.Network.{network, IsWithinBounds};
 ghost use Rattle.def_flow.specs.Admissible.{deviation, entries, IsAdmissible};
 ghost use Rattle.def_flow.specs.Gadget.{IsGadgetOf, IsInBox};
 ghost use Rattle.def_matching.specs.Matching.{graph, matching_cost, IsPerfect};
-ghost use Rattle.qm_units.specs.Marks.{places, states_marks};
+ghost use Rattle.gadget_laws.specs.Marks.{places, states_marks};
 ghost use Rattle.qm_gadget.specs.Layout.{copies_in, AreAtNodes};
-ghost use Rattle.qm_units.specs.Box.{ups};
+ghost use Rattle.gadget_laws.specs.Box.{ups};
 ghost use Rattle.qm_gadget.specs.Ready.{IsReady, marks_over};
 
 use crate::Memory;

@@ -2,7 +2,7 @@
 
 ghost use Rattle.std.specs.Prelude.{◌≡◌, ◌+◌, ◌*◌, ◌^◌, ◌≤◌, [], ◌∷◌, ◌++◌, not, ◌&&◌, cond, length, OnOk, IfOk};
 ghost use Rattle.def_flow.specs.Units.{is_active as is_active_end};
-ghost use Rattle.qm_units.specs.Marks.{places, rim_states, with_state, differ};
+ghost use Rattle.gadget_laws.specs.Marks.{places, rim_states, with_state, differ};
 ghost use Rattle.qm_gadget.specs.Marked.{mark_if, rim_by, turn_marks};
 
 use crate::marks::push_mark;

@@ -6,7 +6,7 @@ use Rattle.std.proofs.lemmas.List.Concat.{flat_map-append}
 use Rattle.std.proofs.lemmas.List.Elements.{filter-append}
 use Rattle.def_gen.specs.Steps.{block_height, state_after}
 use Rattle.def_gen.specs.declared.TheConstants.{ADDEND, FACTOR, HEIGHTS, LOW_STATES, STATES}
-use Rattle.qm_laws.proofs.Filters.{range_more}
+use Rattle.list_laws.proofs.Filters.{range_more}
 
 pub map_more : {X : Type 0} (f : ℕ → X) (n : ℕ) → map f (range_with_len 0 (n + 1)) ≡ map f (range_with_len 0 n) ++ f n ∷ []
 map_more f n = ap (map f) (range_more n) ∙ map-append f (range_with_len 0 n) (n ∷ [])

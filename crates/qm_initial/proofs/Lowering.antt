@@ -3,7 +3,7 @@ use Rattle.std.proofs.Common.{◌≡◌, ◌≢◌, ◌⊎◌, ℕ, ◌+◌, ◌
 use Rattle.std.proofs.lemmas.Bool.{cases_eq}
 use Rattle.std.proofs.lemmas.Int.{ints}
 use Rattle.std.proofs.lemmas.List.{get_or-set_same, get_or-set_other, length-set}
-use Rattle.qm_laws.proofs.Filters.{last_or}
+use Rattle.list_laws.proofs.Filters.{last_or}
 use Rattle.def_matching.specs.declared.weighted.WEdge.{WEdge}
 use Rattle.def_matching.specs.Matching.{Graph, EdgeNumber, Vertex, edge_at, IsGraph}
 use Rattle.qm_initial.specs.declared.initial.TheConstants.{MAX_WISH}

@@ -5,7 +5,7 @@ use Rattle.std.specs.Prelude.{option_to_list}
 use Rattle.std.proofs.lemmas.Bool.{cases_eq, cases_lt, eq-eqb, ne_eqb, false≢true}
 use Rattle.std.proofs.lemmas.Int.{ints}
 use Rattle.def_math.specs.Sums.{total, total_below}
-use Rattle.qm_laws.proofs.Sums.{total_below_none, total_below_one, total_below_same}
+use Rattle.sum_laws.proofs.Sums.{total_below_none, total_below_one, total_below_same}
 use Rattle.def_flow.specs.Admissible.{is_on_side, side_sum, IsBalanced}
 use Rattle.def_flow.specs.Network.{Network, arc_at, ends}
 use Rattle.def_flow.specs.declared.net.End.{End}

@@ -5,8 +5,8 @@ use Rattle.std.specs.Prelude.{nat_le, nat_lt, option_to_list}
 use Rattle.std.specs.List.{list_all}
 use Rattle.std.proofs.lemmas.Bool.{le-leb, lt-ltb}
 use Rattle.def_math.specs.Counts.{count, count_below}
-use Rattle.qm_laws.proofs.Counts.{count_below_prefix, count_below_le, count_below_ones, count_below_same, count_below_total}
-use Rattle.qm_laws.proofs.Sums.{total_below_same}
+use Rattle.sum_laws.proofs.Counts.{count_below_prefix, count_below_le, count_below_ones, count_below_same, count_below_total}
+use Rattle.sum_laws.proofs.Sums.{total_below_same}
 use Rattle.def_flow.specs.Admissible.{IsEven}
 use Rattle.def_flow.specs.Network.{Network, arc_at, ends, is_bounded, tangle_number, IsWithinBounds}
 use Rattle.def_flow.specs.declared.limits.TheConstants.{MAX_OLD, MAX_WEIGHT}

@@ -4,7 +4,7 @@ use Rattle.std.proofs.Common.{refl, sym, ap, ◌∙◌, inl, inr, arith}
 use Rattle.std.proofs.lemmas.Bool.{cases_eq, eq-eqb, ne_eqb, false≢true, and_parts}
 use Rattle.std.proofs.lemmas.Int.{ints}
 use Rattle.def_math.specs.Sums.{total_below}
-use Rattle.qm_laws.proofs.Sums.{total_below_none, total_below_one, total_below_same, total_below_sum}
+use Rattle.sum_laws.proofs.Sums.{total_below_none, total_below_one, total_below_same, total_below_sum}
 use Rattle.def_layout.specs.declared.tmesh.SideArc.{SideArc}
 
 -- Two sums may be taken in either order.

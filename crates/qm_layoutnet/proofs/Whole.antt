@@ -15,7 +15,7 @@ use Rattle.def_layout.specs.Nodes.{is_node, AreNodes}
 use Rattle.def_layout.specs.Plans.{Plan, plan}
 use Rattle.def_layoutnet.specs.MeshLayouts.{IsMeshLayout}
 use Rattle.qm_layoutnet.proofs.Tangles.{term_low}
-use Rattle.qm_laws.proofs.Runs.{run_here, IsInRun}
+use Rattle.written_laws.proofs.Runs.{run_here, IsInRun}
 use Rattle.def_math.specs.Runs.{run_at}
 use Rattle.cut_laws.proofs.Pigeon.{no_more}
 use Rattle.mesh_laws.proofs.HalfEdges.{manifold_law}

@@ -3,7 +3,7 @@ use Rattle.std.proofs.Common.{◌≡◌, ℕ, ◌+◌, ◌<◌, ◌≤◌, List,
 use Rattle.std.proofs.lemmas.List.{map-append, take_more}
 use Rattle.def_math.specs.Counts.{count}
 use Rattle.def_math.specs.Increasing.{IsIncreasing}
-use Rattle.qm_laws.proofs.Counts.{count_append}
+use Rattle.sum_laws.proofs.Counts.{count_append}
 use Rattle.def_matching.specs.Matching.{Graph, edge_at, ends_at}
 use Rattle.qm_forest.proofs.Chosens.{increasing_more}
 

@@ -11,7 +11,7 @@ use Rattle.def_matching.specs.declared.limits.TheConstants.{MAX_PRODUCT}
 use Rattle.def_matching.specs.declared.weighted.Verdict.TheVariants.{Yes}
 use Rattle.def_forest.specs.Tables.{ForestTables, forest_of, IsValidFor}
 use Rattle.def_forest.specs.Written.{IsDualOf}
-use Rattle.def_match.specs.Made.{AreAtMost, AreCostsBelow, AreFirst, IsMadeFor, MAX_FIRST}
+use Rattle.def_forest.specs.Made.{AreAtMost, AreCostsBelow, AreFirst, IsMadeFor, MAX_FIRST}
 use Rattle.qm_dual.proofs.Verdicts.{says_yes}
 use Rattle.qm_initial.specs.declared.initial.TheConstants.{MAX_WISH}
 use Rattle.search_laws.proofs.Risen.{greatest, small_weights, weights_most}

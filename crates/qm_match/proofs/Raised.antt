@@ -9,7 +9,7 @@ use Rattle.def_matching.specs.Matching.{Graph, IsGraph, edge_at}
 use Rattle.def_forest.specs.Darts.{darts_of, far}
 use Rattle.forest_laws.proofs.Graphs.{dart_near, dart_far, near_even, near_odd, twin_odd}
 use Rattle.def_matching.specs.declared.weighted.WEdge.{WEdge}
-use Rattle.def_match.specs.Made.{AreCostsBelow}
+use Rattle.def_forest.specs.Made.{AreCostsBelow}
 use Rattle.qm_match.specs.Fans.{AreFans, IsOn}
 use Rattle.qm_match.specs.Weights.{left_to, HaveRoom, IsRoom}
 use Rattle.qm_match.proofs.Chains.{on_none, on_rest}

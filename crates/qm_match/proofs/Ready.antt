@@ -6,7 +6,7 @@ use Rattle.std.proofs.lemmas.Bool.{cases_lt, cond-false}
 use Rattle.def_matching.specs.Matching.{Graph, IsCheap, IsSmallGraph, edge_at}
 use Rattle.def_forest.specs.Darts.{darts_of}
 use Rattle.def_forest.specs.Forests.{Forest}
-use Rattle.def_match.specs.Made.{IsMadeFor}
+use Rattle.def_forest.specs.Made.{IsMadeFor}
 use Rattle.def_forest.specs.Steps.{rooted, IsAugmented}
 use Rattle.def_forest.specs.Tables.{ForestTables, forest_of, kind_by, kind_of, slack_of, IsValidFor}
 use Rattle.def_forest.specs.Valid.{IsValid}

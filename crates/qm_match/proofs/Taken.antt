@@ -8,7 +8,7 @@ use Rattle.def_matching.specs.Matching.{Graph, IsGraph, IsSmallGraph, edge_at}
 use Rattle.def_forest.specs.Darts.{darts_of, far}
 use Rattle.def_forest.specs.Forests.{Forest, IsOutermost, set_at, walk, number, ring_sum, vertices_in}
 use Rattle.def_math.specs.Counts.{count_below}
-use Rattle.qm_laws.proofs.Counts.{count_below_le, count_below_ones, count_below_same}
+use Rattle.sum_laws.proofs.Counts.{count_below_le, count_below_ones, count_below_same}
 use Rattle.def_forest.specs.Opened.{IsExpanding}
 use Rattle.def_forest.specs.Shrunk.{IsShrinking}
 use Rattle.def_forest.specs.Steps.{grown, rooted, IsAugmented}

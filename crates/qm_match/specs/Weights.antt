@@ -3,7 +3,7 @@ use Rattle.std.specs.Prelude.{◌≡◌, ℕ, ◌*◌, ◌/◌, ◌^◌, ◌<◌
 use Rattle.std.specs.Prelude.{ℤ, pos, ◌+ℤ◌, ◌-ℤ◌, ◌*ℤ◌, ◌≤ℤ◌}
 use Rattle.def_matching.specs.Matching.{Graph, Vertex, EdgeNumber, edge_at}
 use Rattle.def_forest.specs.Darts.{Dart, darts_of, far}
-use Rattle.def_match.specs.Made.{AreCostsBelow}
+use Rattle.def_forest.specs.Made.{AreCostsBelow}
 
 -- No number is above a bound, up or down, and no edge has more at its ends than twice its cost.
 pub record HaveRoom (g : Graph) (most : ℕ) (y : List ℤ) : Type 0 where

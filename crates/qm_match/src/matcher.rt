@@ -6,7 +6,7 @@ ghost use Rattle.def_matching.specs.Matching.{graph, edge_at, matching_cost, IsC
 ghost use Rattle.def_matching.specs.Dual.{dual, verdict, IsSmallDual};
 ghost use Rattle.def_forest.specs.Forests.{Blossom};
 ghost use Rattle.def_forest.specs.Tables.{forest_of};
-ghost use Rattle.def_match.specs.Made.{AreAtMost, AreCostsBelow, AreFirst, IsMadeFor};
+ghost use Rattle.def_forest.specs.Made.{AreAtMost, AreCostsBelow, AreFirst, IsMadeFor};
 
 use crate::Memory;
 use crate::fans::fans_of;

@@ -7,7 +7,7 @@ ghost use Rattle.def_forest.specs.Tables.{forest_of, kind_of};
 ghost use Rattle.def_forest.specs.declared.kinds.EdgeKind.TheVariants.{Idle, Loose};
 ghost use Rattle.search_laws.specs.Keys.{Leaf, no_key, true_key};
 ghost use Rattle.search_laws.specs.Searches.{AreMatchedBefore, steps_left, turns_left};
-ghost use Rattle.def_match.specs.Made.{AreAtMost, AreCostsBelow};
+ghost use Rattle.def_forest.specs.Made.{AreAtMost, AreCostsBelow};
 ghost use Rattle.qm_match.specs.States.{GoesOn, HasEnded, HasPerfect, IsIdle, IsUnderWay};
 
 use crate::search::Search;

@@ -2,7 +2,7 @@
 
 ghost use Rattle.std.specs.Prelude.{◌≡◌, ◌*◌, ◌^◌, ◌<◌, ◌≤◌, ◌-ℤ◌, ◌*ℤ◌, ℕ, pos, length, unsigned_abs, IfOk};
 ghost use Rattle.def_matching.specs.Matching.{graph, IsSmallGraph};
-ghost use Rattle.def_match.specs.Made.{AreCostsBelow};
+ghost use Rattle.def_forest.specs.Made.{AreCostsBelow};
 ghost use Rattle.qm_match.specs.Fans.{AreFans};
 ghost use Rattle.qm_match.specs.Weights.{left_to, IsRoom, HaveRoom, MayRise};
 

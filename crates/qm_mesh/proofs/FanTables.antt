@@ -8,7 +8,7 @@ use Rattle.def_mesh.specs.Faces.{Faces}
 use Rattle.def_mesh.specs.Darts.{from_of}
 use Rattle.def_mesh.specs.Vertices.{fan_of}
 use Rattle.qm_mesh.specs.Tables.{fan_lists, fan_at, HoldDarts, AreFans}
-use Rattle.qm_laws.proofs.Filters.{filter_range_more}
+use Rattle.list_laws.proofs.Filters.{filter_range_more}
 
 -- A fan that was read from the table.
 pub fan_read : (fans : List (SmallVec ℕ)) (v : ℕ) (fan : SmallVec ℕ) → v < length fans → fan ≡ get_or fans v fan → fan.items ≡ fan_at fans v

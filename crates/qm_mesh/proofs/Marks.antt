@@ -10,7 +10,7 @@ use Rattle.def_mesh.specs.Faults.{IsFirstTwice}
 use Rattle.qm_mesh.specs.declared.twins.Doubled.{Doubled}
 use Rattle.qm_mesh.specs.Tables.{NamesBelow}
 use Rattle.qm_mesh.specs.Pairs.{IsPartner, Runs, AreDarts, AreMarked, IsTwice, NoneTwice, IsFirstAt, IsFirstBelow, MarksOne, IsEarlier}
-use Rattle.qm_laws.proofs.Filters.{last_or}
+use Rattle.list_laws.proofs.Filters.{last_or}
 use Rattle.mesh_laws.proofs.Fans.{IsFan, earlier_place}
 use Rattle.mesh_laws.proofs.Darts.{next_of_low, prev_of-next_of}
 

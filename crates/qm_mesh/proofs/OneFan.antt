@@ -11,7 +11,7 @@ use Rattle.qm_mesh.specs.Pairs.{IsPartner, ArePartners}
 use Rattle.qm_mesh.specs.Turns.{behind, beside_of, IsSeen, Reaches, IsClosed, IsBehind, IsVisit}
 use Rattle.mesh_laws.proofs.Darts.{next_of_low, prev_of_low, prev_of-next_of, next_of-prev_of}
 use Rattle.std.proofs.lemmas.List.{get_or_past}
-use Rattle.qm_laws.proofs.Filters.{last_or}
+use Rattle.list_laws.proofs.Filters.{last_or}
 use Rattle.mesh_laws.proofs.Fans.{IsFan}
 use Rattle.mesh_laws.proofs.Chains.{Step, neighbour_step, step_back, step_vertex, step_neighbour, step_once, twin_differs, chain_low, chain_vertex, chain_join, chain_back}
 

@@ -9,7 +9,7 @@ use Rattle.std.proofs.lemmas.Bool.{cases_eq, cases_lt, cases_Bool, eq-eqb, ne_eq
 use Rattle.std.proofs.lemmas.Bool.Decides.{nat_tests, Decides-int_eq}
 use Rattle.std.proofs.lemmas.List.{get_or_past, get_or_default, length-set, get_or-set_same, get_or-set_other, length-replicate, get_or-replicate}
 use Rattle.def_math.specs.Sums.{total}
-use Rattle.qm_laws.proofs.Sums.{total_below_none}
+use Rattle.sum_laws.proofs.Sums.{total_below_none}
 use Rattle.def_flow.specs.Network.{Network, IsWithinBounds, arc_at, ends}
 use Rattle.def_flow.specs.Admissible.{entries, is_on_side, side_sum, IsBalanced}
 use Rattle.def_flow.specs.declared.net.Arc.{Arc}

@@ -9,10 +9,10 @@ use Rattle.def_remesh.specs.NewPoints.{lengths_in}
 use Rattle.def_remesh.specs.Numberings.{AreStarts}
 use Rattle.def_remesh.specs.Placings.{rim_at, IsRim}
 use Rattle.def_remesh.specs.declared.places.Rim.{Rim}
-use Rattle.qm_laws.proofs.Counts.{count_below_same}
+use Rattle.sum_laws.proofs.Counts.{count_below_same}
 use Rattle.qm_place.specs.Pushed.{AreFine}
 use Rattle.qm_place.specs.Spots.{inner_of}
-use Rattle.qm_reach.proofs.Bounds.{vertices_few}
+use Rattle.plan_laws.proofs.Bounds.{vertices_few}
 use Rattle.qm_reach.proofs.Spots.{starts_same, term_room}
 use Rattle.qm_reach.proofs.Whole.{laid_of}
 use Rattle.written_laws.proofs.Grid.{wide_some, high_some}

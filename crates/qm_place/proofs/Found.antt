@@ -22,15 +22,15 @@ use Rattle.def_remesh.specs.NewPoints.{along_arcs, inside_patches, lengths_in, p
 use Rattle.def_remesh.specs.NewSoup.{new_coordinate}
 use Rattle.def_remesh.specs.Placings.{ArePlaces}
 use Rattle.def_remesh.specs.declared.places.PlaceTables.{PlaceTables}
-use Rattle.qm_laws.proofs.Filters.{kept_at, IsKept}
-use Rattle.qm_laws.proofs.Runs.{run_here, IsInRun}
+use Rattle.list_laws.proofs.Filters.{kept_at, IsKept}
+use Rattle.written_laws.proofs.Runs.{run_here, IsInRun}
 use Rattle.qm_place.proofs.OldPoints.{corners, ends, AreCorners, AreEnds}
 use Rattle.qm_place.proofs.Rims.{dart_low}
 use Rattle.qm_place.specs.Spots.{arc_spot_at, between_ends, cell_spot_at, coordinate_at, in_face, on_axes, IsAlong, IsInside, IsSpotOf}
 use Rattle.qm_place.specs.declared.axes.Spot.TheVariants.{Vertex, OnArc, InPatch}
 use Rattle.qm_place.specs.declared.axes.ArcSpot.{ArcSpot}
 use Rattle.qm_place.specs.declared.axes.CellSpot.{CellSpot}
-use Rattle.qm_reach.proofs.Bounds.{side_few, vertices_few}
+use Rattle.plan_laws.proofs.Bounds.{side_few, vertices_few}
 use Rattle.qm_reach.proofs.Spots.{term_room}
 use Rattle.qm_reach.proofs.Whole.{laid_of, lengths_of}
 use Rattle.written_laws.proofs.Between.{rest_most, u_most, v_most}

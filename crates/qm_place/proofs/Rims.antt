@@ -18,7 +18,7 @@ use Rattle.def_remesh.specs.Placings.{parameters_from, side_parameter, AreParame
 use Rattle.def_remesh.specs.declared.places.Rim.{Rim}
 use Rattle.qm_place.specs.Pushed.{on_arc, AreFine, ArePushed, IsKept}
 use Rattle.qm_place.proofs.Pushes.{is_back, kept_on, parameters_in, parameters_kept, pushed_join, pushed_kept, slot_parameter, start_by}
-use Rattle.qm_reach.proofs.Bounds.{old_faces, side_few}
+use Rattle.plan_laws.proofs.Bounds.{old_faces, side_few}
 use Rattle.qm_reach.proofs.Spots.{count_step}
 use Rattle.qm_reach.proofs.Whole.{laid_of, lengths_of}
 use Rattle.written_laws.proofs.Sides.{reach_low, slot}

@@ -5,8 +5,8 @@ use Rattle.std.proofs.lemmas.Bool.{cases_eq, cases_lt, cond-true, lt-ltb}
 use Rattle.def_math.specs.Counts.{count_below}
 use Rattle.def_math.specs.Runs.{run_at}
 use Rattle.def_remesh.specs.Numberings.{AreStarts}
-use Rattle.qm_laws.proofs.Counts.{count_below_same}
-use Rattle.qm_laws.proofs.Runs.{count_rises, run_from, run_to, run_last}
+use Rattle.sum_laws.proofs.Counts.{count_below_same}
+use Rattle.written_laws.proofs.Runs.{count_rises, run_from, run_to, run_last}
 
 -- The run that begins at or before a place, and ends behind it, holds it.
 pub spot_between : (f : ℕ → ℕ) (n t k : ℕ) → k < n → (k ≡ 0) ⊎ (count_below f k ≤ t) → (k + 1 ≡ n) ⊎ (t < count_below f (k + 1))

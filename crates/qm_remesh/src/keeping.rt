@@ -18,9 +18,9 @@ use def_layout::TMesh;
 use def_layoutnet::NetFail;
 use def_remesh::{Kept, LayoutFail, StitchFail};
 use qm_layoutnet::{net_of, with_floor};
-use qm_remeshed::Remesh;
 use qm_solve::solve;
 use qm_stitch::plan;
+use qm_write::Remesh;
 use std::alloc::Global;
 
 /// Finds least lengths for a layout, and numbers the new mesh that they give. With `auto` they are those for floor 1,

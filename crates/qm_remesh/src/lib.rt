@@ -5,4 +5,4 @@ mod keeping;
 
 pub use def_remesh::{Kept, LayoutFail};
 pub use keeping::keep;
-pub use qm_remeshed::Remesh;
+pub use qm_write::Remesh;

@@ -5,7 +5,7 @@ use Rattle.std.proofs.lemmas.Grind.{flat_map-append}
 use Rattle.std.specs.Prelude.{decimal}
 use Rattle.std.specs.Fmt.{signed_decimal}
 use Rattle.std.specs.List.{flat_map, range_with_len}
-use Rattle.qm_laws.proofs.Filters.{range_more}
+use Rattle.list_laws.proofs.Filters.{range_more}
 
 -- Text b is text a with ys behind it.
 pub behind : (t xs ys a b : List ℕ) → a ≡ t ++ xs → b ≡ a ++ ys → b ≡ t ++ (xs ++ ys)

@@ -8,7 +8,7 @@ use Rattle.def_mesh.specs.Faces.{Faces}
 use Rattle.def_mesh.specs.Meshes.{IsMesh}
 use Rattle.def_mesh.specs.Vertices.{is_used, vertex_count}
 use Rattle.def_mesh.specs.Components.{used_count}
-use Rattle.qm_laws.proofs.Filters.{filter_range_more}
+use Rattle.list_laws.proofs.Filters.{filter_range_more}
 
 -- At most all.
 pub filter_few : (p : ℕ → Bool) (n : ℕ) → length (filter p (range_with_len 0 n)) ≤ n

@@ -9,7 +9,7 @@ use Rattle.def_mesh.specs.Faces.{Faces}
 use Rattle.def_mesh.specs.Darts.{is_reverse, twin_of}
 use Rattle.def_mesh.specs.Manifold.{IsManifold}
 use Rattle.def_mesh.specs.Components.{share_edge, is_marked, component_of}
-use Rattle.qm_laws.proofs.Filters.{any_in_range, range_any}
+use Rattle.list_laws.proofs.Filters.{any_in_range, range_any}
 use Rattle.mesh_laws.proofs.Flood.{Shares, sound, closed, own_mark, share_back}
 use Rattle.mesh_laws.proofs.Twins.{reverse_twin, twin_reverse, twin_found, twin_is}
 use Rattle.qm_sing.specs.Floods.{IsNumbered, Waits, IsClosed, numbers_with, waiting_with, IsSpread, IsFlood, IsFlooded}

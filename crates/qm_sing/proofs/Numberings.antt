@@ -7,11 +7,11 @@ use Rattle.std.proofs.lemmas.List.Elements.{filter-append}
 use Rattle.std.proofs.lemmas.List.FromFn.{length-range_with_len, get_or-map-range_with_len}
 use Rattle.def_mesh.specs.Faces.{Faces, all_faces}
 use Rattle.def_mesh.specs.Components.{is_marked, component_of, least_face, least_faces, place_among, component_numbers}
-use Rattle.qm_laws.proofs.Filters.{filter_range_more}
+use Rattle.list_laws.proofs.Filters.{filter_range_more}
 use Rattle.mesh_laws.proofs.Flood.{closed, own_mark, same_component, least_most, least_low, least_marked, least_same, least_again}
 use Rattle.qm_sing.specs.Floods.{IsNumbered, IsClosed, IsFlooded, IsNumbering}
 use Rattle.qm_sing.specs.declared.flooding.TheConstants.{NONE}
-use Rattle.qm_laws.proofs.Tests.{once_at_most}
+use Rattle.sum_laws.proofs.Tests.{once_at_most}
 
 -- How many of the numbers below n that pass are less than f.
 abbrev before : (p : ℕ → Bool) (f n : ℕ) → ℕ

@@ -2,7 +2,7 @@
 use Rattle.std.proofs.Common.{◌≡◌, ◌⊎◌, ℕ, zero, suc, ◌+◌, ◌-◌, ◌/◌, ◌<◌, ◌≤◌, Bool, true, false, cond, eqb, ltb, ◌&&◌, ◌||◌, List, ◌∷◌, length, get_or, set, Some, is_some, sym, subst, ap, ◌∙◌, refl, inl, inr, arith}
 use Rattle.std.specs.List.{filter, list_any, list_all, range_with_len}
 use Rattle.std.proofs.lemmas.Bool.{cases_Bool, cases_eq, cases_lt, cases_order, eq-eqb, eqb-true, ltb-true, ltb-false, or_left, or_right, or_cases, and_parts, and_from, false≢true, false_from_ne_true}
-use Rattle.qm_laws.proofs.Tests.{same_test}
+use Rattle.sum_laws.proofs.Tests.{same_test}
 use Rattle.std.proofs.lemmas.List.{get_or-set_same, get_or-set_other, length-set}
 use Rattle.std.proofs.lemmas.List.FromFn.{get_or-map-range_with_len}
 use Rattle.def_mesh.specs.Faces.{Faces}
@@ -13,7 +13,7 @@ use Rattle.def_mesh.specs.Kinds.{is_singular, is_reflex, is_regular, kind_of}
 use Rattle.def_mesh.specs.declared.Kind.{Kind}
 use Rattle.def_mesh.specs.Components.{is_marked, component_of, least_face, least_faces, place_among, component_numbers, vertices_in, is_ring, is_first, is_seed_in, seeds, is_start}
 use Rattle.def_mesh.specs.HalfEdges.{AreTurned, Turns, IsQuadManifold, half_edges}
-use Rattle.qm_laws.proofs.Filters.{any_in_range, range_any, last_or}
+use Rattle.list_laws.proofs.Filters.{any_in_range, range_any, last_or}
 use Rattle.mesh_laws.proofs.Darts.{next_face}
 use Rattle.mesh_laws.proofs.Fans.{is_fan}
 use Rattle.mesh_laws.proofs.Flood.{closed, own_mark, same_component, least_low, least_marked, least_same, least_again}

@@ -4,7 +4,7 @@ use Rattle.std.specs.Prelude.{slice_index}
 use Rattle.std.proofs.lemmas.Int.{ints}
 use Rattle.def_math.specs.Increasing.{IsIncreasing}
 use Rattle.def_math.specs.Sums.{total}
-use Rattle.qm_laws.proofs.Entries.{total_take}
+use Rattle.qm_dual.proofs.Entries.{total_take}
 use Rattle.def_matching.specs.Matching.{Graph, edge_at, matching_cost}
 
 -- Increasing numbers are below the bound.

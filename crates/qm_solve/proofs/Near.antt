@@ -7,7 +7,7 @@ use Rattle.std.proofs.lemmas.List.Sums.{AllPass-from_list_all, list_all-from_All
 use Rattle.std.proofs.Math.Nat.{mul-le-mul_left, mul-le-mul_right}
 use Rattle.std.proofs.lemmas.Int.{ints}
 use Rattle.std.proofs.lemmas.Bool.{and_parts, cases_lt}
-use Rattle.qm_table.proofs.Ranges.{part_low}
+use Rattle.table_laws.proofs.Ranges.{part_low}
 use Rattle.def_flow.specs.Network.{Network, IsWithinBounds, arc_at}
 use Rattle.def_flow.specs.Admissible.{AreLengths, IsAdmissible, arc_deviation, deviation, entries}
 use Rattle.def_flow.specs.Descent.{IsStartOf}

@@ -12,9 +12,9 @@ use Rattle.def_flow.specs.Units.{down, on_cost}
 use Rattle.def_flow.specs.Descent.{IsSolution, IsStartOf}
 use Rattle.def_flow.specs.Gadget.{IsInBox, lows, caps}
 use Rattle.qm_dual.proofs.Verdicts.{yes_says, yes_bounds}
-use Rattle.qm_units.proofs.Box.{own_box}
-use Rattle.qm_units.proofs.Law.{box_deviation}
-use Rattle.qm_units.proofs.Steps.{raised_in_box}
+use Rattle.gadget_laws.proofs.Box.{own_box}
+use Rattle.gadget_laws.proofs.Law.{box_deviation}
+use Rattle.gadget_laws.proofs.Steps.{raised_in_box}
 use Rattle.qm_solve.specs.Rounds.{IsBetter}
 use Rattle.qm_solve.proofs.Near.{start_lengths}
 

@@ -7,9 +7,9 @@ use Rattle.std.proofs.lemmas.List.{length-map}
 use Rattle.std.proofs.lemmas.Bool.{and_parts, cases_lt}
 use Rattle.def_math.specs.Counts.{count, count_below}
 use Rattle.def_math.specs.Sums.{total, total_below}
-use Rattle.qm_laws.proofs.Counts.{count_below_prefix, count_below_le, count_below_times}
-use Rattle.qm_laws.proofs.Sums.{times_sum, total_below_same, total_same}
-use Rattle.qm_table.proofs.Ranges.{part_low}
+use Rattle.sum_laws.proofs.Counts.{count_below_prefix, count_below_le, count_below_times}
+use Rattle.sum_laws.proofs.Sums.{times_sum, total_below_same, total_same}
+use Rattle.table_laws.proofs.Ranges.{part_low}
 use Rattle.def_flow.specs.Network.{Network, IsWithinBounds, arc_at, ends}
 use Rattle.def_flow.specs.Admissible.{IsAdmissible, IsBalanced, IsEven, arc_deviation, deviation, entries, is_on_side, side_sum}
 use Rattle.def_flow.specs.Descent.{IsStartOf}

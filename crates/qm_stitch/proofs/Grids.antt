@@ -18,12 +18,12 @@ use Rattle.def_remesh.specs.NewPoints.{lengths_in}
 use Rattle.def_remesh.specs.Numberings.{sizes_on, table_at, tables_of, used_at, AreStarts, IsNumbering}
 use Rattle.def_remesh.specs.declared.tables.Starts.{Starts}
 use Rattle.def_remesh.specs.declared.tables.Tables.{Tables}
-use Rattle.qm_laws.proofs.Runs.{run_here, run_low, IsInRun}
+use Rattle.written_laws.proofs.Runs.{run_here, run_low, IsInRun}
 use Rattle.qm_reach.proofs.Spots.{last_is, within_run}
 use Rattle.plan_laws.proofs.MeshLayouts.{laid_of}
 use Rattle.qm_reach.proofs.Whole.{read_size, read_used, uses_low, way_for}
 use Rattle.qm_stitch.specs.Sizes.{long_by, table_in, point_on}
-use Rattle.qm_reach.proofs.Bounds.{side_few, vertices_few}
+use Rattle.plan_laws.proofs.Bounds.{side_few, vertices_few}
 use Rattle.written_laws.proofs.EdgeNumbers.{in_rows}
 use Rattle.written_laws.proofs.Numbers.{number_low}
 use Rattle.written_laws.proofs.Sides.{arc_inner}

@@ -2,7 +2,7 @@
 use Rattle.std.proofs.Common.{◌≡◌, ◌⊎◌, ℕ, suc, ◌+◌, ◌<◌, ◌≤◌, Bool, true, List, [], ◌∷◌, ◌++◌, length, get_or, sym, ◌∙◌, ap, inl, inr, length-append, arith}
 use Rattle.std.proofs.lemmas.Bool.{cases_lt}
 use Rattle.std.proofs.lemmas.List.{get_or_append_left, get_or-append-add}
-use Rattle.qm_laws.proofs.Counts.{count_below_same}
+use Rattle.sum_laws.proofs.Counts.{count_below_same}
 use Rattle.def_layout.specs.Arcs.{Path, long_at}
 use Rattle.def_layout.specs.declared.tmesh.SideArc.{SideArc}
 use Rattle.qm_tmesh.specs.Uses.{use_in}

@@ -14,7 +14,7 @@ use Rattle.def_cut.specs.Steps.{east, easts}
 use Rattle.def_layout.specs.Arcs.{to, IsRun}
 use Rattle.def_layout.specs.Nodes.{is_node}
 use Rattle.std.proofs.lemmas.List.{append-nil}
-use Rattle.qm_laws.proofs.Filters.{filter_range_more}
+use Rattle.list_laws.proofs.Filters.{filter_range_more}
 use Rattle.mesh_laws.proofs.Fans.{is_fan}
 use Rattle.mesh_laws.proofs.Vertices.{all_below}
 use Rattle.cut_laws.proofs.Leasts.{least_high, least_low, least_there}

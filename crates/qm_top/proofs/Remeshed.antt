@@ -28,9 +28,9 @@ use Rattle.def_written.specs.NewFaces.{new_faces}
 use Rattle.def_written.specs.Shape.{KeepsShape}
 use Rattle.qm_top.proofs.Writers.{IsWriter}
 use Rattle.qm_top.specs.Refusals.{answer_of_layout}
-use Rattle.qm_remeshed.specs.declared.remesh.Remesh.{Remesh}
-use Rattle.qm_remeshed.specs.declared.text.PutFail.{PutFail}
-use Rattle.qm_remeshed.specs.declared.text.PutFail.TheVariants as puts
+use Rattle.qm_write.specs.declared.remesh.Remesh.{Remesh}
+use Rattle.qm_write.specs.declared.text.PutFail.{PutFail}
+use Rattle.qm_write.specs.declared.text.PutFail.TheVariants as puts
 use Rattle.qm_top.specs.Writing.{refusal_of_put, text_of, FailsToRemesh, IsUnwritten}
 
 pub is_remeshed : (settings : Settings) (auto : Bool) (soup : FaceSet) (plan : Plan) (first : Lists) (third : Option Lists) (tables : Tables)

@@ -10,9 +10,9 @@ use Rattle.def_certtext.specs.CertLines.{lists_of}
 use Rattle.def_io.specs.declared.fails.WriteFail.TheVariants as writes
 use Rattle.def_remesh.specs.Refusals.{IsLayoutFail}
 use Rattle.def_remesh.specs.Remeshed.{remeshed_text}
-use Rattle.qm_remeshed.specs.declared.remesh.Remesh.{Remesh}
-use Rattle.qm_remeshed.specs.declared.text.PutFail.{PutFail}
-use Rattle.qm_remeshed.specs.declared.text.PutFail.TheVariants as puts
+use Rattle.qm_write.specs.declared.remesh.Remesh.{Remesh}
+use Rattle.qm_write.specs.declared.text.PutFail.{PutFail}
+use Rattle.qm_write.specs.declared.text.PutFail.TheVariants as puts
 use Rattle.def_remesh.specs.declared.kept.LayoutFail.{LayoutFail}
 use Rattle.def_run.specs.Remesh.{IsCutTo}
 use Rattle.def_text.specs.FaceSet.{FaceSet}

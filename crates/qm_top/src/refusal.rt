@@ -15,7 +15,7 @@ use def_output::Stopped;
 use def_remesh::LayoutFail;
 use def_run::{Answer, Why, WordsFail};
 use def_text::{ObjFail, SoupFail, Which};
-use qm_remeshed::PutFail;
+use qm_write::PutFail;
 use std::alloc::{AllocError, Global};
 
 /// Why a command ends without its output.

@@ -22,8 +22,7 @@ use qm_cut::traced_layout;
 use qm_io::{Sink, Source};
 use qm_output::{Buffer, Room};
 use qm_remesh::keep;
-use qm_remeshed::{PutFail, Remesh, put_remeshed};
-use qm_write::CutMesh;
+use qm_write::{CutMesh, PutFail, Remesh, put_remeshed};
 use std::alloc::Global;
 
 /// Reads a mesh, finds least lengths for its layout, and writes the new mesh with their certificates.

@@ -13,7 +13,7 @@ use Rattle.def_cut.specs.declared.moving.Moving.{Moving}
 use Rattle.def_cut.specs.Motion.{begun, is_among}
 use Rattle.def_cut.specs.Traced.{last_state, terrain_of}
 use Rattle.def_cut.specs.Events.{EventState, NobodyRuns, IsMotionOf, after_ride_of, after_settling, closed, darts_in, decided_at, is_closed, mark_twin, marked_from, may_settle, note_at, ridden_once_more, rider_at, waiting}
-use Rattle.def_motion.specs.Views.{MotionView}
+use Rattle.def_cut.specs.Views.{MotionView}
 use Rattle.motion_laws.proofs.Marks.{from_marks, marked_long, none_on}
 use Rattle.mesh_laws.proofs.Vertices.{all_below}
 use Rattle.site_laws.proofs.Laws.{order_law}

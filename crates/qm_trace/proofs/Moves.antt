@@ -9,7 +9,7 @@ use Rattle.def_cut.specs.declared.moving.Moving.{Moving}
 use Rattle.def_cut.specs.Motion.{begun}
 use Rattle.def_cut.specs.Events.{IsMotionOf, may_ride, may_settle, rider_at}
 use Rattle.def_cut.specs.Traced.{terrain_of}
-use Rattle.def_motion.specs.Views.{IsMotionOn, MotionView}
+use Rattle.def_cut.specs.Views.{IsMotionOn, MotionView}
 use Rattle.qm_trace.proofs.Settled.{settle_low}
 
 -- A rider that may ride, and was read.

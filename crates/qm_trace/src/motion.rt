@@ -14,7 +14,7 @@ ghost use Rattle.def_cut.specs.FullCut.{IsFullCut};
 ghost use Rattle.def_cut.specs.Traced.{IsGraphOf, terrain_of};
 ghost use Rattle.def_mesh.specs.Sources.{AreSources};
 ghost use Rattle.def_mesh.specs.Vertices.{vertex_count};
-ghost use Rattle.def_motion.specs.Views.{with_state, IsMotionOn};
+ghost use Rattle.def_cut.specs.Views.{with_state, IsMotionOn};
 
 use crate::Memory;
 use crate::ending::{close, tell_riders};
@@ -46,7 +46,7 @@ pub struct Motion {
 
 impl Model for Motion {
     ghost use Rattle.std.specs.Vec.{vec_capacity};
-    ghost use Rattle.def_motion.specs.Views.{MotionView};
+    ghost use Rattle.def_cut.specs.Views.{MotionView};
     ghost use Rattle.qm_trace.specs.Motions.{IsKept};
 
     ghost Value = { MotionView };

@@ -3,7 +3,7 @@
 ghost use Rattle.std.specs.Prelude.{◌≡◌, ◌<◌, true, length};
 ghost use Rattle.def_cut.specs.Events.{may_ride as rides_now, may_settle as settles_now};
 ghost use Rattle.def_cut.specs.Traced.{terrain_of};
-ghost use Rattle.def_motion.specs.Views.{IsMotionOn};
+ghost use Rattle.def_cut.specs.Views.{IsMotionOn};
 
 use crate::{Motion, Starts, Stop, trace};
 use qm_mesh::{Mesh, build};

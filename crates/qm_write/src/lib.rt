@@ -1,8 +1,14 @@
-//! Puts the text of a new mesh: the lines of its vertices and of its faces, one by one, wherever the text goes.
+//! Puts the text of a new mesh, and the text of a remesh: the head line, the new mesh and the lines of the certificates.
+//! Both go out line by line, wherever the text goes.
 #![tactic(auto)]
 
 mod body;
+mod certs;
 mod faces;
+mod remesh;
+mod text;
 mod vertices;
 
 pub use body::{CutMesh, NewPoints, put_new_mesh};
+pub use remesh::Remesh;
+pub use text::{PutFail, put_remeshed};

@@ -2,7 +2,7 @@
 use Rattle.std.proofs.Common.{◌≡◌, ℕ, ◌<◌, ◌≤◌, List, length, sym, arith, pos}
 use Rattle.std.proofs.lemmas.Int.{ints}
 use Rattle.std.specs.Prelude.{slice_index}
-use Rattle.qm_laws.proofs.Counts.{count_below_total}
+use Rattle.sum_laws.proofs.Counts.{count_below_total}
 use Rattle.def_certtext.specs.CertLines.{Lists}
 use Rattle.def_flow.specs.Admissible.{entries}
 use Rattle.def_flow.specs.declared.net.Settings.{Settings}

@@ -8,7 +8,7 @@ use Rattle.std.proofs.lemmas.Int.{ints}
 use Rattle.std.proofs.lemmas.List.FromFn.{get_or-range_with_len, length-range_with_len}
 use Rattle.std.proofs.lemmas.List.Folds.{list_all-map}
 use Rattle.std.proofs.lemmas.List.Sums.{list_all-from_AllPass}
-use Rattle.qm_laws.proofs.Runs.{run_here, IsInRun}
+use Rattle.written_laws.proofs.Runs.{run_here, IsInRun}
 use Rattle.def_math.specs.Runs.{run_at}
 use Rattle.def_mesh.specs.Faces.{Faces}
 use Rattle.def_text.specs.Decimal.{is_far}
@@ -31,8 +31,8 @@ use Rattle.def_text.specs.declared.limits.TheConstants.{MAX_MICRO}
 use Rattle.def_written.specs.Laws.{AreQuads}
 use Rattle.def_remesh.specs.TextLaws.{IsSolid}
 use Rattle.def_remesh.specs.declared.limits.TheConstants.{MAX_NEW_FACES}
-use Rattle.qm_reach.proofs.Bounds.{vertices_few}
-use Rattle.qm_reach.proofs.Whole.{laid_of, lengths_of}
+use Rattle.plan_laws.proofs.Bounds.{vertices_few}
+use Rattle.plan_laws.proofs.MeshLayouts.{laid_of, lengths_of}
 use Rattle.site_laws.proofs.Laws.{graph_law}
 use Rattle.written_laws.proofs.Between.{between_law}
 use Rattle.written_laws.proofs.Borders.{from_is}

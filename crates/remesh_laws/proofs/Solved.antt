@@ -22,8 +22,8 @@ use Rattle.def_layoutnet.specs.MeshLayouts.{IsMeshLayout}
 use Rattle.def_matching.specs.Dual.{is_up, AreSmall}
 use Rattle.def_remesh.specs.Remeshed.{certificate_of, IsCertified}
 use Rattle.qm_layoutnet.proofs.Balance.{balance_law}
-use Rattle.qm_reach.proofs.Whole.{laid_of}
-use Rattle.qm_units.proofs.Sound.{sound}
+use Rattle.plan_laws.proofs.MeshLayouts.{laid_of}
+use Rattle.gadget_laws.proofs.Sound.{sound}
 
 -- What passes in a list passes in each front and in each tail of it.
 pub all_take : {X : Type 0} (p : X → Bool) (n : ℕ) (xs : List X) → list_all p xs ≡ true → list_all p (take n xs) ≡ true

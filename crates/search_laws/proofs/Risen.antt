@@ -5,7 +5,7 @@ use Rattle.std.proofs.lemmas.Int.{ints}
 use Rattle.std.proofs.lemmas.Bool.{cases_lt}
 use Rattle.def_math.specs.Increasing.{IsIncreasing}
 use Rattle.def_math.specs.Sums.{total, total_below}
-use Rattle.qm_laws.proofs.Ends.{ends_once}
+use Rattle.qm_dual.proofs.Ends.{ends_once}
 use Rattle.qm_dual.proofs.Gathered.{total_below_small}
 use Rattle.qm_dual.proofs.Weak.{chosen_below}
 use Rattle.def_matching.specs.Matching.{Graph, IsGraph, IsCheap, IsPerfect, edge_at, matching_cost}

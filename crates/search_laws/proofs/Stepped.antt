@@ -16,7 +16,7 @@ use Rattle.def_forest.specs.declared.kinds.EdgeKind.{EdgeKind}
 use Rattle.def_forest.specs.declared.kinds.EdgeKind.TheVariants.{Loose, Augment, Grow, Shrink}
 use Rattle.def_forest.specs.declared.kinds.Label.{Label}
 use Rattle.def_forest.specs.declared.kinds.Label.TheVariants.{Outer, Inner, Outside}
-use Rattle.qm_laws.proofs.Sums.{total_below_same}
+use Rattle.sum_laws.proofs.Sums.{total_below_same}
 use Rattle.forest_laws.proofs.Expands.{halves}
 use Rattle.forest_laws.proofs.Expands as expands
 use Rattle.forest_laws.proofs.Graphs.{are_darts}

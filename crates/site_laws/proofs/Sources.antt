@@ -12,7 +12,7 @@ use Rattle.def_mesh.specs.HalfEdges.{HalfEdges, Turns, IsQuadManifold, half_edge
 use Rattle.def_cut.specs.Motion.{is_among}
 use Rattle.def_cut.specs.Steps.{spin}
 use Rattle.def_cut.specs.Trails.{Joins, IsSource}
-use Rattle.qm_laws.proofs.Filters.{any_in_range, range_any}
+use Rattle.list_laws.proofs.Filters.{any_in_range, range_any}
 use Rattle.mesh_laws.proofs.HalfEdges.{manifold_law}
 use Rattle.mesh_laws.proofs.Flood.{Shares, sound, own_mark, same_component, least_low, least_marked, least_again}
 use Rattle.mesh_laws.proofs.Twins.{reverse_twin, twin_found}

@@ -13,7 +13,7 @@ use Rattle.def_written.specs.Points.{Point, node, along, inside, IsPoint, arc_po
 use Rattle.def_written.specs.Edges.{on_arc, low, top}
 use Rattle.def_written.specs.Places.{Coordinate, on_the_way, arc_place, ONE, arc_parameter, parameter, parameter_back, parameter_u, parameter_v, cell_at, rest_at, blend, inside_place, place_of}
 use Rattle.def_written.specs.Laws.{BetweenLaw}
-use Rattle.qm_laws.proofs.Runs.{count_rises}
+use Rattle.written_laws.proofs.Runs.{count_rises}
 use Rattle.written_laws.proofs.Sides.{IsOn, place_on, long_at}
 use Rattle.written_laws.proofs.Grid.{wide_some, high_some}
 use Rattle.written_laws.proofs.Borders.{from_is}

@@ -11,7 +11,7 @@ use Rattle.def_layout.specs.Cells.{Dart, IsDart, dart}
 use Rattle.def_written.specs.Points.{Point, node, along, inside, arc_point, use_point, use_over, offset_at, side_point, point}
 use Rattle.def_written.specs.NewFaces.{from, to}
 use Rattle.def_written.specs.Edges.{Edge, on_arc, flat, steep}
-use Rattle.qm_laws.proofs.Counts.{count_below_times}
+use Rattle.sum_laws.proofs.Counts.{count_below_times}
 use Rattle.written_laws.proofs.Sides.{slot, IsOn, arc_last, use_inner, side_in, place_on, first_slot, reach_low}
 use Rattle.written_laws.proofs.Grid.{point_north, point_west, point_east}
 use Rattle.written_laws.proofs.Courses.{Course, course_of, border_course, course_once}

@@ -10,7 +10,7 @@ use Rattle.def_layout.specs.Lengths.{Lengths, wide, high}
 use Rattle.def_written.specs.Points.{Point, node, along, inside, IsPoint}
 use Rattle.def_written.specs.Numbers.{before_arc, number, vertices}
 use Rattle.def_written.specs.Edges.{Edge, on_arc, flat, steep, IsEdge}
-use Rattle.qm_laws.proofs.Runs.{run_here, place_low, place_same, IsInRun}
+use Rattle.written_laws.proofs.Runs.{run_here, place_low, place_same, IsInRun}
 use Rattle.written_laws.proofs.Numbers.{inner_points}
 
 -- A place below rows of so many is one of a row and a column.

@@ -13,7 +13,7 @@ use Rattle.def_layout.specs.Lengths.{Lengths, AreLengths}
 use Rattle.def_layout.specs.Cells.{Dart, IsDart, next, rim_at}
 use Rattle.def_written.specs.Points.{Point, use_point}
 use Rattle.def_written.specs.NewFaces.{from, to}
-use Rattle.qm_laws.proofs.Tallies.{passing, passing_le, passing_all, filter_long}
+use Rattle.written_laws.proofs.Tallies.{passing, passing_le, passing_all, filter_long}
 use Rattle.face_laws.proofs.Fans.{inner_from, inner_twin}
 use Rattle.written_laws.proofs.Borders.{at_is, at_from, at_to}
 use Rattle.written_laws.proofs.NewDarts.{next_is}

@@ -1,3 +1,5 @@
+pub mod Runs
+pub mod Tallies
 pub mod Sides
 pub mod Grid
 pub mod Numbers

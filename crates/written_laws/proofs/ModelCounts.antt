@@ -15,7 +15,7 @@ use Rattle.def_written.specs.Points.{Point, IsPoint}
 use Rattle.def_written.specs.Numbers.{before_patch, number, vertices}
 use Rattle.def_written.specs.NewFaces.{from, cells_before, face_count}
 use Rattle.def_written.specs.Edges.{Edge, IsEdge}
-use Rattle.qm_laws.proofs.Tallies.{passing, passing_le, passing_all, filter_long}
+use Rattle.written_laws.proofs.Tallies.{passing, passing_le, passing_all, filter_long}
 use Rattle.mesh_laws.proofs.Vertices.{all_below}
 use Rattle.written_laws.proofs.Numbers.{number_low, number_same}
 use Rattle.written_laws.proofs.Grid.{wide_some, high_some}

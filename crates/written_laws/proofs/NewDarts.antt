@@ -13,7 +13,7 @@ use Rattle.def_layout.specs.Lengths.{Lengths, wide, high, AreLengths}
 use Rattle.def_layout.specs.Cells.{Dart, IsDart, dart, next, prev}
 use Rattle.def_written.specs.Numbers.{number}
 use Rattle.def_written.specs.NewFaces.{from, to, cells_before, face_count, patch_of, cell_in, dart_of, vertex_of, new_face, new_faces}
-use Rattle.qm_laws.proofs.Runs.{run_place, run_here, place_low, IsInRun}
+use Rattle.written_laws.proofs.Runs.{run_place, run_here, place_low, IsInRun}
 use Rattle.written_laws.proofs.Grid.{wide_some}
 
 -- The sides of a face by number.

@@ -2,7 +2,7 @@
 use Rattle.std.proofs.Common.{◌≡◌, ◌⊎◌, ℕ, zero, suc, ◌+◌, ◌-◌, ◌<◌, ◌≤◌, Bool, true, cond, refl, sym, ◌∙◌, ap, subst, inl, inr, arith}
 use Rattle.std.specs.Prelude.{◌==◌}
 use Rattle.std.proofs.lemmas.Bool.{cases_eq, eqb-true, eq-eqb}
-use Rattle.qm_laws.proofs.Tests.{same_test}
+use Rattle.sum_laws.proofs.Tests.{same_test}
 use Rattle.def_mesh.specs.Faces.{Faces}
 use Rattle.def_mesh.specs.Darts.{darts, from_of}
 use Rattle.def_mesh.specs.Vertices.{faces_at}
@@ -14,8 +14,8 @@ use Rattle.def_layout.specs.Lengths.{Lengths, reach, AreLengths}
 use Rattle.def_layout.specs.Cells.{Dart, IsDart}
 use Rattle.def_written.specs.Points.{node, along, inside, use_point}
 use Rattle.def_written.specs.NewFaces.{from}
-use Rattle.qm_laws.proofs.Runs.{count_rises}
-use Rattle.qm_laws.proofs.Tallies.{passing, passing_le, filter_long}
+use Rattle.written_laws.proofs.Runs.{count_rises}
+use Rattle.written_laws.proofs.Tallies.{passing, passing_le, filter_long}
 use Rattle.written_laws.proofs.Sides.{slot, long_at, use_begins, use_ends, use_inner, use_some}
 use Rattle.written_laws.proofs.Rims.{column_of, row_of, IsInner}
 use Rattle.written_laws.proofs.Borders.{IsAt, sort_dart, inner_from}

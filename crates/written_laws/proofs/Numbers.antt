@@ -5,7 +5,7 @@ use Rattle.def_layout.specs.Layouts.{Layout}
 use Rattle.def_layout.specs.Lengths.{Lengths, wide, high}
 use Rattle.def_written.specs.Points.{Point, node, along, inside, IsPoint}
 use Rattle.def_written.specs.Numbers.{before_arc, before_patch, number, vertices}
-use Rattle.qm_laws.proofs.Runs.{place_low, place_same}
+use Rattle.written_laws.proofs.Runs.{place_low, place_same}
 
 module _ (l : Layout) (x : Lengths) where
   -- How many inner points a patch has.

@@ -7,7 +7,7 @@ use Rattle.def_layout.specs.Layouts.{Way, south, east, north, west, after, Layou
 use Rattle.def_layout.specs.Laid.{IsPaved, IsLaid}
 use Rattle.def_layout.specs.Lengths.{Lengths, reach, size, AreLengths}
 use Rattle.def_written.specs.Points.{node, along, arc_point, use_point, use_over, offset_at, side_point}
-use Rattle.qm_laws.proofs.Runs.{count_rises, run_here, run_last, run_place, IsInRun}
+use Rattle.written_laws.proofs.Runs.{count_rises, run_here, run_last, run_place, IsInRun}
 
 -- The slot with these parts.
 abbrev pub slot : (patch : ℕ) (side : Way) (at : ℕ) → Slot

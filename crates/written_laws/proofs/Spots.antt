@@ -6,7 +6,7 @@ use Rattle.def_layout.specs.Lengths.{Lengths, reach, size, wide, high, AreLength
 use Rattle.def_layout.specs.Cells.{Dart, IsDart, dart, next, rim, rim_at}
 use Rattle.def_written.specs.Points.{point}
 use Rattle.def_written.specs.NewFaces.{column, row}
-use Rattle.qm_laws.proofs.Runs.{place_same}
+use Rattle.written_laws.proofs.Runs.{place_same}
 use Rattle.written_laws.proofs.Sides.{slot, long_at, side_in}
 use Rattle.written_laws.proofs.Grid.{wide_some, high_some}
 use Rattle.written_laws.proofs.Rims.{column_of, row_of, side_column, side_row, border_point, rim_is, rim_column, rim_row, rim_next_column, rim_next_row, rim_patch, rim_way}

@@ -1,5 +1,5 @@
 use Rattle.std.proofs.Common.{◌≡◌, true, sym, length, slice_index, nat_lt, lt-ltb, arith}
-use Rattle.qm_laws.proofs.Searches.{least_none, least_some}
+use Rattle.qm_dual.proofs.Searches.{least_none, least_some}
 use Rattle.qm_cert.proofs.sides.first_below.Goals as goal
 
 pub returns-then-entry-from-clause-least : goal.returns-then-entry-from-clause-least

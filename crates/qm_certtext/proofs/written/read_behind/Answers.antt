@@ -1,6 +1,6 @@
 use Rattle.std.proofs.Common.{arith}
 use Rattle.def_io.specs.Lines.{lines_of}
-use Rattle.qm_laws.proofs.Errors.{handed}
+use Rattle.error_laws.proofs.Errors.{handed}
 use Rattle.qm_certtext.proofs.Marks.{behind_fail, read_next}
 use Rattle.qm_certtext.proofs.written.read_behind.Goals as goal
 

@@ -2,7 +2,7 @@ use Rattle.std.proofs.Common.{refl, subst}
 use Rattle.def_certtext.specs.CertLines.{lists_of}
 use Rattle.def_flow.specs.Network.{network}
 use Rattle.def_layout.specs.Plans.{plan}
-use Rattle.qm_laws.proofs.Errors.{handed}
+use Rattle.error_laws.proofs.Errors.{handed}
 use Rattle.qm_check.proofs.Kept.{checked_first, unused_first}
 use Rattle.qm_check.specs.Checked.{made_twice, Gives, IsUnused}
 use Rattle.remesh_laws.proofs.Keeps.{doubled_some, solved}

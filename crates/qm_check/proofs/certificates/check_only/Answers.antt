@@ -2,7 +2,7 @@ use Rattle.std.proofs.Common.{refl, subst}
 use Rattle.def_certtext.specs.CertLines.{lists_of}
 use Rattle.def_flow.specs.Network.{network}
 use Rattle.def_layout.specs.Plans.{plan}
-use Rattle.qm_laws.proofs.Errors.{handed}
+use Rattle.error_laws.proofs.Errors.{handed}
 use Rattle.qm_check.proofs.Kept.{checked_first, unused_first, unused_lone}
 use Rattle.qm_check.specs.Checked.{made_once, Gives, IsUnused}
 use Rattle.qm_check.proofs.certificates.check_only.Goals as goal

@@ -3,7 +3,7 @@ use Rattle.def_certtext.specs.CertLines.{lists_of}
 use Rattle.def_flow.specs.Network.{network}
 use Rattle.def_layout.specs.Plans.{plan}
 use Rattle.def_remesh.specs.Remeshed.{with_floor}
-use Rattle.qm_laws.proofs.Errors.{handed}
+use Rattle.error_laws.proofs.Errors.{handed}
 use Rattle.qm_check.proofs.Kept.{checked_third, unused_third}
 use Rattle.qm_check.specs.Checked.{made_twice, Gives, IsUnused}
 use Rattle.remesh_laws.proofs.Keeps.{raised_net}

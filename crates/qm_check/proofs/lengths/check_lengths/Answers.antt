@@ -1,7 +1,7 @@
 use Rattle.std.proofs.Common.{ℕ, List, subst}
 use Rattle.def_flow.specs.Network.{network}
 use Rattle.def_layout.specs.Plans.{plan}
-use Rattle.qm_laws.proofs.Errors.{handed}
+use Rattle.error_laws.proofs.Errors.{handed}
 use Rattle.qm_check.specs.Checked.{GivesNone}
 use Rattle.remesh_laws.proofs.Keeps.{are_lengths}
 use Rattle.remesh_laws.specs.Keeps.{IsNumbered}

@@ -2,7 +2,7 @@ use Rattle.std.proofs.Common.{Bool, subst}
 use Rattle.def_certtext.specs.Reading.{IsHead}
 use Rattle.def_flow.specs.declared.net.Settings.{Settings}
 use Rattle.def_io.specs.Bytes.{Bytes}
-use Rattle.qm_laws.proofs.Errors.{handed}
+use Rattle.error_laws.proofs.Errors.{handed}
 use Rattle.qm_check.proofs.Refusals.{no_head, no_network}
 use Rattle.def_run.specs.CheckFails.{IsCheckFail}
 use Rattle.qm_check.proofs.pair.check_behind.Goals as goal

@@ -9,7 +9,7 @@ use Rattle.def_layout.specs.Plans.{plan}
 use Rattle.def_remesh.specs.Remeshed.{remeshed_text}
 use Rattle.def_text.specs.declared.limits.TheConstants.{MAX_BYTES}
 use Rattle.qm_check.proofs.Counted.{counted, net_is}
-use Rattle.qm_laws.proofs.Errors.{handed}
+use Rattle.error_laws.proofs.Errors.{handed}
 use Rattle.qm_check.proofs.Reach.{cert_reach, first_reach, tail_few}
 use Rattle.qm_check.proofs.Refusals.{other, tells_nothing, unused}
 use Rattle.qm_check.specs.Checked.{IsDifference}

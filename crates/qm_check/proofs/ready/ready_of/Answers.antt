@@ -4,7 +4,7 @@ use Rattle.def_layout.specs.FaceLayouts.{IsLayoutOf}
 use Rattle.def_layout.specs.Plans.{plan}
 use Rattle.def_mesh.specs.Faces.{Faces}
 use Rattle.def_run.specs.Remesh.{IsCutTo}
-use Rattle.qm_laws.proofs.Errors.{handed}
+use Rattle.error_laws.proofs.Errors.{handed}
 use Rattle.qm_check.proofs.OldTexts.{unfit}
 use Rattle.qm_check.specs.Ready.{IsUnfit}
 use Rattle.qm_check.proofs.ready.ready_of.Goals as goal

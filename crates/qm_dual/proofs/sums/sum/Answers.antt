@@ -1,7 +1,7 @@
 use Rattle.std.proofs.Common.{◌≡◌, ◌+◌, ◌^◌, ◌<◌, ℤ, pos, ◌+ℤ◌, unsigned_abs, take, get_or, arith}
 use Rattle.std.proofs.lemmas.Int.{ints}
 use Rattle.def_math.specs.Sums.{total}
-use Rattle.qm_laws.proofs.Entries.{total_take}
+use Rattle.qm_dual.proofs.Entries.{total_take}
 use Rattle.qm_dual.proofs.sums.sum.Goals as goal
 
 pub loop-number-preserved : goal.loop-number-preserved

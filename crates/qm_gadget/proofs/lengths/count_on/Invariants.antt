@@ -1,5 +1,5 @@
 use Rattle.std.proofs.Common.{◌≡◌, ◌+◌, ◌≤◌, drop}
-use Rattle.qm_units.specs.Marks.{trues}
+use Rattle.gadget_laws.specs.Marks.{trues}
 use Rattle.qm_gadget.proofs.lengths.count_on.Given as goal
 
 abbrev pub invariant-loop-on : goal.invariant-loop-on

@@ -1,7 +1,7 @@
 use Rattle.std.proofs.Common.{◌≡◌, ◌∙◌, ap}
 use Rattle.def_flow.specs.Network.{network}
 use Rattle.def_flow.specs.Units.{active}
-use Rattle.qm_units.specs.Told.{marks_from, states_told}
+use Rattle.gadget_laws.specs.Told.{marks_from, states_told}
 use Rattle.qm_gadget.specs.Layout.{copies_in}
 use Rattle.def_flow.specs.Units.{units_over}
 use Rattle.qm_gadget.specs.Ready.{own_states}

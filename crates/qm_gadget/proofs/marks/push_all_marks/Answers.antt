@@ -2,7 +2,7 @@ use Rattle.std.proofs.Common.{◌≡◌, ℕ, ◌+◌, ◌++◌, Bool, List, len
 use Rattle.def_math.specs.Tables.{IsRaised}
 use Rattle.def_flow.specs.declared.units.ArcUnit.{ArcUnit}
 use Rattle.def_flow.specs.Units.{active_at}
-use Rattle.qm_units.specs.Marks.{marks_by, units_marks}
+use Rattle.gadget_laws.specs.Marks.{marks_by, units_marks}
 use Rattle.qm_gadget.specs.Layout.{copies_in}
 use Rattle.qm_gadget.proofs.Numbers.{marks_step, marks_width, units_marks_step}
 use Rattle.qm_gadget.proofs.NodeCounts.{same_everywhere, active_at_low, raised_read}

@@ -1,5 +1,5 @@
 use Rattle.std.proofs.Common.{◌≡◌, ℕ, ◌+◌, ◌*◌, ◌≤◌, ◌++◌, length, drop, slice_index}
-use Rattle.qm_units.specs.Marks.{places, units_marks}
+use Rattle.gadget_laws.specs.Marks.{places, units_marks}
 use Rattle.qm_gadget.specs.Layout.{copies_in}
 use Rattle.qm_gadget.proofs.marks.push_all_marks.Given as goal
 

@@ -1,5 +1,5 @@
 use Rattle.std.proofs.Common.{◌+◌, ◌++◌, [], ◌∷◌, not, slice_index, sym, ◌∙◌, ap}
-use Rattle.qm_units.specs.Marks.{places}
+use Rattle.gadget_laws.specs.Marks.{places}
 use Rattle.qm_gadget.specs.Layout.{copies_in}
 use Rattle.qm_gadget.proofs.Numbers.{right_alike}
 use Rattle.qm_gadget.proofs.marks.push_right_marks.Goals as goal

@@ -1,7 +1,7 @@
 use Rattle.std.proofs.Common.{◌≡◌, ◌+◌, ◌++◌, [], ◌∷◌, ◌<◌, not, length, slice_index, ◌∙◌, ap, arith}
 use Rattle.std.proofs.lemmas.Result.{on_ok_weaker}
 use Rattle.def_flow.specs.Units.{is_active}
-use Rattle.qm_units.specs.Marks.{places, take_end}
+use Rattle.gadget_laws.specs.Marks.{places, take_end}
 use Rattle.qm_gadget.specs.Layout.{copies_in}
 use Rattle.qm_gadget.proofs.Numbers.{unit_lone, unit_two}
 use Rattle.qm_gadget.proofs.NodeCounts.{right_at}

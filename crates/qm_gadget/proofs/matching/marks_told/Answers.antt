@@ -1,6 +1,6 @@
 use Rattle.std.proofs.Common.{◌≡◌, ◌+◌, ◌++◌, [], Bool, List, length, sym, ◌∙◌, ap, length-append, arith}
 use Rattle.def_flow.specs.MatchingGraph.{lone_vertex, first_fresh}
-use Rattle.qm_units.specs.Marks.{places, units_marks, rim_marks, rim_states}
+use Rattle.gadget_laws.specs.Marks.{places, units_marks, rim_marks, rim_states}
 use Rattle.qm_gadget.specs.Layout.{copies_in}
 use Rattle.qm_gadget.specs.Marked.{rim_by}
 use Rattle.qm_gadget.proofs.Fans.{two_parts}

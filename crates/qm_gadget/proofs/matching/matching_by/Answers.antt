@@ -1,7 +1,7 @@
 use Rattle.std.proofs.Common.{◌≡◌, length, sym, ◌∙◌, ap, arith}
 use Rattle.def_flow.specs.Network.{network}
 use Rattle.def_flow.specs.Units.{states_over}
-use Rattle.qm_units.specs.Box.{ups}
+use Rattle.gadget_laws.specs.Box.{ups}
 use Rattle.qm_gadget.proofs.ByLows.{states_long}
 use Rattle.qm_gadget.proofs.Steps.{ups_small, ups_length, plan_marks, plan_few}
 use Rattle.qm_gadget.proofs.matching.matching_by.Goals as goal

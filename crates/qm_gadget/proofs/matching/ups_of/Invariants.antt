@@ -1,5 +1,5 @@
 use Rattle.std.proofs.Common.{◌≡◌, ◌++◌, drop}
-use Rattle.qm_units.specs.Box.{ups}
+use Rattle.gadget_laws.specs.Box.{ups}
 use Rattle.qm_gadget.proofs.matching.ups_of.Given as goal
 
 abbrev pub invariant-loop-k : goal.invariant-loop-k

@@ -1,5 +1,5 @@
 use Rattle.std.proofs.Common.{◌≡◌, ◌+◌, ◌==◌, ◌++◌, Bool, true, false, List, length, drop, slice_index_or, refl, sym, ◌∙◌, ap, arith}
-use Rattle.qm_units.specs.Marks.{places}
+use Rattle.gadget_laws.specs.Marks.{places}
 use Rattle.qm_gadget.specs.Marked.{rim_by, turn_marks}
 use Rattle.qm_gadget.proofs.Numbers.{marks_step, rim_step, turn_low}
 use Rattle.qm_gadget.proofs.rim_marks.push_rim_marks.Goals as goal

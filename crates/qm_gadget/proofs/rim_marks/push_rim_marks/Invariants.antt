@@ -1,5 +1,5 @@
 use Rattle.std.proofs.Common.{◌≡◌, ◌+◌, ◌*◌, ◌≤◌, ◌++◌, drop}
-use Rattle.qm_units.specs.Marks.{places}
+use Rattle.gadget_laws.specs.Marks.{places}
 use Rattle.qm_gadget.specs.Marked.{rim_by}
 use Rattle.qm_gadget.proofs.rim_marks.push_rim_marks.Given as goal
 

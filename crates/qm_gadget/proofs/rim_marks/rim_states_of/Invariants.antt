@@ -1,5 +1,5 @@
 use Rattle.std.proofs.Common.{◌≡◌, ◌++◌, drop}
-use Rattle.qm_units.specs.Marks.{rim_states}
+use Rattle.gadget_laws.specs.Marks.{rim_states}
 use Rattle.qm_gadget.proofs.rim_marks.rim_states_of.Given as goal
 
 abbrev pub invariant-loop-k : goal.invariant-loop-k

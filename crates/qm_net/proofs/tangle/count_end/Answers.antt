@@ -1,4 +1,4 @@
-use Rattle.qm_table.proofs.Tallies.{raised_at}
+use Rattle.table_laws.proofs.Tallies.{raised_at}
 use Rattle.qm_net.proofs.tangle.count_end.Goals as goal
 
 pub returns : goal.returns

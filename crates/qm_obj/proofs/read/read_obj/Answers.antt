@@ -1,5 +1,5 @@
 use Rattle.def_io.specs.Lines.{lines_of}
-use Rattle.qm_laws.proofs.Errors.{handed}
+use Rattle.error_laws.proofs.Errors.{handed}
 use Rattle.qm_obj.proofs.ReadLemmas.{at_few, at_next, at_positive, at_refused, at_sizes, finished_few, finished_refused, finished_soup}
 use Rattle.qm_obj.proofs.read.read_obj.Goals as goal
 

@@ -1,6 +1,6 @@
 use Rattle.std.proofs.Common.{◌≡◌, ◌+◌, ◌∙◌, sym, length, ap, subst, arith}
 use Rattle.std.specs.Prelude.{slice_range}
-use Rattle.qm_laws.proofs.Errors.{handed}
+use Rattle.error_laws.proofs.Errors.{handed}
 use Rattle.def_text.specs.Logical.{Logical}
 use Rattle.def_io.specs.Lines.{lines_of}
 use Rattle.qm_obj.specs.Lines.{Took, first_logical, next_said, uncommented}

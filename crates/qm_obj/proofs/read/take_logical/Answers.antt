@@ -2,7 +2,7 @@ use Rattle.std.proofs.Common.{◌≡◌, ◌+◌, ◌∙◌, sym, ap, length, su
 use Rattle.def_io.specs.Lines.{lines_of}
 use Rattle.def_text.specs.Logical.{Logical, continues}
 use Rattle.std.specs.Prelude.{slice_range}
-use Rattle.qm_laws.proofs.Errors.{handed}
+use Rattle.error_laws.proofs.Errors.{handed}
 use Rattle.qm_obj.specs.Lines.{Took, first_logical, next_said, uncommented}
 use Rattle.qm_obj.proofs.JoinLemmas.{single_logical, single_span}
 use Rattle.qm_obj.proofs.read.take_logical.Goals as goal

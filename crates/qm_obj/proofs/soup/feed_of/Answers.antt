@@ -1,6 +1,6 @@
 use Rattle.std.proofs.Common.{◌≡◌, ◌+◌, ◌-◌, ℕ, Err, ap, subst, ◌∙◌, arith}
 use Rattle.std.specs.List.{length_refill}
-use Rattle.qm_laws.proofs.Errors.{same_error}
+use Rattle.error_laws.proofs.Errors.{same_error}
 use Rattle.qm_obj.specs.Feeding.{FedTo}
 use Rattle.qm_obj.proofs.InputLemmas.{fed_more, fed_whole, gave_beyond}
 use Rattle.qm_obj.proofs.soup.feed_of.Goals as goal

@@ -1,5 +1,5 @@
 use Rattle.def_text.specs.Input.{IsSoupFail}
-use Rattle.qm_laws.proofs.Errors.{handed}
+use Rattle.error_laws.proofs.Errors.{handed}
 use Rattle.qm_obj.proofs.InputLemmas.{refused}
 use Rattle.qm_obj.proofs.soup.read_soup.Goals as goal
 

@@ -5,7 +5,7 @@ use Rattle.def_math.specs.Counts.{count_below}
 use Rattle.def_layout.specs.declared.tmesh.SideArc.{SideArc}
 use Rattle.def_remesh.specs.NewPoints.{lengths_in}
 use Rattle.def_remesh.specs.Numberings.{sizes_on, AreStarts}
-use Rattle.qm_laws.proofs.Runs.{count_rises}
+use Rattle.written_laws.proofs.Runs.{count_rises}
 use Rattle.qm_reach.proofs.sides.side_starts.Goals as goal
 
 -- The length of the arc at hand.

@@ -10,7 +10,7 @@ use Rattle.def_layoutnet.specs.MeshLayouts.{IsMeshLayout}
 use Rattle.def_remesh.specs.NewPoints.{lengths_in}
 use Rattle.plan_laws.proofs.MeshLayouts.{laid_of, lengths_of}
 use Rattle.qm_reach.specs.Fours.{arcs_on}
-use Rattle.qm_reach.proofs.Bounds.{old_faces, side_few, side_most}
+use Rattle.plan_laws.proofs.Bounds.{old_faces, side_few, side_most}
 use Rattle.qm_reach.proofs.Whole.{side_long, uses_low, way_for}
 use Rattle.qm_reach.proofs.sizes.size_on.Goals as goal
 

@@ -1,7 +1,7 @@
 use Rattle.std.proofs.Common.{◌≡◌, ℕ, suc, ◌+◌, ◌^◌, ◌-◌, ◌<◌, ◌≤◌, min, List, ◌∷◌, [], length, get_or, take, arith}
 use Rattle.std.proofs.Math.Seq.{take-suc}
 use Rattle.def_math.specs.Counts.{count}
-use Rattle.qm_laws.proofs.Counts.{count_append}
+use Rattle.sum_laws.proofs.Counts.{count_append}
 use Rattle.def_flow.specs.declared.net.Arc.{Arc}
 use Rattle.qm_solve.proofs.tests.are_few.Goals as goal
 

@@ -10,8 +10,8 @@ use Rattle.def_layoutnet.specs.MeshLayouts.{IsMeshLayout}
 use Rattle.def_written.specs.NewFaces.{cells_before, face_count}
 use Rattle.def_remesh.specs.NewPoints.{lengths_in}
 use Rattle.plan_laws.proofs.MeshLayouts.{laid_of, lengths_of}
-use Rattle.qm_laws.proofs.Runs.{count_rises}
-use Rattle.qm_reach.proofs.Bounds.{cells_most, old_faces}
+use Rattle.written_laws.proofs.Runs.{count_rises}
+use Rattle.plan_laws.proofs.Bounds.{cells_most, old_faces}
 use Rattle.qm_reach.proofs.Spots.{count_step}
 use Rattle.qm_stitch.proofs.count.count_faces.Goals as goal
 

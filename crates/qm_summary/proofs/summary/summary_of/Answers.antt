@@ -2,7 +2,7 @@ use mir.Syntax.{w128}
 use Rattle.std.proofs.Common.{◌≡◌, ap, arith, length, subst, to_z, of_z, ◌∙◌}
 use Rattle.std.proofs.lemmas.Int.{ints}
 use Rattle.std.proofs.lemmas.List.{length-map}
-use Rattle.qm_laws.proofs.Errors.{handed}
+use Rattle.error_laws.proofs.Errors.{handed}
 use Rattle.def_cut.specs.Grids.{rectangle}
 use Rattle.def_cut.specs.Traced.{traced_marks}
 use Rattle.def_layout.specs.Arcs.{path}

@@ -3,7 +3,7 @@ use Rattle.def_io.specs.Moves.{took, TookPrefix}
 use Rattle.def_layout.specs.Plans.{plan}
 use Rattle.def_remesh.specs.Refined.{refined_text}
 use Rattle.qm_top.proofs.Refined.{fits_of, is_refined}
-use Rattle.qm_laws.proofs.Errors.{handed}
+use Rattle.error_laws.proofs.Errors.{handed}
 use Rattle.qm_top.proofs.Writers.{of_soup}
 use Rattle.qm_top.proofs.refine.refine_mesh.Goals as goal
 

@@ -6,7 +6,7 @@ use Rattle.def_layout.specs.Plans.{plan}
 use Rattle.def_remesh.specs.Keeping.{IsKept}
 use Rattle.qm_top.specs.Writing.{refusal_of_put, text_of}
 use Rattle.qm_top.proofs.Remeshed.{kept_remeshed, put_refused}
-use Rattle.qm_laws.proofs.Errors.{handed}
+use Rattle.error_laws.proofs.Errors.{handed}
 use Rattle.qm_top.proofs.Writers.{of_soup}
 use Rattle.qm_top.proofs.remesh.remesh_mesh.Goals as goal
 

@@ -3,7 +3,7 @@ use Rattle.def_io.specs.Moves.{took, TookPrefix}
 use Rattle.def_layout.specs.Plans.{plan}
 use Rattle.qm_output.proofs.Prefixes.{rest_prefix, text_prefix, text_whole}
 use Rattle.qm_top.specs.Writing.{text_of}
-use Rattle.qm_laws.proofs.Errors.{same_error}
+use Rattle.error_laws.proofs.Errors.{same_error}
 use Rattle.qm_top.proofs.remesh.write_remeshed.Goals as goal
 
 pub returns-in_err-put_remeshed-clause-prefix : goal.returns-in_err-put_remeshed-clause-prefix

@@ -1,5 +1,5 @@
 use Rattle.std.proofs.Common.{◌++◌, ◌∷◌, [], sym, ap, ◌∙◌}
-use Rattle.qm_laws.proofs.Filters.{range_more}
+use Rattle.list_laws.proofs.Filters.{range_more}
 use Rattle.qm_trace.proofs.queue.everyone.Goals as goal
 
 pub loop-r-preserved : goal.loop-r-preserved

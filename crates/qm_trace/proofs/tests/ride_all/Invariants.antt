@@ -1,5 +1,5 @@
 use Rattle.std.proofs.Common.{◌≡◌}
-use Rattle.def_motion.specs.Views.{IsMotionOn}
+use Rattle.def_cut.specs.Views.{IsMotionOn}
 use Rattle.qm_trace.proofs.tests.ride_all.Given as goal
 
 abbrev pub invariant-loop-i : goal.invariant-loop-i

@@ -1,5 +1,5 @@
 use Rattle.std.proofs.Common.{map, string_bytes}
-use Rattle.qm_laws.proofs.Errors.{handed}
+use Rattle.error_laws.proofs.Errors.{handed}
 use Rattle.qm_words.proofs.Plain.{no_count}
 use Rattle.qm_words.proofs.values.number_of.Goals as goal
 

@@ -3,7 +3,7 @@ use Rattle.std.specs.Prelude.{unsigned_abs}
 use Rattle.def_matching.specs.Matching.{graph}
 use Rattle.def_matching.specs.Dual.{dual}
 use Rattle.def_forest.specs.Tables.{ForestTables, forest_of}
-use Rattle.def_match.specs.Made.{IsMadeFor}
+use Rattle.def_forest.specs.Made.{IsMadeFor}
 use Rattle.qm_match.proofs.Outcomes.{increasing_low, run_bounded}
 use Rattle.qm_match.proofs.Ready.{ready_idle}
 use Rattle.qm_match.proofs.matcher.Matcher.run.Goals as goal

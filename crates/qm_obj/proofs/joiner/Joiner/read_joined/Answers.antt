@@ -1,6 +1,6 @@
 use Rattle.std.proofs.Common.{◌≡◌, ◌+◌, [], ◌++◌, ◌∙◌, length, sym, ap, subst, arith}
 use Rattle.std.specs.List.{before_first}
-use Rattle.qm_laws.proofs.Errors.{handed}
+use Rattle.error_laws.proofs.Errors.{handed}
 use Rattle.def_text.specs.Logical.{Logical, is_hash}
 use Rattle.qm_obj.specs.Lines.{Took, next_said, uncommented}
 use Rattle.qm_obj.specs.Views.{kept_of}

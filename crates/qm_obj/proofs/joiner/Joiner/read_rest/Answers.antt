@@ -1,5 +1,5 @@
 use Rattle.std.proofs.Common.{[], ◌∙◌, length, refl, sym, ap, subst, arith}
-use Rattle.qm_laws.proofs.Errors.{handed}
+use Rattle.error_laws.proofs.Errors.{handed}
 use Rattle.def_text.specs.Logical.{Logical}
 use Rattle.qm_obj.specs.Lines.{Took, next_said, uncommented}
 use Rattle.qm_obj.specs.Views.{kept_of}

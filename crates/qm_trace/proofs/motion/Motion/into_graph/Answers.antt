@@ -1,7 +1,7 @@
 use Rattle.std.proofs.Common.{Bool, List, sym, subst, ◌∙◌}
 use Rattle.def_cut.specs.FullCut.{IsFullCut}
 use Rattle.def_cut.specs.Events.{NobodyRuns}
-use Rattle.def_motion.specs.Views.{IsMotionOn, MotionView}
+use Rattle.def_cut.specs.Views.{IsMotionOn, MotionView}
 use Rattle.site_laws.proofs.Laws.{graph_law}
 use Rattle.qm_trace.specs.contracts.motion.Motion.{the_view}
 use Rattle.qm_trace.proofs.Calls.{end_covered, end_riders}

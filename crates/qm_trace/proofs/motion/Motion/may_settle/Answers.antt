@@ -6,7 +6,7 @@ use Rattle.def_mesh.specs.Vertices.{fan_of}
 use Rattle.def_cut.specs.FullCut.{is_on}
 use Rattle.def_cut.specs.Events.{darts_in, ends_at, may_settle, waiting}
 use Rattle.def_cut.specs.Traced.{terrain_of}
-use Rattle.def_motion.specs.Views.{IsMotionOn, MotionView}
+use Rattle.def_cut.specs.Views.{IsMotionOn, MotionView}
 use Rattle.qm_trace.specs.contracts.motion.Motion.{the_view}
 use Rattle.qm_trace.proofs.Reaching.{covered_long, settled_long}
 use Rattle.qm_trace.proofs.Settled.{end_is, noted_low_at}

@@ -6,7 +6,7 @@ use Rattle.def_cut.specs.declared.moving.Moving.{Moving}
 use Rattle.def_cut.specs.Motion.{is_among}
 use Rattle.def_cut.specs.Events.{IsMotionOf, after_ride_of, darts_in, mark_twin, waiting}
 use Rattle.def_cut.specs.Traced.{terrain_of}
-use Rattle.def_motion.specs.Views.{IsMotionOn, MotionView, with_state}
+use Rattle.def_cut.specs.Views.{IsMotionOn, MotionView, with_state}
 use Rattle.qm_trace.specs.Motions.{is_untold, runs_on, tally}
 use Rattle.qm_trace.specs.contracts.motion.Motion.{the_view}
 use Rattle.qm_trace.proofs.Beginnings.{starts_few}

@@ -5,7 +5,7 @@ use Rattle.def_cut.specs.FullCut.{is_on}
 use Rattle.def_cut.specs.declared.moving.Moving.{Moving}
 use Rattle.def_cut.specs.Events.{IsMotionOf, after_settling, darts_in, decided_at, is_closed, waiting}
 use Rattle.def_cut.specs.Traced.{terrain_of}
-use Rattle.def_motion.specs.Views.{IsMotionOn, MotionView, with_state}
+use Rattle.def_cut.specs.Views.{IsMotionOn, MotionView, with_state}
 use Rattle.qm_trace.specs.Motions.{is_untold, tally}
 use Rattle.qm_trace.specs.Tables.{IsSite}
 use Rattle.qm_trace.specs.contracts.motion.Motion.{the_view}

@@ -1,2 +1,0 @@
-//! What a matcher holds, and when it is made for a graph: definitions alone.
-#![tactic(auto)]

@@ -1,0 +1,2 @@
+//! Lemmas on errors that are handed on.
+#![tactic(auto)]

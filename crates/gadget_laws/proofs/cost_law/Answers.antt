@@ -1,0 +1,5 @@
+use Rattle.gadget_laws.proofs.Costs.{costs}
+use Rattle.gadget_laws.proofs.cost_law.Goals as goal
+
+pub returns : goal.returns
+returns c = costs

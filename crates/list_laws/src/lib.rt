@@ -1,0 +1,2 @@
+//! Lemmas on lists that are filtered and searched.
+#![tactic(auto)]

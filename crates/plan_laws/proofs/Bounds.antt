@@ -1,0 +1,119 @@
+-- How large the numbers of a new mesh are.
+use Rattle.std.proofs.Common.{◌≡◌, ℕ, zero, suc, ◌+◌, ◌*◌, ◌^◌, ◌<◌, ◌≤◌, true, refl, sym, ◌∙◌, ap, arith}
+use Rattle.std.proofs.lemmas.Nat.{mul-le}
+use Rattle.def_math.specs.Counts.{count_below}
+use Rattle.def_layout.specs.Arcs.{long_at}
+use Rattle.def_layout.specs.Cells.{Dart, IsDart}
+use Rattle.def_layout.specs.Laid.{IsLaid}
+use Rattle.def_layout.specs.Layouts.{Way, south, east, north, west, Layout}
+use Rattle.def_layout.specs.Lengths.{Lengths, size, wide, high, AreLengths}
+use Rattle.def_layout.specs.Plans.{Plan, layout_of, vertex_at}
+use Rattle.def_layoutnet.specs.MeshLayouts.{IsMeshLayout}
+use Rattle.def_written.specs.Points.{Point, IsPoint}
+use Rattle.def_written.specs.Numbers.{number, vertices}
+use Rattle.def_written.specs.NewFaces.{from, cells_before, face_count}
+use Rattle.sum_laws.proofs.Counts.{count_below_le, count_below_times}
+use Rattle.written_laws.proofs.Runs.{count_rises}
+use Rattle.written_laws.proofs.Tallies.{passing, passing_le, passing_all}
+use Rattle.plan_laws.proofs.MeshLayouts.{lies}
+use Rattle.written_laws.proofs.Grid.{wide_some, high_some}
+use Rattle.written_laws.proofs.EdgeNumbers.{point_onto}
+use Rattle.written_laws.proofs.Models.{point_dart}
+use Rattle.written_laws.proofs.ModelCounts.{faces_are}
+use Rattle.written_laws.proofs.NewDarts.{dart_number, dart_low, dart_same, faces_long}
+use Rattle.written_laws.proofs.OldModel.{old_model}
+
+module _ (l : Layout) (x : Lengths) (laid : IsLaid l) (len : AreLengths l x) where
+  -- Each point is left by a dart, so that there are no more points than darts.
+  pub vertices_few : vertices l x ≤ 4 * face_count l x
+  vertices_few =
+      let all : passing (λ k. true) (vertices l x) ≡ vertices l x = passing_all (vertices l x) in
+      let darts : passing (λ k. true) (4 * face_count l x) ≡ 4 * face_count l x = passing_all (4 * face_count l x) in
+      omega (
+        arith,
+        all,
+        darts,
+        passing_le (λ k. true) (λ k. true) (vertices l x) (4 * face_count l x)
+            (λ v low on. (dart_number l x (dart v low).0, below v low, refl))
+            (λ v w a on b too same. sym (dart v a).2
+            ∙ ap (λ (d : Dart). number l x (from l x d)) (dart_same l x (dart v a).0 (dart w b).0 (dart v a).1 (dart w b).1 same) ∙ (dart w b).2),
+      )
+    where
+      dart : (v : ℕ) → v < vertices l x → (d : Dart) × IsDart l x d × (number l x (from l x d) ≡ v)
+      dart v low =
+          let a : (a : Point) × IsPoint l x a × (number l x a ≡ v) = point_onto l x v low in
+          let d : (d : Dart) × IsDart l x d × (from l x d ≡ a.0) = point_dart l x laid len a.0 a.1 in
+          (d.0, d.1, ap (number l x) d.2 ∙ a.2)
+
+      below : (v : ℕ) (low : v < vertices l x) → dart_number l x (dart v low).0 < 4 * face_count l x
+      below v low = omega (arith, dart_low l x (dart v low).0 (dart v low).1, faces_long l x)
+
+  -- A patch has no more cells than there are.
+  patch_few : (p : ℕ) → p < l.patches → wide l x p * high l x p ≤ face_count l x
+  patch_few p low =
+      let le : cells_before l x (suc p) ≤ cells_before l x l.patches =
+      count_rises (λ q. wide l x q * high l x q) (suc p) l.patches (omega (arith, low)) in
+      omega (arith, le)
+
+  wide_few : (p : ℕ) → p < l.patches → wide l x p ≤ face_count l x
+  wide_few p low = by_parts (wide l x p) (high l x p) (high_some l x laid.paved len p low) (patch_few p low)
+    where
+      by_parts : (w h : ℕ) → 0 < h → w * h ≤ face_count l x → w ≤ face_count l x
+      by_parts w zero some le = absurd (omega arith)
+      by_parts w (suc h) some le = let e : w * suc h ≡ w + w * h = omega arith in omega (arith, e, le)
+
+  high_few : (p : ℕ) → p < l.patches → high l x p ≤ face_count l x
+  high_few p low = by_parts (wide l x p) (high l x p) (wide_some l x laid.paved len p low) (patch_few p low)
+    where
+      by_parts : (w h : ℕ) → 0 < w → w * h ≤ face_count l x → h ≤ face_count l x
+      by_parts zero h some le = absurd (omega arith)
+      by_parts (suc w) h some le = let e : suc w * h ≡ h + w * h = omega arith in omega (arith, e, le)
+
+  pub side_few : (p : ℕ) (s : Way) → p < l.patches → size l x p s ≤ face_count l x
+  side_few p south low = wide_few p low
+  side_few p east low = omega (arith, len.upright p low, high_few p low)
+  side_few p north low = omega (arith, len.across p low, wide_few p low)
+  side_few p west low = high_few p low
+
+-- Lengths of at most k make a layout no larger than k times the old lengths do.
+module _ (l : Layout) (old x : Lengths) (k : ℕ) (laid : IsLaid l) (len : AreLengths l old) (most : (a : ℕ) → x a ≤ k) where
+  pub side_most : (p : ℕ) (s : Way) → p < l.patches → size l x p s ≤ k * size l old p s
+  side_most p s low =
+      let each : count_below (λ m. x (l.use_at p s m).arc) (l.many p s) ≤ count_below (λ m. k * old (l.use_at p s m).arc) (l.many p s) =
+      count_below_le (λ m. x (l.use_at p s m).arc) (λ m. k * old (l.use_at p s m).arc) (l.many p s) term in
+      omega (arith, each, count_below_times k (λ m. old (l.use_at p s m).arc) (l.many p s))
+    where
+      term : (m : ℕ) → m < l.many p s → x (l.use_at p s m).arc ≤ k * old (l.use_at p s m).arc
+      term m less =
+          let some : 0 < old (l.use_at p s m).arc =
+          len.some (l.use_at p s m).arc (laid.paved.arc_low (record { patch = p; side = s; at = m }) (record { patch_low = low; low = less })) in
+          by_parts (x (l.use_at p s m).arc) (old (l.use_at p s m).arc) (most (l.use_at p s m).arc) some
+        where
+          by_parts : (a b : ℕ) → a ≤ k → 0 < b → a ≤ k * b
+          by_parts a zero le some = absurd (omega arith)
+          by_parts a (suc b) le some = let e : k * suc b ≡ k + k * b = omega arith in omega (arith, e, le)
+
+  pub cells_most : (n : ℕ) → n ≤ l.patches → cells_before l x n ≤ k * k * cells_before l old n
+  cells_most n le =
+      let each : cells_before l x n ≤ count_below (λ p. k * k * (wide l old p * high l old p)) n =
+      count_below_le (λ p. wide l x p * high l x p) (λ p. k * k * (wide l old p * high l old p)) n
+      (λ p low. term p (omega (arith, low, le))) in
+      omega (arith, each, count_below_times (k * k) (λ p. wide l old p * high l old p) n)
+    where
+      term : (p : ℕ) → p < l.patches → wide l x p * high l x p ≤ k * k * (wide l old p * high l old p)
+      term p low = by_parts (wide l old p) (high l old p)
+          (mul-le (wide l x p) (high l x p) (k * wide l old p) (k * high l old p) (side_most p south low) (side_most p west low))
+        where
+          by_parts : (w h : ℕ) → wide l x p * high l x p ≤ (k * w) * (k * h) → wide l x p * high l x p ≤ k * k * (w * h)
+          by_parts w h most_of = grind (arith, most_of)
+
+-- The old lengths make as many cells as the mesh has faces.
+pub old_faces : (plan : Plan) (is : IsMeshLayout plan) → face_count (layout_of plan) (long_at plan.arcs) ≤ 2 ^ 21
+old_faces plan is =
+    let m = lies plan is in
+    omega (
+      arith,
+      is.mesh.few,
+      faces_are (layout_of plan) (long_at plan.arcs) _ m.lengths is.faces m.cell
+          (old_model is.faces m.manifold (layout_of plan) (long_at plan.arcs) m.paved m.lengths m.cell (vertex_at plan) m.arc_dart m.sided m.quads),
+    )

@@ -1,2 +1,0 @@
-//! Lemmas that know nothing of meshes: sums, counts and what follows from them.
-#![tactic(auto)]

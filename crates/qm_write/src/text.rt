@@ -1,0 +1,128 @@
+//! The text of a remesh.
+
+ghost use Rattle.std.specs.Prelude.{◌≡◌, ◌++◌, [], IsErrOf, OnOk, OnErr};
+ghost use Rattle.std.specs.Option.{option_map};
+ghost use Rattle.def_certtext.specs.CertLines.{lists_of};
+ghost use Rattle.def_layout.specs.Plans.{plan};
+ghost use Rattle.def_remesh.specs.Keeping.{IsKept};
+ghost use Rattle.def_remesh.specs.NewPoints.{lengths_in};
+ghost use Rattle.def_remesh.specs.NewSoup.{new_soup};
+ghost use Rattle.def_remesh.specs.Numberings.{IsNumbering};
+ghost use Rattle.def_remesh.specs.Placings.{ArePlaces, IsLayoutIn};
+ghost use Rattle.def_remesh.specs.Remeshed.{remeshed_text};
+ghost use Rattle.def_text.specs.Canonical.{canonical_text};
+ghost use Rattle.qm_write.specs.Joined.{joined};
+
+use crate::body::{CutMesh, NewPoints, put_new_mesh};
+use crate::certs::{CertTexts, cert_texts, put_certs};
+use crate::remesh::Remesh;
+use def_output::Stopped;
+use def_text::Soup;
+use qm_certtext::head_text;
+use qm_output::Output;
+use qm_place::placer;
+use std::alloc::{AllocError, Global};
+use thiserror::Error;
+
+/// Why a text was not put whole.
+#[derive(Clone, Copy, Debug, PartialEq, Eq, Error)]
+pub enum PutFail {
+    /// What it was put to stopped.
+    #[error("the text goes no further")]
+    Stopped,
+    /// Before any of it was put.
+    #[error("out of memory")]
+    Memory,
+}
+
+impl From<AllocError> for PutFail {
+    ghost use Rattle.qm_write.specs.declared.text.PutFail.TheVariants.{Memory};
+
+    ghost from_gives = { λ _ e. e ≡ Memory };
+
+    fn from(_: AllocError) -> PutFail {
+        PutFail::Memory
+    }
+}
+
+impl From<Stopped> for PutFail {
+    ghost use Rattle.qm_write.specs.declared.text.PutFail.TheVariants.{Stopped as Broken};
+
+    ghost from_gives = { λ _ e. e ≡ Broken };
+
+    fn from(_: Stopped) -> PutFail {
+        PutFail::Stopped
+    }
+}
+
+/// Puts the text of a remesh: the head line, the lines of the new mesh and those of the certificates. It takes all
+/// memory before the first byte goes out: that of the certificates' lines and of the new places. Its cost is that of
+/// `put_new_mesh`, and linear in the certificates.
+pub fn put_remeshed<T: Output>(
+    alloc: Global,
+    out: &mut T,
+    soup: &Soup,
+    cut: &CutMesh,
+    remesh: Remesh,
+) -> Result<(), PutFail>
+    requires mesh { cut.now.mesh ≡ soup.now.faces }
+    requires layout { IsLayoutIn cut.now.mesh (plan cut.now.layout) }
+    requires kept { IsKept (plan cut.now.layout) remesh.asked.settings remesh.asked.auto
+        (lists_of remesh.first) (option_map lists_of remesh.third) remesh.numbering }
+    ensures whole { OnOk result (T.takes out.old out.new
+        (remeshed_text remesh.asked.settings remesh.asked.auto soup.now (plan cut.now.layout)
+        (lists_of remesh.first) (option_map lists_of remesh.third))) }
+    ensures part { IsErrOf result PutFail.Stopped → T.stops out.old out.new
+        (remeshed_text remesh.asked.settings remesh.asked.auto soup.now (plan cut.now.layout)
+        (lists_of remesh.first) (option_map lists_of remesh.third)) }
+    ensures untouched { IsErrOf result PutFail.Memory → out.new ≡ out.old }
+{
+    let head = head_text(alloc, &remesh.asked.settings, remesh.asked.auto)?;
+    let texts = cert_texts(alloc, &remesh)?;
+    let places = placer(alloc, &cut.mesh, &cut.layout, &remesh.used_cert().x)?;
+    let frame = Frame {
+        head,
+        texts,
+        auto: remesh.asked.auto,
+    };
+    let new = NewPoints {
+        numbering: remesh.numbering,
+        places,
+    };
+    put_framed(out, &frame, soup, cut, &new)?;
+    Ok(())
+}
+
+/// What stands before and behind the lines of the new mesh.
+#[derive(Debug, Drop)]
+struct Frame {
+    head: Vec<u8>,
+    texts: CertTexts,
+    auto: bool,
+}
+
+/// Puts the head line, the lines of the new mesh and those of the certificates.
+fn put_framed<T: Output>(
+    out: &mut T,
+    frame: &Frame,
+    soup: &Soup,
+    cut: &CutMesh,
+    new: &NewPoints,
+) -> Result<(), Stopped>
+    requires mesh { cut.now.mesh ≡ soup.now.faces }
+    requires numbering { IsNumbering (plan cut.now.layout) new.now.numbering }
+    requires places { ArePlaces cut.now.mesh (plan cut.now.layout) new.now.places }
+    requires lengths { new.now.places.lengths.items ≡ new.now.numbering.lengths.items }
+    ensures whole { OnOk result (T.takes out.old out.new (frame.now.head.items
+        ++ (canonical_text (new_soup soup.now (plan cut.now.layout) (lengths_in new.now.numbering.lengths.items))
+        ++ joined frame.now.auto frame.now.texts.first.items
+        (option_map (λ text. text.items) frame.now.texts.third)))) }
+    ensures part { OnErr result (T.stops out.old out.new (frame.now.head.items
+        ++ (canonical_text (new_soup soup.now (plan cut.now.layout) (lengths_in new.now.numbering.lengths.items))
+        ++ joined frame.now.auto frame.now.texts.first.items
+        (option_map (λ text. text.items) frame.now.texts.third)))) }
+{
+    out.put(&frame.head)?;
+    put_new_mesh(out, soup, cut, new)?;
+    put_certs(out, frame.auto, &frame.texts)
+}

@@ -1,0 +1,98 @@
+-- How many numbers below a bound pass a test, compared by one-to-one maps.
+use Rattle.std.proofs.Common.{◌≡◌, ◌≢◌, ℕ, zero, suc, ◌+◌, ◌<◌, ◌≤◌, Bool, true, false, cond, [], ◌∷◌, length, refl, sym, ◌∙◌, ap, inl, inr, arith}
+use Rattle.std.specs.Prelude.{◌==◌}
+use Rattle.std.specs.List.{filter, range_with_len}
+use Rattle.std.proofs.lemmas.Bool.{cases_eq, cases_Bool, cond-true, cond-false, eq-eqb, ne_eqb}
+use Rattle.std.proofs.lemmas.List.{length-append}
+use Rattle.def_math.specs.Counts.{count_below}
+use Rattle.sum_laws.proofs.Counts.{count_below_same, count_below_ones}
+use Rattle.list_laws.proofs.Filters.{filter_range_more}
+
+-- One for a test that passes.
+abbrev pub one_if : (b : Bool) → ℕ
+one_if b = cond b 1 0
+
+-- How many numbers below n pass.
+abbrev pub passing : (p : ℕ → Bool) (n : ℕ) → ℕ
+passing p n = count_below (λ k. one_if (p k)) n
+
+-- The test without u.
+abbrev but : (p : ℕ → Bool) (u : ℕ) → ℕ → Bool
+but p u k = cond (k == u) false (p k)
+
+but_same : (p : ℕ → Bool) (u k : ℕ) → k ≢ u → but p u k ≡ p k
+but_same p u k apart = cond-false (k == u) false (p k) (ne_eqb k u apart)
+
+but_none : (p : ℕ → Bool) (u k : ℕ) → k ≡ u → but p u k ≡ false
+but_none p u k same = cond-true (k == u) false (p k) (eq-eqb k u same)
+
+-- One less passes.
+passing_but : (p : ℕ → Bool) (n u : ℕ) → u < n → p u ≡ true → passing p n ≡ suc (passing (but p u) n)
+passing_but p zero u low on = absurd (omega arith)
+passing_but p (suc n) u low on = elim (cases_eq n u) [
+  | inl e ↦
+      let rest : passing p n ≡ passing (but p u) n =
+      count_below_same (λ k. one_if (p k)) (λ k. one_if (but p u k)) n
+      (λ k l. ap one_if (sym (but_same p u k (λ s. omega (arith, s, e))))) in
+      let last : one_if (p n) ≡ 1 = ap one_if (ap p e ∙ on) in
+      let none : one_if (but p u n) ≡ 0 = ap one_if (but_none p u n e) in
+      omega (arith, rest, last, none)
+  | inr apart ↦
+      let last : one_if (p n) ≡ one_if (but p u n) = ap one_if (sym (but_same p u n apart)) in
+      omega (arith, passing_but p n u (omega arith) on, last)
+]
+
+-- Where what passes p below m is mapped one to one to what passes q below n, there is no more of it.
+pub passing_le : (p q : ℕ → Bool) (m n : ℕ)
+    → (to : (i : ℕ) → i < m → p i ≡ true → (k : ℕ) × (k < n) × (q k ≡ true))
+    → ((i j : ℕ) (a : i < m) (b : p i ≡ true) (c : j < m) (d : p j ≡ true) → (to i a b).0 ≡ (to j c d).0 → i ≡ j)
+    → passing p m ≤ passing q n
+passing_le p q zero n to once = omega arith
+passing_le p q (suc m) n to once = elim (cases_Bool (p m)) [
+  | inl on ↦ at_pass on (λ r go one. passing_le p r m n go one)
+  | inr off ↦
+      let none : one_if (p m) ≡ 0 = ap one_if off in
+      let rest : passing p m ≤ passing q n =
+      passing_le p q m n (λ i l s. to i (up i l) s) (λ i j a b c d e. once i j (up i a) b (up j c) d e) in
+      omega (arith, none, rest)
+]
+  where
+    up : (i : ℕ) → i < m → i < suc m
+    up i l = omega arith
+
+    at_pass : p m ≡ true
+        → ((r : ℕ → Bool) (go : (i : ℕ) → i < m → p i ≡ true → (k : ℕ) × (k < n) × (r k ≡ true))
+        → ((i j : ℕ) (a : i < m) (b : p i ≡ true) (c : j < m) (d : p j ≡ true) → (go i a b).0 ≡ (go j c d).0 → i ≡ j)
+        → passing p m ≤ passing r n)
+        → passing p (suc m) ≤ passing q n
+    at_pass on rest = by_image (to m (up_last m) on).0 (to m (up_last m) on).1 (to m (up_last m) on).2
+        (λ i l s e. let same : i ≡ m = once i m (up i l) s (up_last m) on e in omega (arith, same))
+      where
+        up_last : (m : ℕ) → m < suc m
+        up_last m = omega arith
+
+        by_image : (u : ℕ) → u < n → q u ≡ true → ((i : ℕ) (l : i < m) (s : p i ≡ true) → (to i (up i l) s).0 ≢ u) → passing p (suc m) ≤ passing q n
+        by_image u u_low u_on apart =
+            let less : passing p m ≤ passing (but q u) n =
+            rest (but q u)
+            (λ i l s. ((to i (up i l) s).0, (to i (up i l) s).1, but_same q u (to i (up i l) s).0 (apart i l s) ∙ (to i (up i l) s).2))
+            (λ i j a b c d e. once i j (up i a) b (up j c) d e) in
+            let one : one_if (p m) ≡ 1 = ap one_if on in
+            omega (arith, less, one, passing_but q n u u_low u_on)
+
+-- All numbers below n.
+pub passing_all : (n : ℕ) → passing (λ k. true) n ≡ n
+passing_all n = count_below_ones n
+
+-- A filter keeps what passes.
+pub filter_long : (p : ℕ → Bool) (n : ℕ) → length (filter p (range_with_len 0 n)) ≡ passing p n
+filter_long p zero = refl
+filter_long p (suc n) =
+    let one_more : suc n ≡ n + 1 = omega arith in
+    ap (λ m. length (filter p (range_with_len 0 m))) one_more
+    ∙ ap length (filter_range_more p n)
+    ∙ length-append (filter p (range_with_len 0 n)) (cond (p n) (n ∷ []) [])
+    ∙ (λ t. filter_long p n t + last (p n) t)
+  where
+    last : (b : Bool) → length (cond b (n ∷ []) []) ≡ one_if b
+    last b = grind (arith)
