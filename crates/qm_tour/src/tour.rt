@@ -13,11 +13,17 @@ pub type Memory = AllocError;
 /// Keys, seen as their list. The key `u64::MAX` stands for none.
 ///
 /// Node `k` has the lesser of the keys of nodes `2 k` and `2 k + 1`; the leaves are the nodes from `room` on.
+/// The coin decides between leaves of one least key. It is tossed by each `set`, and begins alike in each tournament,
+/// so that runs on the same keys are alike.
 #[derive(Drop)]
 pub struct Tour {
     keys: Vec<u64>,
     room: usize,
+    coin: u64,
 }
+
+/// What the coin of a new tournament shows.
+const FIRST_COIN: u64 = 0x9e37_79b9_7f4a_7c15;
 
 impl Model for Tour {
     ghost use Rattle.std.specs.Prelude.{ℕ, List, drop};
@@ -40,15 +46,17 @@ impl Tour {
         Ok(Tour {
             keys: vec![in alloc; u64::MAX; room + room]?,
             room,
+            coin: FIRST_COIN,
         })
     }
 
-    /// A leaf whose key is the least.
+    /// A leaf whose key is the least. Which of several is left to the coin: a search that takes equal keys in a fixed
+    /// order runs over a whole plateau of equal costs before it turns to an edge that is near.
     pub fn least_leaf(&self) -> usize
         ensures low { result < length self.now }
         ensures least { All (λ key. slice_index self.now result ≤ key) self.now }
     {
-        descend(&self.keys, self.room) - self.room
+        descend(&self.keys, self.room, self.coin) - self.room
     }
 
     /// The key of a leaf.
@@ -66,6 +74,7 @@ impl Tour {
     {
         let place = self.room + leaf;
         self.keys[place] = key;
+        self.coin = toss(self.coin);
         settle(&mut self.keys, self.room, place / 2);
     }
 }
@@ -88,19 +97,26 @@ fn settle(keys: &mut [u64], room: usize, from: usize)
     }
 }
 
-/// A leaf with the key of the root.
-fn descend(keys: &[u64], room: usize) -> usize
+/// The coin after one more toss: the shift register of Marsaglia's "Xorshift RNGs" (2003).
+fn toss(coin: u64) -> u64 {
+    let left = coin ^ (coin << 13);
+    let right = left ^ (left >> 7);
+    right ^ (right << 17)
+}
+
+/// A leaf with the key of the root. Where both ways down have it, the coin's last bit says which, and is used up.
+fn descend(keys: &[u64], room: usize, coin: u64) -> usize
     requires { IsTree room keys.now }
     ensures low { (room ≤ result) × (result < room + room) }
     ensures least { slice_index keys.now result ≡ slice_index keys.now 1 }
 {
     let mut node = 1;
-    while node < room {
-        node = if keys[2 * node] <= keys[2 * node + 1] {
-            2 * node
-        } else {
-            2 * node + 1
-        };
+    let mut bits = coin;
+    'levels: while node < room {
+        let (left, right) = (keys[2 * node], keys[2 * node + 1]);
+        let goes_left = left < right || (left == right && bits % 2 == 0);
+        node = if goes_left { 2 * node } else { 2 * node + 1 };
+        bits /= 2;
     }
     node
 }
