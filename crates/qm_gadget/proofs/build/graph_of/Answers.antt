@@ -4,7 +4,7 @@ use Rattle.def_matching.specs.Matching.{Graph, IsCheap}
 use Rattle.def_flow.specs.MatchingGraph.{matching_graph}
 use Rattle.def_flow.specs.Units.{low}
 use Rattle.qm_gadget.specs.Ready.{graph_by_lows}
-use Rattle.qm_units.proofs.Size.{size_law}
+use Rattle.gadget_laws.proofs.Size.{size_law}
 use Rattle.qm_gadget.proofs.OfList.{list_ready, graph_small, graph_lawful, graph_cheap, graph_over}
 use Rattle.qm_gadget.proofs.build.graph_of.Goals as goal
 
