@@ -3,3 +3,4 @@ pub mod Faults
 pub mod Lines
 pub mod Memory
 pub mod Moves
+pub mod Words

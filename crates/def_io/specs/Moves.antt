@@ -27,6 +27,11 @@ pub record GaveMore (limit : ℕ) (before now : Told) : Type 0 where
   pub many : limit < length piece
   pub moved : before ≡ gave piece now
 
+-- What contracts see of a stream: its bytes, where it tells them, and how many of its calls failed.
+pub record StreamState : Type 0 where
+  pub told : Told
+  pub faults : ℕ
+
 -- A stream before and after a call: what it tells of its bytes, and its count of faults.
 pub record Change : Type 0 where
   pub told : Told
@@ -35,6 +40,20 @@ pub record Change : Type 0 where
   pub faults_now : ℕ
 
 -- The change between these.
-abbrev pub change : (told told_now : Told) (faults faults_now : ℕ) → Change
-change told told_now faults faults_now =
-    record { told = told; told_now = told_now; faults = faults; faults_now = faults_now }
+abbrev pub change : (before now : StreamState) → Change
+change before now =
+    record { told = before.told; told_now = now.told; faults = before.faults; faults_now = now.faults }
+
+-- A stream of this type before and after a call: its values, and the change of what contracts see of it.
+pub record Stream (V : Type 0) : Type 0 where
+  pub before : V
+  pub now : V
+  pub change : Change
+
+-- The stream between these values.
+abbrev pub stream : {V : Type 0} (state : V → StreamState) (before now : V) → Stream V
+stream state before now = record { before = before; now = now; change = change (state before) (state now) }
+
+-- It is as it was.
+abbrev pub IsStill : {V : Type 0} (one : Stream V) → Type 0
+IsStill one = one.now ≡ one.before

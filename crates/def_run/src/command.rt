@@ -8,6 +8,9 @@ pub const MAX_MULTIPLE: u32 = 1000;
 /// The greatest size of `bench`.
 pub const MAX_SIZE: u32 = 10_000;
 
+/// More bytes than any word of an accepted line has.
+pub const MAX_WORD: usize = 256;
+
 /// `=`, between the name of an option and its value.
 pub const EQUALS: u8 = b'=';
 

@@ -8,6 +8,6 @@ mod words;
 
 pub use answer::{Answer, Why};
 pub use check_fail::CheckFail;
-pub use command::{Command, EQUALS, MAX_MULTIPLE, MAX_SIZE};
+pub use command::{Command, EQUALS, MAX_MULTIPLE, MAX_SIZE, MAX_WORD};
 pub use def_remesh::Kept;
 pub use words::WordsFail;

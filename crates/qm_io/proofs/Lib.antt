@@ -1,2 +1,3 @@
 pub mod Moved
 mod Pieces
+mod WordLists

@@ -9,6 +9,7 @@ mod streams;
 #[cfg(test)]
 mod tests;
 mod traits;
+mod words;
 mod writing;
 
 pub use def_io::{ReadFail, WriteFail};
@@ -18,4 +19,5 @@ pub use memory::{MemSink, MemSource};
 pub use reading::{read_buffer, read_lines};
 pub use streams::{StdSink, StdSource};
 pub use traits::{Failed, Memory, Sink, Source};
+pub use words::{CommandLine, ProcessLine, words_of};
 pub use writing::write_all;

@@ -63,9 +63,7 @@ impl MemSource {
 }
 
 impl Source for MemSource {
-    ghost left = { λ s. Some s.left };
-
-    ghost faults = { λ s. s.faults };
+    ghost state = { λ s. record { told = Some s.left; faults = s.faults } };
 
     fn read(&mut self, buf: &mut [u8]) -> Result<usize, Failed>
         ensures cause { HasCause self.old.faults self.new.faults result }
@@ -148,9 +146,7 @@ impl MemSink {
 }
 
 impl Sink for MemSink {
-    ghost taken = { λ s. Some s.taken };
-
-    ghost faults = { λ s. s.faults };
+    ghost state = { λ s. record { told = Some s.taken; faults = s.faults } };
 
     /// Fails also where the sink finds no memory for the bytes.
     fn write(&mut self, piece: &[u8]) -> Result<usize, Failed>

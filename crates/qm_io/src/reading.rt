@@ -17,14 +17,14 @@ const BUFFER: usize = 65_536;
 /// Reads a source to its end, at most `limit` bytes, and finds the lines. Linear in the bytes.
 pub fn read_lines<S: Source>(alloc: Global, src: &mut S, limit: u32) -> Result<Lines, ReadFail>
     requires { limit ≤ 2 ^ 29 }
-    ensures bytes { IfOk result (λ text. S.left src.old ≡ gave text (S.left src.new)) }
-    ensures whole { OnOk result (IsEmptied (S.left src.new)) }
+    ensures bytes { IfOk result (λ text. (S.state src.old).told ≡ gave text (S.state src.new).told) }
+    ensures whole { OnOk result (IsEmptied (S.state src.new).told) }
     ensures short { IfOk result (λ text. length text ≤ limit) }
-    ensures calm { OnOk result (S.faults src.new ≡ S.faults src.old) }
-    ensures later { S.faults src.old ≤ S.faults src.new }
-    ensures fault { IsErrOf result ReadFail.Fault → Rose (S.faults src.old) (S.faults src.new) }
+    ensures calm { OnOk result ((S.state src.new).faults ≡ (S.state src.old).faults) }
+    ensures later { (S.state src.old).faults ≤ (S.state src.new).faults }
+    ensures fault { IsErrOf result ReadFail.Fault → Rose (S.state src.old).faults (S.state src.new).faults }
     ensures too_long { IsErrOf result ReadFail.TooLong →
-        GaveMore limit (S.left src.old) (S.left src.new) × (S.faults src.new ≡ S.faults src.old) }
+        GaveMore limit (S.state src.old).told (S.state src.new).told × ((S.state src.new).faults ≡ (S.state src.old).faults) }
 {
     let bytes = read_bytes(alloc, src, limit)?;
     let ends = ends_of(alloc, &bytes)?;
@@ -33,14 +33,14 @@ pub fn read_lines<S: Source>(alloc: Global, src: &mut S, limit: u32) -> Result<L
 
 fn read_bytes<S: Source>(alloc: Global, src: &mut S, limit: u32) -> Result<Vec<u8>, ReadFail>
     requires { limit ≤ 2 ^ 29 }
-    ensures bytes { IfOk result (λ text. S.left src.old ≡ gave text.items (S.left src.new)) }
-    ensures whole { OnOk result (IsEmptied (S.left src.new)) }
+    ensures bytes { IfOk result (λ text. (S.state src.old).told ≡ gave text.items (S.state src.new).told) }
+    ensures whole { OnOk result (IsEmptied (S.state src.new).told) }
     ensures short { IfOk result (λ text. length text.items ≤ limit) }
-    ensures calm { OnOk result (S.faults src.new ≡ S.faults src.old) }
-    ensures later { S.faults src.old ≤ S.faults src.new }
-    ensures fault { IsErrOf result ReadFail.Fault → Rose (S.faults src.old) (S.faults src.new) }
+    ensures calm { OnOk result ((S.state src.new).faults ≡ (S.state src.old).faults) }
+    ensures later { (S.state src.old).faults ≤ (S.state src.new).faults }
+    ensures fault { IsErrOf result ReadFail.Fault → Rose (S.state src.old).faults (S.state src.new).faults }
     ensures too_long { IsErrOf result ReadFail.TooLong →
-        GaveMore limit (S.left src.old) (S.left src.new) × (S.faults src.new ≡ S.faults src.old) }
+        GaveMore limit (S.state src.old).told (S.state src.new).told × ((S.state src.new).faults ≡ (S.state src.old).faults) }
 {
     let mut buffer = read_buffer(alloc)?;
     let mut bytes = Vec::new(alloc);
@@ -56,7 +56,7 @@ fn read_bytes<S: Source>(alloc: Global, src: &mut S, limit: u32) -> Result<Vec<u
 
 /// A buffer for what one read gives, of 64 KiB.
 pub fn read_buffer(alloc: Global) -> Result<Vec<u8>, Memory>
-    ensures { IfOk result (λ buffer. 0 < length buffer.items) }
+    ensures { IfOk result (λ buffer. length buffer.items ≡ BUFFER) }
 {
     let buffer = vec![in alloc; 0u8; BUFFER]?;
     Ok(buffer)
@@ -69,11 +69,11 @@ fn read_piece<S: Source>(
     bytes: &mut Vec<u8>,
 ) -> Result<usize, ReadFail>
     requires { 0 < length buffer.old }
-    ensures gained { IfOk result (λ n. Gained bytes.old.items bytes.new.items (S.left src.old) (S.left src.new) n) }
-    ensures end { IfOk result (λ n. n ≡ 0 → IsEmptied (S.left src.new)) }
-    ensures calm { OnOk result (S.faults src.new ≡ S.faults src.old) }
-    ensures later { S.faults src.old ≤ S.faults src.new }
-    ensures fault { IsErrOf result ReadFail.Fault → Rose (S.faults src.old) (S.faults src.new) }
+    ensures gained { IfOk result (λ n. Gained bytes.old.items bytes.new.items (S.state src.old).told (S.state src.new).told n) }
+    ensures end { IfOk result (λ n. n ≡ 0 → IsEmptied (S.state src.new).told) }
+    ensures calm { OnOk result ((S.state src.new).faults ≡ (S.state src.old).faults) }
+    ensures later { (S.state src.old).faults ≤ (S.state src.new).faults }
+    ensures fault { IsErrOf result ReadFail.Fault → Rose (S.state src.old).faults (S.state src.new).faults }
     ensures short { IsErrOf result ReadFail.TooLong → ⊥ }
 {
     let count = src.read(buffer)?;

@@ -1,6 +1,6 @@
 //! Sources and sinks over the streams of std.
 
-ghost use Rattle.std.specs.Prelude.{◌≡◌, ◌≤◌, ◌<◌, ℕ, length, IfOk};
+ghost use Rattle.std.specs.Prelude.{◌≡◌, ◌≤◌, ◌<◌, ℕ, None, length, IfOk};
 ghost use Rattle.std.specs.Io.KnownBytes.{ReadConsumes, WriteAppends};
 ghost use Rattle.def_io.specs.Faults.{HasCause};
 
@@ -25,7 +25,7 @@ impl<R: Read + Drop> StdSource<R> {
 }
 
 impl<R: Read + Drop> Source for StdSource<R> {
-    ghost faults = { λ s. s.faults };
+    ghost state = { λ s. record { told = None; faults = s.faults } };
 
     /// Reads once, and again after each interruption.
     fn read(&mut self, buf: &mut [u8]) -> Result<usize, Failed>
@@ -74,7 +74,7 @@ impl<W: Write + Drop> StdSink<W> {
 }
 
 impl<W: Write + Drop> Sink for StdSink<W> {
-    ghost faults = { λ s. s.faults };
+    ghost state = { λ s. record { told = None; faults = s.faults } };
 
     /// Writes once, and again after each interruption.
     fn write(&mut self, piece: &[u8]) -> Result<usize, Failed>

@@ -1,8 +1,8 @@
 //! What a source and a sink are.
 
-ghost use Rattle.std.specs.Prelude.{◌≡◌, ◌≤◌, ◌<◌, ℕ, List, Option, None, take, length, IfOk, IfErr};
+ghost use Rattle.std.specs.Prelude.{◌≡◌, ◌≤◌, ◌<◌, take, length, IfOk, IfErr};
 ghost use Rattle.def_io.specs.Faults.{HasCause};
-ghost use Rattle.def_io.specs.Moves.{gave, took, IsEmptied};
+ghost use Rattle.def_io.specs.Moves.{gave, took, IsEmptied, StreamState};
 
 use def_io::{ReadFail, WriteFail};
 use std::alloc::AllocError;
@@ -40,34 +40,28 @@ impl From<Failed> for ReadFail {
 
 /// Where bytes come from.
 pub trait Source {
-    /// The bytes that the source still holds, where it can tell.
-    ghost left: { Self → Option (List ℕ) } = { λ _. None };
-
-    /// How many of its reads failed.
-    ghost faults: { Self → ℕ };
+    /// The bytes that the source still holds, where it can tell, and how many of its reads failed.
+    ghost state: { Self → StreamState };
 
     /// Moves bytes to the front of the buffer and says how many. None, in a buffer that has room, is the end.
     fn read(&mut self, buf: &mut [u8]) -> Result<usize, Failed>
-        ensures cause { HasCause (faults self.old) (faults self.new) result }
+        ensures cause { HasCause (state self.old).faults (state self.new).faults result }
         ensures fits { IfOk result (λ n. n ≤ length buf.old) }
-        ensures gives { IfOk result (λ n. left self.old ≡ gave (take n buf.new) (left self.new)) }
-        ensures end { IfOk result (λ n. n ≡ 0 → 0 < length buf.old → IsEmptied (left self.new)) }
-        ensures still { IfErr result (λ _. left self.new ≡ left self.old) };
+        ensures gives { IfOk result (λ n. (state self.old).told ≡ gave (take n buf.new) (state self.new).told) }
+        ensures end { IfOk result (λ n. n ≡ 0 → 0 < length buf.old → IsEmptied (state self.new).told) }
+        ensures still { IfErr result (λ _. (state self.new).told ≡ (state self.old).told) };
 }
 
 /// Where bytes go to.
 pub trait Sink {
-    /// The bytes that the sink took so far, where it can tell.
-    ghost taken: { Self → Option (List ℕ) } = { λ _. None };
-
-    /// How many of its writes failed.
-    ghost faults: { Self → ℕ };
+    /// The bytes that the sink took so far, where it can tell, and how many of its writes failed.
+    ghost state: { Self → StreamState };
 
     /// Takes bytes from the front of the piece, at least one where there is one, and says how many.
     fn write(&mut self, piece: &[u8]) -> Result<usize, Failed>
-        ensures cause { HasCause (faults self.old) (faults self.new) result }
+        ensures cause { HasCause (state self.old).faults (state self.new).faults result }
         ensures fits { IfOk result (λ n. n ≤ length piece.now) }
         ensures moves { IfOk result (λ n. 0 < length piece.now → 0 < n) }
-        ensures takes { IfOk result (λ n. taken self.new ≡ took (taken self.old) (take n piece.now)) }
-        ensures still { IfErr result (λ _. taken self.new ≡ taken self.old) };
+        ensures takes { IfOk result (λ n. (state self.new).told ≡ took (state self.old).told (take n piece.now)) }
+        ensures still { IfErr result (λ _. (state self.new).told ≡ (state self.old).told) };
 }

@@ -9,9 +9,9 @@ use def_io::WriteFail;
 
 /// Hands the whole piece to the sink. It takes no memory beyond the sink's own.
 pub fn write_all<K: Sink>(sink: &mut K, piece: &[u8]) -> Result<(), WriteFail>
-    ensures whole { OnOk result (K.taken sink.new ≡ took (K.taken sink.old) piece.now) }
-    ensures prefix { OnErr result (TookPrefix (K.taken sink.old) (K.taken sink.new) piece.now) }
-    ensures cause { HasCause (K.faults sink.old) (K.faults sink.new) result }
+    ensures whole { OnOk result ((K.state sink.new).told ≡ took (K.state sink.old).told piece.now) }
+    ensures prefix { OnErr result (TookPrefix (K.state sink.old).told (K.state sink.new).told piece.now) }
+    ensures cause { HasCause (K.state sink.old).faults (K.state sink.new).faults result }
 {
     let mut rest = piece;
     while !rest.is_empty() {
@@ -26,9 +26,9 @@ fn write_some<K: Sink>(sink: &mut K, piece: &[u8]) -> Result<usize, WriteFail>
     requires { 0 < length piece.now }
     ensures more { IfOk result (λ n. 0 < n) }
     ensures fits { IfOk result (λ n. n ≤ length piece.now) }
-    ensures takes { IfOk result (λ n. K.taken sink.new ≡ took (K.taken sink.old) (take n piece.now)) }
-    ensures still { OnErr result (K.taken sink.new ≡ K.taken sink.old) }
-    ensures cause { HasCause (K.faults sink.old) (K.faults sink.new) result }
+    ensures takes { IfOk result (λ n. (K.state sink.new).told ≡ took (K.state sink.old).told (take n piece.now)) }
+    ensures still { OnErr result ((K.state sink.new).told ≡ (K.state sink.old).told) }
+    ensures cause { HasCause (K.state sink.old).faults (K.state sink.new).faults result }
 {
     Ok(sink.write(piece)?)
 }

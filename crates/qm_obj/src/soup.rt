@@ -19,12 +19,12 @@ use std::alloc::Global;
 /// comes, and no more of it is kept than a line.
 pub fn read_soup<S: Source>(alloc: Global, src: &mut S, limit: u32) -> Result<Soup, SoupFail>
     requires { limit ≤ MAX_BYTES }
-    ensures soup { IfOk result (ReadSoup limit (S.left src.old) (S.left src.new)) }
+    ensures soup { IfOk result (ReadSoup limit (S.state src.old).told (S.state src.new).told) }
     ensures few { IfOk result (λ soup. (length soup.pos ≤ MAX_VERTICES) × (length soup.faces ≤ MAX_FACES)) }
-    ensures calm { OnOk result (S.faults src.new ≡ S.faults src.old) }
-    ensures later { S.faults src.old ≤ S.faults src.new }
+    ensures calm { OnOk result ((S.state src.new).faults ≡ (S.state src.old).faults) }
+    ensures later { (S.state src.old).faults ≤ (S.state src.new).faults }
     ensures fails { IfErr result (IsSoupFail limit
-        (change (S.left src.old) (S.left src.new) (S.faults src.old) (S.faults src.new))) }
+        (change (S.state src.old) (S.state src.new))) }
 {
     let feed = feed_of(alloc, src, limit)?;
     Ok(feed.finish()?)
@@ -33,12 +33,12 @@ pub fn read_soup<S: Source>(alloc: Global, src: &mut S, limit: u32) -> Result<So
 /// A feed of all bytes of the source.
 fn feed_of<S: Source>(alloc: Global, src: &mut S, limit: u32) -> Result<ObjFeed, ReadFail>
     requires { limit ≤ MAX_BYTES }
-    ensures whole { IfOk result (FedWhole limit (S.left src.old) (S.left src.new)) }
-    ensures calm { OnOk result (S.faults src.new ≡ S.faults src.old) }
-    ensures later { S.faults src.old ≤ S.faults src.new }
-    ensures fault { IsErrOf result ReadFail.Fault → Rose (S.faults src.old) (S.faults src.new) }
+    ensures whole { IfOk result (FedWhole limit (S.state src.old).told (S.state src.new).told) }
+    ensures calm { OnOk result ((S.state src.new).faults ≡ (S.state src.old).faults) }
+    ensures later { (S.state src.old).faults ≤ (S.state src.new).faults }
+    ensures fault { IsErrOf result ReadFail.Fault → Rose (S.state src.old).faults (S.state src.new).faults }
     ensures too_long { IsErrOf result ReadFail.TooLong →
-        GaveMore limit (S.left src.old) (S.left src.new) × (S.faults src.new ≡ S.faults src.old) }
+        GaveMore limit (S.state src.old).told (S.state src.new).told × ((S.state src.new).faults ≡ (S.state src.old).faults) }
 {
     let mut buffer = read_buffer(alloc)?;
     let mut feed = ObjFeed::new(alloc);
@@ -61,14 +61,14 @@ fn feed_piece<S: Source>(
 ) -> Result<u32, ReadFail>
     requires buffer { 0 < length buffer.old }
     requires stands { (text : Bytes) × StandsFor feed.old text × (length text + room ≤ MAX_BYTES) }
-    ensures fed { IfOk result (FedPiece (S.left src.old) (S.left src.new) feed.old feed.new) }
+    ensures fed { IfOk result (FedPiece (S.state src.old).told (S.state src.new).told feed.old feed.new) }
     ensures fits { IfOk result (λ n. n ≤ room) }
-    ensures end { IfOk result (λ n. n ≡ 0 → IsEmptied (S.left src.new)) }
-    ensures calm { OnOk result (S.faults src.new ≡ S.faults src.old) }
-    ensures later { S.faults src.old ≤ S.faults src.new }
-    ensures fault { IsErrOf result ReadFail.Fault → Rose (S.faults src.old) (S.faults src.new) }
+    ensures end { IfOk result (λ n. n ≡ 0 → IsEmptied (S.state src.new).told) }
+    ensures calm { OnOk result ((S.state src.new).faults ≡ (S.state src.old).faults) }
+    ensures later { (S.state src.old).faults ≤ (S.state src.new).faults }
+    ensures fault { IsErrOf result ReadFail.Fault → Rose (S.state src.old).faults (S.state src.new).faults }
     ensures too_long { IsErrOf result ReadFail.TooLong →
-        GaveMore room (S.left src.old) (S.left src.new) × (S.faults src.new ≡ S.faults src.old) }
+        GaveMore room (S.state src.old).told (S.state src.new).told × ((S.state src.new).faults ≡ (S.state src.old).faults) }
 {
     let count = src.read(buffer)?;
     if count > room as usize {

@@ -1,6 +1,6 @@
 //! A buffer before a sink.
 
-ghost use Rattle.std.specs.Prelude.{◌≡◌, ◌≤◌, ◌+◌, ◌++◌, length, take};
+ghost use Rattle.std.specs.Prelude.{◌≡◌, ◌≤◌, ◌+◌, ◌++◌, length, take, IfOk};
 
 use crate::output::Output;
 use def_output::Stopped;
@@ -18,7 +18,9 @@ pub struct Room {
 
 impl Room {
     /// Takes the memory of a buffer.
-    pub fn new(alloc: Global) -> Result<Room, Memory> {
+    pub fn new(alloc: Global) -> Result<Room, Memory>
+        ensures { IfOk result (λ room. length room.bytes.items ≡ ROOM) }
+    {
         let bytes = vec![in alloc; 0u8; ROOM]?;
         Ok(Room { bytes })
     }
@@ -55,12 +57,12 @@ impl<'a, K: Sink> Buffer<'a, K> {
         ensures same { self.new.sink.ghost_name ≡ self.old.sink.ghost_name }
         ensures empty { OnOk result (take self.new.held self.new.room.now ≡ []) }
         ensures whole { OnOk result (PassedOn
-            (buffered (K.taken self.old.sink.now) (K.faults self.old.sink.now) (take self.old.held self.old.room.now))
-            (buffered (K.taken self.new.sink.now) (K.faults self.new.sink.now) (take self.new.held self.new.room.now))
+            (buffered (K.state self.old.sink.now).told (K.state self.old.sink.now).faults (take self.old.held self.old.room.now))
+            (buffered (K.state self.new.sink.now).told (K.state self.new.sink.now).faults (take self.new.held self.new.room.now))
             []) }
         ensures part { OnErr result (BrokeOff
-            (buffered (K.taken self.old.sink.now) (K.faults self.old.sink.now) (take self.old.held self.old.room.now))
-            (buffered (K.taken self.new.sink.now) (K.faults self.new.sink.now) (take self.new.held self.new.room.now))
+            (buffered (K.state self.old.sink.now).told (K.state self.old.sink.now).faults (take self.old.held self.old.room.now))
+            (buffered (K.state self.new.sink.now).told (K.state self.new.sink.now).faults (take self.new.held self.new.room.now))
             []) }
     {
         match write_all(self.sink, &self.room[..self.held]) {
@@ -78,12 +80,12 @@ impl<'a, K: Sink> Buffer<'a, K> {
         ensures room { OnOk result ((self.new.held + count ≤ length self.new.room.now)
             ⊎ (take self.new.held self.new.room.now ≡ [])) }
         ensures whole { OnOk result (PassedOn
-            (buffered (K.taken self.old.sink.now) (K.faults self.old.sink.now) (take self.old.held self.old.room.now))
-            (buffered (K.taken self.new.sink.now) (K.faults self.new.sink.now) (take self.new.held self.new.room.now))
+            (buffered (K.state self.old.sink.now).told (K.state self.old.sink.now).faults (take self.old.held self.old.room.now))
+            (buffered (K.state self.new.sink.now).told (K.state self.new.sink.now).faults (take self.new.held self.new.room.now))
             []) }
         ensures part { OnErr result (BrokeOff
-            (buffered (K.taken self.old.sink.now) (K.faults self.old.sink.now) (take self.old.held self.old.room.now))
-            (buffered (K.taken self.new.sink.now) (K.faults self.new.sink.now) (take self.new.held self.new.room.now))
+            (buffered (K.state self.old.sink.now).told (K.state self.old.sink.now).faults (take self.old.held self.old.room.now))
+            (buffered (K.state self.new.sink.now).told (K.state self.new.sink.now).faults (take self.new.held self.new.room.now))
             []) }
     {
         if count <= self.room.len() - self.held {
@@ -97,12 +99,12 @@ impl<'a, K: Sink> Buffer<'a, K> {
         requires empty { take self.old.held self.old.room.now ≡ [] }
         ensures same { self.new.sink.ghost_name ≡ self.old.sink.ghost_name }
         ensures whole { OnOk result (PassedOn
-            (buffered (K.taken self.old.sink.now) (K.faults self.old.sink.now) (take self.old.held self.old.room.now))
-            (buffered (K.taken self.new.sink.now) (K.faults self.new.sink.now) (take self.new.held self.new.room.now))
+            (buffered (K.state self.old.sink.now).told (K.state self.old.sink.now).faults (take self.old.held self.old.room.now))
+            (buffered (K.state self.new.sink.now).told (K.state self.new.sink.now).faults (take self.new.held self.new.room.now))
             piece.now) }
         ensures part { OnErr result (BrokeOff
-            (buffered (K.taken self.old.sink.now) (K.faults self.old.sink.now) (take self.old.held self.old.room.now))
-            (buffered (K.taken self.new.sink.now) (K.faults self.new.sink.now) (take self.new.held self.new.room.now))
+            (buffered (K.state self.old.sink.now).told (K.state self.old.sink.now).faults (take self.old.held self.old.room.now))
+            (buffered (K.state self.new.sink.now).told (K.state self.new.sink.now).faults (take self.new.held self.new.room.now))
             piece.now) }
     {
         match write_all(self.sink, piece) {
@@ -116,8 +118,8 @@ impl<'a, K: Sink> Buffer<'a, K> {
         requires room { self.old.held + length piece.now ≤ length self.old.room.now }
         ensures same { self.new.sink.ghost_name ≡ self.old.sink.ghost_name }
         ensures whole { PassedOn
-            (buffered (K.taken self.old.sink.now) (K.faults self.old.sink.now) (take self.old.held self.old.room.now))
-            (buffered (K.taken self.new.sink.now) (K.faults self.new.sink.now) (take self.new.held self.new.room.now))
+            (buffered (K.state self.old.sink.now).told (K.state self.old.sink.now).faults (take self.old.held self.old.room.now))
+            (buffered (K.state self.new.sink.now).told (K.state self.new.sink.now).faults (take self.new.held self.new.room.now))
             piece.now }
     {
         fill(self.room, self.held, piece);
@@ -141,12 +143,12 @@ impl<K: Sink> Output for Buffer<'_, K> {
     ghost use Rattle.qm_output.specs.Laws.{broke_before, broke_later, passed_more, passed_nothing};
 
     ghost takes = { λ s t text. (t.sink.ghost_name ≡ s.sink.ghost_name) × PassedOn
-        (buffered (K.taken s.sink.now) (K.faults s.sink.now) (take s.held s.room.now))
-        (buffered (K.taken t.sink.now) (K.faults t.sink.now) (take t.held t.room.now)) text };
+        (buffered (K.state s.sink.now).told (K.state s.sink.now).faults (take s.held s.room.now))
+        (buffered (K.state t.sink.now).told (K.state t.sink.now).faults (take t.held t.room.now)) text };
 
     ghost stops = { λ s t text. (t.sink.ghost_name ≡ s.sink.ghost_name) × BrokeOff
-        (buffered (K.taken s.sink.now) (K.faults s.sink.now) (take s.held s.room.now))
-        (buffered (K.taken t.sink.now) (K.faults t.sink.now) (take t.held t.room.now)) text };
+        (buffered (K.state s.sink.now).told (K.state s.sink.now).faults (take s.held s.room.now))
+        (buffered (K.state t.sink.now).told (K.state t.sink.now).faults (take t.held t.room.now)) text };
 
     fn put(&mut self, piece: &[u8]) -> Result<(), Stopped> {
         self.make_room(piece.len())?;

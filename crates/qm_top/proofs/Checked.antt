@@ -3,7 +3,7 @@ use Rattle.std.specs.Prelude.{IfErr, OnOk}
 use Rattle.std.proofs.Common.{◌≡◌, ◌≢◌, Result, Ok, Err, refl, take}
 use Rattle.def_io.specs.Bytes.{Bytes}
 use Rattle.def_io.specs.Lines.{lines_of}
-use Rattle.def_io.specs.Moves.{Change}
+use Rattle.def_io.specs.Moves.{Change, Stream}
 use Rattle.def_remesh.specs.declared.kept.LayoutFail.TheVariants as layouts
 use Rattle.def_run.specs.Causes.{Cause}
 use Rattle.def_run.specs.Check.{RefusesOldText, RefusesToCheck, WritesAccepted}
@@ -29,7 +29,7 @@ use Rattle.qm_top.specs.declared.refusal.Refusal.{Refusal}
 use Rattle.qm_top.specs.declared.refusal.Refusal.TheVariants.{NotAccepted, Soup, NotManifold, Layout, Write}
 use Rattle.qm_top.specs.declared.refusal.Refusal.TheVariants as refusals
 
-module _ (input out : Change) (bytes : Bytes) (whole : ReadWhole MAX_BYTES input.told input.told_now bytes) (calm : input.faults_now ≡ input.faults) where
+module _ {O : Type 0} (input : Change) (out : Stream O) (bytes : Bytes) (whole : ReadWhole MAX_BYTES input.told input.told_now bytes) (calm : input.faults_now ≡ input.faults) where
   -- The refusal of the old text has its cause.
   old_cause : (fail : ObjFail) → RefusesOldText bytes fail → Cause Check input out (answer_of_obj fail)
   old_cause (obj.Limit AllBytes line) none = absurd (never_bytes 1 (take none.line (lines_of bytes)) line none.said)
@@ -37,12 +37,12 @@ module _ (input out : Change) (bytes : Bytes) (whole : ReadWhole MAX_BYTES input
   old_cause _ none = record { bytes = bytes; whole = whole; said = none }
 
   -- A pair that is not accepted ends the command.
-  unaccepted_ends : {O : Type 0} (before now : O) (r : Refusal) → IsUnaccepted bytes out before now r → Ended Check input out r
-  unaccepted_ends before now (NotAccepted why) none =
+  unaccepted_ends : (r : Refusal) → IsUnaccepted bytes out r → Ended Check input out.change r
+  unaccepted_ends (NotAccepted why) none =
       record { cause = record { bytes = bytes; whole = whole; said = none.1 }; names = λ p is. cc; calm = λ f m. calm }
-  unaccepted_ends before now (Soup (soup.Obj fail)) none =
+  unaccepted_ends (Soup (soup.Obj fail)) none =
       record { cause = old_cause fail none.1.0; names = λ p is. absurd (obj_place fail p is); calm = λ f m. calm }
-  unaccepted_ends before now (NotManifold named) none = record {
+  unaccepted_ends (NotManifold named) none = record {
     cause = record {
       bytes = bytes;
       whole = whole;
@@ -57,23 +57,23 @@ module _ (input out : Change) (bytes : Bytes) (whole : ReadWhole MAX_BYTES input
     names = λ p is. record { bytes = bytes; whole = whole; soup = none.1.old; looks = (none.1.fault.line, none.1.fault.old); numbers = none.1.numbers };
     calm = λ f m. calm;
   }
-  unaccepted_ends before now (Layout (layouts.Tangled count)) none =
+  unaccepted_ends (Layout (layouts.Tangled count)) none =
       record { cause = record { bytes = bytes; whole = whole; said = none.1 }; names = λ p is. cc; calm = λ f m. calm }
-  unaccepted_ends before now (Write fail) broke = record {
+  unaccepted_ends (Write fail) broke = record {
     cause = record { bytes = bytes; whole = whole; text = broke.text; said = broke.said; prefix = broke.prefix; fault = broke.fault };
     names = λ p is. cc;
     calm = λ f m. calm;
   }
-  unaccepted_ends before now refusals.Memory none = record { cause = tt; names = λ p is. cc; calm = λ f m. calm }
-  unaccepted_ends before now _ none = absurd none.1
+  unaccepted_ends refusals.Memory none = record { cause = tt; names = λ p is. cc; calm = λ f m. calm }
+  unaccepted_ends _ none = absurd none.1
 
-  same_sink : {O : Type 0} (before now : O) (r : Refusal) → IsUnaccepted bytes out before now r → answer_of r ≢ answers.WriteFault → now ≡ before
-  same_sink before now (Write fail) broke other = absurd (other refl)
-  same_sink before now _ none other = none.0
+  same_sink : (r : Refusal) → IsUnaccepted bytes out r → answer_of r ≢ answers.WriteFault → out.now ≡ out.before
+  same_sink (Write fail) broke other = absurd (other refl)
+  same_sink _ none other = none.0
 
-  pub check_runs : {O : Type 0} (before now : O) (result : Result (Unit {0}) Refusal) → OnOk result (WroteText (WritesAccepted bytes) out)
-      → IfErr result (IsUnaccepted bytes out before now) → HasRun Check input out before now result
-  check_runs before now (Ok x) wrote none = record {
+  pub check_runs : (result : Result (Unit {0}) Refusal) → OnOk result (WroteText (WritesAccepted bytes) out.change)
+      → IfErr result (IsUnaccepted bytes out) → HasRun Check input out result
+  check_runs (Ok x) wrote none = record {
     done = record {
       wrote = record { bytes = bytes; whole = whole; text = wrote.text; said = wrote.said; written = wrote.written };
       calm = calm;
@@ -81,13 +81,13 @@ module _ (input out : Change) (bytes : Bytes) (whole : ReadWhole MAX_BYTES input
     refused = tt;
     untouched = tt;
   }
-  check_runs before now (Err r) wrote none =
-      record { done = tt; refused = unaccepted_ends before now r none; untouched = same_sink before now r none }
+  check_runs (Err r) wrote none =
+      record { done = tt; refused = unaccepted_ends r none; untouched = same_sink r none }
 
 -- Bytes that are no pair are not accepted, and the sink is as it was.
-pub unaccepted : {O : Type 0} (bytes : Bytes) (out : Change) (sink : O) (r : Refusal) → IsNoPairFor bytes r → IsUnaccepted bytes out sink sink r
-unaccepted bytes out sink (Write fail) none = absurd none
-unaccepted bytes out sink _ none = (refl, none)
+pub unaccepted : {O : Type 0} (bytes : Bytes) (out : Stream O) (r : Refusal) → IsNoPairFor bytes r → out.now ≡ out.before → IsUnaccepted bytes out r
+unaccepted bytes out (Write fail) none same = absurd none
+unaccepted bytes out _ none same = (same, none)
 
 -- A checked pair is not refused.
 pub pair_not_refused : (bytes : Bytes) (answer : Answer) → IsCheckedPair bytes → RefusesToCheck bytes answer → ⊥

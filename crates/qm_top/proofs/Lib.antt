@@ -6,5 +6,6 @@ mod NeverBytes
 mod Refined
 mod Refusals
 mod Remeshed
+mod Running
 mod Settled
 mod Writers

@@ -4,7 +4,7 @@ use Rattle.def_flow.specs.declared.net.Settings.{Settings}
 use Rattle.std.proofs.Common.{inl, Bool, ◌≡◌, ℕ, List, [], Result, Ok, Err, sym, ◌∙◌, subst, refl}
 use Rattle.def_io.specs.Bytes.{Bytes}
 use Rattle.def_io.specs.Faults.{Rose}
-use Rattle.def_io.specs.Moves.{Change, GaveMore}
+use Rattle.def_io.specs.Moves.{Change, IsStill, Stream, GaveMore}
 use Rattle.def_io.specs.Lines.{lines_of}
 use Rattle.def_mesh.specs.declared.Place.{Place}
 use Rattle.def_text.specs.FaceSet.{FaceSet}
@@ -146,11 +146,11 @@ says_why words command input err r answer names line accepted is named of_file s
 }
 
 -- A refusal that is handed on ends the command as it was, where nothing was written.
-pub handed_run : {O : Type 0} (command : Command) (input out : Change) (before now : O) (result : Result (Unit {0}) Refusal) (r : Refusal)
-    → IsErrAnd result (λ e. e ≡ r) → Ended command input out r → now ≡ before → HasRun command input out before now result
-handed_run command input out before now (Ok x) r is ended same = absurd is
-handed_run command input out before now (Err e) r is ended same =
-    record { done = tt; refused = subst (Ended command input out) (sym is) ended; untouched = λ _. same }
+pub handed_run : {O : Type 0} (command : Command) (input : Change) (out : Stream O) (result : Result (Unit {0}) Refusal) (r : Refusal)
+    → IsErrAnd result (λ e. e ≡ r) → Ended command input out.change r → IsStill out → HasRun command input out result
+handed_run command input out (Ok x) r is ended same = absurd is
+handed_run command input out (Err e) r is ended same =
+    record { done = tt; refused = subst (Ended command input out.change) (sym is) ended; untouched = λ _. same }
 
 -- No answer to words names a place.
 words_place : (fail : WordsFail) (p : Place) → answer_of_words fail ≡ answers.NotManifold p → ⊥

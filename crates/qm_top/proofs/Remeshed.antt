@@ -7,7 +7,7 @@ use Rattle.def_certtext.specs.declared.Asked.{Asked}
 use Rattle.def_flow.specs.declared.net.Settings.{Settings}
 use Rattle.def_io.specs.Bytes.{Bytes}
 use Rattle.def_io.specs.Faults.{Rose}
-use Rattle.def_io.specs.Moves.{Change, TookPrefix}
+use Rattle.def_io.specs.Moves.{Change, IsStill, Stream, TookPrefix}
 use Rattle.def_layout.specs.Plans.{Plan, layout_of, vertex_at}
 use Rattle.def_mesh.specs.Faces.{Faces}
 use Rattle.def_mesh.specs.Manifold.{IsManifold}
@@ -71,12 +71,12 @@ remesh_writer asked input out soup manifold read calm = record {
     }
 
 -- A text that was not put whole was not written whole.
-pub put_refused : {O : Type 0} (says : Bytes → Type 0) (fails : LayoutFail → Type 0) (out : Change) (before now : O) (text : Bytes) (fail : PutFail)
-    → says text → (IsErrOf {T = Unit {0}} (Err fail) puts.Stopped → TookPrefix out.told out.told_now text)
-    → (IsErrOf {T = Unit {0}} (Err fail) puts.Stopped → Rose out.faults out.faults_now)
-    → (IsErrOf {T = Unit {0}} (Err fail) puts.Memory → now ≡ before) → IsUnwritten says fails out before now (refusal_of_put fail)
-put_refused says fails out before now text puts.Stopped said prefix rose same = record { text = text; said = said; prefix = prefix refl; fault = rose refl }
-put_refused says fails out before now text puts.Memory said prefix rose same = same refl
+pub put_refused : {O : Type 0} (says : Bytes → Type 0) (fails : LayoutFail → Type 0) (out : Stream O) (text : Bytes) (fail : PutFail)
+    → says text → (IsErrOf {T = Unit {0}} (Err fail) puts.Stopped → TookPrefix out.change.told out.change.told_now text)
+    → (IsErrOf {T = Unit {0}} (Err fail) puts.Stopped → Rose out.change.faults out.change.faults_now)
+    → (IsErrOf {T = Unit {0}} (Err fail) puts.Memory → IsStill out) → IsUnwritten says fails out (refusal_of_put fail)
+put_refused says fails out text puts.Stopped said prefix rose same = record { text = text; said = said; prefix = prefix refl; fault = rose refl }
+put_refused says fails out text puts.Memory said prefix rose same = same refl
 
 -- The text of what is kept as it was asked for is one of a finished remesh.
 pub kept_remeshed : (asked : Asked) (soup : FaceSet) (plan : Plan) (kept : Remesh) → kept.asked ≡ asked → IsLayoutIn soup.faces plan

@@ -2,7 +2,7 @@
 use Rattle.std.specs.Prelude.{IfErr, OnOk}
 use Rattle.std.proofs.Common.{◌≡◌, ◌≢◌, Result, Ok, Err, subst, refl}
 use Rattle.def_io.specs.Bytes.{Bytes}
-use Rattle.def_io.specs.Moves.{Change}
+use Rattle.def_io.specs.Moves.{Change, Stream}
 use Rattle.def_layout.specs.Plans.{Plan}
 use Rattle.def_mesh.specs.Faces.{Faces}
 use Rattle.def_mesh.specs.declared.Place.{Place}
@@ -38,13 +38,13 @@ pub record IsWriter (command : Command) (says : Bytes → Type 0) (fails : Layou
   pub writes : (text : Bytes) → says text → Writes command bytes text
   pub refuses : (fail : LayoutFail) → fails fail → Cause command input out (answer_of_layout fail)
 
-module _ (command : Command) (says : Bytes → Type 0) (fails : LayoutFail → Type 0) (input out : Change)
-    (is : IsWriter command says fails input out) where
+module _ {O : Type 0} (command : Command) (says : Bytes → Type 0) (fails : LayoutFail → Type 0) (input : Change) (out : Stream O)
+    (is : IsWriter command says fails input out.change) where
   -- A text that was not written whole ends the command.
-  unwritten_ends : {O : Type 0} (before now : O) (r : Refusal) → IsUnwritten says fails out before now r → Ended command input out r
-  unwritten_ends before now (Layout fail) none =
+  unwritten_ends : (r : Refusal) → IsUnwritten says fails out r → Ended command input out.change r
+  unwritten_ends (Layout fail) none =
       record { cause = is.refuses fail none.1; names = λ p same. absurd (layout_place fail p same); calm = λ _ _. is.calm }
-  unwritten_ends before now (Write fail) broke = record {
+  unwritten_ends (Write fail) broke = record {
     cause = record {
       bytes = is.bytes;
       whole = is.whole;
@@ -56,19 +56,19 @@ module _ (command : Command) (says : Bytes → Type 0) (fails : LayoutFail → T
     names = λ p same. cc;
     calm = λ _ _. is.calm;
   }
-  unwritten_ends before now refusals.Memory same = record { cause = tt; names = λ p same. cc; calm = λ _ _. is.calm }
-  unwritten_ends before now _ none = absurd none
+  unwritten_ends refusals.Memory same = record { cause = tt; names = λ p same. cc; calm = λ _ _. is.calm }
+  unwritten_ends _ none = absurd none
 
   -- The sink is as it was, unless the write failed.
-  same_sink : {O : Type 0} (before now : O) (r : Refusal) → IsUnwritten says fails out before now r → answer_of r ≢ answers.WriteFault → now ≡ before
-  same_sink before now (Layout fail) none other = none.0
-  same_sink before now (Write fail) broke other = absurd (other refl)
-  same_sink before now refusals.Memory same other = same
-  same_sink before now _ none other = absurd none
+  same_sink : (r : Refusal) → IsUnwritten says fails out r → answer_of r ≢ answers.WriteFault → out.now ≡ out.before
+  same_sink (Layout fail) none other = none.0
+  same_sink (Write fail) broke other = absurd (other refl)
+  same_sink refusals.Memory same other = same
+  same_sink _ none other = absurd none
 
-  pub writer_runs : {O : Type 0} (before now : O) (result : Result (Unit {0}) Refusal)
-      → OnOk result (WroteText says out) → IfErr result (IsUnwritten says fails out before now) → HasRun command input out before now result
-  writer_runs before now (Ok x) wrote none = record {
+  pub writer_runs : (result : Result (Unit {0}) Refusal)
+      → OnOk result (WroteText says out.change) → IfErr result (IsUnwritten says fails out) → HasRun command input out result
+  writer_runs (Ok x) wrote none = record {
     done = record {
       wrote = record {
         bytes = is.bytes;
@@ -82,5 +82,5 @@ module _ (command : Command) (says : Bytes → Type 0) (fails : LayoutFail → T
     refused = tt;
     untouched = tt;
   }
-  writer_runs before now (Err r) wrote none =
-      record { done = tt; refused = unwritten_ends before now r none; untouched = same_sink before now r none }
+  writer_runs (Err r) wrote none =
+      record { done = tt; refused = unwritten_ends r none; untouched = same_sink r none }

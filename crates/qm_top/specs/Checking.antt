@@ -1,7 +1,7 @@
 -- What `check` does with the bytes that it read.
 use Rattle.std.specs.Prelude.{◌≡◌, ◌≢◌}
 use Rattle.def_io.specs.Bytes.{Bytes}
-use Rattle.def_io.specs.Moves.{Change}
+use Rattle.def_io.specs.Moves.{IsStill, Stream}
 use Rattle.def_remesh.specs.declared.kept.LayoutFail.TheVariants as layouts
 use Rattle.def_run.specs.Check.{IsNotAccepted, IsTangledOld, RefusesOldText, WritesAccepted}
 use Rattle.def_text.specs.FaceSet.{FaceSet}
@@ -30,6 +30,6 @@ IsNoPairFor bytes refusals.Memory = Unit {0}
 IsNoPairFor bytes _ = ⊥
 
 -- Why the line that accepts them was not written. Where the sink did not fail it is as it was.
-abbrev pub IsUnaccepted : {O : Type 0} (bytes : Bytes) (out : Change) (before now : O) (refusal : Refusal) → Type 0
-IsUnaccepted bytes out before now (Write fail) = BrokeText (WritesAccepted bytes) out
-IsUnaccepted bytes out before now refusal = (now ≡ before) × IsNoPairFor bytes refusal
+abbrev pub IsUnaccepted : {O : Type 0} (bytes : Bytes) (out : Stream O) (refusal : Refusal) → Type 0
+IsUnaccepted bytes out (Write fail) = BrokeText (WritesAccepted bytes) out.change
+IsUnaccepted bytes out refusal = IsStill out × IsNoPairFor bytes refusal

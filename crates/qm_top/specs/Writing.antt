@@ -2,7 +2,7 @@
 use Rattle.std.specs.Prelude.{◌≡◌}
 use Rattle.def_io.specs.Bytes.{Bytes}
 use Rattle.def_io.specs.Faults.{Rose}
-use Rattle.def_io.specs.Moves.{Change, took, TookPrefix}
+use Rattle.def_io.specs.Moves.{Change, IsStill, Stream, took, TookPrefix}
 use Rattle.def_certtext.specs.declared.Asked.{Asked}
 use Rattle.def_layout.specs.Plans.{Plan}
 use Rattle.std.specs.Option.{option_map}
@@ -34,12 +34,12 @@ pub record BrokeText (says : Bytes → Type 0) (out : Change) : Type 0 where
   pub fault : Rose out.faults out.faults_now
 
 -- Why no text was written whole. Where the sink did not fail it is as it was.
-abbrev pub IsUnwritten : {O : Type 0} (says : Bytes → Type 0) (fails : LayoutFail → Type 0) (out : Change)
-    (before now : O) (refusal : Refusal) → Type 0
-IsUnwritten says fails out before now (Layout fail) = (now ≡ before) × fails fail
-IsUnwritten says fails out before now (Write fail) = BrokeText says out
-IsUnwritten says fails out before now refusals.Memory = now ≡ before
-IsUnwritten says fails out before now _ = ⊥
+abbrev pub IsUnwritten : {O : Type 0} (says : Bytes → Type 0) (fails : LayoutFail → Type 0) (out : Stream O)
+    (refusal : Refusal) → Type 0
+IsUnwritten says fails out (Layout fail) = IsStill out × fails fail
+IsUnwritten says fails out (Write fail) = BrokeText says out.change
+IsUnwritten says fails out refusals.Memory = IsStill out
+IsUnwritten says fails out _ = ⊥
 
 -- Why a soup is not remeshed as it was asked for: its layout is refused.
 abbrev pub FailsToRemesh : (asked : Asked) (soup : FaceSet) (failed : LayoutFail) → Type 0

@@ -1,8 +1,7 @@
 //! `bench`: a mesh that is made from a number is remeshed, and a line that sums it up is written.
 
-ghost use Rattle.std.specs.Prelude.{◌≡◌, ◌≤◌, ℕ, IfErr, OnOk};
-ghost use Rattle.def_io.specs.Bytes.{Told};
-ghost use Rattle.def_io.specs.Moves.{change};
+ghost use Rattle.std.specs.Prelude.{◌≡◌, ◌≤◌, IfErr, OnOk};
+ghost use Rattle.def_io.specs.Moves.{change, stream, StreamState};
 ghost use Rattle.def_run.specs.Bench.{bench_faces, IsBenchFail, WritesBench};
 ghost use Rattle.qm_top.specs.Runs.{HasRun};
 ghost use Rattle.qm_top.specs.Writing.{IsUnwritten, WroteText};
@@ -20,8 +19,8 @@ use std::alloc::Global;
 pub(crate) fn bench<O: Sink>(alloc: Global, size: u32, out: &mut O) -> Result<(), Refusal>
     requires low { 1 ≤ size }
     requires high { size ≤ MAX_SIZE }
-    ensures { (left : Told) (faults : ℕ) → HasRun (Command.Bench size) (change left left faults faults)
-        (change (O.taken out.old) (O.taken out.new) (O.faults out.old) (O.faults out.new)) out.old out.new result }
+    ensures { (state : StreamState) → HasRun (Command.Bench size)
+        (change state state) (stream O.state out.old out.new) result }
 {
     let soup = steps_mesh(alloc, size)?;
     let MeshInput { mesh, soup: _ } = with_mesh(alloc, soup)?;
@@ -32,9 +31,9 @@ pub(crate) fn bench<O: Sink>(alloc: Global, size: u32, out: &mut O) -> Result<()
 fn bench_mesh<O: Sink>(alloc: Global, size: u32, mesh: &Mesh, out: &mut O) -> Result<(), Refusal>
     requires { mesh.now ≡ bench_faces size }
     ensures done { OnOk result (WroteText (WritesBench size)
-        (change (O.taken out.old) (O.taken out.new) (O.faults out.old) (O.faults out.new))) }
+        (change (O.state out.old) (O.state out.new))) }
     ensures refused { IfErr result (IsUnwritten (WritesBench size) (IsBenchFail size)
-        (change (O.taken out.old) (O.taken out.new) (O.faults out.old) (O.faults out.new)) out.old out.new) }
+        (stream O.state out.old out.new)) }
 {
     let text = summary_of(alloc, mesh, size)?;
     write_all(out, &text)?;

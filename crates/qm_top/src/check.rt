@@ -2,7 +2,7 @@
 
 ghost use Rattle.std.specs.Prelude.{◌≡◌, ◌≤◌, length, IfErr, OnOk};
 ghost use Rattle.def_io.specs.Bytes.{Bytes};
-ghost use Rattle.def_io.specs.Moves.{change};
+ghost use Rattle.def_io.specs.Moves.{change, stream};
 ghost use Rattle.def_remesh.specs.Checked.{accepted_line};
 ghost use Rattle.def_run.specs.Check.{WritesAccepted};
 ghost use Rattle.def_run.specs.CheckFails.{IsCheckFail};
@@ -27,8 +27,8 @@ pub(crate) fn check<S: Source, O: Sink>(
     out: &mut O,
 ) -> Result<(), Refusal>
     ensures { HasRun Command.Check
-        (change (S.left input.old) (S.left input.new) (S.faults input.old) (S.faults input.new))
-        (change (O.taken out.old) (O.taken out.new) (O.faults out.old) (O.faults out.new)) out.old out.new result }
+        (change (S.state input.old) (S.state input.new))
+        (stream O.state out.old out.new) result }
 {
     let lines = read_lines(alloc, input, MAX_BYTES)?;
     check_lines(alloc, &lines, out)
@@ -38,9 +38,9 @@ pub(crate) fn check<S: Source, O: Sink>(
 fn check_lines<O: Sink>(alloc: Global, lines: &Lines, out: &mut O) -> Result<(), Refusal>
     requires { length lines.now ≤ MAX_BYTES }
     ensures done { OnOk result (WroteText (WritesAccepted lines.now)
-        (change (O.taken out.old) (O.taken out.new) (O.faults out.old) (O.faults out.new))) }
+        (change (O.state out.old) (O.state out.new))) }
     ensures refused { IfErr result (IsUnaccepted lines.now
-        (change (O.taken out.old) (O.taken out.new) (O.faults out.old) (O.faults out.new)) out.old out.new) }
+        (stream O.state out.old out.new)) }
 {
     match check_pair(alloc, lines) {
         Ok(accepted) => {

@@ -1,13 +1,10 @@
 //! One command line, from its words to its answer.
 
-ghost use Rattle.std.specs.Prelude.{◌≡◌, ◌≢◌, ◌⊎◌, ℕ, Bool, map, string_bytes};
-ghost use Rattle.def_flow.specs.declared.net.Settings.{Settings};
-ghost use Rattle.def_io.specs.Faults.{Rose};
-ghost use Rattle.def_io.specs.Moves.{change};
-ghost use Rattle.def_run.specs.CommandLines.{IsAccepted, IsCommand};
-ghost use Rattle.def_run.specs.Causes.{IsGood, Ran};
-ghost use Rattle.def_run.specs.Messages.{Said, SaidWhy};
-ghost use Rattle.def_run.specs.Remesh.{IsSettled, IsUntangled};
+ghost use Rattle.std.specs.Prelude.{◌≡◌, ℕ, map, string_bytes};
+ghost use Rattle.def_io.specs.Moves.{change, stream};
+ghost use Rattle.def_run.specs.CommandLines.{IsCommand};
+ghost use Rattle.def_run.specs.Exits.{RunsTo};
+ghost use Rattle.def_run.specs.Messages.{Said};
 ghost use Rattle.def_text.specs.Types.{Words};
 ghost use Rattle.qm_top.specs.Runs.{HasRun};
 
@@ -37,32 +34,8 @@ pub fn run<S: Source, O: Sink, E: Sink>(
     out: &mut O,
     err: &mut E,
 ) -> Answer
-    ensures usage { result ≡ Answer.Usage → ¬ IsAccepted (map string_bytes words.now) }
-    ensures ran { result ≢ Answer.Usage → result ≢ Answer.Memory → Ran (map string_bytes words.now)
-        (change (S.left input.old) (S.left input.new) (S.faults input.old) (S.faults input.new))
-        (change (O.taken out.old) (O.taken out.new) (O.faults out.old) (O.faults out.new)) result }
-
-    // What is good is done, unless a stream fails or memory is wanting.
-    ensures complete { (command : Command) → IsCommand (map string_bytes words.now) command
-        → IsGood command (S.left input.old) → (result ≡ Answer.Done) ⊎ ((result ≡ Answer.Memory) ⊎
-        (Rose (S.faults input.old) (S.faults input.new) ⊎ Rose (O.faults out.old) (O.faults out.new))) }
-
-    // A mesh that is not too tangled has least lengths, and a remesh finds them.
-    ensures settled { (settings : Settings) (auto : Bool) → IsCommand (map string_bytes words.now)
-        (Command.Remesh settings auto) → IsUntangled settings (S.left input.old)
-        → IsSettled result ⊎ ((result ≡ Answer.Memory)
-        ⊎ (Rose (S.faults input.old) (S.faults input.new) ⊎ Rose (O.faults out.old) (O.faults out.new))) }
-
-    // What stays as it was.
-    ensures untouched { result ≢ Answer.Done → result ≢ Answer.WriteFault → out.new ≡ out.old }
-    ensures unread { result ≡ Answer.Usage → input.new ≡ input.old }
-    ensures unasked { (size : ℕ) → IsCommand (map string_bytes words.now) (Command.Bench size) → input.new ≡ input.old }
-    ensures calm { result ≢ Answer.ReadFault → result ≢ Answer.Memory → S.faults input.new ≡ S.faults input.old }
-    ensures quiet { result ≡ Answer.Done → err.new ≡ err.old }
-
-    ensures told { result ≢ Answer.Done → SaidWhy (map string_bytes words.now)
-        (change (S.left input.old) (S.left input.new) (S.faults input.old) (S.faults input.new))
-        (change (E.taken err.old) (E.taken err.new) (E.faults err.old) (E.faults err.new)) result }
+    ensures { RunsTo (map string_bytes words.now) (stream S.state input.old input.new)
+        (stream O.state out.old out.new) (stream E.state err.old err.new) result }
 {
     let command = match read_words(alloc, words) {
         Ok(command) => command,
@@ -91,8 +64,7 @@ fn run_command<S: Source, O: Sink>(
 ) -> Result<(), Refusal>
     requires spoken { (words : Words) × IsCommand words command }
     ensures run { HasRun command
-        (change (S.left input.old) (S.left input.new) (S.faults input.old) (S.faults input.new))
-        (change (O.taken out.old) (O.taken out.new) (O.faults out.old) (O.faults out.new)) out.old out.new result }
+        (change (S.state input.old) (S.state input.new)) (stream O.state out.old out.new) result }
     ensures unasked { (size : ℕ) → Command.Bench size ≡ command → input.new ≡ input.old }
 {
     match command {
@@ -107,7 +79,7 @@ fn run_command<S: Source, O: Sink>(
 
 /// Hands a line to the error sink. Where that fails there is no one to tell.
 fn say<E: Sink>(err: &mut E, line: &Line)
-    ensures { Said line.now.bytes (change (E.taken err.old) (E.taken err.new) (E.faults err.old) (E.faults err.new)) }
+    ensures { Said line.now.bytes (change (E.state err.old) (E.state err.new)) }
 {
     let _ = write_all(err, line.as_str().as_bytes());
 }

@@ -1,7 +1,7 @@
 //! `graph`: a mesh is read, and the text of its traced graph and layout is written.
 
 ghost use Rattle.std.specs.Prelude.{IfOk};
-ghost use Rattle.def_io.specs.Moves.{change};
+ghost use Rattle.def_io.specs.Moves.{change, stream};
 ghost use Rattle.def_run.specs.Graph.{IsGraphText};
 ghost use Rattle.qm_top.specs.Runs.{HasRun};
 
@@ -24,8 +24,8 @@ pub(crate) fn graph<S: Source, O: Sink>(
     out: &mut O,
 ) -> Result<(), Refusal>
     ensures { HasRun Command.Graph
-        (change (S.left input.old) (S.left input.new) (S.faults input.old) (S.faults input.new))
-        (change (O.taken out.old) (O.taken out.new) (O.faults out.old) (O.faults out.new)) out.old out.new result }
+        (change (S.state input.old) (S.state input.new))
+        (stream O.state out.old out.new) result }
 {
     let MeshInput { mesh, soup: _ } = read_mesh(alloc, input)?;
     let text = text_of(alloc, &mesh)?;

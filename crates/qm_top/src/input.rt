@@ -23,12 +23,12 @@ pub(crate) struct MeshInput {
 
 /// The mesh of the whole input.
 pub(crate) fn read_mesh<S: Source>(alloc: Global, input: &mut S) -> Result<MeshInput, Refusal>
-    ensures soup { IfOk result (λ read. ReadSoup MAX_BYTES (S.left input.old) (S.left input.new) read.soup) }
+    ensures soup { IfOk result (λ read. ReadSoup MAX_BYTES (S.state input.old).told (S.state input.new).told read.soup) }
     ensures mesh { IfOk result (λ read. read.mesh ≡ read.soup.faces) }
     ensures manifold { IfOk result (λ read. IsManifold read.soup.faces) }
-    ensures calm { OnOk result (S.faults input.new ≡ S.faults input.old) }
+    ensures calm { OnOk result ((S.state input.new).faults ≡ (S.state input.old).faults) }
     ensures refused { IfErr result (IsInputRefusal
-        (change (S.left input.old) (S.left input.new) (S.faults input.old) (S.faults input.new))) }
+        (change (S.state input.old) (S.state input.new))) }
 {
     let soup = read_soup(alloc, input, MAX_BYTES)?;
     with_mesh(alloc, soup)

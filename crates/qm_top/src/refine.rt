@@ -2,7 +2,7 @@
 
 ghost use Rattle.std.specs.Prelude.{◌≡◌, ◌≤◌, IfOk, IfErr, OnOk, OnErr};
 ghost use Rattle.def_io.specs.Faults.{Rose};
-ghost use Rattle.def_io.specs.Moves.{change, took, TookPrefix};
+ghost use Rattle.def_io.specs.Moves.{change, stream, took, TookPrefix};
 ghost use Rattle.def_layout.specs.Plans.{plan};
 ghost use Rattle.def_remesh.specs.Placings.{IsLayoutIn};
 ghost use Rattle.def_remesh.specs.Refined.{refined_text};
@@ -42,8 +42,8 @@ pub(crate) fn refine<S: Source, O: Sink>(
     requires some { 1 ≤ by }
     requires few { by ≤ MAX_MULTIPLE }
     ensures { HasRun (Command.Refine by)
-        (change (S.left input.old) (S.left input.new) (S.faults input.old) (S.faults input.new))
-        (change (O.taken out.old) (O.taken out.new) (O.faults out.old) (O.faults out.new)) out.old out.new result }
+        (change (S.state input.old) (S.state input.new))
+        (stream O.state out.old out.new) result }
 {
     let read = read_mesh(alloc, input)?;
     refine_mesh(alloc, by, read, out)
@@ -55,9 +55,9 @@ fn refine_mesh<O: Sink>(alloc: Global, by: u32, read: MeshInput, out: &mut O) ->
     requires few { by ≤ MAX_MULTIPLE }
     requires mesh { read.mesh ≡ read.soup.faces }
     ensures done { OnOk result (WroteText (IsRefined by read.soup)
-        (change (O.taken out.old) (O.taken out.new) (O.faults out.old) (O.faults out.new))) }
+        (change (O.state out.old) (O.state out.new))) }
     ensures refused { IfErr result (IsUnwritten (IsRefined by read.soup) (FailsToRefine by read.soup)
-        (change (O.taken out.old) (O.taken out.new) (O.faults out.old) (O.faults out.new)) out.old out.new) }
+        (stream O.state out.old out.new)) }
 {
     let MeshInput { soup, mesh } = read;
     let layout = traced_layout(alloc, &mesh)?;
@@ -83,7 +83,8 @@ fn points_by(alloc: Global, by: u32, cut: &CutMesh) -> Result<Refined, LayoutFai
             faces,
             kept: Kept::Multiple { by },
         }),
-        Err(_) => Err(LayoutFail::Memory),
+        Err(StitchFail::Doubled { .. }) => unreachable!(),
+        Err(StitchFail::Memory) => Err(LayoutFail::Memory),
     }
 }
 
@@ -97,11 +98,11 @@ fn write_refined<O: Sink>(
 ) -> Result<(), Stopped>
     requires mesh { cut.now.mesh ≡ soup.now.faces }
     requires points { ArePointsBy refined.now.by cut.now.mesh (plan cut.now.layout) refined.now.points }
-    ensures whole { OnOk result (O.taken out.new
-        ≡ took (O.taken out.old) (refined_text refined.now.by soup.now (plan cut.now.layout))) }
-    ensures prefix { OnErr result (TookPrefix (O.taken out.old) (O.taken out.new)
+    ensures whole { OnOk result ((O.state out.new).told
+        ≡ took (O.state out.old).told (refined_text refined.now.by soup.now (plan cut.now.layout))) }
+    ensures prefix { OnErr result (TookPrefix (O.state out.old).told (O.state out.new).told
         (refined_text refined.now.by soup.now (plan cut.now.layout))) }
-    ensures fault { OnErr result (Rose (O.faults out.old) (O.faults out.new)) }
+    ensures fault { OnErr result (Rose (O.state out.old).faults (O.state out.new).faults) }
 {
     let mut text = Buffer::new(out, room);
     put_refined(&mut text, refined.by, soup, cut, &refined.points)?;

@@ -5,7 +5,7 @@ ghost use Rattle.std.specs.Option.{option_map};
 ghost use Rattle.def_certtext.specs.CertLines.{lists_of};
 ghost use Rattle.def_certtext.specs.Settings.{AreInRange};
 ghost use Rattle.def_io.specs.Faults.{Rose};
-ghost use Rattle.def_io.specs.Moves.{change, took, TookPrefix};
+ghost use Rattle.def_io.specs.Moves.{change, stream, took, TookPrefix};
 ghost use Rattle.def_layout.specs.Plans.{plan};
 ghost use Rattle.def_remesh.specs.Keeping.{IsKept};
 ghost use Rattle.def_remesh.specs.Placings.{IsLayoutIn};
@@ -34,8 +34,8 @@ pub(crate) fn remesh<S: Source, O: Sink>(
 ) -> Result<(), Refusal>
     requires { AreInRange asked.settings asked.auto }
     ensures { HasRun (Command.Remesh asked.settings asked.auto)
-        (change (S.left input.old) (S.left input.new) (S.faults input.old) (S.faults input.new))
-        (change (O.taken out.old) (O.taken out.new) (O.faults out.old) (O.faults out.new)) out.old out.new result }
+        (change (S.state input.old) (S.state input.new))
+        (stream O.state out.old out.new) result }
 {
     let read = read_mesh(alloc, input)?;
     remesh_mesh(alloc, asked, read, out)
@@ -51,10 +51,10 @@ fn remesh_mesh<O: Sink>(
     requires range { AreInRange asked.settings asked.auto }
     requires mesh { read.mesh ≡ read.soup.faces }
     ensures done { OnOk result (WroteText (IsRemeshed asked.settings asked.auto read.soup)
-        (change (O.taken out.old) (O.taken out.new) (O.faults out.old) (O.faults out.new))) }
+        (change (O.state out.old) (O.state out.new))) }
     ensures refused { IfErr result (IsUnwritten (IsRemeshed asked.settings asked.auto read.soup)
         (FailsToRemesh asked read.soup)
-        (change (O.taken out.old) (O.taken out.new) (O.faults out.old) (O.faults out.new)) out.old out.new) }
+        (stream O.state out.old out.new)) }
 {
     let MeshInput { soup, mesh } = read;
     let layout = traced_layout(alloc, &mesh)?;
@@ -76,11 +76,11 @@ fn write_remeshed<O: Sink>(
     requires layout { IsLayoutIn cut.now.mesh (plan cut.now.layout) }
     requires kept { IsKept (plan cut.now.layout) kept.asked.settings kept.asked.auto
         (lists_of kept.first) (option_map lists_of kept.third) kept.numbering }
-    ensures whole { OnOk result (O.taken out.new
-        ≡ took (O.taken out.old) (text_of kept soup.now (plan cut.now.layout))) }
-    ensures prefix { IsErrOf result PutFail.Stopped → TookPrefix (O.taken out.old) (O.taken out.new)
+    ensures whole { OnOk result ((O.state out.new).told
+        ≡ took (O.state out.old).told (text_of kept soup.now (plan cut.now.layout))) }
+    ensures prefix { IsErrOf result PutFail.Stopped → TookPrefix (O.state out.old).told (O.state out.new).told
         (text_of kept soup.now (plan cut.now.layout)) }
-    ensures fault { IsErrOf result PutFail.Stopped → Rose (O.faults out.old) (O.faults out.new) }
+    ensures fault { IsErrOf result PutFail.Stopped → Rose (O.state out.old).faults (O.state out.new).faults }
     ensures untouched { IsErrOf result PutFail.Memory → out.new ≡ out.old }
 {
     let mut room = Room::new(alloc)?;

@@ -3,7 +3,7 @@
 ghost use Rattle.std.specs.Prelude.{◌≤◌};
 
 use super::*;
-use qm_io::{MemSink, MemSource, Memory};
+use qm_io::{MemSink, MemSource, Memory, ProcessLine};
 use std::alloc::Global;
 use std::env::{Env, FillError};
 use std::process::Abort;
@@ -218,13 +218,13 @@ impl Env for Given<'_> {
 
 /// The exit status of a process with these words, whose output must be empty where it is not 0.
 fn exit_of(rt: &impl Abort, alloc: Global, words: &[&[u8]]) -> Result<u8, Memory> {
-    let process = (Given { words }, alloc);
+    let line = ProcessLine::new(Given { words });
     let (mut input, mut out, mut err) = (
         source(alloc, QUAD, WELL)?,
         sink(alloc, WELL)?,
         sink(alloc, WELL)?,
     );
-    let status = run_process(&process, &mut input, &mut out, &mut err);
+    let status = run_process(alloc, &line, &mut input, &mut out, &mut err);
     assert_eq!(rt; out.taken().is_empty(), status != 0);
     Ok(status)
 }

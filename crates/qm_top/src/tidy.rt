@@ -2,7 +2,7 @@
 
 ghost use Rattle.std.specs.Prelude.{◌≡◌, OnOk, OnErr};
 ghost use Rattle.def_io.specs.Faults.{Rose};
-ghost use Rattle.def_io.specs.Moves.{change, took, TookPrefix};
+ghost use Rattle.def_io.specs.Moves.{change, stream, took, TookPrefix};
 ghost use Rattle.def_text.specs.Canonical.{canonical_text};
 ghost use Rattle.qm_top.specs.Runs.{HasRun};
 
@@ -23,8 +23,8 @@ pub(crate) fn tidy<S: Source, O: Sink>(
     out: &mut O,
 ) -> Result<(), Refusal>
     ensures { HasRun Command.Tidy
-        (change (S.left input.old) (S.left input.new) (S.faults input.old) (S.faults input.new))
-        (change (O.taken out.old) (O.taken out.new) (O.faults out.old) (O.faults out.new)) out.old out.new result }
+        (change (S.state input.old) (S.state input.new))
+        (stream O.state out.old out.new) result }
 {
     let MeshInput { soup, mesh: _ } = read_mesh(alloc, input)?;
     let mut room = Room::new(alloc)?;
@@ -34,9 +34,9 @@ pub(crate) fn tidy<S: Source, O: Sink>(
 
 /// Writes the canonical text of a soup.
 fn write_soup<O: Sink>(soup: &Soup, out: &mut O, room: &mut Room) -> Result<(), Stopped>
-    ensures whole { OnOk result (O.taken out.new ≡ took (O.taken out.old) (canonical_text soup.now)) }
-    ensures prefix { OnErr result (TookPrefix (O.taken out.old) (O.taken out.new) (canonical_text soup.now)) }
-    ensures fault { OnErr result (Rose (O.faults out.old) (O.faults out.new)) }
+    ensures whole { OnOk result ((O.state out.new).told ≡ took (O.state out.old).told (canonical_text soup.now)) }
+    ensures prefix { OnErr result (TookPrefix (O.state out.old).told (O.state out.new).told (canonical_text soup.now)) }
+    ensures fault { OnErr result (Rose (O.state out.old).faults (O.state out.new).faults) }
 {
     let mut text = Buffer::new(out, room);
     put_soup(&mut text, soup)?;

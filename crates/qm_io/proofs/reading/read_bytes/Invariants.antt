@@ -4,8 +4,8 @@ use Rattle.qm_io.proofs.reading.read_bytes.Given as goal
 
 abbrev pub invariant-pieces : goal.invariant-pieces
 invariant-pieces g l = record {
-  given : g.S.Source.left l.initial.src ≡ gave l.bytes.items (g.S.Source.left l.src);
-  calm : g.S.Source.faults l.src ≡ g.S.Source.faults l.initial.src;
+  given : (g.S.Source.state l.initial.src).told ≡ gave l.bytes.items (g.S.Source.state l.src).told;
+  calm : (g.S.Source.state l.src).faults ≡ (g.S.Source.state l.initial.src).faults;
   short : length l.bytes.items ≤ l.limit;
   room : 0 < length l.buffer.items;
 }

@@ -21,7 +21,7 @@ pub pieces-preserved : goal.pieces-preserved
 pieces-preserved g c =
     let many : c.args.limit - c.pieces.room + c.in_ok-count.count ≡ c.args.limit - (c.pieces.room - c.in_ok-count.count) = omega (arith, c.pieces.invariant.short, c.in_ok-count.ensures.fits) in
     record {
-      fed = subst (λ (n : ℕ). FedTo (g.S.Source.left c.args.src.now) (g.S.Source.left c.feed_piece.new.src) n c.feed_piece.new.feed) many (fed_more _ _ _ c.pieces.feed _ _ _ c.pieces.invariant.fed c.in_ok-count.ensures.fed);
+      fed = subst (λ (n : ℕ). FedTo (g.S.Source.state c.args.src.now).told (g.S.Source.state c.feed_piece.new.src).told n c.feed_piece.new.feed) many (fed_more _ _ _ c.pieces.feed _ _ _ c.pieces.invariant.fed c.in_ok-count.ensures.fed);
       calm = c.in_ok-count.ensures.calm ∙ c.pieces.invariant.calm;
       short = omega (arith, c.pieces.invariant.short);
       room = omega (arith, c.pieces.invariant.room, c.pieces.buffer.ok.0, length_refill c.pieces.buffer.len c.pieces.buffer.items c.feed_piece.new.buffer c.pieces.buffer.ok.0);

@@ -4,8 +4,8 @@ use Rattle.qm_obj.proofs.soup.feed_of.Given as goal
 
 abbrev pub invariant-pieces : goal.invariant-pieces
 invariant-pieces g l = record {
-  fed : FedTo (g.S.Source.left l.initial.src) (g.S.Source.left l.src) (l.limit - l.room) l.feed;
-  calm : g.S.Source.faults l.src ≡ g.S.Source.faults l.initial.src;
+  fed : FedTo (g.S.Source.state l.initial.src).told (g.S.Source.state l.src).told (l.limit - l.room) l.feed;
+  calm : (g.S.Source.state l.src).faults ≡ (g.S.Source.state l.initial.src).faults;
   short : l.room ≤ l.limit;
   room : 0 < length l.buffer.items;
 }

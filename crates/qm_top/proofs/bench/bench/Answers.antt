@@ -11,16 +11,16 @@ pub bench_mesh-requires : goal.bench_mesh-requires
 bench_mesh-requires g c = c.in_ok-mesh.ensures.mesh ∙ ap (λ (s : FaceSet). s.faces) c.in_ok-soup.ensures.soup
 
 pub returns-in_err-soup : goal.returns-in_err-soup
-returns-in_err-soup g c left faults =
-    handed_run _ _ _ _ _ _ _ c.from_residual.ensures.1 (memory_ended _ _ _) refl
+returns-in_err-soup g c state =
+    handed_run _ _ _ _ _ c.from_residual.ensures.1 (memory_ended _ _ _) refl
 
 pub returns-in_err-mesh : goal.returns-in_err-mesh
-returns-in_err-mesh g c left faults =
-    handed_run _ _ _ _ _ _ c.in_err-mesh.field-0.0 c.from_residual-in_err-mesh.ensures.1
-    (made_ended c.args.size (change left left faults faults) _ (refl, refl) c.in_err-mesh.field-0.0
+returns-in_err-mesh g c state =
+    handed_run _ _ _ _ c.in_err-mesh.field-0.0 c.from_residual-in_err-mesh.ensures.1
+    (made_ended c.args.size (change state state) _ (refl, refl) c.in_err-mesh.field-0.0
     (subst (λ (s : FaceSet). IsNoMeshOf s c.in_err-mesh.field-0.0) c.in_ok-soup.ensures.soup c.in_err-mesh.ensures.refused)) refl
 
 pub returns : goal.returns
-returns g c left faults =
-    writer_runs _ _ _ _ _ (bench_writer c.args.size (change left left faults faults) _ (refl, refl)) _ _ c.bench_mesh.result c.bench_mesh.ensures.done
+returns g c state =
+    writer_runs _ _ _ _ _ (bench_writer c.args.size (change state state) _ (refl, refl)) c.bench_mesh.result c.bench_mesh.ensures.done
     c.bench_mesh.ensures.refused

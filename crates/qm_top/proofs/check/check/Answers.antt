@@ -5,4 +5,4 @@ pub returns : goal.returns
 returns g c =
     let read = c.in_ok-lines.ensures in
     check_runs _ _ c.in_ok-lines.lines (record { given = read.bytes; ended = read.whole; few = read.short }) read.calm
-    _ _ c.check_lines.result c.check_lines.ensures.done c.check_lines.ensures.refused
+    c.check_lines.result c.check_lines.ensures.done c.check_lines.ensures.refused

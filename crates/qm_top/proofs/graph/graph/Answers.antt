@@ -4,5 +4,5 @@ use Rattle.qm_top.proofs.graph.graph.Goals as goal
 
 pub returns-in_err-mesh : goal.returns-in_err-mesh
 returns-in_err-mesh g c =
-    handed_run _ _ _ _ _ _ c.in_err-mesh.field-0.0 c.from_residual.ensures.1
+    handed_run _ _ _ _ c.in_err-mesh.field-0.0 c.from_residual.ensures.1
     (input_ended _ _ _ c.in_err-mesh.field-0.0 graph_needs c.in_err-mesh.ensures.refused) refl

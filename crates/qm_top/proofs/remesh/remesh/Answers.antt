@@ -6,10 +6,10 @@ use Rattle.qm_top.proofs.remesh.remesh.Goals as goal
 
 pub returns-in_err-read : goal.returns-in_err-read
 returns-in_err-read g c =
-    handed_run _ _ _ _ _ _ c.in_err-read.field-0.0 c.from_residual.ensures.1
+    handed_run _ _ _ _ c.in_err-read.field-0.0 c.from_residual.ensures.1
     (input_ended _ _ _ c.in_err-read.field-0.0 (remesh_needs c.args.asked.settings c.args.asked.auto) c.in_err-read.ensures.refused) refl
 
 pub returns : goal.returns
 returns g c =
     writer_runs _ _ _ _ _ (remesh_writer c.args.asked _ _ c.in_ok-read.read.soup c.in_ok-read.ensures.manifold c.in_ok-read.ensures.soup c.in_ok-read.ensures.calm)
-    _ _ c.remesh_mesh.result c.remesh_mesh.ensures.done c.remesh_mesh.ensures.refused
+    c.remesh_mesh.result c.remesh_mesh.ensures.done c.remesh_mesh.ensures.refused

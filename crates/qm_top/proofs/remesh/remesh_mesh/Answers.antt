@@ -28,7 +28,7 @@ returns-in_err-write_remeshed-clause-refused g c =
     let t = plan c.in_ok-layout.layout in
     let is = of_soup _ _ t c.requires.mesh c.in_ok-layout.ensures.mesh c.in_ok-layout.ensures.traced in
     handed _ _ (refusal_of_put c.in_err-write_remeshed.field-0.0) c.from_residual-in_err-write_remeshed.ensures.1
-    (put_refused _ _ _ _ _ (text_of c.in_ok-kept.kept c.args.read.soup t) c.in_err-write_remeshed.field-0.0
+    (put_refused _ _ _ (text_of c.in_ok-kept.kept c.args.read.soup t) c.in_err-write_remeshed.field-0.0
     (kept_remeshed c.args.asked c.args.read.soup t c.in_ok-kept.kept c.in_ok-kept.ensures.asked is.0 is.1 c.in_ok-kept.ensures.kept)
     c.in_err-write_remeshed.ensures.prefix c.in_err-write_remeshed.ensures.fault c.in_err-write_remeshed.ensures.untouched)
 

@@ -4,5 +4,5 @@ use Rattle.qm_top.proofs.tidy.tidy.Goals as goal
 
 pub returns-in_err-soup : goal.returns-in_err-soup
 returns-in_err-soup g c =
-    handed_run _ _ _ _ _ _ c.in_err-soup.field-0.0 c.from_residual.ensures.1
+    handed_run _ _ _ _ c.in_err-soup.field-0.0 c.from_residual.ensures.1
     (input_ended _ _ _ c.in_err-soup.field-0.0 tidy_needs c.in_err-soup.ensures.refused) refl
