@@ -50,7 +50,8 @@ impl Case {
         Ok(case)
     }
 
-    fn empty(alloc: Global) -> Self {
+    /// A case with nothing in it.
+    pub(crate) fn empty(alloc: Global) -> Self {
         Case {
             words: Vec::new(alloc),
             status: Vec::new(alloc),

@@ -30,6 +30,24 @@ pub(crate) fn grid_row(alloc: Global) -> Result<Case, AllocError> {
     Ok(case)
 }
 
+/// More separate quads than a network may have that is not too tangled.
+const QUADS: u32 = 262_145;
+
+/// So many separate quads, whose remesh is refused.
+pub(crate) fn tangled_row(alloc: Global) -> Result<Case, AllocError> {
+    let mut case = Case::empty(alloc);
+    case.words
+        .extend_from_slice(b"remesh\n--scale\n1/1\n--floor\n1\n--weight\nplain\n")?;
+    for x in 0..QUADS {
+        let quad = format!(in alloc; "v {x} 0 0\nv {x} 1 0\nv {x} 1 1\nv {x} 0 1\nf -4 -3 -2 -1\n")?;
+        case.input.extend_from_slice(quad.as_bytes())?;
+    }
+    case.status.extend_from_slice(b"9\n")?;
+    case.err
+        .extend_from_slice(b"quadq: tangled: 33554560\n")?;
+    Ok(case)
+}
+
 /// A comment as long as a line may be: the empty mesh.
 pub(crate) fn longest_line_row(alloc: Global) -> Result<Case, AllocError> {
     let mut case = Case::tidy(alloc)?;

@@ -5,7 +5,7 @@ mod case;
 mod made;
 
 use case::{Case, passes};
-use made::{grid_row, longest_line_row, too_long_line_row};
+use made::{grid_row, longest_line_row, tangled_row, too_long_line_row};
 use std::process::ExitCode;
 use std::{fs, io};
 
@@ -16,6 +16,7 @@ fn main(rt: HostRuntime) -> io::Result<ExitCode> {
         are_right = tells(&rt, name.as_str().trim_end_matches(".case"), case)? && are_right;
     }
     are_right = tells(&rt, "grid of 100489 faces", grid_row(rt.alloc())?)? && are_right;
+    are_right = tells(&rt, "262145 separate quads", tangled_row(rt.alloc())?)? && are_right;
     are_right = tells(&rt, "longest line", longest_line_row(rt.alloc())?)? && are_right;
     are_right = tells(
         &rt,
