@@ -4,7 +4,7 @@ use Rattle.std.proofs.lemmas.Bool.{cases_Bool}
 use Rattle.std.proofs.lemmas.Option.{same_Some}
 use Rattle.def_mesh.specs.HalfEdges.{HalfEdges, IsQuadManifold}
 use Rattle.def_cut.specs.Cuts.{Cut, IsCross, Links, IsCorner}
-use Rattle.def_cut.specs.Trails.{IsStraight, Trail, IsTracked, Joins, IsSource, AreStarts, IsTraced}
+use Rattle.def_cut.specs.Trails.{IsStraight, Trail, IsTracked, Joins, IsSource, HasSources, IsTraced}
 use Rattle.def_cut.specs.Laws.{CornerLaw}
 use Rattle.cut_laws.proofs.Darts.{turn_from, turn_low}
 use Rattle.cut_laws.proofs.Classes.{AreLinked, links_join, step_next, step_over, step_prev, links_low}
@@ -13,30 +13,15 @@ use Rattle.cut_laws.proofs.Classes.{AreLinked, links_join, step_next, step_over,
 abbrev pub CornerOf : (mesh : HalfEdges) (cut : Cut) (d : ℕ) → Type 0
 CornerOf mesh cut d = (e : ℕ) × (n : ℕ) × Links mesh cut d e n × IsCorner mesh cut e
 
-module _ (mesh : HalfEdges) (laws : IsQuadManifold mesh) (start cut : ℕ → Bool) (starts : AreStarts mesh start) (traced : IsTraced mesh start cut) where
+module _ (mesh : HalfEdges) (laws : IsQuadManifold mesh) (start cut : ℕ → Bool) (sources : HasSources mesh start) (traced : IsTraced mesh start cut) where
   corner_at : (d e : ℕ) → AreLinked mesh cut d e → IsCorner mesh cut e → CornerOf mesh cut d
   corner_at d e l corner = (e, l.0, l.1, corner)
 
   from_class : (d e : ℕ) → AreLinked mesh cut d e → CornerOf mesh cut e → CornerOf mesh cut d
   from_class d e l c = let j : AreLinked mesh cut d c.0 = links_join mesh laws cut d e c.0 l (c.1, c.2) in corner_at d c.0 j c.3
 
-  -- All edges at a start are cut.
-  cut_at : (d e : ℕ) → d < mesh.count → start d ≡ true → e < mesh.count → mesh.from e ≡ mesh.from d → cut e ≡ true
-  cut_at d e ld on le s = by_twin (mesh.twin e) refl
-    where
-      by_twin : (o : Option ℕ) → mesh.twin e ≡ o → cut e ≡ true
-      by_twin None is = traced.boundary e le is
-      by_twin (Some t) is = traced.ridden e le (starts.all d e t ld le on s is)
-
-  cut_before : (d : ℕ) → d < mesh.count → start d ≡ true → cut (mesh.prev d) ≡ true
-  cut_before d ld on = by_twin (mesh.twin (mesh.prev d)) refl
-    where
-      by_twin : (o : Option ℕ) → mesh.twin (mesh.prev d) ≡ o → cut (mesh.prev d) ≡ true
-      by_twin None is = traced.boundary (mesh.prev d) (laws.prev_low d ld) is
-      by_twin (Some a) is = sym (traced.alike (mesh.prev d) a (laws.prev_low d ld) is) ∙ cut_at d a ld on (turn_low mesh laws d a ld is) (turn_from mesh laws d a ld is)
-
   start_corner : (d : ℕ) → d < mesh.count → start d ≡ true → IsCorner mesh cut d
-  start_corner d ld on = (ld, traced.ridden d ld on, cut_before d ld on)
+  start_corner d ld on = (ld, traced.started d ld on, traced.before d ld on)
 
   -- Back along a trail on its own side,
   beside : (k d : ℕ) → d < mesh.count → cut d ≡ true → Trail mesh start cut d k → CornerOf mesh cut d
@@ -55,7 +40,7 @@ module _ (mesh : HalfEdges) (laws : IsQuadManifold mesh) (start cut : ℕ → Bo
   next_corner d ld on next = corner_at d (mesh.next d) (step_next mesh laws cut d d (0, refl)) (laws.next_low d ld, next, ap cut (laws.prev_next d) ∙ on)
 
   across : (k d t : ℕ) → d < mesh.count → cut d ≡ true → mesh.twin d ≡ Some t → Trail mesh start cut t k → CornerOf mesh cut d
-  across zero d t ld on tw trail = next_corner d ld on (cut_at t (mesh.next d) (laws.twin_low d t ld tw) trail (laws.next_low d ld) (sym (laws.twin_ends d t ld tw).0))
+  across zero d t ld on tw trail = next_corner d ld on (traced.beside t d (laws.twin_low d t ld tw) trail (laws.twin_twin d t ld tw))
   across (suc k) d t ld on tw trail =
       by_next (cases_Bool (cut (mesh.next d))) trail.0 trail.2 trail.3 trail.4 trail.5.0 trail.5.1 trail.5.2 trail.5.3 (λ b lb onb tb. across k b trail.0 lb onb tb trail.1)
     where
@@ -96,7 +81,7 @@ module _ (mesh : HalfEdges) (laws : IsQuadManifold mesh) (start cut : ℕ → Bo
       ]
 
   pub corner_of : (d : ℕ) → d < mesh.count → CornerOf mesh cut d
-  corner_of d ld = by_source (starts.found d ld)
+  corner_of d ld = by_source (sources d ld)
     where
       at_source : (e : ℕ) → e < mesh.count → IsSource mesh start e → IsCorner mesh cut e
       at_source e le (inl on) = start_corner e le on
@@ -110,4 +95,4 @@ module _ (mesh : HalfEdges) (laws : IsQuadManifold mesh) (start cut : ℕ → Bo
           at e (inl l) source = corner_at d e l (at_source e (links_low mesh laws cut d e l.0 ld l.1) source)
 
 pub corner_law : CornerLaw
-corner_law mesh start cut laws starts traced d ld = corner_of mesh laws start cut starts traced d ld
+corner_law mesh start cut laws sources traced d ld = corner_of mesh laws start cut sources traced d ld

@@ -8,7 +8,7 @@ use Rattle.def_cut.specs.Cuts.{Cut, Links, IsCorner, IsCut}
 use Rattle.def_cut.specs.FullCut.{IsFullCut, is_on}
 use Rattle.def_cut.specs.Grids.{Cells, IsGrid, Rectangle, IsPartition}
 use Rattle.def_cut.specs.Steps.{spin}
-use Rattle.def_cut.specs.Trails.{AreStarts, IsTraced}
+use Rattle.def_cut.specs.Trails.{HasSources, IsTraced}
 
 -- No grid is folded: no cell has a side in common with another one.
 abbrev pub NoFoldLaw : Type 0
@@ -29,7 +29,7 @@ OneListLaw = (mesh : HalfEdges) (cut : Cut) (face_of : ℕ → ℕ) → IsQuadMa
 -- Each class of faces of a traced cut has a corner.
 abbrev pub CornerLaw : Type 0
 CornerLaw = (mesh : HalfEdges) (start cut : ℕ → Bool)
-    → IsQuadManifold mesh → AreStarts mesh start → IsTraced mesh start cut
+    → IsQuadManifold mesh → HasSources mesh start → IsTraced mesh start cut
     → (d : ℕ) → d < mesh.count → (e : ℕ) × (n : ℕ) × Links mesh cut d e n × IsCorner mesh cut e
 
 -- A full cut of a manifold list of faces is a full cut of its half edges, and the other way round.

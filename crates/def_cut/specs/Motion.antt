@@ -122,7 +122,11 @@ start g starts = record {
   covered = λ d. false;
 }
 
--- The state after so many steps.
+-- The state so many steps after this one.
+abbrev pub later : (g : Terrain) (s : State) (steps : ℕ) → State
+later g s zero = s
+later g s (suc n) = step g (later g s n)
+
+-- The state so many steps after the first.
 abbrev pub after : (g : Terrain) (starts : List ℕ) (steps : ℕ) → State
-after g starts zero = start g starts
-after g starts (suc n) = step g (after g starts n)
+after g starts n = later g (start g starts) n

@@ -27,16 +27,17 @@ Joins mesh d e (suc n) = (c : ℕ) × Joins mesh d c n × ((e ≡ mesh.next c) �
 abbrev pub IsSource : (mesh : HalfEdges) (start : ℕ → Bool) (e : ℕ) → Type 0
 IsSource mesh start e = (start e ≡ true) ⊎ ((mesh.twin e ≡ None) × (mesh.twin (mesh.prev e) ≡ None))
 
--- What corners need of the start darts: of the darts with a twin that leave one vertex all start or none, and each
--- component has a source.
-pub record AreStarts (mesh : HalfEdges) (start : ℕ → Bool) : Type 0 where
-  pub all : (d e t : ℕ) → d < mesh.count → e < mesh.count → start d ≡ true → mesh.from e ≡ mesh.from d
-      → mesh.twin e ≡ Some t → start e ≡ true
-  pub found : (d : ℕ) → d < mesh.count → (e : ℕ) × (n : ℕ) × Joins mesh d e n × IsSource mesh start e
+-- Each component has a source.
+abbrev pub HasSources : (mesh : HalfEdges) (start : ℕ → Bool) → Type 0
+HasSources mesh start =
+    (d : ℕ) → d < mesh.count → (e : ℕ) × (n : ℕ) × Joins mesh d e n × IsSource mesh start e
 
--- The cut is made of trails and of the boundary.
+-- The cut is made of trails and of the boundary. Where a trail starts, it has the start, the dart before it, and the
+-- dart after its twin.
 pub record IsTraced (mesh : HalfEdges) (start cut : ℕ → Bool) : Type 0 where
   pub alike : (d t : ℕ) → d < mesh.count → mesh.twin d ≡ Some t → cut t ≡ cut d
   pub boundary : (d : ℕ) → d < mesh.count → mesh.twin d ≡ None → cut d ≡ true
-  pub ridden : (d : ℕ) → d < mesh.count → start d ≡ true → cut d ≡ true
+  pub started : (d : ℕ) → d < mesh.count → start d ≡ true → cut d ≡ true
+  pub before : (d : ℕ) → d < mesh.count → start d ≡ true → cut (mesh.prev d) ≡ true
+  pub beside : (d t : ℕ) → d < mesh.count → start d ≡ true → mesh.twin d ≡ Some t → cut (mesh.next t) ≡ true
   pub tracked : (d t : ℕ) → d < mesh.count → mesh.twin d ≡ Some t → cut d ≡ true → IsTracked mesh start cut d

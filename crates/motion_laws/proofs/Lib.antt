@@ -3,6 +3,7 @@ pub mod Terrains
 pub mod Bits
 pub mod Next
 pub mod Steps
+pub mod Onward
 pub mod Traced
 pub mod Marks
 pub mod Shown

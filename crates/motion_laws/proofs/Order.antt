@@ -16,10 +16,11 @@ use Rattle.sum_laws.proofs.Counts.{count_below_lt, count_below_ones}
 use Rattle.motion_laws.proofs.Among.{among_here, any_at, any_where, all_at, not_all, AreApart}
 use Rattle.motion_laws.proofs.Marks.{none_on, none_found, no_darts, twin_marks, from_marks, marked_long, noted_more, noted_longer, found_more, apart_few, among_append, apart_append}
 use Rattle.motion_laws.proofs.Next.{with_later}
+use Rattle.motion_laws.proofs.Onward.{still_riders, at_rest, runs_on, nobody_runs, last_rests}
 use Rattle.motion_laws.proofs.Shown.{IsShown, AreShown, AllNoted, long, all_noted, darts_are, noted_rides, notes_apart, ride_shown, waits_as_was, waits_not_all, somebody, as_was, still_runs, closed_is, none_shown, told_shown}
 use Rattle.motion_laws.proofs.Steps.{back}
 use Rattle.motion_laws.proofs.Terrains.{IsTerrain, IsStarted, IsReached}
-use Rattle.motion_laws.proofs.Traced.{start_reached, after_reached, ridden_once, at_rest, runs_on, fresh, rests_or_falls, nobody_runs}
+use Rattle.motion_laws.proofs.Traced.{start_reached, first, after_reached, ridden_once}
 
 mark_twin_long : (o : Option ℕ) (marks : List Bool) → length (mark_twin o marks) ≡ length marks
 mark_twin_long None marks = refl
@@ -39,15 +40,6 @@ nobody_rides (q ∷ rs) none = at q.stop refl (nobody_rides rs (λ r l. none (su
     at : (o : Option Stop) → q.stop ≡ o → ridden rs ≡ [] → with_next o q.dart (ridden rs) ≡ []
     at None is rest = absurd (none 0 (omega arith) is)
     at (Some s) is rest = rest
-
--- And then a step changes no rider.
-still_riders : (g : Terrain) (stood : ℕ → Bool) (ds : List ℕ) (rs : List Moving) → ridden rs ≡ [] → map (ride g stood ds) rs ≡ rs
-still_riders g stood ds [] e = refl
-still_riders g stood ds (q ∷ rs) e = at q.stop refl e (still_riders g stood ds rs)
-  where
-    at : (o : Option Stop) → q.stop ≡ o → with_next o q.dart (ridden rs) ≡ [] → (ridden rs ≡ [] → map (ride g stood ds) rs ≡ rs) → ride_on g stood ds q o ∷ map (ride g stood ds) rs ≡ q ∷ rs
-    at None is e rest = absurd (let n : suc (length (ridden rs)) ≡ 0 = ap length e in omega arith)
-    at (Some s) is e rest = ap (λ qs. q ∷ qs) (rest e)
 
 module _ (g : Terrain) (t : IsTerrain g) (starts : List ℕ) (begin : IsStarted g starts) (n : ℕ) (few : (d : ℕ) → d < g.half.count → g.half.from d < n) where
   -- The first event state.
@@ -344,8 +336,8 @@ module _ (g : Terrain) (t : IsTerrain g) (starts : List ℕ) (begin : IsStarted 
   finish_is (suc k) i = at (ridden (after g starts i).riders) refl (finish_is k)
     where
       at : (ds : List ℕ) → ridden (after g starts i).riders ≡ ds → ((l : ℕ) → (j : ℕ) × (finish g k (after g starts l) ≡ after g starts j)) → (j : ℕ) × (finish g (suc k) (after g starts i) ≡ after g starts j)
-      at [] is rest = (i, at_rest g t starts begin n few (suc k) (after g starts i) is)
-      at (d ∷ ds) is rest = let r : (j : ℕ) × (finish g k (after g starts (suc i)) ≡ after g starts j) = rest (suc i) in (r.0, runs_on g t starts begin n few k d ds (after g starts i) is ∙ r.1)
+      at [] is rest = (i, at_rest g (suc k) (after g starts i) is)
+      at (d ∷ ds) is rest = let r : (j : ℕ) × (finish g k (after g starts (suc i)) ≡ after g starts j) = rest (suc i) in (r.0, runs_on g k d ds (after g starts i) is ∙ r.1)
 
   alike : (i j : ℕ) → ridden (after g starts i).riders ≡ [] → ridden (after g starts j).riders ≡ [] → ((after g starts i).riders ≡ (after g starts j).riders) × ((d : ℕ) → (after g starts i).covered d ≡ (after g starts j).covered d)
   alike i j a b = elim (cases_lt i j) [
@@ -360,39 +352,17 @@ module _ (g : Terrain) (t : IsTerrain g) (starts : List ℕ) (begin : IsStarted 
   one_end x c w none =
       let e : (x.riders ≡ (after g starts w.instant).riders) × (ridden (after g starts w.instant).riders ≡ []) × (darts_in x.noted ≡ []) = nobody x c w none in
       let f : (j : ℕ) × (end_state g n starts ≡ after g starts j) = finish_is (suc n) 0 in
-      let r : ((after g starts w.instant).riders ≡ (after g starts f.0).riders) × ((d : ℕ) → (after g starts w.instant).covered d ≡ (after g starts f.0).covered d) = alike w.instant f.0 e.1 (sym (ap (λ (s : State). ridden s.riders) f.1) ∙ nobody_runs g t starts begin n few) in (
+      let r : ((after g starts w.instant).riders ≡ (after g starts f.0).riders) × ((d : ℕ) → (after g starts w.instant).covered d ≡ (after g starts f.0).covered d) = alike w.instant f.0 e.1 (sym (ap (λ (s : State). ridden s.riders) f.1) ∙ nobody_runs g t (λ e. is_among e starts) (start g starts) (first g t starts begin) n few) in (
         e.0 ∙ (r.0 ∙ sym (ap (λ (s : State). s.riders) f.1)),
         λ d l. w.shown.covered d l ∙ (ap (λ (ds : List ℕ). (after g starts w.instant).covered d || (is_among d ds || is_met g ds d)) e.2 ∙ (ap (λ b. (after g starts w.instant).covered d || b) (none_found (g.half.twin d)) ∙ (or-false ((after g starts w.instant).covered d) ∙ (r.1 d ∙ sym (ap (λ (s : State). s.covered d) f.1))))),
       )
 
   -- After as many steps as there are vertices nobody runs, and the state is the last.
-  runs_out : (k : ℕ) → (ridden (after g starts k).riders ≡ []) ⊎ (fresh g t starts begin n few (after g starts k) + k < n)
-  runs_out zero = at (ridden (map begun starts)) refl
-    where
-      no_more_at : (b : Bool) → cond b 0 1 ≤ 1
-      no_more_at true = omega arith
-      no_more_at false = omega arith
-
-      less_at : (b : Bool) → b ≡ true → cond b 0 1 < 1
-      less_at b on = rw on (omega arith)
-
-      at : (ds : List ℕ) → ridden (map begun starts) ≡ ds → (ridden (map begun starts) ≡ []) ⊎ (fresh g t starts begin n few (start g starts) + 0 < n)
-      at [] is = inl is
-      at (d ∷ ds) is =
-          let r : IsReached g starts (start g starts) = start_reached g t starts begin in
-          let m : is_among d (ridden (map begun starts)) ≡ true = ap (is_among d) is ∙ among_here d d ds refl in
-          inr (omega (arith, count_below_ones n, count_below_lt (λ v. cond ((start g starts).stood v) 0 1) (λ v. 1) n (g.half.from d) (few d (r.low d m)) (λ v l. no_more_at ((start g starts).stood v)) (less_at ((start g starts).stood (g.half.from d)) (r.left d m))))
-  runs_out (suc k) = by_before (runs_out k)
-    where
-      by_before : (ridden (after g starts k).riders ≡ []) ⊎ (fresh g t starts begin n few (after g starts k) + k < n) → (ridden (after g starts (suc k)).riders ≡ []) ⊎ (fresh g t starts begin n few (after g starts (suc k)) + suc k < n)
-      by_before (inl none) = inl (ap ridden (still_riders g (after g starts k).stood (ridden (after g starts k).riders) (after g starts k).riders none) ∙ none)
-      by_before (inr low) = elim (rests_or_falls g t starts begin n few (after g starts k) (after_reached g t starts begin k)) [ inl none ↦ inl none | inr falls ↦ inr (omega (arith, low, falls)) ]
-
   pub at_last : ridden (after g starts n).riders ≡ []
-  at_last = elim (runs_out n) [ inl none ↦ none | inr low ↦ absurd (omega (arith, low)) ]
+  at_last = last_rests g t (λ e. is_among e starts) (start g starts) (first g t starts begin) n few
 
   pub last_is : ((after g starts n).riders ≡ (end_state g n starts).riders) × ((d : ℕ) → (after g starts n).covered d ≡ (end_state g n starts).covered d)
   last_is =
       let f : (j : ℕ) × (end_state g n starts ≡ after g starts j) = finish_is (suc n) 0 in
-      let r : ((after g starts n).riders ≡ (after g starts f.0).riders) × ((d : ℕ) → (after g starts n).covered d ≡ (after g starts f.0).covered d) = alike n f.0 at_last (sym (ap (λ (s : State). ridden s.riders) f.1) ∙ nobody_runs g t starts begin n few) in
+      let r : ((after g starts n).riders ≡ (after g starts f.0).riders) × ((d : ℕ) → (after g starts n).covered d ≡ (after g starts f.0).covered d) = alike n f.0 at_last (sym (ap (λ (s : State). ridden s.riders) f.1) ∙ nobody_runs g t (λ e. is_among e starts) (start g starts) (first g t starts begin) n few) in
       (r.0 ∙ sym (ap (λ (s : State). s.riders) f.1), λ d. r.1 d ∙ sym (ap (λ (s : State). s.covered d) f.1))

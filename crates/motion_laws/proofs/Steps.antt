@@ -12,7 +12,7 @@ use Rattle.def_cut.specs.Motion.{Terrain, State, end_of, straight, ridden, is_am
 use Rattle.cut_laws.proofs.Crosses.{low_a, low_c, at_a, at_b, at_c}
 use Rattle.cut_laws.proofs.Darts.{next_same, twin_same}
 use Rattle.motion_laws.proofs.Among.{any_at, any_where, in_filter, from_filter, AreApart, apart_filter}
-use Rattle.motion_laws.proofs.Terrains.{IsTerrain, IsReached, IsKnown, IsSoon, IsCrossedAt}
+use Rattle.motion_laws.proofs.Terrains.{IsTerrain, IsReachedFrom, IsKnown, IsSoon, IsCrossedAt}
 use Rattle.motion_laws.proofs.Bits.{rotated, round_of, of_round, two_bits_of}
 use Rattle.motion_laws.proofs.Next.{next_from, next_to, next_apart}
 
@@ -137,7 +137,7 @@ module _ (g : Terrain) (t : IsTerrain g) where
       let s : a ≡ b = next_same g.half t.half a b (sym ia ∙ ib) in
       next_same g.half t.half d e (twin_same g.half t.half (g.half.next d) (g.half.next e) a (t.half.next_low d ld) (t.half.next_low e le) ta (tb ∙ ap Some (sym s)))
 
-  module _ (starts : List ℕ) (s : State) (r : IsReached g starts s) where
+  module _ (begins : ℕ → Bool) (first s : State) (r : IsReachedFrom g begins first s) where
     covered_old : (d : ℕ) → s.covered d ≡ true → (step g s).covered d ≡ true
     covered_old d c = or_left _ _ c
 
@@ -286,37 +286,37 @@ module _ (g : Terrain) (t : IsTerrain g) where
         let b : IsNext s.stood (ridden s.riders) e (or_else (straight g d) d) = is_next s.stood (ridden s.riders) e _ (r.low e n) on_e same in
         straight_same d e _ (r.low d m) (r.low e n) a.straight b.straight)
 
-    step_trails : (e : ℕ) → is_among e (ridden (step g s).riders) ≡ true → (k : ℕ) × Trail g.half (λ x. is_among x starts) (step g s).covered e k
+    step_trails : (e : ℕ) → is_among e (ridden (step g s).riders) ≡ true → (k : ℕ) × Trail g.half begins (step g s).covered e k
     step_trails e m = by_next (next_is e m)
       where
-        by_next : (d : ℕ) × (is_among d (ridden s.riders) ≡ true) × IsNext s.stood (ridden s.riders) d e → (k : ℕ) × Trail g.half (λ x. is_among x starts) (step g s).covered e k
+        by_next : (d : ℕ) × (is_among d (ridden s.riders) ≡ true) × IsNext s.stood (ridden s.riders) d e → (k : ℕ) × Trail g.half begins (step g s).covered e k
         by_next (d, n, x) =
-            let p : (k : ℕ) × Trail g.half (λ y. is_among y starts) s.covered d k = r.trails d n in
-            (suc p.0, (d, trail_more g.half (λ y. is_among y starts) s.covered (step g s).covered covered_old d p.0 p.1, r.low d n, covered_rode d n, x.straight, x.cross))
+            let p : (k : ℕ) × Trail g.half begins s.covered d k = r.trails d n in
+            (suc p.0, (d, trail_more g.half begins s.covered (step g s).covered covered_old d p.0 p.1, r.low d n, covered_rode d n, x.straight, x.cross))
 
-    step_tracked : (d : ℕ) → d < g.half.count → (step g s).covered d ≡ true → IsTracked g.half (λ x. is_among x starts) (step g s).covered d
+    step_tracked : (d : ℕ) → d < g.half.count → (step g s).covered d ≡ true → IsTracked g.half begins (step g s).covered d
     step_tracked d low c = by_why (why d c)
       where
-        more : (x k : ℕ) → Trail g.half (λ y. is_among y starts) s.covered x k → Trail g.half (λ y. is_among y starts) (step g s).covered x k
-        more x k p = trail_more g.half (λ y. is_among y starts) s.covered (step g s).covered covered_old x k p
+        more : (x k : ℕ) → Trail g.half begins s.covered x k → Trail g.half begins (step g s).covered x k
+        more x k p = trail_more g.half begins s.covered (step g s).covered covered_old x k p
 
-        by_old : IsTracked g.half (λ x. is_among x starts) s.covered d → IsTracked g.half (λ x. is_among x starts) (step g s).covered d
+        by_old : IsTracked g.half begins s.covered d → IsTracked g.half begins (step g s).covered d
         by_old (k, inl p) = (k, inl (more d k p))
         by_old (k, inr (e, w, p)) = (k, inr (e, w, more e k p))
 
-        by_why : (s.covered d ≡ true) ⊎ ((is_among d (ridden s.riders) ≡ true) ⊎ ((e : ℕ) × (g.half.twin d ≡ Some e) × (is_among e (ridden s.riders) ≡ true))) → IsTracked g.half (λ x. is_among x starts) (step g s).covered d
+        by_why : (s.covered d ≡ true) ⊎ ((is_among d (ridden s.riders) ≡ true) ⊎ ((e : ℕ) × (g.half.twin d ≡ Some e) × (is_among e (ridden s.riders) ≡ true))) → IsTracked g.half begins (step g s).covered d
         by_why (inl o) = by_old (r.tracked d low o)
-        by_why (inr (inl m)) = let p : (k : ℕ) × Trail g.half (λ y. is_among y starts) s.covered d k = r.trails d m in (p.0, inl (more d p.0 p.1))
-        by_why (inr (inr (e, w, m))) = let p : (k : ℕ) × Trail g.half (λ y. is_among y starts) s.covered e k = r.trails e m in (p.0, inr (e, w, more e p.0 p.1))
+        by_why (inr (inl m)) = let p : (k : ℕ) × Trail g.half begins s.covered d k = r.trails d m in (p.0, inl (more d p.0 p.1))
+        by_why (inr (inr (e, w, m))) = let p : (k : ℕ) × Trail g.half begins s.covered e k = r.trails e m in (p.0, inr (e, w, more e p.0 p.1))
 
-    pub step_keeps : IsReached g starts (step g s)
+    pub step_keeps : IsReachedFrom g begins first (step g s)
     step_keeps = record {
       apart = step_apart;
       low = λ e m. (next_is e m).2.low;
       left = λ e m. let n : (d : ℕ) × (is_among d (ridden s.riders) ≡ true) × IsNext s.stood (ridden s.riders) d e = next_is e m in ap (step g s).stood n.2.at ∙ stands n.0 n.1;
       alike = step_alike;
       ends = step_ends;
-      begun = λ d m. inl (soon_then d (r.begun d m));
+      kept = λ d k. inl (soon_then d (r.kept d k));
       trails = step_trails;
       tracked = step_tracked;
       through = step_through;

@@ -8,7 +8,7 @@ use Rattle.def_mesh.specs.Components.{start_darts}
 use Rattle.def_mesh.specs.HalfEdges.{HalfEdges, IsQuadManifold, half_edges}
 use Rattle.def_cut.specs.Cuts.{GoesOn, Links, IsCorner, IsCut}
 use Rattle.def_cut.specs.FullCut.{is_on}
-use Rattle.def_cut.specs.Motion.{ridden, after}
+use Rattle.def_cut.specs.Motion.{ridden, is_among, start, after}
 use Rattle.def_cut.specs.Traced.{terrain_of, last_state, is_traced, traced_marks}
 use Rattle.def_cut.specs.Events.{rides_in}
 use Rattle.def_cut.specs.MotionLaws.{IsKnown, StateLaw, GraphLaw, OrderLaw}
@@ -18,8 +18,9 @@ use Rattle.mesh_laws.proofs.HalfEdges.{manifold_law}
 use Rattle.mesh_laws.proofs.Vertices.{all_below}
 use Rattle.motion_laws.proofs.Marks.{among_at, places_apart}
 use Rattle.motion_laws.proofs.Order.{IsWithin, within, bounded, possible, one_end}
-use Rattle.motion_laws.proofs.Terrains.{IsReached}
-use Rattle.motion_laws.proofs.Traced.{after_reached, nobody_runs, end_reached, full_cut}
+use Rattle.motion_laws.proofs.Terrains.{IsReached, IsFirst}
+use Rattle.motion_laws.proofs.Onward.{nobody_runs, end_reached, full_cut}
+use Rattle.motion_laws.proofs.Traced.{after_reached, first}
 use Rattle.site_laws.proofs.Sites.{terrain, started}
 use Rattle.std.proofs.lemmas.Bool.{not-true}
 
@@ -39,7 +40,7 @@ state_law faces m n = record {
 
 -- A cut that agrees with a full cut on all darts is one.
 module _ (mesh : HalfEdges) (laws : IsQuadManifold mesh) (cut other : ℕ → Bool) (same : (d : ℕ) → d < mesh.count → other d ≡ cut d) where
-  same_links : (d e n : ℕ) → d < mesh.count → Links mesh cut d e n → Links mesh other d e n
+  pub same_links : (d e n : ℕ) → d < mesh.count → Links mesh cut d e n → Links mesh other d e n
   same_links d e zero l s = s
   same_links d e (suc n) l s = (s.0, same_links d s.0 n l s.1, by_step s.2)
     where
@@ -47,7 +48,7 @@ module _ (mesh : HalfEdges) (laws : IsQuadManifold mesh) (cut other : ℕ → Bo
       by_step (inl a) = inl a
       by_step (inr (off, w)) = inr (same s.0 (links_low mesh laws cut d s.0 n l s.1) ∙ off, w)
 
-  same_cut : IsCut mesh cut → IsCut mesh other
+  pub same_cut : IsCut mesh cut → IsCut mesh other
   same_cut c = record {
     alike = λ d e l w. same e (laws.twin_low d e l w) ∙ (c.alike d e l w ∙ sym (same d l));
     boundary = λ d l w. same d l ∙ c.boundary d l w;
@@ -66,11 +67,14 @@ module _ (mesh : HalfEdges) (laws : IsQuadManifold mesh) (cut other : ℕ → Bo
 pub graph_law : GraphLaw
 graph_law faces m = (none, (full_cut_law faces (traced_marks faces) m).1 (long, same_cut (half_edges faces) (manifold_law faces m) (is_traced faces) (is_on (traced_marks faces)) same cut))
   where
+    begin : IsFirst (terrain_of faces) (λ e. is_among e (start_darts faces)) (start (terrain_of faces) (start_darts faces))
+    begin = first (terrain_of faces) (terrain faces m) (start_darts faces) (started faces m)
+
     none : ridden (last_state faces).riders ≡ []
-    none = nobody_runs (terrain_of faces) (terrain faces m) (start_darts faces) (started faces m) (vertex_count faces) (all_below faces)
+    none = nobody_runs (terrain_of faces) (terrain faces m) (λ e. is_among e (start_darts faces)) (start (terrain_of faces) (start_darts faces)) begin (vertex_count faces) (all_below faces)
 
     cut : IsCut (half_edges faces) (is_traced faces)
-    cut = full_cut (terrain_of faces) (terrain faces m) (start_darts faces) (started faces m) (last_state faces) (end_reached (terrain_of faces) (terrain faces m) (start_darts faces) (started faces m) (vertex_count faces) (all_below faces)) none
+    cut = full_cut (terrain_of faces) (terrain faces m) (λ e. is_among e (start_darts faces)) (start (terrain_of faces) (start_darts faces)) begin (last_state faces) (end_reached (terrain_of faces) (terrain faces m) (λ e. is_among e (start_darts faces)) (start (terrain_of faces) (start_darts faces)) begin (vertex_count faces) (all_below faces)) none
 
     long : length (traced_marks faces) ≡ darts faces
     long = length-map (all_darts faces) (is_traced faces) ∙ length-range_with_len 0 (darts faces)

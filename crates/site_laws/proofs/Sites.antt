@@ -63,7 +63,7 @@ module _ (faces : Faces) (m : IsManifold faces) where
       sing d inner s = sym (ap (λ b. b && not (is_regular faces (from_of faces d))) inner) ∙ s
 
   -- All darts with a twin that leave a vertex start, or none.
-  all_start : (d e t : ℕ) → e < darts faces → is_among d (start_darts faces) ≡ true → from_of faces e ≡ from_of faces d → twin_of faces e ≡ Some t → is_among e (start_darts faces) ≡ true
+  pub all_start : (d e t : ℕ) → e < darts faces → is_among d (start_darts faces) ≡ true → from_of faces e ≡ from_of faces d → twin_of faces e ≡ Some t → is_among e (start_darts faces) ≡ true
   all_start d e t le k at w = start_in faces e le (by_why (or_cases _ _ (start_of faces d k).1))
     where
       by_why : (is_singular faces (from_of faces d) ≡ true) ⊎ ((is_some (twin_of faces d) && (is_reflex faces (from_of faces d) || list_any (λ v. eqb v (from_of faces d)) (seeds faces))) ≡ true) → is_start faces (seeds faces) e ≡ true
@@ -90,7 +90,8 @@ module _ (faces : Faces) (m : IsManifold faces) where
   started = record {
     apart = apart_filter (is_start faces (seeds faces)) (all_darts faces) (range_apart 0 (darts faces));
     low = λ d k. (start_of faces d k).0;
-    sources = record { all = λ d e t ld le k at w. all_start d e t le k at w; found = found faces m };
+    all = λ d e t ld le k at w. all_start d e t le k at w;
+    found = found faces m;
     singular = λ d l s. start_in faces d l (or_left _ _ s);
     sided = λ d l out. sides d l (not-true _ out);
   }
