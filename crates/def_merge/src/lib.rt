@@ -1,0 +1,3 @@
+//! What it is to merge the patches of a full cut: which arcs may leave, and the cut that is left when none may.
+
+#![tactic(auto)]

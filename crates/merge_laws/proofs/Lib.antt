@@ -1,0 +1,4 @@
+pub mod Sides
+pub mod Joins
+pub mod Arcs
+pub mod OneMerged

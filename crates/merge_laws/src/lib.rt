@@ -1,0 +1,20 @@
+//! The laws of merging: a full cut without a joinable arc is a full cut, and there is one merged cut.
+
+#![tactic(auto)]
+
+ghost use Rattle.def_merge.specs.Laws.{JoinLaw, GrownLaw, OneMergedLaw};
+
+/// Without a joinable arc a full cut is a full cut.
+pub fn join_law()
+    ensures { JoinLaw }
+{}
+
+/// What is joinable without a joinable arc was joinable before, or goes on over one of its ends.
+pub fn grown_law()
+    ensures { GrownLaw }
+{}
+
+/// A full cut has at most one merged cut, which is a full cut.
+pub fn one_merged_law()
+    ensures { OneMergedLaw }
+{}
