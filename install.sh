@@ -1,9 +1,11 @@
 #!/bin/sh
-# Installs the program as PREFIX/bin/quadq, with its man page and the completions of bash and zsh.
+# Installs the program as PREFIX/bin/quadq, with the script that draws graphs, the man page and the completions of bash
+# and zsh.
 set -eu
 usage='usage: install.sh [PREFIX]
-Proves and builds quadq where that is not done, and puts it at PREFIX/bin/quadq. PREFIX is /usr/local if not given. The
-man page and the completions of bash and zsh go below PREFIX/share.'
+Puts quadq at PREFIX/bin/quadq: the program that was built here, or that of dist/, where it is of these sources; else
+proves and builds it first. PREFIX is /usr/local if not given. The script that draws graphs goes beside it, as
+quadq-draw-graph, and the man page and the completions of bash and zsh below PREFIX/share.'
 fail() {
     echo "install.sh: $1" >&2
     exit 1
@@ -18,9 +20,12 @@ root=$(dirname "$(readlink -f "$0")")
 prefix=${1:-/usr/local}
 bin=$prefix/bin
 target=$bin/quadq
+drawing=$bin/quadq-draw-graph
 
 # The nearest folder that is there has to take new files; nothing is made before the program is built.
-[ ! -d "$target" ] || fail "$target is a folder"
+for file in "$target" "$drawing"; do
+    [ ! -d "$file" ] || fail "$file is a folder"
+done
 there=$bin
 while [ ! -e "$there" ] && [ ! -L "$there" ]; do
     there=$(dirname "$there")
@@ -28,7 +33,11 @@ done
 [ -d "$there" ] || fail "$there is not a folder"
 [ -w "$there" ] && [ -x "$there" ] || fail "$there cannot be written to"
 
-"$root/tools/build.py" || exit 1
+program=$(cd "$root" && . tools/sources.sh && find_program)
+if [ -z "$program" ]; then
+    "$root/tools/build.py" || exit 1
+    program=build/quadq
+fi
 
 umask 022
 new=
@@ -47,5 +56,6 @@ put() {
 put "$root/docs/quadq.1" "$prefix/share/man/man1/quadq.1" 644
 put "$root/tools/completions/quadq.bash" "$prefix/share/bash-completion/completions/quadq" 644
 put "$root/tools/completions/_quadq" "$prefix/share/zsh/site-functions/_quadq" 644
-put "$root/build/quadq" "$target" 755
+put "$root/tools/draw_graph.py" "$drawing" 755
+put "$root/$program" "$target" 755
 echo "quadq: installed as $target" >&2

@@ -4,14 +4,14 @@ far it is.
 
 usage: tools/build.py                    builds where need be; its status is 0 when build/quadq is current, else 70
        tools/build.py --run WORD..       the same, and then runs the program with these words in its own place
-       tools/build.py --sum              prints the checksum of the sources
        tools/build.py --keep SUM         takes what the gate has built, where the sources still have this checksum
 
 The folder build/ has the program, the list of its sources (tools/sources.sh), their checksum, and the last build's log.
 """
 
+from __future__ import annotations
+
 import fcntl
-import hashlib
 import os
 import pathlib
 import re
@@ -21,6 +21,7 @@ import signal
 import subprocess
 import sys
 import time
+from typing import NoReturn
 
 ROOT = pathlib.Path(__file__).resolve().parent.parent
 BUILD = ROOT / "build"
@@ -37,7 +38,7 @@ class Stopped(Exception):
     """A signal asked this process to end."""
 
 
-def fill_closed_streams():
+def fill_closed_streams() -> list[int]:
     """Opens /dev/null for each closed standard stream, so that no other file takes its place, and returns which."""
     closed = []
     for stream in (0, 1, 2):
@@ -49,7 +50,7 @@ def fill_closed_streams():
     return closed
 
 
-def say(line):
+def say(line: str) -> None:
     try:
         os.write(2, f"quadq: {line}\n".encode())
     except OSError:
@@ -57,30 +58,28 @@ def say(line):
         pass
 
 
-def listing():
-    return subprocess.run(["sh", "tools/sources.sh"], cwd=ROOT, stdout=subprocess.PIPE).stdout
+def told_of_sources(function: str) -> bytes:
+    """What a function of tools/sources.sh prints."""
+    words = ["sh", "-c", f". tools/sources.sh; {function}"]
+    return subprocess.run(words, cwd=ROOT, stdout=subprocess.PIPE).stdout
 
 
-def checksum():
-    """What the sources say, whatever their times are."""
-    total = hashlib.sha256()
-    paths = [ROOT / "crates.txt", *ROOT.glob("crates/*/src/**/*"), *ROOT.glob("crates/*/specs/**/*")]
-    for path in sorted(paths):
-        if path.is_file():
-            text = path.read_bytes()
-            total.update(f"{path.relative_to(ROOT)} {len(text)}\n".encode())
-            total.update(text)
-    return total.hexdigest()
+def listing() -> bytes:
+    return told_of_sources("list_sources")
 
 
-def bytes_of(path):
+def checksum() -> str:
+    return told_of_sources("sum_of_sources").decode().strip()
+
+
+def bytes_of(path: pathlib.Path) -> bytes | None:
     try:
         return path.read_bytes()
     except OSError:
         return None
 
 
-def write(path, content):
+def write(path: pathlib.Path, content: bytes) -> None:
     """Replaces the file as a whole, or not at all."""
     new = path.with_name(path.name + ".new")
     try:
@@ -90,7 +89,7 @@ def write(path, content):
         new.unlink(missing_ok=True)
 
 
-def is_current():
+def is_current() -> bool:
     """Whether the last build's sources were these. Where only their times differ, the list is written anew."""
     if not os.access(PROGRAM, os.X_OK):
         return False
@@ -108,7 +107,7 @@ def is_current():
     return True
 
 
-def keep(listed, summed):
+def keep(listed: bytes, summed: str) -> None:
     """Takes the program that was made of these sources as the current one."""
     BUILD.mkdir(exist_ok=True)
     new = BUILD / "quadq.new"
@@ -124,7 +123,7 @@ def keep(listed, summed):
     write(BUILD / "sources", listed)
 
 
-def lock():
+def lock() -> None:
     """Waits until no other build of this checkout is running."""
     held = os.open(__file__, os.O_RDONLY)
     try:
@@ -147,7 +146,7 @@ def lock():
         pass
 
 
-def uses_of_crates():
+def uses_of_crates() -> dict[str, list[str]]:
     """The libraries that each crate of this repository uses, by crates.txt."""
     uses = {}
     for line in (ROOT / "crates.txt").read_text().splitlines():
@@ -157,7 +156,7 @@ def uses_of_crates():
     return uses
 
 
-def crates_below(name, uses):
+def crates_below(name: str, uses: dict[str, list[str]]) -> list[str]:
     """The crate and all those of this repository that it stands on, those that it uses first."""
     found = []
     for crate in uses.get(name, []):
@@ -168,19 +167,19 @@ def crates_below(name, uses):
 class Progress:
     """Tells what the prover is at: each crate when it is done, and at least every few seconds something."""
 
-    def __init__(self):
+    def __init__(self) -> None:
         self.started = self.told = time.monotonic()
         self.uses = uses_of_crates()
         self.crates = crates_below("qm_prog", self.uses)
-        self.done = set()
+        self.done: set[str] = set()
         self.counted = ""
         self.waits = False
 
-    def tell(self, what):
+    def tell(self, what: str) -> None:
         self.told = time.monotonic()
         say(f"{self.told - self.started:.0f} s: {what}")
 
-    def read(self, line):
+    def read(self, line: str) -> None:
         self.waits = "waiting for" in line
         if self.waits:
             self.tell(line)
@@ -190,18 +189,18 @@ class Progress:
             # (these lines come when the crate has been gone through)
             self.end(line.split()[1].partition("::")[0])
 
-    def end(self, crate):
+    def end(self, crate: str) -> None:
         if crate in self.crates and crate not in self.done:
             self.done.update(crates_below(crate, self.uses))
             self.counted = ""
             self.tell(f"{crate} is proved, {len(self.done)} of {len(self.crates)} crates")
 
-    def beat(self):
+    def beat(self) -> None:
         if time.monotonic() - self.told > QUIET_SECONDS:
             at = f"proving {self.at_work()}{f', {self.counted}' if self.counted else ''}"
             self.tell("still waiting" if self.waits else at)
 
-    def at_work(self):
+    def at_work(self) -> str:
         """The crate whose library is begun and not whole, as far as its folder tells."""
         for crate in self.crates:
             library = ROOT / "crates" / crate / "out/rlib"
@@ -210,7 +209,7 @@ class Progress:
         return "the next crate"
 
 
-def jobs():
+def jobs() -> int:
     """A job a processor, as many as memory holds."""
     fitting = 8
     for line in (bytes_of(pathlib.Path("/proc/meminfo")) or b"").splitlines():
@@ -219,7 +218,7 @@ def jobs():
     return max(min(len(os.sched_getaffinity(0)), fitting), 1)
 
 
-def stop(tool):
+def stop(tool: subprocess.Popen[bytes]) -> None:
     """Ends the prover with all that it has started."""
     for asked in (signal.SIGTERM, signal.SIGKILL):
         try:
@@ -232,7 +231,7 @@ def stop(tool):
             continue
 
 
-def make():
+def make() -> bool:
     """Runs the prover and the compiler over the sources, and returns whether the program was made and answers."""
     # The empty text is the empty mesh, so this run of the program ends well and prints nothing.
     words = ["rt", "run", "--jobs", str(jobs()), "--", "tidy"]
@@ -265,7 +264,7 @@ def make():
             stop(tool)
 
 
-def show_error():
+def show_error() -> None:
     """Shows what the prover found wrong, without what it lists besides."""
     listed = ("checked ", "statements ", "logic", "linked ", "so far: ", "by-macro: ", "only=", "empty contracts: ")
     lines = LOG.read_text(errors="replace").splitlines()
@@ -279,12 +278,23 @@ def show_error():
     say(f"the build failed; its whole log is {LOG}")
 
 
-def build():
+def why_not_dist() -> str:
+    """Why the program of dist/ is not the one of these sources, as far as a glance tells."""
+    if told_of_sources('is_in_dist "$(sum_of_sources)" && echo yes'):
+        return "the sources are not built here"
+    if not (ROOT / "dist/quadq").exists():
+        return "there is no dist/quadq of these sources"
+    if told_of_sources("is_whole && echo yes"):
+        return "the sources are not those of dist/quadq"
+    return "dist/quadq is not the file that dist/README.md names"
+
+
+def build() -> bool:
     """Builds where need be, and returns whether the program is current."""
     if is_current():
         return True
     if not shutil.which("rt"):
-        say("not built, and the Rattle kit's command rt is not on the PATH")
+        say(f"{why_not_dist()}, and the Rattle kit's command rt, which builds them, is not on the PATH")
         return False
     BUILD.mkdir(exist_ok=True)
     say("proving and building the program; the first time takes an hour or more")
@@ -303,7 +313,7 @@ def build():
     return True
 
 
-def clear():
+def clear() -> None:
     """Removes what an unfinished build has left."""
     LOG.unlink(missing_ok=True)
     try:
@@ -313,7 +323,7 @@ def clear():
         pass
 
 
-def run(words, closed):
+def run(words: list[str], closed: list[int]) -> NoReturn:
     """Runs the program in the place of this process, with its streams and signals as they were given."""
     signal.signal(signal.SIGPIPE, signal.SIG_DFL)
     signal.signal(signal.SIGXFSZ, signal.SIG_DFL)
@@ -322,15 +332,12 @@ def run(words, closed):
     os.execv(PROGRAM, [str(PROGRAM), *words])
 
 
-def stopped(number, _):
+def stopped(number: int, _: object) -> NoReturn:
     raise Stopped(number)
 
 
-def main(words):
+def main(words: list[str]) -> int:
     closed = fill_closed_streams()
-    if words == ["--sum"]:
-        print(checksum())
-        return 0
     if words[:1] == ["--keep"]:
         listed, summed = listing(), checksum()
         if words[1:] == [summed] and MADE.is_file():

@@ -3,16 +3,17 @@ _quadq() {
     local word=${COMP_WORDS[COMP_CWORD]} words=
     if [ "$COMP_CWORD" -eq 1 ]; then
         words="tidy graph refine remesh check bench"
-    elif [ "${COMP_WORDS[1]}" = refine ] && [ "$COMP_CWORD" -eq 2 ]; then
-        words="--by"
-    elif [ "${COMP_WORDS[1]}" = bench ] && [ "$COMP_CWORD" -eq 2 ]; then
-        words="--size"
-    elif [ "${COMP_WORDS[1]}" = remesh ]; then
+    else
+        case ${COMP_WORDS[1]} in
+            refine) words="--by" ;;
+            remesh) words="--scale --floor --weight" ;;
+            bench) words="--size" ;;
+        esac
+        # The values of the option in front.
         case ${COMP_WORDS[COMP_CWORD - 1]} in
-            --scale) ;;
             --floor) words="1 2 3 auto" ;;
             --weight) words="plain length" ;;
-            *) words="--scale --floor --weight" ;;
+            --*) words= ;;
         esac
     fi
     mapfile -t COMPREPLY < <(compgen -W "$words" -- "$word")
