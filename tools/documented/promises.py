@@ -2,6 +2,7 @@
 
 from __future__ import annotations
 
+import functools
 import pathlib
 import re
 from typing import Iterator, NamedTuple
@@ -43,6 +44,20 @@ def is_type(text: str, name: str) -> bool:
     return bool(re.search(rf"^pub (?:struct|enum|trait) {name}\b", text, re.M))
 
 
+@functools.cache
+def fields() -> dict[str, set[str]]:
+    """The public fields of each record that definitions have."""
+    texts = "\n".join(it.read_text() for it in sorted(ROOT.glob("crates/*/specs/*.antt")))
+    records = re.findall(r"^pub record (\w+)([^\n]*\n(?:[ ]+[^\n]*\n)*)", texts, re.M)
+    return {name: set(re.findall(r"^  pub (\w+) :", body, re.M)) for name, body in records}
+
+
+def clauses_of(head: str) -> set[str]:
+    """The names of a function's clauses, and of the fields of each record that is a clause."""
+    records = re.findall(r"ensures(?: \w+)? \{ (\w+)", head)
+    return set(re.findall(r"ensures (\w+) \{", head)).union(*(fields().get(it, set()) for it in records))
+
+
 def faults_of_link(name: str, behind: list[str], code: Code) -> Iterator[str]:
     """What a link says wrongly of a name and of the words behind it."""
     bare = name.rpartition("::")[2]
@@ -53,7 +68,7 @@ def faults_of_link(name: str, behind: list[str], code: Code) -> Iterator[str]:
         yield f"`{name}` is no public function or type there"
     else:
         # (a trait's function has its clauses where the trait is declared)
-        clauses = set(re.findall(r"ensures (\w+) \{", head + (function(code.whole, bare) or "")))
+        clauses = clauses_of(head + (function(code.whole, bare) or ""))
         yield from (f"`{name}` has no clause `{it}`" for it in behind if it not in clauses)
 
 
