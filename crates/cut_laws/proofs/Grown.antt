@@ -5,7 +5,7 @@ use Rattle.def_mesh.specs.HalfEdges.{HalfEdges, IsQuadManifold}
 use Rattle.def_cut.specs.Cuts.{Cut, IsCorner, IsCut}
 use Rattle.def_cut.specs.Grids.{Cells, IsGrid}
 use Rattle.def_cut.specs.Laws.{GridLaw}
-use Rattle.def_cut.specs.Steps.{east, easts, norths}
+use Rattle.def_cut.specs.Steps.{step_east, easts, norths}
 use Rattle.cut_laws.specs.Grown.{grown, IsRow, IsGrown}
 use Rattle.cut_laws.proofs.Rows.{east_twin, north_twin, row_low, row_south, row_north_on, row_north_off, row_above, next_row, west_on, endless}
 
@@ -26,7 +26,7 @@ first_or_none p (suc n) = by_before (first_or_none p n) (cases_Bool (p n))
 -- A column is a row of the mesh turned by a quarter.
 pub norths_turned : (mesh : HalfEdges) (d j : ℕ) → mesh.next (norths mesh d j) ≡ easts mesh (mesh.next d) j
 norths_turned mesh d zero = refl
-norths_turned mesh d (suc j) = ap (east mesh) (norths_turned mesh d j)
+norths_turned mesh d (suc j) = ap (step_east mesh) (norths_turned mesh d j)
 
 module _ (mesh : HalfEdges) (laws : IsQuadManifold mesh) (cut : Cut) (full : IsCut mesh cut) where
   row_there : (d : ℕ) → IsCorner mesh cut d → (w : ℕ) × IsRow mesh cut d w

@@ -4,7 +4,7 @@ use Rattle.std.proofs.lemmas.Bool.{false≢true, true_from_ne_false, false_from_
 use Rattle.std.proofs.lemmas.Option.{same_Some}
 use Rattle.def_mesh.specs.HalfEdges.{HalfEdges, AreTurned, Turns, IsQuadManifold}
 use Rattle.def_cut.specs.Cuts.{Cut, IsCross, HasCross, GoesOn, IsCut}
-use Rattle.def_cut.specs.Steps.{or_zero, east, north, easts}
+use Rattle.def_cut.specs.Steps.{or_zero, step_east, step_north, easts}
 use Rattle.cut_laws.specs.Grown.{IsRow}
 use Rattle.cut_laws.proofs.Darts.{prev_three, prev_twice, turn_from, turn_low, turn_same, next_same, twin_same}
 use Rattle.cut_laws.proofs.Pigeon.{comes_back}
@@ -22,24 +22,24 @@ module _ (mesh : HalfEdges) (laws : IsQuadManifold mesh) (cut : Cut) (full : IsC
       by_twin None is = absurd (true≢false (sym (full.boundary d l is) ∙ off))
       by_twin (Some t) is = (t, is)
 
-  pub east_twin : (d : ℕ) → d < mesh.count → cut (mesh.next d) ≡ false → mesh.twin (mesh.next d) ≡ Some (mesh.prev (east mesh d))
+  pub east_twin : (d : ℕ) → d < mesh.count → cut (mesh.next d) ≡ false → mesh.twin (mesh.next d) ≡ Some (mesh.prev (step_east mesh d))
   east_twin d l off = let t : (t : ℕ) × (mesh.twin (mesh.next d) ≡ Some t) = twin_there (mesh.next d) (laws.next_low d l) off in t.1 ∙ ap Some (sym (laws.prev_next t.0) ∙ ap (λ o. mesh.prev (mesh.next (or_zero o))) (sym t.1))
 
-  pub north_twin : (d : ℕ) → d < mesh.count → cut (mesh.next (mesh.next d)) ≡ false → mesh.twin (mesh.next (mesh.next d)) ≡ Some (north mesh d)
+  pub north_twin : (d : ℕ) → d < mesh.count → cut (mesh.next (mesh.next d)) ≡ false → mesh.twin (mesh.next (mesh.next d)) ≡ Some (step_north mesh d)
   north_twin d l off = let t : (t : ℕ) × (mesh.twin (mesh.next (mesh.next d)) ≡ Some t) = twin_there (mesh.next (mesh.next d)) (laws.next_low (mesh.next d) (laws.next_low d l)) off in t.1 ∙ ap Some (ap or_zero (sym t.1))
 
-  pub east_low : (d : ℕ) → d < mesh.count → cut (mesh.next d) ≡ false → east mesh d < mesh.count
-  east_low d l off = subst (λ (x : ℕ). x < mesh.count) (laws.next_prev (east mesh d)) (laws.next_low (mesh.prev (east mesh d)) (laws.twin_low (mesh.next d) (mesh.prev (east mesh d)) (laws.next_low d l) (east_twin d l off)))
+  pub east_low : (d : ℕ) → d < mesh.count → cut (mesh.next d) ≡ false → step_east mesh d < mesh.count
+  east_low d l off = subst (λ (x : ℕ). x < mesh.count) (laws.next_prev (step_east mesh d)) (laws.next_low (mesh.prev (step_east mesh d)) (laws.twin_low (mesh.next d) (mesh.prev (step_east mesh d)) (laws.next_low d l) (east_twin d l off)))
 
-  pub north_low : (d : ℕ) → d < mesh.count → cut (mesh.next (mesh.next d)) ≡ false → north mesh d < mesh.count
-  north_low d l off = laws.twin_low (mesh.next (mesh.next d)) (north mesh d) (laws.next_low (mesh.next d) (laws.next_low d l)) (north_twin d l off)
+  pub north_low : (d : ℕ) → d < mesh.count → cut (mesh.next (mesh.next d)) ≡ false → step_north mesh d < mesh.count
+  north_low d l off = laws.twin_low (mesh.next (mesh.next d)) (step_north mesh d) (laws.next_low (mesh.next d) (laws.next_low d l)) (north_twin d l off)
 
   -- The edge west of the cell that lies east, and the edge south of the one that lies north, is not cut.
-  pub west_off : (d : ℕ) → d < mesh.count → cut (mesh.next d) ≡ false → cut (mesh.prev (east mesh d)) ≡ false
-  west_off d l off = full.alike (mesh.next d) (mesh.prev (east mesh d)) (laws.next_low d l) (east_twin d l off) ∙ off
+  pub west_off : (d : ℕ) → d < mesh.count → cut (mesh.next d) ≡ false → cut (mesh.prev (step_east mesh d)) ≡ false
+  west_off d l off = full.alike (mesh.next d) (mesh.prev (step_east mesh d)) (laws.next_low d l) (east_twin d l off) ∙ off
 
-  pub south_off : (d : ℕ) → d < mesh.count → cut (mesh.next (mesh.next d)) ≡ false → cut (north mesh d) ≡ false
-  south_off d l off = full.alike (mesh.next (mesh.next d)) (north mesh d) (laws.next_low (mesh.next d) (laws.next_low d l)) (north_twin d l off) ∙ off
+  pub south_off : (d : ℕ) → d < mesh.count → cut (mesh.next (mesh.next d)) ≡ false → cut (step_north mesh d) ≡ false
+  south_off d l off = full.alike (mesh.next (mesh.next d)) (step_north mesh d) (laws.next_low (mesh.next d) (laws.next_low d l)) (north_twin d l off) ∙ off
 
   -- Two neighbouring edges at a vertex that are not cut: then the next one is not cut either, one way round ..
   open_turn : (d e : ℕ) → d < mesh.count → IsOpen mesh cut d → mesh.twin (mesh.prev d) ≡ Some e → IsOpen mesh cut e
@@ -115,45 +115,45 @@ module _ (mesh : HalfEdges) (laws : IsQuadManifold mesh) (cut : Cut) (full : IsC
   cross_at d l free = full.crossed d l (λ e le s. let o : IsOpen mesh cut e = no_cut d l free e le s in (o.0, o.1))
 
   -- The south edge goes on to the east.
-  pub south_on : (d : ℕ) → d < mesh.count → cut d ≡ true → cut (mesh.next d) ≡ false → cut (east mesh d) ≡ true
+  pub south_on : (d : ℕ) → d < mesh.count → cut d ≡ true → cut (mesh.next d) ≡ false → cut (step_east mesh d) ≡ true
   south_on d l on off = by_gap (full.gaps d l on)
     where
-      by_gap : GoesOn mesh cut d → cut (east mesh d) ≡ true
+      by_gap : GoesOn mesh cut d → cut (step_east mesh d) ≡ true
       by_gap (inl c) = absurd (true≢false (sym c ∙ off))
       by_gap (inr g) = ap (λ o. cut (mesh.next (or_zero o))) g.1 ∙ g.2
 
   -- The east edge goes on to the north.
-  pub east_on : (d : ℕ) → d < mesh.count → cut (mesh.next d) ≡ true → cut (mesh.next (mesh.next d)) ≡ false → cut (mesh.next (north mesh d)) ≡ true
+  pub east_on : (d : ℕ) → d < mesh.count → cut (mesh.next d) ≡ true → cut (mesh.next (mesh.next d)) ≡ false → cut (mesh.next (step_north mesh d)) ≡ true
   east_on d l on off = by_gap (full.gaps (mesh.next d) (laws.next_low d l) on)
     where
-      by_gap : GoesOn mesh cut (mesh.next d) → cut (mesh.next (north mesh d)) ≡ true
+      by_gap : GoesOn mesh cut (mesh.next d) → cut (mesh.next (step_north mesh d)) ≡ true
       by_gap (inl c) = absurd (true≢false (sym c ∙ off))
       by_gap (inr g) = ap (λ o. cut (mesh.next (or_zero o))) g.1 ∙ g.2
 
   -- The west edge goes on to the north.
-  pub west_on : (d : ℕ) → d < mesh.count → cut (mesh.prev d) ≡ true → cut (mesh.next (mesh.next d)) ≡ false → cut (mesh.prev (north mesh d)) ≡ true
-  west_on d l on off = true_from_ne_false (cut (mesh.prev (north mesh d))) (λ c. false≢true (sym (no_cut (north mesh d) (north_low d l off) (south_off d l off, c) (mesh.prev d) (laws.prev_low d l) meets).0 ∙ on))
+  pub west_on : (d : ℕ) → d < mesh.count → cut (mesh.prev d) ≡ true → cut (mesh.next (mesh.next d)) ≡ false → cut (mesh.prev (step_north mesh d)) ≡ true
+  west_on d l on off = true_from_ne_false (cut (mesh.prev (step_north mesh d))) (λ c. false≢true (sym (no_cut (step_north mesh d) (north_low d l off) (south_off d l off, c) (mesh.prev d) (laws.prev_low d l) meets).0 ∙ on))
     where
-      meets : mesh.from (mesh.prev d) ≡ mesh.from (north mesh d)
-      meets = ap mesh.from (prev_three mesh laws d) ∙ sym (laws.twin_ends (mesh.next (mesh.next d)) (north mesh d) (laws.next_low (mesh.next d) (laws.next_low d l)) (north_twin d l off)).0
+      meets : mesh.from (mesh.prev d) ≡ mesh.from (step_north mesh d)
+      meets = ap mesh.from (prev_three mesh laws d) ∙ sym (laws.twin_ends (mesh.next (mesh.next d)) (step_north mesh d) (laws.next_low (mesh.next d) (laws.next_low d l)) (north_twin d l off)).0
 
   -- The north edges on both sides of an east edge that is not cut are cut or not together.
-  corner_east : (d : ℕ) → d < mesh.count → cut (mesh.next d) ≡ false → mesh.from (mesh.prev (east mesh d)) ≡ mesh.from (mesh.next (mesh.next d))
-  corner_east d l off = (laws.twin_ends (mesh.next d) (mesh.prev (east mesh d)) (laws.next_low d l) (east_twin d l off)).0
+  corner_east : (d : ℕ) → d < mesh.count → cut (mesh.next d) ≡ false → mesh.from (mesh.prev (step_east mesh d)) ≡ mesh.from (mesh.next (mesh.next d))
+  corner_east d l off = (laws.twin_ends (mesh.next d) (mesh.prev (step_east mesh d)) (laws.next_low d l) (east_twin d l off)).0
 
-  pub north_off : (d : ℕ) → d < mesh.count → cut (mesh.next d) ≡ false → cut (mesh.next (mesh.next d)) ≡ false → cut (mesh.next (mesh.next (east mesh d))) ≡ false
+  pub north_off : (d : ℕ) → d < mesh.count → cut (mesh.next d) ≡ false → cut (mesh.next (mesh.next d)) ≡ false → cut (mesh.next (mesh.next (step_east mesh d))) ≡ false
   north_off d l off up =
       let lx : mesh.next (mesh.next d) < mesh.count = laws.next_low (mesh.next d) (laws.next_low d l) in
       let free : IsOpen mesh cut (mesh.next (mesh.next d)) = (up, ap cut (laws.prev_next (mesh.next d)) ∙ off) in
-      let o : IsOpen mesh cut (mesh.prev (east mesh d)) = no_cut (mesh.next (mesh.next d)) lx free (mesh.prev (east mesh d)) (laws.prev_low (east mesh d) (east_low d l off)) (corner_east d l off) in
-      ap cut (sym (prev_twice mesh laws (east mesh d))) ∙ o.1
+      let o : IsOpen mesh cut (mesh.prev (step_east mesh d)) = no_cut (mesh.next (mesh.next d)) lx free (mesh.prev (step_east mesh d)) (laws.prev_low (step_east mesh d) (east_low d l off)) (corner_east d l off) in
+      ap cut (sym (prev_twice mesh laws (step_east mesh d))) ∙ o.1
 
-  pub north_on : (d : ℕ) → d < mesh.count → cut (mesh.next d) ≡ false → cut (mesh.next (mesh.next d)) ≡ true → cut (mesh.next (mesh.next (east mesh d))) ≡ true
-  north_on d l off up = true_from_ne_false (cut (mesh.next (mesh.next (east mesh d)))) (λ c. false≢true (sym (no_cut (mesh.prev (east mesh d)) (laws.prev_low (east mesh d) (east_low d l off)) (west_off d l off, ap cut (prev_twice mesh laws (east mesh d)) ∙ c) (mesh.next (mesh.next d)) (laws.next_low (mesh.next d) (laws.next_low d l)) (sym (corner_east d l off))).0 ∙ up))
+  pub north_on : (d : ℕ) → d < mesh.count → cut (mesh.next d) ≡ false → cut (mesh.next (mesh.next d)) ≡ true → cut (mesh.next (mesh.next (step_east mesh d))) ≡ true
+  north_on d l off up = true_from_ne_false (cut (mesh.next (mesh.next (step_east mesh d)))) (λ c. false≢true (sym (no_cut (mesh.prev (step_east mesh d)) (laws.prev_low (step_east mesh d) (east_low d l off)) (west_off d l off, ap cut (prev_twice mesh laws (step_east mesh d)) ∙ c) (mesh.next (mesh.next d)) (laws.next_low (mesh.next d) (laws.next_low d l)) (sym (corner_east d l off))).0 ∙ up))
 
   -- East and north of a cell without a cut edge there: the edge between the two cells above is not cut, and both ways
   -- lead to one cell.
-  pub square : (d : ℕ) → d < mesh.count → cut (mesh.next d) ≡ false → cut (mesh.next (mesh.next d)) ≡ false → (cut (mesh.next (north mesh d)) ≡ false) × (east mesh (north mesh d) ≡ north mesh (east mesh d))
+  pub square : (d : ℕ) → d < mesh.count → cut (mesh.next d) ≡ false → cut (mesh.next (mesh.next d)) ≡ false → (cut (mesh.next (step_north mesh d)) ≡ false) × (step_east mesh (step_north mesh d) ≡ step_north mesh (step_east mesh d))
   square d l off up = let c : HasCross mesh (mesh.next (mesh.next d)) = cross_at (mesh.next (mesh.next d)) lx free in by_cross c.0 c.1 c.2 c.3
     where
       lx : mesh.next (mesh.next d) < mesh.count
@@ -162,17 +162,17 @@ module _ (mesh : HalfEdges) (laws : IsQuadManifold mesh) (cut : Cut) (full : IsC
       free : IsOpen mesh cut (mesh.next (mesh.next d))
       free = (up, ap cut (laws.prev_next (mesh.next d)) ∙ off)
 
-      by_cross : (a b c : ℕ) → IsCross mesh (mesh.next (mesh.next d)) a b c → (cut (mesh.next (north mesh d)) ≡ false) × (east mesh (north mesh d) ≡ north mesh (east mesh d))
+      by_cross : (a b c : ℕ) → IsCross mesh (mesh.next (mesh.next d)) a b c → (cut (mesh.next (step_north mesh d)) ≡ false) × (step_east mesh (step_north mesh d) ≡ step_north mesh (step_east mesh d))
       by_cross a b c is =
           let x : ℕ = mesh.next (mesh.next d) in
-          let first : a ≡ mesh.prev (east mesh d) = same_Some a (mesh.prev (east mesh d)) (sym is.first ∙ (ap mesh.twin (laws.prev_next (mesh.next d)) ∙ east_twin d l off)) in
+          let first : a ≡ mesh.prev (step_east mesh d) = same_Some a (mesh.prev (step_east mesh d)) (sym is.first ∙ (ap mesh.twin (laws.prev_next (mesh.next d)) ∙ east_twin d l off)) in
           let la : a < mesh.count = turn_low mesh laws x a lx is.first in
           let lb : b < mesh.count = turn_low mesh laws a b la is.second in
           let lc : c < mesh.count = turn_low mesh laws b c lb is.third in
-          let above : north mesh (east mesh d) ≡ b = ap (λ y. or_zero (mesh.twin y)) (sym (ap mesh.prev first ∙ prev_twice mesh laws (east mesh d))) ∙ ap or_zero is.second in
-          let last : mesh.prev c ≡ north mesh d = same_Some (mesh.prev c) (north mesh d) (sym (laws.twin_twin (mesh.prev c) x (laws.prev_low c lc) is.last) ∙ north_twin d l up) in
-          let right : c ≡ mesh.next (north mesh d) = sym (laws.next_prev c) ∙ ap mesh.next last in
-          let back : mesh.twin (mesh.next (north mesh d)) ≡ Some (mesh.prev b) = ap mesh.twin (sym right) ∙ laws.twin_twin (mesh.prev b) c (laws.prev_low b lb) is.third in
+          let above : step_north mesh (step_east mesh d) ≡ b = ap (λ y. or_zero (mesh.twin y)) (sym (ap mesh.prev first ∙ prev_twice mesh laws (step_east mesh d))) ∙ ap or_zero is.second in
+          let last : mesh.prev c ≡ step_north mesh d = same_Some (mesh.prev c) (step_north mesh d) (sym (laws.twin_twin (mesh.prev c) x (laws.prev_low c lc) is.last) ∙ north_twin d l up) in
+          let right : c ≡ mesh.next (step_north mesh d) = sym (laws.next_prev c) ∙ ap mesh.next last in
+          let back : mesh.twin (mesh.next (step_north mesh d)) ≡ Some (mesh.prev b) = ap mesh.twin (sym right) ∙ laws.twin_twin (mesh.prev b) c (laws.prev_low b lb) is.third in
           let at : mesh.from c ≡ mesh.from x = turn_from mesh laws b c lb is.third ∙ (turn_from mesh laws a b la is.second ∙ turn_from mesh laws x a lx is.first) in
           let o : IsOpen mesh cut c = no_cut x lx free c lc at in
           (ap cut (sym right) ∙ o.0, ap (λ y. mesh.next (or_zero y)) back ∙ (laws.next_prev b ∙ sym above))
@@ -197,12 +197,12 @@ module _ (mesh : HalfEdges) (laws : IsQuadManifold mesh) (cut : Cut) (full : IsC
   row_north_off s w row off (suc i) l = north_off (easts mesh s i) (row_low s w row i (omega arith)) (row.inside i l) (row_north_off s w row off i (omega arith))
 
   -- The cells over a row are a row of the same width.
-  pub row_above : (s w : ℕ) → IsRow mesh cut s w → cut (mesh.next (mesh.next s)) ≡ false → (i : ℕ) → i < w → easts mesh (north mesh s) i ≡ north mesh (easts mesh s i)
+  pub row_above : (s w : ℕ) → IsRow mesh cut s w → cut (mesh.next (mesh.next s)) ≡ false → (i : ℕ) → i < w → easts mesh (step_north mesh s) i ≡ step_north mesh (easts mesh s i)
   row_above s w row off zero l = refl
   row_above s w row off (suc i) l =
-      ap (east mesh) (row_above s w row off i (omega arith)) ∙ (square (easts mesh s i) (row_low s w row i (omega arith)) (row.inside i l) (row_north_off s w row off i (omega arith))).1
+      ap (step_east mesh) (row_above s w row off i (omega arith)) ∙ (square (easts mesh s i) (row_low s w row i (omega arith)) (row.inside i l) (row_north_off s w row off i (omega arith))).1
 
-  pub next_row : (s w : ℕ) → IsRow mesh cut s w → cut (mesh.next (mesh.next s)) ≡ false → IsRow mesh cut (north mesh s) w
+  pub next_row : (s w : ℕ) → IsRow mesh cut s w → cut (mesh.next (mesh.next s)) ≡ false → IsRow mesh cut (step_north mesh s) w
   next_row s w row off = record {
     wide = row.wide;
     low = north_low s row.low off;
@@ -211,8 +211,8 @@ module _ (mesh : HalfEdges) (laws : IsQuadManifold mesh) (cut : Cut) (full : IsC
   }
 
   -- A row whose west edge is cut ends.
-  east_same : (d e : ℕ) → d < mesh.count → e < mesh.count → cut (mesh.next d) ≡ false → cut (mesh.next e) ≡ false → east mesh d ≡ east mesh e → d ≡ e
-  east_same d e ld le offd offe s = next_same mesh laws d e (twin_same mesh laws (mesh.next d) (mesh.next e) (mesh.prev (east mesh d)) (laws.next_low d ld) (laws.next_low e le) (east_twin d ld offd) (east_twin e le offe ∙ ap (λ x. Some (mesh.prev x)) (sym s)))
+  east_same : (d e : ℕ) → d < mesh.count → e < mesh.count → cut (mesh.next d) ≡ false → cut (mesh.next e) ≡ false → step_east mesh d ≡ step_east mesh e → d ≡ e
+  east_same d e ld le offd offe s = next_same mesh laws d e (twin_same mesh laws (mesh.next d) (mesh.next e) (mesh.prev (step_east mesh d)) (laws.next_low d ld) (laws.next_low e le) (east_twin d ld offd) (east_twin e le offe ∙ ap (λ x. Some (mesh.prev x)) (sym s)))
 
   pub endless : (d : ℕ) → d < mesh.count → cut (mesh.prev d) ≡ true → ((i : ℕ) → i ≤ mesh.count → cut (mesh.next (easts mesh d i)) ≡ false) → ⊥
   endless d l on off = by_round (comes_back mesh.count (easts mesh d) low (λ i j li lj s. east_same (easts mesh d i) (easts mesh d j) (low i (omega arith)) (low j (omega arith)) (off i (omega arith)) (off j (omega arith)) s))

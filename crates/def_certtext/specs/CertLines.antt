@@ -8,7 +8,7 @@ use Rattle.def_text.specs.declared.letters.TheConstants.{HASH, SPACE}
 use Rattle.def_flow.specs.declared.cert.Cert.{Cert}
 use Rattle.def_certtext.specs.declared.CertLine.{CertLine}
 use Rattle.def_certtext.specs.declared.CertLine.TheVariants as lines
-use Rattle.def_certtext.specs.declared.TheConstants.{FLOOR, LENGTH, SET, VERTEX}
+use Rattle.def_certtext.specs.declared.TheConstants.{FLOOR, LENGTH, SET, DUAL_VERTEX}
 
 -- A certificate as its four lists.
 pub record Lists : Type 0 where
@@ -26,14 +26,14 @@ abbrev pub HasUps : (lists : Lists) → Type 0
 HasUps lists = length lists.up ≡ length lists.y + length lists.z
 
 -- A number and its `up` behind this letter.
-abbrev pub dual_text : (letter : ℕ) (number : ℤ) (up : ℕ) → Bytes
-dual_text letter number up = HASH ∷ letter ∷ SPACE ∷ signed_decimal number ++ SPACE ∷ decimal up
+abbrev pub dual_line : (letter : ℕ) (number : ℤ) (up : ℕ) → Bytes
+dual_line letter number up = HASH ∷ letter ∷ SPACE ∷ signed_decimal number ++ SPACE ∷ decimal up
 
 -- A line without its end.
 abbrev pub line_text : (line : CertLine) → Bytes
 line_text (lines.Length n) = HASH ∷ LENGTH ∷ SPACE ∷ decimal n
-line_text (lines.Vertex number up) = dual_text VERTEX number up
-line_text (lines.Set number up) = dual_text SET number up
+line_text (lines.Vertex number up) = dual_line DUAL_VERTEX number up
+line_text (lines.Set number up) = dual_line SET number up
 line_text (lines.Floor floor) = HASH ∷ FLOOR ∷ SPACE ∷ decimal floor
 
 -- Lines as a text, each with its end.
@@ -41,17 +41,17 @@ abbrev pub text_of : (said : List CertLine) → Bytes
 text_of said = flat_map (λ line. line_text line ++ LINE_FEED ∷ []) said
 
 -- A line for each number and its `up`.
-abbrev pub numbered : (kind : ℤ → ℕ → CertLine) (numbers : List ℤ) (ups : List ℕ) → List CertLine
-numbered kind [] ups = []
-numbered kind (number ∷ numbers) [] = []
-numbered kind (number ∷ numbers) (up ∷ ups) = kind number up ∷ numbered kind numbers ups
+abbrev pub dual_lines : (kind : ℤ → ℕ → CertLine) (numbers : List ℤ) (ups : List ℕ) → List CertLine
+dual_lines kind [] ups = []
+dual_lines kind (number ∷ numbers) [] = []
+dual_lines kind (number ∷ numbers) (up ∷ ups) = kind number up ∷ dual_lines kind numbers ups
 
 -- The lines of a certificate: first the arcs, then the vertices, then the sets.
 abbrev pub said_by : (lists : Lists) → List CertLine
 said_by lists =
     map lines.Length lists.x
-    ++ numbered lines.Vertex lists.y (take (length lists.y) lists.up)
-    ++ numbered lines.Set lists.z (drop (length lists.y) lists.up)
+    ++ dual_lines lines.Vertex lists.y (take (length lists.y) lists.up)
+    ++ dual_lines lines.Set lists.z (drop (length lists.y) lists.up)
 
 -- The same as a text.
 abbrev pub cert_lines : (cert : Cert) → Bytes

@@ -24,7 +24,7 @@ pub record IsPrintable (soup : FaceSet) : Type 0 where
   pub corners : IsTrue (names_below (2 ^ 32) soup.faces)
 
 -- A certificate that can be written: its lines may stand, and each vertex and each set has its `up`.
-pub record IsWritable (lists : Lists) : Type 0 where
+pub record IsWritableCert (lists : Lists) : Type 0 where
   pub ups : HasUps lists
   pub allowed : list_all (may_stand false) (said_by lists) ≡ true
 
@@ -51,7 +51,7 @@ TellsOnly text made =
 abbrev pub WrittenLaw : Type 0
 WrittenLaw =
     (settings : Settings) (soup : FaceSet) (cert : Lists) → AreInRange settings false → IsPrintable soup
-    → IsWritable cert
+    → IsWritableCert cert
     → TellsOnly (written_text settings false soup (said_by cert))
     (record { settings = settings; auto = false; first = None; cert = cert })
 
@@ -60,5 +60,5 @@ abbrev pub ChosenLaw : Type 0
 ChosenLaw =
     (settings : Settings) (soup : FaceSet) (first : Lists) (third : Option Lists) → AreInRange settings true
     → IsPrintable soup
-    → IsWritable first → ((lists : Lists) → third ≡ Some lists → IsWritable lists)
+    → IsWritableCert first → ((lists : Lists) → third ≡ Some lists → IsWritableCert lists)
     → TellsOnly (written_text settings true soup (chosen_lines first third)) (chosen settings first third)

@@ -14,8 +14,8 @@ use Rattle.def_certtext.specs.Settings.{AreInRange}
 use Rattle.def_certtext.specs.declared.CertFail.{CertFail}
 use Rattle.def_certtext.specs.declared.CertFail.TheVariants as fails
 use Rattle.def_certtext.specs.declared.CertLine.{CertLine}
-use Rattle.def_certtext.specs.declared.CertLine.TheVariants.{Length, Vertex, Set, Floor}
-use Rattle.def_certtext.specs.declared.TheConstants.{NUMBER_LIMIT}
+use Rattle.def_certtext.specs.declared.CertLine.TheVariants as lines
+use Rattle.def_matching.specs.declared.limits.TheConstants.{NUMBER_LIMIT}
 use Rattle.def_certtext.specs.declared.Written.{Written}
 
 -- The settings, and the certificates as their lists.
@@ -45,10 +45,10 @@ is_small number up = nat_lt (unsigned_abs number) NUMBER_LIMIT && nat_lt up (2 ^
 
 -- A line that may stand; floors are named in a text of `auto` alone.
 abbrev pub may_stand : (auto : Bool) (line : CertLine) → Bool
-may_stand auto (Length n) = nat_le n MAX_LENGTH
-may_stand auto (Vertex number up) = is_small number up
-may_stand auto (Set number up) = is_small number up
-may_stand auto (Floor floor) = auto && ((floor == 1) || (floor == 3))
+may_stand auto (lines.Length n) = nat_le n MAX_LENGTH
+may_stand auto (lines.Vertex number up) = is_small number up
+may_stand auto (lines.Set number up) = is_small number up
+may_stand auto (lines.Floor floor) = auto && ((floor == 1) || (floor == 3))
 
 -- The text is this line, which may stand.
 pub record Says (auto : Bool) (text : Bytes) (line : CertLine) : Type 0 where
@@ -56,29 +56,29 @@ pub record Says (auto : Bool) (text : Bytes) (line : CertLine) : Type 0 where
   pub allowed : may_stand auto line ≡ true
 
 -- A line that begins with `#`.
-abbrev pub is_marked : (line : Bytes) → Bool
-is_marked [] = false
-is_marked (byte ∷ _) = byte == HASH
+abbrev pub is_hash_line : (line : Bytes) → Bool
+is_hash_line [] = false
+is_hash_line (byte ∷ _) = byte == HASH
 
 -- What a line adds to the lists.
 abbrev pub length_in : (line : CertLine) → List ℕ
-length_in (Length n) = n ∷ []
+length_in (lines.Length n) = n ∷ []
 length_in _ = []
 
 abbrev pub vertex_in : (line : CertLine) → List ℤ
-vertex_in (Vertex number up) = number ∷ []
+vertex_in (lines.Vertex number up) = number ∷ []
 vertex_in _ = []
 
 abbrev pub vertex_up_in : (line : CertLine) → List ℕ
-vertex_up_in (Vertex number up) = up ∷ []
+vertex_up_in (lines.Vertex number up) = up ∷ []
 vertex_up_in _ = []
 
 abbrev pub set_in : (line : CertLine) → List ℤ
-set_in (Set number up) = number ∷ []
+set_in (lines.Set number up) = number ∷ []
 set_in _ = []
 
 abbrev pub set_up_in : (line : CertLine) → List ℕ
-set_up_in (Set number up) = up ∷ []
+set_up_in (lines.Set number up) = up ∷ []
 set_up_in _ = []
 
 -- The lists of lines in any order: all `up` of vertices stand before those of sets.
@@ -92,7 +92,7 @@ lists_in said = record {
 
 -- The line `#f 3`.
 abbrev pub is_third : (line : CertLine) → Bool
-is_third (Floor floor) = floor == 3
+is_third (lines.Floor floor) = floor == 3
 is_third _ = false
 
 -- The certificate for floor 1, where one for floor 3 follows.
@@ -107,7 +107,7 @@ cert_in said = if list_any is_third said then lists_in (after_first is_third sai
 pub record TellHow (head : Bytes) (behind : Lines) (made : Made) : Type 0 where
   pub settings : IsHead head made.settings made.auto
   pub said : List CertLine
-  pub texts : filter is_marked behind ≡ map line_text said
+  pub texts : filter is_hash_line behind ≡ map line_text said
   pub allowed : list_all (may_stand made.auto) said ≡ true
   pub first : made.first ≡ first_in said
   pub cert : made.cert ≡ cert_in said
@@ -115,9 +115,9 @@ pub record TellHow (head : Bytes) (behind : Lines) (made : Made) : Type 0 where
 -- Line k is the first of these that begins with `#` and is no certificate line.
 pub record IsFirstBad (auto : Bool) (behind : Lines) (k : ℕ) : Type 0 where
   pub there : k < length behind
-  pub marked : is_marked (slice_index_or behind k []) ≡ true
+  pub marked : is_hash_line (slice_index_or behind k []) ≡ true
   pub bad : (line : CertLine) → ¬ Says auto (slice_index_or behind k []) line
-  pub before : (j : ℕ) → j < k → is_marked (slice_index_or behind j []) ≡ true
+  pub before : (j : ℕ) → j < k → is_hash_line (slice_index_or behind j []) ≡ true
       → (line : CertLine) × Says auto (slice_index_or behind j []) line
 
 -- Behind a head line the first bad line has this number, where the first of all has another.

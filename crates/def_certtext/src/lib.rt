@@ -9,16 +9,13 @@ use thiserror::Error;
 pub const LENGTH: u8 = b'x';
 
 /// `y`, before the number of a vertex of the matching graph.
-pub const VERTEX: u8 = b'y';
+pub const DUAL_VERTEX: u8 = b'y';
 
 /// `s`, before the number of a set.
 pub const SET: u8 = b's';
 
 /// `f`, before the floor of the certificate that follows.
 pub const FLOOR: u8 = b'f';
-
-/// The numbers of a dual are below this in absolute value: they have at most 18 digits.
-pub const NUMBER_LIMIT: u64 = 1_000_000_000_000_000_000;
 
 /// What one line of a certificate says.
 #[derive(Clone, Copy, Debug, PartialEq, Eq)]

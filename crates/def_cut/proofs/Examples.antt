@@ -7,7 +7,7 @@ use Rattle.def_cut.specs.declared.moving.Moving.{Moving}
 use Rattle.def_cut.specs.declared.graph.Stop.{Stop}
 use Rattle.def_cut.specs.declared.graph.Stop.TheVariants.{Boundary, Tie}
 use Rattle.def_cut.specs.Traced.{terrain_of, last_state, end_state}
-use Rattle.def_cut.specs.Events.{EventState, may_ride, may_settle, after_ride_of, after_settling, first_of}
+use Rattle.def_cut.specs.Events.{EventState, may_ride, may_settle, after_ride_of, after_settling, first_event_state}
 
 -- A square with two notches.
 abbrev notched : Faces
@@ -65,18 +65,18 @@ instants x rs vs zero = x
 instants x rs vs (suc n) = instants (instant x rs vs) rs vs n
 
 -- Both orders lead to the same end.
-increasing : stops (instants (first_of notched) (range_with_len 0 4) (range_with_len 0 23) 3).riders ≡ notched_stops
+increasing : stops (instants (first_event_state notched) (range_with_len 0 4) (range_with_len 0 23) 3).riders ≡ notched_stops
 increasing = refl
 
-falling : stops (instants (first_of notched) (reverse (range_with_len 0 4)) (reverse (range_with_len 0 23)) 3).riders ≡ notched_stops
+falling : stops (instants (first_event_state notched) (reverse (range_with_len 0 4)) (reverse (range_with_len 0 23)) 3).riders ≡ notched_stops
 falling = refl
 
-falling_rides : rides (instants (first_of notched) (reverse (range_with_len 0 4)) (reverse (range_with_len 0 23)) 3).riders ≡ 2 ∷ 3 ∷ 3 ∷ 2 ∷ []
+falling_rides : rides (instants (first_event_state notched) (reverse (range_with_len 0 4)) (reverse (range_with_len 0 23)) 3).riders ≡ 2 ∷ 3 ∷ 3 ∷ 2 ∷ []
 falling_rides = refl
 
 -- After the rides of riders 0 and 1 alone nobody may ride again, and nothing may be settled yet.
 abbrev two_rides : EventState
-two_rides = ride_each (first_of notched) (0 ∷ 1 ∷ [])
+two_rides = ride_each (first_event_state notched) (0 ∷ 1 ∷ [])
 
 not_twice : map (may_ride two_rides) (0 ∷ 1 ∷ 2 ∷ 3 ∷ []) ≡ false ∷ false ∷ true ∷ true ∷ []
 not_twice = refl
@@ -86,7 +86,7 @@ not_yet = refl
 
 -- In the second instant, after vertex 15 alone is settled, rider 0 has its stop and rider 1 has none yet.
 abbrev one_settled : EventState
-one_settled = settle_each (ride_each (instants (first_of notched) (range_with_len 0 4) (range_with_len 0 23) 1) (range_with_len 0 4)) (15 ∷ [])
+one_settled = settle_each (ride_each (instants (first_event_state notched) (range_with_len 0 4) (range_with_len 0 23) 1) (range_with_len 0 4)) (15 ∷ [])
 
 half_way : stops one_settled.riders ≡ Some (Tie 15) ∷ None ∷ None ∷ None ∷ []
 half_way = refl

@@ -77,13 +77,13 @@ after_ride_of g x r = record {
 }
 
 -- Dart d ends at v.
-abbrev pub ends_at : (g : Terrain) (v d : ℕ) → Bool
-ends_at g v d = end_of g d == v
+abbrev pub leads_to : (g : Terrain) (v d : ℕ) → Bool
+leads_to g v d = end_of g d == v
 
 -- Vertex v may be settled where nobody waits, some noted dart ends there, and it is not settled yet.
 abbrev pub may_settle : (g : Terrain) (x : EventState) (v : ℕ) → Bool
 may_settle g x v =
-    (waiting x.riders x.noted == 0) && (list_any (ends_at g v) (darts_in x.noted) && not (is_on x.settled v))
+    (waiting x.riders x.noted == 0) && (list_any (leads_to g v) (darts_in x.noted) && not (is_on x.settled v))
 
 -- A rider that is told its stop, or to go straight on.
 abbrev pub told : (g : Terrain) (d : ℕ) (r : Moving) (stop : Option Stop) → Moving
@@ -93,7 +93,7 @@ told g d r None = record { dart = or_else (straight g d) d; rides = r.rides; sto
 -- A rider after v is settled: it is told where its noted dart ends at v.
 abbrev pub told_at : (g : Terrain) (stood : ℕ → Bool) (darts : List ℕ) (v : ℕ) (r : Moving) (note : Option ℕ) → Moving
 told_at g stood darts v r None = r
-told_at g stood darts v r (Some d) = cond (ends_at g v d) (told g d r (stop_of g stood darts d)) r
+told_at g stood darts v r (Some d) = cond (leads_to g v d) (told g d r (stop_of g stood darts d)) r
 
 -- All riders after v is settled.
 abbrev pub all_told : (g : Terrain) (stood : ℕ → Bool) (darts : List ℕ) (v : ℕ) (riders : List Moving)
@@ -113,8 +113,8 @@ decided_at g x v = record {
 }
 
 -- All vertices where these darts end are settled.
-abbrev pub is_closed : (g : Terrain) (settled : List Bool) (darts : List ℕ) → Bool
-is_closed g settled darts = list_all (λ d. is_on settled (end_of g d)) darts
+abbrev pub are_ends_settled : (g : Terrain) (settled : List Bool) (darts : List ℕ) → Bool
+are_ends_settled g settled darts = list_all (λ d. is_on settled (end_of g d)) darts
 
 -- The end of an instant: no dart is noted and no vertex settled any more.
 abbrev pub closed : (x : EventState) → EventState
@@ -128,7 +128,7 @@ closed x = record {
 
 -- The same state, or the end of its instant where that has come.
 abbrev pub if_closed : (g : Terrain) (x : EventState) → EventState
-if_closed g x = cond (is_closed g x.settled (darts_in x.noted)) (closed x) x
+if_closed g x = cond (are_ends_settled g x.settled (darts_in x.noted)) (closed x) x
 
 -- The state after v is settled.
 abbrev pub after_settling : (g : Terrain) (x : EventState) (v : ℕ) → EventState
@@ -180,9 +180,9 @@ abbrev pub NobodyRuns : (x : EventState) → Type 0
 NobodyRuns x = (r : ℕ) → r < length x.riders → ¬ ((rider_at x.riders r).stop ≡ None)
 
 -- The first event state of a mesh.
-abbrev pub first_of : (faces : Faces) → EventState
-first_of faces = first_state (terrain_of faces) (vertex_count faces) (start_darts faces)
+abbrev pub first_event_state : (faces : Faces) → EventState
+first_event_state faces = first_state (terrain_of faces) (vertex_count faces) (start_darts faces)
 
 -- An event state that is reached on a mesh.
 abbrev pub IsMotionOf : (faces : Faces) (x : EventState) → Type 0
-IsMotionOf faces x = (events : List Event) × Leads (terrain_of faces) (first_of faces) events x
+IsMotionOf faces x = (events : List Event) × Leads (terrain_of faces) (first_event_state faces) events x

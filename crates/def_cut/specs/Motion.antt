@@ -128,5 +128,5 @@ later g s zero = s
 later g s (suc n) = step g (later g s n)
 
 -- The state so many steps after the first.
-abbrev pub after : (g : Terrain) (starts : List ℕ) (steps : ℕ) → State
-after g starts n = later g (start g starts) n
+abbrev pub after_steps : (g : Terrain) (starts : List ℕ) (steps : ℕ) → State
+after_steps g starts n = later g (start g starts) n

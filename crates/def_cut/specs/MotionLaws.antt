@@ -6,9 +6,9 @@ use Rattle.def_mesh.specs.Kinds.{is_inner}
 use Rattle.def_mesh.specs.Manifold.{IsManifold}
 use Rattle.def_mesh.specs.Components.{start_darts}
 use Rattle.def_cut.specs.FullCut.{is_on, IsFullCut}
-use Rattle.def_cut.specs.Motion.{State, ridden, after}
+use Rattle.def_cut.specs.Motion.{State, ridden, after_steps}
 use Rattle.def_cut.specs.Traced.{terrain_of, last_state, traced_marks}
-use Rattle.def_cut.specs.Events.{EventState, Event, May, Leads, NobodyRuns, rider_at, rides_in, first_of}
+use Rattle.def_cut.specs.Events.{EventState, Event, May, Leads, NobodyRuns, rider_at, rides_in, first_event_state}
 
 -- A rider has stood at v, or v is a boundary vertex.
 abbrev pub IsKnown : (faces : Faces) (s : State) (v : ℕ) → Type 0
@@ -25,11 +25,11 @@ pub record IsLawful (faces : Faces) (s : State) : Type 0 where
 -- So each state of the motion is.
 abbrev pub StateLaw : Type 0
 StateLaw = (faces : Faces) → IsManifold faces → (steps : ℕ)
-    → IsLawful faces (after (terrain_of faces) (start_darts faces) steps)
+    → IsLawful faces (after_steps (terrain_of faces) (start_darts faces) steps)
 
 -- The motion ends, and the traced graph is a full cut.
-abbrev pub GraphLaw : Type 0
-GraphLaw = (faces : Faces) → IsManifold faces
+abbrev pub TracedGraphLaw : Type 0
+TracedGraphLaw = (faces : Faces) → IsManifold faces
     → (ridden (last_state faces).riders ≡ []) × IsFullCut faces (traced_marks faces)
 
 -- In a state to which these events lead: where a rider runs some event is possible; there are at most as many rides as
@@ -44,4 +44,4 @@ pub record IsInOrder (faces : Faces) (events : List Event) (x : EventState) : Ty
 -- Riders of one instant may be moved in any order.
 abbrev pub OrderLaw : Type 0
 OrderLaw = (faces : Faces) → IsManifold faces → (events : List Event) (x : EventState)
-    → Leads (terrain_of faces) (first_of faces) events x → IsInOrder faces events x
+    → Leads (terrain_of faces) (first_event_state faces) events x → IsInOrder faces events x

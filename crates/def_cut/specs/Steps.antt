@@ -17,18 +17,18 @@ or_zero None = 0
 or_zero (Some d) = d
 
 -- The dart straight on from d. It is the south dart of the cell to the east of the cell with south dart d.
-abbrev pub east : (mesh : HalfEdges) (d : ℕ) → ℕ
-east mesh d = mesh.next (or_zero (mesh.twin (mesh.next d)))
+abbrev pub step_east : (mesh : HalfEdges) (d : ℕ) → ℕ
+step_east mesh d = mesh.next (or_zero (mesh.twin (mesh.next d)))
 
 -- The south dart of the cell to the north of the cell with south dart d.
-abbrev pub north : (mesh : HalfEdges) (d : ℕ) → ℕ
-north mesh d = or_zero (mesh.twin (mesh.next (mesh.next d)))
+abbrev pub step_north : (mesh : HalfEdges) (d : ℕ) → ℕ
+step_north mesh d = or_zero (mesh.twin (mesh.next (mesh.next d)))
 
 -- The i-th dart straight on from d, and the j-th cell to the north.
 abbrev pub easts : (mesh : HalfEdges) (d i : ℕ) → ℕ
 easts mesh d zero = d
-easts mesh d (suc i) = east mesh (easts mesh d i)
+easts mesh d (suc i) = step_east mesh (easts mesh d i)
 
 abbrev pub norths : (mesh : HalfEdges) (d j : ℕ) → ℕ
 norths mesh d zero = d
-norths mesh d (suc j) = north mesh (norths mesh d j)
+norths mesh d (suc j) = step_north mesh (norths mesh d j)

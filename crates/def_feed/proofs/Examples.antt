@@ -3,13 +3,13 @@ use Rattle.std.proofs.Common.{◌≡◌, ◌++◌, ℕ, pos, List, [], ◌∷◌
 use Rattle.std.specs.Prelude.{codes}
 use Rattle.def_text.specs.Text.{soup_in}
 use Rattle.def_text.specs.declared.refusal.ObjFail.TheVariants.{Range, Syntax}
-use Rattle.def_feed.specs.Kept.{Kept, soup_with}
+use Rattle.def_feed.specs.Kept.{KeptText, soup_with}
 
 -- A text that is cut within its third physical line.
 prefix : List ℕ
 prefix = codes "v 0 0 0\r\nf 1 1 \\\n1 "
 
-half : Kept
+half : KeptText
 half = record {
   positions = (pos 0 ∷ pos 0 ∷ pos 0 ∷ []) ∷ [];
   faces = [];

@@ -6,11 +6,11 @@ use Rattle.def_io.specs.declared.TheConstants.{LINE_FEED}
 use Rattle.def_text.specs.FaceSet.{FaceSet}
 use Rattle.def_text.specs.Text.{soup_in}
 use Rattle.def_text.specs.declared.refusal.ObjFail.{ObjFail}
-use Rattle.def_feed.specs.Kept.{Kept, soup_with}
+use Rattle.def_feed.specs.Kept.{KeptText, soup_with}
 
 -- A feed: what it keeps, and the first refusal, once there is one.
 pub record Fed : Type 0 where
-  pub kept : Kept
+  pub kept : KeptText
   pub refused : Option ObjFail
 
 -- The refusal, where there is one, and else what is said.

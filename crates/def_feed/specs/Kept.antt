@@ -15,7 +15,7 @@ use Rattle.def_text.specs.declared.refusal.ObjFail.{ObjFail}
 -- What is kept: the positions and the faces so far, with the line of each face; the number of the physical line that
 -- ends next; of the logical line that has not ended the number and what is left to read of its physical lines that
 -- have ended; and the bytes behind the last line feed.
-pub record Kept : Type 0 where
+pub record KeptText : Type 0 where
   pub positions : Positions
   pub faces : Faces
   pub lines : List ℕ
@@ -31,7 +31,7 @@ face_readings (line ∷ lines) [] = []
 face_readings (line ∷ lines) (corners ∷ faces) = Face line corners ∷ face_readings lines faces
 
 -- What the lines that were read say.
-abbrev pub kept_readings : (kept : Kept) → List Reading
+abbrev pub kept_readings : (kept : KeptText) → List Reading
 kept_readings kept = map (λ position. Position position) kept.positions ++ face_readings kept.lines kept.faces
 
 -- Logical lines of which the first has this number and this text in front.
@@ -53,14 +53,14 @@ readings_behind vertices faces (line ∷ lines) =
     (faces + (if is_face_line line then 1 else 0)) lines
 
 -- The logical lines that are to be read, where these physical lines stand behind those that have ended.
-abbrev pub logical_behind : (kept : Kept) (lines : Lines) → List Logical
+abbrev pub logical_behind : (kept : KeptText) (lines : Lines) → List Logical
 logical_behind kept lines = with_joined kept.begun kept.joined (logical_lines kept.next lines)
 
 -- The soup with these physical lines behind, or the first refusal.
-abbrev pub soup_with_lines : (kept : Kept) (lines : Lines) → Result FaceSet ObjFail
+abbrev pub soup_with_lines : (kept : KeptText) (lines : Lines) → Result FaceSet ObjFail
 soup_with_lines kept lines = soup_of (kept_readings kept
     ++ readings_behind (length kept.positions) (length kept.faces) (logical_behind kept lines))
 
 -- The soup with these bytes behind, or the first refusal.
-abbrev pub soup_with : (kept : Kept) (more : Bytes) → Result FaceSet ObjFail
+abbrev pub soup_with : (kept : KeptText) (more : Bytes) → Result FaceSet ObjFail
 soup_with kept more = soup_with_lines kept (lines_of (kept.tail ++ more))

@@ -2,7 +2,7 @@
 use Rattle.std.specs.Prelude.{◌≡◌, ℕ, ◌+◌, ◌*◌, ◌/◌, ◌<◌, ◌≤◌, max, List, length, map}
 use Rattle.def_matching.specs.Dual.{IsSmallDual}
 use Rattle.def_flow.specs.Network.{Network, ArcNumber, arc_at}
-use Rattle.def_flow.specs.Admissible.{AreLengths, IsAdmissible, deviation, entries}
+use Rattle.def_flow.specs.Admissible.{AreNetLengths, IsAdmissible, deviation, entries}
 use Rattle.def_flow.specs.Accepted.{Certificate, IsAccepted}
 use Rattle.def_flow.specs.declared.limits.TheConstants.{MAX_LENGTH}
 use Rattle.def_flow.specs.declared.net.Arc.{Arc}
@@ -15,15 +15,15 @@ pub record IsStartOf (net : Network) (xs : List ℕ) : Type 0 where
       → net.p * (arc_at net.arcs k).old + deviation net (entries xs) ≤ MAX_LENGTH * net.q
 
 -- The old lengths, so many times.
-abbrev pub multiple_of : (times : ℕ) (arcs : List Arc) → List ℕ
-multiple_of times arcs = map (λ a. times * a.old) arcs
+abbrev pub times_old : (times : ℕ) (arcs : List Arc) → List ℕ
+times_old times arcs = map (λ a. times * a.old) arcs
 
 -- The multiple of the old lengths that is at least the floor and nearest to what is wanted from below.
 abbrev pub old_multiple : (net : Network) → List ℕ
-old_multiple net = multiple_of (max net.floor (net.p / net.q)) net.arcs
+old_multiple net = times_old (max net.floor (net.p / net.q)) net.arcs
 
 -- An accepted certificate with lengths and numbers in range.
 pub record IsSolution (net : Network) (c : Certificate) : Type 0 where
   pub accepted : IsAccepted net c
-  pub lengths : AreLengths net.arcs c.x
+  pub lengths : AreNetLengths net.arcs c.x
   pub small : IsSmallDual c.dual

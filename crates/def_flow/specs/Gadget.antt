@@ -2,7 +2,7 @@
 use Rattle.std.specs.Prelude.{◌≡◌, ℕ, ◌+◌, ◌*◌, ◌<◌, ◌≤◌, List, length, map, slice_index}
 use Rattle.def_matching.specs.Matching.{graph}
 use Rattle.def_flow.specs.Network.{Network, tangle_number}
-use Rattle.def_flow.specs.Admissible.{AreLengths, IsAdmissible, entries}
+use Rattle.def_flow.specs.Admissible.{AreNetLengths, IsAdmissible, entries}
 use Rattle.def_flow.specs.Units.{low, cap}
 use Rattle.def_flow.specs.MatchingGraph.{matching_graph}
 use Rattle.def_flow.specs.declared.gadget.Gadget.{Gadget}
@@ -29,7 +29,7 @@ caps net step xs = map (cap net step) xs
 -- A gadget is the matching graph of some admissible list, with the lows and caps of its arcs.
 pub record IsGadgetOf (net : Network) (g : Gadget) : Type 0 where
   pub x : List ℕ
-  pub lengths : AreLengths net.arcs x
+  pub lengths : AreNetLengths net.arcs x
   pub admissible : IsAdmissible net (entries x)
   pub tangle : tangle_number net ≤ MAX_TANGLE
   pub steps : (1 ≤ g.step) × (g.step ≤ MAX_STEP)

@@ -9,8 +9,8 @@ use Rattle.def_flow.specs.Accepted.{Certificate, IsAccepted}
 use Rattle.def_flow.specs.declared.limits.TheConstants.{MAX_SCALE, MAX_WEIGHT}
 
 -- The graph law: the matching graph is a graph.
-abbrev pub GraphLaw : Type 0
-GraphLaw = (net : Network) (step : ℕ) (xs : List ℕ) → IsWithinBounds net → IsGraph (matching_graph net step xs)
+abbrev pub MatchingGraphLaw : Type 0
+MatchingGraphLaw = (net : Network) (step : ℕ) (xs : List ℕ) → IsWithinBounds net → IsGraph (matching_graph net step xs)
 
 -- The cost law: no edge costs more than the greatest weight and scale make of a step, up or down.
 abbrev pub CostLaw : Type 0

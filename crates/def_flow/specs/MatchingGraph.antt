@@ -2,7 +2,7 @@
 use Rattle.std.specs.Prelude.{ℕ, zero, suc, ◌+◌, ◌-◌, ◌*◌, ◌%◌, Bool, cond, not, ◌==◌, List, [], ◌∷◌, ◌++◌, length}
 use Rattle.std.specs.Prelude.{Option, Some, None, ℤ, pos}
 use Rattle.def_math.specs.Counts.{count, count_below}
-use Rattle.def_matching.specs.Matching.{Graph, Vertex}
+use Rattle.def_matching.specs.Matching.{WeightedGraph, Vertex}
 use Rattle.def_matching.specs.declared.weighted.WEdge.{WEdge}
 use Rattle.def_flow.specs.Network.{Network, Node}
 use Rattle.def_flow.specs.Units.{units, states_at, active, rim_active}
@@ -101,7 +101,7 @@ lone_vertex nodes copies_at lone us = cond lone (Some (count_below copies_at nod
 
 -- The graph of units over nodes with copies. Its vertices are the copies, those of the units, the lone vertex
 -- where there is one, and the pairs at the rim.
-abbrev pub graph_by : (nodes : ℕ) (copies_at : Copies) (lone : Bool) (us : List ArcUnit) → Graph
+abbrev pub graph_by : (nodes : ℕ) (copies_at : Copies) (lone : Bool) (us : List ArcUnit) → WeightedGraph
 graph_by nodes copies_at lone us = record {
   n = first_fresh nodes copies_at lone us + 2 * (length (rim (count_below copies_at nodes) us) - 1);
   edges = units_links copies_at (count_below copies_at nodes) us
@@ -111,9 +111,9 @@ graph_by nodes copies_at lone us = record {
 
 -- The graph of units in their states: a copy for each active end, and a lone vertex where an odd number of
 -- units of one-ended arcs are active.
-abbrev pub graph_of_units : (nodes : ℕ) (us : List ArcUnit) (ons : List Bool) → Graph
+abbrev pub graph_of_units : (nodes : ℕ) (us : List ArcUnit) (ons : List Bool) → WeightedGraph
 graph_of_units nodes us ons = graph_by nodes (λ v. active v us ons) (rim_active us ons % 2 == 1) us
 
 -- The matching graph of a list of lengths, with units a step long.
-abbrev pub matching_graph : (net : Network) (step : ℕ) (xs : List ℕ) → Graph
+abbrev pub matching_graph : (net : Network) (step : ℕ) (xs : List ℕ) → WeightedGraph
 matching_graph net step xs = graph_of_units net.nodes (units net step net.arcs xs) (states_at net step xs)

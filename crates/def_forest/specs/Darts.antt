@@ -1,6 +1,6 @@
 -- The darts of a graph: its edges with a direction.
 use Rattle.std.specs.Prelude.{◌≡◌, ℕ, ◌+◌, ◌-◌, ◌*◌, ◌/◌, ◌%◌, ◌<◌, ◌==◌, if◌then◌else◌, length, ℤ}
-use Rattle.def_matching.specs.Matching.{Graph, Vertex, edge_at}
+use Rattle.def_matching.specs.Matching.{WeightedGraph, Vertex, edge_at}
 
 -- A dart is a number, twice that of its edge, or one more for the other direction.
 abbrev pub Dart : Type 0
@@ -26,15 +26,15 @@ pub record AreDarts (g : Darts) : Type 0 where
   pub cost_twin : (d : Dart) → g.cost (g.twin d) ≡ g.cost d
 
 -- The other dart of the same edge.
-abbrev pub twin_of : (d : Dart) → Dart
-twin_of d = if d % 2 == 0 then d + 1 else d - 1
+abbrev pub other_dart : (d : Dart) → Dart
+other_dart d = if d % 2 == 0 then d + 1 else d - 1
 
 -- The darts of a graph.
-abbrev pub darts_of : (g : Graph) → Darts
+abbrev pub darts_of : (g : WeightedGraph) → Darts
 darts_of g = record {
   n = g.n;
   count = 2 * length g.edges;
   near = λ d. if d % 2 == 0 then (edge_at g (d / 2)).u else (edge_at g (d / 2)).v;
-  twin = twin_of;
+  twin = other_dart;
   cost = λ d. (edge_at g (d / 2)).cost;
 }

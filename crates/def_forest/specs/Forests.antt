@@ -42,8 +42,8 @@ abbrev pub splits : (set : Vertex → Bool) (u v : Vertex) → Bool
 splits set u v = if set u then not (set v) else set v
 
 -- The load between two vertices: the weights of the blossoms that hold exactly one of them.
-abbrev pub load : (f : Forest) (u v : Vertex) → ℤ
-load f u v = total_below (λ b. if splits (f.holds b) u v then f.weight b else pos 0) f.size
+abbrev pub weight_between : (f : Forest) (u v : Vertex) → ℤ
+weight_between f u v = total_below (λ b. if splits (f.holds b) u v then f.weight b else pos 0) f.size
 
 -- The sum of all weights.
 abbrev pub dual_sum_of : (f : Forest) → ℤ
@@ -52,15 +52,15 @@ dual_sum_of f = total_below f.weight f.size
 -- The load of a dart is twice its cost.
 pub record IsTight (g : Darts) (f : Forest) (d : Dart) : Type 0 where
   pub low : d < g.count
-  pub exact : load f (g.near d) (far g d) ≡ g.cost d +ℤ g.cost d
+  pub exact : weight_between f (g.near d) (far g d) ≡ g.cost d +ℤ g.cost d
 
 -- A blossom is the outermost one of some vertex.
 abbrev pub IsOutermost : (n : ℕ) (f : Forest) (b : Blossom) → Type 0
 IsOutermost n f b = (v : Vertex) × (v < n) × (f.out v ≡ b)
 
 -- 1 for true, 0 for false.
-abbrev pub number : (b : Bool) → ℕ
-number b = if b then 1 else 0
+abbrev pub bool_number : (b : Bool) → ℕ
+bool_number b = if b then 1 else 0
 
 -- So many steps from where one is.
 abbrev pub walk : (next : ℕ → ℕ) (from steps : ℕ) → ℕ
@@ -77,8 +77,8 @@ abbrev pub set_at : {X : Type 0} (f : ℕ → X) (place : ℕ) (value : X) → �
 set_at f place value k = if k == place then value else f k
 
 -- How many vertices a blossom holds.
-abbrev pub vertices_in : (n : ℕ) (f : Forest) (b : Blossom) → ℕ
-vertices_in n f b = count_below (λ v. number (f.holds b v)) n
+abbrev pub blossom_size : (n : ℕ) (f : Forest) (b : Blossom) → ℕ
+blossom_size n f b = count_below (λ v. bool_number (f.holds b v)) n
 
 -- 1 for the number of a set that is in use: a number from n on that has parts.
 abbrev pub live_at : (n : ℕ) (parts : Blossom → ℕ) (b : Blossom) → ℕ

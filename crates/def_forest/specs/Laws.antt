@@ -1,9 +1,9 @@
 -- The laws of forests.
 use Rattle.std.specs.Prelude.{◌≢◌, ◌*◌, ◌%◌, ◌<◌, ◌≤◌, ◌⊎◌, ◌+ℤ◌, ◌*ℤ◌, ◌≤ℤ◌, pos, List, ◌≡◌, ℕ, Bool, if◌then◌else◌, ℤ}
 use Rattle.std.specs.Prelude.{length, Option, Some, None}
-use Rattle.def_matching.specs.Matching.{Graph, EdgeNumber, IsGraph, IsPerfect, edge_at, matching_cost}
+use Rattle.def_matching.specs.Matching.{WeightedGraph, EdgeNumber, IsGraph, IsPerfect, edge_at, matching_cost}
 use Rattle.def_forest.specs.Darts.{Dart, Darts, AreDarts, darts_of, far}
-use Rattle.def_forest.specs.Forests.{Blossom, Forest, IsOutermost, set_at, dual_sum_of, sets_of, vertices_in}
+use Rattle.def_forest.specs.Forests.{Blossom, Forest, IsOutermost, set_at, dual_sum_of, sets_of, blossom_size}
 use Rattle.def_forest.specs.Steps.{shifted, rooted, grown, with_mates, IsAugmented}
 use Rattle.def_forest.specs.Tables.{slack_of}
 use Rattle.def_forest.specs.Valid.{AreOutermost, IsFeasible, IsNested, IsTree, IsValid}
@@ -66,13 +66,13 @@ RiseLaw =
 abbrev pub OddLaw : Type 0
 OddLaw =
     (g : Darts) (f : Forest) (b : Blossom) → AreDarts g → IsNested g f → (b < g.n) ⊎ ((g.n ≤ b) × (f.nest.parts b ≢ 0))
-    → vertices_in g.n f b % 2 ≡ 1
+    → blossom_size g.n f b % 2 ≡ 1
 
 -- Each set holds three vertices at least.
 abbrev pub LargeLaw : Type 0
 LargeLaw =
     (g : Darts) (f : Forest) (b : Blossom) → AreDarts g → IsNested g f → g.n ≤ b → f.nest.parts b ≢ 0
-    → 3 ≤ vertices_in g.n f b
+    → 3 ≤ blossom_size g.n f b
 
 -- There are fewer than half as many sets as vertices where there is a vertex, and none where there is none.
 abbrev pub FewLaw : Type 0
@@ -83,13 +83,13 @@ FewLaw =
 -- Twice the cost of each perfect matching is at least the sum of the weights.
 abbrev pub BoundLaw : Type 0
 BoundLaw =
-    (g : Graph) (f : Forest) (root : Option Blossom) (m : List EdgeNumber) → IsGraph g → IsValid (darts_of g) f root
-    → IsPerfect g m
+    (g : WeightedGraph) (f : Forest) (root : Option Blossom) (m : List EdgeNumber)
+    → IsGraph g → IsValid (darts_of g) f root → IsPerfect g m
     → dual_sum_of f ≤ℤ (pos 2 *ℤ matching_cost g m)
 
 -- The slack between two outer blossoms is even.
 abbrev pub EvenLaw : Type 0
 EvenLaw =
-    (g : Graph) (f : Forest) (root : Option Blossom) (e : EdgeNumber) → IsGraph g → IsValid (darts_of g) f root
+    (g : WeightedGraph) (f : Forest) (root : Option Blossom) (e : EdgeNumber) → IsGraph g → IsValid (darts_of g) f root
     → e < length g.edges → f.label (f.out (edge_at g e).u) ≡ Outer → f.label (f.out (edge_at g e).v) ≡ Outer
     → (half : ℤ) × (slack_of g f e ≡ half +ℤ half)

@@ -1,7 +1,7 @@
 -- A matcher that is made for a graph.
 use Rattle.std.specs.Prelude.{◌≡◌, ℕ, ◌+◌, ◌*◌, ◌/◌, ◌<◌, ◌≤◌, length, None}
 use Rattle.std.specs.Prelude.{List, ℤ, pos, ◌+ℤ◌, ◌*ℤ◌, ◌≤ℤ◌, unsigned_abs, slice_index_or}
-use Rattle.def_matching.specs.Matching.{Graph, EdgeNumber, Vertex, IsCheap, edge_at}
+use Rattle.def_matching.specs.Matching.{WeightedGraph, EdgeNumber, Vertex, IsCheap, edge_at}
 use Rattle.def_matching.specs.declared.limits.TheConstants.{MAX_PRODUCT}
 use Rattle.def_matching.specs.Dual.{DualLists, SetNumber, y_at, z_at}
 use Rattle.def_forest.specs.Forests.{Blossom}
@@ -12,7 +12,7 @@ abbrev pub MAX_FIRST : ℕ
 MAX_FIRST = 2 * MAX_PRODUCT + MAX_PRODUCT / 2
 
 -- No cost is above a number, up or down.
-abbrev pub AreCostsBelow : (g : Graph) (most : ℕ) → Type 0
+abbrev pub AreCostsBelow : (g : WeightedGraph) (most : ℕ) → Type 0
 AreCostsBelow g most = (k : EdgeNumber) → k < length g.edges → unsigned_abs (edge_at g k).cost ≤ most
 
 -- No number of a dual is above a bound, up or down.
@@ -21,7 +21,7 @@ pub record AreAtMost (most : ℕ) (d : DualLists) : Type 0 where
   pub sets : (k : SetNumber) → k < length d.z → unsigned_abs (z_at d k) ≤ most
 
 -- Numbers of the vertices that may be the first weights: no edge has more at its ends than twice its cost.
-pub record AreFirst (g : Graph) (y : List ℤ) : Type 0 where
+pub record AreFirst (g : WeightedGraph) (y : List ℤ) : Type 0 where
   pub long : length y ≡ g.n
   pub range : (v : Vertex) → g.n * unsigned_abs (slice_index_or y v (pos 0)) ≤ MAX_FIRST
   pub feasible : (e : EdgeNumber) → e < length g.edges
@@ -30,7 +30,7 @@ pub record AreFirst (g : Graph) (y : List ℤ) : Type 0 where
 
 -- The forest is valid for the graph, no tree stands in it, no set has a weight, and where the costs are small, so are
 -- the weights.
-pub record IsMadeFor (g : Graph) (t : ForestTables) : Type 0 where
+pub record IsMadeFor (g : WeightedGraph) (t : ForestTables) : Type 0 where
   pub valid : IsValidFor g t
   pub no_tree : t.root ≡ None
   pub size : length t.up ≡ g.n + g.n / 2

@@ -3,7 +3,7 @@ use Rattle.std.specs.Prelude.{◌≡◌, ◌≢◌, ℕ, ◌+◌, ◌*◌, ◌<�
 use Rattle.std.specs.Prelude.{Some, None}
 use Rattle.def_matching.specs.Matching.{Vertex}
 use Rattle.def_forest.specs.Darts.{Dart, Darts, far}
-use Rattle.def_forest.specs.Forests.{Blossom, Forest, IsTight, number, walk, ring_sum, set_at}
+use Rattle.def_forest.specs.Forests.{Blossom, Forest, IsTight, bool_number, walk, ring_sum, set_at}
 use Rattle.def_forest.specs.Valid.{IsTree}
 use Rattle.def_forest.specs.declared.kinds.Label.TheVariants.{Outer, Outside}
 
@@ -41,7 +41,7 @@ pub record IsClosedRow (g : Darts) (f : Forest) (after : Blossom → Blossom) (j
   pub closed : walk after front many ≡ front
   pub marked : (k : ℕ) → inside (walk after front k) ≡ true
   pub shared : (v : Vertex) → v < g.n
-      → number (inside (f.out v)) ≡ ring_sum after (λ p. number (f.out v == p)) front many
+      → bool_number (inside (f.out v)) ≡ ring_sum after (λ p. bool_number (f.out v == p)) front many
   pub distinct : (i j : ℕ) → i < j → j < many → walk after front i ≢ walk after front j
   pub all : (x : Blossom) → inside x ≡ true → (k : ℕ) × (k < many) × (walk after front k ≡ x)
   pub tight : (x : Blossom) → inside x ≡ true → IsTight g f (joint x)

@@ -6,14 +6,14 @@ use Rattle.def_forest.specs.declared.kinds.Label.{Label}
 use Rattle.def_forest.specs.declared.kinds.Label.TheVariants.{Outer, Inner, Outside}
 
 -- How a shift by t changes a weight.
-abbrev pub change : (l : Label) (t : ℤ) → ℤ
-change Outer t = t
-change Inner t = pos 0 -ℤ t
-change Outside t = pos 0
+abbrev pub weight_change : (l : Label) (t : ℤ) → ℤ
+weight_change Outer t = t
+weight_change Inner t = pos 0 -ℤ t
+weight_change Outside t = pos 0
 
 -- A shift adds t at outer blossoms and takes it away at inner ones.
 abbrev pub shifted : (f : Forest) (t : ℤ) → Forest
-shifted f t = record f { weight = λ b. f.weight b +ℤ change (f.label b) t }
+shifted f t = record f { weight = λ b. f.weight b +ℤ weight_change (f.label b) t }
 
 -- A blossom that is not matched becomes the root and the whole tree.
 abbrev pub rooted : (f : Forest) (b : Blossom) → Forest

@@ -5,10 +5,10 @@ use Rattle.std.specs.Prelude.{slice_index, slice_index_or, Option, Some, None, i
 use Rattle.std.specs.Prelude.{ℤ, pos, ◌+ℤ◌, ◌-ℤ◌, ◌*ℤ◌, int_lt}
 use Rattle.def_math.specs.Counts.{count}
 use Rattle.def_math.specs.Increasing.{IsIncreasing}
-use Rattle.def_matching.specs.Matching.{Graph, Vertex, EdgeNumber, edge_at, ends_at}
+use Rattle.def_matching.specs.Matching.{WeightedGraph, Vertex, EdgeNumber, edge_at, ends_at}
 use Rattle.def_forest.specs.Darts.{Dart, darts_of}
-use Rattle.def_forest.specs.Forests.{Blossom, Forest, IsTight, load}
-use Rattle.def_forest.specs.Steps.{change}
+use Rattle.def_forest.specs.Forests.{Blossom, Forest, IsTight, weight_between}
+use Rattle.def_forest.specs.Steps.{weight_change}
 use Rattle.def_forest.specs.Valid.{IsValid}
 use Rattle.def_forest.specs.declared.kinds.Label.{Label}
 use Rattle.def_forest.specs.declared.kinds.Label.TheVariants.{Outer, Inner, Outside}
@@ -20,7 +20,7 @@ pub record GraphSize : Type 0 where
   pub vertices : ℕ
   pub edges : ℕ
 
-abbrev pub size_of : (g : Graph) → GraphSize
+abbrev pub size_of : (g : WeightedGraph) → GraphSize
 size_of g = record { vertices = g.n; edges = length g.edges }
 
 -- The tables. A vertex has a handle, and a handle its outermost blossom. A weight is kept without what the shifts of
@@ -57,7 +57,7 @@ label_at label b = slice_index_or label b Outside
 
 -- The weight of a blossom.
 abbrev pub weight_at : (base : List ℤ) (label : List Label) (delta : ℤ) (b : Blossom) → ℤ
-weight_at base label delta b = slice_index_or base b (pos 0) +ℤ change (label_at label b) delta
+weight_at base label delta b = slice_index_or base b (pos 0) +ℤ weight_change (label_at label b) delta
 
 -- The set around a blossom: numbers past the end have none, as outermost blossoms.
 abbrev pub up_at : (up : List Blossom) (b : Blossom) → Blossom
@@ -90,7 +90,7 @@ forest_of t = record {
 
 -- The forest is valid for a graph, whose darts begin where they do in the forest, and what it comes to can be written
 -- down.
-pub record IsValidFor (g : Graph) (t : ForestTables) : Type 0 where
+pub record IsValidFor (g : WeightedGraph) (t : ForestTables) : Type 0 where
   pub vertices : length t.hand ≡ g.n
   pub darts : length t.near ≡ 2 * length g.edges
   pub ends : (d : Dart) → d < 2 * length g.edges → slice_index t.near d ≡ (darts_of g).near d
@@ -102,8 +102,8 @@ abbrev pub IsOutermostIn : (t : ForestTables) (b : Blossom) → Type 0
 IsOutermostIn t b = (v : Vertex) × (v < length t.hand) × ((forest_of t).out v ≡ b)
 
 -- Twice the cost of an edge less its load.
-abbrev pub slack_of : (g : Graph) (f : Forest) (e : EdgeNumber) → ℤ
-slack_of g f e = (pos 2 *ℤ (edge_at g e).cost) -ℤ load f (edge_at g e).u (edge_at g e).v
+abbrev pub slack_of : (g : WeightedGraph) (f : Forest) (e : EdgeNumber) → ℤ
+slack_of g f e = (pos 2 *ℤ (edge_at g e).cost) -ℤ weight_between f (edge_at g e).u (edge_at g e).v
 
 -- What a tight edge between two outermost blossoms allows, by their labels and mates.
 abbrev pub kind_by : (a b : Label) (mate_a mate_b : Option Dart) (same : Bool) → EdgeKind
@@ -113,8 +113,8 @@ kind_by Outside Outer mate_a mate_b same = if is_some mate_a then Grow else Augm
 kind_by a b mate_a mate_b same = Idle
 
 -- The step that an edge allows.
-abbrev pub kind_of : (g : Graph) (f : Forest) (e : EdgeNumber) → EdgeKind
-kind_of g f e =
+abbrev pub edge_kind : (g : WeightedGraph) (f : Forest) (e : EdgeNumber) → EdgeKind
+edge_kind g f e =
     if int_lt (pos 0) (slack_of g f e) then Loose
     else kind_by (f.label (f.out (edge_at g e).u)) (f.label (f.out (edge_at g e).v))
     (f.mate (f.out (edge_at g e).u)) (f.mate (f.out (edge_at g e).v))
@@ -126,11 +126,11 @@ dart_by Outer e = 2 * e
 dart_by Inner e = 2 * e + 1
 dart_by Outside e = 2 * e + 1
 
-abbrev pub outer_dart : (g : Graph) (f : Forest) (e : EdgeNumber) → Dart
+abbrev pub outer_dart : (g : WeightedGraph) (f : Forest) (e : EdgeNumber) → Dart
 outer_dart g f e = dart_by (f.label (f.out (edge_at g e).u)) e
 
 -- Edges of a blossom, in increasing order and tight, that match each of its vertices but one once, and no other.
-pub record MatchesBut (g : Graph) (f : Forest) (b : Blossom) (v : Vertex) (m : List EdgeNumber) : Type 0 where
+pub record MatchesBut (g : WeightedGraph) (f : Forest) (b : Blossom) (v : Vertex) (m : List EdgeNumber) : Type 0 where
   pub increasing : IsIncreasing 0 (length g.edges) m
   pub tight : (k : ℕ) → k < length m → IsTight (darts_of g) f (2 * slice_index m k)
   pub once : (w : Vertex) → w < g.n → count (ends_at w) (map (edge_at g) m)

@@ -3,7 +3,7 @@ use Rattle.std.specs.Prelude.{◌≡◌, ◌≢◌, ℕ, ◌+◌, ◌*◌, ◌<�
 use Rattle.std.specs.Prelude.{◌⊎◌}
 use Rattle.def_matching.specs.Matching.{Vertex}
 use Rattle.def_forest.specs.Darts.{Dart, Darts, far}
-use Rattle.def_forest.specs.Forests.{Blossom, Forest, load, IsTight, IsOutermost, number, walk, ring_sum}
+use Rattle.def_forest.specs.Forests.{Blossom, Forest, weight_between, IsTight, IsOutermost, bool_number, walk, ring_sum}
 use Rattle.def_forest.specs.declared.kinds.Label.TheVariants.{Outer, Inner, Outside}
 
 -- The outermost blossoms share the vertices out, and only they have a place in the tree.
@@ -30,7 +30,8 @@ pub record IsRing (g : Darts) (f : Forest) (b : Blossom) : Type 0 where
   pub all : (p : Blossom) → f.nest.up p ≡ b → p ≢ b
       → (k : ℕ) × (k < f.nest.parts b) × (walk f.nest.after (f.nest.head b) k ≡ p)
   pub shared : (v : Vertex) → v < g.n
-      → number (f.holds b v) ≡ ring_sum f.nest.after (λ p. number (f.holds p v)) (f.nest.head b) (f.nest.parts b)
+      → bool_number (f.holds b v)
+      ≡ ring_sum f.nest.after (λ p. bool_number (f.holds p v)) (f.nest.head b) (f.nest.parts b)
 
 -- The dart from part p to the next is tight, and begins in the one and ends in the other.
 pub record IsJoint (g : Darts) (f : Forest) (p : Blossom) : Type 0 where
@@ -52,7 +53,7 @@ pub record IsNested (g : Darts) (f : Forest) : Type 0 where
 -- Sets have weights of at least 0, and no load is above twice the cost.
 pub record IsFeasible (g : Darts) (f : Forest) : Type 0 where
   pub sets : (b : Blossom) → g.n ≤ b → b < f.size → pos 0 ≤ℤ f.weight b
-  pub darts : (d : Dart) → d < g.count → load f (g.near d) (far g d) ≤ℤ (g.cost d +ℤ g.cost d)
+  pub darts : (d : Dart) → d < g.count → weight_between f (g.near d) (far g d) ≤ℤ (g.cost d +ℤ g.cost d)
 
 -- Blossom b is matched by dart d: it is tight, leaves b, and its twin matches the other blossom.
 pub record IsMate (g : Darts) (f : Forest) (b : Blossom) (d : Dart) : Type 0 where

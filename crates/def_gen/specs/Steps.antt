@@ -30,12 +30,12 @@ abbrev pub point_number : (n x y : ℕ) → ℕ
 point_number n x y = y * (columns n + 1) + x + 1
 
 -- The point in whole units, which are a million millionths.
-abbrev pub point : (x y : ℕ) → Position
-point x y = pos (x * 10 ^ 6) ∷ pos (y * 10 ^ 6) ∷ pos 0 ∷ []
+abbrev pub whole_point : (x y : ℕ) → Position
+whole_point x y = pos (x * 10 ^ 6) ∷ pos (y * 10 ^ 6) ∷ pos 0 ∷ []
 
 -- The points of a row, and all of the grid.
 abbrev pub row_points : (n y : ℕ) → Positions
-row_points n y = map (λ x. point x y) (range_with_len 0 (columns n + 1))
+row_points n y = map (λ x. whole_point x y) (range_with_len 0 (columns n + 1))
 
 abbrev pub grid_points : (n : ℕ) → Positions
 grid_points n = flat_map (row_points n) (range_with_len 0 (GREATEST_HEIGHT + 1))

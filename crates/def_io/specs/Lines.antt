@@ -5,14 +5,14 @@ use Rattle.def_io.specs.Bytes.{Bytes, Lines}
 use Rattle.def_io.specs.declared.TheConstants.{LINE_FEED, CARRIAGE_RETURN}
 
 -- A byte in front of the first of some pieces.
-abbrev pub in_front : (byte : ℕ) (pieces : Lines) → Lines
-in_front byte [] = (byte ∷ []) ∷ []
-in_front byte (piece ∷ pieces) = (byte ∷ piece) ∷ pieces
+abbrev pub byte_in_front : (byte : ℕ) (pieces : Lines) → Lines
+byte_in_front byte [] = (byte ∷ []) ∷ []
+byte_in_front byte (piece ∷ pieces) = (byte ∷ piece) ∷ pieces
 
 -- The text cut after each line feed: each piece has its own, and the last may lack one.
 abbrev pub pieces : (bytes : Bytes) → Lines
 pieces [] = []
-pieces (byte ∷ bytes) = if byte == LINE_FEED then (byte ∷ []) ∷ pieces bytes else in_front byte (pieces bytes)
+pieces (byte ∷ bytes) = if byte == LINE_FEED then (byte ∷ []) ∷ pieces bytes else byte_in_front byte (pieces bytes)
 
 -- The piece without this byte at its end, where it ends so.
 abbrev pub without_last : (byte : ℕ) (piece : Bytes) → Bytes

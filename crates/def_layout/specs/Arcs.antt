@@ -8,8 +8,8 @@ use Rattle.def_cut.specs.Steps.{easts}
 use Rattle.def_layout.specs.declared.tmesh.TArc.{TArc}
 
 -- The vertex where dart d ends.
-abbrev pub to : (mesh : HalfEdges) (d : ℕ) → ℕ
-to mesh d = mesh.from (mesh.next d)
+abbrev pub end_vertex : (mesh : HalfEdges) (d : ℕ) → ℕ
+end_vertex mesh d = mesh.from (mesh.next d)
 
 -- The n darts straight on from s are cut, and lead from a node to a node with no node between.
 pub record IsRun (mesh : HalfEdges) (cut : Cut) (node : ℕ → Bool) (s n : ℕ) : Type 0 where
@@ -17,8 +17,8 @@ pub record IsRun (mesh : HalfEdges) (cut : Cut) (node : ℕ → Bool) (s n : ℕ
   pub low : s < mesh.count
   pub begins : node (mesh.from s) ≡ true
   pub on : (k : ℕ) → k < n → cut (easts mesh s k) ≡ true
-  pub inside : (k : ℕ) → suc k < n → node (to mesh (easts mesh s k)) ≡ false
-  pub ends : (k : ℕ) → suc k ≡ n → node (to mesh (easts mesh s k)) ≡ true
+  pub inside : (k : ℕ) → suc k < n → node (end_vertex mesh (easts mesh s k)) ≡ false
+  pub ends : (k : ℕ) → suc k ≡ n → node (end_vertex mesh (easts mesh s k)) ≡ true
 
 -- An arc as contracts see it.
 pub record Path : Type 0 where
@@ -29,20 +29,20 @@ pub record Path : Type 0 where
 abbrev pub path : (arc : TArc) → Path
 path arc = record { first = arc.first; last = arc.last; darts = arc.darts.items }
 
-abbrev pub arc_at : (arcs : List Path) (arc : ℕ) → Path
-arc_at arcs arc = slice_index_or arcs arc (record { first = 0; last = 0; darts = [] })
+abbrev pub path_at : (arcs : List Path) (arc : ℕ) → Path
+path_at arcs arc = slice_index_or arcs arc (record { first = 0; last = 0; darts = [] })
 
 -- The k-th dart of an arc.
 abbrev pub dart_at : (arcs : List Path) (arc k : ℕ) → ℕ
-dart_at arcs arc k = slice_index (arc_at arcs arc).darts k
+dart_at arcs arc k = slice_index (path_at arcs arc).darts k
 
 -- Its old length.
 abbrev pub long_at : (arcs : List Path) (arc : ℕ) → ℕ
-long_at arcs arc = length (arc_at arcs arc).darts
+long_at arcs arc = length (path_at arcs arc).darts
 
 -- Its name: the least of its darts.
 abbrev pub name_at : (arcs : List Path) (arc : ℕ) → ℕ
-name_at arcs arc = least_of (arc_at arcs arc).darts
+name_at arcs arc = least_of (path_at arcs arc).darts
 
 -- The darts of an arc. The least of them is less than each of their twins.
 pub record IsArc (mesh : HalfEdges) (cut : Cut) (node : ℕ → Bool) (darts : List ℕ) : Type 0 where
@@ -57,7 +57,7 @@ LiesAt mesh darts false place d = mesh.twin (slice_index darts (length darts - 1
 
 -- All arcs of a cut, in order of their names.
 pub record AreArcs (mesh : HalfEdges) (cut : Cut) (node : ℕ → Bool) (arcs : List Path) : Type 0 where
-  pub each : (a : ℕ) → a < length arcs → IsArc mesh cut node (arc_at arcs a).darts
+  pub each : (a : ℕ) → a < length arcs → IsArc mesh cut node (path_at arcs a).darts
   pub ordered : (a : ℕ) → suc a < length arcs → name_at arcs a < name_at arcs (suc a)
   pub covers : (d : ℕ) → d < mesh.count → cut d ≡ true → (a : ℕ) × (place : ℕ) × (forward : Bool)
-      × (a < length arcs) × (place < long_at arcs a) × LiesAt mesh (arc_at arcs a).darts forward place d
+      × (a < length arcs) × (place < long_at arcs a) × LiesAt mesh (path_at arcs a).darts forward place d

@@ -1,6 +1,6 @@
 -- When a layout is that of a surface.
 use Rattle.std.specs.Prelude.{◌≡◌, ◌⊎◌, ℕ, ◌<◌, true}
-use Rattle.def_layout.specs.Layouts.{Way, Layout, Slot, IsSlot, AreReverse, use_of, use_before, start_of, end_of}
+use Rattle.def_layout.specs.Layouts.{Way, Layout, Slot, IsSlot, AreReverse, use_of, use_before, start_node, end_node}
 
 -- Sides are not empty, and name arcs and nodes that exist.
 pub record IsPaved (layout : Layout) : Type 0 where
@@ -10,8 +10,8 @@ pub record IsPaved (layout : Layout) : Type 0 where
   pub last_low : (arc : ℕ) → arc < layout.arcs → layout.last arc < layout.nodes
 
 -- One arc lies at both slots, in opposite directions: the patches are neighbours there.
-abbrev pub IsOther : (layout : Layout) (slot other : Slot) → Type 0
-IsOther layout slot other = IsSlot layout other × AreReverse (use_of layout slot) (use_of layout other)
+abbrev pub IsOtherSlot : (layout : Layout) (slot other : Slot) → Type 0
+IsOtherSlot layout slot other = IsSlot layout other × AreReverse (use_of layout slot) (use_of layout other)
 
 -- The patches of a layout are glued along their arcs.
 pub record IsLaid (layout : Layout) : Type 0 where
@@ -22,10 +22,10 @@ pub record IsLaid (layout : Layout) : Type 0 where
       → (w : Slot) × IsSlot layout w × (use_of layout w ≡ record { arc = arc; forward = true })
   -- A slot has another one, or lies on the boundary.
   pub other : (w : Slot) → IsSlot layout w
-      → ((v : Slot) × IsOther layout w v) ⊎ ((v : Slot) → ¬ IsOther layout w v)
+      → ((v : Slot) × IsOtherSlot layout w v) ⊎ ((v : Slot) → ¬ IsOtherSlot layout w v)
   -- An arc begins at each node, and each where the one before it ends.
   pub reached : (node : ℕ) → node < layout.nodes
-      → (w : Slot) × IsSlot layout w × (start_of layout (use_of layout w) ≡ node)
-  pub meet : (w : Slot) → IsSlot layout w → end_of layout (use_before layout w) ≡ start_of layout (use_of layout w)
+      → (w : Slot) × IsSlot layout w × (start_node layout (use_of layout w) ≡ node)
+  pub meet : (w : Slot) → IsSlot layout w → end_node layout (use_before layout w) ≡ start_node layout (use_of layout w)
   -- No patch is folded at a corner.
   pub no_fold : (w : Slot) → IsSlot layout w → w.at ≡ 0 → ¬ AreReverse (use_before layout w) (use_of layout w)

@@ -10,18 +10,18 @@ pub data Way : Type 0 where
   west : Way
 
 -- The next side, counter-clockwise.
-abbrev pub after : (side : Way) → Way
-after south = east
-after east = north
-after north = west
-after west = south
+abbrev pub side_after : (side : Way) → Way
+side_after south = east
+side_after east = north
+side_after north = west
+side_after west = south
 
 -- The side before it.
-abbrev pub before : (side : Way) → Way
-before south = west
-before east = south
-before north = east
-before west = north
+abbrev pub side_before : (side : Way) → Way
+side_before south = west
+side_before east = south
+side_before north = east
+side_before west = north
 
 -- A layout has so many nodes, arcs and patches. Each arc runs from its first node to its last one. A side of a patch
 -- uses so many arcs, one after the other, counter-clockwise, each in its own direction or against it.
@@ -35,12 +35,12 @@ pub record Layout : Type 0 where
   pub use_at : (patch : ℕ) (side : Way) (at : ℕ) → SideArc
 
 -- The node where an arc in use begins.
-abbrev pub start_of : (layout : Layout) (arc : SideArc) → ℕ
-start_of layout arc = cond arc.forward (layout.first arc.arc) (layout.last arc.arc)
+abbrev pub start_node : (layout : Layout) (arc : SideArc) → ℕ
+start_node layout arc = cond arc.forward (layout.first arc.arc) (layout.last arc.arc)
 
 -- The node where it ends.
-abbrev pub end_of : (layout : Layout) (arc : SideArc) → ℕ
-end_of layout arc = cond arc.forward (layout.last arc.arc) (layout.first arc.arc)
+abbrev pub end_node : (layout : Layout) (arc : SideArc) → ℕ
+end_node layout arc = cond arc.forward (layout.last arc.arc) (layout.first arc.arc)
 
 -- One arc used in both directions.
 pub record AreReverse (one other : SideArc) : Type 0 where
@@ -65,7 +65,7 @@ use_of layout slot = layout.use_at slot.patch slot.side slot.at
 -- The slot before that at a place of a side, going round the patch.
 abbrev pub slot_before : (layout : Layout) (patch : ℕ) (side : Way) (at : ℕ) → Slot
 slot_before layout patch side zero =
-    record { patch = patch; side = before side; at = layout.many patch (before side) - 1 }
+    record { patch = patch; side = side_before side; at = layout.many patch (side_before side) - 1 }
 slot_before layout patch side (suc at) = record { patch = patch; side = side; at = at }
 
 -- The arc that is used before a slot, going round the patch.

@@ -5,7 +5,7 @@ use Rattle.std.specs.List.{range_with_len}
 use Rattle.def_mesh.specs.HalfEdges.{HalfEdges}
 use Rattle.def_cut.specs.Cuts.{Cut}
 use Rattle.def_cut.specs.Grids.{Rectangle, rectangle, patch_at, IsPartition}
-use Rattle.def_layout.specs.Arcs.{to, Path, path, arc_at, dart_at, long_at, LiesAt, AreArcs}
+use Rattle.def_layout.specs.Arcs.{end_vertex, Path, path, path_at, dart_at, long_at, LiesAt, AreArcs}
 use Rattle.def_layout.specs.Borders.{side_size, border_dart}
 use Rattle.def_layout.specs.Layouts.{Way, south, east, north, west, Layout, Slot, IsSlot, use_of}
 use Rattle.def_layout.specs.Lengths.{reach, size}
@@ -33,15 +33,15 @@ plan tmesh = record {
 }
 
 -- The place of a side among the four.
-abbrev pub number : (side : Way) → ℕ
-number south = 0
-number east = 1
-number north = 2
-number west = 3
+abbrev pub way_number : (side : Way) → ℕ
+way_number south = 0
+way_number east = 1
+way_number north = 2
+way_number west = 3
 
 -- The arcs of a side of a patch.
 abbrev pub side_at : (plan : Plan) (patch : ℕ) (side : Way) → List SideArc
-side_at plan patch side = slice_index_or (slice_index_or plan.sides patch []) (number side) []
+side_at plan patch side = slice_index_or (slice_index_or plan.sides patch []) (way_number side) []
 
 -- The vertex of a node.
 abbrev pub vertex_at : (plan : Plan) (node : ℕ) → ℕ
@@ -53,8 +53,8 @@ layout_of plan = record {
   nodes = length plan.nodes;
   arcs = length plan.arcs;
   patches = length plan.patches;
-  first = λ arc. (arc_at plan.arcs arc).first;
-  last = λ arc. (arc_at plan.arcs arc).last;
+  first = λ arc. (path_at plan.arcs arc).first;
+  last = λ arc. (path_at plan.arcs arc).last;
   many = λ patch side. length (side_at plan patch side);
   use_at = λ patch side at. slice_index_or (side_at plan patch side) at (record { arc = 0; forward = true });
 }
@@ -66,12 +66,12 @@ pub record IsLayout
   pub nodes : plan.nodes ≡ filter node (range_with_len 0 vertices)
   pub arcs : AreArcs mesh cut node plan.arcs
   -- An arc runs from its first node to its last one.
-  pub first_low : (arc : ℕ) → arc < length plan.arcs → (arc_at plan.arcs arc).first < length plan.nodes
-  pub last_low : (arc : ℕ) → arc < length plan.arcs → (arc_at plan.arcs arc).last < length plan.nodes
+  pub first_low : (arc : ℕ) → arc < length plan.arcs → (path_at plan.arcs arc).first < length plan.nodes
+  pub last_low : (arc : ℕ) → arc < length plan.arcs → (path_at plan.arcs arc).last < length plan.nodes
   pub first_at : (arc : ℕ) → arc < length plan.arcs
-      → vertex_at plan (arc_at plan.arcs arc).first ≡ mesh.from (dart_at plan.arcs arc 0)
+      → vertex_at plan (path_at plan.arcs arc).first ≡ mesh.from (dart_at plan.arcs arc 0)
   pub last_at : (arc k : ℕ) → arc < length plan.arcs → suc k ≡ long_at plan.arcs arc
-      → vertex_at plan (arc_at plan.arcs arc).last ≡ to mesh (dart_at plan.arcs arc k)
+      → vertex_at plan (path_at plan.arcs arc).last ≡ end_vertex mesh (dart_at plan.arcs arc k)
   -- Each patch has four sides, whose arcs make up its border, one after the other.
   pub sided : length plan.sides ≡ length plan.patches
   pub four : (patch : ℕ) → patch < length plan.patches → length (slice_index_or plan.sides patch []) ≡ 4
@@ -80,7 +80,7 @@ pub record IsLayout
   pub uses : (slot : Slot) → IsSlot (layout_of plan) slot → (use_of (layout_of plan) slot).arc < length plan.arcs
   pub used : (slot : Slot) (offset : ℕ) → IsSlot (layout_of plan) slot
       → offset < long_at plan.arcs (use_of (layout_of plan) slot).arc
-      → LiesAt mesh (arc_at plan.arcs (use_of (layout_of plan) slot).arc).darts
+      → LiesAt mesh (path_at plan.arcs (use_of (layout_of plan) slot).arc).darts
       (use_of (layout_of plan) slot).forward offset
       (border_dart mesh (patch_at plan.patches slot.patch) slot.side
       (reach (layout_of plan) (long_at plan.arcs) slot.patch slot.side slot.at + offset))

@@ -1,23 +1,24 @@
 -- When a layout lies in a mesh: its cells are the faces, its nodes are vertices, and its arcs are runs of darts.
 use Rattle.std.specs.Prelude.{◌≡◌, ◌⊎◌, ℕ, ◌+◌, ◌-◌, ◌<◌, true, false, Some, None}
 use Rattle.def_mesh.specs.HalfEdges.{HalfEdges}
-use Rattle.def_layout.specs.Layouts.{east, north, south, west, Layout, Slot, IsSlot, use_of, start_of}
-use Rattle.def_layout.specs.Laid.{IsOther}
+use Rattle.def_layout.specs.Layouts.{east, north, south, west, Layout, Slot, IsSlot, use_of, start_node}
+use Rattle.def_layout.specs.Laid.{IsOtherSlot}
 use Rattle.def_layout.specs.Lengths.{Lengths, wide, high}
-use Rattle.def_layout.specs.Cells.{Dart, IsDart, dart, next, rim_at}
+use Rattle.def_layout.specs.Cells.{CellDart, IsDart, dart, next, slot_dart}
 
 -- `cell` gives the dart of the mesh for a dart of a cell, `vertex` the vertex for a node, and `arc_dart` the darts of
 -- an arc, counted along it. The lengths are the numbers of these darts.
 pub record IsSided
-    (mesh : HalfEdges) (layout : Layout) (lengths : Lengths) (cell : Dart → ℕ) (vertex : ℕ → ℕ) (arc_dart : ℕ → ℕ → ℕ)
+    (mesh : HalfEdges) (layout : Layout) (lengths : Lengths) (cell : CellDart → ℕ) (vertex : ℕ → ℕ)
+    (arc_dart : ℕ → ℕ → ℕ)
     : Type 0 where
   -- Each dart of the mesh is that of one dart of a cell, and each node has its own vertex.
-  pub low : (d : Dart) → IsDart layout lengths d → cell d < mesh.count
-  pub same : (d e : Dart) → IsDart layout lengths d → IsDart layout lengths e → cell d ≡ cell e → d ≡ e
-  pub onto : (k : ℕ) → k < mesh.count → (d : Dart) × IsDart layout lengths d × (cell d ≡ k)
+  pub low : (d : CellDart) → IsDart layout lengths d → cell d < mesh.count
+  pub same : (d e : CellDart) → IsDart layout lengths d → IsDart layout lengths e → cell d ≡ cell e → d ≡ e
+  pub onto : (k : ℕ) → k < mesh.count → (d : CellDart) × IsDart layout lengths d × (cell d ≡ k)
   pub vertex_same : (m n : ℕ) → m < layout.nodes → n < layout.nodes → vertex m ≡ vertex n → m ≡ n
   -- Cells are faces, and neighbours in a patch have an edge in common.
-  pub turned : (d : Dart) → cell (next d) ≡ mesh.next (cell d)
+  pub turned : (d : CellDart) → cell (next d) ≡ mesh.next (cell d)
   pub east_of : (p i j : ℕ) → p < layout.patches → i + 1 < wide layout lengths p → j < high layout lengths p
       → mesh.twin (cell (dart p i j east)) ≡ Some (cell (dart p (i + 1) j west))
   pub north_of : (p i j : ℕ) → p < layout.patches → i < wide layout lengths p → j + 1 < high layout lengths p
@@ -26,17 +27,17 @@ pub record IsSided
   pub forward : (arc : ℕ) → arc < layout.arcs
       → (w : Slot) × IsSlot layout w × (use_of layout w ≡ record { arc = arc; forward = true })
   pub other : (w : Slot) → IsSlot layout w
-      → ((v : Slot) × IsOther layout w v) ⊎ ((v : Slot) → ¬ IsOther layout w v)
+      → ((v : Slot) × IsOtherSlot layout w v) ⊎ ((v : Slot) → ¬ IsOtherSlot layout w v)
   pub reached : (node : ℕ) → node < layout.nodes
-      → (w : Slot) × IsSlot layout w × (start_of layout (use_of layout w) ≡ node)
+      → (w : Slot) × IsSlot layout w × (start_node layout (use_of layout w) ≡ node)
   -- The darts of an arc, in its own direction, are border darts, and so are their twins, on its other side.
   pub arc_low : (arc k : ℕ) → arc < layout.arcs → k < lengths arc → arc_dart arc k < mesh.count
   pub ahead : (w : Slot) (k : ℕ) → IsSlot layout w → k < lengths (use_of layout w).arc
-      → (use_of layout w).forward ≡ true → cell (rim_at layout lengths w k) ≡ arc_dart (use_of layout w).arc k
+      → (use_of layout w).forward ≡ true → cell (slot_dart layout lengths w k) ≡ arc_dart (use_of layout w).arc k
   pub behind : (w : Slot) (k : ℕ) → IsSlot layout w → k < lengths (use_of layout w).arc
       → (use_of layout w).forward ≡ false
       → mesh.twin (arc_dart (use_of layout w).arc (lengths (use_of layout w).arc - 1 - k))
-      ≡ Some (cell (rim_at layout lengths w k))
+      ≡ Some (cell (slot_dart layout lengths w k))
   -- An arc that no slot uses against its direction lies on the boundary.
   pub alone : (arc k : ℕ) → arc < layout.arcs → k < lengths arc
       → ((w : Slot) → IsSlot layout w → (use_of layout w).arc ≡ arc → (use_of layout w).forward ≡ true)

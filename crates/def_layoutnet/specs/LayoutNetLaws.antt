@@ -10,15 +10,16 @@ use Rattle.def_layout.specs.Lengths.{Lengths}
 use Rattle.def_layoutnet.specs.LayoutNet.{IsNetOf}
 
 -- The sum of the lengths of the arcs of a side; an arc that stands twice counts twice.
-abbrev pub along : (layout : Layout) (lengths : ℕ → ℤ) (patch : ℕ) (side : Way) → ℤ
-along layout lengths patch side = total_below (λ k. lengths (layout.use_at patch side k).arc) (layout.many patch side)
+abbrev pub sum_along : (layout : Layout) (lengths : ℕ → ℤ) (patch : ℕ) (side : Way) → ℤ
+sum_along layout lengths patch side =
+    total_below (λ k. lengths (layout.use_at patch side k).arc) (layout.many patch side)
 
 -- The opposite sides of each patch have equal sums.
 pub record AreOpposite (layout : Layout) (lengths : ℕ → ℤ) : Type 0 where
   pub across : (patch : ℕ) → patch < layout.patches
-      → along layout lengths patch south ≡ along layout lengths patch north
+      → sum_along layout lengths patch south ≡ sum_along layout lengths patch north
   pub upright : (patch : ℕ) → patch < layout.patches
-      → along layout lengths patch east ≡ along layout lengths patch west
+      → sum_along layout lengths patch east ≡ sum_along layout lengths patch west
 
 -- Whole numbers are balanced at the nodes of the network exactly where opposite sides are equal.
 abbrev pub BalanceLaw : Type 0

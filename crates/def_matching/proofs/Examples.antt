@@ -1,11 +1,11 @@
 -- Worked rows: the definitions computed.
 use Rattle.std.proofs.Common.{◌≡◌, ℕ, List, [], ◌∷◌, ℤ, pos, negsuc, refl}
 use Rattle.def_matching.specs.declared.weighted.Verdict.TheVariants.{Yes, Shape, Even, Negative, Short}
-use Rattle.def_matching.specs.Matching.{Graph, matching_cost}
+use Rattle.def_matching.specs.Matching.{WeightedGraph, matching_cost}
 use Rattle.def_matching.specs.Dual.{DualLists, verdict}
 
 -- Two triangles and a dear edge between them.
-abbrev triangles : Graph
+abbrev triangles : WeightedGraph
 triangles = record { n = 6; edges = record { u = 0; v = 1; cost = pos 0 } ∷ record { u = 1; v = 2; cost = pos 0 } ∷ record { u = 2; v = 0; cost = pos 0 } ∷ record { u = 3; v = 4; cost = pos 0 } ∷ record { u = 4; v = 5; cost = pos 0 } ∷ record { u = 5; v = 3; cost = pos 0 } ∷ record { u = 0; v = 3; cost = pos 10 } ∷ [] }
 
 abbrev with_sets : List ℤ → List ℕ → DualLists

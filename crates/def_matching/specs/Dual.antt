@@ -8,7 +8,7 @@ use Rattle.std.specs.List.{list_any}
 use Rattle.def_math.specs.Counts.{count_below}
 use Rattle.def_math.specs.Searches.{least}
 use Rattle.def_math.specs.Sums.{total, total_below}
-use Rattle.def_matching.specs.Matching.{Graph, Vertex, EdgeNumber, edge_at}
+use Rattle.def_matching.specs.Matching.{WeightedGraph, Vertex, EdgeNumber, edge_at}
 use Rattle.def_matching.specs.declared.limits.TheConstants.{MAX_SETS, NUMBER_LIMIT}
 use Rattle.def_matching.specs.declared.weighted.Dual.{Dual}
 use Rattle.def_matching.specs.declared.weighted.WEdge.{WEdge}
@@ -82,14 +82,14 @@ abbrev pub is_odd_size : (size : ℕ) → Bool
 is_odd_size size = (size % 2 == 1) && nat_le 3 size
 
 -- The entries of `up` nest the m sets: each is 0 or names a set at a later place.
-pub record IsNested (n m : ℕ) (up : List Entry) : Type 0 where
+pub record AreNestedSets (n m : ℕ) (up : List Entry) : Type 0 where
   pub entries : length up ≡ n + m
   pub later : (i : ℕ) → i < n + m → IsTrue (is_up n m i (slice_index up i))
 
 -- A dual says yes.
-pub record SaysYes (g : Graph) (d : DualLists) : Type 0 where
+pub record SaysYes (g : WeightedGraph) (d : DualLists) : Type 0 where
   pub numbers : length d.y ≡ g.n
-  pub nested : IsNested g.n (length d.z) d.up
+  pub nested : AreNestedSets g.n (length d.z) d.up
   pub odd : (k : SetNumber) → k < length d.z → IsTrue (is_odd_size (set_size g.n d k))
   pub positive : (k : SetNumber) → k < length d.z → pos 0 ≤ℤ z_at d k
   pub loaded : (k : EdgeNumber) → k < length g.edges → load g.n d (edge_at g k) ≤ℤ (pos 2 *ℤ (edge_at g k).cost)
@@ -120,7 +120,7 @@ abbrev pub negative_fault : (d : DualLists) → Option SetNumber
 negative_fault d = least (λ k. int_lt (z_at d k) (pos 0)) (length d.z)
 
 -- The least edge whose load is above twice its cost.
-abbrev pub short_fault : (g : Graph) (d : DualLists) → Option EdgeNumber
+abbrev pub short_fault : (g : WeightedGraph) (d : DualLists) → Option EdgeNumber
 short_fault g d = least (λ k. int_lt (pos 2 *ℤ (edge_at g k).cost) (load g.n d (edge_at g k))) (length g.edges)
 
 -- A refusal at what was found, or else what comes after.
@@ -129,7 +129,7 @@ refuse (Some k) at after = at k
 refuse None at after = after
 
 -- The verdict on a dual: the first of the four refusals that holds, or else yes with the dual's sum.
-abbrev pub verdict : (g : Graph) (d : DualLists) → Verdict
+abbrev pub verdict : (g : WeightedGraph) (d : DualLists) → Verdict
 verdict g d =
     refuse (shape_fault g.n d) (λ i. Shape i)
     (refuse (even_fault g.n d) (λ k. Even k (set_size g.n d k))

@@ -16,32 +16,32 @@ abbrev pub EdgeNumber : Type 0
 EdgeNumber = ℕ
 
 -- A graph: the vertices 0 to n - 1, and a list of edges.
-pub record Graph : Type 0 where
+pub record WeightedGraph : Type 0 where
   pub n : ℕ
   pub edges : List WEdge
 
 -- What a contract sees of a graph.
-abbrev pub graph : (g : WGraph) → Graph
+abbrev pub graph : (g : WGraph) → WeightedGraph
 graph g = record { n = g.n; edges = g.edges.items }
 
 -- The edge with a number.
-abbrev pub edge_at : (g : Graph) (k : EdgeNumber) → WEdge
+abbrev pub edge_at : (g : WeightedGraph) (k : EdgeNumber) → WEdge
 edge_at g k = slice_index_or g.edges k (record { u = 0; v = 0; cost = pos 0 })
 
 -- Each edge has two different ends, both vertices of the graph.
-pub record IsGraph (g : Graph) : Type 0 where
+pub record IsGraph (g : WeightedGraph) : Type 0 where
   pub left : (k : EdgeNumber) → k < length g.edges → (edge_at g k).u < g.n
   pub right : (k : EdgeNumber) → k < length g.edges → (edge_at g k).v < g.n
   pub apart : (k : EdgeNumber) → k < length g.edges → (edge_at g k).u ≢ (edge_at g k).v
 
 -- A graph that the calls take, with few vertices and edges.
-pub record IsSmallGraph (g : Graph) : Type 0 where
+pub record IsSmallGraph (g : WeightedGraph) : Type 0 where
   pub lawful : IsGraph g
   pub vertices : g.n ≤ MAX_VERTICES
   pub edges : length g.edges ≤ MAX_EDGES
 
 -- No sum of costs overflows: the number of vertices times the cost of an edge is small, up or down.
-abbrev pub IsCheap : (g : Graph) → Type 0
+abbrev pub IsCheap : (g : WeightedGraph) → Type 0
 IsCheap g = (k : EdgeNumber) → k < length g.edges → g.n * unsigned_abs (edge_at g k).cost ≤ MAX_PRODUCT
 
 -- How many ends of an edge are at a vertex.
@@ -49,10 +49,10 @@ abbrev pub ends_at : (v : Vertex) (e : WEdge) → ℕ
 ends_at v e = (if e.u == v then 1 else 0) + (if e.v == v then 1 else 0)
 
 -- A perfect matching: increasing edge numbers, such that each vertex is an end of exactly one of these edges.
-pub record IsPerfect (g : Graph) (m : List EdgeNumber) : Type 0 where
+pub record IsPerfect (g : WeightedGraph) (m : List EdgeNumber) : Type 0 where
   pub increasing : IsIncreasing 0 (length g.edges) m
   pub once : (v : Vertex) → v < g.n → count (ends_at v) (map (edge_at g) m) ≡ 1
 
 -- The cost of a matching is the sum of its edges' costs.
-abbrev pub matching_cost : (g : Graph) (m : List EdgeNumber) → ℤ
+abbrev pub matching_cost : (g : WeightedGraph) (m : List EdgeNumber) → ℤ
 matching_cost g m = total (λ e. e.cost) (map (edge_at g) m)

@@ -5,16 +5,16 @@ use Rattle.def_math.specs.Counts.{count_below}
 use Rattle.def_layout.specs.declared.tmesh.SideArc.{SideArc}
 use Rattle.def_layout.specs.Layouts.{Way}
 use Rattle.def_layout.specs.Lengths.{Lengths, wide, high, AreLengths}
-use Rattle.def_layout.specs.Plans.{Plan, layout_of, number, side_at}
+use Rattle.def_layout.specs.Plans.{Plan, layout_of, way_number, side_at}
 use Rattle.def_layoutnet.specs.MeshLayouts.{IsMeshLayout}
 use Rattle.def_written.specs.NewFaces.{face_count}
 use Rattle.def_remesh.specs.NewPoints.{lengths_in}
 use Rattle.def_remesh.specs.declared.limits.TheConstants.{MAX_NEW_FACES}
-use Rattle.def_remesh.specs.declared.tables.Starts.{Starts}
+use Rattle.def_remesh.specs.declared.tables.RunStarts.{RunStarts}
 use Rattle.def_remesh.specs.declared.tables.Tables.{Tables}
 
 -- The table says where so many runs of these sizes begin, and where the last one ends.
-pub record AreStarts (sizes : ℕ → ℕ) (runs : ℕ) (starts : List ℕ) : Type 0 where
+pub record AreRunStarts (sizes : ℕ → ℕ) (runs : ℕ) (starts : List ℕ) : Type 0 where
   pub count : length starts ≡ runs + 1
   pub each : (k : ℕ) → k < runs + 1 → slice_index starts k ≡ count_below sizes k
 
@@ -31,19 +31,19 @@ abbrev pub SideTables : Type 0
 SideTables = List (List (List ℕ))
 
 -- The tables of all sides, patch by patch.
-abbrev pub tables_of : (sides : List (List Starts)) → SideTables
-tables_of sides = map (λ four. map (λ (starts : Starts). starts.begin.items) four) sides
+abbrev pub tables_of : (sides : List (List RunStarts)) → SideTables
+tables_of sides = map (λ four. map (λ (starts : RunStarts). starts.begin.items) four) sides
 
 -- The table of a side of a patch.
 abbrev pub table_at : (sides : SideTables) (patch : ℕ) (side : Way) → List ℕ
-table_at sides patch side = slice_index_or (slice_index_or sides patch []) (number side) []
+table_at sides patch side = slice_index_or (slice_index_or sides patch []) (way_number side) []
 
 -- The tables say where the arcs on each side begin.
 pub record AreSideStarts (plan : Plan) (lengths : Lengths) (sides : SideTables) : Type 0 where
   pub sided : length sides ≡ length plan.patches
   pub four : (patch : ℕ) → patch < length plan.patches → length (slice_index_or sides patch []) ≡ 4
   pub each : (patch : ℕ) (side : Way) → patch < length plan.patches
-      → AreStarts (sizes_on (side_at plan patch side) lengths) (length (side_at plan patch side))
+      → AreRunStarts (sizes_on (side_at plan patch side) lengths) (length (side_at plan patch side))
       (table_at sides patch side)
 
 -- The tables number the points and the faces of the layout of a mesh, with the lengths that they hold.
@@ -53,12 +53,12 @@ pub record IsNumbering (plan : Plan) (tables : Tables) : Type 0 where
   pub lengths : AreLengths (layout_of plan) (lengths_in tables.lengths.items)
   pub few : face_count (layout_of plan) (lengths_in tables.lengths.items) ≤ MAX_NEW_FACES
   pub nodes : tables.nodes ≡ length plan.nodes
-  pub along : AreStarts (λ a. lengths_in tables.lengths.items a - 1) (length plan.arcs) tables.along.begin.items
-  pub inside : AreStarts
+  pub along : AreRunStarts (λ a. lengths_in tables.lengths.items a - 1) (length plan.arcs) tables.along.begin.items
+  pub inside : AreRunStarts
       (λ p. (wide (layout_of plan) (lengths_in tables.lengths.items) p - 1)
       * (high (layout_of plan) (lengths_in tables.lengths.items) p - 1))
       (length plan.patches) tables.inside.begin.items
-  pub cells : AreStarts
+  pub cells : AreRunStarts
       (λ p. wide (layout_of plan) (lengths_in tables.lengths.items) p
       * high (layout_of plan) (lengths_in tables.lengths.items) p)
       (length plan.patches) tables.cells.begin.items

@@ -11,7 +11,7 @@ use Rattle.def_text.specs.Types.{Position, Positions}
 use Rattle.def_written.specs.NewFaces.{face_count}
 use Rattle.def_written.specs.Places.{parameter, parameter_back}
 use Rattle.def_remesh.specs.NewPoints.{lengths_in}
-use Rattle.def_remesh.specs.Numberings.{AreStarts}
+use Rattle.def_remesh.specs.Numberings.{AreRunStarts}
 use Rattle.def_remesh.specs.declared.limits.TheConstants.{MAX_NEW_FACES}
 use Rattle.def_remesh.specs.declared.places.Rim.{Rim}
 use Rattle.def_remesh.specs.declared.places.PlaceTables.{PlaceTables}
@@ -57,8 +57,8 @@ pub record ArePlaces (faces : Faces) (plan : Plan) (tables : PlaceTables) : Type
   pub long : length tables.lengths.items ≡ length plan.arcs
   pub lengths : AreLengths (layout_of plan) (lengths_in tables.lengths.items)
   pub few : face_count (layout_of plan) (lengths_in tables.lengths.items) ≤ MAX_NEW_FACES
-  pub along : AreStarts (λ a. lengths_in tables.lengths.items a - 1) (length plan.arcs) tables.along.begin.items
-  pub inside : AreStarts
+  pub along : AreRunStarts (λ a. lengths_in tables.lengths.items a - 1) (length plan.arcs) tables.along.begin.items
+  pub inside : AreRunStarts
       (λ p. (wide (layout_of plan) (lengths_in tables.lengths.items) p - 1)
       * (high (layout_of plan) (lengths_in tables.lengths.items) p - 1))
       (length plan.patches) tables.inside.begin.items

@@ -13,7 +13,7 @@ use Rattle.def_layout.specs.Plans.{Plan, layout_of, vertex_at}
 use Rattle.def_layoutnet.specs.LayoutNet.{IsNetOf}
 use Rattle.def_layoutnet.specs.LayoutNetLaws.{AreOpposite}
 use Rattle.def_certtext.specs.CertLines.{said_by, Lists}
-use Rattle.def_certtext.specs.Laws.{chosen_lines, written_text, IsWritable}
+use Rattle.def_certtext.specs.Laws.{chosen_lines, written_text, IsWritableCert}
 use Rattle.def_text.specs.FaceSet.{FaceSet}
 use Rattle.def_written.specs.Edges.{IsDoubledAt, IsUndoubled}
 use Rattle.def_written.specs.NewFaces.{face_count, new_faces}
@@ -41,7 +41,7 @@ pub record IsCertified (plan : Plan) (settings : Settings) (cert : Lists) : Type
   pub accepted : IsAccepted net (certificate_of cert)
   pub opposite : AreOpposite (layout_of plan) (entries cert.x)
   pub least : IsLeast net (entries cert.x)
-  pub writable : IsWritable cert
+  pub writable : IsWritableCert cert
 
 -- The lengths give no more faces than a new mesh may have.
 abbrev pub AreCoarse : (plan : Plan) (lengths : List ℕ) → Type 0

@@ -30,9 +30,9 @@ pub enum LayoutFail {
 
 impl From<AllocError> for LayoutFail {
     ghost use Rattle.std.specs.Prelude.{◌≡◌};
-    ghost use Rattle.def_remesh.specs.declared.kept.LayoutFail.TheVariants.{Memory};
+    ghost use Rattle.def_remesh.specs.declared.kept.LayoutFail.TheVariants as layout_fail;
 
-    ghost from_gives = { λ _ e. e ≡ Memory };
+    ghost from_gives = { λ _ e. e ≡ layout_fail.Memory };
 
     fn from(_: AllocError) -> LayoutFail {
         LayoutFail::Memory

@@ -14,4 +14,4 @@ pub use kept::{Kept, LayoutFail};
 pub use limits::MAX_NEW_FACES;
 pub use new_mesh::NewMesh;
 pub use places::{PlaceTables, Rim};
-pub use tables::{Starts, Tables};
+pub use tables::{RunStarts, Tables};

@@ -4,7 +4,7 @@ use std::alloc::Global;
 
 /// Where runs begin that are laid end to end, and where the last one ends.
 #[derive(Debug, Drop)]
-pub struct Starts {
+pub struct RunStarts {
     pub begin: Vec<u32>,
 }
 
@@ -14,8 +14,8 @@ pub struct Starts {
 pub struct Tables {
     pub nodes: u32,
     pub lengths: Vec<u32>,
-    pub along: Starts,
-    pub inside: Starts,
-    pub cells: Starts,
-    pub sides: Vec<[Starts; 4]>,
+    pub along: RunStarts,
+    pub inside: RunStarts,
+    pub cells: RunStarts,
+    pub sides: Vec<[RunStarts; 4]>,
 }

@@ -16,7 +16,7 @@ use Rattle.def_cut.specs.Grids.{patch_at}
 use Rattle.def_cut.specs.declared.graph.Rider.{Rider}
 use Rattle.def_cut.specs.declared.graph.Stop.{Stop}
 use Rattle.def_cut.specs.declared.graph.Stop.TheVariants as stop
-use Rattle.def_layout.specs.Arcs.{arc_at, long_at}
+use Rattle.def_layout.specs.Arcs.{path_at, long_at}
 use Rattle.def_layout.specs.Layouts.{Way, south, east, north, west}
 use Rattle.def_layout.specs.Plans.{Plan, side_at, vertex_at}
 use Rattle.def_layout.specs.declared.tmesh.SideArc.{SideArc}
@@ -26,8 +26,8 @@ abbrev pub numbers_text : (numbers : List ℕ) → Bytes
 numbers_text numbers = flat_map (λ n. SPACE ∷ decimal n) numbers
 
 -- A line of a word and numbers.
-abbrev pub line_of : (word : Bytes) (numbers : List ℕ) → Bytes
-line_of word numbers = word ++ numbers_text numbers ++ LINE_FEED ∷ []
+abbrev pub numbers_line : (word : Bytes) (numbers : List ℕ) → Bytes
+numbers_line word numbers = word ++ numbers_text numbers ++ LINE_FEED ∷ []
 
 -- How many vertices, edges, faces and components there are, and Euler's number.
 abbrev pub counts_line : (faces : Faces) → Bytes
@@ -41,9 +41,9 @@ counts_line faces =
 -- The line of a vertex of some kind with so many faces. Regular vertices have none.
 abbrev pub kind_line : (kind : Kind) (vertex faces_there : ℕ) → Bytes
 kind_line Regular vertex faces_there = []
-kind_line Singular vertex faces_there = line_of (codes "singular") ((vertex + 1) ∷ faces_there ∷ [])
-kind_line Corner vertex faces_there = line_of (codes "corner") ((vertex + 1) ∷ faces_there ∷ [])
-kind_line Reflex vertex faces_there = line_of (codes "reflex") ((vertex + 1) ∷ faces_there ∷ [])
+kind_line Singular vertex faces_there = numbers_line (codes "singular") ((vertex + 1) ∷ faces_there ∷ [])
+kind_line Corner vertex faces_there = numbers_line (codes "corner") ((vertex + 1) ∷ faces_there ∷ [])
+kind_line Reflex vertex faces_there = numbers_line (codes "reflex") ((vertex + 1) ∷ faces_there ∷ [])
 
 -- The line of a vertex of a mesh.
 abbrev pub vertex_line : (faces : Faces) (vertex : ℕ) → Bytes
@@ -51,15 +51,15 @@ vertex_line faces vertex = kind_line (kind_of faces vertex) vertex (faces_at fac
 
 -- The line of a seed.
 abbrev pub seed_line : (vertex : ℕ) → Bytes
-seed_line vertex = line_of (codes "seed") ((vertex + 1) ∷ [])
+seed_line vertex = numbers_line (codes "seed") ((vertex + 1) ∷ [])
 
 -- Why a rider stopped, and where, at the end of its line.
 abbrev pub stop_line : (stop : Stop) → Bytes
-stop_line (stop.Middle from to) = line_of (codes " middle") ((from + 1) ∷ (to + 1) ∷ [])
-stop_line (stop.Boundary vertex) = line_of (codes " boundary") ((vertex + 1) ∷ [])
-stop_line (stop.Singular vertex) = line_of (codes " singular") ((vertex + 1) ∷ [])
-stop_line (stop.Trail vertex) = line_of (codes " trail") ((vertex + 1) ∷ [])
-stop_line (stop.Tie vertex) = line_of (codes " tie") ((vertex + 1) ∷ [])
+stop_line (stop.Middle from to) = numbers_line (codes " middle") ((from + 1) ∷ (to + 1) ∷ [])
+stop_line (stop.Boundary vertex) = numbers_line (codes " boundary") ((vertex + 1) ∷ [])
+stop_line (stop.Singular vertex) = numbers_line (codes " singular") ((vertex + 1) ∷ [])
+stop_line (stop.Trail vertex) = numbers_line (codes " trail") ((vertex + 1) ∷ [])
+stop_line (stop.Tie vertex) = numbers_line (codes " tie") ((vertex + 1) ∷ [])
 
 -- The line of a rider: the ends of its first dart, its rides, and its stop.
 abbrev pub rider_line : (faces : Faces) (rider : Rider) → Bytes
@@ -69,9 +69,9 @@ rider_line faces rider = codes "rider"
 
 -- The line of an arc: its number, the vertices at its ends, and its length.
 abbrev pub arc_line : (plan : Plan) (arc : ℕ) → Bytes
-arc_line plan arc = line_of (codes "arc")
-    ((arc + 1) ∷ (vertex_at plan (arc_at plan.arcs arc).first + 1)
-    ∷ (vertex_at plan (arc_at plan.arcs arc).last + 1) ∷ long_at plan.arcs arc ∷ [])
+arc_line plan arc = numbers_line (codes "arc")
+    ((arc + 1) ∷ (vertex_at plan (path_at plan.arcs arc).first + 1)
+    ∷ (vertex_at plan (path_at plan.arcs arc).last + 1) ∷ long_at plan.arcs arc ∷ [])
 
 -- The word of a side.
 abbrev pub side_word : (side : Way) → Bytes
@@ -82,12 +82,13 @@ side_word west = codes "west"
 
 -- The line of a side of a patch: its arcs, in order.
 abbrev pub side_line : (plan : Plan) (patch : ℕ) (side : Way) → Bytes
-side_line plan patch side = line_of (side_word side) (map (λ (used : SideArc). used.arc + 1) (side_at plan patch side))
+side_line plan patch side =
+    numbers_line (side_word side) (map (λ (used : SideArc). used.arc + 1) (side_at plan patch side))
 
 -- The line of a patch: its number, its width and its height.
 abbrev pub size_line : (plan : Plan) (patch : ℕ) → Bytes
 size_line plan patch =
-    line_of (codes "patch") ((patch + 1) ∷ (patch_at plan.patches patch).w ∷ (patch_at plan.patches patch).h ∷ [])
+    numbers_line (codes "patch") ((patch + 1) ∷ (patch_at plan.patches patch).w ∷ (patch_at plan.patches patch).h ∷ [])
 
 -- The lines of its sides.
 abbrev pub side_lines : (plan : Plan) (patch : ℕ) → Bytes

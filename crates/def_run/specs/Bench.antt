@@ -19,7 +19,7 @@ use Rattle.def_report.specs.declared.Counts.{Counts}
 use Rattle.def_written.specs.Edges.{IsUndoubled}
 use Rattle.def_remesh.specs.Refusals.{IsLayoutFail, IsRemeshable}
 use Rattle.def_remesh.specs.declared.kept.LayoutFail.{LayoutFail}
-use Rattle.def_remesh.specs.declared.kept.LayoutFail.TheVariants as fail
+use Rattle.def_remesh.specs.declared.kept.LayoutFail.TheVariants as layout_fail
 use Rattle.def_run.specs.Remesh.{IsCutTo, RefusesLayout}
 use Rattle.def_run.specs.declared.answer.Answer.{Answer}
 use Rattle.def_run.specs.declared.answer.Answer.TheVariants.{NotManifold}
@@ -66,7 +66,7 @@ RefusesToBench size answer =
 
 -- Why the mesh of a size is not remeshed. Want of memory says nothing of it.
 abbrev pub IsBenchFail : (size : ℕ) (failed : LayoutFail) → Type 0
-IsBenchFail size fail.Memory = ⊤
+IsBenchFail size layout_fail.Memory = ⊤
 IsBenchFail size failed =
     (plan : Plan) × IsCutTo (bench_faces size) plan × IsLayoutFail plan bench_settings false failed
 

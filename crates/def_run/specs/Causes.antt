@@ -107,12 +107,12 @@ pub record Ran (words : Words) (input out : Change) (answer : Answer) : Type 0 w
   pub cause : Cause command input out answer
 
 -- The source holds these bytes, within the limit. Of a benchmark's source nothing is asked.
-abbrev pub Holds : (command : Command) (left : Told) (bytes : Bytes) → Type 0
-Holds (Bench size) left bytes = bytes ≡ []
-Holds command left bytes = (left ≡ Some bytes) × (length bytes ≤ MAX_BYTES)
+abbrev pub SourceHolds : (command : Command) (left : Told) (bytes : Bytes) → Type 0
+SourceHolds (Bench size) left bytes = bytes ≡ []
+SourceHolds command left bytes = (left ≡ Some bytes) × (length bytes ≤ MAX_BYTES)
 
 -- A source that holds bytes which the command takes.
 pub record IsGood (command : Command) (left : Told) : Type 0 where
   pub bytes : Bytes
-  pub held : Holds command left bytes
+  pub held : SourceHolds command left bytes
   pub taken : Takes command bytes

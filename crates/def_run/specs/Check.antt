@@ -8,7 +8,7 @@ use Rattle.def_flow.specs.Accepted.{cert_verdict}
 use Rattle.def_flow.specs.Admissible.{deviation, entries}
 use Rattle.def_flow.specs.Network.{Network}
 use Rattle.def_flow.specs.declared.cert.CertVerdict.{CertVerdict}
-use Rattle.def_flow.specs.declared.cert.CertVerdict.TheVariants.{Yes}
+use Rattle.def_flow.specs.declared.cert.CertVerdict.TheVariants as certs
 use Rattle.def_flow.specs.declared.limits.TheConstants.{MAX_FLOOR}
 use Rattle.def_flow.specs.declared.net.Settings.{Settings}
 use Rattle.def_io.specs.Bytes.{Bytes}
@@ -26,7 +26,7 @@ use Rattle.def_remesh.specs.Remeshed.{with_floor}
 use Rattle.def_text.specs.FaceSet.{FaceSet}
 use Rattle.def_text.specs.Text.{text_soup}
 use Rattle.def_text.specs.declared.refusal.ObjFail.{ObjFail}
-use Rattle.def_text.specs.declared.refusal.ObjFail.TheVariants as fail
+use Rattle.def_text.specs.declared.refusal.ObjFail.TheVariants as obj_fail
 use Rattle.def_written.specs.Edges.{IsFirstDoubled, IsUndoubled}
 use Rattle.def_written.specs.NewFaces.{face_count}
 use Rattle.def_remesh.specs.Refusals.{AreTooFine, IsTangledAt}
@@ -105,7 +105,7 @@ pub record HasVerdict (plan : Plan) (settings : Settings) (cert : Lists) (verdic
   pub net : Network
   pub of_layout : IsNetOf (layout_of plan) (long_at plan.arcs) settings net
   pub told : verdict ≡ cert_verdict net (certificate_of cert)
-  pub refuted : (d : ℤ) → verdict ≢ Yes d
+  pub refuted : (d : ℤ) → verdict ≢ certs.Yes d
 
 -- What is wrong with a certificate for a floor: its verdict, or that its lengths give too many faces.
 abbrev pub IsWrong : (plan : Plan) (settings : Settings) (cert : Lists) (why : Why) → Type 0
@@ -114,8 +114,8 @@ IsWrong plan settings cert (why.TooFine faces) = IsCertified plan settings cert 
 IsWrong plan settings cert _ = ⊥
 
 -- The certificate that is checked first: the one for floor 1, where another follows, or the only one.
-abbrev pub first_of : (made : Made) → Lists
-first_of made = unwrap_or made.first made.cert
+abbrev pub first_checked : (made : Made) → Lists
+first_checked made = unwrap_or made.first made.cert
 
 -- The only certificate is accepted, and its lengths double an edge, first at these vertices.
 abbrev pub IsLoneDoubled : (plan : Plan) (settings : Settings) (made : Made) (why : Why) → Type 0
@@ -141,25 +141,25 @@ pub record DifferFrom (one other : Bytes) (at : ℕ) : Type 0 where
 -- The certificates are those of a finished remesh, whose text is another one from this byte on.
 pub record IsOtherText (bytes : Bytes) (asked : IsAsked bytes) (made : Made) (at : ℕ) : Type 0 where
   pub third : Option Lists
-  pub chosen : (third ≡ None) ⊎ ((third ≡ Some made.cert) × (made.first ≡ Some (first_of made)))
-  pub kept : AreKept asked.plan asked.settings asked.auto (first_of made) third
-  pub coarse : AreCoarse asked.plan (used (first_of made) third).x
-  pub undoubled : IsUndoubled (layout_of asked.plan) (lengths_in (used (first_of made) third).x)
+  pub chosen : (third ≡ None) ⊎ ((third ≡ Some made.cert) × (made.first ≡ Some (first_checked made)))
+  pub kept : AreKept asked.plan asked.settings asked.auto (first_checked made) third
+  pub coarse : AreCoarse asked.plan (used (first_checked made) third).x
+  pub undoubled : IsUndoubled (layout_of asked.plan) (lengths_in (used (first_checked made) third).x)
   pub differ : DifferFrom (tail_of asked.line bytes)
-      (remeshed_text asked.settings asked.auto asked.soup asked.plan (first_of made) third) at
+      (remeshed_text asked.settings asked.auto asked.soup asked.plan (first_checked made) third) at
 
 -- The text is not that of the certificates that it tells.
-abbrev pub IsOther : (bytes : Bytes) (asked : IsAsked bytes) (made : Made) (why : Why) → Type 0
-IsOther bytes asked made (why.Byte at) = IsOtherText bytes asked made at
-IsOther bytes asked made _ = ⊥
+abbrev pub TellsOtherText : (bytes : Bytes) (asked : IsAsked bytes) (made : Made) (why : Why) → Type 0
+TellsOtherText bytes asked made (why.Byte at) = IsOtherText bytes asked made at
+TellsOtherText bytes asked made _ = ⊥
 
 -- The first thing that is wrong with the text of a remesh that tells how it was made.
 pub record IsWrongText (bytes : Bytes) (asked : IsAsked bytes) (why : Why) : Type 0 where
   pub made : Made
   pub told : TellHow (head_of bytes asked.line) (drop (asked.line + 1) (lines_of bytes)) made
-  pub wrong : IsWrong asked.plan asked.settings (first_of made) why
+  pub wrong : IsWrong asked.plan asked.settings (first_checked made) why
       ⊎ (IsLoneDoubled asked.plan asked.settings made why
-      ⊎ (IsThirdWrong asked.plan asked.settings made why ⊎ IsOther bytes asked made why))
+      ⊎ (IsThirdWrong asked.plan asked.settings made why ⊎ TellsOtherText bytes asked made why))
 
 -- The first thing that is wrong behind a head line.
 abbrev pub IsReason : (bytes : Bytes) (asked : IsAsked bytes) (why : Why) → Type 0
@@ -189,10 +189,10 @@ pub record IsTangledOld (bytes : Bytes) (count : ℕ) : Type 0 where
 -- It refuses these bytes with this answer.
 abbrev pub RefusesToCheck : (bytes : Bytes) (answer : Answer) → Type 0
 RefusesToCheck bytes (NotAccepted why) = IsNotAccepted bytes why
-RefusesToCheck bytes (Syntax line) = RefusesOldText bytes (fail.Syntax line)
-RefusesToCheck bytes (NotQuad line corners) = RefusesOldText bytes (fail.NotQuad line corners)
-RefusesToCheck bytes (Range line) = RefusesOldText bytes (fail.Range line)
-RefusesToCheck bytes (Limit which line) = RefusesOldText bytes (fail.Limit which line)
+RefusesToCheck bytes (Syntax line) = RefusesOldText bytes (obj_fail.Syntax line)
+RefusesToCheck bytes (NotQuad line corners) = RefusesOldText bytes (obj_fail.NotQuad line corners)
+RefusesToCheck bytes (Range line) = RefusesOldText bytes (obj_fail.Range line)
+RefusesToCheck bytes (Limit which line) = RefusesOldText bytes (obj_fail.Limit which line)
 RefusesToCheck bytes (NotManifold place) = IsNoOldManifold bytes place
 RefusesToCheck bytes (Tangled count) = IsTangledOld bytes count
 RefusesToCheck bytes _ = ⊥

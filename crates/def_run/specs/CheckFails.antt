@@ -7,9 +7,9 @@ use Rattle.def_mesh.specs.declared.Place.{Place}
 use Rattle.def_remesh.specs.Checked.{IsCheckedPair}
 use Rattle.def_run.specs.Check.{HasOldSoup, IsNotAccepted, IsTangledOld, RefusesOldText}
 use Rattle.def_text.specs.FaceSet.{FaceSet}
-use Rattle.def_text.specs.declared.refusal.ObjFail.TheVariants as obj
+use Rattle.def_text.specs.declared.refusal.ObjFail.TheVariants as obj_fail
 use Rattle.def_run.specs.declared.check_fail.CheckFail.{CheckFail}
-use Rattle.def_run.specs.declared.check_fail.CheckFail.TheVariants.{NotAccepted, Old, NotManifold, Tangled, Memory}
+use Rattle.def_run.specs.declared.check_fail.CheckFail.TheVariants as check_fail
 
 -- The old text has this soup, whose faces are no manifold, first at this place.
 pub record HasOldFault (bytes : Bytes) (soup : FaceSet) (place : Place) : Type 0 where
@@ -20,8 +20,8 @@ pub record HasOldFault (bytes : Bytes) (soup : FaceSet) (place : Place) : Type 0
 
 -- What each refusal says. All but want of memory say that the bytes are no checked pair.
 abbrev pub IsCheckFail : (bytes : Bytes) (fail : CheckFail) → Type 0
-IsCheckFail bytes (NotAccepted why) = IsNotAccepted bytes why × (¬ IsCheckedPair bytes)
-IsCheckFail bytes (Old fail) = RefusesOldText bytes fail × (fail ≢ obj.Memory) × (¬ IsCheckedPair bytes)
-IsCheckFail bytes (NotManifold place soup) = HasOldFault bytes soup place × (¬ IsCheckedPair bytes)
-IsCheckFail bytes (Tangled count) = IsTangledOld bytes count × (¬ IsCheckedPair bytes)
-IsCheckFail bytes Memory = ⊤
+IsCheckFail bytes (check_fail.NotAccepted why) = IsNotAccepted bytes why × (¬ IsCheckedPair bytes)
+IsCheckFail bytes (check_fail.Old fail) = RefusesOldText bytes fail × (fail ≢ obj_fail.Memory) × (¬ IsCheckedPair bytes)
+IsCheckFail bytes (check_fail.NotManifold place soup) = HasOldFault bytes soup place × (¬ IsCheckedPair bytes)
+IsCheckFail bytes (check_fail.Tangled count) = IsTangledOld bytes count × (¬ IsCheckedPair bytes)
+IsCheckFail bytes check_fail.Memory = ⊤

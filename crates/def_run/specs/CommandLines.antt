@@ -54,6 +54,6 @@ pub record IsCommand (words : Words) (command : Command) : Type 0 where
   pub options : HasOptions command rest
 
 -- These words are an accepted line.
-pub record IsAccepted (words : Words) : Type 0 where
+pub record IsAcceptedLine (words : Words) : Type 0 where
   pub command : Command
   pub line : IsCommand words command

@@ -7,7 +7,7 @@ use Rattle.def_io.specs.Bytes.{Bytes}
 use Rattle.def_matching.specs.declared.weighted.Verdict.{Verdict}
 use Rattle.def_matching.specs.declared.weighted.Verdict.TheVariants.{Yes, Shape, Even, Negative, Short}
 use Rattle.def_text.specs.declared.refusal.Which.{Which}
-use Rattle.def_text.specs.declared.refusal.Which.TheVariants.{Bytes as AllBytes, Line, Vertices, Faces}
+use Rattle.def_text.specs.declared.refusal.Which.TheVariants as limits
 use Rattle.def_run.specs.declared.answer.Answer.{Answer}
 use Rattle.def_run.specs.declared.answer.Answer.TheVariants.{Done, NotAccepted, Usage, Syntax, NotQuad, Range, Limit}
 use Rattle.def_run.specs.declared.answer.Answer.TheVariants.{NotManifold, Tangled, TooFine, Doubled}
@@ -32,10 +32,10 @@ place_text names (TwoFans vertex) = codes "vertex " ++ name_text names vertex ++
 
 -- A limit that a line exceeds, or the whole text.
 abbrev pub limit_text : (which : Which) (line : ℕ) → Bytes
-limit_text AllBytes line = codes "limit: bytes"
-limit_text Line line = codes "line " ++ decimal line ++ codes ": limit: line"
-limit_text Vertices line = codes "line " ++ decimal line ++ codes ": limit: vertices"
-limit_text Faces line = codes "line " ++ decimal line ++ codes ": limit: faces"
+limit_text limits.Bytes line = codes "limit: bytes"
+limit_text limits.Line line = codes "line " ++ decimal line ++ codes ": limit: line"
+limit_text limits.Vertices line = codes "line " ++ decimal line ++ codes ": limit: vertices"
+limit_text limits.Faces line = codes "line " ++ decimal line ++ codes ": limit: faces"
 
 -- A face that is no quad.
 abbrev pub corners_text : (line corners : ℕ) → Bytes
@@ -43,12 +43,12 @@ corners_text line corners =
     codes "line " ++ decimal line ++ codes ": face with " ++ decimal corners ++ codes " corners"
 
 -- What is wrong with a dual of the matching graph. Sets and edges count from 1.
-abbrev pub dual_text : (verdict : Verdict) → Bytes
-dual_text (Yes sum) = []
-dual_text (Shape index) = codes "shape " ++ decimal (index + 1)
-dual_text (Even set size) = codes "set " ++ decimal (set + 1) ++ codes " size " ++ decimal size
-dual_text (Negative set) = codes "set " ++ decimal (set + 1) ++ codes " negative"
-dual_text (Short edge load cost) =
+abbrev pub dual_verdict_text : (verdict : Verdict) → Bytes
+dual_verdict_text (Yes sum) = []
+dual_verdict_text (Shape index) = codes "shape " ++ decimal (index + 1)
+dual_verdict_text (Even set size) = codes "set " ++ decimal (set + 1) ++ codes " size " ++ decimal size
+dual_verdict_text (Negative set) = codes "set " ++ decimal (set + 1) ++ codes " negative"
+dual_verdict_text (Short edge load cost) =
     codes "edge " ++ decimal (edge + 1) ++ codes " load " ++ signed_decimal load
     ++ codes " cost " ++ signed_decimal cost
 
@@ -66,7 +66,7 @@ verdict_text (certs.Yes deviation) = []
 verdict_text (certs.Count arcs given) = codes "arcs " ++ decimal arcs ++ codes " given " ++ decimal given
 verdict_text (certs.Below arc length) = codes "arc " ++ decimal (arc + 1) ++ codes " length " ++ decimal length
 verdict_text (certs.Unequal node plus minus) = unequal_text node plus minus
-verdict_text (certs.Dual verdict) = dual_text verdict
+verdict_text (certs.Dual verdict) = dual_verdict_text verdict
 verdict_text (certs.Sums dual cost) = codes "sums " ++ signed_decimal dual ++ codes " " ++ signed_decimal cost
 
 -- Why nothing is accepted. Vertices count from 1.

@@ -6,7 +6,7 @@ use Rattle.def_io.specs.Moves.{Change, IsStill, Stream}
 use Rattle.def_io.specs.Words.{ReadsWords}
 use Rattle.def_text.specs.Types.{Words}
 use Rattle.def_run.specs.Causes.{IsGood, Ran}
-use Rattle.def_run.specs.CommandLines.{IsAccepted, IsCommand}
+use Rattle.def_run.specs.CommandLines.{IsAcceptedLine, IsCommand}
 use Rattle.def_run.specs.Messages.{SaidWhy}
 use Rattle.def_run.specs.Remesh.{IsSettled, IsUntangled}
 use Rattle.def_run.specs.Status.{status_of}
@@ -25,7 +25,7 @@ WasShort input out answer =
 -- is not too tangled gets least lengths; and each stream that the answer leaves alone is as it was.
 pub record RunsTo {S O E : Type 0} (words : Words) (input : Stream S) (out : Stream O) (err : Stream E)
     (answer : Answer) : Type 0 where
-  pub usage : answer ≡ Usage → ¬ IsAccepted words
+  pub usage : answer ≡ Usage → ¬ IsAcceptedLine words
   pub ran : answer ≢ Usage → answer ≢ Memory → Ran words input.change out.change answer
   pub told : answer ≢ Done → SaidWhy words input.change err.change answer
   pub complete : (command : Command) → IsCommand words command → IsGood command input.change.told

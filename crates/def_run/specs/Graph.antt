@@ -9,7 +9,7 @@ use Rattle.def_layout.specs.FaceLayouts.{IsLayoutOf}
 use Rattle.def_layout.specs.Plans.{Plan}
 use Rattle.def_report.specs.GraphText.{graph_text}
 use Rattle.def_text.specs.FaceSet.{FaceSet}
-use Rattle.def_run.specs.Mesh.{IsMesh, IsNoMesh}
+use Rattle.def_run.specs.Mesh.{IsMeshText, IsNoMesh}
 use Rattle.def_run.specs.declared.answer.Answer.{Answer}
 
 -- The text of these faces with the riders that trace their graph, and the layout that the graph cuts.
@@ -23,7 +23,7 @@ pub record IsGraphText (faces : Faces) (text : Bytes) : Type 0 where
 -- For these bytes it writes this text: that of their mesh.
 pub record WritesGraph (bytes text : Bytes) : Type 0 where
   pub soup : FaceSet
-  pub mesh : IsMesh bytes soup
+  pub mesh : IsMeshText bytes soup
   pub traced : IsGraphText soup.faces text
 
 -- It refuses these bytes with this answer: they have no mesh.

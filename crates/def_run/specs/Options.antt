@@ -30,16 +30,16 @@ abbrev pub separate : (word next : Word) → Use
 separate word next = record { name = word; value = next }
 
 -- A use in front of those that are spelled behind it.
-abbrev pub in_front : (first : Use) (rest : Option Uses) → Option Uses
-in_front first rest = option_map (λ uses. first ∷ uses) rest
+abbrev pub use_in_front : (first : Use) (rest : Option Uses) → Option Uses
+use_in_front first rest = option_map (λ uses. first ∷ uses) rest
 
 -- The uses that the words spell, where no name stands at the end without a value.
 abbrev pub uses_of : (words : Words) → Option Uses
 uses_of [] = Some []
 uses_of (word ∷ []) = if list_any is_equals word then Some (attached word ∷ []) else None
 uses_of (word ∷ next ∷ rest) =
-    if list_any is_equals word then in_front (attached word) (uses_of (next ∷ rest))
-    else in_front (separate word next) (uses_of rest)
+    if list_any is_equals word then use_in_front (attached word) (uses_of (next ∷ rest))
+    else use_in_front (separate word next) (uses_of rest)
 
 -- A name with its hyphens.
 abbrev pub dashed : (name : Word) → Word

@@ -11,7 +11,7 @@ use Rattle.def_remesh.specs.declared.limits.TheConstants.{MAX_NEW_FACES}
 use Rattle.def_text.specs.FaceSet.{FaceSet}
 use Rattle.def_written.specs.NewFaces.{new_faces}
 use Rattle.def_written.specs.Shape.{KeepsShape}
-use Rattle.def_run.specs.Mesh.{IsMesh, IsNoMesh}
+use Rattle.def_run.specs.Mesh.{IsMeshText, IsNoMesh}
 use Rattle.def_run.specs.Remesh.{HasCut, IsCutTo}
 use Rattle.def_run.specs.declared.answer.Answer.{Answer}
 use Rattle.def_run.specs.declared.answer.Answer.TheVariants.{TooFine}
@@ -29,7 +29,7 @@ pub record IsRefined (by : ℕ) (soup : FaceSet) (text : Bytes) : Type 0 where
 -- For these bytes it writes this text: that of their mesh, with each edge divided in so many.
 pub record WritesRefined (by : ℕ) (bytes text : Bytes) : Type 0 where
   pub soup : FaceSet
-  pub mesh : IsMesh bytes soup
+  pub mesh : IsMeshText bytes soup
   pub refined : IsRefined by soup text
 
 -- What is kept of the lengths is the multiple.

@@ -10,14 +10,14 @@ use Rattle.def_remesh.specs.Refusals.{IsDoubledBy, IsFineBy, IsRemeshable, IsTan
 use Rattle.def_remesh.specs.Remeshed.{IsRemeshed}
 use Rattle.def_text.specs.FaceSet.{FaceSet}
 use Rattle.def_text.specs.declared.limits.TheConstants.{MAX_BYTES}
-use Rattle.def_run.specs.Mesh.{IsMesh, IsNoMesh}
+use Rattle.def_run.specs.Mesh.{IsMeshText, IsNoMesh}
 use Rattle.def_run.specs.declared.answer.Answer.{Answer}
 use Rattle.def_run.specs.declared.answer.Answer.TheVariants.{Done, Tangled, TooFine, Doubled}
 
 -- For these bytes it writes this text: that of a finished remesh of their mesh.
 pub record WritesRemeshed (settings : Settings) (auto : Bool) (bytes text : Bytes) : Type 0 where
   pub soup : FaceSet
-  pub mesh : IsMesh bytes soup
+  pub mesh : IsMeshText bytes soup
   pub remeshed : IsRemeshed settings auto soup text
 
 -- The layout that the motorcycle graph of these faces cuts.
@@ -27,7 +27,7 @@ IsCutTo faces plan = IsLayoutOf faces (traced_marks faces) plan
 -- The bytes have a mesh that is cut to this layout.
 pub record HasCut (bytes : Bytes) (plan : Plan) : Type 0 where
   pub soup : FaceSet
-  pub mesh : IsMesh bytes soup
+  pub mesh : IsMeshText bytes soup
   pub cut : IsCutTo soup.faces plan
 
 -- Why a layout is not remeshed: its network is too tangled, or the kept lengths give too many faces or double an edge.

@@ -14,9 +14,9 @@ pub enum WordsFail {
 
 impl From<AllocError> for WordsFail {
     ghost use Rattle.std.specs.Prelude.{◌≡◌};
-    ghost use Rattle.def_run.specs.declared.words.WordsFail.TheVariants.{Memory};
+    ghost use Rattle.def_run.specs.declared.words.WordsFail.TheVariants as words_fail;
 
-    ghost from_gives = { λ _ e. e ≡ Memory };
+    ghost from_gives = { λ _ e. e ≡ words_fail.Memory };
 
     fn from(_: AllocError) -> WordsFail {
         WordsFail::Memory

@@ -22,8 +22,8 @@ abbrev pub last_dart : (run : List ℕ) → ℕ
 last_dart run = slice_index run (length run - 1)
 
 -- Dart d stands in the list.
-abbrev pub Holds : (run : List ℕ) (d : ℕ) → Type 0
-Holds run d = (k : ℕ) × (k < length run) × (slice_index run k ≡ d)
+abbrev pub HasDart : (run : List ℕ) (d : ℕ) → Type 0
+HasDart run d = (k : ℕ) × (k < length run) × (slice_index run k ≡ d)
 
 -- A longest list of different darts in which each follows the one before it.
 pub record IsLongestRun (faces : Faces) (run : List ℕ) : Type 0 where
@@ -32,8 +32,8 @@ pub record IsLongestRun (faces : Faces) (run : List ℕ) : Type 0 where
   pub differ : (j k : ℕ) → j < k → k < length run → slice_index run j ≢ slice_index run k
   pub straight : (k : ℕ) → suc k < length run → follower faces (slice_index run k) ≡ Some (slice_index run (suc k))
   -- What follows its last dart stands in it, and so does what its first dart follows.
-  pub ends : (d : ℕ) → follower faces (last_dart run) ≡ Some d → Holds run d
-  pub begins : (d : ℕ) → d < darts faces → follower faces d ≡ Some (first_dart run) → Holds run d
+  pub ends : (d : ℕ) → follower faces (last_dart run) ≡ Some d → HasDart run d
+  pub begins : (d : ℕ) → d < darts faces → follower faces d ≡ Some (first_dart run) → HasDart run d
 
 -- Whether a dart was found and is d.
 abbrev pub is_dart : (found : Option ℕ) (d : ℕ) → Bool
@@ -49,8 +49,8 @@ abbrev pub RunLists : Type 0
 RunLists = List (List ℕ)
 
 -- The r-th of these runs.
-abbrev pub run_at : (runs : RunLists) (r : ℕ) → List ℕ
-run_at runs r = slice_index_or runs r []
+abbrev pub nth_run : (runs : RunLists) (r : ℕ) → List ℕ
+nth_run runs r = slice_index_or runs r []
 
 -- Some dart of one run is less than all of the other.
 abbrev pub IsBefore : (run other : List ℕ) → Type 0
@@ -60,16 +60,16 @@ IsBefore run other = (k : ℕ) × (k < length run) × ((j : ℕ) → j < length 
 -- has the run of each dart and its place there.
 pub record AreRuns (faces : Faces) (table : RunTable) : Type 0 where
   pub lists : RunLists
-  pub runs : (r : ℕ) → r < length lists → IsLongestRun faces (run_at lists r)
-  pub least : (r k : ℕ) → r < length lists → is_closed faces (run_at lists r) ≡ true → k < length (run_at lists r)
-      → first_dart (run_at lists r) ≤ slice_index (run_at lists r) k
-  pub increasing : (q r : ℕ) → q < r → r < length lists → IsBefore (run_at lists q) (run_at lists r)
+  pub runs : (r : ℕ) → r < length lists → IsLongestRun faces (nth_run lists r)
+  pub least : (r k : ℕ) → r < length lists → is_closed faces (nth_run lists r) ≡ true → k < length (nth_run lists r)
+      → first_dart (nth_run lists r) ≤ slice_index (nth_run lists r) k
+  pub increasing : (q r : ℕ) → q < r → r < length lists → IsBefore (nth_run lists q) (nth_run lists r)
   pub run_long : length table.run.items ≡ darts faces
   pub at_long : length table.at.items ≡ darts faces
   pub run_low : (d : ℕ) → d < darts faces → slice_index table.run.items d < length lists
   pub at_low : (d : ℕ) → d < darts faces
-      → slice_index table.at.items d < length (run_at lists (slice_index table.run.items d))
+      → slice_index table.at.items d < length (nth_run lists (slice_index table.run.items d))
   pub stands : (d : ℕ) → d < darts faces
-      → slice_index (run_at lists (slice_index table.run.items d)) (slice_index table.at.items d) ≡ d
+      → slice_index (nth_run lists (slice_index table.run.items d)) (slice_index table.at.items d) ≡ d
   pub lengths : table.len.items ≡ map length lists
   pub closes : table.closed.items ≡ map (is_closed faces) lists

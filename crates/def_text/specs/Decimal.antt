@@ -3,12 +3,12 @@ use Rattle.std.specs.Prelude.{◌≡◌, ℕ, suc, ◌+◌, ◌*◌, ◌^◌, �
 use Rattle.std.specs.Prelude.{pos, negsuc, ◌+ℤ◌, ◌-ℤ◌, neg_ℤ, unsigned_abs, if◌then◌else◌, [], ◌∷◌, ◌++◌, length, drop}
 use Rattle.std.specs.List.{after_first, before_first, position_or_len}
 use Rattle.def_io.specs.Bytes.{Bytes}
-use Rattle.def_text.specs.Digits.{is_negative, is_signed, number, is_number, signed, unsigned}
+use Rattle.def_text.specs.Digits.{is_negative, is_signed, number_written, is_number, signed, unsigned}
 use Rattle.def_text.specs.Types.{Word}
 use Rattle.def_text.specs.declared.letters.TheConstants.{LARGE_E, POINT, SMALL_E}
 use Rattle.def_text.specs.declared.limits.TheConstants.{MAX_DECIMAL, MAX_MICRO}
 use Rattle.def_text.specs.declared.decimal.DecFail.{DecFail}
-use Rattle.def_text.specs.declared.decimal.DecFail.TheVariants.{Syntax, Range}
+use Rattle.def_text.specs.declared.decimal.DecFail.TheVariants as dec_fail
 
 -- The point between the digits.
 abbrev pub is_point : (byte : ℕ) → Bool
@@ -56,7 +56,7 @@ scaled n (negsuc k) = (2 * n + 10 ^ suc k) / (2 * 10 ^ suc k)
 -- The millionths of a decimal without its sign.
 abbrev pub rounded_size : (word : Word) → ℕ
 rounded_size word =
-    scaled (number (all_digits word)) ((power (exponent word) +ℤ pos 6) -ℤ pos (length (fraction_digits word)))
+    scaled (number_written (all_digits word)) ((power (exponent word) +ℤ pos 6) -ℤ pos (length (fraction_digits word)))
 
 -- The millionths of a decimal: a half is rounded away from zero.
 abbrev pub rounded : (word : Word) → ℤ
@@ -72,5 +72,5 @@ IsValue word z = (is_decimal word ≡ true) × (is_far (rounded word) ≡ false)
 
 -- Why a word has no value: it is no decimal, or its millionths are out of range.
 abbrev pub IsDecFail : (word : Word) (fail : DecFail) → Type 0
-IsDecFail word Syntax = is_decimal word ≡ false
-IsDecFail word Range = (is_decimal word ≡ true) × (is_far (rounded word) ≡ true)
+IsDecFail word dec_fail.Syntax = is_decimal word ≡ false
+IsDecFail word dec_fail.Range = (is_decimal word ≡ true) × (is_far (rounded word) ≡ true)

@@ -13,8 +13,8 @@ is_number [] = false
 is_number (byte ∷ bytes) = list_all is_ascii_digit (byte ∷ bytes)
 
 -- The number that digits write.
-abbrev pub number : (digits : Bytes) → ℕ
-number digits = number_from_digits 10 (map (λ digit. digit - ZERO) digits)
+abbrev pub number_written : (digits : Bytes) → ℕ
+number_written digits = number_from_digits 10 (map (λ digit. digit - ZERO) digits)
 
 -- Plus and minus are the signs.
 abbrev pub is_sign : (byte : ℕ) → Bool
@@ -36,4 +36,5 @@ is_signed word = is_number (unsigned word)
 
 -- The value of an optional sign and a number.
 abbrev pub signed : (word : Word) → ℤ
-signed word = if is_negative word then neg_ℤ (pos (number (unsigned word))) else pos (number (unsigned word))
+signed word =
+    if is_negative word then neg_ℤ (pos (number_written (unsigned word))) else pos (number_written (unsigned word))

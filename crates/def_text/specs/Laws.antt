@@ -8,7 +8,7 @@ use Rattle.def_mesh.specs.Faces.{Face}
 use Rattle.def_text.specs.FaceSet.{FaceSet, IsSoup}
 use Rattle.def_text.specs.Text.{numbers_to, text_soup}
 use Rattle.def_text.specs.Types.{Position}
-use Rattle.def_text.specs.declared.limits.TheConstants.{MAX_FACES, MAX_MICRO, MAX_VERTICES}
+use Rattle.def_text.specs.declared.limits.TheConstants.{MAX_F_LINES, MAX_MICRO, MAX_V_LINES}
 
 -- The canonical text of a number is a decimal whose value is that number.
 abbrev pub CanonicalLaw : Type 0
@@ -23,15 +23,15 @@ abbrev pub is_quad : (face : Face) → Bool
 is_quad face = length face == 4
 
 -- A soup that a text can have: its types hold, and its numbers are within the limits.
-pub record IsWritable (s : FaceSet) : Type 0 where
+pub record IsWritableSoup (s : FaceSet) : Type 0 where
   pub soup : IsSoup s
   pub positions : IsTrue (list_all is_position s.pos)
   pub quads : IsTrue (list_all is_quad s.faces)
-  pub few_vertices : length s.pos ≤ MAX_VERTICES
-  pub few_faces : length s.faces ≤ MAX_FACES
+  pub few_vertices : length s.pos ≤ MAX_V_LINES
+  pub few_faces : length s.faces ≤ MAX_F_LINES
 
 -- The canonical text of such a soup has its positions and its faces, with file numbers from 1 in order.
 abbrev pub ReadsBack : Type 0
-ReadsBack = (s : FaceSet) → IsWritable s
+ReadsBack = (s : FaceSet) → IsWritableSoup s
     → text_soup 1 (lines_of (canonical_text s))
     ≡ Ok (record { pos = s.pos; faces = s.faces; names = numbers_to (length s.pos) })

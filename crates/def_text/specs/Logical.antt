@@ -52,10 +52,10 @@ abbrev pub logical : (number : ℕ) (group : Lines) → Logical
 logical number group = record { number = number; size = length (flat_map (λ line. line) group); text = joined group }
 
 -- The logical lines of groups, whose first physical line has this number.
-abbrev pub numbered : (number : ℕ) (groups : List Lines) → List Logical
-numbered number [] = []
-numbered number (group ∷ groups) = logical number group ∷ numbered (number + length group) groups
+abbrev pub numbered_groups : (number : ℕ) (groups : List Lines) → List Logical
+numbered_groups number [] = []
+numbered_groups number (group ∷ groups) = logical number group ∷ numbered_groups (number + length group) groups
 
 -- All logical lines of physical lines, of which the first has this number.
 abbrev pub logical_lines : (number : ℕ) (lines : Lines) → List Logical
-logical_lines number lines = numbered number (groups_of lines)
+logical_lines number lines = numbered_groups number (groups_of lines)

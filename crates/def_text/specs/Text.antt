@@ -13,7 +13,7 @@ use Rattle.def_text.specs.Types as types
 use Rattle.def_text.specs.declared.refusal.ObjFail.{ObjFail}
 use Rattle.def_text.specs.declared.refusal.ObjFail.TheVariants.{Range}
 use Rattle.def_text.specs.declared.reading.Reading.{Reading}
-use Rattle.def_text.specs.declared.reading.Reading.TheVariants.{Passed, Position, Face, Refused}
+use Rattle.def_text.specs.declared.reading.Reading.TheVariants as reads
 
 -- What each line says after those before it.
 abbrev pub readings : (before lines : List Logical) → List Reading
@@ -23,32 +23,32 @@ readings before (line ∷ lines) =
 
 -- The position in a reading.
 abbrev pub position_in : (said : Reading) → types.Positions
-position_in (Position position) = position ∷ []
-position_in Passed = []
-position_in (Face _ _) = []
-position_in (Refused _) = []
+position_in (reads.Position position) = position ∷ []
+position_in reads.Passed = []
+position_in (reads.Face _ _) = []
+position_in (reads.Refused _) = []
 
 -- The face in a reading.
 abbrev pub face_in : (said : Reading) → Faces
-face_in (Face _ corners) = corners ∷ []
-face_in Passed = []
-face_in (Position _) = []
-face_in (Refused _) = []
+face_in (reads.Face _ corners) = corners ∷ []
+face_in reads.Passed = []
+face_in (reads.Position _) = []
+face_in (reads.Refused _) = []
 
 -- The refusal in a reading.
 abbrev pub refusal_in : (said : Reading) → List ObjFail
-refusal_in (Refused fail) = fail ∷ []
-refusal_in Passed = []
-refusal_in (Position _) = []
-refusal_in (Face _ _) = []
+refusal_in (reads.Refused fail) = fail ∷ []
+refusal_in reads.Passed = []
+refusal_in (reads.Position _) = []
+refusal_in (reads.Face _ _) = []
 
 -- The refusal of a face that names a `v` line behind the last.
 abbrev pub late_in : (vertices : ℕ) (said : Reading) → List ObjFail
-late_in vertices (Face line corners) =
+late_in vertices (reads.Face line corners) =
     if list_any (λ corner. nat_lt vertices corner) corners then Range line ∷ [] else []
-late_in vertices Passed = []
-late_in vertices (Position _) = []
-late_in vertices (Refused _) = []
+late_in vertices reads.Passed = []
+late_in vertices (reads.Position _) = []
+late_in vertices (reads.Refused _) = []
 
 -- The positions of all `v` lines.
 abbrev pub positions : (said : List Reading) → types.Positions
@@ -76,14 +76,14 @@ abbrev pub position_of : (positions : types.Positions) (k : ℕ) → types.Posit
 position_of positions k = slice_index_or positions (k - 1) []
 
 -- The vertex that the kth `v` line becomes: as many used ones stand before it.
-abbrev pub vertex_of : (faces : Faces) (k : ℕ) → ℕ
-vertex_of faces k = length (used_to faces (k - 1))
+abbrev pub line_vertex : (faces : Faces) (k : ℕ) → ℕ
+line_vertex faces k = length (used_to faces (k - 1))
 
 -- The used `v` lines in order, and the faces over them.
 abbrev pub face_set : (positions : types.Positions) (faces : Faces) → FaceSet
 face_set positions faces = record {
   pos = map (position_of positions) (used_to faces (length positions));
-  faces = map (λ corners. map (vertex_of faces) corners) faces;
+  faces = map (λ corners. map (line_vertex faces) corners) faces;
   names = used_to faces (length positions);
 }
 

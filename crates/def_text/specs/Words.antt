@@ -1,6 +1,7 @@
 -- The words of a line.
 use Rattle.std.specs.Prelude.{ℕ, Bool, true, ◌==◌, ◌||◌, if◌then◌else◌, [], ◌∷◌}
 use Rattle.def_io.specs.Bytes.{Bytes}
+use Rattle.def_io.specs.Lines.{byte_in_front}
 use Rattle.def_text.specs.Types.{Words}
 use Rattle.def_text.specs.declared.letters.TheConstants.{SPACE, TAB}
 
@@ -13,14 +14,9 @@ abbrev pub ends_word : (bytes : Bytes) → Bool
 ends_word [] = true
 ends_word (byte ∷ _) = is_blank byte
 
--- A byte in front of the first of some words.
-abbrev pub in_front : (byte : ℕ) (words : Words) → Words
-in_front byte [] = (byte ∷ []) ∷ []
-in_front byte (word ∷ rest) = (byte ∷ word) ∷ rest
-
 -- The words of a text: its longest runs of bytes that are no blanks.
 abbrev pub words : (text : Bytes) → Words
 words [] = []
 words (byte ∷ bytes) =
     if is_blank byte then words bytes
-    else (if ends_word bytes then (byte ∷ []) ∷ words bytes else in_front byte (words bytes))
+    else (if ends_word bytes then (byte ∷ []) ∷ words bytes else byte_in_front byte (words bytes))

@@ -15,7 +15,7 @@ pub use index::Index;
 pub use letters::{
     BACKSLASH, FACE, HASH, LARGE_E, MINUS, PLUS, POINT, SLASH, SMALL_E, SPACE, TAB, VERTEX, ZERO,
 };
-pub use limits::{MAX_BYTES, MAX_DECIMAL, MAX_FACES, MAX_LINE, MAX_MICRO, MAX_PART, MAX_VERTICES};
+pub use limits::{MAX_BYTES, MAX_DECIMAL, MAX_F_LINES, MAX_LINE, MAX_MICRO, MAX_PART, MAX_V_LINES};
 pub use micro::Micro;
 pub use reading::Reading;
 pub use refusal::{ObjFail, SoupFail, Which};

@@ -7,10 +7,10 @@ pub const MAX_BYTES: u32 = 536_870_912;
 pub const MAX_LINE: usize = 65_536;
 
 /// The `v` lines of a text.
-pub const MAX_VERTICES: u32 = 2_097_152;
+pub const MAX_V_LINES: u32 = 2_097_152;
 
 /// The `f` lines of a text.
-pub const MAX_FACES: u32 = 1_048_576;
+pub const MAX_F_LINES: u32 = 1_048_576;
 
 /// The bytes of a decimal.
 pub const MAX_DECIMAL: usize = 64;

@@ -32,9 +32,9 @@ pub enum ObjFail {
 
 impl From<AllocError> for ObjFail {
     ghost use Rattle.std.specs.Prelude.{◌≡◌};
-    ghost use Rattle.def_text.specs.declared.refusal.ObjFail.TheVariants.{Memory};
+    ghost use Rattle.def_text.specs.declared.refusal.ObjFail.TheVariants as obj_fail;
 
-    ghost from_gives = { λ _ e. e ≡ Memory };
+    ghost from_gives = { λ _ e. e ≡ obj_fail.Memory };
 
     fn from(_: AllocError) -> ObjFail {
         ObjFail::Memory

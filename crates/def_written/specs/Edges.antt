@@ -3,7 +3,7 @@ use Rattle.std.specs.Prelude.{◌≡◌, ◌≢◌, ◌⊎◌, ℕ, ◌+◌, ◌
 use Rattle.def_layout.specs.Layouts.{Layout}
 use Rattle.def_layout.specs.Lengths.{Lengths, wide, high}
 use Rattle.def_written.specs.Points.{Point, arc_point, point}
-use Rattle.def_written.specs.Numbers.{number}
+use Rattle.def_written.specs.Numbers.{vertex_number}
 
 -- A unit segment of an arc, or one inside a patch: from grid point (i, j) to the east, or to the north.
 pub data Edge : Type 0 where
@@ -20,22 +20,24 @@ IsEdge layout lengths (steep p i j) =
     (p < layout.patches) × (0 < i) × (i < wide layout lengths p) × (j < high layout lengths p)
 
 -- The point where an edge begins.
-abbrev pub low : (layout : Layout) (lengths : Lengths) (edge : Edge) → Point
-low layout lengths (on_arc a k) = arc_point layout lengths a k
-low layout lengths (flat p i j) = point layout lengths p i j
-low layout lengths (steep p i j) = point layout lengths p i j
+abbrev pub edge_start : (layout : Layout) (lengths : Lengths) (edge : Edge) → Point
+edge_start layout lengths (on_arc a k) = arc_point layout lengths a k
+edge_start layout lengths (flat p i j) = point layout lengths p i j
+edge_start layout lengths (steep p i j) = point layout lengths p i j
 
 -- The point where it ends.
-abbrev pub top : (layout : Layout) (lengths : Lengths) (edge : Edge) → Point
-top layout lengths (on_arc a k) = arc_point layout lengths a (k + 1)
-top layout lengths (flat p i j) = point layout lengths p (i + 1) j
-top layout lengths (steep p i j) = point layout lengths p i (j + 1)
+abbrev pub edge_end : (layout : Layout) (lengths : Lengths) (edge : Edge) → Point
+edge_end layout lengths (on_arc a k) = arc_point layout lengths a (k + 1)
+edge_end layout lengths (flat p i j) = point layout lengths p (i + 1) j
+edge_end layout lengths (steep p i j) = point layout lengths p i (j + 1)
 
 -- The ends of an edge are the vertices u and v.
 abbrev pub HasEnds : (layout : Layout) (lengths : Lengths) (edge : Edge) (u v : ℕ) → Type 0
 HasEnds layout lengths e u v =
-    ((number layout lengths (low layout lengths e) ≡ u) × (number layout lengths (top layout lengths e) ≡ v))
-    ⊎ ((number layout lengths (low layout lengths e) ≡ v) × (number layout lengths (top layout lengths e) ≡ u))
+    ((vertex_number layout lengths (edge_start layout lengths e) ≡ u)
+    × (vertex_number layout lengths (edge_end layout lengths e) ≡ v))
+    ⊎ ((vertex_number layout lengths (edge_start layout lengths e) ≡ v)
+    × (vertex_number layout lengths (edge_end layout lengths e) ≡ u))
 
 -- An edge has both ends at u.
 abbrev pub HasLoop : (layout : Layout) (lengths : Lengths) (u : ℕ) → Type 0

@@ -8,10 +8,10 @@ use Rattle.def_layout.specs.Layouts.{Layout}
 use Rattle.def_layout.specs.Laid.{IsPaved, IsLaid}
 use Rattle.def_layout.specs.Fans.{HasFans}
 use Rattle.def_layout.specs.Lengths.{Lengths, AreLengths}
-use Rattle.def_layout.specs.Cells.{Dart}
+use Rattle.def_layout.specs.Cells.{CellDart}
 use Rattle.def_layout.specs.Sided.{IsSided}
 use Rattle.def_written.specs.Points.{Point, IsPoint}
-use Rattle.def_written.specs.Numbers.{number, vertices}
+use Rattle.def_written.specs.Numbers.{vertex_number, vertices}
 use Rattle.def_written.specs.NewFaces.{new_faces}
 use Rattle.def_written.specs.Edges.{IsUndoubled}
 use Rattle.def_written.specs.Places.{Coordinate, place_of}
@@ -28,7 +28,7 @@ pub record LiesIn (faces : Faces) (layout : Layout) (old : Lengths) (vertex : �
   pub used : UsesEach (vertex_count faces) faces
   pub paved : IsPaved layout
   pub lengths : AreLengths layout old
-  pub cell : Dart → ℕ
+  pub cell : CellDart → ℕ
   pub arc_dart : ℕ → ℕ → ℕ
   pub sided : IsSided (half_edges faces) layout old cell vertex arc_dart
 
@@ -39,11 +39,11 @@ LaidLaw = (faces : Faces) (layout : Layout) (old : Lengths) (vertex : ℕ → �
 
 -- Each number below that of the vertices is the number of one point.
 pub record AreNumbered (layout : Layout) (lengths : Lengths) : Type 0 where
-  pub low : (a : Point) → IsPoint layout lengths a → number layout lengths a < vertices layout lengths
+  pub low : (a : Point) → IsPoint layout lengths a → vertex_number layout lengths a < vertices layout lengths
   pub same : (a b : Point) → IsPoint layout lengths a → IsPoint layout lengths b
-      → number layout lengths a ≡ number layout lengths b → a ≡ b
+      → vertex_number layout lengths a ≡ vertex_number layout lengths b → a ≡ b
   pub onto : (n : ℕ) → n < vertices layout lengths
-      → (a : Point) × IsPoint layout lengths a × (number layout lengths a ≡ n)
+      → (a : Point) × IsPoint layout lengths a × (vertex_number layout lengths a ≡ n)
 
 abbrev pub NumbersLaw : Type 0
 NumbersLaw = (layout : Layout) (lengths : Lengths) → AreNumbered layout lengths

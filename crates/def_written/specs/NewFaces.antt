@@ -6,9 +6,9 @@ use Rattle.def_math.specs.Runs.{run_at}
 use Rattle.def_mesh.specs.Faces.{Face, Faces}
 use Rattle.def_layout.specs.Layouts.{Way, south, east, north, west, Layout}
 use Rattle.def_layout.specs.Lengths.{Lengths, wide, high}
-use Rattle.def_layout.specs.Cells.{Dart, next}
+use Rattle.def_layout.specs.Cells.{CellDart, next}
 use Rattle.def_written.specs.Points.{Point, point}
-use Rattle.def_written.specs.Numbers.{number}
+use Rattle.def_written.specs.Numbers.{vertex_number}
 
 -- The column of the corner where a side of a cell begins, which is that of the cell or the next one.
 abbrev pub column : (i : ℕ) (way : Way) → ℕ
@@ -25,12 +25,12 @@ row j north = j + 1
 row j west = j + 1
 
 -- The point where a dart begins.
-abbrev pub from : (layout : Layout) (lengths : Lengths) (d : Dart) → Point
-from layout lengths d = point layout lengths d.patch (column d.i d.way) (row d.j d.way)
+abbrev pub dart_start : (layout : Layout) (lengths : Lengths) (d : CellDart) → Point
+dart_start layout lengths d = point layout lengths d.patch (column d.i d.way) (row d.j d.way)
 
 -- The point where it ends.
-abbrev pub to : (layout : Layout) (lengths : Lengths) (d : Dart) → Point
-to layout lengths d = from layout lengths (next d)
+abbrev pub dart_end : (layout : Layout) (lengths : Lengths) (d : CellDart) → Point
+dart_end layout lengths d = dart_start layout lengths (next d)
 
 -- How many cells the patches before patch p have.
 abbrev pub cells_before : (layout : Layout) (lengths : Lengths) (p : ℕ) → ℕ
@@ -49,7 +49,7 @@ abbrev pub cell_in : (layout : Layout) (lengths : Lengths) (f : ℕ) → ℕ
 cell_in layout lengths f = f - cells_before layout lengths (patch_of layout lengths f)
 
 -- A side of cell f.
-abbrev pub dart_of : (layout : Layout) (lengths : Lengths) (f : ℕ) (way : Way) → Dart
+abbrev pub dart_of : (layout : Layout) (lengths : Lengths) (f : ℕ) (way : Way) → CellDart
 dart_of layout lengths f w = record {
   patch = patch_of layout lengths f;
   i = cell_in layout lengths f % wide layout lengths (patch_of layout lengths f);
@@ -58,14 +58,14 @@ dart_of layout lengths f w = record {
 }
 
 -- The vertex at a corner of cell f.
-abbrev pub vertex_of : (layout : Layout) (lengths : Lengths) (f : ℕ) (way : Way) → ℕ
-vertex_of layout lengths f w = number layout lengths (from layout lengths (dart_of layout lengths f w))
+abbrev pub cell_vertex : (layout : Layout) (lengths : Lengths) (f : ℕ) (way : Way) → ℕ
+cell_vertex layout lengths f w = vertex_number layout lengths (dart_start layout lengths (dart_of layout lengths f w))
 
 -- Face f.
 abbrev pub new_face : (layout : Layout) (lengths : Lengths) (f : ℕ) → Face
 new_face layout lengths f =
-    vertex_of layout lengths f south ∷ vertex_of layout lengths f east
-    ∷ vertex_of layout lengths f north ∷ vertex_of layout lengths f west ∷ []
+    cell_vertex layout lengths f south ∷ cell_vertex layout lengths f east
+    ∷ cell_vertex layout lengths f north ∷ cell_vertex layout lengths f west ∷ []
 
 -- All faces.
 abbrev pub new_faces : (layout : Layout) (lengths : Lengths) → Faces

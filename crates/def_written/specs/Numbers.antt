@@ -14,10 +14,10 @@ abbrev pub before_patch : (layout : Layout) (lengths : Lengths) (p : ℕ) → �
 before_patch layout lengths p = count_below (λ q. (wide layout lengths q - 1) * (high layout lengths q - 1)) p
 
 -- The number of a point.
-abbrev pub number : (layout : Layout) (lengths : Lengths) (point : Point) → ℕ
-number layout lengths (node n) = n
-number layout lengths (along a k) = layout.nodes + before_arc lengths a + (k - 1)
-number layout lengths (inside p i j) =
+abbrev pub vertex_number : (layout : Layout) (lengths : Lengths) (point : Point) → ℕ
+vertex_number layout lengths (node n) = n
+vertex_number layout lengths (along a k) = layout.nodes + before_arc lengths a + (k - 1)
+vertex_number layout lengths (inside p i j) =
     layout.nodes + before_arc lengths layout.arcs + before_patch layout lengths p
     + ((j - 1) * (wide layout lengths p - 1) + (i - 1))
 

@@ -7,7 +7,7 @@ use Rattle.def_mesh.specs.Kinds.{is_regular, kind_of}
 use Rattle.def_mesh.specs.Components.{euler}
 
 -- Node n of the layout stands for this vertex, old and new.
-pub record IsKept (old new : Faces) (vertex : ℕ → ℕ) (n : ℕ) : Type 0 where
+pub record IsKeptNode (old new : Faces) (vertex : ℕ → ℕ) (n : ℕ) : Type 0 where
   pub kind : kind_of new n ≡ kind_of old (vertex n)
   pub faces : faces_at new n ≡ faces_at old (vertex n)
 
@@ -18,6 +18,6 @@ pub record KeepsShape (old new : Faces) (nodes : ℕ) (vertex : ℕ → ℕ) : T
   pub new_manifold : IsManifold new
   pub euler : euler new ≡ euler old
   pub irregular : (v : ℕ) → v < vertex_count old → is_regular old v ≡ false
-      → (n : ℕ) × (n < nodes) × (vertex n ≡ v) × IsKept old new vertex n
+      → (n : ℕ) × (n < nodes) × (vertex n ≡ v) × IsKeptNode old new vertex n
   pub regular : (v : ℕ) → v < vertex_count new → is_regular new v ≡ false
       → (v < nodes) × (is_regular old (vertex v) ≡ false)

@@ -8,7 +8,7 @@ use Rattle.def_mesh.specs.Manifold.{IsManifold}
 use Rattle.def_mesh.specs.HalfEdges.{IsQuadManifold, half_edges}
 use Rattle.def_cut.specs.Cuts.{IsCross, HasCross, IsCut}
 use Rattle.def_cut.specs.FullCut.{is_on}
-use Rattle.def_cut.specs.Steps.{east, easts}
+use Rattle.def_cut.specs.Steps.{step_east, easts}
 use Rattle.def_layout.specs.Arcs.{IsRun}
 use Rattle.def_layout.specs.Nodes.{is_node, AreNodes}
 use Rattle.def_feature.specs.Laws.{KeepsMarks, MarkedArcLaw}
@@ -55,10 +55,10 @@ module _ (faces : Faces) (m : IsManifold faces) (marks : List Bool) (marked : Ar
           absurd (turns (origin_cut faces m marks marked c lc (break_origin faces m marks marked c t.0 t.1 (ap (is_break faces marks) (at_c (half_edges faces) laws x a b c l k) ∙ y))))
 
   -- So it does along an arc,
-  onward : (e : ℕ) → e < darts faces → GoesStraight (half_edges faces) (is_on (marked_cut faces marks)) e → is_node faces (marked_cut faces marks) (to_of faces e) ≡ false → is_on marks e ≡ true → is_on marks (east (half_edges faces) e) ≡ true
+  onward : (e : ℕ) → e < darts faces → GoesStraight (half_edges faces) (is_on (marked_cut faces marks)) e → is_node faces (marked_cut faces marks) (to_of faces e) ≡ false → is_on marks e ≡ true → is_on marks (step_east (half_edges faces) e) ≡ true
   onward e l g inner on = by_twin (twin_on faces m marks marked e l on)
     where
-      by_twin : (t : ℕ) × (twin_of faces e ≡ Some t) → is_on marks (east (half_edges faces) e) ≡ true
+      by_twin : (t : ℕ) × (twin_of faces e ≡ Some t) → is_on marks (step_east (half_edges faces) e) ≡ true
       by_twin (t, w) = by_cross (nodes.through t e lt (kept.kept t lt t_on) t_twin (ap (is_node faces (marked_cut faces marks)) at ∙ inner))
         where
           lt : t < darts faces
@@ -73,7 +73,7 @@ module _ (faces : Faces) (m : IsManifold faces) (marks : List Bool) (marked : Ar
           at : from_of faces t ≡ to_of faces e
           at = (laws.twin_ends e t l w).0
 
-          by_cross : HasCross (half_edges faces) t → is_on marks (east (half_edges faces) e) ≡ true
+          by_cross : HasCross (half_edges faces) t → is_on marks (step_east (half_edges faces) e) ≡ true
           by_cross (a, b, c, k) = ap (is_on marks) (sym is) ∙ opposite t a b c lt k (ap (is_node faces (marked_cut faces marks)) at ∙ inner) t_on
             where
               lb : b < darts faces
@@ -85,24 +85,24 @@ module _ (faces : Faces) (m : IsManifold faces) (marks : List Bool) (marked : Ar
               left : next_of e ≡ c
               left = ap next_of (same_Some e (prev_of c) (sym t_twin ∙ laws.twin_twin (prev_of c) t (laws.prev_low c lc) k.last)) ∙ laws.next_prev c
 
-              is : b ≡ east (half_edges faces) e
-              is = sym (laws.next_prev b) ∙ (ap next_of (same_Some (prev_of b) (prev_of (east (half_edges faces) e)) (sym (laws.twin_twin (prev_of b) c (laws.prev_low b lb) k.third) ∙ (ap (twin_of faces) (sym left) ∙ g.over))) ∙ laws.next_prev (east (half_edges faces) e))
+              is : b ≡ step_east (half_edges faces) e
+              is = sym (laws.next_prev b) ∙ (ap next_of (same_Some (prev_of b) (prev_of (step_east (half_edges faces) e)) (sym (laws.twin_twin (prev_of b) c (laws.prev_low b lb) k.third) ∙ (ap (twin_of faces) (sym left) ∙ g.over))) ∙ laws.next_prev (step_east (half_edges faces) e))
 
   -- and back.
-  backward : (e : ℕ) → e < darts faces → GoesStraight (half_edges faces) (is_on (marked_cut faces marks)) e → is_node faces (marked_cut faces marks) (to_of faces e) ≡ false → is_on marks (east (half_edges faces) e) ≡ true → is_on marks e ≡ true
-  backward e l g inner on = by_twin (twin_on faces m marks marked (east (half_edges faces) e) g.low on)
+  backward : (e : ℕ) → e < darts faces → GoesStraight (half_edges faces) (is_on (marked_cut faces marks)) e → is_node faces (marked_cut faces marks) (to_of faces e) ≡ false → is_on marks (step_east (half_edges faces) e) ≡ true → is_on marks e ≡ true
+  backward e l g inner on = by_twin (twin_on faces m marks marked (step_east (half_edges faces) e) g.low on)
     where
-      by_twin : (t : ℕ) × (twin_of faces (east (half_edges faces) e) ≡ Some t) → is_on marks e ≡ true
-      by_twin (t, w) = by_cross (nodes.through (east (half_edges faces) e) t g.low (kept.kept (east (half_edges faces) e) g.low on) w there)
+      by_twin : (t : ℕ) × (twin_of faces (step_east (half_edges faces) e) ≡ Some t) → is_on marks e ≡ true
+      by_twin (t, w) = by_cross (nodes.through (step_east (half_edges faces) e) t g.low (kept.kept (step_east (half_edges faces) e) g.low on) w there)
         where
-          there : is_node faces (marked_cut faces marks) (from_of faces (east (half_edges faces) e)) ≡ false
+          there : is_node faces (marked_cut faces marks) (from_of faces (step_east (half_edges faces) e)) ≡ false
           there = ap (is_node faces (marked_cut faces marks)) g.from ∙ inner
 
-          by_cross : HasCross (half_edges faces) (east (half_edges faces) e) → is_on marks e ≡ true
-          by_cross (a, b, c, k) = sym (marked.alike e b l is) ∙ opposite (east (half_edges faces) e) a b c g.low k there on
+          by_cross : HasCross (half_edges faces) (step_east (half_edges faces) e) → is_on marks e ≡ true
+          by_cross (a, b, c, k) = sym (marked.alike e b l is) ∙ opposite (step_east (half_edges faces) e) a b c g.low k there on
             where
               right : a ≡ next_of e
-              right = same_Some a (next_of e) (sym k.first ∙ laws.twin_twin (next_of e) (prev_of (east (half_edges faces) e)) (laws.next_low e l) g.over)
+              right = same_Some a (next_of e) (sym k.first ∙ laws.twin_twin (next_of e) (prev_of (step_east (half_edges faces) e)) (laws.next_low e l) g.over)
 
               is : twin_of faces e ≡ Some b
               is = ap (twin_of faces) (sym (ap prev_of right ∙ laws.prev_next e)) ∙ k.second

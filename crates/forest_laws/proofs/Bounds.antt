@@ -6,12 +6,12 @@ use Rattle.def_math.specs.Counts.{count}
 use Rattle.def_math.specs.Increasing.{IsIncreasing}
 use Rattle.def_math.specs.Sums.{total, total_below}
 use Rattle.sum_laws.proofs.Sums.{total_below_le, two_orders}
-use Rattle.def_matching.specs.Matching.{Graph, IsGraph, edge_at, ends_at, IsPerfect, matching_cost}
+use Rattle.def_matching.specs.Matching.{WeightedGraph, IsGraph, edge_at, ends_at, IsPerfect, matching_cost}
 use Rattle.def_matching.specs.Dual.{crosses}
 use Rattle.def_matching.specs.declared.weighted.WEdge.{WEdge}
 use Rattle.qm_dual.proofs.Weak.{at_least_once, odd_leaves, chosen_below}
 use Rattle.def_forest.specs.Darts.{darts_of, far}
-use Rattle.def_forest.specs.Forests.{Forest, load, dual_sum_of}
+use Rattle.def_forest.specs.Forests.{Forest, weight_between, dual_sum_of}
 use Rattle.def_forest.specs.Valid.{IsNested, IsFeasible}
 use Rattle.forest_laws.proofs.Graphs.{are_darts, dart_near, dart_far, dart_cost}
 use Rattle.forest_laws.proofs.Odds.{odd_blossom}
@@ -45,7 +45,7 @@ just_once s z (e ∷ es) one = by_test (crosses s e) one (just_once s z es) (onc
     by_test true one' rest none = let h : total (λ (x : WEdge). cond (crosses s x) z (pos 0)) es ≡ pos 0 = none (omega arith) in omega (arith, ints)
     by_test false one' rest none = let h : total (λ (x : WEdge). cond (crosses s x) z (pos 0)) es ≡ z = rest (omega arith) in omega (arith, ints)
 
-module _ (g : Graph) (is : IsGraph g) (f : Forest) (vertices : g.n ≤ f.size) (nested : IsNested (darts_of g) f) where
+module _ (g : WeightedGraph) (is : IsGraph g) (f : Forest) (vertices : g.n ≤ f.size) (nested : IsNested (darts_of g) f) where
   -- An edge that leaves a vertex ends there.
   pub leaves_vertex : (v k : ℕ) → v < g.n → k < length g.edges → ◌≡◌ {A = ℕ} (cond (crosses (f.holds v) (edge_at g k)) 1 0) (ends_at v (edge_at g k))
   leaves_vertex v k lv lk =
@@ -61,13 +61,13 @@ module _ (g : Graph) (is : IsGraph g) (f : Forest) (vertices : g.n ≤ f.size) (
       omega (arith, here, rest)
 
   module _ (feasible : IsFeasible (darts_of g) f) where
-    edge_low : (k : ℕ) → k < length g.edges → load f (edge_at g k).u (edge_at g k).v ≤ℤ ((edge_at g k).cost +ℤ (edge_at g k).cost)
+    edge_low : (k : ℕ) → k < length g.edges → weight_between f (edge_at g k).u (edge_at g k).v ≤ℤ ((edge_at g k).cost +ℤ (edge_at g k).cost)
     edge_low k l =
-        subst (λ c. load f (edge_at g k).u (edge_at g k).v ≤ℤ (c +ℤ c)) (dart_cost g k)
-        (subst (λ v. load f (edge_at g k).u v ≤ℤ ((darts_of g).cost (2 * k) +ℤ (darts_of g).cost (2 * k))) (dart_far g k)
-        (subst (λ u. load f u (far (darts_of g) (2 * k)) ≤ℤ ((darts_of g).cost (2 * k) +ℤ (darts_of g).cost (2 * k))) (dart_near g k) (feasible.darts (2 * k) (omega arith))))
+        subst (λ c. weight_between f (edge_at g k).u (edge_at g k).v ≤ℤ (c +ℤ c)) (dart_cost g k)
+        (subst (λ v. weight_between f (edge_at g k).u v ≤ℤ ((darts_of g).cost (2 * k) +ℤ (darts_of g).cost (2 * k))) (dart_far g k)
+        (subst (λ u. weight_between f u (far (darts_of g) (2 * k)) ≤ℤ ((darts_of g).cost (2 * k) +ℤ (darts_of g).cost (2 * k))) (dart_near g k) (feasible.darts (2 * k) (omega arith))))
 
-    loads_low : (low : ℕ) (m : List ℕ) → IsIncreasing low (length g.edges) m → total (λ (e : WEdge). load f e.u e.v) (map (edge_at g) m) ≤ℤ (pos 2 *ℤ matching_cost g m)
+    loads_low : (low : ℕ) (m : List ℕ) → IsIncreasing low (length g.edges) m → total (λ (e : WEdge). weight_between f e.u e.v) (map (edge_at g) m) ≤ℤ (pos 2 *ℤ matching_cost g m)
     loads_low low [] increasing = omega (arith, ints)
     loads_low low (k ∷ ks) increasing = omega (arith, ints, edge_low k increasing.1, loads_low (k + 1) ks increasing.2)
 

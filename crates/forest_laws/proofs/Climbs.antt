@@ -5,7 +5,7 @@ use Rattle.std.proofs.lemmas.Bool.{cases_lt, lt-ltb, le-ltb}
 use Rattle.def_math.specs.Counts.{count_below}
 use Rattle.sum_laws.proofs.Counts.{count_below_le, count_below_lt, count_below_ones}
 use Rattle.def_forest.specs.Darts.{Darts, AreDarts, far}
-use Rattle.def_forest.specs.Forests.{Forest, IsOutermost, number}
+use Rattle.def_forest.specs.Forests.{Forest, IsOutermost, bool_number}
 use Rattle.def_forest.specs.Valid.{IsTree, IsInner, IsValid}
 use Rattle.def_forest.specs.declared.kinds.Label.TheVariants.{Outer, Inner, Outside}
 use Rattle.def_forest.specs.Ways.{dart_or, inner_of, parent_of, steps_by, steps}
@@ -41,16 +41,16 @@ module _ (g : Darts) (are : AreDarts g) (f : Forest) (r : ℕ) (valid : IsValid 
 
   -- How many blossoms are nearer to the root.
   abbrev nearer_to : ℕ → ℕ → ℕ
-  nearer_to a b = number (nat_lt (tree.depth b) (tree.depth a))
+  nearer_to a b = bool_number (nat_lt (tree.depth b) (tree.depth a))
 
   abbrev nearer : ℕ → ℕ
   nearer a = count_below (nearer_to a) f.size
 
   is_nearer : (a b : ℕ) → tree.depth b < tree.depth a → nearer_to a b ≡ 1
-  is_nearer a b l = ap number (lt-ltb (tree.depth b) (tree.depth a) l)
+  is_nearer a b l = ap bool_number (lt-ltb (tree.depth b) (tree.depth a) l)
 
   not_nearer : (a b : ℕ) → tree.depth a ≤ tree.depth b → nearer_to a b ≡ 0
-  not_nearer a b l = ap number (le-ltb (tree.depth b) (tree.depth a) l)
+  not_nearer a b l = ap bool_number (le-ltb (tree.depth b) (tree.depth a) l)
 
   outer_low : (b : ℕ) → f.label b ≡ Outer → b < f.size
   outer_low b l = let w : IsOutermost g.n f b = valid.outermost.named b named in subst (λ x. x < f.size) w.2 (valid.outermost.out_low w.0 w.1)
@@ -85,7 +85,7 @@ module _ (g : Darts) (are : AreDarts g) (f : Forest) (r : ℕ) (valid : IsValid 
   few : (a : ℕ) → nearer a ≤ f.size
   few a = let h : nearer a ≤ count_below (λ b. 1) f.size = count_below_le (nearer_to a) (λ b. 1) f.size (λ b l. by_test (nat_lt (tree.depth b) (tree.depth a))) in omega (arith, h, count_below_ones f.size)
     where
-      by_test : (b : Bool) → number b ≤ 1
+      by_test : (b : Bool) → bool_number b ≤ 1
       by_test true = omega arith
       by_test false = omega arith
 

@@ -2,7 +2,7 @@
 use Rattle.std.proofs.Common.{◌≡◌, ◌≢◌, ℕ, zero, suc, ◌+◌, ◌*◌, ◌-◌, ◌/◌, ◌%◌, ◌<◌, ◌≤◌, Bool, true, false, cond, eqb, Some, ℤ, pos, ◌+ℤ◌, ◌≤ℤ◌, ◌⊎◌, refl, sym, ◌∙◌, ap, subst, inl, inr, arith}
 use Rattle.std.proofs.lemmas.Bool.{cases_eq, cases_lt, cases_Bool, cond-true, cond-false, eq-eqb, ne_eqb}
 use Rattle.def_forest.specs.Darts.{Darts, AreDarts, far}
-use Rattle.def_forest.specs.Forests.{Forest, load, IsTight, IsOutermost, number, walk, ring_sum}
+use Rattle.def_forest.specs.Forests.{Forest, weight_between, IsTight, IsOutermost, bool_number, walk, ring_sum}
 use Rattle.def_forest.specs.Opened.{Opening, IsOpening, IsOpened}
 use Rattle.def_forest.specs.Valid.{AreOutermost, IsNested, IsRing, IsJoint, IsFeasible, IsTree, IsValid}
 use Rattle.def_forest.specs.declared.kinds.Label.TheVariants.{Inner, Outside}
@@ -21,7 +21,7 @@ ring_term next f front zero k l = absurd (omega arith)
 ring_term next f front (suc n) k l = elim (cases_eq k n) [ inl e ↦ (let h : f (walk next front k) ≡ f (walk next front n) = ap (λ x. f (walk next front x)) e in omega arith) | inr ne ↦ (let h : k < n → f (walk next front k) ≤ ring_sum next f front n = ring_term next f front n k in let low : k < n = omega arith in let h' : f (walk next front k) ≤ ring_sum next f front n = h low in omega arith) ]
 
 -- A test that counts passes.
-pub number_true : (b : Bool) → 1 ≤ number b → b ≡ true
+pub number_true : (b : Bool) → 1 ≤ bool_number b → b ≡ true
 number_true true l = refl
 number_true false l = absurd (omega arith)
 
@@ -32,8 +32,8 @@ holds_up g f nested p v l inner on = by_ring (nested.rings (f.nest.up p) (nested
     by_ring : IsRing g f (f.nest.up p) → f.holds (f.nest.up p) v ≡ true
     by_ring ring =
         let w : (k : ℕ) × (k < f.nest.parts (f.nest.up p)) × (walk f.nest.after (f.nest.head (f.nest.up p)) k ≡ p) = ring.all p refl (λ e. inner (sym e)) in
-        let term : number (f.holds (walk f.nest.after (f.nest.head (f.nest.up p)) w.0) v) ≤ ring_sum f.nest.after (λ q. number (f.holds q v)) (f.nest.head (f.nest.up p)) (f.nest.parts (f.nest.up p)) = ring_term f.nest.after (λ q. number (f.holds q v)) (f.nest.head (f.nest.up p)) (f.nest.parts (f.nest.up p)) w.0 w.1 in
-        let one : number (f.holds (walk f.nest.after (f.nest.head (f.nest.up p)) w.0) v) ≡ 1 = ap (λ x. number (f.holds x v)) w.2 ∙ ap number on in
+        let term : bool_number (f.holds (walk f.nest.after (f.nest.head (f.nest.up p)) w.0) v) ≤ ring_sum f.nest.after (λ q. bool_number (f.holds q v)) (f.nest.head (f.nest.up p)) (f.nest.parts (f.nest.up p)) = ring_term f.nest.after (λ q. bool_number (f.holds q v)) (f.nest.head (f.nest.up p)) (f.nest.parts (f.nest.up p)) w.0 w.1 in
+        let one : bool_number (f.holds (walk f.nest.after (f.nest.head (f.nest.up p)) w.0) v) ≡ 1 = ap (λ x. bool_number (f.holds x v)) w.2 ∙ ap bool_number on in
         number_true (f.holds (f.nest.up p) v) (omega (arith, ring.shared v l))
 
 module _ (g : Darts) (are : AreDarts g) (f : Forest) (r : ℕ) (valid : IsValid g f (Some r)) (tree : IsTree g f r) (new : Forest) (o : Opening) (opening : IsOpening g f o) (is : IsOpened g f new o) where
@@ -88,7 +88,7 @@ module _ (g : Darts) (are : AreDarts g) (f : Forest) (r : ℕ) (valid : IsValid 
   other_not_b x ne e = ne (ap f.nest.up e ∙ b_top)
 
   -- No load changes.
-  pub same_load : (u v : ℕ) → u < g.n → v < g.n → load new u v ≡ load f u v
+  pub same_load : (u v : ℕ) → u < g.n → v < g.n → weight_between new u v ≡ weight_between f u v
   same_load = loads.same_load g.n f new b is.size is.weight opening.weightless is.holds
 
   pub same_tight : (d : ℕ) → IsTight g f d → IsTight g new d
@@ -186,7 +186,7 @@ module _ (g : Darts) (are : AreDarts g) (f : Forest) (r : ℕ) (valid : IsValid 
     below = λ k. subst (λ x. x < new.size) (sym (walks k)) (subst (λ s. at k < s) (sym is.size) (ring.below k));
     distinct = λ i j l h e. ring.distinct i j l (subst (λ n. j < n) many_is h) (sym (walks i) ∙ (e ∙ walks j));
     all = λ p up inner. all p up inner (cases_eq (f.nest.up p) b);
-    shared = λ v l. ap number (is.holds c v ne l) ∙ (ring.shared v l ∙ (ring_sum_same f.nest.after new.nest.after (λ p. number (f.holds p v)) (λ p. number (new.holds p v)) (f.nest.head c) (new.nest.head c) (f.nest.parts c) walks (λ k. ap number (sym (is.holds (at k) v (other_not_b (at k) (old k)) l))) ∙ ap (ring_sum new.nest.after (λ p. number (new.holds p v)) (new.nest.head c)) (sym many_is)));
+    shared = λ v l. ap bool_number (is.holds c v ne l) ∙ (ring.shared v l ∙ (ring_sum_same f.nest.after new.nest.after (λ p. bool_number (f.holds p v)) (λ p. bool_number (new.holds p v)) (f.nest.head c) (new.nest.head c) (f.nest.parts c) walks (λ k. ap bool_number (sym (is.holds (at k) v (other_not_b (at k) (old k)) l))) ∙ ap (ring_sum new.nest.after (λ p. bool_number (new.holds p v)) (new.nest.head c)) (sym many_is)));
   }
     where
       at : ℕ → ℕ

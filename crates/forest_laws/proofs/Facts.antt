@@ -1,7 +1,7 @@
 -- What follows at once from a forest's validity.
 use Rattle.std.proofs.Common.{◌≡◌, ◌≢◌, ℕ, ◌<◌, Option, Some, None, ◌+ℤ◌, refl, sym, ◌∙◌, ap, inl, inr}
 use Rattle.def_forest.specs.Darts.{Darts, AreDarts, far}
-use Rattle.def_forest.specs.Forests.{Forest, load, IsTight}
+use Rattle.def_forest.specs.Forests.{Forest, weight_between, IsTight}
 use Rattle.def_forest.specs.Valid.{IsValid, IsTree, IsInner, IsOuter}
 use Rattle.def_forest.specs.declared.kinds.Label.TheVariants.{Outer, Inner, Outside}
 use Rattle.forest_laws.proofs.Writes.{some_is}
@@ -19,7 +19,7 @@ far_twin g are d = ap g.near (are.twin_twin d)
 pub tight_twin : (g : Darts) → AreDarts g → (f : Forest) (d : ℕ) → IsTight g f d → IsTight g f (g.twin d)
 tight_twin g are f d tight = record {
   low = are.twin_low d tight.low;
-  exact = ap (load f (far g d)) (far_twin g are d) ∙ (load_order f (far g d) (g.near d) ∙ (tight.exact ∙ sym (ap (λ x. x +ℤ x) (are.cost_twin d))));
+  exact = ap (weight_between f (far g d)) (far_twin g are d) ∙ (load_order f (far g d) (g.near d) ∙ (tight.exact ∙ sym (ap (λ x. x +ℤ x) (are.cost_twin d))));
 }
 
 module _ (g : Darts) (are : AreDarts g) (f : Forest) (root : Option ℕ) (valid : IsValid g f root) where

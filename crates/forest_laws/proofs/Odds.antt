@@ -4,7 +4,7 @@ use Rattle.std.proofs.lemmas.Bool.{cases_lt, eq-eqb, ne_eqb}
 use Rattle.def_math.specs.Counts.{count_below}
 use Rattle.sum_laws.proofs.Counts.{count_below_same, count_below_sum, count_below_none, count_below_one}
 use Rattle.def_forest.specs.Darts.{Darts, AreDarts}
-use Rattle.def_forest.specs.Forests.{Forest, number, walk, ring_sum, vertices_in}
+use Rattle.def_forest.specs.Forests.{Forest, bool_number, walk, ring_sum, blossom_size}
 use Rattle.def_forest.specs.Valid.{IsNested, IsRing, IsJoint}
 use Rattle.forest_laws.proofs.Writes.{true_false}
 
@@ -28,10 +28,10 @@ abbrev pub IsBlossom : (g : Darts) (f : Forest) (b : ℕ) → Type 0
 IsBlossom g f b = (b < g.n) ⊎ ((g.n ≤ b) × (f.nest.parts b ≢ 0))
 
 module _ (g : Darts) (are : AreDarts g) (f : Forest) (nested : IsNested g f) where
-  vertex_odd : (b : ℕ) → b < g.n → vertices_in g.n f b ≡ 1
+  vertex_odd : (b : ℕ) → b < g.n → blossom_size g.n f b ≡ 1
   vertex_odd b l =
-      count_below_one (λ v. number (f.holds b v)) g.n b l (λ k lk ne. ap number (nested.alone b k l lk ∙ ne_eqb b k (λ e. ne (sym e))))
-      ∙ ap number (nested.alone b b l l ∙ eq-eqb b b refl)
+      count_below_one (λ v. bool_number (f.holds b v)) g.n b l (λ k lk ne. ap bool_number (nested.alone b k l lk ∙ ne_eqb b k (λ e. ne (sym e))))
+      ∙ ap bool_number (nested.alone b b l l ∙ eq-eqb b b refl)
 
   -- A part is in use.
   pub part_used : (b : ℕ) → IsRing g f b → (k : ℕ) → IsBlossom g f (walk f.nest.after (f.nest.head b) k)
@@ -54,36 +54,36 @@ module _ (g : Darts) (are : AreDarts g) (f : Forest) (nested : IsNested g f) whe
       by_size (inr h) = inr (h, λ none. true_false (f.holds p (g.near (f.nest.joint p))) joint.begins (nested.empty p (g.near (f.nest.joint p)) h near_low none))
 
   -- A set has the vertices of its parts.
-  set_sum : (b : ℕ) → IsRing g f b → vertices_in g.n f b ≡ ring_sum f.nest.after (vertices_in g.n f) (f.nest.head b) (f.nest.parts b)
+  set_sum : (b : ℕ) → IsRing g f b → blossom_size g.n f b ≡ ring_sum f.nest.after (blossom_size g.n f) (f.nest.head b) (f.nest.parts b)
   set_sum b ring =
-      count_below_same (λ v. number (f.holds b v)) (λ v. ring_sum f.nest.after (λ p. number (f.holds p v)) (f.nest.head b) (f.nest.parts b)) g.n ring.shared
-      ∙ counts_exchanged f.nest.after (λ p v. number (f.holds p v)) (f.nest.head b) g.n (f.nest.parts b)
+      count_below_same (λ v. bool_number (f.holds b v)) (λ v. ring_sum f.nest.after (λ p. bool_number (f.holds p v)) (f.nest.head b) (f.nest.parts b)) g.n ring.shared
+      ∙ counts_exchanged f.nest.after (λ p v. bool_number (f.holds p v)) (f.nest.head b) g.n (f.nest.parts b)
 
-  set_odd : (b : ℕ) → IsRing g f b → ((k : ℕ) → vertices_in g.n f (walk f.nest.after (f.nest.head b) k) % 2 ≡ 1) → vertices_in g.n f b % 2 ≡ 1
+  set_odd : (b : ℕ) → IsRing g f b → ((k : ℕ) → blossom_size g.n f (walk f.nest.after (f.nest.head b) k) % 2 ≡ 1) → blossom_size g.n f b % 2 ≡ 1
   set_odd b ring odd =
-      let parity : ring_sum f.nest.after (vertices_in g.n f) (f.nest.head b) (f.nest.parts b) % 2 ≡ f.nest.parts b % 2 = odd_sum f.nest.after (vertices_in g.n f) (f.nest.head b) (f.nest.parts b) odd in
-      let whole : vertices_in g.n f b % 2 ≡ f.nest.parts b % 2 = ap (λ x. x % 2) (set_sum b ring) ∙ parity in
+      let parity : ring_sum f.nest.after (blossom_size g.n f) (f.nest.head b) (f.nest.parts b) % 2 ≡ f.nest.parts b % 2 = odd_sum f.nest.after (blossom_size g.n f) (f.nest.head b) (f.nest.parts b) odd in
+      let whole : blossom_size g.n f b % 2 ≡ f.nest.parts b % 2 = ap (λ x. x % 2) (set_sum b ring) ∙ parity in
       omega (arith, whole, ring.odd)
 
-  odd_below : (fuel b : ℕ) → f.nest.rank b < fuel → IsBlossom g f b → vertices_in g.n f b % 2 ≡ 1
+  odd_below : (fuel b : ℕ) → f.nest.rank b < fuel → IsBlossom g f b → blossom_size g.n f b % 2 ≡ 1
   odd_below zero b l used = absurd (omega arith)
   odd_below (suc fuel) b l (inl low) = ap (λ x. x % 2) (vertex_odd b low)
   odd_below (suc fuel) b l (inr (high, live)) = by_ring (nested.rings b high live) (λ p lp used. odd_below fuel p lp used)
     where
-      by_ring : IsRing g f b → ((p : ℕ) → f.nest.rank p < fuel → IsBlossom g f p → vertices_in g.n f p % 2 ≡ 1) → vertices_in g.n f b % 2 ≡ 1
+      by_ring : IsRing g f b → ((p : ℕ) → f.nest.rank p < fuel → IsBlossom g f p → blossom_size g.n f p % 2 ≡ 1) → blossom_size g.n f b % 2 ≡ 1
       by_ring ring more = set_odd b ring (λ k. more (walk f.nest.after (f.nest.head b) k) (let h : f.nest.rank (walk f.nest.after (f.nest.head b) k) < f.nest.rank b = ring.lower k in omega arith) (part_used b ring k))
 
   -- A blossom holds an odd number of vertices.
-  pub odd_blossom : (b : ℕ) → IsBlossom g f b → vertices_in g.n f b % 2 ≡ 1
+  pub odd_blossom : (b : ℕ) → IsBlossom g f b → blossom_size g.n f b % 2 ≡ 1
   odd_blossom b used = odd_below (suc (f.nest.rank b)) b (omega arith) used
 
   -- A set holds at least as many vertices as it has parts.
-  pub large_set : (b : ℕ) → g.n ≤ b → f.nest.parts b ≢ 0 → 3 ≤ vertices_in g.n f b
+  pub large_set : (b : ℕ) → g.n ≤ b → f.nest.parts b ≢ 0 → 3 ≤ blossom_size g.n f b
   large_set b high live = by_ring (nested.rings b high live)
     where
-      by_ring : IsRing g f b → 3 ≤ vertices_in g.n f b
-      by_ring ring = (let sum : vertices_in g.n f b ≡ ring_sum f.nest.after (vertices_in g.n f) (f.nest.head b) (f.nest.parts b) = set_sum b ring in omega (arith, sum, each (f.nest.parts b), ring.odd, ring.some))
+      by_ring : IsRing g f b → 3 ≤ blossom_size g.n f b
+      by_ring ring = (let sum : blossom_size g.n f b ≡ ring_sum f.nest.after (blossom_size g.n f) (f.nest.head b) (f.nest.parts b) = set_sum b ring in omega (arith, sum, each (f.nest.parts b), ring.odd, ring.some))
         where
-          each : (k : ℕ) → k ≤ ring_sum f.nest.after (vertices_in g.n f) (f.nest.head b) k
+          each : (k : ℕ) → k ≤ ring_sum f.nest.after (blossom_size g.n f) (f.nest.head b) k
           each zero = omega arith
-          each (suc k) = (let one : vertices_in g.n f (walk f.nest.after (f.nest.head b) k) % 2 ≡ 1 = odd_blossom (walk f.nest.after (f.nest.head b) k) (part_used b ring k) in omega (arith, each k, one))
+          each (suc k) = (let one : blossom_size g.n f (walk f.nest.after (f.nest.head b) k) % 2 ≡ 1 = odd_blossom (walk f.nest.after (f.nest.head b) k) (part_used b ring k) in omega (arith, each k, one))

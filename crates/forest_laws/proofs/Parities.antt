@@ -3,9 +3,9 @@ use Rattle.std.proofs.Common.{◌≡◌, ◌≢◌, ℕ, zero, suc, ◌+◌, ◌
 use Rattle.std.proofs.lemmas.Int.{ints}
 use Rattle.std.proofs.lemmas.Bool.{cases_lt, eq-eqb, eqb-true}
 use Rattle.def_math.specs.Sums.{total_below}
-use Rattle.def_matching.specs.Matching.{Graph, IsGraph, edge_at}
+use Rattle.def_matching.specs.Matching.{WeightedGraph, IsGraph, edge_at}
 use Rattle.def_forest.specs.Darts.{Darts, AreDarts, darts_of, far}
-use Rattle.def_forest.specs.Forests.{Forest, load, splits, IsTight, IsOutermost, number, walk, ring_sum}
+use Rattle.def_forest.specs.Forests.{Forest, weight_between, splits, IsTight, IsOutermost, bool_number, walk, ring_sum}
 use Rattle.def_forest.specs.Tables.{slack_of}
 use Rattle.def_forest.specs.Valid.{IsNested, IsRing, IsJoint, IsMate, IsInner, IsOuter, IsTree, IsValid}
 use Rattle.def_forest.specs.declared.kinds.Label.TheVariants.{Outer}
@@ -45,7 +45,7 @@ sums_both f u v zero = omega (arith, ints)
 sums_both f u v (suc m) = omega (arith, ints, sums_both f u v m, by_both (f.holds m u) (f.holds m v) (f.weight m))
 
 -- Two potentials are a load and twice what lies around both vertices.
-potentials_both : (f : Forest) (u v : ℕ) → potential f u +ℤ potential f v ≡ load f u v +ℤ (total_below (around_both f u v) f.size +ℤ total_below (around_both f u v) f.size)
+potentials_both : (f : Forest) (u v : ℕ) → potential f u +ℤ potential f v ≡ weight_between f u v +ℤ (total_below (around_both f u v) f.size +ℤ total_below (around_both f u v) f.size)
 potentials_both f u v = sums_both f u v f.size
 
 -- Where a sum along a ring is not 0, one of its terms is not.
@@ -62,7 +62,7 @@ module _ (g : Darts) (are : AreDarts g) (f : Forest) where
   pub tight_alike : (d : ℕ) → IsTight g f d → AreAlike (potential f (g.near d)) (potential f (far g d))
   tight_alike d tight =
       let both : ℤ = total_below (around_both f (g.near d) (far g d)) f.size in
-      let sum : potential f (g.near d) +ℤ potential f (far g d) ≡ load f (g.near d) (far g d) +ℤ (both +ℤ both) = potentials_both f (g.near d) (far g d) in
+      let sum : potential f (g.near d) +ℤ potential f (far g d) ≡ weight_between f (g.near d) (far g d) +ℤ (both +ℤ both) = potentials_both f (g.near d) (far g d) in
       record { half = (g.cost d +ℤ both) -ℤ potential f (far g d); is = omega (arith, ints, sum, tight.exact) }
 
   module _ (nested : IsNested g f) where
@@ -92,13 +92,13 @@ module _ (g : Darts) (are : AreDarts g) (f : Forest) where
           (more (suc k) (far g (f.nest.joint (part b k))) (start b (suc k)) (far_low g are (f.nest.joint (part b k)) (joint k).tight.low) (start_low (suc k)) (joint k).ends (joint (suc k)).begins))
 
       to_start : (u : ℕ) → u < g.n → f.holds b u ≡ true → AreAlike (potential f u) (potential f (start b 0))
-      to_start u lu hu = by_part (ring_found f.nest.after (λ p. number (f.holds p u)) (f.nest.head b) (f.nest.parts b) (subst (λ x. 1 ≤ x) (ring.shared u lu) (some (f.holds b u) hu)))
+      to_start u lu hu = by_part (ring_found f.nest.after (λ p. bool_number (f.holds p u)) (f.nest.head b) (f.nest.parts b) (subst (λ x. 1 ≤ x) (ring.shared u lu) (some (f.holds b u) hu)))
         where
-          some : (c : Bool) → c ≡ true → 1 ≤ number c
+          some : (c : Bool) → c ≡ true → 1 ≤ bool_number c
           some true e = omega arith
           some false e = absurd (cc e)
 
-          by_part : (k : ℕ) × (k < f.nest.parts b) × (1 ≤ number (f.holds (part b k) u)) → AreAlike (potential f u) (potential f (start b 0))
+          by_part : (k : ℕ) × (k < f.nest.parts b) × (1 ≤ bool_number (f.holds (part b k) u)) → AreAlike (potential f u) (potential f (start b 0))
           by_part w = alike_on (more w.0 u (start b w.0) lu (start_low w.0) (number_true (f.holds (part b w.0) u) w.2) (joint w.0).begins) (alike_back (starts_alike w.0))
 
       ring_alike : Within b
@@ -165,7 +165,7 @@ module _ (g : Darts) (are : AreDarts g) (f : Forest) where
         by_tree t = by_root t.0 t.2 (valid.outermost.named t.0 (outer_named (f.label t.0) t.2.root_outer))
 
 -- The slack between two outer blossoms is even.
-pub slack_even : (g : Graph) (f : Forest) (root : Option ℕ) (e : ℕ) → IsGraph g → IsValid (darts_of g) f root → e < length g.edges
+pub slack_even : (g : WeightedGraph) (f : Forest) (root : Option ℕ) (e : ℕ) → IsGraph g → IsValid (darts_of g) f root → e < length g.edges
     → f.label (f.out (edge_at g e).u) ≡ Outer → f.label (f.out (edge_at g e).v) ≡ Outer → (half : ℤ) × (slack_of g f e ≡ half +ℤ half)
 slack_even g f root e is valid low on_u on_v = by_alike (outers_alike (darts_of g) (are_darts g is) f root valid (edge_at g e).u (edge_at g e).v (is.left e low) (is.right e low) on_u on_v)
   where

@@ -6,7 +6,7 @@ use Rattle.def_math.specs.Sums.{total_below}
 use Rattle.sum_laws.proofs.Sums.{total_below_same, total_below_sum, total_below_minus, total_below_none, total_below_one}
 use Rattle.def_forest.specs.Darts.{Darts, AreDarts, far}
 use Rattle.def_forest.specs.Forests.{Forest, IsOutermost, dual_sum_of}
-use Rattle.def_forest.specs.Steps.{change, shifted}
+use Rattle.def_forest.specs.Steps.{weight_change, shifted}
 use Rattle.def_forest.specs.Valid.{IsMate, IsTree, IsInner, IsOuter, IsValid}
 use Rattle.def_forest.specs.declared.kinds.Label.{Label}
 use Rattle.def_forest.specs.declared.kinds.Label.TheVariants.{Outer, Inner, Outside}
@@ -59,11 +59,11 @@ module _ (g : Darts) (are : AreDarts g) (f : Forest) (r : ℕ) (valid : IsValid 
           cond-true (is_inner (f.label c)) (cond (eqb (inner_of g f c) b) t (pos 0) -ℤ cond (eqb c b) t (pos 0)) (pos 0) (ap is_inner e) ∙ omega (arith, ints, x, y)
 
   -- The inner blossoms and their mates count at a place what a shift changes there, but for the root.
-  at_place : (b : ℕ) → b < f.size → total_below (pair_at b) f.size ≡ change (f.label b) t -ℤ cond (eqb b r) t (pos 0)
+  at_place : (b : ℕ) → b < f.size → total_below (pair_at b) f.size ≡ weight_change (f.label b) t -ℤ cond (eqb b r) t (pos 0)
   at_place b lb = by_label (f.label b) refl
     where
-      label_is : (l : Label) → f.label b ≡ l → change (f.label b) t ≡ change l t
-      label_is l e = ap (λ (x : Label). change x t) e
+      label_is : (l : Label) → f.label b ≡ l → weight_change (f.label b) t ≡ weight_change l t
+      label_is l e = ap (λ (x : Label). weight_change x t) e
 
       not_root : f.label b ≢ Outer → cond (eqb b r) t (pos 0) ≡ pos 0
       not_root ne = cond-false (eqb b r) t (pos 0) (ne_eqb b r (λ e. ne (ap f.label e ∙ tree.root_outer)))
@@ -115,13 +115,13 @@ module _ (g : Darts) (are : AreDarts g) (f : Forest) (r : ℕ) (valid : IsValid 
               let y : cond (eqb c0 b) t (pos 0) ≡ pos 0 = cond-false (eqb c0 b) t (pos 0) (ne_eqb c0 b (λ e. pair.other e)) in
               cond-true (is_inner (f.label c0)) (cond (eqb (inner_of g f c0) b) t (pos 0) -ℤ cond (eqb c0 b) t (pos 0)) (pos 0) (ap is_inner inner) ∙ omega (arith, ints, x, y)
 
-      by_outer : f.label b ≡ Outer → IsOuter g f r b → total_below (pair_at b) f.size ≡ change (f.label b) t -ℤ cond (eqb b r) t (pos 0)
+      by_outer : f.label b ≡ Outer → IsOuter g f r b → total_below (pair_at b) f.size ≡ weight_change (f.label b) t -ℤ cond (eqb b r) t (pos 0)
       by_outer l (inl e) = let x : cond (eqb b r) t (pos 0) ≡ t = cond-true (eqb b r) t (pos 0) (eq-eqb b r e) in omega (arith, ints, root_case l e, label_is Outer l, x)
       by_outer l (inr w) =
           let x : cond (eqb b r) t (pos 0) ≡ pos 0 = cond-false (eqb b r) t (pos 0) (ne_eqb b r (λ e. some_none (f.mate b) w.0 w.1 (ap f.mate e ∙ tree.root_free))) in
           omega (arith, ints, mate_case l w.0 w.1 w.2, label_is Outer l, x)
 
-      by_label : (l : Label) → f.label b ≡ l → total_below (pair_at b) f.size ≡ change (f.label b) t -ℤ cond (eqb b r) t (pos 0)
+      by_label : (l : Label) → f.label b ≡ l → total_below (pair_at b) f.size ≡ weight_change (f.label b) t -ℤ cond (eqb b r) t (pos 0)
       by_label Outer l = by_outer l (tree.outer b l)
       by_label Inner l =
           let one : total_below (pair_at b) f.size ≡ pair_at b b = total_below_one (pair_at b) f.size b lb (λ c lc ne. pair_none b c (λ lc' at. clash (sym (child c lc').0 ∙ (ap f.label at ∙ l))) (λ lc' at. ne at)) in
@@ -166,16 +166,16 @@ module _ (g : Darts) (are : AreDarts g) (f : Forest) (r : ℕ) (valid : IsValid 
           clash e = cc
 
   -- The sum of the changes.
-  changes : total_below (λ b. change (f.label b) t) f.size ≡ t
+  changes : total_below (λ b. weight_change (f.label b) t) f.size ≡ t
   changes =
-      let places : total_below (λ b. total_below (pair_at b) f.size) f.size ≡ total_below (λ b. change (f.label b) t -ℤ cond (eqb b r) t (pos 0)) f.size = total_below_same (λ b. total_below (pair_at b) f.size) (λ b. change (f.label b) t -ℤ cond (eqb b r) t (pos 0)) f.size at_place in
+      let places : total_below (λ b. total_below (pair_at b) f.size) f.size ≡ total_below (λ b. weight_change (f.label b) t -ℤ cond (eqb b r) t (pos 0)) f.size = total_below_same (λ b. total_below (pair_at b) f.size) (λ b. weight_change (f.label b) t -ℤ cond (eqb b r) t (pos 0)) f.size at_place in
       let none : total_below (λ c. total_below (λ b. pair_at b c) f.size) f.size ≡ pos 0 = total_below_none (λ c. total_below (λ b. pair_at b c) f.size) f.size pairs_none in
       let root : total_below (λ b. cond (eqb b r) t (pos 0)) f.size ≡ t = total_below_one (λ b. cond (eqb b r) t (pos 0)) f.size r (low r (λ e. clash (sym tree.root_outer ∙ e))) (λ k l ne. cond-false (eqb k r) t (pos 0) (ne_eqb k r ne)) ∙ cond-true (eqb r r) t (pos 0) (eq-eqb r r refl) in
-      omega (arith, ints, places, none, root, sums_exchanged pair_at f.size f.size, total_below_minus (λ b. change (f.label b) t) (λ b. cond (eqb b r) t (pos 0)) f.size)
+      omega (arith, ints, places, none, root, sums_exchanged pair_at f.size f.size, total_below_minus (λ b. weight_change (f.label b) t) (λ b. cond (eqb b r) t (pos 0)) f.size)
     where
       clash : Outer ≡ Outside → ⊥
       clash e = cc
 
   -- A shift raises the sum by t.
   pub sum_rises : dual_sum_of (shifted f t) ≡ dual_sum_of f +ℤ t
-  sum_rises = omega (arith, ints, changes, total_below_sum f.weight (λ b. change (f.label b) t) f.size)
+  sum_rises = omega (arith, ints, changes, total_below_sum f.weight (λ b. weight_change (f.label b) t) f.size)

@@ -5,7 +5,7 @@ use Rattle.std.proofs.lemmas.Bool.{cases_eq, cases_lt, cond-true, cond-false, eq
 use Rattle.def_math.specs.Counts.{count_below}
 use Rattle.sum_laws.proofs.Counts.{count_below_same, count_below_le, count_below_sum, count_below_none, count_below_one, count_below_ones, count_below_times}
 use Rattle.def_forest.specs.Darts.{Darts, AreDarts}
-use Rattle.def_forest.specs.Forests.{Forest, live_at, number, sets_of, walk}
+use Rattle.def_forest.specs.Forests.{Forest, live_at, bool_number, sets_of, walk}
 use Rattle.def_forest.specs.Valid.{AreOutermost, IsNested, IsRing, IsJoint}
 use Rattle.forest_laws.proofs.Odds.{IsBlossom}
 use Rattle.forest_laws.proofs.Writes.{true_false}
@@ -17,36 +17,36 @@ counts_swapped f m (suc n) =
     let h : count_below (λ i. count_below (f i) m) n ≡ count_below (λ j. count_below (λ i. f i j) n) m = counts_swapped f m n in
     omega (arith, h, count_below_sum (λ j. count_below (λ i. f i j) n) (f n) m)
 
-one_at : (a m : ℕ) → a < m → count_below (λ k. number (eqb k a)) m ≡ 1
-one_at a m l = count_below_one (λ k. number (eqb k a)) m a l (λ k lk ne. ap number (ne_eqb k a ne)) ∙ ap number (eq-eqb a a refl)
+one_at : (a m : ℕ) → a < m → count_below (λ k. bool_number (eqb k a)) m ≡ 1
+one_at a m l = count_below_one (λ k. bool_number (eqb k a)) m a l (λ k lk ne. ap bool_number (ne_eqb k a ne)) ∙ ap bool_number (eq-eqb a a refl)
 
 -- Three different places.
 abbrev three : (a b c : ℕ) → ℕ → ℕ
-three a b c k = number (eqb k a) + (number (eqb k b) + number (eqb k c))
+three a b c k = bool_number (eqb k a) + (bool_number (eqb k b) + bool_number (eqb k c))
 
 three_count : (a b c m : ℕ) → a < m → b < m → c < m → count_below (three a b c) m ≡ 3
 three_count a b c m la lb lc =
-    let bc : count_below (λ k. number (eqb k b) + number (eqb k c)) m ≡ count_below (λ k. number (eqb k b)) m + count_below (λ k. number (eqb k c)) m = count_below_sum (λ k. number (eqb k b)) (λ k. number (eqb k c)) m in
-    omega (arith, count_below_sum (λ k. number (eqb k a)) (λ k. number (eqb k b) + number (eqb k c)) m, bc, one_at a m la, one_at b m lb, one_at c m lc)
+    let bc : count_below (λ k. bool_number (eqb k b) + bool_number (eqb k c)) m ≡ count_below (λ k. bool_number (eqb k b)) m + count_below (λ k. bool_number (eqb k c)) m = count_below_sum (λ k. bool_number (eqb k b)) (λ k. bool_number (eqb k c)) m in
+    omega (arith, count_below_sum (λ k. bool_number (eqb k a)) (λ k. bool_number (eqb k b) + bool_number (eqb k c)) m, bc, one_at a m la, one_at b m lb, one_at c m lc)
 
 three_at : (a b c k : ℕ) → a ≢ b → a ≢ c → b ≢ c → ((k ≡ a) ⊎ ((k ≡ b) ⊎ (k ≡ c)) → ⊥) ⊎ ((three a b c k ≡ 1) × ((k ≡ a) ⊎ ((k ≡ b) ⊎ (k ≡ c))))
 three_at a b c k ab ac bc = by_place (cases_eq k a) (cases_eq k b) (cases_eq k c)
   where
     by_place : (k ≡ a) ⊎ (k ≢ a) → (k ≡ b) ⊎ (k ≢ b) → (k ≡ c) ⊎ (k ≢ c) → ((k ≡ a) ⊎ ((k ≡ b) ⊎ (k ≡ c)) → ⊥) ⊎ ((three a b c k ≡ 1) × ((k ≡ a) ⊎ ((k ≡ b) ⊎ (k ≡ c))))
     by_place (inl e) x y =
-        let ka : number (eqb k a) ≡ 1 = ap number (eq-eqb k a e) in
-        let kb : number (eqb k b) ≡ 0 = ap number (ne_eqb k b (λ s. ab (sym e ∙ s))) in
-        let kc : number (eqb k c) ≡ 0 = ap number (ne_eqb k c (λ s. ac (sym e ∙ s))) in
+        let ka : bool_number (eqb k a) ≡ 1 = ap bool_number (eq-eqb k a e) in
+        let kb : bool_number (eqb k b) ≡ 0 = ap bool_number (ne_eqb k b (λ s. ab (sym e ∙ s))) in
+        let kc : bool_number (eqb k c) ≡ 0 = ap bool_number (ne_eqb k c (λ s. ac (sym e ∙ s))) in
         inr (omega (arith, ka, kb, kc), inl e)
     by_place (inr na) (inl e) y =
-        let ka : number (eqb k a) ≡ 0 = ap number (ne_eqb k a na) in
-        let kb : number (eqb k b) ≡ 1 = ap number (eq-eqb k b e) in
-        let kc : number (eqb k c) ≡ 0 = ap number (ne_eqb k c (λ s. bc (sym e ∙ s))) in
+        let ka : bool_number (eqb k a) ≡ 0 = ap bool_number (ne_eqb k a na) in
+        let kb : bool_number (eqb k b) ≡ 1 = ap bool_number (eq-eqb k b e) in
+        let kc : bool_number (eqb k c) ≡ 0 = ap bool_number (ne_eqb k c (λ s. bc (sym e ∙ s))) in
         inr (omega (arith, ka, kb, kc), inr (inl e))
     by_place (inr na) (inr nb) (inl e) =
-        let ka : number (eqb k a) ≡ 0 = ap number (ne_eqb k a na) in
-        let kb : number (eqb k b) ≡ 0 = ap number (ne_eqb k b nb) in
-        let kc : number (eqb k c) ≡ 1 = ap number (eq-eqb k c e) in
+        let ka : bool_number (eqb k a) ≡ 0 = ap bool_number (ne_eqb k a na) in
+        let kb : bool_number (eqb k b) ≡ 0 = ap bool_number (ne_eqb k b nb) in
+        let kc : bool_number (eqb k c) ≡ 1 = ap bool_number (eq-eqb k c e) in
         inr (omega (arith, ka, kb, kc), inr (inr e))
     by_place (inr na) (inr nb) (inr nc) = inl (λ w. by_three w)
       where
@@ -57,9 +57,9 @@ three_at a b c k ab ac bc = by_place (cases_eq k a) (cases_eq k b) (cases_eq k c
 
 three_none : (a b c k : ℕ) → ((k ≡ a) ⊎ ((k ≡ b) ⊎ (k ≡ c)) → ⊥) → three a b c k ≡ 0
 three_none a b c k off =
-    let ka : number (eqb k a) ≡ 0 = ap number (ne_eqb k a (λ e. off (inl e))) in
-    let kb : number (eqb k b) ≡ 0 = ap number (ne_eqb k b (λ e. off (inr (inl e)))) in
-    let kc : number (eqb k c) ≡ 0 = ap number (ne_eqb k c (λ e. off (inr (inr e)))) in
+    let ka : bool_number (eqb k a) ≡ 0 = ap bool_number (ne_eqb k a (λ e. off (inl e))) in
+    let kb : bool_number (eqb k b) ≡ 0 = ap bool_number (ne_eqb k b (λ e. off (inr (inl e)))) in
+    let kc : bool_number (eqb k c) ≡ 0 = ap bool_number (ne_eqb k c (λ e. off (inr (inr e)))) in
     omega (arith, ka, kb, kc)
 
 three_below : (f : ℕ → ℕ) (a b c m : ℕ) → a < m → b < m → c < m → a ≢ b → a ≢ c → b ≢ c → 1 ≤ f a → 1 ≤ f b → 1 ≤ f c → 3 ≤ count_below f m
@@ -75,18 +75,18 @@ three_below f a b c m la lb lc ab ac bc fa fb fc = omega (arith, three_count a b
     each k (inr w) = omega (arith, w.0, there k w.1)
 
 -- So many numbers are below another.
-count_low : (n m : ℕ) → n ≤ m → count_below (λ p. number (nat_lt p n)) m ≡ n
+count_low : (n m : ℕ) → n ≤ m → count_below (λ p. bool_number (nat_lt p n)) m ≡ n
 count_low n zero l = omega (arith, l)
 count_low n (suc m) l = by_size (cases_lt m n) (λ h. count_low n m h)
   where
-    by_size : (m < n) ⊎ (n ≤ m) → (n ≤ m → count_below (λ p. number (nat_lt p n)) m ≡ n) → count_below (λ p. number (nat_lt p n)) m + number (nat_lt m n) ≡ n
+    by_size : (m < n) ⊎ (n ≤ m) → (n ≤ m → count_below (λ p. bool_number (nat_lt p n)) m ≡ n) → count_below (λ p. bool_number (nat_lt p n)) m + bool_number (nat_lt m n) ≡ n
     by_size (inl h) more =
-        let all : count_below (λ p. number (nat_lt p n)) m ≡ count_below (λ p. 1) m = count_below_same (λ p. number (nat_lt p n)) (λ p. 1) m (λ k lk. ap number (lt-ltb k n (omega (arith, lk, h)))) in
-        let here : number (nat_lt m n) ≡ 1 = ap number (lt-ltb m n h) in
+        let all : count_below (λ p. bool_number (nat_lt p n)) m ≡ count_below (λ p. 1) m = count_below_same (λ p. bool_number (nat_lt p n)) (λ p. 1) m (λ k lk. ap bool_number (lt-ltb k n (omega (arith, lk, h)))) in
+        let here : bool_number (nat_lt m n) ≡ 1 = ap bool_number (lt-ltb m n h) in
         omega (arith, all, here, count_below_ones m, l, h)
     by_size (inr h) more =
-        let here : number (nat_lt m n) ≡ 0 = ap number (le-ltb m n h) in
-        let rest : count_below (λ p. number (nat_lt p n)) m ≡ n = more h in
+        let here : bool_number (nat_lt m n) ≡ 0 = ap bool_number (le-ltb m n h) in
+        let rest : count_below (λ p. bool_number (nat_lt p n)) m ≡ n = more h in
         omega (arith, here, rest)
 
 module _ (g : Darts) (are : AreDarts g) (f : Forest) (nested : IsNested g f) (vertices : g.n ≤ f.size) where
@@ -98,7 +98,7 @@ module _ (g : Darts) (are : AreDarts g) (f : Forest) (nested : IsNested g f) (ve
   inner p = cond (eqb (f.nest.up p) p) 0 1
 
   abbrev used : ℕ → ℕ
-  used p = number (nat_lt p g.n) + live_at g.n f.nest.parts p
+  used p = bool_number (nat_lt p g.n) + live_at g.n f.nest.parts p
 
   is_part : (p b : ℕ) → f.nest.up p ≡ b → p ≢ b → part p b ≡ 1
   is_part p b e ne = cond-true (eqb (f.nest.up p) b) (cond (eqb p b) 0 1) 0 (eq-eqb (f.nest.up p) b e) ∙ cond-false (eqb p b) 0 1 (ne_eqb p b ne)
@@ -151,11 +151,11 @@ module _ (g : Darts) (are : AreDarts g) (f : Forest) (nested : IsNested g f) (ve
 
   is_used : (p : ℕ) → IsBlossom g f p → used p ≡ 1
   is_used p (inl l) =
-      let low : number (nat_lt p g.n) ≡ 1 = ap number (lt-ltb p g.n l) in
+      let low : bool_number (nat_lt p g.n) ≡ 1 = ap bool_number (lt-ltb p g.n l) in
       let z : live_at g.n f.nest.parts p ≡ 0 = cond-true (nat_lt p g.n) 0 (cond (eqb (f.nest.parts p) 0) 0 1) (lt-ltb p g.n l) in
       omega (arith, low, z)
   is_used p (inr w) =
-      let low : number (nat_lt p g.n) ≡ 0 = ap number (le-ltb p g.n w.0) in
+      let low : bool_number (nat_lt p g.n) ≡ 0 = ap bool_number (le-ltb p g.n w.0) in
       let o : live_at g.n f.nest.parts p ≡ 1 = cond-false (nat_lt p g.n) 0 (cond (eqb (f.nest.parts p) 0) 0 1) (le-ltb p g.n w.0) ∙ cond-false (eqb (f.nest.parts p) 0) 0 1 (ne_eqb (f.nest.parts p) 0 w.1) in
       omega (arith, low, o)
 
@@ -179,7 +179,7 @@ module _ (g : Darts) (are : AreDarts g) (f : Forest) (nested : IsNested g f) (ve
       let inners : count_below (λ p. count_below (part p) f.size) f.size ≤ count_below inner f.size = count_below_le (λ p. count_below (part p) f.size) inner f.size (λ p l. one_set p) in
       let all : count_below (λ p. inner p + tops p) f.size ≤ count_below used f.size = count_below_le (λ p. inner p + tops p) used f.size each in
       let split : count_below (λ p. inner p + tops p) f.size ≡ count_below inner f.size + count_below tops f.size = count_below_sum inner tops f.size in
-      let uses : count_below used f.size ≡ count_below (λ p. number (nat_lt p g.n)) f.size + sets_of g.n f = count_below_sum (λ p. number (nat_lt p g.n)) (live_at g.n f.nest.parts) f.size in
+      let uses : count_below used f.size ≡ count_below (λ p. bool_number (nat_lt p g.n)) f.size + sets_of g.n f = count_below_sum (λ p. bool_number (nat_lt p g.n)) (live_at g.n f.nest.parts) f.size in
       omega (arith, triple, below, swap, inners, all, split, uses, count_low g.n f.size vertices)
 
   inner_low : (p : ℕ) → inner p ≤ used p
@@ -194,7 +194,7 @@ module _ (g : Darts) (are : AreDarts g) (f : Forest) (nested : IsNested g f) (ve
 
   -- The outermost blossom of a vertex is in use, and no part.
   pub few_sets : AreOutermost g.n f → 0 < g.n → 2 * sets_of g.n f < g.n
-  few_sets outermost some = omega (arith, sets_beside (λ p. number (eqb p top)) each, one_at top f.size (outermost.out_low 0 some))
+  few_sets outermost some = omega (arith, sets_beside (λ p. bool_number (eqb p top)) each, one_at top f.size (outermost.out_low 0 some))
     where
       top : ℕ
       top = f.out 0
@@ -206,13 +206,13 @@ module _ (g : Darts) (are : AreDarts g) (f : Forest) (nested : IsNested g f) (ve
       in_use (inl l) = inl l
       in_use (inr h) = inr (h, λ none. true_false (f.holds top 0) held (nested.empty top 0 h some none))
 
-      each : (p : ℕ) → p < f.size → inner p + number (eqb p top) ≤ used p
+      each : (p : ℕ) → p < f.size → inner p + bool_number (eqb p top) ≤ used p
       each p l = by_place (cases_eq p top)
         where
-          by_place : (p ≡ top) ⊎ (p ≢ top) → inner p + number (eqb p top) ≤ used p
-          by_place (inr ne) = (let z : number (eqb p top) ≡ 0 = ap number (ne_eqb p top ne) in omega (arith, z, inner_low p))
+          by_place : (p ≡ top) ⊎ (p ≢ top) → inner p + bool_number (eqb p top) ≤ used p
+          by_place (inr ne) = (let z : bool_number (eqb p top) ≡ 0 = ap bool_number (ne_eqb p top ne) in omega (arith, z, inner_low p))
           by_place (inl e) =
-              let o : number (eqb p top) ≡ 1 = ap number (eq-eqb p top e) in
+              let o : bool_number (eqb p top) ≡ 1 = ap bool_number (eq-eqb p top e) in
               let z : inner p ≡ 0 = cond-true (eqb (f.nest.up p) p) 0 1 (eq-eqb (f.nest.up p) p (ap f.nest.up e ∙ (outermost.tops 0 some ∙ sym e))) in
               let u : used p ≡ 1 = ap used e ∙ is_used top (in_use (cases_lt top g.n)) in
               omega (arith, o, z, u)

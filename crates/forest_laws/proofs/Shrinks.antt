@@ -2,7 +2,7 @@
 use Rattle.std.proofs.Common.{◌≡◌, ◌≢◌, ℕ, zero, suc, ◌<◌, ◌≤◌, Bool, true, false, cond, eqb, Some, None, ℤ, pos, ◌+ℤ◌, ◌≤ℤ◌, ◌⊎◌, refl, sym, ◌∙◌, ap, subst, inl, inr, arith}
 use Rattle.std.proofs.lemmas.Bool.{cases_eq, cases_Bool, cond-true, cond-false, eq-eqb, ne_eqb}
 use Rattle.def_forest.specs.Darts.{Darts, AreDarts, far}
-use Rattle.def_forest.specs.Forests.{Forest, load, IsTight, IsOutermost, number, walk, ring_sum}
+use Rattle.def_forest.specs.Forests.{Forest, weight_between, IsTight, IsOutermost, bool_number, walk, ring_sum}
 use Rattle.def_forest.specs.Shrunk.{IsUnused, IsCycle, IsClosedRow, IsShrunk}
 use Rattle.def_forest.specs.Valid.{AreOutermost, IsNested, IsRing, IsJoint, IsFeasible, IsMate, IsMatched, IsTree, IsValid}
 use Rattle.def_forest.specs.declared.kinds.Label.TheVariants.{Outer, Outside}
@@ -76,7 +76,7 @@ module _ (g : Darts) (are : AreDarts g) (f : Forest) (r : ℕ) (valid : IsValid 
   marked_top x on = let w : IsOutermost g.n f x = valid.outermost.named x (cycle.in_tree x on) in ap f.nest.up (sym w.2) ∙ (valid.outermost.tops w.0 w.1 ∙ w.2)
 
   -- No load changes.
-  pub same_load : (u v : ℕ) → u < g.n → v < g.n → load new u v ≡ load f u v
+  pub same_load : (u v : ℕ) → u < g.n → v < g.n → weight_between new u v ≡ weight_between f u v
   same_load = loads.same_load g.n f new b is.size is.weight unused.weightless is.holds_old
 
   pub same_tight : (d : ℕ) → IsTight g f d → IsTight g new d
@@ -136,7 +136,7 @@ module _ (g : Darts) (are : AreDarts g) (f : Forest) (r : ℕ) (valid : IsValid 
     below = λ k. subst (λ x. x < new.size) (sym (walks k)) (subst (λ s. at k < s) (sym is.size) (ring.below k));
     distinct = λ i j l h e. ring.distinct i j l (subst (λ n. j < n) many_is h) (sym (walks i) ∙ (e ∙ walks j));
     all = λ p up inner. all p up inner (place p);
-    shared = λ v l. ap number (is.holds_old c v ne l) ∙ (ring.shared v l ∙ (ring_sum_same f.nest.after new.nest.after (λ p. number (f.holds p v)) (λ p. number (new.holds p v)) (f.nest.head c) (new.nest.head c) (f.nest.parts c) walks (λ k. ap number (sym (is.holds_old (at k) v (old k).0 l))) ∙ ap (ring_sum new.nest.after (λ p. number (new.holds p v)) (new.nest.head c)) (sym many_is)));
+    shared = λ v l. ap bool_number (is.holds_old c v ne l) ∙ (ring.shared v l ∙ (ring_sum_same f.nest.after new.nest.after (λ p. bool_number (f.holds p v)) (λ p. bool_number (new.holds p v)) (f.nest.head c) (new.nest.head c) (f.nest.parts c) walks (λ k. ap bool_number (sym (is.holds_old (at k) v (old k).0 l))) ∙ ap (ring_sum new.nest.after (λ p. bool_number (new.holds p v)) (new.nest.head c)) (sym many_is)));
   }
     where
       at : ℕ → ℕ
@@ -173,7 +173,7 @@ module _ (g : Darts) (are : AreDarts g) (f : Forest) (r : ℕ) (valid : IsValid 
     below = λ k. subst (λ x. x < new.size) (sym (walks k)) (subst (λ s. at k < s) (sym is.size) (low (at k) (row.marked k)));
     distinct = λ i j l h e. row.distinct i j l (subst (λ n. j < n) many_is h) (sym (walks i) ∙ (e ∙ walks j));
     all = λ p up inner. all p up inner (place p);
-    shared = λ v l. ap number (is.holds_new v l) ∙ (row.shared v l ∙ (ring_sum_same new.nest.after new.nest.after (λ p. number (eqb (f.out v) p)) (λ p. number (new.holds p v)) front (new.nest.head b) many walks (λ k. ap number (sym (holds (at k) v l (row.marked k)))) ∙ ap (ring_sum new.nest.after (λ p. number (new.holds p v)) (new.nest.head b)) (sym many_is)));
+    shared = λ v l. ap bool_number (is.holds_new v l) ∙ (row.shared v l ∙ (ring_sum_same new.nest.after new.nest.after (λ p. bool_number (eqb (f.out v) p)) (λ p. bool_number (new.holds p v)) front (new.nest.head b) many walks (λ k. ap bool_number (sym (holds (at k) v l (row.marked k)))) ∙ ap (ring_sum new.nest.after (λ p. bool_number (new.holds p v)) (new.nest.head b)) (sym many_is)));
   }
     where
       at : ℕ → ℕ

@@ -1,7 +1,7 @@
 -- What a walk comes past, and a function that is written at the places of a walk.
 use Rattle.std.proofs.Common.{◌≡◌, ◌≢◌, ℕ, zero, suc, ◌+◌, ◌<◌, ◌≤◌, Bool, true, false, cond, ◌||◌, eqb, ◌⊎◌, refl, sym, ◌∙◌, ap, subst, inl, inr, arith}
 use Rattle.std.proofs.lemmas.Bool.{cases_eq, cases_lt, cond-true, eq-eqb, ne_eqb, eqb-true, or_right, or_left, or_cases, or_from}
-use Rattle.def_forest.specs.Forests.{number, walk, ring_sum, set_at}
+use Rattle.def_forest.specs.Forests.{bool_number, walk, ring_sum, set_at}
 use Rattle.forest_laws.specs.Walks.{listed, writes}
 use Rattle.forest_laws.proofs.Writes.{set_here, set_there}
 
@@ -48,21 +48,21 @@ listed_closed next from many some closed k = let w : (j : ℕ) × (j < many) × 
     at (suc k) = one_more k (at k)
 
 -- A walk past different places counts each once.
-pub listed_sum : (next : ℕ → ℕ) (from many y : ℕ) → ((i j : ℕ) → i < j → j < many → walk next from i ≢ walk next from j) → number (listed next from many y) ≡ ring_sum next (λ p. number (eqb y p)) from many
+pub listed_sum : (next : ℕ → ℕ) (from many y : ℕ) → ((i j : ℕ) → i < j → j < many → walk next from i ≢ walk next from j) → bool_number (listed next from many y) ≡ ring_sum next (λ p. bool_number (eqb y p)) from many
 listed_sum next from zero y distinct = refl
 listed_sum next from (suc many) y distinct = by_place (cases_eq y (walk next from many)) (listed_sum next from many y (λ i j lij lj. distinct i j lij (omega arith)))
   where
-    by_place : (y ≡ walk next from many) ⊎ (y ≢ walk next from many) → number (listed next from many y) ≡ ring_sum next (λ p. number (eqb y p)) from many
-        → number (listed next from many y || eqb (walk next from many) y) ≡ ring_sum next (λ p. number (eqb y p)) from many + number (eqb y (walk next from many))
+    by_place : (y ≡ walk next from many) ⊎ (y ≢ walk next from many) → bool_number (listed next from many y) ≡ ring_sum next (λ p. bool_number (eqb y p)) from many
+        → bool_number (listed next from many y || eqb (walk next from many) y) ≡ ring_sum next (λ p. bool_number (eqb y p)) from many + bool_number (eqb y (walk next from many))
     by_place (inl e) more =
         let off : listed next from many y ≡ false = listed_off next from many y (λ k l w. distinct k many l (omega arith) (w ∙ e)) in
-        let left : number (listed next from many y || eqb (walk next from many) y) ≡ 1 = ap number (or_right (listed next from many y) (eqb (walk next from many) y) (eq-eqb (walk next from many) y (sym e))) in
-        let none : number (listed next from many y) ≡ 0 = ap number off in
-        let right : number (eqb y (walk next from many)) ≡ 1 = ap number (eq-eqb y (walk next from many) e) in
+        let left : bool_number (listed next from many y || eqb (walk next from many) y) ≡ 1 = ap bool_number (or_right (listed next from many y) (eqb (walk next from many) y) (eq-eqb (walk next from many) y (sym e))) in
+        let none : bool_number (listed next from many y) ≡ 0 = ap bool_number off in
+        let right : bool_number (eqb y (walk next from many)) ≡ 1 = ap bool_number (eq-eqb y (walk next from many) e) in
         omega (arith, left, none, right, more)
     by_place (inr ne) more =
-        let left : number (listed next from many y || eqb (walk next from many) y) ≡ number (listed next from many y) = ap number (or_off (listed next from many y) (eqb (walk next from many) y) (ne_eqb (walk next from many) y (λ e. ne (sym e)))) in
-        let right : number (eqb y (walk next from many)) ≡ 0 = ap number (ne_eqb y (walk next from many) ne) in
+        let left : bool_number (listed next from many y || eqb (walk next from many) y) ≡ bool_number (listed next from many y) = ap bool_number (or_off (listed next from many y) (eqb (walk next from many) y) (ne_eqb (walk next from many) y (λ e. ne (sym e)))) in
+        let right : bool_number (eqb y (walk next from many)) ≡ 0 = ap bool_number (ne_eqb y (walk next from many) ne) in
         omega (arith, left, right, more)
       where
         or_off : (a b : Bool) → b ≡ false → (a || b) ≡ a

@@ -2,11 +2,11 @@
 //! accepted certificate is least.
 #![tactic(auto)]
 
-ghost use Rattle.def_flow.specs.Laws.{CostLaw, GraphLaw, LengthsLaw, MatchingLaw, SizeLaw, SoundnessLaw};
+ghost use Rattle.def_flow.specs.Laws.{CostLaw, MatchingGraphLaw, LengthsLaw, MatchingLaw, SizeLaw, SoundnessLaw};
 
 /// The matching graph is a graph: each edge has two different ends among the vertices.
 pub fn graph_law()
-    ensures { GraphLaw }
+    ensures { MatchingGraphLaw }
 {}
 
 /// The matching graph of an admissible list has at most 9/16 of the tangle number of vertices, and at most 9/8 of

@@ -5,8 +5,8 @@ use Rattle.def_mesh.specs.HalfEdges.{HalfEdges, IsQuadManifold}
 use Rattle.def_cut.specs.Cuts.{Cut, IsCut}
 use Rattle.def_cut.specs.Grids.{Cells, IsGrid, Rectangle, cell_of, patch_at, IsSide, IsPartition}
 use Rattle.def_cut.specs.Steps.{spin, or_zero, easts}
-use Rattle.def_cut.specs.Steps.{east as go}
-use Rattle.def_layout.specs.Arcs.{to, IsRun}
+use Rattle.def_cut.specs.Steps.{step_east as go}
+use Rattle.def_layout.specs.Arcs.{end_vertex, IsRun}
 use Rattle.def_layout.specs.Borders.{side_size, border_dart}
 use Rattle.def_layout.specs.Layouts.{Way, south, east, north, west}
 use Rattle.def_layout.specs.Nodes.{AreNodes}
@@ -121,29 +121,29 @@ module _ (mesh : HalfEdges) (laws : IsQuadManifold mesh) (cut : Cut) (full : IsC
     line_easts u zero l = ap b (omega arith)
     line_easts u (suc k) l = let n : suc (u + k) ≡ u + suc k = omega arith in ap (go mesh) (line_easts u k (omega arith)) ∙ (sym (line.next (u + k) (omega arith)) ∙ ap b n)
 
-    pub line_from : (t : ℕ) → suc t < size → mesh.from (b (suc t)) ≡ to mesh (b t)
+    pub line_from : (t : ℕ) → suc t < size → mesh.from (b (suc t)) ≡ end_vertex mesh (b t)
     line_from t l = ap mesh.from (sym (laws.next_prev (b (suc t)))) ∙ (laws.twin_ends (mesh.next (b t)) (mesh.prev (b (suc t))) (laws.next_low (b t) (line.low t (omega arith))) (line.over t l)).1
 
     pub line_begins : node (mesh.from (b 0)) ≡ true
     line_begins = nodes.corner (b 0) (line.low 0 line.some) (line.on 0 line.some) line.first
 
-    pub line_ends : (t : ℕ) → suc t ≡ size → node (to mesh (b t)) ≡ true
+    pub line_ends : (t : ℕ) → suc t ≡ size → node (end_vertex mesh (b t)) ≡ true
     line_ends t e = nodes.corner (mesh.next (b t)) (laws.next_low (b t) (line.low t (omega arith))) (line.last t e) (ap cut (laws.prev_next (b t)) ∙ line.on t (omega arith))
 
     -- From each node on the line runs a run, which stays on it.
     pub runs_from : (u : ℕ) → u < size → node (mesh.from (b u)) ≡ true → (n : ℕ) × RunsOn mesh cut node b size u n
     runs_from u l begins = search (size - suc u) 0 (omega arith) (λ k h. absurd (omega arith))
       where
-        done : (k : ℕ) → u + k < size → ((i : ℕ) → i < k → node (to mesh (easts mesh (b u) i)) ≡ false) → node (to mesh (easts mesh (b u) k)) ≡ true → (n : ℕ) × RunsOn mesh cut node b size u n
+        done : (k : ℕ) → u + k < size → ((i : ℕ) → i < k → node (end_vertex mesh (easts mesh (b u) i)) ≡ false) → node (end_vertex mesh (easts mesh (b u) k)) ≡ true → (n : ℕ) × RunsOn mesh cut node b size u n
         done k h before on = (k + 1, record { run = walk_done mesh laws cut full node nodes (b u) k (line.low u l) (line.on u l) begins before on; fits = omega arith })
 
-        search : (left k : ℕ) → u + k + suc left ≡ size → ((i : ℕ) → i < k → node (to mesh (easts mesh (b u) i)) ≡ false) → (n : ℕ) × RunsOn mesh cut node b size u n
-        search zero k sum before = done k (omega arith) before (ap (λ x. node (to mesh x)) (line_easts u k (omega arith)) ∙ line_ends (u + k) (omega arith))
-        search (suc left) k sum before = by_node (cases_Bool (node (to mesh (easts mesh (b u) k)))) (λ f. search left (suc k) (omega arith) f)
+        search : (left k : ℕ) → u + k + suc left ≡ size → ((i : ℕ) → i < k → node (end_vertex mesh (easts mesh (b u) i)) ≡ false) → (n : ℕ) × RunsOn mesh cut node b size u n
+        search zero k sum before = done k (omega arith) before (ap (λ x. node (end_vertex mesh x)) (line_easts u k (omega arith)) ∙ line_ends (u + k) (omega arith))
+        search (suc left) k sum before = by_node (cases_Bool (node (end_vertex mesh (easts mesh (b u) k)))) (λ f. search left (suc k) (omega arith) f)
           where
-            by_node : (node (to mesh (easts mesh (b u) k)) ≡ true) ⊎ (node (to mesh (easts mesh (b u) k)) ≡ false) → (((i : ℕ) → i < suc k → node (to mesh (easts mesh (b u) i)) ≡ false) → (n : ℕ) × RunsOn mesh cut node b size u n) → (n : ℕ) × RunsOn mesh cut node b size u n
+            by_node : (node (end_vertex mesh (easts mesh (b u) k)) ≡ true) ⊎ (node (end_vertex mesh (easts mesh (b u) k)) ≡ false) → (((i : ℕ) → i < suc k → node (end_vertex mesh (easts mesh (b u) i)) ≡ false) → (n : ℕ) × RunsOn mesh cut node b size u n) → (n : ℕ) × RunsOn mesh cut node b size u n
             by_node (inl on) rest = done k (omega arith) before on
-            by_node (inr off) rest = rest (λ i h. elim (cases_eq i k) [ inl e ↦ ap (λ x. node (to mesh (easts mesh (b u) x))) e ∙ off | inr ne ↦ before i (omega arith) ])
+            by_node (inr off) rest = rest (λ i h. elim (cases_eq i k) [ inl e ↦ ap (λ x. node (end_vertex mesh (easts mesh (b u) x))) e ∙ off | inr ne ↦ before i (omega arith) ])
 
     -- Each dart of the line lies on such a run.
     pub runs_over : (t : ℕ) → t < size → (u : ℕ) × (n : ℕ) × RunsOn mesh cut node b size u n × (u ≤ t) × (t < u + n)
@@ -157,14 +157,14 @@ module _ (mesh : HalfEdges) (laws : IsQuadManifold mesh) (cut : Cut) (full : IsC
             at u n on low high (inr ne) = (u, n, on, omega arith, omega arith)
             at u n on low high (inl e) =
                 let here : easts mesh (b u) (t - u) ≡ b t = line_easts u (t - u) (omega arith) ∙ ap b (omega arith) in
-                let begins : node (mesh.from (b (suc t))) ≡ true = ap node (line_from t l) ∙ (ap (λ x. node (to mesh x)) (sym here) ∙ on.run.ends (t - u) (omega arith)) in
+                let begins : node (mesh.from (b (suc t))) ≡ true = ap node (line_from t l) ∙ (ap (λ x. node (end_vertex mesh x)) (sym here) ∙ on.run.ends (t - u) (omega arith)) in
                 let r : (m : ℕ) × RunsOn mesh cut node b size (suc t) m = runs_from (suc t) l begins in
                 (suc t, r.0, r.1, omega arith, omega (arith, r.1.run.some))
 
     -- A run that begins on the line ends on it.
     pub run_fits : (t n : ℕ) → t < size → IsRun mesh cut node (b t) n → t + n ≤ size
     run_fits t n l run = elim (cases_lt size (t + n)) [
-      | inl far ↦ absurd (false≢true (sym (run.inside (size - suc t) (omega arith)) ∙ (ap (λ x. node (to mesh x)) (line_easts t (size - suc t) (omega arith)) ∙ line_ends (t + (size - suc t)) (omega arith))))
+      | inl far ↦ absurd (false≢true (sym (run.inside (size - suc t) (omega arith)) ∙ (ap (λ x. node (end_vertex mesh x)) (line_easts t (size - suc t) (omega arith)) ∙ line_ends (t + (size - suc t)) (omega arith))))
       | inr h ↦ h
     ]
 
@@ -173,7 +173,7 @@ module _ (mesh : HalfEdges) (laws : IsQuadManifold mesh) (cut : Cut) (full : IsC
     next_begins t n l run far = at (n - 1) (omega (arith, run.some))
       where
         at : (k : ℕ) → suc k ≡ n → node (mesh.from (b (t + n))) ≡ true
-        at k e = let place : t + n ≡ suc (t + k) = omega arith in ap (λ x. node (mesh.from (b x))) place ∙ (ap node (line_from (t + k) (omega arith)) ∙ (ap (λ x. node (to mesh x)) (sym (line_easts t k (omega arith))) ∙ run.ends k e))
+        at k e = let place : t + n ≡ suc (t + k) = omega arith in ap (λ x. node (mesh.from (b x))) place ∙ (ap node (line_from (t + k) (omega arith)) ∙ (ap (λ x. node (end_vertex mesh x)) (sym (line_easts t k (omega arith))) ∙ run.ends k e))
 
   -- Each cut dart lies on a run.
   pub each_in_run : (node : ℕ → Bool) → AreNodes mesh cut node → (face : ℕ → ℕ) (ps : List Rectangle) → IsPartition mesh cut face ps → (d : ℕ) → d < mesh.count → cut d ≡ true → (s : ℕ) × (n : ℕ) × (k : ℕ) × IsRun mesh cut node s n × (k < n) × (easts mesh s k ≡ d)

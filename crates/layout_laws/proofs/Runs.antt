@@ -4,18 +4,18 @@ use Rattle.std.proofs.lemmas.Bool.{cases_eq, cases_lt, cases_order, false≢true
 use Rattle.std.proofs.lemmas.Option.{same_Some}
 use Rattle.def_mesh.specs.HalfEdges.{HalfEdges, IsQuadManifold}
 use Rattle.def_cut.specs.Cuts.{Cut, IsCross, HasCross, GoesOn, IsCut}
-use Rattle.def_cut.specs.Steps.{or_zero, east, easts}
-use Rattle.def_layout.specs.Arcs.{to, IsRun}
+use Rattle.def_cut.specs.Steps.{or_zero, step_east, easts}
+use Rattle.def_layout.specs.Arcs.{end_vertex, IsRun}
 use Rattle.def_layout.specs.Nodes.{AreNodes}
 use Rattle.cut_laws.proofs.Darts.{next_same, twin_same, turn_low, no_self}
 use Rattle.cut_laws.proofs.Pigeon.{comes_back}
 
 -- The cut goes straight on from d to the next dart.
 pub record GoesStraight (mesh : HalfEdges) (cut : Cut) (d : ℕ) : Type 0 where
-  pub over : mesh.twin (mesh.next d) ≡ Some (mesh.prev (east mesh d))
-  pub low : east mesh d < mesh.count
-  pub from : mesh.from (east mesh d) ≡ mesh.from (mesh.next d)
-  pub on : cut (east mesh d) ≡ true
+  pub over : mesh.twin (mesh.next d) ≡ Some (mesh.prev (step_east mesh d))
+  pub low : step_east mesh d < mesh.count
+  pub from : mesh.from (step_east mesh d) ≡ mesh.from (mesh.next d)
+  pub on : cut (step_east mesh d) ≡ true
 
 -- The twins of a run the other way round are a run.
 pub record IsBack (mesh : HalfEdges) (cut : Cut) (node : ℕ → Bool) (s n r : ℕ) : Type 0 where
@@ -27,11 +27,11 @@ module _ (mesh : HalfEdges) (laws : IsQuadManifold mesh) (cut : Cut) (full : IsC
   straight : (d t : ℕ) → d < mesh.count → mesh.twin (mesh.next d) ≡ Some t → cut (mesh.next t) ≡ true → GoesStraight mesh cut d
   straight d t l is on = record { over = is ∙ ap Some (sym (laws.prev_next t) ∙ ap mesh.prev (sym e)); low = subst (λ (x : ℕ). x < mesh.count) (sym e) (laws.next_low t (laws.twin_low (mesh.next d) t (laws.next_low d l) is)); from = ap mesh.from e ∙ (laws.twin_ends (mesh.next d) t (laws.next_low d l) is).1; on = ap cut e ∙ on }
     where
-      e : east mesh d ≡ mesh.next t
+      e : step_east mesh d ≡ mesh.next t
       e = ap (λ o. mesh.next (or_zero o)) is
 
   -- At a vertex that is no node a cut edge goes straight on.
-  pub on_from : (d : ℕ) → d < mesh.count → cut d ≡ true → node (to mesh d) ≡ false → GoesStraight mesh cut d
+  pub on_from : (d : ℕ) → d < mesh.count → cut d ≡ true → node (end_vertex mesh d) ≡ false → GoesStraight mesh cut d
   on_from d l on inner = by_twin (mesh.twin d) refl
     where
       no_corner : cut (mesh.next d) ≡ true → ⊥
@@ -47,28 +47,28 @@ module _ (mesh : HalfEdges) (laws : IsQuadManifold mesh) (cut : Cut) (full : IsC
       by_twin (Some t) is = by_gap (full.gaps d l on)
 
   -- Straight on is injective.
-  pub east_same : (d e : ℕ) → d < mesh.count → e < mesh.count → mesh.twin (mesh.next d) ≡ Some (mesh.prev (east mesh d)) → mesh.twin (mesh.next e) ≡ Some (mesh.prev (east mesh e)) → east mesh d ≡ east mesh e → d ≡ e
-  east_same d e ld le a b s = next_same mesh laws d e (twin_same mesh laws (mesh.next d) (mesh.next e) (mesh.prev (east mesh d)) (laws.next_low d ld) (laws.next_low e le) a (b ∙ ap (λ x. Some (mesh.prev x)) (sym s)))
+  pub east_same : (d e : ℕ) → d < mesh.count → e < mesh.count → mesh.twin (mesh.next d) ≡ Some (mesh.prev (step_east mesh d)) → mesh.twin (mesh.next e) ≡ Some (mesh.prev (step_east mesh e)) → step_east mesh d ≡ step_east mesh e → d ≡ e
+  east_same d e ld le a b s = next_same mesh laws d e (twin_same mesh laws (mesh.next d) (mesh.next e) (mesh.prev (step_east mesh d)) (laws.next_low d ld) (laws.next_low e le) a (b ∙ ap (λ x. Some (mesh.prev x)) (sym s)))
 
   -- A walk over inner vertices.
-  pub walked : (s i : ℕ) → s < mesh.count → cut s ≡ true → ((k : ℕ) → k < i → node (to mesh (easts mesh s k)) ≡ false) → (k : ℕ) → k ≤ i → (easts mesh s k < mesh.count) × (cut (easts mesh s k) ≡ true)
+  pub walked : (s i : ℕ) → s < mesh.count → cut s ≡ true → ((k : ℕ) → k < i → node (end_vertex mesh (easts mesh s k)) ≡ false) → (k : ℕ) → k ≤ i → (easts mesh s k < mesh.count) × (cut (easts mesh s k) ≡ true)
   walked s i l on inner zero h = (l, on)
   walked s i l on inner (suc k) h = step (walked s i l on inner k (omega arith))
     where
       step : (easts mesh s k < mesh.count) × (cut (easts mesh s k) ≡ true) → (easts mesh s (suc k) < mesh.count) × (cut (easts mesh s (suc k)) ≡ true)
       step w = let g : GoesStraight mesh cut (easts mesh s k) = on_from (easts mesh s k) w.0 w.1 (inner k (omega arith)) in (g.low, g.on)
 
-  pub walk_done : (s i : ℕ) → s < mesh.count → cut s ≡ true → node (mesh.from s) ≡ true → ((k : ℕ) → k < i → node (to mesh (easts mesh s k)) ≡ false) → node (to mesh (easts mesh s i)) ≡ true → IsRun mesh cut node s (i + 1)
+  pub walk_done : (s i : ℕ) → s < mesh.count → cut s ≡ true → node (mesh.from s) ≡ true → ((k : ℕ) → k < i → node (end_vertex mesh (easts mesh s k)) ≡ false) → node (end_vertex mesh (easts mesh s i)) ≡ true → IsRun mesh cut node s (i + 1)
   walk_done s i l on begins inner ends = record {
     some = omega arith;
     low = l;
     begins = begins;
     on = λ k h. (walked s i l on inner k (omega arith)).1;
     inside = λ k h. inner k (omega arith);
-    ends = λ k e. let same : k ≡ i = omega arith in ap (λ x. node (to mesh (easts mesh s x))) same ∙ ends;
+    ends = λ k e. let same : k ≡ i = omega arith in ap (λ x. node (end_vertex mesh (easts mesh s x))) same ∙ ends;
   }
 
-  pub walk_never : (s i : ℕ) → s < mesh.count → cut s ≡ true → node (mesh.from s) ≡ true → ((k : ℕ) → k < i → node (to mesh (easts mesh s k)) ≡ false) → mesh.count ≤ i → ⊥
+  pub walk_never : (s i : ℕ) → s < mesh.count → cut s ≡ true → node (mesh.from s) ≡ true → ((k : ℕ) → k < i → node (end_vertex mesh (easts mesh s k)) ≡ false) → mesh.count ≤ i → ⊥
   walk_never s i l on begins inner far = by_round (comes_back mesh.count (easts mesh s) (λ k h. (walked s i l on inner k (omega arith)).0) (λ a b la lb e. east_same (easts mesh s a) (easts mesh s b) (low a (omega arith)) (low b (omega arith)) (goes a (omega arith)).over (goes b (omega arith)).over e))
     where
       low : (k : ℕ) → k ≤ i → easts mesh s k < mesh.count
@@ -115,13 +115,13 @@ module _ (mesh : HalfEdges) (laws : IsQuadManifold mesh) (cut : Cut) (full : IsC
   -- straight back.
   pub record IsDouble (d u : ℕ) : Type 0 where
     pub after : ℕ
-    pub is : mesh.twin (east mesh d) ≡ Some after
+    pub is : mesh.twin (step_east mesh d) ≡ Some after
     pub low : after < mesh.count
-    pub back : east mesh after ≡ u
-    pub over : mesh.twin (mesh.next after) ≡ Some (mesh.prev (east mesh after))
-    pub apart : u ≡ east mesh d → ⊥
+    pub back : step_east mesh after ≡ u
+    pub over : mesh.twin (mesh.next after) ≡ Some (mesh.prev (step_east mesh after))
+    pub apart : u ≡ step_east mesh d → ⊥
 
-  pub doubled : (d u : ℕ) → d < mesh.count → cut d ≡ true → node (to mesh d) ≡ false → mesh.twin d ≡ Some u → IsDouble d u
+  pub doubled : (d u : ℕ) → d < mesh.count → cut d ≡ true → node (end_vertex mesh d) ≡ false → mesh.twin d ≡ Some u → IsDouble d u
   doubled d u l on inner tw = by_cross (nodes.through u d lu (full.alike d u l tw ∙ on) (laws.twin_twin d u l tw) (ap node (laws.twin_ends d u l tw).0 ∙ inner))
     where
       lu : u < mesh.count
@@ -135,10 +135,10 @@ module _ (mesh : HalfEdges) (laws : IsQuadManifold mesh) (cut : Cut) (full : IsC
           let last : mesh.prev c ≡ d = same_Some (mesh.prev c) d (sym (laws.twin_twin (mesh.prev c) u (laws.prev_low c lc) is.last) ∙ laws.twin_twin d u l tw) in
           let right : c ≡ mesh.next d = sym (laws.next_prev c) ∙ ap mesh.next last in
           let over : mesh.twin (mesh.next d) ≡ Some (mesh.prev b) = ap mesh.twin (sym right) ∙ laws.twin_twin (mesh.prev b) c (laws.prev_low b lb) is.third in
-          let ahead : east mesh d ≡ b = ap (λ o. mesh.next (or_zero o)) over ∙ laws.next_prev b in
+          let ahead : step_east mesh d ≡ b = ap (λ o. mesh.next (or_zero o)) over ∙ laws.next_prev b in
           let tb : mesh.twin b ≡ Some (mesh.prev a) = laws.twin_twin (mesh.prev a) b (laws.prev_low a la) is.second in
           let ta : mesh.twin a ≡ Some (mesh.prev u) = laws.twin_twin (mesh.prev u) a (laws.prev_low u lu) is.first in
-          let home : east mesh (mesh.prev a) ≡ u = ap (λ x. mesh.next (or_zero (mesh.twin x))) (laws.next_prev a) ∙ (ap (λ o. mesh.next (or_zero o)) ta ∙ laws.next_prev u) in
+          let home : step_east mesh (mesh.prev a) ≡ u = ap (λ x. mesh.next (or_zero (mesh.twin x))) (laws.next_prev a) ∙ (ap (λ o. mesh.next (or_zero o)) ta ∙ laws.next_prev u) in
           record {
             after = mesh.prev a;
             is = ap mesh.twin ahead ∙ tb;
@@ -151,15 +151,15 @@ module _ (mesh : HalfEdges) (laws : IsQuadManifold mesh) (cut : Cut) (full : IsC
       by_cross : HasCross mesh u → IsDouble d u
       by_cross c = at c.0 c.1 c.2 c.3
 
-  twin_before : (d e : ℕ) → d < mesh.count → GoesStraight mesh cut d → node (to mesh d) ≡ false → mesh.twin (east mesh d) ≡ Some e → (u : ℕ) × (mesh.twin d ≡ Some u)
-  twin_before d e l goes inner tw = by_cross (nodes.through (east mesh d) e goes.low goes.on tw (ap node goes.from ∙ inner))
+  twin_before : (d e : ℕ) → d < mesh.count → GoesStraight mesh cut d → node (end_vertex mesh d) ≡ false → mesh.twin (step_east mesh d) ≡ Some e → (u : ℕ) × (mesh.twin d ≡ Some u)
+  twin_before d e l goes inner tw = by_cross (nodes.through (step_east mesh d) e goes.low goes.on tw (ap node goes.from ∙ inner))
     where
-      at : (a b c : ℕ) → IsCross mesh (east mesh d) a b c → (u : ℕ) × (mesh.twin d ≡ Some u)
+      at : (a b c : ℕ) → IsCross mesh (step_east mesh d) a b c → (u : ℕ) × (mesh.twin d ≡ Some u)
       at a b c is =
-          let first : a ≡ mesh.next d = same_Some a (mesh.next d) (sym is.first ∙ laws.twin_twin (mesh.next d) (mesh.prev (east mesh d)) (laws.next_low d l) goes.over) in
+          let first : a ≡ mesh.next d = same_Some a (mesh.next d) (sym is.first ∙ laws.twin_twin (mesh.next d) (mesh.prev (step_east mesh d)) (laws.next_low d l) goes.over) in
           (b, ap mesh.twin (sym (laws.prev_next d) ∙ ap mesh.prev (sym first)) ∙ is.second)
 
-      by_cross : HasCross mesh (east mesh d) → (u : ℕ) × (mesh.twin d ≡ Some u)
+      by_cross : HasCross mesh (step_east mesh d) → (u : ℕ) × (mesh.twin d ≡ Some u)
       by_cross c = at c.0 c.1 c.2 c.3
 
   -- Where one dart of a run has a twin, each has.
@@ -198,15 +198,15 @@ module _ (mesh : HalfEdges) (laws : IsQuadManifold mesh) (cut : Cut) (full : IsC
                   let b : (u : ℕ) × (mesh.twin (easts mesh s k) ≡ Some u) = twin_before (easts mesh s k) (easts mesh last.0 j) (run_low s n run k (omega arith)) (run_goes s n run k lk) (run.inside k lk) next in
                   let d : IsDouble (easts mesh s k) b.0 = doubled (easts mesh s k) b.0 (run_low s n run k (omega arith)) (run.on k (omega arith)) (run.inside k lk) b.1 in
                   let same : d.after ≡ easts mesh last.0 j = same_Some d.after (easts mesh last.0 j) (sym d.is ∙ next) in
-                  b.1 ∙ ap Some (sym d.back ∙ ap (east mesh) same)
+                  b.1 ∙ ap Some (sym d.back ∙ ap (step_east mesh) same)
 
           other : (j : ℕ) → j < n → (k : ℕ) × (k + suc j ≡ n)
           other j lj = (n - suc j, omega arith)
 
-          back_to : (j k : ℕ) → k + suc j ≡ n → to mesh (easts mesh last.0 j) ≡ mesh.from (easts mesh s k)
+          back_to : (j k : ℕ) → k + suc j ≡ n → end_vertex mesh (easts mesh last.0 j) ≡ mesh.from (easts mesh s k)
           back_to j k sum = (laws.twin_ends (easts mesh s k) (easts mesh last.0 j) (run_low s n run k (omega arith)) (twins k j sum)).1
 
-          inner : (j k : ℕ) → k + suc j ≡ n → suc j < n → node (to mesh (easts mesh last.0 j)) ≡ false
+          inner : (j k : ℕ) → k + suc j ≡ n → suc j < n → node (end_vertex mesh (easts mesh last.0 j)) ≡ false
           inner j zero sum lj = absurd (omega arith)
           inner j (suc k) sum lj = ap node (back_to j (suc k) sum) ∙ run_inner s n run k (omega arith)
 

@@ -5,7 +5,7 @@ use Rattle.std.proofs.lemmas.Option.{same_Some}
 use Rattle.def_mesh.specs.HalfEdges.{HalfEdges, IsQuadManifold}
 use Rattle.def_cut.specs.Cuts.{Cut, Links, IsCorner, IsCut}
 use Rattle.def_cut.specs.Grids.{Cells, IsGrid}
-use Rattle.def_cut.specs.Steps.{spin, or_zero, east, easts}
+use Rattle.def_cut.specs.Steps.{spin, or_zero, step_east, easts}
 use Rattle.cut_laws.specs.Grown.{grown, IsRow, IsGrown}
 use Rattle.cut_laws.proofs.Darts.{prev_three, next_same, twin_same}
 use Rattle.cut_laws.proofs.Rows.{east_twin, west_off, row_low, row_south}
@@ -15,12 +15,12 @@ use Rattle.cut_laws.proofs.Grown.{grow, grown_grid}
 use Rattle.def_merge.specs.Joins.{IsWholeSide}
 
 -- One step on, and then straight on.
-pub easts_front : (mesh : HalfEdges) (d i : ℕ) → easts mesh (east mesh d) i ≡ easts mesh d (suc i)
+pub easts_front : (mesh : HalfEdges) (d i : ℕ) → easts mesh (step_east mesh d) i ≡ easts mesh d (suc i)
 easts_front mesh d zero = refl
-easts_front mesh d (suc i) = ap (east mesh) (easts_front mesh d i)
+easts_front mesh d (suc i) = ap (step_east mesh) (easts_front mesh d i)
 
 -- The next cell over a link.
-pub east_is : (mesh : HalfEdges) → IsQuadManifold mesh → (d e : ℕ) → mesh.twin (mesh.next d) ≡ Some (mesh.prev e) → east mesh d ≡ e
+pub east_is : (mesh : HalfEdges) → IsQuadManifold mesh → (d e : ℕ) → mesh.twin (mesh.next d) ≡ Some (mesh.prev e) → step_east mesh d ≡ e
 east_is mesh laws d e is = ap (λ o. mesh.next (or_zero o)) is ∙ laws.next_prev e
 
 -- The whole side of size n from c, with dart x at place k.
@@ -104,7 +104,7 @@ module _ (mesh : HalfEdges) (laws : IsQuadManifold mesh) (cut : Cut) (full : IsC
 
     pub along_south : (i : ℕ) → i < w → easts mesh (cell 0 0) i ≡ cell i 0
     along_south zero l = refl
-    along_south (suc i) l = ap (east mesh) (along_south i (omega arith)) ∙ east_is mesh laws (cell i 0) (cell (suc i) 0) (grid.east i 0 l grid.tall)
+    along_south (suc i) l = ap (step_east mesh) (along_south i (omega arith)) ∙ east_is mesh laws (cell i 0) (cell (suc i) 0) (grid.east i 0 l grid.tall)
 
     pub south_side : IsWholeSide mesh cut (cell 0 0) w
     south_side = record {
@@ -116,7 +116,7 @@ module _ (mesh : HalfEdges) (laws : IsQuadManifold mesh) (cut : Cut) (full : IsC
 
     pub along_east : (j : ℕ) → j < h → easts mesh (mesh.next (cell (w - 1) 0)) j ≡ mesh.next (cell (w - 1) j)
     along_east zero l = refl
-    along_east (suc j) l = ap (east mesh) (along_east j (omega arith)) ∙ east_is mesh laws (mesh.next (cell (w - 1) j)) (mesh.next (cell (w - 1) (suc j))) (grid.north (w - 1) j last_column l ∙ ap Some (sym (laws.prev_next (cell (w - 1) (suc j)))))
+    along_east (suc j) l = ap (step_east mesh) (along_east j (omega arith)) ∙ east_is mesh laws (mesh.next (cell (w - 1) j)) (mesh.next (cell (w - 1) (suc j))) (grid.north (w - 1) j last_column l ∙ ap Some (sym (laws.prev_next (cell (w - 1) (suc j)))))
 
     pub east_side : IsWholeSide mesh cut (mesh.next (cell (w - 1) 0)) h
     east_side = record {
@@ -131,7 +131,7 @@ module _ (mesh : HalfEdges) (laws : IsQuadManifold mesh) (cut : Cut) (full : IsC
 
     pub along_north : (k i : ℕ) → k + suc i ≡ w → easts mesh (mesh.next (mesh.next (cell (w - 1) (h - 1)))) k ≡ mesh.next (mesh.next (cell i (h - 1)))
     along_north zero i e = let same : w - 1 ≡ i = omega arith in ap (λ x. mesh.next (mesh.next (cell x (h - 1)))) same
-    along_north (suc k) i e = ap (east mesh) (along_north k (suc i) (omega arith)) ∙ east_is mesh laws (mesh.next (mesh.next (cell (suc i) (h - 1)))) (mesh.next (mesh.next (cell i (h - 1)))) (west_link i (h - 1) (omega arith) last_row)
+    along_north (suc k) i e = ap (step_east mesh) (along_north k (suc i) (omega arith)) ∙ east_is mesh laws (mesh.next (mesh.next (cell (suc i) (h - 1)))) (mesh.next (mesh.next (cell i (h - 1)))) (west_link i (h - 1) (omega arith) last_row)
 
     pub north_side : IsWholeSide mesh cut (mesh.next (mesh.next (cell (w - 1) (h - 1)))) w
     north_side = record {
@@ -149,7 +149,7 @@ module _ (mesh : HalfEdges) (laws : IsQuadManifold mesh) (cut : Cut) (full : IsC
 
     pub along_west : (k j : ℕ) → k + suc j ≡ h → easts mesh (mesh.next (mesh.next (mesh.next (cell 0 (h - 1))))) k ≡ mesh.next (mesh.next (mesh.next (cell 0 j)))
     along_west zero j e = let same : h - 1 ≡ j = omega arith in ap (λ x. mesh.next (mesh.next (mesh.next (cell 0 x)))) same
-    along_west (suc k) j e = ap (east mesh) (along_west k (suc j) (omega arith)) ∙ east_is mesh laws (mesh.next (mesh.next (mesh.next (cell 0 (suc j))))) (mesh.next (mesh.next (mesh.next (cell 0 j)))) (south_link j (omega arith))
+    along_west (suc k) j e = ap (step_east mesh) (along_west k (suc j) (omega arith)) ∙ east_is mesh laws (mesh.next (mesh.next (mesh.next (cell 0 (suc j))))) (mesh.next (mesh.next (mesh.next (cell 0 j)))) (south_link j (omega arith))
 
     pub west_side : IsWholeSide mesh cut (mesh.next (mesh.next (mesh.next (cell 0 (h - 1))))) h
     west_side = record {

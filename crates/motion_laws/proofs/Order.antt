@@ -8,9 +8,9 @@ use Rattle.std.proofs.lemmas.List.{get_or-set_same, get_or-set_other, length-set
 use Rattle.def_cut.specs.FullCut.{is_on}
 use Rattle.def_cut.specs.declared.graph.Stop.{Stop}
 use Rattle.def_cut.specs.declared.moving.Moving.{Moving}
-use Rattle.def_cut.specs.Motion.{Terrain, State, end_of, with_next, ridden, is_among, is_found, is_met, arrives_at, ride_on, ride, begun, step, start, after}
+use Rattle.def_cut.specs.Motion.{Terrain, State, end_of, with_next, ridden, is_among, is_found, is_met, arrives_at, ride_on, ride, begun, step, start, after_steps}
 use Rattle.def_cut.specs.Traced.{finish, end_state}
-use Rattle.def_cut.specs.Events.{EventState, waiting, darts_in, rider_at, note_at, may_ride, mark_twin, after_ride_of, ends_at, may_settle, all_told, decided_at, is_closed, closed, after_settling, first_state, Event, May, Leads, rides_in, NobodyRuns}
+use Rattle.def_cut.specs.Events.{EventState, waiting, darts_in, rider_at, note_at, may_ride, mark_twin, after_ride_of, leads_to, may_settle, all_told, decided_at, are_ends_settled, closed, after_settling, first_state, Event, May, Leads, rides_in, NobodyRuns}
 use Rattle.def_cut.specs.Events.Event.{Ride, Settle}
 use Rattle.sum_laws.proofs.Counts.{count_below_lt, count_below_ones}
 use Rattle.motion_laws.proofs.Among.{among_here, any_at, any_where, all_at, not_all, AreApart}
@@ -133,10 +133,10 @@ module _ (g : Terrain) (t : IsTerrain g) (starts : List ℕ) (begin : IsStarted 
 
     -- A settling.
     module _ (v : ℕ) (may : may_settle g x v ≡ true) where
-      pub parts : (waiting x.riders x.noted ≡ 0) × (list_any (ends_at g v) (darts_in x.noted) ≡ true) × (is_on x.settled v ≡ false)
+      pub parts : (waiting x.riders x.noted ≡ 0) × (list_any (leads_to g v) (darts_in x.noted) ≡ true) × (is_on x.settled v ≡ false)
       parts =
-          let a : (eqb (waiting x.riders x.noted) 0 ≡ true) × ((list_any (ends_at g v) (darts_in x.noted) && not (is_on x.settled v)) ≡ true) = and_parts _ _ may in
-          let b : (list_any (ends_at g v) (darts_in x.noted) ≡ true) × (not (is_on x.settled v) ≡ true) = and_parts _ _ a.1 in
+          let a : (eqb (waiting x.riders x.noted) 0 ≡ true) × ((list_any (leads_to g v) (darts_in x.noted) && not (is_on x.settled v)) ≡ true) = and_parts _ _ may in
+          let b : (list_any (leads_to g v) (darts_in x.noted) ≡ true) × (not (is_on x.settled v) ≡ true) = and_parts _ _ a.1 in
           (eqb-true _ _ a.0, b.0, unmarked (is_on x.settled v) b.1)
         where
           unmarked : (b : Bool) → not b ≡ true → b ≡ false
@@ -144,7 +144,7 @@ module _ (g : Terrain) (t : IsTerrain g) (starts : List ℕ) (begin : IsStarted 
           unmarked false e = refl
 
       pub v_low : v < n
-      v_low = by_dart (any_where (ends_at g v) (darts_in x.noted) parts.1)
+      v_low = by_dart (any_where (leads_to g v) (darts_in x.noted) parts.1)
         where
           by_dart : (d : ℕ) × (is_among d (darts_in x.noted) ≡ true) × (eqb (end_of g d) v ≡ true) → v < n
           by_dart (d, m, e) =
@@ -175,7 +175,7 @@ module _ (g : Terrain) (t : IsTerrain g) (starts : List ℕ) (begin : IsStarted 
       riders_now = subst (λ (ds : List ℕ). AreShown g s.stood (ridden s.riders) (is_on (set x.settled v true)) s.riders (all_told g (is_on x.stood) ds v x.riders x.noted) x.noted) (sym (all_ridden parts.0)) told_now
 
       -- The instant stays open.
-      pub open_keeps : is_closed g (set x.settled v true) (darts_in x.noted) ≡ false → IsShown g n s (decided_at g x v)
+      pub open_keeps : are_ends_settled g (set x.settled v true) (darts_in x.noted) ≡ false → IsShown g n s (decided_at g x v)
       open_keeps off = record {
         riders = riders_now;
         stood_long = length-set x.stood v _ ∙ h.stood_long;
@@ -188,7 +188,7 @@ module _ (g : Terrain) (t : IsTerrain g) (starts : List ℕ) (begin : IsStarted 
       }
 
       -- Or the instant ends, with a step of the motion.
-      pub closed_keeps : is_closed g (set x.settled v true) (darts_in x.noted) ≡ true → IsShown g n (step g s) (closed (decided_at g x v))
+      pub closed_keeps : are_ends_settled g (set x.settled v true) (darts_in x.noted) ≡ true → IsShown g n (step g s) (closed (decided_at g x v))
       closed_keeps on = record {
         riders = subst (λ (rs : List Moving). AreShown g (step g s).stood (ridden (step g s).riders) (is_on (replicate (length (set x.settled v true)) false)) (step g s).riders rs (replicate (length x.noted) None)) (sym riders_are)
             (none_shown g (step g s).stood (ridden (step g s).riders) (is_on (replicate (length (set x.settled v true)) false)) (step g s).riders (length x.noted) (length-map s.riders (ride g s.stood (ridden s.riders)) ∙ sym lengths.1));
@@ -223,33 +223,33 @@ module _ (g : Terrain) (t : IsTerrain g) (starts : List ℕ) (begin : IsStarted 
   -- All darts ridden before instant k.
   abbrev pub history : (k : ℕ) → List ℕ
   history zero = []
-  history (suc k) = ridden (after g starts k).riders ++ history k
+  history (suc k) = ridden (after_steps g starts k).riders ++ history k
 
   -- The event state stands within an instant, and so many rides have been made.
   pub record IsWithin (x : EventState) (rides : ℕ) : Type 0 where
     pub instant : ℕ
-    pub shown : IsShown g n (after g starts instant) x
+    pub shown : IsShown g n (after_steps g starts instant) x
     pub counted : length (darts_in x.noted) + length (history instant) ≡ rides
 
   within_ride : (x : EventState) (c r : ℕ) → IsWithin x c → r < length x.riders → may_ride x r ≡ true → IsWithin (after_ride_of g x r) (suc c)
   within_ride x c r w low may = record {
     instant = w.instant;
-    shown = ride_keeps (after g starts w.instant) (after_reached g t starts begin w.instant) x w.shown r low may;
-    counted = omega (arith, w.counted, noted_longer x.noted r (rider_at x.riders r).dart (noted_low (after g starts w.instant) (after_reached g t starts begin w.instant) x w.shown r low may) (rode (after g starts w.instant) (after_reached g t starts begin w.instant) x w.shown r low may).0);
+    shown = ride_keeps (after_steps g starts w.instant) (after_reached g t starts begin w.instant) x w.shown r low may;
+    counted = omega (arith, w.counted, noted_longer x.noted r (rider_at x.riders r).dart (noted_low (after_steps g starts w.instant) (after_reached g t starts begin w.instant) x w.shown r low may) (rode (after_steps g starts w.instant) (after_reached g t starts begin w.instant) x w.shown r low may).0);
   }
 
   within_settle : (x : EventState) (c v : ℕ) → IsWithin x c → may_settle g x v ≡ true → IsWithin (after_settling g x v) c
-  within_settle x c v w may = at (is_closed g (set x.settled v true) (darts_in x.noted)) refl
+  within_settle x c v w may = at (are_ends_settled g (set x.settled v true) (darts_in x.noted)) refl
     where
-      reached : IsReached g starts (after g starts w.instant)
+      reached : IsReached g starts (after_steps g starts w.instant)
       reached = after_reached g t starts begin w.instant
 
-      at : (b : Bool) → is_closed g (set x.settled v true) (darts_in x.noted) ≡ b → IsWithin (cond b (closed (decided_at g x v)) (decided_at g x v)) c
-      at false is = record { instant = w.instant; shown = open_keeps (after g starts w.instant) reached x w.shown v may is; counted = w.counted }
+      at : (b : Bool) → are_ends_settled g (set x.settled v true) (darts_in x.noted) ≡ b → IsWithin (cond b (closed (decided_at g x v)) (decided_at g x v)) c
+      at false is = record { instant = w.instant; shown = open_keeps (after_steps g starts w.instant) reached x w.shown v may is; counted = w.counted }
       at true is = record {
         instant = suc w.instant;
-        shown = closed_keeps (after g starts w.instant) reached x w.shown v may is;
-        counted = omega (arith, w.counted, ap length (no_darts (length x.noted)), length-append (ridden (after g starts w.instant).riders) (history w.instant), ap length (all_ridden (after g starts w.instant) reached x w.shown (parts (after g starts w.instant) reached x w.shown v may).0));
+        shown = closed_keeps (after_steps g starts w.instant) reached x w.shown v may is;
+        counted = omega (arith, w.counted, ap length (no_darts (length x.noted)), length-append (ridden (after_steps g starts w.instant).riders) (history w.instant), ap length (all_ridden (after_steps g starts w.instant) reached x w.shown (parts (after_steps g starts w.instant) reached x w.shown v may).0));
       }
 
   within_from : (es : List Event) (x y : EventState) (c : ℕ) → IsWithin x c → Leads g x es y → IsWithin y (c + rides_in es)
@@ -262,107 +262,107 @@ module _ (g : Terrain) (t : IsTerrain g) (starts : List ℕ) (begin : IsStarted 
   within es x l = let e : 0 + rides_in es ≡ rides_in es = omega arith in rw (← e) (within_from es (first_state g n starts) x 0 (record { instant = 0; shown = first_shown; counted = omega (arith, ap length (no_darts (length starts))) }) l)
 
   -- At most as many rides as darts.
-  in_history : (k d : ℕ) → is_among d (history k) ≡ true → (i : ℕ) × (i < k) × (is_among d (ridden (after g starts i).riders) ≡ true)
+  in_history : (k d : ℕ) → is_among d (history k) ≡ true → (i : ℕ) × (i < k) × (is_among d (ridden (after_steps g starts i).riders) ≡ true)
   in_history zero d m = absurd (false≢true m)
-  in_history (suc k) d m = elim (among_append d (ridden (after g starts k).riders) (history k) m) [
+  in_history (suc k) d m = elim (among_append d (ridden (after_steps g starts k).riders) (history k) m) [
     | inl a ↦ (k, omega arith, a)
-    | inr b ↦ let r : (i : ℕ) × (i < k) × (is_among d (ridden (after g starts i).riders) ≡ true) = in_history k d b in (r.0, omega (arith, r.1), r.2)
+    | inr b ↦ let r : (i : ℕ) × (i < k) × (is_among d (ridden (after_steps g starts i).riders) ≡ true) = in_history k d b in (r.0, omega (arith, r.1), r.2)
   ]
 
-  not_before : (k d : ℕ) → is_among d (ridden (after g starts k).riders) ≡ true → is_among d (history k) ≡ true → ⊥
-  not_before k d m b = let r : (i : ℕ) × (i < k) × (is_among d (ridden (after g starts i).riders) ≡ true) = in_history k d b in ridden_once g t starts begin d r.0 k r.1 r.2 m
+  not_before : (k d : ℕ) → is_among d (ridden (after_steps g starts k).riders) ≡ true → is_among d (history k) ≡ true → ⊥
+  not_before k d m b = let r : (i : ℕ) × (i < k) × (is_among d (ridden (after_steps g starts i).riders) ≡ true) = in_history k d b in ridden_once g t starts begin d r.0 k r.1 r.2 m
 
   history_apart : (k : ℕ) → AreApart (history k)
   history_apart zero = tt
-  history_apart (suc k) = apart_append (ridden (after g starts k).riders) (history k) (after_reached g t starts begin k).apart (history_apart k) (not_before k)
+  history_apart (suc k) = apart_append (ridden (after_steps g starts k).riders) (history k) (after_reached g t starts begin k).apart (history_apart k) (not_before k)
 
   history_low : (k d : ℕ) → is_among d (history k) ≡ true → d < g.half.count
-  history_low k d m = let r : (i : ℕ) × (i < k) × (is_among d (ridden (after g starts i).riders) ≡ true) = in_history k d m in (after_reached g t starts begin r.0).low d r.2
+  history_low k d m = let r : (i : ℕ) × (i < k) × (is_among d (ridden (after_steps g starts i).riders) ≡ true) = in_history k d m in (after_reached g t starts begin r.0).low d r.2
 
   pub bounded : (x : EventState) (c : ℕ) → IsWithin x c → c ≤ g.half.count
   bounded x c w = omega (arith, w.counted, length-append (darts_in x.noted) (history w.instant), apart_few g.half.count (darts_in x.noted ++ history w.instant) apart low)
     where
-      rides : (d : ℕ) → is_among d (darts_in x.noted) ≡ true → is_among d (ridden (after g starts w.instant).riders) ≡ true
-      rides d m = noted_rides g (after g starts w.instant).stood (ridden (after g starts w.instant).riders) (is_on x.settled) (after g starts w.instant).riders x.riders x.noted d w.shown.riders m
+      rides : (d : ℕ) → is_among d (darts_in x.noted) ≡ true → is_among d (ridden (after_steps g starts w.instant).riders) ≡ true
+      rides d m = noted_rides g (after_steps g starts w.instant).stood (ridden (after_steps g starts w.instant).riders) (is_on x.settled) (after_steps g starts w.instant).riders x.riders x.noted d w.shown.riders m
 
       apart : AreApart (darts_in x.noted ++ history w.instant)
-      apart = apart_append (darts_in x.noted) (history w.instant) (notes_apart g (after g starts w.instant).stood (ridden (after g starts w.instant).riders) (is_on x.settled) (after g starts w.instant).riders x.riders x.noted w.shown.riders (after_reached g t starts begin w.instant).apart) (history_apart w.instant) (λ d m b. not_before w.instant d (rides d m) b)
+      apart = apart_append (darts_in x.noted) (history w.instant) (notes_apart g (after_steps g starts w.instant).stood (ridden (after_steps g starts w.instant).riders) (is_on x.settled) (after_steps g starts w.instant).riders x.riders x.noted w.shown.riders (after_reached g t starts begin w.instant).apart) (history_apart w.instant) (λ d m b. not_before w.instant d (rides d m) b)
 
       low : (d : ℕ) → is_among d (darts_in x.noted ++ history w.instant) ≡ true → d < g.half.count
       low d m = elim (among_append d (darts_in x.noted) (history w.instant) m) [ inl a ↦ (after_reached g t starts begin w.instant).low d (rides d a) | inr b ↦ history_low w.instant d b ]
 
   -- Where a rider runs, some event is possible.
   pub possible : (x : EventState) (c : ℕ) → IsWithin x c → (r : ℕ) → r < length x.riders → (rider_at x.riders r).stop ≡ None → (e : Event) × May g x e
-  possible x c w r low runs = by_waiting (somebody g (after g starts w.instant).stood (ridden (after g starts w.instant).riders) (is_on x.settled) (after g starts w.instant).riders x.riders x.noted w.shown.riders)
+  possible x c w r low runs = by_waiting (somebody g (after_steps g starts w.instant).stood (ridden (after_steps g starts w.instant).riders) (is_on x.settled) (after_steps g starts w.instant).riders x.riders x.noted w.shown.riders)
     where
       by_rest : waiting x.riders x.noted ≡ 0 → ((darts_in x.noted ≡ []) × ((v : ℕ) → is_on x.settled v ≡ false)) ⊎ ((d : ℕ) × (is_among d (darts_in x.noted) ≡ true) × (is_on x.settled (end_of g d) ≡ false)) → (e : Event) × May g x e
       by_rest done (inl none) = absurd (
-          let same : x.riders ≡ (after g starts w.instant).riders = as_was g (after g starts w.instant).stood (ridden (after g starts w.instant).riders) (is_on x.settled) (after g starts w.instant).riders x.riders x.noted w.shown.riders none.0 in
-          let all : darts_in x.noted ≡ ridden (after g starts w.instant).riders = all_ridden (after g starts w.instant) (after_reached g t starts begin w.instant) x w.shown done in
+          let same : x.riders ≡ (after_steps g starts w.instant).riders = as_was g (after_steps g starts w.instant).stood (ridden (after_steps g starts w.instant).riders) (is_on x.settled) (after_steps g starts w.instant).riders x.riders x.noted w.shown.riders none.0 in
+          let all : darts_in x.noted ≡ ridden (after_steps g starts w.instant).riders = all_ridden (after_steps g starts w.instant) (after_reached g t starts begin w.instant) x w.shown done in
           let m : is_among (rider_at x.riders r).dart (ridden x.riders) ≡ true = runs_ridden x.riders r low runs in
           false≢true (sym (ap (is_among (rider_at x.riders r).dart) (ap ridden same ∙ (sym all ∙ none.0))) ∙ m))
-      by_rest done (inr (d, m, off)) = (Settle (end_of g d), and_from _ _ (eq-eqb _ _ done) (and_from _ _ (any_at (ends_at g (end_of g d)) d (darts_in x.noted) m (eq-eqb _ _ refl)) (not_from_false _ off)))
+      by_rest done (inr (d, m, off)) = (Settle (end_of g d), and_from _ _ (eq-eqb _ _ done) (and_from _ _ (any_at (leads_to g (end_of g d)) d (darts_in x.noted) m (eq-eqb _ _ refl)) (not_from_false _ off)))
 
       by_waiting : (waiting x.riders x.noted ≡ 0) ⊎ ((q : ℕ) × (q < length x.riders) × (may_ride x q ≡ true)) → (e : Event) × May g x e
       by_waiting (inl done) = by_rest done w.shown.rest
       by_waiting (inr q) = (Ride q.0, (q.1, q.2))
 
   -- Where nobody runs, nothing is noted, and the riders are those of the motion.
-  pub nobody : (x : EventState) (c : ℕ) (w : IsWithin x c) → NobodyRuns x → (x.riders ≡ (after g starts w.instant).riders) × (ridden (after g starts w.instant).riders ≡ []) × (darts_in x.noted ≡ [])
+  pub nobody : (x : EventState) (c : ℕ) (w : IsWithin x c) → NobodyRuns x → (x.riders ≡ (after_steps g starts w.instant).riders) × (ridden (after_steps g starts w.instant).riders ≡ []) × (darts_in x.noted ≡ [])
   nobody x c w none = by_rest w.shown.rest
     where
-      by_rest : ((darts_in x.noted ≡ []) × ((v : ℕ) → is_on x.settled v ≡ false)) ⊎ ((d : ℕ) × (is_among d (darts_in x.noted) ≡ true) × (is_on x.settled (end_of g d) ≡ false)) → (x.riders ≡ (after g starts w.instant).riders) × (ridden (after g starts w.instant).riders ≡ []) × (darts_in x.noted ≡ [])
+      by_rest : ((darts_in x.noted ≡ []) × ((v : ℕ) → is_on x.settled v ≡ false)) ⊎ ((d : ℕ) × (is_among d (darts_in x.noted) ≡ true) × (is_on x.settled (end_of g d) ≡ false)) → (x.riders ≡ (after_steps g starts w.instant).riders) × (ridden (after_steps g starts w.instant).riders ≡ []) × (darts_in x.noted ≡ [])
       by_rest (inl e) =
-          let same : x.riders ≡ (after g starts w.instant).riders = as_was g (after g starts w.instant).stood (ridden (after g starts w.instant).riders) (is_on x.settled) (after g starts w.instant).riders x.riders x.noted w.shown.riders e.0 in
+          let same : x.riders ≡ (after_steps g starts w.instant).riders = as_was g (after_steps g starts w.instant).stood (ridden (after_steps g starts w.instant).riders) (is_on x.settled) (after_steps g starts w.instant).riders x.riders x.noted w.shown.riders e.0 in
           (same, sym (ap ridden same) ∙ nobody_rides x.riders none, e.0)
       by_rest (inr (d, m, off)) = absurd (
-          let q : (r : ℕ) × (r < length x.riders) × ((rider_at x.riders r).stop ≡ None) = still_runs g (after g starts w.instant).stood (ridden (after g starts w.instant).riders) (is_on x.settled) (after g starts w.instant).riders x.riders x.noted d w.shown.riders m off in
+          let q : (r : ℕ) × (r < length x.riders) × ((rider_at x.riders r).stop ≡ None) = still_runs g (after_steps g starts w.instant).stood (ridden (after_steps g starts w.instant).riders) (is_on x.settled) (after_steps g starts w.instant).riders x.riders x.noted d w.shown.riders m off in
           none q.0 q.1 q.2)
 
   -- All states of the motion where nobody runs are alike.
-  rest_more : (k j : ℕ) → ridden (after g starts k).riders ≡ [] → ((after g starts (j + k)).riders ≡ (after g starts k).riders) × ((d : ℕ) → (after g starts (j + k)).covered d ≡ (after g starts k).covered d)
+  rest_more : (k j : ℕ) → ridden (after_steps g starts k).riders ≡ [] → ((after_steps g starts (j + k)).riders ≡ (after_steps g starts k).riders) × ((d : ℕ) → (after_steps g starts (j + k)).covered d ≡ (after_steps g starts k).covered d)
   rest_more k zero none = let e : 0 + k ≡ k = omega arith in rw e (refl, λ d. refl)
   rest_more k (suc j) none =
       let e : suc j + k ≡ suc (j + k) = omega arith in
-      let r : ((after g starts (j + k)).riders ≡ (after g starts k).riders) × ((d : ℕ) → (after g starts (j + k)).covered d ≡ (after g starts k).covered d) = rest_more k j none in
-      let still : ridden (after g starts (j + k)).riders ≡ [] = ap ridden r.0 ∙ none in
+      let r : ((after_steps g starts (j + k)).riders ≡ (after_steps g starts k).riders) × ((d : ℕ) → (after_steps g starts (j + k)).covered d ≡ (after_steps g starts k).covered d) = rest_more k j none in
+      let still : ridden (after_steps g starts (j + k)).riders ≡ [] = ap ridden r.0 ∙ none in
       rw e (
-        still_riders g (after g starts (j + k)).stood (ridden (after g starts (j + k)).riders) (after g starts (j + k)).riders still ∙ r.0,
-        λ d. ap (λ (ds : List ℕ). (after g starts (j + k)).covered d || (is_among d ds || is_met g ds d)) still ∙ (ap (λ b. (after g starts (j + k)).covered d || b) (none_found (g.half.twin d)) ∙ (or-false ((after g starts (j + k)).covered d) ∙ r.1 d)),
+        still_riders g (after_steps g starts (j + k)).stood (ridden (after_steps g starts (j + k)).riders) (after_steps g starts (j + k)).riders still ∙ r.0,
+        λ d. ap (λ (ds : List ℕ). (after_steps g starts (j + k)).covered d || (is_among d ds || is_met g ds d)) still ∙ (ap (λ b. (after_steps g starts (j + k)).covered d || b) (none_found (g.half.twin d)) ∙ (or-false ((after_steps g starts (j + k)).covered d) ∙ r.1 d)),
       )
 
-  finish_is : (k i : ℕ) → (j : ℕ) × (finish g k (after g starts i) ≡ after g starts j)
+  finish_is : (k i : ℕ) → (j : ℕ) × (finish g k (after_steps g starts i) ≡ after_steps g starts j)
   finish_is zero i = (i, refl)
-  finish_is (suc k) i = at (ridden (after g starts i).riders) refl (finish_is k)
+  finish_is (suc k) i = at (ridden (after_steps g starts i).riders) refl (finish_is k)
     where
-      at : (ds : List ℕ) → ridden (after g starts i).riders ≡ ds → ((l : ℕ) → (j : ℕ) × (finish g k (after g starts l) ≡ after g starts j)) → (j : ℕ) × (finish g (suc k) (after g starts i) ≡ after g starts j)
-      at [] is rest = (i, at_rest g (suc k) (after g starts i) is)
-      at (d ∷ ds) is rest = let r : (j : ℕ) × (finish g k (after g starts (suc i)) ≡ after g starts j) = rest (suc i) in (r.0, runs_on g k d ds (after g starts i) is ∙ r.1)
+      at : (ds : List ℕ) → ridden (after_steps g starts i).riders ≡ ds → ((l : ℕ) → (j : ℕ) × (finish g k (after_steps g starts l) ≡ after_steps g starts j)) → (j : ℕ) × (finish g (suc k) (after_steps g starts i) ≡ after_steps g starts j)
+      at [] is rest = (i, at_rest g (suc k) (after_steps g starts i) is)
+      at (d ∷ ds) is rest = let r : (j : ℕ) × (finish g k (after_steps g starts (suc i)) ≡ after_steps g starts j) = rest (suc i) in (r.0, runs_on g k d ds (after_steps g starts i) is ∙ r.1)
 
-  alike : (i j : ℕ) → ridden (after g starts i).riders ≡ [] → ridden (after g starts j).riders ≡ [] → ((after g starts i).riders ≡ (after g starts j).riders) × ((d : ℕ) → (after g starts i).covered d ≡ (after g starts j).covered d)
+  alike : (i j : ℕ) → ridden (after_steps g starts i).riders ≡ [] → ridden (after_steps g starts j).riders ≡ [] → ((after_steps g starts i).riders ≡ (after_steps g starts j).riders) × ((d : ℕ) → (after_steps g starts i).covered d ≡ (after_steps g starts j).covered d)
   alike i j a b = elim (cases_lt i j) [
-    | inl l ↦ let e : (j - i) + i ≡ j = omega arith in let r : ((after g starts ((j - i) + i)).riders ≡ (after g starts i).riders) × ((d : ℕ) → (after g starts ((j - i) + i)).covered d ≡ (after g starts i).covered d) = rest_more i (j - i) a in
-        (sym r.0 ∙ ap (λ k. (after g starts k).riders) e, λ d. sym (r.1 d) ∙ ap (λ k. (after g starts k).covered d) e)
-    | inr l ↦ let e : (i - j) + j ≡ i = omega arith in let r : ((after g starts ((i - j) + j)).riders ≡ (after g starts j).riders) × ((d : ℕ) → (after g starts ((i - j) + j)).covered d ≡ (after g starts j).covered d) = rest_more j (i - j) b in
-        (sym (ap (λ k. (after g starts k).riders) e) ∙ r.0, λ d. sym (ap (λ k. (after g starts k).covered d) e) ∙ r.1 d)
+    | inl l ↦ let e : (j - i) + i ≡ j = omega arith in let r : ((after_steps g starts ((j - i) + i)).riders ≡ (after_steps g starts i).riders) × ((d : ℕ) → (after_steps g starts ((j - i) + i)).covered d ≡ (after_steps g starts i).covered d) = rest_more i (j - i) a in
+        (sym r.0 ∙ ap (λ k. (after_steps g starts k).riders) e, λ d. sym (r.1 d) ∙ ap (λ k. (after_steps g starts k).covered d) e)
+    | inr l ↦ let e : (i - j) + j ≡ i = omega arith in let r : ((after_steps g starts ((i - j) + j)).riders ≡ (after_steps g starts j).riders) × ((d : ℕ) → (after_steps g starts ((i - j) + j)).covered d ≡ (after_steps g starts j).covered d) = rest_more j (i - j) b in
+        (sym (ap (λ k. (after_steps g starts k).riders) e) ∙ r.0, λ d. sym (ap (λ k. (after_steps g starts k).covered d) e) ∙ r.1 d)
   ]
 
   -- The end of every order of events is the end of the motion.
   pub one_end : (x : EventState) (c : ℕ) → IsWithin x c → NobodyRuns x → (x.riders ≡ (end_state g n starts).riders) × ((d : ℕ) → d < g.half.count → is_on x.covered d ≡ (end_state g n starts).covered d)
   one_end x c w none =
-      let e : (x.riders ≡ (after g starts w.instant).riders) × (ridden (after g starts w.instant).riders ≡ []) × (darts_in x.noted ≡ []) = nobody x c w none in
-      let f : (j : ℕ) × (end_state g n starts ≡ after g starts j) = finish_is (suc n) 0 in
-      let r : ((after g starts w.instant).riders ≡ (after g starts f.0).riders) × ((d : ℕ) → (after g starts w.instant).covered d ≡ (after g starts f.0).covered d) = alike w.instant f.0 e.1 (sym (ap (λ (s : State). ridden s.riders) f.1) ∙ nobody_runs g t (λ e. is_among e starts) (start g starts) (first g t starts begin) n few) in (
+      let e : (x.riders ≡ (after_steps g starts w.instant).riders) × (ridden (after_steps g starts w.instant).riders ≡ []) × (darts_in x.noted ≡ []) = nobody x c w none in
+      let f : (j : ℕ) × (end_state g n starts ≡ after_steps g starts j) = finish_is (suc n) 0 in
+      let r : ((after_steps g starts w.instant).riders ≡ (after_steps g starts f.0).riders) × ((d : ℕ) → (after_steps g starts w.instant).covered d ≡ (after_steps g starts f.0).covered d) = alike w.instant f.0 e.1 (sym (ap (λ (s : State). ridden s.riders) f.1) ∙ nobody_runs g t (λ e. is_among e starts) (start g starts) (first g t starts begin) n few) in (
         e.0 ∙ (r.0 ∙ sym (ap (λ (s : State). s.riders) f.1)),
-        λ d l. w.shown.covered d l ∙ (ap (λ (ds : List ℕ). (after g starts w.instant).covered d || (is_among d ds || is_met g ds d)) e.2 ∙ (ap (λ b. (after g starts w.instant).covered d || b) (none_found (g.half.twin d)) ∙ (or-false ((after g starts w.instant).covered d) ∙ (r.1 d ∙ sym (ap (λ (s : State). s.covered d) f.1))))),
+        λ d l. w.shown.covered d l ∙ (ap (λ (ds : List ℕ). (after_steps g starts w.instant).covered d || (is_among d ds || is_met g ds d)) e.2 ∙ (ap (λ b. (after_steps g starts w.instant).covered d || b) (none_found (g.half.twin d)) ∙ (or-false ((after_steps g starts w.instant).covered d) ∙ (r.1 d ∙ sym (ap (λ (s : State). s.covered d) f.1))))),
       )
 
   -- After as many steps as there are vertices nobody runs, and the state is the last.
-  pub at_last : ridden (after g starts n).riders ≡ []
+  pub at_last : ridden (after_steps g starts n).riders ≡ []
   at_last = last_rests g t (λ e. is_among e starts) (start g starts) (first g t starts begin) n few
 
-  pub last_is : ((after g starts n).riders ≡ (end_state g n starts).riders) × ((d : ℕ) → (after g starts n).covered d ≡ (end_state g n starts).covered d)
+  pub last_is : ((after_steps g starts n).riders ≡ (end_state g n starts).riders) × ((d : ℕ) → (after_steps g starts n).covered d ≡ (end_state g n starts).covered d)
   last_is =
-      let f : (j : ℕ) × (end_state g n starts ≡ after g starts j) = finish_is (suc n) 0 in
-      let r : ((after g starts n).riders ≡ (after g starts f.0).riders) × ((d : ℕ) → (after g starts n).covered d ≡ (after g starts f.0).covered d) = alike n f.0 at_last (sym (ap (λ (s : State). ridden s.riders) f.1) ∙ nobody_runs g t (λ e. is_among e starts) (start g starts) (first g t starts begin) n few) in
+      let f : (j : ℕ) × (end_state g n starts ≡ after_steps g starts j) = finish_is (suc n) 0 in
+      let r : ((after_steps g starts n).riders ≡ (after_steps g starts f.0).riders) × ((d : ℕ) → (after_steps g starts n).covered d ≡ (after_steps g starts f.0).covered d) = alike n f.0 at_last (sym (ap (λ (s : State). ridden s.riders) f.1) ∙ nobody_runs g t (λ e. is_among e starts) (start g starts) (first g t starts begin) n few) in
       (r.0 ∙ sym (ap (λ (s : State). s.riders) f.1), λ d. r.1 d ∙ sym (ap (λ (s : State). s.covered d) f.1))

@@ -2,7 +2,7 @@
 use Rattle.std.proofs.Common.{◌≡◌, ◌⊎◌, ℕ, ◌<◌, Bool, true, false, List, [], ◌∷◌, map, Option, Some, None, sym, subst, ap, ◌∙◌, refl, inl, inr}
 use Rattle.std.proofs.lemmas.Bool.{eq-eqb, eqb-true, false≢true}
 use Rattle.def_cut.specs.Cuts.{HasCross}
-use Rattle.def_cut.specs.Motion.{Terrain, end_of, ridden, is_among, begun, start, after}
+use Rattle.def_cut.specs.Motion.{Terrain, end_of, ridden, is_among, begun, start, after_steps}
 use Rattle.cut_laws.proofs.Crosses.{low_a, low_b, at_b}
 use Rattle.cut_laws.proofs.Darts.{turn_from, turn_low}
 use Rattle.motion_laws.proofs.Among.{any_at, any_where, AreApart}
@@ -98,9 +98,9 @@ module _ (g : Terrain) (t : IsTerrain g) (starts : List ℕ) (begin : IsStarted 
   }
 
   -- The states after it.
-  pub after_reached : (n : ℕ) → IsReached g starts (after g starts n)
+  pub after_reached : (n : ℕ) → IsReached g starts (after_steps g starts n)
   after_reached = later_reached g t (λ e. is_among e starts) (start g starts) first
 
   -- No dart is ridden at two instants.
-  pub ridden_once : (e i j : ℕ) → i < j → is_among e (ridden (after g starts i).riders) ≡ true → is_among e (ridden (after g starts j).riders) ≡ true → ⊥
+  pub ridden_once : (e i j : ℕ) → i < j → is_among e (ridden (after_steps g starts i).riders) ≡ true → is_among e (ridden (after_steps g starts j).riders) ≡ true → ⊥
   ridden_once = rides_once g t (λ e. is_among e starts) (start g starts) first

@@ -5,7 +5,7 @@ use Rattle.std.proofs.lemmas.Option.{same_Some}
 use Rattle.def_mesh.specs.HalfEdges.{HalfEdges, IsQuadManifold}
 use Rattle.def_cut.specs.Cuts.{Cut, IsCut}
 use Rattle.def_cut.specs.Steps.{easts}
-use Rattle.def_layout.specs.Arcs.{IsRun, LiesAt, Path, arc_at, dart_at, long_at, name_at, AreArcs}
+use Rattle.def_layout.specs.Arcs.{IsRun, LiesAt, Path, path_at, dart_at, long_at, name_at, AreArcs}
 use Rattle.def_layout.specs.Nodes.{AreNodes}
 use Rattle.cut_laws.proofs.Leasts.{least_high, least_there}
 use Rattle.layout_laws.proofs.Runs.{IsBack, run_low, same_place, same_length, back_run}
@@ -74,16 +74,16 @@ module _ (m : HalfEdges) (laws : IsQuadManifold m) (cut : Cut) (full : IsCut m c
   -- Then they have one name.
   pub one_name_both : (a b k j : ℕ) → a < length arcs → b < length others → IsSameArc a b k j → name_at arcs a ≡ name_at others b
   one_name_both a b k j a_low b_low s =
-      let n : (i : ℕ) × (i < long_at arcs a) × (dart_at arcs a i ≡ name_at arcs a) = least_there (arc_at arcs a).darts (one_run a a_low).some in
-      let p : (i : ℕ) × (i < long_at others b) × (dart_at others b i ≡ name_at others b) = least_there (arc_at others b).darts (other_run b b_low).some in
+      let n : (i : ℕ) × (i < long_at arcs a) × (dart_at arcs a i ≡ name_at arcs a) = least_there (path_at arcs a).darts (one_run a a_low).some in
+      let p : (i : ℕ) × (i < long_at others b) × (dart_at others b i ≡ name_at others b) = least_there (path_at others b).darts (other_run b b_low).some in
       omega (
         arith,
         n.2,
         p.2,
         s.each n.0 n.1,
         s.each p.0 (omega (arith, s.long, p.1)),
-        least_high (arc_at others b).darts n.0 (omega (arith, s.long, n.1)),
-        least_high (arc_at arcs a).darts p.0 (omega (arith, s.long, p.1)),
+        least_high (path_at others b).darts n.0 (omega (arith, s.long, n.1)),
+        least_high (path_at arcs a).darts p.0 (omega (arith, s.long, p.1)),
       )
 
   -- A dart of one is no twin of a dart of the other.
@@ -118,7 +118,7 @@ module _ (m : HalfEdges) (laws : IsQuadManifold m) (cut : Cut) (full : IsCut m c
 
           b_less : name_at others b < name_at arcs a
           b_less =
-              let n : (i : ℕ) × (i < long_at arcs a) × (dart_at arcs a i ≡ name_at arcs a) = least_there (arc_at arcs a).darts (one_run a a_low).some in
+              let n : (i : ℕ) × (i < long_at arcs a) × (dart_at arcs a i ≡ name_at arcs a) = least_there (path_at arcs a).darts (one_run a a_low).some in
               let l : name_at others b < dart_at arcs a n.0 =
               (them.each b b_low).named (long_at others b - 1 - n.0) (dart_at arcs a n.0) (omega (arith, long, n.1))
               (across (long_at others b - 1 - n.0) n.0 (omega (arith, long, n.1))) in
@@ -126,7 +126,7 @@ module _ (m : HalfEdges) (laws : IsQuadManifold m) (cut : Cut) (full : IsCut m c
 
           a_less : name_at arcs a < name_at others b
           a_less =
-              let p : (i : ℕ) × (i < long_at others b) × (dart_at others b i ≡ name_at others b) = least_there (arc_at others b).darts (other_run b b_low).some in
+              let p : (i : ℕ) × (i < long_at others b) × (dart_at others b i ≡ name_at others b) = least_there (path_at others b).darts (other_run b b_low).some in
               let i_low : long_at others b - 1 - p.0 < long_at arcs a = omega (arith, long, p.1) in
               let l : name_at arcs a < dart_at others b p.0 =
               (are.each a a_low).named (long_at others b - 1 - p.0) (dart_at others b p.0) i_low
@@ -151,7 +151,7 @@ module _ (m : HalfEdges) (laws : IsQuadManifold m) (cut : Cut) (full : IsCut m c
       )
 
   pub same_use : (a b : ℕ) (f g : Bool) (o k d : ℕ) → a < length arcs → b < length arcs → o < long_at arcs a → k < long_at arcs b
-      → LiesAt m (arc_at arcs a).darts f o d → LiesAt m (arc_at arcs b).darts g k d → (a ≡ b) × (f ≡ g) × (o ≡ k)
+      → LiesAt m (path_at arcs a).darts f o d → LiesAt m (path_at arcs b).darts g k d → (a ≡ b) × (f ≡ g) × (o ≡ k)
   same_use a b true true o k d a_low b_low o_low k_low at also =
       let s : (a ≡ b) × (o ≡ k) = same_dart a b o k a_low b_low o_low k_low (sym at ∙ also) in (s.0, refl, s.1)
   same_use a b true false o k d a_low b_low o_low k_low at also =

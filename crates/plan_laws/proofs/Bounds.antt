@@ -3,15 +3,15 @@ use Rattle.std.proofs.Common.{◌≡◌, ℕ, zero, suc, ◌+◌, ◌*◌, ◌^�
 use Rattle.std.proofs.lemmas.Nat.{mul-le}
 use Rattle.def_math.specs.Counts.{count_below}
 use Rattle.def_layout.specs.Arcs.{long_at}
-use Rattle.def_layout.specs.Cells.{Dart, IsDart}
+use Rattle.def_layout.specs.Cells.{CellDart, IsDart}
 use Rattle.def_layout.specs.Laid.{IsLaid}
 use Rattle.def_layout.specs.Layouts.{Way, south, east, north, west, Layout}
 use Rattle.def_layout.specs.Lengths.{Lengths, size, wide, high, AreLengths}
 use Rattle.def_layout.specs.Plans.{Plan, layout_of, vertex_at}
 use Rattle.def_layoutnet.specs.MeshLayouts.{IsMeshLayout}
 use Rattle.def_written.specs.Points.{Point, IsPoint}
-use Rattle.def_written.specs.Numbers.{number, vertices}
-use Rattle.def_written.specs.NewFaces.{from, cells_before, face_count}
+use Rattle.def_written.specs.Numbers.{vertex_number, vertices}
+use Rattle.def_written.specs.NewFaces.{dart_start, cells_before, face_count}
 use Rattle.sum_laws.proofs.Counts.{count_below_le, count_below_times}
 use Rattle.written_laws.proofs.Runs.{count_rises}
 use Rattle.written_laws.proofs.Tallies.{passing, passing_le, passing_all}
@@ -36,14 +36,14 @@ module _ (l : Layout) (x : Lengths) (laid : IsLaid l) (len : AreLengths l x) whe
         passing_le (λ k. true) (λ k. true) (vertices l x) (4 * face_count l x)
             (λ v low on. (dart_number l x (dart v low).0, below v low, refl))
             (λ v w a on b too same. sym (dart v a).2
-            ∙ ap (λ (d : Dart). number l x (from l x d)) (dart_same l x (dart v a).0 (dart w b).0 (dart v a).1 (dart w b).1 same) ∙ (dart w b).2),
+            ∙ ap (λ (d : CellDart). vertex_number l x (dart_start l x d)) (dart_same l x (dart v a).0 (dart w b).0 (dart v a).1 (dart w b).1 same) ∙ (dart w b).2),
       )
     where
-      dart : (v : ℕ) → v < vertices l x → (d : Dart) × IsDart l x d × (number l x (from l x d) ≡ v)
+      dart : (v : ℕ) → v < vertices l x → (d : CellDart) × IsDart l x d × (vertex_number l x (dart_start l x d) ≡ v)
       dart v low =
-          let a : (a : Point) × IsPoint l x a × (number l x a ≡ v) = point_onto l x v low in
-          let d : (d : Dart) × IsDart l x d × (from l x d ≡ a.0) = point_dart l x laid len a.0 a.1 in
-          (d.0, d.1, ap (number l x) d.2 ∙ a.2)
+          let a : (a : Point) × IsPoint l x a × (vertex_number l x a ≡ v) = point_onto l x v low in
+          let d : (d : CellDart) × IsDart l x d × (dart_start l x d ≡ a.0) = point_dart l x laid len a.0 a.1 in
+          (d.0, d.1, ap (vertex_number l x) d.2 ∙ a.2)
 
       below : (v : ℕ) (low : v < vertices l x) → dart_number l x (dart v low).0 < 4 * face_count l x
       below v low = omega (arith, dart_low l x (dart v low).0 (dart v low).1, faces_long l x)

@@ -13,7 +13,7 @@ use Rattle.def_cut.specs.Steps.{face_of}
 use Rattle.cut_laws.proofs.OneList.{one_list_law}
 use Rattle.cut_laws.proofs.Increasing.{AreIncreasing, increasing_place, same_many, same_values}
 use Rattle.def_layout.specs.declared.tmesh.SideArc.{SideArc}
-use Rattle.def_layout.specs.Arcs.{to, LiesAt, Path, arc_at, dart_at, long_at, name_at, AreArcs}
+use Rattle.def_layout.specs.Arcs.{end_vertex, LiesAt, Path, path_at, dart_at, long_at, name_at, AreArcs}
 use Rattle.def_layout.specs.Borders.{border_dart}
 use Rattle.def_layout.specs.Layouts.{Way, south, east, north, west, Slot, IsSlot}
 use Rattle.def_layout.specs.Lengths.{reach}
@@ -44,10 +44,10 @@ module _ (m : HalfEdges) (laws : IsQuadManifold m) (cut : Cut) (full : IsCut m c
       run_on : cut (dart_at arcs a 0) ≡ true
       run_on = (are.each a low).run.on 0 some
 
-      by_cover : (b : ℕ) × (o : ℕ) × (f : Bool) × (b < length others) × (o < long_at others b) × LiesAt m (arc_at others b).darts f o (dart_at arcs a 0) → IsFound arcs others a
+      by_cover : (b : ℕ) × (o : ℕ) × (f : Bool) × (b < length others) × (o < long_at others b) × LiesAt m (path_at others b).darts f o (dart_at arcs a 0) → IsFound arcs others a
       by_cover c = by_way c.0 c.1 c.2 c.3 c.4 c.5
         where
-          by_way : (b o : ℕ) (f : Bool) → b < length others → o < long_at others b → LiesAt m (arc_at others b).darts f o (dart_at arcs a 0) → IsFound arcs others a
+          by_way : (b o : ℕ) (f : Bool) → b < length others → o < long_at others b → LiesAt m (path_at others b).darts f o (dart_at arcs a 0) → IsFound arcs others a
           by_way b o true b_low o_low lies =
               let s : IsSameArc m laws cut full node nodes arcs are others them a b 0 o = same_arc m laws cut full node nodes arcs are others them a b 0 o low b_low some o_low lies in
               record { at = b; low = b_low; name = one_name_both m laws cut full node nodes arcs are others them a b 0 o low b_low s; long = s.long; each = s.each }
@@ -59,7 +59,7 @@ module _ (m : HalfEdges) (laws : IsQuadManifold m) (cut : Cut) (full : IsCut m c
   -- So both lists have the same arcs, as far as darts tell.
   record AreSame (arcs others : List Path) : Type 0 where
     many : length arcs ≡ length others
-    each : (a : ℕ) → a < length arcs → (arc_at arcs a).darts ≡ (arc_at others a).darts
+    each : (a : ℕ) → a < length arcs → (path_at arcs a).darts ≡ (path_at others a).darts
 
   same_arcs : (arcs others : List Path) → AreArcs m cut node arcs → AreArcs m cut node others → AreSame arcs others
   same_arcs arcs others are them = record { many = many; each = each }
@@ -73,15 +73,15 @@ module _ (m : HalfEdges) (laws : IsQuadManifold m) (cut : Cut) (full : IsCut m c
       many : length arcs ≡ length others
       many = same_many (name_at arcs) (name_at others) (length arcs) (length others) (increasing arcs are) (increasing others them) there back
 
-      each : (a : ℕ) → a < length arcs → (arc_at arcs a).darts ≡ (arc_at others a).darts
+      each : (a : ℕ) → a < length arcs → (path_at arcs a).darts ≡ (path_at others a).darts
       each a low = by_found (found arcs others are them a low)
         where
-          by_found : IsFound arcs others a → (arc_at arcs a).darts ≡ (arc_at others a).darts
+          by_found : IsFound arcs others a → (path_at arcs a).darts ≡ (path_at others a).darts
           by_found f =
               let same : f.at ≡ a =
               increasing_place (name_at others) (length others) (increasing others them) f.at a f.low (omega (arith, low, many))
               (sym f.name ∙ same_values (name_at arcs) (name_at others) (length arcs) (length others) (increasing arcs are) (increasing others them) there back a low) in
-              ext_get_or 0 (arc_at arcs a).darts (arc_at others f.at).darts f.long f.each ∙ ap (λ (b : ℕ). (arc_at others b).darts) same
+              ext_get_or 0 (path_at arcs a).darts (path_at others f.at).darts f.long f.each ∙ ap (λ (b : ℕ). (path_at others b).darts) same
 
   module _ (face : ℕ → ℕ) (v : ℕ) where
     -- The layouts have the same nodes, arcs and patches.
@@ -91,7 +91,7 @@ module _ (m : HalfEdges) (laws : IsQuadManifold m) (cut : Cut) (full : IsCut m c
         s : AreSame t.arcs u.arcs
         s = same_arcs t.arcs u.arcs lt.arcs lu.arcs
 
-        path : (a : ℕ) → a < length t.arcs → arc_at t.arcs a ≡ arc_at u.arcs a
+        path : (a : ℕ) → a < length t.arcs → path_at t.arcs a ≡ path_at u.arcs a
         path a low = λ i. record { first = first i; last = last i; darts = s.each a low i }
           where
             u_low : a < length u.arcs
@@ -106,17 +106,17 @@ module _ (m : HalfEdges) (laws : IsQuadManifold m) (cut : Cut) (full : IsCut m c
             kept : (n : ℕ) → vertex_at u n ≡ vertex_at t n
             kept n = ap (λ (xs : List ℕ). get_or xs n 0) (sym same)
 
-            first : (arc_at t.arcs a).first ≡ (arc_at u.arcs a).first
-            first = vertex_same m laws cut full node nodes face v t lt (arc_at t.arcs a).first (arc_at u.arcs a).first (lt.first_low a low)
+            first : (path_at t.arcs a).first ≡ (path_at u.arcs a).first
+            first = vertex_same m laws cut full node nodes face v t lt (path_at t.arcs a).first (path_at u.arcs a).first (lt.first_low a low)
                 (omega (arith, lu.first_low a u_low, ap (λ (xs : List ℕ). length xs) same))
-                (lt.first_at a low ∙ (ap (λ (ds : List ℕ). m.from (get_or ds 0 0)) (s.each a low) ∙ (sym (lu.first_at a u_low) ∙ kept (arc_at u.arcs a).first)))
+                (lt.first_at a low ∙ (ap (λ (ds : List ℕ). m.from (get_or ds 0 0)) (s.each a low) ∙ (sym (lu.first_at a u_low) ∙ kept (path_at u.arcs a).first)))
 
-            last : (arc_at t.arcs a).last ≡ (arc_at u.arcs a).last
-            last = vertex_same m laws cut full node nodes face v t lt (arc_at t.arcs a).last (arc_at u.arcs a).last (lt.last_low a low)
+            last : (path_at t.arcs a).last ≡ (path_at u.arcs a).last
+            last = vertex_same m laws cut full node nodes face v t lt (path_at t.arcs a).last (path_at u.arcs a).last (lt.last_low a low)
                 (omega (arith, lu.last_low a u_low, ap (λ (xs : List ℕ). length xs) same))
                 (lt.last_at a (long_at t.arcs a - 1) low (omega (arith, some))
-                ∙ (ap (λ (ds : List ℕ). to m (get_or ds (long_at t.arcs a - 1) 0)) (s.each a low)
-                ∙ (sym (lu.last_at a (long_at t.arcs a - 1) u_low (omega (arith, long, some))) ∙ kept (arc_at u.arcs a).last)))
+                ∙ (ap (λ (ds : List ℕ). end_vertex m (get_or ds (long_at t.arcs a - 1) 0)) (s.each a low)
+                ∙ (sym (lu.last_at a (long_at t.arcs a - 1) u_low (omega (arith, long, some))) ∙ kept (path_at u.arcs a).last)))
 
     -- Two layouts that differ in their sides at most.
     module _ (t : Plan) (sides : List (List (List SideArc))) (lt : IsLayout m cut node face v t) (lu : IsLayout m cut node face v (record t { sides = sides })) where
@@ -149,7 +149,7 @@ module _ (m : HalfEdges) (laws : IsQuadManifold m) (cut : Cut) (full : IsCut m c
           by_use (same_use m laws cut full node nodes t.arcs lt.arcs (here p s k).arc (there p s k).arc (here p s k).forward (there p s k).forward 0 0
           (border_dart m (patch_at t.patches p) s (reach (layout_of t) x p s k + 0)) a_low b_low (some (here p s k).arc a_low) (some (there p s k).arc b_low)
           (lt.used (slot p s k) 0 is_one (some (here p s k).arc a_low))
-          (subst (λ (r : ℕ). LiesAt m (arc_at t.arcs (there p s k).arc).darts (there p s k).forward 0 (border_dart m (patch_at t.patches p) s (r + 0)))
+          (subst (λ (r : ℕ). LiesAt m (path_at t.arcs (there p s k).arc).darts (there p s k).forward 0 (border_dart m (patch_at t.patches p) s (r + 0)))
           (sym (same_reach p s k before)) (lu.used (slot p s k) 0 is_other (some (there p s k).arc b_low))))
         where
           is_one : IsSlot (layout_of t) (slot p s k)

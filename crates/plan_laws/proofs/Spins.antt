@@ -2,24 +2,24 @@
 use Rattle.std.proofs.Common.{◌≡◌, ◌≢◌, ℕ, zero, suc, ◌<◌, refl, sym, ◌∙◌, ap}
 use Rattle.def_mesh.specs.HalfEdges.{HalfEdges, IsQuadManifold}
 use Rattle.def_cut.specs.Steps.{spin}
-use Rattle.def_layout.specs.Layouts.{Way, south, east, north, west, after}
-use Rattle.def_layout.specs.Plans.{number}
+use Rattle.def_layout.specs.Layouts.{Way, south, east, north, west, side_after}
+use Rattle.def_layout.specs.Plans.{way_number}
 
 module _ (m : HalfEdges) (laws : IsQuadManifold m) where
   pub spin_low : (k c : ℕ) → c < m.count → spin m k c < m.count
   spin_low zero c low = low
   spin_low (suc k) c low = laws.next_low (spin m k c) (spin_low k c low)
 
-  pub spin_after : (w : Way) (c : ℕ) → spin m (number (after w)) c ≡ m.next (spin m (number w) c)
+  pub spin_after : (w : Way) (c : ℕ) → spin m (way_number (side_after w)) c ≡ m.next (spin m (way_number w) c)
   spin_after south c = refl
   spin_after east c = refl
   spin_after north c = refl
   spin_after west c = sym (laws.four_sides c)
 
-  pub spin_way : (k c : ℕ) → (w : Way) × (spin m k c ≡ spin m (number w) c)
+  pub spin_way : (k c : ℕ) → (w : Way) × (spin m k c ≡ spin m (way_number w) c)
   spin_way zero c = (south, refl)
   spin_way (suc k) c =
-      let w : (w : Way) × (spin m k c ≡ spin m (number w) c) = spin_way k c in (after w.0, ap m.next w.1 ∙ sym (spin_after w.0 c))
+      let w : (w : Way) × (spin m k c ≡ spin m (way_number w) c) = spin_way k c in (side_after w.0, ap m.next w.1 ∙ sym (spin_after w.0 c))
 
   one_on : (d : ℕ) → d < m.count → d ≢ m.next d
   one_on d low e = (laws.corners_differ d low).0 (ap m.from e)
@@ -30,7 +30,7 @@ module _ (m : HalfEdges) (laws : IsQuadManifold m) where
   three_on : (d : ℕ) → d < m.count → d ≢ m.next (m.next (m.next d))
   three_on d low e = one_on d low (sym (ap m.next e ∙ laws.four_sides d))
 
-  pub spin_once : (c : ℕ) (w v : Way) → c < m.count → spin m (number w) c ≡ spin m (number v) c → w ≡ v
+  pub spin_once : (c : ℕ) (w v : Way) → c < m.count → spin m (way_number w) c ≡ spin m (way_number v) c → w ≡ v
   spin_once c south south low e = refl
   spin_once c south east low e = absurd (one_on c low e)
   spin_once c south north low e = absurd (two_on c low e)

@@ -4,7 +4,7 @@ ghost use Rattle.std.specs.Prelude.{◌≤◌};
 ghost use Rattle.def_flow.specs.Network.{network, tangle_number, IsWithinBounds};
 ghost use Rattle.def_flow.specs.Admissible.{entries, IsAdmissible};
 ghost use Rattle.def_matching.specs.Matching.{graph, IsSmallGraph};
-ghost use Rattle.def_flow.specs.Admissible.{AreLengths};
+ghost use Rattle.def_flow.specs.Admissible.{AreNetLengths};
 
 use crate::sets::{Shape, dual_of};
 use def_flow::{MAX_TANGLE, Net};
@@ -29,7 +29,7 @@ pub(crate) fn run(
     times: u32,
 ) -> Result<String, AllocError>
     requires bounds { IsWithinBounds (network net.now) }
-    requires lengths { AreLengths net.now.arcs.items x.now }
+    requires lengths { AreNetLengths net.now.arcs.items x.now }
     requires admissible { IsAdmissible (network net.now) (entries x.now) }
     requires tangle { tangle_number (network net.now) ≤ MAX_TANGLE }
 {
@@ -45,7 +45,7 @@ pub(crate) fn run(
 /// Builds the matching graph, and tells how many vertices and edges it has.
 fn build(alloc: Global, net: &Net, x: &[u64], times: u32) -> Result<String, AllocError>
     requires bounds { IsWithinBounds (network net.now) }
-    requires lengths { AreLengths net.now.arcs.items x.now }
+    requires lengths { AreNetLengths net.now.arcs.items x.now }
     requires admissible { IsAdmissible (network net.now) (entries x.now) }
     requires tangle { tangle_number (network net.now) ≤ MAX_TANGLE }
 {

@@ -11,7 +11,7 @@ use Rattle.def_flow.specs.Network.{Network, IsWithinBounds, arc_at, ends}
 use Rattle.def_flow.specs.Admissible.{arc_deviation, deviation, entries}
 use Rattle.def_flow.specs.Units.{low}
 use Rattle.def_flow.specs.declared.net.Arc.{Arc}
-use Rattle.def_flow.specs.Admissible.{AreLengths}
+use Rattle.def_flow.specs.Admissible.{AreNetLengths}
 use Rattle.qm_net.proofs.Within.{arc_bounded}
 
 -- The deviation of an arc of a network within bounds.
@@ -46,7 +46,7 @@ arc_small net k y bounds l short = omega (arith, heavy, apart)
     heavy = mul-le-mul weight apart
 
 -- The deviation of a list of lengths.
-pub deviation_small : (net : Network) (xs : List ℕ) → IsWithinBounds net → AreLengths net.arcs xs → deviation net (entries xs) ≤ 2 ^ 120
+pub deviation_small : (net : Network) (xs : List ℕ) → IsWithinBounds net → AreNetLengths net.arcs xs → deviation net (entries xs) ≤ 2 ^ 120
 deviation_small net xs bounds are = omega (arith, each, whole, bounds.few)
   where
     each : deviation net (entries xs) ≤ count_below (λ k. 10 ^ 19 * 1) (length net.arcs)
@@ -56,7 +56,7 @@ deviation_small net xs bounds are = omega (arith, each, whole, bounds.few)
     whole = count_below_times (10 ^ 19) (λ k. 1) (length net.arcs) ∙ ap (λ n. 10 ^ 19 * n) (count_below_ones (length net.arcs))
 
 -- The lows are lengths too.
-pub lows_lengths : (net : Network) (xs : List ℕ) → AreLengths net.arcs xs → AreLengths net.arcs (map (low net 1) xs)
+pub lows_lengths : (net : Network) (xs : List ℕ) → AreNetLengths net.arcs xs → AreNetLengths net.arcs (map (low net 1) xs)
 lows_lengths net xs are = record {
   count = length-map xs (low net 1) ∙ are.count;
   small = λ k l. (let lk : k < length xs = omega (arith, length-map xs (low net 1)) in let e : slice_index (map (low net 1) xs) k ≡ low net 1 (slice_index xs k) = get_or-map (low net 1) xs k 0 0 lk in omega (arith, e, are.small k lk));

@@ -7,7 +7,7 @@ use Rattle.sum_laws.proofs.Counts.{count_total, count_below_total}
 use Rattle.sum_laws.proofs.Sums.{total_same, total_below_same}
 use Rattle.table_laws.proofs.Tallies.{raised_as, raised_none, tally_low, tally_more}
 use Rattle.def_flow.specs.Network.{arc_at, ends}
-use Rattle.def_flow.specs.Admissible.{AreLengths, entries, is_on_side, side_sum}
+use Rattle.def_flow.specs.Admissible.{AreNetLengths, entries, is_on_side, side_sum}
 use Rattle.def_flow.specs.declared.net.Arc.{Arc}
 use Rattle.def_flow.specs.declared.net.End.{End}
 use Rattle.qm_cert.specs.Sides.{end_put, arc_put, side_count, AreSides}
@@ -32,7 +32,7 @@ side_low arcs xs plus zero v short = omega arith
 side_low arcs xs plus (suc k) v short = omega (arith, side_low arcs xs plus k v (λ i l. short i (omega arith)), short k (omega arith), arc_low plus (arc_at arcs k) (slice_index xs k) v)
 
 -- The sums of the first arcs are small.
-pub sides_low : (nodes : ℕ) (arcs : List Arc) (xs : List ℕ) (plus : Bool) (k : ℕ) (sums : List ℕ) → AreLengths arcs xs → k ≤ length arcs → AreSides nodes arcs xs plus k sums → (v : ℕ) → slice_index sums v ≤ k * (2 * 10 ^ 12)
+pub sides_low : (nodes : ℕ) (arcs : List Arc) (xs : List ℕ) (plus : Bool) (k : ℕ) (sums : List ℕ) → AreNetLengths arcs xs → k ≤ length arcs → AreSides nodes arcs xs plus k sums → (v : ℕ) → slice_index sums v ≤ k * (2 * 10 ^ 12)
 sides_low nodes arcs xs plus k sums lengths le are = tally_low (side_count arcs xs plus k) nodes (k * (2 * 10 ^ 12)) sums are (λ v l. side_low arcs xs plus k v (λ i li. lengths.small i (omega (arith, lengths.count))))
 
 -- One arc more.

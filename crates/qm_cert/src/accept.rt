@@ -6,7 +6,7 @@ ghost use Rattle.def_flow.specs.Admissible.{entries, IsAdmissible, IsLeast};
 ghost use Rattle.def_flow.specs.MatchingGraph.{matching_graph};
 ghost use Rattle.def_matching.specs.Dual.{dual, verdict, IsSmallDual};
 ghost use Rattle.def_flow.specs.Accepted.{certificate, cert_verdict, refuse_dual, sums_verdict, IsAccepted};
-ghost use Rattle.def_flow.specs.Admissible.{AreLengths};
+ghost use Rattle.def_flow.specs.Admissible.{AreNetLengths};
 
 use crate::Memory;
 use crate::list::list_fault;
@@ -45,7 +45,7 @@ pub fn accepts(alloc: Global, net: &Net, cert: &Cert) -> Result<CertVerdict, Mem
 /// The verdict on a certificate whose list has no fault.
 fn check_dual(alloc: Global, net: &Net, cert: &Cert) -> Result<CertVerdict, Memory>
     requires bounds { IsWithinBounds (network net.now) }
-    requires lengths { AreLengths net.now.arcs.items cert.now.x.items }
+    requires lengths { AreNetLengths net.now.arcs.items cert.now.x.items }
     requires admissible { IsAdmissible (network net.now) (entries cert.now.x.items) }
     requires dual { IsSmallDual (dual cert.now.dual) }
     requires tangle { tangle_number (network net.now) ≤ MAX_TANGLE }

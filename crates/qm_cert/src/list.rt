@@ -2,7 +2,7 @@
 
 ghost use Rattle.std.specs.Prelude.{◌≡◌, ℕ, ◌^◌, ◌<◌, ◌≤◌, length, slice_index, IfOk};
 ghost use Rattle.def_flow.specs.Network.{network, IsWithinBounds};
-ghost use Rattle.def_flow.specs.Admissible.{AreLengths};
+ghost use Rattle.def_flow.specs.Admissible.{AreNetLengths};
 ghost use Rattle.qm_cert.specs.Faults.{compared_verdict, list_verdict, unequal_verdict};
 
 use crate::sides::{first_below, first_difference, side_sums};
@@ -39,7 +39,7 @@ pub(crate) fn list_fault(
 /// The least node whose sides have unequal sums, with these.
 fn unequal_sides(alloc: Global, net: &Net, x: &[u64]) -> Result<Option<CertVerdict>, AllocError>
     requires bounds { IsWithinBounds (network net.now) }
-    requires lengths { AreLengths net.now.arcs.items x.now }
+    requires lengths { AreNetLengths net.now.arcs.items x.now }
     ensures { IfOk result (λ o. o ≡ unequal_verdict (network net.now) x.now) }
 {
     let plus = side_sums(alloc, net, x, true)?;

@@ -5,7 +5,7 @@ ghost use Rattle.std.specs.Prelude.{nat_lt, IfOk, IfSome};
 ghost use Rattle.def_math.specs.Searches.{least};
 ghost use Rattle.def_math.specs.Tables.{IsRaised};
 ghost use Rattle.def_flow.specs.Network.{network, IsWithinBounds};
-ghost use Rattle.def_flow.specs.Admissible.{AreLengths};
+ghost use Rattle.def_flow.specs.Admissible.{AreNetLengths};
 ghost use Rattle.qm_cert.specs.Sides.{arc_put, end_put, AreSides};
 
 use def_flow::{Arc, End, MAX_LENGTH, Net};
@@ -19,7 +19,7 @@ pub(crate) fn side_sums(
     plus: bool,
 ) -> Result<Vec<u128>, AllocError>
     requires bounds { IsWithinBounds (network net.now) }
-    requires lengths { AreLengths net.now.arcs.items x.now }
+    requires lengths { AreNetLengths net.now.arcs.items x.now }
     ensures sides { IfOk result (λ sums.
         AreSides net.now.nodes net.now.arcs.items x.now plus (length net.now.arcs.items) sums.items) }
     ensures few { IfOk result (λ sums. length sums.items < 2 ^ 32) }
@@ -32,7 +32,7 @@ pub(crate) fn side_sums(
 /// Adds the lengths of all arcs at those of their ends that are on a side.
 fn add_arcs(net: &Net, x: &[u64], plus: bool, sums: &mut [u128])
     requires bounds { IsWithinBounds (network net.now) }
-    requires lengths { AreLengths net.now.arcs.items x.now }
+    requires lengths { AreNetLengths net.now.arcs.items x.now }
     requires start { sums.old ≡ replicate net.now.nodes 0 }
     ensures { AreSides net.now.nodes net.now.arcs.items x.now plus (length net.now.arcs.items) sums.new }
 {

@@ -6,7 +6,7 @@ ghost use Rattle.def_flow.specs.Network.{network, IsWithinBounds};
 ghost use Rattle.def_flow.specs.Units.{low};
 ghost use Rattle.def_matching.specs.Dual.{dual_sum};
 ghost use Rattle.def_flow.specs.Accepted.{certificate, sums_verdict};
-ghost use Rattle.def_flow.specs.Admissible.{AreLengths};
+ghost use Rattle.def_flow.specs.Admissible.{AreNetLengths};
 
 use def_flow::{Cert, CertVerdict, Net};
 use qm_net::deviation;
@@ -15,7 +15,7 @@ use qm_net::deviation;
 /// cost of the units that are on, which is the deviation of the list less that of its lows. Linear.
 pub(crate) fn sum_verdict(net: &Net, cert: &Cert, lows: &[u64], sum: i128) -> CertVerdict
     requires bounds { IsWithinBounds (network net.now) }
-    requires lengths { AreLengths net.now.arcs.items cert.now.x.items }
+    requires lengths { AreNetLengths net.now.arcs.items cert.now.x.items }
     requires lows { lows.now ≡ map (low (network net.now) 1) cert.now.x.items }
     requires sum { sum ≡ dual_sum (certificate cert.now).dual }
     ensures { result ≡ sums_verdict (network net.now) (certificate cert.now) }

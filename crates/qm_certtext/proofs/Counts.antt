@@ -11,7 +11,7 @@ use Rattle.std.proofs.lemmas.List.{drop_at, take_at, take-append-drop}
 use Rattle.std.proofs.lemmas.Str.Parse.{numerals_by_fold, IsDigitsTest, IsNumeralModel}
 use Rattle.std.specs.Fmt.{signed_decimal}
 use Rattle.def_certtext.specs.Reading.{is_small}
-use Rattle.def_text.specs.Digits.{is_number, number}
+use Rattle.def_text.specs.Digits.{is_number, number_written}
 use Rattle.def_text.specs.Types.{Word}
 use Rattle.qm_dec.proofs.Texts.{decimal_digits, decimal_number, digit_other, digits_fail, first_at}
 use Rattle.qm_dec.proofs.Ratios.{first_passes}
@@ -32,12 +32,12 @@ digits_test = record {
 after : ℕ → Word → ℕ
 after n word = number_from_digits_after 10 n (map (λ d. d - 48) word)
 
-numeral : IsNumeralModel AreDigits number
+numeral : IsNumeralModel AreDigits number_written
 unfolding after
 numeral = numerals_by_fold AreDigits digits_test after (record { empty = λ n. refl; more = λ n c cs small. refl })
 
 -- A number that is not written with a leading zero is written so.
-pub written : (word : Word) → is_number word ≡ true → (ltb 1 (length word) && eqb (get_or word 0 0) 48) ≡ false → number word < 2 ^ 64 → word ≡ decimal (number word)
+pub written : (word : Word) → is_number word ≡ true → (ltb 1 (length word) && eqb (get_or word 0 0) 48) ≡ false → number_written word < 2 ^ 64 → word ≡ decimal (number_written word)
 written word is lead small =
     let parts = and_parts (not (eqb (length word) 0)) (list_all is_ascii_digit word) (sym (number_all word) ∙ is) in
     let some : 0 < length word = omega (arith, eqb-false (length word) 0 (not-true _ parts.0)) in
@@ -67,34 +67,34 @@ no_lead (suc n) low = and_right (ltb 1 (length (decimal (suc n)))) _ (ne_eqb _ _
 
 -- What is not read as a count is none.
 pub no_count : (word : Word) (greatest n : ℕ) (o : Option ℕ) → greatest < 10 ^ 18 → n ≤ greatest → word ≡ decimal n
-    → o ≡ cond (is_number word) (Some (min (number word) (2 ^ 64 - 1))) None → (o ≡ Some n)
+    → o ≡ cond (is_number word) (Some (min (number_written word) (2 ^ 64 - 1))) None → (o ≡ Some n)
 no_count word greatest n o few low is read =
     let number_is : is_number word ≡ true = ap is_number is ∙ decimal_is_number n (omega arith) in
-    let value : number word ≡ n = ap number is ∙ decimal_number n (omega arith) in
+    let value : number_written word ≡ n = ap number_written is ∙ decimal_number n (omega arith) in
     read ∙ rw number_is (ap (λ k. Some k) (omega arith))
 
 -- A count is read where there is one.
 pub count_read : (word : Word) (greatest n : ℕ) → greatest < 10 ^ 18 → n ≤ greatest → (ltb 1 (length word) && eqb (get_or word 0 0) 48) ≡ false
-    → Some n ≡ cond (is_number word) (Some (min (number word) (2 ^ 64 - 1))) None → word ≡ decimal n
+    → Some n ≡ cond (is_number word) (Some (min (number_written word) (2 ^ 64 - 1))) None → word ≡ decimal n
 count_read word greatest n few low lead read = by_form (is_number word) refl read
   where
-    by_form : (t : Bool) → is_number word ≡ t → Some n ≡ cond t (Some (min (number word) (2 ^ 64 - 1))) None → word ≡ decimal n
+    by_form : (t : Bool) → is_number word ≡ t → Some n ≡ cond t (Some (min (number_written word) (2 ^ 64 - 1))) None → word ≡ decimal n
     by_form true is same =
-        let value : n ≡ min (number word) (2 ^ 64 - 1) = cc in
-        let whole : number word ≡ n = omega arith in
+        let value : n ≡ min (number_written word) (2 ^ 64 - 1) = cc in
+        let whole : number_written word ≡ n = omega arith in
         written word is lead (omega arith) ∙ ap decimal whole
     by_form false isnt same = absurd cc
 
 -- And nowhere else.
 pub count_other : (word : Word) (greatest m n : ℕ) → greatest < 10 ^ 18 → greatest < m → n ≤ greatest → word ≡ decimal n
-    → Some m ≡ cond (is_number word) (Some (min (number word) (2 ^ 64 - 1))) None → ⊥
+    → Some m ≡ cond (is_number word) (Some (min (number_written word) (2 ^ 64 - 1))) None → ⊥
 count_other word greatest m n few high low is read =
     let same : Some m ≡ Some n = no_count word greatest n (Some m) few low is read in
     let equal : m ≡ n = cc in
     omega arith
 
 pub count_none : (word : Word) (greatest n : ℕ) → greatest < 10 ^ 18 → n ≤ greatest → word ≡ decimal n
-    → None ≡ cond (is_number word) (Some (min (number word) (2 ^ 64 - 1))) None → ⊥
+    → None ≡ cond (is_number word) (Some (min (number_written word) (2 ^ 64 - 1))) None → ⊥
 count_none word greatest n few low is read =
     let same : None ≡ Some n = no_count word greatest n None few low is read in
     cc

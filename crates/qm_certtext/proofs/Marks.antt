@@ -4,7 +4,7 @@ use Rattle.std.specs.List.{list_all}
 use Rattle.std.proofs.lemmas.Bool.{and_parts, cases_Bool, true≢false}
 use Rattle.std.proofs.lemmas.List.{get_or-drop, get_or-take, length-take-le, take_more}
 use Rattle.def_certtext.specs.CertLines.{line_text}
-use Rattle.def_certtext.specs.Reading.{is_marked, may_stand, Says}
+use Rattle.def_certtext.specs.Reading.{is_hash_line, may_stand, Says}
 use Rattle.def_certtext.specs.declared.CertLine.{CertLine}
 use Rattle.def_io.specs.Bytes.{Bytes, Lines}
 use Rattle.def_certtext.specs.declared.CertFail.{CertFail}
@@ -21,34 +21,34 @@ filter_append p (x ∷ xs) ys = by_test (p x) (filter_append p xs ys)
     by_test false is = is
 
 -- Each marked line of those that were read says something.
-pub said_at : (auto : Bool) (behind : Lines) (said : List CertLine) → filter is_marked behind ≡ map line_text said → list_all (may_stand auto) said ≡ true
-    → (j : ℕ) → j < length behind → is_marked (slice_index_or behind j []) ≡ true → (line : CertLine) × Says auto (slice_index_or behind j []) line
+pub said_at : (auto : Bool) (behind : Lines) (said : List CertLine) → filter is_hash_line behind ≡ map line_text said → list_all (may_stand auto) said ≡ true
+    → (j : ℕ) → j < length behind → is_hash_line (slice_index_or behind j []) ≡ true → (line : CertLine) × Says auto (slice_index_or behind j []) line
 said_at auto [] said texts all j low is = absurd (omega arith)
 said_at auto (line ∷ behind) said texts all j low is =
-    let later : (more : List CertLine) → filter is_marked behind ≡ map line_text more → list_all (may_stand auto) more ≡ true
-    → (i : ℕ) → i < length behind → is_marked (slice_index_or behind i []) ≡ true → (l : CertLine) × Says auto (slice_index_or behind i []) l =
+    let later : (more : List CertLine) → filter is_hash_line behind ≡ map line_text more → list_all (may_stand auto) more ≡ true
+    → (i : ℕ) → i < length behind → is_hash_line (slice_index_or behind i []) ≡ true → (l : CertLine) × Says auto (slice_index_or behind i []) l =
     said_at auto behind in
-    elim (cases_Bool (is_marked line)) [
+    elim (cases_Bool (is_hash_line line)) [
       | inl marked ↦ by_said said (rw marked at texts) all later j low is
       | inr other ↦ by_place j low is (later said (rw other at texts) all) other
     ]
   where
-    by_place : (i : ℕ) → i < length (line ∷ behind) → is_marked (slice_index_or (line ∷ behind) i []) ≡ true
-        → ((k : ℕ) → k < length behind → is_marked (slice_index_or behind k []) ≡ true → (l : CertLine) × Says auto (slice_index_or behind k []) l)
-        → is_marked line ≡ false → (l : CertLine) × Says auto (slice_index_or (line ∷ behind) i []) l
+    by_place : (i : ℕ) → i < length (line ∷ behind) → is_hash_line (slice_index_or (line ∷ behind) i []) ≡ true
+        → ((k : ℕ) → k < length behind → is_hash_line (slice_index_or behind k []) ≡ true → (l : CertLine) × Says auto (slice_index_or behind k []) l)
+        → is_hash_line line ≡ false → (l : CertLine) × Says auto (slice_index_or (line ∷ behind) i []) l
     by_place zero lt marked rest other = absurd (true≢false (sym marked ∙ other))
     by_place (suc i) lt marked rest other = rest i (omega arith) marked
 
-    by_said : (more : List CertLine) → line ∷ filter is_marked behind ≡ map line_text more → list_all (may_stand auto) more ≡ true
-        → ((rest : List CertLine) → filter is_marked behind ≡ map line_text rest → list_all (may_stand auto) rest ≡ true
-        → (k : ℕ) → k < length behind → is_marked (slice_index_or behind k []) ≡ true → (l : CertLine) × Says auto (slice_index_or behind k []) l)
-        → (i : ℕ) → i < length (line ∷ behind) → is_marked (slice_index_or (line ∷ behind) i []) ≡ true → (l : CertLine) × Says auto (slice_index_or (line ∷ behind) i []) l
+    by_said : (more : List CertLine) → line ∷ filter is_hash_line behind ≡ map line_text more → list_all (may_stand auto) more ≡ true
+        → ((rest : List CertLine) → filter is_hash_line behind ≡ map line_text rest → list_all (may_stand auto) rest ≡ true
+        → (k : ℕ) → k < length behind → is_hash_line (slice_index_or behind k []) ≡ true → (l : CertLine) × Says auto (slice_index_or behind k []) l)
+        → (i : ℕ) → i < length (line ∷ behind) → is_hash_line (slice_index_or (line ∷ behind) i []) ≡ true → (l : CertLine) × Says auto (slice_index_or (line ∷ behind) i []) l
     by_said [] same ok rest i lt marked = absurd cc
     by_said (one ∷ more) same ok rest zero lt marked =
         let first : line ≡ line_text one = cc in
         (one, record { written = first; allowed = (and_parts (may_stand auto one) (list_all (may_stand auto) more) ok).0 })
     by_said (one ∷ more) same ok rest (suc i) lt marked =
-        let others : filter is_marked behind ≡ map line_text more = cc in
+        let others : filter is_hash_line behind ≡ map line_text more = cc in
         rest more others (and_parts (may_stand auto one) (list_all (may_stand auto) more) ok).1 i (omega arith) marked
 
 -- The next line behind the head line, from line i of all.
@@ -78,14 +78,14 @@ module _ (auto : Bool) (lines : Lines) (first i : ℕ) (line : Bytes) (old : Fou
     i - (first + 1),
     record {
       there = far;
-      marked = ap is_marked here ∙ why.1;
+      marked = ap is_hash_line here ∙ why.1;
       bad = λ said says. why.2 said (subst (λ (l : Bytes). Says auto l said) here says);
       before = λ j lt marked.
           let same : slice_index_or (take (i - (first + 1)) (drop (first + 1) lines)) j [] ≡ slice_index_or (drop (first + 1) lines) j [] =
           get_or-take (i - (first + 1)) (drop (first + 1) lines) j [] lt in
           let there : j < length (take (i - (first + 1)) (drop (first + 1) lines)) = omega (arith, far, length-take-le (i - (first + 1)) (drop (first + 1) lines) (omega (arith, far))) in
           subst (λ (l : Bytes). (said : CertLine) × Says auto l said) same
-          (said_at auto (take (i - (first + 1)) (drop (first + 1) lines)) read.said read.texts read.allowed j there (ap is_marked same ∙ marked));
+          (said_at auto (take (i - (first + 1)) (drop (first + 1) lines)) read.said read.texts read.allowed j there (ap is_hash_line same ∙ marked));
     },
     omega (arith, why.0),
   )

@@ -7,9 +7,9 @@ use Rattle.std.proofs.lemmas.List.{length-drop, length-take-le}
 use Rattle.std.proofs.lemmas.List.Concat.{flat_map-append}
 use Rattle.std.proofs.lemmas.List.Folds.{list_all-append}
 use Rattle.std.specs.Fmt.{signed_decimal}
-use Rattle.def_certtext.specs.CertLines.{line_text, numbered, said_by, HasUps, Lists}
-use Rattle.def_certtext.specs.Laws.{chosen, chosen_lines, IsWritable}
-use Rattle.def_certtext.specs.Reading.{cert_in, first_in, is_marked, is_small, is_third, length_in, lists_in, may_stand, set_in, set_up_in, vertex_in, vertex_up_in}
+use Rattle.def_certtext.specs.CertLines.{line_text, dual_lines, said_by, HasUps, Lists}
+use Rattle.def_certtext.specs.Laws.{chosen, chosen_lines, IsWritableCert}
+use Rattle.def_certtext.specs.Reading.{cert_in, first_in, is_hash_line, is_small, is_third, length_in, lists_in, may_stand, set_in, set_up_in, vertex_in, vertex_up_in}
 use Rattle.def_certtext.specs.declared.CertLine.{CertLine}
 use Rattle.def_certtext.specs.declared.CertLine.TheVariants.{Length, Vertex, Set, Floor}
 use Rattle.def_flow.specs.declared.net.Settings.{Settings}
@@ -81,7 +81,7 @@ one_list auto (a ∷ said) (b ∷ other) p q same =
 one_list auto _ _ p q same = absurd cc
 
 -- Each line is marked.
-pub all_marked : (said : List CertLine) → filter is_marked (map line_text said) ≡ map line_text said
+pub all_marked : (said : List CertLine) → filter is_hash_line (map line_text said) ≡ map line_text said
 all_marked [] = refl
 all_marked (Length n ∷ said) = ap (λ (ls : List Word). line_text (Length n) ∷ ls) (all_marked said)
 all_marked (Vertex z u ∷ said) = ap (λ (ls : List Word). line_text (Vertex z u) ∷ ls) (all_marked said)
@@ -94,7 +94,7 @@ module _ {Y : Type 0} where
   lengths_none f none [] = refl
   lengths_none f none (x ∷ xs) = rw (none x) (lengths_none f none xs)
 
-  numbered_none : (f : CertLine → List Y) (kind : ℤ → ℕ → CertLine) → ((z : ℤ) (u : ℕ) → f (kind z u) ≡ []) → (zs : List ℤ) (us : List ℕ) → flat_map f (numbered kind zs us) ≡ []
+  numbered_none : (f : CertLine → List Y) (kind : ℤ → ℕ → CertLine) → ((z : ℤ) (u : ℕ) → f (kind z u) ≡ []) → (zs : List ℤ) (us : List ℕ) → flat_map f (dual_lines kind zs us) ≡ []
   numbered_none f kind none [] us = refl
   numbered_none f kind none (z ∷ zs) [] = refl
   numbered_none f kind none (z ∷ zs) (u ∷ us) = rw (none z u) (numbered_none f kind none zs us)
@@ -104,13 +104,13 @@ lengths_all [] = refl
 lengths_all (x ∷ xs) = ap (λ (ys : List ℕ). x ∷ ys) (lengths_all xs)
 
 numbers_all : (f : CertLine → List ℤ) (kind : ℤ → ℕ → CertLine) → ((z : ℤ) (u : ℕ) → f (kind z u) ≡ z ∷ []) → (zs : List ℤ) (us : List ℕ) → length us ≡ length zs
-    → flat_map f (numbered kind zs us) ≡ zs
+    → flat_map f (dual_lines kind zs us) ≡ zs
 numbers_all f kind one [] us long = refl
 numbers_all f kind one (z ∷ zs) [] long = absurd (omega arith)
 numbers_all f kind one (z ∷ zs) (u ∷ us) long = rw (one z u) (ap (λ (ys : List ℤ). z ∷ ys) (numbers_all f kind one zs us (omega arith)))
 
 ups_all : (f : CertLine → List ℕ) (kind : ℤ → ℕ → CertLine) → ((z : ℤ) (u : ℕ) → f (kind z u) ≡ u ∷ []) → (zs : List ℤ) (us : List ℕ) → length us ≡ length zs
-    → flat_map f (numbered kind zs us) ≡ us
+    → flat_map f (dual_lines kind zs us) ≡ us
 ups_all f kind one [] [] long = refl
 ups_all f kind one (z ∷ zs) (u ∷ us) long = rw (one z u) (ap (λ (ys : List ℕ). u ∷ ys) (ups_all f kind one zs us (omega arith)))
 ups_all f kind one _ _ long = absurd (omega arith)
@@ -123,8 +123,8 @@ lists_back lists ups =
     let prefix : length (take (length lists.y) lists.up) ≡ length lists.y = length-take-le (length lists.y) lists.up (omega (arith, ups)) in
     let back : length (drop (length lists.y) lists.up) ≡ length lists.z = omega (arith, length-drop (length lists.y) lists.up, ups) in
     let a = map Length lists.x in
-    let b = numbered Vertex lists.y (take (length lists.y) lists.up) in
-    let c = numbered Set lists.z (drop (length lists.y) lists.up) in
+    let b = dual_lines Vertex lists.y (take (length lists.y) lists.up) in
+    let c = dual_lines Set lists.z (drop (length lists.y) lists.up) in
     let x : flat_map length_in (said_by lists) ≡ lists.x =
     three length_in a b c
     ∙ ap₂ ◌++◌ (ap₂ ◌++◌ (lengths_all lists.x) (numbered_none length_in Vertex (λ z u. refl) lists.y _)) (numbered_none length_in Set (λ z u. refl) lists.z _)
@@ -151,7 +151,7 @@ no_third_lengths : (xs : List ℕ) → list_any is_third (map Length xs) ≡ fal
 no_third_lengths [] = refl
 no_third_lengths (x ∷ xs) = no_third_lengths xs
 
-no_third_numbered : (kind : ℤ → ℕ → CertLine) → ((z : ℤ) (u : ℕ) → is_third (kind z u) ≡ false) → (zs : List ℤ) (us : List ℕ) → list_any is_third (numbered kind zs us) ≡ false
+no_third_numbered : (kind : ℤ → ℕ → CertLine) → ((z : ℤ) (u : ℕ) → is_third (kind z u) ≡ false) → (zs : List ℤ) (us : List ℕ) → list_any is_third (dual_lines kind zs us) ≡ false
 no_third_numbered kind none [] us = refl
 no_third_numbered kind none (z ∷ zs) [] = refl
 no_third_numbered kind none (z ∷ zs) (u ∷ us) = rw (none z u) (no_third_numbered kind none zs us)
@@ -159,16 +159,16 @@ no_third_numbered kind none (z ∷ zs) (u ∷ us) = rw (none z u) (no_third_numb
 pub no_third : (lists : Lists) → list_any is_third (said_by lists) ≡ false
 no_third lists =
     let a = map Length lists.x in
-    let b = numbered Vertex lists.y (take (length lists.y) lists.up) in
-    let c = numbered Set lists.z (drop (length lists.y) lists.up) in
+    let b = dual_lines Vertex lists.y (take (length lists.y) lists.up) in
+    let c = dual_lines Set lists.z (drop (length lists.y) lists.up) in
     any_append is_third (a ++ b) c
     ∙ or_from _ _ (any_append is_third a b ∙ or_from _ _ (no_third_lengths lists.x) (no_third_numbered Vertex (λ z u. refl) lists.y _)) (no_third_numbered Set (λ z u. refl) lists.z _)
 
 -- The certificates of the lines of one, and of two.
-pub one_cert : (lists : Lists) → IsWritable lists → (first_in (said_by lists) ≡ None) × (cert_in (said_by lists) ≡ lists)
+pub one_cert : (lists : Lists) → IsWritableCert lists → (first_in (said_by lists) ≡ None) × (cert_in (said_by lists) ≡ lists)
 one_cert lists able = (rw (no_third lists) refl, rw (no_third lists) (lists_back lists able.ups))
 
-pub chosen_certs : (settings : Settings) (first : Lists) (third : Option Lists) → IsWritable first → ((lists : Lists) → third ≡ Some lists → IsWritable lists)
+pub chosen_certs : (settings : Settings) (first : Lists) (third : Option Lists) → IsWritableCert first → ((lists : Lists) → third ≡ Some lists → IsWritableCert lists)
     → ((chosen settings first third).first ≡ first_in (chosen_lines first third)) × ((chosen settings first third).cert ≡ cert_in (chosen_lines first third))
 chosen_certs settings first None able ables =
     (sym (rw (no_third first) refl), sym (rw (no_third first) (lists_back first able.ups)))
@@ -194,7 +194,7 @@ all_more (line ∷ said) all =
     let parts = and_parts (may_stand false line) (list_all (may_stand false) said) all in
     and_from _ _ (may_more line parts.0) (all_more said parts.1)
 
-pub chosen_allowed : (first : Lists) (third : Option Lists) → IsWritable first → ((lists : Lists) → third ≡ Some lists → IsWritable lists)
+pub chosen_allowed : (first : Lists) (third : Option Lists) → IsWritableCert first → ((lists : Lists) → third ≡ Some lists → IsWritableCert lists)
     → list_all (may_stand true) (chosen_lines first third) ≡ true
 chosen_allowed first None able ables = all_more (said_by first) able.allowed
 chosen_allowed first (Some third) able ables =

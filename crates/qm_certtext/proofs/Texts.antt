@@ -20,7 +20,7 @@ use Rattle.def_flow.specs.declared.net.Weight.TheVariants.{Plain, Length as ByLe
 use Rattle.def_certtext.specs.CertLines.{line_text, said_by, text_of, Lists}
 use Rattle.def_certtext.specs.HeadLine.{head_line}
 use Rattle.def_certtext.specs.Laws.{chosen, chosen_lines, written_text, ChosenLaw, IsPrintable, TellsOnly, WrittenLaw}
-use Rattle.def_certtext.specs.Reading.{cert_in, first_in, is_marked, may_stand, IsHead, Made, TellHow}
+use Rattle.def_certtext.specs.Reading.{cert_in, first_in, is_hash_line, may_stand, IsHead, Made, TellHow}
 use Rattle.def_certtext.specs.Settings.{floor_text, scale_text, weight_text, AreInRange, IsFloor}
 use Rattle.def_certtext.specs.declared.CertLine.{CertLine}
 use Rattle.def_certtext.specs.declared.CertLine.TheVariants.{Length, Vertex, Set, Floor}
@@ -109,11 +109,11 @@ mesh_inside soup able =
     tame_inside (face_line (get_or soup.faces k [])) (face_line_is (get_or soup.faces k []) (passes_at is_quad soup.faces k [] able.quads l)
     (passes_at (λ face. list_all (λ v. ltb v (2 ^ 32)) face) soup.faces k [] able.corners l)).tame))
 
-no_marks_in : (xs : List (List ℤ)) → filter is_marked (map position_line xs) ≡ []
+no_marks_in : (xs : List (List ℤ)) → filter is_hash_line (map position_line xs) ≡ []
 no_marks_in [] = refl
 no_marks_in (x ∷ xs) = no_marks_in xs
 
-no_marks_at : (xs : List (List ℕ)) → filter is_marked (map face_line xs) ≡ []
+no_marks_at : (xs : List (List ℕ)) → filter is_hash_line (map face_line xs) ≡ []
 no_marks_at [] = refl
 no_marks_at (x ∷ xs) = no_marks_at xs
 
@@ -142,10 +142,10 @@ lines_are settings auto soup said range able allowed =
         each_both (λ l. list_all is_inside l ≡ true) (canonical_lines soup) (map line_text said) [] (mesh_inside soup able) (lines_inside auto said allowed) k (omega arith)
 
 -- Those that are marked.
-marked_are : (soup : FaceSet) (said : List CertLine) → filter is_marked (canonical_lines soup ++ map line_text said) ≡ map line_text said
+marked_are : (soup : FaceSet) (said : List CertLine) → filter is_hash_line (canonical_lines soup ++ map line_text said) ≡ map line_text said
 marked_are soup said =
-    filter_append is_marked (canonical_lines soup) (map line_text said)
-    ∙ ap₂ ◌++◌ (filter_append is_marked (map position_line soup.pos) (map face_line soup.faces) ∙ ap₂ ◌++◌ (no_marks_in soup.pos) (no_marks_at soup.faces)) (all_marked said)
+    filter_append is_hash_line (canonical_lines soup) (map line_text said)
+    ∙ ap₂ ◌++◌ (filter_append is_hash_line (map position_line soup.pos) (map face_line soup.faces) ∙ ap₂ ◌++◌ (no_marks_in soup.pos) (no_marks_at soup.faces)) (all_marked said)
 
 -- One head line is of one settings.
 pub same_head : (line : Word) (s t : Settings) (a b : Bool) → IsHead line s a → IsHead line t b → (s ≡ t) × (a ≡ b)

@@ -3,7 +3,7 @@ use Rattle.std.specs.Prelude.{◌≡◌, ◌++◌, ◌+◌, ℕ, Bool, true, fal
 use Rattle.std.specs.List.{after_first, before_first, filter, flat_map, list_all, list_any}
 use Rattle.def_io.specs.Bytes.{Bytes, Lines}
 use Rattle.def_certtext.specs.CertLines.{line_text, Lists}
-use Rattle.def_certtext.specs.Reading.{is_marked, is_third, length_in, may_stand, set_in, set_up_in, vertex_in}
+use Rattle.def_certtext.specs.Reading.{is_hash_line, is_third, length_in, may_stand, set_in, set_up_in, vertex_in}
 use Rattle.def_certtext.specs.Reading.{vertex_up_in, IsFirstBad, Says}
 use Rattle.def_certtext.specs.declared.CertFail.{CertFail}
 use Rattle.def_certtext.specs.declared.CertFail.TheVariants.{Head, Line, Memory}
@@ -42,7 +42,7 @@ TakesLine old new line =
 -- What the first lines behind a head line say, in a text of `auto` or not.
 pub record ReadSome (auto : Bool) (behind : Lines) (found : Found) : Type 0 where
   pub said : List CertLine
-  pub texts : filter is_marked behind ≡ map line_text said
+  pub texts : filter is_hash_line behind ≡ map line_text said
   pub allowed : list_all (may_stand auto) said ≡ true
   pub holds : HoldBoth found.first found.last said
 
@@ -54,7 +54,7 @@ TakesText auto line old new = (behind : Lines) → ReadSome auto behind old → 
 abbrev pub IsLineFail : (auto : Bool) (line : Bytes) (number : ℕ) (fail : CertFail) → Type 0
 IsLineFail auto line number Head = ⊥
 IsLineFail auto line number (Line n) =
-    (n ≡ number) × (is_marked line ≡ true) × ((said : CertLine) → ¬ Says auto line said)
+    (n ≡ number) × (is_hash_line line ≡ true) × ((said : CertLine) → ¬ Says auto line said)
 IsLineFail auto line number Memory = ⊤
 
 -- Why the lines behind the head line, of which the first has this number, were not read.

@@ -3,17 +3,17 @@
 ghost use Rattle.std.specs.Prelude.{◌≡◌, ◌++◌, ◌∷◌, [], decimal, length, map, IfOk, OnOk};
 ghost use Rattle.def_certtext.specs.CertLines.{
   cert_lines,
-  dual_text,
+  dual_line,
   line_text,
   lists_of,
-  numbered,
+  dual_lines,
   text_of,
   HasUps,
 };
 ghost use Rattle.def_certtext.specs.declared.CertLine.TheVariants.{Length, Set, Vertex};
 
 use crate::Memory;
-use def_certtext::{CertLine, FLOOR, LENGTH, SET, VERTEX};
+use def_certtext::{CertLine, DUAL_VERTEX, FLOOR, LENGTH, SET};
 use def_flow::Cert;
 use def_io::LINE_FEED;
 use def_text::{HASH, SPACE};
@@ -45,7 +45,7 @@ fn push_lengths(text: &mut Vec<u8>, lengths: &[u64]) -> Result<(), Memory>
 /// A line for each number of a vertex and its `up`.
 fn push_vertices(text: &mut Vec<u8>, numbers: &[i64], ups: &[u32]) -> Result<(), Memory>
     requires { length ups.now ≡ length numbers.now }
-    ensures { OnOk result (text.new.items ≡ text.old.items ++ text_of (numbered Vertex numbers.now ups.now)) }
+    ensures { OnOk result (text.new.items ≡ text.old.items ++ text_of (dual_lines Vertex numbers.now ups.now)) }
 {
     for (i, number) in numbers.iter().enumerate() {
         push_line(
@@ -62,7 +62,7 @@ fn push_vertices(text: &mut Vec<u8>, numbers: &[i64], ups: &[u32]) -> Result<(),
 /// A line for each number of a set and its `up`.
 fn push_sets(text: &mut Vec<u8>, numbers: &[i64], ups: &[u32]) -> Result<(), Memory>
     requires { length ups.now ≡ length numbers.now }
-    ensures { OnOk result (text.new.items ≡ text.old.items ++ text_of (numbered Set numbers.now ups.now)) }
+    ensures { OnOk result (text.new.items ≡ text.old.items ++ text_of (dual_lines Set numbers.now ups.now)) }
 {
     for (i, number) in numbers.iter().enumerate() {
         push_line(
@@ -82,7 +82,7 @@ fn push_line(text: &mut Vec<u8>, line: CertLine) -> Result<(), Memory>
 {
     match line {
         CertLine::Length { n } => push_count(text, LENGTH, n)?,
-        CertLine::Vertex { number, up } => push_dual(text, VERTEX, number, up)?,
+        CertLine::Vertex { number, up } => push_dual(text, DUAL_VERTEX, number, up)?,
         CertLine::Set { number, up } => push_dual(text, SET, number, up)?,
         CertLine::Floor { floor } => push_count(text, FLOOR, u64::from(floor))?,
     }
@@ -99,7 +99,7 @@ fn push_count(text: &mut Vec<u8>, letter: u8, n: u64) -> Result<(), Memory>
 }
 
 fn push_dual(text: &mut Vec<u8>, letter: u8, number: i64, up: u32) -> Result<(), Memory>
-    ensures { OnOk result (text.new.items ≡ text.old.items ++ dual_text letter number up) }
+    ensures { OnOk result (text.new.items ≡ text.old.items ++ dual_line letter number up) }
 {
     text.push(HASH)?;
     text.push(letter)?;

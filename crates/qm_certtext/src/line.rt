@@ -5,7 +5,7 @@ ghost use Rattle.def_certtext.specs.Reading.{Says};
 ghost use Rattle.def_certtext.specs.declared.CertLine.{CertLine as AnyLine};
 
 use crate::numbers::{read_count, read_numbered};
-use def_certtext::{CertLine, FLOOR, LENGTH, SET, VERTEX};
+use def_certtext::{CertLine, DUAL_VERTEX, FLOOR, LENGTH, SET};
 use def_flow::MAX_LENGTH;
 use def_text::{HASH, SPACE};
 
@@ -27,7 +27,7 @@ fn read_kind(letter: u8, rest: &[u8], auto: bool) -> Option<CertLine>
 {
     match letter {
         LENGTH => read_length(rest),
-        VERTEX => read_vertex(rest),
+        DUAL_VERTEX => read_vertex(rest),
         SET => read_set(rest),
         FLOOR => read_floor(rest, auto),
         _ => None,
@@ -47,8 +47,8 @@ fn read_length(rest: &[u8]) -> Option<CertLine>
 
 fn read_vertex(rest: &[u8]) -> Option<CertLine>
     ensures { (auto : Bool) → MatchOption result
-        ((said : AnyLine) → ¬ Says auto (HASH ∷ VERTEX ∷ SPACE ∷ rest.now) said)
-        (Says auto (HASH ∷ VERTEX ∷ SPACE ∷ rest.now)) }
+        ((said : AnyLine) → ¬ Says auto (HASH ∷ DUAL_VERTEX ∷ SPACE ∷ rest.now) said)
+        (Says auto (HASH ∷ DUAL_VERTEX ∷ SPACE ∷ rest.now)) }
 {
     match read_numbered(rest) {
         Some(read) => Some(CertLine::Vertex {

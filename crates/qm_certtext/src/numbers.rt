@@ -5,7 +5,7 @@ ghost use Rattle.std.specs.Prelude.{slice_index, unsigned_abs, MatchOption};
 ghost use Rattle.std.specs.Fmt.{signed_decimal};
 ghost use Rattle.def_certtext.specs.Reading.{is_small};
 
-use def_certtext::NUMBER_LIMIT;
+use def_matching::NUMBER_LIMIT;
 use def_text::{MINUS, SPACE, ZERO};
 use qm_scan::{behind_first, find_byte, read_number};
 

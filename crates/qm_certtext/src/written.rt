@@ -3,7 +3,7 @@
 ghost use Rattle.std.specs.Prelude.{◌≡◌, ◌<◌, ◌+◌, [], drop, length, option_map, slice_index_or, IfOk, IfErr, OnOk};
 ghost use Rattle.def_io.specs.Lines.{lines_of};
 ghost use Rattle.def_certtext.specs.CertLines.{lists_of};
-ghost use Rattle.def_certtext.specs.Reading.{is_marked, made_of, IsCertFail, TellHow};
+ghost use Rattle.def_certtext.specs.Reading.{is_hash_line, made_of, IsCertFail, TellHow};
 ghost use Rattle.qm_certtext.specs.Parts.{lists_in_parts, IsBehindFail, IsLineFail, ReadSome, TakesText};
 
 use crate::Memory;
@@ -66,7 +66,7 @@ fn take_text(
 }
 
 fn is_marked(line: &[u8]) -> bool
-    ensures { result ≡ is_marked line.now }
+    ensures { result ≡ is_hash_line line.now }
 {
     match line {
         [b'#', ..] => true,

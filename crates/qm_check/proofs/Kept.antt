@@ -12,7 +12,7 @@ use Rattle.def_layout.specs.Plans.{Plan}
 use Rattle.def_remesh.specs.Keeping.{IsKept}
 use Rattle.def_remesh.specs.Remeshed.{AreCoarse, AreDoubled, IsCertified, with_floor}
 use Rattle.def_remesh.specs.declared.tables.Tables.{Tables}
-use Rattle.def_run.specs.Check.{first_of, IsWrong}
+use Rattle.def_run.specs.Check.{first_checked, IsWrong}
 use Rattle.def_run.specs.declared.answer.Why.{Why}
 use Rattle.def_run.specs.declared.answer.Why.TheVariants as why
 use Rattle.qm_check.specs.Checked.{made_once, made_twice, Gives, GivesNone, IsChecked, IsUnused}
@@ -29,7 +29,7 @@ wrong_of plan net made cert (why.Verdict verdict) for (told, refuted) = record {
 wrong_of plan net made cert (why.TooFine faces) for (is, fine) = (solved plan made.settings net cert for is, fine)
 wrong_of plan net made cert _ for none = absurd none
 
-pub unused_first : (plan : Plan) (net : Network) (made : Made) (cert : Cert) (fail : CheckFail) → first_of made ≡ lists_of cert
+pub unused_first : (plan : Plan) (net : Network) (made : Made) (cert : Cert) (fail : CheckFail) → first_checked made ≡ lists_of cert
     → IsNetFor plan made.settings net → GivesNone plan net cert fail → IsUnused plan made fail
 unused_first plan net made cert (NotAccepted why) same for none =
     inl (subst (λ (c : Lists). IsWrong plan made.settings c why) (sym same) (wrong_of plan net made cert why for none))
@@ -58,7 +58,7 @@ unused_third plan net asked first third _ certified coarse doubled for none = ab
 
 -- The first certificate is used.
 pub checked_first : (plan : Plan) (net : Network) (asked : Asked) (made : Made) (cert : Cert) (tables : Tables) (deviates : ℕ)
-    → asked.settings ≡ made.settings → asked.auto ≡ made.auto → first_of made ≡ lists_of cert → IsNetFor plan made.settings net
+    → asked.settings ≡ made.settings → asked.auto ≡ made.auto → first_checked made ≡ lists_of cert → IsNetFor plan made.settings net
     → IsSolution net (certificate cert) → Gives plan net cert.x.items (Whole tables deviates)
     → IsChecked plan net made (record { remesh = record { asked = asked; first = cert; third = None; numbering = tables }; deviation = deviates })
 checked_first plan net asked made cert tables deviates settings auto same for is gives = record {

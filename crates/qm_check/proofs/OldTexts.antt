@@ -13,7 +13,7 @@ use Rattle.std.proofs.lemmas.List.Sums.{list_all-from_AllPass}
 use Rattle.def_mesh.specs.Faces.{Faces}
 use Rattle.def_mesh.specs.Meshes.{IsMesh}
 use Rattle.def_mesh.specs.Vertices.{names_below}
-use Rattle.def_text.specs.declared.limits.TheConstants.{MAX_VERTICES}
+use Rattle.def_text.specs.declared.limits.TheConstants.{MAX_V_LINES}
 use Rattle.def_text.specs.Laws.{is_position, is_quad}
 use Rattle.def_certtext.specs.declared.Asked.{Asked}
 use Rattle.def_io.specs.Bytes.{Bytes}
@@ -107,7 +107,7 @@ names_more n m le (face ∷ faces) all =
 -- A mesh whose numbers are those of its types can be written.
 pub solid_of : (soup : FaceSet) → IsMesh soup.faces → list_all is_position soup.pos ≡ true
     → ((f : ℕ) → f < length soup.faces → length (slice_index_or soup.faces f []) ≡ 4)
-    → (n : ℕ) → n ≤ MAX_VERTICES → names_below n soup.faces ≡ true → IsSolid soup
+    → (n : ℕ) → n ≤ MAX_V_LINES → names_below n soup.faces ≡ true → IsSolid soup
 solid_of soup mesh near four n few below = record {
   mesh = mesh;
   printable = record {

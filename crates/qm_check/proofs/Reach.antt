@@ -6,12 +6,12 @@ use Rattle.std.proofs.lemmas.Bool.{and_parts, false≢true, leb-true, ltb-true}
 use Rattle.std.proofs.lemmas.List.{length-drop, length-map, length-take}
 use Rattle.std.proofs.lemmas.Option.{none-some, same_Some}
 use Rattle.def_certtext.specs.CertLines.{line_text, Lists}
-use Rattle.def_certtext.specs.Reading.{cert_in, first_in, is_marked, is_third, length_in, lists_in, may_stand, set_in, vertex_in, Made}
+use Rattle.def_certtext.specs.Reading.{cert_in, first_in, is_hash_line, is_third, length_in, lists_in, may_stand, set_in, vertex_in, Made}
 use Rattle.def_certtext.specs.declared.CertLine.{CertLine}
 use Rattle.def_certtext.specs.declared.CertLine.TheVariants.{Length, Vertex, Set, Floor}
 use Rattle.def_flow.specs.declared.limits.TheConstants.{MAX_LENGTH}
 use Rattle.def_io.specs.Bytes.{Bytes, Lines}
-use Rattle.def_io.specs.Lines.{in_front, line_of, lines_of, pieces, tail_of}
+use Rattle.def_io.specs.Lines.{byte_in_front, line_of, lines_of, pieces, tail_of}
 use Rattle.def_text.specs.declared.limits.TheConstants.{MAX_BYTES}
 use Rattle.remesh_laws.proofs.Tails.{flat-pieces}
 use Rattle.remesh_laws.proofs.Solved.{all_drop, all_take}
@@ -23,12 +23,12 @@ pieces_few : (bytes : Bytes) → length (pieces bytes) ≤ length bytes
 pieces_few [] = omega arith
 pieces_few (b ∷ bytes) = by_test (b == 10) (pieces_few bytes)
   where
-    prefix : (ps : Lines) → length ps ≤ length bytes → length (in_front b ps) ≤ suc (length bytes)
+    prefix : (ps : Lines) → length ps ≤ length bytes → length (byte_in_front b ps) ≤ suc (length bytes)
     prefix [] few = omega arith
     prefix (p ∷ ps) few = omega (arith, few)
 
     by_test : (t : Bool) → length (pieces bytes) ≤ length bytes
-        → length (if t then (b ∷ []) ∷ pieces bytes else in_front b (pieces bytes)) ≤ suc (length bytes)
+        → length (if t then (b ∷ []) ∷ pieces bytes else byte_in_front b (pieces bytes)) ≤ suc (length bytes)
     by_test true few = omega (arith, few)
     by_test false few = prefix (pieces bytes) few
 
@@ -139,7 +139,7 @@ module _ (bytes : Bytes) (line : ℕ) (made : Made) (few : length bytes ≤ MAX_
     few,
     lines_few bytes,
     length-drop (line + 1) (lines_of bytes),
-    filter_few is_marked (drop (line + 1) (lines_of bytes)),
+    filter_few is_hash_line (drop (line + 1) (lines_of bytes)),
     ap length told.texts,
     length-map told.said line_text,
   )

@@ -13,7 +13,7 @@ use Rattle.def_remesh.specs.Checked.{IsCheckedPair}
 use Rattle.def_remesh.specs.NewPoints.{lengths_in}
 use Rattle.def_remesh.specs.Refusals.{IsTangledAt}
 use Rattle.def_remesh.specs.Remeshed.{AreCoarse, AreKept, remeshed_text, used}
-use Rattle.def_run.specs.Check.{DifferFrom, first_of, head_of, IsAsked, IsLoneDoubled, IsNoPair, IsOtherText, IsReason, IsThirdWrong, IsWrong, IsWrongText}
+use Rattle.def_run.specs.Check.{DifferFrom, first_checked, head_of, IsAsked, IsLoneDoubled, IsNoPair, IsOtherText, IsReason, IsThirdWrong, IsWrong, IsWrongText}
 use Rattle.def_run.specs.declared.answer.Why.{Why}
 use Rattle.def_run.specs.declared.answer.Why.TheVariants as why
 use Rattle.def_written.specs.Edges.{IsUndoubled}
@@ -110,7 +110,7 @@ module _ (bytes : Bytes) (line : ℕ) (ready : Ready) (is : IsReady bytes line r
     }
 
     wrong_by : (why : Why)
-        → IsWrong (plan ready.cut.layout) made.settings (first_of made) why
+        → IsWrong (plan ready.cut.layout) made.settings (first_checked made) why
         ⊎ (IsLoneDoubled (plan ready.cut.layout) made.settings made why ⊎ IsThirdWrong (plan ready.cut.layout) made.settings made why)
         → IsWrongText bytes made_asked why
     wrong_by why (inl one) = record { made = made; told = told; wrong = inl one }

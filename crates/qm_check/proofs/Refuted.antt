@@ -23,7 +23,7 @@ use Rattle.def_remesh.specs.NewPoints.{lengths_in}
 use Rattle.def_remesh.specs.Refusals.{IsTangledAt}
 use Rattle.def_remesh.specs.Remeshed.{AreCoarse, AreKept, certificate_of, IsCertified, remeshed_text, used, with_floor}
 use Rattle.def_remesh.specs.TextLaws.{made_by, IsSolid}
-use Rattle.def_run.specs.Check.{first_of, head_of, HasOldSoup, IsAsked, IsLoneDoubled, IsOther, IsThirdWrong, IsWrong, IsWrongText, RefusesOldText}
+use Rattle.def_run.specs.Check.{first_checked, head_of, HasOldSoup, IsAsked, IsLoneDoubled, TellsOtherText, IsThirdWrong, IsWrong, IsWrongText, RefusesOldText}
 use Rattle.def_run.specs.declared.answer.Why.{Why}
 use Rattle.def_run.specs.declared.answer.Why.TheVariants as why
 use Rattle.def_text.specs.FaceSet.{FaceSet}
@@ -68,7 +68,7 @@ kept_first plan settings true first (Some third) kept = kept.0
 kept_first plan settings false first (Some third) kept = absurd kept
 
 first_is : (plan : Plan) (settings : Settings) (auto : Bool) (first : Lists) (third : Option Lists) → AreKept plan settings auto first third
-    → first_of (made_by settings auto first third) ≡ first
+    → first_checked (made_by settings auto first third) ≡ first
 first_is plan settings true first None kept = refl
 first_is plan settings true first (Some third) kept = refl
 first_is plan settings false first None kept = refl
@@ -115,7 +115,7 @@ module _ (plan : Plan) (mesh : IsMeshLayout plan) where
 
   -- Neither are the certificates that were kept, whatever is told of them.
   first_fine : (settings : Settings) (auto : Bool) (first : Lists) (third : Option Lists) (why : Why) → AreKept plan settings auto first third
-      → AreCoarse plan (used first third).x → IsWrong plan settings (first_of (made_by settings auto first third)) why → ⊥
+      → AreCoarse plan (used first third).x → IsWrong plan settings (first_checked (made_by settings auto first third)) why → ⊥
   first_fine settings auto first third why kept coarse wrong =
       not_wrong settings first why (kept_first plan settings auto first third kept) (kept_coarse plan settings auto first third kept coarse)
       (subst (λ (c : Lists). IsWrong plan settings c why) (first_is plan settings auto first third kept) wrong)
@@ -149,21 +149,21 @@ same_third plan settings false first one (Some third) other kept same (inl none)
 -- So their text is the one that is given.
 other_fine : (bytes : Bytes) (asked : IsAsked bytes) (made : Made) (why : Why)
     (is : IsAligned bytes asked.line asked.soup asked.settings asked.auto asked.plan)
-    → made ≡ made_by asked.settings asked.auto is.first is.third → IsOther bytes asked made why → ⊥
+    → made ≡ made_by asked.settings asked.auto is.first is.third → TellsOtherText bytes asked made why → ⊥
 other_fine bytes asked made (why.Byte at) is same other = other.differ.there (ap (take at) text)
   where
     by : Made
     by = made_by asked.settings asked.auto is.first is.third
 
-    first : first_of made ≡ is.first
-    first = ap first_of same ∙ first_is asked.plan asked.settings asked.auto is.first is.third is.kept
+    first : first_checked made ≡ is.first
+    first = ap first_checked same ∙ first_is asked.plan asked.settings asked.auto is.first is.third is.kept
 
     third : other.third ≡ is.third
-    third = same_third asked.plan asked.settings asked.auto is.first (first_of made) is.third other.third is.kept first
-        (subst (λ (m : Made). (other.third ≡ None) ⊎ ((other.third ≡ Some m.cert) × (m.first ≡ Some (first_of made)))) same other.chosen)
+    third = same_third asked.plan asked.settings asked.auto is.first (first_checked made) is.third other.third is.kept first
+        (subst (λ (m : Made). (other.third ≡ None) ⊎ ((other.third ≡ Some m.cert) × (m.first ≡ Some (first_checked made)))) same other.chosen)
         other.undoubled
 
-    text : tail_of asked.line bytes ≡ remeshed_text asked.settings asked.auto asked.soup asked.plan (first_of made) other.third
+    text : tail_of asked.line bytes ≡ remeshed_text asked.settings asked.auto asked.soup asked.plan (first_checked made) other.third
     text = is.written ∙ sym (ap₂ (λ (f : Lists) (t : Option Lists). remeshed_text asked.settings asked.auto asked.soup asked.plan f t) first third)
 other_fine bytes asked made (why.Verdict verdict) is same other = absurd other
 other_fine bytes asked made (why.TooFine faces) is same other = absurd other
@@ -186,11 +186,11 @@ module _ (bytes : Bytes) (asked : IsAsked bytes) (solid : IsSolid asked.soup) (m
       same : wrong.made ≡ by
       same = (is.told wrong.made).0 wrong.told
 
-      by_case : IsWrong asked.plan asked.settings (first_of wrong.made) why
+      by_case : IsWrong asked.plan asked.settings (first_checked wrong.made) why
           ⊎ (IsLoneDoubled asked.plan asked.settings wrong.made why
-          ⊎ (IsThirdWrong asked.plan asked.settings wrong.made why ⊎ IsOther bytes asked wrong.made why)) → ⊥
+          ⊎ (IsThirdWrong asked.plan asked.settings wrong.made why ⊎ TellsOtherText bytes asked wrong.made why)) → ⊥
       by_case (inl one) = first_fine asked.plan mesh asked.settings asked.auto is.first is.third why is.kept is.coarse
-          (subst (λ (m : Made). IsWrong asked.plan asked.settings (first_of m) why) same one)
+          (subst (λ (m : Made). IsWrong asked.plan asked.settings (first_checked m) why) same one)
       by_case (inr (inl lone)) = lone_fine asked.plan asked.settings asked.auto is.first is.third why is.kept is.undoubled
           (subst (λ (m : Made). IsLoneDoubled asked.plan asked.settings m why) same lone)
       by_case (inr (inr (inl three))) = third_fine asked.plan mesh asked.settings asked.auto is.first is.third why is.kept is.coarse

@@ -18,7 +18,7 @@ use Rattle.def_remesh.specs.Keeping.{IsKept}
 use Rattle.def_remesh.specs.NewPoints.{lengths_in}
 use Rattle.def_remesh.specs.Refusals.{AreTooFine}
 use Rattle.def_remesh.specs.Remeshed.{AreCoarse, certificate_of, used}
-use Rattle.def_run.specs.Check.{DifferFrom, first_of, IsLoneDoubled, IsThirdWrong, IsWrong}
+use Rattle.def_run.specs.Check.{DifferFrom, first_checked, IsLoneDoubled, IsThirdWrong, IsWrong}
 use Rattle.def_run.specs.declared.answer.Why.TheVariants as why
 use Rattle.def_written.specs.Edges.{IsFirstDoubled}
 use Rattle.remesh_laws.specs.Keeps.{IsNumbered}
@@ -62,16 +62,16 @@ pub record IsChecked (plan : Plan) (net : Network) (made : Made) (checked : Chec
       (option_map lists_of checked.remesh.third) checked.remesh.numbering
   pub settings : checked.remesh.asked.settings ≡ made.settings
   pub auto : checked.remesh.asked.auto ≡ made.auto
-  pub first : lists_of checked.remesh.first ≡ first_of made
+  pub first : lists_of checked.remesh.first ≡ first_checked made
   pub chosen : (option_map lists_of checked.remesh.third ≡ None)
-      ⊎ ((option_map lists_of checked.remesh.third ≡ Some made.cert) × (made.first ≡ Some (first_of made)))
+      ⊎ ((option_map lists_of checked.remesh.third ≡ Some made.cert) × (made.first ≡ Some (first_checked made)))
   pub deviates : checked.deviation
       ≡ deviation net (entries (used (lists_of checked.remesh.first) (option_map lists_of checked.remesh.third)).x)
 
 -- Why the certificates of a text are not used.
 abbrev pub IsUnused : (plan : Plan) (made : Made) (fail : CheckFail) → Type 0
 IsUnused plan made (NotAccepted why) =
-    IsWrong plan made.settings (first_of made) why
+    IsWrong plan made.settings (first_checked made) why
     ⊎ (IsLoneDoubled plan made.settings made why ⊎ IsThirdWrong plan made.settings made why)
 IsUnused plan made Memory = ⊤
 IsUnused plan made _ = ⊥

@@ -13,7 +13,7 @@ ghost use Rattle.def_run.specs.CheckFails.{IsCheckFail};
 ghost use Rattle.qm_check.specs.Refused.{of_obj};
 
 use def_run::CheckFail;
-use def_text::{MAX_FACES, MAX_VERTICES, Micro, ObjFail, Soup};
+use def_text::{MAX_F_LINES, MAX_V_LINES, Micro, ObjFail, Soup};
 use qm_cut::are_quads;
 use qm_io::Lines;
 use qm_mesh::{Mesh, MeshFail, build};
@@ -51,7 +51,7 @@ fn refusal_of(fail: ObjFail) -> CheckFail
 
 /// The mesh of the soup's faces, or the first place where they are no manifold.
 fn with_mesh(alloc: Global, soup: Soup) -> Result<Old, CheckFail>
-    requires few { (length soup.pos ≤ MAX_VERTICES) × (length soup.faces ≤ MAX_FACES) }
+    requires few { (length soup.pos ≤ MAX_V_LINES) × (length soup.faces ≤ MAX_F_LINES) }
     ensures soup { IfOk result (λ old. old.soup ≡ soup) }
     ensures mesh { IfOk result (λ old. old.mesh ≡ soup.faces) }
     ensures manifold { OnOk result (IsManifold soup.faces) }

@@ -9,7 +9,7 @@ use Rattle.std.proofs.lemmas.List.Folds.{list_all-append}
 use Rattle.std.proofs.lemmas.Bool.{and_parts, and_from}
 use Rattle.std.proofs.Math.Nat.{pow-suc}
 use Rattle.std.proofs.Math.Seq.{take-append-add}
-use Rattle.def_text.specs.Digits.{number}
+use Rattle.def_text.specs.Digits.{number_written}
 use Rattle.qm_dec.specs.Sizes.{clamped}
 use Rattle.qm_scan.proofs.Numbers.{values}
 use Rattle.qm_dec.proofs.Clamps.{clamp_linear, ten_power}
@@ -31,12 +31,12 @@ after_more n ds i l =
     ∙ number_after_append 10 n (values (take i ds)) ((get_or ds i 0 - 48) ∷ [])
 
 -- digits in two parts
-pub number_append : (xs ys : List ℕ) → number (xs ++ ys) ≡ number_from_digits_after 10 (number xs) (values ys)
+pub number_append : (xs ys : List ℕ) → number_written (xs ++ ys) ≡ number_from_digits_after 10 (number_written xs) (values ys)
 number_append xs ys = ap (number_from_digits 10) (map-append (λ d. d - 48) xs ys) ∙ number_after_append 10 0 (values xs) (values ys)
 
 -- a loop over one run of digits and then another
-pub two_parts : (xs ys : List ℕ) (a b : ℕ) → a ≡ clamped (number xs) → b ≡ clamped (number_from_digits_after 10 a (values ys)) → b ≡ clamped (number (xs ++ ys))
-two_parts xs ys a b p q = q ∙ ap (λ n. clamped (number_from_digits_after 10 n (values ys))) p ∙ after_clamped (number xs) (values ys) ∙ ap clamped (sym (number_append xs ys))
+pub two_parts : (xs ys : List ℕ) (a b : ℕ) → a ≡ clamped (number_written xs) → b ≡ clamped (number_from_digits_after 10 a (values ys)) → b ≡ clamped (number_written (xs ++ ys))
+two_parts xs ys a b p q = q ∙ ap (λ n. clamped (number_from_digits_after 10 n (values ys))) p ∙ after_clamped (number_written xs) (values ys) ∙ ap clamped (sym (number_append xs ys))
 
 -- one step of a loop over digits
 pub step_more : (n v x : ℕ) (ds : List ℕ) (i : ℕ) → i < length ds → v ≡ clamped (number_from_digits_after 10 n (values (take i ds))) → x ≡ min (v * 10 + (get_or ds i 0 - 48)) (10 ^ 15) → x ≡ clamped (number_from_digits_after 10 n (values (take (i + 1) ds)))

@@ -9,7 +9,7 @@ use Rattle.std.proofs.lemmas.List.{append-nil, length-map, length-take, nil_from
 use Rattle.std.proofs.lemmas.Nat.{pow-add}
 use Rattle.std.proofs.Math.Nat.{mul-le-mul_left, mul-le-mul_right, mul_assoc, pow-le-pow_right}
 use Rattle.def_text.specs.Decimal.{is_exponent}
-use Rattle.def_text.specs.Digits.{is_number, number, unsigned}
+use Rattle.def_text.specs.Digits.{is_number, number_written, unsigned}
 use Rattle.qm_dec.specs.Sizes.{IsSize}
 use Rattle.qm_dec.proofs.Clamps.{ten_power}
 use Rattle.qm_dec.proofs.Digits.{after_is, number_append}
@@ -22,7 +22,7 @@ ten_most i j le = pow-le-pow_right {n = 10} (omega arith) {i = i} {j = j} le
 -- Digits behind a number of at most nine.
 after_small : (n : ℕ) (ds : List ℕ) → n < 10 ^ 9 → list_all is_ascii_digit ds ≡ true → number_from_digits_after 10 n (values ds) < 10 ^ 9 * 10 ^ length ds
 after_small n ds few all =
-    let is : number_from_digits_after 10 n (values ds) ≡ n * 10 ^ length ds + number ds = after_is n (values ds) ∙ ap (λ k. n * 10 ^ k + number ds) (length-map ds (λ d. d - 48)) in
+    let is : number_from_digits_after 10 n (values ds) ≡ n * 10 ^ length ds + number_written ds = after_is n (values ds) ∙ ap (λ k. n * 10 ^ k + number_written ds) (length-map ds (λ d. d - 48)) in
     let most : (n + 1) * 10 ^ length ds ≤ 10 ^ 9 * 10 ^ length ds = mul-le-mul_right (10 ^ length ds) (omega arith) in
     omega (arith, number_small ds all)
 
@@ -45,25 +45,25 @@ size_small w ys few all short = by_value (number_from_digits_after 10 w (values 
         let six : 10 ^ f * 10 ^ (6 - f) ≡ 10 ^ 6 = sym (pow-add 10 f (6 - f)) ∙ ap (λ k. 10 ^ k) (part f le) in
         omega (arith, mul_assoc (10 ^ 9) (10 ^ f) (10 ^ (6 - f)), ap (λ x. 10 ^ 9 * x) six, ten_power (6 - f))
 
-pub nine_small : (ds : List ℕ) → list_all is_ascii_digit ds ≡ true → length ds ≤ 9 → number ds < 10 ^ 9
+pub nine_small : (ds : List ℕ) → list_all is_ascii_digit ds ≡ true → length ds ≤ 9 → number_written ds < 10 ^ 9
 nine_small ds all nine = omega (arith, number_small ds all, ten_most (length ds) 9 nine)
 
 -- The size of digits, and of digits with a point among them.
-pub whole_is : (word ds : List ℕ) → length word ≤ 64 → unsigned word ≡ ds → 0 < length ds → length ds ≤ 9 → list_all is_ascii_digit ds ≡ true → IsSize word (number ds * 10 ^ 6)
+pub whole_is : (word ds : List ℕ) → length word ≤ 64 → unsigned word ≡ ds → 0 < length ds → length ds ≤ 9 → list_all is_ascii_digit ds ≡ true → IsSize word (number_written ds * 10 ^ 6)
 whole_is word ds short is some nine all =
     let h : HasParts word (ds ++ []) [] = plain_parts word ds is all in (
       and_from _ _ (le-leb (length word) 64 short) (and_from _ _ (ap is_number h.all ∙ digits_number ds [] some all refl) (ap is_exponent h.no_power)),
-      sym (parts_size word (ds ++ []) [] h (omega arith) ∙ ap (λ xs. number xs * 10 ^ 6) (append-nil ds)),
+      sym (parts_size word (ds ++ []) [] h (omega arith) ∙ ap (λ xs. number_written xs * 10 ^ 6) (append-nil ds)),
       omega (arith, nine_small ds all nine),
     )
 
 pub pointed_is : (word ds ys : List ℕ) → length word ≤ 64 → unsigned word ≡ ds ++ 46 ∷ ys → 0 < length ds → length ds ≤ 9 → list_all is_ascii_digit ds ≡ true → list_all is_ascii_digit ys ≡ true → length ys ≤ 6
-    → IsSize word (number_from_digits_after 10 (number ds) (values ys) * 10 ^ (6 - length ys))
+    → IsSize word (number_from_digits_after 10 (number_written ds) (values ys) * 10 ^ (6 - length ys))
 pointed_is word ds ys short is some nine all rest six =
     let h : HasParts word (ds ++ ys) ys = pointed_parts word ds ys is all rest in (
       and_from _ _ (le-leb (length word) 64 short) (and_from _ _ (ap is_number h.all ∙ digits_number ds ys some all rest) (ap is_exponent h.no_power)),
       sym (parts_size word (ds ++ ys) ys h six ∙ ap (λ n. n * 10 ^ (6 - length ys)) (number_append ds ys)),
-      size_small (number ds) ys (nine_small ds all nine) rest six,
+      size_small (number_written ds) ys (nine_small ds all nine) rest six,
     )
 
 -- The digits that a body begins with, at most nine, and their number.
@@ -71,10 +71,10 @@ pub record IsPrefix (body : List ℕ) (count n : ℕ) : Type 0 where
   long : length (take count body) ≡ count
   nine : count ≤ 9
   all : list_all is_ascii_digit (take count body) ≡ true
-  is : n ≡ number (take count body)
+  is : n ≡ number_written (take count body)
 
 pub prefix_is : (body : List ℕ) (most count n : ℕ) → most ≡ min (length body) 9 → count ≤ length (take most body) → list_all is_ascii_digit (take count (take most body)) ≡ true
-    → n ≡ number (take count (take most body)) → IsPrefix body count n
+    → n ≡ number_written (take count (take most body)) → IsPrefix body count n
 prefix_is body most count n is within all value =
     let few : length (take most body) ≡ min most (length body) = length-take most body in
     let same : take count (take most body) ≡ take count body = take-take count most body (omega arith) in
@@ -82,7 +82,7 @@ prefix_is body most count n is within all value =
       long = length-take count body ∙ omega arith;
       nine = omega arith;
       all = ap (list_all is_ascii_digit) (sym same) ∙ all;
-      is = value ∙ ap number same;
+      is = value ∙ ap number_written same;
     }
 
 pub prefix_small : (body : List ℕ) (count n : ℕ) → IsPrefix body count n → n < 10 ^ 9
@@ -104,7 +104,7 @@ pub pointed_size : (word body rest fraction : List ℕ) (count n size : ℕ) →
 pointed_size word body rest fraction count n size short is prefix some behind more point tail good =
     let rest_is : rest ≡ 46 ∷ fraction = first_is rest 46 more point ∙ ap (λ xs. 46 ∷ xs) (sym tail) in
     let body_is : body ≡ take count body ++ 46 ∷ fraction = split_prefix body rest count behind ∙ ap (λ xs. take count body ++ xs) rest_is in
-    let value : number_from_digits_after 10 (number (take count body)) (values fraction) * 10 ^ (6 - length fraction) ≡ size =
+    let value : number_from_digits_after 10 (number_written (take count body)) (values fraction) * 10 ^ (6 - length fraction) ≡ size =
     ap (λ m. number_from_digits_after 10 m (values fraction) * 10 ^ (6 - length fraction)) (sym prefix.is) ∙ sym good.2 in
     subst (λ m. IsSize word m) value
     (pointed_is word (take count body) fraction short (sym is ∙ body_is) (omega (arith, prefix.long)) (omega (arith, prefix.long, prefix.nine)) prefix.all good.0 good.1)

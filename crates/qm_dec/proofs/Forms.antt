@@ -4,7 +4,7 @@ use Rattle.std.specs.Char.{is_ascii_digit}
 use Rattle.std.specs.List.{list_all}
 use Rattle.std.proofs.lemmas.List.Folds.{list_all-append}
 use Rattle.std.proofs.lemmas.Bool.{and_parts, false≢true, cond-true, cond-false}
-use Rattle.def_text.specs.Digits.{is_number, is_negative, number, signed, unsigned}
+use Rattle.def_text.specs.Digits.{is_number, is_negative, number_written, signed, unsigned}
 use Rattle.def_text.specs.Decimal.{is_exponent, power}
 
 -- two runs of digits, not both empty, are a number
@@ -28,10 +28,10 @@ exponent_is xs l = grind (arith)
 power_is : (xs : List ℕ) → 0 < length xs → power xs ≡ signed (drop 1 xs)
 power_is xs l = grind (arith)
 
-pub power_below : (xs : List ℕ) → 0 < length xs → is_negative (drop 1 xs) ≡ true → power xs ≡ neg_ℤ (pos (number (unsigned (drop 1 xs))))
+pub power_below : (xs : List ℕ) → 0 < length xs → is_negative (drop 1 xs) ≡ true → power xs ≡ neg_ℤ (pos (number_written (unsigned (drop 1 xs))))
 power_below xs l e = power_is xs l ∙ cond-true (is_negative (drop 1 xs)) _ _ e
 
-pub power_above : (xs : List ℕ) → 0 < length xs → is_negative (drop 1 xs) ≡ false → power xs ≡ pos (number (unsigned (drop 1 xs)))
+pub power_above : (xs : List ℕ) → 0 < length xs → is_negative (drop 1 xs) ≡ false → power xs ≡ pos (number_written (unsigned (drop 1 xs)))
 power_above xs l e = power_is xs l ∙ cond-false (is_negative (drop 1 xs)) _ _ e
 
 -- a test with its first part true

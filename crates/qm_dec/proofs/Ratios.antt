@@ -5,7 +5,7 @@ use Rattle.std.specs.Char.{is_ascii_digit}
 use Rattle.std.specs.List.{list_all, position_or_len}
 use Rattle.std.proofs.lemmas.Bool.{false≢true, eqb-true}
 use Rattle.std.proofs.lemmas.List.{take_at, drop_at, take-append-drop}
-use Rattle.def_text.specs.Digits.{number}
+use Rattle.def_text.specs.Digits.{number_written}
 use Rattle.def_text.specs.Ratio.{IsRatio}
 use Rattle.qm_dec.specs.Sizes.{clamped}
 use Rattle.qm_dec.proofs.Texts.{decimal_digits, decimal_number, digits_fail, digit_other, first_at}
@@ -15,8 +15,8 @@ pub not_printed : (word : List ℕ) → false ≡ list_all is_ascii_digit word �
 not_printed word e n l is = false≢true (e ∙ ap (list_all is_ascii_digit) is ∙ decimal_digits n (omega arith))
 
 -- a printed number is read as itself
-pub printed_read : (word : List ℕ) (n k : ℕ) → k ≡ min (clamped (number word)) 10001 → n ≤ 10000 → word ≡ decimal n → k ≡ n
-printed_read word n k e l is = omega (arith, e, ap number is, decimal_number n (omega arith))
+pub printed_read : (word : List ℕ) (n k : ℕ) → k ≡ min (clamped (number_written word)) 10001 → n ≤ 10000 → word ≡ decimal n → k ≡ n
+printed_read word n k e l is = omega (arith, e, ap number_written is, decimal_number n (omega arith))
 
 place : (p q : ℕ) → p ≤ 1000 → position_or_len (λ b. eqb b 47) (decimal p ++ 47 ∷ decimal q) ≡ length (decimal p)
 place p q l = first_at (λ b. eqb b 47) (decimal p) 47 (decimal q) (digits_fail (λ b. eqb b 47) (digit_other 47 (omega arith)) (decimal p) (decimal_digits p (omega arith))) refl

@@ -12,7 +12,7 @@ use Rattle.std.proofs.Math.Nat.{pow-suc, mul_assoc}
 use Rattle.std.proofs.lemmas.Nat.{pow-add}
 use Rattle.def_text.specs.Canonical.{fraction_text, micro_text, six_digits, without_zeros}
 use Rattle.def_text.specs.Decimal.{all_digits, exponent, fraction_digits, is_decimal, is_exponent, is_mark, is_point, mantissa, power, rounded_size, scaled}
-use Rattle.def_text.specs.Digits.{is_negative, is_number, number, unsigned}
+use Rattle.def_text.specs.Digits.{is_negative, is_number, number_written, unsigned}
 use Rattle.def_text.specs.Laws.{CanonicalLaw}
 use Rattle.qm_dec.proofs.Digits.{after_is, digits_before, number_append}
 use Rattle.qm_scan.proofs.Numbers.{digit_small, values}
@@ -36,8 +36,8 @@ seven r l =
     one_more n m a b e = decimal_step n a b ∙ ap (λ k. decimal k ++ (48 + n % 10) ∷ []) e
 
 -- so the six digits have the number's value
-six_number : (r : ℕ) → r < 10 ^ 6 → number (six_digits r) ≡ r
-six_number r l = ap (λ (xs : List ℕ). number (drop 1 xs)) (seven r l) ∙ omega arith
+six_number : (r : ℕ) → r < 10 ^ 6 → number_written (six_digits r) ≡ r
+six_number r l = ap (λ (xs : List ℕ). number_written (drop 1 xs)) (seven r l) ∙ omega arith
 
 six_long : (r : ℕ) → r < 10 ^ 6 → length (six_digits r) ≡ 6
 six_long r l = ap (λ (xs : List ℕ). length (drop 1 xs)) (seven r l)
@@ -49,10 +49,10 @@ six_all r l = digits_behind (decimal (10 ^ 6 + r)) 1 (decimal_digits (10 ^ 6 + r
 shifted : (a long n q : ℕ) → long ≤ n → a * 10 ^ (n - long) ≡ q → a * 10 ^ (suc n - long) ≡ q * 10
 shifted a long n q l e = ap (λ k. a * 10 ^ k) (omega arith) ∙ ap (λ p. a * p) (pow-suc 10 (n - long)) ∙ omega (arith, e)
 
-push_number : (ds : List ℕ) (x : ℕ) → number (ds ++ x ∷ []) ≡ number ds * 10 + (x - 48)
+push_number : (ds : List ℕ) (x : ℕ) → number_written (ds ++ x ∷ []) ≡ number_written ds * 10 + (x - 48)
 push_number ds x = number_append ds (x ∷ [])
 
-trimmed_number : (n : ℕ) (xs : List ℕ) → length xs ≡ n → (length (without_zeros xs) ≤ n) × (number (without_zeros xs) * 10 ^ (n - length (without_zeros xs)) ≡ number xs)
+trimmed_number : (n : ℕ) (xs : List ℕ) → length xs ≡ n → (length (without_zeros xs) ≤ n) × (number_written (without_zeros xs) * 10 ^ (n - length (without_zeros xs)) ≡ number_written xs)
 trimmed_number zero [] e = (omega arith, omega arith)
 trimmed_number zero (x ∷ xs) e = absurd (omega arith)
 trimmed_number (suc n) xs e = by_last (take n xs) (get_or xs n 0) split (trimmed_number n (take n xs) prefix)
@@ -63,18 +63,18 @@ trimmed_number (suc n) xs e = by_last (take n xs) (get_or xs n 0) split (trimmed
     split : xs ≡ take n xs ++ get_or xs n 0 ∷ []
     split = sym (take_all (n + 1) xs (omega arith)) ∙ take_more xs n 0 (omega arith)
 
-    by_last : (p : List ℕ) (x : ℕ) → xs ≡ p ++ x ∷ [] → (length (without_zeros p) ≤ n) × (number (without_zeros p) * 10 ^ (n - length (without_zeros p)) ≡ number p) → (length (without_zeros xs) ≤ suc n) × (number (without_zeros xs) * 10 ^ (suc n - length (without_zeros xs)) ≡ number xs)
+    by_last : (p : List ℕ) (x : ℕ) → xs ≡ p ++ x ∷ [] → (length (without_zeros p) ≤ n) × (number_written (without_zeros p) * 10 ^ (n - length (without_zeros p)) ≡ number_written p) → (length (without_zeros xs) ≤ suc n) × (number_written (without_zeros xs) * 10 ^ (suc n - length (without_zeros xs)) ≡ number_written xs)
     by_last p x is before = elim (cases_eq x 48) [
       | inl z ↦
           let w : without_zeros xs ≡ without_zeros p = ap without_zeros is ∙ ap (λ d. without_zeros (p ++ d ∷ [])) z ∙ without_zeros-zero p in
-          let v : number xs ≡ number p * 10 = ap number is ∙ push_number p x ∙ omega (arith, z) in (
+          let v : number_written xs ≡ number_written p * 10 = ap number_written is ∙ push_number p x ∙ omega (arith, z) in (
             omega (arith, ap length w, before.0),
-            ap (λ (ds : List ℕ). number ds * 10 ^ (suc n - length ds)) w ∙ shifted (number (without_zeros p)) (length (without_zeros p)) n (number p) before.0 before.1 ∙ sym v,
+            ap (λ (ds : List ℕ). number_written ds * 10 ^ (suc n - length ds)) w ∙ shifted (number_written (without_zeros p)) (length (without_zeros p)) n (number_written p) before.0 before.1 ∙ sym v,
           )
       | inr ne ↦
           let w : without_zeros xs ≡ xs = ap without_zeros is ∙ without_zeros-other p x ne ∙ sym is in
           let none : suc n - length xs ≡ 0 = omega arith in
-          (omega (arith, ap length w, e), ap (λ (ds : List ℕ). number ds * 10 ^ (suc n - length ds)) w ∙ ap (λ k. number xs * 10 ^ k) none ∙ omega arith)
+          (omega (arith, ap length w, e), ap (λ (ds : List ℕ). number_written ds * 10 ^ (suc n - length ds)) w ∙ ap (λ k. number_written xs * 10 ^ k) none ∙ omega arith)
     ]
 
 -- The parts of a word without an exponent.
@@ -116,18 +116,18 @@ pointed_parts word ds ys is all rest =
     record { all = ap (λ (xs : List ℕ). xs ++ fraction_digits word) b ∙ ap (λ (xs : List ℕ). ds ++ xs) f; behind = f; no_power = m.1 }
 
 -- the value of such a word
-pub parts_size : (word digits fraction : List ℕ) → HasParts word digits fraction → length fraction ≤ 6 → rounded_size word ≡ number digits * 10 ^ (6 - length fraction)
+pub parts_size : (word digits fraction : List ℕ) → HasParts word digits fraction → length fraction ≤ 6 → rounded_size word ≡ number_written digits * 10 ^ (6 - length fraction)
 parts_size word digits fraction h short =
     let e : (power (exponent word) +ℤ pos 6) -ℤ pos (length (fraction_digits word)) ≡ pos (6 - length fraction) =
     ap (λ (xs : List ℕ). (power xs +ℤ pos 6) -ℤ pos (length (fraction_digits word))) h.no_power ∙ ap (λ (fs : List ℕ). pos 6 -ℤ pos (length fs)) h.behind ∙ omega (arith, ints) in
-    ap (λ (z : ℤ). scaled (number (all_digits word)) z) e ∙ ap (λ (ds : List ℕ). number ds * 10 ^ (6 - length fraction)) h.all
+    ap (λ (z : ℤ). scaled (number_written (all_digits word)) z) e ∙ ap (λ (ds : List ℕ). number_written ds * 10 ^ (6 - length fraction)) h.all
 
-joined_size : (ds ys : List ℕ) (q : ℕ) → length ys ≤ 6 → number ys * 10 ^ (6 - length ys) ≡ q → number (ds ++ ys) * 10 ^ (6 - length ys) ≡ number ds * 10 ^ 6 + q
+joined_size : (ds ys : List ℕ) (q : ℕ) → length ys ≤ 6 → number_written ys * 10 ^ (6 - length ys) ≡ q → number_written (ds ++ ys) * 10 ^ (6 - length ys) ≡ number_written ds * 10 ^ 6 + q
 joined_size ds ys q short e =
-    let n : number (ds ++ ys) ≡ number ds * 10 ^ length ys + number ys = number_append ds ys ∙ after_is (number ds) (values ys) ∙ ap (λ k. number ds * 10 ^ k + number ys) (length-map ys (λ d. d - 48)) in
+    let n : number_written (ds ++ ys) ≡ number_written ds * 10 ^ length ys + number_written ys = number_append ds ys ∙ after_is (number_written ds) (values ys) ∙ ap (λ k. number_written ds * 10 ^ k + number_written ys) (length-map ys (λ d. d - 48)) in
     let six : length ys + (6 - length ys) ≡ 6 = omega arith in
     let t : 10 ^ length ys * 10 ^ (6 - length ys) ≡ 10 ^ 6 = sym (pow-add 10 (length ys) (6 - length ys)) ∙ ap (λ k. 10 ^ k) six in
-    ap (λ m. m * 10 ^ (6 - length ys)) n ∙ distribute (number ds) (10 ^ length ys) (number ys) (10 ^ (6 - length ys)) ∙ ap (λ p. number ds * p + number ys * 10 ^ (6 - length ys)) t ∙ omega (arith, e)
+    ap (λ m. m * 10 ^ (6 - length ys)) n ∙ distribute (number_written ds) (10 ^ length ys) (number_written ys) (10 ^ (6 - length ys)) ∙ ap (λ p. number_written ds * p + number_written ys * 10 ^ (6 - length ys)) t ∙ omega (arith, e)
   where
     distribute : (a b c d : ℕ) → (a * b + c) * d ≡ a * (b * d) + c * d
     distribute a b c d = omega (arith, mul_assoc a b d)
@@ -150,13 +150,13 @@ body_reads word n l short is = by_rest (eqb (n % 10 ^ 6) 0) refl
     some : 0 < length (decimal (n / 10 ^ 6))
     some = decimal_nonempty (n / 10 ^ 6) (omega arith)
 
-    value : number (decimal (n / 10 ^ 6)) ≡ n / 10 ^ 6
+    value : number_written (decimal (n / 10 ^ 6)) ≡ n / 10 ^ 6
     value = decimal_number (n / 10 ^ 6) (omega arith)
 
     ys : list_all is_ascii_digit (without_zeros (six_digits (n % 10 ^ 6))) ≡ true
     ys = digits_before (six_digits (n % 10 ^ 6)) _ (six_all (n % 10 ^ 6) (omega arith))
 
-    with_parts : (fs : List ℕ) (q : ℕ) → HasParts word (decimal (n / 10 ^ 6) ++ fs) fs → list_all is_ascii_digit fs ≡ true → length fs ≤ 6 → number fs * 10 ^ (6 - length fs) ≡ q → n / 10 ^ 6 * 10 ^ 6 + q ≡ n → ReadsAs word n
+    with_parts : (fs : List ℕ) (q : ℕ) → HasParts word (decimal (n / 10 ^ 6) ++ fs) fs → list_all is_ascii_digit fs ≡ true → length fs ≤ 6 → number_written fs * 10 ^ (6 - length fs) ≡ q → n / 10 ^ 6 * 10 ^ 6 + q ≡ n → ReadsAs word n
     with_parts fs q h all few e sum = record {
       form = and_from _ _ (le-leb (length word) 64 short) (and_from _ _ (ap is_number h.all ∙ digits_number (decimal (n / 10 ^ 6)) fs some ds all) (ap is_exponent h.no_power));
       size = parts_size word _ fs h few ∙ joined_size (decimal (n / 10 ^ 6)) fs q few e ∙ ap (λ m. m * 10 ^ 6 + q) value ∙ sum;
@@ -167,7 +167,7 @@ body_reads word n l short is = by_rest (eqb (n % 10 ^ 6) 0) refl
         (plain_parts word (decimal (n / 10 ^ 6)) (is ∙ ap (λ (xs : List ℕ). decimal (n / 10 ^ 6) ++ xs) (cond-true _ _ _ e) ∙ append-nil _) ds)
         refl (omega arith) (omega arith) (omega (arith, eqb-true (n % 10 ^ 6) 0 e))
     by_rest false e =
-        let t : (length (without_zeros (six_digits (n % 10 ^ 6))) ≤ 6) × (number (without_zeros (six_digits (n % 10 ^ 6))) * 10 ^ (6 - length (without_zeros (six_digits (n % 10 ^ 6)))) ≡ number (six_digits (n % 10 ^ 6))) = trimmed_number 6 (six_digits (n % 10 ^ 6)) (six_long (n % 10 ^ 6) (omega arith)) in
+        let t : (length (without_zeros (six_digits (n % 10 ^ 6))) ≤ 6) × (number_written (without_zeros (six_digits (n % 10 ^ 6))) * 10 ^ (6 - length (without_zeros (six_digits (n % 10 ^ 6)))) ≡ number_written (six_digits (n % 10 ^ 6))) = trimmed_number 6 (six_digits (n % 10 ^ 6)) (six_long (n % 10 ^ 6) (omega arith)) in
         with_parts (without_zeros (six_digits (n % 10 ^ 6))) (n % 10 ^ 6)
         (pointed_parts word (decimal (n / 10 ^ 6)) _ (is ∙ ap (λ (xs : List ℕ). decimal (n / 10 ^ 6) ++ xs) (cond-false _ _ _ e)) ds ys)
         ys t.0 (t.1 ∙ six_number (n % 10 ^ 6) (omega arith)) (omega arith)

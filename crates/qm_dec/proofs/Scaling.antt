@@ -10,7 +10,7 @@ use Rattle.std.proofs.lemmas.List.Sums.{AllPass-from_list_all}
 use Rattle.std.specs.Char.{is_ascii_digit}
 use Rattle.std.specs.List.{list_all}
 use Rattle.def_text.specs.Decimal.{scaled}
-use Rattle.def_text.specs.Digits.{number}
+use Rattle.def_text.specs.Digits.{number_written}
 use Rattle.qm_dec.specs.Sizes.{clamped}
 use Rattle.qm_dec.proofs.Clamps.{both_far}
 use Rattle.qm_dec.proofs.Digits.{after_is, after_more, number_append}
@@ -43,14 +43,14 @@ pub digits_behind : (ds : List ℕ) (i : ℕ) → list_all is_ascii_digit ds ≡
 digits_behind ds i all = (and_parts _ _ (sym (list_all-append is_ascii_digit (take i ds) (drop i ds)) ∙ ap (list_all is_ascii_digit) (take-append-drop i ds) ∙ all)).1
 
 -- the digits before the place i, that at i and those behind it
-number_at : (ds : List ℕ) (i k : ℕ) → i + suc k ≡ length ds → number ds ≡ (number (take i ds) * 10 + (get_or ds i 0 - 48)) * 10 ^ k + number (drop (i + 1) ds)
+number_at : (ds : List ℕ) (i k : ℕ) → i + suc k ≡ length ds → number_written ds ≡ (number_written (take i ds) * 10 + (get_or ds i 0 - 48)) * 10 ^ k + number_written (drop (i + 1) ds)
 number_at ds i k e =
-    ap number (sym (take-append-drop (i + 1) ds)) ∙ number_append (take (i + 1) ds) (drop (i + 1) ds) ∙ after_is (number (take (i + 1) ds)) (values (drop (i + 1) ds))
-    ∙ ap (λ n. number (take (i + 1) ds) * 10 ^ n + number (drop (i + 1) ds)) (length-map (drop (i + 1) ds) (λ d. d - 48) ∙ length-drop (i + 1) ds ∙ omega arith)
-    ∙ ap (λ n. n * 10 ^ k + number (drop (i + 1) ds)) (after_more 0 ds i (omega arith))
+    ap number_written (sym (take-append-drop (i + 1) ds)) ∙ number_append (take (i + 1) ds) (drop (i + 1) ds) ∙ after_is (number_written (take (i + 1) ds)) (values (drop (i + 1) ds))
+    ∙ ap (λ n. number_written (take (i + 1) ds) * 10 ^ n + number_written (drop (i + 1) ds)) (length-map (drop (i + 1) ds) (λ d. d - 48) ∙ length-drop (i + 1) ds ∙ omega arith)
+    ∙ ap (λ n. n * 10 ^ k + number_written (drop (i + 1) ds)) (after_more 0 ds i (omega arith))
 
-behind_small : (ds : List ℕ) (i k : ℕ) → list_all is_ascii_digit ds ≡ true → i + suc k ≡ length ds → number (drop (i + 1) ds) < 10 ^ k
-behind_small ds i k all e = subst (λ (n : ℕ). number (drop (i + 1) ds) < 10 ^ n) (length-drop (i + 1) ds ∙ omega arith) (number_small (drop (i + 1) ds) (digits_behind ds (i + 1) all))
+behind_small : (ds : List ℕ) (i k : ℕ) → list_all is_ascii_digit ds ≡ true → i + suc k ≡ length ds → number_written (drop (i + 1) ds) < 10 ^ k
+behind_small ds i k all e = subst (λ (n : ℕ). number_written (drop (i + 1) ds) < 10 ^ n) (length-drop (i + 1) ds ∙ omega arith) (number_small (drop (i + 1) ds) (digits_behind ds (i + 1) all))
 
 half_test : (d : ℕ) → 48 ≤ d → ◌≡◌ {A = ℕ} (cond (ltb (d - 48) 5) 0 1) (cond (ltb d 53) 0 1)
 half_test d l = elim (cases_lt d 53) [
@@ -59,28 +59,28 @@ half_test d l = elim (cases_lt d 53) [
 ]
 
 -- all digits but the last k + 1, and one more where the first of these is at least 5
-pub cut_exact : (ds : List ℕ) (i k : ℕ) → list_all is_ascii_digit ds ≡ true → i + suc k ≡ length ds → scaled (number ds) (negsuc k) ≡ number (take i ds) + cond (ltb (get_or ds i 0) 53) 0 1
+pub cut_exact : (ds : List ℕ) (i k : ℕ) → list_all is_ascii_digit ds ≡ true → i + suc k ≡ length ds → scaled (number_written ds) (negsuc k) ≡ number_written (take i ds) + cond (ltb (get_or ds i 0) 53) 0 1
 cut_exact ds i k all e =
     let d : (48 ≤ get_or ds i 0) × (get_or ds i 0 ≤ 57) = digit_at ds i all (omega arith) in
     ap (λ n. (2 * n + 10 ^ suc k) / (2 * 10 ^ suc k)) (number_at ds i k e)
-    ∙ ap (λ p. (2 * ((number (take i ds) * 10 + (get_or ds i 0 - 48)) * 10 ^ k + number (drop (i + 1) ds)) + p) / (2 * p)) (pow-succ' 10 k)
-    ∙ rounding (number (take i ds)) (get_or ds i 0 - 48) (number (drop (i + 1) ds)) (10 ^ k) (behind_small ds i k all e) (omega arith)
-    ∙ ap (λ r. number (take i ds) + r) (half_test (get_or ds i 0) d.0)
+    ∙ ap (λ p. (2 * ((number_written (take i ds) * 10 + (get_or ds i 0 - 48)) * 10 ^ k + number_written (drop (i + 1) ds)) + p) / (2 * p)) (pow-succ' 10 k)
+    ∙ rounding (number_written (take i ds)) (get_or ds i 0 - 48) (number_written (drop (i + 1) ds)) (10 ^ k) (behind_small ds i k all e) (omega arith)
+    ∙ ap (λ r. number_written (take i ds) + r) (half_test (get_or ds i 0) d.0)
 
 -- fewer digits than are cut: less than a half
-pub cut_zero : (ds : List ℕ) (k : ℕ) → list_all is_ascii_digit ds ≡ true → length ds ≤ k → scaled (number ds) (negsuc k) ≡ 0
+pub cut_zero : (ds : List ℕ) (k : ℕ) → list_all is_ascii_digit ds ≡ true → length ds ≤ k → scaled (number_written ds) (negsuc k) ≡ 0
 cut_zero ds k all l =
     let p : 10 ^ length ds ≤ 10 ^ k = pow-le-pow_right {n = 10} (omega arith) {i = length ds} {j = k} l in
     div-eq_of_lt (omega (arith, number_small ds all, pow-suc 10 k))
 
 -- a power of ten below any that matters, and one above
-pub power_down : (ds : List ℕ) (f p : ℕ) → list_all is_ascii_digit ds ≡ true → length ds ≤ 64 → clamped (scaled (number ds) (pos 6 -ℤ pos (f + min p 1000))) ≡ clamped (scaled (number ds) ((neg_ℤ (pos p) +ℤ pos 6) -ℤ pos f))
+pub power_down : (ds : List ℕ) (f p : ℕ) → list_all is_ascii_digit ds ≡ true → length ds ≤ 64 → clamped (scaled (number_written ds) (pos 6 -ℤ pos (f + min p 1000))) ≡ clamped (scaled (number_written ds) ((neg_ℤ (pos p) +ℤ pos 6) -ℤ pos f))
 power_down ds f p all short = elim (cases_lt p 1001) [
-  | inl l ↦ let e : pos 6 -ℤ pos (f + min p 1000) ≡ (neg_ℤ (pos p) +ℤ pos 6) -ℤ pos f = omega (arith, ints) in ap (λ z. clamped (scaled (number ds) z)) e
+  | inl l ↦ let e : pos 6 -ℤ pos (f + min p 1000) ≡ (neg_ℤ (pos p) +ℤ pos 6) -ℤ pos f = omega (arith, ints) in ap (λ z. clamped (scaled (number_written ds) z)) e
   | inr g ↦
       let a : pos 6 -ℤ pos (f + min p 1000) ≡ negsuc (f + 993) = omega (arith, ints) in
       let b : (neg_ℤ (pos p) +ℤ pos 6) -ℤ pos f ≡ negsuc (f + p - 7) = omega (arith, ints) in
-      ap (λ z. clamped (scaled (number ds) z)) a ∙ ap clamped (cut_zero ds (f + 993) all (omega arith)) ∙ sym (ap (λ z. clamped (scaled (number ds) z)) b ∙ ap clamped (cut_zero ds (f + p - 7) all (omega arith)))
+      ap (λ z. clamped (scaled (number_written ds) z)) a ∙ ap clamped (cut_zero ds (f + 993) all (omega arith)) ∙ sym (ap (λ z. clamped (scaled (number_written ds) z)) b ∙ ap clamped (cut_zero ds (f + p - 7) all (omega arith)))
 ]
 
 pub power_up : (n f p : ℕ) → f ≤ 64 → clamped (scaled n (pos (6 + min p 1000) -ℤ pos f)) ≡ clamped (scaled n ((pos p +ℤ pos 6) -ℤ pos f))
@@ -93,9 +93,9 @@ power_up n f p short = elim (cases_lt p 1001) [
 ]
 
 -- a cut where the number of digits that stay is known, and where none stay
-pub cut_below : (ds : List ℕ) (i last v x : ℕ) → list_all is_ascii_digit ds ≡ true → 1 ≤ last → i + last ≡ length ds → v ≡ clamped (number (take i ds)) → x ≡ get_or ds i 0 → x < 53 → v ≡ clamped (scaled (number ds) (negsuc (last - 1)))
-cut_below ds i last v x all one e is d low = is ∙ ap clamped (sym (cut_exact ds i (last - 1) all (omega arith) ∙ ap (λ b. number (take i ds) + cond b 0 1) (lt-ltb (get_or ds i 0) 53 (omega arith)) ∙ omega arith))
+pub cut_below : (ds : List ℕ) (i last v x : ℕ) → list_all is_ascii_digit ds ≡ true → 1 ≤ last → i + last ≡ length ds → v ≡ clamped (number_written (take i ds)) → x ≡ get_or ds i 0 → x < 53 → v ≡ clamped (scaled (number_written ds) (negsuc (last - 1)))
+cut_below ds i last v x all one e is d low = is ∙ ap clamped (sym (cut_exact ds i (last - 1) all (omega arith) ∙ ap (λ b. number_written (take i ds) + cond b 0 1) (lt-ltb (get_or ds i 0) 53 (omega arith)) ∙ omega arith))
 
-pub cut_above : (ds : List ℕ) (i last v x w : ℕ) → list_all is_ascii_digit ds ≡ true → 1 ≤ last → i + last ≡ length ds → v ≡ clamped (number (take i ds)) → x ≡ get_or ds i 0 → 53 ≤ x → w ≡ clamped (v + 1) → w ≡ clamped (scaled (number ds) (negsuc (last - 1)))
+pub cut_above : (ds : List ℕ) (i last v x w : ℕ) → list_all is_ascii_digit ds ≡ true → 1 ≤ last → i + last ≡ length ds → v ≡ clamped (number_written (take i ds)) → x ≡ get_or ds i 0 → 53 ≤ x → w ≡ clamped (v + 1) → w ≡ clamped (scaled (number_written ds) (negsuc (last - 1)))
 cut_above ds i last v x w all one e is d high next =
-    next ∙ omega arith ∙ ap clamped (sym (cut_exact ds i (last - 1) all (omega arith) ∙ ap (λ b. number (take i ds) + cond b 0 1) (le-ltb (get_or ds i 0) 53 (omega arith))))
+    next ∙ omega arith ∙ ap clamped (sym (cut_exact ds i (last - 1) all (omega arith) ∙ ap (λ b. number_written (take i ds) + cond b 0 1) (le-ltb (get_or ds i 0) 53 (omega arith))))

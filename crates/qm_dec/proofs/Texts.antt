@@ -6,7 +6,7 @@ use Rattle.std.specs.List.{list_all, position_or_len, prefix_len}
 use Rattle.std.proofs.lemmas.Bool.{and_parts, and_from, le-leb, not_from_true, not_from_false, ne_eqb}
 use Rattle.std.proofs.lemmas.Fmt.{decimal_by_steps}
 use Rattle.std.proofs.lemmas.List.Folds.{list_all-append}
-use Rattle.def_text.specs.Digits.{number}
+use Rattle.def_text.specs.Digits.{number_written}
 use Rattle.qm_dec.proofs.Digits.{number_append}
 use Rattle.qm_scan.proofs.Numbers.{digit_small}
 
@@ -20,8 +20,8 @@ decimal_digits n l = decimal_by_steps (λ m ds. list_all is_ascii_digit ds ≡ t
     (λ m ds s all. list_all-append is_ascii_digit ds ((48 + m % 10) ∷ []) ∙ and_from _ _ all (and_from _ _ (glyph (m % 10) (omega arith)) refl))
     n l
 
-pub decimal_number : (n : ℕ) → n < 2 ^ 64 → number (decimal n) ≡ n
-decimal_number n l = decimal_by_steps (λ m ds. number ds ≡ m)
+pub decimal_number : (n : ℕ) → n < 2 ^ 64 → number_written (decimal n) ≡ n
+decimal_number n l = decimal_by_steps (λ m ds. number_written ds ≡ m)
     (λ m s. omega arith)
     (λ m ds s e. number_append ds ((48 + m % 10) ∷ []) ∙ omega arith)
     n l

@@ -2,7 +2,7 @@
 ghost use Rattle.std.specs.Prelude.{◌≡◌, ◌≤◌, ◌<◌, ◌+◌, ◌^◌, ◌++◌, neg_ℤ, if◌then◌else◌, pos, ◌+ℤ◌, ◌-ℤ◌, min};
 ghost use Rattle.std.specs.Prelude.{IsTrue, length, IfOk, IfErr};
 ghost use Rattle.def_text.specs.Decimal.{is_exponent, power, scaled, IsDecFail, IsValue};
-ghost use Rattle.def_text.specs.Digits.{is_negative, is_number, number};
+ghost use Rattle.def_text.specs.Digits.{is_negative, is_number, number_written};
 ghost use Rattle.qm_dec.specs.Sizes.{clamped};
 
 use crate::parts::{are_number, is_exponent, split_exponent, split_point};
@@ -49,7 +49,7 @@ fn size_in_millionths(whole: &[u8], fraction: &[u8], exponent: &[u8]) -> u64
     requires number { IsTrue (is_number (whole.now ++ fraction.now)) }
     requires exponent { IsTrue (is_exponent exponent.now) }
     requires short { length whole.now + length fraction.now + length exponent.now ≤ 64 }
-    ensures { result ≡ clamped (scaled (number (whole.now ++ fraction.now))
+    ensures { result ≡ clamped (scaled (number_written (whole.now ++ fraction.now))
         ((power exponent.now +ℤ pos 6) -ℤ pos (length fraction.now))) }
 {
     let digits = fraction.len() as u32;
@@ -68,7 +68,7 @@ fn size_in_millionths(whole: &[u8], fraction: &[u8], exponent: &[u8]) -> u64
 /// The power, or 1000 where it is greater: no decimal that is not 0 is in range with it.
 fn small_power(digits: &[u8]) -> u32
     requires { IsTrue (is_number digits.now) }
-    ensures { result ≡ min (number digits.now) 1000 }
+    ensures { result ≡ min (number_written digits.now) 1000 }
 {
     number_after(0, digits).min(1000) as u32
 }

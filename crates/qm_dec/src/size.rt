@@ -5,7 +5,7 @@ ghost use Rattle.std.specs.Char.{is_ascii_digit};
 ghost use Rattle.std.specs.Int.Digits.{number_from_digits_after};
 ghost use Rattle.std.specs.List.{list_all};
 ghost use Rattle.def_text.specs.Decimal.{scaled};
-ghost use Rattle.def_text.specs.Digits.{number};
+ghost use Rattle.def_text.specs.Digits.{number_written};
 ghost use Rattle.qm_dec.specs.Sizes.{clamped};
 
 /// The least number of millionths that is out of range.
@@ -16,7 +16,7 @@ pub(crate) fn size_of(whole: &[u8], fraction: &[u8], up: u32, down: u32) -> u64
     requires whole { IsTrue (list_all is_ascii_digit whole.now) }
     requires fraction { IsTrue (list_all is_ascii_digit fraction.now) }
     requires short { length whole.now + length fraction.now ≤ 64 }
-    ensures { result ≡ clamped (scaled (number (whole.now ++ fraction.now)) (pos up -ℤ pos down)) }
+    ensures { result ≡ clamped (scaled (number_written (whole.now ++ fraction.now)) (pos up -ℤ pos down)) }
 {
     if down <= up {
         let digits = number_after(number_after(0, whole), fraction);
@@ -58,7 +58,7 @@ fn round_at(whole: &[u8], fraction: &[u8], last: u32) -> u64
     requires fraction { IsTrue (list_all is_ascii_digit fraction.now) }
     requires short { length whole.now + length fraction.now ≤ 64 }
     requires some { 1 ≤ last }
-    ensures { result ≡ clamped (scaled (number (whole.now ++ fraction.now)) (negsuc (last - 1))) }
+    ensures { result ≡ clamped (scaled (number_written (whole.now ++ fraction.now)) (negsuc (last - 1))) }
 {
     let count = whole.len() + fraction.len();
     let last = last as usize;
@@ -79,7 +79,7 @@ fn first_digits(whole: &[u8], fraction: &[u8], kept: usize) -> u64
     requires whole { IsTrue (list_all is_ascii_digit whole.now) }
     requires fraction { IsTrue (list_all is_ascii_digit fraction.now) }
     requires kept { kept ≤ length whole.now + length fraction.now }
-    ensures { result ≡ clamped (number (take kept (whole.now ++ fraction.now))) }
+    ensures { result ≡ clamped (number_written (take kept (whole.now ++ fraction.now))) }
 {
     if kept <= whole.len() {
         return number_after(0, &whole[..kept]);

@@ -7,7 +7,7 @@ use Rattle.std.proofs.lemmas.Int.{ints}
 use Rattle.std.proofs.lemmas.Bool.{cases_eq, eq-eqb, ne_eqb, false_from_ne_true}
 use Rattle.def_math.specs.Sums.{total_below}
 use Rattle.sum_laws.proofs.Sums.{total_below_same, total_below_sum, total_below_none, total_below_one}
-use Rattle.def_matching.specs.Dual.{DualLists, IsNested, AreSmall, z_at}
+use Rattle.def_matching.specs.Dual.{DualLists, AreNestedSets, AreSmall, z_at}
 use Rattle.qm_dual.specs.Nest.{climbs, around, apart, named_sum, AreSums, IsMeeting}
 use Rattle.qm_dual.proofs.Climbs.{set_later, climb_on, climb_none, passed_later}
 
@@ -25,7 +25,7 @@ pub around_none : (n : ℕ) (d : DualLists) → around n d 0 ≡ pos 0
 around_none n d = total_below_none _ (length d.z) (λ k l. ap (λ b. cond b (z_at d k) (pos 0)) (climb_none n d.up (length d.z) k))
 
 -- A set gathers its own number, and what the set around it gathers.
-pub around_step : (n : ℕ) (d : DualLists) → IsNested n (length d.z) d.up → (j : ℕ) → j < length d.z → around n d (suc j) ≡ z_at d j +ℤ around n d (slice_index d.up (n + j))
+pub around_step : (n : ℕ) (d : DualLists) → AreNestedSets n (length d.z) d.up → (j : ℕ) → j < length d.z → around n d (suc j) ≡ z_at d j +ℤ around n d (slice_index d.up (n + j))
 around_step n d nested j l =
     let own : ℕ → ℤ = λ (k : ℕ). cond (j == k) (z_at d k) (pos 0) in
     let rest : ℕ → ℤ = λ (k : ℕ). cond (climbs n d.up (length d.z) k (slice_index d.up (n + j))) (z_at d k) (pos 0) in

@@ -2,12 +2,12 @@
 use Rattle.std.proofs.Common.{◌≡◌, ℕ, zero, suc, ◌+◌, ◌<◌, ◌≤◌, ◌==◌, ◌||◌, Bool, true, List, refl, sym, ◌∙◌, ap, subst, inl, inr, ◌⊎◌, arith}
 use Rattle.std.specs.Prelude.{slice_index}
 use Rattle.std.proofs.lemmas.Bool.{cases_eq, cases_order, eq-eqb, false≢true}
-use Rattle.def_matching.specs.Dual.{IsNested}
+use Rattle.def_matching.specs.Dual.{AreNestedSets}
 use Rattle.qm_dual.specs.Nest.{climbs, IsHead, AreHeads}
 use Rattle.qm_dual.proofs.Climbs.{set_later, around_later, climb_on, climb_none, passed_on, passed_later}
 
 -- A head is at or above its set, and is a set.
-pub head_later : (n m : ℕ) (up heads : List ℕ) → IsNested n m up → AreHeads n m up heads → (fuel j : ℕ) → m ≤ fuel + j → j < m → (j < slice_index heads j) × (slice_index heads j ≤ m)
+pub head_later : (n m : ℕ) (up heads : List ℕ) → AreNestedSets n m up → AreHeads n m up heads → (fuel j : ℕ) → m ≤ fuel + j → j < m → (j < slice_index heads j) × (slice_index heads j ≤ m)
 head_later n m up heads nested are zero j enough l = absurd (omega arith)
 head_later n m up heads nested are (suc fuel) j enough l = by_head (are.each j l) (λ q later low. head_later n m up heads nested are fuel q (omega arith) low)
   where
@@ -20,7 +20,7 @@ head_later n m up heads nested are (suc fuel) j enough l = by_head (are.each j l
         (omega arith, omega arith)
 
 -- A set that is passed from another lies on its path, or the path has its head below it.
-pub head_of_passed : (n m : ℕ) (up heads : List ℕ) → IsNested n m up → AreHeads n m up heads → (steps k j : ℕ) → j < m → climbs n up steps k (suc j) ≡ true
+pub head_of_passed : (n m : ℕ) (up heads : List ℕ) → AreNestedSets n m up → AreHeads n m up heads → (steps k j : ℕ) → j < m → climbs n up steps k (suc j) ≡ true
     → (slice_index heads j ≡ slice_index heads k) ⊎ (slice_index heads j ≤ k)
 head_of_passed n m up heads nested are zero k j l on = absurd cc
 head_of_passed n m up heads nested are (suc steps) k j l on = by_step (passed_on j k (climbs n up steps k (slice_index up (n + j))) on)
@@ -47,7 +47,7 @@ head_of_passed n m up heads nested are (suc steps) k j l on = by_step (passed_on
             elim r [ inl e ↦ inl (same ∙ e) | inr low ↦ inr (omega arith) ]
 
 -- A set that is passed from another lies on its path, or is passed from the set around the head.
-pub past_head : (n m : ℕ) (up heads : List ℕ) → IsNested n m up → AreHeads n m up heads → (steps k j t : ℕ) → j < m → slice_index heads j ≡ suc t → climbs n up steps k (suc j) ≡ true
+pub past_head : (n m : ℕ) (up heads : List ℕ) → AreNestedSets n m up → AreHeads n m up heads → (steps k j t : ℕ) → j < m → slice_index heads j ≡ suc t → climbs n up steps k (suc j) ≡ true
     → (slice_index heads k ≡ suc t) ⊎ ((further : ℕ) × (climbs n up further k (slice_index up (n + t)) ≡ true))
 past_head n m up heads nested are zero k j t l top on = absurd cc
 past_head n m up heads nested are (suc steps) k j t l top on = by_step (passed_on j k (climbs n up steps k (slice_index up (n + j))) on)
@@ -71,7 +71,7 @@ past_head n m up heads nested are (suc steps) k j t l top on = by_step (passed_o
             rest h.0 h.1 above.1 (sym h.2 ∙ top) there
 
 -- What is passed from the set around the head is passed from the set.
-pub from_head : (n m : ℕ) (up heads : List ℕ) → IsNested n m up → AreHeads n m up heads → (fuel k j t : ℕ) → m ≤ fuel + j → j < m → slice_index heads j ≡ suc t → climbs n up m k (slice_index up (n + t)) ≡ true → climbs n up m k (suc j) ≡ true
+pub from_head : (n m : ℕ) (up heads : List ℕ) → AreNestedSets n m up → AreHeads n m up heads → (fuel k j t : ℕ) → m ≤ fuel + j → j < m → slice_index heads j ≡ suc t → climbs n up m k (slice_index up (n + t)) ≡ true → climbs n up m k (suc j) ≡ true
 from_head n m up heads nested are zero k j t enough l top on = absurd (omega arith)
 from_head n m up heads nested are (suc fuel) k j t enough l top on = by_head (are.each j l) (λ q later low head. from_head n m up heads nested are fuel k q t (omega arith) low head on)
   where
@@ -87,7 +87,7 @@ from_head n m up heads nested are (suc fuel) k j t enough l top on = by_head (ar
         climb_on n m up nested k j l ∙ or_true (j == k) _ (ap (climbs n up m k) h.1 ∙ rest h.0 above.0 above.1 (sym h.2 ∙ top))
 
 -- The last set before one that is passed.
-pub last_before : (n m : ℕ) (up : List ℕ) → IsNested n m up → (steps q b : ℕ) → b < m → climbs n up steps q (suc b) ≡ true → (b ≡ q → ⊥)
+pub last_before : (n m : ℕ) (up : List ℕ) → AreNestedSets n m up → (steps q b : ℕ) → b < m → climbs n up steps q (suc b) ≡ true → (b ≡ q → ⊥)
     → (c : ℕ) × (c < m) × (slice_index up (n + c) ≡ suc q) × ((b ≡ c) ⊎ (climbs n up m c (suc b) ≡ true))
 last_before n m up nested zero q b l on ne = absurd cc
 last_before n m up nested (suc steps) q b l on ne = by_step (passed_on b q (climbs n up steps q (slice_index up (n + b))) on)
@@ -120,7 +120,7 @@ last_before n m up nested (suc steps) q b l on ne = by_step (passed_on b q (clim
         by_around (suc p) is = elim (cases_eq p q) [ inl e ↦ (b, l, is ∙ ap suc e, inl refl) | inr other ↦ found p is (rest p is (around_later n m up nested b p is).1 there other) ]
 
 -- Two sets of one path: the later is passed from the earlier.
-pub path_chain : (n m : ℕ) (up heads : List ℕ) → IsNested n m up → AreHeads n m up heads → (fuel a b : ℕ) → m ≤ fuel + a → a < b → b < m → slice_index heads a ≡ slice_index heads b → climbs n up m b (suc a) ≡ true
+pub path_chain : (n m : ℕ) (up heads : List ℕ) → AreNestedSets n m up → AreHeads n m up heads → (fuel a b : ℕ) → m ≤ fuel + a → a < b → b < m → slice_index heads a ≡ slice_index heads b → climbs n up m b (suc a) ≡ true
 path_chain n m up heads nested are zero a b enough less low same = absurd (omega arith)
 path_chain n m up heads nested are (suc fuel) a b enough less low same = by_head (are.each a (omega arith)) (λ c d later l lower e. path_chain n m up heads nested are fuel c d (omega arith) l lower e)
   where

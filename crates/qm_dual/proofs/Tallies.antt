@@ -5,7 +5,7 @@ use Rattle.std.proofs.lemmas.Bool.{cases_eq, cases_lt, eq-eqb, ne_eqb, false_fro
 use Rattle.std.proofs.lemmas.List.{get_or_past, length-set, get_or-set_same, get_or-set_other}
 use Rattle.def_math.specs.Counts.{count_below}
 use Rattle.sum_laws.proofs.Counts.{count_below_same, count_below_sum}
-use Rattle.def_matching.specs.Dual.{DualLists, IsNested, set_size}
+use Rattle.def_matching.specs.Dual.{DualLists, AreNestedSets, set_size}
 use Rattle.qm_dual.specs.Nest.{climbs, stand_of, tally, tally_with, AreTallies, AreSizes}
 use Rattle.qm_dual.proofs.Climbs.{set_later, entry_low, climb_on, climb_none, passed_later}
 use Rattle.sum_laws.proofs.Tests.{once_at_most}
@@ -16,7 +16,7 @@ tests_low p zero = omega arith
 tests_low p (suc n) = omega (arith, once_at_most (p n), tests_low p n)
 
 -- A climb stands at no set below the ones that passed on, and at one of the sets.
-pub stands_later : (n m : ℕ) (up : List ℕ) → IsNested n m up → (t entry : ℕ) → entry ≤ m → ((stand_of n up t entry ≡ 0) ⊎ (t < stand_of n up t entry)) × (stand_of n up t entry ≤ m)
+pub stands_later : (n m : ℕ) (up : List ℕ) → AreNestedSets n m up → (t entry : ℕ) → entry ≤ m → ((stand_of n up t entry ≡ 0) ⊎ (t < stand_of n up t entry)) × (stand_of n up t entry ≤ m)
 stands_later n m up nested zero entry low = (grind arith, low)
 stands_later n m up nested (suc t) entry low = by_test (cases_eq (stand_of n up t entry) (suc t)) (stands_later n m up nested t entry low)
   where
@@ -30,7 +30,7 @@ stands_later n m up nested (suc t) entry low = by_test (cases_eq (stand_of n up 
         elim before.0 [ inl z ↦ (inl (is ∙ z), omega arith) | inr h ↦ (inr (omega arith), omega arith) ]
 
 -- Passing on changes nothing for the later sets.
-pub climb_from_stand : (n m : ℕ) (up : List ℕ) → IsNested n m up → (t k entry : ℕ) → t ≤ k → k < m → climbs n up m k (stand_of n up t entry) ≡ climbs n up m k entry
+pub climb_from_stand : (n m : ℕ) (up : List ℕ) → AreNestedSets n m up → (t k entry : ℕ) → t ≤ k → k < m → climbs n up m k (stand_of n up t entry) ≡ climbs n up m k entry
 climb_from_stand n m up nested zero k entry le l = refl
 climb_from_stand n m up nested (suc t) k entry le l = by_test (cases_eq (stand_of n up t entry) (suc t)) ∙ climb_from_stand n m up nested t k entry (omega arith) l
   where
@@ -43,7 +43,7 @@ climb_from_stand n m up nested (suc t) k entry le l = by_test (cases_eq (stand_o
     by_test (inr ne) = ap (climbs n up m k) (cond-false _ _ _ (ne_eqb (stand_of n up t entry) (suc t) ne))
 
 -- A climb passes a set exactly if it stands there when the sets below it have passed on.
-pub climb_stands : (n m : ℕ) (up : List ℕ) → IsNested n m up → (k entry : ℕ) → entry ≤ m → k < m → (stand_of n up k entry == suc k) ≡ climbs n up m k entry
+pub climb_stands : (n m : ℕ) (up : List ℕ) → AreNestedSets n m up → (k entry : ℕ) → entry ≤ m → k < m → (stand_of n up k entry == suc k) ≡ climbs n up m k entry
 climb_stands n m up nested k entry low l = by_stand (stands_later n m up nested k entry low) ∙ climb_from_stand n m up nested k k entry (omega arith) l
   where
     by_stand : ((stand_of n up k entry ≡ 0) ⊎ (k < stand_of n up k entry)) × (stand_of n up k entry ≤ m) → (stand_of n up k entry == suc k) ≡ climbs n up m k (stand_of n up k entry)
@@ -84,7 +84,7 @@ tally_step n up vertices k j other =
     by_test false = none vertices
 
 -- In the end a set's tally is its size.
-pub tally_size : (n : ℕ) (d : DualLists) → IsNested n (length d.z) d.up → (k : ℕ) → k < length d.z → tally n d.up n k k ≡ set_size n d k
+pub tally_size : (n : ℕ) (d : DualLists) → AreNestedSets n (length d.z) d.up → (k : ℕ) → k < length d.z → tally n d.up n k k ≡ set_size n d k
 tally_size n d nested k l = count_below_same _ _ n (λ v lv. ap (λ b. cond b 1 0) (climb_stands n (length d.z) d.up nested k (slice_index d.up v) (entry_low n (length d.z) d.up nested v lv) l))
 
 -- Tallies are no greater than the number of vertices.
@@ -99,7 +99,7 @@ length_with sizes zero more = refl
 length_with sizes (suc q) more = length-set sizes q (slice_index sizes q + more)
 
 -- One set more has passed on what it holds.
-pub tallies_pass : (n m : ℕ) (up : List ℕ) → IsNested n m up → (k : ℕ) (sizes : List ℕ) → k < m → AreTallies n m up n (λ j. min j k) sizes → AreTallies n m up n (λ j. min j (k + 1)) (tally_with sizes (slice_index up (n + k)) (slice_index sizes k))
+pub tallies_pass : (n m : ℕ) (up : List ℕ) → AreNestedSets n m up → (k : ℕ) (sizes : List ℕ) → k < m → AreTallies n m up n (λ j. min j k) sizes → AreTallies n m up n (λ j. min j (k + 1)) (tally_with sizes (slice_index up (n + k)) (slice_index sizes k))
 tallies_pass n m up nested k sizes lk are = record { count = length_with sizes (slice_index up (n + k)) (slice_index sizes k) ∙ are.count; each = λ j l. by_order j l (cases_lt k j) }
   where
     unmoved : (j : ℕ) → (slice_index up (n + k) ≡ suc j → ⊥) → (entry : ℕ) → slice_index up (n + k) ≡ entry → slice_index (tally_with sizes entry (slice_index sizes k)) j ≡ slice_index sizes j
@@ -140,5 +140,5 @@ tallies_pass n m up nested k sizes lk are = record { count = length_with sizes (
         unmoved j (λ e. omega arith) (slice_index up (n + k)) refl ∙ (are.each j l ∙ same)
 
 -- When all sets have passed on, the tallies are the sizes.
-pub tallies_end : (n : ℕ) (d : DualLists) → IsNested n (length d.z) d.up → (t : ℕ) (sizes : List ℕ) → length d.z ≤ t → AreTallies n (length d.z) d.up n (λ j. min j t) sizes → AreSizes n d sizes
+pub tallies_end : (n : ℕ) (d : DualLists) → AreNestedSets n (length d.z) d.up → (t : ℕ) (sizes : List ℕ) → length d.z ≤ t → AreTallies n (length d.z) d.up n (λ j. min j t) sizes → AreSizes n d sizes
 tallies_end n d nested t sizes high are = record { count = are.count; each = λ k l. let is : min k t ≡ k = omega arith in are.each k l ∙ (ap (λ i. tally n d.up n i k) is ∙ tally_size n d nested k l) }

@@ -10,16 +10,16 @@ use Rattle.qm_dual.proofs.Entries.{total_entries}
 use Rattle.sum_laws.proofs.Sums.{total_sum, total_below_le, two_orders}
 use Rattle.def_matching.specs.declared.weighted.WEdge.{WEdge}
 use Rattle.def_math.specs.Increasing.{IsIncreasing}
-use Rattle.def_matching.specs.Matching.{Graph, IsGraph, edge_at, ends_at, IsPerfect, matching_cost}
+use Rattle.def_matching.specs.Matching.{WeightedGraph, IsGraph, edge_at, ends_at, IsPerfect, matching_cost}
 use Rattle.def_matching.specs.Dual.{DualLists, SaysYes, holds, set_size, is_odd_size, crosses, load, y_at, z_at, dual_sum}
 
 -- The edges of increasing numbers have their ends among the vertices.
-pub chosen_below : (g : Graph) → IsGraph g → (low : ℕ) (m : List ℕ) → IsIncreasing low (length g.edges) m → EndsBelow (λ (e : WEdge). e.u) (λ (e : WEdge). e.v) g.n (map (edge_at g) m)
+pub chosen_below : (g : WeightedGraph) → IsGraph g → (low : ℕ) (m : List ℕ) → IsIncreasing low (length g.edges) m → EndsBelow (λ (e : WEdge). e.u) (λ (e : WEdge). e.v) g.n (map (edge_at g) m)
 chosen_below g is low [] increasing = tt
 chosen_below g is low (k ∷ ks) increasing = (is.left k increasing.1, is.right k increasing.1, chosen_below g is (k + 1) ks increasing.2)
 
 -- No load of the chosen edges is above twice the cost, and so their sum is not.
-pub loads_low : (g : Graph) (d : DualLists) → SaysYes g d → (low : ℕ) (m : List ℕ) → IsIncreasing low (length g.edges) m → total (load g.n d) (map (edge_at g) m) ≤ℤ (pos 2 *ℤ matching_cost g m)
+pub loads_low : (g : WeightedGraph) (d : DualLists) → SaysYes g d → (low : ℕ) (m : List ℕ) → IsIncreasing low (length g.edges) m → total (load g.n d) (map (edge_at g) m) ≤ℤ (pos 2 *ℤ matching_cost g m)
 loads_low g d says low [] increasing = omega (arith, ints)
 loads_low g d says low (k ∷ ks) increasing = omega (arith, ints, says.loaded k increasing.1, loads_low g d says (k + 1) ks increasing.2)
 
@@ -59,7 +59,7 @@ odd_leaves s n es below once odd =
 pub odd_size : (size : ℕ) → is_odd_size size ≡ true → size % 2 ≡ 1
 odd_size size on = grind (arith, nat_tests)
 
-pub weak_duality : (g : Graph) (d : DualLists) → IsGraph g → SaysYes g d → (m : List ℕ) → IsPerfect g m → dual_sum d ≤ℤ (pos 2 *ℤ matching_cost g m)
+pub weak_duality : (g : WeightedGraph) (d : DualLists) → IsGraph g → SaysYes g d → (m : List ℕ) → IsPerfect g m → dual_sum d ≤ℤ (pos 2 *ℤ matching_cost g m)
 weak_duality g d is says m perfect =
     let es : List WEdge = map (edge_at g) m in
     let below : EndsBelow (λ (e : WEdge). e.u) (λ (e : WEdge). e.v) g.n es = chosen_below g is 0 m perfect.increasing in

@@ -4,14 +4,14 @@ use Rattle.std.specs.Prelude.{if◌then◌else◌, List, length, ℤ, pos, slice
 use Rattle.std.specs.List.{list_any}
 use Rattle.def_math.specs.Counts.{count_below}
 use Rattle.def_math.specs.Sums.{total_below}
-use Rattle.def_matching.specs.Dual.{DualLists, IsNested, sets_from, set_size, z_at}
+use Rattle.def_matching.specs.Dual.{DualLists, AreNestedSets, sets_from, set_size, z_at}
 use Rattle.def_matching.specs.declared.limits.TheConstants.{MAX_SETS, MAX_VERTICES}
 
 -- Few vertices and few sets, which are nested.
 pub record IsNest (n : ℕ) (d : DualLists) : Type 0 where
   pub few : n ≤ MAX_VERTICES
   pub sets : length d.z ≤ MAX_SETS
-  pub nested : IsNested n (length d.z) d.up
+  pub nested : AreNestedSets n (length d.z) d.up
 
 -- A climb from an entry passes set k within so many steps: it is one of the sets that the entry names.
 abbrev pub climbs : (n : ℕ) (up : List ℕ) (steps k entry : ℕ) → Bool

@@ -5,8 +5,8 @@ use Rattle.std.proofs.lemmas.List.{get_or_append_left, get_or-append_right, leng
 use Rattle.def_math.specs.Counts.{count, count_below}
 use Rattle.def_math.specs.Increasing.{IsIncreasing}
 use Rattle.sum_laws.proofs.Counts.{count_append, count_below_none, count_below_same}
-use Rattle.def_matching.specs.Matching.{Graph, IsSmallGraph, edge_at, ends_at}
-use Rattle.def_forest.specs.Forests.{number, splits}
+use Rattle.def_matching.specs.Matching.{WeightedGraph, IsSmallGraph, edge_at, ends_at}
+use Rattle.def_forest.specs.Forests.{bool_number, splits}
 use Rattle.def_forest.specs.Tables.{ForestTables, forest_of, MatchesBut}
 use Rattle.forest_laws.proofs.Bounds.{leaves_vertex}
 use Rattle.forest_laws.proofs.Graphs.{dart_near, near_odd}
@@ -53,7 +53,7 @@ marked_same marks e xs off are = record {
 -- Nothing is chosen, and nothing waits.
 pub round_begins : (t : ForestTables) (marks : List Bool) (left : List (Option ℕ)) (m size : ℕ) (rest : ℕ → ℕ) → marks ≡ replicate m false → left ≡ replicate size None → ((v : ℕ) → v < length t.hand → rest v ≤ 1) → IsRound t marks left rest rest
 round_begins t marks left m size rest marks_is left_is once = record {
-  each = λ b l. (let none : leaving t marks b ≡ 0 = count_below_none (λ e. number (get_or marks e false && splits ((forest_of t).holds b) (near_at t (2 * e)) (near_at t (2 * e + 1)))) (length marks) (λ e le. ap (λ (s : Bool). number (s && splits ((forest_of t).holds b) (near_at t (2 * e)) (near_at t (2 * e + 1)))) (same_everywhere marks m false marks_is e)) in
+  each = λ b l. (let none : leaving t marks b ≡ 0 = count_below_none (λ e. bool_number (get_or marks e false && splits ((forest_of t).holds b) (near_at t (2 * e)) (near_at t (2 * e + 1)))) (length marks) (λ e le. ap (λ (s : Bool). bool_number (s && splits ((forest_of t).holds b) (near_at t (2 * e)) (near_at t (2 * e + 1)))) (same_everywhere marks m false marks_is e)) in
       let calm : waiting t left b ≡ 0 = count_below_none (λ c. waits_for t b c (get_or left c None)) (length left) (λ c lc. ap (waits_for t b c) (same_everywhere left size None left_is c)) in
       omega (arith, none, calm));
   entry = λ c v is. (let clash : ◌≡◌ {A = Option ℕ} None (Some v) = sym (same_everywhere left size None left_is c) ∙ is in absurd (cc clash));
@@ -93,7 +93,7 @@ pub count_map : {X : Type 0} (f : X → ℕ) (h : ℕ → X) (xs : List ℕ) →
 count_map f h [] = refl
 count_map f h (x ∷ xs) = ap (λ m. f (h x) + m) (count_map f h xs)
 
-module _ (t : ForestTables) (known : IsLaminar t) (g : Graph) (is : IsSmallGraph g) (valid : IsSoundFor g t) (marks : List Bool) (size : length t.near ≡ 2 * length marks) (list : List ℕ) (are : AreMarked marks (length marks) list) where
+module _ (t : ForestTables) (known : IsLaminar t) (g : WeightedGraph) (is : IsSmallGraph g) (valid : IsSoundFor g t) (marks : List Bool) (size : length t.near ≡ 2 * length marks) (list : List ℕ) (are : AreMarked marks (length marks) list) where
   pub edges_is : length marks ≡ length g.edges
   edges_is = omega (arith, size, valid.darts)
 
@@ -101,14 +101,14 @@ module _ (t : ForestTables) (known : IsLaminar t) (g : Graph) (is : IsSmallGraph
   sides e l = (valid.ends (2 * e) (omega (arith, l, edges_is)) ∙ dart_near g e, valid.ends (2 * e + 1) (omega (arith, l, edges_is)) ∙ near_odd g (2 * e + 1) e refl)
 
   -- Edges that leave a blossom, along the list.
-  pub leaving_listed : (b : ℕ) → leaving t marks b ≡ count (λ e. number (splits ((forest_of t).holds b) (edge_at g e).u (edge_at g e).v)) list
+  pub leaving_listed : (b : ℕ) → leaving t marks b ≡ count (λ e. bool_number (splits ((forest_of t).holds b) (edge_at g e).u (edge_at g e).v)) list
   leaving_listed b =
-      count_below_same (λ e. number (get_or marks e false && splits ((forest_of t).holds b) (near_at t (2 * e)) (near_at t (2 * e + 1)))) (λ e. cond (get_or marks e false) (number (splits ((forest_of t).holds b) (edge_at g e).u (edge_at g e).v)) 0) (length marks) (λ e l. each e l (get_or marks e false))
-      ∙ sym (are.counts (λ e. number (splits ((forest_of t).holds b) (edge_at g e).u (edge_at g e).v)))
+      count_below_same (λ e. bool_number (get_or marks e false && splits ((forest_of t).holds b) (near_at t (2 * e)) (near_at t (2 * e + 1)))) (λ e. cond (get_or marks e false) (bool_number (splits ((forest_of t).holds b) (edge_at g e).u (edge_at g e).v)) 0) (length marks) (λ e l. each e l (get_or marks e false))
+      ∙ sym (are.counts (λ e. bool_number (splits ((forest_of t).holds b) (edge_at g e).u (edge_at g e).v)))
     where
-      each : (e : ℕ) → e < length marks → (s : Bool) → number (s && splits ((forest_of t).holds b) (near_at t (2 * e)) (near_at t (2 * e + 1))) ≡ cond s (number (splits ((forest_of t).holds b) (edge_at g e).u (edge_at g e).v)) 0
+      each : (e : ℕ) → e < length marks → (s : Bool) → bool_number (s && splits ((forest_of t).holds b) (near_at t (2 * e)) (near_at t (2 * e + 1))) ≡ cond s (bool_number (splits ((forest_of t).holds b) (edge_at g e).u (edge_at g e).v)) 0
       each e l false = refl
-      each e l true = ap (λ u. number (splits ((forest_of t).holds b) u (near_at t (2 * e + 1)))) (sides e l).0 ∙ ap (λ v. number (splits ((forest_of t).holds b) (edge_at g e).u v)) (sides e l).1
+      each e l true = ap (λ u. bool_number (splits ((forest_of t).holds b) u (near_at t (2 * e + 1)))) (sides e l).0 ∙ ap (λ v. bool_number (splits ((forest_of t).holds b) (edge_at g e).u v)) (sides e l).1
 
   -- A vertex is met as often as it is left.
   pub met_as_left : (w : ℕ) → w < length t.hand → count (ends_at w) (map (edge_at g) list) ≡ leaving t marks w
@@ -117,11 +117,11 @@ module _ (t : ForestTables) (known : IsLaminar t) (g : Graph) (is : IsSmallGraph
       increasing : IsIncreasing 0 (length g.edges) list
       increasing = subst (λ m. IsIncreasing 0 m list) edges_is are.increasing
 
-      counted : (low : ℕ) (xs : List ℕ) → IsIncreasing low (length g.edges) xs → count (λ e. number (splits ((forest_of t).holds w) (edge_at g e).u (edge_at g e).v)) xs ≡ count (λ e. ends_at w (edge_at g e)) xs
+      counted : (low : ℕ) (xs : List ℕ) → IsIncreasing low (length g.edges) xs → count (λ e. bool_number (splits ((forest_of t).holds w) (edge_at g e).u (edge_at g e).v)) xs ≡ count (λ e. ends_at w (edge_at g e)) xs
       counted low [] r = refl
       counted low (x ∷ xs) r =
-          let here : number (splits ((forest_of t).holds w) (edge_at g x).u (edge_at g x).v) ≡ ends_at w (edge_at g x) = leaves_vertex g is.lawful (forest_of t) (subst (λ m. m ≤ length t.up) valid.vertices known.vertices) valid.valid.nested w x (subst (λ m. w < m) valid.vertices lw) r.1 in
-          let rest : count (λ e. number (splits ((forest_of t).holds w) (edge_at g e).u (edge_at g e).v)) xs ≡ count (λ e. ends_at w (edge_at g e)) xs = counted (x + 1) xs r.2 in
+          let here : bool_number (splits ((forest_of t).holds w) (edge_at g x).u (edge_at g x).v) ≡ ends_at w (edge_at g x) = leaves_vertex g is.lawful (forest_of t) (subst (λ m. m ≤ length t.up) valid.vertices known.vertices) valid.valid.nested w x (subst (λ m. w < m) valid.vertices lw) r.1 in
+          let rest : count (λ e. bool_number (splits ((forest_of t).holds w) (edge_at g e).u (edge_at g e).v)) xs ≡ count (λ e. ends_at w (edge_at g e)) xs = counted (x + 1) xs r.2 in
           omega (arith, here, rest)
 
   -- The edges match all vertices of a blossom but one.

@@ -3,10 +3,10 @@ use Rattle.std.proofs.Common.{◌≡◌, ◌≢◌, ℕ, ◌+◌, ◌*◌, ◌<�
 use Rattle.std.specs.Prelude.{int_lt}
 use Rattle.std.proofs.lemmas.Int.{ints}
 use Rattle.std.proofs.lemmas.Bool.{cases_Bool, cond-true, cond-false, eq-eqb}
-use Rattle.def_matching.specs.Matching.{IsSmallGraph, Graph, edge_at}
-use Rattle.def_forest.specs.Darts.{darts_of, twin_of, far}
-use Rattle.def_forest.specs.Forests.{Forest, load, IsTight}
-use Rattle.def_forest.specs.Tables.{kind_of, kind_by, slack_of, outer_dart, dart_by}
+use Rattle.def_matching.specs.Matching.{IsSmallGraph, WeightedGraph, edge_at}
+use Rattle.def_forest.specs.Darts.{darts_of, other_dart, far}
+use Rattle.def_forest.specs.Forests.{Forest, weight_between, IsTight}
+use Rattle.def_forest.specs.Tables.{edge_kind, kind_by, slack_of, outer_dart, dart_by}
 use Rattle.def_forest.specs.Valid.{IsFeasible}
 use Rattle.def_forest.specs.declared.kinds.Label.{Label}
 use Rattle.def_forest.specs.declared.kinds.Label.TheVariants.{Outer, Inner, Outside}
@@ -19,7 +19,7 @@ use Rattle.forest_laws.proofs.Graphs.{are_darts, twin_even, dart_near, dart_far,
 not_loose : (x : ℤ) → int_lt (pos 0) x ≡ false → x ≤ℤ pos 0
 not_loose x e = grind (arith, ints)
 
-module _ (g : Graph) (is : IsSmallGraph g) (f : Forest) (feasible : IsFeasible (darts_of g) f) (e : ℕ) (low : e < length g.edges) where
+module _ (g : WeightedGraph) (is : IsSmallGraph g) (f : Forest) (feasible : IsFeasible (darts_of g) f) (e : ℕ) (low : e < length g.edges) where
   abbrev first : ℕ
   first = 2 * e
 
@@ -29,14 +29,14 @@ module _ (g : Graph) (is : IsSmallGraph g) (f : Forest) (feasible : IsFeasible (
   -- An edge that is not loose is tight, and its kind goes by the labels.
   not_loose_tight : int_lt (pos 0) (slack_of g f e) ≡ false → IsTight (darts_of g) f first
   not_loose_tight off =
-      let low_load : load f ((darts_of g).near first) (far (darts_of g) first) ≤ℤ ((darts_of g).cost first +ℤ (darts_of g).cost first) = feasible.darts first (omega arith) in
-      let same : load f ((darts_of g).near first) (far (darts_of g) first) ≡ load f (edge_at g e).u (edge_at g e).v = ap (λ u. load f u (far (darts_of g) first)) (dart_near g e) ∙ ap (load f (edge_at g e).u) (dart_far g e) in
+      let low_load : weight_between f ((darts_of g).near first) (far (darts_of g) first) ≤ℤ ((darts_of g).cost first +ℤ (darts_of g).cost first) = feasible.darts first (omega arith) in
+      let same : weight_between f ((darts_of g).near first) (far (darts_of g) first) ≡ weight_between f (edge_at g e).u (edge_at g e).v = ap (λ u. weight_between f u (far (darts_of g) first)) (dart_near g e) ∙ ap (weight_between f (edge_at g e).u) (dart_far g e) in
       let cost : (darts_of g).cost first ≡ (edge_at g e).cost = dart_cost g e in
-      let slack : ((pos 2 *ℤ (edge_at g e).cost) -ℤ load f (edge_at g e).u (edge_at g e).v) ≤ℤ pos 0 = not_loose (slack_of g f e) off in
+      let slack : ((pos 2 *ℤ (edge_at g e).cost) -ℤ weight_between f (edge_at g e).u (edge_at g e).v) ≤ℤ pos 0 = not_loose (slack_of g f e) off in
       record { low = omega arith; exact = omega (arith, ints, low_load, same, cost, slack) }
 
   -- A kind other than loose.
-  pub tight_kind : (k : EdgeKind) → k ≢ Loose → kind_of g f e ≡ k → IsTight (darts_of g) f first × (by_labels ≡ k)
+  pub tight_kind : (k : EdgeKind) → k ≢ Loose → edge_kind g f e ≡ k → IsTight (darts_of g) f first × (by_labels ≡ k)
   tight_kind k ne is_k = by_test (cases_Bool (int_lt (pos 0) (slack_of g f e)))
     where
       by_test : (int_lt (pos 0) (slack_of g f e) ≡ true) ⊎ (int_lt (pos 0) (slack_of g f e) ≡ false) → IsTight (darts_of g) f first × (by_labels ≡ k)
@@ -49,7 +49,7 @@ module _ (g : Graph) (is : IsSmallGraph g) (f : Forest) (feasible : IsFeasible (
 
   from_v : IsTight (darts_of g) f first → f.label (f.out (edge_at g e).u) ≡ Outside → f.label (f.out (edge_at g e).v) ≡ Outer → Reaches (darts_of g) f (2 * e + 1)
   from_v tight lu lv =
-      let d : twin_of (2 * e) ≡ 2 * e + 1 = twin_even (2 * e) (omega arith) in
+      let d : other_dart (2 * e) ≡ 2 * e + 1 = twin_even (2 * e) (omega arith) in
       subst (λ x. Reaches (darts_of g) f x) d (record {
         tight = tight_twin (darts_of g) (are_darts g is.lawful) f (2 * e) tight;
         outer = ap (λ v. f.label (f.out v)) (dart_far g e) ∙ lv;
@@ -102,7 +102,7 @@ module _ (g : Graph) (is : IsSmallGraph g) (f : Forest) (feasible : IsFeasible (
   augment_labels Outside Outside ma mb same k = absurd (cc k)
 
   -- An edge by which the tree grows.
-  pub grows : kind_of g f e ≡ Grow → Leads true
+  pub grows : edge_kind g f e ≡ Grow → Leads true
   grows k = by_tight (tight_kind Grow (λ x. absurd (cc x)) k)
     where
       by_case : IsTight (darts_of g) f first → ((f.label (f.out (edge_at g e).u) ≡ Outer) × (f.label (f.out (edge_at g e).v) ≡ Outside) × (is_some (f.mate (f.out (edge_at g e).v)) ≡ true)) ⊎ ((f.label (f.out (edge_at g e).u) ≡ Outside) × (f.label (f.out (edge_at g e).v) ≡ Outer) × (is_some (f.mate (f.out (edge_at g e).u)) ≡ true)) → Leads true
@@ -113,7 +113,7 @@ module _ (g : Graph) (is : IsSmallGraph g) (f : Forest) (feasible : IsFeasible (
       by_tight p = by_case p.0 (grow_labels (f.label (f.out (edge_at g e).u)) (f.label (f.out (edge_at g e).v)) (f.mate (f.out (edge_at g e).u)) (f.mate (f.out (edge_at g e).v)) (eqb (f.out (edge_at g e).u) (f.out (edge_at g e).v)) p.1)
 
   -- An edge by which the matching grows.
-  pub augments : kind_of g f e ≡ Augment → Leads false
+  pub augments : edge_kind g f e ≡ Augment → Leads false
   augments k = by_tight (tight_kind Augment (λ x. absurd (cc x)) k)
     where
       by_case : IsTight (darts_of g) f first → ((f.label (f.out (edge_at g e).u) ≡ Outer) × (f.label (f.out (edge_at g e).v) ≡ Outside) × (is_some (f.mate (f.out (edge_at g e).v)) ≡ false)) ⊎ ((f.label (f.out (edge_at g e).u) ≡ Outside) × (f.label (f.out (edge_at g e).v) ≡ Outer) × (is_some (f.mate (f.out (edge_at g e).u)) ≡ false)) → Leads false
@@ -148,7 +148,7 @@ module _ (g : Graph) (is : IsSmallGraph g) (f : Forest) (feasible : IsFeasible (
     pub outer_far : f.label (f.out (far (darts_of g) (2 * e))) ≡ Outer
     pub apart : f.out ((darts_of g).near (2 * e)) ≢ f.out (far (darts_of g) (2 * e))
 
-  pub shrinks : kind_of g f e ≡ Shrink → IsClosing
+  pub shrinks : edge_kind g f e ≡ Shrink → IsClosing
   shrinks k = by_tight (tight_kind Shrink (λ x. absurd (cc x)) k)
     where
       by_labels_of : IsTight (darts_of g) f first → (f.label (f.out (edge_at g e).u) ≡ Outer) × (f.label (f.out (edge_at g e).v) ≡ Outer) × (eqb (f.out (edge_at g e).u) (f.out (edge_at g e).v) ≡ false) → IsClosing

@@ -5,11 +5,11 @@ use Rattle.std.proofs.lemmas.Bool.{cases_eq, cases_lt}
 use Rattle.def_math.specs.Increasing.{IsIncreasing}
 use Rattle.def_math.specs.Sums.{total}
 use Rattle.sum_laws.proofs.Sums.{total_below_same, two_orders}
-use Rattle.def_matching.specs.Matching.{Graph, IsSmallGraph, IsPerfect, edge_at, matching_cost}
+use Rattle.def_matching.specs.Matching.{WeightedGraph, IsSmallGraph, IsPerfect, edge_at, matching_cost}
 use Rattle.def_matching.specs.Dual.{crosses}
 use Rattle.def_matching.specs.declared.weighted.WEdge.{WEdge}
 use Rattle.def_forest.specs.Darts.{darts_of}
-use Rattle.def_forest.specs.Forests.{Forest, IsTight, dual_sum_of, load}
+use Rattle.def_forest.specs.Forests.{Forest, IsTight, dual_sum_of, weight_between}
 use Rattle.def_forest.specs.Tables.{ForestTables, forest_of}
 use Rattle.forest_laws.proofs.Bounds.{just_once}
 use Rattle.forest_laws.proofs.Graphs.{dart_near, dart_far, dart_cost}
@@ -28,14 +28,14 @@ none_added s z (e ∷ es) zero' = omega (arith, ints, none_added s z es zero', b
     by_test false = refl
 
 -- The loads of tight edges are twice their costs.
-loads_exact : (g : Graph) (f : Forest) (xs : List ℕ) → ((k : ℕ) → k < length xs → IsTight (darts_of g) f (2 * get_or xs k 0)) → total (λ (e : WEdge). load f e.u e.v) (map (edge_at g) xs) ≡ pos 2 *ℤ matching_cost g xs
+loads_exact : (g : WeightedGraph) (f : Forest) (xs : List ℕ) → ((k : ℕ) → k < length xs → IsTight (darts_of g) f (2 * get_or xs k 0)) → total (λ (e : WEdge). weight_between f e.u e.v) (map (edge_at g) xs) ≡ pos 2 *ℤ matching_cost g xs
 loads_exact g f [] tight = omega (arith, ints)
 loads_exact g f (x ∷ xs) tight =
-    let rest : total (λ (e : WEdge). load f e.u e.v) (map (edge_at g) xs) ≡ pos 2 *ℤ matching_cost g xs = loads_exact g f xs (λ k l. tight (suc k) (omega (arith, l))) in
-    let here : load f (edge_at g x).u (edge_at g x).v ≡ (edge_at g x).cost +ℤ (edge_at g x).cost = ap (λ u. load f u (edge_at g x).v) (sym (dart_near g x)) ∙ (ap (λ v. load f ((darts_of g).near (2 * x)) v) (sym (dart_far g x)) ∙ ((tight 0 (omega arith)).exact ∙ ap (λ (c : ℤ). c +ℤ c) (dart_cost g x))) in
+    let rest : total (λ (e : WEdge). weight_between f e.u e.v) (map (edge_at g) xs) ≡ pos 2 *ℤ matching_cost g xs = loads_exact g f xs (λ k l. tight (suc k) (omega (arith, l))) in
+    let here : weight_between f (edge_at g x).u (edge_at g x).v ≡ (edge_at g x).cost +ℤ (edge_at g x).cost = ap (λ u. weight_between f u (edge_at g x).v) (sym (dart_near g x)) ∙ (ap (λ v. weight_between f ((darts_of g).near (2 * x)) v) (sym (dart_far g x)) ∙ ((tight 0 (omega arith)).exact ∙ ap (λ (c : ℤ). c +ℤ c) (dart_cost g x))) in
     omega (arith, ints, rest, here)
 
-module _ (t : ForestTables) (known : IsLaminar t) (g : Graph) (is : IsSmallGraph g) (valid : IsSoundFor g t) (marks : List Bool) (size : length t.near ≡ 2 * length marks) (list : List ℕ) (are : AreMarked marks (length marks) list)
+module _ (t : ForestTables) (known : IsLaminar t) (g : WeightedGraph) (is : IsSmallGraph g) (valid : IsSoundFor g t) (marks : List Bool) (size : length t.near ≡ 2 * length marks) (list : List ℕ) (are : AreMarked marks (length marks) list)
     (left : List (Option ℕ)) (round : IsRound t marks left (λ b. 0) (matched_by t (length marks))) (ended : (c : ℕ) → get_or left c None ≡ None)
     (matched : (v : ℕ) → v < g.n → (forest_of t).mate ((forest_of t).out v) ≢ None) where
   abbrev f : Forest

@@ -1,6 +1,6 @@
 -- Expanding, step by step: what each of its calls needs, and the forest after all of them.
 use Rattle.std.proofs.Common.{◌≡◌, ◌≢◌, ℕ, ◌+◌, ◌*◌, ◌<◌, ◌≤◌, ◌^◌, ◌-◌, ◌%◌, Bool, true, false, length, pos, Option, Some, None, ◌⊎◌, refl, sym, ◌∙◌, ap, subst, inl, inr, arith}
-use Rattle.def_matching.specs.Matching.{Graph, IsSmallGraph}
+use Rattle.def_matching.specs.Matching.{WeightedGraph, IsSmallGraph}
 use Rattle.def_forest.specs.Darts.{Darts, darts_of}
 use Rattle.def_forest.specs.Forests.{Forest, walk}
 use Rattle.def_forest.specs.Opened.{IsExpanding}
@@ -19,7 +19,7 @@ use Rattle.qm_forest.proofs.OnWays.{darts_kept, ends_kept, room_kept}
 use Rattle.qm_forest.proofs.Openeds.{expanding}
 use Rattle.qm_forest.proofs.Openings.{IsJoined, are, inside as the_inside, in_tree, joined, mate_is, part_low, ring_from, first_in, last_in, tree_is}
 
-module _ (g : Graph) (is : IsSmallGraph g) (t0 : ForestTables) (valid : IsValidFor g t0) (b : ℕ) (high : g.n ≤ b) (inner : (forest_of t0).label b ≡ Inner) (weightless : (forest_of t0).weight b ≡ pos 0) where
+module _ (g : WeightedGraph) (is : IsSmallGraph g) (t0 : ForestTables) (valid : IsValidFor g t0) (b : ℕ) (high : g.n ≤ b) (inner : (forest_of t0).label b ≡ Inner) (weightless : (forest_of t0).weight b ≡ pos 0) where
   abbrev d : Darts
   d = darts_of g
 

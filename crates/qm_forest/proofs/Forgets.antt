@@ -6,7 +6,7 @@ use Rattle.std.proofs.lemmas.Bool.{cases_Bool}
 use Rattle.std.proofs.lemmas.List.Sums.{sum_by-cons}
 use Rattle.sum_laws.proofs.Sums.{total_below_same}
 use Rattle.def_forest.specs.Forests.{dual_sum_of}
-use Rattle.def_forest.specs.Steps.{change}
+use Rattle.def_forest.specs.Steps.{weight_change}
 use Rattle.def_forest.specs.Tables.{ForestTables, forest_of, label_at, out_of}
 use Rattle.def_forest.specs.declared.kinds.Label.{Label}
 use Rattle.def_forest.specs.declared.kinds.Label.TheVariants.{Outside}
@@ -39,8 +39,8 @@ module _ (t : ForestTables) (hid : HiddenTables) (tied : AreTied t hid) (outside
   none_marked : (v : ℕ) → get_or marks v false ≡ false
   none_marked v = elim (cases_Bool (get_or marks v false)) [ inl on ↦ (let w : IsOnTrail t.trail v = tied.trail.marked v (old v on) in subst (λ u. get_or marks u false ≡ false) w.2 (gone w.0 w.1)) | inr off ↦ off ]
 
-  change_none : (b : ℕ) (d : ℤ) → change (label_at t.label b) d ≡ pos 0
-  change_none b d = ap (λ (l : Label). change l d) (all_outside b)
+  change_none : (b : ℕ) (d : ℤ) → weight_change (label_at t.label b) d ≡ pos 0
+  change_none b d = ap (λ (l : Label). weight_change l d) (all_outside b)
 
   weight_same : (b : ℕ) → (forest_of forgotten).weight b ≡ (forest_of t).weight b
   weight_same b = ap (λ (x : ℤ). get_or t.base b (pos 0) +ℤ x) (change_none b (pos 0) ∙ sym (change_none b t.delta))

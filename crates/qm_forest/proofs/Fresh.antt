@@ -8,10 +8,10 @@ use Rattle.std.proofs.lemmas.Bool.{cases_eq, cases_lt, cond-true, cond-false, eq
 use Rattle.sum_laws.proofs.Sums.{total_below_one}
 use Rattle.def_math.specs.Counts.{count_below}
 use Rattle.sum_laws.proofs.Counts.{count_below_none}
-use Rattle.def_matching.specs.Matching.{Graph, IsGraph, edge_at}
+use Rattle.def_matching.specs.Matching.{WeightedGraph, IsGraph, edge_at}
 use Rattle.def_forest.specs.Darts.{darts_of, far}
-use Rattle.def_forest.specs.Forests.{walk, live_at, load, dual_sum_of}
-use Rattle.def_forest.specs.Steps.{change}
+use Rattle.def_forest.specs.Forests.{walk, live_at, weight_between, dual_sum_of}
+use Rattle.def_forest.specs.Steps.{weight_change}
 use Rattle.def_forest.specs.Tables.{size_of, ForestTables, forest_of, up_at, label_at, out_of, climbs, IsValidFor}
 use Rattle.def_forest.specs.Valid.{AreOutermost, IsNested, IsFeasible}
 use Rattle.def_forest.specs.declared.kinds.Label.{Label}
@@ -76,8 +76,8 @@ module _ (n size : ℕ) (lows : List ℤ) (t : ForestTables) (hid : HiddenTables
   label_is : (b : ℕ) → label_at t.label b ≡ Outside
   label_is b = same_everywhere t.label size Outside fresh.label b
 
-  change_none : (b : ℕ) (d : ℤ) → change (label_at t.label b) d ≡ pos 0
-  change_none b d = ap (λ (l : Label). change l d) (label_is b)
+  change_none : (b : ℕ) (d : ℤ) → weight_change (label_at t.label b) d ≡ pos 0
+  change_none b d = ap (λ (l : Label). weight_change l d) (label_is b)
 
   weight_is : (b : ℕ) → (forest_of t).weight b ≡ get_or lows b (pos 0)
   weight_is b = omega (arith, ints, fresh.base b, change_none b t.delta)
@@ -208,7 +208,7 @@ module _ (n size : ℕ) (lows : List ℤ) (t : ForestTables) (hid : HiddenTables
     };
   }
 
-  module _ (g : Graph) (is : IsGraph g) (n_is : n ≡ g.n) (costs : AreFeasible g lows) where
+  module _ (g : WeightedGraph) (is : IsGraph g) (n_is : n ≡ g.n) (costs : AreFeasible g lows) where
     up_to : (v : ℕ) → v < g.n → v < n
     up_to v l = subst (λ m. v < m) (sym n_is) l
 
@@ -236,7 +236,7 @@ module _ (n size : ℕ) (lows : List ℤ) (t : ForestTables) (hid : HiddenTables
     }
 
     -- No load between two vertices is above twice the cost of an edge between them.
-    feasible_dart : (u v : ℕ) (c : ℤ) → u < g.n → v < g.n → u ≢ v → (get_or lows u (pos 0) +ℤ get_or lows v (pos 0)) ≤ℤ (pos 2 *ℤ c) → load (forest_of t) u v ≤ℤ (c +ℤ c)
+    feasible_dart : (u v : ℕ) (c : ℤ) → u < g.n → v < g.n → u ≢ v → (get_or lows u (pos 0) +ℤ get_or lows v (pos 0)) ≤ℤ (pos 2 *ℤ c) → weight_between (forest_of t) u v ≤ℤ (c +ℤ c)
     feasible_dart u v c lu lv ne h = omega (arith, ints, load_across g.n (forest_of t) outermost u v lu lv (λ e. ne (sym (outs u lu) ∙ (e ∙ outs v lv))), potential_is u (up_to u lu), potential_is v (up_to v lv))
 
     feasible : IsFeasible (darts_of g) (forest_of t)
@@ -246,10 +246,10 @@ module _ (n size : ℕ) (lows : List ℤ) (t : ForestTables) (hid : HiddenTables
     }
       where
         at : (d u v : ℕ) → d / 2 < length g.edges → (darts_of g).near d ≡ u → far (darts_of g) d ≡ v → u < g.n → v < g.n → u ≢ v → (get_or lows u (pos 0) +ℤ get_or lows v (pos 0)) ≤ℤ (pos 2 *ℤ (edge_at g (d / 2)).cost)
-            → load (forest_of t) ((darts_of g).near d) (far (darts_of g) d) ≤ℤ ((edge_at g (d / 2)).cost +ℤ (edge_at g (d / 2)).cost)
-        at d u v l eu ev lu lv ne h = subst (λ k. load (forest_of t) k (far (darts_of g) d) ≤ℤ ((edge_at g (d / 2)).cost +ℤ (edge_at g (d / 2)).cost)) (sym eu) (subst (λ k. load (forest_of t) u k ≤ℤ ((edge_at g (d / 2)).cost +ℤ (edge_at g (d / 2)).cost)) (sym ev) (feasible_dart u v (edge_at g (d / 2)).cost lu lv ne h))
+            → weight_between (forest_of t) ((darts_of g).near d) (far (darts_of g) d) ≤ℤ ((edge_at g (d / 2)).cost +ℤ (edge_at g (d / 2)).cost)
+        at d u v l eu ev lu lv ne h = subst (λ k. weight_between (forest_of t) k (far (darts_of g) d) ≤ℤ ((edge_at g (d / 2)).cost +ℤ (edge_at g (d / 2)).cost)) (sym eu) (subst (λ k. weight_between (forest_of t) u k ≤ℤ ((edge_at g (d / 2)).cost +ℤ (edge_at g (d / 2)).cost)) (sym ev) (feasible_dart u v (edge_at g (d / 2)).cost lu lv ne h))
 
-        by_side : (d : ℕ) → d < 2 * length g.edges → (d % 2 ≡ 0) ⊎ (d % 2 ≢ 0) → load (forest_of t) ((darts_of g).near d) (far (darts_of g) d) ≤ℤ ((edge_at g (d / 2)).cost +ℤ (edge_at g (d / 2)).cost)
+        by_side : (d : ℕ) → d < 2 * length g.edges → (d % 2 ≡ 0) ⊎ (d % 2 ≢ 0) → weight_between (forest_of t) ((darts_of g).near d) (far (darts_of g) d) ≤ℤ ((edge_at g (d / 2)).cost +ℤ (edge_at g (d / 2)).cost)
         by_side d low (inl e) =
             let l : d / 2 < length g.edges = omega arith in
             at d (edge_at g (d / 2)).u (edge_at g (d / 2)).v l (near_even g d (d / 2) (omega arith)) (ap (darts_of g).near (twin_even d e) ∙ near_odd g (d + 1) (d / 2) (omega arith)) (is.left (d / 2) l) (is.right (d / 2) l) (is.apart (d / 2) l) (costs.edges (d / 2) l)

@@ -7,7 +7,7 @@ use Rattle.std.proofs.lemmas.Int.{ints}
 use Rattle.std.proofs.lemmas.Bool.{cases_eq, cases_Bool, cond-true, cond-false}
 use Rattle.def_math.specs.Sums.{total_below}
 use Rattle.sum_laws.proofs.Sums.{total_below_same}
-use Rattle.def_forest.specs.Steps.{change}
+use Rattle.def_forest.specs.Steps.{weight_change}
 use Rattle.def_forest.specs.Tables.{ForestTables, climbs, label_at, out_of, up_at, weight_at}
 use Rattle.def_forest.specs.declared.kinds.Label.{Label}
 use Rattle.def_forest.specs.declared.kinds.Label.TheVariants.{Outside}
@@ -41,8 +41,8 @@ module _ (t : ForestTables) (hid : HiddenTables) (tied : AreTied t hid) (b handl
           ap (λ (w : ℤ). cond (climbs (up_at up2) n x v) w (pos 0)) z ∙ (by_none (climbs (up_at up2) n x v) ∙ sym (ap (λ (w : ℤ). cond (climbs (up_at t.up) n x v) w (pos 0)) z ∙ by_none (climbs (up_at t.up) n x v)))
       each x (inr ne) = ap (λ (s : Bool). cond s (weight_at t.base t.label t.delta x) (pos 0)) (holds_old x v ne l)
 
-  change_none : (x : ℕ) → label_at t.label x ≡ Outside → change (label_at t.label x) t.delta ≡ pos 0
-  change_none x e = ap (λ (l : Label). change l t.delta) e
+  change_none : (x : ℕ) → label_at t.label x ≡ Outside → weight_change (label_at t.label x) t.delta ≡ pos 0
+  change_none x e = ap (λ (l : Label). weight_change l t.delta) e
 
   told_same : (v : ℕ) → v < n → told q2 hand2 top2 hid.off t.label t.delta v ≡ told hid.q t.hand t.top hid.off t.label t.delta v
   told_same v l = by_test (cases_Bool (inside (out v)))
@@ -51,13 +51,13 @@ module _ (t : ForestTables) (hid : HiddenTables) (tied : AreTied t hid) (b handl
       by_test (inl yes') =
           let q_is : get_or q2 v (pos 0) ≡ (get_or hid.q v (pos 0) +ℤ get_or hid.off (get_or t.hand v 0) (pos 0)) -ℤ get_or hid.off handle (pos 0) = qs v l ∙ cond-true (inside (out v)) ((get_or hid.q v (pos 0) +ℤ get_or hid.off (get_or t.hand v 0) (pos 0)) -ℤ get_or hid.off handle (pos 0)) (get_or hid.q v (pos 0)) yes' in
           let off_is : get_or hid.off (get_or hand2 v 0) (pos 0) ≡ get_or hid.off handle (pos 0) = ap (λ h. get_or hid.off h (pos 0)) (hands v l ∙ cond-true (inside (out v)) handle (get_or t.hand v 0) yes') in
-          let new : change (label_at t.label (out_of hand2 top2 v)) t.delta ≡ pos 0 = ap (λ x. change (label_at t.label x) t.delta) (out_in v l yes') ∙ change_none b b_outside in
-          let was : change (label_at t.label (out v)) t.delta ≡ pos 0 = change_none (out v) (outside (out v) yes') in
+          let new : weight_change (label_at t.label (out_of hand2 top2 v)) t.delta ≡ pos 0 = ap (λ x. weight_change (label_at t.label x) t.delta) (out_in v l yes') ∙ change_none b b_outside in
+          let was : weight_change (label_at t.label (out v)) t.delta ≡ pos 0 = change_none (out v) (outside (out v) yes') in
           omega (arith, ints, q_is, off_is, new, was)
       by_test (inr off) =
           let q_is : get_or q2 v (pos 0) ≡ get_or hid.q v (pos 0) = qs v l ∙ cond-false (inside (out v)) ((get_or hid.q v (pos 0) +ℤ get_or hid.off (get_or t.hand v 0) (pos 0)) -ℤ get_or hid.off handle (pos 0)) (get_or hid.q v (pos 0)) off in
           let off_is : get_or hid.off (get_or hand2 v 0) (pos 0) ≡ get_or hid.off (get_or t.hand v 0) (pos 0) = ap (λ h. get_or hid.off h (pos 0)) (hands v l ∙ cond-false (inside (out v)) handle (get_or t.hand v 0) off) in
-          let same : change (label_at t.label (out_of hand2 top2 v)) t.delta ≡ change (label_at t.label (out v)) t.delta = ap (λ x. change (label_at t.label x) t.delta) (out_off v l off) in
+          let same : weight_change (label_at t.label (out_of hand2 top2 v)) t.delta ≡ weight_change (label_at t.label (out v)) t.delta = ap (λ x. weight_change (label_at t.label x) t.delta) (out_off v l off) in
           omega (arith, ints, q_is, off_is, same)
 
   -- What the handle of a vertex adds is what some handle added.
@@ -67,13 +67,13 @@ module _ (t : ForestTables) (hid : HiddenTables) (tied : AreTied t hid) (b handl
       by_test : (inside (out v) ≡ true) ⊎ (inside (out v) ≡ false) → pos (unsigned_abs (added hand2 top2 hid.off t.label t.delta v)) ≤ℤ (all_weights t.up t.base t.label t.delta -ℤ tied.numbers.start)
       by_test (inl yes') =
           let off_is : get_or hid.off (get_or hand2 v 0) (pos 0) ≡ get_or hid.off handle (pos 0) = ap (λ h. get_or hid.off h (pos 0)) (hands v l ∙ cond-true (inside (out v)) handle (get_or t.hand v 0) yes') in
-          let new : change (label_at t.label (out_of hand2 top2 v)) t.delta ≡ pos 0 = ap (λ x. change (label_at t.label x) t.delta) (out_in v l yes') ∙ change_none b b_outside in
+          let new : weight_change (label_at t.label (out_of hand2 top2 v)) t.delta ≡ pos 0 = ap (λ x. weight_change (label_at t.label x) t.delta) (out_in v l yes') ∙ change_none b b_outside in
           let own' : get_or hid.off (get_or t.hand handle 0) (pos 0) ≡ get_or hid.off handle (pos 0) = ap (λ h. get_or hid.off h (pos 0)) own in
-          let was : change (label_at t.label (out handle)) t.delta ≡ pos 0 = change_none (out handle) (outside (out handle) handle_in) in
+          let was : weight_change (label_at t.label (out handle)) t.delta ≡ pos 0 = change_none (out handle) (outside (out handle) handle_in) in
           omega (arith, ints, off_is, new, own', was, tied.numbers.moved handle low)
       by_test (inr off) =
           let off_is : get_or hid.off (get_or hand2 v 0) (pos 0) ≡ get_or hid.off (get_or t.hand v 0) (pos 0) = ap (λ h. get_or hid.off h (pos 0)) (hands v l ∙ cond-false (inside (out v)) handle (get_or t.hand v 0) off) in
-          let same : change (label_at t.label (out_of hand2 top2 v)) t.delta ≡ change (label_at t.label (out v)) t.delta = ap (λ x. change (label_at t.label x) t.delta) (out_off v l off) in
+          let same : weight_change (label_at t.label (out_of hand2 top2 v)) t.delta ≡ weight_change (label_at t.label (out v)) t.delta = ap (λ x. weight_change (label_at t.label x) t.delta) (out_off v l off) in
           omega (arith, ints, off_is, same, tied.numbers.moved v l)
 
   weights_new : (v : ℕ) → v < n → weights_around hand2 up2 t.base t.label t.delta v ≡ weights_around t.hand t.up t.base t.label t.delta v

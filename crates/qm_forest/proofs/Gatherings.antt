@@ -7,7 +7,7 @@ use Rattle.std.proofs.lemmas.Bool.{cases_lt}
 use Rattle.std.proofs.lemmas.List.{get_or_past}
 use Rattle.std.proofs.lemmas.Option.{slice_get_within}
 use Rattle.def_forest.specs.Forests.{Forest, walk, ring_sum}
-use Rattle.def_forest.specs.Steps.{change}
+use Rattle.def_forest.specs.Steps.{weight_change}
 use Rattle.def_forest.specs.Tables.{GraphSize, ForestTables, forest_of, climbs, label_at, out_of, up_at, IsOutermostIn}
 use Rattle.forest_laws.specs.Walks.{listed}
 use Rattle.qm_pool.specs.declared.pool.Node.{Node}
@@ -44,7 +44,7 @@ module _ (h : Handles) (l : Lists) (r : Rings) (trail : Trail) (w : Weights) (e 
   are_rings = record { after = tied.sizes.after; head = tied.sizes.head; parts = tied.sizes.parts }
 
   off_small : (v : ℕ) → v < length h.hand.items → unsigned_abs (get_or h.off.items (get_or h.hand.items v 0) (pos 0)) ≤ 2 ^ 97
-  off_small v lv = (let is : added h.hand.items h.top.items h.off.items e.label.items w.delta v ≡ get_or h.off.items (get_or h.hand.items v 0) (pos 0) +ℤ change (label_at e.label.items (out_of h.hand.items h.top.items v)) w.delta = refl in
+  off_small v lv = (let is : added h.hand.items h.top.items h.off.items e.label.items w.delta v ≡ get_or h.off.items (get_or h.hand.items v 0) (pos 0) +ℤ weight_change (label_at e.label.items (out_of h.hand.items h.top.items v)) w.delta = refl in
       omega (arith, ints, is, added_small t hid tied v lv, change_small (label_at e.label.items (out_of h.hand.items h.top.items v)) w.delta, delta_small t hid tied))
 
   pub q_small : (v : ℕ) → unsigned_abs (get_or h.q.items v (pos 0)) ≤ 2 ^ 97

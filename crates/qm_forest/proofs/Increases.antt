@@ -2,7 +2,7 @@
 use Rattle.std.proofs.Common.{◌≡◌, ◌≢◌, ℕ, suc, ◌+◌, ◌-◌, ◌*◌, ◌<◌, ◌≤◌, true, false, length, min, Option, Some, None, refl, sym, ◌∙◌, ap, subst, arith}
 use Rattle.std.specs.Prelude.{is_some}
 use Rattle.std.proofs.lemmas.Bool.{false≢true}
-use Rattle.def_matching.specs.Matching.{Graph, IsSmallGraph}
+use Rattle.def_matching.specs.Matching.{WeightedGraph, IsSmallGraph}
 use Rattle.def_forest.specs.Darts.{Darts, AreDarts, darts_of, far}
 use Rattle.def_forest.specs.Forests.{Forest, IsOutermost}
 use Rattle.def_forest.specs.Tables.{ForestTables, forest_of, IsValidFor}
@@ -18,7 +18,7 @@ use Rattle.forest_laws.proofs.Walks.{walk_sum}
 use Rattle.forest_laws.proofs.WayLaws.{some_none}
 use Rattle.qm_forest.specs.Rings.{AreOnBoth, HasClimbed}
 
-module _ (g : Graph) (is : IsSmallGraph g) (s : ForestTables) (valid : IsValidFor g s) where
+module _ (g : WeightedGraph) (is : IsSmallGraph g) (s : ForestTables) (valid : IsValidFor g s) where
   are : AreDarts (darts_of g)
   are = are_darts g is.lawful
 

@@ -3,7 +3,7 @@ use Rattle.std.proofs.Common.{◌≡◌, ◌≢◌, ℕ, zero, suc, ◌+◌, ◌
 use Rattle.std.proofs.lemmas.Bool.{cases_eq, cases_lt, eq-eqb, ne_eqb, eqb-true}
 use Rattle.def_math.specs.Counts.{count_below}
 use Rattle.sum_laws.proofs.Counts.{count_below_le, count_below_one, count_below_ones, count_below_same}
-use Rattle.def_forest.specs.Forests.{number, walk, ring_sum}
+use Rattle.def_forest.specs.Forests.{bool_number, walk, ring_sum}
 use Rattle.forest_laws.specs.Walks.{listed}
 use Rattle.forest_laws.proofs.Odds.{counts_exchanged}
 use Rattle.forest_laws.proofs.Walks.{walk_sum, listed_at, listed_place, listed_parts, listed_sum}
@@ -48,25 +48,25 @@ list_has_last n next from to many set is =
     (subst (λ x. x < n) w.2 (is.low w.0 (omega (arith, w.1))), subst (λ x. set x ≡ true) w.2 (list_member n next from to many set is w.0 (omega (arith, w.1))))
 
 -- A list as many members as it counts.
-pub list_count : (n : ℕ) (next : ℕ → ℕ) (from to many : ℕ) (set : ℕ → Bool) → IsListed n next from to many set → count_below (λ v. number (set v)) n ≡ many
+pub list_count : (n : ℕ) (next : ℕ → ℕ) (from to many : ℕ) (set : ℕ → Bool) → IsListed n next from to many set → count_below (λ v. bool_number (set v)) n ≡ many
 list_count n next from to many set is =
-    count_below_same (λ v. number (set v)) (λ v. number (listed next from many v)) n (λ v l. ap number (sym (is.all v l)))
-    ∙ (count_below_same (λ v. number (listed next from many v)) (λ v. ring_sum next (λ p. number (eqb v p)) from many) n (λ v l. listed_sum next from many v is.distinct)
-    ∙ (counts_exchanged next (λ p v. number (eqb v p)) from n many ∙ ones many (omega arith)))
+    count_below_same (λ v. bool_number (set v)) (λ v. bool_number (listed next from many v)) n (λ v l. ap bool_number (sym (is.all v l)))
+    ∙ (count_below_same (λ v. bool_number (listed next from many v)) (λ v. ring_sum next (λ p. bool_number (eqb v p)) from many) n (λ v l. listed_sum next from many v is.distinct)
+    ∙ (counts_exchanged next (λ p v. bool_number (eqb v p)) from n many ∙ ones many (omega arith)))
   where
-    one : (p : ℕ) → p < n → count_below (λ v. number (eqb v p)) n ≡ 1
-    one p l = count_below_one (λ v. number (eqb v p)) n p l (λ k lk ne. ap number (ne_eqb k p ne)) ∙ ap number (eq-eqb p p refl)
+    one : (p : ℕ) → p < n → count_below (λ v. bool_number (eqb v p)) n ≡ 1
+    one p l = count_below_one (λ v. bool_number (eqb v p)) n p l (λ k lk ne. ap bool_number (ne_eqb k p ne)) ∙ ap bool_number (eq-eqb p p refl)
 
-    ones : (k : ℕ) → k ≤ many → ring_sum next (λ p. count_below (λ v. number (eqb v p)) n) from k ≡ k
+    ones : (k : ℕ) → k ≤ many → ring_sum next (λ p. count_below (λ v. bool_number (eqb v p)) n) from k ≡ k
     ones zero l = refl
-    ones (suc k) l = (let h : ring_sum next (λ p. count_below (λ v. number (eqb v p)) n) from k ≡ k = ones k (omega (arith, l)) in let o : count_below (λ v. number (eqb v (walk next from k))) n ≡ 1 = one (walk next from k) (is.low k (omega (arith, l))) in omega (arith, h, o))
+    ones (suc k) l = (let h : ring_sum next (λ p. count_below (λ v. bool_number (eqb v p)) n) from k ≡ k = ones k (omega (arith, l)) in let o : count_below (λ v. bool_number (eqb v (walk next from k))) n ≡ 1 = one (walk next from k) (is.low k (omega (arith, l))) in omega (arith, h, o))
 
 pub list_few : (n : ℕ) (next : ℕ → ℕ) (from to many : ℕ) (set : ℕ → Bool) → IsListed n next from to many set → many ≤ n
 list_few n next from to many set is =
-    let below : count_below (λ v. number (set v)) n ≤ count_below (λ v. 1) n = count_below_le (λ v. number (set v)) (λ v. 1) n (λ k l. by_test (set k)) in
+    let below : count_below (λ v. bool_number (set v)) n ≤ count_below (λ v. 1) n = count_below_le (λ v. bool_number (set v)) (λ v. 1) n (λ k l. by_test (set k)) in
     omega (arith, list_count n next from to many set is, below, count_below_ones n)
   where
-    by_test : (s : Bool) → number s ≤ 1
+    by_test : (s : Bool) → bool_number s ≤ 1
     by_test true = omega arith
     by_test false = omega arith
 
@@ -135,21 +135,21 @@ module _ (n : ℕ) (next after first last rank : ℕ → ℕ) (front many : ℕ)
 -- The lists of a row have no more members together than there are vertices.
 module _ (n : ℕ) (next after first last rank : ℕ → ℕ) (front many : ℕ) (out : ℕ → ℕ) (distinct : (i j : ℕ) → i < j → j < many → walk after front i ≢ walk after front j)
     (each : (k : ℕ) → k < many → IsListed n next (first (walk after front k)) (last (walk after front k)) (rank (walk after front k)) (λ v. eqb (out v) (walk after front k))) where
-  counts : (k : ℕ) → k ≤ many → ring_sum after rank front k ≡ ring_sum after (λ p. count_below (λ v. number (eqb (out v) p)) n) front k
+  counts : (k : ℕ) → k ≤ many → ring_sum after rank front k ≡ ring_sum after (λ p. count_below (λ v. bool_number (eqb (out v) p)) n) front k
   counts zero l = refl
   counts (suc k) l =
-      let here : count_below (λ v. number (eqb (out v) (walk after front k))) n ≡ rank (walk after front k) = list_count n next (first (walk after front k)) (last (walk after front k)) (rank (walk after front k)) (λ v. eqb (out v) (walk after front k)) (each k (omega (arith, l))) in
+      let here : count_below (λ v. bool_number (eqb (out v) (walk after front k))) n ≡ rank (walk after front k) = list_count n next (first (walk after front k)) (last (walk after front k)) (rank (walk after front k)) (λ v. eqb (out v) (walk after front k)) (each k (omega (arith, l))) in
       omega (arith, here, counts k (omega (arith, l)))
 
   pub row_few : ring_sum after rank front many ≤ n
   row_few =
-      let swap : count_below (λ v. ring_sum after (λ p. number (eqb (out v) p)) front many) n ≡ ring_sum after (λ p. count_below (λ v. number (eqb (out v) p)) n) front many = counts_exchanged after (λ p v. number (eqb (out v) p)) front n many in
-      let below : count_below (λ v. ring_sum after (λ p. number (eqb (out v) p)) front many) n ≤ count_below (λ v. 1) n = count_below_le (λ v. ring_sum after (λ p. number (eqb (out v) p)) front many) (λ v. 1) n (λ v lv. one v) in
+      let swap : count_below (λ v. ring_sum after (λ p. bool_number (eqb (out v) p)) front many) n ≡ ring_sum after (λ p. count_below (λ v. bool_number (eqb (out v) p)) n) front many = counts_exchanged after (λ p v. bool_number (eqb (out v) p)) front n many in
+      let below : count_below (λ v. ring_sum after (λ p. bool_number (eqb (out v) p)) front many) n ≤ count_below (λ v. 1) n = count_below_le (λ v. ring_sum after (λ p. bool_number (eqb (out v) p)) front many) (λ v. 1) n (λ v lv. one v) in
       omega (arith, counts many (omega arith), swap, below, count_below_ones n)
     where
-      by_test : (s : Bool) → number s ≤ 1
+      by_test : (s : Bool) → bool_number s ≤ 1
       by_test true = omega arith
       by_test false = omega arith
 
-      one : (v : ℕ) → ring_sum after (λ p. number (eqb (out v) p)) front many ≤ 1
-      one v = (let s : number (listed after front many (out v)) ≡ ring_sum after (λ p. number (eqb (out v) p)) front many = listed_sum after front many (out v) distinct in omega (arith, s, by_test (listed after front many (out v))))
+      one : (v : ℕ) → ring_sum after (λ p. bool_number (eqb (out v) p)) front many ≤ 1
+      one v = (let s : bool_number (listed after front many (out v)) ≡ ring_sum after (λ p. bool_number (eqb (out v) p)) front many = listed_sum after front many (out v) distinct in omega (arith, s, by_test (listed after front many (out v))))

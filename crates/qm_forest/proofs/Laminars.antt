@@ -1,8 +1,8 @@
 -- What tied tables say of how blossoms lie in each other, and the two parts that a joint joins.
 use Rattle.std.proofs.Common.{◌≡◌, ◌≢◌, ℕ, suc, ◌*◌, ◌<◌, ◌≤◌, true, eqb, length, get_or, ◌⊎◌, refl, sym, ◌∙◌, ap, subst, inl, inr, arith}
 use Rattle.std.proofs.lemmas.Bool.{cases_eq, cases_lt, eq-eqb, ne_eqb}
-use Rattle.def_matching.specs.Matching.{Graph, IsSmallGraph}
-use Rattle.def_forest.specs.Darts.{AreDarts, darts_of, twin_of}
+use Rattle.def_matching.specs.Matching.{WeightedGraph, IsSmallGraph}
+use Rattle.def_forest.specs.Darts.{AreDarts, darts_of, other_dart}
 use Rattle.def_forest.specs.Forests.{walk}
 use Rattle.def_forest.specs.Tables.{ForestTables, forest_of, climbs, out_of, up_at, IsValidFor}
 use Rattle.def_forest.specs.Valid.{IsJoint, IsRing}
@@ -51,7 +51,7 @@ laminar t hid tied = record {
     )
 
 -- A valid forest is sound.
-pub sound : (g : Graph) (t : ForestTables) → IsValidFor g t → IsSoundFor g t
+pub sound : (g : WeightedGraph) (t : ForestTables) → IsValidFor g t → IsSoundFor g t
 sound g t valid = record { vertices = valid.vertices; darts = valid.darts; ends = valid.ends; valid = valid.valid }
 
 module _ (t : ForestTables) (known : IsLaminar t) where
@@ -66,7 +66,7 @@ module _ (t : ForestTables) (known : IsLaminar t) where
       by_eq (inl e) = ap (λ x. climbs (up_at t.up) (length t.hand) v x) (sym e) ∙ (climbs_here (up_at t.up) (length t.hand) v ∙ sym (eq-eqb v w e))
       by_eq (inr ne) = off_where (climbs (up_at t.up) (length t.hand) v w) (λ on. ne (sym (known.own w v lv on))) ∙ sym (ne_eqb v w ne)
 
-  module _ (g : Graph) (is : IsSmallGraph g) (valid : IsSoundFor g t) where
+  module _ (g : WeightedGraph) (is : IsSmallGraph g) (valid : IsSoundFor g t) where
     abbrev are : AreDarts (darts_of g)
     are = are_darts g is.lawful
 
@@ -150,7 +150,7 @@ module _ (t : ForestTables) (known : IsLaminar t) where
       near_is = valid.ends d d_low
 
       far_is : far_at t d ≡ (darts_of g).near ((darts_of g).twin d)
-      far_is = valid.ends (twin_of d) (are.twin_low d d_low)
+      far_is = valid.ends (other_dart d) (are.twin_low d d_low)
 
       near_ok : near_at t d < length t.hand
       near_ok = subst (λ m. near_at t d < m) (sym valid.vertices) (subst (λ v. v < g.n) (sym near_is) (are.near_low d d_low))

@@ -1,7 +1,7 @@
 -- A way to the root while it is laid.
 use Rattle.std.proofs.Common.{◌≡◌, ◌≢◌, ℕ, suc, ◌*◌, ◌<◌, ◌≤◌, length, None, sym, ◌∙◌, ap, subst, arith}
 use Rattle.std.proofs.Math.ListN.{set}
-use Rattle.def_matching.specs.Matching.{Graph, IsSmallGraph}
+use Rattle.def_matching.specs.Matching.{WeightedGraph, IsSmallGraph}
 use Rattle.def_forest.specs.Darts.{Darts, darts_of, far}
 use Rattle.def_forest.specs.Forests.{Forest, set_at}
 use Rattle.def_forest.specs.Tables.{ForestTables, forest_of, IsValidFor}
@@ -18,7 +18,7 @@ pub alike_more : (a b c : ForestTables) → IsRingedAlike a b → IsRingedAlike 
 alike_more a b c p q = q ∙ ap (λ (t : ForestTables). record t { after = c.after; joint = c.joint }) p
 
 -- What is known at a place on the way.
-pub record IsLaidPlace (g : Graph) (t0 t : ForestTables) (a i x : ℕ) : Type 0 where
+pub record IsLaidPlace (g : WeightedGraph) (t0 t : ForestTables) (a i x : ℕ) : Type 0 where
   pub low : x < length t.up
   pub some : rise_of (forest_of t) x ≢ None
   pub vertices : length t.hand ≡ g.n
@@ -27,7 +27,7 @@ pub record IsLaidPlace (g : Graph) (t0 t : ForestTables) (a i x : ℕ) : Type 0 
   pub next_low : way_of (darts_of g) (forest_of t0) a (suc i) < length t.up
   pub same : rise_of (forest_of t) x ≡ rise_of (forest_of t0) (way_of (darts_of g) (forest_of t0) a i)
 
-pub laid_place : (g : Graph) → IsSmallGraph g → (t0 : ForestTables) (a steps : ℕ) → MayClimb g t0 a steps → (i : ℕ) → i < steps → (x : ℕ) → x ≡ way_of (darts_of g) (forest_of t0) a i → (t : ForestTables) → IsRingedAlike t0 t → IsLaidPlace g t0 t a i x
+pub laid_place : (g : WeightedGraph) → IsSmallGraph g → (t0 : ForestTables) (a steps : ℕ) → MayClimb g t0 a steps → (i : ℕ) → i < steps → (x : ℕ) → x ≡ way_of (darts_of g) (forest_of t0) a i → (t : ForestTables) → IsRingedAlike t0 t → IsLaidPlace g t0 t a i x
 laid_place g is t0 a steps may i l x x_is t alike = by_first may.0 may.1 may.2 may.3 may.4
   where
     by_first : (s : ForestTables) → IsValidFor g s → IsRingedAlike s t0 → (forest_of s).label a ≢ Outside → steps ≤ level_of (darts_of g) (forest_of s) a → IsLaidPlace g t0 t a i x

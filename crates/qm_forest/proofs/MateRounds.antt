@@ -3,9 +3,9 @@ use Rattle.std.proofs.Common.{◌≡◌, ◌≢◌, ℕ, suc, ◌+◌, ◌-◌, 
 use Rattle.std.proofs.Math.ListN.{set}
 use Rattle.std.proofs.lemmas.Bool.{cases_Bool, cases_eq, cases_lt, cond-true, cond-false, eq-eqb, eqb-true, ne_eqb}
 use Rattle.sum_laws.proofs.Counts.{count_below_none, count_below_one, count_below_same}
-use Rattle.def_matching.specs.Matching.{Graph, IsSmallGraph}
-use Rattle.def_forest.specs.Darts.{AreDarts, darts_of, far, twin_of}
-use Rattle.def_forest.specs.Forests.{Forest, number, splits, walk}
+use Rattle.def_matching.specs.Matching.{WeightedGraph, IsSmallGraph}
+use Rattle.def_forest.specs.Darts.{AreDarts, darts_of, far, other_dart}
+use Rattle.def_forest.specs.Forests.{Forest, bool_number, splits, walk}
 use Rattle.def_forest.specs.Tables.{ForestTables, forest_of, up_at}
 use Rattle.def_forest.specs.Valid.{IsMate}
 use Rattle.forest_laws.proofs.Graphs.{are_darts, twin_even, twin_odd}
@@ -17,7 +17,7 @@ use Rattle.qm_forest.proofs.Laminars.{alone, another}
 use Rattle.qm_forest.proofs.Pairings.{option_cases, paired_round}
 use Rattle.qm_forest.proofs.Withins.{by_pair, in_line, in_where, off_where, where_in}
 
-module _ (t : ForestTables) (known : IsLaminar t) (g : Graph) (is : IsSmallGraph g) (valid : IsSoundFor g t) where
+module _ (t : ForestTables) (known : IsLaminar t) (g : WeightedGraph) (is : IsSmallGraph g) (valid : IsSoundFor g t) where
   abbrev f : Forest
   f = forest_of t
 
@@ -63,7 +63,7 @@ module _ (t : ForestTables) (known : IsLaminar t) (g : Graph) (is : IsSmallGraph
 
   -- Two outermost blossoms are a pair.
   tops_law : (u v b : ℕ) → u < length t.hand → v < length t.hand → f.out u ≢ f.out v
-      → number (splits (f.holds b) u v) + (waits_but t b (f.out u) u + waits_but t b (f.out v) v) ≡ number (within t b (f.out u)) + number (within t b (f.out v))
+      → bool_number (splits (f.holds b) u v) + (waits_but t b (f.out u) u + waits_but t b (f.out v) v) ≡ bool_number (within t b (f.out u)) + bool_number (within t b (f.out v))
   tops_law u v b lu lv ne = by_pair (length t.hand) (up_at t.up) (λ z. get_or t.rank z 0) known.rises (within t b (f.out u)) (within t b (f.out v)) (f.holds b u) (f.holds b v)
       (λ on. (off_where (within t b (f.out v)) (λ o. not_both b u v lu lv ne on o), off_where (f.holds b v) (λ o. not_both b u v lu lv ne on (around_in b v lv o))))
       (λ on. (off_where (within t b (f.out u)) (λ o. not_both b u v lu lv ne o on), off_where (f.holds b u) (λ o. not_both b u v lu lv ne (around_in b u lu o) on)))
@@ -79,7 +79,7 @@ module _ (t : ForestTables) (known : IsLaminar t) (g : Graph) (is : IsSmallGraph
     pub other : f.out (near_at t (2 * e)) ≢ f.out (near_at t (2 * e + 1))
     pub pairing : IsPairing t (f.out (near_at t (2 * e))) (f.out (near_at t (2 * e + 1))) (2 * e)
 
-  twin_is : (e : ℕ) → twin_of (2 * e) ≡ 2 * e + 1
+  twin_is : (e : ℕ) → other_dart (2 * e) ≡ 2 * e + 1
   twin_is e = twin_even (2 * e) (omega arith)
 
   pub vertex_low : (d : ℕ) → d < 2 * length g.edges → near_at t d < length t.hand
@@ -109,7 +109,7 @@ module _ (t : ForestTables) (known : IsLaminar t) (g : Graph) (is : IsSmallGraph
       far_held = ap (λ v. within t v (f.out (near_at t (2 * e + 1)))) far_same ∙ (within_out (near_at t (2 * e + 1)) (near_at t (2 * e + 1)) fl fl ∙ eq-eqb (f.out (near_at t (2 * e + 1))) (f.out (near_at t (2 * e + 1))) refl);
       live_x = used_at (near_at t (2 * e)) nl;
       live_y = used_at (near_at t (2 * e + 1)) fl;
-      law = λ b l. subst (λ v. number (splits (f.holds b) (near_at t (2 * e)) v) + (waits_but t b (f.out (near_at t (2 * e))) (near_at t (2 * e)) + waits_but t b (f.out (near_at t (2 * e + 1))) v) ≡ number (within t b (f.out (near_at t (2 * e)))) + number (within t b (f.out (near_at t (2 * e + 1))))) (sym far_same)
+      law = λ b l. subst (λ v. bool_number (splits (f.holds b) (near_at t (2 * e)) v) + (waits_but t b (f.out (near_at t (2 * e))) (near_at t (2 * e)) + waits_but t b (f.out (near_at t (2 * e + 1))) v) ≡ bool_number (within t b (f.out (near_at t (2 * e)))) + bool_number (within t b (f.out (near_at t (2 * e + 1))))) (sym far_same)
           (tops_law (near_at t (2 * e)) (near_at t (2 * e + 1)) b nl fl apart);
       tight = λ h is' valid'. (valid'.valid.matched (f.out (near_at t (2 * e))) (2 * e) mate).tight;
     };
@@ -128,7 +128,7 @@ module _ (t : ForestTables) (known : IsLaminar t) (g : Graph) (is : IsSmallGraph
       far_same = ap (near_at t) (twin_is e)
 
       far_is : far (darts_of g) (2 * e) ≡ near_at t (2 * e + 1)
-      far_is = sym (valid.ends (twin_of (2 * e)) (are.twin_low (2 * e) m.tight.low)) ∙ far_same
+      far_is = sym (valid.ends (other_dart (2 * e)) (are.twin_low (2 * e) m.tight.low)) ∙ far_same
 
       apart : f.out (near_at t (2 * e)) ≢ f.out (near_at t (2 * e + 1))
       apart s = m.other (ap f.out far_is ∙ sym s)
@@ -144,21 +144,21 @@ module _ (t : ForestTables) (known : IsLaminar t) (g : Graph) (is : IsSmallGraph
   matches_is e on = mate_edge e (dart_true (f.mate (f.out (near_at t (2 * e)))) (2 * e) on)
 
   abbrev term : ℕ → ℕ → ℕ
-  term b e = cond (matches t e) (number (within t b (f.out (near_at t (2 * e)))) + number (within t b (f.out (near_at t (2 * e + 1))))) 0
+  term b e = cond (matches t e) (bool_number (within t b (f.out (near_at t (2 * e)))) + bool_number (within t b (f.out (near_at t (2 * e + 1))))) 0
 
   -- An edge that matches the outermost blossom of a vertex is that of its mate.
   term_none : (w e : ℕ) → w < length t.hand → ((d : ℕ) → f.mate (f.out w) ≡ Some d → e ≢ d / 2) → term w e ≡ 0
   term_none w e lw other = by_test (cases_Bool (matches t e))
     where
       by_test : (matches t e ≡ true) ⊎ (matches t e ≡ false) → term w e ≡ 0
-      by_test (inr off) = cond-false (matches t e) (number (within t w (f.out (near_at t (2 * e)))) + number (within t w (f.out (near_at t (2 * e + 1))))) 0 off
+      by_test (inr off) = cond-false (matches t e) (bool_number (within t w (f.out (near_at t (2 * e)))) + bool_number (within t w (f.out (near_at t (2 * e + 1))))) 0 off
       by_test (inl on) =
           let m : IsMateEdge e = matches_is e on in
           let first : within t w (f.out (near_at t (2 * e))) ≡ false = off_where (within t w (f.out (near_at t (2 * e)))) (λ o. other (2 * e) (ap f.mate (eqb-true (f.out w) (f.out (near_at t (2 * e))) (sym (within_out w (near_at t (2 * e)) lw m.near_low) ∙ o)) ∙ m.mate) (omega arith)) in
           let second : within t w (f.out (near_at t (2 * e + 1))) ≡ false = off_where (within t w (f.out (near_at t (2 * e + 1)))) (λ o. other (2 * e + 1) (ap f.mate (eqb-true (f.out w) (f.out (near_at t (2 * e + 1))) (sym (within_out w (near_at t (2 * e + 1)) lw m.far_low) ∙ o)) ∙ m.back) (omega arith)) in
-          let one : number (within t w (f.out (near_at t (2 * e)))) ≡ 0 = ap number first in
-          let two : number (within t w (f.out (near_at t (2 * e + 1)))) ≡ 0 = ap number second in
-          cond-true (matches t e) (number (within t w (f.out (near_at t (2 * e)))) + number (within t w (f.out (near_at t (2 * e + 1))))) 0 on ∙ omega (arith, one, two)
+          let one : bool_number (within t w (f.out (near_at t (2 * e)))) ≡ 0 = ap bool_number first in
+          let two : bool_number (within t w (f.out (near_at t (2 * e + 1)))) ≡ 0 = ap bool_number second in
+          cond-true (matches t e) (bool_number (within t w (f.out (near_at t (2 * e)))) + bool_number (within t w (f.out (near_at t (2 * e + 1))))) 0 on ∙ omega (arith, one, two)
 
   term_one : (w d : ℕ) → w < length t.hand → f.mate (f.out w) ≡ Some d → (term w (d / 2) ≡ 1) × (d / 2 < length g.edges)
   term_one w d lw mate = by_side (cases_eq (d % 2) 0)
@@ -170,18 +170,18 @@ module _ (t : ForestTables) (known : IsLaminar t) (g : Graph) (is : IsSmallGraph
       d_low = m.tight.low
 
       value : (e : ℕ) → matches t e ≡ true → (f.out w ≡ f.out (near_at t (2 * e))) ⊎ (f.out w ≡ f.out (near_at t (2 * e + 1))) → term w e ≡ 1
-      value e on side = cond-true (matches t e) (number (within t w (f.out (near_at t (2 * e)))) + number (within t w (f.out (near_at t (2 * e + 1))))) 0 on ∙ by_end side
+      value e on side = cond-true (matches t e) (bool_number (within t w (f.out (near_at t (2 * e)))) + bool_number (within t w (f.out (near_at t (2 * e + 1))))) 0 on ∙ by_end side
         where
           me : IsMateEdge e
           me = matches_is e on
 
-          at : (v : ℕ) → v < length t.hand → f.out w ≡ f.out v → number (within t w (f.out v)) ≡ 1
-          at v lv s = ap number (within_out w v lw lv ∙ eq-eqb (f.out w) (f.out v) s)
+          at : (v : ℕ) → v < length t.hand → f.out w ≡ f.out v → bool_number (within t w (f.out v)) ≡ 1
+          at v lv s = ap bool_number (within_out w v lw lv ∙ eq-eqb (f.out w) (f.out v) s)
 
-          off : (v : ℕ) → v < length t.hand → f.out w ≢ f.out v → number (within t w (f.out v)) ≡ 0
-          off v lv s = ap number (within_out w v lw lv ∙ ne_eqb (f.out w) (f.out v) s)
+          off : (v : ℕ) → v < length t.hand → f.out w ≢ f.out v → bool_number (within t w (f.out v)) ≡ 0
+          off v lv s = ap bool_number (within_out w v lw lv ∙ ne_eqb (f.out w) (f.out v) s)
 
-          by_end : (f.out w ≡ f.out (near_at t (2 * e))) ⊎ (f.out w ≡ f.out (near_at t (2 * e + 1))) → number (within t w (f.out (near_at t (2 * e)))) + number (within t w (f.out (near_at t (2 * e + 1)))) ≡ 1
+          by_end : (f.out w ≡ f.out (near_at t (2 * e))) ⊎ (f.out w ≡ f.out (near_at t (2 * e + 1))) → bool_number (within t w (f.out (near_at t (2 * e)))) + bool_number (within t w (f.out (near_at t (2 * e + 1)))) ≡ 1
           by_end (inl s) = omega (arith, at (near_at t (2 * e)) me.near_low s, off (near_at t (2 * e + 1)) me.far_low (λ z. me.other (sym s ∙ z)))
           by_end (inr s) = omega (arith, off (near_at t (2 * e)) me.near_low (λ z. me.other (sym z ∙ s)), at (near_at t (2 * e + 1)) me.far_low s)
 
@@ -194,9 +194,9 @@ module _ (t : ForestTables) (known : IsLaminar t) (g : Graph) (is : IsSmallGraph
           let here : f.out w ≡ f.out (near_at t (2 * (d / 2))) = sym near_is ∙ ap (λ k. f.out (near_at t k)) s in
           (value (d / 2) (dart_is (f.mate (f.out (near_at t (2 * (d / 2))))) (2 * (d / 2)) (ap f.mate (sym here) ∙ (mate ∙ ap (λ (k : ℕ). Some k) s))) (inl here), omega (arith, d_low))
       by_side (inr nz) =
-          let s : twin_of d ≡ 2 * (d / 2) = twin_odd d nz ∙ (let k : d - 1 ≡ 2 * (d / 2) = omega (arith, nz) in k) in
+          let s : other_dart d ≡ 2 * (d / 2) = twin_odd d nz ∙ (let k : d - 1 ≡ 2 * (d / 2) = omega (arith, nz) in k) in
           let up : d ≡ 2 * (d / 2) + 1 = omega (arith, nz) in
-          let far_is : far (darts_of g) d ≡ near_at t (2 * (d / 2)) = sym (valid.ends (twin_of d) (are.twin_low d d_low)) ∙ ap (near_at t) s in
+          let far_is : far (darts_of g) d ≡ near_at t (2 * (d / 2)) = sym (valid.ends (other_dart d) (are.twin_low d d_low)) ∙ ap (near_at t) s in
           (value (d / 2) (dart_is (f.mate (f.out (near_at t (2 * (d / 2))))) (2 * (d / 2)) (ap (λ v. f.mate (f.out v)) (sym far_is) ∙ (m.back ∙ ap (λ (k : ℕ). Some k) s))) (inr (sym near_is ∙ ap (λ k. f.out (near_at t k)) up)), omega (arith, d_low))
 
   -- A vertex is met once at most, and once where its blossom is matched.
@@ -239,11 +239,11 @@ module _ (t : ForestTables) (known : IsLaminar t) (g : Graph) (is : IsSmallGraph
               absurd (true_false (within t b (f.out u)) (ap (within t b) (sym here) ∙ around_in b w lw held) off)
 
       each : (e : ℕ) → (matches t e ≡ true) ⊎ (matches t e ≡ false) → term b e ≡ term w e
-      each e (inr off) = cond-false (matches t e) (number (within t b (f.out (near_at t (2 * e)))) + number (within t b (f.out (near_at t (2 * e + 1))))) 0 off ∙ sym (cond-false (matches t e) (number (within t w (f.out (near_at t (2 * e)))) + number (within t w (f.out (near_at t (2 * e + 1))))) 0 off)
+      each e (inr off) = cond-false (matches t e) (bool_number (within t b (f.out (near_at t (2 * e)))) + bool_number (within t b (f.out (near_at t (2 * e + 1))))) 0 off ∙ sym (cond-false (matches t e) (bool_number (within t w (f.out (near_at t (2 * e)))) + bool_number (within t w (f.out (near_at t (2 * e + 1))))) 0 off)
       each e (inl on) =
           let m : IsMateEdge e = matches_is e on in
-          ap (λ (s : Bool). cond (matches t e) (number s + number (within t b (f.out (near_at t (2 * e + 1))))) 0) (same (near_at t (2 * e)) m.near_low)
-          ∙ ap (λ (s : Bool). cond (matches t e) (number (within t w (f.out (near_at t (2 * e)))) + number s) 0) (same (near_at t (2 * e + 1)) m.far_low)
+          ap (λ (s : Bool). cond (matches t e) (bool_number s + bool_number (within t b (f.out (near_at t (2 * e + 1))))) 0) (same (near_at t (2 * e)) m.near_low)
+          ∙ ap (λ (s : Bool). cond (matches t e) (bool_number (within t w (f.out (near_at t (2 * e)))) + bool_number s) 0) (same (near_at t (2 * e + 1)) m.far_low)
 
   -- One edge more.
   pub edge_more : (marks marks2 : List Bool) (left left2 : List (Option ℕ)) (e j : ℕ) → j ≡ e + 1 → length t.near ≡ 2 * length marks → length left ≡ length t.up → f.mate (f.out (near_at t (2 * e))) ≡ Some (2 * e) → marks2 ≡ set marks (2 * e / 2) true
@@ -258,8 +258,8 @@ module _ (t : ForestTables) (known : IsLaminar t) (g : Graph) (is : IsSmallGraph
         tight = round.tight;
       }) (mate_edge e mate).pairing))
     where
-      step : (b : ℕ) → matched_by t j b ≡ matched_by t e b + (number (within t b (f.out (near_at t (2 * e)))) + number (within t b (f.out (near_at t (2 * e + 1)))))
-      step b = ap (λ k. matched_by t k b) (j_is ∙ (let o : e + 1 ≡ suc e = omega arith in o)) ∙ ap (λ m. matched_by t e b + m) (cond-true (matches t e) (number (within t b (f.out (near_at t (2 * e)))) + number (within t b (f.out (near_at t (2 * e + 1))))) 0 (dart_is (f.mate (f.out (near_at t (2 * e)))) (2 * e) mate))
+      step : (b : ℕ) → matched_by t j b ≡ matched_by t e b + (bool_number (within t b (f.out (near_at t (2 * e)))) + bool_number (within t b (f.out (near_at t (2 * e + 1)))))
+      step b = ap (λ k. matched_by t k b) (j_is ∙ (let o : e + 1 ≡ suc e = omega arith in o)) ∙ ap (λ m. matched_by t e b + m) (cond-true (matches t e) (bool_number (within t b (f.out (near_at t (2 * e)))) + bool_number (within t b (f.out (near_at t (2 * e + 1))))) 0 (dart_is (f.mate (f.out (near_at t (2 * e)))) (2 * e) mate))
 
   pub edge_same : (marks : List Bool) (left : List (Option ℕ)) (e j : ℕ) → j ≡ e + 1 → f.mate (f.out (near_at t (2 * e))) ≢ Some (2 * e) → IsRound t marks left (λ b. 0) (matched_by t e) → IsRound t marks left (λ b. 0) (matched_by t j)
   edge_same marks left e j j_is off round = record {
@@ -270,4 +270,4 @@ module _ (t : ForestTables) (known : IsLaminar t) (g : Graph) (is : IsSmallGraph
   }
     where
       step : (b : ℕ) → matched_by t j b ≡ matched_by t e b
-      step b = ap (λ k. matched_by t k b) (j_is ∙ (let o : e + 1 ≡ suc e = omega arith in o)) ∙ (ap (λ m. matched_by t e b + m) (cond-false (matches t e) (number (within t b (f.out (near_at t (2 * e)))) + number (within t b (f.out (near_at t (2 * e + 1))))) 0 (off_where (matches t e) (λ on. off (dart_true (f.mate (f.out (near_at t (2 * e)))) (2 * e) on)))) ∙ (let o : matched_by t e b + 0 ≡ matched_by t e b = omega arith in o))
+      step b = ap (λ k. matched_by t k b) (j_is ∙ (let o : e + 1 ≡ suc e = omega arith in o)) ∙ (ap (λ m. matched_by t e b + m) (cond-false (matches t e) (bool_number (within t b (f.out (near_at t (2 * e)))) + bool_number (within t b (f.out (near_at t (2 * e + 1))))) 0 (off_where (matches t e) (λ on. off (dart_true (f.mate (f.out (near_at t (2 * e)))) (2 * e) on)))) ∙ (let o : matched_by t e b + 0 ≡ matched_by t e b = omega arith in o))

@@ -2,10 +2,10 @@
 use Rattle.std.proofs.Common.{◌≡◌, ◌≢◌, ℕ, suc, ◌+◌, ◌-◌, ◌<◌, ◌≤◌, ◌^◌, length, get_or, ℤ, pos, ◌+ℤ◌, ◌⊎◌, refl, sym, ◌∙◌, ap, subst, inl, inr, arith}
 use Rattle.std.specs.Prelude.{unsigned_abs, slice_index}
 use Rattle.std.proofs.lemmas.Int.{ints}
-use Rattle.def_matching.specs.Matching.{Graph}
+use Rattle.def_matching.specs.Matching.{WeightedGraph}
 use Rattle.def_forest.specs.Darts.{darts_of}
-use Rattle.def_forest.specs.Forests.{IsOutermost, walk, load}
-use Rattle.def_forest.specs.Steps.{change}
+use Rattle.def_forest.specs.Forests.{IsOutermost, walk, weight_between}
+use Rattle.def_forest.specs.Steps.{weight_change}
 use Rattle.def_forest.specs.Tables.{up_at, ForestTables, forest_of, label_at, IsValidFor}
 use Rattle.def_forest.specs.Valid.{IsRing}
 use Rattle.def_forest.specs.declared.kinds.Label.{Label}
@@ -14,7 +14,7 @@ use Rattle.forest_laws.proofs.Writes.{label_cases}
 use Rattle.qm_forest.specs.Ties.{IsClimb, IsWithin, IsMeeting, apart}
 use Rattle.qm_forest.proofs.Apart.{can_climb, rank_low, apart_step, apart_order, apart_met, apart_small}
 
-module _ (g : Graph) (t : ForestTables) (valid : IsValidFor g t) (climb : IsClimb (length t.hand) (up_at t.up) (forest_of t).out) (few : length t.up ≤ 2 ^ 26) (small : (b : ℕ) → unsigned_abs ((forest_of t).weight b) ≤ 2 ^ 62) where
+module _ (g : WeightedGraph) (t : ForestTables) (valid : IsValidFor g t) (climb : IsClimb (length t.hand) (up_at t.up) (forest_of t).out) (few : length t.up ≤ 2 ^ 26) (small : (b : ℕ) → unsigned_abs ((forest_of t).weight b) ≤ 2 ^ 62) where
   abbrev up : ℕ → ℕ
   up = up_at t.up
 
@@ -35,7 +35,7 @@ module _ (g : Graph) (t : ForestTables) (valid : IsValidFor g t) (climb : IsClim
   base_is x inner = by_label (label_cases (label_at t.label x))
     where
       by_label : (label_at t.label x ≡ Outside) ⊎ (label_at t.label x ≢ Outside) → get_or t.base x (pos 0) ≡ (forest_of t).weight x
-      by_label (inl off) = let z : change (label_at t.label x) t.delta ≡ pos 0 = ap (λ (l : Label). change l t.delta) off in omega (arith, ints, z)
+      by_label (inl off) = let z : weight_change (label_at t.label x) t.delta ≡ pos 0 = ap (λ (l : Label). weight_change l t.delta) off in omega (arith, ints, z)
       by_label (inr named) = let w : IsOutermost g.n (forest_of t) x = valid.valid.outermost.named x named in absurd (inner (ap (up_at t.up) (sym w.2) ∙ (valid.valid.outermost.tops w.0 w.1 ∙ w.2)))
 
   abbrev passing : ℕ → ℕ → ℤ
@@ -111,6 +111,6 @@ module _ (g : Graph) (t : ForestTables) (valid : IsValidFor g t) (climb : IsClim
             omega (arith, r.0, r.1, r.2)
 
 -- Where they have met, the load is found.
-pub met_load : (t : ForestTables) (u v x y : ℕ) (sum : ℤ) → IsMeeting t u v x y sum → x ≡ y → sum ≡ load (forest_of t) u v
+pub met_load : (t : ForestTables) (u v x y : ℕ) (sum : ℤ) → IsMeeting t u v x y sum → x ≡ y → sum ≡ weight_between (forest_of t) u v
 met_load t u v x y sum meet e = let none : apart (length t.hand) (up_at t.up) (forest_of t).weight (length t.up) x y ≡ pos 0 = apart_met (length t.hand) (up_at t.up) (forest_of t).weight (length t.up) x y e in
     let all : sum ≡ apart (length t.hand) (up_at t.up) (forest_of t).weight (length t.up) u v = omega (arith, ints, none, meet.sum) in all

@@ -1,6 +1,6 @@
 -- Steps of the tree in the tables: growing, and changing the matching along the way to the root.
 use Rattle.std.proofs.Common.{◌≡◌, ◌≢◌, ℕ, suc, ◌+◌, ◌*◌, ◌<◌, List, length, get_or, Option, Some, None, true, false, is_some, refl, sym, ◌∙◌, ap, subst, ◌⊎◌, inl, inr, arith}
-use Rattle.def_matching.specs.Matching.{IsSmallGraph, Graph}
+use Rattle.def_matching.specs.Matching.{IsSmallGraph, WeightedGraph}
 use Rattle.def_forest.specs.Darts.{darts_of, far}
 use Rattle.def_forest.specs.Forests.{Forest, IsOutermost, set_at}
 use Rattle.def_forest.specs.Steps.{grown, with_mates, IsAugmented}
@@ -19,7 +19,7 @@ use Rattle.std.proofs.lemmas.Bool.{cases_eq}
 use Rattle.forest_laws.proofs.Writes.{set_here, set_there}
 
 -- A mate is a dart of the graph.
-pub mate_low : (g : Graph) (t : ForestTables) → IsSmallGraph g → IsValidFor g t → (b m : ℕ) → (forest_of t).mate b ≡ Some m → m < 2 * length g.edges
+pub mate_low : (g : WeightedGraph) (t : ForestTables) → IsSmallGraph g → IsValidFor g t → (b m : ℕ) → (forest_of t).mate b ≡ Some m → m < 2 * length g.edges
 mate_low g t is valid b m mate = (valid.valid.matched b m mate).tight.low
 
 -- What is not empty.
@@ -32,17 +32,17 @@ none_is None e = refl
 none_is (Some x) e = absurd (cc e)
 
 -- Darts begin where they did.
-pub ends_kept : (g : Graph) (t u : ForestTables) → IsValidFor g t → fixed_of u ≡ fixed_of t → (d : ℕ) → d < 2 * length g.edges → get_or u.near d 0 ≡ (darts_of g).near d
+pub ends_kept : (g : WeightedGraph) (t u : ForestTables) → IsValidFor g t → fixed_of u ≡ fixed_of t → (d : ℕ) → d < 2 * length g.edges → get_or u.near d 0 ≡ (darts_of g).near d
 ends_kept g t u valid fixed d l = ap (λ (p : List ℕ × Option GraphSize). get_or p.0 d 0) fixed ∙ valid.ends d l
 
-pub darts_kept : (g : Graph) (t u : ForestTables) → IsValidFor g t → fixed_of u ≡ fixed_of t → length u.near ≡ 2 * length g.edges
+pub darts_kept : (g : WeightedGraph) (t u : ForestTables) → IsValidFor g t → fixed_of u ≡ fixed_of t → length u.near ≡ 2 * length g.edges
 darts_kept g t u valid fixed = ap (λ (p : List ℕ × Option GraphSize). length p.0) fixed ∙ valid.darts
 
-pub room_kept : (g : Graph) (t u : ForestTables) → IsValidFor g t → fixed_of u ≡ fixed_of t → u.room ≡ Some (size_of g)
+pub room_kept : (g : WeightedGraph) (t u : ForestTables) → IsValidFor g t → fixed_of u ≡ fixed_of t → u.room ≡ Some (size_of g)
 room_kept g t u valid fixed = ap (λ (p : List ℕ × Option GraphSize). p.1) fixed ∙ valid.room
 
 -- The forest is valid after the tree has grown.
-pub valid_grown : (t u : ForestTables) (g : Graph) → IsSmallGraph g → IsValidFor g t → (d m : ℕ) → Reaches (darts_of g) (forest_of t) d → (forest_of t).mate ((forest_of t).out (far (darts_of g) d)) ≡ Some m
+pub valid_grown : (t u : ForestTables) (g : WeightedGraph) → IsSmallGraph g → IsValidFor g t → (d m : ℕ) → Reaches (darts_of g) (forest_of t) d → (forest_of t).mate ((forest_of t).out (far (darts_of g) d)) ≡ Some m
     → forest_of u ≡ grown (darts_of g) (forest_of t) d m → u.hand ≡ t.hand → u.root ≡ t.root → fixed_of u ≡ fixed_of t → IsValidFor g u
 valid_grown t u g is valid d m reach mate seen hand root fixed = record {
   vertices = ap length hand ∙ valid.vertices;
@@ -71,7 +71,7 @@ pub link_same : (f0 f1 : Forest) (mate : ℕ → Option ℕ) (b : ℕ) → f1 �
 link_same f0 f1 mate b e = ap (λ (f : Forest). f.link b) e
 
 -- The way begins.
-pub way_begins : (g : Graph) (t : ForestTables) → IsSmallGraph g → IsValidFor g t → (start : ℕ) → Reaches (darts_of g) (forest_of t) start → (forest_of t).mate ((forest_of t).out (far (darts_of g) start)) ≡ None
+pub way_begins : (g : WeightedGraph) (t : ForestTables) → IsSmallGraph g → IsValidFor g t → (start : ℕ) → Reaches (darts_of g) (forest_of t) start → (forest_of t).mate ((forest_of t).out (far (darts_of g) start)) ≡ None
     → (mate : ℕ → Option ℕ) (a : ℕ) → mate ≡ set_at (forest_of t).mate ((forest_of t).out (far (darts_of g) start)) (Some ((darts_of g).twin start)) → a ≡ (forest_of t).out ((darts_of g).near start) → IsOnWay g t start mate a start
 way_begins g t is valid start reach free mate a mate_is a_is = by_tree (tree_of (darts_of g) (are_darts g is.lawful) (forest_of t) t.root valid.valid ((forest_of t).out ((darts_of g).near start)) (λ off. outer off reach.outer))
   where
@@ -89,7 +89,7 @@ way_begins g t is valid start reach free mate a mate_is a_is = by_tree (tree_of 
           (begin (darts_of g) (are_darts g is.lawful) (forest_of t) w.0 (subst (λ (o : Option ℕ). IsValid (darts_of g) (forest_of t) o) w.1 valid.valid) w.2 start reach free));
     }
 
-module _ (g : Graph) (t : ForestTables) (start : ℕ) (mate : ℕ → Option ℕ) (a e : ℕ) (way : IsOnWay g t start mate a e) where
+module _ (g : WeightedGraph) (t : ForestTables) (start : ℕ) (mate : ℕ → Option ℕ) (a e : ℕ) (way : IsOnWay g t start mate a e) where
   valid_top : IsValid (darts_of g) (forest_of t) (Some way.top)
   valid_top = subst (λ (o : Option ℕ). IsValid (darts_of g) (forest_of t) o) way.root way.valid.valid
 
@@ -166,10 +166,10 @@ module _ (g : Graph) (t : ForestTables) (start : ℕ) (mate : ℕ → Option ℕ
       same p = cc
 
 -- The twin of a dart is one, and what begins a dart is a vertex.
-pub twin_dart : (g : Graph) → IsSmallGraph g → (d e : ℕ) → d < 2 * length g.edges → e ≡ (darts_of g).twin d → e < 2 * length g.edges
+pub twin_dart : (g : WeightedGraph) → IsSmallGraph g → (d e : ℕ) → d < 2 * length g.edges → e ≡ (darts_of g).twin d → e < 2 * length g.edges
 twin_dart g is d e low e_is = subst (λ x. x < 2 * length g.edges) (sym e_is) ((are_darts g is.lawful).twin_low d low)
 
-pub near_in : (g : Graph) (t : ForestTables) → IsSmallGraph g → IsValidFor g t → (d v : ℕ) → d < 2 * length g.edges → v ≡ (darts_of g).near d → v < length t.hand
+pub near_in : (g : WeightedGraph) (t : ForestTables) → IsSmallGraph g → IsValidFor g t → (d v : ℕ) → d < 2 * length g.edges → v ≡ (darts_of g).near d → v < length t.hand
 near_in g t is valid d v low v_is = subst (λ n. v < n) (sym valid.vertices) (subst (λ x. x < g.n) (sym v_is) ((are_darts g is.lawful).near_low d low))
 
 -- The same blossoms, over two changes.
@@ -194,7 +194,7 @@ one_more_outside f1 f2 trail k v v_is e2 done i l = ap (λ (f : Forest). f.label
     by_place (inr ne) (inr nk) = set_there f1.label (f1.out v) (f1.out (get_or trail i 0)) Outside ne ∙ done i (omega arith)
 
 -- The forest is valid after an augmentation.
-pub valid_augmented : (t u : ForestTables) (g : Graph) → IsValidFor g t → (mate : ℕ → Option ℕ) → IsValid (darts_of g) (with_mates (forest_of t) mate) None → forest_of u ≡ with_mates (forest_of t) mate → u.hand ≡ t.hand → u.root ≡ None → fixed_of u ≡ fixed_of t → IsValidFor g u
+pub valid_augmented : (t u : ForestTables) (g : WeightedGraph) → IsValidFor g t → (mate : ℕ → Option ℕ) → IsValid (darts_of g) (with_mates (forest_of t) mate) None → forest_of u ≡ with_mates (forest_of t) mate → u.hand ≡ t.hand → u.root ≡ None → fixed_of u ≡ fixed_of t → IsValidFor g u
 valid_augmented t u g valid mate whole seen hand root fixed = record {
   vertices = ap length hand ∙ valid.vertices;
   darts = darts_kept g t u valid fixed;
@@ -204,7 +204,7 @@ valid_augmented t u g valid mate whole seen hand root fixed = record {
 }
 
 -- What has come of an augmentation.
-pub augmented : (t s u : ForestTables) (g : Graph) → IsSmallGraph g → IsValidFor g t → (start : ℕ) → Reaches (darts_of g) (forest_of t) start
+pub augmented : (t s u : ForestTables) (g : WeightedGraph) → IsSmallGraph g → IsValidFor g t → (start : ℕ) → Reaches (darts_of g) (forest_of t) start
     → ((r : ℕ) → t.root ≡ Some r → IsValid (darts_of g) (with_mates (forest_of t) (forest_of s).mate) None × IsAugmented (darts_of g) (forest_of t) (with_mates (forest_of t) (forest_of s).mate) r start)
     → forest_of s ≡ remated (forest_of t) (forest_of s).mate → forest_of u ≡ with_mates (forest_of s) (forest_of s).mate → u.hand ≡ t.hand → u.root ≡ None → fixed_of u ≡ fixed_of t
     → ((r : ℕ) × (t.root ≡ Some r) × IsAugmented (darts_of g) (forest_of t) (forest_of u) r start) × IsValidFor g u

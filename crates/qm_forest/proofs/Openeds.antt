@@ -1,7 +1,7 @@
 -- An inner set that is opened: labels, mates and links of its parts, along the ring and against it.
 use Rattle.std.proofs.Common.{◌≡◌, ◌≢◌, ℕ, suc, ◌+◌, ◌-◌, ◌*◌, ◌/◌, ◌%◌, ◌<◌, ◌≤◌, Bool, true, false, cond, eqb, length, pos, Option, Some, None, ◌⊎◌, refl, sym, ◌∙◌, ap, subst, inl, inr, arith}
 use Rattle.std.proofs.lemmas.Bool.{cases_Bool, cases_eq, cases_lt, cond-true, cond-false, eq-eqb, ne_eqb}
-use Rattle.def_matching.specs.Matching.{Graph, IsSmallGraph}
+use Rattle.def_matching.specs.Matching.{WeightedGraph, IsSmallGraph}
 use Rattle.def_forest.specs.Darts.{Darts, darts_of}
 use Rattle.def_forest.specs.Forests.{Forest, walk}
 use Rattle.def_forest.specs.Opened.{IsOpened, IsExpanding}
@@ -24,7 +24,7 @@ even_is k i e = cond-true (eqb (k % 2) 0) Inner Outer (eq-eqb (k % 2) 0 (omega (
 odd_is : (k i : ℕ) → k ≡ 2 * i + 1 → turn_label k ≡ Outer
 odd_is k i e = cond-false (eqb (k % 2) 0) Inner Outer (ne_eqb (k % 2) 0 (λ z. absurd (omega (arith, e, z))))
 
-module _ (g : Graph) (is : IsSmallGraph g) (t0 : ForestTables) (valid : IsValidFor g t0) (b : ℕ) (high : g.n ≤ b) (inner : (forest_of t0).label b ≡ Inner) (weightless : (forest_of t0).weight b ≡ pos 0)
+module _ (g : WeightedGraph) (is : IsSmallGraph g) (t0 : ForestTables) (valid : IsValidFor g t0) (b : ℕ) (high : g.n ≤ b) (inner : (forest_of t0).label b ≡ Inner) (weightless : (forest_of t0).weight b ≡ pos 0)
     (f2 : Forest) (parted : IsParted g.n (mated (labelled (forest_of t0) b Outside) b None) f2 (listed (forest_of t0).nest.after ((forest_of t0).nest.head b) ((forest_of t0).nest.parts b)) b) where
   abbrev d : Darts
   d = darts_of g

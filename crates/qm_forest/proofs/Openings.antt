@@ -1,7 +1,7 @@
 -- The ring of an inner set that is opened: what holds of the set before, and of its parts after.
 use Rattle.std.proofs.Common.{◌≡◌, ◌≢◌, ℕ, suc, ◌+◌, ◌*◌, ◌<◌, ◌≤◌, Bool, true, false, cond, eqb, length, pos, Some, None, ◌⊎◌, sym, ◌∙◌, ap, subst, inl, inr, arith}
 use Rattle.std.proofs.lemmas.Bool.{cases_Bool, cases_eq, cond-true, cond-false, eq-eqb, eqb-true, ne_eqb}
-use Rattle.def_matching.specs.Matching.{Graph, IsSmallGraph}
+use Rattle.def_matching.specs.Matching.{WeightedGraph, IsSmallGraph}
 use Rattle.def_forest.specs.Darts.{AreDarts, Darts, darts_of, far}
 use Rattle.def_forest.specs.Forests.{Forest, IsOutermost, IsTight, walk}
 use Rattle.def_forest.specs.Opened.{Opening, IsOpening}
@@ -20,7 +20,7 @@ use Rattle.qm_forest.specs.Ties.{HasSameNest, labelled, mated}
 use Rattle.qm_forest.proofs.Increases.{named_low}
 
 -- An inner set of weight 0 of a valid forest.
-module _ (g : Graph) (is : IsSmallGraph g) (t0 : ForestTables) (valid : IsValidFor g t0) (b : ℕ) (high : g.n ≤ b) (inner : (forest_of t0).label b ≡ Inner) (weightless : (forest_of t0).weight b ≡ pos 0) where
+module _ (g : WeightedGraph) (is : IsSmallGraph g) (t0 : ForestTables) (valid : IsValidFor g t0) (b : ℕ) (high : g.n ≤ b) (inner : (forest_of t0).label b ≡ Inner) (weightless : (forest_of t0).weight b ≡ pos 0) where
   abbrev d : Darts
   d = darts_of g
 

@@ -10,7 +10,7 @@ use Rattle.def_math.specs.Sums.{total, total_below}
 use Rattle.sum_laws.proofs.Counts.{count_below_one, count_below_total, count_total}
 use Rattle.qm_dual.proofs.Entries.{total_entries}
 use Rattle.sum_laws.proofs.Sums.{total_below_same, total_below_sum}
-use Rattle.def_forest.specs.Forests.{live_at, number}
+use Rattle.def_forest.specs.Forests.{live_at, bool_number}
 use Rattle.def_forest.specs.Tables.{ForestTables, up_at}
 use Rattle.qm_forest.specs.Outlines.{AreDistinct, AreEntries, AreWeights, IsListOf, entry_of, set_in}
 use Rattle.qm_forest.specs.Rounds.{AreInOrder, IsSized}
@@ -72,18 +72,18 @@ module _ (t : ForestTables) (sets : List (ℕ × ℕ)) (order : AreInOrder t set
 
   -- No set stands at two places.
   pub distinct : AreDistinct sets
-  distinct j k lt l same = omega (arith, two_places (λ (set : ℕ × ℕ). number (eqb set.1 x)) sets j k (0, 0) lt l, at j same, at k refl, order.has.counts (λ b. number (eqb b x)), one)
+  distinct j k lt l same = omega (arith, two_places (λ (set : ℕ × ℕ). bool_number (eqb set.1 x)) sets j k (0, 0) lt l, at j same, at k refl, order.has.counts (λ b. bool_number (eqb b x)), one)
     where
       x : ℕ
       x = set_in sets k
 
-      at : (i : ℕ) → set_in sets i ≡ x → number (eqb (get_or sets i (0, 0)).1 x) ≡ 1
-      at i e = ap number (eq-eqb (set_in sets i) x e)
+      at : (i : ℕ) → set_in sets i ≡ x → bool_number (eqb (get_or sets i (0, 0)).1 x) ≡ 1
+      at i e = ap bool_number (eq-eqb (set_in sets i) x e)
 
-      one : count_below (λ b. live_at (length t.hand) (λ i. get_or t.parts i 0) b * number (eqb b x)) (length t.up) ≤ 1
+      one : count_below (λ b. live_at (length t.hand) (λ i. get_or t.parts i 0) b * bool_number (eqb b x)) (length t.up) ≤ 1
       one =
-          let only : count_below (λ b. live_at (length t.hand) (λ i. get_or t.parts i 0) b * number (eqb b x)) (length t.up) ≡ live_at (length t.hand) (λ i. get_or t.parts i 0) x * number (eqb x x) = count_below_one (λ b. live_at (length t.hand) (λ i. get_or t.parts i 0) b * number (eqb b x)) (length t.up) x (set_low k l) (λ b lb ne. (let z : live_at (length t.hand) (λ i. get_or t.parts i 0) b * number (eqb b x) ≡ live_at (length t.hand) (λ i. get_or t.parts i 0) b * 0 = ap (λ (m : ℕ). live_at (length t.hand) (λ i. get_or t.parts i 0) b * m) (ap number (ne_eqb b x ne)) in omega (arith, z))) in
-          let here : live_at (length t.hand) (λ i. get_or t.parts i 0) x * number (eqb x x) ≡ live_at (length t.hand) (λ i. get_or t.parts i 0) x * 1 = ap (λ (m : ℕ). live_at (length t.hand) (λ i. get_or t.parts i 0) x * m) (ap number (eq-eqb x x refl)) in
+          let only : count_below (λ b. live_at (length t.hand) (λ i. get_or t.parts i 0) b * bool_number (eqb b x)) (length t.up) ≡ live_at (length t.hand) (λ i. get_or t.parts i 0) x * bool_number (eqb x x) = count_below_one (λ b. live_at (length t.hand) (λ i. get_or t.parts i 0) b * bool_number (eqb b x)) (length t.up) x (set_low k l) (λ b lb ne. (let z : live_at (length t.hand) (λ i. get_or t.parts i 0) b * bool_number (eqb b x) ≡ live_at (length t.hand) (λ i. get_or t.parts i 0) b * 0 = ap (λ (m : ℕ). live_at (length t.hand) (λ i. get_or t.parts i 0) b * m) (ap bool_number (ne_eqb b x ne)) in omega (arith, z))) in
+          let here : live_at (length t.hand) (λ i. get_or t.parts i 0) x * bool_number (eqb x x) ≡ live_at (length t.hand) (λ i. get_or t.parts i 0) x * 1 = ap (λ (m : ℕ). live_at (length t.hand) (λ i. get_or t.parts i 0) x * m) (ap bool_number (eq-eqb x x refl)) in
           omega (arith, only, here, live_low x)
 
   -- Each set in use stands somewhere.

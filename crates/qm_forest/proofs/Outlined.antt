@@ -9,10 +9,10 @@ use Rattle.sum_laws.proofs.Counts.{count_below_same}
 use Rattle.qm_dual.proofs.Entries.{total_entries}
 use Rattle.sum_laws.proofs.Sums.{total_below_one, total_below_same, total_below_sum}
 use Rattle.sum_laws.proofs.Tests.{same_test}
-use Rattle.def_matching.specs.Matching.{Graph, IsSmallGraph, edge_at}
-use Rattle.def_matching.specs.Dual.{DualLists, SaysYes, IsNested, crosses, dual_sum, holds, is_odd_size, is_up, load as dual_load, set_size, sets_from, y_at, z_at}
+use Rattle.def_matching.specs.Matching.{WeightedGraph, IsSmallGraph, edge_at}
+use Rattle.def_matching.specs.Dual.{DualLists, SaysYes, AreNestedSets, crosses, dual_sum, holds, is_odd_size, is_up, load as dual_load, set_size, sets_from, y_at, z_at}
 use Rattle.def_forest.specs.Darts.{AreDarts, darts_of}
-use Rattle.def_forest.specs.Forests.{Forest, dual_sum_of, load, number, splits, vertices_in, walk}
+use Rattle.def_forest.specs.Forests.{Forest, dual_sum_of, weight_between, bool_number, splits, blossom_size, walk}
 use Rattle.def_forest.specs.Tables.{ForestTables, forest_of, climbs, up_at}
 use Rattle.def_forest.specs.Written.{IsDualOf}
 use Rattle.forest_laws.proofs.Graphs.{are_darts, dart_cost, dart_far, dart_near}
@@ -192,7 +192,7 @@ module _ (t : ForestTables) (known : IsLaminar t) (sets : List (ℕ × ℕ)) (d 
   y_is : (v : ℕ) → v < n → y_at d v ≡ f.weight v
   y_is v l = is.y.each v l
 
-  module _ (g : Graph) (small : IsSmallGraph g) (valid : IsSoundFor g t) where
+  module _ (g : WeightedGraph) (small : IsSmallGraph g) (valid : IsSoundFor g t) where
     abbrev are : AreDarts (darts_of g)
     are = are_darts g small.lawful
 
@@ -223,7 +223,7 @@ module _ (t : ForestTables) (known : IsLaminar t) (sets : List (ℕ × ℕ)) (d 
       sum = sum_is;
     }
 
-    nested : IsNested g.n (length d.z) d.up
+    nested : AreNestedSets g.n (length d.z) d.up
     nested = record {
       entries = is.entries.size ∙ (ap (λ x. x + m) valid.vertices ∙ ap (λ x. g.n + x) (sym sets_many));
       later = λ i l. subst (λ x. is_up x (length d.z) i (get_or d.up i 0) ≡ true) valid.vertices (subst (λ x. is_up n x i (get_or d.up i 0) ≡ true) (sym sets_many) (by_place i (omega (arith, l, valid.vertices, sets_many)) (cases_lt i n)));
@@ -244,12 +244,12 @@ module _ (t : ForestTables) (known : IsLaminar t) (sets : List (ℕ × ℕ)) (d 
             at i (set_in sets (i - n)) (ap (λ z. get_or d.up z 0) i_is ∙ is.entries.sets (i - n) k_low) (λ ne. omega (arith, inner_later (i - n) (set_in sets (i - n)) k_low refl ne, high))
 
     -- A set has as many vertices as it had.
-    size_is : (k : ℕ) → k < m → set_size g.n d k ≡ vertices_in g.n f (set_in sets k)
-    size_is k l = count_below_same (λ v. cond (holds g.n d k v) 1 0) (λ v. number (f.holds (set_in sets k) v)) g.n (λ v lv. ap number (ap (λ x. holds x d k v) (sym valid.vertices) ∙ holds_is k l v (low_in v lv)))
+    size_is : (k : ℕ) → k < m → set_size g.n d k ≡ blossom_size g.n f (set_in sets k)
+    size_is k l = count_below_same (λ v. cond (holds g.n d k v) 1 0) (λ v. bool_number (f.holds (set_in sets k) v)) g.n (λ v lv. ap bool_number (ap (λ x. holds x d k v) (sym valid.vertices) ∙ holds_is k l v (low_in v lv)))
 
     size_odd : (k : ℕ) → k < m → is_odd_size (set_size g.n d k) ≡ true
     size_odd k l =
-        ap is_odd_size (size_is k l) ∙ size_lawful (vertices_in g.n f (set_in sets k)) (odd_blossom (darts_of g) are f valid.valid.nested (set_in sets k) (inr (high_in (set_in sets k) (sized t sets is.order k l).high, (sized t sets is.order k l).live)))
+        ap is_odd_size (size_is k l) ∙ size_lawful (blossom_size g.n f (set_in sets k)) (odd_blossom (darts_of g) are f valid.valid.nested (set_in sets k) (inr (high_in (set_in sets k) (sized t sets is.order k l).high, (sized t sets is.order k l).live)))
         (large_set (darts_of g) are f valid.valid.nested (set_in sets k) (high_in (set_in sets k) (sized t sets is.order k l).high) (sized t sets is.order k l).live)
 
     -- What the vertices add to a load.
@@ -267,9 +267,9 @@ module _ (t : ForestTables) (known : IsLaminar t) (sets : List (ℕ × ℕ)) (d 
             ∙ by_two (eqb w u) (eqb w v) (f.weight w) (λ a c. ne (sym (eqb-true w u a) ∙ eqb-true w v c)))
 
     -- The load of an edge is what it was.
-    load_is : (e : ℕ) → e < length g.edges → dual_load g.n d (edge_at g e) ≡ load f (edge_at g e).u (edge_at g e).v
+    load_is : (e : ℕ) → e < length g.edges → dual_load g.n d (edge_at g e) ≡ weight_between f (edge_at g e).u (edge_at g e).v
     load_is e l =
-        let parts : total_below added n +ℤ total_below (λ k. added (set_in sets k)) m ≡ load f u v = sum_parts t sets is.order added known.vertices (λ b h lb. high_term (splits (f.holds b) u v) (f.weight b) (weights_high b h lb)) (λ b h dead. no_term (splits (f.holds b) u v) (f.weight b) (weights_none b h dead)) in
+        let parts : total_below added n +ℤ total_below (λ k. added (set_in sets k)) m ≡ weight_between f u v = sum_parts t sets is.order added known.vertices (λ b h lb. high_term (splits (f.holds b) u v) (f.weight b) (weights_high b h lb)) (λ b h dead. no_term (splits (f.holds b) u v) (f.weight b) (weights_none b h dead)) in
         let sets_load : total_below (λ k. cond (crosses (holds g.n d k) (edge_at g e)) (z_at d k) (pos 0)) (length d.z) ≡ total_below (λ k. added (set_in sets k)) m = ap (total_below (λ k. cond (crosses (holds g.n d k) (edge_at g e)) (z_at d k) (pos 0))) sets_many ∙ total_below_same (λ k. cond (crosses (holds g.n d k) (edge_at g e)) (z_at d k) (pos 0)) (λ k. added (set_in sets k)) m term in
         omega (arith, ints, parts, sets_load, ends_load u v u_low v_low (small.lawful.apart e l), y_is u u_low, y_is v v_low)
       where
@@ -307,8 +307,8 @@ module _ (t : ForestTables) (known : IsLaminar t) (sets : List (ℕ × ℕ)) (d 
     edge_loaded : (e : ℕ) → e < length g.edges → dual_load g.n d (edge_at g e) ≤ℤ (pos 2 *ℤ (edge_at g e).cost)
     edge_loaded e l =
         let low : 2 * e < (darts_of g).count = omega (arith, l) in
-        let here : load f ((darts_of g).near (2 * e)) ((darts_of g).near ((darts_of g).twin (2 * e))) ≤ℤ ((darts_of g).cost (2 * e) +ℤ (darts_of g).cost (2 * e)) = valid.valid.feasible.darts (2 * e) low in
-        let ends : load f ((darts_of g).near (2 * e)) ((darts_of g).near ((darts_of g).twin (2 * e))) ≡ load f (edge_at g e).u (edge_at g e).v = ap (λ x. load f x ((darts_of g).near ((darts_of g).twin (2 * e)))) (dart_near g e) ∙ ap (load f (edge_at g e).u) (dart_far g e) in
+        let here : weight_between f ((darts_of g).near (2 * e)) ((darts_of g).near ((darts_of g).twin (2 * e))) ≤ℤ ((darts_of g).cost (2 * e) +ℤ (darts_of g).cost (2 * e)) = valid.valid.feasible.darts (2 * e) low in
+        let ends : weight_between f ((darts_of g).near (2 * e)) ((darts_of g).near ((darts_of g).twin (2 * e))) ≡ weight_between f (edge_at g e).u (edge_at g e).v = ap (λ x. weight_between f x ((darts_of g).near ((darts_of g).twin (2 * e)))) (dart_near g e) ∙ ap (weight_between f (edge_at g e).u) (dart_far g e) in
         let cost : (darts_of g).cost (2 * e) ≡ (edge_at g e).cost = dart_cost g e in
         omega (arith, ints, here, ends, cost, load_is e l)
 

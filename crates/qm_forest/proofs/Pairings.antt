@@ -5,9 +5,9 @@ use Rattle.std.specs.Prelude.{nat_lt}
 use Rattle.std.proofs.lemmas.Bool.{cases_eq, cases_lt, cases_Bool, cond-true, cond-false, eq-eqb, ne_eqb, lt-ltb, le-ltb}
 use Rattle.def_math.specs.Counts.{count_below}
 use Rattle.sum_laws.proofs.Counts.{count_below_same, count_below_sum, count_below_one}
-use Rattle.def_matching.specs.Matching.{Graph, IsSmallGraph}
-use Rattle.def_forest.specs.Darts.{darts_of, twin_of}
-use Rattle.def_forest.specs.Forests.{IsTight, number, splits}
+use Rattle.def_matching.specs.Matching.{WeightedGraph, IsSmallGraph}
+use Rattle.def_forest.specs.Darts.{darts_of, other_dart}
+use Rattle.def_forest.specs.Forests.{IsTight, bool_number, splits}
 use Rattle.def_forest.specs.Tables.{ForestTables, forest_of}
 use Rattle.forest_laws.proofs.Facts.{tight_twin}
 use Rattle.forest_laws.proofs.Graphs.{are_darts, twin_even, twin_odd}
@@ -72,7 +72,7 @@ module _ (t : ForestTables) (vertices : length t.hand ≤ length t.up)
       by_size (inr h) (inr ne) = inr (ap (λ xs. get_or xs c None) (cond-false (nat_lt x n) left (set left x (Some u)) (le-ltb x n h)) ∙ get_or-set_other left x c (Some u) None ne)
 
   module _ (marks : List Bool) (left : List (Option ℕ)) (x y d : ℕ) (rest due : ℕ → ℕ) (size_marks : length t.near ≡ 2 * length marks) (size_left : length left ≡ length t.up)
-      (round : IsRound t marks left (λ b. (number (within t b x) + number (within t b y)) + rest b) due) (pairing : IsPairing t x y d) where
+      (round : IsRound t marks left (λ b. (bool_number (within t b x) + bool_number (within t b y)) + rest b) due) (pairing : IsPairing t x y d) where
     abbrev e : ℕ
     e = d / 2
 
@@ -92,10 +92,10 @@ module _ (t : ForestTables) (vertices : length t.hand ≤ length t.up)
         by_side : (d % 2 ≡ 0) ⊎ (d % 2 ≢ 0) → splits ((forest_of t).holds b) (near_at t (2 * e)) (near_at t (2 * e + 1)) ≡ splits ((forest_of t).holds b) u v
         by_side (inl z) =
             let first : 2 * e ≡ d = omega (arith, z) in
-            let second : 2 * e + 1 ≡ twin_of d = (let s : 2 * e + 1 ≡ d + 1 = omega (arith, z) in s ∙ sym (twin_even d z)) in
+            let second : 2 * e + 1 ≡ other_dart d = (let s : 2 * e + 1 ≡ d + 1 = omega (arith, z) in s ∙ sym (twin_even d z)) in
             ap (λ k. splits ((forest_of t).holds b) (near_at t k) (near_at t (2 * e + 1))) first ∙ ap (λ k. splits ((forest_of t).holds b) u (near_at t k)) second
         by_side (inr nz) =
-            let first : 2 * e ≡ twin_of d = (let s : 2 * e ≡ d - 1 = omega (arith, nz) in s ∙ sym (twin_odd d nz)) in
+            let first : 2 * e ≡ other_dart d = (let s : 2 * e ≡ d - 1 = omega (arith, nz) in s ∙ sym (twin_odd d nz)) in
             let second : 2 * e + 1 ≡ d = omega (arith, nz) in
             ap (λ k. splits ((forest_of t).holds b) (near_at t k) (near_at t (2 * e + 1))) first ∙ (ap (λ k. splits ((forest_of t).holds b) v (near_at t k)) second ∙ by_order ((forest_of t).holds b v) ((forest_of t).holds b u))
 
@@ -110,13 +110,13 @@ module _ (t : ForestTables) (vertices : length t.hand ≤ length t.up)
         by_test (inr off) = off
         by_test (inl on) =
             let at_u : splits ((forest_of t).holds u) u v ≡ true = ap (λ (s : Bool). cond s (not ((forest_of t).holds u v)) ((forest_of t).holds u v)) (alone u u pairing.near_low pairing.near_low ∙ eq-eqb u u refl) ∙ ap not (alone u v pairing.near_low pairing.far_low ∙ ne_eqb u v pairing.apart) in
-            let one : number (get_or marks e false && splits ((forest_of t).holds u) (near_at t (2 * e)) (near_at t (2 * e + 1))) ≡ 1 = ap (λ (s : Bool). number (s && splits ((forest_of t).holds u) (near_at t (2 * e)) (near_at t (2 * e + 1)))) on ∙ ap number (sides u ∙ at_u) in
-            let some : number (get_or marks e false && splits ((forest_of t).holds u) (near_at t (2 * e)) (near_at t (2 * e + 1))) ≤ leaving t marks u = term_low (λ k. number (get_or marks k false && splits ((forest_of t).holds u) (near_at t (2 * k)) (near_at t (2 * k + 1)))) (length marks) e e_low in
-            let in_x : number (within t u x) ≡ 1 = ap number pairing.near_held in
+            let one : bool_number (get_or marks e false && splits ((forest_of t).holds u) (near_at t (2 * e)) (near_at t (2 * e + 1))) ≡ 1 = ap (λ (s : Bool). bool_number (s && splits ((forest_of t).holds u) (near_at t (2 * e)) (near_at t (2 * e + 1)))) on ∙ ap bool_number (sides u ∙ at_u) in
+            let some : bool_number (get_or marks e false && splits ((forest_of t).holds u) (near_at t (2 * e)) (near_at t (2 * e + 1))) ≤ leaving t marks u = term_low (λ k. bool_number (get_or marks k false && splits ((forest_of t).holds u) (near_at t (2 * k)) (near_at t (2 * k + 1)))) (length marks) e e_low in
+            let in_x : bool_number (within t u x) ≡ 1 = ap bool_number pairing.near_held in
             absurd (omega (arith, one, some, in_x, round.each u low_u, round.once u pairing.near_low))
 
     -- Neither blossom waited.
-    free_of : (c w : ℕ) → c < length t.up → (n ≤ c → get_or t.parts c 0 ≢ 0) → ((b : ℕ) → number (within t b c) ≤ number (within t b x) + number (within t b y)) → n ≤ c → get_or left c None ≡ None
+    free_of : (c w : ℕ) → c < length t.up → (n ≤ c → get_or t.parts c 0 ≢ 0) → ((b : ℕ) → bool_number (within t b c) ≤ bool_number (within t b x) + bool_number (within t b y)) → n ≤ c → get_or left c None ≡ None
     free_of c w low live covered high = by_entry (option_cases (get_or left c None))
       where
         by_entry : (get_or left c None ≡ None) ⊎ ((s : ℕ) × (get_or left c None ≡ Some s)) → get_or left c None ≡ None
@@ -128,7 +128,7 @@ module _ (t : ForestTables) (vertices : length t.hand ≤ length t.up)
             ∙ (ap (λ (q : Bool). cond q (cond ((forest_of t).holds other.0 s.0) 0 1) 0) other.3
             ∙ ap (λ (q : Bool). cond q 0 1) (alone other.0 s.0 other.1 entry.low ∙ ne_eqb other.0 s.0 other.2)) in
             let some : waits_for t other.0 c (get_or left c None) ≤ waiting t left other.0 = term_low (λ k. waits_for t other.0 k (get_or left k None)) (length left) c (subst (λ m. c < m) (sym size_left) low) in
-            let in_c : number (within t other.0 c) ≡ 1 = ap number other.3 in
+            let in_c : bool_number (within t other.0 c) ≡ 1 = ap bool_number other.3 in
             let low_z : other.0 < length t.up = omega (arith, other.1, vertices) in
             absurd (omega (arith, waits, some, in_c, covered other.0, round.each other.0 low_z, round.once other.0 other.1))
 
@@ -156,12 +156,12 @@ module _ (t : ForestTables) (vertices : length t.hand ≤ length t.up)
         entered_more first_left y v b (subst (λ m. y < m) (sym (entered_size left x u ∙ size_left)) pairing.low_y) free_y2 (zero_at y v b pairing.far_held)
         ∙ ap (λ m. m + waits_but t b y v) (entered_more left x u b (subst (λ m. x < m) (sym size_left) pairing.low_x) free_x (zero_at x u b pairing.near_held))
 
-    leaving_now : (b : ℕ) → leaving t (set marks e true) b ≡ leaving t marks b + number (splits ((forest_of t).holds b) u v)
+    leaving_now : (b : ℕ) → leaving t (set marks e true) b ≡ leaving t marks b + bool_number (splits ((forest_of t).holds b) u v)
     leaving_now b =
-        ap (count_below (λ k. number (get_or (set marks e true) k false && splits ((forest_of t).holds b) (near_at t (2 * k)) (near_at t (2 * k + 1))))) (length-set marks e true)
-        ∙ (count_more (λ k. number (get_or marks k false && splits ((forest_of t).holds b) (near_at t (2 * k)) (near_at t (2 * k + 1)))) (λ k. number (get_or (set marks e true) k false && splits ((forest_of t).holds b) (near_at t (2 * k)) (near_at t (2 * k + 1)))) (length marks) e e_low
-        (ap (λ (s : Bool). number (s && splits ((forest_of t).holds b) (near_at t (2 * e)) (near_at t (2 * e + 1)))) fresh) (λ k lk ne. ap (λ (s : Bool). number (s && splits ((forest_of t).holds b) (near_at t (2 * k)) (near_at t (2 * k + 1)))) (get_or-set_other marks e k true false ne))
-        ∙ ap (λ m. leaving t marks b + m) (ap (λ (s : Bool). number (s && splits ((forest_of t).holds b) (near_at t (2 * e)) (near_at t (2 * e + 1)))) (get_or-set_same marks e true false e_low) ∙ ap number (sides b)))
+        ap (count_below (λ k. bool_number (get_or (set marks e true) k false && splits ((forest_of t).holds b) (near_at t (2 * k)) (near_at t (2 * k + 1))))) (length-set marks e true)
+        ∙ (count_more (λ k. bool_number (get_or marks k false && splits ((forest_of t).holds b) (near_at t (2 * k)) (near_at t (2 * k + 1)))) (λ k. bool_number (get_or (set marks e true) k false && splits ((forest_of t).holds b) (near_at t (2 * k)) (near_at t (2 * k + 1)))) (length marks) e e_low
+        (ap (λ (s : Bool). bool_number (s && splits ((forest_of t).holds b) (near_at t (2 * e)) (near_at t (2 * e + 1)))) fresh) (λ k lk ne. ap (λ (s : Bool). bool_number (s && splits ((forest_of t).holds b) (near_at t (2 * k)) (near_at t (2 * k + 1)))) (get_or-set_other marks e k true false ne))
+        ∙ ap (λ m. leaving t marks b + m) (ap (λ (s : Bool). bool_number (s && splits ((forest_of t).holds b) (near_at t (2 * e)) (near_at t (2 * e + 1)))) (get_or-set_same marks e true false e_low) ∙ ap bool_number (sides b)))
 
     entry_now : (c w : ℕ) → get_or (entered n first_left y v) c None ≡ Some w → IsEntry t c w
     entry_now c w is = by_last (entry_cases first_left y v c (subst (λ m. y < m) (sym (entered_size left x u ∙ size_left)) pairing.low_y))
@@ -179,15 +179,15 @@ module _ (t : ForestTables) (vertices : length t.hand ≤ length t.up)
 
     pub paired_round : IsRound t (set marks (d / 2) true) (entered (length t.hand) (entered (length t.hand) left x (near_at t d)) y (far_at t d)) rest due
     paired_round = record {
-      each = λ b l. (let law : number (splits ((forest_of t).holds b) u v) + (waits_but t b x u + waits_but t b y v) ≡ number (within t b x) + number (within t b y) = pairing.law b l in
-          let was : leaving t marks b + (waiting t left b + ((number (within t b x) + number (within t b y)) + rest b)) ≡ due b = round.each b l in
+      each = λ b l. (let law : bool_number (splits ((forest_of t).holds b) u v) + (waits_but t b x u + waits_but t b y v) ≡ bool_number (within t b x) + bool_number (within t b y) = pairing.law b l in
+          let was : leaving t marks b + (waiting t left b + ((bool_number (within t b x) + bool_number (within t b y)) + rest b)) ≡ due b = round.each b l in
           omega (arith, law, was, leaving_now b, waiting_now b));
       entry = entry_now;
       once = round.once;
       tight = λ g is valid k on. tight_now g is valid k on (cases_eq k e);
     }
       where
-        tight_now : (g : Graph) → IsSmallGraph g → IsSoundFor g t → (k : ℕ) → get_or (set marks e true) k false ≡ true → (k ≡ e) ⊎ (k ≢ e) → IsTight (darts_of g) (forest_of t) (2 * k)
+        tight_now : (g : WeightedGraph) → IsSmallGraph g → IsSoundFor g t → (k : ℕ) → get_or (set marks e true) k false ≡ true → (k ≡ e) ⊎ (k ≢ e) → IsTight (darts_of g) (forest_of t) (2 * k)
         tight_now g is valid k on (inr ne) = round.tight g is valid k (sym (get_or-set_other marks e k true false ne) ∙ on)
         tight_now g is valid k on (inl at) = by_side (cases_eq (d % 2) 0)
           where

@@ -9,7 +9,7 @@ use Rattle.std.proofs.lemmas.Bool.{cases_eq, cases_Bool}
 use Rattle.def_math.specs.Sums.{total_below}
 use Rattle.sum_laws.proofs.Sums.{total_below_same}
 use Rattle.def_forest.specs.Forests.{walk, set_at}
-use Rattle.def_forest.specs.Steps.{change}
+use Rattle.def_forest.specs.Steps.{weight_change}
 use Rattle.def_forest.specs.Tables.{ForestTables, forest_of, climbs, label_at, out_of, up_at, weight_at}
 use Rattle.def_forest.specs.declared.kinds.Label.{Label}
 use Rattle.def_forest.specs.declared.kinds.Label.TheVariants.{Outside}
@@ -152,20 +152,20 @@ module _ (t : ForestTables) (hid : HiddenTables) (tied : AreTied t hid) (b : ℕ
           ∙ (ap (λ (f : ℕ → ℤ). f (get_or t.hand v 0)) off_is
           ∙ writes_off (λ h. get_or hid.off h (pos 0)) (λ k. get_or hid.leader (at k) 0) (λ k. get_or hid.off (get_or hid.leader b 0) (pos 0)) many (get_or t.hand v 0) (λ k lk. hand_apart v k l off lk))
 
-  change_none : (x : ℕ) → label_at t.label x ≡ Outside → change (label_at t.label x) t.delta ≡ pos 0
-  change_none x e = ap (λ (l : Label). change l t.delta) e
+  change_none : (x : ℕ) → label_at t.label x ≡ Outside → weight_change (label_at t.label x) t.delta ≡ pos 0
+  change_none x e = ap (λ (l : Label). weight_change l t.delta) e
 
-  change_new : (v : ℕ) → v < n → change (label_at t.label (out_of hand2 top2 v)) t.delta ≡ change (label_at t.label (out v)) t.delta
-  change_new v l = ap (λ x. change (label_at t.label x) t.delta) (out_new v l) ∙ by_test (cases_Bool (inside (fresh v)))
+  change_new : (v : ℕ) → v < n → weight_change (label_at t.label (out_of hand2 top2 v)) t.delta ≡ weight_change (label_at t.label (out v)) t.delta
+  change_new v l = ap (λ x. weight_change (label_at t.label x) t.delta) (out_new v l) ∙ by_test (cases_Bool (inside (fresh v)))
     where
-      by_test : (inside (fresh v) ≡ true) ⊎ (inside (fresh v) ≡ false) → change (label_at t.label (fresh v)) t.delta ≡ change (label_at t.label (out v)) t.delta
+      by_test : (inside (fresh v) ≡ true) ⊎ (inside (fresh v) ≡ false) → weight_change (label_at t.label (fresh v)) t.delta ≡ weight_change (label_at t.label (out v)) t.delta
       by_test (inl on) = change_none (fresh v) (the_part_outside t hid tied b ready up2 up_is (fresh v) on)
-          ∙ sym (ap (λ x. change (label_at t.label x) t.delta) (out_in v l on) ∙ change_none b ready.outside)
-      by_test (inr off) = ap (λ x. change (label_at t.label x) t.delta) (sym (out_off v l off))
+          ∙ sym (ap (λ x. weight_change (label_at t.label x) t.delta) (out_in v l on) ∙ change_none b ready.outside)
+      by_test (inr off) = ap (λ x. weight_change (label_at t.label x) t.delta) (sym (out_off v l off))
 
   added_new : (v : ℕ) → v < n → added hand2 top2 off2 t.label t.delta v ≡ added t.hand t.top hid.off t.label t.delta v
   added_new v l = (let o : get_or off2 (get_or hand2 v 0) (pos 0) ≡ get_or hid.off (get_or t.hand v 0) (pos 0) = off_new v l in
-      let c : change (label_at t.label (out_of hand2 top2 v)) t.delta ≡ change (label_at t.label (out v)) t.delta = change_new v l in
+      let c : weight_change (label_at t.label (out_of hand2 top2 v)) t.delta ≡ weight_change (label_at t.label (out v)) t.delta = change_new v l in
       omega (arith, ints, o, c))
 
   told_new : (v : ℕ) → v < n → told q2 hand2 top2 off2 t.label t.delta v ≡ told hid.q t.hand t.top hid.off t.label t.delta v

@@ -9,7 +9,7 @@ use Rattle.std.proofs.lemmas.List.Sums.{sum_by-set}
 use Rattle.std.proofs.lemmas.Option.{slice_get-get_or, slice_get_past, slice_get_within, get_or_from_slice_get}
 use Rattle.def_math.specs.Counts.{count_below}
 use Rattle.sum_laws.proofs.Counts.{count_below_same, count_below_sum, count_below_one}
-use Rattle.def_forest.specs.Forests.{live_at, number}
+use Rattle.def_forest.specs.Forests.{live_at, bool_number}
 use Rattle.qm_pool.specs.declared.pool.Node.{Node}
 use Rattle.qm_forest.specs.Ties.{IsPooled}
 
@@ -63,16 +63,16 @@ module _ (n size : ℕ) (parts : List ℕ) (pool : List (Option Node)) (pooled :
   live_b : (parts' : List ℕ) (m : ℕ) → get_or parts' b 0 ≡ m → live_at n (λ i. get_or parts' i 0) b ≡ cond (eqb m 0) 0 1
   live_b parts' m is = cond-false (nat_lt b n) 0 (cond (eqb (get_or parts' b 0) 0) 0 1) (le-ltb b n high) ∙ ap (λ k. cond (eqb k 0) 0 1) is
 
-  live_new : (x : ℕ) → (x ≡ b) ⊎ (x ≢ b) → live_at n (λ i. get_or parts2 i 0) x ≡ live_at n (λ i. get_or parts i 0) x + number (eqb x b)
+  live_new : (x : ℕ) → (x ≡ b) ⊎ (x ≢ b) → live_at n (λ i. get_or parts2 i 0) x ≡ live_at n (λ i. get_or parts i 0) x + bool_number (eqb x b)
   live_new x (inl e) =
       let some' : ◌≡◌ {A = ℕ} (cond (eqb many 0) 0 1) 1 = cond-false (eqb many 0) 0 1 (ne_eqb many 0 some) in
       let here' : live_at n (λ i. get_or parts2 i 0) x ≡ cond (eqb many 0) 0 1 = ap (live_at n (λ i. get_or parts2 i 0)) e ∙ live_b parts2 many at_b in
       let gone : live_at n (λ i. get_or parts i 0) x ≡ 0 = ap (live_at n (λ i. get_or parts i 0)) e ∙ live_b parts 0 dead in
-      let mark : number (eqb x b) ≡ 1 = ap number (eq-eqb x b e) in
+      let mark : bool_number (eqb x b) ≡ 1 = ap bool_number (eq-eqb x b e) in
       omega (arith, some', here', gone, mark)
   live_new x (inr ne) =
       let same : live_at n (λ i. get_or parts2 i 0) x ≡ live_at n (λ i. get_or parts i 0) x = ap (λ m. cond (nat_lt x n) 0 (cond (eqb m 0) 0 1)) (at_old x ne) in
-      let mark : number (eqb x b) ≡ 0 = ap number (ne_eqb x b ne) in
+      let mark : bool_number (eqb x b) ≡ 0 = ap bool_number (ne_eqb x b ne) in
       omega (arith, same, mark)
 
   counted : count_by is_some pool2 ≡ count_below (live_at n (λ i. get_or parts2 i 0)) size
@@ -80,9 +80,9 @@ module _ (n size : ℕ) (parts : List ℕ) (pool : List (Option Node)) (pooled :
       let none : get_or pool id None ≡ None = get_or_from_slice_get pool id None None id_free in
       let was : ◌≡◌ {A = ℕ} (cond (is_some (get_or pool id None)) 1 0) 0 = ap (λ (o : Option Node). cond (is_some o) 1 0) none in
       let pools : count_by is_some pool2 + cond (is_some (get_or pool id None)) 1 0 ≡ count_by is_some pool + 1 = sum_by-set (λ (o : Option Node). cond (is_some o) 1 0) pool id (Some node) None id_low in
-      let each : count_below (live_at n (λ i. get_or parts2 i 0)) size ≡ count_below (λ x. live_at n (λ i. get_or parts i 0) x + number (eqb x b)) size = count_below_same (live_at n (λ i. get_or parts2 i 0)) (λ x. live_at n (λ i. get_or parts i 0) x + number (eqb x b)) size (λ x l. live_new x (cases_eq x b)) in
-      let split : count_below (λ x. live_at n (λ i. get_or parts i 0) x + number (eqb x b)) size ≡ count_below (live_at n (λ i. get_or parts i 0)) size + count_below (λ x. number (eqb x b)) size = count_below_sum (live_at n (λ i. get_or parts i 0)) (λ x. number (eqb x b)) size in
-      let one : count_below (λ x. number (eqb x b)) size ≡ 1 = count_below_one (λ x. number (eqb x b)) size b low (λ x l ne. ap number (ne_eqb x b ne)) ∙ ap number (eq-eqb b b refl) in
+      let each : count_below (live_at n (λ i. get_or parts2 i 0)) size ≡ count_below (λ x. live_at n (λ i. get_or parts i 0) x + bool_number (eqb x b)) size = count_below_same (live_at n (λ i. get_or parts2 i 0)) (λ x. live_at n (λ i. get_or parts i 0) x + bool_number (eqb x b)) size (λ x l. live_new x (cases_eq x b)) in
+      let split : count_below (λ x. live_at n (λ i. get_or parts i 0) x + bool_number (eqb x b)) size ≡ count_below (live_at n (λ i. get_or parts i 0)) size + count_below (λ x. bool_number (eqb x b)) size = count_below_sum (live_at n (λ i. get_or parts i 0)) (λ x. bool_number (eqb x b)) size in
+      let one : count_below (λ x. bool_number (eqb x b)) size ≡ 1 = count_below_one (λ x. bool_number (eqb x b)) size b low (λ x l ne. ap bool_number (ne_eqb x b ne)) ∙ ap bool_number (eq-eqb b b refl) in
       omega (arith, was, pools, each, split, one, pooled.counted)
 
   pub pool_taken : IsPooled n size (set parts b many) (set pool id (Some node))
@@ -145,16 +145,16 @@ module _ (n size : ℕ) (parts : List ℕ) (pool : List (Option Node)) (pooled :
   mark_b : (parts' : List ℕ) (m : ℕ) → get_or parts' b 0 ≡ m → live_at n (λ i. get_or parts' i 0) b ≡ cond (eqb m 0) 0 1
   mark_b parts' m is = cond-false (nat_lt b n) 0 (cond (eqb (get_or parts' b 0) 0) 0 1) (le-ltb b n high) ∙ ap (λ k. cond (eqb k 0) 0 1) is
 
-  live_old : (x : ℕ) → (x ≡ b) ⊎ (x ≢ b) → live_at n (λ i. get_or parts i 0) x ≡ live_at n (λ i. get_or parts3 i 0) x + number (eqb x b)
+  live_old : (x : ℕ) → (x ≡ b) ⊎ (x ≢ b) → live_at n (λ i. get_or parts i 0) x ≡ live_at n (λ i. get_or parts3 i 0) x + bool_number (eqb x b)
   live_old x (inl e) =
       let some' : ◌≡◌ {A = ℕ} (cond (eqb (get_or parts b 0) 0) 0 1) 1 = cond-false (eqb (get_or parts b 0) 0) 0 1 (ne_eqb (get_or parts b 0) 0 live') in
       let was : live_at n (λ i. get_or parts i 0) x ≡ cond (eqb (get_or parts b 0) 0) 0 1 = ap (live_at n (λ i. get_or parts i 0)) e ∙ mark_b parts (get_or parts b 0) refl in
       let gone : live_at n (λ i. get_or parts3 i 0) x ≡ 0 = ap (live_at n (λ i. get_or parts3 i 0)) e ∙ mark_b parts3 0 none_b in
-      let mark : number (eqb x b) ≡ 1 = ap number (eq-eqb x b e) in
+      let mark : bool_number (eqb x b) ≡ 1 = ap bool_number (eq-eqb x b e) in
       omega (arith, some', was, gone, mark)
   live_old x (inr ne) =
       let same : live_at n (λ i. get_or parts3 i 0) x ≡ live_at n (λ i. get_or parts i 0) x = ap (λ m. cond (nat_lt x n) 0 (cond (eqb m 0) 0 1)) (old_at x ne) in
-      let mark : number (eqb x b) ≡ 0 = ap number (ne_eqb x b ne) in
+      let mark : bool_number (eqb x b) ≡ 0 = ap bool_number (ne_eqb x b ne) in
       omega (arith, same, mark)
 
   counted3 : count_by is_some pool3 ≡ count_below (live_at n (λ i. get_or parts3 i 0)) size
@@ -162,9 +162,9 @@ module _ (n size : ℕ) (parts : List ℕ) (pool : List (Option Node)) (pooled :
       let some : get_or pool id None ≡ Some node = get_or_from_slice_get pool id (Some node) None id_live in
       let was : ◌≡◌ {A = ℕ} (cond (is_some (get_or pool id None)) 1 0) 1 = ap (λ (o : Option Node). cond (is_some o) 1 0) some in
       let pools : count_by is_some pool3 + cond (is_some (get_or pool id None)) 1 0 ≡ count_by is_some pool + 0 = sum_by-set (λ (o : Option Node). cond (is_some o) 1 0) pool id None None low_id in
-      let each : count_below (live_at n (λ i. get_or parts i 0)) size ≡ count_below (λ x. live_at n (λ i. get_or parts3 i 0) x + number (eqb x b)) size = count_below_same (live_at n (λ i. get_or parts i 0)) (λ x. live_at n (λ i. get_or parts3 i 0) x + number (eqb x b)) size (λ x l. live_old x (cases_eq x b)) in
-      let split : count_below (λ x. live_at n (λ i. get_or parts3 i 0) x + number (eqb x b)) size ≡ count_below (live_at n (λ i. get_or parts3 i 0)) size + count_below (λ x. number (eqb x b)) size = count_below_sum (live_at n (λ i. get_or parts3 i 0)) (λ x. number (eqb x b)) size in
-      let one : count_below (λ x. number (eqb x b)) size ≡ 1 = count_below_one (λ x. number (eqb x b)) size b low (λ x l ne. ap number (ne_eqb x b ne)) ∙ ap number (eq-eqb b b refl) in
+      let each : count_below (live_at n (λ i. get_or parts i 0)) size ≡ count_below (λ x. live_at n (λ i. get_or parts3 i 0) x + bool_number (eqb x b)) size = count_below_same (live_at n (λ i. get_or parts i 0)) (λ x. live_at n (λ i. get_or parts3 i 0) x + bool_number (eqb x b)) size (λ x l. live_old x (cases_eq x b)) in
+      let split : count_below (λ x. live_at n (λ i. get_or parts3 i 0) x + bool_number (eqb x b)) size ≡ count_below (live_at n (λ i. get_or parts3 i 0)) size + count_below (λ x. bool_number (eqb x b)) size = count_below_sum (live_at n (λ i. get_or parts3 i 0)) (λ x. bool_number (eqb x b)) size in
+      let one : count_below (λ x. bool_number (eqb x b)) size ≡ 1 = count_below_one (λ x. bool_number (eqb x b)) size b low (λ x l ne. ap bool_number (ne_eqb x b ne)) ∙ ap bool_number (eq-eqb b b refl) in
       omega (arith, was, pools, each, split, one, pooled.counted)
 
   pub pool_given : IsPooled n size (set parts b 0) (set pool id None)

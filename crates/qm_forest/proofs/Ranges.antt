@@ -7,7 +7,7 @@ use mir.Syntax.{w128}
 use mir.Val.{to_z, of_z}
 use Rattle.def_math.specs.Sums.{total_below}
 use Rattle.def_forest.specs.Forests.{dual_sum_of}
-use Rattle.def_forest.specs.Steps.{change}
+use Rattle.def_forest.specs.Steps.{weight_change}
 use Rattle.def_forest.specs.Tables.{ForestTables, forest_of, label_at, weight_at, out_of, IsOutermostIn}
 use Rattle.def_forest.specs.declared.kinds.Label.{Label}
 use Rattle.def_forest.specs.declared.kinds.Label.TheVariants.{Outer, Inner, Outside}
@@ -18,7 +18,7 @@ pub sum_small : (f : ℕ → ℤ) (n : ℕ) → ((k : ℕ) → k < n → unsigne
 sum_small f zero each = omega (arith, ints)
 sum_small f (suc n) each = omega (arith, ints, each n (omega arith), sum_small f n (λ k l. each k (omega arith)))
 
-pub change_small : (l : Label) (d : ℤ) → unsigned_abs (change l d) ≤ unsigned_abs d
+pub change_small : (l : Label) (d : ℤ) → unsigned_abs (weight_change l d) ≤ unsigned_abs d
 change_small Outer d = omega (arith, ints)
 change_small Inner d = omega (arith, ints)
 change_small Outside d = omega (arith, ints)
@@ -64,10 +64,10 @@ kept_in_bits z small = omega (arith, ints)
 
 -- What the tables at hand add to a potential.
 pub added_bound : (t : ForestTables) (hid : HiddenTables) → AreTied t hid → (v : ℕ) → v < length t.hand → (xs : List ℤ) (h : ℕ) (l : Label) (d : ℤ)
-    → xs ≡ hid.off → h ≡ get_or t.hand v 0 → l ≡ label_at t.label (out_of t.hand t.top v) → d ≡ t.delta → get_or xs h (pos 0) +ℤ change l d ≡ added t.hand t.top hid.off t.label t.delta v
+    → xs ≡ hid.off → h ≡ get_or t.hand v 0 → l ≡ label_at t.label (out_of t.hand t.top v) → d ≡ t.delta → get_or xs h (pos 0) +ℤ weight_change l d ≡ added t.hand t.top hid.off t.label t.delta v
 added_bound t hid tied v low xs h l d e1 e2 e3 e4 =
-    ap (λ (ys : List ℤ). get_or ys h (pos 0) +ℤ change l d) e1 ∙ (ap (λ k. get_or hid.off k (pos 0) +ℤ change l d) e2
-    ∙ (ap (λ (x : Label). get_or hid.off (get_or t.hand v 0) (pos 0) +ℤ change x d) e3 ∙ ap (λ (x : ℤ). get_or hid.off (get_or t.hand v 0) (pos 0) +ℤ change (label_at t.label (out_of t.hand t.top v)) x) e4))
+    ap (λ (ys : List ℤ). get_or ys h (pos 0) +ℤ weight_change l d) e1 ∙ (ap (λ k. get_or hid.off k (pos 0) +ℤ weight_change l d) e2
+    ∙ (ap (λ (x : Label). get_or hid.off (get_or t.hand v 0) (pos 0) +ℤ weight_change x d) e3 ∙ ap (λ (x : ℤ). get_or hid.off (get_or t.hand v 0) (pos 0) +ℤ weight_change (label_at t.label (out_of t.hand t.top v)) x) e4))
 
 -- What the tables at hand tell of a potential.
 pub told_bound : (t : ForestTables) (hid : HiddenTables) → AreTied t hid → (v : ℕ) → v < length t.hand → (qs : List ℤ) (more : ℤ) → qs ≡ hid.q → more ≡ added t.hand t.top hid.off t.label t.delta v

@@ -1,9 +1,9 @@
 -- A ring is matched in pairs, but for one part; and the round goes on to the set around it.
 use Rattle.std.proofs.Common.{◌≡◌, ◌≢◌, ℕ, zero, suc, ◌+◌, ◌-◌, ◌*◌, ◌/◌, ◌<◌, ◌≤◌, Bool, true, false, cond, List, length, get_or, Option, Some, None, ◌⊎◌, refl, sym, ◌∙◌, ap, subst, inl, inr, arith}
 use Rattle.std.proofs.Math.ListN.{set}
-use Rattle.def_matching.specs.Matching.{Graph, IsSmallGraph}
+use Rattle.def_matching.specs.Matching.{WeightedGraph, IsSmallGraph}
 use Rattle.def_forest.specs.Darts.{darts_of}
-use Rattle.def_forest.specs.Forests.{number, walk, ring_sum}
+use Rattle.def_forest.specs.Forests.{bool_number, walk, ring_sum}
 use Rattle.def_forest.specs.Tables.{ForestTables, forest_of, up_at}
 use Rattle.def_forest.specs.Valid.{IsRing}
 use Rattle.forest_laws.specs.Walks.{listed}
@@ -22,7 +22,7 @@ use Rattle.qm_forest.proofs.Withins.{climb_law, in_where, rank_walk, ring_front}
 pub round_rest : (t : ForestTables) (marks : List Bool) (left : List (Option ℕ)) (rest rest2 due : ℕ → ℕ) → ((b : ℕ) → b < length t.up → rest b ≡ rest2 b) → IsRound t marks left rest due → IsRound t marks left rest2 due
 round_rest t marks left rest rest2 due same round = record { each = λ b l. omega (arith, round.each b l, same b l); entry = round.entry; once = round.once; tight = round.tight }
 
-module _ (t : ForestTables) (known : IsLaminar t) (g : Graph) (is_small : IsSmallGraph g) (valid : IsSoundFor g t) (p : ℕ) (inner : up_at t.up p ≢ p) where
+module _ (t : ForestTables) (known : IsLaminar t) (g : WeightedGraph) (is_small : IsSmallGraph g) (valid : IsSoundFor g t) (p : ℕ) (inner : up_at t.up p ≢ p) where
   abbrev after : ℕ → ℕ
   after k = get_or t.after k 0
 
@@ -74,7 +74,7 @@ module _ (t : ForestTables) (known : IsLaminar t) (g : Graph) (is_small : IsSmal
   at_pairing k = ring_pairing t known g is_small valid (at k) (inner_part (at k) (at_in k))
 
   abbrev sum_from : (x m b : ℕ) → ℕ
-  sum_from x m b = ring_sum after (λ r. number (within t b r)) x m
+  sum_from x m b = ring_sum after (λ r. bool_number (within t b r)) x m
 
   -- Each part and the next are a pair.
   pub turn_pairing : (k x y d : ℕ) → x ≡ at (2 * k) → y ≡ after x → d ≡ get_or t.joint x 0 → IsPairing t x y d
@@ -120,15 +120,15 @@ module _ (t : ForestTables) (known : IsLaminar t) (g : Graph) (is_small : IsSmal
       subst (λ ms. IsRound t ms left2 (λ b. sum_from (after y) (many - 1 - 2 * j) b + rest b) due) (sym marks_is)
       (subst (λ ls. IsRound t (set marks (d / 2) true) ls (λ b. sum_from (after y) (many - 1 - 2 * j) b + rest b) due) (sym left_is)
       (paired_round t known.vertices (alone t known) known.own (another t known g is_small valid) marks left x y d (λ b. sum_from (after y) (many - 1 - 2 * j) b + rest b) due size_marks size_left
-      (round_rest t marks left (λ b. sum_from x (many - 1 - 2 * k) b + rest b) (λ b. (number (within t b x) + number (within t b y)) + (sum_from (after y) (many - 1 - 2 * j) b + rest b)) due (λ b l. peeled b) round) (turn_pairing k x y d x_is y_is d_is)))
+      (round_rest t marks left (λ b. sum_from x (many - 1 - 2 * k) b + rest b) (λ b. (bool_number (within t b x) + bool_number (within t b y)) + (sum_from (after y) (many - 1 - 2 * j) b + rest b)) due (λ b l. peeled b) round) (turn_pairing k x y d x_is y_is d_is)))
     where
-      peeled : (b : ℕ) → sum_from x (many - 1 - 2 * k) b + rest b ≡ (number (within t b x) + number (within t b y)) + (sum_from (after y) (many - 1 - 2 * j) b + rest b)
+      peeled : (b : ℕ) → sum_from x (many - 1 - 2 * k) b + rest b ≡ (bool_number (within t b x) + bool_number (within t b y)) + (sum_from (after y) (many - 1 - 2 * j) b + rest b)
       peeled b =
           let two : many - 1 - 2 * k ≡ suc (suc (many - 1 - 2 * j)) = omega (arith, ring.odd, low, j_is) in
           let one : sum_from x (many - 1 - 2 * k) b ≡ sum_from x (suc (suc (many - 1 - 2 * j))) b = ap (λ m. sum_from x m b) two in
-          let first : sum_from x (suc (suc (many - 1 - 2 * j))) b ≡ number (within t b x) + sum_from (after x) (suc (many - 1 - 2 * j)) b = ring_front after (λ r. number (within t b r)) x (suc (many - 1 - 2 * j)) in
-          let second : sum_from (after x) (suc (many - 1 - 2 * j)) b ≡ number (within t b (after x)) + sum_from (after (after x)) (many - 1 - 2 * j) b = ring_front after (λ r. number (within t b r)) (after x) (many - 1 - 2 * j) in
-          let next : number (within t b (after x)) ≡ number (within t b y) = ap (λ z. number (within t b z)) (sym y_is) in
+          let first : sum_from x (suc (suc (many - 1 - 2 * j))) b ≡ bool_number (within t b x) + sum_from (after x) (suc (many - 1 - 2 * j)) b = ring_front after (λ r. bool_number (within t b r)) x (suc (many - 1 - 2 * j)) in
+          let second : sum_from (after x) (suc (many - 1 - 2 * j)) b ≡ bool_number (within t b (after x)) + sum_from (after (after x)) (many - 1 - 2 * j) b = ring_front after (λ r. bool_number (within t b r)) (after x) (many - 1 - 2 * j) in
+          let next : bool_number (within t b (after x)) ≡ bool_number (within t b y) = ap (λ z. bool_number (within t b z)) (sym y_is) in
           let more : sum_from (after (after x)) (many - 1 - 2 * j) b ≡ sum_from (after y) (many - 1 - 2 * j) b = ap (λ z. sum_from (after z) (many - 1 - 2 * j) b) (sym y_is) in
           omega (arith, one, first, second, next, more)
 

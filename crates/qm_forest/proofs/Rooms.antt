@@ -3,7 +3,7 @@ use Rattle.std.proofs.Common.{◌≡◌, ◌≢◌, ℕ, ◌+◌, ◌/◌, ◌<�
 use Rattle.std.proofs.lemmas.Bool.{cases_lt}
 use Rattle.std.proofs.lemmas.Grind.{get_or_default_zero}
 use Rattle.std.proofs.lemmas.List.{get_or_past, length-replicate}
-use Rattle.def_matching.specs.Matching.{Graph}
+use Rattle.def_matching.specs.Matching.{WeightedGraph}
 use Rattle.def_forest.specs.Tables.{ForestTables, GraphSize, size_of, up_at}
 use Rattle.qm_forest.specs.Outlines.{IsBlank}
 use Rattle.qm_forest.specs.Rounds.{HasRoom, IsLaminar, IsRound, IsSoundFor}
@@ -12,7 +12,7 @@ use Rattle.qm_forest.proofs.Chosens.{round_begins}
 use Rattle.qm_forest.specs.Ties.{AreTied, HiddenTables}
 
 -- The room of a forest is as large as what it comes to.
-module _ (t : ForestTables) (known : IsLaminar t) (whole : length t.up ≡ length t.hand + length t.hand / 2) (g : Graph) (valid : IsSoundFor g t) (n : ℕ) (round : Round) (sets y z : ℕ) (blank : IsBlank n round sets y z)
+module _ (t : ForestTables) (known : IsLaminar t) (whole : length t.up ≡ length t.hand + length t.hand / 2) (g : WeightedGraph) (valid : IsSoundFor g t) (n : ℕ) (round : Round) (sets y z : ℕ) (blank : IsBlank n round sets y z)
     (s : GraphSize) (view_is : ◌≡◌ {A = GraphSize} (record { vertices = n; edges = length round.marks.items }) s) (room : s ≡ size_of g) where
   n_is : n ≡ length t.hand
   n_is = ap (λ (r : GraphSize). r.vertices) (view_is ∙ room) ∙ sym valid.vertices

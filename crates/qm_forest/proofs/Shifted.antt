@@ -2,10 +2,10 @@
 use Rattle.std.proofs.Common.{◌≡◌, ℕ, ◌<◌, ◌≤◌, ◌^◌, length, ℤ, pos, ◌+ℤ◌, ◌≤ℤ◌, Option, Some, None, is_some, true, false, refl, sym, ◌∙◌, ap, subst, arith}
 use Rattle.std.specs.Prelude.{unsigned_abs}
 use Rattle.std.proofs.lemmas.Int.{ints}
-use Rattle.def_matching.specs.Matching.{Graph, IsGraph}
+use Rattle.def_matching.specs.Matching.{WeightedGraph, IsGraph}
 use Rattle.def_forest.specs.Darts.{darts_of}
 use Rattle.def_forest.specs.Forests.{Forest, dual_sum_of}
-use Rattle.def_forest.specs.Steps.{change, shifted, rooted}
+use Rattle.def_forest.specs.Steps.{weight_change, shifted, rooted}
 use Rattle.def_forest.specs.Tables.{ForestTables, forest_of, label_at, out_of, IsValidFor}
 use Rattle.def_forest.specs.Valid.{IsFeasible, IsValid}
 use Rattle.def_forest.specs.declared.kinds.Label.{Label}
@@ -20,12 +20,12 @@ use Rattle.qm_forest.proofs.TiedWrites.{sizes_kept}
 use Rattle.qm_forest.proofs.OnWays.{darts_kept, ends_kept, room_kept}
 
 -- A shift after another.
-change_sum : (l : Label) (d s : ℤ) → change l (d +ℤ s) ≡ change l d +ℤ change l s
+change_sum : (l : Label) (d s : ℤ) → weight_change l (d +ℤ s) ≡ weight_change l d +ℤ weight_change l s
 change_sum Outer d s = refl
 change_sum Inner d s = omega (arith, ints)
 change_sum Outside d s = refl
 
-change_low : (l : Label) (s : ℤ) → pos 0 ≤ℤ s → pos (unsigned_abs (change l s)) ≤ℤ s
+change_low : (l : Label) (s : ℤ) → pos 0 ≤ℤ s → pos (unsigned_abs (weight_change l s)) ≤ℤ s
 change_low Outer s h = omega (arith, ints)
 change_low Inner s h = omega (arith, ints)
 change_low Outside s h = omega (arith, ints)
@@ -43,11 +43,11 @@ seen_shift t s d e i = record {
   nest = (forest_of t).nest;
 }
   where
-    weight : (b : ℕ) → (forest_of (record t { delta = d })).weight b ≡ (forest_of t).weight b +ℤ change (label_at t.label b) s
-    weight b = let h : change (label_at t.label b) d ≡ change (label_at t.label b) t.delta +ℤ change (label_at t.label b) s = ap (change (label_at t.label b)) e ∙ change_sum (label_at t.label b) t.delta s in omega (arith, ints, h)
+    weight : (b : ℕ) → (forest_of (record t { delta = d })).weight b ≡ (forest_of t).weight b +ℤ weight_change (label_at t.label b) s
+    weight b = let h : weight_change (label_at t.label b) d ≡ weight_change (label_at t.label b) t.delta +ℤ weight_change (label_at t.label b) s = ap (weight_change (label_at t.label b)) e ∙ change_sum (label_at t.label b) t.delta s in omega (arith, ints, h)
 
 -- Where no tree stands a shift changes nothing.
-pub seen_still : (g : Graph) (t : ForestTables) (s : ℤ) → IsValidFor g t → t.root ≡ None → forest_of t ≡ shifted (forest_of t) s
+pub seen_still : (g : WeightedGraph) (t : ForestTables) (s : ℤ) → IsValidFor g t → t.root ≡ None → forest_of t ≡ shifted (forest_of t) s
 seen_still g t s valid none i = record {
   size = (forest_of t).size;
   holds = (forest_of t).holds;
@@ -59,10 +59,10 @@ seen_still g t s valid none i = record {
   nest = (forest_of t).nest;
 }
   where
-    weight : (b : ℕ) → (forest_of t).weight b ≡ (forest_of t).weight b +ℤ change (label_at t.label b) s
-    weight b = let h : change (label_at t.label b) s ≡ pos 0 = ap (λ (l : Label). change l s) (valid.valid.no_tree none b) in omega (arith, ints, h)
+    weight : (b : ℕ) → (forest_of t).weight b ≡ (forest_of t).weight b +ℤ weight_change (label_at t.label b) s
+    weight b = let h : weight_change (label_at t.label b) s ≡ pos 0 = ap (λ (l : Label). weight_change l s) (valid.valid.no_tree none b) in omega (arith, ints, h)
 
-module _ (t : ForestTables) (hid : HiddenTables) (tied : AreTied t hid) (g : Graph) (is : IsGraph g) (valid : IsValidFor g t) (r : ℕ) (root : t.root ≡ Some r) (s d : ℤ) (d_is : d ≡ t.delta +ℤ s) (high : pos 0 ≤ℤ s)
+module _ (t : ForestTables) (hid : HiddenTables) (tied : AreTied t hid) (g : WeightedGraph) (is : IsGraph g) (valid : IsValidFor g t) (r : ℕ) (root : t.root ≡ Some r) (s d : ℤ) (d_is : d ≡ t.delta +ℤ s) (high : pos 0 ≤ℤ s)
     (small : (b : ℕ) → unsigned_abs ((shifted (forest_of t) s).weight b) ≤ 2 ^ 62) where
   valid_root : IsValid (darts_of g) (forest_of t) (Some r)
   valid_root = subst (λ (o : Option ℕ). IsValid (darts_of g) (forest_of t) o) root valid.valid
@@ -70,8 +70,8 @@ module _ (t : ForestTables) (hid : HiddenTables) (tied : AreTied t hid) (g : Gra
   sum_is : dual_sum_of (forest_of (record t { delta = d })) ≡ dual_sum_of (forest_of t) +ℤ s
   sum_is = ap dual_sum_of (seen_shift t s d d_is) ∙ sum_rises (darts_of g) (are_darts g is) (forest_of t) r valid_root (valid_root.tree r refl) s
 
-  added_is : (v : ℕ) → added t.hand t.top hid.off t.label d v ≡ added t.hand t.top hid.off t.label t.delta v +ℤ change (label_at t.label (out_of t.hand t.top v)) s
-  added_is v = let h : change (label_at t.label (out_of t.hand t.top v)) d ≡ change (label_at t.label (out_of t.hand t.top v)) t.delta +ℤ change (label_at t.label (out_of t.hand t.top v)) s = ap (change (label_at t.label (out_of t.hand t.top v))) d_is ∙ change_sum (label_at t.label (out_of t.hand t.top v)) t.delta s in omega (arith, ints, h)
+  added_is : (v : ℕ) → added t.hand t.top hid.off t.label d v ≡ added t.hand t.top hid.off t.label t.delta v +ℤ weight_change (label_at t.label (out_of t.hand t.top v)) s
+  added_is v = let h : weight_change (label_at t.label (out_of t.hand t.top v)) d ≡ weight_change (label_at t.label (out_of t.hand t.top v)) t.delta +ℤ weight_change (label_at t.label (out_of t.hand t.top v)) s = ap (weight_change (label_at t.label (out_of t.hand t.top v))) d_is ∙ change_sum (label_at t.label (out_of t.hand t.top v)) t.delta s in omega (arith, ints, h)
 
   -- The tie after a shift.
   pub tied_shift : AreTied (record t { delta = d }) hid
@@ -97,11 +97,11 @@ module _ (t : ForestTables) (hid : HiddenTables) (tied : AreTied t hid) (g : Gra
       potentials : (v : ℕ) → v < length t.hand → potential (forest_of (record t { delta = d })) v ≡ told hid.q t.hand t.top hid.off t.label d v
       potentials v lv =
           let p : potential (forest_of (record t { delta = d })) v ≡ potential (shifted (forest_of t) s) v = ap (λ (f : Forest). potential f v) (seen_shift t s d d_is) in
-          let h : potential (shifted (forest_of t) s) v ≡ potential (forest_of t) v +ℤ change (label_at t.label (out_of t.hand t.top v)) s = potential_shifted g.n (forest_of t) valid.valid.outermost s v (subst (λ n. v < n) valid.vertices lv) in
+          let h : potential (shifted (forest_of t) s) v ≡ potential (forest_of t) v +ℤ weight_change (label_at t.label (out_of t.hand t.top v)) s = potential_shifted g.n (forest_of t) valid.valid.outermost s v (subst (λ n. v < n) valid.vertices lv) in
           omega (arith, ints, p, h, tied.numbers.potentials v lv, added_is v)
 
 -- The forest is valid after a shift whose end is feasible.
-pub valid_shift : (t u : ForestTables) (g : Graph) (s : ℤ) → IsGraph g → IsValidFor g t → IsFeasible (darts_of g) (shifted (forest_of t) s) → forest_of u ≡ shifted (forest_of t) s → u.hand ≡ t.hand → u.root ≡ t.root → fixed_of u ≡ fixed_of t → IsValidFor g u
+pub valid_shift : (t u : ForestTables) (g : WeightedGraph) (s : ℤ) → IsGraph g → IsValidFor g t → IsFeasible (darts_of g) (shifted (forest_of t) s) → forest_of u ≡ shifted (forest_of t) s → u.hand ≡ t.hand → u.root ≡ t.root → fixed_of u ≡ fixed_of t → IsValidFor g u
 valid_shift t u g s is valid feasible seen hand root fixed = record {
   vertices = ap length hand ∙ valid.vertices;
   darts = darts_kept g t u valid fixed;
@@ -111,7 +111,7 @@ valid_shift t u g s is valid feasible seen hand root fixed = record {
 }
 
 -- The forest is valid after a blossom has become the root.
-pub valid_rooted : (t u : ForestTables) (g : Graph) → IsGraph g → IsValidFor g t → (v : ℕ) → v < length t.hand → t.root ≡ None → (forest_of t).mate ((forest_of t).out v) ≡ None
+pub valid_rooted : (t u : ForestTables) (g : WeightedGraph) → IsGraph g → IsValidFor g t → (v : ℕ) → v < length t.hand → t.root ≡ None → (forest_of t).mate ((forest_of t).out v) ≡ None
     → forest_of u ≡ rooted (forest_of t) ((forest_of t).out v) → u.hand ≡ t.hand → u.root ≡ Some ((forest_of t).out v) → fixed_of u ≡ fixed_of t → IsValidFor g u
 valid_rooted t u g is valid v low none free seen hand root fixed = record {
   vertices = ap length hand ∙ valid.vertices;

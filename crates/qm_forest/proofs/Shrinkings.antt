@@ -2,7 +2,7 @@
 use Rattle.std.proofs.Common.{◌≡◌, ◌≢◌, ℕ, suc, ◌+◌, ◌-◌, ◌*◌, ◌<◌, ◌≤◌, Bool, true, false, cond, eqb, length, get_or, ℤ, ◌⊎◌, Option, Some, None, refl, sym, ◌∙◌, ap, subst, inl, inr, arith}
 use Rattle.std.proofs.lemmas.Bool.{cases_eq, cases_lt, cases_Bool, cond-true, eq-eqb}
 use Rattle.def_math.specs.Counts.{count_below}
-use Rattle.def_matching.specs.Matching.{Graph, IsSmallGraph}
+use Rattle.def_matching.specs.Matching.{WeightedGraph, IsSmallGraph}
 use Rattle.def_forest.specs.Darts.{Darts, AreDarts, darts_of, far}
 use Rattle.def_forest.specs.Forests.{Forest, IsTight, IsOutermost, live_at, set_at, walk}
 use Rattle.def_forest.specs.Shrunk.{IsClosedRow, IsCycle, IsShrunk, IsShrinking, IsUnused}
@@ -28,7 +28,7 @@ use Rattle.qm_forest.specs.Ties.{fixed_of, HasSameNest, labelled, mated, left_al
 use Rattle.qm_forest.proofs.Increases.{the_tree, named_low}
 use Rattle.qm_forest.proofs.WritesAlong.{IsForked, lain_left, lain_over, lain_right, lain_off}
 
-module _ (g : Graph) (is : IsSmallGraph g) (t0 : ForestTables) (valid : IsValidFor g t0) (start : ℕ) (tight : IsTight (darts_of g) (forest_of t0) start)
+module _ (g : WeightedGraph) (is : IsSmallGraph g) (t0 : ForestTables) (valid : IsValidFor g t0) (start : ℕ) (tight : IsTight (darts_of g) (forest_of t0) start)
     (outer_a : (forest_of t0).label ((forest_of t0).out ((darts_of g).near start)) ≡ Outer) (outer_c : (forest_of t0).label ((forest_of t0).out (far (darts_of g) start)) ≡ Outer) (apart : (forest_of t0).out ((darts_of g).near start) ≢ (forest_of t0).out (far (darts_of g) start))
     (top left right : ℕ) (met : IsClimbing (darts_of g) (forest_of t0) ((forest_of t0).out ((darts_of g).near start)) ((forest_of t0).out (far (darts_of g) start)) top top left right) where
   abbrev d : Darts

@@ -6,7 +6,7 @@ use Rattle.std.proofs.lemmas.Int.{ints}
 use Rattle.std.proofs.lemmas.Bool.{cases_eq}
 use Rattle.sum_laws.proofs.Sums.{total_below_same}
 use Rattle.def_forest.specs.Forests.{dual_sum_of, set_at}
-use Rattle.def_forest.specs.Steps.{change}
+use Rattle.def_forest.specs.Steps.{weight_change}
 use Rattle.def_forest.specs.Tables.{ForestTables, forest_of, label_at, weight_at, out_of}
 use Rattle.def_forest.specs.declared.kinds.Label.{Label}
 use Rattle.def_forest.specs.declared.kinds.Label.TheVariants.{Outside}
@@ -73,7 +73,7 @@ seen_link t hid tied b d low i = record {
 }
 
 module _ (t : ForestTables) (hid : HiddenTables) (tied : AreTied t hid) (v : ℕ) (low : v < length t.hand) (l : Label) (x y : ℤ)
-    (here : l ≢ Outside → IsOnTrail t.trail v) (base_is : x +ℤ change l t.delta ≡ (forest_of t).weight ((forest_of t).out v)) (off_is : y +ℤ change l t.delta ≡ added t.hand t.top hid.off t.label t.delta v) where
+    (here : l ≢ Outside → IsOnTrail t.trail v) (base_is : x +ℤ weight_change l t.delta ≡ (forest_of t).weight ((forest_of t).out v)) (off_is : y +ℤ weight_change l t.delta ≡ added t.hand t.top hid.off t.label t.delta v) where
   b : ℕ
   b = out_of t.hand t.top v
 
@@ -103,11 +103,11 @@ module _ (t : ForestTables) (hid : HiddenTables) (tied : AreTied t hid) (v : ℕ
       at : (k ≡ b) ⊎ (k ≢ b) → weight_at moved_label.base moved_label.label t.delta k ≡ (forest_of t).weight k
       at (inl e) =
           ap (weight_at moved_label.base moved_label.label t.delta) e
-          ∙ (ap (λ (z : ℤ). z +ℤ change (label_at moved_label.label b) t.delta) (get_or-set_same t.base b x (pos 0) (subst (λ n. b < n) (sym tied.sizes.base) b_low))
-          ∙ (ap (λ (z : Label). x +ℤ change z t.delta) label_here ∙ (base_is ∙ ap (forest_of t).weight (sym e))))
+          ∙ (ap (λ (z : ℤ). z +ℤ weight_change (label_at moved_label.label b) t.delta) (get_or-set_same t.base b x (pos 0) (subst (λ n. b < n) (sym tied.sizes.base) b_low))
+          ∙ (ap (λ (z : Label). x +ℤ weight_change z t.delta) label_here ∙ (base_is ∙ ap (forest_of t).weight (sym e))))
       at (inr ne) =
-          ap (λ (z : ℤ). z +ℤ change (label_at moved_label.label k) t.delta) (get_or-set_other t.base b k x (pos 0) ne)
-          ∙ ap (λ (z : Label). get_or t.base k (pos 0) +ℤ change z t.delta) (label_there k ne)
+          ap (λ (z : ℤ). z +ℤ weight_change (label_at moved_label.label k) t.delta) (get_or-set_other t.base b k x (pos 0) ne)
+          ∙ ap (λ (z : Label). get_or t.base k (pos 0) +ℤ weight_change z t.delta) (label_there k ne)
 
   pub seen_label : forest_of moved_label ≡ labelled (forest_of t) (out_of t.hand t.top v) l
   unfolding b
@@ -132,14 +132,14 @@ module _ (t : ForestTables) (hid : HiddenTables) (tied : AreTied t hid) (v : ℕ
       at : (get_or t.hand u 0 ≡ h) ⊎ (get_or t.hand u 0 ≢ h) → added t.hand t.top (set hid.off h y) moved_label.label t.delta u ≡ added t.hand t.top hid.off t.label t.delta u
       at (inl e) =
           let out_is : out_of t.hand t.top u ≡ b = ap (λ k. get_or t.top k 0) e in
-          ap (λ k. get_or (set hid.off h y) k (pos 0) +ℤ change (label_at moved_label.label (out_of t.hand t.top u)) t.delta) e
-          ∙ (ap (λ (z : ℤ). z +ℤ change (label_at moved_label.label (out_of t.hand t.top u)) t.delta) (get_or-set_same hid.off h y (pos 0) h_low)
-          ∙ (ap (λ k. y +ℤ change (label_at moved_label.label k) t.delta) out_is
-          ∙ (ap (λ (z : Label). y +ℤ change z t.delta) label_here
-          ∙ (off_is ∙ (ap (λ k. get_or hid.off k (pos 0) +ℤ change (label_at t.label b) t.delta) (sym e) ∙ ap (λ k. get_or hid.off (get_or t.hand u 0) (pos 0) +ℤ change (label_at t.label k) t.delta) (sym out_is))))))
+          ap (λ k. get_or (set hid.off h y) k (pos 0) +ℤ weight_change (label_at moved_label.label (out_of t.hand t.top u)) t.delta) e
+          ∙ (ap (λ (z : ℤ). z +ℤ weight_change (label_at moved_label.label (out_of t.hand t.top u)) t.delta) (get_or-set_same hid.off h y (pos 0) h_low)
+          ∙ (ap (λ k. y +ℤ weight_change (label_at moved_label.label k) t.delta) out_is
+          ∙ (ap (λ (z : Label). y +ℤ weight_change z t.delta) label_here
+          ∙ (off_is ∙ (ap (λ k. get_or hid.off k (pos 0) +ℤ weight_change (label_at t.label b) t.delta) (sym e) ∙ ap (λ k. get_or hid.off (get_or t.hand u 0) (pos 0) +ℤ weight_change (label_at t.label k) t.delta) (sym out_is))))))
       at (inr ne) =
-          ap (λ (z : ℤ). z +ℤ change (label_at moved_label.label (out_of t.hand t.top u)) t.delta) (get_or-set_other hid.off h (get_or t.hand u 0) y (pos 0) ne)
-          ∙ ap (λ (z : Label). get_or hid.off (get_or t.hand u 0) (pos 0) +ℤ change z t.delta) (label_there (out_of t.hand t.top u) (λ e. ne (one_hand t hid tied u v lu low e)))
+          ap (λ (z : ℤ). z +ℤ weight_change (label_at moved_label.label (out_of t.hand t.top u)) t.delta) (get_or-set_other hid.off h (get_or t.hand u 0) y (pos 0) ne)
+          ∙ ap (λ (z : Label). get_or hid.off (get_or t.hand u 0) (pos 0) +ℤ weight_change z t.delta) (label_there (out_of t.hand t.top u) (λ e. ne (one_hand t hid tied u v lu low e)))
 
   potential_same : (u : ℕ) → potential (forest_of moved_label) u ≡ potential (forest_of t) u
   potential_same u = total_below_same (λ k. cond ((forest_of t).holds k u) ((forest_of moved_label).weight k) (pos 0)) (λ k. cond ((forest_of t).holds k u) ((forest_of t).weight k) (pos 0)) (length t.up) (λ k lk. ap (λ (z : ℤ). cond ((forest_of t).holds k u) z (pos 0)) (weight_same k))
@@ -194,24 +194,24 @@ module _ (t : ForestTables) (hid : HiddenTables) (tied : AreTied t hid) (v : ℕ
       named k n (inr ne) = tied.trail.named k (λ off'. n (label_there k ne ∙ off'))
 
 -- One part of a number is taken for another: what it is with the new part is what it was with the old.
-pub exchanged_is : (xs ys : List ℤ) (k j : ℕ) (lab old new : Label) (d e before after x : ℤ) → xs ≡ ys → k ≡ j → before ≡ change lab e → lab ≡ old → after ≡ change new e → e ≡ d
-    → x ≡ (get_or xs k (pos 0) +ℤ before) -ℤ after → x +ℤ change new d ≡ get_or ys j (pos 0) +ℤ change old d
+pub exchanged_is : (xs ys : List ℤ) (k j : ℕ) (lab old new : Label) (d e before after x : ℤ) → xs ≡ ys → k ≡ j → before ≡ weight_change lab e → lab ≡ old → after ≡ weight_change new e → e ≡ d
+    → x ≡ (get_or xs k (pos 0) +ℤ before) -ℤ after → x +ℤ weight_change new d ≡ get_or ys j (pos 0) +ℤ weight_change old d
 exchanged_is xs ys k j lab old new d e before after x e1 e2 e3 e4 e5 e6 e7 =
-    let b' : before ≡ change old d = e3 ∙ (ap (λ (l : Label). change l e) e4 ∙ ap (change old) e6) in
-    let a' : after ≡ change new d = e5 ∙ ap (change new) e6 in
+    let b' : before ≡ weight_change old d = e3 ∙ (ap (λ (l : Label). weight_change l e) e4 ∙ ap (weight_change old) e6) in
+    let a' : after ≡ weight_change new d = e5 ∙ ap (weight_change new) e6 in
     let r : get_or xs k (pos 0) ≡ get_or ys j (pos 0) = ap (λ (zs : List ℤ). get_or zs k (pos 0)) e1 ∙ ap (λ i. get_or ys i (pos 0)) e2 in
     omega (arith, ints, b', a', r, e7)
 
 -- The tie after a label is written, where the places are told by equations.
 pub tied_label_at : (t : ForestTables) (hid : HiddenTables) → AreTied t hid → (v : ℕ) → v < length t.hand → (l : Label) → (l ≢ Outside → IsOnTrail t.trail v) → (x y : ℤ) (b h : ℕ) → b ≡ out_of t.hand t.top v → h ≡ get_or t.hand v 0
-    → x +ℤ change l t.delta ≡ (forest_of t).weight (out_of t.hand t.top v) → y +ℤ change l t.delta ≡ added t.hand t.top hid.off t.label t.delta v
+    → x +ℤ weight_change l t.delta ≡ (forest_of t).weight (out_of t.hand t.top v) → y +ℤ weight_change l t.delta ≡ added t.hand t.top hid.off t.label t.delta v
     → AreTied (record t { base = set t.base b x; label = set t.label b l }) (record hid { off = set hid.off h y })
 tied_label_at t hid tied v low l here x y b h b_is h_is base_is off_is =
     subst (λ k. AreTied (record t { base = set t.base k x; label = set t.label k l }) (record hid { off = set hid.off h y })) (sym b_is)
     (subst (λ k. AreTied (record t { base = set t.base (out_of t.hand t.top v) x; label = set t.label (out_of t.hand t.top v) l }) (record hid { off = set hid.off k y })) (sym h_is) (tied_label t hid tied v low l x y here base_is off_is))
 
 pub seen_label_at : (t : ForestTables) (hid : HiddenTables) → AreTied t hid → (v : ℕ) → v < length t.hand → (l : Label) → (l ≢ Outside → IsOnTrail t.trail v) → (x y : ℤ) (b : ℕ) → b ≡ out_of t.hand t.top v
-    → x +ℤ change l t.delta ≡ (forest_of t).weight (out_of t.hand t.top v) → y +ℤ change l t.delta ≡ added t.hand t.top hid.off t.label t.delta v
+    → x +ℤ weight_change l t.delta ≡ (forest_of t).weight (out_of t.hand t.top v) → y +ℤ weight_change l t.delta ≡ added t.hand t.top hid.off t.label t.delta v
     → forest_of (record t { base = set t.base b x; label = set t.label b l }) ≡ labelled (forest_of t) (out_of t.hand t.top v) l
 seen_label_at t hid tied v low l here x y b b_is base_is off_is =
     subst (λ k. forest_of (record t { base = set t.base k x; label = set t.label k l }) ≡ labelled (forest_of t) (out_of t.hand t.top v) l) (sym b_is) (seen_label t hid tied v low l x y here base_is off_is)

@@ -1,7 +1,7 @@
 -- Blossoms within each other: climbing from one, one comes past the other.
 use Rattle.std.proofs.Common.{◌≡◌, ◌≢◌, ℕ, zero, suc, ◌+◌, ◌-◌, ◌<◌, ◌≤◌, Bool, true, false, not, cond, eqb, ◌||◌, ◌⊎◌, refl, sym, ◌∙◌, ap, subst, inl, inr, arith}
 use Rattle.std.proofs.lemmas.Bool.{cases_eq, cases_lt, cases_Bool, eq-eqb}
-use Rattle.def_forest.specs.Forests.{number, walk, ring_sum}
+use Rattle.def_forest.specs.Forests.{bool_number, walk, ring_sum}
 use Rattle.def_forest.specs.Tables.{climbs}
 use Rattle.forest_laws.proofs.Circles.{IsCircle}
 use Rattle.forest_laws.proofs.Walks.{walk_front, walk_sum}
@@ -119,7 +119,7 @@ module _ (n : ℕ) (up rank : ℕ → ℕ) (rises : (x : ℕ) → up x ≢ x →
   -- Where two parts of one set are matched with each other, the edge leaves just the blossoms of one of them that have
   -- its end there, and all other blossoms of the two wait.
   pub by_pair : (wx wy hu hv : Bool) → (wx ≡ true → (wy ≡ false) × (hv ≡ false)) → (wy ≡ true → (wx ≡ false) × (hu ≡ false)) → (wx ≡ false → wy ≡ false → hu ≡ hv)
-      → number (cond hu (not hv) hv) + (cond wx (cond hu 0 1) 0 + cond wy (cond hv 0 1) 0) ≡ number wx + number wy
+      → bool_number (cond hu (not hv) hv) + (cond wx (cond hu 0 1) 0 + cond wy (cond hv 0 1) 0) ≡ bool_number wx + bool_number wy
   by_pair true true hu hv first second none = absurd (true_false true refl (first refl).0)
   by_pair true false hu true first second none = absurd (true_false true refl (first refl).1)
   by_pair true false true false first second none = refl
@@ -146,7 +146,7 @@ module _ (n : ℕ) (up rank : ℕ → ℕ) (rises : (x : ℕ) → up x ≢ x →
         beyond wy (suc m) e = in_where v b (wy.0 + suc m) low (walk_sum up v wy.0 (suc m) ∙ (ap (λ z. walk up z (suc m)) wy.1 ∙ (walk_front up y m ∙ (ap (λ z. walk up z m) (ey ∙ sym ex) ∙ (sym (walk_front up x m) ∙ e)))))
 
     pub pair_law : (b : ℕ) → (in_it u b ≡ true → rank b ≤ n) → (in_it v b ≡ true → rank b ≤ n)
-        → number (cond (in_it u b) (not (in_it v b)) (in_it v b)) + (cond (in_it b x) (cond (in_it u b) 0 1) 0 + cond (in_it b y) (cond (in_it v b) 0 1) 0) ≡ number (in_it b x) + number (in_it b y)
+        → bool_number (cond (in_it u b) (not (in_it v b)) (in_it v b)) + (cond (in_it b x) (cond (in_it u b) 0 1) 0 + cond (in_it b y) (cond (in_it v b) 0 1) 0) ≡ bool_number (in_it b x) + bool_number (in_it b y)
     pair_law b low_u low_v = by_pair (in_it b x) (in_it b y) (in_it u b) (in_it v b)
         (λ on. (off_where (in_it b y) (λ o. none_in_both b x y q ex ey nx ny ne on o), off_where (in_it v b) (λ o. none_in_both v x y q ex ey nx ny ne (through v b x low_x o on) hv)))
         (λ on. (off_where (in_it b x) (λ o. none_in_both b x y q ex ey nx ny ne o on), off_where (in_it u b) (λ o. none_in_both u x y q ex ey nx ny ne hu (through u b y low_y o on))))
@@ -196,8 +196,8 @@ module _ (n : ℕ) (up rank : ℕ → ℕ) (rises : (x : ℕ) → up x ≢ x →
             let s : rank (up r) ≡ rank q = ap rank er in
             absurd (omega (arith, h, same, r', s))
 
-    none_after : (b : ℕ) → ((k : ℕ) → k < many - 1 → in_it b (walk after (after p) k) ≡ false) → ring_sum after (λ r. number (in_it b r)) (after p) (many - 1) ≡ 0
-    none_after b off = ring_none after (λ r. number (in_it b r)) (after p) (many - 1) (λ k l. ap number (off k l))
+    none_after : (b : ℕ) → ((k : ℕ) → k < many - 1 → in_it b (walk after (after p) k) ≡ false) → ring_sum after (λ r. bool_number (in_it b r)) (after p) (many - 1) ≡ 0
+    none_after b off = ring_none after (λ r. bool_number (in_it b r)) (after p) (many - 1) (λ k l. ap bool_number (off k l))
 
     zero_in : (b x : ℕ) → in_it b x ≡ true → rest_at x b ≡ 0
     zero_in b x on = ap (λ (s : Bool). cond s 0 (cond (in_it b c) (cond (in_it v b) 0 1) 0)) on
@@ -205,13 +205,13 @@ module _ (n : ℕ) (up rank : ℕ → ℕ) (rises : (x : ℕ) → up x ≢ x →
     out_of : (b x : ℕ) → in_it b x ≡ false → rest_at x b ≡ cond (in_it b c) (cond (in_it v b) 0 1) 0
     out_of b x off = ap (λ (s : Bool). cond s 0 (cond (in_it b c) (cond (in_it v b) 0 1) 0)) off
 
-    pub climb_law : (b : ℕ) → rest_at p b ≡ ring_sum after (λ r. number (in_it b r)) (after p) (many - 1) + rest_at q b
+    pub climb_law : (b : ℕ) → rest_at p b ≡ ring_sum after (λ r. bool_number (in_it b r)) (after p) (many - 1) + rest_at q b
     climb_law b = by_part (cases_Bool (in_it b p)) (cases_Bool (in_it b q)) (cases_eq b q)
       where
         v_in : in_it v q ≡ true
         v_in = in_set v p p_part.0 hv
 
-        around : (r : ℕ) × (up r ≡ q) × (r ≢ q) × (i : ℕ) × (walk up b i ≡ r) → in_it b p ≡ false → in_it b q ≡ true → rest_at p b ≡ ring_sum after (λ r. number (in_it b r)) (after p) (many - 1) + rest_at q b
+        around : (r : ℕ) × (up r ≡ q) × (r ≢ q) × (i : ℕ) × (walk up b i ≡ r) → in_it b p ≡ false → in_it b q ≡ true → rest_at p b ≡ ring_sum after (λ r. bool_number (in_it b r)) (after p) (many - 1) + rest_at q b
         around w off on = by_place (circle.all w.0 (parts w.0 w.1 w.2))
           where
             in_r : in_it b w.0 ≡ true
@@ -230,15 +230,15 @@ module _ (n : ℕ) (up rank : ℕ → ℕ) (rises : (x : ℕ) → up x ≢ x →
             one_left : rest_at p b ≡ 1
             one_left = out_of b p off ∙ (ap (λ (s : Bool). cond s (cond (in_it v b) 0 1) 0) in_c ∙ ap (λ (s : Bool). cond s 0 1) v_off)
 
-            by_place : (k : ℕ) × (k < many) × (walk after p k ≡ w.0) → rest_at p b ≡ ring_sum after (λ r. number (in_it b r)) (after p) (many - 1) + rest_at q b
+            by_place : (k : ℕ) × (k < many) × (walk after p k ≡ w.0) → rest_at p b ≡ ring_sum after (λ r. bool_number (in_it b r)) (after p) (many - 1) + rest_at q b
             by_place s = by_front s.0 s.1 s.2
               where
-                by_front : (k : ℕ) → k < many → walk after p k ≡ w.0 → rest_at p b ≡ ring_sum after (λ r. number (in_it b r)) (after p) (many - 1) + rest_at q b
+                by_front : (k : ℕ) → k < many → walk after p k ≡ w.0 → rest_at p b ≡ ring_sum after (λ r. bool_number (in_it b r)) (after p) (many - 1) + rest_at q b
                 by_front zero l e = absurd (other_p (sym e))
                 by_front (suc k) l e =
                     let here : walk after (after p) k ≡ w.0 = sym (walk_front after p k) ∙ e in
-                    let one : ring_sum after (λ r. number (in_it b r)) (after p) (many - 1) ≡ 1 = ring_one after (λ r. number (in_it b r)) (after p) (many - 1) k (omega (arith, l)) (ap (λ x. number (in_it b x)) here ∙ ap number in_r)
-                    (λ i li ne. ap number (off_where (in_it b (walk after (after p) i)) (λ o. none_in_both b (walk after (after p) i) w.0 q (at_part i).0 w.1 (at_part i).1 w.2 (λ same. apart i k li (omega (arith, l)) ne (same ∙ sym here)) o in_r))) in
+                    let one : ring_sum after (λ r. bool_number (in_it b r)) (after p) (many - 1) ≡ 1 = ring_one after (λ r. bool_number (in_it b r)) (after p) (many - 1) k (omega (arith, l)) (ap (λ x. bool_number (in_it b x)) here ∙ ap bool_number in_r)
+                    (λ i li ne. ap bool_number (off_where (in_it b (walk after (after p) i)) (λ o. none_in_both b (walk after (after p) i) w.0 q (at_part i).0 w.1 (at_part i).1 w.2 (λ same. apart i k li (omega (arith, l)) ne (same ∙ sym here)) o in_r))) in
                     omega (arith, one_left, one, zero_in b q on)
                   where
                     apart : (i k : ℕ) → i < many - 1 → k < many - 1 → i ≢ k → walk after (after p) i ≢ walk after (after p) k
@@ -247,15 +247,15 @@ module _ (n : ℕ) (up rank : ℕ → ℕ) (rises : (x : ℕ) → up x ≢ x →
                       | inr ge ↦ circle.distinct (suc k) (suc i) (omega (arith, ge, ne)) (omega (arith, li)) (walk_front after p k ∙ (sym same ∙ sym (walk_front after p i)))
                     ]
 
-        by_part : (in_it b p ≡ true) ⊎ (in_it b p ≡ false) → (in_it b q ≡ true) ⊎ (in_it b q ≡ false) → (b ≡ q) ⊎ (b ≢ q) → rest_at p b ≡ ring_sum after (λ r. number (in_it b r)) (after p) (many - 1) + rest_at q b
+        by_part : (in_it b p ≡ true) ⊎ (in_it b p ≡ false) → (in_it b q ≡ true) ⊎ (in_it b q ≡ false) → (b ≡ q) ⊎ (b ≢ q) → rest_at p b ≡ ring_sum after (λ r. bool_number (in_it b r)) (after p) (many - 1) + rest_at q b
         by_part (inl on) y z =
-            let none : ring_sum after (λ r. number (in_it b r)) (after p) (many - 1) ≡ 0 = none_after b (λ k l. off_where (in_it b (walk after (after p) k)) (λ o. none_in_both b p (walk after (after p) k) q p_part.0 (at_part k).0 p_part.1 (at_part k).1 (at_other k l) on o)) in
+            let none : ring_sum after (λ r. bool_number (in_it b r)) (after p) (many - 1) ≡ 0 = none_after b (λ k l. off_where (in_it b (walk after (after p) k)) (λ o. none_in_both b p (walk after (after p) k) q p_part.0 (at_part k).0 p_part.1 (at_part k).1 (at_other k l) on o)) in
             omega (arith, zero_in b p on, none, zero_in b q (in_set b p p_part.0 on))
         by_part (inr off) (inr free) z =
-            let none : ring_sum after (λ r. number (in_it b r)) (after p) (many - 1) ≡ 0 = none_after b (λ k l. off_where (in_it b (walk after (after p) k)) (λ o. true_false (in_it b q) (in_set b (walk after (after p) k) (at_part k).0 o) free)) in
+            let none : ring_sum after (λ r. bool_number (in_it b r)) (after p) (many - 1) ≡ 0 = none_after b (λ k l. off_where (in_it b (walk after (after p) k)) (λ o. true_false (in_it b q) (in_set b (walk after (after p) k) (at_part k).0 o) free)) in
             omega (arith, none, out_of b p off, out_of b q free)
         by_part (inr off) (inl on) (inl e) =
-            let none : ring_sum after (λ r. number (in_it b r)) (after p) (many - 1) ≡ 0 = none_after b (λ k l. ap (λ x. in_it x (walk after (after p) k)) e ∙ q_free (walk after (after p) k) (at_part k).0 (at_part k).1) in
+            let none : ring_sum after (λ r. bool_number (in_it b r)) (after p) (many - 1) ≡ 0 = none_after b (λ k l. ap (λ x. in_it x (walk after (after p) k)) e ∙ q_free (walk after (after p) k) (at_part k).0 (at_part k).1) in
             let held : in_it v b ≡ true = ap (in_it v) e ∙ v_in in
             let left : rest_at p b ≡ 0 = out_of b p off ∙ (ap (λ (s : Bool). cond (in_it b c) (cond s 0 1) 0) held ∙ nothing (in_it b c)) in
             omega (arith, none, left, zero_in b q on)

@@ -2,7 +2,7 @@
 use Rattle.std.specs.Prelude.{◌≡◌, ◌≢◌, ℕ, ◌+◌, ◌-◌, ◌%◌, ◌<◌, ◌≤◌, ◌^◌, ◌==◌, ◌⊎◌, Bool, true, false, if◌then◌else◌}
 use Rattle.std.specs.Prelude.{List, length, slice_index, slice_index_or, slice_set, pos, unsigned_abs, Some, None}
 use Rattle.def_matching.specs.Matching.{Vertex}
-use Rattle.def_forest.specs.Darts.{Dart, twin_of}
+use Rattle.def_forest.specs.Darts.{Dart, other_dart}
 use Rattle.def_forest.specs.Forests.{Blossom, Forest, walk, set_at}
 use Rattle.def_forest.specs.Tables.{ForestTables, forest_of, label_at, up_at, IsOutermostIn}
 use Rattle.def_forest.specs.declared.kinds.Label.{Label}
@@ -128,7 +128,7 @@ pub record HasOpened (old new : ForestTables) (b : Blossom) : Type 0 where
 
 -- The dart from a blossom of a ring to the next, or else to the one before.
 abbrev pub side_dart : (f : Forest) (before x : Blossom) (forward : Bool) → Dart
-side_dart f before x forward = if forward then f.nest.joint x else twin_of (f.nest.joint before)
+side_dart f before x forward = if forward then f.nest.joint x else other_dart (f.nest.joint before)
 
 -- So many blossoms of a ring are matched: those at odd places to the next, the others to the one before.
 abbrev pub paired : (f : Forest) (front many : ℕ) → Forest

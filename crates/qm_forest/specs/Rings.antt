@@ -1,6 +1,6 @@
 -- The ring that is laid before it becomes a set.
 use Rattle.std.specs.Prelude.{◌≡◌, ◌≢◌, ℕ, suc, ◌≤◌}
-use Rattle.def_matching.specs.Matching.{Graph}
+use Rattle.def_matching.specs.Matching.{WeightedGraph}
 use Rattle.def_forest.specs.Darts.{Dart, Darts, darts_of, far}
 use Rattle.def_forest.specs.Forests.{Blossom, Forest, set_at}
 use Rattle.def_forest.specs.Tables.{ForestTables, forest_of, IsValidFor}
@@ -30,7 +30,7 @@ pub record AreOnBoth (g : Darts) (f : Forest) (a c : Blossom) (left right : ℕ)
 
 -- The tables are those of a valid forest but for what is laid, and so many steps lead towards the root from a
 -- blossom of its tree.
-abbrev pub MayClimb : (g : Graph) (t : ForestTables) (a : Blossom) (steps : ℕ) → Type 0
+abbrev pub MayClimb : (g : WeightedGraph) (t : ForestTables) (a : Blossom) (steps : ℕ) → Type 0
 MayClimb g t a steps = (s : ForestTables) × IsValidFor g s × IsRingedAlike s t × ((forest_of s).label a ≢ Outside)
     × (steps ≤ level_of (darts_of g) (forest_of s) a)
 

@@ -6,9 +6,9 @@ use Rattle.std.specs.List.{All, Contains}
 use Rattle.std.specs.List.Sorted.{IsNonDecreasingBy}
 use Rattle.def_math.specs.Counts.{count, count_below}
 use Rattle.def_math.specs.Increasing.{IsIncreasing}
-use Rattle.def_matching.specs.Matching.{Graph, Vertex, IsSmallGraph}
-use Rattle.def_forest.specs.Darts.{Dart, darts_of, twin_of}
-use Rattle.def_forest.specs.Forests.{Blossom, IsTight, live_at, number, splits}
+use Rattle.def_matching.specs.Matching.{WeightedGraph, Vertex, IsSmallGraph}
+use Rattle.def_forest.specs.Darts.{Dart, darts_of, other_dart}
+use Rattle.def_forest.specs.Forests.{Blossom, IsTight, live_at, bool_number, splits}
 use Rattle.def_forest.specs.Valid.{IsValid}
 use Rattle.def_forest.specs.Tables.{ForestTables, forest_of, climbs, up_at}
 use Rattle.qm_forest.specs.Ties.{IsInUse}
@@ -16,7 +16,7 @@ use Rattle.qm_forest.specs.declared.rounds.Round.{Round}
 
 -- The forest is valid for a graph, whose darts begin where they do in the forest. There may be no room for what it
 -- comes to.
-pub record IsSoundFor (g : Graph) (t : ForestTables) : Type 0 where
+pub record IsSoundFor (g : WeightedGraph) (t : ForestTables) : Type 0 where
   pub vertices : length t.hand ≡ g.n
   pub darts : length t.near ≡ 2 * length g.edges
   pub ends : (d : Dart) → d < 2 * length g.edges → slice_index t.near d ≡ (darts_of g).near d
@@ -31,12 +31,12 @@ abbrev pub near_at : (t : ForestTables) (d : Dart) → Vertex
 near_at t d = slice_index t.near d
 
 abbrev pub far_at : (t : ForestTables) (d : Dart) → Vertex
-far_at t d = slice_index t.near (twin_of d)
+far_at t d = slice_index t.near (other_dart d)
 
 -- How many of the chosen edges leave a blossom.
 abbrev pub leaving : (t : ForestTables) (marks : List Bool) (b : Blossom) → ℕ
 leaving t marks b =
-    count_below (λ e. number (slice_index_or marks e false
+    count_below (λ e. bool_number (slice_index_or marks e false
     && splits ((forest_of t).holds b) (near_at t (2 * e)) (near_at t (2 * e + 1)))) (length marks)
 
 -- 1 where blossom b lies in c and does not hold a vertex: of the blossoms in c all but those around it wait.
@@ -64,7 +64,7 @@ pub record IsRound (t : ForestTables) (marks : List Bool) (left_out : List (Opti
   pub each : (b : Blossom) → b < length t.up → leaving t marks b + (waiting t left_out b + rest b) ≡ due b
   pub entry : (c : Blossom) (v : Vertex) → slice_index_or left_out c None ≡ Some v → IsEntry t c v
   pub once : (v : Vertex) → v < length t.hand → due v ≤ 1
-  pub tight : (g : Graph) → IsSmallGraph g → IsSoundFor g t → (e : ℕ) → slice_index_or marks e false ≡ true
+  pub tight : (g : WeightedGraph) → IsSmallGraph g → IsSoundFor g t → (e : ℕ) → slice_index_or marks e false ≡ true
       → IsTight (darts_of g) (forest_of t) (2 * e)
 
 -- What the tables say of how blossoms lie in each other: the way out rises, and ends soon.
@@ -103,9 +103,10 @@ pub record IsPairing (t : ForestTables) (x y : Blossom) (d : Dart) : Type 0 wher
   pub live_x : length t.hand ≤ x → slice_index t.parts x ≢ 0
   pub live_y : length t.hand ≤ y → slice_index t.parts y ≢ 0
   pub law : (b : Blossom) → b < length t.up
-      → number (splits ((forest_of t).holds b) (near_at t d) (far_at t d))
-      + (waits_but t b x (near_at t d) + waits_but t b y (far_at t d)) ≡ number (within t b x) + number (within t b y)
-  pub tight : (g : Graph) → IsSmallGraph g → IsSoundFor g t → IsTight (darts_of g) (forest_of t) d
+      → bool_number (splits ((forest_of t).holds b) (near_at t d) (far_at t d))
+      + (waits_but t b x (near_at t d) + waits_but t b y (far_at t d))
+      ≡ bool_number (within t b x) + bool_number (within t b y)
+  pub tight : (g : WeightedGraph) → IsSmallGraph g → IsSoundFor g t → IsTight (darts_of g) (forest_of t) d
 
 -- A set waits from now on; a single vertex does not.
 abbrev pub entered : (n : ℕ) (left_out : List (Option Vertex)) (c : Blossom) (v : Vertex) → List (Option Vertex)
@@ -156,5 +157,5 @@ matches t e = is_dart ((forest_of t).mate ((forest_of t).out (near_at t (2 * e))
 -- In how many of the outermost blossoms that the first edges match a blossom lies.
 abbrev pub matched_by : (t : ForestTables) (edges : ℕ) (b : Blossom) → ℕ
 matched_by t edges b = count_below (λ e. if matches t e
-    then number (within t b ((forest_of t).out (near_at t (2 * e))))
-    + number (within t b ((forest_of t).out (near_at t (2 * e + 1)))) else 0) edges
+    then bool_number (within t b ((forest_of t).out (near_at t (2 * e))))
+    + bool_number (within t b ((forest_of t).out (near_at t (2 * e + 1)))) else 0) edges

@@ -4,12 +4,12 @@ use Rattle.std.specs.Prelude.{length, count_by, slice_get, slice_index, slice_in
 use Rattle.std.specs.Prelude.{pos, ◌+ℤ◌, ◌-ℤ◌, ◌*ℤ◌, ◌≤ℤ◌, unsigned_abs, if◌then◌else◌}
 use Rattle.def_math.specs.Counts.{count_below}
 use Rattle.def_math.specs.Sums.{total_below}
-use Rattle.def_matching.specs.Matching.{IsSmallGraph, Vertex, Graph, edge_at}
+use Rattle.def_matching.specs.Matching.{IsSmallGraph, Vertex, WeightedGraph, edge_at}
 use Rattle.def_forest.specs.Darts.{darts_of}
 use Rattle.def_forest.specs.Valid.{IsTree}
 use Rattle.def_forest.specs.Ways.{IsAlmost}
 use Rattle.def_forest.specs.Forests.{Blossom, Forest, live_at, splits, walk, set_at}
-use Rattle.def_forest.specs.Steps.{change}
+use Rattle.def_forest.specs.Steps.{weight_change}
 use Rattle.def_forest.specs.Tables.{up_at, ForestTables, GraphSize, forest_of, out_of}
 use Rattle.def_forest.specs.Tables.{label_at, weight_at, climbs, IsValidFor}
 use Rattle.def_forest.specs.declared.kinds.Label.{Label}
@@ -24,7 +24,7 @@ potential f v = total_below (λ b. if f.holds b v then f.weight b else pos 0) f.
 -- What the handle of a vertex adds to its potential.
 abbrev pub added : (hand top : List ℕ) (off : List ℤ) (label : List Label) (delta : ℤ) (v : Vertex) → ℤ
 added hand top off label delta v = slice_index_or off (slice_index hand v) (pos 0)
-    +ℤ change (label_at label (out_of hand top v)) delta
+    +ℤ weight_change (label_at label (out_of hand top v)) delta
 
 -- The potential of a vertex as the tables tell it.
 abbrev pub told : (q : List ℤ) (hand top : List ℕ) (off : List ℤ) (label : List Label) (delta : ℤ) (v : Vertex) → ℤ
@@ -196,7 +196,7 @@ abbrev pub remated : (f : Forest) (mate : Blossom → Option ℕ) → Forest
 remated f mate = record f { mate = mate }
 
 -- The matching of a valid forest t is being changed from dart start on; blossom a is to be matched by dart e.
-pub record IsOnWay (g : Graph) (t : ForestTables) (start : ℕ) (mate : Blossom
+pub record IsOnWay (g : WeightedGraph) (t : ForestTables) (start : ℕ) (mate : Blossom
     → Option ℕ) (a : Blossom) (e : ℕ) : Type 0 where
   pub is : IsSmallGraph g
   pub valid : IsValidFor g t
@@ -224,7 +224,7 @@ pub record IsMeeting (t : ForestTables) (u v x y : Blossom) (load : ℤ) : Type 
   pub small : unsigned_abs load ≤ 2 ^ 90
 
 -- Where each of the first darts of a graph begins.
-pub record AreStarts (g : Graph) (darts : ℕ) (starts : List Vertex) : Type 0 where
+pub record AreStarts (g : WeightedGraph) (darts : ℕ) (starts : List Vertex) : Type 0 where
   pub size : length starts ≡ darts
   pub each : (d : ℕ) → d < darts → slice_index starts d ≡ (darts_of g).near d
 
@@ -242,14 +242,14 @@ pub record IsLowered (old new : List ℤ) (place : ℕ) (most : ℤ) : Type 0 wh
       (pos 0) ≡ most)
 
 -- A number for each vertex, at most the cost of each of the first edges at it, and none large.
-pub record HasLowCosts (g : Graph) (most edges : ℕ) (lows : List ℤ) : Type 0 where
+pub record HasLowCosts (g : WeightedGraph) (most edges : ℕ) (lows : List ℤ) : Type 0 where
   pub size : length lows ≡ g.n
   pub small : (v : Vertex) → unsigned_abs (slice_index_or lows v (pos 0)) ≤ most
   pub first : (e : ℕ) → e < edges → slice_index_or lows (edge_at g e).u (pos 0) ≤ℤ (edge_at g e).cost
   pub second : (e : ℕ) → e < edges → slice_index_or lows (edge_at g e).v (pos 0) ≤ℤ (edge_at g e).cost
 
 -- A number for each vertex, none of them large, such that no edge has more at its ends than twice its cost.
-pub record AreFeasible (g : Graph) (lows : List ℤ) : Type 0 where
+pub record AreFeasible (g : WeightedGraph) (lows : List ℤ) : Type 0 where
   pub size : length lows ≡ g.n
   pub small : (v : Vertex) → unsigned_abs (slice_index_or lows v (pos 0)) ≤ 2 ^ 60
   pub edges : (e : ℕ) → e < length g.edges
@@ -257,7 +257,7 @@ pub record AreFeasible (g : Graph) (lows : List ℤ) : Type 0 where
       ≤ℤ (pos 2 *ℤ (edge_at g e).cost)
 
 -- No cost of the first edges is above a number, up or down, and it is the least such number.
-pub record IsGreatestTo (g : Graph) (edges most : ℕ) : Type 0 where
+pub record IsGreatestTo (g : WeightedGraph) (edges most : ℕ) : Type 0 where
   pub above : (e : ℕ) → e < edges → unsigned_abs (edge_at g e).cost ≤ most
   pub least : (c : ℕ) → ((e : ℕ) → e < edges → unsigned_abs (edge_at g e).cost ≤ c) → most ≤ c
 

@@ -6,7 +6,7 @@ ghost use Rattle.def_matching.specs.Matching.{IsSmallGraph, graph};
 ghost use Rattle.def_forest.specs.Darts.{darts_of, far};
 ghost use Rattle.def_forest.specs.Forests.{Blossom};
 ghost use Rattle.def_forest.specs.Steps.{with_mates, IsAugmented};
-ghost use Rattle.def_forest.specs.Tables.{forest_of, kind_of, outer_dart, IsValidFor};
+ghost use Rattle.def_forest.specs.Tables.{forest_of, edge_kind, outer_dart, IsValidFor};
 ghost use Rattle.def_forest.specs.Valid.{IsValid};
 ghost use Rattle.def_forest.specs.declared.kinds.EdgeKind.TheVariants.{Augment};
 ghost use Rattle.def_forest.specs.declared.kinds.Label.TheVariants.{Outside};
@@ -24,7 +24,7 @@ impl Forest {
         requires graph { IsSmallGraph (graph g.now) }
         requires valid { IsValidFor (graph g.now) self.old }
         requires edge { e < length g.now.edges.items }
-        requires kind { kind_of (graph g.now) (forest_of self.old) e ≡ Augment }
+        requires kind { edge_kind (graph g.now) (forest_of self.old) e ≡ Augment }
         ensures changed { (r : Blossom) × (self.old.root ≡ Some r)
             × IsAugmented (darts_of (graph g.now)) (forest_of self.old) (forest_of self.new) r
             (outer_dart (graph g.now) (forest_of self.old) e) }

@@ -2,14 +2,14 @@
 
 ghost use Rattle.std.specs.Prelude.{◌≡◌, ◌*◌, ◌^◌, ◌<◌, length};
 ghost use Rattle.def_matching.specs.Matching.{graph, edge_at};
-ghost use Rattle.def_forest.specs.Darts.{darts_of, twin_of};
+ghost use Rattle.def_forest.specs.Darts.{darts_of, other_dart};
 
 use def_matching::{WEdge, WGraph};
 
 /// The other dart of the same edge.
 pub fn twin(d: u32) -> u32
     requires { d < 2 ^ 31 }
-    ensures { result ≡ twin_of d }
+    ensures { result ≡ other_dart d }
 {
     if d % 2 == 0 { d + 1 } else { d - 1 }
 }

@@ -4,7 +4,7 @@ ghost use Rattle.std.specs.Prelude.{◌≡◌, ◌≢◌, ◌+◌, ◌*◌, ◌<
 ghost use Rattle.def_matching.specs.Matching.{IsSmallGraph, graph};
 ghost use Rattle.def_forest.specs.Darts.{darts_of, far};
 ghost use Rattle.def_forest.specs.Steps.{IsGrown};
-ghost use Rattle.def_forest.specs.Tables.{forest_of, kind_of, outer_dart, IsValidFor};
+ghost use Rattle.def_forest.specs.Tables.{forest_of, edge_kind, outer_dart, IsValidFor};
 ghost use Rattle.def_forest.specs.declared.kinds.EdgeKind.TheVariants.{Grow};
 ghost use Rattle.def_forest.specs.Ways.{Reaches};
 ghost use Rattle.qm_forest.specs.Ties.{fixed_of};
@@ -34,7 +34,7 @@ impl Forest {
         requires graph { IsSmallGraph (graph g.now) }
         requires valid { IsValidFor (graph g.now) self.old }
         requires edge { e < length g.now.edges.items }
-        requires kind { kind_of (graph g.now) (forest_of self.old) e ≡ Grow }
+        requires kind { edge_kind (graph g.now) (forest_of self.old) e ≡ Grow }
         ensures changed { IsGrown (darts_of (graph g.now)) (forest_of self.old) (forest_of self.new)
             (outer_dart (graph g.now) (forest_of self.old) e) }
         ensures root { self.new.root ≡ self.old.root }

@@ -3,9 +3,9 @@
 ghost use Rattle.std.specs.Prelude.{◌≡◌, ◌≢◌, ◌^◌, ◌<◌, ◌≤◌, ◌⊎◌, ◌==◌, ℕ, pos, length, slice_index};
 ghost use Rattle.std.specs.Prelude.{slice_index_or, unsigned_abs};
 ghost use Rattle.def_matching.specs.Matching.{IsSmallGraph, graph};
-ghost use Rattle.def_forest.specs.Forests.{Blossom, load};
+ghost use Rattle.def_forest.specs.Forests.{Blossom, weight_between};
 ghost use Rattle.qm_forest.specs.Ties.{IsClimb};
-ghost use Rattle.def_forest.specs.Tables.{up_at, forest_of, slack_of, kind_of, kind_by, IsValidFor, IsOutermostIn};
+ghost use Rattle.def_forest.specs.Tables.{up_at, forest_of, slack_of, edge_kind, kind_by, IsValidFor, IsOutermostIn};
 
 use crate::darts::edge_of;
 use crate::forest::Forest;
@@ -28,7 +28,7 @@ impl Forest {
     fn load_between(&self, g: &WGraph, u: u32, v: u32) -> i128
         requires valid { IsValidFor (graph g.now) self.now }
         requires vertices { (u < length self.now.hand) × (v < length self.now.hand) }
-        ensures value { result ≡ load (forest_of self.now) u v }
+        ensures value { result ≡ weight_between (forest_of self.now) u v }
         ensures small { unsigned_abs result ≤ 2 ^ 92 }
     {
         if self.outermost(u) == self.outermost(v) {
@@ -43,7 +43,7 @@ impl Forest {
         requires valid { IsValidFor (graph g.now) self.now }
         requires vertices { (u < length self.now.hand) × (v < length self.now.hand) }
         requires apart { (forest_of self.now).out u ≢ (forest_of self.now).out v }
-        ensures value { result ≡ load (forest_of self.now) u v }
+        ensures value { result ≡ weight_between (forest_of self.now) u v }
         ensures small { unsigned_abs result ≤ 2 ^ 92 }
     {
         let _ = g;
@@ -55,7 +55,7 @@ impl Forest {
         requires valid { IsValidFor (graph g.now) self.now }
         requires vertices { (u < length self.now.hand) × (v < length self.now.hand) }
         requires same { (forest_of self.now).out u ≡ (forest_of self.now).out v }
-        ensures value { result ≡ load (forest_of self.now) u v }
+        ensures value { result ≡ weight_between (forest_of self.now) u v }
         ensures small { unsigned_abs result ≤ 2 ^ 92 }
     {
         let _ = g;
@@ -110,7 +110,7 @@ impl Forest {
         requires graph { IsSmallGraph (graph g.now) }
         requires valid { IsValidFor (graph g.now) self.now }
         requires edge { e < length g.now.edges.items }
-        ensures { result ≡ kind_of (graph g.now) (forest_of self.now) e }
+        ensures { result ≡ edge_kind (graph g.now) (forest_of self.now) e }
     {
         if self.slack(g, e) > 0 {
             return EdgeKind::Loose;

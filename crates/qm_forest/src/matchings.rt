@@ -2,7 +2,7 @@
 
 ghost use Rattle.std.specs.Prelude.{◌≡◌, ◌+◌, ◌^◌, ◌<◌, ◌≤◌, ℕ, true, false, length, replicate, IfOk, None};
 ghost use Rattle.std.specs.Vec.{vec_capacity};
-ghost use Rattle.def_matching.specs.Matching.{Graph, IsSmallGraph, Vertex};
+ghost use Rattle.def_matching.specs.Matching.{WeightedGraph, IsSmallGraph, Vertex};
 ghost use Rattle.def_forest.specs.Forests.{Blossom};
 ghost use Rattle.def_forest.specs.Tables.{forest_of, IsValidFor, MatchesBut};
 ghost use Rattle.qm_forest.specs.Rounds.{IsRound, IsSoundFor, HasRoom, AreInOrder, AreMarked};
@@ -16,11 +16,11 @@ use std::alloc::Global;
 impl Forest {
     /// The matching edges that match all vertices of a blossom but one, in increasing order.
     pub fn matching_missing(&self, alloc: Global, b: u32, v: u32) -> Result<Vec<u32>, Memory>
-        requires valid { (g : Graph) × IsSmallGraph g × IsValidFor g self.now }
+        requires valid { (g : WeightedGraph) × IsSmallGraph g × IsValidFor g self.now }
         requires blossom { b < length self.now.up }
         requires vertex { v < length self.now.hand }
         requires held { (forest_of self.now).holds b v ≡ true }
-        ensures { IfOk result (λ m. (g : Graph) → IsSmallGraph g → IsValidFor g self.now
+        ensures { IfOk result (λ m. (g : WeightedGraph) → IsSmallGraph g → IsValidFor g self.now
             → MatchesBut g (forest_of self.now) b v m.items) }
     {
         let mut round = self.new_round(alloc)?;
@@ -36,7 +36,7 @@ impl Forest {
     /// Chooses the edges that match the matched blossoms and all within them, and lists the sets, those with fewer
     /// vertices first.
     pub(crate) fn choose(&self, sets: &mut Vec<(u32, u32)>, round: &mut Round)
-        requires valid { (g : Graph) × IsSmallGraph g × IsSoundFor g self.now }
+        requires valid { (g : WeightedGraph) × IsSmallGraph g × IsSoundFor g self.now }
         requires sets { length self.now.up ≤ length self.now.hand + vec_capacity sets.old }
         requires room { HasRoom self.now round.old }
         requires begun { IsRound self.now round.old.marks.items round.old.left_out.items (λ b. 0) (λ b. 0) }
@@ -50,7 +50,7 @@ impl Forest {
 
     /// Room for the edges that are chosen and the sets that wait: there are none yet.
     fn new_round(&self, alloc: Global) -> Result<Round, Memory>
-        requires { (g : Graph) × IsSmallGraph g × IsValidFor g self.now }
+        requires { (g : WeightedGraph) × IsSmallGraph g × IsValidFor g self.now }
         ensures room { IfOk result (λ round. HasRoom self.now round) }
         ensures few { IfOk result (λ round. length round.marks.items ≤ 2 ^ 30) }
         ensures begun { IfOk result (λ round. (rest : Blossom → ℕ)

@@ -1,7 +1,7 @@
 //! Sums of what is kept with what the shifts of this search changed.
 
 ghost use Rattle.std.specs.Prelude.{◌≡◌, ◌+ℤ◌, ◌^◌, ◌<◌, ◌≤◌, pos, length, slice_index, slice_index_or, unsigned_abs};
-ghost use Rattle.def_forest.specs.Steps.{change};
+ghost use Rattle.def_forest.specs.Steps.{weight_change};
 ghost use Rattle.def_forest.specs.Tables.{weight_at, label_at, out_of};
 
 use def_forest::Label;
@@ -9,7 +9,7 @@ use def_forest::Label;
 /// What a shift by `delta` changes at a label.
 pub(crate) fn shift_at(label: Label, delta: i128) -> i128
     requires { unsigned_abs delta ≤ 2 ^ 100 }
-    ensures value { result ≡ change label delta }
+    ensures value { result ≡ weight_change label delta }
     ensures small { unsigned_abs result ≤ 2 ^ 100 }
 {
     match label {
@@ -42,8 +42,8 @@ pub(crate) fn weight_from(base: &[i128], label: &[Label], delta: i128, b: u32) -
 pub(crate) fn added_at(off: &[i128], handle: u32, label: Label, delta: i128) -> i128
     requires low { handle < length off.now }
     requires delta { unsigned_abs delta ≤ 2 ^ 100 }
-    requires small { unsigned_abs (slice_index_or off.now handle (pos 0) +ℤ change label delta) ≤ 2 ^ 100 }
-    ensures { result ≡ slice_index_or off.now handle (pos 0) +ℤ change label delta }
+    requires small { unsigned_abs (slice_index_or off.now handle (pos 0) +ℤ weight_change label delta) ≤ 2 ^ 100 }
+    ensures { result ≡ slice_index_or off.now handle (pos 0) +ℤ weight_change label delta }
 {
     off[handle as usize] + shift_at(label, delta)
 }

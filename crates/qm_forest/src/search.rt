@@ -2,7 +2,7 @@
 
 ghost use Rattle.std.specs.Prelude.{◌≡◌, ◌≤ℤ◌, ◌^◌, ◌<◌, ◌≤◌, ℕ, pos, length, unsigned_abs, Some};
 ghost use Rattle.std.specs.Prelude.{None};
-ghost use Rattle.def_matching.specs.Matching.{IsSmallGraph, Graph, graph, IsGraph};
+ghost use Rattle.def_matching.specs.Matching.{IsSmallGraph, WeightedGraph, graph, IsGraph};
 ghost use Rattle.def_forest.specs.Darts.{darts_of};
 ghost use Rattle.def_forest.specs.Forests.{Blossom};
 ghost use Rattle.def_forest.specs.Steps.{rooted, shifted};
@@ -22,7 +22,7 @@ impl Forest {
         requires free { (forest_of self.old).mate ((forest_of self.old).out v) ≡ None }
         ensures changed { forest_of self.new ≡ rooted (forest_of self.old) ((forest_of self.old).out v) }
         ensures root { self.new.root ≡ Some ((forest_of self.old).out v) }
-        ensures valid { (g : Graph) → IsGraph g → IsValidFor g self.old → IsValidFor g self.new }
+        ensures valid { (g : WeightedGraph) → IsGraph g → IsValidFor g self.old → IsValidFor g self.new }
     {
         let b = self.outermost(v);
         self.set_label(v, Label::Outer);

@@ -5,7 +5,7 @@ ghost use Rattle.def_matching.specs.Matching.{IsSmallGraph, graph};
 ghost use Rattle.def_forest.specs.Darts.{darts_of};
 ghost use Rattle.def_forest.specs.Forests.{walk};
 ghost use Rattle.def_forest.specs.Shrunk.{IsShrinking};
-ghost use Rattle.def_forest.specs.Tables.{ForestTables, forest_of, kind_of, IsOutermostIn, IsValidFor};
+ghost use Rattle.def_forest.specs.Tables.{ForestTables, forest_of, edge_kind, IsOutermostIn, IsValidFor};
 ghost use Rattle.def_forest.specs.declared.kinds.EdgeKind.TheVariants.{Shrink};
 ghost use Rattle.qm_forest.specs.Gathers.{IsFreeRing, HasClosed};
 ghost use Rattle.qm_forest.specs.Ties.{HasSameNest, left_alone};
@@ -22,7 +22,7 @@ impl Forest {
         requires graph { IsSmallGraph (graph g.now) }
         requires valid { IsValidFor (graph g.now) self.old }
         requires edge { e < length g.now.edges.items }
-        requires kind { kind_of (graph g.now) (forest_of self.old) e ≡ Shrink }
+        requires kind { edge_kind (graph g.now) (forest_of self.old) e ≡ Shrink }
         ensures changed { IsShrinking (darts_of (graph g.now)) (forest_of self.old) (forest_of self.new) self.old.root
             self.new.root (2 * e) }
         ensures valid { IsValidFor (graph g.now) self.new }

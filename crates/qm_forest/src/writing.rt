@@ -2,7 +2,7 @@
 
 ghost use Rattle.std.specs.Prelude.{◌≡◌, ◌≢◌, ◌+◌, ◌*◌, ◌*ℤ◌, ◌^◌, ◌<◌, ◌≤◌, ℕ, List, pos, length, slice_index, None};
 ghost use Rattle.std.specs.Vec.{vec_capacity};
-ghost use Rattle.def_matching.specs.Matching.{Graph, IsPerfect, IsSmallGraph, Vertex, matching_cost};
+ghost use Rattle.def_matching.specs.Matching.{WeightedGraph, IsPerfect, IsSmallGraph, Vertex, matching_cost};
 ghost use Rattle.def_matching.specs.Dual.{dual, dual_sum, SaysYes};
 ghost use Rattle.def_forest.specs.Forests.{Blossom};
 ghost use Rattle.def_forest.specs.Tables.{forest_of, size_of, up_at, IsValidFor};
@@ -25,11 +25,11 @@ impl Forest {
     /// The matching, in increasing order, and the dual. Where all blossoms are matched the matching is perfect, and
     /// twice its cost is the sum of the dual. Linear, but for a logarithm of the sets.
     pub fn into_parts(mut self) -> (Vec<u32>, Dual)
-        requires valid { (g : Graph) × IsSmallGraph g × IsValidFor g self }
-        ensures yes { (g : Graph) → IsSmallGraph g → IsValidFor g self → SaysYes g (dual result.1) }
+        requires valid { (g : WeightedGraph) × IsSmallGraph g × IsValidFor g self }
+        ensures yes { (g : WeightedGraph) → IsSmallGraph g → IsValidFor g self → SaysYes g (dual result.1) }
         ensures dual { IsDualOf (length self.hand) (forest_of self) (dual result.1) }
         ensures few { 2 * length result.1.z.items ≤ length self.hand }
-        ensures perfect { (g : Graph) → IsSmallGraph g → IsValidFor g self
+        ensures perfect { (g : WeightedGraph) → IsSmallGraph g → IsValidFor g self
             → ((v : Vertex) → v < g.n → (forest_of self).mate ((forest_of self).out v) ≢ None)
             → IsPerfect g result.0.items × (dual_sum (dual result.1) ≡ (pos 2 *ℤ matching_cost g result.0.items)) }
     {
@@ -40,7 +40,7 @@ impl Forest {
     }
     /// Writes the matching and the dual into the room that there is.
     fn write_down(self, room: Room) -> (Vec<u32>, Dual)
-        requires valid { (g : Graph) × IsSmallGraph g × IsSoundFor g self × (room ≡ size_of g) }
+        requires valid { (g : WeightedGraph) × IsSmallGraph g × IsSoundFor g self × (room ≡ size_of g) }
         ensures laminar { IsLaminar self }
         ensures outline { (sets : List (ℕ × Blossom)) × IsOutline self sets (dual result.1) }
         ensures chosen { (round : Round) × IsChosen self round

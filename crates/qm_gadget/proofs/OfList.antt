@@ -7,12 +7,12 @@ use Rattle.std.proofs.lemmas.List.{length-map, get_or-map, get_or_past}
 use Rattle.def_math.specs.Counts.{count, count_below}
 use Rattle.def_flow.specs.Network.{Network, IsWithinBounds, tangle_number}
 use Rattle.def_flow.specs.Admissible.{IsAdmissible, entries}
-use Rattle.def_matching.specs.Matching.{Graph, IsCheap, IsSmallGraph, edge_at}
+use Rattle.def_matching.specs.Matching.{WeightedGraph, IsCheap, IsSmallGraph, edge_at}
 use Rattle.def_flow.specs.Units.{low, cap, units, active, rim_active}
 use Rattle.def_flow.specs.MatchingGraph.{graph_by, graph_of_units, matching_graph, first_fresh, unit_size, size_by, are_alike, rim}
 use Rattle.def_flow.specs.declared.net.End.{End}
 use Rattle.def_flow.specs.declared.units.ArcUnit.{ArcUnit}
-use Rattle.def_flow.specs.Admissible.{AreLengths}
+use Rattle.def_flow.specs.Admissible.{AreNetLengths}
 use Rattle.gadget_laws.proofs.Units.{UnitsAt}
 use Rattle.gadget_laws.proofs.Costs.{costs}
 use Rattle.gadget_laws.proofs.Law.{arcs_at, units_at, graph_law}
@@ -58,13 +58,13 @@ graph_lawful net step xs bounds count admissible tangle =
 -- Its costs are so low that no sum of them overflows.
 pub graph_cheap : (net : Network) (step : ℕ) (xs : List ℕ) → IsWithinBounds net → length xs ≡ length net.arcs → IsAdmissible net (entries xs) → tangle_number net ≤ 2 ^ 25 → step ≤ 4096 → IsCheap (matching_graph net step xs)
 graph_cheap net step xs bounds count admissible tangle short k l =
-    let g : Graph = matching_graph net step xs in
+    let g : WeightedGraph = matching_graph net step xs in
     let few : g.n ≤ 20000000 = omega (arith, (size_law net step xs bounds count admissible).0) in
     let low : unsigned_abs (edge_at g k).cost ≤ 4096000000 = omega (arith, costs net step xs bounds k l) in
     omega (arith, mul-le-mul {n₁ = g.n} {m₁ = unsigned_abs (edge_at g k).cost} {n₂ = 20000000} {m₂ = 4096000000} few low)
 
 -- The lows and caps of an admissible list.
-pub list_ready : (net : Network) (step : ℕ) (xs : List ℕ) → IsWithinBounds net → AreLengths net.arcs xs → IsAdmissible net (entries xs) → tangle_number net ≤ 2 ^ 25 → IsReady net step (map (low net step) xs) (map (cap net step) xs)
+pub list_ready : (net : Network) (step : ℕ) (xs : List ℕ) → IsWithinBounds net → AreNetLengths net.arcs xs → IsAdmissible net (entries xs) → tangle_number net ≤ 2 ^ 25 → IsReady net step (map (low net step) xs) (map (cap net step) xs)
 list_ready net step xs bounds lengths admissible tangle = record {
   boxes = record {
     lows_count = length-map xs (low net step) ∙ lengths.count;
@@ -112,5 +112,5 @@ pub plan_small : (net : Network) (step : ℕ) (ls cs : List ℕ) (p : Plan) → 
     → first_fresh (length p.counts.items) (copies_in p.counts.items) p.lone p.units.items + 2 * length (rim (count_below (copies_in p.counts.items) (length p.counts.items)) p.units.items) < 2 ^ 26
 plan_small net step ls cs p ready plan small =
     let n : first_fresh (length p.counts.items) (copies_in p.counts.items) p.lone p.units.items + 2 * (length (rim (count_below (copies_in p.counts.items) (length p.counts.items)) p.units.items) - 1) ≡ (graph_by_lows net step ls cs).n =
-    ap (λ (g : Graph). g.n) (plan_graph net step ls cs p ready plan) in
+    ap (λ (g : WeightedGraph). g.n) (plan_graph net step ls cs p ready plan) in
     omega arith

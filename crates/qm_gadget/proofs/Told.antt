@@ -4,7 +4,7 @@ use Rattle.std.proofs.lemmas.Int.{ints}
 use Rattle.std.proofs.lemmas.List.{length-map}
 use Rattle.def_flow.specs.Network.{Network, IsWithinBounds, tangle_number}
 use Rattle.def_flow.specs.Admissible.{IsAdmissible, deviation, entries}
-use Rattle.def_matching.specs.Matching.{Graph, graph, matching_cost, IsPerfect}
+use Rattle.def_matching.specs.Matching.{WeightedGraph, graph, matching_cost, IsPerfect}
 use Rattle.def_flow.specs.Units.{low, cap, units, states_at, active, rim_active}
 use Rattle.def_flow.specs.MatchingGraph.{graph_by, matching_graph}
 use Rattle.def_flow.specs.declared.units.ArcUnit.{ArcUnit}
@@ -58,7 +58,7 @@ gadget_short net g ys bounds of inside = omega (arith, marks, edges, law.1, of.t
     edges : length (graph_by net.nodes (λ v. active v over ons) (rim_active over ons % 2 == 1) over).edges ≡ length (matching_graph net g.step of.x).edges
     edges =
         let same : graph_by net.nodes (λ v. active v over ons) (rim_active over ons % 2 == 1) over ≡ matching_graph net g.step of.x = rw (of.lows, of.caps) (graph_over net g.step of.x) in
-        ap (λ (h : Graph). length h.edges) same
+        ap (λ (h : WeightedGraph). length h.edges) same
 
 -- The matching that a list in the box tells.
 pub gadget_matching : (net : Network) (g : Gadget) (ys : List ℕ) → IsWithinBounds net → IsGadgetOf net g → IsAdmissible net (entries ys) → IsInBox g.step g.low.items g.cap.items ys
@@ -82,7 +82,7 @@ gadget_matching net g ys bounds of admissible inside m is = rw (of.graphs, told,
 pub gadget_edges : (net : Network) (g : Gadget) → IsWithinBounds net → IsGadgetOf net g → length g.graph.edges.items ≤ 2 ^ 26
 gadget_edges net g bounds of =
     let law : (16 * (matching_graph net g.step of.x).n ≤ 9 * tangle_number net) × (8 * length (matching_graph net g.step of.x).edges ≤ 9 * tangle_number net) = size_law net g.step of.x bounds of.lengths.count of.admissible in
-    omega (arith, law.1, of.tangle, ap (λ (h : Graph). length h.edges) of.graphs)
+    omega (arith, law.1, of.tangle, ap (λ (h : WeightedGraph). length h.edges) of.graphs)
 
 -- The units' edges are among the graph's.
 pub gadget_wide : (net : Network) (g : Gadget) → IsWithinBounds net → IsGadgetOf net g → widths_over net g.step g.low.items g.cap.items ≤ length g.graph.edges.items
@@ -103,7 +103,7 @@ gadget_wide net g bounds of = omega (arith, widths_low net.nodes (λ v. active v
     edges : length (graph_by net.nodes (λ v. active v over ons) (rim_active over ons % 2 == 1) over).edges ≡ length g.graph.edges.items
     edges =
         let same : graph_by net.nodes (λ v. active v over ons) (rim_active over ons % 2 == 1) over ≡ matching_graph net g.step of.x = rw (of.lows, of.caps) (graph_over net g.step of.x) in
-        ap (λ (h : Graph). length h.edges) (same ∙ sym of.graphs)
+        ap (λ (h : WeightedGraph). length h.edges) (same ∙ sym of.graphs)
 
 -- The list that a perfect matching of a gadget's graph tells.
 pub record AreTold (net : Network) (g : Gadget) (m ys : List ℕ) : Type 0 where
@@ -117,7 +117,7 @@ pub gadget_lengths : (net : Network) (g : Gadget) (m : List ℕ) → IsWithinBou
 gadget_lengths net g m bounds of perfect edges long ys is = record {
   count = ap length told ∙ law.0;
   admissible = subst (λ (zs : List ℕ). IsAdmissible net (entries zs)) (sym told) law.1;
-  cost = omega (arith, ints, law.2, ap (λ zs. deviation net (entries zs)) told, ap (λ zs. deviation net (entries zs)) of.lows, ap (λ (h : Graph). matching_cost h m) of.graphs);
+  cost = omega (arith, ints, law.2, ap (λ zs. deviation net (entries zs)) told, ap (λ zs. deviation net (entries zs)) of.lows, ap (λ (h : WeightedGraph). matching_cost h m) of.graphs);
   inside = subst (λ (ls : List ℕ). IsInBox g.step ls g.cap.items ys) (sym of.lows) (subst (λ (cs : List ℕ). IsInBox g.step (lows net g.step xs) cs ys) (sym of.caps) (subst (λ (zs : List ℕ). IsInBox g.step (lows net g.step xs) (caps net g.step xs) zs) (sym told) (told_in_box net g.step xs m)));
 }
   where
@@ -131,7 +131,7 @@ gadget_lengths net g m bounds of perfect edges long ys is = record {
     told = is
         ∙ (ap (λ ls. lengths_read net g.step ls g.cap.items edges m) of.lows
         ∙ (ap (λ cs. lengths_read net g.step (map (low net g.step) xs) cs edges m) of.caps
-        ∙ (ap (λ n. lengths_read net g.step (map (low net g.step) xs) (map (cap net g.step) xs) n m) (long ∙ ap (λ (h : Graph). length h.edges) of.graphs)
+        ∙ (ap (λ n. lengths_read net g.step (map (low net g.step) xs) (map (cap net g.step) xs) n m) (long ∙ ap (λ (h : WeightedGraph). length h.edges) of.graphs)
         ∙ (ap (λ os. lengths_by g.step (map (low net g.step) xs) (map (cap net g.step) xs) (states_told (λ v. active v us os) us (marks_from 0 (length (matching_graph net g.step xs).edges) m))) (own_states net g.step xs)
         ∙ lengths_is net g.step xs (states_told (λ v. active v us (states_at net g.step xs)) us (marks_from 0 (length (matching_graph net g.step xs).edges) m))))))
 

@@ -1,7 +1,7 @@
 -- What a plan of a matching graph holds, and what it needs.
 use Rattle.std.specs.Prelude.{◌≡◌, ℕ, ◌-◌, ◌%◌, ◌^◌, ◌≤◌, ◌==◌, Bool, List, length, map}
 use Rattle.def_flow.specs.Network.{Network}
-use Rattle.def_matching.specs.Matching.{Graph}
+use Rattle.def_matching.specs.Matching.{WeightedGraph}
 use Rattle.def_flow.specs.MatchingGraph.{graph_of_units}
 use Rattle.def_flow.specs.Units.{active, rim_active}
 use Rattle.gadget_laws.specs.Marks.{states_marks}
@@ -34,5 +34,5 @@ marks_over net step lows caps js =
     (states_over caps js)
 
 -- The graph of the units with these lows and caps.
-abbrev pub graph_by_lows : Network → ℕ → List ℕ → List ℕ → Graph
+abbrev pub graph_by_lows : Network → ℕ → List ℕ → List ℕ → WeightedGraph
 graph_by_lows net step lows caps = graph_of_units net.nodes (units_over net step net.arcs lows caps) (own_states caps)

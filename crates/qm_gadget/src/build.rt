@@ -7,7 +7,7 @@ ghost use Rattle.def_matching.specs.Matching.{graph, IsCheap, IsSmallGraph};
 ghost use Rattle.def_flow.specs.MatchingGraph.{matching_graph};
 ghost use Rattle.def_flow.specs.Gadget.{IsGadgetOf};
 ghost use Rattle.def_flow.specs.Gadget.{caps as caps_of_list, lows as lows_of_list};
-ghost use Rattle.def_flow.specs.Admissible.{AreLengths};
+ghost use Rattle.def_flow.specs.Admissible.{AreNetLengths};
 ghost use Rattle.qm_gadget.specs.Ready.{graph_by_lows, IsReady};
 
 use crate::Memory;
@@ -23,7 +23,7 @@ use std::alloc::{AllocError, Global};
 /// Linear in the arcs, nodes and edges of the graph.
 pub fn graph_of(alloc: Global, net: &Net, x: &[u64], step: u64) -> Result<Gadget, Memory>
     requires bounds { IsWithinBounds (network net.now) }
-    requires lengths { AreLengths net.now.arcs.items x.now }
+    requires lengths { AreNetLengths net.now.arcs.items x.now }
     requires admissible { IsAdmissible (network net.now) (entries x.now) }
     requires tangle { tangle_number (network net.now) ≤ MAX_TANGLE }
     requires step { (1 ≤ step) × (step ≤ MAX_STEP) }

@@ -7,11 +7,11 @@ use Rattle.std.proofs.lemmas.List.{length-map}
 use Rattle.std.proofs.lemmas.List.Folds.{list_all-append}
 use Rattle.std.proofs.lemmas.List.FromFn.{length-map-range_with_len, length-range_with_len}
 use Rattle.std.proofs.Math.Nat.{mul-le-mul_right, suc-mul}
-use Rattle.def_gen.specs.Steps.{cell, cells, column_height, grid_points, point, point_number, row_cells, row_points}
+use Rattle.def_gen.specs.Steps.{cell, cells, column_height, grid_points, whole_point, point_number, row_cells, row_points}
 use Rattle.def_mesh.specs.Faces.{Faces}
 use Rattle.def_mesh.specs.Vertices.{is_used}
 use Rattle.def_text.specs.FaceSet.{FaceSet, IsSoup}
-use Rattle.def_text.specs.Text.{face_set, numbers_to, position_of, used_to, vertex_of}
+use Rattle.def_text.specs.Text.{face_set, numbers_to, position_of, used_to, line_vertex}
 use Rattle.def_text.specs.Types.{Positions}
 use Rattle.qm_obj.proofs.SoupLemmas.{length-numbers_to, numbers_rise}
 
@@ -19,7 +19,7 @@ use Rattle.qm_obj.proofs.SoupLemmas.{length-numbers_to, numbers_rise}
 rows_long : (n y k : ℕ) → length (flat_map (row_points n) (range_with_len y k)) ≡ k * (3 * n + 1)
 rows_long n y zero = omega arith
 rows_long n y (suc k) =
-    let first : length (row_points n y) ≡ 3 * n + 1 = length-map-range_with_len (λ x. point x y) 0 (3 * n + 1) in
+    let first : length (row_points n y) ≡ 3 * n + 1 = length-map-range_with_len (λ x. whole_point x y) 0 (3 * n + 1) in
     let rest = rows_long n (y + 1) k in
     let product : suc k * (3 * n + 1) ≡ k * (3 * n + 1) + (3 * n + 1) = suc-mul k (3 * n + 1) in
     omega (arith, length-append (row_points n y) (flat_map (row_points n) (range_with_len (y + 1) k)), first, rest, product)
@@ -107,7 +107,7 @@ few_faces n few soup points faces is used =
     omega (
       arith,
       ap (λ (s : FaceSet). length s.faces) used,
-      length-map faces (λ corners. map (vertex_of faces) corners),
+      length-map faces (λ corners. map (line_vertex faces) corners),
       ap length is,
       rows_few n 0 8,
     )

@@ -11,7 +11,7 @@ use def_gen::{
     ADDEND, BLOCK_COLUMNS, FACTOR, GREATEST_HEIGHT, HEIGHTS, LEAST_HEIGHT, LOW_STATES, MAX_BLOCKS,
     STATES,
 };
-use def_text::{MAX_FACES, MAX_VERTICES, Micro, Soup};
+use def_text::{MAX_F_LINES, MAX_V_LINES, Micro, Soup};
 use qm_obj::soup_of;
 use std::alloc::Global;
 
@@ -20,7 +20,7 @@ pub fn steps_mesh(alloc: Global, n: u32) -> Result<Soup, Memory>
     requires some { 1 ≤ n }
     requires few { n ≤ MAX_BLOCKS }
     ensures soup { IfOk result (λ soup. soup ≡ steps_soup n) }
-    ensures small { IfOk result (λ soup. (length soup.pos ≤ MAX_VERTICES) × (length soup.faces ≤ MAX_FACES)) }
+    ensures small { IfOk result (λ soup. (length soup.pos ≤ MAX_V_LINES) × (length soup.faces ≤ MAX_F_LINES)) }
 {
     let heights = block_heights(alloc, n)?;
     let points = grid_points(alloc, n)?;

@@ -4,7 +4,7 @@ use Rattle.std.proofs.lemmas.Bool.{cases_eq, cases_order}
 use Rattle.std.proofs.lemmas.List.FromFn.{map-range_with_len_more}
 use Rattle.def_mesh.specs.HalfEdges.{HalfEdges, IsQuadManifold}
 use Rattle.def_cut.specs.Cuts.{Cut, IsCorner, IsCut}
-use Rattle.def_cut.specs.Steps.{east, north, easts, norths}
+use Rattle.def_cut.specs.Steps.{step_east, step_north, easts, norths}
 use Rattle.cut_laws.specs.Grown.{IsRow, IsGrown}
 use Rattle.cut_laws.proofs.Rows.{endless, next_row, west_on}
 use Rattle.cut_laws.proofs.Grown.{grow, endless_north}
@@ -15,8 +15,8 @@ pub below_next : (P : ℕ → Type 0) (i : ℕ) → ((k : ℕ) → k < i → P k
 below_next P i before here k l = elim (cases_eq k i) [ inl e ↦ subst P (sym e) here | inr ne ↦ before k (omega arith) ]
 
 -- One cell more of a row.
-pub row_at : (mesh : HalfEdges) (s d e i : ℕ) → d ≡ easts mesh s i → e ≡ east mesh d → e ≡ easts mesh s (i + 1)
-row_at mesh s d e i at is = let n : suc i ≡ i + 1 = omega arith in is ∙ (ap (east mesh) at ∙ ap (easts mesh s) n)
+pub row_at : (mesh : HalfEdges) (s d e i : ℕ) → d ≡ easts mesh s i → e ≡ step_east mesh d → e ≡ easts mesh s (i + 1)
+row_at mesh s d e i at is = let n : suc i ≡ i + 1 = omega arith in is ∙ (ap (step_east mesh) at ∙ ap (easts mesh s) n)
 
 pub row_listed : (mesh : HalfEdges) (s d i : ℕ) (old now new : List ℕ) → d ≡ easts mesh s i → now ≡ old ++ row_list mesh s i → new ≡ now ++ d ∷ [] → new ≡ old ++ row_list mesh s (i + 1)
 row_listed mesh s d i old now new at listed put =
@@ -81,13 +81,13 @@ module _ (mesh : HalfEdges) (laws : IsQuadManifold mesh) (cut : Cut) (full : IsC
       ends = λ j e. let same : j ≡ h = omega arith in ap (λ x. cut (mesh.next (mesh.next (norths mesh s x)))) same ∙ (ap (λ x. cut (mesh.next (mesh.next x))) (sym at) ∙ on);
     }
 
-  pub grid_at : (s d e h : ℕ) → d ≡ norths mesh s h → e ≡ north mesh d → e ≡ norths mesh s (h + 1)
-  grid_at s d e h at is = let n : suc h ≡ h + 1 = omega arith in is ∙ (ap (north mesh) at ∙ ap (norths mesh s) n)
+  pub grid_at : (s d e h : ℕ) → d ≡ norths mesh s h → e ≡ step_north mesh d → e ≡ norths mesh s (h + 1)
+  grid_at s d e h at is = let n : suc h ≡ h + 1 = omega arith in is ∙ (ap (step_north mesh) at ∙ ap (norths mesh s) n)
 
   pub grid_inside : (s d h : ℕ) → d ≡ norths mesh s h → ((k : ℕ) → k < h → cut (mesh.next (mesh.next (norths mesh s k))) ≡ false) → cut (mesh.next (mesh.next d)) ≡ false → (k : ℕ) → k < h + 1 → cut (mesh.next (mesh.next (norths mesh s k))) ≡ false
   grid_inside s d h at before off = below_next (λ k. cut (mesh.next (mesh.next (norths mesh s k))) ≡ false) h before (ap (λ x. cut (mesh.next (mesh.next x))) (sym at) ∙ off)
 
-  pub grid_west : (d e : ℕ) → d < mesh.count → e ≡ north mesh d → cut (mesh.prev d) ≡ true → cut (mesh.next (mesh.next d)) ≡ false → cut (mesh.prev e) ≡ true
+  pub grid_west : (d e : ℕ) → d < mesh.count → e ≡ step_north mesh d → cut (mesh.prev d) ≡ true → cut (mesh.next (mesh.next d)) ≡ false → cut (mesh.prev e) ≡ true
   grid_west d e low is west off = ap (λ x. cut (mesh.prev x)) is ∙ west_on mesh laws cut full d low west off
 
   pub grid_never : (s h : ℕ) → IsCorner mesh cut s → ((k : ℕ) → k < h → cut (mesh.next (mesh.next (norths mesh s k))) ≡ false) → mesh.count + 1 ≤ h → ⊥

@@ -4,7 +4,7 @@ ghost use Rattle.std.specs.Prelude.{◌≡◌, ◌<◌, ◌++◌, true, IfOk, Is
 ghost use Rattle.def_mesh.specs.Darts.{darts, next_of, prev_of, twin_of};
 ghost use Rattle.def_mesh.specs.HalfEdges.{half_edges};
 ghost use Rattle.def_cut.specs.FullCut.{is_on};
-ghost use Rattle.def_cut.specs.Steps.{east, north};
+ghost use Rattle.def_cut.specs.Steps.{step_east, step_north};
 ghost use Rattle.cut_laws.specs.Grown.{IsRow};
 ghost use Rattle.qm_grid.specs.Cutting.{IsCutting};
 ghost use Rattle.qm_grid.specs.Cells.{row_list};
@@ -16,7 +16,7 @@ use std::alloc::AllocError;
 pub(crate) fn east(mesh: &Mesh, d: u32) -> u32
     requires dart { d < darts mesh.now }
     requires paired { IsSome (twin_of mesh.now (next_of d)) }
-    ensures value { result ≡ east (half_edges mesh.now) d }
+    ensures value { result ≡ step_east (half_edges mesh.now) d }
     ensures dart { result < darts mesh.now }
 {
     let across = mesh.twin(mesh.next(d)).unwrap();
@@ -27,7 +27,7 @@ pub(crate) fn east(mesh: &Mesh, d: u32) -> u32
 pub(crate) fn north(mesh: &Mesh, d: u32) -> u32
     requires dart { d < darts mesh.now }
     requires paired { IsSome (twin_of mesh.now (next_of (next_of d))) }
-    ensures value { result ≡ north (half_edges mesh.now) d }
+    ensures value { result ≡ step_north (half_edges mesh.now) d }
     ensures dart { result < darts mesh.now }
 {
     mesh.twin(mesh.next(mesh.next(d))).unwrap()

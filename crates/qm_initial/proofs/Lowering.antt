@@ -5,15 +5,15 @@ use Rattle.std.proofs.lemmas.Int.{ints}
 use Rattle.std.proofs.lemmas.List.{get_or-set_same, get_or-set_other, length-set}
 use Rattle.list_laws.proofs.Filters.{last_or}
 use Rattle.def_matching.specs.declared.weighted.WEdge.{WEdge}
-use Rattle.def_matching.specs.Matching.{Graph, EdgeNumber, Vertex, edge_at, IsGraph}
+use Rattle.def_matching.specs.Matching.{WeightedGraph, EdgeNumber, Vertex, edge_at, IsGraph}
 use Rattle.qm_initial.specs.declared.initial.TheConstants.{MAX_WISH}
 use Rattle.qm_initial.specs.Lowered.{with_room, with_room_on, AreFeasible, AreWished}
 
 -- The two ends of an edge, in one order or the other.
-abbrev pub AreEnds : (g : Graph) (k : EdgeNumber) (a b : Vertex) → Type 0
+abbrev pub AreEnds : (g : WeightedGraph) (k : EdgeNumber) (a b : Vertex) → Type 0
 AreEnds g k a b = ((a ≡ (edge_at g k).u) × (b ≡ (edge_at g k).v)) ⊎ ((a ≡ (edge_at g k).v) × (b ≡ (edge_at g k).u))
 
-module _ (g : Graph) (lawful : IsGraph g)
+module _ (g : WeightedGraph) (lawful : IsGraph g)
     (cheap : (e : EdgeNumber) → e < length g.edges → unsigned_abs (edge_at g e).cost ≤ 2 ^ 57)
     (wish y : List ℤ) (k : EdgeNumber) (low : k < length g.edges) (so : AreWished g wish y k)
     (long : length wish ≡ g.n) (a b : Vertex) (ends : AreEnds g k a b) where
@@ -122,7 +122,7 @@ module _ (g : Graph) (lawful : IsGraph g)
   one_more new is = rw is (by_test (int_lt (most -ℤ at a) (at b)) refl)
 
 -- The numbers have room for one edge more.
-pub more_room : (g : Graph) → IsGraph g → ((e : EdgeNumber) → e < length g.edges → unsigned_abs (edge_at g e).cost ≤ 2 ^ 57)
+pub more_room : (g : WeightedGraph) → IsGraph g → ((e : EdgeNumber) → e < length g.edges → unsigned_abs (edge_at g e).cost ≤ 2 ^ 57)
     → (wish y new : List ℤ) (k : EdgeNumber) (edge : WEdge) → k < length g.edges → AreWished g wish y k → length wish ≡ g.n
     → edge ≡ edge_at g k → new ≡ with_room_on edge y → AreWished g wish new (k + 1)
 more_room g lawful cheap wish y new k edge low so long at is = by_order (ltb (edge_at g k).u (edge_at g k).v) (is ∙ ap (λ (e : WEdge). with_room_on e y) at)

@@ -3,7 +3,7 @@ use Rattle.std.specs.Prelude.{◌≡◌, ℕ, ◌+◌, ◌*◌, ◌<◌, ◌^◌
 use Rattle.std.specs.Prelude.{nat_lt, if◌then◌else◌, List, length, slice_index_or, slice_set}
 use Rattle.std.specs.Prelude.{ℤ, pos, neg_ℤ, ◌+ℤ◌, ◌-ℤ◌, ◌*ℤ◌, ◌≤ℤ◌, ◌≤◌, int_lt, unsigned_abs}
 use Rattle.def_matching.specs.declared.weighted.WEdge.{WEdge}
-use Rattle.def_matching.specs.Matching.{Graph, EdgeNumber, Vertex, edge_at}
+use Rattle.def_matching.specs.Matching.{WeightedGraph, EdgeNumber, Vertex, edge_at}
 use Rattle.qm_initial.specs.declared.initial.TheConstants.{MAX_WISH}
 
 -- No number is farther from 0 than a wish.
@@ -30,13 +30,13 @@ with_room_on edge y =
     else with_room (pos 2 *ℤ edge.cost) y edge.v edge.u
 
 -- The numbers at the ends of the first edges have sums of at most twice their costs.
-abbrev pub AreFeasible : (g : Graph) (y : List ℤ) (edges : ℕ) → Type 0
+abbrev pub AreFeasible : (g : WeightedGraph) (y : List ℤ) (edges : ℕ) → Type 0
 AreFeasible g y edges = (e : EdgeNumber) → e < edges
     → (slice_index_or y (edge_at g e).u (pos 0) +ℤ slice_index_or y (edge_at g e).v (pos 0))
     ≤ℤ (pos 2 *ℤ (edge_at g e).cost)
 
 -- The wishes, lowered for the first edges.
-pub record AreWished (g : Graph) (wish y : List ℤ) (edges : ℕ) : Type 0 where
+pub record AreWished (g : WeightedGraph) (wish y : List ℤ) (edges : ℕ) : Type 0 where
   pub long : length y ≡ length wish
   pub below : (v : Vertex) → slice_index_or y v (pos 0) ≤ℤ slice_index_or wish v (pos 0)
   pub within : AreWithin y

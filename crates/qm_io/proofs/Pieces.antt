@@ -3,11 +3,11 @@ use Rattle.std.proofs.Common.{◌≡◌, ℕ, zero, suc, ◌+◌, ◌-◌, ◌==
 use Rattle.std.specs.List.{flat_map, list_any}
 use Rattle.std.proofs.lemmas.Bool.{or_from}
 use Rattle.std.proofs.lemmas.List.{length-map}
-use Rattle.def_io.specs.Lines.{in_front, pieces, line_of, lines_of, tail_of}
+use Rattle.def_io.specs.Lines.{byte_in_front, pieces, line_of, lines_of, tail_of}
 use Rattle.qm_io.specs.Ends.{ends_from}
 
 -- One piece more where a byte stands in front of the first, and no more than that.
-length-in_front : (b : ℕ) (ps : List (List ℕ)) → length (in_front b ps) ≤ length ps + 1
+length-in_front : (b : ℕ) (ps : List (List ℕ)) → length (byte_in_front b ps) ≤ length ps + 1
 length-in_front b [] = omega arith
 length-in_front b (p ∷ ps) = omega arith
 
@@ -17,7 +17,7 @@ length-pieces [] = omega arith
 length-pieces (b ∷ bs) = by_test (b == 10) (length-pieces bs)
   where
     by_test : (t : Bool) → length (pieces bs) ≤ length bs
-        → length (if t then (b ∷ []) ∷ pieces bs else in_front b (pieces bs)) ≤ suc (length bs)
+        → length (if t then (b ∷ []) ∷ pieces bs else byte_in_front b (pieces bs)) ≤ suc (length bs)
     by_test true less = omega arith
     by_test false less = omega (arith, length-in_front b (pieces bs))
 
@@ -27,7 +27,7 @@ length-ends_from s [] = refl
 length-ends_from s (p ∷ ps) = ap suc (length-ends_from (s + length p) ps)
 
 -- The byte in front stands in front of all.
-flat-in_front : (b : ℕ) (ps : List (List ℕ)) → flat_map (λ p. p) (in_front b ps) ≡ b ∷ flat_map (λ p. p) ps
+flat-in_front : (b : ℕ) (ps : List (List ℕ)) → flat_map (λ p. p) (byte_in_front b ps) ≡ b ∷ flat_map (λ p. p) ps
 flat-in_front b [] = refl
 flat-in_front b (p ∷ ps) = refl
 
@@ -37,7 +37,7 @@ flat-pieces [] = refl
 flat-pieces (b ∷ bs) = by_test (b == 10) (ap (λ xs. b ∷ xs) (flat-pieces bs))
   where
     by_test : (t : Bool) → b ∷ flat_map (λ p. p) (pieces bs) ≡ b ∷ bs
-        → flat_map (λ p. p) (if t then (b ∷ []) ∷ pieces bs else in_front b (pieces bs)) ≡ b ∷ bs
+        → flat_map (λ p. p) (if t then (b ∷ []) ∷ pieces bs else byte_in_front b (pieces bs)) ≡ b ∷ bs
     by_test true is = is
     by_test false is = flat-in_front b (pieces bs) ∙ is
 
@@ -106,10 +106,10 @@ end-low s (p ∷ ps) (suc i) l =
 
 -- A byte that is no LF joins the piece behind it.
 other : (b : ℕ) → ((b == 10) ≡ true → ⊥) → (ps : List (List ℕ))
-    → (if b == 10 then (b ∷ []) ∷ ps else in_front b ps) ≡ in_front b ps
+    → (if b == 10 then (b ∷ []) ∷ ps else byte_in_front b ps) ≡ byte_in_front b ps
 other b differs ps = by_test (b == 10) differs
   where
-    by_test : (t : Bool) → (t ≡ true → ⊥) → (if t then (b ∷ []) ∷ ps else in_front b ps) ≡ in_front b ps
+    by_test : (t : Bool) → (t ≡ true → ⊥) → (if t then (b ∷ []) ∷ ps else byte_in_front b ps) ≡ byte_in_front b ps
     by_test true off = absurd (off refl)
     by_test false off = refl
 
@@ -121,7 +121,7 @@ pieces-first [] k l is none = absurd (omega arith)
 pieces-first (b ∷ bs) zero l is none = rw is refl
 pieces-first (b ∷ bs) (suc k) l is none =
     other b (none 0 (omega arith)) (pieces bs)
-    ∙ ap (in_front b) (pieces-first bs k (omega arith) is (λ j m. none (suc j) (omega arith)))
+    ∙ ap (byte_in_front b) (pieces-first bs k (omega arith) is (λ j m. none (suc j) (omega arith)))
 
 -- A text without LF that is not empty is one piece.
 pub pieces-none : (bs : List ℕ) → 0 < length bs
@@ -130,7 +130,7 @@ pieces-none [] l none = absurd (omega arith)
 pieces-none (b ∷ []) l none = other b (none 0 (omega arith)) []
 pieces-none (b ∷ c ∷ bs) l none =
     other b (none 0 (omega arith)) (pieces (c ∷ bs))
-    ∙ ap (in_front b) (pieces-none (c ∷ bs) (omega arith) (λ j m. none (suc j) (omega arith)))
+    ∙ ap (byte_in_front b) (pieces-none (c ∷ bs) (omega arith) (λ j m. none (suc j) (omega arith)))
 
 -- Each line has its piece.
 pub piece-there : (bs : List ℕ) (i : ℕ) → i < length (lines_of bs) → i < length (pieces bs)

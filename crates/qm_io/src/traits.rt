@@ -18,9 +18,9 @@ pub struct Failed;
 
 impl From<Failed> for WriteFail {
     ghost use Rattle.std.specs.Prelude.{◌≡◌};
-    ghost use Rattle.def_io.specs.declared.fails.WriteFail.TheVariants.{Fault};
+    ghost use Rattle.def_io.specs.declared.fails.WriteFail.TheVariants as write_fail;
 
-    ghost from_gives = { λ _ e. e ≡ Fault };
+    ghost from_gives = { λ _ e. e ≡ write_fail.Fault };
 
     fn from(_: Failed) -> WriteFail {
         WriteFail::Fault
@@ -29,9 +29,9 @@ impl From<Failed> for WriteFail {
 
 impl From<Failed> for ReadFail {
     ghost use Rattle.std.specs.Prelude.{◌≡◌};
-    ghost use Rattle.def_io.specs.declared.fails.ReadFail.TheVariants.{Fault};
+    ghost use Rattle.def_io.specs.declared.fails.ReadFail.TheVariants as read_fail;
 
-    ghost from_gives = { λ _ e. e ≡ Fault };
+    ghost from_gives = { λ _ e. e ≡ read_fail.Fault };
 
     fn from(_: Failed) -> ReadFail {
         ReadFail::Fault

@@ -12,10 +12,10 @@ use Rattle.def_flow.specs.declared.net.End.{End}
 use Rattle.def_flow.specs.declared.net.Settings.{Settings}
 use Rattle.def_layout.specs.declared.tmesh.SideArc.{SideArc}
 use Rattle.def_layout.specs.Layouts.{Way, south, east, north, west, Layout, Slot, IsSlot, AreReverse, use_of}
-use Rattle.def_layout.specs.Laid.{IsLaid, IsOther}
+use Rattle.def_layout.specs.Laid.{IsLaid, IsOtherSlot}
 use Rattle.def_layout.specs.Lengths.{Lengths}
 use Rattle.def_layoutnet.specs.LayoutNet.{node_of, is_plus, end_at, IsNetOf}
-use Rattle.def_layoutnet.specs.LayoutNetLaws.{along, AreOpposite, BalanceLaw}
+use Rattle.def_layoutnet.specs.LayoutNetLaws.{sum_along, AreOpposite, BalanceLaw}
 use Rattle.qm_layoutnet.proofs.Hits.{is_hit, use_of_arc, hit_of, no_hit, along_is}
 
 -- Whether two sides are one.
@@ -160,7 +160,7 @@ module _ (l : Layout) (old : Lengths) (set : Settings) (net : Network) (laid : I
             turned = ap (λ (u : SideArc). u.forward) e ∙ sym (ap (λ (u : SideArc). not u.forward) w.2);
           }
 
-          by_other : ((v : Slot) × IsOther l w.0 v) ⊎ ((v : Slot) → IsOther l w.0 v → ⊥)
+          by_other : ((v : Slot) × IsOtherSlot l w.0 v) ⊎ ((v : Slot) → IsOtherSlot l w.0 v → ⊥)
               → ((v : Slot) × IsSlot l v × (use_of l v ≡ use_of_arc k false)) ⊎ ((v : Slot) → IsSlot l v → use_of l v ≡ use_of_arc k false → ⊥)
           by_other (inl v) = inl (
             v.0,
@@ -206,7 +206,7 @@ module _ (l : Layout) (old : Lengths) (set : Settings) (net : Network) (laid : I
               only w slot e false f = absurd (none w slot (ap (λ (a : ℕ). use_of_arc a (use_of l w).forward) e ∙ ap (λ (b : Bool). use_of_arc k b) f))
 
   -- The sum at the node of a side, on its side, is the sum along it.
-  pub side_is : (p : ℕ) (s : Way) → p < l.patches → side_sum net.arcs x (is_plus s) (node_of p s) ≡ along l x p s
+  pub side_is : (p : ℕ) (s : Way) → p < l.patches → side_sum net.arcs x (is_plus s) (node_of p s) ≡ sum_along l x p s
   side_is p s low =
       ap (total_below (put_at (node_of p s) (is_plus s))) is.long
       ∙ (total_below_same (put_at (node_of p s) (is_plus s)) (λ k. hits p s k true +ℤ hits p s k false) l.arcs (λ k l_k. put_is p s k low l_k)

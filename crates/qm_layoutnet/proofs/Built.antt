@@ -22,7 +22,7 @@ use Rattle.def_layout.specs.Layouts.{Way, south, east, north, west, Layout, Slot
 use Rattle.def_layout.specs.Laid.{IsLaid}
 use Rattle.def_layout.specs.Lengths.{Lengths, size, AreLengths}
 use Rattle.def_layoutnet.specs.LayoutNet.{end_at, weight_of, AreSettings, IsNetOf}
-use Rattle.def_layoutnet.specs.LayoutNetLaws.{along}
+use Rattle.def_layoutnet.specs.LayoutNetLaws.{sum_along}
 use Rattle.qm_layoutnet.specs.Ends.{arc_of, open_arc, AreEnds, PatchesBelow}
 use Rattle.qm_layoutnet.proofs.Hits.{use_of_arc}
 use Rattle.qm_layoutnet.proofs.Balance.{balance_law, has_ends, node_low, HasEnds}
@@ -92,7 +92,7 @@ module _ (l : Layout) (x : Lengths) (set : Settings) (net : Network) (laid : IsL
   old_at k low = is.olds k (omega (arith, low, is.long))
 
   -- The sum along a side is the size of the side.
-  along_is : (p : ℕ) (s : Way) → p < l.patches → along l (λ k. pos (arc_at net.arcs k).old) p s ≡ pos (size l x p s)
+  along_is : (p : ℕ) (s : Way) → p < l.patches → sum_along l (λ k. pos (arc_at net.arcs k).old) p s ≡ pos (size l x p s)
   along_is p s low =
       total_below_same (λ k. pos (arc_at net.arcs (l.use_at p s k).arc).old) (λ k. pos (x (l.use_at p s k).arc)) (l.many p s)
       (λ k less. ap pos (is.olds (l.use_at p s k).arc (laid.paved.arc_low (record { patch = p; side = s; at = k }) (record { patch_low = low; low = less }))))

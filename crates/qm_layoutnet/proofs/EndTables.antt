@@ -12,7 +12,7 @@ use Rattle.def_layout.specs.declared.tmesh.SideArc.{SideArc}
 use Rattle.def_layout.specs.Layouts.{Way, south, east, north, west, Layout, Slot, IsSlot, use_of}
 use Rattle.def_layout.specs.Laid.{IsLaid}
 use Rattle.def_layout.specs.Lengths.{Lengths}
-use Rattle.def_layout.specs.Plans.{number}
+use Rattle.def_layout.specs.Plans.{way_number}
 use Rattle.def_layoutnet.specs.LayoutNet.{end_at, weight_of}
 use Rattle.qm_layoutnet.specs.Ends.{with_side, with_end, with_ends, with_four, AreEnds, PatchesBelow, SlotsBelow}
 use Rattle.qm_layoutnet.proofs.Hits.{use_of_arc}
@@ -51,7 +51,7 @@ side_right end u a e = (
 )
 
 -- Sides with one number are one.
-same_number : (s t : Way) → number s ≡ number t → s ≡ t
+same_number : (s t : Way) → way_number s ≡ way_number t → s ≡ t
 same_number south south e = refl
 same_number east east e = refl
 same_number north north e = refl
@@ -171,14 +171,14 @@ module _ (l : Layout) (old : Lengths) (weight : Weight) (laid : IsLaid l) where
   -- Side s of patch p is done from its k-th use on.
   side_from : (p : ℕ) (s : Way) (us : List SideArc) (k : ℕ) (arcs : List Arc) → p < l.patches
       → ((j : ℕ) (d : SideArc) → j < length us → get_or us j d ≡ l.use_at p s (k + j)) → k + length us ≡ l.many p s
-      → AreEnds l old weight (SlotsBelow p (number s) k) arcs
-      → AreEnds l old weight (SlotsBelow p (number s) (l.many p s)) (with_ends (end_at p s) us arcs)
-  side_from p s [] k arcs low same many are = subst (λ (m : ℕ). AreEnds l old weight (SlotsBelow p (number s) m) arcs) (omega (arith, many)) are
+      → AreEnds l old weight (SlotsBelow p (way_number s) k) arcs
+      → AreEnds l old weight (SlotsBelow p (way_number s) (l.many p s)) (with_ends (end_at p s) us arcs)
+  side_from p s [] k arcs low same many are = subst (λ (m : ℕ). AreEnds l old weight (SlotsBelow p (way_number s) m) arcs) (omega (arith, many)) are
   side_from p s (u ∷ us) k arcs low same many are =
       side_from p s us (k + 1) (with_end (end_at p s) u arcs) low
       (λ j d h. same (suc j) d (omega arith) ∙ ap (l.use_at p s) (let n : k + suc j ≡ k + 1 + j = omega arith in n)) (omega (arith, many))
-      (subst (λ (x : SideArc). AreEnds l old weight (SlotsBelow p (number s) (k + 1)) (with_end (end_at p s) x arcs)) (sym here)
-      (end_more (SlotsBelow p (number s) k) (SlotsBelow p (number s) (k + 1)) arcs v (record { patch_low = low; low = omega (arith, many) }) back on (inr (refl, inr (refl, omega arith))) are))
+      (subst (λ (x : SideArc). AreEnds l old weight (SlotsBelow p (way_number s) (k + 1)) (with_end (end_at p s) x arcs)) (sym here)
+      (end_more (SlotsBelow p (way_number s) k) (SlotsBelow p (way_number s) (k + 1)) arcs v (record { patch_low = low; low = omega (arith, many) }) back on (inr (refl, inr (refl, omega arith))) are))
     where
       v : Slot
       v = record { patch = p; side = s; at = k }
@@ -186,7 +186,7 @@ module _ (l : Layout) (old : Lengths) (weight : Weight) (laid : IsLaid l) where
       here : u ≡ l.use_at p s k
       here = same 0 u (omega arith) ∙ ap (l.use_at p s) (omega arith)
 
-      back : (w : Slot) → IsSlot l w → SlotsBelow p (number s) (k + 1) w → SlotsBelow p (number s) k w ⊎ (w ≡ v)
+      back : (w : Slot) → IsSlot l w → SlotsBelow p (way_number s) (k + 1) w → SlotsBelow p (way_number s) k w ⊎ (w ≡ v)
       back w slot (inl h) = inl (inl h)
       back w slot (inr (e, inl h)) = inl (inr (e, inl h))
       back w slot (inr (e, inr (n, h))) = elim (cases_eq w.at k) [
@@ -198,35 +198,35 @@ module _ (l : Layout) (old : Lengths) (weight : Weight) (laid : IsLaid l) where
           same_slot w e f g = ap (λ (q : ℕ). record { patch = q; side = w.side; at = w.at }) e
               ∙ (ap (λ (q : Way). record { patch = p; side = q; at = w.at }) f ∙ ap (λ (q : ℕ). record { patch = p; side = s; at = q }) g)
 
-      on : (w : Slot) → IsSlot l w → SlotsBelow p (number s) k w → SlotsBelow p (number s) (k + 1) w
+      on : (w : Slot) → IsSlot l w → SlotsBelow p (way_number s) k w → SlotsBelow p (way_number s) (k + 1) w
       on w slot (inl h) = inl h
       on w slot (inr (e, inl h)) = inr (e, inl h)
       on w slot (inr (e, inr (n, h))) = inr (e, inr (n, omega arith))
 
   side_whole : (p : ℕ) (s : Way) (us : List SideArc) (arcs : List Arc) → p < l.patches
       → ((j : ℕ) (d : SideArc) → j < length us → get_or us j d ≡ l.use_at p s j) → length us ≡ l.many p s
-      → AreEnds l old weight (SlotsBelow p (number s) 0) arcs
-      → AreEnds l old weight (SlotsBelow p (number s) (l.many p s)) (with_ends (end_at p s) us arcs)
+      → AreEnds l old weight (SlotsBelow p (way_number s) 0) arcs
+      → AreEnds l old weight (SlotsBelow p (way_number s) (l.many p s)) (with_ends (end_at p s) us arcs)
   side_whole p s us arcs low same many are =
       side_from p s us 0 arcs low (λ j d h. same j d h ∙ ap (l.use_at p s) (omega arith)) (omega (arith, many)) are
 
   -- A side that is done whole, and the next one.
-  next_side : (p : ℕ) (s : Way) (arcs : List Arc) → AreEnds l old weight (SlotsBelow p (number s) (l.many p s)) arcs
-      → AreEnds l old weight (SlotsBelow p (number s + 1) 0) arcs
-  next_side p s arcs are = same_ends (SlotsBelow p (number s) (l.many p s)) (SlotsBelow p (number s + 1) 0) arcs back on are
+  next_side : (p : ℕ) (s : Way) (arcs : List Arc) → AreEnds l old weight (SlotsBelow p (way_number s) (l.many p s)) arcs
+      → AreEnds l old weight (SlotsBelow p (way_number s + 1) 0) arcs
+  next_side p s arcs are = same_ends (SlotsBelow p (way_number s) (l.many p s)) (SlotsBelow p (way_number s + 1) 0) arcs back on are
     where
       whole : (w : Slot) → IsSlot l w → w.patch ≡ p → w.side ≡ s → w.at < l.many p s
       whole w slot e f = subst (λ (t : Way). w.at < l.many p t) f (subst (λ (q : ℕ). w.at < l.many q w.side) e slot.low)
 
-      back : (w : Slot) → IsSlot l w → SlotsBelow p (number s + 1) 0 w → SlotsBelow p (number s) (l.many p s) w
+      back : (w : Slot) → IsSlot l w → SlotsBelow p (way_number s + 1) 0 w → SlotsBelow p (way_number s) (l.many p s) w
       back w slot (inl h) = inl h
-      back w slot (inr (e, inl h)) = elim (cases_eq (number w.side) (number s)) [
+      back w slot (inr (e, inl h)) = elim (cases_eq (way_number w.side) (way_number s)) [
         | inl n ↦ inr (e, inr (n, whole w slot e (same_number w.side s n)))
         | inr ne ↦ inr (e, inl (omega arith))
       ]
       back w slot (inr (e, inr (n, h))) = absurd (omega (arith, h))
 
-      on : (w : Slot) → IsSlot l w → SlotsBelow p (number s) (l.many p s) w → SlotsBelow p (number s + 1) 0 w
+      on : (w : Slot) → IsSlot l w → SlotsBelow p (way_number s) (l.many p s) w → SlotsBelow p (way_number s + 1) 0 w
       on w slot (inl h) = inl h
       on w slot (inr (e, inl h)) = inr (e, inl (omega arith))
       on w slot (inr (e, inr (n, h))) = inr (e, inl (omega arith))
@@ -258,10 +258,10 @@ module _ (l : Layout) (old : Lengths) (weight : Weight) (laid : IsLaid l) where
       first_back w slot (inr (e, inr (n, h))) = absurd (omega (arith, h))
 
       in_patch : (w : Slot) → w.patch ≡ p → (s : Way) → w.side ≡ s → w.at < l.many p s → SlotsBelow p 3 (l.many p west) w
-      in_patch w e south f h = inr (e, inl (omega (arith, ap number f)))
-      in_patch w e east f h = inr (e, inl (omega (arith, ap number f)))
-      in_patch w e north f h = inr (e, inl (omega (arith, ap number f)))
-      in_patch w e west f h = inr (e, inr (ap number f, h))
+      in_patch w e south f h = inr (e, inl (omega (arith, ap way_number f)))
+      in_patch w e east f h = inr (e, inl (omega (arith, ap way_number f)))
+      in_patch w e north f h = inr (e, inl (omega (arith, ap way_number f)))
+      in_patch w e west f h = inr (e, inr (ap way_number f, h))
 
       last_back : (w : Slot) → IsSlot l w → w.patch < p + 1 → SlotsBelow p 3 (l.many p west) w
       last_back w slot h = elim (cases_eq w.patch p) [

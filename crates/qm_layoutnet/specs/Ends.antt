@@ -8,7 +8,7 @@ use Rattle.def_layout.specs.declared.tmesh.SideArc.{SideArc}
 use Rattle.def_layout.specs.declared.tmesh.TArc.{TArc}
 use Rattle.def_layout.specs.Layouts.{Way, south, east, north, west, Layout, Slot, IsSlot, use_of}
 use Rattle.def_layout.specs.Lengths.{Lengths}
-use Rattle.def_layout.specs.Plans.{number}
+use Rattle.def_layout.specs.Plans.{way_number}
 use Rattle.def_layoutnet.specs.LayoutNet.{end_at, weight_of}
 
 -- An arc with one more end: on the left where it is used in its own direction, else on the right.
@@ -52,7 +52,7 @@ PatchesBelow p slot = slot.patch < p
 -- So are those of the sides of p below side n, and on that side those below k.
 abbrev pub SlotsBelow : (p n k : ℕ) (slot : Slot) → Type 0
 SlotsBelow p n k slot =
-    (slot.patch < p) ⊎ ((slot.patch ≡ p) × ((number slot.side < n) ⊎ ((number slot.side ≡ n) × (slot.at < k))))
+    (slot.patch < p) ⊎ ((slot.patch ≡ p) × ((way_number slot.side < n) ⊎ ((way_number slot.side ≡ n) × (slot.at < k))))
 
 -- An arc of this length whose ends are not known.
 abbrev pub arc_of : (weight : Weight) (old : ℕ) → Arc

@@ -3,7 +3,7 @@ use Rattle.std.proofs.Common.{◌≡◌, ◌≢◌, ℕ, zero, suc, ◌+◌, ◌
 use Rattle.std.proofs.Math.ListN.{set}
 use Rattle.std.proofs.lemmas.List.{length-set, get_or-set_same, get_or-set_other}
 use Rattle.std.proofs.lemmas.Bool.{cases_eq, eq-eqb, eqb-true}
-use Rattle.def_matching.specs.Matching.{Graph}
+use Rattle.def_matching.specs.Matching.{WeightedGraph}
 use Rattle.def_forest.specs.Darts.{darts_of}
 use Rattle.qm_match.specs.Fans.{passes, IsOn, AreFansOf}
 
@@ -43,7 +43,7 @@ passes_same old new bound same falls (suc k) (suc here) d l =
     let rest : passes new k (get_or new here 0) d ≡ passes old k (get_or new here 0) d = passes_same old new bound same falls k (get_or new here 0) d (omega (arith, same here (omega (arith, l)), falls here, l)) in
     ap (λ (q : Bool). eqb here d || q) (rest ∙ ap (λ x. passes old k x d) (same here (omega (arith, l))))
 
-module _ (g : Graph) (bound : ℕ) (first next first2 next2 : List ℕ) (fans : AreFansOf g bound first next) (v : ℕ) (lv : v < g.n) (low : bound < 2 * length g.edges) (near : (darts_of g).near bound ≡ v)
+module _ (g : WeightedGraph) (bound : ℕ) (first next first2 next2 : List ℕ) (fans : AreFansOf g bound first next) (v : ℕ) (lv : v < g.n) (low : bound < 2 * length g.edges) (near : (darts_of g).near bound ≡ v)
     (is_next : next2 ≡ set next bound (get_or first v 0)) (is_first : first2 ≡ set first v (bound + 1)) where
   next_here : get_or next2 bound 0 ≡ get_or first v 0
   next_here = ap (λ xs. get_or xs bound 0) is_next ∙ get_or-set_same next bound (get_or first v 0) 0 (omega (arith, low, fans.darts))

@@ -4,7 +4,7 @@ use Rattle.std.proofs.lemmas.List.{map-append, take_more}
 use Rattle.def_math.specs.Counts.{count}
 use Rattle.def_math.specs.Increasing.{IsIncreasing}
 use Rattle.sum_laws.proofs.Counts.{count_append}
-use Rattle.def_matching.specs.Matching.{Graph, edge_at, ends_at}
+use Rattle.def_matching.specs.Matching.{WeightedGraph, edge_at, ends_at}
 use Rattle.qm_forest.proofs.Chosens.{increasing_more}
 
 -- An increasing list has any greater bound.
@@ -12,7 +12,7 @@ pub increasing_to : (low a b : ℕ) (xs : List ℕ) → a ≤ b → IsIncreasing
 increasing_to low a b [] le increasing = tt
 increasing_to low a b (x ∷ xs) le increasing = (increasing.0, omega (arith, increasing.1, le), increasing_to (x + 1) a b xs le increasing.2)
 
-module _ (g : Graph) (xs : List ℕ) (k : ℕ) (low : k < length xs) where
+module _ (g : WeightedGraph) (xs : List ℕ) (k : ℕ) (low : k < length xs) where
   -- One edge more, which comes after those before.
   pub increasing_on : (next : ℕ) → next ≤ get_or xs k 0 → IsIncreasing 0 next (take k xs) → IsIncreasing 0 (get_or xs k 0 + 1) (take (k + 1) xs)
   increasing_on next le increasing = subst (λ ys. IsIncreasing 0 (get_or xs k 0 + 1) ys) (sym (take_more xs k 0 low)) (increasing_more 0 (get_or xs k 0) (take k xs) (omega arith) (increasing_to 0 next (get_or xs k 0) (take k xs) le increasing))

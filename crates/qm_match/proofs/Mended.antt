@@ -3,7 +3,7 @@ use Rattle.std.proofs.Common.{◌≡◌, ◌≢◌, ℕ, suc, ◌+◌, ◌*◌, 
 use Rattle.std.proofs.Math.ListN.{set}
 use Rattle.std.proofs.lemmas.Bool.{cases_eq, eqb-true}
 use Rattle.std.proofs.lemmas.List.{length-set, get_or-set_same, get_or-set_other}
-use Rattle.def_matching.specs.Matching.{Graph, edge_at}
+use Rattle.def_matching.specs.Matching.{WeightedGraph, edge_at}
 use Rattle.def_forest.specs.Darts.{darts_of}
 use Rattle.def_forest.specs.Forests.{Forest}
 use Rattle.forest_laws.proofs.Graphs.{dart_near, near_odd}
@@ -13,7 +13,7 @@ use Rattle.qm_match.specs.States.{IsMade}
 use Rattle.qm_match.specs.declared.search.Search.{Search}
 use Rattle.qm_match.proofs.Chains.{on_none, on_rest}
 
-module _ (g : Graph) (f : Forest) (risen : ℕ) where
+module _ (g : WeightedGraph) (f : Forest) (risen : ℕ) where
   -- Nothing is mended.
   pub mended_none : (keys : List ℕ) → IsMended g f risen keys keys
   mended_none keys = record { size = refl; each = λ k. inr refl }
@@ -78,7 +78,7 @@ module _ (g : Graph) (f : Forest) (risen : ℕ) where
       by_end (inr on) = by_dart (2 * e + 1) (omega (arith, l)) (omega arith) (near_odd g (2 * e + 1) e refl ∙ eqb-true (edge_at g e).v v on)
 
 -- Other keys are as many.
-pub made_with : (g : Graph) (s : Search) (keys : List ℕ) → IsMade g s → length keys ≡ length s.tour → IsMade g (record s { tour = keys })
+pub made_with : (g : WeightedGraph) (s : Search) (keys : List ℕ) → IsMade g s → length keys ≡ length s.tour → IsMade g (record s { tour = keys })
 made_with g s keys made size = record { small = made.small; cheap = made.cheap; fans = made.fans; size = made.size; first = made.first; low = made.low; leaves = size ∙ made.leaves; marks = made.marks; members = made.members; parts = made.parts }
 
 -- Only keys differ, twice.

@@ -5,7 +5,7 @@ use Rattle.std.proofs.lemmas.Int.{ints}
 use Rattle.std.proofs.lemmas.Bool.{cases_lt}
 use Rattle.std.proofs.lemmas.List.{get_or_past}
 use Rattle.def_math.specs.Increasing.{IsIncreasing}
-use Rattle.def_matching.specs.Matching.{Graph, IsCheap, IsSmallGraph, edge_at}
+use Rattle.def_matching.specs.Matching.{WeightedGraph, IsCheap, IsSmallGraph, edge_at}
 use Rattle.def_matching.specs.Dual.{DualLists, IsSmallDual, SaysYes, dual_sum, verdict}
 use Rattle.def_matching.specs.declared.limits.TheConstants.{MAX_PRODUCT}
 use Rattle.def_matching.specs.declared.weighted.Verdict.TheVariants.{Yes}
@@ -38,7 +38,7 @@ one_of zero x l = absurd (omega (arith, l))
 one_of (suc n) x l = omega arith
 
 -- A forest whose weights are no greater than the costs.
-pub made_least : (g : Graph) (t u : ForestTables) → u ≡ t → IsValidFor g t → t.root ≡ None → length t.up ≡ g.n + g.n / 2 → ((b : ℕ) → g.n ≤ b → (forest_of t).weight b ≡ pos 0)
+pub made_least : (g : WeightedGraph) (t u : ForestTables) → u ≡ t → IsValidFor g t → t.root ≡ None → length t.up ≡ g.n + g.n / 2 → ((b : ℕ) → g.n ≤ b → (forest_of t).weight b ≡ pos 0)
     → ((c : ℕ) → ((e : ℕ) → e < length g.edges → unsigned_abs (edge_at g e).cost ≤ c) → (b : ℕ) → unsigned_abs ((forest_of t).weight b) ≤ c) → IsMadeFor g u
 made_least g t u same valid none size sets small = subst (λ (s : ForestTables). IsMadeFor g s) (sym same) (record {
   valid = valid;
@@ -50,7 +50,7 @@ made_least g t u same valid none size sets small = subst (λ (s : ForestTables).
 })
 
 -- A forest whose weights are the raised costs.
-pub made_raised : (g : Graph) (y : List ℤ) (t u : ForestTables) → AreCostsBelow g (2 ^ 60) → ((most : ℕ) → AreCostsBelow g most → HaveRoom g most y) → u ≡ t → IsValidFor g t → t.root ≡ None → length t.up ≡ g.n + g.n / 2 → ((b : ℕ) → (forest_of t).weight b ≡ get_or y b (pos 0))
+pub made_raised : (g : WeightedGraph) (y : List ℤ) (t u : ForestTables) → AreCostsBelow g (2 ^ 60) → ((most : ℕ) → AreCostsBelow g most → HaveRoom g most y) → u ≡ t → IsValidFor g t → t.root ≡ None → length t.up ≡ g.n + g.n / 2 → ((b : ℕ) → (forest_of t).weight b ≡ get_or y b (pos 0))
     → IsMadeFor g u × ((most : ℕ) → AreCostsBelow g most → (b : ℕ) → unsigned_abs ((forest_of u).weight b) ≤ most)
 made_raised g y t u costs have same valid none size weights = (made_least g t u same valid none size sets small, subst (λ (s : ForestTables). (most : ℕ) → AreCostsBelow g most → (b : ℕ) → unsigned_abs ((forest_of s).weight b) ≤ most) (sym same) small)
   where
@@ -61,7 +61,7 @@ made_raised g y t u costs have same valid none size weights = (made_least g t u 
     small most below b = subst (λ (w : ℤ). unsigned_abs w ≤ most) (sym (weights b)) ((have most below).small b)
 
 -- A forest whose weights were given.
-pub made_first : (g : Graph) (y : List ℤ) (t u : ForestTables) → AreFirst g y → u ≡ t → IsValidFor g t → t.root ≡ None → length t.up ≡ g.n + g.n / 2 → ((b : ℕ) → (forest_of t).weight b ≡ get_or y b (pos 0)) → IsMadeFor g u
+pub made_first : (g : WeightedGraph) (y : List ℤ) (t u : ForestTables) → AreFirst g y → u ≡ t → IsValidFor g t → t.root ≡ None → length t.up ≡ g.n + g.n / 2 → ((b : ℕ) → (forest_of t).weight b ≡ get_or y b (pos 0)) → IsMadeFor g u
 made_first g y t u first same valid none size weights = subst (λ (s : ForestTables). IsMadeFor g s) (sym same) (record {
   valid = valid;
   no_tree = none;
@@ -71,7 +71,7 @@ made_first g y t u first same valid none size weights = subst (λ (s : ForestTab
 })
 
 -- First weights are small.
-pub first_small : (g : Graph) (y : List ℤ) → AreFirst g y → (v : ℕ) → unsigned_abs (get_or y v (pos 0)) ≤ 2 ^ 60
+pub first_small : (g : WeightedGraph) (y : List ℤ) → AreFirst g y → (v : ℕ) → unsigned_abs (get_or y v (pos 0)) ≤ 2 ^ 60
 first_small g y first v = by_size (cases_lt v g.n)
   where
     by_size : (v < g.n) ⊎ (g.n ≤ v) → unsigned_abs (get_or y v (pos 0)) ≤ 2 ^ 60
@@ -79,7 +79,7 @@ first_small g y first v = by_size (cases_lt v g.n)
     by_size (inr h) = (let z : get_or y v (pos 0) ≡ pos 0 = get_or_past y v (pos 0) (omega (arith, h, first.long)) in omega (arith, ints, z))
 
 -- Numbers near wished ones may be the first.
-pub wished_first : (g : Graph) (ys y : List ℤ) → y ≡ ys → IsSmallGraph g → IsCheap g → length ys ≡ g.n
+pub wished_first : (g : WeightedGraph) (ys y : List ℤ) → y ≡ ys → IsSmallGraph g → IsCheap g → length ys ≡ g.n
     → ((most : ℕ) → ((e : ℕ) → e < length g.edges → unsigned_abs (edge_at g e).cost ≤ most) → (v : ℕ) → unsigned_abs (get_or ys v (pos 0)) ≤ 2 * most + MAX_WISH)
     → ((e : ℕ) → e < length g.edges → (get_or ys (edge_at g e).u (pos 0) +ℤ get_or ys (edge_at g e).v (pos 0)) ≤ℤ (pos 2 *ℤ (edge_at g e).cost)) → AreFirst g y
 wished_first g ys y same small cheap long near feasible = subst (λ (zs : List ℤ). AreFirst g zs) (sym same) (record {
@@ -90,7 +90,7 @@ wished_first g ys y same small cheap long near feasible = subst (λ (zs : List �
 })
 
 -- The dual of a forest in range is small.
-pub small_dual : (g : Graph) (s : Search) (d : DualLists) → IsIdle g s → HasPerfect g → IsDualOf (length s.forest.hand) (forest_of s.forest) d → 2 * length d.z ≤ length s.forest.hand → IsSmallDual d
+pub small_dual : (g : WeightedGraph) (s : Search) (d : DualLists) → IsIdle g s → HasPerfect g → IsDualOf (length s.forest.hand) (forest_of s.forest) d → 2 * length d.z ≤ length s.forest.hand → IsSmallDual d
 small_dual g s d idle known is few = record {
   sets = omega (arith, few, idle.valid.vertices, idle.made.small.vertices);
   small_y = λ k l. (let w : get_or d.y k (pos 0) ≡ (forest_of s.forest).weight k = is.y k (omega (arith, l, is.vertices)) in omega (arith, ints, w, weight_low k));
@@ -101,7 +101,7 @@ small_dual g s d idle known is few = record {
     weight_low b = small_weights g idle.made.small.lawful idle.made.cheap known.0 known.1 g.n s.first idle.made.first idle.made.low (forest_of s.forest) s.risen idle.range s.forest.root idle.valid.valid b
 
 -- And no number is far above the first weights and the costs.
-pub bounded_dual : (g : Graph) (s : Search) (d : DualLists) → IsIdle g s → HasPerfect g → IsDualOf (length s.forest.hand) (forest_of s.forest) d → 2 * length d.z ≤ length s.forest.hand
+pub bounded_dual : (g : WeightedGraph) (s : Search) (d : DualLists) → IsIdle g s → HasPerfect g → IsDualOf (length s.forest.hand) (forest_of s.forest) d → 2 * length d.z ≤ length s.forest.hand
     → (most : ℕ) → AreCostsBelow g most → AreAtMost (2 * (g.n * s.first) + g.n * most) d
 bounded_dual g s d idle known is few most each = record {
   vertices = λ k l. (let w : get_or d.y k (pos 0) ≡ (forest_of s.forest).weight k = is.y k (omega (arith, l, is.vertices)) in omega (arith, ints, w, weight_low k (omega (arith, l, is.vertices, idle.valid.vertices))));
@@ -119,7 +119,7 @@ at_most_more d x y le are = record {
 }
 
 -- What the run of a matcher comes to is bounded by its first weights.
-pub run_bounded : (g : Graph) (s end : Search) (d : DualLists) → IsReady s → end.first ≡ s.first → (first most : ℕ) → ((b : ℕ) → unsigned_abs ((forest_of s.forest).weight b) ≤ first) → AreAtMost (2 * (g.n * end.first) + g.n * most) d → AreAtMost (2 * (g.n * first) + g.n * most) d
+pub run_bounded : (g : WeightedGraph) (s end : Search) (d : DualLists) → IsReady s → end.first ≡ s.first → (first most : ℕ) → ((b : ℕ) → unsigned_abs ((forest_of s.forest).weight b) ≤ first) → AreAtMost (2 * (g.n * end.first) + g.n * most) d → AreAtMost (2 * (g.n * first) + g.n * most) d
 run_bounded g s end d ready same first most each are = at_most_more d (2 * (g.n * end.first) + g.n * most) (2 * (g.n * first) + g.n * most) (omega (arith, times_low g.n end.first first low)) are
   where
     by_weight : (s.first ≡ 0) ⊎ ((b : ℕ) × (unsigned_abs ((forest_of s.forest).weight b) ≡ s.first)) → end.first ≤ first
@@ -142,5 +142,5 @@ best_bounded n most d are = at_most_more d (2 * (n * most) + n * most) (4 * n * 
         sum a c (suc y) = omega (arith, sum a c y)
 
 -- The verdict on a dual that says yes.
-pub met_verdict : (g : Graph) (d : DualLists) (cost : ℤ) → SaysYes g d → dual_sum d ≡ cost → verdict g d ≡ Yes cost
+pub met_verdict : (g : WeightedGraph) (d : DualLists) (cost : ℤ) → SaysYes g d → dual_sum d ≡ cost → verdict g d ≡ Yes cost
 met_verdict g d cost says sum = says_yes g d says ∙ ap (λ (x : ℤ). Yes x) sum

@@ -5,7 +5,7 @@ use Rattle.std.specs.Int.RustNames.{unsigned_abs}
 use Rattle.std.proofs.lemmas.Int.{ints}
 use Rattle.std.proofs.lemmas.Bool.{cases_eq}
 use Rattle.std.proofs.lemmas.List.{length-set, get_or-set_same, get_or-set_other}
-use Rattle.def_matching.specs.Matching.{Graph, IsGraph, edge_at}
+use Rattle.def_matching.specs.Matching.{WeightedGraph, IsGraph, edge_at}
 use Rattle.def_forest.specs.Darts.{darts_of, far}
 use Rattle.forest_laws.proofs.Graphs.{dart_near, dart_far, near_even, near_odd, twin_odd}
 use Rattle.def_matching.specs.declared.weighted.WEdge.{WEdge}
@@ -29,7 +29,7 @@ chain_room next left old new entry d from rest is rest_is less here done x on = 
     by_done (inr more) = by_rest (on_rest next d x (subst (λ y. IsOn next y x) is more))
 
 -- Where the chain ends, all edges at its vertex leave so much.
-pub chain_end : (g : Graph) (most : ℕ) (y : List ℤ) (v : ℕ) (room : ℤ) (first next : List ℕ) (entry : ℕ) → AreFans g first next → entry ≡ 0 → room ≤ℤ pos most
+pub chain_end : (g : WeightedGraph) (most : ℕ) (y : List ℤ) (v : ℕ) (room : ℤ) (first next : List ℕ) (entry : ℕ) → AreFans g first next → entry ≡ 0 → room ≤ℤ pos most
     → ((x : ℕ) → IsOn next (get_or first v 0) x → (room ≤ℤ left_to g y x) ⊎ IsOn next entry x) → IsRoom g most y v room
 chain_end g most y v room first next entry fans zero few done = record { few = few; each = λ d l at. by_done d (done d (subst (λ w. IsOn next (get_or first w 0) d) at (fans.all d l))) }
   where
@@ -38,14 +38,14 @@ chain_end g most y v room first next entry fans zero few done = record { few = f
     by_done d (inr rest) = absurd (on_none next d (subst (λ x. IsOn next x d) zero rest))
 
 -- A cost that is read is small, and so is a number.
-pub cost_small : (g : Graph) (most k : ℕ) → AreCostsBelow g most → most ≤ 2 ^ 60 → k < length g.edges → (edge : WEdge) → edge ≡ edge_at g k → unsigned_abs edge.cost ≤ 2 ^ 60
+pub cost_small : (g : WeightedGraph) (most k : ℕ) → AreCostsBelow g most → most ≤ 2 ^ 60 → k < length g.edges → (edge : WEdge) → edge ≡ edge_at g k → unsigned_abs edge.cost ≤ 2 ^ 60
 cost_small g most k costs few low edge is = let same : unsigned_abs edge.cost ≡ unsigned_abs (edge_at g k).cost = ap (λ (x : WEdge). unsigned_abs x.cost) is in omega (arith, same, costs k low, few)
 
 -- An edge's second dart ends where the edge begins.
-odd_far : (g : Graph) (k : ℕ) → far (darts_of g) (2 * k + 1) ≡ (edge_at g k).u
+odd_far : (g : WeightedGraph) (k : ℕ) → far (darts_of g) (2 * k + 1) ≡ (edge_at g k).u
 odd_far g k = ap (darts_of g).near (twin_odd (2 * k + 1) (λ x. absurd (omega arith))) ∙ near_even g (2 * k + 1 - 1) k (omega arith)
 
-module _ (g : Graph) (lawful : IsGraph g) (most : ℕ) (y : List ℤ) (have : HaveRoom g most y) (v : ℕ) (low : v < g.n) (room : ℤ) (is : IsRoom g most y v room) (above : get_or y v (pos 0) ≤ℤ room) where
+module _ (g : WeightedGraph) (lawful : IsGraph g) (most : ℕ) (y : List ℤ) (have : HaveRoom g most y) (v : ℕ) (low : v < g.n) (room : ℤ) (is : IsRoom g most y v room) (above : get_or y v (pos 0) ≤ℤ room) where
   abbrev raised : List ℤ
   raised = set y v room
 

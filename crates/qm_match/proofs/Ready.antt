@@ -3,12 +3,12 @@ use Rattle.std.proofs.Common.{◌≡◌, ℕ, zero, suc, ◌⊎◌, inl, inr, �
 use Rattle.std.specs.Prelude.{int_lt, unsigned_abs}
 use Rattle.std.proofs.lemmas.Int.{ints}
 use Rattle.std.proofs.lemmas.Bool.{cases_lt, cond-false}
-use Rattle.def_matching.specs.Matching.{Graph, IsCheap, IsSmallGraph, edge_at}
+use Rattle.def_matching.specs.Matching.{WeightedGraph, IsCheap, IsSmallGraph, edge_at}
 use Rattle.def_forest.specs.Darts.{darts_of}
 use Rattle.def_forest.specs.Forests.{Forest}
 use Rattle.def_forest.specs.Made.{IsMadeFor}
 use Rattle.def_forest.specs.Steps.{rooted, IsAugmented}
-use Rattle.def_forest.specs.Tables.{ForestTables, forest_of, kind_by, kind_of, slack_of, IsValidFor}
+use Rattle.def_forest.specs.Tables.{ForestTables, forest_of, kind_by, edge_kind, slack_of, IsValidFor}
 use Rattle.def_forest.specs.Valid.{IsValid}
 use Rattle.def_forest.specs.declared.kinds.EdgeKind.TheVariants.{Augment, Loose}
 use Rattle.def_forest.specs.declared.kinds.Label.{Label}
@@ -23,7 +23,7 @@ use Rattle.qm_match.specs.declared.search.Search.{Search}
 use Rattle.qm_match.proofs.Taken.{made_after}
 
 -- The tables that are ready fit the graph for which the matcher is made.
-pub ready_idle : (g : Graph) (s : Search) → IsSmallGraph g → IsCheap g → IsReady s → IsMadeFor g s.forest → IsIdle g s
+pub ready_idle : (g : WeightedGraph) (s : Search) → IsSmallGraph g → IsCheap g → IsReady s → IsMadeFor g s.forest → IsIdle g s
 ready_idle g s small cheap ready for = record {
   made = record {
     small = small;
@@ -79,7 +79,7 @@ ready_idle g s small cheap ready for = record {
         by_weight (inr w) = by_size w.0 w.1 (cases_lt w.0 g.n)
 
 -- Chains that fit a graph fit the forest's table of darts.
-pub chains_ready : (g : Graph) (t : ForestTables) (first next : List ℕ) → AreFans g first next → IsValidFor g t → (d : ℕ) → d < length t.near → IsOn next (get_or first (get_or t.near d 0) 0) d
+pub chains_ready : (g : WeightedGraph) (t : ForestTables) (first next : List ℕ) → AreFans g first next → IsValidFor g t → (d : ℕ) → d < length t.near → IsOn next (get_or first (get_or t.near d 0) 0) d
 chains_ready g t first next fans valid d l =
     let low : d < 2 * length g.edges = subst (λ n. d < n) valid.darts l in
     subst (λ w. IsOn next (get_or first w 0) d) (sym (valid.ends d low)) (fans.all d low)
@@ -95,13 +95,13 @@ no_slack : (x : ℤ) → x ≡ pos 0 → int_lt (pos 0) x ≡ false
 no_slack x e = subst (λ y. int_lt (pos 0) y ≡ false) (sym e) refl
 
 -- A free edge may be matched once its one end is the root.
-pub free_augments : (g : Graph) (f : Forest) (e : ℕ) → IsValid (darts_of g) f None → IsFreeEdge g f e → kind_of g (rooted f (f.out (edge_at g e).u)) e ≡ Augment
+pub free_augments : (g : WeightedGraph) (f : Forest) (e : ℕ) → IsValid (darts_of g) f None → IsFreeEdge g f e → edge_kind g (rooted f (f.out (edge_at g e).u)) e ≡ Augment
 free_augments g f e valid free = cond-false (int_lt (pos 0) (slack_of g f e)) Loose _ (no_slack (slack_of g f e) (omega (arith, ints, free.tight)))
     ∙ by_kind _ _ (f.mate (f.out (edge_at g e).u)) (f.mate (f.out (edge_at g e).v)) _ (set_here f.label (f.out (edge_at g e).u) Outer)
     (set_there f.label (f.out (edge_at g e).u) (f.out (edge_at g e).v) Outer (λ same. free.apart (sym same)) ∙ valid.no_tree refl (f.out (edge_at g e).v)) free.right
 
 -- Then no search goes on.
-pub matched_idle : (g : Graph) (old : Search) (t u : ForestTables) (b d : ℕ) → IsIdle g old → forest_of t ≡ rooted (forest_of old.forest) b → IsValidFor g u → u.root ≡ None → (r : ℕ) × (t.root ≡ Some r) × IsAugmented (darts_of g) (forest_of t) (forest_of u) r d → IsIdle g (record old { forest = u })
+pub matched_idle : (g : WeightedGraph) (old : Search) (t u : ForestTables) (b d : ℕ) → IsIdle g old → forest_of t ≡ rooted (forest_of old.forest) b → IsValidFor g u → u.root ≡ None → (r : ℕ) × (t.root ≡ Some r) × IsAugmented (darts_of g) (forest_of t) (forest_of u) r d → IsIdle g (record old { forest = u })
 matched_idle g old t u b d idle rooted_is valid root w = record {
   made = made_after g old u idle.made size;
   valid = valid;

@@ -1,7 +1,7 @@
 -- Marks and keys that are made right.
 use Rattle.std.proofs.Common.{◌≡◌, ◌≢◌, ℕ, ◌*◌, ◌<◌, ◌≤◌, length, get_or, ◌⊎◌, sym, ◌∙◌, ap, subst}
 use Rattle.std.specs.Vec.{vec_capacity}
-use Rattle.def_matching.specs.Matching.{Graph}
+use Rattle.def_matching.specs.Matching.{WeightedGraph}
 use Rattle.def_forest.specs.Tables.{ForestTables, forest_of, IsValidFor}
 use Rattle.def_forest.specs.declared.kinds.Label.TheVariants.{Inner}
 use Rattle.search_laws.specs.Keys.{leaf_of, true_key, AreRightAt, IsMended}
@@ -13,7 +13,7 @@ use Rattle.qm_match.specs.declared.search.Search.{Search}
 use Rattle.qm_match.proofs.Mended.{mended_on, stay_right, stays_right}
 
 -- Room stays where all tables are as long as they were.
-pub made_like : (g : Graph) (old new : Search) → IsMade g old → ◌≡◌ {A = Fans × ℕ} (new.fans, new.first) (old.fans, old.first) → length new.forest.up ≡ length old.forest.up → length new.tour ≡ length old.tour → length new.inner.items ≡ length old.inner.items → g.n ≤ vec_capacity new.members → g.n ≤ vec_capacity new.parts → IsMade g new
+pub made_like : (g : WeightedGraph) (old new : Search) → IsMade g old → ◌≡◌ {A = Fans × ℕ} (new.fans, new.first) (old.fans, old.first) → length new.forest.up ≡ length old.forest.up → length new.tour ≡ length old.tour → length new.inner.items ≡ length old.inner.items → g.n ≤ vec_capacity new.members → g.n ≤ vec_capacity new.parts → IsMade g new
 made_like g old new made fans up tour inner members parts = record {
   small = made.small;
   cheap = made.cheap;
@@ -28,7 +28,7 @@ made_like g old new made fans up tour inner members parts = record {
 }
 
 -- What was made right stays so.
-pub stays_fresh : (g : Graph) (old new : Search) (b : ℕ) → IsRefreshed g old new → IsFreshAt g old b → IsFreshAt g new b
+pub stays_fresh : (g : WeightedGraph) (old new : Search) (b : ℕ) → IsRefreshed g old new → IsFreshAt g old b → IsFreshAt g new b
 stays_fresh g old new b is fresh = record {
   mark = λ inner. is.marked b (label inner) (fresh.mark (label inner));
   leaf = λ inner h. subst (λ (t : ForestTables). get_or new.tour (leaf_of g b) 0 ≡ true_key g (forest_of t) new.risen (leaf_of g b)) (sym is.forest) (subst (λ r. get_or new.tour (leaf_of g b) 0 ≡ true_key g (forest_of old.forest) r (leaf_of g b)) (sym is.risen)
@@ -41,7 +41,7 @@ stays_fresh g old new b is fresh = record {
     label inner = ap (λ (t : ForestTables). (forest_of t).label b) (sym is.forest) ∙ inner
 
 -- More and more is made right.
-pub refreshed_on : (g : Graph) (a b d : Search) → IsRefreshed g a b → IsRefreshed g b d → IsRefreshed g a d
+pub refreshed_on : (g : WeightedGraph) (a b d : Search) → IsRefreshed g a b → IsRefreshed g b d → IsRefreshed g a d
 refreshed_on g a b d p q = record {
   forest = q.forest ∙ p.forest;
   risen = q.risen ∙ p.risen;
@@ -53,7 +53,7 @@ refreshed_on g a b d p q = record {
 }
 
 -- What may be made right may still be.
-pub may_later : (g : Graph) (old new : Search) (b : ℕ) → IsRefreshed g old new → MayRefresh g old b → MayRefresh g new b
+pub may_later : (g : WeightedGraph) (old new : Search) (b : ℕ) → IsRefreshed g old new → MayRefresh g old b → MayRefresh g new b
 may_later g old new b is may = record {
   made = is.made;
   valid = subst (λ (t : ForestTables). IsValidFor g t) (sym is.forest) may.valid;
@@ -65,5 +65,5 @@ may_later g old new b is may = record {
 pub members_twice : (a b d : Search) → b ≡ record a { tour = b.tour; members = b.members } → d ≡ record b { tour = d.tour; members = d.members } → d ≡ record a { tour = d.tour; members = d.members }
 members_twice a b d e1 e2 = e2 ∙ ap (λ (s : Search). record s { tour = d.tour; members = d.members }) e1
 
-pub made_members : (g : Graph) (a b : Search) → IsMade g a → b ≡ record a { tour = b.tour; members = b.members } → length b.tour ≡ length a.tour → g.n ≤ vec_capacity b.members → IsMade g b
+pub made_members : (g : WeightedGraph) (a b : Search) → IsMade g a → b ≡ record a { tour = b.tour; members = b.members } → length b.tour ≡ length a.tour → g.n ≤ vec_capacity b.members → IsMade g b
 made_members g a b made same size room = made_like g a b made (ap (λ (s : Search). (s.fans, s.first)) same) (ap (λ (s : Search). length s.forest.up) same) size (ap (λ (s : Search). length s.inner.items) same) room (subst (λ (s : Search). g.n ≤ vec_capacity s.parts) (sym same) made.parts)

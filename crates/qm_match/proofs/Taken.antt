@@ -4,15 +4,15 @@ use Rattle.std.specs.Vec.{vec_capacity}
 use Rattle.std.proofs.Math.ListN.{set}
 use Rattle.std.proofs.lemmas.Bool.{cases_eq, cases_lt}
 use Rattle.std.proofs.lemmas.List.{length-set, get_or-set_other}
-use Rattle.def_matching.specs.Matching.{Graph, IsGraph, IsSmallGraph, edge_at}
+use Rattle.def_matching.specs.Matching.{WeightedGraph, IsGraph, IsSmallGraph, edge_at}
 use Rattle.def_forest.specs.Darts.{darts_of, far}
-use Rattle.def_forest.specs.Forests.{Forest, IsOutermost, set_at, walk, number, ring_sum, vertices_in}
+use Rattle.def_forest.specs.Forests.{Forest, IsOutermost, set_at, walk, bool_number, ring_sum, blossom_size}
 use Rattle.def_math.specs.Counts.{count_below}
 use Rattle.sum_laws.proofs.Counts.{count_below_le, count_below_ones, count_below_same}
 use Rattle.def_forest.specs.Opened.{IsExpanding}
 use Rattle.def_forest.specs.Shrunk.{IsShrinking}
 use Rattle.def_forest.specs.Steps.{grown, rooted, IsAugmented}
-use Rattle.def_forest.specs.Tables.{ForestTables, forest_of, kind_of, outer_dart, IsValidFor}
+use Rattle.def_forest.specs.Tables.{ForestTables, forest_of, edge_kind, outer_dart, IsValidFor}
 use Rattle.def_forest.specs.Ways.{Reaches}
 use Rattle.def_forest.specs.declared.kinds.EdgeKind.TheVariants.{Grow}
 use Rattle.def_forest.specs.Valid.{IsMate, IsRing, IsTree, IsValid}
@@ -32,7 +32,7 @@ use Rattle.qm_match.specs.declared.search.Search.{Search}
 use Rattle.qm_match.proofs.Refreshed.{made_like}
 
 -- After a step of the forest, and when keys and marks are made right, the search goes on.
-pub step_taken : (g : Graph) (old : Search) (t : ForestTables) (new : Search) → IsMade g old → AreLow g (forest_of old.forest) old.risen old.tour → IsInRange g.n old.first (forest_of old.forest) old.risen → IsValidFor g t → IsRefreshed g (record old { forest = t }) new
+pub step_taken : (g : WeightedGraph) (old : Search) (t : ForestTables) (new : Search) → IsMade g old → AreLow g (forest_of old.forest) old.risen old.tour → IsInRange g.n old.first (forest_of old.forest) old.risen → IsValidFor g t → IsRefreshed g (record old { forest = t }) new
     → IsTurned g (forest_of old.forest) (forest_of t) old.risen new.tour → (forest_of t).size ≡ (forest_of old.forest).size → ((b : ℕ) → (forest_of t).weight b ≡ (forest_of old.forest).weight b)
     → ((b : ℕ) → (forest_of t).label b ≡ Inner → get_or new.inner.items b false ≡ true) → (r : ℕ) × (t.root ≡ Some r) → IsUnderWay g new
 step_taken g old t new made low range valid is turned size weights marked tree = record {
@@ -46,12 +46,12 @@ step_taken g old t new made low range valid is turned size weights marked tree =
 }
 
 -- What is right at a blossom, said of the forest's tables after the step.
-pub record IsRightIn (g : Graph) (t : ForestTables) (risen : ℕ) (new : Search) (b : ℕ) : Type 0 where
+pub record IsRightIn (g : WeightedGraph) (t : ForestTables) (risen : ℕ) (new : Search) (b : ℕ) : Type 0 where
   pub mark : (forest_of t).label b ≡ Inner → get_or new.inner.items b false ≡ true
   pub leaf : (forest_of t).label b ≡ Inner → g.n ≤ b → get_or new.tour (leaf_of g b) 0 ≡ true_key g (forest_of t) risen (leaf_of g b)
   pub edges : (forest_of t).label b ≢ Inner → AreRightAt g (forest_of t) risen new.tour ((forest_of t).holds b)
 
-pub right_in : (g : Graph) (old : Search) (t : ForestTables) (new : Search) (b : ℕ) → IsRefreshed g (record old { forest = t }) new → IsFreshAt g new b → IsRightIn g t old.risen new b
+pub right_in : (g : WeightedGraph) (old : Search) (t : ForestTables) (new : Search) (b : ℕ) → IsRefreshed g (record old { forest = t }) new → IsFreshAt g new b → IsRightIn g t old.risen new b
 right_in g old t new b is fresh = record {
   mark = λ inner. fresh.mark (back inner);
   leaf = λ inner h. subst (λ (x : ForestTables). get_or new.tour (leaf_of g b) 0 ≡ true_key g (forest_of x) old.risen (leaf_of g b)) is.forest (subst (λ r. get_or new.tour (leaf_of g b) 0 ≡ true_key g (forest_of new.forest) r (leaf_of g b)) is.risen (fresh.leaf (back inner) h));
@@ -63,7 +63,7 @@ right_in g old t new b is fresh = record {
     back inner = ap (λ (x : ForestTables). (forest_of x).label b) is.forest ∙ inner
 
 -- The tree has grown.
-module _ (g : Graph) (old : Search) (t : ForestTables) (new : Search) (d m : ℕ) (way : IsUnderWay g old) (valid : IsValidFor g t) (is : IsRefreshed g (record old { forest = t }) new)
+module _ (g : WeightedGraph) (old : Search) (t : ForestTables) (new : Search) (d m : ℕ) (way : IsUnderWay g old) (valid : IsValidFor g t) (is : IsRefreshed g (record old { forest = t }) new)
     (mate : (forest_of old.forest).mate ((forest_of old.forest).out (far (darts_of g) d)) ≡ Some m) (grown_is : forest_of t ≡ grown (darts_of g) (forest_of old.forest) d m) where
   abbrev inn : ℕ
   inn = (forest_of old.forest).out (far (darts_of g) d)
@@ -101,7 +101,7 @@ module _ (g : Graph) (old : Search) (t : ForestTables) (new : Search) (d m : ℕ
       (record { vertex = seeking.vertex; root_is = seeking.root_is; before = seeking.before })))
 
 -- A cycle has become one blossom.
-module _ (g : Graph) (old : Search) (t : ForestTables) (new : Search) (d : ℕ) (way : IsUnderWay g old) (valid : IsValidFor g t) (is : IsRefreshed g (record old { forest = t }) new)
+module _ (g : WeightedGraph) (old : Search) (t : ForestTables) (new : Search) (d : ℕ) (way : IsUnderWay g old) (valid : IsValidFor g t) (is : IsRefreshed g (record old { forest = t }) new)
     (s : IsShrinking (darts_of g) (forest_of old.forest) (forest_of t) old.forest.root t.root d) where
   pub shrunk_way : ((p : ℕ) → s.inside p ≡ true → get_or old.inner.items p false ≡ true → AreRightAt g (forest_of t) old.risen new.tour ((forest_of t).holds p)) → IsUnderWay g new
   shrunk_way right = step_taken g old t new way.made way.low way.range valid is turned s.shrunk.size s.shrunk.weight (λ b inner. is.marked b inner (way.marked b (was b inner))) (cond (s.inside s.r) s.set s.r, s.root_is)
@@ -119,7 +119,7 @@ module _ (g : Graph) (old : Search) (t : ForestTables) (new : Search) (d : ℕ) 
   shrunk_goes_on v seeking = subst (λ (x : ForestTables). IsSeeking g.n (forest_of x) x.root v) (sym is.forest) (seeking_shrunk g way.made.small.lawful (forest_of old.forest) (forest_of t) old.forest.root t.root d v way.valid.valid s seeking)
 
 -- An inner set has been opened.
-module _ (g : Graph) (old : Search) (t : ForestTables) (new : Search) (b : ℕ) (way : IsUnderWay g old) (valid : IsValidFor g t) (is : IsRefreshed g (record old { forest = t }) new)
+module _ (g : WeightedGraph) (old : Search) (t : ForestTables) (new : Search) (b : ℕ) (way : IsUnderWay g old) (valid : IsValidFor g t) (is : IsRefreshed g (record old { forest = t }) new)
     (x : IsExpanding (darts_of g) (forest_of old.forest) (forest_of t) b) where
   module _ (r : ℕ) (root : old.forest.root ≡ Some r) where
     rooted_valid : IsValid (darts_of g) (forest_of old.forest) (Some r)
@@ -151,22 +151,22 @@ module _ (g : Graph) (old : Search) (t : ForestTables) (new : Search) (b : ℕ) 
       (seeking_opened g way.made.small.lawful (forest_of old.forest) (forest_of t) x.o v (rooted_valid ((forest_of old.forest).out v) seeking.root_is) x.opening x.opened (subst (λ (o : Option ℕ). IsSeeking g.n (forest_of old.forest) o v) seeking.root_is seeking)))
 
 -- The ring of a set that is in use.
-ring_of : (g : Graph) (t : ForestTables) (b : ℕ) → IsValidFor g t → g.n ≤ b → get_or t.parts b 0 ≢ 0 → IsRing (darts_of g) (forest_of t) b
+ring_of : (g : WeightedGraph) (t : ForestTables) (b : ℕ) → IsValidFor g t → g.n ≤ b → get_or t.parts b 0 ≢ 0 → IsRing (darts_of g) (forest_of t) b
 ring_of g t b valid h live = valid.valid.nested.rings b h live
 
 -- A part of it.
 abbrev pub part_of : (t : ForestTables) (b k : ℕ) → ℕ
 part_of t b k = walk (λ i. get_or t.after i 0) (get_or t.head b 0) k
 
-by_blossom : (g : Graph) (t : ForestTables) (p : ℕ) → IsBlossom (darts_of g) (forest_of t) p → (p < g.n) ⊎ (get_or t.parts p 0 ≢ 0)
+by_blossom : (g : WeightedGraph) (t : ForestTables) (p : ℕ) → IsBlossom (darts_of g) (forest_of t) p → (p < g.n) ⊎ (get_or t.parts p 0 ≢ 0)
 by_blossom g t p (inl l) = inl l
 by_blossom g t p (inr w) = inr w.1
 
-pub part_in_use : (g : Graph) → IsGraph g → (t : ForestTables) (b k : ℕ) → IsValidFor g t → g.n ≤ b → get_or t.parts b 0 ≢ 0 → (part_of t b k < g.n) ⊎ (get_or t.parts (part_of t b k) 0 ≢ 0)
+pub part_in_use : (g : WeightedGraph) → IsGraph g → (t : ForestTables) (b k : ℕ) → IsValidFor g t → g.n ≤ b → get_or t.parts b 0 ≢ 0 → (part_of t b k < g.n) ⊎ (get_or t.parts (part_of t b k) 0 ≢ 0)
 part_in_use g is t b k valid h live = by_blossom g t (part_of t b k) (part_used (darts_of g) (are_darts g is) (forest_of t) valid.valid.nested b (ring_of g t b valid h live) k)
 
 -- Keys may be mended at each.
-pub may_part : (g : Graph) (s : Search) (b k : ℕ) → IsMade g s → IsValidFor g s.forest → g.n ≤ b → get_or s.forest.parts b 0 ≢ 0 → MayRefresh g s (part_of s.forest b k)
+pub may_part : (g : WeightedGraph) (s : Search) (b k : ℕ) → IsMade g s → IsValidFor g s.forest → g.n ≤ b → get_or s.forest.parts b 0 ≢ 0 → MayRefresh g s (part_of s.forest b k)
 may_part g s b k made valid h live = record { made = made; valid = valid; low = (ring_of g s.forest b valid h live).below k; used = part_in_use g made.small.lawful s.forest b k valid h live }
 
 ring_sum_high : (next f : ℕ → ℕ) (front n : ℕ) → ((k : ℕ) → 1 ≤ f (walk next front k)) → n ≤ ring_sum next f front n
@@ -174,25 +174,25 @@ ring_sum_high next f front zero each = omega arith
 ring_sum_high next f front (suc n) each = omega (arith, ring_sum_high next f front n each, each n)
 
 -- A set has no more parts than there are vertices.
-pub parts_few : (g : Graph) → IsGraph g → (t : ForestTables) (b : ℕ) → IsValidFor g t → g.n ≤ b → get_or t.parts b 0 ≢ 0 → get_or t.parts b 0 ≤ g.n
+pub parts_few : (g : WeightedGraph) → IsGraph g → (t : ForestTables) (b : ℕ) → IsValidFor g t → g.n ≤ b → get_or t.parts b 0 ≢ 0 → get_or t.parts b 0 ≤ g.n
 parts_few g is t b valid h live =
     let ring : IsRing (darts_of g) (forest_of t) b = ring_of g t b valid h live in
-    let shared : vertices_in g.n (forest_of t) b ≡ count_below (λ v. ring_sum (forest_of t).nest.after (λ p. number ((forest_of t).holds p v)) ((forest_of t).nest.head b) ((forest_of t).nest.parts b)) g.n = count_below_same (λ v. number ((forest_of t).holds b v)) (λ v. ring_sum (forest_of t).nest.after (λ p. number ((forest_of t).holds p v)) ((forest_of t).nest.head b) ((forest_of t).nest.parts b)) g.n ring.shared in
-    let sums : count_below (λ v. ring_sum (forest_of t).nest.after (λ p. number ((forest_of t).holds p v)) ((forest_of t).nest.head b) ((forest_of t).nest.parts b)) g.n ≡ ring_sum (forest_of t).nest.after (vertices_in g.n (forest_of t)) ((forest_of t).nest.head b) ((forest_of t).nest.parts b) = counts_exchanged (forest_of t).nest.after (λ p v. number ((forest_of t).holds p v)) ((forest_of t).nest.head b) g.n ((forest_of t).nest.parts b) in
-    let many : get_or t.parts b 0 ≤ ring_sum (forest_of t).nest.after (vertices_in g.n (forest_of t)) ((forest_of t).nest.head b) ((forest_of t).nest.parts b) = ring_sum_high (forest_of t).nest.after (vertices_in g.n (forest_of t)) ((forest_of t).nest.head b) (get_or t.parts b 0)
+    let shared : blossom_size g.n (forest_of t) b ≡ count_below (λ v. ring_sum (forest_of t).nest.after (λ p. bool_number ((forest_of t).holds p v)) ((forest_of t).nest.head b) ((forest_of t).nest.parts b)) g.n = count_below_same (λ v. bool_number ((forest_of t).holds b v)) (λ v. ring_sum (forest_of t).nest.after (λ p. bool_number ((forest_of t).holds p v)) ((forest_of t).nest.head b) ((forest_of t).nest.parts b)) g.n ring.shared in
+    let sums : count_below (λ v. ring_sum (forest_of t).nest.after (λ p. bool_number ((forest_of t).holds p v)) ((forest_of t).nest.head b) ((forest_of t).nest.parts b)) g.n ≡ ring_sum (forest_of t).nest.after (blossom_size g.n (forest_of t)) ((forest_of t).nest.head b) ((forest_of t).nest.parts b) = counts_exchanged (forest_of t).nest.after (λ p v. bool_number ((forest_of t).holds p v)) ((forest_of t).nest.head b) g.n ((forest_of t).nest.parts b) in
+    let many : get_or t.parts b 0 ≤ ring_sum (forest_of t).nest.after (blossom_size g.n (forest_of t)) ((forest_of t).nest.head b) ((forest_of t).nest.parts b) = ring_sum_high (forest_of t).nest.after (blossom_size g.n (forest_of t)) ((forest_of t).nest.head b) (get_or t.parts b 0)
     (λ k. some (odd_blossom (darts_of g) (are_darts g is) (forest_of t) valid.valid.nested (part_of t b k) (part_used (darts_of g) (are_darts g is) (forest_of t) valid.valid.nested b ring k))) in
-    let all : vertices_in g.n (forest_of t) b ≤ count_below (λ v. 1) g.n = count_below_le (λ v. number ((forest_of t).holds b v)) (λ v. 1) g.n (λ v l. one ((forest_of t).holds b v)) in
+    let all : blossom_size g.n (forest_of t) b ≤ count_below (λ v. 1) g.n = count_below_le (λ v. bool_number ((forest_of t).holds b v)) (λ v. 1) g.n (λ v l. one ((forest_of t).holds b v)) in
     omega (arith, shared, sums, many, all, count_below_ones g.n)
   where
     some : {x : ℕ} → x % 2 ≡ 1 → 1 ≤ x
     some e = omega (arith, e)
 
-    one : (s : Bool) → number s ≤ 1
+    one : (s : Bool) → bool_number s ≤ 1
     one true = omega arith
     one false = omega arith
 
 -- Keys may be mended at the blossom of a vertex.
-pub may_vertex : (g : Graph) (s : Search) (v b : ℕ) → IsMade g s → IsValidFor g s.forest → v < g.n → (forest_of s.forest).out v ≡ b → MayRefresh g s b
+pub may_vertex : (g : WeightedGraph) (s : Search) (v b : ℕ) → IsMade g s → IsValidFor g s.forest → v < g.n → (forest_of s.forest).out v ≡ b → MayRefresh g s b
 may_vertex g s v b made valid l e = subst (λ x. MayRefresh g s x) e (record { made = made; valid = valid; low = valid.valid.outermost.out_low v l; used = by_size (cases_lt ((forest_of s.forest).out v) g.n) })
   where
     by_size : ((forest_of s.forest).out v < g.n) ⊎ (g.n ≤ (forest_of s.forest).out v) → ((forest_of s.forest).out v < g.n) ⊎ (get_or s.forest.parts ((forest_of s.forest).out v) 0 ≢ 0)
@@ -200,11 +200,11 @@ may_vertex g s v b made valid l e = subst (λ x. MayRefresh g s x) e (record { m
     by_size (inr high) = inr (λ none. true_false ((forest_of s.forest).holds ((forest_of s.forest).out v) v) (held_out g (forest_of s.forest) s.forest.root valid.valid v l) (valid.valid.nested.empty ((forest_of s.forest).out v) v high l none))
 
 -- Room stays through a step of the forest.
-pub made_after : (g : Graph) (s : Search) (t : ForestTables) → IsMade g s → (forest_of t).size ≡ (forest_of s.forest).size → IsMade g (record s { forest = t })
+pub made_after : (g : WeightedGraph) (s : Search) (t : ForestTables) → IsMade g s → (forest_of t).size ≡ (forest_of s.forest).size → IsMade g (record s { forest = t })
 made_after g s t made size = record { small = made.small; cheap = made.cheap; fans = made.fans; size = size ∙ made.size; first = made.first; low = made.low; leaves = made.leaves; marks = made.marks; members = made.members; parts = made.parts }
 
 -- The matching has grown.
-pub augmented_idle : (g : Graph) (old : Search) (t : ForestTables) (d : ℕ) → IsUnderWay g old → IsValidFor g t → t.root ≡ None → (r : ℕ) × (old.forest.root ≡ Some r) × IsAugmented (darts_of g) (forest_of old.forest) (forest_of t) r d
+pub augmented_idle : (g : WeightedGraph) (old : Search) (t : ForestTables) (d : ℕ) → IsUnderWay g old → IsValidFor g t → t.root ≡ None → (r : ℕ) × (old.forest.root ≡ Some r) × IsAugmented (darts_of g) (forest_of old.forest) (forest_of t) r d
     → (made : IsMade g (record old { forest = t })) → IsIdle g (record old { forest = t }) × HasEnded g.n old.forest t
 augmented_idle g old t d way valid root w made = (
   record {
@@ -218,7 +218,7 @@ augmented_idle g old t d way valid root w made = (
 )
 
 -- A search has begun.
-module _ (g : Graph) (old : Search) (t : ForestTables) (new : Search) (v : ℕ) (idle : IsIdle g old) (valid : IsValidFor g t) (is : IsRefreshed g (record old { forest = t }) new)
+module _ (g : WeightedGraph) (old : Search) (t : ForestTables) (new : Search) (v : ℕ) (idle : IsIdle g old) (valid : IsValidFor g t) (is : IsRefreshed g (record old { forest = t }) new)
     (rooted_is : forest_of t ≡ rooted (forest_of old.forest) ((forest_of old.forest).out v)) where
   abbrev b : ℕ
   b = (forest_of old.forest).out v
@@ -250,7 +250,7 @@ module _ (g : Graph) (old : Search) (t : ForestTables) (new : Search) (v : ℕ) 
       (subst (λ (f : Forest). IsSeeking g.n f (Some b) v) (sym rooted_is) (seeking_begun g.n (forest_of old.forest) v l before)))
 
 -- The parts of the opened set, after that.
-module _ (g : Graph) (old : Search) (t : ForestTables) (b : ℕ) (way : IsUnderWay g old) (valid : IsValidFor g t) (x : IsExpanding (darts_of g) (forest_of old.forest) (forest_of t) b) where
+module _ (g : WeightedGraph) (old : Search) (t : ForestTables) (b : ℕ) (way : IsUnderWay g old) (valid : IsValidFor g t) (x : IsExpanding (darts_of g) (forest_of old.forest) (forest_of t) b) where
   opened_live : get_or old.forest.parts b 0 ≢ 0
   opened_live =
       let p : ((forest_of old.forest).nest.up (x.o.q 0) ≡ x.o.b) × (x.o.q 0 ≢ x.o.b) × (x.o.q 0 < (forest_of old.forest).size) = x.opening.parts 0 (omega arith) in
@@ -284,19 +284,19 @@ module _ (g : Graph) (old : Search) (t : ForestTables) (b : ℕ) (way : IsUnderW
       (ring_of g old.forest b way.valid b_high opened_live).all (x.o.q j) (p.0 ∙ x.is) (λ e. p.1 (e ∙ sym x.is))
 
 -- Keys may be mended at a part while only other tables changed.
-pub may_part_in : (g : Graph) (old s : Search) (b k p : ℕ) → IsMade g s → IsValidFor g old.forest → g.n ≤ b → get_or old.forest.parts b 0 ≢ 0 → s.forest ≡ old.forest → p ≡ part_of old.forest b k → MayRefresh g s p
+pub may_part_in : (g : WeightedGraph) (old s : Search) (b k p : ℕ) → IsMade g s → IsValidFor g old.forest → g.n ≤ b → get_or old.forest.parts b 0 ≢ 0 → s.forest ≡ old.forest → p ≡ part_of old.forest b k → MayRefresh g s p
 may_part_in g old s b k p made valid h live same is = subst (λ x. MayRefresh g s x) (ap (λ (y : ForestTables). part_of y b k) same ∙ sym is)
     (may_part g s b k made (subst (λ (y : ForestTables). IsValidFor g y) (sym same) valid) h (subst (λ (y : ForestTables). get_or y.parts b 0 ≢ 0) (sym same) live))
 
 -- How a tree grows: along a dart, to a matched blossom and its mate.
-pub record Growth (g : Graph) (f : Forest) (d m : ℕ) : Type 0 where
+pub record Growth (g : WeightedGraph) (f : Forest) (d m : ℕ) : Type 0 where
   pub reach : Reaches (darts_of g) f d
   pub mate : f.mate (f.out (far (darts_of g) d)) ≡ Some m
   pub low : far (darts_of g) d < g.n
   pub low_mate : far (darts_of g) m < g.n
   pub apart : f.out (far (darts_of g) d) ≢ f.out (far (darts_of g) m)
 
-pub growth_of : (g : Graph) (t : ForestTables) (e m : ℕ) → IsSmallGraph g → IsValidFor g t → e < length g.edges → kind_of g (forest_of t) e ≡ Grow
+pub growth_of : (g : WeightedGraph) (t : ForestTables) (e m : ℕ) → IsSmallGraph g → IsValidFor g t → e < length g.edges → edge_kind g (forest_of t) e ≡ Grow
     → (forest_of t).mate ((forest_of t).out (far (darts_of g) (outer_dart g (forest_of t) e))) ≡ Some m → Growth g (forest_of t) (outer_dart g (forest_of t) e) m
 growth_of g t e m small valid low kind mate =
     let reach : Reaches (darts_of g) (forest_of t) (outer_dart g (forest_of t) e) = (grows g small (forest_of t) valid.valid.feasible e low kind).0 in
@@ -304,7 +304,7 @@ growth_of g t e m small valid low kind mate =
     record { reach = reach; mate = mate; low = far_low (darts_of g) (are_darts g small.lawful) _ reach.tight.low; low_mate = far_low (darts_of g) (are_darts g small.lawful) m pair.tight.low; apart = λ same. pair.other (sym same) }
 
 -- The keys at the marked parts of the new set are right, and its mark is taken away.
-module _ (g : Graph) (old : Search) (t : ForestTables) (d : ℕ) (way : IsUnderWay g old) (s : IsShrinking (darts_of g) (forest_of old.forest) (forest_of t) old.forest.root t.root d) (b : ℕ) (b_is : b ≡ s.set) where
+module _ (g : WeightedGraph) (old : Search) (t : ForestTables) (d : ℕ) (way : IsUnderWay g old) (s : IsShrinking (darts_of g) (forest_of old.forest) (forest_of t) old.forest.root t.root d) (b : ℕ) (b_is : b ≡ s.set) where
   pub closed_high : g.n ≤ b
   closed_high = subst (λ x. g.n ≤ x) (sym b_is) s.unused.high
 
@@ -344,14 +344,14 @@ module _ (g : Graph) (old : Search) (t : ForestTables) (d : ℕ) (way : IsUnderW
       not_set x inner at = let c : Outer ≡ Inner = sym (shrunk_set g way.made.small.lawful (forest_of old.forest) (forest_of t) old.forest.root t.root d way.valid.valid s) ∙ (ap (forest_of t).label (sym at) ∙ inner) in cc c
 
 -- An inner set is in use.
-pub inner_live : (g : Graph) (t : ForestTables) (b : ℕ) → IsValidFor g t → g.n ≤ b → (forest_of t).label b ≡ Inner → get_or t.parts b 0 ≢ 0
+pub inner_live : (g : WeightedGraph) (t : ForestTables) (b : ℕ) → IsValidFor g t → g.n ≤ b → (forest_of t).label b ≡ Inner → get_or t.parts b 0 ≢ 0
 inner_live g t b valid h inner none = by_vertex (valid.valid.outermost.named b (inner_named ((forest_of t).label b) inner))
   where
     by_vertex : IsOutermost g.n (forest_of t) b → ⊥
     by_vertex w = true_false ((forest_of t).holds b w.0) (ap (λ x. (forest_of t).holds x w.0) (sym w.2) ∙ held_out g (forest_of t) t.root valid.valid w.0 w.1) (valid.valid.nested.empty b w.0 h w.1 none)
 
 -- A search goes on with another list of parts.
-pub way_with_parts : (g : Graph) (old new : Search) → IsUnderWay g old → new ≡ record old { parts = new.parts } → g.n ≤ vec_capacity new.parts → IsUnderWay g new
+pub way_with_parts : (g : WeightedGraph) (old new : Search) → IsUnderWay g old → new ≡ record old { parts = new.parts } → g.n ≤ vec_capacity new.parts → IsUnderWay g new
 way_with_parts g old new way same room = record {
   made = made_like g old new way.made (ap (λ (s : Search). (s.fans, s.first)) same) (ap (λ (s : Search). length s.forest.up) same) (ap (λ (s : Search). length s.tour) same) (ap (λ (s : Search). length s.inner.items) same) (subst (λ (s : Search). g.n ≤ vec_capacity s.members) (sym same) way.made.members) room;
   valid = subst (λ (s : Search). IsValidFor g s.forest) (sym same) way.valid;
@@ -362,6 +362,6 @@ way_with_parts g old new way same room = record {
 }
 
 -- The new set is the outermost blossom of the edge's first end.
-pub closed_set : (g : Graph) (old : Search) (t : ForestTables) (e : ℕ) (way : IsUnderWay g old) (s : IsShrinking (darts_of g) (forest_of old.forest) (forest_of t) old.forest.root t.root (2 * e)) → e < length g.edges → (u b : ℕ) → u ≡ (edge_at g e).u → b ≡ (forest_of t).out u → b ≡ s.set
+pub closed_set : (g : WeightedGraph) (old : Search) (t : ForestTables) (e : ℕ) (way : IsUnderWay g old) (s : IsShrinking (darts_of g) (forest_of old.forest) (forest_of t) old.forest.root t.root (2 * e)) → e < length g.edges → (u b : ℕ) → u ≡ (edge_at g e).u → b ≡ (forest_of t).out u → b ≡ s.set
 closed_set g old t e way s low u b u_is b_is = b_is ∙ (ap (forest_of t).out u_is ∙ shrunk_on g way.made.small.lawful (forest_of old.forest) (forest_of t) old.forest.root t.root (2 * e) way.valid.valid s (edge_at g e).u (way.made.small.lawful.left e low)
     (ap (λ x. s.inside ((forest_of old.forest).out x)) (sym (dart_near g e)) ∙ s.begins))

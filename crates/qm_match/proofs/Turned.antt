@@ -1,7 +1,7 @@
 -- A shift by the least key, and a turn of a search.
 use Rattle.std.proofs.Common.{◌≡◌, ◌≢◌, ℕ, ◌+◌, ◌-◌, ◌^◌, ◌<◌, ◌≤◌, List, length, get_or, Option, Some, pos, refl, sym, ◌∙◌, ap, subst, inl, inr, arith}
 use Rattle.std.specs.Int.RustNames.{unsigned_abs}
-use Rattle.def_matching.specs.Matching.{Graph}
+use Rattle.def_matching.specs.Matching.{WeightedGraph}
 use Rattle.def_forest.specs.Darts.{darts_of}
 use Rattle.def_forest.specs.Forests.{Forest}
 use Rattle.def_forest.specs.Steps.{shifted}
@@ -20,7 +20,7 @@ use Rattle.qm_match.specs.States.{GoesOn, HasPerfect, IsUnderWay}
 use Rattle.qm_match.specs.declared.search.Search.{Search}
 use Rattle.qm_match.proofs.Mended.{made_with, mended_one}
 
-module _ (g : Graph) (s : Search) (r : ℕ) (root : s.forest.root ≡ Some r) (way : IsUnderWay g s) (known : HasPerfect g) where
+module _ (g : WeightedGraph) (s : Search) (r : ℕ) (root : s.forest.root ≡ Some r) (way : IsUnderWay g s) (known : HasPerfect g) where
   valid_at : IsValid (darts_of g) (forest_of s.forest) (Some r)
   valid_at = subst (λ (o : Option ℕ). IsValid (darts_of g) (forest_of s.forest) o) root way.valid.valid
 
@@ -59,11 +59,11 @@ module _ (g : Graph) (s : Search) (r : ℕ) (root : s.forest.root ≡ Some r) (w
     })
 
 -- The search goes on from the same vertex.
-pub shifted_on : (g : Graph) (t u : ForestTables) (x : ℕ) → forest_of u ≡ shifted (forest_of t) (pos x) → u.root ≡ t.root → GoesOn g.n t u
+pub shifted_on : (g : WeightedGraph) (t u : ForestTables) (x : ℕ) → forest_of u ≡ shifted (forest_of t) (pos x) → u.root ≡ t.root → GoesOn g.n t u
 shifted_on g t u x e root v seeking = subst (λ (o : Option ℕ). IsSeeking g.n (forest_of u) o v) (sym root) (subst (λ (f : Forest). IsSeeking g.n f t.root v) (sym e) (record { vertex = seeking.vertex; root_is = seeking.root_is; before = seeking.before }))
 
 -- A key was mended.
-pub mended_way : (g : Graph) (s new : Search) (leaf : ℕ) → IsUnderWay g s → leaf < length s.tour → new ≡ record s { tour = set s.tour leaf (true_key g (forest_of s.forest) s.risen leaf) } → IsUnderWay g new
+pub mended_way : (g : WeightedGraph) (s new : Search) (leaf : ℕ) → IsUnderWay g s → leaf < length s.tour → new ≡ record s { tour = set s.tour leaf (true_key g (forest_of s.forest) s.risen leaf) } → IsUnderWay g new
 mended_way g s new leaf way l e = subst (λ (y : Search). IsUnderWay g y) (sym e) (record {
   made = made_with g s keys way.made mended.size;
   valid = way.valid;
@@ -79,7 +79,7 @@ mended_way g s new leaf way l e = subst (λ (y : Search). IsUnderWay g y) (sym e
     mended : IsMended g (forest_of s.forest) s.risen s.tour (set s.tour leaf (true_key g (forest_of s.forest) s.risen leaf))
     mended = mended_one g (forest_of s.forest) s.risen s.tour (set s.tour leaf (true_key g (forest_of s.forest) s.risen leaf)) leaf l refl
 
-pub mended_fewer : (g : Graph) (s new : Search) (leaf : ℕ) → leaf < length s.tour → get_or s.tour leaf 0 ≢ true_key g (forest_of s.forest) s.risen leaf → new ≡ record s { tour = set s.tour leaf (true_key g (forest_of s.forest) s.risen leaf) }
+pub mended_fewer : (g : WeightedGraph) (s new : Search) (leaf : ℕ) → leaf < length s.tour → get_or s.tour leaf 0 ≢ true_key g (forest_of s.forest) s.risen leaf → new ≡ record s { tour = set s.tour leaf (true_key g (forest_of s.forest) s.risen leaf) }
     → turns_left g (forest_of new.forest) new.risen new.tour < turns_left g (forest_of s.forest) s.risen s.tour
 mended_fewer g s new leaf l ne e = subst (λ (y : Search). turns_left g (forest_of y.forest) y.risen y.tour < turns_left g (forest_of s.forest) s.risen s.tour) (sym e) (fewer_stale g (forest_of s.forest) s.risen leaf s.tour (set s.tour leaf (true_key g (forest_of s.forest) s.risen leaf)) l ne refl)
 

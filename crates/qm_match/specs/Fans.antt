@@ -1,7 +1,7 @@
 -- The edges at each vertex, as chains of darts.
 use Rattle.std.specs.Prelude.{◌≡◌, ℕ, zero, suc, ◌+◌, ◌*◌, ◌<◌, ◌≤◌, ◌==◌, ◌||◌, Bool, true, false, List, length}
 use Rattle.std.specs.Prelude.{slice_index, slice_set}
-use Rattle.def_matching.specs.Matching.{Graph, Vertex}
+use Rattle.def_matching.specs.Matching.{WeightedGraph, Vertex}
 use Rattle.def_forest.specs.Darts.{Dart, darts_of}
 use Rattle.qm_match.specs.declared.fans.Fans.{Fans}
 
@@ -20,7 +20,7 @@ abbrev pub IsOn : (next : List Entry) (entry : Entry) (d : Dart) → Type 0
 IsOn next entry d = (most : ℕ) × (passes next most entry d ≡ true)
 
 -- The darts below a bound are on the chains of the vertices where they begin. Chains go down.
-pub record AreFansOf (g : Graph) (bound : ℕ) (first next : List Entry) : Type 0 where
+pub record AreFansOf (g : WeightedGraph) (bound : ℕ) (first next : List Entry) : Type 0 where
   pub vertices : length first ≡ g.n
   pub darts : length next ≡ 2 * length g.edges
   pub firsts : (v : Vertex) → slice_index first v ≤ bound
@@ -28,7 +28,7 @@ pub record AreFansOf (g : Graph) (bound : ℕ) (first next : List Entry) : Type 
   pub all : (d : Dart) → d < bound → IsOn next (slice_index first ((darts_of g).near d)) d
 
 -- All darts are.
-abbrev pub AreFans : (g : Graph) (first next : List Entry) → Type 0
+abbrev pub AreFans : (g : WeightedGraph) (first next : List Entry) → Type 0
 AreFans g first next = AreFansOf g (2 * length g.edges) first next
 
 -- A dart is put at the front of the chain of a vertex.

@@ -2,7 +2,7 @@
 use Rattle.std.specs.Prelude.{◌≡◌, ◌≢◌, ℕ, ◌+◌, ◌*◌, ◌/◌, ◌<◌, ◌≤◌, ◌⊎◌, true, false, List, length, None, Some}
 use Rattle.std.specs.Prelude.{slice_index, slice_index_or, unsigned_abs}
 use Rattle.std.specs.Vec.{vec_capacity}
-use Rattle.def_matching.specs.Matching.{Graph, Vertex, EdgeNumber, edge_at, IsCheap, IsPerfect, IsSmallGraph}
+use Rattle.def_matching.specs.Matching.{WeightedGraph, Vertex, EdgeNumber, edge_at, IsCheap, IsPerfect, IsSmallGraph}
 use Rattle.def_forest.specs.Darts.{Dart}
 use Rattle.def_forest.specs.Forests.{Blossom, Forest}
 use Rattle.def_forest.specs.Tables.{ForestTables, forest_of, slack_of, IsValidFor}
@@ -13,7 +13,7 @@ use Rattle.qm_match.specs.Fans.{AreFans, IsOn}
 use Rattle.qm_match.specs.declared.search.Search.{Search}
 
 -- The tables have room for a graph.
-pub record IsMade (g : Graph) (s : Search) : Type 0 where
+pub record IsMade (g : WeightedGraph) (s : Search) : Type 0 where
   pub small : IsSmallGraph g
   pub cheap : IsCheap g
   pub fans : AreFans g s.fans.first.items s.fans.next.items
@@ -26,7 +26,7 @@ pub record IsMade (g : Graph) (s : Search) : Type 0 where
   pub parts : g.n ≤ vec_capacity s.parts
 
 -- No search goes on.
-pub record IsIdle (g : Graph) (s : Search) : Type 0 where
+pub record IsIdle (g : WeightedGraph) (s : Search) : Type 0 where
   pub made : IsMade g s
   pub valid : IsValidFor g s.forest
   pub no_tree : s.forest.root ≡ None
@@ -34,7 +34,7 @@ pub record IsIdle (g : Graph) (s : Search) : Type 0 where
   pub range : IsInRange g.n s.first (forest_of s.forest) s.risen
 
 -- A search goes on.
-pub record IsUnderWay (g : Graph) (s : Search) : Type 0 where
+pub record IsUnderWay (g : WeightedGraph) (s : Search) : Type 0 where
   pub made : IsMade g s
   pub valid : IsValidFor g s.forest
   pub tree : (r : Blossom) × (s.forest.root ≡ Some r)
@@ -51,11 +51,11 @@ abbrev pub HasEnded : (n : ℕ) (old new : ForestTables) → Type 0
 HasEnded n old new = (v : Vertex) → IsSeeking n (forest_of old) old.root v → AreMatchedBefore (forest_of new) (v + 1)
 
 -- A graph has a perfect matching.
-abbrev pub HasPerfect : (g : Graph) → Type 0
+abbrev pub HasPerfect : (g : WeightedGraph) → Type 0
 HasPerfect g = (m : List EdgeNumber) × IsPerfect g m
 
 -- Only keys and marks were mended.
-pub record IsRefreshed (g : Graph) (old new : Search) : Type 0 where
+pub record IsRefreshed (g : WeightedGraph) (old new : Search) : Type 0 where
   pub forest : new.forest ≡ old.forest
   pub risen : new.risen ≡ old.risen
   pub first : new.first ≡ old.first
@@ -66,14 +66,14 @@ pub record IsRefreshed (g : Graph) (old new : Search) : Type 0 where
       → slice_index_or new.inner.items b false ≡ true
 
 -- Keys and marks may be made right at a blossom.
-pub record MayRefresh (g : Graph) (s : Search) (b : Blossom) : Type 0 where
+pub record MayRefresh (g : WeightedGraph) (s : Search) (b : Blossom) : Type 0 where
   pub made : IsMade g s
   pub valid : IsValidFor g s.forest
   pub low : b < length s.forest.up
   pub used : (b < g.n) ⊎ (slice_index s.forest.parts b ≢ 0)
 
 -- The keys and the mark of a blossom are right: those of its edges, or its own where it is inner.
-pub record IsFreshAt (g : Graph) (s : Search) (b : Blossom) : Type 0 where
+pub record IsFreshAt (g : WeightedGraph) (s : Search) (b : Blossom) : Type 0 where
   pub mark : (forest_of s.forest).label b ≡ Inner → slice_index_or s.inner.items b false ≡ true
   pub leaf : (forest_of s.forest).label b ≡ Inner → g.n ≤ b
       → slice_index s.tour (leaf_of g b) ≡ true_key g (forest_of s.forest) s.risen (leaf_of g b)
@@ -99,7 +99,7 @@ pub record IsReady (s : Search) : Type 0 where
   pub attained : (s.first ≡ 0) ⊎ ((b : Blossom) × (unsigned_abs ((forest_of s.forest).weight b) ≡ s.first))
 
 -- A tight edge joins two outermost blossoms that are not matched.
-pub record IsFreeEdge (g : Graph) (f : Forest) (e : EdgeNumber) : Type 0 where
+pub record IsFreeEdge (g : WeightedGraph) (f : Forest) (e : EdgeNumber) : Type 0 where
   pub apart : f.out (edge_at g e).u ≢ f.out (edge_at g e).v
   pub left : f.mate (f.out (edge_at g e).u) ≡ None
   pub right : f.mate (f.out (edge_at g e).v) ≡ None

@@ -4,7 +4,7 @@ ghost use Rattle.std.specs.Prelude.{◌≡◌, ◌+◌, ◌<◌, ℕ, map, lengt
 ghost use Rattle.def_math.specs.Counts.{count};
 ghost use Rattle.def_math.specs.Increasing.{IsIncreasing};
 ghost use Rattle.def_matching.specs.Matching.{graph, edge_at, ends_at, IsPerfect, IsSmallGraph};
-ghost use Rattle.def_forest.specs.Forests.{number};
+ghost use Rattle.def_forest.specs.Forests.{bool_number};
 
 use crate::Memory;
 use def_matching::WGraph;
@@ -28,7 +28,8 @@ fn meet(g: &WGraph, edges: &[u32], seen: &mut Vec<bool>) -> bool
     ensures increasing { result ≡ true → IsIncreasing 0 (length g.now.edges.items) edges.now }
     ensures size { length seen.new.items ≡ g.now.n }
     ensures counts { result ≡ true → (v : ℕ) → v < g.now.n
-        → count (ends_at v) (map (edge_at (graph g.now)) edges.now) ≡ number (slice_index_or seen.new.items v false) }
+        → count (ends_at v) (map (edge_at (graph g.now)) edges.now)
+        ≡ bool_number (slice_index_or seen.new.items v false) }
 {
     let mut next = 0;
     for e in edges {
@@ -46,8 +47,8 @@ fn mark(g: &WGraph, e: u32, seen: &mut Vec<bool>) -> bool
     requires size { length seen.old.items ≡ g.now.n }
     requires edge { e < length g.now.edges.items }
     ensures size { length seen.new.items ≡ g.now.n }
-    ensures counts { result ≡ true → (v : ℕ) → number (slice_index_or seen.new.items v false)
-        ≡ number (slice_index_or seen.old.items v false) + ends_at v (edge_at (graph g.now) e) }
+    ensures counts { result ≡ true → (v : ℕ) → bool_number (slice_index_or seen.new.items v false)
+        ≡ bool_number (slice_index_or seen.old.items v false) + ends_at v (edge_at (graph g.now) e) }
 {
     let edge = g.edges[e as usize];
     if seen[edge.u as usize] || seen[edge.v as usize] {

@@ -6,7 +6,7 @@ ghost use Rattle.std.specs.Vec.{vec_capacity};
 ghost use Rattle.def_matching.specs.Matching.{graph};
 ghost use Rattle.def_forest.specs.Darts.{Dart, darts_of, far};
 ghost use Rattle.def_forest.specs.Forests.{walk};
-ghost use Rattle.def_forest.specs.Tables.{forest_of, kind_of, IsValidFor};
+ghost use Rattle.def_forest.specs.Tables.{forest_of, edge_kind, IsValidFor};
 ghost use Rattle.def_forest.specs.declared.kinds.EdgeKind.TheVariants.{Augment, Grow, Shrink};
 ghost use Rattle.def_forest.specs.declared.kinds.Label.TheVariants.{Inner};
 ghost use Rattle.search_laws.specs.Keys.{AreRightAt, IsMended};
@@ -22,7 +22,7 @@ impl Search {
     pub(crate) fn grow(&mut self, g: &WGraph, e: u32)
         requires way { IsUnderWay (graph g.now) self.old }
         requires edge { e < length g.now.edges.items }
-        requires kind { kind_of (graph g.now) (forest_of self.old.forest) e ≡ Grow }
+        requires kind { edge_kind (graph g.now) (forest_of self.old.forest) e ≡ Grow }
         ensures way { IsUnderWay (graph g.now) self.new }
         ensures goes_on { GoesOn g.now.n self.old.forest self.new.forest }
         ensures fewer { steps_left g.now.n (forest_of self.new.forest)
@@ -56,7 +56,7 @@ impl Search {
     pub(crate) fn shrink(&mut self, g: &WGraph, e: u32)
         requires way { IsUnderWay (graph g.now) self.old }
         requires edge { e < length g.now.edges.items }
-        requires kind { kind_of (graph g.now) (forest_of self.old.forest) e ≡ Shrink }
+        requires kind { edge_kind (graph g.now) (forest_of self.old.forest) e ≡ Shrink }
         ensures way { IsUnderWay (graph g.now) self.new }
         ensures goes_on { GoesOn g.now.n self.old.forest self.new.forest }
         ensures fewer { steps_left g.now.n (forest_of self.new.forest)
@@ -165,7 +165,7 @@ impl Search {
     pub(crate) fn augment(&mut self, g: &WGraph, e: u32)
         requires way { IsUnderWay (graph g.now) self.old }
         requires edge { e < length g.now.edges.items }
-        requires kind { kind_of (graph g.now) (forest_of self.old.forest) e ≡ Augment }
+        requires kind { edge_kind (graph g.now) (forest_of self.old.forest) e ≡ Augment }
         ensures idle { IsIdle (graph g.now) self.new }
         ensures ended { HasEnded g.now.n self.old.forest self.new.forest }
         ensures first { self.new.first ≡ self.old.first }

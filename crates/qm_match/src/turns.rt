@@ -3,7 +3,7 @@
 ghost use Rattle.std.specs.Prelude.{◌≡◌, ◌≢◌, ◌+◌, ◌*◌, ◌*ℤ◌, ◌<◌, ◌≤◌, ℕ, pos, length, true, false};
 ghost use Rattle.def_matching.specs.Matching.{graph, matching_cost, IsPerfect};
 ghost use Rattle.def_matching.specs.Dual.{dual, verdict, IsSmallDual};
-ghost use Rattle.def_forest.specs.Tables.{forest_of, kind_of};
+ghost use Rattle.def_forest.specs.Tables.{forest_of, edge_kind};
 ghost use Rattle.def_forest.specs.declared.kinds.EdgeKind.TheVariants.{Idle, Loose};
 ghost use Rattle.search_laws.specs.Keys.{Leaf, no_key, true_key};
 ghost use Rattle.search_laws.specs.Searches.{AreMatchedBefore, steps_left, turns_left};
@@ -42,8 +42,8 @@ impl Search {
     fn step_along(&mut self, g: &WGraph, e: u32) -> bool
         requires way { IsUnderWay (graph g.now) self.old }
         requires edge { e < length g.now.edges.items }
-        requires some { kind_of (graph g.now) (forest_of self.old.forest) e ≢ Loose }
-        requires step { kind_of (graph g.now) (forest_of self.old.forest) e ≢ Idle }
+        requires some { edge_kind (graph g.now) (forest_of self.old.forest) e ≢ Loose }
+        requires step { edge_kind (graph g.now) (forest_of self.old.forest) e ≢ Idle }
         ensures way { result ≡ false → IsUnderWay (graph g.now) self.new }
         ensures goes_on { result ≡ false → GoesOn g.now.n self.old.forest self.new.forest }
         ensures fewer { result ≡ false → steps_left g.now.n (forest_of self.new.forest)

@@ -7,7 +7,7 @@ ghost use Rattle.std.specs.List.{list_all};
 ghost use Rattle.def_flow.specs.Network.{network, IsWithinBounds};
 ghost use Rattle.def_flow.specs.Admissible.{entries, IsAdmissible, IsBalanced};
 ghost use Rattle.qm_net.specs.Balance.{signed, weighed, weighed_arc, AreBalances, IsBlockBalanced};
-ghost use Rattle.def_flow.specs.Admissible.{AreLengths};
+ghost use Rattle.def_flow.specs.Admissible.{AreNetLengths};
 
 use def_flow::{Arc, End, MAX_LENGTH, Net};
 
@@ -19,7 +19,7 @@ const BLOCK: usize = 2048;
 /// It takes no memory, so it goes over the arcs once for each block of 2048 nodes.
 pub fn admissible(net: &Net, x: &[u64]) -> bool
     requires bounds { IsWithinBounds (network net.now) }
-    requires lengths { AreLengths net.now.arcs.items x.now }
+    requires lengths { AreNetLengths net.now.arcs.items x.now }
     ensures { IsTrue result ↔ IsAdmissible (network net.now) (entries x.now) }
 {
     are_high(net.floor, x) && are_balanced(net, x)
@@ -35,7 +35,7 @@ fn are_high(floor: u32, x: &[u64]) -> bool
 /// Whether both sides of each node have equal sums.
 fn are_balanced(net: &Net, x: &[u64]) -> bool
     requires bounds { IsWithinBounds (network net.now) }
-    requires lengths { AreLengths net.now.arcs.items x.now }
+    requires lengths { AreNetLengths net.now.arcs.items x.now }
     ensures { IsTrue result ↔ IsBalanced net.now.arcs.items (entries x.now) }
 {
     let nodes = net.nodes as usize;
@@ -52,7 +52,7 @@ fn are_balanced(net: &Net, x: &[u64]) -> bool
 /// Whether both sides of each node of a block have equal sums.
 fn is_block_balanced(net: &Net, x: &[u64], first: usize) -> bool
     requires few { length net.now.arcs.items < 2 ^ 32 }
-    requires lengths { AreLengths net.now.arcs.items x.now }
+    requires lengths { AreNetLengths net.now.arcs.items x.now }
     requires low { first < 2 ^ 32 }
     ensures { IsTrue result ↔ IsBlockBalanced net.now.arcs.items x.now first (first + 2048) }
 {
@@ -71,7 +71,7 @@ fn are_zero(numbers: &[i128]) -> bool
 /// Weighs the lengths of all arcs at the nodes of a block.
 fn weigh_arcs(net: &Net, x: &[u64], first: usize, balances: &mut [i128])
     requires few { length net.now.arcs.items < 2 ^ 32 }
-    requires lengths { AreLengths net.now.arcs.items x.now }
+    requires lengths { AreNetLengths net.now.arcs.items x.now }
     requires low { first < 2 ^ 32 }
     requires start { balances.old ≡ replicate 2048 (pos 0) }
     ensures { AreBalances net.now.arcs.items x.now first (length net.now.arcs.items) balances.new }

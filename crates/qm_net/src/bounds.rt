@@ -3,7 +3,7 @@
 ghost use Rattle.std.specs.Prelude.{◌≡◌, ◌↔◌, ◌&&◌, IsTrue, nat_le};
 ghost use Rattle.std.specs.List.{list_all};
 ghost use Rattle.def_flow.specs.Network.{network, is_bounded, IsWithinBounds};
-ghost use Rattle.def_flow.specs.Admissible.{AreLengths};
+ghost use Rattle.def_flow.specs.Admissible.{AreNetLengths};
 
 use def_flow::{Arc, MAX_FLOOR, MAX_LENGTH, MAX_OLD, MAX_SCALE, MAX_WEIGHT, Net};
 
@@ -44,7 +44,7 @@ fn is_bounded_arc(nodes: u32, arc: &Arc) -> bool
 
 /// Whether there is one length for each arc, none above 10^12. Linear.
 pub fn are_lengths(net: &Net, x: &[u64]) -> bool
-    ensures { IsTrue result ↔ AreLengths net.now.arcs.items x.now }
+    ensures { IsTrue result ↔ AreNetLengths net.now.arcs.items x.now }
 {
     x.len() == net.arcs.len() && x.iter().all(|length| *length <= MAX_LENGTH)
 }

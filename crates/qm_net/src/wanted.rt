@@ -4,14 +4,14 @@ ghost use Rattle.std.specs.Prelude.{◌≡◌, ◌+◌, ◌*◌, ◌^◌, ◌≤
 ghost use Rattle.def_flow.specs.Network.{network, IsWithinBounds};
 ghost use Rattle.def_flow.specs.Admissible.{entries};
 ghost use Rattle.def_flow.specs.Admissible.{deviation as total_deviation, arc_deviation as deviation_of_arc};
-ghost use Rattle.def_flow.specs.Admissible.{AreLengths};
+ghost use Rattle.def_flow.specs.Admissible.{AreNetLengths};
 
 use def_flow::{Arc, MAX_OLD, MAX_SCALE, MAX_WEIGHT, Net};
 
 /// How far a list of lengths is from what is wanted: the sum over the arcs of `weight * |q * x - p * old|`. Linear.
 pub fn deviation(net: &Net, x: &[u64]) -> i128
     requires bounds { IsWithinBounds (network net.now) }
-    requires lengths { AreLengths net.now.arcs.items x.now }
+    requires lengths { AreNetLengths net.now.arcs.items x.now }
     ensures { result ≡ pos (total_deviation (network net.now) (entries x.now)) }
 {
     let mut all = 0u128;

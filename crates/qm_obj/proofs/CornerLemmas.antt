@@ -5,8 +5,8 @@ use Rattle.std.specs.List.{before_first, list_all, list_any, onto_first, positio
 use Rattle.std.proofs.lemmas.Bool.{and_left, and_parts, and_right, eqb-true, false≢true, leb-true, lt-leb, ne_eqb, or_cases, or_from}
 use Rattle.std.proofs.lemmas.List.{take_all}
 use Rattle.std.proofs.lemmas.Bool.Decides.{nat_tests}
-use Rattle.def_text.specs.Corner.{are_indices, index_of, is_corner, is_optional, is_slash, used_index}
-use Rattle.def_text.specs.Digits.{is_negative, is_number, is_sign, is_signed, number, unsigned}
+use Rattle.def_text.specs.Corner.{are_indices, index_of, is_corner_word, is_optional, is_slash, used_index}
+use Rattle.def_text.specs.Digits.{is_negative, is_number, is_sign, is_signed, number_written, unsigned}
 use Rattle.def_text.specs.declared.index.Index.TheVariants.{Vertex, Out}
 use Rattle.qm_obj.specs.Indices.{clamped, corner_of, named, parts_behind}
 
@@ -87,20 +87,20 @@ two_parts [] = refl
 two_parts (_ ∷ word) = two_words word
 
 -- A corner by its first index and what stands behind it.
-pub corner_parts : (word : List ℕ) → is_corner word
+pub corner_parts : (word : List ℕ) → is_corner_word word
     ≡ (is_signed (before_first is_slash word) && (leb (length (parts_behind (drop (position_or_len is_slash word) word))) 2 && list_all is_optional (parts_behind (drop (position_or_len is_slash word) word))))
 corner_parts word = ap are_indices (split_word word)
 
 -- The line that an index names, by its clamped number.
 pub named_count : (before : ℕ) (word : List ℕ) → before < 2 ^ 32
-    → cond (eqb (min (number (unsigned word)) (2 ^ 64 - 1)) 0 || (is_negative word && ltb before (min (number (unsigned word)) (2 ^ 64 - 1)))) 0
-    (cond (is_negative word) (before + 1 - min (number (unsigned word)) (2 ^ 64 - 1)) (min (number (unsigned word)) (2 ^ 64 - 1))) ≡ named before word
+    → cond (eqb (min (number_written (unsigned word)) (2 ^ 64 - 1)) 0 || (is_negative word && ltb before (min (number_written (unsigned word)) (2 ^ 64 - 1)))) 0
+    (cond (is_negative word) (before + 1 - min (number_written (unsigned word)) (2 ^ 64 - 1)) (min (number_written (unsigned word)) (2 ^ 64 - 1))) ≡ named before word
 named_count before word small = grind (arith, nat_tests)
 
 -- An index by the line that it names.
 pub index_named : (all before : ℕ) (word : List ℕ) → before ≤ all → all < 2 ^ 32 → is_signed word ≡ true
     → cond (eqb (named before word) 0 || ltb all (named before word)) Out (Vertex (named before word)) ≡ index_of all before word
-index_named all before word le small form = rw form (by_number (number (unsigned word)) (is_negative word))
+index_named all before word le small form = rw form (by_number (number_written (unsigned word)) (is_negative word))
   where
     by_number : (n : ℕ) (t : Bool)
         → cond (eqb (cond (eqb n 0 || (t && ltb before n)) 0 (min (cond t (before + 1 - n) n) (2 ^ 64 - 1))) 0 || ltb all (cond (eqb n 0 || (t && ltb before n)) 0 (min (cond t (before + 1 - n) n) (2 ^ 64 - 1)))) Out
@@ -137,21 +137,21 @@ whole_word ds none = take_all _ _ (long ds none)
         by_slash false none again = omega (arith, again none)
 
 -- A number alone is a corner.
-pub plain_corner : (before : ℕ) (word : List ℕ) (k corner : ℕ) → cond (is_number word) (Some (min (number word) (2 ^ 64 - 1))) None ≡ Some k → corner ≡ clamped k
-    → Some corner ≡ cond (is_corner word) (Some (corner_of before word)) None
+pub plain_corner : (before : ℕ) (word : List ℕ) (k corner : ℕ) → cond (is_number word) (Some (min (number_written word) (2 ^ 64 - 1))) None ≡ Some k → corner ≡ clamped k
+    → Some corner ≡ cond (is_corner_word word) (Some (corner_of before word)) None
 plain_corner before [] k corner is clamps = cc is
 plain_corner before (b ∷ bs) k corner is clamps = by_form (is_number (b ∷ bs)) refl is
   where
-    by_form : (t : Bool) → is_number (b ∷ bs) ≡ t → cond t (Some (min (number (b ∷ bs)) (2 ^ 64 - 1))) None ≡ Some k → Some corner ≡ cond (is_corner (b ∷ bs)) (Some (corner_of before (b ∷ bs))) None
+    by_form : (t : Bool) → is_number (b ∷ bs) ≡ t → cond t (Some (min (number_written (b ∷ bs)) (2 ^ 64 - 1))) None ≡ Some k → Some corner ≡ cond (is_corner_word (b ∷ bs)) (Some (corner_of before (b ∷ bs))) None
     by_form false form is = cc is
     by_form true form is =
-        let value : min (number (b ∷ bs)) (2 ^ 64 - 1) ≡ k = cc is in
+        let value : min (number_written (b ∷ bs)) (2 ^ 64 - 1) ≡ k = cc is in
         let index : (unsigned (b ∷ bs) ≡ b ∷ bs) × (is_negative (b ∷ bs) ≡ false) = digits_index b bs form in
         let none : list_any is_slash (b ∷ bs) ≡ false = no_slash (b ∷ bs) form in
         let used : used_index (b ∷ bs) ≡ b ∷ bs = whole_word (b ∷ bs) none in
         let signed : is_signed (b ∷ bs) ≡ true = ap is_number index.0 ∙ form in
-        let shape : is_corner (b ∷ bs) ≡ true = ap are_indices (behind_none (b ∷ bs) none) ∙ rw signed refl in
-        let line : named before (b ∷ bs) ≡ k = named_digits (number (unsigned (b ∷ bs))) (is_negative (b ∷ bs)) index.1 ∙ ap (λ n. min n (2 ^ 64 - 1)) (ap number index.0) ∙ value in
+        let shape : is_corner_word (b ∷ bs) ≡ true = ap are_indices (behind_none (b ∷ bs) none) ∙ rw signed refl in
+        let line : named before (b ∷ bs) ≡ k = named_digits (number_written (unsigned (b ∷ bs))) (is_negative (b ∷ bs)) index.1 ∙ ap (λ n. min n (2 ^ 64 - 1)) (ap number_written index.0) ∙ value in
         rw shape (ap Some (clamps ∙ ap clamped (sym (ap (named before) used ∙ line))))
       where
         named_digits : (n : ℕ) (t : Bool) → t ≡ false → cond (eqb n 0 || (t && ltb before n)) 0 (min (cond t (before + 1 - n) n) (2 ^ 64 - 1)) ≡ min n (2 ^ 64 - 1)

@@ -3,7 +3,7 @@ use Rattle.std.proofs.Common.{◌≡◌, ℕ, suc, ◌+◌, Bool, true, false, c
 use Rattle.std.specs.List.{before_first, flat_map}
 use Rattle.std.proofs.lemmas.List.{append-nil, length-append}
 use Rattle.def_io.specs.Bytes.{Lines}
-use Rattle.def_text.specs.Logical.{continues, first_group, groups_of, is_hash, joined, logical, logical_lines, numbered, part_of, with_line, with_space}
+use Rattle.def_text.specs.Logical.{continues, first_group, groups_of, is_hash, joined, logical, logical_lines, numbered_groups, part_of, with_line, with_space}
 use Rattle.qm_obj.specs.Ahead.{size_ahead, span, text_ahead}
 use Rattle.qm_obj.specs.Lines.{first_logical}
 
@@ -68,6 +68,6 @@ logical_step number line lines =
     let first : logical number (prefix all) ≡ first_logical number all =
     ap (λ n. record { number = number; size = n; text = joined (prefix all) }) (prefix_size all)
     ∙ ap (λ text. record { number = number; size = size_ahead all; text = text }) (prefix_text all) in
-    ap (numbered number) (groups_step line lines)
-    ∙ ap (λ n. logical number (prefix all) ∷ numbered (number + n) rest) (prefix_span all)
-    ∙ ap (λ l. l ∷ numbered (number + span all) rest) first
+    ap (numbered_groups number) (groups_step line lines)
+    ∙ ap (λ n. logical number (prefix all) ∷ numbered_groups (number + n) rest) (prefix_span all)
+    ∙ ap (λ l. l ∷ numbered_groups (number + span all) rest) first

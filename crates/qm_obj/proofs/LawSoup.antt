@@ -11,14 +11,14 @@ use Rattle.std.proofs.lemmas.List.Folds.{flat_map-map}
 use Rattle.std.proofs.lemmas.List.Sums.{sum_by_push}
 use Rattle.std.proofs.lemmas.Fmt.{decimal_nonempty}
 use Rattle.def_text.specs.Canonical.{canonical_text, face_text, micro_text, position_text}
-use Rattle.def_text.specs.Corner.{are_indices, is_corner, is_out, is_slash, resolved, used_index}
+use Rattle.def_text.specs.Corner.{are_indices, is_corner_word, is_out, is_slash, resolved, used_index}
 use Rattle.def_text.specs.Decimal.{is_decimal, is_far, rounded}
-use Rattle.def_text.specs.Digits.{is_negative, is_number, is_signed, number, unsigned}
+use Rattle.def_text.specs.Digits.{is_negative, is_number, is_signed, number_written, unsigned}
 use Rattle.def_mesh.specs.Vertices.{is_used}
 use Rattle.def_text.specs.FaceSet.{FaceSet, IsSoup}
 use Rattle.def_text.specs.Logical.{Logical, logical_lines}
 use Rattle.def_text.specs.Reading.{begins_with, is_face_line, is_position_count, is_vertex_line, reading, words_reading}
-use Rattle.def_text.specs.Text.{face_in, face_set, faces, first_refusal, late_in, numbers_to, position_in, position_of, readings, refusal_in, soup_of, text_soup, used_to, vertex_of}
+use Rattle.def_text.specs.Text.{face_in, face_set, faces, first_refusal, late_in, numbers_to, position_in, position_of, readings, refusal_in, soup_of, text_soup, used_to, line_vertex}
 use Rattle.def_text.specs.Words.{words}
 use Rattle.def_text.specs.declared.reading.Reading.{Reading}
 use Rattle.def_text.specs.declared.reading.Reading.TheVariants.{Position, Face, Refused}
@@ -113,22 +113,22 @@ position_said vertices faces n position few is =
 
 -- The words of a face.
 record NamesVertex (vertices : ℕ) (word : List ℕ) (n : ℕ) : Type 0 where
-  form : is_corner word ≡ true
+  form : is_corner_word word ≡ true
   inside : is_out vertices (used_index word) ≡ false
   names : resolved vertices (used_index word) ≡ n
 
 names_vertex : (vertices n : ℕ) → 0 < n → n < 2 ^ 64 → NamesVertex vertices (decimal n) n
 names_vertex vertices n some small = by_word (decimal n) (decimal_digits n small) (decimal_nonempty n small) (decimal_number n small)
   where
-    by_word : (word : List ℕ) → list_all is_ascii_digit word ≡ true → 0 < length word → number word ≡ n → NamesVertex vertices word n
+    by_word : (word : List ℕ) → list_all is_ascii_digit word ≡ true → 0 < length word → number_written word ≡ n → NamesVertex vertices word n
     by_word [] all long value = absurd (omega arith)
     by_word (b ∷ bs) all long value =
         let index : (unsigned (b ∷ bs) ≡ b ∷ bs) × (is_negative (b ∷ bs) ≡ false) = digits_index b bs all in
         let none : list_any is_slash (b ∷ bs) ≡ false = no_slash (b ∷ bs) all in
         let used : used_index (b ∷ bs) ≡ b ∷ bs = whole_word (b ∷ bs) none in
         let signed : is_signed (b ∷ bs) ≡ true = ap is_number index.0 ∙ all in
-        let value' : number (unsigned (b ∷ bs)) ≡ n = ap number index.0 ∙ value in
-        let other : eqb (number (unsigned (b ∷ bs))) 0 ≡ false = ne_eqb _ _ (λ (e : number (unsigned (b ∷ bs)) ≡ 0). omega arith) in
+        let value' : number_written (unsigned (b ∷ bs)) ≡ n = ap number_written index.0 ∙ value in
+        let other : eqb (number_written (unsigned (b ∷ bs))) 0 ≡ false = ne_eqb _ _ (λ (e : number_written (unsigned (b ∷ bs)) ≡ 0). omega arith) in
         record {
           form = ap are_indices (behind_none (b ∷ bs) none) ∙ rw signed refl;
           inside = ap (is_out vertices) used ∙ or_from _ _ other (rw index.1 refl);
@@ -136,13 +136,13 @@ names_vertex vertices n some small = by_word (decimal n) (decimal_digits n small
         }
 
 face_back : (vertices : ℕ) (face : List ℕ) → vertices ≤ 2 ^ 21 → are_below vertices face ≡ true
-    → (list_all is_corner (map vertex_word face) ≡ true) × (list_any (λ w. is_out vertices (used_index w)) (map vertex_word face) ≡ false) × (map (λ w. resolved vertices (used_index w)) (map vertex_word face) ≡ map (λ v. v + 1) face)
+    → (list_all is_corner_word (map vertex_word face) ≡ true) × (list_any (λ w. is_out vertices (used_index w)) (map vertex_word face) ≡ false) × (map (λ w. resolved vertices (used_index w)) (map vertex_word face) ≡ map (λ v. v + 1) face)
 face_back vertices [] few all = (refl, refl, refl)
 face_back vertices (v ∷ vs) few all =
     let parts : (ltb v vertices ≡ true) × (are_below vertices vs ≡ true) = and_parts _ _ all in
     let low : v < vertices = ltb-true _ _ parts.0 in
     let first : NamesVertex vertices (vertex_word v) (v + 1) = names_vertex vertices (v + 1) (omega arith) (omega arith) in
-    let again : (list_all is_corner (map vertex_word vs) ≡ true) × (list_any (λ w. is_out vertices (used_index w)) (map vertex_word vs) ≡ false) × (map (λ w. resolved vertices (used_index w)) (map vertex_word vs) ≡ map (λ v. v + 1) vs) = face_back vertices vs few parts.1 in
+    let again : (list_all is_corner_word (map vertex_word vs) ≡ true) × (list_any (λ w. is_out vertices (used_index w)) (map vertex_word vs) ≡ false) × (map (λ w. resolved vertices (used_index w)) (map vertex_word vs) ≡ map (λ v. v + 1) vs) = face_back vertices vs few parts.1 in
     (and_from _ _ first.form again.0, or_from _ _ first.inside again.1, rw (first.names, again.2) refl)
 
 face_words : (vertices : ℕ) (face : List ℕ) → vertices ≤ 2 ^ 21 → are_below vertices face ≡ true → (k : ℕ) → k < length (map vertex_word face) → IsWord (get_or (map vertex_word face) k [])
@@ -159,7 +159,7 @@ face_said : (vertices faces n : ℕ) (face : List ℕ) → vertices ≤ 2 ^ 21 �
     → reading vertices faces (record { number = n; size = length (face_line face); text = face_line face }) ≡ Face n (map (λ v. v + 1) face)
 face_said vertices faces n face few room is all =
     let four : eqb (length (map vertex_word face)) 4 ≡ true = ap (λ m. eqb m 4) (length-map face vertex_word) ∙ is in
-    let back : (list_all is_corner (map vertex_word face) ≡ true) × (list_any (λ w. is_out vertices (used_index w)) (map vertex_word face) ≡ false) × (map (λ w. resolved vertices (used_index w)) (map vertex_word face) ≡ map (λ v. v + 1) face) = face_back vertices face few all in
+    let back : (list_all is_corner_word (map vertex_word face) ≡ true) × (list_any (λ w. is_out vertices (used_index w)) (map vertex_word face) ≡ false) × (map (λ w. resolved vertices (used_index w)) (map vertex_word face) ≡ map (λ v. v + 1) face) = face_back vertices face few all in
     let short : ltb 65536 (length (face_line face)) ≡ false = le-ltb _ _ (face_line_is vertices face few is all).short in
     by_size (ltb 65536 (length (face_line face))) short
     (ap (words_reading n vertices faces) (line_words 102 (map vertex_word face) refl (face_words vertices face few all))
@@ -308,15 +308,15 @@ positions_back ps =
     get_or-map (position_of ps) (numbers_to (length ps)) k 0 d (omega (arith, length-numbers_to (length ps)))
     ∙ ap (position_of ps) (numbers_at (length ps) k there) ∙ ap (λ j. get_or ps j []) e ∙ get_or_default ps k [] d there)
 
-corners_back : (fs : Faces) (n : ℕ) → AllUsed fs n → (face : List ℕ) → are_below n face ≡ true → map (vertex_of fs) (map (λ v. v + 1) face) ≡ face
+corners_back : (fs : Faces) (n : ℕ) → AllUsed fs n → (face : List ℕ) → are_below n face ≡ true → map (line_vertex fs) (map (λ v. v + 1) face) ≡ face
 corners_back fs n used [] all = refl
 corners_back fs n used (v ∷ vs) all =
     let parts : (ltb v n ≡ true) × (are_below n vs ≡ true) = and_parts _ _ all in
     let e : v + 1 - 1 ≡ v = omega arith in
-    let first : vertex_of fs (v + 1) ≡ v = ap (λ k. length (used_to fs k)) e ∙ ap length (used.kept v (omega (arith, ltb-true v n parts.0))) ∙ length-numbers_to v in
+    let first : line_vertex fs (v + 1) ≡ v = ap (λ k. length (used_to fs k)) e ∙ ap length (used.kept v (omega (arith, ltb-true v n parts.0))) ∙ length-numbers_to v in
     rw (first, corners_back fs n used vs parts.1) refl
 
-faces_back : (fs : Faces) (n : ℕ) → AllUsed fs n → (some : Faces) → list_all (are_below n) some ≡ true → map (λ corners. map (vertex_of fs) corners) (map (λ f. map (λ v. v + 1) f) some) ≡ some
+faces_back : (fs : Faces) (n : ℕ) → AllUsed fs n → (some : Faces) → list_all (are_below n) some ≡ true → map (λ corners. map (line_vertex fs) corners) (map (λ f. map (λ v. v + 1) f) some) ≡ some
 faces_back fs n used [] all = refl
 faces_back fs n used (f ∷ rest) all =
     let parts : (are_below n f ≡ true) × (list_all (are_below n) rest ≡ true) = and_parts _ _ all in

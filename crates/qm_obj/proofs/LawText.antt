@@ -11,7 +11,8 @@ use Rattle.std.proofs.lemmas.List.Folds.{list_all-append}
 use Rattle.def_text.specs.Canonical.{fraction_text, micro_text, minus_text, six_digits, without_zeros}
 use Rattle.qm_obj.proofs.Groups.{logical_step}
 use Rattle.def_text.specs.Logical.{Logical, continues, is_hash, logical_lines}
-use Rattle.def_text.specs.Words.{ends_word, in_front, is_blank, words}
+use Rattle.def_io.specs.Lines.{byte_in_front}
+use Rattle.def_text.specs.Words.{ends_word, is_blank, words}
 use Rattle.def_io.specs.Lines.{line_of, lines_of, pieces, without_last}
 use Rattle.qm_obj.proofs.ListLemmas.{passes_at}
 use Rattle.qm_dec.proofs.Texts.{decimal_digits}
@@ -121,7 +122,7 @@ word_then b (c ∷ cs) rest plain ends =
     by_tests (is_blank b) (is_blank c) bare next (word_then c cs rest parts.1 ends)
   where
     by_tests : (t u : Bool) → t ≡ false → u ≡ false → words (c ∷ cs ++ rest) ≡ (c ∷ cs) ∷ words rest
-        → cond t (words (c ∷ cs ++ rest)) (cond u ((b ∷ []) ∷ words (c ∷ cs ++ rest)) (in_front b (words (c ∷ cs ++ rest)))) ≡ (b ∷ c ∷ cs) ∷ words rest
+        → cond t (words (c ∷ cs ++ rest)) (cond u ((b ∷ []) ∷ words (c ∷ cs ++ rest)) (byte_in_front b (words (c ∷ cs ++ rest)))) ≡ (b ∷ c ∷ cs) ∷ words rest
     by_tests t u off stays again = rw (off, stays, again) refl
 
 words_behind : (ws : Words) → ((k : ℕ) → k < length ws → IsWord (get_or ws k [])) → words (flat_map (λ w. 32 ∷ w) ws) ≡ ws
@@ -133,7 +134,7 @@ words_behind ((b ∷ bs) ∷ ws) each =
 pub line_words : (letter : ℕ) (ws : Words) → is_blank letter ≡ false → ((k : ℕ) → k < length ws → IsWord (get_or ws k [])) → words (line_text letter ws) ≡ (letter ∷ []) ∷ ws
 line_words letter ws bare each = by_tests (is_blank letter) bare
   where
-    by_tests : (t : Bool) → t ≡ false → cond t (words (flat_map (λ w. 32 ∷ w) ws)) (cond (ends_word (flat_map (λ w. 32 ∷ w) ws)) ((letter ∷ []) ∷ words (flat_map (λ w. 32 ∷ w) ws)) (in_front letter (words (flat_map (λ w. 32 ∷ w) ws)))) ≡ (letter ∷ []) ∷ ws
+    by_tests : (t : Bool) → t ≡ false → cond t (words (flat_map (λ w. 32 ∷ w) ws)) (cond (ends_word (flat_map (λ w. 32 ∷ w) ws)) ((letter ∷ []) ∷ words (flat_map (λ w. 32 ∷ w) ws)) (byte_in_front letter (words (flat_map (λ w. 32 ∷ w) ws)))) ≡ (letter ∷ []) ∷ ws
     by_tests t off = rw (off, blank_next ws) (ap (λ rest. (letter ∷ []) ∷ rest) (words_behind ws each))
 
 -- Its bytes are tame, and it is short.

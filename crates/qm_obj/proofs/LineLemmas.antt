@@ -3,7 +3,7 @@ use Rattle.std.proofs.Common.{◌≡◌, ℕ, ℤ, ◌^◌, ◌≤◌, Bool, tru
 use Rattle.std.specs.List.{list_all, list_any}
 use Rattle.std.proofs.lemmas.Bool.{or_parts}
 use Rattle.std.proofs.lemmas.Bool.Decides.{nat_tests}
-use Rattle.def_text.specs.Corner.{is_corner, is_out, resolved, used_index}
+use Rattle.def_text.specs.Corner.{is_corner_word, is_out, resolved, used_index}
 use Rattle.def_text.specs.Decimal.{is_decimal, is_far, rounded}
 use Rattle.def_text.specs.Reading.{face_reading, is_position_count, vertex_reading}
 use Rattle.def_text.specs.declared.reading.Reading.TheVariants.{Position, Face, Refused}
@@ -51,16 +51,16 @@ vertex_far line vertices ws few right is =
     grind (arith, sym (all_coordinates (take 3 ws)) ∙ is) ∙ sym (vertex_rest line vertices ws few right)
 
 -- An `f` line with a word that is no corner, and one with another number of corners.
-pub face_syntax : (line vertices faces : ℕ) (ws : Words) → leb (2 ^ 20) faces ≡ false → list_all is_corner ws ≡ false
+pub face_syntax : (line vertices faces : ℕ) (ws : Words) → leb (2 ^ 20) faces ≡ false → list_all is_corner_word ws ≡ false
     → Refused (Syntax line) ≡ with_clamped (face_reading line vertices faces ws)
 face_syntax line vertices faces ws few bad = rw (few, bad) refl
 
-pub face_count : (line vertices faces : ℕ) (ws : Words) → leb (2 ^ 20) faces ≡ false → list_all is_corner ws ≡ true → eqb (length ws) 4 ≡ false
+pub face_count : (line vertices faces : ℕ) (ws : Words) → leb (2 ^ 20) faces ≡ false → list_all is_corner_word ws ≡ true → eqb (length ws) 4 ≡ false
     → Refused (NotQuad line (length ws)) ≡ with_clamped (face_reading line vertices faces ws)
 face_count line vertices faces ws few corners other = rw (few, corners, other) refl
 
 -- An `f` line of four corners.
-pub face_rest : (line vertices faces : ℕ) (ws : Words) → leb (2 ^ 20) faces ≡ false → list_all is_corner ws ≡ true → eqb (length ws) 4 ≡ true
+pub face_rest : (line vertices faces : ℕ) (ws : Words) → leb (2 ^ 20) faces ≡ false → list_all is_corner_word ws ≡ true → eqb (length ws) 4 ≡ true
     → face_reading line vertices faces ws ≡ cond (list_any (λ w. is_out vertices (used_index w)) ws) (Refused (Range line)) (Face line (map (λ w. resolved vertices (used_index w)) ws))
 face_rest line vertices faces ws few corners four = rw (few, corners, four) refl
 
@@ -81,13 +81,13 @@ all_in vertices (w ∷ ws) inside =
     let parts : (is_out vertices (used_index w) ≡ false) × (list_any (λ w. is_out vertices (used_index w)) ws ≡ false) = or_parts _ _ inside in
     rw (in_clamped vertices w parts.0, all_in vertices ws parts.1) refl
 
-pub face_out : (line vertices faces : ℕ) (ws : Words) → leb (2 ^ 20) faces ≡ false → list_all is_corner ws ≡ true → eqb (length ws) 4 ≡ true
+pub face_out : (line vertices faces : ℕ) (ws : Words) → leb (2 ^ 20) faces ≡ false → list_all is_corner_word ws ≡ true → eqb (length ws) 4 ≡ true
     → list_any (λ corner. eqb corner 0) (map (corner_of vertices) ws) ≡ true → Refused (Range line) ≡ with_clamped (face_reading line vertices faces ws)
 face_out line vertices faces ws few corners four out =
     sym (ap with_clamped (face_rest line vertices faces ws few corners four)
     ∙ ap (λ t. with_clamped (cond t (Refused (Range line)) (Face line (map (λ w. resolved vertices (used_index w)) ws)))) (sym (any_out vertices ws) ∙ out))
 
-pub face_in : (line vertices faces : ℕ) (ws : Words) → leb (2 ^ 20) faces ≡ false → list_all is_corner ws ≡ true → eqb (length ws) 4 ≡ true
+pub face_in : (line vertices faces : ℕ) (ws : Words) → leb (2 ^ 20) faces ≡ false → list_all is_corner_word ws ≡ true → eqb (length ws) 4 ≡ true
     → list_any (λ corner. eqb corner 0) (map (corner_of vertices) ws) ≡ false → Face line (map (corner_of vertices) ws) ≡ with_clamped (face_reading line vertices faces ws)
 face_in line vertices faces ws few corners four inside =
     let none : list_any (λ w. is_out vertices (used_index w)) ws ≡ false = sym (any_out vertices ws) ∙ inside in

@@ -4,9 +4,9 @@ use Rattle.std.specs.List.{before_first, flat_map, list_any}
 use Rattle.std.proofs.lemmas.Bool.{and_parts, not-true, or_from}
 use Rattle.std.proofs.lemmas.List.{append-nil, append_assoc, length-append}
 use Rattle.std.proofs.lemmas.List.Folds.{list_any-append}
-use Rattle.def_feed.specs.Kept.{Kept, logical_behind, with_front, with_joined}
+use Rattle.def_feed.specs.Kept.{KeptText, logical_behind, with_front, with_joined}
 use Rattle.def_io.specs.Bytes.{Bytes, Lines}
-use Rattle.def_text.specs.Logical.{Logical, continues, groups_of, is_hash, joined, logical, logical_lines, numbered, part_of, with_line, with_space}
+use Rattle.def_text.specs.Logical.{Logical, continues, groups_of, is_hash, joined, logical, logical_lines, numbered_groups, part_of, with_line, with_space}
 use Rattle.qm_obj.specs.Ahead.{size_ahead}
 use Rattle.qm_obj.specs.Feeding.{number_by}
 use Rattle.qm_obj.specs.Lines.{first_logical, uncommented}
@@ -41,7 +41,7 @@ logical_goes_on number line lines on = by_groups (groups_of lines)
         ap (λ n. record { number = number; size = n; text = part_of line ++ joined group }) size
         ∙ ap (λ text. record { number = number; size = length (with_space line) + length (flat_map (λ l. l) group); text = text ++ joined group }) part
 
-    by_groups : (groups : List Lines) → numbered number (with_line line groups) ≡ with_front number (with_space line) (numbered (number + 1) groups)
+    by_groups : (groups : List Lines) → numbered_groups number (with_line line groups) ≡ with_front number (with_space line) (numbered_groups (number + 1) groups)
     by_groups [] =
         let none : with_space line ++ [] ≡ with_space line = append-nil (with_space line) in
         let size : length (with_space line) + 0 ≡ length (with_space line) = omega arith in
@@ -49,8 +49,8 @@ logical_goes_on number line lines on = by_groups (groups_of lines)
         ∙ ap (λ text. record { number = number; size = length (with_space line); text = text }) none)
     by_groups (group ∷ groups) =
         let n : number + suc (length group) ≡ number + 1 + length group = omega arith in
-        ap (numbered number) (by_more (continues line) on) ∙ ap (λ l. l ∷ numbered (number + suc (length group)) groups) (first group)
-        ∙ ap (λ m. record { number = number; size = length (with_space line) + length (flat_map (λ l. l) group); text = with_space line ++ joined group } ∷ numbered m groups) n
+        ap (numbered_groups number) (by_more (continues line) on) ∙ ap (λ l. l ∷ numbered_groups (number + suc (length group)) groups) (first group)
+        ∙ ap (λ m. record { number = number; size = length (with_space line) + length (flat_map (λ l. l) group); text = with_space line ++ joined group } ∷ numbered_groups m groups) n
       where
         by_more : (t : Bool) → t ≡ true → cond t ((line ∷ group) ∷ groups) ((line ∷ []) ∷ group ∷ groups) ≡ (line ∷ group) ∷ groups
         by_more t is = grind (arith)
@@ -90,7 +90,7 @@ begins_prefix lines number other least prefix begins = record {
 }
 
 -- The logical line to which a physical line belongs is at least as long as what is joined and that line.
-pub begins_behind : (kept : Kept) (line : Bytes) (lines : Lines) → BeginsWith (logical_behind kept (line ∷ lines)) (number_by kept.joined kept.next kept.begun) (length kept.joined + length line)
+pub begins_behind : (kept : KeptText) (line : Bytes) (lines : Lines) → BeginsWith (logical_behind kept (line ∷ lines)) (number_by kept.joined kept.next kept.begun) (length kept.joined + length line)
 begins_behind kept line lines = by_joined kept.joined
   where
     by_joined : (prefix : Bytes) → BeginsWith (with_joined kept.begun prefix (logical_lines kept.next (line ∷ lines))) (number_by prefix kept.next kept.begun) (length prefix + length line)
@@ -98,7 +98,7 @@ begins_behind kept line lines = by_joined kept.joined
     by_joined (b ∷ bs) = begins_prefix (logical_lines kept.next (line ∷ lines)) kept.begun kept.next (length line) (b ∷ bs) (begins_line kept.next line lines)
 
 -- Behind a line that goes on, what is joined is longer.
-pub behind_held : (kept : Kept) (line : Bytes) (lines : Lines) → continues line ≡ true
+pub behind_held : (kept : KeptText) (line : Bytes) (lines : Lines) → continues line ≡ true
     → logical_behind kept (line ∷ lines) ≡ with_joined (number_by kept.joined kept.next kept.begun) (kept.joined ++ with_space line) (logical_lines (kept.next + 1) lines)
 behind_held kept line lines on = by_joined kept.joined
   where
@@ -113,14 +113,14 @@ behind_held kept line lines on = by_joined kept.joined
         ∙ sym (joined_some kept.begun (b ∷ bs ++ with_space line) (logical_lines (kept.next + 1) lines) (some (b ∷ bs)))
 
 -- A line that ends, alone and behind what is joined.
-pub behind_alone : (kept : Kept) (line : Bytes) (lines : Lines) → continues line ≡ false → kept.joined ≡ []
+pub behind_alone : (kept : KeptText) (line : Bytes) (lines : Lines) → continues line ≡ false → kept.joined ≡ []
     → logical_behind kept (line ∷ lines) ≡ record { number = kept.next; size = length line; text = uncommented line } ∷ logical_lines (kept.next + 1) lines
 behind_alone kept line lines off none =
     ap (λ prefix. with_joined kept.begun prefix (logical_lines kept.next (line ∷ lines))) none
     ∙ logical_ends kept.next line lines off
     ∙ ap (λ text. record { number = kept.next; size = length line; text = text } ∷ logical_lines (kept.next + 1) lines) (sym (uncommented_is line))
 
-pub behind_joined : (kept : Kept) (line : Bytes) (lines : Lines) → continues line ≡ false → 0 < length kept.joined → list_any is_hash kept.joined ≡ false
+pub behind_joined : (kept : KeptText) (line : Bytes) (lines : Lines) → continues line ≡ false → 0 < length kept.joined → list_any is_hash kept.joined ≡ false
     → logical_behind kept (line ∷ lines)
     ≡ record { number = kept.begun; size = length kept.joined + length line; text = uncommented (kept.joined ++ before_first is_hash line) } ∷ logical_lines (kept.next + 1) lines
 behind_joined kept line lines off some bare =
@@ -132,7 +132,7 @@ behind_joined kept line lines off some bare =
     ∙ ap (λ text. record { number = kept.begun; size = length kept.joined + length line; text = text } ∷ logical_lines (kept.next + 1) lines) (sym (uncommented_none (kept.joined ++ behind) none))
 
 -- What is joined, where no line comes behind.
-pub behind_nothing : (kept : Kept) → 0 < length kept.joined → list_any is_hash kept.joined ≡ false
+pub behind_nothing : (kept : KeptText) → 0 < length kept.joined → list_any is_hash kept.joined ≡ false
     → logical_behind kept [] ≡ record { number = kept.begun; size = length kept.joined; text = uncommented kept.joined } ∷ []
 behind_nothing kept some bare =
     joined_some kept.begun kept.joined [] some

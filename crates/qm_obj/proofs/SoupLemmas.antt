@@ -11,7 +11,7 @@ use Rattle.std.proofs.lemmas.List.Kept.{IsStrictlyIncreasing-filter}
 use Rattle.std.proofs.lemmas.List.Sums.{count_by-le-length, length-filter}
 use Rattle.def_mesh.specs.Vertices.{is_used}
 use Rattle.def_text.specs.FaceSet.{IsSoup}
-use Rattle.def_text.specs.Text.{face_set, numbers_to, position_of, used_to, vertex_of}
+use Rattle.def_text.specs.Text.{face_set, numbers_to, position_of, used_to, line_vertex}
 use Rattle.qm_obj.specs.Kept.{are_numbers, first_late}
 use Rattle.def_text.specs.Types.{Positions}
 use Rattle.def_mesh.specs.Faces.{Faces}
@@ -48,7 +48,7 @@ used_grows faces n (suc m) =
     rw e (omega (arith, more, used_grows faces n m))
 
 -- A used number has fewer used ones before it than there are.
-rank_below : (faces : Faces) (n k : ℕ) → 0 < k → k ≤ n → is_used faces k ≡ true → vertex_of faces k < length (used_to faces n)
+rank_below : (faces : Faces) (n k : ℕ) → 0 < k → k ≤ n → is_used faces k ≡ true → line_vertex faces k < length (used_to faces n)
 rank_below faces n (suc k) some le is =
     let e : suc k - 1 ≡ k = omega arith in
     let one : length (used_to faces (suc k)) ≡ length (used_to faces k) + 1 = ap length (used_more faces k) ∙ rw is (length_push (used_to faces k) (suc k)) in
@@ -58,13 +58,13 @@ rank_below faces n (suc k) some le is =
 rank_below faces n zero some le is = absurd (omega arith)
 
 -- The number at a position has as many used ones before it.
-rank_at : (faces : Faces) (n v : ℕ) → v < length (used_to faces n) → vertex_of faces (get_or (used_to faces n) v 0) ≡ v
+rank_at : (faces : Faces) (n v : ℕ) → v < length (used_to faces n) → line_vertex faces (get_or (used_to faces n) v 0) ≡ v
 rank_at faces zero v lt = absurd (omega arith)
 rank_at faces (suc n) v lt = rw (used_more faces n) (by_position (cases_lt v (length (used_to faces n))) (is_used faces (suc n)) refl (λ below. rank_at faces n v below))
   where
     by_position : (v < length (used_to faces n)) ⊎ (length (used_to faces n) ≤ v) → (t : Bool) → is_used faces (suc n) ≡ t
-        → (v < length (used_to faces n) → vertex_of faces (get_or (used_to faces n) v 0) ≡ v)
-        → vertex_of faces (get_or (used_to faces n ++ cond t (suc n ∷ []) []) v 0) ≡ v
+        → (v < length (used_to faces n) → line_vertex faces (get_or (used_to faces n) v 0) ≡ v)
+        → line_vertex faces (get_or (used_to faces n ++ cond t (suc n ∷ []) []) v 0) ≡ v
     by_position (inl below) t is again = rw (get_or_append_left (used_to faces n) (cond t (suc n ∷ []) []) 0 v below) (again below)
     by_position (inr at) true is again =
         let long : length (used_to faces (suc n)) ≡ length (used_to faces n) + 1 = ap length (used_more faces n) ∙ rw is (length_push (used_to faces n) (suc n)) in
@@ -92,14 +92,14 @@ all_used faces = corners_used faces faces (λ f l j m.
 
 -- The renumbered corners are vertices.
 below_all : (faces : Faces) (n : ℕ) (some : Faces) → list_all (are_numbers n) some ≡ true → list_all (list_all (is_used faces)) some ≡ true
-    → list_all (are_below (length (used_to faces n))) (map (λ corners. map (vertex_of faces) corners) some) ≡ true
+    → list_all (are_below (length (used_to faces n))) (map (λ corners. map (line_vertex faces) corners) some) ≡ true
 below_all faces n [] known used = refl
 below_all faces n (x ∷ xs) known used =
     let k : (are_numbers n x ≡ true) × (list_all (are_numbers n) xs ≡ true) = and_parts _ _ known in
     let u : (list_all (is_used faces) x ≡ true) × (list_all (list_all (is_used faces)) xs ≡ true) = and_parts _ _ used in
     and_from _ _ (along x k.0 u.0) (below_all faces n xs k.1 u.1)
   where
-    along : (ys : List ℕ) → are_numbers n ys ≡ true → list_all (is_used faces) ys ≡ true → are_below (length (used_to faces n)) (map (vertex_of faces) ys) ≡ true
+    along : (ys : List ℕ) → are_numbers n ys ≡ true → list_all (is_used faces) ys ≡ true → are_below (length (used_to faces n)) (map (line_vertex faces) ys) ≡ true
     along [] known used = refl
     along (y ∷ ys) known used =
         let k : ((ltb 0 y && leb y n) ≡ true) × (are_numbers n ys ≡ true) = and_parts _ _ known in
@@ -131,8 +131,8 @@ face_set_is_soup positions faces known = record {
   used = λ v l.
       let lt : v < length (used_to faces (length positions)) = subst (λ (m : ℕ). v < m) (length-map (used_to faces (length positions)) (position_of positions)) l in
       let is : is_used faces (get_or (used_to faces (length positions)) v 0) ≡ true = filter_passes (is_used faces) (numbers_to (length positions)) v 0 lt in
-      subst (λ (w : ℕ). is_used (map (λ corners. map (vertex_of faces) corners) faces) w ≡ true) (rank_at faces (length positions) v lt)
-      (used_renumbered (vertex_of faces) (get_or (used_to faces (length positions)) v 0) faces is);
+      subst (λ (w : ℕ). is_used (map (λ corners. map (line_vertex faces) corners) faces) w ≡ true) (rank_at faces (length positions) v lt)
+      (used_renumbered (line_vertex faces) (get_or (used_to faces (length positions)) v 0) faces is);
   named = sym (length-map (used_to faces (length positions)) (position_of positions));
   increasing = IsStrictlyIncreasing-filter (is_used faces) (numbers_to (length positions)) (numbers_rise (length positions));
 }
@@ -169,4 +169,4 @@ few_pos positions faces =
     )
 
 pub same_faces : (positions : Positions) (faces : Faces) → length (face_set positions faces).faces ≡ length faces
-same_faces positions faces = length-map faces (λ corners. map (vertex_of faces) corners)
+same_faces positions faces = length-map faces (λ corners. map (line_vertex faces) corners)

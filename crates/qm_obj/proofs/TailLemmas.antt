@@ -7,7 +7,7 @@ use Rattle.std.proofs.lemmas.List.{append-nil, get_or_push, length-append, lengt
 use Rattle.std.proofs.lemmas.List.Sums.{sum_by-append, sum_by-cons}
 use Rattle.def_feed.specs.Feed.{is_line_feed}
 use Rattle.def_io.specs.Bytes.{Bytes, Lines}
-use Rattle.def_io.specs.Lines.{in_front, line_of, lines_of, pieces, without_last}
+use Rattle.def_io.specs.Lines.{byte_in_front, line_of, lines_of, pieces, without_last}
 
 -- What no element of a list passes, no element passes.
 none_at : (p : ℕ → Bool) (xs : Bytes) (i : ℕ) → list_any p xs ≡ false → i < length xs → p (get_or xs i 0) ≡ false
@@ -37,7 +37,7 @@ pieces_fed : (prefix more : Bytes) → list_any is_line_feed prefix ≡ false �
 pieces_fed [] more none = refl
 pieces_fed (b ∷ bs) more none =
     let parts : (eqb b 10 ≡ false) × (list_any is_line_feed bs ≡ false) = or_parts _ _ none in
-    rw parts.0 (ap (in_front b) (pieces_fed bs more parts.1))
+    rw parts.0 (ap (byte_in_front b) (pieces_fed bs more parts.1))
 
 -- A line that ends.
 pub lines_fed : (prefix more : Bytes) → list_any is_line_feed prefix ≡ false → lines_of (prefix ++ 10 ∷ more) ≡ line_of prefix ∷ lines_of more
@@ -64,7 +64,7 @@ opens (b ∷ c ∷ cs) more none some =
     by_next next = record {
       behind = next.behind;
       rest = next.rest;
-      are = rw (or_parts (eqb b 10) (list_any is_line_feed (c ∷ cs)) none).0 (ap (in_front b) next.are);
+      are = rw (or_parts (eqb b 10) (list_any is_line_feed (c ∷ cs)) none).0 (ap (byte_in_front b) next.are);
     }
 
 -- The first line of a text with these bytes in front.
@@ -98,7 +98,7 @@ lines_open prefix none some = ap (map line_of) (one_piece prefix none some)
     one_piece (b ∷ []) none some = rw (or_parts (eqb b 10) false none).0 refl
     one_piece (b ∷ c ∷ cs) none some =
         let parts : (eqb b 10 ≡ false) × (list_any is_line_feed (c ∷ cs) ≡ false) = or_parts _ _ none in
-        rw parts.0 (ap (in_front b) (one_piece (c ∷ cs) parts.1 (omega arith)))
+        rw parts.0 (ap (byte_in_front b) (one_piece (c ∷ cs) parts.1 (omega arith)))
 
 -- How many line feeds there are.
 pub count_none : (xs : Bytes) → list_any is_line_feed xs ≡ false → count_by is_line_feed xs ≡ 0

@@ -7,7 +7,7 @@ use Rattle.std.proofs.lemmas.List.Elements.{filter-append}
 use Rattle.std.proofs.lemmas.Bool.{and_parts, ltb-true, leb-true}
 use Rattle.def_mesh.specs.Vertices.{is_used}
 use Rattle.def_text.specs.FaceSet.{FaceSet}
-use Rattle.def_text.specs.Text.{face_set, numbers_to, position_of, used_to, vertex_of}
+use Rattle.def_text.specs.Text.{face_set, numbers_to, position_of, used_to, line_vertex}
 use Rattle.qm_obj.proofs.ListLemmas.{at_back, back_more}
 use Rattle.qm_obj.specs.Kept.{are_numbers, chosen, first_late, IsCounted, IsKept, IsMarked}
 use Rattle.def_text.specs.Types.{Positions}
@@ -100,10 +100,10 @@ made_of positions faces marks made vertices marked known counted names pos renum
     ap (chosen marks) marked.size ∙ chosen_used faces (length positions) marks marked (length positions) (omega arith) in
     same_parts made (face_set positions faces)
     (pos ∙ ap (map (position_of positions)) all)
-    (renumbered ∙ map_faces (λ corner. get_or vertices (corner - 1) 0) (vertex_of faces) (length positions) each faces known)
+    (renumbered ∙ map_faces (λ corner. get_or vertices (corner - 1) 0) (line_vertex faces) (length positions) each faces known)
     (names ∙ all)
   where
-    each : (k : ℕ) → 0 < k → k ≤ length positions → get_or vertices (k - 1) 0 ≡ vertex_of faces k
+    each : (k : ℕ) → 0 < k → k ≤ length positions → get_or vertices (k - 1) 0 ≡ line_vertex faces k
     each k some le =
         counted.each (k - 1) (omega (arith, marked.size)) ∙ ap length (chosen_used faces (length positions) marks marked (k - 1) (omega arith))
 

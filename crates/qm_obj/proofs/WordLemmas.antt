@@ -7,7 +7,8 @@ use Rattle.std.specs.List.{before_first, list_all, list_any, position_or_len}
 use Rattle.def_text.specs.Logical.{is_hash}
 use Rattle.def_text.specs.Reading.{face_reading, is_letter, vertex_reading, words_reading}
 use Rattle.def_text.specs.declared.reading.Reading.TheVariants.{Passed}
-use Rattle.def_text.specs.Words.{ends_word, in_front, is_blank, words}
+use Rattle.def_io.specs.Lines.{byte_in_front}
+use Rattle.def_text.specs.Words.{ends_word, is_blank, words}
 use Rattle.qm_obj.specs.Indices.{with_clamped}
 use Rattle.qm_obj.specs.Lines.{IsFilled, IsReadTo, is_end, uncommented, with_word}
 use Rattle.def_text.specs.Types.{Words}
@@ -19,7 +20,7 @@ words_word b (c ∷ cs) off = rw off (by_next (is_blank c) refl (words_word c cs
   where
     by_next : (t : Bool) → is_blank c ≡ t
         → (is_blank c ≡ false → words (c ∷ cs) ≡ take (suc (position_or_len is_blank cs)) (c ∷ cs) ∷ words (drop (suc (position_or_len is_blank cs)) (c ∷ cs)))
-        → cond (is_blank c) ((b ∷ []) ∷ words (c ∷ cs)) (in_front b (words (c ∷ cs))) ≡ take (suc (cond (not (is_blank c)) (1 + position_or_len is_blank cs) 0)) (b ∷ c ∷ cs) ∷ words (drop (suc (cond (not (is_blank c)) (1 + position_or_len is_blank cs) 0)) (b ∷ c ∷ cs))
+        → cond (is_blank c) ((b ∷ []) ∷ words (c ∷ cs)) (byte_in_front b (words (c ∷ cs))) ≡ take (suc (cond (not (is_blank c)) (1 + position_or_len is_blank cs) 0)) (b ∷ c ∷ cs) ∷ words (drop (suc (cond (not (is_blank c)) (1 + position_or_len is_blank cs) 0)) (b ∷ c ∷ cs))
     by_next true on again = rw on (rw on refl)
     by_next false after again = rw (again after) (rw after (let e : 1 + position_or_len is_blank cs ≡ suc (position_or_len is_blank cs) = omega arith in rw e refl))
 
@@ -89,7 +90,7 @@ pub words_few : (bytes : List ℕ) → length (words bytes) ≤ length bytes
 words_few [] = omega arith
 words_few (b ∷ bs) = by_blank (is_blank b) (words_few bs)
   where
-    by_blank : (t : Bool) → length (words bs) ≤ length bs → length (cond t (words bs) (cond (ends_word bs) ((b ∷ []) ∷ words bs) (in_front b (words bs)))) ≤ suc (length bs)
+    by_blank : (t : Bool) → length (words bs) ≤ length bs → length (cond t (words bs) (cond (ends_word bs) ((b ∷ []) ∷ words bs) (byte_in_front b (words bs)))) ≤ suc (length bs)
     by_blank t few = grind (arith)
 
 -- Where the next word is one, it is the word at this position.

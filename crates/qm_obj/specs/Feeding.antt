@@ -2,18 +2,18 @@
 use Rattle.std.specs.Prelude.{◌≡◌, ◌≤◌, ℕ, ◌+◌, nat_lt, false, IsTrue, None, Err, [], ◌∷◌, ◌++◌, length}
 use Rattle.std.specs.List.{count_by, list_all, list_any}
 use Rattle.def_feed.specs.Feed.{Fed, is_line_feed, StandsFor}
-use Rattle.def_feed.specs.Kept.{Kept, soup_with, soup_with_lines}
+use Rattle.def_feed.specs.Kept.{KeptText, soup_with, soup_with_lines}
 use Rattle.def_io.specs.Bytes.{Bytes, Lines, Told}
 use Rattle.def_io.specs.Moves.{gave}
 use Rattle.def_text.specs.Input.{ReadWhole}
 use Rattle.def_text.specs.Logical.{is_hash}
-use Rattle.def_text.specs.declared.limits.TheConstants.{MAX_BYTES, MAX_FACES, MAX_LINE, MAX_VERTICES}
+use Rattle.def_text.specs.declared.limits.TheConstants.{MAX_BYTES, MAX_F_LINES, MAX_LINE, MAX_V_LINES}
 use Rattle.def_text.specs.declared.refusal.ObjFail.{ObjFail}
 
 -- What is kept while no line is refused.
-pub record IsSound (kept : Kept) : Type 0 where
-  pub few_vertices : length kept.positions ≤ MAX_VERTICES
-  pub few_faces : length kept.faces ≤ MAX_FACES
+pub record IsSound (kept : KeptText) : Type 0 where
+  pub few_vertices : length kept.positions ≤ MAX_V_LINES
+  pub few_faces : length kept.faces ≤ MAX_F_LINES
   pub sizes : length kept.lines ≡ length kept.faces
   pub positive : IsTrue (list_all (list_all (λ corner. nat_lt 0 corner)) kept.faces)
   pub bare : list_any is_hash kept.joined ≡ false
@@ -26,23 +26,23 @@ number_by [] next begun = next
 number_by (byte ∷ bytes) next begun = begun
 
 -- One physical line more is taken.
-pub record TookLine (old new : Kept) (line : Bytes) : Type 0 where
+pub record TookLine (old new : KeptText) (line : Bytes) : Type 0 where
   pub same : (lines : Lines) → soup_with_lines old (line ∷ lines) ≡ soup_with_lines new lines
   pub sound : IsSound new
   pub next : new.next ≡ old.next + 1
 
 -- Whatever lines come behind this one, this is the first refusal.
-abbrev pub RefusesLine : (kept : Kept) (line : Bytes) (fail : ObjFail) → Type 0
+abbrev pub RefusesLine : (kept : KeptText) (line : Bytes) (fail : ObjFail) → Type 0
 RefusesLine kept line fail = (lines : Lines) → soup_with_lines kept (line ∷ lines) ≡ Err fail
 
 -- One piece more is taken.
-pub record TookPiece (old new : Kept) (piece : Bytes) : Type 0 where
+pub record TookPiece (old new : KeptText) (piece : Bytes) : Type 0 where
   pub same : (more : Bytes) → soup_with old (piece ++ more) ≡ soup_with new more
   pub sound : IsSound new
   pub counted : new.next ≡ old.next + count_by is_line_feed piece
 
 -- Whatever bytes come behind this piece, this is the first refusal.
-abbrev pub RefusesPiece : (kept : Kept) (piece : Bytes) (fail : ObjFail) → Type 0
+abbrev pub RefusesPiece : (kept : KeptText) (piece : Bytes) (fail : ObjFail) → Type 0
 RefusesPiece kept piece fail = (more : Bytes) → soup_with kept (piece ++ more) ≡ Err fail
 
 -- What a feed keeps true.

@@ -3,7 +3,7 @@
 ghost use Rattle.std.specs.Prelude.{◌≡◌, ◌≤◌, ◌<◌, ◌+◌, ◌^◌, ◌-◌, ◌==◌, ◌&&◌, ◌||◌, nat_le, nat_lt, min, Some, None};
 ghost use Rattle.std.specs.Prelude.{if◌then◌else◌, length};
 ghost use Rattle.std.specs.List.{list_all};
-ghost use Rattle.def_text.specs.Corner.{index_of, is_corner, is_optional};
+ghost use Rattle.def_text.specs.Corner.{index_of, is_corner_word, is_optional};
 ghost use Rattle.def_text.specs.Digits.{is_signed};
 ghost use Rattle.qm_obj.specs.Indices.{clamped, corner_of, named, parts_behind};
 
@@ -35,7 +35,7 @@ fn named_line(k: u64, all: u32) -> Index
 /// The `v` line that a corner names after `before` others, from 1: 0 where it names none that can come, and
 /// `u32::MAX` where its number is greater.
 pub(crate) fn read_corner(word: &[u8], before: u32) -> Option<u32>
-    ensures { result ≡ (if is_corner word.now then Some (corner_of before word.now) else None) }
+    ensures { result ≡ (if is_corner_word word.now then Some (corner_of before word.now) else None) }
 {
     match read_number(word) {
         Some(k) => Some(clamp(k)),
@@ -51,7 +51,7 @@ fn clamp(k: u64) -> u32
 
 #[tactic(auto, using(crate::proofs::CornerLemmas::corner_parts))]
 fn read_indices(word: &[u8], before: u32) -> Option<u32>
-    ensures { result ≡ (if is_corner word.now then Some (corner_of before word.now) else None) }
+    ensures { result ≡ (if is_corner_word word.now then Some (corner_of before word.now) else None) }
 {
     let (first, tail) = word.split_at(find_byte(word, SLASH));
     if !is_tail(tail) {

@@ -4,7 +4,7 @@ ghost use Rattle.std.specs.Prelude.{◌≢◌, OnOk};
 
 use crate::Memory;
 use crate::progress::Progress;
-use def_text::{MAX_BYTES, MAX_FACES, MAX_LINE, MAX_VERTICES, ObjFail, Soup};
+use def_text::{MAX_BYTES, MAX_F_LINES, MAX_LINE, MAX_V_LINES, ObjFail, Soup};
 use std::alloc::{AllocError, Global};
 use std::marker::Model;
 
@@ -84,7 +84,7 @@ impl ObjFeed {
     /// The soup of the text, or its first refusal.
     pub fn finish(self) -> Result<Soup, ObjFail>
         ensures soup { IfOk result (λ soup. (text : Bytes) → StandsFor self text → soup_in text ≡ Ok soup) }
-        ensures few { IfOk result (λ soup. (length soup.pos ≤ MAX_VERTICES) × (length soup.faces ≤ MAX_FACES)) }
+        ensures few { IfOk result (λ soup. (length soup.pos ≤ MAX_V_LINES) × (length soup.faces ≤ MAX_F_LINES)) }
         ensures refused { IfErr result (λ fail. fail ≢ ObjFail.Memory →
             (text : Bytes) → StandsFor self text → soup_in text ≡ Err fail) }
     {

@@ -10,7 +10,7 @@ ghost use Rattle.qm_obj.specs.Views.{kept_of};
 
 use crate::joining::{append, append_spaced, before_comment, goes_on};
 use crate::reader::Reader;
-use def_text::{MAX_FACES, MAX_LINE, MAX_VERTICES, ObjFail, Soup, Which};
+use def_text::{MAX_F_LINES, MAX_LINE, MAX_V_LINES, ObjFail, Soup, Which};
 use std::alloc::Global;
 
 /// What the logical lines say that have ended, and what is left to read of the one that has not.
@@ -143,7 +143,7 @@ impl Joiner {
     pub(crate) fn finish(self, alloc: Global) -> Result<Soup, ObjFail>
         requires sound { IsSound (kept_of self []) }
         ensures soup { IfOk result (λ soup. soup_with_lines (kept_of self []) [] ≡ Ok soup) }
-        ensures few { IfOk result (λ soup. (length soup.pos ≤ MAX_VERTICES) × (length soup.faces ≤ MAX_FACES)) }
+        ensures few { IfOk result (λ soup. (length soup.pos ≤ MAX_V_LINES) × (length soup.faces ≤ MAX_F_LINES)) }
         ensures refused { IfErr result (λ fail. fail ≢ ObjFail.Memory →
             soup_with_lines (kept_of self []) [] ≡ Err fail) }
     {

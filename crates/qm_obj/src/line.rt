@@ -10,7 +10,7 @@ ghost use Rattle.qm_obj.specs.Lines.{uncommented};
 use crate::corner::read_corner;
 use crate::position::{Coordinate, read_coordinate, read_position};
 use crate::words::next_word;
-use def_text::{FACE, MAX_FACES, MAX_LINE, MAX_VERTICES, ObjFail, Reading, VERTEX, Which};
+use def_text::{FACE, MAX_F_LINES, MAX_LINE, MAX_V_LINES, ObjFail, Reading, VERTEX, Which};
 
 /// What a logical line of `size` bytes says after so many `v` and `f` lines. Corners above `u32::MAX` are clamped.
 #[tactic(auto, using(crate::proofs::WordLemmas::by_first_word))]
@@ -47,7 +47,7 @@ fn is_one(word: &[u8], letter: u8) -> bool
 fn read_vertex(line: u32, vertices: u32, text: &[u8]) -> Reading
     ensures { result ≡ vertex_reading line vertices (words (uncommented text.now)) }
 {
-    if vertices >= MAX_VERTICES {
+    if vertices >= MAX_V_LINES {
         return Reading::Refused(ObjFail::Limit {
             which: Which::Vertices,
             line,
@@ -95,7 +95,7 @@ fn read_face(line: u32, vertices: u32, faces: u32, text: &[u8]) -> Reading
     requires { length text.now ≤ MAX_LINE }
     ensures { result ≡ with_clamped (face_reading line vertices faces (words (uncommented text.now))) }
 {
-    if faces >= MAX_FACES {
+    if faces >= MAX_F_LINES {
         return Reading::Refused(ObjFail::Limit {
             which: Which::Faces,
             line,

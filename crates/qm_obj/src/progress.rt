@@ -13,7 +13,7 @@ ghost use Rattle.qm_obj.specs.Views.{kept_at, kept_of};
 use crate::joiner::{Joiner, too_long};
 use crate::joining::append;
 use def_io::LINE_FEED;
-use def_text::{MAX_FACES, MAX_LINE, MAX_VERTICES, ObjFail, Soup};
+use def_text::{MAX_F_LINES, MAX_LINE, MAX_V_LINES, ObjFail, Soup};
 use qm_io::{end_of_line, line_of};
 use std::alloc::Global;
 
@@ -134,7 +134,7 @@ impl Progress {
         requires sound { IsSound (kept_at self) }
         requires room { self.joiner.next < 2 ^ 32 - 1 }
         ensures soup { IfOk result (λ soup. soup_with (kept_at self) [] ≡ Ok soup) }
-        ensures few { IfOk result (λ soup. (length soup.pos ≤ MAX_VERTICES) × (length soup.faces ≤ MAX_FACES)) }
+        ensures few { IfOk result (λ soup. (length soup.pos ≤ MAX_V_LINES) × (length soup.faces ≤ MAX_F_LINES)) }
         ensures refused { IfErr result (λ fail. fail ≢ ObjFail.Memory → soup_with (kept_at self) [] ≡ Err fail) }
     {
         let mut progress = self;

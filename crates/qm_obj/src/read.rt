@@ -9,7 +9,7 @@ ghost use Rattle.qm_obj.specs.Lines.{first_logical, next_said, Took};
 
 use crate::joining::{goes_on, join};
 use crate::reader::Reader;
-use def_text::{MAX_FACES, MAX_VERTICES, ObjFail, Soup};
+use def_text::{MAX_F_LINES, MAX_V_LINES, ObjFail, Soup};
 use qm_io::Lines;
 use std::alloc::Global;
 
@@ -20,7 +20,7 @@ pub fn read_obj(alloc: Global, lines: &Lines, first: u32, after: u32) -> Result<
     requires within { after ≤ length (lines_of lines.now) }
     ensures soup { IfOk result (λ soup.
         text_soup (first + 1) (slice_range (lines_of lines.now) first after) ≡ Ok soup) }
-    ensures few { IfOk result (λ soup. (length soup.pos ≤ MAX_VERTICES) × (length soup.faces ≤ MAX_FACES)) }
+    ensures few { IfOk result (λ soup. (length soup.pos ≤ MAX_V_LINES) × (length soup.faces ≤ MAX_F_LINES)) }
     ensures refused { IfErr result (λ fail. fail ≢ ObjFail.Memory
         → text_soup (first + 1) (slice_range (lines_of lines.now) first after) ≡ Err fail) }
 {
@@ -42,8 +42,8 @@ fn take_logical(
 ) -> Result<u32, ObjFail>
     requires begins { i < after }
     requires within { after ≤ length (lines_of lines.now) }
-    requires vertices { length reader.old.positions.items ≤ MAX_VERTICES }
-    requires faces { length reader.old.faces.items ≤ MAX_FACES }
+    requires vertices { length reader.old.positions.items ≤ MAX_V_LINES }
+    requires faces { length reader.old.faces.items ≤ MAX_F_LINES }
     ensures next { IfOk result (λ next. next ≡ i + span (slice_range (lines_of lines.now) i after)) }
     ensures kept { OnOk result
         (Took reader.old.positions.items reader.new.positions.items reader.old.faces.items reader.new.faces.items
@@ -71,8 +71,8 @@ fn take_joined(
 ) -> Result<u32, ObjFail>
     requires begins { i < after }
     requires within { after ≤ length (lines_of lines.now) }
-    requires vertices { length reader.old.positions.items ≤ MAX_VERTICES }
-    requires faces { length reader.old.faces.items ≤ MAX_FACES }
+    requires vertices { length reader.old.positions.items ≤ MAX_V_LINES }
+    requires faces { length reader.old.faces.items ≤ MAX_F_LINES }
     ensures next { IfOk result (λ next. next ≡ i + span (slice_range (lines_of lines.now) i after)) }
     ensures kept { OnOk result
         (Took reader.old.positions.items reader.new.positions.items reader.old.faces.items reader.new.faces.items

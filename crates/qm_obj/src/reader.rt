@@ -10,7 +10,7 @@ ghost use Rattle.qm_obj.specs.Lines.{next_said, Took, uncommented};
 use crate::Memory;
 use crate::line::read_line;
 use crate::used::{late_line, soup_of};
-use def_text::{MAX_FACES, MAX_VERTICES, Micro, ObjFail, Reading, Soup};
+use def_text::{MAX_F_LINES, MAX_V_LINES, Micro, ObjFail, Reading, Soup};
 use std::alloc::Global;
 
 /// What is known of a text after some of its logical lines: all positions, and the faces with their lines.
@@ -36,8 +36,8 @@ impl Reader {
 
     /// Takes the next logical line, which has `size` bytes and this text, or answers its refusal.
     pub(crate) fn take(&mut self, line: u32, size: usize, text: &[u8]) -> Result<(), ObjFail>
-        requires vertices { length self.old.positions.items ≤ MAX_VERTICES }
-        requires faces { length self.old.faces.items ≤ MAX_FACES }
+        requires vertices { length self.old.positions.items ≤ MAX_V_LINES }
+        requires faces { length self.old.faces.items ≤ MAX_F_LINES }
         requires cut { length text.now ≤ size }
         ensures kept { OnOk result
             (Took self.old.positions.items self.new.positions.items self.old.faces.items self.new.faces.items
@@ -68,7 +68,7 @@ impl Reader {
         ensures lines { self.new.lines ≡ self.old.lines }
         ensures memory { IfErr result (λ fail. fail ≡ ObjFail.Memory) }
     {
-        push(&mut self.positions, position, MAX_VERTICES as usize)?;
+        push(&mut self.positions, position, MAX_V_LINES as usize)?;
         Ok(())
     }
 
@@ -78,14 +78,14 @@ impl Reader {
         ensures lines { OnOk result (self.new.lines.items ≡ self.old.lines.items ++ line ∷ []) }
         ensures memory { IfErr result (λ fail. fail ≡ ObjFail.Memory) }
     {
-        push(&mut self.faces, corners, MAX_FACES as usize)?;
-        push(&mut self.lines, line, MAX_FACES as usize)?;
+        push(&mut self.faces, corners, MAX_F_LINES as usize)?;
+        push(&mut self.lines, line, MAX_F_LINES as usize)?;
         Ok(())
     }
 
     /// The soup of all lines that were taken, or the refusal of the first face that names no position.
     pub(crate) fn finish(self, alloc: Global) -> Result<Soup, ObjFail>
-        requires few { length self.positions.items ≤ MAX_VERTICES }
+        requires few { length self.positions.items ≤ MAX_V_LINES }
         requires lines { length self.lines.items ≡ length self.faces.items }
         requires positive { IsTrue (list_all (list_all (λ corner. nat_lt 0 corner)) self.faces.items) }
         ensures soup { IfOk result (λ soup.

@@ -11,7 +11,7 @@ ghost use Rattle.qm_obj.specs.Feeding.{FedPiece, FedWhole};
 use crate::Memory;
 use crate::feed::ObjFeed;
 use def_io::ReadFail;
-use def_text::{MAX_BYTES, MAX_FACES, MAX_VERTICES, Soup, SoupFail};
+use def_text::{MAX_BYTES, MAX_F_LINES, MAX_V_LINES, Soup, SoupFail};
 use qm_io::{Source, read_buffer};
 use std::alloc::Global;
 
@@ -20,7 +20,7 @@ use std::alloc::Global;
 pub fn read_soup<S: Source>(alloc: Global, src: &mut S, limit: u32) -> Result<Soup, SoupFail>
     requires { limit ≤ MAX_BYTES }
     ensures soup { IfOk result (ReadSoup limit (S.state src.old).told (S.state src.new).told) }
-    ensures few { IfOk result (λ soup. (length soup.pos ≤ MAX_VERTICES) × (length soup.faces ≤ MAX_FACES)) }
+    ensures few { IfOk result (λ soup. (length soup.pos ≤ MAX_V_LINES) × (length soup.faces ≤ MAX_F_LINES)) }
     ensures calm { OnOk result ((S.state src.new).faults ≡ (S.state src.old).faults) }
     ensures later { (S.state src.old).faults ≤ (S.state src.new).faults }
     ensures fails { IfErr result (IsSoupFail limit

@@ -8,7 +8,7 @@ ghost use Rattle.def_text.specs.Text.{face_set, position_of};
 ghost use Rattle.qm_obj.specs.Kept.{are_numbers, chosen, first_late, IsCounted, IsMarked};
 
 use crate::Memory;
-use def_text::{MAX_VERTICES, Micro, Soup};
+use def_text::{MAX_V_LINES, Micro, Soup};
 use std::alloc::Global;
 
 /// The line of the first face that names a `v` line above the last.
@@ -37,7 +37,7 @@ pub fn soup_of(
     positions: Vec<[Micro; 3]>,
     faces: Vec<[u32; 4]>,
 ) -> Result<Soup, Memory>
-    requires few { length positions.items ≤ MAX_VERTICES }
+    requires few { length positions.items ≤ MAX_V_LINES }
     requires known { IsTrue
         (list_all (list_all (λ corner. nat_lt 0 corner && nat_le corner (length positions.items))) faces.items) }
     ensures { IfOk result (λ soup. soup ≡ face_set positions.items faces.items) }
@@ -55,7 +55,7 @@ fn drop_unused(
     positions: &mut Vec<[Micro; 3]>,
     faces: &mut Vec<[u32; 4]>,
 ) -> Result<Vec<u32>, Memory>
-    requires few { length positions.old.items ≤ MAX_VERTICES }
+    requires few { length positions.old.items ≤ MAX_V_LINES }
     requires known { IsTrue (list_all (are_numbers (length positions.old.items)) faces.old.items) }
     ensures { IfOk result (λ names. record { pos = positions.new.items; faces = faces.new.items; names = names.items }
         ≡ face_set positions.old.items faces.old.items) }
@@ -99,7 +99,7 @@ fn keep_marked(
     positions: &mut Vec<[Micro; 3]>,
     marks: &[bool],
 ) -> Result<Kept, Memory>
-    requires few { length marks.now ≤ MAX_VERTICES }
+    requires few { length marks.now ≤ MAX_V_LINES }
     requires each { length positions.old.items ≡ length marks.now }
     ensures names { IfOk result (λ kept. kept.names.items ≡ chosen marks.now (length marks.now)) }
     ensures positions { IfOk result (λ kept.
@@ -124,7 +124,7 @@ fn keep_position(
     k: usize,
 ) -> Result<(), Memory>
     requires there { k < length positions.old.items }
-    requires few { length positions.old.items ≤ MAX_VERTICES }
+    requires few { length positions.old.items ≤ MAX_V_LINES }
     requires room { length names.old.items ≤ k }
     ensures positions { OnOk result (positions.new.items
         ≡ slice_set positions.old.items (length names.old.items) (slice_index_or positions.old.items k [])) }

@@ -138,7 +138,7 @@ fn fill(room: &mut [u8], at: usize, piece: &[u8])
 }
 
 impl<K: Sink> Output for Buffer<'_, K> {
-    ghost use Rattle.std.proofs.Common.{◌≡◌, refl, ◌∙◌, take};
+    ghost use Rattle.std.proofs.Common.{refl, ◌∙◌};
     ghost use Rattle.def_output.specs.Buffered.{buffered, BrokeOff, PassedOn};
     ghost use Rattle.qm_output.specs.Laws.{broke_before, broke_later, passed_more, passed_nothing};
 

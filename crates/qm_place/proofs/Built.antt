@@ -6,7 +6,7 @@ use Rattle.def_layout.specs.Lengths.{wide, high}
 use Rattle.def_layout.specs.Plans.{Plan, layout_of}
 use Rattle.def_written.specs.Numbers.{vertices}
 use Rattle.def_remesh.specs.NewPoints.{lengths_in}
-use Rattle.def_remesh.specs.Numberings.{AreStarts}
+use Rattle.def_remesh.specs.Numberings.{AreRunStarts}
 use Rattle.def_remesh.specs.Placings.{rim_at, IsRim}
 use Rattle.def_remesh.specs.declared.places.Rim.{Rim}
 use Rattle.sum_laws.proofs.Counts.{count_below_same}
@@ -51,8 +51,8 @@ module _ (plan : Plan) (list : List ℕ) (fine : AreFine plan list) where
           count_below_same (inner_of rims) (λ p. (wide (layout_of plan) (lengths_in list) p - 1) * (high (layout_of plan) (lengths_in list) p - 1)) (length plan.patches) inner_is,
         )
 
-    pub inner_starts : (n : ℕ) (starts : List ℕ) → n ≡ length plan.patches → AreStarts (inner_of rims) n starts
-        → AreStarts (λ p. (wide (layout_of plan) (lengths_in list) p - 1) * (high (layout_of plan) (lengths_in list) p - 1)) (length plan.patches) starts
+    pub inner_starts : (n : ℕ) (starts : List ℕ) → n ≡ length plan.patches → AreRunStarts (inner_of rims) n starts
+        → AreRunStarts (λ p. (wide (layout_of plan) (lengths_in list) p - 1) * (high (layout_of plan) (lengths_in list) p - 1)) (length plan.patches) starts
     inner_starts n starts all begin =
         starts_same (inner_of rims) (λ p. (wide (layout_of plan) (lengths_in list) p - 1) * (high (layout_of plan) (lengths_in list) p - 1)) (length plan.patches) starts inner_is
-        (subst (λ k. AreStarts (inner_of rims) k starts) all begin)
+        (subst (λ k. AreRunStarts (inner_of rims) k starts) all begin)

@@ -14,7 +14,7 @@ use Rattle.def_layout.specs.declared.tmesh.TMesh.{TMesh}
 use Rattle.def_layoutnet.specs.MeshLayouts.{IsMeshLayout}
 use Rattle.def_written.specs.Numbers.{before_patch}
 use Rattle.def_remesh.specs.NewPoints.{lengths_in}
-use Rattle.def_remesh.specs.Numberings.{AreStarts}
+use Rattle.def_remesh.specs.Numberings.{AreRunStarts}
 use Rattle.def_remesh.specs.Placings.{rim_at, ArePlaces, IsRim}
 use Rattle.def_remesh.specs.declared.places.PlaceTables.{PlaceTables}
 use Rattle.def_remesh.specs.declared.places.Rim.{Rim}
@@ -27,7 +27,7 @@ use Rattle.qm_reach.proofs.Whole.{laid_of, lengths_of}
 use Rattle.written_laws.proofs.Grid.{wide_some, high_some}
 
 -- Where a run begins.
-pub start_read : (f : ℕ → ℕ) (n k v : ℕ) (starts : List ℕ) → AreStarts f n starts → k < n → v ≡ get_or starts k v → v ≡ count_below f k
+pub start_read : (f : ℕ → ℕ) (n k v : ℕ) (starts : List ℕ) → AreRunStarts f n starts → k < n → v ≡ get_or starts k v → v ≡ count_below f k
 start_read f n k v starts are low read = get_or_read starts k v (omega (arith, low, are.count)) read 0 ∙ are.each k (omega (arith, low))
 
 -- A dart of an arc.
@@ -111,7 +111,7 @@ rim_room faces plan tables are p rim list low is same =
     omega (arith, (is.sides west).room, is.wide, is.high, ap (λ (xs : List ℕ). length xs) same)
 
 -- Where the last run ends.
-pub end_read : (f : ℕ → ℕ) (n len v : ℕ) (starts : List ℕ) → AreStarts f n starts → len ≡ length starts → v ≡ get_or starts (len - 1) v → v ≡ count_below f n
+pub end_read : (f : ℕ → ℕ) (n len v : ℕ) (starts : List ℕ) → AreRunStarts f n starts → len ≡ length starts → v ≡ get_or starts (len - 1) v → v ≡ count_below f n
 end_read f n len v starts are long read =
     let last : len - 1 ≡ length starts - 1 = ap (λ k. k - 1) long in
     get_or_read starts (len - 1) v (omega (arith, long, are.count)) read 0 ∙ ap (slice_index starts) last ∙ last_is f n starts are

@@ -5,16 +5,16 @@ use Rattle.def_mesh.specs.HalfEdges.{half_edges}
 use Rattle.def_mesh.specs.Vertices.{vertex_count}
 use Rattle.def_cut.specs.Grids.{cell_of, patch_at}
 use Rattle.def_layout.specs.Arcs.{dart_at, long_at}
-use Rattle.def_layout.specs.Cells.{Dart, IsDart, dart, next, rim_at}
+use Rattle.def_layout.specs.Cells.{CellDart, IsDart, dart, next, slot_dart}
 use Rattle.def_layout.specs.Laid.{IsLaid}
-use Rattle.def_layout.specs.Layouts.{Way, south, east, north, west, Layout, Slot, IsSlot, use_of, start_of}
+use Rattle.def_layout.specs.Layouts.{Way, south, east, north, west, Layout, Slot, IsSlot, use_of, start_node}
 use Rattle.def_layout.specs.Lengths.{Lengths, wide, high, AreLengths}
 use Rattle.def_layout.specs.Plans.{Plan, layout_of, vertex_at}
 use Rattle.def_layout.specs.Sided.{IsSided}
 use Rattle.def_layout.specs.declared.tmesh.SideArc.{SideArc}
 use Rattle.def_layoutnet.specs.MeshLayouts.{IsMeshLayout}
 use Rattle.def_written.specs.Laws.{LiesIn}
-use Rattle.def_written.specs.NewFaces.{from}
+use Rattle.def_written.specs.NewFaces.{dart_start}
 use Rattle.def_written.specs.Points.{Point, node, along, inside, IsPoint, arc_point, use_point, point}
 use Rattle.def_remesh.specs.NewPoints.{old_vertex}
 use Rattle.mesh_laws.proofs.HalfEdges.{manifold_law}
@@ -46,16 +46,16 @@ module _ (plan : Plan) (is : IsMeshLayout plan) where
   in_mesh = lies plan is
 
   -- The dart of the mesh for a dart of a cell.
-  abbrev cell : (d : Dart) → ℕ
+  abbrev cell : (d : CellDart) → ℕ
   cell = cell_dart (half_edges is.faces) plan
 
   sided : IsSided (half_edges is.faces) (layout_of plan) (long_at plan.arcs) (cell_dart (half_edges is.faces) plan) (vertex_at plan) (dart_at plan.arcs)
   sided = sides_in_mesh is.faces is.marks plan is.mesh is.quads is.cut is.laid
 
-  next_cell : (d : Dart) → cell (next d) ≡ next_of (cell d)
+  next_cell : (d : CellDart) → cell (next d) ≡ next_of (cell d)
   next_cell d = sided.turned d
 
-  alike : (d e : Dart) → IsDart l x d → IsDart l x e → from l x d ≡ from l x e
+  alike : (d e : CellDart) → IsDart l x d → IsDart l x e → dart_start l x d ≡ dart_start l x e
       → from_of is.faces (cell d) ≡ from_of is.faces (cell e)
   alike d e is_d is_e same =
       (old_model is.faces in_mesh.manifold l x in_mesh.paved in_mesh.lengths cell (vertex_at plan) (dart_at plan.arcs) sided in_mesh.quads).alike
@@ -63,11 +63,11 @@ module _ (plan : Plan) (is : IsMeshLayout plan) where
 
   -- At each point a dart leaves the old vertex.
   point_vertex : (a : Point) → IsPoint l x a
-      → (d : Dart) × IsDart l x d × (from l x d ≡ a) × (from_of is.faces (cell d) ≡ old_vertex is.faces plan a)
+      → (d : CellDart) × IsDart l x d × (dart_start l x d ≡ a) × (from_of is.faces (cell d) ≡ old_vertex is.faces plan a)
   point_vertex (node n) low =
-      let r : (w : Slot) × IsSlot l w × (start_of l (use_of l w) ≡ n) = laid.reached n low in
+      let r : (w : Slot) × IsSlot l w × (start_node l (use_of l w) ≡ n) = laid.reached n low in
       let some : 0 < x (use_of l r.0).arc = use_some l x laid.paved len r.0 r.1 in (
-        rim_at l x r.0 0,
+        slot_dart l x r.0 0,
         at_is l x laid.paved len r.0 0 r.1 some,
         at_from l x laid len r.0 0 r.1 some ∙ use_begins l x (use_of l r.0) some ∙ ap node r.2,
         starts (half_edges is.faces) (manifold_law is.faces in_mesh.manifold) l x in_mesh.paved in_mesh.lengths cell (vertex_at plan) (dart_at plan.arcs) sided r.0 r.1
@@ -76,7 +76,7 @@ module _ (plan : Plan) (is : IsMeshLayout plan) where
   point_vertex (along a k) low =
       let f : (w : Slot) × IsSlot l w × (use_of l w ≡ record { arc = a; forward = true }) = laid.forward a low.0 in
       let less : k < x (use_of l f.0).arc = omega (arith, low.2, ap (λ (u : SideArc). x u.arc) f.2) in (
-        rim_at l x f.0 k,
+        slot_dart l x f.0 k,
         at_is l x laid.paved len f.0 k f.1 less,
         at_from l x laid len f.0 k f.1 less ∙ ap (λ (u : SideArc). use_point l x u k) f.2 ∙ arc_inner l x a k low.1 low.2,
         ap (from_of is.faces) (sided.ahead f.0 k f.1 less (ap (λ (u : SideArc). u.forward) f.2) ∙ ap (λ (u : SideArc). dart_at plan.arcs u.arc k) f.2),
@@ -93,11 +93,11 @@ module _ (plan : Plan) (is : IsMeshLayout plan) where
   old_low a low =
       let e = point_vertex a low in subst (λ v. v < vertex_count is.faces) e.3 (all_below is.faces (cell e.0) (sided.low e.0 e.1))
 
-  old_from : (d : Dart) → IsDart l x d → old_vertex is.faces plan (from l x d) ≡ from_of is.faces (cell d)
-  old_from d is_d = by_vertex (point_vertex (from l x d) (from_is l x laid len d is_d))
+  old_from : (d : CellDart) → IsDart l x d → old_vertex is.faces plan (dart_start l x d) ≡ from_of is.faces (cell d)
+  old_from d is_d = by_vertex (point_vertex (dart_start l x d) (from_is l x laid len d is_d))
     where
-      by_vertex : (e : Dart) × IsDart l x e × (from l x e ≡ from l x d) × (from_of is.faces (cell e) ≡ old_vertex is.faces plan (from l x d))
-          → old_vertex is.faces plan (from l x d) ≡ from_of is.faces (cell d)
+      by_vertex : (e : CellDart) × IsDart l x e × (dart_start l x e ≡ dart_start l x d) × (from_of is.faces (cell e) ≡ old_vertex is.faces plan (dart_start l x d))
+          → old_vertex is.faces plan (dart_start l x d) ≡ from_of is.faces (cell d)
       by_vertex e = sym e.3 ∙ alike e.0 d e.1 is_d e.2
 
   -- The corners of an old cell.
@@ -136,17 +136,17 @@ module _ (plan : Plan) (is : IsMeshLayout plan) where
       by_slot f = record {
         low = sided.arc_low a i a_low i_low;
         first = ap (old_vertex is.faces plan) (sym (at_from l x laid len f.0 i f.1 less ∙ ap (λ (u : SideArc). use_point l x u i) f.2))
-            ∙ old_from (rim_at l x f.0 i) is_dart ∙ ap (from_of is.faces) here;
+            ∙ old_from (slot_dart l x f.0 i) is_dart ∙ ap (from_of is.faces) here;
         last = ap (old_vertex is.faces plan) (sym (at_to l x laid len f.0 i f.1 less ∙ ap (λ (u : SideArc). use_point l x u (i + 1)) f.2))
-            ∙ old_from (next (rim_at l x f.0 i)) (next_is l x (rim_at l x f.0 i) is_dart)
-            ∙ ap (from_of is.faces) (next_cell (rim_at l x f.0 i) ∙ ap next_of here);
+            ∙ old_from (next (slot_dart l x f.0 i)) (next_is l x (slot_dart l x f.0 i) is_dart)
+            ∙ ap (from_of is.faces) (next_cell (slot_dart l x f.0 i) ∙ ap next_of here);
       }
         where
           less : i < x (use_of l f.0).arc
           less = omega (arith, i_low, ap (λ (u : SideArc). x u.arc) f.2)
 
-          is_dart : IsDart l x (rim_at l x f.0 i)
+          is_dart : IsDart l x (slot_dart l x f.0 i)
           is_dart = at_is l x laid.paved len f.0 i f.1 less
 
-          here : cell (rim_at l x f.0 i) ≡ dart_at plan.arcs a i
+          here : cell (slot_dart l x f.0 i) ≡ dart_at plan.arcs a i
           here = sided.ahead f.0 i f.1 less (ap (λ (u : SideArc). u.forward) f.2) ∙ ap (λ (u : SideArc). dart_at plan.arcs u.arc i) f.2

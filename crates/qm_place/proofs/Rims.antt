@@ -8,7 +8,7 @@ use Rattle.def_cut.specs.Grids.{rectangle}
 use Rattle.def_layout.specs.Arcs.{Path, long_at, path}
 use Rattle.def_layout.specs.Layouts.{Way, south, east, north, west, Slot, IsSlot, use_of}
 use Rattle.def_layout.specs.Lengths.{Lengths, reach, size}
-use Rattle.def_layout.specs.Plans.{Plan, layout_of, number, plan, side_at}
+use Rattle.def_layout.specs.Plans.{Plan, layout_of, way_number, plan, side_at}
 use Rattle.def_layout.specs.declared.tmesh.SideArc.{SideArc}
 use Rattle.def_layout.specs.declared.tmesh.TArc.{TArc}
 use Rattle.def_layout.specs.declared.tmesh.TMesh.{TMesh}
@@ -79,7 +79,7 @@ pub record IsRead (t : TMesh) (list : List ℕ) (p i : ℕ) (s : Way) (used : Si
       ≡ reach (layout_of (plan t)) (lengths_in list) p s i + lengths_in list used.arc
 
 pub read : (t : TMesh) (list : List ℕ) (p i side : ℕ) (s : Way) (us : List SideArc) → AreFine (plan t) list → p < length t.patches.items
-    → us ≡ get_or (get_or (plan t).sides p []) side [] → i < length us → number s ≡ side
+    → us ≡ get_or (get_or (plan t).sides p []) side [] → i < length us → way_number s ≡ side
     → IsRead t list p i s (get_or us i (record { arc = 0; forward = false }))
 read t list p i side s us fine low us_is i_low way = record {
   is_slot = is_slot;
@@ -110,10 +110,10 @@ read t list p i side s us fine low us_is i_low way = record {
     arc_less = (laid_of (plan t) fine.mesh).paved.arc_low (slot p s i) is_slot
 
 -- North and west are the sides numbered from 2 on.
-pub back_by : (s : Way) (side : ℕ) → number s ≡ side → nat_le 2 side ≡ is_back s
+pub back_by : (s : Way) (side : ℕ) → way_number s ≡ side → nat_le 2 side ≡ is_back s
 back_by s side way = ap (λ k. nat_le 2 k) (sym way) ∙ by_way s
   where
-    by_way : (w : Way) → nat_le 2 (number w) ≡ is_back w
+    by_way : (w : Way) → nat_le 2 (way_number w) ≡ is_back w
     by_way south = refl
     by_way east = refl
     by_way north = refl

@@ -10,7 +10,7 @@ ghost use Rattle.def_written.specs.NewFaces.{face_count};
 ghost use Rattle.def_written.specs.Numbers.{vertices};
 ghost use Rattle.def_remesh.specs.NewPoints.{lengths_in};
 ghost use Rattle.def_remesh.specs.NewSoup.{new_place, new_places};
-ghost use Rattle.def_remesh.specs.Numberings.{AreStarts};
+ghost use Rattle.def_remesh.specs.Numberings.{AreRunStarts};
 ghost use Rattle.def_remesh.specs.Placings.{rim_at, ArePlaces, IsLayoutIn, LiesBetween};
 ghost use Rattle.def_remesh.specs.declared.limits.TheConstants.{MAX_NEW_FACES};
 ghost use Rattle.qm_place.specs.Spots.{inner_of};
@@ -19,7 +19,7 @@ use crate::axes::place_there;
 use crate::find::{Near, arcs_end, find};
 use crate::sides::sides_of;
 use def_layout::TMesh;
-use def_remesh::{PlaceTables, Rim, Starts};
+use def_remesh::{PlaceTables, Rim, RunStarts};
 use def_text::Micro;
 use qm_mesh::Mesh;
 use qm_reach::{inner_points, no_starts, push_start, short_lengths};
@@ -105,11 +105,11 @@ pub fn place(
 }
 
 /// Where the inner points of patches begin.
-fn inner_starts(alloc: Global, rims: &[Rim]) -> Result<Starts, AllocError>
+fn inner_starts(alloc: Global, rims: &[Rim]) -> Result<RunStarts, AllocError>
     requires some { (patch : ℕ) → patch < length rims.now
         → (0 < (rim_at rims.now patch).wide) × (0 < (rim_at rims.now patch).high) }
     requires small { count_below (inner_of rims.now) (length rims.now) < 2 ^ 32 }
-    ensures { IfOk result (λ starts. AreStarts (inner_of rims.now) (length rims.now) starts.begin.items) }
+    ensures { IfOk result (λ starts. AreRunStarts (inner_of rims.now) (length rims.now) starts.begin.items) }
 {
     let mut starts = no_starts(alloc, rims.len())?;
     for rim in rims {

@@ -4,7 +4,7 @@ ghost use Rattle.std.specs.Prelude.{◌≡◌, ◌≤◌, ◌<◌, ◌+◌, ◌-
 ghost use Rattle.def_layout.specs.Arcs.{long_at};
 ghost use Rattle.def_layout.specs.Layouts.{Way};
 ghost use Rattle.def_layout.specs.Lengths.{size};
-ghost use Rattle.def_layout.specs.Plans.{layout_of, number, plan};
+ghost use Rattle.def_layout.specs.Plans.{layout_of, way_number, plan};
 ghost use Rattle.def_layoutnet.specs.MeshLayouts.{IsMeshLayout};
 ghost use Rattle.def_written.specs.Places.{ONE};
 ghost use Rattle.def_remesh.specs.NewPoints.{lengths_in};
@@ -79,7 +79,7 @@ fn push_side(
     requires fine { AreFine (plan t.now) lengths.now }
     requires low { patch < length t.now.patches.items }
     requires side { side < 4 }
-    ensures { OnOk result ((way : Way) → number way ≡ side → ArePushed parameters.old.items parameters.new.items
+    ensures { OnOk result ((way : Way) → way_number way ≡ side → ArePushed parameters.old.items parameters.new.items
         (size (layout_of (plan t.now)) (lengths_in lengths.now) patch way)
         (side_parameter (layout_of (plan t.now)) (long_at (plan t.now).arcs) (lengths_in lengths.now) patch way)) }
 {
@@ -108,7 +108,7 @@ fn old_size(t: &TMesh, patch: usize, side: usize) -> u64
     requires layout { IsMeshLayout (plan t.now) }
     requires low { patch < length t.now.patches.items }
     requires side { side < 4 }
-    ensures { (way : Way) → number way ≡ side
+    ensures { (way : Way) → way_number way ≡ side
         → result ≡ size (layout_of (plan t.now)) (long_at (plan t.now).arcs) patch way }
 {
     if side % 2 == 0 {

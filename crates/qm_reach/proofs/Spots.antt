@@ -4,7 +4,7 @@ use Rattle.std.specs.Prelude.{nat_lt, slice_index}
 use Rattle.std.proofs.lemmas.Bool.{cases_eq, cases_lt, cond-true, lt-ltb}
 use Rattle.def_math.specs.Counts.{count_below}
 use Rattle.def_math.specs.Runs.{run_at}
-use Rattle.def_remesh.specs.Numberings.{AreStarts}
+use Rattle.def_remesh.specs.Numberings.{AreRunStarts}
 use Rattle.sum_laws.proofs.Counts.{count_below_same}
 use Rattle.written_laws.proofs.Runs.{count_rises, run_from, run_to, run_last}
 
@@ -61,17 +61,17 @@ pub term_room : (f : ℕ → ℕ) (n k : ℕ) → k < n → count_below f k + f 
 term_room f n k low = count_rises f (suc k) n (omega (arith, low))
 
 -- The end of the last run.
-pub last_is : (f : ℕ → ℕ) (n : ℕ) (starts : List ℕ) → AreStarts f n starts → slice_index starts (length starts - 1) ≡ count_below f n
+pub last_is : (f : ℕ → ℕ) (n : ℕ) (starts : List ℕ) → AreRunStarts f n starts → slice_index starts (length starts - 1) ≡ count_below f n
 last_is f n starts are =
     let last : length starts - 1 ≡ n = omega (arith, are.count) in ap (slice_index starts) last ∙ are.each n (omega arith)
 
 -- There is room for another run.
-pub next_room : (f : ℕ → ℕ) (n k : ℕ) (starts : List ℕ) → k < n → AreStarts f k starts
+pub next_room : (f : ℕ → ℕ) (n k : ℕ) (starts : List ℕ) → k < n → AreRunStarts f k starts
     → slice_index starts (length starts - 1) + f k ≤ count_below f n
 next_room f n k starts low are = omega (arith, last_is f k starts are, term_room f n k low)
 
 -- Starts of other sizes that are the same.
-pub starts_same : (f g : ℕ → ℕ) (n : ℕ) (starts : List ℕ) → ((k : ℕ) → k < n → f k ≡ g k) → AreStarts f n starts → AreStarts g n starts
+pub starts_same : (f g : ℕ → ℕ) (n : ℕ) (starts : List ℕ) → ((k : ℕ) → k < n → f k ≡ g k) → AreRunStarts f n starts → AreRunStarts g n starts
 starts_same f g n starts same are = record {
   count = are.count;
   each = λ k low. are.each k low ∙ count_below_same f g k (λ j less. same j (omega arith));

@@ -5,7 +5,7 @@ use Rattle.std.proofs.lemmas.List.{get_or_default}
 use Rattle.def_math.specs.Counts.{count_below}
 use Rattle.def_layout.specs.Layouts.{Way, south, east, north, west}
 use Rattle.def_layout.specs.Lengths.{Lengths, size}
-use Rattle.def_layout.specs.Plans.{Plan, layout_of, number, side_at}
+use Rattle.def_layout.specs.Plans.{Plan, layout_of, way_number, side_at}
 use Rattle.def_layout.specs.declared.tmesh.SideArc.{SideArc}
 use Rattle.def_remesh.specs.Numberings.{sizes_on, used_at}
 use Rattle.def_layoutnet.specs.MeshLayouts.{IsMeshLayout}
@@ -36,7 +36,7 @@ pub read_size : (side : List SideArc) (lengths : Lengths) (k : ℕ) → k < leng
 read_size side lengths k low = ap (λ (used : SideArc). lengths used.arc) (read_used side k low)
 
 -- The side with a number.
-pub way_for : (s : ℕ) → s < 4 → (w : Way) × (number w ≡ s)
+pub way_for : (s : ℕ) → s < 4 → (w : Way) × (way_number w ≡ s)
 way_for zero low = (south, refl)
 way_for (suc zero) low = (east, refl)
 way_for (suc (suc zero)) low = (north, refl)

@@ -2,14 +2,14 @@
 use Rattle.std.specs.Prelude.{◌≡◌, ℕ, List, [], length, map, slice_index_or}
 use Rattle.def_layout.specs.Layouts.{Way}
 use Rattle.def_layout.specs.Lengths.{Lengths}
-use Rattle.def_layout.specs.Plans.{Plan, number, side_at}
+use Rattle.def_layout.specs.Plans.{Plan, way_number, side_at}
 use Rattle.def_layout.specs.declared.tmesh.SideArc.{SideArc}
-use Rattle.def_remesh.specs.Numberings.{sizes_on, AreStarts}
-use Rattle.def_remesh.specs.declared.tables.Starts.{Starts}
+use Rattle.def_remesh.specs.Numberings.{sizes_on, AreRunStarts}
+use Rattle.def_remesh.specs.declared.tables.RunStarts.{RunStarts}
 
 -- Where the arcs on four sides begin.
-abbrev pub begins_of : (four : List Starts) → List (List ℕ)
-begins_of four = map (λ (starts : Starts). starts.begin.items) four
+abbrev pub begins_of : (four : List RunStarts) → List (List ℕ)
+begins_of four = map (λ (starts : RunStarts). starts.begin.items) four
 
 -- The arcs of a side, by the number of that.
 abbrev pub arcs_on : (plan : Plan) (patch side : ℕ) → List SideArc
@@ -18,11 +18,11 @@ arcs_on plan patch side = slice_index_or (slice_index_or plan.sides patch []) si
 -- The table is that of a side of a patch.
 abbrev pub IsTableOf : (plan : Plan) (lengths : Lengths) (patch side : ℕ) (table : List ℕ) → Type 0
 IsTableOf plan lengths patch side table =
-    AreStarts (sizes_on (arcs_on plan patch side) lengths) (length (arcs_on plan patch side)) table
+    AreRunStarts (sizes_on (arcs_on plan patch side) lengths) (length (arcs_on plan patch side)) table
 
 -- The tables are those of the sides of a patch.
 pub record AreFourStarts (plan : Plan) (lengths : Lengths) (patch : ℕ) (four : List (List ℕ)) : Type 0 where
   pub count : length four ≡ 4
   pub each : (side : Way)
-      → AreStarts (sizes_on (side_at plan patch side) lengths) (length (side_at plan patch side))
-      (slice_index_or four (number side) [])
+      → AreRunStarts (sizes_on (side_at plan patch side) lengths) (length (side_at plan patch side))
+      (slice_index_or four (way_number side) [])

@@ -3,10 +3,10 @@
 ghost use Rattle.std.specs.Prelude.{◌≡◌, ◌<◌, ◌-◌, ◌^◌, ℕ, length, slice_index, IfOk};
 ghost use Rattle.def_math.specs.Counts.{count_below};
 ghost use Rattle.def_remesh.specs.NewPoints.{lengths_in};
-ghost use Rattle.def_remesh.specs.Numberings.{AreStarts};
+ghost use Rattle.def_remesh.specs.Numberings.{AreRunStarts};
 
 use crate::starts::{no_starts, push_start};
-use def_remesh::Starts;
+use def_remesh::RunStarts;
 use std::alloc::{AllocError, Global};
 
 /// The same lengths, in half the room.
@@ -22,11 +22,11 @@ pub fn short_lengths(alloc: Global, lengths: &[u64]) -> Result<Vec<u32>, AllocEr
 }
 
 /// Where the inner points of arcs of these lengths begin.
-pub fn inner_points(alloc: Global, lengths: &[u32]) -> Result<Starts, AllocError>
+pub fn inner_points(alloc: Global, lengths: &[u32]) -> Result<RunStarts, AllocError>
     requires some { (arc : ℕ) → arc < length lengths.now → 0 < slice_index lengths.now arc }
     requires small { count_below (λ arc. lengths_in lengths.now arc - 1) (length lengths.now) < 2 ^ 32 }
     ensures { IfOk result (λ starts.
-        AreStarts (λ arc. lengths_in lengths.now arc - 1) (length lengths.now) starts.begin.items) }
+        AreRunStarts (λ arc. lengths_in lengths.now arc - 1) (length lengths.now) starts.begin.items) }
 {
     let mut starts = no_starts(alloc, lengths.len())?;
     for length in lengths {

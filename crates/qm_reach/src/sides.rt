@@ -9,12 +9,12 @@ ghost use Rattle.def_layout.specs.Plans.{layout_of, plan};
 ghost use Rattle.def_layout.specs.declared.tmesh.SideArc.{SideArc as Used};
 ghost use Rattle.def_layoutnet.specs.MeshLayouts.{IsMeshLayout};
 ghost use Rattle.def_remesh.specs.NewPoints.{lengths_in};
-ghost use Rattle.def_remesh.specs.Numberings.{sizes_on, tables_of, AreSideStarts, AreStarts};
+ghost use Rattle.def_remesh.specs.Numberings.{sizes_on, tables_of, AreSideStarts, AreRunStarts};
 ghost use Rattle.qm_reach.specs.Fours.{begins_of, AreFourStarts, IsTableOf};
 
 use crate::starts::{no_starts, push_start};
 use def_layout::{SideArc, TMesh};
-use def_remesh::Starts;
+use def_remesh::RunStarts;
 use std::alloc::{AllocError, Global};
 
 /// The arcs on a side of a patch: 0 is south, 1 east, 2 north and 3 west.
@@ -29,7 +29,7 @@ pub fn side_of(t: &TMesh, patch: usize, side: usize) -> &[SideArc]
 }
 
 /// Where the arcs on a side of a patch begin.
-pub fn starts_on(sides: &[[Starts; 4]], patch: usize, side: usize) -> &[u32]
+pub fn starts_on(sides: &[[RunStarts; 4]], patch: usize, side: usize) -> &[u32]
     requires low { patch < length sides.now }
     requires four { length (slice_index_or (tables_of sides.now) patch []) ≡ 4 }
     requires side { side < 4 }
@@ -40,11 +40,11 @@ pub fn starts_on(sides: &[[Starts; 4]], patch: usize, side: usize) -> &[u32]
 }
 
 /// Where arcs of these lengths begin on a side.
-fn side_starts(alloc: Global, side: &[SideArc], lengths: &[u32]) -> Result<Starts, AllocError>
+fn side_starts(alloc: Global, side: &[SideArc], lengths: &[u32]) -> Result<RunStarts, AllocError>
     requires low { All (λ (used : Used). used.arc < length lengths.now) side.now }
     requires small { count_below (sizes_on side.now (lengths_in lengths.now)) (length side.now) < 2 ^ 32 }
     ensures { IfOk result (λ starts.
-        AreStarts (sizes_on side.now (lengths_in lengths.now)) (length side.now) starts.begin.items) }
+        AreRunStarts (sizes_on side.now (lengths_in lengths.now)) (length side.now) starts.begin.items) }
 {
     let mut starts = no_starts(alloc, side.len())?;
     for used in side {
@@ -60,7 +60,7 @@ fn starts_of(
     patch: usize,
     side: usize,
     lengths: &[u32],
-) -> Result<Starts, AllocError>
+) -> Result<RunStarts, AllocError>
     requires layout { IsMeshLayout (plan t.now) }
     requires low { patch < length t.now.patches.items }
     requires side { side < 4 }
@@ -78,7 +78,7 @@ fn four_starts(
     t: &TMesh,
     patch: usize,
     lengths: &[u32],
-) -> Result<[Starts; 4], AllocError>
+) -> Result<[RunStarts; 4], AllocError>
     requires layout { IsMeshLayout (plan t.now) }
     requires low { patch < length t.now.patches.items }
     requires long { length lengths.now ≡ length t.now.arcs.items }
@@ -98,7 +98,7 @@ pub fn side_tables(
     alloc: Global,
     t: &TMesh,
     lengths: &[u32],
-) -> Result<Vec<[Starts; 4]>, AllocError>
+) -> Result<Vec<[RunStarts; 4]>, AllocError>
     requires layout { IsMeshLayout (plan t.now) }
     requires long { length lengths.now ≡ length t.now.arcs.items }
     requires small { (patch : ℕ) (side : Way) → patch < length t.now.patches.items

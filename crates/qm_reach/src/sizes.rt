@@ -6,7 +6,7 @@ ghost use Rattle.def_flow.specs.declared.limits.TheConstants.{MAX_LENGTH};
 ghost use Rattle.def_math.specs.Counts.{count_below};
 ghost use Rattle.def_layout.specs.Layouts.{Way};
 ghost use Rattle.def_layout.specs.Lengths.{size};
-ghost use Rattle.def_layout.specs.Plans.{layout_of, number, plan};
+ghost use Rattle.def_layout.specs.Plans.{layout_of, way_number, plan};
 ghost use Rattle.def_layout.specs.declared.tmesh.SideArc.{SideArc as Used};
 ghost use Rattle.def_layoutnet.specs.MeshLayouts.{IsMeshLayout};
 ghost use Rattle.def_remesh.specs.NewPoints.{lengths_in};
@@ -35,7 +35,7 @@ pub fn size_on(t: &TMesh, patch: usize, side: usize, lengths: &[u64]) -> u64
     requires side { side < 4 }
     requires long { length lengths.now ≡ length t.now.arcs.items }
     requires bounded { (arc : ℕ) → lengths_in lengths.now arc ≤ MAX_LENGTH }
-    ensures { (way : Way) → number way ≡ side
+    ensures { (way : Way) → way_number way ≡ side
         → result ≡ size (layout_of (plan t.now)) (lengths_in lengths.now) patch way }
 {
     size_of(side_of(t, patch, side), lengths)

@@ -3,13 +3,13 @@
 ghost use Rattle.std.specs.Prelude.{◌≡◌, ◌≤◌, ◌<◌, ◌+◌, ℕ, length, slice_index, true};
 ghost use Rattle.def_math.specs.Counts.{count_below};
 ghost use Rattle.def_math.specs.Runs.{run_at};
-ghost use Rattle.def_remesh.specs.Numberings.{AreStarts};
+ghost use Rattle.def_remesh.specs.Numberings.{AreRunStarts};
 
 /// Which run holds a place: the last one that begins at or before it. Logarithmic.
 pub fn spot_in(starts: &[u32], place: u32) -> usize
     requires { 1 < length starts.now }
     ensures low { result + 1 < length starts.now }
-    ensures run { (sizes : ℕ → ℕ) (runs : ℕ) → AreStarts sizes runs starts.now
+    ensures run { (sizes : ℕ → ℕ) (runs : ℕ) → AreRunStarts sizes runs starts.now
         → result ≡ run_at (count_below sizes) runs place }
 {
     let mut low = 0;
@@ -29,7 +29,7 @@ pub fn spot_in(starts: &[u32], place: u32) -> usize
 pub fn spot_near(starts: &[u32], place: u32, near: usize) -> usize
     requires { 1 < length starts.now }
     ensures low { result + 1 < length starts.now }
-    ensures run { (sizes : ℕ → ℕ) (runs : ℕ) → AreStarts sizes runs starts.now
+    ensures run { (sizes : ℕ → ℕ) (runs : ℕ) → AreRunStarts sizes runs starts.now
         → result ≡ run_at (count_below sizes) runs place }
 {
     if holds(starts, place, near) {

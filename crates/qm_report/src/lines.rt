@@ -2,7 +2,7 @@
 
 ghost use Rattle.std.specs.Prelude.{◌≡◌, ◌++◌, OnOk, decimal};
 ghost use Rattle.std.specs.Fmt.{signed_decimal};
-ghost use Rattle.def_report.specs.GraphText.{line_of, numbers_text};
+ghost use Rattle.def_report.specs.GraphText.{numbers_line, numbers_text};
 
 use crate::Memory;
 use def_io::LINE_FEED;
@@ -10,7 +10,7 @@ use qm_print::{push_number, push_signed, push_spaced};
 
 /// Puts a line of a word and numbers at the end of a text.
 pub(crate) fn push_line(text: &mut Vec<u8>, word: &[u8], numbers: &[u64]) -> Result<(), Memory>
-    ensures { OnOk result (text.new.items ≡ text.old.items ++ line_of word.now numbers.now) }
+    ensures { OnOk result (text.new.items ≡ text.old.items ++ numbers_line word.now numbers.now) }
 {
     text.extend_from_slice(word)?;
     push_numbers(text, numbers)?;

@@ -3,9 +3,9 @@
 ghost use Rattle.std.specs.Prelude.{◌≡◌, ◌<◌, ◌++◌, ◌+◌, ℕ, [], length, map, slice_index_or, OnOk};
 ghost use Rattle.std.specs.List.{flat_map, range_with_len};
 ghost use Rattle.def_layout.specs.declared.tmesh.SideArc.{SideArc as Used};
-ghost use Rattle.def_layout.specs.Arcs.{arc_at};
+ghost use Rattle.def_layout.specs.Arcs.{path_at};
 ghost use Rattle.def_layout.specs.Plans.{plan};
-ghost use Rattle.def_report.specs.GraphText.{arc_line, line_of, patch_lines, side_lines, size_line};
+ghost use Rattle.def_report.specs.GraphText.{arc_line, numbers_line, patch_lines, side_lines, size_line};
 
 use crate::Memory;
 use crate::lines::push_line;
@@ -16,9 +16,9 @@ use qm_print::push_spaced;
 /// Puts the lines of all arcs of a layout at the end of a text.
 pub(crate) fn push_arcs(text: &mut Vec<u8>, t: &TMesh) -> Result<(), Memory>
     requires first { (arc : ℕ) → arc < length (plan t.now).arcs
-        → (arc_at (plan t.now).arcs arc).first < length t.now.nodes.items }
+        → (path_at (plan t.now).arcs arc).first < length t.now.nodes.items }
     requires last { (arc : ℕ) → arc < length (plan t.now).arcs
-        → (arc_at (plan t.now).arcs arc).last < length t.now.nodes.items }
+        → (path_at (plan t.now).arcs arc).last < length t.now.nodes.items }
     ensures { OnOk result (text.new.items ≡
         text.old.items ++ flat_map (arc_line (plan t.now)) (range_with_len 0 (length (plan t.now).arcs))) }
 {
@@ -31,8 +31,8 @@ pub(crate) fn push_arcs(text: &mut Vec<u8>, t: &TMesh) -> Result<(), Memory>
 /// An arc: its number, the vertices at its ends, and its length.
 fn push_arc(text: &mut Vec<u8>, t: &TMesh, a: usize) -> Result<(), Memory>
     requires low { a < length t.now.arcs.items }
-    requires first { (arc_at (plan t.now).arcs a).first < length t.now.nodes.items }
-    requires last { (arc_at (plan t.now).arcs a).last < length t.now.nodes.items }
+    requires first { (path_at (plan t.now).arcs a).first < length t.now.nodes.items }
+    requires last { (path_at (plan t.now).arcs a).last < length t.now.nodes.items }
     ensures { OnOk result (text.new.items ≡ text.old.items ++ arc_line (plan t.now) a) }
 {
     let arc = &t.arcs[a];
@@ -90,7 +90,7 @@ fn push_sides(text: &mut Vec<u8>, t: &TMesh, p: usize) -> Result<(), Memory>
 /// A side: its word, and its arcs in order.
 fn push_side(text: &mut Vec<u8>, word: &[u8], arcs: &[SideArc]) -> Result<(), Memory>
     ensures { OnOk result (text.new.items ≡
-        text.old.items ++ line_of word.now (map (λ (used : Used). used.arc + 1) arcs.now)) }
+        text.old.items ++ numbers_line word.now (map (λ (used : Used). used.arc + 1) arcs.now)) }
 {
     text.extend_from_slice(word)?;
     for used in arcs {

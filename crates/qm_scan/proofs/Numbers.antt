@@ -8,7 +8,7 @@ use Rattle.std.proofs.lemmas.List.{take_more, map_push}
 use Rattle.std.proofs.lemmas.Bool.{cases_lt, false≢true, ne_eqb}
 use Rattle.std.proofs.lemmas.List.{length-take-le}
 use Rattle.std.proofs.Math.Nat.{pow-le-pow_right}
-use Rattle.def_text.specs.Digits.{is_number, number}
+use Rattle.def_text.specs.Digits.{is_number, number_written}
 use Rattle.std.specs.Int.Digits.{AllBelowBase}
 use Rattle.std.proofs.lemmas.Int.Digits.{number_lt}
 use Rattle.std.proofs.lemmas.List.{length-map}
@@ -30,13 +30,13 @@ values_below (d ∷ ds) all =
     (omega (arith, (digit_small d parts.0).1), values_below ds parts.1)
 
 -- Digits write a number below the power of ten of their count.
-pub number_small : (ds : List ℕ) → list_all is_ascii_digit ds ≡ true → number ds < 10 ^ length ds
-number_small ds all = subst (λ (n : ℕ). number ds < 10 ^ n) (length-map ds (λ d. d - 48)) (number_lt 10 (values ds) (values_below ds all))
+pub number_small : (ds : List ℕ) → list_all is_ascii_digit ds ≡ true → number_written ds < 10 ^ length ds
+number_small ds all = subst (λ (n : ℕ). number_written ds < 10 ^ n) (length-map ds (λ d. d - 48)) (number_lt 10 (values ds) (values_below ds all))
 
 -- One digit more.
-pub number_more : (word : List ℕ) (i : ℕ) → i < length word → number (take (i + 1) word) ≡ number (take i word) * 10 + (get_or word i 0 - 48)
+pub number_more : (word : List ℕ) (i : ℕ) → i < length word → number_written (take (i + 1) word) ≡ number_written (take i word) * 10 + (get_or word i 0 - 48)
 number_more word i l =
-    ap number (take_more word i 0 l)
+    ap number_written (take_more word i 0 l)
     ∙ ap (number_from_digits 10) (map_push (λ d. d - 48) (take i word) (get_or word i 0))
     ∙ number_push 10 (map (λ d. d - 48) (take i word)) (get_or word i 0 - 48)
 
@@ -61,16 +61,16 @@ ten_power : (i : ℕ) → i ≤ 18 → 10 ^ i ≤ 10 ^ 18
 ten_power i le = pow-le-pow_right {n = 10} (omega arith) {i = i} {j = 18} le
 
 -- At most 18 digits need no clamp, and fewer of them leave room for one more.
-pub short_unclamped : (word : List ℕ) → length word ≤ 18 → cond (is_number word) (Some (number word)) None ≡ cond (is_number word) (Some (min (number word) (2 ^ 64 - 1))) None
+pub short_unclamped : (word : List ℕ) → length word ≤ 18 → cond (is_number word) (Some (number_written word)) None ≡ cond (is_number word) (Some (min (number_written word) (2 ^ 64 - 1))) None
 short_unclamped word short = by_form (is_number word) refl
   where
-    by_form : (t : Bool) → is_number word ≡ t → cond t (Some (number word)) None ≡ cond t (Some (min (number word) (2 ^ 64 - 1))) None
-    by_form true is = let e : number word ≡ min (number word) (2 ^ 64 - 1) = omega (arith, number_small word (digits_of_number word is), ten_power (length word) short) in ap Some e
+    by_form : (t : Bool) → is_number word ≡ t → cond t (Some (number_written word)) None ≡ cond t (Some (min (number_written word) (2 ^ 64 - 1))) None
+    by_form true is = let e : number_written word ≡ min (number_written word) (2 ^ 64 - 1) = omega (arith, number_small word (digits_of_number word is), ten_power (length word) short) in ap Some e
     by_form false isnt = refl
 
-pub taken_small : (word : List ℕ) (i : ℕ) → i < length word → length word ≤ 18 → list_all is_ascii_digit (take i word) ≡ true → number (take i word) < 10 ^ 17
+pub taken_small : (word : List ℕ) (i : ℕ) → i < length word → length word ≤ 18 → list_all is_ascii_digit (take i word) ≡ true → number_written (take i word) < 10 ^ 17
 taken_small word i there short all =
     let long : length (take i word) ≡ i = length-take-le i word (omega arith) in
-    let small : number (take i word) < 10 ^ i = subst (λ (n : ℕ). number (take i word) < 10 ^ n) long (number_small (take i word) all) in
+    let small : number_written (take i word) < 10 ^ i = subst (λ (n : ℕ). number_written (take i word) < 10 ^ n) long (number_small (take i word) all) in
     let power : 10 ^ i ≤ 10 ^ 17 = pow-le-pow_right {n = 10} (omega arith) {i = i} {j = 17} (omega arith) in
     omega arith

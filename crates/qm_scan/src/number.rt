@@ -1,11 +1,11 @@
 //! Numbers that digits write.
 
 ghost use Rattle.std.specs.Prelude.{◌≡◌, ◌≤◌, ◌-◌, ◌^◌, length, min, Some, None, if◌then◌else◌};
-ghost use Rattle.def_text.specs.Digits.{is_number, number};
+ghost use Rattle.def_text.specs.Digits.{is_number, number_written};
 
 /// The number that digits write, or `u64::MAX` where it is greater; `None` where the word is no number.
 pub fn read_number(word: &[u8]) -> Option<u64>
-    ensures { result ≡ (if is_number word.now then Some (min (number word.now) (2 ^ 64 - 1)) else None) }
+    ensures { result ≡ (if is_number word.now then Some (min (number_written word.now) (2 ^ 64 - 1)) else None) }
 {
     if word.len() <= 18 {
         read_short(word)
@@ -17,7 +17,7 @@ pub fn read_number(word: &[u8]) -> Option<u64>
 /// A number that needs no clamp, which is nearly every one.
 fn read_short(word: &[u8]) -> Option<u64>
     requires { length word.now ≤ 18 }
-    ensures { result ≡ (if is_number word.now then Some (number word.now) else None) }
+    ensures { result ≡ (if is_number word.now then Some (number_written word.now) else None) }
 {
     if word.is_empty() {
         return None;
@@ -33,7 +33,7 @@ fn read_short(word: &[u8]) -> Option<u64>
 }
 
 fn read_long(word: &[u8]) -> Option<u64>
-    ensures { result ≡ (if is_number word.now then Some (min (number word.now) (2 ^ 64 - 1)) else None) }
+    ensures { result ≡ (if is_number word.now then Some (min (number_written word.now) (2 ^ 64 - 1)) else None) }
 {
     if word.is_empty() {
         return None;

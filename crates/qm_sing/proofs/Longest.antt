@@ -6,7 +6,7 @@ use Rattle.std.proofs.lemmas.List.{length-append, length-replicate, map-append, 
 use Rattle.def_mesh.specs.Faces.{Faces}
 use Rattle.def_mesh.specs.Darts.{darts}
 use Rattle.def_mesh.specs.Manifold.{IsManifold}
-use Rattle.def_runs.specs.Runs.{Holds, IsBefore, IsLongestRun, first_dart, follower, is_closed, is_dart, last_dart, run_at}
+use Rattle.def_runs.specs.Runs.{HasDart, IsBefore, IsLongestRun, first_dart, follower, is_closed, is_dart, last_dart, nth_run}
 use Rattle.cut_laws.proofs.Pigeon.{sent_or_not}
 use Rattle.qm_sing.specs.declared.flooding.TheConstants.{NONE}
 use Rattle.qm_sing.specs.declared.lines.Line.{Line}
@@ -68,21 +68,21 @@ module _ (faces : Faces) (m : IsManifold faces) (d first r : ℕ) (line : Line) 
       by_stop (inr e) = e.0
 
   -- What the first dart follows stands in the run.
-  begins_at : (e : ℕ) → e < darts faces → follower faces e ≡ Some first → Holds (walk_list (walked (follower faces) first) on.last) e
+  begins_at : (e : ℕ) → e < darts faces → follower faces e ≡ Some first → HasDart (walk_list (walked (follower faces) first) on.last) e
   begins_at e l is = by_test (cases_Bool line.closed)
     where
-      by_stop : line.closed ≡ false → ((leader faces first ≡ None) × (first ≡ walked (leader faces) d back.steps)) ⊎ ((first ≡ d) × (leader faces (walked (leader faces) d back.steps) ≡ Some d)) → Holds (walk_list (walked (follower faces) first) on.last) e
+      by_stop : line.closed ≡ false → ((leader faces first ≡ None) × (first ≡ walked (leader faces) d back.steps)) ⊎ ((first ≡ d) × (leader faces (walked (leader faces) d back.steps) ≡ Some d)) → HasDart (walk_list (walked (follower faces) first) on.last) e
       by_stop off (inl s) = absurd (none-some e (sym s.0 ∙ back_of faces m e first l is))
       by_stop off (inr s) = absurd (not_open s.1 s.0 off)
 
-      by_test : (line.closed ≡ true) ⊎ (line.closed ≡ false) → Holds (walk_list (walked (follower faces) first) on.last) e
+      by_test : (line.closed ≡ true) ⊎ (line.closed ≡ false) → HasDart (walk_list (walked (follower faces) first) on.last) e
       by_test (inl shut) = holds_at (walked (follower faces) first) on.last on.last e (omega arith) (one_follower faces m (walked (follower faces) first on.last) e first (ahead_low on.last (omega arith)) l (on.closes shut) is)
       by_test (inr off) = by_stop off back.stops
 
-  ends_at : (e : ℕ) → follower faces (walked (follower faces) first on.last) ≡ Some e → Holds (walk_list (walked (follower faces) first) on.last) e
+  ends_at : (e : ℕ) → follower faces (walked (follower faces) first on.last) ≡ Some e → HasDart (walk_list (walked (follower faces) first) on.last) e
   ends_at e is = by_test (cases_Bool line.closed)
     where
-      by_test : (line.closed ≡ true) ⊎ (line.closed ≡ false) → Holds (walk_list (walked (follower faces) first) on.last) e
+      by_test : (line.closed ≡ true) ⊎ (line.closed ≡ false) → HasDart (walk_list (walked (follower faces) first) on.last) e
       by_test (inl shut) = holds_at (walked (follower faces) first) on.last 0 e (omega arith) (same_Some first e (sym (on.closes shut) ∙ is))
       by_test (inr off) = absurd (none-some e (sym (on.opens off) ∙ is))
 
@@ -136,10 +136,10 @@ module _ (faces : Faces) (m : IsManifold faces) (d first r : ℕ) (line : Line) 
 
 -- In whole runs, a dart with its number leads to darts with numbers.
 module _ (faces : Faces) (m : IsManifold faces) (d : ℕ) (run at : List ℕ) (lists : List (List ℕ)) (found : AreRunsBelow faces d run at lists) where
-  none_told : length lists ≤ NONE → (r k : ℕ) → r < length lists → k < length (run_at lists r) → get_or run (get_or (run_at lists r) k 0) 0 ≢ NONE
+  none_told : length lists ≤ NONE → (r k : ℕ) → r < length lists → k < length (nth_run lists r) → get_or run (get_or (nth_run lists r) k 0) 0 ≢ NONE
   none_told few r k l h e = absurd (omega (arith, (found.told r k l h).0, e))
 
-  held : length lists ≤ NONE → (r e : ℕ) → r < length lists → Holds (run_at lists r) e → get_or run e 0 ≢ NONE
+  held : length lists ≤ NONE → (r e : ℕ) → r < length lists → HasDart (nth_run lists r) e → get_or run e 0 ≢ NONE
   held few r e l (k, h, s) off = none_told few r k l h (ap (λ (x : ℕ). get_or run x 0) s ∙ off)
 
   -- Where x is not numbered, neither is the dart before it, nor the one after it.
@@ -149,24 +149,24 @@ module _ (faces : Faces) (m : IsManifold faces) (d : ℕ) (run at : List ℕ) (l
       follows : follower faces y ≡ Some x
       follows = on_from faces m x y l is
 
-      by_place : get_or run y 0 ≢ NONE → (get_or run y 0 < length lists) × (get_or at y 0 < length (run_at lists (get_or run y 0))) × (get_or (run_at lists (get_or run y 0)) (get_or at y 0) 0 ≡ y) → ⊥
-      by_place ne (lr, lk, s) = by_last (cases_lt (suc (get_or at y 0)) (length (run_at lists (get_or run y 0))))
+      by_place : get_or run y 0 ≢ NONE → (get_or run y 0 < length lists) × (get_or at y 0 < length (nth_run lists (get_or run y 0))) × (get_or (nth_run lists (get_or run y 0)) (get_or at y 0) 0 ≡ y) → ⊥
+      by_place ne (lr, lk, s) = by_last (cases_lt (suc (get_or at y 0)) (length (nth_run lists (get_or run y 0))))
         where
-          by_last : (suc (get_or at y 0) < length (run_at lists (get_or run y 0))) ⊎ (length (run_at lists (get_or run y 0)) ≤ suc (get_or at y 0)) → ⊥
+          by_last : (suc (get_or at y 0) < length (nth_run lists (get_or run y 0))) ⊎ (length (nth_run lists (get_or run y 0)) ≤ suc (get_or at y 0)) → ⊥
           by_last (inl more) =
-              let e : x ≡ get_or (run_at lists (get_or run y 0)) (suc (get_or at y 0)) 0 = same_Some _ _ (sym follows ∙ (ap (follower faces) (sym s) ∙ (found.runs (get_or run y 0) lr).straight (get_or at y 0) more)) in
+              let e : x ≡ get_or (nth_run lists (get_or run y 0)) (suc (get_or at y 0)) 0 = same_Some _ _ (sym follows ∙ (ap (follower faces) (sym s) ∙ (found.runs (get_or run y 0) lr).straight (get_or at y 0) more)) in
               none_told few (get_or run y 0) (suc (get_or at y 0)) lr more (ap (λ (z : ℕ). get_or run z 0) (sym e) ∙ fresh)
           by_last (inr last) =
-              let e : length (run_at lists (get_or run y 0)) - 1 ≡ get_or at y 0 = omega (arith, last, lk) in
-              held few (get_or run y 0) x lr ((found.runs (get_or run y 0) lr).ends x (ap (λ (k : ℕ). follower faces (get_or (run_at lists (get_or run y 0)) k 0)) e ∙ (ap (follower faces) s ∙ follows))) fresh
+              let e : length (nth_run lists (get_or run y 0)) - 1 ≡ get_or at y 0 = omega (arith, last, lk) in
+              held few (get_or run y 0) x lr ((found.runs (get_or run y 0) lr).ends x (ap (λ (k : ℕ). follower faces (get_or (nth_run lists (get_or run y 0)) k 0)) e ∙ (ap (follower faces) s ∙ follows))) fresh
 
   pub after_fresh : length lists ≤ NONE → (x y : ℕ) → x < darts faces → follower faces x ≡ Some y → get_or run x 0 ≡ NONE → get_or run y 0 ≡ NONE
   after_fresh few x y l is fresh = elim (cases_eq (get_or run y 0) NONE) [ inl e ↦ e | inr ne ↦ absurd (by_place (get_or run y 0) (get_or at y 0) (found.there y (follower_low faces m x y l is) ne)) ]
     where
-      by_place : (r k : ℕ) → (r < length lists) × (k < length (run_at lists r)) × (get_or (run_at lists r) k 0 ≡ y) → ⊥
+      by_place : (r k : ℕ) → (r < length lists) × (k < length (nth_run lists r)) × (get_or (nth_run lists r) k 0 ≡ y) → ⊥
       by_place r zero (lr, lk, s) = held few r x lr ((found.runs r lr).begins x l (is ∙ ap Some (sym s))) fresh
       by_place r (suc k) (lr, lk, s) =
-          let e : get_or (run_at lists r) k 0 ≡ x = one_follower faces m (get_or (run_at lists r) k 0) x y ((found.runs r lr).low k (omega arith)) l ((found.runs r lr).straight k lk ∙ ap Some s) is in
+          let e : get_or (nth_run lists r) k 0 ≡ x = one_follower faces m (get_or (nth_run lists r) k 0) x y ((found.runs r lr).low k (omega arith)) l ((found.runs r lr).straight k lk ∙ ap Some s) is in
           none_told few r k lr (omega arith) (ap (λ (z : ℕ). get_or run z 0) e ∙ fresh)
 
 -- One run more is found.
@@ -184,18 +184,18 @@ module _ (faces : Faces) (m : IsManifold faces) (d first : ℕ) (line : Line) (r
   long : length (so.lists ++ walk_list (walked (follower faces) first) on.last ∷ []) ≡ suc (length so.lists)
   long = length-append so.lists (walk_list (walked (follower faces) first) on.last ∷ []) ∙ omega arith
 
-  old_at : (r : ℕ) → r < length so.lists → run_at (so.lists ++ walk_list (walked (follower faces) first) on.last ∷ []) r ≡ run_at so.lists r
+  old_at : (r : ℕ) → r < length so.lists → nth_run (so.lists ++ walk_list (walked (follower faces) first) on.last ∷ []) r ≡ nth_run so.lists r
   old_at r l = get_or_append_left so.lists (walk_list (walked (follower faces) first) on.last ∷ []) [] r l
 
-  new_at : run_at (so.lists ++ walk_list (walked (follower faces) first) on.last ∷ []) (length so.lists) ≡ walk_list (walked (follower faces) first) on.last
+  new_at : nth_run (so.lists ++ walk_list (walked (follower faces) first) on.last ∷ []) (length so.lists) ≡ walk_list (walked (follower faces) first) on.last
   new_at = let e : length so.lists + 0 ≡ length so.lists = omega arith in
-      ap (run_at (so.lists ++ walk_list (walked (follower faces) first) on.last ∷ [])) (sym e) ∙ get_or-append-add so.lists (walk_list (walked (follower faces) first) on.last ∷ []) 0 []
+      ap (nth_run (so.lists ++ walk_list (walked (follower faces) first) on.last ∷ [])) (sym e) ∙ get_or-append-add so.lists (walk_list (walked (follower faces) first) on.last ∷ []) 0 []
 
   -- What holds of each run found before and of the new one holds of each.
-  each_more : (P : ℕ → List ℕ → Type 0) → ((r : ℕ) → r < length so.lists → P r (run_at so.lists r)) → P (length so.lists) (walk_list (walked (follower faces) first) on.last)
-      → (r : ℕ) → r < length (so.lists ++ walk_list (walked (follower faces) first) on.last ∷ []) → P r (run_at (so.lists ++ walk_list (walked (follower faces) first) on.last ∷ []) r)
+  each_more : (P : ℕ → List ℕ → Type 0) → ((r : ℕ) → r < length so.lists → P r (nth_run so.lists r)) → P (length so.lists) (walk_list (walked (follower faces) first) on.last)
+      → (r : ℕ) → r < length (so.lists ++ walk_list (walked (follower faces) first) on.last ∷ []) → P r (nth_run (so.lists ++ walk_list (walked (follower faces) first) on.last ∷ []) r)
   each_more P old new r l = elim (cases_eq r (length so.lists)) [
-    | inl e ↦ subst (λ (x : ℕ). P x (run_at (so.lists ++ walk_list (walked (follower faces) first) on.last ∷ []) x)) (sym e) (subst (P (length so.lists)) (sym new_at) new)
+    | inl e ↦ subst (λ (x : ℕ). P x (nth_run (so.lists ++ walk_list (walked (follower faces) first) on.last ∷ []) x)) (sym e) (subst (P (length so.lists)) (sym new_at) new)
     | inr ne ↦ let h : r < length so.lists = omega (arith, l, long) in subst (P r) (sym (old_at r h)) (old r h)
   ]
 
@@ -230,11 +230,11 @@ module _ (faces : Faces) (m : IsManifold faces) (d first : ℕ) (line : Line) (r
   kept_at : (e : ℕ) → get_or run_old e 0 ≢ NONE → (get_or run e 0 ≡ get_or run_old e 0) × (get_or at e 0 ≡ get_or at_old e 0)
   kept_at e old = on.told.kept e (λ k l s. old (ap (λ (x : ℕ). get_or run_old x 0) (sym s) ∙ ahead_fresh k (omega (arith, l))))
 
-  told_old : (r : ℕ) → r < length so.lists → (k : ℕ) → k < length (run_at so.lists r) → (get_or run (get_or (run_at so.lists r) k 0) 0 ≡ r) × (get_or at (get_or (run_at so.lists r) k 0) 0 ≡ k)
+  told_old : (r : ℕ) → r < length so.lists → (k : ℕ) → k < length (nth_run so.lists r) → (get_or run (get_or (nth_run so.lists r) k 0) 0 ≡ r) × (get_or at (get_or (nth_run so.lists r) k 0) 0 ≡ k)
   told_old r l k h =
-      let o : (get_or run_old (get_or (run_at so.lists r) k 0) 0 ≡ r) × (get_or at_old (get_or (run_at so.lists r) k 0) 0 ≡ k) = so.found.told r k l h in
-      let n : (get_or run (get_or (run_at so.lists r) k 0) 0 ≡ get_or run_old (get_or (run_at so.lists r) k 0) 0) × (get_or at (get_or (run_at so.lists r) k 0) 0 ≡ get_or at_old (get_or (run_at so.lists r) k 0) 0) =
-      kept_at (get_or (run_at so.lists r) k 0) (λ e. absurd (omega (arith, l, e, o.0, few))) in
+      let o : (get_or run_old (get_or (nth_run so.lists r) k 0) 0 ≡ r) × (get_or at_old (get_or (nth_run so.lists r) k 0) 0 ≡ k) = so.found.told r k l h in
+      let n : (get_or run (get_or (nth_run so.lists r) k 0) 0 ≡ get_or run_old (get_or (nth_run so.lists r) k 0) 0) × (get_or at (get_or (nth_run so.lists r) k 0) 0 ≡ get_or at_old (get_or (nth_run so.lists r) k 0) 0) =
+      kept_at (get_or (nth_run so.lists r) k 0) (λ e. absurd (omega (arith, l, e, o.0, few))) in
       (n.0 ∙ o.0, n.1 ∙ o.1)
 
   told_new : (k : ℕ) → k < length (walk_list (walked (follower faces) first) on.last) → (get_or run (get_or (walk_list (walked (follower faces) first) on.last) k 0) 0 ≡ length so.lists) × (get_or at (get_or (walk_list (walked (follower faces) first) on.last) k 0) 0 ≡ k)
@@ -244,9 +244,9 @@ module _ (faces : Faces) (m : IsManifold faces) (d first : ℕ) (line : Line) (r
       (ap (λ (x : ℕ). get_or run x 0) (walk_at (walked (follower faces) first) on.last k h) ∙ t.0, ap (λ (x : ℕ). get_or at x 0) (walk_at (walked (follower faces) first) on.last k h) ∙ t.1)
 
   abbrev Stands : (e r k : ℕ) → Type 0
-  Stands e r k = (r < length (so.lists ++ walk_list (walked (follower faces) first) on.last ∷ [])) × (k < length (run_at (so.lists ++ walk_list (walked (follower faces) first) on.last ∷ []) r)) × (get_or (run_at (so.lists ++ walk_list (walked (follower faces) first) on.last ∷ []) r) k 0 ≡ e)
+  Stands e r k = (r < length (so.lists ++ walk_list (walked (follower faces) first) on.last ∷ [])) × (k < length (nth_run (so.lists ++ walk_list (walked (follower faces) first) on.last ∷ []) r)) × (get_or (nth_run (so.lists ++ walk_list (walked (follower faces) first) on.last ∷ []) r) k 0 ≡ e)
 
-  stands_old : (e r k : ℕ) → (r < length so.lists) × (k < length (run_at so.lists r)) × (get_or (run_at so.lists r) k 0 ≡ e) → Stands e r k
+  stands_old : (e r k : ℕ) → (r < length so.lists) × (k < length (nth_run so.lists r)) × (get_or (nth_run so.lists r) k 0 ≡ e) → Stands e r k
   stands_old e r k (l, h, s) = (omega (arith, l, long), rw (old_at r l) h, rw (old_at r l) s)
 
   stands_new : (e k : ℕ) → k < suc on.last → walked (follower faces) first k ≡ e → Stands e (length so.lists) k
@@ -281,19 +281,19 @@ module _ (faces : Faces) (m : IsManifold faces) (d first : ℕ) (line : Line) (r
     list_high k l,
   )
 
-  increasing_old : (r : ℕ) → r < length so.lists → (q : ℕ) → q < r → IsBefore (run_at (so.lists ++ walk_list (walked (follower faces) first) on.last ∷ []) q) (run_at so.lists r)
-  increasing_old r l q less = subst (λ (xs : List ℕ). IsBefore xs (run_at so.lists r)) (sym (old_at q (omega arith))) (so.found.increasing q r less l)
+  increasing_old : (r : ℕ) → r < length so.lists → (q : ℕ) → q < r → IsBefore (nth_run (so.lists ++ walk_list (walked (follower faces) first) on.last ∷ []) q) (nth_run so.lists r)
+  increasing_old r l q less = subst (λ (xs : List ℕ). IsBefore xs (nth_run so.lists r)) (sym (old_at q (omega arith))) (so.found.increasing q r less l)
 
-  increasing_new : (q : ℕ) → q < length so.lists → IsBefore (run_at (so.lists ++ walk_list (walked (follower faces) first) on.last ∷ []) q) (walk_list (walked (follower faces) first) on.last)
+  increasing_new : (q : ℕ) → q < length so.lists → IsBefore (nth_run (so.lists ++ walk_list (walked (follower faces) first) on.last ∷ []) q) (walk_list (walked (follower faces) first) on.last)
   increasing_new q less = subst (λ (xs : List ℕ). IsBefore xs (walk_list (walked (follower faces) first) on.last)) (sym (old_at q less)) (by_dart (so.found.below q less))
     where
-      by_dart : (k : ℕ) × (k < length (run_at so.lists q)) × (get_or (run_at so.lists q) k 0 < d) → IsBefore (run_at so.lists q) (walk_list (walked (follower faces) first) on.last)
+      by_dart : (k : ℕ) × (k < length (nth_run so.lists q)) × (get_or (nth_run so.lists q) k 0 < d) → IsBefore (nth_run so.lists q) (walk_list (walked (follower faces) first) on.last)
       by_dart (k, h, b) = (k, h, λ j l. omega (arith, b, list_high j l))
 
-  below_old : (r : ℕ) → r < length so.lists → (k : ℕ) × (k < length (run_at so.lists r)) × (get_or (run_at so.lists r) k 0 < d + 1)
+  below_old : (r : ℕ) → r < length so.lists → (k : ℕ) × (k < length (nth_run so.lists r)) × (get_or (nth_run so.lists r) k 0 < d + 1)
   below_old r l = by_dart (so.found.below r l)
     where
-      by_dart : (k : ℕ) × (k < length (run_at so.lists r)) × (get_or (run_at so.lists r) k 0 < d) → (k : ℕ) × (k < length (run_at so.lists r)) × (get_or (run_at so.lists r) k 0 < d + 1)
+      by_dart : (k : ℕ) × (k < length (nth_run so.lists r)) × (get_or (nth_run so.lists r) k 0 < d) → (k : ℕ) × (k < length (nth_run so.lists r)) × (get_or (nth_run so.lists r) k 0 < d + 1)
       by_dart (k, h, b) = (k, h, omega (arith, b))
 
   below_new : (k : ℕ) × (k < length (walk_list (walked (follower faces) first) on.last)) × (get_or (walk_list (walked (follower faces) first) on.last) k 0 < d + 1)
@@ -309,7 +309,7 @@ module _ (faces : Faces) (m : IsManifold faces) (d first : ℕ) (line : Line) (r
     found = record {
       runs = each_more (λ x xs. IsLongestRun faces xs) so.found.runs (longest faces m d first (length so.lists) line run_old run at_old at low back on);
       least = λ r k l c h. each_more (λ x xs. is_closed faces xs ≡ true → (j : ℕ) → j < length xs → first_dart xs ≤ get_or xs j 0) (λ x b e j t. so.found.least x j b e t) least_new r l c k h;
-      increasing = λ q r less l. each_more (λ x xs. (p : ℕ) → p < x → IsBefore (run_at (so.lists ++ walk_list (walked (follower faces) first) on.last ∷ []) p) xs) increasing_old increasing_new r l q less;
+      increasing = λ q r less l. each_more (λ x xs. (p : ℕ) → p < x → IsBefore (nth_run (so.lists ++ walk_list (walked (follower faces) first) on.last ∷ []) p) xs) increasing_old increasing_new r l q less;
       below = each_more (λ x xs. (k : ℕ) × (k < length xs) × (get_or xs k 0 < d + 1)) below_old below_new;
       told = λ r k l h. each_more (λ x xs. (j : ℕ) → j < length xs → (get_or run (get_or xs j 0) 0 ≡ x) × (get_or at (get_or xs j 0) 0 ≡ j)) told_old told_new r l k h;
       there = there;
@@ -341,7 +341,7 @@ passed_by faces d run at len closed old so = record {
   closes = so.closes;
 }
   where
-    by_dart : (r : ℕ) → (k : ℕ) × (k < length (run_at so.lists r)) × (get_or (run_at so.lists r) k 0 < d) → (k : ℕ) × (k < length (run_at so.lists r)) × (get_or (run_at so.lists r) k 0 < d + 1)
+    by_dart : (r : ℕ) → (k : ℕ) × (k < length (nth_run so.lists r)) × (get_or (nth_run so.lists r) k 0 < d) → (k : ℕ) × (k < length (nth_run so.lists r)) × (get_or (nth_run so.lists r) k 0 < d + 1)
     by_dart r (k, h, b) = (k, h, omega (arith, b))
 
 -- No run is found at first.

@@ -10,7 +10,7 @@ use Rattle.def_mesh.specs.Faces.{Faces}
 use Rattle.def_mesh.specs.Darts.{darts, from_of, next_of, prev_of, to_of, twin_of, straight_of}
 use Rattle.def_mesh.specs.Manifold.{IsManifold}
 use Rattle.def_mesh.specs.HalfEdges.{IsQuadManifold, half_edges}
-use Rattle.def_runs.specs.Runs.{Holds, follower, is_passed}
+use Rattle.def_runs.specs.Runs.{HasDart, follower, is_passed}
 use Rattle.cut_laws.proofs.Pigeon.{comes_back}
 use Rattle.mesh_laws.proofs.HalfEdges.{manifold_law}
 use Rattle.qm_sing.specs.Walks.{AreTold, Goes, StaysAway, leader, or_stay, walked}
@@ -141,5 +141,5 @@ pub walk_at : (walk : ℕ → ℕ) (last k : ℕ) → k < suc last → get_or (w
 walk_at walk last k l = get_or-map-range_with_len walk 0 (suc last) k k 0 l (omega arith)
 
 -- A dart of the walk stands in it.
-pub holds_at : (walk : ℕ → ℕ) (last k d : ℕ) → k < suc last → walk k ≡ d → Holds (walk_list walk last) d
+pub holds_at : (walk : ℕ → ℕ) (last k d : ℕ) → k < suc last → walk k ≡ d → HasDart (walk_list walk last) d
 holds_at walk last k d l e = (k, omega (arith, l, walk_long walk last), walk_at walk last k l ∙ e)

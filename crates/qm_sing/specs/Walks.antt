@@ -3,7 +3,7 @@ use Rattle.std.specs.Prelude.{◌≡◌, ◌≢◌, ◌⊎◌, ℕ, zero, suc, �
 use Rattle.std.specs.Prelude.{slice_index, Option, Some, None, option_map}
 use Rattle.def_mesh.specs.Faces.{Faces}
 use Rattle.def_mesh.specs.Darts.{darts, from_of, prev_of, twin_of}
-use Rattle.def_runs.specs.Runs.{RunLists, IsBefore, IsLongestRun, first_dart, follower, is_closed, is_passed, run_at}
+use Rattle.def_runs.specs.Runs.{RunLists, IsBefore, IsLongestRun, first_dart, follower, is_closed, is_passed, nth_run}
 use Rattle.qm_sing.specs.declared.flooding.TheConstants.{NONE}
 use Rattle.qm_sing.specs.declared.lines.Line.{Line}
 
@@ -55,17 +55,17 @@ pub record IsLine (faces : Faces) (first r : ℕ) (line : Line) (run_old run at_
 
 -- The runs with a dart below d are found.
 pub record AreRunsBelow (faces : Faces) (d : ℕ) (run at : List ℕ) (lists : RunLists) : Type 0 where
-  pub runs : (r : ℕ) → r < length lists → IsLongestRun faces (run_at lists r)
-  pub least : (r k : ℕ) → r < length lists → is_closed faces (run_at lists r) ≡ true → k < length (run_at lists r)
-      → first_dart (run_at lists r) ≤ slice_index (run_at lists r) k
-  pub increasing : (q r : ℕ) → q < r → r < length lists → IsBefore (run_at lists q) (run_at lists r)
+  pub runs : (r : ℕ) → r < length lists → IsLongestRun faces (nth_run lists r)
+  pub least : (r k : ℕ) → r < length lists → is_closed faces (nth_run lists r) ≡ true → k < length (nth_run lists r)
+      → first_dart (nth_run lists r) ≤ slice_index (nth_run lists r) k
+  pub increasing : (q r : ℕ) → q < r → r < length lists → IsBefore (nth_run lists q) (nth_run lists r)
   pub below : (r : ℕ) → r < length lists
-      → (k : ℕ) × (k < length (run_at lists r)) × (slice_index (run_at lists r) k < d)
-  pub told : (r k : ℕ) → r < length lists → k < length (run_at lists r)
-      → (slice_index run (slice_index (run_at lists r) k) ≡ r) × (slice_index at (slice_index (run_at lists r) k) ≡ k)
+      → (k : ℕ) × (k < length (nth_run lists r)) × (slice_index (nth_run lists r) k < d)
+  pub told : (r k : ℕ) → r < length lists → k < length (nth_run lists r)
+      → (slice_index run (slice_index (nth_run lists r) k) ≡ r) × (slice_index at (slice_index (nth_run lists r) k) ≡ k)
   pub there : (e : ℕ) → e < darts faces → slice_index run e ≢ NONE
-      → (slice_index run e < length lists) × (slice_index at e < length (run_at lists (slice_index run e)))
-      × (slice_index (run_at lists (slice_index run e)) (slice_index at e) ≡ e)
+      → (slice_index run e < length lists) × (slice_index at e < length (nth_run lists (slice_index run e)))
+      × (slice_index (nth_run lists (slice_index run e)) (slice_index at e) ≡ e)
   pub all : (e : ℕ) → e < d → slice_index run e ≢ NONE
 
 -- The same, with the tables of runs.

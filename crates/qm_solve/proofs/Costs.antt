@@ -5,7 +5,7 @@ use Rattle.std.proofs.lemmas.Int.{ints}
 use Rattle.def_math.specs.Increasing.{IsIncreasing}
 use Rattle.def_math.specs.Sums.{total}
 use Rattle.qm_dual.proofs.Entries.{total_take}
-use Rattle.def_matching.specs.Matching.{Graph, edge_at, matching_cost}
+use Rattle.def_matching.specs.Matching.{WeightedGraph, edge_at, matching_cost}
 
 -- Increasing numbers are below the bound.
 pub increasing_below : (low high : ℕ) (m : List ℕ) → IsIncreasing low high m → (i : ℕ) → i < length m → slice_index m i < high
@@ -19,10 +19,10 @@ increasing_few low high [] increasing = omega arith
 increasing_few low high (k ∷ ks) increasing = omega (arith, increasing.0, increasing.1, increasing_few (k + 1) high ks increasing.2)
 
 -- A sum along a list that is mapped.
-total_map : (g : Graph) (m : List ℕ) → matching_cost g m ≡ total (λ k. (edge_at g k).cost) m
+total_map : (g : WeightedGraph) (m : List ℕ) → matching_cost g m ≡ total (λ k. (edge_at g k).cost) m
 total_map g [] = refl
 total_map g (k ∷ ks) = omega (arith, ints, total_map g ks)
 
 -- One edge more.
-pub cost_take : (g : Graph) (m : List ℕ) (i : ℕ) → i < length m → matching_cost g (take (i + 1) m) ≡ matching_cost g (take i m) +ℤ (edge_at g (slice_index m i)).cost
+pub cost_take : (g : WeightedGraph) (m : List ℕ) (i : ℕ) → i < length m → matching_cost g (take (i + 1) m) ≡ matching_cost g (take i m) +ℤ (edge_at g (slice_index m i)).cost
 cost_take g m i l = omega (arith, ints, total_map g (take (i + 1) m), total_map g (take i m), total_take (λ k. (edge_at g k).cost) 0 m i l)

@@ -9,7 +9,7 @@ use Rattle.std.proofs.lemmas.Int.{ints}
 use Rattle.std.proofs.lemmas.Bool.{and_parts, cases_lt}
 use Rattle.table_laws.proofs.Ranges.{part_low}
 use Rattle.def_flow.specs.Network.{Network, IsWithinBounds, arc_at}
-use Rattle.def_flow.specs.Admissible.{AreLengths, IsAdmissible, arc_deviation, deviation, entries}
+use Rattle.def_flow.specs.Admissible.{AreNetLengths, IsAdmissible, arc_deviation, deviation, entries}
 use Rattle.def_flow.specs.Descent.{IsStartOf}
 use Rattle.def_flow.specs.declared.net.Arc.{Arc}
 use Rattle.qm_net.proofs.Within.{arc_bounded}
@@ -26,7 +26,7 @@ short q p old x far most some near room = elim (cases_lt most x) [
   | inr h ↦ h
 ]
 
-pub lengths_near : (net : Network) (start xs : List ℕ) → IsWithinBounds net → IsStartOf net start → length xs ≡ length net.arcs → deviation net (entries xs) ≤ deviation net (entries start) → AreLengths net.arcs xs
+pub lengths_near : (net : Network) (start xs : List ℕ) → IsWithinBounds net → IsStartOf net start → length xs ≡ length net.arcs → deviation net (entries xs) ≤ deviation net (entries start) → AreNetLengths net.arcs xs
 lengths_near net start xs bounds from count nearer = record { count = count; small = small }
   where
     small : (k : ℕ) → k < length xs → slice_index xs k ≤ 10 ^ 12
@@ -56,12 +56,12 @@ test_is net d a = (λ on. there on, λ le. back le)
 abbrev no_arc : Arc
 no_arc = record { left = record { node = 0; plus = true }; right = None; old = 0; weight = 0 }
 
-pub near_is : (net : Network) (xs : List ℕ) → IsWithinBounds net → AreLengths net.arcs xs → IsAdmissible net (entries xs) → (list_all (is_near_arc net (pos (deviation net (entries xs)))) net.arcs ≡ true) ↔ IsStartOf net xs
+pub near_is : (net : Network) (xs : List ℕ) → IsWithinBounds net → AreNetLengths net.arcs xs → IsAdmissible net (entries xs) → (list_all (is_near_arc net (pos (deviation net (entries xs)))) net.arcs ≡ true) ↔ IsStartOf net xs
 near_is net xs bounds lengths admissible = (
   λ on. record { count = lengths.count; admissible = admissible; near = λ k l. (test_is net (deviation net (entries xs)) (arc_at net.arcs k)).0 (AllPass-from_list_all (is_near_arc net (pos (deviation net (entries xs)))) net.arcs on k _ l) },
   λ from. list_all-from_AllPass (is_near_arc net (pos (deviation net (entries xs)))) net.arcs (λ k d l. subst (λ (a : Arc). is_near_arc net (pos (deviation net (entries xs))) a ≡ true) (sym (get_or_default net.arcs k d no_arc l)) ((test_is net (deviation net (entries xs)) (arc_at net.arcs k)).1 (from.near k l))),
 )
 
 -- A start has lengths in range.
-pub start_lengths : (net : Network) (xs : List ℕ) → IsWithinBounds net → IsStartOf net xs → AreLengths net.arcs xs
+pub start_lengths : (net : Network) (xs : List ℕ) → IsWithinBounds net → IsStartOf net xs → AreNetLengths net.arcs xs
 start_lengths net xs bounds from = lengths_near net xs xs bounds from from.count (omega arith)

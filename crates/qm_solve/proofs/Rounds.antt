@@ -1,7 +1,7 @@
 -- What the costs of two matchings tell of the list.
 use Rattle.std.proofs.Common.{◌≡◌, ℕ, ◌≤◌, List, length, map, ℤ, pos, ◌-ℤ◌, ◌*ℤ◌, ◌≤ℤ◌, ◌<ℤ◌, refl, sym, ◌∙◌, ap, subst, arith}
 use Rattle.std.proofs.lemmas.Int.{ints}
-use Rattle.def_matching.specs.Matching.{Graph, IsGraph, IsPerfect, matching_cost}
+use Rattle.def_matching.specs.Matching.{WeightedGraph, IsGraph, IsPerfect, matching_cost}
 use Rattle.def_matching.specs.Dual.{DualLists, IsSmallDual, SaysYes, dual_sum, verdict}
 use Rattle.def_matching.specs.declared.weighted.Verdict.TheVariants.{Yes}
 use Rattle.def_flow.specs.Network.{Network, IsWithinBounds}
@@ -28,7 +28,7 @@ pub better : (net : Network) (xs ys : List ℕ) (low : ℕ) (found known : ℤ) 
 better net xs ys low found known count admissible less of_list of_found = record { count = count; admissible = admissible; less = omega (arith, ints, less, of_list, of_found) }
 
 -- Where it costs no less, the sum of its dual is twice the cost of the units that are on.
-pub sums_meet : (net : Network) (step : ℕ) (xs : List ℕ) (g : Graph) (d : DualLists) (m known : List ℕ) → length xs ≡ length net.arcs → g ≡ matching_graph net step xs → IsGraph g → IsPerfect g known
+pub sums_meet : (net : Network) (step : ℕ) (xs : List ℕ) (g : WeightedGraph) (d : DualLists) (m known : List ℕ) → length xs ≡ length net.arcs → g ≡ matching_graph net step xs → IsGraph g → IsPerfect g known
     → matching_cost g known ≡ pos (deviation net (entries xs)) -ℤ pos (deviation net (entries (lows net step xs)))
     → verdict g d ≡ Yes (pos 2 *ℤ matching_cost g m) → matching_cost g known ≤ℤ matching_cost g m
     → verdict (matching_graph net step xs) d ≡ Yes (pos 2 *ℤ on_cost net step xs)

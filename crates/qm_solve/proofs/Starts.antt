@@ -16,7 +16,7 @@ use Rattle.def_flow.specs.Descent.{IsStartOf}
 use Rattle.def_flow.specs.declared.net.Arc.{Arc}
 use Rattle.def_flow.specs.declared.net.End.{End}
 use Rattle.qm_net.proofs.Within.{arc_bounded}
-use Rattle.def_flow.specs.Descent.{multiple_of}
+use Rattle.def_flow.specs.Descent.{times_old}
 
 -- A factor of all terms.
 total_times : {X : Type 0} (c : ℤ) (f : X → ℤ) (xs : List X) → total (λ x. c *ℤ f x) xs ≡ c *ℤ total f xs
@@ -28,20 +28,20 @@ total_below_times c f zero = omega (arith, ints)
 total_below_times c f (suc n) = omega (arith, ints, total_below_times c f n, times_sum c (total_below f n) (f n))
 
 -- The entries of a multiple.
-multiple_at : (c : ℕ) (arcs : List Arc) (k : ℕ) → k < length arcs → slice_index (multiple_of c arcs) k ≡ c * (arc_at arcs k).old
+multiple_at : (c : ℕ) (arcs : List Arc) (k : ℕ) → k < length arcs → slice_index (times_old c arcs) k ≡ c * (arc_at arcs k).old
 multiple_at c [] k l = absurd (omega arith)
 multiple_at c (a ∷ arcs) zero l = refl
 multiple_at c (a ∷ arcs) (suc k) l = multiple_at c arcs k (omega arith)
 
 -- The sides of a node have a multiple of the old sums.
-side_times : (arcs : List Arc) (c : ℕ) (plus : Bool) (v : ℕ) → side_sum arcs (entries (multiple_of c arcs)) plus v ≡ pos c *ℤ side_sum arcs (λ k. pos (arc_at arcs k).old) plus v
+side_times : (arcs : List Arc) (c : ℕ) (plus : Bool) (v : ℕ) → side_sum arcs (entries (times_old c arcs)) plus v ≡ pos c *ℤ side_sum arcs (λ k. pos (arc_at arcs k).old) plus v
 side_times arcs c plus v = total_below_same _ _ (length arcs) (λ k l. total_same _ _ (ends (arc_at arcs k)) (one k l) ∙ total_times (pos c) (λ (e : End). cond (is_on_side v plus e) (pos (arc_at arcs k).old) (pos 0)) (ends (arc_at arcs k)))
     ∙ total_below_times (pos c) (λ k. total (λ (e : End). cond (is_on_side v plus e) (pos (arc_at arcs k).old) (pos 0)) (ends (arc_at arcs k))) (length arcs)
   where
-    one : (k : ℕ) → k < length arcs → (e : End) → cond (is_on_side v plus e) (entries (multiple_of c arcs) k) (pos 0) ≡ pos c *ℤ cond (is_on_side v plus e) (pos (arc_at arcs k).old) (pos 0)
+    one : (k : ℕ) → k < length arcs → (e : End) → cond (is_on_side v plus e) (entries (times_old c arcs) k) (pos 0) ≡ pos c *ℤ cond (is_on_side v plus e) (pos (arc_at arcs k).old) (pos 0)
     one k l e = by_test (is_on_side v plus e)
       where
-        by_test : (b : Bool) → cond b (entries (multiple_of c arcs) k) (pos 0) ≡ pos c *ℤ cond b (pos (arc_at arcs k).old) (pos 0)
+        by_test : (b : Bool) → cond b (entries (times_old c arcs) k) (pos 0) ≡ pos c *ℤ cond b (pos (arc_at arcs k).old) (pos 0)
         by_test true = omega (arith, ints, multiple_at c arcs k l)
         by_test false = omega (arith, ints)
 
@@ -58,10 +58,10 @@ apart q p c old below above =
     omega (arith, ints, up, down, add-mul (q * c) q old, add-mul p (3 * q) old, mul_assoc q c old, mul_assoc 3 q old)
 
 -- The sum of the deviations of a multiple.
-far_sum : (net : Network) (c : ℕ) → IsWithinBounds net → net.p ≤ net.q * c + net.q → net.q * c ≤ net.p + 3 * net.q → deviation net (entries (multiple_of c net.arcs)) ≤ 1000 * (3 * net.q) * count (λ a. a.old) net.arcs
+far_sum : (net : Network) (c : ℕ) → IsWithinBounds net → net.p ≤ net.q * c + net.q → net.q * c ≤ net.p + 3 * net.q → deviation net (entries (times_old c net.arcs)) ≤ 1000 * (3 * net.q) * count (λ a. a.old) net.arcs
 far_sum net c bounds below above = omega (arith, count_below_le _ (λ k. 1000 * (3 * net.q) * (arc_at net.arcs k).old) (length net.arcs) each, count_below_times (1000 * (3 * net.q)) (λ k. (arc_at net.arcs k).old) (length net.arcs), ap (λ n. 1000 * (3 * net.q) * n) (old_sum net.arcs))
   where
-    each : (k : ℕ) → k < length net.arcs → arc_deviation net (arc_at net.arcs k) (entries (multiple_of c net.arcs) k) ≤ 1000 * (3 * net.q) * (arc_at net.arcs k).old
+    each : (k : ℕ) → k < length net.arcs → arc_deviation net (arc_at net.arcs k) (entries (times_old c net.arcs) k) ≤ 1000 * (3 * net.q) * (arc_at net.arcs k).old
     each k l =
         let a : Arc = arc_at net.arcs k in
         let numbers = and_parts (nat_le 1 a.weight && nat_le a.weight 1000 && nat_le a.old 4000000000) _ (arc_bounded net bounds k l) in
@@ -72,7 +72,7 @@ far_sum net c bounds below above = omega (arith, count_below_le _ (λ k. 1000 * 
         rw (multiple_at c net.arcs k l) (omega (arith, all, mul_assoc 1000 (3 * net.q) a.old))
 
 -- A multiple by a number near the scale, and no less than the floor.
-multiple_starts : (net : Network) (c : ℕ) → IsWithinBounds net → IsEven net → net.floor ≤ c → c ≤ 1000 → net.p ≤ net.q * c + net.q → net.q * c ≤ net.p + 3 * net.q → IsStartOf net (multiple_of c net.arcs)
+multiple_starts : (net : Network) (c : ℕ) → IsWithinBounds net → IsEven net → net.floor ≤ c → c ≤ 1000 → net.p ≤ net.q * c + net.q → net.q * c ≤ net.p + 3 * net.q → IsStartOf net (times_old c net.arcs)
 multiple_starts net c bounds even high low below above = record {
   count = length-map net.arcs (λ a. c * a.old);
   admissible = record { high = tall; balanced = balanced };
@@ -82,15 +82,15 @@ multiple_starts net c bounds even high low below above = record {
     all : ℕ
     all = count (λ a. a.old) net.arcs
 
-    tall : (k : ℕ) → k < length net.arcs → pos net.floor ≤ℤ entries (multiple_of c net.arcs) k
+    tall : (k : ℕ) → k < length net.arcs → pos net.floor ≤ℤ entries (times_old c net.arcs) k
     tall k l =
         let some : c * 1 ≤ c * (arc_at net.arcs k).old = mul-le-mul_left c (even.high k l) in
         rw (multiple_at c net.arcs k l) (omega (arith, ints, some, mul-one c))
 
-    balanced : IsBalanced net.arcs (entries (multiple_of c net.arcs))
+    balanced : IsBalanced net.arcs (entries (times_old c net.arcs))
     balanced v = side_times net.arcs c true v ∙ (ap (λ z. pos c *ℤ z) (even.balanced v) ∙ sym (side_times net.arcs c false v))
 
-    near : (k : ℕ) → k < length net.arcs → net.p * (arc_at net.arcs k).old + deviation net (entries (multiple_of c net.arcs)) ≤ 10 ^ 12 * net.q
+    near : (k : ℕ) → k < length net.arcs → net.p * (arc_at net.arcs k).old + deviation net (entries (times_old c net.arcs)) ≤ 10 ^ 12 * net.q
     near k l =
         let part : (arc_at net.arcs k).old ≤ all = omega (arith, part_low (λ j. (arc_at net.arcs j).old) k (length net.arcs) l, old_sum net.arcs) in
         let scale : net.q * c ≤ net.q * 1000 = mul-le-mul_left net.q low in
@@ -99,7 +99,7 @@ multiple_starts net c bounds even high low below above = record {
         omega (arith, wanted, far, far_sum net c bounds below above)
 
 -- The greater of the floor and the whole part of the scale is such a number.
-pub even_start : (net : Network) (c : ℕ) → IsWithinBounds net → IsEven net → c ≡ max net.floor (net.p / net.q) → IsStartOf net (multiple_of c net.arcs)
+pub even_start : (net : Network) (c : ℕ) → IsWithinBounds net → IsEven net → c ≡ max net.floor (net.p / net.q) → IsStartOf net (times_old c net.arcs)
 even_start net c bounds even is = multiple_starts net c bounds even (omega (arith, is)) (omega (arith, is, whole, bounds.p_high, bounds.floor_high, some)) (omega (arith, whole, part, up)) (by_case (cases_lt net.floor (net.p / net.q)))
   where
     whole : net.q * (net.p / net.q) + net.p % net.q ≡ net.p
@@ -122,7 +122,7 @@ even_start net c bounds even is = multiple_starts net c bounds even (omega (arit
         omega (arith, ap (λ n. net.q * n) same, few)
 
 -- Where the old lengths themselves are admissible and their sum is small, the network is even.
-pub olds_even : (net : Network) → IsWithinBounds net → IsAdmissible net (entries (multiple_of 1 net.arcs)) → count (λ (a : Arc). a.old) net.arcs ≤ 2 ^ 23 → IsEven net
+pub olds_even : (net : Network) → IsWithinBounds net → IsAdmissible net (entries (times_old 1 net.arcs)) → count (λ (a : Arc). a.old) net.arcs ≤ 2 ^ 23 → IsEven net
 olds_even net bounds once few = record {
   high = λ k l. omega (arith, ints, bounds.floor_low, multiple_at 1 net.arcs k l, once.high k l);
   small = few;

@@ -5,7 +5,7 @@ ghost use Rattle.std.specs.Prelude.{unsigned_abs, IfOk};
 ghost use Rattle.def_math.specs.Increasing.{IsIncreasing};
 ghost use Rattle.def_matching.specs.Matching.{graph, matching_cost, IsGraph};
 ghost use Rattle.def_flow.specs.Network.{network, tangle_number, IsWithinBounds};
-ghost use Rattle.def_flow.specs.Admissible.{entries, AreLengths, IsAdmissible};
+ghost use Rattle.def_flow.specs.Admissible.{entries, AreNetLengths, IsAdmissible};
 ghost use Rattle.qm_solve.specs.Rounds.{IsRound};
 
 use crate::Memory;
@@ -34,7 +34,7 @@ pub(crate) fn improve(
     prices: &[i64],
 ) -> Result<Round, Memory>
     requires bounds { IsWithinBounds (network net.now) }
-    requires lengths { AreLengths net.now.arcs.items x.now }
+    requires lengths { AreNetLengths net.now.arcs.items x.now }
     requires admissible { IsAdmissible (network net.now) (entries x.now) }
     requires tangle { tangle_number (network net.now) ≤ MAX_TANGLE }
     requires step { (1 ≤ step) × (step ≤ MAX_STEP) }

@@ -5,7 +5,7 @@ ghost use Rattle.std.specs.List.{list_all};
 ghost use Rattle.def_flow.specs.Network.{network, tangle_number, IsWithinBounds};
 ghost use Rattle.def_flow.specs.Accepted.{certificate};
 ghost use Rattle.def_flow.specs.Admissible.{IsEven};
-ghost use Rattle.def_flow.specs.Descent.{IsSolution, IsStartOf, multiple_of, old_multiple};
+ghost use Rattle.def_flow.specs.Descent.{IsSolution, IsStartOf, times_old, old_multiple};
 ghost use Rattle.qm_solve.specs.Rounds.{is_near_arc};
 
 use crate::Memory;
@@ -58,7 +58,7 @@ pub(crate) fn old_multiple(alloc: Global, net: &Net) -> Result<Vec<u64>, Memory>
 /// The old lengths, so many times. Linear.
 pub(crate) fn multiple(alloc: Global, arcs: &[Arc], times: u64) -> Result<Vec<u64>, Memory>
     requires { times ≤ 1000 }
-    ensures { IfOk result (λ lengths. lengths.items ≡ multiple_of times arcs.now) }
+    ensures { IfOk result (λ lengths. lengths.items ≡ times_old times arcs.now) }
 {
     let mut lengths = Vec::with_capacity(alloc, arcs.len())?;
     for arc in arcs {

@@ -6,10 +6,10 @@ use Rattle.std.proofs.lemmas.List.{length-map}
 use Rattle.def_math.specs.Counts.{count_below}
 use Rattle.def_layout.specs.Layouts.{Way, south, west}
 use Rattle.def_layout.specs.Lengths.{size, wide, high}
-use Rattle.def_layout.specs.Plans.{Plan, layout_of, number, side_at}
+use Rattle.def_layout.specs.Plans.{Plan, layout_of, way_number, side_at}
 use Rattle.def_written.specs.Numbers.{vertices}
 use Rattle.def_remesh.specs.NewPoints.{lengths_in}
-use Rattle.def_remesh.specs.Numberings.{sizes_on, table_at, tables_of, AreStarts, AreSideStarts, IsNumbering}
+use Rattle.def_remesh.specs.Numberings.{sizes_on, table_at, tables_of, AreRunStarts, AreSideStarts, IsNumbering}
 use Rattle.def_remesh.specs.declared.tables.Tables.{Tables}
 use Rattle.sum_laws.proofs.Counts.{count_below_le, count_below_same}
 use Rattle.qm_reach.specs.Fours.{begins_of}
@@ -21,7 +21,7 @@ use Rattle.qm_stitch.specs.Sizes.{long_by, product_by, table_in, AreRows, IsFine
 use Rattle.plan_laws.proofs.Bounds.{side_few, vertices_few}
 
 -- Starts of other sizes that are the same.
-starts_same : (f g : ℕ → ℕ) (n : ℕ) (starts : List ℕ) → ((k : ℕ) → k < n → f k ≡ g k) → AreStarts f n starts → AreStarts g n starts
+starts_same : (f g : ℕ → ℕ) (n : ℕ) (starts : List ℕ) → ((k : ℕ) → k < n → f k ≡ g k) → AreRunStarts f n starts → AreRunStarts g n starts
 starts_same f g n starts same are = record {
   count = are.count;
   each = λ k low. are.each k low ∙ count_below_same f g k (λ j less. same j (omega arith));
@@ -43,7 +43,7 @@ module _ (plan : Plan) (list : List ℕ) (fine : IsFine plan list) where
   points_short = omega (arith, few_points, ap (count_below (λ arc. lengths_in list arc - 1)) fine.long)
 
   module _ (tables : List (List (List ℕ))) (are : AreSideStarts plan (lengths_in list) tables) where
-    long_is : (p : ℕ) (s : Way) → p < length plan.patches → long_by tables p (number s) ≡ size (layout_of plan) (lengths_in list) p s
+    long_is : (p : ℕ) (s : Way) → p < length plan.patches → long_by tables p (way_number s) ≡ size (layout_of plan) (lengths_in list) p s
     long_is p s low = last_is (sizes_on (side_at plan p s) (lengths_in list)) (length (side_at plan p s)) (table_at tables p s) (are.each p s low)
 
     pub product_is : (less p : ℕ) → p < length plan.patches
@@ -64,10 +64,10 @@ module _ (plan : Plan) (list : List ℕ) (fine : IsFine plan list) where
       );
     }
       where
-        by_some : (p s : ℕ) → p < length plan.patches → (w : Way) × (number w ≡ s) → 0 < length (table_in tables p s)
+        by_some : (p s : ℕ) → p < length plan.patches → (w : Way) × (way_number w ≡ s) → 0 < length (table_in tables p s)
         by_some p s low w = subst (λ (k : ℕ). 0 < length (table_in tables p k)) w.1 (omega (arith, (are.each p w.0 low).count))
 
-        by_long : (p s : ℕ) → p < length plan.patches → (w : Way) × (number w ≡ s) → (less ≤ long_by tables p s) × (0 < long_by tables p s)
+        by_long : (p s : ℕ) → p < length plan.patches → (w : Way) × (way_number w ≡ s) → (less ≤ long_by tables p s) × (0 < long_by tables p s)
         by_long p s low w =
             subst (λ (k : ℕ). (less ≤ long_by tables p k) × (0 < long_by tables p k)) w.1
             (let some : 0 < size (layout_of plan) (lengths_in list) p w.0 = size_some (layout_of plan) (lengths_in list) (laid_of plan fine.mesh).paved fine.lengths p w.0 low in
@@ -87,10 +87,10 @@ no_less n = omega arith
 
 -- All tables together.
 pub built : (plan : Plan) (t : Tables) (fine : IsFine plan t.lengths.items) → t.nodes ≡ length plan.nodes
-    → AreStarts (λ arc. lengths_in t.lengths.items arc - 1) (length t.lengths.items) t.along.begin.items
+    → AreRunStarts (λ arc. lengths_in t.lengths.items arc - 1) (length t.lengths.items) t.along.begin.items
     → AreSideStarts plan (lengths_in t.lengths.items) (tables_of t.sides.items)
-    → AreStarts (product_by (tables_of t.sides.items) 1) (length t.sides.items) t.inside.begin.items
-    → AreStarts (product_by (tables_of t.sides.items) 0) (length t.sides.items) t.cells.begin.items
+    → AreRunStarts (product_by (tables_of t.sides.items) 1) (length t.sides.items) t.inside.begin.items
+    → AreRunStarts (product_by (tables_of t.sides.items) 0) (length t.sides.items) t.cells.begin.items
     → IsNumbering plan t
 built plan t fine nodes along sides inside cells = record {
   mesh = fine.mesh;
@@ -98,12 +98,12 @@ built plan t fine nodes along sides inside cells = record {
   lengths = fine.lengths;
   few = fine.few;
   nodes = nodes;
-  along = subst (λ (n : ℕ). AreStarts (λ arc. lengths_in t.lengths.items arc - 1) n t.along.begin.items) fine.long along;
+  along = subst (λ (n : ℕ). AreRunStarts (λ arc. lengths_in t.lengths.items arc - 1) n t.along.begin.items) fine.long along;
   inside = starts_same _ _ (length plan.patches) t.inside.begin.items (product_is plan t.lengths.items fine (tables_of t.sides.items) sides 1)
-      (subst (λ (n : ℕ). AreStarts (product_by (tables_of t.sides.items) 1) n t.inside.begin.items) many inside);
+      (subst (λ (n : ℕ). AreRunStarts (product_by (tables_of t.sides.items) 1) n t.inside.begin.items) many inside);
   cells = starts_same _ _ (length plan.patches) t.cells.begin.items (λ p low. product_is plan t.lengths.items fine (tables_of t.sides.items) sides 0 p low
       ∙ (λ i. no_less (wide (layout_of plan) (lengths_in t.lengths.items) p) i * no_less (high (layout_of plan) (lengths_in t.lengths.items) p) i))
-      (subst (λ (n : ℕ). AreStarts (product_by (tables_of t.sides.items) 0) n t.cells.begin.items) many cells);
+      (subst (λ (n : ℕ). AreRunStarts (product_by (tables_of t.sides.items) 0) n t.cells.begin.items) many cells);
   sides = sides;
 }
   where

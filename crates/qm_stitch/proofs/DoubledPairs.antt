@@ -8,8 +8,8 @@ use Rattle.def_layout.specs.Layouts.{Way, east, north, Layout}
 use Rattle.def_layout.specs.Laid.{IsLaid}
 use Rattle.def_layout.specs.Lengths.{Lengths, AreLengths}
 use Rattle.def_written.specs.Points.{inside}
-use Rattle.def_written.specs.Numbers.{number, vertices}
-use Rattle.def_written.specs.Edges.{Edge, on_arc, flat, steep, IsEdge, low, top, HasEnds, IsDoubledAt, IsUndoubled, IsFirstDoubled}
+use Rattle.def_written.specs.Numbers.{vertex_number, vertices}
+use Rattle.def_written.specs.Edges.{Edge, on_arc, flat, steep, IsEdge, edge_start, edge_end, HasEnds, IsDoubledAt, IsUndoubled, IsFirstDoubled}
 use Rattle.written_laws.proofs.Grid.{point_inside}
 use Rattle.written_laws.proofs.Numbers.{number_low, number_same}
 use Rattle.written_laws.proofs.EdgeDarts.{edge_points}
@@ -74,31 +74,31 @@ module _ (l : Layout) (x : Lengths) (laid : IsLaid l) (len : AreLengths l x) whe
           h.is ∙ ap (spoke h.p h.i h.j) (sym same) ∙ sym s.1
 
   -- Edges with the same numbers at their ends join the same points.
-  joins_same : (e f : Edge) (u v : ℕ) → IsEdge l x e → IsEdge l x f → HasEnds l x e u v → HasEnds l x f u v → Joins l x f (low l x e) (top l x e)
+  joins_same : (e f : Edge) (u v : ℕ) → IsEdge l x e → IsEdge l x f → HasEnds l x e u v → HasEnds l x f u v → Joins l x f (edge_start l x e) (edge_end l x e)
   joins_same e f u v is_e is_f e_ends f_ends = by_order e_ends f_ends
     where
-      low_low : number l x (low l x f) ≡ number l x (low l x e) → low l x f ≡ low l x e
-      low_low = number_same l x (low l x f) (low l x e) (edge_points l x laid len f is_f).0 (edge_points l x laid len e is_e).0
+      low_low : vertex_number l x (edge_start l x f) ≡ vertex_number l x (edge_start l x e) → edge_start l x f ≡ edge_start l x e
+      low_low = number_same l x (edge_start l x f) (edge_start l x e) (edge_points l x laid len f is_f).0 (edge_points l x laid len e is_e).0
 
-      top_top : number l x (top l x f) ≡ number l x (top l x e) → top l x f ≡ top l x e
-      top_top = number_same l x (top l x f) (top l x e) (edge_points l x laid len f is_f).1 (edge_points l x laid len e is_e).1
+      top_top : vertex_number l x (edge_end l x f) ≡ vertex_number l x (edge_end l x e) → edge_end l x f ≡ edge_end l x e
+      top_top = number_same l x (edge_end l x f) (edge_end l x e) (edge_points l x laid len f is_f).1 (edge_points l x laid len e is_e).1
 
-      low_top : number l x (low l x f) ≡ number l x (top l x e) → low l x f ≡ top l x e
-      low_top = number_same l x (low l x f) (top l x e) (edge_points l x laid len f is_f).0 (edge_points l x laid len e is_e).1
+      low_top : vertex_number l x (edge_start l x f) ≡ vertex_number l x (edge_end l x e) → edge_start l x f ≡ edge_end l x e
+      low_top = number_same l x (edge_start l x f) (edge_end l x e) (edge_points l x laid len f is_f).0 (edge_points l x laid len e is_e).1
 
-      top_low : number l x (top l x f) ≡ number l x (low l x e) → top l x f ≡ low l x e
-      top_low = number_same l x (top l x f) (low l x e) (edge_points l x laid len f is_f).1 (edge_points l x laid len e is_e).0
+      top_low : vertex_number l x (edge_end l x f) ≡ vertex_number l x (edge_start l x e) → edge_end l x f ≡ edge_start l x e
+      top_low = number_same l x (edge_end l x f) (edge_start l x e) (edge_points l x laid len f is_f).1 (edge_points l x laid len e is_e).0
 
-      by_order : HasEnds l x e u v → HasEnds l x f u v → Joins l x f (low l x e) (top l x e)
+      by_order : HasEnds l x e u v → HasEnds l x f u v → Joins l x f (edge_start l x e) (edge_end l x e)
       by_order (inl s) (inl t) = inl (low_low (t.0 ∙ sym s.0), top_top (t.1 ∙ sym s.1))
       by_order (inl s) (inr t) = inr (low_top (t.0 ∙ sym s.1), top_low (t.1 ∙ sym s.0))
       by_order (inr s) (inl t) = inr (low_top (t.0 ∙ sym s.1), top_low (t.1 ∙ sym s.0))
       by_order (inr s) (inr t) = inl (low_low (t.0 ∙ sym s.0), top_top (t.1 ∙ sym s.1))
 
-  hub_joins : (e f : Edge) (h : IsHub e) → Joins l x f (low l x e) (top l x e) → Joins l x f (inside h.p h.i h.j) (tip l x h.p h.i h.j h.way)
+  hub_joins : (e f : Edge) (h : IsHub e) → Joins l x f (edge_start l x e) (edge_end l x e) → Joins l x f (inside h.p h.i h.j) (tip l x h.p h.i h.j h.way)
   hub_joins e f h joins = by_spoke (subst (λ (g : Edge). Joins l x g (inside h.p h.i h.j) (tip l x h.p h.i h.j h.way)) (sym h.is) (spoke_joins l x laid len h.p h.i h.j h.way h.inner)) joins
     where
-      by_spoke : Joins l x e (inside h.p h.i h.j) (tip l x h.p h.i h.j h.way) → Joins l x f (low l x e) (top l x e) → Joins l x f (inside h.p h.i h.j) (tip l x h.p h.i h.j h.way)
+      by_spoke : Joins l x e (inside h.p h.i h.j) (tip l x h.p h.i h.j h.way) → Joins l x f (edge_start l x e) (edge_end l x e) → Joins l x f (inside h.p h.i h.j) (tip l x h.p h.i h.j h.way)
       by_spoke (inl s) (inl t) = inl (t.0 ∙ s.0, t.1 ∙ s.1)
       by_spoke (inl s) (inr t) = inr (t.0 ∙ s.1, t.1 ∙ s.0)
       by_spoke (inr s) (inl t) = inr (t.0 ∙ s.0, t.1 ∙ s.1)
@@ -121,23 +121,23 @@ module _ (l : Layout) (x : Lengths) (laid : IsLaid l) (len : AreLengths l x) whe
     | inr has ↦ has
   ]
     where
-      same : number l x (low l x e) ≡ number l x (top l x e) → low l x e ≡ top l x e
-      same = number_same l x (low l x e) (top l x e) (edge_points l x laid len e is).0 (edge_points l x laid len e is).1
+      same : vertex_number l x (edge_start l x e) ≡ vertex_number l x (edge_end l x e) → edge_start l x e ≡ edge_end l x e
+      same = number_same l x (edge_start l x e) (edge_end l x e) (edge_points l x laid len e is).0 (edge_points l x laid len e is).1
 
-      equal : HasEnds l x e u u → low l x e ≡ top l x e
+      equal : HasEnds l x e u u → edge_start l x e ≡ edge_end l x e
       equal (inl s) = same (s.0 ∙ sym s.1)
       equal (inr s) = same (s.0 ∙ sym s.1)
 
   module _ (few : vertices l x ≤ 2 ^ 23) where
-    ends_low : (e : Edge) → IsEdge l x e → (number l x (low l x e) < 2 ^ 32) × (number l x (top l x e) < 2 ^ 32)
+    ends_low : (e : Edge) → IsEdge l x e → (vertex_number l x (edge_start l x e) < 2 ^ 32) × (vertex_number l x (edge_end l x e) < 2 ^ 32)
     ends_low e is = (
-      omega (arith, few, number_low l x (low l x e) (edge_points l x laid len e is).0),
-      omega (arith, few, number_low l x (top l x e) (edge_points l x laid len e is).1),
+      omega (arith, few, number_low l x (edge_start l x e) (edge_points l x laid len e is).0),
+      omega (arith, few, number_low l x (edge_end l x e) (edge_points l x laid len e is).1),
     )
 
     key_ends : (e : Edge) (key : ℕ) → IsEdge l x e → key ≡ key_of l x e
         → (key / 2 ^ 32 ≤ key % 2 ^ 32) × HasEnds l x e (key / 2 ^ 32) (key % 2 ^ 32)
-    key_ends e key is same = split_key (number l x (low l x e)) (number l x (top l x e)) key (ends_low e is).0 (ends_low e is).1 same
+    key_ends e key is same = split_key (vertex_number l x (edge_start l x e)) (vertex_number l x (edge_end l x e)) key (ends_low e is).0 (ends_low e is).1 same
 
     ends_key : (e : Edge) (u v : ℕ) → IsEdge l x e → u ≤ v → HasEnds l x e u v → (key_of l x e ≡ u * 2 ^ 32 + v) × (v < 2 ^ 32)
     ends_key e u v is le (inl s) = (omega (arith, le, s.0, s.1), omega (arith, (ends_low e is).1, s.1))

@@ -10,13 +10,13 @@ use Rattle.def_layout.specs.declared.tmesh.SideArc.{SideArc}
 use Rattle.def_layout.specs.Laid.{IsLaid}
 use Rattle.def_layout.specs.Layouts.{Way, east, north, west, Layout}
 use Rattle.def_layout.specs.Lengths.{Lengths, size, wide, high}
-use Rattle.def_layout.specs.Plans.{Plan, layout_of, number, side_at}
-use Rattle.def_written.specs.Numbers.{vertices, before_arc, before_patch, number as point_name}
+use Rattle.def_layout.specs.Plans.{Plan, layout_of, way_number, side_at}
+use Rattle.def_written.specs.Numbers.{vertices, before_arc, before_patch, vertex_number as point_name}
 use Rattle.def_written.specs.NewFaces.{cells_before, face_count, patch_of, cell_in}
 use Rattle.def_written.specs.Points.{along, inside, arc_point, use_point, side_point, point}
 use Rattle.def_remesh.specs.NewPoints.{lengths_in}
-use Rattle.def_remesh.specs.Numberings.{sizes_on, table_at, tables_of, used_at, AreStarts, IsNumbering}
-use Rattle.def_remesh.specs.declared.tables.Starts.{Starts}
+use Rattle.def_remesh.specs.Numberings.{sizes_on, table_at, tables_of, used_at, AreRunStarts, IsNumbering}
+use Rattle.def_remesh.specs.declared.tables.RunStarts.{RunStarts}
 use Rattle.def_remesh.specs.declared.tables.Tables.{Tables}
 use Rattle.written_laws.proofs.Runs.{run_here, run_low, IsInRun}
 use Rattle.qm_reach.proofs.Spots.{last_is, within_run}
@@ -69,13 +69,13 @@ module _ (plan : Plan) (t : Tables) (is : IsNumbering plan t) where
 
   -- The tables of a side.
   pub long_is : (p : ℕ) (s : Way) → p < length plan.patches
-      → long_by (tables_of t.sides.items) p (number s) ≡ size (layout_of plan) (lengths_in t.lengths.items) p s
+      → long_by (tables_of t.sides.items) p (way_number s) ≡ size (layout_of plan) (lengths_in t.lengths.items) p s
   long_is p s low = last_is (sizes_on (side_at plan p s) x) (length (side_at plan p s)) (table_at (tables_of t.sides.items) p s) (is.sides.each p s low)
 
   pub table_some : (p s : ℕ) → p < length plan.patches → s < 4 → 0 < length (table_in (tables_of t.sides.items) p s)
   table_some p s low way = by_way (way_for s way)
     where
-      by_way : (w : Way) × (number w ≡ s) → 0 < length (table_in (tables_of t.sides.items) p s)
+      by_way : (w : Way) × (way_number w ≡ s) → 0 < length (table_in (tables_of t.sides.items) p s)
       by_way w = subst (λ (k : ℕ). 0 < length (table_in (tables_of t.sides.items) p k)) w.1 (omega (arith, (is.sides.each p w.0 low).count))
 
   -- What is read of the tables.
@@ -103,7 +103,7 @@ module _ (plan : Plan) (t : Tables) (is : IsNumbering plan t) where
         ≡ point_on (layout_of plan) (lengths_in t.lengths.items) side place
 
   pub there : (side : List SideArc) (starts : List ℕ) (place at : ℕ) → 0 < length side
-      → AreStarts (sizes_on side (lengths_in t.lengths.items)) (length side) starts
+      → AreRunStarts (sizes_on side (lengths_in t.lengths.items)) (length side) starts
       → place ≤ count_below (sizes_on side (lengths_in t.lengths.items)) (length side)
       → at ≡ run_at (count_below (sizes_on side (lengths_in t.lengths.items))) (length side) place → IsThere side starts place at
   there side starts place at some are upto same =
@@ -124,7 +124,7 @@ module _ (plan : Plan) (t : Tables) (is : IsNumbering plan t) where
   pub record IsBorder (p s : ℕ) (side : List SideArc) (starts : List ℕ) : Type 0 where
     pub some : 0 < length side
     pub low : All (λ (used : SideArc). used.arc < length plan.arcs) side
-    pub starts_are : AreStarts (sizes_on side (lengths_in t.lengths.items)) (length side) starts
+    pub starts_are : AreRunStarts (sizes_on side (lengths_in t.lengths.items)) (length side) starts
     pub long : count_below (sizes_on side (lengths_in t.lengths.items)) (length side) ≡ long_by (tables_of t.sides.items) p s
 
   pub border : (p s : ℕ) (side : List SideArc) (starts : List ℕ) → p < length plan.patches → s < 4
@@ -133,7 +133,7 @@ module _ (plan : Plan) (t : Tables) (is : IsNumbering plan t) where
       subst (λ (us : List SideArc). IsBorder p s us starts) (sym side_is)
       (subst (λ (xs : List ℕ). IsBorder p s (get_or (get_or plan.sides p []) s []) xs) (sym starts_is) (by_way (way_for s way)))
     where
-      by_way : (w : Way) × (number w ≡ s) → IsBorder p s (get_or (get_or plan.sides p []) s []) (table_in (tables_of t.sides.items) p s)
+      by_way : (w : Way) × (way_number w ≡ s) → IsBorder p s (get_or (get_or plan.sides p []) s []) (table_in (tables_of t.sides.items) p s)
       by_way w =
           subst (λ (k : ℕ). IsBorder p k (get_or (get_or plan.sides p []) k []) (table_in (tables_of t.sides.items) p k)) w.1
           (record {
@@ -144,16 +144,16 @@ module _ (plan : Plan) (t : Tables) (is : IsNumbering plan t) where
           })
 
   -- The end of a table is the length of its side.
-  pub table_full : (p s : ℕ) (sides : List (List Starts)) (table : List ℕ) → p < length plan.patches → s < 4 → sides ≡ t.sides.items
+  pub table_full : (p s : ℕ) (sides : List (List RunStarts)) (table : List ℕ) → p < length plan.patches → s < 4 → sides ≡ t.sides.items
       → table ≡ table_in (tables_of sides) p s → 0 < length table
   table_full p s sides table low way same table_is =
-      subst (λ (xs : List ℕ). 0 < length xs) (sym (table_is ∙ ap (λ (ys : List (List Starts)). table_in (tables_of ys) p s) same)) (table_some p s low way)
+      subst (λ (xs : List ℕ). 0 < length xs) (sym (table_is ∙ ap (λ (ys : List (List RunStarts)). table_in (tables_of ys) p s) same)) (table_some p s low way)
 
-  pub size_read : (p : ℕ) (s : Way) (sides : List (List Starts)) (table : List ℕ) (v : ℕ) → p < length plan.patches → sides ≡ t.sides.items
-      → table ≡ table_in (tables_of sides) p (number s) → v ≡ slice_index table (length table - 1)
+  pub size_read : (p : ℕ) (s : Way) (sides : List (List RunStarts)) (table : List ℕ) (v : ℕ) → p < length plan.patches → sides ≡ t.sides.items
+      → table ≡ table_in (tables_of sides) p (way_number s) → v ≡ slice_index table (length table - 1)
       → v ≡ size (layout_of plan) (lengths_in t.lengths.items) p s
   size_read p s sides table v low same table_is read =
-      read ∙ ap (λ (xs : List ℕ). slice_index xs (length xs - 1)) (table_is ∙ ap (λ (ys : List (List Starts)). table_in (tables_of ys) p (number s)) same)
+      read ∙ ap (λ (xs : List ℕ). slice_index xs (length xs - 1)) (table_is ∙ ap (λ (ys : List (List RunStarts)). table_in (tables_of ys) p (way_number s)) same)
       ∙ long_is p s low
 
   -- The cell with a number.

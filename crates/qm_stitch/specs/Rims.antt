@@ -5,8 +5,8 @@ use Rattle.std.specs.List.{flat_map, range_with_len, Contains}
 use Rattle.def_layout.specs.Layouts.{Way, south, west, Layout}
 use Rattle.def_layout.specs.Lengths.{Lengths, size}
 use Rattle.qm_stitch.specs.declared.rim.Line.{Line}
-use Rattle.def_written.specs.Edges.{Edge, on_arc, flat, steep, low, top}
-use Rattle.def_written.specs.Numbers.{number}
+use Rattle.def_written.specs.Edges.{Edge, on_arc, flat, steep, edge_start, edge_end}
+use Rattle.def_written.specs.Numbers.{vertex_number}
 use Rattle.def_written.specs.Points.{Point, point}
 
 -- The edges of an arc.
@@ -70,7 +70,8 @@ pair_key u v = min u v * 2 ^ 32 + max u v
 -- The key of an edge.
 abbrev pub key_of : (layout : Layout) (lengths : Lengths) (edge : Edge) → ℕ
 key_of layout lengths edge =
-    pair_key (number layout lengths (low layout lengths edge)) (number layout lengths (top layout lengths edge))
+    pair_key (vertex_number layout lengths (edge_start layout lengths edge))
+    (vertex_number layout lengths (edge_end layout lengths edge))
 
 abbrev pub keys_of : (layout : Layout) (lengths : Lengths) (edges : List Edge) → List ℕ
 keys_of layout lengths edges = map (key_of layout lengths) edges

@@ -6,14 +6,14 @@ ghost use Rattle.def_layout.specs.Lengths.{AreLengths};
 ghost use Rattle.def_layout.specs.Plans.{layout_of, plan};
 ghost use Rattle.def_layoutnet.specs.MeshLayouts.{IsMeshLayout};
 ghost use Rattle.def_remesh.specs.NewPoints.{lengths_in};
-ghost use Rattle.def_remesh.specs.Numberings.{tables_of, AreStarts, IsNumbering};
+ghost use Rattle.def_remesh.specs.Numberings.{tables_of, AreRunStarts, IsNumbering};
 ghost use Rattle.qm_stitch.specs.Sizes.{product_by, AreRows, IsFine, IsTooFine};
 
 use crate::count::count_faces;
 use crate::numbering::Numbering;
 use crate::size::last_of;
 use def_layout::TMesh;
-use def_remesh::{MAX_NEW_FACES, Starts, StitchFail, Tables};
+use def_remesh::{MAX_NEW_FACES, RunStarts, StitchFail, Tables};
 use qm_reach::{inner_points, no_starts, push_start, short_lengths, side_tables, starts_on};
 use std::alloc::{AllocError, Global};
 
@@ -58,10 +58,10 @@ fn tables(alloc: Global, t: &TMesh, lengths: &[u64]) -> Result<Tables, AllocErro
 }
 
 /// Where the cells of patches begin, or, with `less` 1, their inner points.
-fn patch_starts(alloc: Global, sides: &[[Starts; 4]], less: u32) -> Result<Starts, AllocError>
+fn patch_starts(alloc: Global, sides: &[[RunStarts; 4]], less: u32) -> Result<RunStarts, AllocError>
     requires { AreRows (tables_of sides.now) less }
     ensures { IfOk result (λ starts.
-        AreStarts (product_by (tables_of sides.now) less) (length sides.now) starts.begin.items) }
+        AreRunStarts (product_by (tables_of sides.now) less) (length sides.now) starts.begin.items) }
 {
     let mut starts = no_starts(alloc, sides.len())?;
     for patch in 0..sides.len() {

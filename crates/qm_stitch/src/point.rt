@@ -6,10 +6,10 @@ ghost use Rattle.def_math.specs.Counts.{count_below};
 ghost use Rattle.def_layout.specs.Lengths.{wide, high};
 ghost use Rattle.def_layout.specs.Plans.{layout_of, plan};
 ghost use Rattle.def_layout.specs.declared.tmesh.SideArc.{SideArc as Used};
-ghost use Rattle.def_written.specs.Numbers.{number};
+ghost use Rattle.def_written.specs.Numbers.{vertex_number};
 ghost use Rattle.def_written.specs.Points.{arc_point, point, use_point};
 ghost use Rattle.def_remesh.specs.NewPoints.{lengths_in};
-ghost use Rattle.def_remesh.specs.Numberings.{sizes_on, tables_of, AreStarts, IsNumbering};
+ghost use Rattle.def_remesh.specs.Numberings.{sizes_on, tables_of, AreRunStarts, IsNumbering};
 ghost use Rattle.qm_stitch.specs.Sizes.{long_by, point_on};
 
 use crate::size::{last_of, size_at};
@@ -22,7 +22,7 @@ pub(crate) fn arc_number(tables: &Tables, t: &TMesh, arc: usize, k: u32) -> u32
     requires numbering { IsNumbering (plan t.now) tables.now }
     requires arc { arc < length t.now.arcs.items }
     requires upto { k ≤ lengths_in tables.now.lengths.items arc }
-    ensures { result ≡ number (layout_of (plan t.now)) (lengths_in tables.now.lengths.items)
+    ensures { result ≡ vertex_number (layout_of (plan t.now)) (lengths_in tables.now.lengths.items)
         (arc_point (layout_of (plan t.now)) (lengths_in tables.now.lengths.items) arc k) }
 {
     if k == 0 {
@@ -39,7 +39,7 @@ fn use_number(tables: &Tables, t: &TMesh, used: SideArc, offset: u32) -> u32
     requires numbering { IsNumbering (plan t.now) tables.now }
     requires arc { used.arc < length t.now.arcs.items }
     requires upto { offset ≤ lengths_in tables.now.lengths.items used.arc }
-    ensures { result ≡ number (layout_of (plan t.now)) (lengths_in tables.now.lengths.items)
+    ensures { result ≡ vertex_number (layout_of (plan t.now)) (lengths_in tables.now.lengths.items)
         (use_point (layout_of (plan t.now)) (lengths_in tables.now.lengths.items) used offset) }
 {
     let arc = used.arc as usize;
@@ -55,9 +55,10 @@ fn side_number(tables: &Tables, t: &TMesh, side: &[SideArc], starts: &[u32], pla
     requires numbering { IsNumbering (plan t.now) tables.now }
     requires some { 0 < length side.now }
     requires low { All (λ (used : Used). used.arc < length t.now.arcs.items) side.now }
-    requires starts { AreStarts (sizes_on side.now (lengths_in tables.now.lengths.items)) (length side.now) starts.now }
+    requires starts { AreRunStarts (sizes_on side.now (lengths_in tables.now.lengths.items))
+        (length side.now) starts.now }
     requires upto { place ≤ count_below (sizes_on side.now (lengths_in tables.now.lengths.items)) (length side.now) }
-    ensures { result ≡ number (layout_of (plan t.now)) (lengths_in tables.now.lengths.items)
+    ensures { result ≡ vertex_number (layout_of (plan t.now)) (lengths_in tables.now.lengths.items)
         (point_on (layout_of (plan t.now)) (lengths_in tables.now.lengths.items) side.now place) }
 {
     let at = spot_in(starts, place);
@@ -70,7 +71,7 @@ fn border_number(tables: &Tables, t: &TMesh, patch: usize, side: usize, place: u
     requires patch { patch < length t.now.patches.items }
     requires side { side < 4 }
     requires upto { place ≤ long_by (tables_of tables.now.sides.items) patch side }
-    ensures { result ≡ number (layout_of (plan t.now)) (lengths_in tables.now.lengths.items)
+    ensures { result ≡ vertex_number (layout_of (plan t.now)) (lengths_in tables.now.lengths.items)
         (point_on (layout_of (plan t.now)) (lengths_in tables.now.lengths.items)
         (slice_index_or (slice_index_or (plan t.now).sides patch []) side []) place) }
 {
@@ -84,7 +85,7 @@ pub(crate) fn point_number(tables: &Tables, t: &TMesh, patch: usize, i: u32, j: 
     requires patch { patch < length t.now.patches.items }
     requires column { i ≤ wide (layout_of (plan t.now)) (lengths_in tables.now.lengths.items) patch }
     requires row { j ≤ high (layout_of (plan t.now)) (lengths_in tables.now.lengths.items) patch }
-    ensures { result ≡ number (layout_of (plan t.now)) (lengths_in tables.now.lengths.items)
+    ensures { result ≡ vertex_number (layout_of (plan t.now)) (lengths_in tables.now.lengths.items)
         (point (layout_of (plan t.now)) (lengths_in tables.now.lengths.items) patch i j) }
 {
     let wide = size_at(tables, patch, 0);

@@ -3,8 +3,8 @@
 
 ghost use Rattle.std.specs.Prelude.{◌≡◌, ◌<◌, ◌≤◌, ◌-◌, ◌++◌, length, IfOk, OnOk};
 ghost use Rattle.def_layout.specs.Lengths.{size};
-ghost use Rattle.def_layout.specs.Plans.{layout_of, number as side_number, plan};
-ghost use Rattle.def_written.specs.Numbers.{number as point_name};
+ghost use Rattle.def_layout.specs.Plans.{layout_of, way_number as side_number, plan};
+ghost use Rattle.def_written.specs.Numbers.{vertex_number as point_name};
 ghost use Rattle.def_remesh.specs.NewPoints.{lengths_in};
 ghost use Rattle.def_remesh.specs.Numberings.{IsNumbering};
 ghost use Rattle.qm_stitch.specs.Rims.{all_lines, along_lines, arcs_upto, key_of, keys_of, line_edge, line_ends};

@@ -3,7 +3,7 @@
 ghost use Rattle.std.specs.Prelude.{◌≡◌, ◌<◌, ◌-◌, length, slice_index};
 ghost use Rattle.def_layout.specs.Layouts.{Way};
 ghost use Rattle.def_layout.specs.Lengths.{size};
-ghost use Rattle.def_layout.specs.Plans.{layout_of, number, Plan};
+ghost use Rattle.def_layout.specs.Plans.{layout_of, way_number, Plan};
 ghost use Rattle.def_remesh.specs.NewPoints.{lengths_in};
 ghost use Rattle.def_remesh.specs.Numberings.{HoldsFor, IsNumbering};
 
@@ -23,7 +23,7 @@ pub(crate) fn size_at(tables: &Tables, patch: usize, side: usize) -> u32
     requires numbering { HoldsFor tables.now }
     requires patch { patch < length tables.now.sides.items }
     requires side { side < 4 }
-    ensures { (plan : Plan) (way : Way) → IsNumbering plan tables.now → number way ≡ side
+    ensures { (plan : Plan) (way : Way) → IsNumbering plan tables.now → way_number way ≡ side
         → result ≡ size (layout_of plan) (lengths_in tables.now.lengths.items) patch way }
 {
     last_of(starts_on(&tables.sides, patch, side))

@@ -1,7 +1,7 @@
 -- What is kept of a layout for a benchmark, and how far it is from what is wanted.
 use Rattle.std.proofs.Common.{◌≡◌, ℤ, pos, Option, Some, None, sym, ◌∙◌, ap, subst, false}
 use Rattle.def_certtext.specs.CertLines.{Lists}
-use Rattle.def_flow.specs.Admissible.{deviation, entries, AreLengths}
+use Rattle.def_flow.specs.Admissible.{deviation, entries, AreNetLengths}
 use Rattle.def_flow.specs.Network.{Network}
 use Rattle.def_flow.specs.declared.net.Settings.{Settings}
 use Rattle.def_layout.specs.Arcs.{long_at}
@@ -28,7 +28,7 @@ bench_kept plan settings first third tables same kept = subst (λ (s : Settings)
 module _ (plan : Plan) (first : Lists) (tables : Tables) (net : Network)
     (is : IsNetOf (layout_of plan) (long_at plan.arcs) bench_settings net) where
   -- The kept lengths are lengths of the layout's network.
-  pub kept_lengths : (third : Option Lists) → IsKept plan bench_settings false first third tables → AreLengths net.arcs first.x
+  pub kept_lengths : (third : Option Lists) → IsKept plan bench_settings false first third tables → AreNetLengths net.arcs first.x
   kept_lengths None kept = record {
     count = kept.kept.accepted.count ∙ (kept.kept.of_layout.long ∙ sym is.long);
     small = writable_short first kept.kept.writable;

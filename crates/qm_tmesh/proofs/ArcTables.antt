@@ -8,7 +8,7 @@ use Rattle.def_mesh.specs.Vertices.{vertex_count}
 use Rattle.def_mesh.specs.HalfEdges.{half_edges}
 use Rattle.def_cut.specs.FullCut.{is_on}
 use Rattle.def_cut.specs.Grids.{least_of}
-use Rattle.def_layout.specs.Arcs.{Path, arc_at, name_at}
+use Rattle.def_layout.specs.Arcs.{Path, path_at, name_at}
 use Rattle.def_layout.specs.Nodes.{is_node}
 use Rattle.layout_laws.specs.Named.{run_list, run_name}
 use Rattle.layout_laws.proofs.Runs.{same_length}
@@ -16,10 +16,10 @@ use Rattle.layout_laws.proofs.Uses.{same_named}
 use Rattle.qm_tmesh.specs.Tables.{IsMarked, IsNamedRun, AreStarts, ArePlaces}
 use Rattle.qm_tmesh.specs.Arcs.{IsArcFrom, AreArcsBelow}
 
-arc_end : (arcs : List Path) (p : Path) → arc_at (arcs ++ p ∷ []) (length arcs) ≡ p
-arc_end arcs p = let e : length arcs ≡ length arcs + 0 = omega arith in ap (arc_at (arcs ++ p ∷ [])) e ∙ get_or-append-add arcs (p ∷ []) 0 (record { first = 0; last = 0; darts = [] })
+arc_end : (arcs : List Path) (p : Path) → path_at (arcs ++ p ∷ []) (length arcs) ≡ p
+arc_end arcs p = let e : length arcs ≡ length arcs + 0 = omega arith in ap (path_at (arcs ++ p ∷ [])) e ∙ get_or-append-add arcs (p ∷ []) 0 (record { first = 0; last = 0; darts = [] })
 
-arc_front : (arcs : List Path) (p : Path) (a : ℕ) → a < length arcs → arc_at (arcs ++ p ∷ []) a ≡ arc_at arcs a
+arc_front : (arcs : List Path) (p : Path) (a : ℕ) → a < length arcs → path_at (arcs ++ p ∷ []) a ≡ path_at arcs a
 arc_front arcs p a l = get_or_append_left arcs (p ∷ []) (record { first = 0; last = 0; darts = [] }) a l
 
 one_more : (arcs : List Path) (p : Path) → length (arcs ++ p ∷ []) ≡ length arcs + 1
@@ -28,10 +28,10 @@ one_more arcs p = length-append arcs (p ∷ [])
 front_or_end : (arcs : List Path) (p : Path) (a : ℕ) → a < length (arcs ++ p ∷ []) → (a < length arcs) ⊎ (a ≡ length arcs)
 front_or_end arcs p a l = elim (cases_lt a (length arcs)) [ inl b ↦ inl b | inr g ↦ inr (omega (arith, one_more arcs p)) ]
 
-each_more : (P : Path → Type 0) (arcs : List Path) (p : Path) → ((a : ℕ) → a < length arcs → P (arc_at arcs a)) → P p → (a : ℕ) → a < length (arcs ++ p ∷ []) → P (arc_at (arcs ++ p ∷ []) a)
+each_more : (P : Path → Type 0) (arcs : List Path) (p : Path) → ((a : ℕ) → a < length arcs → P (path_at arcs a)) → P p → (a : ℕ) → a < length (arcs ++ p ∷ []) → P (path_at (arcs ++ p ∷ []) a)
 each_more P arcs p each here a l = elim (front_or_end arcs p a l) [
   | inl b ↦ subst P (sym (arc_front arcs p a b)) (each a b)
-  | inr e ↦ subst P (sym (ap (arc_at (arcs ++ p ∷ [])) e ∙ arc_end arcs p)) here
+  | inr e ↦ subst P (sym (ap (path_at (arcs ++ p ∷ [])) e ∙ arc_end arcs p)) here
 ]
 
 module _ (faces : Faces) (cut marks : List Bool) (marked : IsMarked faces cut marks) (nodes : List ℕ) where
@@ -79,15 +79,15 @@ module _ (faces : Faces) (cut marks : List Bool) (marked : IsMarked faces cut ma
 
           by_next : (suc a < length arcs) ⊎ (suc a ≡ length arcs) → name_at (arcs ++ p ∷ []) a < name_at (arcs ++ p ∷ []) (suc a)
           by_next (inl b) = let next : name_at (arcs ++ p ∷ []) (suc a) ≡ name_at arcs (suc a) = ap (λ (q : Path). least_of q.darts) (arc_front arcs p (suc a) b) in omega (arith, here, so.ordered a b)
-          by_next (inr e) = let next : name_at (arcs ++ p ∷ []) (suc a) ≡ m = ap (λ (q : Path). least_of q.darts) (ap (arc_at (arcs ++ p ∷ [])) e ∙ arc_end arcs p) ∙ name in omega (arith, here, so.below a front)
+          by_next (inr e) = let next : name_at (arcs ++ p ∷ []) (suc a) ≡ m = ap (λ (q : Path). least_of q.darts) (ap (path_at (arcs ++ p ∷ [])) e ∙ arc_end arcs p) ∙ name in omega (arith, here, so.below a front)
 
-      all : (r k : ℕ) → IsNamedRun faces cut r k → run_name (half_edges faces) r k < m + 1 → (a : ℕ) × (a < length (arcs ++ p ∷ [])) × ((arc_at (arcs ++ p ∷ []) a).darts ≡ run_list (half_edges faces) r k)
+      all : (r k : ℕ) → IsNamedRun faces cut r k → run_name (half_edges faces) r k < m + 1 → (a : ℕ) × (a < length (arcs ++ p ∷ [])) × ((path_at (arcs ++ p ∷ []) a).darts ≡ run_list (half_edges faces) r k)
       all r k other l = by_name (cases_eq (run_name (half_edges faces) r k) m)
         where
-          old : (a : ℕ) × (a < length arcs) × ((arc_at arcs a).darts ≡ run_list (half_edges faces) r k) → (a : ℕ) × (a < length (arcs ++ p ∷ [])) × ((arc_at (arcs ++ p ∷ []) a).darts ≡ run_list (half_edges faces) r k)
+          old : (a : ℕ) × (a < length arcs) × ((path_at arcs a).darts ≡ run_list (half_edges faces) r k) → (a : ℕ) × (a < length (arcs ++ p ∷ [])) × ((path_at (arcs ++ p ∷ []) a).darts ≡ run_list (half_edges faces) r k)
           old o = (o.0, omega (arith, o.1, one_more arcs p), ap (λ (q : Path). q.darts) (arc_front arcs p o.0 o.1) ∙ o.2)
 
-          by_name : (run_name (half_edges faces) r k ≡ m) ⊎ (run_name (half_edges faces) r k ≡ m → ⊥) → (a : ℕ) × (a < length (arcs ++ p ∷ [])) × ((arc_at (arcs ++ p ∷ []) a).darts ≡ run_list (half_edges faces) r k)
+          by_name : (run_name (half_edges faces) r k ≡ m) ⊎ (run_name (half_edges faces) r k ≡ m → ⊥) → (a : ℕ) × (a < length (arcs ++ p ∷ [])) × ((path_at (arcs ++ p ∷ []) a).darts ≡ run_list (half_edges faces) r k)
           by_name (inr ne) = old (so.all r k other (omega arith))
           by_name (inl e) =
               let one : (s ≡ r) × (n ≡ k) = same_named (half_edges faces) marked.laws (is_on cut) marked.full (is_node faces cut) marked.stand s n r k named other (is ∙ sym e) in

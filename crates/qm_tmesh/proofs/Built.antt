@@ -12,11 +12,11 @@ use Rattle.def_mesh.specs.HalfEdges.{half_edges}
 use Rattle.def_cut.specs.FullCut.{is_on, IsFullCut}
 use Rattle.def_cut.specs.Grids.{Rectangle, patch_at, IsPartition}
 use Rattle.def_cut.specs.Steps.{easts}
-use Rattle.def_layout.specs.Arcs.{IsRun, Path, path, arc_at, dart_at, long_at, IsArc, LiesAt}
+use Rattle.def_layout.specs.Arcs.{IsRun, Path, path, path_at, dart_at, long_at, IsArc, LiesAt}
 use Rattle.def_layout.specs.Borders.{side_size, border_dart}
 use Rattle.def_layout.specs.Layouts.{Way}
 use Rattle.def_layout.specs.Nodes.{is_node}
-use Rattle.def_layout.specs.Plans.{number, IsLayout}
+use Rattle.def_layout.specs.Plans.{way_number, IsLayout}
 use Rattle.def_layout.specs.declared.tmesh.SideArc.{SideArc}
 use Rattle.def_layout.specs.declared.tmesh.TArc.{TArc}
 use Rattle.mesh_laws.proofs.HalfEdges.{manifold_law}
@@ -92,33 +92,33 @@ module _ (faces : Faces) (cut marks : List Bool) (marked : IsMarked faces cut ma
   pub have_patches : HavePatches faces arcs uses ps
   have_patches = (runs, placed)
 
-  dart_is : (a k s : ℕ) → IsArcFrom faces cut list s (arc_at arcs a) → k < long_at arcs a → dart_at arcs a k ≡ easts (half_edges faces) s k
+  dart_is : (a k s : ℕ) → IsArcFrom faces cut list s (path_at arcs a) → k < long_at arcs a → dart_at arcs a k ≡ easts (half_edges faces) s k
   dart_is a k s from l = ap (λ (xs : List ℕ). get_or xs k 0) from.darts ∙ run_entry (half_edges faces) s (long_at arcs a) k l
 
-  each : (a : ℕ) → a < length arcs → IsArc (half_edges faces) (is_on cut) (is_node faces cut) (arc_at arcs a).darts
+  each : (a : ℕ) → a < length arcs → IsArc (half_edges faces) (is_on cut) (is_node faces cut) (path_at arcs a).darts
   each a l = at (below.each a l)
     where
-      at : (s : ℕ) × IsNamedRun faces cut s (long_at arcs a) × IsArcFrom faces cut list s (arc_at arcs a) → IsArc (half_edges faces) (is_on cut) (is_node faces cut) (arc_at arcs a).darts
+      at : (s : ℕ) × IsNamedRun faces cut s (long_at arcs a) × IsArcFrom faces cut list s (path_at arcs a) → IsArc (half_edges faces) (is_on cut) (is_node faces cut) (path_at arcs a).darts
       at b = subst (λ (xs : List ℕ). IsArc (half_edges faces) (is_on cut) (is_node faces cut) xs) (sym b.2.darts) (named_arc (half_edges faces) marked.laws (is_on cut) marked.full (is_node faces cut) marked.stand b.0 (long_at arcs a) b.1)
 
   Covered : ℕ → Type 0
-  Covered d = (a : ℕ) × (place : ℕ) × (forward : Bool) × (a < length arcs) × (place < long_at arcs a) × LiesAt (half_edges faces) (arc_at arcs a).darts forward place d
+  Covered d = (a : ℕ) × (place : ℕ) × (forward : Bool) × (a < length arcs) × (place < long_at arcs a) × LiesAt (half_edges faces) (path_at arcs a).darts forward place d
 
   covers : (d : ℕ) → d < darts faces → is_on cut d ≡ true → Covered d
   unfolding Covered
   covers d l on = by_run (each_in_run (half_edges faces) marked.laws (is_on cut) marked.full (is_node faces cut) marked.stand face ps parts d l on)
     where
-      low : (s n : ℕ) → IsNamedRun faces cut s n → (a : ℕ) × (a < length arcs) × ((arc_at arcs a).darts ≡ run_list (half_edges faces) s n)
+      low : (s n : ℕ) → IsNamedRun faces cut s n → (a : ℕ) × (a < length arcs) × ((path_at arcs a).darts ≡ run_list (half_edges faces) s n)
       low s n named = let h : run_list (half_edges faces) s n ≡ run_list (half_edges faces) s n = refl in below.all s n named (omega (arith, name_low faces cut marks marked s n named))
 
-      along : (s n k : ℕ) → k < n → easts (half_edges faces) s k ≡ d → (a : ℕ) × (a < length arcs) × ((arc_at arcs a).darts ≡ run_list (half_edges faces) s n) → Covered d
+      along : (s n k : ℕ) → k < n → easts (half_edges faces) s k ≡ d → (a : ℕ) × (a < length arcs) × ((path_at arcs a).darts ≡ run_list (half_edges faces) s n) → Covered d
       along s n k lk e a = (a.0, k, true, a.1, omega (arith, ap length a.2, run_long (half_edges faces) s n), sym (ap (λ (xs : List ℕ). get_or xs k 0) a.2 ∙ (run_entry (half_edges faces) s n k lk ∙ e)))
 
-      against : (s n k r : ℕ) → IsRun (half_edges faces) (is_on cut) (is_node faces cut) s n → k < n → easts (half_edges faces) s k ≡ d → IsBack (half_edges faces) (is_on cut) (is_node faces cut) s n r → (a : ℕ) × (a < length arcs) × ((arc_at arcs a).darts ≡ run_list (half_edges faces) r n) → Covered d
+      against : (s n k r : ℕ) → IsRun (half_edges faces) (is_on cut) (is_node faces cut) s n → k < n → easts (half_edges faces) s k ≡ d → IsBack (half_edges faces) (is_on cut) (is_node faces cut) s n r → (a : ℕ) × (a < length arcs) × ((path_at arcs a).darts ≡ run_list (half_edges faces) r n) → Covered d
       against s n k r run lk e back a =
           let long : long_at arcs a.0 ≡ n = ap length a.2 ∙ run_long (half_edges faces) r n in
           let place : long_at arcs a.0 - 1 - k ≡ n - suc k = omega arith in
-          let there : get_or (arc_at arcs a.0).darts (long_at arcs a.0 - 1 - k) 0 ≡ easts (half_edges faces) r (n - suc k) = ap (λ x. get_or (arc_at arcs a.0).darts x 0) place ∙ (ap (λ (xs : List ℕ). get_or xs (n - suc k) 0) a.2 ∙ run_entry (half_edges faces) r n (n - suc k) (omega arith)) in
+          let there : get_or (path_at arcs a.0).darts (long_at arcs a.0 - 1 - k) 0 ≡ easts (half_edges faces) r (n - suc k) = ap (λ x. get_or (path_at arcs a.0).darts x 0) place ∙ (ap (λ (xs : List ℕ). get_or xs (n - suc k) 0) a.2 ∙ run_entry (half_edges faces) r n (n - suc k) (omega arith)) in
           (a.0, k, false, a.1, omega (arith, long), ap (twin_of faces) there ∙ (marked.laws.twin_twin (easts (half_edges faces) s k) (easts (half_edges faces) r (n - suc k)) (run_low (half_edges faces) marked.laws (is_on cut) marked.full (is_node faces cut) marked.stand s n run k lk) (back.twin k (n - suc k) (omega arith)) ∙ ap Some e))
 
       by_run : (s : ℕ) × (n : ℕ) × (k : ℕ) × IsRun (half_edges faces) (is_on cut) (is_node faces cut) s n × (k < n) × (easts (half_edges faces) s k ≡ d) → Covered d
@@ -128,15 +128,15 @@ module _ (faces : Faces) (cut marks : List Bool) (marked : IsMarked faces cut ma
       ]
 
   module _ (sides : List (List (List SideArc))) (all : AreAllFour faces arcs uses ps sides) (nodes : list ≡ filter (is_on marks) (range_with_len 0 (length marks))) where
-    side : (p : ℕ) (way : Way) → p < length ps → IsSideOf arcs uses (run_list (half_edges faces) (border_dart (half_edges faces) (patch_at ps p) way 0) (side_size (patch_at ps p) way)) (get_or (get_or sides p []) (number way) [])
+    side : (p : ℕ) (way : Way) → p < length ps → IsSideOf arcs uses (run_list (half_edges faces) (border_dart (half_edges faces) (patch_at ps p) way 0) (side_size (patch_at ps p) way)) (get_or (get_or sides p []) (way_number way) [])
     side p way l = (all.each p l).each way
 
     -- The use at a slot begins where the uses before it end, and lies along the border.
-    slot_use : (p : ℕ) (way : Way) (k : ℕ) → p < length ps → k < length (get_or (get_or sides p []) (number way) []) → ((use_in (get_or (get_or sides p []) (number way) []) k).arc < length arcs) × ((o : ℕ) → o < long_at arcs (use_in (get_or (get_or sides p []) (number way) []) k).arc → LiesAt (half_edges faces) (arc_at arcs (use_in (get_or (get_or sides p []) (number way) []) k).arc).darts (use_in (get_or (get_or sides p []) (number way) []) k).forward o (border_dart (half_edges faces) (patch_at ps p) way (reach_in arcs (get_or (get_or sides p []) (number way) []) k + o)))
+    slot_use : (p : ℕ) (way : Way) (k : ℕ) → p < length ps → k < length (get_or (get_or sides p []) (way_number way) []) → ((use_in (get_or (get_or sides p []) (way_number way) []) k).arc < length arcs) × ((o : ℕ) → o < long_at arcs (use_in (get_or (get_or sides p []) (way_number way) []) k).arc → LiesAt (half_edges faces) (path_at arcs (use_in (get_or (get_or sides p []) (way_number way) []) k).arc).darts (use_in (get_or (get_or sides p []) (way_number way) []) k).forward o (border_dart (half_edges faces) (patch_at ps p) way (reach_in arcs (get_or (get_or sides p []) (way_number way) []) k + o)))
     slot_use p way k lp lk = by_place (reach_in arcs us k) refl ((side p way lp).each k lk) (split_begins arcs uses list_here (begins faces arcs uses runs (patch_at ps p) (placed p lp) way) us split (side p way lp) k lk)
       where
         us : List SideArc
-        us = get_or (get_or sides p []) (number way) []
+        us = get_or (get_or sides p []) (way_number way) []
 
         list_here : List ℕ
         list_here = run_list (half_edges faces) (border_dart (half_edges faces) (patch_at ps p) way 0) (side_size (patch_at ps p) way)
@@ -147,7 +147,7 @@ module _ (faces : Faces) (cut marks : List Bool) (marked : IsMarked faces cut ma
         here : IsLine (half_edges faces) (is_on cut) (border_dart (half_edges faces) (patch_at ps p) way) (side_size (patch_at ps p) way)
         here = line (half_edges faces) marked.laws (is_on cut) marked.full (patch_at ps p) (parts.patch p lp).grid way
 
-        by_place : (t : ℕ) → reach_in arcs us k ≡ t → (reach_in arcs us k < length list_here) × (use_in us k ≡ use_in uses (get_or list_here (reach_in arcs us k) 0)) → begins faces arcs uses runs (patch_at ps p) (placed p lp) way (reach_in arcs us k) ≡ true → ((use_in us k).arc < length arcs) × ((o : ℕ) → o < long_at arcs (use_in us k).arc → LiesAt (half_edges faces) (arc_at arcs (use_in us k).arc).darts (use_in us k).forward o (border_dart (half_edges faces) (patch_at ps p) way (reach_in arcs us k + o)))
+        by_place : (t : ℕ) → reach_in arcs us k ≡ t → (reach_in arcs us k < length list_here) × (use_in us k ≡ use_in uses (get_or list_here (reach_in arcs us k) 0)) → begins faces arcs uses runs (patch_at ps p) (placed p lp) way (reach_in arcs us k) ≡ true → ((use_in us k).arc < length arcs) × ((o : ℕ) → o < long_at arcs (use_in us k).arc → LiesAt (half_edges faces) (path_at arcs (use_in us k).arc).darts (use_in us k).forward o (border_dart (half_edges faces) (patch_at ps p) way (reach_in arcs us k + o)))
         by_place t is at on = (low, lies)
           where
             size_is : length list_here ≡ side_size (patch_at ps p) way
@@ -162,20 +162,20 @@ module _ (faces : Faces) (cut marks : List Bool) (marked : IsMarked faces cut ma
             use_is : use_in us k ≡ use_in uses (border_dart (half_edges faces) (patch_at ps p) way (reach_in arcs us k))
             use_is = at.1 ∙ ap (use_in uses) dart
 
-            begun : ((use_in uses (border_dart (half_edges faces) (patch_at ps p) way (reach_in arcs us k))).arc < length arcs) × LiesAt (half_edges faces) (arc_at arcs (use_in uses (border_dart (half_edges faces) (patch_at ps p) way (reach_in arcs us k))).arc).darts (use_in uses (border_dart (half_edges faces) (patch_at ps p) way (reach_in arcs us k))).forward 0 (border_dart (half_edges faces) (patch_at ps p) way (reach_in arcs us k))
+            begun : ((use_in uses (border_dart (half_edges faces) (patch_at ps p) way (reach_in arcs us k))).arc < length arcs) × LiesAt (half_edges faces) (path_at arcs (use_in uses (border_dart (half_edges faces) (patch_at ps p) way (reach_in arcs us k))).arc).darts (use_in uses (border_dart (half_edges faces) (patch_at ps p) way (reach_in arcs us k))).forward 0 (border_dart (half_edges faces) (patch_at ps p) way (reach_in arcs us k))
             begun = runs.begin (border_dart (half_edges faces) (patch_at ps p) way (reach_in arcs us k)) (here.low (reach_in arcs us k) lt) (here.on (reach_in arcs us k) lt) on
 
             low : (use_in us k).arc < length arcs
             low = subst (λ (u : SideArc). u.arc < length arcs) (sym use_is) begun.0
 
-            starts : LiesAt (half_edges faces) (arc_at arcs (use_in us k).arc).darts (use_in us k).forward 0 (border_dart (half_edges faces) (patch_at ps p) way (reach_in arcs us k))
-            starts = subst (λ (u : SideArc). LiesAt (half_edges faces) (arc_at arcs u.arc).darts u.forward 0 (border_dart (half_edges faces) (patch_at ps p) way (reach_in arcs us k))) (sym use_is) begun.1
+            starts : LiesAt (half_edges faces) (path_at arcs (use_in us k).arc).darts (use_in us k).forward 0 (border_dart (half_edges faces) (patch_at ps p) way (reach_in arcs us k))
+            starts = subst (λ (u : SideArc). LiesAt (half_edges faces) (path_at arcs u.arc).darts u.forward 0 (border_dart (half_edges faces) (patch_at ps p) way (reach_in arcs us k))) (sym use_is) begun.1
 
             fits : reach_in arcs us k + long_at arcs (use_in us k).arc ≤ side_size (patch_at ps p) way
             fits = let f : HasUseAt arcs uses list_here (begins faces arcs uses runs (patch_at ps p) (placed p lp) way) (reach_in arcs us k) = split.step (reach_in arcs us k) at.0 on in omega (arith, f.fits, size_is, ap (λ (u : SideArc). long_at arcs u.arc) at.1)
 
-            lies : (o : ℕ) → o < long_at arcs (use_in us k).arc → LiesAt (half_edges faces) (arc_at arcs (use_in us k).arc).darts (use_in us k).forward o (border_dart (half_edges faces) (patch_at ps p) way (reach_in arcs us k + o))
-            lies o lo = subst (λ (x : ℕ). LiesAt (half_edges faces) (arc_at arcs (use_in us k).arc).darts (use_in us k).forward o x) (line_easts (half_edges faces) marked.laws (is_on cut) marked.full (is_node faces cut) marked.stand (border_dart (half_edges faces) (patch_at ps p) way) (side_size (patch_at ps p) way) here (reach_in arcs us k) o (omega (arith, fits, lo)))
+            lies : (o : ℕ) → o < long_at arcs (use_in us k).arc → LiesAt (half_edges faces) (path_at arcs (use_in us k).arc).darts (use_in us k).forward o (border_dart (half_edges faces) (patch_at ps p) way (reach_in arcs us k + o))
+            lies o lo = subst (λ (x : ℕ). LiesAt (half_edges faces) (path_at arcs (use_in us k).arc).darts (use_in us k).forward o x) (line_easts (half_edges faces) marked.laws (is_on cut) marked.full (is_node faces cut) marked.stand (border_dart (half_edges faces) (patch_at ps p) way) (side_size (patch_at ps p) way) here (reach_in arcs us k) o (omega (arith, fits, lo)))
                 ((arc_use faces arcs uses runs (use_in us k).arc (use_in us k).forward (border_dart (half_edges faces) (patch_at ps p) way (reach_in arcs us k)) low starts).lies o lo)
 
     pub is_layout : IsLayout (half_edges faces) (is_on cut) (is_node faces cut) face (vertex_count faces) (record { nodes = list; arcs = arcs; patches = ps; sides = sides })

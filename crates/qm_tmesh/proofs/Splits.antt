@@ -6,7 +6,7 @@ use Rattle.def_mesh.specs.HalfEdges.{half_edges}
 use Rattle.def_cut.specs.FullCut.{is_on}
 use Rattle.def_cut.specs.Grids.{Rectangle}
 use Rattle.def_cut.specs.Steps.{easts}
-use Rattle.def_layout.specs.Arcs.{IsRun, Path, arc_at, long_at, LiesAt}
+use Rattle.def_layout.specs.Arcs.{IsRun, Path, path_at, long_at, LiesAt}
 use Rattle.def_layout.specs.Borders.{side_size, border_dart}
 use Rattle.def_layout.specs.Layouts.{Way}
 use Rattle.def_layout.specs.Nodes.{is_node}
@@ -21,10 +21,10 @@ use Rattle.qm_tmesh.specs.Uses.{use_in}
 
 module _ (faces : Faces) (arcs : List Path) (uses : List SideArc) (runs : AreRuns faces arcs uses) where
   -- What begins with the first dart of a use.
-  pub arc_use : (a : ℕ) (f : Bool) (d : ℕ) → a < length arcs → LiesAt (half_edges faces) (arc_at arcs a).darts f 0 d → IsUse (half_edges faces) (is_on runs.cut) (is_node faces runs.cut) (arc_at arcs a).darts f d
+  pub arc_use : (a : ℕ) (f : Bool) (d : ℕ) → a < length arcs → LiesAt (half_edges faces) (path_at arcs a).darts f 0 d → IsUse (half_edges faces) (is_on runs.cut) (is_node faces runs.cut) (path_at arcs a).darts f d
   arc_use a f d la at = by_named (runs.named.each a la)
     where
-      by_named : (s : ℕ) × IsNamedRun faces runs.cut s (long_at arcs a) × ((arc_at arcs a).darts ≡ run_list (half_edges faces) s (long_at arcs a)) → IsUse (half_edges faces) (is_on runs.cut) (is_node faces runs.cut) (arc_at arcs a).darts f d
+      by_named : (s : ℕ) × IsNamedRun faces runs.cut s (long_at arcs a) × ((path_at arcs a).darts ≡ run_list (half_edges faces) s (long_at arcs a)) → IsUse (half_edges faces) (is_on runs.cut) (is_node faces runs.cut) (path_at arcs a).darts f d
       by_named p = subst (λ (xs : List ℕ). IsUse (half_edges faces) (is_on runs.cut) (is_node faces runs.cut) xs f d) (sym p.2)
           (use_run (half_edges faces) runs.laws (is_on runs.cut) runs.full (is_node faces runs.cut) runs.stand (run_list (half_edges faces) p.0 (long_at arcs a)) f d (named_arc (half_edges faces) runs.laws (is_on runs.cut) runs.full (is_node faces runs.cut) runs.stand p.0 (long_at arcs a) p.1) (subst (λ (xs : List ℕ). LiesAt (half_edges faces) xs f 0 d) p.2 at))
 
@@ -62,7 +62,7 @@ module _ (faces : Faces) (arcs : List Path) (uses : List SideArc) (runs : AreRun
         low : d < darts faces
         low = subst (λ (x : ℕ). x < darts faces) (sym e) (is_line.low t l)
 
-        by_use : ((use_in uses d).arc < length arcs) × LiesAt (half_edges faces) (arc_at arcs (use_in uses d).arc).darts (use_in uses d).forward 0 d → ((use_in uses d).arc < length arcs) × (0 < long_at arcs (use_in uses d).arc) × (t + long_at arcs (use_in uses d).arc ≤ side_size p way) × (t + long_at arcs (use_in uses d).arc < side_size p way → begins (t + long_at arcs (use_in uses d).arc) ≡ true)
+        by_use : ((use_in uses d).arc < length arcs) × LiesAt (half_edges faces) (path_at arcs (use_in uses d).arc).darts (use_in uses d).forward 0 d → ((use_in uses d).arc < length arcs) × (0 < long_at arcs (use_in uses d).arc) × (t + long_at arcs (use_in uses d).arc ≤ side_size p way) × (t + long_at arcs (use_in uses d).arc < side_size p way → begins (t + long_at arcs (use_in uses d).arc) ≡ true)
         by_use u = (u.0, run.some, run_fits (half_edges faces) runs.laws (is_on runs.cut) runs.full (is_node faces runs.cut) runs.stand (border_dart (half_edges faces) p way) (side_size p way) is_line t (long_at arcs (use_in uses d).arc) l here, λ far. next_begins (half_edges faces) runs.laws (is_on runs.cut) runs.full (is_node faces runs.cut) runs.stand (border_dart (half_edges faces) p way) (side_size p way) is_line t (long_at arcs (use_in uses d).arc) l here far)
           where
             run : IsRun (half_edges faces) (is_on runs.cut) (is_node faces runs.cut) d (long_at arcs (use_in uses d).arc)

@@ -10,8 +10,8 @@ use Rattle.def_mesh.specs.Vertices.{fan_of}
 use Rattle.def_mesh.specs.HalfEdges.{half_edges}
 use Rattle.def_cut.specs.FullCut.{is_on}
 use Rattle.def_cut.specs.Grids.{least_of}
-use Rattle.def_cut.specs.Steps.{east, easts}
-use Rattle.def_layout.specs.Arcs.{to, IsRun}
+use Rattle.def_cut.specs.Steps.{step_east, easts}
+use Rattle.def_layout.specs.Arcs.{end_vertex, IsRun}
 use Rattle.def_layout.specs.Nodes.{is_node}
 use Rattle.std.proofs.lemmas.List.{append-nil}
 use Rattle.list_laws.proofs.Filters.{filter_range_more}
@@ -36,30 +36,30 @@ pub least_is : (xs : List ℕ) (m : ℕ) → 0 < length xs → ((k : ℕ) → k 
 least_is xs m some below among = omega (arith, least_low xs m some below, least_high xs among.0 among.1, among.2)
 
 module _ (faces : Faces) (cut nodes : List Bool) (marked : IsMarked faces cut nodes) where
-  goes : (d : ℕ) → d < darts faces → is_on cut d ≡ true → is_node faces cut (to (half_edges faces) d) ≡ false → GoesStraight (half_edges faces) (is_on cut) d
+  goes : (d : ℕ) → d < darts faces → is_on cut d ≡ true → is_node faces cut (end_vertex (half_edges faces) d) ≡ false → GoesStraight (half_edges faces) (is_on cut) d
   goes d l on inner = on_from (half_edges faces) marked.laws (is_on cut) marked.full (is_node faces cut) marked.stand d l on inner
 
-  pub straight_is : (d : ℕ) → d < darts faces → is_on cut d ≡ true → is_node faces cut (to (half_edges faces) d) ≡ false → straight_of faces d ≡ Some (east (half_edges faces) d)
-  straight_is d l on inner = ap (option_map next_of) (goes d l on inner).over ∙ ap Some (marked.laws.next_prev (east (half_edges faces) d))
+  pub straight_is : (d : ℕ) → d < darts faces → is_on cut d ≡ true → is_node faces cut (end_vertex (half_edges faces) d) ≡ false → straight_of faces d ≡ Some (step_east (half_edges faces) d)
+  straight_is d l on inner = ap (option_map next_of) (goes d l on inner).over ∙ ap Some (marked.laws.next_prev (step_east (half_edges faces) d))
 
-  module _ (s d i : ℕ) (low : s < darts faces) (on : is_on cut s ≡ true) (begins : is_node faces cut (from_of faces s) ≡ true) (at : d ≡ easts (half_edges faces) s i) (inner : (k : ℕ) → k < i → is_node faces cut (to (half_edges faces) (easts (half_edges faces) s k)) ≡ false) where
+  module _ (s d i : ℕ) (low : s < darts faces) (on : is_on cut s ≡ true) (begins : is_node faces cut (from_of faces s) ≡ true) (at : d ≡ easts (half_edges faces) s i) (inner : (k : ℕ) → k < i → is_node faces cut (end_vertex (half_edges faces) (easts (half_edges faces) s k)) ≡ false) where
     pub walk_low : (d < darts faces) × (is_on cut d ≡ true)
     walk_low = let w : (easts (half_edges faces) s i < darts faces) × (is_on cut (easts (half_edges faces) s i) ≡ true) = walked (half_edges faces) marked.laws (is_on cut) marked.full (is_node faces cut) marked.stand s i low on inner i (omega arith) in (subst (λ (x : ℕ). x < darts faces) (sym at) w.0, ap (is_on cut) at ∙ w.1)
 
-    pub walk_straight : is_node faces cut (to (half_edges faces) d) ≡ false → straight_of faces d ≡ Some (east (half_edges faces) d)
+    pub walk_straight : is_node faces cut (end_vertex (half_edges faces) d) ≡ false → straight_of faces d ≡ Some (step_east (half_edges faces) d)
     walk_straight off = straight_is d walk_low.0 walk_low.1 off
 
-    pub walk_inner : is_node faces cut (to (half_edges faces) d) ≡ false → (k : ℕ) → k < i + 1 → is_node faces cut (to (half_edges faces) (easts (half_edges faces) s k)) ≡ false
-    walk_inner off = below_next (λ k. is_node faces cut (to (half_edges faces) (easts (half_edges faces) s k)) ≡ false) i inner (ap (λ x. is_node faces cut (to (half_edges faces) x)) (sym at) ∙ off)
+    pub walk_inner : is_node faces cut (end_vertex (half_edges faces) d) ≡ false → (k : ℕ) → k < i + 1 → is_node faces cut (end_vertex (half_edges faces) (easts (half_edges faces) s k)) ≡ false
+    walk_inner off = below_next (λ k. is_node faces cut (end_vertex (half_edges faces) (easts (half_edges faces) s k)) ≡ false) i inner (ap (λ x. is_node faces cut (end_vertex (half_edges faces) x)) (sym at) ∙ off)
 
-    pub walk_run : is_node faces cut (to (half_edges faces) d) ≡ true → IsRun (half_edges faces) (is_on cut) (is_node faces cut) s (i + 1)
-    walk_run ends = walk_done (half_edges faces) marked.laws (is_on cut) marked.full (is_node faces cut) marked.stand s i low on begins inner (ap (λ x. is_node faces cut (to (half_edges faces) x)) (sym at) ∙ ends)
+    pub walk_run : is_node faces cut (end_vertex (half_edges faces) d) ≡ true → IsRun (half_edges faces) (is_on cut) (is_node faces cut) s (i + 1)
+    walk_run ends = walk_done (half_edges faces) marked.laws (is_on cut) marked.full (is_node faces cut) marked.stand s i low on begins inner (ap (λ x. is_node faces cut (end_vertex (half_edges faces) x)) (sym at) ∙ ends)
 
     pub walk_listed : (now new : List ℕ) → now ≡ run_list (half_edges faces) s i → new ≡ now ++ d ∷ [] → new ≡ run_list (half_edges faces) s (i + 1)
     walk_listed now new listed put = put ∙ (ap (λ xs. xs ++ d ∷ []) listed ∙ (ap (λ x. run_list (half_edges faces) s i ++ x ∷ []) at ∙ sym (map-range_with_len_more (easts (half_edges faces) s) 0 i i (omega arith))))
 
-    pub walk_at : (e : ℕ) → e ≡ east (half_edges faces) d → e ≡ easts (half_edges faces) s (i + 1)
-    walk_at e is = let n : suc i ≡ i + 1 = omega arith in is ∙ (ap (east (half_edges faces)) at ∙ ap (easts (half_edges faces) s) n)
+    pub walk_at : (e : ℕ) → e ≡ step_east (half_edges faces) d → e ≡ easts (half_edges faces) s (i + 1)
+    walk_at e is = let n : suc i ≡ i + 1 = omega arith in is ∙ (ap (step_east (half_edges faces)) at ∙ ap (easts (half_edges faces) s) n)
 
     pub walk_end : darts faces ≤ i → ⊥
     walk_end far = walk_never (half_edges faces) marked.laws (is_on cut) marked.full (is_node faces cut) marked.stand s i low on begins inner far

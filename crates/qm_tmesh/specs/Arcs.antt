@@ -5,7 +5,7 @@ use Rattle.def_mesh.specs.Darts.{from_of, to_of}
 use Rattle.def_mesh.specs.HalfEdges.{half_edges}
 use Rattle.def_cut.specs.FullCut.{is_on}
 use Rattle.def_cut.specs.Steps.{easts}
-use Rattle.def_layout.specs.Arcs.{IsRun, Path, arc_at, long_at, name_at}
+use Rattle.def_layout.specs.Arcs.{IsRun, Path, path_at, long_at, name_at}
 use Rattle.def_layout.specs.Nodes.{is_node}
 use Rattle.layout_laws.specs.Named.{run_list, run_name}
 use Rattle.qm_tmesh.specs.Tables.{IsNamedRun}
@@ -23,8 +23,8 @@ pub record IsArcFrom (faces : Faces) (cut : List Bool) (nodes : List ℕ) (s : �
 -- These are the arcs whose names are below m, in order of their names.
 pub record AreArcsBelow (faces : Faces) (cut : List Bool) (nodes : List ℕ) (m : ℕ) (arcs : List Path) : Type 0 where
   pub each : (a : ℕ) → a < length arcs
-      → (s : ℕ) × IsNamedRun faces cut s (long_at arcs a) × IsArcFrom faces cut nodes s (arc_at arcs a)
+      → (s : ℕ) × IsNamedRun faces cut s (long_at arcs a) × IsArcFrom faces cut nodes s (path_at arcs a)
   pub ordered : (a : ℕ) → suc a < length arcs → name_at arcs a < name_at arcs (suc a)
   pub below : (a : ℕ) → a < length arcs → name_at arcs a < m
   pub all : (s n : ℕ) → IsNamedRun faces cut s n → run_name (half_edges faces) s n < m
-      → (a : ℕ) × (a < length arcs) × ((arc_at arcs a).darts ≡ run_list (half_edges faces) s n)
+      → (a : ℕ) × (a < length arcs) × ((path_at arcs a).darts ≡ run_list (half_edges faces) s n)

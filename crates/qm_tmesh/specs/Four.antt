@@ -9,7 +9,7 @@ use Rattle.def_layout.specs.Arcs.{Path}
 use Rattle.def_layout.specs.Borders.{side_size, border_dart}
 use Rattle.def_layout.specs.Layouts.{Way}
 use Rattle.def_layout.specs.Nodes.{is_node, AreNodes}
-use Rattle.def_layout.specs.Plans.{number, PatchSides}
+use Rattle.def_layout.specs.Plans.{way_number, PatchSides}
 use Rattle.def_layout.specs.declared.tmesh.Side.{Side}
 use Rattle.def_layout.specs.declared.tmesh.SideArc.{SideArc}
 use Rattle.layout_laws.specs.Named.{run_list}
@@ -46,7 +46,7 @@ pub record AreFour
   pub each : (way : Way)
       → IsSideOf arcs uses
       (run_list (half_edges faces) (border_dart (half_edges faces) patch way 0) (side_size patch way))
-      (slice_index_or four (number way) [])
+      (slice_index_or four (way_number way) [])
 
 abbrev pub HasPatch : (faces : Faces) (arcs : List Path) (uses : List SideArc) (patch : Rectangle) → Type 0
 HasPatch faces arcs uses patch = (runs : AreRuns faces arcs uses) × IsPatchOf faces runs.cut patch

@@ -11,8 +11,8 @@ use Rattle.def_text.specs.declared.limits.TheConstants.{MAX_BYTES}
 use Rattle.def_text.specs.declared.refusal.ObjFail.{ObjFail}
 use Rattle.def_text.specs.declared.refusal.Which.TheVariants.{Bytes as AllBytes}
 use Rattle.def_run.specs.Bench.{bench_faces, bench_settings, HasBench, RefusesToBench}
-use Rattle.def_run.specs.Causes.{Cause, FailsToRead, Holds, IsGood, Reads, ReadsTooMany, Refused, Refuses, Takes}
-use Rattle.def_run.specs.Mesh.{IsMesh, IsNoMesh}
+use Rattle.def_run.specs.Causes.{Cause, FailsToRead, SourceHolds, IsGood, Reads, ReadsTooMany, Refused, Refuses, Takes}
+use Rattle.def_run.specs.Mesh.{IsMeshText, IsNoMesh}
 use Rattle.def_flow.specs.declared.net.Settings.{Settings}
 use Rattle.def_remesh.specs.Refusals.{IsRemeshable}
 use Rattle.def_run.specs.Refine.{HasRefined, RefusesToRefine}
@@ -28,14 +28,14 @@ use Rattle.def_run.specs.declared.command.Command.{Command}
 use Rattle.def_run.specs.declared.command.Command.TheVariants.{Tidy, Graph, Refine, Remesh, Check, Bench}
 use Rattle.def_run.specs.declared.words.WordsFail.{WordsFail}
 use Rattle.def_run.specs.declared.words.WordsFail.TheVariants as words_fail
-use Rattle.def_run.specs.CommandLines.{IsAccepted, IsCommand}
+use Rattle.def_run.specs.CommandLines.{IsAcceptedLine, IsCommand}
 use Rattle.def_text.specs.Types.{Words}
 use Rattle.remesh_laws.proofs.Fits.{fits_not_doubled, fits_not_fine}
 use Rattle.qm_top.proofs.Checked.{pair_not_refused}
 use Rattle.qm_top.specs.Refusals.{answer_of_words}
 
 -- Bytes that have a mesh have no refusal of one.
-pub mesh_not_refused : (bytes : Bytes) (soup : FaceSet) (answer : Answer) → IsMesh bytes soup → IsNoMesh bytes answer → ⊥
+pub mesh_not_refused : (bytes : Bytes) (soup : FaceSet) (answer : Answer) → IsMeshText bytes soup → IsNoMesh bytes answer → ⊥
 mesh_not_refused bytes soup (Syntax line) mesh none = let both : ◌≡◌ {A = Result FaceSet ObjFail} (Ok soup) (Err _) = sym mesh.said ∙ none in cc
 mesh_not_refused bytes soup (NotQuad line corners) mesh none = let both : ◌≡◌ {A = Result FaceSet ObjFail} (Ok soup) (Err _) = sym mesh.said ∙ none in cc
 mesh_not_refused bytes soup (Range line) mesh none = let both : ◌≡◌ {A = Result FaceSet ObjFail} (Ok soup) (Err _) = sym mesh.said ∙ none in cc
@@ -110,7 +110,7 @@ same_bytes before (Some rest) bytes held told given end =
     sym (append-nil bytes) ∙ ap (λ (xs : List ℕ). bytes ++ xs) (sym end) ∙ same
 
 -- What a command read is what its source held.
-same_read : (command : Command) (input : Change) (bytes held : Bytes) → Reads command input bytes → Holds command input.told held → bytes ≡ held
+same_read : (command : Command) (input : Change) (bytes held : Bytes) → Reads command input bytes → SourceHolds command input.told held → bytes ≡ held
 same_read (Bench size) input bytes held read holds = read.1 ∙ sym holds
 same_read _ input bytes held read holds = same_bytes input.told input.told_now bytes held holds.0 read.given read.ended
 
@@ -175,6 +175,6 @@ not_read words command words_fail.Memory answer is line refused = is
 
 -- Where words are a matter of usage they are no accepted line.
 pub not_accepted : (words : Words) (fail : WordsFail) (answer : Answer) → answer ≡ answer_of_words fail
-    → (fail ≡ words_fail.Usage → (k : Command) → ¬ IsCommand words k) → answer ≡ Usage → ¬ IsAccepted words
+    → (fail ≡ words_fail.Usage → (k : Command) → ¬ IsCommand words k) → answer ≡ Usage → ¬ IsAcceptedLine words
 not_accepted words words_fail.Usage answer is refused usage = λ accepted. refused refl accepted.command accepted.line
 not_accepted words words_fail.Memory answer is refused usage = λ accepted. let never : ◌≡◌ {A = Answer} Usage Memory = sym usage ∙ is in absurd cc

@@ -4,7 +4,7 @@ use Rattle.std.specs.List.{count_by, flat_map, list_all, list_any}
 use Rattle.std.proofs.lemmas.Bool.{and_parts, false≢true}
 use Rattle.std.proofs.lemmas.List.Folds.{list_all-append}
 use Rattle.def_text.specs.FaceSet.{FaceSet}
-use Rattle.def_text.specs.Corner.{is_corner, is_out, used_index}
+use Rattle.def_text.specs.Corner.{is_corner_word, is_out, used_index}
 use Rattle.def_text.specs.Decimal.{is_decimal, is_far, rounded}
 use Rattle.def_text.specs.Logical.{Logical, logical_lines}
 use Rattle.def_text.specs.Reading.{face_reading, is_face_line, is_letter, is_position_count, is_vertex_line, reading, vertex_reading, words_reading}
@@ -46,7 +46,7 @@ fine_vertex n v ws =
 fine_face : (n v f : ℕ) (ws : Words) → IsFine (face_reading n v f ws)
 fine_face n v f ws =
     fine_if (nat_le (2 ^ 20) f) _ _ refl
-    (fine_if (not (list_all is_corner ws)) _ _ refl
+    (fine_if (not (list_all is_corner_word ws)) _ _ refl
     (fine_if (not (length ws == 4)) _ _ refl
     (fine_if (list_any (λ w. is_out v (used_index w)) ws) _ _ refl refl)))
 

@@ -8,7 +8,7 @@ ghost use Rattle.qm_top.specs.Refusals.{IsInputRefusal, IsNoMeshOf};
 
 use crate::named::named_place;
 use crate::refusal::Refusal;
-use def_text::{MAX_BYTES, MAX_FACES, MAX_VERTICES, Soup};
+use def_text::{MAX_BYTES, MAX_F_LINES, MAX_V_LINES, Soup};
 use qm_io::Source;
 use qm_mesh::{Mesh, MeshFail, build};
 use qm_obj::read_soup;
@@ -36,7 +36,7 @@ pub(crate) fn read_mesh<S: Source>(alloc: Global, input: &mut S) -> Result<MeshI
 
 /// The mesh of the soup's faces, or the first place where they are no manifold.
 pub(crate) fn with_mesh(alloc: Global, soup: Soup) -> Result<MeshInput, Refusal>
-    requires few { (length soup.pos ≤ MAX_VERTICES) × (length soup.faces ≤ MAX_FACES) }
+    requires few { (length soup.pos ≤ MAX_V_LINES) × (length soup.faces ≤ MAX_F_LINES) }
     ensures soup { IfOk result (λ read. read.soup ≡ soup) }
     ensures mesh { IfOk result (λ read. read.mesh ≡ soup.faces) }
     ensures manifold { OnOk result (IsManifold soup.faces) }

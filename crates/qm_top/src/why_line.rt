@@ -2,7 +2,7 @@
 
 ghost use Rattle.std.specs.Prelude.{◌≡◌, ◌≤◌, ◌+◌, ◌++◌, ◌==◌, ◌/◌, ◌%◌, codes, decimal, length};
 ghost use Rattle.arrayvec.specs.ArrayString.{array_string_len};
-ghost use Rattle.def_run.specs.ErrorLines.{dual_text, unequal_text, verdict_text, why_text};
+ghost use Rattle.def_run.specs.ErrorLines.{dual_verdict_text, unequal_text, verdict_text, why_text};
 
 use def_flow::CertVerdict;
 use def_matching::Verdict;
@@ -89,7 +89,7 @@ fn push_unequal(line: &mut Line, node: u32, plus: u128, minus: u128)
 /// Puts what is wrong with a dual at the end of a line.
 fn push_dual(line: &mut Line, verdict: Verdict)
     requires { array_string_len line.old ≤ 60 }
-    ensures text { line.new.bytes ≡ line.old.bytes ++ dual_text verdict }
+    ensures text { line.new.bytes ≡ line.old.bytes ++ dual_verdict_text verdict }
     ensures short { array_string_len line.new ≤ 200 }
 {
     match verdict {

@@ -12,7 +12,7 @@ use Rattle.def_cut.specs.FullCut.{is_on}
 use Rattle.def_cut.specs.declared.moving.Moving.{Moving}
 use Rattle.def_cut.specs.Motion.{begun, is_among}
 use Rattle.def_cut.specs.Traced.{last_state, terrain_of}
-use Rattle.def_cut.specs.Events.{EventState, NobodyRuns, IsMotionOf, after_ride_of, after_settling, closed, darts_in, decided_at, is_closed, mark_twin, marked_from, may_settle, note_at, ridden_once_more, rider_at, waiting}
+use Rattle.def_cut.specs.Events.{EventState, NobodyRuns, IsMotionOf, after_ride_of, after_settling, closed, darts_in, decided_at, are_ends_settled, mark_twin, marked_from, may_settle, note_at, ridden_once_more, rider_at, waiting}
 use Rattle.def_cut.specs.Views.{MotionView}
 use Rattle.motion_laws.proofs.Marks.{from_marks, marked_long, none_on}
 use Rattle.mesh_laws.proofs.Vertices.{all_below}
@@ -31,12 +31,12 @@ made starts state = record { state = state; starts = starts }
 
 -- The state where an instant has ended, and where it has not.
 pub closed_state : (faces : Faces) (x : EventState) (v : ℕ) (riders : List Moving) (stood : List Bool) (noted : List (Option ℕ)) (settled : List Bool) → riders ≡ (decided_at (terrain_of faces) x v).riders → stood ≡ (decided_at (terrain_of faces) x v).stood
-    → noted ≡ replicate (length x.noted) None → settled ≡ replicate (length (set x.settled v true)) false → is_closed (terrain_of faces) (set x.settled v true) (darts_in x.noted) ≡ true
+    → noted ≡ replicate (length x.noted) None → settled ≡ replicate (length (set x.settled v true)) false → are_ends_settled (terrain_of faces) (set x.settled v true) (darts_in x.noted) ≡ true
     → ◌≡◌ {A = EventState} (record { riders = riders; stood = stood; covered = x.covered; noted = noted; settled = settled }) (after_settling (terrain_of faces) x v)
 closed_state faces x v riders stood noted settled r s n t on = rw (r, s, n, t) (sym (ap (λ (b : Bool). cond b (closed (decided_at (terrain_of faces) x v)) (decided_at (terrain_of faces) x v)) on))
 
 pub open_state : (faces : Faces) (x : EventState) (v : ℕ) (riders : List Moving) (stood : List Bool) → riders ≡ (decided_at (terrain_of faces) x v).riders → stood ≡ (decided_at (terrain_of faces) x v).stood
-    → is_closed (terrain_of faces) (set x.settled v true) (darts_in x.noted) ≡ false
+    → are_ends_settled (terrain_of faces) (set x.settled v true) (darts_in x.noted) ≡ false
     → ◌≡◌ {A = EventState} (record { riders = riders; stood = stood; covered = x.covered; noted = x.noted; settled = set x.settled v true }) (after_settling (terrain_of faces) x v)
 open_state faces x v riders stood r s off = rw (r, s) (sym (ap (λ (b : Bool). cond b (closed (decided_at (terrain_of faces) x v)) (decided_at (terrain_of faces) x v)) off))
 

@@ -13,7 +13,7 @@ use Rattle.def_cut.specs.FullCut.{is_on}
 use Rattle.def_cut.specs.declared.graph.Rider.{Rider}
 use Rattle.def_cut.specs.declared.graph.Stop.{Stop}
 use Rattle.def_cut.specs.declared.moving.Moving.{Moving}
-use Rattle.def_cut.specs.Motion.{Terrain, State, ridden, is_among, ride_on, ride, begun, step, start, after}
+use Rattle.def_cut.specs.Motion.{Terrain, State, ridden, is_among, ride_on, ride, begun, step, start, after_steps}
 use Rattle.def_cut.specs.Traced.{AreRiders, IsRiderOf, finish, is_traced, last_state, terrain_of, traced_marks}
 use Rattle.def_cut.specs.Events.{rider_at}
 use Rattle.mesh_laws.proofs.Vertices.{all_below}
@@ -39,7 +39,7 @@ ran g stood ds x None e is = is
 ran g stood ds x (Some s) e is = e
 
 -- The queue of the riders that still run.
-pub next_queue : (faces : Faces) (k : ℕ) (riders new : List Moving) (queue : List ℕ) → riders ≡ (after (terrain_of faces) (start_darts faces) k).riders → new ≡ (after (terrain_of faces) (start_darts faces) (suc k)).riders
+pub next_queue : (faces : Faces) (k : ℕ) (riders new : List Moving) (queue : List ℕ) → riders ≡ (after_steps (terrain_of faces) (start_darts faces) k).riders → new ≡ (after_steps (terrain_of faces) (start_darts faces) (suc k)).riders
     → IsQueue riders queue → IsQueue new (filter (λ r. is_running (rider_at new r).stop) queue)
 next_queue faces k riders new queue old now q = record {
   runs = λ r m. let p : (is_among r queue ≡ true) × (is_running (rider_at new r).stop ≡ true) = from_filter (λ x. is_running (rider_at new x).stop) r queue m in
@@ -49,7 +49,7 @@ next_queue faces k riders new queue old now q = record {
 }
   where
     f : Moving → Moving
-    f = ride (terrain_of faces) (after (terrain_of faces) (start_darts faces) k).stood (ridden (after (terrain_of faces) (start_darts faces) k).riders)
+    f = ride (terrain_of faces) (after_steps (terrain_of faces) (start_darts faces) k).stood (ridden (after_steps (terrain_of faces) (start_darts faces) k).riders)
 
     next : new ≡ map f riders
     next = now ∙ sym (ap (map f) old)
@@ -58,18 +58,18 @@ next_queue faces k riders new queue old now q = record {
     long = ap length next ∙ length-map riders f
 
     before : (r : ℕ) → r < length new → (rider_at new r).stop ≡ None → (rider_at riders r).stop ≡ None
-    before r l runs = ran (terrain_of faces) (after (terrain_of faces) (start_darts faces) k).stood (ridden (after (terrain_of faces) (start_darts faces) k).riders) (rider_at riders r) (rider_at riders r).stop
+    before r l runs = ran (terrain_of faces) (after_steps (terrain_of faces) (start_darts faces) k).stood (ridden (after_steps (terrain_of faces) (start_darts faces) k).riders) (rider_at riders r) (rider_at riders r).stop
         (sym (ap (λ (rs : List Moving). (rider_at rs r).stop) next ∙ ap (λ (x : Moving). x.stop) (get_or-map f riders r (begun 0) (begun 0) (omega (arith, l, long)))) ∙ runs) refl
 
 -- The riders of the queue are riders after the step too.
-pub queue_low : (faces : Faces) (k : ℕ) (riders new : List Moving) (queue : List ℕ) → riders ≡ (after (terrain_of faces) (start_darts faces) k).riders → new ≡ (after (terrain_of faces) (start_darts faces) (suc k)).riders
+pub queue_low : (faces : Faces) (k : ℕ) (riders new : List Moving) (queue : List ℕ) → riders ≡ (after_steps (terrain_of faces) (start_darts faces) k).riders → new ≡ (after_steps (terrain_of faces) (start_darts faces) (suc k)).riders
     → IsQueue riders queue → (r : ℕ) → is_among r queue ≡ true → r < length new
 queue_low faces k riders new queue old now q r m = omega (
   arith,
   (q.runs r m).0,
   ap length old,
   ap length now,
-  length-map (after (terrain_of faces) (start_darts faces) k).riders (ride (terrain_of faces) (after (terrain_of faces) (start_darts faces) k).stood (ridden (after (terrain_of faces) (start_darts faces) k).riders)),
+  length-map (after_steps (terrain_of faces) (start_darts faces) k).riders (ride (terrain_of faces) (after_steps (terrain_of faces) (start_darts faces) k).stood (ridden (after_steps (terrain_of faces) (start_darts faces) k).riders)),
 )
 
 -- Nobody waits in the queue, so nobody rides.
@@ -87,21 +87,21 @@ pub first_on : (faces : Faces) → IsOnItsWay faces 0
 first_on faces more e = let s : more ≡ suc (vertex_count faces) = omega (arith, e) in ap (λ k. finish (terrain_of faces) k (start (terrain_of faces) (start_darts faces))) s
 
 -- A step further on.
-pub next_on : (faces : Faces) → IsManifold faces → (k : ℕ) (riders : List Moving) (queue : List ℕ) → riders ≡ (after (terrain_of faces) (start_darts faces) k).riders → IsQueue riders queue → 0 < length queue → IsOnItsWay faces k → IsOnItsWay faces (k + 1)
+pub next_on : (faces : Faces) → IsManifold faces → (k : ℕ) (riders : List Moving) (queue : List ℕ) → riders ≡ (after_steps (terrain_of faces) (start_darts faces) k).riders → IsQueue riders queue → 0 < length queue → IsOnItsWay faces k → IsOnItsWay faces (k + 1)
 next_on faces m k riders [] is q some way more e = absurd (omega arith)
-next_on faces m k riders (r ∷ queue) is q some way more e = at (ridden (after (terrain_of faces) (start_darts faces) k).riders) refl
+next_on faces m k riders (r ∷ queue) is q some way more e = at (ridden (after_steps (terrain_of faces) (start_darts faces) k).riders) refl
   where
-    there : is_among (rider_at riders r).dart (ridden (after (terrain_of faces) (start_darts faces) k).riders) ≡ true
+    there : is_among (rider_at riders r).dart (ridden (after_steps (terrain_of faces) (start_darts faces) k).riders) ≡ true
     there = let p : (r < length riders) × ((rider_at riders r).stop ≡ None) = q.runs r (among_here r r queue refl) in
         sym (ap (λ (rs : List Moving). is_among (rider_at riders r).dart (ridden rs)) is) ∙ runs_ridden riders r p.0 p.1
 
     plus : k + 1 ≡ suc k
     plus = omega arith
 
-    at : (ds : List ℕ) → ridden (after (terrain_of faces) (start_darts faces) k).riders ≡ ds → finish (terrain_of faces) more (after (terrain_of faces) (start_darts faces) (k + 1)) ≡ last_state faces
+    at : (ds : List ℕ) → ridden (after_steps (terrain_of faces) (start_darts faces) k).riders ≡ ds → finish (terrain_of faces) more (after_steps (terrain_of faces) (start_darts faces) (k + 1)) ≡ last_state faces
     at [] none = absurd (false≢true (sym (ap (is_among (rider_at riders r).dart) none) ∙ there))
-    at (d ∷ ds) some = ap (λ n. finish (terrain_of faces) more (after (terrain_of faces) (start_darts faces) n)) plus
-        ∙ (sym (runs_on (terrain_of faces) (terrain faces m) (start_darts faces) (started faces m) (vertex_count faces) (all_below faces) more d ds (after (terrain_of faces) (start_darts faces) k) some) ∙ way (suc more) (omega (arith, e)))
+    at (d ∷ ds) some = ap (λ n. finish (terrain_of faces) more (after_steps (terrain_of faces) (start_darts faces) n)) plus
+        ∙ (sym (runs_on (terrain_of faces) (terrain faces m) (start_darts faces) (started faces m) (vertex_count faces) (all_below faces) more d ds (after_steps (terrain_of faces) (start_darts faces) k) some) ∙ way (suc more) (omega (arith, e)))
 
 -- Where nobody rides, the tables are those of the end.
 pub end_at : (faces : Faces) → IsManifold faces → (k : ℕ) (riders : List Moving) (stood covered taken : List Bool) → IsTableAt faces k riders stood covered taken → IsOnItsWay faces k → k ≤ vertex_count faces → ridden riders ≡ [] → IsEnd faces riders covered
@@ -110,14 +110,14 @@ end_at faces m k riders stood covered taken t way low none = record {
   covered_are = record { long = t.covered_long; each = λ d l. t.covered_is d l ∙ ap (λ (s : State). s.covered d) same };
 }
   where
-    rest : finish (terrain_of faces) (suc (vertex_count faces) - k) (after (terrain_of faces) (start_darts faces) k) ≡ after (terrain_of faces) (start_darts faces) k
-    rest = at_rest (terrain_of faces) (terrain faces m) (start_darts faces) (started faces m) (vertex_count faces) (all_below faces) (suc (vertex_count faces) - k) (after (terrain_of faces) (start_darts faces) k) (sym (ap ridden t.riders_are) ∙ none)
+    rest : finish (terrain_of faces) (suc (vertex_count faces) - k) (after_steps (terrain_of faces) (start_darts faces) k) ≡ after_steps (terrain_of faces) (start_darts faces) k
+    rest = at_rest (terrain_of faces) (terrain faces m) (start_darts faces) (started faces m) (vertex_count faces) (all_below faces) (suc (vertex_count faces) - k) (after_steps (terrain_of faces) (start_darts faces) k) (sym (ap ridden t.riders_are) ∙ none)
 
-    same : after (terrain_of faces) (start_darts faces) k ≡ last_state faces
+    same : after_steps (terrain_of faces) (start_darts faces) k ≡ last_state faces
     same = sym rest ∙ way (suc (vertex_count faces) - k) (omega (arith, low))
 
 -- After as many steps as there are vertices nobody rides.
-pub all_over : (faces : Faces) → IsManifold faces → (riders : List Moving) → riders ≡ (after (terrain_of faces) (start_darts faces) (vertex_count faces)).riders → ridden riders ≡ []
+pub all_over : (faces : Faces) → IsManifold faces → (riders : List Moving) → riders ≡ (after_steps (terrain_of faces) (start_darts faces) (vertex_count faces)).riders → ridden riders ≡ []
 all_over faces m riders is = ap ridden is ∙ at_last (terrain_of faces) (terrain faces m) (start_darts faces) (started faces m) (vertex_count faces) (all_below faces)
 
 -- The marks of the graph.

@@ -14,7 +14,7 @@ use Rattle.def_cut.specs.FullCut.{is_on}
 use Rattle.def_cut.specs.declared.graph.Stop.{Stop}
 use Rattle.def_cut.specs.declared.graph.Stop.TheVariants.{Tie}
 use Rattle.def_cut.specs.declared.moving.Moving.{Moving}
-use Rattle.def_cut.specs.Motion.{end_of, ridden, is_among, is_found, is_met, arrivals, goes_on, stop_of, after_ride, ride_on, ride, begun, after}
+use Rattle.def_cut.specs.Motion.{end_of, ridden, is_among, is_found, is_met, arrivals, goes_on, stop_of, after_ride, ride_on, ride, begun, after_steps}
 use Rattle.def_cut.specs.Traced.{terrain_of}
 use Rattle.def_cut.specs.Events.{rider_at}
 use Rattle.mesh_laws.proofs.Vertices.{all_below}
@@ -26,11 +26,11 @@ use Rattle.site_laws.proofs.Sites.{terrain, started}
 use Rattle.qm_trace.specs.Tables.{IsInstant, AreRode, rode, stop_by, is_met_now, is_crowded, is_faced}
 
 -- At instant k the marks `taken` say which darts are ridden.
-module _ (faces : Faces) (m : IsManifold faces) (k : ℕ) (taken : List Bool) (marked : (d : ℕ) → is_on taken d ≡ is_among d (ridden (after (terrain_of faces) (start_darts faces) k).riders)) where
-  reached : IsReached (terrain_of faces) (start_darts faces) (after (terrain_of faces) (start_darts faces) k)
+module _ (faces : Faces) (m : IsManifold faces) (k : ℕ) (taken : List Bool) (marked : (d : ℕ) → is_on taken d ≡ is_among d (ridden (after_steps (terrain_of faces) (start_darts faces) k).riders)) where
+  reached : IsReached (terrain_of faces) (start_darts faces) (after_steps (terrain_of faces) (start_darts faces) k)
   reached = after_reached (terrain_of faces) (terrain faces m) (start_darts faces) (started faces m) k
 
-  met_same : (o : Option ℕ) → is_met_now o taken ≡ is_found o (ridden (after (terrain_of faces) (start_darts faces) k).riders)
+  met_same : (o : Option ℕ) → is_met_now o taken ≡ is_found o (ridden (after_steps (terrain_of faces) (start_darts faces) k).riders)
   met_same None = refl
   met_same (Some t) = marked t
 
@@ -49,61 +49,61 @@ module _ (faces : Faces) (m : IsManifold faces) (k : ℕ) (taken : List Bool) (m
   inner_of false e = absurd (false≢true (sym e))
 
   -- The two bits of a rider.
-  crowded_by : (d a b c : ℕ) → is_among d (ridden (after (terrain_of faces) (start_darts faces) k).riders) ≡ true → (after (terrain_of faces) (start_darts faces) k).stood (end_of (terrain_of faces) d) ≡ false → IsCross (half_edges faces) (next_of d) a b c
-      → cond (is_crowded faces (twin_of faces d) taken) (Some (Tie (end_of (terrain_of faces) d))) None ≡ cond (goes_on (terrain_of faces) (arrivals (terrain_of faces) (ridden (after (terrain_of faces) (start_darts faces) k).riders) (end_of (terrain_of faces) d)) d) None (Some (Tie (end_of (terrain_of faces) d)))
+  crowded_by : (d a b c : ℕ) → is_among d (ridden (after_steps (terrain_of faces) (start_darts faces) k).riders) ≡ true → (after_steps (terrain_of faces) (start_darts faces) k).stood (end_of (terrain_of faces) d) ≡ false → IsCross (half_edges faces) (next_of d) a b c
+      → cond (is_crowded faces (twin_of faces d) taken) (Some (Tie (end_of (terrain_of faces) d))) None ≡ cond (goes_on (terrain_of faces) (arrivals (terrain_of faces) (ridden (after_steps (terrain_of faces) (start_darts faces) k).riders) (end_of (terrain_of faces) d)) d) None (Some (Tie (end_of (terrain_of faces) d)))
   crowded_by d a b c n off x =
       ap (λ (q : Bool). cond q (Some (Tie (end_of (terrain_of faces) d))) None) crowd
-      ∙ (tie_or_on (is_among (prev_of a) (ridden (after (terrain_of faces) (start_darts faces) k).riders)) (is_among (prev_of b) (ridden (after (terrain_of faces) (start_darts faces) k).riders)) (Some (Tie (end_of (terrain_of faces) d)))
-      ∙ sym (ap (λ (q : Bool). cond q None (Some (Tie (end_of (terrain_of faces) d)))) (two_bits (terrain_of faces) (terrain faces m) (after (terrain_of faces) (start_darts faces) k).stood (ridden (after (terrain_of faces) (start_darts faces) k).riders) reached.apart reached.low reached.left d a b c n off x)))
+      ∙ (tie_or_on (is_among (prev_of a) (ridden (after_steps (terrain_of faces) (start_darts faces) k).riders)) (is_among (prev_of b) (ridden (after_steps (terrain_of faces) (start_darts faces) k).riders)) (Some (Tie (end_of (terrain_of faces) d)))
+      ∙ sym (ap (λ (q : Bool). cond q None (Some (Tie (end_of (terrain_of faces) d)))) (two_bits (terrain_of faces) (terrain faces m) (after_steps (terrain_of faces) (start_darts faces) k).stood (ridden (after_steps (terrain_of faces) (start_darts faces) k).riders) reached.apart reached.low reached.left d a b c n off x)))
     where
       laws : IsQuadManifold (half_edges faces)
       laws = (terrain faces m).half
 
-      crowd : is_crowded faces (twin_of faces d) taken ≡ (is_among (prev_of a) (ridden (after (terrain_of faces) (start_darts faces) k).riders) || is_among (prev_of b) (ridden (after (terrain_of faces) (start_darts faces) k).riders))
+      crowd : is_crowded faces (twin_of faces d) taken ≡ (is_among (prev_of a) (ridden (after_steps (terrain_of faces) (start_darts faces) k).riders) || is_among (prev_of b) (ridden (after_steps (terrain_of faces) (start_darts faces) k).riders))
       crowd = ap (λ o. is_crowded faces o taken) (sym (ap (twin_of faces) (laws.prev_next d)) ∙ x.first)
           ∙ (ap (λ q. q || is_faced (twin_of faces (prev_of a)) taken) (marked (prev_of a))
-          ∙ ap (λ q. is_among (prev_of a) (ridden (after (terrain_of faces) (start_darts faces) k).riders) || q) (ap (λ o. is_faced o taken) x.second ∙ marked (prev_of b)))
+          ∙ ap (λ q. is_among (prev_of a) (ridden (after_steps (terrain_of faces) (start_darts faces) k).riders) || q) (ap (λ o. is_faced o taken) x.second ∙ marked (prev_of b)))
 
   -- So the rider by d stops as the motion says, where it is known whether somebody had stood at its end.
-  pub stop_same : (d : ℕ) (stood : Bool) → is_among d (ridden (after (terrain_of faces) (start_darts faces) k).riders) ≡ true → stood ≡ (after (terrain_of faces) (start_darts faces) k).stood (end_of (terrain_of faces) d)
-      → stop_by faces (not (is_inner faces (end_of (terrain_of faces) d))) (is_singular faces (end_of (terrain_of faces) d)) stood taken d ≡ stop_of (terrain_of faces) (after (terrain_of faces) (start_darts faces) k).stood (ridden (after (terrain_of faces) (start_darts faces) k).riders) d
-  stop_same d stood n same = rw (met_same (twin_of faces d), same) (in_a_row (is_met (terrain_of faces) (ridden (after (terrain_of faces) (start_darts faces) k).riders) d) (not (is_inner faces (end_of (terrain_of faces) d))) (is_singular faces (end_of (terrain_of faces) d)) ((after (terrain_of faces) (start_darts faces) k).stood (end_of (terrain_of faces) d)) _ _ _ _ _ _ last)
+  pub stop_same : (d : ℕ) (stood : Bool) → is_among d (ridden (after_steps (terrain_of faces) (start_darts faces) k).riders) ≡ true → stood ≡ (after_steps (terrain_of faces) (start_darts faces) k).stood (end_of (terrain_of faces) d)
+      → stop_by faces (not (is_inner faces (end_of (terrain_of faces) d))) (is_singular faces (end_of (terrain_of faces) d)) stood taken d ≡ stop_of (terrain_of faces) (after_steps (terrain_of faces) (start_darts faces) k).stood (ridden (after_steps (terrain_of faces) (start_darts faces) k).riders) d
+  stop_same d stood n same = rw (met_same (twin_of faces d), same) (in_a_row (is_met (terrain_of faces) (ridden (after_steps (terrain_of faces) (start_darts faces) k).riders) d) (not (is_inner faces (end_of (terrain_of faces) d))) (is_singular faces (end_of (terrain_of faces) d)) ((after_steps (terrain_of faces) (start_darts faces) k).stood (end_of (terrain_of faces) d)) _ _ _ _ _ _ last)
     where
       low : d < darts faces
       low = reached.low d n
 
-      by_cross : (after (terrain_of faces) (start_darts faces) k).stood (end_of (terrain_of faces) d) ≡ false → HasCross (half_edges faces) (next_of d) → cond (is_crowded faces (twin_of faces d) taken) (Some (Tie (end_of (terrain_of faces) d))) None ≡ cond (goes_on (terrain_of faces) (arrivals (terrain_of faces) (ridden (after (terrain_of faces) (start_darts faces) k).riders) (end_of (terrain_of faces) d)) d) None (Some (Tie (end_of (terrain_of faces) d)))
+      by_cross : (after_steps (terrain_of faces) (start_darts faces) k).stood (end_of (terrain_of faces) d) ≡ false → HasCross (half_edges faces) (next_of d) → cond (is_crowded faces (twin_of faces d) taken) (Some (Tie (end_of (terrain_of faces) d))) None ≡ cond (goes_on (terrain_of faces) (arrivals (terrain_of faces) (ridden (after_steps (terrain_of faces) (start_darts faces) k).riders) (end_of (terrain_of faces) d)) d) None (Some (Tie (end_of (terrain_of faces) d)))
       by_cross off (a, b, c, x) = crowded_by d a b c n off x
 
-      last : is_met (terrain_of faces) (ridden (after (terrain_of faces) (start_darts faces) k).riders) d ≡ false → not (is_inner faces (end_of (terrain_of faces) d)) ≡ false → is_singular faces (end_of (terrain_of faces) d) ≡ false → (after (terrain_of faces) (start_darts faces) k).stood (end_of (terrain_of faces) d) ≡ false → cond (is_crowded faces (twin_of faces d) taken) (Some (Tie (end_of (terrain_of faces) d))) None ≡ cond (goes_on (terrain_of faces) (arrivals (terrain_of faces) (ridden (after (terrain_of faces) (start_darts faces) k).riders) (end_of (terrain_of faces) d)) d) None (Some (Tie (end_of (terrain_of faces) d)))
+      last : is_met (terrain_of faces) (ridden (after_steps (terrain_of faces) (start_darts faces) k).riders) d ≡ false → not (is_inner faces (end_of (terrain_of faces) d)) ≡ false → is_singular faces (end_of (terrain_of faces) d) ≡ false → (after_steps (terrain_of faces) (start_darts faces) k).stood (end_of (terrain_of faces) d) ≡ false → cond (is_crowded faces (twin_of faces d) taken) (Some (Tie (end_of (terrain_of faces) d))) None ≡ cond (goes_on (terrain_of faces) (arrivals (terrain_of faces) (ridden (after_steps (terrain_of faces) (start_darts faces) k).riders) (end_of (terrain_of faces) d)) d) None (Some (Tie (end_of (terrain_of faces) d)))
       last unmet inner regular off = by_cross off ((terrain faces m).crossed (next_of d) ((terrain faces m).half.next_low d low) inner regular)
 
 module _ (faces : Faces) (m : IsManifold faces) (k : ℕ) (riders : List Moving) (queue : List ℕ) (stood taken : List Bool) (i : IsInstant faces k riders queue stood taken) where
-  marked : (d : ℕ) → is_on taken d ≡ is_among d (ridden (after (terrain_of faces) (start_darts faces) k).riders)
+  marked : (d : ℕ) → is_on taken d ≡ is_among d (ridden (after_steps (terrain_of faces) (start_darts faces) k).riders)
   marked d = i.taken_is d ∙ ap (λ (rs : List Moving). is_among d (ridden rs)) i.riders_are
 
-  end_low : (d : ℕ) → is_among d (ridden (after (terrain_of faces) (start_darts faces) k).riders) ≡ true → end_of (terrain_of faces) d < vertex_count faces
+  end_low : (d : ℕ) → is_among d (ridden (after_steps (terrain_of faces) (start_darts faces) k).riders) ≡ true → end_of (terrain_of faces) d < vertex_count faces
   end_low d n = all_below faces (next_of d) ((terrain faces m).half.next_low d ((after_reached (terrain_of faces) (terrain faces m) (start_darts faces) (started faces m) k).low d n))
 
   -- A rider after the step.
-  one_rider : (r : ℕ) → r < length riders → (b : Bool) → is_among r queue ≡ b → cond b (rode faces stood taken (rider_at riders r)) (rider_at riders r) ≡ ride (terrain_of faces) (after (terrain_of faces) (start_darts faces) k).stood (ridden (after (terrain_of faces) (start_darts faces) k).riders) (rider_at riders r)
+  one_rider : (r : ℕ) → r < length riders → (b : Bool) → is_among r queue ≡ b → cond b (rode faces stood taken (rider_at riders r)) (rider_at riders r) ≡ ride (terrain_of faces) (after_steps (terrain_of faces) (start_darts faces) k).stood (ridden (after_steps (terrain_of faces) (start_darts faces) k).riders) (rider_at riders r)
   one_rider r l true on =
       let runs : (rider_at riders r).stop ≡ None = (i.waits.runs r on).1 in
-      let there : is_among (rider_at riders r).dart (ridden (after (terrain_of faces) (start_darts faces) k).riders) ≡ true = sym (ap (λ (rs : List Moving). is_among (rider_at riders r).dart (ridden rs)) i.riders_are) ∙ runs_ridden riders r l runs in
+      let there : is_among (rider_at riders r).dart (ridden (after_steps (terrain_of faces) (start_darts faces) k).riders) ≡ true = sym (ap (λ (rs : List Moving). is_among (rider_at riders r).dart (ridden rs)) i.riders_are) ∙ runs_ridden riders r l runs in
       ap (after_ride (terrain_of faces) (rider_at riders r).dart (rider_at riders r).rides) (stop_same faces m k taken marked (rider_at riders r).dart (is_on stood (end_of (terrain_of faces) (rider_at riders r).dart)) there (i.stood_is (end_of (terrain_of faces) (rider_at riders r).dart) (end_low (rider_at riders r).dart there)))
-      ∙ sym (ap (ride_on (terrain_of faces) (after (terrain_of faces) (start_darts faces) k).stood (ridden (after (terrain_of faces) (start_darts faces) k).riders) (rider_at riders r)) runs)
+      ∙ sym (ap (ride_on (terrain_of faces) (after_steps (terrain_of faces) (start_darts faces) k).stood (ridden (after_steps (terrain_of faces) (start_darts faces) k).riders) (rider_at riders r)) runs)
   one_rider r l false off = at (rider_at riders r).stop refl
     where
-      at : (o : Option Stop) → (rider_at riders r).stop ≡ o → rider_at riders r ≡ ride_on (terrain_of faces) (after (terrain_of faces) (start_darts faces) k).stood (ridden (after (terrain_of faces) (start_darts faces) k).riders) (rider_at riders r) o
+      at : (o : Option Stop) → (rider_at riders r).stop ≡ o → rider_at riders r ≡ ride_on (terrain_of faces) (after_steps (terrain_of faces) (start_darts faces) k).stood (ridden (after_steps (terrain_of faces) (start_darts faces) k).riders) (rider_at riders r) o
       at None is = absurd (false≢true (sym off ∙ i.waits.all r l is))
       at (Some q) is = refl
 
-pub next_riders : (faces : Faces) → IsManifold faces → (k : ℕ) (riders new : List Moving) (queue : List ℕ) (stood taken : List Bool) → IsInstant faces k riders queue stood taken → length new ≡ length riders → AreRode faces stood taken queue riders new → new ≡ (after (terrain_of faces) (start_darts faces) (suc k)).riders
+pub next_riders : (faces : Faces) → IsManifold faces → (k : ℕ) (riders new : List Moving) (queue : List ℕ) (stood taken : List Bool) → IsInstant faces k riders queue stood taken → length new ≡ length riders → AreRode faces stood taken queue riders new → new ≡ (after_steps (terrain_of faces) (start_darts faces) (suc k)).riders
 next_riders faces m k riders new queue stood taken i long each =
     ext_get_or (begun 0) new (map f riders) (long ∙ sym (length-map riders f)) (λ r l. at r (omega (arith, l, long))) ∙ ap (map f) i.riders_are
   where
     f : Moving → Moving
-    f = ride (terrain_of faces) (after (terrain_of faces) (start_darts faces) k).stood (ridden (after (terrain_of faces) (start_darts faces) k).riders)
+    f = ride (terrain_of faces) (after_steps (terrain_of faces) (start_darts faces) k).stood (ridden (after_steps (terrain_of faces) (start_darts faces) k).riders)
 
     at : (r : ℕ) → r < length riders → get_or new r (begun 0) ≡ get_or (map f riders) r (begun 0)
     at r l = each r l ∙ (one_rider faces m k riders queue stood taken i r l (is_among r queue) refl ∙ sym (get_or-map f riders r (begun 0) (begun 0) l))

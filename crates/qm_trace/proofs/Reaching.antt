@@ -11,9 +11,9 @@ use Rattle.def_cut.specs.FullCut.{is_on}
 use Rattle.def_cut.specs.declared.graph.Stop.{Stop}
 use Rattle.def_cut.specs.declared.graph.Stop.TheVariants.{Middle, Boundary, Singular, Trail, Tie}
 use Rattle.def_cut.specs.declared.moving.Moving.{Moving}
-use Rattle.def_cut.specs.Motion.{Terrain, end_of, with_next, ridden, is_among, is_met, arrivals, goes_on, stop_of, after}
+use Rattle.def_cut.specs.Motion.{Terrain, end_of, with_next, ridden, is_among, is_met, arrivals, goes_on, stop_of, after_steps}
 use Rattle.def_cut.specs.Traced.{terrain_of}
-use Rattle.def_cut.specs.Events.{EventState, darts_in, rider_at, note_at, may_ride, after_ride_of, told_at, all_told, Event, May, after_event, Leads, rides_in, first_of, IsMotionOf}
+use Rattle.def_cut.specs.Events.{EventState, darts_in, rider_at, note_at, may_ride, after_ride_of, told_at, all_told, Event, May, after_event, Leads, rides_in, first_event_state, IsMotionOf}
 use Rattle.def_cut.specs.Events.Event.{Ride}
 use Rattle.mesh_laws.proofs.Vertices.{all_below}
 use Rattle.motion_laws.proofs.Among.{AreApart, among_here, among_later, among_cases}
@@ -102,28 +102,28 @@ module _ (faces : Faces) (m : IsManifold faces) where
   pub settled_long : (x : EventState) → IsMotionOf faces x → length x.settled ≡ vertex_count faces
   settled_long x z = (within_of x z).shown.settled_long
 
-  pub reached_at : (k : ℕ) → IsReached (terrain_of faces) (start_darts faces) (after (terrain_of faces) (start_darts faces) k)
+  pub reached_at : (k : ℕ) → IsReached (terrain_of faces) (start_darts faces) (after_steps (terrain_of faces) (start_darts faces) k)
   reached_at = after_reached (terrain_of faces) (terrain faces m) (start_darts faces) (started faces m)
 
   -- Whoever rides after more steps, somebody rode before.
-  rode_before : (k j e : ℕ) → is_among e (ridden (after (terrain_of faces) (start_darts faces) (j + k)).riders) ≡ true → (d : ℕ) × (is_among d (ridden (after (terrain_of faces) (start_darts faces) k).riders) ≡ true)
-  rode_before k zero e n = let s : 0 + k ≡ k = omega arith in (e, ap (λ i. is_among e (ridden (after (terrain_of faces) (start_darts faces) i).riders)) (sym s) ∙ n)
+  rode_before : (k j e : ℕ) → is_among e (ridden (after_steps (terrain_of faces) (start_darts faces) (j + k)).riders) ≡ true → (d : ℕ) × (is_among d (ridden (after_steps (terrain_of faces) (start_darts faces) k).riders) ≡ true)
+  rode_before k zero e n = let s : 0 + k ≡ k = omega arith in (e, ap (λ i. is_among e (ridden (after_steps (terrain_of faces) (start_darts faces) i).riders)) (sym s) ∙ n)
   rode_before k (suc j) e n =
       let s : suc j + k ≡ suc (j + k) = omega arith in
-      let m2 : is_among e (ridden (after (terrain_of faces) (start_darts faces) (suc (j + k))).riders) ≡ true = ap (λ i. is_among e (ridden (after (terrain_of faces) (start_darts faces) i).riders)) (sym s) ∙ n in
-      by_dart (next_is (terrain_of faces) (terrain faces m) (start_darts faces) (after (terrain_of faces) (start_darts faces) (j + k)) (reached_at (j + k)) e m2) (rode_before k j)
+      let m2 : is_among e (ridden (after_steps (terrain_of faces) (start_darts faces) (suc (j + k))).riders) ≡ true = ap (λ i. is_among e (ridden (after_steps (terrain_of faces) (start_darts faces) i).riders)) (sym s) ∙ n in
+      by_dart (next_is (terrain_of faces) (terrain faces m) (start_darts faces) (after_steps (terrain_of faces) (start_darts faces) (j + k)) (reached_at (j + k)) e m2) (rode_before k j)
     where
-      by_dart : (d : ℕ) × (is_among d (ridden (after (terrain_of faces) (start_darts faces) (j + k)).riders) ≡ true) × Rattle.motion_laws.proofs.Steps.IsNext (terrain_of faces) (terrain faces m) (after (terrain_of faces) (start_darts faces) (j + k)).stood (ridden (after (terrain_of faces) (start_darts faces) (j + k)).riders) d e
-          → ((c : ℕ) → is_among c (ridden (after (terrain_of faces) (start_darts faces) (j + k)).riders) ≡ true → (d : ℕ) × (is_among d (ridden (after (terrain_of faces) (start_darts faces) k).riders) ≡ true)) → (d : ℕ) × (is_among d (ridden (after (terrain_of faces) (start_darts faces) k).riders) ≡ true)
+      by_dart : (d : ℕ) × (is_among d (ridden (after_steps (terrain_of faces) (start_darts faces) (j + k)).riders) ≡ true) × Rattle.motion_laws.proofs.Steps.IsNext (terrain_of faces) (terrain faces m) (after_steps (terrain_of faces) (start_darts faces) (j + k)).stood (ridden (after_steps (terrain_of faces) (start_darts faces) (j + k)).riders) d e
+          → ((c : ℕ) → is_among c (ridden (after_steps (terrain_of faces) (start_darts faces) (j + k)).riders) ≡ true → (d : ℕ) × (is_among d (ridden (after_steps (terrain_of faces) (start_darts faces) k).riders) ≡ true)) → (d : ℕ) × (is_among d (ridden (after_steps (terrain_of faces) (start_darts faces) k).riders) ≡ true)
       by_dart (d, h, x) rest = rest d h
 
   -- While somebody rides, fewer steps were made than there are vertices.
-  steps_few : (k e : ℕ) → is_among e (ridden (after (terrain_of faces) (start_darts faces) k).riders) ≡ true → k < vertex_count faces
+  steps_few : (k e : ℕ) → is_among e (ridden (after_steps (terrain_of faces) (start_darts faces) k).riders) ≡ true → k < vertex_count faces
   steps_few k e n = elim (cases_lt k (vertex_count faces)) [
     | inl l ↦ l
     | inr h ↦ absurd (
         let s : (k - vertex_count faces) + vertex_count faces ≡ k = omega arith in
-        let d : (d : ℕ) × (is_among d (ridden (after (terrain_of faces) (start_darts faces) (vertex_count faces)).riders) ≡ true) = rode_before (vertex_count faces) (k - vertex_count faces) e (ap (λ i. is_among e (ridden (after (terrain_of faces) (start_darts faces) i).riders)) s ∙ n) in
+        let d : (d : ℕ) × (is_among d (ridden (after_steps (terrain_of faces) (start_darts faces) (vertex_count faces)).riders) ≡ true) = rode_before (vertex_count faces) (k - vertex_count faces) e (ap (λ i. is_among e (ridden (after_steps (terrain_of faces) (start_darts faces) i).riders)) s ∙ n) in
         false≢true (sym (ap (is_among d.0) (at_last (terrain_of faces) (terrain faces m) (start_darts faces) (started faces m) (vertex_count faces) (all_below faces))) ∙ d.1))
   ]
 
@@ -132,34 +132,34 @@ module _ (faces : Faces) (m : IsManifold faces) where
     abbrev k : ℕ
     k = (within_of x z).instant
 
-    ride_rode : (note_at x.noted r ≡ None) × (is_among (rider_at x.riders r).dart (ridden (after (terrain_of faces) (start_darts faces) (within_of x z).instant).riders) ≡ true)
-    ride_rode = rode (terrain_of faces) (terrain faces m) (start_darts faces) (started faces m) (vertex_count faces) (all_below faces) (after (terrain_of faces) (start_darts faces) (within_of x z).instant) (reached_at (within_of x z).instant) x (within_of x z).shown r low may
+    ride_rode : (note_at x.noted r ≡ None) × (is_among (rider_at x.riders r).dart (ridden (after_steps (terrain_of faces) (start_darts faces) (within_of x z).instant).riders) ≡ true)
+    ride_rode = rode (terrain_of faces) (terrain faces m) (start_darts faces) (started faces m) (vertex_count faces) (all_below faces) (after_steps (terrain_of faces) (start_darts faces) (within_of x z).instant) (reached_at (within_of x z).instant) x (within_of x z).shown r low may
 
     pub ride_fresh : note_at x.noted r ≡ None
     ride_fresh = ride_rode.0
 
     pub ride_dart : (rider_at x.riders r).dart < darts faces
-    ride_dart = rode_low (terrain_of faces) (terrain faces m) (start_darts faces) (started faces m) (vertex_count faces) (all_below faces) (after (terrain_of faces) (start_darts faces) (within_of x z).instant) (reached_at (within_of x z).instant) x (within_of x z).shown r low may
+    ride_dart = rode_low (terrain_of faces) (terrain faces m) (start_darts faces) (started faces m) (vertex_count faces) (all_below faces) (after_steps (terrain_of faces) (start_darts faces) (within_of x z).instant) (reached_at (within_of x z).instant) x (within_of x z).shown r low may
 
-    lengths : (length x.riders ≡ length (after (terrain_of faces) (start_darts faces) (within_of x z).instant).riders) × (length x.noted ≡ length (after (terrain_of faces) (start_darts faces) (within_of x z).instant).riders)
-    lengths = long (terrain_of faces) (after (terrain_of faces) (start_darts faces) (within_of x z).instant).stood (ridden (after (terrain_of faces) (start_darts faces) (within_of x z).instant).riders) (is_on x.settled) (after (terrain_of faces) (start_darts faces) (within_of x z).instant).riders x.riders x.noted (within_of x z).shown.riders
+    lengths : (length x.riders ≡ length (after_steps (terrain_of faces) (start_darts faces) (within_of x z).instant).riders) × (length x.noted ≡ length (after_steps (terrain_of faces) (start_darts faces) (within_of x z).instant).riders)
+    lengths = long (terrain_of faces) (after_steps (terrain_of faces) (start_darts faces) (within_of x z).instant).stood (ridden (after_steps (terrain_of faces) (start_darts faces) (within_of x z).instant).riders) (is_on x.settled) (after_steps (terrain_of faces) (start_darts faces) (within_of x z).instant).riders x.riders x.noted (within_of x z).shown.riders
 
     pub ride_noted : r < length x.noted
     ride_noted = omega (arith, low, lengths.0, lengths.1)
 
-    shown_r : (q : ℕ) → q < length x.riders → IsNoted (rider_at (after (terrain_of faces) (start_darts faces) (within_of x z).instant).riders q) (note_at x.noted q)
-        × (rider_at x.riders q ≡ shown_by (terrain_of faces) (after (terrain_of faces) (start_darts faces) (within_of x z).instant).stood (ridden (after (terrain_of faces) (start_darts faces) (within_of x z).instant).riders) (is_on x.settled) (rider_at (after (terrain_of faces) (start_darts faces) (within_of x z).instant).riders q) (note_at x.noted q))
-    shown_r q l = shown_at (terrain_of faces) (after (terrain_of faces) (start_darts faces) (within_of x z).instant).stood (ridden (after (terrain_of faces) (start_darts faces) (within_of x z).instant).riders) (is_on x.settled) (after (terrain_of faces) (start_darts faces) (within_of x z).instant).riders x.riders x.noted (within_of x z).shown.riders q l
+    shown_r : (q : ℕ) → q < length x.riders → IsNoted (rider_at (after_steps (terrain_of faces) (start_darts faces) (within_of x z).instant).riders q) (note_at x.noted q)
+        × (rider_at x.riders q ≡ shown_by (terrain_of faces) (after_steps (terrain_of faces) (start_darts faces) (within_of x z).instant).stood (ridden (after_steps (terrain_of faces) (start_darts faces) (within_of x z).instant).riders) (is_on x.settled) (rider_at (after_steps (terrain_of faces) (start_darts faces) (within_of x z).instant).riders q) (note_at x.noted q))
+    shown_r q l = shown_at (terrain_of faces) (after_steps (terrain_of faces) (start_darts faces) (within_of x z).instant).stood (ridden (after_steps (terrain_of faces) (start_darts faces) (within_of x z).instant).riders) (is_on x.settled) (after_steps (terrain_of faces) (start_darts faces) (within_of x z).instant).riders x.riders x.noted (within_of x z).shown.riders q l
 
     -- The rider is as it was when the instant began.
-    as_begun : rider_at x.riders r ≡ rider_at (after (terrain_of faces) (start_darts faces) (within_of x z).instant).riders r
-    as_begun = (shown_r r low).1 ∙ ap (shown_by (terrain_of faces) (after (terrain_of faces) (start_darts faces) (within_of x z).instant).stood (ridden (after (terrain_of faces) (start_darts faces) (within_of x z).instant).riders) (is_on x.settled) (rider_at (after (terrain_of faces) (start_darts faces) (within_of x z).instant).riders r)) ride_fresh
+    as_begun : rider_at x.riders r ≡ rider_at (after_steps (terrain_of faces) (start_darts faces) (within_of x z).instant).riders r
+    as_begun = (shown_r r low).1 ∙ ap (shown_by (terrain_of faces) (after_steps (terrain_of faces) (start_darts faces) (within_of x z).instant).stood (ridden (after_steps (terrain_of faces) (start_darts faces) (within_of x z).instant).riders) (is_on x.settled) (rider_at (after_steps (terrain_of faces) (start_darts faces) (within_of x z).instant).riders r)) ride_fresh
 
     pub ride_few : (rider_at x.riders r).rides < vertex_count faces
     ride_few = omega (arith, ap (λ (q : Moving). q.rides) as_begun, rides_low faces (within_of x z).instant r, steps_few (within_of x z).instant (rider_at x.riders r).dart ride_rode.1)
 
     pub ride_runs : (rider_at x.riders r).stop ≡ None
-    ride_runs = (Rattle.motion_laws.proofs.Shown.waits_runs (terrain_of faces) (after (terrain_of faces) (start_darts faces) (within_of x z).instant).stood (ridden (after (terrain_of faces) (start_darts faces) (within_of x z).instant).riders) (rider_at x.riders r).stop (note_at x.noted r) may).0
+    ride_runs = (Rattle.motion_laws.proofs.Shown.waits_runs (terrain_of faces) (after_steps (terrain_of faces) (start_darts faces) (within_of x z).instant).stood (ridden (after_steps (terrain_of faces) (start_darts faces) (within_of x z).instant).riders) (rider_at x.riders r).stop (note_at x.noted r) may).0
 
     -- Nobody else has its dart noted.
     pub ride_alone : is_among (rider_at x.riders r).dart (darts_in x.noted) ≡ false
@@ -168,10 +168,10 @@ module _ (faces : Faces) (m : IsManifold faces) where
         by_note : (q : ℕ) × (q < length x.noted) × (note_at x.noted q ≡ Some (rider_at x.riders r).dart) → ⊥
         by_note (q, l, n) =
             let lq : q < length x.riders = omega (arith, l, lengths.0, lengths.1) in
-            let f : ((rider_at (after (terrain_of faces) (start_darts faces) (within_of x z).instant).riders q).stop ≡ None) × ((rider_at x.riders r).dart ≡ (rider_at (after (terrain_of faces) (start_darts faces) (within_of x z).instant).riders q).dart) = subst (IsNoted (rider_at (after (terrain_of faces) (start_darts faces) (within_of x z).instant).riders q)) n (shown_r q lq).0 in
-            let same : r ≡ q = one_rider_on (after (terrain_of faces) (start_darts faces) (within_of x z).instant).riders (reached_at (within_of x z).instant).apart r q (omega (arith, low, lengths.0)) (omega (arith, lq, lengths.0))
+            let f : ((rider_at (after_steps (terrain_of faces) (start_darts faces) (within_of x z).instant).riders q).stop ≡ None) × ((rider_at x.riders r).dart ≡ (rider_at (after_steps (terrain_of faces) (start_darts faces) (within_of x z).instant).riders q).dart) = subst (IsNoted (rider_at (after_steps (terrain_of faces) (start_darts faces) (within_of x z).instant).riders q)) n (shown_r q lq).0 in
+            let same : r ≡ q = one_rider_on (after_steps (terrain_of faces) (start_darts faces) (within_of x z).instant).riders (reached_at (within_of x z).instant).apart r q (omega (arith, low, lengths.0)) (omega (arith, lq, lengths.0))
             (ap (λ (b : Moving). b.stop) (sym as_begun) ∙ ride_runs) f.0 (ap (λ (b : Moving). b.dart) (sym as_begun) ∙ f.1) in
             none-some (rider_at x.riders r).dart (sym ride_fresh ∙ (ap (note_at x.noted) same ∙ n))
 
     pub ride_reached : IsMotionOf faces (after_ride_of (terrain_of faces) x r)
-    ride_reached = (z.0 ++ Ride r ∷ [], leads_more (terrain_of faces) (first_of faces) x z.0 (Ride r) z.1 (low, may))
+    ride_reached = (z.0 ++ Ride r ∷ [], leads_more (terrain_of faces) (first_event_state faces) x z.0 (Ride r) z.1 (low, may))

@@ -11,7 +11,7 @@ use Rattle.def_cut.specs.declared.graph.Stop.{Stop}
 use Rattle.def_cut.specs.declared.graph.Stop.TheVariants.{Middle, Boundary, Singular, Trail, Tie}
 use Rattle.def_cut.specs.declared.moving.Moving.{Moving}
 use Rattle.qm_trace.specs.declared.ground.Site.{Site}
-use Rattle.def_cut.specs.Motion.{end_of, ridden, is_among, after_ride, after}
+use Rattle.def_cut.specs.Motion.{end_of, ridden, is_among, after_ride, after_steps}
 use Rattle.def_cut.specs.Events.{rider_at}
 use Rattle.def_cut.specs.Traced.{finish, last_state, terrain_of}
 
@@ -84,10 +84,10 @@ pub record IsQueue (riders : List Moving) (queue : List ℕ) : Type 0 where
 pub record IsInstant
     (faces : Faces) (k : ℕ) (riders : List Moving) (queue : List ℕ) (stood taken : List Bool)
     : Type 0 where
-  pub riders_are : riders ≡ (after (terrain_of faces) (start_darts faces) k).riders
+  pub riders_are : riders ≡ (after_steps (terrain_of faces) (start_darts faces) k).riders
   pub waits : IsQueue riders queue
   pub stood_is : (v : ℕ) → v < vertex_count faces
-      → is_on stood v ≡ (after (terrain_of faces) (start_darts faces) k).stood v
+      → is_on stood v ≡ (after_steps (terrain_of faces) (start_darts faces) k).stood v
   pub taken_is : (d : ℕ) → is_on taken d ≡ is_among d (ridden riders)
 
 -- Each of these darts is a dart.
@@ -113,14 +113,14 @@ pub record CanRide (faces : Faces) (riders : List Moving) (queue : List ℕ) : T
 
 -- The tables after k steps of the motion, between two steps.
 pub record IsTableAt (faces : Faces) (k : ℕ) (riders : List Moving) (stood covered taken : List Bool) : Type 0 where
-  pub riders_are : riders ≡ (after (terrain_of faces) (start_darts faces) k).riders
+  pub riders_are : riders ≡ (after_steps (terrain_of faces) (start_darts faces) k).riders
   pub stood_long : length stood ≡ vertex_count faces
   pub covered_long : length covered ≡ darts faces
   pub taken_long : length taken ≡ darts faces
   pub stood_is : (v : ℕ) → v < vertex_count faces
-      → is_on stood v ≡ (after (terrain_of faces) (start_darts faces) k).stood v
+      → is_on stood v ≡ (after_steps (terrain_of faces) (start_darts faces) k).stood v
   pub covered_is : (d : ℕ) → d < darts faces
-      → is_on covered d ≡ (after (terrain_of faces) (start_darts faces) k).covered d
+      → is_on covered d ≡ (after_steps (terrain_of faces) (start_darts faces) k).covered d
   pub taken_none : (d : ℕ) → is_on taken d ≡ false
 
 -- The marks with that of d, where there is no twin.
@@ -141,4 +141,4 @@ pub record IsEnd (faces : Faces) (riders : List Moving) (covered : List Bool) : 
 -- The motion, on from k steps, comes to its last state.
 abbrev pub IsOnItsWay : (faces : Faces) (k : ℕ) → Type 0
 IsOnItsWay faces k = (more : ℕ) → k + more ≡ suc (vertex_count faces)
-    → finish (terrain_of faces) more (after (terrain_of faces) (start_darts faces) k) ≡ last_state faces
+    → finish (terrain_of faces) more (after_steps (terrain_of faces) (start_darts faces) k) ≡ last_state faces

@@ -4,7 +4,7 @@ ghost use Rattle.std.specs.Prelude.{◌≡◌, ◌↔◌, ◌<◌, ◌&&◌, tru
 ghost use Rattle.def_cut.specs.Events.{
   after_ride_of,
   after_settling,
-  first_of,
+  first_event_state,
   may_ride as rides_now,
   may_settle as settles_now,
   rider_at,
@@ -70,7 +70,7 @@ impl Motion {
     /// The motion before its first event, for what `sources` gives of the mesh. Linear in the darts.
     pub fn new(alloc: Global, mesh: &Mesh, src: &Starts) -> Result<Motion, Memory>
         requires { AreSources mesh.now src.now }
-        ensures first { IfOk result (λ m. m.state ≡ first_of mesh.now) }
+        ensures first { IfOk result (λ m. m.state ≡ first_event_state mesh.now) }
         ensures starts { IfOk result (λ m. m.starts ≡ src.now.starts.items) }
         ensures motion { IfOk result (IsMotionOn mesh.now) }
     {

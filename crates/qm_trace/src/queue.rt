@@ -3,7 +3,7 @@
 ghost use Rattle.std.specs.Prelude.{◌≡◌, ◌<◌, ◌+◌, ◌^◌, ℕ, suc, length, map, filter, true, IfOk};
 ghost use Rattle.std.specs.List.{range_with_len};
 ghost use Rattle.def_cut.specs.Events.{rider_at};
-ghost use Rattle.def_cut.specs.Motion.{after, begun, is_among};
+ghost use Rattle.def_cut.specs.Motion.{after_steps, begun, is_among};
 ghost use Rattle.def_cut.specs.Traced.{terrain_of};
 ghost use Rattle.def_mesh.specs.Components.{start_darts};
 ghost use Rattle.def_mesh.specs.Darts.{darts};
@@ -104,7 +104,7 @@ pub(crate) fn ride_all(
     requires stood { length sight.now.stood.items ≡ vertex_count mesh.now }
     requires taken { length sight.now.taken.items ≡ darts mesh.now }
     ensures { (k : ℕ) → IsInstant mesh.now k riders.items queue.now sight.now.stood.items sight.now.taken.items
-        → result.items ≡ (after (terrain_of mesh.now) (start_darts mesh.now) (suc k)).riders }
+        → result.items ≡ (after_steps (terrain_of mesh.now) (start_darts mesh.now) (suc k)).riders }
 {
     let _known = mesh.faces();
     ride_each(mesh, sight, queue, &mut riders);

@@ -6,7 +6,7 @@ use Rattle.std.proofs.lemmas.Bool.{and_parts, cases_Bool, false≢true, true≢f
 use Rattle.clap.specs.Faults.{use_fault, walk_fault}
 use Rattle.clap.specs.Lexer.{long_of}
 use Rattle.clap.specs.Walk.{has_row, idle, option, settled_rows, used, walked, Row, Walk}
-use Rattle.def_run.specs.Options.{attached, dashed, in_front, is_equals, separate, uses_of, Use, Uses}
+use Rattle.def_run.specs.Options.{attached, dashed, use_in_front, is_equals, separate, uses_of, Use, Uses}
 use Rattle.def_text.specs.Types.{Word, Words}
 use Rattle.qm_words.specs.Parsing.{is_known, is_plain}
 use Rattle.qm_words.proofs.Rules.{by_id, by_long, full_rule, rules}
@@ -46,11 +46,11 @@ waits_nil : (names : Words) → Waits names []
 waits_nil names uses one tail rest known split spelled plain all good = absurd cc
 
 -- A use in front of others: which it is, and which are behind.
-pub prefix_is : (first : Use) (words : Words) (uses : Uses) → in_front first (uses_of words) ≡ Some (map with_hyphens uses)
+pub prefix_is : (first : Use) (words : Words) (uses : Uses) → use_in_front first (uses_of words) ≡ Some (map with_hyphens uses)
     → (one : Use) × (rest : Uses) × (uses ≡ one ∷ rest) × (first ≡ with_hyphens one) × (uses_of words ≡ Some (map with_hyphens rest))
 prefix_is first words uses is = by_behind (uses_of words) refl uses is
   where
-    by_behind : (o : Option Uses) → uses_of words ≡ o → (us : Uses) → in_front first o ≡ Some (map with_hyphens us)
+    by_behind : (o : Option Uses) → uses_of words ≡ o → (us : Uses) → use_in_front first o ≡ Some (map with_hyphens us)
         → (one : Use) × (rest : Uses) × (us ≡ one ∷ rest) × (first ≡ with_hyphens one) × (uses_of words ≡ Some (map with_hyphens rest))
     by_behind (Some found) behind (one ∷ rest) same =
         let joined : first ∷ found ≡ with_hyphens one ∷ map with_hyphens rest = cc in

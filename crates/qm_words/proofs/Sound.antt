@@ -8,7 +8,7 @@ use Rattle.clap.specs.Kinds.{or_else, Kinds}
 use Rattle.clap.specs.Lexer.{long_of}
 use Rattle.clap.specs.Walk.{idle, option, settled_rows, used, walked, Row, Walk}
 use Rattle.clap.specs.declared.error.kind.ErrorKind.TheVariants.{InvalidValue, UnknownArgument}
-use Rattle.def_run.specs.Options.{attached, dashed, in_front, is_equals, separate, uses_of, Use, Uses}
+use Rattle.def_run.specs.Options.{attached, dashed, use_in_front, is_equals, separate, uses_of, Use, Uses}
 use Rattle.def_text.specs.Types.{Word, Words}
 use Rattle.qm_words.specs.Parsing.{is_end, is_known}
 use Rattle.qm_words.proofs.Rules.{by_id, by_long, full_rule, no_long, rules}
@@ -79,7 +79,7 @@ module _ (names : Words) (word : Word) (words : Words) where
       record {
         rest = record { name = name; value = read.value } ∷ read.rest;
         spelled = ap (λ (ws : Words). uses_of (word ∷ ws)) read.split ∙ uses_flag word read.value read.tail none
-            ∙ ap (in_front (separate word read.value)) read.spelled
+            ∙ ap (use_in_front (separate word read.value)) read.spelled
             ∙ ap (λ (w : Word). Some (separate w read.value ∷ map with_hyphens read.rest)) is;
         rows = ap (λ (w : Walk). end_rows names w words) goes ∙ read.rows;
         good = read.good;
@@ -108,7 +108,7 @@ module _ (names : Words) (word : Word) (words : Words) where
       let joined : (all ++ one ∷ []) ++ read.rest ≡ all ++ one ∷ read.rest = append_assoc all (one ∷ []) read.rest in
       record {
         rest = one ∷ read.rest;
-        spelled = uses_pair word words some ∙ ap (in_front (attached word)) read.spelled ∙ ap (λ (u : Use). Some (u ∷ map with_hyphens read.rest)) is;
+        spelled = uses_pair word words some ∙ ap (use_in_front (attached word)) read.spelled ∙ ap (λ (u : Use). Some (u ∷ map with_hyphens read.rest)) is;
         rows = ap (λ (w : Walk). end_rows names w words) goes ∙ read.rows ∙ ap rows_of joined;
         good = subst (Good names) joined read.good;
       }

@@ -3,7 +3,7 @@ use Rattle.std.proofs.Common.{◌≡◌, ◌+◌, ◌==◌, not, ℕ, suc, true,
 use Rattle.std.specs.List.{after_first, before_first, list_any, position_or_len}
 use Rattle.std.proofs.lemmas.Bool.{cases_Bool, eqb-true, not-true, or_parts}
 use Rattle.clap.specs.Lexer.{long_of, short_of}
-use Rattle.def_run.specs.Options.{attached, dashed, in_front, is_equals, separate, uses_of, Use}
+use Rattle.def_run.specs.Options.{attached, dashed, use_in_front, is_equals, separate, uses_of, Use}
 use Rattle.def_text.specs.Types.{Word, Words}
 use Rattle.qm_words.specs.Parsing.{is_end, is_plain}
 
@@ -84,13 +84,13 @@ plain_view (x ∷ xs) begins =
     (rw other refl, rw other refl, rw other refl)
 
 -- A word with an `=` is one use, whatever stands behind it.
-pub uses_pair : (word : Word) (words : Words) → list_any is_equals word ≡ true → uses_of (word ∷ words) ≡ in_front (attached word) (uses_of words)
+pub uses_pair : (word : Word) (words : Words) → list_any is_equals word ≡ true → uses_of (word ∷ words) ≡ use_in_front (attached word) (uses_of words)
 uses_pair word [] some = rw some refl
 uses_pair word (next ∷ words) some = rw some refl
 
 -- Another word is the name of a value.
 pub uses_flag : (word value : Word) (words : Words) → list_any is_equals word ≡ false
-    → uses_of (word ∷ value ∷ words) ≡ in_front (separate word value) (uses_of words)
+    → uses_of (word ∷ value ∷ words) ≡ use_in_front (separate word value) (uses_of words)
 uses_flag word value words none = rw none refl
 
 -- A name with its hyphens that stands before the first `=` is cut from such a word.

@@ -9,15 +9,15 @@ use Rattle.def_flow.specs.declared.net.Settings.{Settings}
 use Rattle.def_layout.specs.Layouts.{Way, south, east, north, west, Layout}
 use Rattle.def_layout.specs.Lengths.{size, AreLengths}
 use Rattle.def_layout.specs.Plans.{Plan, layout_of}
-use Rattle.def_layoutnet.specs.LayoutNetLaws.{along, AreOpposite}
+use Rattle.def_layoutnet.specs.LayoutNetLaws.{sum_along, AreOpposite}
 use Rattle.def_remesh.specs.NewPoints.{lengths_in}
 use Rattle.def_remesh.specs.Remeshed.{IsCertified}
 
 -- The size of a side is the sum of its whole numbers.
-size_is : (l : Layout) (xs : List ℕ) (p : ℕ) (s : Way) → pos (size l (lengths_in xs) p s) ≡ along l (entries xs) p s
+size_is : (l : Layout) (xs : List ℕ) (p : ℕ) (s : Way) → pos (size l (lengths_in xs) p s) ≡ sum_along l (entries xs) p s
 size_is l xs p s = count_below_total (λ k. slice_index xs (l.use_at p s k).arc) (l.many p s)
 
-same_size : (l : Layout) (xs : List ℕ) (p : ℕ) (s t : Way) → along l (entries xs) p s ≡ along l (entries xs) p t
+same_size : (l : Layout) (xs : List ℕ) (p : ℕ) (s t : Way) → sum_along l (entries xs) p s ≡ sum_along l (entries xs) p t
     → size l (lengths_in xs) p t ≡ size l (lengths_in xs) p s
 same_size l xs p s t same = omega (arith, ints, size_is l xs p s, size_is l xs p t, same)
 

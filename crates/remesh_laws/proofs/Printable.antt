@@ -20,7 +20,7 @@ use Rattle.def_layout.specs.Arcs.{long_at}
 use Rattle.def_layout.specs.Layouts.{Layout, Way, south, east, north, west}
 use Rattle.def_layout.specs.Lengths.{Lengths, wide, high, AreLengths}
 use Rattle.def_layout.specs.Plans.{Plan, layout_of}
-use Rattle.def_written.specs.NewFaces.{face_count, from, new_face, dart_of, vertex_of}
+use Rattle.def_written.specs.NewFaces.{face_count, dart_start, new_face, dart_of, cell_vertex}
 use Rattle.def_written.specs.Numbers.{before_arc, before_patch, vertices}
 use Rattle.def_written.specs.Points.{IsPoint}
 use Rattle.written_laws.proofs.EdgeNumbers.{in_rows}
@@ -137,10 +137,10 @@ module _ (soup : FaceSet) (solid : IsSolid soup) (plan : Plan) (is : IsMeshLayou
           (point_at (layout_of plan) x v) (point_is (layout_of plan) x v low) in
           near _ both.0 both.1
 
-  corner_fine : (f : ℕ) (w : Way) → f < face_count (layout_of plan) x → nat_lt (vertex_of (layout_of plan) x f w) (2 ^ 32) ≡ true
+  corner_fine : (f : ℕ) (w : Way) → f < face_count (layout_of plan) x → nat_lt (cell_vertex (layout_of plan) x f w) (2 ^ 32) ≡ true
   corner_fine f w low =
-      let at : vertex_of (layout_of plan) x f w < vertices (layout_of plan) x =
-      number_low (layout_of plan) x (from (layout_of plan) x (dart_of (layout_of plan) x f w))
+      let at : cell_vertex (layout_of plan) x f w < vertices (layout_of plan) x =
+      number_low (layout_of plan) x (dart_start (layout_of plan) x (dart_of (layout_of plan) x f w))
       (from_is (layout_of plan) x (laid_of plan is) len (dart_of (layout_of plan) x f w) (cell_is (layout_of plan) x (laid_of plan is) len f w low)) in
       lt-ltb _ _ (omega (arith, at, few, vertices_few (layout_of plan) x (laid_of plan is) len))
 

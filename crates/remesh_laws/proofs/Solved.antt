@@ -5,8 +5,8 @@ use Rattle.std.specs.List.{list_all}
 use Rattle.std.proofs.lemmas.Bool.{and_from, and_parts, le-leb, leb-true, lt-ltb}
 use Rattle.std.proofs.lemmas.Bool.Decides.{nat_tests}
 use Rattle.std.proofs.lemmas.List.Folds.{list_all-append}
-use Rattle.def_certtext.specs.CertLines.{numbered, HasUps, Lists}
-use Rattle.def_certtext.specs.Laws.{IsWritable}
+use Rattle.def_certtext.specs.CertLines.{dual_lines, HasUps, Lists}
+use Rattle.def_certtext.specs.Laws.{IsWritableCert}
 use Rattle.def_certtext.specs.Reading.{is_small, may_stand}
 use Rattle.def_certtext.specs.declared.CertLine.{CertLine}
 use Rattle.def_certtext.specs.declared.CertLine.TheVariants as lines
@@ -38,7 +38,7 @@ all_drop p (suc n) (x ∷ xs) all = all_drop p n xs (and_parts _ _ all).1
 
 -- Lines of small numbers may stand.
 numbered_stand : (kind : ℤ → ℕ → CertLine) → ((z : ℤ) (u : ℕ) → may_stand false (kind z u) ≡ is_small z u) → (numbers : List ℤ) (ups : List ℕ)
-    → AreSmall numbers → list_all (λ u. nat_lt u (2 ^ 32)) ups ≡ true → list_all (may_stand false) (numbered kind numbers ups) ≡ true
+    → AreSmall numbers → list_all (λ u. nat_lt u (2 ^ 32)) ups ≡ true → list_all (may_stand false) (dual_lines kind numbers ups) ≡ true
 numbered_stand kind same [] ups small low = refl
 numbered_stand kind same (z ∷ zs) [] small low = refl
 numbered_stand kind same (z ∷ zs) (u ∷ us) small low =
@@ -88,10 +88,10 @@ certified plan settings net cert is of_layout bounds untangled solved = record {
     ))
 
     vertices : List CertLine
-    vertices = numbered lines.Vertex cert.y (take (length cert.y) cert.up)
+    vertices = dual_lines lines.Vertex cert.y (take (length cert.y) cert.up)
 
     sets : List CertLine
-    sets = numbered lines.Set cert.z (drop (length cert.y) cert.up)
+    sets = dual_lines lines.Set cert.z (drop (length cert.y) cert.up)
 
     arcs : List CertLine
     arcs = map lines.Length cert.x
@@ -108,17 +108,17 @@ standing_short [] all k l = absurd (omega (arith, l))
 standing_short (x ∷ xs) all zero l = leb-true x MAX_LENGTH (and_parts _ _ all).0
 standing_short (x ∷ xs) all (suc k) l = standing_short xs (and_parts _ _ all).1 k (omega (arith, l))
 
-pub writable_short : (cert : Lists) → IsWritable cert → (k : ℕ) → k < length cert.x → slice_index cert.x k ≤ MAX_LENGTH
+pub writable_short : (cert : Lists) → IsWritableCert cert → (k : ℕ) → k < length cert.x → slice_index cert.x k ≤ MAX_LENGTH
 writable_short cert is = standing_short cert.x (and_parts _ _ both).0
   where
     arcs : List CertLine
     arcs = map lines.Length cert.x
 
     vertices : List CertLine
-    vertices = numbered lines.Vertex cert.y (take (length cert.y) cert.up)
+    vertices = dual_lines lines.Vertex cert.y (take (length cert.y) cert.up)
 
     sets : List CertLine
-    sets = numbered lines.Set cert.z (drop (length cert.y) cert.up)
+    sets = dual_lines lines.Set cert.z (drop (length cert.y) cert.up)
 
     all : (list_all (may_stand false) (arcs ++ vertices) && list_all (may_stand false) sets) ≡ true
     all = sym (list_all-append (may_stand false) (arcs ++ vertices) sets) ∙ is.allowed

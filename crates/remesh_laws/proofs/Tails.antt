@@ -3,10 +3,10 @@ use Rattle.std.proofs.Common.{◌≡◌, ℕ, zero, suc, ◌+◌, ◌==◌, Bool
 use Rattle.std.specs.List.{flat_map}
 use Rattle.std.proofs.lemmas.List.{drop-map}
 use Rattle.def_io.specs.Bytes.{Bytes, Lines}
-use Rattle.def_io.specs.Lines.{in_front, pieces, line_of, lines_of, tail_of}
+use Rattle.def_io.specs.Lines.{byte_in_front, pieces, line_of, lines_of, tail_of}
 
 -- The byte in front stands in front of all.
-flat-in_front : (b : ℕ) (ps : Lines) → flat_map (λ p. p) (in_front b ps) ≡ b ∷ flat_map (λ p. p) ps
+flat-in_front : (b : ℕ) (ps : Lines) → flat_map (λ p. p) (byte_in_front b ps) ≡ b ∷ flat_map (λ p. p) ps
 flat-in_front b [] = refl
 flat-in_front b (p ∷ ps) = refl
 
@@ -16,12 +16,12 @@ flat-pieces [] = refl
 flat-pieces (b ∷ bs) = by_test (b == 10) (ap (λ xs. b ∷ xs) (flat-pieces bs))
   where
     by_test : (t : Bool) → b ∷ flat_map (λ p. p) (pieces bs) ≡ b ∷ bs
-        → flat_map (λ p. p) (if t then (b ∷ []) ∷ pieces bs else in_front b (pieces bs)) ≡ b ∷ bs
+        → flat_map (λ p. p) (if t then (b ∷ []) ∷ pieces bs else byte_in_front b (pieces bs)) ≡ b ∷ bs
     by_test true is = is
     by_test false is = flat-in_front b (pieces bs) ∙ is
 
 -- A byte in front of the first piece changes no later one.
-drop-in_front : (b i : ℕ) (ps : Lines) → drop (suc i) (in_front b ps) ≡ drop (suc i) ps
+drop-in_front : (b i : ℕ) (ps : Lines) → drop (suc i) (byte_in_front b ps) ≡ drop (suc i) ps
 drop-in_front b zero [] = refl
 drop-in_front b (suc i) [] = refl
 drop-in_front b i (p ∷ ps) = refl
@@ -34,8 +34,8 @@ pieces-drop (suc i) (b ∷ bs) = by_test (b == 10) (pieces-drop i bs) (pieces-dr
   where
     by_test : (t : Bool) → pieces (flat_map (λ p. p) (drop i (pieces bs))) ≡ drop i (pieces bs)
         → pieces (flat_map (λ p. p) (drop (suc i) (pieces bs))) ≡ drop (suc i) (pieces bs)
-        → pieces (flat_map (λ p. p) (drop (suc i) (if t then (b ∷ []) ∷ pieces bs else in_front b (pieces bs))))
-        ≡ drop (suc i) (if t then (b ∷ []) ∷ pieces bs else in_front b (pieces bs))
+        → pieces (flat_map (λ p. p) (drop (suc i) (if t then (b ∷ []) ∷ pieces bs else byte_in_front b (pieces bs))))
+        ≡ drop (suc i) (if t then (b ∷ []) ∷ pieces bs else byte_in_front b (pieces bs))
     by_test true behind later = behind
     by_test false behind later =
         ap (λ ps. pieces (flat_map (λ p. p) ps)) (drop-in_front b i (pieces bs))

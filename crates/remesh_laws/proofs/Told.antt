@@ -2,7 +2,7 @@
 use Rattle.std.proofs.Common.{Bool, true, false, Option, Some, None, sym, subst, arith}
 use Rattle.std.proofs.lemmas.Option.{none-some, same_Some}
 use Rattle.def_certtext.specs.CertLines.{Lists}
-use Rattle.def_certtext.specs.Laws.{IsPrintable, IsWritable, TellsOnly}
+use Rattle.def_certtext.specs.Laws.{IsPrintable, IsWritableCert, TellsOnly}
 use Rattle.def_certtext.specs.Settings.{AreInRange}
 use Rattle.def_flow.specs.declared.net.Settings.{Settings}
 use Rattle.def_io.specs.Bytes.{Bytes}
@@ -34,7 +34,7 @@ kept_told plan settings true soup first None range fine kept =
     chosen_law settings (new_soup soup plan (lengths_in first.x)) first None range fine kept.writable (λ lists e. absurd (none-some lists e))
 kept_told plan settings true soup first (Some third) range fine kept =
     chosen_law settings (new_soup soup plan (lengths_in third.x)) first (Some third) range fine kept.0.writable
-    (λ lists e. subst IsWritable (same_Some third lists e) kept.3.writable)
+    (λ lists e. subst IsWritableCert (same_Some third lists e) kept.3.writable)
 
 pub told_law : ToldLaw
 told_law settings auto soup text range solid is =

@@ -6,7 +6,7 @@ use Rattle.std.proofs.lemmas.List.{length-set, get_or-set_same, get_or-set_other
 use Rattle.std.proofs.lemmas.Bool.{cases_eq, cases_lt, cases_Bool, cond-true, cond-false, eq-eqb, ne_eqb, le-ltb}
 use Rattle.def_math.specs.Counts.{count_below}
 use Rattle.sum_laws.proofs.Counts.{count_below_le, count_below_lt, count_below_ones}
-use Rattle.def_matching.specs.Matching.{Graph, IsGraph}
+use Rattle.def_matching.specs.Matching.{WeightedGraph, IsGraph}
 use Rattle.def_forest.specs.Darts.{darts_of, far}
 use Rattle.def_forest.specs.Forests.{Forest, IsOutermost, live_at, set_at, sets_of, walk}
 use Rattle.def_forest.specs.Opened.{Opening, IsOpening, IsOpened}
@@ -61,7 +61,7 @@ fewer_sets n f new size h l = subst (λ s. vertices_left n new * (s + 1) + sets_
     by_order (inl lt) = omega (arith, times_more (f.size + 1) (vertices_left n new) (vertices_left n f) lt, l)
     by_order (inr ge) = let e : vertices_left n new ≡ vertices_left n f = omega (arith, h, ge) in let same : vertices_left n new * (f.size + 1) ≡ vertices_left n f * (f.size + 1) = ap (λ x. x * (f.size + 1)) e in omega (arith, same, l)
 
-module _ (g : Graph) (is : IsGraph g) (f : Forest) (root : Option ℕ) (valid : IsValid (darts_of g) f root) (d m : ℕ) (off : f.label (f.out (far (darts_of g) d)) ≡ Outside) (mate : f.mate (f.out (far (darts_of g) d)) ≡ Some m) where
+module _ (g : WeightedGraph) (is : IsGraph g) (f : Forest) (root : Option ℕ) (valid : IsValid (darts_of g) f root) (d m : ℕ) (off : f.label (f.out (far (darts_of g) d)) ≡ Outside) (mate : f.mate (f.out (far (darts_of g) d)) ≡ Some m) where
   abbrev inn : ℕ
   inn = f.out (far (darts_of g) d)
 
@@ -91,7 +91,7 @@ module _ (g : Graph) (is : IsGraph g) (f : Forest) (root : Option ℕ) (valid : 
       (λ w l. now w (cases_eq (f.out w) outer) (cases_eq (f.out w) inn))
       (let x : not_outer (set_at (set_at f.label inn Inner) outer Outer outer) ≡ 0 = ap not_outer (set_here (set_at f.label inn Inner) outer Outer) in let y : not_outer (f.label outer) ≡ 1 = ap not_outer outer_off in omega (arith, x, y)))
 
-module _ (g : Graph) (is : IsGraph g) (f new : Forest) (root after : Option ℕ) (d : ℕ) (valid : IsValid (darts_of g) f root) (s : IsShrinking (darts_of g) f new root after d) where
+module _ (g : WeightedGraph) (is : IsGraph g) (f new : Forest) (root after : Option ℕ) (d : ℕ) (valid : IsValid (darts_of g) f root) (s : IsShrinking (darts_of g) f new root after d) where
   -- Some blossom on the cycle is inner.
   inner_on_cycle : (x : ℕ) × (s.inside x ≡ true) × (f.label x ≡ Inner)
   inner_on_cycle = by_label (on_cycle g is f new root after d valid s second (s.row.marked 1))
@@ -129,7 +129,7 @@ module _ (g : Graph) (is : IsGraph g) (f new : Forest) (root after : Option ℕ)
       by_inner : (x : ℕ) × (s.inside x ≡ true) × (f.label x ≡ Inner) → steps_left g.n new < steps_left g.n f
       by_inner p = by_vertex p.0 p.1 p.2 (valid.outermost.named p.0 (inner_named (f.label p.0) p.2))
 
-module _ (g : Graph) (is : IsGraph g) (f new : Forest) (r : ℕ) (o : Opening) (valid : IsValid (darts_of g) f (Some r)) (opening : IsOpening (darts_of g) f o) (opened : IsOpened (darts_of g) f new o) where
+module _ (g : WeightedGraph) (is : IsGraph g) (f new : Forest) (r : ℕ) (o : Opening) (valid : IsValid (darts_of g) f (Some r)) (opening : IsOpening (darts_of g) f o) (opened : IsOpened (darts_of g) f new o) where
   -- An inner set that is opened.
   pub opened_fewer : steps_left g.n new < steps_left g.n f
   opened_fewer = fewer_sets g.n f new opened.size (count_below_le (λ w. not_outer (new.label (new.out w))) (λ w. not_outer (f.label (f.out w))) g.n (λ w l. vertex w l (cases_eq (f.out w) o.b)))
@@ -165,18 +165,18 @@ module _ (g : Graph) (is : IsGraph g) (f new : Forest) (r : ℕ) (o : Opening) (
       set x (inr ne) = let z : live_at g.n new.nest.parts x ≡ live_at g.n f.nest.parts x = ap (λ (y : ℕ). cond (nat_lt x g.n) 0 (cond (eqb y 0) 0 1)) (opened.sets x ne).many in omega (arith, z)
 
 -- Where fewer steps are left, or one leaf less is stale, fewer turns are left.
-stale_low : (g : Graph) (f : Forest) (risen : ℕ) (keys : List ℕ) (n : ℕ) → count_below (is_stale g f risen keys) n ≤ n
+stale_low : (g : WeightedGraph) (f : Forest) (risen : ℕ) (keys : List ℕ) (n : ℕ) → count_below (is_stale g f risen keys) n ≤ n
 stale_low g f risen keys n = omega (arith, count_below_le (is_stale g f risen keys) (λ k. 1) n (λ k l. one (eqb (get_or keys k 0) (true_key g f risen k))), count_below_ones n)
   where
     one : (p : Bool) → cond p 0 1 ≤ 1
     one true = omega arith
     one false = omega arith
 
-pub fewer_turns : (g : Graph) (f new : Forest) (risen after : ℕ) (old keys : List ℕ) → length keys ≡ length old → steps_left g.n new < steps_left g.n f → turns_left g new after keys < turns_left g f risen old
+pub fewer_turns : (g : WeightedGraph) (f new : Forest) (risen after : ℕ) (old keys : List ℕ) → length keys ≡ length old → steps_left g.n new < steps_left g.n f → turns_left g new after keys < turns_left g f risen old
 fewer_turns g f new risen after old keys size l = subst (λ n. steps_left g.n new * (n + 1) + count_below (is_stale g new after keys) n < turns_left g f risen old) (sym size)
     (omega (arith, times_more (length old + 1) (steps_left g.n new) (steps_left g.n f) l, stale_low g new after keys (length old)))
 
-pub fewer_stale : (g : Graph) (f : Forest) (risen leaf : ℕ) (keys new : List ℕ) → leaf < length keys → get_or keys leaf 0 ≢ true_key g f risen leaf → new ≡ set keys leaf (true_key g f risen leaf) → turns_left g f risen new < turns_left g f risen keys
+pub fewer_stale : (g : WeightedGraph) (f : Forest) (risen leaf : ℕ) (keys new : List ℕ) → leaf < length keys → get_or keys leaf 0 ≢ true_key g f risen leaf → new ≡ set keys leaf (true_key g f risen leaf) → turns_left g f risen new < turns_left g f risen keys
 fewer_stale g f risen leaf keys new l ne is =
     let size : length new ≡ length keys = ap length is ∙ length-set keys leaf (true_key g f risen leaf) in
     subst (λ n. steps_left g.n f * (n + 1) + count_below (is_stale g f risen new) n < turns_left g f risen keys) (sym size)

@@ -2,9 +2,9 @@
 use Rattle.std.proofs.Common.{◌≡◌, ◌≢◌, ℕ, ◌*◌, ◌<◌, ◌≤◌, Bool, true, false, cond, eqb, List, length, get_or, Option, Some, None, ℤ, pos, ◌-ℤ◌, ◌*ℤ◌, ◌⊎◌, refl, sym, ◌∙◌, ap, subst, inl, inr, arith}
 use Rattle.std.specs.Int.RustNames.{unsigned_abs}
 use Rattle.std.proofs.lemmas.Bool.{cases_eq, cases_lt, cases_Bool, eq-eqb, eqb-true}
-use Rattle.def_matching.specs.Matching.{Graph, IsGraph, edge_at}
+use Rattle.def_matching.specs.Matching.{WeightedGraph, IsGraph, edge_at}
 use Rattle.def_forest.specs.Darts.{darts_of, far}
-use Rattle.def_forest.specs.Forests.{Forest, load, set_at}
+use Rattle.def_forest.specs.Forests.{Forest, weight_between, set_at}
 use Rattle.def_forest.specs.Opened.{Opening, IsOpening, IsOpened}
 use Rattle.def_forest.specs.Shrunk.{IsShrinking}
 use Rattle.def_forest.specs.Steps.{grown, rooted}
@@ -62,14 +62,14 @@ inner_cases Outer = inr (λ e. cc e)
 inner_cases Outside = inr (λ e. cc e)
 
 -- What a step changes at the ends of edges and at sets.
-pub record IsTurned (g : Graph) (f new : Forest) (risen : ℕ) (keys : List ℕ) : Type 0 where
+pub record IsTurned (g : WeightedGraph) (f new : Forest) (risen : ℕ) (keys : List ℕ) : Type 0 where
   pub slacks : (e : ℕ) → e < length g.edges → slack_of g new e ≡ slack_of g f e
   pub ends : (w : ℕ) → w < g.n → IsQuiet f new w ⊎ ((e : ℕ) → e < length g.edges → ((edge_at g e).u ≡ w) ⊎ ((edge_at g e).v ≡ w) → get_or keys e 0 ≡ true_key g new risen e)
   pub same : (u v : ℕ) → u < g.n → v < g.n → f.label (f.out u) ≡ Outer → f.out u ≡ f.out v → new.out u ≡ new.out v
   pub sets : (b : ℕ) → g.n ≤ b → new.label b ≡ Inner → ((f.label b ≡ Inner) × (new.weight b ≡ f.weight b)) ⊎ (get_or keys (leaf_of g b) 0 ≡ true_key g new risen (leaf_of g b))
 
 -- Keys stay low.
-pub stay_low : (g : Graph) → IsGraph g → (f new : Forest) (risen : ℕ) (old keys : List ℕ) → AreLow g f risen old → IsMended g new risen old keys → IsTurned g f new risen keys → AreLow g new risen keys
+pub stay_low : (g : WeightedGraph) → IsGraph g → (f new : Forest) (risen : ℕ) (old keys : List ℕ) → AreLow g f risen old → IsMended g new risen old keys → IsTurned g f new risen keys → AreLow g new risen keys
 stay_low g is f new risen old keys low mended turned k l = by_mended (mended.each k)
   where
     exact : get_or keys k 0 ≡ true_key g new risen k → get_or keys k 0 ≤ true_key g new risen k
@@ -119,7 +119,7 @@ stay_low g is f new risen old keys low mended turned k l = by_mended (mended.eac
     by_mended (inr same) = by_leaf same (cases_lt k (length g.edges))
 
 -- No key is above the one where nothing happens.
-pub true_key_low : (g : Graph) (f : Forest) (risen k : ℕ) → true_key g f risen k ≤ no_key
+pub true_key_low : (g : WeightedGraph) (f : Forest) (risen k : ℕ) → true_key g f risen k ≤ no_key
 true_key_low g f risen k = by_leaf (cases_lt k (length g.edges))
   where
     by_leaf : (k < length g.edges) ⊎ (length g.edges ≤ k) → true_key g f risen k ≤ no_key
@@ -127,17 +127,17 @@ true_key_low g f risen k = by_leaf (cases_lt k (length g.edges))
     by_leaf (inr he) = subst (λ x. x ≤ no_key) (sym (at_set g f risen k he)) (set_key_low (f.label (set_of g k)) (f.weight (set_of g k)) risen)
 
 -- The edges at a vertex of a set of vertices.
-right_at : (g : Graph) (f : Forest) (risen : ℕ) (keys : List ℕ) (set : ℕ → Bool) (w : ℕ) → AreRightAt g f risen keys set → set w ≡ true
+right_at : (g : WeightedGraph) (f : Forest) (risen : ℕ) (keys : List ℕ) (set : ℕ → Bool) (w : ℕ) → AreRightAt g f risen keys set → set w ≡ true
     → (e : ℕ) → e < length g.edges → ((edge_at g e).u ≡ w) ⊎ ((edge_at g e).v ≡ w) → get_or keys e 0 ≡ true_key g f risen e
 right_at g f risen keys set w right on e l (inl eu) = right e l (inl (ap set eu ∙ on))
 right_at g f risen keys set w right on e l (inr ev) = right e l (inr (ap set ev ∙ on))
 
 -- A vertex is held by its outermost blossom.
-pub held_out : (g : Graph) (f : Forest) (root : Option ℕ) → IsValid (darts_of g) f root → (w : ℕ) → w < g.n → f.holds (f.out w) w ≡ true
+pub held_out : (g : WeightedGraph) (f : Forest) (root : Option ℕ) → IsValid (darts_of g) f root → (w : ℕ) → w < g.n → f.holds (f.out w) w ≡ true
 held_out g f root valid w l = valid.outermost.held w w l l ∙ eq-eqb (f.out w) (f.out w) refl
 
 -- Where no tree stands nothing happens.
-pub idle_low : (g : Graph) (f : Forest) (risen : ℕ) (keys : List ℕ) → ((b : ℕ) → f.label b ≡ Outside) → ((k : ℕ) → k < length keys → get_or keys k 0 ≤ no_key) → AreLow g f risen keys
+pub idle_low : (g : WeightedGraph) (f : Forest) (risen : ℕ) (keys : List ℕ) → ((b : ℕ) → f.label b ≡ Outside) → ((k : ℕ) → k < length keys → get_or keys k 0 ≤ no_key) → AreLow g f risen keys
 idle_low g f risen keys outside few k l = by_leaf (cases_lt k (length g.edges))
   where
     by_leaf : (k < length g.edges) ⊎ (length g.edges ≤ k) → get_or keys k 0 ≤ true_key g f risen k
@@ -150,7 +150,7 @@ idle_low g f risen keys outside few k l = by_leaf (cases_lt k (length g.edges))
         omega (arith, e, few k l)
 
 -- A tree begins.
-pub rooted_turned : (g : Graph) (f : Forest) (b risen : ℕ) (keys : List ℕ) → IsValid (darts_of g) f None → AreRightAt g (rooted f b) risen keys (f.holds b) → IsTurned g f (rooted f b) risen keys
+pub rooted_turned : (g : WeightedGraph) (f : Forest) (b risen : ℕ) (keys : List ℕ) → IsValid (darts_of g) f None → AreRightAt g (rooted f b) risen keys (f.holds b) → IsTurned g f (rooted f b) risen keys
 rooted_turned g f b risen keys valid right = record {
   slacks = λ e l. refl;
   ends = λ w l. ends w l (cases_eq (f.out w) b);
@@ -167,7 +167,7 @@ rooted_turned g f b risen keys valid right = record {
     none x inner (inr ne) = let h : Outside ≡ Inner = sym (set_there f.label b x Outer ne ∙ valid.no_tree refl x) ∙ inner in cc
 
 -- A tree grows.
-module _ (g : Graph) (f : Forest) (root : Option ℕ) (valid : IsValid (darts_of g) f root) (d m risen : ℕ) (keys : List ℕ) (mate : f.mate (f.out (far (darts_of g) d)) ≡ Some m) where
+module _ (g : WeightedGraph) (f : Forest) (root : Option ℕ) (valid : IsValid (darts_of g) f root) (d m risen : ℕ) (keys : List ℕ) (mate : f.mate (f.out (far (darts_of g) d)) ≡ Some m) where
   abbrev inn : ℕ
   inn = f.out (far (darts_of g) d)
 
@@ -199,7 +199,7 @@ module _ (g : Graph) (f : Forest) (root : Option ℕ) (valid : IsValid (darts_of
       sets x h inner (inr nu) (inr ni) = inl (sym (other x nu ni) ∙ inner, refl)
 
 -- A cycle becomes one blossom.
-module _ (g : Graph) (is : IsGraph g) (f new : Forest) (root after : Option ℕ) (d : ℕ) (valid : IsValid (darts_of g) f root) (s : IsShrinking (darts_of g) f new root after d) where
+module _ (g : WeightedGraph) (is : IsGraph g) (f new : Forest) (root after : Option ℕ) (d : ℕ) (valid : IsValid (darts_of g) f root) (s : IsShrinking (darts_of g) f new root after d) where
   shrunk_root : IsValid (darts_of g) f (Some s.r)
   shrunk_root = subst (λ (x : Option ℕ). IsValid (darts_of g) f x) s.old_root valid
 
@@ -218,7 +218,7 @@ module _ (g : Graph) (is : IsGraph g) (f new : Forest) (root after : Option ℕ)
   pub shrunk_label : (x : ℕ) → x ≢ s.set → s.inside x ≡ false → new.label x ≡ f.label x
   shrunk_label = shrinks.label_off (darts_of g) (are_darts g is) f s.r shrunk_root s.tree new s.inside s.top s.set s.top s.many s.cycle s.unused s.row s.shrunk
 
-  shrunk_load : (u v : ℕ) → u < g.n → v < g.n → load new u v ≡ load f u v
+  shrunk_load : (u v : ℕ) → u < g.n → v < g.n → weight_between new u v ≡ weight_between f u v
   shrunk_load = shrinks.same_load (darts_of g) (are_darts g is) f s.r shrunk_root s.tree new s.inside s.top s.set s.top s.many s.cycle s.unused s.row s.shrunk
 
   -- A blossom on the cycle was outer or inner.
@@ -255,7 +255,7 @@ module _ (g : Graph) (is : IsGraph g) (f new : Forest) (root after : Option ℕ)
       ends w l (inr off) = inl (inl (ap new.label (shrunk_off w l off) ∙ shrunk_label (f.out w) (s.unused.no_out w l) off))
 
 -- An inner set is opened.
-module _ (g : Graph) (is : IsGraph g) (f new : Forest) (r : ℕ) (o : Opening) (valid : IsValid (darts_of g) f (Some r)) (opening : IsOpening (darts_of g) f o) (opened : IsOpened (darts_of g) f new o) where
+module _ (g : WeightedGraph) (is : IsGraph g) (f new : Forest) (r : ℕ) (o : Opening) (valid : IsValid (darts_of g) f (Some r)) (opening : IsOpening (darts_of g) f o) (opened : IsOpened (darts_of g) f new o) where
   opened_tree : IsTree (darts_of g) f r
   opened_tree = valid.tree r refl
 
@@ -265,7 +265,7 @@ module _ (g : Graph) (is : IsGraph g) (f new : Forest) (r : ℕ) (o : Opening) (
   pub opened_old : (w : ℕ) → w < g.n → f.out w ≢ o.b → new.out w ≡ f.out w
   opened_old = expands.out_old (darts_of g) (are_darts g is) f r valid opened_tree new o opening opened
 
-  opened_load : (u v : ℕ) → u < g.n → v < g.n → load new u v ≡ load f u v
+  opened_load : (u v : ℕ) → u < g.n → v < g.n → weight_between new u v ≡ weight_between f u v
   opened_load = expands.same_load (darts_of g) (are_darts g is) f r valid opened_tree new o opening opened
 
   -- A blossom beside the opened one stays as it was.

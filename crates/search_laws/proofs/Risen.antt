@@ -8,12 +8,12 @@ use Rattle.def_math.specs.Sums.{total, total_below}
 use Rattle.qm_dual.proofs.Ends.{ends_once}
 use Rattle.qm_dual.proofs.Gathered.{total_below_small}
 use Rattle.qm_dual.proofs.Weak.{chosen_below}
-use Rattle.def_matching.specs.Matching.{Graph, IsGraph, IsCheap, IsPerfect, edge_at, matching_cost}
+use Rattle.def_matching.specs.Matching.{WeightedGraph, IsGraph, IsCheap, IsPerfect, edge_at, matching_cost}
 use Rattle.def_matching.specs.declared.limits.TheConstants.{MAX_PRODUCT}
 use Rattle.def_matching.specs.declared.weighted.WEdge.{WEdge}
 use Rattle.def_forest.specs.Darts.{darts_of}
 use Rattle.def_forest.specs.Forests.{Forest, dual_sum_of}
-use Rattle.def_forest.specs.Steps.{change, shifted}
+use Rattle.def_forest.specs.Steps.{weight_change, shifted}
 use Rattle.def_forest.specs.Tables.{slack_of}
 use Rattle.def_forest.specs.Valid.{IsFeasible, IsValid}
 use Rattle.def_forest.specs.declared.kinds.Label.{Label}
@@ -47,7 +47,7 @@ greatest_of f n limit (suc k) few = by_rest (greatest_of f n limit k (λ i l. fe
     by_rest w = by_order w.0 w.1 w.2 (cases_lt (f k) w.0)
 
 -- A number that bounds all costs.
-pub greatest : (g : Graph) → IsCheap g → (most : ℕ) × ((e : ℕ) → e < length g.edges → unsigned_abs (edge_at g e).cost ≤ most) × (g.n * most ≤ MAX_PRODUCT)
+pub greatest : (g : WeightedGraph) → IsCheap g → (most : ℕ) × ((e : ℕ) → e < length g.edges → unsigned_abs (edge_at g e).cost ≤ most) × (g.n * most ≤ MAX_PRODUCT)
 greatest g cheap = greatest_of (λ e. unsigned_abs (edge_at g e).cost) g.n MAX_PRODUCT (length g.edges) cheap
 
 -- A sum of which only the first terms are not 0.
@@ -69,23 +69,23 @@ range_begun n first f size sets small = record {
     sum_is : dual_sum_of f ≡ total_below f.weight n
     sum_is = ap (total_below f.weight) size ∙ first_terms f.weight n (n / 2) sets
 
-costs_low : (g : Graph) (most low : ℕ) (m : List ℕ) → ((e : ℕ) → e < length g.edges → unsigned_abs (edge_at g e).cost ≤ most) → IsIncreasing low (length g.edges) m → (pos 2 *ℤ matching_cost g m) ≤ℤ total (λ (e : WEdge). pos most +ℤ pos most) (map (edge_at g) m)
+costs_low : (g : WeightedGraph) (most low : ℕ) (m : List ℕ) → ((e : ℕ) → e < length g.edges → unsigned_abs (edge_at g e).cost ≤ most) → IsIncreasing low (length g.edges) m → (pos 2 *ℤ matching_cost g m) ≤ℤ total (λ (e : WEdge). pos most +ℤ pos most) (map (edge_at g) m)
 costs_low g most low [] each increasing = omega (arith, ints)
 costs_low g most low (k ∷ ks) each increasing = omega (arith, ints, each k increasing.1, costs_low g most (k + 1) ks each increasing.2)
 
 -- Twice the cost of a perfect matching is at most as often a bound of the costs as there are vertices, and small.
-pub known_most : (g : Graph) → IsGraph g → (most : ℕ) → ((e : ℕ) → e < length g.edges → unsigned_abs (edge_at g e).cost ≤ most) → (m : List ℕ) → IsPerfect g m → (pos 2 *ℤ matching_cost g m) ≤ℤ pos (g.n * most)
+pub known_most : (g : WeightedGraph) → IsGraph g → (most : ℕ) → ((e : ℕ) → e < length g.edges → unsigned_abs (edge_at g e).cost ≤ most) → (m : List ℕ) → IsPerfect g m → (pos 2 *ℤ matching_cost g m) ≤ℤ pos (g.n * most)
 known_most g is most each m perfect =
     let ends : total (λ (e : WEdge). pos most +ℤ pos most) (map (edge_at g) m) ≡ total_below (λ v. pos most) g.n = ends_once (λ (e : WEdge). e.u) (λ (e : WEdge). e.v) (λ v. pos most) g.n (map (edge_at g) m) (chosen_below g is 0 m perfect.increasing) perfect.once in
     let small : unsigned_abs (total_below (λ v. pos most) g.n) ≤ g.n * most = total_below_small (λ v. pos most) most g.n (λ v l. omega (arith, ints)) in
     omega (arith, ints, ends, small, costs_low g most 0 m each perfect.increasing)
 
-pub known_low : (g : Graph) → IsGraph g → IsCheap g → (m : List ℕ) → IsPerfect g m → (pos 2 *ℤ matching_cost g m) ≤ℤ pos MAX_PRODUCT
+pub known_low : (g : WeightedGraph) → IsGraph g → IsCheap g → (m : List ℕ) → IsPerfect g m → (pos 2 *ℤ matching_cost g m) ≤ℤ pos MAX_PRODUCT
 known_low g is cheap m perfect =
     let w : (most : ℕ) × ((e : ℕ) → e < length g.edges → unsigned_abs (edge_at g e).cost ≤ most) × (g.n * most ≤ MAX_PRODUCT) = greatest g cheap in
     omega (arith, ints, known_most g is w.0 w.1 m perfect, w.2)
 
-change_low : (l : Label) (w : ℤ) (x : ℕ) → unsigned_abs (w +ℤ change l (pos x)) ≤ unsigned_abs w + x
+change_low : (l : Label) (w : ℤ) (x : ℕ) → unsigned_abs (w +ℤ weight_change l (pos x)) ≤ unsigned_abs w + x
 change_low Outer w x = omega (arith, ints)
 change_low Inner w x = omega (arith, ints)
 change_low Outside w x = omega (arith, ints)
@@ -102,14 +102,14 @@ set_key_high Outside w risen h = h
 set_key_high Inner w risen h = omega (arith, h)
 
 -- Nothing happens before what has happened.
-pub key_high : (g : Graph) (f : Forest) (risen k : ℕ) → risen ≤ no_key → risen ≤ true_key g f risen k
+pub key_high : (g : WeightedGraph) (f : Forest) (risen k : ℕ) → risen ≤ no_key → risen ≤ true_key g f risen k
 key_high g f risen k few = by_leaf (cases_lt k (length g.edges))
   where
     by_leaf : (k < length g.edges) ⊎ (length g.edges ≤ k) → risen ≤ true_key g f risen k
     by_leaf (inl le) = subst (λ x. risen ≤ x) (sym (at_edge g f risen k le)) (edge_key_high (f.label (f.out (edge_at g k).u)) (f.label (f.out (edge_at g k).v)) (eqb (f.out (edge_at g k).u) (f.out (edge_at g k).v)) (unsigned_abs (slack_of g f k)) risen few)
     by_leaf (inr he) = subst (λ x. risen ≤ x) (sym (at_set g f risen k he)) (set_key_high (f.label (set_of g k)) (f.weight (set_of g k)) risen few)
 
-module _ (g : Graph) (is : IsGraph g) (cheap : IsCheap g) (m : List ℕ) (perfect : IsPerfect g m) (n first : ℕ) (limit : n * first ≤ first_limit) (low : first ≤ first_limit) (f : Forest) (risen : ℕ) (range : IsInRange n first f risen) where
+module _ (g : WeightedGraph) (is : IsGraph g) (cheap : IsCheap g) (m : List ℕ) (perfect : IsPerfect g m) (n first : ℕ) (limit : n * first ≤ first_limit) (low : first ≤ first_limit) (f : Forest) (risen : ℕ) (range : IsInRange n first f risen) where
   -- How far the sum has risen.
   pub risen_low : (root : Option ℕ) → IsValid (darts_of g) f root → risen ≤ risen_limit
   risen_low root valid =

@@ -4,13 +4,13 @@ use Rattle.std.specs.Int.RustNames.{unsigned_abs}
 use Rattle.std.specs.Prelude.{int_lt}
 use Rattle.std.proofs.lemmas.Int.{ints}
 use Rattle.std.proofs.lemmas.Bool.{cases_eq, cases_lt, cases_Bool, cond-false}
-use Rattle.def_matching.specs.Matching.{Graph, IsGraph, edge_at}
+use Rattle.def_matching.specs.Matching.{WeightedGraph, IsGraph, edge_at}
 use Rattle.def_forest.specs.Darts.{darts_of}
 use Rattle.def_forest.specs.Forests.{Forest, dual_sum_of}
 use Rattle.def_forest.specs.Opened.{Opening, IsOpening, IsOpened}
 use Rattle.def_forest.specs.Shrunk.{IsShrinking}
 use Rattle.def_forest.specs.Steps.{rooted, IsAugmented}
-use Rattle.def_forest.specs.Tables.{kind_by, kind_of, slack_of}
+use Rattle.def_forest.specs.Tables.{kind_by, edge_kind, slack_of}
 use Rattle.def_forest.specs.Valid.{IsOuter, IsValid}
 use Rattle.def_forest.specs.declared.kinds.EdgeKind.{EdgeKind}
 use Rattle.def_forest.specs.declared.kinds.EdgeKind.TheVariants.{Loose, Augment, Grow, Shrink}
@@ -46,7 +46,7 @@ pub seeking_begun : (n : ℕ) (f : Forest) (v : ℕ) → v < n → AreMatchedBef
 seeking_begun n f v l before = record { vertex = l; root_is = refl; before = λ u lu none. absurd (before u lu none) }
 
 -- A cycle becomes one blossom.
-pub seeking_shrunk : (g : Graph) → IsGraph g → (f new : Forest) (root after : Option ℕ) (d v : ℕ) → IsValid (darts_of g) f root → IsShrinking (darts_of g) f new root after d → IsSeeking g.n f root v → IsSeeking g.n new after v
+pub seeking_shrunk : (g : WeightedGraph) → IsGraph g → (f new : Forest) (root after : Option ℕ) (d v : ℕ) → IsValid (darts_of g) f root → IsShrinking (darts_of g) f new root after d → IsSeeking g.n f root v → IsSeeking g.n new after v
 seeking_shrunk g is f new root after d v valid s seeking = record {
   vertex = seeking.vertex;
   root_is = s.root_is ∙ (ap (λ x. Some (cond (s.inside x) s.set x)) r_is ∙ ap Some (sym (s.shrunk.out v seeking.vertex)));
@@ -80,7 +80,7 @@ seeking_shrunk g is f new root after d v valid s seeking = record {
         here ∙ (same ∙ sym (shrunk_off g is f new root after d valid s v seeking.vertex (ap s.inside (sym same) ∙ off)))
 
 -- An inner set is opened: all its parts are matched.
-pub seeking_opened : (g : Graph) → IsGraph g → (f new : Forest) (o : Opening) (v : ℕ) → IsValid (darts_of g) f (Some (f.out v)) → IsOpening (darts_of g) f o → IsOpened (darts_of g) f new o → IsSeeking g.n f (Some (f.out v)) v → IsSeeking g.n new (Some (f.out v)) v
+pub seeking_opened : (g : WeightedGraph) → IsGraph g → (f new : Forest) (o : Opening) (v : ℕ) → IsValid (darts_of g) f (Some (f.out v)) → IsOpening (darts_of g) f o → IsOpened (darts_of g) f new o → IsSeeking g.n f (Some (f.out v)) v → IsSeeking g.n new (Some (f.out v)) v
 seeking_opened g is f new o v valid opening opened seeking = record {
   vertex = seeking.vertex;
   root_is = ap Some (sym (old v seeking.vertex v_off));
@@ -118,7 +118,7 @@ seeking_opened g is f new o v valid opening opened seeking = record {
         here ∙ (same ∙ sym (old v seeking.vertex v_off))
 
 -- The matching grows.
-pub matched_more : (n : ℕ) (g : Graph) (f new : Forest) (r d v : ℕ) → IsAugmented (darts_of g) f new r d → IsSeeking n f (Some r) v → AreMatchedBefore new (v + 1)
+pub matched_more : (n : ℕ) (g : WeightedGraph) (f new : Forest) (r d v : ℕ) → IsAugmented (darts_of g) f new r d → IsSeeking n f (Some r) v → AreMatchedBefore new (v + 1)
 matched_more n g f new r d v is seeking u l none = by_place (cases_lt u v)
   where
     out_is : (x : ℕ) → new.out x ≡ f.out x
@@ -153,7 +153,7 @@ not_loose : (x : ℤ) → x ≡ pos 0 → int_lt (pos 0) x ≡ false
 not_loose x e = subst (λ y. int_lt (pos 0) y ≡ false) (sym e) refl
 
 -- An edge whose key has come allows a step.
-pub edge_step : (g : Graph) → IsGraph g → (f : Forest) (root : Option ℕ) (risen e : ℕ) → IsValid (darts_of g) f root → e < length g.edges → true_key g f risen e ≡ risen → risen < no_key → IsStep (kind_of g f e)
+pub edge_step : (g : WeightedGraph) → IsGraph g → (f : Forest) (root : Option ℕ) (risen e : ℕ) → IsValid (darts_of g) f root → e < length g.edges → true_key g f risen e ≡ risen → risen < no_key → IsStep (edge_kind g f e)
 edge_step g is f root risen e valid low key few = by_key (key_step (f.label (f.out (edge_at g e).u)) (f.label (f.out (edge_at g e).v)) (f.mate (f.out (edge_at g e).u)) (f.mate (f.out (edge_at g e).v)) (eqb (f.out (edge_at g e).u) (f.out (edge_at g e).v)) (unsigned_abs (slack_of g f e)) risen (sym (at_edge g f risen e low) ∙ key) few)
   where
     by_labels : EdgeKind
@@ -162,16 +162,16 @@ edge_step g is f root risen e valid low key few = by_key (key_step (f.label (f.o
     high : pos 0 ≤ℤ slack_of g f e
     high = slack_high g f e valid.feasible low
 
-    tight : slack_of g f e ≡ pos 0 → IsStep (kind_by (f.label (f.out (edge_at g e).u)) (f.label (f.out (edge_at g e).v)) (f.mate (f.out (edge_at g e).u)) (f.mate (f.out (edge_at g e).v)) (eqb (f.out (edge_at g e).u) (f.out (edge_at g e).v))) → IsStep (kind_of g f e)
+    tight : slack_of g f e ≡ pos 0 → IsStep (kind_by (f.label (f.out (edge_at g e).u)) (f.label (f.out (edge_at g e).v)) (f.mate (f.out (edge_at g e).u)) (f.mate (f.out (edge_at g e).v)) (eqb (f.out (edge_at g e).u) (f.out (edge_at g e).v))) → IsStep (edge_kind g f e)
     tight z step = subst IsStep (sym (cond-false (int_lt (pos 0) (slack_of g f e)) Loose (kind_by (f.label (f.out (edge_at g e).u)) (f.label (f.out (edge_at g e).v)) (f.mate (f.out (edge_at g e).u)) (f.mate (f.out (edge_at g e).v)) (eqb (f.out (edge_at g e).u) (f.out (edge_at g e).v))) (not_loose (slack_of g f e) z))) step
 
     by_half : (half : ℤ) × (slack_of g f e ≡ half +ℤ half) → unsigned_abs (slack_of g f e) / 2 ≡ 0 → slack_of g f e ≡ pos 0
     by_half w h = omega (arith, ints, w.1, h, high)
 
-    by_key : IsStep (kind_by (f.label (f.out (edge_at g e).u)) (f.label (f.out (edge_at g e).v)) (f.mate (f.out (edge_at g e).u)) (f.mate (f.out (edge_at g e).v)) (eqb (f.out (edge_at g e).u) (f.out (edge_at g e).v))) × ((unsigned_abs (slack_of g f e) ≡ 0) ⊎ ((unsigned_abs (slack_of g f e) / 2 ≡ 0) × (f.label (f.out (edge_at g e).u) ≡ Outer) × (f.label (f.out (edge_at g e).v) ≡ Outer))) → IsStep (kind_of g f e)
+    by_key : IsStep (kind_by (f.label (f.out (edge_at g e).u)) (f.label (f.out (edge_at g e).v)) (f.mate (f.out (edge_at g e).u)) (f.mate (f.out (edge_at g e).v)) (eqb (f.out (edge_at g e).u) (f.out (edge_at g e).v))) × ((unsigned_abs (slack_of g f e) ≡ 0) ⊎ ((unsigned_abs (slack_of g f e) / 2 ≡ 0) × (f.label (f.out (edge_at g e).u) ≡ Outer) × (f.label (f.out (edge_at g e).v) ≡ Outer))) → IsStep (edge_kind g f e)
     by_key p = by_slack p.1
       where
-        by_slack : (unsigned_abs (slack_of g f e) ≡ 0) ⊎ ((unsigned_abs (slack_of g f e) / 2 ≡ 0) × (f.label (f.out (edge_at g e).u) ≡ Outer) × (f.label (f.out (edge_at g e).v) ≡ Outer)) → IsStep (kind_of g f e)
+        by_slack : (unsigned_abs (slack_of g f e) ≡ 0) ⊎ ((unsigned_abs (slack_of g f e) / 2 ≡ 0) × (f.label (f.out (edge_at g e).u) ≡ Outer) × (f.label (f.out (edge_at g e).v) ≡ Outer)) → IsStep (edge_kind g f e)
         by_slack (inl z) = tight (omega (arith, ints, z, high)) p.0
         by_slack (inr w) = tight (by_half (slack_even g f root e is valid low w.1 w.2) w.0) p.0
 
@@ -180,5 +180,5 @@ set_step_by Inner w risen e l = (refl, omega (arith, ints, e, l))
 set_step_by _ w risen e l = absurd (omega (arith, e, l))
 
 -- A set whose key has come may be opened.
-pub set_step : (g : Graph) (f : Forest) (risen k : ℕ) → length g.edges ≤ k → true_key g f risen k ≡ risen → risen < no_key → (f.label (set_of g k) ≡ Inner) × (f.weight (set_of g k) ≡ pos 0)
+pub set_step : (g : WeightedGraph) (f : Forest) (risen k : ℕ) → length g.edges ≤ k → true_key g f risen k ≡ risen → risen < no_key → (f.label (set_of g k) ≡ Inner) × (f.weight (set_of g k) ≡ pos 0)
 set_step g f risen k h key few = set_step_by (f.label (set_of g k)) (f.weight (set_of g k)) risen (sym (at_set g f risen k h) ∙ key) few

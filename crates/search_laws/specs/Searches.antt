@@ -2,7 +2,7 @@
 use Rattle.std.specs.Prelude.{◌≡◌, ◌≢◌, ℕ, ◌+◌, ◌*◌, ◌/◌, ◌<◌, ◌≤◌, Bool, true, false, List, length, slice_index_or}
 use Rattle.std.specs.Prelude.{Option, Some, None, ℤ, pos, ◌+ℤ◌, ◌-ℤ◌, ◌≤ℤ◌, unsigned_abs}
 use Rattle.def_math.specs.Counts.{count_below}
-use Rattle.def_matching.specs.Matching.{Graph, Vertex}
+use Rattle.def_matching.specs.Matching.{WeightedGraph, Vertex}
 use Rattle.def_matching.specs.declared.limits.TheConstants.{MAX_PRODUCT}
 use Rattle.def_forest.specs.Forests.{Blossom, Forest, dual_sum_of, sets_of}
 use Rattle.def_forest.specs.declared.kinds.Label.{Label}
@@ -53,5 +53,5 @@ abbrev pub steps_left : (n : ℕ) (f : Forest) → ℕ
 steps_left n f = vertices_left n f * (f.size + 1) + sets_of n f
 
 -- At most so many turns are left: each is a step, or mends the key of a leaf.
-abbrev pub turns_left : (g : Graph) (f : Forest) (risen : ℕ) (keys : List ℕ) → ℕ
+abbrev pub turns_left : (g : WeightedGraph) (f : Forest) (risen : ℕ) (keys : List ℕ) → ℕ
 turns_left g f risen keys = steps_left g.n f * (length keys + 1) + count_below (is_stale g f risen keys) (length keys)

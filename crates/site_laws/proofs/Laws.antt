@@ -8,10 +8,10 @@ use Rattle.def_mesh.specs.Components.{start_darts}
 use Rattle.def_mesh.specs.HalfEdges.{HalfEdges, IsQuadManifold, half_edges}
 use Rattle.def_cut.specs.Cuts.{GoesOn, Links, IsCorner, IsCut}
 use Rattle.def_cut.specs.FullCut.{is_on}
-use Rattle.def_cut.specs.Motion.{ridden, is_among, start, after}
+use Rattle.def_cut.specs.Motion.{ridden, is_among, start, after_steps}
 use Rattle.def_cut.specs.Traced.{terrain_of, last_state, is_traced, traced_marks}
 use Rattle.def_cut.specs.Events.{rides_in}
-use Rattle.def_cut.specs.MotionLaws.{IsKnown, StateLaw, GraphLaw, OrderLaw}
+use Rattle.def_cut.specs.MotionLaws.{IsKnown, StateLaw, TracedGraphLaw, OrderLaw}
 use Rattle.cut_laws.proofs.Classes.{links_low}
 use Rattle.face_laws.proofs.FullCuts.{full_cut_law}
 use Rattle.mesh_laws.proofs.HalfEdges.{manifold_law}
@@ -26,15 +26,15 @@ use Rattle.std.proofs.lemmas.Bool.{not-true}
 
 pub state_law : StateLaw
 state_law faces m n = record {
-  differ = λ i j less l e. let same : i ≡ j = places_apart (ridden (after (terrain_of faces) (start_darts faces) n).riders) r.apart i j (omega arith) l e in absurd (omega arith);
-  left = λ i l. r.left (get_or (ridden (after (terrain_of faces) (start_darts faces) n).riders) i 0) (among_at (ridden (after (terrain_of faces) (start_darts faces) n).riders) i l);
+  differ = λ i j less l e. let same : i ≡ j = places_apart (ridden (after_steps (terrain_of faces) (start_darts faces) n).riders) r.apart i j (omega arith) l e in absurd (omega arith);
+  left = λ i l. r.left (get_or (ridden (after_steps (terrain_of faces) (start_darts faces) n).riders) i 0) (among_at (ridden (after_steps (terrain_of faces) (start_darts faces) n).riders) i l);
   known = λ d l c. let e = r.ends d l c in (by_known (from_of faces d) e.0, by_known (Rattle.def_mesh.specs.Darts.to_of faces d) e.1);
 }
   where
-    r : IsReached (terrain_of faces) (start_darts faces) (after (terrain_of faces) (start_darts faces) n)
+    r : IsReached (terrain_of faces) (start_darts faces) (after_steps (terrain_of faces) (start_darts faces) n)
     r = after_reached (terrain_of faces) (terrain faces m) (start_darts faces) (started faces m) n
 
-    by_known : (v : ℕ) → Rattle.motion_laws.proofs.Terrains.IsKnown (terrain_of faces) (after (terrain_of faces) (start_darts faces) n) v → IsKnown faces (after (terrain_of faces) (start_darts faces) n) v
+    by_known : (v : ℕ) → Rattle.motion_laws.proofs.Terrains.IsKnown (terrain_of faces) (after_steps (terrain_of faces) (start_darts faces) n) v → IsKnown faces (after_steps (terrain_of faces) (start_darts faces) n) v
     by_known v (inl y) = inl y
     by_known v (inr b) = inr (not-true _ b)
 
@@ -64,7 +64,7 @@ module _ (mesh : HalfEdges) (laws : IsQuadManifold mesh) (cut other : ℕ → Bo
       by_corner : (d : ℕ) → d < mesh.count → (e : ℕ) × (n : ℕ) × Links mesh cut d e n × IsCorner mesh cut e → (e : ℕ) × (n : ℕ) × Links mesh other d e n × IsCorner mesh other e
       by_corner d l (e, n, k, (low, on, before)) = (e, n, same_links d e n l k, (low, same e low ∙ on, same (mesh.prev e) (laws.prev_low e low) ∙ before))
 
-pub graph_law : GraphLaw
+pub graph_law : TracedGraphLaw
 graph_law faces m = (none, (full_cut_law faces (traced_marks faces) m).1 (long, same_cut (half_edges faces) (manifold_law faces m) (is_traced faces) (is_on (traced_marks faces)) same cut))
   where
     begin : IsFirst (terrain_of faces) (λ e. is_among e (start_darts faces)) (start (terrain_of faces) (start_darts faces))

@@ -2,7 +2,7 @@
 
 #![tactic(auto)]
 
-ghost use Rattle.def_cut.specs.MotionLaws.{StateLaw, GraphLaw, OrderLaw};
+ghost use Rattle.def_cut.specs.MotionLaws.{StateLaw, TracedGraphLaw, OrderLaw};
 
 /// The next darts of riders differ and leave vertices where one has stood, and both ends of a covered edge are known.
 pub fn state_law()
@@ -11,7 +11,7 @@ pub fn state_law()
 
 /// The motion ends, and the traced graph is a full cut.
 pub fn graph_law()
-    ensures { GraphLaw }
+    ensures { TracedGraphLaw }
 {}
 
 /// Riders of one instant may be moved in any order.

@@ -3,12 +3,12 @@ use Rattle.std.proofs.Common.{◌≡◌, ◌⊎◌, ℕ, ◌+◌, ◌-◌, ◌<�
 use Rattle.std.specs.Prelude.{◌==◌}
 use Rattle.std.proofs.lemmas.Bool.{cond-false, ne_eqb, false≢true}
 use Rattle.def_mesh.specs.Darts.{from_of, to_of, twin_of, IsTwin}
-use Rattle.def_layout.specs.Layouts.{Way, south, east, north, west, after, Layout, Slot, IsSlot, use_of}
-use Rattle.def_layout.specs.Laid.{IsLaid, IsOther}
+use Rattle.def_layout.specs.Layouts.{Way, south, east, north, west, side_after, Layout, Slot, IsSlot, use_of}
+use Rattle.def_layout.specs.Laid.{IsLaid, IsOtherSlot}
 use Rattle.def_layout.specs.Lengths.{Lengths, wide, high, AreLengths}
-use Rattle.def_layout.specs.Cells.{Dart, IsDart, dart, next, rim_at}
-use Rattle.def_written.specs.Numbers.{number}
-use Rattle.def_written.specs.NewFaces.{column, row, from, to, new_faces}
+use Rattle.def_layout.specs.Cells.{CellDart, IsDart, dart, next, slot_dart}
+use Rattle.def_written.specs.Numbers.{vertex_number}
+use Rattle.def_written.specs.NewFaces.{column, row, dart_start, dart_end, new_faces}
 use Rattle.def_written.specs.Edges.{on_arc, flat, steep}
 use Rattle.mesh_laws.proofs.Twins.{twin_found, twin_is, twin_none}
 use Rattle.written_laws.proofs.Numbers.{number_same}
@@ -20,8 +20,8 @@ use Rattle.written_laws.proofs.Manifold.{edges_once}
 
 module _ (l : Layout) (x : Lengths) (laid : IsLaid l) (len : AreLengths l x) where
   -- The dart over an arc that stands twice.
-  pub across_border : (w v : Slot) (o : ℕ) → IsSlot l w → IsOther l w v → o < x (use_of l w).arc
-      → IsAcross l x laid len (rim_at l x w o) (rim_at l x v (x (use_of l w).arc - 1 - o))
+  pub across_border : (w v : Slot) (o : ℕ) → IsSlot l w → IsOtherSlot l w v → o < x (use_of l w).arc
+      → IsAcross l x laid len (slot_dart l x w o) (slot_dart l x v (x (use_of l w).arc - 1 - o))
   across_border w v o is other less = record {
     is_dart = at_is l x laid.paved len v k other.0 low;
     edge = ap (λ (c : Course). c.edge) there ∙ edges (use_of l w).forward (use_of l v).forward other.1.turned
@@ -35,10 +35,10 @@ module _ (l : Layout) (x : Lengths) (laid : IsLaid l) (len : AreLengths l x) whe
       low : x (use_of l w).arc - 1 - o < x (use_of l v).arc
       low = omega (arith, other_long l x laid len w v other)
 
-      there : course_of l x (rim_at l x v (x (use_of l w).arc - 1 - o)) ≡ use_course l x (use_of l v) (x (use_of l w).arc - 1 - o)
+      there : course_of l x (slot_dart l x v (x (use_of l w).arc - 1 - o)) ≡ use_course l x (use_of l v) (x (use_of l w).arc - 1 - o)
       there = at_course l x laid len v (x (use_of l w).arc - 1 - o) other.0 low
 
-      here : course_of l x (rim_at l x w o) ≡ use_course l x (use_of l w) o
+      here : course_of l x (slot_dart l x w o) ≡ use_course l x (use_of l w) o
       here = at_course l x laid len w o is less
 
       edges : (f g : Bool) → g ≡ not f
@@ -51,12 +51,12 @@ module _ (l : Layout) (x : Lengths) (laid : IsLaid l) (len : AreLengths l x) whe
           λ t. on_arc (other.1.arc t) (cond (e t) (x (use_of l w).arc - 1 - o) (x (other.1.arc t) - 1 - (x (use_of l w).arc - 1 - o)))
 
   -- The dart over an edge inside a patch leaves the grid point where the other one ends.
-  pub across_within : (d : Dart) → IsWithin l x d → (e : Dart) × IsAcross l x laid len d e
-      × (e.patch ≡ d.patch) × (column e.i e.way ≡ column d.i (after d.way)) × (row e.j e.way ≡ row d.j (after d.way))
+  pub across_within : (d : CellDart) → IsWithin l x d → (e : CellDart) × IsAcross l x laid len d e
+      × (e.patch ≡ d.patch) × (column e.i e.way ≡ column d.i (side_after d.way)) × (row e.j e.way ≡ row d.j (side_after d.way))
   across_within d i = by_way d.patch d.i d.j d.way i
     where
-      by_way : (p i j : ℕ) (w : Way) → IsWithin l x (dart p i j w) → (e : Dart) × IsAcross l x laid len (dart p i j w) e
-          × (e.patch ≡ p) × (column e.i e.way ≡ column i (after w)) × (row e.j e.way ≡ row j (after w))
+      by_way : (p i j : ℕ) (w : Way) → IsWithin l x (dart p i j w) → (e : CellDart) × IsAcross l x laid len (dart p i j w) e
+          × (e.patch ≡ p) × (column e.i e.way ≡ column i (side_after w)) × (row e.j e.way ≡ row j (side_after w))
       by_way p i j south h =
           let c : course_of l x (dart p i (j - 1) north) ≡ inner_course p i (j - 1) north =
           cond-false (j - 1 + 1 == high l x p) _ _ (ne_eqb (j - 1 + 1) (high l x p) (λ e. omega (arith, h.is_edge.2, h.is_edge.3))) in
@@ -113,18 +113,18 @@ module _ (l : Layout) (x : Lengths) (laid : IsLaid l) (len : AreLengths l x) whe
           )
 
   -- A dart on an arc that no slot uses the other way round.
-  pub record IsAlone (d : Dart) (w : Slot) (o : ℕ) : Type 0 where
+  pub record IsAlone (d : CellDart) (w : Slot) (o : ℕ) : Type 0 where
     pub on_border : IsOnBorder l x d w o
-    pub alone : (v : Slot) → ¬ IsOther l w v
+    pub alone : (v : Slot) → ¬ IsOtherSlot l w v
 
-  pub across_or_alone : (d : Dart) → IsDart l x d
-      → ((e : Dart) × IsAcross l x laid len d e) ⊎ ((w : Slot) × (o : ℕ) × IsAlone d w o)
+  pub across_or_alone : (d : CellDart) → IsDart l x d
+      → ((e : CellDart) × IsAcross l x laid len d e) ⊎ ((w : Slot) × (o : ℕ) × IsAlone d w o)
   across_or_alone d is = elim (sees l x laid len d is) [
     | inl i ↦ inl ((across_within d i).0, (across_within d i).1)
     | inr b ↦ elim (laid.other b.0 b.2.is_slot) [
       | inl v ↦ inl (
-        rim_at l x v.0 (x (use_of l b.0).arc - 1 - b.1),
-        subst (λ (e : Dart). IsAcross l x laid len e (rim_at l x v.0 (x (use_of l b.0).arc - 1 - b.1))) (sym b.2.dart)
+        slot_dart l x v.0 (x (use_of l b.0).arc - 1 - b.1),
+        subst (λ (e : CellDart). IsAcross l x laid len e (slot_dart l x v.0 (x (use_of l b.0).arc - 1 - b.1))) (sym b.2.dart)
             (across_border b.0 v.0 b.1 b.2.is_slot v.1 b.2.low),
       )
       | inr none ↦ inr (b.0, b.1, record { on_border = b.2; alone = none })
@@ -132,7 +132,7 @@ module _ (l : Layout) (x : Lengths) (laid : IsLaid l) (len : AreLengths l x) whe
   ]
 
   -- No dart runs the other way along such an arc.
-  pub alone_not_across : (d e : Dart) (w : Slot) (o : ℕ) → IsAlone d w o → ¬ IsAcross l x laid len d e
+  pub alone_not_across : (d e : CellDart) (w : Slot) (o : ℕ) → IsAlone d w o → ¬ IsAcross l x laid len d e
   alone_not_across d e w o alone across = by_sight (sees l x laid len e across.is_dart)
     where
       here : course_of l x d ≡ use_course l x (use_of l w) o
@@ -160,7 +160,7 @@ module _ (l : Layout) (x : Lengths) (laid : IsLaid l) (len : AreLengths l x) whe
       by_sight (inr b) = by_slot b.0 b.1 b.2
 
   -- A dart across begins where the other one ends.
-  pub across_ends : (d e : Dart) → IsDart l x d → IsAcross l x laid len d e → (from l x e ≡ to l x d) × (to l x e ≡ from l x d)
+  pub across_ends : (d e : CellDart) → IsDart l x d → IsAcross l x laid len d e → (dart_start l x e ≡ dart_end l x d) × (dart_end l x e ≡ dart_start l x d)
   across_ends d e is a = (
     course_from l x laid len e a.is_dart ∙ (λ t. start_at l x (course (a.edge t) (a.turned t))) ∙ starts (course_of l x d).ahead ∙ sym (course_to l x laid len d is),
     course_to l x laid len e a.is_dart ∙ (λ t. end_at l x (course (a.edge t) (a.turned t))) ∙ ends (course_of l x d).ahead ∙ sym (course_from l x laid len d is),
@@ -175,32 +175,32 @@ module _ (l : Layout) (x : Lengths) (laid : IsLaid l) (len : AreLengths l x) whe
       ends false = refl
 
   -- The dart across is a twin.
-  pub across_is_twin : (d e : Dart) → IsDart l x d → IsAcross l x laid len d e
+  pub across_is_twin : (d e : CellDart) → IsDart l x d → IsAcross l x laid len d e
       → IsTwin (new_faces l x) (dart_number l x d) (dart_number l x e)
   across_is_twin d e is a = (
     dart_low l x e a.is_dart,
-    number_from l x e a.is_dart ∙ ap (number l x) (across_ends d e is a).0 ∙ sym (number_to l x d is),
-    number_to l x e a.is_dart ∙ ap (number l x) (across_ends d e is a).1 ∙ sym (number_from l x d is),
+    number_from l x e a.is_dart ∙ ap (vertex_number l x) (across_ends d e is a).0 ∙ sym (number_to l x d is),
+    number_to l x e a.is_dart ∙ ap (vertex_number l x) (across_ends d e is a).1 ∙ sym (number_from l x d is),
   )
 
   module _ (simple : IsSimple l x) where
-    pub across_twin : (d e : Dart) → IsDart l x d → IsAcross l x laid len d e
+    pub across_twin : (d e : CellDart) → IsDart l x d → IsAcross l x laid len d e
         → twin_of (new_faces l x) (dart_number l x d) ≡ Some (dart_number l x e)
     across_twin d e is a =
         twin_found (new_faces l x) (edges_once l x laid len simple) (dart_number l x d) (dart_number l x e) (across_is_twin d e is a)
 
-    pub twin_across : (d : Dart) (n : ℕ) → IsDart l x d → twin_of (new_faces l x) (dart_number l x d) ≡ Some n
-        → (e : Dart) × IsAcross l x laid len d e × (dart_number l x e ≡ n)
+    pub twin_across : (d : CellDart) (n : ℕ) → IsDart l x d → twin_of (new_faces l x) (dart_number l x d) ≡ Some n
+        → (e : CellDart) × IsAcross l x laid len d e × (dart_number l x e ≡ n)
     twin_across d n is found = by_twin (twin_is (new_faces l x) (dart_number l x d) n found)
       where
-        by_dart : (e : Dart) → IsDart l x e → dart_number l x e ≡ n → IsTwin (new_faces l x) (dart_number l x d) n
-            → (e : Dart) × IsAcross l x laid len d e × (dart_number l x e ≡ n)
+        by_dart : (e : CellDart) → IsDart l x e → dart_number l x e ≡ n → IsTwin (new_faces l x) (dart_number l x d) n
+            → (e : CellDart) × IsAcross l x laid len d e × (dart_number l x e ≡ n)
         by_dart e is_e e_is t =
-            let starts : from l x e ≡ to l x d =
-            number_same l x (from l x e) (to l x d) (from_is l x laid len e is_e) (from_is l x laid len (next d) (next_is l x d is))
+            let starts : dart_start l x e ≡ dart_end l x d =
+            number_same l x (dart_start l x e) (dart_end l x d) (from_is l x laid len e is_e) (from_is l x laid len (next d) (next_is l x d is))
             (sym (number_from l x e is_e) ∙ ap (from_of (new_faces l x)) e_is ∙ t.1 ∙ number_to l x d is) in
-            let ends : to l x e ≡ from l x d =
-            number_same l x (to l x e) (from l x d) (from_is l x laid len (next e) (next_is l x e is_e)) (from_is l x laid len d is)
+            let ends : dart_end l x e ≡ dart_start l x d =
+            number_same l x (dart_end l x e) (dart_start l x d) (from_is l x laid len (next e) (next_is l x e is_e)) (from_is l x laid len d is)
             (sym (number_to l x e is_e) ∙ ap (to_of (new_faces l x)) e_is ∙ t.2 ∙ number_from l x d is) in
             let r : ((course_of l x e).edge ≡ (course_of l x d).edge) × ((course_of l x e).ahead ≡ not (course_of l x d).ahead) =
             reversed l x simple (course_of l x d) (course_of l x e) (course_is l x laid len d is) (course_is l x laid len e is_e)
@@ -208,16 +208,16 @@ module _ (l : Layout) (x : Lengths) (laid : IsLaid l) (len : AreLengths l x) whe
             (sym (course_to l x laid len e is_e) ∙ ends ∙ course_from l x laid len d is) in
             (e, record { is_dart = is_e; edge = r.0; turned = r.1 }, e_is)
 
-        by_twin : IsTwin (new_faces l x) (dart_number l x d) n → (e : Dart) × IsAcross l x laid len d e × (dart_number l x e ≡ n)
-        by_twin t = let a : (e : Dart) × IsDart l x e × (dart_number l x e ≡ n) = at_number l x laid len n t.0 in by_dart a.0 a.1 a.2 t
+        by_twin : IsTwin (new_faces l x) (dart_number l x d) n → (e : CellDart) × IsAcross l x laid len d e × (dart_number l x e ≡ n)
+        by_twin t = let a : (e : CellDart) × IsDart l x e × (dart_number l x e ≡ n) = at_number l x laid len n t.0 in by_dart a.0 a.1 a.2 t
 
-    pub alone_no_twin : (d : Dart) (w : Slot) (o : ℕ) → IsDart l x d → IsAlone d w o
+    pub alone_no_twin : (d : CellDart) (w : Slot) (o : ℕ) → IsDart l x d → IsAlone d w o
         → twin_of (new_faces l x) (dart_number l x d) ≡ None
     alone_no_twin d w o is alone =
         twin_none (new_faces l x) (dart_number l x d) (λ n t. by_twin n t)
       where
         by_twin : (n : ℕ) → ¬ IsTwin (new_faces l x) (dart_number l x d) n
         by_twin n t =
-            let a : (e : Dart) × IsAcross l x laid len d e × (dart_number l x e ≡ n) =
+            let a : (e : CellDart) × IsAcross l x laid len d e × (dart_number l x e ≡ n) =
             twin_across d n is (twin_found (new_faces l x) (edges_once l x laid len simple) (dart_number l x d) n t) in
             alone_not_across d a.0 w o alone a.1

@@ -10,7 +10,7 @@ use Rattle.def_layout.specs.Laid.{IsLaid}
 use Rattle.def_layout.specs.Lengths.{Lengths, reach, size, wide, high, AreLengths}
 use Rattle.def_layout.specs.Cells.{IsDart, dart}
 use Rattle.def_written.specs.Points.{Point, node, along, inside, IsPoint, arc_point, use_over, offset_at, point}
-use Rattle.def_written.specs.Edges.{on_arc, low, top}
+use Rattle.def_written.specs.Edges.{on_arc, edge_start, edge_end}
 use Rattle.def_written.specs.Places.{Coordinate, on_the_way, arc_place, ONE, arc_parameter, parameter, parameter_back, parameter_u, parameter_v, cell_at, rest_at, blend, inside_place, place_of}
 use Rattle.def_written.specs.Laws.{BetweenLaw}
 use Rattle.written_laws.proofs.Runs.{count_rises}
@@ -192,7 +192,7 @@ module _ (l : Layout) (old new : Lengths) (laid : IsLaid l) (o_len : AreLengths 
         let some : 0 < new a = n_len.some a is.0 in
         let less : k * old a < old a * new a = by_parts (old a) (new a) (o_len.some a is.0) is.2 in
         let i_low : k * old a / new a < old a = (div-lt_iff_lt-mul {k = new a} {x = k * old a} {y = old a} some).1 less in
-        let ends : IsPoint l old (low l old (on_arc a (k * old a / new a))) × IsPoint l old (top l old (on_arc a (k * old a / new a))) =
+        let ends : IsPoint l old (edge_start l old (on_arc a (k * old a / new a))) × IsPoint l old (edge_end l old (on_arc a (k * old a / new a))) =
         edge_points l old laid o_len (on_arc a (k * old a / new a)) (is.0, i_low) in
         let p : (least ≤ℤ at (arc_point l old a (k * old a / new a))) × (at (arc_point l old a (k * old a / new a)) ≤ℤ greatest) =
         bound (arc_point l old a (k * old a / new a)) ends.0 in

@@ -2,12 +2,12 @@
 use Rattle.std.proofs.Common.{◌≡◌, ◌≢◌, ◌⊎◌, ℕ, zero, suc, ◌+◌, ◌-◌, ◌<◌, ◌≤◌, Bool, true, false, not, cond, refl, sym, ◌∙◌, ap, subst, inl, inr, arith}
 use Rattle.std.proofs.lemmas.Bool.{cases_eq}
 use Rattle.def_layout.specs.declared.tmesh.SideArc.{SideArc}
-use Rattle.def_layout.specs.Layouts.{Way, before, Layout, Slot, IsSlot, AreReverse, use_of, slot_before, start_of}
-use Rattle.def_layout.specs.Laid.{IsPaved, IsLaid, IsOther}
+use Rattle.def_layout.specs.Layouts.{Way, side_before, Layout, Slot, IsSlot, AreReverse, use_of, slot_before, start_node}
+use Rattle.def_layout.specs.Laid.{IsPaved, IsLaid, IsOtherSlot}
 use Rattle.def_layout.specs.Lengths.{Lengths, reach, size, AreLengths}
-use Rattle.def_layout.specs.Cells.{Dart, IsDart, rim_at}
+use Rattle.def_layout.specs.Cells.{CellDart, IsDart, slot_dart}
 use Rattle.def_written.specs.Points.{node, along, inside, IsPoint, arc_point, use_point, use_over, offset_at, side_point, point}
-use Rattle.def_written.specs.NewFaces.{from, to}
+use Rattle.def_written.specs.NewFaces.{dart_start, dart_end}
 use Rattle.written_laws.proofs.Sides.{slot, use_begins, use_inner, IsOn, place_on, side_in, side_upto, reach_low}
 use Rattle.written_laws.proofs.Grid.{point_inside}
 use Rattle.written_laws.proofs.Rims.{column_of, row_of, side_column, side_row, border_point, rim_is, rim_from, rim_to, IsInner, IsBorder, dart_on_rim}
@@ -29,7 +29,7 @@ module _ (l : Layout) (x : Lengths) where
   pub use_not_inside : (u : SideArc) (o p i j : ℕ) → o < x u.arc → use_point l x u o ≢ inside p i j
   use_not_inside u o p i j less e = elim (cases_eq o 0) [
     | inl z ↦
-        let b : use_point l x u o ≡ node (start_of l u) = ap (use_point l x u) z ∙ use_begins l x u (omega arith) in
+        let b : use_point l x u o ≡ node (start_node l u) = ap (use_point l x u) z ∙ use_begins l x u (omega arith) in
         absurd cc
     | inr some ↦
         let b : use_point l x u o ≡ along u.arc (cond u.forward o (x u.arc - o)) = use_inner l x u o (omega arith) less in
@@ -42,7 +42,7 @@ module _ (l : Layout) (x : Lengths) where
         → reach l x w.patch w.side w.at + o < size l x w.patch w.side
     at_low w o is less = omega (arith, reach_low l x w is)
 
-    pub at_is : (w : Slot) (o : ℕ) → IsSlot l w → o < x (use_of l w).arc → IsDart l x (rim_at l x w o)
+    pub at_is : (w : Slot) (o : ℕ) → IsSlot l w → o < x (use_of l w).arc → IsDart l x (slot_dart l x w o)
     at_is w o is less = rim_is l x paved len w.patch w.side (reach l x w.patch w.side w.at + o) is.patch_low (at_low w o is less)
 
     -- The slot before another one.
@@ -51,14 +51,14 @@ module _ (l : Layout) (x : Lengths) where
       where
         by_place : (m : ℕ) → m < l.many w.patch w.side → IsSlot l (slot_before l w.patch w.side m)
         by_place zero low =
-            record { patch_low = is.patch_low; low = omega (arith, paved.sides_full w.patch (before w.side) is.patch_low) }
+            record { patch_low = is.patch_low; low = omega (arith, paved.sides_full w.patch (side_before w.side) is.patch_low) }
         by_place (suc m) low = record { patch_low = is.patch_low; low = omega arith }
 
   module _ (laid : IsLaid l) (len : AreLengths l x) where
-    pub start_low : (u : SideArc) → u.arc < l.arcs → start_of l u < l.nodes
+    pub start_low : (u : SideArc) → u.arc < l.arcs → start_node l u < l.nodes
     start_low u low = by_way u.arc u.forward low
       where
-        by_way : (a : ℕ) (b : Bool) → a < l.arcs → start_of l (record { arc = a; forward = b }) < l.nodes
+        by_way : (a : ℕ) (b : Bool) → a < l.arcs → start_node l (record { arc = a; forward = b }) < l.nodes
         by_way a true less = laid.paved.first_low a less
         by_way a false less = laid.paved.last_low a less
 
@@ -75,31 +75,31 @@ module _ (l : Layout) (x : Lengths) where
         by_way a false low some inner = (low, omega arith, omega arith)
 
     pub at_from : (w : Slot) (o : ℕ) → IsSlot l w → o < x (use_of l w).arc
-        → from l x (rim_at l x w o) ≡ use_point l x (use_of l w) o
+        → dart_start l x (slot_dart l x w o) ≡ use_point l x (use_of l w) o
     at_from w o is less =
         rim_from l x laid len w.patch w.side (reach l x w.patch w.side w.at + o) is.patch_low (at_low laid.paved len w o is less)
         ∙ side_in l x w o is less
 
     pub at_to : (w : Slot) (o : ℕ) → IsSlot l w → o < x (use_of l w).arc
-        → to l x (rim_at l x w o) ≡ use_point l x (use_of l w) (o + 1)
+        → dart_end l x (slot_dart l x w o) ≡ use_point l x (use_of l w) (o + 1)
     at_to w o is less =
         rim_to l x laid len w.patch w.side (reach l x w.patch w.side w.at + o) is.patch_low (at_low laid.paved len w o is less)
         ∙ side_upto l x laid len w (o + 1) (reach l x w.patch w.side w.at + o + 1) is (omega arith) (omega arith)
 
     -- Over the border the dart runs the other way round.
-    pub other_long : (w v : Slot) → IsOther l w v → x (use_of l v).arc ≡ x (use_of l w).arc
+    pub other_long : (w v : Slot) → IsOtherSlot l w v → x (use_of l v).arc ≡ x (use_of l w).arc
     other_long w v other = ap x other.1.arc
 
-    pub across_from : (w v : Slot) (o : ℕ) → IsSlot l w → IsOther l w v → o < x (use_of l w).arc
-        → from l x (rim_at l x v (x (use_of l w).arc - 1 - o)) ≡ to l x (rim_at l x w o)
+    pub across_from : (w v : Slot) (o : ℕ) → IsSlot l w → IsOtherSlot l w v → o < x (use_of l w).arc
+        → dart_start l x (slot_dart l x v (x (use_of l w).arc - 1 - o)) ≡ dart_end l x (slot_dart l x w o)
     across_from w v o is other less =
         let e : x (use_of l w).arc - (x (use_of l w).arc - 1 - o) ≡ o + 1 = omega arith in
         at_from v (x (use_of l w).arc - 1 - o) other.0 (omega (arith, other_long w v other))
         ∙ use_back (use_of l w) (use_of l v) other.1 (x (use_of l w).arc - 1 - o) (omega arith)
         ∙ ap (use_point l x (use_of l w)) e ∙ sym (at_to w o is less)
 
-    pub across_to : (w v : Slot) (o : ℕ) → IsSlot l w → IsOther l w v → o < x (use_of l w).arc
-        → to l x (rim_at l x v (x (use_of l w).arc - 1 - o)) ≡ from l x (rim_at l x w o)
+    pub across_to : (w v : Slot) (o : ℕ) → IsSlot l w → IsOtherSlot l w v → o < x (use_of l w).arc
+        → dart_end l x (slot_dart l x v (x (use_of l w).arc - 1 - o)) ≡ dart_start l x (slot_dart l x w o)
     across_to w v o is other less =
         let e : x (use_of l w).arc - (x (use_of l w).arc - 1 - o + 1) ≡ o = omega arith in
         at_to v (x (use_of l w).arc - 1 - o) other.0 (omega (arith, other_long w v other))
@@ -107,16 +107,16 @@ module _ (l : Layout) (x : Lengths) where
         ∙ ap (use_point l x (use_of l w)) e ∙ sym (at_from w o is less)
 
     -- A dart leaves place o of a slot's arc.
-    pub record IsAt (d : Dart) (w : Slot) (o : ℕ) : Type 0 where
+    pub record IsAt (d : CellDart) (w : Slot) (o : ℕ) : Type 0 where
       pub is_slot : IsSlot l w
       pub low : o < x (use_of l w).arc
       pub patch : d.patch ≡ w.patch
       pub column : column_of d ≡ side_column l x w.patch w.side (reach l x w.patch w.side w.at + o)
       pub row : row_of d ≡ side_row l x w.patch w.side (reach l x w.patch w.side w.at + o)
-      pub leaves : from l x d ≡ use_point l x (use_of l w) o
+      pub leaves : dart_start l x d ≡ use_point l x (use_of l w) o
 
     -- Each dart leaves an inner point of its patch, or a place of a slot's arc.
-    pub sort_dart : (d : Dart) → IsDart l x d
+    pub sort_dart : (d : CellDart) → IsDart l x d
         → IsInner l x laid.paved len d.patch (column_of d) (row_of d) ⊎ ((w : Slot) × (o : ℕ) × IsAt d w o)
     sort_dart d is = elim (dart_on_rim l x laid.paved len d is) [ inl i ↦ inl i | inr b ↦ inr (on_border b.0 b.1 b.2) ]
       where
@@ -139,12 +139,12 @@ module _ (l : Layout) (x : Lengths) where
               },
             )
 
-    pub inner_from : (d : Dart) → IsInner l x laid.paved len d.patch (column_of d) (row_of d)
-        → from l x d ≡ inside d.patch (column_of d) (row_of d)
+    pub inner_from : (d : CellDart) → IsInner l x laid.paved len d.patch (column_of d) (row_of d)
+        → dart_start l x d ≡ inside d.patch (column_of d) (row_of d)
     inner_from d i = point_inside l x laid len d.patch (column_of d) (row_of d) i.a_some i.a_low i.b_some i.b_low
 
     -- Darts leave points.
-    pub from_is : (d : Dart) → IsDart l x d → IsPoint l x (from l x d)
+    pub from_is : (d : CellDart) → IsDart l x d → IsPoint l x (dart_start l x d)
     from_is d is = elim (sort_dart d is) [
       | inl i ↦ subst (IsPoint l x) (sym (inner_from d i)) (is.patch_low, i.a_some, i.a_low, i.b_some, i.b_low)
       | inr b ↦ subst (IsPoint l x) (sym b.2.leaves) (use_is_point b.0 b.1 b.2.is_slot b.2.low)

@@ -6,10 +6,10 @@ use Rattle.def_layout.specs.declared.tmesh.SideArc.{SideArc}
 use Rattle.def_layout.specs.Layouts.{Way, south, east, north, west, Layout, Slot, IsSlot, use_of}
 use Rattle.def_layout.specs.Laid.{IsLaid}
 use Rattle.def_layout.specs.Lengths.{Lengths, reach, size, wide, high, AreLengths}
-use Rattle.def_layout.specs.Cells.{Dart, IsDart, dart, rim, rim_at}
+use Rattle.def_layout.specs.Cells.{CellDart, IsDart, dart, dart_along, slot_dart}
 use Rattle.def_written.specs.Points.{Point, arc_point, use_point, use_over, offset_at}
-use Rattle.def_written.specs.NewFaces.{from, to}
-use Rattle.def_written.specs.Edges.{Edge, on_arc, flat, steep, IsEdge, low, top}
+use Rattle.def_written.specs.NewFaces.{dart_start, dart_end}
+use Rattle.def_written.specs.Edges.{Edge, on_arc, flat, steep, IsEdge, edge_start, edge_end}
 use Rattle.written_laws.proofs.Sides.{slot, IsOn, place_on, over_is, size_some}
 use Rattle.written_laws.proofs.Borders.{at_low, at_from, at_to}
 
@@ -35,23 +35,23 @@ inner_course p i j north = course (flat p i (j + 1)) false
 inner_course p i j west = course (steep p i j) false
 
 -- The dart that runs along an edge inside a patch.
-abbrev pub inner_dart_by : (edge : Edge) (ahead : Bool) → Dart
+abbrev pub inner_dart_by : (edge : Edge) (ahead : Bool) → CellDart
 inner_dart_by (on_arc a k) b = dart 0 0 0 south
 inner_dart_by (flat p i j) true = dart p i j south
 inner_dart_by (flat p i j) false = dart p i (j - 1) north
 inner_dart_by (steep p i j) true = dart p (i - 1) j east
 inner_dart_by (steep p i j) false = dart p i j west
 
-abbrev pub inner_dart : (c : Course) → Dart
+abbrev pub inner_dart : (c : Course) → CellDart
 inner_dart c = inner_dart_by c.edge c.ahead
 
 module _ (l : Layout) (x : Lengths) where
   -- Where a course begins and ends.
   abbrev pub start_at : (c : Course) → Point
-  start_at c = cond c.ahead (low l x c.edge) (top l x c.edge)
+  start_at c = cond c.ahead (edge_start l x c.edge) (edge_end l x c.edge)
 
   abbrev pub end_at : (c : Course) → Point
-  end_at c = cond c.ahead (top l x c.edge) (low l x c.edge)
+  end_at c = cond c.ahead (edge_end l x c.edge) (edge_start l x c.edge)
 
   -- The course of an arc in use, o after its beginning.
   abbrev pub use_course : (u : SideArc) (o : ℕ) → Course
@@ -68,31 +68,31 @@ module _ (l : Layout) (x : Lengths) where
   course_by p i j north = cond (j + 1 == high l x p) (border_course p north (wide l x p - 1 - i)) (inner_course p i j north)
   course_by p i j west = cond (i == 0) (border_course p west (high l x p - 1 - j)) (inner_course p i j west)
 
-  abbrev pub course_of : (d : Dart) → Course
+  abbrev pub course_of : (d : CellDart) → Course
   course_of d = course_by d.patch d.i d.j d.way
 
   -- A dart inside a patch.
-  pub record IsWithin (d : Dart) : Type 0 where
+  pub record IsWithin (d : CellDart) : Type 0 where
     pub course : course_of d ≡ inner_course d.patch d.i d.j d.way
     pub is_edge : IsEdge l x (inner_course d.patch d.i d.j d.way).edge
 
   -- A dart on the border of a patch, o after the beginning of a slot's arc.
-  pub record IsOnBorder (d : Dart) (w : Slot) (o : ℕ) : Type 0 where
+  pub record IsOnBorder (d : CellDart) (w : Slot) (o : ℕ) : Type 0 where
     pub is_slot : IsSlot l w
     pub low : o < x (use_of l w).arc
-    pub dart : d ≡ rim_at l x w o
+    pub dart : d ≡ slot_dart l x w o
 
   module _ (laid : IsLaid l) (len : AreLengths l x) where
-    on_border : (d : Dart) (p : ℕ) (s : Way) (t : ℕ) → p < l.patches → t < size l x p s → d ≡ rim l x p s t
+    on_border : (d : CellDart) (p : ℕ) (s : Way) (t : ℕ) → p < l.patches → t < size l x p s → d ≡ dart_along l x p s t
         → (w : Slot) × (o : ℕ) × IsOnBorder d w o
     on_border d p s t p_low less is =
         let on : IsOn l x p s t (use_over l x p s t) (offset_at l x p s t) = place_on l x p s t p_low less in (
           slot p s (use_over l x p s t),
           offset_at l x p s t,
-          record { is_slot = on.is_slot; low = on.inside; dart = is ∙ ap (rim l x p s) on.place },
+          record { is_slot = on.is_slot; low = on.inside; dart = is ∙ ap (dart_along l x p s) on.place },
         )
 
-    pub sees : (d : Dart) → IsDart l x d → IsWithin d ⊎ ((w : Slot) × (o : ℕ) × IsOnBorder d w o)
+    pub sees : (d : CellDart) → IsDart l x d → IsWithin d ⊎ ((w : Slot) × (o : ℕ) × IsOnBorder d w o)
     sees d is = by_way d.patch d.i d.j d.way is
       where
         by_way : (p i j : ℕ) (w : Way) → IsDart l x (dart p i j w) → IsWithin (dart p i j w) ⊎ ((v : Slot) × (o : ℕ) × IsOnBorder (dart p i j w) v o)
@@ -129,7 +129,7 @@ module _ (l : Layout) (x : Lengths) where
           })
         ]
 
-    rim_course : (p : ℕ) (s : Way) (t : ℕ) → p < l.patches → t < size l x p s → course_of (rim l x p s t) ≡ border_course p s t
+    rim_course : (p : ℕ) (s : Way) (t : ℕ) → p < l.patches → t < size l x p s → course_of (dart_along l x p s t) ≡ border_course p s t
     rim_course p south t p_low less = refl
     rim_course p east t p_low less =
         cond-true (wide l x p - 1 + 1 == wide l x p) _ _ (eq-eqb (wide l x p - 1 + 1) (wide l x p) (omega (arith, some)))
@@ -146,14 +146,14 @@ module _ (l : Layout) (x : Lengths) where
     rim_course p west t p_low less =
         let e : high l x p - 1 - (high l x p - 1 - t) ≡ t = omega (arith, less) in ap (border_course p west) e
 
-    pub at_course : (w : Slot) (o : ℕ) → IsSlot l w → o < x (use_of l w).arc → course_of (rim_at l x w o) ≡ use_course (use_of l w) o
+    pub at_course : (w : Slot) (o : ℕ) → IsSlot l w → o < x (use_of l w).arc → course_of (slot_dart l x w o) ≡ use_course (use_of l w) o
     at_course w o is less =
         let e : reach l x w.patch w.side w.at + o - reach l x w.patch w.side w.at ≡ o = omega arith in
         rim_course w.patch w.side (reach l x w.patch w.side w.at + o) is.patch_low (at_low l x laid.paved len w o is less)
         ∙ ap (λ m. use_course (l.use_at w.patch w.side m) (reach l x w.patch w.side w.at + o - reach l x w.patch w.side m)) (over_is l x w o is less)
         ∙ ap (use_course (use_of l w)) e
 
-    pub border_is : (d : Dart) (w : Slot) (o : ℕ) → IsOnBorder d w o → course_of d ≡ use_course (use_of l w) o
+    pub border_is : (d : CellDart) (w : Slot) (o : ℕ) → IsOnBorder d w o → course_of d ≡ use_course (use_of l w) o
     border_is d w o b = ap course_of b.dart ∙ at_course w o b.is_slot b.low
 
     -- The courses of darts are those of edges.
@@ -164,20 +164,20 @@ module _ (l : Layout) (x : Lengths) where
         by_way a true a_low o_low = (a_low, o_low)
         by_way a false a_low o_low = (a_low, omega arith)
 
-    pub course_is : (d : Dart) → IsDart l x d → IsEdge l x (course_of d).edge
+    pub course_is : (d : CellDart) → IsDart l x d → IsEdge l x (course_of d).edge
     course_is d is = elim (sees d is) [
       | inl i ↦ subst (λ (c : Course). IsEdge l x c.edge) (sym i.course) i.is_edge
       | inr b ↦ subst (λ (c : Course). IsEdge l x c.edge) (sym (border_is d b.0 b.1 b.2)) (use_edge b.0 b.1 b.2.is_slot b.2.low)
     ]
 
     -- A dart begins and ends where its course does.
-    inner_from : (p i j : ℕ) (w : Way) → from l x (dart p i j w) ≡ start_at (inner_course p i j w)
+    inner_from : (p i j : ℕ) (w : Way) → dart_start l x (dart p i j w) ≡ start_at (inner_course p i j w)
     inner_from p i j south = refl
     inner_from p i j east = refl
     inner_from p i j north = refl
     inner_from p i j west = refl
 
-    inner_to : (p i j : ℕ) (w : Way) → to l x (dart p i j w) ≡ end_at (inner_course p i j w)
+    inner_to : (p i j : ℕ) (w : Way) → dart_end l x (dart p i j w) ≡ end_at (inner_course p i j w)
     inner_to p i j south = refl
     inner_to p i j east = refl
     inner_to p i j north = refl
@@ -197,17 +197,17 @@ module _ (l : Layout) (x : Lengths) where
         by_way a true o_low = refl
         by_way a false o_low = let e : x a - (o + 1) ≡ x a - 1 - o = omega arith in ap (arc_point l x a) e
 
-    pub course_from : (d : Dart) → IsDart l x d → from l x d ≡ start_at (course_of d)
+    pub course_from : (d : CellDart) → IsDart l x d → dart_start l x d ≡ start_at (course_of d)
     course_from d is = elim (sees d is) [
       | inl i ↦ inner_from d.patch d.i d.j d.way ∙ ap start_at (sym i.course)
-      | inr b ↦ ap (from l x) b.2.dart ∙ at_from l x laid len b.0 b.1 b.2.is_slot b.2.low
+      | inr b ↦ ap (dart_start l x) b.2.dart ∙ at_from l x laid len b.0 b.1 b.2.is_slot b.2.low
           ∙ use_from (use_of l b.0) b.1 b.2.low ∙ ap start_at (sym (border_is d b.0 b.1 b.2))
     ]
 
-    pub course_to : (d : Dart) → IsDart l x d → to l x d ≡ end_at (course_of d)
+    pub course_to : (d : CellDart) → IsDart l x d → dart_end l x d ≡ end_at (course_of d)
     course_to d is = elim (sees d is) [
       | inl i ↦ inner_to d.patch d.i d.j d.way ∙ ap end_at (sym i.course)
-      | inr b ↦ ap (to l x) b.2.dart ∙ at_to l x laid len b.0 b.1 b.2.is_slot b.2.low
+      | inr b ↦ ap (dart_end l x) b.2.dart ∙ at_to l x laid len b.0 b.1 b.2.is_slot b.2.low
           ∙ use_to (use_of l b.0) b.1 b.2.low ∙ ap end_at (sym (border_is d b.0 b.1 b.2))
     ]
 
@@ -226,8 +226,8 @@ module _ (l : Layout) (x : Lengths) where
 
     -- A course on an arc tells the slot and the place.
     pub use_once : (v w : Slot) (o k : ℕ) → IsSlot l v → IsSlot l w → o < x (use_of l v).arc → k < x (use_of l w).arc
-        → use_course (use_of l v) o ≡ use_course (use_of l w) k → rim_at l x v o ≡ rim_at l x w k
-    use_once v w o k is_v is_w o_low k_low same = λ t. rim_at l x (slots t) (places (use_of l v).forward ways place t)
+        → use_course (use_of l v) o ≡ use_course (use_of l w) k → slot_dart l x v o ≡ slot_dart l x w k
+    use_once v w o k is_v is_w o_low k_low same = λ t. slot_dart l x (slots t) (places (use_of l v).forward ways place t)
       where
         edges : on_arc (use_of l v).arc (cond (use_of l v).forward o (x (use_of l v).arc - 1 - o))
             ≡ on_arc (use_of l w).arc (cond (use_of l w).forward k (x (use_of l w).arc - 1 - k))
@@ -253,7 +253,7 @@ module _ (l : Layout) (x : Lengths) where
         places true e at = at
         places false e at = omega (arith, at, ap x arcs)
 
-    pub course_once : (d e : Dart) → IsDart l x d → IsDart l x e → course_of d ≡ course_of e → d ≡ e
+    pub course_once : (d e : CellDart) → IsDart l x d → IsDart l x e → course_of d ≡ course_of e → d ≡ e
     course_once d e is_d is_e same = elim (sees d is_d) [
       | inl i ↦ elim (sees e is_e) [
         | inl j ↦ sym (inner_back d.patch d.i d.j d.way) ∙ ap inner_dart (sym i.course ∙ same ∙ j.course) ∙ inner_back e.patch e.i e.j e.way
@@ -270,7 +270,7 @@ module _ (l : Layout) (x : Lengths) where
     ]
 
     -- Dart e runs the other way along the edge of d.
-    pub record IsAcross (d e : Dart) : Type 0 where
+    pub record IsAcross (d e : CellDart) : Type 0 where
       pub is_dart : IsDart l x e
       pub edge : (course_of e).edge ≡ (course_of d).edge
       pub turned : (course_of e).ahead ≡ not (course_of d).ahead

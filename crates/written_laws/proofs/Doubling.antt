@@ -7,9 +7,9 @@ use Rattle.def_layout.specs.declared.tmesh.SideArc.{SideArc}
 use Rattle.def_layout.specs.Layouts.{Way, south, east, north, west, Layout, IsSlot}
 use Rattle.def_layout.specs.Laid.{IsLaid}
 use Rattle.def_layout.specs.Lengths.{Lengths, reach, size, wide, high, AreLengths}
-use Rattle.def_layout.specs.Cells.{Dart, IsDart, dart}
+use Rattle.def_layout.specs.Cells.{CellDart, IsDart, dart}
 use Rattle.def_written.specs.Points.{Point, node, along, inside, arc_point, use_point, use_over, offset_at, side_point, point}
-use Rattle.def_written.specs.NewFaces.{from, to}
+use Rattle.def_written.specs.NewFaces.{dart_start, dart_end}
 use Rattle.def_written.specs.Edges.{Edge, on_arc, flat, steep}
 use Rattle.sum_laws.proofs.Counts.{count_below_times}
 use Rattle.written_laws.proofs.Sides.{slot, IsOn, arc_last, use_inner, side_in, place_on, first_slot, reach_low}
@@ -122,7 +122,7 @@ module _ (l : Layout) (y : Lengths) where
     z_len = lengths_scale 2 (omega arith) len
 
     -- Two darts of different ways in one cell do not run along one edge from side to side.
-    no_shared_edge : (d e : Dart) → IsDart l y d → IsDart l y e → d ≢ e → from l y e ≢ to l y d
+    no_shared_edge : (d e : CellDart) → IsDart l y d → IsDart l y e → d ≢ e → dart_start l y e ≢ dart_end l y d
         → (course_of l y e).edge ≢ (course_of l y d).edge
     no_shared_edge d e is_d is_e apart ends edges = by_ways (course_of l y d).ahead (course_of l y e).ahead refl refl
       where
@@ -177,7 +177,7 @@ module _ (l : Layout) (y : Lengths) where
             let is : (w : Way) → IsDart l y (dart p 0 (j / 2) w) =
             λ w. record { patch_low = low; i_low = omega (arith, one); j_low = omega (arith, rows) } in
             no_shared_edge (dart p 0 (j / 2) west) (dart p 0 (j / 2) east) (is west) (is east)
-            (λ s. let w : west ≡ east = ap (λ (d : Dart). d.way) s in cc)
+            (λ s. let w : west ≡ east = ap (λ (d : CellDart). d.way) s in cc)
             (λ s. ends_differ l y laid len simple (dart p 0 (j / 2) south) (is south) (sym s))
             (ap (λ (c : Course). c.edge) (cond-true (1 == wide l y p) (border_course l y p east (j / 2)) _ (eq-eqb 1 (wide l y p) (sym one))) ∙ edges)
 
@@ -218,7 +218,7 @@ module _ (l : Layout) (y : Lengths) where
             let is : (w : Way) → IsDart l y (dart p (i / 2) 0 w) =
             λ w. record { patch_low = low; i_low = omega (arith, columns); j_low = omega (arith, one) } in
             no_shared_edge (dart p (i / 2) 0 south) (dart p (i / 2) 0 north) (is south) (is north)
-            (λ s. let w : south ≡ north = ap (λ (d : Dart). d.way) s in cc)
+            (λ s. let w : south ≡ north = ap (λ (d : CellDart). d.way) s in cc)
             (λ s. ends_differ l y laid len simple (dart p (i / 2) 0 east) (is east) (sym s))
             (ap (λ (c : Course). c.edge) (cond-true (1 == high l y p) (border_course l y p north (wide l y p - 1 - i / 2)) _ (eq-eqb 1 (high l y p) (sym one))) ∙ edges)
 

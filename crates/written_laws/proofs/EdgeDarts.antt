@@ -6,23 +6,23 @@ use Rattle.def_layout.specs.declared.tmesh.SideArc.{SideArc}
 use Rattle.def_layout.specs.Layouts.{south, west, Layout, Slot, IsSlot, use_of}
 use Rattle.def_layout.specs.Laid.{IsLaid}
 use Rattle.def_layout.specs.Lengths.{Lengths, AreLengths}
-use Rattle.def_layout.specs.Cells.{Dart, IsDart, dart, next, rim_at}
+use Rattle.def_layout.specs.Cells.{CellDart, IsDart, dart, next, slot_dart}
 use Rattle.def_written.specs.Points.{IsPoint}
-use Rattle.def_written.specs.Edges.{Edge, on_arc, flat, steep, IsEdge, low, top}
+use Rattle.def_written.specs.Edges.{Edge, on_arc, flat, steep, IsEdge, edge_start, edge_end}
 use Rattle.written_laws.proofs.Borders.{at_is, from_is}
 use Rattle.written_laws.proofs.NewDarts.{next_is}
 use Rattle.written_laws.proofs.Courses.{Course, course, start_at, end_at, use_course, course_of, at_course, course_from, course_to}
 
 module _ (l : Layout) (x : Lengths) (laid : IsLaid l) (len : AreLengths l x) where
-  pub edge_dart : (e : Edge) → IsEdge l x e → (d : Dart) × IsDart l x d × ((course_of l x d).edge ≡ e)
+  pub edge_dart : (e : Edge) → IsEdge l x e → (d : CellDart) × IsDart l x d × ((course_of l x d).edge ≡ e)
   edge_dart (on_arc a k) is = by_slot (laid.forward a is.0)
     where
       by_slot : (w : Slot) × IsSlot l w × (use_of l w ≡ record { arc = a; forward = true })
-          → (d : Dart) × IsDart l x d × ((course_of l x d).edge ≡ on_arc a k)
+          → (d : CellDart) × IsDart l x d × ((course_of l x d).edge ≡ on_arc a k)
       by_slot f =
           let long : x (use_of l f.0).arc ≡ x a = ap (λ (u : SideArc). x u.arc) f.2 in
           let less : k < x (use_of l f.0).arc = omega (arith, is.1) in (
-            rim_at l x f.0 k,
+            slot_dart l x f.0 k,
             at_is l x laid.paved len f.0 k f.1 less,
             ap (λ (c : Course). c.edge) (at_course l x laid len f.0 k f.1 less)
                 ∙ ap (λ (u : SideArc). (use_course l x u k).edge) f.2,
@@ -39,14 +39,14 @@ module _ (l : Layout) (x : Lengths) (laid : IsLaid l) (len : AreLengths l x) whe
   )
 
   -- The ends of an edge are points.
-  pub edge_points : (e : Edge) → IsEdge l x e → IsPoint l x (low l x e) × IsPoint l x (top l x e)
+  pub edge_points : (e : Edge) → IsEdge l x e → IsPoint l x (edge_start l x e) × IsPoint l x (edge_end l x e)
   edge_points e is = by_dart (edge_dart e is)
     where
-      by_dart : (d : Dart) × IsDart l x d × ((course_of l x d).edge ≡ e) → IsPoint l x (low l x e) × IsPoint l x (top l x e)
+      by_dart : (d : CellDart) × IsDart l x d × ((course_of l x d).edge ≡ e) → IsPoint l x (edge_start l x e) × IsPoint l x (edge_end l x e)
       by_dart f = by_way (course_of l x f.0).ahead
           (subst (IsPoint l x) (course_from l x laid len f.0 f.1 ∙ ap (λ (g : Edge). start_at l x (course g (course_of l x f.0).ahead)) f.2) (from_is l x laid len f.0 f.1))
           (subst (IsPoint l x) (course_to l x laid len f.0 f.1 ∙ ap (λ (g : Edge). end_at l x (course g (course_of l x f.0).ahead)) f.2) (from_is l x laid len (next f.0) (next_is l x f.0 f.1)))
         where
-          by_way : (b : Bool) → IsPoint l x (start_at l x (course e b)) → IsPoint l x (end_at l x (course e b)) → IsPoint l x (low l x e) × IsPoint l x (top l x e)
+          by_way : (b : Bool) → IsPoint l x (start_at l x (course e b)) → IsPoint l x (end_at l x (course e b)) → IsPoint l x (edge_start l x e) × IsPoint l x (edge_end l x e)
           by_way true s t = (s, t)
           by_way false s t = (t, s)

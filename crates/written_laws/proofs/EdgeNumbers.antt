@@ -8,7 +8,7 @@ use Rattle.def_math.specs.Runs.{run_at}
 use Rattle.def_layout.specs.Layouts.{Layout}
 use Rattle.def_layout.specs.Lengths.{Lengths, wide, high}
 use Rattle.def_written.specs.Points.{Point, node, along, inside, IsPoint}
-use Rattle.def_written.specs.Numbers.{before_arc, number, vertices}
+use Rattle.def_written.specs.Numbers.{before_arc, vertex_number, vertices}
 use Rattle.def_written.specs.Edges.{Edge, on_arc, flat, steep, IsEdge}
 use Rattle.written_laws.proofs.Runs.{run_here, place_low, place_same, IsInRun}
 use Rattle.written_laws.proofs.Numbers.{inner_points}
@@ -144,23 +144,23 @@ module _ (l : Layout) (x : Lengths) where
           (omega (arith, most)) (run_here steeps l.patches (n - (count_below x l.arcs + count_below flats l.patches)) (omega (arith, most, low)))
 
   -- Each number below that of the vertices is that of a point.
-  pub point_onto : (n : ℕ) → n < vertices l x → (a : Point) × IsPoint l x a × (number l x a ≡ n)
+  pub point_onto : (n : ℕ) → n < vertices l x → (a : Point) × IsPoint l x a × (vertex_number l x a ≡ n)
   point_onto n low = elim (cases_lt n l.nodes) [
     | inl less ↦ (node n, less, refl)
     | inr more ↦ elim (cases_lt n (l.nodes + before_arc x l.arcs)) [ inl less ↦ on_arcs more less | inr most ↦ on_patches most ]
   ]
     where
-      by_arc : (m a o : ℕ) → n ≡ l.nodes + m → IsInRun (λ b. x b - 1) l.arcs m a o → (a : Point) × IsPoint l x a × (number l x a ≡ n)
+      by_arc : (m a o : ℕ) → n ≡ l.nodes + m → IsInRun (λ b. x b - 1) l.arcs m a o → (a : Point) × IsPoint l x a × (vertex_number l x a ≡ n)
       by_arc m a o is h = (along a (o + 1), (h.low, omega arith, omega (arith, h.inside)), omega (arith, is, h.place))
 
-      on_arcs : l.nodes ≤ n → n < l.nodes + before_arc x l.arcs → (a : Point) × IsPoint l x a × (number l x a ≡ n)
+      on_arcs : l.nodes ≤ n → n < l.nodes + before_arc x l.arcs → (a : Point) × IsPoint l x a × (vertex_number l x a ≡ n)
       on_arcs more less =
           by_arc (n - l.nodes) (run_at (count_below (λ b. x b - 1)) l.arcs (n - l.nodes))
           (n - l.nodes - count_below (λ b. x b - 1) (run_at (count_below (λ b. x b - 1)) l.arcs (n - l.nodes)))
           (omega (arith, more)) (run_here (λ b. x b - 1) l.arcs (n - l.nodes) (omega (arith, more, less)))
 
       by_patch : (m p o : ℕ) → n ≡ l.nodes + before_arc x l.arcs + m → IsInRun (inner_points l x) l.patches m p o
-          → (a : Point) × IsPoint l x a × (number l x a ≡ n)
+          → (a : Point) × IsPoint l x a × (vertex_number l x a ≡ n)
       by_patch m p o is h =
           let less : o < (high l x p - 1) * (wide l x p - 1) =
           subst (λ k. o < k) (mul_comm (wide l x p - 1) (high l x p - 1)) h.inside in
@@ -173,7 +173,7 @@ module _ (l : Layout) (x : Lengths) where
             omega (arith, is, h.place, r.2, place),
           )
 
-      on_patches : l.nodes + before_arc x l.arcs ≤ n → (a : Point) × IsPoint l x a × (number l x a ≡ n)
+      on_patches : l.nodes + before_arc x l.arcs ≤ n → (a : Point) × IsPoint l x a × (vertex_number l x a ≡ n)
       on_patches most =
           by_patch (n - (l.nodes + before_arc x l.arcs))
           (run_at (count_below (inner_points l x)) l.patches (n - (l.nodes + before_arc x l.arcs)))

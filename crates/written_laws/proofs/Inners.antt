@@ -8,11 +8,11 @@ use Rattle.def_mesh.specs.Darts.{darts, from_of, to_of, twin_of}
 use Rattle.def_mesh.specs.Vertices.{faces_at}
 use Rattle.def_mesh.specs.Kinds.{is_inner}
 use Rattle.def_layout.specs.Layouts.{Layout, Slot, IsSlot, use_of}
-use Rattle.def_layout.specs.Laid.{IsLaid, IsOther}
+use Rattle.def_layout.specs.Laid.{IsLaid, IsOtherSlot}
 use Rattle.def_layout.specs.Lengths.{Lengths, AreLengths}
-use Rattle.def_layout.specs.Cells.{Dart, IsDart, next, rim_at}
+use Rattle.def_layout.specs.Cells.{CellDart, IsDart, next, slot_dart}
 use Rattle.def_written.specs.Points.{Point, use_point}
-use Rattle.def_written.specs.NewFaces.{from, to}
+use Rattle.def_written.specs.NewFaces.{dart_start, dart_end}
 use Rattle.written_laws.proofs.Tallies.{passing, passing_le, passing_all, filter_long}
 use Rattle.face_laws.proofs.Fans.{inner_from, inner_twin}
 use Rattle.written_laws.proofs.Borders.{at_is, at_from, at_to}
@@ -24,84 +24,84 @@ use Rattle.written_laws.proofs.Models.{IsModel}
 -- Each arc at the point is used by two slots.
 abbrev pub AreShared : (l : Layout) (x : Lengths) (a : Point) → Type 0
 AreShared l x a = (w : Slot) (o : ℕ) → IsSlot l w → o < x (use_of l w).arc
-    → (use_point l x (use_of l w) o ≡ a) ⊎ (use_point l x (use_of l w) (o + 1) ≡ a) → (v : Slot) × IsOther l w v
+    → (use_point l x (use_of l w) o ≡ a) ⊎ (use_point l x (use_of l w) (o + 1) ≡ a) → (v : Slot) × IsOtherSlot l w v
 
-module _ (l : Layout) (x : Lengths) (laid : IsLaid l) (len : AreLengths l x) (F : Faces) (cell : Dart → ℕ) (model : IsModel F l x laid len cell) where
+module _ (l : Layout) (x : Lengths) (laid : IsLaid l) (len : AreLengths l x) (F : Faces) (cell : CellDart → ℕ) (model : IsModel F l x laid len cell) where
   -- Vertex v of the model is point a.
   pub record IsVertex (a : Point) (v : ℕ) : Type 0 where
-    pub there : (d : Dart) → IsDart l x d → from l x d ≡ a → from_of F (cell d) ≡ v
-    pub back : (d : Dart) → IsDart l x d → from_of F (cell d) ≡ v → from l x d ≡ a
+    pub there : (d : CellDart) → IsDart l x d → dart_start l x d ≡ a → from_of F (cell d) ≡ v
+    pub back : (d : CellDart) → IsDart l x d → from_of F (cell d) ≡ v → dart_start l x d ≡ a
 
-  pub vertex_from : (d : Dart) (a : Point) (v : ℕ) → IsDart l x d → from l x d ≡ a → from_of F (cell d) ≡ v → IsVertex a v
+  pub vertex_from : (d : CellDart) (a : Point) (v : ℕ) → IsDart l x d → dart_start l x d ≡ a → from_of F (cell d) ≡ v → IsVertex a v
   vertex_from d a v is leaves vertex = record {
     there = λ e is_e s. model.alike e d is_e is (s ∙ sym leaves) ∙ vertex;
     back = λ e is_e s. model.apart e d is_e is (s ∙ sym vertex) ∙ leaves;
   }
 
   module _ (a : Point) (v : ℕ) (is_v : IsVertex a v) where
-    ends_there : (d : Dart) → IsDart l x d → to_of F (cell d) ≡ v → to l x d ≡ a
+    ends_there : (d : CellDart) → IsDart l x d → to_of F (cell d) ≡ v → dart_end l x d ≡ a
     ends_there d is e = is_v.back (next d) (next_is l x d is) (ap (from_of F) (model.turned d is) ∙ e)
 
-    ends_back : (d : Dart) → IsDart l x d → to l x d ≡ a → to_of F (cell d) ≡ v
+    ends_back : (d : CellDart) → IsDart l x d → dart_end l x d ≡ a → to_of F (cell d) ≡ v
     ends_back d is e = ap (from_of F) (sym (model.turned d is)) ∙ is_v.there (next d) (next_is l x d is) e
 
     pub inner_if : AreShared l x a → is_inner F v ≡ true
     inner_if shared = inner_from F v at
       where
-        by_dart : (d : Dart) → IsDart l x d → (from l x d ≡ a) ⊎ (to l x d ≡ a) → (t : ℕ) × (twin_of F (cell d) ≡ Some t)
+        by_dart : (d : CellDart) → IsDart l x d → (dart_start l x d ≡ a) ⊎ (dart_end l x d ≡ a) → (t : ℕ) × (twin_of F (cell d) ≡ Some t)
         by_dart d is ends = by_case (across_or_alone l x laid len d is)
           where
             alone : (w : Slot) (o : ℕ) → IsAlone l x laid len d w o → ⊥
             alone w o s =
-                let other : (u : Slot) × IsOther l w u = shared w o s.on_border.is_slot s.on_border.low (at ends) in s.alone other.0 other.1
+                let other : (u : Slot) × IsOtherSlot l w u = shared w o s.on_border.is_slot s.on_border.low (at ends) in s.alone other.0 other.1
               where
-                at : (from l x d ≡ a) ⊎ (to l x d ≡ a) → (use_point l x (use_of l w) o ≡ a) ⊎ (use_point l x (use_of l w) (o + 1) ≡ a)
-                at (inl e) = inl (sym (at_from l x laid len w o s.on_border.is_slot s.on_border.low) ∙ ap (from l x) (sym s.on_border.dart) ∙ e)
-                at (inr e) = inr (sym (at_to l x laid len w o s.on_border.is_slot s.on_border.low) ∙ ap (to l x) (sym s.on_border.dart) ∙ e)
+                at : (dart_start l x d ≡ a) ⊎ (dart_end l x d ≡ a) → (use_point l x (use_of l w) o ≡ a) ⊎ (use_point l x (use_of l w) (o + 1) ≡ a)
+                at (inl e) = inl (sym (at_from l x laid len w o s.on_border.is_slot s.on_border.low) ∙ ap (dart_start l x) (sym s.on_border.dart) ∙ e)
+                at (inr e) = inr (sym (at_to l x laid len w o s.on_border.is_slot s.on_border.low) ∙ ap (dart_end l x) (sym s.on_border.dart) ∙ e)
 
-            by_case : ((e : Dart) × IsAcross l x laid len d e) ⊎ ((w : Slot) × (o : ℕ) × IsAlone l x laid len d w o)
+            by_case : ((e : CellDart) × IsAcross l x laid len d e) ⊎ ((w : Slot) × (o : ℕ) × IsAlone l x laid len d w o)
                 → (t : ℕ) × (twin_of F (cell d) ≡ Some t)
             by_case (inl e) = (cell e.0, model.across d e.0 is e.1)
             by_case (inr s) = absurd (alone s.0 s.1 s.2)
 
         at : (k : ℕ) → k < darts F → (from_of F k ≡ v) ⊎ (to_of F k ≡ v) → (t : ℕ) × (twin_of F k ≡ Some t)
         at k low ends =
-            let d : (d : Dart) × IsDart l x d × (cell d ≡ k) = model.onto k low in
+            let d : (d : CellDart) × IsDart l x d × (cell d ≡ k) = model.onto k low in
             let t : (t : ℕ) × (twin_of F (cell d.0) ≡ Some t) = by_dart d.0 d.1 (sort d.0 d.1 d.2 ends) in
             (t.0, ap (twin_of F) (sym d.2) ∙ t.1)
           where
-            sort : (d : Dart) → IsDart l x d → cell d ≡ k → (from_of F k ≡ v) ⊎ (to_of F k ≡ v) → (from l x d ≡ a) ⊎ (to l x d ≡ a)
+            sort : (d : CellDart) → IsDart l x d → cell d ≡ k → (from_of F k ≡ v) ⊎ (to_of F k ≡ v) → (dart_start l x d ≡ a) ⊎ (dart_end l x d ≡ a)
             sort d is s (inl e) = inl (is_v.back d is (ap (from_of F) s ∙ e))
             sort d is s (inr e) = inr (ends_there d is (ap (to_of F) s ∙ e))
 
     pub inner_only : is_inner F v ≡ true → AreShared l x a
     inner_only inner w o is less ends = by_other (laid.other w is)
       where
-        is_d : IsDart l x (rim_at l x w o)
+        is_d : IsDart l x (slot_dart l x w o)
         is_d = at_is l x laid.paved len w o is less
 
         at : (use_point l x (use_of l w) o ≡ a) ⊎ (use_point l x (use_of l w) (o + 1) ≡ a)
-            → (from_of F (cell (rim_at l x w o)) ≡ v) ⊎ (to_of F (cell (rim_at l x w o)) ≡ v)
-        at (inl e) = inl (is_v.there (rim_at l x w o) is_d (at_from l x laid len w o is less ∙ e))
-        at (inr e) = inr (ends_back (rim_at l x w o) is_d (at_to l x laid len w o is less ∙ e))
+            → (from_of F (cell (slot_dart l x w o)) ≡ v) ⊎ (to_of F (cell (slot_dart l x w o)) ≡ v)
+        at (inl e) = inl (is_v.there (slot_dart l x w o) is_d (at_from l x laid len w o is less ∙ e))
+        at (inr e) = inr (ends_back (slot_dart l x w o) is_d (at_to l x laid len w o is less ∙ e))
 
-        by_other : ((u : Slot) × IsOther l w u) ⊎ ((u : Slot) → ¬ IsOther l w u) → (u : Slot) × IsOther l w u
+        by_other : ((u : Slot) × IsOtherSlot l w u) ⊎ ((u : Slot) → ¬ IsOtherSlot l w u) → (u : Slot) × IsOtherSlot l w u
         by_other (inl u) = u
         by_other (inr none) =
-            let t : (t : ℕ) × (twin_of F (cell (rim_at l x w o)) ≡ Some t) =
-            inner_twin F v inner (cell (rim_at l x w o)) (model.low (rim_at l x w o) is_d) (at ends) in
-            let s : IsAlone l x laid len (rim_at l x w o) w o =
+            let t : (t : ℕ) × (twin_of F (cell (slot_dart l x w o)) ≡ Some t) =
+            inner_twin F v inner (cell (slot_dart l x w o)) (model.low (slot_dart l x w o) is_d) (at ends) in
+            let s : IsAlone l x laid len (slot_dart l x w o) w o =
             record { on_border = record { is_slot = is; low = less; dart = refl }; alone = none } in
-            absurd (none-some t.0 (sym (model.alone (rim_at l x w o) is_d (λ e. alone_not_across l x laid len (rim_at l x w o) e w o s)) ∙ t.1))
+            absurd (none-some t.0 (sym (model.alone (slot_dart l x w o) is_d (λ e. alone_not_across l x laid len (slot_dart l x w o) e w o s)) ∙ t.1))
 
     -- So many darts leave the vertex, where they are told by numbers.
-    pub fan_most : (n : ℕ) (code : (d : Dart) → IsDart l x d → from l x d ≡ a → (k : ℕ) × (k < n))
-        → ((d e : Dart) (b : IsDart l x d) (c : IsDart l x e) (f : from l x d ≡ a) (g : from l x e ≡ a) → (code d b f).0 ≡ (code e c g).0 → d ≡ e)
+    pub fan_most : (n : ℕ) (code : (d : CellDart) → IsDart l x d → dart_start l x d ≡ a → (k : ℕ) × (k < n))
+        → ((d e : CellDart) (b : IsDart l x d) (c : IsDart l x e) (f : dart_start l x d ≡ a) (g : dart_start l x e ≡ a) → (code d b f).0 ≡ (code e c g).0 → d ≡ e)
         → faces_at F v ≤ n
     fan_most n code once =
         omega (arith, filter_long (λ d. from_of F d == v) (darts F), passing_all n, most)
       where
-        leaves : (k : ℕ) (low : k < darts F) → (from_of F k == v) ≡ true → from l x (model.onto k low).0 ≡ a
+        leaves : (k : ℕ) (low : k < darts F) → (from_of F k == v) ≡ true → dart_start l x (model.onto k low).0 ≡ a
         leaves k low s =
             is_v.back (model.onto k low).0 (model.onto k low).1 (ap (from_of F) (model.onto k low).2 ∙ eqb-true (from_of F k) v s)
 
@@ -112,7 +112,7 @@ module _ (l : Layout) (x : Lengths) (laid : IsLaid l) (len : AreLengths l x) (F 
             ∙ ap cell (once (model.onto k low).0 (model.onto m less).0 (model.onto k low).1 (model.onto m less).1 (leaves k low s) (leaves m less r) same)
             ∙ (model.onto m less).2)
 
-    pub fan_least : (n : ℕ) (at : (k : ℕ) → k < n → (d : Dart) × IsDart l x d × (from l x d ≡ a))
+    pub fan_least : (n : ℕ) (at : (k : ℕ) → k < n → (d : CellDart) × IsDart l x d × (dart_start l x d ≡ a))
         → ((k m : ℕ) (b : k < n) (c : m < n) → (at k b).0 ≡ (at m c).0 → k ≡ m) → n ≤ faces_at F v
     fan_least n at once =
         omega (arith, filter_long (λ d. from_of F d == v) (darts F), passing_all n, least)

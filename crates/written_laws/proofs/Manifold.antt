@@ -4,13 +4,13 @@ use Rattle.std.proofs.lemmas.Bool.{false≢true}
 use Rattle.def_mesh.specs.Faces.{corner}
 use Rattle.def_mesh.specs.Darts.{from_of, to_of}
 use Rattle.def_mesh.specs.Manifold.{IsManifold, IsRepeatFree, HasEdgesOnce}
-use Rattle.def_layout.specs.Layouts.{Way, south, east, north, west, after, before, Layout, Slot, AreReverse, use_of, slot_before}
+use Rattle.def_layout.specs.Layouts.{Way, south, east, north, west, side_after, side_before, Layout, Slot, AreReverse, use_of, slot_before}
 use Rattle.def_layout.specs.Laid.{IsLaid}
 use Rattle.def_layout.specs.Fans.{HasFans}
 use Rattle.def_layout.specs.Lengths.{Lengths, reach, size, AreLengths}
-use Rattle.def_layout.specs.Cells.{Dart, IsDart, next, rim, rim_at}
-use Rattle.def_written.specs.Numbers.{number}
-use Rattle.def_written.specs.NewFaces.{from, to, face_count, dart_of, vertex_of, new_faces}
+use Rattle.def_layout.specs.Cells.{CellDart, IsDart, next, dart_along, slot_dart}
+use Rattle.def_written.specs.Numbers.{vertex_number}
+use Rattle.def_written.specs.NewFaces.{dart_start, dart_end, face_count, dart_of, cell_vertex, new_faces}
 use Rattle.def_written.specs.Edges.{on_arc}
 use Rattle.written_laws.proofs.Sides.{slot, first_is, last_is}
 use Rattle.written_laws.proofs.Rims.{corner_cell, rim_way, rim_patch}
@@ -22,13 +22,13 @@ use Rattle.written_laws.proofs.Courses.{Course, is_arc, inner_course, course_of,
 use Rattle.written_laws.proofs.Simple.{IsSimple, one_course, reversed, ends_apart}
 
 -- Darts that follow each other round a cell inside a patch run along different edges.
-flat_or_steep : (p i j : ℕ) (w : Way) → (inner_course p i j (after w)).edge ≢ (inner_course p i j w).edge
+flat_or_steep : (p i j : ℕ) (w : Way) → (inner_course p i j (side_after w)).edge ≢ (inner_course p i j w).edge
 flat_or_steep p i j south e = cc
 flat_or_steep p i j east e = cc
 flat_or_steep p i j north e = cc
 flat_or_steep p i j west e = cc
 
-pub before_after : (w : Way) → before (after w) ≡ w
+pub before_after : (w : Way) → side_before (side_after w) ≡ w
 before_after south = refl
 before_after east = refl
 before_after north = refl
@@ -36,28 +36,28 @@ before_after west = refl
 
 module _ (l : Layout) (x : Lengths) (laid : IsLaid l) (len : AreLengths l x) where
   -- Two border darts in a row lie on the last arc of a side and the first of the next one.
-  corner_slots : (d : Dart) (w v : Slot) (o k : ℕ) → IsOnBorder l x d w o → IsOnBorder l x (next d) v k
+  corner_slots : (d : CellDart) (w v : Slot) (o k : ℕ) → IsOnBorder l x d w o → IsOnBorder l x (next d) v k
       → (v.at ≡ 0) × (slot_before l v.patch v.side v.at ≡ w)
   corner_slots d w v o k at_w at_v = (v_first, by_paths)
     where
       patches : v.patch ≡ w.patch
-      patches = sym (rim_patch l x laid.paved len v.patch v.side (reach l x v.patch v.side v.at + k)) ∙ ap (λ (e : Dart). e.patch) (sym at_v.dart)
-          ∙ ap (λ (e : Dart). e.patch) at_w.dart ∙ rim_patch l x laid.paved len w.patch w.side (reach l x w.patch w.side w.at + o)
+      patches = sym (rim_patch l x laid.paved len v.patch v.side (reach l x v.patch v.side v.at + k)) ∙ ap (λ (e : CellDart). e.patch) (sym at_v.dart)
+          ∙ ap (λ (e : CellDart). e.patch) at_w.dart ∙ rim_patch l x laid.paved len w.patch w.side (reach l x w.patch w.side w.at + o)
 
-      sides : v.side ≡ after w.side
-      sides = sym (rim_way l x laid.paved len v.patch v.side (reach l x v.patch v.side v.at + k)) ∙ ap (λ (e : Dart). e.way) (sym at_v.dart)
-          ∙ ap (λ (e : Dart). after e.way) at_w.dart ∙ ap after (rim_way l x laid.paved len w.patch w.side (reach l x w.patch w.side w.at + o))
+      sides : v.side ≡ side_after w.side
+      sides = sym (rim_way l x laid.paved len v.patch v.side (reach l x v.patch v.side v.at + k)) ∙ ap (λ (e : CellDart). e.way) (sym at_v.dart)
+          ∙ ap (λ (e : CellDart). side_after e.way) at_w.dart ∙ ap side_after (rim_way l x laid.paved len w.patch w.side (reach l x w.patch w.side w.at + o))
 
-      same_rim : rim_at l x v k ≡ rim l x w.patch (after w.side) (reach l x v.patch v.side v.at + k)
-      same_rim = λ r. rim l x (patches r) (sides r) (reach l x v.patch v.side v.at + k)
+      same_rim : slot_dart l x v k ≡ dart_along l x w.patch (side_after w.side) (reach l x v.patch v.side v.at + k)
+      same_rim = λ r. dart_along l x (patches r) (sides r) (reach l x v.patch v.side v.at + k)
 
-      columns : (rim_at l x w o).i ≡ (rim l x w.patch (after w.side) (reach l x v.patch v.side v.at + k)).i
-      columns = ap (λ (e : Dart). e.i) (sym at_w.dart) ∙ ap (λ (e : Dart). e.i) at_v.dart ∙ ap (λ (e : Dart). e.i) same_rim
+      columns : (slot_dart l x w o).i ≡ (dart_along l x w.patch (side_after w.side) (reach l x v.patch v.side v.at + k)).i
+      columns = ap (λ (e : CellDart). e.i) (sym at_w.dart) ∙ ap (λ (e : CellDart). e.i) at_v.dart ∙ ap (λ (e : CellDart). e.i) same_rim
 
-      rows : (rim_at l x w o).j ≡ (rim l x w.patch (after w.side) (reach l x v.patch v.side v.at + k)).j
-      rows = ap (λ (e : Dart). e.j) (sym at_w.dart) ∙ ap (λ (e : Dart). e.j) at_v.dart ∙ ap (λ (e : Dart). e.j) same_rim
+      rows : (slot_dart l x w o).j ≡ (dart_along l x w.patch (side_after w.side) (reach l x v.patch v.side v.at + k)).j
+      rows = ap (λ (e : CellDart). e.j) (sym at_w.dart) ∙ ap (λ (e : CellDart). e.j) at_v.dart ∙ ap (λ (e : CellDart). e.j) same_rim
 
-      v_less : reach l x v.patch v.side v.at + k < size l x w.patch (after w.side)
+      v_less : reach l x v.patch v.side v.at + k < size l x w.patch (side_after w.side)
       v_less = subst (λ (n : ℕ). reach l x v.patch v.side v.at + k < n) (λ r. size l x (patches r) (sides r)) (at_low l x laid.paved len v k at_v.is_slot at_v.low)
 
       both : (reach l x w.patch w.side w.at + o + 1 ≡ size l x w.patch w.side) × (reach l x v.patch v.side v.at + k ≡ 0)
@@ -76,12 +76,12 @@ module _ (l : Layout) (x : Lengths) (laid : IsLaid l) (len : AreLengths l x) whe
           ∙ (λ r. slot w.patch w.side (sym w_last r))
 
   module _ (simple : IsSimple l x) where
-    pub ends_differ : (d : Dart) → IsDart l x d → from l x d ≢ to l x d
+    pub ends_differ : (d : CellDart) → IsDart l x d → dart_start l x d ≢ dart_end l x d
     ends_differ d is same =
         ends_apart l x simple (course_of l x d) (course_is l x laid len d is)
         (sym (course_from l x laid len d is) ∙ same ∙ course_to l x laid len d is)
 
-    pub opposite_differ : (d : Dart) → IsDart l x d → from l x d ≢ to l x (next d)
+    pub opposite_differ : (d : CellDart) → IsDart l x d → dart_start l x d ≢ dart_end l x (next d)
     opposite_differ d is same = by_sight (sees l x laid len d is) (sees l x laid len (next d) is_next)
       where
         is_next : IsDart l x (next d)
@@ -115,25 +115,25 @@ module _ (l : Layout) (x : Lengths) (laid : IsLaid l) (len : AreLengths l x) whe
             false≢true (sym (inner_no_arc l x laid len d.patch d.i d.j d.way) ∙ ap (λ (g : Course). is_arc g.edge) (sym i.course)
             ∙ ap is_arc (sym turned.0) ∙ ap (λ (g : Course). is_arc g.edge) (border_is l x laid len (next d) b.0 b.1 b.2))
         by_sight (inr a) (inl j) =
-            false≢true (sym (inner_no_arc l x laid len d.patch d.i d.j (after d.way)) ∙ ap (λ (g : Course). is_arc g.edge) (sym j.course)
+            false≢true (sym (inner_no_arc l x laid len d.patch d.i d.j (side_after d.way)) ∙ ap (λ (g : Course). is_arc g.edge) (sym j.course)
             ∙ ap is_arc turned.0 ∙ ap (λ (g : Course). is_arc g.edge) (border_is l x laid len d a.0 a.1 a.2))
         by_sight (inr a) (inr b) = by_corner a.0 b.0 a.1 b.1 a.2 b.2
 
     -- Points apart have numbers apart.
-    numbers_differ : (d e : Dart) → IsDart l x d → IsDart l x e → from l x d ≢ from l x e → number l x (from l x d) ≢ number l x (from l x e)
+    numbers_differ : (d e : CellDart) → IsDart l x d → IsDart l x e → dart_start l x d ≢ dart_start l x e → vertex_number l x (dart_start l x d) ≢ vertex_number l x (dart_start l x e)
     numbers_differ d e is_d is_e apart same =
-        apart (number_same l x (from l x d) (from l x e) (from_is l x laid len d is_d) (from_is l x laid len e is_e) same)
+        apart (number_same l x (dart_start l x d) (dart_start l x e) (from_is l x laid len d is_d) (from_is l x laid len e is_e) same)
 
-    corners_differ : (f : ℕ) → f < face_count l x → (i j : ℕ) → i < j → j < 4 → vertex_of l x f (way_of i) ≢ vertex_of l x f (way_of j)
+    corners_differ : (f : ℕ) → f < face_count l x → (i j : ℕ) → i < j → j < 4 → cell_vertex l x f (way_of i) ≢ cell_vertex l x f (way_of j)
     corners_differ f low = at
       where
         is : (w : Way) → IsDart l x (dart_of l x f w)
         is w = cell_is l x laid len f w low
 
-        side : (w v : Way) → from l x (dart_of l x f w) ≢ from l x (dart_of l x f v) → vertex_of l x f w ≢ vertex_of l x f v
+        side : (w v : Way) → dart_start l x (dart_of l x f w) ≢ dart_start l x (dart_of l x f v) → cell_vertex l x f w ≢ cell_vertex l x f v
         side w v apart = numbers_differ (dart_of l x f w) (dart_of l x f v) (is w) (is v) apart
 
-        at : (i j : ℕ) → i < j → j < 4 → vertex_of l x f (way_of i) ≢ vertex_of l x f (way_of j)
+        at : (i j : ℕ) → i < j → j < 4 → cell_vertex l x f (way_of i) ≢ cell_vertex l x f (way_of j)
         at zero (suc zero) less four = side south east (ends_differ (dart_of l x f south) (is south))
         at zero (suc (suc zero)) less four = side south north (opposite_differ (dart_of l x f south) (is south))
         at zero (suc (suc (suc j))) less four = side south west (λ e. ends_differ (dart_of l x f west) (is west) (sym e))
@@ -154,14 +154,14 @@ module _ (l : Layout) (x : Lengths) (laid : IsLaid l) (len : AreLengths l x) whe
     pub edges_once : HasEdgesOnce (new_faces l x)
     edges_once d e d_low e_low same = by_darts (at_number l x laid len d d_low) (at_number l x laid len e e_low)
       where
-        by_darts : (c : Dart) × IsDart l x c × (dart_number l x c ≡ d) → (c : Dart) × IsDart l x c × (dart_number l x c ≡ e) → d ≡ e
+        by_darts : (c : CellDart) × IsDart l x c × (dart_number l x c ≡ d) → (c : CellDart) × IsDart l x c × (dart_number l x c ≡ e) → d ≡ e
         by_darts a b =
-            let starts : from l x a.0 ≡ from l x b.0 =
-            number_same l x (from l x a.0) (from l x b.0) (from_is l x laid len a.0 a.1) (from_is l x laid len b.0 b.1)
+            let starts : dart_start l x a.0 ≡ dart_start l x b.0 =
+            number_same l x (dart_start l x a.0) (dart_start l x b.0) (from_is l x laid len a.0 a.1) (from_is l x laid len b.0 b.1)
             (sym (number_from l x a.0 a.1) ∙ ap (from_of (new_faces l x)) a.2 ∙ same.0
             ∙ ap (from_of (new_faces l x)) (sym b.2) ∙ number_from l x b.0 b.1) in
-            let ends : to l x a.0 ≡ to l x b.0 =
-            number_same l x (to l x a.0) (to l x b.0)
+            let ends : dart_end l x a.0 ≡ dart_end l x b.0 =
+            number_same l x (dart_end l x a.0) (dart_end l x b.0)
             (from_is l x laid len (next a.0) (next_is l x a.0 a.1)) (from_is l x laid len (next b.0) (next_is l x b.0 b.1))
             (sym (number_to l x a.0 a.1) ∙ ap (to_of (new_faces l x)) a.2 ∙ same.1
             ∙ ap (to_of (new_faces l x)) (sym b.2) ∙ number_to l x b.0 b.1) in

@@ -10,10 +10,10 @@ use Rattle.def_mesh.specs.Components.{is_lesser, edge_count, used_count, euler}
 use Rattle.def_layout.specs.Layouts.{Layout, Slot}
 use Rattle.def_layout.specs.Laid.{IsLaid}
 use Rattle.def_layout.specs.Lengths.{Lengths, wide, high, AreLengths}
-use Rattle.def_layout.specs.Cells.{Dart, IsDart}
+use Rattle.def_layout.specs.Cells.{CellDart, IsDart}
 use Rattle.def_written.specs.Points.{Point, IsPoint}
-use Rattle.def_written.specs.Numbers.{before_patch, number, vertices}
-use Rattle.def_written.specs.NewFaces.{from, cells_before, face_count}
+use Rattle.def_written.specs.Numbers.{before_patch, vertex_number, vertices}
+use Rattle.def_written.specs.NewFaces.{dart_start, cells_before, face_count}
 use Rattle.def_written.specs.Edges.{Edge, IsEdge}
 use Rattle.written_laws.proofs.Tallies.{passing, passing_le, passing_all, filter_long}
 use Rattle.mesh_laws.proofs.Vertices.{all_below}
@@ -35,14 +35,14 @@ count_sums f g h k (suc n) same = omega (arith, count_sums f g h k n (λ p l. sa
 
 module _ (l : Layout) (x : Lengths) (laid : IsLaid l) (len : AreLengths l x) where
   -- The dart across is across the other way round.
-  across_back : (d e : Dart) → IsDart l x d → IsAcross l x laid len d e → IsAcross l x laid len e d
+  across_back : (d e : CellDart) → IsDart l x d → IsAcross l x laid len d e → IsAcross l x laid len e d
   across_back d e is a = record { is_dart = is; edge = sym a.edge; turned = by_way (course_of l x d).ahead (course_of l x e).ahead a.turned }
     where
       by_way : (b c : Bool) → c ≡ not b → b ≡ not c
       by_way true c s = ap not (sym s)
       by_way false c s = ap not (sym s)
 
-  no_self : (d : Dart) → ¬ IsAcross l x laid len d d
+  no_self : (d : CellDart) → ¬ IsAcross l x laid len d d
   no_self d a = by_way (course_of l x d).ahead a.turned
     where
       by_way : (b : Bool) → b ≢ not b
@@ -69,18 +69,18 @@ module _ (l : Layout) (x : Lengths) (laid : IsLaid l) (len : AreLengths l x) whe
           rw (a, b) (omega arith)
       rectangle _ _ w_some h_some = absurd (omega arith)
 
-  module _ (F : Faces) (cell : Dart → ℕ) (model : IsModel F l x laid len cell) where
-    vertex_dart : (v : ℕ) → is_used F v ≡ true → (d : Dart) × IsDart l x d × (from_of F (cell d) ≡ v)
+  module _ (F : Faces) (cell : CellDart → ℕ) (model : IsModel F l x laid len cell) where
+    vertex_dart : (v : ℕ) → is_used F v ≡ true → (d : CellDart) × IsDart l x d × (from_of F (cell d) ≡ v)
     vertex_dart v used =
         let k : (d : ℕ) × (d < darts F) × (from_of F d ≡ v) = used_dart F v model.quads used in
-        let d : (d : Dart) × IsDart l x d × (cell d ≡ k.0) = model.onto k.0 k.1 in
+        let d : (d : CellDart) × IsDart l x d × (cell d ≡ k.0) = model.onto k.0 k.1 in
         (d.0, d.1, ap (from_of F) d.2 ∙ k.2)
 
-    number_dart : (n : ℕ) → n < vertices l x → (d : Dart) × IsDart l x d × (number l x (from l x d) ≡ n)
+    number_dart : (n : ℕ) → n < vertices l x → (d : CellDart) × IsDart l x d × (vertex_number l x (dart_start l x d) ≡ n)
     number_dart n low =
-        let a : (a : Point) × IsPoint l x a × (number l x a ≡ n) = point_onto l x n low in
-        let d : (d : Dart) × IsDart l x d × (from l x d ≡ a.0) = point_dart l x laid len a.0 a.1 in
-        (d.0, d.1, ap (number l x) d.2 ∙ a.2)
+        let a : (a : Point) × IsPoint l x a × (vertex_number l x a ≡ n) = point_onto l x n low in
+        let d : (d : CellDart) × IsDart l x d × (dart_start l x d ≡ a.0) = point_dart l x laid len a.0 a.1 in
+        (d.0, d.1, ap (vertex_number l x) d.2 ∙ a.2)
 
     pub used_is : used_count F ≡ vertices l x
     used_is =
@@ -90,28 +90,28 @@ module _ (l : Layout) (x : Lengths) (laid : IsLaid l) (len : AreLengths l x) whe
       where
         most : passing (is_used F) (vertex_count F) ≤ passing (λ k. true) (vertices l x)
         most = passing_le (is_used F) (λ k. true) (vertex_count F) (vertices l x)
-            (λ v low used. let d : (d : Dart) × IsDart l x d × (from_of F (cell d) ≡ v) = vertex_dart v used in
-            (number l x (from l x d.0), number_low l x (from l x d.0) (from_is l x laid len d.0 d.1), refl))
+            (λ v low used. let d : (d : CellDart) × IsDart l x d × (from_of F (cell d) ≡ v) = vertex_dart v used in
+            (vertex_number l x (dart_start l x d.0), number_low l x (dart_start l x d.0) (from_is l x laid len d.0 d.1), refl))
             (λ v w a used b too same. by_darts v w (vertex_dart v used) (vertex_dart w too) same)
           where
-            by_darts : (v w : ℕ) → (d : (d : Dart) × IsDart l x d × (from_of F (cell d) ≡ v)) → (e : (d : Dart) × IsDart l x d × (from_of F (cell d) ≡ w))
-                → number l x (from l x d.0) ≡ number l x (from l x e.0) → v ≡ w
+            by_darts : (v w : ℕ) → (d : (d : CellDart) × IsDart l x d × (from_of F (cell d) ≡ v)) → (e : (d : CellDart) × IsDart l x d × (from_of F (cell d) ≡ w))
+                → vertex_number l x (dart_start l x d.0) ≡ vertex_number l x (dart_start l x e.0) → v ≡ w
             by_darts v w d e same =
                 sym d.2 ∙ model.alike d.0 e.0 d.1 e.1
-                (number_same l x (from l x d.0) (from l x e.0) (from_is l x laid len d.0 d.1) (from_is l x laid len e.0 e.1) same) ∙ e.2
+                (number_same l x (dart_start l x d.0) (dart_start l x e.0) (from_is l x laid len d.0 d.1) (from_is l x laid len e.0 e.1) same) ∙ e.2
 
         least : passing (λ k. true) (vertices l x) ≤ passing (is_used F) (vertex_count F)
         least = passing_le (λ k. true) (is_used F) (vertices l x) (vertex_count F)
-            (λ n low on. let d : (d : Dart) × IsDart l x d × (number l x (from l x d) ≡ n) = number_dart n low in
+            (λ n low on. let d : (d : CellDart) × IsDart l x d × (vertex_number l x (dart_start l x d) ≡ n) = number_dart n low in
             (from_of F (cell d.0), all_below F (cell d.0) (model.low d.0 d.1), dart_used F (cell d.0) model.quads (model.low d.0 d.1)))
             (λ n m a on b too same. by_darts n m (number_dart n a) (number_dart m b) same)
           where
-            by_darts : (n m : ℕ) → (d : (d : Dart) × IsDart l x d × (number l x (from l x d) ≡ n)) → (e : (d : Dart) × IsDart l x d × (number l x (from l x d) ≡ m))
+            by_darts : (n m : ℕ) → (d : (d : CellDart) × IsDart l x d × (vertex_number l x (dart_start l x d) ≡ n)) → (e : (d : CellDart) × IsDart l x d × (vertex_number l x (dart_start l x d) ≡ m))
                 → from_of F (cell d.0) ≡ from_of F (cell e.0) → n ≡ m
-            by_darts n m d e same = sym d.2 ∙ ap (number l x) (model.apart d.0 e.0 d.1 e.1 same) ∙ e.2
+            by_darts n m d e same = sym d.2 ∙ ap (vertex_number l x) (model.apart d.0 e.0 d.1 e.1 same) ∙ e.2
 
     -- The lesser dart of an edge, or the only one.
-    abbrev IsLesser : (d : Dart) → Type 0
+    abbrev IsLesser : (d : CellDart) → Type 0
     IsLesser d = is_lesser (cell d) (twin_of F (cell d)) ≡ true
 
     lesser_by : (k : ℕ) (t : Option ℕ) (n : ℕ) → t ≡ Some n → k < n → is_lesser k t ≡ true
@@ -120,13 +120,13 @@ module _ (l : Layout) (x : Lengths) (laid : IsLaid l) (len : AreLengths l x) whe
     lesser_less : (k : ℕ) (t : Option ℕ) (n : ℕ) → t ≡ Some n → is_lesser k t ≡ true → k < n
     lesser_less k t n is on = ltb-true k n (ap (is_lesser k) (sym is) ∙ on)
 
-    lesser_dart : (e : Edge) → IsEdge l x e → (d : Dart) × IsDart l x d × IsLesser d × ((course_of l x d).edge ≡ e)
+    lesser_dart : (e : Edge) → IsEdge l x e → (d : CellDart) × IsDart l x d × IsLesser d × ((course_of l x d).edge ≡ e)
     lesser_dart e is = by_dart (edge_dart l x laid len e is).0 (edge_dart l x laid len e is).1 (edge_dart l x laid len e is).2
       where
-        by_dart : (d : Dart) → IsDart l x d → (course_of l x d).edge ≡ e → (d : Dart) × IsDart l x d × IsLesser d × ((course_of l x d).edge ≡ e)
+        by_dart : (d : CellDart) → IsDart l x d → (course_of l x d).edge ≡ e → (d : CellDart) × IsDart l x d × IsLesser d × ((course_of l x d).edge ≡ e)
         by_dart d is_d edge = by_case (across_or_alone l x laid len d is_d)
           where
-            by_order : (c : Dart) → IsAcross l x laid len d c → (d : Dart) × IsDart l x d × IsLesser d × ((course_of l x d).edge ≡ e)
+            by_order : (c : CellDart) → IsAcross l x laid len d c → (d : CellDart) × IsDart l x d × IsLesser d × ((course_of l x d).edge ≡ e)
             by_order c a = elim (cases_order (cell d) (cell c)) [
               | inl s ↦ absurd (no_self d (subst (IsAcross l x laid len d) (sym (model.same d c is_d a.is_dart s)) a))
               | inr o ↦ elim o [
@@ -140,14 +140,14 @@ module _ (l : Layout) (x : Lengths) (laid : IsLaid l) (len : AreLengths l x) whe
               ]
             ]
 
-            by_case : ((c : Dart) × IsAcross l x laid len d c) ⊎ ((w : Slot) × (o : ℕ) × IsAlone l x laid len d w o)
-                → (d : Dart) × IsDart l x d × IsLesser d × ((course_of l x d).edge ≡ e)
+            by_case : ((c : CellDart) × IsAcross l x laid len d c) ⊎ ((w : Slot) × (o : ℕ) × IsAlone l x laid len d w o)
+                → (d : CellDart) × IsDart l x d × IsLesser d × ((course_of l x d).edge ≡ e)
             by_case (inl a) = by_order a.0 a.1
             by_case (inr a) =
                 (d, is_d, ap (is_lesser (cell d)) (model.alone d is_d (λ c. alone_not_across l x laid len d c a.0 a.1 a.2)), edge)
 
     -- Lesser darts of one edge are one.
-    lesser_once : (d e : Dart) → IsDart l x d → IsDart l x e → IsLesser d → IsLesser e → (course_of l x d).edge ≡ (course_of l x e).edge → d ≡ e
+    lesser_once : (d e : CellDart) → IsDart l x d → IsDart l x e → IsLesser d → IsLesser e → (course_of l x d).edge ≡ (course_of l x e).edge → d ≡ e
     lesser_once d e is_d is_e d_less e_less edges = by_ways (course_of l x d).ahead (course_of l x e).ahead refl refl
       where
         alike : (course_of l x d).ahead ≡ (course_of l x e).ahead → d ≡ e
@@ -166,10 +166,10 @@ module _ (l : Layout) (x : Lengths) (laid : IsLaid l) (len : AreLengths l x) whe
         by_ways true false a b = turned (b ∙ ap not (sym a))
         by_ways false true a b = turned (b ∙ ap not (sym a))
 
-    number_edge : (n : ℕ) → n < edge_total l x → (d : Dart) × IsDart l x d × IsLesser d × (edge_number l x (course_of l x d).edge ≡ n)
+    number_edge : (n : ℕ) → n < edge_total l x → (d : CellDart) × IsDart l x d × IsLesser d × (edge_number l x (course_of l x d).edge ≡ n)
     number_edge n low =
         let e : (e : Edge) × IsEdge l x e × (edge_number l x e ≡ n) = edge_onto l x n low in
-        let d : (d : Dart) × IsDart l x d × IsLesser d × ((course_of l x d).edge ≡ e.0) = lesser_dart e.0 e.1 in
+        let d : (d : CellDart) × IsDart l x d × IsLesser d × ((course_of l x d).edge ≡ e.0) = lesser_dart e.0 e.1 in
         (d.0, d.1, d.2, ap (edge_number l x) d.3 ∙ e.2)
 
     pub edges_are : edge_count F ≡ edge_total l x
@@ -180,12 +180,12 @@ module _ (l : Layout) (x : Lengths) (laid : IsLaid l) (len : AreLengths l x) whe
       where
         most : passing (λ d. is_lesser d (twin_of F d)) (darts F) ≤ passing (λ k. true) (edge_total l x)
         most = passing_le (λ d. is_lesser d (twin_of F d)) (λ k. true) (darts F) (edge_total l x)
-            (λ k low less. let d : (d : Dart) × IsDart l x d × (cell d ≡ k) = model.onto k low in
+            (λ k low less. let d : (d : CellDart) × IsDart l x d × (cell d ≡ k) = model.onto k low in
             (edge_number l x (course_of l x d.0).edge, edge_low l x (course_of l x d.0).edge (course_is l x laid len d.0 d.1), refl))
             (λ k m a less b too same. by_darts k m less too (model.onto k a) (model.onto m b) same)
           where
             by_darts : (k m : ℕ) → is_lesser k (twin_of F k) ≡ true → is_lesser m (twin_of F m) ≡ true
-                → (d : (d : Dart) × IsDart l x d × (cell d ≡ k)) → (e : (d : Dart) × IsDart l x d × (cell d ≡ m))
+                → (d : (d : CellDart) × IsDart l x d × (cell d ≡ k)) → (e : (d : CellDart) × IsDart l x d × (cell d ≡ m))
                 → edge_number l x (course_of l x d.0).edge ≡ edge_number l x (course_of l x e.0).edge → k ≡ m
             by_darts k m less too d e same =
                 sym d.2 ∙ ap cell (lesser_once d.0 e.0 d.1 e.1
@@ -194,13 +194,13 @@ module _ (l : Layout) (x : Lengths) (laid : IsLaid l) (len : AreLengths l x) whe
 
         least : passing (λ k. true) (edge_total l x) ≤ passing (λ d. is_lesser d (twin_of F d)) (darts F)
         least = passing_le (λ k. true) (λ d. is_lesser d (twin_of F d)) (edge_total l x) (darts F)
-            (λ n low on. let d : (d : Dart) × IsDart l x d × IsLesser d × (edge_number l x (course_of l x d).edge ≡ n) = number_edge n low in
+            (λ n low on. let d : (d : CellDart) × IsDart l x d × IsLesser d × (edge_number l x (course_of l x d).edge ≡ n) = number_edge n low in
             (cell d.0, model.low d.0 d.1, d.2))
             (λ n m a on b too same. by_darts n m (number_edge n a) (number_edge m b) same)
           where
-            by_darts : (n m : ℕ) → (d : (d : Dart) × IsDart l x d × IsLesser d × (edge_number l x (course_of l x d).edge ≡ n))
-                → (e : (d : Dart) × IsDart l x d × IsLesser d × (edge_number l x (course_of l x d).edge ≡ m)) → cell d.0 ≡ cell e.0 → n ≡ m
-            by_darts n m d e same = sym d.3 ∙ ap (λ (c : Dart). edge_number l x (course_of l x c).edge) (model.same d.0 e.0 d.1 e.1 same) ∙ e.3
+            by_darts : (n m : ℕ) → (d : (d : CellDart) × IsDart l x d × IsLesser d × (edge_number l x (course_of l x d).edge ≡ n))
+                → (e : (d : CellDart) × IsDart l x d × IsLesser d × (edge_number l x (course_of l x d).edge ≡ m)) → cell d.0 ≡ cell e.0 → n ≡ m
+            by_darts n m d e same = sym d.3 ∙ ap (λ (c : CellDart). edge_number l x (course_of l x c).edge) (model.same d.0 e.0 d.1 e.1 same) ∙ e.3
 
     pub faces_are : length F ≡ face_count l x
     faces_are =
@@ -208,10 +208,10 @@ module _ (l : Layout) (x : Lengths) (laid : IsLaid l) (len : AreLengths l x) whe
         let new : passing (λ k. true) (4 * face_count l x) ≡ 4 * face_count l x = passing_all (4 * face_count l x) in
         omega (arith, all, new, most, least)
       where
-        number_of : (d : Dart) → IsDart l x d → dart_number l x d < 4 * face_count l x
+        number_of : (d : CellDart) → IsDart l x d → dart_number l x d < 4 * face_count l x
         number_of d is = omega (arith, dart_low l x d is, faces_long l x)
 
-        dart_by : (n : ℕ) → n < 4 * face_count l x → (d : Dart) × IsDart l x d × (dart_number l x d ≡ n)
+        dart_by : (n : ℕ) → n < 4 * face_count l x → (d : CellDart) × IsDart l x d × (dart_number l x d ≡ n)
         dart_by n low = at_number l x laid len n (omega (arith, faces_long l x))
 
         most : passing (λ k. true) (darts F) ≤ passing (λ k. true) (4 * face_count l x)

@@ -10,13 +10,13 @@ use Rattle.def_mesh.specs.Faces.{Face, Faces, face_at, corner}
 use Rattle.def_mesh.specs.Darts.{darts, next_of, from_of, twin_of}
 use Rattle.def_mesh.specs.Vertices.{is_used}
 use Rattle.def_layout.specs.declared.tmesh.SideArc.{SideArc}
-use Rattle.def_layout.specs.Layouts.{south, Layout, Slot, IsSlot, use_of, start_of}
+use Rattle.def_layout.specs.Layouts.{south, Layout, Slot, IsSlot, use_of, start_node}
 use Rattle.def_layout.specs.Laid.{IsLaid}
 use Rattle.def_layout.specs.Lengths.{Lengths, AreLengths}
-use Rattle.def_layout.specs.Cells.{Dart, IsDart, dart, next, rim_at}
+use Rattle.def_layout.specs.Cells.{CellDart, IsDart, dart, next, slot_dart}
 use Rattle.def_written.specs.Points.{Point, node, along, inside, IsPoint, use_point}
-use Rattle.def_written.specs.Numbers.{number}
-use Rattle.def_written.specs.NewFaces.{from, new_face, face_count, new_faces}
+use Rattle.def_written.specs.Numbers.{vertex_number}
+use Rattle.def_written.specs.NewFaces.{dart_start, new_face, face_count, new_faces}
 use Rattle.written_laws.proofs.Sides.{use_begins, arc_inner, use_some}
 use Rattle.written_laws.proofs.Grid.{point_inside}
 use Rattle.written_laws.proofs.Numbers.{number_same}
@@ -28,16 +28,16 @@ use Rattle.written_laws.proofs.Across.{across_or_alone, across_twin, alone_no_tw
 
 -- Dart `cell d` is that of d. Darts leave one vertex where those of the cells leave one point, and have as twin that of
 -- the dart across.
-pub record IsModel (F : Faces) (l : Layout) (x : Lengths) (laid : IsLaid l) (len : AreLengths l x) (cell : Dart → ℕ) : Type 0 where
+pub record IsModel (F : Faces) (l : Layout) (x : Lengths) (laid : IsLaid l) (len : AreLengths l x) (cell : CellDart → ℕ) : Type 0 where
   pub quads : (f : ℕ) → f < length F → length (face_at F f) ≡ 4
-  pub low : (d : Dart) → IsDart l x d → cell d < darts F
-  pub same : (d e : Dart) → IsDart l x d → IsDart l x e → cell d ≡ cell e → d ≡ e
-  pub onto : (k : ℕ) → k < darts F → (d : Dart) × IsDart l x d × (cell d ≡ k)
-  pub turned : (d : Dart) → IsDart l x d → cell (next d) ≡ next_of (cell d)
-  pub alike : (d e : Dart) → IsDart l x d → IsDart l x e → from l x d ≡ from l x e → from_of F (cell d) ≡ from_of F (cell e)
-  pub apart : (d e : Dart) → IsDart l x d → IsDart l x e → from_of F (cell d) ≡ from_of F (cell e) → from l x d ≡ from l x e
-  pub across : (d e : Dart) → IsDart l x d → IsAcross l x laid len d e → twin_of F (cell d) ≡ Some (cell e)
-  pub alone : (d : Dart) → IsDart l x d → ((e : Dart) → ¬ IsAcross l x laid len d e) → twin_of F (cell d) ≡ None
+  pub low : (d : CellDart) → IsDart l x d → cell d < darts F
+  pub same : (d e : CellDart) → IsDart l x d → IsDart l x e → cell d ≡ cell e → d ≡ e
+  pub onto : (k : ℕ) → k < darts F → (d : CellDart) × IsDart l x d × (cell d ≡ k)
+  pub turned : (d : CellDart) → IsDart l x d → cell (next d) ≡ next_of (cell d)
+  pub alike : (d e : CellDart) → IsDart l x d → IsDart l x e → dart_start l x d ≡ dart_start l x e → from_of F (cell d) ≡ from_of F (cell e)
+  pub apart : (d e : CellDart) → IsDart l x d → IsDart l x e → from_of F (cell d) ≡ from_of F (cell e) → dart_start l x d ≡ dart_start l x e
+  pub across : (d e : CellDart) → IsDart l x d → IsAcross l x laid len d e → twin_of F (cell d) ≡ Some (cell e)
+  pub alone : (d : CellDart) → IsDart l x d → ((e : CellDart) → ¬ IsAcross l x laid len d e) → twin_of F (cell d) ≡ None
 
 -- A vertex that is used is left by a dart.
 pub used_dart : (F : Faces) (v : ℕ) → ((f : ℕ) → f < length F → length (face_at F f) ≡ 4) → is_used F v ≡ true
@@ -69,11 +69,11 @@ dart_used F d quads low =
 
 module _ (l : Layout) (x : Lengths) (laid : IsLaid l) (len : AreLengths l x) where
   -- Each point is left by a dart.
-  pub point_dart : (a : Point) → IsPoint l x a → (d : Dart) × IsDart l x d × (from l x d ≡ a)
+  pub point_dart : (a : Point) → IsPoint l x a → (d : CellDart) × IsDart l x d × (dart_start l x d ≡ a)
   point_dart (node n) is =
-      let r : (w : Slot) × IsSlot l w × (start_of l (use_of l w) ≡ n) = laid.reached n is in
+      let r : (w : Slot) × IsSlot l w × (start_node l (use_of l w) ≡ n) = laid.reached n is in
       let some : 0 < x (use_of l r.0).arc = use_some l x laid.paved len r.0 r.1 in (
-        rim_at l x r.0 0,
+        slot_dart l x r.0 0,
         at_is l x laid.paved len r.0 0 r.1 some,
         at_from l x laid len r.0 0 r.1 some ∙ use_begins l x (use_of l r.0) some ∙ ap node r.2,
       )
@@ -81,7 +81,7 @@ module _ (l : Layout) (x : Lengths) (laid : IsLaid l) (len : AreLengths l x) whe
       let f : (w : Slot) × IsSlot l w × (use_of l w ≡ record { arc = a; forward = true }) = laid.forward a is.0 in
       let long : x (use_of l f.0).arc ≡ x a = ap (λ (u : SideArc). x u.arc) f.2 in
       let less : k < x (use_of l f.0).arc = omega (arith, is.2) in (
-        rim_at l x f.0 k,
+        slot_dart l x f.0 k,
         at_is l x laid.paved len f.0 k f.1 less,
         at_from l x laid len f.0 k f.1 less ∙ ap (λ (u : SideArc). use_point l x u k) f.2 ∙ arc_inner l x a k is.1 is.2,
       )
@@ -101,17 +101,17 @@ module _ (l : Layout) (x : Lengths) (laid : IsLaid l) (len : AreLengths l x) whe
     same = dart_same l x;
     onto = at_number l x laid len;
     turned = λ d is. sym (next_number l x d);
-    alike = λ d e is_d is_e s. number_from l x d is_d ∙ ap (number l x) s ∙ sym (number_from l x e is_e);
-    apart = λ d e is_d is_e s. number_same l x (from l x d) (from l x e) (from_is l x laid len d is_d) (from_is l x laid len e is_e)
+    alike = λ d e is_d is_e s. number_from l x d is_d ∙ ap (vertex_number l x) s ∙ sym (number_from l x e is_e);
+    apart = λ d e is_d is_e s. number_same l x (dart_start l x d) (dart_start l x e) (from_is l x laid len d is_d) (from_is l x laid len e is_e)
         (sym (number_from l x d is_d) ∙ s ∙ number_from l x e is_e);
     across = across_twin l x laid len simple;
     alone = alone;
   }
     where
-      alone : (d : Dart) → IsDart l x d → ((e : Dart) → ¬ IsAcross l x laid len d e) → twin_of (new_faces l x) (dart_number l x d) ≡ None
+      alone : (d : CellDart) → IsDart l x d → ((e : CellDart) → ¬ IsAcross l x laid len d e) → twin_of (new_faces l x) (dart_number l x d) ≡ None
       alone d is none = by_case (across_or_alone l x laid len d is)
         where
-          by_case : ((e : Dart) × IsAcross l x laid len d e) ⊎ ((w : Slot) × (o : ℕ) × IsAlone l x laid len d w o)
+          by_case : ((e : CellDart) × IsAcross l x laid len d e) ⊎ ((w : Slot) × (o : ℕ) × IsAlone l x laid len d w o)
               → twin_of (new_faces l x) (dart_number l x d) ≡ None
           by_case (inl a) = absurd (none a.0 a.1)
           by_case (inr a) = alone_no_twin l x laid len simple d a.0 a.1 is a.2

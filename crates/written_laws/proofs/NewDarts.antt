@@ -7,12 +7,12 @@ use Rattle.std.proofs.lemmas.Bool.Decides.{nat_tests}
 use Rattle.std.proofs.lemmas.List.FromFn.{length-map-range_with_len, get_or-map-range_with_len}
 use Rattle.def_mesh.specs.Faces.{Face, corner}
 use Rattle.def_mesh.specs.Darts.{darts, next_of, prev_of, from_of, to_of}
-use Rattle.def_layout.specs.Layouts.{Way, south, east, north, west, after, before, Layout}
+use Rattle.def_layout.specs.Layouts.{Way, south, east, north, west, side_after, side_before, Layout}
 use Rattle.def_layout.specs.Laid.{IsLaid}
 use Rattle.def_layout.specs.Lengths.{Lengths, wide, high, AreLengths}
-use Rattle.def_layout.specs.Cells.{Dart, IsDart, dart, next, prev}
-use Rattle.def_written.specs.Numbers.{number}
-use Rattle.def_written.specs.NewFaces.{from, to, cells_before, face_count, patch_of, cell_in, dart_of, vertex_of, new_face, new_faces}
+use Rattle.def_layout.specs.Cells.{CellDart, IsDart, dart, next, prev}
+use Rattle.def_written.specs.Numbers.{vertex_number}
+use Rattle.def_written.specs.NewFaces.{dart_start, dart_end, cells_before, face_count, patch_of, cell_in, dart_of, cell_vertex, new_face, new_faces}
 use Rattle.written_laws.proofs.Runs.{run_place, run_here, place_low, IsInRun}
 use Rattle.written_laws.proofs.Grid.{wide_some}
 
@@ -47,13 +47,13 @@ turn_low east = omega arith
 turn_low north = omega arith
 turn_low west = omega arith
 
-pub next_at : (c : ℕ) (w : Way) → next_of (4 * c + turn w) ≡ 4 * c + turn (after w)
+pub next_at : (c : ℕ) (w : Way) → next_of (4 * c + turn w) ≡ 4 * c + turn (side_after w)
 next_at c south = grind (arith, nat_tests)
 next_at c east = grind (arith, nat_tests)
 next_at c north = grind (arith, nat_tests)
 next_at c west = grind (arith, nat_tests)
 
-pub prev_at : (c : ℕ) (w : Way) → prev_of (4 * c + turn w) ≡ 4 * c + turn (before w)
+pub prev_at : (c : ℕ) (w : Way) → prev_of (4 * c + turn w) ≡ 4 * c + turn (side_before w)
 prev_at c south = grind (arith, nat_tests)
 prev_at c east = grind (arith, nat_tests)
 prev_at c north = grind (arith, nat_tests)
@@ -65,36 +65,36 @@ module _ (l : Layout) (x : Lengths) where
   cells p = wide l x p * high l x p
 
   -- The number of a dart's cell.
-  abbrev pub cell_number : (d : Dart) → ℕ
+  abbrev pub cell_number : (d : CellDart) → ℕ
   cell_number d = cells_before l x d.patch + (d.j * wide l x d.patch + d.i)
 
   -- The number of a dart.
-  abbrev pub dart_number : (d : Dart) → ℕ
+  abbrev pub dart_number : (d : CellDart) → ℕ
   dart_number d = 4 * cell_number d + turn d.way
 
-  pub next_number : (d : Dart) → next_of (dart_number d) ≡ dart_number (next d)
+  pub next_number : (d : CellDart) → next_of (dart_number d) ≡ dart_number (next d)
   next_number d = next_at (cell_number d) d.way
 
-  pub prev_number : (d : Dart) → prev_of (dart_number d) ≡ dart_number (prev d)
+  pub prev_number : (d : CellDart) → prev_of (dart_number d) ≡ dart_number (prev d)
   prev_number d = prev_at (cell_number d) d.way
 
-  cell_in_patch : (d : Dart) → IsDart l x d → d.j * wide l x d.patch + d.i < cells d.patch
+  cell_in_patch : (d : CellDart) → IsDart l x d → d.j * wide l x d.patch + d.i < cells d.patch
   cell_in_patch d is = mul-add-lt d.j (wide l x d.patch) d.i (high l x d.patch) is.j_low is.i_low
 
-  pub cell_low : (d : Dart) → IsDart l x d → cell_number d < face_count l x
+  pub cell_low : (d : CellDart) → IsDart l x d → cell_number d < face_count l x
   cell_low d is = place_low cells l.patches d.patch (d.j * wide l x d.patch + d.i) is.patch_low (cell_in_patch d is)
 
   pub faces_long : length (new_faces l x) ≡ face_count l x
   faces_long = length-map-range_with_len (new_face l x) 0 (face_count l x)
 
-  pub dart_low : (d : Dart) → IsDart l x d → dart_number d < darts (new_faces l x)
+  pub dart_low : (d : CellDart) → IsDart l x d → dart_number d < darts (new_faces l x)
   dart_low d is = omega (arith, cell_low d is, turn_low d.way, faces_long)
 
   -- A dart is found by its cell.
-  pub dart_at : (d : Dart) (w : Way) → IsDart l x d → dart_of l x (cell_number d) w ≡ dart d.patch d.i d.j w
+  pub dart_at : (d : CellDart) (w : Way) → IsDart l x d → dart_of l x (cell_number d) w ≡ dart d.patch d.i d.j w
   dart_at d w is = ap by_patch patch_is ∙ by_cell
     where
-      by_patch : (p : ℕ) → Dart
+      by_patch : (p : ℕ) → CellDart
       by_patch p = dart p ((cell_number d - cells_before l x p) % wide l x p) ((cell_number d - cells_before l x p) / wide l x p) w
 
       patch_is : patch_of l x (cell_number d) ≡ d.patch
@@ -112,7 +112,7 @@ module _ (l : Layout) (x : Lengths) where
       by_cell = λ t. dart d.patch (parts.1 t) (parts.0 t) w
 
   -- Darts with one number are one.
-  pub dart_same : (d e : Dart) → IsDart l x d → IsDart l x e → dart_number d ≡ dart_number e → d ≡ e
+  pub dart_same : (d e : CellDart) → IsDart l x d → IsDart l x e → dart_number d ≡ dart_number e → d ≡ e
   dart_same d e is_d is_e same =
       let cell_same : cell_number d ≡ cell_number e = omega (arith, turn_low d.way, turn_low e.way) in
       let turn_same : turn d.way ≡ turn e.way = omega (arith, turn_low d.way, turn_low e.way) in
@@ -120,33 +120,33 @@ module _ (l : Layout) (x : Lengths) where
       sym (dart_at d d.way is_d) ∙ (λ t. dart_of l x (cell_same t) (way_same t)) ∙ dart_at e e.way is_e
 
   -- The corners of the new faces.
-  pub corner_is : (f : ℕ) (w : Way) → f < face_count l x → corner (new_faces l x) f (turn w) ≡ vertex_of l x f w
+  pub corner_is : (f : ℕ) (w : Way) → f < face_count l x → corner (new_faces l x) f (turn w) ≡ cell_vertex l x f w
   corner_is f w low =
       ap (λ (face : Face). slice_index_or face (turn w) 0)
       (get_or-map-range_with_len (new_face l x) 0 (face_count l x) f f [] low (omega arith))
       ∙ by_way w
     where
-      by_way : (w : Way) → slice_index_or (new_face l x f) (turn w) 0 ≡ vertex_of l x f w
+      by_way : (w : Way) → slice_index_or (new_face l x f) (turn w) 0 ≡ cell_vertex l x f w
       by_way south = refl
       by_way east = refl
       by_way north = refl
       by_way west = refl
 
   -- A dart's number begins at the number of its point, and ends so.
-  pub number_from : (d : Dart) → IsDart l x d → from_of (new_faces l x) (dart_number d) ≡ number l x (from l x d)
+  pub number_from : (d : CellDart) → IsDart l x d → from_of (new_faces l x) (dart_number d) ≡ vertex_number l x (dart_start l x d)
   number_from d is =
       let f : dart_number d / 4 ≡ cell_number d = omega (arith, turn_low d.way) in
       let k : dart_number d % 4 ≡ turn d.way = omega (arith, turn_low d.way) in
       (λ t. corner (new_faces l x) (f t) (k t)) ∙ corner_is (cell_number d) d.way (cell_low d is)
-      ∙ ap (λ (e : Dart). number l x (from l x e)) (dart_at d d.way is)
+      ∙ ap (λ (e : CellDart). vertex_number l x (dart_start l x e)) (dart_at d d.way is)
 
-  pub next_is : (d : Dart) → IsDart l x d → IsDart l x (next d)
+  pub next_is : (d : CellDart) → IsDart l x d → IsDart l x (next d)
   next_is d is = record { patch_low = is.patch_low; i_low = is.i_low; j_low = is.j_low }
 
-  pub prev_is : (d : Dart) → IsDart l x d → IsDart l x (prev d)
+  pub prev_is : (d : CellDart) → IsDart l x d → IsDart l x (prev d)
   prev_is d is = record { patch_low = is.patch_low; i_low = is.i_low; j_low = is.j_low }
 
-  pub number_to : (d : Dart) → IsDart l x d → to_of (new_faces l x) (dart_number d) ≡ number l x (to l x d)
+  pub number_to : (d : CellDart) → IsDart l x d → to_of (new_faces l x) (dart_number d) ≡ vertex_number l x (dart_end l x d)
   number_to d is = ap (from_of (new_faces l x)) (next_number d) ∙ number_from (next d) (next_is d is)
 
   module _ (laid : IsLaid l) (len : AreLengths l x) where
@@ -169,7 +169,7 @@ module _ (l : Layout) (x : Lengths) where
         omega (arith, h.place, div-add-mod' (cell_in l x f) (wide l x (patch_of l x f)))
 
     -- Each dart of the new faces is that of a cell.
-    pub at_number : (n : ℕ) → n < darts (new_faces l x) → (d : Dart) × IsDart l x d × (dart_number d ≡ n)
+    pub at_number : (n : ℕ) → n < darts (new_faces l x) → (d : CellDart) × IsDart l x d × (dart_number d ≡ n)
     at_number n low =
         let f_low : n / 4 < face_count l x = omega (arith, faces_long) in (
           dart_of l x (n / 4) (way_of (n % 4)),

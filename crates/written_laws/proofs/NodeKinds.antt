@@ -8,12 +8,12 @@ use Rattle.def_mesh.specs.Darts.{darts, from_of}
 use Rattle.def_mesh.specs.Vertices.{faces_at}
 use Rattle.def_mesh.specs.Kinds.{is_inner}
 use Rattle.def_layout.specs.declared.tmesh.SideArc.{SideArc}
-use Rattle.def_layout.specs.Layouts.{Layout, Slot, IsSlot, use_of, start_of, end_of}
-use Rattle.def_layout.specs.Laid.{IsLaid, IsOther}
+use Rattle.def_layout.specs.Layouts.{Layout, Slot, IsSlot, use_of, start_node, end_node}
+use Rattle.def_layout.specs.Laid.{IsLaid, IsOtherSlot}
 use Rattle.def_layout.specs.Lengths.{Lengths, reach, AreLengths}
-use Rattle.def_layout.specs.Cells.{Dart, IsDart}
+use Rattle.def_layout.specs.Cells.{CellDart, IsDart}
 use Rattle.def_written.specs.Points.{node, along, inside, use_point}
-use Rattle.def_written.specs.NewFaces.{from}
+use Rattle.def_written.specs.NewFaces.{dart_start}
 use Rattle.written_laws.proofs.Runs.{count_rises}
 use Rattle.written_laws.proofs.Tallies.{passing, passing_le, filter_long}
 use Rattle.written_laws.proofs.Sides.{slot, long_at, use_begins, use_ends, use_inner, use_some}
@@ -26,15 +26,15 @@ use Rattle.written_laws.proofs.Inners.{AreShared, IsVertex, inner_if, inner_only
 module _ (l : Layout) (x : Lengths) (laid : IsLaid l) (len : AreLengths l x) where
   -- A point of an arc that is a node is one of its ends.
   node_end : (u : SideArc) (o n : ℕ) → o ≤ x u.arc → 0 < x u.arc → use_point l x u o ≡ node n
-      → ((o ≡ 0) × (start_of l u ≡ n)) ⊎ ((o ≡ x u.arc) × (end_of l u ≡ n))
+      → ((o ≡ 0) × (start_node l u ≡ n)) ⊎ ((o ≡ x u.arc) × (end_node l u ≡ n))
   node_end u o n le some e = elim (cases_eq o 0) [
     | inl z ↦
-        let b : use_point l x u o ≡ node (start_of l u) = ap (use_point l x u) z ∙ use_begins l x u some in
-        let s : start_of l u ≡ n = cc in inl (z, s)
+        let b : use_point l x u o ≡ node (start_node l u) = ap (use_point l x u) z ∙ use_begins l x u some in
+        let s : start_node l u ≡ n = cc in inl (z, s)
     | inr more ↦ elim (cases_eq o (x u.arc)) [
       | inl last ↦
-          let b : use_point l x u o ≡ node (end_of l u) = use_ends l x u o last (omega arith) in
-          let s : end_of l u ≡ n = cc in inr (last, s)
+          let b : use_point l x u o ≡ node (end_node l u) = use_ends l x u o last (omega arith) in
+          let s : end_node l u ≡ n = cc in inr (last, s)
       | inr less ↦
           let b : use_point l x u o ≡ along u.arc (cond u.forward o (x u.arc - o)) = use_inner l x u o (omega arith) (omega arith) in
           absurd cc
@@ -42,16 +42,16 @@ module _ (l : Layout) (x : Lengths) (laid : IsLaid l) (len : AreLengths l x) whe
   ]
 
   -- A dart at a node, by slot.
-  pub record IsAtNode (n : ℕ) (d : Dart) (w : Slot) (b : Bool) : Type 0 where
+  pub record IsAtNode (n : ℕ) (d : CellDart) (w : Slot) (b : Bool) : Type 0 where
     pub at : IsAt l x laid len d w 0
-    pub start : start_of l (use_of l w) ≡ n
+    pub start : start_node l (use_of l w) ≡ n
     pub dart : d ≡ spot_dart l x w 0 b
     pub later : b ≡ true → 0 < w.at
 
-  pub node_sort : (n : ℕ) (d : Dart) → IsDart l x d → from l x d ≡ node n → (w : Slot) × (b : Bool) × IsAtNode n d w b
+  pub node_sort : (n : ℕ) (d : CellDart) → IsDart l x d → dart_start l x d ≡ node n → (w : Slot) × (b : Bool) × IsAtNode n d w b
   node_sort n d is leaves = by_case (sort_dart l x laid len d is)
     where
-      at_slot : (w : Slot) (o : ℕ) → IsAt l x laid len d w o → o ≡ 0 → start_of l (use_of l w) ≡ n → (w : Slot) × (b : Bool) × IsAtNode n d w b
+      at_slot : (w : Slot) (o : ℕ) → IsAt l x laid len d w o → o ≡ 0 → start_node l (use_of l w) ≡ n → (w : Slot) × (b : Bool) × IsAtNode n d w b
       at_slot w o at z start =
           let first : IsAt l x laid len d w 0 = subst (λ (m : ℕ). IsAt l x laid len d w m) z at in
           let b : (b : Bool) × (d ≡ spot_dart l x w 0 b) × ((b ≡ true) → 0 < place_at l x w 0) = sort_spot l x laid len d w 0 is first in
@@ -63,10 +63,10 @@ module _ (l : Layout) (x : Lengths) (laid : IsLaid l) (len : AreLengths l x) whe
 
       by_case : IsInner l x laid.paved len d.patch (column_of d) (row_of d) ⊎ ((w : Slot) × (o : ℕ) × IsAt l x laid len d w o)
           → (w : Slot) × (b : Bool) × IsAtNode n d w b
-      by_case (inl i) = let b : from l x d ≡ inside d.patch (column_of d) (row_of d) = inner_from l x laid len d i in absurd cc
+      by_case (inl i) = let b : dart_start l x d ≡ inside d.patch (column_of d) (row_of d) = inner_from l x laid len d i in absurd cc
       by_case (inr s) = by_end s.0 s.1 s.2 (node_end (use_of l s.0) s.1 n (omega (arith, s.2.low)) (omega (arith, s.2.low)) (sym s.2.leaves ∙ leaves))
         where
-          by_end : (w : Slot) (o : ℕ) → IsAt l x laid len d w o → ((o ≡ 0) × (start_of l (use_of l w) ≡ n)) ⊎ ((o ≡ x (use_of l w).arc) × (end_of l (use_of l w) ≡ n))
+          by_end : (w : Slot) (o : ℕ) → IsAt l x laid len d w o → ((o ≡ 0) × (start_node l (use_of l w) ≡ n)) ⊎ ((o ≡ x (use_of l w).arc) × (end_node l (use_of l w) ≡ n))
               → (w : Slot) × (b : Bool) × IsAtNode n d w b
           by_end w o at (inl e) = at_slot w o at e.0 e.1
           by_end w o at (inr e) = absurd (omega (arith, at.low, e.0))
@@ -87,23 +87,23 @@ module _ (l : Layout) (laid : IsLaid l) (x y : Lengths) (len : AreLengths l x) (
       some : 0 < x (use_of l w).arc
       some = use_some l x laid.paved len w is
 
-      starts : start_of l (use_of l w) ≡ n → (v : Slot) × IsOther l w v
+      starts : start_node l (use_of l w) ≡ n → (v : Slot) × IsOtherSlot l w v
       starts e = shared w 0 is some (inl (use_begins l x (use_of l w) some ∙ ap node e))
 
-      ends : end_of l (use_of l w) ≡ n → (v : Slot) × IsOther l w v
+      ends : end_node l (use_of l w) ≡ n → (v : Slot) × IsOtherSlot l w v
       ends e =
           shared w (x (use_of l w).arc - 1) is (omega (arith, some))
           (inr (use_ends l x (use_of l w) (x (use_of l w).arc - 1 + 1) (omega (arith, some)) (omega arith) ∙ ap node e))
 
-      by_end : (m : ℕ) → ((m ≡ 0) × (start_of l (use_of l w) ≡ n)) ⊎ ((m ≡ y (use_of l w).arc) × (end_of l (use_of l w) ≡ n)) → (v : Slot) × IsOther l w v
+      by_end : (m : ℕ) → ((m ≡ 0) × (start_node l (use_of l w) ≡ n)) ⊎ ((m ≡ y (use_of l w).arc) × (end_node l (use_of l w) ≡ n)) → (v : Slot) × IsOtherSlot l w v
       by_end m (inl e) = starts e.1
       by_end m (inr e) = ends e.1
 
-      at : (use_point l y (use_of l w) o ≡ node n) ⊎ (use_point l y (use_of l w) (o + 1) ≡ node n) → (v : Slot) × IsOther l w v
+      at : (use_point l y (use_of l w) o ≡ node n) ⊎ (use_point l y (use_of l w) (o + 1) ≡ node n) → (v : Slot) × IsOtherSlot l w v
       at (inl e) = by_end o (node_end l y laid lon (use_of l w) o n (omega arith) (omega arith) e)
       at (inr e) = by_end (o + 1) (node_end l y laid lon (use_of l w) (o + 1) n (omega arith) (omega arith) e)
 
-  module _ (F G : Faces) (cell new : Dart → ℕ) (f : IsModel F l x laid len cell) (g : IsModel G l y laid lon new)
+  module _ (F G : Faces) (cell new : CellDart → ℕ) (f : IsModel F l x laid len cell) (g : IsModel G l y laid lon new)
       (n u v : ℕ) (is_u : IsVertex l x laid len F cell f (node n) u) (is_v : IsVertex l y laid lon G new g (node n) v) where
     pub inner_to : is_inner F u ≡ true → is_inner G v ≡ true
     inner_to inner = inner_if l y laid lon G new g (node n) v is_v (node_shared n (inner_only l x laid len F cell f (node n) u is_u inner))
@@ -116,20 +116,20 @@ module _ (l : Layout) (laid : IsLaid l) (x y : Lengths) (len : AreLengths l x) (
             node_sort l x laid len n (f.onto k low).0 (f.onto k low).1
             (is_u.back (f.onto k low).0 (f.onto k low).1 (ap (from_of F) (f.onto k low).2 ∙ eqb-true (from_of F k) u s))
 
-        image : (d : Dart) (w : Slot) (b : Bool) → IsAtNode l x laid len n d w b
-            → IsDart l y (spot_dart l y w 0 b) × IsAt l y laid lon (spot_dart l y w 0 b) w 0 × (from l y (spot_dart l y w 0 b) ≡ node n)
+        image : (d : CellDart) (w : Slot) (b : Bool) → IsAtNode l x laid len n d w b
+            → IsDart l y (spot_dart l y w 0 b) × IsAt l y laid lon (spot_dart l y w 0 b) w 0 × (dart_start l y (spot_dart l y w 0 b) ≡ node n)
         image d w b s =
             let some : 0 < y (use_of l w).arc = use_some l y laid.paved lon w s.at.is_slot in
             let later : b ≡ true → 0 < place_at l y w 0 = later_place l y laid lon w b s.at.is_slot s.later in
             let at : IsAt l y laid lon (spot_dart l y w 0 b) w 0 = spot_at l y laid lon w 0 b s.at.is_slot some later in
             (spot_is l y laid lon w 0 b s.at.is_slot some later, at, at.leaves ∙ use_begins l y (use_of l w) some ∙ ap node s.start)
 
-        once : (d e : Dart) (s : (w : Slot) × (b : Bool) × IsAtNode l x laid len n d w b) (r : (w : Slot) × (b : Bool) × IsAtNode l x laid len n e w b)
+        once : (d e : CellDart) (s : (w : Slot) × (b : Bool) × IsAtNode l x laid len n d w b) (r : (w : Slot) × (b : Bool) × IsAtNode l x laid len n e w b)
             → spot_dart l y s.0 0 s.1 ≡ spot_dart l y r.0 0 r.1 → d ≡ e
         once d e s r same =
             let slots : s.0 ≡ r.0 =
             (at_once l y laid lon (spot_dart l y r.0 0 r.1) s.0 r.0 0 0
-            (subst (λ (c : Dart). IsAt l y laid lon c s.0 0) same (image d s.0 s.1 s.2).1) (image e r.0 r.1 r.2).1).0 in
+            (subst (λ (c : CellDart). IsAt l y laid lon c s.0 0) same (image d s.0 s.1 s.2).1) (image e r.0 r.1 r.2).1).0 in
             let ways : s.1 ≡ r.1 =
             spot_once l y laid lon r.0 0 s.1 r.1 ((λ t. spot_dart l y (sym slots t) 0 s.1) ∙ same) in
             s.2.dart ∙ (λ t. spot_dart l x (slots t) 0 (ways t)) ∙ sym r.2.dart
@@ -137,7 +137,7 @@ module _ (l : Layout) (laid : IsLaid l) (x y : Lengths) (len : AreLengths l x) (
         to : (k : ℕ) (low : k < darts F) → (from_of F k == u) ≡ true → (m : ℕ) × (m < darts G) × ((from_of G m == v) ≡ true)
         to k low s =
             let r : (w : Slot) × (b : Bool) × IsAtNode l x laid len n (f.onto k low).0 w b = sorted k low s in
-            let i : IsDart l y (spot_dart l y r.0 0 r.1) × IsAt l y laid lon (spot_dart l y r.0 0 r.1) r.0 0 × (from l y (spot_dart l y r.0 0 r.1) ≡ node n) =
+            let i : IsDart l y (spot_dart l y r.0 0 r.1) × IsAt l y laid lon (spot_dart l y r.0 0 r.1) r.0 0 × (dart_start l y (spot_dart l y r.0 0 r.1) ≡ node n) =
             image (f.onto k low).0 r.0 r.1 r.2 in (
               new (spot_dart l y r.0 0 r.1),
               g.low (spot_dart l y r.0 0 r.1) i.0,
@@ -154,7 +154,7 @@ module _ (l : Layout) (laid : IsLaid l) (x y : Lengths) (len : AreLengths l x) (
             ∙ (f.onto m less).2)
 
 module _ (l : Layout) (laid : IsLaid l) (x y : Lengths) (len : AreLengths l x) (lon : AreLengths l y)
-    (F G : Faces) (cell new : Dart → ℕ) (f : IsModel F l x laid len cell) (g : IsModel G l y laid lon new)
+    (F G : Faces) (cell new : CellDart → ℕ) (f : IsModel F l x laid len cell) (g : IsModel G l y laid lon new)
     (n u v : ℕ) (is_u : IsVertex l x laid len F cell f (node n) u) (is_v : IsVertex l y laid lon G new g (node n) v) where
   pub node_faces : faces_at F u ≡ faces_at G v
   node_faces = omega (arith, faces_le l laid x y len lon F G cell new f g n u v is_u is_v, faces_le l laid y x lon len G F new cell g f n v u is_v is_u)

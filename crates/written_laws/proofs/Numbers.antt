@@ -4,7 +4,7 @@ use Rattle.std.proofs.lemmas.Nat.{mul-add-lt, same_from_place}
 use Rattle.def_layout.specs.Layouts.{Layout}
 use Rattle.def_layout.specs.Lengths.{Lengths, wide, high}
 use Rattle.def_written.specs.Points.{Point, node, along, inside, IsPoint}
-use Rattle.def_written.specs.Numbers.{before_arc, before_patch, number, vertices}
+use Rattle.def_written.specs.Numbers.{before_arc, before_patch, vertex_number, vertices}
 use Rattle.written_laws.proofs.Runs.{place_low, place_same}
 
 module _ (l : Layout) (x : Lengths) where
@@ -27,12 +27,12 @@ module _ (l : Layout) (x : Lengths) where
       → before_patch l x p + inner_place p i j < before_patch l x l.patches
   inside_low p i j is = place_low inner_points l.patches p (inner_place p i j) is.0 (inner_low p i j is.1 is.2 is.3 is.4)
 
-  pub number_low : (a : Point) → IsPoint l x a → number l x a < vertices l x
+  pub number_low : (a : Point) → IsPoint l x a → vertex_number l x a < vertices l x
   number_low (node n) is = omega (arith, is)
   number_low (along a k) is = omega (arith, along_low a k is)
   number_low (inside p i j) is = omega (arith, inside_low p i j is)
 
-  pub number_same : (a b : Point) → IsPoint l x a → IsPoint l x b → number l x a ≡ number l x b → a ≡ b
+  pub number_same : (a b : Point) → IsPoint l x a → IsPoint l x b → vertex_number l x a ≡ vertex_number l x b → a ≡ b
   number_same (node m) (node n) is_a is_b e = ap node e
   number_same (along a k) (node n) is_a is_b e = absurd (omega (arith, is_b, e))
   number_same (along a k) (along b j) is_a is_b e =

@@ -1,11 +1,11 @@
 -- Lengths that are open double no edge.
 use Rattle.std.proofs.Common.{◌≡◌, ◌≢◌, ◌⊎◌, ℕ, ◌+◌, ◌-◌, ◌<◌, ◌≤◌, Bool, true, false, not, cond, refl, sym, ◌∙◌, ap, subst, inl, inr, arith}
 use Rattle.std.proofs.lemmas.Bool.{cases_eq}
-use Rattle.def_layout.specs.Layouts.{Way, south, east, north, west, after, Layout, Slot, IsSlot, AreReverse, use_of}
+use Rattle.def_layout.specs.Layouts.{Way, south, east, north, west, side_after, Layout, Slot, IsSlot, AreReverse, use_of}
 use Rattle.def_layout.specs.Laid.{IsLaid}
 use Rattle.def_layout.specs.Lengths.{Lengths, reach, size, wide, high, AreLengths}
 use Rattle.def_written.specs.Points.{Point, node, along, inside, arc_point, side_point, point}
-use Rattle.def_written.specs.Edges.{Edge, on_arc, flat, steep, IsEdge, low, top}
+use Rattle.def_written.specs.Edges.{Edge, on_arc, flat, steep, IsEdge, edge_start, edge_end}
 use Rattle.written_laws.proofs.Sides.{slot, arc_last, arc_inner, use_inner, side_in, reach_low, first_slot, last_slot, last_reach}
 use Rattle.written_laws.proofs.Grid.{point_north, point_west, point_east}
 use Rattle.written_laws.proofs.Courses.{is_arc}
@@ -22,26 +22,26 @@ module _ (l : Layout) (x : Lengths) (laid : IsLaid l) (len : AreLengths l x) (op
 
   -- The points beside a corner of a patch differ.
   beside_corner : (p : ℕ) (s : Way) (t : ℕ) → p < l.patches → t + 1 ≡ size l x p s
-      → side_point l x p s t ≢ side_point l x p (after s) 1
+      → side_point l x p s t ≢ side_point l x p (side_after s) 1
   beside_corner p s t p_low e same = by_ways (use_of l w).forward (use_of l v).forward refl refl
     where
       w : Slot
       w = slot p s (l.many p s - 1)
 
       v : Slot
-      v = slot p (after s) 0
+      v = slot p (side_after s) 0
 
       is_w : IsSlot l (slot p s (l.many p s - 1))
       is_w = last_slot l x laid.paved len p s p_low
 
-      is_v : IsSlot l (slot p (after s) 0)
-      is_v = first_slot l x laid.paved len p (after s) p_low
+      is_v : IsSlot l (slot p (side_after s) 0)
+      is_v = first_slot l x laid.paved len p (side_after s) p_low
 
       w_two : 2 ≤ x (use_of l (slot p s (l.many p s - 1))).arc
       w_two = open_l.two (use_of l (slot p s (l.many p s - 1))).arc (laid.paved.arc_low (slot p s (l.many p s - 1)) is_w)
 
-      v_two : 2 ≤ x (use_of l (slot p (after s) 0)).arc
-      v_two = open_l.two (use_of l (slot p (after s) 0)).arc (laid.paved.arc_low (slot p (after s) 0) is_v)
+      v_two : 2 ≤ x (use_of l (slot p (side_after s) 0)).arc
+      v_two = open_l.two (use_of l (slot p (side_after s) 0)).arc (laid.paved.arc_low (slot p (side_after s) 0) is_v)
 
       place : t ≡ reach l x p s (l.many p s - 1) + (x (use_of l (slot p s (l.many p s - 1))).arc - 1)
       place = omega (arith, last_reach l x laid.paved len p s p_low, w_two)
@@ -53,37 +53,37 @@ module _ (l : Layout) (x : Lengths) (laid : IsLaid l) (len : AreLengths l x) (op
           ∙ side_in l x (slot p s (l.many p s - 1)) (x (use_of l (slot p s (l.many p s - 1))).arc - 1) is_w (omega (arith, w_two))
           ∙ use_inner l x (use_of l (slot p s (l.many p s - 1))) (x (use_of l (slot p s (l.many p s - 1))).arc - 1) (omega (arith, w_two)) (omega (arith, w_two))
 
-      v_point : side_point l x p (after s) 1 ≡ along (use_of l (slot p (after s) 0)).arc
-          (cond (use_of l (slot p (after s) 0)).forward 1 (x (use_of l (slot p (after s) 0)).arc - 1))
-      v_point = side_in l x (slot p (after s) 0) 1 is_v (omega (arith, v_two))
-          ∙ use_inner l x (use_of l (slot p (after s) 0)) 1 (omega arith) (omega (arith, v_two))
+      v_point : side_point l x p (side_after s) 1 ≡ along (use_of l (slot p (side_after s) 0)).arc
+          (cond (use_of l (slot p (side_after s) 0)).forward 1 (x (use_of l (slot p (side_after s) 0)).arc - 1))
+      v_point = side_in l x (slot p (side_after s) 0) 1 is_v (omega (arith, v_two))
+          ∙ use_inner l x (use_of l (slot p (side_after s) 0)) 1 (omega arith) (omega (arith, v_two))
 
-      arcs : (use_of l (slot p s (l.many p s - 1))).arc ≡ (use_of l (slot p (after s) 0)).arc
+      arcs : (use_of l (slot p s (l.many p s - 1))).arc ≡ (use_of l (slot p (side_after s) 0)).arc
       arcs = let f : along (use_of l (slot p s (l.many p s - 1))).arc
           (cond (use_of l (slot p s (l.many p s - 1))).forward (x (use_of l (slot p s (l.many p s - 1))).arc - 1)
           (x (use_of l (slot p s (l.many p s - 1))).arc - (x (use_of l (slot p s (l.many p s - 1))).arc - 1)))
-          ≡ along (use_of l (slot p (after s) 0)).arc
-          (cond (use_of l (slot p (after s) 0)).forward 1 (x (use_of l (slot p (after s) 0)).arc - 1)) =
+          ≡ along (use_of l (slot p (side_after s) 0)).arc
+          (cond (use_of l (slot p (side_after s) 0)).forward 1 (x (use_of l (slot p (side_after s) 0)).arc - 1)) =
           sym w_point ∙ same ∙ v_point in cc
 
-      no_turn : (s : Way) → s ≢ after s
+      no_turn : (s : Way) → s ≢ side_after s
       no_turn south f = cc
       no_turn east f = cc
       no_turn north f = cc
       no_turn west f = cc
 
-      alike : (use_of l (slot p s (l.many p s - 1))).forward ≡ (use_of l (slot p (after s) 0)).forward → ⊥
+      alike : (use_of l (slot p s (l.many p s - 1))).forward ≡ (use_of l (slot p (side_after s) 0)).forward → ⊥
       alike ways =
           no_turn s (ap (λ (u : Slot). u.side)
-          (laid.once (slot p s (l.many p s - 1)) (slot p (after s) 0) is_w is_v (λ r. record { arc = arcs r; forward = ways r })))
+          (laid.once (slot p s (l.many p s - 1)) (slot p (side_after s) 0) is_w is_v (λ r. record { arc = arcs r; forward = ways r })))
 
-      turned : (use_of l (slot p (after s) 0)).forward ≡ not (use_of l (slot p s (l.many p s - 1))).forward → ⊥
+      turned : (use_of l (slot p (side_after s) 0)).forward ≡ not (use_of l (slot p s (l.many p s - 1))).forward → ⊥
       turned ways =
-          laid.no_fold (slot p (after s) 0) is_v refl
-          (subst (λ (q : Way). AreReverse (l.use_at p q (l.many p q - 1)) (l.use_at p (after s) 0)) (sym (before_after s))
+          laid.no_fold (slot p (side_after s) 0) is_v refl
+          (subst (λ (q : Way). AreReverse (l.use_at p q (l.many p q - 1)) (l.use_at p (side_after s) 0)) (sym (before_after s))
           (record { arc = sym arcs; turned = ways }))
 
-      by_ways : (f g : Bool) → (use_of l (slot p s (l.many p s - 1))).forward ≡ f → (use_of l (slot p (after s) 0)).forward ≡ g → ⊥
+      by_ways : (f g : Bool) → (use_of l (slot p s (l.many p s - 1))).forward ≡ f → (use_of l (slot p (side_after s) 0)).forward ≡ g → ⊥
       by_ways true true f g = alike (f ∙ sym g)
       by_ways false false f g = alike (f ∙ sym g)
       by_ways true false f g = turned (g ∙ ap not (sym f))
@@ -275,32 +275,32 @@ module _ (l : Layout) (x : Lengths) (laid : IsLaid l) (len : AreLengths l x) (op
           ((λ r. arc_point l x (sym e.0 r) (sym c r)) ∙ s.1 ∙ ap (arc_point l x b) d))
 
   -- Edges with the same ends are one.
-  joins_once : (e f : Edge) → IsEdge l x e → IsEdge l x f → Joins l x e (low l x f) (top l x f) → e ≡ f
+  joins_once : (e f : Edge) → IsEdge l x e → IsEdge l x f → Joins l x e (edge_start l x f) (edge_end l x f) → e ≡ f
   joins_once e f is_e is_f joins = by_kinds (is_arc e) (is_arc f) refl refl
     where
       Sorted : Edge → Type 0
       Sorted g = (p : ℕ) × (i : ℕ) × (j : ℕ) × (w : Way) × Inner l x laid len p i j × (g ≡ spoke p i j w)
 
-      along_spoke : (g h : Edge) → IsEdge l x g → Joins l x g (low l x h) (top l x h)
+      along_spoke : (g h : Edge) → IsEdge l x g → Joins l x g (edge_start l x h) (edge_end l x h)
           → (p i j : ℕ) (w : Way) → Inner l x laid len p i j → h ≡ spoke p i j w → g ≡ h
       along_spoke g h is_g both p i j w n is =
           spoke_once g p i j w is_g n (by_order (spoke_joins l x laid len p i j w n)) ∙ sym is
         where
-          on_spoke : Joins l x g (low l x (spoke p i j w)) (top l x (spoke p i j w))
-          on_spoke = subst (λ (k : Edge). Joins l x g (low l x k) (top l x k)) is both
+          on_spoke : Joins l x g (edge_start l x (spoke p i j w)) (edge_end l x (spoke p i j w))
+          on_spoke = subst (λ (k : Edge). Joins l x g (edge_start l x k) (edge_end l x k)) is both
 
           by_order : Joins l x (spoke p i j w) (inside p i j) (tip l x p i j w) → Joins l x g (inside p i j) (tip l x p i j w)
           by_order (inl s) =
-              subst (λ (q : Point). Joins l x g q (tip l x p i j w)) s.0 (subst (λ (q : Point). Joins l x g (low l x (spoke p i j w)) q) s.1 on_spoke)
+              subst (λ (q : Point). Joins l x g q (tip l x p i j w)) s.0 (subst (λ (q : Point). Joins l x g (edge_start l x (spoke p i j w)) q) s.1 on_spoke)
           by_order (inr s) =
               joins_swap l x g (tip l x p i j w) (inside p i j)
-              (subst (λ (q : Point). Joins l x g q (inside p i j)) s.0 (subst (λ (q : Point). Joins l x g (low l x (spoke p i j w)) q) s.1 on_spoke))
+              (subst (λ (q : Point). Joins l x g q (inside p i j)) s.0 (subst (λ (q : Point). Joins l x g (edge_start l x (spoke p i j w)) q) s.1 on_spoke))
 
-      flip : Joins l x e (low l x f) (top l x f) → Joins l x f (low l x e) (top l x e)
+      flip : Joins l x e (edge_start l x f) (edge_end l x f) → Joins l x f (edge_start l x e) (edge_end l x e)
       flip (inl s) = inl (sym s.0, sym s.1)
       flip (inr s) = inr (sym s.1, sym s.0)
 
-      both_arcs : (g h : Edge) → IsEdge l x g → IsEdge l x h → is_arc g ≡ true → is_arc h ≡ true → Joins l x g (low l x h) (top l x h) → g ≡ h
+      both_arcs : (g h : Edge) → IsEdge l x g → IsEdge l x h → is_arc g ≡ true → is_arc h ≡ true → Joins l x g (edge_start l x h) (edge_end l x h) → g ≡ h
       both_arcs (on_arc a k) (on_arc b m) is_g is_h g_on h_on both = arcs_once a k b m is_g is_h both
       both_arcs _ _ is_g is_h g_on h_on both = absurd cc
 
@@ -315,7 +315,7 @@ module _ (l : Layout) (x : Lengths) (laid : IsLaid l) (len : AreLengths l x) (op
           at s = sym (along_spoke f e is_f (flip joins) s.0 s.1 s.2 s.3 s.4 s.5)
       by_kinds true true e_kind f_kind = both_arcs e f is_e is_f e_kind f_kind joins
 
-  no_loop : (e : Edge) → IsEdge l x e → low l x e ≢ top l x e
+  no_loop : (e : Edge) → IsEdge l x e → edge_start l x e ≢ edge_end l x e
   no_loop (on_arc a k) is same = elim (cases_eq k 0) [
     | inl z ↦
         let s : (a ≡ a) × (k ≡ k + 1) = arc_sort l x a k a (k + 1) (same ∙ arc_inner l x a (k + 1) (omega arith) (omega (arith, open_l.two a is.0))) in

@@ -5,12 +5,12 @@ use Rattle.def_mesh.specs.Faces.{Faces}
 use Rattle.def_mesh.specs.Vertices.{faces_at}
 use Rattle.def_mesh.specs.Kinds.{is_inner, is_regular}
 use Rattle.def_layout.specs.declared.tmesh.SideArc.{SideArc}
-use Rattle.def_layout.specs.Layouts.{Way, south, east, north, west, Layout, Slot, IsSlot, use_of, start_of, end_of}
-use Rattle.def_layout.specs.Laid.{IsLaid, IsOther}
+use Rattle.def_layout.specs.Layouts.{Way, south, east, north, west, Layout, Slot, IsSlot, use_of, start_node, end_node}
+use Rattle.def_layout.specs.Laid.{IsLaid, IsOtherSlot}
 use Rattle.def_layout.specs.Lengths.{Lengths, AreLengths}
-use Rattle.def_layout.specs.Cells.{Dart, IsDart, dart}
+use Rattle.def_layout.specs.Cells.{CellDart, IsDart, dart}
 use Rattle.def_written.specs.Points.{node, along, inside, IsPoint, use_point, point}
-use Rattle.def_written.specs.NewFaces.{column, row, from}
+use Rattle.def_written.specs.NewFaces.{column, row, dart_start}
 use Rattle.written_laws.proofs.Sides.{use_begins, use_ends, use_inner, arc_inner}
 use Rattle.written_laws.proofs.Grid.{point_inside}
 use Rattle.written_laws.proofs.Rims.{column_of, row_of, corner_low, IsInner}
@@ -34,7 +34,7 @@ row_once j m north e = omega arith
 row_once j m west e = omega arith
 
 -- The four darts at an inner grid point.
-abbrev hub_dart : (p i j : ℕ) (w : Way) → Dart
+abbrev hub_dart : (p i j : ℕ) (w : Way) → CellDart
 hub_dart p i j south = dart p i j south
 hub_dart p i j east = dart p (i - 1) j east
 hub_dart p i j north = dart p (i - 1) (j - 1) north
@@ -102,7 +102,7 @@ module _ (l : Layout) (x : Lengths) (laid : IsLaid l) (len : AreLengths l x) whe
   upto_not_inside : (u : SideArc) (o p i j : ℕ) → o ≤ x u.arc → 0 < x u.arc → use_point l x u o ≢ inside p i j
   upto_not_inside u o p i j le some e = elim (cases_eq o (x u.arc)) [
     | inl last ↦
-        let b : use_point l x u o ≡ node (end_of l u) = use_ends l x u o last (omega arith) in absurd cc
+        let b : use_point l x u o ≡ node (end_node l u) = use_ends l x u o last (omega arith) in absurd cc
     | inr less ↦ use_not_inside l x u o p i j (omega arith) e
   ]
 
@@ -110,9 +110,9 @@ module _ (l : Layout) (x : Lengths) (laid : IsLaid l) (len : AreLengths l x) whe
   arc_of : (u : SideArc) (o a k : ℕ) → o ≤ x u.arc → 0 < x u.arc → use_point l x u o ≡ along a k
       → (u.arc ≡ a) × (0 < o) × (o < x u.arc) × (cond u.forward o (x u.arc - o) ≡ k)
   arc_of u o a k le some e = elim (cases_eq o 0) [
-    | inl z ↦ let b : use_point l x u o ≡ node (start_of l u) = ap (use_point l x u) z ∙ use_begins l x u some in absurd cc
+    | inl z ↦ let b : use_point l x u o ≡ node (start_node l u) = ap (use_point l x u) z ∙ use_begins l x u some in absurd cc
     | inr more ↦ elim (cases_eq o (x u.arc)) [
-      | inl last ↦ let b : use_point l x u o ≡ node (end_of l u) = use_ends l x u o last (omega arith) in absurd cc
+      | inl last ↦ let b : use_point l x u o ≡ node (end_node l u) = use_ends l x u o last (omega arith) in absurd cc
       | inr less ↦
           let b : use_point l x u o ≡ along u.arc (cond u.forward o (x u.arc - o)) = use_inner l x u o (omega arith) (omega arith) in
           let arc : u.arc ≡ a = cc in
@@ -121,7 +121,7 @@ module _ (l : Layout) (x : Lengths) (laid : IsLaid l) (len : AreLengths l x) whe
     ]
   ]
 
-  module _ (F : Faces) (cell : Dart → ℕ) (model : IsModel F l x laid len cell) where
+  module _ (F : Faces) (cell : CellDart → ℕ) (model : IsModel F l x laid len cell) where
     -- A vertex with four faces and only shared arcs, or with two faces and an arc that is not shared, is regular.
     regular_by : (v n : ℕ) (b : Bool) → faces_at F v ≡ n → is_inner F v ≡ b → n ≡ cond b 4 2 → is_regular F v ≡ true
     regular_by v n b many inner is = eq-eqb (faces_at F v) (cond (is_inner F v) 4 2) (many ∙ is ∙ ap (λ (c : Bool). cond c 4 2) (sym inner))
@@ -134,12 +134,12 @@ module _ (l : Layout) (x : Lengths) (laid : IsLaid l) (len : AreLengths l x) whe
         shared w o is_w less (inl e) = absurd (upto_not_inside (use_of l w) o p i j (omega arith) (omega arith) e)
         shared w o is_w less (inr e) = absurd (upto_not_inside (use_of l w) (o + 1) p i j (omega arith) (omega arith) e)
 
-        place : (d : Dart) → IsDart l x d → from l x d ≡ inside p i j → (d.patch ≡ p) × (column_of d ≡ i) × (row_of d ≡ j)
+        place : (d : CellDart) → IsDart l x d → dart_start l x d ≡ inside p i j → (d.patch ≡ p) × (column_of d ≡ i) × (row_of d ≡ j)
         place d is_d leaves =
             point_sort l x laid len d.patch (column_of d) (row_of d) p i j is_d.patch_low
             (corner_low l x laid.paved len d is_d).0 (corner_low l x laid.paved len d is_d).1 leaves
 
-        once : (d e : Dart) (b : IsDart l x d) (c : IsDart l x e) (f : from l x d ≡ inside p i j) (g : from l x e ≡ inside p i j)
+        once : (d e : CellDart) (b : IsDart l x d) (c : IsDart l x e) (f : dart_start l x d ≡ inside p i j) (g : dart_start l x e ≡ inside p i j)
             → turn d.way ≡ turn e.way → d ≡ e
         once d e is_d is_e f g turns =
             let a : (d.patch ≡ p) × (column_of d ≡ i) × (row_of d ≡ j) = place d is_d f in
@@ -153,7 +153,7 @@ module _ (l : Layout) (x : Lengths) (laid : IsLaid l) (len : AreLengths l x) whe
         hub : point l x p i j ≡ inside p i j
         hub = point_inside l x laid len p i j is.1 is.2 is.3 is.4
 
-        at_hub : (w : Way) → IsDart l x (hub_dart p i j w) × (from l x (hub_dart p i j w) ≡ inside p i j)
+        at_hub : (w : Way) → IsDart l x (hub_dart p i j w) × (dart_start l x (hub_dart p i j w) ≡ inside p i j)
         at_hub south = (record { patch_low = is.0; i_low = is.2; j_low = is.4 }, hub)
         at_hub east =
             let c : i - 1 + 1 ≡ i = omega (arith, is.1) in
@@ -176,17 +176,17 @@ module _ (l : Layout) (x : Lengths) (laid : IsLaid l) (len : AreLengths l x) whe
             least = fan_least l x laid len F cell model (inside p i j) v is_v 4
                 (λ k low. (hub_dart p i j (way_of k), (at_hub (way_of k)).0, (at_hub (way_of k)).1))
                 (λ k m low less same. sym (turn_way k low)
-                ∙ ap turn (sym (hub_way p i j (way_of k)) ∙ ap (λ (d : Dart). d.way) same ∙ hub_way p i j (way_of m)) ∙ turn_way m less)
+                ∙ ap turn (sym (hub_way p i j (way_of k)) ∙ ap (λ (d : CellDart). d.way) same ∙ hub_way p i j (way_of m)) ∙ turn_way m less)
 
     module _ (a k v : ℕ) (is : IsPoint l x (along a k)) (is_v : IsVertex l x laid len F cell model (along a k) v) where
       -- A dart at the point, by slot.
-      record IsAlong (d : Dart) (w : Slot) (o : ℕ) (b : Bool) : Type 0 where
+      record IsAlong (d : CellDart) (w : Slot) (o : ℕ) (b : Bool) : Type 0 where
         pub at : IsAt l x laid len d w o
         pub arc : (use_of l w).arc ≡ a
         pub place : cond (use_of l w).forward o (x (use_of l w).arc - o) ≡ k
         pub dart : d ≡ spot_dart l x w o b
 
-      along_sort : (d : Dart) → IsDart l x d → from l x d ≡ along a k → (w : Slot) × (o : ℕ) × (b : Bool) × IsAlong d w o b
+      along_sort : (d : CellDart) → IsDart l x d → dart_start l x d ≡ along a k → (w : Slot) × (o : ℕ) × (b : Bool) × IsAlong d w o b
       along_sort d is_d leaves = by_case (sort_dart l x laid len d is_d)
         where
           at_slot : (w : Slot) (o : ℕ) → IsAt l x laid len d w o → (w : Slot) × (o : ℕ) × (b : Bool) × IsAlong d w o b
@@ -198,10 +198,10 @@ module _ (l : Layout) (x : Lengths) (laid : IsLaid l) (len : AreLengths l x) whe
 
           by_case : IsInner l x laid.paved len d.patch (column_of d) (row_of d) ⊎ ((w : Slot) × (o : ℕ) × IsAt l x laid len d w o)
               → (w : Slot) × (o : ℕ) × (b : Bool) × IsAlong d w o b
-          by_case (inl i) = let b : from l x d ≡ inside d.patch (column_of d) (row_of d) = inner_from l x laid len d i in absurd cc
+          by_case (inl i) = let b : dart_start l x d ≡ inside d.patch (column_of d) (row_of d) = inner_from l x laid len d i in absurd cc
           by_case (inr s) = at_slot s.0 s.1 s.2
 
-      along_once : (d e : Dart) (w u : Slot) (o m : ℕ) (b c : Bool) → IsAlong d w o b → IsAlong e u m c
+      along_once : (d e : CellDart) (w u : Slot) (o m : ℕ) (b c : Bool) → IsAlong d w o b → IsAlong e u m c
           → (use_of l w).forward ≡ (use_of l u).forward → b ≡ c → d ≡ e
       along_once d e w u o m b c s r ways same =
           let slots : w ≡ u = laid.once w u s.at.is_slot r.at.is_slot (λ t. record { arc = (s.arc ∙ sym r.arc) t; forward = ways t }) in
@@ -225,18 +225,18 @@ module _ (l : Layout) (x : Lengths) (laid : IsLaid l) (len : AreLengths l x) whe
       first_leaves : use_point l x (use_of l first.0) k ≡ along a k
       first_leaves = ap (λ (u : SideArc). use_point l x u k) first.2 ∙ arc_inner l x a k is.1 is.2
 
-      first_dart : (b : Bool) → IsDart l x (spot_dart l x first.0 k b) × (from l x (spot_dart l x first.0 k b) ≡ along a k)
+      first_dart : (b : Bool) → IsDart l x (spot_dart l x first.0 k b) × (dart_start l x (spot_dart l x first.0 k b) ≡ along a k)
       first_dart b = (
         spot_is l x laid len first.0 k b first.1 (omega (arith, first_long, is.2)) (λ e. omega (arith, is.1)),
         (spot_at l x laid len first.0 k b first.1 (omega (arith, first_long, is.2)) (λ e. omega (arith, is.1))).leaves ∙ first_leaves,
       )
 
-      along_alone : ((u : Slot) → ¬ IsOther l first.0 u) → is_regular F v ≡ true
+      along_alone : ((u : Slot) → ¬ IsOtherSlot l first.0 u) → is_regular F v ≡ true
       along_alone none = regular_by v 2 false two boundary refl
         where
           boundary : is_inner F v ≡ false
           boundary = false_from_ne_true (is_inner F v) (λ inner.
-              let u : (u : Slot) × IsOther l first.0 u =
+              let u : (u : Slot) × IsOtherSlot l first.0 u =
               inner_only l x laid len F cell model (along a k) v is_v inner first.0 k first.1 (omega (arith, first_long, is.2)) (inl first_leaves) in
               none u.0 u.1)
 
@@ -256,10 +256,10 @@ module _ (l : Layout) (x : Lengths) (laid : IsLaid l) (len : AreLengths l x) whe
           two : faces_at F v ≡ 2
           two = omega (arith, most, least)
             where
-              coded : (d : Dart) → IsDart l x d → from l x d ≡ along a k → (c : ℕ) × (c < 2)
+              coded : (d : CellDart) → IsDart l x d → dart_start l x d ≡ along a k → (c : ℕ) × (c < 2)
               coded d is_d leaves = (code true (along_sort d is_d leaves).2, code_first (along_sort d is_d leaves).2)
 
-              once : (d e : Dart) (b : IsDart l x d) (c : IsDart l x e) (f : from l x d ≡ along a k) (g : from l x e ≡ along a k)
+              once : (d e : CellDart) (b : IsDart l x d) (c : IsDart l x e) (f : dart_start l x d ≡ along a k) (g : dart_start l x e ≡ along a k)
                   → (coded d b f).0 ≡ (coded e c g).0 → d ≡ e
               once d e b c f g same = by_sort (along_sort d b f) (along_sort e c g) same
                 where
@@ -279,13 +279,13 @@ module _ (l : Layout) (x : Lengths) (laid : IsLaid l) (len : AreLengths l x) whe
                   (λ c m low less same. sym (code_back_first c low)
                   ∙ ap (code true) (spot_once l x laid len first.0 k (behind_of c) (behind_of m) same) ∙ code_back_first m less)
 
-      along_shared : (u : Slot) → IsOther l first.0 u → is_regular F v ≡ true
+      along_shared : (u : Slot) → IsOtherSlot l first.0 u → is_regular F v ≡ true
       along_shared u other = regular_by v 4 true four (inner_if l x laid len F cell model (along a k) v is_v shared) refl
         where
           long : x (use_of l u).arc ≡ x a
           long = ap x other.1.arc ∙ first_long
 
-          by_arc : (w : Slot) → IsSlot l w → (use_of l w).arc ≡ a → (z : Slot) × IsOther l w z
+          by_arc : (w : Slot) → IsSlot l w → (use_of l w).arc ≡ a → (z : Slot) × IsOtherSlot l w z
           by_arc w is_w arc = by_way (use_of l w).forward refl
             where
               same_arc : (use_of l first.0).arc ≡ a
@@ -294,10 +294,10 @@ module _ (l : Layout) (x : Lengths) (laid : IsLaid l) (len : AreLengths l x) whe
               same_way : (use_of l first.0).forward ≡ true
               same_way = ap (λ (z : SideArc). z.forward) first.2
 
-              by_way : (f : Bool) → (use_of l w).forward ≡ f → (z : Slot) × IsOther l w z
+              by_way : (f : Bool) → (use_of l w).forward ≡ f → (z : Slot) × IsOtherSlot l w z
               by_way true e =
                   let one : first.0 ≡ w = laid.once first.0 w first.1 is_w (λ t. record { arc = (same_arc ∙ sym arc) t; forward = (same_way ∙ sym e) t }) in
-                  (u, subst (λ (z : Slot). IsOther l z u) one other)
+                  (u, subst (λ (z : Slot). IsOtherSlot l z u) one other)
               by_way false e = (first.0, (first.1, record { arc = same_arc ∙ sym arc; turned = same_way ∙ ap not (sym e) }))
 
           shared : AreShared l x (along a k)
@@ -310,11 +310,11 @@ module _ (l : Layout) (x : Lengths) (laid : IsLaid l) (len : AreLengths l x) whe
               let e : x (use_of l first.0).arc - (x a - k) ≡ k = omega (arith, first_long, is.2) in
               use_back l x (use_of l first.0) (use_of l u) other.1 (x a - k) le ∙ ap (use_point l x (use_of l first.0)) e ∙ first_leaves
 
-          both : (f b : Bool) → Dart
+          both : (f b : Bool) → CellDart
           both true b = spot_dart l x first.0 k b
           both false b = spot_dart l x u (x a - k) b
 
-          both_is : (f b : Bool) → IsDart l x (both f b) × (from l x (both f b) ≡ along a k)
+          both_is : (f b : Bool) → IsDart l x (both f b) × (dart_start l x (both f b) ≡ along a k)
           both_is true b = first_dart b
           both_is false b = (
             spot_is l x laid len u (x a - k) b other.0 (omega (arith, long, is.1, is.2)) (λ e. omega (arith, is.2)),
@@ -334,24 +334,24 @@ module _ (l : Layout) (x : Lengths) (laid : IsLaid l) (len : AreLengths l x) whe
           both_once true false b c e =
               absurd (apart (at_once l x laid len (both true b) first.0 u k (x a - k)
               (spot_at l x laid len first.0 k b first.1 (omega (arith, first_long, is.2)) (λ s. omega (arith, is.1)))
-              (subst (λ (d : Dart). IsAt l x laid len d u (x a - k)) (sym e)
+              (subst (λ (d : CellDart). IsAt l x laid len d u (x a - k)) (sym e)
               (spot_at l x laid len u (x a - k) c other.0 (omega (arith, long, is.1, is.2)) (λ s. omega (arith, is.2))))).0)
           both_once false true b c e =
               absurd (apart (at_once l x laid len (both true c) first.0 u k (x a - k)
               (spot_at l x laid len first.0 k c first.1 (omega (arith, first_long, is.2)) (λ s. omega (arith, is.1)))
-              (subst (λ (d : Dart). IsAt l x laid len d u (x a - k)) e
+              (subst (λ (d : CellDart). IsAt l x laid len d u (x a - k)) e
               (spot_at l x laid len u (x a - k) b other.0 (omega (arith, long, is.1, is.2)) (λ s. omega (arith, is.2))))).0)
 
           four : faces_at F v ≡ 4
           four = omega (arith, most, least)
             where
-              coded : (d : Dart) → IsDart l x d → from l x d ≡ along a k → (c : ℕ) × (c < 4)
+              coded : (d : CellDart) → IsDart l x d → dart_start l x d ≡ along a k → (c : ℕ) × (c < 4)
               coded d is_d leaves = (
                 code (use_of l (along_sort d is_d leaves).0).forward (along_sort d is_d leaves).2,
                 code_low (use_of l (along_sort d is_d leaves).0).forward (along_sort d is_d leaves).2,
               )
 
-              once : (d e : Dart) (b : IsDart l x d) (c : IsDart l x e) (f : from l x d ≡ along a k) (g : from l x e ≡ along a k)
+              once : (d e : CellDart) (b : IsDart l x d) (c : IsDart l x e) (f : dart_start l x d ≡ along a k) (g : dart_start l x e ≡ along a k)
                   → (coded d b f).0 ≡ (coded e c g).0 → d ≡ e
               once d e b c f g same = by_sort (along_sort d b f) (along_sort e c g) same
                 where

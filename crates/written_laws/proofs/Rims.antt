@@ -1,20 +1,20 @@
 -- The border darts of a patch.
 use Rattle.std.proofs.Common.{◌≡◌, ◌⊎◌, ℕ, ◌+◌, ◌-◌, ◌<◌, ◌≤◌, refl, sym, ◌∙◌, ap, inl, inr, arith}
 use Rattle.std.proofs.lemmas.Bool.{cases_eq}
-use Rattle.def_layout.specs.Layouts.{Way, south, east, north, west, after, Layout}
+use Rattle.def_layout.specs.Layouts.{Way, south, east, north, west, side_after, Layout}
 use Rattle.def_layout.specs.Laid.{IsPaved, IsLaid}
 use Rattle.def_layout.specs.Lengths.{Lengths, size, wide, high, AreLengths}
-use Rattle.def_layout.specs.Cells.{Dart, IsDart, dart, next, rim}
+use Rattle.def_layout.specs.Cells.{CellDart, IsDart, dart, next, dart_along}
 use Rattle.def_written.specs.Points.{side_point, point}
-use Rattle.def_written.specs.NewFaces.{column, row, from, to}
+use Rattle.def_written.specs.NewFaces.{column, row, dart_start, dart_end}
 use Rattle.written_laws.proofs.Grid.{wide_some, high_some, point_north, point_west, point_east}
 use Rattle.written_laws.proofs.Turning.{IsTurning, grid_related}
 
 -- Where a dart begins in its patch.
-abbrev pub column_of : (d : Dart) → ℕ
+abbrev pub column_of : (d : CellDart) → ℕ
 column_of d = column d.i d.way
 
-abbrev pub row_of : (d : Dart) → ℕ
+abbrev pub row_of : (d : CellDart) → ℕ
 row_of d = row d.j d.way
 
 -- Where a place of a side lies in the patch.
@@ -31,7 +31,7 @@ side_row l x p north t = high l x p
 side_row l x p west t = high l x p - t
 
 module _ (l : Layout) (x : Lengths) (paved : IsPaved l) (len : AreLengths l x) where
-  pub rim_is : (p : ℕ) (s : Way) (t : ℕ) → p < l.patches → t < size l x p s → IsDart l x (rim l x p s t)
+  pub rim_is : (p : ℕ) (s : Way) (t : ℕ) → p < l.patches → t < size l x p s → IsDart l x (dart_along l x p s t)
   rim_is p south t low less = record { patch_low = low; i_low = less; j_low = high_some l x paved len p low }
   rim_is p east t low less =
       record { patch_low = low; i_low = omega (arith, wide_some l x paved len p low); j_low = omega (arith, len.upright p low) }
@@ -45,34 +45,34 @@ module _ (l : Layout) (x : Lengths) (paved : IsPaved l) (len : AreLengths l x) w
 
   -- A border dart begins at its place of the side, and ends at the next one.
   pub rim_column : (p : ℕ) (s : Way) (t : ℕ) → p < l.patches → t < size l x p s
-      → column_of (rim l x p s t) ≡ side_column l x p s t
+      → column_of (dart_along l x p s t) ≡ side_column l x p s t
   rim_column p south t low less = refl
   rim_column p east t low less = omega (arith, wide_some l x paved len p low)
   rim_column p north t low less = omega (arith, len.across p low)
   rim_column p west t low less = refl
 
   pub rim_row : (p : ℕ) (s : Way) (t : ℕ) → p < l.patches → t < size l x p s
-      → row_of (rim l x p s t) ≡ side_row l x p s t
+      → row_of (dart_along l x p s t) ≡ side_row l x p s t
   rim_row p south t low less = refl
   rim_row p east t low less = refl
   rim_row p north t low less = omega (arith, high_some l x paved len p low)
   rim_row p west t low less = omega arith
 
   pub rim_next_column : (p : ℕ) (s : Way) (t : ℕ) → p < l.patches → t < size l x p s
-      → column_of (next (rim l x p s t)) ≡ side_column l x p s (t + 1)
+      → column_of (next (dart_along l x p s t)) ≡ side_column l x p s (t + 1)
   rim_next_column p south t low less = refl
   rim_next_column p east t low less = omega (arith, wide_some l x paved len p low)
   rim_next_column p north t low less = omega (arith, len.across p low)
   rim_next_column p west t low less = refl
 
   pub rim_next_row : (p : ℕ) (s : Way) (t : ℕ) → p < l.patches → t < size l x p s
-      → row_of (next (rim l x p s t)) ≡ side_row l x p s (t + 1)
+      → row_of (next (dart_along l x p s t)) ≡ side_row l x p s (t + 1)
   rim_next_row p south t low less = refl
   rim_next_row p east t low less = refl
   rim_next_row p north t low less = omega (arith, high_some l x paved len p low)
   rim_next_row p west t low less = omega arith
 
-  pub rim_patch : (p : ℕ) (s : Way) (t : ℕ) → (rim l x p s t).patch ≡ p
+  pub rim_patch : (p : ℕ) (s : Way) (t : ℕ) → (dart_along l x p s t).patch ≡ p
   rim_patch p south t = refl
   rim_patch p east t = refl
   rim_patch p north t = refl
@@ -80,21 +80,21 @@ module _ (l : Layout) (x : Lengths) (paved : IsPaved l) (len : AreLengths l x) w
 
   -- A side ends where the next one begins.
   pub corner_column : (p : ℕ) (s : Way) (t : ℕ) → p < l.patches → t ≡ size l x p s
-      → side_column l x p s t ≡ side_column l x p (after s) 0
+      → side_column l x p s t ≡ side_column l x p (side_after s) 0
   corner_column p south t low e = e
   corner_column p east t low e = omega arith
   corner_column p north t low e = omega (arith, len.across p low)
   corner_column p west t low e = refl
 
   pub corner_row : (p : ℕ) (s : Way) (t : ℕ) → p < l.patches → t ≡ size l x p s
-      → side_row l x p s t ≡ side_row l x p (after s) 0
+      → side_row l x p s t ≡ side_row l x p (side_after s) 0
   corner_row p south t low e = refl
   corner_row p east t low e = omega (arith, len.upright p low)
   corner_row p north t low e = omega arith
   corner_row p west t low e = omega arith
 
   -- The border dart next to the last one of a side is the first one of the next side.
-  pub corner_next : (p : ℕ) (s : Way) (t : ℕ) → p < l.patches → t + 1 ≡ size l x p s → next (rim l x p s t) ≡ rim l x p (after s) 0
+  pub corner_next : (p : ℕ) (s : Way) (t : ℕ) → p < l.patches → t + 1 ≡ size l x p s → next (dart_along l x p s t) ≡ dart_along l x p (side_after s) 0
   corner_next p south t low e =
       let a : t ≡ wide l x p - 1 = omega arith in λ k. dart p (a k) 0 east
   corner_next p east t low e =
@@ -108,15 +108,15 @@ module _ (l : Layout) (x : Lengths) (paved : IsPaved l) (len : AreLengths l x) w
   corner_next p west t low e = let b : high l x p - 1 - t ≡ 0 = omega arith in λ k. dart p 0 (b k) south
 
   -- A cell with two border darts in a row lies at the corner of its patch.
-  pub corner_cell : (p : ℕ) (s : Way) (t u : ℕ) → p < l.patches → t < size l x p s → u < size l x p (after s)
-      → (rim l x p s t).i ≡ (rim l x p (after s) u).i → (rim l x p s t).j ≡ (rim l x p (after s) u).j
+  pub corner_cell : (p : ℕ) (s : Way) (t u : ℕ) → p < l.patches → t < size l x p s → u < size l x p (side_after s)
+      → (dart_along l x p s t).i ≡ (dart_along l x p (side_after s) u).i → (dart_along l x p s t).j ≡ (dart_along l x p (side_after s) u).j
       → (t + 1 ≡ size l x p s) × (u ≡ 0)
   corner_cell p south t u low t_low u_low i j = (omega (arith, i), sym j)
   corner_cell p east t u low t_low u_low i j = (omega (arith, j, len.upright p low), omega (arith, i, len.across p low))
   corner_cell p north t u low t_low u_low i j = (omega (arith, i, len.across p low), omega (arith, j))
   corner_cell p west t u low t_low u_low i j = (omega (arith, j), sym i)
 
-  pub rim_way : (p : ℕ) (s : Way) (t : ℕ) → (rim l x p s t).way ≡ s
+  pub rim_way : (p : ℕ) (s : Way) (t : ℕ) → (dart_along l x p s t).way ≡ s
   rim_way p south t = refl
   rim_way p east t = refl
   rim_way p north t = refl
@@ -173,7 +173,7 @@ module _ (l : Layout) (x : Lengths) (paved : IsPaved l) (len : AreLengths l x) w
   ]
 
   -- The corner where a dart begins is a grid point of its patch.
-  pub corner_low : (d : Dart) → IsDart l x d → (column_of d ≤ wide l x d.patch) × (row_of d ≤ high l x d.patch)
+  pub corner_low : (d : CellDart) → IsDart l x d → (column_of d ≤ wide l x d.patch) × (row_of d ≤ high l x d.patch)
   corner_low d is = by_way d.way
     where
       by_way : (w : Way) → (column d.i w ≤ wide l x d.patch) × (row d.j w ≤ high l x d.patch)
@@ -182,13 +182,13 @@ module _ (l : Layout) (x : Lengths) (paved : IsPaved l) (len : AreLengths l x) w
       by_way north = (omega (arith, is.i_low), omega (arith, is.j_low))
       by_way west = (omega (arith, is.i_low), omega (arith, is.j_low))
 
-  pub dart_on_rim : (d : Dart) → IsDart l x d
+  pub dart_on_rim : (d : CellDart) → IsDart l x d
       → IsInner d.patch (column_of d) (row_of d) ⊎ ((s : Way) × (t : ℕ) × IsBorder d.patch (column_of d) (row_of d) s t)
   dart_on_rim d is = on_rim d.patch (column_of d) (row_of d) is.patch_low (corner_low d is).0 (corner_low d is).1
 
-  module _ (R : Dart → Dart → Type 0) (turning : IsTurning l x R) where
+  module _ (R : CellDart → CellDart → Type 0) (turning : IsTurning l x R) where
     -- Darts of a patch that leave one grid point are related.
-    pub darts_related : (d e : Dart) → IsDart l x d → IsDart l x e → d.patch ≡ e.patch
+    pub darts_related : (d e : CellDart) → IsDart l x d → IsDart l x e → d.patch ≡ e.patch
         → column_of d ≡ column_of e → row_of d ≡ row_of e → R d e
     darts_related d e is_d is_e same c r =
         turning.on d (dart e.patch d.i d.j d.way) e
@@ -203,28 +203,28 @@ module _ (l : Layout) (x : Lengths) (paved : IsPaved l) (len : AreLengths l x) w
 
     -- The dart after a border dart, and the next border dart.
     pub rim_on : (p : ℕ) (s : Way) (t : ℕ) → p < l.patches → t + 1 < size l x p s
-        → R (next (rim l x p s t)) (rim l x p s (t + 1))
+        → R (next (dart_along l x p s t)) (dart_along l x p s (t + 1))
     rim_on p s t low less =
-        darts_related (next (rim l x p s t)) (rim l x p s (t + 1))
+        darts_related (next (dart_along l x p s t)) (dart_along l x p s (t + 1))
         (next_is (rim_is p s t low (omega arith))) (rim_is p s (t + 1) low less)
         (rim_patch p s t ∙ sym (rim_patch p s (t + 1)))
         (rim_next_column p s t low (omega arith) ∙ sym (rim_column p s (t + 1) low less))
         (rim_next_row p s t low (omega arith) ∙ sym (rim_row p s (t + 1) low less))
       where
-        next_is : IsDart l x (rim l x p s t) → IsDart l x (next (rim l x p s t))
+        next_is : IsDart l x (dart_along l x p s t) → IsDart l x (next (dart_along l x p s t))
         next_is d = record { patch_low = d.patch_low; i_low = d.i_low; j_low = d.j_low }
 
     -- The same at the end of a side.
-    pub rim_round : (p : ℕ) (s : Way) (t : ℕ) → p < l.patches → t + 1 ≡ size l x p s → 0 < size l x p (after s)
-        → R (next (rim l x p s t)) (rim l x p (after s) 0)
+    pub rim_round : (p : ℕ) (s : Way) (t : ℕ) → p < l.patches → t + 1 ≡ size l x p s → 0 < size l x p (side_after s)
+        → R (next (dart_along l x p s t)) (dart_along l x p (side_after s) 0)
     rim_round p s t low e some =
-        darts_related (next (rim l x p s t)) (rim l x p (after s) 0)
-        (next_is (rim_is p s t low (omega arith))) (rim_is p (after s) 0 low some)
-        (rim_patch p s t ∙ sym (rim_patch p (after s) 0))
-        (rim_next_column p s t low (omega arith) ∙ corner_column p s (t + 1) low e ∙ sym (rim_column p (after s) 0 low some))
-        (rim_next_row p s t low (omega arith) ∙ corner_row p s (t + 1) low e ∙ sym (rim_row p (after s) 0 low some))
+        darts_related (next (dart_along l x p s t)) (dart_along l x p (side_after s) 0)
+        (next_is (rim_is p s t low (omega arith))) (rim_is p (side_after s) 0 low some)
+        (rim_patch p s t ∙ sym (rim_patch p (side_after s) 0))
+        (rim_next_column p s t low (omega arith) ∙ corner_column p s (t + 1) low e ∙ sym (rim_column p (side_after s) 0 low some))
+        (rim_next_row p s t low (omega arith) ∙ corner_row p s (t + 1) low e ∙ sym (rim_row p (side_after s) 0 low some))
       where
-        next_is : IsDart l x (rim l x p s t) → IsDart l x (next (rim l x p s t))
+        next_is : IsDart l x (dart_along l x p s t) → IsDart l x (next (dart_along l x p s t))
         next_is d = record { patch_low = d.patch_low; i_low = d.i_low; j_low = d.j_low }
 
 module _ (l : Layout) (x : Lengths) (laid : IsLaid l) (len : AreLengths l x) where
@@ -239,13 +239,13 @@ module _ (l : Layout) (x : Lengths) (laid : IsLaid l) (len : AreLengths l x) whe
       point_west l x laid len p (high l x p - t) low (omega arith) ∙ ap (side_point l x p west) (omega arith)
 
   pub rim_from : (p : ℕ) (s : Way) (t : ℕ) → p < l.patches → t < size l x p s
-      → from l x (rim l x p s t) ≡ side_point l x p s t
+      → dart_start l x (dart_along l x p s t) ≡ side_point l x p s t
   rim_from p s t low less =
       (λ k. point l x (rim_patch l x laid.paved len p s t k) (rim_column l x laid.paved len p s t low less k) (rim_row l x laid.paved len p s t low less k))
       ∙ border_point p s t low (omega arith)
 
   pub rim_to : (p : ℕ) (s : Way) (t : ℕ) → p < l.patches → t < size l x p s
-      → to l x (rim l x p s t) ≡ side_point l x p s (t + 1)
+      → dart_end l x (dart_along l x p s t) ≡ side_point l x p s (t + 1)
   rim_to p s t low less =
       (λ k. point l x (rim_patch l x laid.paved len p s t k) (rim_next_column l x laid.paved len p s t low less k) (rim_next_row l x laid.paved len p s t low less k))
       ∙ border_point p s (t + 1) low (omega arith)

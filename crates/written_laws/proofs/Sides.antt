@@ -3,7 +3,7 @@ use Rattle.std.proofs.Common.{◌≡◌, ℕ, suc, ◌+◌, ◌-◌, ◌<◌, �
 use Rattle.std.specs.Prelude.{◌==◌}
 use Rattle.std.proofs.lemmas.Bool.{cases_eq, cases_lt, cond-true, cond-false, eq-eqb, ne_eqb}
 use Rattle.def_layout.specs.declared.tmesh.SideArc.{SideArc}
-use Rattle.def_layout.specs.Layouts.{Way, south, east, north, west, after, Layout, Slot, IsSlot, use_of, start_of, end_of}
+use Rattle.def_layout.specs.Layouts.{Way, south, east, north, west, side_after, Layout, Slot, IsSlot, use_of, start_node, end_node}
 use Rattle.def_layout.specs.Laid.{IsPaved, IsLaid}
 use Rattle.def_layout.specs.Lengths.{Lengths, reach, size, AreLengths}
 use Rattle.def_written.specs.Points.{node, along, arc_point, use_point, use_over, offset_at, side_point}
@@ -24,19 +24,19 @@ module _ (l : Layout) (x : Lengths) where
       cond-false (k == 0) _ _ (ne_eqb k 0 (λ z. omega arith)) ∙ cond-false (k == x a) _ _ (ne_eqb k (x a) (λ e. omega arith))
 
   -- An arc in use begins and ends at nodes.
-  pub use_begins : (u : SideArc) → 0 < x u.arc → use_point l x u 0 ≡ node (start_of l u)
+  pub use_begins : (u : SideArc) → 0 < x u.arc → use_point l x u 0 ≡ node (start_node l u)
   use_begins u some = by_way u.arc u.forward some
     where
       by_way : (a : ℕ) (b : Bool) → 0 < x a
-          → use_point l x (record { arc = a; forward = b }) 0 ≡ node (start_of l (record { arc = a; forward = b }))
+          → use_point l x (record { arc = a; forward = b }) 0 ≡ node (start_node l (record { arc = a; forward = b }))
       by_way a true pos_a = refl
       by_way a false pos_a = arc_last a (x a - 0) (omega arith) (omega arith)
 
-  pub use_ends : (u : SideArc) (o : ℕ) → o ≡ x u.arc → 0 < o → use_point l x u o ≡ node (end_of l u)
+  pub use_ends : (u : SideArc) (o : ℕ) → o ≡ x u.arc → 0 < o → use_point l x u o ≡ node (end_node l u)
   use_ends u o e some = by_way u.arc u.forward e
     where
       by_way : (a : ℕ) (b : Bool) → o ≡ x a
-          → use_point l x (record { arc = a; forward = b }) o ≡ node (end_of l (record { arc = a; forward = b }))
+          → use_point l x (record { arc = a; forward = b }) o ≡ node (end_node l (record { arc = a; forward = b }))
       by_way a true same = arc_last a o same some
       by_way a false same = let z : x a - o ≡ 0 = omega arith in ap (arc_point l x a) z
 
@@ -104,7 +104,7 @@ module _ (l : Layout) (x : Lengths) where
     size_some p s low =
         omega (arith, last_reach p s low, use_some (slot p s (l.many p s - 1)) (last_slot p s low))
 
-    pub side_begin : (p : ℕ) (s : Way) → p < l.patches → side_point l x p s 0 ≡ node (start_of l (l.use_at p s 0))
+    pub side_begin : (p : ℕ) (s : Way) → p < l.patches → side_point l x p s 0 ≡ node (start_node l (l.use_at p s 0))
     side_begin p s low =
         let some : 0 < x (l.use_at p s 0).arc = use_some (slot p s 0) (first_slot p s low) in
         let in_side : side_point l x p s (0 + 0) ≡ use_point l x (l.use_at p s 0) 0 =
@@ -112,7 +112,7 @@ module _ (l : Layout) (x : Lengths) where
         in_side ∙ use_begins (l.use_at p s 0) some
 
     pub side_end : (p : ℕ) (s : Way) (t : ℕ) → p < l.patches → t ≡ size l x p s
-        → side_point l x p s t ≡ node (end_of l (l.use_at p s (l.many p s - 1)))
+        → side_point l x p s t ≡ node (end_node l (l.use_at p s (l.many p s - 1)))
     side_end p s t low e =
         let long : reach l x p s (l.many p s - 1) + long_at p s (l.many p s - 1) ≡ size l x p s = last_reach p s low in
         let some : 0 < long_at p s (l.many p s - 1) = use_some (slot p s (l.many p s - 1)) (last_slot p s low) in
@@ -148,10 +148,10 @@ module _ (l : Layout) (x : Lengths) where
   module _ (laid : IsLaid l) (len : AreLengths l x) where
     -- A side ends where the next one begins.
     pub corner_meets : (p : ℕ) (s : Way) (t : ℕ) → p < l.patches → t ≡ size l x p s
-        → side_point l x p s t ≡ side_point l x p (after s) 0
-    corner_meets p s t low e = side_end laid.paved len p s t low e ∙ ap node (at s) ∙ sym (side_begin laid.paved len p (after s) low)
+        → side_point l x p s t ≡ side_point l x p (side_after s) 0
+    corner_meets p s t low e = side_end laid.paved len p s t low e ∙ ap node (at s) ∙ sym (side_begin laid.paved len p (side_after s) low)
       where
-        at : (s : Way) → end_of l (l.use_at p s (l.many p s - 1)) ≡ start_of l (l.use_at p (after s) 0)
+        at : (s : Way) → end_node l (l.use_at p s (l.many p s - 1)) ≡ start_node l (l.use_at p (side_after s) 0)
         at south = laid.meet (slot p east 0) (first_slot laid.paved len p east low)
         at east = laid.meet (slot p north 0) (first_slot laid.paved len p north low)
         at north = laid.meet (slot p west 0) (first_slot laid.paved len p west low)
@@ -189,5 +189,5 @@ module _ (l : Layout) (x : Lengths) where
             let u : long_at w.patch w.side w.at ≡ long_at w.patch w.side (l.many w.patch w.side - 1) =
             ap (long_at w.patch w.side) m in
             side_end laid.paved len w.patch w.side t is.patch_low (omega (arith, long, r, u))
-            ∙ ap (λ k. node (end_of l (l.use_at w.patch w.side k))) (sym m)
+            ∙ ap (λ k. node (end_node l (l.use_at w.patch w.side k))) (sym m)
             ∙ sym (use_ends (use_of l w) o (omega arith) (omega (arith, use_some laid.paved len w is)))

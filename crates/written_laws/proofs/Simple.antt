@@ -2,14 +2,14 @@
 use Rattle.std.proofs.Common.{◌≡◌, ◌≢◌, Bool, true, false, not, refl, sym, ◌∙◌, ap}
 use Rattle.def_layout.specs.Layouts.{Layout}
 use Rattle.def_layout.specs.Lengths.{Lengths}
-use Rattle.def_written.specs.Edges.{Edge, IsEdge, low, top}
+use Rattle.def_written.specs.Edges.{Edge, IsEdge, edge_start, edge_end}
 use Rattle.written_laws.proofs.Courses.{Course, course, start_at, end_at}
 
 -- No two edges have the same ends, and no edge has equal ends.
 pub record IsSimple (l : Layout) (x : Lengths) : Type 0 where
-  pub same : (e f : Edge) → IsEdge l x e → IsEdge l x f → low l x e ≡ low l x f → top l x e ≡ top l x f → e ≡ f
-  pub crossed : (e f : Edge) → IsEdge l x e → IsEdge l x f → low l x e ≡ top l x f → top l x e ≡ low l x f → e ≡ f
-  pub no_loop : (e : Edge) → IsEdge l x e → low l x e ≢ top l x e
+  pub same : (e f : Edge) → IsEdge l x e → IsEdge l x f → edge_start l x e ≡ edge_start l x f → edge_end l x e ≡ edge_end l x f → e ≡ f
+  pub crossed : (e f : Edge) → IsEdge l x e → IsEdge l x f → edge_start l x e ≡ edge_end l x f → edge_end l x e ≡ edge_start l x f → e ≡ f
+  pub no_loop : (e : Edge) → IsEdge l x e → edge_start l x e ≢ edge_end l x e
 
 module _ (l : Layout) (x : Lengths) (simple : IsSimple l x) where
   -- A course is told by its ends.
@@ -22,9 +22,9 @@ module _ (l : Layout) (x : Lengths) (simple : IsSimple l x) where
       by_ways true true s t = ap (λ (f : Edge). course f true) (simple.same c.edge k.edge is_c is_k s t)
       by_ways false false s t = ap (λ (f : Edge). course f false) (simple.same c.edge k.edge is_c is_k t s)
       by_ways true false s t =
-          absurd (simple.no_loop c.edge is_c (s ∙ ap (top l x) (sym (simple.crossed c.edge k.edge is_c is_k s t))))
+          absurd (simple.no_loop c.edge is_c (s ∙ ap (edge_end l x) (sym (simple.crossed c.edge k.edge is_c is_k s t))))
       by_ways false true s t =
-          absurd (simple.no_loop c.edge is_c (t ∙ ap (top l x) (sym (simple.crossed c.edge k.edge is_c is_k t s))))
+          absurd (simple.no_loop c.edge is_c (t ∙ ap (edge_end l x) (sym (simple.crossed c.edge k.edge is_c is_k t s))))
 
   -- A course from the end to the start of another runs the other way along its edge.
   pub reversed : (c k : Course) → IsEdge l x c.edge → IsEdge l x k.edge

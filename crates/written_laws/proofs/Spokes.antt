@@ -5,7 +5,7 @@ use Rattle.def_layout.specs.Layouts.{Way, south, east, north, west, Layout}
 use Rattle.def_layout.specs.Laid.{IsLaid}
 use Rattle.def_layout.specs.Lengths.{Lengths, wide, high, AreLengths}
 use Rattle.def_written.specs.Points.{Point, node, along, inside, arc_point, use_over, offset_at, point}
-use Rattle.def_written.specs.Edges.{Edge, on_arc, flat, steep, IsEdge, low, top}
+use Rattle.def_written.specs.Edges.{Edge, on_arc, flat, steep, IsEdge, edge_start, edge_end}
 use Rattle.written_laws.proofs.Sides.{IsOn, place_on}
 use Rattle.written_laws.proofs.Grid.{point_inside}
 use Rattle.written_laws.proofs.Rims.{IsInner, IsBorder, border_point, on_rim}
@@ -59,7 +59,7 @@ module _ (l : Layout) (x : Lengths) where
 
   -- The ends of an edge are these two points.
   abbrev pub Joins : (e : Edge) (a b : Point) → Type 0
-  Joins e a b = ((low l x e ≡ a) × (top l x e ≡ b)) ⊎ ((low l x e ≡ b) × (top l x e ≡ a))
+  Joins e a b = ((edge_start l x e ≡ a) × (edge_end l x e ≡ b)) ⊎ ((edge_start l x e ≡ b) × (edge_end l x e ≡ a))
 
   pub joins_swap : (e : Edge) (a b : Point) → Joins e a b → Joins e b a
   joins_swap e a b (inl s) = inr s
@@ -140,11 +140,11 @@ module _ (l : Layout) (x : Lengths) where
         (south, (λ r. steep (e.0 r) (e.1 r) (c r)), sym s.0 ∙ (λ r. point l x (e.0 r) (e.1 r) (c r)))
 
     -- A spoke has no equal ends.
-    pub loop_at : (e : Edge) (p i j : ℕ) (w : Way) → Inner p i j → e ≡ spoke p i j w → low l x e ≢ top l x e
+    pub loop_at : (e : Edge) (p i j : ℕ) (w : Way) → Inner p i j → e ≡ spoke p i j w → edge_start l x e ≢ edge_end l x e
     loop_at e p i j w n is same = by_order (spoke_joins p i j w n)
       where
-        equal : low l x (spoke p i j w) ≡ top l x (spoke p i j w)
-        equal = subst (λ (f : Edge). low l x f ≡ top l x f) is same
+        equal : edge_start l x (spoke p i j w) ≡ edge_end l x (spoke p i j w)
+        equal = subst (λ (f : Edge). edge_start l x f ≡ edge_end l x f) is same
 
         at_tip : tip p i j w ≡ inside p i j → ⊥
         at_tip f =

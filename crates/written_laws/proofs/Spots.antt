@@ -1,9 +1,9 @@
 -- The darts that leave a place of an arc: by slot, and whether they lie on its border or just behind.
 use Rattle.std.proofs.Common.{◌≡◌, ◌≢◌, ◌⊎◌, ℕ, ◌+◌, ◌-◌, ◌<◌, Bool, true, false, refl, sym, ◌∙◌, ap, subst, inl, inr, arith}
-use Rattle.def_layout.specs.Layouts.{Way, south, east, north, west, after, Layout, Slot, IsSlot, use_of}
+use Rattle.def_layout.specs.Layouts.{Way, south, east, north, west, side_after, Layout, Slot, IsSlot, use_of}
 use Rattle.def_layout.specs.Laid.{IsPaved, IsLaid}
 use Rattle.def_layout.specs.Lengths.{Lengths, reach, size, wide, high, AreLengths}
-use Rattle.def_layout.specs.Cells.{Dart, IsDart, dart, next, rim, rim_at}
+use Rattle.def_layout.specs.Cells.{CellDart, IsDart, dart, next, dart_along, slot_dart}
 use Rattle.def_written.specs.Points.{point}
 use Rattle.def_written.specs.NewFaces.{column, row}
 use Rattle.written_laws.proofs.Runs.{place_same}
@@ -13,7 +13,7 @@ use Rattle.written_laws.proofs.Rims.{column_of, row_of, side_column, side_row, b
 use Rattle.written_laws.proofs.Borders.{at_low, at_is, IsAt}
 use Rattle.written_laws.proofs.NewDarts.{next_is}
 
-no_turn : (s : Way) → s ≢ after s
+no_turn : (s : Way) → s ≢ side_after s
 no_turn south e = cc
 no_turn east e = cc
 no_turn north e = cc
@@ -41,7 +41,7 @@ module _ (l : Layout) (x : Lengths) (paved : IsPaved l) (len : AreLengths l x) w
 
   -- A border dart tells its slot.
   pub rim_slot : (w v : Slot) (o k : ℕ) → IsSlot l w → IsSlot l v → o < x (use_of l w).arc → k < x (use_of l v).arc
-      → rim_at l x w o ≡ rim_at l x v k → w ≡ v
+      → slot_dart l x w o ≡ slot_dart l x v k → w ≡ v
   rim_slot w v o k is_w is_v o_low k_low same = by_place (place_once w.patch w.side w.side t u is_w.patch_low (at_low l x paved len w o is_w o_low) u_low columns rows).1
     where
       t : ℕ
@@ -51,16 +51,16 @@ module _ (l : Layout) (x : Lengths) (paved : IsPaved l) (len : AreLengths l x) w
       u = reach l x v.patch v.side v.at + k
 
       patches : v.patch ≡ w.patch
-      patches = sym (rim_patch l x paved len v.patch v.side u) ∙ ap (λ (d : Dart). d.patch) (sym same) ∙ rim_patch l x paved len w.patch w.side t
+      patches = sym (rim_patch l x paved len v.patch v.side u) ∙ ap (λ (d : CellDart). d.patch) (sym same) ∙ rim_patch l x paved len w.patch w.side t
 
       sides : v.side ≡ w.side
-      sides = sym (rim_way l x paved len v.patch v.side u) ∙ ap (λ (d : Dart). d.way) (sym same) ∙ rim_way l x paved len w.patch w.side t
+      sides = sym (rim_way l x paved len v.patch v.side u) ∙ ap (λ (d : CellDart). d.way) (sym same) ∙ rim_way l x paved len w.patch w.side t
 
       u_low : u < size l x w.patch w.side
       u_low = subst (λ (n : ℕ). u < n) (λ r. size l x (patches r) (sides r)) (at_low l x paved len v k is_v k_low)
 
-      there : rim l x v.patch v.side u ≡ rim l x w.patch w.side u
-      there = λ r. rim l x (patches r) (sides r) u
+      there : dart_along l x v.patch v.side u ≡ dart_along l x w.patch w.side u
+      there = λ r. dart_along l x (patches r) (sides r) u
 
       columns : side_column l x w.patch w.side t ≡ side_column l x w.patch w.side u
       columns = sym (rim_column l x paved len w.patch w.side t is_w.patch_low (at_low l x paved len w o is_w o_low))
@@ -82,7 +82,7 @@ module _ (l : Layout) (x : Lengths) (paved : IsPaved l) (len : AreLengths l x) w
   -- A dart that leaves a place of a side lies on the border, or is next to the border dart before.
   border_dart : (p : ℕ) (s w : Way) (i j t : ℕ) → t < size l x p s → IsDart l x (dart p i j w)
       → column i w ≡ side_column l x p s t → row j w ≡ side_row l x p s t
-      → (dart p i j w ≡ rim l x p s t) ⊎ ((0 < t) × (dart p i j w ≡ next (rim l x p s (t - 1))))
+      → (dart p i j w ≡ dart_along l x p s t) ⊎ ((0 < t) × (dart p i j w ≡ next (dart_along l x p s (t - 1))))
   border_dart p south south i j t t_low is c r = inl (λ k. dart p (c k) (r k) south)
   border_dart p south east i j t t_low is c r =
       let a : i ≡ t - 1 = omega (arith, c) in inr (omega (arith, c), λ k. dart p (a k) (r k) east)
@@ -118,13 +118,13 @@ abbrev pub place_at : (l : Layout) (x : Lengths) (w : Slot) (o : ℕ) → ℕ
 place_at l x w o = reach l x w.patch w.side w.at + o
 
 -- The border dart there, or the one next to the border dart before.
-abbrev pub spot_dart : (l : Layout) (x : Lengths) (w : Slot) (o : ℕ) (behind : Bool) → Dart
-spot_dart l x w o false = rim_at l x w o
-spot_dart l x w o true = next (rim l x w.patch w.side (place_at l x w o - 1))
+abbrev pub spot_dart : (l : Layout) (x : Lengths) (w : Slot) (o : ℕ) (behind : Bool) → CellDart
+spot_dart l x w o false = slot_dart l x w o
+spot_dart l x w o true = next (dart_along l x w.patch w.side (place_at l x w o - 1))
 
 module _ (l : Layout) (x : Lengths) (laid : IsLaid l) (len : AreLengths l x) where
   -- A dart is at a slot's place where it leaves the grid point.
-  pub at_place : (d : Dart) (w : Slot) (o : ℕ) → IsSlot l w → o < x (use_of l w).arc → d.patch ≡ w.patch
+  pub at_place : (d : CellDart) (w : Slot) (o : ℕ) → IsSlot l w → o < x (use_of l w).arc → d.patch ≡ w.patch
       → column_of d ≡ side_column l x w.patch w.side (place_at l x w o) → row_of d ≡ side_row l x w.patch w.side (place_at l x w o)
       → IsAt l x laid len d w o
   at_place d w o is less patch c r = record {
@@ -139,7 +139,7 @@ module _ (l : Layout) (x : Lengths) (laid : IsLaid l) (len : AreLengths l x) whe
   }
 
   -- It is at one place of one slot.
-  pub at_once : (d : Dart) (w v : Slot) (o k : ℕ) → IsAt l x laid len d w o → IsAt l x laid len d v k → (w ≡ v) × (o ≡ k)
+  pub at_once : (d : CellDart) (w v : Slot) (o k : ℕ) → IsAt l x laid len d w o → IsAt l x laid len d v k → (w ≡ v) × (o ≡ k)
   at_once d w v o k a b = by_place (place_once l x laid.paved len w.patch w.side v.side (place_at l x w o) (place_at l x v k)
       a.is_slot.patch_low (at_low l x laid.paved len w o a.is_slot a.low) v_low columns rows)
     where
@@ -170,12 +170,12 @@ module _ (l : Layout) (x : Lengths) (laid : IsLaid l) (len : AreLengths l x) whe
   pub spot_is : (w : Slot) (o : ℕ) (b : Bool) → IsSlot l w → o < x (use_of l w).arc → (b ≡ true → 0 < place_at l x w o) → IsDart l x (spot_dart l x w o b)
   spot_is w o false is less some = at_is l x laid.paved len w o is less
   spot_is w o true is less some =
-      next_is l x (rim l x w.patch w.side (place_at l x w o - 1))
+      next_is l x (dart_along l x w.patch w.side (place_at l x w o - 1))
       (rim_is l x laid.paved len w.patch w.side (place_at l x w o - 1) is.patch_low (omega (arith, at_low l x laid.paved len w o is less)))
 
-  pub rim_is_at : (w : Slot) (o : ℕ) → IsSlot l w → o < x (use_of l w).arc → IsAt l x laid len (rim_at l x w o) w o
+  pub rim_is_at : (w : Slot) (o : ℕ) → IsSlot l w → o < x (use_of l w).arc → IsAt l x laid len (slot_dart l x w o) w o
   rim_is_at w o is less =
-      at_place (rim_at l x w o) w o is less (rim_patch l x laid.paved len w.patch w.side (place_at l x w o))
+      at_place (slot_dart l x w o) w o is less (rim_patch l x laid.paved len w.patch w.side (place_at l x w o))
       (rim_column l x laid.paved len w.patch w.side (place_at l x w o) is.patch_low (at_low l x laid.paved len w o is less))
       (rim_row l x laid.paved len w.patch w.side (place_at l x w o) is.patch_low (at_low l x laid.paved len w o is less))
 
@@ -184,13 +184,13 @@ module _ (l : Layout) (x : Lengths) (laid : IsLaid l) (len : AreLengths l x) whe
   spot_at w o true is less some =
       let t_low : place_at l x w o - 1 < size l x w.patch w.side = omega (arith, at_low l x laid.paved len w o is less) in
       let one : place_at l x w o - 1 + 1 ≡ place_at l x w o = omega (arith, some refl) in
-      at_place (next (rim l x w.patch w.side (place_at l x w o - 1))) w o is less
+      at_place (next (dart_along l x w.patch w.side (place_at l x w o - 1))) w o is less
       (rim_patch l x laid.paved len w.patch w.side (place_at l x w o - 1))
       (rim_next_column l x laid.paved len w.patch w.side (place_at l x w o - 1) is.patch_low t_low ∙ ap (side_column l x w.patch w.side) one)
       (rim_next_row l x laid.paved len w.patch w.side (place_at l x w o - 1) is.patch_low t_low ∙ ap (side_row l x w.patch w.side) one)
 
   -- A dart at a place is one of the two.
-  pub sort_spot : (d : Dart) (w : Slot) (o : ℕ) → IsDart l x d → IsAt l x laid len d w o
+  pub sort_spot : (d : CellDart) (w : Slot) (o : ℕ) → IsDart l x d → IsAt l x laid len d w o
       → (b : Bool) × (d ≡ spot_dart l x w o b) × ((b ≡ true) → 0 < place_at l x w o)
   sort_spot d w o is a =
       by_border (border_dart l x laid.paved len w.patch w.side d.way d.i d.j (place_at l x w o) (at_low l x laid.paved len w o a.is_slot a.low)
@@ -204,8 +204,8 @@ module _ (l : Layout) (x : Lengths) (laid : IsLaid l) (len : AreLengths l x) whe
       here : d ≡ dart w.patch d.i d.j d.way
       here = λ t. dart (a.patch t) d.i d.j d.way
 
-      by_border : (dart w.patch d.i d.j d.way ≡ rim l x w.patch w.side (place_at l x w o))
-          ⊎ ((0 < place_at l x w o) × (dart w.patch d.i d.j d.way ≡ next (rim l x w.patch w.side (place_at l x w o - 1))))
+      by_border : (dart w.patch d.i d.j d.way ≡ dart_along l x w.patch w.side (place_at l x w o))
+          ⊎ ((0 < place_at l x w o) × (dart w.patch d.i d.j d.way ≡ next (dart_along l x w.patch w.side (place_at l x w o - 1))))
           → (b : Bool) × (d ≡ spot_dart l x w o b) × ((b ≡ true) → 0 < place_at l x w o)
       by_border (inl e) = (false, here ∙ e, λ s. absurd cc)
       by_border (inr e) = (true, here ∙ e.1, λ s. e.0)
@@ -215,8 +215,8 @@ module _ (l : Layout) (x : Lengths) (laid : IsLaid l) (len : AreLengths l x) whe
   spot_once w o true true e = refl
   spot_once w o false false e = refl
   spot_once w o true false e =
-      absurd (no_turn w.side (sym (ap (λ (d : Dart). d.way) e ∙ rim_way l x laid.paved len w.patch w.side (place_at l x w o))
-      ∙ ap after (rim_way l x laid.paved len w.patch w.side (place_at l x w o - 1))))
+      absurd (no_turn w.side (sym (ap (λ (d : CellDart). d.way) e ∙ rim_way l x laid.paved len w.patch w.side (place_at l x w o))
+      ∙ ap side_after (rim_way l x laid.paved len w.patch w.side (place_at l x w o - 1))))
   spot_once w o false true e =
-      absurd (no_turn w.side (sym (rim_way l x laid.paved len w.patch w.side (place_at l x w o)) ∙ ap (λ (d : Dart). d.way) e
-      ∙ ap after (rim_way l x laid.paved len w.patch w.side (place_at l x w o - 1))))
+      absurd (no_turn w.side (sym (rim_way l x laid.paved len w.patch w.side (place_at l x w o)) ∙ ap (λ (d : CellDart). d.way) e
+      ∙ ap side_after (rim_way l x laid.paved len w.patch w.side (place_at l x w o - 1))))

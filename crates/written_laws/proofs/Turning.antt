@@ -1,22 +1,22 @@
 -- Relations of darts that hold for turns round a point.
 use Rattle.std.proofs.Common.{◌≡◌, ℕ, ◌-◌, ◌<◌, refl, sym, arith}
-use Rattle.def_layout.specs.Layouts.{Way, south, east, north, west, after, Layout, Slot, IsSlot, use_of}
-use Rattle.def_layout.specs.Laid.{IsOther}
+use Rattle.def_layout.specs.Layouts.{Way, south, east, north, west, side_after, Layout, Slot, IsSlot, use_of}
+use Rattle.def_layout.specs.Laid.{IsOtherSlot}
 use Rattle.def_layout.specs.Lengths.{Lengths, wide, high}
-use Rattle.def_layout.specs.Cells.{Dart, IsDart, dart, next, rim_at}
+use Rattle.def_layout.specs.Cells.{CellDart, IsDart, dart, next, slot_dart}
 use Rattle.def_written.specs.NewFaces.{column, row}
 
 -- R is an equivalence that holds for darts turned by one cell inside a patch, and over the border of one.
-pub record IsTurning (l : Layout) (x : Lengths) (R : Dart → Dart → Type 0) : Type 0 where
-  pub self : (d e : Dart) → d ≡ e → R d e
-  pub on : (d c e : Dart) → R d c → R c e → R d e
-  pub back : (d e : Dart) → IsDart l x d → R d e → R e d
-  pub left : (p i j k m : ℕ) (w : Way) → IsDart l x (dart p i j w) → IsDart l x (dart p k m (after w))
-      → column i w ≡ column k (after w) → row j w ≡ row m (after w) → R (dart p i j w) (dart p k m (after w))
-  pub over : (w v : Slot) (o : ℕ) → IsSlot l w → IsOther l w v → o < x (use_of l w).arc
-      → R (next (rim_at l x w o)) (rim_at l x v (x (use_of l w).arc - 1 - o))
+pub record IsTurning (l : Layout) (x : Lengths) (R : CellDart → CellDart → Type 0) : Type 0 where
+  pub self : (d e : CellDart) → d ≡ e → R d e
+  pub on : (d c e : CellDart) → R d c → R c e → R d e
+  pub back : (d e : CellDart) → IsDart l x d → R d e → R e d
+  pub left : (p i j k m : ℕ) (w : Way) → IsDart l x (dart p i j w) → IsDart l x (dart p k m (side_after w))
+      → column i w ≡ column k (side_after w) → row j w ≡ row m (side_after w) → R (dart p i j w) (dart p k m (side_after w))
+  pub over : (w v : Slot) (o : ℕ) → IsSlot l w → IsOtherSlot l w v → o < x (use_of l w).arc
+      → R (next (slot_dart l x w o)) (slot_dart l x v (x (use_of l w).arc - 1 - o))
 
-module _ (l : Layout) (x : Lengths) (R : Dart → Dart → Type 0) (turning : IsTurning l x R) where
+module _ (l : Layout) (x : Lengths) (R : CellDart → CellDart → Type 0) (turning : IsTurning l x R) where
   -- A cell holds darts of all four ways.
   pub is_dart : (p i j : ℕ) (w : Way) → p < l.patches → i < wide l x p → j < high l x p → IsDart l x (dart p i j w)
   is_dart p i j w low i_low j_low = record { patch_low = low; i_low = i_low; j_low = j_low }
@@ -24,13 +24,13 @@ module _ (l : Layout) (x : Lengths) (R : Dart → Dart → Type 0) (turning : Is
   same_cell : (p i j k m : ℕ) (w : Way) → i ≡ k → j ≡ m → R (dart p i j w) (dart p k m w)
   same_cell p i j k m w a b = turning.self (dart p i j w) (dart p k m w) (λ t. dart p (a t) (b t) w)
 
-  twice : (p i j a b k m : ℕ) (w : Way) → IsDart l x (dart p i j w) → IsDart l x (dart p a b (after w))
-      → IsDart l x (dart p k m (after (after w))) → column i w ≡ column a (after w) → row j w ≡ row b (after w)
-      → column a (after w) ≡ column k (after (after w)) → row b (after w) ≡ row m (after (after w))
-      → R (dart p i j w) (dart p k m (after (after w)))
+  twice : (p i j a b k m : ℕ) (w : Way) → IsDart l x (dart p i j w) → IsDart l x (dart p a b (side_after w))
+      → IsDart l x (dart p k m (side_after (side_after w))) → column i w ≡ column a (side_after w) → row j w ≡ row b (side_after w)
+      → column a (side_after w) ≡ column k (side_after (side_after w)) → row b (side_after w) ≡ row m (side_after (side_after w))
+      → R (dart p i j w) (dart p k m (side_after (side_after w)))
   twice p i j a b k m w d c e i_a j_b a_k b_m =
-      turning.on (dart p i j w) (dart p a b (after w)) (dart p k m (after (after w)))
-      (turning.left p i j a b w d c i_a j_b) (turning.left p a b k m (after w) c e a_k b_m)
+      turning.on (dart p i j w) (dart p a b (side_after w)) (dart p k m (side_after (side_after w)))
+      (turning.left p i j a b w d c i_a j_b) (turning.left p a b k m (side_after w) c e a_k b_m)
 
   -- Darts of a patch that leave one grid point are related.
   pub grid_related : (p i j k m : ℕ) (w v : Way) → IsDart l x (dart p i j w) → IsDart l x (dart p k m v)

@@ -1,8 +1,8 @@
 use Rattle.std.proofs.Common.{◌≡◌, ◌++◌, drop}
-use Rattle.def_certtext.specs.CertLines.{numbered, text_of}
+use Rattle.def_certtext.specs.CertLines.{dual_lines, text_of}
 use Rattle.def_certtext.specs.declared.CertLine.TheVariants.{Set}
 use Rattle.qm_certtext.proofs.cert.push_sets.Given as goal
 
 abbrev pub invariant-loop-i : goal.invariant-loop-i
 invariant-loop-i l =
-    l.text.items ++ text_of (numbered Set (drop l.i l.numbers) (drop l.i l.ups)) ≡ l.fn.text.items ++ text_of (numbered Set l.numbers l.ups)
+    l.text.items ++ text_of (dual_lines Set (drop l.i l.numbers) (drop l.i l.ups)) ≡ l.fn.text.items ++ text_of (dual_lines Set l.numbers l.ups)

@@ -1,8 +1,8 @@
 use Rattle.std.proofs.Common.{◌≡◌, ◌++◌, drop}
-use Rattle.def_certtext.specs.CertLines.{numbered, text_of}
+use Rattle.def_certtext.specs.CertLines.{dual_lines, text_of}
 use Rattle.def_certtext.specs.declared.CertLine.TheVariants.{Vertex}
 use Rattle.qm_certtext.proofs.cert.push_vertices.Given as goal
 
 abbrev pub invariant-loop-i : goal.invariant-loop-i
 invariant-loop-i l =
-    l.text.items ++ text_of (numbered Vertex (drop l.i l.numbers) (drop l.i l.ups)) ≡ l.fn.text.items ++ text_of (numbered Vertex l.numbers l.ups)
+    l.text.items ++ text_of (dual_lines Vertex (drop l.i l.numbers) (drop l.i l.ups)) ≡ l.fn.text.items ++ text_of (dual_lines Vertex l.numbers l.ups)

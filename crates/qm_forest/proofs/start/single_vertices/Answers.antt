@@ -1,7 +1,7 @@
 use Rattle.std.proofs.Common.{◌≡◌, ℕ, ◌+◌, ◌*◌, ◌/◌, length, subst, sym, ◌∙◌, ap, refl, arith, get_or, replicate, pos, List, ℤ, Some}
 use Rattle.def_matching.specs.Matching.{graph}
 use Rattle.std.proofs.lemmas.Int.{ints}
-use Rattle.def_forest.specs.Steps.{change}
+use Rattle.def_forest.specs.Steps.{weight_change}
 use Rattle.def_forest.specs.Tables.{GraphSize, label_at}
 use Rattle.def_forest.specs.declared.kinds.Label.{Label}
 use Rattle.def_forest.specs.declared.kinds.Label.TheVariants.{Outside}
@@ -64,6 +64,6 @@ returns-clause-valid c = fresh_valid c.args.g.now.n (c.args.g.now.n + c.args.g.n
 pub returns-clause-weights : goal.returns-clause-weights
 returns-clause-weights c = λ b. (
     let label : label_at c.in_ok-no_tree.field-0.label.items b ≡ Outside = same_everywhere c.in_ok-no_tree.field-0.label.items _ Outside c.in_ok-no_tree.ensures.label b in
-    let none : change (label_at c.in_ok-no_tree.field-0.label.items b) (pos 0) ≡ pos 0 = ap (λ (l : Label). change l (pos 0)) label in
+    let none : weight_change (label_at c.in_ok-no_tree.field-0.label.items b) (pos 0) ≡ pos 0 = ap (λ (l : Label). weight_change l (pos 0)) label in
     let base : get_or c.in_ok-pad.field-0.items b (pos 0) ≡ get_or c.args.lows.items b (pos 0) = c.in_ok-pad.ensures.each b ∙ ap (λ (xs : List ℤ). get_or xs b (pos 0)) c.deref.ensures.value in
     omega (arith, ints, none, base))

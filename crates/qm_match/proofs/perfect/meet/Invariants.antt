@@ -2,7 +2,7 @@ use Rattle.std.proofs.Common.{◌≡◌, ℕ, ◌<◌, ◌≤◌, false, get_or,
 use Rattle.def_math.specs.Counts.{count}
 use Rattle.def_math.specs.Increasing.{IsIncreasing}
 use Rattle.def_matching.specs.Matching.{graph, edge_at, ends_at}
-use Rattle.def_forest.specs.Forests.{number}
+use Rattle.def_forest.specs.Forests.{bool_number}
 use Rattle.qm_match.proofs.perfect.meet.Given as goal
 
 abbrev pub invariant-loop-e : goal.invariant-loop-e
@@ -10,5 +10,5 @@ invariant-loop-e l = record {
   size : length l.seen.items ≡ l.g.n;
   low : l.next ≤ length l.g.edges.items;
   increasing : IsIncreasing 0 l.next (take l.e-index l.edges);
-  counts : (v : ℕ) → v < l.g.n → count (ends_at v) (map (edge_at (graph l.g)) (take l.e-index l.edges)) ≡ number (get_or l.seen.items v false);
+  counts : (v : ℕ) → v < l.g.n → count (ends_at v) (map (edge_at (graph l.g)) (take l.e-index l.edges)) ≡ bool_number (get_or l.seen.items v false);
 }

@@ -2,7 +2,7 @@ use Rattle.std.proofs.Common.{◌≡◌, true, map, arith, sym, ◌∙◌, ap, e
 use Rattle.std.specs.List.{list_any}
 use Rattle.std.proofs.lemmas.Bool.{eq-eqb, lt-leb, ne_eqb}
 use Rattle.std.proofs.lemmas.List.{take_all}
-use Rattle.def_text.specs.Corner.{is_corner}
+use Rattle.def_text.specs.Corner.{is_corner_word}
 use Rattle.def_text.specs.declared.reading.Reading.TheVariants.{Face, Refused}
 use Rattle.def_text.specs.declared.refusal.ObjFail.TheVariants.{NotQuad}
 use Rattle.qm_obj.specs.Indices.{corner_of}
@@ -31,7 +31,7 @@ returns-in_default c =
     (read_bad _ _ _ _ _ _ _ _ _ c.words.invariant (sym c.next_word.ensures.first) (sym c.is_empty.ensures ∙ c.if-is_empty.false) (sym c.read_corner.ensures ∙ c.in_default.is))
 
 -- Where no word is left, all are corners.
-read : (c : After-is_empty) → c.is_empty.result ≡ true → AreRead is_corner (corner_of c.args.vertices) (words (uncommented c.args.text.now)) 4 c.words.count c.words.corners
+read : (c : After-is_empty) → c.is_empty.result ≡ true → AreRead is_corner_word (corner_of c.args.vertices) (words (uncommented c.args.text.now)) 4 c.words.count c.words.corners
 read c empty = all_read _ _ _ _ _ _ _ _ _ c.words.invariant (sym c.next_word.ensures.first) (sym c.is_empty.ensures ∙ empty)
 
 -- Four corners are the numbers that the four words name.
@@ -41,21 +41,21 @@ four c empty is =
 
 pub returns-then-count-ne4 : goal.returns-then-count-ne4
 returns-then-count-ne4 c =
-    let all : AreRead is_corner (corner_of c.args.vertices) (words (uncommented c.args.text.now)) 4 c.words.count c.words.corners = read (goal.at.returns-then-count-ne4 c).After-is_empty c.if-is_empty.true in
+    let all : AreRead is_corner_word (corner_of c.args.vertices) (words (uncommented c.args.text.now)) 4 c.words.count c.words.corners = read (goal.at.returns-then-count-ne4 c).After-is_empty c.if-is_empty.true in
     ap (λ n. Refused (NotQuad c.args.line n)) (sym all.many)
     ∙ face_count c.args.line c.args.vertices c.args.faces (words (uncommented c.args.text.now)) (lt-leb _ _ (omega arith)) all.passed (ne_eqb _ _ (λ e. c.if-count-ne4.true (sym all.many ∙ e)))
 
 pub returns-then-names_none : goal.returns-then-names_none
 returns-then-names_none c =
     let at : After-is_empty = (goal.at.returns-then-names_none c).After-is_empty in
-    let all : AreRead is_corner (corner_of c.args.vertices) (words (uncommented c.args.text.now)) 4 c.words.count c.words.corners = read at c.if-is_empty.true in
+    let all : AreRead is_corner_word (corner_of c.args.vertices) (words (uncommented c.args.text.now)) 4 c.words.count c.words.corners = read at c.if-is_empty.true in
     face_out c.args.line c.args.vertices c.args.faces (words (uncommented c.args.text.now)) (lt-leb _ _ (omega arith)) all.passed (eq-eqb _ _ (omega (arith, all.many)))
     (ap (list_any (λ corner. eqb corner 0)) (sym (four at c.if-is_empty.true (omega arith))) ∙ sym c.names_none.ensures ∙ c.if-names_none.true)
 
 pub returns : goal.returns
 returns c =
     let at : After-is_empty = (goal.at.returns c).After-is_empty in
-    let all : AreRead is_corner (corner_of c.args.vertices) (words (uncommented c.args.text.now)) 4 c.words.count c.words.corners = read at c.if-is_empty.true in
+    let all : AreRead is_corner_word (corner_of c.args.vertices) (words (uncommented c.args.text.now)) 4 c.words.count c.words.corners = read at c.if-is_empty.true in
     ap (Face c.args.line) (four at c.if-is_empty.true (omega arith))
     ∙ face_in c.args.line c.args.vertices c.args.faces (words (uncommented c.args.text.now)) (lt-leb _ _ (omega arith)) all.passed (eq-eqb _ _ (omega (arith, all.many)))
     (ap (list_any (λ corner. eqb corner 0)) (sym (four at c.if-is_empty.true (omega arith))) ∙ sym c.names_none.ensures ∙ c.if-names_none.false)

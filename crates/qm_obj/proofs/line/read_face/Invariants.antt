@@ -1,12 +1,12 @@
 use Rattle.std.proofs.Common.{length}
-use Rattle.def_text.specs.Corner.{is_corner}
+use Rattle.def_text.specs.Corner.{is_corner_word}
 use Rattle.qm_obj.specs.Indices.{corner_of}
 use Rattle.def_text.specs.Words.{words}
 use Rattle.qm_obj.specs.Lines.{IsReadTo, uncommented}
 use Rattle.qm_obj.proofs.line.read_face.Given as goal
 
 abbrev pub invariant-words : goal.invariant-words
-invariant-words l = IsReadTo is_corner (corner_of l.vertices) (words (uncommented l.text)) 4 l.count (words (uncommented l.rest)) l.corners
+invariant-words l = IsReadTo is_corner_word (corner_of l.vertices) (words (uncommented l.text)) 4 l.count (words (uncommented l.rest)) l.corners
 
 abbrev pub decreases-words : goal.decreases-words
 decreases-words l = length (words (uncommented l.rest))

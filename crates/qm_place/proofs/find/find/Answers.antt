@@ -6,7 +6,7 @@ use Rattle.def_layout.specs.Lengths.{wide, high}
 use Rattle.def_layout.specs.Plans.{layout_of, plan}
 use Rattle.def_written.specs.Numbers.{before_arc, before_patch}
 use Rattle.def_remesh.specs.NewPoints.{lengths_in}
-use Rattle.def_remesh.specs.Numberings.{AreStarts}
+use Rattle.def_remesh.specs.Numberings.{AreRunStarts}
 use Rattle.qm_place.proofs.Entries.{some_runs}
 use Rattle.qm_place.proofs.Found.{few_points, found_at, found_in, found_on, in_patch, on_arc}
 use Rattle.qm_place.proofs.find.find.Goals as goal
@@ -36,7 +36,7 @@ along_spot-requires-clause-along c =
     let low : c.args.v - c.len-nodes.result < before_arc x (length (plan c.args.t.now).arcs) = omega (arith, nodes, c.if-v-nodes.false, c.if-v-arcs_end.true, end) in
     let same : c.spot_near-near.result ≡ run_at (before_arc x) (length (plan c.args.t.now).arcs) (c.args.v - c.len-nodes.result) =
     c.spot_near-near.ensures.run (λ b. x b - 1) (length (plan c.args.t.now).arcs)
-    (subst (λ (xs : List ℕ). AreStarts (λ b. x b - 1) (length (plan c.args.t.now).arcs) xs) (sym c.deref.ensures.value) are.along) in
+    (subst (λ (xs : List ℕ). AreRunStarts (λ b. x b - 1) (length (plan c.args.t.now).arcs) xs) (sym c.deref.ensures.value) are.along) in
     on_arc c.requires.places.0 (plan c.args.t.now) c.args.tables.now are (c.args.v - c.len-nodes.result) c.spot_near-near.result low same
 
 pub returns-then-v-arcs_end : goal.returns-then-v-arcs_end
@@ -49,7 +49,7 @@ returns-then-v-arcs_end c faces is =
     let low : c.args.v - c.len-nodes.result < before_arc x (length (plan c.args.t.now).arcs) = omega (arith, nodes, c.if-v-nodes.false, c.if-v-arcs_end.true, end) in
     let same : c.spot_near-near.result ≡ run_at (before_arc x) (length (plan c.args.t.now).arcs) (c.args.v - c.len-nodes.result) =
     c.spot_near-near.ensures.run (λ b. x b - 1) (length (plan c.args.t.now).arcs)
-    (subst (λ (xs : List ℕ). AreStarts (λ b. x b - 1) (length (plan c.args.t.now).arcs) xs) (sym c.deref.ensures.value) are.along) in
+    (subst (λ (xs : List ℕ). AreRunStarts (λ b. x b - 1) (length (plan c.args.t.now).arcs) xs) (sym c.deref.ensures.value) are.along) in
     found_on faces (plan c.args.t.now) c.args.tables.now is c.args.v (c.args.v - c.len-nodes.result) c.spot_near-near.result c.along_spot.result
     (omega (arith, nodes, c.if-v-nodes.false)) (ap (λ n. c.args.v - n) nodes) low same c.along_spot.ensures
 
@@ -80,7 +80,7 @@ inside_spot-requires-clause-inside c =
     omega (arith, c.if-v-arcs_end.false, end, c.requires.vertex) in
     let same : c.spot_near-near-2.result ≡ run_at (before_patch l x) (length (plan c.args.t.now).patches) (c.args.v - c.arcs_end-arcs_end.result) =
     c.spot_near-near-2.ensures.run (λ p. (wide l x p - 1) * (high l x p - 1)) (length (plan c.args.t.now).patches)
-    (subst (λ (xs : List ℕ). AreStarts (λ p. (wide l x p - 1) * (high l x p - 1)) (length (plan c.args.t.now).patches) xs) (sym c.deref-2.ensures.value) are.inside) in
+    (subst (λ (xs : List ℕ). AreRunStarts (λ p. (wide l x p - 1) * (high l x p - 1)) (length (plan c.args.t.now).patches) xs) (sym c.deref-2.ensures.value) are.inside) in
     in_patch c.requires.places.0 (plan c.args.t.now) c.args.tables.now are (c.args.v - c.arcs_end-arcs_end.result) c.spot_near-near-2.result low same
 
 pub returns : goal.returns
@@ -94,6 +94,6 @@ returns c faces is =
     omega (arith, c.if-v-arcs_end.false, end, c.requires.vertex) in
     let same : c.spot_near-near-2.result ≡ run_at (before_patch l x) (length (plan c.args.t.now).patches) (c.args.v - c.arcs_end-arcs_end.result) =
     c.spot_near-near-2.ensures.run (λ p. (wide l x p - 1) * (high l x p - 1)) (length (plan c.args.t.now).patches)
-    (subst (λ (xs : List ℕ). AreStarts (λ p. (wide l x p - 1) * (high l x p - 1)) (length (plan c.args.t.now).patches) xs) (sym c.deref-2.ensures.value) are.inside) in
+    (subst (λ (xs : List ℕ). AreRunStarts (λ p. (wide l x p - 1) * (high l x p - 1)) (length (plan c.args.t.now).patches) xs) (sym c.deref-2.ensures.value) are.inside) in
     found_in faces (plan c.args.t.now) c.args.tables.now is c.args.v (c.args.v - c.arcs_end-arcs_end.result) c.spot_near-near-2.result c.inside_spot.result
     (omega (arith, end, c.if-v-arcs_end.false)) (ap (λ n. c.args.v - n) end) low same c.inside_spot.ensures

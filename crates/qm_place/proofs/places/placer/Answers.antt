@@ -5,7 +5,7 @@ use Rattle.def_layout.specs.Arcs.{path}
 use Rattle.def_layout.specs.Lengths.{wide, high}
 use Rattle.def_layout.specs.Plans.{layout_of, plan}
 use Rattle.def_remesh.specs.NewPoints.{lengths_in}
-use Rattle.def_remesh.specs.Numberings.{AreStarts}
+use Rattle.def_remesh.specs.Numberings.{AreRunStarts}
 use Rattle.def_remesh.specs.Placings.{rim_at, IsRim}
 use Rattle.def_remesh.specs.declared.places.Rim.{Rim}
 use Rattle.qm_place.specs.Pushed.{AreFine}
@@ -65,15 +65,15 @@ returns-clause-places c =
     let same : c.in_ok-lengths.lengths.items ≡ c.args.x.now = c.in_ok-lengths.ensures in
     let here : c.deref-2.result.now ≡ c.in_ok-lengths.lengths.items = c.deref-2.ensures.value in
     let fine_kept : AreFine (plan c.args.t.now) c.in_ok-lengths.lengths.items = subst (AreFine (plan c.args.t.now)) (sym same) fine in
-    let along : AreStarts (λ a. lengths_in c.deref.result.now a - 1) (length c.deref.result.now) c.in_ok-along.along.begin.items = c.in_ok-along.ensures in
+    let along : AreRunStarts (λ a. lengths_in c.deref.result.now a - 1) (length c.deref.result.now) c.in_ok-along.along.begin.items = c.in_ok-along.ensures in
     record {
       layout = c.requires.layout;
       long = fine_kept.long;
       lengths = fine_kept.lengths;
       few = fine_kept.few;
-      along = subst (λ n. AreStarts (λ a. lengths_in c.in_ok-lengths.lengths.items a - 1) n c.in_ok-along.along.begin.items) fine_kept.long
-          (subst (λ (xs : List ℕ). AreStarts (λ a. lengths_in xs a - 1) (length xs) c.in_ok-along.along.begin.items) c.deref.ensures.value along);
-      inside = subst (λ (xs : List ℕ). AreStarts (λ p. (wide (layout_of (plan c.args.t.now)) (lengths_in xs) p - 1) * (high (layout_of (plan c.args.t.now)) (lengths_in xs) p - 1))
+      along = subst (λ n. AreRunStarts (λ a. lengths_in c.in_ok-lengths.lengths.items a - 1) n c.in_ok-along.along.begin.items) fine_kept.long
+          (subst (λ (xs : List ℕ). AreRunStarts (λ a. lengths_in xs a - 1) (length xs) c.in_ok-along.along.begin.items) c.deref.ensures.value along);
+      inside = subst (λ (xs : List ℕ). AreRunStarts (λ p. (wide (layout_of (plan c.args.t.now)) (lengths_in xs) p - 1) * (high (layout_of (plan c.args.t.now)) (lengths_in xs) p - 1))
           (length (plan c.args.t.now).patches) c.in_ok-inside.inside.begin.items) here
           (inner_starts (plan c.args.t.now) c.deref-2.result.now fine_here c.deref-3.result.now c.in_ok-sides.sides.parameters.items
           (subst (λ (rs : List Rim). (p : ℕ) → p < length (plan c.args.t.now).patches → IsRim (plan c.args.t.now) (lengths_in c.deref-2.result.now) p (rim_at rs p) c.in_ok-sides.sides.parameters.items) (sym c.deref-3.ensures.value) rims)

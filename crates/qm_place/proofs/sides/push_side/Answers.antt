@@ -2,7 +2,7 @@ use Rattle.std.proofs.Common.{◌≡◌, ◌+◌, ◌-◌, ◌^◌, ◌≤◌, f
 use Rattle.std.specs.Prelude.{nat_le}
 use Rattle.def_layout.specs.Arcs.{long_at}
 use Rattle.def_layout.specs.Layouts.{Way}
-use Rattle.def_layout.specs.Plans.{layout_of, number, plan}
+use Rattle.def_layout.specs.Plans.{layout_of, way_number, plan}
 use Rattle.qm_place.proofs.Pushes.{start_by}
 use Rattle.qm_place.proofs.Rims.{back_by, old_read, read, side_more, start_few, IsRead}
 use Rattle.qm_reach.proofs.Whole.{way_for}
@@ -64,20 +64,20 @@ loop-used-preserved c = record {
   before = λ s way. omega (arith, c.loop-used.invariant.before s way, (here s way).old_next, old_is s way);
 }
   where
-    here : (s : Way) → number s ≡ c.args.side
+    here : (s : Way) → way_number s ≡ c.args.side
         → IsRead c.args.t.now c.args.lengths.now c.args.patch c.loop-used.used-index s
         (get_or c.side_of-used-items.result.now c.loop-used.used-index (record { arc = 0; forward = false }))
     here s way = read c.args.t.now c.args.lengths.now c.args.patch c.loop-used.used-index c.args.side s c.side_of-used-items.result.now
         c.requires.fine c.requires.low c.side_of-used-items.ensures c.loop-used-test.true way
 
-    old_is : (s : Way) → number s ≡ c.args.side
+    old_is : (s : Way) → way_number s ≡ c.args.side
         → c.len-old.result ≡ long_at (plan c.args.t.now).arcs (get_or c.side_of-used-items.result.now c.loop-used.used-index (record { arc = 0; forward = false })).arc
     old_is s way =
         c.len-old.ensures ∙ c.index.result.now.darts.ok.0
         ∙ old_read c.args.t.now (get_or c.side_of-used-items.result.now c.loop-used.used-index (record { arc = 0; forward = false })).arc c.index.result.now
         (here s way).arc_low c.index.ensures
 
-    start_is : (s : Way) (way : number s ≡ c.args.side) → c.start_of-start.result ≡ start_by (layout_of (plan c.args.t.now)) (long_at (plan c.args.t.now).arcs) c.args.patch c.loop-used.used-index s
+    start_is : (s : Way) (way : way_number s ≡ c.args.side) → c.start_of-start.result ≡ start_by (layout_of (plan c.args.t.now)) (long_at (plan c.args.t.now).arcs) c.args.patch c.loop-used.used-index s
     start_is s way =
         c.start_of-start.ensures
         ∙ (λ k. cond (back_by s c.args.side way k) (c.old_size-whole.ensures s way k - c.loop-used.invariant.before s way k - (old_is s way ∙ ap (long_at (plan c.args.t.now).arcs) (here s way).arc) k)

@@ -4,7 +4,7 @@ use Rattle.std.proofs.lemmas.List.{get_or_default}
 use Rattle.def_math.specs.Counts.{count_below}
 use Rattle.def_layout.specs.declared.tmesh.SideArc.{SideArc}
 use Rattle.def_remesh.specs.NewPoints.{lengths_in}
-use Rattle.def_remesh.specs.Numberings.{sizes_on, AreStarts}
+use Rattle.def_remesh.specs.Numberings.{sizes_on, AreRunStarts}
 use Rattle.written_laws.proofs.Runs.{count_rises}
 use Rattle.qm_reach.proofs.sides.side_starts.Goals as goal
 
@@ -16,7 +16,7 @@ size_is side lengths k low = ap (λ (used : SideArc). get_or lengths used.arc 0)
 
 -- There is room for it.
 room : (side : List SideArc) (lengths starts : List ℕ) (k : ℕ) → k < length side
-    → AreStarts (sizes_on side (lengths_in lengths)) k starts
+    → AreRunStarts (sizes_on side (lengths_in lengths)) k starts
     → count_below (sizes_on side (lengths_in lengths)) (length side) < 2 ^ 32
     → slice_index starts (length starts - 1) + get_or lengths (get_or side k (record { arc = 0; forward = false })).arc 0 < 2 ^ 32
 room side lengths starts k low are small =

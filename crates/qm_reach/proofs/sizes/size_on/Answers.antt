@@ -4,7 +4,7 @@ use Rattle.def_cut.specs.Grids.{rectangle}
 use Rattle.def_layout.specs.Arcs.{long_at, path}
 use Rattle.def_layout.specs.Layouts.{Way}
 use Rattle.def_layout.specs.Lengths.{size}
-use Rattle.def_layout.specs.Plans.{layout_of, number, plan}
+use Rattle.def_layout.specs.Plans.{layout_of, way_number, plan}
 use Rattle.def_layout.specs.declared.tmesh.TMesh.{TMesh}
 use Rattle.def_layoutnet.specs.MeshLayouts.{IsMeshLayout}
 use Rattle.def_remesh.specs.NewPoints.{lengths_in}
@@ -26,19 +26,19 @@ short t x is most p s low =
       old_faces (plan t) is,
     )
 
-read : (c : goal.After-side_of) (way : Way) → number way ≡ c.args.side → c.side_of.result.now ≡ arcs_on (plan c.args.t.now) c.args.patch (number way)
+read : (c : goal.After-side_of) (way : Way) → way_number way ≡ c.args.side → c.side_of.result.now ≡ arcs_on (plan c.args.t.now) c.args.patch (way_number way)
 read c way is = c.side_of.ensures ∙ ap (arcs_on (plan c.args.t.now) c.args.patch) (sym is)
 
 pub size_of-requires-clause-low : goal.size_of-requires-clause-low
 size_of-requires-clause-low c =
-    let way : (way : Way) × (number way ≡ c.args.side) = way_for c.args.side c.requires.side in
+    let way : (way : Way) × (way_number way ≡ c.args.side) = way_for c.args.side c.requires.side in
     uses_low (plan c.args.t.now) c.requires.layout c.args.patch way.0 (length c.args.lengths.now) c.side_of.result.now
     (omega (arith, c.requires.patch, length-map c.args.t.now.patches.items rectangle))
     (omega (arith, c.requires.long, length-map c.args.t.now.arcs.items path)) (read c way.0 way.1)
 
 pub size_of-requires-clause-small : goal.size_of-requires-clause-small
 size_of-requires-clause-small c =
-    let way : (way : Way) × (number way ≡ c.args.side) = way_for c.args.side c.requires.side in
+    let way : (way : Way) × (way_number way ≡ c.args.side) = way_for c.args.side c.requires.side in
     omega (
       arith,
       side_long (plan c.args.t.now) c.args.patch way.0 (lengths_in c.args.lengths.now) c.side_of.result.now (read c way.0 way.1),

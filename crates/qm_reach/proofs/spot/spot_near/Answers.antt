@@ -2,13 +2,13 @@ use Rattle.std.proofs.Common.{◌≡◌, ◌+◌, ◌<◌, ◌≤◌, ℕ, List,
 use Rattle.std.specs.Prelude.{slice_index}
 use Rattle.def_math.specs.Counts.{count_below}
 use Rattle.def_math.specs.Runs.{run_at}
-use Rattle.def_remesh.specs.Numberings.{AreStarts}
+use Rattle.def_remesh.specs.Numberings.{AreRunStarts}
 use Rattle.qm_reach.proofs.Spots.{spot_between}
 use Rattle.qm_reach.proofs.spot.spot_near.Goals as goal
 
 -- A run that holds a place is the run there.
 held : (starts : List ℕ) (run place : ℕ) → (run + 1 < length starts) × (slice_index starts run ≤ place) × (place < slice_index starts (run + 1))
-    → (sizes : ℕ → ℕ) (runs : ℕ) → AreStarts sizes runs starts → run ≡ run_at (count_below sizes) runs place
+    → (sizes : ℕ → ℕ) (runs : ℕ) → AreRunStarts sizes runs starts → run ≡ run_at (count_below sizes) runs place
 held starts run place holds sizes runs are =
     sym (spot_between sizes runs place run (omega (arith, holds.0, are.count))
     (inr (omega (arith, holds.1, are.each run (omega (arith, holds.0, are.count)))))

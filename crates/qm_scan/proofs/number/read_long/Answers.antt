@@ -2,7 +2,7 @@ use Rattle.std.proofs.Common.{◌-◌, take, get_or, arith, sym, ◌∙◌}
 use Rattle.std.specs.Char.{is_ascii_digit}
 use Rattle.std.proofs.lemmas.List.Folds.{list_all_more}
 use Rattle.std.proofs.lemmas.Bool.{and_from}
-use Rattle.def_text.specs.Digits.{number}
+use Rattle.def_text.specs.Digits.{number_written}
 use Rattle.qm_scan.proofs.Numbers.{number_more, clamped_more}
 use Rattle.qm_scan.proofs.number.read_long.Goals as goal
 
@@ -10,5 +10,5 @@ pub loop-byte-preserved : goal.loop-byte-preserved
 loop-byte-preserved c = record {
   digits = list_all_more is_ascii_digit c.args.word.now c.loop-byte.byte-index 0 (omega arith) ∙ and_from _ _ c.loop-byte.invariant.digits (sym c.is_ascii_digit.ensures.value ∙ c.if-not-is_ascii_digit.false);
   so_far = rw (number_more c.args.word.now c.loop-byte.byte-index c.loop-byte-test.true)
-      (c.saturating_add-n.ensures ∙ rw (c.saturating_mul.ensures, c.from.ensures, c.loop-byte.invariant.so_far) (clamped_more (number (take c.loop-byte.byte-index c.args.word.now)) (get_or c.args.word.now c.loop-byte.byte-index 0 - 48) 18446744073709551615));
+      (c.saturating_add-n.ensures ∙ rw (c.saturating_mul.ensures, c.from.ensures, c.loop-byte.invariant.so_far) (clamped_more (number_written (take c.loop-byte.byte-index c.args.word.now)) (get_or c.args.word.now c.loop-byte.byte-index 0 - 48) 18446744073709551615));
 }

@@ -1,11 +1,11 @@
 use Rattle.std.proofs.Common.{◌≡◌, ◌-◌, ◌^◌, min, take, true}
 use Rattle.std.specs.Char.{is_ascii_digit}
 use Rattle.std.specs.List.{list_all}
-use Rattle.def_text.specs.Digits.{number}
+use Rattle.def_text.specs.Digits.{number_written}
 use Rattle.qm_scan.proofs.number.read_long.Given as goal
 
 abbrev pub invariant-loop-byte : goal.invariant-loop-byte
 invariant-loop-byte l = record {
   digits : list_all is_ascii_digit (take l.byte-index l.word) ≡ true;
-  so_far : l.n ≡ min (number (take l.byte-index l.word)) (2 ^ 64 - 1);
+  so_far : l.n ≡ min (number_written (take l.byte-index l.word)) (2 ^ 64 - 1);
 }

@@ -7,7 +7,7 @@ use Rattle.std.proofs.lemmas.Bool.{false≢true}
 use Rattle.std.specs.Prelude.{pos}
 use Rattle.std.specs.List.{list_all}
 use Rattle.def_flow.specs.Network.{network}
-use Rattle.def_flow.specs.Admissible.{AreLengths, IsAdmissible, deviation, entries}
+use Rattle.def_flow.specs.Admissible.{AreNetLengths, IsAdmissible, deviation, entries}
 use Rattle.qm_solve.specs.Rounds.{is_near_arc}
 use Rattle.qm_solve.proofs.Near.{near_is, start_lengths}
 use Rattle.qm_solve.proofs.start.is_start.Goals as goal
@@ -27,7 +27,7 @@ returns-then-not-are_lengths c = (
 
 pub returns : goal.returns
 returns c =
-    let lengths : AreLengths c.args.net.now.arcs.items c.args.x.now = c.are_lengths.ensures.0 c.if-not-are_lengths.false in
+    let lengths : AreNetLengths c.args.net.now.arcs.items c.args.x.now = c.are_lengths.ensures.0 c.if-not-are_lengths.false in
     let admissible : IsAdmissible (network c.args.net.now) (entries c.args.x.now) = c.admissible.ensures.0 c.if-not-admissible.false in
     let test : c.is_near.result ≡ list_all (is_near_arc (network c.args.net.now) (pos (deviation (network c.args.net.now) (entries c.args.x.now)))) c.args.net.now.arcs.items =
     c.is_near.ensures ∙ ap (λ d. list_all (is_near_arc (network c.args.net.now) d) c.args.net.now.arcs.items) (plain c.deviation.result c.deviation.type_inv ∙ c.deviation.ensures) in

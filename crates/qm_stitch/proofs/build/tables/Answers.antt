@@ -3,8 +3,8 @@ use Rattle.std.proofs.lemmas.List.{length-map}
 use Rattle.def_cut.specs.Grids.{rectangle}
 use Rattle.def_layout.specs.Plans.{plan}
 use Rattle.def_remesh.specs.NewPoints.{lengths_in}
-use Rattle.def_remesh.specs.Numberings.{tables_of, AreStarts, AreSideStarts}
-use Rattle.def_remesh.specs.declared.tables.Starts.{Starts}
+use Rattle.def_remesh.specs.Numberings.{tables_of, AreRunStarts, AreSideStarts}
+use Rattle.def_remesh.specs.declared.tables.RunStarts.{RunStarts}
 use Rattle.qm_stitch.specs.Sizes.{product_by, IsFine}
 use Rattle.qm_stitch.proofs.Built.{built, few_points, lengths_short, points_short, rows, sides_short}
 use Rattle.qm_stitch.proofs.build.tables.Goals as goal
@@ -25,14 +25,14 @@ pub patch_starts-requires : goal.patch_starts-requires
 patch_starts-requires c =
     rows (plan c.args.t.now) c.deref.result.now (subst (IsFine (plan c.args.t.now)) (sym (c.deref.ensures.value ∙ c.in_ok-lengths.ensures)) c.requires.fine)
     (tables_of c.deref-3.result.now)
-    (subst (λ (sides : List (List Starts)). AreSideStarts (plan c.args.t.now) (lengths_in c.deref.result.now) (tables_of sides)) (sym c.deref-3.ensures.value) c.in_ok-sides.ensures)
+    (subst (λ (sides : List (List RunStarts)). AreSideStarts (plan c.args.t.now) (lengths_in c.deref.result.now) (tables_of sides)) (sym c.deref-3.ensures.value) c.in_ok-sides.ensures)
     1 (omega arith)
 
 pub patch_starts-requires-2 : goal.patch_starts-requires-2
 patch_starts-requires-2 c =
     rows (plan c.args.t.now) c.deref.result.now (subst (IsFine (plan c.args.t.now)) (sym (c.deref.ensures.value ∙ c.in_ok-lengths.ensures)) c.requires.fine)
     (tables_of c.deref-4.result.now)
-    (subst (λ (sides : List (List Starts)). AreSideStarts (plan c.args.t.now) (lengths_in c.deref.result.now) (tables_of sides)) (sym c.deref-4.ensures.value) c.in_ok-sides.ensures)
+    (subst (λ (sides : List (List RunStarts)). AreSideStarts (plan c.args.t.now) (lengths_in c.deref.result.now) (tables_of sides)) (sym c.deref-4.ensures.value) c.in_ok-sides.ensures)
     0 (omega arith)
 
 pub overflow_cast-result : goal.overflow_cast-result
@@ -43,7 +43,7 @@ pub returns-clause-numbering : goal.returns-clause-numbering
 returns-clause-numbering c =
     built (plan c.args.t.now) _ (subst (IsFine (plan c.args.t.now)) (sym c.in_ok-lengths.ensures) c.requires.fine)
     (omega (arith, c.len.ensures, c.args.t.now.nodes.ok.0))
-    (subst (λ (xs : List ℕ). AreStarts (λ arc. lengths_in xs arc - 1) (length xs) c.in_ok-along.along.begin.items) c.deref-2.ensures.value c.in_ok-along.ensures)
+    (subst (λ (xs : List ℕ). AreRunStarts (λ arc. lengths_in xs arc - 1) (length xs) c.in_ok-along.along.begin.items) c.deref-2.ensures.value c.in_ok-along.ensures)
     (subst (λ (xs : List ℕ). AreSideStarts (plan c.args.t.now) (lengths_in xs) (tables_of c.in_ok-sides.sides.items)) c.deref.ensures.value c.in_ok-sides.ensures)
-    (subst (λ (sides : List (List Starts)). AreStarts (product_by (tables_of sides) 1) (length sides) c.in_ok-inside.inside.begin.items) c.deref-3.ensures.value c.in_ok-inside.ensures)
-    (subst (λ (sides : List (List Starts)). AreStarts (product_by (tables_of sides) 0) (length sides) c.in_ok-cells.cells.begin.items) c.deref-4.ensures.value c.in_ok-cells.ensures)
+    (subst (λ (sides : List (List RunStarts)). AreRunStarts (product_by (tables_of sides) 1) (length sides) c.in_ok-inside.inside.begin.items) c.deref-3.ensures.value c.in_ok-inside.ensures)
+    (subst (λ (sides : List (List RunStarts)). AreRunStarts (product_by (tables_of sides) 0) (length sides) c.in_ok-cells.cells.begin.items) c.deref-4.ensures.value c.in_ok-cells.ensures)

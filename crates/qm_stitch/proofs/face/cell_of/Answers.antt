@@ -5,7 +5,7 @@ use Rattle.def_layout.specs.Plans.{layout_of, plan}
 use Rattle.def_layout.specs.declared.tmesh.TMesh.{TMesh}
 use Rattle.def_written.specs.NewFaces.{cells_before, face_count, patch_of}
 use Rattle.def_remesh.specs.NewPoints.{lengths_in}
-use Rattle.def_remesh.specs.Numberings.{AreStarts, IsNumbering}
+use Rattle.def_remesh.specs.Numberings.{AreRunStarts, IsNumbering}
 use Rattle.def_remesh.specs.declared.tables.Tables.{Tables}
 use Rattle.def_math.specs.Counts.{count_below}
 use Rattle.def_math.specs.Runs.{run_at}
@@ -14,11 +14,11 @@ use Rattle.qm_stitch.proofs.face.cell_of.Goals as goal
 
 -- The patch that is found.
 patch_found : (t : TMesh) (tables : Tables) (is : IsNumbering (plan t) tables) (f patch : ℕ) (starts : List ℕ) → starts ≡ tables.cells.begin.items
-    → ((sizes : ℕ → ℕ) (runs : ℕ) → AreStarts sizes runs starts → patch ≡ run_at (count_below sizes) runs f)
+    → ((sizes : ℕ → ℕ) (runs : ℕ) → AreRunStarts sizes runs starts → patch ≡ run_at (count_below sizes) runs f)
     → patch ≡ patch_of (layout_of (plan t)) (lengths_in tables.lengths.items) f
 patch_found t tables is f patch starts same run =
     run (λ p. wide (layout_of (plan t)) (lengths_in tables.lengths.items) p * high (layout_of (plan t)) (lengths_in tables.lengths.items) p) (length (plan t).patches)
-    (subst (AreStarts (λ p. wide (layout_of (plan t)) (lengths_in tables.lengths.items) p * high (layout_of (plan t)) (lengths_in tables.lengths.items) p) (length (plan t).patches)) (sym same) is.cells)
+    (subst (AreRunStarts (λ p. wide (layout_of (plan t)) (lengths_in tables.lengths.items) p * high (layout_of (plan t)) (lengths_in tables.lengths.items) p) (length (plan t).patches)) (sym same) is.cells)
 
 patch_low : (t : TMesh) (tables : Tables) (is : IsNumbering (plan t) tables) (f patch : ℕ) → f < face_count (layout_of (plan t)) (lengths_in tables.lengths.items)
     → patch ≡ patch_of (layout_of (plan t)) (lengths_in tables.lengths.items) f → patch < length (plan t).patches

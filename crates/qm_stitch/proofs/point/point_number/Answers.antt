@@ -5,7 +5,7 @@ use Rattle.def_layout.specs.Layouts.{south, east, north, west}
 use Rattle.def_layout.specs.Lengths.{wide, high}
 use Rattle.def_layout.specs.Plans.{layout_of, plan}
 use Rattle.def_layout.specs.declared.tmesh.TMesh.{TMesh}
-use Rattle.def_written.specs.Numbers.{number}
+use Rattle.def_written.specs.Numbers.{vertex_number}
 use Rattle.def_written.specs.Points.{point, side_point}
 use Rattle.def_remesh.specs.NewPoints.{lengths_in}
 use Rattle.qm_stitch.proofs.Grids.{all_few, along_end, inside_at, inside_here, long_is, on_north, on_west, on_east}
@@ -33,7 +33,7 @@ pub returns-then-j-high : goal.returns-then-j-high
 returns-then-j-high c =
     let wide_is : c.size_at-wide.result ≡ wide (layout_of (plan c.args.t.now)) (lengths_in c.args.tables.now.lengths.items) c.args.patch = c.size_at-wide.ensures (plan c.args.t.now) south c.requires.numbering refl in
     let high_is : c.size_at-high.result ≡ high (layout_of (plan c.args.t.now)) (lengths_in c.args.tables.now.lengths.items) c.args.patch = c.size_at-high.ensures (plan c.args.t.now) west c.requires.numbering refl in
-    c.border_number-then-j-high.ensures ∙ ap (number (layout_of (plan c.args.t.now)) (lengths_in c.args.tables.now.lengths.items))
+    c.border_number-then-j-high.ensures ∙ ap (vertex_number (layout_of (plan c.args.t.now)) (lengths_in c.args.tables.now.lengths.items))
     (ap (λ n. side_point (layout_of (plan c.args.t.now)) (lengths_in c.args.tables.now.lengths.items) c.args.patch north (n - c.args.i)) wide_is
     ∙ sym (on_north (layout_of (plan c.args.t.now)) (lengths_in c.args.tables.now.lengths.items) c.args.patch c.args.i c.args.j c.if-j-eq0.false (c.if-j-high.true ∙ high_is)))
 
@@ -51,7 +51,7 @@ border_number-requires-then-i-eq0-clause-upto c =
 pub returns-then-i-eq0 : goal.returns-then-i-eq0
 returns-then-i-eq0 c =
     let high_is : c.size_at-high.result ≡ high (layout_of (plan c.args.t.now)) (lengths_in c.args.tables.now.lengths.items) c.args.patch = c.size_at-high.ensures (plan c.args.t.now) west c.requires.numbering refl in
-    c.border_number-then-i-eq0.ensures ∙ ap (number (layout_of (plan c.args.t.now)) (lengths_in c.args.tables.now.lengths.items))
+    c.border_number-then-i-eq0.ensures ∙ ap (vertex_number (layout_of (plan c.args.t.now)) (lengths_in c.args.tables.now.lengths.items))
     (ap (λ n. side_point (layout_of (plan c.args.t.now)) (lengths_in c.args.tables.now.lengths.items) c.args.patch west (n - c.args.j)) high_is
     ∙ sym (on_west (layout_of (plan c.args.t.now)) (lengths_in c.args.tables.now.lengths.items) c.args.patch c.args.i c.args.j c.if-j-eq0.false (λ top. c.if-j-high.false (top ∙ sym high_is)) c.if-i-eq0.true))
 
@@ -68,7 +68,7 @@ pub returns-then-i-wide : goal.returns-then-i-wide
 returns-then-i-wide c =
     let wide_is : c.size_at-wide.result ≡ wide (layout_of (plan c.args.t.now)) (lengths_in c.args.tables.now.lengths.items) c.args.patch = c.size_at-wide.ensures (plan c.args.t.now) south c.requires.numbering refl in
     let high_is : c.size_at-high.result ≡ high (layout_of (plan c.args.t.now)) (lengths_in c.args.tables.now.lengths.items) c.args.patch = c.size_at-high.ensures (plan c.args.t.now) west c.requires.numbering refl in
-    c.border_number-then-i-wide.ensures ∙ ap (number (layout_of (plan c.args.t.now)) (lengths_in c.args.tables.now.lengths.items))
+    c.border_number-then-i-wide.ensures ∙ ap (vertex_number (layout_of (plan c.args.t.now)) (lengths_in c.args.tables.now.lengths.items))
     (sym (on_east (layout_of (plan c.args.t.now)) (lengths_in c.args.tables.now.lengths.items) c.args.patch c.args.i c.args.j c.if-j-eq0.false (λ top. c.if-j-high.false (top ∙ sym high_is)) c.if-i-eq0.false (c.if-i-wide.true ∙ wide_is)))
 
 pub overflow_add-nodes : goal.overflow_add-nodes
@@ -82,7 +82,7 @@ overflow_add-nodes c =
 
 -- An inner point of the patch.
 here : (c : goal.After-row_known-1) → (c.args.tables.now.nodes + c.last_of.result + c.index.result.now + ((c.args.j - 1) * (c.size_at-wide.result - 1) + (c.args.i - 1))
-    ≡ number (layout_of (plan c.args.t.now)) (lengths_in c.args.tables.now.lengths.items) (point (layout_of (plan c.args.t.now)) (lengths_in c.args.tables.now.lengths.items) c.args.patch c.args.i c.args.j))
+    ≡ vertex_number (layout_of (plan c.args.t.now)) (lengths_in c.args.tables.now.lengths.items) (point (layout_of (plan c.args.t.now)) (lengths_in c.args.tables.now.lengths.items) c.args.patch c.args.i c.args.j))
     × (c.args.tables.now.nodes + c.last_of.result + c.index.result.now + ((c.args.j - 1) * (c.size_at-wide.result - 1) + (c.args.i - 1)) < 2 ^ 23)
 here c =
     let wide_is : c.size_at-wide.result ≡ wide (layout_of (plan c.args.t.now)) (lengths_in c.args.tables.now.lengths.items) c.args.patch = c.size_at-wide.ensures (plan c.args.t.now) south c.requires.numbering refl in

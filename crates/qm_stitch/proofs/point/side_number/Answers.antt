@@ -1,6 +1,6 @@
 use Rattle.std.proofs.Common.{length, ◌∙◌, ap}
 use Rattle.def_layout.specs.Plans.{layout_of, plan}
-use Rattle.def_written.specs.Numbers.{number}
+use Rattle.def_written.specs.Numbers.{vertex_number}
 use Rattle.def_remesh.specs.NewPoints.{lengths_in}
 use Rattle.def_remesh.specs.Numberings.{sizes_on}
 use Rattle.qm_stitch.proofs.Grids.{there}
@@ -20,7 +20,7 @@ use_number-requires-clause-upto c =
 
 pub returns : goal.returns
 returns c =
-    c.use_number.ensures ∙ ap (number (layout_of (plan c.args.t.now)) (lengths_in c.args.tables.now.lengths.items))
+    c.use_number.ensures ∙ ap (vertex_number (layout_of (plan c.args.t.now)) (lengths_in c.args.tables.now.lengths.items))
     (there (plan c.args.t.now) c.args.tables.now c.requires.numbering c.args.side.now c.args.starts.now c.args.place c.spot_in-at.result
     c.requires.some c.requires.starts c.requires.upto
     (c.spot_in-at.ensures.run (sizes_on c.args.side.now (lengths_in c.args.tables.now.lengths.items)) (length c.args.side.now) c.requires.starts)).point

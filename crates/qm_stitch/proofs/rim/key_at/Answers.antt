@@ -2,14 +2,14 @@ use Rattle.std.proofs.Common.{◌≡◌, ◌+◌, ℕ, Bool, true, false, refl, 
 use Rattle.def_layout.specs.Layouts.{Layout}
 use Rattle.def_layout.specs.Lengths.{Lengths}
 use Rattle.def_layout.specs.Plans.{layout_of, plan}
-use Rattle.def_written.specs.Numbers.{number}
+use Rattle.def_written.specs.Numbers.{vertex_number}
 use Rattle.def_remesh.specs.NewPoints.{lengths_in}
 use Rattle.qm_stitch.specs.Rims.{along_lines, key_of, line_edge, line_point, pair_key}
 use Rattle.qm_stitch.proofs.Grids.{size_short}
 use Rattle.qm_stitch.proofs.rim.key_at.Goals as goal
 
 key_is : (l : Layout) (x : Lengths) (u : Bool) (p n k : ℕ)
-    → pair_key (number l x (line_point l x u p n k)) (number l x (line_point l x u p n (k + 1))) ≡ key_of l x (line_edge u p n k)
+    → pair_key (vertex_number l x (line_point l x u p n k)) (vertex_number l x (line_point l x u p n (k + 1))) ≡ key_of l x (line_edge u p n k)
 key_is l x false p n k = refl
 key_is l x true p n k = refl
 

@@ -3,7 +3,7 @@ use Rattle.std.proofs.Common.{◌≡◌, pos, to_z, of_z, List, ℕ, sym, ◌∙
 use Rattle.std.proofs.lemmas.Int.{ints}
 use Rattle.std.specs.Option.{option_map}
 use Rattle.def_certtext.specs.CertLines.{lists_of}
-use Rattle.def_flow.specs.Admissible.{deviation, entries, AreLengths}
+use Rattle.def_flow.specs.Admissible.{deviation, entries, AreNetLengths}
 use Rattle.def_flow.specs.Network.{network}
 use Rattle.def_layout.specs.Plans.{plan}
 use Rattle.qm_summary.proofs.Deviations.{bench_kept, bench_net, deviation_kept, kept_lengths}
@@ -16,7 +16,7 @@ deviation-requires-clause-lengths c =
     let third = option_map lists_of c.in_ok-kept.kept.third in
     let is = bench_net t c.half-settings.result (network c.in-Ok.net) c.half-settings.ensures c.in-Ok.ensures.net in
     let kept = bench_kept t c.half-settings.result first third c.in_ok-kept.kept.numbering c.half-settings.ensures c.in_ok-kept.ensures.kept in
-    subst (λ (xs : List ℕ). AreLengths c.in-Ok.net.arcs.items xs) (sym c.deref.ensures.value)
+    subst (λ (xs : List ℕ). AreNetLengths c.in-Ok.net.arcs.items xs) (sym c.deref.ensures.value)
     (kept_lengths t first c.in_ok-kept.kept.numbering (network c.in-Ok.net) is third kept)
 
 pub returns-clause-kept : goal.returns-clause-kept

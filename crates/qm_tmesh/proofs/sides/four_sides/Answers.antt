@@ -6,7 +6,7 @@ use Rattle.def_cut.specs.Grids.{rectangle, cell_of}
 use Rattle.def_layout.specs.Arcs.{path}
 use Rattle.def_layout.specs.Borders.{side_size, border_dart}
 use Rattle.def_layout.specs.Layouts.{Way, south, east, north, west}
-use Rattle.def_layout.specs.Plans.{number}
+use Rattle.def_layout.specs.Plans.{way_number}
 use Rattle.layout_laws.specs.Named.{run_list}
 use Rattle.qm_tmesh.specs.Sides.{IsSideOf}
 use Rattle.qm_tmesh.specs.Four.{four_of}
@@ -71,7 +71,7 @@ side_from-requires-4 c =
 pub returns : goal.returns
 returns c = record { count = refl; each = by_way }
   where
-    by_way : (way : Way) → IsSideOf (map path c.args.runs.now.arcs.items) c.args.runs.now.uses.items (run_list (half_edges c.args.mesh.now) (border_dart (half_edges c.args.mesh.now) (rectangle c.args.patch.now) way 0) (side_size (rectangle c.args.patch.now) way)) (get_or (four_of (c.in_ok-south.south ∷ c.in_ok-east.east ∷ c.in_ok-north.north ∷ c.in_ok-west.west ∷ [])) (number way) [])
+    by_way : (way : Way) → IsSideOf (map path c.args.runs.now.arcs.items) c.args.runs.now.uses.items (run_list (half_edges c.args.mesh.now) (border_dart (half_edges c.args.mesh.now) (rectangle c.args.patch.now) way 0) (side_size (rectangle c.args.patch.now) way)) (get_or (four_of (c.in_ok-south.south ∷ c.in_ok-east.east ∷ c.in_ok-north.north ∷ c.in_ok-west.west ∷ [])) (way_number way) [])
     by_way south =
         let g = c.requires.1.placed.grid in
         let more : c.args.patch.now.w ≤ length c.args.patch.now.cells.items = room (rectangle c.args.patch.now) g.wide g.tall c.requires.1.sized in

@@ -1,6 +1,6 @@
 use Rattle.std.proofs.Common.{◌≡◌, ℕ, ◌+◌, ◌<◌, Bool, true, List, [], ◌∷◌, ◌++◌, map, length, get_or, ap, sym, subst, ◌∙◌, arith}
 use Rattle.std.proofs.lemmas.List.{get_or_default, length-map}
-use Rattle.def_layout.specs.Arcs.{Path, path, arc_at, long_at}
+use Rattle.def_layout.specs.Arcs.{Path, path, path_at, long_at}
 use Rattle.def_layout.specs.declared.tmesh.SideArc.{SideArc}
 use Rattle.qm_tmesh.specs.Uses.{use_in}
 use Rattle.qm_tmesh.specs.Sides.{HasUseAt, IsSplit, IsSideSoFar}
@@ -17,7 +17,7 @@ loop-t-preserved c = by_parts c.loop-t.invariant.0 c.loop-t.invariant.1 c.loop-t
         let at : HasUseAt (map path c.args.runs.now.arcs.items) c.args.runs.now.uses.items c.args.line.now begins c.loop-t.t = split.step c.loop-t.t c.loop-t-test.true (so.next c.loop-t-test.true) in
         let is : c.index-used.result.now ≡ use_in c.args.runs.now.uses.items (get_or c.args.line.now c.loop-t.t 0) = c.index-used.ensures ∙ get_or_default c.args.runs.now.uses.items (get_or c.args.line.now c.loop-t.t 0) c.index-used.result.now (record { arc = 0; forward = true }) (split.low c.loop-t.t c.loop-t-test.true) in
         let low : c.index-used.result.now.arc < length (map path c.args.runs.now.arcs.items) = subst (λ (u : SideArc). u.arc < length (map path c.args.runs.now.arcs.items)) (sym is) at.low in
-        let arc : arc_at (map path c.args.runs.now.arcs.items) c.index-used.result.now.arc ≡ path c.index.result.now = read_arc c.args.runs.now.arcs.items c.index-used.result.now.arc c.index.result.now (omega (arith, low, length-map c.args.runs.now.arcs.items path)) c.index.ensures in
+        let arc : path_at (map path c.args.runs.now.arcs.items) c.index-used.result.now.arc ≡ path c.index.result.now = read_arc c.args.runs.now.arcs.items c.index-used.result.now.arc c.index.result.now (omega (arith, low, length-map c.args.runs.now.arcs.items path)) c.index.ensures in
         let long : long_at (map path c.args.runs.now.arcs.items) c.index-used.result.now.arc ≡ length c.index.result.now.darts.items = ap (λ (p : Path). length p.darts) arc in
         let put : c.push.new.self.items ≡ c.loop-t.arcs.items ++ c.index-used.result.now ∷ [] = c.in_ok-push.ensures.items in (
           begins,

@@ -5,7 +5,7 @@ use Rattle.std.proofs.lemmas.Bool.{eqb-true}
 use Rattle.def_mesh.specs.Components.{start_darts}
 use Rattle.def_mesh.specs.Vertices.{vertex_count}
 use Rattle.def_cut.specs.declared.moving.Moving.{Moving}
-use Rattle.def_cut.specs.Motion.{after, is_among}
+use Rattle.def_cut.specs.Motion.{after_steps, is_among}
 use Rattle.def_cut.specs.Traced.{terrain_of}
 use Rattle.def_cut.specs.Events.{rider_at}
 use Rattle.qm_trace.specs.Tables.{IsQueue, IsTableAt, is_running}
@@ -49,7 +49,7 @@ returns c = elim c.instants-test.branch [
   | else-instants-test w ↦
       let over : c.instants.counter ≡ vertex_count c.args.mesh.now = omega (arith, w.instants-test.false, c.instants.auto.counter-end, c.vertices-end.ensures.value) in
       end_at c.args.mesh.now c.faces-known.ensures.mesh.manifold c.instants.counter c.instants.tables.riders.items c.instants.tables.sight.stood.items c.instants.tables.covered.items c.instants.tables.sight.taken.items c.instants.invariant.at c.instants.invariant.way (omega (arith, over))
-      (all_over c.args.mesh.now c.faces-known.ensures.mesh.manifold c.instants.tables.riders.items (c.instants.invariant.at.riders_are ∙ ap (λ k. (after (terrain_of c.args.mesh.now) (start_darts c.args.mesh.now) k).riders) over))
+      (all_over c.args.mesh.now c.faces-known.ensures.mesh.manifold c.instants.tables.riders.items (c.instants.invariant.at.riders_are ∙ ap (λ k. (after_steps (terrain_of c.args.mesh.now) (start_darts c.args.mesh.now) k).riders) over))
   | then-instants-test+then-is_empty w ↦
       let none : length c.instants.queue.items ≡ 0 = omega (arith, eqb-true (vec_len c.instants.queue) 0 (sym w.is_empty.ensures ∙ w.if-is_empty.true), c.instants.queue.ok.0) in
       end_at c.args.mesh.now c.faces-known.ensures.mesh.manifold c.instants.counter c.instants.tables.riders.items c.instants.tables.sight.stood.items c.instants.tables.covered.items c.instants.tables.sight.taken.items c.instants.invariant.at c.instants.invariant.way (omega (arith, w.instants-test.true, c.vertices-end.ensures.value))

@@ -1,5 +1,5 @@
 use Rattle.std.proofs.Common.{◌≡◌, suc, ◌+◌, ◌-◌, ◌*◌, ◌/◌, ◌<◌, ◌⊎◌, length, get_or, refl, sym, ◌∙◌, ap, subst, inl, inr, arith}
-use Rattle.def_forest.specs.Forests.{number, ring_sum, walk}
+use Rattle.def_forest.specs.Forests.{bool_number, ring_sum, walk}
 use Rattle.def_forest.specs.Tables.{up_at}
 use Rattle.qm_forest.specs.Rounds.{IsPairing, IsRound, within}
 use Rattle.qm_forest.proofs.RingRounds.{at_low, ring_begun, ring_ended, ring_turn, turn_entries, turn_pairing}
@@ -34,7 +34,7 @@ loop-preserved c =
     record {
       here = c.next-x-in-loop.ensures ∙ (ap (λ z. get_or c.args.self.now.after z 0) (c.next-y.ensures ∙ ap (λ z. get_or c.args.self.now.after z 0) c.loop.invariant.here) ∙ ap (walk (λ k. get_or c.args.self.now.after k 0) (get_or c.args.self.now.after c.args.p 0)) two);
       room = c.pair.ensures.room;
-      done = λ rest due r. subst (λ z. IsRound c.args.self.now c.pair.new.round.marks.items c.pair.new.round.left_out.items (λ b. ring_sum (λ k. get_or c.args.self.now.after k 0) (λ s. number (within c.args.self.now b s)) z (get_or c.args.self.now.parts (up_at c.args.self.now.up c.args.p) 0 - 1 - 2 * (c.loop.counter + 1)) + rest b) due) (sym c.next-x-in-loop.ensures)
+      done = λ rest due r. subst (λ z. IsRound c.args.self.now c.pair.new.round.marks.items c.pair.new.round.left_out.items (λ b. ring_sum (λ k. get_or c.args.self.now.after k 0) (λ s. bool_number (within c.args.self.now b s)) z (get_or c.args.self.now.parts (up_at c.args.self.now.up c.args.p) 0 - 1 - 2 * (c.loop.counter + 1)) + rest b) due) (sym c.next-x-in-loop.ensures)
           (ring_turn c.args.self.now c.requires.room.laminar c.requires.valid.0 c.requires.valid.1 c.requires.valid.2 c.args.p c.requires.inner c.loop.round.marks.items c.pair.new.round.marks.items c.loop.round.left_out.items c.pair.new.round.left_out.items rest due c.loop.counter (c.loop.counter + 1) c.loop.x c.next-y.result c.joint-d.result c.loop.invariant.here low c.next-y.ensures c.joint-d.ensures refl c.loop.invariant.room.marks c.loop.invariant.room.left_out c.pair.ensures.marks c.pair.ensures.left_out (c.loop.invariant.done rest due r));
       entries = λ b v e. by_turn (turn_entries c.args.self.now c.requires.room.laminar c.requires.valid.0 c.requires.valid.1 c.requires.valid.2 c.args.p c.requires.inner c.loop.round.left_out.items c.pair.new.round.left_out.items c.loop.counter c.loop.x c.next-y.result c.joint-d.result b v c.loop.invariant.here c.next-y.ensures c.loop.invariant.room.left_out c.pair.ensures.left_out pairing.low_x pairing.low_y e) (c.loop.invariant.entries b v);
     }

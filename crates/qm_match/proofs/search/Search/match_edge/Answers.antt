@@ -5,7 +5,7 @@ use Rattle.def_matching.specs.declared.weighted.WEdge.{WEdge}
 use Rattle.def_forest.specs.Darts.{darts_of}
 use Rattle.def_forest.specs.Forests.{Forest}
 use Rattle.def_forest.specs.Steps.{rooted}
-use Rattle.def_forest.specs.Tables.{forest_of, kind_of}
+use Rattle.def_forest.specs.Tables.{forest_of, edge_kind}
 use Rattle.def_forest.specs.Valid.{IsValid}
 use Rattle.qm_match.proofs.Ready.{free_augments, matched_idle}
 use Rattle.qm_match.proofs.search.Search.match_edge.Goals as goal
@@ -17,7 +17,7 @@ pub augment-requires-clause-kind : goal.augment-requires-clause-kind
 augment-requires-clause-kind c =
     let edge : c.index.result.now ≡ edge_at (graph c.args.g.now) c.args.e = get_or_read c.args.g.now.edges.items c.args.e _ c.requires.edge c.index.ensures (record { u = 0; v = 0; cost = pos 0 }) in
     let valid : IsValid (darts_of (graph c.args.g.now)) (forest_of c.args.self.now.forest) None = subst (λ (o : Option ℕ). IsValid (darts_of (graph c.args.g.now)) (forest_of c.args.self.now.forest) o) c.requires.idle.no_tree c.requires.idle.valid.valid in
-    ap (λ (f : Forest). kind_of (graph c.args.g.now) f c.args.e) (c.root.ensures.changed ∙ ap (λ (x : WEdge). rooted (forest_of c.args.self.now.forest) ((forest_of c.args.self.now.forest).out x.u)) edge)
+    ap (λ (f : Forest). edge_kind (graph c.args.g.now) f c.args.e) (c.root.ensures.changed ∙ ap (λ (x : WEdge). rooted (forest_of c.args.self.now.forest) ((forest_of c.args.self.now.forest).out x.u)) edge)
     ∙ free_augments (graph c.args.g.now) (forest_of c.args.self.now.forest) c.args.e valid c.requires.free
 
 pub returns : goal.returns

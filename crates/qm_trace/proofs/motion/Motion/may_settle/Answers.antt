@@ -4,7 +4,7 @@ use Rattle.std.proofs.lemmas.List.{get_or_default}
 use Rattle.def_mesh.specs.Darts.{prev_of}
 use Rattle.def_mesh.specs.Vertices.{fan_of}
 use Rattle.def_cut.specs.FullCut.{is_on}
-use Rattle.def_cut.specs.Events.{darts_in, ends_at, may_settle, waiting}
+use Rattle.def_cut.specs.Events.{darts_in, leads_to, may_settle, waiting}
 use Rattle.def_cut.specs.Traced.{terrain_of}
 use Rattle.def_cut.specs.Views.{IsMotionOn, MotionView}
 use Rattle.qm_trace.specs.contracts.motion.Motion.{the_view}
@@ -26,7 +26,7 @@ pub returns : goal.returns
 returns c =
     let m = c.faces-known.ensures.mesh.manifold in
     let z : IsMotionOn c.args.mesh.now (the_view c.self.inside) = subst (IsMotionOn c.args.mesh.now) (sym c.self.view_is) c.requires.motion in
-    let ends : c.is_end-ends.result ≡ list_any (ends_at (terrain_of c.args.mesh.now) c.args.v) (darts_in c.self.inside.notes.noted.items) =
+    let ends : c.is_end-ends.result ≡ list_any (leads_to (terrain_of c.args.mesh.now) c.args.v) (darts_in c.self.inside.notes.noted.items) =
     c.is_end-ends.ensures ∙ (ap (λ (xs : List Bool). list_any (λ e. is_on xs (prev_of e)) (fan_of c.args.mesh.now c.args.v)) c.deref.ensures.value
     ∙ end_is c.args.mesh.now c.args.v (darts_in c.self.inside.notes.noted.items) c.self.inside.notes.taken.items c.self.invariant.notes_are.taken_is (noted_low_at c.args.mesh.now m (the_view c.self.inside).state z.reached) m) in
     let low : c.args.v < length c.self.inside.settled.items = omega (arith, c.requires.vertex, settled_long c.args.mesh.now m (the_view c.self.inside).state z.reached) in
@@ -34,5 +34,5 @@ returns c =
     c.all_hold.ensures
     ∙ (ap (λ (w : ℕ). eqb w 0 && (c.is_end-ends.result && not c.index.result.now)) c.self.invariant.waits_is
     ∙ (ap (λ (b : Bool). eqb (waiting c.self.inside.riders.list.items c.self.inside.notes.noted.items) 0 && (b && not c.index.result.now)) ends
-    ∙ (ap (λ (b : Bool). eqb (waiting c.self.inside.riders.list.items c.self.inside.notes.noted.items) 0 && (list_any (ends_at (terrain_of c.args.mesh.now) c.args.v) (darts_in c.self.inside.notes.noted.items) && not b)) mark
+    ∙ (ap (λ (b : Bool). eqb (waiting c.self.inside.riders.list.items c.self.inside.notes.noted.items) 0 && (list_any (leads_to (terrain_of c.args.mesh.now) c.args.v) (darts_in c.self.inside.notes.noted.items) && not b)) mark
     ∙ ap (λ (q : MotionView). may_settle (terrain_of c.args.mesh.now) q.state c.args.v) c.self.view_is)))

@@ -3,7 +3,7 @@ use Rattle.std.proofs.lemmas.Bool.{eq-eqb, ne_eqb}
 use Rattle.std.proofs.lemmas.List.{get_or_default, length-set}
 use Rattle.def_cut.specs.FullCut.{is_on}
 use Rattle.def_cut.specs.declared.moving.Moving.{Moving}
-use Rattle.def_cut.specs.Events.{IsMotionOf, after_settling, darts_in, decided_at, is_closed, waiting}
+use Rattle.def_cut.specs.Events.{IsMotionOf, after_settling, darts_in, decided_at, are_ends_settled, waiting}
 use Rattle.def_cut.specs.Traced.{terrain_of}
 use Rattle.def_cut.specs.Views.{IsMotionOn, MotionView, with_state}
 use Rattle.qm_trace.specs.Motions.{is_untold, tally}
@@ -103,7 +103,7 @@ returns-then-self-eq0-clause-event c =
     let stood : c.index.result.now ≡ is_on c.self.inside.stood.items c.args.v = c.index.ensures ∙ get_or_default c.self.inside.stood.items c.args.v c.index.result.now false (omega (arith, k.low, stood_long c.args.mesh.now k.mesh (the_view c.self.inside).state k.reached)) in
     let site : IsSite c.args.mesh.now (is_on c.self.inside.stood.items c.args.v) c.args.v c.site_at-site.result = subst (λ (b : Bool). IsSite c.args.mesh.now b c.args.v c.site_at-site.result) stood c.site_at-site.ensures in
     let riders : c.tell_all.new.riders.list.items ≡ (decided_at (terrain_of c.args.mesh.now) (the_view c.self.inside).state c.args.v).riders = told_are c.args.mesh.now k.mesh (the_view c.self.inside).state k.reached c.args.v k.may c.self.inside.notes refl c.self.invariant.notes_are c.self.invariant.taken_long c.site_at-site.result site c.tell_all.new.riders.list.items (sym c.tell_all.ensures.counted.long ∙ c.self.invariant.counted.long) c.tell_all.ensures.told in
-    let closes : is_closed (terrain_of c.args.mesh.now) (set c.self.inside.settled.items c.args.v true) (darts_in c.self.inside.notes.noted.items) ≡ eqb c.tell_all.new.riders.untold 0 = sym (closed_where c.args.mesh.now k.mesh (the_view c.self.inside).state k.reached c.args.v k.may c.self.inside.notes refl c.self.invariant.notes_are c.self.invariant.taken_long c.site_at-site.result site) ∙ (ap (λ (rs : List Moving). eqb (tally is_untold rs c.self.inside.notes.noted.items) 0) (sym riders) ∙ ap (λ n. eqb n 0) (sym c.tell_all.ensures.counted.untold)) in
+    let closes : are_ends_settled (terrain_of c.args.mesh.now) (set c.self.inside.settled.items c.args.v true) (darts_in c.self.inside.notes.noted.items) ≡ eqb c.tell_all.new.riders.untold 0 = sym (closed_where c.args.mesh.now k.mesh (the_view c.self.inside).state k.reached c.args.v k.may c.self.inside.notes refl c.self.invariant.notes_are c.self.invariant.taken_long c.site_at-site.result site) ∙ (ap (λ (rs : List Moving). eqb (tally is_untold rs c.self.inside.notes.noted.items) 0) (sym riders) ∙ ap (λ n. eqb n 0) (sym c.tell_all.ensures.counted.untold)) in
     let stands : set c.self.inside.stood.items c.args.v true ≡ (decided_at (terrain_of c.args.mesh.now) (the_view c.self.inside).state c.args.v).stood = ap (set c.self.inside.stood.items c.args.v) (sym (stood_is c.args.mesh.now k.mesh (the_view c.self.inside).state k.reached c.args.v k.may c.self.inside.notes refl c.self.invariant.notes_are c.self.invariant.taken_long c.site_at-site.result site)) in
     ap (made c.self.inside.starts.items)
     (closed_state c.args.mesh.now (the_view c.self.inside).state c.args.v c.tell_all.new.riders.list.items (set c.self.inside.stood.items c.args.v true) c.clear.new.notes.noted.items c.clear.new.settled.items riders stands c.clear.ensures.noted c.clear.ensures.settled (closes ∙ eq-eqb c.tell_all.new.riders.untold 0 c.if-self-eq0.true))
@@ -123,7 +123,7 @@ returns-else-self-eq0-clause-event c =
     let stood : c.index.result.now ≡ is_on c.self.inside.stood.items c.args.v = c.index.ensures ∙ get_or_default c.self.inside.stood.items c.args.v c.index.result.now false (omega (arith, k.low, stood_long c.args.mesh.now k.mesh (the_view c.self.inside).state k.reached)) in
     let site : IsSite c.args.mesh.now (is_on c.self.inside.stood.items c.args.v) c.args.v c.site_at-site.result = subst (λ (b : Bool). IsSite c.args.mesh.now b c.args.v c.site_at-site.result) stood c.site_at-site.ensures in
     let riders : c.tell_all.new.riders.list.items ≡ (decided_at (terrain_of c.args.mesh.now) (the_view c.self.inside).state c.args.v).riders = told_are c.args.mesh.now k.mesh (the_view c.self.inside).state k.reached c.args.v k.may c.self.inside.notes refl c.self.invariant.notes_are c.self.invariant.taken_long c.site_at-site.result site c.tell_all.new.riders.list.items (sym c.tell_all.ensures.counted.long ∙ c.self.invariant.counted.long) c.tell_all.ensures.told in
-    let closes : is_closed (terrain_of c.args.mesh.now) (set c.self.inside.settled.items c.args.v true) (darts_in c.self.inside.notes.noted.items) ≡ eqb c.tell_all.new.riders.untold 0 = sym (closed_where c.args.mesh.now k.mesh (the_view c.self.inside).state k.reached c.args.v k.may c.self.inside.notes refl c.self.invariant.notes_are c.self.invariant.taken_long c.site_at-site.result site) ∙ (ap (λ (rs : List Moving). eqb (tally is_untold rs c.self.inside.notes.noted.items) 0) (sym riders) ∙ ap (λ n. eqb n 0) (sym c.tell_all.ensures.counted.untold)) in
+    let closes : are_ends_settled (terrain_of c.args.mesh.now) (set c.self.inside.settled.items c.args.v true) (darts_in c.self.inside.notes.noted.items) ≡ eqb c.tell_all.new.riders.untold 0 = sym (closed_where c.args.mesh.now k.mesh (the_view c.self.inside).state k.reached c.args.v k.may c.self.inside.notes refl c.self.invariant.notes_are c.self.invariant.taken_long c.site_at-site.result site) ∙ (ap (λ (rs : List Moving). eqb (tally is_untold rs c.self.inside.notes.noted.items) 0) (sym riders) ∙ ap (λ n. eqb n 0) (sym c.tell_all.ensures.counted.untold)) in
     let stands : set c.self.inside.stood.items c.args.v true ≡ (decided_at (terrain_of c.args.mesh.now) (the_view c.self.inside).state c.args.v).stood = ap (set c.self.inside.stood.items c.args.v) (sym (stood_is c.args.mesh.now k.mesh (the_view c.self.inside).state k.reached c.args.v k.may c.self.inside.notes refl c.self.invariant.notes_are c.self.invariant.taken_long c.site_at-site.result site)) in
     ap (made c.self.inside.starts.items)
     (open_state c.args.mesh.now (the_view c.self.inside).state c.args.v c.tell_all.new.riders.list.items (set c.self.inside.stood.items c.args.v true) riders stands (closes ∙ ne_eqb c.tell_all.new.riders.untold 0 c.if-self-eq0.false))
