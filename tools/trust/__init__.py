@@ -1,0 +1,1 @@
+"""What a reader of quadq has to believe, found in the sources."""
