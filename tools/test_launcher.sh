@@ -59,7 +59,7 @@ END
 checkout() {
     mkdir -p "$1/docs" "$1/crates/low/src" "$1/crates/low/proofs" "$1/crates/qm_prog/src" "$1/crates/low/specs" "$1/.ci"
     cp -r "$root/quadq" "$root/install.sh" "$root/tools" "$1"
-    for step in edits documents test_launcher.sh command_lines allocations.sh; do
+    for step in trusted_base edits documents test_launcher.sh command_lines allocations.sh; do
         printf '#!/bin/sh\n' >"$1/tools/$step"
     done
     cp "$root/.ci/run" "$1/.ci"
@@ -253,9 +253,6 @@ the_gate() {
     before=$(builds)
     wants "a step that fails ends it before the proofs" "1 5 passed, 2 failed $before" "$(gate) $(builds)"
     printf '#!/bin/sh\n' >"$at/tools/documents"
-    printf 'ghost use Rattle.low.specs.Word.{word};\npub fn f()\n    ensures { word }\n{}\n' >"$at/crates/low/src/cites.rt"
-    wants "it refuses a clause that cites another definition" "1 3 passed, 1 failed $before" "$(gate) $(builds)"
-    holds "by its place" grep -q '^crates/low/src/cites.rt:3: low.specs.Word.word' "$room/err1"
 }
 
 closed_streams() {
