@@ -272,7 +272,7 @@ closed_streams() {
 two_builds_at_once() {
     at=$room/two
     checkout "$at"
-    echo 12 >"$room/slow"
+    echo 18 >"$room/slow"
     "$at/quadq" >"$room/out1" 2>"$room/err1" &
     until_there "$at/build/log"
     "$at/quadq" >"$room/out2" 2>"$room/err2"
@@ -287,7 +287,7 @@ two_builds_at_once() {
 waiting_for_the_gate() {
     at=$room/waiting
     checkout "$at"
-    echo 12 >"$room/slow"
+    echo 18 >"$room/slow"
     touch "$room/waits"
     "$at/quadq" >/dev/null 2>"$room/err1"
     holds "waiting for the gate is told" grep -q "waiting for another rt to finish" "$room/err1"
