@@ -1,21 +1,34 @@
--- What is kept of a layout that is remeshed.
-use Rattle.std.specs.Prelude.{◌≡◌, Bool, Option}
+-- The network by which a layout is remeshed, and what is kept of it.
+use Rattle.std.specs.Prelude.{◌≡◌, ◌≤◌, Bool, Option}
 use Rattle.def_certtext.specs.CertLines.{Lists}
+use Rattle.def_flow.specs.Network.{Network, tangle_number, IsWithinBounds}
+use Rattle.def_flow.specs.declared.limits.TheConstants.{MAX_TANGLE}
 use Rattle.def_flow.specs.declared.net.Settings.{Settings}
 use Rattle.def_layout.specs.Plans.{Plan, layout_of}
+use Rattle.def_layoutnet.specs.LayoutNet.{IsNetOf}
+use Rattle.def_layoutnet.specs.MeshLayouts.{IsMeshLayout}
 use Rattle.def_written.specs.Edges.{IsUndoubled}
 use Rattle.def_remesh.specs.NewPoints.{lengths_in}
 use Rattle.def_remesh.specs.Numberings.{IsNumbering}
 use Rattle.def_remesh.specs.Remeshed.{AreCoarse, AreKept, used}
 use Rattle.def_remesh.specs.Stitched.{KeepsShapes}
+use Rattle.def_remesh.specs.Tasks.{Wish}
 use Rattle.def_remesh.specs.declared.tables.Tables.{Tables}
+
+-- A network of a layout with these wished lengths, within bounds and not too tangled.
+pub record IsNetFor (wish : Wish) (plan : Plan) (settings : Settings) (net : Network) : Type 0 where
+  pub mesh : IsMeshLayout plan
+  pub floor : 1 ≤ settings.floor
+  pub is : IsNetOf (layout_of plan) (wish plan) settings net
+  pub bounds : IsWithinBounds net
+  pub untangled : tangle_number net ≤ MAX_TANGLE
 
 -- The certificates of a remesh, and the numbers of the new mesh at the lengths that are used. It has no more faces than
 -- a new mesh may have, no edge of it is doubled, and it keeps the shape of the old one.
 pub record IsKept
-    (plan : Plan) (settings : Settings) (auto : Bool) (first : Lists) (third : Option Lists) (tables : Tables)
+    (wish : Wish) (plan : Plan) (settings : Settings) (auto : Bool) (first : Lists) (third : Option Lists) (tables : Tables)
     : Type 0 where
-  pub kept : AreKept plan settings auto first third
+  pub kept : AreKept wish plan settings auto first third
   pub coarse : AreCoarse plan (used first third).x
   pub undoubled : IsUndoubled (layout_of plan) (lengths_in (used first third).x)
   pub shape : KeepsShapes plan (lengths_in (used first third).x)

@@ -8,4 +8,5 @@ pub mod Refined
 pub mod Refusals
 pub mod Remeshed
 pub mod Stitched
+pub mod Tasks
 pub mod TextLaws

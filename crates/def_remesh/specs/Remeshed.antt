@@ -1,25 +1,27 @@
--- What `remesh` makes of a mesh: the cut, the lengths, the text and the shape.
-use Rattle.std.specs.Prelude.{◌≡◌, ◌≤◌, ℕ, Bool, true, false, Option, Some, None, List}
-use Rattle.def_cut.specs.Traced.{traced_marks}
+-- What is made of a mesh that is remeshed: the cut, the lengths, the text and the shape.
+use Rattle.std.specs.Prelude.{◌≡◌, ◌≤◌, ◌∷◌, ◌++◌, ℕ, Bool, true, false, Option, Some, None, List}
 use Rattle.def_flow.specs.Accepted.{Certificate, IsAccepted}
 use Rattle.def_flow.specs.Admissible.{entries, IsLeast}
 use Rattle.def_flow.specs.Network.{Network, tangle_number}
 use Rattle.def_flow.specs.declared.limits.TheConstants.{MAX_TANGLE}
 use Rattle.def_flow.specs.declared.net.Settings.{Settings}
 use Rattle.def_io.specs.Bytes.{Bytes}
-use Rattle.def_layout.specs.Arcs.{long_at}
 use Rattle.def_layout.specs.FaceLayouts.{IsLayoutOf}
 use Rattle.def_layout.specs.Plans.{Plan, layout_of, vertex_at}
 use Rattle.def_layoutnet.specs.LayoutNet.{IsNetOf}
 use Rattle.def_layoutnet.specs.LayoutNetLaws.{AreOpposite}
-use Rattle.def_certtext.specs.CertLines.{said_by, Lists}
-use Rattle.def_certtext.specs.Laws.{chosen_lines, written_text, IsWritableCert}
+use Rattle.def_certtext.specs.CertLines.{said_by, text_of, Lists}
+use Rattle.def_certtext.specs.Laws.{chosen_lines, IsWritableCert}
+use Rattle.def_certtext.specs.declared.CertLine.{CertLine}
+use Rattle.def_io.specs.declared.TheConstants.{LINE_FEED}
+use Rattle.def_text.specs.Canonical.{canonical_text}
 use Rattle.def_text.specs.FaceSet.{FaceSet}
 use Rattle.def_written.specs.Edges.{IsDoubledAt, IsUndoubled}
 use Rattle.def_written.specs.NewFaces.{face_count, new_faces}
 use Rattle.def_written.specs.Shape.{KeepsShape}
 use Rattle.def_remesh.specs.NewPoints.{lengths_in}
 use Rattle.def_remesh.specs.NewSoup.{new_soup}
+use Rattle.def_remesh.specs.Tasks.{remesh_task, Task, Wish}
 use Rattle.def_remesh.specs.declared.limits.TheConstants.{MAX_NEW_FACES}
 
 -- The settings with another floor.
@@ -31,12 +33,12 @@ with_floor settings floor =
 abbrev pub certificate_of : (lists : Lists) → Certificate
 certificate_of lists = record { x = lists.x; dual = record { y = lists.y; z = lists.z; up = lists.up } }
 
--- A certificate that is accepted for the network of a layout, which is not too tangled, and can be written. So its
--- lengths are at least the floor, equal on opposite sides of each patch, and their deviation is least among all such
--- lengths.
-pub record IsCertified (plan : Plan) (settings : Settings) (cert : Lists) : Type 0 where
+-- A certificate that is accepted for the network of a layout with these wished lengths, which is not too tangled, and
+-- can be written. So its lengths are at least the floor, equal on opposite sides of each patch, and their deviation is
+-- least among all such lengths.
+pub record IsCertified (wish : Wish) (plan : Plan) (settings : Settings) (cert : Lists) : Type 0 where
   pub net : Network
-  pub of_layout : IsNetOf (layout_of plan) (long_at plan.arcs) settings net
+  pub of_layout : IsNetOf (layout_of plan) (wish plan) settings net
   pub untangled : tangle_number net ≤ MAX_TANGLE
   pub accepted : IsAccepted net (certificate_of cert)
   pub opposite : AreOpposite (layout_of plan) (entries cert.x)
@@ -54,37 +56,57 @@ AreDoubled plan lengths = (u v : ℕ) × IsDoubledAt (layout_of plan) (lengths_i
 -- The certificates of a remesh: with a given floor there is one. With `auto` there is one for floor 1, and where its
 -- lengths double an edge, another for floor 3.
 abbrev pub AreKept :
-    (plan : Plan) (settings : Settings) (auto : Bool) (first : Lists) (third : Option Lists) → Type 0
-AreKept plan settings auto first None = IsCertified plan settings first
-AreKept plan settings true first (Some third) =
-    IsCertified plan settings first × AreCoarse plan first.x × AreDoubled plan first.x
-    × IsCertified plan (with_floor settings 3) third
-AreKept plan settings false first (Some third) = ⊥
+    (wish : Wish) (plan : Plan) (settings : Settings) (auto : Bool) (first : Lists) (third : Option Lists) → Type 0
+AreKept wish plan settings auto first None = IsCertified wish plan settings first
+AreKept wish plan settings true first (Some third) =
+    IsCertified wish plan settings first × AreCoarse plan first.x × AreDoubled plan first.x
+    × IsCertified wish plan (with_floor settings 3) third
+AreKept wish plan settings false first (Some third) = ⊥
 
 -- The certificate whose lengths are used.
 abbrev pub used : (first : Lists) (third : Option Lists) → Lists
 used first None = first
 used first (Some third) = third
 
--- The head line, the mesh at the lengths that are used, and the lines of the certificates.
-abbrev pub remeshed_text :
-    (settings : Settings) (auto : Bool) (soup : FaceSet) (plan : Plan) (first : Lists) (third : Option Lists) → Bytes
-remeshed_text settings true soup plan first third =
-    written_text settings true (new_soup soup plan (lengths_in (used first third).x)) (chosen_lines first third)
-remeshed_text settings false soup plan first third =
-    written_text settings false (new_soup soup plan (lengths_in (used first third).x)) (said_by (used first third))
+-- The lines of the certificates. With `auto` each stands behind the line that names its floor.
+abbrev pub certificate_lines : (auto : Bool) (first : Lists) (third : Option Lists) → List CertLine
+certificate_lines true first third = chosen_lines first third
+certificate_lines false first third = said_by (used first third)
 
--- A finished remesh of a soup: a layout cuts its mesh into rectangular grids of its motorcycle graph, each face once;
--- the certificates show that the lengths are least; the text is that of the mesh with these lengths; and that mesh has
--- the shape of the old one.
-pub record IsRemeshed (settings : Settings) (auto : Bool) (soup : FaceSet) (text : Bytes) : Type 0 where
+-- The mesh at the lengths that are used, these lines behind it, and the lines of the certificates.
+abbrev pub text_behind_head :
+    (between : Bytes) (auto : Bool) (soup : FaceSet) (plan : Plan) (first : Lists) (third : Option Lists) → Bytes
+text_behind_head between auto soup plan first third =
+    canonical_text (new_soup soup plan (lengths_in (used first third).x))
+    ++ (between ++ text_of (certificate_lines auto first third))
+
+-- The whole text of a task.
+abbrev pub finished_text : (task : Task) (soup : FaceSet) (plan : Plan) (first : Lists) (third : Option Lists) → Bytes
+finished_text task soup plan first third =
+    task.head ++ LINE_FEED ∷
+    text_behind_head (task.between plan (lengths_in (used first third).x)) task.auto soup plan first third
+
+-- A task that is finished for a soup: a layout cuts its mesh into rectangular grids of the cut, each face once; the
+-- certificates show that the lengths are least; the text is that of the mesh with these lengths; and that mesh has the
+-- shape of the old one.
+pub record IsFinished (task : Task) (soup : FaceSet) (text : Bytes) : Type 0 where
   pub plan : Plan
-  pub cut : IsLayoutOf soup.faces (traced_marks soup.faces) plan
+  pub cut : IsLayoutOf soup.faces task.marks plan
   pub first : Lists
   pub third : Option Lists
-  pub lengths : AreKept plan settings auto first third
+  pub lengths : AreKept task.wish plan task.settings task.auto first third
   pub coarse : AreCoarse plan (used first third).x
   pub undoubled : IsUndoubled (layout_of plan) (lengths_in (used first third).x)
-  pub written : text ≡ remeshed_text settings auto soup plan first third
+  pub written : text ≡ finished_text task soup plan first third
   pub shape : KeepsShape soup.faces (new_faces (layout_of plan) (lengths_in (used first third).x))
       (layout_of plan).nodes (vertex_at plan)
+
+-- The text of a remesh.
+abbrev pub remeshed_text :
+    (settings : Settings) (auto : Bool) (soup : FaceSet) (plan : Plan) (first : Lists) (third : Option Lists) → Bytes
+remeshed_text settings auto soup plan first third =
+    finished_text (remesh_task settings auto soup.faces) soup plan first third
+
+-- A finished remesh of a soup: the cut is its motorcycle graph, and the old lengths are wished for.
+abbrev pub IsRemeshed : (settings : Settings) (auto : Bool) (soup : FaceSet) (text : Bytes) → Type 0
+IsRemeshed settings auto soup text = IsFinished (remesh_task settings auto soup.faces) soup text

@@ -23,6 +23,7 @@ use Rattle.def_remesh.specs.declared.kept.LayoutFail.TheVariants as layout_fail
 use Rattle.def_run.specs.Remesh.{IsCutTo, RefusesLayout}
 use Rattle.def_run.specs.declared.answer.Answer.{Answer}
 use Rattle.def_run.specs.declared.answer.Answer.TheVariants.{NotManifold}
+use Rattle.def_remesh.specs.Tasks.{old_lengths}
 
 -- Half of the old lengths, at least 1, all arcs alike.
 abbrev pub bench_settings : Settings
@@ -51,7 +52,7 @@ pub record WritesBench (size : ℕ) (text : Bytes) : Type 0 where
   pub plan : Plan
   pub cut : IsCutTo (bench_faces size) plan
   pub cert : Lists
-  pub certified : IsCertified plan bench_settings cert
+  pub certified : IsCertified old_lengths plan bench_settings cert
   pub coarse : AreCoarse plan cert.x
   pub undoubled : IsUndoubled (layout_of plan) (lengths_in cert.x)
   pub said : text
@@ -62,17 +63,17 @@ abbrev pub RefusesToBench : (size : ℕ) (answer : Answer) → Type 0
 RefusesToBench size (NotManifold place) =
     IsFirstFault (bench_faces size) place × (¬ IsManifold (bench_faces size))
 RefusesToBench size answer =
-    (plan : Plan) × IsCutTo (bench_faces size) plan × RefusesLayout plan bench_settings false answer
+    (plan : Plan) × IsCutTo (bench_faces size) plan × RefusesLayout old_lengths plan bench_settings false answer
 
 -- Why the mesh of a size is not remeshed. Want of memory says nothing of it.
 abbrev pub IsBenchFail : (size : ℕ) (failed : LayoutFail) → Type 0
 IsBenchFail size layout_fail.Memory = ⊤
 IsBenchFail size failed =
-    (plan : Plan) × IsCutTo (bench_faces size) plan × IsLayoutFail plan bench_settings false failed
+    (plan : Plan) × IsCutTo (bench_faces size) plan × IsLayoutFail old_lengths plan bench_settings false failed
 
 -- The mesh of this size is remeshed whatever least lists are kept.
 pub record HasBench (size : ℕ) : Type 0 where
   pub manifold : IsManifold (bench_faces size)
   pub plan : Plan
   pub cut : IsCutTo (bench_faces size) plan
-  pub fits : IsRemeshable plan bench_settings false
+  pub fits : IsRemeshable old_lengths plan bench_settings false

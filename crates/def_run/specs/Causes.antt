@@ -14,7 +14,7 @@ use Rattle.def_run.specs.CommandLines.{IsCommand}
 use Rattle.def_run.specs.Graph.{RefusesToTrace, WritesGraph}
 use Rattle.def_run.specs.Mesh.{HasMesh}
 use Rattle.def_run.specs.Refine.{HasRefined, RefusesToRefine, WritesRefined}
-use Rattle.def_run.specs.Remesh.{HasRemesh, RefusesToRemesh, WritesRemeshed}
+use Rattle.def_run.specs.Remesh.{AsksToRemesh, HasFinished, RefusesTask, WritesFinished}
 use Rattle.def_run.specs.Tidy.{RefusesToTidy, WritesTidied}
 use Rattle.def_run.specs.declared.answer.Answer.{Answer}
 use Rattle.def_run.specs.declared.answer.Answer.TheVariants.{Done, Usage, Limit, ReadFault, WriteFault, Memory}
@@ -26,7 +26,7 @@ abbrev pub Writes : (command : Command) (bytes text : Bytes) → Type 0
 Writes Tidy bytes text = WritesTidied bytes text
 Writes Graph bytes text = WritesGraph bytes text
 Writes (Refine by) bytes text = WritesRefined by bytes text
-Writes (Remesh settings auto) bytes text = WritesRemeshed settings auto bytes text
+Writes (Remesh settings auto) bytes text = WritesFinished (AsksToRemesh settings auto) bytes text
 Writes Check bytes text = WritesAccepted bytes text
 Writes (Bench size) bytes text = WritesBench size text
 
@@ -35,7 +35,7 @@ abbrev pub Refuses : (command : Command) (bytes : Bytes) (answer : Answer) → T
 Refuses Tidy bytes answer = RefusesToTidy bytes answer
 Refuses Graph bytes answer = RefusesToTrace bytes answer
 Refuses (Refine by) bytes answer = RefusesToRefine by bytes answer
-Refuses (Remesh settings auto) bytes answer = RefusesToRemesh settings auto bytes answer
+Refuses (Remesh settings auto) bytes answer = RefusesTask (AsksToRemesh settings auto) bytes answer
 Refuses Check bytes answer = RefusesToCheck bytes answer
 Refuses (Bench size) bytes answer = RefusesToBench size answer
 
@@ -44,7 +44,7 @@ abbrev pub Takes : (command : Command) (bytes : Bytes) → Type 0
 Takes Tidy bytes = HasMesh bytes
 Takes Graph bytes = HasMesh bytes
 Takes (Refine by) bytes = HasRefined by bytes
-Takes (Remesh settings auto) bytes = HasRemesh settings auto bytes
+Takes (Remesh settings auto) bytes = HasFinished (AsksToRemesh settings auto) bytes
 Takes Check bytes = IsCheckedPair bytes
 Takes (Bench size) bytes = HasBench size
 

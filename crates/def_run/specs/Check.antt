@@ -36,6 +36,7 @@ use Rattle.def_run.specs.declared.answer.Answer.TheVariants.{NotAccepted, Syntax
 use Rattle.def_run.specs.declared.answer.Answer.TheVariants.{Tangled}
 use Rattle.def_run.specs.declared.answer.Why.{Why}
 use Rattle.def_run.specs.declared.answer.Why.TheVariants as why
+use Rattle.def_remesh.specs.Tasks.{old_lengths}
 
 -- A checked pair, with the numbers that are told of it.
 pub record IsCountedPair (bytes : Bytes) (arcs faces deviates : ℕ) : Type 0 where
@@ -110,7 +111,7 @@ pub record HasVerdict (plan : Plan) (settings : Settings) (cert : Lists) (verdic
 -- What is wrong with a certificate for a floor: its verdict, or that its lengths give too many faces.
 abbrev pub IsWrong : (plan : Plan) (settings : Settings) (cert : Lists) (why : Why) → Type 0
 IsWrong plan settings cert (why.Verdict verdict) = HasVerdict plan settings cert verdict
-IsWrong plan settings cert (why.TooFine faces) = IsCertified plan settings cert × AreTooFine plan cert.x faces
+IsWrong plan settings cert (why.TooFine faces) = IsCertified old_lengths plan settings cert × AreTooFine plan cert.x faces
 IsWrong plan settings cert _ = ⊥
 
 -- The certificate that is checked first: the one for floor 1, where another follows, or the only one.
@@ -119,7 +120,7 @@ first_checked made = unwrap_or made.first made.cert
 
 -- The only certificate is accepted, and its lengths double an edge, first at these vertices.
 abbrev pub IsLoneDoubled : (plan : Plan) (settings : Settings) (made : Made) (why : Why) → Type 0
-IsLoneDoubled plan settings made (why.Doubled u v) = (made.first ≡ None) × IsCertified plan settings made.cert
+IsLoneDoubled plan settings made (why.Doubled u v) = (made.first ≡ None) × IsCertified old_lengths plan settings made.cert
     × AreCoarse plan made.cert.x × IsFirstDoubled (layout_of plan) (lengths_in made.cert.x) u v
 IsLoneDoubled plan settings made _ = ⊥
 
@@ -127,7 +128,7 @@ IsLoneDoubled plan settings made _ = ⊥
 pub record IsThirdWrong (plan : Plan) (settings : Settings) (made : Made) (why : Why) : Type 0 where
   pub first : Lists
   pub there : made.first ≡ Some first
-  pub certified : IsCertified plan settings first
+  pub certified : IsCertified old_lengths plan settings first
   pub coarse : AreCoarse plan first.x
   pub doubled : AreDoubled plan first.x
   pub wrong : IsWrong plan (with_floor settings MAX_FLOOR) made.cert why
@@ -142,7 +143,7 @@ pub record DifferFrom (one other : Bytes) (at : ℕ) : Type 0 where
 pub record IsOtherText (bytes : Bytes) (asked : IsAsked bytes) (made : Made) (at : ℕ) : Type 0 where
   pub third : Option Lists
   pub chosen : (third ≡ None) ⊎ ((third ≡ Some made.cert) × (made.first ≡ Some (first_checked made)))
-  pub kept : AreKept asked.plan asked.settings asked.auto (first_checked made) third
+  pub kept : AreKept old_lengths asked.plan asked.settings asked.auto (first_checked made) third
   pub coarse : AreCoarse asked.plan (used (first_checked made) third).x
   pub undoubled : IsUndoubled (layout_of asked.plan) (lengths_in (used (first_checked made) third).x)
   pub differ : DifferFrom (tail_of asked.line bytes)
@@ -170,7 +171,7 @@ IsReason bytes asked why = IsWrongText bytes asked why
 -- The bytes are no checked pair, for this reason.
 pub record IsNoPair (bytes : Bytes) (why : Why) : Type 0 where
   pub asked : IsAsked bytes
-  pub untangled : (count : ℕ) → ¬ IsTangledAt asked.plan asked.settings count
+  pub untangled : (count : ℕ) → ¬ IsTangledAt old_lengths asked.plan asked.settings count
   pub reason : IsReason bytes asked why
   pub refuted : ¬ IsCheckedPair bytes
 
@@ -183,7 +184,7 @@ IsNotAccepted bytes why = IsNoPair bytes why
 -- The network of the old mesh is too tangled.
 pub record IsTangledOld (bytes : Bytes) (count : ℕ) : Type 0 where
   pub asked : IsAsked bytes
-  pub tangled : IsTangledAt asked.plan asked.settings count
+  pub tangled : IsTangledAt old_lengths asked.plan asked.settings count
   pub refuted : ¬ IsCheckedPair bytes
 
 -- It refuses these bytes with this answer.

@@ -1,6 +1,5 @@
 -- How a run and a process end.
-use Rattle.std.specs.Prelude.{◌≡◌, ◌≢◌, ◌⊎◌, ℕ, Bool, Option}
-use Rattle.def_flow.specs.declared.net.Settings.{Settings}
+use Rattle.std.specs.Prelude.{◌≡◌, ◌≢◌, ◌⊎◌, ℕ, Option}
 use Rattle.def_io.specs.Faults.{Rose}
 use Rattle.def_io.specs.Moves.{Change, IsStill, Stream}
 use Rattle.def_io.specs.Words.{ReadsWords}
@@ -8,12 +7,13 @@ use Rattle.def_text.specs.Types.{Words}
 use Rattle.def_run.specs.Causes.{IsGood, Ran}
 use Rattle.def_run.specs.CommandLines.{IsAcceptedLine, IsCommand}
 use Rattle.def_run.specs.Messages.{SaidWhy}
-use Rattle.def_run.specs.Remesh.{IsSettled, IsUntangled}
+use Rattle.def_run.specs.Remesh.{IsSettled}
+use Rattle.def_run.specs.Solving.{IsUntangled}
 use Rattle.def_run.specs.Status.{status_of}
 use Rattle.def_run.specs.declared.answer.Answer.{Answer}
 use Rattle.def_run.specs.declared.answer.Answer.TheVariants.{Done, Usage, ReadFault, WriteFault, Memory}
 use Rattle.def_run.specs.declared.command.Command.{Command}
-use Rattle.def_run.specs.declared.command.Command.TheVariants.{Remesh, Bench}
+use Rattle.def_run.specs.declared.command.Command.TheVariants.{Bench}
 use Rattle.def_run.specs.declared.command.TheConstants.{MAX_WORD}
 
 -- Memory was wanting, or the source or the sink failed.
@@ -21,8 +21,8 @@ abbrev pub WasShort : (input out : Change) (answer : Answer) → Type 0
 WasShort input out answer =
     (answer ≡ Memory) ⊎ (Rose input.faults input.faults_now ⊎ Rose out.faults out.faults_now)
 
--- Running these words gives this answer: it has its cause, and its line is told; what is good is done, and a mesh that
--- is not too tangled gets least lengths; and each stream that the answer leaves alone is as it was.
+-- Running these words gives this answer: it has its cause, and its line is told; what is good is done, and a network
+-- that is not too tangled gets least lengths; and each stream that the answer leaves alone is as it was.
 pub record RunsTo {S O E : Type 0} (words : Words) (input : Stream S) (out : Stream O) (err : Stream E)
     (answer : Answer) : Type 0 where
   pub usage : answer ≡ Usage → ¬ IsAcceptedLine words
@@ -30,8 +30,8 @@ pub record RunsTo {S O E : Type 0} (words : Words) (input : Stream S) (out : Str
   pub told : answer ≢ Done → SaidWhy words input.change err.change answer
   pub complete : (command : Command) → IsCommand words command → IsGood command input.change.told
       → (answer ≡ Done) ⊎ WasShort input.change out.change answer
-  pub settled : (settings : Settings) (auto : Bool) → IsCommand words (Remesh settings auto)
-      → IsUntangled settings input.change.told → IsSettled answer ⊎ WasShort input.change out.change answer
+  pub settled : (command : Command) → IsCommand words command → IsUntangled command input.change.told
+      → IsSettled answer ⊎ WasShort input.change out.change answer
   pub untouched : answer ≢ Done → answer ≢ WriteFault → IsStill out
   pub quiet : answer ≡ Done → IsStill err
   pub unread : answer ≡ Usage → IsStill input

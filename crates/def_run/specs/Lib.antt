@@ -11,5 +11,6 @@ pub mod Messages
 pub mod Options
 pub mod Refine
 pub mod Remesh
+pub mod Solving
 pub mod Status
 pub mod Tidy

@@ -1,4 +1,4 @@
--- What `remesh` means.
+-- What a command means that remeshes: `remesh`, and each that takes another cut or wishes for other lengths.
 use Rattle.std.specs.Prelude.{◌≡◌, ◌≤◌, ◌⊎◌, ℕ, Bool, Some, length, ⊤}
 use Rattle.def_cut.specs.Traced.{traced_marks}
 use Rattle.def_flow.specs.declared.net.Settings.{Settings}
@@ -7,18 +7,13 @@ use Rattle.def_layout.specs.FaceLayouts.{IsLayoutOf}
 use Rattle.def_layout.specs.Plans.{Plan}
 use Rattle.def_mesh.specs.Faces.{Faces}
 use Rattle.def_remesh.specs.Refusals.{IsDoubledBy, IsFineBy, IsRemeshable, IsTangledAt}
-use Rattle.def_remesh.specs.Remeshed.{IsRemeshed}
+use Rattle.def_remesh.specs.Remeshed.{IsFinished}
+use Rattle.def_remesh.specs.Tasks.{remesh_task, Task, Wish}
 use Rattle.def_text.specs.FaceSet.{FaceSet}
 use Rattle.def_text.specs.declared.limits.TheConstants.{MAX_BYTES}
 use Rattle.def_run.specs.Mesh.{IsMeshText, IsNoMesh}
 use Rattle.def_run.specs.declared.answer.Answer.{Answer}
 use Rattle.def_run.specs.declared.answer.Answer.TheVariants.{Done, Tangled, TooFine, Doubled}
-
--- For these bytes it writes this text: that of a finished remesh of their mesh.
-pub record WritesRemeshed (settings : Settings) (auto : Bool) (bytes text : Bytes) : Type 0 where
-  pub soup : FaceSet
-  pub mesh : IsMeshText bytes soup
-  pub remeshed : IsRemeshed settings auto soup text
 
 -- The layout that the motorcycle graph of these faces cuts.
 abbrev pub IsCutTo : (faces : Faces) (plan : Plan) → Type 0
@@ -30,32 +25,60 @@ pub record HasCut (bytes : Bytes) (plan : Plan) : Type 0 where
   pub mesh : IsMeshText bytes soup
   pub cut : IsCutTo soup.faces plan
 
+-- What a command asks for of bytes that have a soup.
+abbrev pub Asks : Type 1
+Asks = (bytes : Bytes) (soup : FaceSet) (task : Task) → Type 0
+
+-- `remesh` asks for the motorcycle graph of the faces and for their old lengths.
+abbrev pub AsksToRemesh : (settings : Settings) (auto : Bool) → Asks
+AsksToRemesh settings auto bytes soup task = task ≡ remesh_task settings auto soup.faces
+
+-- For these bytes it writes this text: that of a task of their mesh, which is finished.
+pub record WritesFinished (asks : Asks) (bytes text : Bytes) : Type 0 where
+  pub soup : FaceSet
+  pub mesh : IsMeshText bytes soup
+  pub task : Task
+  pub asked : asks bytes soup task
+  pub finished : IsFinished task soup text
+
+-- The bytes have a mesh of which this task is asked, whose cut gives this layout.
+pub record HasTask (asks : Asks) (bytes : Bytes) (task : Task) (plan : Plan) : Type 0 where
+  pub soup : FaceSet
+  pub mesh : IsMeshText bytes soup
+  pub asked : asks bytes soup task
+  pub cut : IsLayoutOf soup.faces task.marks plan
+
 -- Why a layout is not remeshed: its network is too tangled, or the kept lengths give too many faces or double an edge.
-abbrev pub RefusesLayout : (plan : Plan) (settings : Settings) (auto : Bool) (answer : Answer) → Type 0
-RefusesLayout plan settings auto (Tangled count) = IsTangledAt plan settings count
-RefusesLayout plan settings auto (TooFine faces kept) = IsFineBy plan settings auto faces kept
-RefusesLayout plan settings auto (Doubled u v cert) = IsDoubledBy plan settings auto u v cert
-RefusesLayout plan settings auto _ = ⊥
+abbrev pub RefusesLayout :
+    (wish : Wish) (plan : Plan) (settings : Settings) (auto : Bool) (answer : Answer) → Type 0
+RefusesLayout wish plan settings auto (Tangled count) = IsTangledAt wish plan settings count
+RefusesLayout wish plan settings auto (TooFine faces kept) = IsFineBy wish plan settings auto faces kept
+RefusesLayout wish plan settings auto (Doubled u v cert) = IsDoubledBy wish plan settings auto u v cert
+RefusesLayout wish plan settings auto _ = ⊥
 
--- It refuses these bytes with this answer: they have no mesh, or its layout is refused.
-abbrev pub RefusesToRemesh : (settings : Settings) (auto : Bool) (bytes : Bytes) (answer : Answer) → Type 0
-RefusesToRemesh settings auto bytes answer =
-    IsNoMesh bytes answer ⊎ ((plan : Plan) × HasCut bytes plan × RefusesLayout plan settings auto answer)
+-- It refuses these bytes with this answer: they have no mesh, or the layout of a task is refused.
+abbrev pub RefusesTask : (asks : Asks) (bytes : Bytes) (answer : Answer) → Type 0
+RefusesTask asks bytes answer =
+    IsNoMesh bytes answer
+    ⊎ ((task : Task) × (plan : Plan) × HasTask asks bytes task plan
+    × RefusesLayout task.wish plan task.settings task.auto answer)
 
--- The bytes have a mesh that is remeshed whatever least lists are kept.
-pub record HasRemesh (settings : Settings) (auto : Bool) (bytes : Bytes) : Type 0 where
-  pub plan : Plan
-  pub cut : HasCut bytes plan
-  pub fits : IsRemeshable plan settings auto
+-- The bytes have a mesh, each task of which is finished whatever least lists are kept.
+pub record HasFinished (asks : Asks) (bytes : Bytes) : Type 0 where
+  pub soup : FaceSet
+  pub mesh : IsMeshText bytes soup
+  pub fits : (task : Task) (plan : Plan) → HasTask asks bytes task plan
+      → IsRemeshable task.wish plan task.settings task.auto
 
--- A source that holds the bytes of a mesh whose network is not too tangled.
-pub record IsUntangled (settings : Settings) (left : Told) : Type 0 where
+-- A source that holds the bytes of a mesh, no task of which has a network that is too tangled.
+pub record HoldsUntangled (asks : Asks) (left : Told) : Type 0 where
   pub bytes : Bytes
   pub held : left ≡ Some bytes
   pub within : length bytes ≤ MAX_BYTES
-  pub plan : Plan
-  pub cut : HasCut bytes plan
-  pub untangled : (count : ℕ) → ¬ IsTangledAt plan settings count
+  pub soup : FaceSet
+  pub mesh : IsMeshText bytes soup
+  pub untangled : (task : Task) (plan : Plan) → HasTask asks bytes task plan → (count : ℕ)
+      → ¬ IsTangledAt task.wish plan task.settings count
 
 -- Least lengths were found: they are written, or they give too many faces or double an edge.
 abbrev pub IsSettled : (answer : Answer) → Type 0

@@ -25,6 +25,7 @@ use Rattle.qm_certtext.proofs.Texts.{same_head}
 use Rattle.remesh_laws.proofs.Pairs.{pair_law}
 use Rattle.site_laws.proofs.Laws.{graph_law}
 use Rattle.qm_check.specs.Ready.{Tells}
+use Rattle.def_remesh.specs.Tasks.{old_lengths}
 
 -- One line is the last that begins as a head line does.
 same_line : (lines : Lines) (i k : ℕ) → IsLastHead lines i → IsLastHead lines k → i ≡ k
@@ -52,7 +53,7 @@ pair_soup bytes line soup pair old =
 pub record IsAligned (bytes : Bytes) (line : ℕ) (soup : FaceSet) (settings : Settings) (auto : Bool) (plan : Plan) : Type 0 where
   pub first : Lists
   pub third : Option Lists
-  pub kept : AreKept plan settings auto first third
+  pub kept : AreKept old_lengths plan settings auto first third
   pub coarse : AreCoarse plan (used first third).x
   pub undoubled : IsUndoubled (layout_of plan) (lengths_in (used first third).x)
   pub written : tail_of line bytes ≡ remeshed_text settings auto soup plan first third

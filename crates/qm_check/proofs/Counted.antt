@@ -18,7 +18,8 @@ use Rattle.qm_check.specs.Ready.{IsReady, Tells}
 use Rattle.qm_check.specs.declared.certificates.Checked.{Checked}
 use Rattle.qm_check.specs.declared.ready.Ready.{Ready}
 use Rattle.remesh_laws.proofs.Keeps.{kept_shape}
-use Rattle.remesh_laws.specs.Keeps.{IsNetFor}
+use Rattle.def_remesh.specs.Keeping.{IsNetFor}
+use Rattle.def_remesh.specs.Tasks.{old_lengths}
 
 -- What the lines tell was asked by the head line.
 pub asked_is : (bytes : Bytes) (line : ℕ) (ready : Ready) (made : Made) → IsReady bytes line ready → Tells bytes line made
@@ -27,9 +28,9 @@ asked_is bytes line ready made is told =
     (same_head _ ready.asked.settings made.settings ready.asked.auto made.auto is.head told.settings).0
 
 pub net_is : (bytes : Bytes) (line : ℕ) (ready : Ready) (made : Made) → IsReady bytes line ready → Tells bytes line made
-    → IsNetFor (plan ready.cut.layout) made.settings (network ready.net)
+    → IsNetFor old_lengths (plan ready.cut.layout) made.settings (network ready.net)
 net_is bytes line ready made is told =
-    subst (λ (s : Settings). IsNetFor (plan ready.cut.layout) s (network ready.net)) (asked_is bytes line ready made is told) is.net
+    subst (λ (s : Settings). IsNetFor old_lengths (plan ready.cut.layout) s (network ready.net)) (asked_is bytes line ready made is told) is.net
 
 module _ (bytes : Bytes) (line : ℕ) (ready : Ready) (made : Made) (checked : Checked) (is : IsReady bytes line ready)
     (told : Tells bytes line made) (right : IsChecked (plan ready.cut.layout) (network ready.net) made checked) where

@@ -20,30 +20,31 @@ use Rattle.def_run.specs.declared.check_fail.CheckFail.{CheckFail}
 use Rattle.def_run.specs.declared.check_fail.CheckFail.TheVariants.{NotAccepted, Memory}
 use Rattle.qm_check.specs.declared.lengths.Lengths.TheVariants.{Whole, Doubled}
 use Rattle.remesh_laws.proofs.Keeps.{keeps_first, keeps_third, solved}
-use Rattle.remesh_laws.specs.Keeps.{IsNetFor}
+use Rattle.def_remesh.specs.Keeping.{IsNetFor}
+use Rattle.def_remesh.specs.Tasks.{old_lengths}
 
 -- A certificate that gives no lengths is wrong.
-wrong_of : (plan : Plan) (net : Network) (made : Made) (cert : Cert) (why : Why) → IsNetFor plan made.settings net
+wrong_of : (plan : Plan) (net : Network) (made : Made) (cert : Cert) (why : Why) → IsNetFor old_lengths plan made.settings net
     → GivesNone plan net cert (NotAccepted why) → IsWrong plan made.settings (lists_of cert) why
 wrong_of plan net made cert (why.Verdict verdict) for (told, refuted) = record { net = net; of_layout = for.is; told = told; refuted = refuted }
 wrong_of plan net made cert (why.TooFine faces) for (is, fine) = (solved plan made.settings net cert for is, fine)
 wrong_of plan net made cert _ for none = absurd none
 
 pub unused_first : (plan : Plan) (net : Network) (made : Made) (cert : Cert) (fail : CheckFail) → first_checked made ≡ lists_of cert
-    → IsNetFor plan made.settings net → GivesNone plan net cert fail → IsUnused plan made fail
+    → IsNetFor old_lengths plan made.settings net → GivesNone plan net cert fail → IsUnused plan made fail
 unused_first plan net made cert (NotAccepted why) same for none =
     inl (subst (λ (c : Lists). IsWrong plan made.settings c why) (sym same) (wrong_of plan net made cert why for none))
 unused_first plan net made cert Memory same for none = tt
 unused_first plan net made cert _ same for none = absurd none
 
-pub unused_lone : (plan : Plan) (net : Network) (asked : Asked) (cert : Cert) (u v : ℕ) → IsNetFor plan asked.settings net
+pub unused_lone : (plan : Plan) (net : Network) (asked : Asked) (cert : Cert) (u v : ℕ) → IsNetFor old_lengths plan asked.settings net
     → IsSolution net (certificate cert) → Gives plan net cert.x.items (Doubled u v)
     → IsUnused plan (made_once asked (lists_of cert)) (NotAccepted (why.Doubled u v))
 unused_lone plan net asked cert u v for is gives = inr (inl (refl, solved plan asked.settings net cert for is, gives.0, gives.1))
 
 pub unused_third : (plan : Plan) (net : Network) (asked : Asked) (first third : Cert) (fail : CheckFail)
-    → IsCertified plan asked.settings (lists_of first) → AreCoarse plan first.x.items → AreDoubled plan first.x.items
-    → IsNetFor plan (with_floor asked.settings 3) net → GivesNone plan net third fail
+    → IsCertified old_lengths plan asked.settings (lists_of first) → AreCoarse plan first.x.items → AreDoubled plan first.x.items
+    → IsNetFor old_lengths plan (with_floor asked.settings 3) net → GivesNone plan net third fail
     → IsUnused plan (made_twice asked (lists_of first) (lists_of third)) fail
 unused_third plan net asked first third (NotAccepted why) certified coarse doubled for none = inr (inr (record {
   first = lists_of first;
@@ -58,7 +59,7 @@ unused_third plan net asked first third _ certified coarse doubled for none = ab
 
 -- The first certificate is used.
 pub checked_first : (plan : Plan) (net : Network) (asked : Asked) (made : Made) (cert : Cert) (tables : Tables) (deviates : ℕ)
-    → asked.settings ≡ made.settings → asked.auto ≡ made.auto → first_checked made ≡ lists_of cert → IsNetFor plan made.settings net
+    → asked.settings ≡ made.settings → asked.auto ≡ made.auto → first_checked made ≡ lists_of cert → IsNetFor old_lengths plan made.settings net
     → IsSolution net (certificate cert) → Gives plan net cert.x.items (Whole tables deviates)
     → IsChecked plan net made (record { remesh = record { asked = asked; first = cert; third = None; numbering = tables }; deviation = deviates })
 checked_first plan net asked made cert tables deviates settings auto same for is gives = record {
@@ -72,13 +73,13 @@ checked_first plan net asked made cert tables deviates settings auto same for is
 
 -- The one for floor 3 is used.
 pub checked_third : (plan : Plan) (net raised : Network) (asked : Asked) (first third : Cert) (tables : Tables) (deviates : ℕ)
-    → asked.auto ≡ true → IsCertified plan asked.settings (lists_of first) → AreCoarse plan first.x.items → AreDoubled plan first.x.items
-    → IsNetFor plan (with_floor asked.settings 3) raised → raised ≡ record net { floor = 3 }
+    → asked.auto ≡ true → IsCertified old_lengths plan asked.settings (lists_of first) → AreCoarse plan first.x.items → AreDoubled plan first.x.items
+    → IsNetFor old_lengths plan (with_floor asked.settings 3) raised → raised ≡ record net { floor = 3 }
     → IsSolution raised (certificate third) → Gives plan raised third.x.items (Whole tables deviates)
     → IsChecked plan net (made_twice asked (lists_of first) (lists_of third))
     (record { remesh = record { asked = asked; first = first; third = Some third; numbering = tables }; deviation = deviates })
 checked_third plan net raised asked first third tables deviates auto certified coarse doubled for same is gives = record {
-  kept = subst (λ (b : Bool). IsKept plan asked.settings b (lists_of first) (Some (lists_of third)) tables) (sym auto)
+  kept = subst (λ (b : Bool). IsKept old_lengths plan asked.settings b (lists_of first) (Some (lists_of third)) tables) (sym auto)
       (keeps_third plan asked.settings first third third.x.items tables refl
       (certified, coarse, doubled, solved plan (with_floor asked.settings 3) raised third for is) gives.0);
   settings = refl;

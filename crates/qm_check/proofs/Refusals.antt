@@ -27,10 +27,11 @@ use Rattle.def_run.specs.declared.check_fail.CheckFail.TheVariants.{NotAccepted,
 use Rattle.qm_check.specs.declared.certificates.Checked.{Checked}
 use Rattle.qm_check.specs.declared.old.Old.{Old as AnyOld}
 use Rattle.qm_check.specs.declared.ready.Ready.{Ready}
-use Rattle.remesh_laws.specs.Keeps.{IsNetFor}
+use Rattle.def_remesh.specs.Keeping.{IsNetFor}
+use Rattle.def_remesh.specs.Tasks.{old_lengths}
 
 -- A network that is not too tangled is the only one.
-untangled : (plan : Plan) (settings : Settings) (net : Network) → IsNetFor plan settings net → (count : ℕ) → IsTangledAt plan settings count → ⊥
+untangled : (plan : Plan) (settings : Settings) (net : Network) → IsNetFor old_lengths plan settings net → (count : ℕ) → IsTangledAt old_lengths plan settings count → ⊥
 untangled plan settings net for count tangled =
     let same : tangled.net ≡ net = one_net plan for.mesh settings tangled.net net tangled.is for.is in
     absurd (omega (arith, tangled.high, tangled.told, ap tangle_number same, for.untangled))
@@ -149,7 +150,7 @@ module _ (bytes : Bytes) (line : ℕ) (ready : Ready) (is : IsReady bytes line r
       other_text at differ = record {
         third = third;
         chosen = right.chosen;
-        kept = subst (λ (c : Lists). AreKept (plan ready.cut.layout) made.settings made.auto c third) right.first right.kept.kept;
+        kept = subst (λ (c : Lists). AreKept old_lengths (plan ready.cut.layout) made.settings made.auto c third) right.first right.kept.kept;
         coarse = subst (λ (c : Lists). AreCoarse (plan ready.cut.layout) (used c third).x) right.first right.kept.coarse;
         undoubled = subst (λ (c : Lists). IsUndoubled (layout_of (plan ready.cut.layout)) (lengths_in (used c third).x)) right.first right.kept.undoubled;
         differ = subst

@@ -37,6 +37,7 @@ use Rattle.qm_layoutnet.proofs.OneNet.{one_net_law}
 use Rattle.plan_laws.proofs.MeshLayouts.{laid_of}
 use Rattle.qm_check.proofs.Aligned.{aligned, pair_head, pair_line, pair_soup, IsAligned}
 use Rattle.qm_check.specs.Ready.{Tells}
+use Rattle.def_remesh.specs.Tasks.{old_lengths}
 
 -- A text without a head line is no pair.
 pub headless : (bytes : Bytes) → HasNoHead (lines_of bytes) → ¬ IsCheckedPair bytes
@@ -61,20 +62,20 @@ pub no_head_line : (bytes : Bytes) (line : ℕ) (soup : FaceSet) → HasOldSoup 
 no_head_line bytes line soup old solid none pair = none pair.settings pair.auto (pair_head bytes line soup old solid pair)
 
 -- The certificate that is checked first.
-kept_first : (plan : Plan) (settings : Settings) (auto : Bool) (first : Lists) (third : Option Lists) → AreKept plan settings auto first third
-    → IsCertified plan settings first
+kept_first : (plan : Plan) (settings : Settings) (auto : Bool) (first : Lists) (third : Option Lists) → AreKept old_lengths plan settings auto first third
+    → IsCertified old_lengths plan settings first
 kept_first plan settings auto first None kept = kept
 kept_first plan settings true first (Some third) kept = kept.0
 kept_first plan settings false first (Some third) kept = absurd kept
 
-first_is : (plan : Plan) (settings : Settings) (auto : Bool) (first : Lists) (third : Option Lists) → AreKept plan settings auto first third
+first_is : (plan : Plan) (settings : Settings) (auto : Bool) (first : Lists) (third : Option Lists) → AreKept old_lengths plan settings auto first third
     → first_checked (made_by settings auto first third) ≡ first
 first_is plan settings true first None kept = refl
 first_is plan settings true first (Some third) kept = refl
 first_is plan settings false first None kept = refl
 first_is plan settings false first (Some third) kept = absurd kept
 
-kept_coarse : (plan : Plan) (settings : Settings) (auto : Bool) (first : Lists) (third : Option Lists) → AreKept plan settings auto first third
+kept_coarse : (plan : Plan) (settings : Settings) (auto : Bool) (first : Lists) (third : Option Lists) → AreKept old_lengths plan settings auto first third
     → AreCoarse plan (used first third).x → AreCoarse plan first.x
 kept_coarse plan settings auto first None kept coarse = coarse
 kept_coarse plan settings true first (Some third) kept coarse = kept.1
@@ -93,7 +94,7 @@ module _ (plan : Plan) (mesh : IsMeshLayout plan) where
   one_net settings net other is also = one_net_law (layout_of plan) (long_at plan.arcs) settings (laid_of plan mesh) net other is also
 
   -- A certified list is not refused.
-  not_wrong : (settings : Settings) (cert : Lists) (why : Why) → IsCertified plan settings cert → AreCoarse plan cert.x → IsWrong plan settings cert why → ⊥
+  not_wrong : (settings : Settings) (cert : Lists) (why : Why) → IsCertified old_lengths plan settings cert → AreCoarse plan cert.x → IsWrong plan settings cert why → ⊥
   not_wrong settings cert (why.Verdict verdict) is coarse wrong =
       let same : wrong.net ≡ is.net = one_net settings wrong.net is.net wrong.of_layout is.of_layout in
       wrong.refuted (pos (deviation is.net (entries cert.x)))
@@ -106,26 +107,26 @@ module _ (plan : Plan) (mesh : IsMeshLayout plan) where
   not_wrong settings cert (why.Byte at) is coarse wrong = wrong
 
   -- A network that is too tangled has no certified list.
-  pub not_tangled : (settings : Settings) (auto : Bool) (count : ℕ) (first : Lists) (third : Option Lists) → AreKept plan settings auto first third
-      → IsTangledAt plan settings count → ⊥
+  pub not_tangled : (settings : Settings) (auto : Bool) (count : ℕ) (first : Lists) (third : Option Lists) → AreKept old_lengths plan settings auto first third
+      → IsTangledAt old_lengths plan settings count → ⊥
   not_tangled settings auto count first third kept tangled =
       let is = kept_first plan settings auto first third kept in
       let same : tangled.net ≡ is.net = one_net settings tangled.net is.net tangled.is is.of_layout in
       absurd (omega (arith, tangled.high, tangled.told, ap tangle_number same, is.untangled))
 
   -- Neither are the certificates that were kept, whatever is told of them.
-  first_fine : (settings : Settings) (auto : Bool) (first : Lists) (third : Option Lists) (why : Why) → AreKept plan settings auto first third
+  first_fine : (settings : Settings) (auto : Bool) (first : Lists) (third : Option Lists) (why : Why) → AreKept old_lengths plan settings auto first third
       → AreCoarse plan (used first third).x → IsWrong plan settings (first_checked (made_by settings auto first third)) why → ⊥
   first_fine settings auto first third why kept coarse wrong =
       not_wrong settings first why (kept_first plan settings auto first third kept) (kept_coarse plan settings auto first third kept coarse)
       (subst (λ (c : Lists). IsWrong plan settings c why) (first_is plan settings auto first third kept) wrong)
 
-  third_fine : (settings : Settings) (auto : Bool) (first : Lists) (third : Option Lists) (why : Why) → AreKept plan settings auto first third
+  third_fine : (settings : Settings) (auto : Bool) (first : Lists) (third : Option Lists) (why : Why) → AreKept old_lengths plan settings auto first third
       → AreCoarse plan (used first third).x → IsThirdWrong plan settings (made_by settings auto first third) why → ⊥
   third_fine settings true first (Some third) why kept coarse wrong = not_wrong (with_floor settings 3) third why kept.3 coarse wrong.wrong
   third_fine settings _ first _ why kept coarse wrong = absurd (none-some wrong.first wrong.there)
 
-lone_fine : (plan : Plan) (settings : Settings) (auto : Bool) (first : Lists) (third : Option Lists) (why : Why) → AreKept plan settings auto first third
+lone_fine : (plan : Plan) (settings : Settings) (auto : Bool) (first : Lists) (third : Option Lists) (why : Why) → AreKept old_lengths plan settings auto first third
     → IsUndoubled (layout_of plan) (lengths_in (used first third).x) → IsLoneDoubled plan settings (made_by settings auto first third) why → ⊥
 lone_fine plan settings true first None (why.Doubled u v) kept undoubled lone = undoubled u v lone.3.doubled
 lone_fine plan settings true first (Some third) (why.Doubled u v) kept undoubled lone = absurd (none-some first (sym lone.0))
@@ -134,7 +135,7 @@ lone_fine plan settings false first (Some third) (why.Doubled u v) kept undouble
 lone_fine plan settings auto first third _ kept undoubled lone = absurd lone
 
 -- The certificates that are compared with are those that were kept.
-same_third : (plan : Plan) (settings : Settings) (auto : Bool) (first one : Lists) (third other : Option Lists) → AreKept plan settings auto first third
+same_third : (plan : Plan) (settings : Settings) (auto : Bool) (first one : Lists) (third other : Option Lists) → AreKept old_lengths plan settings auto first third
     → one ≡ first → (other ≡ None) ⊎ ((other ≡ Some (made_by settings auto first third).cert) × ((made_by settings auto first third).first ≡ Some one))
     → IsUndoubled (layout_of plan) (lengths_in (used one other).x) → other ≡ third
 same_third plan settings auto first one third other kept same (inr (is, there)) undoubled = is ∙ sym (some_third settings auto first one third there)
@@ -212,5 +213,5 @@ module _ (bytes : Bytes) (asked : IsAsked bytes) (solid : IsSolid asked.soup) (m
       said = said_at by.auto (drop (asked.line + 1) (lines_of bytes)) how.said how.texts how.allowed has.k found.there found.marked
 
   -- Nor is one whose network is too tangled.
-  pub tangle_refuted : (count : ℕ) → IsTangledAt asked.plan asked.settings count → ⊥
+  pub tangle_refuted : (count : ℕ) → IsTangledAt old_lengths asked.plan asked.settings count → ⊥
   tangle_refuted count tangled = not_tangled asked.plan mesh asked.settings asked.auto count is.first is.third is.kept tangled

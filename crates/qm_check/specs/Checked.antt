@@ -27,6 +27,7 @@ use Rattle.def_run.specs.declared.check_fail.CheckFail.TheVariants.{NotAccepted,
 use Rattle.qm_check.specs.declared.certificates.Checked.{Checked}
 use Rattle.qm_check.specs.declared.lengths.Lengths.{Lengths}
 use Rattle.qm_check.specs.declared.lengths.Lengths.TheVariants.{Whole, Doubled}
+use Rattle.def_remesh.specs.Tasks.{old_lengths}
 
 -- A certificate whose numbers are within the limits of the checker.
 pub record IsInReach (cert : Lists) : Type 0 where
@@ -58,7 +59,7 @@ made_twice asked first third = record { settings = asked.settings; auto = asked.
 
 -- What is kept by the certificates of a text: those that are used, the numbers of the new mesh, and the deviation.
 pub record IsChecked (plan : Plan) (net : Network) (made : Made) (checked : Checked) : Type 0 where
-  pub kept : IsKept plan made.settings made.auto (lists_of checked.remesh.first)
+  pub kept : IsKept old_lengths plan made.settings made.auto (lists_of checked.remesh.first)
       (option_map lists_of checked.remesh.third) checked.remesh.numbering
   pub settings : checked.remesh.asked.settings ≡ made.settings
   pub auto : checked.remesh.asked.auto ≡ made.auto

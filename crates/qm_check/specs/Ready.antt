@@ -16,11 +16,12 @@ use Rattle.def_run.specs.Remesh.{IsCutTo}
 use Rattle.def_run.specs.declared.answer.Why.TheVariants as why
 use Rattle.def_text.specs.FaceSet.{FaceSet}
 use Rattle.def_layout.specs.Plans.{Plan}
-use Rattle.remesh_laws.specs.Keeps.{IsNetFor}
+use Rattle.def_remesh.specs.Keeping.{IsNetFor}
 use Rattle.def_run.specs.declared.check_fail.CheckFail.{CheckFail}
 use Rattle.def_run.specs.declared.check_fail.CheckFail.TheVariants.{NotAccepted, NotManifold, Tangled, Memory}
 use Rattle.qm_check.specs.declared.old.Old.{Old}
 use Rattle.qm_check.specs.declared.ready.Ready.{Ready}
+use Rattle.def_remesh.specs.Tasks.{old_lengths}
 
 -- The old text has this soup, whose faces are a manifold with this mesh.
 pub record IsOld (bytes : Bytes) (line : ℕ) (old : Old) : Type 0 where
@@ -43,18 +44,18 @@ pub record IsFit (old : Old) (asked : Asked) (ready : Ready) : Type 0 where
   pub mesh : ready.cut.mesh ≡ ready.soup.faces
   pub cut : IsCutTo ready.soup.faces (plan ready.cut.layout)
   pub lies : IsLayoutIn ready.soup.faces (plan ready.cut.layout)
-  pub net : IsNetFor (plan ready.cut.layout) asked.settings (network ready.net)
+  pub net : IsNetFor old_lengths (plan ready.cut.layout) asked.settings (network ready.net)
 
 -- A mesh whose network is too tangled.
 pub record IsTangledFor (old : Old) (asked : Asked) (count : ℕ) : Type 0 where
   pub plan : Plan
   pub cut : IsCutTo old.soup.faces plan
   pub lies : IsLayoutIn old.soup.faces plan
-  pub tangled : IsTangledAt plan asked.settings count
+  pub tangled : IsTangledAt old_lengths plan asked.settings count
 
 -- Why a layout has no network that is checked by.
 abbrev pub IsTooTangled : (plan : Plan) (asked : Asked) (fail : CheckFail) → Type 0
-IsTooTangled plan asked (Tangled count) = IsTangledAt plan asked.settings count
+IsTooTangled plan asked (Tangled count) = IsTangledAt old_lengths plan asked.settings count
 IsTooTangled plan asked Memory = ⊤
 IsTooTangled plan asked _ = ⊥
 
@@ -73,7 +74,7 @@ pub record IsReady (bytes : Bytes) (line : ℕ) (ready : Ready) : Type 0 where
   pub mesh : ready.cut.mesh ≡ ready.soup.faces
   pub cut : IsCutTo ready.soup.faces (plan ready.cut.layout)
   pub lies : IsLayoutIn ready.soup.faces (plan ready.cut.layout)
-  pub net : IsNetFor (plan ready.cut.layout) ready.asked.settings (network ready.net)
+  pub net : IsNetFor old_lengths (plan ready.cut.layout) ready.asked.settings (network ready.net)
 
 -- The lines from the head line on tell that the text was made so.
 abbrev pub Tells : (bytes : Bytes) (line : ℕ) (made : Made) → Type 0

@@ -7,7 +7,9 @@ ghost use Rattle.def_flow.specs.Network.{network};
 ghost use Rattle.def_flow.specs.declared.cert.Cert.{Cert as AnyCert};
 ghost use Rattle.def_layout.specs.Plans.{plan};
 ghost use Rattle.qm_check.specs.Checked.{made_once, made_twice, IsInReach, IsChecked, IsUnused};
-ghost use Rattle.remesh_laws.specs.Keeps.{IsDoubling, IsNetFor};
+ghost use Rattle.def_remesh.specs.Keeping.{IsNetFor};
+ghost use Rattle.remesh_laws.specs.Keeps.{IsDoubling};
+ghost use Rattle.def_remesh.specs.Tasks.{old_lengths};
 
 use crate::lengths::{Lengths, check_lengths};
 use def_certtext::{Asked, Written};
@@ -33,7 +35,7 @@ pub(crate) fn check_written(
     net: Net,
     written: Written,
 ) -> Result<Checked, CheckFail>
-    requires net { IsNetFor (plan t.now) written.settings (network net) }
+    requires net { IsNetFor old_lengths (plan t.now) written.settings (network net) }
     requires cert { IsInReach (lists_of written.cert) }
     requires first { (cert : AnyCert) → written.first ≡ Some cert
         → IsInReach (lists_of cert) × (written.auto ≡ true) }
@@ -68,7 +70,7 @@ fn check_only(
     asked: Asked,
     cert: Cert,
 ) -> Result<Checked, CheckFail>
-    requires net { IsNetFor (plan t.now) asked.settings (network net.now) }
+    requires net { IsNetFor old_lengths (plan t.now) asked.settings (network net.now) }
     requires cert { IsInReach (lists_of cert) }
     ensures checked { IfOk result (IsChecked (plan t.now) (network net.now) (made_once asked (lists_of cert))) }
     ensures unused { IfErr result (IsUnused (plan t.now) (made_once asked (lists_of cert))) }
@@ -100,7 +102,7 @@ fn check_both(
     asked: Asked,
     pair: Pair,
 ) -> Result<Checked, CheckFail>
-    requires net { IsNetFor (plan t.now) asked.settings (network net) }
+    requires net { IsNetFor old_lengths (plan t.now) asked.settings (network net) }
     requires auto { asked.auto ≡ true }
     requires third { IsInReach (lists_of pair.third) }
     requires first { IsInReach (lists_of pair.first) }
@@ -134,10 +136,10 @@ fn check_third(
     asked: Asked,
     pair: Pair,
 ) -> Result<Checked, CheckFail>
-    requires net { IsNetFor (plan t.now) asked.settings (network net) }
+    requires net { IsNetFor old_lengths (plan t.now) asked.settings (network net) }
     requires auto { asked.auto ≡ true }
     requires third { IsInReach (lists_of pair.third) }
-    requires doubling { IsDoubling (plan t.now) asked.settings (lists_of pair.first) }
+    requires doubling { IsDoubling old_lengths (plan t.now) asked.settings (lists_of pair.first) }
     ensures checked { IfOk result
         (IsChecked (plan t.now) (network net) (made_twice asked (lists_of pair.first) (lists_of pair.third))) }
     ensures unused { IfErr result

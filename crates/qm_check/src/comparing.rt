@@ -9,6 +9,7 @@ ghost use Rattle.def_remesh.specs.Placings.{IsLayoutIn};
 ghost use Rattle.def_remesh.specs.Remeshed.{remeshed_text};
 ghost use Rattle.def_text.specs.declared.limits.TheConstants.{MAX_BYTES};
 ghost use Rattle.qm_check.specs.Checked.{IsDifference};
+ghost use Rattle.def_remesh.specs.Tasks.{old_lengths};
 
 use def_run::{CheckFail, Why};
 use def_text::Soup;
@@ -27,7 +28,7 @@ pub(crate) fn compare(
     requires few { length given.now ≤ MAX_BYTES }
     requires mesh { cut.now.mesh ≡ soup.now.faces }
     requires layout { IsLayoutIn cut.now.mesh (plan cut.now.layout) }
-    requires kept { IsKept (plan cut.now.layout) remesh.asked.settings remesh.asked.auto
+    requires kept { IsKept old_lengths (plan cut.now.layout) remesh.asked.settings remesh.asked.auto
         (lists_of remesh.first) (option_map lists_of remesh.third) remesh.numbering }
     ensures same { OnOk result (given.now ≡ remeshed_text remesh.asked.settings remesh.asked.auto soup.now
         (plan cut.now.layout) (lists_of remesh.first) (option_map lists_of remesh.third)) }

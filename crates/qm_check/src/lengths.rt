@@ -9,7 +9,8 @@ ghost use Rattle.def_flow.specs.Network.{network};
 ghost use Rattle.def_flow.specs.declared.net.Settings.{Settings as AnySettings};
 ghost use Rattle.def_layout.specs.Plans.{plan as plan_of, Plan};
 ghost use Rattle.qm_check.specs.Checked.{Gives, GivesNone, IsInReach};
-ghost use Rattle.remesh_laws.specs.Keeps.{IsNetFor};
+ghost use Rattle.def_remesh.specs.Keeping.{IsNetFor};
+ghost use Rattle.def_remesh.specs.Tasks.{old_lengths};
 
 use def_flow::{Cert, CertVerdict, Net};
 use def_layout::TMesh;
@@ -41,7 +42,7 @@ pub(crate) fn check_lengths(
     net: &Net,
     cert: &Cert,
 ) -> Result<Lengths, CheckFail>
-    requires net { (settings : AnySettings) × IsNetFor (plan_of t.now) settings (network net.now) }
+    requires net { (settings : AnySettings) × IsNetFor old_lengths (plan_of t.now) settings (network net.now) }
     requires cert { IsInReach (lists_of cert.now) }
     ensures solved { OnOk result (IsSolution (network net.now) (certificate cert.now)) }
     ensures gives { IfOk result (Gives (plan_of t.now) (network net.now) cert.now.x.items) }
@@ -63,7 +64,7 @@ pub(crate) fn check_lengths(
 
 /// How far the lengths of an accepted certificate are from what is wanted.
 fn accepted_deviation(alloc: Global, net: &Net, cert: &Cert) -> Result<u128, CheckFail>
-    requires net { (settings : AnySettings) × (plan : Plan) × IsNetFor plan settings (network net.now) }
+    requires net { (settings : AnySettings) × (plan : Plan) × IsNetFor old_lengths plan settings (network net.now) }
     requires cert { IsInReach (lists_of cert.now) }
     ensures solved { OnOk result (IsSolution (network net.now) (certificate cert.now)) }
     ensures told { IfOk result (λ d. d ≡ deviation_of (network net.now) (entries cert.now.x.items)) }

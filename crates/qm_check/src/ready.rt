@@ -6,7 +6,8 @@ ghost use Rattle.def_flow.specs.Network.{network};
 ghost use Rattle.def_layout.specs.Plans.{plan};
 ghost use Rattle.def_layoutnet.specs.MeshLayouts.{IsMeshLayout};
 ghost use Rattle.qm_check.specs.Ready.{IsFit, IsUnfit, IsTooTangled};
-ghost use Rattle.remesh_laws.specs.Keeps.{IsNetFor};
+ghost use Rattle.def_remesh.specs.Keeping.{IsNetFor};
+ghost use Rattle.def_remesh.specs.Tasks.{old_lengths};
 
 use crate::old::Old;
 use def_certtext::Asked;
@@ -52,7 +53,7 @@ pub(crate) fn ready_of(alloc: Global, old: Old, asked: Asked) -> Result<Ready, C
 fn network_of(alloc: Global, t: &TMesh, asked: Asked) -> Result<Net, CheckFail>
     requires layout { IsMeshLayout (plan t.now) }
     requires range { AreInRange asked.settings asked.auto }
-    ensures net { IfOk result (λ net. IsNetFor (plan t.now) asked.settings (network net)) }
+    ensures net { IfOk result (λ net. IsNetFor old_lengths (plan t.now) asked.settings (network net)) }
     ensures tangled { IfErr result (IsTooTangled (plan t.now) asked) }
 {
     match net_of(alloc, t, &asked.settings) {

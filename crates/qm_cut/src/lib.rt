@@ -1,8 +1,8 @@
-//! From a mesh to the layout that its motorcycle graph cuts.
+//! From a mesh to the layout that a full cut of it gives, above all its motorcycle graph.
 #![tactic(auto)]
 
 mod quads;
 mod traced;
 
 pub use quads::are_quads;
-pub use traced::{layout_from, traced_layout};
+pub use traced::{graph_layout, layout_from, traced_layout};

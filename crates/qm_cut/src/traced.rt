@@ -1,6 +1,7 @@
-//! The layout that the motorcycle graph of a mesh cuts.
+//! The layout that a full cut of a mesh gives: its motorcycle graph, or any other.
 
 ghost use Rattle.std.specs.Prelude.{◌≡◌, IfOk};
+ghost use Rattle.def_cut.specs.FullCut.{IsFullCut};
 ghost use Rattle.def_cut.specs.Traced.{traced_marks};
 ghost use Rattle.def_layout.specs.FaceLayouts.{IsLayoutOf};
 ghost use Rattle.def_layout.specs.Plans.{plan};
@@ -8,6 +9,7 @@ ghost use Rattle.def_layoutnet.specs.MeshLayouts.{IsMeshLayout};
 ghost use Rattle.def_mesh.specs.Sources.{AreSources};
 
 use crate::quads::are_quads;
+use def_cut::Graph;
 use def_layout::TMesh;
 use def_mesh::Starts;
 use qm_grid::patches;
@@ -32,8 +34,17 @@ pub fn layout_from(alloc: Global, mesh: &Mesh, sources: &Starts) -> Result<TMesh
     ensures traced { IfOk result (λ t. IsLayoutOf mesh.now (traced_marks mesh.now) (plan t)) }
     ensures mesh { IfOk result (λ t. (is : IsMeshLayout (plan t)) × (is.faces ≡ mesh.now)) }
 {
-    are_quads(mesh.faces());
     let graph = trace(alloc, mesh, sources)?;
-    let patches = patches(alloc, mesh, &graph)?;
-    layout(alloc, mesh, &graph, patches)
+    graph_layout(alloc, mesh, &graph)
+}
+
+/// The layout that a graph cuts, whose covered edges are a full cut. Linear in the faces.
+pub fn graph_layout(alloc: Global, mesh: &Mesh, graph: &Graph) -> Result<TMesh, AllocError>
+    requires cut { IsFullCut mesh.now graph.now.covered.items }
+    ensures laid { IfOk result (λ t. IsLayoutOf mesh.now graph.now.covered.items (plan t)) }
+    ensures mesh { IfOk result (λ t. (is : IsMeshLayout (plan t)) × (is.faces ≡ mesh.now)) }
+{
+    are_quads(mesh.faces());
+    let patches = patches(alloc, mesh, graph)?;
+    layout(alloc, mesh, graph, patches)
 }

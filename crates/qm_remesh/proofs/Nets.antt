@@ -8,9 +8,10 @@ use Rattle.def_layout.specs.Arcs.{long_at}
 use Rattle.def_layout.specs.Plans.{Plan, layout_of}
 use Rattle.def_layoutnet.specs.LayoutNet.{IsNetOf}
 use Rattle.def_layoutnet.specs.MeshLayouts.{IsMeshLayout}
-use Rattle.remesh_laws.specs.Keeps.{IsNetFor}
+use Rattle.def_remesh.specs.Keeping.{IsNetFor}
+use Rattle.def_remesh.specs.Tasks.{old_lengths}
 
 pub net_for : (plan : Plan) (settings : Settings) (auto : Bool) (net : Network) → IsMeshLayout plan → AreInRange settings auto
-    → IsNetOf (layout_of plan) (long_at plan.arcs) settings net → IsWithinBounds net → tangle_number net ≤ MAX_TANGLE → IsNetFor plan settings net
+    → IsNetOf (layout_of plan) (long_at plan.arcs) settings net → IsWithinBounds net → tangle_number net ≤ MAX_TANGLE → IsNetFor old_lengths plan settings net
 net_for plan settings auto net mesh range is bounds small =
     record { mesh = mesh; floor = range.floor.low; is = is; bounds = bounds; untangled = small }

@@ -4,13 +4,17 @@ ghost use Rattle.std.specs.Prelude.{◌≡◌, IfOk, IfErr, true};
 ghost use Rattle.std.specs.Option.{option_map};
 ghost use Rattle.def_certtext.specs.CertLines.{lists_of};
 ghost use Rattle.def_certtext.specs.Settings.{AreInRange};
+ghost use Rattle.def_flow.specs.Accepted.{certificate};
 ghost use Rattle.def_flow.specs.Admissible.{IsEven};
+ghost use Rattle.def_flow.specs.Descent.{IsSolution};
 ghost use Rattle.def_flow.specs.Network.{network};
 ghost use Rattle.def_layout.specs.Plans.{plan as plan_of};
 ghost use Rattle.def_layoutnet.specs.MeshLayouts.{IsMeshLayout};
 ghost use Rattle.def_remesh.specs.Keeping.{IsKept};
 ghost use Rattle.def_remesh.specs.Refusals.{IsLayoutFail};
-ghost use Rattle.remesh_laws.specs.Keeps.{IsDoubling, IsNetFor};
+ghost use Rattle.def_remesh.specs.Keeping.{IsNetFor};
+ghost use Rattle.def_remesh.specs.Remeshed.{AreCoarse, AreDoubled};
+ghost use Rattle.def_remesh.specs.Tasks.{old_lengths, Wish};
 
 use def_certtext::Asked;
 use def_flow::{Cert, MAX_FLOOR, Net, Settings};
@@ -30,10 +34,10 @@ use std::alloc::Global;
 pub fn keep(alloc: Global, t: &TMesh, asked: Asked) -> Result<Remesh, LayoutFail>
     requires layout { IsMeshLayout (plan_of t.now) }
     requires settings { AreInRange asked.settings asked.auto }
-    ensures kept { IfOk result (λ kept. IsKept (plan_of t.now) asked.settings asked.auto
+    ensures kept { IfOk result (λ kept. IsKept old_lengths (plan_of t.now) asked.settings asked.auto
         (lists_of kept.first) (option_map lists_of kept.third) kept.numbering) }
     ensures asked { IfOk result (λ kept. kept.asked ≡ asked) }
-    ensures refused { IfErr result (IsLayoutFail (plan_of t.now) asked.settings asked.auto) }
+    ensures refused { IfErr result (IsLayoutFail old_lengths (plan_of t.now) asked.settings asked.auto) }
 {
     let net = match net_of(alloc, t, &asked.settings) {
         Ok(net) => net,
@@ -41,6 +45,28 @@ pub fn keep(alloc: Global, t: &TMesh, asked: Asked) -> Result<Remesh, LayoutFail
         Err(NetFail::Memory) => return Err(LayoutFail::Memory),
     };
     let first = solve(alloc, &net)?;
+    keep_solved(alloc, t, asked, net, first)
+}
+
+/// The same of a network of the layout with any wished lengths, which this certificate solves. With `auto` the network
+/// is even, so that it can be solved for floor 3.
+pub fn keep_solved(
+    alloc: Global,
+    t: &TMesh,
+    asked: Asked,
+    net: Net,
+    first: Cert,
+) -> Result<Remesh, LayoutFail>
+    requires net { (wish : Wish) × IsNetFor wish (plan_of t.now) asked.settings (network net) }
+    requires solved { IsSolution (network net) (certificate first) }
+    requires even { asked.auto ≡ true → IsEven (network net) }
+    ensures kept { (wish : Wish) → IsNetFor wish (plan_of t.now) asked.settings (network net)
+        → IfOk result (λ kept. IsKept wish (plan_of t.now) asked.settings asked.auto
+        (lists_of kept.first) (option_map lists_of kept.third) kept.numbering) }
+    ensures asked { IfOk result (λ kept. kept.asked ≡ asked) }
+    ensures refused { (wish : Wish) → IsNetFor wish (plan_of t.now) asked.settings (network net)
+        → IfErr result (IsLayoutFail wish (plan_of t.now) asked.settings asked.auto) }
+{
     match plan(alloc, t, &first.x) {
         Ok(numbering) => Ok(Remesh {
             asked,
@@ -68,14 +94,17 @@ fn raise(
     net: Net,
     first: Cert,
 ) -> Result<Remesh, LayoutFail>
-    requires settings { AreInRange settings true }
-    requires net { IsNetFor (plan_of t.now) settings (network net) }
+    requires net { (wish : Wish) × IsNetFor wish (plan_of t.now) settings (network net) }
+    requires solved { IsSolution (network net) (certificate first) }
     requires even { IsEven (network net) }
-    requires doubling { IsDoubling (plan_of t.now) settings (lists_of first) }
-    ensures kept { IfOk result (λ kept. IsKept (plan_of t.now) settings true
+    requires coarse { AreCoarse (plan_of t.now) first.x.items }
+    requires doubled { AreDoubled (plan_of t.now) first.x.items }
+    ensures kept { (wish : Wish) → IsNetFor wish (plan_of t.now) settings (network net)
+        → IfOk result (λ kept. IsKept wish (plan_of t.now) settings true
         (lists_of kept.first) (option_map lists_of kept.third) kept.numbering) }
     ensures asked { IfOk result (λ kept. kept.asked ≡ record { settings = settings; auto = true }) }
-    ensures refused { IfErr result (IsLayoutFail (plan_of t.now) settings true) }
+    ensures refused { (wish : Wish) → IsNetFor wish (plan_of t.now) settings (network net)
+        → IfErr result (IsLayoutFail wish (plan_of t.now) settings true) }
 {
     let raised = with_floor(net, MAX_FLOOR);
     let third = solve(alloc, &raised)?;

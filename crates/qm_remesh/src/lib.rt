@@ -4,5 +4,5 @@
 mod keeping;
 
 pub use def_remesh::{Kept, LayoutFail};
-pub use keeping::keep;
+pub use keeping::{keep, keep_solved};
 pub use qm_write::Remesh;

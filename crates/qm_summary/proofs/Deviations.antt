@@ -15,6 +15,7 @@ use Rattle.plan_laws.proofs.MeshLayouts.{laid_of}
 use Rattle.qm_layoutnet.proofs.OneNet.{one_net_law}
 use Rattle.qm_summary.specs.Deviation.{IsKeptDeviation}
 use Rattle.remesh_laws.proofs.Solved.{writable_short}
+use Rattle.def_remesh.specs.Tasks.{old_lengths}
 
 -- A network and what is kept, where the settings are those of a benchmark.
 pub bench_net : (plan : Plan) (settings : Settings) (net : Network) → settings ≡ bench_settings
@@ -22,13 +23,13 @@ pub bench_net : (plan : Plan) (settings : Settings) (net : Network) → settings
 bench_net plan settings net same is = subst (λ (s : Settings). IsNetOf (layout_of plan) (long_at plan.arcs) s net) same is
 
 pub bench_kept : (plan : Plan) (settings : Settings) (first : Lists) (third : Option Lists) (tables : Tables) → settings ≡ bench_settings
-    → IsKept plan settings false first third tables → IsKept plan bench_settings false first third tables
-bench_kept plan settings first third tables same kept = subst (λ (s : Settings). IsKept plan s false first third tables) same kept
+    → IsKept old_lengths plan settings false first third tables → IsKept old_lengths plan bench_settings false first third tables
+bench_kept plan settings first third tables same kept = subst (λ (s : Settings). IsKept old_lengths plan s false first third tables) same kept
 
 module _ (plan : Plan) (first : Lists) (tables : Tables) (net : Network)
     (is : IsNetOf (layout_of plan) (long_at plan.arcs) bench_settings net) where
   -- The kept lengths are lengths of the layout's network.
-  pub kept_lengths : (third : Option Lists) → IsKept plan bench_settings false first third tables → AreNetLengths net.arcs first.x
+  pub kept_lengths : (third : Option Lists) → IsKept old_lengths plan bench_settings false first third tables → AreNetLengths net.arcs first.x
   kept_lengths None kept = record {
     count = kept.kept.accepted.count ∙ (kept.kept.of_layout.long ∙ sym is.long);
     small = writable_short first kept.kept.writable;
@@ -36,7 +37,7 @@ module _ (plan : Plan) (first : Lists) (tables : Tables) (net : Network)
   kept_lengths (Some third) kept = absurd kept.kept
 
   -- A layout has one network, so their deviation is that of their certificate.
-  pub deviation_kept : (third : Option Lists) (told : ℤ) → IsMeshLayout plan → IsKept plan bench_settings false first third tables
+  pub deviation_kept : (third : Option Lists) (told : ℤ) → IsMeshLayout plan → IsKept old_lengths plan bench_settings false first third tables
       → told ≡ pos (deviation net (entries first.x)) → IsKeptDeviation plan told
   deviation_kept (Some third) told mesh kept says = absurd kept.kept
   deviation_kept None told mesh kept says =

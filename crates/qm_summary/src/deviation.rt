@@ -6,6 +6,7 @@ ghost use Rattle.def_layoutnet.specs.MeshLayouts.{IsMeshLayout};
 ghost use Rattle.def_remesh.specs.Refusals.{IsLayoutFail};
 ghost use Rattle.def_run.specs.Bench.{bench_settings};
 ghost use Rattle.qm_summary.specs.Deviation.{IsKeptDeviation};
+ghost use Rattle.def_remesh.specs.Tasks.{old_lengths};
 
 use def_certtext::Asked;
 use def_flow::{Settings, Weight};
@@ -25,7 +26,7 @@ pub(crate) fn kept_deviation(alloc: Global, t: &TMesh) -> Result<i128, LayoutFai
     ensures kept { IfOk result (IsKeptDeviation (plan t.now)) }
     ensures small { IfOk result (λ deviation. deviation <ℤ pos (2 ^ 127)) }
     ensures few { OnOk result ((length (plan t.now).patches < 2 ^ 32) × (length (plan t.now).arcs < 2 ^ 32)) }
-    ensures refused { IfErr result (IsLayoutFail (plan t.now) bench_settings false) }
+    ensures refused { IfErr result (IsLayoutFail old_lengths (plan t.now) bench_settings false) }
 {
     let settings = half();
     let asked = Asked {

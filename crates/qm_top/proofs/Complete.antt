@@ -16,7 +16,7 @@ use Rattle.def_run.specs.Mesh.{IsMeshText, IsNoMesh}
 use Rattle.def_flow.specs.declared.net.Settings.{Settings}
 use Rattle.def_remesh.specs.Refusals.{IsRemeshable}
 use Rattle.def_run.specs.Refine.{HasRefined, RefusesToRefine}
-use Rattle.def_run.specs.Remesh.{HasCut, HasRemesh, IsCutTo, RefusesLayout, RefusesToRemesh}
+use Rattle.def_run.specs.Remesh.{Asks, AsksToRemesh, HasCut, HasFinished, IsCutTo, RefusesLayout, RefusesTask}
 use Rattle.def_cut.specs.Traced.{traced_marks}
 use Rattle.def_layout.specs.Plans.{Plan}
 use Rattle.plan_laws.proofs.OnePlan.{one_layout_law}
@@ -33,6 +33,7 @@ use Rattle.def_text.specs.Types.{Words}
 use Rattle.remesh_laws.proofs.Fits.{fits_not_doubled, fits_not_fine}
 use Rattle.qm_top.proofs.Checked.{pair_not_refused}
 use Rattle.qm_top.specs.Refusals.{answer_of_words}
+use Rattle.def_remesh.specs.Tasks.{old_lengths, Wish}
 
 -- Bytes that have a mesh have no refusal of one.
 pub mesh_not_refused : (bytes : Bytes) (soup : FaceSet) (answer : Answer) → IsMeshText bytes soup → IsNoMesh bytes answer → ⊥
@@ -66,26 +67,24 @@ refine_not_both by bytes (TooFine faces kept) takes (plan, cut, fine) =
 refine_not_both by bytes answer takes refuses = mesh_not_refused bytes takes.cut.soup answer takes.cut.mesh refuses
 
 -- Bytes whose mesh is remeshed whatever least lists are kept are not refused.
-layout_not_both : (settings : Settings) (auto : Bool) (plan : Plan) (answer : Answer) → IsRemeshable plan settings auto
-    → RefusesLayout plan settings auto answer → ⊥
-layout_not_both settings auto plan (Tangled count) fits refuses = fits.untangled count refuses
-layout_not_both settings auto plan (TooFine faces kept) fits refuses = fits_not_fine plan settings auto faces kept fits refuses
-layout_not_both settings auto plan (Doubled u v cert) fits refuses = fits_not_doubled plan settings auto u v cert fits refuses
-layout_not_both settings auto plan _ fits refuses = absurd refuses
+layout_not_both : (wish : Wish) (settings : Settings) (auto : Bool) (plan : Plan) (answer : Answer) → IsRemeshable wish plan settings auto
+    → RefusesLayout wish plan settings auto answer → ⊥
+layout_not_both wish settings auto plan (Tangled count) fits refuses = fits.untangled count refuses
+layout_not_both wish settings auto plan (TooFine faces kept) fits refuses = fits_not_fine wish plan settings auto faces kept fits refuses
+layout_not_both wish settings auto plan (Doubled u v cert) fits refuses = fits_not_doubled wish plan settings auto u v cert fits refuses
+layout_not_both wish settings auto plan _ fits refuses = absurd refuses
 
-remesh_not_both : (settings : Settings) (auto : Bool) (bytes : Bytes) (answer : Answer) → HasRemesh settings auto bytes
-    → RefusesToRemesh settings auto bytes answer → ⊥
-remesh_not_both settings auto bytes answer takes (inl none) = mesh_not_refused bytes takes.cut.soup answer takes.cut.mesh none
-remesh_not_both settings auto bytes answer takes (inr (plan, cut, why)) =
-    layout_not_both settings auto takes.plan answer takes.fits
-    (subst (λ (p : Plan). RefusesLayout p settings auto answer) (one_cut bytes plan takes.plan cut takes.cut) why)
+task_not_both : (asks : Asks) (bytes : Bytes) (answer : Answer) → HasFinished asks bytes → RefusesTask asks bytes answer → ⊥
+task_not_both asks bytes answer takes (inl none) = mesh_not_refused bytes takes.soup answer takes.mesh none
+task_not_both asks bytes answer takes (inr (task, plan, has, why)) =
+    layout_not_both task.wish task.settings task.auto plan answer (takes.fits task plan has) why
 
 -- So is the mesh of a size.
 bench_layout : (size : ℕ) (answer : Answer) → HasBench size → (plan : Plan) → IsCutTo (bench_faces size) plan
-    → RefusesLayout plan bench_settings false answer → ⊥
+    → RefusesLayout old_lengths plan bench_settings false answer → ⊥
 bench_layout size answer takes plan cut why =
-    layout_not_both bench_settings false takes.plan answer takes.fits
-    (subst (λ (p : Plan). RefusesLayout p bench_settings false answer)
+    layout_not_both old_lengths bench_settings false takes.plan answer takes.fits
+    (subst (λ (p : Plan). RefusesLayout old_lengths p bench_settings false answer)
     (one_layout (bench_faces size) takes.manifold plan takes.plan cut takes.cut) why)
 
 bench_not_both : (size : ℕ) (answer : Answer) → HasBench size → RefusesToBench size answer → ⊥
@@ -97,7 +96,7 @@ not_both : (command : Command) (bytes : Bytes) (answer : Answer) → Takes comma
 not_both Tidy bytes answer takes refuses = mesh_not_refused bytes takes.soup answer takes.mesh refuses
 not_both Graph bytes answer takes refuses = mesh_not_refused bytes takes.soup answer takes.mesh refuses
 not_both (Refine by) bytes answer takes refuses = refine_not_both by bytes answer takes refuses
-not_both (Remesh settings auto) bytes answer takes refuses = remesh_not_both settings auto bytes answer takes refuses
+not_both (Remesh settings auto) bytes answer takes refuses = task_not_both (AsksToRemesh settings auto) bytes answer takes refuses
 not_both Check bytes answer takes refuses = pair_not_refused bytes answer takes refuses
 not_both (Bench size) bytes answer takes refuses = bench_not_both size answer takes refuses
 
@@ -136,7 +135,7 @@ not_too_many (Bench size) input good more = absurd more
 not_too_many _ input good more = not_too_long _ _ good.bytes good.held.0 good.held.1 more
 
 -- A fault of reading is one of the source.
-rose_if : (command : Command) (input : Change) → FailsToRead command input → Rose input.faults input.faults_now
+pub rose_if : (command : Command) (input : Change) → FailsToRead command input → Rose input.faults input.faults_now
 rose_if (Bench size) input fault = absurd fault
 rose_if _ input fault = fault
 

@@ -1,74 +1,83 @@
--- The text of kept certificates is one of a finished remesh, and what `remesh` keeps.
+-- What a command keeps that remeshes, and that the text of what is kept is one of a finished remesh.
 use Rattle.std.specs.Prelude.{IsErrOf}
-use Rattle.std.proofs.Common.{◌≡◌, Bool, Option, Err, inr, sym, subst, refl}
+use Rattle.std.proofs.Common.{◌≡◌, Err, inr, sym, subst, refl}
 use Rattle.std.specs.Option.{option_map}
-use Rattle.def_certtext.specs.CertLines.{lists_of, Lists}
+use Rattle.def_certtext.specs.CertLines.{lists_of}
 use Rattle.def_certtext.specs.declared.Asked.{Asked}
-use Rattle.def_flow.specs.declared.net.Settings.{Settings}
 use Rattle.def_io.specs.Bytes.{Bytes}
 use Rattle.def_io.specs.Faults.{Rose}
 use Rattle.def_io.specs.Moves.{Change, IsStill, Stream, TookPrefix}
-use Rattle.def_layout.specs.Plans.{Plan, layout_of, vertex_at}
-use Rattle.def_mesh.specs.Faces.{Faces}
 use Rattle.def_mesh.specs.Manifold.{IsManifold}
 use Rattle.def_remesh.specs.Keeping.{IsKept}
-use Rattle.def_remesh.specs.NewPoints.{lengths_in}
 use Rattle.def_remesh.specs.Placings.{IsLayoutIn}
-use Rattle.def_remesh.specs.Remeshed.{IsRemeshed, remeshed_text, used}
 use Rattle.def_remesh.specs.declared.kept.LayoutFail.{LayoutFail}
 use Rattle.def_remesh.specs.declared.kept.LayoutFail.TheVariants as layouts
-use Rattle.def_remesh.specs.declared.tables.Tables.{Tables}
-use Rattle.def_run.specs.Causes.{Cause}
-use Rattle.def_run.specs.Remesh.{IsCutTo}
-use Rattle.def_run.specs.declared.command.Command.TheVariants as commands
 use Rattle.def_text.specs.FaceSet.{FaceSet}
 use Rattle.def_text.specs.Input.{ReadSoup}
 use Rattle.def_text.specs.declared.limits.TheConstants.{MAX_BYTES}
-use Rattle.def_written.specs.NewFaces.{new_faces}
-use Rattle.def_written.specs.Shape.{KeepsShape}
 use Rattle.qm_top.proofs.Writers.{IsWriter}
 use Rattle.qm_top.specs.Refusals.{answer_of_layout}
 use Rattle.qm_write.specs.declared.remesh.Remesh.{Remesh}
 use Rattle.qm_write.specs.declared.text.PutFail.{PutFail}
 use Rattle.qm_write.specs.declared.text.PutFail.TheVariants as puts
-use Rattle.qm_top.specs.Writing.{refusal_of_put, text_of, FailsToRemesh, IsUnwritten}
+use Rattle.def_layout.specs.FaceLayouts.{IsLayoutOf}
+use Rattle.def_layout.specs.Plans.{Plan}
+use Rattle.def_remesh.specs.Remeshed.{IsFinished, IsRemeshed, remeshed_text}
+use Rattle.def_remesh.specs.Tasks.{old_lengths, Task}
+use Rattle.def_run.specs.Causes.{Cause, Refused, Refuses, Writes}
+use Rattle.def_run.specs.Remesh.{Asks, AsksToRemesh, IsCutTo, RefusesLayout, RefusesTask, WritesFinished}
+use Rattle.def_run.specs.declared.answer.Answer.{Answer}
+use Rattle.def_run.specs.declared.answer.Answer.TheVariants as answers
+use Rattle.def_run.specs.declared.command.Command.{Command}
+use Rattle.def_run.specs.declared.command.Command.TheVariants as commands
+use Rattle.qm_top.specs.Writing.{refusal_of_put, task_of, text_of, FailsTask, IsUnwritten}
+use Rattle.qm_top.proofs.Refusals.{remesh_needs, NeedsMesh}
+use Rattle.remesh_laws.proofs.Keeps.{finished}
 
-pub is_remeshed : (settings : Settings) (auto : Bool) (soup : FaceSet) (plan : Plan) (first : Lists) (third : Option Lists) (tables : Tables)
-    → IsLayoutIn soup.faces plan → IsCutTo soup.faces plan → IsKept plan settings auto first third tables
-    → IsRemeshed settings auto soup (remeshed_text settings auto soup plan first third)
-is_remeshed settings auto soup plan first third tables (is, same) cut kept = record {
-  plan = plan;
-  cut = cut;
-  first = first;
-  third = third;
-  lengths = kept.kept;
-  coarse = kept.coarse;
-  undoubled = kept.undoubled;
-  written = refl;
-  shape = subst
-      (λ (fs : Faces). KeepsShape fs (new_faces (layout_of plan) (lengths_in (used first third).x)) (layout_of plan).nodes (vertex_at plan))
-      same
-      (kept.shape is.faces is.marks is.mesh is.quads is.cut is.laid);
-}
+-- What a command does that asks for a task: it writes it finished, or refuses it.
+pub record IsTasked (command : Command) (asks : Asks) : Type 0 where
+  pub writes : (bytes text : Bytes) → WritesFinished asks bytes text → Writes command bytes text
+  pub refuses : (bytes : Bytes) (answer : Answer) → RefusesTask asks bytes answer → Refuses command bytes answer
 
-pub remesh_writer : (asked : Asked) (input out : Change) (soup : FaceSet) → IsManifold soup.faces
-    → ReadSoup MAX_BYTES input.told input.told_now soup → input.faults_now ≡ input.faults
-    → IsWriter (commands.Remesh asked.settings asked.auto) (IsRemeshed asked.settings asked.auto soup) (FailsToRemesh asked soup) input out
-remesh_writer asked input out soup manifold read calm = record {
+-- What such a command keeps that has read a mesh.
+pub task_writer : (command : Command) (asks : Asks) (input out : Change) (soup : FaceSet) (task : Task) → NeedsMesh command → IsTasked command asks
+    → IsManifold soup.faces → (read : ReadSoup MAX_BYTES input.told input.told_now soup) → input.faults_now ≡ input.faults → asks read.bytes soup task
+    → IsWriter command (IsFinished task soup) (FailsTask task soup) input out
+task_writer command asks input out soup task needs tasked manifold read calm asked = record {
   bytes = read.bytes;
-  whole = read.whole;
+  whole = needs.reads input read.bytes read.whole;
   calm = calm;
-  writes = λ text remeshed. record { soup = soup; mesh = record { said = read.said; manifold = manifold }; remeshed = remeshed };
+  writes = λ text finished. tasked.writes read.bytes text
+      (record { soup = soup; mesh = record { said = read.said; manifold = manifold }; task = task; asked = asked; finished = finished });
   refuses = refuses;
 }
   where
-    refuses : (fail : LayoutFail) → FailsToRemesh asked soup fail → Cause (commands.Remesh asked.settings asked.auto) input out (answer_of_layout fail)
-    refuses layouts.Memory why = tt
-    refuses _ (plan, cut, why) = record {
+    refused : (answer : Answer) (plan : Plan) → IsLayoutOf soup.faces task.marks plan → RefusesLayout task.wish plan task.settings task.auto answer
+        → Refused command input answer
+    refused answer plan cut why = record {
       bytes = read.bytes;
-      whole = read.whole;
-      said = inr (plan, record { soup = soup; mesh = record { said = read.said; manifold = manifold }; cut = cut }, why);
+      whole = needs.reads input read.bytes read.whole;
+      said = tasked.refuses read.bytes answer (inr (
+        task,
+        plan,
+        record { soup = soup; mesh = record { said = read.said; manifold = manifold }; asked = asked; cut = cut },
+        why,
+      ));
     }
+
+    refuses : (fail : LayoutFail) → FailsTask task soup fail → Cause command input out (answer_of_layout fail)
+    refuses layouts.Memory why = tt
+    refuses (layouts.Tangled count) (plan, cut, why) = refused (answers.Tangled count) plan cut why
+    refuses (layouts.TooFine faces kept) (plan, cut, why) = refused (answers.TooFine faces kept) plan cut why
+    refuses (layouts.Doubled u v cert) (plan, cut, why) = refused (answers.Doubled u v cert) plan cut why
+
+-- `remesh` does so.
+pub remesh_writer : (asked : Asked) (input out : Change) (soup : FaceSet) → IsManifold soup.faces
+    → ReadSoup MAX_BYTES input.told input.told_now soup → input.faults_now ≡ input.faults
+    → IsWriter (commands.Remesh asked.settings asked.auto) (IsRemeshed asked.settings asked.auto soup) (FailsTask (task_of asked soup) soup) input out
+remesh_writer asked input out soup manifold read calm =
+    task_writer (commands.Remesh asked.settings asked.auto) (AsksToRemesh asked.settings asked.auto) input out soup (task_of asked soup)
+    (remesh_needs asked.settings asked.auto) (record { writes = λ bytes text said. said; refuses = λ bytes answer why. why }) manifold read calm refl
 
 -- A text that was not put whole was not written whole.
 pub put_refused : {O : Type 0} (says : Bytes → Type 0) (fails : LayoutFail → Type 0) (out : Stream O) (text : Bytes) (fail : PutFail)
@@ -80,11 +89,11 @@ put_refused says fails out text puts.Memory said prefix rose same = same refl
 
 -- The text of what is kept as it was asked for is one of a finished remesh.
 pub kept_remeshed : (asked : Asked) (soup : FaceSet) (plan : Plan) (kept : Remesh) → kept.asked ≡ asked → IsLayoutIn soup.faces plan
-    → IsCutTo soup.faces plan → IsKept plan asked.settings asked.auto (lists_of kept.first) (option_map lists_of kept.third) kept.numbering
+    → IsCutTo soup.faces plan → IsKept old_lengths plan asked.settings asked.auto (lists_of kept.first) (option_map lists_of kept.third) kept.numbering
     → IsRemeshed asked.settings asked.auto soup (text_of kept soup plan)
 kept_remeshed asked soup plan kept same lies cut is =
     subst
     (λ (a : Asked). IsRemeshed asked.settings asked.auto soup
     (remeshed_text a.settings a.auto soup plan (lists_of kept.first) (option_map lists_of kept.third)))
     (sym same)
-    (is_remeshed asked.settings asked.auto soup plan (lists_of kept.first) (option_map lists_of kept.third) kept.numbering lies cut is)
+    (finished (task_of asked soup) soup plan (lists_of kept.first) (option_map lists_of kept.third) kept.numbering lies cut is)

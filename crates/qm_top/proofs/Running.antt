@@ -11,7 +11,7 @@ use Rattle.def_run.specs.Messages.{Said}
 use Rattle.def_run.specs.declared.answer.Answer.{Answer}
 use Rattle.def_run.specs.declared.answer.Answer.TheVariants as answers
 use Rattle.def_run.specs.declared.command.Command.{Command}
-use Rattle.def_run.specs.declared.command.Command.TheVariants.{Remesh, Bench}
+use Rattle.def_run.specs.declared.command.Command.TheVariants.{Bench}
 use Rattle.def_run.specs.declared.words.WordsFail.{WordsFail}
 use Rattle.def_run.specs.declared.words.WordsFail.TheVariants as words_fail
 use Rattle.qm_top.specs.Refusals.{answer_of, answer_of_words, names_of, Ended, Finished}
@@ -39,7 +39,7 @@ module _ {S O E : Type 0} (words : Words) (input : Stream S) (out : Stream O) (e
     ran = λ usage memory. absurd (words_only fail answer is usage memory);
     told = λ refused. says_words words input.change err.change fail answer line is text said;
     complete = λ command spoken good. inr (inl (not_read words command fail answer is spoken refuses));
-    settled = λ settings auto spoken held. inr (inl (not_read words (Remesh settings auto) fail answer is spoken refuses));
+    settled = λ command spoken held. inr (inl (not_read words command fail answer is spoken refuses));
     untouched = λ _ _. untouched;
     quiet = λ done. absurd (not_done fail answer is done);
     unread = λ _. unread;
@@ -57,7 +57,7 @@ module _ {S O E : Type 0} (words : Words) (input : Stream S) (out : Stream O) (e
       ran = λ usage memory. record { command = read; line = spoken; cause = finished.wrote };
       told = λ refused. absurd (refused refl);
       complete = λ command line good. inl refl;
-      settled = λ settings auto line held. inl tt;
+      settled = λ command line held. inl tt;
       untouched = λ refused _. absurd (refused refl);
       quiet = λ _. quiet;
       unread = λ never. absurd cc;
@@ -76,8 +76,8 @@ module _ {S O E : Type 0} (words : Words) (input : Stream S) (out : Stream O) (e
       told = λ _. says_why words read input.change err.change r answer names line spoken is named ended.names text said;
       complete = λ command other good.
           completes_as read command input.change out.change answer (answer_of r) is (same_command read command (accepts command other)) ended.cause good;
-      settled = λ settings auto other held.
-          settles_as read settings auto input.change out.change answer (answer_of r) is (same_command read (Remesh settings auto) (accepts (Remesh settings auto) other)) ended.cause held;
+      settled = λ command other held.
+          settles_as read command input.change out.change answer (answer_of r) is (same_command read command (accepts command other)) ended.cause held;
       untouched = λ _ other. untouched (λ fault. other (is ∙ fault));
       quiet = λ done. absurd (refused done);
       unread = λ usage. absurd (accepted usage);

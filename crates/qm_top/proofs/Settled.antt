@@ -1,57 +1,76 @@
--- A remesh of a mesh that is not too tangled finds least lengths.
-use Rattle.std.proofs.Common.{Bool, ◌≡◌, ◌⊎◌, sym, subst, refl, inl, inr}
+-- A command that solves finds least lengths for a network that is not too tangled.
+use Rattle.std.proofs.Common.{Bool, ℕ, ◌≡◌, ◌⊎◌, sym, subst, refl, inl, inr}
 use Rattle.def_flow.specs.declared.net.Settings.{Settings}
-use Rattle.def_io.specs.Bytes.{Bytes}
+use Rattle.def_io.specs.Bytes.{Bytes, Told}
 use Rattle.def_io.specs.Faults.{Rose}
 use Rattle.def_io.specs.Moves.{Change}
 use Rattle.def_layout.specs.Plans.{Plan}
-use Rattle.def_run.specs.Causes.{Cause, Refused}
-use Rattle.def_run.specs.Remesh.{IsSettled, IsUntangled, RefusesLayout, RefusesToRemesh}
+use Rattle.def_remesh.specs.Refusals.{IsTangledAt}
+use Rattle.def_remesh.specs.Tasks.{old_lengths, Task, Wish}
+use Rattle.def_run.specs.Bench.{bench_settings, RefusesToBench}
+use Rattle.def_run.specs.Causes.{Cause, ReadsTooMany, Refused}
+use Rattle.def_run.specs.Remesh.{Asks, AsksToRemesh, HoldsUntangled, IsSettled, RefusesLayout, RefusesTask}
+use Rattle.def_run.specs.Solving.{IsUntangled, IsUntangledBench}
 use Rattle.def_run.specs.declared.answer.Answer.{Answer}
-use Rattle.def_run.specs.declared.answer.Answer.TheVariants.{Done, Usage, Limit, Tangled, TooFine, Doubled, ReadFault, WriteFault, Memory}
+use Rattle.def_run.specs.declared.answer.Answer.TheVariants.{Done, Usage, Limit, NotManifold, Tangled, TooFine, Doubled, ReadFault, WriteFault, Memory}
 use Rattle.def_run.specs.declared.command.Command.{Command}
-use Rattle.def_run.specs.declared.command.Command.TheVariants.{Remesh}
+use Rattle.def_run.specs.declared.command.Command.TheVariants.{Remesh, Bench}
 use Rattle.def_text.specs.declared.refusal.Which.TheVariants.{Bytes as AllBytes}
-use Rattle.qm_top.proofs.Complete.{mesh_not_refused, not_too_long, one_cut, same_bytes}
+use Rattle.qm_top.proofs.Complete.{mesh_not_refused, not_too_long, rose_if, same_bytes}
 
-module _ (settings : Settings) (auto : Bool) (input out : Change) (held : IsUntangled settings input.told) where
-  -- The layout is refused for its least lengths alone.
-  by_layout : (answer : Answer) → RefusesLayout held.plan settings auto answer → IsSettled answer
-  by_layout (Tangled count) why = absurd (held.untangled count why)
-  by_layout (TooFine faces kept) why = tt
-  by_layout (Doubled u v cert) why = tt
-  by_layout _ why = absurd why
+-- A layout that is not too tangled is refused for its least lengths alone.
+layout_settles : (wish : Wish) (settings : Settings) (auto : Bool) (plan : Plan) (answer : Answer) → ((count : ℕ) → ¬ IsTangledAt wish plan settings count)
+    → RefusesLayout wish plan settings auto answer → IsSettled answer
+layout_settles wish settings auto plan (Tangled count) fits why = absurd (fits count why)
+layout_settles wish settings auto plan (TooFine faces kept) fits why = tt
+layout_settles wish settings auto plan (Doubled u v cert) fits why = tt
+layout_settles wish settings auto plan _ fits why = absurd why
 
-  -- So are the bytes.
-  by_bytes : (answer : Answer) → RefusesToRemesh settings auto held.bytes answer → IsSettled answer
-  by_bytes answer (inl none) = absurd (mesh_not_refused held.bytes held.cut.soup answer held.cut.mesh none)
-  by_bytes answer (inr (plan, cut, why)) = by_layout answer
-      (subst (λ (p : Plan). RefusesLayout p settings auto answer) (one_cut held.bytes plan held.plan cut held.cut) why)
+-- So are the bytes that a source held.
+task_settles : (asks : Asks) (left : Told) (held : HoldsUntangled asks left) (answer : Answer) → RefusesTask asks held.bytes answer → IsSettled answer
+task_settles asks left held answer (inl none) = absurd (mesh_not_refused held.bytes held.soup answer held.mesh none)
+task_settles asks left held answer (inr (task, plan, has, why)) =
+    layout_settles task.wish task.settings task.auto plan answer (held.untangled task plan has) why
 
-  refused : (answer : Answer) → Refused (Remesh settings auto) input answer → IsSettled answer
-  refused answer bad = by_bytes answer
-      (subst (λ (xs : Bytes). RefusesToRemesh settings auto xs answer)
-      (same_bytes input.told input.told_now bad.bytes held.bytes held.held bad.whole.given bad.whole.ended) bad.said)
+remesh_settles : (settings : Settings) (auto : Bool) (input : Change) (answer : Answer) → HoldsUntangled (AsksToRemesh settings auto) input.told
+    → Refused (Remesh settings auto) input answer → IsSettled answer
+remesh_settles settings auto input answer held bad =
+    task_settles (AsksToRemesh settings auto) input.told held answer
+    (subst (λ (xs : Bytes). RefusesTask (AsksToRemesh settings auto) xs answer)
+    (same_bytes input.told input.told_now bad.bytes held.bytes held.held bad.whole.given bad.whole.ended) bad.said)
 
-  -- So least lengths were found, or memory is wanting or a stream failed.
-  pub settles : (answer : Answer) → Cause (Remesh settings auto) input out answer
-      → IsSettled answer ⊎ ((answer ≡ Memory) ⊎ (Rose input.faults input.faults_now ⊎ Rose out.faults out.faults_now))
-  settles Done why = inl tt
-  settles Usage why = absurd why
-  settles (Limit AllBytes line) why = absurd (not_too_long _ _ held.bytes held.held held.within why.1)
-  settles (TooFine faces kept) why = inl tt
-  settles (Doubled u v cert) why = inl tt
-  settles ReadFault why = inr (inr (inl why))
-  settles WriteFault why = inr (inr (inr why.fault))
-  settles Memory why = inr (inl refl)
-  settles _ why = inl (refused _ why)
+-- So is the mesh of a size.
+bench_settles : (size : ℕ) (answer : Answer) → IsUntangledBench size → RefusesToBench size answer → IsSettled answer
+bench_settles size (NotManifold place) held refuses = absurd (refuses.1 held.manifold)
+bench_settles size answer held (plan, cut, why) = layout_settles old_lengths bench_settings false plan answer (held.untangled plan cut) why
+
+-- A command that refuses for its least lengths alone finds them, or memory is wanting or a stream failed.
+settles_if : (command : Command) (input out : Change) (answer : Answer) → (ReadsTooMany command input → ⊥)
+    → ((refusal : Answer) → Refused command input refusal → IsSettled refusal) → Cause command input out answer
+    → IsSettled answer ⊎ ((answer ≡ Memory) ⊎ (Rose input.faults input.faults_now ⊎ Rose out.faults out.faults_now))
+settles_if command input out Done few refused why = inl tt
+settles_if command input out Usage few refused why = absurd why
+settles_if command input out (Limit AllBytes line) few refused why = absurd (few why.1)
+settles_if command input out ReadFault few refused why = inr (inr (inl (rose_if command input why)))
+settles_if command input out WriteFault few refused why = inr (inr (inr why.fault))
+settles_if command input out Memory few refused why = inr (inl refl)
+settles_if command input out answer few refused why = inl (refused answer why)
+
+settles : (command : Command) (input out : Change) (answer : Answer) → Cause command input out answer → IsUntangled command input.told
+    → IsSettled answer ⊎ ((answer ≡ Memory) ⊎ (Rose input.faults input.faults_now ⊎ Rose out.faults out.faults_now))
+settles (Remesh settings auto) input out answer why held =
+    settles_if (Remesh settings auto) input out answer (λ more. not_too_long _ _ held.bytes held.held held.within more)
+    (λ refusal bad. remesh_settles settings auto input refusal held bad) why
+settles (Bench size) input out answer why held =
+    settles_if (Bench size) input out answer (λ more. more) (λ refusal bad. bench_settles size refusal held bad.said) why
+settles _ input out answer why held = absurd held
 
 -- The same of the answer that a run gives, and of a line's one command.
-pub settles_as : (read : Command) (settings : Settings) (auto : Bool) (input out : Change) (answer said : Answer) → answer ≡ said
-    → Remesh settings auto ≡ read → Cause read input out said → IsUntangled settings input.told
+pub settles_as : (read command : Command) (input out : Change) (answer said : Answer) → answer ≡ said → command ≡ read → Cause read input out said
+    → IsUntangled command input.told
     → IsSettled answer ⊎ ((answer ≡ Memory) ⊎ (Rose input.faults input.faults_now ⊎ Rose out.faults out.faults_now))
-settles_as read settings auto input out answer said is one cause held =
+settles_as read command input out answer said is one cause held =
     subst
     (λ (a : Answer). IsSettled a ⊎ ((a ≡ Memory) ⊎ (Rose input.faults input.faults_now ⊎ Rose out.faults out.faults_now)))
     (sym is)
-    (settles settings auto input out held said (subst (λ (k : Command). Cause k input out said) (sym one) cause))
+    (settles read input out said cause (subst (λ (k : Command). IsUntangled k input.told) one held))

@@ -14,11 +14,12 @@ use Rattle.qm_write.specs.declared.remesh.Remesh.{Remesh}
 use Rattle.qm_write.specs.declared.text.PutFail.{PutFail}
 use Rattle.qm_write.specs.declared.text.PutFail.TheVariants as puts
 use Rattle.def_remesh.specs.declared.kept.LayoutFail.{LayoutFail}
-use Rattle.def_run.specs.Remesh.{IsCutTo}
 use Rattle.def_text.specs.FaceSet.{FaceSet}
 use Rattle.qm_top.specs.declared.refusal.Refusal.{Refusal}
 use Rattle.qm_top.specs.declared.refusal.Refusal.TheVariants.{Layout, Write}
 use Rattle.qm_top.specs.declared.refusal.Refusal.TheVariants as refusals
+use Rattle.def_layout.specs.FaceLayouts.{IsLayoutOf}
+use Rattle.def_remesh.specs.Tasks.{remesh_task, Task}
 
 -- The sink took a text that says this.
 pub record WroteText (says : Bytes → Type 0) (out : Change) : Type 0 where
@@ -41,10 +42,15 @@ IsUnwritten says fails out (Write fail) = BrokeText says out.change
 IsUnwritten says fails out refusals.Memory = IsStill out
 IsUnwritten says fails out _ = ⊥
 
--- Why a soup is not remeshed as it was asked for: its layout is refused.
-abbrev pub FailsToRemesh : (asked : Asked) (soup : FaceSet) (failed : LayoutFail) → Type 0
-FailsToRemesh asked soup failed =
-    (plan : Plan) × IsCutTo soup.faces plan × IsLayoutFail plan asked.settings asked.auto failed
+-- Why a task of a soup is not finished: its layout is refused.
+abbrev pub FailsTask : (task : Task) (soup : FaceSet) (failed : LayoutFail) → Type 0
+FailsTask task soup failed =
+    (plan : Plan) × IsLayoutOf soup.faces task.marks plan
+    × IsLayoutFail task.wish plan task.settings task.auto failed
+
+-- What is asked of the faces of a soup.
+abbrev pub task_of : (asked : Asked) (soup : FaceSet) → Task
+task_of asked soup = remesh_task asked.settings asked.auto soup.faces
 
 -- The text of what is kept of a layout.
 abbrev pub text_of : (kept : Remesh) (soup : FaceSet) (plan : Plan) → Bytes

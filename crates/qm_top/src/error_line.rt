@@ -30,7 +30,7 @@ const USAGE: &str =
 fn reason_of(answer: &Answer, names: &[u32]) -> Line
     requires { HasNames names.now answer.now }
     ensures text { result.bytes ≡ reason_text names.now answer.now }
-    ensures short { array_string_len result ≤ 200 }
+    ensures short { array_string_len result ≤ 300 }
 {
     match answer {
         Answer::Done => line_of(""),
@@ -56,7 +56,7 @@ fn reason_of(answer: &Answer, names: &[u32]) -> Line
 
 fn corners_of(line: u64, corners: u64) -> Line
     ensures text { result.bytes ≡ corners_text line corners }
-    ensures short { array_string_len result ≤ 200 }
+    ensures short { array_string_len result ≤ 300 }
 {
     let mut text = numbered_line("line ", line, ": face with ");
     push_numbered(&mut text, corners, " corners");
@@ -66,7 +66,7 @@ fn corners_of(line: u64, corners: u64) -> Line
 /// So many faces. The number may be as wide as the product of two lengths.
 fn too_fine_of(faces: u128) -> Line
     ensures text { result.bytes ≡ codes "too fine: " ++ decimal faces ++ codes " faces" }
-    ensures short { array_string_len result ≤ 200 }
+    ensures short { array_string_len result ≤ 300 }
 {
     let mut text = line_of("too fine: ");
     push_integer(&mut text, faces, " faces");
@@ -76,7 +76,7 @@ fn too_fine_of(faces: u128) -> Line
 /// The ends of an edge, which count from 1.
 fn doubled_of(u: u32, v: u32) -> Line
     ensures text { result.bytes ≡ codes "doubled edge: " ++ decimal (u + 1) ++ codes " " ++ decimal (v + 1) }
-    ensures short { array_string_len result ≤ 200 }
+    ensures short { array_string_len result ≤ 300 }
 {
     let mut text = numbered_line("doubled edge: ", u64::from(u) + 1, " ");
     push_numbered(&mut text, u64::from(v) + 1, "");
@@ -85,7 +85,7 @@ fn doubled_of(u: u32, v: u32) -> Line
 
 fn limit_of(which: Which, line: u32) -> Line
     ensures text { result.bytes ≡ limit_text which line }
-    ensures short { array_string_len result ≤ 200 }
+    ensures short { array_string_len result ≤ 300 }
 {
     match which {
         Which::Bytes => line_of("limit: bytes"),
@@ -98,7 +98,7 @@ fn limit_of(which: Which, line: u32) -> Line
 fn place_of(place: Place, names: &[u32]) -> Line
     requires { IsNamed names.now place }
     ensures text { result.bytes ≡ place_text names.now place }
-    ensures short { array_string_len result ≤ 200 }
+    ensures short { array_string_len result ≤ 300 }
 {
     match place {
         Place::Repeated { face, vertex } => {

@@ -11,7 +11,8 @@ ghost use Rattle.def_remesh.specs.Keeping.{IsKept};
 ghost use Rattle.def_remesh.specs.Placings.{IsLayoutIn};
 ghost use Rattle.def_remesh.specs.Remeshed.{IsRemeshed};
 ghost use Rattle.qm_top.specs.Runs.{HasRun};
-ghost use Rattle.qm_top.specs.Writing.{text_of, FailsToRemesh, IsUnwritten, WroteText};
+ghost use Rattle.qm_top.specs.Writing.{task_of, text_of, FailsTask, IsUnwritten, WroteText};
+ghost use Rattle.def_remesh.specs.Tasks.{Wish};
 
 use crate::input::{MeshInput, read_mesh};
 use crate::refusal::Refusal;
@@ -53,7 +54,7 @@ fn remesh_mesh<O: Sink>(
     ensures done { OnOk result (WroteText (IsRemeshed asked.settings asked.auto read.soup)
         (change (O.state out.old) (O.state out.new))) }
     ensures refused { IfErr result (IsUnwritten (IsRemeshed asked.settings asked.auto read.soup)
-        (FailsToRemesh asked read.soup)
+        (FailsTask (task_of asked read.soup) read.soup)
         (stream O.state out.old out.new)) }
 {
     let MeshInput { soup, mesh } = read;
@@ -74,7 +75,7 @@ fn write_remeshed<O: Sink>(
 ) -> Result<(), PutFail>
     requires mesh { cut.now.mesh ≡ soup.now.faces }
     requires layout { IsLayoutIn cut.now.mesh (plan cut.now.layout) }
-    requires kept { IsKept (plan cut.now.layout) kept.asked.settings kept.asked.auto
+    requires kept { (wish : Wish) × IsKept wish (plan cut.now.layout) kept.asked.settings kept.asked.auto
         (lists_of kept.first) (option_map lists_of kept.third) kept.numbering }
     ensures whole { OnOk result ((O.state out.new).told
         ≡ took (O.state out.old).told (text_of kept soup.now (plan cut.now.layout))) }

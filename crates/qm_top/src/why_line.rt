@@ -12,7 +12,7 @@ use qm_print::{Line, line_of, push_integer, push_numbered};
 /// The reason, behind words that say that nothing is accepted.
 pub(crate) fn why_of(why: &Why) -> Line
     ensures text { result.bytes ≡ codes "not accepted: " ++ why_text why.now }
-    ensures short { array_string_len result ≤ 200 }
+    ensures short { array_string_len result ≤ 300 }
 {
     let mut line = line_of("not accepted: ");
     match *why {
@@ -35,7 +35,7 @@ pub(crate) fn why_of(why: &Why) -> Line
 
 /// Puts a text and a number at the end of a line.
 fn push_counted(line: &mut Line, before: &str, number: u64)
-    requires { array_string_len line.old + length before.now ≤ 200 }
+    requires { array_string_len line.old + length before.now ≤ 300 }
     ensures text { line.new.bytes ≡ line.old.bytes ++ before.now ++ decimal number }
     ensures short { array_string_len line.new ≤ array_string_len line.old + length before.now + 20 }
 {
@@ -47,7 +47,7 @@ fn push_counted(line: &mut Line, before: &str, number: u64)
 fn push_verdict(line: &mut Line, verdict: CertVerdict)
     requires { array_string_len line.old ≤ 60 }
     ensures text { line.new.bytes ≡ line.old.bytes ++ verdict_text verdict }
-    ensures short { array_string_len line.new ≤ 200 }
+    ensures short { array_string_len line.new ≤ 300 }
 {
     match verdict {
         CertVerdict::Yes { .. } => {}
@@ -73,7 +73,7 @@ fn push_verdict(line: &mut Line, verdict: CertVerdict)
 fn push_unequal(line: &mut Line, node: u32, plus: u128, minus: u128)
     requires { array_string_len line.old ≤ 60 }
     ensures text { line.new.bytes ≡ line.old.bytes ++ unequal_text node plus minus }
-    ensures short { array_string_len line.new ≤ 200 }
+    ensures short { array_string_len line.new ≤ 300 }
 {
     push_counted(line, "patch ", u64::from(node / 2) + 1);
     if node % 2 == 0 {
@@ -90,7 +90,7 @@ fn push_unequal(line: &mut Line, node: u32, plus: u128, minus: u128)
 fn push_dual(line: &mut Line, verdict: Verdict)
     requires { array_string_len line.old ≤ 60 }
     ensures text { line.new.bytes ≡ line.old.bytes ++ dual_verdict_text verdict }
-    ensures short { array_string_len line.new ≤ 200 }
+    ensures short { array_string_len line.new ≤ 300 }
 {
     match verdict {
         Verdict::Yes { .. } => {}

@@ -13,10 +13,11 @@ use Rattle.def_io.specs.Bytes.{Bytes}
 use Rattle.def_layout.specs.Plans.{Plan}
 use Rattle.def_remesh.specs.NewPoints.{lengths_in}
 use Rattle.def_remesh.specs.NewSoup.{new_soup}
-use Rattle.def_remesh.specs.Remeshed.{remeshed_text, used, AreKept}
+use Rattle.def_remesh.specs.Remeshed.{certificate_lines, remeshed_text, text_behind_head, used, AreKept}
 use Rattle.def_text.specs.Canonical.{canonical_text}
 use Rattle.def_text.specs.FaceSet.{FaceSet}
 use Rattle.qm_write.specs.Joined.{joined}
+use Rattle.def_remesh.specs.Tasks.{Wish}
 
 -- The lines of a certificate as a text.
 abbrev text_by : (lists : Lists) → Bytes
@@ -36,32 +37,33 @@ chosen_is first (Some third) =
     ap₂ (λ (one other : Bytes). one ++ other) (sym (behind_one (said_by first))) (sym (behind_three (said_by third)))
     ∙ sym (flat_map-append (λ line. line_text line ++ 10 ∷ []) (Floor 1 ∷ said_by first) (Floor 3 ∷ said_by third))
 
-framed_is : (settings : Settings) (auto : Bool) (soup : FaceSet) (plan : Plan) (first : Lists) (third : Option Lists)
-    → AreKept plan settings auto first third
-    → (head_line settings auto ++ 10 ∷ []) ++ (canonical_text (new_soup soup plan (lengths_in (used first third).x))
-    ++ joined auto (text_by first) (option_map text_by third))
-    ≡ remeshed_text settings auto soup plan first third
-framed_is settings false soup plan first None kept = append_assoc (head_line settings false) (10 ∷ []) _
-framed_is settings false soup plan first (Some third) kept = absurd kept
-framed_is settings true soup plan first third kept =
-    append_assoc (head_line settings true) (10 ∷ []) _
-    ∙ ap (λ (said : Bytes). head_line settings true ++ 10 ∷ (canonical_text (new_soup soup plan (lengths_in (used first third).x)) ++ said))
-    (chosen_is first third)
+-- The joined lines of the kept certificates are theirs.
+joined_is : (wish : Wish) (plan : Plan) (settings : Settings) (auto : Bool) (first : Lists) (third : Option Lists) → AreKept wish plan settings auto first third
+    → joined auto (text_by first) (option_map text_by third) ≡ text_of (certificate_lines auto first third)
+joined_is wish plan settings false first None kept = refl
+joined_is wish plan settings false first (Some third) kept = absurd kept
+joined_is wish plan settings true first third kept = chosen_is first third
 
 lines_by : (third : Option Cert) → option_map cert_lines third ≡ option_map text_by (option_map lists_of third)
 lines_by None = refl
 lines_by (Some third) = refl
 
--- The pieces that are put are that text.
-pub pieces_are : (settings : Settings) (auto : Bool) (soup : FaceSet) (plan : Plan) (first : Cert) (third : Option Cert) (xs : List ℕ)
-    (head one : Bytes) (other : Option Bytes) → AreKept plan settings auto (lists_of first) (option_map lists_of third)
-    → xs ≡ (used (lists_of first) (option_map lists_of third)).x → head ≡ head_line settings auto ++ 10 ∷ [] → one ≡ cert_lines first
-    → other ≡ option_map cert_lines third
-    → head ++ (canonical_text (new_soup soup plan (lengths_in xs)) ++ joined auto one other)
-    ≡ remeshed_text settings auto soup plan (lists_of first) (option_map lists_of third)
-pieces_are settings auto soup plan first third xs head one other kept lengths is_head is_one is_other =
-    ap₂ (λ (h : Bytes) (ys : List ℕ). h ++ (canonical_text (new_soup soup plan (lengths_in ys)) ++ joined auto one other)) is_head lengths
-    ∙ ap₂ (λ (o : Bytes) (t : Option Bytes). (head_line settings auto ++ 10 ∷ [])
-    ++ (canonical_text (new_soup soup plan (lengths_in (used (lists_of first) (option_map lists_of third)).x)) ++ joined auto o t))
-    is_one (is_other ∙ lines_by third)
-    ∙ framed_is settings auto soup plan (lists_of first) (option_map lists_of third) kept
+-- The pieces that are put are the text.
+pub pieces_are : (wish : Wish) (settings : Settings) (auto : Bool) (soup : FaceSet) (plan : Plan) (first : Cert) (third : Option Cert) (xs : List ℕ)
+    (head between one : Bytes) (other : Option Bytes) → AreKept wish plan settings auto (lists_of first) (option_map lists_of third)
+    → xs ≡ (used (lists_of first) (option_map lists_of third)).x → one ≡ cert_lines first → other ≡ option_map cert_lines third
+    → head ++ (canonical_text (new_soup soup plan (lengths_in xs)) ++ (between ++ joined auto one other))
+    ≡ head ++ text_behind_head between auto soup plan (lists_of first) (option_map lists_of third)
+pieces_are wish settings auto soup plan first third xs head between one other kept lengths is_one is_other =
+    ap (λ (ys : List ℕ). head ++ (canonical_text (new_soup soup plan (lengths_in ys)) ++ (between ++ joined auto one other))) lengths
+    ∙ ap (λ (said : Bytes). head ++ (canonical_text (new_soup soup plan (lengths_in (used (lists_of first) (option_map lists_of third)).x)) ++ (between ++ said)))
+    (ap₂ (λ (o : Bytes) (t : Option Bytes). joined auto o t) is_one (is_other ∙ lines_by third)
+    ∙ joined_is wish plan settings auto (lists_of first) (option_map lists_of third) kept)
+
+-- With the head line of a remesh and nothing behind the new mesh it is the text of that remesh.
+pub framed_is : (settings : Settings) (auto : Bool) (soup : FaceSet) (plan : Plan) (first : Lists) (third : Option Lists) (head between : Bytes)
+    → head ≡ head_line settings auto ++ 10 ∷ [] → between ≡ []
+    → head ++ text_behind_head between auto soup plan first third ≡ remeshed_text settings auto soup plan first third
+framed_is settings auto soup plan first third head between is_head none =
+    ap₂ (λ (h b : Bytes). h ++ text_behind_head b auto soup plan first third) is_head none
+    ∙ append_assoc (head_line settings auto) (10 ∷ []) _

@@ -9,9 +9,10 @@ ghost use Rattle.def_remesh.specs.NewPoints.{lengths_in};
 ghost use Rattle.def_remesh.specs.NewSoup.{new_soup};
 ghost use Rattle.def_remesh.specs.Numberings.{IsNumbering};
 ghost use Rattle.def_remesh.specs.Placings.{ArePlaces, IsLayoutIn};
-ghost use Rattle.def_remesh.specs.Remeshed.{remeshed_text};
+ghost use Rattle.def_remesh.specs.Remeshed.{remeshed_text, text_behind_head};
 ghost use Rattle.def_text.specs.Canonical.{canonical_text};
 ghost use Rattle.qm_write.specs.Joined.{joined};
+ghost use Rattle.def_remesh.specs.Tasks.{Wish};
 
 use crate::body::{CutMesh, NewPoints, put_new_mesh};
 use crate::certs::{CertTexts, cert_texts, put_certs};
@@ -55,9 +56,8 @@ impl From<Stopped> for PutFail {
     }
 }
 
-/// Puts the text of a remesh: the head line, the lines of the new mesh and those of the certificates. It takes all
-/// memory before the first byte goes out: that of the certificates' lines and of the new places. Its cost is that of
-/// `put_new_mesh`, and linear in the certificates.
+/// Puts the text of a remesh: the head line, the lines of the new mesh and those of the certificates. Memory and cost
+/// are those of `put_framed`.
 pub fn put_remeshed<T: Output>(
     alloc: Global,
     out: &mut T,
@@ -67,7 +67,7 @@ pub fn put_remeshed<T: Output>(
 ) -> Result<(), PutFail>
     requires mesh { cut.now.mesh ≡ soup.now.faces }
     requires layout { IsLayoutIn cut.now.mesh (plan cut.now.layout) }
-    requires kept { IsKept (plan cut.now.layout) remesh.asked.settings remesh.asked.auto
+    requires kept { (wish : Wish) × IsKept wish (plan cut.now.layout) remesh.asked.settings remesh.asked.auto
         (lists_of remesh.first) (option_map lists_of remesh.third) remesh.numbering }
     ensures whole { OnOk result (T.takes out.old out.new
         (remeshed_text remesh.asked.settings remesh.asked.auto soup.now (plan cut.now.layout)
@@ -78,10 +78,62 @@ pub fn put_remeshed<T: Output>(
     ensures untouched { IsErrOf result PutFail.Memory → out.new ≡ out.old }
 {
     let head = head_text(alloc, &remesh.asked.settings, remesh.asked.auto)?;
+    let between = Vec::new(alloc);
+    put_framed(
+        alloc,
+        out,
+        soup,
+        cut,
+        Framed {
+            head,
+            between,
+            remesh,
+        },
+    )
+}
+
+/// A finished remesh, and what else stands in its text: the head line, with its end, and the lines between the new mesh
+/// and the certificates.
+#[derive(Debug, Drop)]
+pub struct Framed {
+    pub head: Vec<u8>,
+    pub between: Vec<u8>,
+    pub remesh: Remesh,
+}
+
+/// Puts the text of a remesh in this frame. It takes all memory before the first byte goes out: that of the
+/// certificates' lines and of the new places. Its cost is that of `put_new_mesh`, and linear in the lines of the frame
+/// and of the certificates.
+pub fn put_framed<T: Output>(
+    alloc: Global,
+    out: &mut T,
+    soup: &Soup,
+    cut: &CutMesh,
+    framed: Framed,
+) -> Result<(), PutFail>
+    requires mesh { cut.now.mesh ≡ soup.now.faces }
+    requires layout { IsLayoutIn cut.now.mesh (plan cut.now.layout) }
+    requires kept { (wish : Wish) × IsKept wish (plan cut.now.layout)
+        framed.remesh.asked.settings framed.remesh.asked.auto
+        (lists_of framed.remesh.first) (option_map lists_of framed.remesh.third) framed.remesh.numbering }
+    ensures whole { OnOk result (T.takes out.old out.new (framed.head.items
+        ++ text_behind_head framed.between.items framed.remesh.asked.auto soup.now (plan cut.now.layout)
+        (lists_of framed.remesh.first) (option_map lists_of framed.remesh.third))) }
+    ensures part { IsErrOf result PutFail.Stopped → T.stops out.old out.new (framed.head.items
+        ++ text_behind_head framed.between.items framed.remesh.asked.auto soup.now (plan cut.now.layout)
+        (lists_of framed.remesh.first) (option_map lists_of framed.remesh.third)) }
+    ensures untouched { IsErrOf result PutFail.Memory → out.new ≡ out.old }
+{
+    let Framed {
+        head,
+        between,
+        remesh,
+    } = framed;
     let texts = cert_texts(alloc, &remesh)?;
     let places = placer(alloc, &cut.mesh, &cut.layout, &remesh.used_cert().x)?;
     let frame = Frame {
         head,
+        between,
         texts,
         auto: remesh.asked.auto,
     };
@@ -89,7 +141,7 @@ pub fn put_remeshed<T: Output>(
         numbering: remesh.numbering,
         places,
     };
-    put_framed(out, &frame, soup, cut, &new)?;
+    put_parts(out, &frame, soup, cut, &new)?;
     Ok(())
 }
 
@@ -97,12 +149,13 @@ pub fn put_remeshed<T: Output>(
 #[derive(Debug, Drop)]
 struct Frame {
     head: Vec<u8>,
+    between: Vec<u8>,
     texts: CertTexts,
     auto: bool,
 }
 
-/// Puts the head line, the lines of the new mesh and those of the certificates.
-fn put_framed<T: Output>(
+/// Puts the head line, the lines of the new mesh, those behind it, and those of the certificates.
+fn put_parts<T: Output>(
     out: &mut T,
     frame: &Frame,
     soup: &Soup,
@@ -115,14 +168,15 @@ fn put_framed<T: Output>(
     requires lengths { new.now.places.lengths.items ≡ new.now.numbering.lengths.items }
     ensures whole { OnOk result (T.takes out.old out.new (frame.now.head.items
         ++ (canonical_text (new_soup soup.now (plan cut.now.layout) (lengths_in new.now.numbering.lengths.items))
-        ++ joined frame.now.auto frame.now.texts.first.items
-        (option_map (λ text. text.items) frame.now.texts.third)))) }
+        ++ (frame.now.between.items ++ joined frame.now.auto frame.now.texts.first.items
+        (option_map (λ text. text.items) frame.now.texts.third))))) }
     ensures part { OnErr result (T.stops out.old out.new (frame.now.head.items
         ++ (canonical_text (new_soup soup.now (plan cut.now.layout) (lengths_in new.now.numbering.lengths.items))
-        ++ joined frame.now.auto frame.now.texts.first.items
-        (option_map (λ text. text.items) frame.now.texts.third)))) }
+        ++ (frame.now.between.items ++ joined frame.now.auto frame.now.texts.first.items
+        (option_map (λ text. text.items) frame.now.texts.third))))) }
 {
     out.put(&frame.head)?;
     put_new_mesh(out, soup, cut, new)?;
+    out.put(&frame.between)?;
     put_certs(out, frame.auto, &frame.texts)
 }

@@ -12,6 +12,7 @@ use Rattle.def_layout.specs.Plans.{Plan, layout_of}
 use Rattle.def_layoutnet.specs.LayoutNetLaws.{sum_along, AreOpposite}
 use Rattle.def_remesh.specs.NewPoints.{lengths_in}
 use Rattle.def_remesh.specs.Remeshed.{IsCertified}
+use Rattle.def_remesh.specs.Tasks.{Wish}
 
 -- The size of a side is the sum of its whole numbers.
 size_is : (l : Layout) (xs : List ℕ) (p : ℕ) (s : Way) → pos (size l (lengths_in xs) p s) ≡ sum_along l (entries xs) p s
@@ -29,7 +30,7 @@ opposite_lengths l xs some opposite = record {
   upright = λ p low. sym (same_size l xs p east west (opposite.upright p low));
 }
 
-pub certified_lengths : (plan : Plan) (settings : Settings) (cert : Lists) → 1 ≤ settings.floor → IsCertified plan settings cert
+pub certified_lengths : {wish : Wish} (plan : Plan) (settings : Settings) (cert : Lists) → 1 ≤ settings.floor → IsCertified wish plan settings cert
     → AreLengths (layout_of plan) (lengths_in cert.x)
 certified_lengths plan settings cert floor is = opposite_lengths (layout_of plan) cert.x some is.opposite
   where

@@ -6,28 +6,29 @@ use Rattle.def_flow.specs.declared.net.Settings.{Settings}
 use Rattle.def_layout.specs.Plans.{Plan}
 use Rattle.def_remesh.specs.Refusals.{AreAllCoarse, AreTooFine, IsDoubledBy, IsFineBy, IsLeastFor, IsRemeshable}
 use Rattle.def_remesh.specs.Remeshed.{IsCertified, with_floor}
+use Rattle.def_remesh.specs.Tasks.{Wish}
 use Rattle.def_remesh.specs.declared.kept.Kept.{Kept}
 use Rattle.def_remesh.specs.declared.kept.Kept.TheVariants.{Multiple, Least, Raised}
 
 -- Certified lengths are a least list.
-least_for : (plan : Plan) (settings : Settings) (cert : Lists) → IsCertified plan settings cert → IsLeastFor plan settings cert.x
+least_for : {wish : Wish} (plan : Plan) (settings : Settings) (cert : Lists) → IsCertified wish plan settings cert → IsLeastFor wish plan settings cert.x
 least_for plan settings cert is =
     record { net = is.net; of_layout = is.of_layout; count = is.accepted.count ∙ is.of_layout.long; least = is.least }
 
 -- So they give too many faces only where some least list does.
-not_fine : (plan : Plan) (settings : Settings) (cert : Lists) (faces : ℕ) → AreAllCoarse plan settings → IsCertified plan settings cert
+not_fine : (wish : Wish) (plan : Plan) (settings : Settings) (cert : Lists) (faces : ℕ) → AreAllCoarse wish plan settings → IsCertified wish plan settings cert
     → AreTooFine plan cert.x faces → ⊥
-not_fine plan settings cert faces coarse is fine = absurd (omega (arith, fine.0, fine.1, coarse cert.x (least_for plan settings cert is)))
+not_fine wish plan settings cert faces coarse is fine = absurd (omega (arith, fine.0, fine.1, coarse cert.x (least_for plan settings cert is)))
 
-pub fits_not_fine : (plan : Plan) (settings : Settings) (auto : Bool) (faces : ℕ) (kept : Kept) → IsRemeshable plan settings auto
-    → IsFineBy plan settings auto faces kept → ⊥
-fits_not_fine plan settings auto faces (Multiple by) fits fine = absurd fine
-fits_not_fine plan settings auto faces (Least cert) fits fine = not_fine plan settings (lists_of cert) faces fits.coarse fine.0 fine.1
-fits_not_fine plan settings true faces (Raised first cert) fits fine =
-    not_fine plan (with_floor settings 3) (lists_of cert) faces (fits.raised refl) fine.0.3 fine.1
-fits_not_fine plan settings false faces (Raised first cert) fits fine = absurd fine.0
+pub fits_not_fine : (wish : Wish) (plan : Plan) (settings : Settings) (auto : Bool) (faces : ℕ) (kept : Kept) → IsRemeshable wish plan settings auto
+    → IsFineBy wish plan settings auto faces kept → ⊥
+fits_not_fine wish plan settings auto faces (Multiple by) fits fine = absurd fine
+fits_not_fine wish plan settings auto faces (Least cert) fits fine = not_fine wish plan settings (lists_of cert) faces fits.coarse fine.0 fine.1
+fits_not_fine wish plan settings true faces (Raised first cert) fits fine =
+    not_fine wish plan (with_floor settings 3) (lists_of cert) faces (fits.raised refl) fine.0.3 fine.1
+fits_not_fine wish plan settings false faces (Raised first cert) fits fine = absurd fine.0
 
-pub fits_not_doubled : (plan : Plan) (settings : Settings) (auto : Bool) (u v : ℕ) (cert : Cert) → IsRemeshable plan settings auto
-    → IsDoubledBy plan settings auto u v cert → ⊥
-fits_not_doubled plan settings auto u v cert fits by =
+pub fits_not_doubled : (wish : Wish) (plan : Plan) (settings : Settings) (auto : Bool) (u v : ℕ) (cert : Cert) → IsRemeshable wish plan settings auto
+    → IsDoubledBy wish plan settings auto u v cert → ⊥
+fits_not_doubled wish plan settings auto u v cert fits by =
     fits.undoubled by.given by.low cert.x.items (least_for plan settings (lists_of cert) by.certified) u v by.pair.doubled

@@ -12,6 +12,7 @@ use Rattle.def_flow.specs.Network.{Network}
 use Rattle.def_flow.specs.declared.cert.Cert.{Cert}
 use Rattle.def_flow.specs.declared.limits.TheConstants.{MAX_FLOOR, MAX_LENGTH}
 use Rattle.def_flow.specs.declared.net.Settings.{Settings}
+use Rattle.def_layout.specs.FaceLayouts.{IsLayoutOf}
 use Rattle.def_layout.specs.Lengths.{AreLengths as AreArcLengths}
 use Rattle.def_layout.specs.Plans.{Plan, layout_of, vertex_at}
 use Rattle.def_mesh.specs.Faces.{Faces}
@@ -23,31 +24,33 @@ use Rattle.def_written.specs.NewFaces.{new_faces}
 use Rattle.def_remesh.specs.Keeping.{IsKept}
 use Rattle.def_remesh.specs.NewPoints.{lengths_in}
 use Rattle.def_remesh.specs.Refusals.{AreTooFine}
-use Rattle.def_remesh.specs.Remeshed.{AreCoarse, AreDoubled, AreKept, IsCertified, used, with_floor}
+use Rattle.def_remesh.specs.Remeshed.{AreCoarse, AreDoubled, AreKept, finished_text, IsCertified, IsFinished, used, with_floor}
 use Rattle.def_remesh.specs.Stitched.{AreLong, AreSafe, IsUnstitched, KeepsShapes}
+use Rattle.def_remesh.specs.Tasks.{Task, Wish}
 use Rattle.def_remesh.specs.declared.fail.StitchFail.{StitchFail}
 use Rattle.def_remesh.specs.declared.fail.StitchFail.TheVariants as fails
 use Rattle.def_remesh.specs.declared.tables.Tables.{Tables}
-use Rattle.remesh_laws.specs.Keeps.{IsNetFor, IsNumbered}
+use Rattle.def_remesh.specs.Keeping.{IsNetFor}
+use Rattle.remesh_laws.specs.Keeps.{IsNumbered}
 use Rattle.remesh_laws.proofs.Certified.{certified_lengths}
 use Rattle.remesh_laws.proofs.Solved.{certified}
 
 -- Its solution is certified.
-pub solved : (plan : Plan) (settings : Settings) (net : Network) (cert : Cert) → IsNetFor plan settings net → IsSolution net (certificate cert)
-    → IsCertified plan settings (lists_of cert)
-solved plan settings net cert for is = certified plan settings net (lists_of cert) for.mesh for.is for.bounds for.untangled is
+pub solved : {wish : Wish} (plan : Plan) (settings : Settings) (net : Network) (cert : Cert) → IsNetFor wish plan settings net → IsSolution net (certificate cert)
+    → IsCertified wish plan settings (lists_of cert)
+solved plan settings net cert for is = certified _ plan settings net (lists_of cert) for.mesh for.is for.bounds for.untangled is
 
 -- So its lengths are lengths of the layout, also under another name.
-pub are_lengths : (plan : Plan) (settings : Settings) (net : Network) (cert : Cert) (xs : List ℕ) → IsNetFor plan settings net
+pub are_lengths : {wish : Wish} (plan : Plan) (settings : Settings) (net : Network) (cert : Cert) (xs : List ℕ) → IsNetFor wish plan settings net
     → IsSolution net (certificate cert) → xs ≡ cert.x.items → AreArcLengths (layout_of plan) (lengths_in xs)
 are_lengths plan settings net cert xs for is same =
     subst (λ (ys : List ℕ). AreArcLengths (layout_of plan) (lengths_in ys)) (sym same)
     (certified_lengths plan settings (lists_of cert) for.floor (solved plan settings net cert for is))
 
 -- The network with floor 3.
-pub raised_net : (plan : Plan) (settings : Settings) (net other : Network) → IsNetFor plan settings net → other ≡ record net { floor = 3 }
-    → IsNetFor plan (with_floor settings 3) other
-raised_net plan settings net other for same = subst (IsNetFor plan (with_floor settings 3)) (sym same) (record {
+pub raised_net : {wish : Wish} (plan : Plan) (settings : Settings) (net other : Network) → IsNetFor wish plan settings net → other ≡ record net { floor = 3 }
+    → IsNetFor wish plan (with_floor settings 3) other
+raised_net plan settings net other for same = subst (IsNetFor _ plan (with_floor settings 3)) (sym same) (record {
   mesh = for.mesh;
   floor = omega arith;
   is = record {
@@ -81,8 +84,8 @@ raised_even net other even same = subst IsEven (sym same) (record { high = even.
 coarse_is : (plan : Plan) (xs : List ℕ) (tables : Tables) → IsNumbered plan xs tables → AreCoarse plan xs
 coarse_is plan xs tables is = subst (AreCoarse plan) is.lengths is.numbering.few
 
-keeps : (plan : Plan) (settings : Settings) (auto : Bool) (first : Lists) (third : _) (tables : Tables) → AreKept plan settings auto first third
-    → IsNumbered plan (used first third).x tables → IsKept plan settings auto first third tables
+keeps : {wish : Wish} (plan : Plan) (settings : Settings) (auto : Bool) (first : Lists) (third : _) (tables : Tables) → AreKept wish plan settings auto first third
+    → IsNumbered plan (used first third).x tables → IsKept wish plan settings auto first third tables
 keeps plan settings auto first third tables kept is = record {
   kept = kept;
   coarse = coarse_is plan (used first third).x tables is;
@@ -92,14 +95,14 @@ keeps plan settings auto first third tables kept is = record {
   lengths = is.lengths;
 }
 
-pub keeps_first : (plan : Plan) (settings : Settings) (auto : Bool) (cert : Cert) (xs : List ℕ) (tables : Tables) → xs ≡ cert.x.items
-    → IsCertified plan settings (lists_of cert) → IsNumbered plan xs tables → IsKept plan settings auto (lists_of cert) None tables
+pub keeps_first : {wish : Wish} (plan : Plan) (settings : Settings) (auto : Bool) (cert : Cert) (xs : List ℕ) (tables : Tables) → xs ≡ cert.x.items
+    → IsCertified wish plan settings (lists_of cert) → IsNumbered plan xs tables → IsKept wish plan settings auto (lists_of cert) None tables
 keeps_first plan settings auto cert xs tables same certified is =
     keeps plan settings auto (lists_of cert) None tables certified (subst (λ (ys : List ℕ). IsNumbered plan ys tables) same is)
 
-pub keeps_third : (plan : Plan) (settings : Settings) (first third : Cert) (xs : List ℕ) (tables : Tables) → xs ≡ third.x.items
-    → AreKept plan settings true (lists_of first) (Some (lists_of third)) → IsNumbered plan xs tables
-    → IsKept plan settings true (lists_of first) (Some (lists_of third)) tables
+pub keeps_third : {wish : Wish} (plan : Plan) (settings : Settings) (first third : Cert) (xs : List ℕ) (tables : Tables) → xs ≡ third.x.items
+    → AreKept wish plan settings true (lists_of first) (Some (lists_of third)) → IsNumbered plan xs tables
+    → IsKept wish plan settings true (lists_of first) (Some (lists_of third)) tables
 keeps_third plan settings first third xs tables same kept is =
     keeps plan settings true (lists_of first) (Some (lists_of third)) tables kept (subst (λ (ys : List ℕ). IsNumbered plan ys tables) same is)
 
@@ -129,8 +132,8 @@ bounded net cert xs is same arc = subst (λ (ys : List ℕ). lengths_in ys arc �
     by_arc (inr high) = omega (arith, get_or_past cert.x.items arc 0 high)
 
 -- Lengths for floor 3 double no edge, so lengths that double one are for a lower floor.
-pub low_floor : {T : Type 0} (plan : Plan) (settings : Settings) (cert : Cert) (xs : List ℕ) (result : Result T StitchFail) (fail : StitchFail) (u v : ℕ)
-    → xs ≡ cert.x.items → IsCertified plan settings (lists_of cert)
+pub low_floor : {T : Type 0} {wish : Wish} (plan : Plan) (settings : Settings) (cert : Cert) (xs : List ℕ) (result : Result T StitchFail) (fail : StitchFail) (u v : ℕ)
+    → xs ≡ cert.x.items → IsCertified wish plan settings (lists_of cert)
     → (AreSafe plan (lengths_in xs) → (a b : ℕ) → ¬ IsErrOf result (fails.Doubled a b))
     → result ≡ Err fail → fail ≡ fails.Doubled u v → settings.floor < MAX_FLOOR
 low_floor plan settings cert xs result fail u v same is safe told doubled = by_floor (cases_lt settings.floor MAX_FLOOR)
@@ -152,3 +155,19 @@ kept_shape soup plan xs lies shapes = subst
     (λ (fs : Faces). KeepsShape fs (new_faces (layout_of plan) (lengths_in xs)) (layout_of plan).nodes (vertex_at plan))
     lies.1
     (shapes lies.0.faces lies.0.marks lies.0.mesh lies.0.quads lies.0.cut lies.0.laid)
+
+-- What is kept of a layout that a task's cut gives finishes the task.
+pub finished : (task : Task) (soup : FaceSet) (plan : Plan) (first : Lists) (third : _) (tables : Tables) → IsLayoutIn soup.faces plan
+    → IsLayoutOf soup.faces task.marks plan → IsKept task.wish plan task.settings task.auto first third tables
+    → IsFinished task soup (finished_text task soup plan first third)
+finished task soup plan first third tables lies cut kept = record {
+  plan = plan;
+  cut = cut;
+  first = first;
+  third = third;
+  lengths = kept.kept;
+  coarse = kept.coarse;
+  undoubled = kept.undoubled;
+  written = refl;
+  shape = kept_shape soup plan (used first third).x lies kept.shape;
+}

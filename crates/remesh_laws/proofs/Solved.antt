@@ -15,12 +15,12 @@ use Rattle.def_flow.specs.Descent.{IsSolution}
 use Rattle.def_flow.specs.Network.{Network, tangle_number, IsWithinBounds}
 use Rattle.def_flow.specs.declared.limits.TheConstants.{MAX_LENGTH, MAX_TANGLE}
 use Rattle.def_flow.specs.declared.net.Settings.{Settings}
-use Rattle.def_layout.specs.Arcs.{long_at}
 use Rattle.def_layout.specs.Plans.{Plan, layout_of}
 use Rattle.def_layoutnet.specs.LayoutNet.{IsNetOf}
 use Rattle.def_layoutnet.specs.MeshLayouts.{IsMeshLayout}
 use Rattle.def_matching.specs.Dual.{is_up, AreSmall}
 use Rattle.def_remesh.specs.Remeshed.{certificate_of, IsCertified}
+use Rattle.def_remesh.specs.Tasks.{Wish}
 use Rattle.qm_layoutnet.proofs.Balance.{balance_law}
 use Rattle.plan_laws.proofs.MeshLayouts.{laid_of}
 use Rattle.gadget_laws.proofs.Sound.{sound}
@@ -64,15 +64,15 @@ all_low : (xs : List ℕ) → ((k : ℕ) → k < length xs → slice_index xs k 
 all_low [] low = refl
 all_low (x ∷ xs) low = and_from _ _ (lt-ltb _ _ (low 0 (omega arith))) (all_low xs (λ k l. low (suc k) (omega (arith, l))))
 
-pub certified : (plan : Plan) (settings : Settings) (net : Network) (cert : Lists) → IsMeshLayout plan
-    → IsNetOf (layout_of plan) (long_at plan.arcs) settings net → IsWithinBounds net → tangle_number net ≤ MAX_TANGLE
-    → IsSolution net (certificate_of cert) → IsCertified plan settings cert
-certified plan settings net cert is of_layout bounds untangled solved = record {
+pub certified : (wish : Wish) (plan : Plan) (settings : Settings) (net : Network) (cert : Lists) → IsMeshLayout plan
+    → IsNetOf (layout_of plan) (wish plan) settings net → IsWithinBounds net → tangle_number net ≤ MAX_TANGLE
+    → IsSolution net (certificate_of cert) → IsCertified wish plan settings cert
+certified wish plan settings net cert is of_layout bounds untangled solved = record {
   net = net;
   of_layout = of_layout;
   untangled = untangled;
   accepted = solved.accepted;
-  opposite = (balance_law (layout_of plan) (long_at plan.arcs) settings net (laid_of plan is) of_layout (entries cert.x)).0 solved.accepted.admissible.balanced;
+  opposite = (balance_law (layout_of plan) (wish plan) settings net (laid_of plan is) of_layout (entries cert.x)).0 solved.accepted.admissible.balanced;
   least = sound net (certificate_of cert) bounds solved.accepted;
   writable = record { ups = ups; allowed = allowed };
 }

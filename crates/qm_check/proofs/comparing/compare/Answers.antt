@@ -5,10 +5,14 @@ use Rattle.def_certtext.specs.CertLines.{lists_of}
 use Rattle.def_io.specs.Bytes.{Bytes}
 use Rattle.def_layout.specs.Plans.{plan}
 use Rattle.def_remesh.specs.Remeshed.{remeshed_text}
+use Rattle.def_remesh.specs.Tasks.{old_lengths}
 use Rattle.def_run.specs.Check.{DifferFrom}
 use Rattle.qm_check.proofs.Differences.{longer_differ, stopped_differ}
 use Rattle.qm_check.specs.Checked.{IsDifference}
 use Rattle.qm_check.proofs.comparing.compare.Goals as goal
+
+pub put_remeshed-requires-clause-kept : goal.put_remeshed-requires-clause-kept
+put_remeshed-requires-clause-kept c = (old_lengths, c.requires.kept)
 
 pub returns-in-Ok-2-clause-other : goal.returns-in-Ok-2-clause-other
 returns-in-Ok-2-clause-other c =

@@ -12,20 +12,20 @@ solve-requires-clause-even c = raised_even (network c.args.net) _ c.requires.eve
 pub plan-requires-clause-lengths : goal.plan-requires-clause-lengths
 plan-requires-clause-lengths c =
     are_lengths _ (with_floor c.args.settings 3) (network c.with_floor-raised.result) c.in_ok-third.third _
-    (raised_net _ c.args.settings (network c.args.net) (network c.with_floor-raised.result) c.requires.net c.with_floor-raised.ensures) c.in_ok-third.ensures c.deref.ensures.value
+    (raised_net _ c.args.settings (network c.args.net) (network c.with_floor-raised.result) c.requires.net.1 c.with_floor-raised.ensures) c.in_ok-third.ensures c.deref.ensures.value
 
 pub plan-requires-clause-bounded : goal.plan-requires-clause-bounded
 plan-requires-clause-bounded c =
     bounded (network c.with_floor-raised.result) c.in_ok-third.third _ c.in_ok-third.ensures c.deref.ensures.value
 
 pub returns-in-Ok-clause-kept : goal.returns-in-Ok-clause-kept
-returns-in-Ok-clause-kept c =
+returns-in-Ok-clause-kept c = λ wish for.
     keeps_third _ _ c.args.first c.in_ok-third.third _ _ c.deref.ensures.value (
-      c.requires.doubling.certified,
-      c.requires.doubling.coarse,
-      c.requires.doubling.doubled,
+      solved _ c.args.settings (network c.args.net) c.args.first for c.requires.solved,
+      c.requires.coarse,
+      c.requires.doubled,
       solved _ (with_floor c.args.settings 3) (network c.with_floor-raised.result) c.in_ok-third.third
-          (raised_net _ c.args.settings (network c.args.net) (network c.with_floor-raised.result) c.requires.net c.with_floor-raised.ensures) c.in_ok-third.ensures,
+          (raised_net _ c.args.settings (network c.args.net) (network c.with_floor-raised.result) for c.with_floor-raised.ensures) c.in_ok-third.ensures,
     )
     (record {
       numbering = c.in-Ok.ensures.numbering;
@@ -35,13 +35,13 @@ returns-in-Ok-clause-kept c =
     })
 
 pub returns-in-Err-TooFine-clause-refused : goal.returns-in-Err-TooFine-clause-refused
-returns-in-Err-TooFine-clause-refused c = (
+returns-in-Err-TooFine-clause-refused c = λ wish for. (
   (
-    c.requires.doubling.certified,
-    c.requires.doubling.coarse,
-    c.requires.doubling.doubled,
+    solved _ c.args.settings (network c.args.net) c.args.first for c.requires.solved,
+    c.requires.coarse,
+    c.requires.doubled,
     solved _ (with_floor c.args.settings 3) (network c.with_floor-raised.result) c.in_ok-third.third
-        (raised_net _ c.args.settings (network c.args.net) (network c.with_floor-raised.result) c.requires.net c.with_floor-raised.ensures) c.in_ok-third.ensures,
+        (raised_net _ c.args.settings (network c.args.net) (network c.with_floor-raised.result) for c.with_floor-raised.ensures) c.in_ok-third.ensures,
   ),
   subst (λ (n : ℕ). AreTooFine (plan c.args.t.now) c.in_ok-third.third.x.items n) (sym c.in-Err-TooFine.faces-is)
       (too_fine _ _ _ c.in-Err-TooFine.field-0 _ c.deref.ensures.value c.in-Err-TooFine.field-0-is c.in-Err-TooFine.ensures.refused),

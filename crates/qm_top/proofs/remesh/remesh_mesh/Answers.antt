@@ -9,13 +9,16 @@ use Rattle.qm_top.proofs.Remeshed.{kept_remeshed, put_refused}
 use Rattle.error_laws.proofs.Errors.{handed}
 use Rattle.qm_top.proofs.Writers.{of_soup}
 use Rattle.qm_top.proofs.remesh.remesh_mesh.Goals as goal
+use Rattle.def_remesh.specs.Tasks.{old_lengths}
 
 pub write_remeshed-requires-clause-kept : goal.write_remeshed-requires-clause-kept
-write_remeshed-requires-clause-kept g c =
-    subst
-    (λ (a : Asked). IsKept (plan c.in_ok-layout.layout) a.settings a.auto (lists_of c.in_ok-kept.kept.first)
-    (option_map lists_of c.in_ok-kept.kept.third) c.in_ok-kept.kept.numbering)
-    (sym c.in_ok-kept.ensures.asked) c.in_ok-kept.ensures.kept
+write_remeshed-requires-clause-kept g c = (
+  old_lengths,
+  subst
+      (λ (a : Asked). IsKept old_lengths (plan c.in_ok-layout.layout) a.settings a.auto (lists_of c.in_ok-kept.kept.first)
+      (option_map lists_of c.in_ok-kept.kept.third) c.in_ok-kept.kept.numbering)
+      (sym c.in_ok-kept.ensures.asked) c.in_ok-kept.ensures.kept,
+)
 
 pub returns-in_err-kept-clause-refused : goal.returns-in_err-kept-clause-refused
 returns-in_err-kept-clause-refused g c =

@@ -1,15 +1,20 @@
 use Rattle.std.proofs.Common.{subst}
-use Rattle.qm_write.proofs.Frames.{pieces_are}
+use Rattle.std.specs.Prelude.{OnOk}
+use Rattle.std.specs.Option.{option_map}
+use Rattle.def_certtext.specs.CertLines.{lists_of}
+use Rattle.def_io.specs.Bytes.{Bytes}
+use Rattle.def_layout.specs.Plans.{plan}
+use Rattle.qm_write.proofs.Frames.{framed_is}
 use Rattle.qm_write.proofs.text.put_remeshed.Goals as goal
 
 pub returns-clause-whole : goal.returns-clause-whole
 returns-clause-whole g c =
-    subst (g.T.Output.takes c.args.out.now c.put_framed.new.out)
-    (pieces_are _ _ _ _ c.args.remesh.first c.args.remesh.third _ _ _ _ c.requires.kept.kept c.requires.kept.lengths c.in_ok-head.ensures
-    c.in_ok-texts.ensures.first c.in_ok-texts.ensures.third) c.in_ok-put_framed.ensures.whole
+    subst (λ (text : Bytes). OnOk c.put_framed.result (g.T.Output.takes c.args.out.now c.put_framed.new.out text))
+    (framed_is c.args.remesh.asked.settings c.args.remesh.asked.auto c.args.soup.now (plan c.args.cut.now.layout) (lists_of c.args.remesh.first)
+    (option_map lists_of c.args.remesh.third) _ _ c.in_ok-head.ensures c.new-between.ensures) c.put_framed.ensures.whole
 
-pub returns-in_err-put_framed-clause-part : goal.returns-in_err-put_framed-clause-part
-returns-in_err-put_framed-clause-part g c is =
+pub returns-clause-part : goal.returns-clause-part
+returns-clause-part g c is =
     subst (g.T.Output.stops c.args.out.now c.put_framed.new.out)
-    (pieces_are _ _ _ _ c.args.remesh.first c.args.remesh.third _ _ _ _ c.requires.kept.kept c.requires.kept.lengths c.in_ok-head.ensures
-    c.in_ok-texts.ensures.first c.in_ok-texts.ensures.third) c.in_err-put_framed.ensures.part
+    (framed_is c.args.remesh.asked.settings c.args.remesh.asked.auto c.args.soup.now (plan c.args.cut.now.layout) (lists_of c.args.remesh.first)
+    (option_map lists_of c.args.remesh.third) _ _ c.in_ok-head.ensures c.new-between.ensures) (c.put_framed.ensures.part is)

@@ -4,12 +4,12 @@ use Rattle.def_layout.specs.FaceLayouts.{IsLayoutOf}
 use Rattle.def_layout.specs.Plans.{plan}
 use Rattle.def_written.specs.Laws.{AreQuads}
 use Rattle.def_layoutnet.specs.MeshLayouts.{IsMeshLayout}
-use Rattle.qm_cut.proofs.traced.layout_from.Goals as goal
+use Rattle.qm_cut.proofs.traced.graph_layout.Goals as goal
 
 pub returns-clause-mesh : goal.returns-clause-mesh
 returns-clause-mesh c =
     let faces = c.args.mesh.now in
-    let marks = c.in_ok-graph.graph.covered.items in
+    let marks = c.args.graph.now.covered.items in
     IfOk-weaker c.layout.result (λ t. IsLayoutOf faces marks (plan t)) (λ t. (is : IsMeshLayout (plan t)) × (is.faces ≡ faces))
     (λ t laid. (
       record {
@@ -17,7 +17,7 @@ returns-clause-mesh c =
         mesh = c.faces.ensures.mesh;
         quads = subst AreQuads c.faces.ensures.value c.are_quads.ensures;
         marks = marks;
-        cut = c.in_ok-graph.ensures.cut;
+        cut = c.requires.cut;
         laid = laid;
       },
       refl,

@@ -1,0 +1,47 @@
+use Rattle.std.proofs.Common.{◌∙◌}
+use Rattle.def_flow.specs.Network.{network}
+use Rattle.remesh_laws.proofs.Keeps.{are_lengths, doubled_first, doubled_some, keeps_first, low_floor, solved, too_fine}
+use Rattle.qm_remesh.proofs.keeping.keep_solved.Goals as goal
+
+pub plan-requires-clause-lengths : goal.plan-requires-clause-lengths
+plan-requires-clause-lengths c =
+    are_lengths _ c.args.asked.settings (network c.args.net) c.args.first _ c.requires.net.1 c.requires.solved c.deref.ensures.value
+
+pub raise-requires-clause-coarse : goal.raise-requires-clause-coarse
+raise-requires-clause-coarse c =
+    (doubled_first _ _ _ c.in-Err-Doubled.field-0 _ _ c.deref.ensures.value c.in-Err-Doubled.field-0-is c.in-Err-Doubled.ensures.refused).0
+
+pub raise-requires-clause-doubled : goal.raise-requires-clause-doubled
+raise-requires-clause-doubled c =
+    doubled_some _ _ _ _ (doubled_first _ _ _ c.in-Err-Doubled.field-0 _ _ c.deref.ensures.value c.in-Err-Doubled.field-0-is c.in-Err-Doubled.ensures.refused).1
+
+pub returns-in-Ok-clause-kept : goal.returns-in-Ok-clause-kept
+returns-in-Ok-clause-kept c = λ wish for.
+    keeps_first _ _ _ c.args.first _ _ c.deref.ensures.value
+    (solved _ c.args.asked.settings (network c.args.net) c.args.first for c.requires.solved)
+    (record {
+      numbering = c.in-Ok.ensures.numbering;
+      lengths = c.in-Ok.ensures.lengths;
+      undoubled = c.in-Ok.ensures.undoubled;
+      shape = c.in-Ok.ensures.shape;
+    })
+
+pub returns-in-Err-TooFine-clause-refused : goal.returns-in-Err-TooFine-clause-refused
+returns-in-Err-TooFine-clause-refused c = λ wish for. (
+  solved _ c.args.asked.settings (network c.args.net) c.args.first for c.requires.solved,
+  too_fine _ _ _ c.in-Err-TooFine.field-0 _ c.deref.ensures.value c.in-Err-TooFine.field-0-is c.in-Err-TooFine.ensures.refused,
+)
+
+pub returns-in-Err-Doubled-2-clause-refused : goal.returns-in-Err-Doubled-2-clause-refused
+returns-in-Err-Doubled-2-clause-refused c = λ wish for.
+    let both = doubled_first _ _ _ c.in-Err-Doubled.field-0 _ _ c.deref.ensures.value c.in-Err-Doubled.field-0-is
+    c.in-Err-Doubled.ensures.refused in
+    let certified = solved _ c.args.asked.settings (network c.args.net) c.args.first for c.requires.solved in
+    record {
+      given = c.if-asked.false;
+      low = low_floor _ c.args.asked.settings c.args.first _ c.plan.result c.in-Err-Doubled.field-0 _ _ c.deref.ensures.value
+          certified c.plan.ensures.safe c.in-Err-Doubled.is c.in-Err-Doubled.field-0-is;
+      certified = certified;
+      coarse = both.0;
+      pair = both.1;
+    }
