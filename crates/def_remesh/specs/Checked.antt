@@ -8,10 +8,12 @@ use Rattle.def_io.specs.Lines.{lines_of, tail_of}
 use Rattle.def_mesh.specs.Manifold.{IsManifold}
 use Rattle.def_text.specs.FaceSet.{FaceSet}
 use Rattle.def_text.specs.Text.{text_soup}
+use Rattle.def_remesh.specs.Certified.{AreKept}
 use Rattle.def_remesh.specs.Remeshed.{IsRemeshed}
+use Rattle.def_remesh.specs.Tasks.{old_lengths}
 
 -- The last line that begins as a head line does divides the bytes. The lines before it have a soup, whose faces are a
--- manifold, and the bytes from it on are the text of a finished remesh of that soup.
+-- manifold, and the bytes from it on are the text of a finished remesh of that soup, whose certificates are accepted.
 pub record IsCheckedPair (bytes : Bytes) : Type 0 where
   pub line : ℕ
   pub divided : IsLastHead (lines_of bytes) line
@@ -22,6 +24,7 @@ pub record IsCheckedPair (bytes : Bytes) : Type 0 where
   pub auto : Bool
   pub in_range : AreInRange settings auto
   pub remeshed : IsRemeshed settings auto soup (tail_of line bytes)
+  pub certified : AreKept old_lengths remeshed.plan settings auto remeshed.first remeshed.third
 
 -- The line that is written then, with the numbers of arcs and of new faces, and the deviation of the used lengths.
 abbrev pub accepted_line : (arcs faces deviation : ℕ) → Bytes

@@ -10,7 +10,8 @@ use Rattle.def_layoutnet.specs.MeshLayouts.{IsMeshLayout}
 use Rattle.def_written.specs.Edges.{IsUndoubled}
 use Rattle.def_remesh.specs.NewPoints.{lengths_in}
 use Rattle.def_remesh.specs.Numberings.{IsNumbering}
-use Rattle.def_remesh.specs.Remeshed.{AreCoarse, AreKept, used}
+use Rattle.def_remesh.specs.Certified.{AreKept}
+use Rattle.def_remesh.specs.Remeshed.{AreCoarse, used}
 use Rattle.def_remesh.specs.Stitched.{KeepsShapes}
 use Rattle.def_remesh.specs.Tasks.{Wish}
 use Rattle.def_remesh.specs.declared.tables.Tables.{Tables}

@@ -1,3 +1,4 @@
+pub mod Certified
 pub mod Checked
 pub mod Keeping
 pub mod NewPoints

@@ -11,7 +11,8 @@ use Rattle.def_layoutnet.specs.LayoutNet.{IsNetOf, IsTangled}
 use Rattle.def_written.specs.Edges.{IsFirstDoubled, IsUndoubled}
 use Rattle.def_written.specs.NewFaces.{face_count}
 use Rattle.def_remesh.specs.NewPoints.{lengths_in}
-use Rattle.def_remesh.specs.Remeshed.{AreCoarse, AreKept, IsCertified, with_floor}
+use Rattle.def_remesh.specs.Certified.{AreKept, IsCertified}
+use Rattle.def_remesh.specs.Remeshed.{AreCoarse, with_floor}
 use Rattle.def_remesh.specs.Tasks.{Wish}
 use Rattle.def_remesh.specs.declared.kept.Kept.{Kept}
 use Rattle.def_remesh.specs.declared.kept.Kept.TheVariants.{Multiple, Least, Raised}

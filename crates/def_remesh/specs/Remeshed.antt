@@ -1,6 +1,5 @@
 -- What is made of a mesh that is remeshed: the cut, the lengths, the text and the shape.
-use Rattle.std.specs.Prelude.{◌≡◌, ◌≤◌, ◌∷◌, ◌++◌, ℕ, Bool, true, false, Option, Some, None, List}
-use Rattle.def_flow.specs.Accepted.{Certificate, IsAccepted}
+use Rattle.std.specs.Prelude.{◌≡◌, ◌≤◌, ◌∷◌, ◌++◌, ℕ, Bool, true, false, Option, Some, None, List, length}
 use Rattle.def_flow.specs.Admissible.{entries, IsLeast}
 use Rattle.def_flow.specs.Network.{Network, tangle_number}
 use Rattle.def_flow.specs.declared.limits.TheConstants.{MAX_TANGLE}
@@ -29,18 +28,14 @@ abbrev pub with_floor : (settings : Settings) (floor : ℕ) → Settings
 with_floor settings floor =
     record { p = settings.p; q = settings.q; floor = floor; weight = settings.weight }
 
--- The lists of a certificate, as the checker takes them.
-abbrev pub certificate_of : (lists : Lists) → Certificate
-certificate_of lists = record { x = lists.x; dual = record { y = lists.y; z = lists.z; up = lists.up } }
-
--- A certificate that is accepted for the network of a layout with these wished lengths, which is not too tangled, and
--- can be written. So its lengths are at least the floor, equal on opposite sides of each patch, and their deviation is
--- least among all such lengths.
-pub record IsCertified (wish : Wish) (plan : Plan) (settings : Settings) (cert : Lists) : Type 0 where
+-- A certificate whose lengths are least for the network of a layout with these wished lengths: one for each arc, at
+-- least the floor, equal on opposite sides of each patch, and of the least deviation among all such lengths. The network
+-- is not too tangled, and the certificate can be written.
+pub record HasLeastLengths (wish : Wish) (plan : Plan) (settings : Settings) (cert : Lists) : Type 0 where
   pub net : Network
   pub of_layout : IsNetOf (layout_of plan) (wish plan) settings net
   pub untangled : tangle_number net ≤ MAX_TANGLE
-  pub accepted : IsAccepted net (certificate_of cert)
+  pub count : length cert.x ≡ length net.arcs
   pub opposite : AreOpposite (layout_of plan) (entries cert.x)
   pub least : IsLeast net (entries cert.x)
   pub writable : IsWritableCert cert
@@ -53,15 +48,14 @@ AreCoarse plan lengths = face_count (layout_of plan) (lengths_in lengths) ≤ MA
 abbrev pub AreDoubled : (plan : Plan) (lengths : List ℕ) → Type 0
 AreDoubled plan lengths = (u v : ℕ) × IsDoubledAt (layout_of plan) (lengths_in lengths) u v
 
--- The certificates of a remesh: with a given floor there is one. With `auto` there is one for floor 1, and where its
--- lengths double an edge, another for floor 3.
-abbrev pub AreKept :
-    (wish : Wish) (plan : Plan) (settings : Settings) (auto : Bool) (first : Lists) (third : Option Lists) → Type 0
-AreKept wish plan settings auto first None = IsCertified wish plan settings first
-AreKept wish plan settings true first (Some third) =
-    IsCertified wish plan settings first × AreCoarse plan first.x × AreDoubled plan first.x
-    × IsCertified wish plan (with_floor settings 3) third
-AreKept wish plan settings false first (Some third) = ⊥
+-- The certificates of a remesh, where this is known of one with its settings: with a given floor there is one. With
+-- `auto` there is one for floor 1, and where its lengths double an edge, another for floor 3.
+abbrev pub AreKeptBy : (fits : Settings → Lists → Type 0) (plan : Plan) (settings : Settings) (auto : Bool)
+    (first : Lists) (third : Option Lists) → Type 0
+AreKeptBy fits plan settings auto first None = fits settings first
+AreKeptBy fits plan settings true first (Some third) =
+    fits settings first × AreCoarse plan first.x × AreDoubled plan first.x × fits (with_floor settings 3) third
+AreKeptBy fits plan settings false first (Some third) = ⊥
 
 -- The certificate whose lengths are used.
 abbrev pub used : (first : Lists) (third : Option Lists) → Lists
@@ -87,14 +81,14 @@ finished_text task soup plan first third =
     text_behind_head (task.between plan (lengths_in (used first third).x)) task.auto soup plan first third
 
 -- A task that is finished for a soup: a layout cuts its mesh into rectangular grids of the cut, each face once; the
--- certificates show that the lengths are least; the text is that of the mesh with these lengths; and that mesh has the
+-- lengths are least; the text is that of the mesh with these lengths; and that mesh has the
 -- shape of the old one.
 pub record IsFinished (task : Task) (soup : FaceSet) (text : Bytes) : Type 0 where
   pub plan : Plan
   pub cut : IsLayoutOf soup.faces task.marks plan
   pub first : Lists
   pub third : Option Lists
-  pub lengths : AreKept task.wish plan task.settings task.auto first third
+  pub lengths : AreKeptBy (HasLeastLengths task.wish plan) plan task.settings task.auto first third
   pub coarse : AreCoarse plan (used first third).x
   pub undoubled : IsUndoubled (layout_of plan) (lengths_in (used first third).x)
   pub written : text ≡ finished_text task soup plan first third

@@ -13,7 +13,8 @@ use Rattle.def_mesh.specs.Faults.{IsFirstFault}
 use Rattle.def_mesh.specs.Manifold.{IsManifold}
 use Rattle.def_mesh.specs.Vertices.{vertex_count}
 use Rattle.def_remesh.specs.NewPoints.{lengths_in}
-use Rattle.def_remesh.specs.Remeshed.{AreCoarse, IsCertified}
+use Rattle.def_remesh.specs.Certified.{IsCertified}
+use Rattle.def_remesh.specs.Remeshed.{AreCoarse}
 use Rattle.def_report.specs.BenchLine.{bench_line}
 use Rattle.def_report.specs.declared.Counts.{Counts}
 use Rattle.def_written.specs.Edges.{IsUndoubled}
@@ -56,7 +57,7 @@ pub record WritesBench (size : ℕ) (text : Bytes) : Type 0 where
   pub coarse : AreCoarse plan cert.x
   pub undoubled : IsUndoubled (layout_of plan) (lengths_in cert.x)
   pub said : text
-      ≡ bench_line size (counts_of (bench_faces size) plan (deviation certified.net (entries cert.x)))
+      ≡ bench_line size (counts_of (bench_faces size) plan (deviation certified.lengths.net (entries cert.x)))
 
 -- It refuses a size with this answer: the mesh is no manifold, or its layout is refused.
 abbrev pub RefusesToBench : (size : ℕ) (answer : Answer) → Type 0

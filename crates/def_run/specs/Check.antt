@@ -21,7 +21,8 @@ use Rattle.def_mesh.specs.Manifold.{IsManifold}
 use Rattle.def_mesh.specs.declared.Place.{Place}
 use Rattle.def_remesh.specs.Checked.{accepted_line, IsCheckedPair}
 use Rattle.def_remesh.specs.NewPoints.{lengths_in}
-use Rattle.def_remesh.specs.Remeshed.{AreCoarse, AreDoubled, AreKept, certificate_of, IsCertified, remeshed_text, used}
+use Rattle.def_remesh.specs.Certified.{AreKept, certificate_of, IsCertified}
+use Rattle.def_remesh.specs.Remeshed.{AreCoarse, AreDoubled, remeshed_text, used}
 use Rattle.def_remesh.specs.Remeshed.{with_floor}
 use Rattle.def_text.specs.FaceSet.{FaceSet}
 use Rattle.def_text.specs.Text.{text_soup}

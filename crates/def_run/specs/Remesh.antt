@@ -7,7 +7,7 @@ use Rattle.def_layout.specs.FaceLayouts.{IsLayoutOf}
 use Rattle.def_layout.specs.Plans.{Plan}
 use Rattle.def_mesh.specs.Faces.{Faces}
 use Rattle.def_remesh.specs.Refusals.{IsDoubledBy, IsFineBy, IsRemeshable, IsTangledAt}
-use Rattle.def_remesh.specs.Remeshed.{IsFinished}
+use Rattle.def_remesh.specs.Certified.{IsShown}
 use Rattle.def_remesh.specs.Tasks.{remesh_task, Task, Wish}
 use Rattle.def_text.specs.FaceSet.{FaceSet}
 use Rattle.def_text.specs.declared.limits.TheConstants.{MAX_BYTES}
@@ -33,13 +33,13 @@ Asks = (bytes : Bytes) (soup : FaceSet) (task : Task) → Type 0
 abbrev pub AsksToRemesh : (settings : Settings) (auto : Bool) → Asks
 AsksToRemesh settings auto bytes soup task = task ≡ remesh_task settings auto soup.faces
 
--- For these bytes it writes this text: that of a task of their mesh, which is finished.
+-- For these bytes it writes this text: that of a task of their mesh, which is finished, as accepted certificates show.
 pub record WritesFinished (asks : Asks) (bytes text : Bytes) : Type 0 where
   pub soup : FaceSet
   pub mesh : IsMeshText bytes soup
   pub task : Task
   pub asked : asks bytes soup task
-  pub finished : IsFinished task soup text
+  pub shown : IsShown task soup text
 
 -- The bytes have a mesh of which this task is asked, whose cut gives this layout.
 pub record HasTask (asks : Asks) (bytes : Bytes) (task : Task) (plan : Plan) : Type 0 where

@@ -12,7 +12,8 @@ use Rattle.def_layout.specs.Plans.{Plan, layout_of}
 use Rattle.def_mesh.specs.Manifold.{IsManifold}
 use Rattle.def_remesh.specs.Checked.{IsCheckedPair}
 use Rattle.def_remesh.specs.NewPoints.{lengths_in}
-use Rattle.def_remesh.specs.Remeshed.{AreCoarse, AreKept, remeshed_text, used}
+use Rattle.def_remesh.specs.Certified.{AreKept}
+use Rattle.def_remesh.specs.Remeshed.{AreCoarse, remeshed_text, used}
 use Rattle.def_remesh.specs.TextLaws.{made_by, IsSolid}
 use Rattle.def_run.specs.Check.{head_of, HasOldSoup}
 use Rattle.def_run.specs.Remesh.{IsCutTo}
@@ -109,7 +110,7 @@ module _ (bytes : Bytes) (line : ℕ) (soup : FaceSet) (old : HasOldSoup bytes l
       own = record {
         first = pair.remeshed.first;
         third = pair.remeshed.third;
-        kept = pair.remeshed.lengths;
+        kept = pair.certified;
         coarse = pair.remeshed.coarse;
         undoubled = pair.remeshed.undoubled;
         written = pair.remeshed.written;

@@ -17,7 +17,7 @@ use Rattle.qm_check.specs.Checked.{IsChecked}
 use Rattle.qm_check.specs.Ready.{IsReady, Tells}
 use Rattle.qm_check.specs.declared.certificates.Checked.{Checked}
 use Rattle.qm_check.specs.declared.ready.Ready.{Ready}
-use Rattle.remesh_laws.proofs.Keeps.{kept_shape}
+use Rattle.remesh_laws.proofs.Keeps.{kept_shape, least_of}
 use Rattle.def_remesh.specs.Keeping.{IsNetFor}
 use Rattle.def_remesh.specs.Tasks.{old_lengths}
 
@@ -63,13 +63,15 @@ module _ (bytes : Bytes) (line : ℕ) (ready : Ready) (made : Made) (checked : C
         cut = is.cut;
         first = lists_of checked.remesh.first;
         third = option_map lists_of checked.remesh.third;
-        lengths = right.kept.kept;
+        lengths = least_of old_lengths (plan ready.cut.layout) made.settings made.auto (lists_of checked.remesh.first)
+            (option_map lists_of checked.remesh.third) right.kept.kept;
         coarse = right.kept.coarse;
         undoubled = right.kept.undoubled;
         written = text ∙ kept_text;
         shape = kept_shape ready.soup (plan ready.cut.layout) (used (lists_of checked.remesh.first) (option_map lists_of checked.remesh.third)).x
             is.lies right.kept.shape;
       };
+      certified = right.kept.kept;
     };
     arcs_told = arcs_told;
     faces_told = faces_told

@@ -10,7 +10,8 @@ use Rattle.def_flow.specs.Network.{Network}
 use Rattle.def_flow.specs.declared.cert.Cert.{Cert}
 use Rattle.def_layout.specs.Plans.{Plan}
 use Rattle.def_remesh.specs.Keeping.{IsKept}
-use Rattle.def_remesh.specs.Remeshed.{AreCoarse, AreDoubled, IsCertified, with_floor}
+use Rattle.def_remesh.specs.Certified.{IsCertified}
+use Rattle.def_remesh.specs.Remeshed.{AreCoarse, AreDoubled, with_floor}
 use Rattle.def_remesh.specs.declared.tables.Tables.{Tables}
 use Rattle.def_run.specs.Check.{first_checked, IsWrong}
 use Rattle.def_run.specs.declared.answer.Why.{Why}

@@ -12,7 +12,8 @@ use Rattle.def_layout.specs.Plans.{layout_of, plan, Plan}
 use Rattle.def_remesh.specs.Checked.{IsCheckedPair}
 use Rattle.def_remesh.specs.NewPoints.{lengths_in}
 use Rattle.def_remesh.specs.Refusals.{IsTangledAt}
-use Rattle.def_remesh.specs.Remeshed.{AreCoarse, AreKept, remeshed_text, used}
+use Rattle.def_remesh.specs.Certified.{AreKept}
+use Rattle.def_remesh.specs.Remeshed.{AreCoarse, remeshed_text, used}
 use Rattle.def_run.specs.Check.{DifferFrom, first_checked, head_of, IsAsked, IsLoneDoubled, IsNoPair, IsOtherText, IsReason, IsThirdWrong, IsWrong, IsWrongText}
 use Rattle.def_run.specs.declared.answer.Why.{Why}
 use Rattle.def_run.specs.declared.answer.Why.TheVariants as why

@@ -21,7 +21,8 @@ use Rattle.def_mesh.specs.Manifold.{IsManifold}
 use Rattle.def_remesh.specs.Checked.{IsCheckedPair}
 use Rattle.def_remesh.specs.NewPoints.{lengths_in}
 use Rattle.def_remesh.specs.Refusals.{IsTangledAt}
-use Rattle.def_remesh.specs.Remeshed.{AreCoarse, AreKept, certificate_of, IsCertified, remeshed_text, used, with_floor}
+use Rattle.def_remesh.specs.Certified.{AreKept, certificate_of, IsCertified}
+use Rattle.def_remesh.specs.Remeshed.{AreCoarse, remeshed_text, used, with_floor}
 use Rattle.def_remesh.specs.TextLaws.{made_by, IsSolid}
 use Rattle.def_run.specs.Check.{first_checked, head_of, HasOldSoup, IsAsked, IsLoneDoubled, TellsOtherText, IsThirdWrong, IsWrong, IsWrongText, RefusesOldText}
 use Rattle.def_run.specs.declared.answer.Why.{Why}
@@ -96,9 +97,9 @@ module _ (plan : Plan) (mesh : IsMeshLayout plan) where
   -- A certified list is not refused.
   not_wrong : (settings : Settings) (cert : Lists) (why : Why) → IsCertified old_lengths plan settings cert → AreCoarse plan cert.x → IsWrong plan settings cert why → ⊥
   not_wrong settings cert (why.Verdict verdict) is coarse wrong =
-      let same : wrong.net ≡ is.net = one_net settings wrong.net is.net wrong.of_layout is.of_layout in
-      wrong.refuted (pos (deviation is.net (entries cert.x)))
-      (wrong.told ∙ ap (λ (n : Network). cert_verdict n (certificate_of cert)) same ∙ accepted_yes is.net (certificate_of cert) is.accepted)
+      let same : wrong.net ≡ is.lengths.net = one_net settings wrong.net is.lengths.net wrong.of_layout is.lengths.of_layout in
+      wrong.refuted (pos (deviation is.lengths.net (entries cert.x)))
+      (wrong.told ∙ ap (λ (n : Network). cert_verdict n (certificate_of cert)) same ∙ accepted_yes is.lengths.net (certificate_of cert) is.accepted)
   not_wrong settings cert (why.TooFine faces) is coarse (certified, fine) = absurd (omega (arith, fine.0, fine.1, coarse))
   not_wrong settings cert why.NoHead is coarse wrong = wrong
   not_wrong settings cert why.Head is coarse wrong = wrong
@@ -111,8 +112,8 @@ module _ (plan : Plan) (mesh : IsMeshLayout plan) where
       → IsTangledAt old_lengths plan settings count → ⊥
   not_tangled settings auto count first third kept tangled =
       let is = kept_first plan settings auto first third kept in
-      let same : tangled.net ≡ is.net = one_net settings tangled.net is.net tangled.is is.of_layout in
-      absurd (omega (arith, tangled.high, tangled.told, ap tangle_number same, is.untangled))
+      let same : tangled.net ≡ is.lengths.net = one_net settings tangled.net is.lengths.net tangled.is is.lengths.of_layout in
+      absurd (omega (arith, tangled.high, tangled.told, ap tangle_number same, is.lengths.untangled))
 
   -- Neither are the certificates that were kept, whatever is told of them.
   first_fine : (settings : Settings) (auto : Bool) (first : Lists) (third : Option Lists) (why : Why) → AreKept old_lengths plan settings auto first third

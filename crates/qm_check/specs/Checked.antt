@@ -17,7 +17,8 @@ use Rattle.def_matching.specs.Dual.{IsSmallDual}
 use Rattle.def_remesh.specs.Keeping.{IsKept}
 use Rattle.def_remesh.specs.NewPoints.{lengths_in}
 use Rattle.def_remesh.specs.Refusals.{AreTooFine}
-use Rattle.def_remesh.specs.Remeshed.{AreCoarse, certificate_of, used}
+use Rattle.def_remesh.specs.Certified.{certificate_of}
+use Rattle.def_remesh.specs.Remeshed.{AreCoarse, used}
 use Rattle.def_run.specs.Check.{DifferFrom, first_checked, IsLoneDoubled, IsThirdWrong, IsWrong}
 use Rattle.def_run.specs.declared.answer.Why.TheVariants as why
 use Rattle.def_written.specs.Edges.{IsFirstDoubled}

@@ -31,8 +31,8 @@ module _ (plan : Plan) (first : Lists) (tables : Tables) (net : Network)
   -- The kept lengths are lengths of the layout's network.
   pub kept_lengths : (third : Option Lists) → IsKept old_lengths plan bench_settings false first third tables → AreNetLengths net.arcs first.x
   kept_lengths None kept = record {
-    count = kept.kept.accepted.count ∙ (kept.kept.of_layout.long ∙ sym is.long);
-    small = writable_short first kept.kept.writable;
+    count = kept.kept.lengths.count ∙ (kept.kept.lengths.of_layout.long ∙ sym is.long);
+    small = writable_short first kept.kept.lengths.writable;
   }
   kept_lengths (Some third) kept = absurd kept.kept
 
@@ -41,8 +41,8 @@ module _ (plan : Plan) (first : Lists) (tables : Tables) (net : Network)
       → told ≡ pos (deviation net (entries first.x)) → IsKeptDeviation plan told
   deviation_kept (Some third) told mesh kept says = absurd kept.kept
   deviation_kept None told mesh kept says =
-      let one : net ≡ kept.kept.net =
-      one_net_law (layout_of plan) (long_at plan.arcs) bench_settings (laid_of plan mesh) net kept.kept.net is kept.kept.of_layout in
+      let one : net ≡ kept.kept.lengths.net =
+      one_net_law (layout_of plan) (long_at plan.arcs) bench_settings (laid_of plan mesh) net kept.kept.lengths.net is kept.kept.lengths.of_layout in
       record {
         cert = first;
         certified = kept.kept;

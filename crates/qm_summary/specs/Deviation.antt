@@ -4,7 +4,8 @@ use Rattle.def_certtext.specs.CertLines.{Lists}
 use Rattle.def_flow.specs.Admissible.{deviation, entries}
 use Rattle.def_layout.specs.Plans.{Plan, layout_of}
 use Rattle.def_remesh.specs.NewPoints.{lengths_in}
-use Rattle.def_remesh.specs.Remeshed.{AreCoarse, IsCertified}
+use Rattle.def_remesh.specs.Certified.{IsCertified}
+use Rattle.def_remesh.specs.Remeshed.{AreCoarse}
 use Rattle.def_run.specs.Bench.{bench_settings}
 use Rattle.def_written.specs.Edges.{IsUndoubled}
 use Rattle.def_remesh.specs.Tasks.{old_lengths}
@@ -15,4 +16,4 @@ pub record IsKeptDeviation (plan : Plan) (told : ℤ) : Type 0 where
   pub certified : IsCertified old_lengths plan bench_settings cert
   pub coarse : AreCoarse plan cert.x
   pub undoubled : IsUndoubled (layout_of plan) (lengths_in cert.x)
-  pub is : told ≡ pos (deviation certified.net (entries cert.x))
+  pub is : told ≡ pos (deviation certified.lengths.net (entries cert.x))

@@ -22,7 +22,8 @@ use Rattle.qm_write.specs.declared.text.PutFail.{PutFail}
 use Rattle.qm_write.specs.declared.text.PutFail.TheVariants as puts
 use Rattle.def_layout.specs.FaceLayouts.{IsLayoutOf}
 use Rattle.def_layout.specs.Plans.{Plan}
-use Rattle.def_remesh.specs.Remeshed.{IsFinished, IsRemeshed, remeshed_text}
+use Rattle.def_remesh.specs.Remeshed.{remeshed_text}
+use Rattle.def_remesh.specs.Certified.{IsShown}
 use Rattle.def_remesh.specs.Tasks.{old_lengths, Task}
 use Rattle.def_run.specs.Causes.{Cause, Refused, Refuses, Writes}
 use Rattle.def_run.specs.Remesh.{Asks, AsksToRemesh, IsCutTo, RefusesLayout, RefusesTask, WritesFinished}
@@ -32,7 +33,7 @@ use Rattle.def_run.specs.declared.command.Command.{Command}
 use Rattle.def_run.specs.declared.command.Command.TheVariants as commands
 use Rattle.qm_top.specs.Writing.{refusal_of_put, task_of, text_of, FailsTask, IsUnwritten}
 use Rattle.qm_top.proofs.Refusals.{remesh_needs, NeedsMesh}
-use Rattle.remesh_laws.proofs.Keeps.{finished}
+use Rattle.remesh_laws.proofs.Keeps.{shown}
 
 -- What a command does that asks for a task: it writes it finished, or refuses it.
 pub record IsTasked (command : Command) (asks : Asks) : Type 0 where
@@ -42,13 +43,13 @@ pub record IsTasked (command : Command) (asks : Asks) : Type 0 where
 -- What such a command keeps that has read a mesh.
 pub task_writer : (command : Command) (asks : Asks) (input out : Change) (soup : FaceSet) (task : Task) → NeedsMesh command → IsTasked command asks
     → IsManifold soup.faces → (read : ReadSoup MAX_BYTES input.told input.told_now soup) → input.faults_now ≡ input.faults → asks read.bytes soup task
-    → IsWriter command (IsFinished task soup) (FailsTask task soup) input out
+    → IsWriter command (IsShown task soup) (FailsTask task soup) input out
 task_writer command asks input out soup task needs tasked manifold read calm asked = record {
   bytes = read.bytes;
   whole = needs.reads input read.bytes read.whole;
   calm = calm;
-  writes = λ text finished. tasked.writes read.bytes text
-      (record { soup = soup; mesh = record { said = read.said; manifold = manifold }; task = task; asked = asked; finished = finished });
+  writes = λ text shown. tasked.writes read.bytes text
+      (record { soup = soup; mesh = record { said = read.said; manifold = manifold }; task = task; asked = asked; shown = shown });
   refuses = refuses;
 }
   where
@@ -74,7 +75,7 @@ task_writer command asks input out soup task needs tasked manifold read calm ask
 -- `remesh` does so.
 pub remesh_writer : (asked : Asked) (input out : Change) (soup : FaceSet) → IsManifold soup.faces
     → ReadSoup MAX_BYTES input.told input.told_now soup → input.faults_now ≡ input.faults
-    → IsWriter (commands.Remesh asked.settings asked.auto) (IsRemeshed asked.settings asked.auto soup) (FailsTask (task_of asked soup) soup) input out
+    → IsWriter (commands.Remesh asked.settings asked.auto) (IsShown (task_of asked soup) soup) (FailsTask (task_of asked soup) soup) input out
 remesh_writer asked input out soup manifold read calm =
     task_writer (commands.Remesh asked.settings asked.auto) (AsksToRemesh asked.settings asked.auto) input out soup (task_of asked soup)
     (remesh_needs asked.settings asked.auto) (record { writes = λ bytes text said. said; refuses = λ bytes answer why. why }) manifold read calm refl
@@ -90,10 +91,10 @@ put_refused says fails out text puts.Memory said prefix rose same = same refl
 -- The text of what is kept as it was asked for is one of a finished remesh.
 pub kept_remeshed : (asked : Asked) (soup : FaceSet) (plan : Plan) (kept : Remesh) → kept.asked ≡ asked → IsLayoutIn soup.faces plan
     → IsCutTo soup.faces plan → IsKept old_lengths plan asked.settings asked.auto (lists_of kept.first) (option_map lists_of kept.third) kept.numbering
-    → IsRemeshed asked.settings asked.auto soup (text_of kept soup plan)
+    → IsShown (task_of asked soup) soup (text_of kept soup plan)
 kept_remeshed asked soup plan kept same lies cut is =
     subst
-    (λ (a : Asked). IsRemeshed asked.settings asked.auto soup
+    (λ (a : Asked). IsShown (task_of asked soup) soup
     (remeshed_text a.settings a.auto soup plan (lists_of kept.first) (option_map lists_of kept.third)))
     (sym same)
-    (finished (task_of asked soup) soup plan (lists_of kept.first) (option_map lists_of kept.third) kept.numbering lies cut is)
+    (shown (task_of asked soup) soup plan (lists_of kept.first) (option_map lists_of kept.third) kept.numbering lies cut is)

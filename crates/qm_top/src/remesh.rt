@@ -9,7 +9,7 @@ ghost use Rattle.def_io.specs.Moves.{change, stream, took, TookPrefix};
 ghost use Rattle.def_layout.specs.Plans.{plan};
 ghost use Rattle.def_remesh.specs.Keeping.{IsKept};
 ghost use Rattle.def_remesh.specs.Placings.{IsLayoutIn};
-ghost use Rattle.def_remesh.specs.Remeshed.{IsRemeshed};
+ghost use Rattle.def_remesh.specs.Certified.{IsShown};
 ghost use Rattle.qm_top.specs.Runs.{HasRun};
 ghost use Rattle.qm_top.specs.Writing.{task_of, text_of, FailsTask, IsUnwritten, WroteText};
 ghost use Rattle.def_remesh.specs.Tasks.{Wish};
@@ -51,9 +51,9 @@ fn remesh_mesh<O: Sink>(
 ) -> Result<(), Refusal>
     requires range { AreInRange asked.settings asked.auto }
     requires mesh { read.mesh ≡ read.soup.faces }
-    ensures done { OnOk result (WroteText (IsRemeshed asked.settings asked.auto read.soup)
+    ensures done { OnOk result (WroteText (IsShown (task_of asked read.soup) read.soup)
         (change (O.state out.old) (O.state out.new))) }
-    ensures refused { IfErr result (IsUnwritten (IsRemeshed asked.settings asked.auto read.soup)
+    ensures refused { IfErr result (IsUnwritten (IsShown (task_of asked read.soup) read.soup)
         (FailsTask (task_of asked read.soup) read.soup)
         (stream O.state out.old out.new)) }
 {

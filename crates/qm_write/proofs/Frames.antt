@@ -13,7 +13,8 @@ use Rattle.def_io.specs.Bytes.{Bytes}
 use Rattle.def_layout.specs.Plans.{Plan}
 use Rattle.def_remesh.specs.NewPoints.{lengths_in}
 use Rattle.def_remesh.specs.NewSoup.{new_soup}
-use Rattle.def_remesh.specs.Remeshed.{certificate_lines, remeshed_text, text_behind_head, used, AreKept}
+use Rattle.def_remesh.specs.Certified.{AreKept}
+use Rattle.def_remesh.specs.Remeshed.{certificate_lines, remeshed_text, text_behind_head, used}
 use Rattle.def_text.specs.Canonical.{canonical_text}
 use Rattle.def_text.specs.FaceSet.{FaceSet}
 use Rattle.qm_write.specs.Joined.{joined}

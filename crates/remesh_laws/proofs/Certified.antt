@@ -11,7 +11,7 @@ use Rattle.def_layout.specs.Lengths.{size, AreLengths}
 use Rattle.def_layout.specs.Plans.{Plan, layout_of}
 use Rattle.def_layoutnet.specs.LayoutNetLaws.{sum_along, AreOpposite}
 use Rattle.def_remesh.specs.NewPoints.{lengths_in}
-use Rattle.def_remesh.specs.Remeshed.{IsCertified}
+use Rattle.def_remesh.specs.Remeshed.{HasLeastLengths}
 use Rattle.def_remesh.specs.Tasks.{Wish}
 
 -- The size of a side is the sum of its whole numbers.
@@ -30,11 +30,11 @@ opposite_lengths l xs some opposite = record {
   upright = λ p low. sym (same_size l xs p east west (opposite.upright p low));
 }
 
-pub certified_lengths : {wish : Wish} (plan : Plan) (settings : Settings) (cert : Lists) → 1 ≤ settings.floor → IsCertified wish plan settings cert
+pub certified_lengths : {wish : Wish} (plan : Plan) (settings : Settings) (cert : Lists) → 1 ≤ settings.floor → HasLeastLengths wish plan settings cert
     → AreLengths (layout_of plan) (lengths_in cert.x)
 certified_lengths plan settings cert floor is = opposite_lengths (layout_of plan) cert.x some is.opposite
   where
     some : (a : ℕ) → a < length plan.arcs → 0 < slice_index cert.x a
     some a low =
-        let high = is.accepted.admissible.high a (omega (arith, low, is.of_layout.long)) in
+        let high = is.least.admissible.high a (omega (arith, low, is.of_layout.long)) in
         omega (arith, ints, high, floor, is.of_layout.floor)

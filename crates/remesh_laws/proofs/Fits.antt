@@ -5,7 +5,8 @@ use Rattle.def_flow.specs.declared.cert.Cert.{Cert}
 use Rattle.def_flow.specs.declared.net.Settings.{Settings}
 use Rattle.def_layout.specs.Plans.{Plan}
 use Rattle.def_remesh.specs.Refusals.{AreAllCoarse, AreTooFine, IsDoubledBy, IsFineBy, IsLeastFor, IsRemeshable}
-use Rattle.def_remesh.specs.Remeshed.{IsCertified, with_floor}
+use Rattle.def_remesh.specs.Certified.{IsCertified}
+use Rattle.def_remesh.specs.Remeshed.{with_floor}
 use Rattle.def_remesh.specs.Tasks.{Wish}
 use Rattle.def_remesh.specs.declared.kept.Kept.{Kept}
 use Rattle.def_remesh.specs.declared.kept.Kept.TheVariants.{Multiple, Least, Raised}
@@ -13,7 +14,7 @@ use Rattle.def_remesh.specs.declared.kept.Kept.TheVariants.{Multiple, Least, Rai
 -- Certified lengths are a least list.
 least_for : {wish : Wish} (plan : Plan) (settings : Settings) (cert : Lists) → IsCertified wish plan settings cert → IsLeastFor wish plan settings cert.x
 least_for plan settings cert is =
-    record { net = is.net; of_layout = is.of_layout; count = is.accepted.count ∙ is.of_layout.long; least = is.least }
+    record { net = is.lengths.net; of_layout = is.lengths.of_layout; count = is.lengths.count ∙ is.lengths.of_layout.long; least = is.lengths.least }
 
 -- So they give too many faces only where some least list does.
 not_fine : (wish : Wish) (plan : Plan) (settings : Settings) (cert : Lists) (faces : ℕ) → AreAllCoarse wish plan settings → IsCertified wish plan settings cert

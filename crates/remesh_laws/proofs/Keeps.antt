@@ -24,7 +24,8 @@ use Rattle.def_written.specs.NewFaces.{new_faces}
 use Rattle.def_remesh.specs.Keeping.{IsKept}
 use Rattle.def_remesh.specs.NewPoints.{lengths_in}
 use Rattle.def_remesh.specs.Refusals.{AreTooFine}
-use Rattle.def_remesh.specs.Remeshed.{AreCoarse, AreDoubled, AreKept, finished_text, IsCertified, IsFinished, used, with_floor}
+use Rattle.def_remesh.specs.Certified.{AreKept, IsCertified, IsShown}
+use Rattle.def_remesh.specs.Remeshed.{AreKeptBy, HasLeastLengths, AreCoarse, AreDoubled, finished_text, used, with_floor}
 use Rattle.def_remesh.specs.Stitched.{AreLong, AreSafe, IsUnstitched, KeepsShapes}
 use Rattle.def_remesh.specs.Tasks.{Task, Wish}
 use Rattle.def_remesh.specs.declared.fail.StitchFail.{StitchFail}
@@ -45,7 +46,7 @@ pub are_lengths : {wish : Wish} (plan : Plan) (settings : Settings) (net : Netwo
     → IsSolution net (certificate cert) → xs ≡ cert.x.items → AreArcLengths (layout_of plan) (lengths_in xs)
 are_lengths plan settings net cert xs for is same =
     subst (λ (ys : List ℕ). AreArcLengths (layout_of plan) (lengths_in ys)) (sym same)
-    (certified_lengths plan settings (lists_of cert) for.floor (solved plan settings net cert for is))
+    (certified_lengths plan settings (lists_of cert) for.floor (solved plan settings net cert for is).lengths)
 
 -- The network with floor 3.
 pub raised_net : {wish : Wish} (plan : Plan) (settings : Settings) (net other : Network) → IsNetFor wish plan settings net → other ≡ record net { floor = 3 }
@@ -140,8 +141,8 @@ low_floor plan settings cert xs result fail u v same is safe told doubled = by_f
   where
     long : MAX_FLOOR ≤ settings.floor → AreLong plan (lengths_in cert.x.items)
     long high a low =
-        let above = is.accepted.admissible.high a (omega (arith, low, is.of_layout.long)) in
-        omega (arith, ints, above, high, is.of_layout.floor)
+        let above = is.lengths.least.admissible.high a (omega (arith, low, is.lengths.of_layout.long)) in
+        omega (arith, ints, above, high, is.lengths.of_layout.floor)
 
     by_floor : (settings.floor < MAX_FLOOR) ⊎ (MAX_FLOOR ≤ settings.floor) → settings.floor < MAX_FLOOR
     by_floor (inl low) = low
@@ -156,18 +157,28 @@ kept_shape soup plan xs lies shapes = subst
     lies.1
     (shapes lies.0.faces lies.0.marks lies.0.mesh lies.0.quads lies.0.cut lies.0.laid)
 
--- What is kept of a layout that a task's cut gives finishes the task.
-pub finished : (task : Task) (soup : FaceSet) (plan : Plan) (first : Lists) (third : _) (tables : Tables) → IsLayoutIn soup.faces plan
+-- Accepted certificates have least lengths.
+pub least_of : (wish : Wish) (plan : Plan) (settings : Settings) (auto : Bool) (first : Lists) (third : _) → AreKept wish plan settings auto first third
+    → AreKeptBy (HasLeastLengths wish plan) plan settings auto first third
+least_of wish plan settings auto first None kept = kept.lengths
+least_of wish plan settings true first (Some third) kept = (kept.0.lengths, kept.1, kept.2, kept.3.lengths)
+least_of wish plan settings false first (Some third) kept = absurd kept
+
+-- What is kept of a layout that a task's cut gives finishes the task, and shows it.
+pub shown : (task : Task) (soup : FaceSet) (plan : Plan) (first : Lists) (third : _) (tables : Tables) → IsLayoutIn soup.faces plan
     → IsLayoutOf soup.faces task.marks plan → IsKept task.wish plan task.settings task.auto first third tables
-    → IsFinished task soup (finished_text task soup plan first third)
-finished task soup plan first third tables lies cut kept = record {
-  plan = plan;
-  cut = cut;
-  first = first;
-  third = third;
-  lengths = kept.kept;
-  coarse = kept.coarse;
-  undoubled = kept.undoubled;
-  written = refl;
-  shape = kept_shape soup plan (used first third).x lies kept.shape;
+    → IsShown task soup (finished_text task soup plan first third)
+shown task soup plan first third tables lies cut kept = record {
+  finished = record {
+    plan = plan;
+    cut = cut;
+    first = first;
+    third = third;
+    lengths = least_of task.wish plan task.settings task.auto first third kept.kept;
+    coarse = kept.coarse;
+    undoubled = kept.undoubled;
+    written = refl;
+    shape = kept_shape soup plan (used first third).x lies kept.shape;
+  };
+  certified = kept.kept;
 }

@@ -19,7 +19,7 @@ use Rattle.def_layout.specs.Plans.{Plan, layout_of}
 use Rattle.def_layoutnet.specs.LayoutNet.{IsNetOf}
 use Rattle.def_layoutnet.specs.MeshLayouts.{IsMeshLayout}
 use Rattle.def_matching.specs.Dual.{is_up, AreSmall}
-use Rattle.def_remesh.specs.Remeshed.{certificate_of, IsCertified}
+use Rattle.def_remesh.specs.Certified.{certificate_of, IsCertified}
 use Rattle.def_remesh.specs.Tasks.{Wish}
 use Rattle.qm_layoutnet.proofs.Balance.{balance_law}
 use Rattle.plan_laws.proofs.MeshLayouts.{laid_of}
@@ -68,13 +68,16 @@ pub certified : (wish : Wish) (plan : Plan) (settings : Settings) (net : Network
     → IsNetOf (layout_of plan) (wish plan) settings net → IsWithinBounds net → tangle_number net ≤ MAX_TANGLE
     → IsSolution net (certificate_of cert) → IsCertified wish plan settings cert
 certified wish plan settings net cert is of_layout bounds untangled solved = record {
-  net = net;
-  of_layout = of_layout;
-  untangled = untangled;
+  lengths = record {
+    net = net;
+    of_layout = of_layout;
+    untangled = untangled;
+    count = solved.accepted.count;
+    opposite = (balance_law (layout_of plan) (wish plan) settings net (laid_of plan is) of_layout (entries cert.x)).0 solved.accepted.admissible.balanced;
+    least = sound net (certificate_of cert) bounds solved.accepted;
+    writable = record { ups = ups; allowed = allowed };
+  };
   accepted = solved.accepted;
-  opposite = (balance_law (layout_of plan) (wish plan) settings net (laid_of plan is) of_layout (entries cert.x)).0 solved.accepted.admissible.balanced;
-  least = sound net (certificate_of cert) bounds solved.accepted;
-  writable = record { ups = ups; allowed = allowed };
 }
   where
     ups : HasUps cert

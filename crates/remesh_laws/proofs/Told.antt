@@ -11,7 +11,7 @@ use Rattle.def_layout.specs.Lengths.{AreLengths}
 use Rattle.def_text.specs.FaceSet.{FaceSet}
 use Rattle.def_remesh.specs.NewPoints.{lengths_in}
 use Rattle.def_remesh.specs.NewSoup.{new_soup}
-use Rattle.def_remesh.specs.Remeshed.{AreKept, remeshed_text, used, with_floor}
+use Rattle.def_remesh.specs.Remeshed.{AreKeptBy, HasLeastLengths, remeshed_text, used, with_floor}
 use Rattle.def_remesh.specs.Tasks.{Wish}
 use Rattle.def_remesh.specs.TextLaws.{made_by, ToldLaw}
 use Rattle.qm_certtext.proofs.Texts.{chosen_law, written_law}
@@ -20,14 +20,14 @@ use Rattle.remesh_laws.proofs.Printable.{mesh_layout, printable}
 
 -- The lengths that are used are lengths of the layout.
 pub used_lengths : (wish : Wish) (plan : Plan) (settings : Settings) (auto : Bool) (first : Lists) (third : Option Lists) → AreInRange settings auto
-    → AreKept wish plan settings auto first third → AreLengths (layout_of plan) (lengths_in (used first third).x)
+    → AreKeptBy (HasLeastLengths wish plan) plan settings auto first third → AreLengths (layout_of plan) (lengths_in (used first third).x)
 used_lengths wish plan settings auto first None range kept = certified_lengths plan settings first range.floor.low kept
 used_lengths wish plan settings true first (Some third) range kept = certified_lengths plan (with_floor settings 3) third (omega arith) kept.3
 used_lengths wish plan settings false first (Some third) range kept = absurd kept
 
 -- The text of kept certificates tells them alone.
 pub kept_told : (wish : Wish) (plan : Plan) (settings : Settings) (auto : Bool) (soup : FaceSet) (first : Lists) (third : Option Lists) → AreInRange settings auto
-    → IsPrintable (new_soup soup plan (lengths_in (used first third).x)) → AreKept wish plan settings auto first third
+    → IsPrintable (new_soup soup plan (lengths_in (used first third).x)) → AreKeptBy (HasLeastLengths wish plan) plan settings auto first third
     → TellsOnly (remeshed_text settings auto soup plan first third) (made_by settings auto first third)
 kept_told wish plan settings false soup first None range fine kept = written_law settings (new_soup soup plan (lengths_in first.x)) first range fine kept.writable
 kept_told wish plan settings false soup first (Some third) range fine kept = absurd kept

@@ -6,7 +6,8 @@ use Rattle.def_layout.specs.Plans.{Plan, layout_of}
 use Rattle.def_written.specs.Edges.{IsUndoubled}
 use Rattle.def_remesh.specs.NewPoints.{lengths_in}
 use Rattle.def_remesh.specs.Numberings.{IsNumbering}
-use Rattle.def_remesh.specs.Remeshed.{AreCoarse, AreDoubled, IsCertified}
+use Rattle.def_remesh.specs.Certified.{IsCertified}
+use Rattle.def_remesh.specs.Remeshed.{AreCoarse, AreDoubled}
 use Rattle.def_remesh.specs.Stitched.{KeepsShapes}
 use Rattle.def_remesh.specs.Tasks.{Wish}
 use Rattle.def_remesh.specs.declared.tables.Tables.{Tables}

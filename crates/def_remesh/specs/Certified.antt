@@ -1,0 +1,29 @@
+-- What shows that lengths are least: certificates that are accepted.
+use Rattle.std.specs.Prelude.{Bool, Option}
+use Rattle.def_certtext.specs.CertLines.{Lists}
+use Rattle.def_flow.specs.Accepted.{Certificate, IsAccepted}
+use Rattle.def_flow.specs.declared.net.Settings.{Settings}
+use Rattle.def_io.specs.Bytes.{Bytes}
+use Rattle.def_layout.specs.Plans.{Plan}
+use Rattle.def_text.specs.FaceSet.{FaceSet}
+use Rattle.def_remesh.specs.Remeshed.{AreKeptBy, HasLeastLengths, IsFinished}
+use Rattle.def_remesh.specs.Tasks.{Task, Wish}
+
+-- The lists of a certificate, as the checker takes them.
+abbrev pub certificate_of : (lists : Lists) → Certificate
+certificate_of lists = record { x = lists.x; dual = record { y = lists.y; z = lists.z; up = lists.up } }
+
+-- A certificate that is accepted for its network, so that its lengths are least.
+pub record IsCertified (wish : Wish) (plan : Plan) (settings : Settings) (cert : Lists) : Type 0 where
+  pub lengths : HasLeastLengths wish plan settings cert
+  pub accepted : IsAccepted lengths.net (certificate_of cert)
+
+-- The accepted certificates of a remesh.
+abbrev pub AreKept :
+    (wish : Wish) (plan : Plan) (settings : Settings) (auto : Bool) (first : Lists) (third : Option Lists) → Type 0
+AreKept wish plan settings auto first third = AreKeptBy (IsCertified wish plan) plan settings auto first third
+
+-- A task that is finished for a soup, as accepted certificates show.
+pub record IsShown (task : Task) (soup : FaceSet) (text : Bytes) : Type 0 where
+  pub finished : IsFinished task soup text
+  pub certified : AreKept task.wish finished.plan task.settings task.auto finished.first finished.third
