@@ -4,14 +4,14 @@ use Rattle.std.specs.List.{list_any}
 use Rattle.std.proofs.Math.Bool.{or-false}
 use Rattle.std.proofs.lemmas.List.{ext_get_or, length-map, length-replicate}
 use Rattle.def_mesh.specs.Faces.{Faces}
-use Rattle.def_mesh.specs.Darts.{from_of, to_of, twin_of}
+use Rattle.def_mesh.specs.Darts.{all_darts, from_of, to_of, twin_of}
 use Rattle.def_mesh.specs.Manifold.{IsManifold}
 use Rattle.def_mesh.specs.Vertices.{vertex_count}
 use Rattle.def_mesh.specs.Components.{start_darts}
 use Rattle.def_cut.specs.FullCut.{is_on}
 use Rattle.def_cut.specs.declared.moving.Moving.{Moving}
 use Rattle.def_cut.specs.Motion.{begun, is_among}
-use Rattle.def_cut.specs.Traced.{last_state, terrain_of}
+use Rattle.def_cut.specs.Traced.{last_state, terrain_of, traced_marks}
 use Rattle.def_cut.specs.Events.{EventState, NobodyRuns, IsMotionOf, after_ride_of, after_settling, closed, darts_in, decided_at, are_ends_settled, mark_twin, marked_from, may_settle, note_at, ridden_once_more, rider_at, waiting}
 use Rattle.def_cut.specs.Views.{MotionView}
 use Rattle.motion_laws.proofs.Marks.{from_marks, marked_long, none_on}
@@ -20,9 +20,10 @@ use Rattle.site_laws.proofs.Laws.{order_law}
 use Rattle.site_laws.proofs.Sites.{started}
 use Rattle.qm_trace.specs.declared.telling.Riders.{Riders}
 use Rattle.qm_trace.specs.Motions.{AreCounted, is_untold, runs_on, tally}
-use Rattle.qm_trace.specs.Tables.{AreCovered}
+use Rattle.qm_trace.specs.Tables.{is_closed_at}
+use Rattle.qm_trace.proofs.Ends.{cut_is}
 use Rattle.qm_trace.proofs.Counting.{all_run, all_wait, none_untold, tally_runs}
-use Rattle.qm_trace.proofs.Reaching.{covered_long, noted_where}
+use Rattle.qm_trace.proofs.Reaching.{noted_where}
 use Rattle.qm_trace.proofs.Settled.{are_ends, ends_decided}
 
 -- A motion with this state.
@@ -51,8 +52,8 @@ ends_now faces m x z v may u on = by_dart (ends_decided faces m x z v may (are_e
 pub end_riders : (faces : Faces) → IsManifold faces → (x : EventState) → IsMotionOf faces x → NobodyRuns x → x.riders ≡ (last_state faces).riders
 end_riders faces m x z none = (order_law faces m z.0 x z.1).same_riders none
 
-pub end_covered : (faces : Faces) → IsManifold faces → (x : EventState) → IsMotionOf faces x → NobodyRuns x → AreCovered faces x.covered
-end_covered faces m x z none = record { long = covered_long faces m x z; each = (order_law faces m z.0 x z.1).same_edges none }
+pub end_cut : (faces : Faces) → IsManifold faces → (x : EventState) → IsMotionOf faces x → NobodyRuns x → map (is_closed_at faces x.covered) (all_darts faces) ≡ traced_marks faces
+end_cut faces m x z none = cut_is faces (last_state faces) x.covered ((order_law faces m z.0 x z.1).same_edges none)
 
 -- The first state.
 pub first_stood : (faces : Faces) → IsManifold faces → (nowhere stood : List Bool) (starts : List ℕ) → nowhere ≡ replicate (vertex_count faces) false → length stood ≡ length nowhere → starts ≡ start_darts faces

@@ -11,7 +11,7 @@ use Rattle.def_cut.specs.FullCut.{is_on}
 use Rattle.def_cut.specs.declared.graph.Stop.{Stop}
 use Rattle.def_cut.specs.declared.graph.Stop.TheVariants.{Middle, Boundary, Singular, Trail, Tie}
 use Rattle.def_cut.specs.declared.moving.Moving.{Moving}
-use Rattle.def_cut.specs.Motion.{Terrain, end_of, with_next, ridden, is_among, is_met, arrivals, goes_on, stop_of, after_steps}
+use Rattle.def_cut.specs.Motion.{Terrain, end_of, with_next, ridden, is_among, is_met, arrivals, goes_on, stop_of, start, after_steps}
 use Rattle.def_cut.specs.Traced.{terrain_of}
 use Rattle.def_cut.specs.Events.{EventState, darts_in, rider_at, note_at, may_ride, after_ride_of, told_at, all_told, Event, May, after_event, Leads, rides_in, first_event_state, IsMotionOf}
 use Rattle.def_cut.specs.Events.Event.{Ride}
@@ -23,7 +23,7 @@ use Rattle.motion_laws.proofs.Steps.{next_is}
 use Rattle.motion_laws.proofs.Terrains.{IsReached}
 use Rattle.motion_laws.proofs.Traced.{after_reached}
 use Rattle.site_laws.proofs.Sites.{terrain, started}
-use Rattle.qm_trace.proofs.Steps.{rides_low}
+use Rattle.qm_trace.proofs.Steps.{begun_low, rides_low}
 
 -- One event more.
 pub leads_more : (g : Terrain) (a x : EventState) (es : List Event) (e : Event) → Leads g a es x → May g x e → Leads g a (es ++ e ∷ []) (after_event g x e)
@@ -111,7 +111,7 @@ module _ (faces : Faces) (m : IsManifold faces) where
   rode_before k (suc j) e n =
       let s : suc j + k ≡ suc (j + k) = omega arith in
       let m2 : is_among e (ridden (after_steps (terrain_of faces) (start_darts faces) (suc (j + k))).riders) ≡ true = ap (λ i. is_among e (ridden (after_steps (terrain_of faces) (start_darts faces) i).riders)) (sym s) ∙ n in
-      by_dart (next_is (terrain_of faces) (terrain faces m) (start_darts faces) (after_steps (terrain_of faces) (start_darts faces) (j + k)) (reached_at (j + k)) e m2) (rode_before k j)
+      by_dart (next_is (terrain_of faces) (terrain faces m) (λ x. is_among x (start_darts faces)) (start (terrain_of faces) (start_darts faces)) (after_steps (terrain_of faces) (start_darts faces) (j + k)) (reached_at (j + k)) e m2) (rode_before k j)
     where
       by_dart : (d : ℕ) × (is_among d (ridden (after_steps (terrain_of faces) (start_darts faces) (j + k)).riders) ≡ true) × Rattle.motion_laws.proofs.Steps.IsNext (terrain_of faces) (terrain faces m) (after_steps (terrain_of faces) (start_darts faces) (j + k)).stood (ridden (after_steps (terrain_of faces) (start_darts faces) (j + k)).riders) d e
           → ((c : ℕ) → is_among c (ridden (after_steps (terrain_of faces) (start_darts faces) (j + k)).riders) ≡ true → (d : ℕ) × (is_among d (ridden (after_steps (terrain_of faces) (start_darts faces) k).riders) ≡ true)) → (d : ℕ) × (is_among d (ridden (after_steps (terrain_of faces) (start_darts faces) k).riders) ≡ true)
@@ -156,7 +156,7 @@ module _ (faces : Faces) (m : IsManifold faces) where
     as_begun = (shown_r r low).1 ∙ ap (shown_by (terrain_of faces) (after_steps (terrain_of faces) (start_darts faces) (within_of x z).instant).stood (ridden (after_steps (terrain_of faces) (start_darts faces) (within_of x z).instant).riders) (is_on x.settled) (rider_at (after_steps (terrain_of faces) (start_darts faces) (within_of x z).instant).riders r)) ride_fresh
 
     pub ride_few : (rider_at x.riders r).rides < vertex_count faces
-    ride_few = omega (arith, ap (λ (q : Moving). q.rides) as_begun, rides_low faces (within_of x z).instant r, steps_few (within_of x z).instant (rider_at x.riders r).dart ride_rode.1)
+    ride_few = omega (arith, ap (λ (q : Moving). q.rides) as_begun, rides_low (terrain_of faces) (start (terrain_of faces) (start_darts faces)) (begun_low (start_darts faces)) (within_of x z).instant r, steps_few (within_of x z).instant (rider_at x.riders r).dart ride_rode.1)
 
     pub ride_runs : (rider_at x.riders r).stop ≡ None
     ride_runs = (Rattle.motion_laws.proofs.Shown.waits_runs (terrain_of faces) (after_steps (terrain_of faces) (start_darts faces) (within_of x z).instant).stood (ridden (after_steps (terrain_of faces) (start_darts faces) (within_of x z).instant).riders) (rider_at x.riders r).stop (note_at x.noted r) may).0

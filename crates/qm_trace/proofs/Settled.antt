@@ -11,7 +11,7 @@ use Rattle.def_mesh.specs.Vertices.{fan_of, vertex_count}
 use Rattle.def_mesh.specs.Components.{start_darts}
 use Rattle.def_cut.specs.FullCut.{is_on}
 use Rattle.def_cut.specs.declared.moving.Moving.{Moving}
-use Rattle.def_cut.specs.Motion.{State, end_of, ridden, is_among, arrives_at, stop_of, or_else, straight, begun, step, after_steps}
+use Rattle.def_cut.specs.Motion.{State, end_of, ridden, is_among, arrives_at, stop_of, or_else, straight, begun, step, start, after_steps}
 use Rattle.def_cut.specs.Traced.{terrain_of}
 use Rattle.def_cut.specs.Events.{EventState, waiting, darts_in, rider_at, note_at, may_ride, after_ride_of, leads_to, may_settle, told, told_at, all_told, decided_at, are_ends_settled, closed, after_settling, Event, Leads, first_event_state, ridden_once_more, IsMotionOf}
 use Rattle.def_cut.specs.Events.Event.{Ride, Settle}
@@ -29,7 +29,7 @@ use Rattle.qm_trace.specs.declared.telling.Riders.{Riders}
 use Rattle.qm_trace.specs.Motions.{AreNotes, CanTell, is_untold, tally, told_by}
 use Rattle.qm_trace.specs.Tables.{IsSite, stop_by, stop_here}
 use Rattle.qm_trace.proofs.Counting.{untold_is}
-use Rattle.qm_trace.proofs.Instants.{stop_same}
+use Rattle.qm_trace.proofs.Instants.{IsTold, stop_same}
 use Rattle.qm_trace.proofs.Reaching.{leads_more, noted_among, reached_at, ride_fresh, ride_noted, shown_at, stop_alike, told_place, within_of}
 
 -- Some noted dart ends at v, by the marks at the darts before those that leave v.
@@ -114,9 +114,12 @@ module _ (faces : Faces) (m : IsManifold faces) where
     marked : (d : ℕ) → is_on notes.taken.items d ≡ is_among d (ridden (after_steps (terrain_of faces) (start_darts faces) (within_of faces m x z).instant).riders)
     marked d = are.taken_is d ∙ ap (is_among d) (ap darts_in noted_is ∙ all_noted)
 
+    told_now : IsTold faces (after_steps (terrain_of faces) (start_darts faces) (within_of faces m x z).instant)
+    told_now = record { apart = (reached_at faces m (within_of faces m x z).instant).apart; low = (reached_at faces m (within_of faces m x z).instant).low; left = (reached_at faces m (within_of faces m x z).instant).left }
+
     -- Why a rider that ends at v stops, by the tables, by the motion and by the events.
     stop_then : (d : ℕ) → is_among d (darts_in x.noted) ≡ true → to_of faces d ≡ v → stop_here faces site notes.taken.items d ≡ stop_of (terrain_of faces) (after_steps (terrain_of faces) (start_darts faces) (within_of faces m x z).instant).stood (ridden (after_steps (terrain_of faces) (start_darts faces) (within_of faces m x z).instant).riders) d
-    stop_then d n e = by_site ∙ stop_same faces m (within_of faces m x z).instant notes.taken.items marked d (is_on x.stood v) (among_ridden d n) (then ∙ ap (after_steps (terrain_of faces) (start_darts faces) (within_of faces m x z).instant).stood (sym e))
+    stop_then d n e = by_site ∙ stop_same faces m (after_steps (terrain_of faces) (start_darts faces) (within_of faces m x z).instant) told_now notes.taken.items marked d (is_on x.stood v) (among_ridden d n) (then ∙ ap (after_steps (terrain_of faces) (start_darts faces) (within_of faces m x z).instant).stood (sym e))
       where
         by_site : stop_here faces site notes.taken.items d ≡ stop_by faces (not (Rattle.def_mesh.specs.Kinds.is_inner faces (to_of faces d))) (Rattle.def_mesh.specs.Kinds.is_singular faces (to_of faces d)) (is_on x.stood v) notes.taken.items d
         by_site = rw (at_v.boundary, at_v.singular, at_v.stood_is, e) refl
@@ -191,7 +194,7 @@ module _ (faces : Faces) (m : IsManifold faces) where
             ap (λ b. b || list_any (arrives_at (terrain_of faces) (darts_in x.noted) v) (darts_in x.noted)) then
             ∙ (ap (λ (ds : List ℕ). (after_steps (terrain_of faces) (start_darts faces) (within_of faces m x z).instant).stood v || list_any (arrives_at (terrain_of faces) ds v) ds) all_noted
             ∙ (ap (step (terrain_of faces) (after_steps (terrain_of faces) (start_darts faces) (within_of faces m x z).instant)).stood (sym (eqb-true (end_of (terrain_of faces) d) v t))
-            ∙ stands (terrain_of faces) (terrain faces m) (start_darts faces) (after_steps (terrain_of faces) (start_darts faces) (within_of faces m x z).instant) (reached_at faces m (within_of faces m x z).instant) d (among_ridden d n)))
+            ∙ stands (terrain_of faces) (terrain faces m) (λ e. is_among e (start_darts faces)) (start (terrain_of faces) (start_darts faces)) (after_steps (terrain_of faces) (start_darts faces) (within_of faces m x z).instant) (reached_at faces m (within_of faces m x z).instant) d (among_ridden d n)))
 
     -- The instant ends where nobody is untold.
     pub closed_where : eqb (tally is_untold (decided_at (terrain_of faces) x v).riders x.noted) 0 ≡ are_ends_settled (terrain_of faces) (set x.settled v true) (darts_in x.noted)

@@ -1,19 +1,20 @@
 -- The tables of the trace.
 use Rattle.std.specs.Prelude.{◌≡◌, ℕ, suc, slice_set, ◌+◌, ◌^◌, ◌<◌, Bool, true, false}
-use Rattle.std.specs.Prelude.{cond, not, [], ◌∷◌, ◌||◌, List, length, Option, Some, None}
+use Rattle.std.specs.Prelude.{cond, not, [], ◌∷◌, ◌||◌, List, length, is_some, Option, Some, None}
 use Rattle.def_mesh.specs.Faces.{Faces}
 use Rattle.def_mesh.specs.Darts.{darts, from_of, prev_of, twin_of}
 use Rattle.def_mesh.specs.Vertices.{vertex_count}
 use Rattle.def_mesh.specs.Kinds.{is_inner, is_singular}
-use Rattle.def_mesh.specs.Components.{start_darts}
 use Rattle.def_cut.specs.FullCut.{is_on}
 use Rattle.def_cut.specs.declared.graph.Stop.{Stop}
 use Rattle.def_cut.specs.declared.graph.Stop.TheVariants.{Middle, Boundary, Singular, Trail, Tie}
 use Rattle.def_cut.specs.declared.moving.Moving.{Moving}
 use Rattle.qm_trace.specs.declared.ground.Site.{Site}
-use Rattle.def_cut.specs.Motion.{end_of, ridden, is_among, after_ride, after_steps}
+use Rattle.def_cut.specs.Motion.{end_of, ridden, is_among, after_ride, later}
 use Rattle.def_cut.specs.Events.{rider_at}
-use Rattle.def_cut.specs.Traced.{finish, last_state, terrain_of}
+use Rattle.def_cut.specs.Traced.{finish, terrain_of}
+use Rattle.def_feature.specs.Marks.{AreMarks}
+use Rattle.def_feature.specs.Marked.{marked_first, marked_last}
 
 -- Of each vertex, whether it lies at the boundary and whether it is singular.
 pub record IsGround (faces : Faces) (boundary singular : List Bool) : Type 0 where
@@ -82,12 +83,13 @@ pub record IsQueue (riders : List Moving) (queue : List ℕ) : Type 0 where
 
 -- The riders after k steps of the motion, with marks where riders have stood and at the darts that are ridden next.
 pub record IsInstant
-    (faces : Faces) (k : ℕ) (riders : List Moving) (queue : List ℕ) (stood taken : List Bool)
+    (faces : Faces) (marks : List Bool) (k : ℕ) (riders : List Moving) (queue : List ℕ) (stood taken : List Bool)
     : Type 0 where
-  pub riders_are : riders ≡ (after_steps (terrain_of faces) (start_darts faces) k).riders
+  pub marked : AreMarks faces marks
+  pub riders_are : riders ≡ (later (terrain_of faces) (marked_first faces marks) k).riders
   pub waits : IsQueue riders queue
   pub stood_is : (v : ℕ) → v < vertex_count faces
-      → is_on stood v ≡ (after_steps (terrain_of faces) (start_darts faces) k).stood v
+      → is_on stood v ≡ (later (terrain_of faces) (marked_first faces marks) k).stood v
   pub taken_is : (d : ℕ) → is_on taken d ≡ is_among d (ridden riders)
 
 -- Each of these darts is a dart.
@@ -112,15 +114,18 @@ pub record CanRide (faces : Faces) (riders : List Moving) (queue : List ℕ) : T
   pub apart : AreEachOnce queue
 
 -- The tables after k steps of the motion, between two steps.
-pub record IsTableAt (faces : Faces) (k : ℕ) (riders : List Moving) (stood covered taken : List Bool) : Type 0 where
-  pub riders_are : riders ≡ (after_steps (terrain_of faces) (start_darts faces) k).riders
+pub record IsTableAt
+    (faces : Faces) (marks : List Bool) (k : ℕ) (riders : List Moving) (stood covered taken : List Bool)
+    : Type 0 where
+  pub marked : AreMarks faces marks
+  pub riders_are : riders ≡ (later (terrain_of faces) (marked_first faces marks) k).riders
   pub stood_long : length stood ≡ vertex_count faces
   pub covered_long : length covered ≡ darts faces
   pub taken_long : length taken ≡ darts faces
   pub stood_is : (v : ℕ) → v < vertex_count faces
-      → is_on stood v ≡ (after_steps (terrain_of faces) (start_darts faces) k).stood v
+      → is_on stood v ≡ (later (terrain_of faces) (marked_first faces marks) k).stood v
   pub covered_is : (d : ℕ) → d < darts faces
-      → is_on covered d ≡ (after_steps (terrain_of faces) (start_darts faces) k).covered d
+      → is_on covered d ≡ (later (terrain_of faces) (marked_first faces marks) k).covered d
   pub taken_none : (d : ℕ) → is_on taken d ≡ false
 
 -- The marks with that of d, where there is no twin.
@@ -128,17 +133,21 @@ abbrev pub closed_at : (twin : Option ℕ) (marks : List Bool) (d : ℕ) → Lis
 closed_at None marks d = slice_set marks d true
 closed_at (Some t) marks d = marks
 
--- The marks of the darts whose edges are covered when nobody runs.
-pub record AreCovered (faces : Faces) (marks : List Bool) : Type 0 where
-  pub long : length marks ≡ darts faces
-  pub each : (d : ℕ) → d < darts faces → is_on marks d ≡ (last_state faces).covered d
+-- Whether the edge of d is in the graph: it is covered, or at the boundary.
+abbrev pub is_closed_at : (faces : Faces) (covered : List Bool) (d : ℕ) → Bool
+is_closed_at faces covered d = is_on covered d || not (is_some (twin_of faces d))
+
+-- Each rider has stopped.
+abbrev pub HaveStopped : (riders : List Moving) → Type 0
+HaveStopped riders = (r : ℕ) → r < length riders → is_some (rider_at riders r).stop ≡ true
 
 -- The riders and the covered darts when nobody runs.
-pub record IsEnd (faces : Faces) (riders : List Moving) (covered : List Bool) : Type 0 where
-  pub riders_are : riders ≡ (last_state faces).riders
-  pub covered_are : AreCovered faces covered
+pub record IsEnd (faces : Faces) (marks : List Bool) (riders : List Moving) (covered : List Bool) : Type 0 where
+  pub riders_are : riders ≡ (marked_last faces marks).riders
+  pub covered_long : length covered ≡ darts faces
+  pub covered_is : (d : ℕ) → d < darts faces → is_on covered d ≡ (marked_last faces marks).covered d
 
 -- The motion, on from k steps, comes to its last state.
-abbrev pub IsOnItsWay : (faces : Faces) (k : ℕ) → Type 0
-IsOnItsWay faces k = (more : ℕ) → k + more ≡ suc (vertex_count faces)
-    → finish (terrain_of faces) more (after_steps (terrain_of faces) (start_darts faces) k) ≡ last_state faces
+abbrev pub IsOnItsWay : (faces : Faces) (marks : List Bool) (k : ℕ) → Type 0
+IsOnItsWay faces marks k = (more : ℕ) → k + more ≡ suc (vertex_count faces)
+    → finish (terrain_of faces) more (later (terrain_of faces) (marked_first faces marks) k) ≡ marked_last faces marks

@@ -1,20 +1,19 @@
 //! What the motion leaves when no rider runs: the marks of the graph, and what became of each rider.
 
-ghost use Rattle.std.specs.Prelude.{◌≡◌, ◌<◌, ◌*◌, ◌||◌, ◌≤◌, not, is_some, ℕ, [], IsSome, length};
+ghost use Rattle.std.specs.Prelude.{◌≡◌, ◌<◌, ◌*◌, ◌||◌, ◌≤◌, not, is_some, ℕ, [], IsSome, length, map};
 ghost use Rattle.std.specs.Vec.{vec_capacity};
 ghost use Rattle.def_cut.specs.FullCut.{is_on};
-ghost use Rattle.def_cut.specs.Traced.{AreRiders, IsRiderOf, last_state, traced_marks};
-ghost use Rattle.def_mesh.specs.Components.{start_darts};
-ghost use Rattle.def_mesh.specs.Darts.{darts, twin_of};
-ghost use Rattle.qm_trace.specs.Tables.{AreCovered, closed_at};
+ghost use Rattle.def_cut.specs.Traced.{AreRiders, IsRiderOf};
+ghost use Rattle.def_mesh.specs.Darts.{all_darts, darts, twin_of};
+ghost use Rattle.qm_trace.specs.Tables.{HaveStopped, closed_at, is_closed_at};
 
 use def_cut::{Moving, Rider};
 use qm_mesh::Mesh;
 
 /// The marks of the graph, by those of the covered darts. Linear in the darts.
 pub(crate) fn close(mesh: &Mesh, mut covered: Vec<bool>) -> Vec<bool>
-    requires { AreCovered mesh.now covered.items }
-    ensures { result.items ≡ traced_marks mesh.now }
+    requires { length covered.items ≡ darts mesh.now }
+    ensures { result.items ≡ map (is_closed_at mesh.now covered.items) (all_darts mesh.now) }
 {
     close_each(mesh, &mut covered);
     covered
@@ -44,11 +43,12 @@ fn close_edge(mesh: &Mesh, d: u32, covered: &mut [bool])
 
 /// Puts down what became of each rider.
 pub(crate) fn tell_riders(mesh: &Mesh, starts: &[u32], riders: &[Moving], told: &mut Vec<Rider>)
-    requires starts { starts.now ≡ start_darts mesh.now }
-    requires riders { riders.now ≡ (last_state mesh.now).riders }
+    requires few { length starts.now ≤ darts mesh.now }
+    requires each { length riders.now ≡ length starts.now }
+    requires stopped { HaveStopped riders.now }
     requires empty { told.old.items ≡ [] }
     requires room { length starts.now ≤ vec_capacity told.old }
-    ensures { AreRiders (last_state mesh.now).riders (start_darts mesh.now) told.new.items }
+    ensures { AreRiders riders.now starts.now told.new.items }
 {
     let _known = mesh.faces();
     for (r, start) in starts.iter().enumerate() {

@@ -18,7 +18,7 @@ pub use deciding::gives_way;
 pub use def_cut::{Graph, Moving, Rider, Stop};
 pub use def_mesh::Starts;
 pub use motion::Motion;
-pub use tracing::trace;
+pub use tracing::{graph_from, trace};
 
 /// Memory was refused.
 pub type Memory = std::alloc::AllocError;

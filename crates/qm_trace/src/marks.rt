@@ -1,8 +1,9 @@
 //! Marks at the darts that are ridden in one step.
 
-ghost use Rattle.std.specs.Prelude.{◌≡◌, ◌<◌, ◌||◌, ◌==◌, ℕ, length, cond, true, slice_set};
+ghost use Rattle.std.specs.Prelude.{◌≡◌, ◌<◌, ◌&&◌, ◌||◌, ◌==◌, ℕ, length, cond, true, slice_set};
 ghost use Rattle.std.specs.List.{list_any};
-ghost use Rattle.def_mesh.specs.Darts.{darts, from_of, to_of, twin_of};
+ghost use Rattle.def_mesh.specs.Darts.{all_darts, darts, from_of, to_of, twin_of};
+ghost use Rattle.def_mesh.specs.Kinds.{is_end};
 ghost use Rattle.def_mesh.specs.Vertices.{vertex_count};
 ghost use Rattle.def_cut.specs.FullCut.{is_on};
 ghost use Rattle.def_cut.specs.Events.{mark_twin};
@@ -103,6 +104,44 @@ pub(crate) fn leave(mesh: &Mesh, starts: &[u32], mut stood: Vec<bool>) -> Vec<bo
 {
     leave_each(mesh, starts, &mut stood);
     stood
+}
+
+/// These marks with those of the ends of marked edges.
+pub(crate) fn stand_marked(mesh: &Mesh, marks: &[bool], mut stood: Vec<bool>) -> Vec<bool>
+    requires marks { length marks.now ≡ darts mesh.now }
+    requires long { length stood.items ≡ vertex_count mesh.now }
+    ensures long { length result.items ≡ length stood.items }
+    ensures each { (v : ℕ)
+        → is_on result.items v
+        ≡ (is_on stood.items v || list_any (λ d. is_on marks.now d && is_end mesh.now v d) (all_darts mesh.now)) }
+{
+    stand_ends(mesh, marks, &mut stood);
+    stood
+}
+
+/// Marks the ends of marked edges.
+fn stand_ends(mesh: &Mesh, marks: &[bool], stood: &mut [bool])
+    requires marks { length marks.now ≡ darts mesh.now }
+    requires long { length stood.old ≡ vertex_count mesh.now }
+    ensures { (v : ℕ) → is_on stood.new v
+        ≡ (is_on stood.old v || list_any (λ d. is_on marks.now d && is_end mesh.now v d) (all_darts mesh.now)) }
+{
+    for d in 0..4 * mesh.faces().len() as u32 {
+        stand_end(mesh, marks, d, stood);
+    }
+}
+
+/// Marks both ends of d, where it is marked.
+fn stand_end(mesh: &Mesh, marks: &[bool], d: u32, stood: &mut [bool])
+    requires dart { d < darts mesh.now }
+    requires marks { length marks.now ≡ darts mesh.now }
+    requires long { length stood.old ≡ vertex_count mesh.now }
+    ensures { (v : ℕ) → is_on stood.new v ≡ (is_on stood.old v || (is_on marks.now d && is_end mesh.now v d)) }
+{
+    if marks[d as usize] {
+        stood[mesh.from(d) as usize] = true;
+        stood[mesh.to(d) as usize] = true;
+    }
 }
 
 /// Marks the vertices that these darts leave.

@@ -1,11 +1,11 @@
 //! The queue of the riders that run.
 
-ghost use Rattle.std.specs.Prelude.{◌≡◌, ◌<◌, ◌+◌, ◌^◌, ℕ, suc, length, map, filter, true, IfOk};
+ghost use Rattle.std.specs.Prelude.{◌≡◌, ◌<◌, ◌+◌, ◌^◌, ℕ, suc, Bool, List, length, map, filter, true, IfOk};
 ghost use Rattle.std.specs.List.{range_with_len};
 ghost use Rattle.def_cut.specs.Events.{rider_at};
-ghost use Rattle.def_cut.specs.Motion.{after_steps, begun, is_among};
+ghost use Rattle.def_cut.specs.Motion.{begun, is_among, later};
 ghost use Rattle.def_cut.specs.Traced.{terrain_of};
-ghost use Rattle.def_mesh.specs.Components.{start_darts};
+ghost use Rattle.def_feature.specs.Marked.{marked_first};
 ghost use Rattle.def_mesh.specs.Darts.{darts};
 ghost use Rattle.def_mesh.specs.Vertices.{vertex_count};
 ghost use Rattle.qm_trace.specs.Tables.{AreRode, CanRide, IsGround, IsInstant, dart_of, is_running, rode};
@@ -103,8 +103,9 @@ pub(crate) fn ride_all(
     requires ground { IsGround mesh.now sight.now.ground.boundary.items sight.now.ground.singular.items }
     requires stood { length sight.now.stood.items ≡ vertex_count mesh.now }
     requires taken { length sight.now.taken.items ≡ darts mesh.now }
-    ensures { (k : ℕ) → IsInstant mesh.now k riders.items queue.now sight.now.stood.items sight.now.taken.items
-        → result.items ≡ (after_steps (terrain_of mesh.now) (start_darts mesh.now) (suc k)).riders }
+    ensures { (marks : List Bool) (k : ℕ)
+        → IsInstant mesh.now marks k riders.items queue.now sight.now.stood.items sight.now.taken.items
+        → result.items ≡ (later (terrain_of mesh.now) (marked_first mesh.now marks) (suc k)).riders }
 {
     let _known = mesh.faces();
     ride_each(mesh, sight, queue, &mut riders);

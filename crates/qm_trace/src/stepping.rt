@@ -1,6 +1,6 @@
 //! One step of the motion: all riders of the queue ride at once.
 
-ghost use Rattle.std.specs.Prelude.{◌≡◌, ◌+◌, ◌^◌, ◌<◌, ℕ, suc, map};
+ghost use Rattle.std.specs.Prelude.{◌≡◌, ◌+◌, ◌^◌, ◌<◌, ℕ, suc, Bool, List, map};
 ghost use Rattle.qm_trace.specs.Tables.{IsGround, IsQueue, IsTableAt, dart_of};
 
 use crate::marks::{cover, set_marks, stand};
@@ -19,16 +19,16 @@ pub(crate) struct Tables {
 /// The tables after a step, in which the riders of the queue ride these darts. Linear in the queue.
 pub(crate) fn step(mesh: &Mesh, queue: &[u32], ridden: &[u32], tables: Tables) -> Tables
     requires ground { IsGround mesh.now tables.sight.ground.boundary.items tables.sight.ground.singular.items }
-    requires at { (k : ℕ) × (k + 1 < 2 ^ 32)
-        × IsTableAt mesh.now k
+    requires at { (marks : List Bool) × (k : ℕ) × (k + 1 < 2 ^ 32)
+        × IsTableAt mesh.now marks k
         tables.riders.items tables.sight.stood.items tables.covered.items tables.sight.taken.items }
     requires queue { IsQueue tables.riders.items queue.now }
     requires ridden { ridden.now ≡ map (dart_of tables.riders.items) queue.now }
     ensures ground { IsGround mesh.now result.sight.ground.boundary.items result.sight.ground.singular.items }
-    ensures at { (k : ℕ)
-        → IsTableAt mesh.now k
+    ensures at { (marks : List Bool) (k : ℕ)
+        → IsTableAt mesh.now marks k
         tables.riders.items tables.sight.stood.items tables.covered.items tables.sight.taken.items
-        → IsTableAt mesh.now (suc k)
+        → IsTableAt mesh.now marks (suc k)
         result.riders.items result.sight.stood.items result.covered.items result.sight.taken.items }
 {
     let _known = mesh.faces();

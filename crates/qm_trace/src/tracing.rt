@@ -3,7 +3,8 @@
 ghost use Rattle.std.specs.Prelude.{◌≡◌, IfOk};
 ghost use Rattle.def_cut.specs.FullCut.{IsFullCut};
 ghost use Rattle.def_cut.specs.Traced.{IsGraphOf};
-ghost use Rattle.def_mesh.specs.Components.{start_darts};
+ghost use Rattle.def_feature.specs.Marks.{AreMarks};
+ghost use Rattle.def_feature.specs.Marked.{IsMarkedGraph, marked_starts};
 ghost use Rattle.def_mesh.specs.Sources.{AreSources};
 ghost use Rattle.qm_trace.specs.Tables.{IsEnd};
 
@@ -23,21 +24,34 @@ pub fn trace(alloc: Global, mesh: &Mesh, src: &Starts) -> Result<Graph, Memory>
     ensures graph { IfOk result (IsGraphOf mesh.now) }
     ensures cut { IfOk result (λ graph. IsFullCut mesh.now graph.covered.items) }
 {
+    let marks = vec![in alloc; false; 4 * mesh.faces().len()]?;
+    graph_from(alloc, mesh, &src.starts, &marks)
+}
+
+/// The graph that riders trace beside marked edges, which are in it, where they start along these darts. It is a full
+/// cut. Linear in the darts.
+pub fn graph_from(alloc: Global, mesh: &Mesh, starts: &[u32], marks: &[bool]) -> Result<Graph, Memory>
+    requires marks { AreMarks mesh.now marks.now }
+    requires starts { starts.now ≡ marked_starts mesh.now marks.now }
+    ensures graph { IfOk result (IsMarkedGraph mesh.now marks.now) }
+    ensures cut { IfOk result (λ graph. IsFullCut mesh.now graph.covered.items) }
+{
     let _known = mesh.faces();
-    let end = last_tables(alloc, mesh, &src.starts)?;
-    let mut riders = Vec::with_capacity(alloc, src.starts.len())?;
-    tell_riders(mesh, &src.starts, &end.riders, &mut riders);
+    let end = last_tables(alloc, mesh, starts, marks)?;
+    let mut riders = Vec::with_capacity(alloc, starts.len())?;
+    tell_riders(mesh, starts, &end.riders, &mut riders);
     let covered = close(mesh, end.covered);
     Ok(Graph { covered, riders })
 }
 
 /// The tables when no rider runs any more. Linear in the darts.
-fn last_tables(alloc: Global, mesh: &Mesh, starts: &[u32]) -> Result<Tables, Memory>
-    requires { starts.now ≡ start_darts mesh.now }
-    ensures { IfOk result (λ t. IsEnd mesh.now t.riders.items t.covered.items) }
+fn last_tables(alloc: Global, mesh: &Mesh, starts: &[u32], marks: &[bool]) -> Result<Tables, Memory>
+    requires marks { AreMarks mesh.now marks.now }
+    requires starts { starts.now ≡ marked_starts mesh.now marks.now }
+    ensures { IfOk result (λ t. IsEnd mesh.now marks.now t.riders.items t.covered.items) }
 {
     let _known = mesh.faces();
-    let mut tables = first_tables(alloc, mesh, starts)?;
+    let mut tables = first_tables(alloc, mesh, starts, marks)?;
     let mut queue = everyone(alloc, starts.len() as u32)?;
     'instants: for _ in 0..mesh.vertices() {
         if queue.is_empty() {

@@ -2,22 +2,20 @@ use Rattle.std.proofs.Common.{cond, Bool, ◌≡◌, ◌<◌, ◌≤◌, ◌++�
 use Rattle.std.proofs.lemmas.List.{length_push, take_more, take_all}
 use Rattle.std.specs.Vec.{vec_capacity, vec_len}
 use Rattle.def_cut.specs.Motion.{begun}
-use Rattle.def_cut.specs.Traced.{AreRiders, last_state}
-use Rattle.def_mesh.specs.Components.{start_darts}
+use Rattle.def_cut.specs.Traced.{AreRiders}
 use Rattle.def_cut.specs.declared.moving.Moving.{Moving}
-use Rattle.qm_trace.proofs.Beginnings.{starts_few}
-use Rattle.qm_trace.proofs.Ends.{last_long, riders_more, stopped}
+use Rattle.qm_trace.proofs.Ends.{riders_more}
 use Rattle.qm_trace.proofs.ending.tell_riders.Goals as goal
 
 pub bounds-riders-r : goal.bounds-riders-r
-bounds-riders-r c = omega (arith, c.loop-r-test.true, last_long c.args.mesh.now, ap length c.requires.starts, ap length c.requires.riders)
+bounds-riders-r c = omega (arith, c.loop-r-test.true, c.requires.each)
 
 pub rider_of-requires : goal.rider_of-requires
-rider_of-requires c = rw c.requires.riders (stopped c.args.mesh.now c.faces-known.ensures.mesh.manifold c.loop-r.r (omega (arith, c.loop-r-test.true, last_long c.args.mesh.now, ap length c.requires.starts)))
+rider_of-requires c = c.requires.stopped c.loop-r.r (omega (arith, c.loop-r-test.true, c.requires.each))
 
 pub loop-r-preserved : goal.loop-r-preserved
 loop-r-preserved c =
-    let low : c.loop-r.r < length c.args.riders.now = omega (arith, c.loop-r-test.true, last_long c.args.mesh.now, ap length c.requires.starts, ap length c.requires.riders) in
+    let low : c.loop-r.r < length c.args.riders.now = omega (arith, c.loop-r-test.true, c.requires.each) in
     let more : AreRiders (take c.loop-r.r c.args.riders.now ++ get_or c.args.riders.now c.loop-r.r (begun 0) ∷ []) (take c.loop-r.r c.args.starts.now ++ get_or c.args.starts.now c.loop-r.r 0 ∷ []) (c.loop-r.told.items ++ c.rider_of.result ∷ []) =
     riders_more (take c.loop-r.r c.args.riders.now) (take c.loop-r.r c.args.starts.now) c.loop-r.told.items (get_or c.args.riders.now c.loop-r.r (begun 0)) (get_or c.args.starts.now c.loop-r.r 0) c.rider_of.result c.loop-r.invariant.told c.rider_of.ensures in
     let few : vec_len c.loop-r.told < vec_capacity c.loop-r.told = omega (arith, c.loop-r-test.true, c.loop-r.invariant.many, c.loop-r.invariant.room, c.loop-r.told.ok.0) in
@@ -31,12 +29,12 @@ loop-r-preserved c =
 pub returns : goal.returns
 returns c =
     let end : length c.args.starts.now ≤ c.loop-r.r = omega (arith, c.loop-r-test.false) in
-    let riders : take c.loop-r.r c.args.riders.now ≡ (last_state c.args.mesh.now).riders = take_all c.loop-r.r c.args.riders.now (omega (arith, end, last_long c.args.mesh.now, ap length c.requires.starts, ap length c.requires.riders)) ∙ c.requires.riders in
-    let starts : take c.loop-r.r c.args.starts.now ≡ start_darts c.args.mesh.now = take_all c.loop-r.r c.args.starts.now end ∙ c.requires.starts in
-    subst (λ (ms : List Moving). AreRiders ms (start_darts c.args.mesh.now) c.loop-r.told.items) riders (subst (λ (ds : List ℕ). AreRiders (take c.loop-r.r c.args.riders.now) ds c.loop-r.told.items) starts c.loop-r.invariant.told)
+    let riders : take c.loop-r.r c.args.riders.now ≡ c.args.riders.now = take_all c.loop-r.r c.args.riders.now (omega (arith, end, c.requires.each)) in
+    let starts : take c.loop-r.r c.args.starts.now ≡ c.args.starts.now = take_all c.loop-r.r c.args.starts.now end in
+    subst (λ (ms : List Moving). AreRiders ms c.args.starts.now c.loop-r.told.items) riders (subst (λ (ds : List ℕ). AreRiders (take c.loop-r.r c.args.riders.now) ds c.loop-r.told.items) starts c.loop-r.invariant.told)
 
 pub unwrap-requires : goal.unwrap-requires
 unwrap-requires c = c.push.ensures.succeeds (omega (arith, c.loop-r-test.true, c.loop-r.invariant.many, c.loop-r.invariant.room, c.loop-r.told.ok.0))
 
 pub offset_bounds-riders-r : goal.offset_bounds-riders-r
-offset_bounds-riders-r c = omega (arith, c.loop-r-test.true, ap length c.requires.starts, starts_few c.args.mesh.now c.faces-known.ensures.mesh.manifold, c.faces-known.ensures.mesh.few)
+offset_bounds-riders-r c = omega (arith, c.loop-r-test.true, c.requires.few, c.faces-known.ensures.mesh.few)
