@@ -49,7 +49,7 @@ class Picture:
         where = f'<text x="{x}" y="{y}" font-size="{size}" fill="{ink}" text-anchor="{anchor}"{more}>'
         self.parts.append(f"{where}{words}</text>")
 
-    def write(self, name):
+    def svg(self):
         wide, high = round(self.width * self.scale), round(self.height * self.scale)
         lines = [f'<svg xmlns="http://www.w3.org/2000/svg" viewBox="0 0 {wide} {high}" width="{wide}" height="{high}"']
         lines += [f' font-family="DejaVu Sans, Helvetica, sans-serif" role="img"><title>{self.title}</title>', "<defs>"]
@@ -57,7 +57,10 @@ class Picture:
             lines.append(f'<marker id="{key}" viewBox="0 0 10 10" refX="8" refY="5" markerWidth="7" markerHeight="7"')
             lines.append(f' orient="auto"><path d="M0,1 L9,5 L0,9 z" fill="{ink}"/></marker>')
         lines += ["</defs>", f'<rect width="{wide}" height="{high}" fill="white"/>', *self.parts, "</svg>"]
-        (HERE / name).write_text("\n".join(lines) + "\n")
+        return "\n".join(lines) + "\n"
+
+    def write(self, name):
+        (HERE / name).write_text(self.svg())
 
 
 def shrunk(points, share=0.8):
@@ -228,52 +231,7 @@ def flaps():
     picture.write("three_flaps.svg")
 
 
-def bands_of_crates():
-    """The sections of crates.txt, lowest first, each with its crates; and which of them each one uses."""
-    bands, uses = [], {}
-    for line in (HERE.parent.parent / "crates.txt").read_text().splitlines():
-        if line.startswith("# ") and "docs/" not in line:
-            bands.append((line[2:], []))
-        elif ":" in line.partition("#")[0]:
-            name, _, deps = line.partition("#")[0].partition(":")
-            bands[-1][1].append(name.strip())
-            uses[name.strip()] = deps.split()
-    return bands, {name: [it for it in deps if it in uses] for name, deps in uses.items()}
-
-
-def depth(name, uses):
-    return 1 + max((depth(it, uses) for it in uses[name]), default=-1)
-
-
-def crates():
-    bands, uses = bands_of_crates()
-    band_of = {name: at for at, (_, names) in enumerate(bands) for name in names}
-    for name, used in ((name, it) for name, deps in uses.items() for it in deps):
-        assert band_of[used] <= band_of[name], f"crates.txt has {used} in a band above {name}"
-    wide, rows = 7, []
-    for title, names in bands:
-        names = sorted(names, key=lambda it: depth(it, uses))
-        parts = [names[at : at + wide] for at in range(0, len(names), wide)]
-        rows += [(title if at == 0 else "", part) for at, part in enumerate(parts)]
-    picture = Picture("The crates", 16.2, 0.95 * len(rows) + 0.7, 52)
-    for at, (title, names) in enumerate(rows):
-        y = 0.6 + 0.95 * at
-        if title:
-            picture.line([(0.1, y - 0.12), (16.1, y - 0.12)], FAINT, 0.8)
-            picture.text((0.15, y + 0.25), title, 12, INK, "start")
-        for i, name in enumerate(names):
-            x = 5.0 + 1.58 * i
-            fill = "#eee" if name.endswith("_laws") else SIDES[1] if name.startswith("def_") else SIDES[0]
-            picture.area([(x, y), (x + 1.45, y), (x + 1.45, y + 0.62), (x, y + 0.62)], fill, INK, 1)
-            picture.text((x + 0.725, y + 0.22), name, 10.5)
-    words = "A crate uses crates of its own band and of those below."
-    colours = "Green: what to believe. Blue: what does it. Grey: laws without code."
-    picture.text((8.1, 0.12), f"{words} {colours}", 12)
-    picture.write("crates.svg")
-
-
 if __name__ == "__main__":
-    crates()
     darts()
     fans()
     unit()
