@@ -176,23 +176,23 @@ def unit():
 
 
 def rim():
-    picture = Picture("The rim, the chain and the lone vertex", 12.4, 3.9)
+    picture = Picture("The rim, the ladder and the lone vertex", 12.4, 3.9)
     low, high = 1.2, 2.9
     names = ["b₀", "a₁", "b₁", "a₂", "b₂", "a₃", "b₃"]
-    chain = [(1.0 + 1.7 * i, low) for i in range(7)]
+    ladder = [(1.0 + 1.7 * i, low) for i in range(7)]
     rims = [(1.85 + 3.4 * i, high) for i in range(3)] + [(11.6, high)]
     for i in range(3):
-        picture.line([chain[2 * i], rims[i], chain[2 * i + 1], chain[2 * i]], INK, 1.5)
-        picture.line([chain[2 * i + 1], chain[2 * i + 2]], BLUE, 2.5)
-    picture.line([chain[6], rims[3]], INK, 1.5)
+        picture.line([ladder[2 * i], rims[i], ladder[2 * i + 1], ladder[2 * i]], INK, 1.5)
+        picture.line([ladder[2 * i + 1], ladder[2 * i + 2]], BLUE, 2.5)
+    picture.line([ladder[6], rims[3]], INK, 1.5)
     for i, point in enumerate(rims):
         picture.line([point, (point[0], high + 0.75)], FAINT, 1.5, dashed=True)
         picture.dot(point, f"r{'₁₂₃₄'[i]}", radius=0.28, fill=FILL)
-    for name, point in zip(names, chain):
+    for name, point in zip(names, ladder):
         picture.dot(point, name, radius=0.28, ink=RED if name == "b₀" else INK)
     picture.text((1.0, 0.55), "the lone vertex,", 14, RED)
     picture.text((1.0, 0.2), "or none", 14, RED)
-    picture.text((7.5, 0.55), "The pairs of the chain (blue) match each other where no rim vertex needs them.", 14)
+    picture.text((7.5, 0.55), "The pairs of the ladder (blue) match each other where no rim vertex needs them.", 14)
     picture.text((6.95, 3.5), "each to its unit, too", 14, FAINT)
     picture.write("rim.svg")
 

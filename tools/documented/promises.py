@@ -106,5 +106,6 @@ def faults() -> Iterator[Fault]:
         cells = [it.strip() for it in line.split("|")]
         if EDITS in cells:
             edits = cells.index(EDITS)
-        for what in faults_of_row(cells, edits):
+        item = line.partition(" Refused: ") if line.startswith("- ") else None
+        for what in faults_of_row([item[0], item[2]], 1) if item else faults_of_row(cells, edits):
             yield Fault(PROMISES, number, what)
