@@ -70,8 +70,17 @@ class Base:
     uses: dict[Definition, frozenset[Definition]] = field(default_factory=dict)
 
     def named(self, imports: Iterable[Import], source: Source | None = None) -> dict[str, Definition]:
-        """What each name of a file means, by its imports and, for a file of the base, by its own definitions."""
-        names = {it.name: found for it in imports if (found := self.at(it.path))}
+        """What each name of a file means, by its imports and, for a file of the base, by its own definitions.
+
+        A name within a module that is imported as a whole has the module's name in front.
+        """
+        names: dict[str, Definition] = {}
+        for it in imports:
+            if found := self.at(it.path):
+                names[it.name] = found
+            elif it.path.startswith("Rattle.def_"):
+                within = [path for path in self.by_path if path.startswith(f"{it.path}.")]
+                names |= {it.name + path.removeprefix(it.path): self.by_path[path] for path in within}
         own = self.by_file.get(source.file, []) if source else []
         if source and source.is_rust and is_trusted(source.crate):
             own = [it for file, found in self.by_file.items() if is_code_of(file, source.crate) for it in found]
@@ -128,10 +137,8 @@ def words_in(text: str, names: dict[str, Definition], own: str = "") -> Iterator
                 bound.setdefault(name, found.start())
         for found in TERM.finditer(part):
             alias, name = found.groups()
-            if alias and (alias not in names or bound.get(alias, len(part)) <= found.start()):
-                continue
-            meant = names.get(alias or name)
-            if meant and bound.get(name, len(part)) > found.start():
+            meant = (names.get(f"{alias}.{name}") or names.get(alias)) if alias else names.get(name)
+            if meant and bound.get(alias or name, len(part)) > found.start():
                 yield meant
 
 
