@@ -15,8 +15,8 @@ pub struct Rim {
 #[derive(Debug, Drop)]
 pub struct PlaceTables {
     pub lengths: Vec<u32>,
-    pub along: Starts,
-    pub inside: Starts,
+    pub along: RunStarts,
+    pub inside: RunStarts,
     pub rims: Vec<Rim>,
     pub parameters: Vec<u64>,
 }
