@@ -1,6 +1,7 @@
 mod Benched
 mod Checked
 mod Complete
+mod Finishing
 mod Naming
 mod NeverBytes
 mod Refined

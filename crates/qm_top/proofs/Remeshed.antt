@@ -1,28 +1,28 @@
--- What a command keeps that remeshes, and that the text of what is kept is one of a finished remesh.
+-- What a command keeps that remeshes.
 use Rattle.std.specs.Prelude.{IsErrOf}
-use Rattle.std.proofs.Common.{◌≡◌, Err, inr, sym, subst, refl}
+use Rattle.std.proofs.Common.{◌≡◌, [], ◌∷◌, ◌++◌, Err, ap, inr, refl}
 use Rattle.std.specs.Option.{option_map}
 use Rattle.def_certtext.specs.CertLines.{lists_of}
+use Rattle.def_certtext.specs.HeadLine.{head_line}
 use Rattle.def_certtext.specs.declared.Asked.{Asked}
 use Rattle.def_io.specs.Bytes.{Bytes}
 use Rattle.def_io.specs.Faults.{Rose}
 use Rattle.def_io.specs.Moves.{Change, IsStill, Stream, TookPrefix}
 use Rattle.def_mesh.specs.Manifold.{IsManifold}
 use Rattle.def_remesh.specs.Keeping.{IsKept}
-use Rattle.def_remesh.specs.Placings.{IsLayoutIn}
 use Rattle.def_remesh.specs.declared.kept.LayoutFail.{LayoutFail}
 use Rattle.def_remesh.specs.declared.kept.LayoutFail.TheVariants as layouts
 use Rattle.def_text.specs.FaceSet.{FaceSet}
 use Rattle.def_text.specs.Input.{ReadSoup}
 use Rattle.def_text.specs.declared.limits.TheConstants.{MAX_BYTES}
 use Rattle.qm_top.proofs.Writers.{IsWriter}
+use Rattle.qm_top.specs.Finishing.{IsFramed}
 use Rattle.qm_top.specs.Refusals.{answer_of_layout}
-use Rattle.qm_write.specs.declared.remesh.Remesh.{Remesh}
+use Rattle.qm_write.specs.declared.text.Framed.{Framed}
 use Rattle.qm_write.specs.declared.text.PutFail.{PutFail}
 use Rattle.qm_write.specs.declared.text.PutFail.TheVariants as puts
 use Rattle.def_layout.specs.FaceLayouts.{IsLayoutOf}
 use Rattle.def_layout.specs.Plans.{Plan}
-use Rattle.def_remesh.specs.Remeshed.{remeshed_text}
 use Rattle.def_remesh.specs.Certified.{IsShown}
 use Rattle.def_remesh.specs.Tasks.{old_lengths, Task}
 use Rattle.def_run.specs.Causes.{Cause, Refused, Refuses, Writes}
@@ -31,9 +31,8 @@ use Rattle.def_run.specs.declared.answer.Answer.{Answer}
 use Rattle.def_run.specs.declared.answer.Answer.TheVariants as answers
 use Rattle.def_run.specs.declared.command.Command.{Command}
 use Rattle.def_run.specs.declared.command.Command.TheVariants as commands
-use Rattle.qm_top.specs.Writing.{refusal_of_put, task_of, text_of, FailsTask, IsUnwritten}
+use Rattle.qm_top.specs.Writing.{refusal_of_put, task_of, FailsTask, IsUnwritten}
 use Rattle.qm_top.proofs.Refusals.{remesh_needs, NeedsMesh}
-use Rattle.remesh_laws.proofs.Keeps.{shown}
 
 -- What a command does that asks for a task: it writes it finished, or refuses it.
 pub record IsTasked (command : Command) (asks : Asks) : Type 0 where
@@ -88,13 +87,16 @@ pub put_refused : {O : Type 0} (says : Bytes → Type 0) (fails : LayoutFail →
 put_refused says fails out text puts.Stopped said prefix rose same = record { text = text; said = said; prefix = prefix refl; fault = rose refl }
 put_refused says fails out text puts.Memory said prefix rose same = same refl
 
--- The text of what is kept as it was asked for is one of a finished remesh.
-pub kept_remeshed : (asked : Asked) (soup : FaceSet) (plan : Plan) (kept : Remesh) → kept.asked ≡ asked → IsLayoutIn soup.faces plan
-    → IsCutTo soup.faces plan → IsKept old_lengths plan asked.settings asked.auto (lists_of kept.first) (option_map lists_of kept.third) kept.numbering
-    → IsShown (task_of asked soup) soup (text_of kept soup plan)
-kept_remeshed asked soup plan kept same lies cut is =
-    subst
-    (λ (a : Asked). IsShown (task_of asked soup) soup
-    (remeshed_text a.settings a.auto soup plan (lists_of kept.first) (option_map lists_of kept.third)))
-    (sym same)
-    (shown (task_of asked soup) soup plan (lists_of kept.first) (option_map lists_of kept.third) kept.numbering lies cut is)
+-- What `remesh` keeps, with its head line and nothing behind the new mesh, is in the frame of its task.
+pub framed_for : (asked : Asked) (soup : FaceSet) (plan : Plan) (framed : Framed) → framed.remesh.asked ≡ asked → IsCutTo soup.faces plan
+    → IsKept old_lengths plan asked.settings asked.auto (lists_of framed.remesh.first) (option_map lists_of framed.remesh.third) framed.remesh.numbering
+    → framed.head.items ≡ head_line asked.settings asked.auto ++ 10 ∷ [] → framed.between.items ≡ []
+    → IsFramed (task_of asked soup) framed soup plan
+framed_for asked soup plan framed same cut kept head between = record {
+  cut = cut;
+  settings = ap (λ (a : Asked). a.settings) same;
+  auto = ap (λ (a : Asked). a.auto) same;
+  kept = kept;
+  head = head;
+  between = between;
+}

@@ -5,12 +5,8 @@ use Rattle.def_io.specs.Faults.{Rose}
 use Rattle.def_io.specs.Moves.{Change, IsStill, Stream, took, TookPrefix}
 use Rattle.def_certtext.specs.declared.Asked.{Asked}
 use Rattle.def_layout.specs.Plans.{Plan}
-use Rattle.std.specs.Option.{option_map}
-use Rattle.def_certtext.specs.CertLines.{lists_of}
 use Rattle.def_io.specs.declared.fails.WriteFail.TheVariants as writes
 use Rattle.def_remesh.specs.Refusals.{IsLayoutFail}
-use Rattle.def_remesh.specs.Remeshed.{remeshed_text}
-use Rattle.qm_write.specs.declared.remesh.Remesh.{Remesh}
 use Rattle.qm_write.specs.declared.text.PutFail.{PutFail}
 use Rattle.qm_write.specs.declared.text.PutFail.TheVariants as puts
 use Rattle.def_remesh.specs.declared.kept.LayoutFail.{LayoutFail}
@@ -51,11 +47,6 @@ FailsTask task soup failed =
 -- What is asked of the faces of a soup.
 abbrev pub task_of : (asked : Asked) (soup : FaceSet) → Task
 task_of asked soup = remesh_task asked.settings asked.auto soup.faces
-
--- The text of what is kept of a layout.
-abbrev pub text_of : (kept : Remesh) (soup : FaceSet) (plan : Plan) → Bytes
-text_of kept soup plan =
-    remeshed_text kept.asked.settings kept.asked.auto soup plan (lists_of kept.first) (option_map lists_of kept.third)
 
 -- The refusal of a text that was not put whole.
 abbrev pub refusal_of_put : (fail : PutFail) → Refusal

@@ -5,6 +5,7 @@ mod bench;
 mod check;
 mod command;
 mod error_line;
+mod finishing;
 mod graph;
 mod input;
 mod named;

@@ -1,0 +1,60 @@
+-- A remesh in the frame of its text finishes its task.
+use Rattle.std.proofs.Common.{◌≡◌, Bool, [], ◌∷◌, ◌++◌, Err, append_assoc, sym, ◌∙◌, subst}
+use Rattle.std.specs.Prelude.{IsErrOf}
+use Rattle.std.specs.Option.{option_map}
+use Rattle.def_certtext.specs.CertLines.{lists_of}
+use Rattle.def_flow.specs.declared.net.Settings.{Settings}
+use Rattle.def_io.specs.Faults.{Rose}
+use Rattle.def_io.specs.Moves.{took, IsStill, Stream, TookPrefix}
+use Rattle.def_layout.specs.Plans.{Plan}
+use Rattle.def_remesh.specs.Certified.{IsShown}
+use Rattle.def_remesh.specs.Keeping.{IsKept}
+use Rattle.def_remesh.specs.Placings.{IsLayoutIn}
+use Rattle.def_remesh.specs.Remeshed.{finished_text, text_behind_head}
+use Rattle.def_remesh.specs.Tasks.{Task, Wish}
+use Rattle.def_remesh.specs.declared.kept.LayoutFail.{LayoutFail}
+use Rattle.def_text.specs.FaceSet.{FaceSet}
+use Rattle.qm_write.specs.declared.text.Framed.{Framed}
+use Rattle.qm_write.specs.declared.text.PutFail.{PutFail}
+use Rattle.qm_write.specs.declared.text.PutFail.TheVariants as puts
+use Rattle.qm_top.specs.Finishing.{framed_text, IsFramed, IsNoLayout}
+use Rattle.qm_top.specs.Writing.{refusal_of_put, IsUnwritten}
+use Rattle.qm_top.specs.declared.refusal.Refusal.{Refusal}
+use Rattle.qm_top.specs.declared.refusal.Refusal.TheVariants.{Layout, Write}
+use Rattle.qm_top.specs.declared.refusal.Refusal.TheVariants as refusals
+use Rattle.remesh_laws.proofs.Keeps.{shown}
+
+module _ (task : Task) (framed : Framed) (soup : FaceSet) (plan : Plan) (is : IsFramed task framed soup plan) where
+  -- It is kept for the settings that it tells.
+  pub framed_kept : (wish : Wish) × IsKept wish plan framed.remesh.asked.settings framed.remesh.asked.auto (lists_of framed.remesh.first)
+      (option_map lists_of framed.remesh.third) framed.remesh.numbering
+  framed_kept = (
+    task.wish,
+    subst
+        (λ (s : Settings). IsKept task.wish plan s framed.remesh.asked.auto (lists_of framed.remesh.first) (option_map lists_of framed.remesh.third)
+        framed.remesh.numbering)
+        (sym is.settings)
+        (subst
+        (λ (b : Bool). IsKept task.wish plan task.settings b (lists_of framed.remesh.first) (option_map lists_of framed.remesh.third)
+        framed.remesh.numbering)
+        (sym is.auto) is.kept),
+  )
+
+  text_is : framed_text framed soup plan ≡ finished_text task soup plan (lists_of framed.remesh.first) (option_map lists_of framed.remesh.third)
+  text_is =
+      (λ i. is.head i ++ text_behind_head (is.between i) (is.auto i) soup plan (lists_of framed.remesh.first) (option_map lists_of framed.remesh.third))
+      ∙ append_assoc task.head (10 ∷ []) _
+
+  -- Its text is that of the task.
+  pub framed_shown : IsLayoutIn soup.faces plan → IsShown task soup (framed_text framed soup plan)
+  framed_shown lies =
+      subst (IsShown task soup) (sym text_is)
+      (shown task soup plan (lists_of framed.remesh.first) (option_map lists_of framed.remesh.third) framed.remesh.numbering lies is.cut is.kept)
+
+-- A text that was not written is not, whatever layouts are refused for.
+pub unwritten_more : {O : Type 0} (task : Task) (soup : FaceSet) (fails : LayoutFail → Type 0) (out : Stream O) (r : Refusal)
+    → IsUnwritten (IsShown task soup) IsNoLayout out r → IsUnwritten (IsShown task soup) fails out r
+unwritten_more task soup fails out (Layout fail) none = absurd none.1
+unwritten_more task soup fails out (Write fail) broke = broke
+unwritten_more task soup fails out refusals.Memory same = same
+unwritten_more task soup fails out _ none = absurd none
