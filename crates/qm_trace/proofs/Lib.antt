@@ -9,6 +9,8 @@ mod Counting
 mod Reaching
 mod Settled
 mod Noting
+mod Possible
+mod Fewer
 mod Tellings
 mod Calls
 mod Moves

@@ -2,8 +2,10 @@
 
 #![tactic(auto)]
 
+mod choosing;
 mod deciding;
 mod ending;
+mod events;
 mod ground;
 mod marks;
 mod motion;
@@ -14,10 +16,11 @@ mod stepping;
 mod telling;
 mod tracing;
 
+pub use choosing::trace_by;
 pub use deciding::gives_way;
 pub use def_cut::{Graph, Moving, Rider, Stop};
 pub use def_mesh::Starts;
-pub use motion::Motion;
+pub use motion::{Event, Motion};
 pub use tracing::{graph_from, trace};
 
 /// Memory was refused.

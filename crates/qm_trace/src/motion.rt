@@ -1,6 +1,6 @@
 //! Riders who are moved one at a time, in any order that the rules allow.
 
-ghost use Rattle.std.specs.Prelude.{◌≡◌, ◌↔◌, ◌<◌, ◌&&◌, true, length, IfOk};
+ghost use Rattle.std.specs.Prelude.{◌≡◌, ◌↔◌, ◌<◌, ◌&&◌, ℕ, true, length, IfOk, Some, None};
 ghost use Rattle.def_cut.specs.Events.{
   after_ride_of,
   after_settling,
@@ -10,7 +10,7 @@ ghost use Rattle.def_cut.specs.Events.{
   rider_at,
   NobodyRuns,
 };
-ghost use Rattle.def_cut.specs.FullCut.{IsFullCut};
+ghost use Rattle.def_cut.specs.FullCut.{is_on, IsFullCut};
 ghost use Rattle.def_cut.specs.Traced.{IsGraphOf, terrain_of};
 ghost use Rattle.def_mesh.specs.Sources.{AreSources};
 ghost use Rattle.def_mesh.specs.Vertices.{vertex_count};
@@ -18,6 +18,7 @@ ghost use Rattle.def_cut.specs.Views.{with_state, IsMotionOn};
 
 use crate::Memory;
 use crate::ending::{close, tell_riders};
+use crate::events::{first_open, first_waiting};
 use crate::ground::site_at;
 use crate::marks::{cover_edge, leave};
 use crate::notes::{Notes, clear, no_notes, note};
@@ -28,6 +29,15 @@ use def_mesh::Starts;
 use qm_mesh::Mesh;
 use std::alloc::Global;
 use std::marker::Model;
+
+/// What may happen in a motion.
+#[derive(Clone, Copy, Debug, PartialEq, Eq)]
+pub enum Event {
+    /// This rider rides its next dart.
+    Ride { rider: u32 },
+    /// This vertex is settled.
+    Settle { vertex: u32 },
+}
 
 /// A motion of riders on a mesh, event by event. In each instant every running rider rides, one after another; then
 /// each vertex where some of them end is settled, and its riders stop or go on. Contracts see the event state, and the
@@ -161,6 +171,45 @@ impl Motion {
         }
     }
 
+    /// Some possible event, or none exactly where the motion is over. Linear in the riders.
+    pub fn possible(&self, mesh: &Mesh) -> Option<Event>
+        requires { IsMotionOn mesh.now self.now }
+        ensures rider { (r : ℕ) → result ≡ Some (Event.Ride r) → r < length self.now.starts }
+        ensures rides { (r : ℕ) → result ≡ Some (Event.Ride r) → rides_now self.now.state r ≡ true }
+        ensures settles { (v : ℕ) → result ≡ Some (Event.Settle v)
+            → settles_now (terrain_of mesh.now) self.now.state v ≡ true }
+        ensures over { (result ≡ None) ↔ NobodyRuns self.now.state }
+    {
+        let _known = mesh.faces();
+        if let Some(rider) = first_waiting(&self.riders.list, &self.notes.noted) {
+            return Some(Event::Ride { rider });
+        }
+        let vertex = first_open(mesh, &self.notes.queue, &self.notes.noted, &self.settled)?;
+        Some(Event::Settle { vertex })
+    }
+
+    /// The dart that rider r rides next; of one that has ridden in this instant or has stopped, the last that it rode.
+    pub fn next_dart(&self, r: u32) -> u32
+        requires { r < length self.now.starts }
+        ensures { result ≡ (rider_at self.now.state.riders r).dart }
+    {
+        self.riders.list[r as usize].dart
+    }
+
+    /// Whether some rider has ridden the edge of this dart.
+    pub fn is_covered(&self, dart: u32) -> bool
+        ensures { result ≡ is_on self.now.state.covered dart }
+    {
+        is_marked(&self.covered, dart)
+    }
+
+    /// Whether some rider has stood at this vertex.
+    pub fn has_stood(&self, vertex: u32) -> bool
+        ensures { result ≡ is_on self.now.state.stood vertex }
+    {
+        is_marked(&self.stood, vertex)
+    }
+
     /// How many darts rider r has ridden, and its stop, or none while it runs.
     pub fn rider(&self, r: u32) -> (u32, Option<Stop>)
         requires { r < length self.now.starts }
@@ -199,6 +248,16 @@ impl Motion {
             covered,
             riders: riders_told,
         }
+    }
+}
+
+/// Whether there is a mark at this place.
+fn is_marked(marks: &[bool], place: u32) -> bool
+    ensures { result ≡ is_on marks.now place }
+{
+    match marks.get(place as usize) {
+        Some(mark) => *mark,
+        None => false,
     }
 }
 

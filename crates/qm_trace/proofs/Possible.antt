@@ -1,0 +1,67 @@
+-- Which events are possible, and how many can still happen.
+use Rattle.std.proofs.Common.{◌≡◌, ℕ, zero, suc, ◌<◌, Bool, true, false, List, [], ◌∷◌, length, Option, sym, ap, ◌∙◌, refl, arith}
+use Rattle.std.specs.List.{list_any}
+use Rattle.std.proofs.lemmas.Bool.{and_from, cases_Bool, eq-eqb, eqb-true, false≢true, not_from_false}
+use Rattle.std.proofs.lemmas.Option.{none-some}
+use Rattle.def_mesh.specs.Faces.{Faces}
+use Rattle.def_mesh.specs.Components.{start_darts}
+use Rattle.def_mesh.specs.Darts.{darts, to_of}
+use Rattle.def_mesh.specs.Manifold.{IsManifold}
+use Rattle.def_cut.specs.FullCut.{is_on}
+use Rattle.def_cut.specs.declared.moving.Moving.{Moving}
+use Rattle.def_cut.specs.Motion.{after_steps, end_of, is_among, ridden}
+use Rattle.def_cut.specs.Traced.{terrain_of}
+use Rattle.def_cut.specs.Events.{EventState, darts_in, is_waiting, leads_to, may_ride, may_settle, more_if, note_at, rider_at, waiting, Event, IsMotionOf, May, NobodyRuns}
+use Rattle.def_cut.specs.Events.Event.{Ride, Settle}
+use Rattle.motion_laws.proofs.Among.{any_where}
+use Rattle.motion_laws.proofs.Shown.{still_runs}
+use Rattle.site_laws.proofs.Laws.{order_law}
+use Rattle.qm_trace.proofs.Reaching.{ride_runs, within_of}
+use Rattle.qm_trace.proofs.Settled.{settle_parts}
+
+-- Nobody waits.
+pub none_wait : (rs : List Moving) (ns : List (Option ℕ)) → ((r : ℕ) → r < length rs → is_waiting (rider_at rs r).stop (note_at ns r) ≡ false) → waiting rs ns ≡ 0
+none_wait [] ns none = refl
+none_wait (q ∷ rs) [] none = refl
+none_wait (q ∷ rs) (n ∷ ns) none =
+    ap (λ (b : Bool). more_if b (waiting rs ns)) (none 0 (omega arith)) ∙ none_wait rs ns (λ r l. none (suc r) (omega (arith, l)))
+
+module _ (faces : Faces) (m : IsManifold faces) (x : EventState) (z : IsMotionOf faces x) where
+  -- Where nobody waits, and each noted dart ends at a settled vertex, nobody runs.
+  pub over_where : ((r : ℕ) → r < length x.riders → is_waiting (rider_at x.riders r).stop (note_at x.noted r) ≡ false)
+      → ((d : ℕ) → is_among d (darts_in x.noted) ≡ true → is_on x.settled (to_of faces d) ≡ true) → NobodyRuns x
+  over_where none on r l runs = by_event ((order_law faces m z.0 x z.1).possible r l runs)
+    where
+      by_dart : (v : ℕ) → is_on x.settled v ≡ false → (d : ℕ) × (is_among d (darts_in x.noted) ≡ true) × (leads_to (terrain_of faces) v d ≡ true) → ⊥
+      by_dart v off (d, n, e) =
+          false≢true (sym off ∙ (ap (is_on x.settled) (sym (eqb-true (end_of (terrain_of faces) d) v e)) ∙ on d n))
+
+      by_event : (e : Event) × May (terrain_of faces) x e → ⊥
+      by_event (Ride q, may) = false≢true (sym (none q may.0) ∙ may.1)
+      by_event (Settle v, may) =
+          let s = settle_parts faces m x z v may in
+          by_dart v s.2 (any_where (leads_to (terrain_of faces) v) (darts_in x.noted) s.1)
+
+  -- A rider that may ride runs.
+  pub ride_not_over : (r : ℕ) → r < length x.riders → may_ride x r ≡ true → NobodyRuns x → ⊥
+  ride_not_over r l may none = none r l (ride_runs faces m x z r l may)
+
+  -- So does one that ended at a vertex which may be settled.
+  pub settle_not_over : (v : ℕ) → may_settle (terrain_of faces) x v ≡ true → NobodyRuns x → ⊥
+  settle_not_over v may none =
+      let s = settle_parts faces m x z v may in
+      by_dart s.2 (any_where (leads_to (terrain_of faces) v) (darts_in x.noted) s.1)
+    where
+      by_dart : is_on x.settled v ≡ false → (d : ℕ) × (is_among d (darts_in x.noted) ≡ true) × (leads_to (terrain_of faces) v d ≡ true) → ⊥
+      by_dart off (d, n, e) =
+          let w = within_of faces m x z in
+          let s = after_steps (terrain_of faces) (start_darts faces) w.instant in
+          let unset_there : is_on x.settled (end_of (terrain_of faces) d) ≡ false = ap (is_on x.settled) (eqb-true (end_of (terrain_of faces) d) v e) ∙ off in
+          let q = still_runs (terrain_of faces) s.stood (ridden s.riders) (is_on x.settled) s.riders x.riders x.noted d w.shown.riders n unset_there in
+          none q.0 q.1 q.2
+
+  -- A vertex may be settled where nobody waits, a noted dart ends there, and it is not settled.
+  pub settle_may : (v : ℕ) → ((r : ℕ) → r < length x.riders → is_waiting (rider_at x.riders r).stop (note_at x.noted r) ≡ false)
+      → list_any (leads_to (terrain_of faces) v) (darts_in x.noted) ≡ true → is_on x.settled v ≡ false → may_settle (terrain_of faces) x v ≡ true
+  settle_may v none ends off =
+      and_from _ _ (eq-eqb _ _ (none_wait x.riders x.noted none)) (and_from _ _ ends (not_from_false _ off))
