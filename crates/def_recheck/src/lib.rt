@@ -1,0 +1,2 @@
+//! What `check` makes of a mesh and of what `remesh` wrote for it.
+#![tactic(auto)]
