@@ -130,7 +130,6 @@ what_dist_serves() {
     wants "another time and the same text" "dist:  0" "$("$at/quadq" 2>/dev/null) $(builds)"
     "$at/quadq" --build 2>/dev/null
     wants "--build builds all the same" "0 1" "$? $(builds)"
-    touch "$at/crates/low/src/lib.rt"
     wants "and what was built runs from then on" "first:  1" "$("$at/quadq" 2>/dev/null) $(builds)"
     echo second >"$at/crates/low/src/lib.rt"
     wants "edited sources are built" "second:  2" "$("$at/quadq" 2>/dev/null) $(builds)"
@@ -328,15 +327,16 @@ interrupted_while_it_builds() {
         python3 - "$at" "$signal" <<'END'
 import pathlib, signal, subprocess, sys, time
 started = subprocess.Popen([sys.argv[1] + "/quadq"], stdout=subprocess.DEVNULL, stderr=subprocess.DEVNULL)
-while not (pathlib.Path(sys.argv[1]) / "crates/qm_prog/out").exists():
-    time.sleep(0.1)
+begun = pathlib.Path(sys.argv[1]) / "crates/qm_prog/out"
+for _ in range(100):
+    time.sleep(0 if begun.exists() else 0.1)
 number = getattr(signal, f"SIG{sys.argv[2]}")
 started.send_signal(number)
 sys.exit(started.wait(15) != -number)
 END
         wants "interrupted by $signal" 0 $?
         wants "it leaves no file" "" "$(find "$at/build" 2>/dev/null)"
-        wants "it leaves no process" 0 "$(pgrep -fc "sleep 31[.]$$")"
+        wants "it leaves no process" 0 "$(grep -slzx "31[.]$$" /proc/[0-9]*/cmdline | wc -l)"
     done
 }
 
