@@ -1,63 +1,85 @@
-//! Work to be timed: the matching graph of a network of 10,000 arcs, or the verdict on a dual over it, as often as is
-//! asked.
+//! Work to be timed, a word each: the parts of the solver, and the texts of certificates.
 #![tactic(auto)]
 
+mod certs;
+mod descents;
+mod graphs;
+mod known;
+mod left;
 mod network;
+mod rounds;
 mod sets;
 mod work;
 
-use crate::network::{lengths, network};
-use crate::sets::Shape;
-use crate::work::{Task, run};
-use qm_net::{admissible, are_lengths, is_within_bounds, tangle_of};
+use crate::certs::tell_certificate;
+use crate::descents::tell_descent;
+use crate::graphs::{match_text, write_graph};
+use crate::work::tell_work;
 use std::env::{self, Env};
 use std::io;
 use std::process::ExitCode;
+use std::time::Instant;
 
-/// The words are `graph`, `nest`, `tree` or `comb`, and how often the work is done; with no words, each once.
+/// The first word is what to do, and the second how often; once where there is none:
+///
+/// - `graph`, `nest`, `tree`, `comb`: the matching graph of a network of 10,000 arcs, or the verdict on a dual over it;
+/// - `descend`: reads a network, and tells its least deviation and what it took to find it;
+/// - `pair`: reads a network, and writes its matching graph with a perfect matching;
+/// - `match`: reads such a graph, and tells what a least matching costs;
+/// - `read`, `write`: reads the text of a remesh, and reads or writes the lines of its certificate.
+///
+/// With no words it reads a network, and does all but the last two. The status is 2 where the input is not what it
+/// should be.
 fn main(rt: HostRuntime) -> io::Result<ExitCode> {
-    let net = network(rt.alloc())?;
-    let x = lengths(rt.alloc())?;
-    if !is_within_bounds(&net) {
-        return Ok(ExitCode::from(2));
-    }
-    if !are_lengths(&net, &x) {
-        return Ok(ExitCode::from(3));
-    }
-    if !admissible(&net, &x) {
-        return Ok(ExitCode::from(4));
-    }
-    if tangle_of(rt.alloc(), &net)? > 1 << 25 {
-        return Ok(ExitCode::from(5));
-    }
     let mut words = env::args(&rt)?.skip(1);
     let Some(name) = words.next() else {
-        for task in [
-            Task::Graph,
-            Task::DualOk(Shape::Nest),
-            Task::DualOk(Shape::Tree),
-            Task::DualOk(Shape::Comb),
-        ] {
-            let told = run(rt.alloc(), &net, &x, task, 1)?;
-            println!(rt; "{told}")?;
-        }
-        return Ok(ExitCode::from(0));
+        return do_all(&rt);
     };
-    let task = task_named(name.as_str());
     let times = match words.next() {
         Some(word) => word.parse::<u32>().unwrap_or(1),
         None => 1,
     };
-    let told = run(rt.alloc(), &net, &x, task, times)?;
-    println!(rt; "{told}")?;
-    Ok(ExitCode::from(0))
+    match name.as_str() {
+        "graph" | "nest" | "tree" | "comb" => tell_work(&rt, name.as_str(), times),
+        "read" | "write" => tell_certificate(&rt, name.as_str() == "write", times),
+        "descend" => {
+            let begun = Instant::now(&rt)?;
+            let text = io::read_to_string(rt.alloc(), rt.reader())?;
+            tell_descent(&rt, begun, text.as_str())
+        }
+        "pair" => {
+            let text = io::read_to_string(rt.alloc(), rt.reader())?;
+            tell(&rt, write_graph(rt.alloc(), text.as_str())?)
+        }
+        "match" => {
+            let text = io::read_to_string(rt.alloc(), rt.reader())?;
+            tell(&rt, match_text(rt.alloc(), text.as_str(), times)?)
+        }
+        _ => Ok(ExitCode::from(2)),
+    }
 }
 
-fn task_named(name: &str) -> Task {
-    match name {
-        "graph" => Task::Graph,
-        "nest" => Task::DualOk(Shape::Nest),
-        "tree" => Task::DualOk(Shape::Tree),
-        _ => Task::DualOk(Shape::Comb),
+/// All work on networks, once.
+fn do_all(rt: &HostRuntime) -> io::Result<ExitCode> {
+    for name in ["graph", "nest", "tree", "comb"] {
+        tell_work(rt, name, 1)?;
+    }
+    let begun = Instant::now(rt)?;
+    let text = io::read_to_string(rt.alloc(), rt.reader())?;
+    tell_descent(rt, begun, text.as_str())?;
+    match write_graph(rt.alloc(), text.as_str())? {
+        Some(pair) => tell(rt, match_text(rt.alloc(), pair.as_str(), 1)?),
+        None => Ok(ExitCode::from(2)),
+    }
+}
+
+/// Writes a text, if there is one.
+fn tell(rt: &HostRuntime, text: Option<String>) -> io::Result<ExitCode> {
+    match text {
+        Some(text) => {
+            print!(rt; "{text}")?;
+            Ok(ExitCode::SUCCESS)
+        }
+        None => Ok(ExitCode::from(2)),
     }
 }

@@ -1,4 +1,4 @@
-//! The tasks.
+//! Work on one network: its matching graph, and the verdict on duals over it.
 
 ghost use Rattle.std.specs.Prelude.{◌≤◌};
 ghost use Rattle.def_flow.specs.Network.{network, tangle_number, IsWithinBounds};
@@ -6,28 +6,56 @@ ghost use Rattle.def_flow.specs.Admissible.{entries, IsAdmissible};
 ghost use Rattle.def_matching.specs.Matching.{graph, IsSmallGraph};
 ghost use Rattle.def_flow.specs.Admissible.{AreNetLengths};
 
+use crate::network::{lengths, network as measured};
 use crate::sets::{Shape, dual_of};
 use def_flow::{MAX_TANGLE, Net};
 use def_matching::WGraph;
 use qm_dual::dual_ok;
 use qm_gadget::graph_of;
+use qm_net::{admissible, are_lengths, is_within_bounds, tangle_of};
 use std::alloc::{AllocError, Global};
+use std::io;
+use std::process::ExitCode;
+
+/// Does the work of a name as often as is asked, and tells what came of it.
+pub(crate) fn tell_work(rt: &HostRuntime, name: &str, times: u32) -> io::Result<ExitCode> {
+    let net = measured(rt.alloc())?;
+    let x = lengths(rt.alloc())?;
+    if !is_within_bounds(&net) {
+        return Ok(ExitCode::from(2));
+    }
+    if !are_lengths(&net, &x) {
+        return Ok(ExitCode::from(3));
+    }
+    if !admissible(&net, &x) {
+        return Ok(ExitCode::from(4));
+    }
+    if tangle_of(rt.alloc(), &net)? > u128::from(MAX_TANGLE) {
+        return Ok(ExitCode::from(5));
+    }
+    let told = run(rt.alloc(), &net, &x, task_named(name), times)?;
+    println!(rt; "{told}")?;
+    Ok(ExitCode::SUCCESS)
+}
+
+fn task_named(name: &str) -> Task {
+    match name {
+        "graph" => Task::Graph,
+        "nest" => Task::DualOk(Shape::Nest),
+        "tree" => Task::DualOk(Shape::Tree),
+        _ => Task::DualOk(Shape::Comb),
+    }
+}
 
 /// The matching graph, or the verdict on a dual over it.
 #[derive(Clone, Copy, Debug, PartialEq, Eq)]
-pub(crate) enum Task {
+enum Task {
     Graph,
     DualOk(Shape),
 }
 
 /// Does a task as often as is asked, and tells what came of it.
-pub(crate) fn run(
-    alloc: Global,
-    net: &Net,
-    x: &[u64],
-    task: Task,
-    times: u32,
-) -> Result<String, AllocError>
+fn run(alloc: Global, net: &Net, x: &[u64], task: Task, times: u32) -> Result<String, AllocError>
     requires bounds { IsWithinBounds (network net.now) }
     requires lengths { AreNetLengths net.now.arcs.items x.now }
     requires admissible { IsAdmissible (network net.now) (entries x.now) }

@@ -5,8 +5,6 @@ mod accept;
 mod list;
 mod sides;
 mod sum;
-#[cfg(test)]
-mod tests;
 
 pub use accept::accepts;
 pub use def_flow::{Cert, CertVerdict};

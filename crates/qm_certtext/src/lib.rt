@@ -19,6 +19,3 @@ pub use written::read_written;
 
 /// Want of memory.
 pub type Memory = std::alloc::AllocError;
-
-#[cfg(test)]
-mod tests;

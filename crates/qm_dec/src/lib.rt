@@ -15,6 +15,3 @@ pub use law::canonical_law;
 pub use ratio::{read_count, read_ratio};
 pub use read::read_micro;
 pub use write::write_micro;
-
-#[cfg(test)]
-mod tests;

@@ -7,8 +7,6 @@ mod nest;
 mod paths;
 mod sizes;
 mod sums;
-#[cfg(test)]
-mod tests;
 
 pub use check::{Memory, dual_ok};
 pub use def_matching::{Dual, Verdict, WEdge, WGraph};

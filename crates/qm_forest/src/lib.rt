@@ -21,8 +21,6 @@ mod search;
 mod shrinking;
 mod start;
 mod tables;
-#[cfg(test)]
-mod tests;
 mod writes;
 mod writing;
 

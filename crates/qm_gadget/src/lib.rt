@@ -13,8 +13,6 @@ mod plan;
 mod rim;
 mod rim_marks;
 mod states;
-#[cfg(test)]
-mod tests;
 mod units;
 
 pub use build::graph_of;

@@ -9,6 +9,3 @@ pub use steps::steps_mesh;
 
 /// Want of memory.
 pub type Memory = std::alloc::AllocError;
-
-#[cfg(test)]
-mod tests;

@@ -6,8 +6,6 @@ mod lines;
 mod memory;
 mod reading;
 mod streams;
-#[cfg(test)]
-mod tests;
 mod traits;
 mod words;
 mod writing;

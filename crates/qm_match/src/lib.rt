@@ -9,8 +9,6 @@ mod perfect;
 mod search;
 mod start;
 mod steps;
-#[cfg(test)]
-mod tests;
 mod turns;
 mod weights;
 

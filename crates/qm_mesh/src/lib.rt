@@ -15,6 +15,3 @@ mod twins;
 pub use fail::MeshFail;
 pub use manifold::build;
 pub use mesh::Mesh;
-
-#[cfg(test)]
-mod tests;

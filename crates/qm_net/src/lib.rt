@@ -4,8 +4,6 @@
 mod balance;
 mod bounds;
 mod tangle;
-#[cfg(test)]
-mod tests;
 mod wanted;
 
 pub use balance::admissible;

@@ -14,8 +14,6 @@ mod read;
 mod reader;
 mod row;
 mod soup;
-#[cfg(test)]
-mod tests;
 mod text;
 mod used;
 mod words;

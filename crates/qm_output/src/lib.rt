@@ -5,8 +5,6 @@ mod buffer;
 mod comparison;
 mod memory;
 mod output;
-#[cfg(test)]
-mod tests;
 
 pub use buffer::{Buffer, Room};
 pub use comparison::Comparison;

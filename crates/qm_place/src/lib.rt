@@ -7,8 +7,6 @@ mod grid;
 mod places;
 mod sides;
 mod spots;
-#[cfg(test)]
-mod tests;
 mod ways;
 
 pub use find::Near;

@@ -9,6 +9,3 @@ pub use text::{push_number, push_signed, push_spaced};
 
 /// Want of memory.
 pub type Memory = std::alloc::AllocError;
-
-#[cfg(test)]
-mod tests;

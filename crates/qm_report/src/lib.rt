@@ -13,6 +13,3 @@ pub use summary::summary_text;
 
 /// Want of memory.
 pub type Memory = std::alloc::AllocError;
-
-#[cfg(test)]
-mod tests;

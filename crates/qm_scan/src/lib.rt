@@ -8,6 +8,3 @@ mod number;
 pub use bytes::{behind_first, find_byte};
 pub use digits::{are_digits, is_negative, is_number, unsigned};
 pub use number::read_number;
-
-#[cfg(test)]
-mod tests;

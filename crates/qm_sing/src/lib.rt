@@ -17,6 +17,3 @@ pub use origins::sources;
 
 /// Memory was refused.
 pub type Memory = std::alloc::AllocError;
-
-#[cfg(test)]
-mod tests;

@@ -6,8 +6,6 @@ mod idle;
 mod priced;
 mod round;
 mod start;
-#[cfg(test)]
-mod tests;
 
 pub use def_flow::{Cert, Net};
 pub use descent::{Descent, first_descent, solve_from, turn};

@@ -15,8 +15,6 @@ mod paths;
 mod repair;
 mod search;
 mod start;
-#[cfg(test)]
-mod tests;
 mod trails;
 mod worth;
 

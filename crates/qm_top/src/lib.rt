@@ -20,6 +20,3 @@ pub use command::run;
 pub use def_mesh::Place;
 pub use def_run::{Answer, Kept, Why};
 pub use process::{exit_status, run_process};
-
-#[cfg(test)]
-mod tests;

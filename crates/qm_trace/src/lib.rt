@@ -25,6 +25,3 @@ pub use tracing::{graph_from, trace};
 
 /// Memory was refused.
 pub type Memory = std::alloc::AllocError;
-
-#[cfg(test)]
-mod tests;

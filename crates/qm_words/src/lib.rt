@@ -7,6 +7,3 @@ mod values;
 
 pub use def_run::{Command, WordsFail};
 pub use read::read_words;
-
-#[cfg(test)]
-mod tests;

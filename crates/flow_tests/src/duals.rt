@@ -1,0 +1,138 @@
+//! Duals of small graphs, each with its verdict.
+
+ghost use Rattle.std.specs.Prelude.{◌≡◌, ◌^◌, nat_lt, unsigned_abs};
+ghost use Rattle.std.specs.List.{list_all};
+
+use crate::graphs::are_edges;
+use def_matching::{Dual, Verdict, WEdge, WGraph};
+use qm_dual::dual_ok;
+use std::alloc::Global;
+use std::process::Abort;
+use std::test::Fail;
+
+/// Whether each number is below 10^18 in absolute value.
+pub(crate) fn are_small(numbers: &[i64]) -> bool
+    ensures { result ≡ list_all (λ x. nat_lt (unsigned_abs x) (10 ^ 18)) numbers.now }
+{
+    numbers
+        .iter()
+        .all(|x| x.unsigned_abs() < 1_000_000_000_000_000_000)
+}
+
+const TRIANGLES: [(u32, u32, i64); 7] = [
+    (0, 1, 0),
+    (1, 2, 0),
+    (2, 0, 0),
+    (3, 4, 0),
+    (4, 5, 0),
+    (5, 3, 0),
+    (0, 3, 10),
+];
+
+/// The verdict on a dual of two triangles with a dear edge between them.
+fn check(
+    rt: &impl Abort,
+    alloc: Global,
+    y: &[i64],
+    z: &[i64],
+    up: &[u32],
+) -> Result<Verdict, Fail> {
+    let mut edges = Vec::new(alloc);
+    for (u, v, cost) in TRIANGLES {
+        edges.push(WEdge { u, v, cost })?;
+    }
+    let graph = WGraph { n: 6, edges };
+    let dual = Dual {
+        y: Vec::from_slice(alloc, y)?,
+        z: Vec::from_slice(alloc, z)?,
+        up: Vec::from_slice(alloc, up)?,
+    };
+    assert!(rt; are_edges(6, &graph.edges) && graph.edges.len() < 8);
+    assert!(rt; are_small(&dual.y) && are_small(&dual.z) && dual.z.len() < 8);
+    Ok(dual_ok(alloc, &graph, &dual)?)
+}
+
+#[test]
+fn verdicts_on_two_triangles(rt: HostRuntime) -> Result<(), Fail> {
+    let none = [0i64; 6];
+    let table: [(&[i64], &[i64], &[u32], Verdict); 12] = [
+        (
+            &none,
+            &[20],
+            &[1, 1, 1, 0, 0, 0, 0],
+            Verdict::Yes { sum: 20 },
+        ),
+        (
+            &none,
+            &[20],
+            &[1, 1, 0, 0, 0, 0, 0],
+            Verdict::Even { set: 0, size: 2 },
+        ),
+        (
+            &none,
+            &[-1],
+            &[1, 1, 1, 0, 0, 0, 0],
+            Verdict::Negative { set: 0 },
+        ),
+        (
+            &none,
+            &[20, 20],
+            &[1, 1, 1, 2, 2, 2, 0, 0],
+            Verdict::Short {
+                edge: 6,
+                load: 40,
+                cost: 20,
+            },
+        ),
+        (&[0; 5], &[], &[0; 6], Verdict::Shape { index: 6 }),
+        (&none, &[], &[0; 7], Verdict::Shape { index: 7 }),
+        (
+            &none,
+            &[20],
+            &[1, 1, 1, 2, 0, 0, 0],
+            Verdict::Shape { index: 3 },
+        ),
+        (
+            &none,
+            &[20],
+            &[1, 1, 1, 0, 0, 0, 1],
+            Verdict::Shape { index: 6 },
+        ),
+        (
+            &[0, 0, 0, 0, 0, -5],
+            &[15, 5],
+            &[1, 1, 1, 2, 2, 0, 2, 0],
+            Verdict::Yes { sum: 15 },
+        ),
+        (
+            &[0, 0, 0, 0, 0, -5],
+            &[21, 5],
+            &[1, 1, 1, 2, 2, 0, 2, 0],
+            Verdict::Short {
+                edge: 6,
+                load: 21,
+                cost: 20,
+            },
+        ),
+        (
+            &[1, 0, 0, 0, 0, 0],
+            &[9, 9, 2],
+            &[1, 1, 1, 3, 3, 2, 3, 3, 0],
+            Verdict::Even { set: 1, size: 1 },
+        ),
+        (
+            &[-1, 1, 1, 0, 0, 0],
+            &[],
+            &[0; 6],
+            Verdict::Short {
+                edge: 1,
+                load: 2,
+                cost: 0,
+            },
+        ),
+    ];
+    for (y, z, up, want) in table {
+        assert_eq!(rt; check(&rt, rt.alloc(), y, z, up)?, want, "at {z:?} {up:?}");
+    }
+    Ok(())
+}

@@ -1,0 +1,29 @@
+//! Tests of matchings and of lengths over networks: small graphs and networks, with values that were found by others.
+#![tactic(auto)]
+
+#[cfg(test)]
+mod certificates;
+#[cfg(test)]
+mod descents;
+#[cfg(test)]
+mod duals;
+#[cfg(test)]
+mod edges;
+#[cfg(test)]
+mod forests;
+#[cfg(test)]
+mod gadgets;
+#[cfg(test)]
+mod graphs;
+#[cfg(test)]
+mod matchings;
+#[cfg(test)]
+mod networks;
+#[cfg(test)]
+mod pools;
+#[cfg(test)]
+mod samples;
+#[cfg(test)]
+mod starts;
+#[cfg(test)]
+mod tours;

@@ -1,0 +1,19 @@
+//! Tests of meshes, of how riders cut them, and of new meshes at given lengths, on meshes that are worked out by hand.
+#![tactic(auto)]
+
+#[cfg(test)]
+mod layouts;
+#[cfg(test)]
+mod lengths;
+#[cfg(test)]
+mod meshes;
+#[cfg(test)]
+mod motions;
+#[cfg(test)]
+mod new_meshes;
+#[cfg(test)]
+mod sources;
+#[cfg(test)]
+mod stitched;
+#[cfg(test)]
+mod summaries;

@@ -1,0 +1,247 @@
+//! Runs over streams of any step, with a fault in each place, and the exit status.
+
+ghost use Rattle.std.specs.Prelude.{◌≤◌};
+
+use def_mesh::Place;
+use def_run::Answer;
+use qm_io::{MemSink, MemSource, Memory, ProcessLine};
+use qm_top::{run, run_process};
+use std::alloc::Global;
+use std::env::{Env, FillError};
+use std::process::Abort;
+use std::test::Fail;
+
+const QUAD: &[u8] = b"v 0 0 0\nv 3 0 0\nv 3 3 0\nv 0 3 0\nf 1 2 3 4\n";
+
+const TWICE: &[u8] =
+    b"v 0 0 0\nv 1 0 0\nv 1 1 0\nv 0 1 0\nv 2 0 0\nv 2 1 0\nf 1 2 3 4\nf 1 2 5 6\n";
+
+/// A stream's step, and the number of its call that fails, or 0.
+#[derive(Clone, Copy)]
+struct Ends {
+    step: usize,
+    fails: u64,
+    ghost moves: { 1 ≤ step },
+}
+
+const WELL: Ends = Ends { step: 10, fails: 0 };
+
+fn source(alloc: Global, text: &[u8], ends: Ends) -> Result<MemSource, Memory> {
+    Ok(MemSource::new(
+        Vec::from_slice(alloc, text)?,
+        ends.step,
+        Vec::from_slice(alloc, &[ends.fails])?,
+    ))
+}
+
+fn sink(alloc: Global, ends: Ends) -> Result<MemSink, Memory> {
+    Ok(MemSink::new(alloc, ends.step, Vec::from_slice(alloc, &[ends.fails])?))
+}
+
+/// The streams of a run.
+#[derive(Clone, Copy)]
+struct Streams {
+    input: Ends,
+    out: Ends,
+    err: Ends,
+}
+
+const ALL_WELL: Streams = Streams {
+    input: WELL,
+    out: WELL,
+    err: WELL,
+};
+
+/// Commands that write a mesh: the one whole, the other line by line.
+const LINES: [&str; 2] = ["tidy", "remesh --scale 3/1 --floor 1 --weight plain"];
+
+/// A run of a command line: its answer, what went out, and what was said of it.
+fn ran(
+    alloc: Global,
+    line: &str,
+    text: &[u8],
+    streams: Streams,
+) -> Result<(Answer, MemSink, MemSink), Memory> {
+    let mut words = Vec::new(alloc);
+    for word in line.split_whitespace() {
+        words.push(word.to_string(alloc)?)?;
+    }
+    let (mut input, mut out, mut err) = (
+        source(alloc, text, streams.input)?,
+        sink(alloc, streams.out)?,
+        sink(alloc, streams.err)?,
+    );
+    let answer = run(alloc, &words, &mut input, &mut out, &mut err);
+    Ok((answer, out, err))
+}
+
+#[test]
+fn pieces_of_any_size_give_the_same(rt: HostRuntime) -> Result<(), Fail> {
+    for line in LINES {
+        let (_answer, whole, _err) = ran(rt.alloc(), line, QUAD, ALL_WELL)?;
+        for step in [1, 7, 10, 1000] {
+            let ends = Ends { step, fails: 0 };
+            let streams = Streams {
+                input: ends,
+                out: ends,
+                err: ends,
+            };
+            let (answer, out, err) = ran(rt.alloc(), line, QUAD, streams)?;
+            assert!(rt; matches!(answer, Answer::Done));
+            assert_eq!(rt; out.taken(), whole.taken());
+            assert_eq!(rt; err.taken(), b"".as_slice());
+        }
+    }
+    Ok(())
+}
+
+#[test]
+fn each_fault_of_the_source_is_told(rt: HostRuntime) -> Result<(), Fail> {
+    for line in LINES {
+        for fails in 1..8 {
+            let input = Ends { step: 10, fails };
+            let (answer, out, err) = ran(rt.alloc(), line, QUAD, Streams { input, ..ALL_WELL })?;
+            // The source is read in five pieces, and once more at its end.
+            if fails == 7 {
+                assert!(rt; matches!(answer, Answer::Done));
+                continue;
+            }
+            assert!(rt; matches!(answer, Answer::ReadFault));
+            assert_eq!(rt; out.taken(), b"".as_slice());
+            assert_eq!(rt; err.taken(), b"quadq: read fault\n".as_slice());
+        }
+    }
+    Ok(())
+}
+
+#[test]
+fn each_fault_of_the_sink_leaves_a_prefix(rt: HostRuntime) -> Result<(), Fail> {
+    for line in LINES {
+        let (_answer, whole, _err) = ran(rt.alloc(), line, QUAD, ALL_WELL)?;
+        let calls = whole.taken().len().div_ceil(10) as u64;
+        for fails in 1..=calls {
+            let out = Ends { step: 10, fails };
+            let (answer, out, err) = ran(rt.alloc(), line, QUAD, Streams { out, ..ALL_WELL })?;
+            assert!(rt; matches!(answer, Answer::WriteFault));
+            assert!(rt; whole.taken().starts_with(out.taken()));
+            assert_eq!(rt; out.taken().len() as u64, 10 * (fails - 1));
+            assert_eq!(rt; err.taken(), b"quadq: write fault\n".as_slice());
+        }
+    }
+    Ok(())
+}
+
+#[test]
+fn a_fault_of_the_error_sink_changes_nothing(rt: HostRuntime) -> Result<(), Fail> {
+    let place = Place::EdgeTwice {
+        from: 0,
+        to: 1,
+        face1: 0,
+        face2: 1,
+    };
+    let told = b"quadq: edge 1 2: faces 1 and 2\n".as_slice();
+    for line in LINES {
+        for fails in 0..6 {
+            let err = Ends { step: 10, fails };
+            let (answer, out, err) = ran(rt.alloc(), line, TWICE, Streams { err, ..ALL_WELL })?;
+            assert!(rt; matches!(answer, Answer::NotManifold { place: found } if found == place));
+            assert_eq!(rt; answer.status(), 7);
+            assert_eq!(rt; out.taken(), b"".as_slice());
+            assert!(rt; told.starts_with(err.taken()));
+        }
+    }
+    Ok(())
+}
+
+#[test]
+fn a_text_cut_anywhere_is_done_or_refused(rt: HostRuntime) -> Result<(), Fail> {
+    for line in LINES {
+        for end in 0..QUAD.len() {
+            let (answer, out, err) = ran(rt.alloc(), line, &QUAD[..end], ALL_WELL)?;
+            if matches!(answer, Answer::Done) {
+                assert_eq!(rt; err.taken(), b"".as_slice());
+            } else {
+                assert_eq!(rt; out.taken(), b"".as_slice());
+                assert!(rt; err.taken().ends_with(b"\n"));
+            }
+        }
+    }
+    Ok(())
+}
+
+#[test]
+fn other_words_are_a_matter_of_usage(rt: HostRuntime) -> Result<(), Fail> {
+    for line in [
+        "",
+        "tidy --",
+        "tidy --help",
+        "--help",
+        "Tidy",
+        "graph --",
+        "tidy extra",
+    ] {
+        let (answer, out, err) = ran(rt.alloc(), line, QUAD, ALL_WELL)?;
+        assert!(rt; matches!(answer, Answer::Usage));
+        assert_eq!(rt; out.taken(), b"".as_slice());
+        assert!(rt;
+            err.taken()
+                .starts_with(b"quadq: usage: quadq tidy | graph | ")
+        );
+    }
+    Ok(())
+}
+
+/// An environment in memory, with the program's name first.
+#[derive(Drop)]
+struct Given<'a> {
+    words: &'a [&'a [u8]],
+}
+
+impl Env for Given<'_> {
+    fn arg(&self, i: usize, buf: &mut [u8]) -> Result<usize, FillError> {
+        let Some(word) = self.words.get(i) else {
+            return Err(FillError::NotPresent);
+        };
+        if word.len() > buf.len() {
+            return Err(FillError::TooLong);
+        }
+        buf[..word.len()].copy_from_slice(word);
+        Ok(word.len())
+    }
+
+    fn var(&self, _name: &str, _buf: &mut [u8]) -> Result<usize, FillError> {
+        Err(FillError::NotPresent)
+    }
+
+    fn var_at(&self, _i: usize, _buf: &mut [u8]) -> Result<usize, FillError> {
+        Err(FillError::NotPresent)
+    }
+}
+
+/// The exit status of a process with these words, whose output must be empty where it is not 0.
+fn exit_of(rt: &impl Abort, alloc: Global, words: &[&[u8]]) -> Result<u8, Memory> {
+    let line = ProcessLine::new(Given { words });
+    let (mut input, mut out, mut err) = (
+        source(alloc, QUAD, WELL)?,
+        sink(alloc, WELL)?,
+        sink(alloc, WELL)?,
+    );
+    let status = run_process(alloc, &line, &mut input, &mut out, &mut err);
+    assert_eq!(rt; out.taken().is_empty(), status != 0);
+    Ok(status)
+}
+
+static LONG: [u8; 300] = [b'x'; 300];
+
+#[test]
+fn words_of_a_process_may_be_any_bytes(rt: HostRuntime) -> Result<(), Fail> {
+    let alloc = rt.alloc();
+    assert_eq!(rt; exit_of(&rt, alloc, &[b"quadq", b"tidy"])?, 0);
+    assert_eq!(rt; exit_of(&rt, alloc, &[b"\xff", b"tidy"])?, 0);
+    assert_eq!(rt; exit_of(&rt, alloc, &[b"quadq"])?, 2);
+    assert_eq!(rt; exit_of(&rt, alloc, &[])?, 2);
+    assert_eq!(rt; exit_of(&rt, alloc, &[b"quadq", b"tidy", b""])?, 2);
+    assert_eq!(rt; exit_of(&rt, alloc, &[b"quadq", b"\xfftidy"])?, 2);
+    assert_eq!(rt; exit_of(&rt, alloc, &[b"quadq", b"tidy", &LONG])?, 2);
+    Ok(())
+}
