@@ -1,5 +1,5 @@
-// The work of crates/qm_certs in plain C++, written from the description of the certificate's lines, with the same words
-// and the same output.
+// The work of `qm_bench read` and `qm_bench write` in plain C++, written from the description of the certificate's
+// lines, with the same words and the same output.
 #include <charconv>
 #include <cstdint>
 #include <cstdio>

@@ -7,8 +7,9 @@ import sys
 import tempfile
 import time
 
+from measuring import build_bench
+
 HERE = os.path.dirname(os.path.realpath(__file__))
-ROOT = os.path.dirname(HERE)
 ROUNDS = 5
 TIMES = 11
 
@@ -43,14 +44,12 @@ def measured(words, text):
 
 
 def main():
-    with open(f"{ROOT}/crates/qm_certs/stdin", "rb") as sample:
-        folder = f"{ROOT}/crates/qm_certs"
-        subprocess.run(["rt", "run"], cwd=folder, check=True, stdin=sample, stdout=subprocess.DEVNULL)
+    quadq = build_bench()
     with tempfile.TemporaryDirectory() as room:
         plain, text = f"{room}/certs", f"{room}/text"
         subprocess.run(["g++", "-O2", "-std=c++17", "-o", plain, f"{HERE}/certs.cpp"], check=True)
         write_certificate(text)
-        programs = [("quadq", f"{ROOT}/crates/qm_certs/out/qm_certs"), ("plain C++", plain)]
+        programs = [("quadq", quadq), ("plain C++", plain)]
         print(f"{'task':<8}{'program':<12}{'ms a call':>10}{'MB':>7}")
         for task in ("read", "write"):
             once, often, room_mb, outputs = {}, {}, {}, set()

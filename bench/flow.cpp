@@ -1,5 +1,5 @@
-// The work of crates/qm_bench in plain C++, written from the descriptions of the matching graph and of duals, with the
-// same words and the same output.
+// The work of `qm_bench graph`, `nest`, `tree` and `comb` in plain C++, written from the descriptions of the matching
+// graph and of duals, with the same words and the same output.
 #include "network.hpp"
 #include <algorithm>
 #include <cstdint>

@@ -7,8 +7,9 @@ import sys
 import tempfile
 import time
 
+from measuring import build_bench
+
 HERE = os.path.dirname(os.path.realpath(__file__))
-ROOT = os.path.dirname(HERE)
 ROUNDS = 7
 TIMES = 21
 
@@ -29,8 +30,7 @@ def main():
     with tempfile.TemporaryDirectory() as room:
         plain = f"{room}/flow"
         subprocess.run(["g++", "-O2", "-std=c++17", "-o", plain, f"{HERE}/flow.cpp"], check=True)
-        subprocess.run(["rt", "run"], cwd=f"{ROOT}/crates/qm_bench", check=True, stdout=subprocess.DEVNULL)
-        programs = [("quadq", f"{ROOT}/crates/qm_bench/out/qm_bench"), ("plain C++", plain)]
+        programs = [("quadq", build_bench()), ("plain C++", plain)]
         print(f"{'task':<8}{'program':<12}{'ms a call':>10}{'MB':>7}")
         for task in ("graph", "nest", "tree", "comb"):
             once, often, room_mb, outputs = {}, {}, {}, set()

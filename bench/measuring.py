@@ -1,9 +1,11 @@
 """Runs programs and measures them: what the benchmarks of whole files share."""
 import hashlib
+import os
 import re
 import subprocess
 import sys
 
+ROOT = os.path.dirname(os.path.dirname(os.path.realpath(__file__)))
 # A child is charged with the memory that its parent had, so a small process stands between.
 BETWEEN = """import os, subprocess, sys, time
 start = time.perf_counter()
@@ -11,6 +13,14 @@ child = subprocess.Popen(sys.argv[1:])
 _, status, usage = os.wait4(child.pid, 0)
 seconds = time.perf_counter() - start
 print(f"taken: {os.waitstatus_to_exitcode(status)} {seconds} {usage.ru_maxrss / 1024}", file=sys.stderr)"""
+
+
+def build_bench():
+    """Builds the program of the work that is timed, and gives its path."""
+    crate = f"{ROOT}/crates/qm_bench"
+    with open(f"{crate}/stdin", "rb") as text:
+        subprocess.run(["rt", "run"], cwd=crate, check=True, stdin=text, stdout=subprocess.DEVNULL)
+    return f"{crate}/out/qm_bench"
 
 
 def run(words, source, target):

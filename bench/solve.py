@@ -23,9 +23,11 @@ import subprocess
 import sys
 import tempfile
 
+from measuring import build_bench
+
 HERE = os.path.dirname(os.path.realpath(__file__))
 ROOT = os.path.dirname(HERE)
-SOLVER = f"{ROOT}/crates/qm_nets/out/qm_nets"
+SOLVER = [f"{ROOT}/crates/qm_bench/out/qm_bench", "descend"]
 MESHES = [["holes", "512", "512"], ["holes", "1024", "1024"], ["voxels", "20"], ["voxels", "40"]]
 LARGE = [["holes", "4096", "4096"], ["voxels", "100"], ["voxels", "208"]]
 SECONDS = 60
@@ -122,7 +124,7 @@ def measured(net, room):
     """What quadq tells of a network, by name, with the seconds and megabytes of the run."""
     with open(f"{room}/it.net", "w", encoding="ascii") as out:
         out.write(text_of(net))
-    told, seconds, megabytes = run([SOLVER], f"{room}/it.net")
+    told, seconds, megabytes = run(SOLVER, f"{room}/it.net")
     found = {name: float(value) for name, value in re.findall(r"^([a-z ]+): ([-\d.]+)", told, re.MULTILINE)}
     return found, seconds, megabytes
 
@@ -211,9 +213,7 @@ def main():
     has_peer = shutil.which("cbc") and "--alone" not in sys.argv
     if not has_peer:
         print("cbc: not measured")
-    with open(f"{ROOT}/crates/qm_nets/stdin", "rb") as text:
-        command = ["rt", "run"]
-        subprocess.run(command, cwd=f"{ROOT}/crates/qm_nets", check=True, stdin=text, stdout=subprocess.DEVNULL)
+    build_bench()
     head = f"{'network':<40}{'nodes':>8}{'arcs':>8}{'floor':>6}{'scale':>7}{'start':>12}{'least':>12}"
     head += f"{'rounds':>7}{'left':>6}{'sets':>6}{'s':>8}{'MB':>6}{'us/arc':>8}{'read %':>8}{'start %':>8}{'rest %':>8}"
     print(head + f"{'cbc s':>8}{'ratio':>8}" * bool(has_peer))

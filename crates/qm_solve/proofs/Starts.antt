@@ -11,7 +11,7 @@ use Rattle.sum_laws.proofs.Counts.{count_below_prefix, count_below_le, count_bel
 use Rattle.sum_laws.proofs.Sums.{times_sum, total_below_same, total_same}
 use Rattle.table_laws.proofs.Ranges.{part_low}
 use Rattle.def_flow.specs.Network.{Network, IsWithinBounds, arc_at, ends}
-use Rattle.def_flow.specs.Admissible.{IsAdmissible, IsBalanced, IsEven, arc_deviation, deviation, entries, is_on_side, side_sum}
+use Rattle.def_flow.specs.Admissible.{IsBalanced, IsEven, arc_deviation, deviation, entries, is_on_side, side_sum}
 use Rattle.def_flow.specs.Descent.{IsStartOf}
 use Rattle.def_flow.specs.declared.net.Arc.{Arc}
 use Rattle.def_flow.specs.declared.net.End.{End}
@@ -120,11 +120,3 @@ even_start net c bounds even is = multiple_starts net c bounds even (omega (arit
         let same : c ≡ net.floor = omega (arith, is) in
         let few : net.q * net.floor ≤ net.q * 3 = mul-le-mul_left net.q bounds.floor_high in
         omega (arith, ap (λ n. net.q * n) same, few)
-
--- Where the old lengths themselves are admissible and their sum is small, the network is even.
-pub olds_even : (net : Network) → IsWithinBounds net → IsAdmissible net (entries (times_old 1 net.arcs)) → count (λ (a : Arc). a.old) net.arcs ≤ 2 ^ 23 → IsEven net
-olds_even net bounds once few = record {
-  high = λ k l. omega (arith, ints, bounds.floor_low, multiple_at 1 net.arcs k l, once.high k l);
-  small = few;
-  balanced = λ v. omega (arith, ints, once.balanced v, side_times net.arcs 1 true v, side_times net.arcs 1 false v);
-}
