@@ -1,6 +1,6 @@
 //! Tables that tell the places of the points of a layout with lengths.
 
-use crate::tables::Starts;
+use crate::tables::RunStarts;
 
 /// A patch of the new mesh: its width and height, and where the parameters of its sides begin.
 #[derive(Clone, Copy, Debug, PartialEq, Eq)]
