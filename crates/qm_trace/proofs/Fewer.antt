@@ -13,7 +13,7 @@ use Rattle.def_cut.specs.declared.graph.Stop.{Stop}
 use Rattle.def_cut.specs.declared.moving.Moving.{Moving}
 use Rattle.def_cut.specs.Motion.{begun, stop_of, Terrain}
 use Rattle.def_cut.specs.Traced.{terrain_of}
-use Rattle.def_cut.specs.Events.{after_ride_of, after_settling, all_told, closed, darts_in, decided_at, is_closed, leads_to, may_ride, may_settle, rider_at, ridden_once_more, rides_in, told, told_at, first_event_state, Event, EventState, IsMotionOf, Leads}
+use Rattle.def_cut.specs.Events.{after_ride_of, after_settling, all_told, closed, darts_in, decided_at, are_ends_settled, leads_to, may_ride, may_settle, rider_at, ridden_once_more, rides_in, told, told_at, first_event_state, Event, EventState, IsMotionOf, Leads}
 use Rattle.def_cut.specs.Events.Event.{Ride, Settle}
 use Rattle.motion_laws.proofs.Marks.{no_darts}
 use Rattle.motion_laws.proofs.Shown.{long}
@@ -79,7 +79,7 @@ module _ (faces : Faces) (m : IsManifold faces) where
       both.1 ∙ sym both.0
 
   settle_rides : (x : EventState) → IsMotionOf faces x → (v : ℕ) → rides_of (after_settling (terrain_of faces) x v).riders ≡ rides_of x.riders
-  settle_rides x z v = by_test (is_closed (terrain_of faces) (set x.settled v true) (darts_in x.noted))
+  settle_rides x z v = by_test (are_ends_settled (terrain_of faces) (set x.settled v true) (darts_in x.noted))
     where
       told : rides_of (decided_at (terrain_of faces) x v).riders ≡ rides_of x.riders
       told = rides_told (terrain_of faces) (is_on x.stood) (darts_in x.noted) v x.riders x.noted (noted_long x z)
@@ -121,7 +121,7 @@ module _ (faces : Faces) (m : IsManifold faces) where
 
   pub settle_less : (x : EventState) → IsMotionOf faces x → (v : ℕ) → may_settle (terrain_of faces) x v ≡ true
       → left_of faces (after_settling (terrain_of faces) x v) < left_of faces x
-  settle_less x z v may = by_test (is_closed (terrain_of faces) (set x.settled v true) (darts_in x.noted)) refl
+  settle_less x z v may = by_test (are_ends_settled (terrain_of faces) (set x.settled v true) (darts_in x.noted)) refl
     where
       told : rides_of (decided_at (terrain_of faces) x v).riders ≡ rides_of x.riders
       told = rides_told (terrain_of faces) (is_on x.stood) (darts_in x.noted) v x.riders x.noted (noted_long x z)
@@ -140,7 +140,7 @@ module _ (faces : Faces) (m : IsManifold faces) where
       here : left_in (darts_in x.noted) x.settled ≡ suc (unset x.settled)
       here = by_noted (darts_in x.noted) (settle_parts faces m x z v may).1
 
-      by_test : (t : Bool) → is_closed (terrain_of faces) (set x.settled v true) (darts_in x.noted) ≡ t
+      by_test : (t : Bool) → are_ends_settled (terrain_of faces) (set x.settled v true) (darts_in x.noted) ≡ t
           → left_of faces (cond t (closed (decided_at (terrain_of faces) x v)) (decided_at (terrain_of faces) x v)) < left_of faces x
       by_test true is =
           let none : left_in (darts_in (replicate (length x.noted) None)) (replicate (length (set x.settled v true)) false) ≡ 0
