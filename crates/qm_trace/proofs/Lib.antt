@@ -1,5 +1,5 @@
 mod Stops
-mod Marking
+pub mod Marking
 mod Riding
 mod Instants
 mod Steps

@@ -1,7 +1,8 @@
 -- Marks at the darts of a list, one after another.
 use Rattle.std.proofs.Common.{◌≡◌, ℕ, ◌+◌, ◌<◌, Bool, true, false, cond, eqb, ◌||◌, List, [], ◌∷◌, ◌++◌, length, get_or, set, take, Option, Some, None, sym, ap, ◌∙◌, refl, inl, inr, arith}
 use Rattle.std.proofs.Math.Bool.{or-false}
-use Rattle.std.specs.List.{list_any}
+use Rattle.std.specs.List.{list_any, range_with_len}
+use Rattle.list_laws.proofs.Filters.{range_more}
 use Rattle.std.proofs.lemmas.Bool.{cases_eq, eq-eqb, ne_eqb, eqb-true, false≢true}
 use Rattle.sum_laws.proofs.Tests.{same_test}
 use Rattle.std.proofs.lemmas.List.{take_more, get_or-set_same, get_or-set_other}
@@ -24,6 +25,14 @@ any_snoc p (y ∷ ys) x = ap (λ b. p y || b) (any_snoc p ys x) ∙ at (p y) (li
     at : (a b c : Bool) → (a || (b || c)) ≡ ((a || b) || c)
     at true b c = refl
     at false b c = refl
+
+pub or_shift : (a b c : Bool) → ((a || b) || c) ≡ (a || (b || c))
+or_shift true b c = refl
+or_shift false b c = refl
+
+-- One number more in a range.
+pub any_range_more : (p : ℕ → Bool) (n : ℕ) → list_any p (range_with_len 0 (n + 1)) ≡ (list_any p (range_with_len 0 n) || p n)
+any_range_more p n = ap (list_any p) (range_more n) ∙ any_snoc p (range_with_len 0 n) n
 
 pub among_more : (ds : List ℕ) (i d : ℕ) → i < length ds → is_among d (take (i + 1) ds) ≡ (is_among d (take i ds) || eqb d (get_or ds i 0))
 among_more ds i d l = ap (is_among d) (take_more ds i 0 l) ∙ any_snoc (λ e. eqb d e) (take i ds) (get_or ds i 0)
