@@ -4,9 +4,11 @@ use Rattle.std.proofs.lemmas.Bool.{cases_Bool, cases_eq, cases_lt}
 use Rattle.std.proofs.lemmas.Option.{same_Some}
 use Rattle.def_mesh.specs.HalfEdges.{HalfEdges, IsQuadManifold}
 use Rattle.def_cut.specs.Cuts.{Cut, IsCut}
+use Rattle.def_cut.specs.Grids.{IsGrid}
 use Rattle.def_cut.specs.Steps.{easts}
-use Rattle.merge_laws.proofs.Sides.{side_low, side_on, first_place, one_place, one_size}
-use Rattle.merge_laws.proofs.Joins.{on_or_not, other_way, turned_glued, on_low, on_cut, less, links_less, join_law}
+use Rattle.cut_laws.specs.Grown.{grown}
+use Rattle.merge_laws.proofs.Sides.{side_low, side_on, first_place, one_place, one_size, grid_on}
+use Rattle.merge_laws.proofs.Joins.{on_or_not, other_way, other_without, turned_glued, turned_arc, less, links_less, start_stays, join_law}
 use Rattle.def_merge.specs.Joins.{IsWholeSide, AreInOne, AreGlued, IsJoinable, IsOnArc, IsNameOf, IsWithout}
 use Rattle.def_merge.specs.Laws.{GrownLaw}
 
@@ -99,6 +101,19 @@ module _ (mesh : HalfEdges) (laws : IsQuadManifold mesh) (cut : Cut) (full : IsC
   module _ (rest : Cut) (s t n : ℕ) (arc : IsJoinable mesh cut s t n) (without : IsWithout mesh cut rest s t n) where
     full_rest : IsCut mesh rest
     full_rest = join_law mesh cut rest s t n laws full arc without
+
+    -- The edges before its two starts stay.
+    pub near_stays : rest (mesh.prev s) ≡ true
+    near_stays = by_grids (grid_on mesh laws cut full s n arc.glued.near) (grid_on mesh laws cut full t n arc.glued.far)
+      where
+        by_grids : (h : ℕ) × IsGrid mesh cut n h (grown mesh s) → (g : ℕ) × IsGrid mesh cut n g (grown mesh t) → rest (mesh.prev s) ≡ true
+        by_grids p q = start_stays mesh laws cut full s t n arc p.0 q.0 p.1 q.1 rest without
+
+    pub far_stays : rest (mesh.prev t) ≡ true
+    far_stays = by_grids (grid_on mesh laws cut full t n arc.glued.far) (grid_on mesh laws cut full s n arc.glued.near)
+      where
+        by_grids : (h : ℕ) × IsGrid mesh cut n h (grown mesh t) → (g : ℕ) × IsGrid mesh cut n g (grown mesh s) → rest (mesh.prev t) ≡ true
+        by_grids p q = start_stays mesh laws cut full t s n (turned_arc mesh laws cut full s t n arc) p.0 q.0 p.1 q.1 rest (other_without mesh cut rest s t n without)
 
     -- A cut dart that led into the arc arrived at one of its ends.
     over_end : (d : ℕ) → d < mesh.count → rest d ≡ true → IsOnArc mesh s t n (mesh.next d) → (d ≡ mesh.prev s) ⊎ (d ≡ mesh.prev t)

@@ -34,6 +34,9 @@ on_or_not mesh s t n d = by_sides (sent_or_not (easts mesh s) d n) (sent_or_not 
 pub other_way : (mesh : HalfEdges) (s t n d : ℕ) → IsOnArc mesh s t n d → IsOnArc mesh t s n d
 other_way mesh s t n d o = (o.0, o.1, elim o.2 [ inl e ↦ inr e | inr e ↦ inl e ])
 
+pub other_without : (mesh : HalfEdges) (cut rest : Cut) (s t n : ℕ) → IsWithout mesh cut rest s t n → IsWithout mesh cut rest t s n
+other_without mesh cut rest s t n without = record { gone = λ d o. without.gone d (other_way mesh t s n d o); kept = λ d l none. without.kept d l (λ o. none (other_way mesh s t n d o)) }
+
 -- Four faces go round a vertex, from wherever they are counted.
 cross_from : (mesh : HalfEdges) → IsQuadManifold mesh → (x d : ℕ) → x < mesh.count → d < mesh.count → mesh.from d ≡ mesh.from x → HasCross mesh x → HasCross mesh d
 cross_from mesh laws x d lx ld at cross = by_cross cross.0 cross.1 cross.2 cross.3
@@ -182,9 +185,13 @@ module _ (mesh : HalfEdges) (laws : IsQuadManifold mesh) (cut : Cut) (full : IsC
         last : n - 1 < n
         last = omega (arith, arc.glued.near.some)
 
+    -- So does the edge before its start.
+    pub start_stays : rest (mesh.prev s) ≡ true
+    start_stays = ap rest (prev_three mesh laws s) ∙ still mesh laws cut rest s t n without (spin mesh 3 s) (subst (λ (x : ℕ). x < mesh.count) (prev_three mesh laws s) (laws.prev_low s arc.glued.near.corner.0)) (clear 3 0 0 (omega arith) (omega arith) arc.glued.near.some grid.tall) (ap cut (sym (prev_three mesh laws s)) ∙ arc.glued.near.corner.2)
+
     -- An open vertex with a dart on the near side.
     pub cross_on : (d : ℕ) → d < mesh.count → rest (mesh.prev d) ≡ false → (k : ℕ) → k < n → d ≡ easts mesh s k → HasCross mesh d
-    cross_on d ld off zero l e = absurd (false≢true (sym off ∙ (ap (λ x. rest (mesh.prev x)) e ∙ (ap rest (prev_three mesh laws s) ∙ still mesh laws cut rest s t n without (spin mesh 3 s) (subst (λ (x : ℕ). x < mesh.count) (prev_three mesh laws s) (laws.prev_low s arc.glued.near.corner.0)) (clear 3 0 0 (omega arith) (omega arith) l grid.tall) (ap cut (sym (prev_three mesh laws s)) ∙ arc.glued.near.corner.2)))))
+    cross_on d ld off zero l e = absurd (false≢true (sym off ∙ (ap (λ x. rest (mesh.prev x)) e ∙ start_stays)))
     cross_on d ld off (suc k) l e = subst (λ (x : ℕ). HasCross mesh x) (sym e) (crossed_at k l)
 
     pub cross_before : (d : ℕ) → d < mesh.count → cut d ≡ false → (k : ℕ) → k < n → mesh.prev d ≡ easts mesh s k → HasCross mesh d
@@ -228,7 +235,7 @@ module _ (mesh : HalfEdges) (laws : IsQuadManifold mesh) (cut : Cut) (full : IsC
   back = turned_arc mesh laws cut full s t n arc
 
   without_back : IsWithout mesh cut rest t s n
-  without_back = record { gone = λ d o. without.gone d (other_way mesh t s n d o); kept = λ d l none. without.kept d l (λ o. none (other_way mesh s t n d o)) }
+  without_back = other_without mesh cut rest s t n without
 
   keeps : (d : ℕ) → d < mesh.count → (IsOnArc mesh s t n d → ⊥) → cut d ≡ true → rest d ≡ true
   keeps d l none on = still mesh laws cut rest s t n without d l none on

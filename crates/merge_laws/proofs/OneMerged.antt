@@ -9,7 +9,7 @@ use Rattle.def_cut.specs.Cuts.{IsCut}
 use Rattle.def_cut.specs.FullCut.{is_on}
 use Rattle.mesh_laws.proofs.HalfEdges.{manifold_law}
 use Rattle.face_laws.proofs.FullCuts.{full_cut_law}
-use Rattle.merge_laws.proofs.Joins.{on_or_not, other_way, join_law}
+use Rattle.merge_laws.proofs.Joins.{on_or_not, other_way, less, join_law}
 use Rattle.merge_laws.proofs.Arcs.{AreOneArc, one_arc}
 use Rattle.def_merge.specs.Joins.{IsOnArc}
 use Rattle.def_merge.specs.Merged.{IsStep, Steps, IsMerged, IsMergedCut}
@@ -52,6 +52,11 @@ module _ (faces : Faces) (laws : IsQuadManifold (half_edges faces)) where
   pub cut_reached : (marks a : List Bool) (i : ℕ) → IsCutOf faces marks → Steps faces marks a i → IsCutOf faces a
   cut_reached marks a zero cut steps = subst (λ (x : List Bool). IsCutOf faces x) steps cut
   cut_reached marks a (suc i) cut steps = cut_after steps.0 a (cut_reached marks steps.0 i cut steps.1) steps.2
+
+  -- What is left is a part of the cut.
+  pub part_reached : (marks a : List Bool) (i : ℕ) → IsCutOf faces marks → Steps faces marks a i → (d : ℕ) → d < darts faces → is_on a d ≡ true → is_on marks d ≡ true
+  part_reached marks a zero cut steps d l on = ap (λ (x : List Bool). is_on x d) steps ∙ on
+  part_reached marks a (suc i) cut steps d l on = part_reached marks steps.0 i cut steps.1 d l (less mesh laws (is_on steps.0) (is_on a) steps.2.near steps.2.far steps.2.size steps.2.without d l on)
 
   -- So many steps lead to one cut.
   same_reached : (marks a b : List Bool) (i : ℕ) → IsCutOf faces marks → Steps faces marks a i → Steps faces marks b i → a ≡ b

@@ -1,0 +1,14 @@
+use Rattle.std.proofs.Common.{◌≡◌, ◌<◌, ◌-◌, length}
+use Rattle.def_mesh.specs.HalfEdges.{half_edges}
+use Rattle.def_cut.specs.FullCut.{is_on}
+use Rattle.def_cut.specs.Steps.{easts}
+use Rattle.qm_merge.proofs.Leaving.{HaveLeft}
+use Rattle.qm_merge.proofs.drops.drop_seam.Given as goal
+
+-- the first k edges have left, and d lies on the last of them
+abbrev pub invariant-loop-k : goal.invariant-loop-k
+invariant-loop-k l = record {
+  long : length l.cut ≡ length l.fn.cut;
+  at : l.d ≡ easts (half_edges l.mesh) l.s (l.k - 1);
+  left : HaveLeft (half_edges l.mesh) (is_on l.fn.cut) (is_on l.cut) l.s l.fn.seam.far l.fn.seam.long l.k;
+}

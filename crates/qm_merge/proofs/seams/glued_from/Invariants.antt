@@ -1,0 +1,17 @@
+use Rattle.std.proofs.Common.{◌≡◌, ◌<◌, ℕ, false}
+use Rattle.def_mesh.specs.Darts.{darts, next_of}
+use Rattle.def_mesh.specs.HalfEdges.{half_edges}
+use Rattle.def_cut.specs.FullCut.{is_on}
+use Rattle.def_cut.specs.Steps.{easts}
+use Rattle.qm_merge.specs.Seams.{AreGluedSoFar, IsNameSoFar}
+use Rattle.qm_merge.proofs.seams.glued_from.Given as goal
+
+-- n darts of the near side and their twins have been met, and no end of the side
+abbrev pub invariant-loop-n : goal.invariant-loop-n
+invariant-loop-n l = record {
+  at : l.d ≡ easts (half_edges l.mesh) l.s l.n;
+  low : l.d < darts l.mesh;
+  inside : (k : ℕ) → k < l.n → is_on l.cut (next_of (easts (half_edges l.mesh) l.s k)) ≡ false;
+  glued : AreGluedSoFar (half_edges l.mesh) (is_on l.cut) l.s l.far l.n;
+  named : IsNameSoFar (half_edges l.mesh) l.s l.far l.n l.name;
+}

@@ -1,0 +1,4 @@
+pub mod Walks
+pub mod Seams
+pub mod Waiting
+pub mod Places

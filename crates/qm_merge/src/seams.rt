@@ -1,0 +1,88 @@
+//! Arcs that are a whole side of each of two patches, found from a corner where one of these sides begins.
+
+ghost use Rattle.std.specs.Prelude.{◌≡◌, ◌<◌, ◌↔◌, ◌≤◌, ℕ, IsTrue, IfSome, IfNone};
+ghost use Rattle.def_mesh.specs.Darts.{darts};
+ghost use Rattle.def_mesh.specs.HalfEdges.{half_edges};
+ghost use Rattle.def_cut.specs.Cuts.{IsCorner};
+ghost use Rattle.def_cut.specs.FullCut.{is_on};
+ghost use Rattle.def_merge.specs.Joins.{AreGlued, IsJoinable};
+ghost use Rattle.qm_grid.specs.Cutting.{IsCutting};
+ghost use Rattle.qm_merge.specs.Walks.{LeadsOn};
+ghost use Rattle.qm_merge.specs.Seams.{IsGluedSeam, IsSeam};
+
+use crate::corners::{east, is_around, is_corner};
+use qm_mesh::Mesh;
+
+/// The other side of an arc begins at `far`; the arc has `long` edges, and `name` is the least of their darts.
+#[derive(Clone, Copy, Debug, PartialEq, Eq)]
+pub(crate) struct Seam {
+    pub(crate) far: u32,
+    pub(crate) long: u32,
+    pub(crate) name: u32,
+}
+
+/// The joinable arc of which a side begins at s. Linear in the border of the patch.
+pub(crate) fn seam_from(mesh: &Mesh, cut: &[bool], s: u32) -> Option<Seam>
+    requires cutting { IsCutting mesh.now cut.now }
+    requires dart { s < darts mesh.now }
+    ensures found { IfSome result (IsSeam (half_edges mesh.now) (is_on cut.now) s) }
+    ensures none { IfNone result ((t n : ℕ) → ¬ IsJoinable (half_edges mesh.now) (is_on cut.now) s t n) }
+{
+    if !is_corner(mesh, cut, s) {
+        return None;
+    }
+    let Some(seam) = glued_from(mesh, cut, s) else {
+        return None;
+    };
+    if is_around(mesh, cut, s, seam.far) {
+        return None;
+    }
+    Some(seam)
+}
+
+/// The arc that is the whole side from corner s and a whole side on the other side, too.
+fn glued_from(mesh: &Mesh, cut: &[bool], s: u32) -> Option<Seam>
+    requires cutting { IsCutting mesh.now cut.now }
+    requires corner { IsCorner (half_edges mesh.now) (is_on cut.now) s }
+    ensures found { IfSome result (IsGluedSeam (half_edges mesh.now) (is_on cut.now) s) }
+    ensures none { IfNone result ((t n : ℕ) → ¬ AreGlued (half_edges mesh.now) (is_on cut.now) s t n) }
+{
+    let mut d = s;
+    let mut far = s;
+    let mut name = s;
+    for n in 0..cut.len() as u32 + 1 {
+        let Some(twin) = mesh.twin(d) else {
+            return None;
+        };
+        if !leads_on(mesh, cut, twin, n, far) {
+            return None;
+        }
+        far = twin;
+        name = name.min(d).min(far);
+        if cut[mesh.next(d) as usize] {
+            if !cut[mesh.prev(far) as usize] {
+                return None;
+            }
+            return Some(Seam {
+                far,
+                long: n + 1,
+                name,
+            });
+        }
+        d = east(mesh, d);
+    }
+    unreachable!()
+}
+
+/// Whether d begins the far side at the end of the near one, or goes straight on to `far`.
+fn leads_on(mesh: &Mesh, cut: &[bool], d: u32, n: u32, far: u32) -> bool
+    requires cutting { IsCutting mesh.now cut.now }
+    requires dart { d < darts mesh.now }
+    ensures { IsTrue result ↔ LeadsOn (half_edges mesh.now) (is_on cut.now) d n far }
+{
+    let ends = cut[mesh.next(d) as usize];
+    if n == 0 {
+        return ends;
+    }
+    !ends && east(mesh, d) == far
+}
