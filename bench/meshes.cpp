@@ -4,6 +4,9 @@
 //   cube N       the surface of a cube of N by N faces a side
 //   voxels N     a terrain of N by N columns whose heights go up or down by one at each step: each inner vertex is
 //                irregular
+//   plate N      a flat grid of N by N faces with holes at random, each of 1 to 4 by 1 to 4 faces and no two of them
+//                touching, until a seventh of the faces are left out
+//   steps N      N plates apart from each other, each of four columns two faces wide and 1, 4, 3 and 2 faces high
 #include <array>
 #include <charconv>
 #include <cstdint>
@@ -108,6 +111,46 @@ static void voxels(Writer& out, int32_t n) {
         }
 }
 
+// The next number below a bound, by Knuth's generator of 64 bits.
+static int32_t draw(uint64_t& state, int32_t bound) {
+    state = 6364136223846793005 * state + 1442695040888963407;
+    return int32_t((state >> 33) % uint64_t(bound));
+}
+
+static void plate(Writer& out, int32_t n) {
+    std::vector<char> is_hole(size_t(n) * n);
+    auto any = [&](int32_t left, int32_t low, int32_t right, int32_t high) {
+        for (int32_t y = low; y < high; ++y)
+            for (int32_t x = left; x < right; ++x)
+                if (is_hole[size_t(y) * n + x]) return true;
+        return false;
+    };
+    uint64_t state = 1;
+    size_t left_out = 0;
+    for (size_t tries = 0; n >= 8 && left_out * 7 < is_hole.size() && tries < is_hole.size(); ++tries) {
+        int32_t width = 1 + draw(state, 4), height = 1 + draw(state, 4);
+        int32_t x = 1 + draw(state, n - width - 1), y = 1 + draw(state, n - height - 1);
+        if (any(x - 1, y - 1, x + width + 1, y + height + 1)) continue;
+        for (int32_t j = 0; j < height; ++j)
+            for (int32_t i = 0; i < width; ++i) is_hole[size_t(y + j) * n + x + i] = 1;
+        left_out += size_t(width) * height;
+    }
+    for (int32_t y = 0; y < n; ++y)
+        for (int32_t x = 0; x < n; ++x)
+            if (!is_hole[size_t(y) * n + x])
+                out.face({Point{x, y, 0}, {x + 1, y, 0}, {x + 1, y + 1, 0}, {x, y + 1, 0}});
+}
+
+static void steps(Writer& out, int32_t n) {
+    const std::array<int32_t, 4> heights = {1, 4, 3, 2};
+    for (int32_t k = 0; k < n; ++k)
+        for (int32_t i = 0; i < 8; ++i)
+            for (int32_t j = 0; j < heights[i / 2]; ++j) {
+                int32_t x = 10 * (k % 1000) + i, y = 6 * (k / 1000) + j;
+                out.face({Point{x, y, 0}, {x + 1, y, 0}, {x + 1, y + 1, 0}, {x, y + 1, 0}});
+            }
+}
+
 int main(int argc, char** argv) {
     std::string_view what = argc > 1 ? argv[1] : "";
     int32_t first = argc > 2 ? std::atoi(argv[2]) : 0, second = argc > 3 ? std::atoi(argv[3]) : first;
@@ -115,7 +158,9 @@ int main(int argc, char** argv) {
     if (what == "grid" || what == "holes") grid(out, first, second, what == "holes");
     else if (what == "cube") cube(out, first);
     else if (what == "voxels") voxels(out, first);
-    else return std::fprintf(stderr, "usage: meshes grid W H | holes W H | cube N | voxels N\n"), 2;
+    else if (what == "plate") plate(out, first);
+    else if (what == "steps") steps(out, first);
+    else return std::fprintf(stderr, "usage: meshes grid W H | holes W H | cube N | voxels N | plate N | steps N\n"), 2;
     out.write();
     return 0;
 }

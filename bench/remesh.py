@@ -1,7 +1,11 @@
 #!/usr/bin/env python3
 """Measures `quadq remesh` at half size, and `quadq check` of what it wrote: wall time and peak memory, beside `tidy`,
-which reads, checks and writes the same mesh, and `graph`, which cuts it too. Meshes of other files are measured where
-their paths are given. Where Blender is installed, its QuadriFlow makes as many faces of one mesh."""
+which reads, checks and writes the same mesh, and `graph`, which cuts it too. Meshes with a long boundary are measured
+at four settings, and there `check` stands beside `tidy` of both texts. Meshes of other files are measured where their
+paths are given. Where Blender is installed, its QuadriFlow makes as many faces of one mesh.
+
+usage: bench/remesh.py [--boundary] [FILE.obj..]     boundary: the meshes with a long boundary only
+"""
 import os
 import shutil
 import subprocess
@@ -13,14 +17,18 @@ from measuring import count_lines, measured, run
 HERE = os.path.dirname(os.path.realpath(__file__))
 ROOT = os.path.dirname(HERE)
 QUADQ = f"{ROOT}/build/quadq"
-REMESH = [QUADQ, "remesh", "--scale", "1/2", "--floor", "auto", "--weight", "plain"]
 ROUNDS = 3
+# Each setting as scale and floor.
+HALF = ("1/2", "auto")
+SETTINGS = [("1/2", "1"), ("1/3", "1"), ("1/1", "3"), HALF]
 # Each mesh as the words of the program that makes it.
 MESHES = [
     ("a cube of 400 by 400 faces a side", ["cube", "400"]),
     ("a grid with a hole every 64 faces", ["holes", "1024", "1024"]),
     ("a terrain of voxels, 64 by 64 columns", ["voxels", "64"]),
 ]
+BOUNDARY = [(f"a plate of {side} by {side} with holes", ["plate", str(side)]) for side in (171, 342, 684, 1080)]
+BOUNDARY += [(f"{plates} stepped plates", ["steps", str(plates)]) for plates in (1000, 4000, 8000, 30000)]
 # The mesh that QuadriFlow remeshes too.
 SMALL = ("a cube of 100 by 100 faces a side", ["cube", "100"])
 
@@ -31,22 +39,30 @@ def best(words, source, target):
     return min(seconds for seconds, _ in runs), min(megabytes for _, megabytes in runs)
 
 
-def show(title, mesh, room):
+def remesh_words(setting):
+    """The command that remeshes at a setting."""
+    scale, floor = setting
+    return [QUADQ, "remesh", "--scale", scale, "--floor", floor, "--weight", "plain"]
+
+
+def show(title, mesh, room, setting=HALF):
     """A row for a mesh."""
-    out, pair, told = f"{room}/out.obj", f"{room}/pair.obj", f"{room}/told"
-    if run(REMESH, mesh, out)[2] != 0:
-        print(f"{title:<40}{count_lines(mesh, b'f'):>10}  refused")
+    out, new, pair, told = f"{room}/out.obj", f"{room}/new.obj", f"{room}/pair.obj", f"{room}/told"
+    remesh = remesh_words(setting)
+    row = f"{title:<40}{' '.join(setting):>10}{count_lines(mesh, b'f'):>10}"
+    seconds, megabytes, status = run(remesh, mesh, new)
+    if status != 0:
+        print(f"{row}  refused with {status} in {seconds:.2f} s, {megabytes:.0f} MB", flush=True)
         return
-    tidy, graph, remesh = (best(words, mesh, out) for words in ([QUADQ, "tidy"], [QUADQ, "graph"], REMESH))
     with open(pair, "wb") as both:
-        for part in (mesh, out):
+        for part in (mesh, new):
             with open(part, "rb") as text:
                 shutil.copyfileobj(text, both)
-    check = best([QUADQ, "check"], pair, told)
-    row = f"{title:<40}{count_lines(mesh, b'f'):>10}{count_lines(out, b'#x'):>9}{count_lines(out, b'f'):>10}"
-    for seconds, megabytes in (tidy, graph, remesh, check):
+    row += f"{count_lines(new, b'#x'):>9}{count_lines(new, b'f'):>10}"
+    for words, text in ((["tidy"], mesh), (["graph"], mesh), (remesh[1:], mesh), (["tidy"], new), (["check"], pair)):
+        seconds, megabytes = best([QUADQ, *words], text, told if words == ["check"] else out)
         row += f"{seconds:>9.2f}{megabytes:>6.0f}"
-    print(row)
+    print(row, flush=True)
 
 
 def show_quadriflow(mesh, room):
@@ -56,7 +72,7 @@ def show_quadriflow(mesh, room):
         print("Blender is not installed")
         return
     out, other = f"{room}/out.obj", f"{room}/other.obj"
-    ours, ours_mb = best(REMESH, mesh, out)
+    ours, ours_mb = best(remesh_words(HALF), mesh, out)
     faces = count_lines(out, b"f")
     script = [blender, "--background", "--factory-startup", "--python-exit-code", "1"]
     script += ["--python", f"{HERE}/quadriflow.py", "--", mesh, other, str(faces)]
@@ -70,21 +86,32 @@ def show_quadriflow(mesh, room):
 
 
 def main():
+    only_boundary = "--boundary" in sys.argv
     subprocess.run([f"{ROOT}/tools/build.py"], check=True)
     with tempfile.TemporaryDirectory() as room:
         maker, mesh = f"{room}/meshes", f"{room}/mesh.obj"
         subprocess.run(["g++", "-O2", "-std=c++20", "-o", maker, f"{HERE}/meshes.cpp"], check=True)
-        head = f"{'mesh':<40}{'faces':>10}{'arcs':>9}{'new':>10}"
-        print(head + "".join(f"{name + ' s':>9}{'MB':>6}" for name in ("tidy", "graph", "remesh", "check")))
-        for title, words in MESHES:
+
+        def make(words):
             with open(mesh, "wb") as out:
                 subprocess.run([maker, *words], stdout=out, check=True)
+
+        head = f"{'mesh':<40}{'setting':>10}{'faces':>10}{'arcs':>9}{'new':>10}"
+        names = ("tidy", "graph", "remesh", "tidy new", "check")
+        print(head + "".join(f"{name + ' s':>9}{'MB':>6}" for name in names))
+        for title, words in [] if only_boundary else MESHES:
+            make(words)
             show(title, mesh, room)
+        for title, words in BOUNDARY:
+            make(words)
+            for setting in SETTINGS:
+                show(title, mesh, room, setting)
         for path in sys.argv[1:]:
-            show(os.path.basename(path), path, room)
-        with open(mesh, "wb") as out:
-            subprocess.run([maker, *SMALL[1]], stdout=out, check=True)
-        show_quadriflow(mesh, room)
+            if path != "--boundary":
+                show(os.path.basename(path), path, room)
+        if not only_boundary:
+            make(SMALL[1])
+            show_quadriflow(mesh, room)
 
 
 main()

@@ -2,8 +2,8 @@
 """Measures quadq's solver on networks, and on even ones integer programming with cbc, where Debian's coinor-cbc is
 installed. Where both end, their least deviations have to be equal.
 
-usage: bench/solve.py [--alone] [--far] [FILE.net..]     without files: the networks of generated meshes; alone: without
-cbc; far: with far targets only
+usage: bench/solve.py [--alone] [--far | --boundary] [FILE.net..]     without files: the networks of generated meshes;
+alone: without cbc; far: with far targets only; boundary: of plates with many ends at the boundary only, without cbc
 
 All seconds but those of the parts are of the processor, user and system, so that they mean something on a busy machine
 too. The columns: the searches that are left to the matching in all rounds; the seconds and megabytes of the whole
@@ -30,6 +30,10 @@ ROOT = os.path.dirname(HERE)
 SOLVER = [f"{ROOT}/crates/qm_bench/out/qm_bench", "descend"]
 MESHES = [["holes", "512", "512"], ["holes", "1024", "1024"], ["voxels", "20"], ["voxels", "40"]]
 LARGE = [["holes", "4096", "4096"], ["voxels", "100"], ["voxels", "208"]]
+# Where many ends lie at the boundary, and the settings at which these are measured: scale and floor.
+BOUNDARY = [["plate", side] for side in ("171", "342", "684", "1080")]
+BOUNDARY += [["steps", plates] for plates in ("1000", "4000", "8000", "30000")]
+SETTINGS = [(1, 2, 1), (1, 3, 1), (1, 1, 3)]
 SECONDS = 60
 # The greatest sum of the old lengths of an even network.
 MAX_SUM = 8388608
@@ -48,7 +52,7 @@ def read_net(text):
     return nodes, floor, p, q, arcs
 
 
-def net_of_graph(text, p, q):
+def net_of_graph(text, p, q, floor=1):
     """The network of a graph text: two nodes for each patch, plus at south and east, minus at north and west."""
     old, ends, patches = [], [], 0
     for line in text.splitlines():
@@ -62,7 +66,7 @@ def net_of_graph(text, p, q):
             node = 2 * patches - (2 if word in ("south", "north") else 1)
             for arc in numbers:
                 ends[int(arc) - 1].append((node, "+" if word in ("south", "east") else "-"))
-    return 2 * patches, 1, p, q, [(a, 1, b) for a, b in zip(old, ends)]
+    return 2 * patches, floor, p, q, [(a, 1, b) for a, b in zip(old, ends)]
 
 
 def programme(net):
@@ -163,18 +167,30 @@ def far(name, net):
     yield f"{name}, far, in no balance", far_uneven(net)
 
 
-def generated(room, only_far):
-    """The networks of generated meshes at two scales, and with far targets."""
+def graphs(room, meshes):
+    """The graph texts of generated meshes, with their names."""
     for name in ("meshes", "graph"):
         command = ["g++", "-O2", "-std=c++20", "-o", f"{room}/{name}", f"{HERE}/{name}.cpp"]
         subprocess.run(command, check=True)
-    for words in MESHES + LARGE:
+    for words in meshes:
         mesh = subprocess.run([f"{room}/meshes", *words], stdout=subprocess.PIPE, check=True).stdout
         text = subprocess.run([f"{room}/graph"], input=mesh, stdout=subprocess.PIPE, check=True).stdout.decode()
-        name = " ".join(words)
+        yield " ".join(words), text
+
+
+def generated(room, only_far):
+    """The networks of generated meshes at two scales, and with far targets."""
+    for name, text in graphs(room, MESHES + LARGE):
         for p, q in () if only_far else ((1, 2), (3, 2)):
             yield name, net_of_graph(text, p, q)
         yield from far(name, net_of_graph(text, 1, 2))
+
+
+def at_boundary(room):
+    """The networks of meshes with a long boundary, at each setting."""
+    for name, text in graphs(room, BOUNDARY):
+        for p, q, floor in SETTINGS:
+            yield name, net_of_graph(text, p, q, floor)
 
 
 def given(names, only_far):
@@ -183,6 +199,14 @@ def given(names, only_far):
         with open(it, encoding="ascii") as text:
             name, net = os.path.basename(it)[:-4], read_net(text.read())
         yield from far(name, net) if only_far else ((name, net),)
+
+
+def chosen(names, room):
+    """The networks that the words of the command ask for."""
+    if "--boundary" in sys.argv:
+        return at_boundary(room)
+    only_far = "--far" in sys.argv
+    return given(names, only_far) if names else generated(room, only_far)
 
 
 def row_of(name, net, room):
@@ -208,9 +232,8 @@ def peer_of(net, room, least, seconds):
 
 
 def main():
-    names = [word for word in sys.argv[1:] if word not in ("--alone", "--far")]
-    only_far = "--far" in sys.argv
-    has_peer = shutil.which("cbc") and "--alone" not in sys.argv
+    names = [word for word in sys.argv[1:] if not word.startswith("--")]
+    has_peer = shutil.which("cbc") and not {"--alone", "--boundary"} & set(sys.argv)
     if not has_peer:
         print("cbc: not measured")
     build_bench()
@@ -218,7 +241,7 @@ def main():
     head += f"{'rounds':>7}{'left':>6}{'sets':>6}{'s':>8}{'MB':>6}{'us/arc':>8}{'read %':>8}{'start %':>8}{'rest %':>8}"
     print(head + f"{'cbc s':>8}{'ratio':>8}" * bool(has_peer))
     with tempfile.TemporaryDirectory() as room:
-        for name, net in given(names, only_far) if names else generated(room, only_far):
+        for name, net in chosen(names, room):
             row, least, seconds = row_of(name, net, room)
             if has_peer and is_even(net):
                 row += peer_of(net, room, least, seconds)

@@ -81,12 +81,12 @@ impl Slope {
         }
     }
 
-    /// The length of least cost that is at least the floor.
+    /// The length of least cost that is at least the floor, and the longest of these.
     pub(crate) fn least(&self, floor: u64) -> u64
         ensures { floor ≤ result }
     {
         for turn in &self.turns {
-            if turn.rise >= 0 {
+            if turn.rise > 0 {
                 return floor.max(turn.from);
             }
         }

@@ -1,16 +1,14 @@
 //! The double cover of a network.
 
-ghost use Rattle.std.specs.Prelude.{◌≡◌, ◌+◌, ◌*◌, ◌/◌, ◌^◌, ◌<◌, ◌≤◌, [], ◌∷◌, ◌++◌, length, slice_index_or};
-ghost use Rattle.std.specs.Prelude.{slice_set, IfOk, IfSome, OnOk};
+ghost use Rattle.std.specs.Prelude.{◌≡◌, ◌+◌, ◌*◌, ◌/◌, ◌^◌, ◌<◌, ◌≤◌, length, IfOk, IfSome};
 ghost use Rattle.std.specs.List.{All};
 ghost use Rattle.def_flow.specs.Network.{network, IsWithinBounds};
-ghost use Rattle.qm_start.specs.Tables.{AreChains, IsCover, LeadsWithin, MeetWithin, meetings, node_count, way_count};
+ghost use Rattle.qm_start.specs.Tables.{AreChains, IsCover, LeadsWithin, IsExitWithin, IsPlaced, exit_count, way_count};
 
 use crate::Memory;
 use crate::chains::{Chain, across, end_at};
 use crate::costs::{Slope, slope_of};
 use def_flow::{End, Net};
-use smallvec::SmallVec;
 use std::alloc::Global;
 
 /// An arc of the cover: one more of its length adds one at the node `plus` and takes one away at the node `minus`.
@@ -27,17 +25,34 @@ pub(crate) struct Step {
     pub(crate) more: bool,
 }
 
-/// The ways at a node. Most nodes have few.
-pub(crate) type Meeting = SmallVec<u32, 4>;
+/// A step from a node, and where it leads.
+#[derive(Clone, Copy, Debug, PartialEq, Eq)]
+pub(crate) struct Exit {
+    pub(crate) to: u32,
+    pub(crate) step: Step,
+}
+
+/// Where the two steps along a way stand among all exits.
+#[derive(Clone, Copy, Debug, PartialEq, Eq)]
+pub(crate) struct Place {
+    pub(crate) more: u32,
+    pub(crate) less: u32,
+}
 
 /// The double cover: node `v` is there as `2 * v` and, with all signs turned, as `2 * v + 1`; chain `c` as the ways
-/// `2 * c` and `2 * c + 1`. Behind all other nodes is the ground, where the ends lie that are at no node.
+/// `2 * c` and `2 * c + 1`. Behind all other nodes is the ground, where the ends lie that are at no node. The cover is
+/// its own mirror image: the other copy of each node, the other way of each chain, and the ground itself.
 #[derive(Debug, Drop)]
 pub(crate) struct Cover {
+    pub(crate) nodes: u32,
     pub(crate) ways: Vec<Way>,
-    pub(crate) at: Vec<Meeting>,
-    /// The costs of the chains, and the least length.
-    pub(crate) costs: Vec<Slope>,
+    /// The exits of all nodes, in order; for each node the first of its own, and at the end how many there are.
+    pub(crate) exits: Vec<Exit>,
+    pub(crate) firsts: Vec<u32>,
+    /// For each way its place among the exits.
+    pub(crate) places: Vec<Place>,
+    /// What the chains cost, and the least length.
+    pub(crate) slopes: Vec<Slope>,
     pub(crate) floor: u64,
 }
 
@@ -45,35 +60,67 @@ impl Cover {
     /// The ground.
     pub(crate) fn ground(&self) -> u32
         requires { IsCover self.now }
-        ensures { result + 1 ≡ node_count self.now }
+        ensures { result + 1 ≡ self.now.nodes }
     {
-        self.at.len() as u32 - 1
+        self.nodes - 1
+    }
+
+    /// The mirror image of a node.
+    pub(crate) fn mirror(&self, node: u32) -> u32
+        requires cover { IsCover self.now }
+        requires node { node < self.now.nodes }
+        ensures { result < self.now.nodes }
+    {
+        if node % 2 == 1 {
+            node - 1
+        } else {
+            (node + 1).min(self.ground())
+        }
     }
 
     /// Where a way leads.
     pub(crate) fn way(&self, way: u32) -> Way
         requires cover { IsCover self.now }
         requires way { way < way_count self.now }
-        ensures { LeadsWithin (node_count self.now) result }
+        ensures { LeadsWithin self.now.nodes result }
     {
         self.ways[way as usize]
     }
 
-    /// The ways at a node.
-    pub(crate) fn meeting(&self, node: u32) -> &[u32]
+    /// The first exit of a node, and the first behind them.
+    pub(crate) fn exits_of(&self, node: u32) -> (u32, u32)
         requires cover { IsCover self.now }
-        requires node { node < node_count self.now }
-        ensures { All (λ way. way < way_count self.now) result.now }
+        requires node { node < self.now.nodes }
+        ensures { result.1 ≤ exit_count self.now }
     {
-        self.at[node as usize].as_slice()
+        (self.firsts[node as usize], self.firsts[node as usize + 1])
+    }
+
+    /// An exit by its place.
+    pub(crate) fn exit(&self, place: u32) -> Exit
+        requires cover { IsCover self.now }
+        requires place { place < exit_count self.now }
+        ensures { IsExitWithin self.now.nodes (way_count self.now) result }
+    {
+        self.exits[place as usize]
+    }
+
+    /// The place of a step.
+    pub(crate) fn place(&self, step: Step) -> u32
+        requires cover { IsCover self.now }
+        requires way { step.way < way_count self.now }
+        ensures { result < exit_count self.now }
+    {
+        let Place { more, less } = self.places[step.way as usize];
+        if step.more { more } else { less }
     }
 
     /// What the chain of a way costs.
-    pub(crate) fn cost(&self, way: u32) -> &Slope
+    pub(crate) fn slope(&self, way: u32) -> &Slope
         requires cover { IsCover self.now }
         requires way { way < way_count self.now }
     {
-        &self.costs[way as usize / 2]
+        &self.slopes[way as usize / 2]
     }
 
     /// The other way of a chain.
@@ -89,7 +136,7 @@ impl Cover {
     pub(crate) fn origin(&self, step: Step) -> u32
         requires cover { IsCover self.now }
         requires way { step.way < way_count self.now }
-        ensures { result < node_count self.now }
+        ensures { result < self.now.nodes }
     {
         let Way { plus, minus } = self.way(step.way);
         if step.more { minus } else { plus }
@@ -100,32 +147,46 @@ impl Cover {
 pub(crate) fn cover_of(alloc: Global, net: &Net, chains: &[Chain]) -> Result<Cover, Memory>
     requires bounds { IsWithinBounds (network net.now) }
     requires few { (net.now.nodes ≤ 2 ^ 28) × (length net.now.arcs.items ≤ 2 ^ 28) × (length chains.now ≤ 2 ^ 28) }
+    requires some { 1 ≤ length chains.now }
     requires chains { AreChains (length net.now.arcs.items) chains.now }
     ensures cover { IfOk result IsCover }
     ensures chains { IfOk result (λ cover. way_count cover ≡ 2 * length chains.now) }
-    ensures nodes { IfOk result (λ cover. node_count cover ≡ 2 * net.now.nodes + 1) }
+    ensures nodes { IfOk result (λ cover. cover.nodes ≡ 2 * net.now.nodes + 1) }
 {
+    let nodes = 2 * net.nodes + 1;
     let ways = ways_of(alloc, net, chains)?;
-    let at = meetings_of(alloc, 2 * net.nodes + 1, &ways)?;
+    let firsts = firsts_of(alloc, nodes, &ways)?;
+    let none = Exit {
+        to: 0,
+        step: Step {
+            way: 0,
+            more: false,
+        },
+    };
+    let mut exits = vec![in alloc; none; 2 * ways.len()]?;
+    let places = places_of(alloc, &ways, &firsts[..nodes as usize], &mut exits)?;
     Ok(Cover {
+        nodes,
         ways,
-        at,
-        costs: costs_of(alloc, net, chains)?,
+        exits,
+        firsts,
+        places,
+        slopes: slopes_of(alloc, net, chains)?,
         floor: u64::from(net.floor),
     })
 }
 
 /// What the chains cost.
-fn costs_of(alloc: Global, net: &Net, chains: &[Chain]) -> Result<Vec<Slope>, Memory>
+fn slopes_of(alloc: Global, net: &Net, chains: &[Chain]) -> Result<Vec<Slope>, Memory>
     requires bounds { IsWithinBounds (network net.now) }
     requires chains { AreChains (length net.now.arcs.items) chains.now }
-    ensures { IfOk result (λ costs. length costs.items ≡ length chains.now) }
+    ensures { IfOk result (λ slopes. length slopes.items ≡ length chains.now) }
 {
-    let mut costs = Vec::with_capacity(alloc, chains.len())?;
+    let mut slopes = Vec::with_capacity(alloc, chains.len())?;
     for chain in chains {
-        costs.push(slope_of(alloc, net, chain.as_slice())?)?;
+        slopes.push(slope_of(alloc, net, chain.as_slice())?)?;
     }
-    Ok(costs)
+    Ok(slopes)
 }
 
 /// Two ways for each chain, between its first end and its last.
@@ -178,31 +239,76 @@ fn copy_of(end: Option<End>, plus: bool, ground: u32) -> u32
     }
 }
 
-/// The ways at each of so many nodes.
-fn meetings_of(alloc: Global, nodes: u32, ways: &[Way]) -> Result<Vec<Meeting>, Memory>
-    requires few { length ways.now ≤ 2 ^ 30 }
+/// For each of so many nodes how many exits there are at those before it, and at the end how many there are in all.
+fn firsts_of(alloc: Global, nodes: u32, ways: &[Way]) -> Result<Vec<u32>, Memory>
+    requires few { (length ways.now ≤ 2 ^ 30) × (nodes ≤ 2 ^ 30) }
     requires within { All (LeadsWithin nodes) ways.now }
-    ensures count { IfOk result (λ at. length at.items ≡ nodes) }
-    ensures within { IfOk result (λ at. MeetWithin (length ways.now) at.items) }
+    ensures count { IfOk result (λ firsts. length firsts.items ≡ nodes + 1) }
+    ensures within { IfOk result (λ firsts. All (λ first. first ≤ 2 * length ways.now) firsts.items) }
 {
-    let mut at = Vec::with_capacity(alloc, nodes as usize)?;
-    'each: for _ in 0..nodes {
-        at.push(Meeting::new(alloc))?;
+    let mut counts = vec![in alloc; 0u32; nodes as usize]?;
+    for way in ways {
+        counts[way.plus as usize] = counts[way.plus as usize].saturating_add(1);
+        counts[way.minus as usize] = counts[way.minus as usize].saturating_add(1);
     }
-    for (k, way) in ways.iter().enumerate() {
-        join(&mut at, way.plus, k as u32)?;
-        join(&mut at, way.minus, k as u32)?;
+    let all = 2 * ways.len() as u32;
+    let mut firsts = Vec::with_capacity(alloc, nodes as usize + 1)?;
+    firsts.push(0)?;
+    let mut before = 0u32;
+    for count in &counts {
+        before = before.saturating_add(*count).min(all);
+        firsts.push(before)?;
     }
-    Ok(at)
+    Ok(firsts)
 }
 
-/// Puts a way at the end of those at a node.
-fn join(at: &mut Vec<Meeting>, node: u32, way: u32) -> Result<(), Memory>
-    requires { node < length at.old.items }
-    ensures { let more = slice_index_or (meetings at.old.items) node [] ++ way ∷ [] in
-        OnOk result (meetings at.new.items ≡ slice_set (meetings at.old.items) node more) }
+/// Puts the steps of all ways among the exits, and tells their places.
+fn places_of(
+    alloc: Global,
+    ways: &[Way],
+    firsts: &[u32],
+    exits: &mut [Exit],
+) -> Result<Vec<Place>, Memory>
+    requires ways { All (LeadsWithin (length firsts.now)) ways.now }
+    requires few { (1 ≤ length exits.old) × (length exits.old ≤ 2 ^ 31) × (length ways.now ≤ 2 ^ 30) }
+    requires exits { All (IsExitWithin (length firsts.now) (length ways.now)) exits.old }
+    ensures count { IfOk result (λ places. length places.items ≡ length ways.now) }
+    ensures within { IfOk result (λ places. All (IsPlaced (length exits.old)) places.items) }
+    ensures long { length exits.new ≡ length exits.old }
+    ensures exits { All (IsExitWithin (length firsts.now) (length ways.now)) exits.new }
 {
-    let meeting = &mut at[node as usize];
-    meeting.push(way)?;
-    Ok(())
+    let mut free = Vec::from_slice(alloc, firsts)?;
+    let mut places = Vec::with_capacity(alloc, ways.len())?;
+    for way in 0..ways.len() as u32 {
+        let more = put(ways, exits, &mut free, Step { way, more: true });
+        let less = put(ways, exits, &mut free, Step { way, more: false });
+        places.push(Place { more, less })?;
+    }
+    Ok(places)
+}
+
+/// Puts a step at the first free place of the node where it begins, and tells the place.
+fn put(ways: &[Way], exits: &mut [Exit], free: &mut [u32], step: Step) -> u32
+    requires ways { All (LeadsWithin (length free.old)) ways.now }
+    requires way { step.way < length ways.now }
+    requires some { (1 ≤ length exits.old) × (length exits.old ≤ 2 ^ 31) }
+    requires exits { All (IsExitWithin (length free.old) (length ways.now)) exits.old }
+    ensures place { result < length exits.old }
+    ensures free { length free.new ≡ length free.old }
+    ensures long { length exits.new ≡ length exits.old }
+    ensures exits { All (IsExitWithin (length free.old) (length ways.now)) exits.new }
+{
+    let Way { plus, minus } = ways[step.way as usize];
+    let (node, to) = if step.more {
+        (minus, plus)
+    } else {
+        (plus, minus)
+    };
+    let place = free[node as usize];
+    if place as usize >= exits.len() {
+        return 0;
+    }
+    free[node as usize] = place + 1;
+    exits[place as usize] = Exit { to, step };
+    place
 }

@@ -9,15 +9,14 @@ use crate::Memory;
 use crate::chains::{Chain, chains_of};
 use crate::cover::cover_of;
 use crate::flow::{Flow, first_flow};
-use crate::paths::relax;
+use crate::phases::relax;
 use crate::repair::repair;
-use crate::search::no_search;
 use crate::trails::round;
 use crate::worth::prices_of;
 use def_flow::Net;
 use std::alloc::Global;
 
-/// How many nodes all searches together may settle.
+/// How many exits the relaxation may look at, and how many the repair: some seconds of work.
 const FUEL: u32 = 268_435_456;
 
 /// The most nodes, and the most arcs, of a network for which a start is looked for.
@@ -31,7 +30,8 @@ pub struct Start {
 }
 
 /// Lengths near what is wanted, mostly admissible and nearly least, with the prices of the nodes in the relaxation; or
-/// nothing, where there are no arcs or too long a search would be needed. Who starts from the list has to test it.
+/// nothing, where there are no arcs or they can't be balanced with the fuel that there is. Where it ends in the relaxation,
+/// what there is then is rounded. Who starts from the list has to test it.
 pub fn near_start(alloc: Global, net: &Net) -> Result<Option<Start>, Memory>
     requires { IsWithinBounds (network net.now) }
     ensures lengths { IfOk result (λ found. IfSome found
@@ -43,17 +43,13 @@ pub fn near_start(alloc: Global, net: &Net) -> Result<Option<Start>, Memory>
     }
     let chains = chains_of(alloc, net)?;
     let cover = cover_of(alloc, net, &chains)?;
-    let Some(mut flow) = first_flow(alloc, &cover)? else {
-        return Ok(None);
-    };
+    let mut flow = first_flow(alloc, &cover)?;
     let mut fuel = FUEL;
-    let mut search = no_search(alloc, &cover)?;
-    if relax(&cover, &mut flow, &mut search, &mut fuel)?.is_none() {
-        return Ok(None);
-    }
+    relax(alloc, &cover, &mut flow, &mut fuel)?;
     let prices = prices_of(alloc, net, &chains, &flow)?;
     let rounded = round(alloc, &cover, &flow)?;
-    if repair(&cover, &rounded, &mut flow, &mut search, &mut fuel)?.is_none() {
+    fuel = FUEL;
+    if repair(alloc, &cover, &rounded, &mut flow, &mut fuel)?.is_none() {
         return Ok(None);
     }
     let lengths = lengths_of(alloc, net.arcs.len(), &chains, &flow)?;

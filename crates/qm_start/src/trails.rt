@@ -1,7 +1,7 @@
 //! Halves are rounded along trails, so that what one chain of a node gains its next one loses.
 
 ghost use Rattle.std.specs.Prelude.{◌≡◌, ◌+◌, ◌*◌, ◌<◌, ◌≤◌, length, IfOk, IfSome};
-ghost use Rattle.qm_start.specs.Tables.{IsCover, IsHalved, IsOver, node_count, way_count};
+ghost use Rattle.qm_start.specs.Tables.{IsCover, IsHalved, IsOver, way_count};
 
 use crate::Memory;
 use crate::cover::{Cover, Way};
@@ -13,8 +13,8 @@ use std::alloc::Global;
 pub(crate) struct Halves {
     pub(crate) missing: Vec<bool>,
     pub(crate) ups: Vec<bool>,
-    /// How many of the ways at a node were looked at.
-    pub(crate) looked: Vec<usize>,
+    /// The first exit of each node that was not looked at.
+    pub(crate) next: Vec<u32>,
 }
 
 /// A whole length for each chain, next to the mean of its two. Linear.
@@ -24,21 +24,21 @@ pub(crate) fn round(alloc: Global, cover: &Cover, flow: &Flow) -> Result<Vec<u64
     ensures { IfOk result (λ lengths. way_count cover.now ≡ 2 * length lengths.items) }
 {
     let mut halves = halves_of(alloc, cover, flow)?;
-    for chain in 0..cover.costs.len() as u32 {
+    for chain in 0..cover.slopes.len() as u32 {
         let Way { plus, minus } = cover.way(2 * chain);
         let ground = cover.ground();
         if halves.missing[chain as usize] && (plus == ground || minus == ground) {
             begin(cover, flow, &mut halves, chain, plus.min(minus));
         }
     }
-    for chain in 0..cover.costs.len() as u32 {
+    for chain in 0..cover.slopes.len() as u32 {
         let Way { plus, minus } = cover.way(2 * chain);
         if halves.missing[chain as usize] {
             begin(cover, flow, &mut halves, chain, plus.max(minus));
         }
     }
-    let mut lengths = Vec::with_capacity(alloc, cover.costs.len())?;
-    for chain in 0..cover.costs.len() {
+    let mut lengths = Vec::with_capacity(alloc, cover.slopes.len())?;
+    for chain in 0..cover.slopes.len() {
         let up = u128::from(halves.ups[chain]);
         lengths.push(((sum_of(flow, chain) + up) / 2) as u64)?;
     }
@@ -59,7 +59,7 @@ fn halves_of(alloc: Global, cover: &Cover, flow: &Flow) -> Result<Halves, Memory
     requires flow { IsOver cover.now flow.now }
     ensures { IfOk result (IsHalved cover.now) }
 {
-    let chains = cover.costs.len();
+    let chains = cover.slopes.len();
     let mut missing = Vec::with_capacity(alloc, chains)?;
     for chain in 0..chains {
         missing.push(sum_of(flow, chain) % 2 == 1)?;
@@ -67,23 +67,23 @@ fn halves_of(alloc: Global, cover: &Cover, flow: &Flow) -> Result<Halves, Memory
     Ok(Halves {
         missing,
         ups: vec![in alloc; false; chains]?,
-        looked: vec![in alloc; 0usize; cover.at.len()]?,
+        next: Vec::from_slice(alloc, &cover.firsts)?,
     })
 }
 
-/// Rounds a chain to its cheaper side, and follows the trail that leaves it at a node of the cover.
+/// Rounds a chain to its cheaper side, up where both cost the same, and follows the trail that leaves it at a node of the cover.
 fn begin(cover: &Cover, flow: &Flow, halves: &mut Halves, chain: u32, node: u32)
     requires cover { IsCover cover.now }
     requires flow { IsOver cover.now flow.now }
     requires halves { IsHalved cover.now halves.old }
     requires chain { 2 * chain + 1 < way_count cover.now }
-    requires node { node < node_count cover.now }
+    requires node { node < cover.now.nodes }
     ensures { IsHalved cover.now halves.new }
 {
     let up = cover
-        .cost(2 * chain)
+        .slope(2 * chain)
         .rise((sum_of(flow, chain as usize) / 2) as u64)
-        < 0;
+        <= 0;
     halves.missing[chain as usize] = false;
     halves.ups[chain as usize] = up;
     let Way { plus, minus } = cover.way(2 * chain);
@@ -96,11 +96,11 @@ fn begin(cover: &Cover, flow: &Flow, halves: &mut Halves, chain: u32, node: u32)
 fn follow(cover: &Cover, halves: &mut Halves, first: u32, gained: bool)
     requires cover { IsCover cover.now }
     requires halves { IsHalved cover.now halves.old }
-    requires node { first < node_count cover.now }
+    requires node { first < cover.now.nodes }
     ensures { IsHalved cover.now halves.new }
 {
     let (mut node, mut more) = (first, gained);
-    for _ in 0..cover.costs.len() {
+    for _ in 0..cover.slopes.len() {
         if node == cover.ground() {
             return;
         }
@@ -127,15 +127,16 @@ fn follow(cover: &Cover, halves: &mut Halves, first: u32, gained: bool)
 fn next_at(cover: &Cover, halves: &mut Halves, node: u32) -> Option<u32>
     requires cover { IsCover cover.now }
     requires halves { IsHalved cover.now halves.old }
-    requires node { node < node_count cover.now }
+    requires node { node < cover.now.nodes }
     ensures halves { IsHalved cover.now halves.new }
     ensures way { IfSome result (λ way. way < way_count cover.now) }
 {
-    let ways = cover.meeting(node);
-    for k in halves.looked[node as usize]..ways.len() {
-        halves.looked[node as usize] = k;
-        if halves.missing[ways[k] as usize / 2] {
-            return Some(ways[k]);
+    let end = cover.exits_of(node).1;
+    for place in halves.next[node as usize]..end {
+        halves.next[node as usize] = place;
+        let way = cover.exit(place).step.way;
+        if halves.missing[way as usize / 2] {
+            return Some(way);
         }
     }
     None

@@ -1,4 +1,4 @@
-//! Prices of the nodes: what their copies differ in, and between the arcs of a chain what these leave.
+//! Prices of the nodes: half of what their copies differ in, since costs were doubled, and between the arcs of a chain what these leave.
 
 ghost use Rattle.std.specs.Prelude.{◌≡◌, ◌+◌, ◌*◌, ◌^◌, ◌<◌, ◌≤◌, length, IfOk};
 ghost use Rattle.std.specs.List.{All};
@@ -29,7 +29,7 @@ pub(crate) fn prices_of(
     let mut prices = Vec::with_capacity(alloc, net.nodes as usize)?;
     for node in 0..net.nodes as usize {
         let second = flow.prices[2 * node + 1];
-        prices.push(flow.prices[2 * node].saturating_sub(second))?;
+        prices.push(flow.prices[2 * node].saturating_sub(second).div_euclid(2))?;
     }
     for (k, chain) in chains.iter().enumerate() {
         let twice = flow.lengths[2 * k].saturating_add(flow.lengths[2 * k + 1]);

@@ -1,6 +1,6 @@
-use Rattle.std.proofs.Common.{◌≡◌, ℕ}
-use Rattle.qm_start.specs.Tables.{IsSearch}
+use Rattle.std.proofs.Common.{◌≡◌}
+use Rattle.qm_start.specs.Tables.{IsSearch, way_count}
 use Rattle.qm_start.proofs.search.clear.Given as goal
 
 abbrev pub invariant-loop-k : goal.invariant-loop-k
-invariant-loop-k l = ((nodes ways : ℕ) → IsSearch nodes ways l.initial.search → IsSearch nodes ways l.search) × (l.search.reached ≡ l.initial.search.reached)
+invariant-loop-k l = (IsSearch l.cover.nodes (way_count l.cover) l.search) × (l.search.reached ≡ l.initial.search.reached)

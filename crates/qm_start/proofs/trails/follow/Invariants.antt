@@ -1,6 +1,6 @@
 use Rattle.std.proofs.Common.{◌<◌}
-use Rattle.qm_start.specs.Tables.{IsHalved, node_count}
+use Rattle.qm_start.specs.Tables.{IsHalved}
 use Rattle.qm_start.proofs.trails.follow.Given as goal
 
 abbrev pub invariant-loop : goal.invariant-loop
-invariant-loop l = IsHalved l.cover l.halves × (l.node < node_count l.cover)
+invariant-loop l = IsHalved l.cover l.halves × (l.node < l.cover.nodes)

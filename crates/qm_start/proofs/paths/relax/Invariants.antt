@@ -1,5 +1,0 @@
-use Rattle.qm_start.specs.Tables.{IsOver, IsSearch, node_count, way_count}
-use Rattle.qm_start.proofs.paths.relax.Given as goal
-
-abbrev pub invariant-loop-from : goal.invariant-loop-from
-invariant-loop-from l = IsOver l.cover l.flow × IsSearch (node_count l.cover) (way_count l.cover) l.search
