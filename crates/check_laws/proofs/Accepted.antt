@@ -1,5 +1,5 @@
 -- The text of a finished remesh behind that of its mesh is a checked pair.
-use Rattle.std.proofs.Common.{◌≡◌, ◌≤◌, ◌<◌, ◌⊎◌, ◌+◌, ◌-◌, ◌==◌, ℕ, zero, suc, Bool, true, false, cond, List, Option, Some, None, [], ◌∷◌, ◌++◌, length, map, take, drop, get_or, Result, Ok, sym, ◌∙◌, ap, subst, refl, inl, inr, arith, length-append, length-drop}
+use Rattle.std.proofs.Common.{◌≡◌, ◌≤◌, ◌<◌, ◌⊎◌, ◌+◌, ◌-◌, ◌==◌, ℕ, zero, suc, Bool, true, false, cond, List, Option, Some, None, [], ◌∷◌, ◌++◌, length, map, take, drop, get_or, Result, Ok, sym, ◌∙◌, ap, refl, inl, inr, arith, length-append, length-drop}
 use Rattle.std.specs.List.{filter, list_all}
 use Rattle.std.proofs.Math.Seq.{take-append_seam}
 use Rattle.std.proofs.lemmas.Bool.{and_parts, eq-eqb, eqb-true, false_from_ne_true, false≢true}
@@ -15,7 +15,6 @@ use Rattle.def_io.specs.Bytes.{Bytes, Lines}
 use Rattle.def_io.specs.Lines.{lines_of, tail_of}
 use Rattle.def_recheck.specs.Accepting.{ends_line, AcceptsLaw}
 use Rattle.def_remesh.specs.Checked.{IsCheckedPair}
-use Rattle.def_remesh.specs.Remeshed.{IsRemeshed}
 use Rattle.def_remesh.specs.TextLaws.{made_by, IsSolid}
 use Rattle.def_text.specs.FaceSet.{FaceSet}
 use Rattle.def_text.specs.Text.{soup_in, text_soup}
@@ -98,7 +97,18 @@ accepts_law settings auto old text soup range said ends solid is = record {
   settings = settings;
   auto = auto;
   in_range = range;
-  remeshed = subst (IsRemeshed settings auto soup) (sym (tail_append old text ends)) is;
+  remeshed = record {
+    plan = is.finished.plan;
+    cut = is.finished.cut;
+    first = is.finished.first;
+    third = is.finished.third;
+    lengths = is.finished.lengths;
+    coarse = is.finished.coarse;
+    undoubled = is.finished.undoubled;
+    written = tail_append old text ends ∙ is.finished.written;
+    shape = is.finished.shape;
+  };
+  certified = is.certified;
 }
   where
     abbrev line : ℕ
@@ -107,13 +117,13 @@ accepts_law settings auto old text soup range said ends solid is = record {
     lines : lines_of (old ++ text) ≡ lines_of old ++ lines_of text
     lines = lines_append old text ends
 
-    tells : TellHow (get_or (lines_of text) 0 []) (drop 1 (lines_of text)) (made_by settings auto is.first is.third)
-    tells = (told_law settings auto soup text range solid is (made_by settings auto is.first is.third)).1 refl
+    tells : TellHow (get_or (lines_of text) 0 []) (drop 1 (lines_of text)) (made_by settings auto is.finished.first is.finished.third)
+    tells = (told_law settings auto soup text range solid is.finished (made_by settings auto is.finished.first is.finished.third)).1 refl
 
     head : get_or (lines_of text) 0 [] ≡ head_line settings auto
     head =
-        let is_made = made_settings settings auto is.first is.third in
-        tells.settings.written ∙ (ap (λ (s : Settings). head_line s (made_by settings auto is.first is.third).auto) is_made.0 ∙ ap (head_line settings) is_made.1)
+        let is_made = made_settings settings auto is.finished.first is.finished.third in
+        tells.settings.written ∙ (ap (λ (s : Settings). head_line s (made_by settings auto is.finished.first is.finished.third).auto) is_made.0 ∙ ap (head_line settings) is_made.1)
 
     first_begins : begins_head (get_or (lines_of text) 0 []) ≡ true
     first_begins = ap begins_head head ∙ head_begins settings auto

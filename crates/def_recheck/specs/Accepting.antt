@@ -4,8 +4,9 @@ use Rattle.def_certtext.specs.Settings.{AreInRange}
 use Rattle.def_flow.specs.declared.net.Settings.{Settings}
 use Rattle.def_io.specs.Bytes.{Bytes}
 use Rattle.def_io.specs.declared.TheConstants.{LINE_FEED}
+use Rattle.def_remesh.specs.Certified.{IsShown}
 use Rattle.def_remesh.specs.Checked.{IsCheckedPair}
-use Rattle.def_remesh.specs.Remeshed.{IsRemeshed}
+use Rattle.def_remesh.specs.Tasks.{remesh_task}
 use Rattle.def_remesh.specs.TextLaws.{IsSolid}
 use Rattle.def_text.specs.FaceSet.{FaceSet}
 use Rattle.def_text.specs.Text.{soup_in}
@@ -16,9 +17,10 @@ ends_line [] = true
 ends_line (byte ∷ []) = byte == LINE_FEED
 ends_line (byte ∷ next ∷ bytes) = ends_line (next ∷ bytes)
 
--- A text of a mesh whose last line has its line feed, and behind it the text of a finished remesh of this mesh, are a
--- checked pair: `check` accepts them. Head lines in the first text do not matter, since the last one counts.
+-- A text of a mesh whose last line has its line feed, and behind it the text of a finished remesh of this mesh, as
+-- accepted certificates show, are a checked pair: `check` accepts them. Head lines in the first text do not matter, since the last one counts.
 abbrev pub AcceptsLaw : Type 0
 AcceptsLaw = (settings : Settings) (auto : Bool) (old text : Bytes) (soup : FaceSet) → AreInRange settings auto
-    → soup_in old ≡ Ok soup → ends_line old ≡ true → IsSolid soup → IsRemeshed settings auto soup text
+    → soup_in old ≡ Ok soup → ends_line old ≡ true → IsSolid soup
+    → IsShown (remesh_task settings auto soup.faces) soup text
     → IsCheckedPair (old ++ text)
