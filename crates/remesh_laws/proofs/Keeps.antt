@@ -1,7 +1,7 @@
 -- What least lengths and the numbers of their new mesh make, together, of a layout that is remeshed.
 use Rattle.std.proofs.lemmas.Bool.{cases_lt}
 use Rattle.std.proofs.lemmas.List.{get_or_past}
-use Rattle.std.proofs.Common.{◌≡◌, ◌≤◌, ◌<◌, ◌⊎◌, inl, inr, ℕ, Bool, true, Some, None, List, length, sym, ◌∙◌, ap, subst, refl, arith}
+use Rattle.std.proofs.Common.{◌≡◌, ◌≤◌, ◌<◌, ◌⊎◌, inl, inr, ℕ, Bool, true, false, Option, Some, None, List, length, sym, ◌∙◌, ap, subst, refl, arith}
 use Rattle.std.proofs.lemmas.Int.{ints}
 use Rattle.std.specs.Prelude.{IsErrOf, Result, Err}
 use Rattle.def_certtext.specs.CertLines.{lists_of, Lists}
@@ -85,7 +85,7 @@ raised_even net other even same = subst IsEven (sym same) (record { high = even.
 coarse_is : (plan : Plan) (xs : List ℕ) (tables : Tables) → IsNumbered plan xs tables → AreCoarse plan xs
 coarse_is plan xs tables is = subst (AreCoarse plan) is.lengths is.numbering.few
 
-keeps : {wish : Wish} (plan : Plan) (settings : Settings) (auto : Bool) (first : Lists) (third : _) (tables : Tables) → AreKept wish plan settings auto first third
+keeps : {wish : Wish} (plan : Plan) (settings : Settings) (auto : Bool) (first : Lists) (third : Option Lists) (tables : Tables) → AreKept wish plan settings auto first third
     → IsNumbered plan (used first third).x tables → IsKept wish plan settings auto first third tables
 keeps plan settings auto first third tables kept is = record {
   kept = kept;
@@ -158,14 +158,14 @@ kept_shape soup plan xs lies shapes = subst
     (shapes lies.0.faces lies.0.marks lies.0.mesh lies.0.quads lies.0.cut lies.0.laid)
 
 -- Accepted certificates have least lengths.
-pub least_of : (wish : Wish) (plan : Plan) (settings : Settings) (auto : Bool) (first : Lists) (third : _) → AreKept wish plan settings auto first third
+pub least_of : (wish : Wish) (plan : Plan) (settings : Settings) (auto : Bool) (first : Lists) (third : Option Lists) → AreKept wish plan settings auto first third
     → AreKeptBy (HasLeastLengths wish plan) plan settings auto first third
 least_of wish plan settings auto first None kept = kept.lengths
 least_of wish plan settings true first (Some third) kept = (kept.0.lengths, kept.1, kept.2, kept.3.lengths)
 least_of wish plan settings false first (Some third) kept = absurd kept
 
 -- What is kept of a layout that a task's cut gives finishes the task, and shows it.
-pub shown : (task : Task) (soup : FaceSet) (plan : Plan) (first : Lists) (third : _) (tables : Tables) → IsLayoutIn soup.faces plan
+pub shown : (task : Task) (soup : FaceSet) (plan : Plan) (first : Lists) (third : Option Lists) (tables : Tables) → IsLayoutIn soup.faces plan
     → IsLayoutOf soup.faces task.marks plan → IsKept task.wish plan task.settings task.auto first third tables
     → IsShown task soup (finished_text task soup plan first third)
 shown task soup plan first third tables lies cut kept = record {
