@@ -2,7 +2,7 @@
 use Rattle.std.proofs.Common.{◌≡◌, ◌⊎◌, ℕ, zero, suc, ◌+◌, ◌*◌, ◌-◌, ◌<◌, ◌≤◌, Bool, true, false, cond, List, [], ◌∷◌, ◌++◌, length, set, map, replicate, Option, Some, None, sym, subst, ap, ◌∙◌, refl, inl, inr, arith}
 use Rattle.std.specs.List.{list_any}
 use Rattle.std.proofs.lemmas.Bool.{false≢true}
-use Rattle.std.proofs.lemmas.List.{length-replicate, length-set}
+use Rattle.std.proofs.lemmas.List.{length-map, length-replicate, length-set}
 use Rattle.def_mesh.specs.Faces.{Faces}
 use Rattle.def_mesh.specs.Components.{start_darts}
 use Rattle.def_mesh.specs.Darts.{darts}
@@ -18,7 +18,7 @@ use Rattle.def_cut.specs.Events.Event.{Ride, Settle}
 use Rattle.motion_laws.proofs.Marks.{no_darts}
 use Rattle.motion_laws.proofs.Shown.{long}
 use Rattle.site_laws.proofs.Laws.{order_law}
-use Rattle.def_cut.specs.Motion.{after_steps, ridden}
+use Rattle.def_cut.specs.Motion.{after_steps, later, ride, ridden, start, State}
 use Rattle.qm_trace.specs.Left.{left_in, left_of, rides_of, unset}
 use Rattle.qm_trace.proofs.Reaching.{leads_more, settled_long, within_of}
 use Rattle.qm_trace.proofs.Settled.{settle_low, settle_parts}
@@ -51,7 +51,7 @@ rides_told g stood ds v (q ∷ rs) (n ∷ ns) same =
 
 no_rides : (starts : List ℕ) → rides_of (map begun starts) ≡ 0
 no_rides [] = refl
-no_rides (d ∷ starts) = no_rides starts
+no_rides (d ∷ starts) = omega (arith, no_rides starts)
 
 -- Marks that are not set.
 unset_few : (marks : List Bool) → unset marks ≤ length marks
@@ -70,7 +70,20 @@ left_few : (ds : List ℕ) (marks : List Bool) → left_in ds marks ≤ suc (len
 left_few [] marks = omega arith
 left_few (d ∷ ds) marks = omega (arith, unset_few marks)
 
+-- Steps keep the number of riders.
+later_long : (g : Terrain) (s : State) (k : ℕ) → length (later g s k).riders ≡ length s.riders
+later_long g s zero = refl
+later_long g s (suc k) = length-map (later g s k).riders (ride g (later g s k).stood (ridden (later g s k).riders)) ∙ later_long g s k
+
 module _ (faces : Faces) (m : IsManifold faces) where
+  -- There are as many riders as starts.
+  pub riders_long : (x : EventState) → IsMotionOf faces x → length x.riders ≡ length (start_darts faces)
+  riders_long x z =
+      let w = within_of faces m x z in
+      let s = after_steps (terrain_of faces) (start_darts faces) w.instant in
+      (long (terrain_of faces) s.stood (ridden s.riders) (is_on x.settled) s.riders x.riders x.noted w.shown.riders).0
+      ∙ (later_long (terrain_of faces) (start (terrain_of faces) (start_darts faces)) w.instant ∙ length-map (start_darts faces) begun)
+
   noted_long : (x : EventState) → IsMotionOf faces x → length x.noted ≡ length x.riders
   noted_long x z =
       let w = within_of faces m x z in

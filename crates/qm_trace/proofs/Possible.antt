@@ -1,5 +1,5 @@
 -- Which events are possible, and how many can still happen.
-use Rattle.std.proofs.Common.{◌≡◌, ℕ, zero, suc, ◌<◌, Bool, true, false, List, [], ◌∷◌, length, Option, sym, ap, ◌∙◌, refl, arith}
+use Rattle.std.proofs.Common.{◌≡◌, ℕ, zero, suc, ◌<◌, Bool, true, false, List, [], ◌∷◌, length, Option, sym, subst, ap, ◌∙◌, refl, arith}
 use Rattle.std.specs.List.{list_any}
 use Rattle.std.proofs.lemmas.Bool.{and_from, cases_Bool, eq-eqb, eqb-true, false≢true, not_from_false}
 use Rattle.std.proofs.lemmas.Option.{none-some}
@@ -25,6 +25,14 @@ none_wait [] ns none = refl
 none_wait (q ∷ rs) [] none = refl
 none_wait (q ∷ rs) (n ∷ ns) none =
     ap (λ (b : Bool). more_if b (waiting rs ns)) (none 0 (omega arith)) ∙ none_wait rs ns (λ r l. none (suc r) (omega (arith, l)))
+
+-- The same of other lists that are equal.
+pub none_there : (read rs : List Moving) (noted ns : List (Option ℕ)) → read ≡ rs → noted ≡ ns
+    → ((r : ℕ) → r < length read → is_waiting (rider_at read r).stop (note_at noted r) ≡ false)
+    → (r : ℕ) → r < length rs → is_waiting (rider_at rs r).stop (note_at ns r) ≡ false
+none_there read rs noted ns same alike none =
+    subst (λ (qs : List Moving). (r : ℕ) → r < length qs → is_waiting (rider_at qs r).stop (note_at ns r) ≡ false) same
+    (subst (λ (ms : List (Option ℕ)). (r : ℕ) → r < length read → is_waiting (rider_at read r).stop (note_at ms r) ≡ false) alike none)
 
 module _ (faces : Faces) (m : IsManifold faces) (x : EventState) (z : IsMotionOf faces x) where
   -- Where nobody waits, and each noted dart ends at a settled vertex, nobody runs.

@@ -40,7 +40,7 @@ pub(crate) fn first_open(
         → (d : ℕ) × (note_at noted.now r ≡ Some d) × (d < darts mesh.now) }
     requires long { length settled.now ≡ vertex_count mesh.now }
     ensures end { IfSome result (λ v. list_any (leads_to (terrain_of mesh.now) v) (darts_in noted.now) ≡ true) }
-    ensures open { IfSome result (λ v. is_on settled.now v ≡ false) }
+    ensures unsettled { IfSome result (λ v. is_on settled.now v ≡ false) }
     ensures none { IfNone result ((r d : ℕ) → is_among r queue.now ≡ true → note_at noted.now r ≡ Some d
         → is_on settled.now (to_of mesh.now d) ≡ true) }
 {

@@ -1,0 +1,55 @@
+use Rattle.std.proofs.Common.{◌≡◌, ◌<◌, ◌≤◌, ◌+◌, ◌⊎◌, ℕ, Bool, true, false, length, get_or, take, Some, None, is_some, refl, sym, subst, ap, ◌∙◌, inl, inr, arith}
+use Rattle.std.proofs.lemmas.Bool.{eq-eqb, eqb-true, or_cases}
+use Rattle.std.proofs.lemmas.List.{get_or_default, take_all}
+use Rattle.std.proofs.lemmas.Option.{same_Some}
+use Rattle.def_cut.specs.Events.{darts_in, leads_to, note_at}
+use Rattle.def_cut.specs.FullCut.{is_on}
+use Rattle.def_cut.specs.Motion.{end_of, is_among}
+use Rattle.def_cut.specs.Traced.{terrain_of}
+use Rattle.def_mesh.specs.Darts.{darts, to_of}
+use Rattle.motion_laws.proofs.Among.{any_at}
+use Rattle.motion_laws.proofs.Marks.{among_at}
+use Rattle.qm_trace.proofs.Marking.{among_more}
+use Rattle.qm_trace.proofs.Reaching.{noted_among, noted_short}
+use Rattle.qm_trace.proofs.events.first_open.Goals as goal
+
+pub bounds-noted-r : goal.bounds-noted-r
+bounds-noted-r c =
+    let q = c.requires.notes (get_or c.args.queue.now c.queue.r-index 0) (among_at c.args.queue.now c.queue.r-index c.queue-test.true) in
+    noted_short c.args.noted.now (get_or c.args.queue.now c.queue.r-index 0) q.0 q.1
+
+pub unwrap-d-requires : goal.unwrap-d-requires
+unwrap-d-requires c =
+    let q = c.requires.notes (get_or c.args.queue.now c.queue.r-index 0) (among_at c.args.queue.now c.queue.r-index c.queue-test.true) in
+    ap is_some q.1
+
+pub to-vertex-requires : goal.to-vertex-requires
+to-vertex-requires c =
+    let q = c.requires.notes (get_or c.args.queue.now c.queue.r-index 0) (among_at c.args.queue.now c.queue.r-index c.queue-test.true) in
+    let dart : c.unwrap-d.result ≡ q.0 = same_Some _ _ (sym c.unwrap-d.ensures ∙ q.1) in
+    subst (λ d. d < darts c.args.mesh.now) (sym dart) q.2
+
+pub returns-then-not-settled-vertex-clause-end : goal.returns-then-not-settled-vertex-clause-end
+returns-then-not-settled-vertex-clause-end c =
+    any_at (leads_to (terrain_of c.args.mesh.now) c.to-vertex.result) c.unwrap-d.result (darts_in c.args.noted.now)
+    (noted_among c.args.noted.now (get_or c.args.queue.now c.queue.r-index 0) c.unwrap-d.result c.unwrap-d.ensures)
+    (eq-eqb (end_of (terrain_of c.args.mesh.now) c.unwrap-d.result) c.to-vertex.result (sym c.to-vertex.ensures.value))
+
+-- The notes of the riders up to this one end at settled vertices.
+up_to : (c : goal.Else-not-settled-vertex) (r d : ℕ) → is_among r (take (c.queue.r-index + 1) c.args.queue.now) ≡ true
+    → note_at c.args.noted.now r ≡ Some d → is_on c.args.settled.now (to_of c.args.mesh.now d) ≡ true
+up_to c r d among note = elim (or_cases _ _ (sym (among_more c.args.queue.now c.queue.r-index r c.queue-test.true) ∙ among)) [
+  | inl before ↦ c.queue.invariant.none r d before note
+  | inr now ↦ (
+    let same : r ≡ get_or c.args.queue.now c.queue.r-index 0 = eqb-true _ _ now in
+    let one : d ≡ c.unwrap-d.result = same_Some _ _ (sym note ∙ (ap (note_at c.args.noted.now) same ∙ c.unwrap-d.ensures)) in
+    ap (λ e. is_on c.args.settled.now (to_of c.args.mesh.now e)) one
+    ∙ (ap (is_on c.args.settled.now) (sym c.to-vertex.ensures.value) ∙ c.if-not-settled-vertex.false))
+]
+
+pub queue-preserved : goal.queue-preserved
+queue-preserved c = record { none = up_to c }
+
+pub returns-clause-none : goal.returns-clause-none
+returns-clause-none c r d among note =
+    c.queue.invariant.none r d (ap (is_among r) (take_all c.queue.r-index c.args.queue.now c.queue-test.false) ∙ among) note
