@@ -43,28 +43,30 @@ plain_begins (byte ∷ line) plain =
 none_begins : (behind : Lines) (said : List CertLine) → filter is_hash_line behind ≡ map line_text said
     → (k : ℕ) → k < length behind → begins_head (get_or behind k []) ≡ false
 none_begins [] said texts k low = absurd (omega (arith, low))
-none_begins (line ∷ behind) said texts k low = by_test (is_hash_line line) refl said texts k low
+none_begins (line ∷ behind) said texts k low = by_test (none_begins behind) (is_hash_line line) refl said texts k low
   where
     by_place : (k : ℕ) → k < suc (length behind) → begins_head line ≡ false
         → ((j : ℕ) → j < length behind → begins_head (get_or behind j []) ≡ false) → begins_head (get_or (line ∷ behind) k []) ≡ false
     by_place zero low first rest = first
     by_place (suc j) low first rest = rest j (omega (arith, low))
 
-    by_said : (said : List CertLine) → line ∷ filter is_hash_line behind ≡ map line_text said → (k : ℕ) → k < suc (length behind)
+    by_said : ((said : List CertLine) → filter is_hash_line behind ≡ map line_text said → (j : ℕ) → j < length behind → begins_head (get_or behind j []) ≡ false)
+        → (said : List CertLine) → line ∷ filter is_hash_line behind ≡ map line_text said → (k : ℕ) → k < suc (length behind)
         → begins_head (get_or (line ∷ behind) k []) ≡ false
-    by_said [] texts k low = absurd (let e : suc (length (filter is_hash_line behind)) ≡ 0 = ap length texts in omega (arith, e))
-    by_said (one ∷ said) texts k low =
+    by_said rest [] texts k low = absurd (let e : suc (length (filter is_hash_line behind)) ≡ 0 = ap length texts in omega (arith, e))
+    by_said rest (one ∷ said) texts k low =
         let first : line ≡ line_text one = ap (λ (ls : Lines). get_or ls 0 []) texts in
-        let rest : filter is_hash_line behind ≡ map line_text said = ap (λ (ls : Lines). drop 1 ls) texts in
-        by_place k low (ap begins_head first ∙ cert_begins one) (none_begins behind said rest)
+        let more : filter is_hash_line behind ≡ map line_text said = ap (λ (ls : Lines). drop 1 ls) texts in
+        by_place k low (ap begins_head first ∙ cert_begins one) (rest said more)
 
-    by_test : (t : Bool) → is_hash_line line ≡ t → (said : List CertLine) → filter is_hash_line (line ∷ behind) ≡ map line_text said
+    by_test : ((said : List CertLine) → filter is_hash_line behind ≡ map line_text said → (j : ℕ) → j < length behind → begins_head (get_or behind j []) ≡ false)
+        → (t : Bool) → is_hash_line line ≡ t → (said : List CertLine) → filter is_hash_line (line ∷ behind) ≡ map line_text said
         → (k : ℕ) → k < suc (length behind) → begins_head (get_or (line ∷ behind) k []) ≡ false
-    by_test true is said texts k low =
-        by_said said (sym (ap (λ (t : Bool). cond t (line ∷ filter is_hash_line behind) (filter is_hash_line behind)) is) ∙ texts) k low
-    by_test false is said texts k low =
+    by_test rest true is said texts k low =
+        by_said rest said (sym (ap (λ (t : Bool). cond t (line ∷ filter is_hash_line behind) (filter is_hash_line behind)) is) ∙ texts) k low
+    by_test rest false is said texts k low =
         by_place k low (plain_begins line is)
-        (none_begins behind said (sym (ap (λ (t : Bool). cond t (line ∷ filter is_hash_line behind) (filter is_hash_line behind)) is) ∙ texts))
+        (rest said (sym (ap (λ (t : Bool). cond t (line ∷ filter is_hash_line behind) (filter is_hash_line behind)) is) ∙ texts))
 
 -- Lines of which the first is a head line are some.
 some_line : (lines : Lines) → begins_head (get_or lines 0 []) ≡ true → 0 < length lines
@@ -85,7 +87,7 @@ made_settings settings false first third = (refl, refl)
 
 pub accepts_law : AcceptsLaw
 accepts_law settings auto old text soup range said ends solid is = record {
-  line = line;
+  line = length (lines_of old);
   divided = record {
     there = omega (arith, ap length lines, length-append (lines_of old) (lines_of text), some_line (lines_of text) first_begins);
     begins = ap (λ n. begins_head (get_or (lines_of (old ++ text)) n [])) same ∙ (ap begins_head (place 0) ∙ first_begins);
@@ -111,9 +113,6 @@ accepts_law settings auto old text soup range said ends solid is = record {
   certified = is.certified;
 }
   where
-    abbrev line : ℕ
-    line = length (lines_of old)
-
     lines : lines_of (old ++ text) ≡ lines_of old ++ lines_of text
     lines = lines_append old text ends
 

@@ -10,11 +10,5 @@ fn main(rt: HostRuntime) -> ExitCode {
     let mut input = StdSource::new(rt.reader());
     let mut out = StdSink::new(rt.stdout());
     let mut err = StdSink::new(rt.stderr());
-    ExitCode::from(run_process(
-        rt.alloc(),
-        &line,
-        &mut input,
-        &mut out,
-        &mut err,
-    ))
+    ExitCode::from(run_process(rt.alloc(), &line, &mut input, &mut out, &mut err))
 }

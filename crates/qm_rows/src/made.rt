@@ -39,12 +39,13 @@ pub(crate) fn tangled_row(alloc: Global) -> Result<Case, AllocError> {
     case.words
         .extend_from_slice(b"remesh\n--scale\n1/1\n--floor\n1\n--weight\nplain\n")?;
     for x in 0..QUADS {
-        let quad = format!(in alloc; "v {x} 0 0\nv {x} 1 0\nv {x} 1 1\nv {x} 0 1\nf -4 -3 -2 -1\n")?;
+        let quad = format!(in alloc;
+            "v {x} 0 0\nv {x} 1 0\nv {x} 1 1\nv {x} 0 1\nf -4 -3 -2 -1\n"
+        )?;
         case.input.extend_from_slice(quad.as_bytes())?;
     }
     case.status.extend_from_slice(b"9\n")?;
-    case.err
-        .extend_from_slice(b"quadq: tangled: 33554560\n")?;
+    case.err.extend_from_slice(b"quadq: tangled: 33554560\n")?;
     Ok(case)
 }
 

@@ -161,5 +161,10 @@ module _ (faces : Faces) (m : IsManifold faces) where
           omega (arith, none, here, product (length (replicate (length (set x.settled v true)) false)) (length-replicate (length (set x.settled v true)) false ∙ length-set x.settled v true))
       by_test false is =
           let low : v < length x.settled = omega (arith, settle_low faces m x z v may, settled_long faces m x z) in
-          omega (arith, here, again (darts_in x.noted) (settle_parts faces m x z v may).1, unset_set x.settled v low (settle_parts faces m x z v may).2,
-          product (length (set x.settled v true)) (length-set x.settled v true))
+          omega (
+            arith,
+            here,
+            again (darts_in x.noted) (settle_parts faces m x z v may).1,
+            unset_set x.settled v low (settle_parts faces m x z v may).2,
+            product (length (set x.settled v true)) (length-set x.settled v true),
+          )

@@ -16,12 +16,7 @@ use std::alloc::Global;
 /// The graph of `trace`, whatever the numbers are. Each number chooses an event: the rider of this number rides where
 /// it may, or else the vertex of this number is settled where it may be. Behind the last number any possible event
 /// happens, until the motion is over.
-pub fn trace_by(
-    alloc: Global,
-    mesh: &Mesh,
-    src: &Starts,
-    choices: &[u32],
-) -> Result<Graph, Memory>
+pub fn trace_by(alloc: Global, mesh: &Mesh, src: &Starts, choices: &[u32]) -> Result<Graph, Memory>
     requires { AreSources mesh.now src.now }
     ensures { IfOk result (IsGraphOf mesh.now) }
 {

@@ -14,7 +14,12 @@ use qm_mesh::Mesh;
 use std::alloc::Global;
 
 /// The tables where riders wait at these darts and the marked edges are covered. Linear in the darts of the mesh.
-pub(crate) fn first_tables(alloc: Global, mesh: &Mesh, starts: &[u32], marks: &[bool]) -> Result<Tables, Memory>
+pub(crate) fn first_tables(
+    alloc: Global,
+    mesh: &Mesh,
+    starts: &[u32],
+    marks: &[bool],
+) -> Result<Tables, Memory>
     requires marks { AreMarks mesh.now marks.now }
     requires starts { starts.now ≡ marked_starts mesh.now marks.now }
     ensures ground { IfOk result (λ t. IsGround mesh.now t.sight.ground.boundary.items t.sight.ground.singular.items) }

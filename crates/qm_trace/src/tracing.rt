@@ -30,7 +30,12 @@ pub fn trace(alloc: Global, mesh: &Mesh, src: &Starts) -> Result<Graph, Memory>
 
 /// The graph that riders trace beside marked edges, which are in it, where they start along these darts. It is a full
 /// cut. Linear in the darts.
-pub fn graph_from(alloc: Global, mesh: &Mesh, starts: &[u32], marks: &[bool]) -> Result<Graph, Memory>
+pub fn graph_from(
+    alloc: Global,
+    mesh: &Mesh,
+    starts: &[u32],
+    marks: &[bool],
+) -> Result<Graph, Memory>
     requires marks { AreMarks mesh.now marks.now }
     requires starts { starts.now ≡ marked_starts mesh.now marks.now }
     ensures graph { IfOk result (IsMarkedGraph mesh.now marks.now) }

@@ -9,10 +9,12 @@ use Rattle.qm_top.specs.Writing.{task_of}
 use Rattle.qm_top.proofs.remesh.remesh_mesh.Goals as goal
 
 pub write_task-requires-clause-framed : goal.write_task-requires-clause-framed
-write_task-requires-clause-framed g c =
-    (task_of c.args.asked c.args.read.soup, framed_for c.args.asked c.args.read.soup _ _ c.in_ok-kept.ensures.asked
-    (of_soup _ _ _ c.requires.mesh c.in_ok-layout.ensures.mesh c.in_ok-layout.ensures.traced).1 c.in_ok-kept.ensures.kept c.in_ok-head.ensures
-    c.new.ensures)
+write_task-requires-clause-framed g c = (
+  task_of c.args.asked c.args.read.soup,
+  framed_for c.args.asked c.args.read.soup _ _ c.in_ok-kept.ensures.asked
+      (of_soup _ _ _ c.requires.mesh c.in_ok-layout.ensures.mesh c.in_ok-layout.ensures.traced).1 c.in_ok-kept.ensures.kept c.in_ok-head.ensures
+      c.new.ensures,
+)
 
 pub returns-in_err-kept-clause-refused : goal.returns-in_err-kept-clause-refused
 returns-in_err-kept-clause-refused g c =

@@ -41,10 +41,10 @@ up_to : (c : goal.Else-not-settled-vertex) (r d : ℕ) → is_among r (take (c.q
 up_to c r d among note = elim (or_cases _ _ (sym (among_more c.args.queue.now c.queue.r-index r c.queue-test.true) ∙ among)) [
   | inl before ↦ c.queue.invariant.none r d before note
   | inr now ↦ (
-    let same : r ≡ get_or c.args.queue.now c.queue.r-index 0 = eqb-true _ _ now in
-    let one : d ≡ c.unwrap-d.result = same_Some _ _ (sym note ∙ (ap (note_at c.args.noted.now) same ∙ c.unwrap-d.ensures)) in
-    ap (λ e. is_on c.args.settled.now (to_of c.args.mesh.now e)) one
-    ∙ (ap (is_on c.args.settled.now) (sym c.to-vertex.ensures.value) ∙ c.if-not-settled-vertex.false))
+      let same : r ≡ get_or c.args.queue.now c.queue.r-index 0 = eqb-true _ _ now in
+      let one : d ≡ c.unwrap-d.result = same_Some _ _ (sym note ∙ (ap (note_at c.args.noted.now) same ∙ c.unwrap-d.ensures)) in
+      ap (λ e. is_on c.args.settled.now (to_of c.args.mesh.now e)) one
+      ∙ (ap (is_on c.args.settled.now) (sym c.to-vertex.ensures.value) ∙ c.if-not-settled-vertex.false))
 ]
 
 pub queue-preserved : goal.queue-preserved

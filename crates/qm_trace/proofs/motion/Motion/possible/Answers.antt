@@ -17,14 +17,19 @@ use Rattle.qm_trace.proofs.motion.Motion.possible.Goals as goal
 pub first_waiting-requires-clause-few : goal.first_waiting-requires-clause-few
 first_waiting-requires-clause-few c =
     let z : IsMotionOn c.args.mesh.now (the_view c.self.inside) = subst (IsMotionOn c.args.mesh.now) (sym c.self.view_is) c.requires in
-    omega (arith, ap length c.deref.ensures.value, c.self.invariant.starts_long, ap length z.started,
-    starts_few c.args.mesh.now c.faces-known.ensures.mesh.manifold, c.faces-known.ensures.mesh.few)
+    omega (
+      arith,
+      ap length c.deref.ensures.value,
+      c.self.invariant.starts_long,
+      ap length z.started,
+      starts_few c.args.mesh.now c.faces-known.ensures.mesh.manifold,
+      c.faces-known.ensures.mesh.few,
+    )
 
 pub first_open-requires-clause-notes : goal.first_open-requires-clause-notes
 first_open-requires-clause-notes c r among =
     let z : IsMotionOn c.args.mesh.now (the_view c.self.inside) = subst (IsMotionOn c.args.mesh.now) (sym c.self.view_is) c.requires in
-    let note = c.self.invariant.notes_are.queue_is r (sym (ap (is_among r) c.deref-3.ensures.value) ∙ among) in
-    (
+    let note = c.self.invariant.notes_are.queue_is r (sym (ap (is_among r) c.deref-3.ensures.value) ∙ among) in (
       note.0,
       ap (λ (ns : List (Option ℕ)). note_at ns r) c.deref-4.ensures.value ∙ note.1,
       noted_low_at c.args.mesh.now c.faces-known.ensures.mesh.manifold (the_view c.self.inside).state z.reached note.0
@@ -44,8 +49,7 @@ returns-in_err-vertex-clause-over c =
     let r = noted_where c.self.inside.notes.noted.items d among in
     sym (ap (λ (marks : List Bool). is_on marks (to_of c.args.mesh.now d)) c.deref-5.ensures.value)
     ∙ c.in_err-vertex.ensures.none r.0 d (ap (is_among r.0) c.deref-3.ensures.value ∙ c.self.invariant.notes_are.queue_has r.0 d r.2)
-    (ap (λ (ns : List (Option ℕ)). note_at ns r.0) c.deref-4.ensures.value ∙ r.2) in
-    (
+    (ap (λ (ns : List (Option ℕ)). note_at ns r.0) c.deref-4.ensures.value ∙ r.2) in (
       λ _. subst (λ (q : MotionView). NobodyRuns q.state) c.self.view_is
           (over_where c.args.mesh.now c.faces-known.ensures.mesh.manifold (the_view c.self.inside).state z.reached none settled),
       λ _. c.from_residual.ensures,
@@ -66,8 +70,7 @@ pub returns-clause-over : goal.returns-clause-over
 returns-clause-over c =
     let z : IsMotionOn c.args.mesh.now (the_view c.self.inside) = subst (IsMotionOn c.args.mesh.now) (sym c.self.view_is) c.requires in
     let may = subst (λ (q : MotionView). may_settle (terrain_of c.args.mesh.now) q.state c.in_ok-vertex.vertex ≡ true) (sym c.self.view_is)
-    (returns-clause-settles c c.in_ok-vertex.vertex refl) in
-    (
+    (returns-clause-settles c c.in_ok-vertex.vertex refl) in (
       λ never r l runs. none-some _ (sym never),
       λ none. absurd (settle_not_over c.args.mesh.now c.faces-known.ensures.mesh.manifold (the_view c.self.inside).state z.reached c.in_ok-vertex.vertex may
           (subst (λ (q : MotionView). NobodyRuns q.state) (sym c.self.view_is) none)),
