@@ -153,13 +153,18 @@ module _ (mesh : HalfEdges) (laws : IsQuadManifold mesh) (cut : Cut) (full : IsC
       low_far i h = side_low mesh laws cut full t n arc.glued.far i h
 
       at : (i : ℕ) → k + suc (suc i) ≡ n → HasCross mesh (easts mesh s (suc k))
-      at i e = (mesh.next (easts mesh s k), easts mesh t (suc i), mesh.next (easts mesh t i), record {
-        first = laws.twin_twin (mesh.next (easts mesh s k)) (mesh.prev (easts mesh s (suc k))) (laws.next_low (easts mesh s k) (low k (omega arith))) (side_link mesh laws cut full s n arc.glued.near k l);
-        second = ap mesh.twin (laws.prev_next (easts mesh s k)) ∙ arc.glued.across k (suc i) e;
-        third = laws.twin_twin (mesh.next (easts mesh t i)) (mesh.prev (easts mesh t (suc i))) (laws.next_low (easts mesh t i) (low_far i (omega arith))) (side_link mesh laws cut full t n arc.glued.far i (omega arith));
-        last = ap mesh.twin (laws.prev_next (easts mesh t i)) ∙ (turned_glued mesh laws cut full s t n arc.glued).across i (suc k) (omega arith);
-        apart = λ same. foreign (easts mesh s (suc k)) (0, record { a = suc k; b = 0; a_low = l; b_low = grid.tall; is = refl }) (0, record { a = suc i; b = 0; a_low = omega arith; b_low = other.tall; is = same });
-      })
+      at i e = (
+        mesh.next (easts mesh s k),
+        easts mesh t (suc i),
+        mesh.next (easts mesh t i),
+        record {
+          first = laws.twin_twin (mesh.next (easts mesh s k)) (mesh.prev (easts mesh s (suc k))) (laws.next_low (easts mesh s k) (low k (omega arith))) (side_link mesh laws cut full s n arc.glued.near k l);
+          second = ap mesh.twin (laws.prev_next (easts mesh s k)) ∙ arc.glued.across k (suc i) e;
+          third = laws.twin_twin (mesh.next (easts mesh t i)) (mesh.prev (easts mesh t (suc i))) (laws.next_low (easts mesh t i) (low_far i (omega arith))) (side_link mesh laws cut full t n arc.glued.far i (omega arith));
+          last = ap mesh.twin (laws.prev_next (easts mesh t i)) ∙ (turned_glued mesh laws cut full s t n arc.glued).across i (suc k) (omega arith);
+          apart = λ same. foreign (easts mesh s (suc k)) (0, record { a = suc k; b = 0; a_low = l; b_low = grid.tall; is = refl }) (0, record { a = suc i; b = 0; a_low = omega arith; b_low = other.tall; is = same });
+        },
+      )
 
   module _ (rest : Cut) (without : IsWithout mesh cut rest s t n) where
     -- Where the cut came along the face to the arc, it goes straight on over its end.

@@ -46,12 +46,16 @@ is_among_four s e f g t (inr (inr (inr is))) = or_right (eqb s t) (eqb e t || (e
 module _ (mesh : HalfEdges) (laws : IsQuadManifold mesh) (cut : Cut) (full : IsCut mesh cut) where
   -- The next corner.
   pub next_done : (c d k : ℕ) → IsCorner mesh cut c → d ≡ easts mesh c k → ((i : ℕ) → i < k → cut (mesh.next (easts mesh c i)) ≡ false) → cut (mesh.next d) ≡ true → IsNextCorner mesh cut c (mesh.next d)
-  next_done c d k corner at inside on = (k, record {
-    some = omega arith;
-    corner = corner;
-    inside = λ i l. inside i (omega arith);
-    ends = λ i e. let same : i ≡ k = omega arith in ap (λ x. cut (mesh.next (easts mesh c x))) same ∙ (ap (λ x. cut (mesh.next x)) (sym at) ∙ on);
-  }, ap mesh.next at)
+  next_done c d k corner at inside on = (
+    k,
+    record {
+      some = omega arith;
+      corner = corner;
+      inside = λ i l. inside i (omega arith);
+      ends = λ i e. let same : i ≡ k = omega arith in ap (λ x. cut (mesh.next (easts mesh c x))) same ∙ (ap (λ x. cut (mesh.next x)) (sym at) ∙ on);
+    },
+    ap mesh.next at,
+  )
 
   pub next_is_corner : (c d : ℕ) → IsNextCorner mesh cut c d → IsCorner mesh cut d
   next_is_corner c d n = at n.0 n.1 n.2
