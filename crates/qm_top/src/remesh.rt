@@ -54,9 +54,10 @@ fn remesh_mesh<O: Sink>(
     let layout = traced_layout(alloc, &mesh)?;
     let kept = keep(alloc, &layout, asked)?;
     let head = head_text(alloc, &asked.settings, asked.auto)?;
+    let between = Vec::new(alloc);
     let framed = Framed {
         head,
-        between: Vec::new(alloc),
+        between,
         remesh: kept,
     };
     let cut = CutMesh { mesh, layout };

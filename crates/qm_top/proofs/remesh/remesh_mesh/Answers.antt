@@ -13,7 +13,7 @@ write_task-requires-clause-framed g c = (
   task_of c.args.asked c.args.read.soup,
   framed_for c.args.asked c.args.read.soup _ _ c.in_ok-kept.ensures.asked
       (of_soup _ _ _ c.requires.mesh c.in_ok-layout.ensures.mesh c.in_ok-layout.ensures.traced).1 c.in_ok-kept.ensures.kept c.in_ok-head.ensures
-      c.new.ensures,
+      c.new-between.ensures.items,
 )
 
 pub returns-in_err-kept-clause-refused : goal.returns-in_err-kept-clause-refused
@@ -27,7 +27,7 @@ returns-clause-done g c =
     c.write_task.ensures.done (task_of c.args.asked c.args.read.soup)
     (framed_for c.args.asked c.args.read.soup _ _ c.in_ok-kept.ensures.asked
     (of_soup _ _ _ c.requires.mesh c.in_ok-layout.ensures.mesh c.in_ok-layout.ensures.traced).1 c.in_ok-kept.ensures.kept c.in_ok-head.ensures
-    c.new.ensures)
+    c.new-between.ensures.items)
 
 pub returns-clause-refused : goal.returns-clause-refused
 returns-clause-refused g c =
@@ -35,4 +35,4 @@ returns-clause-refused g c =
     (c.write_task.ensures.refused (task_of c.args.asked c.args.read.soup)
     (framed_for c.args.asked c.args.read.soup _ _ c.in_ok-kept.ensures.asked
     (of_soup _ _ _ c.requires.mesh c.in_ok-layout.ensures.mesh c.in_ok-layout.ensures.traced).1 c.in_ok-kept.ensures.kept c.in_ok-head.ensures
-    c.new.ensures))
+    c.new-between.ensures.items))

@@ -11,10 +11,10 @@ pub returns-clause-whole : goal.returns-clause-whole
 returns-clause-whole g c =
     subst (λ (text : Bytes). OnOk c.put_framed.result (g.T.Output.takes c.args.out.now c.put_framed.new.out text))
     (framed_is c.args.remesh.asked.settings c.args.remesh.asked.auto c.args.soup.now (plan c.args.cut.now.layout) (lists_of c.args.remesh.first)
-    (option_map lists_of c.args.remesh.third) _ _ c.in_ok-head.ensures c.new-between.ensures) c.put_framed.ensures.whole
+    (option_map lists_of c.args.remesh.third) _ _ c.in_ok-head.ensures c.new-between.ensures.items) c.put_framed.ensures.whole
 
 pub returns-clause-part : goal.returns-clause-part
 returns-clause-part g c is =
     subst (g.T.Output.stops c.args.out.now c.put_framed.new.out)
     (framed_is c.args.remesh.asked.settings c.args.remesh.asked.auto c.args.soup.now (plan c.args.cut.now.layout) (lists_of c.args.remesh.first)
-    (option_map lists_of c.args.remesh.third) _ _ c.in_ok-head.ensures c.new-between.ensures) (c.put_framed.ensures.part is)
+    (option_map lists_of c.args.remesh.third) _ _ c.in_ok-head.ensures c.new-between.ensures.items) (c.put_framed.ensures.part is)
