@@ -1,5 +1,5 @@
 -- A command that solves finds least lengths for a network that is not too tangled.
-use Rattle.std.proofs.Common.{Bool, ℕ, ◌≡◌, ◌⊎◌, sym, subst, refl, inl, inr}
+use Rattle.std.proofs.Common.{false, Bool, ℕ, ◌≡◌, ◌⊎◌, sym, subst, refl, inl, inr}
 use Rattle.def_flow.specs.declared.net.Settings.{Settings}
 use Rattle.def_io.specs.Bytes.{Bytes, Told}
 use Rattle.def_io.specs.Faults.{Rose}
