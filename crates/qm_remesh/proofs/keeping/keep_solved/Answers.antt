@@ -1,5 +1,11 @@
-use Rattle.std.proofs.Common.{◌∙◌}
+use Rattle.std.specs.Prelude.{IfErr, IfOk}
+use Rattle.std.specs.Option.{option_map}
+use Rattle.std.proofs.Common.{Bool, subst, sym}
+use Rattle.def_certtext.specs.CertLines.{lists_of}
 use Rattle.def_flow.specs.Network.{network}
+use Rattle.def_layout.specs.Plans.{plan}
+use Rattle.def_remesh.specs.Keeping.{IsKept}
+use Rattle.def_remesh.specs.Refusals.{IsLayoutFail}
 use Rattle.remesh_laws.proofs.Keeps.{are_lengths, doubled_first, doubled_some, keeps_first, low_floor, solved, too_fine}
 use Rattle.qm_remesh.proofs.keeping.keep_solved.Goals as goal
 
@@ -14,6 +20,18 @@ raise-requires-clause-coarse c =
 pub raise-requires-clause-doubled : goal.raise-requires-clause-doubled
 raise-requires-clause-doubled c =
     doubled_some _ _ _ _ (doubled_first _ _ _ c.in-Err-Doubled.field-0 _ _ c.deref.ensures.value c.in-Err-Doubled.field-0-is c.in-Err-Doubled.ensures.refused).1
+
+pub returns-in-Err-Doubled-clause-kept : goal.returns-in-Err-Doubled-clause-kept
+returns-in-Err-Doubled-clause-kept c = λ wish for.
+    subst
+    (λ (b : Bool). IfOk c.raise.result (λ kept. IsKept wish (plan c.args.t.now) c.args.asked.settings b (lists_of kept.first)
+    (option_map lists_of kept.third) kept.numbering))
+    (sym c.if-asked.true) (c.raise.ensures.kept wish for)
+
+pub returns-in-Err-Doubled-clause-refused : goal.returns-in-Err-Doubled-clause-refused
+returns-in-Err-Doubled-clause-refused c = λ wish for.
+    subst (λ (b : Bool). IfErr c.raise.result (IsLayoutFail wish (plan c.args.t.now) c.args.asked.settings b)) (sym c.if-asked.true)
+    (c.raise.ensures.refused wish for)
 
 pub returns-in-Ok-clause-kept : goal.returns-in-Ok-clause-kept
 returns-in-Ok-clause-kept c = λ wish for.
