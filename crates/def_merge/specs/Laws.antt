@@ -1,12 +1,19 @@
 -- The laws of merging.
 use Rattle.std.specs.Prelude.{◌≡◌, ◌⊎◌, ℕ, Bool, List}
 use Rattle.def_mesh.specs.Faces.{Faces}
-use Rattle.def_mesh.specs.HalfEdges.{HalfEdges, IsQuadManifold}
+use Rattle.def_mesh.specs.HalfEdges.{HalfEdges, IsQuadManifold, half_edges}
 use Rattle.def_mesh.specs.Manifold.{IsManifold}
 use Rattle.def_cut.specs.Cuts.{Cut, IsCut}
-use Rattle.def_cut.specs.FullCut.{IsFullCut}
+use Rattle.def_cut.specs.FullCut.{IsFullCut, is_on}
+use Rattle.def_cut.specs.Grids.{patch_at}
+use Rattle.def_layout.specs.Arcs.{long_at}
+use Rattle.def_layout.specs.Borders.{border_dart}
+use Rattle.def_layout.specs.FaceLayouts.{IsLayoutOf}
+use Rattle.def_layout.specs.Layouts.{Slot, use_of}
+use Rattle.def_layout.specs.Plans.{layout_of, Plan}
 use Rattle.def_merge.specs.Joins.{IsJoinable, IsOnArc, IsWithout}
 use Rattle.def_merge.specs.Merged.{IsMergedCut}
+use Rattle.def_merge.specs.Layouts.{IsJoinableAt}
 
 -- Without a joinable arc a full cut is a full cut.
 abbrev pub JoinLaw : Type 0
@@ -23,3 +30,12 @@ GrownLaw = (mesh : HalfEdges) (cut rest : Cut) (s t n r u m : ℕ) → IsQuadMan
 abbrev pub OneMergedLaw : Type 0
 OneMergedLaw = (faces : Faces) (marks rest other : List Bool) → IsManifold faces → IsFullCut faces marks
     → IsMergedCut faces marks rest → IsMergedCut faces marks other → (rest ≡ other) × IsFullCut faces rest
+
+-- What is joinable in a layout is joinable in its cut, at the sides where it lies.
+abbrev pub JoinableLaw : Type 0
+JoinableLaw = (faces : Faces) (marks : List Bool) (plan : Plan) → IsManifold faces → IsFullCut faces marks
+    → IsLayoutOf faces marks plan → (one other : Slot) → IsJoinableAt (layout_of plan) one other
+    → IsJoinable (half_edges faces) (is_on marks)
+    (border_dart (half_edges faces) (patch_at plan.patches one.patch) one.side 0)
+    (border_dart (half_edges faces) (patch_at plan.patches other.patch) other.side 0)
+    (long_at plan.arcs (use_of (layout_of plan) one).arc)

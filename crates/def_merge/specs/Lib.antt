@@ -1,3 +1,4 @@
 pub mod Joins
 pub mod Merged
+pub mod Layouts
 pub mod Laws

@@ -1,4 +1,6 @@
 pub mod Sides
 pub mod Joins
 pub mod Arcs
+pub mod Classes
+pub mod Layouts
 pub mod OneMerged

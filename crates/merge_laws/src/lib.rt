@@ -2,7 +2,7 @@
 
 #![tactic(auto)]
 
-ghost use Rattle.def_merge.specs.Laws.{JoinLaw, GrownLaw, OneMergedLaw};
+ghost use Rattle.def_merge.specs.Laws.{GrownLaw, JoinLaw, JoinableLaw, OneMergedLaw};
 
 /// Without a joinable arc a full cut is a full cut.
 pub fn join_law()
@@ -17,4 +17,9 @@ pub fn grown_law()
 /// A full cut has at most one merged cut, which is a full cut.
 pub fn one_merged_law()
     ensures { OneMergedLaw }
+{}
+
+/// What is joinable in a layout is joinable in its cut.
+pub fn joinable_law()
+    ensures { JoinableLaw }
 {}
