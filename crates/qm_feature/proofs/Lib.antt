@@ -1,0 +1,4 @@
+mod Rings
+mod Tables
+mod Homes
+mod Origins

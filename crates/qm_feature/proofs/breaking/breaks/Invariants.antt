@@ -1,0 +1,7 @@
+use Rattle.std.proofs.Common.{◌≡◌, map}
+use Rattle.std.specs.List.{range_with_len}
+use Rattle.def_feature.specs.Marks.{is_break}
+use Rattle.qm_feature.proofs.breaking.breaks.Given as goal
+
+abbrev pub invariant-loop-v : goal.invariant-loop-v
+invariant-loop-v l = l.found.items ≡ map (is_break l.mesh l.marks) (range_with_len 0 l.v)

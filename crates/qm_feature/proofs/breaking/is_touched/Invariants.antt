@@ -1,0 +1,8 @@
+use Rattle.std.proofs.Common.{◌≡◌, false, take}
+use Rattle.std.specs.List.{list_any}
+use Rattle.def_mesh.specs.Vertices.{fan_of}
+use Rattle.def_cut.specs.FullCut.{is_on}
+use Rattle.qm_feature.proofs.breaking.is_touched.Given as goal
+
+abbrev pub invariant-loop-d : goal.invariant-loop-d
+invariant-loop-d l = list_any (is_on l.marks) (take l.d-index (fan_of l.mesh l.v)) ≡ false
