@@ -1,0 +1,49 @@
+-- What is proved of links.
+use Rattle.std.specs.Prelude.{◌≡◌, ◌≢◌, ◌⊎◌, ℕ, ◌+◌, ◌-◌, ◌<◌, true, false, List, [], slice_index_or, Some}
+use Rattle.std.specs.List.{Contains}
+use Rattle.def_layout.specs.Cells.{slot_dart}
+use Rattle.def_layout.specs.Laid.{IsLaid, IsOtherSlot}
+use Rattle.def_layout.specs.Layouts.{Layout, Slot, IsSlot, use_of}
+use Rattle.def_layout.specs.Lengths.{Lengths, AreLengths}
+use Rattle.def_written.specs.NewFaces.{dart_start, dart_end}
+use Rattle.def_blocks.specs.declared.link.Link.{Link}
+use Rattle.def_blocks.specs.declared.link.SideName.{SideName}
+use Rattle.def_blocks.specs.Links.{AreLinks}
+
+-- An inner arc: two slots use it, each the other way round than the other, and no more.
+pub record HasTwoSlots (layout : Layout) (arc : ℕ) : Type 0 where
+  pub one : Slot
+  pub other : Slot
+  pub slot : IsSlot layout one
+  pub across : IsOtherSlot layout one other
+  pub uses : use_of layout one ≡ record { arc = arc; forward = true }
+  pub apart : one ≢ other
+  pub only : (w : Slot) → IsSlot layout w → (use_of layout w).arc ≡ arc → (w ≡ one) ⊎ (w ≡ other)
+
+-- An arc of the boundary: one slot uses it.
+pub record HasOneSlot (layout : Layout) (arc : ℕ) : Type 0 where
+  pub one : Slot
+  pub slot : IsSlot layout one
+  pub uses : use_of layout one ≡ record { arc = arc; forward = true }
+  pub wall : (other : Slot) → ¬ IsOtherSlot layout one other
+  pub only : (w : Slot) → IsSlot layout w → (use_of layout w).arc ≡ arc → w ≡ one
+
+-- Each arc has two links, or it lies on the boundary and has one.
+abbrev pub TwoLinksLaw : Type 0
+TwoLinksLaw = (layout : Layout) → IsLaid layout → (arc : ℕ) → arc < layout.arcs
+    → HasTwoSlots layout arc ⊎ HasOneSlot layout arc
+
+-- A slot is the other one of its other one, which is another slot, and no other slot is.
+abbrev pub SymmetricLaw : Type 0
+SymmetricLaw = (layout : Layout) → IsLaid layout → (one other : Slot) → IsSlot layout one → IsOtherSlot layout one other
+    → IsOtherSlot layout other one × ((next : Slot) → IsOtherSlot layout one next → next ≡ other)
+
+-- Linked points are one point: each edge of a slot's arc, seen from the other slot, has the same ends.
+abbrev pub LinkedPointsLaw : Type 0
+LinkedPointsLaw = (layout : Layout) (lengths : Lengths) → IsLaid layout → AreLengths layout lengths
+    → (one other : Slot) → IsSlot layout one → IsOtherSlot layout one other
+    → (k : ℕ) → k < lengths (use_of layout one).arc
+    → (dart_end layout lengths (slot_dart layout lengths other (lengths (use_of layout one).arc - 1 - k))
+    ≡ dart_start layout lengths (slot_dart layout lengths one k))
+    × (dart_start layout lengths (slot_dart layout lengths other (lengths (use_of layout one).arc - 1 - k))
+    ≡ dart_end layout lengths (slot_dart layout lengths one k))
