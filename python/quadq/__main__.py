@@ -1,0 +1,118 @@
+"""The command line: `python3 -m quadq IN.obj OUT.obj --scale 1/2`, or many files into a folder."""
+
+from __future__ import annotations
+
+import argparse
+import os
+import sys
+from fractions import Fraction
+from pathlib import Path
+from typing import Optional, Sequence
+
+from .batch import Done, inputs_of, one_file, run_batch, summary_of, table_of
+from .files import write_whole
+from .program import Program
+from .progress import Progress
+from .refusal import Refusal
+from .remeshing import Settings
+
+USAGE = 2
+NOT_YET = {"sharp": "crease", "coarse": "coarse", "edge": "size", "carry": "map"}
+"""Options that wait for a command of the program."""
+
+
+def parser_of_words() -> argparse.ArgumentParser:
+    parser = argparse.ArgumentParser(
+        prog="quadq", description="Remeshes quad meshes with the proved program quadq, and checks each part.",
+        usage="quadq IN.obj OUT.obj (--scale P/Q | --faces N) [..]\n       quadq FILES.. --out FOLDER (..) [..]")
+    parser.add_argument("paths", nargs="+", metavar="FILE", help="IN and OUT; with --out files, patterns and folders")
+    wish = parser.add_mutually_exclusive_group(required=True)
+    wish.add_argument("--scale", type=Fraction, metavar="P/Q", help="how long edges of patches are to be, of the old")
+    wish.add_argument("--faces", type=int, metavar="N", help="how many faces the mesh is to have")
+    wish.add_argument("--edge", metavar="D", help="how long edges are to be; needs the command `size`")
+    parser.add_argument("--floor", default="auto", choices=["1", "2", "3", "auto"], help="the least length of an arc")
+    parser.add_argument("--weight", default="plain", choices=["plain", "length"], help="how deviations count")
+    parser.add_argument("--subdivide", action="store_true", help="divide all faces into quads first")
+    parser.add_argument("--mirror", choices=["x", "y", "z"], help="remesh the half above 0, and mirror it")
+    parser.add_argument("--keep", type=Path, metavar="FOLDER", help="keep the old and new text of each part there")
+    parser.add_argument("--sharp", metavar="DEGREES", help="keep sharp edges; needs the command `crease`")
+    parser.add_argument("--coarse", action="store_true", help="merge patches; needs the command `coarse`")
+    parser.add_argument("--carry", action="store_true", help="carry attributes over; needs the command `map`")
+    parser.add_argument("--out", type=Path, metavar="FOLDER", help="where the remeshed files go, by the same names")
+    parser.add_argument("--table", type=Path, metavar="FILE.csv", help="a table of all files")
+    parser.add_argument("--jobs", type=int, default=0, metavar="N", help="how much at a time; 0: one a processor")
+    parser.add_argument("--quiet", action="store_true", help="say only what is refused")
+    return parser
+
+
+def main(words: Optional[Sequence[str]] = None) -> int:
+    """Does what the words of a command line ask, and returns the exit status."""
+    parser = parser_of_words()
+    asked = parser.parse_args(words)
+    try:
+        program = Program()
+        refuse_missing(asked, program)
+        settings = Settings(
+            asked.scale, asked.faces, asked.floor, asked.weight, asked.subdivide, asked.mirror, asked.jobs, asked.keep)
+        if asked.out is None and len(asked.paths) != 2:
+            raise ValueError("two files are needed, IN and OUT, or --out FOLDER")
+        return _batch(asked, settings, program) if asked.out else _single(asked, settings, program)
+    except (ValueError, FileNotFoundError) as error:
+        print(f"quadq: {error}", file=sys.stderr)
+        return USAGE
+
+
+def refuse_missing(asked: argparse.Namespace, program: Program) -> None:
+    """Raises a `ValueError` for an option that waits for a command."""
+    for option, command in NOT_YET.items():
+        if getattr(asked, option):
+            known = command in program.commands()
+            lack = "this package does not use yet" if known else "this program does not have"
+            raise ValueError(f"--{option} needs the command `{command}`, which {lack}")
+
+
+def _single(asked: argparse.Namespace, settings: Settings, program: Program) -> int:
+    source, out = map(Path, asked.paths)
+    progress = Progress(is_quiet=asked.quiet)
+    try:
+        report = one_file(source, out, settings, program, progress.tell).report
+    except Refusal as said:
+        progress.end()
+        print(f"quadq: {said}", file=sys.stderr)
+        return said.status
+    progress.end()
+    if not asked.quiet:
+        for label, value in report.facts():
+            print(f"{label:<34}{value:>12}")
+        for label, before, after in report.table():
+            print(f"{label:<34}{before:>12}{after:>14}")
+    for warning in report.warnings:
+        print(f"quadq: warning: {warning}", file=sys.stderr)
+    return 0
+
+
+def _batch(asked: argparse.Namespace, settings: Settings, program: Program) -> int:
+    paths = inputs_of(asked.paths)
+    names = [it.stem for it in paths]
+    twice = {it for it in names if names.count(it) > 1} if len(set(names)) < len(names) else set()
+    if twice:
+        raise ValueError(f"two files have the name {min(twice)}, and would go to the same place")
+    if any(asked.out.resolve() == it.parent.resolve() for it in paths):
+        raise ValueError("the folder --out has files that would be read")
+    jobs = asked.jobs or os.cpu_count() or 1
+
+    def say(it: Done) -> None:
+        if it.status != 0:
+            print(f"quadq: {it.path}: {it.said}", file=sys.stderr, flush=True)
+        elif not asked.quiet:
+            print(f"{it.path}: {it.said}", flush=True)
+
+    done = run_batch(paths, asked.out, settings, program, jobs, say)
+    if asked.table:
+        write_whole(asked.table, table_of(done).encode())
+    print(summary_of(done))
+    return 0 if all(it.status == 0 for it in done) else 1
+
+
+if __name__ == "__main__":
+    sys.exit(main())

@@ -1,0 +1,115 @@
+"""How far one quad mesh is from the surface of another."""
+
+from __future__ import annotations
+
+from dataclasses import dataclass
+
+import numpy as np
+
+from .mesh import Mesh
+
+WAYS = 8
+"""How many boxes lie in a box of the tree."""
+SAMPLES = 5_000
+"""How many points are measured at most; of more, each so manieth."""
+ROUND = 1_000
+"""How many points are looked up at a time: it bounds the memory."""
+
+
+@dataclass(frozen=True)
+class Distance:
+    """From points of one mesh to the surface of another, in the unit of the mesh."""
+
+    mean: float
+    greatest: float
+    points: int
+    """How many points were measured."""
+
+
+def distance_between(one: Mesh, other: Mesh) -> Distance:
+    """From the points and the middles of the faces of the one to the nearest place on the other."""
+    if not one.face_count or not other.face_count:
+        return Distance(0.0, 0.0, 0)
+    probes = np.concatenate([one.points, one.points[one.quads].mean(axis=1)])
+    probes = probes[:: max(1, -(-len(probes) // SAMPLES))]
+    found = Surface(other).distances(probes)
+    return Distance(float(found.mean()), float(found.max()), len(probes))
+
+
+class Surface:
+    """The surface of a quad mesh: of each face the four triangles between its sides and its middle. A tree of boxes
+    over the faces, in the order of a space-filling curve, finds the nearest; it is laid out level by level, each box as
+    its least and its greatest place and a place of the surface within."""
+
+    def __init__(self, mesh: Mesh) -> None:
+        corners = mesh.points[mesh.quads]
+        corners = corners[np.argsort(_curve(corners.mean(axis=1)), kind="stable")]
+        self.corners = corners
+        self.levels = [(corners.min(axis=1), corners.max(axis=1), corners.mean(axis=1))]
+        while len(self.levels[-1][0]) > 1:
+            low, high, within = self.levels[-1]
+            starts = np.arange(0, len(low), WAYS)
+            self.levels.append((np.minimum.reduceat(low, starts), np.maximum.reduceat(high, starts), within[starts]))
+
+    def distances(self, probes: np.ndarray) -> np.ndarray:
+        """(probes,) float64: from each of (probes, 3) points to the nearest place of the surface."""
+        rounds = [self._nearest(probes[at:at + ROUND]) for at in range(0, len(probes), ROUND)]
+        return np.concatenate([np.zeros(0), *rounds])
+
+    def _nearest(self, probes: np.ndarray) -> np.ndarray:
+        who, box = np.arange(len(probes)), np.zeros(len(probes), dtype=np.int64)
+        bound = np.full(len(probes), np.inf)
+        for at, (low, high, within) in reversed(list(enumerate(self.levels))):
+            if at < len(self.levels) - 1:
+                who, box = np.repeat(who, WAYS), (box[:, None] * WAYS + np.arange(WAYS)).ravel()
+                inside = box < len(low)
+                who, box = who[inside], box[inside]
+            at_probe = probes[who]
+            nearest = np.linalg.norm(np.maximum(0, np.maximum(low[box] - at_probe, at_probe - high[box])), axis=1)
+            np.minimum.at(bound, who, np.linalg.norm(at_probe - within[box], axis=1))
+            kept = nearest <= bound[who]
+            who, box = who[kept], box[kept]
+        found = np.full(len(probes), np.inf)
+        np.minimum.at(found, who, _to_quads(probes[who], self.corners[box]))
+        return found
+
+
+def _curve(places: np.ndarray) -> np.ndarray:
+    """(places,) int64: where each lies along Morton's curve through the box of all."""
+    span = np.ptp(places, axis=0).max()
+    cells = ((places - places.min(axis=0)) * ((1 << 20) / (span or 1.0))).astype(np.int64)
+    code = np.zeros(len(places), dtype=np.int64)
+    for bit in range(20):
+        for axis in range(3):
+            code |= ((cells[:, axis] >> bit) & 1) << (3 * bit + axis)
+    return code
+
+
+def _to_quads(probes: np.ndarray, corners: np.ndarray) -> np.ndarray:
+    """(n,): from each probe (n, 3) to the quad (n, 4, 3) beside it."""
+    middle = corners.mean(axis=1)
+    ways = [_to_triangles(probes, corners[:, at], corners[:, (at + 1) % 4], middle) for at in range(4)]
+    return np.min(ways, axis=0)
+
+
+def _to_triangles(probes: np.ndarray, a: np.ndarray, b: np.ndarray, c: np.ndarray) -> np.ndarray:
+    """(n,): from each probe to the triangle beside it: to its plane where the foot lies inside, else to a side."""
+    normal = np.cross(b - a, c - a)
+    square = _dot(normal, normal)
+    inside = square > 0
+    for start, end in ((a, b), (b, c), (c, a)):
+        inside &= _dot(np.cross(end - start, probes - start), normal) >= 0
+    height = np.abs(_dot(probes - a, normal)) / np.sqrt(np.where(square > 0, square, 1.0))
+    sides = np.min([_to_segments(probes, *ends) for ends in ((a, b), (b, c), (c, a))], axis=0)
+    return np.where(inside, height, sides)
+
+
+def _to_segments(probes: np.ndarray, start: np.ndarray, end: np.ndarray) -> np.ndarray:
+    along = end - start
+    square = _dot(along, along)
+    part = np.clip(_dot(probes - start, along) / np.where(square > 0, square, 1.0), 0, 1)
+    return np.linalg.norm(probes - start - part[:, None] * along, axis=1)
+
+
+def _dot(one: np.ndarray, other: np.ndarray) -> np.ndarray:
+    return np.einsum("ni,ni->n", one, other)

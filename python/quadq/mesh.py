@@ -1,0 +1,138 @@
+"""Polygon meshes with what their corners and faces carry."""
+
+from __future__ import annotations
+
+from dataclasses import dataclass, field, replace
+from typing import Optional, Sequence
+
+import numpy as np
+
+NONE = -1
+"""Stands in an index for "names nothing"."""
+
+
+@dataclass(frozen=True)
+class Layer:
+    """Values, and for each corner of the mesh the row that it names, or NONE."""
+
+    values: np.ndarray
+    """(rows, width) float64."""
+    rows: np.ndarray
+    """(corners,) int64."""
+
+
+@dataclass(frozen=True)
+class Names:
+    """What groups faces: a list of names, and for each face the place of its name there."""
+
+    names: tuple[str, ...]
+    of_face: np.ndarray
+    """(faces,) int64."""
+
+
+@dataclass(frozen=True)
+class Mesh:
+    """A mesh of polygons. Lengths are in the unit of its file; indices count from 0.
+
+    The corners of all faces stand in one table, face by face: face `f` has those from `starts[f]` on, before
+    `starts[f + 1]`.
+    """
+
+    points: np.ndarray
+    """(points, 3) float64."""
+    corners: np.ndarray
+    """(corners,) int64: the point of each corner."""
+    starts: np.ndarray
+    """(faces + 1,) int64."""
+    texture: Optional[Layer] = None
+    normal: Optional[Layer] = None
+    groups: dict[str, Names] = field(default_factory=dict)
+    """By the word of OBJ that names them: usemtl, g, o, s."""
+    extra: Optional[np.ndarray] = None
+    """(points, width) float64: further numbers of `v` lines, such as colours."""
+    lines: tuple[np.ndarray, ...] = ()
+    """The points along each `l` line."""
+    libraries: tuple[str, ...] = ()
+    """The material libraries, as `mtllib` names them."""
+
+    @staticmethod
+    def of_quads(points: np.ndarray, quads: np.ndarray) -> Mesh:
+        """A mesh of points (points, 3) and quads (faces, 4) alone."""
+        flat = np.asarray(quads, dtype=np.int64).reshape(-1)
+        return Mesh(np.asarray(points, dtype=float).reshape(-1, 3), flat, np.arange(0, len(flat) + 1, 4))
+
+    @property
+    def face_count(self) -> int:
+        return len(self.starts) - 1
+
+    @property
+    def sides(self) -> np.ndarray:
+        """(faces,) int64: how many corners each face has."""
+        return np.diff(self.starts)
+
+    def is_quads(self) -> bool:
+        return bool(np.all(self.sides == 4))
+
+    @property
+    def quads(self) -> np.ndarray:
+        """(faces, 4) int64: the points of each face. All faces have to be quads."""
+        if not self.is_quads():
+            raise ValueError(f"face {int(np.argmax(self.sides != 4)) + 1} is no quad")
+        return self.corners.reshape(-1, 4)
+
+    def face_of_corner(self) -> np.ndarray:
+        """(corners,) int64."""
+        return np.repeat(np.arange(self.face_count), self.sides)
+
+    def next_corners(self) -> np.ndarray:
+        """(corners,) int64: the corner after each, around its face."""
+        after = np.arange(1, len(self.corners) + 1)
+        ends = self.starts[1:][self.sides > 0] - 1
+        after[ends] = self.starts[:-1][self.sides > 0]
+        return after
+
+    def faces_of(self, chosen: np.ndarray) -> tuple[Mesh, np.ndarray]:
+        """The mesh of the faces with these numbers, in this order, and the numbers of the points that they use."""
+        sides = self.sides[chosen]
+        starts = np.concatenate([[0], np.cumsum(sides)])
+        at = np.repeat(self.starts[:-1][chosen] - starts[:-1], sides) + np.arange(starts[-1])
+        used, corners = np.unique(self.corners[at], return_inverse=True)
+        part = Mesh(
+            self.points[used],
+            corners,
+            starts,
+            texture=None if self.texture is None else replace(self.texture, rows=self.texture.rows[at]),
+            normal=None if self.normal is None else replace(self.normal, rows=self.normal.rows[at]),
+            groups={word: replace(it, of_face=it.of_face[chosen]) for word, it in self.groups.items()},
+            extra=None if self.extra is None else self.extra[used],
+            libraries=self.libraries,
+        )
+        return part, used
+
+
+def join(meshes: Sequence[Mesh]) -> Mesh:
+    """Meshes side by side: their points and faces in turn, with the names that group them, and no other attribute."""
+    if len(meshes) == 1:
+        return meshes[0]
+    shifts = np.cumsum([0, *(len(it.points) for it in meshes)])
+    sides = np.concatenate([np.zeros(0, dtype=np.int64), *(it.sides for it in meshes)])
+    return Mesh(
+        np.concatenate([np.zeros((0, 3)), *(it.points for it in meshes)]),
+        np.concatenate([np.zeros(0, dtype=np.int64), *(it.corners + shift for it, shift in zip(meshes, shifts))]),
+        np.concatenate([[0], np.cumsum(sides)]),
+        groups=_joined_groups(meshes),
+        libraries=tuple(dict.fromkeys(name for it in meshes for name in it.libraries)),
+    )
+
+
+def _joined_groups(meshes: Sequence[Mesh]) -> dict[str, Names]:
+    groups = {}
+    for word in dict.fromkeys(word for it in meshes for word in it.groups):
+        place: dict[str, int] = {}
+        columns = []
+        for mesh in meshes:
+            kept = mesh.groups.get(word, Names(("",), np.zeros(mesh.face_count, dtype=np.int64)))
+            table = np.array([place.setdefault(name, len(place)) for name in kept.names], dtype=np.int64)
+            columns.append(table[kept.of_face])
+        groups[word] = Names(tuple(place), np.concatenate(columns))
+    return groups

@@ -1,0 +1,140 @@
+"""Connected parts of a mesh, each remeshed and checked by itself."""
+
+from __future__ import annotations
+
+import re
+from concurrent.futures import ThreadPoolExecutor
+from dataclasses import dataclass, replace
+from pathlib import Path
+from typing import Callable, Optional
+
+import numpy as np
+
+from .mesh import Mesh, Names, join
+from .obj import plain_text, read_obj
+from .program import Program, Verdict, Wish
+from .refusal import Refusal
+from .surface import part_of_face
+
+Tell = Callable[[int], None]
+"""Is told how many parts are done."""
+
+
+@dataclass(frozen=True)
+class Part:
+    """A connected part of a mesh."""
+
+    mesh: Mesh
+    text: bytes
+    """Its points and faces, as the program reads them."""
+    faces: np.ndarray
+    """The numbers of its faces in the whole mesh."""
+    points: np.ndarray
+    """The numbers of its points there."""
+
+    def refusal(self, said: Refusal) -> Refusal:
+        """What the program said of this part, with the places of the whole mesh."""
+        return Refusal.told(said.status, said.line, lambda it: int(self.faces[it]), lambda it: int(self.points[it]))
+
+
+@dataclass(frozen=True)
+class Written:
+    """What the program wrote for a part, and what `check` said of it."""
+
+    text: bytes
+    verdict: Verdict
+    lengths: np.ndarray
+    """(arcs,) int64: the new length of each arc."""
+    floor: int
+    """The least length that these arcs could have: with the floor `auto`, the one that it chose."""
+
+    @property
+    def arcs_at_floor(self) -> int:
+        return int(np.sum(self.lengths == self.floor))
+
+
+def split(mesh: Mesh, text: Optional[bytes] = None) -> list[Part]:
+    """The connected parts of a mesh, in the order of their first faces. `text` has the mesh's points and faces, if it
+    is at hand: where there is one part alone, that text is its."""
+    part_of = part_of_face(mesh)
+    count = int(part_of.max(initial=-1)) + 1
+    if count == 1 and text is not None:
+        return [Part(mesh, text, np.arange(mesh.face_count), np.arange(len(mesh.points)))]
+    parts = []
+    by_part = np.argsort(part_of, kind="stable")
+    for faces in np.split(by_part, np.cumsum(np.bincount(part_of, minlength=count))[:-1]) if count else []:
+        one, points = mesh.faces_of(faces)
+        parts.append(Part(one, plain_text(one), faces, points))
+    return parts
+
+
+class Workshop:
+    """Runs the program over parts, some at a time."""
+
+    def __init__(self, program: Program, jobs: int, tell: Tell = lambda _: None) -> None:
+        self.program = program
+        self.jobs = max(1, jobs)
+        self.tell = tell
+
+    def each(self, parts: list[Part], work: Callable[[Part], object]) -> list:
+        """What the work makes of each part, in their order. The first refusal, in this order, goes to the caller."""
+        done = []
+        with ThreadPoolExecutor(self.jobs) as pool:
+            waiting = [pool.submit(work, part) for part in parts]
+            try:
+                for part, future in zip(parts, waiting):
+                    try:
+                        done.append(future.result())
+                    except Refusal as said:
+                        raise part.refusal(said) from said
+                    self.tell(len(done))
+            finally:
+                for future in waiting:
+                    future.cancel()
+        return done
+
+    def remesh(self, parts: list[Part], wish: Wish) -> list[bytes]:
+        """What `remesh` writes for each part. It is not checked yet."""
+        return self.each(parts, lambda part: self.program.remesh(part.text, wish))
+
+    def check(self, parts: list[Part], texts: list[bytes]) -> list[Written]:
+        """Each text, accepted by `check` behind the part that it was made of."""
+        text_of = {id(part): text for part, text in zip(parts, texts)}
+        return self.each(parts, lambda part: self._checked(part, text_of[id(part)]))
+
+    def _checked(self, part: Part, text: bytes) -> Written:
+        verdict = self.program.check(part.text, text)
+        floor, lengths = certified_lengths(text)
+        return Written(text, verdict, lengths, floor)
+
+
+def certified_lengths(text: bytes) -> tuple[int, np.ndarray]:
+    """The floor and the lengths of the arcs, as the last certificate of a written text has them."""
+    head = re.match(rb"#quadq 1 remesh scale \S+ floor (\S+) weight", text)
+    if head is None:
+        raise ValueError("this is no text that `remesh` wrote")
+    named = text.rfind(b"\n#f ")
+    floor = head[1] if head[1] != b"auto" else text[named:named + 10].split()[1]
+    lengths = re.findall(rb"^#x (\d+)$", text[max(named, 0):], re.M)
+    return int(floor), np.array(lengths, dtype=np.int64)
+
+
+def put_together(parts: list[Part], written: list[Written]) -> Mesh:
+    """The written meshes side by side. A name that all faces of an old part share is that of its new faces."""
+    return join([_named(part.mesh, read_obj(it.text.decode())) for part, it in zip(parts, written)])
+
+
+def _named(old: Mesh, new: Mesh) -> Mesh:
+    groups = {}
+    for word, it in old.groups.items():
+        if old.face_count and np.all(it.of_face == it.of_face[0]):
+            groups[word] = Names((it.names[it.of_face[0]],), np.zeros(new.face_count, dtype=np.int64))
+    return replace(new, groups=groups, libraries=old.libraries)
+
+
+def keep(folder: Path, parts: list[Part], written: list[Written]) -> None:
+    """Writes the old and the new text of each part into a folder, as `part-1.obj` and `part-1.remeshed.obj`."""
+    folder.mkdir(parents=True, exist_ok=True)
+    for number, (part, it) in enumerate(zip(parts, written), 1):
+        (folder / f"part-{number}.obj").write_bytes(part.text)
+        (folder / f"part-{number}.remeshed.obj").write_bytes(it.text)

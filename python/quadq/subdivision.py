@@ -1,0 +1,59 @@
+"""Each face of a polygon mesh divided into quads, once."""
+
+from __future__ import annotations
+
+from dataclasses import replace
+from typing import Optional
+
+import numpy as np
+
+from .mesh import NONE, Layer, Mesh
+from .surface import Edges, edges_of
+
+
+def subdivide(mesh: Mesh) -> Mesh:
+    """The mesh with a point in the middle of each edge and of each face: a face of n corners becomes n quads, as in the
+    first step of Catmull and Clark, but every old point keeps its place. What corners carry is carried on linearly."""
+    edges = edges_of(mesh)
+    points, faces = len(mesh.points), mesh.face_of_corner()
+    before = np.empty(len(mesh.corners), dtype=np.int64)
+    before[mesh.next_corners()] = np.arange(len(mesh.corners))
+    quads = np.column_stack([
+        mesh.corners,
+        points + edges.of_corner,
+        points + len(edges.ends) + faces,
+        points + edges.of_corner[before],
+    ])
+    return replace(
+        Mesh.of_quads(_refined(mesh, edges, mesh.points), quads),
+        texture=_refined_layer(mesh, before, mesh.texture),
+        normal=_refined_layer(mesh, before, mesh.normal),
+        groups={word: replace(it, of_face=it.of_face[faces]) for word, it in mesh.groups.items()},
+        extra=None if mesh.extra is None else _refined(mesh, edges, mesh.extra),
+        libraries=mesh.libraries,
+    )
+
+
+def _refined(mesh: Mesh, edges: Edges, values: np.ndarray) -> np.ndarray:
+    """Values at points (points, width), at these, the middles of edges and the middles of faces."""
+    return np.concatenate([values, values[edges.ends].mean(axis=1), _face_means(mesh, values[mesh.corners])])
+
+
+def _face_means(mesh: Mesh, at_corners: np.ndarray) -> np.ndarray:
+    if not mesh.face_count:
+        return np.zeros((0, at_corners.shape[1]))
+    return np.add.reduceat(at_corners, mesh.starts[:-1]) / mesh.sides[:, None]
+
+
+def _refined_layer(mesh: Mesh, before: np.ndarray, layer: Optional[Layer]) -> Optional[Layer]:
+    """Four values for each old corner; none where some corner of its face names none."""
+    if layer is None:
+        return None
+    named = np.logical_and.reduceat(layer.rows != NONE, mesh.starts[:-1])[mesh.face_of_corner()]
+    at_corners = layer.values[np.maximum(layer.rows, 0)] if len(layer.values) else np.zeros((len(before), 1))
+    along = (at_corners + at_corners[mesh.next_corners()]) / 2
+    means = _face_means(mesh, at_corners)[mesh.face_of_corner()]
+    values, rows = np.unique(
+        np.stack([at_corners, along, means, along[before]], axis=1).reshape(-1, at_corners.shape[1]),
+        axis=0, return_inverse=True)
+    return Layer(values, np.where(np.repeat(named, 4), rows.reshape(-1), NONE))

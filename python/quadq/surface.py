@@ -1,0 +1,72 @@
+"""What surrounds what in a mesh: its edges, its connected parts, its boundary and its irregular vertices."""
+
+from __future__ import annotations
+
+from dataclasses import dataclass
+
+import numpy as np
+
+from .mesh import Mesh
+
+
+@dataclass(frozen=True)
+class Edges:
+    """The edges of a mesh, each once."""
+
+    ends: np.ndarray
+    """(edges, 2) int64: its points, in rising order."""
+    of_corner: np.ndarray
+    """(corners,) int64: the edge from each corner to the next."""
+    uses: np.ndarray
+    """(edges,) int64: how many sides of faces it is; 1 at the boundary."""
+
+
+def edges_of(mesh: Mesh) -> Edges:
+    """n log n in the corners."""
+    heads, tails = mesh.corners, mesh.corners[mesh.next_corners()]
+    count = max(len(mesh.points), 1)
+    keys = np.minimum(heads, tails) * count + np.maximum(heads, tails)
+    found, of_corner, uses = np.unique(keys, return_inverse=True, return_counts=True)
+    return Edges(np.column_stack([found // count, found % count]), of_corner, uses)
+
+
+def least_in_class(count: int, one: np.ndarray, other: np.ndarray) -> np.ndarray:
+    """(count,): for each of so many things the least that pairs `one[i]`, `other[i]` connect it with."""
+    least = np.arange(count)
+    while len(one):
+        low, high = np.minimum(least[one], least[other]), np.maximum(least[one], least[other])
+        apart = low != high
+        one, other, low, high = one[apart], other[apart], low[apart], high[apart]
+        np.minimum.at(least, high, low)
+        while True:
+            jumped = least[least]
+            if np.array_equal(jumped, least):
+                break
+            least = jumped
+    return least
+
+
+def part_of_face(mesh: Mesh) -> np.ndarray:
+    """(faces,) int64: the connected part of each face, parts counted from 0 in the order of their first faces. Faces
+    that share a point are in one part."""
+    first = mesh.corners[mesh.starts[:-1]] if mesh.face_count else np.zeros(0, dtype=np.int64)
+    least = least_in_class(len(mesh.points), np.repeat(first, mesh.sides), mesh.corners)
+    return number_in_order(least[first])
+
+
+def number_in_order(names: np.ndarray) -> np.ndarray:
+    """The same classes, counted from 0 in the order in which they come first."""
+    _, first, of_name = np.unique(names, return_index=True, return_inverse=True)
+    rank = np.empty(len(first), dtype=np.int64)
+    rank[np.argsort(first)] = np.arange(len(first))
+    return rank[of_name]
+
+
+def irregular_counts(mesh: Mesh, edges: Edges) -> tuple[int, int]:
+    """How many points inside the mesh have another number of faces than four, and how many on the boundary another
+    than two."""
+    faces = np.bincount(mesh.corners, minlength=len(mesh.points))
+    on_boundary = np.zeros(len(mesh.points), dtype=bool)
+    on_boundary[edges.ends[edges.uses == 1]] = True
+    inside = (faces > 0) & ~on_boundary
+    return int(np.sum(inside & (faces != 4))), int(np.sum(on_boundary & (faces != 2)))

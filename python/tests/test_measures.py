@@ -1,0 +1,98 @@
+"""Quality, distance, parts, scales, subdivision and mirrors by themselves: no program is run."""
+
+import unittest
+from fractions import Fraction
+
+import numpy as np
+
+from quadq import Mesh, Refusal, distance_between, quality_of, read_obj, scaled_jacobians, subdivide
+from quadq.mirror import half, with_image
+from quadq.surface import edges_of, irregular_counts, part_of_face
+from quadq.targets import as_scale, nearest_scale
+
+from .shapes import EXAMPLES, grid, moved
+
+
+class Measures(unittest.TestCase):
+    def test_scaled_jacobians(self):
+        shapes = {"square": ([0, 0], [2, 0], [2, 2], [0, 2]), "rhombus": ([0, 0], [2, 0], [3, 3**0.5], [1, 3**0.5]),
+                  "triangle": ([0, 0], [1, 0], [2, 0], [0, 2]), "arrow": ([0, 0], [4, 0], [1, 1], [0, 4])}
+        flat = np.array(list(shapes.values()), dtype=float).reshape(-1, 2)
+        mesh = Mesh.of_quads(np.column_stack([flat, 0 * flat[:, 0]]), np.arange(16))
+        found = scaled_jacobians(mesh)
+        np.testing.assert_allclose(found[:3], [1, 3**0.5 / 2, 0], atol=1e-12)
+        self.assertLess(found[3], 0)
+        self.assertEqual(quality_of(mesh).inverted, 1)
+
+    def test_distances(self):
+        flat = grid(7, 5)
+        self.assertEqual(distance_between(flat, flat).greatest, 0)
+        self.assertAlmostEqual(distance_between(moved(flat, 0, 0, 0.25), flat).mean, 0.25)
+        beside = distance_between(moved(grid(1, 1), 10, 8), flat)
+        self.assertAlmostEqual(beside.greatest, (4**2 + 4**2) ** 0.5)
+
+    def test_distances_are_those_of_all_faces(self):
+        ball = read_obj((EXAMPLES / "letter_q.obj").read_text())
+        probes = Mesh.of_quads(np.random.default_rng(7).normal(size=(12, 3)), np.arange(12))
+        alone = [distance_between(probes, ball.faces_of(np.array([at]))[0]) for at in range(0, ball.face_count, 40)]
+        chosen, _ = ball.faces_of(np.arange(0, ball.face_count, 40))
+        self.assertLessEqual(distance_between(probes, chosen).greatest, min(it.greatest for it in alone) + 1e-12)
+
+    def test_parts(self):
+        two = Mesh(*[getattr(grid(2, 1), name) for name in ("points", "corners", "starts")])
+        apart = Mesh.of_quads(np.tile(two.points, (2, 1)), np.concatenate([two.quads, two.quads + 6])[[0, 2, 1, 3]])
+        self.assertEqual(part_of_face(apart).tolist(), [0, 1, 0, 1])
+        self.assertEqual(part_of_face(grid(30, 20)).max(), 0)
+
+    def test_irregular_points(self):
+        for name, counts in (("cube", (8, 0)), ("notched_square", (0, 8)), ("torus", (0, 0))):
+            mesh = read_obj((EXAMPLES / f"{name}.obj").read_text())
+            self.assertEqual(irregular_counts(mesh, edges_of(mesh)), counts, name)
+
+    def test_subdivision(self):
+        mesh = read_obj("v 0 0 0\nv 3 0 0\nv 0 3 0\nvt 0 0\nvt 1 0\nvt 0 1\nusemtl oak\nf 1/1 2/2 3/3\n")
+        fine = subdivide(mesh)
+        self.assertEqual((fine.face_count, len(fine.points)), (3, 7))
+        np.testing.assert_allclose(fine.points[6], [1, 1, 0])
+        np.testing.assert_allclose(fine.texture.values[fine.texture.rows] * 3, fine.points[fine.corners, :2])
+        self.assertEqual(fine.groups["usemtl"].of_face.tolist(), [1, 1, 1])
+        self.assertEqual(subdivide(Mesh.of_quads(np.zeros((0, 3)), np.zeros((0, 4)))).face_count, 0)
+
+    def test_mirror(self):
+        one, faces, _ = half(moved(grid(4, 3), -2), 0)
+        self.assertEqual(faces.tolist(), [2, 3, 6, 7, 10, 11])
+        whole = with_image(one, 0)
+        self.assertEqual((whole.face_count, len(whole.points)), (12, 20))
+        self.assertEqual(edges_of(whole).uses.max(), 2)
+        with self.assertRaises(Refusal) as caught:
+            half(moved(grid(3, 2), -1.5), 0)
+        self.assertEqual(caught.exception.faces, (1, 4))
+
+
+class Targets(unittest.TestCase):
+    def test_scales(self):
+        for value, wanted in ((0.5, "1/2"), (2, "2"), (1e-9, "1/1000"), (1e9, "1000"), (1 / 3, "1/3"), (2.5, "5/2")):
+            self.assertEqual(as_scale(value), Fraction(wanted))
+
+    def test_a_number_that_is_reached(self):
+        reached = nearest_scale(250, 1000, lambda scale: round(1000 * float(scale) ** 2))
+        self.assertEqual((reached.scale, reached.faces, reached.because), (Fraction(1, 2), 250, ""))
+
+    def test_numbers_between_which_nothing_lies(self):
+        reached = nearest_scale(500, 1000, lambda scale: 400 if scale < Fraction(2, 3) else 900)
+        self.assertEqual(reached.faces, 400)
+        self.assertIn("it has 400 faces at scale", reached.because)
+
+    def test_numbers_out_of_reach(self):
+        self.assertIn("already at scale 1/1000", nearest_scale(5, 1000, lambda scale: 800).because)
+
+        def count(scale):
+            if scale > 2:
+                raise Refusal(10, "too fine: 9999999 faces")
+            return round(1000 * float(scale) ** 2)
+
+        self.assertAlmostEqual(nearest_scale(3900, 1000, count).faces, 3900, delta=39)
+
+
+if __name__ == "__main__":
+    unittest.main()

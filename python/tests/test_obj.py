@@ -1,0 +1,59 @@
+"""Reading and writing OBJ."""
+
+import unittest
+
+import numpy as np
+
+from quadq import FormatError, read_obj, write_obj
+
+TEXT = """mtllib wood.mtl
+o board
+v 0 0 0 0.5 0.25 1
+v 1 0 0 0.5 0.25 1
+v 1 1.5 0 0.5 0.25 1
+v 0 1 0 0.5 0.25 0
+v 2 0 -1e-3 0.5 0.25 0
+v 2 1 0 0.5 0.25 0
+vt 0 0
+vt 1 0
+vn 0 0 1
+usemtl oak
+f 1/1/1 2/2/1 3/2/1 4/1/1
+usemtl ash
+s 1
+f 2//1 5//1 6//1 3//1
+l 2 3
+"""
+
+
+class Obj(unittest.TestCase):
+    def test_what_is_read_is_written_again(self):
+        self.assertEqual(write_obj(read_obj(TEXT)).replace("-0.001", "-1e-3"), TEXT.replace("o board\n", "").replace(
+            "usemtl oak", "usemtl oak\no board"))
+
+    def test_forms_of_lines(self):
+        for text in ("v 0 0 0\nv 1 0 0\nv 1 1 0\nv 0 1 0\nf 1 2 3 4\n",
+                     "v 0 0 0\r\nv\t1 0 0\r\nv 1 1 \\\r\n 0\r\n v 0 1 0 # note\r\nf -4 -3 -2 -1",
+                     "v 0 0 0\nv 1 0 0\nf 1/ 2// 3 4\nv 1 1 0\nv 0 1 0"):
+            mesh = read_obj(text)
+            self.assertEqual(mesh.quads.tolist(), [[0, 1, 2, 3]])
+            self.assertEqual(mesh.points[:, :2].tolist(), [[0, 0], [1, 0], [1, 1], [0, 1]])
+
+    def test_no_obj(self):
+        for text in ("v 0 0\n", "v 0 0 x\n", "v 0 0 0\nf 1 1 1 2\n", "v 0 0 0\nf 0 1 1 1\n", "v\n", "v 1 1 0,5\n",
+                     "v 0 0 0\nf -2 1 1 1\n", "f a b c d\n", "l a b\n"):
+            with self.assertRaises(FormatError, msg=text):
+                read_obj(text)
+
+    def test_nothing(self):
+        mesh = read_obj("# an empty file\n")
+        self.assertEqual((mesh.face_count, len(mesh.points), write_obj(mesh)), (0, 0, ""))
+
+    def test_faces_of_different_sides(self):
+        mesh = read_obj("v 0 0 0\nv 1 0 0\nv 1 1 0\nv 0 1 0\nv 2 0 0\nf 1 2 3 4\nf 2 5 3\n")
+        self.assertEqual(mesh.sides.tolist(), [4, 3])
+        np.testing.assert_array_equal(mesh.next_corners(), [1, 2, 3, 0, 5, 6, 4])
+
+
+if __name__ == "__main__":
+    unittest.main()

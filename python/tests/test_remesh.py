@@ -1,0 +1,149 @@
+"""The whole way over the program, and the command line."""
+
+import contextlib
+import csv
+import io
+import pathlib
+import tempfile
+import unittest
+from fractions import Fraction
+
+import numpy as np
+
+from quadq import Mesh, Program, Refusal, read_obj, remesh, write_obj
+from quadq.__main__ import main
+from quadq.mesh import join
+
+from .shapes import EXAMPLES, grid, moved
+
+TWO_FANS = EXAMPLES / "two_fans.obj"
+CUBE = EXAMPLES / "cube.obj"
+LETTER = EXAMPLES / "letter_q.obj"
+
+
+def read(path: pathlib.Path) -> Mesh:
+    return read_obj(path.read_text())
+
+
+class Remesh(unittest.TestCase):
+    def test_a_text_is_handed_over_as_the_program_wrote_it(self):
+        text = LETTER.read_bytes()
+        result = remesh(read(LETTER), scale="1/2", text=text)
+        verdict = Program().check(text, result.text)
+        self.assertEqual((verdict.faces, verdict.arcs), (result.mesh.face_count, result.report.arcs))
+        self.assertEqual(result.report.after.irregular, result.report.before.irregular)
+        self.assertEqual(result.report.scale, Fraction(1, 2))
+
+    def test_parts_have_floors_of_their_own(self):
+        square = grid(8, 8)
+        pair = join([square, moved(read(CUBE), 30)])
+        result = remesh(pair, scale=0.25)
+        self.assertEqual((result.mesh.face_count, result.report.parts), (4 + 6, 2))
+        self.assertIsNone(result.text)
+        for part, written in zip(result.parts, result.written):
+            self.assertEqual(Program().check(part.text, written.text), written.verdict)
+
+    def test_a_name_of_a_whole_part_stays(self):
+        text = write_obj(grid(2, 2)) + "o cube\n" + "".join(
+            f"v {x} {y} 5\n" for y in (0, 1) for x in (0, 1)) + "f -4 -3 -1 -2\n"
+        mesh = remesh(read_obj(text), scale=2).mesh
+        names = [mesh.groups["o"].names[at] for at in mesh.groups["o"].of_face]
+        self.assertEqual(names, [""] * 16 + ["cube"] * 4)
+
+    def test_a_number_of_faces(self):
+        report = remesh(grid(40, 30), faces=300).report
+        self.assertAlmostEqual(report.after.faces, 300, delta=30)
+        self.assertEqual(report.warnings == (), abs(report.after.faces - 300) <= 3)
+
+    def test_a_mirrored_half(self):
+        mesh = moved(grid(12, 6), -6)
+        result = remesh(mesh, scale="1/2", mirror="x")
+        self.assertEqual(result.mesh.face_count, 18)
+        image = {tuple(it) for it in result.mesh.points * [-1, 1, 1]}
+        self.assertEqual(image, {tuple(it) for it in result.mesh.points})
+
+    def test_polygons(self):
+        text = "v 0 0 0\nv 1 0 0\nv 0 1 0\nv 1 1 0\nf 1 2 3\nf 2 4 3\n"
+        with self.assertRaises(Refusal) as caught:
+            remesh(read_obj(text), scale=1)
+        self.assertEqual((caught.exception.status, caught.exception.faces), (4, (0, 1)))
+        result = remesh(read_obj(text), scale=1, subdivide=True)
+        self.assertEqual((result.mesh.face_count, result.report.warnings), (6, ()))
+
+    def test_refusals_name_places_of_the_whole(self):
+        pair = join([grid(3, 2), read(TWO_FANS)])
+        with self.assertRaises(Refusal) as caught:
+            remesh(pair, scale=1)
+        self.assertEqual((caught.exception.status, caught.exception.vertices), (7, (12,)))
+        self.assertTrue(str(caught.exception).startswith("vertex 13: two fans. "))
+        turned = grid(2, 2)
+        quads = turned.quads.copy()
+        quads[3] = quads[3, ::-1]
+        with self.assertRaises(Refusal) as caught:
+            remesh(join([grid(3, 2), Mesh.of_quads(turned.points, quads)]), scale=1)
+        self.assertEqual(caught.exception.faces, (7, 9))
+
+    def test_nothing_and_no_numbers(self):
+        empty = Mesh.of_quads(np.zeros((0, 3)), np.zeros((0, 4)))
+        self.assertEqual(remesh(empty, scale=1).mesh.face_count, 0)
+        with self.assertRaises(Refusal):
+            remesh(Mesh.of_quads(np.full((4, 3), np.nan), [[0, 1, 2, 3]]), scale=1)
+        for wrong in ({}, {"scale": 1, "faces": 2}, {"scale": 0}, {"scale": "1/1001"}, {"faces": 0},
+                      {"scale": 1, "floor": 4}, {"scale": 1, "mirror": "w"}, {"scale": 1, "weight": "x"}):
+            with self.assertRaises(ValueError, msg=str(wrong)):
+                remesh(grid(1, 1), **wrong)
+
+
+class CommandLine(unittest.TestCase):
+    def setUp(self):
+        room = tempfile.TemporaryDirectory()
+        self.addCleanup(room.cleanup)
+        self.room = pathlib.Path(room.name)
+
+    def run_words(self, *words):
+        out, err = io.StringIO(), io.StringIO()
+        with contextlib.redirect_stdout(out), contextlib.redirect_stderr(err):
+            status = main([str(it) for it in words])
+        return status, out.getvalue(), err.getvalue()
+
+    def test_one_file(self):
+        out = self.room / "out.obj"
+        status, said, _ = self.run_words(LETTER, out, "--scale", "1/2", "--keep", self.room / "kept")
+        self.assertEqual(status, 0)
+        self.assertIn("least scaled Jacobian", said)
+        Program().check(LETTER.read_bytes(), out.read_bytes())
+        self.assertEqual((self.room / "kept/part-1.remeshed.obj").read_bytes(), out.read_bytes())
+
+    def test_a_refused_file_leaves_nothing(self):
+        out = self.room / "out.obj"
+        status, _, said = self.run_words(TWO_FANS, out, "--faces", "9")
+        self.assertEqual((status, list(self.room.iterdir())), (7, []))
+        self.assertTrue(said.startswith("quadq: vertex 1: two fans. "), said)
+        wrong = self.room / "wrong.obj"
+        wrong.write_text("v 0 0 0\nv 1 0,5 0\n")
+        status, _, said = self.run_words(wrong, out, "--scale", "1")
+        self.assertEqual((status, said), (3, "quadq: line 2: not an OBJ line of this profile\n"))
+        self.assertEqual(self.run_words(self.room / "no.obj", out, "--scale", "1")[0], 12)
+        self.assertEqual(self.run_words(CUBE, self.room / "no/out.obj", "--scale", "1")[0], 13)
+
+    def test_many_files(self):
+        table = self.room / "table.csv"
+        status, said, errors = self.run_words(
+            EXAMPLES, "--out", self.room / "half", "--scale", "1/2", "--jobs", "2", "--table", table)
+        names = sorted(it.name for it in EXAMPLES.glob("*.obj"))
+        self.assertEqual(status, 1)
+        self.assertIn("two_fans.obj: vertex 1: two fans", errors)
+        self.assertEqual(sorted(it.name for it in (self.room / "half").iterdir()), sorted({*names} - {"two_fans.obj"}))
+        self.assertTrue(said.endswith("\n") and f"{len(names) - 1} files remeshed, 1 refused" in said)
+        rows = list(csv.DictReader(table.read_text().splitlines()))
+        self.assertEqual([pathlib.Path(it["file"]).name for it in rows], names)
+        self.assertEqual({it["status"] for it in rows}, {"0", "7"})
+
+    def test_wrong_words(self):
+        for words in ((CUBE, "--scale", "1"), (CUBE, CUBE, CUBE, "--scale", "1"), (CUBE, "x.obj", "--scale", "0"),
+                      (EXAMPLES, "--out", EXAMPLES, "--scale", "1"), (CUBE, "x.obj", "--scale", "1", "--carry")):
+            self.assertEqual(self.run_words(*words)[0], 2, words)
+
+
+if __name__ == "__main__":
+    unittest.main()
