@@ -9,12 +9,13 @@ from fractions import Fraction
 from pathlib import Path
 from typing import Optional, Sequence
 
-from .batch import Done, inputs_of, one_file, run_batch, summary_of, table_of
+from .batch import READ_FAULT, WRITE_FAULT, Done, inputs_of, one_file, run_batch, summary_of, table_of
 from .files import write_whole
 from .program import Program
 from .progress import Progress
 from .refusal import Refusal
 from .remeshing import Settings
+from .report import refused_page, result_page
 
 USAGE = 2
 NOT_YET = {"sharp": "crease", "coarse": "coarse", "edge": "size", "carry": "map"}
@@ -35,6 +36,8 @@ def parser_of_words() -> argparse.ArgumentParser:
     parser.add_argument("--subdivide", action="store_true", help="divide all faces into quads first")
     parser.add_argument("--mirror", choices=["x", "y", "z"], help="remesh the half above 0, and mirror it")
     parser.add_argument("--keep", type=Path, metavar="FOLDER", help="keep the old and new text of each part there")
+    parser.add_argument("--report", type=Path, metavar="FILE.html", help="a page with pictures of both meshes")
+    parser.add_argument("--up", choices=["y", "z"], default="y", help="the axis that points upward in pictures")
     parser.add_argument("--sharp", metavar="DEGREES", help="keep sharp edges; needs the command `crease`")
     parser.add_argument("--coarse", action="store_true", help="merge patches; needs the command `coarse`")
     parser.add_argument("--carry", action="store_true", help="carry attributes over; needs the command `map`")
@@ -56,6 +59,8 @@ def main(words: Optional[Sequence[str]] = None) -> int:
             asked.scale, asked.faces, asked.floor, asked.weight, asked.subdivide, asked.mirror, asked.jobs, asked.keep)
         if asked.out is None and len(asked.paths) != 2:
             raise ValueError("two files are needed, IN and OUT, or --out FOLDER")
+        if asked.out is not None and asked.report is not None:
+            raise ValueError("a report is of one file: leave --out away")
         return _batch(asked, settings, program) if asked.out else _single(asked, settings, program)
     except (ValueError, FileNotFoundError) as error:
         print(f"quadq: {error}", file=sys.stderr)
@@ -75,12 +80,18 @@ def _single(asked: argparse.Namespace, settings: Settings, program: Program) -> 
     source, out = map(Path, asked.paths)
     progress = Progress(is_quiet=asked.quiet)
     try:
-        report = one_file(source, out, settings, program, progress.tell).report
+        result = one_file(source, out, settings, program, progress.tell)
+        if asked.report is not None:
+            progress.tell("pictures", 0, 1)
+            write_whole(asked.report, result_page(source.name, result, program, asked.up).encode())
     except Refusal as said:
         progress.end()
         print(f"quadq: {said}", file=sys.stderr)
+        if asked.report is not None and said.status not in (READ_FAULT, WRITE_FAULT):
+            write_whole(asked.report, refused_page(source, said, asked.up).encode())
         return said.status
     progress.end()
+    report = result.report
     if not asked.quiet:
         for label, value in report.facts():
             print(f"{label:<34}{value:>12}")

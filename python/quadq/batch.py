@@ -24,7 +24,7 @@ READ_FAULT, WRITE_FAULT = 12, 13
 COLUMNS = (
     "file", "status", "faces before", "faces after", "scale", "parts", "arcs", "arcs at the floor", "deviation",
     "inverted before", "inverted after", "least scaled Jacobian before", "least scaled Jacobian after",
-    "greatest distance to the old surface", "seconds", "said",
+    "greatest distance", "seconds", "said",
 )
 
 
@@ -48,7 +48,7 @@ class Done:
             str(self.path), str(self.status), str(before.faces), str(after.faces), str(report.scale),
             str(report.parts), str(report.arcs), str(report.arcs_at_floor), str(report.deviation),
             str(before.quality.inverted), str(after.quality.inverted),
-            f"{before.quality.least:.4f}", f"{after.quality.least:.4f}", f"{report.to_old.greatest:.6g}",
+            f"{before.quality.least:.4f}", f"{after.quality.least:.4f}", f"{report.greatest_distance:.6g}",
             f"{self.seconds:.2f}", "; ".join(report.warnings),
         ]
 

@@ -55,6 +55,11 @@ class Report:
     """How many times points were moved: where it is not 0, the certificate holds for the counts, not for the places."""
 
     @property
+    def greatest_distance(self) -> float:
+        """From either mesh to the surface of the other."""
+        return max(self.to_old.greatest, self.to_new.greatest)
+
+    @property
     def warnings(self) -> tuple[str, ...]:
         before, after = self.before, self.after
         said = []
@@ -106,7 +111,7 @@ class Report:
         quality = self.after.quality
         return (f"faces {self.before.faces} -> {self.after.faces}, scale {self.scale}, parts {self.parts} checked, "
                 f"deviation {self.deviation}, least scaled Jacobian {quality.least:.3f}, "
-                f"distance {self.to_old.greatest:.3g}")
+                f"distance {self.greatest_distance:.3g}")
 
 
 @dataclass(frozen=True)

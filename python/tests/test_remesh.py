@@ -114,6 +114,12 @@ class CommandLine(unittest.TestCase):
         Program().check(LETTER.read_bytes(), out.read_bytes())
         self.assertEqual((self.room / "kept/part-1.remeshed.obj").read_bytes(), out.read_bytes())
 
+    def test_reports(self):
+        page = self.room / "page.html"
+        for source, status in ((CUBE, 0), (TWO_FANS, 7)):
+            self.assertEqual(self.run_words(source, self.room / "o.obj", "--scale", "1", "--report", page)[0], status)
+            self.assertIn(source.name, page.read_text())
+
     def test_a_refused_file_leaves_nothing(self):
         out = self.room / "out.obj"
         status, _, said = self.run_words(TWO_FANS, out, "--faces", "9")
@@ -141,7 +147,8 @@ class CommandLine(unittest.TestCase):
 
     def test_wrong_words(self):
         for words in ((CUBE, "--scale", "1"), (CUBE, CUBE, CUBE, "--scale", "1"), (CUBE, "x.obj", "--scale", "0"),
-                      (EXAMPLES, "--out", EXAMPLES, "--scale", "1"), (CUBE, "x.obj", "--scale", "1", "--carry")):
+                      (EXAMPLES, "--out", EXAMPLES, "--scale", "1"), (CUBE, "x.obj", "--scale", "1", "--carry"),
+                      (CUBE, "--out", "x", "--scale", "1", "--report", "x.html")):
             self.assertEqual(self.run_words(*words)[0], 2, words)
 
 

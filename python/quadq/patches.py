@@ -1,0 +1,88 @@
+"""Which patch of the motorcycle graph each face lies in, before and after a remesh."""
+
+from __future__ import annotations
+
+import numpy as np
+
+from .mesh import Mesh
+from .surface import Edges, edges_of, least_in_class, number_in_order
+
+
+def old_patches(mesh: Mesh, graph: str) -> np.ndarray:
+    """(faces,) int64: the patch of each face of a mesh whose graph text this is. Patches count from 0, as in the text,
+    which lists them in the order of their first faces."""
+    edges = edges_of(mesh)
+    inner = edges.uses == 2
+    inner[_ridden(mesh, edges, graph)] = False
+    by_edge = np.argsort(edges.of_corner, kind="stable")
+    by_edge = by_edge[inner[edges.of_corner[by_edge]]]
+    pairs = by_edge.reshape(-1, 2) // 4
+    return number_in_order(least_in_class(mesh.face_count, pairs[:, 0], pairs[:, 1]))
+
+
+def _ridden(mesh: Mesh, edges: Edges, graph: str) -> np.ndarray:
+    """The edges that riders have ridden. All of them ride at once, an edge a turn."""
+    rides = [tuple(map(int, line.split()[1:4])) for line in graph.splitlines() if line.startswith("rider ")]
+    heads, tails, left = np.array(rides, dtype=np.int64).reshape(-1, 3).T
+    used = np.unique(mesh.corners)
+    darts = _dart_of(mesh, used[heads - 1], used[tails - 1])
+    darts, left = darts[darts >= 0], left[darts >= 0]
+    twins = _twins(mesh)
+    ridden = []
+    while len(darts):
+        ridden.append(edges.of_corner[darts])
+        across = twins[_after(darts)]
+        goes_on = (left > 1) & (across >= 0)
+        darts, left = _after(across[goes_on]), left[goes_on] - 1
+    return np.concatenate([np.zeros(0, dtype=np.int64), *ridden])
+
+
+def _after(darts: np.ndarray) -> np.ndarray:
+    """The next side of the same quad."""
+    return darts - darts % 4 + (darts + 1) % 4
+
+
+def _dart_of(mesh: Mesh, heads: np.ndarray, tails: np.ndarray) -> np.ndarray:
+    """The sides of faces that go from these points to those, or -1."""
+    count = len(mesh.points)
+    keys = mesh.corners * count + mesh.corners[mesh.next_corners()]
+    order = np.argsort(keys)
+    wanted = heads * count + tails
+    places = np.minimum(np.searchsorted(keys[order], wanted), max(len(keys) - 1, 0))
+    found = order[places] if len(keys) else places
+    return np.where(keys[found] == wanted, found, -1)
+
+
+def _twins(mesh: Mesh) -> np.ndarray:
+    return _dart_of(mesh, mesh.corners[mesh.next_corners()], mesh.corners)
+
+
+def new_patches(graph: str, lengths: np.ndarray) -> np.ndarray:
+    """(faces,) int64: the patch of each face that the program writes, where arcs have these lengths: it writes the
+    faces patch by patch."""
+    sides: dict[str, list[int]] = {"south": [], "west": []}
+    for line in graph.splitlines():
+        word, _, arcs = line.partition(" ")
+        if word in sides:
+            sides[word].append(sum(int(lengths[int(it) - 1]) for it in arcs.split()))
+    faces = np.array(sides["south"], dtype=np.int64) * np.array(sides["west"], dtype=np.int64)
+    return np.repeat(np.arange(len(faces)), faces)
+
+
+def colours_of(mesh: Mesh, patches: np.ndarray, colours: int) -> np.ndarray:
+    """(patches,) int64: a colour for each patch, from 0, that no neighbour has where there are enough colours."""
+    edges = edges_of(mesh)
+    by_edge = np.argsort(edges.of_corner, kind="stable")
+    by_edge = by_edge[(edges.uses == 2)[edges.of_corner[by_edge]]]
+    pairs = patches[by_edge.reshape(-1, 2) // 4]
+    pairs = np.unique(np.sort(pairs[pairs[:, 0] != pairs[:, 1]], axis=1), axis=0)
+    taken = np.zeros(int(patches.max(initial=-1)) + 1, dtype=np.int64)
+    found = np.zeros(len(taken), dtype=np.int64)
+    both = np.concatenate([pairs, pairs[:, ::-1]])
+    both = both[np.argsort(both[:, 0], kind="stable")]
+    starts = np.searchsorted(both[:, 0], np.arange(len(taken) + 1))
+    for patch in range(len(taken)):
+        free = [it for it in range(colours) if not taken[patch] >> it & 1] or list(range(colours))
+        found[patch] = free[patch % len(free)]
+        taken[both[starts[patch]:starts[patch + 1], 1]] |= 1 << int(found[patch])
+    return found

@@ -1,0 +1,155 @@
+"""What the pictures of a report show: meshes with their patches, feature edges and bad faces, and places at fault."""
+
+from __future__ import annotations
+
+from dataclasses import dataclass, field
+from typing import Optional, Sequence
+
+import numpy as np
+
+from .canvas import Canvas
+from .mesh import Mesh
+from .surface import edges_of
+
+PALETTE = np.array([
+    (188, 215, 238), (249, 217, 180), (201, 230, 195), (243, 196, 201),
+    (220, 203, 232), (245, 238, 176), (191, 227, 224), (227, 211, 195),
+], dtype=float)
+PLAIN = np.array((222.0, 226.0, 230.0))
+BAD, POOR = np.array((208.0, 32.0, 32.0)), np.array((240.0, 140.0, 40.0))
+DARK, GREY, BLUE, RED = (40, 40, 40), (120, 120, 120), (20, 70, 200), (208, 32, 32)
+MARGIN = 14
+SHORTEST = 5.0
+"""In pixels: where edges are shorter on average, they are not drawn."""
+
+
+@dataclass(frozen=True)
+class Look:
+    """What is shown of a mesh."""
+
+    colours: np.ndarray
+    """(faces, 3): the colour of each face, from 0 to 255."""
+    thick: np.ndarray = field(default_factory=lambda: np.zeros((0, 2), dtype=np.int64))
+    """(edges, 2): edges drawn thick, as pairs of points."""
+    blue: np.ndarray = field(default_factory=lambda: np.zeros((0, 2), dtype=np.int64))
+    """(edges, 2): edges drawn blue, over these."""
+    dots: Sequence[int] = ()
+    """Points with a red dot."""
+
+
+@dataclass(frozen=True)
+class View:
+    """From where it is seen: to the right, upward and toward the eye, as rows of length 1."""
+
+    axes: np.ndarray
+
+    @staticmethod
+    def of(points: np.ndarray, up: str = "y") -> View:
+        """From above and beside; straight at a flat mesh."""
+        size = np.ptp(points, axis=0) if len(points) else np.zeros(3)
+        if size.min() <= 1e-3 * size.max():
+            return View.along(np.eye(3)[int(size.argmin())])
+        return View.along(np.array((1.0, 1.1, 1.9) if up == "y" else (1.0, -1.9, 1.1)), up)
+
+    @staticmethod
+    def along(toward: np.ndarray, up: str = "y") -> View:
+        upward = np.array((0.0, 1.0, 0.0) if up == "y" else (0.0, 0.0, 1.0))
+        toward = toward / np.linalg.norm(toward)
+        if abs(upward @ toward) > 0.98:
+            upward = np.array((0.0, 0.0, -1.0) if up == "y" else (0.0, 1.0, 0.0))
+        right = np.cross(upward, toward)
+        right /= np.linalg.norm(right)
+        return View(np.array([right, np.cross(toward, right), toward]))
+
+
+def draw(mesh: Mesh, look: Look, view: View, size: tuple[int, int], frame: Optional[np.ndarray] = None) -> bytes:
+    """A PNG of a mesh, so many pixels wide and high. `frame` has the points (n, 3) that it is to show, if not all."""
+    canvas = Canvas(*size)
+    if not mesh.face_count:
+        return canvas.png()
+    seen = (mesh.points if frame is None else frame) @ view.axes.T
+    low, high = seen.min(axis=0), seen.max(axis=0)
+    scale = min((size[at] - 2 * MARGIN) / max(high[at] - low[at], 1e-12) for at in (0, 1))
+    turned = (mesh.points @ view.axes.T - (low + high) / 2) * scale * [1, -1, 1] + [size[0] / 2, size[1] / 2, 0]
+    corners = turned[mesh.corners]
+    middles = np.add.reduceat(corners, mesh.starts[:-1]) / mesh.sides[:, None]
+    face = mesh.face_of_corner()
+    triangles = np.stack([corners, corners[mesh.next_corners()], middles[face]], axis=1)
+    canvas.triangles(triangles, (look.colours * _light(triangles, mesh)[:, None])[face])
+    _draw_edges(canvas, mesh, look, turned)
+    if len(look.dots):
+        canvas.dots(turned[list(look.dots)], RED, 9)
+    return canvas.png()
+
+
+def _light(triangles: np.ndarray, mesh: Mesh) -> np.ndarray:
+    """(faces,): how bright each face is, from its direction; backs are darker."""
+    normals = np.add.reduceat(
+        np.cross(triangles[:, 1] - triangles[:, 0], triangles[:, 2] - triangles[:, 0]), mesh.starts[:-1])
+    lengths = np.linalg.norm(normals, axis=1)
+    # The picture's second axis points downward, so that fronts have normals away from the eye.
+    facing = -np.divide(normals[:, 2], lengths, out=np.zeros(len(normals)), where=lengths > 0)
+    return np.where(facing >= 0, 0.72 + 0.28 * facing, 0.55 - 0.15 * facing)
+
+
+def _draw_edges(canvas: Canvas, mesh: Mesh, look: Look, turned: np.ndarray) -> None:
+    lift = [0.0, 0.0, 1.5]
+    edges = edges_of(mesh).ends
+    lengths = np.linalg.norm((turned[edges[:, 1]] - turned[edges[:, 0]])[:, :2], axis=1)
+    if lengths.mean() >= SHORTEST:
+        canvas.lines(turned[edges] + lift, GREY, 0.5, 0.6)
+    canvas.lines(turned[look.thick] + lift, DARK, 1.6)
+    canvas.lines(turned[look.blue] + lift, BLUE, 2.0)
+
+
+def patch_look(mesh: Mesh, patches: np.ndarray, tints: np.ndarray, bad: np.ndarray, blue: np.ndarray) -> Look:
+    """Patches (faces,) in the colours `tints` (patches,), their borders thick, and bad faces (faces,) by how bad: their
+    scaled Jacobians are below 0 or near it."""
+    colours = PALETTE[tints[patches]]
+    colours[bad < 0.2] = POOR
+    colours[bad < 0] = BAD
+    edges = edges_of(mesh)
+    least, most = (np.full(len(edges.ends), start) for start in (np.iinfo(np.int64).max, -1))
+    of_corner = np.repeat(patches, 4)
+    np.minimum.at(least, edges.of_corner, of_corner)
+    np.maximum.at(most, edges.of_corner, of_corner)
+    return Look(colours, edges.ends[(edges.uses == 1) | (least != most)], blue)
+
+
+def place_look(mesh: Mesh, faces: Sequence[int], points: Sequence[int]) -> Look:
+    """A mesh in grey with faces at fault red and points dotted."""
+    colours = np.tile(PLAIN, (mesh.face_count, 1))
+    colours[list(faces)] = BAD
+    edges = edges_of(mesh)
+    return Look(colours, edges.ends[edges.uses == 1], dots=points)
+
+
+def draw_place(mesh: Mesh, faces: Sequence[int], points: Sequence[int], size: tuple[int, int]) -> bytes:
+    """A PNG of the faces around a place, seen straight on."""
+    at_fault = np.zeros(mesh.face_count, dtype=bool)
+    at_fault[list(faces)] = True
+    marked = np.isin(mesh.corners, list(points))
+    at_fault[mesh.face_of_corner()[marked]] = True
+    place = mesh.points[mesh.corners[np.repeat(at_fault, mesh.sides)]]
+    centre = place.mean(axis=0)
+    reach = 2.2 * np.linalg.norm(place - centre, axis=1).max()
+    spot = np.add.reduceat(mesh.points[mesh.corners], mesh.starts[:-1]) / mesh.sides[:, None]
+    shown = np.flatnonzero(at_fault | (np.linalg.norm(spot - centre, axis=1) <= 2 * reach))
+    part, used = mesh.faces_of(shown)
+    near = part.points[np.linalg.norm(part.points - centre, axis=1) <= reach]
+    place_of = {int(old): new for new, old in enumerate(used)}
+    look = place_look(part, np.flatnonzero(np.isin(shown, list(faces))).tolist(), [place_of[it] for it in points])
+    return draw(part, look, View.along(_facing(mesh, at_fault)), size, near if len(near) else None)
+
+
+def _facing(mesh: Mesh, faces: np.ndarray) -> np.ndarray:
+    """The direction that some faces (faces,) have on average, tilted, so that depth can be seen."""
+    corners = mesh.points[mesh.corners]
+    after = corners[mesh.next_corners()]
+    first = np.repeat(corners[mesh.starts[:-1]], mesh.sides, axis=0)
+    normals = np.add.reduceat(np.cross(corners - first, after - first), mesh.starts[:-1])[faces]
+    mean = normals.sum(axis=0)
+    if np.linalg.norm(mean) < 1e-9 * np.abs(normals).sum():
+        mean = normals[0] if len(normals) and np.linalg.norm(normals[0]) > 0 else np.array((0.0, 0.0, 1.0))
+    mean = mean / (np.linalg.norm(mean) or 1.0)
+    return np.asarray(mean + 0.35 * np.array((0.6, 0.5, 0.62)))

@@ -1,0 +1,166 @@
+"""A report of a remesh or of a refusal as one HTML file, which needs no network."""
+
+from __future__ import annotations
+
+import base64
+from dataclasses import dataclass
+from html import escape
+from pathlib import Path
+from typing import Sequence
+
+import numpy as np
+
+from .features import find_features
+from .mesh import Mesh, join
+from .obj import FormatError, read_obj
+from .patches import colours_of, new_patches, old_patches
+from .pictures import PALETTE, View, draw, draw_place, patch_look, place_look
+from .program import Program
+from .quality import scaled_jacobians
+from .refusal import Refusal
+from .results import Result
+
+SIZE = (720, 620)
+MOST_FACES = 300_000
+"""Of larger meshes no feature edges are drawn: they take too long to find."""
+MOST_ROWS = 100
+ZOOMED = 12
+"""Where more faces are at fault, the picture shows the whole mesh."""
+STYLE = """
+body { font: 15px/1.5 system-ui, sans-serif; color: #222; max-width: 1500px; margin: 2em auto; padding: 0 1.5em; }
+h1 { font-size: 1.5em; } h2 { font-size: 1.1em; margin-top: 1.8em; }
+table { border-collapse: collapse; }
+td, th { padding: .2em 1em .2em 0; text-align: right; border-bottom: 1px solid #ddd; }
+td:first-child, th:first-child { text-align: left; }
+.pair { display: flex; flex-wrap: wrap; gap: 1.5em; } figure { margin: 0; } figcaption { color: #555; }
+img { border: 1px solid #ddd; max-width: 100%; } .good { color: #17692f; } .warning { color: #a04000; }
+.bad { color: #a01818; } .swatch { display: inline-block; width: .9em; height: .9em; margin: 0 .3em 0 1em; }
+"""
+LEGEND = """<p>Each colour is a patch of the motorcycle graph; an old patch and the new one made of it have the same.
+<span class="swatch" style="background:#282828"></span>borders of patches
+<span class="swatch" style="background:#1446c8"></span>feature edges, where faces meet at more than 30 degrees
+<span class="swatch" style="background:#f08c28"></span>scaled Jacobian below 0.2
+<span class="swatch" style="background:#d02020"></span>inverted faces</p>"""
+
+
+def result_page(title: str, result: Result, program: Program, up: str = "y") -> str:
+    """The page of a remesh that was accepted."""
+    report = result.report
+    before, after = _pictures(result, program, up)
+    body = [
+        f'<p class="good">{_parts_in_words(report.parts)} accepted by <code>quadq check</code>: no whole lengths are '
+        "nearer to what was asked for, and the shape is as it was.</p>",
+        *(f'<p class="warning">{escape(it)}</p>' for it in report.warnings),
+        '<div class="pair">',
+        _figure(before, f"before: {report.before.faces} faces"),
+        _figure(after, f"after: {report.after.faces} faces"),
+        "</div>",
+        LEGEND,
+        "<h2>Before and after</h2>",
+        _table(("", "before", "after"), report.table()),
+        "<h2>What was asked and done</h2>",
+        _table(("", ""), report.facts()),
+        *_part_table(result),
+    ]
+    return _page(title, body)
+
+
+def refusal_page(title: str, mesh: Mesh, refusal: Refusal, up: str = "y") -> str:
+    """The page of a refusal, with a picture of the place and one of the whole mesh."""
+    faces, points = refusal.faces, refusal.vertices
+    body = [f'<p class="bad">Refused with status {refusal.status}: {escape(str(refusal))}</p>']
+    if mesh.face_count and (faces or points):
+        whole = draw(mesh, place_look(mesh, faces, points), View.of(mesh.points, up), SIZE)
+        figures = [_figure(whole, f"the whole mesh of {mesh.face_count} faces")]
+        if len(faces) <= ZOOMED:
+            figures.insert(0, _figure(draw_place(mesh, faces, points, SIZE), "the place"))
+        body += ['<div class="pair">', *figures, "</div>"]
+        body += ["<p>Faces at fault are red, and vertices have a red dot.</p>"]
+    return _page(title, body)
+
+
+def refused_page(path: Path, refusal: Refusal, up: str = "y") -> str:
+    """The page of a refusal of an OBJ file, without pictures where it is no OBJ text."""
+    try:
+        mesh = read_obj(path.read_bytes().decode("utf-8", "surrogateescape"))
+    except FormatError:
+        mesh = Mesh.of_quads(np.zeros((0, 3)), np.zeros((0, 4)))
+    return refusal_page(path.name, mesh, refusal, up)
+
+
+@dataclass(frozen=True)
+class _Painted:
+    """Which patch each face lies in, and the colour of each patch."""
+
+    of_old: np.ndarray
+    of_new: np.ndarray
+    tints: np.ndarray
+
+
+def _painted(result: Result, program: Program) -> _Painted:
+    none = np.zeros(0, dtype=np.int64)
+    old, new, tints, count = [none], [none], [none], 0
+    for part, written in zip(result.parts, result.written):
+        graph = program.graph(part.text)
+        of_face = old_patches(part.mesh, graph)
+        old.append(count + of_face)
+        new.append(count + new_patches(graph, written.lengths))
+        tints.append(colours_of(part.mesh, of_face, len(PALETTE)))
+        count += len(tints[-1])
+    return _Painted(np.concatenate(old), np.concatenate(new), np.concatenate(tints))
+
+
+def _pictures(result: Result, program: Program, up: str) -> tuple[bytes, bytes]:
+    """What was remeshed and what became of it, with the same colours, from the same side. A mirror image has the
+    colours of its half."""
+    painted = _painted(result, program)
+    old, new = join([it.mesh for it in result.parts]), result.mesh
+    view = View.of(new.points, up)
+    frame = np.concatenate([old.points, new.points])
+    images = new.face_count // max(len(painted.of_new), 1)
+    return (
+        draw(old, patch_look(old, painted.of_old, painted.tints, *_marks(old)), view, SIZE, frame),
+        draw(new, patch_look(new, np.tile(painted.of_new, images), painted.tints, *_marks(new)), view, SIZE, frame),
+    )
+
+
+def _marks(mesh: Mesh) -> tuple[np.ndarray, np.ndarray]:
+    """The scaled Jacobians of faces, and the feature edges."""
+    found = find_features(mesh, corners=False) if mesh.face_count <= MOST_FACES else {}
+    return scaled_jacobians(mesh), np.array(sorted(found), dtype=np.int64).reshape(-1, 2)
+
+
+def _parts_in_words(count: int) -> str:
+    return "The new mesh was" if count == 1 else f"Each of {count} parts was"
+
+
+def _part_table(result: Result) -> list[str]:
+    """The parts in rows, where there are several."""
+    if len(result.parts) < 2:
+        return []
+    rows = [
+        (str(number), str(part.mesh.face_count), str(it.verdict.faces), str(it.floor), str(it.verdict.arcs),
+         str(it.arcs_at_floor), str(it.verdict.deviation))
+        for number, (part, it) in enumerate(zip(result.parts, result.written), 1)
+    ]
+    head = ("part", "faces before", "after", "floor", "arcs", "arcs at the floor", "deviation")
+    more = [f"<p>and {len(rows) - MOST_ROWS} more parts</p>"] if len(rows) > MOST_ROWS else []
+    return ["<h2>Parts</h2>", _table(head, rows[:MOST_ROWS]), *more]
+
+
+def _table(head: Sequence[str], rows: Sequence[Sequence[str]]) -> str:
+    lines = ["<tr>" + "".join(f"<th>{escape(it)}</th>" for it in head) + "</tr>"] if any(head) else []
+    lines += ["<tr>" + "".join(f"<td>{escape(it)}</td>" for it in row) + "</tr>" for row in rows]
+    return "<table>" + "\n".join(lines) + "</table>"
+
+
+def _figure(png: bytes, words: str) -> str:
+    data = base64.b64encode(png).decode()
+    return (f'<figure><img src="data:image/png;base64,{data}" width="{SIZE[0]}" height="{SIZE[1]}" '
+            f'alt="{escape(words)}"><figcaption>{escape(words)}</figcaption></figure>')
+
+
+def _page(title: str, body: Sequence[str]) -> str:
+    return "\n".join([
+        f'<!DOCTYPE html><html lang="en"><head><meta charset="utf-8"><title>{escape(title)}</title>',
+        f"<style>{STYLE}</style></head><body><h1>{escape(title)}</h1>", *body, "</body></html>", ""])

@@ -1,0 +1,104 @@
+"""Pictures and pages."""
+
+import re
+import struct
+import unittest
+import zlib
+
+import numpy as np
+
+from quadq import Program, Refusal, find_features, read_obj, refusal_page, remesh, result_page
+from quadq.canvas import Canvas
+from quadq.mesh import join
+from quadq.patches import colours_of, new_patches, old_patches
+from quadq.parts import certified_lengths
+from quadq.program import Wish
+
+from .shapes import EXAMPLES, grid, moved
+
+
+def pixels_of(png: bytes) -> np.ndarray:
+    """(high, wide, 3): the colours of a PNG that has one piece of data."""
+    wide, high = struct.unpack(">II", png[16:24])
+    size = struct.unpack(">I", png[33:37])[0]
+    rows = np.frombuffer(zlib.decompress(png[41:41 + size]), dtype=np.uint8).reshape(high, 1 + 3 * wide)
+    return rows[:, 1:].reshape(high, wide, 3)
+
+
+class Pictures(unittest.TestCase):
+    def test_what_is_nearer_hides_what_is_behind(self):
+        far = [[1, 1, 0], [9, 1, 0], [1, 9, 0]]
+        near = [[1, 1, 1], [5, 1, 1], [1, 5, 1]]
+        for order in (0, 1):
+            canvas = Canvas(10, 10)
+            both = np.array([far, near][::1 - 2 * order], dtype=float)
+            canvas.triangles(both, np.array([[200, 0, 0], [0, 0, 200]][::1 - 2 * order], dtype=float))
+            seen = pixels_of(canvas.png())
+            self.assertEqual(seen[2, 2].tolist(), [0, 0, 200])
+            self.assertEqual(seen[6, 2].tolist(), [200, 0, 0])
+            self.assertEqual(seen[8, 8].tolist(), [255, 255, 255])
+
+    def test_a_triangle_has_the_pixels_inside(self):
+        rng = np.random.default_rng(3)
+        for _ in range(20):
+            corners = np.column_stack([rng.uniform(-3, 23, (3, 2)), [0, 0, 0]])
+            canvas = Canvas(20, 20)
+            canvas.triangles(corners[None], np.zeros((1, 3)))
+            drawn = (canvas.colours[:, 0] == 0).reshape(40, 40)
+            x, y = np.meshgrid((np.arange(40) + 0.5) / 2, (np.arange(40) + 0.5) / 2)
+            turns = [
+                (q[0] - p[0]) * (y - p[1]) - (q[1] - p[1]) * (x - p[0])
+                for p, q in zip(corners, np.roll(corners, -1, axis=0))
+            ]
+            inside = np.all(np.array(turns) > 0, axis=0) | np.all(np.array(turns) < 0, axis=0)
+            self.assertEqual(int(np.sum(inside != drawn)), 0)
+
+    def test_lines_and_dots(self):
+        canvas = Canvas(10, 10)
+        canvas.lines(np.array([[[1.25, 5.25, 0], [8.75, 5.25, 0]]]), (0, 0, 0), 1.0)
+        canvas.dots(np.array([[5, 2, -9.0]]), (255, 0, 0), 3)
+        seen = pixels_of(canvas.png())
+        self.assertLess(seen[5, 4].max(), 200)
+        self.assertEqual(seen[2, 5].tolist(), [255, 0, 0])
+
+
+class Pages(unittest.TestCase):
+    def test_patches(self):
+        program = Program()
+        for name in ("letter_q", "notched_square", "torus", "cylinder"):
+            text = (EXAMPLES / f"{name}.obj").read_bytes()
+            mesh, graph = read_obj(text.decode()), program.graph(text)
+            of_face = old_patches(mesh, graph)
+            sizes = [int(a) * int(b) for a, b in re.findall(r"^patch \d+ (\d+) (\d+)$", graph, re.M)]
+            self.assertEqual(np.bincount(of_face).tolist(), sizes, name)
+            wanted = program.remesh(text, Wish())
+            self.assertEqual(len(new_patches(graph, certified_lengths(wanted)[1])), wanted.count(b"\nf "))
+            tints = colours_of(mesh, of_face, 8)
+            self.assertLess(tints.max(initial=0), 8)
+
+    def test_a_page_of_a_remesh_stands_alone(self):
+        pair = join([moved(grid(6, 6), -20), read_obj((EXAMPLES / "cube_blender.obj").read_text())])
+        page = result_page("a <pair>", remesh(pair, scale="1/2"), Program())
+        self.assertEqual(page.count('src="data:image/png;base64,'), 2)
+        self.assertEqual(re.findall(r"https?://", page), [])
+        self.assertIn("a &lt;pair&gt;", page)
+        self.assertIn("Each of 2 parts", page)
+
+    def test_a_page_of_a_refusal_shows_the_place(self):
+        mesh = join([grid(3, 2), read_obj((EXAMPLES / "two_fans.obj").read_text())])
+        with self.assertRaises(Refusal) as caught:
+            remesh(mesh, scale=1)
+        page = refusal_page("fans", mesh, caught.exception)
+        self.assertEqual(page.count('src="data:image/png;base64,'), 2)
+        self.assertIn("vertex 13: two fans", page)
+
+    def test_features(self):
+        cube = read_obj((EXAMPLES / "cube.obj").read_text())
+        self.assertEqual(set(find_features(cube).values()), {"by angle"})
+        self.assertEqual((len(find_features(cube)), find_features(cube, angle=100)), (12, {}))
+        text = "v 0 0 0\nv 1 0 0\nv 2 0 0\nv 0 1 0\nv 1 1 0\nv 2 1 0\nusemtl a\nf 1 2 5 4\nusemtl b\nf 2 3 6 5\n"
+        self.assertEqual(find_features(read_obj(text), groups=True), {(1, 4): "between groups"})
+
+
+if __name__ == "__main__":
+    unittest.main()
