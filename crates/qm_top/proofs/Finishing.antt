@@ -10,7 +10,8 @@ use Rattle.def_layout.specs.Plans.{Plan}
 use Rattle.def_remesh.specs.Certified.{IsShown}
 use Rattle.def_remesh.specs.Keeping.{IsKept}
 use Rattle.def_remesh.specs.Placings.{IsLayoutIn}
-use Rattle.def_remesh.specs.Remeshed.{finished_text, text_behind_head}
+use Rattle.def_remesh.specs.NewPoints.{lengths_in}
+use Rattle.def_remesh.specs.Remeshed.{finished_text, text_behind_head, used}
 use Rattle.def_remesh.specs.Tasks.{Task, Wish}
 use Rattle.def_remesh.specs.declared.kept.LayoutFail.{LayoutFail}
 use Rattle.def_text.specs.FaceSet.{FaceSet}
@@ -40,10 +41,15 @@ module _ (task : Task) (framed : Framed) (soup : FaceSet) (plan : Plan) (is : Is
         (sym is.auto) is.kept),
   )
 
+  pieces_are : framed_text framed soup plan
+      ≡ (task.head ++ 10 ∷ [])
+      ++ text_behind_head (task.between plan (lengths_in (used (lists_of framed.remesh.first) (option_map lists_of framed.remesh.third)).x)) task.auto soup
+      plan (lists_of framed.remesh.first) (option_map lists_of framed.remesh.third)
+  pieces_are = λ i. is.head i
+      ++ text_behind_head (is.between i) (is.auto i) soup plan (lists_of framed.remesh.first) (option_map lists_of framed.remesh.third)
+
   text_is : framed_text framed soup plan ≡ finished_text task soup plan (lists_of framed.remesh.first) (option_map lists_of framed.remesh.third)
-  text_is =
-      (λ i. is.head i ++ text_behind_head (is.between i) (is.auto i) soup plan (lists_of framed.remesh.first) (option_map lists_of framed.remesh.third))
-      ∙ append_assoc task.head (10 ∷ []) _
+  text_is = pieces_are ∙ append_assoc task.head (10 ∷ []) _
 
   -- Its text is that of the task.
   pub framed_shown : IsLayoutIn soup.faces plan → IsShown task soup (framed_text framed soup plan)
