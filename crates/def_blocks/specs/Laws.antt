@@ -1,5 +1,5 @@
 -- What is proved of links.
-use Rattle.std.specs.Prelude.{◌≡◌, ◌≢◌, ◌⊎◌, ℕ, ◌+◌, ◌-◌, ◌<◌, true, false, List, [], slice_index_or, Some}
+use Rattle.std.specs.Prelude.{◌≡◌, ◌≢◌, ◌⊎◌, ◌↔◌, ℕ, ◌+◌, ◌-◌, ◌<◌, true, false, List, [], slice_index_or, Some}
 use Rattle.std.specs.List.{Contains}
 use Rattle.def_layout.specs.Cells.{slot_dart}
 use Rattle.def_layout.specs.Laid.{IsLaid, IsOtherSlot}
@@ -37,6 +37,20 @@ TwoLinksLaw = (layout : Layout) → IsLaid layout → (arc : ℕ) → arc < layo
 abbrev pub SymmetricLaw : Type 0
 SymmetricLaw = (layout : Layout) → IsLaid layout → (one other : Slot) → IsSlot layout one → IsOtherSlot layout one other
     → IsOtherSlot layout other one × ((next : Slot) → IsOtherSlot layout one next → next ≡ other)
+
+-- A block has a link: so many points of its side, from this one on, lie at a point of another block's side.
+abbrev pub HasLink :
+    (links : List (List Link)) (block : ℕ) (side : SideName) (from len other : ℕ) (side' : SideName) (from' : ℕ) → Type 0
+HasLink links block side from len other side' from' = Contains (slice_index_or links block [])
+    (record { side = side; from = from; len = len; other = Some (other, side', from') })
+
+-- A block has a link exactly where the other block has the same link the other way round.
+abbrev pub MutualLaw : Type 0
+MutualLaw = (layout : Layout) (lengths : Lengths) → IsLaid layout
+    → (links : List (List Link)) → AreLinks layout lengths links
+    → (one other : ℕ) → one < layout.patches → other < layout.patches
+    → (side side' : SideName) (from from' len : ℕ)
+    → HasLink links one side from len other side' from' ↔ HasLink links other side' from' len one side from
 
 -- Linked points are one point: each edge of a slot's arc, seen from the other slot, has the same ends.
 abbrev pub LinkedPointsLaw : Type 0

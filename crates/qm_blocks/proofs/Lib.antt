@@ -1,1 +1,2 @@
+mod Mutual
 mod Slots

@@ -8,7 +8,7 @@ use Rattle.def_blocks.specs.Laws.{HasOneSlot, HasTwoSlots, LinkedPointsLaw, Symm
 use Rattle.written_laws.proofs.Borders.{across_from, across_to}
 
 -- An arc that is used the other way round.
-turned_back : (one other : SideArc) → AreReverse one other → AreReverse other one
+pub turned_back : (one other : SideArc) → AreReverse one other → AreReverse other one
 turned_back one other rev = record { arc = sym rev.arc; turned = twice one.forward ∙ sym (ap not rev.turned) }
   where
     twice : (b : Bool) → b ≡ not (not b)

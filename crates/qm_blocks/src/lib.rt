@@ -3,4 +3,4 @@
 
 mod law;
 
-pub use law::{linked_points_law, symmetric_law, two_links_law};
+pub use law::{linked_points_law, mutual_law, symmetric_law, two_links_law};
