@@ -2,10 +2,59 @@
 
 from __future__ import annotations
 
+from dataclasses import dataclass
+from typing import Sequence
+
 import numpy as np
 
 from .mesh import Mesh
+from .parts import Part, Written
+from .program import Program
 from .surface import Edges, edges_of, least_in_class, number_in_order
+
+
+@dataclass(frozen=True)
+class Painted:
+    """Which patch each face of a remesh lies in: patches count from 0, over all parts."""
+
+    of_old: np.ndarray
+    """(old faces,) int64: of the parts side by side."""
+    of_new: np.ndarray
+    """(new faces,) int64: of what the program wrote for them."""
+
+    def of_all(self, mesh: Mesh) -> np.ndarray:
+        """(faces,) int64: of the new mesh. A mirror image lies in the patches of its half."""
+        return np.tile(self.of_new, mesh.face_count // max(len(self.of_new), 1))
+
+    def most_of(self, values: np.ndarray) -> np.ndarray:
+        """(patches,) int64: of values at old faces (old faces,), which count from 0, the one that most faces of each
+        patch have, and of several the least."""
+        wide = int(values.max(initial=0)) + 1
+        counts = np.bincount(self.of_old * wide + values, minlength=wide * (int(self.of_old.max(initial=-1)) + 1))
+        return counts.reshape(-1, wide).argmax(axis=1)
+
+
+def paint(parts: Sequence[Part], written: Sequence[Written], program: Program) -> Painted:
+    """The patches of each part before and after its remesh."""
+    none = np.zeros(0, dtype=np.int64)
+    old, new, count = [none], [none], 0
+    for part, it in zip(parts, written):
+        graph = program.graph(part.text)
+        of_face = old_patches(part.mesh, graph)
+        old.append(count + of_face)
+        new.append(count + new_patches(graph, it.lengths))
+        count += int(of_face.max(initial=-1)) + 1
+    return Painted(np.concatenate(old), np.concatenate(new))
+
+
+def borders(mesh: Mesh, patches: np.ndarray) -> np.ndarray:
+    """(edges, 2): the edges between patches (faces,) and at the boundary, as pairs of points in rising order."""
+    edges = edges_of(mesh)
+    least, most = np.full(len(edges.ends), len(mesh.corners)), np.full(len(edges.ends), -1)
+    of_corner = np.repeat(patches, 4)
+    np.minimum.at(least, edges.of_corner, of_corner)
+    np.maximum.at(most, edges.of_corner, of_corner)
+    return edges.ends[(edges.uses == 1) | (least != most)]
 
 
 def old_patches(mesh: Mesh, graph: str) -> np.ndarray:

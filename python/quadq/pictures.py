@@ -9,6 +9,7 @@ import numpy as np
 
 from .canvas import Canvas
 from .mesh import Mesh
+from .patches import borders
 from .surface import edges_of
 
 PALETTE = np.array([
@@ -108,12 +109,7 @@ def patch_look(mesh: Mesh, patches: np.ndarray, tints: np.ndarray, bad: np.ndarr
     colours = PALETTE[tints[patches]]
     colours[bad < 0.2] = POOR
     colours[bad < 0] = BAD
-    edges = edges_of(mesh)
-    least, most = (np.full(len(edges.ends), start) for start in (np.iinfo(np.int64).max, -1))
-    of_corner = np.repeat(patches, 4)
-    np.minimum.at(least, edges.of_corner, of_corner)
-    np.maximum.at(most, edges.of_corner, of_corner)
-    return Look(colours, edges.ends[(edges.uses == 1) | (least != most)], blue)
+    return Look(colours, borders(mesh, patches), blue)
 
 
 def place_look(mesh: Mesh, faces: Sequence[int], points: Sequence[int]) -> Look:

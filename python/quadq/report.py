@@ -3,7 +3,6 @@
 from __future__ import annotations
 
 import base64
-from dataclasses import dataclass
 from html import escape
 from pathlib import Path
 from typing import Sequence
@@ -13,7 +12,7 @@ import numpy as np
 from .features import find_features
 from .mesh import Mesh, join
 from .obj import FormatError, read_obj
-from .patches import colours_of, new_patches, old_patches
+from .patches import colours_of, paint
 from .pictures import PALETTE, View, draw, draw_place, patch_look, place_look
 from .program import Program
 from .quality import scaled_jacobians
@@ -88,39 +87,17 @@ def refused_page(path: Path, refusal: Refusal, up: str = "y") -> str:
     return refusal_page(path.name, mesh, refusal, up)
 
 
-@dataclass(frozen=True)
-class _Painted:
-    """Which patch each face lies in, and the colour of each patch."""
-
-    of_old: np.ndarray
-    of_new: np.ndarray
-    tints: np.ndarray
-
-
-def _painted(result: Result, program: Program) -> _Painted:
-    none = np.zeros(0, dtype=np.int64)
-    old, new, tints, count = [none], [none], [none], 0
-    for part, written in zip(result.parts, result.written):
-        graph = program.graph(part.text)
-        of_face = old_patches(part.mesh, graph)
-        old.append(count + of_face)
-        new.append(count + new_patches(graph, written.lengths))
-        tints.append(colours_of(part.mesh, of_face, len(PALETTE)))
-        count += len(tints[-1])
-    return _Painted(np.concatenate(old), np.concatenate(new), np.concatenate(tints))
-
-
 def _pictures(result: Result, program: Program, up: str) -> tuple[bytes, bytes]:
     """What was remeshed and what became of it, with the same colours, from the same side. A mirror image has the
     colours of its half."""
-    painted = _painted(result, program)
+    painted = paint(result.parts, result.written, program)
     old, new = join([it.mesh for it in result.parts]), result.mesh
+    tints = colours_of(old, painted.of_old, len(PALETTE))
     view = View.of(new.points, up)
     frame = np.concatenate([old.points, new.points])
-    images = new.face_count // max(len(painted.of_new), 1)
     return (
-        draw(old, patch_look(old, painted.of_old, painted.tints, *_marks(old)), view, SIZE, frame),
-        draw(new, patch_look(new, np.tile(painted.of_new, images), painted.tints, *_marks(new)), view, SIZE, frame),
+        draw(old, patch_look(old, painted.of_old, tints, *_marks(old)), view, SIZE, frame),
+        draw(new, patch_look(new, painted.of_all(new), tints, *_marks(new)), view, SIZE, frame),
     )
 
 

@@ -1,0 +1,149 @@
+"""Object > Quadq Remesh: quad meshes of Blender remeshed by the proved program quadq, and checked.
+
+The package `quadq` lies inside this folder, with the program; `tools/pack_blender` puts both there.
+"""
+
+import os
+import pathlib
+
+import bpy
+from bpy.props import BoolProperty, EnumProperty, FloatProperty, IntProperty
+
+from . import meshes
+from .quadq import Refusal, remesh
+from .quadq.patches import borders, paint
+from .quadq.program import Program
+from .quadq.targets import as_scale
+
+bl_info = {
+    "name": "Quadq Remesh",
+    "description": "Remeshes quad meshes with proved least lengths",
+    "author": "the authors of quadq",
+    "version": (1, 0, 0),
+    "blender": (3, 4, 0),
+    "location": "Object > Quadq Remesh",
+    "category": "Object",
+}
+
+ADVICE = {
+    "polygons": "the selected faces are no quads. Turn on Subdivide, or join triangles with Face > Tris to Quads",
+    "edge": "the selected faces run the same way along an edge. Mesh > Normals > Recalculate Outside turns them; "
+            "else a face is there twice, or three faces meet",
+    "fans": "two parts touch in the selected vertex alone. Mesh > Split gives each its own",
+    "repeated": "the selected face has a vertex twice. Mesh > Clean Up > Degenerate Dissolve removes it",
+    "plane": "the selected faces cross the mirror plane, or lie in it",
+    9: "the patches are too tangled. Cut the object into smaller ones",
+    10: "the new mesh would have too many faces. Take a smaller scale",
+    11: "an edge would be there twice. Take the floor Auto or 3",
+}
+
+
+def words_of(said: Refusal) -> str:
+    """What a refusal means, in Blender's words."""
+    for word, sign in (("plane", "mirror plane"), ("polygons", "corners"), ("edge", "edge "), ("fans", "two fans"),
+                       ("repeated", "repeated")):
+        if sign in said.line and said.status in (4, 7):
+            return ADVICE[word]
+    return ADVICE.get(said.status, said.line)
+
+
+def program_inside():
+    """The program in this folder, which Blender unpacks without leave to run it; or the one that QUADQ names."""
+    path = pathlib.Path(__file__).parent / "quadq/bin/quadq"
+    if path.is_file() and not os.access(path, os.X_OK):
+        path.chmod(0o755)
+    return Program()
+
+
+class OBJECT_OT_quadq_remesh(bpy.types.Operator):
+    """Remesh the selected quad meshes along the patches of their motorcycle graphs"""
+
+    bl_idname = "object.quadq_remesh"
+    bl_label = "Quadq Remesh"
+    bl_options = {"REGISTER", "UNDO"}
+
+    wish: EnumProperty(
+        name="Wish", items=[("SCALE", "Scale", "How long edges of patches are to be, as a part of what they are"),
+                            ("FACES", "Faces", "How many faces each object is to have")])
+    scale: FloatProperty(
+        name="Scale", default=0.5, min=0.001, max=1000.0, soft_min=0.1, soft_max=4.0,
+        description="How long edges of patches are to be, in faces, as a part of what they are")
+    faces: IntProperty(name="Faces", default=5000, min=1, description="How many faces each object is to have")
+    floor: EnumProperty(
+        name="Floor", default="auto", description="The least number of faces along an edge of a patch",
+        items=[(it, it.title(), "") for it in ("auto", "1", "2", "3")])
+    subdivide: BoolProperty(
+        name="Subdivide", description="Divide all faces into quads first, so that any polygons can be taken")
+    mirror: EnumProperty(
+        name="Mirror", description="Remesh the half above 0, and mirror it",
+        items=[("NONE", "None", ""), *((it, it, "") for it in "XYZ")])
+    replace: BoolProperty(name="Replace", description="Change the object's mesh, instead of making a new object")
+    seams: BoolProperty(name="Seams at Patches", description="Mark the borders of patches as seams")
+
+    @classmethod
+    def poll(cls, context):
+        return context.mode == "OBJECT" and any(it.type == "MESH" for it in context.selected_objects)
+
+    def draw(self, _context):
+        layout = self.layout
+        layout.use_property_split = True
+        layout.prop(self, "wish", expand=True)
+        layout.prop(self, "scale" if self.wish == "SCALE" else "faces")
+        for name in ("floor", "mirror", "subdivide", "replace", "seams"):
+            layout.prop(self, name)
+
+    def execute(self, context):
+        try:
+            program = program_inside()
+        except FileNotFoundError as error:
+            self.report({"ERROR"}, str(error))
+            return {"CANCELLED"}
+        refused = []
+        done = 0
+        for source in [it for it in context.selected_objects if it.type == "MESH"]:
+            try:
+                self.remesh_one(context, source, program)
+                done += 1
+            except Refusal as said:
+                refused.append((source, said))
+        for source, said in refused:
+            self.report({"ERROR" if done == 0 else "WARNING"}, f"{source.name}: {words_of(said)}")
+        if refused:
+            meshes.show_fault(context, *refused[0])
+        return {"FINISHED"}
+
+    def remesh_one(self, context, source, program):
+        """Remeshes one object. Raises a Refusal."""
+        old, factor = meshes.taken(source.data)
+        if not old.face_count:
+            raise Refusal(3, "the object has no faces")
+        wish = {"scale": as_scale(self.scale)} if self.wish == "SCALE" else {"faces": self.faces}
+        result = remesh(old, program=program, floor=self.floor, subdivide=self.subdivide,
+                        mirror=None if self.mirror == "NONE" else self.mirror.lower(), **wish)
+        painted = paint(result.parts, result.written, program)
+        lost = meshes.lost_with(source.data)
+        new = meshes.made(source.data, result, painted, factor)
+        if self.seams:
+            meshes.mark_seams(new, borders(result.mesh, painted.of_all(result.mesh)))
+        meshes.put(context, source, new, self.replace)
+        report = result.report
+        self.report({"INFO"}, f"{source.name}: faces {report.before.faces} -> {report.after.faces}, "
+                    f"parts checked {report.parts}, greatest distance {report.greatest_distance / factor:.3g}")
+        for warning in report.warnings:
+            self.report({"WARNING"}, f"{source.name}: {warning}")
+        if lost:
+            self.report({"WARNING"}, f"{source.name}: not carried over: {', '.join(lost)}")
+
+
+def draw_menu(self, _context):
+    self.layout.operator(OBJECT_OT_quadq_remesh.bl_idname)
+
+
+def register():
+    bpy.utils.register_class(OBJECT_OT_quadq_remesh)
+    bpy.types.VIEW3D_MT_object.append(draw_menu)
+
+
+def unregister():
+    bpy.types.VIEW3D_MT_object.remove(draw_menu)
+    bpy.utils.unregister_class(OBJECT_OT_quadq_remesh)
