@@ -11,8 +11,7 @@ use Rattle.qm_top.proofs.remesh.remesh_mesh.Goals as goal
 pub write_task-requires-clause-framed : goal.write_task-requires-clause-framed
 write_task-requires-clause-framed g c =
     let t = plan c.in_ok-layout.layout in
-    let is = of_soup _ _ t c.requires.mesh c.in_ok-layout.ensures.mesh c.in_ok-layout.ensures.traced in
-    (
+    let is = of_soup _ _ t c.requires.mesh c.in_ok-layout.ensures.mesh c.in_ok-layout.ensures.traced in (
       task_of c.args.asked c.args.read.soup,
       framed_for c.args.asked c.args.read.soup t _ c.in_ok-kept.ensures.asked is.1 c.in_ok-kept.ensures.kept c.in_ok-head.ensures
           c.new-between.ensures.items,
