@@ -1,7 +1,7 @@
 mod Benched
 mod Checked
 mod Complete
-mod Finishing
+mod Framed
 mod Naming
 mod NeverBytes
 mod Refined

@@ -3,7 +3,7 @@ use Rattle.error_laws.proofs.Errors.{handed}
 use Rattle.def_layout.specs.Plans.{plan}
 use Rattle.def_mesh.specs.Faces.{Faces}
 use Rattle.def_remesh.specs.Placings.{IsLayoutIn}
-use Rattle.qm_top.proofs.Finishing.{framed_shown}
+use Rattle.qm_top.proofs.Framed.{framed_shown}
 use Rattle.qm_top.proofs.Remeshed.{put_refused}
 use Rattle.qm_top.specs.Finishing.{framed_text}
 use Rattle.qm_top.specs.Writing.{refusal_of_put}

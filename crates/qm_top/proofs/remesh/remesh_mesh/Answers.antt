@@ -2,7 +2,7 @@ use Rattle.std.proofs.Common.{refl}
 use Rattle.std.proofs.lemmas.Result.{IfErr-weaker}
 use Rattle.error_laws.proofs.Errors.{handed}
 use Rattle.def_layout.specs.Plans.{plan}
-use Rattle.qm_top.proofs.Finishing.{unwritten_more}
+use Rattle.qm_top.proofs.Framed.{unwritten_more}
 use Rattle.qm_top.proofs.Remeshed.{framed_for}
 use Rattle.qm_top.proofs.Writers.{of_soup}
 use Rattle.qm_top.specs.Writing.{task_of, FailsTask}
