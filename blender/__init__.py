@@ -77,6 +77,9 @@ class OBJECT_OT_quadq_remesh(bpy.types.Operator):
     mirror: EnumProperty(
         name="Mirror", description="Remesh the half above 0, and mirror it",
         items=[("NONE", "None", ""), *((it, it, "") for it in "XYZ")])
+    relax: IntProperty(
+        name="Relax", min=0, max=100, soft_max=20,
+        description="How many times points are moved along the old surface, where no face becomes worse by it")
     replace: BoolProperty(name="Replace", description="Change the object's mesh, instead of making a new object")
     seams: BoolProperty(name="Seams at Patches", description="Mark the borders of patches as seams")
 
@@ -89,7 +92,7 @@ class OBJECT_OT_quadq_remesh(bpy.types.Operator):
         layout.use_property_split = True
         layout.prop(self, "wish", expand=True)
         layout.prop(self, "scale" if self.wish == "SCALE" else "faces")
-        for name in ("floor", "mirror", "subdivide", "replace", "seams"):
+        for name in ("floor", "mirror", "subdivide", "relax", "replace", "seams"):
             layout.prop(self, name)
 
     def execute(self, context):
@@ -118,7 +121,7 @@ class OBJECT_OT_quadq_remesh(bpy.types.Operator):
         if not old.face_count:
             raise Refusal(3, "the object has no faces")
         wish = {"scale": as_scale(self.scale)} if self.wish == "SCALE" else {"faces": self.faces}
-        result = remesh(old, program=program, floor=self.floor, subdivide=self.subdivide,
+        result = remesh(old, program=program, floor=self.floor, subdivide=self.subdivide, relax=self.relax,
                         mirror=None if self.mirror == "NONE" else self.mirror.lower(), **wish)
         painted = paint(result.parts, result.written, program)
         lost = meshes.lost_with(source.data)

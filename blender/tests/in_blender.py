@@ -110,7 +110,7 @@ class AddOn(unittest.TestCase):
         faces = [it for it in bmesh.from_edit_mesh(source.data).faces if it.select]
         self.assertEqual((len(faces), {len(it.verts) for it in faces}), (32, {3}))
         bpy.ops.object.mode_set(mode="OBJECT")
-        self.assertEqual(bpy.ops.object.quadq_remesh(subdivide=True, scale=1.0), {"FINISHED"})
+        self.assertEqual(bpy.ops.object.quadq_remesh(subdivide=True, scale=1.0, relax=2), {"FINISHED"})
 
     def test_a_vertex_is_selected(self):
         fans = with_mesh("fans", [(0, 0, 0), (1, 0, 0), (1, 1, 0), (0, 1, 0), (-1, 0, 0), (-1, -1, 0), (0, -1, 0)],

@@ -35,6 +35,7 @@ def parser_of_words() -> argparse.ArgumentParser:
     parser.add_argument("--weight", default="plain", choices=["plain", "length"], help="how deviations count")
     parser.add_argument("--subdivide", action="store_true", help="divide all faces into quads first")
     parser.add_argument("--mirror", choices=["x", "y", "z"], help="remesh the half above 0, and mirror it")
+    parser.add_argument("--relax", type=int, default=0, metavar="N", help="move points so many times along the surface")
     parser.add_argument("--keep", type=Path, metavar="FOLDER", help="keep the old and new text of each part there")
     parser.add_argument("--report", type=Path, metavar="FILE.html", help="a page with pictures of both meshes")
     parser.add_argument("--up", choices=["y", "z"], default="y", help="the axis that points upward in pictures")
@@ -56,7 +57,8 @@ def main(words: Optional[Sequence[str]] = None) -> int:
         program = Program()
         refuse_missing(asked, program)
         settings = Settings(
-            asked.scale, asked.faces, asked.floor, asked.weight, asked.subdivide, asked.mirror, asked.jobs, asked.keep)
+            asked.scale, asked.faces, asked.floor, asked.weight, asked.subdivide, asked.mirror, asked.relax, asked.jobs,
+            asked.keep)
         if asked.out is None and len(asked.paths) != 2:
             raise ValueError("two files are needed, IN and OUT, or --out FOLDER")
         if asked.out is not None and asked.report is not None:

@@ -53,8 +53,12 @@ class Surface:
 
     def distances(self, probes: np.ndarray) -> np.ndarray:
         """(probes,) float64: from each of (probes, 3) points to the nearest place of the surface."""
+        return np.asarray(np.linalg.norm(self.nearest(probes) - probes, axis=1))
+
+    def nearest(self, probes: np.ndarray) -> np.ndarray:
+        """(probes, 3) float64: the place of the surface that is nearest to each of (probes, 3) points."""
         rounds = [self._nearest(probes[at:at + ROUND]) for at in range(0, len(probes), ROUND)]
-        return np.concatenate([np.zeros(0), *rounds])
+        return np.concatenate([np.zeros((0, 3)), *rounds])
 
     def _nearest(self, probes: np.ndarray) -> np.ndarray:
         who, box = np.arange(len(probes)), np.zeros(len(probes), dtype=np.int64)
@@ -69,9 +73,9 @@ class Surface:
             np.minimum.at(bound, who, np.linalg.norm(at_probe - within[box], axis=1))
             kept = nearest <= bound[who]
             who, box = who[kept], box[kept]
-        found = np.full(len(probes), np.inf)
-        np.minimum.at(found, who, _to_quads(probes[who], self.corners[box]))
-        return found
+        places = _on_quads(probes[who], self.corners[box])
+        order = np.lexsort((np.linalg.norm(places - probes[who], axis=1), who))
+        return places[order[np.searchsorted(who[order], np.arange(len(probes)))]]
 
 
 def _curve(places: np.ndarray) -> np.ndarray:
@@ -85,31 +89,39 @@ def _curve(places: np.ndarray) -> np.ndarray:
     return code
 
 
-def _to_quads(probes: np.ndarray, corners: np.ndarray) -> np.ndarray:
-    """(n,): from each probe (n, 3) to the quad (n, 4, 3) beside it."""
+def _on_quads(probes: np.ndarray, corners: np.ndarray) -> np.ndarray:
+    """(n, 3): the place of each quad (n, 4, 3) that is nearest to the probe (n, 3) beside it."""
     middle = corners.mean(axis=1)
-    ways = [_to_triangles(probes, corners[:, at], corners[:, (at + 1) % 4], middle) for at in range(4)]
-    return np.min(ways, axis=0)
+    sides = [(corners[:, at], corners[:, (at + 1) % 4]) for at in range(4)]
+    ways = [_on_planes(probes, *side, middle) for side in sides]
+    ways += [_on_segments(probes, *side) for side in sides]
+    ways += [_on_segments(probes, start, middle) for start, _ in sides]
+    return _nearest_of(probes, np.stack(ways))
 
 
-def _to_triangles(probes: np.ndarray, a: np.ndarray, b: np.ndarray, c: np.ndarray) -> np.ndarray:
-    """(n,): from each probe to the triangle beside it: to its plane where the foot lies inside, else to a side."""
+def _nearest_of(probes: np.ndarray, ways: np.ndarray) -> np.ndarray:
+    """(n, 3): of places (ways, n, 3) the nearest to each probe."""
+    squares = np.sum((ways - probes) ** 2, axis=2)
+    return np.asarray(ways[np.argmin(squares, axis=0), np.arange(len(probes))])
+
+
+def _on_planes(probes: np.ndarray, a: np.ndarray, b: np.ndarray, c: np.ndarray) -> np.ndarray:
+    """(n, 3): the foot of each probe on the plane of the triangle beside it, or infinity where that lies outside."""
     normal = np.cross(b - a, c - a)
     square = _dot(normal, normal)
     inside = square > 0
     for start, end in ((a, b), (b, c), (c, a)):
         inside &= _dot(np.cross(end - start, probes - start), normal) >= 0
-    height = np.abs(_dot(probes - a, normal)) / np.sqrt(np.where(square > 0, square, 1.0))
-    sides = np.min([_to_segments(probes, *ends) for ends in ((a, b), (b, c), (c, a))], axis=0)
-    return np.where(inside, height, sides)
+    height = _dot(probes - a, normal) / np.where(square > 0, square, 1.0)
+    return np.where(inside[:, None], probes - height[:, None] * normal, np.inf)
 
 
-def _to_segments(probes: np.ndarray, start: np.ndarray, end: np.ndarray) -> np.ndarray:
+def _on_segments(probes: np.ndarray, start: np.ndarray, end: np.ndarray) -> np.ndarray:
     along = end - start
     square = _dot(along, along)
     part = np.clip(_dot(probes - start, along) / np.where(square > 0, square, 1.0), 0, 1)
-    return np.linalg.norm(probes - start - part[:, None] * along, axis=1)
+    return np.asarray(start + part[:, None] * along)
 
 
 def _dot(one: np.ndarray, other: np.ndarray) -> np.ndarray:
-    return np.einsum("ni,ni->n", one, other)
+    return np.asarray(np.einsum("ni,ni->n", one, other))

@@ -48,6 +48,10 @@ class Written:
     floor: int
     """The least length that these arcs could have: with the floor `auto`, the one that it chose."""
 
+    def mesh(self) -> Mesh:
+        """What is written."""
+        return read_obj(self.text.decode())
+
     @property
     def arcs_at_floor(self) -> int:
         return int(np.sum(self.lengths == self.floor))
@@ -119,9 +123,9 @@ def certified_lengths(text: bytes) -> tuple[int, np.ndarray]:
     return int(floor), np.array(lengths, dtype=np.int64)
 
 
-def put_together(parts: list[Part], written: list[Written]) -> Mesh:
-    """The written meshes side by side. A name that all faces of an old part share is that of its new faces."""
-    return join([_named(part.mesh, read_obj(it.text.decode())) for part, it in zip(parts, written)])
+def put_together(parts: list[Part], meshes: list[Mesh]) -> Mesh:
+    """The new meshes of parts side by side. A name that all faces of an old part share is that of its new faces."""
+    return join([_named(part.mesh, mesh) for part, mesh in zip(parts, meshes)])
 
 
 def _named(old: Mesh, new: Mesh) -> Mesh:

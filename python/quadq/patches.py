@@ -118,6 +118,12 @@ def new_patches(graph: str, lengths: np.ndarray) -> np.ndarray:
     return np.repeat(np.arange(len(faces)), faces)
 
 
+def node_count(graph: str) -> int:
+    """How many nodes the graph has: the ends of its arcs. They are the first points that the program writes."""
+    ends = [line.split()[2:4] for line in graph.splitlines() if line.startswith("arc ")]
+    return len({end for pair in ends for end in pair})
+
+
 def colours_of(mesh: Mesh, patches: np.ndarray, colours: int) -> np.ndarray:
     """(patches,) int64: a colour for each patch, from 0, that no neighbour has where there are enough colours."""
     edges = edges_of(mesh)

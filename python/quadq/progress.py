@@ -20,7 +20,7 @@ class Progress:
         self.stream = sys.stderr if stream is None else stream
         self.is_quiet = is_quiet
         self.is_terminal = self.stream.isatty()
-        self.told_at = time.monotonic() + FIRST_SECONDS - LINE_SECONDS
+        self.told_at = -LINE_SECONDS
         self.begun = time.monotonic()
         self.is_open = False
 

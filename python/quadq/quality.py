@@ -26,17 +26,21 @@ def scaled_jacobians(mesh: Mesh) -> np.ndarray:
 
     This is the metric of quadrilaterals of that name in the Verdict library (Stimpson et al., 2007).
     """
-    corners = mesh.points[mesh.quads]
+    return jacobians_of(mesh.points[mesh.quads])
+
+
+def jacobians_of(corners: np.ndarray) -> np.ndarray:
+    """The same of quads (faces, 4, 3)."""
     normal = _unit(np.cross(corners[:, 2] - corners[:, 0], corners[:, 3] - corners[:, 1]))
     sides = _unit(np.roll(corners, -1, axis=1) - corners)
     before = np.roll(sides, 1, axis=1)
-    return np.min(np.einsum("fci,fi->fc", np.cross(before, sides), normal), axis=1, initial=1.0)
+    return np.asarray(np.min(np.einsum("fci,fi->fc", np.cross(before, sides), normal), axis=1, initial=1.0))
 
 
 def _unit(vectors: np.ndarray) -> np.ndarray:
     """Each vector at length 1, and 0 where it has none."""
     lengths = np.linalg.norm(vectors, axis=-1, keepdims=True)
-    return np.divide(vectors, lengths, out=np.zeros_like(vectors), where=lengths > 0)
+    return np.asarray(np.divide(vectors, lengths, out=np.zeros_like(vectors), where=lengths > 0))
 
 
 def quality_of(mesh: Mesh) -> Quality:

@@ -16,8 +16,10 @@ from .mesh import Mesh
 from .obj import plain_text
 from .parts import Part, Workshop, Written, keep, put_together, split
 from .program import LARGEST, Program, Wish
+from .patches import node_count
 from .quality import quality_of
 from .refusal import Refusal
+from .relaxing import relax
 from .results import Counts, Report, Result
 from .subdivision import subdivide as subdivided
 from .surface import edges_of, irregular_counts
@@ -38,6 +40,8 @@ class Settings:
     subdivide: bool = False
     mirror: Optional[str] = None
     """The axis, x, y or z: the half where that coordinate is above 0 is remeshed, and mirrored."""
+    relax: int = 0
+    """How many times points are moved along the old surface, where no face becomes worse by it."""
     jobs: int = 0
     """How many parts are remeshed at a time; 0 for one a processor."""
     folder: Optional[Path] = None
@@ -55,6 +59,8 @@ class Settings:
             raise ValueError(f"the floor has to be 1, 2, 3 or auto, and is {self.floor}")
         if self.weight not in ("plain", "length"):
             raise ValueError(f"the weight has to be plain or length, and is {self.weight}")
+        if self.relax < 0:
+            raise ValueError("points are relaxed 0 times or more")
         if self.mirror is not None and self.mirror not in tuple(mirroring.AXES):
             raise ValueError(f"the mirror axis has to be x, y or z, and is {self.mirror}")
 
@@ -111,9 +117,10 @@ class _Work:
         written = self.shop.check(parts, texts)
         if self.settings.folder is not None:
             keep(self.settings.folder, parts, written)
-        new = self._whole(put_together(parts, written))
-        is_as_written = len(parts) == 1 and self.settings.mirror is None and not self.settings.subdivide
-        report = self._report(new, reached, parts, written)
+        meshes, moves = self._relaxed(parts, [it.mesh() for it in written])
+        new = self._whole(put_together(parts, meshes))
+        is_as_written = len(parts) == 1 and self.settings.mirror is None and not self.settings.subdivide and not moves
+        report = replace(self._report(new, reached, parts, written), moves=moves)
         return Result(new, report, written[0].text if is_as_written else None, tuple(parts), tuple(written))
 
     def _parts(self, text: Optional[bytes]) -> list[Part]:
@@ -147,6 +154,21 @@ class _Work:
 
         assert settings.faces is not None
         return nearest_scale(settings.faces, self._halves() * sum(it.mesh.face_count for it in parts), count_at)
+
+    def _relaxed(self, parts: list[Part], meshes: list[Mesh]) -> tuple[list[Mesh], int]:
+        """The new meshes relaxed, where that is wished, and how many moves that took."""
+        times, moves = self.settings.relax, 0
+        done: list[Mesh] = []
+        if not times:
+            return meshes, 0
+        self.step = "relax"
+        for part, mesh in zip(parts, meshes):
+            nodes = node_count(self.program.graph(part.text))
+            relaxed, more = relax(mesh, part.mesh, nodes, times)
+            done.append(relaxed)
+            self._tell_parts(len(done))
+            moves += more
+        return done, moves
 
     def _whole(self, new: Mesh) -> Mesh:
         """The new mesh, with its mirror image where that is wished: then the whole is read by the program once more."""

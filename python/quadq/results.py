@@ -51,8 +51,8 @@ class Report:
     """From the new mesh to the old surface."""
     to_new: Distance
     """From the old mesh to the new surface: what was lost at corners and edges shows here."""
-    relaxed: int = 0
-    """How many times points were moved: where it is not 0, the certificate holds for the counts, not for the places."""
+    moves: int = 0
+    """How often a point was moved: where it is not 0, the certificates hold for the counts, not for the places."""
 
     @property
     def greatest_distance(self) -> float:
@@ -74,8 +74,8 @@ class Report:
             said.append(f"inverted faces: {after.quality.inverted}, and {before.quality.inverted} before")
         if before.irregular != after.irregular:
             said.append("irregular points were lost or made")
-        if self.relaxed:
-            said.append("points were moved: the certificate holds for the numbers of edges, not for the places")
+        if self.moves:
+            said.append("the mesh is relaxed: the certificates hold for the numbers of edges, not for the places")
         return tuple(said)
 
     def table(self) -> list[tuple[str, str, str]]:
@@ -103,6 +103,7 @@ class Report:
             ("arcs", str(self.arcs)),
             ("arcs at the floor", str(self.arcs_at_floor)),
             ("deviation, least in each part", str(self.deviation)),
+            *([("moves of points", str(self.moves))] if self.moves else []),
         ]
         return [*([("wished faces", str(self.wished))] if self.wished is not None else []), *told]
 

@@ -1,5 +1,6 @@
 """Quality, distance, parts, scales, subdivision and mirrors by themselves: no program is run."""
 
+import io
 import unittest
 from fractions import Fraction
 
@@ -7,6 +8,8 @@ import numpy as np
 
 from quadq import Mesh, Refusal, distance_between, quality_of, read_obj, scaled_jacobians, subdivide
 from quadq.mirror import half, with_image
+from quadq.progress import Progress
+from quadq.relaxing import relax
 from quadq.surface import edges_of, irregular_counts, part_of_face
 from quadq.targets import as_scale, nearest_scale
 
@@ -57,6 +60,47 @@ class Measures(unittest.TestCase):
         np.testing.assert_allclose(fine.texture.values[fine.texture.rows] * 3, fine.points[fine.corners, :2])
         self.assertEqual(fine.groups["usemtl"].of_face.tolist(), [1, 1, 1])
         self.assertEqual(subdivide(Mesh.of_quads(np.zeros((0, 3)), np.zeros((0, 4)))).face_count, 0)
+
+    def test_relaxed_points_make_nothing_worse(self):
+        flat = grid(9, 7)
+        rng = np.random.default_rng(5)
+        inner = np.all((flat.points[:, :2] > 0) & (flat.points[:, :2] < [9, 7]), axis=1)
+        points = flat.points + np.where(inner[:, None], rng.uniform(-0.6, 0.6, flat.points.shape) * [1, 1, 0], 0)
+        rough = Mesh(points, flat.corners, flat.starts)
+        nodes = 40
+        now, times = rough, 0
+        for _ in range(4):
+            then = now
+            now, moves = relax(then, flat, nodes, 1)
+            times += moves
+            self.assertGreaterEqual(quality_of(now).least, quality_of(then).least)
+        self.assertGreater(quality_of(now).mean, quality_of(rough).mean)
+        self.assertGreater(times, 10)
+        stay = ~inner
+        stay[:nodes] = True
+        np.testing.assert_array_equal(now.points[stay], rough.points[stay])
+        self.assertEqual(np.abs(now.points[:, 2]).max(), 0)
+        self.assertEqual(relax(Mesh.of_quads(np.zeros((0, 3)), np.zeros((0, 4))), flat, 0, 2)[1], 0)
+
+    def test_features_stay_when_relaxed(self):
+        cube = read_obj((EXAMPLES / "cube.obj").read_text())
+        fine = subdivide(subdivide(cube))
+        self.assertEqual(relax(fine, cube, 0, 2)[0].points.tolist(), fine.points.tolist())
+
+    def test_progress(self):
+        said = io.StringIO()
+        progress = Progress(said)
+        progress.tell("remesh", 1, 3)
+        progress.begun -= 2
+        progress.tell("remesh", 2, 3)
+        progress.tell("remesh", 3, 3)
+        self.assertEqual(said.getvalue(), "quadq: remesh 2 of 3\n")
+        said.isatty = lambda: True
+        progress = Progress(said)
+        progress.begun -= 2
+        progress.tell("check", 1, 2)
+        progress.end()
+        self.assertIn(f"check      [{'#' * 15}{' ' * 15}] 1 of 2", said.getvalue())
 
     def test_mirror(self):
         one, faces, _ = half(moved(grid(4, 3), -2), 0)

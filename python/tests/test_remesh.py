@@ -62,6 +62,14 @@ class Remesh(unittest.TestCase):
         image = {tuple(it) for it in result.mesh.points * [-1, 1, 1]}
         self.assertEqual(image, {tuple(it) for it in result.mesh.points})
 
+    def test_a_relaxed_mesh(self):
+        square = grid(12, 12)
+        bent = Mesh(square.points + np.sin(square.points[:, [1]]) * [[0.3, 0, 0]], square.corners, square.starts)
+        result = remesh(bent, scale="1/2", relax=3)
+        self.assertGreater(result.report.moves, 0)
+        self.assertIsNone(result.text)
+        self.assertIn("the mesh is relaxed", result.report.warnings[-1])
+
     def test_polygons(self):
         text = "v 0 0 0\nv 1 0 0\nv 0 1 0\nv 1 1 0\nf 1 2 3\nf 2 4 3\n"
         with self.assertRaises(Refusal) as caught:
@@ -144,6 +152,17 @@ class CommandLine(unittest.TestCase):
         rows = list(csv.DictReader(table.read_text().splitlines()))
         self.assertEqual([pathlib.Path(it["file"]).name for it in rows], names)
         self.assertEqual({it["status"] for it in rows}, {"0", "7"})
+
+    def test_other_formats(self):
+        try:
+            import meshio
+        except ImportError:
+            self.skipTest("meshio is not here")
+        mesh = grid(4, 4)
+        path = self.room / "grid.vtk"
+        meshio.write_points_cells(str(path), mesh.points, [("quad", mesh.quads)])
+        self.assertEqual(self.run_words(path, self.room / "out.obj", "--scale", "1/2")[0], 0)
+        self.assertEqual(read(self.room / "out.obj").face_count, 4)
 
     def test_wrong_words(self):
         for words in ((CUBE, "--scale", "1"), (CUBE, CUBE, CUBE, "--scale", "1"), (CUBE, "x.obj", "--scale", "0"),
