@@ -111,13 +111,21 @@ fn two_triangles(rt: HostRuntime) -> Result<(), Fail> {
     let known = [1, 4, 6];
     assert!(rt; g.n <= 12 && are_edges(g.n, &g.edges) && g.edges.len() < 100);
     assert!(rt; is_perfect(rt.alloc(), &g, &known)?);
-    for (edges, dual) in [
-        best(rt.alloc(), &g, &known)?,
-        best_in_room(rt.alloc(), &g, &known)?,
-    ] {
-        assert!(rt; edges.as_slice() == known.as_slice());
-        assert!(rt; dual.z.iter().any(|z| *z > 0));
-    }
+    let (edges, dual) = best(rt.alloc(), &g, &known)?;
+    assert!(rt; edges.as_slice() == known.as_slice());
+    assert!(rt; dual.z.iter().any(|z| *z > 0));
+    Ok(())
+}
+
+#[test]
+fn two_triangles_in_room(rt: HostRuntime) -> Result<(), Fail> {
+    let g = triangles(rt.alloc())?;
+    let known = [1, 4, 6];
+    assert!(rt; g.n <= 12 && are_edges(g.n, &g.edges) && g.edges.len() < 100);
+    assert!(rt; is_perfect(rt.alloc(), &g, &known)?);
+    let (edges, dual) = best_in_room(rt.alloc(), &g, &known)?;
+    assert!(rt; edges.as_slice() == known.as_slice());
+    assert!(rt; dual.z.iter().any(|z| *z > 0));
     Ok(())
 }
 
