@@ -31,7 +31,7 @@ use Rattle.qm_top.specs.declared.refusal.Refusal.TheVariants as refusals
 
 module _ {O : Type 0} (input : Change) (out : Stream O) (bytes : Bytes) (whole : ReadWhole MAX_BYTES input.told input.told_now bytes) (calm : input.faults_now ≡ input.faults) where
   -- The refusal of the old text has its cause.
-  old_cause : (fail : ObjFail) → RefusesOldText bytes fail → Cause Check input out (answer_of_obj fail)
+  old_cause : (fail : ObjFail) → RefusesOldText bytes fail → Cause Check input out.change (answer_of_obj fail)
   old_cause (obj.Limit AllBytes line) none = absurd (never_bytes 1 (take none.line (lines_of bytes)) line none.said)
   old_cause obj.Memory none = tt
   old_cause _ none = record { bytes = bytes; whole = whole; said = none }

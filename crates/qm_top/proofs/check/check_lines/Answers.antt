@@ -1,7 +1,16 @@
-use Rattle.std.proofs.Common.{refl}
+use Rattle.std.proofs.Common.{rules, refl}
 use Rattle.def_io.specs.Moves.{stream}
+use Rattle.error_laws.proofs.Errors.{handed}
 use Rattle.qm_top.proofs.Checked.{unaccepted}
 use Rattle.qm_top.proofs.check.check_lines.Goals as goal
+
+pub returns-in_err-write_all-in-Ok-clause-refused : goal.returns-in_err-write_all-in-Ok-clause-refused
+returns-in_err-write_all-in-Ok-clause-refused g c = handed _ _ _ c.from_residual.ensures.1 (record {
+  text = c.as_bytes.result.now;
+  said = search rules;
+  prefix = c.in_err-write_all-in-Ok.ensures.prefix;
+  fault = c.in_err-write_all-in-Ok.ensures.cause.failed;
+})
 
 pub returns-in-Err-clause-refused : goal.returns-in-Err-clause-refused
 returns-in-Err-clause-refused g c =
