@@ -28,7 +28,7 @@ MESHES = [
     ("a terrain of voxels, 64 by 64 columns", ["voxels", "64"]),
 ]
 BOUNDARY = [(f"a plate of {side} by {side} with holes", ["plate", str(side)]) for side in (171, 342, 684, 1080)]
-BOUNDARY += [(f"{plates} stepped plates", ["steps", str(plates)]) for plates in (1000, 4000, 8000, 30000)]
+BOUNDARY += [(f"{plates} stepped plates", ["steps", str(plates)]) for plates in (1000, 4000, 8000, 29500)]
 # The mesh that QuadriFlow remeshes too.
 SMALL = ("a cube of 100 by 100 faces a side", ["cube", "100"])
 

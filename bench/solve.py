@@ -32,7 +32,7 @@ MESHES = [["holes", "512", "512"], ["holes", "1024", "1024"], ["voxels", "20"], 
 LARGE = [["holes", "4096", "4096"], ["voxels", "100"], ["voxels", "208"]]
 # Where many ends lie at the boundary, and the settings at which these are measured: scale and floor.
 BOUNDARY = [["plate", side] for side in ("171", "342", "684", "1080")]
-BOUNDARY += [["steps", plates] for plates in ("1000", "4000", "8000", "30000")]
+BOUNDARY += [["steps", plates] for plates in ("1000", "4000", "8000", "29500")]
 SETTINGS = [(1, 2, 1), (1, 3, 1), (1, 1, 3)]
 SECONDS = 60
 # The greatest sum of the old lengths of an even network.
