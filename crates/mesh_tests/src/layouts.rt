@@ -1,4 +1,4 @@
-//! From the text of a mesh to the layout that its traced graph cuts.
+//! From the text of a mesh to the mesh, and to the layout that its traced graph cuts.
 
 ghost use Rattle.std.specs.Prelude.{IfOk, IfSome};
 ghost use Rattle.def_layout.specs.Plans.{plan};
@@ -8,9 +8,20 @@ use def_layout::TMesh;
 use def_text::MAX_BYTES;
 use qm_cut::traced_layout;
 use qm_io::Source;
-use qm_mesh::build;
+use qm_mesh::{Mesh, build};
 use qm_obj::read_soup;
 use std::alloc::{AllocError, Global};
+
+/// The mesh that a source gives; none where there is no mesh.
+pub(crate) fn read_mesh<S: Source>(
+    alloc: Global,
+    input: &mut S,
+) -> Result<Option<Mesh>, AllocError> {
+    let Ok(soup) = read_soup(alloc, input, MAX_BYTES) else {
+        return Ok(None);
+    };
+    Ok(build(alloc, soup.pos.len() as u32, &soup.faces).ok())
+}
 
 /// The layout of the mesh that a source gives; none where there is no mesh.
 pub(crate) fn read_layout<S: Source>(
@@ -19,10 +30,7 @@ pub(crate) fn read_layout<S: Source>(
 ) -> Result<Option<TMesh>, AllocError>
     ensures { IfOk result (λ found. IfSome found (λ t. IsMeshLayout (plan t))) }
 {
-    let Ok(soup) = read_soup(alloc, input, MAX_BYTES) else {
-        return Ok(None);
-    };
-    let Ok(mesh) = build(alloc, soup.pos.len() as u32, &soup.faces) else {
+    let Some(mesh) = read_mesh(alloc, input)? else {
         return Ok(None);
     };
     let layout = traced_layout(alloc, &mesh)?;

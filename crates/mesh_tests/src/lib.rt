@@ -1,6 +1,9 @@
-//! Tests of meshes, of how riders cut them, and of new meshes at given lengths, on meshes that are worked out by hand.
+//! Tests of meshes, of how riders cut them, of merged patches, and of new meshes at given lengths, on meshes that are
+//! worked out by hand.
 #![tactic(auto)]
 
+#[cfg(test)]
+mod cuts;
 #[cfg(test)]
 mod layouts;
 #[cfg(test)]
@@ -11,6 +14,8 @@ mod meshes;
 mod motions;
 #[cfg(test)]
 mod new_meshes;
+#[cfg(test)]
+mod roots;
 #[cfg(test)]
 mod sources;
 #[cfg(test)]

@@ -9,7 +9,7 @@ use def_cut::Stop;
 use def_mesh::Starts;
 use qm_mesh::{Mesh, build};
 use qm_sing::sources;
-use qm_trace::{Motion, trace};
+use qm_trace::{Motion, trace, trace_by};
 use std::test::Fail;
 
 /// The unit squares of a square of four by four, but for the first and the last.
@@ -159,5 +159,23 @@ fn each_event_is_seen(rt: HostRuntime) -> Result<(), Fail> {
     settle(&mut motion, &mesh, &src, 15);
     assert!(rt; stands(&motion, &src, 0, 2, Some(Stop::Tie { vertex: 15 })));
     assert!(rt; stands(&motion, &src, 1, 2, None));
+    Ok(())
+}
+
+#[test]
+fn whatever_is_chosen_the_graph_is_traced(rt: HostRuntime) -> Result<(), Fail> {
+    let mesh = build(rt.alloc(), 23, &NOTCHED)?;
+    let src = sources(rt.alloc(), &mesh)?;
+    let traced = trace(rt.alloc(), &mesh, &src)?;
+    let table: [&[u32]; 4] = [
+        &[],
+        &[3, 2, 1, 0],
+        &[0, 0, 7, 99, 8, 0, 1],
+        &[2, 22, 14, 2, 13, 2],
+    ];
+    for choices in table {
+        let graph = trace_by(rt.alloc(), &mesh, &src, choices)?;
+        assert!(rt; graph.covered == traced.covered && graph.riders == traced.riders);
+    }
     Ok(())
 }
