@@ -1,6 +1,5 @@
 -- Slots by the arcs that they use.
-use Rattle.std.proofs.Common.{◌≡◌, ◌≢◌, ◌⊎◌, ℕ, ◌<◌, Bool, true, false, not, refl, sym, ◌∙◌, ap, subst, inl, inr}
-use Rattle.std.proofs.lemmas.Bool.{cases_eq}
+use Rattle.std.proofs.Common.{◌≡◌, ◌≢◌, ◌⊎◌, Bool, true, false, not, refl, sym, ◌∙◌, ap, inl, inr}
 use Rattle.def_layout.specs.declared.tmesh.SideArc.{SideArc}
 use Rattle.def_layout.specs.Laid.{IsLaid, IsOtherSlot}
 use Rattle.def_layout.specs.Layouts.{Layout, Slot, IsSlot, AreReverse, use_of}
