@@ -17,7 +17,9 @@ use def_cut::Graph;
 use qm_mesh::Mesh;
 use std::alloc::{AllocError, Global};
 
-/// Merges the patches of a full cut across whole sides. Near linear in the darts; the riders stay.
+/// Merges the patches of a full cut across whole sides. The riders stay. Each arc that leaves costs the lengths of the
+/// sides at its ends: linear in the darts, up to logarithms, but for a long side that grows patch by patch, where it is
+/// quadratic in that side.
 pub fn merge(alloc: Global, mesh: &Mesh, graph: &Graph) -> Result<Graph, AllocError>
     requires cut { IsFullCut mesh.now graph.now.covered.items }
     ensures merged { IfOk result (λ g. IsMergedCut mesh.now graph.now.covered.items g.covered.items) }
