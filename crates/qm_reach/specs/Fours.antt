@@ -1,8 +1,10 @@
 -- The tables of the four sides of a patch.
-use Rattle.std.specs.Prelude.{◌≡◌, ℕ, List, [], length, map, slice_index_or}
+use Rattle.std.specs.Prelude.{◌≡◌, ◌<◌, ℕ, List, [], length, map, slice_index_or}
+use Rattle.def_layout.specs.Laid.{IsPaved}
 use Rattle.def_layout.specs.Layouts.{Way}
 use Rattle.def_layout.specs.Lengths.{Lengths}
-use Rattle.def_layout.specs.Plans.{Plan, way_number, side_at}
+use Rattle.def_layout.specs.Plans.{Plan, PatchSides, layout_of, way_number, side_at}
+use Rattle.def_layout.specs.declared.tmesh.Side.{Side}
 use Rattle.def_layout.specs.declared.tmesh.SideArc.{SideArc}
 use Rattle.def_remesh.specs.Numberings.{sizes_on, AreRunStarts}
 use Rattle.def_remesh.specs.declared.tables.RunStarts.{RunStarts}
@@ -10,6 +12,10 @@ use Rattle.def_remesh.specs.declared.tables.RunStarts.{RunStarts}
 -- Where the arcs on four sides begin.
 abbrev pub begins_of : (four : List RunStarts) → List (List ℕ)
 begins_of four = map (λ (starts : RunStarts). starts.begin.items) four
+
+-- The arcs on each of four sides.
+abbrev pub uses_in : (sides : List (List Side)) → PatchSides
+uses_in sides = map (λ four. map (λ (side : Side). side.arcs.items) four) sides
 
 -- The arcs of a side, by the number of that.
 abbrev pub arcs_on : (plan : Plan) (patch side : ℕ) → List SideArc
@@ -26,3 +32,9 @@ pub record AreFourStarts (plan : Plan) (lengths : Lengths) (patch : ℕ) (four :
   pub each : (side : Way)
       → AreRunStarts (sizes_on (side_at plan patch side) lengths) (length (side_at plan patch side))
       (slice_index_or four (way_number side) [])
+
+-- Each patch has four sides, which are not empty and name arcs that exist.
+pub record AreSides (plan : Plan) : Type 0 where
+  pub sided : length plan.sides ≡ length plan.patches
+  pub four : (patch : ℕ) → patch < length plan.patches → length (slice_index_or plan.sides patch []) ≡ 4
+  pub paved : IsPaved (layout_of plan)

@@ -1,11 +1,12 @@
 //! The sides of patches, and where the arcs on them begin.
 
-ghost use Rattle.std.specs.Prelude.{◌≡◌, ◌<◌, ◌^◌, ℕ, [], length, slice_index_or, IfOk};
+ghost use Rattle.std.specs.Prelude.{◌≡◌, ◌<◌, ◌^◌, ℕ, [], length, map, slice_index_or, IfOk};
 ghost use Rattle.std.specs.List.{All};
 ghost use Rattle.def_math.specs.Counts.{count_below};
 ghost use Rattle.def_layout.specs.Layouts.{Way};
 ghost use Rattle.def_layout.specs.Lengths.{size};
 ghost use Rattle.def_layout.specs.Plans.{layout_of, plan};
+ghost use Rattle.def_layout.specs.declared.tmesh.Side.{Side as Arcs};
 ghost use Rattle.def_layout.specs.declared.tmesh.SideArc.{SideArc as Used};
 ghost use Rattle.def_layoutnet.specs.MeshLayouts.{IsMeshLayout};
 ghost use Rattle.def_remesh.specs.NewPoints.{lengths_in};
@@ -13,19 +14,32 @@ ghost use Rattle.def_remesh.specs.Numberings.{sizes_on, tables_of, AreSideStarts
 ghost use Rattle.qm_reach.specs.Fours.{begins_of, AreFourStarts, IsTableOf};
 
 use crate::starts::{no_starts, push_start};
-use def_layout::{SideArc, TMesh};
+use crate::summed::Summed;
+use def_layout::{Side, SideArc, TMesh};
 use def_remesh::RunStarts;
 use std::alloc::{AllocError, Global};
 
 /// The arcs on a side of a patch: 0 is south, 1 east, 2 north and 3 west.
+pub fn uses_on(sides: &[[Side; 4]], patch: usize, side: usize) -> &[SideArc]
+    requires low { patch < length sides.now }
+    requires four { length
+        (slice_index_or (map (λ four. map (λ (side : Arcs). side.arcs.items) four) sides.now) patch []) ≡ 4 }
+    requires side { side < 4 }
+    ensures { result.now ≡ slice_index_or
+        (slice_index_or (map (λ four. map (λ (side : Arcs). side.arcs.items) four) sides.now) patch []) side [] }
+{
+    let four = &sides[patch];
+    &four[side].arcs
+}
+
+/// The same, of the layout of a mesh.
 pub fn side_of(t: &TMesh, patch: usize, side: usize) -> &[SideArc]
     requires layout { IsMeshLayout (plan t.now) }
     requires low { patch < length t.now.patches.items }
     requires side { side < 4 }
     ensures { result.now ≡ slice_index_or (slice_index_or (plan t.now).sides patch []) side [] }
 {
-    let four = &t.sides[patch];
-    &four[side].arcs
+    uses_on(&t.sides, patch, side)
 }
 
 /// Where the arcs on a side of a patch begin.
@@ -56,40 +70,29 @@ fn side_starts(alloc: Global, side: &[SideArc], lengths: &[u32]) -> Result<RunSt
 /// The table of a side of a patch.
 fn starts_of(
     alloc: Global,
-    t: &TMesh,
+    summed: &Summed,
     patch: usize,
     side: usize,
-    lengths: &[u32],
 ) -> Result<RunStarts, AllocError>
-    requires layout { IsMeshLayout (plan t.now) }
-    requires low { patch < length t.now.patches.items }
+    requires low { patch < length summed.now.t.now.patches.items }
     requires side { side < 4 }
-    requires long { length lengths.now ≡ length t.now.arcs.items }
-    requires small { (way : Way) → size (layout_of (plan t.now)) (lengths_in lengths.now) patch way < 2 ^ 32 }
     ensures { IfOk result (λ starts.
-        IsTableOf (plan t.now) (lengths_in lengths.now) patch side starts.begin.items) }
+        IsTableOf (plan summed.now.t.now) (lengths_in summed.now.lengths.now) patch side starts.begin.items) }
 {
-    side_starts(alloc, side_of(t, patch, side), lengths)
+    let arcs = uses_on(&summed.t.sides, patch, side);
+    side_starts(alloc, arcs, summed.lengths)
 }
 
 /// The tables of the four sides of a patch.
-fn four_starts(
-    alloc: Global,
-    t: &TMesh,
-    patch: usize,
-    lengths: &[u32],
-) -> Result<[RunStarts; 4], AllocError>
-    requires layout { IsMeshLayout (plan t.now) }
-    requires low { patch < length t.now.patches.items }
-    requires long { length lengths.now ≡ length t.now.arcs.items }
-    requires small { (side : Way) → size (layout_of (plan t.now)) (lengths_in lengths.now) patch side < 2 ^ 32 }
+fn four_starts(alloc: Global, summed: &Summed, patch: usize) -> Result<[RunStarts; 4], AllocError>
+    requires { patch < length summed.now.t.now.patches.items }
     ensures { IfOk result (λ four.
-        AreFourStarts (plan t.now) (lengths_in lengths.now) patch (begins_of four)) }
+        AreFourStarts (plan summed.now.t.now) (lengths_in summed.now.lengths.now) patch (begins_of four)) }
 {
-    let south = starts_of(alloc, t, patch, 0, lengths)?;
-    let east = starts_of(alloc, t, patch, 1, lengths)?;
-    let north = starts_of(alloc, t, patch, 2, lengths)?;
-    let west = starts_of(alloc, t, patch, 3, lengths)?;
+    let south = starts_of(alloc, summed, patch, 0)?;
+    let east = starts_of(alloc, summed, patch, 1)?;
+    let north = starts_of(alloc, summed, patch, 2)?;
+    let west = starts_of(alloc, summed, patch, 3)?;
     Ok([south, east, north, west])
 }
 
@@ -105,9 +108,10 @@ pub fn side_tables(
         → size (layout_of (plan t.now)) (lengths_in lengths.now) patch side < 2 ^ 32 }
     ensures { IfOk result (λ sides. AreSideStarts (plan t.now) (lengths_in lengths.now) (tables_of sides.items)) }
 {
+    let summed = Summed { t, lengths };
     let mut tables = Vec::with_capacity(alloc, t.patches.len())?;
     for patch in 0..t.patches.len() {
-        let four = four_starts(alloc, t, patch, lengths)?;
+        let four = four_starts(alloc, &summed, patch)?;
         tables.push(four)?;
     }
     Ok(tables)

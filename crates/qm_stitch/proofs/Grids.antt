@@ -7,11 +7,10 @@ use Rattle.std.proofs.lemmas.List.{get_or_read}
 use Rattle.def_math.specs.Counts.{count_below}
 use Rattle.def_math.specs.Runs.{run_at}
 use Rattle.def_layout.specs.declared.tmesh.SideArc.{SideArc}
-use Rattle.def_layout.specs.Laid.{IsLaid}
 use Rattle.def_layout.specs.Layouts.{Way, east, north, west, Layout}
 use Rattle.def_layout.specs.Lengths.{Lengths, size, wide, high}
 use Rattle.def_layout.specs.Plans.{Plan, layout_of, way_number, side_at}
-use Rattle.def_written.specs.Numbers.{vertices, before_arc, before_patch, vertex_number as point_name}
+use Rattle.def_written.specs.Numbers.{before_arc, before_patch, vertex_number as point_name}
 use Rattle.def_written.specs.NewFaces.{cells_before, face_count, patch_of, cell_in}
 use Rattle.def_written.specs.Points.{along, inside, arc_point, use_point, side_point, point}
 use Rattle.def_remesh.specs.NewPoints.{lengths_in}
@@ -21,7 +20,8 @@ use Rattle.def_remesh.specs.declared.tables.Tables.{Tables}
 use Rattle.written_laws.proofs.Runs.{run_here, run_low, IsInRun}
 use Rattle.qm_reach.proofs.Spots.{last_is, within_run}
 use Rattle.plan_laws.proofs.MeshLayouts.{laid_of}
-use Rattle.qm_reach.proofs.Whole.{read_size, read_used, uses_low, way_for}
+use Rattle.qm_reach.proofs.Whole.{arcs_low, read_size, read_used, way_for}
+use Rattle.qm_stitch.specs.Numbered.{AreTables}
 use Rattle.qm_stitch.specs.Sizes.{long_by, table_in, point_on}
 use Rattle.plan_laws.proofs.Bounds.{side_few, vertices_few}
 use Rattle.written_laws.proofs.EdgeNumbers.{in_rows}
@@ -49,23 +49,29 @@ module _ (l : Layout) (x : Lengths) (p i j : ℕ) where
       cond-false (j == 0) _ _ (ne_eqb j 0 j_some) ∙ cond-false (j == high l x p) _ _ (ne_eqb j (high l x p) j_low)
       ∙ cond-false (i == 0) _ _ (ne_eqb i 0 i_some) ∙ cond-false (i == wide l x p) _ _ (ne_eqb i (wide l x p) i_low)
 
-module _ (plan : Plan) (t : Tables) (is : IsNumbering plan t) where
+-- What is read of tables that number the layout of a mesh.
+pub tables_are : (plan : Plan) (t : Tables) → IsNumbering plan t → AreTables plan t
+tables_are plan t is = record {
+  paved = (laid_of plan is.mesh).paved;
+  sided = is.mesh.laid.sided;
+  four = is.mesh.laid.four;
+  long = is.long;
+  lengths = is.lengths;
+  few = omega (arith, vertices_few (layout_of plan) (lengths_in t.lengths.items) (laid_of plan is.mesh) is.lengths, is.few);
+  short = λ p s low. omega (arith, side_few (layout_of plan) (lengths_in t.lengths.items) (laid_of plan is.mesh) is.lengths p s low, is.few);
+  nodes = is.nodes;
+  along = is.along;
+  inside = is.inside;
+  cells = is.cells;
+  sides = is.sides;
+}
+
+module _ (plan : Plan) (t : Tables) (is : AreTables plan t) where
   abbrev l : Layout
   l = layout_of plan
 
   abbrev x : Lengths
   x = lengths_in t.lengths.items
-
-  pub laid : IsLaid (layout_of plan)
-  laid = laid_of plan is.mesh
-
-  -- All numbers are small.
-  pub all_few : vertices (layout_of plan) (lengths_in t.lengths.items) ≤ 2 ^ 23
-  all_few = omega (arith, vertices_few l x laid is.lengths, is.few)
-
-  -- Sides are short.
-  pub size_short : (p : ℕ) (s : Way) → p < length plan.patches → size (layout_of plan) (lengths_in t.lengths.items) p s ≤ 2 ^ 21
-  size_short p s low = omega (arith, side_few l x laid is.lengths p s low, is.few)
 
   -- The tables of a side.
   pub long_is : (p : ℕ) (s : Way) → p < length plan.patches
@@ -92,7 +98,7 @@ module _ (plan : Plan) (t : Tables) (is : IsNumbering plan t) where
       let less : k < x a = omega (arith, upto, other, long) in
       let name : t.nodes + w + (k - 1) ≡ l.nodes + before_arc x a + (k - 1) = omega (arith, begin, is.nodes) in (
         name ∙ ap (point_name l x) (sym (arc_inner l x a k (omega (arith, some)) less)),
-        omega (arith, name, number_low l x (along a k) (low, omega (arith, some), less), all_few),
+        omega (arith, name, number_low l x (along a k) (low, omega (arith, some), less), is.few),
       )
 
   -- A place of a side.
@@ -137,8 +143,8 @@ module _ (plan : Plan) (t : Tables) (is : IsNumbering plan t) where
       by_way w =
           subst (λ (k : ℕ). IsBorder p k (get_or (get_or plan.sides p []) k []) (table_in (tables_of t.sides.items) p k)) w.1
           (record {
-            some = laid.paved.sides_full p w.0 low;
-            low = uses_low plan is.mesh p w.0 (length plan.arcs) (side_at plan p w.0) low refl refl;
+            some = is.paved.sides_full p w.0 low;
+            low = arcs_low plan is.paved p w.0 (length plan.arcs) (side_at plan p w.0) low refl refl;
             starts_are = is.sides.each p w.0 low;
             long = sym (long_is p w.0 low);
           })
@@ -228,7 +234,7 @@ module _ (plan : Plan) (t : Tables) (is : IsNumbering plan t) where
         omega (
           arith,
           name,
-          all_few,
+          is.few,
           number_low l x (inside p i j)
               (low, omega (arith, i_some), omega (arith, i_low, i_upto), omega (arith, j_some), omega (arith, j_low, j_upto)),
         ),

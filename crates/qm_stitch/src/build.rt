@@ -1,8 +1,6 @@
 //! The numbering of a layout with lengths, whether or not an edge is doubled.
 
 ghost use Rattle.std.specs.Prelude.{◌≡◌, ◌<◌, ◌≤◌, ◌-◌, ℕ, length, IfOk, IfErr};
-ghost use Rattle.def_flow.specs.declared.limits.TheConstants.{MAX_LENGTH};
-ghost use Rattle.def_layout.specs.Lengths.{AreLengths};
 ghost use Rattle.def_layout.specs.Plans.{layout_of, plan};
 ghost use Rattle.def_layoutnet.specs.MeshLayouts.{IsMeshLayout};
 ghost use Rattle.def_remesh.specs.NewPoints.{lengths_in};
@@ -12,6 +10,7 @@ ghost use Rattle.qm_stitch.specs.Sizes.{product_by, AreRows, IsFine, IsTooFine};
 use crate::count::count_faces;
 use crate::numbering::Numbering;
 use crate::size::last_of;
+use crate::stretched::Stretched;
 use def_layout::TMesh;
 use def_remesh::{MAX_NEW_FACES, RunStarts, StitchFail, Tables};
 use qm_reach::{inner_points, no_starts, push_start, short_lengths, side_tables, starts_on};
@@ -19,20 +18,18 @@ use std::alloc::{AllocError, Global};
 
 /// The numbering of the points and faces of a layout with these lengths, also where an edge is doubled. It is refused
 /// as `TooFine` exactly where there are more faces than the limit.
-pub(crate) fn number(alloc: Global, t: &TMesh, lengths: &[u64]) -> Result<Numbering, StitchFail>
-    requires layout { IsMeshLayout (plan t.now) }
-    requires long { length lengths.now ≡ length t.now.arcs.items }
-    requires lengths { AreLengths (layout_of (plan t.now)) (lengths_in lengths.now) }
-    requires bounded { (arc : ℕ) → lengths_in lengths.now arc ≤ MAX_LENGTH }
-    ensures numbering { IfOk result (λ n. IsNumbering (plan t.now) n) }
-    ensures lengths { IfOk result (λ n. n.lengths.items ≡ lengths.now) }
-    ensures refused { IfErr result (IsTooFine (layout_of (plan t.now)) (lengths_in lengths.now)) }
+pub(crate) fn number(alloc: Global, stretched: &Stretched) -> Result<Numbering, StitchFail>
+    requires layout { IsMeshLayout (plan stretched.now.t.now) }
+    ensures numbering { IfOk result (λ n. IsNumbering (plan stretched.now.t.now) n) }
+    ensures lengths { IfOk result (λ n. n.lengths.items ≡ stretched.now.lengths.now) }
+    ensures refused { IfErr result
+        (IsTooFine (layout_of (plan stretched.now.t.now)) (lengths_in stretched.now.lengths.now)) }
 {
-    let faces = count_faces(t, lengths);
+    let faces = count_faces(stretched);
     if faces > u128::from(MAX_NEW_FACES) {
         return Err(StitchFail::TooFine { faces });
     }
-    let tables = tables(alloc, t, lengths)?;
+    let tables = tables(alloc, stretched.t, stretched.lengths)?;
     Ok(Numbering { tables })
 }
 

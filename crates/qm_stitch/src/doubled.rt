@@ -7,6 +7,7 @@ ghost use Rattle.def_remesh.specs.NewPoints.{lengths_in};
 ghost use Rattle.def_remesh.specs.Numberings.{IsNumbering};
 ghost use Rattle.def_remesh.specs.Stitched.{IsUnstitched};
 
+use crate::numbered::Numbered;
 use crate::repeat::{greater, least_repeat, lesser};
 use crate::rim::rim_keys;
 use def_layout::TMesh;
@@ -20,7 +21,8 @@ pub(crate) fn check_edges(alloc: Global, tables: &Tables, t: &TMesh) -> Result<(
     ensures undoubled { OnOk result (IsUndoubled (layout_of (plan t.now)) (lengths_in tables.now.lengths.items)) }
     ensures refused { IfErr result (IsUnstitched (layout_of (plan t.now)) (lengths_in tables.now.lengths.items)) }
 {
-    match least_repeat(rim_keys(alloc, tables, t)?) {
+    let numbered = Numbered { t, tables };
+    match least_repeat(rim_keys(alloc, &numbered)?) {
         Some(key) => Err(StitchFail::Doubled {
             u: lesser(key),
             v: greater(key),

@@ -6,6 +6,7 @@ mod build;
 mod count;
 mod doubled;
 mod face;
+mod numbered;
 mod numbering;
 mod planning;
 mod point;
@@ -14,6 +15,7 @@ mod rim;
 mod safe;
 mod size;
 mod stitching;
+mod stretched;
 
 pub use def_remesh::{NewMesh, StitchFail};
 pub use numbering::Numbering;

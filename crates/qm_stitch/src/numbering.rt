@@ -8,6 +8,7 @@ ghost use Rattle.def_remesh.specs.NewPoints.{lengths_in};
 ghost use Rattle.def_remesh.specs.Numberings.{HoldsFor, IsNumbering};
 
 use crate::face::face_of;
+use crate::numbered::Numbered;
 use crate::size::last_of;
 use def_layout::TMesh;
 use def_remesh::Tables;
@@ -54,6 +55,8 @@ impl Numbering {
         requires face { f < face_count (layout_of (plan t.now)) (lengths_in self.now.lengths.items) }
         ensures { result ≡ new_face (layout_of (plan t.now)) (lengths_in self.now.lengths.items) f }
     {
-        face_of(&self.tables, t, f)
+        let tables = &self.tables;
+        let numbered = Numbered { t, tables };
+        face_of(&numbered, f)
     }
 }

@@ -14,6 +14,7 @@ use crate::build::number;
 use crate::doubled::check_edges;
 use crate::numbering::Numbering;
 use crate::safe::are_safe;
+use crate::stretched::Stretched;
 use def_layout::TMesh;
 use def_remesh::StitchFail;
 use std::alloc::Global;
@@ -35,8 +36,9 @@ pub fn plan(alloc: Global, t: &TMesh, lengths: &[u64]) -> Result<Numbering, Stit
     ensures safe { AreSafe (plan_of t.now) (lengths_in lengths.now)
         → (u v : ℕ) → ¬ IsErrOf result (StitchFail.Doubled u v) }
 {
-    let numbering = number(alloc, t, lengths)?;
-    if are_safe(t, lengths) {
+    let stretched = Stretched { t, lengths };
+    let numbering = number(alloc, &stretched)?;
+    if are_safe(&stretched) {
         return Ok(numbering);
     }
     check_edges(alloc, &numbering.tables, t)?;

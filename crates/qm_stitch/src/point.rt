@@ -4,104 +4,104 @@ ghost use Rattle.std.specs.Prelude.{◌≡◌, ◌<◌, ◌≤◌, ℕ, [], leng
 ghost use Rattle.std.specs.List.{All};
 ghost use Rattle.def_math.specs.Counts.{count_below};
 ghost use Rattle.def_layout.specs.Lengths.{wide, high};
-ghost use Rattle.def_layout.specs.Plans.{layout_of, plan};
+ghost use Rattle.def_layout.specs.Plans.{plan};
 ghost use Rattle.def_layout.specs.declared.tmesh.SideArc.{SideArc as Used};
 ghost use Rattle.def_written.specs.Numbers.{vertex_number};
 ghost use Rattle.def_written.specs.Points.{arc_point, point, use_point};
-ghost use Rattle.def_remesh.specs.NewPoints.{lengths_in};
-ghost use Rattle.def_remesh.specs.Numberings.{sizes_on, tables_of, AreRunStarts, IsNumbering};
+ghost use Rattle.def_remesh.specs.Numberings.{sizes_on, tables_of, AreRunStarts};
+ghost use Rattle.qm_stitch.specs.Lengthened.{layout_in, lengths_by};
 ghost use Rattle.qm_stitch.specs.Sizes.{long_by, point_on};
 
+use crate::numbered::Numbered;
 use crate::size::{last_of, size_at};
-use def_layout::{SideArc, TMesh};
-use def_remesh::Tables;
-use qm_reach::{side_of, spot_in, starts_on};
+use def_layout::SideArc;
+use qm_reach::{spot_in, starts_on, uses_on};
 
 /// The number of the point at place k of an arc.
-pub(crate) fn arc_number(tables: &Tables, t: &TMesh, arc: usize, k: u32) -> u32
-    requires numbering { IsNumbering (plan t.now) tables.now }
-    requires arc { arc < length t.now.arcs.items }
-    requires upto { k ≤ lengths_in tables.now.lengths.items arc }
-    ensures { result ≡ vertex_number (layout_of (plan t.now)) (lengths_in tables.now.lengths.items)
-        (arc_point (layout_of (plan t.now)) (lengths_in tables.now.lengths.items) arc k) }
+pub(crate) fn arc_number(numbered: &Numbered, arc: usize, k: u32) -> u32
+    requires arc { arc < length numbered.now.t.now.arcs.items }
+    requires upto { k ≤ lengths_by numbered.now arc }
+    ensures { result ≡ vertex_number (layout_in numbered.now) (lengths_by numbered.now)
+        (arc_point (layout_in numbered.now) (lengths_by numbered.now) arc k) }
 {
     if k == 0 {
-        return t.arcs[arc].first;
+        return numbered.t.arcs[arc].first;
     }
-    if k == tables.lengths[arc] {
-        return t.arcs[arc].last;
+    if k == numbered.tables.lengths[arc] {
+        return numbered.t.arcs[arc].last;
     }
-    tables.nodes + tables.along.begin[arc] + (k - 1)
+    numbered.tables.nodes + numbered.tables.along.begin[arc] + (k - 1)
 }
 
 /// The number of the point that lies so far after the beginning of an arc in use.
-fn use_number(tables: &Tables, t: &TMesh, used: SideArc, offset: u32) -> u32
-    requires numbering { IsNumbering (plan t.now) tables.now }
-    requires arc { used.arc < length t.now.arcs.items }
-    requires upto { offset ≤ lengths_in tables.now.lengths.items used.arc }
-    ensures { result ≡ vertex_number (layout_of (plan t.now)) (lengths_in tables.now.lengths.items)
-        (use_point (layout_of (plan t.now)) (lengths_in tables.now.lengths.items) used offset) }
+fn use_number(numbered: &Numbered, used: SideArc, offset: u32) -> u32
+    requires arc { used.arc < length numbered.now.t.now.arcs.items }
+    requires upto { offset ≤ lengths_by numbered.now used.arc }
+    ensures { result ≡ vertex_number (layout_in numbered.now) (lengths_by numbered.now)
+        (use_point (layout_in numbered.now) (lengths_by numbered.now) used offset) }
 {
     let arc = used.arc as usize;
     if used.forward {
-        arc_number(tables, t, arc, offset)
+        arc_number(numbered, arc, offset)
     } else {
-        arc_number(tables, t, arc, tables.lengths[arc] - offset)
+        arc_number(numbered, arc, numbered.tables.lengths[arc] - offset)
     }
 }
 
 /// The number of the point at a place of a side.
-fn side_number(tables: &Tables, t: &TMesh, side: &[SideArc], starts: &[u32], place: u32) -> u32
-    requires numbering { IsNumbering (plan t.now) tables.now }
+fn side_number(numbered: &Numbered, side: &[SideArc], starts: &[u32], place: u32) -> u32
     requires some { 0 < length side.now }
-    requires low { All (λ (used : Used). used.arc < length t.now.arcs.items) side.now }
-    requires starts { AreRunStarts (sizes_on side.now (lengths_in tables.now.lengths.items))
+    requires low { All (λ (used : Used). used.arc < length numbered.now.t.now.arcs.items) side.now }
+    requires starts { AreRunStarts (sizes_on side.now (lengths_by numbered.now))
         (length side.now) starts.now }
-    requires upto { place ≤ count_below (sizes_on side.now (lengths_in tables.now.lengths.items)) (length side.now) }
-    ensures { result ≡ vertex_number (layout_of (plan t.now)) (lengths_in tables.now.lengths.items)
-        (point_on (layout_of (plan t.now)) (lengths_in tables.now.lengths.items) side.now place) }
+    requires upto { place ≤ count_below (sizes_on side.now (lengths_by numbered.now)) (length side.now) }
+    ensures { result ≡ vertex_number (layout_in numbered.now) (lengths_by numbered.now)
+        (point_on (layout_in numbered.now) (lengths_by numbered.now) side.now place) }
 {
     let at = spot_in(starts, place);
-    use_number(tables, t, side[at], place - starts[at])
+    use_number(numbered, side[at], place - starts[at])
 }
 
 /// The number of the point at a place of a side of a patch.
-fn border_number(tables: &Tables, t: &TMesh, patch: usize, side: usize, place: u32) -> u32
-    requires numbering { IsNumbering (plan t.now) tables.now }
-    requires patch { patch < length t.now.patches.items }
+fn border_number(numbered: &Numbered, patch: usize, side: usize, place: u32) -> u32
+    requires patch { patch < length numbered.now.t.now.patches.items }
     requires side { side < 4 }
-    requires upto { place ≤ long_by (tables_of tables.now.sides.items) patch side }
-    ensures { result ≡ vertex_number (layout_of (plan t.now)) (lengths_in tables.now.lengths.items)
-        (point_on (layout_of (plan t.now)) (lengths_in tables.now.lengths.items)
-        (slice_index_or (slice_index_or (plan t.now).sides patch []) side []) place) }
+    requires upto { place ≤ long_by (tables_of numbered.now.tables.now.sides.items) patch side }
+    ensures { result ≡ vertex_number (layout_in numbered.now) (lengths_by numbered.now)
+        (point_on (layout_in numbered.now) (lengths_by numbered.now)
+        (slice_index_or (slice_index_or (plan numbered.now.t.now).sides patch []) side []) place) }
 {
-    let starts = starts_on(&tables.sides, patch, side);
-    side_number(tables, t, side_of(t, patch, side), starts, place)
+    let starts = starts_on(&numbered.tables.sides, patch, side);
+    side_number(
+        numbered,
+        uses_on(&numbered.t.sides, patch, side),
+        starts,
+        place,
+    )
 }
 
 /// The number of grid point (i, j) of a patch.
-pub(crate) fn point_number(tables: &Tables, t: &TMesh, patch: usize, i: u32, j: u32) -> u32
-    requires numbering { IsNumbering (plan t.now) tables.now }
-    requires patch { patch < length t.now.patches.items }
-    requires column { i ≤ wide (layout_of (plan t.now)) (lengths_in tables.now.lengths.items) patch }
-    requires row { j ≤ high (layout_of (plan t.now)) (lengths_in tables.now.lengths.items) patch }
-    ensures { result ≡ vertex_number (layout_of (plan t.now)) (lengths_in tables.now.lengths.items)
-        (point (layout_of (plan t.now)) (lengths_in tables.now.lengths.items) patch i j) }
+pub(crate) fn point_number(numbered: &Numbered, patch: usize, i: u32, j: u32) -> u32
+    requires patch { patch < length numbered.now.t.now.patches.items }
+    requires column { i ≤ wide (layout_in numbered.now) (lengths_by numbered.now) patch }
+    requires row { j ≤ high (layout_in numbered.now) (lengths_by numbered.now) patch }
+    ensures { result ≡ vertex_number (layout_in numbered.now) (lengths_by numbered.now)
+        (point (layout_in numbered.now) (lengths_by numbered.now) patch i j) }
 {
-    let wide = size_at(tables, patch, 0);
-    let high = size_at(tables, patch, 3);
+    let wide = size_at(numbered, patch, 0);
+    let high = size_at(numbered, patch, 3);
     if j == 0 {
-        return border_number(tables, t, patch, 0, i);
+        return border_number(numbered, patch, 0, i);
     }
     if j == high {
-        return border_number(tables, t, patch, 2, wide - i);
+        return border_number(numbered, patch, 2, wide - i);
     }
     if i == 0 {
-        return border_number(tables, t, patch, 3, high - j);
+        return border_number(numbered, patch, 3, high - j);
     }
     if i == wide {
-        return border_number(tables, t, patch, 1, j);
+        return border_number(numbered, patch, 1, j);
     }
-    let nodes = tables.nodes + last_of(&tables.along.begin);
-    nodes + tables.inside.begin[patch] + ((j - 1) * (wide - 1) + (i - 1))
+    let nodes = numbered.tables.nodes + last_of(&numbered.tables.along.begin);
+    nodes + numbered.tables.inside.begin[patch] + ((j - 1) * (wide - 1) + (i - 1))
 }

@@ -3,11 +3,10 @@
 ghost use Rattle.std.specs.Prelude.{◌≡◌, ◌<◌, ◌-◌, length, slice_index};
 ghost use Rattle.def_layout.specs.Layouts.{Way};
 ghost use Rattle.def_layout.specs.Lengths.{size};
-ghost use Rattle.def_layout.specs.Plans.{layout_of, way_number, Plan};
-ghost use Rattle.def_remesh.specs.NewPoints.{lengths_in};
-ghost use Rattle.def_remesh.specs.Numberings.{HoldsFor, IsNumbering};
+ghost use Rattle.def_layout.specs.Plans.{way_number};
+ghost use Rattle.qm_stitch.specs.Lengthened.{layout_in, lengths_by};
 
-use def_remesh::Tables;
+use crate::numbered::Numbered;
 use qm_reach::starts_on;
 
 /// The end of the last run.
@@ -19,12 +18,11 @@ pub(crate) fn last_of(starts: &[u32]) -> u32
 }
 
 /// The length of a side of a patch.
-pub(crate) fn size_at(tables: &Tables, patch: usize, side: usize) -> u32
-    requires numbering { HoldsFor tables.now }
-    requires patch { patch < length tables.now.sides.items }
+pub(crate) fn size_at(numbered: &Numbered, patch: usize, side: usize) -> u32
+    requires patch { patch < length numbered.now.t.now.patches.items }
     requires side { side < 4 }
-    ensures { (plan : Plan) (way : Way) → IsNumbering plan tables.now → way_number way ≡ side
-        → result ≡ size (layout_of plan) (lengths_in tables.now.lengths.items) patch way }
+    ensures { (way : Way) → way_number way ≡ side
+        → result ≡ size (layout_in numbered.now) (lengths_by numbered.now) patch way }
 {
-    last_of(starts_on(&tables.sides, patch, side))
+    last_of(starts_on(&numbered.tables.sides, patch, side))
 }

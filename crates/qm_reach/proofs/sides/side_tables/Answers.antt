@@ -5,7 +5,12 @@ use Rattle.def_layout.specs.Plans.{plan}
 use Rattle.def_remesh.specs.NewPoints.{lengths_in}
 use Rattle.def_remesh.specs.Numberings.{tables_of}
 use Rattle.qm_reach.specs.Fours.{begins_of, AreFourStarts}
+use Rattle.qm_reach.proofs.Whole.{sides_of}
 use Rattle.qm_reach.proofs.sides.side_tables.Goals as goal
+
+pub invariant_of-summed : goal.invariant_of-summed
+invariant_of-summed c =
+    record { sides = sides_of (plan c.args.t.now) c.requires.layout; long = c.requires.long; small = c.requires.small }
 
 pub loop-patch-preserved : goal.loop-patch-preserved
 loop-patch-preserved c = record {

@@ -30,7 +30,7 @@ few t x is most p low =
     )
 
 product : (c : goal.After-from-in-loop-patch) → c.from.result * c.from-in-loop-patch.result
-    ≡ wide (layout_of (plan c.args.t.now)) (lengths_in c.args.lengths.now) c.loop-patch.patch * high (layout_of (plan c.args.t.now)) (lengths_in c.args.lengths.now) c.loop-patch.patch
+    ≡ wide (layout_of (plan c.args.stretched.now.t.now)) (lengths_in c.args.stretched.now.lengths.now) c.loop-patch.patch * high (layout_of (plan c.args.stretched.now.t.now)) (lengths_in c.args.stretched.now.lengths.now) c.loop-patch.patch
 product c =
     λ i. (c.from.ensures ∙ c.size_on-wide.ensures south refl) i * (c.from-in-loop-patch.ensures ∙ c.size_on-high.ensures west refl) i
 
@@ -40,8 +40,8 @@ overflow_add-faces c =
       arith,
       product c,
       c.loop-patch.invariant,
-      few c.args.t.now (lengths_in c.args.lengths.now) c.requires.layout c.requires.bounded c.loop-patch.patch
-          (omega (arith, c.loop-patch-test.true, c.len-patch-end.ensures, c.args.t.now.patches.ok.0)),
+      few c.args.stretched.now.t.now (lengths_in c.args.stretched.now.lengths.now) c.requires.layout c.args.stretched.now.bounded c.loop-patch.patch
+          (omega (arith, c.loop-patch-test.true, c.len-patch-end.ensures, c.args.stretched.now.t.now.patches.ok.0)),
     )
 
 pub loop-patch-preserved : goal.loop-patch-preserved
@@ -50,5 +50,5 @@ loop-patch-preserved c =
       arith,
       product c,
       c.loop-patch.invariant,
-      count_step (λ q. wide (layout_of (plan c.args.t.now)) (lengths_in c.args.lengths.now) q * high (layout_of (plan c.args.t.now)) (lengths_in c.args.lengths.now) q) c.loop-patch.patch,
+      count_step (λ q. wide (layout_of (plan c.args.stretched.now.t.now)) (lengths_in c.args.stretched.now.lengths.now) q * high (layout_of (plan c.args.stretched.now.t.now)) (lengths_in c.args.stretched.now.lengths.now) q) c.loop-patch.patch,
     )

@@ -1,18 +1,18 @@
 use Rattle.std.proofs.Common.{◌≡◌, ◌+◌, ◌-◌, ◌^◌, ◌<◌, arith}
 use Rattle.std.proofs.lemmas.List.{length-map}
 use Rattle.def_layout.specs.Arcs.{path}
-use Rattle.def_layout.specs.Plans.{layout_of, plan}
+use Rattle.def_layout.specs.Plans.{plan}
 use Rattle.def_written.specs.Numbers.{vertex_number}
 use Rattle.def_written.specs.Points.{arc_point}
-use Rattle.def_remesh.specs.NewPoints.{lengths_in}
 use Rattle.qm_stitch.proofs.Grids.{arc_here}
+use Rattle.qm_stitch.specs.Lengthened.{layout_in, lengths_by}
 use Rattle.qm_stitch.proofs.point.arc_number.Goals as goal
 
-here : (c : goal.After-row_known-2-1) → (c.args.tables.now.nodes + c.index-3.result.now + (c.args.k - 1)
-    ≡ vertex_number (layout_of (plan c.args.t.now)) (lengths_in c.args.tables.now.lengths.items) (arc_point (layout_of (plan c.args.t.now)) (lengths_in c.args.tables.now.lengths.items) c.args.arc c.args.k))
-    × (c.args.tables.now.nodes + c.index-3.result.now + (c.args.k - 1) < 2 ^ 23)
-here c = arc_here (plan c.args.t.now) c.args.tables.now c.requires.numbering c.args.arc c.args.k c.index-2.result.now c.index-3.result.now
-    (omega (arith, c.requires.arc, length-map c.args.t.now.arcs.items path)) c.requires.upto c.if-k-eq0.false c.if-k-index.false c.index-2.ensures c.index-3.ensures
+here : (c : goal.After-row_known-2-1) → (c.args.numbered.now.tables.now.nodes + c.index-3.result.now + (c.args.k - 1)
+    ≡ vertex_number (layout_in c.args.numbered.now) (lengths_by c.args.numbered.now) (arc_point (layout_in c.args.numbered.now) (lengths_by c.args.numbered.now) c.args.arc c.args.k))
+    × (c.args.numbered.now.tables.now.nodes + c.index-3.result.now + (c.args.k - 1) < 2 ^ 23)
+here c = arc_here (plan c.args.numbered.now.t.now) c.args.numbered.now.tables.now c.args.numbered.now.numbers c.args.arc c.args.k c.index-2.result.now c.index-3.result.now
+    (omega (arith, c.requires.arc, length-map c.args.numbered.now.t.now.arcs.items path)) c.requires.upto c.if-k-eq0.false c.if-k-index.false c.index-2.ensures c.index-3.ensures
 
 pub overflow_add-result : goal.overflow_add-result
 overflow_add-result c = omega (arith, (here c).1)

@@ -1,11 +1,9 @@
 use Rattle.std.proofs.Common.{◌≡◌, ◌+◌, ℕ, Bool, true, false, refl, ◌∙◌, arith}
 use Rattle.def_layout.specs.Layouts.{Layout}
 use Rattle.def_layout.specs.Lengths.{Lengths}
-use Rattle.def_layout.specs.Plans.{layout_of, plan}
 use Rattle.def_written.specs.Numbers.{vertex_number}
-use Rattle.def_remesh.specs.NewPoints.{lengths_in}
 use Rattle.qm_stitch.specs.Rims.{along_lines, key_of, line_edge, line_point, pair_key}
-use Rattle.qm_stitch.proofs.Grids.{size_short}
+use Rattle.qm_stitch.specs.Lengthened.{layout_in, lengths_by}
 use Rattle.qm_stitch.proofs.rim.key_at.Goals as goal
 
 key_is : (l : Layout) (x : Lengths) (u : Bool) (p n k : ℕ)
@@ -18,10 +16,10 @@ overflow_add-at c =
     omega (
       arith,
       c.requires.low,
-      size_short (plan c.args.t.now) c.args.tables.now c.requires.numbering c.args.line.patch (along_lines c.args.line.upright) c.requires.line.patch,
+      c.args.numbered.now.numbers.short c.args.line.patch (along_lines c.args.line.upright) c.requires.line.patch,
     )
 
 pub returns : goal.returns
 returns c =
     c.key_for.ensures ∙ (λ i. pair_key (c.line_point-from.ensures i) (c.line_point-to.ensures i))
-    ∙ key_is (layout_of (plan c.args.t.now)) (lengths_in c.args.tables.now.lengths.items) c.args.line.upright c.args.line.patch c.args.line.number c.args.at
+    ∙ key_is (layout_in c.args.numbered.now) (lengths_by c.args.numbered.now) c.args.line.upright c.args.line.patch c.args.line.number c.args.at

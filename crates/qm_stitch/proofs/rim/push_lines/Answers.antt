@@ -2,13 +2,12 @@ use Rattle.std.proofs.Common.{◌≡◌, ◌<◌, ◌-◌, ◌+◌, ◌++◌, �
 use Rattle.std.proofs.lemmas.List.{append-nil, length-map}
 use Rattle.def_cut.specs.Grids.{rectangle}
 use Rattle.def_layout.specs.Lengths.{size}
-use Rattle.def_layout.specs.Plans.{layout_of, plan}
+use Rattle.def_layout.specs.Plans.{plan}
 use Rattle.def_layout.specs.declared.tmesh.TMesh.{TMesh}
-use Rattle.def_remesh.specs.NewPoints.{lengths_in}
 use Rattle.qm_stitch.specs.Rims.{along_lines, key_of, keys_of, line_ends, lines_upto}
-use Rattle.qm_stitch.proofs.Grids.{laid}
 use Rattle.qm_stitch.proofs.RimLists.{parts_next}
 use Rattle.written_laws.proofs.Sides.{size_some}
+use Rattle.qm_stitch.specs.Lengthened.{layout_in, lengths_by}
 use Rattle.qm_stitch.proofs.rim.push_lines.Goals as goal
 
 low : (t : TMesh) (patch : ℕ) → patch < length t.patches.items → patch < length (plan t).patches
@@ -17,15 +16,17 @@ low t patch less = omega (arith, less, length-map t.patches.items rectangle)
 pub loop-number-init : goal.loop-number-init
 loop-number-init c = record {
   some = omega arith;
-  upto = size_some (layout_of (plan c.args.t.now)) (lengths_in c.args.tables.now.lengths.items) (laid (plan c.args.t.now) c.args.tables.now c.requires.numbering).paved
-      c.requires.numbering.lengths c.args.patch (along_lines (not c.args.upright)) (low c.args.t.now c.args.patch c.requires.patch);
+  upto = size_some (layout_in c.args.numbered.now) (lengths_by c.args.numbered.now) c.args.numbered.now.numbers.paved
+      c.args.numbered.now.numbers.lengths c.args.patch (along_lines (not c.args.upright)) (low c.args.numbered.now.t.now c.args.patch c.requires.patch);
   items = sym (append-nil c.args.keys.now.items);
 }
 
-pub push_line-requires-clause-line : goal.push_line-requires-clause-line
-push_line-requires-clause-line c = record {
-  patch = low c.args.t.now c.args.patch c.requires.patch;
-  inside = omega (arith, c.loop-number-test.true, c.size_at-number-end.ensures (plan c.args.t.now) (along_lines (not c.args.upright)) c.requires.numbering c.side_along.ensures.side);
+pub push_line-requires : goal.push_line-requires
+push_line-requires c = record {
+  line = record {
+    patch = low c.args.numbered.now.t.now c.args.patch c.requires.patch;
+    inside = omega (arith, c.loop-number-test.true, c.size_at-number-end.ensures (along_lines (not c.args.upright)) c.side_along.ensures.side);
+  };
 }
 
 pub loop-number-preserved : goal.loop-number-preserved
@@ -33,22 +34,22 @@ loop-number-preserved c =
     let back : c.loop-number.number - 1 + 1 ≡ c.loop-number.number + 1 - 1 = omega (arith, c.loop-number.invariant.some) in
     record {
       some = omega arith;
-      upto = omega (arith, c.loop-number-test.true, c.size_at-number-end.ensures (plan c.args.t.now) (along_lines (not c.args.upright)) c.requires.numbering c.side_along.ensures.side);
+      upto = omega (arith, c.loop-number-test.true, c.size_at-number-end.ensures (along_lines (not c.args.upright)) c.side_along.ensures.side);
       items = subst (λ (n : ℕ). c.push_line.new.keys.items ≡ c.args.keys.now.items
-          ++ keys_of (layout_of (plan c.args.t.now)) (lengths_in c.args.tables.now.lengths.items) (lines_upto (layout_of (plan c.args.t.now)) (lengths_in c.args.tables.now.lengths.items) c.args.upright c.args.patch n)) back
-          (parts_next (key_of (layout_of (plan c.args.t.now)) (lengths_in c.args.tables.now.lengths.items)) (line_ends c.args.upright c.args.patch (size (layout_of (plan c.args.t.now)) (lengths_in c.args.tables.now.lengths.items) c.args.patch (along_lines c.args.upright)))
+          ++ keys_of (layout_in c.args.numbered.now) (lengths_by c.args.numbered.now) (lines_upto (layout_in c.args.numbered.now) (lengths_by c.args.numbered.now) c.args.upright c.args.patch n)) back
+          (parts_next (key_of (layout_in c.args.numbered.now) (lengths_by c.args.numbered.now)) (line_ends c.args.upright c.args.patch (size (layout_in c.args.numbered.now) (lengths_by c.args.numbered.now) c.args.patch (along_lines c.args.upright)))
           1 (c.loop-number.number - 1) c.loop-number.number c.args.keys.now.items c.loop-number.keys.items c.push_line.new.keys.items
           (omega (arith, c.loop-number.invariant.some)) c.loop-number.invariant.items c.in_ok-push_line.ensures);
     }
 
 pub returns : goal.returns
 returns c =
-    let end : c.loop-number.number ≡ size (layout_of (plan c.args.t.now)) (lengths_in c.args.tables.now.lengths.items) c.args.patch (along_lines (not c.args.upright)) =
+    let end : c.loop-number.number ≡ size (layout_in c.args.numbered.now) (lengths_by c.args.numbered.now) c.args.patch (along_lines (not c.args.upright)) =
     omega (
       arith,
       c.loop-number.invariant.upto,
       c.loop-number-test.false,
-      c.size_at-number-end.ensures (plan c.args.t.now) (along_lines (not c.args.upright)) c.requires.numbering c.side_along.ensures.side,
+      c.size_at-number-end.ensures (along_lines (not c.args.upright)) c.side_along.ensures.side,
     ) in
     c.loop-number.invariant.items ∙ ap (λ n. c.args.keys.now.items
-    ++ keys_of (layout_of (plan c.args.t.now)) (lengths_in c.args.tables.now.lengths.items) (lines_upto (layout_of (plan c.args.t.now)) (lengths_in c.args.tables.now.lengths.items) c.args.upright c.args.patch (n - 1))) end
+    ++ keys_of (layout_in c.args.numbered.now) (lengths_by c.args.numbered.now) (lines_upto (layout_in c.args.numbered.now) (lengths_by c.args.numbered.now) c.args.upright c.args.patch (n - 1))) end

@@ -15,8 +15,8 @@ first_old t arc some read =
 
 pub returns-then-old-gt0 : goal.returns-then-old-gt0
 returns-then-old-gt0 c =
-    let some : 0 < length c.args.lengths.now = search rules in
-    times_found (plan c.args.t.now) c.args.lengths.now (omega (arith, c.requires.long, length-map c.args.t.now.arcs.items path)) c.requires.lengths c.are_times.result
-    c.len-old.result (lengths_in c.args.lengths.now 0 / c.len-old.result) some
-    (omega (arith, c.len-old.ensures, c.index.result.now.darts.ok.0, first_old c.args.t.now c.index.result.now (omega (arith, some, c.requires.long)) c.index.ensures))
+    let some : 0 < length c.args.stretched.now.lengths.now = search rules in
+    times_found (plan c.args.stretched.now.t.now) c.args.stretched.now.lengths.now (omega (arith, c.args.stretched.now.long, length-map c.args.stretched.now.t.now.arcs.items path)) c.args.stretched.now.even c.are_times.result
+    c.len-old.result (lengths_in c.args.stretched.now.lengths.now 0 / c.len-old.result) some
+    (omega (arith, c.len-old.ensures, c.index.result.now.darts.ok.0, first_old c.args.stretched.now.t.now c.index.result.now (omega (arith, some, c.args.stretched.now.long)) c.index.ensures))
     c.if-old-gt0.true refl c.are_times.ensures
