@@ -41,13 +41,13 @@ module _ (faces : Faces) (plan : Plan) (tables : PlaceTables) (are : ArePlaces f
       along_point : length plan.nodes ≤ v → v < length plan.nodes + before_arc (lengths_in tables.lengths.items) (length plan.arcs)
           → IsPoint (layout_of plan) (lengths_in tables.lengths.items) (point_at (layout_of plan) (lengths_in tables.lengths.items) v)
       along_point more less =
-          let on = on_arc faces plan tables are (v - length plan.nodes) _ (omega (arith, more, less)) refl in
+          let on = on_arc plan (lengths_in tables.lengths.items) (v - length plan.nodes) _ (omega (arith, more, less)) refl in
           subst (IsPoint (layout_of plan) (lengths_in tables.lengths.items)) (sym (at_arc faces plan tables are v more less)) (on.low, omega arith, on.upto)
 
       inside_point : length plan.nodes + before_arc (lengths_in tables.lengths.items) (length plan.arcs) ≤ v
           → IsPoint (layout_of plan) (lengths_in tables.lengths.items) (point_at (layout_of plan) (lengths_in tables.lengths.items) v)
       inside_point past =
-          let in_it = in_patch faces plan tables are (v - (length plan.nodes + before_arc (lengths_in tables.lengths.items) (length plan.arcs))) _ (omega (arith, past, low)) refl in
+          let in_it = in_patch plan (lengths_in tables.lengths.items) (v - (length plan.nodes + before_arc (lengths_in tables.lengths.items) (length plan.arcs))) _ (omega (arith, past, low)) refl in
           subst (IsPoint (layout_of plan) (lengths_in tables.lengths.items)) (sym (at_patch faces plan tables are v past))
           (in_it.low, omega arith, in_it.column, omega arith, in_it.row)
 

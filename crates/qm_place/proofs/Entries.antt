@@ -6,25 +6,22 @@ use Rattle.std.proofs.lemmas.Nat.{mul-le}
 use Rattle.def_cut.specs.Grids.{Rectangle, cell_of, patch_at, rectangle}
 use Rattle.def_cut.specs.declared.patch.Patch.{Patch}
 use Rattle.def_layout.specs.Arcs.{Path, dart_at, long_at, path}
-use Rattle.def_layout.specs.Layouts.{south, west}
+use Rattle.def_layout.specs.Layouts.{west}
 use Rattle.def_layout.specs.Lengths.{wide, high}
 use Rattle.def_layout.specs.Plans.{Plan, layout_of, plan}
 use Rattle.def_layout.specs.declared.tmesh.TArc.{TArc}
 use Rattle.def_layout.specs.declared.tmesh.TMesh.{TMesh}
-use Rattle.def_layoutnet.specs.MeshLayouts.{IsMeshLayout}
 use Rattle.def_written.specs.Numbers.{before_patch}
 use Rattle.def_remesh.specs.NewPoints.{lengths_in}
 use Rattle.def_remesh.specs.Numberings.{AreRunStarts}
-use Rattle.def_remesh.specs.Placings.{rim_at, ArePlaces, IsRim}
+use Rattle.def_remesh.specs.Placings.{rim_at, IsRim}
 use Rattle.def_remesh.specs.declared.places.PlaceTables.{PlaceTables}
 use Rattle.def_remesh.specs.declared.places.Rim.{Rim}
 use Rattle.def_math.specs.Counts.{count_below}
-use Rattle.def_mesh.specs.Faces.{Faces}
-use Rattle.qm_place.proofs.Rims.{dart_low, old_read, old_short}
+use Rattle.qm_place.proofs.Rims.{old_read}
+use Rattle.qm_place.specs.Placed.{ArePlaced}
 use Rattle.qm_place.specs.Spots.{HasRoom}
 use Rattle.qm_reach.proofs.Spots.{last_is}
-use Rattle.qm_reach.proofs.Whole.{laid_of, lengths_of}
-use Rattle.written_laws.proofs.Grid.{wide_some, high_some}
 
 -- Where a run begins.
 pub start_read : (f : ℕ → ℕ) (n k v : ℕ) (starts : List ℕ) → AreRunStarts f n starts → k < n → v ≡ get_or starts k v → v ≡ count_below f k
@@ -44,11 +41,11 @@ pub record IsOldArc (t : TMesh) (a : ℕ) (arc : TArc) : Type 0 where
   pub short : long_at (plan t).arcs a ≤ 2 ^ 21
   pub dart : (k parts : ℕ) → k < parts → k * long_at (plan t).arcs a / parts < long_at (plan t).arcs a
 
-pub arc_read : (t : TMesh) (a : ℕ) (arc : TArc) → IsMeshLayout (plan t) → a < length t.arcs.items → arc ≡ get_or t.arcs.items a arc → IsOldArc t a arc
-arc_read t a arc is low read = record {
+pub arc_read : (t : TMesh) (tables : PlaceTables) (a : ℕ) (arc : TArc) → ArePlaced (plan t) tables → a < length t.arcs.items → arc ≡ get_or t.arcs.items a arc → IsOldArc t a arc
+arc_read t tables a arc is low read = record {
   long = old_read t a arc low read;
-  short = old_short (plan t) is a a_low;
-  dart = λ k parts less. dart_low (plan t) is a k parts a_low less;
+  short = is.arcs a a_low;
+  dart = λ k parts less. is.darts a k parts a_low less;
 }
   where
     a_low : a < length (plan t).arcs
@@ -63,15 +60,15 @@ pub record IsOldPatch (t : TMesh) (p : ℕ) (patch : Patch) : Type 0 where
   pub tall : 0 < patch.h
   pub cells : length patch.cells.items ≡ patch.h * patch.w
 
-pub patch_read : (t : TMesh) (p : ℕ) (patch : Patch) → IsMeshLayout (plan t) → p < length t.patches.items → patch ≡ get_or t.patches.items p patch
+pub patch_read : (t : TMesh) (tables : PlaceTables) (p : ℕ) (patch : Patch) → ArePlaced (plan t) tables → p < length t.patches.items → patch ≡ get_or t.patches.items p patch
     → IsOldPatch t p patch
-patch_read t p patch is low read = record {
+patch_read t tables p patch is low read = record {
   same = same;
   wide = wide_is;
   high = high_is;
-  some = omega (arith, wide_is, wide_some (layout_of (plan t)) (long_at (plan t).arcs) (laid_of (plan t) is).paved (lengths_of (plan t) is) p p_low);
-  tall = omega (arith, high_is, high_some (layout_of (plan t)) (long_at (plan t).arcs) (laid_of (plan t) is).paved (lengths_of (plan t) is) p p_low);
-  cells = ap (λ (r : Rectangle). length r.cells) same ∙ is.laid.patches.sized p p_low
+  some = omega (arith, wide_is, (is.patches p p_low).some);
+  tall = omega (arith, high_is, (is.patches p p_low).tall);
+  cells = ap (λ (r : Rectangle). length r.cells) same ∙ (is.patches p p_low).cells
       ∙ (λ k. (sym same k).h * (sym same k).w);
 }
   where
@@ -82,10 +79,10 @@ patch_read t p patch is low read = record {
     same = ap rectangle read ∙ sym (get_or-map rectangle t.patches.items p patch (record { w = 0; h = 0; cells = [] }) low)
 
     wide_is : patch.w ≡ wide (layout_of (plan t)) (long_at (plan t).arcs) p
-    wide_is = ap (λ (r : Rectangle). r.w) same ∙ sym (is.laid.sizes p south p_low)
+    wide_is = ap (λ (r : Rectangle). r.w) same ∙ (is.patches p p_low).width
 
     high_is : patch.h ≡ high (layout_of (plan t)) (long_at (plan t).arcs) p
-    high_is = ap (λ (r : Rectangle). r.h) same ∙ sym (is.laid.sizes p west p_low)
+    high_is = ap (λ (r : Rectangle). r.h) same ∙ (is.patches p p_low).height
 
 -- A cell of a patch.
 pub cell_low : (t : TMesh) (p a b : ℕ) (patch : Patch) → IsOldPatch t p patch → a < patch.w → b < patch.h → b * patch.w + a < length patch.cells.items
@@ -105,9 +102,9 @@ pub rim_read : (plan : Plan) (tables : PlaceTables) (p : ℕ) (rim : Rim) → le
     → rim ≡ get_or tables.rims.items p rim → rim ≡ rim_at tables.rims.items p
 rim_read plan tables p rim rimmed low read = get_or_read tables.rims.items p rim (omega (arith, rimmed, low)) read (record { wide = 0; high = 0; begin = 0 })
 
-pub rim_room : (faces : Faces) (plan : Plan) (tables : PlaceTables) (are : ArePlaces faces plan tables) (p : ℕ) (rim : Rim) (list : List ℕ) → p < length plan.patches
+pub rim_room : (plan : Plan) (tables : PlaceTables) (p : ℕ) (rim : Rim) (list : List ℕ) → p < length plan.patches
     → IsRim plan (lengths_in tables.lengths.items) p rim tables.parameters.items → list ≡ tables.parameters.items → HasRoom rim list
-rim_room faces plan tables are p rim list low is same =
+rim_room plan tables p rim list low is same =
     omega (arith, (is.sides west).room, is.wide, is.high, ap (λ (xs : List ℕ). length xs) same)
 
 -- Where the last run ends.
@@ -126,9 +123,9 @@ pub record IsOffset (plan : Plan) (tables : PlaceTables) (patch begin columns : 
   pub begin_is : begin ≡ before_patch (layout_of plan) (lengths_in tables.lengths.items) patch
   pub columns_are : columns ≡ wide (layout_of plan) (lengths_in tables.lengths.items) patch
 
-pub offset_read : (faces : Faces) (plan : Plan) (tables : PlaceTables) (are : ArePlaces faces plan tables) (patch begin : ℕ) (rim : Rim) → patch < length plan.patches
+pub offset_read : (plan : Plan) (tables : PlaceTables) (are : ArePlaced plan tables) (patch begin : ℕ) (rim : Rim) → patch < length plan.patches
     → begin ≡ get_or tables.inside.begin.items patch begin → rim ≡ get_or tables.rims.items patch rim → IsOffset plan tables patch begin rim.wide
-offset_read faces plan tables are patch begin rim low begin_read rim_is = record {
+offset_read plan tables are patch begin rim low begin_read rim_is = record {
   begin_is = start_read (λ p. (wide (layout_of plan) (lengths_in tables.lengths.items) p - 1) * (high (layout_of plan) (lengths_in tables.lengths.items) p - 1))
       (length plan.patches) patch begin tables.inside.begin.items are.inside low begin_read;
   columns_are = ap (λ (r : Rim). r.wide) (rim_read plan tables patch rim are.rimmed low rim_is) ∙ (are.rims patch low).wide;

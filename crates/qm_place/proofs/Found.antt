@@ -9,7 +9,7 @@ use Rattle.def_mesh.specs.Faces.{Faces}
 use Rattle.def_mesh.specs.Vertices.{vertex_count}
 use Rattle.def_cut.specs.Grids.{cell_of, patch_at}
 use Rattle.def_layout.specs.Arcs.{dart_at, long_at}
-use Rattle.def_layout.specs.Layouts.{west, Layout}
+use Rattle.def_layout.specs.Layouts.{south, west, Layout}
 use Rattle.def_layout.specs.Lengths.{Lengths, wide, high}
 use Rattle.def_layout.specs.Nodes.{is_node}
 use Rattle.def_layout.specs.Plans.{Plan, layout_of, vertex_at}
@@ -25,7 +25,8 @@ use Rattle.def_remesh.specs.declared.places.PlaceTables.{PlaceTables}
 use Rattle.list_laws.proofs.Filters.{kept_at, IsKept}
 use Rattle.written_laws.proofs.Runs.{run_here, IsInRun}
 use Rattle.qm_place.proofs.OldPoints.{corners, ends, AreCorners, AreEnds}
-use Rattle.qm_place.proofs.Rims.{dart_low}
+use Rattle.qm_place.proofs.Rims.{dart_low, old_short}
+use Rattle.qm_place.specs.Placed.{ArePlaced, IsSized}
 use Rattle.qm_place.specs.Spots.{arc_spot_at, between_ends, cell_spot_at, coordinate_at, in_face, on_axes, IsAlong, IsInside, IsSpotOf}
 use Rattle.qm_place.specs.declared.axes.Spot.TheVariants.{Vertex, OnArc, InPatch}
 use Rattle.qm_place.specs.declared.axes.ArcSpot.{ArcSpot}
@@ -36,6 +37,39 @@ use Rattle.qm_reach.proofs.Whole.{laid_of, lengths_of}
 use Rattle.written_laws.proofs.Between.{rest_most, u_most, v_most}
 use Rattle.written_laws.proofs.EdgeNumbers.{in_rows}
 use Rattle.written_laws.proofs.Grid.{wide_some, high_some}
+
+module _ (plan : Plan) (new : Lengths) where
+  -- Where a number of a vertex leads.
+  pub on_arc : (place arc : ℕ) → place < before_arc new (length plan.arcs)
+      → arc ≡ run_at (before_arc new) (length plan.arcs) place → IsAlong plan new arc place
+  on_arc place arc low same = subst (λ a. IsAlong plan new a place) (sym same) (record {
+    low = here.low;
+    from = omega (arith, here.place);
+    upto = omega (arith, here.inside);
+  })
+    where
+      here : IsInRun (λ b. new b - 1) (length plan.arcs) place (run_at (before_arc new) (length plan.arcs) place) (place - before_arc new (run_at (before_arc new) (length plan.arcs) place))
+      here = run_here (λ b. new b - 1) (length plan.arcs) place low
+
+  pub in_patch : (place patch : ℕ) → place < before_patch (layout_of plan) new (length plan.patches)
+      → patch ≡ run_at (before_patch (layout_of plan) new) (length plan.patches) place
+      → IsInside plan new patch place
+  in_patch place patch low same =
+      subst (λ p. IsInside plan new p place) (sym same) (by_run _ _ (run_here (λ q. (wide (layout_of plan) new q - 1) * (high (layout_of plan) new q - 1)) (length plan.patches) place low))
+    where
+      by_run : (p o : ℕ) → IsInRun (λ q. (wide (layout_of plan) new q - 1) * (high (layout_of plan) new q - 1)) (length plan.patches) place p o → IsInside plan new p place
+      by_run p o here =
+          let offset : place - before_patch (layout_of plan) new p ≡ o = omega (arith, here.place) in
+          let less : o < (high (layout_of plan) new p - 1) * (wide (layout_of plan) new p - 1) =
+          subst (λ n. o < n) (mul_comm (wide (layout_of plan) new p - 1) (high (layout_of plan) new p - 1)) here.inside in
+          let rows = in_rows (wide (layout_of plan) new p - 1) (high (layout_of plan) new p - 1) o less in
+          record {
+            low = here.low;
+            from = omega (arith, here.place);
+            column = omega (arith, ap (λ k. k % (wide (layout_of plan) new p - 1)) offset, rows.0);
+            row = omega (arith, ap (λ k. k / (wide (layout_of plan) new p - 1)) offset, rows.1);
+            some = omega (arith, rows.0);
+          }
 
 module _ (faces : Faces) (plan : Plan) (tables : PlaceTables) (are : ArePlaces faces plan tables) where
   abbrev l : Layout
@@ -53,38 +87,6 @@ module _ (faces : Faces) (plan : Plan) (tables : PlaceTables) (are : ArePlaces f
   -- All numbers are small.
   pub few_points : vertices (layout_of plan) (lengths_in tables.lengths.items) ≤ 2 ^ 23
   few_points = omega (arith, vertices_few l new (laid_of plan is) are.lengths, are.few)
-
-  -- Where a number of a vertex leads.
-  pub on_arc : (place arc : ℕ) → place < before_arc (lengths_in tables.lengths.items) (length plan.arcs)
-      → arc ≡ run_at (before_arc (lengths_in tables.lengths.items)) (length plan.arcs) place → IsAlong plan (lengths_in tables.lengths.items) arc place
-  on_arc place arc low same = subst (λ a. IsAlong plan new a place) (sym same) (record {
-    low = here.low;
-    from = omega (arith, here.place);
-    upto = omega (arith, here.inside);
-  })
-    where
-      here : IsInRun (λ b. new b - 1) (length plan.arcs) place (run_at (before_arc new) (length plan.arcs) place) (place - before_arc new (run_at (before_arc new) (length plan.arcs) place))
-      here = run_here (λ b. new b - 1) (length plan.arcs) place low
-
-  pub in_patch : (place patch : ℕ) → place < before_patch (layout_of plan) (lengths_in tables.lengths.items) (length plan.patches)
-      → patch ≡ run_at (before_patch (layout_of plan) (lengths_in tables.lengths.items)) (length plan.patches) place
-      → IsInside plan (lengths_in tables.lengths.items) patch place
-  in_patch place patch low same =
-      subst (λ p. IsInside plan new p place) (sym same) (by_run _ _ (run_here (λ q. (wide l new q - 1) * (high l new q - 1)) (length plan.patches) place low))
-    where
-      by_run : (p o : ℕ) → IsInRun (λ q. (wide l new q - 1) * (high l new q - 1)) (length plan.patches) place p o → IsInside plan new p place
-      by_run p o here =
-          let offset : place - before_patch l new p ≡ o = omega (arith, here.place) in
-          let less : o < (high l new p - 1) * (wide l new p - 1) =
-          subst (λ n. o < n) (mul_comm (wide l new p - 1) (high l new p - 1)) here.inside in
-          let rows = in_rows (wide l new p - 1) (high l new p - 1) o less in
-          record {
-            low = here.low;
-            from = omega (arith, here.place);
-            column = omega (arith, ap (λ k. k % (wide l new p - 1)) offset, rows.0);
-            row = omega (arith, ap (λ k. k / (wide l new p - 1)) offset, rows.1);
-            some = omega (arith, rows.0);
-          }
 
   -- The vertex of a node is one of the mesh.
   pub vertex_low : (n : ℕ) → n < length plan.nodes → vertex_at plan n < vertex_count faces
@@ -116,6 +118,32 @@ module _ (faces : Faces) (plan : Plan) (tables : PlaceTables) (are : ArePlaces f
 
   pub patch_short : (p : ℕ) → p < length plan.patches → high (layout_of plan) (lengths_in tables.lengths.items) p ≤ 2 ^ 21
   patch_short p low = omega (arith, side_few l new (laid_of plan is) are.lengths p west low, are.few)
+
+  -- What is read of the tables.
+  sized : (p : ℕ) → p < length plan.patches → IsSized plan p
+  sized p low = record {
+    width = sym (is.laid.sizes p south low);
+    height = sym (is.laid.sizes p west low);
+    some = wide_some l old (laid_of plan is).paved (lengths_of plan is) p low;
+    tall = high_some l old (laid_of plan is).paved (lengths_of plan is) p low;
+    cells = is.laid.patches.sized p low;
+  }
+
+  pub placed_of : ArePlaced plan tables
+  placed_of = record {
+    arcs = old_short plan is;
+    darts = dart_low plan is;
+    patches = sized;
+    long = are.long;
+    lengths = are.lengths;
+    few = few_points;
+    short = new_short;
+    low = patch_short;
+    along = are.along;
+    inside = are.inside;
+    rimmed = are.rimmed;
+    rims = are.rims;
+  }
 
   -- A point of an arc lies on the dart that is found.
   pub record IsOnDart (arc k : ℕ) (spot : ArcSpot) : Type 0 where
@@ -193,7 +221,7 @@ module _ (faces : Faces) (plan : Plan) (tables : PlaceTables) (are : ArePlaces f
       (at.low, at.some, at.parts, λ places. at.place places ∙ ap (λ a. on_axes (new_coordinate faces plan places new a)) point)
     where
       lies_on : IsAlong plan new arc place
-      lies_on = on_arc place arc low same
+      lies_on = on_arc plan new place arc low same
 
       at : IsOnDart arc (place - before_arc new arc + 1) spot
       at = subst (IsOnDart arc (place - before_arc new arc + 1)) (sym spot_is) (on_dart arc (place - before_arc new arc + 1) lies_on.low lies_on.upto)
@@ -217,7 +245,7 @@ module _ (faces : Faces) (plan : Plan) (tables : PlaceTables) (are : ArePlaces f
       (at.low, at.s_low, at.t_low, λ places. at.place places ∙ ap (λ a. on_axes (new_coordinate faces plan places new a)) point)
     where
       lies_in : IsInside plan new patch place
-      lies_in = in_patch place patch low same
+      lies_in = in_patch plan new place patch low same
 
       at : IsInCell patch ((place - before_patch l new patch) % (wide l new patch - 1) + 1) ((place - before_patch l new patch) / (wide l new patch - 1) + 1) spot
       at = subst (IsInCell patch ((place - before_patch l new patch) % (wide l new patch - 1) + 1) ((place - before_patch l new patch) / (wide l new patch - 1) + 1)) (sym spot_is)

@@ -1,2 +1,4 @@
+pub mod Lengthened
+pub mod Placed
 pub mod Pushed
 pub mod Spots

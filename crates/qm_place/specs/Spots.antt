@@ -12,8 +12,7 @@ use Rattle.def_layout.specs.Plans.{Plan, layout_of}
 use Rattle.def_written.specs.Numbers.{before_arc, before_patch}
 use Rattle.def_written.specs.Places.{ONE, blend, cell_at, on_the_way, parameter_u, parameter_v, rest_at}
 use Rattle.def_remesh.specs.NewSoup.{new_place}
-use Rattle.def_remesh.specs.Placings.{coordinate_in, rim_at, ArePlaces}
-use Rattle.def_remesh.specs.declared.places.PlaceTables.{PlaceTables}
+use Rattle.def_remesh.specs.Placings.{coordinate_in, rim_at}
 use Rattle.def_remesh.specs.declared.places.Rim.{Rim}
 use Rattle.qm_place.specs.declared.axes.ArcSpot.{ArcSpot}
 use Rattle.qm_place.specs.declared.axes.CellSpot.{CellSpot}
@@ -53,10 +52,6 @@ HasRoom rim parameters = rim.begin + 2 * (rim.wide + rim.high) ≤ length parame
 -- How many points lie inside a patch.
 abbrev pub inner_of : (rims : List Rim) (patch : ℕ) → ℕ
 inner_of rims patch = ((rim_at rims patch).wide - 1) * ((rim_at rims patch).high - 1)
-
--- The tables tell the places of the points of a layout in some mesh.
-abbrev pub AreSomePlaces : (plan : Plan) (tables : PlaceTables) → Type 0
-AreSomePlaces plan tables = (faces : Faces) × ArePlaces faces plan tables
 
 -- Place k of so many of an arc: on which dart, and how far along it.
 abbrev pub arc_spot_by : (plan : Plan) (arc k parts : ℕ) → ArcSpot

@@ -2,16 +2,15 @@
 
 ghost use Rattle.std.specs.Prelude.{◌≡◌, ◌<◌, ◌≤◌, ◌^◌, length, ℕ};
 ghost use Rattle.def_mesh.specs.Darts.{darts};
-ghost use Rattle.def_mesh.specs.Vertices.{vertex_count};
 ghost use Rattle.def_written.specs.Places.{ONE};
 ghost use Rattle.def_layout.specs.Lengths.{Lengths};
 ghost use Rattle.def_layout.specs.Plans.{Plan};
 ghost use Rattle.def_remesh.specs.NewSoup.{new_place};
 ghost use Rattle.qm_place.specs.Spots.{between_ends, coordinate_at, in_face, on_axes, IsSomeSpot, IsSpotOf};
 
+use crate::old::OldMesh;
 use crate::ways::{blend, on_the_way};
 use def_text::Micro;
-use qm_mesh::Mesh;
 
 /// Between the ends of a dart, some of so many equal parts from its beginning.
 #[derive(Clone, Copy)]
@@ -38,16 +37,15 @@ pub(crate) enum Spot {
 }
 
 /// The place of a new vertex that lies there.
-pub(crate) fn place_there(mesh: &Mesh, pos: &[[Micro; 3]], spot: Spot) -> [Micro; 3]
-    requires positions { length pos.now ≡ vertex_count mesh.now }
-    requires spot { IsSomeSpot mesh.now spot }
-    ensures { (plan : Plan) (new : Lengths) (v : ℕ) → IsSpotOf mesh.now plan new v spot
-        → result ≡ new_place mesh.now plan pos.now new v }
+pub(crate) fn place_there(old: &OldMesh, spot: Spot) -> [Micro; 3]
+    requires spot { IsSomeSpot old.now.mesh.now spot }
+    ensures { (plan : Plan) (new : Lengths) (v : ℕ) → IsSpotOf old.now.mesh.now plan new v spot
+        → result ≡ new_place old.now.mesh.now plan old.now.pos.now new v }
 {
     match spot {
-        Spot::Vertex(v) => vertex_place(pos, v),
-        Spot::OnArc(spot) => way_place(mesh, pos, spot),
-        Spot::InPatch(spot) => cell_place(mesh, pos, spot),
+        Spot::Vertex(v) => vertex_place(old.pos, v),
+        Spot::OnArc(spot) => way_place(old, spot),
+        Spot::InPatch(spot) => cell_place(old, spot),
     }
 }
 
@@ -61,12 +59,12 @@ fn vertex_place(pos: &[[Micro; 3]], v: u32) -> [Micro; 3]
 }
 
 /// A place between the ends of a dart.
-fn way_place(mesh: &Mesh, pos: &[[Micro; 3]], spot: ArcSpot) -> [Micro; 3]
-    requires positions { length pos.now ≡ vertex_count mesh.now }
-    requires dart { spot.dart < darts mesh.now }
+fn way_place(old: &OldMesh, spot: ArcSpot) -> [Micro; 3]
+    requires dart { spot.dart < darts old.now.mesh.now }
     requires parts { (spot.some < spot.parts) × (spot.parts ≤ 2 ^ 31) }
-    ensures { result ≡ on_axes (between_ends mesh.now pos.now spot.dart spot.some spot.parts) }
+    ensures { result ≡ on_axes (between_ends old.now.mesh.now old.now.pos.now spot.dart spot.some spot.parts) }
 {
+    let (mesh, pos) = (old.mesh, old.pos);
     let [px, py, pz] = pos[mesh.from(spot.dart) as usize];
     let [qx, qy, qz] = pos[mesh.to(spot.dart) as usize];
     [
@@ -77,12 +75,12 @@ fn way_place(mesh: &Mesh, pos: &[[Micro; 3]], spot: ArcSpot) -> [Micro; 3]
 }
 
 /// A place in a face.
-fn cell_place(mesh: &Mesh, pos: &[[Micro; 3]], spot: CellSpot) -> [Micro; 3]
-    requires positions { length pos.now ≡ vertex_count mesh.now }
-    requires dart { spot.dart < darts mesh.now }
+fn cell_place(old: &OldMesh, spot: CellSpot) -> [Micro; 3]
+    requires dart { spot.dart < darts old.now.mesh.now }
     requires inside { (spot.s ≤ ONE) × (spot.t ≤ ONE) }
-    ensures { result ≡ on_axes (in_face mesh.now pos.now spot.dart spot.s spot.t) }
+    ensures { result ≡ on_axes (in_face old.now.mesh.now old.now.pos.now spot.dart spot.s spot.t) }
 {
+    let (mesh, pos) = (old.mesh, old.pos);
     let east = mesh.next(spot.dart);
     let north = mesh.next(east);
     let west = mesh.next(north);

@@ -4,10 +4,13 @@
 mod axes;
 mod find;
 mod grid;
+mod old;
+mod placed;
 mod places;
 mod sides;
 mod spots;
 mod ways;
 
 pub use find::Near;
-pub use places::{OldMesh, Places, place, placer};
+pub use old::OldMesh;
+pub use places::{Places, place, placer};

@@ -17,6 +17,8 @@ ghost use Rattle.qm_place.specs.Spots.{inner_of};
 
 use crate::axes::place_there;
 use crate::find::{Near, arcs_end, find};
+use crate::old::OldMesh;
+use crate::placed::Placed;
 use crate::sides::sides_of;
 use def_layout::TMesh;
 use def_remesh::{PlaceTables, Rim, RunStarts};
@@ -25,14 +27,6 @@ use qm_mesh::Mesh;
 use qm_reach::{inner_points, no_starts, push_start, short_lengths};
 use std::alloc::{AllocError, Global};
 use std::marker::Model;
-
-/// A mesh with its layout, and a position for each of its vertices.
-#[derive(Clone, Copy)]
-pub struct OldMesh<'a> {
-    pub mesh: &'a Mesh,
-    pub t: &'a TMesh,
-    pub pos: &'a [[Micro; 3]],
-}
 
 /// The places of the vertices of a new mesh. Contracts see the tables.
 #[derive(Debug, Drop)]
@@ -125,7 +119,9 @@ impl Places {
         ensures { result ≡ vertices (layout_of (plan t.now)) (lengths_in self.now.lengths.items) }
     {
         let inside = &self.tables.inside.begin;
-        arcs_end(&self.tables, t) + inside[inside.len() - 1]
+        let tables = &self.tables;
+        let placed = Placed { t, tables };
+        arcs_end(&placed) + inside[inside.len() - 1]
     }
 
     /// The place of the new vertex v. Logarithmic.
@@ -143,12 +139,13 @@ impl Places {
     /// The same, and where it was found. In constant time where it is near the last one, else logarithmic.
     pub fn place_near(&self, old: &OldMesh, v: u32, near: &mut Near) -> [Micro; 3]
         requires places { ArePlaces old.now.mesh.now (plan old.now.t.now) self.now }
-        requires positions { length old.now.pos.now ≡ vertex_count old.now.mesh.now }
         requires vertex { v < vertices (layout_of (plan old.now.t.now)) (lengths_in self.now.lengths.items) }
         ensures value { result ≡ new_place old.now.mesh.now (plan old.now.t.now) old.now.pos.now
             (lengths_in self.now.lengths.items) v }
         ensures between { LiesBetween old.now.pos.now result }
     {
-        place_there(old.mesh, old.pos, find(&self.tables, old.t, v, near))
+        let tables = &self.tables;
+        let placed = Placed { t: old.t, tables };
+        place_there(old, find(&placed, v, near))
     }
 }

@@ -7,7 +7,7 @@ use Rattle.qm_place.proofs.spots.arc_spot.Goals as goal
 
 pub overflow_mul-way : goal.overflow_mul-way
 overflow_mul-way c =
-    let old = arc_read c.args.t.now c.args.arc c.index.result.now c.requires.layout c.requires.arc c.index.ensures in
+    let old = arc_read c.args.placed.now.t.now c.args.placed.now.tables.now c.args.arc c.index.result.now c.args.placed.now.placed c.requires.arc c.index.ensures in
     let long = c.len.ensures ∙ c.index.result.now.darts.ok.0 ∙ old.long in
     omega (
       arith,
@@ -16,19 +16,19 @@ overflow_mul-way c =
 
 pub index-requires-2 : goal.index-requires-2
 index-requires-2 c =
-    let old = arc_read c.args.t.now c.args.arc c.index.result.now c.requires.layout c.requires.arc c.index.ensures in
+    let old = arc_read c.args.placed.now.t.now c.args.placed.now.tables.now c.args.arc c.index.result.now c.args.placed.now.placed c.requires.arc c.index.ensures in
     let long = c.len.ensures ∙ c.index.result.now.darts.ok.0 ∙ old.long in
-    let place : c.from.result * c.len.result / c.from-2.result ≡ c.args.k * long_at (plan c.args.t.now).arcs c.args.arc / c.args.parts =
+    let place : c.from.result * c.len.result / c.from-2.result ≡ c.args.k * long_at (plan c.args.placed.now.t.now).arcs c.args.arc / c.args.parts =
     λ i. c.from.ensures i * long i / c.from-2.ensures i in
     omega (arith, place, old.dart c.args.k c.args.parts c.requires.place.0, old.long, c.index.result.now.darts.ok.0)
 
 pub returns : goal.returns
 returns c =
-    let old = arc_read c.args.t.now c.args.arc c.index.result.now c.requires.layout c.requires.arc c.index.ensures in
+    let old = arc_read c.args.placed.now.t.now c.args.placed.now.tables.now c.args.arc c.index.result.now c.args.placed.now.placed c.requires.arc c.index.ensures in
     let long = c.len.ensures ∙ c.index.result.now.darts.ok.0 ∙ old.long in
-    let place : c.from.result * c.len.result / c.from-2.result ≡ c.args.k * long_at (plan c.args.t.now).arcs c.args.arc / c.args.parts =
+    let place : c.from.result * c.len.result / c.from-2.result ≡ c.args.k * long_at (plan c.args.placed.now.t.now).arcs c.args.arc / c.args.parts =
     λ i. c.from.ensures i * long i / c.from-2.ensures i in
     let less : c.from.result * c.len.result / c.from-2.result < length c.index.result.now.darts.items =
     omega (arith, place, old.dart c.args.k c.args.parts c.requires.place.0, old.long) in
-    let dart = dart_read c.args.t.now c.args.arc _ _ c.index.result.now c.index-2.result.now c.requires.arc c.index.ensures less c.index-2.ensures place in
+    let dart = dart_read c.args.placed.now.t.now c.args.arc _ _ c.index.result.now c.index-2.result.now c.requires.arc c.index.ensures less c.index-2.ensures place in
     λ i. record { dart = dart i; some = c.from.ensures i * long i % c.from-3.ensures i; parts = c.args.parts }

@@ -13,70 +13,70 @@ use Rattle.qm_place.proofs.spots.cell_spot.Goals as goal
 
 pub across-u-requires-clause-room : goal.across-u-requires-clause-room
 across-u-requires-clause-room c =
-    let are = c.requires.places.1 in
-    let x = lengths_in c.args.tables.now.lengths.items in
-    let p_low : c.args.patch < length (plan c.args.t.now).patches = omega (arith, c.requires.patch, length-map c.args.t.now.patches.items rectangle) in
-    let rim : c.index-rim.result.now ≡ rim_at c.args.tables.now.rims.items c.args.patch =
-    rim_read (plan c.args.t.now) c.args.tables.now c.args.patch c.index-rim.result.now are.rimmed p_low c.index-rim.ensures in
-    let is : IsRim (plan c.args.t.now) x c.args.patch c.index-rim.result.now c.args.tables.now.parameters.items =
-    subst (λ (r : Rim). IsRim (plan c.args.t.now) x c.args.patch r c.args.tables.now.parameters.items) (sym rim) (are.rims c.args.patch p_low) in
-    rim_room c.requires.places.0 (plan c.args.t.now) c.args.tables.now are c.args.patch c.index-rim.result.now c.deref.result.now p_low is c.deref.ensures.value
+    let are = c.args.placed.now.placed in
+    let x = lengths_in c.args.placed.now.tables.now.lengths.items in
+    let p_low : c.args.patch < length (plan c.args.placed.now.t.now).patches = omega (arith, c.requires.patch, length-map c.args.placed.now.t.now.patches.items rectangle) in
+    let rim : c.index-rim.result.now ≡ rim_at c.args.placed.now.tables.now.rims.items c.args.patch =
+    rim_read (plan c.args.placed.now.t.now) c.args.placed.now.tables.now c.args.patch c.index-rim.result.now are.rimmed p_low c.index-rim.ensures in
+    let is : IsRim (plan c.args.placed.now.t.now) x c.args.patch c.index-rim.result.now c.args.placed.now.tables.now.parameters.items =
+    subst (λ (r : Rim). IsRim (plan c.args.placed.now.t.now) x c.args.patch r c.args.placed.now.tables.now.parameters.items) (sym rim) (are.rims c.args.patch p_low) in
+    rim_room (plan c.args.placed.now.t.now) c.args.placed.now.tables.now c.args.patch c.index-rim.result.now c.deref.result.now p_low is c.deref.ensures.value
 
 pub upright-v-requires-clause-room : goal.upright-v-requires-clause-room
 upright-v-requires-clause-room c =
-    let are = c.requires.places.1 in
-    let x = lengths_in c.args.tables.now.lengths.items in
-    let p_low : c.args.patch < length (plan c.args.t.now).patches = omega (arith, c.requires.patch, length-map c.args.t.now.patches.items rectangle) in
-    let rim : c.index-rim.result.now ≡ rim_at c.args.tables.now.rims.items c.args.patch =
-    rim_read (plan c.args.t.now) c.args.tables.now c.args.patch c.index-rim.result.now are.rimmed p_low c.index-rim.ensures in
-    let is : IsRim (plan c.args.t.now) x c.args.patch c.index-rim.result.now c.args.tables.now.parameters.items =
-    subst (λ (r : Rim). IsRim (plan c.args.t.now) x c.args.patch r c.args.tables.now.parameters.items) (sym rim) (are.rims c.args.patch p_low) in
-    rim_room c.requires.places.0 (plan c.args.t.now) c.args.tables.now are c.args.patch c.index-rim.result.now c.deref-2.result.now p_low is c.deref-2.ensures.value
+    let are = c.args.placed.now.placed in
+    let x = lengths_in c.args.placed.now.tables.now.lengths.items in
+    let p_low : c.args.patch < length (plan c.args.placed.now.t.now).patches = omega (arith, c.requires.patch, length-map c.args.placed.now.t.now.patches.items rectangle) in
+    let rim : c.index-rim.result.now ≡ rim_at c.args.placed.now.tables.now.rims.items c.args.patch =
+    rim_read (plan c.args.placed.now.t.now) c.args.placed.now.tables.now c.args.patch c.index-rim.result.now are.rimmed p_low c.index-rim.ensures in
+    let is : IsRim (plan c.args.placed.now.t.now) x c.args.patch c.index-rim.result.now c.args.placed.now.tables.now.parameters.items =
+    subst (λ (r : Rim). IsRim (plan c.args.placed.now.t.now) x c.args.patch r c.args.placed.now.tables.now.parameters.items) (sym rim) (are.rims c.args.patch p_low) in
+    rim_room (plan c.args.placed.now.t.now) c.args.placed.now.tables.now c.args.patch c.index-rim.result.now c.deref-2.result.now p_low is c.deref-2.ensures.value
 
 pub cell_at-a-requires : goal.cell_at-a-requires
 cell_at-a-requires c =
-    let are = c.requires.places.1 in
-    let old = patch_read c.args.t.now c.args.patch c.index-old.result.now are.layout.0 c.requires.patch c.index-old.ensures in
+    let are = c.args.placed.now.placed in
+    let old = patch_read c.args.placed.now.t.now c.args.placed.now.tables.now c.args.patch c.index-old.result.now are c.requires.patch c.index-old.ensures in
     old.some
 
 pub cell_at-b-requires : goal.cell_at-b-requires
 cell_at-b-requires c =
-    let are = c.requires.places.1 in
-    let old = patch_read c.args.t.now c.args.patch c.index-old.result.now are.layout.0 c.requires.patch c.index-old.ensures in
+    let are = c.args.placed.now.placed in
+    let old = patch_read c.args.placed.now.t.now c.args.placed.now.tables.now c.args.patch c.index-old.result.now are c.requires.patch c.index-old.ensures in
     old.tall
 
 pub index-requires : goal.index-requires
 index-requires c =
-    let are = c.requires.places.1 in
-    let old = patch_read c.args.t.now c.args.patch c.index-old.result.now are.layout.0 c.requires.patch c.index-old.ensures in
+    let are = c.args.placed.now.placed in
+    let old = patch_read c.args.placed.now.t.now c.args.placed.now.tables.now c.args.patch c.index-old.result.now are c.requires.patch c.index-old.ensures in
     omega (
       arith,
-      cell_low c.args.t.now c.args.patch c.cell_at-a.result c.cell_at-b.result c.index-old.result.now old c.cell_at-a.ensures.low c.cell_at-b.ensures.low,
+      cell_low c.args.placed.now.t.now c.args.patch c.cell_at-a.result c.cell_at-b.result c.index-old.result.now old c.cell_at-a.ensures.low c.cell_at-b.ensures.low,
       c.index-old.result.now.cells.ok.0,
     )
 
 pub returns : goal.returns
 returns c =
-    let are = c.requires.places.1 in
-    let x = lengths_in c.args.tables.now.lengths.items in
-    let p_low : c.args.patch < length (plan c.args.t.now).patches = omega (arith, c.requires.patch, length-map c.args.t.now.patches.items rectangle) in
-    let rim : c.index-rim.result.now ≡ rim_at c.args.tables.now.rims.items c.args.patch =
-    rim_read (plan c.args.t.now) c.args.tables.now c.args.patch c.index-rim.result.now are.rimmed p_low c.index-rim.ensures in
-    let is : IsRim (plan c.args.t.now) x c.args.patch c.index-rim.result.now c.args.tables.now.parameters.items =
-    subst (λ (r : Rim). IsRim (plan c.args.t.now) x c.args.patch r c.args.tables.now.parameters.items) (sym rim) (are.rims c.args.patch p_low) in
-    let old = patch_read c.args.t.now c.args.patch c.index-old.result.now are.layout.0 c.requires.patch c.index-old.ensures in
-    let l = layout_of (plan c.args.t.now) in
-    let o = long_at (plan c.args.t.now).arcs in
+    let are = c.args.placed.now.placed in
+    let x = lengths_in c.args.placed.now.tables.now.lengths.items in
+    let p_low : c.args.patch < length (plan c.args.placed.now.t.now).patches = omega (arith, c.requires.patch, length-map c.args.placed.now.t.now.patches.items rectangle) in
+    let rim : c.index-rim.result.now ≡ rim_at c.args.placed.now.tables.now.rims.items c.args.patch =
+    rim_read (plan c.args.placed.now.t.now) c.args.placed.now.tables.now c.args.patch c.index-rim.result.now are.rimmed p_low c.index-rim.ensures in
+    let is : IsRim (plan c.args.placed.now.t.now) x c.args.patch c.index-rim.result.now c.args.placed.now.tables.now.parameters.items =
+    subst (λ (r : Rim). IsRim (plan c.args.placed.now.t.now) x c.args.patch r c.args.placed.now.tables.now.parameters.items) (sym rim) (are.rims c.args.patch p_low) in
+    let old = patch_read c.args.placed.now.t.now c.args.placed.now.tables.now c.args.patch c.index-old.result.now are c.requires.patch c.index-old.ensures in
+    let l = layout_of (plan c.args.placed.now.t.now) in
+    let o = long_at (plan c.args.placed.now.t.now).arcs in
     let u : c.across-u.result ≡ parameter_u l o x c.args.patch c.args.i c.args.j =
-    c.across-u.ensures (plan c.args.t.now) x c.args.patch p_low are.lengths
-    (subst (λ (xs : List ℕ). IsRim (plan c.args.t.now) x c.args.patch c.index-rim.result.now xs) (sym c.deref.ensures.value) is) in
+    c.across-u.ensures (plan c.args.placed.now.t.now) x c.args.patch p_low are.lengths
+    (subst (λ (xs : List ℕ). IsRim (plan c.args.placed.now.t.now) x c.args.patch c.index-rim.result.now xs) (sym c.deref.ensures.value) is) in
     let v : c.upright-v.result ≡ parameter_v l o x c.args.patch c.args.i c.args.j =
-    c.upright-v.ensures (plan c.args.t.now) x c.args.patch p_low are.lengths
-    (subst (λ (xs : List ℕ). IsRim (plan c.args.t.now) x c.args.patch c.index-rim.result.now xs) (sym c.deref-2.ensures.value) is) in
+    c.upright-v.ensures (plan c.args.placed.now.t.now) x c.args.patch p_low are.lengths
+    (subst (λ (xs : List ℕ). IsRim (plan c.args.placed.now.t.now) x c.args.patch c.index-rim.result.now xs) (sym c.deref-2.ensures.value) is) in
     let a : c.cell_at-a.result ≡ cell_at (wide l o c.args.patch) (parameter_u l o x c.args.patch c.args.i c.args.j) =
     c.cell_at-a.ensures.value ∙ (λ k. cell_at (old.wide k) (u k)) in
     let b : c.cell_at-b.result ≡ cell_at (high l o c.args.patch) (parameter_v l o x c.args.patch c.args.i c.args.j) =
     c.cell_at-b.ensures.value ∙ (λ k. cell_at (old.high k) (v k)) in
-    let dart = cell_read c.args.t.now c.args.patch c.cell_at-a.result c.cell_at-b.result c.index.result.now c.index-old.result.now old
-    c.cell_at-a.ensures.low c.cell_at-b.ensures.low c.index.ensures ∙ (λ k. cell_of (patch_at (plan c.args.t.now).patches c.args.patch) (a k) (b k)) in
+    let dart = cell_read c.args.placed.now.t.now c.args.patch c.cell_at-a.result c.cell_at-b.result c.index.result.now c.index-old.result.now old
+    c.cell_at-a.ensures.low c.cell_at-b.ensures.low c.index.ensures ∙ (λ k. cell_of (patch_at (plan c.args.placed.now.t.now).patches c.args.patch) (a k) (b k)) in
     λ k. record { dart = dart k; s = u k - (c.from.ensures ∙ a) k * ONE; t = v k - (c.from-2.ensures ∙ b) k * ONE }

@@ -4,26 +4,25 @@ use Rattle.def_layout.specs.Plans.{layout_of, plan}
 use Rattle.def_written.specs.Numbers.{before_patch}
 use Rattle.def_remesh.specs.NewPoints.{lengths_in}
 use Rattle.qm_place.proofs.Entries.{offset_read}
-use Rattle.qm_place.proofs.Found.{patch_short}
 use Rattle.qm_place.specs.Spots.{cell_spot_at}
 use Rattle.qm_place.proofs.spots.inside_spot.Goals as goal
 
 pub overflow_add-offset-2 : goal.overflow_add-offset-2
 overflow_add-offset-2 c =
-    let are = c.requires.places.1 in
-    let x = lengths_in c.args.tables.now.lengths.items in
-    let l = layout_of (plan c.args.t.now) in
-    let at = offset_read c.requires.places.0 (plan c.args.t.now) c.args.tables.now are c.args.patch c.index.result.now c.index-2.result.now c.requires.inside.low c.index.ensures c.index-2.ensures in
+    let are = c.args.placed.now.placed in
+    let x = lengths_in c.args.placed.now.tables.now.lengths.items in
+    let l = layout_of (plan c.args.placed.now.t.now) in
+    let at = offset_read (plan c.args.placed.now.t.now) c.args.placed.now.tables.now are c.args.patch c.index.result.now c.index-2.result.now c.requires.inside.low c.index.ensures c.index-2.ensures in
     let row : (c.args.place - c.index.result.now) / (c.index-2.result.now.wide - 1) ≡ (c.args.place - before_patch l x c.args.patch) / (wide l x c.args.patch - 1) =
     λ k. (c.args.place - at.begin_is k) / (at.columns_are k - 1) in
-    omega (arith, row, c.requires.inside.row, patch_short c.requires.places.0 (plan c.args.t.now) c.args.tables.now are c.args.patch c.requires.inside.low)
+    omega (arith, row, c.requires.inside.row, are.low c.args.patch c.requires.inside.low)
 
 pub cell_spot-requires-clause-within : goal.cell_spot-requires-clause-within
 cell_spot-requires-clause-within c =
-    let are = c.requires.places.1 in
-    let x = lengths_in c.args.tables.now.lengths.items in
-    let l = layout_of (plan c.args.t.now) in
-    let at = offset_read c.requires.places.0 (plan c.args.t.now) c.args.tables.now are c.args.patch c.index.result.now c.index-2.result.now c.requires.inside.low c.index.ensures c.index-2.ensures in
+    let are = c.args.placed.now.placed in
+    let x = lengths_in c.args.placed.now.tables.now.lengths.items in
+    let l = layout_of (plan c.args.placed.now.t.now) in
+    let at = offset_read (plan c.args.placed.now.t.now) c.args.placed.now.tables.now are c.args.patch c.index.result.now c.index-2.result.now c.requires.inside.low c.index.ensures c.index-2.ensures in
     let column : (c.args.place - c.index.result.now) % (c.index-2.result.now.wide - 1) ≡ (c.args.place - before_patch l x c.args.patch) % (wide l x c.args.patch - 1) =
     λ k. (c.args.place - at.begin_is k) % (at.columns_are k - 1) in
     let row : (c.args.place - c.index.result.now) / (c.index-2.result.now.wide - 1) ≡ (c.args.place - before_patch l x c.args.patch) / (wide l x c.args.patch - 1) =
@@ -33,9 +32,9 @@ cell_spot-requires-clause-within c =
 
 pub returns : goal.returns
 returns c =
-    let are = c.requires.places.1 in
-    let x = lengths_in c.args.tables.now.lengths.items in
-    let l = layout_of (plan c.args.t.now) in
-    let at = offset_read c.requires.places.0 (plan c.args.t.now) c.args.tables.now are c.args.patch c.index.result.now c.index-2.result.now c.requires.inside.low c.index.ensures c.index-2.ensures in
+    let are = c.args.placed.now.placed in
+    let x = lengths_in c.args.placed.now.tables.now.lengths.items in
+    let l = layout_of (plan c.args.placed.now.t.now) in
+    let at = offset_read (plan c.args.placed.now.t.now) c.args.placed.now.tables.now are c.args.patch c.index.result.now c.index-2.result.now c.requires.inside.low c.index.ensures c.index-2.ensures in
     c.cell_spot.ensures
-    ∙ (λ k. cell_spot_at (plan c.args.t.now) x c.args.patch ((c.args.place - at.begin_is k) % (at.columns_are k - 1) + 1) ((c.args.place - at.begin_is k) / (at.columns_are k - 1) + 1))
+    ∙ (λ k. cell_spot_at (plan c.args.placed.now.t.now) x c.args.patch ((c.args.place - at.begin_is k) % (at.columns_are k - 1) + 1) ((c.args.place - at.begin_is k) / (at.columns_are k - 1) + 1))

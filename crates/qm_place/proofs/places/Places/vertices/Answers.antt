@@ -8,8 +8,14 @@ use Rattle.def_remesh.specs.NewPoints.{lengths_in}
 use Rattle.def_remesh.specs.Placings.{ArePlaces}
 use Rattle.def_remesh.specs.declared.places.PlaceTables.{PlaceTables}
 use Rattle.qm_place.proofs.Entries.{end_read}
-use Rattle.qm_place.proofs.Found.{few_points}
+use Rattle.qm_place.proofs.Found.{few_points, placed_of}
 use Rattle.qm_place.proofs.places.Places.vertices.Goals as goal
+
+pub invariant_of-placed : goal.invariant_of-placed
+invariant_of-placed c = record {
+  placed = placed_of c.requires.0 (plan c.args.t.now) c.self.inside.tables
+      (subst (λ (s : PlaceTables). ArePlaces c.requires.0 (plan c.args.t.now) s) (sym c.self.view_is) c.requires.1);
+}
 
 pub overflow_add-result : goal.overflow_add-result
 overflow_add-result c =
