@@ -1,14 +1,13 @@
 -- What is proved of links.
-use Rattle.std.specs.Prelude.{◌≡◌, ◌≢◌, ◌⊎◌, ◌↔◌, ℕ, ◌+◌, ◌-◌, ◌<◌, true, false, List, [], slice_index_or, Some}
+use Rattle.std.specs.Prelude.{◌≡◌, ◌≢◌, ◌⊎◌, ◌↔◌, ℕ, ◌+◌, ◌-◌, ◌<◌, ◌≤◌, true, List, [], slice_index_or, Some}
 use Rattle.std.specs.List.{Contains}
-use Rattle.def_layout.specs.Cells.{slot_dart}
 use Rattle.def_layout.specs.Laid.{IsLaid, IsOtherSlot}
 use Rattle.def_layout.specs.Layouts.{Layout, Slot, IsSlot, use_of}
 use Rattle.def_layout.specs.Lengths.{Lengths, AreLengths}
-use Rattle.def_written.specs.NewFaces.{dart_start, dart_end}
 use Rattle.def_blocks.specs.declared.link.Link.{Link}
 use Rattle.def_blocks.specs.declared.link.SideName.{SideName}
 use Rattle.def_blocks.specs.Links.{AreLinks}
+use Rattle.def_blocks.specs.SidePoints.{side_vertex}
 
 -- An inner arc: two slots use it, each the other way round than the other, and no more.
 pub record HasTwoSlots (layout : Layout) (arc : ℕ) : Type 0 where
@@ -45,19 +44,22 @@ HasLink links block side from len other side' from' = Contains (slice_index_or l
     (record { side = side; from = from; len = len; other = Some (other, side', from') })
 
 -- A block has a link exactly where the other block has the same link the other way round.
-abbrev pub MutualLaw : Type 0
-MutualLaw = (layout : Layout) (lengths : Lengths) → IsLaid layout
-    → (links : List (List Link)) → AreLinks layout lengths links
-    → (one other : ℕ) → one < layout.patches → other < layout.patches
+abbrev pub AreMutual : (blocks : ℕ) (links : List (List Link)) → Type 0
+AreMutual blocks links = (one other : ℕ) → one < blocks → other < blocks
     → (side side' : SideName) (from from' len : ℕ)
     → HasLink links one side from len other side' from' ↔ HasLink links other side' from' len one side from
 
--- Linked points are one point: each edge of a slot's arc, seen from the other slot, has the same ends.
+abbrev pub MutualLaw : Type 0
+MutualLaw = (layout : Layout) (lengths : Lengths) → IsLaid layout
+    → (links : List (List Link)) → AreLinks layout lengths links → AreMutual layout.patches links
+
+-- Linked points are one vertex, counted from the beginning of a link and from the end of the link on the other side.
+abbrev pub AreJoined : (layout : Layout) (lengths : Lengths) (links : List (List Link)) → Type 0
+AreJoined layout lengths links = (one other : ℕ) → one < layout.patches
+    → (side side' : SideName) (from from' len : ℕ) → HasLink links one side from len other side' from'
+    → (k : ℕ) → k ≤ len
+    → side_vertex layout lengths one side (from + k) ≡ side_vertex layout lengths other side' (from' + (len - k))
+
 abbrev pub LinkedPointsLaw : Type 0
 LinkedPointsLaw = (layout : Layout) (lengths : Lengths) → IsLaid layout → AreLengths layout lengths
-    → (one other : Slot) → IsSlot layout one → IsOtherSlot layout one other
-    → (k : ℕ) → k < lengths (use_of layout one).arc
-    → (dart_end layout lengths (slot_dart layout lengths other (lengths (use_of layout one).arc - 1 - k))
-    ≡ dart_start layout lengths (slot_dart layout lengths one k))
-    × (dart_start layout lengths (slot_dart layout lengths other (lengths (use_of layout one).arc - 1 - k))
-    ≡ dart_end layout lengths (slot_dart layout lengths one k))
+    → (links : List (List Link)) → AreLinks layout lengths links → AreJoined layout lengths links

@@ -1,2 +1,5 @@
+pub mod BlockTexts
+pub mod Blocked
 pub mod Laws
 pub mod Links
+pub mod SidePoints

@@ -1,2 +1,6 @@
+mod Joined
+mod Lists
+mod Measures
 mod Mutual
 mod Slots
+mod Tables

@@ -40,7 +40,7 @@ slot_at l p k low = elim (leb_tells (l.many p south) k) [
 ]
 
 -- A link over so many points, to a point of another block's side.
-abbrev link_to : (side : SideName) (from len other : ℕ) (side' : SideName) (from' : ℕ) → Link
+abbrev pub link_to : (side : SideName) (from len other : ℕ) (side' : SideName) (from' : ℕ) → Link
 link_to side from len other side' from' = record { side = side; from = from; len = len; other = Some (other, side', from') }
 
 -- What an option holds, whether it holds a point of a block's side, and the parts of that.
@@ -48,25 +48,25 @@ abbrev link_in : (missing : Link) (o : Option Link) → Link
 link_in missing (Some link) = link
 link_in missing None = missing
 
-abbrev is_linked : (o : Option (ℕ × SideName × ℕ)) → Bool
+abbrev pub is_linked : (o : Option (ℕ × SideName × ℕ)) → Bool
 is_linked (Some x) = true
 is_linked None = false
 
-abbrev block_part : (o : Option (ℕ × SideName × ℕ)) → ℕ
+abbrev pub block_part : (o : Option (ℕ × SideName × ℕ)) → ℕ
 block_part (Some x) = x.0
 block_part None = 0
 
-abbrev side_part : (o : Option (ℕ × SideName × ℕ)) → SideName
+abbrev pub side_part : (o : Option (ℕ × SideName × ℕ)) → SideName
 side_part (Some x) = x.1
 side_part None = South
 
-abbrev from_part : (o : Option (ℕ × SideName × ℕ)) → ℕ
+abbrev pub from_part : (o : Option (ℕ × SideName × ℕ)) → ℕ
 from_part (Some x) = x.2
 from_part None = 0
 
 module _ (l : Layout) (x : Lengths) (laid : IsLaid l) (links : List (List Link)) (are : AreLinks l x links) where
   -- A link of a block is that of a slot.
-  slot_of_link : (p k : ℕ) (link : Link) → p < l.patches → k < length (slice_index_or links p [])
+  pub slot_of_link : (p k : ℕ) (link : Link) → p < l.patches → k < length (slice_index_or links p [])
       → slice_index_or (slice_index_or links p []) k link ≡ link
       → (w : Slot) × IsSlot l w × (w.patch ≡ p) × IsLinkOf l x w link
   slot_of_link p k link p_low low e =

@@ -3,8 +3,7 @@ use Rattle.std.proofs.Common.{◌≡◌, ◌≢◌, ◌⊎◌, Bool, true, false
 use Rattle.def_layout.specs.declared.tmesh.SideArc.{SideArc}
 use Rattle.def_layout.specs.Laid.{IsLaid, IsOtherSlot}
 use Rattle.def_layout.specs.Layouts.{Layout, Slot, IsSlot, AreReverse, use_of}
-use Rattle.def_blocks.specs.Laws.{HasOneSlot, HasTwoSlots, LinkedPointsLaw, SymmetricLaw, TwoLinksLaw}
-use Rattle.written_laws.proofs.Borders.{across_from, across_to}
+use Rattle.def_blocks.specs.Laws.{SymmetricLaw, TwoLinksLaw}
 
 -- An arc that is used the other way round.
 pub turned_back : (one other : SideArc) → AreReverse one other → AreReverse other one
@@ -78,7 +77,3 @@ two_links l laid arc low = elim (laid.other one slot) [
 
     used : (use_of l one).arc ≡ arc
     used = ap (λ (u : SideArc). u.arc) (laid.forward arc low).2
-
-pub linked_points : LinkedPointsLaw
-linked_points l x laid len one other is across k less =
-    (across_to l x laid len one other k is across less, across_from l x laid len one other k is across less)

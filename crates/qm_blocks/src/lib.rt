@@ -1,6 +1,9 @@
-//! Patches as structured blocks: which points of a block's side are points of another block.
+//! Patches as structured blocks: the links between their sides, and which points these join.
 #![tactic(auto)]
 
 mod law;
+mod linking;
+mod spots;
 
 pub use law::{linked_points_law, mutual_law, symmetric_law, two_links_law};
+pub use linking::links;

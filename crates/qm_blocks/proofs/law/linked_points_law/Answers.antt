@@ -1,4 +1,4 @@
-use Rattle.qm_blocks.proofs.Slots.{linked_points}
+use Rattle.qm_blocks.proofs.Joined.{linked_points}
 use Rattle.qm_blocks.proofs.law.linked_points_law.Goals as goal
 
 pub returns : goal.returns

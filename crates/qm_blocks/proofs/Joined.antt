@@ -1,0 +1,64 @@
+-- Linked points are one vertex.
+use Rattle.std.proofs.Common.{◌≡◌, ℕ, ◌+◌, ◌-◌, ◌<◌, ◌≤◌, true, false, Some, Option}
+use Rattle.std.proofs.Common.{refl, sym, ◌∙◌, ap, inl, inr, arith}
+use Rattle.std.proofs.lemmas.Bool.{false≢true}
+use Rattle.def_layout.specs.Laid.{IsLaid, IsOtherSlot}
+use Rattle.def_layout.specs.Layouts.{Way, south, east, north, west, Layout, Slot, IsSlot, use_of}
+use Rattle.def_layout.specs.Lengths.{Lengths, size, AreLengths}
+use Rattle.def_written.specs.Numbers.{vertex_number}
+use Rattle.def_written.specs.Points.{side_point, use_point}
+use Rattle.def_blocks.specs.Laws.{LinkedPointsLaw}
+use Rattle.def_blocks.specs.Links.{first_point, side_name, IsLinkOf}
+use Rattle.def_blocks.specs.SidePoints.{side_vertex}
+use Rattle.def_blocks.specs.declared.link.SideName.{SideName}
+use Rattle.written_laws.proofs.Borders.{use_back}
+use Rattle.written_laws.proofs.Rims.{border_point}
+use Rattle.written_laws.proofs.Sides.{reach_low, side_upto}
+use Rattle.qm_blocks.proofs.Mutual.{block_part, from_part, is_linked, link_to, side_part, slot_of_link}
+
+module _ (l : Layout) (x : Lengths) (laid : IsLaid l) (len : AreLengths l x) where
+  -- The vertex at a point of a side is that of the arc that lies there.
+  vertex_on : (p : ℕ) (s : Way) (t : ℕ) → p < l.patches → t ≤ size l x p s
+      → side_vertex l x p (side_name s) t ≡ vertex_number l x (side_point l x p s t)
+  vertex_on p south t low upto = ap (vertex_number l x) (border_point l x laid len p south t low upto)
+  vertex_on p east t low upto = ap (vertex_number l x) (border_point l x laid len p east t low upto)
+  vertex_on p north t low upto = ap (vertex_number l x) (border_point l x laid len p north t low upto)
+  vertex_on p west t low upto = ap (vertex_number l x) (border_point l x laid len p west t low upto)
+
+  -- So is that at a point of a slot.
+  slot_vertex : (w : Slot) (k : ℕ) → IsSlot l w → k ≤ x (use_of l w).arc
+      → side_vertex l x w.patch (side_name w.side) (first_point l x w + k) ≡ vertex_number l x (use_point l x (use_of l w) k)
+  slot_vertex w k is le =
+      vertex_on w.patch w.side (first_point l x w + k) is.patch_low (omega (arith, reach_low l x w is, le))
+      ∙ ap (vertex_number l x) (side_upto l x laid len w k (first_point l x w + k) is le refl)
+
+  one_vertex : (w v : Slot) (k : ℕ) → IsSlot l w → IsOtherSlot l w v → k ≤ x (use_of l w).arc
+      → side_vertex l x w.patch (side_name w.side) (first_point l x w + k)
+      ≡ side_vertex l x v.patch (side_name v.side) (first_point l x v + (x (use_of l w).arc - k))
+  one_vertex w v k is across le =
+      let long : x (use_of l v).arc ≡ x (use_of l w).arc = ap x across.1.arc in
+      let e : x (use_of l w).arc - (x (use_of l w).arc - k) ≡ k = omega (arith, le) in
+      slot_vertex w k is le ∙ ap (λ o. vertex_number l x (use_point l x (use_of l w) o)) (sym e)
+      ∙ ap (vertex_number l x) (sym (use_back l x (use_of l w) (use_of l v) across.1 (x (use_of l w).arc - k) (omega arith)))
+      ∙ sym (slot_vertex v (x (use_of l w).arc - k) across.0 (omega (arith, long)))
+
+pub linked_points : LinkedPointsLaw
+linked_points l x laid len links are one other low side side' from from' n has k le =
+    let found = slot_of_link l x laid links are one has.0 (link_to side from n other side' from') low has.1 has.2 in
+    by_slot found.0 found.1 found.2 found.3
+  where
+    by_slot : (w : Slot) → IsSlot l w → w.patch ≡ one → IsLinkOf l x w (link_to side from n other side' from')
+        → side_vertex l x one side (from + k) ≡ side_vertex l x other side' (from' + (n - k))
+    by_slot w is at is_link = elim (laid.other w is) [
+      | inr wall ↦ let none : true ≡ false = ap is_linked (is_link.wall wall) in absurd (false≢true (sym none))
+      | inl next ↦ over next.0 next.1 (is_link.linked next.0 next.1)
+    ]
+      where
+        over : (v : Slot) → IsOtherSlot l w v
+            → ◌≡◌ {A = Option (ℕ × SideName × ℕ)} (Some (other, side', from')) (Some (v.patch, side_name v.side, first_point l x v))
+            → side_vertex l x one side (from + k) ≡ side_vertex l x other side' (from' + (n - k))
+        over v across told =
+            (λ t. side_vertex l x ((sym at) t) (is_link.side t) (is_link.from t + k))
+            ∙ one_vertex l x laid len w v k is across (omega (arith, le, is_link.len))
+            ∙ (λ t. side_vertex l x ((sym (ap block_part told)) t) ((sym (ap side_part told)) t)
+            ((sym (ap from_part told)) t + ((sym is_link.len) t - k)))

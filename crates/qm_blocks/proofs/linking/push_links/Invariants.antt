@@ -1,0 +1,13 @@
+use Rattle.std.proofs.Common.{◌≡◌, ◌++◌, map}
+use Rattle.std.specs.List.{range_with_len}
+use Rattle.def_math.specs.Counts.{count_below}
+use Rattle.def_remesh.specs.NewPoints.{lengths_in}
+use Rattle.def_remesh.specs.Numberings.{sizes_on}
+use Rattle.qm_blocks.specs.Spots.{link_on}
+use Rattle.qm_blocks.proofs.linking.push_links.Given as goal
+
+abbrev pub invariant-loop-used : goal.invariant-loop-used
+invariant-loop-used l = record {
+  pushed : l.links.items ≡ l.initial.links.items ++ map (link_on l.table (lengths_in l.x) l.name l.side) (range_with_len 0 l.used-index);
+  from : l.from ≡ count_below (sizes_on l.side (lengths_in l.x)) l.used-index;
+}

@@ -1,0 +1,17 @@
+use Rattle.std.proofs.Common.{refl}
+use Rattle.def_layout.specs.Layouts.{south, east, north, west}
+use Rattle.def_layout.specs.Plans.{layout_of, plan}
+use Rattle.def_remesh.specs.NewPoints.{lengths_in}
+use Rattle.qm_blocks.proofs.Tables.{block_put, both_put}
+use Rattle.qm_blocks.proofs.spots.put_block.Goals as goal
+
+pub returns : goal.returns
+returns c =
+    let l = layout_of (plan c.args.t.now) in
+    let x = lengths_in c.args.x.now in
+    block_put l x c.args.block _ _
+    (both_put l x _ _ _ _ _
+    (both_put l x _ _ _ _ _
+    (both_put l x _ _ _ _ _ (c.put_side.ensures south refl) (c.put_side-2.ensures east refl))
+    (c.put_side-3.ensures north refl))
+    (c.put_side-4.ensures west refl))
