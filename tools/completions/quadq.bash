@@ -2,16 +2,17 @@
 _quadq() {
     local word=${COMP_WORDS[COMP_CWORD]} words=
     if [ "$COMP_CWORD" -eq 1 ]; then
-        words="tidy graph refine remesh check bench"
+        words="tidy graph refine remesh check bench coarse"
     else
         case ${COMP_WORDS[1]} in
             refine) words="--by" ;;
             remesh) words="--scale --floor --weight" ;;
             bench) words="--size" ;;
+            coarse) words="--scale --floor --weight" ;;
         esac
         # The values of the option in front.
         case ${COMP_WORDS[COMP_CWORD - 1]} in
-            --floor) words="1 2 3 auto" ;;
+            --floor) words="1 2 3"; [ "${COMP_WORDS[1]}" = remesh ] && words="$words auto" ;;
             --weight) words="plain length" ;;
             --*) words= ;;
         esac

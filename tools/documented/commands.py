@@ -66,7 +66,7 @@ def by_usage() -> Commands:
 
 
 def by_code() -> Commands:
-    said = re.search(r'const USAGE: &str =\s*"((?:[^"\\]|\\.)*)"', CODE.read_text())
+    said = re.search(r'const USAGE: &str =\s*"((?:[^"\\]|\\.)*)"', CODE.read_text(), re.DOTALL)
     return of_usage(re.sub(r"\\\n *", "", said[1])) if said else {}
 
 

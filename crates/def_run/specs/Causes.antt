@@ -10,6 +10,7 @@ use Rattle.def_text.specs.declared.limits.TheConstants.{MAX_BYTES}
 use Rattle.def_text.specs.declared.refusal.Which.TheVariants.{Bytes as AllBytes}
 use Rattle.def_run.specs.Bench.{HasBench, RefusesToBench, WritesBench}
 use Rattle.def_run.specs.Check.{RefusesToCheck, WritesAccepted}
+use Rattle.def_run.specs.Coarse.{AsksToMerge}
 use Rattle.def_run.specs.CommandLines.{IsCommand}
 use Rattle.def_run.specs.Graph.{RefusesToTrace, WritesGraph}
 use Rattle.def_run.specs.Mesh.{HasMesh}
@@ -19,7 +20,7 @@ use Rattle.def_run.specs.Tidy.{RefusesToTidy, WritesTidied}
 use Rattle.def_run.specs.declared.answer.Answer.{Answer}
 use Rattle.def_run.specs.declared.answer.Answer.TheVariants.{Done, Usage, Limit, ReadFault, WriteFault, Memory}
 use Rattle.def_run.specs.declared.command.Command.{Command}
-use Rattle.def_run.specs.declared.command.Command.TheVariants.{Tidy, Graph, Refine, Remesh, Check, Bench}
+use Rattle.def_run.specs.declared.command.Command.TheVariants.{Tidy, Graph, Refine, Remesh, Check, Bench, Coarse}
 
 -- The text that a command writes for the bytes that it read.
 abbrev pub Writes : (command : Command) (bytes text : Bytes) → Type 0
@@ -29,6 +30,7 @@ Writes (Refine by) bytes text = WritesRefined by bytes text
 Writes (Remesh settings auto) bytes text = WritesFinished (AsksToRemesh settings auto) bytes text
 Writes Check bytes text = WritesAccepted bytes text
 Writes (Bench size) bytes text = WritesBench size text
+Writes (Coarse settings) bytes text = WritesFinished (AsksToMerge settings) bytes text
 
 -- The answer with which a command refuses the bytes that it read.
 abbrev pub Refuses : (command : Command) (bytes : Bytes) (answer : Answer) → Type 0
@@ -38,6 +40,7 @@ Refuses (Refine by) bytes answer = RefusesToRefine by bytes answer
 Refuses (Remesh settings auto) bytes answer = RefusesTask (AsksToRemesh settings auto) bytes answer
 Refuses Check bytes answer = RefusesToCheck bytes answer
 Refuses (Bench size) bytes answer = RefusesToBench size answer
+Refuses (Coarse settings) bytes answer = RefusesTask (AsksToMerge settings) bytes answer
 
 -- The bytes for which a command has a text to write, whatever is free in it.
 abbrev pub Takes : (command : Command) (bytes : Bytes) → Type 0
@@ -47,6 +50,7 @@ Takes (Refine by) bytes = HasRefined by bytes
 Takes (Remesh settings auto) bytes = HasFinished (AsksToRemesh settings auto) bytes
 Takes Check bytes = IsCheckedPair bytes
 Takes (Bench size) bytes = HasBench size
+Takes (Coarse settings) bytes = HasFinished (AsksToMerge settings) bytes
 
 -- The source is as it was, as far as it tells.
 abbrev pub IsUnread : (input : Change) → Type 0

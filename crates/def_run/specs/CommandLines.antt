@@ -1,11 +1,11 @@
 -- The accepted command lines.
-use Rattle.std.specs.Prelude.{◌≡◌, ◌≤◌, ℕ, Bool, [], ◌∷◌, codes, decimal}
+use Rattle.std.specs.Prelude.{◌≡◌, ◌≤◌, ℕ, Bool, false, [], ◌∷◌, codes, decimal}
 use Rattle.def_text.specs.Types.{Word, Words}
 use Rattle.def_flow.specs.declared.net.Settings.{Settings}
 use Rattle.def_certtext.specs.Settings.{AreWordsOf}
 use Rattle.def_run.specs.Options.{value_of, AreOptions, Uses}
 use Rattle.def_run.specs.declared.command.Command.{Command}
-use Rattle.def_run.specs.declared.command.Command.TheVariants.{Tidy, Graph, Refine, Remesh, Check, Bench}
+use Rattle.def_run.specs.declared.command.Command.TheVariants.{Tidy, Graph, Refine, Remesh, Check, Bench, Coarse}
 use Rattle.def_run.specs.declared.command.TheConstants.{MAX_MULTIPLE, MAX_SIZE}
 
 -- The word of a command.
@@ -16,6 +16,7 @@ name_of (Refine by) = codes "refine"
 name_of (Remesh settings auto) = codes "remesh"
 name_of Check = codes "check"
 name_of (Bench size) = codes "bench"
+name_of (Coarse settings) = codes "coarse"
 
 -- The word is this whole number, from 1 to the greatest, in digits without a leading zero.
 pub record IsCount (greatest : ℕ) (word : Word) (n : ℕ) : Type 0 where
@@ -45,6 +46,7 @@ abbrev pub HasOptions : (command : Command) (words : Words) → Type 0
 HasOptions (Refine by) words = HasCount (codes "by") MAX_MULTIPLE words by
 HasOptions (Remesh settings auto) words = HasSettings words settings auto
 HasOptions (Bench size) words = HasCount (codes "size") MAX_SIZE words size
+HasOptions (Coarse settings) words = HasSettings words settings false
 HasOptions command words = words ≡ []
 
 -- These words, those after the program's name, are an accepted line of this command.

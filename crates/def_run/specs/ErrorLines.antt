@@ -83,7 +83,7 @@ why_text (why.Byte at) = codes "byte " ++ decimal at
 abbrev pub usage_text : Bytes
 usage_text =
     codes "usage: quadq tidy | graph | refine --by K | remesh --scale P/Q --floor F --weight plain|length"
-    ++ codes " | check | bench --size N"
+    ++ codes " | check | bench --size N | coarse --scale P/Q --floor F --weight plain|length"
 
 -- Why the run ended so, where `names` has the vertices' numbers in the file.
 abbrev pub reason_text : (names : List ℕ) (answer : Answer) → Bytes

@@ -2,10 +2,12 @@ pub mod Bench
 pub mod Causes
 pub mod Check
 pub mod CheckFails
+pub mod Coarse
 pub mod CommandLines
 pub mod ErrorLines
 pub mod Exits
 pub mod Graph
+pub mod Heads
 pub mod Mesh
 pub mod Messages
 pub mod Options

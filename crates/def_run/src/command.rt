@@ -25,4 +25,6 @@ pub enum Command {
     Remesh { settings: Settings, auto: bool },
     Check,
     Bench { size: u32 },
+    /// The patches are merged first.
+    Coarse { settings: Settings },
 }

@@ -12,6 +12,7 @@ use Rattle.def_text.specs.declared.refusal.ObjFail.{ObjFail}
 use Rattle.def_text.specs.declared.refusal.Which.TheVariants.{Bytes as AllBytes}
 use Rattle.def_run.specs.Bench.{bench_faces, bench_settings, HasBench, RefusesToBench}
 use Rattle.def_run.specs.Causes.{Cause, FailsToRead, SourceHolds, IsGood, Reads, ReadsTooMany, Refused, Refuses, Takes}
+use Rattle.def_run.specs.Coarse.{AsksToMerge}
 use Rattle.def_run.specs.Mesh.{IsMeshText, IsNoMesh}
 use Rattle.def_flow.specs.declared.net.Settings.{Settings}
 use Rattle.def_remesh.specs.Refusals.{IsRemeshable}
@@ -25,7 +26,7 @@ use Rattle.def_remesh.specs.Refined.{refined_faces}
 use Rattle.def_run.specs.declared.answer.Answer.{Answer}
 use Rattle.def_run.specs.declared.answer.Answer.TheVariants.{Done, NotAccepted, Usage, Syntax, NotQuad, Range, Limit, NotManifold, Tangled, TooFine, Doubled, ReadFault, WriteFault, Memory}
 use Rattle.def_run.specs.declared.command.Command.{Command}
-use Rattle.def_run.specs.declared.command.Command.TheVariants.{Tidy, Graph, Refine, Remesh, Check, Bench}
+use Rattle.def_run.specs.declared.command.Command.TheVariants.{Tidy, Graph, Refine, Remesh, Check, Bench, Coarse}
 use Rattle.def_run.specs.declared.words.WordsFail.{WordsFail}
 use Rattle.def_run.specs.declared.words.WordsFail.TheVariants as words_fail
 use Rattle.def_run.specs.CommandLines.{IsAcceptedLine, IsCommand}
@@ -99,6 +100,7 @@ not_both (Refine by) bytes answer takes refuses = refine_not_both by bytes answe
 not_both (Remesh settings auto) bytes answer takes refuses = task_not_both (AsksToRemesh settings auto) bytes answer takes refuses
 not_both Check bytes answer takes refuses = pair_not_refused bytes answer takes refuses
 not_both (Bench size) bytes answer takes refuses = bench_not_both size answer takes refuses
+not_both (Coarse settings) bytes answer takes refuses = task_not_both (AsksToMerge settings) bytes answer takes refuses
 
 -- What a source gave whole is what it held.
 pub same_bytes : (before now : Told) (bytes held : Bytes) → before ≡ Some held → before ≡ gave bytes now → IsEmptied now → bytes ≡ held

@@ -5,6 +5,7 @@ use Rattle.std.specs.Option.{option_map}
 use Rattle.def_certtext.specs.CertLines.{lists_of}
 use Rattle.def_flow.specs.declared.net.Settings.{Settings}
 use Rattle.def_io.specs.Faults.{Rose}
+use Rattle.def_io.specs.Bytes.{Bytes}
 use Rattle.def_io.specs.Moves.{took, IsStill, Stream, TookPrefix}
 use Rattle.def_layout.specs.Plans.{Plan}
 use Rattle.def_remesh.specs.Certified.{IsShown}
@@ -18,7 +19,7 @@ use Rattle.def_text.specs.FaceSet.{FaceSet}
 use Rattle.qm_write.specs.declared.text.Framed.{Framed}
 use Rattle.qm_write.specs.declared.text.PutFail.{PutFail}
 use Rattle.qm_write.specs.declared.text.PutFail.TheVariants as puts
-use Rattle.qm_top.specs.Finishing.{framed_text, IsFramed, IsNoLayout}
+use Rattle.qm_top.specs.Finishing.{framed_text, IsFramed}
 use Rattle.qm_top.specs.Writing.{refusal_of_put, IsUnwritten}
 use Rattle.qm_top.specs.declared.refusal.Refusal.{Refusal}
 use Rattle.qm_top.specs.declared.refusal.Refusal.TheVariants.{Layout, Write}
@@ -57,10 +58,11 @@ module _ (task : Task) (framed : Framed) (soup : FaceSet) (plan : Plan) (is : Is
       subst (IsShown task soup) (sym text_is)
       (shown task soup plan (lists_of framed.remesh.first) (option_map lists_of framed.remesh.third) framed.remesh.numbering lies is.cut is.kept)
 
--- A text that was not written is not, whatever layouts are refused for.
-pub unwritten_more : {O : Type 0} (task : Task) (soup : FaceSet) (fails : LayoutFail → Type 0) (out : Stream O) (r : Refusal)
-    → IsUnwritten (IsShown task soup) IsNoLayout out r → IsUnwritten (IsShown task soup) fails out r
-unwritten_more task soup fails out (Layout fail) none = absurd none.1
-unwritten_more task soup fails out (Write fail) broke = broke
-unwritten_more task soup fails out refusals.Memory same = same
-unwritten_more task soup fails out _ none = absurd none
+-- A text that was not written is not, whatever it says besides, and whatever layouts are refused besides.
+pub unwritten_weaker : {O : Type 0} (says more : Bytes → Type 0) (fails others : LayoutFail → Type 0) (out : Stream O) → ((text : Bytes) → says text → more text)
+    → ((fail : LayoutFail) → fails fail → others fail) → (r : Refusal) → IsUnwritten says fails out r → IsUnwritten more others out r
+unwritten_weaker says more fails others out weaker besides (Layout fail) none = (none.0, besides fail none.1)
+unwritten_weaker says more fails others out weaker besides (Write fail) broke =
+    record { text = broke.text; said = weaker broke.text broke.said; prefix = broke.prefix; fault = broke.fault }
+unwritten_weaker says more fails others out weaker besides refusals.Memory same = same
+unwritten_weaker says more fails others out weaker besides _ none = absurd none

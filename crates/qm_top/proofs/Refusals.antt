@@ -22,7 +22,7 @@ use Rattle.def_run.specs.Mesh.{IsNoMesh}
 use Rattle.def_run.specs.declared.answer.Answer.{Answer}
 use Rattle.def_run.specs.declared.answer.Answer.TheVariants as answers
 use Rattle.def_run.specs.declared.command.Command.{Command}
-use Rattle.def_run.specs.declared.command.Command.TheVariants.{Tidy, Graph, Refine, Remesh}
+use Rattle.def_run.specs.declared.command.Command.TheVariants.{Tidy, Graph, Refine, Remesh, Coarse}
 use Rattle.qm_top.specs.declared.refusal.Refusal.{Refusal}
 use Rattle.qm_top.specs.declared.refusal.Refusal.TheVariants.{Soup, NotManifold}
 use Rattle.qm_top.specs.declared.refusal.Refusal.TheVariants as refusals
@@ -75,6 +75,15 @@ refine_needs by = record {
 
 pub remesh_needs : (settings : Settings) (auto : Bool) → NeedsMesh (Remesh settings auto)
 remesh_needs settings auto = record {
+  refuses = λ bytes answer none. inl none;
+  reads = λ input bytes whole. whole;
+  looks = λ bytes soup said. said;
+  too_many = λ input more. more;
+  fails = λ input rose. rose;
+}
+
+pub coarse_needs : (settings : Settings) → NeedsMesh (Coarse settings)
+coarse_needs settings = record {
   refuses = λ bytes answer none. inl none;
   reads = λ input bytes whole. whole;
   looks = λ bytes soup said. said;

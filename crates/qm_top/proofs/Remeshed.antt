@@ -1,10 +1,11 @@
 -- What a command keeps that remeshes.
-use Rattle.std.specs.Prelude.{IsErrOf}
-use Rattle.std.proofs.Common.{◌≡◌, [], ◌∷◌, ◌++◌, Err, ap, inr, refl}
+use Rattle.std.specs.Prelude.{IfErr, IsErrOf, OnOk}
+use Rattle.std.proofs.Common.{◌≡◌, [], Bool, Result, Err, ap, inr, refl, subst, sym, ◌∙◌}
+use Rattle.std.proofs.lemmas.Result.{IfErr-weaker, on_ok_weaker}
 use Rattle.std.specs.Option.{option_map}
 use Rattle.def_certtext.specs.CertLines.{lists_of}
-use Rattle.def_certtext.specs.HeadLine.{head_line}
 use Rattle.def_certtext.specs.declared.Asked.{Asked}
+use Rattle.def_flow.specs.declared.net.Settings.{Settings}
 use Rattle.def_io.specs.Bytes.{Bytes}
 use Rattle.def_io.specs.Faults.{Rose}
 use Rattle.def_io.specs.Moves.{Change, IsStill, Stream, TookPrefix}
@@ -16,7 +17,7 @@ use Rattle.def_text.specs.FaceSet.{FaceSet}
 use Rattle.def_text.specs.Input.{ReadSoup}
 use Rattle.def_text.specs.declared.limits.TheConstants.{MAX_BYTES}
 use Rattle.qm_top.proofs.Writers.{IsWriter}
-use Rattle.qm_top.specs.Finishing.{IsFramed}
+use Rattle.qm_top.specs.Finishing.{IsFramed, IsHeaded}
 use Rattle.qm_top.specs.Refusals.{answer_of_layout}
 use Rattle.qm_write.specs.declared.text.Framed.{Framed}
 use Rattle.qm_write.specs.declared.text.PutFail.{PutFail}
@@ -24,15 +25,21 @@ use Rattle.qm_write.specs.declared.text.PutFail.TheVariants as puts
 use Rattle.def_layout.specs.FaceLayouts.{IsLayoutOf}
 use Rattle.def_layout.specs.Plans.{Plan}
 use Rattle.def_remesh.specs.Certified.{IsShown}
-use Rattle.def_remesh.specs.Tasks.{old_lengths, Task}
+use Rattle.def_remesh.specs.Refusals.{IsLayoutFail}
+use Rattle.def_remesh.specs.Tasks.{old_lengths, Task, Wish}
 use Rattle.def_run.specs.Causes.{Cause, Refused, Refuses, Writes}
-use Rattle.def_run.specs.Remesh.{Asks, AsksToRemesh, IsCutTo, RefusesLayout, RefusesTask, WritesFinished}
+use Rattle.def_run.specs.Coarse.{AsksToMerge}
+use Rattle.def_run.specs.Mesh.{IsMeshText}
+use Rattle.def_run.specs.Remesh.{Asks, AsksToRemesh, RefusesLayout, RefusesTask, WritesFinished}
 use Rattle.def_run.specs.declared.answer.Answer.{Answer}
 use Rattle.def_run.specs.declared.answer.Answer.TheVariants as answers
 use Rattle.def_run.specs.declared.command.Command.{Command}
 use Rattle.def_run.specs.declared.command.Command.TheVariants as commands
-use Rattle.qm_top.specs.Writing.{refusal_of_put, task_of, FailsTask, IsUnwritten}
-use Rattle.qm_top.proofs.Refusals.{remesh_needs, NeedsMesh}
+use Rattle.qm_top.specs.Writing.{refusal_of_put, FailsAsked, FailsTask, IsUnwritten, ShowsAsked, WroteText}
+use Rattle.qm_top.specs.declared.finishing.Headed.{Headed}
+use Rattle.qm_top.specs.declared.refusal.Refusal.{Refusal}
+use Rattle.qm_top.proofs.Framed.{unwritten_weaker}
+use Rattle.qm_top.proofs.Refusals.{NeedsMesh}
 
 -- What a command does that asks for a task: it writes it finished, or refuses it.
 pub record IsTasked (command : Command) (asks : Asks) : Type 0 where
@@ -40,44 +47,56 @@ pub record IsTasked (command : Command) (asks : Asks) : Type 0 where
   pub refuses : (bytes : Bytes) (answer : Answer) → RefusesTask asks bytes answer → Refuses command bytes answer
 
 -- What such a command keeps that has read a mesh.
-pub task_writer : (command : Command) (asks : Asks) (input out : Change) (soup : FaceSet) (task : Task) → NeedsMesh command → IsTasked command asks
-    → IsManifold soup.faces → (read : ReadSoup MAX_BYTES input.told input.told_now soup) → input.faults_now ≡ input.faults → asks read.bytes soup task
-    → IsWriter command (IsShown task soup) (FailsTask task soup) input out
-task_writer command asks input out soup task needs tasked manifold read calm asked = record {
+pub task_writer : (command : Command) (asks : Asks) (input out : Change) (soup : FaceSet) → NeedsMesh command → IsTasked command asks
+    → IsManifold soup.faces → (read : ReadSoup MAX_BYTES input.told input.told_now soup) → input.faults_now ≡ input.faults
+    → IsWriter command (ShowsAsked asks read.bytes soup) (FailsAsked asks read.bytes soup) input out
+task_writer command asks input out soup needs tasked manifold read calm = record {
   bytes = read.bytes;
   whole = needs.reads input read.bytes read.whole;
   calm = calm;
   writes = λ text shown. tasked.writes read.bytes text
-      (record { soup = soup; mesh = record { said = read.said; manifold = manifold }; task = task; asked = asked; shown = shown });
+      (record { soup = soup; mesh = mesh; task = shown.0; asked = shown.1; shown = shown.2 });
   refuses = refuses;
 }
   where
-    refused : (answer : Answer) (plan : Plan) → IsLayoutOf soup.faces task.marks plan → RefusesLayout task.wish plan task.settings task.auto answer
-        → Refused command input answer
-    refused answer plan cut why = record {
+    mesh : IsMeshText read.bytes soup
+    mesh = record { said = read.said; manifold = manifold }
+
+    refused : (answer : Answer) (task : Task) (plan : Plan) → asks read.bytes soup task → IsLayoutOf soup.faces task.marks plan
+        → RefusesLayout task.wish plan task.settings task.auto answer → Refused command input answer
+    refused answer task plan asked cut why = record {
       bytes = read.bytes;
       whole = needs.reads input read.bytes read.whole;
-      said = tasked.refuses read.bytes answer (inr (
-        task,
-        plan,
-        record { soup = soup; mesh = record { said = read.said; manifold = manifold }; asked = asked; cut = cut },
-        why,
-      ));
+      said = tasked.refuses read.bytes answer
+          (inr (task, plan, record { soup = soup; mesh = mesh; asked = asked; cut = cut }, why));
     }
 
-    refuses : (fail : LayoutFail) → FailsTask task soup fail → Cause command input out (answer_of_layout fail)
+    refuses : (fail : LayoutFail) → FailsAsked asks read.bytes soup fail → Cause command input out (answer_of_layout fail)
     refuses layouts.Memory why = tt
-    refuses (layouts.Tangled count) (plan, cut, why) = refused (answers.Tangled count) plan cut why
-    refuses (layouts.TooFine faces kept) (plan, cut, why) = refused (answers.TooFine faces kept) plan cut why
-    refuses (layouts.Doubled u v cert) (plan, cut, why) = refused (answers.Doubled u v cert) plan cut why
+    refuses (layouts.Tangled count) (task, asked, (plan, cut, why)) = refused (answers.Tangled count) task plan asked cut why
+    refuses (layouts.TooFine faces kept) (task, asked, (plan, cut, why)) = refused (answers.TooFine faces kept) task plan asked cut why
+    refuses (layouts.Doubled u v cert) (task, asked, (plan, cut, why)) = refused (answers.Doubled u v cert) task plan asked cut why
 
--- `remesh` does so.
-pub remesh_writer : (asked : Asked) (input out : Change) (soup : FaceSet) → IsManifold soup.faces
-    → ReadSoup MAX_BYTES input.told input.told_now soup → input.faults_now ≡ input.faults
-    → IsWriter (commands.Remesh asked.settings asked.auto) (IsShown (task_of asked soup) soup) (FailsTask (task_of asked soup) soup) input out
-remesh_writer asked input out soup manifold read calm =
-    task_writer (commands.Remesh asked.settings asked.auto) (AsksToRemesh asked.settings asked.auto) input out soup (task_of asked soup)
-    (remesh_needs asked.settings asked.auto) (record { writes = λ bytes text said. said; refuses = λ bytes answer why. why }) manifold read calm refl
+-- The commands that do so.
+pub remesh_tasked : (settings : Settings) (auto : Bool) → IsTasked (commands.Remesh settings auto) (AsksToRemesh settings auto)
+remesh_tasked settings auto = record { writes = λ bytes text said. said; refuses = λ bytes answer why. why }
+
+pub coarse_tasked : (settings : Settings) → IsTasked (commands.Coarse settings) (AsksToMerge settings)
+coarse_tasked settings = record { writes = λ bytes text said. said; refuses = λ bytes answer why. why }
+
+module _ (asks : Asks) (bytes : Bytes) (soup : FaceSet) (task : Task) (asked : asks bytes soup task) (result : Result (Unit {0}) Refusal) where
+  -- What is done for a task is done for whoever asks for it.
+  pub asked_done : (out : Change) → OnOk result (WroteText (IsShown task soup) out) → OnOk result (WroteText (ShowsAsked asks bytes soup) out)
+  asked_done out done = on_ok_weaker result (λ (wrote : WroteText (IsShown task soup) out). record { text = wrote.text; said = (task, asked, wrote.said); written = wrote.written }) done
+
+  -- So is what is refused.
+  pub asked_refused : {O : Type 0} (out : Stream O) → IfErr result (IsUnwritten (IsShown task soup) (FailsTask task soup) out)
+      → IfErr result (IsUnwritten (ShowsAsked asks bytes soup) (FailsAsked asks bytes soup) out)
+  asked_refused out refused =
+      IfErr-weaker result _ _
+      (unwritten_weaker (IsShown task soup) (ShowsAsked asks bytes soup) (FailsTask task soup) (FailsAsked asks bytes soup) out
+      (λ text shown. (task, asked, shown)) (λ fail fails. (task, asked, fails)))
+      refused
 
 -- A text that was not put whole was not written whole.
 pub put_refused : {O : Type 0} (says : Bytes → Type 0) (fails : LayoutFail → Type 0) (out : Stream O) (text : Bytes) (fail : PutFail)
@@ -87,16 +106,31 @@ pub put_refused : {O : Type 0} (says : Bytes → Type 0) (fails : LayoutFail →
 put_refused says fails out text puts.Stopped said prefix rose same = record { text = text; said = said; prefix = prefix refl; fault = rose refl }
 put_refused says fails out text puts.Memory said prefix rose same = same refl
 
--- What `remesh` keeps, with its head line and nothing behind the new mesh, is in the frame of its task.
-pub framed_for : (asked : Asked) (soup : FaceSet) (plan : Plan) (framed : Framed) → framed.remesh.asked ≡ asked → IsCutTo soup.faces plan
-    → IsKept old_lengths plan asked.settings asked.auto (lists_of framed.remesh.first) (option_map lists_of framed.remesh.third) framed.remesh.numbering
-    → framed.head.items ≡ head_line asked.settings asked.auto ++ 10 ∷ [] → framed.between.items ≡ []
-    → IsFramed (task_of asked soup) framed soup plan
-framed_for asked soup plan framed same cut kept head between = record {
-  cut = cut;
-  settings = ap (λ (a : Asked). a.settings) same;
-  auto = ap (λ (a : Asked). a.auto) same;
-  kept = kept;
-  head = head;
-  between = between;
-}
+module _ (task : Task) (headed : Headed) (soup : FaceSet) (plan : Plan) (is : IsHeaded task headed soup plan) where
+  -- What holds of what is asked holds of the task.
+  of_task : (P : Wish → Settings → Bool → Type 0) → P old_lengths headed.asked.settings headed.asked.auto → P task.wish task.settings task.auto
+  of_task P holds =
+      subst (λ (wish : Wish). P wish task.settings task.auto) (sym is.wish)
+      (subst (λ (settings : Settings). P old_lengths settings task.auto) is.settings
+      (subst (λ (auto : Bool). P old_lengths headed.asked.settings auto) is.auto holds))
+
+  -- What is kept of it is in its frame.
+  pub headed_framed : (framed : Framed) → framed.remesh.asked ≡ headed.asked
+      → IsKept old_lengths plan headed.asked.settings headed.asked.auto (lists_of framed.remesh.first) (option_map lists_of framed.remesh.third)
+      framed.remesh.numbering
+      → framed.head.items ≡ headed.head.items → framed.between.items ≡ [] → IsFramed task framed soup plan
+  headed_framed framed same kept head between = record {
+    cut = is.cut;
+    settings = ap (λ (a : Asked). a.settings) same ∙ is.settings;
+    auto = ap (λ (a : Asked). a.auto) same ∙ is.auto;
+    kept = of_task
+        (λ wish settings auto. IsKept wish plan settings auto (lists_of framed.remesh.first) (option_map lists_of framed.remesh.third)
+        framed.remesh.numbering)
+        kept;
+    head = head ∙ is.head;
+    between = between ∙ sym (is.between _);
+  }
+
+  -- Where its layout is refused it fails.
+  pub headed_fails : (fail : LayoutFail) → IsLayoutFail old_lengths plan headed.asked.settings headed.asked.auto fail → FailsTask task soup fail
+  headed_fails fail why = (plan, is.cut, of_task (λ wish settings auto. IsLayoutFail wish plan settings auto fail) why)

@@ -9,12 +9,15 @@ use Rattle.def_remesh.specs.Refusals.{IsTangledAt}
 use Rattle.def_remesh.specs.Tasks.{old_lengths, Task, Wish}
 use Rattle.def_run.specs.Bench.{bench_settings, RefusesToBench}
 use Rattle.def_run.specs.Causes.{Cause, ReadsTooMany, Refused}
+use Rattle.def_run.specs.Coarse.{AsksToMerge}
 use Rattle.def_run.specs.Remesh.{Asks, AsksToRemesh, HoldsUntangled, IsSettled, RefusesLayout, RefusesTask}
 use Rattle.def_run.specs.Solving.{IsUntangled, IsUntangledBench}
 use Rattle.def_run.specs.declared.answer.Answer.{Answer}
 use Rattle.def_run.specs.declared.answer.Answer.TheVariants.{Done, Usage, Limit, NotManifold, Tangled, TooFine, Doubled, ReadFault, WriteFault, Memory}
 use Rattle.def_run.specs.declared.command.Command.{Command}
-use Rattle.def_run.specs.declared.command.Command.TheVariants.{Remesh, Bench}
+use Rattle.def_run.specs.declared.command.Command.TheVariants.{Remesh, Bench, Coarse}
+use Rattle.def_text.specs.Input.{ReadWhole}
+use Rattle.def_text.specs.declared.limits.TheConstants.{MAX_BYTES}
 use Rattle.def_text.specs.declared.refusal.Which.TheVariants.{Bytes as AllBytes}
 use Rattle.qm_top.proofs.Complete.{mesh_not_refused, not_too_long, rose_if, same_bytes}
 
@@ -27,17 +30,18 @@ layout_settles wish settings auto plan (Doubled u v cert) fits why = tt
 layout_settles wish settings auto plan _ fits why = absurd why
 
 -- So are the bytes that a source held.
-task_settles : (asks : Asks) (left : Told) (held : HoldsUntangled asks left) (answer : Answer) → RefusesTask asks held.bytes answer → IsSettled answer
-task_settles asks left held answer (inl none) = absurd (mesh_not_refused held.bytes held.soup answer held.mesh none)
-task_settles asks left held answer (inr (task, plan, has, why)) =
+held_settles : (asks : Asks) (left : Told) (held : HoldsUntangled asks left) (answer : Answer) → RefusesTask asks held.bytes answer → IsSettled answer
+held_settles asks left held answer (inl none) = absurd (mesh_not_refused held.bytes held.soup answer held.mesh none)
+held_settles asks left held answer (inr (task, plan, has, why)) =
     layout_settles task.wish task.settings task.auto plan answer (held.untangled task plan has) why
 
-remesh_settles : (settings : Settings) (auto : Bool) (input : Change) (answer : Answer) → HoldsUntangled (AsksToRemesh settings auto) input.told
-    → Refused (Remesh settings auto) input answer → IsSettled answer
-remesh_settles settings auto input answer held bad =
-    task_settles (AsksToRemesh settings auto) input.told held answer
-    (subst (λ (xs : Bytes). RefusesTask (AsksToRemesh settings auto) xs answer)
-    (same_bytes input.told input.told_now bad.bytes held.bytes held.held bad.whole.given bad.whole.ended) bad.said)
+-- So are the bytes that were read.
+task_settles : (asks : Asks) (input : Change) (bytes : Bytes) (answer : Answer) → HoldsUntangled asks input.told
+    → ReadWhole MAX_BYTES input.told input.told_now bytes → RefusesTask asks bytes answer → IsSettled answer
+task_settles asks input bytes answer held whole said =
+    held_settles asks input.told held answer
+    (subst (λ (xs : Bytes). RefusesTask asks xs answer)
+    (same_bytes input.told input.told_now bytes held.bytes held.held whole.given whole.ended) said)
 
 -- So is the mesh of a size.
 bench_settles : (size : ℕ) (answer : Answer) → IsUntangledBench size → RefusesToBench size answer → IsSettled answer
@@ -60,9 +64,12 @@ settles : (command : Command) (input out : Change) (answer : Answer) → Cause c
     → IsSettled answer ⊎ ((answer ≡ Memory) ⊎ (Rose input.faults input.faults_now ⊎ Rose out.faults out.faults_now))
 settles (Remesh settings auto) input out answer why held =
     settles_if (Remesh settings auto) input out answer (λ more. not_too_long _ _ held.bytes held.held held.within more)
-    (λ refusal bad. remesh_settles settings auto input refusal held bad) why
+    (λ refusal bad. task_settles (AsksToRemesh settings auto) input bad.bytes refusal held bad.whole bad.said) why
 settles (Bench size) input out answer why held =
     settles_if (Bench size) input out answer (λ more. more) (λ refusal bad. bench_settles size refusal held bad.said) why
+settles (Coarse settings) input out answer why held =
+    settles_if (Coarse settings) input out answer (λ more. not_too_long _ _ held.bytes held.held held.within more)
+    (λ refusal bad. task_settles (AsksToMerge settings) input bad.bytes refusal held bad.whole bad.said) why
 settles _ input out answer why held = absurd held
 
 -- The same of the answer that a run gives, and of a line's one command.

@@ -1,9 +1,12 @@
 -- What a command keeps that writes a new mesh.
 use Rattle.std.specs.Prelude.{IfErr, OnOk}
-use Rattle.std.proofs.Common.{◌≡◌, ◌≢◌, Result, Ok, Err, subst, refl}
+use Rattle.std.proofs.Common.{◌≡◌, ◌≢◌, Bool, List, Result, Ok, Err, subst, refl}
+use Rattle.def_cut.specs.Traced.{traced_marks}
 use Rattle.def_io.specs.Bytes.{Bytes}
 use Rattle.def_io.specs.Moves.{Change, Stream}
+use Rattle.def_layout.specs.FaceLayouts.{IsLayoutOf}
 use Rattle.def_layout.specs.Plans.{Plan}
+use Rattle.def_merge.specs.Merged.{IsMergedCut}
 use Rattle.def_mesh.specs.Faces.{Faces}
 use Rattle.def_mesh.specs.declared.Place.{Place}
 use Rattle.def_remesh.specs.Placings.{IsLayoutIn}
@@ -24,6 +27,13 @@ use Rattle.qm_top.specs.declared.refusal.Refusal.TheVariants as refusals
 pub of_soup : (mesh faces : Faces) (plan : Plan) → mesh ≡ faces → IsLayoutIn mesh plan → IsCutTo mesh plan
     → IsLayoutIn faces plan × IsCutTo faces plan
 of_soup mesh faces plan same lies cut = subst (λ (fs : Faces). IsLayoutIn fs plan × IsCutTo fs plan) same (lies, cut)
+
+-- So does one of the merged cut.
+abbrev pub IsMergedLayout : (faces : Faces) (plan : Plan) → Type 0
+IsMergedLayout faces plan = (rest : List Bool) × IsMergedCut faces (traced_marks faces) rest × IsLayoutOf faces rest plan
+
+pub merged_of_soup : (mesh faces : Faces) (plan : Plan) → mesh ≡ faces → IsMergedLayout mesh plan → IsMergedLayout faces plan
+merged_of_soup mesh faces plan same merged = subst (λ (fs : Faces). IsMergedLayout fs plan) same merged
 
 -- No layout's refusal names a place.
 layout_place : (fail : LayoutFail) (p : Place) → answer_of_layout fail ≡ answers.NotManifold p → ⊥

@@ -5,13 +5,15 @@ use Rattle.def_certtext.specs.CertLines.{lists_of}
 use Rattle.def_io.specs.Bytes.{Bytes}
 use Rattle.def_io.specs.declared.TheConstants.{LINE_FEED}
 use Rattle.def_layout.specs.FaceLayouts.{IsLayoutOf}
+use Rattle.def_layout.specs.Lengths.{Lengths}
 use Rattle.def_layout.specs.Plans.{Plan}
 use Rattle.def_remesh.specs.Keeping.{IsKept}
 use Rattle.def_remesh.specs.NewPoints.{lengths_in}
 use Rattle.def_remesh.specs.Remeshed.{text_behind_head, used}
-use Rattle.def_remesh.specs.Tasks.{Task}
+use Rattle.def_remesh.specs.Tasks.{old_lengths, Task}
 use Rattle.def_remesh.specs.declared.kept.LayoutFail.{LayoutFail}
 use Rattle.def_text.specs.FaceSet.{FaceSet}
+use Rattle.qm_top.specs.declared.finishing.Headed.{Headed}
 use Rattle.qm_write.specs.declared.text.Framed.{Framed}
 
 -- The text of a remesh in its frame.
@@ -30,6 +32,16 @@ pub record IsFramed (task : Task) (framed : Framed) (soup : FaceSet) (plan : Pla
   pub head : framed.head.items ≡ task.head ++ LINE_FEED ∷ []
   pub between : framed.between.items ≡ task.between plan
       (lengths_in (used (lists_of framed.remesh.first) (option_map lists_of framed.remesh.third)).x)
+
+-- A task over a cut that gives this layout. It takes the old lengths, and its text has this head line and nothing
+-- between the new mesh and the certificates.
+pub record IsHeaded (task : Task) (headed : Headed) (soup : FaceSet) (plan : Plan) : Type 0 where
+  pub cut : IsLayoutOf soup.faces task.marks plan
+  pub wish : task.wish ≡ old_lengths
+  pub settings : headed.asked.settings ≡ task.settings
+  pub auto : headed.asked.auto ≡ task.auto
+  pub head : headed.head.items ≡ task.head ++ LINE_FEED ∷ []
+  pub between : (new : Lengths) → task.between plan new ≡ []
 
 -- No layout is refused any more.
 abbrev pub IsNoLayout : (failed : LayoutFail) → Type 0

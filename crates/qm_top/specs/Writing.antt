@@ -3,7 +3,6 @@ use Rattle.std.specs.Prelude.{◌≡◌}
 use Rattle.def_io.specs.Bytes.{Bytes}
 use Rattle.def_io.specs.Faults.{Rose}
 use Rattle.def_io.specs.Moves.{Change, IsStill, Stream, took, TookPrefix}
-use Rattle.def_certtext.specs.declared.Asked.{Asked}
 use Rattle.def_layout.specs.Plans.{Plan}
 use Rattle.def_io.specs.declared.fails.WriteFail.TheVariants as writes
 use Rattle.def_remesh.specs.Refusals.{IsLayoutFail}
@@ -15,7 +14,9 @@ use Rattle.qm_top.specs.declared.refusal.Refusal.{Refusal}
 use Rattle.qm_top.specs.declared.refusal.Refusal.TheVariants.{Layout, Write}
 use Rattle.qm_top.specs.declared.refusal.Refusal.TheVariants as refusals
 use Rattle.def_layout.specs.FaceLayouts.{IsLayoutOf}
-use Rattle.def_remesh.specs.Tasks.{remesh_task, Task}
+use Rattle.def_remesh.specs.Certified.{IsShown}
+use Rattle.def_remesh.specs.Tasks.{Task}
+use Rattle.def_run.specs.Remesh.{Asks}
 
 -- The sink took a text that says this.
 pub record WroteText (says : Bytes → Type 0) (out : Change) : Type 0 where
@@ -44,9 +45,13 @@ FailsTask task soup failed =
     (plan : Plan) × IsLayoutOf soup.faces task.marks plan
     × IsLayoutFail task.wish plan task.settings task.auto failed
 
--- What is asked of the faces of a soup.
-abbrev pub task_of : (asked : Asked) (soup : FaceSet) → Task
-task_of asked soup = remesh_task asked.settings asked.auto soup.faces
+-- A text that finishes a task which is asked of these bytes and their soup.
+abbrev pub ShowsAsked : (asks : Asks) (bytes : Bytes) (soup : FaceSet) (text : Bytes) → Type 0
+ShowsAsked asks bytes soup text = (task : Task) × asks bytes soup task × IsShown task soup text
+
+-- Why such a task is not finished.
+abbrev pub FailsAsked : (asks : Asks) (bytes : Bytes) (soup : FaceSet) (failed : LayoutFail) → Type 0
+FailsAsked asks bytes soup failed = (task : Task) × asks bytes soup task × FailsTask task soup failed
 
 -- The refusal of a text that was not put whole.
 abbrev pub refusal_of_put : (fail : PutFail) → Refusal

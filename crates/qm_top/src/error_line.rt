@@ -25,7 +25,8 @@ pub(crate) fn error_line_of(answer: &Answer, names: &[u32]) -> Line
 }
 
 const USAGE: &str =
-    "usage: quadq tidy | graph | refine --by K | remesh --scale P/Q --floor F --weight plain|length | check | bench --size N";
+    "usage: quadq tidy | graph | refine --by K | remesh --scale P/Q --floor F --weight plain|length \
+    | check | bench --size N | coarse --scale P/Q --floor F --weight plain|length";
 
 fn reason_of(answer: &Answer, names: &[u32]) -> Line
     requires { HasNames names.now answer.now }

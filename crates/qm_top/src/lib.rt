@@ -3,10 +3,12 @@
 
 mod bench;
 mod check;
+mod coarse;
 mod command;
 mod error_line;
 mod finishing;
 mod graph;
+mod heads;
 mod input;
 mod named;
 mod process;

@@ -2,12 +2,13 @@
 
 ghost use Rattle.std.specs.Prelude.{◌≡◌, IfErr, OnOk};
 ghost use Rattle.def_certtext.specs.Settings.{AreInRange};
+ghost use Rattle.def_io.specs.Bytes.{Bytes};
 ghost use Rattle.def_io.specs.Moves.{change, stream};
-ghost use Rattle.def_remesh.specs.Certified.{IsShown};
+ghost use Rattle.def_run.specs.Remesh.{AsksToRemesh};
 ghost use Rattle.qm_top.specs.Runs.{HasRun};
-ghost use Rattle.qm_top.specs.Writing.{task_of, FailsTask, IsUnwritten, WroteText};
+ghost use Rattle.qm_top.specs.Writing.{FailsAsked, IsUnwritten, ShowsAsked, WroteText};
 
-use crate::finishing::write_task;
+use crate::finishing::{Headed, finish};
 use crate::input::{MeshInput, read_mesh};
 use crate::refusal::Refusal;
 use def_certtext::Asked;
@@ -15,8 +16,7 @@ use def_run::Command;
 use qm_certtext::head_text;
 use qm_cut::traced_layout;
 use qm_io::{Sink, Source};
-use qm_remesh::keep;
-use qm_write::{CutMesh, Framed};
+use qm_write::CutMesh;
 use std::alloc::Global;
 
 /// Reads a mesh, finds least lengths for its layout, and writes the new mesh with their certificates.
@@ -44,22 +44,17 @@ fn remesh_mesh<O: Sink>(
 ) -> Result<(), Refusal>
     requires range { AreInRange asked.settings asked.auto }
     requires mesh { read.mesh ≡ read.soup.faces }
-    ensures done { OnOk result (WroteText (IsShown (task_of asked read.soup) read.soup)
+    ensures done { (bytes : Bytes) → OnOk result (WroteText
+        (ShowsAsked (AsksToRemesh asked.settings asked.auto) bytes read.soup)
         (change (O.state out.old) (O.state out.new))) }
-    ensures refused { IfErr result (IsUnwritten (IsShown (task_of asked read.soup) read.soup)
-        (FailsTask (task_of asked read.soup) read.soup)
+    ensures refused { (bytes : Bytes) → IfErr result (IsUnwritten
+        (ShowsAsked (AsksToRemesh asked.settings asked.auto) bytes read.soup)
+        (FailsAsked (AsksToRemesh asked.settings asked.auto) bytes read.soup)
         (stream O.state out.old out.new)) }
 {
     let MeshInput { soup, mesh } = read;
     let layout = traced_layout(alloc, &mesh)?;
-    let kept = keep(alloc, &layout, asked)?;
     let head = head_text(alloc, &asked.settings, asked.auto)?;
-    let between = Vec::new(alloc);
-    let framed = Framed {
-        head,
-        between,
-        remesh: kept,
-    };
     let cut = CutMesh { mesh, layout };
-    write_task(alloc, &soup, &cut, framed, out)
+    finish(alloc, &soup, &cut, Headed { asked, head }, out)
 }

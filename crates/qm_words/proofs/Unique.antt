@@ -9,7 +9,7 @@ use Rattle.def_certtext.specs.Settings.{AreWordsOf}
 use Rattle.def_run.specs.CommandLines.{name_of, HasCount, HasOptions, HasSettings, IsCommand}
 use Rattle.def_run.specs.Options.{uses_of, value_of, Uses}
 use Rattle.def_run.specs.declared.command.Command.{Command}
-use Rattle.def_run.specs.declared.command.Command.TheVariants.{Tidy, Graph, Refine, Remesh, Check, Bench}
+use Rattle.def_run.specs.declared.command.Command.TheVariants.{Tidy, Graph, Refine, Remesh, Check, Bench, Coarse}
 use Rattle.def_run.specs.declared.words.WordsFail.{WordsFail}
 use Rattle.def_run.specs.declared.words.WordsFail.TheVariants.{Memory, Usage}
 use Rattle.def_text.specs.Types.{Word, Words}
@@ -31,7 +31,7 @@ same_count name greatest words m n few one two =
     decimal_injective m n (omega (arith, one.count.high)) (omega (arith, two.count.high))
     (sym one.count.written ∙ ap (value_of name) uses ∙ two.count.written)
 
-same_asked : (words : Words) (s t : Settings) (a b : Bool) → HasSettings words s a → HasSettings words t b → (s ≡ t) × (a ≡ b)
+pub same_asked : (words : Words) (s t : Settings) (a b : Bool) → HasSettings words s a → HasSettings words t b → (s ≡ t) × (a ≡ b)
 same_asked words s t a b one two =
     let uses = same_uses words two.uses one.uses two.options.spelled one.options.spelled in
     same_settings _ _ _ s t a b one.values (subst (HasValues t b) uses two.values)
@@ -48,6 +48,7 @@ same_options (Remesh s x) (Remesh t y) words name one two =
     λ i. Remesh (both.0 i) (both.1 i)
 same_options Check Check words name one two = refl
 same_options (Bench m) (Bench n) words name one two = ap (λ (k : ℕ). Bench k) (same_count _ 10000 words m n (omega arith) one two)
+same_options (Coarse s) (Coarse t) words name one two = ap (λ (k : Settings). Coarse k) (same_asked words s t false false one two).0
 same_options a b words name one two = absurd (apart (name_of a) (name_of b) refl name)
 
 pub one_command : (words : Words) (a b : Command) → IsCommand words a → IsCommand words b → a ≡ b

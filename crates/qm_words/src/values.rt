@@ -1,12 +1,13 @@
 //! The values of a line's options.
 
 ghost use Rattle.std.specs.Prelude.{◌≡◌, ◌≤◌, ℕ, Bool, [], ◌∷◌, false, map, string_bytes, IfOk, IfErr};
-ghost use Rattle.def_flow.specs.declared.net.Settings.{Settings};
+ghost use Rattle.def_flow.specs.declared.net.Settings.{Settings as AnySettings};
 ghost use Rattle.def_run.specs.CommandLines.{HasCount, HasSettings};
 ghost use Rattle.qm_words.specs.Parsing.{is_known};
 
 use crate::options::read_options;
 use def_certtext::Asked;
+use def_flow::Settings;
 use def_run::WordsFail;
 use qm_certtext::read_settings;
 use qm_dec::read_count;
@@ -38,7 +39,7 @@ pub(crate) fn number_of(
 pub(crate) fn settings_of(alloc: Global, words: &[String]) -> Result<Asked, WordsFail>
     ensures reads { IfOk result (λ asked. HasSettings (map string_bytes words.now) asked.settings asked.auto) }
     ensures refuses { IfErr result (λ fail. fail ≡ WordsFail.Usage
-        → (settings : Settings) (auto : Bool) → ¬ HasSettings (map string_bytes words.now) settings auto) }
+        → (settings : AnySettings) (auto : Bool) → ¬ HasSettings (map string_bytes words.now) settings auto) }
 {
     let names = ["scale", "floor", "weight"];
     let matches = read_options(alloc, &names, words)?;
@@ -49,4 +50,17 @@ pub(crate) fn settings_of(alloc: Global, words: &[String]) -> Result<Asked, Word
         Some(asked) => Ok(asked),
         None => Err(WordsFail::Usage),
     }
+}
+
+/// The same of words whose floor is a number.
+pub(crate) fn fixed_settings_of(alloc: Global, words: &[String]) -> Result<Settings, WordsFail>
+    ensures reads { IfOk result (λ settings. HasSettings (map string_bytes words.now) settings false) }
+    ensures refuses { IfErr result (λ fail. fail ≡ WordsFail.Usage
+        → (settings : AnySettings) → ¬ HasSettings (map string_bytes words.now) settings false) }
+{
+    let asked = settings_of(alloc, words)?;
+    if asked.auto {
+        return Err(WordsFail::Usage);
+    }
+    Ok(asked.settings)
 }

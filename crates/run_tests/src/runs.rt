@@ -52,8 +52,12 @@ const ALL_WELL: Streams = Streams {
     err: WELL,
 };
 
-/// Commands that write a mesh: the one whole, the other line by line.
-const LINES: [&str; 2] = ["tidy", "remesh --scale 3/1 --floor 1 --weight plain"];
+/// Commands that write a mesh: the first one whole, the others line by line.
+const LINES: [&str; 3] = [
+    "tidy",
+    "remesh --scale 3/1 --floor 1 --weight plain",
+    "coarse --scale 3/1 --floor 1 --weight plain",
+];
 
 /// A run of a command line: its answer, what went out, and what was said of it.
 fn ran(

@@ -48,6 +48,14 @@ fn lines_have_their_commands(rt: HostRuntime) -> Result<(), Fail> {
                 auto: false,
             }),
         ),
+        (
+            "coarse --weight=length --scale 2/4 --floor 3",
+            Ok(Command::Coarse { settings: WHOLE }),
+        ),
+        (
+            "coarse --weight length --scale 2/4 --floor auto",
+            Err(WordsFail::Usage),
+        ),
         ("", Err(WordsFail::Usage)),
         ("tidy --", Err(WordsFail::Usage)),
         ("--help", Err(WordsFail::Usage)),

@@ -1,6 +1,8 @@
 use Rattle.std.proofs.Common.{refl}
+use Rattle.def_run.specs.Remesh.{AsksToRemesh}
+use Rattle.def_run.specs.declared.command.Command.TheVariants.{Remesh}
 use Rattle.qm_top.proofs.Refusals.{handed_run, input_ended, remesh_needs}
-use Rattle.qm_top.proofs.Remeshed.{remesh_writer}
+use Rattle.qm_top.proofs.Remeshed.{remesh_tasked, task_writer}
 use Rattle.qm_top.proofs.Writers.{writer_runs}
 use Rattle.qm_top.proofs.remesh.remesh.Goals as goal
 
@@ -11,5 +13,9 @@ returns-in_err-read g c =
 
 pub returns : goal.returns
 returns g c =
-    writer_runs _ _ _ _ _ (remesh_writer c.args.asked _ _ c.in_ok-read.read.soup c.in_ok-read.ensures.manifold c.in_ok-read.ensures.soup c.in_ok-read.ensures.calm)
-    c.remesh_mesh.result c.remesh_mesh.ensures.done c.remesh_mesh.ensures.refused
+    let settings = c.args.asked.settings in
+    let auto = c.args.asked.auto in
+    writer_runs _ _ _ _ _
+    (task_writer (Remesh settings auto) (AsksToRemesh settings auto) _ _ c.in_ok-read.read.soup (remesh_needs settings auto) (remesh_tasked settings auto)
+    c.in_ok-read.ensures.manifold c.in_ok-read.ensures.soup c.in_ok-read.ensures.calm)
+    c.remesh_mesh.result (c.remesh_mesh.ensures.done _) (c.remesh_mesh.ensures.refused _)
