@@ -1,1 +1,4 @@
+pub mod Fails
 pub mod Roots
+pub mod Starts
+pub mod Targets

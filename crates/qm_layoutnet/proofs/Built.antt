@@ -29,12 +29,12 @@ use Rattle.qm_layoutnet.proofs.Balance.{balance_law, has_ends, node_low, HasEnds
 use Rattle.qm_layoutnet.proofs.Tangles.{tangle_small, term_low}
 
 -- A count along a list is one over its places.
-count_at : (f : Arc → ℕ) (xs : List Arc) → count f xs ≡ count_below (λ k. f (arc_at xs k)) (length xs)
+pub count_at : (f : Arc → ℕ) (xs : List Arc) → count f xs ≡ count_below (λ k. f (arc_at xs k)) (length xs)
 count_at f [] = refl
 count_at f (x ∷ xs) = omega (arith, count_at f xs, count_below_prefix (λ k. f (arc_at (x ∷ xs) k)) (length xs))
 
 -- What each arc passes all pass.
-all_pass : (p : Arc → Bool) (xs : List Arc) → ((k : ℕ) → k < length xs → p (arc_at xs k) ≡ true) → list_all p xs ≡ true
+pub all_pass : (p : Arc → Bool) (xs : List Arc) → ((k : ℕ) → k < length xs → p (arc_at xs k) ≡ true) → list_all p xs ≡ true
 all_pass p [] each = refl
 all_pass p (x ∷ xs) each = ap (λ (b : Bool). b && list_all p xs) (each 0 (omega arith)) ∙ all_pass p xs (λ k l. each (suc k) (omega arith))
 

@@ -1,7 +1,7 @@
 pub mod Hits
 pub mod Balance
 mod EndTables
-mod Whole
+pub mod Whole
 mod Tangles
-mod Built
+pub mod Built
 pub mod OneNet

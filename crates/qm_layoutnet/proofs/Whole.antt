@@ -43,6 +43,10 @@ module _ (plan : Plan) (is : IsMeshLayout plan) where
   here : (t : ℕ) → t < count_below (long_at plan.arcs) (length plan.arcs) → IsInRun (long_at plan.arcs) (length plan.arcs) t (run_of t) (place_of t)
   here t l = run_here (long_at plan.arcs) (length plan.arcs) t l
 
+  -- They are darts of the mesh.
+  pub arc_inside : (a k : ℕ) → a < length plan.arcs → k < long_at plan.arcs a → dart_at plan.arcs a k < darts is.faces
+  arc_inside = dart_low (half_edges is.faces) laws (is_on is.marks) cut (is_node is.faces is.marks) nodes plan.arcs is.laid.arcs
+
   -- They differ, so there are no more than the mesh has.
   pub lengths_few : count_below (long_at plan.arcs) (length plan.arcs) ≤ darts is.faces
   lengths_few = no_more (count_below (long_at plan.arcs) (length plan.arcs)) (darts is.faces) (λ t. dart_at plan.arcs (run_of t) (place_of t)) (λ d. d) apart there
@@ -59,7 +63,7 @@ module _ (plan : Plan) (is : IsMeshLayout plan) where
       there : (i : ℕ) → i < count_below (long_at plan.arcs) (length plan.arcs) → (j : ℕ) × (j < darts is.faces) × (j ≡ dart_at plan.arcs (run_of i) (place_of i))
       there i l = (
         dart_at plan.arcs (run_of i) (place_of i),
-        dart_low (half_edges is.faces) laws (is_on is.marks) cut (is_node is.faces is.marks) nodes plan.arcs is.laid.arcs (run_of i) (place_of i) (here i l).low (here i l).inside,
+        arc_inside (run_of i) (place_of i) (here i l).low (here i l).inside,
         refl,
       )
 

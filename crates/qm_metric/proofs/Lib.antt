@@ -1,1 +1,5 @@
 mod RootLaws
+mod Reading
+mod Wished
+mod Nets
+pub mod StartLaws

@@ -39,3 +39,10 @@ within (suc digits) n low = more n (root_within digits (n / 4)) (within digits (
 
 pub root_law : WholeRootLaw
 root_law n low = (within 64 n low, λ r is. same_root n r (root_of n) is (within 64 n low))
+
+-- The root of a number below 2 ^ 124.
+pub root_small : (n r : ℕ) → IsRoot n r → n < 2 ^ 124 → r < 2 ^ 62
+root_small n r is low = elim (leb_tells (2 ^ 62) r) [
+  | inl le ↦ absurd (omega (arith, mul-le (2 ^ 62) (2 ^ 62) r r le.1 le.1, is.low, low))
+  | inr less ↦ less.1
+]

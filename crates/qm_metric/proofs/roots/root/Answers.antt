@@ -1,5 +1,4 @@
 -- The root is the one that is computed digit by digit.
-use Rattle.std.proofs.Common.{arith}
 use Rattle.qm_metric.proofs.RootLaws.{root_law}
 use Rattle.qm_metric.proofs.roots.root.Goals as goal
 

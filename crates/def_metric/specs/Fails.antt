@@ -1,0 +1,42 @@
+-- Why a layout is not remeshed with edges of a given length.
+use Rattle.std.specs.Prelude.{◌≡◌, ℕ, ◌<◌, ◌≤◌, false, ⊤}
+use Rattle.def_layout.specs.Plans.{Plan}
+use Rattle.def_remesh.specs.Refusals.{IsLayoutFail, IsTangledAt}
+use Rattle.def_remesh.specs.Tasks.{Wish}
+use Rattle.def_remesh.specs.declared.kept.LayoutFail.TheVariants as layouts
+use Rattle.def_metric.specs.Targets.{edge_settings, wish_sum}
+use Rattle.def_metric.specs.declared.fail.MetricFail.{MetricFail}
+use Rattle.def_metric.specs.declared.fail.MetricFail.TheVariants.{Tangled, Far, Memory}
+use Rattle.def_metric.specs.declared.fail.SizeFail.{SizeFail}
+use Rattle.def_metric.specs.declared.fail.SizeFail.TheVariants as sizes
+use Rattle.def_metric.specs.declared.limits.TheConstants.{MAX_TARGETS}
+
+-- The targets add up to no more than the limit.
+abbrev pub AreNear : (wish : Wish) (plan : Plan) → Type 0
+AreNear wish plan = wish_sum wish plan ≤ MAX_TARGETS
+
+-- They add up to this sum, which is too great, and their network is not too tangled.
+pub record IsFar (wish : Wish) (plan : Plan) (floor sum : ℕ) : Type 0 where
+  pub untangled : (count : ℕ) → ¬ IsTangledAt wish plan (edge_settings floor) count
+  pub told : sum ≡ wish_sum wish plan
+  pub high : MAX_TARGETS < sum
+
+-- Why a layout has no network for these targets. Want of memory says nothing of them.
+abbrev pub HasNoTargets : (wish : Wish) (plan : Plan) (floor : ℕ) (fail : MetricFail) → Type 0
+HasNoTargets wish plan floor (Tangled count) = IsTangledAt wish plan (edge_settings floor) count
+HasNoTargets wish plan floor (Far sum) = IsFar wish plan floor sum
+HasNoTargets wish plan floor Memory = ⊤
+
+-- A layout that has none is not remeshed.
+abbrev pub size_fail_of : (fail : MetricFail) → SizeFail
+size_fail_of (Tangled count) = sizes.Layout (layouts.Tangled count)
+size_fail_of (Far sum) = sizes.Far sum
+size_fail_of Memory = sizes.Layout layouts.Memory
+
+-- Why it is not remeshed: it has no network, or least lengths give too many faces or double an edge.
+abbrev pub IsSizeFail : (wish : Wish) (plan : Plan) (floor : ℕ) (fail : SizeFail) → Type 0
+IsSizeFail wish plan floor (sizes.Far sum) = IsFar wish plan floor sum
+IsSizeFail wish plan floor (sizes.Layout (layouts.Tangled count)) = IsTangledAt wish plan (edge_settings floor) count
+IsSizeFail wish plan floor (sizes.Layout layouts.Memory) = ⊤
+IsSizeFail wish plan floor (sizes.Layout failed) =
+    AreNear wish plan × IsLayoutFail wish plan (edge_settings floor) false failed

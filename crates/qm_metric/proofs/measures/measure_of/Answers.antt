@@ -1,0 +1,18 @@
+use Rattle.std.proofs.Common.{arith}
+use Rattle.def_metric.specs.Targets.{edge_length}
+use Rattle.table_laws.proofs.Ranges.{count_take}
+use Rattle.qm_metric.proofs.measures.measure_of.Goals as goal
+
+pub loop-dart-preserved : goal.loop-dart-preserved
+loop-dart-preserved c =
+    let one = c.edge_length.ensures in
+    record {
+      sum = omega (
+        arith,
+        c.loop-dart.invariant.sum,
+        c.from-sum.ensures,
+        one.value,
+        count_take (edge_length c.args.ruler.now.mesh.now c.args.ruler.now.pos.now) 0 c.args.path.now c.loop-dart.dart-index c.loop-dart-test.true,
+      );
+      small = omega (arith, c.loop-dart.invariant.small, c.from-sum.ensures, one.small);
+    }

@@ -1,0 +1,10 @@
+use Rattle.std.proofs.Common.{◌≡◌, ◌*◌, ◌^◌, ◌≤◌, take}
+use Rattle.def_math.specs.Counts.{count}
+use Rattle.def_metric.specs.Targets.{edge_length}
+use Rattle.qm_metric.proofs.measures.measure_of.Given as goal
+
+abbrev pub invariant-loop-dart : goal.invariant-loop-dart
+invariant-loop-dart l = record {
+  sum : l.sum ≡ count (edge_length l.ruler.mesh.now l.ruler.pos.now) (take l.dart-index l.path);
+  small : l.sum ≤ l.dart-index * 2 ^ 62;
+}

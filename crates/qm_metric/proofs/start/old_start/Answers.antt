@@ -1,0 +1,18 @@
+use Rattle.std.proofs.Common.{◌<◌, ◌*◌, ◌^◌, List, length, map, sym, ◌∙◌, ap, subst}
+use Rattle.std.specs.List.{All}
+use Rattle.std.proofs.lemmas.Result.{IfOk-weaker}
+use Rattle.def_layout.specs.declared.tmesh.TArc.{TArc}
+use Rattle.qm_layoutnet.proofs.Whole.{runs_short}
+use Rattle.qm_metric.proofs.Reading.{times_same}
+use Rattle.qm_metric.proofs.start.old_start.Goals as goal
+
+pub times_long-requires : goal.times_long-requires
+times_long-requires c =
+    subst (λ (runs : List TArc). All (λ (run : TArc). length run.darts.items < 2 ^ 32) runs) (sym c.deref.ensures.value)
+    (runs_short c.args.t.now c.requires.layout)
+
+pub returns : goal.returns
+returns c =
+    IfOk-weaker c.times_long.result _ _
+    (λ start is. is ∙ ap (map (λ (run : TArc). c.args.floor * length run.darts.items)) c.deref.ensures.value ∙ times_same c.args.floor c.args.t.now.arcs.items)
+    c.times_long.ensures
