@@ -59,39 +59,36 @@ fn stand_each(mesh: &Mesh, ridden: &[u32], stood: &mut [bool])
     }
 }
 
-/// These marks with those of the ridden darts set.
-pub(crate) fn set_marks(ridden: &[u32], value: bool, mut marks: Vec<bool>) -> Vec<bool>
-    requires { (d : ℕ) → is_among d ridden.now ≡ true → d < length marks.items }
-    ensures long { length result.items ≡ length marks.items }
-    ensures each { (d : ℕ) → is_on result.items d ≡ cond (is_among d ridden.now) value (is_on marks.items d) }
+/// Sets the marks of the ridden darts.
+pub(crate) fn set_marks(ridden: &[u32], value: bool, marks: &mut Vec<bool>)
+    requires { (d : ℕ) → is_among d ridden.now ≡ true → d < length marks.old.items }
+    ensures long { length marks.new.items ≡ length marks.old.items }
+    ensures each { (d : ℕ) → is_on marks.new.items d ≡ cond (is_among d ridden.now) value (is_on marks.old.items d) }
 {
-    set_each(ridden, value, &mut marks);
-    marks
+    set_each(ridden, value, marks);
 }
 
-/// These marks with those of the ridden edges.
-pub(crate) fn cover(mesh: &Mesh, ridden: &[u32], mut covered: Vec<bool>) -> Vec<bool>
+/// Marks the ridden edges.
+pub(crate) fn cover(mesh: &Mesh, ridden: &[u32], covered: &mut Vec<bool>)
     requires darts { AreDarts mesh.now ridden.now }
-    requires long { length covered.items ≡ darts mesh.now }
-    ensures long { length result.items ≡ length covered.items }
+    requires long { length covered.old.items ≡ darts mesh.now }
+    ensures long { length covered.new.items ≡ length covered.old.items }
     ensures each { (d : ℕ) → d < darts mesh.now
-        → is_on result.items d
-        ≡ (is_on covered.items d || (is_among d ridden.now || is_found (twin_of mesh.now d) ridden.now)) }
+        → is_on covered.new.items d
+        ≡ (is_on covered.old.items d || (is_among d ridden.now || is_found (twin_of mesh.now d) ridden.now)) }
 {
-    cover_each(mesh, ridden, &mut covered);
-    covered
+    cover_each(mesh, ridden, covered);
 }
 
-/// These marks with those of the vertices where ridden darts end.
-pub(crate) fn stand(mesh: &Mesh, ridden: &[u32], mut stood: Vec<bool>) -> Vec<bool>
+/// Marks the vertices where ridden darts end.
+pub(crate) fn stand(mesh: &Mesh, ridden: &[u32], stood: &mut Vec<bool>)
     requires darts { AreDarts mesh.now ridden.now }
-    requires long { length stood.items ≡ vertex_count mesh.now }
-    ensures long { length result.items ≡ length stood.items }
+    requires long { length stood.old.items ≡ vertex_count mesh.now }
+    ensures long { length stood.new.items ≡ length stood.old.items }
     ensures each { (v : ℕ)
-        → is_on result.items v ≡ (is_on stood.items v || list_any (λ d. to_of mesh.now d == v) ridden.now) }
+        → is_on stood.new.items v ≡ (is_on stood.old.items v || list_any (λ d. to_of mesh.now d == v) ridden.now) }
 {
-    stand_each(mesh, ridden, &mut stood);
-    stood
+    stand_each(mesh, ridden, stood);
 }
 
 /// These marks with those of the vertices that these darts leave.

@@ -93,23 +93,17 @@ pub(crate) struct Sight {
 }
 
 /// Moves the riders of the queue, all by what they see at once: they are then those after the next step of the motion.
-pub(crate) fn ride_all(
-    mesh: &Mesh,
-    sight: &Sight,
-    queue: &[u32],
-    mut riders: Vec<Moving>,
-) -> Vec<Moving>
-    requires can { CanRide mesh.now riders.items queue.now }
+pub(crate) fn ride_all(mesh: &Mesh, sight: &Sight, queue: &[u32], riders: &mut Vec<Moving>)
+    requires can { CanRide mesh.now riders.old.items queue.now }
     requires ground { IsGround mesh.now sight.now.ground.boundary.items sight.now.ground.singular.items }
     requires stood { length sight.now.stood.items ≡ vertex_count mesh.now }
     requires taken { length sight.now.taken.items ≡ darts mesh.now }
     ensures { (marks : List Bool) (k : ℕ)
-        → IsInstant mesh.now marks k riders.items queue.now sight.now.stood.items sight.now.taken.items
-        → result.items ≡ (later (terrain_of mesh.now) (marked_first mesh.now marks) (suc k)).riders }
+        → IsInstant mesh.now marks k riders.old.items queue.now sight.now.stood.items sight.now.taken.items
+        → riders.new.items ≡ (later (terrain_of mesh.now) (marked_first mesh.now marks) (suc k)).riders }
 {
     let _known = mesh.faces();
-    ride_each(mesh, sight, queue, &mut riders);
-    riders
+    ride_each(mesh, sight, queue, riders);
 }
 
 /// Moves the riders of the queue.

@@ -17,7 +17,7 @@ pub(crate) struct Tables {
 }
 
 /// The tables after a step, in which the riders of the queue ride these darts. Linear in the queue.
-pub(crate) fn step(mesh: &Mesh, queue: &[u32], ridden: &[u32], tables: Tables) -> Tables
+pub(crate) fn step(mesh: &Mesh, queue: &[u32], ridden: &[u32], mut tables: Tables) -> Tables
     requires ground { IsGround mesh.now tables.sight.ground.boundary.items tables.sight.ground.singular.items }
     requires at { (marks : List Bool) × (k : ℕ) × (k + 1 < 2 ^ 32)
         × IsTableAt mesh.now marks k
@@ -32,38 +32,10 @@ pub(crate) fn step(mesh: &Mesh, queue: &[u32], ridden: &[u32], tables: Tables) -
         result.riders.items result.sight.stood.items result.covered.items result.sight.taken.items }
 {
     let _known = mesh.faces();
-    let Tables {
-        riders,
-        covered,
-        sight,
-    } = tables;
-    let Sight {
-        ground,
-        stood,
-        taken,
-    } = sight;
-    let taken = set_marks(ridden, true, taken);
-    let sight = Sight {
-        ground,
-        stood,
-        taken,
-    };
-    let riders = ride_all(mesh, &sight, queue, riders);
-    let Sight {
-        ground,
-        stood,
-        taken,
-    } = sight;
-    let taken = set_marks(ridden, false, taken);
-    let covered = cover(mesh, ridden, covered);
-    let stood = stand(mesh, ridden, stood);
-    Tables {
-        riders,
-        covered,
-        sight: Sight {
-            ground,
-            stood,
-            taken,
-        },
-    }
+    set_marks(ridden, true, &mut tables.sight.taken);
+    ride_all(mesh, &tables.sight, queue, &mut tables.riders);
+    set_marks(ridden, false, &mut tables.sight.taken);
+    cover(mesh, ridden, &mut tables.covered);
+    stand(mesh, ridden, &mut tables.sight.stood);
+    tables
 }

@@ -1,4 +1,4 @@
-use Rattle.std.proofs.Common.{◌<◌, length, Some, sym, subst, ap, ◌∙◌, arith}
+use Rattle.std.proofs.Common.{◌<◌, length, Some, sym, subst, ap, arith}
 use Rattle.def_cut.specs.Views.{MotionView}
 use Rattle.qm_trace.specs.Left.{left_of}
 use Rattle.qm_trace.proofs.Fewer.{ride_less, riders_long, settle_less}

@@ -1,10 +1,9 @@
-use Rattle.std.proofs.Common.{◌≡◌, ℕ, Bool, List, length, map, sym, subst, ap, ◌∙◌, arith}
-use Rattle.def_mesh.specs.Darts.{all_darts}
+use Rattle.std.proofs.Common.{ℕ, Bool, List, length, sym, subst, ap, ◌∙◌, arith}
 use Rattle.def_cut.specs.FullCut.{IsFullCut}
 use Rattle.def_cut.specs.Motion.{ridden}
 use Rattle.def_cut.specs.Traced.{AreRiders}
 use Rattle.def_cut.specs.declared.moving.Moving.{Moving}
-use Rattle.def_feature.specs.Marked.{marked_last, marked_starts}
+use Rattle.def_feature.specs.Marked.{marked_last}
 use Rattle.feature_laws.proofs.Laws.{marked_law}
 use Rattle.qm_trace.proofs.Beginnings.{marked_few}
 use Rattle.qm_trace.proofs.Ends.{cut_is, have_stopped, last_long}

@@ -1,5 +1,4 @@
-use Rattle.std.proofs.Common.{◌≡◌, ℕ, Bool, List, length, sym, subst, ap, ◌∙◌, arith}
-use Rattle.def_mesh.specs.Components.{start_darts}
+use Rattle.std.proofs.Common.{ℕ, Bool, List, length, sym, subst, ap, ◌∙◌, arith}
 use Rattle.def_cut.specs.FullCut.{IsFullCut}
 use Rattle.def_cut.specs.Events.{NobodyRuns}
 use Rattle.def_cut.specs.Motion.{ridden}
