@@ -5,7 +5,7 @@ ghost use Rattle.def_mesh.specs.Darts.{darts, from_of};
 ghost use Rattle.def_cut.specs.FullCut.{is_on};
 ghost use Rattle.def_layout.specs.Arcs.{path};
 ghost use Rattle.def_layout.specs.Nodes.{is_node};
-ghost use Rattle.qm_tmesh.specs.Tables.{IsMarked, ArePlaces, AreStarts};
+ghost use Rattle.qm_tmesh.specs.Tables.{IsMarked, AreStarts};
 ghost use Rattle.qm_tmesh.specs.Arcs.{IsArcFrom, AreArcsBelow};
 
 use crate::nodes::Nodes;
@@ -23,7 +23,6 @@ pub(crate) fn arcs(
     starts: &[u32],
 ) -> Result<Vec<TArc>, AllocError>
     requires marked { IsMarked mesh.now cut.now nodes.now.marks.items }
-    requires places { ArePlaces nodes.now.marks.items nodes.now.listed.list.items nodes.now.listed.places.items }
     requires starts { AreStarts mesh.now cut.now (darts mesh.now) starts.now }
     ensures { IfOk result (λ arcs.
         AreArcsBelow mesh.now cut.now nodes.now.listed.list.items (darts mesh.now) (map path arcs.items)) }
@@ -47,7 +46,6 @@ fn arc_from(
     start: u32,
 ) -> Result<TArc, AllocError>
     requires marked { IsMarked mesh.now cut.now nodes.now.marks.items }
-    requires places { ArePlaces nodes.now.marks.items nodes.now.listed.list.items nodes.now.listed.places.items }
     requires dart { start < darts mesh.now }
     requires on { is_on cut.now start ≡ true }
     requires begins { is_node mesh.now cut.now (from_of mesh.now start) ≡ true }

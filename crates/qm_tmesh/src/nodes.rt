@@ -18,6 +18,7 @@ use std::alloc::{AllocError, Global};
 pub(crate) struct Nodes {
     pub(crate) marks: Vec<bool>,
     pub(crate) listed: Listed,
+    ghost placed: { ArePlaces marks.items listed.list.items listed.places.items },
 }
 
 /// The marked vertices in order, and how many of them are less than each vertex.
@@ -34,7 +35,6 @@ pub(crate) fn find_nodes(alloc: Global, mesh: &Mesh, cut: &[bool]) -> Result<Nod
         n.marks.items ≡ map (is_node mesh.now cut.now) (range_with_len 0 (vertex_count mesh.now))) }
     ensures list { IfOk result (λ n.
         n.listed.list.items ≡ filter (is_on n.marks.items) (range_with_len 0 (length n.marks.items))) }
-    ensures places { IfOk result (λ n. ArePlaces n.marks.items n.listed.list.items n.listed.places.items) }
     ensures mesh { IfOk result (λ n. IsMesh mesh.now) }
 {
     let marks = node_marks(alloc, mesh, cut)?;
