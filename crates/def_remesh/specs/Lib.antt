@@ -1,6 +1,7 @@
 pub mod Certified
 pub mod Checked
 pub mod Keeping
+pub mod LayoutLaws
 pub mod NewPoints
 pub mod NewSoup
 pub mod Numberings

@@ -36,7 +36,7 @@ module _ (faces : Faces) (cut marks : List Bool) (marked : IsMarked faces cut ma
       ap (twin_of faces) (sym (ap (λ x. get_or list x 0) place ∙ (ap (λ (xs : List ℕ). get_or xs (n - 1) 0) is ∙ run_entry (half_edges faces) s n (n - 1) (omega arith)))) ∙ at
 
   -- The runs along an arc and against another are different arcs: each name would be less than the other.
-  clash : (s n r m : ℕ) → IsNamedRun faces cut s n → IsNamedRun faces cut r m → twin_of faces (easts (half_edges faces) r (m - 1)) ≡ Some s → ⊥
+  pub clash : (s n r m : ℕ) → IsNamedRun faces cut s n → IsNamedRun faces cut r m → twin_of faces (easts (half_edges faces) r (m - 1)) ≡ Some s → ⊥
   clash s n r m one two tw = by_back (back_run (half_edges faces) marked.laws (is_on cut) marked.full (is_node faces cut) marked.stand r m two.run (m - 1) s (omega (arith, two.run.some)) tw)
     where
       by_back : (b : ℕ) × IsBack (half_edges faces) (is_on cut) (is_node faces cut) r m b → ⊥

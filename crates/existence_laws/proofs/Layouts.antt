@@ -1,0 +1,67 @@
+-- Each full cut of a mesh has exactly one layout.
+use Rattle.std.proofs.Common.{◌/◌, Bool, List, length, map, refl, arith}
+use Rattle.std.specs.List.{range_with_len}
+use Rattle.def_cut.specs.FullCut.{is_on, IsFullCut}
+use Rattle.def_cut.specs.Grids.{IsPartition, Rectangle}
+use Rattle.def_cut.specs.Traced.{traced_marks}
+use Rattle.def_layout.specs.Arcs.{Path}
+use Rattle.def_layout.specs.FaceLayouts.{IsLayoutOf}
+use Rattle.def_layout.specs.Nodes.{is_node}
+use Rattle.def_layout.specs.Plans.{Plan}
+use Rattle.def_layout.specs.declared.tmesh.SideArc.{SideArc}
+use Rattle.def_mesh.specs.Darts.{darts}
+use Rattle.def_mesh.specs.Faces.{Faces}
+use Rattle.def_mesh.specs.HalfEdges.{half_edges}
+use Rattle.def_mesh.specs.Meshes.{IsMesh}
+use Rattle.def_mesh.specs.Vertices.{vertex_count}
+use Rattle.def_remesh.specs.LayoutLaws.{HasOneLayout, LayoutLaw, TracedLayoutLaw}
+use Rattle.plan_laws.proofs.OnePlan.{one_layout_law}
+use Rattle.qm_grid.proofs.Cuttings.{to_cutting}
+use Rattle.qm_tmesh.specs.Arcs.{AreArcsBelow}
+use Rattle.qm_tmesh.specs.Four.{AreAllFour}
+use Rattle.qm_tmesh.specs.Tables.{IsMarked}
+use Rattle.qm_tmesh.specs.Uses.{HasUsesBelow}
+use Rattle.qm_tmesh.proofs.Built.{have_patches, is_layout, to_marked}
+use Rattle.qm_tmesh.proofs.UseTables.{to_named}
+use Rattle.site_laws.proofs.Laws.{graph_law}
+use Rattle.existence_laws.proofs.Arcs.{arcs_exist, node_list, uses_exist}
+use Rattle.existence_laws.proofs.Patches.{patches_exist}
+use Rattle.existence_laws.proofs.Sides.{sides_exist}
+
+module _ (faces : Faces) (marks : List Bool) (mesh : IsMesh faces) (full : IsFullCut faces marks) where
+  abbrev nodes : List Bool
+  nodes = map (is_node faces marks) (range_with_len 0 (vertex_count faces))
+
+  marked : IsMarked faces marks nodes
+  marked = to_marked faces marks nodes mesh full refl
+
+  with_sides : (ps : List Rectangle) (parts : IsPartition (half_edges faces) (is_on marks) (λ d. d / 4) ps) (arcs : List Path)
+      (below : AreArcsBelow faces marks (node_list faces marks nodes marked) (darts faces) arcs)
+      (uses : List SideArc) (table : HasUsesBelow faces arcs (length arcs) uses)
+      → (sides : List (List (List SideArc))) × AreAllFour faces arcs uses ps sides → (plan : Plan) × IsLayoutOf faces marks plan
+  with_sides ps parts arcs below uses table (sides, all) = (
+    record { nodes = node_list faces marks nodes marked; arcs = arcs; patches = ps; sides = sides },
+    is_layout faces marks nodes marked (darts faces) (omega arith) (node_list faces marks nodes marked) arcs uses ps (λ d. d / 4) parts below table sides all refl,
+  )
+
+  exists : (plan : Plan) × IsLayoutOf faces marks plan
+  exists =
+      let ps = patches_exist faces marks (to_cutting faces marks mesh full) in
+      let arcs = arcs_exist faces marks nodes marked ps.0 ps.1 in
+      let uses = uses_exist faces marks nodes marked arcs.0 (to_named faces marks nodes marked (node_list faces marks nodes marked) (darts faces) arcs.0 arcs.1) in
+      with_sides ps.0 ps.1 arcs.0 arcs.1 uses.0 uses.1
+      (sides_exist faces arcs.0 uses.0 ps.0
+      (have_patches faces marks nodes marked (darts faces) (omega arith) (node_list faces marks nodes marked) arcs.0 uses.0 ps.0 (λ d. d / 4) ps.1 arcs.1 uses.1))
+
+  one : HasOneLayout faces marks
+  one = record {
+    plan = exists.0;
+    laid = exists.1;
+    alone = λ other also. one_layout_law faces marks mesh.manifold full other exists.0 also exists.1;
+  }
+
+pub layout_law : LayoutLaw
+layout_law = one
+
+pub traced_layout_law : TracedLayoutLaw
+traced_layout_law faces mesh = one faces (traced_marks faces) mesh (graph_law faces mesh.manifold).1

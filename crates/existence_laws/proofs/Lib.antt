@@ -1,0 +1,5 @@
+mod Arcs
+mod Choices
+pub mod Layouts
+mod Patches
+mod Sides
