@@ -1,26 +1,22 @@
 -- The text of a finished remesh behind that of its mesh is a checked pair.
-use Rattle.std.proofs.Common.{◌≡◌, ◌≤◌, ◌<◌, ◌⊎◌, ◌+◌, ◌-◌, ◌==◌, ℕ, zero, suc, Bool, true, false, cond, List, Option, Some, None, [], ◌∷◌, ◌++◌, length, map, take, drop, get_or, Result, Ok, sym, ◌∙◌, ap, refl, inl, inr, arith, length-append, length-drop}
-use Rattle.std.specs.List.{filter, list_all}
+use Rattle.std.proofs.Common.{◌≡◌, ◌<◌, ◌+◌, ◌-◌, ℕ, zero, suc, Bool, true, false, cond, List, Option, Some, None, [], ◌∷◌, ◌++◌, length, map, take, drop, get_or, sym, ◌∙◌, ap, refl, arith, length-append, length-drop}
+use Rattle.std.specs.List.{filter}
 use Rattle.std.proofs.Math.Seq.{take-append_seam}
 use Rattle.std.proofs.lemmas.Bool.{and_parts, eq-eqb, eqb-true, false_from_ne_true, false≢true}
 use Rattle.std.proofs.lemmas.List.{get_or-append-add}
 use Rattle.def_certtext.specs.CertLines.{line_text, Lists}
-use Rattle.def_certtext.specs.HeadLine.{begins_head, head_line, IsLastHead}
+use Rattle.def_certtext.specs.HeadLine.{begins_head, head_line}
 use Rattle.def_certtext.specs.Reading.{is_hash_line, TellHow}
-use Rattle.def_certtext.specs.Settings.{AreInRange}
 use Rattle.def_certtext.specs.declared.CertLine.{CertLine}
 use Rattle.def_certtext.specs.declared.CertLine.TheVariants.{Length, Vertex, Set, Floor}
 use Rattle.def_flow.specs.declared.net.Settings.{Settings}
 use Rattle.def_io.specs.Bytes.{Bytes, Lines}
-use Rattle.def_io.specs.Lines.{lines_of, tail_of}
-use Rattle.def_recheck.specs.Accepting.{ends_line, AcceptsLaw}
-use Rattle.def_remesh.specs.Checked.{IsCheckedPair}
-use Rattle.def_remesh.specs.TextLaws.{made_by, IsSolid}
-use Rattle.def_text.specs.FaceSet.{FaceSet}
+use Rattle.def_io.specs.Lines.{lines_of}
+use Rattle.def_recheck.specs.Accepting.{AcceptsLaw}
+use Rattle.def_remesh.specs.TextLaws.{made_by}
 use Rattle.def_text.specs.Text.{soup_in, text_soup}
-use Rattle.def_text.specs.declared.refusal.ObjFail.{ObjFail}
 use Rattle.remesh_laws.proofs.Told.{told_law}
-use Rattle.check_laws.proofs.Joined.{lines_append, tail_append}
+use Rattle.remesh_laws.proofs.Joined.{lines_append, tail_append}
 
 -- A head line begins as one.
 head_begins : (settings : Settings) (auto : Bool) → begins_head (head_line settings auto) ≡ true
@@ -108,6 +104,7 @@ accepts_law settings auto old text soup range said ends solid is = record {
     coarse = is.finished.coarse;
     undoubled = is.finished.undoubled;
     written = tail_append old text ends ∙ is.finished.written;
+    read = λ head between readable. ap soup_in (tail_append old text ends) ∙ is.finished.read head between readable;
     shape = is.finished.shape;
   };
   certified = is.certified;

@@ -1,21 +1,15 @@
 -- What `remesh` writes for a mesh is accepted behind the text of that mesh.
-use Rattle.std.specs.Prelude.{◌≡◌, ◌==◌, ◌++◌, Bool, true, [], ◌∷◌, Ok}
+use Rattle.std.specs.Prelude.{◌≡◌, ◌++◌, Bool, true, Ok}
 use Rattle.def_certtext.specs.Settings.{AreInRange}
 use Rattle.def_flow.specs.declared.net.Settings.{Settings}
 use Rattle.def_io.specs.Bytes.{Bytes}
-use Rattle.def_io.specs.declared.TheConstants.{LINE_FEED}
 use Rattle.def_remesh.specs.Certified.{IsShown}
 use Rattle.def_remesh.specs.Checked.{IsCheckedPair}
+use Rattle.def_remesh.specs.ReadAgain.{ends_line}
 use Rattle.def_remesh.specs.Tasks.{remesh_task}
 use Rattle.def_remesh.specs.TextLaws.{IsSolid}
 use Rattle.def_text.specs.FaceSet.{FaceSet}
 use Rattle.def_text.specs.Text.{soup_in}
-
--- The last line has its line feed, or there is no line.
-abbrev pub ends_line : (bytes : Bytes) → Bool
-ends_line [] = true
-ends_line (byte ∷ []) = byte == LINE_FEED
-ends_line (byte ∷ next ∷ bytes) = ends_line (next ∷ bytes)
 
 -- A text of a mesh whose last line has its line feed, and behind it the text of a finished remesh of this mesh, as
 -- accepted certificates show, are a checked pair: `check` accepts them. Head lines in the first text do not matter, since

@@ -6,6 +6,7 @@ pub mod NewPoints
 pub mod NewSoup
 pub mod Numberings
 pub mod Placings
+pub mod ReadAgain
 pub mod Refined
 pub mod Refusals
 pub mod Remeshed

@@ -1,5 +1,5 @@
 -- What the text of a finished remesh tells.
-use Rattle.std.specs.Prelude.{◌≡◌, ◌↔◌, ◌+◌, Bool, true, false, Option, None, [], drop, slice_index_or}
+use Rattle.std.specs.Prelude.{◌≡◌, ◌↔◌, ◌≤◌, ◌+◌, Ok, length, Bool, true, false, Option, None, [], drop, slice_index_or}
 use Rattle.def_certtext.specs.CertLines.{Lists}
 use Rattle.def_certtext.specs.Laws.{chosen, IsPrintable, TellsOnly}
 use Rattle.def_certtext.specs.Reading.{Made, TellHow}
@@ -9,7 +9,11 @@ use Rattle.def_io.specs.Bytes.{Bytes}
 use Rattle.def_io.specs.Lines.{lines_of}
 use Rattle.def_mesh.specs.Meshes.{IsMesh}
 use Rattle.def_text.specs.FaceSet.{FaceSet}
+use Rattle.def_text.specs.Text.{soup_in}
+use Rattle.def_text.specs.declared.limits.TheConstants.{MAX_F_LINES, MAX_V_LINES}
 use Rattle.def_remesh.specs.Checked.{IsCheckedPair}
+use Rattle.def_remesh.specs.NewPoints.{lengths_in}
+use Rattle.def_remesh.specs.NewSoup.{new_soup}
 use Rattle.def_remesh.specs.Remeshed.{IsRemeshed, used}
 
 -- How it was made, as its lines tell it.
@@ -33,3 +37,17 @@ abbrev pub PairLaw : Type 0
 PairLaw = (bytes : Bytes) (pair : IsCheckedPair bytes) → IsSolid pair.soup → (made : Made)
     → TellHow (slice_index_or (lines_of bytes) pair.line []) (drop (pair.line + 1) (lines_of bytes)) made
     ↔ (made ≡ made_by pair.settings pair.auto pair.remeshed.first pair.remeshed.third)
+
+-- The mesh that a finished remesh of a soup wrote.
+abbrev pub remeshed_soup : (settings : Settings) (auto : Bool) (soup : FaceSet) (text : Bytes)
+    (is : IsRemeshed settings auto soup text) → FaceSet
+remeshed_soup settings auto soup text is = new_soup soup is.plan (lengths_in (used is.first is.third).x)
+
+-- A reader of the text has that mesh, where it has no more vertices and faces than are read.
+abbrev pub ReadAgainLaw : Type 0
+ReadAgainLaw =
+    (settings : Settings) (auto : Bool) (soup : FaceSet) (text : Bytes) → AreInRange settings auto → IsSolid soup
+    → (is : IsRemeshed settings auto soup text)
+    → length (remeshed_soup settings auto soup text is).pos ≤ MAX_V_LINES
+    → length (remeshed_soup settings auto soup text is).faces ≤ MAX_F_LINES
+    → soup_in text ≡ Ok (remeshed_soup settings auto soup text is)

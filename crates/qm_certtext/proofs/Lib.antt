@@ -1,8 +1,8 @@
-mod Counts
+pub mod Counts
 mod Cutting
 mod Holding
 mod Letters
 pub mod Marks
-mod Telling
+pub mod Telling
 pub mod Texts
 pub mod Unique

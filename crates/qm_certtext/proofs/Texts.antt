@@ -41,10 +41,10 @@ digits_inside (d ∷ ds) all =
     let parts = and_parts (is_ascii_digit d) (list_all is_ascii_digit ds) all in
     and_from _ _ (and_from _ _ (ap not (digit_other 10 (omega arith) d parts.0)) (ap not (digit_other 13 (omega arith) d parts.0))) (digits_inside ds parts.1)
 
-number_inside : (n : ℕ) → n < 2 ^ 64 → list_all is_inside (decimal n) ≡ true
+pub number_inside : (n : ℕ) → n < 2 ^ 64 → list_all is_inside (decimal n) ≡ true
 number_inside n low = digits_inside (decimal n) (decimal_digits n low)
 
-both_inside : (a b : Word) → list_all is_inside a ≡ true → list_all is_inside b ≡ true → list_all is_inside (a ++ b) ≡ true
+pub both_inside : (a b : Word) → list_all is_inside a ≡ true → list_all is_inside b ≡ true → list_all is_inside (a ++ b) ≡ true
 both_inside a b p q = list_all-append is_inside a b ∙ and_from _ _ p q
 
 signed_inside : (z : ℤ) → unsigned_abs z < 10 ^ 18 → list_all is_inside (signed_decimal z) ≡ true
@@ -62,7 +62,7 @@ line_inside auto (Set z u) may =
     both_inside (35 ∷ 115 ∷ 32 ∷ signed_decimal z) (32 ∷ decimal u) (signed_inside z parts.0) (number_inside u (omega (arith, parts.1)))
 line_inside auto (Floor f) may = number_inside f (omega (arith, floor_low auto f may))
 
-lines_inside : (auto : Bool) (said : List CertLine) → list_all (may_stand auto) said ≡ true → (k : ℕ) → k < length (map line_text said)
+pub lines_inside : (auto : Bool) (said : List CertLine) → list_all (may_stand auto) said ≡ true → (k : ℕ) → k < length (map line_text said)
     → list_all is_inside (get_or (map line_text said) k []) ≡ true
 lines_inside auto [] all k low = absurd (omega arith)
 lines_inside auto (line ∷ said) all zero low = line_inside auto line (and_parts (may_stand auto line) (list_all (may_stand auto) said) all).0
@@ -77,7 +77,7 @@ weight_inside : (weight : Weight) → list_all is_inside (weight_text weight) �
 weight_inside Plain = refl
 weight_inside ByLength = refl
 
-head_inside : (settings : Settings) (auto : Bool) → AreInRange settings auto → list_all is_inside (head_line settings auto) ≡ true
+pub head_inside : (settings : Settings) (auto : Bool) → AreInRange settings auto → list_all is_inside (head_line settings auto) ≡ true
 head_inside settings auto range =
     let scale : Word = codes "#quadq 1 remesh scale " ++ scale_text settings in
     let floor : Word = scale ++ codes " floor " ++ floor_text settings.floor auto in

@@ -150,7 +150,7 @@ face_words vertices face few all = each_map IsWord vertex_word face 0 [] (λ k l
     let low : get_or face k 0 < vertices = ltb-true _ _ (passes_at (λ v. ltb v vertices) face k 0 all l) in
     decimal_word (get_or face k 0 + 1) (omega arith))
 
-face_line_is : (vertices : ℕ) (face : List ℕ) → vertices ≤ 2 ^ 21 → is_quad face ≡ true → are_below vertices face ≡ true → IsLine (face_line face)
+pub face_line_is : (vertices : ℕ) (face : List ℕ) → vertices ≤ 2 ^ 21 → is_quad face ≡ true → are_below vertices face ≡ true → IsLine (face_line face)
 face_line_is vertices face few is all =
     let four : length face ≡ 4 = eqb-true _ _ is in
     line_tame 102 (map vertex_word face) refl (omega (arith, length-map face vertex_word)) (face_words vertices face few all)

@@ -215,7 +215,7 @@ no_comment line tame = take_all _ _ (whole line tame)
         let parts : (is_tame b ≡ true) × (list_all is_tame bs ≡ true) = and_parts _ _ tame in
         rw (other b parts.0) (omega (arith, whole bs parts.1))
 
-no_continuation : (line : List ℕ) → list_all is_tame line ≡ true → continues line ≡ false
+pub no_continuation : (line : List ℕ) → list_all is_tame line ≡ true → continues line ≡ false
 no_continuation [] tame = refl
 no_continuation (b ∷ bs) tame =
     let there : is_tame (get_or (b ∷ bs) (length (b ∷ bs) - 1) 0) ≡ true = passes_at is_tame (b ∷ bs) (length (b ∷ bs) - 1) 0 tame (omega arith) in

@@ -1,8 +1,13 @@
+pub mod Asides
 pub mod Certified
 pub mod Fits
+pub mod Joined
 pub mod Keeps
+mod NewSoups
 pub mod Pairs
+mod PassedOver
 pub mod Printable
+pub mod ReadAgain
 pub mod Solved
 pub mod Tails
 pub mod Told

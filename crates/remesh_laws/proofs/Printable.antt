@@ -42,7 +42,7 @@ use Rattle.def_remesh.specs.NewPoints.{along_arcs, inside_patches, old_vertex, p
 use Rattle.def_remesh.specs.NewSoup.{coordinate, new_coordinate, new_place, new_soup}
 
 -- What holds at each number of a range passes.
-passes_range : (p : ℕ → Bool) (n : ℕ) → ((k : ℕ) → k < n → p k ≡ true) → list_all p (range_with_len 0 n) ≡ true
+pub passes_range : (p : ℕ → Bool) (n : ℕ) → ((k : ℕ) → k < n → p k ≡ true) → list_all p (range_with_len 0 n) ≡ true
 passes_range p n each = list_all-from_AllPass p (range_with_len 0 n)
     (λ k x l. let low : k < n = omega (arith, l, length-range_with_len 0 n) in
     ap p (get_or-range_with_len 0 n k x low ∙ omega arith) ∙ each k low)

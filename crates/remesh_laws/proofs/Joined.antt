@@ -1,11 +1,11 @@
 -- The lines of two texts behind each other, of which the first ends with a line feed.
-use Rattle.std.proofs.Common.{◌≡◌, ◌<◌, ◌==◌, ℕ, suc, Bool, true, false, if◌then◌else◌, [], ◌∷◌, ◌++◌, length, drop, map, sym, ◌∙◌, ap, refl, arith}
+use Rattle.std.proofs.Common.{◌≡◌, ◌<◌, ◌==◌, ℕ, Bool, true, false, if◌then◌else◌, [], ◌∷◌, ◌++◌, length, drop, map, ◌∙◌, ap, refl, arith}
 use Rattle.std.proofs.Math.Seq.{drop-append_seam}
 use Rattle.std.proofs.lemmas.List.{length-map, map-append}
 use Rattle.std.specs.List.{flat_map}
 use Rattle.def_io.specs.Bytes.{Bytes, Lines}
 use Rattle.def_io.specs.Lines.{byte_in_front, line_of, lines_of, pieces, tail_of}
-use Rattle.def_recheck.specs.Accepting.{ends_line}
+use Rattle.def_remesh.specs.ReadAgain.{ends_line}
 use Rattle.remesh_laws.proofs.Tails.{flat-pieces}
 
 -- Some bytes have some piece.

@@ -1,0 +1,199 @@
+-- The lines of a text around its mesh: whole lines, and those that begin with `#` are passed over.
+use Rattle.std.proofs.Common.{◌≡◌, ◌<◌, ◌≤◌, ◌^◌, ℕ, zero, suc, ℤ, pos, negsuc, Bool, true, false, List, [], ◌∷◌, ◌++◌, codes, length, map, get_or, refl, sym, ◌∙◌, ap, subst, arith, length-append}
+use Rattle.std.specs.Prelude.{◌&&◌, ◌==◌, ◌-◌, if◌then◌else◌, decimal, slice_index, unsigned_abs}
+use Rattle.std.specs.Fmt.{signed_decimal}
+use Rattle.std.specs.List.{before_first, flat_map, list_all}
+use Rattle.std.proofs.lemmas.Bool.{and_parts, leb-true}
+use Rattle.std.proofs.lemmas.Fmt.{length-decimal-le}
+use Rattle.std.proofs.lemmas.List.{append-nil}
+use Rattle.std.proofs.lemmas.List.Folds.{flat_map-map}
+use Rattle.def_certtext.specs.CertLines.{dual_line, line_text, text_of}
+use Rattle.def_certtext.specs.HeadLine.{head_line}
+use Rattle.def_certtext.specs.Reading.{is_small, may_stand}
+use Rattle.def_certtext.specs.Settings.{floor_text, scale_text, weight_text, AreInRange, IsFloor}
+use Rattle.def_certtext.specs.declared.CertLine.{CertLine}
+use Rattle.def_certtext.specs.declared.CertLine.TheVariants.{Floor, Length, Set, Vertex}
+use Rattle.def_flow.specs.declared.net.Settings.{Settings}
+use Rattle.def_flow.specs.declared.net.Weight.{Weight}
+use Rattle.def_flow.specs.declared.net.Weight.TheVariants.{Plain, Length as ByLength}
+use Rattle.def_io.specs.Bytes.{Bytes, Lines}
+use Rattle.def_io.specs.Lines.{lines_of}
+use Rattle.def_text.specs.Canonical.{canonical_text}
+use Rattle.def_text.specs.FaceSet.{FaceSet}
+use Rattle.def_text.specs.Laws.{is_position, is_quad, IsWritableSoup}
+use Rattle.def_text.specs.Logical.{continues, is_hash, with_space}
+use Rattle.def_text.specs.Reading.{begins_with}
+use Rattle.def_text.specs.Words.{words}
+use Rattle.def_remesh.specs.ReadAgain.{ends_line, IsAside, IsPassedOver}
+use Rattle.def_remesh.specs.Refined.{refine_head}
+use Rattle.qm_certtext.proofs.Counts.{small_parts}
+use Rattle.qm_certtext.proofs.Telling.{floor_low}
+use Rattle.qm_certtext.proofs.Texts.{both_inside, head_inside, lines_inside, number_inside}
+use Rattle.qm_obj.proofs.LawSoup.{canonical_lines, each_both, each_map, face_line, face_line_is, position_line, position_line_is, text_lines}
+use Rattle.qm_obj.proofs.LawText.{is_inside, lines_back, lines_split, no_continuation, IsLine}
+use Rattle.qm_obj.proofs.ListLemmas.{passes_at}
+use Rattle.qm_obj.proofs.SoupLemmas.{are_below}
+
+-- ---- Whole lines.
+
+-- A text is ended where its second part is, or where that is empty and the first part is ended.
+ends_append : (front behind : Bytes) → ends_line front ≡ true → ends_line behind ≡ true → ends_line (front ++ behind) ≡ true
+ends_append [] behind one two = two
+ends_append (byte ∷ []) [] one two = one
+ends_append (byte ∷ []) (next ∷ behind) one two = two
+ends_append (byte ∷ next ∷ front) behind one two = ends_append (next ∷ front) behind one two
+
+ends_last : (line : Bytes) → ends_line (line ++ 10 ∷ []) ≡ true
+ends_last [] = refl
+ends_last (byte ∷ []) = refl
+ends_last (byte ∷ next ∷ line) = ends_last (next ∷ line)
+
+ends_lines : (lines : Lines) → ends_line (flat_map (λ l. l ++ 10 ∷ []) lines) ≡ true
+ends_lines [] = refl
+ends_lines (line ∷ lines) = ends_append (line ++ 10 ∷ []) (flat_map (λ l. l ++ 10 ∷ []) lines) (ends_last line) (ends_lines lines)
+
+-- ---- The lines of the mesh.
+
+pub canonical_ends : (soup : FaceSet) → ends_line (canonical_text soup) ≡ true
+canonical_ends soup = ap ends_line (text_lines soup) ∙ ends_lines (canonical_lines soup)
+
+module _ (soup : FaceSet) (is : IsWritableSoup soup) where
+  lines_are : (k : ℕ) → k < length (canonical_lines soup) → IsLine (get_or (canonical_lines soup) k [])
+  lines_are =
+      each_both IsLine (map position_line soup.pos) (map face_line soup.faces) []
+      (each_map IsLine position_line soup.pos [] [] (λ k l. position_line_is (get_or soup.pos k []) (passes_at is_position soup.pos k [] is.positions l)))
+      (each_map IsLine face_line soup.faces [] [] (λ k l.
+      face_line_is (length soup.pos) (get_or soup.faces k []) is.few_vertices (passes_at is_quad soup.faces k [] is.quads l)
+      (passes_at (are_below (length soup.pos)) soup.faces k [] is.soup.in_range l)))
+
+  -- No line is joined to one of them.
+  pub canonical_whole : (k : ℕ) → k < length (lines_of (canonical_text soup)) → continues (get_or (lines_of (canonical_text soup)) k []) ≡ false
+  canonical_whole = subst (λ (ls : Lines). (k : ℕ) → k < length ls → continues (get_or ls k []) ≡ false)
+      (sym (ap lines_of (text_lines soup) ∙ lines_split (canonical_lines soup) lines_are))
+      (λ k l. no_continuation (get_or (canonical_lines soup) k []) (lines_are k l).tame)
+
+-- ---- Lines that begin with `#`.
+
+off_right : (t : Bool) → (t && false) ≡ false
+off_right true = refl
+off_right false = refl
+
+marked_passed : (line : Bytes) → length (35 ∷ line) ≤ 65536 → IsPassedOver (35 ∷ line)
+marked_passed line short = record {
+  short = short;
+  whole = whole;
+  no_vertex = by_test 118 (continues (35 ∷ line)) whole;
+  no_face = by_test 102 (continues (35 ∷ line)) whole;
+}
+  where
+    whole : continues (35 ∷ line) ≡ false
+    whole = off_right (slice_index (35 ∷ line) (length (35 ∷ line) - 1) == 92)
+
+    by_test : (letter : ℕ) (t : Bool) → t ≡ false
+        → begins_with letter (words (if t then with_space (35 ∷ line) else before_first is_hash (35 ∷ line))) ≡ false
+    by_test letter t off = rw off refl
+
+pub hash_passed : (line : Bytes) → get_or line 0 0 ≡ 35 → length line ≤ 65536 → IsPassedOver line
+hash_passed [] begins short = absurd (omega (arith, begins))
+hash_passed (byte ∷ line) begins short = subst (λ (b : ℕ). IsPassedOver (b ∷ line)) (sym begins) (marked_passed line short)
+
+-- A text of one such line.
+pub line_aside : (line : Bytes) → get_or line 0 0 ≡ 35 → list_all is_inside line ≡ true → length line ≤ 65536 → IsAside (line ++ 10 ∷ [])
+line_aside line begins inside short = record { ended = ends_last line; each = subst (λ (ls : Lines). (k : ℕ) → k < length ls → IsPassedOver (get_or ls k [])) (sym lines) one }
+  where
+    at : (k : ℕ) → k < 1 → list_all is_inside (get_or (line ∷ []) k []) ≡ true
+    at zero l = inside
+    at (suc k) l = absurd (omega (arith, l))
+
+    lines : lines_of (line ++ 10 ∷ []) ≡ line ∷ []
+    lines = ap lines_of (sym (append-nil (line ++ 10 ∷ []))) ∙ lines_back (line ∷ []) at
+
+    one : (k : ℕ) → k < 1 → IsPassedOver (get_or (line ∷ []) k [])
+    one zero l = hash_passed line begins short
+    one (suc k) l = absurd (omega (arith, l))
+
+-- Nothing is a text of no such lines.
+pub none_aside : IsAside []
+none_aside = record { ended = refl; each = λ k l. absurd (omega (arith, l)) }
+
+-- How long numbers are.
+number_short : (n : ℕ) → n < 2 ^ 64 → length (decimal n) ≤ 20
+number_short n low = length-decimal-le 20 n (omega arith) (omega arith) (omega (arith, low))
+
+signed_short : (z : ℤ) → unsigned_abs z < 10 ^ 18 → length (signed_decimal z) ≤ 21
+signed_short (pos n) low = omega (arith, number_short n (omega (arith, low)))
+signed_short (negsuc n) low = omega (arith, number_short (suc n) (omega (arith, low)))
+
+-- The lines of a certificate are passed over.
+dual_short : (letter : ℕ) (z : ℤ) (up : ℕ) → is_small z up ≡ true → length (dual_line letter z up) ≤ 65536
+dual_short letter z up may =
+    let parts = small_parts z up may in
+    omega (arith, length-append (signed_decimal z) (32 ∷ decimal up), signed_short z parts.0, number_short up (omega (arith, parts.1)))
+
+cert_passed : (auto : Bool) (line : CertLine) → may_stand auto line ≡ true → IsPassedOver (line_text line)
+cert_passed auto (Length n) may = hash_passed (line_text (Length n)) refl (omega (arith, number_short n (omega (arith, leb-true n (10 ^ 12) may))))
+cert_passed auto (Vertex z up) may = hash_passed (line_text (Vertex z up)) refl (dual_short 121 z up may)
+cert_passed auto (Set z up) may = hash_passed (line_text (Set z up)) refl (dual_short 115 z up may)
+cert_passed auto (Floor floor) may = hash_passed (line_text (Floor floor)) refl (omega (arith, number_short floor (omega (arith, floor_low auto floor may))))
+
+certs_passed : (auto : Bool) (said : List CertLine) → list_all (may_stand auto) said ≡ true → (k : ℕ) → k < length (map line_text said)
+    → IsPassedOver (get_or (map line_text said) k [])
+certs_passed auto [] all k low = absurd (omega (arith, low))
+certs_passed auto (line ∷ said) all zero low = cert_passed auto line (and_parts (may_stand auto line) (list_all (may_stand auto) said) all).0
+certs_passed auto (line ∷ said) all (suc k) low = certs_passed auto said (and_parts (may_stand auto line) (list_all (may_stand auto) said) all).1 k (omega (arith, low))
+
+pub cert_lines_passed : (auto : Bool) (said : List CertLine) → list_all (may_stand auto) said ≡ true → (k : ℕ) → k < length (lines_of (text_of said))
+    → IsPassedOver (get_or (lines_of (text_of said)) k [])
+cert_lines_passed auto said all = subst (λ (ls : Lines). (k : ℕ) → k < length ls → IsPassedOver (get_or ls k [])) (sym lines) (certs_passed auto said all)
+  where
+    lines : lines_of (text_of said) ≡ map line_text said
+    lines = ap lines_of (sym (flat_map-map (λ l. l ++ 10 ∷ []) line_text said)) ∙ lines_back (map line_text said) (lines_inside auto said all)
+
+-- ---- The head lines.
+
+floor_short : (floor : ℕ) (auto : Bool) → IsFloor floor auto → length (floor_text floor auto) ≤ 20
+floor_short floor true may = omega arith
+floor_short floor false may = number_short floor (omega (arith, may.high))
+
+weight_short : (weight : Weight) → length (weight_text weight) ≤ 20
+weight_short Plain = omega arith
+weight_short ByLength = omega arith
+
+pub head_aside : (settings : Settings) (auto : Bool) → AreInRange settings auto → IsAside (head_line settings auto ++ 10 ∷ [])
+head_aside settings auto range = line_aside (head_line settings auto) refl (head_inside settings auto range) short
+  where
+    scale : Bytes
+    scale = codes "#quadq 1 remesh scale " ++ scale_text settings
+
+    floor : Bytes
+    floor = (scale ++ codes " floor ") ++ floor_text settings.floor auto
+
+    scale_short : length scale ≤ 64
+    scale_short = omega (
+      arith,
+      length-append (codes "#quadq 1 remesh scale ") (scale_text settings),
+      length-append (decimal settings.p) (47 ∷ decimal settings.q),
+      number_short settings.p (omega (arith, range.p_high)),
+      number_short settings.q (omega (arith, range.q_high)),
+    )
+
+    short : length (head_line settings auto) ≤ 65536
+    short = omega (
+      arith,
+      length-append (floor ++ codes " weight ") (weight_text settings.weight),
+      length-append floor (codes " weight "),
+      length-append (scale ++ codes " floor ") (floor_text settings.floor auto),
+      length-append scale (codes " floor "),
+      scale_short,
+      floor_short settings.floor auto range.floor,
+      weight_short settings.weight,
+    )
+
+pub refine_aside : (by : ℕ) → by < 2 ^ 64 → IsAside (refine_head by)
+refine_aside by low = line_aside (codes "#quadq 1 refine by " ++ decimal by) refl inside short
+  where
+    inside : list_all is_inside (codes "#quadq 1 refine by " ++ decimal by) ≡ true
+    inside = both_inside (codes "#quadq 1 refine by ") (decimal by) refl (number_inside by low)
+
+    short : length (codes "#quadq 1 refine by " ++ decimal by) ≤ 65536
+    short = omega (arith, length-append (codes "#quadq 1 refine by ") (decimal by), number_short by low)
