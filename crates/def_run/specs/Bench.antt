@@ -75,6 +75,5 @@ IsBenchFail size failed =
 -- The mesh of this size is remeshed whatever least lists are kept.
 pub record HasBench (size : ℕ) : Type 0 where
   pub manifold : IsManifold (bench_faces size)
-  pub plan : Plan
-  pub cut : IsCutTo (bench_faces size) plan
-  pub fits : IsRemeshable old_lengths plan bench_settings false
+  pub fits : (plan : Plan) → IsCutTo (bench_faces size) plan
+      → IsRemeshable old_lengths plan bench_settings false

@@ -4,25 +4,20 @@ use Rattle.std.proofs.lemmas.List.{append-nil}
 use Rattle.def_io.specs.Bytes.{Bytes, Told}
 use Rattle.def_io.specs.Faults.{Rose}
 use Rattle.def_io.specs.Moves.{Change, gave, GaveMore, IsEmptied}
-use Rattle.def_mesh.specs.Faces.{Faces}
 use Rattle.def_mesh.specs.Manifold.{IsManifold}
 use Rattle.def_text.specs.FaceSet.{FaceSet}
 use Rattle.def_text.specs.declared.limits.TheConstants.{MAX_BYTES}
 use Rattle.def_text.specs.declared.refusal.ObjFail.{ObjFail}
 use Rattle.def_text.specs.declared.refusal.Which.TheVariants.{Bytes as AllBytes}
-use Rattle.def_run.specs.Bench.{bench_faces, bench_settings, HasBench, RefusesToBench}
+use Rattle.def_run.specs.Bench.{bench_settings, HasBench, RefusesToBench}
 use Rattle.def_run.specs.Causes.{Cause, FailsToRead, SourceHolds, IsGood, Reads, ReadsTooMany, Refused, Refuses, Takes}
 use Rattle.def_run.specs.Coarse.{AsksToMerge}
 use Rattle.def_run.specs.Mesh.{IsMeshText, IsNoMesh}
 use Rattle.def_flow.specs.declared.net.Settings.{Settings}
 use Rattle.def_remesh.specs.Refusals.{IsRemeshable}
 use Rattle.def_run.specs.Refine.{HasRefined, RefusesToRefine}
-use Rattle.def_run.specs.Remesh.{Asks, AsksToRemesh, HasCut, HasFinished, IsCutTo, RefusesLayout, RefusesTask}
-use Rattle.def_cut.specs.Traced.{traced_marks}
+use Rattle.def_run.specs.Remesh.{Asks, AsksToRemesh, HasFinished, RefusesLayout, RefusesTask}
 use Rattle.def_layout.specs.Plans.{Plan}
-use Rattle.plan_laws.proofs.OnePlan.{one_layout_law}
-use Rattle.site_laws.proofs.Laws.{graph_law}
-use Rattle.def_remesh.specs.Refined.{refined_faces}
 use Rattle.def_run.specs.declared.answer.Answer.{Answer}
 use Rattle.def_run.specs.declared.answer.Answer.TheVariants.{Done, NotAccepted, Usage, Syntax, NotQuad, Range, Limit, NotManifold, Tangled, TooFine, Doubled, ReadFault, WriteFault, Memory}
 use Rattle.def_run.specs.declared.command.Command.{Command}
@@ -48,24 +43,10 @@ mesh_not_refused bytes soup (NotManifold place) mesh none =
     none.refuted (subst (λ (s : FaceSet). IsManifold s.faces) same mesh.manifold)
 mesh_not_refused bytes soup _ mesh none = absurd none
 
--- A mesh has one layout of its motorcycle graph.
-one_layout : (faces : Faces) → IsManifold faces → (one other : Plan) → IsCutTo faces one → IsCutTo faces other → one ≡ other
-one_layout faces manifold one other cut also =
-    one_layout_law faces (traced_marks faces) manifold (graph_law faces manifold).1 one other cut also
-
-pub one_cut : (bytes : Bytes) (one other : Plan) → HasCut bytes one → HasCut bytes other → one ≡ other
-one_cut bytes one other has also =
-    let both : ◌≡◌ {A = Result FaceSet ObjFail} (Ok has.soup) (Ok also.soup) = sym has.mesh.said ∙ also.mesh.said in
-    let same : has.soup ≡ also.soup = cc in
-    one_layout has.soup.faces has.mesh.manifold one other has.cut (subst (λ (s : FaceSet). IsCutTo s.faces other) (sym same) also.cut)
-
 -- Bytes whose mesh is refined are not refused.
 refine_not_both : (by : ℕ) (bytes : Bytes) (answer : Answer) → HasRefined by bytes → RefusesToRefine by bytes answer → ⊥
-refine_not_both by bytes (TooFine faces kept) takes (plan, cut, fine) =
-    let same : plan ≡ takes.plan = one_cut bytes plan takes.plan cut takes.cut in
-    let count : refined_faces by plan ≡ refined_faces by takes.plan = ap (refined_faces by) same in
-    absurd (omega (arith, count, fine.counted, fine.many, takes.fits))
-refine_not_both by bytes answer takes refuses = mesh_not_refused bytes takes.cut.soup answer takes.cut.mesh refuses
+refine_not_both by bytes (TooFine faces kept) takes (plan, cut, fine) = absurd (omega (arith, fine.counted, fine.many, takes.fits plan cut))
+refine_not_both by bytes answer takes refuses = mesh_not_refused bytes takes.soup answer takes.mesh refuses
 
 -- Bytes whose mesh is remeshed whatever least lists are kept are not refused.
 layout_not_both : (wish : Wish) (settings : Settings) (auto : Bool) (plan : Plan) (answer : Answer) → IsRemeshable wish plan settings auto
@@ -81,16 +62,9 @@ task_not_both asks bytes answer takes (inr (task, plan, has, why)) =
     layout_not_both task.wish task.settings task.auto plan answer (takes.fits task plan has) why
 
 -- So is the mesh of a size.
-bench_layout : (size : ℕ) (answer : Answer) → HasBench size → (plan : Plan) → IsCutTo (bench_faces size) plan
-    → RefusesLayout old_lengths plan bench_settings false answer → ⊥
-bench_layout size answer takes plan cut why =
-    layout_not_both old_lengths bench_settings false takes.plan answer takes.fits
-    (subst (λ (p : Plan). RefusesLayout old_lengths p bench_settings false answer)
-    (one_layout (bench_faces size) takes.manifold plan takes.plan cut takes.cut) why)
-
 bench_not_both : (size : ℕ) (answer : Answer) → HasBench size → RefusesToBench size answer → ⊥
 bench_not_both size (NotManifold place) takes refuses = refuses.1 takes.manifold
-bench_not_both size answer takes (plan, cut, why) = bench_layout size answer takes plan cut why
+bench_not_both size answer takes (plan, cut, why) = layout_not_both old_lengths bench_settings false plan answer (takes.fits plan cut) why
 
 -- No command both takes bytes and refuses them.
 not_both : (command : Command) (bytes : Bytes) (answer : Answer) → Takes command bytes → Refuses command bytes answer → ⊥

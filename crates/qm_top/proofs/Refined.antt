@@ -1,5 +1,5 @@
 -- The text of a refined mesh, and what `refine` keeps.
-use Rattle.std.proofs.Common.{◌≡◌, ℕ, ◌≤◌, ap, ◌∙◌, subst, refl}
+use Rattle.std.proofs.Common.{◌≡◌, ℕ, ◌<◌, ◌≤◌, ◌^◌, ap, ◌∙◌, subst, refl, arith}
 use Rattle.def_io.specs.Moves.{Change}
 use Rattle.def_layout.specs.Arcs.{long_at}
 use Rattle.def_layout.specs.Plans.{Plan, layout_of, vertex_at}
@@ -17,6 +17,7 @@ use Rattle.def_run.specs.Causes.{Cause}
 use Rattle.def_run.specs.Refine.{IsRefined}
 use Rattle.def_run.specs.Remesh.{IsCutTo}
 use Rattle.def_run.specs.declared.command.Command.TheVariants.{Refine}
+use Rattle.def_run.specs.declared.command.TheConstants.{MAX_MULTIPLE}
 use Rattle.def_text.specs.FaceSet.{FaceSet}
 use Rattle.def_text.specs.Input.{ReadSoup}
 use Rattle.def_text.specs.declared.limits.TheConstants.{MAX_BYTES}
@@ -26,16 +27,18 @@ use Rattle.qm_write.specs.declared.body.NewPoints.{NewPoints}
 use Rattle.qm_top.specs.Refining.{ArePointsBy, FailsToRefine}
 use Rattle.qm_top.specs.Refusals.{answer_of_layout}
 use Rattle.qm_top.proofs.Writers.{IsWriter}
+use Rattle.remesh_laws.proofs.ReadAgain.{refined_read}
 
 -- The text of a mesh with multiples of the old lengths is one of a refined mesh.
-pub is_refined : (by : ℕ) (soup : FaceSet) (plan : Plan) → IsLayoutIn soup.faces plan → IsCutTo soup.faces plan
+pub is_refined : (by : ℕ) (soup : FaceSet) (plan : Plan) → 1 ≤ by → by ≤ MAX_MULTIPLE → IsLayoutIn soup.faces plan → IsCutTo soup.faces plan
     → KeepsShapes plan (multiple_of by (long_at plan.arcs)) → refined_faces by plan ≤ MAX_NEW_FACES
     → IsRefined by soup (refined_text by soup plan)
-is_refined by soup plan (is, same) cut keeps fits = record {
+is_refined by soup plan some few (is, same) cut keeps fits = record {
   plan = plan;
   cut = cut;
   fits = fits;
   written = refl;
+  read = refined_read by soup plan is (omega (arith, some)) (omega (arith, few));
   shape = subst
       (λ (fs : Faces). KeepsShape fs (new_faces (layout_of plan) (multiple_of by (long_at plan.arcs))) (layout_of plan).nodes (vertex_at plan))
       same

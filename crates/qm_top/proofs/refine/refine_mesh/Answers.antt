@@ -19,7 +19,7 @@ returns-in_err-write_refined-clause-refused g c =
     let is = of_soup _ _ t c.requires.mesh c.in_ok-layout.ensures.mesh c.in_ok-layout.ensures.traced in
     handed _ _ _ c.from_residual-in_err-write_refined.ensures.1 (record {
       text = refined_text c.args.by c.args.read.soup t;
-      said = is_refined c.args.by c.args.read.soup t is.0 is.1 c.in_ok-refined.ensures.points.shape (fits_of _ _ _ _ c.in_ok-refined.ensures.points);
+      said = is_refined c.args.by c.args.read.soup t c.requires.some c.requires.few is.0 is.1 c.in_ok-refined.ensures.points.shape (fits_of _ _ _ _ c.in_ok-refined.ensures.points);
       prefix = subst (λ (k : ℕ). TookPrefix (g.O.Sink.state c.args.out.now).told (g.O.Sink.state c.write_refined.new.out).told (refined_text k c.args.read.soup t))
           c.in_ok-refined.ensures.by c.in_err-write_refined.ensures.prefix;
       fault = c.in_err-write_refined.ensures.fault;
@@ -31,7 +31,7 @@ returns-clause-done g c =
     let is = of_soup _ _ t c.requires.mesh c.in_ok-layout.ensures.mesh c.in_ok-layout.ensures.traced in
     record {
       text = refined_text c.args.by c.args.read.soup t;
-      said = is_refined c.args.by c.args.read.soup t is.0 is.1 c.in_ok-refined.ensures.points.shape (fits_of _ _ _ _ c.in_ok-refined.ensures.points);
+      said = is_refined c.args.by c.args.read.soup t c.requires.some c.requires.few is.0 is.1 c.in_ok-refined.ensures.points.shape (fits_of _ _ _ _ c.in_ok-refined.ensures.points);
       written = subst (λ (k : ℕ). (g.O.Sink.state c.write_refined.new.out).told ≡ took (g.O.Sink.state c.args.out.now).told (refined_text k c.args.read.soup t))
           c.in_ok-refined.ensures.by c.in_ok-write_refined.ensures.whole;
     }
