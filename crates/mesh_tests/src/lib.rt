@@ -15,6 +15,8 @@ mod motions;
 #[cfg(test)]
 mod new_meshes;
 #[cfg(test)]
+mod placed;
+#[cfg(test)]
 mod roots;
 #[cfg(test)]
 mod sources;
