@@ -1,0 +1,9 @@
+mod AlongChains
+mod CornerFails
+mod CornerWords
+mod EdgeMarks
+mod EndKeys
+mod FirstWords
+mod LineMarks
+mod NamePlaces
+mod Ranges

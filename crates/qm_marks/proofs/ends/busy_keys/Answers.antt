@@ -1,0 +1,13 @@
+use Rattle.std.proofs.Common.{sym, ap, ◌∙◌, ◌++◌, ◌∷◌, []}
+use Rattle.qm_marks.specs.declared.ends.TheConstants.{FEW}
+use Rattle.qm_marks.specs.Keys.{key_of}
+use Rattle.qm_marks.proofs.EndKeys.{keys_off, keys_on}
+use Rattle.qm_marks.proofs.ends.busy_keys.Goals.{then-is_busy+in_ok-push, else-is_busy}
+use Rattle.qm_marks.proofs.ends.busy_keys.Goals as goal
+
+pub loop-d-preserved : goal.loop-d-preserved
+loop-d-preserved c = elim c.if-is_busy.branch [
+  | then-is_busy+in_ok-push w ↦ rw (w.keys-is, w.in_ok-push.ensures.items)
+      (ap (λ xs. xs ++ w.key_for.result ∷ []) c.loop-d.invariant ∙ sym (keys_on c.args.mesh.now FEW c.loop-d.d w.key_for.result (sym c.is_busy.ensures ∙ w.if-is_busy.true) (w.key_for.ensures ∙ (λ i. key_of (w.from.ensures.value i) (w.to.ensures.value i) c.loop-d.d))))
+  | else-is_busy w ↦ rw w.keys-is (c.loop-d.invariant ∙ sym (keys_off c.args.mesh.now FEW c.loop-d.d (sym c.is_busy.ensures ∙ w.if-is_busy.false)))
+]

@@ -1,0 +1,9 @@
+use Rattle.std.proofs.Common.{◌≡◌, map}
+use Rattle.std.specs.Prelude.{filter}
+use Rattle.std.specs.List.{range_with_len}
+use Rattle.qm_marks.specs.Keys.{dart_key, is_busy}
+use Rattle.qm_marks.specs.declared.ends.TheConstants.{FEW}
+use Rattle.qm_marks.proofs.ends.busy_keys.Given as goal
+
+abbrev pub invariant-loop-d : goal.invariant-loop-d
+invariant-loop-d l = l.keys.items ≡ map (dart_key l.mesh) (filter (is_busy l.mesh FEW) (range_with_len 0 l.d))
