@@ -1,1 +1,2 @@
 mod Nets
+mod Sizes

@@ -2,7 +2,10 @@
 #![tactic(auto)]
 
 mod keeping;
+mod sized;
 
+pub use def_metric::SizeFail;
 pub use def_remesh::{Kept, LayoutFail};
 pub use keeping::{keep, keep_solved};
 pub use qm_write::Remesh;
+pub use sized::keep_sized;

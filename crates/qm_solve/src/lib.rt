@@ -10,7 +10,7 @@ mod start;
 pub use def_flow::{Cert, Net};
 pub use descent::{Descent, first_descent, solve_from, turn};
 pub use round::first_wishes;
-pub use start::{is_start, solve, start_of};
+pub use start::{is_start, solve, solve_near, start_of};
 
 /// Want of memory.
 pub type Memory = std::alloc::AllocError;

@@ -1,4 +1,4 @@
-//! The start of the descent for an even network.
+//! The start of the descent: a list near what is wanted where one is found, and else one that is known.
 
 ghost use Rattle.std.specs.Prelude.{◌≡◌, ◌≤◌, ◌↔◌, IfOk, IsTrue};
 ghost use Rattle.std.specs.List.{list_all};
@@ -27,6 +27,17 @@ pub fn solve(alloc: Global, net: &Net) -> Result<Cert, Memory>
     descend(alloc, net, start)
 }
 
+/// The same for any network: where no list near what is wanted is found, the descent begins at `start`.
+pub fn solve_near(alloc: Global, net: &Net, start: Vec<u64>) -> Result<Cert, Memory>
+    requires bounds { IsWithinBounds (network net.now) }
+    requires tangle { tangle_number (network net.now) ≤ MAX_TANGLE }
+    requires start { IsStartOf (network net.now) start.items }
+    ensures { IfOk result (λ cert. IsSolution (network net.now) (certificate cert)) }
+{
+    let start = near_or(alloc, net, start)?;
+    descend(alloc, net, start)
+}
+
 /// The list that `solve` starts from: one near what is wanted where that serves, and else a multiple of the old
 /// lengths, which serves for each even network. The former comes with prices of the nodes, the latter with none.
 pub fn start_of(alloc: Global, net: &Net) -> Result<Start, Memory>
@@ -34,14 +45,24 @@ pub fn start_of(alloc: Global, net: &Net) -> Result<Start, Memory>
     ensures { IsEven (network net.now)
         → IfOk result (λ start. IsStartOf (network net.now) start.lengths.items) }
 {
+    let lengths = old_multiple(alloc, net)?;
+    near_or(alloc, net, lengths)
+}
+
+/// A list near what is wanted that may start the descent, with prices of the nodes, where one is found; and else this
+/// list, with none.
+fn near_or(alloc: Global, net: &Net, start: Vec<u64>) -> Result<Start, Memory>
+    requires { IsWithinBounds (network net.now) }
+    ensures { IsStartOf (network net.now) start.items
+        → IfOk result (λ near. IsStartOf (network net.now) near.lengths.items) }
+{
     if let Some(near) = near_start(alloc, net)? {
         if is_start(net, &near.lengths) {
             return Ok(near);
         }
     }
-    let lengths = old_multiple(alloc, net)?;
     Ok(Start {
-        lengths,
+        lengths: start,
         prices: Vec::new(alloc),
     })
 }

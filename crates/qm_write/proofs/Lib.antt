@@ -1,3 +1,3 @@
 mod Frames
 mod Joins
-mod Positions
+pub mod Positions
