@@ -16,11 +16,12 @@ use Rattle.def_run.specs.Graph.{RefusesToTrace, WritesGraph}
 use Rattle.def_run.specs.Mesh.{HasMesh}
 use Rattle.def_run.specs.Refine.{HasRefined, RefusesToRefine, WritesRefined}
 use Rattle.def_run.specs.Remesh.{AsksToRemesh, HasFinished, RefusesTask, WritesFinished}
+use Rattle.def_run.specs.Size.{AsksForNearSize, HasSize, RefusesSize}
 use Rattle.def_run.specs.Tidy.{RefusesToTidy, WritesTidied}
 use Rattle.def_run.specs.declared.answer.Answer.{Answer}
 use Rattle.def_run.specs.declared.answer.Answer.TheVariants.{Done, Usage, Limit, ReadFault, WriteFault, Memory}
 use Rattle.def_run.specs.declared.command.Command.{Command}
-use Rattle.def_run.specs.declared.command.Command.TheVariants.{Tidy, Graph, Refine, Remesh, Check, Bench, Coarse}
+use Rattle.def_run.specs.declared.command.Command.TheVariants.{Tidy, Graph, Refine, Remesh, Check, Bench, Size, Coarse}
 
 -- The text that a command writes for the bytes that it read.
 abbrev pub Writes : (command : Command) (bytes text : Bytes) → Type 0
@@ -30,6 +31,7 @@ Writes (Refine by) bytes text = WritesRefined by bytes text
 Writes (Remesh settings auto) bytes text = WritesFinished (AsksToRemesh settings auto) bytes text
 Writes Check bytes text = WritesAccepted bytes text
 Writes (Bench size) bytes text = WritesBench size text
+Writes (Size edge floor) bytes text = WritesFinished (AsksForNearSize edge floor) bytes text
 Writes (Coarse settings) bytes text = WritesFinished (AsksToMerge settings) bytes text
 
 -- The answer with which a command refuses the bytes that it read.
@@ -40,6 +42,7 @@ Refuses (Refine by) bytes answer = RefusesToRefine by bytes answer
 Refuses (Remesh settings auto) bytes answer = RefusesTask (AsksToRemesh settings auto) bytes answer
 Refuses Check bytes answer = RefusesToCheck bytes answer
 Refuses (Bench size) bytes answer = RefusesToBench size answer
+Refuses (Size edge floor) bytes answer = RefusesSize edge floor bytes answer
 Refuses (Coarse settings) bytes answer = RefusesTask (AsksToMerge settings) bytes answer
 
 -- The bytes for which a command has a text to write, whatever is free in it.
@@ -50,6 +53,7 @@ Takes (Refine by) bytes = HasRefined by bytes
 Takes (Remesh settings auto) bytes = HasFinished (AsksToRemesh settings auto) bytes
 Takes Check bytes = IsCheckedPair bytes
 Takes (Bench size) bytes = HasBench size
+Takes (Size edge floor) bytes = HasSize edge floor bytes
 Takes (Coarse settings) bytes = HasFinished (AsksToMerge settings) bytes
 
 -- The source is as it was, as far as it tells.

@@ -11,7 +11,7 @@ use Rattle.def_text.specs.declared.refusal.Which.TheVariants as limits
 use Rattle.def_run.specs.declared.answer.Answer.{Answer}
 use Rattle.def_run.specs.declared.answer.Answer.TheVariants.{Done, NotAccepted, Usage, Syntax, NotQuad, Range, Limit}
 use Rattle.def_run.specs.declared.answer.Answer.TheVariants.{NotManifold, Tangled, TooFine, Doubled}
-use Rattle.def_run.specs.declared.answer.Answer.TheVariants.{ReadFault, WriteFault, Memory}
+use Rattle.def_run.specs.declared.answer.Answer.TheVariants.{ReadFault, WriteFault, Memory, Far}
 use Rattle.def_run.specs.declared.answer.Why.{Why}
 use Rattle.def_run.specs.declared.answer.Why.TheVariants as why
 use Rattle.def_mesh.specs.declared.Place.{Place}
@@ -83,7 +83,8 @@ why_text (why.Byte at) = codes "byte " ++ decimal at
 abbrev pub usage_text : Bytes
 usage_text =
     codes "usage: quadq tidy | graph | refine --by K | remesh --scale P/Q --floor F --weight plain|length"
-    ++ codes " | check | bench --size N | coarse --scale P/Q --floor F --weight plain|length"
+    ++ codes " | check | bench --size N | size --edge D --floor F"
+    ++ codes " | coarse --scale P/Q --floor F --weight plain|length"
 
 -- Why the run ended so, where `names` has the vertices' numbers in the file.
 abbrev pub reason_text : (names : List ℕ) (answer : Answer) → Bytes
@@ -101,6 +102,7 @@ reason_text names (Doubled u v cert) = codes "doubled edge: " ++ decimal (u + 1)
 reason_text names ReadFault = codes "read fault"
 reason_text names WriteFault = codes "write fault"
 reason_text names Memory = codes "out of memory"
+reason_text names (Far sum) = codes "far: " ++ decimal sum
 
 -- The whole line.
 abbrev pub error_line : (names : List ℕ) (answer : Answer) → Bytes

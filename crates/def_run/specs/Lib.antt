@@ -13,6 +13,7 @@ pub mod Messages
 pub mod Options
 pub mod Refine
 pub mod Remesh
+pub mod Size
 pub mod Solving
 pub mod Status
 pub mod Tidy

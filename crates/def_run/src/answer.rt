@@ -29,6 +29,8 @@ pub enum Answer {
     ReadFault,
     WriteFault,
     Memory,
+    /// The lengths that are wanted of all arcs add up to more than the limit.
+    Far { sum: u128 },
 }
 
 /// Why `check` accepts nothing. `CertLine` counts from the first line of the input, and `Byte` from the head line.
@@ -70,6 +72,7 @@ impl Answer {
             Answer::ReadFault => 12,
             Answer::WriteFault => 13,
             Answer::Memory => 14,
+            Answer::Far { .. } => 17,
         }
     }
 }

@@ -1,6 +1,7 @@
 //! The commands and their limits.
 
 use def_flow::Settings;
+use def_text::Micro;
 
 /// The greatest multiple of `refine`.
 pub const MAX_MULTIPLE: u32 = 1000;
@@ -25,6 +26,8 @@ pub enum Command {
     Remesh { settings: Settings, auto: bool },
     Check,
     Bench { size: u32 },
+    /// Edges of this length are wanted, and no arc shorter than the floor.
+    Size { edge: Micro, floor: u32 },
     /// The patches are merged first.
     Coarse { settings: Settings },
 }

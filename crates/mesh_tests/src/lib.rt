@@ -9,6 +9,8 @@ mod layouts;
 #[cfg(test)]
 mod lengths;
 #[cfg(test)]
+mod measures;
+#[cfg(test)]
 mod meshes;
 #[cfg(test)]
 mod motions;

@@ -1,5 +1,5 @@
 -- Bytes that a command takes are not refused.
-use Rattle.std.proofs.Common.{Bool, false, ◌≡◌, ◌≤◌, ◌⊎◌, ℕ, List, ◌++◌, length, Some, None, Result, Ok, Err, sym, ◌∙◌, ap, subst, arith, refl, inl, inr, length-append}
+use Rattle.std.proofs.Common.{Bool, false, ◌≡◌, ◌≤◌, ◌⊎◌, ℕ, ℤ, List, ◌++◌, length, Some, None, Result, Ok, Err, sym, ◌∙◌, ap, subst, arith, refl, inl, inr, length-append}
 use Rattle.std.proofs.lemmas.List.{append-nil}
 use Rattle.def_io.specs.Bytes.{Bytes, Told}
 use Rattle.def_io.specs.Faults.{Rose}
@@ -18,10 +18,11 @@ use Rattle.def_remesh.specs.Refusals.{IsRemeshable}
 use Rattle.def_run.specs.Refine.{HasRefined, RefusesToRefine}
 use Rattle.def_run.specs.Remesh.{Asks, AsksToRemesh, HasFinished, RefusesLayout, RefusesTask}
 use Rattle.def_layout.specs.Plans.{Plan}
+use Rattle.def_run.specs.Size.{AsksForNearSize, AsksForSize, HasNearTargets, HasSize, IsFarText, RefusesSize}
 use Rattle.def_run.specs.declared.answer.Answer.{Answer}
-use Rattle.def_run.specs.declared.answer.Answer.TheVariants.{Done, NotAccepted, Usage, Syntax, NotQuad, Range, Limit, NotManifold, Tangled, TooFine, Doubled, ReadFault, WriteFault, Memory}
+use Rattle.def_run.specs.declared.answer.Answer.TheVariants.{Done, NotAccepted, Usage, Syntax, NotQuad, Range, Limit, NotManifold, Tangled, TooFine, Doubled, ReadFault, WriteFault, Memory, Far}
 use Rattle.def_run.specs.declared.command.Command.{Command}
-use Rattle.def_run.specs.declared.command.Command.TheVariants.{Tidy, Graph, Refine, Remesh, Check, Bench, Coarse}
+use Rattle.def_run.specs.declared.command.Command.TheVariants.{Tidy, Graph, Refine, Remesh, Check, Bench, Size, Coarse}
 use Rattle.def_run.specs.declared.words.WordsFail.{WordsFail}
 use Rattle.def_run.specs.declared.words.WordsFail.TheVariants as words_fail
 use Rattle.def_run.specs.CommandLines.{IsAcceptedLine, IsCommand}
@@ -61,6 +62,29 @@ task_not_both asks bytes answer takes (inl none) = mesh_not_refused bytes takes.
 task_not_both asks bytes answer takes (inr (task, plan, has, why)) =
     layout_not_both task.wish task.settings task.auto plan answer (takes.fits task plan has) why
 
+-- Targets that are too great for it are not near.
+pub far_not_near : (edge : ℤ) (floor sum : ℕ) (bytes : Bytes) (soup : FaceSet) → IsMeshText bytes soup → HasNearTargets edge soup → IsFarText edge floor bytes sum → ⊥
+far_not_near edge floor sum bytes soup mesh near is =
+    let both : ◌≡◌ {A = Result FaceSet ObjFail} (Ok is.soup) (Ok soup) = sym is.mesh.said ∙ mesh.said in
+    let same : is.soup ≡ soup = cc in
+    let here : HasNearTargets edge is.soup = subst (HasNearTargets edge) (sym same) near in
+    absurd (omega (arith, here is.plan is.cut, is.far.told, is.far.high))
+
+-- Bytes that it takes are not refused.
+pub size_not_both : (edge : ℤ) (floor : ℕ) (bytes : Bytes) (answer : Answer) → HasSize edge floor bytes → RefusesSize edge floor bytes answer → ⊥
+size_not_both edge floor bytes (Far sum) takes far =
+    far_not_near edge floor sum bytes takes.finished.soup takes.finished.mesh takes.near far
+size_not_both edge floor bytes (Tangled count) takes refuses =
+    task_not_both (AsksForSize edge floor) bytes (Tangled count) takes.finished refuses
+size_not_both edge floor bytes answer takes refuses = task_not_both (AsksForNearSize edge floor) bytes answer finished refuses
+  where
+    finished : HasFinished (AsksForNearSize edge floor) bytes
+    finished = record {
+      soup = takes.finished.soup;
+      mesh = takes.finished.mesh;
+      fits = λ task plan has. takes.finished.fits task plan (record { soup = has.soup; mesh = has.mesh; asked = has.asked.0; cut = has.cut });
+    }
+
 -- So is the mesh of a size.
 bench_not_both : (size : ℕ) (answer : Answer) → HasBench size → RefusesToBench size answer → ⊥
 bench_not_both size (NotManifold place) takes refuses = refuses.1 takes.manifold
@@ -74,6 +98,7 @@ not_both (Refine by) bytes answer takes refuses = refine_not_both by bytes answe
 not_both (Remesh settings auto) bytes answer takes refuses = task_not_both (AsksToRemesh settings auto) bytes answer takes refuses
 not_both Check bytes answer takes refuses = pair_not_refused bytes answer takes refuses
 not_both (Bench size) bytes answer takes refuses = bench_not_both size answer takes refuses
+not_both (Size edge floor) bytes answer takes refuses = size_not_both edge floor bytes answer takes refuses
 not_both (Coarse settings) bytes answer takes refuses = task_not_both (AsksToMerge settings) bytes answer takes refuses
 
 -- What a source gave whole is what it held.

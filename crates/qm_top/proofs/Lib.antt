@@ -9,4 +9,5 @@ mod Refusals
 mod Remeshed
 mod Running
 mod Settled
+mod Sized
 mod Writers

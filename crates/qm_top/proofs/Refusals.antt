@@ -1,7 +1,7 @@
 -- Refusals of the steps of a run as answers with their causes.
 use Rattle.std.specs.Prelude.{IsErrAnd}
 use Rattle.def_flow.specs.declared.net.Settings.{Settings}
-use Rattle.std.proofs.Common.{inl, Bool, ◌≡◌, ℕ, List, [], Result, Ok, Err, sym, ◌∙◌, subst, refl}
+use Rattle.std.proofs.Common.{inl, Bool, ◌≡◌, ℕ, ℤ, List, [], Result, Ok, Err, sym, ◌∙◌, subst, refl}
 use Rattle.def_io.specs.Bytes.{Bytes}
 use Rattle.def_io.specs.Faults.{Rose}
 use Rattle.def_io.specs.Moves.{Change, IsStill, Stream, GaveMore}
@@ -22,7 +22,7 @@ use Rattle.def_run.specs.Mesh.{IsNoMesh}
 use Rattle.def_run.specs.declared.answer.Answer.{Answer}
 use Rattle.def_run.specs.declared.answer.Answer.TheVariants as answers
 use Rattle.def_run.specs.declared.command.Command.{Command}
-use Rattle.def_run.specs.declared.command.Command.TheVariants.{Tidy, Graph, Refine, Remesh, Coarse}
+use Rattle.def_run.specs.declared.command.Command.TheVariants.{Tidy, Graph, Refine, Remesh, Size, Coarse}
 use Rattle.qm_top.specs.declared.refusal.Refusal.{Refusal}
 use Rattle.qm_top.specs.declared.refusal.Refusal.TheVariants.{Soup, NotManifold}
 use Rattle.qm_top.specs.declared.refusal.Refusal.TheVariants as refusals
@@ -81,6 +81,20 @@ remesh_needs settings auto = record {
   too_many = λ input more. more;
   fails = λ input rose. rose;
 }
+
+pub size_needs : (edge : ℤ) (floor : ℕ) → NeedsMesh (Size edge floor)
+size_needs edge floor = record {
+  refuses = no_mesh;
+  reads = λ input bytes whole. whole;
+  looks = λ bytes soup said. said;
+  too_many = λ input more. more;
+  fails = λ input rose. rose;
+}
+  where
+    no_mesh : (bytes : Bytes) (answer : Answer) → IsNoMesh bytes answer → Refuses (Size edge floor) bytes answer
+    no_mesh bytes (answers.Far sum) none = absurd none
+    no_mesh bytes (answers.Tangled count) none = absurd none
+    no_mesh bytes _ none = inl none
 
 pub coarse_needs : (settings : Settings) → NeedsMesh (Coarse settings)
 coarse_needs settings = record {

@@ -1,5 +1,5 @@
 -- A command that solves finds least lengths for a network that is not too tangled.
-use Rattle.std.proofs.Common.{false, Bool, ℕ, ◌≡◌, ◌⊎◌, sym, subst, refl, inl, inr}
+use Rattle.std.proofs.Common.{false, Bool, ℕ, ℤ, ◌≡◌, ◌⊎◌, sym, subst, refl, inl, inr}
 use Rattle.def_flow.specs.declared.net.Settings.{Settings}
 use Rattle.def_io.specs.Bytes.{Bytes, Told}
 use Rattle.def_io.specs.Faults.{Rose}
@@ -11,15 +11,16 @@ use Rattle.def_run.specs.Bench.{bench_settings, RefusesToBench}
 use Rattle.def_run.specs.Causes.{Cause, ReadsTooMany, Refused}
 use Rattle.def_run.specs.Coarse.{AsksToMerge}
 use Rattle.def_run.specs.Remesh.{Asks, AsksToRemesh, HoldsUntangled, IsSettled, RefusesLayout, RefusesTask}
+use Rattle.def_run.specs.Size.{AsksForNearSize, AsksForSize, HoldsSize, RefusesSize}
 use Rattle.def_run.specs.Solving.{IsUntangled, IsUntangledBench}
 use Rattle.def_run.specs.declared.answer.Answer.{Answer}
-use Rattle.def_run.specs.declared.answer.Answer.TheVariants.{Done, Usage, Limit, NotManifold, Tangled, TooFine, Doubled, ReadFault, WriteFault, Memory}
+use Rattle.def_run.specs.declared.answer.Answer.TheVariants.{Done, Usage, Limit, NotManifold, Tangled, TooFine, Doubled, ReadFault, WriteFault, Memory, Far}
 use Rattle.def_run.specs.declared.command.Command.{Command}
-use Rattle.def_run.specs.declared.command.Command.TheVariants.{Remesh, Bench, Coarse}
+use Rattle.def_run.specs.declared.command.Command.TheVariants.{Remesh, Bench, Size, Coarse}
 use Rattle.def_text.specs.Input.{ReadWhole}
 use Rattle.def_text.specs.declared.limits.TheConstants.{MAX_BYTES}
 use Rattle.def_text.specs.declared.refusal.Which.TheVariants.{Bytes as AllBytes}
-use Rattle.qm_top.proofs.Complete.{mesh_not_refused, not_too_long, rose_if, same_bytes}
+use Rattle.qm_top.proofs.Complete.{far_not_near, mesh_not_refused, not_too_long, rose_if, same_bytes}
 
 -- A layout that is not too tangled is refused for its least lengths alone.
 layout_settles : (wish : Wish) (settings : Settings) (auto : Bool) (plan : Plan) (answer : Answer) → ((count : ℕ) → ¬ IsTangledAt wish plan settings count)
@@ -42,6 +43,30 @@ task_settles asks input bytes answer held whole said =
     held_settles asks input.told held answer
     (subst (λ (xs : Bytes). RefusesTask asks xs answer)
     (same_bytes input.told input.told_now bytes held.bytes held.held whole.given whole.ended) said)
+
+-- What a source held with targets that are not too great is refused for its least lengths alone.
+size_settles : (edge : ℤ) (floor : ℕ) (left : Told) (held : HoldsSize edge floor left) (answer : Answer) → RefusesSize edge floor held.held.bytes answer → IsSettled answer
+size_settles edge floor left held (Far sum) far =
+    absurd (far_not_near edge floor sum held.held.bytes held.held.soup held.held.mesh held.near far)
+size_settles edge floor left held (Tangled count) refuses =
+    held_settles (AsksForSize edge floor) left held.held (Tangled count) refuses
+size_settles edge floor left held answer refuses = held_settles (AsksForNearSize edge floor) left near answer refuses
+  where
+    near : HoldsUntangled (AsksForNearSize edge floor) left
+    near = record {
+      bytes = held.held.bytes;
+      held = held.held.held;
+      within = held.held.within;
+      soup = held.held.soup;
+      mesh = held.held.mesh;
+      untangled = λ task plan has count. held.held.untangled task plan (record { soup = has.soup; mesh = has.mesh; asked = has.asked.0; cut = has.cut }) count;
+    }
+
+size_refused : (edge : ℤ) (floor : ℕ) (input : Change) (answer : Answer) → HoldsSize edge floor input.told → Refused (Size edge floor) input answer → IsSettled answer
+size_refused edge floor input answer held bad =
+    size_settles edge floor input.told held answer
+    (subst (λ (xs : Bytes). RefusesSize edge floor xs answer)
+    (same_bytes input.told input.told_now bad.bytes held.held.bytes held.held.held bad.whole.given bad.whole.ended) bad.said)
 
 -- So is the mesh of a size.
 bench_settles : (size : ℕ) (answer : Answer) → IsUntangledBench size → RefusesToBench size answer → IsSettled answer
@@ -67,6 +92,9 @@ settles (Remesh settings auto) input out answer why held =
     (λ refusal bad. task_settles (AsksToRemesh settings auto) input bad.bytes refusal held bad.whole bad.said) why
 settles (Bench size) input out answer why held =
     settles_if (Bench size) input out answer (λ more. more) (λ refusal bad. bench_settles size refusal held bad.said) why
+settles (Size edge floor) input out answer why held =
+    settles_if (Size edge floor) input out answer (λ more. not_too_long _ _ held.held.bytes held.held.held held.held.within more)
+    (λ refusal bad. size_refused edge floor input refusal held bad) why
 settles (Coarse settings) input out answer why held =
     settles_if (Coarse settings) input out answer (λ more. not_too_long _ _ held.bytes held.held held.within more)
     (λ refusal bad. task_settles (AsksToMerge settings) input bad.bytes refusal held bad.whole bad.said) why

@@ -2,6 +2,8 @@
 use Rattle.std.specs.Prelude.{◌≡◌, ◌≢◌, ℕ, List, [], ⊤}
 use Rattle.def_io.specs.Moves.{Change}
 use Rattle.def_mesh.specs.Faults.{IsFirstFault}
+use Rattle.def_metric.specs.declared.fail.SizeFail.{SizeFail}
+use Rattle.def_metric.specs.declared.fail.SizeFail.TheVariants as sizes
 use Rattle.def_mesh.specs.Manifold.{IsManifold}
 use Rattle.def_mesh.specs.declared.Place.{Place}
 use Rattle.def_text.specs.FaceSet.{FaceSet}
@@ -24,7 +26,7 @@ use Rattle.def_run.specs.declared.command.Command.{Command}
 use Rattle.def_run.specs.declared.words.WordsFail.{WordsFail}
 use Rattle.def_run.specs.declared.words.WordsFail.TheVariants as words
 use Rattle.qm_top.specs.declared.refusal.Refusal.{Refusal}
-use Rattle.qm_top.specs.declared.refusal.Refusal.TheVariants.{NotAccepted, Soup, NotManifold, Layout, Write}
+use Rattle.qm_top.specs.declared.refusal.Refusal.TheVariants.{NotAccepted, Soup, NotManifold, Layout, Far, Write}
 use Rattle.qm_top.specs.declared.refusal.Refusal.TheVariants as refusals
 
 -- The answer to words that are no command.
@@ -60,8 +62,14 @@ answer_of (NotAccepted why) = answers.NotAccepted why
 answer_of (Soup fail) = answer_of_soup fail
 answer_of (NotManifold named) = answers.NotManifold named.place
 answer_of (Layout fail) = answer_of_layout fail
+answer_of (Far sum) = answers.Far sum
 answer_of (Write fail) = WriteFault
 answer_of refusals.Memory = Memory
+
+-- The refusal of a layout that is not remeshed with edges of a given length.
+abbrev pub refusal_of_size : (fail : SizeFail) → Refusal
+refusal_of_size (sizes.Far sum) = Far sum
+refusal_of_size (sizes.Layout fail) = Layout fail
 
 -- The numbers in the file of the vertices that a refusal may name.
 abbrev pub names_of : (refusal : Refusal) → List ℕ

@@ -16,6 +16,7 @@ use crate::graph::graph;
 use crate::refine::refine;
 use crate::refusal::{Refusal, words_answer};
 use crate::remesh::remesh;
+use crate::size::size;
 use crate::tidy::tidy;
 use def_certtext::Asked;
 use def_run::{Answer, Command};
@@ -75,6 +76,7 @@ fn run_command<S: Source, O: Sink>(
         Command::Remesh { settings, auto } => remesh(alloc, Asked { settings, auto }, input, out),
         Command::Check => check(alloc, input, out),
         Command::Bench { size } => bench(alloc, size, out),
+        Command::Size { edge, floor } => size(alloc, edge, floor, input, out),
         Command::Coarse { settings } => coarse(alloc, settings, input, out),
     }
 }

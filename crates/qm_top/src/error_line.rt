@@ -26,7 +26,7 @@ pub(crate) fn error_line_of(answer: &Answer, names: &[u32]) -> Line
 
 const USAGE: &str =
     "usage: quadq tidy | graph | refine --by K | remesh --scale P/Q --floor F --weight plain|length \
-    | check | bench --size N | coarse --scale P/Q --floor F --weight plain|length";
+    | check | bench --size N | size --edge D --floor F | coarse --scale P/Q --floor F --weight plain|length";
 
 fn reason_of(answer: &Answer, names: &[u32]) -> Line
     requires { HasNames names.now answer.now }
@@ -52,6 +52,7 @@ fn reason_of(answer: &Answer, names: &[u32]) -> Line
         Answer::ReadFault => line_of("read fault"),
         Answer::WriteFault => line_of("write fault"),
         Answer::Memory => line_of("out of memory"),
+        Answer::Far { sum } => far_of(*sum),
     }
 }
 
@@ -71,6 +72,16 @@ fn too_fine_of(faces: u128) -> Line
 {
     let mut text = line_of("too fine: ");
     push_integer(&mut text, faces, " faces");
+    text
+}
+
+/// The sum of the lengths that are wanted.
+fn far_of(sum: u128) -> Line
+    ensures text { result.bytes ≡ codes "far: " ++ decimal sum }
+    ensures short { array_string_len result ≤ 300 }
+{
+    let mut text = line_of("far: ");
+    push_integer(&mut text, sum, "");
     text
 }
 

@@ -15,6 +15,7 @@ mod process;
 mod refine;
 mod refusal;
 mod remesh;
+mod size;
 mod tidy;
 mod why_line;
 

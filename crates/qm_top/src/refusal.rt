@@ -5,12 +5,13 @@ ghost use Rattle.def_io.specs.declared.fails.WriteFail.TheVariants as fails;
 ghost use Rattle.def_text.specs.Fails.{of_read};
 ghost use Rattle.qm_top.specs.Named.{HasNames};
 ghost use Rattle.qm_top.specs.Refusals.{answer_of, answer_of_layout, answer_of_obj};
-ghost use Rattle.qm_top.specs.Refusals.{answer_of_soup, answer_of_words, names_of};
+ghost use Rattle.qm_top.specs.Refusals.{answer_of_soup, answer_of_words, names_of, refusal_of_size};
 ghost use Rattle.qm_top.specs.Writing.{refusal_of_put};
 ghost use Rattle.qm_top.specs.declared.refusal.Refusal.TheVariants as refusals;
 
 use crate::named::NamedPlace;
 use def_io::{ReadFail, WriteFail};
+use def_metric::SizeFail;
 use def_output::Stopped;
 use def_remesh::LayoutFail;
 use def_run::{Answer, Why, WordsFail};
@@ -25,6 +26,7 @@ pub(crate) enum Refusal {
     Soup(SoupFail),
     NotManifold(NamedPlace),
     Layout(LayoutFail),
+    Far(u128),
     Write(WriteFail),
     Memory,
 }
@@ -53,6 +55,7 @@ impl Refusal {
                 names: named.names,
             },
             Refusal::Layout(fail) => without_names(alloc, layout_answer(fail)),
+            Refusal::Far(sum) => without_names(alloc, Answer::Far { sum }),
             Refusal::Write(_) => without_names(alloc, Answer::WriteFault),
             Refusal::Memory => without_names(alloc, Answer::Memory),
         }
@@ -91,6 +94,17 @@ impl From<LayoutFail> for Refusal {
 
     fn from(fail: LayoutFail) -> Refusal {
         Refusal::Layout(fail)
+    }
+}
+
+impl From<SizeFail> for Refusal {
+    ghost from_gives = { λ fail e. e ≡ refusal_of_size fail };
+
+    fn from(fail: SizeFail) -> Refusal {
+        match fail {
+            SizeFail::Far { sum } => Refusal::Far(sum),
+            SizeFail::Layout { fail } => Refusal::Layout(fail),
+        }
     }
 }
 

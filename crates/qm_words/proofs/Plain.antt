@@ -1,6 +1,7 @@
 -- The values of a line begin with no hyphen.
 use Rattle.std.proofs.Common.{◌≡◌, ◌⊎◌, ◌≤◌, ◌<◌, ◌+◌, ◌^◌, ◌==◌, not, ℕ, Bool, true, false, [], ◌∷◌, ◌++◌, codes, inl, inr, refl, ap, sym, ◌∙◌, subst, arith}
-use Rattle.std.specs.Prelude.{decimal}
+use Rattle.std.specs.Prelude.{decimal, ℤ, pos, neg_ℤ, ◌≤ℤ◌, if◌then◌else◌}
+use Rattle.std.proofs.lemmas.Int.{ints}
 use Rattle.std.specs.Char.{is_ascii_digit}
 use Rattle.std.specs.List.{list_all, list_any}
 use Rattle.std.specs.Str.{bytes_eq}
@@ -10,8 +11,9 @@ use Rattle.def_certtext.specs.Settings.{floor_text, weight_text, IsFloor}
 use Rattle.def_flow.specs.declared.net.Settings.{Settings}
 use Rattle.def_flow.specs.declared.net.Weight.{Weight}
 use Rattle.def_flow.specs.declared.net.Weight.TheVariants.{Plain, Length}
-use Rattle.def_run.specs.CommandLines.{remesh_options, HasCount, HasSettings}
+use Rattle.def_run.specs.CommandLines.{remesh_options, size_options, HasCount, HasEdge, HasSettings, IsEdgeLength}
 use Rattle.def_run.specs.Options.{count_of, is_of, value_of, AreOptions, Use, Uses}
+use Rattle.def_text.specs.Decimal.{rounded_size}
 use Rattle.def_text.specs.Types.{Word, Words}
 use Rattle.qm_dec.proofs.Texts.{decimal_digits, digit_other}
 use Rattle.qm_words.specs.Parsing.{is_known, is_plain, Refuses}
@@ -130,3 +132,28 @@ no_settings words settings auto refuses has = refuses has.uses has.options (valu
 
     by_name : (n : Word) → is_known remesh_options n ≡ true → is_plain (value_of n has.uses) ≡ true
     by_name n known = by_tests n (cases_Bool (bytes_eq (codes "scale") n)) (cases_Bool (bytes_eq (codes "floor") n)) (cases_Bool (bytes_eq (codes "weight") n)) known
+
+-- A length above 0 has no minus.
+edge_plain : (word : Word) (edge : ℤ) → IsEdgeLength word edge → is_plain word ≡ true
+edge_plain [] edge is = refl
+edge_plain (byte ∷ word) edge is = ap not (positive (byte == 45) (rounded_size (byte ∷ word)) edge is.value.2 is.low)
+  where
+    positive : (minus : Bool) (n : ℕ) (edge : ℤ) → edge ≡ (if minus then neg_ℤ (pos n) else pos n) → pos 1 ≤ℤ edge → minus ≡ false
+    positive true n edge same low = absurd (omega (arith, ints, same, low))
+    positive false n edge same low = refl
+
+pub no_edge : (words : Words) (edge : ℤ) (floor : ℕ) → Refuses size_options words → HasEdge words edge floor → ⊥
+no_edge words edge floor refuses has = refuses has.uses has.options (values_plain size_options words has.uses has.options by_name)
+  where
+    plain_at : (name n : Word) → bytes_eq name n ≡ true → is_plain (value_of name has.uses) ≡ true → is_plain (value_of n has.uses) ≡ true
+    plain_at name n is plain = subst (λ (k : Word). is_plain (value_of k has.uses) ≡ true) ((bytes_eq-Decides name n).0 is) plain
+
+    by_tests : (n : Word) → (bytes_eq (codes "edge") n ≡ true) ⊎ (bytes_eq (codes "edge") n ≡ false) → (bytes_eq (codes "floor") n ≡ true) ⊎ (bytes_eq (codes "floor") n ≡ false)
+        → is_known size_options n ≡ true → is_plain (value_of n has.uses) ≡ true
+    by_tests n (inl is) b known = plain_at (codes "edge") n is (edge_plain (value_of (codes "edge") has.uses) edge has.length)
+    by_tests n (inr e) (inl is) known =
+        plain_at (codes "floor") n is (ap is_plain has.least.written ∙ number_plain floor (omega (arith, has.least.high)))
+    by_tests n (inr e) (inr f) known = absurd (false≢true (rw (e, f) at known))
+
+    by_name : (n : Word) → is_known size_options n ≡ true → is_plain (value_of n has.uses) ≡ true
+    by_name n known = by_tests n (cases_Bool (bytes_eq (codes "edge") n)) (cases_Bool (bytes_eq (codes "floor") n)) known

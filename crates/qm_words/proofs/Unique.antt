@@ -4,14 +4,15 @@ use Rattle.std.specs.Str.{bytes_eq}
 use Rattle.std.proofs.lemmas.Bool.{true≢false}
 use Rattle.std.proofs.lemmas.Slice.Eq.{bytes_eq-Decides}
 use Rattle.def_flow.specs.declared.net.Settings.{Settings}
-use Rattle.std.specs.Prelude.{codes}
+use Rattle.std.specs.Prelude.{codes, ℤ}
 use Rattle.def_certtext.specs.Settings.{AreWordsOf}
-use Rattle.def_run.specs.CommandLines.{name_of, HasCount, HasOptions, HasSettings, IsCommand}
+use Rattle.def_run.specs.CommandLines.{name_of, HasCount, HasEdge, HasOptions, HasSettings, IsCommand}
 use Rattle.def_run.specs.Options.{uses_of, value_of, Uses}
 use Rattle.def_run.specs.declared.command.Command.{Command}
-use Rattle.def_run.specs.declared.command.Command.TheVariants.{Tidy, Graph, Refine, Remesh, Check, Bench, Coarse}
+use Rattle.def_run.specs.declared.command.Command.TheVariants.{Tidy, Graph, Refine, Remesh, Check, Bench, Size, Coarse}
 use Rattle.def_run.specs.declared.words.WordsFail.{WordsFail}
 use Rattle.def_run.specs.declared.words.WordsFail.TheVariants.{Memory, Usage}
+use Rattle.def_text.specs.Decimal.{rounded}
 use Rattle.def_text.specs.Types.{Word, Words}
 use Rattle.std.proofs.lemmas.Fmt.{decimal_injective}
 use Rattle.qm_certtext.proofs.Unique.{same_settings}
@@ -39,6 +40,14 @@ same_asked words s t a b one two =
     HasValues : Settings → Bool → Uses → Type 0
     HasValues settings auto uses = AreWordsOf (value_of (codes "scale") uses) (value_of (codes "floor") uses) (value_of (codes "weight") uses) settings auto
 
+same_edge : (words : Words) (e d : ℤ) (m n : ℕ) → HasEdge words e m → HasEdge words d n → (e ≡ d) × (m ≡ n)
+same_edge words e d m n one two =
+    let uses = same_uses words one.uses two.uses one.options.spelled two.options.spelled in (
+      one.length.value.2 ∙ ap (λ (us : Uses). rounded (value_of (codes "edge") us)) uses ∙ sym two.length.value.2,
+      decimal_injective m n (omega (arith, one.least.high)) (omega (arith, two.least.high))
+          (sym one.least.written ∙ ap (value_of (codes "floor")) uses ∙ two.least.written),
+    )
+
 same_options : (a b : Command) (words : Words) → name_of a ≡ name_of b → HasOptions a words → HasOptions b words → a ≡ b
 same_options Tidy Tidy words name one two = refl
 same_options Graph Graph words name one two = refl
@@ -48,6 +57,9 @@ same_options (Remesh s x) (Remesh t y) words name one two =
     λ i. Remesh (both.0 i) (both.1 i)
 same_options Check Check words name one two = refl
 same_options (Bench m) (Bench n) words name one two = ap (λ (k : ℕ). Bench k) (same_count _ 10000 words m n (omega arith) one two)
+same_options (Size e m) (Size d n) words name one two =
+    let both = same_edge words e d m n one two in
+    λ i. Size (both.0 i) (both.1 i)
 same_options (Coarse s) (Coarse t) words name one two = ap (λ (k : Settings). Coarse k) (same_asked words s t false false one two).0
 same_options a b words name one two = absurd (apart (name_of a) (name_of b) refl name)
 

@@ -4,7 +4,7 @@ ghost use Rattle.std.specs.Prelude.{◌≡◌, ◌↔◌, ◌⊎◌, [], map, st
 ghost use Rattle.def_run.specs.CommandLines.{name_of, HasOptions, IsCommand};
 ghost use Rattle.def_run.specs.declared.command.Command.{Command as AnyCommand};
 
-use crate::values::{fixed_settings_of, number_of, settings_of};
+use crate::values::{edge_of, fixed_settings_of, number_of, settings_of};
 use def_run::{Command, MAX_MULTIPLE, MAX_SIZE, WordsFail};
 use std::alloc::Global;
 
@@ -60,6 +60,13 @@ fn read_command(alloc: Global, name: &str, rest: &[String]) -> Result<Command, W
     if is_word(name, "bench") {
         let size = number_of(alloc, "size", MAX_SIZE, rest)?;
         return Ok(Command::Bench { size });
+    }
+    if is_word(name, "size") {
+        let asked = edge_of(alloc, rest)?;
+        return Ok(Command::Size {
+            edge: asked.edge,
+            floor: asked.floor,
+        });
     }
     if is_word(name, "coarse") {
         let settings = fixed_settings_of(alloc, rest)?;

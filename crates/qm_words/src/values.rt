@@ -1,16 +1,17 @@
 //! The values of a line's options.
 
-ghost use Rattle.std.specs.Prelude.{◌≡◌, ◌≤◌, ℕ, Bool, [], ◌∷◌, false, map, string_bytes, IfOk, IfErr};
+ghost use Rattle.std.specs.Prelude.{◌≡◌, ◌≤◌, ℕ, ℤ, Bool, [], ◌∷◌, false, map, string_bytes, IfOk, IfErr, IfSome, None};
 ghost use Rattle.def_flow.specs.declared.net.Settings.{Settings as AnySettings};
-ghost use Rattle.def_run.specs.CommandLines.{HasCount, HasSettings};
+ghost use Rattle.def_run.specs.CommandLines.{HasCount, HasEdge, HasSettings, IsEdgeLength};
 ghost use Rattle.qm_words.specs.Parsing.{is_known};
 
 use crate::options::read_options;
 use def_certtext::Asked;
-use def_flow::Settings;
+use def_flow::{MAX_FLOOR, Settings};
 use def_run::WordsFail;
+use def_text::Micro;
 use qm_certtext::read_settings;
-use qm_dec::read_count;
+use qm_dec::{read_count, read_micro};
 use std::alloc::Global;
 
 /// The number of the one option of these words, from 1 to the greatest. The option has this name.
@@ -63,4 +64,41 @@ pub(crate) fn fixed_settings_of(alloc: Global, words: &[String]) -> Result<Setti
         return Err(WordsFail::Usage);
     }
     Ok(asked.settings)
+}
+
+/// The length of an edge, and the least length of an arc.
+#[derive(Clone, Copy)]
+pub(crate) struct EdgeAndFloor {
+    pub(crate) edge: Micro,
+    pub(crate) floor: u32,
+}
+
+/// The length and the floor that these words, the options of `size`, ask for.
+pub(crate) fn edge_of(alloc: Global, words: &[String]) -> Result<EdgeAndFloor, WordsFail>
+    ensures reads { IfOk result (λ asked. HasEdge (map string_bytes words.now) asked.edge asked.floor) }
+    ensures refuses { IfErr result (λ fail. fail ≡ WordsFail.Usage
+        → (edge : ℤ) (floor : ℕ) → ¬ HasEdge (map string_bytes words.now) edge floor) }
+{
+    let names = ["edge", "floor"];
+    let matches = read_options(alloc, &names, words)?;
+    let edge = matches.get_str("edge").unwrap();
+    let floor = matches.get_str("floor").unwrap();
+    let Some(edge) = read_edge(edge.as_bytes()) else {
+        return Err(WordsFail::Usage);
+    };
+    match read_count(floor.as_bytes(), MAX_FLOOR) {
+        Some(floor) => Ok(EdgeAndFloor { edge, floor }),
+        None => Err(WordsFail::Usage),
+    }
+}
+
+/// The millionths of a decimal, where there is at least one.
+fn read_edge(word: &[u8]) -> Option<Micro>
+    ensures value { IfSome result (IsEdgeLength word.now) }
+    ensures none { result ≡ None → (edge : ℤ) → ¬ IsEdgeLength word.now edge }
+{
+    match read_micro(word) {
+        Ok(edge) if edge.n > 0 => Some(edge),
+        _ => None,
+    }
 }

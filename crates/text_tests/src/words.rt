@@ -2,6 +2,7 @@
 
 use def_flow::{Settings, Weight};
 use def_run::{Command, WordsFail};
+use def_text::Micro;
 use qm_words::read_words;
 use std::test::Fail;
 
@@ -27,6 +28,17 @@ fn lines_have_their_commands(rt: HostRuntime) -> Result<(), Fail> {
         ("check", Ok(Command::Check)),
         ("refine --by=1000", Ok(Command::Refine { by: 1000 })),
         ("bench --size 10000", Ok(Command::Bench { size: 10_000 })),
+        (
+            "size --edge +50e-2 --floor=3",
+            Ok(Command::Size {
+                edge: Micro { n: 500_000 },
+                floor: 3,
+            }),
+        ),
+        ("size --edge=0 --floor 1", Err(WordsFail::Usage)),
+        ("size --edge=-1 --floor 1", Err(WordsFail::Usage)),
+        ("size --edge 1 --floor auto", Err(WordsFail::Usage)),
+        ("size --edge 1000000000 --floor 1", Err(WordsFail::Usage)),
         (
             "remesh --scale=1/2 --weight plain --floor 1",
             Ok(Command::Remesh {

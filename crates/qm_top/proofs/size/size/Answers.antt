@@ -1,0 +1,14 @@
+use Rattle.std.proofs.Common.{refl}
+use Rattle.qm_top.proofs.Refusals.{handed_run, input_ended, size_needs}
+use Rattle.qm_top.proofs.Sized.{size_runs}
+use Rattle.qm_top.proofs.size.size.Goals as goal
+
+pub returns-in_err-read : goal.returns-in_err-read
+returns-in_err-read g c =
+    handed_run _ _ _ _ c.in_err-read.field-0.0 c.from_residual.ensures.1
+    (input_ended _ _ _ c.in_err-read.field-0.0 (size_needs c.args.edge c.args.floor) c.in_err-read.ensures.refused) refl
+
+pub returns : goal.returns
+returns g c =
+    size_runs c.args.edge c.args.floor _ _ c.in_ok-read.read.soup c.in_ok-read.ensures.manifold c.in_ok-read.ensures.soup c.in_ok-read.ensures.calm
+    c.size_mesh.result (c.size_mesh.ensures.done _) (c.size_mesh.ensures.refused _)

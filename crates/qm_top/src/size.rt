@@ -1,0 +1,89 @@
+//! `size`: a mesh is read, and remeshed with edges of a given length.
+
+ghost use Rattle.std.specs.Prelude.{◌≡◌, ◌≤◌, ◌++◌, ◌∷◌, [], pos, ◌≤ℤ◌, IfOk, IfErr, OnOk};
+ghost use Rattle.def_flow.specs.declared.limits.TheConstants.{MAX_FLOOR};
+ghost use Rattle.def_io.specs.Bytes.{Bytes};
+ghost use Rattle.def_io.specs.Moves.{change, stream};
+ghost use Rattle.def_io.specs.declared.TheConstants.{LINE_FEED};
+ghost use Rattle.def_run.specs.Size.{size_head, AsksForNearSize};
+ghost use Rattle.qm_top.specs.Runs.{HasRun};
+ghost use Rattle.qm_top.specs.Sizing.{FailsSize, IsFarSoup, IsUnsized};
+ghost use Rattle.qm_top.specs.Writing.{ShowsAsked, WroteText};
+
+use crate::finishing::write_task;
+use crate::input::{MeshInput, read_mesh};
+use crate::refusal::Refusal;
+use def_io::LINE_FEED;
+use def_run::Command;
+use def_text::Micro;
+use qm_cut::traced_layout;
+use qm_dec::write_micro;
+use qm_io::{Memory, Sink, Source};
+use qm_print::push_number;
+use qm_remesh::keep_sized;
+use qm_write::{CutMesh, Framed};
+use std::alloc::Global;
+
+/// Reads a mesh, and writes a new one with edges as near to this length as can be, with their certificate.
+pub(crate) fn size<S: Source, O: Sink>(
+    alloc: Global,
+    edge: Micro,
+    floor: u32,
+    input: &mut S,
+    out: &mut O,
+) -> Result<(), Refusal>
+    requires edge { pos 1 ≤ℤ edge }
+    requires floor { (1 ≤ floor) × (floor ≤ MAX_FLOOR) }
+    ensures { HasRun (Command.Size edge floor)
+        (change (S.state input.old) (S.state input.new))
+        (stream O.state out.old out.new) result }
+{
+    let read = read_mesh(alloc, input)?;
+    size_mesh(alloc, edge, floor, read, out)
+}
+
+/// Writes a mesh with edges near this length.
+fn size_mesh<O: Sink>(
+    alloc: Global,
+    edge: Micro,
+    floor: u32,
+    read: MeshInput,
+    out: &mut O,
+) -> Result<(), Refusal>
+    requires edge { pos 1 ≤ℤ edge }
+    requires floor { (1 ≤ floor) × (floor ≤ MAX_FLOOR) }
+    requires mesh { read.mesh ≡ read.soup.faces }
+    ensures done { (bytes : Bytes) → OnOk result (WroteText
+        (ShowsAsked (AsksForNearSize edge floor) bytes read.soup)
+        (change (O.state out.old) (O.state out.new))) }
+    ensures refused { (bytes : Bytes) → IfErr result (IsUnsized
+        (ShowsAsked (AsksForNearSize edge floor) bytes read.soup) (FailsSize edge floor bytes read.soup)
+        (IsFarSoup edge floor read.soup) (stream O.state out.old out.new)) }
+{
+    let MeshInput { soup, mesh } = read;
+    let layout = traced_layout(alloc, &mesh)?;
+    let cut = CutMesh { mesh, layout };
+    let remesh = keep_sized(alloc, &cut, &soup.pos, edge, floor)?;
+    let head = size_head(alloc, edge, floor)?;
+    let framed = Framed {
+        head,
+        between: Vec::new(alloc),
+        remesh,
+    };
+    write_task(alloc, &soup, &cut, framed, out)
+}
+
+/// The head line, and its line feed.
+fn size_head(alloc: Global, edge: Micro, floor: u32) -> Result<Vec<u8>, Memory>
+    ensures { IfOk result (λ text. text.items ≡ size_head edge floor ++ LINE_FEED ∷ []) }
+{
+    let mut text = Vec::new(alloc);
+    text.extend_from_slice(b"#quadq 1 size edge ")?;
+    let mut digits = [0u8; 24];
+    let end = write_micro(&mut digits, edge);
+    text.extend_from_slice(&digits[..end])?;
+    text.extend_from_slice(b" floor ")?;
+    push_number(&mut text, u64::from(floor))?;
+    text.push(LINE_FEED)?;
+    Ok(text)
+}
