@@ -1,11 +1,11 @@
 -- The laws of merging.
-use Rattle.std.specs.Prelude.{◌≡◌, ◌⊎◌, ℕ, Bool, List}
+use Rattle.std.specs.Prelude.{◌≡◌, ◌⊎◌, ℕ, suc, Bool, List, length}
 use Rattle.def_mesh.specs.Faces.{Faces}
 use Rattle.def_mesh.specs.HalfEdges.{HalfEdges, IsQuadManifold, half_edges}
 use Rattle.def_mesh.specs.Manifold.{IsManifold}
 use Rattle.def_cut.specs.Cuts.{Cut, IsCut}
 use Rattle.def_cut.specs.FullCut.{IsFullCut, is_on}
-use Rattle.def_cut.specs.Grids.{patch_at}
+use Rattle.def_cut.specs.Grids.{patch_at, IsPartition, Rectangle}
 use Rattle.def_layout.specs.Arcs.{long_at}
 use Rattle.def_layout.specs.Borders.{border_dart}
 use Rattle.def_layout.specs.FaceLayouts.{IsLayoutOf}
@@ -20,6 +20,12 @@ abbrev pub JoinLaw : Type 0
 JoinLaw = (mesh : HalfEdges) (cut rest : Cut) (s t n : ℕ) → IsQuadManifold mesh → IsCut mesh cut
     → IsJoinable mesh cut s t n → IsWithout mesh cut rest s t n → IsCut mesh rest
 
+-- It has one patch less.
+abbrev pub FewerLaw : Type 0
+FewerLaw = (mesh : HalfEdges) (cut rest : Cut) (face_of : ℕ → ℕ) (s t n : ℕ) (ps qs : List Rectangle)
+    → IsQuadManifold mesh → IsCut mesh cut → IsJoinable mesh cut s t n → IsWithout mesh cut rest s t n
+    → IsPartition mesh cut face_of ps → IsPartition mesh rest face_of qs → length ps ≡ suc (length qs)
+
 -- What is joinable then was joinable before, or goes on over one of the two ends.
 abbrev pub GrownLaw : Type 0
 GrownLaw = (mesh : HalfEdges) (cut rest : Cut) (s t n r u m : ℕ) → IsQuadManifold mesh → IsCut mesh cut
@@ -30,6 +36,11 @@ GrownLaw = (mesh : HalfEdges) (cut rest : Cut) (s t n r u m : ℕ) → IsQuadMan
 abbrev pub OneMergedLaw : Type 0
 OneMergedLaw = (faces : Faces) (marks rest other : List Bool) → IsManifold faces → IsFullCut faces marks
     → IsMergedCut faces marks rest → IsMergedCut faces marks other → (rest ≡ other) × IsFullCut faces rest
+
+-- A full cut has a merged cut.
+abbrev pub MergedLaw : Type 0
+MergedLaw = (faces : Faces) (marks : List Bool) → IsManifold faces → IsFullCut faces marks
+    → (rest : List Bool) × IsMergedCut faces marks rest
 
 -- What is joinable in a layout is joinable in its cut, at the sides where it lies.
 abbrev pub JoinableLaw : Type 0

@@ -1,5 +1,5 @@
 -- Without a joinable arc a full cut is a full cut.
-use Rattle.std.proofs.Common.{◌≡◌, ◌⊎◌, ℕ, zero, suc, ◌+◌, ◌-◌, ◌<◌, Bool, true, false, Option, Some, None, sym, ◌∙◌, ap, subst, refl, inl, inr, true≢false, arith}
+use Rattle.std.proofs.Common.{◌≡◌, ◌⊎◌, ℕ, zero, suc, ◌+◌, ◌-◌, ◌<◌, true, false, Some, None, sym, ◌∙◌, ap, subst, refl, inl, inr, true≢false, arith}
 use Rattle.std.proofs.lemmas.Bool.{cases_Bool, cases_eq, false≢true}
 use Rattle.std.proofs.lemmas.Option.{same_Some}
 use Rattle.def_mesh.specs.HalfEdges.{HalfEdges, IsQuadManifold}
@@ -7,7 +7,7 @@ use Rattle.def_cut.specs.Cuts.{Cut, IsCross, HasCross, IsUncut, Links, IsCorner,
 use Rattle.def_cut.specs.Grids.{Cells, IsGrid}
 use Rattle.def_cut.specs.Steps.{spin, easts}
 use Rattle.cut_laws.specs.Grown.{grown}
-use Rattle.cut_laws.proofs.Crosses.{Leaves, one_of_four, low_a, low_b, low_c}
+use Rattle.cut_laws.proofs.Crosses.{one_of_four, low_a, low_b}
 use Rattle.cut_laws.proofs.Darts.{prev_three, next_same, twin_same}
 use Rattle.cut_laws.proofs.Rows.{cross_at}
 use Rattle.cut_laws.proofs.Folds.{no_fold}
@@ -15,9 +15,9 @@ use Rattle.cut_laws.proofs.Pigeon.{sent_or_not}
 use Rattle.cut_laws.proofs.Classes.{In, AreLinked, links_join, links_low, linked_back, linked_in}
 use Rattle.cut_laws.proofs.Corners.{CornerOf}
 use Rattle.motion_laws.proofs.Bits.{rotated}
-use Rattle.def_merge.specs.Joins.{IsWholeSide, AreInOne, AreGlued, IsJoinable, IsOnArc, IsWithout}
+use Rattle.def_merge.specs.Joins.{AreGlued, IsJoinable, IsOnArc, IsWithout}
 use Rattle.def_merge.specs.Laws.{JoinLaw}
-use Rattle.merge_laws.proofs.Sides.{side_low, side_on, side_link, side_before, side_from, first_place, grid_on}
+use Rattle.merge_laws.proofs.Sides.{side_low, side_on, side_link, side_from, first_place, grid_on}
 
 -- Whether a dart lies on an arc.
 pub on_or_not : (mesh : HalfEdges) (s t n d : ℕ) → IsOnArc mesh s t n d ⊎ (IsOnArc mesh s t n d → ⊥)

@@ -1,25 +1,24 @@
 -- What is joinable in a layout is joinable in its cut.
-use Rattle.std.proofs.Common.{◌≡◌, ◌⊎◌, ℕ, zero, suc, ◌+◌, ◌-◌, ◌<◌, Bool, true, false, not, List, length, Some, sym, ◌∙◌, ap, subst, refl, inl, inr, arith}
-use Rattle.std.proofs.lemmas.Option.{same_Some}
+use Rattle.std.proofs.Common.{◌≡◌, ℕ, suc, ◌+◌, ◌-◌, ◌<◌, Bool, true, false, not, Some, sym, ◌∙◌, ap, subst, refl, arith}
 use Rattle.def_mesh.specs.HalfEdges.{HalfEdges, IsQuadManifold, half_edges}
 use Rattle.def_mesh.specs.Vertices.{vertex_count}
 use Rattle.def_cut.specs.Cuts.{Cut, IsCut}
 use Rattle.def_cut.specs.FullCut.{is_on}
-use Rattle.def_cut.specs.Grids.{IsGrid, Rectangle, cell_of, patch_at, IsPartition}
+use Rattle.def_cut.specs.Grids.{IsGrid, Rectangle, cell_of, patch_at}
 use Rattle.def_cut.specs.Steps.{face_of, easts}
 use Rattle.cut_laws.proofs.Darts.{prev_three}
 use Rattle.cut_laws.proofs.Classes.{In, in_low}
 use Rattle.def_layout.specs.Arcs.{path_at, long_at, dart_at, LiesAt}
 use Rattle.def_layout.specs.Borders.{side_size, border_dart}
-use Rattle.def_layout.specs.Layouts.{Way, south, east, north, west, Slot, IsSlot, AreReverse, use_of}
-use Rattle.def_layout.specs.Lengths.{reach, size}
+use Rattle.def_layout.specs.Layouts.{Way, south, east, north, west, Slot, IsSlot, use_of}
+use Rattle.def_layout.specs.Lengths.{reach}
 use Rattle.def_layout.specs.Nodes.{is_node}
 use Rattle.def_layout.specs.Plans.{Plan, layout_of, IsLayout}
 use Rattle.mesh_laws.proofs.HalfEdges.{manifold_law}
 use Rattle.face_laws.proofs.FullCuts.{full_cut_law}
 use Rattle.merge_laws.proofs.Sides.{south_side, east_side, north_side, west_side, along_south, along_east, along_north, along_west}
 use Rattle.merge_laws.proofs.Classes.{one_place_of}
-use Rattle.def_merge.specs.Joins.{IsWholeSide, AreInOne, AreGlued, IsJoinable}
+use Rattle.def_merge.specs.Joins.{IsWholeSide, AreInOne, IsJoinable}
 use Rattle.def_merge.specs.Layouts.{IsJoinableAt}
 use Rattle.def_merge.specs.Laws.{JoinableLaw}
 

@@ -4,3 +4,5 @@ pub mod Arcs
 pub mod Classes
 pub mod Layouts
 pub mod OneMerged
+pub mod Fewer
+pub mod Exists

@@ -1,7 +1,6 @@
 -- Whole sides of patches: each cut dart lies on one, at one place, and the four of a patch follow each other.
-use Rattle.std.proofs.Common.{◌≡◌, ◌⊎◌, ℕ, zero, suc, ◌+◌, ◌-◌, ◌<◌, ◌≤◌, true, false, Some, sym, ◌∙◌, ap, subst, refl, inl, inr, true≢false, arith}
-use Rattle.std.proofs.lemmas.Bool.{cases_eq, cases_order, false≢true}
-use Rattle.std.proofs.lemmas.Option.{same_Some}
+use Rattle.std.proofs.Common.{◌≡◌, ◌⊎◌, ℕ, zero, suc, ◌+◌, ◌-◌, ◌<◌, true, false, Some, sym, ◌∙◌, ap, subst, refl, inl, inr, true≢false, arith}
+use Rattle.std.proofs.lemmas.Bool.{cases_eq, cases_order}
 use Rattle.def_mesh.specs.HalfEdges.{HalfEdges, IsQuadManifold}
 use Rattle.def_cut.specs.Cuts.{Cut, Links, IsCorner, IsCut}
 use Rattle.def_cut.specs.Grids.{Cells, IsGrid}
@@ -10,7 +9,7 @@ use Rattle.cut_laws.specs.Grown.{grown, IsRow, IsGrown}
 use Rattle.cut_laws.proofs.Darts.{prev_three, next_same, twin_same}
 use Rattle.cut_laws.proofs.Rows.{east_twin, west_off, row_low, row_south}
 use Rattle.cut_laws.proofs.Folds.{west, south, west_open, south_open}
-use Rattle.cut_laws.proofs.Classes.{In, AreLinked, links_join, linked_back, closed, linked_in, first_in}
+use Rattle.cut_laws.proofs.Classes.{In, AreLinked, linked_back, closed, first_in}
 use Rattle.cut_laws.proofs.Grown.{grow, grown_grid}
 use Rattle.def_merge.specs.Joins.{IsWholeSide}
 
