@@ -1,0 +1,9 @@
+//! The `l` lines of a new mesh: one for each marked arc of the layout that it was made from.
+#![tactic(auto)]
+
+mod lines;
+
+pub use lines::marked_lines;
+
+/// Memory was refused.
+pub type Memory = std::alloc::AllocError;
