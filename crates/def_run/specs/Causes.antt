@@ -12,6 +12,7 @@ use Rattle.def_run.specs.Bench.{HasBench, RefusesToBench, WritesBench}
 use Rattle.def_run.specs.Check.{RefusesToCheck, WritesAccepted}
 use Rattle.def_run.specs.Coarse.{AsksToMerge}
 use Rattle.def_run.specs.CommandLines.{IsCommand}
+use Rattle.def_run.specs.Crease.{AsksToCrease, HasCreased, RefusesToCrease}
 use Rattle.def_run.specs.Graph.{RefusesToTrace, WritesGraph}
 use Rattle.def_run.specs.Mesh.{HasMesh}
 use Rattle.def_run.specs.Refine.{HasRefined, RefusesToRefine, WritesRefined}
@@ -21,7 +22,7 @@ use Rattle.def_run.specs.Tidy.{RefusesToTidy, WritesTidied}
 use Rattle.def_run.specs.declared.answer.Answer.{Answer}
 use Rattle.def_run.specs.declared.answer.Answer.TheVariants.{Done, Usage, Limit, ReadFault, WriteFault, Memory}
 use Rattle.def_run.specs.declared.command.Command.{Command}
-use Rattle.def_run.specs.declared.command.Command.TheVariants.{Tidy, Graph, Refine, Remesh, Check, Bench, Size, Coarse}
+use Rattle.def_run.specs.declared.command.Command.TheVariants.{Tidy, Graph, Refine, Remesh, Check, Bench, Crease, Size, Coarse}
 
 -- The text that a command writes for the bytes that it read.
 abbrev pub Writes : (command : Command) (bytes text : Bytes) → Type 0
@@ -31,6 +32,7 @@ Writes (Refine by) bytes text = WritesRefined by bytes text
 Writes (Remesh settings auto) bytes text = WritesFinished (AsksToRemesh settings auto) bytes text
 Writes Check bytes text = WritesAccepted bytes text
 Writes (Bench size) bytes text = WritesBench size text
+Writes (Crease settings) bytes text = WritesFinished (AsksToCrease settings) bytes text
 Writes (Size edge floor) bytes text = WritesFinished (AsksForNearSize edge floor) bytes text
 Writes (Coarse settings) bytes text = WritesFinished (AsksToMerge settings) bytes text
 
@@ -42,6 +44,7 @@ Refuses (Refine by) bytes answer = RefusesToRefine by bytes answer
 Refuses (Remesh settings auto) bytes answer = RefusesTask (AsksToRemesh settings auto) bytes answer
 Refuses Check bytes answer = RefusesToCheck bytes answer
 Refuses (Bench size) bytes answer = RefusesToBench size answer
+Refuses (Crease settings) bytes answer = RefusesToCrease settings bytes answer
 Refuses (Size edge floor) bytes answer = RefusesSize edge floor bytes answer
 Refuses (Coarse settings) bytes answer = RefusesTask (AsksToMerge settings) bytes answer
 
@@ -53,6 +56,7 @@ Takes (Refine by) bytes = HasRefined by bytes
 Takes (Remesh settings auto) bytes = HasFinished (AsksToRemesh settings auto) bytes
 Takes Check bytes = IsCheckedPair bytes
 Takes (Bench size) bytes = HasBench size
+Takes (Crease settings) bytes = HasCreased settings bytes
 Takes (Size edge floor) bytes = HasSize edge floor bytes
 Takes (Coarse settings) bytes = HasFinished (AsksToMerge settings) bytes
 

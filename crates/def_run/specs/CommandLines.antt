@@ -7,7 +7,7 @@ use Rattle.def_flow.specs.declared.net.Settings.{Settings}
 use Rattle.def_certtext.specs.Settings.{AreWordsOf}
 use Rattle.def_run.specs.Options.{value_of, AreOptions, Uses}
 use Rattle.def_run.specs.declared.command.Command.{Command}
-use Rattle.def_run.specs.declared.command.Command.TheVariants.{Tidy, Graph, Refine, Remesh, Check, Bench, Size, Coarse}
+use Rattle.def_run.specs.declared.command.Command.TheVariants.{Tidy, Graph, Refine, Remesh, Check, Bench, Crease, Size, Coarse}
 use Rattle.def_run.specs.declared.command.TheConstants.{MAX_MULTIPLE, MAX_SIZE}
 
 -- The word of a command.
@@ -18,6 +18,7 @@ name_of (Refine by) = codes "refine"
 name_of (Remesh settings auto) = codes "remesh"
 name_of Check = codes "check"
 name_of (Bench size) = codes "bench"
+name_of (Crease settings) = codes "crease"
 name_of (Size edge floor) = codes "size"
 name_of (Coarse settings) = codes "coarse"
 
@@ -65,6 +66,7 @@ abbrev pub HasOptions : (command : Command) (words : Words) → Type 0
 HasOptions (Refine by) words = HasCount (codes "by") MAX_MULTIPLE words by
 HasOptions (Remesh settings auto) words = HasSettings words settings auto
 HasOptions (Bench size) words = HasCount (codes "size") MAX_SIZE words size
+HasOptions (Crease settings) words = HasSettings words settings false
 HasOptions (Size edge floor) words = HasEdge words edge floor
 HasOptions (Coarse settings) words = HasSettings words settings false
 HasOptions command words = words ≡ []

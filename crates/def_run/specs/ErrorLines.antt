@@ -10,7 +10,7 @@ use Rattle.def_text.specs.declared.refusal.Which.{Which}
 use Rattle.def_text.specs.declared.refusal.Which.TheVariants as limits
 use Rattle.def_run.specs.declared.answer.Answer.{Answer}
 use Rattle.def_run.specs.declared.answer.Answer.TheVariants.{Done, NotAccepted, Usage, Syntax, NotQuad, Range, Limit}
-use Rattle.def_run.specs.declared.answer.Answer.TheVariants.{NotManifold, Tangled, TooFine, Doubled}
+use Rattle.def_run.specs.declared.answer.Answer.TheVariants.{NotManifold, NotEdge, Tangled, TooFine, Doubled}
 use Rattle.def_run.specs.declared.answer.Answer.TheVariants.{ReadFault, WriteFault, Memory, Far}
 use Rattle.def_run.specs.declared.answer.Why.{Why}
 use Rattle.def_run.specs.declared.answer.Why.TheVariants as why
@@ -83,7 +83,7 @@ why_text (why.Byte at) = codes "byte " ++ decimal at
 abbrev pub usage_text : Bytes
 usage_text =
     codes "usage: quadq tidy | graph | refine --by K | remesh --scale P/Q --floor F --weight plain|length"
-    ++ codes " | check | bench --size N | size --edge D --floor F"
+    ++ codes " | check | bench --size N | crease --scale P/Q --floor F --weight plain|length | size --edge D --floor F"
     ++ codes " | coarse --scale P/Q --floor F --weight plain|length"
 
 -- Why the run ended so, where `names` has the vertices' numbers in the file.
@@ -96,6 +96,7 @@ reason_text names (NotQuad line corners) = corners_text line corners
 reason_text names (Range line) = codes "line " ++ decimal line ++ codes ": number out of range"
 reason_text names (Limit which line) = limit_text which line
 reason_text names (NotManifold place) = place_text names place
+reason_text names (NotEdge line) = codes "line " ++ decimal line ++ codes ": not an edge of the mesh"
 reason_text names (Tangled count) = codes "tangled: " ++ decimal count
 reason_text names (TooFine faces kept) = codes "too fine: " ++ decimal faces ++ codes " faces"
 reason_text names (Doubled u v cert) = codes "doubled edge: " ++ decimal (u + 1) ++ codes " " ++ decimal (v + 1)

@@ -4,6 +4,7 @@ pub mod Check
 pub mod CheckFails
 pub mod Coarse
 pub mod CommandLines
+pub mod Crease
 pub mod ErrorLines
 pub mod Exits
 pub mod Graph

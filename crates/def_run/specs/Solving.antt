@@ -7,10 +7,11 @@ use Rattle.def_remesh.specs.Refusals.{IsTangledAt}
 use Rattle.def_remesh.specs.Tasks.{old_lengths}
 use Rattle.def_run.specs.Bench.{bench_faces, bench_settings}
 use Rattle.def_run.specs.Coarse.{AsksToMerge}
+use Rattle.def_run.specs.Crease.{HoldsMarked}
 use Rattle.def_run.specs.Remesh.{AsksToRemesh, HoldsUntangled, IsCutTo}
 use Rattle.def_run.specs.Size.{HoldsSize}
 use Rattle.def_run.specs.declared.command.Command.{Command}
-use Rattle.def_run.specs.declared.command.Command.TheVariants.{Remesh, Bench, Size, Coarse}
+use Rattle.def_run.specs.declared.command.Command.TheVariants.{Remesh, Bench, Crease, Size, Coarse}
 
 -- The mesh of this size has a network that is not too tangled.
 pub record IsUntangledBench (size : ℕ) : Type 0 where
@@ -22,6 +23,7 @@ pub record IsUntangledBench (size : ℕ) : Type 0 where
 abbrev pub IsUntangled : (command : Command) (left : Told) → Type 0
 IsUntangled (Remesh settings auto) left = HoldsUntangled (AsksToRemesh settings auto) left
 IsUntangled (Bench size) left = IsUntangledBench size
+IsUntangled (Crease settings) left = HoldsMarked settings left
 IsUntangled (Size edge floor) left = HoldsSize edge floor left
 IsUntangled (Coarse settings) left = HoldsUntangled (AsksToMerge settings) left
 IsUntangled _ left = ⊥

@@ -2,7 +2,7 @@
 use Rattle.std.specs.Prelude.{ℕ}
 use Rattle.def_run.specs.declared.answer.Answer.{Answer}
 use Rattle.def_run.specs.declared.answer.Answer.TheVariants.{Done, NotAccepted, Usage, Syntax, NotQuad, Range, Limit}
-use Rattle.def_run.specs.declared.answer.Answer.TheVariants.{NotManifold, Tangled, TooFine, Doubled}
+use Rattle.def_run.specs.declared.answer.Answer.TheVariants.{NotManifold, NotEdge, Tangled, TooFine, Doubled}
 use Rattle.def_run.specs.declared.answer.Answer.TheVariants.{ReadFault, WriteFault, Memory, Far}
 
 -- The exit status of an answer.
@@ -21,4 +21,5 @@ status_of (Doubled u v cert) = 11
 status_of ReadFault = 12
 status_of WriteFault = 13
 status_of Memory = 14
+status_of (NotEdge line) = 16
 status_of (Far sum) = 17

@@ -20,6 +20,8 @@ pub enum Answer {
     Range { line: u32 },
     Limit { which: Which, line: u32 },
     NotManifold { place: Place },
+    /// An `l` line names two vertices one after the other that are not the ends of an edge.
+    NotEdge { line: u32 },
     /// The tangle number of the network is above the limit.
     Tangled { count: u64 },
     /// The kept lengths give so many faces, more than a new mesh may have.
@@ -72,6 +74,7 @@ impl Answer {
             Answer::ReadFault => 12,
             Answer::WriteFault => 13,
             Answer::Memory => 14,
+            Answer::NotEdge { .. } => 16,
             Answer::Far { .. } => 17,
         }
     }

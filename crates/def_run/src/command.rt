@@ -26,6 +26,8 @@ pub enum Command {
     Remesh { settings: Settings, auto: bool },
     Check,
     Bench { size: u32 },
+    /// The edges that `l` lines mark are kept in the cut.
+    Crease { settings: Settings },
     /// Edges of this length are wanted, and no arc shorter than the floor.
     Size { edge: Micro, floor: u32 },
     /// The patches are merged first.

@@ -61,6 +61,7 @@ fn places_of(
 
 /// A square of side 2, and a quad with one corner above the plane of the others.
 const SQUARE: &str = "v 0 0 0\nv 2 0 0\nv 2 2 0\nv 0 2 0\nf 1 2 3 4\n";
+
 const BENT: &str = "v 0 0 0\nv 1 0 0\nv 1 1 1\nv 0 1 0\nf 1 2 3 4\n";
 
 /// Nodes come first, then the inner points of arcs along them, then those of patches, row by row.

@@ -12,6 +12,7 @@ use Rattle.def_text.specs.declared.refusal.Which.TheVariants.{Bytes as AllBytes}
 use Rattle.def_run.specs.Bench.{bench_settings, HasBench, RefusesToBench}
 use Rattle.def_run.specs.Causes.{Cause, FailsToRead, SourceHolds, IsGood, Reads, ReadsTooMany, Refused, Refuses, Takes}
 use Rattle.def_run.specs.Coarse.{AsksToMerge}
+use Rattle.def_run.specs.Crease.{AsksToCrease, HasCreased, RefusesToCrease}
 use Rattle.def_run.specs.Mesh.{IsMeshText, IsNoMesh}
 use Rattle.def_flow.specs.declared.net.Settings.{Settings}
 use Rattle.def_remesh.specs.Refusals.{IsRemeshable}
@@ -22,13 +23,14 @@ use Rattle.def_run.specs.Size.{AsksForNearSize, AsksForSize, HasNearTargets, Has
 use Rattle.def_run.specs.declared.answer.Answer.{Answer}
 use Rattle.def_run.specs.declared.answer.Answer.TheVariants.{Done, NotAccepted, Usage, Syntax, NotQuad, Range, Limit, NotManifold, Tangled, TooFine, Doubled, ReadFault, WriteFault, Memory, Far}
 use Rattle.def_run.specs.declared.command.Command.{Command}
-use Rattle.def_run.specs.declared.command.Command.TheVariants.{Tidy, Graph, Refine, Remesh, Check, Bench, Size, Coarse}
+use Rattle.def_run.specs.declared.command.Command.TheVariants.{Tidy, Graph, Refine, Remesh, Check, Bench, Crease, Size, Coarse}
 use Rattle.def_run.specs.declared.words.WordsFail.{WordsFail}
 use Rattle.def_run.specs.declared.words.WordsFail.TheVariants as words_fail
 use Rattle.def_run.specs.CommandLines.{IsAcceptedLine, IsCommand}
 use Rattle.def_text.specs.Types.{Words}
 use Rattle.remesh_laws.proofs.Fits.{fits_not_doubled, fits_not_fine}
 use Rattle.qm_top.proofs.Checked.{pair_not_refused}
+use Rattle.qm_top.proofs.Creased.{marks_not_refused}
 use Rattle.qm_top.specs.Refusals.{answer_of_words}
 use Rattle.def_remesh.specs.Tasks.{old_lengths, Wish}
 
@@ -90,6 +92,11 @@ bench_not_both : (size : ℕ) (answer : Answer) → HasBench size → RefusesToB
 bench_not_both size (NotManifold place) takes refuses = refuses.1 takes.manifold
 bench_not_both size answer takes (plan, cut, why) = layout_not_both old_lengths bench_settings false plan answer (takes.fits plan cut) why
 
+-- Bytes with marks are refused for what is asked of them alone.
+crease_not_both : (settings : Settings) (bytes : Bytes) (answer : Answer) → HasCreased settings bytes → RefusesToCrease settings bytes answer → ⊥
+crease_not_both settings bytes answer takes (inl none) = marks_not_refused bytes answer takes.marks none
+crease_not_both settings bytes answer takes (inr why) = task_not_both (AsksToCrease settings) bytes answer takes.finished why
+
 -- No command both takes bytes and refuses them.
 not_both : (command : Command) (bytes : Bytes) (answer : Answer) → Takes command bytes → Refuses command bytes answer → ⊥
 not_both Tidy bytes answer takes refuses = mesh_not_refused bytes takes.soup answer takes.mesh refuses
@@ -98,6 +105,7 @@ not_both (Refine by) bytes answer takes refuses = refine_not_both by bytes answe
 not_both (Remesh settings auto) bytes answer takes refuses = task_not_both (AsksToRemesh settings auto) bytes answer takes refuses
 not_both Check bytes answer takes refuses = pair_not_refused bytes answer takes refuses
 not_both (Bench size) bytes answer takes refuses = bench_not_both size answer takes refuses
+not_both (Crease settings) bytes answer takes refuses = crease_not_both settings bytes answer takes refuses
 not_both (Size edge floor) bytes answer takes refuses = size_not_both edge floor bytes answer takes refuses
 not_both (Coarse settings) bytes answer takes refuses = task_not_both (AsksToMerge settings) bytes answer takes refuses
 

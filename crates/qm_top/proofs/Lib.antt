@@ -1,6 +1,7 @@
 mod Benched
 mod Checked
 mod Complete
+mod Creased
 mod Framed
 mod Naming
 mod NeverBytes

@@ -1,7 +1,7 @@
 -- Refusals of the steps of a run as answers with their causes.
 use Rattle.std.specs.Prelude.{IsErrAnd}
 use Rattle.def_flow.specs.declared.net.Settings.{Settings}
-use Rattle.std.proofs.Common.{inl, Bool, ◌≡◌, ℕ, ℤ, List, [], Result, Ok, Err, sym, ◌∙◌, subst, refl}
+use Rattle.std.proofs.Common.{inl, inr, Bool, ◌≡◌, ℕ, ℤ, List, [], Result, Ok, Err, sym, ◌∙◌, subst, refl}
 use Rattle.def_io.specs.Bytes.{Bytes}
 use Rattle.def_io.specs.Faults.{Rose}
 use Rattle.def_io.specs.Moves.{Change, IsStill, Stream, GaveMore}
@@ -22,7 +22,7 @@ use Rattle.def_run.specs.Mesh.{IsNoMesh}
 use Rattle.def_run.specs.declared.answer.Answer.{Answer}
 use Rattle.def_run.specs.declared.answer.Answer.TheVariants as answers
 use Rattle.def_run.specs.declared.command.Command.{Command}
-use Rattle.def_run.specs.declared.command.Command.TheVariants.{Tidy, Graph, Refine, Remesh, Size, Coarse}
+use Rattle.def_run.specs.declared.command.Command.TheVariants.{Tidy, Graph, Refine, Remesh, Crease, Size, Coarse}
 use Rattle.qm_top.specs.declared.refusal.Refusal.{Refusal}
 use Rattle.qm_top.specs.declared.refusal.Refusal.TheVariants.{Soup, NotManifold}
 use Rattle.qm_top.specs.declared.refusal.Refusal.TheVariants as refusals
@@ -76,6 +76,15 @@ refine_needs by = record {
 pub remesh_needs : (settings : Settings) (auto : Bool) → NeedsMesh (Remesh settings auto)
 remesh_needs settings auto = record {
   refuses = λ bytes answer none. inl none;
+  reads = λ input bytes whole. whole;
+  looks = λ bytes soup said. said;
+  too_many = λ input more. more;
+  fails = λ input rose. rose;
+}
+
+pub crease_needs : (settings : Settings) → NeedsMesh (Crease settings)
+crease_needs settings = record {
+  refuses = λ bytes answer none. inr (inl none);
   reads = λ input bytes whole. whole;
   looks = λ bytes soup said. said;
   too_many = λ input more. more;

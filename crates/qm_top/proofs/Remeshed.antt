@@ -29,6 +29,7 @@ use Rattle.def_remesh.specs.Refusals.{IsLayoutFail}
 use Rattle.def_remesh.specs.Tasks.{old_lengths, Task, Wish}
 use Rattle.def_run.specs.Causes.{Cause, Refused, Refuses, Writes}
 use Rattle.def_run.specs.Coarse.{AsksToMerge}
+use Rattle.def_run.specs.Crease.{AsksToCrease}
 use Rattle.def_run.specs.Mesh.{IsMeshText}
 use Rattle.def_run.specs.Remesh.{Asks, AsksToRemesh, RefusesLayout, RefusesTask, WritesFinished}
 use Rattle.def_run.specs.declared.answer.Answer.{Answer}
@@ -80,6 +81,9 @@ task_writer command asks input out soup needs tasked manifold read calm = record
 -- The commands that do so.
 pub remesh_tasked : (settings : Settings) (auto : Bool) → IsTasked (commands.Remesh settings auto) (AsksToRemesh settings auto)
 remesh_tasked settings auto = record { writes = λ bytes text said. said; refuses = λ bytes answer why. why }
+
+pub crease_tasked : (settings : Settings) → IsTasked (commands.Crease settings) (AsksToCrease settings)
+crease_tasked settings = record { writes = λ bytes text said. said; refuses = λ bytes answer why. inr why }
 
 pub coarse_tasked : (settings : Settings) → IsTasked (commands.Coarse settings) (AsksToMerge settings)
 coarse_tasked settings = record { writes = λ bytes text said. said; refuses = λ bytes answer why. why }

@@ -10,16 +10,18 @@ use Rattle.def_remesh.specs.Tasks.{old_lengths, Task, Wish}
 use Rattle.def_run.specs.Bench.{bench_settings, RefusesToBench}
 use Rattle.def_run.specs.Causes.{Cause, ReadsTooMany, Refused}
 use Rattle.def_run.specs.Coarse.{AsksToMerge}
+use Rattle.def_run.specs.Crease.{AsksToCrease, HoldsMarked, RefusesMarks, RefusesToCrease}
 use Rattle.def_run.specs.Remesh.{Asks, AsksToRemesh, HoldsUntangled, IsSettled, RefusesLayout, RefusesTask}
 use Rattle.def_run.specs.Size.{AsksForNearSize, AsksForSize, HoldsSize, RefusesSize}
 use Rattle.def_run.specs.Solving.{IsUntangled, IsUntangledBench}
 use Rattle.def_run.specs.declared.answer.Answer.{Answer}
 use Rattle.def_run.specs.declared.answer.Answer.TheVariants.{Done, Usage, Limit, NotManifold, Tangled, TooFine, Doubled, ReadFault, WriteFault, Memory, Far}
 use Rattle.def_run.specs.declared.command.Command.{Command}
-use Rattle.def_run.specs.declared.command.Command.TheVariants.{Remesh, Bench, Size, Coarse}
+use Rattle.def_run.specs.declared.command.Command.TheVariants.{Remesh, Bench, Crease, Size, Coarse}
 use Rattle.def_text.specs.Input.{ReadWhole}
 use Rattle.def_text.specs.declared.limits.TheConstants.{MAX_BYTES}
 use Rattle.def_text.specs.declared.refusal.Which.TheVariants.{Bytes as AllBytes}
+use Rattle.qm_top.proofs.Creased.{marks_not_refused}
 use Rattle.qm_top.proofs.Complete.{far_not_near, mesh_not_refused, not_too_long, rose_if, same_bytes}
 
 -- A layout that is not too tangled is refused for its least lengths alone.
@@ -68,6 +70,15 @@ size_refused edge floor input answer held bad =
     (subst (λ (xs : Bytes). RefusesSize edge floor xs answer)
     (same_bytes input.told input.told_now bad.bytes held.held.bytes held.held.held bad.whole.given bad.whole.ended) bad.said)
 
+-- So are those of which marked edges are asked.
+crease_settles : (settings : Settings) (input : Change) (bytes : Bytes) (answer : Answer) → HoldsMarked settings input.told
+    → ReadWhole MAX_BYTES input.told input.told_now bytes → RefusesToCrease settings bytes answer → IsSettled answer
+crease_settles settings input bytes answer held whole (inl none) =
+    absurd (marks_not_refused held.holds.bytes answer held.marks
+    (subst (λ (xs : Bytes). RefusesMarks xs answer)
+    (same_bytes input.told input.told_now bytes held.holds.bytes held.holds.held whole.given whole.ended) none))
+crease_settles settings input bytes answer held whole (inr why) = task_settles (AsksToCrease settings) input bytes answer held.holds whole why
+
 -- So is the mesh of a size.
 bench_settles : (size : ℕ) (answer : Answer) → IsUntangledBench size → RefusesToBench size answer → IsSettled answer
 bench_settles size (NotManifold place) held refuses = absurd (refuses.1 held.manifold)
@@ -92,6 +103,9 @@ settles (Remesh settings auto) input out answer why held =
     (λ refusal bad. task_settles (AsksToRemesh settings auto) input bad.bytes refusal held bad.whole bad.said) why
 settles (Bench size) input out answer why held =
     settles_if (Bench size) input out answer (λ more. more) (λ refusal bad. bench_settles size refusal held bad.said) why
+settles (Crease settings) input out answer why held =
+    settles_if (Crease settings) input out answer (λ more. not_too_long _ _ held.holds.bytes held.holds.held held.holds.within more)
+    (λ refusal bad. crease_settles settings input bad.bytes refusal held bad.whole bad.said) why
 settles (Size edge floor) input out answer why held =
     settles_if (Size edge floor) input out answer (λ more. not_too_long _ _ held.held.bytes held.held.held held.held.within more)
     (λ refusal bad. size_refused edge floor input refusal held bad) why

@@ -1,6 +1,8 @@
 -- Refusals of the steps of a run: the answers that they become, and what they say of the streams.
 use Rattle.std.specs.Prelude.{◌≡◌, ◌≢◌, ℕ, List, [], ⊤}
 use Rattle.def_io.specs.Moves.{Change}
+use Rattle.def_marks.specs.declared.fail.MarkFail.{MarkFail}
+use Rattle.def_marks.specs.declared.fail.MarkFail.TheVariants as marks
 use Rattle.def_mesh.specs.Faults.{IsFirstFault}
 use Rattle.def_metric.specs.declared.fail.SizeFail.{SizeFail}
 use Rattle.def_metric.specs.declared.fail.SizeFail.TheVariants as sizes
@@ -26,7 +28,7 @@ use Rattle.def_run.specs.declared.command.Command.{Command}
 use Rattle.def_run.specs.declared.words.WordsFail.{WordsFail}
 use Rattle.def_run.specs.declared.words.WordsFail.TheVariants as words
 use Rattle.qm_top.specs.declared.refusal.Refusal.{Refusal}
-use Rattle.qm_top.specs.declared.refusal.Refusal.TheVariants.{NotAccepted, Soup, NotManifold, Layout, Far, Write}
+use Rattle.qm_top.specs.declared.refusal.Refusal.TheVariants.{NotAccepted, Soup, NotManifold, Marks, Layout, Far, Write}
 use Rattle.qm_top.specs.declared.refusal.Refusal.TheVariants as refusals
 
 -- The answer to words that are no command.
@@ -49,6 +51,13 @@ answer_of_soup soup.TooLong = Limit Bytes 0
 answer_of_soup (soup.Obj fail) = answer_of_obj fail
 answer_of_soup soup.Memory = Memory
 
+-- The answer to `l` lines that mark no edges.
+abbrev pub answer_of_marks : (fail : MarkFail) → Answer
+answer_of_marks (marks.Syntax line) = Syntax line
+answer_of_marks (marks.Range line) = Range line
+answer_of_marks (marks.NotEdge line) = answers.NotEdge line
+answer_of_marks marks.Memory = Memory
+
 -- The answer to a layout that gives no new mesh.
 abbrev pub answer_of_layout : (fail : LayoutFail) → Answer
 answer_of_layout (layouts.Tangled count) = answers.Tangled count
@@ -61,6 +70,7 @@ abbrev pub answer_of : (refusal : Refusal) → Answer
 answer_of (NotAccepted why) = answers.NotAccepted why
 answer_of (Soup fail) = answer_of_soup fail
 answer_of (NotManifold named) = answers.NotManifold named.place
+answer_of (Marks fail) = answer_of_marks fail
 answer_of (Layout fail) = answer_of_layout fail
 answer_of (Far sum) = answers.Far sum
 answer_of (Write fail) = WriteFault

@@ -11,6 +11,7 @@ ghost use Rattle.qm_top.specs.Runs.{HasRun};
 use crate::bench::bench;
 use crate::check::check;
 use crate::coarse::coarse;
+use crate::crease::crease;
 use crate::error_line::error_line_of;
 use crate::graph::graph;
 use crate::refine::refine;
@@ -76,6 +77,7 @@ fn run_command<S: Source, O: Sink>(
         Command::Remesh { settings, auto } => remesh(alloc, Asked { settings, auto }, input, out),
         Command::Check => check(alloc, input, out),
         Command::Bench { size } => bench(alloc, size, out),
+        Command::Crease { settings } => crease(alloc, settings, input, out),
         Command::Size { edge, floor } => size(alloc, edge, floor, input, out),
         Command::Coarse { settings } => coarse(alloc, settings, input, out),
     }

@@ -26,7 +26,8 @@ pub(crate) fn error_line_of(answer: &Answer, names: &[u32]) -> Line
 
 const USAGE: &str =
     "usage: quadq tidy | graph | refine --by K | remesh --scale P/Q --floor F --weight plain|length \
-    | check | bench --size N | size --edge D --floor F | coarse --scale P/Q --floor F --weight plain|length";
+    | check | bench --size N | crease --scale P/Q --floor F --weight plain|length | size --edge D --floor F \
+    | coarse --scale P/Q --floor F --weight plain|length";
 
 fn reason_of(answer: &Answer, names: &[u32]) -> Line
     requires { HasNames names.now answer.now }
@@ -46,6 +47,9 @@ fn reason_of(answer: &Answer, names: &[u32]) -> Line
         Answer::Range { line } => numbered_line("line ", u64::from(*line), ": number out of range"),
         Answer::Limit { which, line } => limit_of(*which, *line),
         Answer::NotManifold { place } => place_of(*place, names),
+        Answer::NotEdge { line } => {
+            numbered_line("line ", u64::from(*line), ": not an edge of the mesh")
+        }
         Answer::Tangled { count } => numbered_line("tangled: ", *count, ""),
         Answer::TooFine { faces, .. } => too_fine_of(*faces),
         Answer::Doubled { u, v, .. } => doubled_of(*u, *v),

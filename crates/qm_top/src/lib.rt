@@ -5,6 +5,7 @@ mod bench;
 mod check;
 mod coarse;
 mod command;
+mod crease;
 mod error_line;
 mod finishing;
 mod graph;

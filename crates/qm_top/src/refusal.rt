@@ -2,15 +2,16 @@
 
 ghost use Rattle.std.specs.Prelude.{◌≡◌, ◌≢◌, []};
 ghost use Rattle.def_io.specs.declared.fails.WriteFail.TheVariants as fails;
-ghost use Rattle.def_text.specs.Fails.{of_read};
+ghost use Rattle.def_text.specs.Fails.{of_obj, of_read};
 ghost use Rattle.qm_top.specs.Named.{HasNames};
-ghost use Rattle.qm_top.specs.Refusals.{answer_of, answer_of_layout, answer_of_obj};
+ghost use Rattle.qm_top.specs.Refusals.{answer_of, answer_of_layout, answer_of_marks, answer_of_obj};
 ghost use Rattle.qm_top.specs.Refusals.{answer_of_soup, answer_of_words, names_of, refusal_of_size};
 ghost use Rattle.qm_top.specs.Writing.{refusal_of_put};
 ghost use Rattle.qm_top.specs.declared.refusal.Refusal.TheVariants as refusals;
 
 use crate::named::NamedPlace;
 use def_io::{ReadFail, WriteFail};
+use def_marks::MarkFail;
 use def_metric::SizeFail;
 use def_output::Stopped;
 use def_remesh::LayoutFail;
@@ -25,6 +26,7 @@ pub(crate) enum Refusal {
     NotAccepted(Why),
     Soup(SoupFail),
     NotManifold(NamedPlace),
+    Marks(MarkFail),
     Layout(LayoutFail),
     Far(u128),
     Write(WriteFail),
@@ -54,6 +56,7 @@ impl Refusal {
                 answer: Answer::NotManifold { place: named.place },
                 names: named.names,
             },
+            Refusal::Marks(fail) => without_names(alloc, marks_answer(fail)),
             Refusal::Layout(fail) => without_names(alloc, layout_answer(fail)),
             Refusal::Far(sum) => without_names(alloc, Answer::Far { sum }),
             Refusal::Write(_) => without_names(alloc, Answer::WriteFault),
@@ -86,6 +89,22 @@ impl From<ReadFail> for Refusal {
 
     fn from(fail: ReadFail) -> Refusal {
         Refusal::Soup(SoupFail::from(fail))
+    }
+}
+
+impl From<ObjFail> for Refusal {
+    ghost from_gives = { λ fail e. e ≡ refusals.Soup (of_obj fail) };
+
+    fn from(fail: ObjFail) -> Refusal {
+        Refusal::Soup(SoupFail::from(fail))
+    }
+}
+
+impl From<MarkFail> for Refusal {
+    ghost from_gives = { λ fail e. e ≡ refusals.Marks fail };
+
+    fn from(fail: MarkFail) -> Refusal {
+        Refusal::Marks(fail)
     }
 }
 
@@ -183,6 +202,20 @@ fn obj_answer(fail: ObjFail) -> Answer
         ObjFail::Range { line } => Answer::Range { line },
         ObjFail::Limit { which, line } => Answer::Limit { which, line },
         ObjFail::Memory => Answer::Memory,
+    }
+}
+
+fn marks_answer(fail: MarkFail) -> Answer
+    ensures answer { result ≡ answer_of_marks fail }
+    ensures unnamed { HasNames [] result }
+    ensures refusal { result ≢ Answer.Done }
+    ensures accepted { result ≢ Answer.Usage }
+{
+    match fail {
+        MarkFail::Syntax { line } => Answer::Syntax { line },
+        MarkFail::Range { line } => Answer::Range { line },
+        MarkFail::NotEdge { line } => Answer::NotEdge { line },
+        MarkFail::Memory => Answer::Memory,
     }
 }
 

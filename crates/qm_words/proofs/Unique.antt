@@ -9,7 +9,7 @@ use Rattle.def_certtext.specs.Settings.{AreWordsOf}
 use Rattle.def_run.specs.CommandLines.{name_of, HasCount, HasEdge, HasOptions, HasSettings, IsCommand}
 use Rattle.def_run.specs.Options.{uses_of, value_of, Uses}
 use Rattle.def_run.specs.declared.command.Command.{Command}
-use Rattle.def_run.specs.declared.command.Command.TheVariants.{Tidy, Graph, Refine, Remesh, Check, Bench, Size, Coarse}
+use Rattle.def_run.specs.declared.command.Command.TheVariants.{Tidy, Graph, Refine, Remesh, Check, Bench, Crease, Size, Coarse}
 use Rattle.def_run.specs.declared.words.WordsFail.{WordsFail}
 use Rattle.def_run.specs.declared.words.WordsFail.TheVariants.{Memory, Usage}
 use Rattle.def_text.specs.Decimal.{rounded}
@@ -57,6 +57,7 @@ same_options (Remesh s x) (Remesh t y) words name one two =
     λ i. Remesh (both.0 i) (both.1 i)
 same_options Check Check words name one two = refl
 same_options (Bench m) (Bench n) words name one two = ap (λ (k : ℕ). Bench k) (same_count _ 10000 words m n (omega arith) one two)
+same_options (Crease s) (Crease t) words name one two = ap (λ (k : Settings). Crease k) (same_asked words s t false false one two).0
 same_options (Size e m) (Size d n) words name one two =
     let both = same_edge words e d m n one two in
     λ i. Size (both.0 i) (both.1 i)

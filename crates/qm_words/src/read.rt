@@ -61,6 +61,10 @@ fn read_command(alloc: Global, name: &str, rest: &[String]) -> Result<Command, W
         let size = number_of(alloc, "size", MAX_SIZE, rest)?;
         return Ok(Command::Bench { size });
     }
+    if is_word(name, "crease") {
+        let settings = fixed_settings_of(alloc, rest)?;
+        return Ok(Command::Crease { settings });
+    }
     if is_word(name, "size") {
         let asked = edge_of(alloc, rest)?;
         return Ok(Command::Size {

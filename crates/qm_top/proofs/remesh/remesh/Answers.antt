@@ -18,4 +18,4 @@ returns g c =
     writer_runs _ _ _ _ _
     (task_writer (Remesh settings auto) (AsksToRemesh settings auto) _ _ c.in_ok-read.read.soup (remesh_needs settings auto) (remesh_tasked settings auto)
     c.in_ok-read.ensures.manifold c.in_ok-read.ensures.soup c.in_ok-read.ensures.calm)
-    c.remesh_mesh.result (c.remesh_mesh.ensures.done _) (c.remesh_mesh.ensures.refused _)
+    c.remesh_mesh.result (c.remesh_mesh.ensures.done c.in_ok-read.ensures.soup.bytes) (c.remesh_mesh.ensures.refused c.in_ok-read.ensures.soup.bytes)

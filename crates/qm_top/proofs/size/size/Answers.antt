@@ -11,4 +11,4 @@ returns-in_err-read g c =
 pub returns : goal.returns
 returns g c =
     size_runs c.args.edge c.args.floor _ _ c.in_ok-read.read.soup c.in_ok-read.ensures.manifold c.in_ok-read.ensures.soup c.in_ok-read.ensures.calm
-    c.size_mesh.result (c.size_mesh.ensures.done _) (c.size_mesh.ensures.refused _)
+    c.size_mesh.result (c.size_mesh.ensures.done c.in_ok-read.ensures.soup.bytes) (c.size_mesh.ensures.refused c.in_ok-read.ensures.soup.bytes)

@@ -1,0 +1,151 @@
+-- What `crease` keeps: bytes whose `l` lines are refused end it, and bytes that it takes are not refused.
+use Rattle.std.specs.Prelude.{IfErr, IsErrAnd, codes, slice_range}
+use Rattle.std.specs.Option.{option_map}
+use Rattle.std.proofs.Common.{◌≡◌, ◌≢◌, ℕ, ◌-◌, false, Result, Ok, Err, List, Bool, [], ◌∷◌, ◌++◌, length, sym, ◌∙◌, ap, subst, refl, inl, arith}
+use Rattle.std.proofs.lemmas.List.{take_all}
+use Rattle.def_certtext.specs.CertLines.{lists_of}
+use Rattle.def_certtext.specs.declared.Asked.{Asked}
+use Rattle.def_feature.specs.Marked.{marked_cut}
+use Rattle.def_flow.specs.declared.net.Settings.{Settings}
+use Rattle.def_io.specs.Bytes.{Bytes, Lines}
+use Rattle.def_io.specs.Moves.{Change}
+use Rattle.def_io.specs.declared.TheConstants.{LINE_FEED}
+use Rattle.def_layout.specs.FaceLayouts.{IsLayoutOf}
+use Rattle.def_layout.specs.Plans.{Plan}
+use Rattle.def_marks.specs.Lines.{marks_in}
+use Rattle.def_marks.specs.MarkedText.{marked_text}
+use Rattle.def_marks.specs.declared.fail.MarkFail.{MarkFail}
+use Rattle.def_marks.specs.declared.fail.MarkFail.TheVariants as marks
+use Rattle.def_mesh.specs.Faces.{Faces}
+use Rattle.def_mesh.specs.Manifold.{IsManifold}
+use Rattle.def_remesh.specs.Keeping.{IsKept}
+use Rattle.def_remesh.specs.NewPoints.{lengths_in}
+use Rattle.def_remesh.specs.Refusals.{IsLayoutFail}
+use Rattle.def_remesh.specs.Remeshed.{used}
+use Rattle.def_remesh.specs.Tasks.{old_lengths}
+use Rattle.def_remesh.specs.declared.kept.LayoutFail.{LayoutFail}
+use Rattle.def_run.specs.Crease.{creased_task, HasMarkFail, HasMarks, RefusesMarks}
+use Rattle.def_run.specs.Heads.{named_head}
+use Rattle.def_run.specs.Mesh.{IsMeshText}
+use Rattle.def_run.specs.declared.answer.Answer.{Answer}
+use Rattle.def_run.specs.declared.answer.Answer.TheVariants.{NotEdge, Range, Syntax}
+use Rattle.def_run.specs.declared.command.Command.TheVariants.{Crease}
+use Rattle.def_text.specs.FaceSet.{FaceSet}
+use Rattle.def_text.specs.Input.{ReadWhole}
+use Rattle.def_text.specs.declared.limits.TheConstants.{MAX_BYTES}
+use Rattle.def_text.specs.Fails.{of_obj}
+use Rattle.def_text.specs.Text.{soup_in}
+use Rattle.def_text.specs.declared.refusal.ObjFail.{ObjFail}
+use Rattle.def_text.specs.declared.refusal.ObjFail.TheVariants as obj
+use Rattle.def_text.specs.declared.refusal.SoupFail.TheVariants as soup
+use Rattle.qm_top.proofs.Refusals.{crease_needs, input_ended}
+use Rattle.qm_top.specs.Creasing.{IsUnmarked}
+use Rattle.qm_top.specs.Finishing.{IsFramed}
+use Rattle.qm_top.specs.Refusals.{Ended, IsNoMeshOf}
+use Rattle.qm_top.specs.Writing.{FailsTask}
+use Rattle.qm_top.specs.declared.refusal.Refusal.{Refusal}
+use Rattle.qm_top.specs.declared.refusal.Refusal.TheVariants.{Marks, NotManifold, Soup}
+use Rattle.qm_top.specs.declared.refusal.Refusal.TheVariants as refusals
+use Rattle.qm_write.specs.declared.text.Framed.{Framed}
+
+module _ (settings : Settings) (input out : Change) (bytes : Bytes) (whole : ReadWhole MAX_BYTES input.told input.told_now bytes) (calm : input.faults_now ≡ input.faults) where
+  marks_ended : (fail : MarkFail) → IsUnmarked bytes (Marks fail) → Ended (Crease settings) input out (Marks fail)
+  marks_ended marks.Memory why = record { cause = tt; names = λ p is. cc; calm = λ f m. absurd (m refl) }
+  marks_ended (marks.Syntax line) why = record {
+    cause = record { bytes = bytes; whole = whole; said = inl (why (λ e. cc)) };
+    names = λ p is. cc;
+    calm = λ f m. calm;
+  }
+  marks_ended (marks.Range line) why = record {
+    cause = record { bytes = bytes; whole = whole; said = inl (why (λ e. cc)) };
+    names = λ p is. cc;
+    calm = λ f m. calm;
+  }
+  marks_ended (marks.NotEdge line) why = record {
+    cause = record { bytes = bytes; whole = whole; said = inl (why (λ e. cc)) };
+    names = λ p is. cc;
+    calm = λ f m. calm;
+  }
+
+  -- Bytes that have no mesh with marks end the command.
+  pub unmarked_ended : (r : Refusal) → IsUnmarked bytes r → Ended (Crease settings) input out r
+  unmarked_ended (Soup soup.Memory) why = input_ended (Crease settings) input out (Soup soup.Memory) (crease_needs settings) tt
+  unmarked_ended (Soup (soup.Obj fail)) why =
+      input_ended (Crease settings) input out (Soup (soup.Obj fail)) (crease_needs settings)
+      (record { bytes = bytes; whole = whole; said = why.0 }, why.1, calm)
+  unmarked_ended (NotManifold named) why =
+      input_ended (Crease settings) input out (NotManifold named) (crease_needs settings) (record {
+        soup = why.soup;
+        read = record { bytes = bytes; whole = whole; said = why.said };
+        fault = why.why.0;
+        refuted = why.why.1;
+        named = why.why.2;
+        calm = calm;
+      })
+  unmarked_ended (Marks fail) why = marks_ended fail why
+  unmarked_ended refusals.Memory why = record { cause = tt; names = λ p is. cc; calm = λ f m. absurd (m refl) }
+  unmarked_ended _ why = absurd why
+
+-- Bytes that have marks have no refusal of them.
+mark_fails : (bytes : Bytes) (fail : MarkFail) → HasMarks bytes → HasMarkFail bytes fail → ⊥
+mark_fails bytes fail has none =
+    let both : ◌≡◌ {A = Result FaceSet ObjFail} (Ok has.soup) (Ok none.soup) = sym has.mesh.said ∙ none.mesh.said in
+    let same : has.soup ≡ none.soup = cc in
+    let clash : ◌≡◌ {A = Result (List Bool) MarkFail} (Ok has.marks) (Err fail) = sym has.said ∙ (ap (marks_in bytes) same ∙ none.said) in
+    cc
+
+pub marks_not_refused : (bytes : Bytes) (answer : Answer) → HasMarks bytes → RefusesMarks bytes answer → ⊥
+marks_not_refused bytes (Syntax line) has none = mark_fails bytes (marks.Syntax line) has none
+marks_not_refused bytes (Range line) has none = mark_fails bytes (marks.Range line) has none
+marks_not_refused bytes (NotEdge line) has none = mark_fails bytes (marks.NotEdge line) has none
+marks_not_refused bytes _ has none = absurd none
+
+-- All lines of a text.
+pub whole_range : (xs : Lines) (n : ℕ) → n ≡ length xs → slice_range xs 0 n ≡ xs
+whole_range xs n is = let e : n - 0 ≡ n = omega arith in rw e (take_all n xs (omega (arith, is)))
+
+-- A text that has no soup has no marks.
+pub read_refused : {T : Type 0} (bytes : Bytes) (result : Result T Refusal) (fail : ObjFail) → IsErrAnd result (λ r. r ≡ Soup (of_obj fail))
+    → (fail ≢ obj.Memory → soup_in bytes ≡ Err fail) → IfErr result (IsUnmarked bytes)
+read_refused bytes (Ok x) fail is said = tt
+read_refused bytes (Err r) fail is said = subst (IsUnmarked bytes) (sym is) (by_fail fail said)
+  where
+    by_fail : (fail : ObjFail) → (fail ≢ obj.Memory → soup_in bytes ≡ Err fail) → IsUnmarked bytes (Soup (of_obj fail))
+    by_fail obj.Memory said = tt
+    by_fail (obj.Syntax line) said = (said (λ e. cc), λ e. cc)
+    by_fail (obj.NotQuad line corners) said = (said (λ e. cc), λ e. cc)
+    by_fail (obj.Range line) said = (said (λ e. cc), λ e. cc)
+    by_fail (obj.Limit which line) said = (said (λ e. cc), λ e. cc)
+
+-- Nor has one whose soup is no mesh.
+pub no_mesh_of : (bytes : Bytes) (soup : FaceSet) (r : Refusal) → soup_in bytes ≡ Ok soup → IsNoMeshOf soup r → IsUnmarked bytes r
+no_mesh_of bytes soup (NotManifold named) said why = record { soup = soup; said = said; why = why }
+no_mesh_of bytes soup refusals.Memory said why = tt
+no_mesh_of bytes soup _ said why = absurd why
+
+-- What is kept of a mesh with its marks is in the frame of its task.
+pub creased_framed : (settings : Settings) (soup : FaceSet) (mesh : Faces) (marks sliced : List Bool) (plan : Plan) (framed : Framed) → mesh ≡ soup.faces → sliced ≡ marks
+    → IsLayoutOf mesh (marked_cut mesh sliced) plan → framed.remesh.asked ≡ record { settings = settings; auto = false }
+    → IsKept old_lengths plan settings false (lists_of framed.remesh.first) (option_map lists_of framed.remesh.third) framed.remesh.numbering
+    → framed.head.items ≡ named_head (codes "crease") settings ++ LINE_FEED ∷ []
+    → framed.between.items ≡ marked_text marks plan (lengths_in (used (lists_of framed.remesh.first) (option_map lists_of framed.remesh.third)).x)
+    → IsFramed (creased_task settings soup.faces marks) framed soup plan
+creased_framed settings soup mesh marks sliced plan framed same are cut asked kept head between = record {
+  cut = subst (λ (faces : Faces). IsLayoutOf faces (marked_cut faces marks) plan) same (subst (λ (xs : List Bool). IsLayoutOf mesh (marked_cut mesh xs) plan) are cut);
+  settings = ap (λ (a : Asked). a.settings) asked;
+  auto = ap (λ (a : Asked). a.auto) asked;
+  kept = kept;
+  head = head;
+  between = between;
+}
+
+-- Where its layout is refused its task fails.
+pub creased_fails : (settings : Settings) (soup : FaceSet) (mesh : Faces) (marks sliced : List Bool) (plan : Plan) (fail : LayoutFail) → mesh ≡ soup.faces → sliced ≡ marks
+    → IsLayoutOf mesh (marked_cut mesh sliced) plan → IsLayoutFail old_lengths plan settings false fail → FailsTask (creased_task settings soup.faces marks) soup fail
+creased_fails settings soup mesh marks sliced plan fail same are cut why =
+    (plan, subst (λ (faces : Faces). IsLayoutOf faces (marked_cut faces marks) plan) same (subst (λ (xs : List Bool). IsLayoutOf mesh (marked_cut mesh xs) plan) are cut), why)
+
+-- A text with this soup, whose faces are a manifold.
+pub mesh_text : (bytes : Bytes) (old soup : FaceSet) → soup_in bytes ≡ Ok old → soup ≡ old → IsManifold old.faces → IsMeshText bytes soup
+mesh_text bytes old soup said same manifold =
+    record { said = said ∙ ap Ok (sym same); manifold = subst (λ (s : FaceSet). IsManifold s.faces) (sym same) manifold }

@@ -1,0 +1,132 @@
+//! `crease`: a mesh is read with the edges that its `l` lines mark, and remeshed so that these stay.
+
+ghost use Rattle.std.specs.Prelude.{◌≡◌, Ok, false, IfErr, IfOk, OnOk};
+ghost use Rattle.std.specs.Option.{option_map};
+ghost use Rattle.def_certtext.specs.CertLines.{lists_of};
+ghost use Rattle.def_certtext.specs.Settings.{AreInRange};
+ghost use Rattle.def_layout.specs.Plans.{plan};
+ghost use Rattle.def_marks.specs.Lines.{marks_in};
+ghost use Rattle.def_marks.specs.MarkedText.{marked_text};
+ghost use Rattle.def_remesh.specs.Keeping.{IsKept};
+ghost use Rattle.def_remesh.specs.NewPoints.{lengths_in};
+ghost use Rattle.def_remesh.specs.Remeshed.{used};
+ghost use Rattle.def_remesh.specs.Tasks.{Wish};
+ghost use Rattle.def_feature.specs.Marks.{AreMarks};
+ghost use Rattle.def_io.specs.Bytes.{Bytes};
+ghost use Rattle.def_io.specs.Moves.{change, stream};
+ghost use Rattle.def_run.specs.Crease.{AsksToCrease};
+ghost use Rattle.def_run.specs.Mesh.{IsMeshText};
+ghost use Rattle.qm_top.specs.Creasing.{IsUnmarked};
+ghost use Rattle.qm_top.specs.Runs.{HasRun};
+ghost use Rattle.qm_top.specs.Writing.{FailsAsked, IsUnwritten, ShowsAsked, WroteText};
+
+use crate::finishing::write_task;
+use crate::heads::named_head;
+use crate::input::{MeshInput, with_mesh};
+use crate::refusal::Refusal;
+use def_certtext::Asked;
+use def_flow::Settings;
+use def_layout::TMesh;
+use def_run::Command;
+use def_text::MAX_BYTES;
+use qm_cut::marked_layout;
+use qm_io::{Lines, Sink, Source, read_lines};
+use qm_marks::read_marks;
+use qm_marktext::marked_lines;
+use qm_obj::read_obj;
+use qm_remesh::keep;
+use qm_write::{CutMesh, Framed, Remesh};
+use std::alloc::{AllocError, Global};
+
+/// Reads a mesh and its marked edges, and writes the new mesh with least lengths, with the lines of these edges and with
+/// the certificate.
+pub(crate) fn crease<S: Source, O: Sink>(
+    alloc: Global,
+    settings: Settings,
+    input: &mut S,
+    out: &mut O,
+) -> Result<(), Refusal>
+    requires { AreInRange settings false }
+    ensures { HasRun (Command.Crease settings)
+        (change (S.state input.old) (S.state input.new))
+        (stream O.state out.old out.new) result }
+{
+    let lines = read_lines(alloc, input, MAX_BYTES)?;
+    let marked = read_marked(alloc, &lines)?;
+    drop(lines);
+    crease_mesh(alloc, settings, marked, out)
+}
+
+/// A mesh with a mark for each of its darts.
+#[derive(Drop)]
+struct Marked {
+    read: MeshInput,
+    marks: Vec<bool>,
+}
+
+/// The mesh of a text with its marked edges.
+fn read_marked(alloc: Global, lines: &Lines) -> Result<Marked, Refusal>
+    ensures mesh { IfOk result (λ marked. IsMeshText lines.now marked.read.soup) }
+    ensures faces { IfOk result (λ marked. marked.read.mesh ≡ marked.read.soup.faces) }
+    ensures marks { IfOk result (λ marked. marks_in lines.now marked.read.soup ≡ Ok marked.marks.items) }
+    ensures inner { IfOk result (λ marked. AreMarks marked.read.mesh marked.marks.items) }
+    ensures refused { IfErr result (IsUnmarked lines.now) }
+{
+    let after = lines.count();
+    let soup = read_obj(alloc, lines, 0, after)?;
+    let read = with_mesh(alloc, soup)?;
+    let marks = read_marks(alloc, lines, 0, after, &read.soup, &read.mesh)?;
+    Ok(Marked { read, marks })
+}
+
+/// Writes a mesh with least lengths over a cut that has its marked edges.
+fn crease_mesh<O: Sink>(
+    alloc: Global,
+    settings: Settings,
+    marked: Marked,
+    out: &mut O,
+) -> Result<(), Refusal>
+    requires range { AreInRange settings false }
+    requires mesh { marked.read.mesh ≡ marked.read.soup.faces }
+    requires marks { AreMarks marked.read.mesh marked.marks.items }
+    ensures done { (bytes : Bytes) → marks_in bytes marked.read.soup ≡ Ok marked.marks.items
+        → OnOk result (WroteText (ShowsAsked (AsksToCrease settings) bytes marked.read.soup)
+        (change (O.state out.old) (O.state out.new))) }
+    ensures refused { (bytes : Bytes) → marks_in bytes marked.read.soup ≡ Ok marked.marks.items
+        → IfErr result (IsUnwritten (ShowsAsked (AsksToCrease settings) bytes marked.read.soup)
+        (FailsAsked (AsksToCrease settings) bytes marked.read.soup) (stream O.state out.old out.new)) }
+{
+    let Marked { read, marks } = marked;
+    let MeshInput { soup, mesh } = read;
+    let layout = marked_layout(alloc, &mesh, &marks)?;
+    let asked = Asked {
+        settings,
+        auto: false,
+    };
+    let remesh = keep(alloc, &layout, asked)?;
+    let head = named_head(alloc, b"crease", &settings)?;
+    let between = lines_of(alloc, &marks, &layout, &remesh)?;
+    let framed = Framed {
+        head,
+        between,
+        remesh,
+    };
+    let cut = CutMesh { mesh, layout };
+    write_task(alloc, &soup, &cut, framed, out)
+}
+
+/// The lines of marked arcs over the new mesh.
+fn lines_of(
+    alloc: Global,
+    marks: &[bool],
+    layout: &TMesh,
+    remesh: &Remesh,
+) -> Result<Vec<u8>, AllocError>
+    requires { (wish : Wish) × IsKept wish (plan layout.now) remesh.now.asked.settings remesh.now.asked.auto
+        (lists_of remesh.now.first) (option_map lists_of remesh.now.third) remesh.now.numbering }
+    ensures { IfOk result (λ text. text.items ≡ marked_text marks.now (plan layout.now)
+        (lengths_in (used (lists_of remesh.now.first) (option_map lists_of remesh.now.third)).x)) }
+{
+    let _count = remesh.numbering.vertices();
+    marked_lines(alloc, marks, layout, &remesh.used_cert().x)
+}
