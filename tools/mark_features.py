@@ -1,5 +1,5 @@
 #!/usr/bin/env python3
-"""Marks the feature edges of a quad mesh by `l` lines, which modelling programs show. quadq ignores them so far.
+"""Marks the feature edges of a quad mesh by `l` lines, which modelling programs show and `quadq crease` keeps.
 
 usage: tools/mark_features.py IN.obj >OUT.obj
 

@@ -2,12 +2,13 @@
 _quadq() {
     local word=${COMP_WORDS[COMP_CWORD]} words=
     if [ "$COMP_CWORD" -eq 1 ]; then
-        words="tidy graph refine remesh check bench size coarse"
+        words="tidy graph refine remesh check bench crease size coarse"
     else
         case ${COMP_WORDS[1]} in
             refine) words="--by" ;;
             remesh) words="--scale --floor --weight" ;;
             bench) words="--size" ;;
+            crease) words="--scale --floor --weight" ;;
             size) words="--edge --floor" ;;
             coarse) words="--scale --floor --weight" ;;
         esac
