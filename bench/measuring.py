@@ -12,7 +12,9 @@ start = time.perf_counter()
 child = subprocess.Popen(sys.argv[1:])
 _, status, usage = os.wait4(child.pid, 0)
 seconds = time.perf_counter() - start
-print(f"taken: {os.waitstatus_to_exitcode(status)} {seconds} {usage.ru_maxrss / 1024}", file=sys.stderr)"""
+processor = usage.ru_utime + usage.ru_stime
+status = os.waitstatus_to_exitcode(status)
+print(f"taken: {status} {seconds} {processor} {usage.ru_maxrss / 1024}", file=sys.stderr)"""
 
 
 def build_bench():
@@ -23,14 +25,20 @@ def build_bench():
     return f"{crate}/out/qm_bench"
 
 
-def run(words, source, target):
-    """The seconds and megabytes of one run from one file to another, and its status."""
+def taken(words, source, target):
+    """The seconds, those of the processor and the megabytes of one run from one file to another, and its status."""
     with open(source, "rb") as text, open(target, "wb") as out:
         words = [sys.executable, "-c", BETWEEN, *words]
         ran = subprocess.run(words, stdin=text, stdout=out, stderr=subprocess.PIPE, check=True)
-    taken = re.search(r"^taken: (\S+) (\S+) (\S+)$", ran.stderr.decode(), re.MULTILINE)
-    status, seconds, megabytes = taken.groups()
-    return float(seconds), float(megabytes), int(status)
+    told = re.search(r"^taken: (\S+) (\S+) (\S+) (\S+)$", ran.stderr.decode(), re.MULTILINE)
+    status, seconds, processor, megabytes = told.groups()
+    return float(seconds), float(processor), float(megabytes), int(status)
+
+
+def run(words, source, target):
+    """The seconds and megabytes of one run from one file to another, and its status."""
+    seconds, _, megabytes, status = taken(words, source, target)
+    return seconds, megabytes, status
 
 
 def measured(words, source, target):

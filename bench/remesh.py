@@ -1,8 +1,9 @@
 #!/usr/bin/env python3
-"""Measures `quadq remesh` at half size, and `quadq check` of what it wrote: wall time and peak memory, beside `tidy`,
-which reads, checks and writes the same mesh, and `graph`, which cuts it too. Meshes with a long boundary are measured
-at four settings, and there `check` stands beside `tidy` of both texts. Meshes of other files are measured where their
-paths are given. Where Blender is installed, its QuadriFlow makes as many faces of one mesh.
+"""Measures `quadq remesh` at half size, and `quadq check` of what it wrote: seconds of the processor and peak memory,
+beside `tidy`, which reads, checks and writes the same mesh, and `graph`, which cuts it too. All run by turns. The last
+column is the time of `check` by that of `tidy` of both texts. Meshes with a long boundary are measured at four
+settings, and meshes of other files where their paths are given. `check` is given 512 MiB of line feeds, too. Where
+Blender is installed, its QuadriFlow makes as many faces of one mesh, in wall time.
 
 usage: bench/remesh.py [--boundary] [FILE.obj..]     boundary: the meshes with a long boundary only
 """
@@ -12,7 +13,7 @@ import subprocess
 import sys
 import tempfile
 
-from measuring import count_lines, measured, run
+from measuring import count_lines, measured, run, taken
 
 HERE = os.path.dirname(os.path.realpath(__file__))
 ROOT = os.path.dirname(HERE)
@@ -39,6 +40,20 @@ def best(words, source, target):
     return min(seconds for seconds, _ in runs), min(megabytes for _, megabytes in runs)
 
 
+def best_by_turns(runs, target):
+    """The least seconds of the processor and MB of each command on its text, where all run by turns; `None` where one
+    is refused, as `tidy` of more faces than quadq reads."""
+    rounds = [[taken(words, source, target)[1:] for words, source in runs] for _ in range(ROUNDS)]
+    return [best_of(turns) for turns in zip(*rounds)]
+
+
+def best_of(turns):
+    """The least seconds and MB of these runs, where all end well."""
+    if any(status != 0 for _, _, status in turns):
+        return None
+    return min(seconds for seconds, _, _ in turns), min(megabytes for _, megabytes, _ in turns)
+
+
 def remesh_words(setting):
     """The command that remeshes at a setting."""
     scale, floor = setting
@@ -47,10 +62,10 @@ def remesh_words(setting):
 
 def show(title, mesh, room, setting=HALF):
     """A row for a mesh."""
-    out, new, pair, told = f"{room}/out.obj", f"{room}/new.obj", f"{room}/pair.obj", f"{room}/told"
+    new, pair = f"{room}/new.obj", f"{room}/pair.obj"
     remesh = remesh_words(setting)
     row = f"{title:<40}{' '.join(setting):>10}{count_lines(mesh, b'f'):>10}"
-    seconds, megabytes, status = run(remesh, mesh, new)
+    _, seconds, megabytes, status = taken(remesh, mesh, new)
     if status != 0:
         print(f"{row}  refused with {status} in {seconds:.2f} s, {megabytes:.0f} MB", flush=True)
         return
@@ -59,10 +74,24 @@ def show(title, mesh, room, setting=HALF):
             with open(part, "rb") as text:
                 shutil.copyfileobj(text, both)
     row += f"{count_lines(new, b'#x'):>9}{count_lines(new, b'f'):>10}"
-    for words, text in ((["tidy"], mesh), (["graph"], mesh), (remesh[1:], mesh), (["tidy"], new), (["check"], pair)):
-        seconds, megabytes = best([QUADQ, *words], text, told if words == ["check"] else out)
-        row += f"{seconds:>9.2f}{megabytes:>6.0f}"
+    texts = ((["tidy"], mesh), (["graph"], mesh), (remesh[1:], mesh), (["tidy"], new), (["check"], pair))
+    figures = best_by_turns([([QUADQ, *words], text) for words, text in texts], f"{room}/out")
+    row += "".join("refused".rjust(15) if least is None else f"{least[0]:>9.2f}{least[1]:>6.0f}" for least in figures)
+    if None not in figures:
+        (tidy, _), _, _, (tidy_new, _), (check, _) = figures
+        row += f"{check / (tidy + tidy_new):>8.2f}"
     print(row, flush=True)
+
+
+def show_line_feeds(room):
+    """What `check` takes for a text of the shortest lines, which has no head line."""
+    text, size = f"{room}/lines", 2**29
+    with open(text, "wb") as lines:
+        for _ in range(512):
+            lines.write(b"\n" * 2**20)
+    _, seconds, megabytes, status = taken([QUADQ, "check"], text, f"{room}/told")
+    row = f"check of 512 MiB of line feeds: status {status}, {seconds:.2f} s, {megabytes:.0f} MB"
+    print(f"{row}, {megabytes * 2**20 / size:.2f} of the text")
 
 
 def show_quadriflow(mesh, room):
@@ -98,7 +127,7 @@ def main():
 
         head = f"{'mesh':<40}{'setting':>10}{'faces':>10}{'arcs':>9}{'new':>10}"
         names = ("tidy", "graph", "remesh", "tidy new", "check")
-        print(head + "".join(f"{name + ' s':>9}{'MB':>6}" for name in names))
+        print(head + "".join(f"{name + ' s':>9}{'MB':>6}" for name in names) + f"{'ratio':>8}")
         for title, words in [] if only_boundary else MESHES:
             make(words)
             show(title, mesh, room)
@@ -109,6 +138,7 @@ def main():
         for path in sys.argv[1:]:
             if path != "--boundary":
                 show(os.path.basename(path), path, room)
+        show_line_feeds(room)
         if not only_boundary:
             make(SMALL[1])
             show_quadriflow(mesh, room)
