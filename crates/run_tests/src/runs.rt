@@ -53,9 +53,10 @@ const ALL_WELL: Streams = Streams {
 };
 
 /// Commands that write a mesh: the first one whole, the others line by line.
-const LINES: [&str; 3] = [
+const LINES: [&str; 4] = [
     "tidy",
     "remesh --scale 3/1 --floor 1 --weight plain",
+    "crease --scale 3/1 --floor 1 --weight plain",
     "coarse --scale 3/1 --floor 1 --weight plain",
 ];
 

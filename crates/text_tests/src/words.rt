@@ -61,6 +61,14 @@ fn lines_have_their_commands(rt: HostRuntime) -> Result<(), Fail> {
             }),
         ),
         (
+            "crease --floor 3 --scale=2/4 --weight length",
+            Ok(Command::Crease { settings: WHOLE }),
+        ),
+        (
+            "crease --floor auto --scale=2/4 --weight length",
+            Err(WordsFail::Usage),
+        ),
+        (
             "coarse --weight=length --scale 2/4 --floor 3",
             Ok(Command::Coarse { settings: WHOLE }),
         ),
