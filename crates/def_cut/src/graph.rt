@@ -9,7 +9,8 @@ pub enum Stop {
     Singular { vertex: u32 },
     /// Some rider had stood at the vertex before.
     Trail { vertex: u32 },
-    /// It gave way to a rider that arrived at the same instant.
+    /// It arrived at the same instant as others, and did not go on: of two at right angles one does, and nobody of two
+    /// that come from opposite sides, of three or of four.
     Tie { vertex: u32 },
 }
 

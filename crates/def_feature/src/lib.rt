@@ -1,4 +1,3 @@
-//! What feature lines are: edges that are marked by `l` lines, the motion that keeps them in the cut, and how they are
-//! written.
+//! What feature lines are: edges that are marked by `l` lines, and the motion that keeps them in the cut.
 
 #![tactic(auto)]
