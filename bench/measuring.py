@@ -17,6 +17,16 @@ status = os.waitstatus_to_exitcode(status)
 print(f"taken: {status} {seconds} {processor} {usage.ru_maxrss / 1024}", file=sys.stderr)"""
 
 
+def program():
+    """The path of quadq: the one that QUADQ names, or that of dist/."""
+    return os.environ.get("QUADQ", f"{ROOT}/dist/quadq")
+
+
+def name_of(mesh):
+    """The name of a file, or that of its folder where each folder has a file of the same name."""
+    return mesh.stem if mesh.suffix == ".obj" else mesh.parent.stem
+
+
 def build_bench():
     """Builds the program of the work that is timed, and gives its path."""
     crate = f"{ROOT}/crates/qm_bench"

@@ -3,6 +3,7 @@
 The package `quadq` lies inside this folder, with the program; `tools/pack_blender` puts both there.
 """
 
+import math
 import os
 import pathlib
 
@@ -33,8 +34,9 @@ ADVICE = {
     "repeated": "the selected face has a vertex twice. Mesh > Clean Up > Degenerate Dissolve removes it",
     "plane": "the selected faces cross the mirror plane, or lie in it",
     9: "the patches are too tangled. Cut the object into smaller ones",
-    10: "the new mesh would have too many faces. Take a smaller scale",
+    10: "the new mesh would have too many faces. Take a smaller scale, or longer edges",
     11: "an edge would be there twice. Take the floor Auto or 3",
+    17: "the edges are too short for an object of this size. Take longer ones",
 }
 
 
@@ -64,11 +66,29 @@ class OBJECT_OT_quadq_remesh(bpy.types.Operator):
 
     wish: EnumProperty(
         name="Wish", items=[("SCALE", "Scale", "How long edges of patches are to be, as a part of what they are"),
-                            ("FACES", "Faces", "How many faces each object is to have")])
+                            ("FACES", "Faces", "How many faces each object is to have"),
+                            ("EDGE", "Edge Length", "How long edges are to be")])
     scale: FloatProperty(
         name="Scale", default=0.5, min=0.001, max=1000.0, soft_min=0.1, soft_max=4.0,
         description="How long edges of patches are to be, in faces, as a part of what they are")
     faces: IntProperty(name="Faces", default=5000, min=1, description="How many faces each object is to have")
+    edge: FloatProperty(
+        name="Edge Length", default=0.1, min=1e-6, subtype="DISTANCE",
+        description="How long edges are to be, in the object's own space")
+    keep_angle: BoolProperty(
+        name="Sharp by Angle", description="Keep the edges whose faces meet at more than an angle")
+    angle: FloatProperty(
+        name="Angle", default=math.radians(30), min=0.0, max=math.pi, subtype="ANGLE",
+        description="Edges whose faces meet at more than this are kept")
+    keep_sharp: BoolProperty(name="Marked Sharp", description="Keep the edges that are marked sharp")
+    keep_seams: BoolProperty(name="Seams", description="Keep the edges that are marked as seams")
+    keep_creases: BoolProperty(name="Creases", description="Keep the edges that have a crease")
+    keep_materials: BoolProperty(name="Material Borders", description="Keep the edges between materials")
+    corners: BoolProperty(
+        name="Corners", default=True,
+        description="Keep the corners of the boundary and of kept edges too, at the price of some more patches")
+    coarse: BoolProperty(
+        name="Merge Patches", description="Remesh over fewer and larger patches; it goes with no kept edges")
     floor: EnumProperty(
         name="Floor", default="auto", description="The least number of faces along an edge of a patch",
         items=[(it, it.title(), "") for it in ("auto", "1", "2", "3")])
@@ -91,9 +111,27 @@ class OBJECT_OT_quadq_remesh(bpy.types.Operator):
         layout = self.layout
         layout.use_property_split = True
         layout.prop(self, "wish", expand=True)
-        layout.prop(self, "scale" if self.wish == "SCALE" else "faces")
+        layout.prop(self, {"SCALE": "scale", "FACES": "faces", "EDGE": "edge"}[self.wish])
+        if self.wish != "EDGE":
+            self.draw_features(layout)
         for name in ("floor", "mirror", "subdivide", "relax", "replace", "seams"):
             layout.prop(self, name)
+
+    def draw_features(self, layout):
+        """What is kept, and whether patches are merged: each goes with a scale or a number of faces."""
+        column = layout.column(heading="Keep Edges")
+        column.enabled = not self.coarse
+        for name in ("keep_sharp", "keep_seams", "keep_creases", "keep_materials", "keep_angle"):
+            column.prop(self, name)
+        if self.keep_angle:
+            column.prop(self, "angle")
+        if self.kept():
+            column.prop(self, "corners")
+        layout.prop(self, "coarse")
+
+    def kept(self):
+        """Which kinds of edges are kept, as `meshes.EDGES` names them, and materials and angle."""
+        return [name for name in (*meshes.EDGES, "materials", "angle") if getattr(self, f"keep_{name}")]
 
     def execute(self, context):
         try:
@@ -117,21 +155,28 @@ class OBJECT_OT_quadq_remesh(bpy.types.Operator):
 
     def remesh_one(self, context, source, program):
         """Remeshes one object. Raises a Refusal."""
-        old, factor = meshes.taken(source.data)
+        kept = [] if self.coarse or self.wish == "EDGE" else self.kept()
+        old, factor = meshes.taken(source.data, kept)
         if not old.face_count:
             raise Refusal(3, "the object has no faces")
-        wish = {"scale": as_scale(self.scale)} if self.wish == "SCALE" else {"faces": self.faces}
-        result = remesh(old, program=program, floor=self.floor, subdivide=self.subdivide, relax=self.relax,
+        wish = {"SCALE": {"scale": as_scale(self.scale)}, "FACES": {"faces": self.faces},
+                "EDGE": {"edge": self.edge * factor}}[self.wish]
+        kinds = [*(["lines"] if set(kept) & set(meshes.EDGES) else []), *(["materials"] if "materials" in kept else [])]
+        result = remesh(old, program=program, floor=self.floor, subdivide=self.subdivide, relax=self.relax, keep=kinds,
+                        sharp=math.degrees(self.angle) if "angle" in kept else None, corners=self.corners,
+                        coarse=self.coarse and self.wish != "EDGE",
                         mirror=None if self.mirror == "NONE" else self.mirror.lower(), **wish)
         painted = paint(result.parts, result.written, program)
         lost = meshes.lost_with(source.data)
         new = meshes.made(source.data, result, painted, factor)
+        meshes.mark_kept(source.data, new, result.mesh.lines)
         if self.seams:
             meshes.mark_seams(new, borders(result.mesh, painted.of_all(result.mesh)))
         meshes.put(context, source, new, self.replace)
-        report = result.report
+        report = result.report.times(1 / factor)
         self.report({"INFO"}, f"{source.name}: faces {report.before.faces} -> {report.after.faces}, "
-                    f"parts checked {report.parts}, greatest distance {report.greatest_distance / factor:.3g}")
+                    f"parts {'checked ' if report.is_checked else ''}{report.parts}, "
+                    f"greatest distance {report.greatest_distance:.3g}")
         for warning in report.warnings:
             self.report({"WARNING"}, f"{source.name}: {warning}")
         if lost:

@@ -10,6 +10,12 @@ from .quadq import Mesh, Names
 SIZE = 1024.0
 """About how large a mesh is made for the program, which rounds to millionths."""
 MATERIAL, SMOOTH = "usemtl", "s"
+EDGES = ("sharp", "seams", "creases")
+"""The kinds of marked edges."""
+NEAR = 0.25
+"""A part of the length of a new edge: an old edge so near its middle is the one whose place it keeps."""
+AT_A_TIME = 1 << 20
+"""How many pairs of edges are compared together: it bounds the memory."""
 
 
 def column(items, name, dtype, width=1):
@@ -19,8 +25,9 @@ def column(items, name, dtype, width=1):
     return values if width == 1 else values.reshape(-1, width)
 
 
-def taken(data):
-    """The package's mesh of one of Blender's, and the factor by which it is larger."""
+def taken(data, kept=()):
+    """The package's mesh of one of Blender's, with the marked edges of these kinds as lines, and the factor by which it
+    is larger."""
     points = column(data.vertices, "co", np.float32, 3).astype(float)
     size = float(np.abs(points).max(initial=0.0))
     factor = 2.0 ** round(math.log2(SIZE / size)) if size > 0 else 1.0
@@ -31,7 +38,29 @@ def taken(data):
     corners = column(data.loops, "vertex_index", np.int32).astype(np.int64)[loops]
     groups = {MATERIAL: _numbers(column(data.polygons, "material_index", np.int32)),
               SMOOTH: _numbers(column(data.polygons, "use_smooth", bool))}
-    return Mesh(points * factor, corners, starts, groups=groups), factor
+    marked = np.zeros(len(data.edges), dtype=bool)
+    for kind in set(kept) & set(EDGES):
+        marked |= edge_marks(data, kind) > 0
+    lines = tuple(ends_of(data)[marked])
+    return Mesh(points * factor, corners, starts, groups=groups, lines=lines), factor
+
+
+def ends_of(data):
+    """(edges, 2) int64: the vertices of edges."""
+    return column(data.edges, "vertices", np.int32, 2).astype(np.int64)
+
+
+def edge_marks(data, kind):
+    """(edges,) float: how strongly each edge is marked so, from 0 to 1."""
+    if kind != "creases":
+        name = {"sharp": "use_edge_sharp", "seams": "use_seam"}[kind]
+        return column(data.edges, name, bool).astype(float)
+    attribute = data.attributes.get("crease_edge")
+    if attribute is not None:
+        return column(attribute.data, "value", np.float32).astype(float)
+    # Blender before 4.0 keeps creases with the edges themselves, where edges have them.
+    return column(data.edges, "crease", np.float32).astype(float) if hasattr(bpy.types.MeshEdge, "crease") else (
+        np.zeros(len(data.edges)))
 
 
 def _numbers(values):
@@ -54,10 +83,57 @@ def made(source, result, painted, factor):
     return data
 
 
+def mark_kept(source, data, lines):
+    """Marks the edges of lines as those edges of the source are marked whose places they keep."""
+    kept = {tuple(sorted(edge)) for line in lines for edge in zip(line.tolist(), line.tolist()[1:])}
+    marks = {kind: edge_marks(source, kind) for kind in EDGES}
+    marked = np.flatnonzero(sum(marks.values()) > 0)
+    if not kept or not len(marked):
+        return
+    chosen = np.array([at for at, edge in enumerate(data.edge_keys) if edge in kept])
+    new = segments_of(data)[chosen]
+    at, far = nearest_edges(new.mean(axis=1), segments_of(source)[marked])
+    near = far <= NEAR * np.linalg.norm(new[:, 1] - new[:, 0], axis=1)
+    for kind, values in marks.items():
+        put_marks(data, kind, chosen[near], values[marked][at[near]])
+
+
+def segments_of(data):
+    """(edges, 2, 3): the ends of edges."""
+    return column(data.vertices, "co", np.float32, 3)[ends_of(data)]
+
+
+def put_marks(data, kind, edges, values):
+    """Marks these edges as strongly as these values say."""
+    all_values = np.zeros(len(data.edges), dtype=np.float32)
+    all_values[edges] = values
+    if kind != "creases":
+        data.edges.foreach_set({"sharp": "use_edge_sharp", "seams": "use_seam"}[kind], (all_values > 0).tolist())
+    elif all_values.any() and hasattr(bpy.types.MeshEdge, "crease"):
+        data.use_customdata_edge_crease = True
+        data.edges.foreach_set("crease", all_values)
+    elif all_values.any():
+        data.attributes.new("crease_edge", "FLOAT", "EDGE").data.foreach_set("value", all_values)
+
+
+def nearest_edges(places, edges):
+    """For each of (places, 3) the nearest of the edges (edges, 2, 3), and how far it is."""
+    start, along = edges[:, 0], edges[:, 1] - edges[:, 0]
+    square = np.maximum(np.einsum("ei,ei->e", along, along), 1e-30)
+    found, far = [], []
+    for some in np.array_split(places, -(-len(places) * len(edges) // AT_A_TIME)):
+        part = np.clip(np.einsum("pei,ei->pe", some[:, None] - start, along) / square, 0, 1)
+        distances = np.linalg.norm(some[:, None] - start - part[:, :, None] * along, axis=2)
+        found.append(distances.argmin(axis=1))
+        far.append(distances.min(axis=1))
+    return np.concatenate(found), np.concatenate(far)
+
+
 def mark_seams(data, edges):
-    """Marks edges, given as pairs of points, as seams."""
+    """Marks edges, given as pairs of points, as seams, and leaves the others as they are."""
     wanted = set(map(tuple, edges.tolist()))
-    data.edges.foreach_set("use_seam", [tuple(sorted(it)) in wanted for it in data.edge_keys])
+    chosen = [tuple(sorted(it)) in wanted for it in data.edge_keys]
+    data.edges.foreach_set("use_seam", (column(data.edges, "use_seam", bool) | chosen).tolist())
 
 
 def lost_with(data):

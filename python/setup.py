@@ -1,4 +1,4 @@
-"""Builds the package with the proved program and the script that marks features inside it."""
+"""Builds the package with the proved program and the scripts that it carries inside it."""
 
 import os
 import pathlib
@@ -8,7 +8,7 @@ from setuptools import setup
 from setuptools.command.build_py import build_py
 
 ROOT = pathlib.Path(__file__).resolve().parent.parent
-CARRIED = {"dist/quadq": "bin/quadq", "tools/mark_features.py": "mark_features.py"}
+CARRIED = {"dist/quadq": "bin/quadq", **{f"tools/{it}.py": f"{it}.py" for it in ("mark_features", "cuts")}}
 
 
 class BuildWithProgram(build_py):

@@ -10,37 +10,44 @@ from pathlib import Path
 from typing import Optional, Sequence
 
 from .batch import READ_FAULT, WRITE_FAULT, Done, inputs_of, one_file, run_batch, summary_of, table_of
+from .features import KINDS
 from .files import write_whole
 from .program import Program
 from .progress import Progress
 from .refusal import Refusal
-from .remeshing import Settings
+from .remeshing import Settings, as_length
 from .report import refused_page, result_page
 
 USAGE = 2
-NOT_YET = {"sharp": "crease", "coarse": "coarse", "edge": "size", "carry": "map"}
+NOT_YET = {"carry": "map"}
 """Options that wait for a command of the program."""
 
 
 def parser_of_words() -> argparse.ArgumentParser:
     parser = argparse.ArgumentParser(
         prog="quadq", description="Remeshes quad meshes with the proved program quadq, and checks each part.",
-        usage="quadq IN.obj OUT.obj (--scale P/Q | --faces N) [..]\n       quadq FILES.. --out FOLDER (..) [..]")
+        usage="quadq IN.obj OUT.obj (--scale P/Q | --faces N | --edge D) [..]\n"
+              "       quadq FILES.. --out FOLDER (..) [..]")
     parser.add_argument("paths", nargs="+", metavar="FILE", help="IN and OUT; with --out files, patterns and folders")
     wish = parser.add_mutually_exclusive_group(required=True)
     wish.add_argument("--scale", type=Fraction, metavar="P/Q", help="how long edges of patches are to be, of the old")
     wish.add_argument("--faces", type=int, metavar="N", help="how many faces the mesh is to have")
-    wish.add_argument("--edge", metavar="D", help="how long edges are to be; needs the command `size`")
+    wish.add_argument("--edge", metavar="D", help="how long edges are to be, in the unit of the file")
     parser.add_argument("--floor", default="auto", choices=["1", "2", "3", "auto"], help="the least length of an arc")
     parser.add_argument("--weight", default="plain", choices=["plain", "length"], help="how deviations count")
+    stay = parser.add_argument_group("edges that stay lines of the new mesh")
+    stay.add_argument("--sharp", type=float, metavar="DEGREES", help="where faces meet at more than this")
+    for kind, meaning in KINDS.items():
+        stay.add_argument(f"--{kind}", dest="keep_edges", action="append_const", const=kind, help=meaning)
+    stay.add_argument("--no-corners", dest="corners", action="store_false",
+                      help="leave out the edges that keep corners of the boundary and of these lines")
+    parser.add_argument("--coarse", action="store_true", help="merge patches where they have a whole side in common")
     parser.add_argument("--subdivide", action="store_true", help="divide all faces into quads first")
     parser.add_argument("--mirror", choices=["x", "y", "z"], help="remesh the half above 0, and mirror it")
     parser.add_argument("--relax", type=int, default=0, metavar="N", help="move points so many times along the surface")
     parser.add_argument("--keep", type=Path, metavar="FOLDER", help="keep the old and new text of each part there")
     parser.add_argument("--report", type=Path, metavar="FILE.html", help="a page with pictures of both meshes")
     parser.add_argument("--up", choices=["y", "z"], default="y", help="the axis that points upward in pictures")
-    parser.add_argument("--sharp", metavar="DEGREES", help="keep sharp edges; needs the command `crease`")
-    parser.add_argument("--coarse", action="store_true", help="merge patches; needs the command `coarse`")
     parser.add_argument("--carry", action="store_true", help="carry attributes over; needs the command `map`")
     parser.add_argument("--out", type=Path, metavar="FOLDER", help="where the remeshed files go, by the same names")
     parser.add_argument("--table", type=Path, metavar="FILE.csv", help="a table of all files")
@@ -55,10 +62,8 @@ def main(words: Optional[Sequence[str]] = None) -> int:
     asked = parser.parse_args(words)
     try:
         program = Program()
-        refuse_missing(asked, program)
-        settings = Settings(
-            asked.scale, asked.faces, asked.floor, asked.weight, asked.subdivide, asked.mirror, asked.relax, asked.jobs,
-            asked.keep)
+        settings = settings_of(asked)
+        refuse_missing(asked, settings, program)
         if asked.out is None and len(asked.paths) != 2:
             raise ValueError("two files are needed, IN and OUT, or --out FOLDER")
         if asked.out is not None and asked.report is not None:
@@ -69,13 +74,24 @@ def main(words: Optional[Sequence[str]] = None) -> int:
         return USAGE
 
 
-def refuse_missing(asked: argparse.Namespace, program: Program) -> None:
+def settings_of(asked: argparse.Namespace) -> Settings:
+    """What the words of a command line ask. Raises a `ValueError` for what does not go together."""
+    return Settings(
+        scale=asked.scale, faces=asked.faces, edge=None if asked.edge is None else as_length(asked.edge),
+        floor=asked.floor, weight=asked.weight, sharp=asked.sharp, keep=tuple(asked.keep_edges or ()),
+        corners=asked.corners, coarse=asked.coarse, subdivide=asked.subdivide, mirror=asked.mirror, relax=asked.relax,
+        jobs=asked.jobs, folder=asked.keep)
+
+
+def refuse_missing(asked: argparse.Namespace, settings: Settings, program: Program) -> None:
     """Raises a `ValueError` for an option that waits for a command."""
+    known = program.commands()
     for option, command in NOT_YET.items():
         if getattr(asked, option):
-            known = command in program.commands()
-            lack = "this package does not use yet" if known else "this program does not have"
+            lack = "this package does not use yet" if command in known else "this program does not have"
             raise ValueError(f"--{option} needs the command `{command}`, which {lack}")
+    if settings.command not in known:
+        raise ValueError(f"this needs the command `{settings.command}`, which this program does not have")
 
 
 def _single(asked: argparse.Namespace, settings: Settings, program: Program) -> int:

@@ -22,7 +22,8 @@ from .results import Report, Result
 READ_FAULT, WRITE_FAULT = 12, 13
 """The program's statuses for a file that cannot be read, and one that cannot be written."""
 COLUMNS = (
-    "file", "status", "faces before", "faces after", "scale", "parts", "arcs", "arcs at the floor", "deviation",
+    "file", "status", "faces before", "faces after", "command", "scale", "edge", "parts", "arcs", "arcs at the floor",
+    "deviation",
     "inverted before", "inverted after", "least scaled Jacobian before", "least scaled Jacobian after",
     "greatest distance", "seconds", "said",
 )
@@ -42,11 +43,12 @@ class Done:
     def row(self) -> list[str]:
         report = self.report
         if report is None:
-            return [str(self.path), str(self.status), *[""] * 12, f"{self.seconds:.2f}", self.said]
+            return [str(self.path), str(self.status), *[""] * (len(COLUMNS) - 4), f"{self.seconds:.2f}", self.said]
         before, after = report.before, report.after
         return [
-            str(self.path), str(self.status), str(before.faces), str(after.faces), str(report.scale),
-            str(report.parts), str(report.arcs), str(report.arcs_at_floor), str(report.deviation),
+            str(self.path), str(self.status), str(before.faces), str(after.faces), report.command,
+            *("" if it is None else str(it) for it in (report.scale, report.edge)), str(report.parts),
+            str(report.arcs), str(report.arcs_at_floor), "" if report.deviation is None else str(report.deviation),
             str(before.quality.inverted), str(after.quality.inverted),
             f"{before.quality.least:.4f}", f"{after.quality.least:.4f}", f"{report.greatest_distance:.6g}",
             f"{self.seconds:.2f}", "; ".join(report.warnings),

@@ -111,7 +111,8 @@ class Mesh:
 
 
 def join(meshes: Sequence[Mesh]) -> Mesh:
-    """Meshes side by side: their points and faces in turn, with the names that group them, and no other attribute."""
+    """Meshes side by side: their points, faces and lines in turn, with the names that group them, and no other
+    attribute."""
     if len(meshes) == 1:
         return meshes[0]
     shifts = np.cumsum([0, *(len(it.points) for it in meshes)])
@@ -121,6 +122,7 @@ def join(meshes: Sequence[Mesh]) -> Mesh:
         np.concatenate([np.zeros(0, dtype=np.int64), *(it.corners + shift for it, shift in zip(meshes, shifts))]),
         np.concatenate([[0], np.cumsum(sides)]),
         groups=_joined_groups(meshes),
+        lines=tuple(line + shift for it, shift in zip(meshes, shifts) for line in it.lines),
         libraries=tuple(dict.fromkeys(name for it in meshes for name in it.libraries)),
     )
 

@@ -49,5 +49,6 @@ def with_image(mesh: Mesh, axis: int) -> Mesh:
     return replace(
         whole,
         groups={word: Names(it.names, np.tile(it.of_face, 2)) for word, it in mesh.groups.items()},
+        lines=mesh.lines + tuple(image[line] for line in mesh.lines if not np.all(sewn[line])),
         libraries=mesh.libraries,
     )

@@ -4,7 +4,7 @@ from __future__ import annotations
 
 import re
 from concurrent.futures import ThreadPoolExecutor
-from dataclasses import dataclass, replace
+from dataclasses import dataclass, field, replace
 from pathlib import Path
 from typing import Callable, Optional
 
@@ -14,10 +14,13 @@ from .mesh import Mesh, Names, join
 from .obj import plain_text, read_obj
 from .program import Program, Verdict, Wish
 from .refusal import Refusal
-from .surface import part_of_face
+from .surface import edges_of, part_of_face
 
 Tell = Callable[[int], None]
 """Is told how many parts are done."""
+NO_MARKS = np.zeros((0, 2), dtype=np.int64)
+HEAD = re.compile(rb"#quadq 1 (?:(\w+) scale \S+|size edge \S+) floor (\S+)")
+"""The head line of a text that the program wrote, with its command, if that is not `size`, and its floor."""
 
 
 @dataclass(frozen=True)
@@ -26,11 +29,13 @@ class Part:
 
     mesh: Mesh
     text: bytes
-    """Its points and faces, as the program reads them."""
+    """Its points and faces, and a line for each mark, as the program reads them."""
     faces: np.ndarray
     """The numbers of its faces in the whole mesh."""
     points: np.ndarray
     """The numbers of its points there."""
+    marks: np.ndarray = field(default_factory=lambda: NO_MARKS)
+    """(marks, 2) int64: the edges that are to stay, as pairs of its own points."""
 
     def refusal(self, said: Refusal) -> Refusal:
         """What the program said of this part, with the places of the whole mesh."""
@@ -47,6 +52,7 @@ class Written:
     """(arcs,) int64: the new length of each arc."""
     floor: int
     """The least length that these arcs could have: with the floor `auto`, the one that it chose."""
+    command: str = "remesh"
 
     def mesh(self) -> Mesh:
         """What is written."""
@@ -57,19 +63,33 @@ class Written:
         return int(np.sum(self.lengths == self.floor))
 
 
-def split(mesh: Mesh, text: Optional[bytes] = None) -> list[Part]:
+def split(mesh: Mesh, text: Optional[bytes] = None, marks: np.ndarray = NO_MARKS) -> list[Part]:
     """The connected parts of a mesh, in the order of their first faces. `text` has the mesh's points and faces, if it
-    is at hand: where there is one part alone, that text is its."""
+    is at hand: where there is one part alone, that text is its. `marks` (marks, 2) are edges that are to stay, as pairs
+    of points, where there is no text."""
     part_of = part_of_face(mesh)
     count = int(part_of.max(initial=-1)) + 1
-    if count == 1 and text is not None:
-        return [Part(mesh, text, np.arange(mesh.face_count), np.arange(len(mesh.points)))]
+    if count == 1:
+        whole = Part(mesh, text or b"", np.arange(mesh.face_count), np.arange(len(mesh.points)))
+        return [_with_text(whole, marks) if text is None else whole]
     parts = []
     by_part = np.argsort(part_of, kind="stable")
     for faces in np.split(by_part, np.cumsum(np.bincount(part_of, minlength=count))[:-1]) if count else []:
         one, points = mesh.faces_of(faces)
-        parts.append(Part(one, plain_text(one), faces, points))
+        parts.append(_with_text(Part(one, b"", faces, points), marks))
     return parts
+
+
+def _with_text(part: Part, marks: np.ndarray) -> Part:
+    """A part with its text, and with those marks of the whole mesh that are edges of it."""
+    if not len(marks):
+        return replace(part, text=plain_text(part.mesh))
+    at = np.minimum(np.searchsorted(part.points, marks), len(part.points) - 1)
+    own = np.sort(at[np.all(part.points[at] == marks, axis=1)], axis=1)
+    count = len(part.mesh.points)
+    own = own[np.isin(own[:, 0] * count + own[:, 1], edges_of(part.mesh).ends @ [count, 1])]
+    lines = "".join("l %d %d\n" % tuple(it) for it in (own + 1).tolist())
+    return replace(part, text=plain_text(part.mesh) + lines.encode(), marks=own)
 
 
 class Workshop:
@@ -101,24 +121,24 @@ class Workshop:
         """What `remesh` writes for each part. It is not checked yet."""
         return self.each(parts, lambda part: self.program.remesh(part.text, wish))
 
-    def check(self, parts: list[Part], texts: list[bytes]) -> list[Written]:
-        """Each text, accepted by `check` behind the part that it was made of."""
+    def judge(self, parts: list[Part], texts: list[bytes], wish: Wish) -> list[Written]:
+        """Each text with what was found of it, behind the part that it was made of."""
         text_of = {id(part): text for part, text in zip(parts, texts)}
-        return self.each(parts, lambda part: self._checked(part, text_of[id(part)]))
+        return self.each(parts, lambda part: self._judged(part, text_of[id(part)], wish))
 
-    def _checked(self, part: Part, text: bytes) -> Written:
-        verdict = self.program.check(part.text, text)
+    def _judged(self, part: Part, text: bytes, wish: Wish) -> Written:
+        verdict = self.program.judge(part.text, text, wish)
         floor, lengths = certified_lengths(text)
-        return Written(text, verdict, lengths, floor)
+        return Written(text, verdict, lengths, floor, wish.command)
 
 
 def certified_lengths(text: bytes) -> tuple[int, np.ndarray]:
     """The floor and the lengths of the arcs, as the last certificate of a written text has them."""
-    head = re.match(rb"#quadq 1 remesh scale \S+ floor (\S+) weight", text)
+    head = HEAD.match(text)
     if head is None:
-        raise ValueError("this is no text that `remesh` wrote")
+        raise ValueError("this is no text that quadq wrote")
     named = text.rfind(b"\n#f ")
-    floor = head[1] if head[1] != b"auto" else text[named:named + 10].split()[1]
+    floor = head[2] if head[2] != b"auto" else text[named:named + 10].split()[1]
     lengths = re.findall(rb"^#x (\d+)$", text[max(named, 0):], re.M)
     return int(floor), np.array(lengths, dtype=np.int64)
 

@@ -3,10 +3,11 @@
 from __future__ import annotations
 
 from dataclasses import dataclass
-from typing import Sequence
+from typing import Any, Callable, Sequence
 
 import numpy as np
 
+from .carried import carried
 from .mesh import Mesh
 from .parts import Part, Written
 from .program import Program
@@ -39,12 +40,47 @@ def paint(parts: Sequence[Part], written: Sequence[Written], program: Program) -
     none = np.zeros(0, dtype=np.int64)
     old, new, count = [none], [none], 0
     for part, it in zip(parts, written):
-        graph = program.graph(part.text)
-        of_face = old_patches(part.mesh, graph)
-        old.append(count + of_face)
-        new.append(count + new_patches(graph, it.lengths))
-        count += int(of_face.max(initial=-1)) + 1
+        patches = patches_under(part, it, program)
+        old.append(count + patches.of_old)
+        new.append(count + np.repeat(np.arange(len(patches.sizes)), patches.sizes))
+        count += len(patches.sizes)
     return Painted(np.concatenate(old), np.concatenate(new))
+
+
+@dataclass(frozen=True)
+class Patches:
+    """The patches over which a part was remeshed. The program writes its faces patch by patch."""
+
+    of_old: np.ndarray
+    """(faces,) int64: the patch of each face of the part. Patches count from 0, in the order of their first faces."""
+    sizes: np.ndarray
+    """(patches,) int64: how many new faces each has."""
+    nodes: int
+    """How many ends of arcs there are: they are the first points that the program writes."""
+
+
+def patches_under(part: Part, written: Written, program: Program) -> Patches:
+    """The patches of a part: those of its graph; of the cut beside its marks after `crease`; merged after `coarse`."""
+    if written.command == "crease":
+        return _patches_of_cut(part, part.marks, written, lambda cut: cut.trace())
+    graph = program.graph(part.text)
+    if written.command == "coarse":
+        edges = edges_of(part.mesh)
+        graph_edges = edges.ends[np.union1d(_ridden(part.mesh, edges, graph), np.flatnonzero(edges.uses == 1))]
+        return _patches_of_cut(part, graph_edges, written, lambda cut: cut.merge())
+    return Patches(old_patches(part.mesh, graph), new_sizes(graph, written.lengths), node_count(graph))
+
+
+def _patches_of_cut(part: Part, edges: np.ndarray, written: Written, change: Callable[[Any], None]) -> Patches:
+    """The patches of a cut that begins as some edges (edges, 2) and is changed. Slow: a minute for a million faces."""
+    cuts = carried("cuts")
+    faces = part.mesh.quads.tolist()
+    cut = cuts.Cut(faces, set(map(tuple, edges.tolist())))
+    change(cut)
+    of_face, _ = cuts.patches_of(faces, cut.edges())
+    sizes = np.array(cuts.sizes_of(cut, of_face, written.lengths.tolist()), dtype=np.int64).reshape(-1, 2)
+    ends = {end for arc in cut.arcs()[1] for end in (cut.ends(arc[0])[0], cut.ends(arc[-1])[1])}
+    return Patches(np.array(of_face, dtype=np.int64), sizes.prod(axis=1), len(ends))
 
 
 def borders(mesh: Mesh, patches: np.ndarray) -> np.ndarray:
@@ -106,20 +142,18 @@ def _twins(mesh: Mesh) -> np.ndarray:
     return _dart_of(mesh, mesh.corners[mesh.next_corners()], mesh.corners)
 
 
-def new_patches(graph: str, lengths: np.ndarray) -> np.ndarray:
-    """(faces,) int64: the patch of each face that the program writes, where arcs have these lengths: it writes the
-    faces patch by patch."""
+def new_sizes(graph: str, lengths: np.ndarray) -> np.ndarray:
+    """(patches,) int64: how many faces the program writes for each patch, where arcs have these lengths."""
     sides: dict[str, list[int]] = {"south": [], "west": []}
     for line in graph.splitlines():
         word, _, arcs = line.partition(" ")
         if word in sides:
             sides[word].append(sum(int(lengths[int(it) - 1]) for it in arcs.split()))
-    faces = np.array(sides["south"], dtype=np.int64) * np.array(sides["west"], dtype=np.int64)
-    return np.repeat(np.arange(len(faces)), faces)
+    return np.array(sides["south"], dtype=np.int64) * np.array(sides["west"], dtype=np.int64)
 
 
 def node_count(graph: str) -> int:
-    """How many nodes the graph has: the ends of its arcs. They are the first points that the program writes."""
+    """How many nodes the graph has: the ends of its arcs."""
     ends = [line.split()[2:4] for line in graph.splitlines() if line.startswith("arc ")]
     return len({end for pair in ends for end in pair})
 

@@ -7,6 +7,7 @@ import re
 import shutil
 import subprocess
 from dataclasses import dataclass, field
+from decimal import Decimal
 from fractions import Fraction
 from pathlib import Path
 from typing import Optional, Union
@@ -17,26 +18,40 @@ LARGEST = 1000
 """The largest numerator and denominator of a scale."""
 
 
+AUTO = "auto"
+DOUBLED = 11
+"""The program's status where the new mesh would have an edge twice."""
+MOST_FACES = 1 << 20
+"""How many faces the program reads."""
+
+
 @dataclass(frozen=True)
 class Wish:
-    """What is asked of a remesh: a scale of lengths, the least length of an arc, and how deviations count."""
+    """What is asked of a remesh: the command, a scale of lengths or the length of an edge, the least length of an arc,
+    and how deviations count."""
 
     scale: Fraction = Fraction(1)
-    floor: Union[int, str] = "auto"
+    floor: Union[int, str] = AUTO
     weight: str = "plain"
+    command: str = "remesh"
+    """remesh, crease, coarse, or size, which takes an edge in place of scale and weight."""
+    edge: Optional[Decimal] = None
 
-    def words(self) -> list[str]:
+    def words(self, floor: Union[int, str]) -> list[str]:
+        if self.edge is not None:
+            return [self.command, "--edge", f"{self.edge:.6f}", "--floor", str(floor)]
         scale = f"{self.scale.numerator}/{self.scale.denominator}"
-        return ["--scale", scale, "--floor", str(self.floor), "--weight", self.weight]
+        return [self.command, "--scale", scale, "--floor", str(floor), "--weight", self.weight]
 
 
 @dataclass(frozen=True)
 class Verdict:
-    """What `check` found of a text that it accepts."""
+    """What was found of a text that a command wrote."""
 
     arcs: int
     faces: int
-    deviation: int
+    deviation: Optional[int]
+    """As `check` tells it; None where `check` does not judge the command."""
 
 
 @dataclass(frozen=True)
@@ -46,8 +61,25 @@ class Program:
     path: Path = field(default_factory=lambda: find_program())
 
     def remesh(self, text: bytes, wish: Wish) -> bytes:
-        """The mesh remeshed, with its certificate."""
-        return self._run(["remesh", *wish.words()], text)
+        """The mesh remeshed, with its certificate. The floor `auto` is 1, and 3 where that doubles an edge."""
+        if wish.floor == AUTO and wish.command != "remesh":
+            try:
+                return self._run(wish.words(1), text)
+            except Refusal as said:
+                if said.status != DOUBLED:
+                    raise
+                return self._run(wish.words(3), text)
+        return self._run(wish.words(wish.floor), text)
+
+    def judge(self, old: bytes, new: bytes, wish: Wish) -> Verdict:
+        """Judges what a command wrote for a text: with `check` where that knows the command, else by reading it again
+        as a mesh, where it is not larger than what is read."""
+        if wish.command == "remesh":
+            return self.check(old, new)
+        faces = len(re.findall(rb"^f ", new, re.M))
+        if faces <= MOST_FACES:
+            self.tidy(new)
+        return Verdict(len(re.findall(rb"^#x ", new, re.M)), faces, None)
 
     def check(self, old: bytes, new: bytes) -> Verdict:
         """Judges what `remesh` wrote for a text, anew."""

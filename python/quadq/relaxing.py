@@ -22,8 +22,8 @@ def relax(mesh: Mesh, old: Mesh, nodes: int, times: int) -> tuple[Mesh, int]:
     """The mesh relaxed so many times over the old surface, and how many moves were made.
 
     Each time each point goes to the place of the old surface nearest to the mean of its neighbours, or half way, if the
-    least scaled Jacobian of its faces does not fall by that. Points of features and of the boundary stay, and the first
-    `nodes` points.
+    least scaled Jacobian of its faces does not fall by that. Points of features, of lines and of the boundary stay, and
+    the first `nodes` points.
     """
     if not mesh.face_count:
         return mesh, 0
@@ -46,6 +46,8 @@ def _free(mesh: Mesh, edges: Edges, nodes: int) -> np.ndarray:
     free[edges.ends[edges.uses == 1]] = False
     for edge in find_features(mesh, SHARP, corners=False):
         free[list(edge)] = False
+    for line in mesh.lines:
+        free[line] = False
     return free
 
 

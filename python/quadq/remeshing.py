@@ -4,19 +4,21 @@ from __future__ import annotations
 
 import os
 from dataclasses import dataclass, replace
+from decimal import Decimal, InvalidOperation
 from fractions import Fraction
 from pathlib import Path
-from typing import Any, Callable, Optional, Union
+from typing import Any, Callable, Iterable, Optional, Union
 
 import numpy as np
 
 from . import mirror as mirroring
 from .distance import distance_between
+from .features import KINDS, find_features, in_words
 from .mesh import Mesh
 from .obj import plain_text
-from .parts import Part, Workshop, Written, keep, put_together, split
+from .parts import NO_MARKS, Part, Workshop, Written, keep, put_together, split
+from .patches import patches_under
 from .program import LARGEST, Program, Wish
-from .patches import node_count
 from .quality import quality_of
 from .refusal import Refusal
 from .relaxing import relax
@@ -29,14 +31,28 @@ Tell = Callable[[str, int, int], None]
 """Is told the step, how many things are done, and how many there are."""
 
 
+FAR = Decimal(10) ** 9
+"""Edges are shorter than this."""
+
+
 @dataclass(frozen=True)
 class Settings:
-    """How a mesh is to be remeshed. One of `scale` and `faces` is given."""
+    """How a mesh is to be remeshed. One of `scale`, `faces` and `edge` is given."""
 
     scale: Optional[Fraction] = None
     faces: Optional[int] = None
+    edge: Optional[Decimal] = None
+    """How long edges are to be, in the unit of the mesh."""
     floor: Union[int, str] = "auto"
     weight: str = "plain"
+    sharp: Optional[float] = None
+    """Edges stay whose faces meet at more than so many degrees."""
+    keep: tuple[str, ...] = ()
+    """What else tells that edges stay: some of `features.KINDS`."""
+    corners: bool = True
+    """Whether edges stay besides that keep the corners of the boundary and of such lines, where any edge stays."""
+    coarse: bool = False
+    """Whether patches are merged where they have a whole side in common."""
     subdivide: bool = False
     mirror: Optional[str] = None
     """The axis, x, y or z: the half where that coordinate is above 0 is remeshed, and mirrored."""
@@ -48,13 +64,15 @@ class Settings:
     """Where the old and new text of each part are kept."""
 
     def __post_init__(self) -> None:
-        if (self.scale is None) == (self.faces is None):
-            raise ValueError("one of scale and faces has to be given")
+        if [self.scale, self.faces, self.edge].count(None) != 2:
+            raise ValueError("one of scale, faces and edge has to be given")
         if self.faces is not None and self.faces < 1:
             raise ValueError("the number of faces has to be 1 or more")
         scale = self.scale
         if scale is not None and not (1 <= scale.numerator <= LARGEST and scale.denominator <= LARGEST):
             raise ValueError(f"the scale has to be P/Q, with whole numbers from 1 to {LARGEST}, and is {scale}")
+        if self.edge is not None and not Decimal("0.000001") <= self.edge < FAR:
+            raise ValueError(f"the length of an edge has to be from 0.000001 to below {FAR:f}, and is {self.edge}")
         if str(self.floor) not in ("1", "2", "3", "auto"):
             raise ValueError(f"the floor has to be 1, 2, 3 or auto, and is {self.floor}")
         if self.weight not in ("plain", "length"):
@@ -63,28 +81,67 @@ class Settings:
             raise ValueError("points are relaxed 0 times or more")
         if self.mirror is not None and self.mirror not in tuple(mirroring.AXES):
             raise ValueError(f"the mirror axis has to be x, y or z, and is {self.mirror}")
+        self._check_features()
 
-    def wish(self, scale: Fraction) -> Wish:
-        return Wish(scale, self.floor, self.weight)
+    def _check_features(self) -> None:
+        unknown = [it for it in self.keep if it not in KINDS]
+        if unknown:
+            raise ValueError(f"what is kept has to be of {', '.join(KINDS)}, and is {unknown[0]}")
+        if self.sharp is not None and not 0 <= self.sharp <= 180:
+            raise ValueError(f"the angle of sharp edges has to be from 0 to 180 degrees, and is {self.sharp}")
+        asked = [name for name, is_asked in (
+            ("edges that stay", self.is_creased), ("merged patches", self.coarse), ("a length of edges", self.edge)
+        ) if is_asked]
+        if len(asked) > 1:
+            raise ValueError(f"the program has no command for {' and '.join(asked)} together")
+        if self.edge is not None and self.weight != "plain":
+            raise ValueError("with a length of edges the weight is plain")
+
+    @property
+    def is_creased(self) -> bool:
+        """Whether edges stay: those at an angle, or of a kind."""
+        return self.sharp is not None or bool(self.keep)
+
+    @property
+    def command(self) -> str:
+        """The command of the program that does this."""
+        if self.edge is not None:
+            return "size"
+        return "crease" if self.is_creased else "coarse" if self.coarse else "remesh"
+
+    def wish(self, scale: Optional[Fraction]) -> Wish:
+        return Wish(Fraction(1) if scale is None else scale, self.floor, self.weight, self.command, self.edge)
 
 
 def remesh(
     mesh: Mesh,
     *,
     scale: Union[Fraction, float, str, None] = None,
+    edge: Union[Decimal, float, str, None] = None,
+    keep: Iterable[str] = (),
     program: Optional[Program] = None,
     text: Optional[bytes] = None,
     tell: Tell = lambda step, done, total: None,
     **wishes: Any,
 ) -> Result:
-    """The mesh remeshed, each part accepted by `check`.
+    """The mesh remeshed part by part. Each part was accepted by `check`, where that judges what was asked for.
 
     `scale` is how long each edge of the patches is to be, as a part of its old length; or `faces` is how many faces the
-    mesh is to have. The other wishes are those of `Settings`. `text` is the OBJ text that the mesh was read from, if it
-    is at hand: it spares writing it anew. Raises a `Refusal` that names the place, and a `ValueError` for wrong wishes.
+    mesh is to have, or `edge` how long edges are to be, in the unit of the mesh. `sharp` and `keep` tell which edges
+    stay. The other wishes are those of `Settings`. `text` is the OBJ text that the mesh was read from, if it is at
+    hand: it spares writing it anew. Raises a `Refusal` that names the place, and a `ValueError` for wrong wishes.
     """
-    settings = Settings(scale=None if scale is None else Fraction(scale).limit_denominator(10**6), **wishes)
+    settings = Settings(scale=None if scale is None else Fraction(scale).limit_denominator(10**6),
+                        edge=None if edge is None else as_length(edge), keep=tuple(keep), **wishes)
     return run(mesh, settings, Program() if program is None else program, text, tell)
+
+
+def as_length(value: Union[Decimal, float, str]) -> Decimal:
+    """A length as a decimal. Raises a `ValueError` where it is none."""
+    try:
+        return Decimal(str(value))
+    except InvalidOperation as error:
+        raise ValueError(f"the length of an edge has to be a number, and is {value}") from error
 
 
 def run(mesh: Mesh, settings: Settings, program: Program, text: Optional[bytes], tell: Tell) -> Result:
@@ -102,6 +159,8 @@ class _Work:
         self.tell = tell
         self.step = "remesh"
         self.total = 0
+        self.marks = ""
+        """How many edges stay, and why."""
         self.shop = Workshop(program, settings.jobs or os.cpu_count() or 1, self._tell_parts)
 
     def _tell_parts(self, done: int) -> None:
@@ -111,13 +170,14 @@ class _Work:
         parts = self._parts(text)
         self.total = len(parts)
         reached = self._scale(parts)
+        wish = self.settings.wish(reached.scale)
         self.step = "remesh"
-        texts = self.shop.remesh(parts, self.settings.wish(reached.scale))
+        texts = self.shop.remesh(parts, wish)
         self.step = "check"
-        written = self.shop.check(parts, texts)
+        written = self.shop.judge(parts, texts, wish)
         if self.settings.folder is not None:
             keep(self.settings.folder, parts, written)
-        meshes, moves = self._relaxed(parts, [it.mesh() for it in written])
+        meshes, moves = self._relaxed(parts, written)
         new = self._whole(put_together(parts, meshes))
         is_as_written = len(parts) == 1 and self.settings.mirror is None and not self.settings.subdivide and not moves
         report = replace(self._report(new, reached, parts, written), moves=moves)
@@ -131,10 +191,23 @@ class _Work:
         if self.settings.subdivide:
             mesh, text = subdivided(mesh), None
         _refuse_polygons(mesh)
+        marks = self._marks(mesh)
         if axis is None:
-            return split(mesh, text)
+            # The text of the file may have lines of its own, which `crease` would take as marks.
+            return split(mesh, None if self.settings.is_creased else text, marks)
         one, faces, points = mirroring.half(mesh, axis)
-        return [replace(it, faces=faces[it.faces], points=points[it.points]) for it in split(one)]
+        at = np.minimum(np.searchsorted(points, marks), max(len(points) - 1, 0))
+        parts = split(one, None, at[np.all(points[at] == marks, axis=1)])
+        return [replace(it, faces=faces[it.faces], points=points[it.points]) for it in parts]
+
+    def _marks(self, mesh: Mesh) -> np.ndarray:
+        """(marks, 2): the edges that are to stay, as pairs of points."""
+        settings = self.settings
+        if not settings.is_creased:
+            return NO_MARKS
+        found = find_features(mesh, settings.sharp, kinds=settings.keep, corners=settings.corners)
+        self.marks = in_words(found)
+        return np.array(sorted(found), dtype=np.int64).reshape(-1, 2)
 
     def _axis(self) -> Optional[int]:
         return None if self.settings.mirror is None else mirroring.AXES.index(self.settings.mirror)
@@ -144,7 +217,7 @@ class _Work:
 
     def _scale(self, parts: list[Part]) -> Reached:
         settings = self.settings
-        if settings.scale is not None:
+        if settings.faces is None:
             return Reached(settings.scale, 0, 0, "")
         self.step = "bisect"
 
@@ -152,19 +225,18 @@ class _Work:
             texts = self.shop.remesh(parts, settings.wish(scale))
             return self._halves() * sum(it.count(b"\nf ") for it in texts)
 
-        assert settings.faces is not None
         return nearest_scale(settings.faces, self._halves() * sum(it.mesh.face_count for it in parts), count_at)
 
-    def _relaxed(self, parts: list[Part], meshes: list[Mesh]) -> tuple[list[Mesh], int]:
-        """The new meshes relaxed, where that is wished, and how many moves that took."""
+    def _relaxed(self, parts: list[Part], written: list[Written]) -> tuple[list[Mesh], int]:
+        """The new meshes, relaxed where that is wished, and how many moves that took."""
         times, moves = self.settings.relax, 0
         done: list[Mesh] = []
         if not times:
-            return meshes, 0
+            return [it.mesh() for it in written], 0
         self.step = "relax"
-        for part, mesh in zip(parts, meshes):
-            nodes = node_count(self.program.graph(part.text))
-            relaxed, more = relax(mesh, part.mesh, nodes, times)
+        for part, it in zip(parts, written):
+            nodes = patches_under(part, it, self.program).nodes
+            relaxed, more = relax(it.mesh(), part.mesh, nodes, times)
             done.append(relaxed)
             self._tell_parts(len(done))
             moves += more
@@ -190,15 +262,24 @@ class _Work:
             wished=self.settings.faces,
             because=reached.because,
             scale=reached.scale,
+            edge=self.settings.edge,
+            command=self.settings.command,
+            marks=self.marks,
             floor=self.settings.floor,
             weight=self.settings.weight,
             parts=len(written),
             arcs=sum(it.verdict.arcs for it in written),
             arcs_at_floor=sum(it.arcs_at_floor for it in written),
-            deviation=sum(it.verdict.deviation for it in written),
+            deviation=_sum([it.verdict.deviation for it in written]),
             to_old=distance_between(new, _in_quads(self.mesh)),
             to_new=distance_between(_in_quads(self.mesh), new),
         )
+
+
+def _sum(deviations: list[Optional[int]]) -> Optional[int]:
+    """Of all parts together, where each is known."""
+    known = [it for it in deviations if it is not None]
+    return sum(known) if len(known) == len(deviations) else None
 
 
 def _refuse_polygons(mesh: Mesh) -> None:
@@ -213,6 +294,8 @@ def _in_quads(mesh: Mesh) -> Mesh:
 
 
 def _counts(mesh: Mesh) -> Counts:
-    quads = _in_quads(mesh)
+    quads, edges = _in_quads(mesh), edges_of(mesh)
     used = int(np.sum(np.bincount(mesh.corners, minlength=len(mesh.points)) > 0))
-    return Counts(used, mesh.face_count, irregular_counts(quads, edges_of(quads)), quality_of(quads))
+    lengths = np.linalg.norm(np.diff(mesh.points[edges.ends], axis=1), axis=2)
+    irregular = irregular_counts(quads, edges if quads is mesh else edges_of(quads))
+    return Counts(used, mesh.face_count, irregular, quality_of(quads), float(lengths.mean()) if len(lengths) else 0.0)

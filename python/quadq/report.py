@@ -9,15 +9,16 @@ from typing import Sequence
 
 import numpy as np
 
-from .features import find_features
+from .features import edges_in, find_features
 from .mesh import Mesh, join
 from .obj import FormatError, read_obj
+from .parts import NO_MARKS
 from .patches import colours_of, paint
 from .pictures import PALETTE, View, draw, draw_place, patch_look, place_look
 from .program import Program
 from .quality import scaled_jacobians
 from .refusal import Refusal
-from .results import Result
+from .results import Report, Result
 
 SIZE = (720, 620)
 MOST_FACES = 300_000
@@ -37,7 +38,7 @@ img { border: 1px solid #ddd; max-width: 100%; } .good { color: #17692f; } .warn
 """
 LEGEND = """<p>Each colour is a patch of the motorcycle graph; an old patch and the new one made of it have the same.
 <span class="swatch" style="background:#282828"></span>borders of patches
-<span class="swatch" style="background:#1446c8"></span>feature edges, where faces meet at more than 30 degrees
+<span class="swatch" style="background:#1446c8"></span>edges that stay, or else those where faces meet at more than 30°
 <span class="swatch" style="background:#f08c28"></span>scaled Jacobian below 0.2
 <span class="swatch" style="background:#d02020"></span>inverted faces</p>"""
 
@@ -47,8 +48,8 @@ def result_page(title: str, result: Result, program: Program, up: str = "y") -> 
     report = result.report
     before, after = _pictures(result, program, up)
     body = [
-        f'<p class="good">{_parts_in_words(report.parts)} accepted by <code>quadq check</code>: no whole lengths are '
-        "nearer to what was asked for, and the shape is as it was.</p>",
+        f'<p class="good">{_parts_in_words(report)}: no whole lengths are nearer to what was asked for, and the shape '
+        "is as it was.</p>",
         *(f'<p class="warning">{escape(it)}</p>' for it in report.warnings),
         '<div class="pair">',
         _figure(before, f"before: {report.before.faces} faces"),
@@ -95,20 +96,26 @@ def _pictures(result: Result, program: Program, up: str) -> tuple[bytes, bytes]:
     tints = colours_of(old, painted.of_old, len(PALETTE))
     view = View.of(new.points, up)
     frame = np.concatenate([old.points, new.points])
+    shifts = np.cumsum([0, *(len(it.mesh.points) for it in result.parts)])
+    stay = np.concatenate([NO_MARKS, *(it.marks + shift for it, shift in zip(result.parts, shifts))])
     return (
-        draw(old, patch_look(old, painted.of_old, tints, *_marks(old)), view, SIZE, frame),
-        draw(new, patch_look(new, painted.of_all(new), tints, *_marks(new)), view, SIZE, frame),
+        draw(old, patch_look(old, painted.of_old, tints, *_marks(old, stay)), view, SIZE, frame),
+        draw(new, patch_look(new, painted.of_all(new), tints, *_marks(new, edges_in(new.lines))), view, SIZE, frame),
     )
 
 
-def _marks(mesh: Mesh) -> tuple[np.ndarray, np.ndarray]:
-    """The scaled Jacobians of faces, and the feature edges."""
-    found = find_features(mesh, corners=False) if mesh.face_count <= MOST_FACES else {}
-    return scaled_jacobians(mesh), np.array(sorted(found), dtype=np.int64).reshape(-1, 2)
+def _marks(mesh: Mesh, stay: np.ndarray) -> tuple[np.ndarray, np.ndarray]:
+    """The scaled Jacobians of faces, and the feature edges: those that stay, if any do, or else those by angle."""
+    is_small = mesh.face_count <= MOST_FACES and not len(stay)
+    found = find_features(mesh, corners=False) if is_small else {}
+    return scaled_jacobians(mesh), np.concatenate([stay, np.array(sorted(found), dtype=np.int64).reshape(-1, 2)])
 
 
-def _parts_in_words(count: int) -> str:
-    return "The new mesh was" if count == 1 else f"Each of {count} parts was"
+def _parts_in_words(report: Report) -> str:
+    subject = "The new mesh was" if report.parts == 1 else f"Each of {report.parts} parts was"
+    if report.is_checked:
+        return f"{subject} accepted by <code>quadq check</code>"
+    return f"{subject} written by <code>quadq {report.command}</code>, which is proved, and read again as a mesh"
 
 
 def _part_table(result: Result) -> list[str]:
@@ -117,7 +124,7 @@ def _part_table(result: Result) -> list[str]:
         return []
     rows = [
         (str(number), str(part.mesh.face_count), str(it.verdict.faces), str(it.floor), str(it.verdict.arcs),
-         str(it.arcs_at_floor), str(it.verdict.deviation))
+         str(it.arcs_at_floor), "" if it.verdict.deviation is None else str(it.verdict.deviation))
         for number, (part, it) in enumerate(zip(result.parts, result.written), 1)
     ]
     head = ("part", "faces before", "after", "floor", "arcs", "arcs at the floor", "deviation")

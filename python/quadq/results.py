@@ -2,7 +2,8 @@
 
 from __future__ import annotations
 
-from dataclasses import dataclass
+from dataclasses import dataclass, replace
+from decimal import Decimal
 from fractions import Fraction
 from typing import Optional, Union
 
@@ -13,6 +14,8 @@ from .quality import Quality
 
 UNCHANGED = 0.05
 """A part of the faces: where no more came or went, the mesh is about as it was."""
+UNLIKE = 0.2
+"""A part of the wished length of edges: where their mean is off by more, it is said."""
 
 
 @dataclass(frozen=True)
@@ -25,6 +28,8 @@ class Counts:
     """Points inside with another number of faces than four, and on the boundary with another than two; of polygons
     they are counted once these are divided into quads."""
     quality: Quality
+    mean_edge: float
+    """The mean length of its edges, in the unit of the mesh."""
 
 
 @dataclass(frozen=True)
@@ -39,14 +44,22 @@ class Report:
     """The number of faces that was asked for, if it was."""
     because: str
     """Why it came no nearer to that number, or nothing."""
-    scale: Fraction
+    scale: Optional[Fraction]
+    """None where edges of one length were asked for."""
+    edge: Optional[Decimal]
+    """The length of edges that was asked for, if it was."""
+    command: str
+    """The command of the program that wrote the parts."""
+    marks: str
+    """How many edges were marked to stay, and why, or nothing."""
     floor: Union[int, str]
     weight: str
     parts: int
     arcs: int
     arcs_at_floor: int
-    deviation: int
-    """The sum over all parts: in each it is the least that there is, as `check` has found."""
+    deviation: Optional[int]
+    """The sum over all parts: in each it is the least that there is, as `check` has found. None where `check` does not
+    judge the command."""
     to_old: Distance
     """From the new mesh to the old surface."""
     to_new: Distance
@@ -55,9 +68,25 @@ class Report:
     """How often a point was moved: where it is not 0, the certificates hold for the counts, not for the places."""
 
     @property
+    def is_checked(self) -> bool:
+        """Whether `check` judges what was asked for. If not, each part was read again as a mesh."""
+        return self.command == "remesh"
+
+    @property
     def greatest_distance(self) -> float:
         """From either mesh to the surface of the other."""
         return max(self.to_old.greatest, self.to_new.greatest)
+
+    def times(self, factor: float) -> Report:
+        """The same where lengths are so many times as long: in another unit."""
+
+        def longer(it: Distance) -> Distance:
+            return replace(it, mean=it.mean * factor, greatest=it.greatest * factor)
+
+        before, after = (replace(it, mean_edge=it.mean_edge * factor) for it in (self.before, self.after))
+        edge = None if self.edge is None else self.edge * Decimal(factor)
+        return replace(
+            self, before=before, after=after, edge=edge, to_old=longer(self.to_old), to_new=longer(self.to_new))
 
     @property
     def warnings(self) -> tuple[str, ...]:
@@ -65,11 +94,15 @@ class Report:
         said = []
         if self.wished is not None and self.because:
             said.append(f"{after.faces} faces in place of {self.wished}: {self.because}")
-        if self.scale < 1 and after.faces > self.ready:
-            said.append(f"the mesh has more faces than before, at scale {self.scale}: arcs are as short as the floor")
-        elif self.scale != 1 and abs(after.faces - self.ready) <= UNCHANGED * self.ready:
+        scale = self.scale
+        if scale is not None and scale < 1 and after.faces > self.ready:
+            said.append(f"the mesh has more faces than before, at scale {scale}: arcs are as short as the floor")
+        elif scale not in (None, 1) and abs(after.faces - self.ready) <= UNCHANGED * self.ready:
             said.append("the mesh is about as it was: its patches are hardly larger than a face, as in voxels and in "
                         "quads made of triangles")
+        if self.edge is not None and abs(after.mean_edge / float(self.edge) - 1) > UNLIKE:
+            said.append(f"edges are {after.mean_edge:.4g} long on average, and not {float(self.edge):.4g}: opposite "
+                        "sides of a patch have as many, and none has fewer than the floor")
         if after.quality.inverted > before.quality.inverted:
             said.append(f"inverted faces: {after.quality.inverted}, and {before.quality.inverted} before")
         if before.irregular != after.irregular:
@@ -84,6 +117,7 @@ class Report:
         return [
             ("faces", str(before.faces), str(after.faces)),
             ("points", str(before.points), str(after.points)),
+            ("mean length of edges", f"{before.mean_edge:.6g}", f"{after.mean_edge:.6g}"),
             ("irregular points inside", str(before.irregular[0]), str(after.irregular[0])),
             ("irregular points on the boundary", str(before.irregular[1]), str(after.irregular[1])),
             ("inverted faces", str(before.quality.inverted), str(after.quality.inverted)),
@@ -95,24 +129,30 @@ class Report:
 
     def facts(self) -> list[tuple[str, str]]:
         """What was asked and done, as labels and values."""
-        told = [
-            ("scale", f"{self.scale.numerator}/{self.scale.denominator}"),
+        told: list[tuple[str, Optional[str]]] = [
+            ("wished faces", None if self.wished is None else str(self.wished)),
+            ("wished length of edges", None if self.edge is None else f"{self.edge:f}"),
+            ("scale", None if self.scale is None else f"{self.scale.numerator}/{self.scale.denominator}"),
+            ("command", self.command if self.command != "remesh" else None),
+            ("edges that stay", self.marks or None),
             ("floor", str(self.floor)),
-            ("weight", self.weight),
-            ("parts, each checked", str(self.parts)),
+            ("weight", self.weight if self.edge is None else None),
+            ("parts, each checked" if self.is_checked else "parts", str(self.parts)),
             ("arcs", str(self.arcs)),
             ("arcs at the floor", str(self.arcs_at_floor)),
-            ("deviation, least in each part", str(self.deviation)),
-            *([("moves of points", str(self.moves))] if self.moves else []),
+            ("deviation, least in each part", None if self.deviation is None else str(self.deviation)),
+            ("moves of points", str(self.moves) if self.moves else None),
         ]
-        return [*([("wished faces", str(self.wished))] if self.wished is not None else []), *told]
+        return [(label, value) for label, value in told if value is not None]
 
     def summary(self) -> str:
         """One line."""
         quality = self.after.quality
-        return (f"faces {self.before.faces} -> {self.after.faces}, scale {self.scale}, parts {self.parts} checked, "
-                f"deviation {self.deviation}, least scaled Jacobian {quality.least:.3f}, "
-                f"distance {self.greatest_distance:.3g}")
+        wish = f"scale {self.scale}" if self.edge is None else f"edges of {self.edge:f}"
+        done = f"parts {self.parts} checked, deviation {self.deviation}" if self.is_checked else (
+            f"parts {self.parts} by {self.command}")
+        return (f"faces {self.before.faces} -> {self.after.faces}, {wish}, {done}, "
+                f"least scaled Jacobian {quality.least:.3f}, distance {self.greatest_distance:.3g}")
 
 
 @dataclass(frozen=True)

@@ -28,10 +28,28 @@ def subdivide(mesh: Mesh) -> Mesh:
         Mesh.of_quads(_refined(mesh, edges, mesh.points), quads),
         texture=_refined_layer(mesh, before, mesh.texture),
         normal=_refined_layer(mesh, before, mesh.normal),
+        lines=_refined_lines(mesh, edges),
         groups={word: replace(it, of_face=it.of_face[faces]) for word, it in mesh.groups.items()},
         extra=None if mesh.extra is None else _refined(mesh, edges, mesh.extra),
         libraries=mesh.libraries,
     )
+
+
+def _refined_lines(mesh: Mesh, edges: Edges) -> tuple[np.ndarray, ...]:
+    """The `l` lines with the middles of their edges; a pair of points that is no edge parts its line in two."""
+    middles = {(one, other): len(mesh.points) + at for at, (one, other) in enumerate(edges.ends.tolist())}
+    done: list[list[int]] = []
+    for line in mesh.lines:
+        run = line[:1].tolist()
+        for one, other in zip(line.tolist(), line[1:].tolist()):
+            middle = middles.get((min(one, other), max(one, other)))
+            if middle is None:
+                done.append(run)
+                run = [other]
+            else:
+                run += [middle, other]
+        done.append(run)
+    return tuple(np.array(it, dtype=np.int64) for it in done if len(it) > 1)
 
 
 def _refined(mesh: Mesh, edges: Edges, values: np.ndarray) -> np.ndarray:

@@ -5,7 +5,7 @@ from __future__ import annotations
 import math
 from dataclasses import dataclass
 from fractions import Fraction
-from typing import Callable
+from typing import Callable, Optional
 
 from .program import LARGEST
 from .refusal import Refusal
@@ -20,7 +20,8 @@ TOO_FINE = 10
 class Reached:
     """How near a scale came."""
 
-    scale: Fraction
+    scale: Optional[Fraction]
+    """None where edges of one length are wished."""
     faces: int
     tries: int
     because: str

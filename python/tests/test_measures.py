@@ -59,6 +59,8 @@ class Measures(unittest.TestCase):
         np.testing.assert_allclose(fine.points[6], [1, 1, 0])
         np.testing.assert_allclose(fine.texture.values[fine.texture.rows] * 3, fine.points[fine.corners, :2])
         self.assertEqual(fine.groups["usemtl"].of_face.tolist(), [1, 1, 1])
+        lined = subdivide(read_obj("v 0 0 0\nv 3 0 0\nv 0 3 0\nv 9 9 9\nf 1 2 3\nl 2 1 3\nl 3 4 1\nl 1 2\n"))
+        self.assertEqual([it.tolist() for it in lined.lines], [[1, 4, 0, 5, 2], [0, 4, 1]])
         self.assertEqual(subdivide(Mesh.of_quads(np.zeros((0, 3)), np.zeros((0, 4)))).face_count, 0)
 
     def test_relaxed_points_make_nothing_worse(self):

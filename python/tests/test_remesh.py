@@ -10,7 +10,7 @@ from fractions import Fraction
 
 import numpy as np
 
-from quadq import Mesh, Program, Refusal, read_obj, remesh, write_obj
+from quadq import Mesh, Names, Program, Refusal, read_obj, remesh, write_obj
 from quadq.__main__ import main
 from quadq.mesh import join
 
@@ -70,6 +70,52 @@ class Remesh(unittest.TestCase):
         self.assertIsNone(result.text)
         self.assertIn("the mesh is relaxed", result.report.warnings[-1])
 
+    def test_edges_of_one_length(self):
+        report = remesh(grid(40, 30), edge=2.5).report
+        self.assertEqual((report.after.faces, report.after.mean_edge, report.command), (16 * 12, 2.5, "size"))
+        self.assertEqual((report.warnings, report.deviation), ((), None))
+        uneven = remesh(grid(3, 40), edge=7).report
+        self.assertIn("edges are 5.", uneven.warnings[0])
+
+    def test_sharp_edges_stay(self):
+        roof = grid(9, 9)
+        roof = Mesh(roof.points + np.abs(roof.points[:, [0]] - 4) * [[0, 0, 1]], roof.corners, roof.starts)
+        ridge = {(4.0, float(y)) for y in range(10)}
+        result = remesh(roof, scale="1/3", sharp=30)
+        line = {tuple(result.mesh.points[it][:2]) for line in result.mesh.lines for it in line.tolist()}
+        self.assertEqual({x for x, _ in line}, {4.0})
+        self.assertLessEqual(line, ridge)
+        self.assertLess(result.report.greatest_distance, 1e-6)
+        self.assertGreater(remesh(roof, scale="1/3").report.greatest_distance, 0.1)
+        self.assertEqual((result.report.command, result.report.marks), ("crease", "9 edges: 9 by angle"))
+
+    def test_borders_of_materials_and_lines_stay_in_each_part(self):
+        half = grid(8, 4)
+        names = Names(("oak", "ash"), (half.points[half.quads].mean(axis=1)[:, 0] > 3).astype(np.int64))
+        pair = join([Mesh(half.points, half.corners, half.starts, groups={"usemtl": names}), moved(read(CUBE), 30)])
+        result = remesh(pair, scale="1/2", keep=["materials"])
+        self.assertEqual([len(it.marks) for it in result.parts], [4, 0])
+        self.assertEqual({it[0] for line in result.mesh.lines for it in result.mesh.points[line].tolist()}, {3.0})
+        again = remesh(result.mesh, scale=1, keep=["lines"])
+        self.assertEqual([it.tolist() for it in again.mesh.points[np.concatenate(again.mesh.lines)]],
+                         [it.tolist() for it in result.mesh.points[np.concatenate(result.mesh.lines)]])
+
+    def test_corners_stay_and_a_half_is_mirrored(self):
+        bent = moved(grid(12, 6), -6)
+        points = np.where(bent.points[:, [1]] > 3, bent.points + [0, 0, 4], bent.points)
+        result = remesh(Mesh(points, bent.corners, bent.starts), scale="1/2", sharp=30, mirror="x", relax=1)
+        whole = {tuple(it) for it in result.mesh.points}
+        self.assertEqual(whole, {(0.0 - x, y, z) for x, y, z in whole})
+        self.assertEqual(sum(len(it) - 1 for it in result.mesh.lines) % 2, 0)
+
+    def test_merged_patches(self):
+        result = remesh(read(LETTER), scale="1/2", coarse=True)
+        self.assertEqual((result.report.arcs, result.report.command), (48, "coarse"))
+        self.assertEqual(result.report.after.irregular, result.report.before.irregular)
+        self.assertTrue(result.text.startswith(b"#quadq 1 coarse scale 1/2 floor 1 "))
+        ring = remesh(read(EXAMPLES / "torus.obj"), scale="1/2", coarse=True)
+        self.assertEqual(ring.written[0].floor, 3)
+
     def test_polygons(self):
         text = "v 0 0 0\nv 1 0 0\nv 0 1 0\nv 1 1 0\nf 1 2 3\nf 2 4 3\n"
         with self.assertRaises(Refusal) as caught:
@@ -97,7 +143,10 @@ class Remesh(unittest.TestCase):
         with self.assertRaises(Refusal):
             remesh(Mesh.of_quads(np.full((4, 3), np.nan), [[0, 1, 2, 3]]), scale=1)
         for wrong in ({}, {"scale": 1, "faces": 2}, {"scale": 0}, {"scale": "1/1001"}, {"faces": 0},
-                      {"scale": 1, "floor": 4}, {"scale": 1, "mirror": "w"}, {"scale": 1, "weight": "x"}):
+                      {"scale": 1, "floor": 4}, {"scale": 1, "mirror": "w"}, {"scale": 1, "weight": "x"},
+                      {"scale": 1, "edge": 1}, {"edge": 0}, {"edge": 1e9}, {"edge": "long"}, {"edge": 1, "sharp": 9},
+                      {"scale": 1, "sharp": 9, "coarse": True}, {"scale": 1, "keep": ["uvs"]},
+                      {"scale": 1, "sharp": -1}, {"edge": 1, "weight": "length"}, {"edge": 1, "coarse": True}):
             with self.assertRaises(ValueError, msg=str(wrong)):
                 remesh(grid(1, 1), **wrong)
 
@@ -127,6 +176,21 @@ class CommandLine(unittest.TestCase):
         for source, status in ((CUBE, 0), (TWO_FANS, 7)):
             self.assertEqual(self.run_words(source, self.room / "o.obj", "--scale", "1", "--report", page)[0], status)
             self.assertIn(source.name, page.read_text())
+
+    def test_words_for_features(self):
+        out = self.room / "out.obj"
+        marked = EXAMPLES / "marked_grid.obj"
+        for words, head in (
+            (["--scale", "2", "--lines"], "#quadq 1 crease scale 2/1 floor 1"),
+            (["--faces", "16", "--sharp", "30", "--materials", "--no-corners"], "#quadq 1 crease"),
+            (["--scale", "2", "--coarse"], "#quadq 1 coarse"), (["--edge", ".25"], "#quadq 1 size edge 0.25 floor 1"),
+        ):
+            page = self.room / "page.html"
+            status, said, errors = self.run_words(marked, out, *words, "--report", page)
+            self.assertEqual((status, errors), (0, ""), words)
+            self.assertTrue(out.read_text().startswith(head), words)
+            self.assertIn("which is proved, and read again", page.read_text())
+        self.assertIn("wished length of edges", said)
 
     def test_a_refused_file_leaves_nothing(self):
         out = self.room / "out.obj"
@@ -167,6 +231,7 @@ class CommandLine(unittest.TestCase):
     def test_wrong_words(self):
         for words in ((CUBE, "--scale", "1"), (CUBE, CUBE, CUBE, "--scale", "1"), (CUBE, "x.obj", "--scale", "0"),
                       (EXAMPLES, "--out", EXAMPLES, "--scale", "1"), (CUBE, "x.obj", "--scale", "1", "--carry"),
+                      (CUBE, "x.obj", "--edge", "1", "--coarse"), (CUBE, "x.obj", "--edge", "one"),
                       (CUBE, "--out", "x", "--scale", "1", "--report", "x.html")):
             self.assertEqual(self.run_words(*words)[0], 2, words)
 

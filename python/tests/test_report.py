@@ -10,7 +10,7 @@ import numpy as np
 from quadq import Program, Refusal, find_features, read_obj, refusal_page, remesh, result_page
 from quadq.canvas import Canvas
 from quadq.mesh import join
-from quadq.patches import colours_of, new_patches, old_patches
+from quadq.patches import colours_of, new_sizes, old_patches, paint
 from quadq.parts import certified_lengths
 from quadq.program import Wish
 
@@ -72,9 +72,20 @@ class Pages(unittest.TestCase):
             sizes = [int(a) * int(b) for a, b in re.findall(r"^patch \d+ (\d+) (\d+)$", graph, re.M)]
             self.assertEqual(np.bincount(of_face).tolist(), sizes, name)
             wanted = program.remesh(text, Wish())
-            self.assertEqual(len(new_patches(graph, certified_lengths(wanted)[1])), wanted.count(b"\nf "))
+            self.assertEqual(new_sizes(graph, certified_lengths(wanted)[1]).sum(), wanted.count(b"\nf "))
             tints = colours_of(mesh, of_face, 8)
             self.assertLess(tints.max(initial=0), 8)
+
+    def test_patches_of_other_cuts(self):
+        program = Program()
+        for name, wishes, count in (
+            ("letter_q", {}, 40), ("letter_q", {"coarse": True}, 13), ("cube", {"coarse": True}, 3),
+            ("letter_q", {"sharp": 30}, 68), ("marked_grid", {"keep": ["lines"]}, 4), ("torus", {"sharp": 30}, 4),
+        ):
+            result = remesh(read_obj((EXAMPLES / f"{name}.obj").read_text()), scale="1/2", **wishes)
+            painted = paint(result.parts, result.written, program)
+            self.assertEqual(len(painted.of_new), result.mesh.face_count, name)
+            self.assertEqual((painted.of_old.max() + 1, painted.of_new.max() + 1), (count, count), name)
 
     def test_a_page_of_a_remesh_stands_alone(self):
         pair = join([moved(grid(6, 6), -20), read_obj((EXAMPLES / "cube_blender.obj").read_text())])
@@ -97,7 +108,11 @@ class Pages(unittest.TestCase):
         self.assertEqual(set(find_features(cube).values()), {"by angle"})
         self.assertEqual((len(find_features(cube)), find_features(cube, angle=100)), (12, {}))
         text = "v 0 0 0\nv 1 0 0\nv 2 0 0\nv 0 1 0\nv 1 1 0\nv 2 1 0\nusemtl a\nf 1 2 5 4\nusemtl b\nf 2 3 6 5\n"
-        self.assertEqual(find_features(read_obj(text), groups=True), {(1, 4): "between groups"})
+        self.assertEqual(find_features(read_obj(text), kinds=["materials"]), {(1, 4): "between groups"})
+        other = read_obj(text.replace("usemtl", "o") + "l 2 5 4\nl 1 6\n")
+        self.assertEqual(find_features(other, kinds=["materials"]), {})
+        self.assertEqual(find_features(other, kinds=["groups"]), {(1, 4): "between groups"})
+        self.assertEqual(find_features(other, None, kinds=["lines"]), {(1, 4): "by lines"})
 
 
 if __name__ == "__main__":

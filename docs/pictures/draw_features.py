@@ -1,0 +1,72 @@
+#!/usr/bin/env python3
+"""Draws what `quadq remesh` and `quadq crease` make of a mesh, beside each other, with the feature edges in red: in the
+mesh those that tools/mark_features.py marks, in what `remesh` made those that it would mark there, and in what `crease`
+made the lines that were kept.
+
+usage: docs/pictures/draw_features.py MESH.obj SCALE [--angle DEGREES] [--three] [OPTIONS of tools/draw_graph.py]
+           >picture.svg
+
+With --three the mesh itself stands first. QUADQ may name the program; if not, it is dist/quadq.
+"""
+
+import argparse
+import os
+import pathlib
+import re
+import subprocess
+import sys
+import tempfile
+
+ROOT = pathlib.Path(__file__).resolve().parent.parent.parent
+PROGRAM = os.environ.get("QUADQ", str(ROOT / "dist/quadq"))
+GAP = 16
+
+
+def ran(words, out, source=None):
+    """Runs a command into a file."""
+    with open(out, "wb") as target, open(source or os.devnull, "rb") as text:
+        subprocess.run(list(map(str, words)), stdin=text, stdout=target, stderr=subprocess.DEVNULL, check=True)
+
+
+def tool(name, *words):
+    return [sys.executable, ROOT / "tools" / name, *words]
+
+
+def panels(words, options, room):
+    """The SVGs, from left to right."""
+    mesh, graph, marked, svg = words.mesh, room / "graph.txt", room / "marked.obj", room / "out.svg"
+    asked = ["--scale", words.scale, "--floor", words.floor, "--weight", "plain"]
+    ran([PROGRAM, "graph"], graph, mesh)
+    ran(tool("mark_features.py", "--angle", words.angle, mesh), marked)
+    ran([PROGRAM, "remesh", *asked], room / "remesh.obj", mesh)
+    ran([PROGRAM, "crease", *asked], room / "crease.obj", marked)
+    ran(tool("mark_features.py", "--angle", words.angle, "--no-corners", room / "remesh.obj"), room / "shown.obj")
+    pictures = [[marked, graph]] if words.three else []
+    pictures += [[mesh, graph, "--written", room / "shown.obj"], [marked, graph, "--written", room / "crease.obj"]]
+    for picture in pictures:
+        ran(tool("draw_graph.py", *picture, *options), svg)
+        yield svg.read_text()
+
+
+def main():
+    parser = argparse.ArgumentParser(description=__doc__, formatter_class=argparse.RawDescriptionHelpFormatter)
+    parser.add_argument("mesh", type=pathlib.Path)
+    parser.add_argument("scale")
+    parser.add_argument("--angle", default="30", metavar="DEGREES")
+    parser.add_argument("--floor", default="1")
+    parser.add_argument("--three", action="store_true")
+    words, options = parser.parse_known_args()
+    with tempfile.TemporaryDirectory() as room:
+        drawn = list(panels(words, options, pathlib.Path(room)))
+    sizes = [tuple(map(int, re.search(r'width="(\d+)" height="(\d+)"', it).groups())) for it in drawn]
+    wide, high = sum(it[0] for it in sizes) + GAP * (len(sizes) - 1), max(it[1] for it in sizes)
+    print(f'<svg xmlns="http://www.w3.org/2000/svg" width="{wide}" height="{high}" viewBox="0 0 {wide} {high}">')
+    print(f'<rect width="{wide}" height="{high}" fill="white"/>')
+    left = 0
+    for svg, size in zip(drawn, sizes):
+        print(svg.replace("<svg ", f'<svg x="{left}" ', 1))
+        left += size[0] + GAP
+    print("</svg>")
+
+
+main()
