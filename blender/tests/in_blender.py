@@ -41,6 +41,40 @@ def shape(data):
     return len(whole.verts) - len(whole.edges) + len(whole.faces), irregular
 
 
+def folded():
+    """A grid of 9 by 9 squares with a ridge along x = 4, no line of its patches, and the edges of the ridge."""
+    points = [(x, y, abs(x - 4)) for y in range(10) for x in range(10)]
+    faces = [(it, it + 1, it + 11, it + 10) for y in range(9) for it in range(10 * y, 10 * y + 9)]
+    roof = with_mesh("roof", points, faces)
+    chosen(roof)
+    return roof, [it for it in roof.data.edges if all(roof.data.vertices[end].co.x == 4 for end in it.vertices)]
+
+
+def mark(data, edge, kind):
+    """Marks an edge."""
+    if kind == "sharp":
+        edge.use_edge_sharp = True
+    elif kind == "seams":
+        edge.use_seam = True
+    elif hasattr(edge, "crease"):
+        edge.crease = 0.5
+    else:
+        attribute = data.attributes.get("crease_edge") or data.attributes.new("crease_edge", "FLOAT", "EDGE")
+        attribute.data[edge.index].value = 0.5
+
+
+def marked(data, kind):
+    """How strongly each edge that is marked so is marked."""
+    if kind == "sharp":
+        return {it.index: 1.0 for it in data.edges if it.use_edge_sharp}
+    if kind == "seams":
+        return {it.index: 1.0 for it in data.edges if it.use_seam}
+    if hasattr(bpy.types.MeshEdge, "crease"):
+        return {it.index: it.crease for it in data.edges if it.crease > 0}
+    attribute = data.attributes.get("crease_edge")
+    return {at: it.value for at, it in enumerate(attribute.data) if it.value > 0} if attribute else {}
+
+
 def area(data):
     return sum(it.area for it in data.polygons)
 
@@ -100,6 +134,54 @@ class AddOn(unittest.TestCase):
         self.assertEqual(sum(it.use_seam for it in new.edges), 12 * 4)
         self.assertEqual(len(new.polygons), 6 * 16)
         self.assertEqual([it.material_index for it in new.polygons], [int(it.normal.z > 0.5) for it in new.polygons])
+
+    def test_marked_edges_stay_and_are_marked(self):
+        for kind, strength in (("sharp", 1.0), ("seams", 1.0), ("creases", 0.5)):
+            roof, ridge = folded()
+            for edge in ridge:
+                mark(roof.data, edge, kind)
+            bpy.ops.object.quadq_remesh(scale=1 / 3, **{f"keep_{kind}": True})
+            new = bpy.context.object.data
+            stayed = marked(new, kind)
+            self.assertEqual(len(stayed), 3, kind)
+            for at, value in stayed.items():
+                self.assertAlmostEqual(value, strength, delta=0.01)
+                self.assertEqual([new.vertices[end].co.x for end in new.edges[at].vertices], [4, 4], kind)
+            self.assertEqual([it for it in ("sharp", "seams", "creases") if marked(new, it)], [kind])
+
+    def test_edges_at_an_angle_and_borders_of_materials_stay(self):
+        for wish in ("keep_angle", "keep_materials"):
+            roof, _ = folded()
+            for name in ("left", "right"):
+                roof.data.materials.append(bpy.data.materials.new(name))
+            for it in roof.data.polygons:
+                it.material_index = int(it.center.x > 4)
+            bpy.ops.object.quadq_remesh(scale=1 / 3, replace=True, **{wish: True})
+            self.assertAlmostEqual(area(roof.data), 81 * 2**0.5, places=3)
+            self.assertEqual({it.material_index for it in roof.data.polygons if it.center.x < 4}, {0})
+            self.assertEqual({it.material_index for it in roof.data.polygons if it.center.x > 4}, {1})
+        roof, _ = folded()
+        bpy.ops.object.quadq_remesh(scale=1 / 3, replace=True)
+        self.assertLess(area(roof.data), 81 * 2**0.5 - 1)
+
+    def test_a_length_of_edges(self):
+        bpy.ops.mesh.primitive_grid_add(x_subdivisions=16, y_subdivisions=24, size=2)
+        bpy.ops.object.quadq_remesh(wish="EDGE", edge=0.25, replace=True, coarse=True)
+        self.assertEqual(len(bpy.context.object.data.polygons), 8 * 8)
+
+    def test_merged_patches(self):
+        bpy.ops.mesh.primitive_monkey_add()
+        source = subdivided(bpy.context.object, 2)
+        chosen(source)
+        counts = []
+        for coarse in (False, True):
+            bpy.ops.object.quadq_remesh(scale=0.5, coarse=coarse, keep_sharp=coarse, seams=True)
+            new = bpy.context.object
+            self.assertEqual(shape(new.data), shape(source.data))
+            counts.append(len(marked(new.data, "seams")))
+            source.hide_set(False)
+            chosen(source)
+        self.assertLess(counts[1], counts[0])
 
     def test_triangles_are_selected(self):
         bpy.ops.mesh.primitive_monkey_add()

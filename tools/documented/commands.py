@@ -1,4 +1,4 @@
-"""The commands with their options: the definition, what the program says of its usage, README, man page, completions."""
+"""The commands with their options, as they stand in the definition, the usage line, README, man page, completions."""
 
 from __future__ import annotations
 
