@@ -1,63 +1,95 @@
 #!/usr/bin/env python3
-"""Compares `quadq remesh` and `quadq coarse` at half the scale on meshes: patches, arcs, faces of the new mesh and the
-deviation of its lengths; and times `coarse` against `graph`.
+"""Compares `quadq remesh` and `quadq coarse` at half the scale and floor 1 on meshes: patches and arcs, faces of the
+new mesh and the deviation of its lengths.
 
-usage: bench/coarse.py MESH.obj..
+usage: bench/coarse.py [--times] MESH.obj..
+
+With --times it prints instead the time of `coarse` by that of `graph`, in seconds of the processor, the least of some
+runs by turns, on these meshes and on a terrain of voxels that bench/meshes.cpp makes (with g++); it wants a calm
+machine. QUADQ may name the program, which is dist/quadq else.
 """
 import pathlib
 import subprocess
 import sys
 import tempfile
 
-ROOT = pathlib.Path(__file__).resolve().parent.parent
-sys.path.insert(0, str(ROOT / "tools"))
+from measuring import ROOT, count_lines, name_of, program, run, taken
+
+sys.path.insert(0, f"{ROOT}/tools")
+import cuts  # noqa: E402
 import draw_graph  # noqa: E402
-from measuring import run  # noqa: E402
 
-ROUNDS = 3
+ROUNDS = 7
+COLUMNS = 258
+"""Of the terrain: it has some 200,000 faces."""
 OPTIONS = ["--scale", "1/2", "--floor", "1", "--weight", "plain"]
+HEAD = "| mesh | faces | patches | arcs | new faces | deviation |"
+TIMES_HEAD = "| mesh | faces | `graph` s | MB | `coarse` s | MB | time ratio | memory ratio |"
 
 
-def best(program, words, source, target):
-    """The least seconds and megabytes of some runs, and their status."""
-    runs = [run([program, *words], source, target) for _ in range(ROUNDS)]
-    return min(it[0] for it in runs), min(it[1] for it in runs), runs[0][2]
-
-
-def told(cut, source, status):
-    """The cells of a table: patches, arcs, and, where a mesh was written, its faces and the deviation at scale 1/2."""
-    patches = len(draw_graph.patches_of(cut.faces, cut.edges())[1])
-    old = cut.arcs()[1]
+def told(cut, command, mesh, out):
+    """Cells: patches, arcs, and, where a mesh was written, its faces and the deviation of its lengths."""
+    patches = len(cuts.patches_of(cut.faces, cut.edges())[1])
+    old = [len(arc) for arc in cut.arcs()[1]]
+    status = run([program(), command, *OPTIONS], mesh, out)[2]
     if status != 0:
-        return [patches, len(old), f"status {status}", ""]
-    lengths = draw_graph.read_lengths(source)[1]
-    faces = sum(line.startswith("f ") for line in open(source, encoding="utf-8"))
-    return [patches, len(old), faces, sum(abs(2 * new - length) for new, length in zip(lengths, old, strict=True))]
+        return [patches, len(old), f"status {status}", f"status {status}"]
+    lengths = draw_graph.read_lengths(out)[1]
+    deviation = sum(abs(2 * new - length) for new, length in zip(lengths, old, strict=True))
+    return [patches, len(old), count_lines(out, b"f "), deviation]
 
 
-def row(program, mesh, room):
+def row(mesh, room):
+    """What merging changes, or None for a mesh that quadq does not take."""
     graph, out = room / "graph.txt", room / "out.obj"
-    seconds, megabytes, status = best(program, ["graph"], mesh, graph)
-    if status != 0:
-        return [mesh.stem, f"status {status}"]
+    if run([program(), "graph"], mesh, graph)[2] != 0:
+        return None
     faces = draw_graph.read_mesh(mesh)[1]
-    cut = draw_graph.Cut(faces, draw_graph.edges_of_graph(faces, draw_graph.read_graph(graph)[1]))
-    before = told(cut, out, run([program, "remesh", *OPTIONS], mesh, out)[2])
+    cut = cuts.Cut(faces, cuts.edges_of_graph(faces, draw_graph.read_graph(graph)[1]))
+    before = told(cut, "remesh", mesh, out)
     cut.merge()
-    after_seconds, after_megabytes, status = best(program, ["coarse", *OPTIONS], mesh, out)
-    after = told(cut, out, status)
-    both = [f"{one} to {other}" for one, other in zip(before, after)]
-    return [mesh.stem, len(faces), *both, f"{seconds:.3f}", f"{megabytes:.0f}", f"{after_seconds:.3f}", f"{after_megabytes:.0f}"]
+    after = told(cut, "coarse", mesh, out)
+    pairs = zip(before, after)
+    return [name_of(mesh), len(faces), *(f"{one} to {other}" if one != other else one for one, other in pairs)]
+
+
+def timed(name, mesh, room):
+    """The least seconds of the processor and megabytes of `graph` and `coarse`, and their ratios."""
+    runs = []
+    for _ in range(ROUNDS):
+        for words in (["graph"], ["coarse", *OPTIONS]):
+            _, seconds, megabytes, status = taken([program(), *words], mesh, room / "out")
+            if status != 0:
+                return None
+            runs.append((seconds, megabytes))
+    (graph, graph_mb), (coarse, coarse_mb) = (tuple(map(min, zip(*runs[at::2]))) for at in (0, 1))
+    cells = [f"{graph:.3f}", f"{graph_mb:.0f}", f"{coarse:.3f}", f"{coarse_mb:.0f}"]
+    return [name, count_lines(mesh, b"f"), *cells, f"{coarse / max(graph, 1e-9):.2f}", f"{coarse_mb / graph_mb:.2f}"]
+
+
+def terrain(room):
+    """A mesh where each inner vertex is irregular."""
+    maker, mesh = room / "meshes", room / "terrain.obj"
+    subprocess.run(["g++", "-O2", "-std=c++20", "-o", maker, f"{ROOT}/bench/meshes.cpp"], check=True)
+    with open(mesh, "wb") as out:
+        subprocess.run([maker, "voxels", str(COLUMNS)], stdout=out, check=True)
+    return mesh
 
 
 def main():
-    program = str(ROOT / "build/quadq")
-    subprocess.run([ROOT / "tools/build.py"], check=True)
-    print("| mesh | faces | patches | arcs | new faces | deviation | `graph` s | MB | `coarse` s | MB |")
-    print("|---|---|---|---|---|---|---|---|---|---|")
-    with tempfile.TemporaryDirectory() as room:
-        for mesh in sys.argv[1:] or sys.exit(__doc__):
-            print("|", " | ".join(map(str, row(program, pathlib.Path(mesh), pathlib.Path(room)))), "|", flush=True)
+    are_timed = "--times" in sys.argv
+    meshes = [pathlib.Path(it) for it in sys.argv[1:] if it != "--times"] or sys.exit(__doc__)
+    head = TIMES_HEAD if are_timed else HEAD
+    print(head)
+    print("|" + "---|" * (head.count("|") - 1))
+    with tempfile.TemporaryDirectory() as folder:
+        room = pathlib.Path(folder)
+        rows = (timed(name_of(it), it, room) if are_timed else row(it, room) for it in meshes)
+        for cells in rows:
+            if cells is not None:
+                print("|", " | ".join(map(str, cells)), "|", flush=True)
+        if are_timed:
+            print("|", " | ".join(map(str, timed("terrain of voxels", terrain(room), room) or ["refused"])), "|")
 
 
 main()

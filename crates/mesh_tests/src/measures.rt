@@ -21,50 +21,52 @@ const WIDER: &[u8] = b"v 0 0 0\nv 1.000001 0 0\nv 1.000001 1 0\nv 0 1 0\nf 1 2 3
 const ROW: &[u8] =
     b"v 0 0 0\nv 1 0 0\nv 2 0 0\nv 4 0 0\nv 0 1 0\nv 1 1 0\nv 2 1 0\nv 4 1 0\nf 1 2 6 5\nf 2 3 7 6\nf 3 4 8 7\n";
 
+/// Texts with the length of an edge in millionths and a floor, and what is told of their networks.
+const TARGETS: [(&[u8], i64, u32, &str); 9] = [
+    (
+        QUAD,
+        1_000_000,
+        1,
+        "1/1000 floor 1: 3000 4000 5000 8000, from 1 1 1 1",
+    ),
+    (
+        QUAD,
+        3_000_000,
+        2,
+        "1/1000 floor 2: 1000 1333 1666 2666, from 2 2 2 2",
+    ),
+    (
+        QUAD,
+        8_000_000_001,
+        3,
+        "1/1000 floor 3: 0 0 0 0, from 3 3 3 3",
+    ),
+    (
+        QUAD,
+        999_999_999_999_999,
+        1,
+        "1/1000 floor 1: 0 0 0 0, from 1 1 1 1",
+    ),
+    (
+        ROW,
+        500_000,
+        2,
+        "1/1000 floor 2: 8000 8000 2000 2000, from 6 6 2 2",
+    ),
+    (
+        UNIT,
+        1,
+        1,
+        "1/1000 floor 1: 1000000000 1000000000 1000000000 1000000000, from 1 1 1 1",
+    ),
+    (WIDER, 1, 1, "far 4000002000"),
+    (QUAD, 1, 1, "far 20000000000"),
+    (b"", 1, 1, "1/1000 floor 1:, from"),
+];
+
 #[test]
 fn targets_of_edge_lengths(rt: HostRuntime) -> Result<(), Fail> {
-    let table: [(&[u8], i64, u32, &str); 9] = [
-        (
-            QUAD,
-            1_000_000,
-            1,
-            "1/1000 floor 1: 3000 4000 5000 8000, from 1 1 1 1",
-        ),
-        (
-            QUAD,
-            3_000_000,
-            2,
-            "1/1000 floor 2: 1000 1333 1666 2666, from 2 2 2 2",
-        ),
-        (
-            QUAD,
-            8_000_000_001,
-            3,
-            "1/1000 floor 3: 0 0 0 0, from 3 3 3 3",
-        ),
-        (
-            QUAD,
-            999_999_999_999_999,
-            1,
-            "1/1000 floor 1: 0 0 0 0, from 1 1 1 1",
-        ),
-        (
-            ROW,
-            500_000,
-            2,
-            "1/1000 floor 2: 8000 8000 2000 2000, from 6 6 2 2",
-        ),
-        (
-            UNIT,
-            1,
-            1,
-            "1/1000 floor 1: 1000000000 1000000000 1000000000 1000000000, from 1 1 1 1",
-        ),
-        (WIDER, 1, 1, "far 4000002000"),
-        (QUAD, 1, 1, "far 20000000000"),
-        (b"", 1, 1, "1/1000 floor 1:, from"),
-    ];
-    for (text, edge, floor, want) in table {
+    for (text, edge, floor, want) in TARGETS {
         let mut input = MemSource::new(
             Vec::from_slice(rt.alloc(), text)?,
             4096,

@@ -36,42 +36,44 @@ pub(crate) fn mesh_text(alloc: Global, vertices: u32, faces: &str) -> Result<Vec
     Ok(text)
 }
 
+/// How many vertices a mesh has, its faces and lengths, and how the text of the new mesh begins.
+const NEW_MESHES: [(u32, &str, &[u64], &str); 16] = [
+    (36, CYLINDER, &[1, 1, 1, 1, 1, 1, 1, 1, 1], "doubled 1 2\n"),
+    (
+        36,
+        CYLINDER,
+        &[3, 3, 3, 3, 3, 3, 3, 3, 3],
+        "vertices 36 faces 27\nf 1 7 25 10\n",
+    ),
+    (16, TORUS, &[1, 1], "doubled 1 1\n"),
+    (16, TORUS, &[1, 2], "doubled 1 1\n"),
+    (16, TORUS, &[2, 2], "doubled 1 2\n"),
+    (16, TORUS, &[3, 2], "doubled 1 4\n"),
+    (16, TORUS, &[3, 3], "vertices 9 faces 9\nf 1 2 6 5\n"),
+    (16, TORUS, &[4, 4], "vertices 16 faces 16\n"),
+    (
+        20,
+        PILLOW,
+        &[1, 1, 1, 1],
+        "vertices 4 faces 2\nf 1 2 4 3\nf 1 3 4 2\n",
+    ),
+    (20, PILLOW, &[2, 1, 1, 2], "doubled 5 6\n"),
+    (20, PILLOW, &[1, 2, 2, 1], "doubled 5 6\n"),
+    (20, PILLOW, &[2, 2, 2, 2], "vertices 10 faces 8\n"),
+    (4, QUAD, &[1, 1, 1, 1], "vertices 4 faces 1\nf 1 2 3 4\n"),
+    (4, QUAD, &[2000, 2000, 2000, 2000], "too fine 4000000\n"),
+    (
+        4,
+        QUAD,
+        &[1_000_000_000_000, 1, 1_000_000_000_000, 1],
+        "too fine 1000000000000\n",
+    ),
+    (4, QUAD, &[2, 1, 2, 1], "vertices 6 faces 2\n"),
+];
+
 #[test]
 fn new_meshes_at_given_lengths(rt: HostRuntime) -> Result<(), Fail> {
-    let table: [(u32, &str, &[u64], &str); 16] = [
-        (36, CYLINDER, &[1, 1, 1, 1, 1, 1, 1, 1, 1], "doubled 1 2\n"),
-        (
-            36,
-            CYLINDER,
-            &[3, 3, 3, 3, 3, 3, 3, 3, 3],
-            "vertices 36 faces 27\nf 1 7 25 10\n",
-        ),
-        (16, TORUS, &[1, 1], "doubled 1 1\n"),
-        (16, TORUS, &[1, 2], "doubled 1 1\n"),
-        (16, TORUS, &[2, 2], "doubled 1 2\n"),
-        (16, TORUS, &[3, 2], "doubled 1 4\n"),
-        (16, TORUS, &[3, 3], "vertices 9 faces 9\nf 1 2 6 5\n"),
-        (16, TORUS, &[4, 4], "vertices 16 faces 16\n"),
-        (
-            20,
-            PILLOW,
-            &[1, 1, 1, 1],
-            "vertices 4 faces 2\nf 1 2 4 3\nf 1 3 4 2\n",
-        ),
-        (20, PILLOW, &[2, 1, 1, 2], "doubled 5 6\n"),
-        (20, PILLOW, &[1, 2, 2, 1], "doubled 5 6\n"),
-        (20, PILLOW, &[2, 2, 2, 2], "vertices 10 faces 8\n"),
-        (4, QUAD, &[1, 1, 1, 1], "vertices 4 faces 1\nf 1 2 3 4\n"),
-        (4, QUAD, &[2000, 2000, 2000, 2000], "too fine 4000000\n"),
-        (
-            4,
-            QUAD,
-            &[1_000_000_000_000, 1, 1_000_000_000_000, 1],
-            "too fine 1000000000000\n",
-        ),
-        (4, QUAD, &[2, 1, 2, 1], "vertices 6 faces 2\n"),
-    ];
-    for (vertices, faces, lengths, want) in table {
+    for (vertices, faces, lengths, want) in NEW_MESHES {
         let text = mesh_text(rt.alloc(), vertices, faces)?;
         let mut input = MemSource::new(text, 65_536, Vec::new(rt.alloc()));
         let Some(found) = stitched_text(rt.alloc(), &mut input, lengths)? else {

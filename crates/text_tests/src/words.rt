@@ -4,6 +4,7 @@ use def_flow::{Settings, Weight};
 use def_run::{Command, WordsFail};
 use def_text::Micro;
 use qm_words::read_words;
+use std::alloc::{AllocError, Global};
 use std::test::Fail;
 
 const HALF: Settings = Settings {
@@ -20,93 +21,98 @@ const WHOLE: Settings = Settings {
     weight: Weight::Length,
 };
 
+/// Lines with the commands that they are.
+const COMMANDS: [(&str, Command); 11] = [
+    ("tidy", Command::Tidy),
+    ("graph", Command::Graph),
+    ("check", Command::Check),
+    ("refine --by=1000", Command::Refine { by: 1000 }),
+    ("bench --size 10000", Command::Bench { size: 10_000 }),
+    (
+        "size --edge +50e-2 --floor=3",
+        Command::Size {
+            edge: Micro { n: 500_000 },
+            floor: 3,
+        },
+    ),
+    (
+        "remesh --scale=1/2 --weight plain --floor 1",
+        Command::Remesh {
+            settings: HALF,
+            auto: false,
+        },
+    ),
+    (
+        "remesh --floor auto --scale 1/2 --weight=plain",
+        Command::Remesh {
+            settings: HALF,
+            auto: true,
+        },
+    ),
+    (
+        "remesh --weight length --floor=3 --scale 2/4",
+        Command::Remesh {
+            settings: WHOLE,
+            auto: false,
+        },
+    ),
+    (
+        "crease --floor 3 --scale=2/4 --weight length",
+        Command::Crease { settings: WHOLE },
+    ),
+    (
+        "coarse --weight=length --scale 2/4 --floor 3",
+        Command::Coarse { settings: WHOLE },
+    ),
+];
+
+/// Lines that are no command.
+const REFUSED: [&str; 22] = [
+    "",
+    "tidy --",
+    "--help",
+    "refine",
+    "refine --help",
+    "refine --by 0",
+    "refine --by 1001",
+    "refine --by=-3",
+    "refine --by 2 --by 2",
+    "refine --by=2 --",
+    "refine --by 2 more",
+    "refine --b=2",
+    "size --edge=0 --floor 1",
+    "size --edge=-1 --floor 1",
+    "size --edge 1 --floor auto",
+    "size --edge 1000000000 --floor 1",
+    "remesh --scale 1/2 --floor 1",
+    "remesh --scale 0/2 --floor 1 --weight plain",
+    "remesh --scale 01/2 --floor 1 --weight plain",
+    "remesh --scale 1/2 --floor 4 --weight plain",
+    "crease --floor auto --scale=2/4 --weight length",
+    "coarse --weight length --scale 2/4 --floor auto",
+];
+
+/// What the words of a line are read as.
+fn read_line(alloc: Global, line: &str) -> Result<Result<Command, WordsFail>, AllocError> {
+    let mut words = Vec::new(alloc);
+    for word in line.split_whitespace() {
+        words.push(word.to_string(alloc)?)?;
+    }
+    Ok(read_words(alloc, &words))
+}
+
 #[test]
 fn lines_have_their_commands(rt: HostRuntime) -> Result<(), Fail> {
-    for (line, wanted) in [
-        ("tidy", Ok(Command::Tidy)),
-        ("graph", Ok(Command::Graph)),
-        ("check", Ok(Command::Check)),
-        ("refine --by=1000", Ok(Command::Refine { by: 1000 })),
-        ("bench --size 10000", Ok(Command::Bench { size: 10_000 })),
-        (
-            "size --edge +50e-2 --floor=3",
-            Ok(Command::Size {
-                edge: Micro { n: 500_000 },
-                floor: 3,
-            }),
-        ),
-        ("size --edge=0 --floor 1", Err(WordsFail::Usage)),
-        ("size --edge=-1 --floor 1", Err(WordsFail::Usage)),
-        ("size --edge 1 --floor auto", Err(WordsFail::Usage)),
-        ("size --edge 1000000000 --floor 1", Err(WordsFail::Usage)),
-        (
-            "remesh --scale=1/2 --weight plain --floor 1",
-            Ok(Command::Remesh {
-                settings: HALF,
-                auto: false,
-            }),
-        ),
-        (
-            "remesh --floor auto --scale 1/2 --weight=plain",
-            Ok(Command::Remesh {
-                settings: HALF,
-                auto: true,
-            }),
-        ),
-        (
-            "remesh --weight length --floor=3 --scale 2/4",
-            Ok(Command::Remesh {
-                settings: WHOLE,
-                auto: false,
-            }),
-        ),
-        (
-            "crease --floor 3 --scale=2/4 --weight length",
-            Ok(Command::Crease { settings: WHOLE }),
-        ),
-        (
-            "crease --floor auto --scale=2/4 --weight length",
-            Err(WordsFail::Usage),
-        ),
-        (
-            "coarse --weight=length --scale 2/4 --floor 3",
-            Ok(Command::Coarse { settings: WHOLE }),
-        ),
-        (
-            "coarse --weight length --scale 2/4 --floor auto",
-            Err(WordsFail::Usage),
-        ),
-        ("", Err(WordsFail::Usage)),
-        ("tidy --", Err(WordsFail::Usage)),
-        ("--help", Err(WordsFail::Usage)),
-        ("refine", Err(WordsFail::Usage)),
-        ("refine --help", Err(WordsFail::Usage)),
-        ("refine --by 0", Err(WordsFail::Usage)),
-        ("refine --by 1001", Err(WordsFail::Usage)),
-        ("refine --by=-3", Err(WordsFail::Usage)),
-        ("refine --by 2 --by 2", Err(WordsFail::Usage)),
-        ("refine --by=2 --", Err(WordsFail::Usage)),
-        ("refine --by 2 more", Err(WordsFail::Usage)),
-        ("refine --b=2", Err(WordsFail::Usage)),
-        ("remesh --scale 1/2 --floor 1", Err(WordsFail::Usage)),
-        (
-            "remesh --scale 0/2 --floor 1 --weight plain",
-            Err(WordsFail::Usage),
-        ),
-        (
-            "remesh --scale 01/2 --floor 1 --weight plain",
-            Err(WordsFail::Usage),
-        ),
-        (
-            "remesh --scale 1/2 --floor 4 --weight plain",
-            Err(WordsFail::Usage),
-        ),
-    ] {
-        let mut words = Vec::new(rt.alloc());
-        for word in line.split_whitespace() {
-            words.push(word.to_string(rt.alloc())?)?;
-        }
-        assert_eq!(rt; read_words(rt.alloc(), &words), wanted);
+    for (line, wanted) in COMMANDS {
+        assert_eq!(rt; read_line(rt.alloc(), line)?, Ok(wanted));
+    }
+    Ok(())
+}
+
+#[test]
+fn other_lines_are_refused(rt: HostRuntime) -> Result<(), Fail> {
+    for line in REFUSED {
+        assert_eq!(rt; read_line(rt.alloc(), line)?, Err(WordsFail::Usage));
     }
     Ok(())
 }
