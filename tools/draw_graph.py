@@ -32,7 +32,8 @@ MARGIN = 12
 
 def read_marked(path):
     """The places of used vertices, the faces over them, as quadq numbers them, and the edges that `l` lines name."""
-    places, rows, text = [], {"f": [], "l": []}, open(path, encoding="utf-8", errors="replace").read()
+    places, rows = [], {"f": [], "l": []}
+    text = pathlib.Path(path).read_text(encoding="utf-8", errors="replace")
     for line in text.replace("\\\r\n", " ").replace("\\\n", " ").splitlines():
         words = line.partition("#")[0].split()
         if words[:1] == ["v"]:
@@ -56,7 +57,7 @@ def read_mesh(path):
 def read_graph(path):
     """The marks of irregular vertices, and the riders as start vertex, next vertex and rides."""
     marks, riders = {}, []
-    for line in open(path, encoding="utf-8"):
+    for line in pathlib.Path(path).read_text(encoding="utf-8").splitlines():
         words = line.split()
         if words[0] in MARKS:
             marks[int(words[1]) - 1] = MARKS[words[0]]
@@ -68,7 +69,7 @@ def read_graph(path):
 def read_lengths(path):
     """The command that wrote the text, and the lengths of the arcs of the last certificate in it."""
     command, lengths = "", []
-    for line in open(path, encoding="utf-8"):
+    for line in pathlib.Path(path).read_text(encoding="utf-8").splitlines():
         if line.startswith("#quadq 1 "):
             command = line.split()[2]
         elif line.startswith("#f "):

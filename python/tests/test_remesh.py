@@ -25,6 +25,12 @@ def read(path: pathlib.Path) -> Mesh:
     return read_obj(path.read_text())
 
 
+def arcs_in(mesh: Mesh) -> list:
+    """The lines of a mesh by their places, whatever their order and directions."""
+    lines = [[tuple(it) for it in mesh.points[line].tolist()] for line in mesh.lines]
+    return sorted(min(line, line[::-1]) for line in lines)
+
+
 class Remesh(unittest.TestCase):
     def test_a_text_is_handed_over_as_the_program_wrote_it(self):
         text = LETTER.read_bytes()
@@ -99,6 +105,12 @@ class Remesh(unittest.TestCase):
         again = remesh(result.mesh, scale=1, keep=["lines"])
         self.assertEqual([it.tolist() for it in again.mesh.points[np.concatenate(again.mesh.lines)]],
                          [it.tolist() for it in result.mesh.points[np.concatenate(result.mesh.lines)]])
+
+    def test_marks_that_are_written_are_marks_again(self):
+        for name in ("cube_blender", "letter_q", "cylinder", "torus"):
+            first = remesh(read(EXAMPLES / f"{name}.obj"), scale=1, sharp=30).written[0].mesh()
+            again = remesh(first, scale=1, keep=["lines"], corners=False).written[0].mesh()
+            self.assertEqual(arcs_in(again), arcs_in(first), name)
 
     def test_corners_stay_and_a_half_is_mirrored(self):
         bent = moved(grid(12, 6), -6)
