@@ -10,11 +10,12 @@ QUADQ may name the program, which is dist/quadq else.
 """
 import argparse
 import collections
+import os
 import pathlib
 import subprocess
 import sys
 
-from measuring import ROOT, name_of, program
+from measuring import ROOT, name_of, program, run
 
 SCALES = ["1/1", "1/2", "3/2"]
 DOUBLED = 11
@@ -70,6 +71,8 @@ def main():
     differ = 0
     print(f"{'mesh':<32}{'edges':>8}{'arcs':>8}  " + "  ".join(f"{it:<8}" for it in SCALES))
     for mesh in words.meshes:
+        if run([program(), "tidy"], mesh, os.devnull)[2] != 0:
+            continue
         tool = [sys.executable, f"{ROOT}/tools/mark_features.py", "--angle", words.angle, mesh]
         marked = subprocess.run(tool, capture_output=True, check=True).stdout
         found = [difference(marked, scale) for scale in SCALES]

@@ -58,9 +58,14 @@ def edge_marks(data, kind):
     attribute = data.attributes.get("crease_edge")
     if attribute is not None:
         return column(attribute.data, "value", np.float32).astype(float)
-    # Blender before 4.0 keeps creases with the edges themselves, where edges have them.
-    return column(data.edges, "crease", np.float32).astype(float) if hasattr(bpy.types.MeshEdge, "crease") else (
-        np.zeros(len(data.edges)))
+    if edges_have_creases():
+        return column(data.edges, "crease", np.float32).astype(float)
+    return np.zeros(len(data.edges))
+
+
+def edges_have_creases():
+    """Whether this Blender keeps creases with the edges themselves, as before 4.0, and not as an attribute."""
+    return "crease" in bpy.types.MeshEdge.bl_rna.properties
 
 
 def _numbers(values):
@@ -109,8 +114,9 @@ def put_marks(data, kind, edges, values):
     all_values[edges] = values
     if kind != "creases":
         data.edges.foreach_set({"sharp": "use_edge_sharp", "seams": "use_seam"}[kind], (all_values > 0).tolist())
-    elif all_values.any() and hasattr(bpy.types.MeshEdge, "crease"):
-        data.use_customdata_edge_crease = True
+    elif all_values.any() and edges_have_creases():
+        if "use_customdata_edge_crease" in bpy.types.Mesh.bl_rna.properties:
+            data.use_customdata_edge_crease = True
         data.edges.foreach_set("crease", all_values)
     elif all_values.any():
         data.attributes.new("crease_edge", "FLOAT", "EDGE").data.foreach_set("value", all_values)

@@ -69,7 +69,7 @@ def marked(data, kind):
         return {it.index: 1.0 for it in data.edges if it.use_edge_sharp}
     if kind == "seams":
         return {it.index: 1.0 for it in data.edges if it.use_seam}
-    if hasattr(bpy.types.MeshEdge, "crease"):
+    if "crease" in bpy.types.MeshEdge.bl_rna.properties:
         return {it.index: it.crease for it in data.edges if it.crease > 0}
     attribute = data.attributes.get("crease_edge")
     return {at: it.value for at, it in enumerate(attribute.data) if it.value > 0} if attribute else {}
