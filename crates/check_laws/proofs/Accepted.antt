@@ -14,7 +14,7 @@ use Rattle.def_io.specs.Bytes.{Bytes, Lines}
 use Rattle.def_io.specs.Lines.{lines_of}
 use Rattle.def_recheck.specs.Accepting.{AcceptsLaw}
 use Rattle.def_remesh.specs.TextLaws.{made_by}
-use Rattle.def_text.specs.Text.{soup_in, text_soup}
+use Rattle.def_text.specs.Text.{text_soup}
 use Rattle.remesh_laws.proofs.Told.{told_law}
 use Rattle.remesh_laws.proofs.Joined.{lines_append, tail_append}
 
@@ -104,7 +104,6 @@ accepts_law settings auto old text soup range said ends solid is = record {
     coarse = is.finished.coarse;
     undoubled = is.finished.undoubled;
     written = tail_append old text ends ∙ is.finished.written;
-    read = λ head between readable. ap soup_in (tail_append old text ends) ∙ is.finished.read head between readable;
     shape = is.finished.shape;
   };
   certified = is.certified;

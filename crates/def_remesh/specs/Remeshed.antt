@@ -1,5 +1,5 @@
 -- What is made of a mesh that is remeshed: the cut, the lengths, the text and the shape.
-use Rattle.std.specs.Prelude.{◌≡◌, ◌≤◌, [], ◌∷◌, ◌++◌, ℕ, Bool, true, false, Option, Some, None, List, length}
+use Rattle.std.specs.Prelude.{◌≡◌, ◌≤◌, ◌∷◌, ◌++◌, ℕ, Bool, true, false, Option, Some, None, List, length}
 use Rattle.def_flow.specs.Admissible.{entries, IsLeast}
 use Rattle.def_flow.specs.Network.{Network, tangle_number}
 use Rattle.def_flow.specs.declared.limits.TheConstants.{MAX_TANGLE}
@@ -20,7 +20,6 @@ use Rattle.def_written.specs.NewFaces.{face_count, new_faces}
 use Rattle.def_written.specs.Shape.{KeepsShape}
 use Rattle.def_remesh.specs.NewPoints.{lengths_in}
 use Rattle.def_remesh.specs.NewSoup.{new_soup}
-use Rattle.def_remesh.specs.ReadAgain.{IsAside, IsReadAgain}
 use Rattle.def_remesh.specs.Tasks.{remesh_task, Task, Wish}
 use Rattle.def_remesh.specs.declared.limits.TheConstants.{MAX_NEW_FACES}
 
@@ -82,8 +81,7 @@ finished_text task soup plan first third =
     text_behind_head (task.between plan (lengths_in (used first third).x)) task.auto soup plan first third
 
 -- A task that is finished for a soup: a layout cuts its mesh into rectangular grids of the cut, each face once; the
--- lengths are least; the text is that of the mesh with these lengths, and is read again as this mesh, where a reader
--- passes over the head line and the lines behind the mesh; and that mesh has the shape of the old one.
+-- lengths are least; the text is that of the mesh with these lengths; and that mesh has the shape of the old one.
 pub record IsFinished (task : Task) (soup : FaceSet) (text : Bytes) : Type 0 where
   pub plan : Plan
   pub cut : IsLayoutOf soup.faces task.marks plan
@@ -93,8 +91,6 @@ pub record IsFinished (task : Task) (soup : FaceSet) (text : Bytes) : Type 0 whe
   pub coarse : AreCoarse plan (used first third).x
   pub undoubled : IsUndoubled (layout_of plan) (lengths_in (used first third).x)
   pub written : text ≡ finished_text task soup plan first third
-  pub read : IsAside (task.head ++ LINE_FEED ∷ []) → IsAside (task.between plan (lengths_in (used first third).x))
-      → IsReadAgain text (new_soup soup plan (lengths_in (used first third).x))
   pub shape : KeepsShape soup.faces (new_faces (layout_of plan) (lengths_in (used first third).x))
       (layout_of plan).nodes (vertex_at plan)
 

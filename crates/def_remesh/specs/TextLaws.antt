@@ -12,9 +12,9 @@ use Rattle.def_text.specs.FaceSet.{FaceSet}
 use Rattle.def_text.specs.Text.{soup_in}
 use Rattle.def_text.specs.declared.limits.TheConstants.{MAX_F_LINES, MAX_V_LINES}
 use Rattle.def_remesh.specs.Checked.{IsCheckedPair}
-use Rattle.def_remesh.specs.NewPoints.{lengths_in}
-use Rattle.def_remesh.specs.NewSoup.{new_soup}
+use Rattle.def_remesh.specs.ReadAgain.{finished_soup}
 use Rattle.def_remesh.specs.Remeshed.{IsRemeshed, used}
+use Rattle.def_remesh.specs.Tasks.{remesh_task}
 
 -- How it was made, as its lines tell it.
 abbrev pub made_by : (settings : Settings) (auto : Bool) (first : Lists) (third : Option Lists) → Made
@@ -41,7 +41,7 @@ PairLaw = (bytes : Bytes) (pair : IsCheckedPair bytes) → IsSolid pair.soup →
 -- The mesh that a finished remesh of a soup wrote.
 abbrev pub remeshed_soup : (settings : Settings) (auto : Bool) (soup : FaceSet) (text : Bytes)
     (is : IsRemeshed settings auto soup text) → FaceSet
-remeshed_soup settings auto soup text is = new_soup soup is.plan (lengths_in (used is.first is.third).x)
+remeshed_soup settings auto soup text is = finished_soup (remesh_task settings auto soup.faces) soup text is
 
 -- A reader of the text has that mesh, where it has no more vertices and faces than are read.
 abbrev pub ReadAgainLaw : Type 0

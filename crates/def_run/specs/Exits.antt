@@ -8,6 +8,7 @@ use Rattle.def_run.specs.Causes.{IsGood, Ran}
 use Rattle.def_run.specs.CommandLines.{IsAcceptedLine, IsCommand}
 use Rattle.def_run.specs.Messages.{SaidWhy}
 use Rattle.def_run.specs.Remesh.{IsSettled}
+use Rattle.def_run.specs.Reread.{WroteReread}
 use Rattle.def_run.specs.Solving.{IsUntangled}
 use Rattle.def_run.specs.Status.{status_of}
 use Rattle.def_run.specs.declared.answer.Answer.{Answer}
@@ -22,11 +23,13 @@ WasShort input out answer =
     (answer ≡ Memory) ⊎ (Rose input.faults input.faults_now ⊎ Rose out.faults out.faults_now)
 
 -- Running these words gives this answer: it has its cause, and its line is told; what is good is done, and a network
--- that is not too tangled gets least lengths; and each stream that the answer leaves alone is as it was.
+-- that is not too tangled gets least lengths; a new mesh that was written is read again; and each stream that the answer
+-- leaves alone is as it was.
 pub record RunsTo {S O E : Type 0} (words : Words) (input : Stream S) (out : Stream O) (err : Stream E)
     (answer : Answer) : Type 0 where
   pub usage : answer ≡ Usage → ¬ IsAcceptedLine words
   pub ran : answer ≢ Usage → answer ≢ Memory → Ran words input.change out.change answer
+  pub reread : answer ≡ Done → WroteReread words input.change out.change
   pub told : answer ≢ Done → SaidWhy words input.change err.change answer
   pub complete : (command : Command) → IsCommand words command → IsGood command input.change.told
       → (answer ≡ Done) ⊎ WasShort input.change out.change answer

@@ -14,6 +14,7 @@ pub mod Messages
 pub mod Options
 pub mod Refine
 pub mod Remesh
+pub mod Reread
 pub mod Size
 pub mod Solving
 pub mod Status

@@ -4,8 +4,6 @@ use Rattle.def_io.specs.Bytes.{Bytes}
 use Rattle.def_layout.specs.Arcs.{long_at}
 use Rattle.def_layout.specs.Plans.{Plan, layout_of, vertex_at}
 use Rattle.def_remesh.specs.NewPoints.{multiple_of}
-use Rattle.def_remesh.specs.NewSoup.{new_soup}
-use Rattle.def_remesh.specs.ReadAgain.{IsReadAgain}
 use Rattle.def_remesh.specs.Refined.{refined_faces, refined_text}
 use Rattle.def_remesh.specs.declared.kept.Kept.{Kept}
 use Rattle.def_remesh.specs.declared.kept.Kept.TheVariants.{Multiple}
@@ -19,14 +17,12 @@ use Rattle.def_run.specs.declared.answer.Answer.{Answer}
 use Rattle.def_run.specs.declared.answer.Answer.TheVariants.{TooFine}
 
 -- A text of a refined mesh: a layout cuts the mesh into rectangular grids of its motorcycle graph; the text is that of
--- the mesh with `by` times the old lengths of the layout, and is read again as this mesh; and that mesh has the shape
--- of the old one.
+-- the mesh with `by` times the old lengths of the layout; and that mesh has the shape of the old one.
 pub record IsRefined (by : ℕ) (soup : FaceSet) (text : Bytes) : Type 0 where
   pub plan : Plan
   pub cut : IsCutTo soup.faces plan
   pub fits : refined_faces by plan ≤ MAX_NEW_FACES
   pub written : text ≡ refined_text by soup plan
-  pub read : IsReadAgain text (new_soup soup plan (multiple_of by (long_at plan.arcs)))
   pub shape : KeepsShape soup.faces (new_faces (layout_of plan) (multiple_of by (long_at plan.arcs)))
       (layout_of plan).nodes (vertex_at plan)
 

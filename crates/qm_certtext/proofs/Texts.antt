@@ -68,7 +68,11 @@ lines_inside auto [] all k low = absurd (omega arith)
 lines_inside auto (line ∷ said) all zero low = line_inside auto line (and_parts (may_stand auto line) (list_all (may_stand auto) said) all).0
 lines_inside auto (line ∷ said) all (suc k) low = lines_inside auto said (and_parts (may_stand auto line) (list_all (may_stand auto) said) all).1 k (omega arith)
 
--- So is the head line.
+-- So is a line that ends with settings, as a head line does.
+abbrev pub settings_line : (front : Word) (settings : Settings) (auto : Bool) → Word
+settings_line front settings auto =
+    front ++ scale_text settings ++ codes " floor " ++ floor_text settings.floor auto ++ codes " weight " ++ weight_text settings.weight
+
 floor_inside : (floor : ℕ) (auto : Bool) → IsFloor floor auto → list_all is_inside (floor_text floor auto) ≡ true
 floor_inside floor true may = refl
 floor_inside floor false may = number_inside floor (omega (arith, may.high))
@@ -77,17 +81,21 @@ weight_inside : (weight : Weight) → list_all is_inside (weight_text weight) �
 weight_inside Plain = refl
 weight_inside ByLength = refl
 
-pub head_inside : (settings : Settings) (auto : Bool) → AreInRange settings auto → list_all is_inside (head_line settings auto) ≡ true
-head_inside settings auto range =
-    let scale : Word = codes "#quadq 1 remesh scale " ++ scale_text settings in
+pub settings_inside : (front : Word) (settings : Settings) (auto : Bool) → list_all is_inside front ≡ true → AreInRange settings auto
+    → list_all is_inside (settings_line front settings auto) ≡ true
+settings_inside front settings auto inside range =
+    let scale : Word = front ++ scale_text settings in
     let floor : Word = scale ++ codes " floor " ++ floor_text settings.floor auto in
     let parts : list_all is_inside scale ≡ true =
-    both_inside (codes "#quadq 1 remesh scale ") (scale_text settings) refl
+    both_inside front (scale_text settings) inside
     (both_inside (decimal settings.p) (47 ∷ decimal settings.q) (number_inside settings.p (omega (arith, range.p_high))) (number_inside settings.q (omega (arith, range.q_high)))) in
     both_inside (floor ++ codes " weight ") (weight_text settings.weight)
     (both_inside floor (codes " weight ")
     (both_inside (scale ++ codes " floor ") (floor_text settings.floor auto) (both_inside scale (codes " floor ") parts refl) (floor_inside settings.floor auto range.floor)) refl)
     (weight_inside settings.weight)
+
+pub head_inside : (settings : Settings) (auto : Bool) → AreInRange settings auto → list_all is_inside (head_line settings auto) ≡ true
+head_inside settings auto range = settings_inside (codes "#quadq 1 remesh scale ") settings auto refl range
 
 -- The lines of a mesh.
 face_words_are : (face : List ℕ) → list_all (λ v. ltb v (2 ^ 32)) face ≡ true → (k : ℕ) → k < length (map vertex_word face) → IsWord (get_or (map vertex_word face) k [])

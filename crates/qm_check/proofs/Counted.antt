@@ -17,9 +17,9 @@ use Rattle.qm_check.specs.Checked.{IsChecked}
 use Rattle.qm_check.specs.Ready.{IsReady, Tells}
 use Rattle.qm_check.specs.declared.certificates.Checked.{Checked}
 use Rattle.qm_check.specs.declared.ready.Ready.{Ready}
-use Rattle.remesh_laws.proofs.Keeps.{kept_read, kept_shape, least_of}
+use Rattle.remesh_laws.proofs.Keeps.{kept_shape, least_of}
 use Rattle.def_remesh.specs.Keeping.{IsNetFor}
-use Rattle.def_remesh.specs.Tasks.{old_lengths, remesh_task}
+use Rattle.def_remesh.specs.Tasks.{old_lengths}
 
 -- What the lines tell was asked by the head line.
 pub asked_is : (bytes : Bytes) (line : ℕ) (ready : Ready) (made : Made) → IsReady bytes line ready → Tells bytes line made
@@ -68,8 +68,6 @@ module _ (bytes : Bytes) (line : ℕ) (ready : Ready) (made : Made) (checked : C
         coarse = right.kept.coarse;
         undoubled = right.kept.undoubled;
         written = text ∙ kept_text;
-        read = kept_read (remesh_task made.settings made.auto ready.soup.faces) ready.soup (plan ready.cut.layout) (lists_of checked.remesh.first)
-            (option_map lists_of checked.remesh.third) checked.remesh.numbering (tail_of line bytes) right.kept (text ∙ kept_text);
         shape = kept_shape ready.soup (plan ready.cut.layout) (used (lists_of checked.remesh.first) (option_map lists_of checked.remesh.third)).x
             is.lies right.kept.shape;
       };

@@ -21,6 +21,7 @@ module _ (size : ℕ) (input out : Change) (unread : IsUnread input) where
     whole = (unread, refl);
     calm = unread.1;
     writes = λ text said. said;
+    read = λ text said. tt;
     refuses = refuses;
   }
     where

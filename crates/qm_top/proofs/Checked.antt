@@ -76,6 +76,7 @@ module _ {O : Type 0} (input : Change) (out : Stream O) (bytes : Bytes) (whole :
   check_runs (Ok x) wrote none = record {
     done = record {
       wrote = record { bytes = bytes; whole = whole; text = wrote.text; said = wrote.said; written = wrote.written };
+      read = tt;
       calm = calm;
     };
     refused = tt;

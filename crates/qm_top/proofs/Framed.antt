@@ -8,7 +8,6 @@ use Rattle.def_io.specs.Faults.{Rose}
 use Rattle.def_io.specs.Bytes.{Bytes}
 use Rattle.def_io.specs.Moves.{took, IsStill, Stream, TookPrefix}
 use Rattle.def_layout.specs.Plans.{Plan}
-use Rattle.def_remesh.specs.Certified.{IsShown}
 use Rattle.def_remesh.specs.Keeping.{IsKept}
 use Rattle.def_remesh.specs.Placings.{IsLayoutIn}
 use Rattle.def_remesh.specs.NewPoints.{lengths_in}
@@ -25,6 +24,7 @@ use Rattle.qm_top.specs.declared.refusal.Refusal.{Refusal}
 use Rattle.qm_top.specs.declared.refusal.Refusal.TheVariants.{Layout, Write}
 use Rattle.qm_top.specs.declared.refusal.Refusal.TheVariants as refusals
 use Rattle.remesh_laws.proofs.Keeps.{shown}
+use Rattle.remesh_laws.specs.Keeps.{ShowsTask}
 
 module _ (task : Task) (framed : Framed) (soup : FaceSet) (plan : Plan) (is : IsFramed task framed soup plan) where
   -- It is kept for the settings that it tells.
@@ -53,9 +53,9 @@ module _ (task : Task) (framed : Framed) (soup : FaceSet) (plan : Plan) (is : Is
   text_is = pieces_are ∙ append_assoc task.head (10 ∷ []) _
 
   -- Its text is that of the task.
-  pub framed_shown : IsLayoutIn soup.faces plan → IsShown task soup (framed_text framed soup plan)
+  pub framed_shown : IsLayoutIn soup.faces plan → ShowsTask task soup (framed_text framed soup plan)
   framed_shown lies =
-      subst (IsShown task soup) (sym text_is)
+      subst (ShowsTask task soup) (sym text_is)
       (shown task soup plan (lists_of framed.remesh.first) (option_map lists_of framed.remesh.third) framed.remesh.numbering lies is.cut is.kept)
 
 -- A text that was not written is not, whatever it says besides, and whatever layouts are refused besides.

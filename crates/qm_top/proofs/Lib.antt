@@ -1,3 +1,4 @@
+mod Asides
 mod Benched
 mod Checked
 mod Complete

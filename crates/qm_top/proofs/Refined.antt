@@ -14,7 +14,6 @@ use Rattle.def_remesh.specs.declared.kept.LayoutFail.{LayoutFail}
 use Rattle.def_remesh.specs.declared.kept.LayoutFail.TheVariants as layouts
 use Rattle.def_remesh.specs.declared.limits.TheConstants.{MAX_NEW_FACES}
 use Rattle.def_run.specs.Causes.{Cause}
-use Rattle.def_run.specs.Refine.{IsRefined}
 use Rattle.def_run.specs.Remesh.{IsCutTo}
 use Rattle.def_run.specs.declared.command.Command.TheVariants.{Refine}
 use Rattle.def_run.specs.declared.command.TheConstants.{MAX_MULTIPLE}
@@ -24,7 +23,7 @@ use Rattle.def_text.specs.declared.limits.TheConstants.{MAX_BYTES}
 use Rattle.def_written.specs.NewFaces.{face_count, new_faces}
 use Rattle.def_written.specs.Shape.{KeepsShape}
 use Rattle.qm_write.specs.declared.body.NewPoints.{NewPoints}
-use Rattle.qm_top.specs.Refining.{ArePointsBy, FailsToRefine}
+use Rattle.qm_top.specs.Refining.{ArePointsBy, FailsToRefine, ShowsRefined}
 use Rattle.qm_top.specs.Refusals.{answer_of_layout}
 use Rattle.qm_top.proofs.Writers.{IsWriter}
 use Rattle.remesh_laws.proofs.ReadAgain.{refined_read}
@@ -32,17 +31,19 @@ use Rattle.remesh_laws.proofs.ReadAgain.{refined_read}
 -- The text of a mesh with multiples of the old lengths is one of a refined mesh.
 pub is_refined : (by : ℕ) (soup : FaceSet) (plan : Plan) → 1 ≤ by → by ≤ MAX_MULTIPLE → IsLayoutIn soup.faces plan → IsCutTo soup.faces plan
     → KeepsShapes plan (multiple_of by (long_at plan.arcs)) → refined_faces by plan ≤ MAX_NEW_FACES
-    → IsRefined by soup (refined_text by soup plan)
+    → ShowsRefined by soup (refined_text by soup plan)
 is_refined by soup plan some few (is, same) cut keeps fits = record {
-  plan = plan;
-  cut = cut;
-  fits = fits;
-  written = refl;
+  refined = record {
+    plan = plan;
+    cut = cut;
+    fits = fits;
+    written = refl;
+    shape = subst
+        (λ (fs : Faces). KeepsShape fs (new_faces (layout_of plan) (multiple_of by (long_at plan.arcs))) (layout_of plan).nodes (vertex_at plan))
+        same
+        (keeps is.faces is.marks is.mesh is.quads is.cut is.laid);
+  };
   read = refined_read by soup plan is (omega (arith, some)) (omega (arith, few));
-  shape = subst
-      (λ (fs : Faces). KeepsShape fs (new_faces (layout_of plan) (multiple_of by (long_at plan.arcs))) (layout_of plan).nodes (vertex_at plan))
-      same
-      (keeps is.faces is.marks is.mesh is.quads is.cut is.laid);
 }
 
 -- Where the points stand, there are not too many faces.
@@ -54,12 +55,13 @@ fits_of by faces plan new points =
 -- What `refine` keeps once its mesh is read.
 pub refine_writer : (by : ℕ) (input out : Change) (soup : FaceSet) → IsManifold soup.faces
     → ReadSoup MAX_BYTES input.told input.told_now soup → input.faults_now ≡ input.faults
-    → IsWriter (Refine by) (IsRefined by soup) (FailsToRefine by soup) input out
+    → IsWriter (Refine by) (ShowsRefined by soup) (FailsToRefine by soup) input out
 refine_writer by input out soup manifold read calm = record {
   bytes = read.bytes;
   whole = read.whole;
   calm = calm;
-  writes = λ text refined. record { soup = soup; mesh = record { said = read.said; manifold = manifold }; refined = refined };
+  writes = λ text shows. record { soup = soup; mesh = record { said = read.said; manifold = manifold }; refined = shows.refined };
+  read = λ text shows. shows.read;
   refuses = refuses;
 }
   where

@@ -1,9 +1,10 @@
 -- What a command keeps that remeshes.
 use Rattle.std.specs.Prelude.{IfErr, IsErrOf, OnOk}
-use Rattle.std.proofs.Common.{◌≡◌, [], Bool, Result, Err, ap, inr, refl, subst, sym, ◌∙◌}
+use Rattle.std.proofs.Common.{◌≡◌, [], ◌∷◌, ◌++◌, codes, false, Bool, Result, Err, ap, inr, refl, subst, sym, ◌∙◌}
 use Rattle.std.proofs.lemmas.Result.{IfErr-weaker, on_ok_weaker}
 use Rattle.std.specs.Option.{option_map}
 use Rattle.def_certtext.specs.CertLines.{lists_of}
+use Rattle.def_certtext.specs.Settings.{AreInRange}
 use Rattle.def_certtext.specs.declared.Asked.{Asked}
 use Rattle.def_flow.specs.declared.net.Settings.{Settings}
 use Rattle.def_io.specs.Bytes.{Bytes}
@@ -24,14 +25,18 @@ use Rattle.qm_write.specs.declared.text.PutFail.{PutFail}
 use Rattle.qm_write.specs.declared.text.PutFail.TheVariants as puts
 use Rattle.def_layout.specs.FaceLayouts.{IsLayoutOf}
 use Rattle.def_layout.specs.Plans.{Plan}
-use Rattle.def_remesh.specs.Certified.{IsShown}
 use Rattle.def_remesh.specs.Refusals.{IsLayoutFail}
-use Rattle.def_remesh.specs.Tasks.{old_lengths, Task, Wish}
+use Rattle.def_remesh.specs.NewPoints.{lengths_in}
+use Rattle.def_remesh.specs.ReadAgain.{lines_between}
+use Rattle.def_remesh.specs.Remeshed.{used}
+use Rattle.def_remesh.specs.Tasks.{old_lengths, remesh_task, Task, Wish}
 use Rattle.def_run.specs.Causes.{Cause, Refused, Refuses, Writes}
 use Rattle.def_run.specs.Coarse.{AsksToMerge}
-use Rattle.def_run.specs.Crease.{AsksToCrease}
+use Rattle.def_run.specs.Crease.{creased_task, AsksToCrease}
+use Rattle.def_run.specs.Heads.{named_task}
 use Rattle.def_run.specs.Mesh.{IsMeshText}
 use Rattle.def_run.specs.Remesh.{Asks, AsksToRemesh, RefusesLayout, RefusesTask, WritesFinished}
+use Rattle.def_run.specs.Reread.{HasShortLines, Rereads, RereadsTask}
 use Rattle.def_run.specs.declared.answer.Answer.{Answer}
 use Rattle.def_run.specs.declared.answer.Answer.TheVariants as answers
 use Rattle.def_run.specs.declared.command.Command.{Command}
@@ -39,12 +44,31 @@ use Rattle.def_run.specs.declared.command.Command.TheVariants as commands
 use Rattle.qm_top.specs.Writing.{refusal_of_put, FailsAsked, FailsTask, IsUnwritten, ShowsAsked, WroteText}
 use Rattle.qm_top.specs.declared.finishing.Headed.{Headed}
 use Rattle.qm_top.specs.declared.refusal.Refusal.{Refusal}
+use Rattle.qm_top.proofs.Asides.{coarse_aside, crease_aside, marked_aside}
 use Rattle.qm_top.proofs.Framed.{unwritten_weaker}
 use Rattle.qm_top.proofs.Refusals.{NeedsMesh}
+use Rattle.remesh_laws.proofs.Asides.{head_aside, none_aside}
+use Rattle.remesh_laws.specs.Asides.{IsAside}
+use Rattle.remesh_laws.specs.Keeps.{ShowsTask}
 
--- What a command does that asks for a task: it writes it finished, or refuses it.
+-- Where a reader passes over the lines around the new mesh, it is read again.
+abbrev pub IsReadAside : (asks : Asks) (bytes text : Bytes) (said : WritesFinished asks bytes text) → Type 0
+IsReadAside asks bytes text said = IsAside (said.task.head ++ 10 ∷ []) → IsAside (lines_between said.task said.soup text said.shown.finished)
+    → RereadsTask asks bytes text said
+
+-- It does where the lines of the task that was asked are such.
+pub task_reread : (asks : Asks) (bytes text : Bytes) (said : WritesFinished asks bytes text) (task : Task) → said.task ≡ task → IsAside (task.head ++ 10 ∷ [])
+    → IsAside (task.between said.shown.finished.plan (lengths_in (used said.shown.finished.first said.shown.finished.third).x))
+    → IsReadAside asks bytes text said → RereadsTask asks bytes text said
+task_reread asks bytes text said task is head between read =
+    read (subst (λ (t : Task). IsAside (t.head ++ 10 ∷ [])) (sym is) head)
+    (subst (λ (t : Task). IsAside (t.between said.shown.finished.plan (lengths_in (used said.shown.finished.first said.shown.finished.third).x))) (sym is) between)
+
+-- What a command does that asks for a task: it writes it finished, so that it is read again, or refuses it.
 pub record IsTasked (command : Command) (asks : Asks) : Type 0 where
   pub writes : (bytes text : Bytes) → WritesFinished asks bytes text → Writes command bytes text
+  pub read : (bytes text : Bytes) (said : WritesFinished asks bytes text) → IsReadAside asks bytes text said
+      → Rereads command bytes text (writes bytes text said)
   pub refuses : (bytes : Bytes) (answer : Answer) → RefusesTask asks bytes answer → Refuses command bytes answer
 
 -- What such a command keeps that has read a mesh.
@@ -55,8 +79,10 @@ task_writer command asks input out soup needs tasked manifold read calm = record
   bytes = read.bytes;
   whole = needs.reads input read.bytes read.whole;
   calm = calm;
-  writes = λ text shown. tasked.writes read.bytes text
-      (record { soup = soup; mesh = mesh; task = shown.0; asked = shown.1; shown = shown.2 });
+  writes = λ text shows. tasked.writes read.bytes text
+      (record { soup = soup; mesh = mesh; task = shows.0; asked = shows.1; shown = shows.2.shown });
+  read = λ text shows. tasked.read read.bytes text
+      (record { soup = soup; mesh = mesh; task = shows.0; asked = shows.1; shown = shows.2.shown }) shows.2.read;
   refuses = refuses;
 }
   where
@@ -79,26 +105,45 @@ task_writer command asks input out soup needs tasked manifold read calm = record
     refuses (layouts.Doubled u v cert) (task, asked, (plan, cut, why)) = refused (answers.Doubled u v cert) task plan asked cut why
 
 -- The commands that do so.
-pub remesh_tasked : (settings : Settings) (auto : Bool) → IsTasked (commands.Remesh settings auto) (AsksToRemesh settings auto)
-remesh_tasked settings auto = record { writes = λ bytes text said. said; refuses = λ bytes answer why. why }
+pub remesh_tasked : (settings : Settings) (auto : Bool) → AreInRange settings auto → IsTasked (commands.Remesh settings auto) (AsksToRemesh settings auto)
+remesh_tasked settings auto range = record {
+  writes = λ bytes text said. said;
+  read = λ bytes text said read.
+      task_reread (AsksToRemesh settings auto) bytes text said (remesh_task settings auto said.soup.faces) said.asked (head_aside settings auto range) none_aside read;
+  refuses = λ bytes answer why. why;
+}
 
-pub crease_tasked : (settings : Settings) → IsTasked (commands.Crease settings) (AsksToCrease settings)
-crease_tasked settings = record { writes = λ bytes text said. said; refuses = λ bytes answer why. inr why }
+pub crease_tasked : (settings : Settings) → AreInRange settings false → IsTasked (commands.Crease settings) (AsksToCrease settings)
+crease_tasked settings range = record {
+  writes = λ bytes text said. said;
+  read = λ bytes text said read short.
+      task_reread (AsksToCrease settings) bytes text said (creased_task settings said.soup.faces said.asked.0) said.asked.2 (crease_aside settings range)
+      (marked_aside said.asked.0 said.shown.finished.plan (lengths_in (used said.shown.finished.first said.shown.finished.third).x)
+      (subst (λ (t : Task). HasShortLines (t.between said.shown.finished.plan (lengths_in (used said.shown.finished.first said.shown.finished.third).x)))
+      said.asked.2 short))
+      read;
+  refuses = λ bytes answer why. inr why;
+}
 
-pub coarse_tasked : (settings : Settings) → IsTasked (commands.Coarse settings) (AsksToMerge settings)
-coarse_tasked settings = record { writes = λ bytes text said. said; refuses = λ bytes answer why. why }
+pub coarse_tasked : (settings : Settings) → AreInRange settings false → IsTasked (commands.Coarse settings) (AsksToMerge settings)
+coarse_tasked settings range = record {
+  writes = λ bytes text said. said;
+  read = λ bytes text said read.
+      task_reread (AsksToMerge settings) bytes text said (named_task (codes "coarse") settings said.asked.0) said.asked.2 (coarse_aside settings range) none_aside read;
+  refuses = λ bytes answer why. why;
+}
 
 module _ (asks : Asks) (bytes : Bytes) (soup : FaceSet) (task : Task) (asked : asks bytes soup task) (result : Result (Unit {0}) Refusal) where
   -- What is done for a task is done for whoever asks for it.
-  pub asked_done : (out : Change) → OnOk result (WroteText (IsShown task soup) out) → OnOk result (WroteText (ShowsAsked asks bytes soup) out)
-  asked_done out done = on_ok_weaker result (λ (wrote : WroteText (IsShown task soup) out). record { text = wrote.text; said = (task, asked, wrote.said); written = wrote.written }) done
+  pub asked_done : (out : Change) → OnOk result (WroteText (ShowsTask task soup) out) → OnOk result (WroteText (ShowsAsked asks bytes soup) out)
+  asked_done out done = on_ok_weaker result (λ (wrote : WroteText (ShowsTask task soup) out). record { text = wrote.text; said = (task, asked, wrote.said); written = wrote.written }) done
 
   -- So is what is refused.
-  pub asked_refused : {O : Type 0} (out : Stream O) → IfErr result (IsUnwritten (IsShown task soup) (FailsTask task soup) out)
+  pub asked_refused : {O : Type 0} (out : Stream O) → IfErr result (IsUnwritten (ShowsTask task soup) (FailsTask task soup) out)
       → IfErr result (IsUnwritten (ShowsAsked asks bytes soup) (FailsAsked asks bytes soup) out)
   asked_refused out refused =
       IfErr-weaker result _ _
-      (unwritten_weaker (IsShown task soup) (ShowsAsked asks bytes soup) (FailsTask task soup) (FailsAsked asks bytes soup) out
+      (unwritten_weaker (ShowsTask task soup) (ShowsAsked asks bytes soup) (FailsTask task soup) (FailsAsked asks bytes soup) out
       (λ text shown. (task, asked, shown)) (λ fail fails. (task, asked, fails)))
       refused
 

@@ -37,6 +37,7 @@ module _ {S O E : Type 0} (words : Words) (input : Stream S) (out : Stream O) (e
   words_run fail answer line is refuses text said unread untouched calm = record {
     usage = not_accepted words fail answer is refuses;
     ran = λ usage memory. absurd (words_only fail answer is usage memory);
+    reread = λ done. absurd (not_done fail answer is done);
     told = λ refused. says_words words input.change err.change fail answer line is text said;
     complete = λ command spoken good. inr (inl (not_read words command fail answer is spoken refuses));
     settled = λ command spoken held. inr (inl (not_read words command fail answer is spoken refuses));
@@ -55,6 +56,7 @@ module _ {S O E : Type 0} (words : Words) (input : Stream S) (out : Stream O) (e
     done_run finished quiet = record {
       usage = λ never. absurd cc;
       ran = λ usage memory. record { command = read; line = spoken; cause = finished.wrote };
+      reread = λ _. record { command = read; line = spoken; wrote = finished.wrote; read = finished.read };
       told = λ refused. absurd (refused refl);
       complete = λ command line good. inl refl;
       settled = λ command line held. inl tt;
@@ -73,6 +75,7 @@ module _ {S O E : Type 0} (words : Words) (input : Stream S) (out : Stream O) (e
     refused_run r answer names line is named refused accepted ended untouched text said = record {
       usage = λ usage. absurd (accepted usage);
       ran = λ usage memory. record { command = read; line = spoken; cause = subst (Cause read input.change out.change) (sym is) ended.cause };
+      reread = λ done. absurd (refused done);
       told = λ _. says_why words read input.change err.change r answer names line spoken is named ended.names text said;
       complete = λ command other good.
           completes_as read command input.change out.change answer (answer_of r) is (same_command read command (accepts command other)) ended.cause good;

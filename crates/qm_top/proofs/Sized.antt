@@ -1,6 +1,6 @@
 -- What `size` keeps.
 use Rattle.std.specs.Prelude.{IfErr, OnOk}
-use Rattle.std.proofs.Common.{◌≡◌, ◌++◌, ◌∷◌, [], false, Result, Ok, Err, ℕ, ℤ, ap, inr, refl, subst}
+use Rattle.std.proofs.Common.{◌≡◌, ◌≤◌, ◌<◌, ◌^◌, ◌++◌, ◌∷◌, [], false, Result, Ok, Err, ℕ, ℤ, ap, inr, refl, subst}
 use Rattle.std.proofs.lemmas.Result.{IfErr-weaker}
 use Rattle.std.specs.Option.{option_map}
 use Rattle.std.specs.Prelude.{unsigned_abs}
@@ -42,6 +42,9 @@ use Rattle.qm_top.specs.declared.refusal.Refusal.{Refusal}
 use Rattle.qm_top.specs.declared.refusal.Refusal.TheVariants.{Far}
 use Rattle.plan_laws.proofs.OnePlan.{one_layout_law}
 use Rattle.site_laws.proofs.Laws.{graph_law}
+use Rattle.remesh_laws.proofs.Asides.{none_aside}
+use Rattle.qm_top.proofs.Asides.{size_aside}
+use Rattle.qm_top.proofs.Remeshed.{task_reread}
 use Rattle.qm_top.proofs.Writers.{writer_runs, IsWriter}
 use Rattle.qm_write.specs.declared.text.Framed.{Framed}
 
@@ -83,12 +86,15 @@ module _ (edge : ℤ) (floor : ℕ) (input out : Change) (soup : FaceSet) (manif
     said = refused (AsksForNearSize edge floor) (answers.Doubled u v cert) task plan asked cut why;
   }
 
-  size_writer : IsWriter (Size edge floor) (ShowsAsked (AsksForNearSize edge floor) read.bytes soup) (FailsSize edge floor read.bytes soup) input out
-  size_writer = record {
+  size_writer : unsigned_abs edge ≤ 999_999_999_999_999 → floor < 2 ^ 64 → IsWriter (Size edge floor) (ShowsAsked (AsksForNearSize edge floor) read.bytes soup) (FailsSize edge floor read.bytes soup) input out
+  size_writer near few = record {
     bytes = read.bytes;
     whole = read.whole;
     calm = calm;
-    writes = λ text shown. record { soup = soup; mesh = mesh; task = shown.0; asked = shown.1; shown = shown.2 };
+    writes = λ text shows. record { soup = soup; mesh = mesh; task = shows.0; asked = shows.1; shown = shows.2.shown };
+    read = λ text shows. task_reread (AsksForNearSize edge floor) read.bytes text
+        (record { soup = soup; mesh = mesh; task = shows.0; asked = shows.1; shown = shows.2.shown }) (size_task edge floor soup) shows.1.0
+        (size_aside edge near floor few) none_aside shows.2.read;
     refuses = refuses;
   }
 
@@ -99,20 +105,20 @@ module _ (edge : ℤ) (floor : ℕ) (input out : Change) (soup : FaceSet) (manif
     said = record { soup = soup; mesh = mesh; plan = plan; cut = cut; far = far };
   }
 
-pub size_runs : {O : Type 0} (edge : ℤ) (floor : ℕ) (input : Change) (out : Stream O) (soup : FaceSet) → IsManifold soup.faces
+pub size_runs : {O : Type 0} (edge : ℤ) (floor : ℕ) → unsigned_abs edge ≤ 999_999_999_999_999 → floor < 2 ^ 64 → (input : Change) (out : Stream O) (soup : FaceSet) → IsManifold soup.faces
     → (read : ReadSoup MAX_BYTES input.told input.told_now soup) → input.faults_now ≡ input.faults → (result : Result (Unit {0}) Refusal)
     → OnOk result (WroteText (ShowsAsked (AsksForNearSize edge floor) read.bytes soup) out.change)
     → IfErr result (IsUnsized (ShowsAsked (AsksForNearSize edge floor) read.bytes soup) (FailsSize edge floor read.bytes soup) (IsFarSoup edge floor soup) out)
     → HasRun (Size edge floor) input out result
-size_runs edge floor input out soup manifold read calm (Err (Far sum)) wrote none = record {
+size_runs edge floor near few input out soup manifold read calm (Err (Far sum)) wrote none = record {
   done = tt;
   refused = record { cause = far_cause edge floor input out.change soup manifold read calm sum none.1; names = λ p same. cc; calm = λ _ _. calm };
   untouched = λ other. none.0;
 }
-size_runs edge floor input out soup manifold read calm (Ok x) wrote none =
-    writer_runs _ _ _ _ _ (size_writer edge floor input out.change soup manifold read calm) (Ok x) wrote tt
-size_runs edge floor input out soup manifold read calm (Err r) wrote none =
-    writer_runs _ _ _ _ _ (size_writer edge floor input out.change soup manifold read calm) (Err r) wrote none
+size_runs edge floor near few input out soup manifold read calm (Ok x) wrote none =
+    writer_runs _ _ _ _ _ (size_writer edge floor input out.change soup manifold read calm near few) (Ok x) wrote tt
+size_runs edge floor near few input out soup manifold read calm (Err r) wrote none =
+    writer_runs _ _ _ _ _ (size_writer edge floor input out.change soup manifold read calm near few) (Err r) wrote none
 
 -- A text that was not written for a task was not written.
 unsized : {O : Type 0} (says : Bytes → Type 0) (fails : LayoutFail → Type 0) (far : ℕ → Type 0) (out : Stream O) (r : Refusal)

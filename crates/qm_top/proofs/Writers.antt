@@ -14,6 +14,7 @@ use Rattle.def_remesh.specs.declared.kept.LayoutFail.{LayoutFail}
 use Rattle.def_remesh.specs.declared.kept.LayoutFail.TheVariants as layouts
 use Rattle.def_run.specs.Causes.{Cause, Reads, Writes}
 use Rattle.def_run.specs.Remesh.{IsCutTo}
+use Rattle.def_run.specs.Reread.{Rereads}
 use Rattle.def_run.specs.declared.answer.Answer.TheVariants as answers
 use Rattle.def_run.specs.declared.command.Command.{Command}
 use Rattle.qm_top.specs.Refusals.{answer_of, answer_of_layout, Ended}
@@ -46,6 +47,7 @@ pub record IsWriter (command : Command) (says : Bytes → Type 0) (fails : Layou
   pub whole : Reads command input bytes
   pub calm : input.faults_now ≡ input.faults
   pub writes : (text : Bytes) → says text → Writes command bytes text
+  pub read : (text : Bytes) (said : says text) → Rereads command bytes text (writes text said)
   pub refuses : (fail : LayoutFail) → fails fail → Cause command input out (answer_of_layout fail)
 
 module _ {O : Type 0} (command : Command) (says : Bytes → Type 0) (fails : LayoutFail → Type 0) (input : Change) (out : Stream O)
@@ -87,6 +89,7 @@ module _ {O : Type 0} (command : Command) (says : Bytes → Type 0) (fails : Lay
         said = is.writes wrote.text wrote.said;
         written = wrote.written;
       };
+      read = is.read wrote.text wrote.said;
       calm = is.calm;
     };
     refused = tt;

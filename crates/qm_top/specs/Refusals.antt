@@ -20,6 +20,7 @@ use Rattle.def_remesh.specs.declared.kept.LayoutFail.{LayoutFail}
 use Rattle.def_remesh.specs.declared.kept.LayoutFail.TheVariants as layouts
 use Rattle.def_run.specs.Causes.{Cause, Wrote}
 use Rattle.def_run.specs.Messages.{AreNames}
+use Rattle.def_run.specs.Reread.{Rereads}
 use Rattle.def_run.specs.declared.answer.Answer.{Answer}
 use Rattle.def_run.specs.declared.answer.Answer.TheVariants.{Usage, Syntax, NotQuad, Range, Limit, ReadFault}
 use Rattle.def_run.specs.declared.answer.Answer.TheVariants.{WriteFault, Memory}
@@ -109,9 +110,10 @@ IsInputRefusal input (NotManifold named) = ReadNoManifold input named.place name
 IsInputRefusal input refusals.Memory = ⊤
 IsInputRefusal input _ = ⊥
 
--- A command's text was written, and the source had no fault.
+-- A command's text was written, which is read again, and the source had no fault.
 pub record Finished (command : Command) (input out : Change) : Type 0 where
   pub wrote : Wrote command input out
+  pub read : Rereads command wrote.bytes wrote.text wrote.said
   pub calm : input.faults_now ≡ input.faults
 
 -- A command ended with a refusal that has its cause, and with the numbers of the file.

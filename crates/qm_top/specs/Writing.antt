@@ -14,9 +14,9 @@ use Rattle.qm_top.specs.declared.refusal.Refusal.{Refusal}
 use Rattle.qm_top.specs.declared.refusal.Refusal.TheVariants.{Layout, Write}
 use Rattle.qm_top.specs.declared.refusal.Refusal.TheVariants as refusals
 use Rattle.def_layout.specs.FaceLayouts.{IsLayoutOf}
-use Rattle.def_remesh.specs.Certified.{IsShown}
 use Rattle.def_remesh.specs.Tasks.{Task}
 use Rattle.def_run.specs.Remesh.{Asks}
+use Rattle.remesh_laws.specs.Keeps.{ShowsTask}
 
 -- The sink took a text that says this.
 pub record WroteText (says : Bytes → Type 0) (out : Change) : Type 0 where
@@ -47,7 +47,7 @@ FailsTask task soup failed =
 
 -- A text that finishes a task which is asked of these bytes and their soup.
 abbrev pub ShowsAsked : (asks : Asks) (bytes : Bytes) (soup : FaceSet) (text : Bytes) → Type 0
-ShowsAsked asks bytes soup text = (task : Task) × asks bytes soup task × IsShown task soup text
+ShowsAsked asks bytes soup text = (task : Task) × asks bytes soup task × ShowsTask task soup text
 
 -- Why such a task is not finished.
 abbrev pub FailsAsked : (asks : Asks) (bytes : Bytes) (soup : FaceSet) (failed : LayoutFail) → Type 0

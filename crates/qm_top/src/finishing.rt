@@ -5,9 +5,9 @@ ghost use Rattle.def_certtext.specs.Settings.{AreInRange};
 ghost use Rattle.def_io.specs.Faults.{Rose};
 ghost use Rattle.def_io.specs.Moves.{change, stream, took, TookPrefix};
 ghost use Rattle.def_layout.specs.Plans.{plan};
-ghost use Rattle.def_remesh.specs.Certified.{IsShown};
 ghost use Rattle.def_remesh.specs.Placings.{IsLayoutIn};
 ghost use Rattle.def_remesh.specs.Tasks.{Task};
+ghost use Rattle.remesh_laws.specs.Keeps.{ShowsTask};
 ghost use Rattle.qm_top.specs.Finishing.{framed_text, IsFramed, IsHeaded, IsNoLayout};
 ghost use Rattle.qm_top.specs.Writing.{FailsTask, IsUnwritten, WroteText};
 
@@ -40,9 +40,9 @@ pub(crate) fn finish<O: Sink>(
     requires range { AreInRange headed.asked.settings headed.asked.auto }
     requires headed { (task : Task) × IsHeaded task headed soup.now (plan cut.now.layout) }
     ensures done { (task : Task) → IsHeaded task headed soup.now (plan cut.now.layout)
-        → OnOk result (WroteText (IsShown task soup.now) (change (O.state out.old) (O.state out.new))) }
+        → OnOk result (WroteText (ShowsTask task soup.now) (change (O.state out.old) (O.state out.new))) }
     ensures refused { (task : Task) → IsHeaded task headed soup.now (plan cut.now.layout)
-        → IfErr result (IsUnwritten (IsShown task soup.now) (FailsTask task soup.now)
+        → IfErr result (IsUnwritten (ShowsTask task soup.now) (FailsTask task soup.now)
         (stream O.state out.old out.new)) }
 {
     let remesh = keep(alloc, &cut.layout, headed.asked)?;
@@ -67,9 +67,9 @@ pub(crate) fn write_task<O: Sink>(
     requires layout { IsLayoutIn cut.now.mesh (plan cut.now.layout) }
     requires framed { (task : Task) × IsFramed task framed soup.now (plan cut.now.layout) }
     ensures done { (task : Task) → IsFramed task framed soup.now (plan cut.now.layout)
-        → OnOk result (WroteText (IsShown task soup.now) (change (O.state out.old) (O.state out.new))) }
+        → OnOk result (WroteText (ShowsTask task soup.now) (change (O.state out.old) (O.state out.new))) }
     ensures refused { (task : Task) → IsFramed task framed soup.now (plan cut.now.layout)
-        → IfErr result (IsUnwritten (IsShown task soup.now) IsNoLayout (stream O.state out.old out.new)) }
+        → IfErr result (IsUnwritten (ShowsTask task soup.now) IsNoLayout (stream O.state out.old out.new)) }
 {
     write_framed(alloc, soup, cut, framed, out)?;
     Ok(())

@@ -6,9 +6,8 @@ ghost use Rattle.def_io.specs.Moves.{change, stream, took, TookPrefix};
 ghost use Rattle.def_layout.specs.Plans.{plan};
 ghost use Rattle.def_remesh.specs.Placings.{IsLayoutIn};
 ghost use Rattle.def_remesh.specs.Refined.{refined_text};
-ghost use Rattle.def_run.specs.Refine.{IsRefined};
 ghost use Rattle.def_run.specs.declared.command.TheConstants.{MAX_MULTIPLE};
-ghost use Rattle.qm_top.specs.Refining.{ArePointsBy, FailsToRefine, HasNoPoints};
+ghost use Rattle.qm_top.specs.Refining.{ArePointsBy, FailsToRefine, HasNoPoints, ShowsRefined};
 ghost use Rattle.qm_top.specs.Runs.{HasRun};
 ghost use Rattle.qm_top.specs.Writing.{IsUnwritten, WroteText};
 
@@ -54,9 +53,9 @@ fn refine_mesh<O: Sink>(alloc: Global, by: u32, read: MeshInput, out: &mut O) ->
     requires some { 1 ≤ by }
     requires few { by ≤ MAX_MULTIPLE }
     requires mesh { read.mesh ≡ read.soup.faces }
-    ensures done { OnOk result (WroteText (IsRefined by read.soup)
+    ensures done { OnOk result (WroteText (ShowsRefined by read.soup)
         (change (O.state out.old) (O.state out.new))) }
-    ensures refused { IfErr result (IsUnwritten (IsRefined by read.soup) (FailsToRefine by read.soup)
+    ensures refused { IfErr result (IsUnwritten (ShowsRefined by read.soup) (FailsToRefine by read.soup)
         (stream O.state out.old out.new)) }
 {
     let MeshInput { soup, mesh } = read;

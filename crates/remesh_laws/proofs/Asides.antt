@@ -24,15 +24,16 @@ use Rattle.def_text.specs.Laws.{is_position, is_quad, IsWritableSoup}
 use Rattle.def_text.specs.Logical.{continues, is_hash, with_space}
 use Rattle.def_text.specs.Reading.{begins_with}
 use Rattle.def_text.specs.Words.{words}
-use Rattle.def_remesh.specs.ReadAgain.{ends_line, IsAside, IsPassedOver}
+use Rattle.def_remesh.specs.ReadAgain.{ends_line}
 use Rattle.def_remesh.specs.Refined.{refine_head}
 use Rattle.qm_certtext.proofs.Counts.{small_parts}
 use Rattle.qm_certtext.proofs.Telling.{floor_low}
-use Rattle.qm_certtext.proofs.Texts.{both_inside, head_inside, lines_inside, number_inside}
+use Rattle.qm_certtext.proofs.Texts.{both_inside, lines_inside, number_inside, settings_inside, settings_line}
 use Rattle.qm_obj.proofs.LawSoup.{canonical_lines, each_both, each_map, face_line, face_line_is, position_line, position_line_is, text_lines}
 use Rattle.qm_obj.proofs.LawText.{is_inside, lines_back, lines_split, no_continuation, IsLine}
 use Rattle.qm_obj.proofs.ListLemmas.{passes_at}
 use Rattle.qm_obj.proofs.SoupLemmas.{are_below}
+use Rattle.remesh_laws.specs.Asides.{IsAside, IsPassedOver}
 
 -- ---- Whole lines.
 
@@ -48,7 +49,7 @@ ends_last [] = refl
 ends_last (byte ∷ []) = refl
 ends_last (byte ∷ next ∷ line) = ends_last (next ∷ line)
 
-ends_lines : (lines : Lines) → ends_line (flat_map (λ l. l ++ 10 ∷ []) lines) ≡ true
+pub ends_lines : (lines : Lines) → ends_line (flat_map (λ l. l ++ 10 ∷ []) lines) ≡ true
 ends_lines [] = refl
 ends_lines (line ∷ lines) = ends_append (line ++ 10 ∷ []) (flat_map (λ l. l ++ 10 ∷ []) lines) (ends_last line) (ends_lines lines)
 
@@ -117,7 +118,7 @@ pub none_aside : IsAside []
 none_aside = record { ended = refl; each = λ k l. absurd (omega (arith, l)) }
 
 -- How long numbers are.
-number_short : (n : ℕ) → n < 2 ^ 64 → length (decimal n) ≤ 20
+pub number_short : (n : ℕ) → n < 2 ^ 64 → length (decimal n) ≤ 20
 number_short n low = length-decimal-le 20 n (omega arith) (omega arith) (omega (arith, low))
 
 signed_short : (z : ℤ) → unsigned_abs z < 10 ^ 18 → length (signed_decimal z) ≤ 21
@@ -149,7 +150,7 @@ cert_lines_passed auto said all = subst (λ (ls : Lines). (k : ℕ) → k < leng
     lines : lines_of (text_of said) ≡ map line_text said
     lines = ap lines_of (sym (flat_map-map (λ l. l ++ 10 ∷ []) line_text said)) ∙ lines_back (map line_text said) (lines_inside auto said all)
 
--- ---- The head lines.
+-- ---- Head lines.
 
 floor_short : (floor : ℕ) (auto : Bool) → IsFloor floor auto → length (floor_text floor auto) ≤ 20
 floor_short floor true may = omega arith
@@ -159,25 +160,29 @@ weight_short : (weight : Weight) → length (weight_text weight) ≤ 20
 weight_short Plain = omega arith
 weight_short ByLength = omega arith
 
-pub head_aside : (settings : Settings) (auto : Bool) → AreInRange settings auto → IsAside (head_line settings auto ++ 10 ∷ [])
-head_aside settings auto range = line_aside (head_line settings auto) refl (head_inside settings auto range) short
+-- A text of a line that ends with settings.
+pub settings_aside : (front : Bytes) (settings : Settings) (auto : Bool) → get_or (settings_line front settings auto) 0 0 ≡ 35 → list_all is_inside front ≡ true
+    → length front ≤ 64 → AreInRange settings auto → IsAside (settings_line front settings auto ++ 10 ∷ [])
+settings_aside front settings auto begins inside few range =
+    line_aside (settings_line front settings auto) begins (settings_inside front settings auto inside range) short
   where
     scale : Bytes
-    scale = codes "#quadq 1 remesh scale " ++ scale_text settings
+    scale = front ++ scale_text settings
 
     floor : Bytes
     floor = (scale ++ codes " floor ") ++ floor_text settings.floor auto
 
-    scale_short : length scale ≤ 64
+    scale_short : length scale ≤ 128
     scale_short = omega (
       arith,
-      length-append (codes "#quadq 1 remesh scale ") (scale_text settings),
+      few,
+      length-append front (scale_text settings),
       length-append (decimal settings.p) (47 ∷ decimal settings.q),
       number_short settings.p (omega (arith, range.p_high)),
       number_short settings.q (omega (arith, range.q_high)),
     )
 
-    short : length (head_line settings auto) ≤ 65536
+    short : length (settings_line front settings auto) ≤ 65536
     short = omega (
       arith,
       length-append (floor ++ codes " weight ") (weight_text settings.weight),
@@ -188,6 +193,9 @@ head_aside settings auto range = line_aside (head_line settings auto) refl (head
       floor_short settings.floor auto range.floor,
       weight_short settings.weight,
     )
+
+pub head_aside : (settings : Settings) (auto : Bool) → AreInRange settings auto → IsAside (head_line settings auto ++ 10 ∷ [])
+head_aside settings auto range = settings_aside (codes "#quadq 1 remesh scale ") settings auto refl refl (omega arith) range
 
 pub refine_aside : (by : ℕ) → by < 2 ^ 64 → IsAside (refine_head by)
 refine_aside by low = line_aside (codes "#quadq 1 refine by " ++ decimal by) refl inside short

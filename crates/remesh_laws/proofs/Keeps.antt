@@ -3,7 +3,7 @@ use Rattle.std.proofs.lemmas.Bool.{cases_lt}
 use Rattle.std.proofs.lemmas.List.{get_or_past}
 use Rattle.std.proofs.Common.{◌≡◌, ◌≤◌, ◌<◌, ◌⊎◌, inl, inr, ℕ, Bool, true, false, Option, Some, None, List, length, sym, ◌∙◌, ap, subst, refl, arith}
 use Rattle.std.proofs.lemmas.Int.{ints}
-use Rattle.std.specs.Prelude.{IsErrOf, Result, Err, [], ◌∷◌, ◌++◌}
+use Rattle.std.specs.Prelude.{IsErrOf, Result, Err}
 use Rattle.def_certtext.specs.CertLines.{lists_of, Lists}
 use Rattle.def_flow.specs.Accepted.{certificate}
 use Rattle.def_flow.specs.Admissible.{IsEven}
@@ -17,18 +17,14 @@ use Rattle.def_layout.specs.Lengths.{AreLengths as AreArcLengths}
 use Rattle.def_layout.specs.Plans.{Plan, layout_of, vertex_at}
 use Rattle.def_mesh.specs.Faces.{Faces}
 use Rattle.def_remesh.specs.Placings.{IsLayoutIn}
-use Rattle.def_io.specs.Bytes.{Bytes}
 use Rattle.def_text.specs.FaceSet.{FaceSet}
-use Rattle.def_text.specs.Text.{soup_in}
 use Rattle.def_written.specs.Shape.{KeepsShape}
 use Rattle.def_written.specs.Edges.{IsFirstDoubled}
 use Rattle.def_written.specs.NewFaces.{new_faces}
 use Rattle.def_remesh.specs.Keeping.{IsKept}
 use Rattle.def_remesh.specs.NewPoints.{lengths_in}
-use Rattle.def_remesh.specs.NewSoup.{new_soup}
-use Rattle.def_remesh.specs.ReadAgain.{IsAside, IsReadAgain}
 use Rattle.def_remesh.specs.Refusals.{AreTooFine}
-use Rattle.def_remesh.specs.Certified.{AreKept, IsCertified, IsShown}
+use Rattle.def_remesh.specs.Certified.{AreKept, IsCertified}
 use Rattle.def_remesh.specs.Remeshed.{AreKeptBy, HasLeastLengths, AreCoarse, AreDoubled, finished_text, used, with_floor}
 use Rattle.def_remesh.specs.Stitched.{AreLong, AreSafe, IsUnstitched, KeepsShapes}
 use Rattle.def_remesh.specs.Tasks.{Task, Wish}
@@ -36,7 +32,7 @@ use Rattle.def_remesh.specs.declared.fail.StitchFail.{StitchFail}
 use Rattle.def_remesh.specs.declared.fail.StitchFail.TheVariants as fails
 use Rattle.def_remesh.specs.declared.tables.Tables.{Tables}
 use Rattle.def_remesh.specs.Keeping.{IsNetFor}
-use Rattle.remesh_laws.specs.Keeps.{IsNumbered}
+use Rattle.remesh_laws.specs.Keeps.{IsNumbered, ShowsTask}
 use Rattle.plan_laws.proofs.MeshLayouts.{laid_of}
 use Rattle.remesh_laws.proofs.Certified.{certified_lengths}
 use Rattle.remesh_laws.proofs.ReadAgain.{task_read}
@@ -170,33 +166,28 @@ least_of wish plan settings auto first None kept = kept.lengths
 least_of wish plan settings true first (Some third) kept = (kept.0.lengths, kept.1, kept.2, kept.3.lengths)
 least_of wish plan settings false first (Some third) kept = absurd kept
 
--- What is kept of a layout is read again from its text.
-pub kept_read : (task : Task) (soup : FaceSet) (plan : Plan) (first : Lists) (third : Option Lists) (tables : Tables) (text : Bytes)
-    → IsKept task.wish plan task.settings task.auto first third tables → text ≡ finished_text task soup plan first third
-    → IsAside (task.head ++ 10 ∷ []) → IsAside (task.between plan (lengths_in (used first third).x))
-    → IsReadAgain text (new_soup soup plan (lengths_in (used first third).x))
-kept_read task soup plan first third tables text kept written head between readable =
-    ap soup_in written
-    ∙ task_read task soup plan first third (laid_of plan kept.numbering.mesh)
-    (subst (λ (xs : List ℕ). AreArcLengths (layout_of plan) (lengths_in xs)) kept.lengths kept.numbering.lengths)
-    (least_of task.wish plan task.settings task.auto first third kept.kept) head between readable
-
 -- What is kept of a layout that a task's cut gives finishes the task, and shows it.
 pub shown : (task : Task) (soup : FaceSet) (plan : Plan) (first : Lists) (third : Option Lists) (tables : Tables) → IsLayoutIn soup.faces plan
     → IsLayoutOf soup.faces task.marks plan → IsKept task.wish plan task.settings task.auto first third tables
-    → IsShown task soup (finished_text task soup plan first third)
-shown task soup plan first third tables lies cut kept = record {
-  finished = record {
-    plan = plan;
-    cut = cut;
-    first = first;
-    third = third;
-    lengths = least_of task.wish plan task.settings task.auto first third kept.kept;
-    coarse = kept.coarse;
-    undoubled = kept.undoubled;
-    written = refl;
-    read = kept_read task soup plan first third tables (finished_text task soup plan first third) kept refl;
-    shape = kept_shape soup plan (used first third).x lies kept.shape;
-  };
-  certified = kept.kept;
-}
+    → ShowsTask task soup (finished_text task soup plan first third)
+shown task soup plan first third tables lies cut kept =
+    let lengths : AreKeptBy (HasLeastLengths task.wish plan) plan task.settings task.auto first third =
+    least_of task.wish plan task.settings task.auto first third kept.kept in
+    record {
+      shown = record {
+        finished = record {
+          plan = plan;
+          cut = cut;
+          first = first;
+          third = third;
+          lengths = lengths;
+          coarse = kept.coarse;
+          undoubled = kept.undoubled;
+          written = refl;
+          shape = kept_shape soup plan (used first third).x lies kept.shape;
+        };
+        certified = kept.kept;
+      };
+      read = task_read task soup plan first third (laid_of plan kept.numbering.mesh)
+          (subst (λ (xs : List ℕ). AreArcLengths (layout_of plan) (lengths_in xs)) kept.lengths kept.numbering.lengths) lengths;
+    }

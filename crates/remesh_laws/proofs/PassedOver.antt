@@ -22,7 +22,7 @@ use Rattle.def_text.specs.declared.reading.Reading.TheVariants.{Face as Said, Pa
 use Rattle.def_text.specs.declared.refusal.ObjFail.{ObjFail}
 use Rattle.def_text.specs.declared.refusal.ObjFail.TheVariants.{Limit, NotQuad, Range, Syntax}
 use Rattle.def_text.specs.declared.refusal.Which.TheVariants as limits
-use Rattle.def_remesh.specs.ReadAgain.{IsPassedOver}
+use Rattle.remesh_laws.specs.Asides.{IsPassedOver}
 
 -- ---- One line under two numbers.
 

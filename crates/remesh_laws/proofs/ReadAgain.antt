@@ -20,10 +20,10 @@ use Rattle.def_text.specs.Laws.{IsWritableSoup}
 use Rattle.def_text.specs.Text.{numbers_to, soup_in, text_soup}
 use Rattle.def_remesh.specs.NewPoints.{lengths_in, multiple_of}
 use Rattle.def_remesh.specs.NewSoup.{new_soup}
-use Rattle.def_remesh.specs.ReadAgain.{IsAside, IsPassedOver, IsReadAgain}
+use Rattle.def_remesh.specs.ReadAgain.{IsReadAgain}
 use Rattle.def_remesh.specs.Refined.{refine_head, refined_text}
 use Rattle.def_remesh.specs.Remeshed.{certificate_lines, finished_text, used, AreKeptBy, HasLeastLengths}
-use Rattle.def_remesh.specs.Tasks.{Task, Wish}
+use Rattle.def_remesh.specs.Tasks.{remesh_task, Task, Wish}
 use Rattle.def_remesh.specs.TextLaws.{ReadAgainLaw}
 use Rattle.qm_certtext.proofs.Telling.{chosen_allowed}
 use Rattle.qm_obj.proofs.LawSoup.{each_both, text_back}
@@ -33,6 +33,7 @@ use Rattle.remesh_laws.proofs.NewSoups.{new_names, writable}
 use Rattle.remesh_laws.proofs.PassedOver.{passed_over}
 use Rattle.remesh_laws.proofs.Printable.{mesh_layout, printable}
 use Rattle.remesh_laws.proofs.Told.{used_lengths}
+use Rattle.remesh_laws.specs.Asides.{IsAside, IsPassedOver}
 use Rattle.plan_laws.proofs.MeshLayouts.{laid_of, lies}
 use Rattle.written_laws.proofs.Shape.{multiple_law}
 
@@ -95,9 +96,16 @@ task_read task soup plan first third laid len kept head between is =
 
 pub read_again_law : ReadAgainLaw
 read_again_law settings auto soup text range solid is few_vertices few_faces =
-    is.read (head_aside settings auto range) none_aside (record {
-      near = (printable soup solid is.plan (mesh_layout soup is.plan solid is.cut) (lengths_in (used is.first is.third).x)
-          (used_lengths _ is.plan settings auto is.first is.third range is.lengths) is.coarse).positions;
+    ap soup_in is.written
+    ∙ task_read (remesh_task settings auto soup.faces) soup is.plan is.first is.third (laid_of is.plan mesh) lengths is.lengths (head_aside settings auto range)
+    none_aside (record {
+      near = (printable soup solid is.plan mesh (lengths_in (used is.first is.third).x) lengths is.coarse).positions;
       few_vertices = few_vertices;
       few_faces = few_faces;
     })
+  where
+    mesh : IsMeshLayout is.plan
+    mesh = mesh_layout soup is.plan solid is.cut
+
+    lengths : AreLengths (layout_of is.plan) (lengths_in (used is.first is.third).x)
+    lengths = used_lengths _ is.plan settings auto is.first is.third range is.lengths

@@ -6,13 +6,13 @@ use Rattle.def_certtext.specs.CertLines.{lists_of}
 use Rattle.def_certtext.specs.declared.Asked.{Asked}
 use Rattle.def_layout.specs.Plans.{plan}
 use Rattle.def_marks.specs.MarkedText.{marked_text}
-use Rattle.def_remesh.specs.Certified.{IsShown}
 use Rattle.def_remesh.specs.Keeping.{IsKept}
 use Rattle.def_remesh.specs.NewPoints.{lengths_in}
 use Rattle.def_remesh.specs.Remeshed.{used}
 use Rattle.def_remesh.specs.Tasks.{old_lengths}
 use Rattle.def_run.specs.Crease.{AsksToCrease, creased_task}
 use Rattle.qm_top.proofs.Creased.{creased_fails, creased_framed}
+use Rattle.remesh_laws.specs.Keeps.{ShowsTask}
 use Rattle.qm_top.proofs.Framed.{unwritten_weaker}
 use Rattle.qm_top.proofs.Remeshed.{asked_done, asked_refused}
 use Rattle.qm_top.specs.Finishing.{IsNoLayout}
@@ -58,7 +58,7 @@ returns-clause-done g c bytes said =
 pub returns-clause-refused : goal.returns-clause-refused
 returns-clause-refused g c bytes said =
     let task = creased_task c.args.settings c.args.marked.read.soup.faces c.args.marked.marks.items in
-    let shows = IsShown task c.args.marked.read.soup in
+    let shows = ShowsTask task c.args.marked.read.soup in
     asked_refused (AsksToCrease c.args.settings) bytes c.args.marked.read.soup task (c.args.marked.marks.items, said, refl) c.write_task.result _
     (IfErr-weaker c.write_task.result _ _
     (unwritten_weaker shows shows IsNoLayout (FailsTask task c.args.marked.read.soup) _ (λ text shown. shown) (λ fail none. absurd none))

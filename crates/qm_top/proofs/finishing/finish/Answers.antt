@@ -2,7 +2,7 @@ use Rattle.std.proofs.Common.{refl}
 use Rattle.std.proofs.lemmas.Result.{IfErr-weaker}
 use Rattle.error_laws.proofs.Errors.{handed}
 use Rattle.def_layout.specs.Plans.{plan}
-use Rattle.def_remesh.specs.Certified.{IsShown}
+use Rattle.remesh_laws.specs.Keeps.{ShowsTask}
 use Rattle.qm_top.proofs.Framed.{unwritten_weaker}
 use Rattle.qm_top.proofs.Remeshed.{headed_fails, headed_framed}
 use Rattle.qm_top.specs.Finishing.{IsNoLayout}
@@ -30,7 +30,7 @@ returns-clause-done g c = λ task is.
 
 pub returns-clause-refused : goal.returns-clause-refused
 returns-clause-refused g c = λ task is.
-    let shows = IsShown task c.args.soup.now in
+    let shows = ShowsTask task c.args.soup.now in
     IfErr-weaker c.write_task.result _ _
     (unwritten_weaker shows shows IsNoLayout (FailsTask task c.args.soup.now) _ (λ text shown. shown) (λ fail none. absurd none))
     (c.write_task.ensures.refused task

@@ -1,4 +1,4 @@
-use Rattle.std.proofs.Common.{refl}
+use Rattle.std.proofs.Common.{refl, arith}
 use Rattle.qm_top.proofs.Refusals.{handed_run, input_ended, size_needs}
 use Rattle.qm_top.proofs.Sized.{size_runs}
 use Rattle.qm_top.proofs.size.size.Goals as goal
@@ -10,5 +10,5 @@ returns-in_err-read g c =
 
 pub returns : goal.returns
 returns g c =
-    size_runs c.args.edge c.args.floor _ _ c.in_ok-read.read.soup c.in_ok-read.ensures.manifold c.in_ok-read.ensures.soup c.in_ok-read.ensures.calm
+    size_runs c.args.edge c.args.floor c.edge.invariant (omega (arith, c.requires.floor.1)) _ _ c.in_ok-read.read.soup c.in_ok-read.ensures.manifold c.in_ok-read.ensures.soup c.in_ok-read.ensures.calm
     c.size_mesh.result (c.size_mesh.ensures.done c.in_ok-read.ensures.soup.bytes) (c.size_mesh.ensures.refused c.in_ok-read.ensures.soup.bytes)

@@ -2,9 +2,9 @@ use Rattle.std.proofs.Common.{length, refl, ap, ◌∙◌, subst}
 use Rattle.std.proofs.lemmas.Result.{IfErr-weaker}
 use Rattle.error_laws.proofs.Errors.{handed}
 use Rattle.def_layout.specs.Plans.{plan}
-use Rattle.def_remesh.specs.Certified.{IsShown}
 use Rattle.def_run.specs.Size.{size_task, AsksForNearSize}
 use Rattle.def_text.specs.FaceSet.{FaceSet, IsSoup}
+use Rattle.remesh_laws.specs.Keeps.{ShowsTask}
 use Rattle.qm_top.proofs.Framed.{unwritten_weaker}
 use Rattle.qm_top.proofs.Remeshed.{asked_done}
 use Rattle.qm_top.proofs.Sized.{all_unsized, manifold_in, same_fails, size_asked, size_fails, size_framed}
@@ -58,7 +58,7 @@ returns-clause-refused g c bytes =
     let asked = size_asked c.args.edge c.args.floor bytes c.args.read.soup _ _ t c.requires.mesh (c.deref.ensures.value ∙ ap (λ (s : FaceSet). s.pos) c.soup.view_is) is.0 is.1 c.in_ok-remesh.ensures.near in
     all_unsized _ _ _ _ c.write_task.result
     (IfErr-weaker c.write_task.result _ _
-    (unwritten_weaker (IsShown task c.args.read.soup) (ShowsAsked asks bytes c.args.read.soup) IsNoLayout
+    (unwritten_weaker (ShowsTask task c.args.read.soup) (ShowsAsked asks bytes c.args.read.soup) IsNoLayout
     (FailsSize c.args.edge c.args.floor bytes c.args.read.soup) _ (λ text shown. (task, asked, shown)) (λ fail none. absurd none))
     (c.write_task.ensures.refused task
     (size_framed c.args.edge c.args.floor c.args.read.soup _ _ t _ c.requires.mesh (c.deref.ensures.value ∙ ap (λ (s : FaceSet). s.pos) c.soup.view_is) is.1 c.in_ok-remesh.ensures.asked c.in_ok-remesh.ensures.kept
