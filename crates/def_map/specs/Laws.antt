@@ -1,0 +1,30 @@
+-- What is proved of where new vertices lie.
+use Rattle.std.specs.Prelude.{◌≡◌, ℕ, ◌<◌}
+use Rattle.def_layout.specs.Lengths.{Lengths, AreLengths}
+use Rattle.def_layout.specs.Plans.{Plan, layout_of}
+use Rattle.def_mesh.specs.Darts.{darts}
+use Rattle.def_mesh.specs.Faces.{Faces}
+use Rattle.def_mesh.specs.Vertices.{vertex_count}
+use Rattle.def_remesh.specs.NewSoup.{new_place}
+use Rattle.def_remesh.specs.Placings.{IsLayoutIn}
+use Rattle.def_text.specs.Types.{Positions}
+use Rattle.def_written.specs.Numbers.{vertices}
+use Rattle.def_written.specs.Places.{ONE}
+use Rattle.def_map.specs.SpotPlaces.{spot_place}
+use Rattle.def_map.specs.Spots.{spot_at}
+use Rattle.def_map.specs.declared.spot.Spot.{Spot}
+use Rattle.def_map.specs.declared.spot.Spot.TheVariants.{AtVertex, InFace, OnEdge}
+
+-- A vertex of these faces, a place before the end of one of their darts, or one in a face, before its east side and its
+-- north side.
+abbrev pub IsSpot : (faces : Faces) (spot : Spot) → Type 0
+IsSpot faces (AtVertex u) = u < vertex_count faces
+IsSpot faces (OnEdge spot) = (spot.dart < darts faces) × (spot.some < spot.parts)
+IsSpot faces (InFace spot) = (spot.dart < darts faces) × (spot.s < ONE) × (spot.t < ONE)
+
+-- Each new vertex lies in the old mesh, and the place that is computed from where it lies is its place.
+abbrev pub SpotLaw : Type 0
+SpotLaw = (faces : Faces) (plan : Plan) (new : Lengths) → IsLayoutIn faces plan → AreLengths (layout_of plan) new
+    → (v : ℕ) → v < vertices (layout_of plan) new
+    → IsSpot faces (spot_at plan new v)
+    × ((places : Positions) → spot_place faces places (spot_at plan new v) ≡ new_place faces plan places new v)
