@@ -1,20 +1,18 @@
 -- New vertices lie between the old ones.
-use Rattle.std.proofs.Common.{◌≡◌, ℕ, zero, suc, ◌+◌, ◌-◌, ◌<◌, ◌≤◌, length, refl, sym, ap, subst, inl, inr, arith}
+use Rattle.std.proofs.Common.{◌≡◌, ℕ, zero, suc, ◌<◌, length, refl, sym, ap, subst, arith}
 use Rattle.std.specs.Prelude.{◌≤ℤ◌}
-use Rattle.std.proofs.lemmas.Bool.{cases_lt}
 use Rattle.def_mesh.specs.Faces.{Faces}
 use Rattle.def_mesh.specs.Vertices.{vertex_count}
 use Rattle.def_layout.specs.Arcs.{long_at}
 use Rattle.def_layout.specs.Plans.{Plan, layout_of}
 use Rattle.def_text.specs.Types.{Positions}
-use Rattle.def_written.specs.Numbers.{before_arc, vertices}
-use Rattle.def_written.specs.Points.{IsPoint}
+use Rattle.def_written.specs.Numbers.{vertices}
 use Rattle.def_remesh.specs.NewPoints.{lengths_in, point_at}
 use Rattle.def_remesh.specs.NewSoup.{coordinate, new_coordinate, new_place}
 use Rattle.def_remesh.specs.Placings.{coordinate_in, ArePlaces, LiesBetween}
 use Rattle.def_remesh.specs.declared.places.PlaceTables.{PlaceTables}
-use Rattle.qm_place.proofs.Found.{at_arc, at_node, at_patch, in_patch, on_arc}
-use Rattle.qm_place.proofs.OldPoints.{old_low}
+use Rattle.map_laws.proofs.Numbered.{is_point}
+use Rattle.map_laws.proofs.OldPoints.{old_low}
 use Rattle.qm_reach.proofs.Whole.{laid_of, lengths_of}
 use Rattle.written_laws.proofs.Between.{between_law}
 
@@ -27,30 +25,6 @@ axis_of faces plan places new v (suc (suc zero)) low = refl
 axis_of faces plan places new v (suc (suc (suc axis))) low = absurd (omega arith)
 
 module _ (faces : Faces) (plan : Plan) (tables : PlaceTables) (are : ArePlaces faces plan tables) where
-  -- Each number below that of the vertices is that of a point.
-  is_point : (v : ℕ) → v < vertices (layout_of plan) (lengths_in tables.lengths.items)
-      → IsPoint (layout_of plan) (lengths_in tables.lengths.items) (point_at (layout_of plan) (lengths_in tables.lengths.items) v)
-  is_point v low = elim (cases_lt v (length plan.nodes)) [
-    | inl less ↦ subst (IsPoint (layout_of plan) (lengths_in tables.lengths.items)) (sym (at_node faces plan tables are v less)) less
-    | inr more ↦ elim (cases_lt v (length plan.nodes + before_arc (lengths_in tables.lengths.items) (length plan.arcs))) [
-      | inl less ↦ along_point more less
-      | inr past ↦ inside_point past
-    ]
-  ]
-    where
-      along_point : length plan.nodes ≤ v → v < length plan.nodes + before_arc (lengths_in tables.lengths.items) (length plan.arcs)
-          → IsPoint (layout_of plan) (lengths_in tables.lengths.items) (point_at (layout_of plan) (lengths_in tables.lengths.items) v)
-      along_point more less =
-          let on = on_arc plan (lengths_in tables.lengths.items) (v - length plan.nodes) _ (omega (arith, more, less)) refl in
-          subst (IsPoint (layout_of plan) (lengths_in tables.lengths.items)) (sym (at_arc faces plan tables are v more less)) (on.low, omega arith, on.upto)
-
-      inside_point : length plan.nodes + before_arc (lengths_in tables.lengths.items) (length plan.arcs) ≤ v
-          → IsPoint (layout_of plan) (lengths_in tables.lengths.items) (point_at (layout_of plan) (lengths_in tables.lengths.items) v)
-      inside_point past =
-          let in_it = in_patch plan (lengths_in tables.lengths.items) (v - (length plan.nodes + before_arc (lengths_in tables.lengths.items) (length plan.arcs))) _ (omega (arith, past, low)) refl in
-          subst (IsPoint (layout_of plan) (lengths_in tables.lengths.items)) (sym (at_patch faces plan tables are v past))
-          (in_it.low, omega arith, in_it.column, omega arith, in_it.row)
-
   pub lies_between : (places : Positions) (v : ℕ) → length places ≡ vertex_count faces → v < vertices (layout_of plan) (lengths_in tables.lengths.items)
       → LiesBetween places (new_place faces plan places (lengths_in tables.lengths.items) v)
   lies_between places v all low axis axis_low least greatest bound =
@@ -60,4 +34,4 @@ module _ (faces : Faces) (plan : Plan) (tables : PlaceTables) (are : ArePlaces f
       (between_law (layout_of plan) (long_at plan.arcs) (lengths_in tables.lengths.items) (coordinate are.layout.0.faces plan places axis) least greatest
       (laid_of plan are.layout.0) (lengths_of plan are.layout.0) are.lengths
       (λ a is. bound _ (omega (arith, old_low plan are.layout.0 a is, all, ap vertex_count are.layout.1)))
-      (point_at (layout_of plan) (lengths_in tables.lengths.items) v) (is_point v low)))
+      (point_at (layout_of plan) (lengths_in tables.lengths.items) v) (is_point (layout_of plan) (lengths_in tables.lengths.items) v low)))

@@ -1,5 +1,5 @@
 -- What is read of the tables and of the layout.
-use Rattle.std.proofs.Common.{◌≡◌, ℕ, zero, suc, ◌+◌, ◌-◌, ◌*◌, ◌<◌, ◌≤◌, List, [], length, get_or, sym, ◌∙◌, ap, arith, ◌^◌, ◌/◌}
+use Rattle.std.proofs.Common.{◌≡◌, ℕ, zero, suc, ◌+◌, ◌-◌, ◌*◌, ◌<◌, ◌≤◌, List, [], length, get_or, sym, ◌∙◌, ap, subst, arith, ◌^◌, ◌/◌}
 use Rattle.std.specs.Prelude.{slice_index}
 use Rattle.std.proofs.lemmas.List.{get_or_read, get_or-map, length-map}
 use Rattle.std.proofs.lemmas.Nat.{mul-le}
@@ -101,6 +101,25 @@ cell_read t p a b d patch is a_low b_low read =
 pub rim_read : (plan : Plan) (tables : PlaceTables) (p : ℕ) (rim : Rim) → length tables.rims.items ≡ length plan.patches → p < length plan.patches
     → rim ≡ get_or tables.rims.items p rim → rim ≡ rim_at tables.rims.items p
 rim_read plan tables p rim rimmed low read = get_or_read tables.rims.items p rim (omega (arith, rimmed, low)) read (record { wide = 0; high = 0; begin = 0 })
+
+pub record IsRimRead (t : TMesh) (tables : PlaceTables) (p : ℕ) (rim : Rim) : Type 0 where
+  pub low : p < length (plan t).patches
+  pub same : rim ≡ rim_at tables.rims.items p
+  pub is : IsRim (plan t) (lengths_in tables.lengths.items) p rim tables.parameters.items
+
+pub rim_here : (t : TMesh) (tables : PlaceTables) (p : ℕ) (rim : Rim) → ArePlaced (plan t) tables → p < length t.patches.items → rim ≡ get_or tables.rims.items p rim
+    → IsRimRead t tables p rim
+rim_here t tables p rim are low read = record {
+  low = p_low;
+  same = same;
+  is = subst (λ (r : Rim). IsRim (plan t) (lengths_in tables.lengths.items) p r tables.parameters.items) (sym same) (are.rims p p_low);
+}
+  where
+    p_low : p < length (plan t).patches
+    p_low = omega (arith, low, length-map t.patches.items rectangle)
+
+    same : rim ≡ rim_at tables.rims.items p
+    same = rim_read (plan t) tables p rim are.rimmed p_low read
 
 pub rim_room : (plan : Plan) (tables : PlaceTables) (p : ℕ) (rim : Rim) (list : List ℕ) → p < length plan.patches
     → IsRim plan (lengths_in tables.lengths.items) p rim tables.parameters.items → list ≡ tables.parameters.items → HasRoom rim list

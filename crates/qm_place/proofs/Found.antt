@@ -1,40 +1,33 @@
 -- Where the vertices of the new mesh lie, as the tables tell.
-use Rattle.std.proofs.Common.{◌≡◌, ℕ, ◌+◌, ◌-◌, ◌*◌, ◌/◌, ◌%◌, ◌^◌, ◌<◌, ◌≤◌, List, length, get_or, sym, ◌∙◌, ap, subst, arith}
-use Rattle.std.specs.Prelude.{nat_lt}
-use Rattle.std.proofs.lemmas.Bool.{cond-true, cond-false, lt-ltb, le-ltb}
-use Rattle.std.proofs.Math.Nat.{mod-lt, mul_comm}
+use Rattle.std.proofs.Common.{◌≡◌, ℕ, ◌+◌, ◌-◌, ◌*◌, ◌/◌, ◌%◌, ◌^◌, ◌<◌, ◌≤◌, length, sym, ◌∙◌, ap, subst, arith}
+use Rattle.std.proofs.Math.Nat.{mul_comm}
 use Rattle.def_math.specs.Runs.{run_at}
-use Rattle.def_mesh.specs.Darts.{darts}
 use Rattle.def_mesh.specs.Faces.{Faces}
-use Rattle.def_mesh.specs.Vertices.{vertex_count}
-use Rattle.def_cut.specs.Grids.{cell_of, patch_at}
-use Rattle.def_layout.specs.Arcs.{dart_at, long_at}
-use Rattle.def_layout.specs.Layouts.{south, west, Layout}
+use Rattle.def_layout.specs.Arcs.{long_at}
+use Rattle.def_layout.specs.Layouts.{Layout, south, east, north, west}
 use Rattle.def_layout.specs.Lengths.{Lengths, wide, high}
-use Rattle.def_layout.specs.Nodes.{is_node}
 use Rattle.def_layout.specs.Plans.{Plan, layout_of, vertex_at}
 use Rattle.def_layoutnet.specs.MeshLayouts.{IsMeshLayout}
-use Rattle.def_text.specs.Types.{Positions}
 use Rattle.def_written.specs.Numbers.{before_arc, before_patch, vertices}
-use Rattle.def_written.specs.Places.{ONE, blend, cell_at, on_the_way, parameter_u, parameter_v, rest_at}
-use Rattle.def_written.specs.Points.{node, along, inside, IsPoint}
+use Rattle.def_written.specs.Places.{parameter, parameter_back}
+use Rattle.def_written.specs.Points.{Point, node, along, inside, IsPoint}
+use Rattle.def_map.specs.Spots.{edge_spot, face_spot, spot_at, spot_of}
+use Rattle.def_map.specs.declared.spot.EdgeSpot.{EdgeSpot}
+use Rattle.def_map.specs.declared.spot.FaceSpot.{FaceSpot}
+use Rattle.def_map.specs.declared.spot.Spot.TheVariants.{AtVertex, InFace, OnEdge}
 use Rattle.def_remesh.specs.NewPoints.{along_arcs, inside_patches, lengths_in, point_at}
-use Rattle.def_remesh.specs.NewSoup.{new_coordinate}
 use Rattle.def_remesh.specs.Placings.{ArePlaces}
 use Rattle.def_remesh.specs.declared.places.PlaceTables.{PlaceTables}
-use Rattle.list_laws.proofs.Filters.{kept_at, IsKept}
+use Rattle.map_laws.proofs.Numbered.{at_arc, at_node, at_patch, is_point}
+use Rattle.map_laws.proofs.Parameters.{ahead_end, back_end, u_upto, v_upto}
+use Rattle.map_laws.proofs.SpotPlaces.{dart_low}
 use Rattle.written_laws.proofs.Runs.{run_here, IsInRun}
-use Rattle.qm_place.proofs.OldPoints.{corners, ends, AreCorners, AreEnds}
-use Rattle.qm_place.proofs.Rims.{dart_low, old_short}
+use Rattle.qm_place.proofs.Rims.{old_few, old_short}
 use Rattle.qm_place.specs.Placed.{ArePlaced, IsSized}
-use Rattle.qm_place.specs.Spots.{arc_spot_at, between_ends, cell_spot_at, coordinate_at, in_face, on_axes, IsAlong, IsInside, IsSpotOf}
-use Rattle.qm_place.specs.declared.axes.Spot.TheVariants.{Vertex, OnArc, InPatch}
-use Rattle.qm_place.specs.declared.axes.ArcSpot.{ArcSpot}
-use Rattle.qm_place.specs.declared.axes.CellSpot.{CellSpot}
+use Rattle.qm_place.specs.Spots.{grid_point, HasEnds, IsAlong, IsInside, IsShort, IsSmall}
 use Rattle.plan_laws.proofs.Bounds.{side_few, vertices_few}
 use Rattle.qm_reach.proofs.Spots.{term_room}
 use Rattle.qm_reach.proofs.Whole.{laid_of, lengths_of}
-use Rattle.written_laws.proofs.Between.{rest_most, u_most, v_most}
 use Rattle.written_laws.proofs.EdgeNumbers.{in_rows}
 use Rattle.written_laws.proofs.Grid.{wide_some, high_some}
 
@@ -71,6 +64,36 @@ module _ (plan : Plan) (new : Lengths) where
             some = omega (arith, rows.0);
           }
 
+  -- A node, by its number.
+  pub found_at : (v u : ℕ) → v < length plan.nodes → u ≡ vertex_at plan v → AtVertex u ≡ spot_at plan new v
+  found_at v u low same = ap AtVertex same ∙ ap (spot_of plan new) (sym (at_node (layout_of plan) new v low))
+
+  -- A vertex on an arc.
+  pub found_on : (v place arc : ℕ) (spot : EdgeSpot) → length plan.nodes ≤ v → place ≡ v - length plan.nodes
+      → place < before_arc new (length plan.arcs) → arc ≡ run_at (before_arc new) (length plan.arcs) place
+      → spot ≡ edge_spot plan arc (place - before_arc new arc + 1) (new arc) → OnEdge spot ≡ spot_at plan new v
+  found_on v place arc spot from place_is low same spot_is =
+      ap OnEdge spot_is
+      ∙ (λ t. spot_of plan new (along (same t) (place - before_arc new (same t) + 1)))
+      ∙ ap (λ k. spot_of plan new (along_arcs (layout_of plan) new k)) place_is
+      ∙ ap (spot_of plan new) (sym (at_arc (layout_of plan) new v from (omega (arith, from, low, place_is))))
+
+  -- A vertex inside a patch.
+  pub found_in : (v place patch : ℕ) (spot : FaceSpot) → length plan.nodes + before_arc new (length plan.arcs) ≤ v
+      → place ≡ v - (length plan.nodes + before_arc new (length plan.arcs))
+      → patch ≡ run_at (before_patch (layout_of plan) new) (length plan.patches) place
+      → spot ≡ face_spot plan new patch
+      ((place - before_patch (layout_of plan) new patch) % (wide (layout_of plan) new patch - 1) + 1)
+      ((place - before_patch (layout_of plan) new patch) / (wide (layout_of plan) new patch - 1) + 1)
+      → InFace spot ≡ spot_at plan new v
+  found_in v place patch spot from place_is same spot_is =
+      ap InFace spot_is
+      ∙ (λ t. spot_of plan new (inside (same t)
+      ((place - before_patch (layout_of plan) new (same t)) % (wide (layout_of plan) new (same t) - 1) + 1)
+      ((place - before_patch (layout_of plan) new (same t)) / (wide (layout_of plan) new (same t) - 1) + 1)))
+      ∙ ap (λ k. spot_of plan new (inside_patches (layout_of plan) new k)) place_is
+      ∙ ap (spot_of plan new) (sym (at_patch (layout_of plan) new v from))
+
 module _ (faces : Faces) (plan : Plan) (tables : PlaceTables) (are : ArePlaces faces plan tables) where
   abbrev l : Layout
   l = layout_of plan
@@ -88,33 +111,12 @@ module _ (faces : Faces) (plan : Plan) (tables : PlaceTables) (are : ArePlaces f
   pub few_points : vertices (layout_of plan) (lengths_in tables.lengths.items) ≤ 2 ^ 23
   few_points = omega (arith, vertices_few l new (laid_of plan is) are.lengths, are.few)
 
-  -- The vertex of a node is one of the mesh.
-  pub vertex_low : (n : ℕ) → n < length plan.nodes → vertex_at plan n < vertex_count faces
-  vertex_low n low =
-      let kept : IsKept (is_node is.faces is.marks) 0 (vertex_count is.faces) (vertex_at plan n) = subst (λ (xs : List ℕ). IsKept (is_node is.faces is.marks) 0 (vertex_count is.faces) (get_or xs n 0)) (sym is.laid.nodes)
-      (kept_at (is_node is.faces is.marks) 0 (vertex_count is.faces) n (subst (λ (xs : List ℕ). n < length xs) is.laid.nodes low)) in
-      omega (arith, kept.high, ap vertex_count are.layout.1)
-
-  -- The number of a vertex gives its point.
-  pub at_node : (v : ℕ) → v < length plan.nodes → point_at (layout_of plan) (lengths_in tables.lengths.items) v ≡ node v
-  at_node v low = cond-true (nat_lt v (length plan.nodes)) _ _ (lt-ltb _ _ low)
-
-  pub at_arc : (v : ℕ) → length plan.nodes ≤ v → v < length plan.nodes + before_arc (lengths_in tables.lengths.items) (length plan.arcs)
-      → point_at (layout_of plan) (lengths_in tables.lengths.items) v ≡ along_arcs (layout_of plan) (lengths_in tables.lengths.items) (v - length plan.nodes)
-  at_arc v from low =
-      cond-false (nat_lt v (length plan.nodes)) _ _ (le-ltb _ _ from)
-      ∙ cond-true (nat_lt v (length plan.nodes + before_arc new (length plan.arcs))) _ _ (lt-ltb _ _ low)
-
-  pub at_patch : (v : ℕ) → length plan.nodes + before_arc (lengths_in tables.lengths.items) (length plan.arcs) ≤ v
-      → point_at (layout_of plan) (lengths_in tables.lengths.items) v
-      ≡ inside_patches (layout_of plan) (lengths_in tables.lengths.items) (v - (length plan.nodes + before_arc (lengths_in tables.lengths.items) (length plan.arcs)))
-  at_patch v from =
-      cond-false (nat_lt v (length plan.nodes)) _ _ (le-ltb _ _ (omega (arith, from)))
-      ∙ cond-false (nat_lt v (length plan.nodes + before_arc new (length plan.arcs))) _ _ (le-ltb _ _ from)
-
   -- Lengths are short.
   pub new_short : (arc : ℕ) → arc < length plan.arcs → lengths_in tables.lengths.items arc ≤ 2 ^ 24
   new_short arc low = omega (arith, term_room (λ b. new b - 1) (length plan.arcs) arc low, few_points)
+
+  pub patch_narrow : (p : ℕ) → p < length plan.patches → wide (layout_of plan) (lengths_in tables.lengths.items) p ≤ 2 ^ 21
+  patch_narrow p low = omega (arith, side_few l new (laid_of plan is) are.lengths p south low, are.few)
 
   pub patch_short : (p : ℕ) → p < length plan.patches → high (layout_of plan) (lengths_in tables.lengths.items) p ≤ 2 ^ 21
   patch_short p low = omega (arith, side_few l new (laid_of plan is) are.lengths p west low, are.few)
@@ -126,8 +128,28 @@ module _ (faces : Faces) (plan : Plan) (tables : PlaceTables) (are : ArePlaces f
     height = sym (is.laid.sizes p west low);
     some = wide_some l old (laid_of plan is).paved (lengths_of plan is) p low;
     tall = high_some l old (laid_of plan is).paved (lengths_of plan is) p low;
+    few_columns = old_few plan is p south low;
+    few_rows = old_few plan is p west low;
     cells = is.laid.patches.sized p low;
   }
+
+  -- What stands in no table.
+  ends_of : (p : ℕ) → p < length plan.patches → HasEnds plan new p
+  ends_of p low = record {
+    south = ahead_end l old new (laid_of plan is) (lengths_of plan is) are.lengths p south low;
+    east = ap (parameter l old new p east) (sym (are.lengths.upright p low))
+        ∙ ahead_end l old new (laid_of plan is) (lengths_of plan is) are.lengths p east low
+        ∙ omega (arith, (lengths_of plan is).upright p low);
+    north = ap (parameter_back l old new p north) (sym (are.lengths.across p low))
+        ∙ back_end l old new (laid_of plan is) (lengths_of plan is) are.lengths p north low;
+    west = back_end l old new (laid_of plan is) (lengths_of plan is) are.lengths p west low;
+  }
+
+  small_of : (p i j : ℕ) → p < length plan.patches → i ≤ wide l new p → j ≤ high l new p → IsSmall (grid_point plan new p i j)
+  small_of p i j low i_le j_le = (
+    omega (arith, u_upto l old new (laid_of plan is) (lengths_of plan is) are.lengths p i j low i_le j_le, old_few plan is p south low),
+    omega (arith, v_upto l old new (laid_of plan is) (lengths_of plan is) are.lengths p i j low i_le j_le, old_few plan is p west low),
+  )
 
   pub placed_of : ArePlaced plan tables
   placed_of = record {
@@ -138,129 +160,22 @@ module _ (faces : Faces) (plan : Plan) (tables : PlaceTables) (are : ArePlaces f
     lengths = are.lengths;
     few = few_points;
     short = new_short;
+    narrow = patch_narrow;
     low = patch_short;
     along = are.along;
     inside = are.inside;
     rimmed = are.rimmed;
     rims = are.rims;
+    ends = ends_of;
+    small = small_of;
   }
 
-  -- A point of an arc lies on the dart that is found.
-  pub record IsOnDart (arc k : ℕ) (spot : ArcSpot) : Type 0 where
-    pub low : spot.dart < darts faces
-    pub some : spot.some < spot.parts
-    pub parts : spot.parts ≤ 2 ^ 31
-    pub place : (places : Positions) → on_axes (between_ends faces places spot.dart spot.some spot.parts)
-        ≡ on_axes (λ axis. new_coordinate faces plan places (lengths_in tables.lengths.items) (along arc k) axis)
-
-  pub on_dart : (arc k : ℕ) → arc < length plan.arcs → k < lengths_in tables.lengths.items arc
-      → IsOnDart arc k (arc_spot_at plan (lengths_in tables.lengths.items) arc k)
-  on_dart arc k low less = record {
-    low = subst (λ (F : Faces). i_dart < darts F) are.layout.1 e.low;
-    some = mod-lt (k * old arc) some;
-    parts = omega (arith, new_short arc low);
-    place = λ places. subst (λ (F : Faces). on_axes (between_ends F places i_dart (k * old arc % new arc) (new arc))
-        ≡ on_axes (λ axis. new_coordinate F plan places new (along arc k) axis)) are.layout.1
-        (λ t. on_axes (λ axis. on_the_way (coordinate_at places (sym e.first t) axis) (coordinate_at places (sym e.last t) axis) (k * old arc % new arc) (new arc)));
-  }
+  -- Edges are divided in few parts.
+  pub short_spot : (v : ℕ) → v < vertices (layout_of plan) (lengths_in tables.lengths.items)
+      → IsShort (spot_at plan (lengths_in tables.lengths.items) v)
+  short_spot v low = by_point (point_at l new v) (is_point l new v low)
     where
-      some : 0 < new arc
-      some = omega (arith, less)
-
-      i_dart : ℕ
-      i_dart = dart_at plan.arcs arc (k * old arc / new arc)
-
-      e : AreEnds plan is arc (k * old arc / new arc) (dart_at plan.arcs arc (k * old arc / new arc))
-      e = ends plan is arc (k * old arc / new arc) low (dart_low plan is arc k (new arc) low less)
-
-  -- A point of a patch lies in the cell that is found.
-  pub record IsInCell (patch i j : ℕ) (spot : CellSpot) : Type 0 where
-    pub low : spot.dart < darts faces
-    pub s_low : spot.s ≤ ONE
-    pub t_low : spot.t ≤ ONE
-    pub place : (places : Positions) → on_axes (in_face faces places spot.dart spot.s spot.t)
-        ≡ on_axes (λ axis. new_coordinate faces plan places (lengths_in tables.lengths.items) (inside patch i j) axis)
-
-  pub in_cell : (patch i j : ℕ) → IsPoint (layout_of plan) (lengths_in tables.lengths.items) (inside patch i j)
-      → IsInCell patch i j (cell_spot_at plan (lengths_in tables.lengths.items) patch i j)
-  in_cell patch i j inner = record {
-    low = subst (λ (F : Faces). cell_of (patch_at plan.patches patch) a b < darts F) are.layout.1 e.low;
-    s_low = rest_most (wide l old patch) (parameter_u l old new patch i j) wide_pos (u_most l old new (laid_of plan is) (lengths_of plan is) are.lengths patch i j inner);
-    t_low = rest_most (high l old patch) (parameter_v l old new patch i j) high_pos (v_most l old new (laid_of plan is) (lengths_of plan is) are.lengths patch i j inner);
-    place = λ places. subst (λ (F : Faces). on_axes (in_face F places (cell_of (patch_at plan.patches patch) a b) (rest_at (wide l old patch) (parameter_u l old new patch i j)) (rest_at (high l old patch) (parameter_v l old new patch i j)))
-        ≡ on_axes (λ axis. new_coordinate F plan places new (inside patch i j) axis)) are.layout.1
-        (λ t. on_axes (λ axis. blend (rest_at (wide l old patch) (parameter_u l old new patch i j)) (rest_at (high l old patch) (parameter_v l old new patch i j))
-        (coordinate_at places (sym e.south_west t) axis) (coordinate_at places (sym e.south_east t) axis)
-        (coordinate_at places (sym e.north_west t) axis) (coordinate_at places (sym e.north_east t) axis)));
-  }
-    where
-      wide_pos : 0 < wide l old patch
-      wide_pos = wide_some l old (laid_of plan is).paved (lengths_of plan is) patch inner.0
-
-      high_pos : 0 < high l old patch
-      high_pos = high_some l old (laid_of plan is).paved (lengths_of plan is) patch inner.0
-
-      a : ℕ
-      a = cell_at (wide l old patch) (parameter_u l old new patch i j)
-
-      b : ℕ
-      b = cell_at (high l old patch) (parameter_v l old new patch i j)
-
-      e : AreCorners plan is patch (cell_at (wide l old patch) (parameter_u l old new patch i j)) (cell_at (high l old patch) (parameter_v l old new patch i j))
-          (cell_of (patch_at plan.patches patch) (cell_at (wide l old patch) (parameter_u l old new patch i j)) (cell_at (high l old patch) (parameter_v l old new patch i j)))
-      e = corners plan is patch (cell_at (wide l old patch) (parameter_u l old new patch i j)) (cell_at (high l old patch) (parameter_v l old new patch i j))
-          inner.0 (omega (arith, wide_pos)) (omega (arith, high_pos))
-
-  -- A vertex on an arc, by its number.
-  pub found_on : (v place arc : ℕ) (spot : ArcSpot) → length plan.nodes ≤ v → place ≡ v - length plan.nodes
-      → place < before_arc (lengths_in tables.lengths.items) (length plan.arcs)
-      → arc ≡ run_at (before_arc (lengths_in tables.lengths.items)) (length plan.arcs) place
-      → spot ≡ arc_spot_at plan (lengths_in tables.lengths.items) arc (place - before_arc (lengths_in tables.lengths.items) arc + 1)
-      → IsSpotOf faces plan (lengths_in tables.lengths.items) v (OnArc spot)
-  found_on v place arc spot from place_is low same spot_is =
-      (at.low, at.some, at.parts, λ places. at.place places ∙ ap (λ a. on_axes (new_coordinate faces plan places new a)) point)
-    where
-      lies_on : IsAlong plan new arc place
-      lies_on = on_arc plan new place arc low same
-
-      at : IsOnDart arc (place - before_arc new arc + 1) spot
-      at = subst (IsOnDart arc (place - before_arc new arc + 1)) (sym spot_is) (on_dart arc (place - before_arc new arc + 1) lies_on.low lies_on.upto)
-
-      point : along arc (place - before_arc new arc + 1) ≡ point_at l new v
-      point =
-          (λ t. along (same t) (place - before_arc new (same t) + 1)) ∙ ap (along_arcs l new) place_is
-          ∙ sym (at_arc v from (omega (arith, from, low, place_is)))
-
-  -- A vertex inside a patch, by its number.
-  pub found_in : (v place patch : ℕ) (spot : CellSpot)
-      → length plan.nodes + before_arc (lengths_in tables.lengths.items) (length plan.arcs) ≤ v
-      → place ≡ v - (length plan.nodes + before_arc (lengths_in tables.lengths.items) (length plan.arcs))
-      → place < before_patch (layout_of plan) (lengths_in tables.lengths.items) (length plan.patches)
-      → patch ≡ run_at (before_patch (layout_of plan) (lengths_in tables.lengths.items)) (length plan.patches) place
-      → spot ≡ cell_spot_at plan (lengths_in tables.lengths.items) patch
-      ((place - before_patch (layout_of plan) (lengths_in tables.lengths.items) patch) % (wide (layout_of plan) (lengths_in tables.lengths.items) patch - 1) + 1)
-      ((place - before_patch (layout_of plan) (lengths_in tables.lengths.items) patch) / (wide (layout_of plan) (lengths_in tables.lengths.items) patch - 1) + 1)
-      → IsSpotOf faces plan (lengths_in tables.lengths.items) v (InPatch spot)
-  found_in v place patch spot from place_is low same spot_is =
-      (at.low, at.s_low, at.t_low, λ places. at.place places ∙ ap (λ a. on_axes (new_coordinate faces plan places new a)) point)
-    where
-      lies_in : IsInside plan new patch place
-      lies_in = in_patch plan new place patch low same
-
-      at : IsInCell patch ((place - before_patch l new patch) % (wide l new patch - 1) + 1) ((place - before_patch l new patch) / (wide l new patch - 1) + 1) spot
-      at = subst (IsInCell patch ((place - before_patch l new patch) % (wide l new patch - 1) + 1) ((place - before_patch l new patch) / (wide l new patch - 1) + 1)) (sym spot_is)
-          (in_cell patch ((place - before_patch l new patch) % (wide l new patch - 1) + 1) ((place - before_patch l new patch) / (wide l new patch - 1) + 1)
-          (lies_in.low, omega arith, lies_in.column, omega arith, lies_in.row))
-
-      point : inside patch ((place - before_patch l new patch) % (wide l new patch - 1) + 1) ((place - before_patch l new patch) / (wide l new patch - 1) + 1) ≡ point_at l new v
-      point =
-          (λ t. inside (same t) ((place - before_patch l new (same t)) % (wide l new (same t) - 1) + 1) ((place - before_patch l new (same t)) / (wide l new (same t) - 1) + 1))
-          ∙ ap (inside_patches l new) place_is ∙ sym (at_patch v from)
-
-  -- A node, by its number.
-  pub found_at : (v u : ℕ) → v < length plan.nodes → u ≡ vertex_at plan v → IsSpotOf faces plan (lengths_in tables.lengths.items) v (Vertex u)
-  found_at v u low same = (
-    omega (arith, same, vertex_low v low),
-    λ places. ap (λ n. on_axes (coordinate_at places n)) same
-        ∙ ap (λ a. on_axes (new_coordinate faces plan places new a)) (sym (at_node v low)),
-  )
+      by_point : (a : Point) → IsPoint l new a → IsShort (spot_of plan new a)
+      by_point (node n) is_a = tt
+      by_point (along arc k) is_a = omega (arith, new_short arc is_a.0)
+      by_point (inside p i j) is_a = tt

@@ -1,5 +1,4 @@
 mod Casts
-mod OldPoints
 mod Pushes
 mod Rims
 mod Found

@@ -1,9 +1,7 @@
 -- The parameters of all sides, as they are put one after the other.
-use Rattle.std.proofs.Common.{◌≡◌, ℕ, ◌+◌, ◌-◌, ◌^◌, ◌<◌, ◌≤◌, Bool, true, false, cond, List, [], length, get_or, refl, sym, ◌∙◌, ap, subst, arith, ◌*◌, ◌/◌}
+use Rattle.std.proofs.Common.{◌≡◌, ℕ, ◌+◌, ◌-◌, ◌^◌, ◌<◌, ◌≤◌, Bool, true, false, cond, List, [], length, get_or, refl, sym, ◌∙◌, ap, subst, arith}
 use Rattle.std.specs.Prelude.{nat_le}
 use Rattle.std.proofs.lemmas.List.{get_or_default, get_or-map, length-map}
-use Rattle.std.proofs.lemmas.Nat.{mul-le}
-use Rattle.std.proofs.Math.Nat.{div-lt_iff_lt-mul, mul_comm}
 use Rattle.def_cut.specs.Grids.{rectangle}
 use Rattle.def_layout.specs.Arcs.{Path, long_at, path}
 use Rattle.def_layout.specs.Layouts.{Way, south, east, north, west, Slot, IsSlot, use_of}
@@ -34,7 +32,7 @@ pub new_few : (plan : Plan) (list : List ℕ) → AreFine plan list → (p : ℕ
 new_few plan list fine p s low =
     omega (arith, side_few (layout_of plan) (lengths_in list) (laid_of plan fine.mesh) fine.lengths p s low, fine.few)
 
--- Arcs are short, and a place before the end of one lies on one of its darts.
+-- Arcs are short.
 pub old_short : (plan : Plan) → IsMeshLayout plan → (arc : ℕ) → arc < length plan.arcs → long_at plan.arcs arc ≤ 2 ^ 21
 old_short plan is arc low = by_slot ((laid_of plan is).forward arc low)
   where
@@ -46,16 +44,6 @@ old_short plan is arc low = by_slot ((laid_of plan is).forward arc low)
           old_few plan is f.0.patch f.0.side f.1.patch_low,
           ap (λ (u : SideArc). long_at plan.arcs u.arc) f.2,
         )
-
-pub dart_low : (plan : Plan) → IsMeshLayout plan → (arc k parts : ℕ) → arc < length plan.arcs → k < parts → k * long_at plan.arcs arc / parts < long_at plan.arcs arc
-dart_low plan is arc k parts low less =
-    (div-lt_iff_lt-mul {k = parts} {x = k * long_at plan.arcs arc} {y = long_at plan.arcs arc} (omega (arith, less))).1
-    (by_parts (long_at plan.arcs arc) ((lengths_of plan is).some arc low))
-  where
-    by_parts : (m : ℕ) → 0 < m → k * m < m * parts
-    by_parts m some =
-        let le : (k + 1) * m ≤ m * parts = subst (λ z. (k + 1) * m ≤ z) (mul_comm parts m) (mul-le (k + 1) m parts m (omega arith) (omega arith)) in
-        omega (arith, le)
 
 -- What is read of an arc.
 pub old_read : (t : TMesh) (a : ℕ) (arc : TArc) → a < length t.arcs.items → arc ≡ get_or t.arcs.items a arc

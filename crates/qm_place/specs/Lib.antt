@@ -1,4 +1,4 @@
 pub mod Lengthened
+pub mod Spots
 pub mod Placed
 pub mod Pushed
-pub mod Spots

@@ -9,6 +9,7 @@ use Rattle.def_remesh.specs.Numberings.{AreRunStarts}
 use Rattle.def_remesh.specs.Placings.{rim_at, IsRim}
 use Rattle.def_remesh.specs.declared.places.PlaceTables.{PlaceTables}
 use Rattle.def_written.specs.Numbers.{vertices}
+use Rattle.qm_place.specs.Spots.{grid_point, HasEnds, IsSmall}
 
 -- A patch has the size of its sides, and a cell for each place.
 pub record IsSized (plan : Plan) (patch : ℕ) : Type 0 where
@@ -16,6 +17,8 @@ pub record IsSized (plan : Plan) (patch : ℕ) : Type 0 where
   pub height : (patch_at plan.patches patch).h ≡ high (layout_of plan) (long_at plan.arcs) patch
   pub some : 0 < wide (layout_of plan) (long_at plan.arcs) patch
   pub tall : 0 < high (layout_of plan) (long_at plan.arcs) patch
+  pub few_columns : wide (layout_of plan) (long_at plan.arcs) patch ≤ 2 ^ 21
+  pub few_rows : high (layout_of plan) (long_at plan.arcs) patch ≤ 2 ^ 21
   pub cells : length (patch_at plan.patches patch).cells
       ≡ (patch_at plan.patches patch).h * (patch_at plan.patches patch).w
 
@@ -30,6 +33,8 @@ pub record ArePlaced (plan : Plan) (tables : PlaceTables) : Type 0 where
   pub lengths : AreLengths (layout_of plan) (lengths_in tables.lengths.items)
   pub few : vertices (layout_of plan) (lengths_in tables.lengths.items) ≤ 2 ^ 23
   pub short : (arc : ℕ) → arc < length plan.arcs → lengths_in tables.lengths.items arc ≤ 2 ^ 24
+  pub narrow : (patch : ℕ) → patch < length plan.patches
+      → wide (layout_of plan) (lengths_in tables.lengths.items) patch ≤ 2 ^ 21
   pub low : (patch : ℕ) → patch < length plan.patches
       → high (layout_of plan) (lengths_in tables.lengths.items) patch ≤ 2 ^ 21
   pub along : AreRunStarts (λ a. lengths_in tables.lengths.items a - 1) (length plan.arcs) tables.along.begin.items
@@ -40,3 +45,8 @@ pub record ArePlaced (plan : Plan) (tables : PlaceTables) : Type 0 where
   pub rimmed : length tables.rims.items ≡ length plan.patches
   pub rims : (patch : ℕ) → patch < length plan.patches
       → IsRim plan (lengths_in tables.lengths.items) patch (rim_at tables.rims.items patch) tables.parameters.items
+  pub ends : (patch : ℕ) → patch < length plan.patches → HasEnds plan (lengths_in tables.lengths.items) patch
+  pub small : (patch i j : ℕ) → patch < length plan.patches
+      → i ≤ wide (layout_of plan) (lengths_in tables.lengths.items) patch
+      → j ≤ high (layout_of plan) (lengths_in tables.lengths.items) patch
+      → IsSmall (grid_point plan (lengths_in tables.lengths.items) patch i j)

@@ -1,51 +1,27 @@
 //! Places between old vertices, axis by axis.
 
-ghost use Rattle.std.specs.Prelude.{◌≡◌, ◌<◌, ◌≤◌, ◌^◌, length, ℕ};
+ghost use Rattle.std.specs.Prelude.{◌≡◌, ◌<◌, ◌≤◌, ◌^◌, length};
 ghost use Rattle.def_mesh.specs.Darts.{darts};
 ghost use Rattle.def_written.specs.Places.{ONE};
-ghost use Rattle.def_layout.specs.Lengths.{Lengths};
-ghost use Rattle.def_layout.specs.Plans.{Plan};
-ghost use Rattle.def_remesh.specs.NewSoup.{new_place};
-ghost use Rattle.qm_place.specs.Spots.{between_ends, coordinate_at, in_face, on_axes, IsSomeSpot, IsSpotOf};
+ghost use Rattle.def_map.specs.Laws.{IsSpot};
+ghost use Rattle.def_map.specs.SpotPlaces.{between_ends, coordinate_at, in_face, on_axes, spot_place};
+ghost use Rattle.qm_place.specs.Spots.{IsShort};
 
 use crate::old::OldMesh;
 use crate::ways::{blend, on_the_way};
+use def_map::{EdgeSpot, FaceSpot, Spot};
 use def_text::Micro;
-
-/// Between the ends of a dart, some of so many equal parts from its beginning.
-#[derive(Clone, Copy)]
-pub(crate) struct ArcSpot {
-    pub dart: u32,
-    pub some: u32,
-    pub parts: u32,
-}
-
-/// In a face, so much to the east and to the north of the beginning of its south dart.
-#[derive(Clone, Copy)]
-pub(crate) struct CellSpot {
-    pub dart: u32,
-    pub s: u64,
-    pub t: u64,
-}
-
-/// Where a new vertex lies in the old mesh: at an old vertex, between the ends of a dart, or in a face.
-#[derive(Clone, Copy)]
-pub(crate) enum Spot {
-    Vertex(u32),
-    OnArc(ArcSpot),
-    InPatch(CellSpot),
-}
 
 /// The place of a new vertex that lies there.
 pub(crate) fn place_there(old: &OldMesh, spot: Spot) -> [Micro; 3]
-    requires spot { IsSomeSpot old.now.mesh.now spot }
-    ensures { (plan : Plan) (new : Lengths) (v : ℕ) → IsSpotOf old.now.mesh.now plan new v spot
-        → result ≡ new_place old.now.mesh.now plan old.now.pos.now new v }
+    requires spot { IsSpot old.now.mesh.now spot }
+    requires short { IsShort spot }
+    ensures { result ≡ spot_place old.now.mesh.now old.now.pos.now spot }
 {
     match spot {
-        Spot::Vertex(v) => vertex_place(old.pos, v),
-        Spot::OnArc(spot) => way_place(old, spot),
-        Spot::InPatch(spot) => cell_place(old, spot),
+        Spot::AtVertex(v) => vertex_place(old.pos, v),
+        Spot::OnEdge(spot) => way_place(old, spot),
+        Spot::InFace(spot) => cell_place(old, spot),
     }
 }
 
@@ -59,10 +35,10 @@ fn vertex_place(pos: &[[Micro; 3]], v: u32) -> [Micro; 3]
 }
 
 /// A place between the ends of a dart.
-fn way_place(old: &OldMesh, spot: ArcSpot) -> [Micro; 3]
+fn way_place(old: &OldMesh, spot: EdgeSpot) -> [Micro; 3]
     requires dart { spot.dart < darts old.now.mesh.now }
     requires parts { (spot.some < spot.parts) × (spot.parts ≤ 2 ^ 31) }
-    ensures { result ≡ on_axes (between_ends old.now.mesh.now old.now.pos.now spot.dart spot.some spot.parts) }
+    ensures { result ≡ on_axes (between_ends old.now.mesh.now old.now.pos.now spot) }
 {
     let (mesh, pos) = (old.mesh, old.pos);
     let [px, py, pz] = pos[mesh.from(spot.dart) as usize];
@@ -75,10 +51,10 @@ fn way_place(old: &OldMesh, spot: ArcSpot) -> [Micro; 3]
 }
 
 /// A place in a face.
-fn cell_place(old: &OldMesh, spot: CellSpot) -> [Micro; 3]
+fn cell_place(old: &OldMesh, spot: FaceSpot) -> [Micro; 3]
     requires dart { spot.dart < darts old.now.mesh.now }
     requires inside { (spot.s ≤ ONE) × (spot.t ≤ ONE) }
-    ensures { result ≡ on_axes (in_face old.now.mesh.now old.now.pos.now spot.dart spot.s spot.t) }
+    ensures { result ≡ on_axes (in_face old.now.mesh.now old.now.pos.now spot) }
 {
     let (mesh, pos) = (old.mesh, old.pos);
     let east = mesh.next(spot.dart);

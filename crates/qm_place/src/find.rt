@@ -1,16 +1,14 @@
 //! Which point a number names, and where that lies.
 
 ghost use Rattle.std.specs.Prelude.{◌≡◌, ◌<◌, ◌+◌, length};
-ghost use Rattle.def_mesh.specs.Faces.{Faces};
 ghost use Rattle.def_layout.specs.Plans.{layout_of};
+ghost use Rattle.def_map.specs.Spots.{spot_at};
 ghost use Rattle.def_written.specs.Numbers.{before_arc, vertices};
-ghost use Rattle.def_remesh.specs.Placings.{ArePlaces};
 ghost use Rattle.qm_place.specs.Lengthened.{lengths_by, plan_in};
-ghost use Rattle.qm_place.specs.Spots.{IsSpotOf};
 
-use crate::axes::Spot;
 use crate::placed::Placed;
 use crate::spots::{along_spot, inside_spot};
+use def_map::Spot;
 use qm_reach::spot_near;
 
 /// The arc and the patch where a vertex was found: the next one is looked for there first.
@@ -30,20 +28,19 @@ impl Near {
 /// Where vertex v lies. In constant time where it is near the last one, else logarithmic.
 pub(crate) fn find(placed: &Placed, v: u32, near: &mut Near) -> Spot
     requires vertex { v < vertices (layout_of (plan_in placed.now)) (lengths_by placed.now) }
-    ensures { (faces : Faces) → ArePlaces faces (plan_in placed.now) placed.now.tables.now
-        → IsSpotOf faces (plan_in placed.now) (lengths_by placed.now) v result }
+    ensures { result ≡ spot_at (plan_in placed.now) (lengths_by placed.now) v }
 {
     let nodes = placed.t.nodes.len() as u32;
     if v < nodes {
-        return Spot::Vertex(placed.t.nodes[v as usize]);
+        return Spot::AtVertex(placed.t.nodes[v as usize]);
     }
     let arcs_end = arcs_end(placed);
     if v < arcs_end {
         near.arc = spot_near(&placed.tables.along.begin, v - nodes, near.arc);
-        return Spot::OnArc(along_spot(placed, near.arc, v - nodes));
+        return Spot::OnEdge(along_spot(placed, near.arc, v - nodes));
     }
     near.patch = spot_near(&placed.tables.inside.begin, v - arcs_end, near.patch);
-    Spot::InPatch(inside_spot(placed, near.patch, v - arcs_end))
+    Spot::InFace(inside_spot(placed, near.patch, v - arcs_end))
 }
 
 /// How many vertices are nodes or lie on arcs.

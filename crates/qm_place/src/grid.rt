@@ -1,47 +1,70 @@
-//! The parameters of grid points inside a patch.
+//! The parameters of the grid points of a patch.
 
-ghost use Rattle.std.specs.Prelude.{◌≡◌, ◌<◌, ◌+◌, ◌-◌, ◌*◌, ◌/◌, ℕ};
+ghost use Rattle.std.specs.Prelude.{◌≡◌, ◌<◌, ◌≤◌, ◌+◌, ◌-◌, ◌*◌, ◌/◌, ℕ, length, slice_index};
 ghost use Rattle.def_layout.specs.Arcs.{long_at};
-ghost use Rattle.def_layout.specs.Lengths.{AreLengths, Lengths};
+ghost use Rattle.def_layout.specs.Lengths.{wide, high, AreLengths, Lengths};
 ghost use Rattle.def_layout.specs.Plans.{layout_of, Plan};
 ghost use Rattle.def_written.specs.Places.{cell_at, parameter_u, parameter_v};
 ghost use Rattle.def_remesh.specs.Placings.{IsRim};
-ghost use Rattle.qm_place.specs.Spots.{HasRoom, IsWithin};
+ghost use Rattle.qm_place.specs.Spots.{HasEnds, HasRoom, IsOnGrid};
 
 use crate::ways::EDGE;
 use def_remesh::Rim;
 
-/// The parameter of grid point (i, j) from west to east: between those of the south and the north side.
-pub(crate) fn across(parameters: &[u64], rim: Rim, i: u32, j: u32) -> u64
+/// The parameter of grid point (i, j) from west to east: between those of the south and the north side of a patch that
+/// had so many columns.
+pub(crate) fn across(parameters: &[u64], rim: Rim, columns: u32, i: u32, j: u32) -> u64
     requires room { HasRoom rim parameters.now }
-    requires within { IsWithin rim i j }
+    requires grid { IsOnGrid rim i j }
     ensures { (plan : Plan) (new : Lengths) (patch : ℕ) → patch < (layout_of plan).patches
-        → AreLengths (layout_of plan) new → IsRim plan new patch rim parameters.now
+        → AreLengths (layout_of plan) new → IsRim plan new patch rim parameters.now → HasEnds plan new patch
+        → columns ≡ wide (layout_of plan) (long_at plan.arcs) patch
         → result ≡ parameter_u (layout_of plan) (long_at plan.arcs) new patch i j }
 {
-    let south = parameters[rim.begin + i as usize];
+    let south = at_place(
+        parameters,
+        rim.begin,
+        rim.wide,
+        i,
+        EDGE * u64::from(columns),
+    );
     let north_begin = rim.begin + rim.wide as usize + rim.high as usize;
-    let north = parameters[north_begin + (rim.wide - i) as usize];
+    let north = at_place(parameters, north_begin, rim.wide, rim.wide - i, 0);
     mean(south, north, j, rim.high)
 }
 
-/// Its parameter from south to north: between those of the west and the east side.
-pub(crate) fn upright(parameters: &[u64], rim: Rim, i: u32, j: u32) -> u64
+/// Its parameter from south to north: between those of the west and the east side of a patch that had so many rows.
+pub(crate) fn upright(parameters: &[u64], rim: Rim, rows: u32, i: u32, j: u32) -> u64
     requires room { HasRoom rim parameters.now }
-    requires within { IsWithin rim i j }
+    requires grid { IsOnGrid rim i j }
     ensures { (plan : Plan) (new : Lengths) (patch : ℕ) → patch < (layout_of plan).patches
-        → AreLengths (layout_of plan) new → IsRim plan new patch rim parameters.now
+        → AreLengths (layout_of plan) new → IsRim plan new patch rim parameters.now → HasEnds plan new patch
+        → rows ≡ high (layout_of plan) (long_at plan.arcs) patch
         → result ≡ parameter_v (layout_of plan) (long_at plan.arcs) new patch i j }
 {
-    let east = parameters[rim.begin + rim.wide as usize + j as usize];
-    let west_begin = rim.begin + rim.wide as usize + rim.high as usize + rim.wide as usize;
-    let west = parameters[west_begin + (rim.high - j) as usize];
+    let east_begin = rim.begin + rim.wide as usize;
+    let east = at_place(parameters, east_begin, rim.high, j, EDGE * u64::from(rows));
+    let west_begin = east_begin + rim.high as usize + rim.wide as usize;
+    let west = at_place(parameters, west_begin, rim.high, rim.high - j, 0);
     mean(west, east, i, rim.wide)
+}
+
+/// The parameter of a place of a side that has so many, whose parameters begin here, or that of the end of the side.
+fn at_place(parameters: &[u64], begin: usize, places: u32, place: u32, end: u64) -> u64
+    requires room { begin + places ≤ length parameters.now }
+    ensures before { place < places → result ≡ slice_index parameters.now (begin + place) }
+    ensures end { places ≤ place → result ≡ end }
+{
+    if place < places {
+        parameters[begin + place as usize]
+    } else {
+        end
+    }
 }
 
 /// Some of so many equal parts of the way from one parameter to another.
 fn mean(near: u64, far: u64, some: u32, parts: u32) -> u64
-    requires { (some < parts) }
+    requires { (some ≤ parts) × (0 < parts) }
     ensures { result ≡ (near * (parts - some) + far * some) / parts }
 {
     let sum = u128::from(near) * u128::from(parts - some) + u128::from(far) * u128::from(some);

@@ -4,6 +4,7 @@
 mod axes;
 mod find;
 mod grid;
+mod homes;
 mod old;
 mod placed;
 mod places;

@@ -4,8 +4,10 @@ ghost use Rattle.std.specs.Prelude.{◌≡◌, ◌<◌, ◌≤◌, ◌-◌, ◌*
 ghost use Rattle.def_math.specs.Counts.{count_below};
 ghost use Rattle.def_mesh.specs.Faces.{Faces};
 ghost use Rattle.def_mesh.specs.Vertices.{vertex_count};
-ghost use Rattle.def_layout.specs.Lengths.{AreLengths};
+ghost use Rattle.def_layout.specs.Lengths.{wide, high, AreLengths};
 ghost use Rattle.def_layout.specs.Plans.{layout_of, plan};
+ghost use Rattle.def_map.specs.Homes.{home_of};
+ghost use Rattle.def_map.specs.Spots.{spot_at};
 ghost use Rattle.def_written.specs.NewFaces.{face_count};
 ghost use Rattle.def_written.specs.Numbers.{vertices};
 ghost use Rattle.def_remesh.specs.NewPoints.{lengths_in};
@@ -17,10 +19,12 @@ ghost use Rattle.qm_place.specs.Spots.{inner_of};
 
 use crate::axes::place_there;
 use crate::find::{Near, arcs_end, find};
+use crate::homes::cell_home;
 use crate::old::OldMesh;
 use crate::placed::Placed;
 use crate::sides::sides_of;
 use def_layout::TMesh;
+use def_map::{Home, Spot};
 use def_remesh::{PlaceTables, Rim, RunStarts};
 use def_text::Micro;
 use qm_mesh::Mesh;
@@ -147,5 +151,39 @@ impl Places {
         let tables = &self.tables;
         let placed = Placed { t: old.t, tables };
         place_there(old, find(&placed, v, near))
+    }
+
+    /// Where the new vertex v lies in the old mesh. In constant time where it is near the last one, else logarithmic.
+    pub fn spot_near(&self, t: &TMesh, v: u32, near: &mut Near) -> Spot
+        requires places { (faces : Faces) × ArePlaces faces (plan t.now) self.now }
+        requires vertex { v < vertices (layout_of (plan t.now)) (lengths_in self.now.lengths.items) }
+        ensures { result ≡ spot_at (plan t.now) (lengths_in self.now.lengths.items) v }
+    {
+        let tables = &self.tables;
+        let placed = Placed { t, tables };
+        find(&placed, v, near)
+    }
+
+    /// Where the new face in column i and row j of a patch lies in the old mesh.
+    pub fn home(&self, t: &TMesh, patch: usize, i: u32, j: u32) -> Home
+        requires places { (faces : Faces) × ArePlaces faces (plan t.now) self.now }
+        requires patch { patch < length t.now.patches.items }
+        requires column { i < wide (layout_of (plan t.now)) (lengths_in self.now.lengths.items) patch }
+        requires row { j < high (layout_of (plan t.now)) (lengths_in self.now.lengths.items) patch }
+        ensures { result ≡ home_of (plan t.now) (lengths_in self.now.lengths.items) patch i j }
+    {
+        let tables = &self.tables;
+        let placed = Placed { t, tables };
+        cell_home(&placed, patch, i, j)
+    }
+
+    /// The new size of a patch: how wide it is, and how high.
+    pub fn rim(&self, t: &TMesh, patch: usize) -> Rim
+        requires places { (faces : Faces) × ArePlaces faces (plan t.now) self.now }
+        requires patch { patch < length t.now.patches.items }
+        ensures wide { result.wide ≡ wide (layout_of (plan t.now)) (lengths_in self.now.lengths.items) patch }
+        ensures high { result.high ≡ high (layout_of (plan t.now)) (lengths_in self.now.lengths.items) patch }
+    {
+        self.tables.rims[patch]
     }
 }

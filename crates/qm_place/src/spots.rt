@@ -3,36 +3,36 @@
 ghost use Rattle.std.specs.Prelude.{◌≡◌, ◌<◌, ◌≤◌, ◌+◌, ◌-◌, ◌/◌, ◌%◌, ◌^◌, ℕ, length};
 ghost use Rattle.def_layout.specs.Lengths.{wide};
 ghost use Rattle.def_layout.specs.Plans.{layout_of};
+ghost use Rattle.def_map.specs.Spots.{edge_spot, face_spot};
 ghost use Rattle.def_written.specs.Numbers.{before_arc, before_patch};
 ghost use Rattle.def_remesh.specs.Placings.{rim_at};
 ghost use Rattle.qm_place.specs.Lengthened.{lengths_by, plan_in};
-ghost use Rattle.qm_place.specs.Spots.{arc_spot_at, arc_spot_by, cell_spot_at};
-ghost use Rattle.qm_place.specs.Spots.{IsAlong, IsInside, IsWithin};
+ghost use Rattle.qm_place.specs.Spots.{grid_point, IsAlong, IsInside, IsOnGrid, IsSmall};
 
-use crate::axes::{ArcSpot, CellSpot};
 use crate::grid::{across, cell_at, upright};
 use crate::placed::Placed;
 use crate::ways::EDGE;
+use def_map::{EdgeSpot, FaceSpot};
 
 /// An inner point of the arcs, counted from the first one, which lies on this arc.
-pub(crate) fn along_spot(placed: &Placed, arc: usize, place: u32) -> ArcSpot
+pub(crate) fn along_spot(placed: &Placed, arc: usize, place: u32) -> EdgeSpot
     requires along { IsAlong (plan_in placed.now) (lengths_by placed.now) arc place }
-    ensures { result ≡ arc_spot_at (plan_in placed.now) (lengths_by placed.now) arc
-        (place - before_arc (lengths_by placed.now) arc + 1) }
+    ensures { result ≡ edge_spot (plan_in placed.now) arc (place - before_arc (lengths_by placed.now) arc + 1)
+        (lengths_by placed.now arc) }
 {
     let k = place - placed.tables.along.begin[arc] + 1;
     arc_spot(placed, arc, k, placed.tables.lengths[arc])
 }
 
 /// Place k of so many of an arc.
-fn arc_spot(placed: &Placed, arc: usize, k: u32, parts: u32) -> ArcSpot
+fn arc_spot(placed: &Placed, arc: usize, k: u32, parts: u32) -> EdgeSpot
     requires arc { arc < length placed.now.t.now.arcs.items }
     requires place { (k < parts) × (parts ≤ 2 ^ 24) }
-    ensures { result ≡ arc_spot_by (plan_in placed.now) arc k parts }
+    ensures { result ≡ edge_spot (plan_in placed.now) arc k parts }
 {
     let darts = &placed.t.arcs[arc].darts;
     let way = u64::from(k) * darts.len() as u64;
-    ArcSpot {
+    EdgeSpot {
         dart: darts[(way / u64::from(parts)) as usize],
         some: (way % u64::from(parts)) as u32,
         parts,
@@ -40,9 +40,9 @@ fn arc_spot(placed: &Placed, arc: usize, k: u32, parts: u32) -> ArcSpot
 }
 
 /// An inner point of the patches, counted from the first one, which lies in this patch.
-pub(crate) fn inside_spot(placed: &Placed, patch: usize, place: u32) -> CellSpot
+pub(crate) fn inside_spot(placed: &Placed, patch: usize, place: u32) -> FaceSpot
     requires inside { IsInside (plan_in placed.now) (lengths_by placed.now) patch place }
-    ensures { result ≡ cell_spot_at (plan_in placed.now) (lengths_by placed.now) patch
+    ensures { result ≡ face_spot (plan_in placed.now) (lengths_by placed.now) patch
         ((place - before_patch (layout_of (plan_in placed.now)) (lengths_by placed.now) patch)
         % (wide (layout_of (plan_in placed.now)) (lengths_by placed.now) patch - 1) + 1)
         ((place - before_patch (layout_of (plan_in placed.now)) (lengths_by placed.now) patch)
@@ -53,21 +53,40 @@ pub(crate) fn inside_spot(placed: &Placed, patch: usize, place: u32) -> CellSpot
     cell_spot(placed, patch, offset % row + 1, offset / row + 1)
 }
 
-/// Grid point (i, j) inside a patch.
-fn cell_spot(placed: &Placed, patch: usize, i: u32, j: u32) -> CellSpot
+/// Grid point (i, j) of a patch, in the old cell where it lies.
+fn cell_spot(placed: &Placed, patch: usize, i: u32, j: u32) -> FaceSpot
     requires patch { patch < length placed.now.t.now.patches.items }
-    requires within { IsWithin (rim_at placed.now.tables.now.rims.items patch) i j }
-    ensures { result ≡ cell_spot_at (plan_in placed.now) (lengths_by placed.now) patch i j }
+    requires grid { IsOnGrid (rim_at placed.now.tables.now.rims.items patch) i j }
+    ensures { result ≡ face_spot (plan_in placed.now) (lengths_by placed.now) patch i j }
+{
+    let point = grid_point(placed, patch, i, j);
+    let old = &placed.t.patches[patch];
+    let a = cell_at(old.w, point.u);
+    let b = cell_at(old.h, point.v);
+    FaceSpot {
+        dart: old.cells[b as usize * old.w as usize + a as usize],
+        s: point.u - u64::from(a) * EDGE,
+        t: point.v - u64::from(b) * EDGE,
+    }
+}
+
+/// The parameters of a grid point: from west to east, and from south to north.
+#[derive(Clone, Copy)]
+pub(crate) struct GridPoint {
+    pub u: u64,
+    pub v: u64,
+}
+
+/// Those of grid point (i, j) of a patch.
+pub(crate) fn grid_point(placed: &Placed, patch: usize, i: u32, j: u32) -> GridPoint
+    requires patch { patch < length placed.now.t.now.patches.items }
+    requires grid { IsOnGrid (rim_at placed.now.tables.now.rims.items patch) i j }
+    ensures value { result ≡ grid_point (plan_in placed.now) (lengths_by placed.now) patch i j }
+    ensures small { IsSmall result }
 {
     let rim = placed.tables.rims[patch];
-    let u = across(&placed.tables.parameters, rim, i, j);
-    let v = upright(&placed.tables.parameters, rim, i, j);
     let old = &placed.t.patches[patch];
-    let a = cell_at(old.w, u);
-    let b = cell_at(old.h, v);
-    CellSpot {
-        dart: old.cells[b as usize * old.w as usize + a as usize],
-        s: u - u64::from(a) * EDGE,
-        t: v - u64::from(b) * EDGE,
-    }
+    let u = across(&placed.tables.parameters, rim, old.w, i, j);
+    let v = upright(&placed.tables.parameters, rim, old.h, i, j);
+    GridPoint { u, v }
 }

@@ -21,9 +21,9 @@ overflow_cast-nodes c =
     )
 
 pub returns-then-v-nodes : goal.returns-then-v-nodes
-returns-then-v-nodes c faces are =
+returns-then-v-nodes c =
     let low : c.args.v < length c.args.placed.now.t.now.nodes.items = omega (arith, c.if-v-nodes.true, c.len-nodes.ensures, c.args.placed.now.t.now.nodes.ok.0) in
-    found_at faces (plan c.args.placed.now.t.now) c.args.placed.now.tables.now are c.args.v c.index.result.now low
+    found_at (plan c.args.placed.now.t.now) (lengths_in c.args.placed.now.tables.now.lengths.items) c.args.v c.index.result.now low
     (get_or_read c.args.placed.now.t.now.nodes.items c.args.v c.index.result.now low c.index.ensures 0)
 
 pub along_spot-requires : goal.along_spot-requires
@@ -40,7 +40,7 @@ along_spot-requires c =
     record { along = on_arc (plan c.args.placed.now.t.now) (lengths_in c.args.placed.now.tables.now.lengths.items) (c.args.v - c.len-nodes.result) c.spot_near-near.result low same }
 
 pub returns-then-v-arcs_end : goal.returns-then-v-arcs_end
-returns-then-v-arcs_end c faces is =
+returns-then-v-arcs_end c =
     let are = c.args.placed.now.placed in
     let x = lengths_in c.args.placed.now.tables.now.lengths.items in
     let l = layout_of (plan c.args.placed.now.t.now) in
@@ -50,7 +50,7 @@ returns-then-v-arcs_end c faces is =
     let same : c.spot_near-near.result ≡ run_at (before_arc x) (length (plan c.args.placed.now.t.now).arcs) (c.args.v - c.len-nodes.result) =
     c.spot_near-near.ensures.run (λ b. x b - 1) (length (plan c.args.placed.now.t.now).arcs)
     (subst (λ (xs : List ℕ). AreRunStarts (λ b. x b - 1) (length (plan c.args.placed.now.t.now).arcs) xs) (sym c.deref.ensures.value) are.along) in
-    found_on faces (plan c.args.placed.now.t.now) c.args.placed.now.tables.now is c.args.v (c.args.v - c.len-nodes.result) c.spot_near-near.result c.along_spot.result
+    found_on (plan c.args.placed.now.t.now) (lengths_in c.args.placed.now.tables.now.lengths.items) c.args.v (c.args.v - c.len-nodes.result) c.spot_near-near.result c.along_spot.result
     (omega (arith, nodes, c.if-v-nodes.false)) (ap (λ n. c.args.v - n) nodes) low same c.along_spot.ensures
 
 pub spot_near-near-requires-2 : goal.spot_near-near-requires-2
@@ -84,7 +84,7 @@ inside_spot-requires c =
     record { inside = in_patch (plan c.args.placed.now.t.now) (lengths_in c.args.placed.now.tables.now.lengths.items) (c.args.v - c.arcs_end-arcs_end.result) c.spot_near-near-2.result low same }
 
 pub returns : goal.returns
-returns c faces is =
+returns c =
     let are = c.args.placed.now.placed in
     let x = lengths_in c.args.placed.now.tables.now.lengths.items in
     let l = layout_of (plan c.args.placed.now.t.now) in
@@ -95,5 +95,5 @@ returns c faces is =
     let same : c.spot_near-near-2.result ≡ run_at (before_patch l x) (length (plan c.args.placed.now.t.now).patches) (c.args.v - c.arcs_end-arcs_end.result) =
     c.spot_near-near-2.ensures.run (λ p. (wide l x p - 1) * (high l x p - 1)) (length (plan c.args.placed.now.t.now).patches)
     (subst (λ (xs : List ℕ). AreRunStarts (λ p. (wide l x p - 1) * (high l x p - 1)) (length (plan c.args.placed.now.t.now).patches) xs) (sym c.deref-2.ensures.value) are.inside) in
-    found_in faces (plan c.args.placed.now.t.now) c.args.placed.now.tables.now is c.args.v (c.args.v - c.arcs_end-arcs_end.result) c.spot_near-near-2.result c.inside_spot.result
-    (omega (arith, end, c.if-v-arcs_end.false)) (ap (λ n. c.args.v - n) end) low same c.inside_spot.ensures
+    found_in (plan c.args.placed.now.t.now) (lengths_in c.args.placed.now.tables.now.lengths.items) c.args.v (c.args.v - c.arcs_end-arcs_end.result) c.spot_near-near-2.result c.inside_spot.result
+    (omega (arith, end, c.if-v-arcs_end.false)) (ap (λ n. c.args.v - n) end) same c.inside_spot.ensures

@@ -1,10 +1,10 @@
 use Rattle.std.proofs.Common.{◌≡◌, ◌+◌, ◌-◌, length, ◌∙◌, arith}
 use Rattle.std.proofs.lemmas.List.{get_or_read}
 use Rattle.def_layout.specs.Plans.{plan}
+use Rattle.def_map.specs.Spots.{edge_spot}
 use Rattle.def_written.specs.Numbers.{before_arc}
 use Rattle.def_remesh.specs.NewPoints.{lengths_in}
 use Rattle.qm_place.proofs.Entries.{start_read}
-use Rattle.qm_place.specs.Spots.{arc_spot_by}
 use Rattle.qm_place.proofs.spots.along_spot.Goals as goal
 
 pub overflow_add-k : goal.overflow_add-k
@@ -35,4 +35,4 @@ returns c =
     start_read (λ b. x b - 1) (length (plan c.args.placed.now.t.now).arcs) c.args.arc c.index.result.now c.args.placed.now.tables.now.along.begin.items are.along c.requires.along.low c.index.ensures in
     let parts : c.index-2.result.now ≡ x c.args.arc =
     get_or_read c.args.placed.now.tables.now.lengths.items c.args.arc c.index-2.result.now (omega (arith, are.long, c.requires.along.low)) c.index-2.ensures 0 in
-    c.arc_spot.ensures ∙ (λ i. arc_spot_by (plan c.args.placed.now.t.now) c.args.arc (c.args.place - begin i + 1) (parts i))
+    c.arc_spot.ensures ∙ (λ i. edge_spot (plan c.args.placed.now.t.now) c.args.arc (c.args.place - begin i + 1) (parts i))

@@ -21,7 +21,7 @@ use Rattle.mesh_laws.proofs.HalfEdges.{manifold_law}
 use Rattle.mesh_laws.proofs.Vertices.{all_below}
 use Rattle.plan_laws.proofs.Lies.{cell_dart}
 use Rattle.plan_laws.proofs.PlanLies.{in_mesh as sides_in_mesh}
-use Rattle.qm_reach.proofs.Whole.{lies, laid_of, lengths_of}
+use Rattle.plan_laws.proofs.MeshLayouts.{lies, laid_of, lengths_of}
 use Rattle.written_laws.proofs.Borders.{at_is, at_from, at_to, from_is}
 use Rattle.written_laws.proofs.Grid.{point_inside}
 use Rattle.written_laws.proofs.NewDarts.{next_is}

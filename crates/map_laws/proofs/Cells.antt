@@ -1,0 +1,72 @@
+-- The new faces patch by patch: those of a patch stand one after the other, row by row.
+use Rattle.std.proofs.Common.{◌≡◌, ℕ, zero, suc, ◌+◌, ◌*◌, ◌/◌, ◌%◌, ◌<◌, List, [], ◌∷◌, ◌++◌, map, refl, sym, ◌∙◌, ap, ap₂, append_assoc, append-nil, arith}
+use Rattle.std.specs.List.{flat_map, range_with_len}
+use Rattle.std.proofs.lemmas.Grind.{flat_map-append}
+use Rattle.std.proofs.lemmas.List.FromFn.{map-range_with_len_more}
+use Rattle.def_layout.specs.Cells.{CellDart, dart}
+use Rattle.def_layout.specs.Layouts.{south, Layout}
+use Rattle.def_layout.specs.Lengths.{Lengths, wide, high}
+use Rattle.def_written.specs.NewFaces.{cell_in, cells_before, dart_of, patch_of}
+use Rattle.list_laws.proofs.Filters.{map_range_same}
+use Rattle.written_laws.proofs.Runs.{run_place}
+
+-- Numbers up to a sum are those up to its first term, and as many behind them as the other.
+range_join : {X : Type 0} (item : ℕ → X) (a n : ℕ)
+    → map item (range_with_len 0 (a + n)) ≡ map item (range_with_len 0 a) ++ map (λ k. item (a + k)) (range_with_len 0 n)
+range_join item a zero =
+    let e : a + zero ≡ a = omega arith in ap (λ k. map item (range_with_len 0 k)) e ∙ sym (append-nil (map item (range_with_len 0 a)))
+range_join item a (suc n) =
+    let e : a + suc n ≡ a + n + 1 = omega arith in
+    let one : n + 1 ≡ suc n = omega arith in
+    ap (λ k. map item (range_with_len 0 k)) e
+    ∙ map-range_with_len_more item 0 (a + n) (a + n) (omega arith)
+    ∙ ap (λ xs. xs ++ item (a + n) ∷ []) (range_join item a n)
+    ∙ append_assoc (map item (range_with_len 0 a)) (map (λ k. item (a + k)) (range_with_len 0 n)) (item (a + n) ∷ [])
+    ∙ ap (λ xs. map item (range_with_len 0 a) ++ xs) (sym (map-range_with_len_more (λ k. item (a + k)) 0 n n (omega arith)))
+    ∙ ap (λ m. map item (range_with_len 0 a) ++ map (λ k. item (a + k)) (range_with_len 0 m)) one
+
+module _ (l : Layout) (x : Lengths) where
+  -- Cell k of a patch, counted row by row, by its south side.
+  abbrev pub cell_dart : (p k : ℕ) → CellDart
+  cell_dart p k = dart p (k % wide l x p) (k / wide l x p) south
+
+  -- Its number is that of the cells before the patch, and k.
+  pub cell_is : (p k : ℕ) → p < l.patches → k < wide l x p * high l x p → dart_of l x (cells_before l x p + k) south ≡ cell_dart p k
+  cell_is p k low less = λ t. record {
+    patch = patch t;
+    i = place t % wide l x (patch t);
+    j = place t / wide l x (patch t);
+    way = south;
+  }
+    where
+      patch : patch_of l x (cells_before l x p + k) ≡ p
+      patch = run_place (λ q. wide l x q * high l x q) l.patches p k low less
+
+      place : cell_in l x (cells_before l x p + k) ≡ k
+      place = omega (arith, ap (cells_before l x) patch)
+
+  -- What is put together cell by cell is put together patch by patch.
+  pub by_patches : {X : Type 0} (item : CellDart → X) (text : X → List ℕ) (n : ℕ) → n < l.patches + 1
+      → flat_map (λ p. flat_map text (map (λ k. item (cell_dart p k)) (range_with_len 0 (wide l x p * high l x p)))) (map (λ p. p) (range_with_len 0 n))
+      ≡ flat_map text (map (λ f. item (dart_of l x f south)) (range_with_len 0 (cells_before l x n)))
+  by_patches item text zero low = refl
+  by_patches item text (suc n) low =
+      let one : n + 1 ≡ suc n = omega arith in
+      let w : ℕ = wide l x n * high l x n in
+      ap (λ m. flat_map whole (map (λ p. p) (range_with_len 0 m))) (sym one)
+      ∙ ap (flat_map whole) (map-range_with_len_more (λ p. p) 0 n n (omega arith))
+      ∙ flat_map-append whole (map (λ p. p) (range_with_len 0 n)) (n ∷ [])
+      ∙ ap₂ (λ (xs ys : List ℕ). xs ++ ys) (by_patches item text n (omega arith)) (append-nil (whole n) ∙ ap (flat_map text) (here (omega arith)))
+      ∙ sym (flat_map-append text (map (λ f. item (dart_of l x f south)) (range_with_len 0 (cells_before l x n)))
+      (map (λ k. item (dart_of l x (cells_before l x n + k) south)) (range_with_len 0 w)))
+      ∙ ap (flat_map text) (sym (range_join (λ f. item (dart_of l x f south)) (cells_before l x n) w))
+    where
+      whole : ℕ → List ℕ
+      whole p = flat_map text (map (λ k. item (cell_dart p k)) (range_with_len 0 (wide l x p * high l x p)))
+
+      here : n < l.patches
+          → map (λ k. item (cell_dart n k)) (range_with_len 0 (wide l x n * high l x n))
+          ≡ map (λ k. item (dart_of l x (cells_before l x n + k) south)) (range_with_len 0 (wide l x n * high l x n))
+      here n_low =
+          map_range_same (λ k. item (cell_dart n k)) (λ k. item (dart_of l x (cells_before l x n + k) south)) 0 (wide l x n * high l x n)
+          (λ k from less. ap item (sym (cell_is n k n_low (omega (arith, less)))))
