@@ -2,8 +2,9 @@
 """Measures quadq's solver on networks, and on even ones integer programming with cbc, where Debian's coinor-cbc is
 installed. Where both end, their least deviations have to be equal.
 
-usage: bench/solve.py [--alone] [--far | --boundary] [FILE.net..]     without files: the networks of generated meshes;
-alone: without cbc; far: with far targets only; boundary: of plates with many ends at the boundary only, without cbc
+usage: bench/solve.py [--alone] [--old] [--far | --boundary] [FILE.net..]     without files: the networks of generated
+meshes; alone: without cbc; old: the descent without a start, from a multiple of the old lengths; far: with far targets
+only; boundary: of plates with many ends at the boundary only, without cbc
 
 All seconds but those of the parts are of the processor, user and system, so that they mean something on a busy machine
 too. The columns: the searches that are left to the matching in all rounds; the seconds and megabytes of the whole
@@ -27,7 +28,7 @@ from measuring import build_bench
 
 HERE = os.path.dirname(os.path.realpath(__file__))
 ROOT = os.path.dirname(HERE)
-SOLVER = [f"{ROOT}/crates/qm_bench/out/qm_bench", "descend"]
+SOLVER = [f"{ROOT}/crates/qm_bench/out/qm_bench", "descend_old" if "--old" in sys.argv else "descend"]
 MESHES = [["holes", "512", "512"], ["holes", "1024", "1024"], ["voxels", "20"], ["voxels", "40"]]
 LARGE = [["holes", "4096", "4096"], ["voxels", "100"], ["voxels", "208"]]
 # Where many ends lie at the boundary, and the settings at which these are measured: scale and floor.

@@ -1,19 +1,38 @@
 //! The descent of a network to its least deviation, and what it took.
 
+ghost use Rattle.def_flow.specs.Network.{network, IsWithinBounds};
+
+use crate::graphs::multiple;
 use crate::left::deviation_of;
 use crate::rounds::descend;
-use def_flow::MAX_TANGLE;
+use def_flow::{MAX_TANGLE, Net};
 use qm_net::{is_within_bounds, tangle_of};
 use qm_nettext::{NetFail, read_net};
 use qm_solve::{first_descent, is_start, start_of};
+use qm_start::Start;
+use std::alloc::{AllocError, Global};
 use std::io;
 use std::process::ExitCode;
 use std::time::{Duration, Instant};
 
+/// Where a descent begins.
+#[derive(Clone, Copy, Debug, PartialEq, Eq)]
+pub(crate) enum Beginning {
+    /// At the start that the solver finds.
+    Near,
+    /// At a multiple of the old lengths, as where the solver finds no start.
+    Old,
+}
+
 /// Tells the least deviation of the network of a text and what it took to find it. The seconds of the parts go to
-/// standard error; reading began at the given instant. The status is 2 for a text that is no network, 3 for one out of bounds, 4 for one too tangled, and 5
-/// where no start was found.
-pub(crate) fn tell_descent(rt: &HostRuntime, begun: Instant, text: &str) -> io::Result<ExitCode> {
+/// standard error; reading began at the given instant. The status is 2 for a text that is no network, 3 for one out of
+/// bounds, 4 for one too tangled, and 5 where no start was found.
+pub(crate) fn tell_descent(
+    rt: &HostRuntime,
+    begun: Instant,
+    text: &str,
+    from: Beginning,
+) -> io::Result<ExitCode> {
     let net = match read_net(rt.alloc(), text) {
         Ok(net) => net,
         Err(NetFail::NoNetwork) => return Ok(ExitCode::from(2)),
@@ -28,7 +47,7 @@ pub(crate) fn tell_descent(rt: &HostRuntime, begun: Instant, text: &str) -> io::
     }
     let reading = begun.elapsed(rt)?;
     let begun = Instant::now(rt)?;
-    let start = start_of(rt.alloc(), &net)?;
+    let start = begin(rt.alloc(), &net, from)?;
     let starting = begun.elapsed(rt)?;
     if !is_start(&net, &start.lengths) {
         return Ok(ExitCode::from(5));
@@ -48,6 +67,19 @@ pub(crate) fn tell_descent(rt: &HostRuntime, begun: Instant, text: &str) -> io::
     tell_seconds(rt, "start", starting)?;
     tell_seconds(rt, "rounds", rounds.turning)?;
     Ok(ExitCode::from(0))
+}
+
+/// The list that a descent begins with.
+fn begin(alloc: Global, net: &Net, from: Beginning) -> Result<Start, AllocError>
+    requires { IsWithinBounds (network net.now) }
+{
+    match from {
+        Beginning::Near => start_of(alloc, net),
+        Beginning::Old => Ok(Start {
+            lengths: multiple(alloc, net)?,
+            prices: Vec::new(alloc),
+        }),
+    }
 }
 
 /// Tells how long a part took.

@@ -78,7 +78,7 @@ pub(crate) fn write_graph(alloc: Global, text: &str) -> Result<Option<String>, A
 }
 
 /// The old lengths, as often as the scale and the floor ask.
-fn multiple(alloc: Global, net: &Net) -> Result<Vec<u64>, AllocError> {
+pub(crate) fn multiple(alloc: Global, net: &Net) -> Result<Vec<u64>, AllocError> {
     let times = u64::from(net.floor.max(net.p / net.q.max(1)));
     let mut x = Vec::new(alloc);
     for arc in &net.arcs {

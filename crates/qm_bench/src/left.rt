@@ -7,13 +7,15 @@ ghost use Rattle.def_flow.specs.Descent.{IsStartOf};
 
 use def_flow::{MAX_STEP, MAX_TANGLE, Net};
 use def_matching::WGraph;
+use qm_fraction::{Fraction, least_fraction};
 use qm_gadget::{graph_of, matching_of};
 use qm_initial::initial_dual;
 use qm_net::deviation;
 use qm_solve::{Descent, first_wishes};
 use std::alloc::{AllocError, Global};
 
-/// How many searches the matching of the next round needs: each matches two vertices that no tight edge matched.
+/// How many searches the matching of the next round needs, once its first dual is led to that of a least fractional
+/// matching: each matches two vertices that no tight edge matched.
 pub(crate) fn searches_left(alloc: Global, net: &Net, descent: &Descent) -> Result<u64, AllocError>
     requires bounds { IsWithinBounds (network net.now) }
     requires tangle { tangle_number (network net.now) ≤ MAX_TANGLE }
@@ -24,12 +26,18 @@ pub(crate) fn searches_left(alloc: Global, net: &Net, descent: &Descent) -> Resu
     let known = matching_of(alloc, net, &gadget, &descent.x)?;
     let wish = first_wishes(alloc, net, &gadget, &descent.prices)?;
     let y = initial_dual(alloc, &gadget.graph, &wish)?;
-    let mut matched = vec![in alloc; false; y.len()]?;
+    let Some(Fraction { numbers, edges }) = least_fraction(alloc, &gadget.graph, &y, &known)? else {
+        return Ok(0);
+    };
+    let mut matched = vec![in alloc; false; numbers.len()]?;
+    for e in &edges {
+        match_tight(&gadget.graph, &numbers, &mut matched, *e);
+    }
     for e in &known {
-        match_tight(&gadget.graph, &y, &mut matched, *e);
+        match_tight(&gadget.graph, &numbers, &mut matched, *e);
     }
     for e in 0..gadget.graph.edges.len() as u32 {
-        match_tight(&gadget.graph, &y, &mut matched, e);
+        match_tight(&gadget.graph, &numbers, &mut matched, e);
     }
     let left = matched.iter().filter(|matched| !**matched).count();
     Ok(left as u64 / 2)

@@ -12,7 +12,7 @@ mod sets;
 mod work;
 
 use crate::certs::tell_certificate;
-use crate::descents::tell_descent;
+use crate::descents::{Beginning, tell_descent};
 use crate::graphs::{match_text, write_graph};
 use crate::work::tell_work;
 use std::env::{self, Env};
@@ -24,6 +24,7 @@ use std::time::Instant;
 ///
 /// - `graph`, `nest`, `tree`, `comb`: the matching graph of a network of 10,000 arcs, or the verdict on a dual over it;
 /// - `descend`: reads a network, and tells its least deviation and what it took to find it;
+/// - `descend_old`: does so without a start;
 /// - `pair`: reads a network, and writes its matching graph with a perfect matching;
 /// - `match`: reads such a graph, and tells what a least matching costs;
 /// - `read`, `write`: reads the text of a remesh, and reads or writes the lines of its certificate.
@@ -42,11 +43,8 @@ fn main(rt: HostRuntime) -> io::Result<ExitCode> {
     match name.as_str() {
         "graph" | "nest" | "tree" | "comb" => tell_work(&rt, name.as_str(), times),
         "read" | "write" => tell_certificate(&rt, name.as_str() == "write", times),
-        "descend" => {
-            let begun = Instant::now(&rt)?;
-            let text = io::read_to_string(rt.alloc(), rt.reader())?;
-            tell_descent(&rt, begun, text.as_str())
-        }
+        "descend" => descend(&rt, Beginning::Near),
+        "descend_old" => descend(&rt, Beginning::Old),
         "pair" => {
             let text = io::read_to_string(rt.alloc(), rt.reader())?;
             tell(&rt, write_graph(rt.alloc(), text.as_str())?)
@@ -59,6 +57,13 @@ fn main(rt: HostRuntime) -> io::Result<ExitCode> {
     }
 }
 
+/// Reads a network, and tells of its descent.
+fn descend(rt: &HostRuntime, from: Beginning) -> io::Result<ExitCode> {
+    let begun = Instant::now(rt)?;
+    let text = io::read_to_string(rt.alloc(), rt.reader())?;
+    tell_descent(rt, begun, text.as_str(), from)
+}
+
 /// All work on networks, once.
 fn do_all(rt: &HostRuntime) -> io::Result<ExitCode> {
     for name in ["graph", "nest", "tree", "comb"] {
@@ -66,7 +71,7 @@ fn do_all(rt: &HostRuntime) -> io::Result<ExitCode> {
     }
     let begun = Instant::now(rt)?;
     let text = io::read_to_string(rt.alloc(), rt.reader())?;
-    tell_descent(rt, begun, text.as_str())?;
+    tell_descent(rt, begun, text.as_str(), Beginning::Near)?;
     match write_graph(rt.alloc(), text.as_str())? {
         Some(pair) => tell(rt, match_text(rt.alloc(), pair.as_str(), 1)?),
         None => Ok(ExitCode::from(2)),

@@ -5,9 +5,10 @@ use Rattle.std.proofs.lemmas.Int.{ints}
 use Rattle.std.proofs.lemmas.Bool.{cases_lt}
 use Rattle.std.proofs.lemmas.List.{get_or_past}
 use Rattle.def_math.specs.Increasing.{IsIncreasing}
-use Rattle.def_matching.specs.Matching.{WeightedGraph, IsCheap, IsSmallGraph, edge_at}
+use Rattle.def_matching.specs.Matching.{WeightedGraph, IsCheap, IsGraph, IsSmallGraph, edge_at}
 use Rattle.def_matching.specs.Dual.{DualLists, IsSmallDual, SaysYes, dual_sum, verdict}
 use Rattle.def_matching.specs.declared.limits.TheConstants.{MAX_PRODUCT}
+use Rattle.def_matching.specs.declared.weighted.WEdge.{WEdge}
 use Rattle.def_matching.specs.declared.weighted.Verdict.TheVariants.{Yes}
 use Rattle.def_forest.specs.Tables.{ForestTables, forest_of, IsValidFor}
 use Rattle.def_forest.specs.Written.{IsDualOf}
@@ -16,7 +17,7 @@ use Rattle.qm_dual.proofs.Verdicts.{says_yes}
 use Rattle.qm_initial.specs.declared.initial.TheConstants.{MAX_WISH}
 use Rattle.search_laws.proofs.Risen.{greatest, small_weights, weights_most}
 use Rattle.qm_match.specs.States.{HasPerfect, IsIdle, IsReady}
-use Rattle.qm_match.specs.Weights.{HaveRoom}
+use Rattle.qm_match.specs.Weights.{HaveRoom, HasRoom}
 use Rattle.qm_match.specs.declared.search.Search.{Search}
 
 -- The numbers of an increasing list are below its bound.
@@ -36,6 +37,10 @@ times_sum (suc n) x = omega (arith, times_sum n x)
 one_of : (n x : ℕ) → 1 ≤ n → x ≤ n * x
 one_of zero x l = absurd (omega (arith, l))
 one_of (suc n) x l = omega arith
+
+-- Costs that are cheap are small.
+pub cheap_costs : (g : WeightedGraph) → IsGraph g → IsCheap g → AreCostsBelow g (2 ^ 60)
+cheap_costs g lawful cheap e l = omega (arith, one_of g.n (unsigned_abs (edge_at g e).cost) (omega (arith, lawful.left e l)), cheap e l)
 
 -- A forest whose weights are no greater than the costs.
 pub made_least : (g : WeightedGraph) (t u : ForestTables) → u ≡ t → IsValidFor g t → t.root ≡ None → length t.up ≡ g.n + g.n / 2 → ((b : ℕ) → g.n ≤ b → (forest_of t).weight b ≡ pos 0)
@@ -69,6 +74,21 @@ made_first g y t u first same valid none size weights = subst (λ (s : ForestTab
   sets = λ b high. weights b ∙ get_or_past y b (pos 0) (omega (arith, high, first.long));
   small = λ cheap b. subst (λ (w : ℤ). g.n * unsigned_abs w ≤ MAX_FIRST) (sym (weights b)) (first.range b);
 })
+
+-- The usual first weights may be the first.
+pub raised_first : (g : WeightedGraph) (y : List ℤ) → IsCheap g → ((most : ℕ) → AreCostsBelow g most → HaveRoom g most y) → AreFirst g y
+raised_first g y cheap have = by_most (greatest g cheap)
+  where
+    by_most : (w : (most : ℕ) × AreCostsBelow g most × (g.n * most ≤ MAX_PRODUCT)) → AreFirst g y
+    by_most w = record {
+      long = (have w.0 w.1).long;
+      range = λ v. omega (arith, times_low g.n (unsigned_abs (get_or y v (pos 0))) w.0 ((have w.0 w.1).small v), w.2);
+      feasible = (have w.0 w.1).feasible;
+    }
+
+-- An edge was read, and the numbers at its ends.
+pub room_read : (g : WeightedGraph) (y : List ℤ) (e : ℕ) (edge : WEdge) (a b : ℤ) → edge ≡ edge_at g e → a ≡ get_or y edge.u (pos 0) → b ≡ get_or y edge.v (pos 0) → (a +ℤ b) ≤ℤ (pos 2 *ℤ edge.cost) → HasRoom g y e
+room_read g y e edge a b is left right le = subst (λ (x : WEdge). (get_or y x.u (pos 0) +ℤ get_or y x.v (pos 0)) ≤ℤ (pos 2 *ℤ x.cost)) is (omega (arith, ints, left, right, le))
 
 -- First weights are small.
 pub first_small : (g : WeightedGraph) (y : List ℤ) → AreFirst g y → (v : ℕ) → unsigned_abs (get_or y v (pos 0)) ≤ 2 ^ 60

@@ -5,13 +5,16 @@ use Rattle.def_matching.specs.Matching.{WeightedGraph, Vertex, EdgeNumber, edge_
 use Rattle.def_forest.specs.Darts.{Dart, darts_of, far}
 use Rattle.def_forest.specs.Made.{AreCostsBelow}
 
+-- An edge has no more at its ends than twice its cost.
+abbrev pub HasRoom : (g : WeightedGraph) (y : List ℤ) (e : EdgeNumber) → Type 0
+HasRoom g y e = (slice_index_or y (edge_at g e).u (pos 0) +ℤ slice_index_or y (edge_at g e).v (pos 0))
+    ≤ℤ (pos 2 *ℤ (edge_at g e).cost)
+
 -- No number is above a bound, up or down, and no edge has more at its ends than twice its cost.
 pub record HaveRoom (g : WeightedGraph) (most : ℕ) (y : List ℤ) : Type 0 where
   pub long : length y ≡ g.n
   pub small : (v : Vertex) → unsigned_abs (slice_index_or y v (pos 0)) ≤ most
-  pub feasible : (e : EdgeNumber) → e < length g.edges
-      → (slice_index_or y (edge_at g e).u (pos 0) +ℤ slice_index_or y (edge_at g e).v (pos 0))
-      ≤ℤ (pos 2 *ℤ (edge_at g e).cost)
+  pub feasible : (e : EdgeNumber) → e < length g.edges → HasRoom g y e
 
 -- The same where all costs are within the bound, and that is not great: then nothing wraps.
 pub record MayRise (g : WeightedGraph) (most : ℕ) (y : List ℤ) : Type 0 where

@@ -2,6 +2,7 @@
 #![tactic(auto)]
 
 mod fans;
+mod first;
 mod keys;
 mod matcher;
 mod mending;

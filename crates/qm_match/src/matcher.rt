@@ -1,7 +1,7 @@
 //! Least perfect matchings: all memory of one is taken first, and finding it takes none.
 
 ghost use Rattle.std.specs.Prelude.{◌≡◌, ◌+◌, ◌*◌, ◌*ℤ◌, ◌^◌, ◌<◌, ◌≤◌, ℕ, length, pos, slice_index_or};
-ghost use Rattle.std.specs.Prelude.{unsigned_abs, IfOk};
+ghost use Rattle.std.specs.Prelude.{unsigned_abs, true, IfOk};
 ghost use Rattle.def_matching.specs.Matching.{graph, edge_at, matching_cost, IsCheap, IsPerfect, IsSmallGraph};
 ghost use Rattle.def_matching.specs.Dual.{dual, verdict, IsSmallDual};
 ghost use Rattle.def_forest.specs.Forests.{Blossom};
@@ -10,11 +10,12 @@ ghost use Rattle.def_forest.specs.Made.{AreAtMost, AreCostsBelow, AreFirst, IsMa
 
 use crate::Memory;
 use crate::fans::fans_of;
+use crate::first::{First, are_small, led};
 use crate::search::Search;
 use crate::start::search_of;
 use crate::weights::first_weights;
 use def_matching::{Dual, Verdict, WGraph};
-use qm_forest::Forest;
+use qm_forest::{Forest, greatest_cost};
 use qm_initial::{MAX_WISH, initial_dual};
 use std::alloc::Global;
 use std::marker::Model;
@@ -23,6 +24,8 @@ use std::marker::Model;
 #[derive(Drop)]
 pub struct Matcher {
     search: Search,
+    /// Edges that are matched before others, where they are tight.
+    wished: Vec<u32>,
 }
 
 impl Model for Matcher {
@@ -51,7 +54,8 @@ impl Matcher {
         let forest = Forest::new_from(alloc, g, &y)?;
         drop(y);
         let search = search_of(alloc, g, forest, fans)?;
-        Ok(Matcher { search })
+        let wished = Vec::new(alloc);
+        Ok(Matcher { search, wished })
     }
 
     /// Takes all memory of a match. The first weights are given, a feasible dual.
@@ -63,7 +67,26 @@ impl Matcher {
         let forest = Forest::new_from(alloc, g, y)?;
         let fans = fans_of(alloc, g)?;
         let search = search_of(alloc, g, forest, fans)?;
-        Ok(Matcher { search })
+        let wished = Vec::new(alloc);
+        Ok(Matcher { search, wished })
+    }
+
+    /// Takes all memory of a match. The first weights are those of a least fractional matching, which is found from
+    /// given ones, a feasible dual; one perfect matching is known. Where they would be out of range, the given ones stay.
+    pub fn new_led(alloc: Global, g: &WGraph, known: &[u32], y: Vec<i64>) -> Result<Matcher, Memory>
+        requires graph { IsSmallGraph (graph g.now) }
+        requires first { AreFirst (graph g.now) y.items }
+        ensures made { IfOk result (λ m. IsMadeFor (graph g.now) m) }
+    {
+        let First { y, edges } = led(alloc, g, known, y)?;
+        let forest = Forest::new_from(alloc, g, &y)?;
+        drop(y);
+        let fans = fans_of(alloc, g)?;
+        let search = search_of(alloc, g, forest, fans)?;
+        Ok(Matcher {
+            search,
+            wished: edges,
+        })
     }
 
     /// Finds a least perfect matching, in increasing order, and a dual that shows it to be least. One perfect matching
@@ -82,8 +105,8 @@ impl Matcher {
         ensures least { verdict (graph g.now) (dual result.1)
             ≡ Verdict.Yes (pos 2 *ℤ matching_cost (graph g.now) result.0.items) }
     {
-        let Matcher { mut search } = self;
-        search.match_tight(g, known);
+        let Matcher { mut search, wished } = self;
+        search.match_tight(g, &wished, known);
         search.match_all(g);
         search.into_parts(g)
     }
@@ -105,8 +128,37 @@ pub fn best(alloc: Global, g: &WGraph, known: &[u32]) -> Result<(Vec<u32>, Dual)
     ensures least { IfOk result (λ found. verdict (graph g.now) (dual found.1)
         ≡ Verdict.Yes (pos 2 *ℤ matching_cost (graph g.now) found.0.items)) }
 {
+    let y = usual_weights(alloc, g)?;
+    let matcher = Matcher::new_led(alloc, g, known, y)?;
+    let (edges, dual) = matcher.run(g, known);
+    if is_near(g, &dual) {
+        return Ok((edges, dual));
+    }
+    // The weights were led too far, which no graph is known to do.
     let matcher = Matcher::new(alloc, g)?;
     Ok(matcher.run(g, known))
+}
+
+/// The first weights of `best`: the least costs, raised as far as the edges at each vertex allow.
+fn usual_weights(alloc: Global, g: &WGraph) -> Result<Vec<i64>, Memory>
+    requires graph { IsSmallGraph (graph g.now) }
+    requires cheap { IsCheap (graph g.now) }
+    ensures { IfOk result (λ y. AreFirst (graph g.now) y.items) }
+{
+    let fans = fans_of(alloc, g)?;
+    let y = first_weights(alloc, g, &fans)?;
+    Ok(y)
+}
+
+/// Whether no number of a dual is above four times the product of the vertices with the greatest cost.
+fn is_near(g: &WGraph, d: &Dual) -> bool
+    requires graph { IsSmallGraph (graph g.now) }
+    requires costs { AreCostsBelow (graph g.now) (2 ^ 60) }
+    ensures { result ≡ true → (most : ℕ) → AreCostsBelow (graph g.now) most
+        → AreAtMost (4 * g.now.n * most) (dual d.now) }
+{
+    let most = (4 * u64::from(g.n)).saturating_mul(greatest_cost(g));
+    are_small(&d.y, most) && are_small(&d.z, most)
 }
 
 /// The same, from given first weights of the vertices, a feasible dual. One near a least dual leaves little to do.
@@ -147,5 +199,6 @@ pub fn best_near(
         ≡ Verdict.Yes (pos 2 *ℤ matching_cost (graph g.now) found.0.items)) }
 {
     let y = initial_dual(alloc, g, wish)?;
-    best_from(alloc, g, known, &y)
+    let matcher = Matcher::new_led(alloc, g, known, y)?;
+    Ok(matcher.run(g, known))
 }

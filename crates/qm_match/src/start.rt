@@ -42,13 +42,18 @@ pub(crate) fn search_of(
 }
 
 impl Search {
-    /// Matches the tight edges of a known matching, and then others, where neither end is matched.
-    pub(crate) fn match_tight(&mut self, g: &WGraph, known: &[u32])
+    /// Matches tight edges where neither end is matched: wished ones, then those of a known matching, and then others.
+    pub(crate) fn match_tight(&mut self, g: &WGraph, wished: &[u32], known: &[u32])
         requires idle { IsIdle (graph g.now) self.old }
         requires known { (k : ℕ) → k < length known.now → slice_index known.now k < length g.now.edges.items }
         ensures idle { IsIdle (graph g.now) self.new }
         ensures first { self.new.first ≡ self.old.first }
     {
+        for e in wished {
+            if (*e as usize) < g.edges.len() {
+                self.match_if_tight(g, *e);
+            }
+        }
         for e in known {
             self.match_if_tight(g, *e);
         }

@@ -16,8 +16,12 @@ use crate::worth::prices_of;
 use def_flow::Net;
 use std::alloc::Global;
 
-/// How many exits the relaxation may look at, and how many the repair: some seconds of work.
-const FUEL: u32 = 268_435_456;
+/// How many exits the relaxation may look at for each arc, and how many the repair: work for about as long as the
+/// descent takes without a start.
+const LOOKS: u32 = 8_192;
+
+/// How many they may look at in all: some seconds of work.
+const MOST_LOOKS: u32 = 268_435_456;
 
 /// The most nodes, and the most arcs, of a network for which a start is looked for.
 const MOST: u32 = 268_435_456;
@@ -44,11 +48,12 @@ pub fn near_start(alloc: Global, net: &Net) -> Result<Option<Start>, Memory>
     let chains = chains_of(alloc, net)?;
     let cover = cover_of(alloc, net, &chains)?;
     let mut flow = first_flow(alloc, &cover)?;
-    let mut fuel = FUEL;
+    let looks = LOOKS.saturating_mul(net.arcs.len() as u32).min(MOST_LOOKS);
+    let mut fuel = looks;
     relax(alloc, &cover, &mut flow, &mut fuel)?;
     let prices = prices_of(alloc, net, &chains, &flow)?;
     let rounded = round(alloc, &cover, &flow)?;
-    fuel = FUEL;
+    fuel = looks;
     if repair(alloc, &cover, &rounded, &mut flow, &mut fuel)?.is_none() {
         return Ok(None);
     }

@@ -8,3 +8,6 @@ invariant-loop-e l = record { idle : IsIdle (graph l.g) l.self; first : l.self.f
 
 abbrev pub invariant-loop-e-2 : goal.invariant-loop-e-2
 invariant-loop-e-2 l = record { idle : IsIdle (graph l.g) l.self; first : l.self.first ≡ l.fn.self.first }
+
+abbrev pub invariant-loop-e-3 : goal.invariant-loop-e-3
+invariant-loop-e-3 l = record { idle : IsIdle (graph l.g) l.self; first : l.self.first ≡ l.fn.self.first }

@@ -1,0 +1,145 @@
+//! The darts that leave each vertex, side by side.
+
+ghost use Rattle.std.specs.Prelude.{◌≡◌, ◌+◌, ◌*◌, ◌^◌, ◌<◌, ◌≤◌, length, IfOk, IfSome};
+ghost use Rattle.std.specs.List.{All};
+ghost use Rattle.def_matching.specs.Matching.{graph, IsSmallGraph};
+ghost use Rattle.qm_fraction.specs.Tables.{IsDartWithin, IsExitWithin, IsExits, exit_count};
+
+use crate::Memory;
+use def_matching::{WEdge, WGraph};
+use std::alloc::Global;
+
+/// A dart: where it begins and where it ends, and what its edge costs. That of edge `e` from its first end to its
+/// second has the number `2 * e`, and the other one `2 * e + 1`.
+#[derive(Clone, Copy, Debug, PartialEq, Eq)]
+pub(crate) struct Dart {
+    pub(crate) from: u32,
+    pub(crate) to: u32,
+    pub(crate) cost: i64,
+}
+
+/// A dart that leaves a vertex: where it leads, its number, and what its edge costs.
+#[derive(Clone, Copy, Debug, PartialEq, Eq)]
+pub(crate) struct Exit {
+    pub(crate) to: u32,
+    pub(crate) dart: u32,
+    pub(crate) cost: i64,
+}
+
+/// The exits of all vertices, in order; for each vertex the first of its own, and at the end how many there are.
+#[derive(Debug, Drop)]
+pub(crate) struct Exits {
+    pub(crate) vertices: u32,
+    pub(crate) all: Vec<Exit>,
+    pub(crate) firsts: Vec<u32>,
+}
+
+impl Exits {
+    /// The first exit of a vertex, and the first behind them.
+    pub(crate) fn range(&self, v: u32) -> (u32, u32)
+        requires exits { IsExits self.now }
+        requires vertex { v < self.now.vertices }
+        ensures { result.1 ≤ exit_count self.now }
+    {
+        (self.firsts[v as usize], self.firsts[v as usize + 1])
+    }
+
+    /// An exit by its place.
+    pub(crate) fn exit(&self, place: u32) -> Exit
+        requires exits { IsExits self.now }
+        requires place { place < exit_count self.now }
+        ensures { IsExitWithin self.now.vertices result }
+    {
+        self.all[place as usize]
+    }
+}
+
+/// The dart with a number, if there is one.
+pub(crate) fn dart_at(g: &WGraph, d: u32) -> Option<Dart>
+    requires { IsSmallGraph (graph g.now) }
+    ensures { IfSome result (IsDartWithin g.now.n) }
+{
+    if (d / 2) as usize >= g.edges.len() {
+        return None;
+    }
+    let WEdge { u, v, cost } = edge_at(g, d / 2);
+    let (from, to) = if d % 2 == 0 { (u, v) } else { (v, u) };
+    Some(Dart { from, to, cost })
+}
+
+/// An edge.
+fn edge_at(g: &WGraph, e: u32) -> WEdge
+    requires graph { IsSmallGraph (graph g.now) }
+    requires edge { e < length g.now.edges.items }
+    ensures { (result.u < g.now.n) × (result.v < g.now.n) }
+{
+    g.edges[e as usize]
+}
+
+/// The exits of a graph that has vertices. Linear.
+pub(crate) fn exits_of(alloc: Global, g: &WGraph) -> Result<Exits, Memory>
+    requires graph { IsSmallGraph (graph g.now) }
+    requires some { 1 ≤ g.now.n }
+    ensures exits { IfOk result IsExits }
+    ensures vertices { IfOk result (λ exits. exits.vertices ≡ g.now.n) }
+{
+    let firsts = firsts_of(alloc, g)?;
+    let none = Exit {
+        to: 0,
+        dart: 0,
+        cost: 0,
+    };
+    let mut all = vec![in alloc; none; 2 * g.edges.len()]?;
+    let mut free = Vec::from_slice(alloc, &firsts)?;
+    for d in 0..2 * g.edges.len() as u32 {
+        put(g, &mut all, &mut free, d);
+    }
+    Ok(Exits {
+        vertices: g.n,
+        all,
+        firsts,
+    })
+}
+
+/// For each vertex how many darts leave those before it, and at the end how many there are in all.
+fn firsts_of(alloc: Global, g: &WGraph) -> Result<Vec<u32>, Memory>
+    requires { IsSmallGraph (graph g.now) }
+    ensures count { IfOk result (λ firsts. length firsts.items ≡ g.now.n + 1) }
+    ensures within { IfOk result (λ firsts. All (λ first. first ≤ 2 * length g.now.edges.items) firsts.items) }
+{
+    let all = 2 * g.edges.len() as u32;
+    let mut counts = vec![in alloc; 0u32; g.n as usize]?;
+    for d in 0..all {
+        if let Some(Dart { from, .. }) = dart_at(g, d) {
+            counts[from as usize] = counts[from as usize].saturating_add(1);
+        }
+    }
+    let mut firsts = Vec::with_capacity(alloc, g.n as usize + 1)?;
+    firsts.push(0)?;
+    let mut before = 0u32;
+    for count in &counts {
+        before = before.saturating_add(*count).min(all);
+        firsts.push(before)?;
+    }
+    Ok(firsts)
+}
+
+/// Puts a dart at the first free place of the vertex where it begins.
+fn put(g: &WGraph, all: &mut [Exit], free: &mut [u32], d: u32)
+    requires graph { IsSmallGraph (graph g.now) }
+    requires free { length free.old ≡ g.now.n + 1 }
+    requires few { length all.old ≤ 2 ^ 31 }
+    requires all { All (IsExitWithin g.now.n) all.old }
+    ensures free { length free.new ≡ length free.old }
+    ensures long { length all.new ≡ length all.old }
+    ensures all { All (IsExitWithin g.now.n) all.new }
+{
+    let Some(Dart { from, to, cost }) = dart_at(g, d) else {
+        return;
+    };
+    let place = free[from as usize];
+    if (place as usize) < all.len() {
+        free[from as usize] = place + 1;
+        all[place as usize] = Exit { to, dart: d, cost };
+    }
+}

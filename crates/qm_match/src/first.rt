@@ -1,0 +1,102 @@
+//! First weights: numbers that are tested before they are taken, and a match that begins with them.
+
+ghost use Rattle.std.specs.Prelude.{◌≡◌, ◌*◌, ◌<◌, ◌≤◌, ◌+ℤ◌, ◌*ℤ◌, ℕ, pos, true, length, unsigned_abs};
+ghost use Rattle.std.specs.Prelude.{slice_index_or, IfOk};
+ghost use Rattle.def_matching.specs.Matching.{graph, IsSmallGraph};
+ghost use Rattle.def_forest.specs.Made.{AreFirst, MAX_FIRST};
+ghost use Rattle.qm_match.specs.Weights.{HasRoom};
+
+use crate::Memory;
+use def_matching::{MAX_PRODUCT, WEdge, WGraph};
+use qm_fraction::{Fraction, least_fraction};
+use std::alloc::Global;
+
+/// First weights, and edges that are to be matched before others where they are tight.
+#[derive(Debug, Drop)]
+pub(crate) struct First {
+    pub(crate) y: Vec<i64>,
+    pub(crate) edges: Vec<u32>,
+}
+
+/// The numbers and the edges of a least fractional matching, if they may be first weights, and else those from which it
+/// was found. They are these also where tight edges match all vertices already.
+pub(crate) fn led(alloc: Global, g: &WGraph, known: &[u32], y: Vec<i64>) -> Result<First, Memory>
+    requires graph { IsSmallGraph (graph g.now) }
+    requires first { AreFirst (graph g.now) y.items }
+    ensures { IfOk result (λ first. AreFirst (graph g.now) first.y.items) }
+{
+    if let Some(Fraction { numbers, edges }) = least_fraction(alloc, g, &y, known)? {
+        if are_first(g, &numbers) {
+            return Ok(First { y: numbers, edges });
+        }
+    }
+    Ok(First {
+        y,
+        edges: Vec::new(alloc),
+    })
+}
+
+/// Whether numbers may be first weights. Linear in the graph.
+fn are_first(g: &WGraph, numbers: &[i64]) -> bool
+    requires graph { IsSmallGraph (graph g.now) }
+    requires long { length numbers.now ≡ g.now.n }
+    ensures { result ≡ true → AreFirst (graph g.now) numbers.now }
+{
+    are_small(numbers, widest(g.n)) && have_room(g, numbers)
+}
+
+/// How far a first weight may be from 0.
+fn widest(n: u32) -> u64
+    ensures { n * result ≤ MAX_FIRST }
+{
+    if n == 0 {
+        return 0;
+    }
+    (2 * MAX_PRODUCT + MAX_PRODUCT / 2) / u64::from(n)
+}
+
+/// Whether no number is above a bound, up or down.
+pub(crate) fn are_small(numbers: &[i64], most: u64) -> bool
+    ensures { result ≡ true → (k : ℕ) → unsigned_abs (slice_index_or numbers.now k (pos 0)) ≤ most }
+{
+    numbers.iter().all(|number| number.unsigned_abs() <= most)
+}
+
+/// Whether no edge has more at its ends than twice its cost.
+fn have_room(g: &WGraph, numbers: &[i64]) -> bool
+    requires graph { IsSmallGraph (graph g.now) }
+    requires long { length numbers.now ≡ g.now.n }
+    ensures { result ≡ true → (e : ℕ) → e < length g.now.edges.items → HasRoom (graph g.now) numbers.now e }
+{
+    for e in 0..g.edges.len() {
+        if !has_room(g, numbers, e) {
+            return false;
+        }
+    }
+    true
+}
+
+/// Whether an edge has no more at its ends than twice its cost.
+fn has_room(g: &WGraph, numbers: &[i64], e: usize) -> bool
+    requires graph { IsSmallGraph (graph g.now) }
+    requires long { length numbers.now ≡ g.now.n }
+    requires edge { e < length g.now.edges.items }
+    ensures { result ≡ true → HasRoom (graph g.now) numbers.now e }
+{
+    let WEdge { u, v, cost } = g.edges[e];
+    sum_of(numbers[u as usize], numbers[v as usize]) <= twice(cost)
+}
+
+/// Two numbers together.
+fn sum_of(a: i64, b: i64) -> i128
+    ensures { result ≡ (a +ℤ b) }
+{
+    i128::from(a) + i128::from(b)
+}
+
+/// Twice a cost.
+fn twice(cost: i64) -> i128
+    ensures { result ≡ (pos 2 *ℤ cost) }
+{
+    2 * i128::from(cost)
+}
