@@ -2,7 +2,7 @@
 _quadq() {
     local word=${COMP_WORDS[COMP_CWORD]} words=
     if [ "$COMP_CWORD" -eq 1 ]; then
-        words="tidy graph refine remesh check bench crease size coarse"
+        words="tidy graph refine remesh check bench crease size coarse blocks"
     else
         case ${COMP_WORDS[1]} in
             refine) words="--by" ;;
@@ -11,6 +11,7 @@ _quadq() {
             crease) words="--scale --floor --weight" ;;
             size) words="--edge --floor" ;;
             coarse) words="--scale --floor --weight" ;;
+            blocks) words="--by" ;;
         esac
         # The values of the option in front.
         case ${COMP_WORDS[COMP_CWORD - 1]} in

@@ -1,6 +1,8 @@
 -- Why a layout is not remeshed with edges of a given length.
 use Rattle.std.specs.Prelude.{◌≡◌, ℕ, ◌<◌, ◌≤◌, false, ⊤}
 use Rattle.def_layout.specs.Plans.{Plan}
+use Rattle.def_layoutnet.specs.declared.NetFail.{NetFail}
+use Rattle.def_layoutnet.specs.declared.NetFail.TheVariants as nets
 use Rattle.def_remesh.specs.Refusals.{IsLayoutFail, IsTangledAt}
 use Rattle.def_remesh.specs.Tasks.{Wish}
 use Rattle.def_remesh.specs.declared.kept.LayoutFail.TheVariants as layouts
@@ -27,7 +29,12 @@ HasNoTargets wish plan floor (Tangled count) = IsTangledAt wish plan (edge_setti
 HasNoTargets wish plan floor (Far sum) = IsFar wish plan floor sum
 HasNoTargets wish plan floor Memory = ⊤
 
--- A layout that has none is not remeshed.
+-- A layout that has no network at all has none for them.
+abbrev pub metric_fail_of : (fail : NetFail) → MetricFail
+metric_fail_of (nets.Tangled count) = Tangled count
+metric_fail_of nets.Memory = Memory
+
+-- A layout that has none for them is not remeshed.
 abbrev pub size_fail_of : (fail : MetricFail) → SizeFail
 size_fail_of (Tangled count) = sizes.Layout (layouts.Tangled count)
 size_fail_of (Far sum) = sizes.Far sum

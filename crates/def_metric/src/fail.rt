@@ -1,5 +1,6 @@
 //! Why a layout is not remeshed with edges of a given length.
 
+use def_layoutnet::NetFail;
 use def_remesh::LayoutFail;
 use std::alloc::AllocError;
 use thiserror::Error;
@@ -36,6 +37,20 @@ impl From<AllocError> for MetricFail {
 
     fn from(_: AllocError) -> MetricFail {
         MetricFail::Memory
+    }
+}
+
+impl From<NetFail> for MetricFail {
+    ghost use Rattle.std.specs.Prelude.{◌≡◌};
+    ghost use Rattle.def_metric.specs.Fails.{metric_fail_of};
+
+    ghost from_gives = { λ fail e. e ≡ metric_fail_of fail };
+
+    fn from(fail: NetFail) -> MetricFail {
+        match fail {
+            NetFail::Tangled { count } => MetricFail::Tangled { count },
+            NetFail::Memory => MetricFail::Memory,
+        }
     }
 }
 

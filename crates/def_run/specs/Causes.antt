@@ -9,6 +9,7 @@ use Rattle.def_text.specs.Types.{Words}
 use Rattle.def_text.specs.declared.limits.TheConstants.{MAX_BYTES}
 use Rattle.def_text.specs.declared.refusal.Which.TheVariants.{Bytes as AllBytes}
 use Rattle.def_run.specs.Bench.{HasBench, RefusesToBench, WritesBench}
+use Rattle.def_run.specs.Blocks.{WritesBlocks}
 use Rattle.def_run.specs.Check.{RefusesToCheck, WritesAccepted}
 use Rattle.def_run.specs.Coarse.{AsksToMerge}
 use Rattle.def_run.specs.CommandLines.{IsCommand}
@@ -22,7 +23,7 @@ use Rattle.def_run.specs.Tidy.{RefusesToTidy, WritesTidied}
 use Rattle.def_run.specs.declared.answer.Answer.{Answer}
 use Rattle.def_run.specs.declared.answer.Answer.TheVariants.{Done, Usage, Limit, ReadFault, WriteFault, Memory}
 use Rattle.def_run.specs.declared.command.Command.{Command}
-use Rattle.def_run.specs.declared.command.Command.TheVariants.{Tidy, Graph, Refine, Remesh, Check, Bench, Crease, Size, Coarse}
+use Rattle.def_run.specs.declared.command.Command.TheVariants.{Tidy, Graph, Refine, Remesh, Check, Bench, Crease, Size, Coarse, Blocks}
 
 -- The text that a command writes for the bytes that it read.
 abbrev pub Writes : (command : Command) (bytes text : Bytes) → Type 0
@@ -35,6 +36,7 @@ Writes (Bench size) bytes text = WritesBench size text
 Writes (Crease settings) bytes text = WritesFinished (AsksToCrease settings) bytes text
 Writes (Size edge floor) bytes text = WritesFinished (AsksForNearSize edge floor) bytes text
 Writes (Coarse settings) bytes text = WritesFinished (AsksToMerge settings) bytes text
+Writes (Blocks by) bytes text = WritesBlocks by bytes text
 
 -- The answer with which a command refuses the bytes that it read.
 abbrev pub Refuses : (command : Command) (bytes : Bytes) (answer : Answer) → Type 0
@@ -47,6 +49,7 @@ Refuses (Bench size) bytes answer = RefusesToBench size answer
 Refuses (Crease settings) bytes answer = RefusesToCrease settings bytes answer
 Refuses (Size edge floor) bytes answer = RefusesSize edge floor bytes answer
 Refuses (Coarse settings) bytes answer = RefusesTask (AsksToMerge settings) bytes answer
+Refuses (Blocks by) bytes answer = RefusesToRefine by bytes answer
 
 -- The bytes for which a command has a text to write, whatever is free in it.
 abbrev pub Takes : (command : Command) (bytes : Bytes) → Type 0
@@ -59,6 +62,7 @@ Takes (Bench size) bytes = HasBench size
 Takes (Crease settings) bytes = HasCreased settings bytes
 Takes (Size edge floor) bytes = HasSize edge floor bytes
 Takes (Coarse settings) bytes = HasFinished (AsksToMerge settings) bytes
+Takes (Blocks by) bytes = HasRefined by bytes
 
 -- The source is as it was, as far as it tells.
 abbrev pub IsUnread : (input : Change) → Type 0

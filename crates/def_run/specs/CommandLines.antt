@@ -7,7 +7,7 @@ use Rattle.def_flow.specs.declared.net.Settings.{Settings}
 use Rattle.def_certtext.specs.Settings.{AreWordsOf}
 use Rattle.def_run.specs.Options.{value_of, AreOptions, Uses}
 use Rattle.def_run.specs.declared.command.Command.{Command}
-use Rattle.def_run.specs.declared.command.Command.TheVariants.{Tidy, Graph, Refine, Remesh, Check, Bench, Crease, Size, Coarse}
+use Rattle.def_run.specs.declared.command.Command.TheVariants.{Tidy, Graph, Refine, Remesh, Check, Bench, Crease, Size, Coarse, Blocks}
 use Rattle.def_run.specs.declared.command.TheConstants.{MAX_MULTIPLE, MAX_SIZE}
 
 -- The word of a command.
@@ -21,6 +21,7 @@ name_of (Bench size) = codes "bench"
 name_of (Crease settings) = codes "crease"
 name_of (Size edge floor) = codes "size"
 name_of (Coarse settings) = codes "coarse"
+name_of (Blocks by) = codes "blocks"
 
 -- The word is this whole number, from 1 to the greatest, in digits without a leading zero.
 pub record IsCount (greatest : ℕ) (word : Word) (n : ℕ) : Type 0 where
@@ -69,6 +70,7 @@ HasOptions (Bench size) words = HasCount (codes "size") MAX_SIZE words size
 HasOptions (Crease settings) words = HasSettings words settings false
 HasOptions (Size edge floor) words = HasEdge words edge floor
 HasOptions (Coarse settings) words = HasSettings words settings false
+HasOptions (Blocks by) words = HasCount (codes "by") MAX_MULTIPLE words by
 HasOptions command words = words ≡ []
 
 -- These words, those after the program's name, are an accepted line of this command.

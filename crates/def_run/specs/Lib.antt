@@ -1,4 +1,5 @@
 pub mod Bench
+pub mod Blocks
 pub mod Causes
 pub mod Check
 pub mod CheckFails

@@ -3,7 +3,7 @@
 use def_flow::Settings;
 use def_text::Micro;
 
-/// The greatest multiple of `refine`.
+/// The greatest multiple of `refine` and `blocks`.
 pub const MAX_MULTIPLE: u32 = 1000;
 
 /// The greatest size of `bench`.
@@ -32,4 +32,6 @@ pub enum Command {
     Size { edge: Micro, floor: u32 },
     /// The patches are merged first.
     Coarse { settings: Settings },
+    /// The patches are told as blocks, at this multiple of the old lengths.
+    Blocks { by: u32 },
 }

@@ -1,6 +1,6 @@
-mod Joined
+pub mod Joined
 mod Lists
 mod Measures
-mod Mutual
+pub mod Mutual
 mod Slots
 mod Tables

@@ -10,14 +10,16 @@ use Rattle.def_layout.specs.Laid.{IsLaid}
 use Rattle.def_layout.specs.Plans.{layout_of, plan}
 use Rattle.def_layout.specs.declared.tmesh.TArc.{TArc}
 use Rattle.def_layout.specs.declared.tmesh.TMesh.{TMesh}
-use Rattle.def_layoutnet.specs.LayoutNet.{IsNetOf, IsTangled}
+use Rattle.def_layoutnet.specs.LayoutNet.{HasNoNet, IsNetOf, IsTangled}
 use Rattle.def_layoutnet.specs.MeshLayouts.{IsMeshLayout}
+use Rattle.def_layoutnet.specs.declared.NetFail.{NetFail}
+use Rattle.def_layoutnet.specs.declared.NetFail.TheVariants as nets
 use Rattle.def_mesh.specs.Faces.{Faces}
 use Rattle.def_remesh.specs.Keeping.{IsNetFor}
 use Rattle.def_remesh.specs.Placings.{IsLayoutIn}
 use Rattle.def_remesh.specs.Refusals.{IsTangledAt}
 use Rattle.def_text.specs.Types.{Positions}
-use Rattle.def_metric.specs.Fails.{AreNear, IsFar}
+use Rattle.def_metric.specs.Fails.{metric_fail_of, AreNear, HasNoTargets, IsFar}
 use Rattle.def_metric.specs.Targets.{edge_settings, target_of, targets, wish_sum}
 use Rattle.def_metric.specs.declared.limits.TheConstants.{MAX_TARGETS}
 use Rattle.sum_laws.proofs.Counts.{count_below_le, count_below_ones}
@@ -44,9 +46,15 @@ module _ (t : TMesh) (faces : Faces) (places : Positions) (edge floor : ℕ) (li
   laid = laid_of (plan t) lies.0
 
   -- It is too tangled.
-  pub too_tangled : (number : ℕ) → IsTangled (layout_of (plan t)) (long_at (plan t).arcs) (edge_settings floor) number
+  too_tangled : (number : ℕ) → IsTangled (layout_of (plan t)) (long_at (plan t).arcs) (edge_settings floor) number
       → IsTangledAt (targets faces places edge) (plan t) (edge_settings floor) number
   too_tangled number is = tangled_for (layout_of (plan t)) (long_at (plan t).arcs) (targets faces places edge (plan t)) floor number laid is
+
+  -- Where it has no network it has none for these targets.
+  pub no_targets : (fail : NetFail) → HasNoNet (layout_of (plan t)) (long_at (plan t).arcs) (edge_settings floor) fail
+      → HasNoTargets (targets faces places edge) (plan t) floor (metric_fail_of fail)
+  no_targets (nets.Tangled number) is = too_tangled number is
+  no_targets nets.Memory is = tt
 
   module _ (net : Network) (is : IsNetOf (layout_of (plan t)) (long_at (plan t).arcs) (edge_settings floor) net) (small : tangle_number net ≤ MAX_TANGLE) where
     -- It is not, and its targets are too great.

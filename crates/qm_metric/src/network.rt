@@ -1,10 +1,8 @@
 //! The network of a layout for new edges of a given length.
 
-ghost use Rattle.std.specs.Prelude.{◌≡◌, ◌≤◌, ◌<◌, ◌^◌, ℕ, length, pos as whole, ◌≤ℤ◌, unsigned_abs, IfOk, IfErr, OnOk};
-ghost use Rattle.def_flow.specs.Network.{network, tangle_number, IsWithinBounds};
-ghost use Rattle.def_flow.specs.declared.limits.TheConstants.{MAX_TANGLE};
-ghost use Rattle.def_layout.specs.Plans.{layout_of, plan};
-ghost use Rattle.def_layoutnet.specs.MeshLayouts.{IsMeshLayout};
+ghost use Rattle.std.specs.Prelude.{◌≡◌, ◌≤◌, length, pos as whole, ◌≤ℤ◌, unsigned_abs, IfOk, IfErr, OnOk};
+ghost use Rattle.def_flow.specs.Network.{network};
+ghost use Rattle.def_layout.specs.Plans.{plan};
 ghost use Rattle.def_mesh.specs.Vertices.{vertex_count};
 ghost use Rattle.def_metric.specs.Fails.{AreNear, HasNoTargets};
 ghost use Rattle.def_metric.specs.Targets.{edge_settings, targets};
@@ -15,7 +13,6 @@ use crate::measures::{Ruler, targets_of};
 use crate::wishes::with_wishes;
 use def_flow::{Net, Settings, Weight};
 use def_layout::TMesh;
-use def_layoutnet::NetFail;
 use def_metric::{EDGE_PARTS, MAX_TARGETS, MetricFail};
 use def_text::Micro;
 use qm_layoutnet::net_of;
@@ -47,11 +44,7 @@ pub fn measured(
         floor,
         weight: Weight::Plain,
     };
-    let net = match net_of(alloc, t, &set) {
-        Ok(net) => net,
-        Err(NetFail::Tangled { count }) => return Err(MetricFail::Tangled { count }),
-        Err(NetFail::Memory) => return Err(MetricFail::Memory),
-    };
+    let net = net_of(alloc, t, &set)?;
     let ruler = Ruler {
         mesh,
         pos,

@@ -1,1 +1,1 @@
-mod Multiples
+pub mod Multiplied

@@ -10,8 +10,8 @@ ghost use Rattle.def_run.specs.declared.command.TheConstants.{MAX_MULTIPLE};
 use def_layout::TMesh;
 use std::alloc::{AllocError, Global};
 
-/// The length of each arc, times this number.
-pub(crate) fn multiples(alloc: Global, t: &TMesh, by: u32) -> Result<Vec<u64>, AllocError>
+/// The length of each arc, times this number. Linear in the arcs.
+pub fn multiples(alloc: Global, t: &TMesh, by: u32) -> Result<Vec<u64>, AllocError>
     requires few { by ≤ MAX_MULTIPLE }
     requires short { All (λ (run : Run). length run.darts.items < 2 ^ 32) t.now.arcs.items }
     ensures { IfOk result (λ lengths. lengths.items ≡ map (λ (arc : Path). by * length arc.darts) (plan t.now).arcs) }

@@ -5,5 +5,6 @@ mod lengths;
 mod points;
 mod text;
 
+pub use lengths::multiples;
 pub use points::refined_points;
 pub use text::put_refined;

@@ -1,15 +1,19 @@
 //! A numbering of the points and faces of a layout with lengths.
 
-ghost use Rattle.std.specs.Prelude.{◌≡◌, ◌<◌};
-ghost use Rattle.def_layout.specs.Plans.{layout_of, plan, Plan};
+ghost use Rattle.std.specs.Prelude.{◌≡◌, ◌<◌, ◌≤◌, length};
+ghost use Rattle.def_layout.specs.Layouts.{Way};
+ghost use Rattle.def_layout.specs.Lengths.{size, wide, high};
+ghost use Rattle.def_layout.specs.Plans.{layout_of, plan, way_number, Plan};
 ghost use Rattle.def_written.specs.NewFaces.{face_count, new_face};
-ghost use Rattle.def_written.specs.Numbers.{vertices};
+ghost use Rattle.def_written.specs.Numbers.{vertex_number, vertices};
+ghost use Rattle.def_written.specs.Points.{point};
 ghost use Rattle.def_remesh.specs.NewPoints.{lengths_in};
 ghost use Rattle.def_remesh.specs.Numberings.{HoldsFor, IsNumbering};
 
 use crate::face::face_of;
 use crate::numbered::Numbered;
-use crate::size::last_of;
+use crate::point::point_number;
+use crate::size::{last_of, size_at};
 use def_layout::TMesh;
 use def_remesh::Tables;
 use std::marker::Model;
@@ -58,5 +62,33 @@ impl Numbering {
         let tables = &self.tables;
         let numbered = Numbered { t, tables };
         face_of(&numbered, f)
+    }
+
+    /// The length of a side of a patch, for the layout that was numbered: 0 is south, 1 east, 2 north and 3 west.
+    pub fn side_length(&self, t: &TMesh, patch: usize, side: usize) -> u32
+        requires numbering { IsNumbering (plan t.now) self.now }
+        requires patch { patch < length t.now.patches.items }
+        requires side { side < 4 }
+        ensures { (way : Way) → way_number way ≡ side
+            → result ≡ size (layout_of (plan t.now)) (lengths_in self.now.lengths.items) patch way }
+    {
+        let tables = &self.tables;
+        let numbered = Numbered { t, tables };
+        size_at(&numbered, patch, side)
+    }
+
+    /// The number of grid point (i, j) of a patch, for the layout that was numbered. In constant time inside the patch,
+    /// and logarithmic in the arcs of a side on that.
+    pub fn point(&self, t: &TMesh, patch: usize, i: u32, j: u32) -> u32
+        requires numbering { IsNumbering (plan t.now) self.now }
+        requires patch { patch < length t.now.patches.items }
+        requires column { i ≤ wide (layout_of (plan t.now)) (lengths_in self.now.lengths.items) patch }
+        requires row { j ≤ high (layout_of (plan t.now)) (lengths_in self.now.lengths.items) patch }
+        ensures { result ≡ vertex_number (layout_of (plan t.now)) (lengths_in self.now.lengths.items)
+            (point (layout_of (plan t.now)) (lengths_in self.now.lengths.items) patch i j) }
+    {
+        let tables = &self.tables;
+        let numbered = Numbered { t, tables };
+        point_number(&numbered, patch, i, j)
     }
 }

@@ -1,5 +1,6 @@
 mod Asides
 mod Benched
+mod Blocked
 mod Checked
 mod Complete
 mod Creased

@@ -13,8 +13,12 @@ use Rattle.def_remesh.specs.Stitched.{KeepsShapes}
 use Rattle.def_remesh.specs.declared.kept.LayoutFail.{LayoutFail}
 use Rattle.def_remesh.specs.declared.kept.LayoutFail.TheVariants as layouts
 use Rattle.def_remesh.specs.declared.limits.TheConstants.{MAX_NEW_FACES}
-use Rattle.def_run.specs.Causes.{Cause}
+use Rattle.def_run.specs.Causes.{Cause, Reads, Refuses}
+use Rattle.def_run.specs.Refine.{RefusesToRefine}
 use Rattle.def_run.specs.Remesh.{IsCutTo}
+use Rattle.def_run.specs.declared.answer.Answer.{Answer}
+use Rattle.def_run.specs.declared.answer.Answer.TheVariants as answers
+use Rattle.def_run.specs.declared.command.Command.{Command}
 use Rattle.def_run.specs.declared.command.Command.TheVariants.{Refine}
 use Rattle.def_run.specs.declared.command.TheConstants.{MAX_MULTIPLE}
 use Rattle.def_text.specs.FaceSet.{FaceSet}
@@ -52,6 +56,20 @@ pub fits_of : (by : ℕ) (faces : Faces) (plan : Plan) (new : NewPoints) → Are
 fits_of by faces plan new points =
     subst (λ (l : Lengths). face_count (layout_of plan) l ≤ MAX_NEW_FACES) (ap lengths_in points.same ∙ points.lengths) points.places.few
 
+-- A soup that is not refined is refused so by a command that refuses what `refine` refuses.
+pub fails_as : (command : Command) (by : ℕ) (input out : Change) (soup : FaceSet) → IsManifold soup.faces
+    → (read : ReadSoup MAX_BYTES input.told input.told_now soup) → Reads command input read.bytes
+    → ((answer : Answer) → RefusesToRefine by read.bytes answer → Refuses command read.bytes answer)
+    → (fail : LayoutFail) → FailsToRefine by soup fail → Cause command input out (answer_of_layout fail)
+fails_as command by input out soup manifold read whole says (layouts.TooFine faces kept) (plan, cut, why) = record {
+  bytes = read.bytes;
+  whole = whole;
+  said = says (answers.TooFine faces kept)
+      (plan, record { soup = soup; mesh = record { said = read.said; manifold = manifold }; cut = cut }, why);
+}
+fails_as command by input out soup manifold read whole says layouts.Memory why = tt
+fails_as command by input out soup manifold read whole says _ (plan, cut, none) = absurd none
+
 -- What `refine` keeps once its mesh is read.
 pub refine_writer : (by : ℕ) (input out : Change) (soup : FaceSet) → IsManifold soup.faces
     → ReadSoup MAX_BYTES input.told input.told_now soup → input.faults_now ≡ input.faults
@@ -62,14 +80,5 @@ refine_writer by input out soup manifold read calm = record {
   calm = calm;
   writes = λ text shows. record { soup = soup; mesh = record { said = read.said; manifold = manifold }; refined = shows.refined };
   read = λ text shows. shows.read;
-  refuses = refuses;
+  refuses = fails_as (Refine by) by input out soup manifold read read.whole (λ answer why. why);
 }
-  where
-    refuses : (fail : LayoutFail) → FailsToRefine by soup fail → Cause (Refine by) input out (answer_of_layout fail)
-    refuses (layouts.TooFine faces kept) (plan, cut, why) = record {
-      bytes = read.bytes;
-      whole = read.whole;
-      said = (plan, record { soup = soup; mesh = record { said = read.said; manifold = manifold }; cut = cut }, why);
-    }
-    refuses layouts.Memory why = tt
-    refuses _ (plan, cut, none) = absurd none

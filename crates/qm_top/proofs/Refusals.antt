@@ -22,7 +22,7 @@ use Rattle.def_run.specs.Mesh.{IsNoMesh}
 use Rattle.def_run.specs.declared.answer.Answer.{Answer}
 use Rattle.def_run.specs.declared.answer.Answer.TheVariants as answers
 use Rattle.def_run.specs.declared.command.Command.{Command}
-use Rattle.def_run.specs.declared.command.Command.TheVariants.{Tidy, Graph, Refine, Remesh, Crease, Size, Coarse}
+use Rattle.def_run.specs.declared.command.Command.TheVariants.{Tidy, Graph, Refine, Remesh, Crease, Size, Coarse, Blocks}
 use Rattle.qm_top.specs.declared.refusal.Refusal.{Refusal}
 use Rattle.qm_top.specs.declared.refusal.Refusal.TheVariants.{Soup, NotManifold}
 use Rattle.qm_top.specs.declared.refusal.Refusal.TheVariants as refusals
@@ -108,6 +108,15 @@ size_needs edge floor = record {
 pub coarse_needs : (settings : Settings) → NeedsMesh (Coarse settings)
 coarse_needs settings = record {
   refuses = λ bytes answer none. inl none;
+  reads = λ input bytes whole. whole;
+  looks = λ bytes soup said. said;
+  too_many = λ input more. more;
+  fails = λ input rose. rose;
+}
+
+pub blocks_needs : (by : ℕ) → NeedsMesh (Blocks by)
+blocks_needs by = record {
+  refuses = (refine_needs by).refuses;
   reads = λ input bytes whole. whole;
   looks = λ bytes soup said. said;
   too_many = λ input more. more;

@@ -97,3 +97,8 @@ module _ {O : Type 0} (command : Command) (says : Bytes → Type 0) (fails : Lay
   }
   writer_runs (Err r) wrote none =
       record { done = tt; refused = unwritten_ends r none; untouched = same_sink r none }
+
+-- Two facts of a value are one.
+pub on_ok_both : {T E : Type 0} (P Q : Type 0) (result : Result T E) → OnOk result P → OnOk result Q → OnOk result (P × Q)
+on_ok_both P Q (Ok value) p q = (p, q)
+on_ok_both P Q (Err error) p q = tt

@@ -9,6 +9,7 @@ ghost use Rattle.def_text.specs.Types.{Words};
 ghost use Rattle.qm_top.specs.Runs.{HasRun};
 
 use crate::bench::bench;
+use crate::blocks::blocks;
 use crate::check::check;
 use crate::coarse::coarse;
 use crate::crease::crease;
@@ -80,6 +81,7 @@ fn run_command<S: Source, O: Sink>(
         Command::Crease { settings } => crease(alloc, settings, input, out),
         Command::Size { edge, floor } => size(alloc, edge, floor, input, out),
         Command::Coarse { settings } => coarse(alloc, settings, input, out),
+        Command::Blocks { by } => blocks(alloc, by, input, out),
     }
 }
 

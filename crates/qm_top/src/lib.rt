@@ -2,6 +2,7 @@
 #![tactic(auto)]
 
 mod bench;
+mod blocks;
 mod check;
 mod coarse;
 mod command;

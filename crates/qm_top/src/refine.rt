@@ -26,9 +26,9 @@ use std::alloc::Global;
 
 /// The points of the mesh in which each edge is divided in so many.
 #[derive(Drop)]
-struct Refined {
-    by: u32,
-    points: NewPoints,
+pub(crate) struct Refined {
+    pub(crate) by: u32,
+    pub(crate) points: NewPoints,
 }
 
 /// Reads a mesh, divides each edge in so many, and writes the new mesh.
@@ -68,7 +68,7 @@ fn refine_mesh<O: Sink>(alloc: Global, by: u32, read: MeshInput, out: &mut O) ->
 }
 
 /// The points of the new mesh.
-fn points_by(alloc: Global, by: u32, cut: &CutMesh) -> Result<Refined, LayoutFail>
+pub(crate) fn points_by(alloc: Global, by: u32, cut: &CutMesh) -> Result<Refined, LayoutFail>
     requires some { 1 ≤ by }
     requires few { by ≤ MAX_MULTIPLE }
     requires layout { IsLayoutIn cut.now.mesh (plan cut.now.layout) }

@@ -76,6 +76,10 @@ fn read_command(alloc: Global, name: &str, rest: &[String]) -> Result<Command, W
         let settings = fixed_settings_of(alloc, rest)?;
         return Ok(Command::Coarse { settings });
     }
+    if is_word(name, "blocks") {
+        let by = number_of(alloc, "by", MAX_MULTIPLE, rest)?;
+        return Ok(Command::Blocks { by });
+    }
     Err(WordsFail::Usage)
 }
 

@@ -52,12 +52,13 @@ const ALL_WELL: Streams = Streams {
     err: WELL,
 };
 
-/// Commands that write a mesh: the first one whole, the others line by line.
-const LINES: [&str; 4] = [
+/// Commands that write a mesh: the first one whole, the others line by line; and one that writes its blocks.
+const LINES: [&str; 5] = [
     "tidy",
     "remesh --scale 3/1 --floor 1 --weight plain",
     "crease --scale 3/1 --floor 1 --weight plain",
     "coarse --scale 3/1 --floor 1 --weight plain",
+    "blocks --by 3",
 ];
 
 /// A run of a command line: its answer, what went out, and what was said of it.

@@ -22,7 +22,7 @@ const WHOLE: Settings = Settings {
 };
 
 /// Lines with the commands that they are.
-const COMMANDS: [(&str, Command); 11] = [
+const COMMANDS: [(&str, Command); 12] = [
     ("tidy", Command::Tidy),
     ("graph", Command::Graph),
     ("check", Command::Check),
@@ -64,10 +64,11 @@ const COMMANDS: [(&str, Command); 11] = [
         "coarse --weight=length --scale 2/4 --floor 3",
         Command::Coarse { settings: WHOLE },
     ),
+    ("blocks --by 7", Command::Blocks { by: 7 }),
 ];
 
 /// Lines that are no command.
-const REFUSED: [&str; 22] = [
+const REFUSED: [&str; 23] = [
     "",
     "tidy --",
     "--help",
@@ -90,6 +91,7 @@ const REFUSED: [&str; 22] = [
     "remesh --scale 1/2 --floor 4 --weight plain",
     "crease --floor auto --scale=2/4 --weight length",
     "coarse --weight length --scale 2/4 --floor auto",
+    "blocks --by=0",
 ];
 
 /// What the words of a line are read as.

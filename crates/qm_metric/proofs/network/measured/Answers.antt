@@ -4,28 +4,24 @@ use Rattle.std.specs.Prelude.{min, unsigned_abs}
 use Rattle.std.proofs.lemmas.Int.{ints}
 use Rattle.std.specs.List.{All}
 use Rattle.def_math.specs.Counts.{count}
-use Rattle.def_layout.specs.Plans.{layout_of, plan}
+use Rattle.def_layout.specs.Plans.{plan}
 use Rattle.def_layout.specs.declared.tmesh.TArc.{TArc}
-use Rattle.def_layout.specs.Arcs.{long_at}
-use Rattle.def_layoutnet.specs.LayoutNet.{HasNoNet, IsTangled}
-use Rattle.def_layoutnet.specs.declared.NetFail.{NetFail}
 use Rattle.def_mesh.specs.Darts.{darts}
 use Rattle.def_mesh.specs.Faces.{Faces}
 use Rattle.def_text.specs.Types.{Positions}
-use Rattle.def_metric.specs.Targets.{edge_settings, target_of}
+use Rattle.def_metric.specs.Fails.{metric_fail_of}
+use Rattle.def_metric.specs.Targets.{target_of}
+use Rattle.error_laws.proofs.Errors.{handed}
 use Rattle.qm_layoutnet.proofs.Whole.{runs_short}
-use Rattle.qm_metric.proofs.Nets.{few_arcs, near, net_for, too_far, too_tangled}
+use Rattle.qm_metric.proofs.Nets.{few_arcs, near, net_for, no_targets, too_far}
 use Rattle.qm_metric.proofs.Reading.{runs_inside}
 use Rattle.qm_metric.proofs.network.measured.Goals as goal
 
-pub returns-in-Err-Tangled-clause-refused : goal.returns-in-Err-Tangled-clause-refused
-returns-in-Err-Tangled-clause-refused c =
-    let l = layout_of (plan c.args.t.now) in
-    let x = long_at (plan c.args.t.now).arcs in
-    let set = edge_settings c.args.floor in
-    let is : IsTangled l x set c.in-Err-Tangled.count = subst (λ (fail : NetFail). HasNoNet l x set fail) c.in-Err-Tangled.field-0-is c.in-Err-Tangled.ensures.tangled in
-    too_tangled c.args.t.now c.args.mesh.now c.args.pos.now (unsigned_abs c.args.edge) c.args.floor c.requires.layout _
-    (subst (λ (n : ℕ). IsTangled l x set n) (sym c.in-Err-Tangled.count-is) is)
+pub returns-in_err-net-clause-refused : goal.returns-in_err-net-clause-refused
+returns-in_err-net-clause-refused c =
+    handed _ _ (metric_fail_of c.in_err-net.field-0.0) c.from_residual.ensures.1
+    (no_targets c.args.t.now c.args.mesh.now c.args.pos.now (unsigned_abs c.args.edge) c.args.floor c.requires.layout
+    c.in_err-net.field-0.0 c.in_err-net.ensures.tangled)
 
 pub targets_of-requires-clause-few : goal.targets_of-requires-clause-few
 targets_of-requires-clause-few c = omega (arith, ap length c.deref.ensures.value, few_arcs c.args.t.now c.requires.layout.0)
@@ -58,23 +54,23 @@ list_for faces places e edge list runs arcs same on told =
 
 pub returns-then-targets-from-clause-refused : goal.returns-then-targets-from-clause-refused
 returns-then-targets-from-clause-refused c =
-    too_far c.args.t.now c.args.mesh.now c.args.pos.now (unsigned_abs c.args.edge) c.args.floor c.requires.layout _ c.in-Ok.ensures.net c.in-Ok.ensures.small
+    too_far c.args.t.now c.args.mesh.now c.args.pos.now (unsigned_abs c.args.edge) c.args.floor c.requires.layout _ c.in_ok-net.ensures.net c.in_ok-net.ensures.small
     c.in_ok-targets.targets.sum
     (sum_for c.args.mesh.now c.args.pos.now _ (unsigned_abs c.args.edge) _ _ c.args.t.now.arcs.items (edge_is c.edge.inside.n c.args.edge _ c.unsigned_abs.ensures.value c.edge.invariant c.edge.view_is) c.deref.ensures.value c.in_ok-targets.ensures.sum)
     (omega (arith, c.if-targets-from.true, c.from.ensures))
 
 pub returns-clause-near : goal.returns-clause-near
 returns-clause-near c =
-    near c.args.t.now c.args.mesh.now c.args.pos.now (unsigned_abs c.args.edge) c.args.floor c.requires.layout _ c.in-Ok.ensures.net c.in-Ok.ensures.small
+    near c.args.t.now c.args.mesh.now c.args.pos.now (unsigned_abs c.args.edge) c.args.floor c.requires.layout _ c.in_ok-net.ensures.net c.in_ok-net.ensures.small
     c.in_ok-targets.targets.sum
     (sum_for c.args.mesh.now c.args.pos.now _ (unsigned_abs c.args.edge) _ _ c.args.t.now.arcs.items (edge_is c.edge.inside.n c.args.edge _ c.unsigned_abs.ensures.value c.edge.invariant c.edge.view_is) c.deref.ensures.value c.in_ok-targets.ensures.sum)
     (omega (arith, c.if-targets-from.false, c.from.ensures))
 
 pub returns-clause-net : goal.returns-clause-net
 returns-clause-net c =
-    net_for c.args.t.now c.args.mesh.now c.args.pos.now (unsigned_abs c.args.edge) c.args.floor c.requires.layout _ c.in-Ok.ensures.net c.in-Ok.ensures.small
-    _ c.deref-2.result.now c.requires.floor.0 c.in-Ok.ensures.bounds (c.deref-2.ensures.value ∙ list_for c.args.mesh.now c.args.pos.now _ (unsigned_abs c.args.edge) _ _ c.args.t.now.arcs.items (edge_is c.edge.inside.n c.args.edge _ c.unsigned_abs.ensures.value c.edge.invariant c.edge.view_is) c.deref.ensures.value c.in_ok-targets.ensures.wishes)
-    (near c.args.t.now c.args.mesh.now c.args.pos.now (unsigned_abs c.args.edge) c.args.floor c.requires.layout _ c.in-Ok.ensures.net c.in-Ok.ensures.small
+    net_for c.args.t.now c.args.mesh.now c.args.pos.now (unsigned_abs c.args.edge) c.args.floor c.requires.layout _ c.in_ok-net.ensures.net c.in_ok-net.ensures.small
+    _ c.deref-2.result.now c.requires.floor.0 c.in_ok-net.ensures.bounds (c.deref-2.ensures.value ∙ list_for c.args.mesh.now c.args.pos.now _ (unsigned_abs c.args.edge) _ _ c.args.t.now.arcs.items (edge_is c.edge.inside.n c.args.edge _ c.unsigned_abs.ensures.value c.edge.invariant c.edge.view_is) c.deref.ensures.value c.in_ok-targets.ensures.wishes)
+    (near c.args.t.now c.args.mesh.now c.args.pos.now (unsigned_abs c.args.edge) c.args.floor c.requires.layout _ c.in_ok-net.ensures.net c.in_ok-net.ensures.small
     c.in_ok-targets.targets.sum
     (sum_for c.args.mesh.now c.args.pos.now _ (unsigned_abs c.args.edge) _ _ c.args.t.now.arcs.items (edge_is c.edge.inside.n c.args.edge _ c.unsigned_abs.ensures.value c.edge.invariant c.edge.view_is) c.deref.ensures.value c.in_ok-targets.ensures.sum)
     (omega (arith, c.if-targets-from.false, c.from.ensures)))

@@ -1,7 +1,7 @@
 use Rattle.std.proofs.Common.{◌≤◌, ◌*◌, length, map, ap, ◌∙◌, arith}
 use Rattle.std.proofs.lemmas.List.{take_all}
 use Rattle.def_layout.specs.declared.tmesh.TArc.{TArc}
-use Rattle.qm_refine.proofs.Multiples.{multiples_told}
+use Rattle.qm_refine.proofs.Multiplied.{multiples_told}
 use Rattle.qm_refine.proofs.lengths.multiples.Goals as goal
 
 pub returns : goal.returns

@@ -7,7 +7,7 @@ use Rattle.def_layout.specs.Plans.{layout_of, plan}
 use Rattle.def_remesh.specs.NewPoints.{lengths_in, multiple_of}
 use Rattle.def_remesh.specs.Stitched.{IsUnstitched, KeepsShapes}
 use Rattle.def_flow.specs.declared.limits.TheConstants.{MAX_LENGTH}
-use Rattle.qm_refine.proofs.Multiples.{are_multiples, arcs_short, multiple_few, multiple_is}
+use Rattle.qm_refine.proofs.Multiplied.{are_multiples, arcs_short, multiple_few, multiple_is}
 use Rattle.qm_refine.proofs.points.refined_points.Goals as goal
 
 pub multiples-requires-clause-short : goal.multiples-requires-clause-short

@@ -1,16 +1,11 @@
-use Rattle.std.proofs.Common.{◌≡◌, Result, Ok, Err, rules}
-use Rattle.std.specs.Prelude.{OnOk}
+use Rattle.std.proofs.Common.{◌≡◌, rules}
 use Rattle.std.proofs.lemmas.Result.{on_err_weaker, on_ok_weaker}
 use Rattle.def_io.specs.Moves.{took, TookPrefix}
 use Rattle.def_layout.specs.Plans.{plan}
 use Rattle.def_remesh.specs.Refined.{refined_text}
 use Rattle.qm_output.proofs.Prefixes.{of_error, rest_prefix, text_prefix, text_whole}
+use Rattle.qm_top.proofs.Writers.{on_ok_both}
 use Rattle.qm_top.proofs.refine.write_refined.Goals as goal
-
--- Two facts of a value are one.
-on_ok_both : {T E : Type 0} (P Q : Type 0) (result : Result T E) → OnOk result P → OnOk result Q → OnOk result (P × Q)
-on_ok_both P Q (Ok value) p q = (p, q)
-on_ok_both P Q (Err error) p q = tt
 
 pub returns-in_err-put_refined-clause-prefix : goal.returns-in_err-put_refined-clause-prefix
 returns-in_err-put_refined-clause-prefix g c =

@@ -1,4 +1,5 @@
-use Rattle.std.proofs.Common.{refl, arith}
+use Rattle.std.specs.Prelude.{unsigned_abs}
+use Rattle.std.proofs.Common.{◌≤◌, refl, arith, rules}
 use Rattle.qm_top.proofs.Refusals.{handed_run, input_ended, size_needs}
 use Rattle.qm_top.proofs.Sized.{size_runs}
 use Rattle.qm_top.proofs.size.size.Goals as goal
@@ -10,5 +11,6 @@ returns-in_err-read g c =
 
 pub returns : goal.returns
 returns g c =
-    size_runs c.args.edge c.args.floor c.edge.invariant (omega (arith, c.requires.floor.1)) _ _ c.in_ok-read.read.soup c.in_ok-read.ensures.manifold c.in_ok-read.ensures.soup c.in_ok-read.ensures.calm
+    let near : unsigned_abs c.args.edge ≤ 999_999_999_999_999 = search rules in
+    size_runs c.args.edge c.args.floor near (omega (arith, c.requires.floor.1)) _ _ c.in_ok-read.read.soup c.in_ok-read.ensures.manifold c.in_ok-read.ensures.soup c.in_ok-read.ensures.calm
     c.size_mesh.result (c.size_mesh.ensures.done c.in_ok-read.ensures.soup.bytes) (c.size_mesh.ensures.refused c.in_ok-read.ensures.soup.bytes)

@@ -1,0 +1,70 @@
+-- The grid points of blocks.
+use Rattle.std.proofs.Common.{◌≡◌, ℕ, ◌+◌, ◌-◌, ◌<◌, ◌≤◌, ◌^◌, length, inl, inr, subst, arith}
+use Rattle.std.proofs.lemmas.Bool.{cases_eq}
+use Rattle.def_layout.specs.Cells.{dart}
+use Rattle.def_layout.specs.Laid.{IsLaid}
+use Rattle.def_layout.specs.Layouts.{Way, south, east, north, west, Layout}
+use Rattle.def_layout.specs.Lengths.{Lengths, size, wide, high, AreLengths}
+use Rattle.def_layout.specs.Plans.{Plan, layout_of}
+use Rattle.def_remesh.specs.NewPoints.{lengths_in}
+use Rattle.def_remesh.specs.Numberings.{IsNumbering}
+use Rattle.def_remesh.specs.declared.tables.Tables.{Tables}
+use Rattle.def_written.specs.Numbers.{vertex_number, vertices}
+use Rattle.def_written.specs.Points.{point, IsPoint}
+use Rattle.plan_laws.proofs.Bounds.{side_few}
+use Rattle.plan_laws.proofs.MeshLayouts.{laid_of}
+use Rattle.written_laws.proofs.Borders.{from_is}
+use Rattle.written_laws.proofs.Grid.{high_some, wide_some}
+use Rattle.written_laws.proofs.Numbers.{number_low}
+
+module _ (l : Layout) (x : Lengths) (laid : IsLaid l) (len : AreLengths l x) where
+  -- A grid point is where a dart of a cell begins.
+  grid_point : (p i j : ℕ) → p < l.patches → i ≤ wide l x p → j ≤ high l x p → IsPoint l x (point l x p i j)
+  grid_point p i j low i_le j_le = elim (cases_eq i (wide l x p)) [
+    | inl far ↦ elim (cases_eq j (high l x p)) [
+      | inl up ↦
+          let column : wide l x p - 1 + 1 ≡ i = omega (arith, far, wide_some l x laid.paved len p low) in
+          let row : high l x p - 1 + 1 ≡ j = omega (arith, up, high_some l x laid.paved len p low) in
+          subst (IsPoint l x) (λ t. point l x p (column t) (row t))
+          (from_is l x laid len (dart p (wide l x p - 1) (high l x p - 1) north) (record {
+            patch_low = low;
+            i_low = omega (arith, wide_some l x laid.paved len p low);
+            j_low = omega (arith, high_some l x laid.paved len p low);
+          }))
+      | inr down ↦
+          let column : wide l x p - 1 + 1 ≡ i = omega (arith, far, wide_some l x laid.paved len p low) in
+          subst (IsPoint l x) (λ t. point l x p (column t) j)
+          (from_is l x laid len (dart p (wide l x p - 1) j east) (record {
+            patch_low = low;
+            i_low = omega (arith, wide_some l x laid.paved len p low);
+            j_low = omega (arith, j_le, down);
+          }))
+    ]
+    | inr near ↦ elim (cases_eq j (high l x p)) [
+      | inl up ↦
+          let row : high l x p - 1 + 1 ≡ j = omega (arith, up, high_some l x laid.paved len p low) in
+          subst (IsPoint l x) (λ t. point l x p i (row t))
+          (from_is l x laid len (dart p i (high l x p - 1) west) (record {
+            patch_low = low;
+            i_low = omega (arith, i_le, near);
+            j_low = omega (arith, high_some l x laid.paved len p low);
+          }))
+      | inr down ↦ from_is l x laid len (dart p i j south)
+          (record { patch_low = low; i_low = omega (arith, i_le, near); j_low = omega (arith, j_le, down) })
+    ]
+  ]
+
+module _ (plan : Plan) (tables : Tables) (is : IsNumbering plan tables) where
+  -- So its number is that of a vertex.
+  pub grid_low : (p i j : ℕ) → p < length plan.patches → i ≤ wide (layout_of plan) (lengths_in tables.lengths.items) p
+      → j ≤ high (layout_of plan) (lengths_in tables.lengths.items) p
+      → vertex_number (layout_of plan) (lengths_in tables.lengths.items) (point (layout_of plan) (lengths_in tables.lengths.items) p i j)
+      < vertices (layout_of plan) (lengths_in tables.lengths.items)
+  grid_low p i j low i_le j_le =
+      number_low (layout_of plan) (lengths_in tables.lengths.items) (point (layout_of plan) (lengths_in tables.lengths.items) p i j)
+      (grid_point (layout_of plan) (lengths_in tables.lengths.items) (laid_of plan is.mesh) is.lengths p i j low i_le j_le)
+
+  -- A side is short.
+  pub side_short : (p : ℕ) (s : Way) → p < length plan.patches → size (layout_of plan) (lengths_in tables.lengths.items) p s ≤ 2 ^ 21
+  side_short p s low =
+      omega (arith, side_few (layout_of plan) (lengths_in tables.lengths.items) (laid_of plan is.mesh) is.lengths p s low, is.few)

@@ -1,0 +1,2 @@
+mod GridPoints
+mod Parts

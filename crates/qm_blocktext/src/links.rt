@@ -1,0 +1,42 @@
+//! The links of blocks, and their lines.
+
+ghost use Rattle.std.specs.Prelude.{◌≤◌, map, IfOk, OnOk, OnErr};
+ghost use Rattle.std.specs.List.{flat_map};
+ghost use Rattle.def_layout.specs.Arcs.{long_at};
+ghost use Rattle.def_layout.specs.Plans.{layout_of, plan};
+ghost use Rattle.def_layoutnet.specs.MeshLayouts.{IsMeshLayout};
+ghost use Rattle.def_remesh.specs.NewPoints.{multiple_of};
+ghost use Rattle.def_run.specs.declared.command.TheConstants.{MAX_MULTIPLE};
+ghost use Rattle.def_blocks.specs.BlockTexts.{link_line};
+ghost use Rattle.def_blocks.specs.Links.{AreLinks};
+
+use crate::line::{link_of, put_line};
+use def_blocks::Link;
+use def_layout::TMesh;
+use def_output::Stopped;
+use qm_blocks::links;
+use qm_output::Output;
+use qm_refine::multiples;
+use std::alloc::{AllocError, Global};
+
+/// The links of the blocks of a layout with `by` times its old lengths. Linear in the arcs.
+pub fn links_by(alloc: Global, t: &TMesh, by: u32) -> Result<Vec<Vec<Link>>, AllocError>
+    requires layout { IsMeshLayout (plan t.now) }
+    requires few { by ≤ MAX_MULTIPLE }
+    ensures { IfOk result (λ links. AreLinks (layout_of (plan t.now)) (multiple_of by (long_at (plan t.now).arcs))
+        (map (λ block. block.items) links.items)) }
+{
+    let lengths = multiples(alloc, t, by)?;
+    links(alloc, t, &lengths)
+}
+
+/// Puts the lines of links.
+pub(crate) fn put_links<T: Output>(out: &mut T, links: &[Link]) -> Result<(), Stopped>
+    ensures whole { OnOk result (T.takes out.old out.new (flat_map link_line links.now)) }
+    ensures part { OnErr result (T.stops out.old out.new (flat_map link_line links.now)) }
+{
+    for link in links {
+        put_line(out, &link_of(link))?;
+    }
+    Ok(())
+}
