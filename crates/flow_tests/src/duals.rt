@@ -3,8 +3,8 @@
 ghost use Rattle.std.specs.Prelude.{◌≡◌, ◌^◌, nat_lt, unsigned_abs};
 ghost use Rattle.std.specs.List.{list_all};
 
-use crate::graphs::are_edges;
-use def_matching::{Dual, Verdict, WEdge, WGraph};
+use crate::graphs::{are_edges, triangles};
+use def_matching::{Dual, Verdict};
 use qm_dual::dual_ok;
 use std::alloc::Global;
 use std::process::Abort;
@@ -19,16 +19,6 @@ pub(crate) fn are_small(numbers: &[i64]) -> bool
         .all(|x| x.unsigned_abs() < 1_000_000_000_000_000_000)
 }
 
-const TRIANGLES: [(u32, u32, i64); 7] = [
-    (0, 1, 0),
-    (1, 2, 0),
-    (2, 0, 0),
-    (3, 4, 0),
-    (4, 5, 0),
-    (5, 3, 0),
-    (0, 3, 10),
-];
-
 /// The verdict on a dual of two triangles with a dear edge between them.
 fn check(
     rt: &impl Abort,
@@ -37,101 +27,74 @@ fn check(
     z: &[i64],
     up: &[u32],
 ) -> Result<Verdict, Fail> {
-    let mut edges = Vec::new(alloc);
-    for (u, v, cost) in TRIANGLES {
-        edges.push(WEdge { u, v, cost })?;
-    }
-    let graph = WGraph { n: 6, edges };
+    let graph = triangles(alloc)?;
     let dual = Dual {
         y: Vec::from_slice(alloc, y)?,
         z: Vec::from_slice(alloc, z)?,
         up: Vec::from_slice(alloc, up)?,
     };
-    assert!(rt; are_edges(6, &graph.edges) && graph.edges.len() < 8);
+    assert!(rt; graph.n <= 12 && are_edges(graph.n, &graph.edges) && graph.edges.len() < 100);
     assert!(rt; are_small(&dual.y) && are_small(&dual.z) && dual.z.len() < 8);
     Ok(dual_ok(alloc, &graph, &dual)?)
 }
 
+/// Numbers of vertices, numbers of sets, the entries of both, and the verdict.
+const VERDICTS: [(&[i64], &[i64], &[u32], Verdict); 7] = [
+    (
+        &[0; 6],
+        &[20],
+        &[1, 1, 1, 0, 0, 0, 0],
+        Verdict::Yes { sum: 20 },
+    ),
+    (
+        &[0; 6],
+        &[20],
+        &[1, 1, 0, 0, 0, 0, 0],
+        Verdict::Even { set: 0, size: 2 },
+    ),
+    (
+        &[0; 6],
+        &[-1],
+        &[1, 1, 1, 0, 0, 0, 0],
+        Verdict::Negative { set: 0 },
+    ),
+    (
+        &[0; 6],
+        &[20],
+        &[1, 1, 1, 2, 0, 0, 0],
+        Verdict::Shape { index: 3 },
+    ),
+    (
+        &[0, 0, 0, 0, 0, -5],
+        &[15, 5],
+        &[1, 1, 1, 2, 2, 0, 2, 0],
+        Verdict::Yes { sum: 15 },
+    ),
+    (
+        &[0, 0, 0, 0, 0, -5],
+        &[21, 5],
+        &[1, 1, 1, 2, 2, 0, 2, 0],
+        Verdict::Short {
+            edge: 6,
+            load: 21,
+            cost: 20,
+        },
+    ),
+    (
+        &[-1, 1, 1, 0, 0, 0],
+        &[],
+        &[0; 6],
+        Verdict::Short {
+            edge: 1,
+            load: 2,
+            cost: 0,
+        },
+    ),
+];
+
 #[test]
 fn verdicts_on_two_triangles(rt: HostRuntime) -> Result<(), Fail> {
-    let none = [0i64; 6];
-    let table: [(&[i64], &[i64], &[u32], Verdict); 12] = [
-        (
-            &none,
-            &[20],
-            &[1, 1, 1, 0, 0, 0, 0],
-            Verdict::Yes { sum: 20 },
-        ),
-        (
-            &none,
-            &[20],
-            &[1, 1, 0, 0, 0, 0, 0],
-            Verdict::Even { set: 0, size: 2 },
-        ),
-        (
-            &none,
-            &[-1],
-            &[1, 1, 1, 0, 0, 0, 0],
-            Verdict::Negative { set: 0 },
-        ),
-        (
-            &none,
-            &[20, 20],
-            &[1, 1, 1, 2, 2, 2, 0, 0],
-            Verdict::Short {
-                edge: 6,
-                load: 40,
-                cost: 20,
-            },
-        ),
-        (&[0; 5], &[], &[0; 6], Verdict::Shape { index: 6 }),
-        (&none, &[], &[0; 7], Verdict::Shape { index: 7 }),
-        (
-            &none,
-            &[20],
-            &[1, 1, 1, 2, 0, 0, 0],
-            Verdict::Shape { index: 3 },
-        ),
-        (
-            &none,
-            &[20],
-            &[1, 1, 1, 0, 0, 0, 1],
-            Verdict::Shape { index: 6 },
-        ),
-        (
-            &[0, 0, 0, 0, 0, -5],
-            &[15, 5],
-            &[1, 1, 1, 2, 2, 0, 2, 0],
-            Verdict::Yes { sum: 15 },
-        ),
-        (
-            &[0, 0, 0, 0, 0, -5],
-            &[21, 5],
-            &[1, 1, 1, 2, 2, 0, 2, 0],
-            Verdict::Short {
-                edge: 6,
-                load: 21,
-                cost: 20,
-            },
-        ),
-        (
-            &[1, 0, 0, 0, 0, 0],
-            &[9, 9, 2],
-            &[1, 1, 1, 3, 3, 2, 3, 3, 0],
-            Verdict::Even { set: 1, size: 1 },
-        ),
-        (
-            &[-1, 1, 1, 0, 0, 0],
-            &[],
-            &[0; 6],
-            Verdict::Short {
-                edge: 1,
-                load: 2,
-                cost: 0,
-            },
-        ),
-    ];
-    for (y, z, up, want) in table {
+    for (y, z, up, want) in VERDICTS {
         assert_eq!(rt; check(&rt, rt.alloc(), y, z, up)?, want, "at {z:?} {up:?}");
     }
     Ok(())

@@ -4,6 +4,7 @@ ghost use Rattle.std.specs.Prelude.{◌≡◌, ◌==◌, ◌&&◌, nat_lt, not, 
 ghost use Rattle.std.specs.List.{list_all};
 
 use def_matching::{WEdge, WGraph};
+use std::alloc::{AllocError, Global};
 
 /// Whether the ends of each edge are two vertices, and its cost is small.
 pub(crate) fn are_edges(n: u32, edges: &[WEdge]) -> bool
@@ -15,19 +16,19 @@ pub(crate) fn are_edges(n: u32, edges: &[WEdge]) -> bool
     })
 }
 
-/// The sum of the costs of some edges.
-pub(crate) fn cost_of(g: &WGraph, edges: &[u32]) -> i64 {
-    let mut cost = 0i64;
-    for e in edges {
-        cost = cost.saturating_add(g.edges.get(*e as usize).map_or(0, |edge| edge.cost));
+/// Two triangles with a dear edge between them.
+pub(crate) fn triangles(alloc: Global) -> Result<WGraph, AllocError> {
+    let mut edges = Vec::new(alloc);
+    for (u, v, cost) in [
+        (0, 1, 0),
+        (1, 2, 0),
+        (2, 0, 0),
+        (3, 4, 0),
+        (4, 5, 0),
+        (5, 3, 0),
+        (0, 3, 10),
+    ] {
+        edges.push(WEdge { u, v, cost })?;
     }
-    cost
-}
-
-/// The next number of a sequence by chance.
-pub(crate) fn next(seed: &mut u64) -> u64 {
-    *seed = seed
-        .wrapping_mul(6_364_136_223_846_793_005)
-        .wrapping_add(1_442_695_040_888_963_407);
-    *seed >> 33
+    Ok(WGraph { n: 6, edges })
 }

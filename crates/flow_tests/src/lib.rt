@@ -8,19 +8,9 @@ mod descents;
 #[cfg(test)]
 mod duals;
 #[cfg(test)]
-mod edges;
-#[cfg(test)]
-mod forests;
-#[cfg(test)]
-mod gadgets;
-#[cfg(test)]
 mod graphs;
 #[cfg(test)]
 mod matchings;
-#[cfg(test)]
-mod networks;
-#[cfg(test)]
-mod pools;
 #[cfg(test)]
 mod samples;
 #[cfg(test)]

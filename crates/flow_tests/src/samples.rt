@@ -14,14 +14,6 @@ arc 1 1 1 + rim
 arc 1 1 0 - rim
 arc 1 1 1 - rim";
 
-/// Like signs at two nodes, unlike signs at one node, and arcs with one end.
-pub(crate) const MIXED: &str = "net nodes 2 arcs 5 floor 2 scale 1/2
-arc 3 1 0 + 1 +
-arc 2 7 0 - 1 -
-arc 5 1 1 + 1 -
-arc 4 2 0 - rim
-arc 1 1000 1 - rim";
-
 /// Arcs of all shapes, with both ends of one at one node.
 pub(crate) const FIVE_SHAPES: &str = "net nodes 3 arcs 7 floor 1 scale 2/3
 arc 5 2 0 + 1 -

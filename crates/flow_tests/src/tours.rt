@@ -1,18 +1,7 @@
-//! Keys that change, and the least of them.
+//! Keys of which the least comes first, and equal ones by turns.
 
 use qm_tour::Tour;
 use std::test::Fail;
-
-#[test]
-fn the_least_comes_first(rt: HostRuntime) -> Result<(), Fail> {
-    let mut tour = Tour::new(rt.alloc(), 3)?;
-    tour.set(0, 7);
-    tour.set(1, 3);
-    tour.set(2, 9);
-    assert_eq!(rt; tour.least_leaf(), 1);
-    assert_eq!(rt; tour.key(1), 3);
-    Ok(())
-}
 
 /// Of equal keys not the same one comes each time: a search that took them in a fixed order would run over a whole
 /// plateau of equal costs.

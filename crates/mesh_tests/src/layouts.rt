@@ -13,10 +13,7 @@ use qm_obj::read_soup;
 use std::alloc::{AllocError, Global};
 
 /// The mesh that a source gives; none where there is no mesh.
-pub(crate) fn read_mesh<S: Source>(
-    alloc: Global,
-    input: &mut S,
-) -> Result<Option<Mesh>, AllocError> {
+fn read_mesh<S: Source>(alloc: Global, input: &mut S) -> Result<Option<Mesh>, AllocError> {
     let Ok(soup) = read_soup(alloc, input, MAX_BYTES) else {
         return Ok(None);
     };

@@ -1,9 +1,6 @@
-//! Tests of meshes, of how riders cut them, of merged patches, and of new meshes at given lengths, on meshes that are
-//! worked out by hand.
+//! Tests of meshes, of how riders cut them, and of new meshes at given lengths, on meshes that are worked out by hand.
 #![tactic(auto)]
 
-#[cfg(test)]
-mod cuts;
 #[cfg(test)]
 mod layouts;
 #[cfg(test)]
@@ -19,10 +16,4 @@ mod new_meshes;
 #[cfg(test)]
 mod placed;
 #[cfg(test)]
-mod roots;
-#[cfg(test)]
-mod sources;
-#[cfg(test)]
 mod stitched;
-#[cfg(test)]
-mod summaries;

@@ -1,11 +1,6 @@
-//! A cube through all queries, and each refusal at its least place.
+//! A cube through all queries.
 
-ghost use Rattle.std.specs.Prelude.{◌≤◌, length, IsTrue};
-ghost use Rattle.def_mesh.specs.Vertices.{names_below, UsesEach};
-
-use def_mesh::{MAX_FACES, Place};
 use qm_mesh::{MeshFail, build};
-use std::alloc::Global;
 
 const CUBE: [[u32; 4]; 6] = [
     [3, 2, 1, 0],
@@ -15,15 +10,6 @@ const CUBE: [[u32; 4]; 6] = [
     [2, 3, 7, 6],
     [3, 0, 4, 7],
 ];
-
-/// What `build` refuses, `None` for a mesh.
-fn refusal(alloc: Global, vertices: u32, faces: &[[u32; 4]]) -> Option<MeshFail>
-    requires few { length faces.now ≤ MAX_FACES }
-    requires within { IsTrue (names_below vertices faces.now) }
-    requires used { UsesEach vertices faces.now }
-{
-    build(alloc, vertices, faces).err()
-}
 
 #[test]
 fn a_cube_is_a_mesh(rt: HostRuntime) {
@@ -45,39 +31,4 @@ fn a_cube_is_a_mesh(rt: HostRuntime) {
         }
         Err(fail) => assert_eq!(rt; fail, MeshFail::Memory),
     }
-    assert_eq!(rt; refusal(rt.alloc(), 8, &CUBE), None);
-}
-
-#[test]
-fn each_refusal_is_at_its_least_place(rt: HostRuntime) {
-    let alloc = rt.alloc();
-    // two faces that name a vertex twice, and an edge that is met twice: the first such face, its second vertex
-    let repeated = [[0, 1, 2, 3], [0, 1, 4, 5], [4, 5, 2, 5], [2, 2, 3, 3]];
-    assert_eq!(rt;
-        refusal(alloc, 6, &repeated),
-        Some(MeshFail::NotManifold(Place::Repeated { face: 2, vertex: 5 }))
-    );
-    // three faces along one edge, and the face before them along another
-    let twice = [
-        [0, 1, 2, 3],
-        [4, 5, 6, 7],
-        [8, 4, 5, 9],
-        [10, 0, 1, 11],
-        [12, 4, 5, 13],
-    ];
-    assert_eq!(rt;
-        refusal(alloc, 14, &twice),
-        Some(MeshFail::NotManifold(Place::EdgeTwice {
-            from: 4,
-            to: 5,
-            face1: 1,
-            face2: 2
-        }))
-    );
-    // two vertices with two fans each: the lesser
-    let fans = [[5, 0, 1, 2], [5, 3, 4, 6], [4, 7, 8, 9]];
-    assert_eq!(rt;
-        refusal(alloc, 10, &fans),
-        Some(MeshFail::NotManifold(Place::TwoFans { vertex: 4 }))
-    );
 }

@@ -18,7 +18,7 @@ const TORUS: &str = "\
     f 10 11 15 14\nf 11 12 16 15\nf 12 9 13 16\nf 13 14 2 1\nf 14 15 3 2\nf 15 16 4 3\nf 16 13 1 4\n";
 
 /// Two sheets of three rows of three faces, joined along their rims.
-pub(crate) const PILLOW: &str = "\
+const PILLOW: &str = "\
     f 1 2 6 5\nf 2 3 7 6\nf 3 4 8 7\nf 5 6 10 9\nf 6 7 11 10\nf 7 8 12 11\nf 9 10 14 13\nf 10 11 15 14\n\
     f 11 12 16 15\nf 1 5 17 2\nf 2 17 18 3\nf 3 18 8 4\nf 5 9 19 17\nf 17 19 20 18\nf 18 20 12 8\nf 9 13 14 19\n\
     f 19 14 15 20\nf 20 15 16 12\n";
@@ -27,7 +27,7 @@ pub(crate) const PILLOW: &str = "\
 const QUAD: &str = "f 1 2 3 4\n";
 
 /// The text of a mesh with so many vertices and these faces.
-pub(crate) fn mesh_text(alloc: Global, vertices: u32, faces: &str) -> Result<Vec<u8>, AllocError> {
+fn mesh_text(alloc: Global, vertices: u32, faces: &str) -> Result<Vec<u8>, AllocError> {
     let mut text = Vec::new(alloc);
     for _ in 0..vertices {
         text.extend_from_slice(b"v 0 0 0\n")?;

@@ -159,68 +159,6 @@ fn a_fault_of_the_error_sink_changes_nothing(rt: HostRuntime) -> Result<(), Fail
     Ok(())
 }
 
-#[test]
-fn a_text_cut_anywhere_is_done_or_refused(rt: HostRuntime) -> Result<(), Fail> {
-    for line in LINES {
-        for end in 0..QUAD.len() {
-            let (answer, out, err) = ran(rt.alloc(), line, &QUAD[..end], ALL_WELL)?;
-            if matches!(answer, Answer::Done) {
-                assert_eq!(rt; err.taken(), b"".as_slice());
-            } else {
-                assert_eq!(rt; out.taken(), b"".as_slice());
-                assert!(rt; err.taken().ends_with(b"\n"));
-            }
-        }
-    }
-    Ok(())
-}
-
-#[test]
-fn other_words_are_a_matter_of_usage(rt: HostRuntime) -> Result<(), Fail> {
-    for line in [
-        "",
-        "tidy --",
-        "tidy --help",
-        "--help",
-        "Tidy",
-        "graph --",
-        "tidy extra",
-    ] {
-        let (answer, out, err) = ran(rt.alloc(), line, QUAD, ALL_WELL)?;
-        assert!(rt; matches!(answer, Answer::Usage));
-        assert_eq!(rt; out.taken(), b"".as_slice());
-        assert!(rt;
-            err.taken()
-                .starts_with(b"quadq: usage: quadq tidy | graph | ")
-        );
-    }
-    Ok(())
-}
-
-/// A face whose corners are some millionths apart, and the new mesh of half its edges: halves go up on both sides of 0.
-const NARROW: [&[u8]; 2] = [
-    b"v 0 0 -0.000003\nv 0.000001 -0.000001 0\nv 0.000001 -0.000001 0\nv 0 0 -0.000003\nf 1 2 3 4\n",
-    b"#quadq 1 refine by 2\nv 0 0 -0.000003\nv 0.000001 -0.000001 0\nv 0.000001 -0.000001 0\nv 0 0 -0.000003\n\
-    v 0.000001 0 -0.000001\nv 0.000001 -0.000001 0\nv 0.000001 0 -0.000001\nv 0 0 -0.000003\nv 0.000001 0 -0.000001\n",
-];
-
-/// A face as wide as may be, and the new mesh of a third of its edges.
-const WIDE: [&[u8]; 2] = [
-    b"v 0 -999999999.999999 0\nv 2 999999999.999999 0\nv 2 999999999.999999 1\nv 0 -999999999.999999 1\nf 1 2 3 4\n",
-    b"#quadq 1 refine by 3\nv 0 -999999999.999999 0\nv 2 999999999.999999 0\nv 2 999999999.999999 1\n\
-    v 0 -999999999.999999 1\nv 0.666667 -333333333.333333 0\nv 1.333333 333333333.333333 0\n",
-];
-
-#[test]
-fn new_places_are_rounded(rt: HostRuntime) -> Result<(), Fail> {
-    for (line, [text, want]) in [("refine --by 2", NARROW), ("refine --by 3", WIDE)] {
-        let (answer, out, _err) = ran(rt.alloc(), line, text, ALL_WELL)?;
-        assert!(rt; matches!(answer, Answer::Done));
-        assert!(rt; out.taken().starts_with(want), "{line}");
-    }
-    Ok(())
-}
-
 /// An environment in memory, with the program's name first.
 #[derive(Drop)]
 struct Given<'a> {
