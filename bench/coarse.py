@@ -4,9 +4,10 @@ new mesh and the deviation of its lengths.
 
 usage: bench/coarse.py [--times] MESH.obj..
 
-With --times it prints instead the time of `coarse` by that of `graph`, in seconds of the processor, the least of some
-runs by turns, on these meshes and on a terrain of voxels that bench/meshes.cpp makes (with g++); it wants a calm
-machine. QUADQ may name the program, which is dist/quadq else.
+With --times it prints instead the time of `graph`, and that of `remesh` and `coarse` at half the scale and at scale
+1/1, where no length is looked for, so that the rest is seen: seconds of the processor, the least of some runs by turns,
+on these meshes and on a terrain of voxels that bench/meshes.cpp makes (with g++). It wants a calm machine. QUADQ may
+name the program, which is dist/quadq else.
 """
 import pathlib
 import subprocess
@@ -19,12 +20,15 @@ sys.path.insert(0, f"{ROOT}/tools")
 import cuts  # noqa: E402
 import draw_graph  # noqa: E402
 
-ROUNDS = 7
+ROUNDS = 5
 COLUMNS = 258
 """Of the terrain: it has some 200,000 faces."""
 OPTIONS = ["--scale", "1/2", "--floor", "1", "--weight", "plain"]
 HEAD = "| mesh | faces | patches | arcs | new faces | deviation |"
-TIMES_HEAD = "| mesh | faces | `graph` s | MB | `coarse` s | MB | time ratio | memory ratio |"
+SAME = ["--scale", "1/1", *OPTIONS[2:]]
+RUNS = (["graph"], ["remesh", *OPTIONS], ["coarse", *OPTIONS], ["remesh", *SAME], ["coarse", *SAME])
+TIMES_HEAD = "| mesh | faces | `graph` s | MB | `remesh` 1/2 s | MB | `coarse` 1/2 s | MB | `remesh` 1/1 s | MB " \
+             "| `coarse` 1/1 s | MB | by `graph` |"
 
 
 def told(cut, command, mesh, out):
@@ -54,17 +58,14 @@ def row(mesh, room):
 
 
 def timed(name, mesh, room):
-    """The least seconds of the processor and megabytes of `graph` and `coarse`, and their ratios."""
-    runs = []
-    for _ in range(ROUNDS):
-        for words in (["graph"], ["coarse", *OPTIONS]):
-            _, seconds, megabytes, status = taken([program(), *words], mesh, room / "out")
-            if status != 0:
-                return None
-            runs.append((seconds, megabytes))
-    (graph, graph_mb), (coarse, coarse_mb) = (tuple(map(min, zip(*runs[at::2]))) for at in (0, 1))
-    cells = [f"{graph:.3f}", f"{graph_mb:.0f}", f"{coarse:.3f}", f"{coarse_mb:.0f}"]
-    return [name, count_lines(mesh, b"f"), *cells, f"{coarse / max(graph, 1e-9):.2f}", f"{coarse_mb / graph_mb:.2f}"]
+    """The least seconds of the processor and megabytes of each run, and the last time by the first."""
+    runs = [[taken([program(), *words], mesh, room / "out")[1:] for words in RUNS] for _ in range(ROUNDS)]
+    if runs[0][0][2] != 0:
+        return None
+    least = [tuple(map(min, zip(*turns))) for turns in zip(*runs)]
+    cells = [cell for seconds, megabytes, status in least
+             for cell in (f"{seconds:.3f}" + (f" (status {status})" if status else ""), f"{megabytes:.0f}")]
+    return [name, count_lines(mesh, b"f"), *cells, f"{least[-1][0] / max(least[0][0], 1e-9):.1f}"]
 
 
 def terrain(room):
@@ -89,7 +90,7 @@ def main():
             if cells is not None:
                 print("|", " | ".join(map(str, cells)), "|", flush=True)
         if are_timed:
-            print("|", " | ".join(map(str, timed("terrain of voxels", terrain(room), room) or ["refused"])), "|")
+            print("|", " | ".join(map(str, timed("terrain of voxels", terrain(room), room))), "|")
 
 
 main()

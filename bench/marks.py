@@ -10,7 +10,7 @@ import tempfile
 
 from measuring import program, taken
 
-ROUNDS = 5
+ROUNDS = 3
 SIDE = 1024
 """Faces of a row of the grid, and of a column: it has as many faces as quadq reads."""
 FAN = 1 << 19
