@@ -36,7 +36,7 @@ td:first-child, th:first-child { text-align: left; }
 img { border: 1px solid #ddd; max-width: 100%; } .good { color: #17692f; } .warning { color: #a04000; }
 .bad { color: #a01818; } .swatch { display: inline-block; width: .9em; height: .9em; margin: 0 .3em 0 1em; }
 """
-LEGEND = """<p>Each colour is a patch of the motorcycle graph; an old patch and the new one made of it have the same.
+LEGEND = """<p>Each colour is a patch; an old patch and the new one made of it have the same.
 <span class="swatch" style="background:#282828"></span>borders of patches
 <span class="swatch" style="background:#1446c8"></span>edges that stay, or else those where faces meet at more than 30°
 <span class="swatch" style="background:#f08c28"></span>scaled Jacobian below 0.2
