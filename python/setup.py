@@ -8,7 +8,8 @@ from setuptools import setup
 from setuptools.command.build_py import build_py
 
 ROOT = pathlib.Path(__file__).resolve().parent.parent
-CARRIED = {"dist/quadq": "bin/quadq", **{f"tools/{it}.py": f"{it}.py" for it in ("mark_features", "cuts")}}
+SCRIPTS = ("mark_features", "cuts", "carrying", "carry", "make_map")
+CARRIED = {"dist/quadq": "bin/quadq", **{f"tools/{it}.py": f"{it}.py" for it in SCRIPTS}}
 
 
 class BuildWithProgram(build_py):

@@ -19,8 +19,6 @@ from .remeshing import Settings, as_length
 from .report import refused_page, result_page
 
 USAGE = 2
-NOT_YET = {"carry": "map"}
-"""Options that wait for a command of the program."""
 
 
 def parser_of_words() -> argparse.ArgumentParser:
@@ -48,7 +46,7 @@ def parser_of_words() -> argparse.ArgumentParser:
     parser.add_argument("--keep", type=Path, metavar="FOLDER", help="keep the old and new text of each part there")
     parser.add_argument("--report", type=Path, metavar="FILE.html", help="a page with pictures of both meshes")
     parser.add_argument("--up", choices=["y", "z"], default="y", help="the axis that points upward in pictures")
-    parser.add_argument("--carry", action="store_true", help="carry attributes over; needs the command `map`")
+    parser.add_argument("--carry", action="store_true", help="keep texture coordinates, normals, names and colours")
     parser.add_argument("--out", type=Path, metavar="FOLDER", help="where the remeshed files go, by the same names")
     parser.add_argument("--table", type=Path, metavar="FILE.csv", help="a table of all files")
     parser.add_argument("--jobs", type=int, default=0, metavar="N", help="how much at a time; 0: one a processor")
@@ -63,7 +61,7 @@ def main(words: Optional[Sequence[str]] = None) -> int:
     try:
         program = Program()
         settings = settings_of(asked)
-        refuse_missing(asked, settings, program)
+        refuse_missing(settings, program)
         if asked.out is None and len(asked.paths) != 2:
             raise ValueError("two files are needed, IN and OUT, or --out FOLDER")
         if asked.out is not None and asked.report is not None:
@@ -80,17 +78,12 @@ def settings_of(asked: argparse.Namespace) -> Settings:
         scale=asked.scale, faces=asked.faces, edge=None if asked.edge is None else as_length(asked.edge),
         floor=asked.floor, weight=asked.weight, sharp=asked.sharp, keep=tuple(asked.keep_edges or ()),
         corners=asked.corners, coarse=asked.coarse, subdivide=asked.subdivide, mirror=asked.mirror, relax=asked.relax,
-        jobs=asked.jobs, folder=asked.keep)
+        jobs=asked.jobs, folder=asked.keep, carry=asked.carry)
 
 
-def refuse_missing(asked: argparse.Namespace, settings: Settings, program: Program) -> None:
-    """Raises a `ValueError` for an option that waits for a command."""
-    known = program.commands()
-    for option, command in NOT_YET.items():
-        if getattr(asked, option):
-            lack = "this package does not use yet" if command in known else "this program does not have"
-            raise ValueError(f"--{option} needs the command `{command}`, which {lack}")
-    if settings.command not in known:
+def refuse_missing(settings: Settings, program: Program) -> None:
+    """Raises a `ValueError` for a command that the program does not have."""
+    if settings.command not in program.commands():
         raise ValueError(f"this needs the command `{settings.command}`, which this program does not have")
 
 

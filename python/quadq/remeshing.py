@@ -12,6 +12,7 @@ from typing import Any, Callable, Iterable, Optional, Union
 import numpy as np
 
 from . import mirror as mirroring
+from .attributes import carry_over
 from .distance import distance_between
 from .features import KINDS, find_features, in_words
 from .mesh import Mesh
@@ -62,6 +63,8 @@ class Settings:
     """How many parts are remeshed at a time; 0 for one a processor."""
     folder: Optional[Path] = None
     """Where the old and new text of each part are kept."""
+    carry: bool = False
+    """Whether texture, normals, names within parts and colours are carried over."""
 
     def __post_init__(self) -> None:
         if [self.scale, self.faces, self.edge].count(None) != 2:
@@ -81,6 +84,8 @@ class Settings:
             raise ValueError("points are relaxed 0 times or more")
         if self.mirror is not None and self.mirror not in tuple(mirroring.AXES):
             raise ValueError(f"the mirror axis has to be x, y or z, and is {self.mirror}")
+        if self.carry and self.mirror is not None:
+            raise ValueError("what a mesh carries is not mirrored: only one of carry and mirror can be given")
         self._check_features()
 
     def _check_features(self) -> None:
@@ -178,9 +183,11 @@ class _Work:
         if self.settings.folder is not None:
             keep(self.settings.folder, parts, written)
         meshes, moves = self._relaxed(parts, written)
-        new = self._whole(put_together(parts, meshes))
-        is_as_written = len(parts) == 1 and self.settings.mirror is None and not self.settings.subdivide and not moves
-        report = replace(self._report(new, reached, parts, written), moves=moves)
+        new, over = self._put_together(parts, written, meshes)
+        new = self._whole(new)
+        is_as_written = len(parts) == 1 and not (
+            self.settings.mirror or self.settings.subdivide or moves or self.settings.carry)
+        report = replace(self._report(new, reached, parts, written), moves=moves, over_seams=over)
         return Result(new, report, written[0].text if is_as_written else None, tuple(parts), tuple(written))
 
     def _parts(self, text: Optional[bytes]) -> list[Part]:
@@ -241,6 +248,13 @@ class _Work:
             self._tell_parts(len(done))
             moves += more
         return done, moves
+
+    def _put_together(self, parts: list[Part], written: list[Written], meshes: list[Mesh]) -> tuple[Mesh, int]:
+        """The new meshes side by side, and how many of their faces lie over seams of what was carried over."""
+        if not self.settings.carry:
+            return put_together(parts, meshes), 0
+        self.step = "carry"
+        return carry_over(parts, written, meshes, self.shop)
 
     def _whole(self, new: Mesh) -> Mesh:
         """The new mesh, with its mirror image where that is wished: then the whole is read by the program once more."""

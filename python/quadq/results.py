@@ -66,6 +66,8 @@ class Report:
     """From the old mesh to the new surface: what was lost at corners and edges shows here."""
     moves: int = 0
     """How often a point was moved: where it is not 0, the certificates hold for the counts, not for the places."""
+    over_seams: int = 0
+    """How many new faces lie over a seam of the texture or a border of names, where these were carried over."""
 
     @property
     def is_checked(self) -> bool:
@@ -107,6 +109,8 @@ class Report:
             said.append(f"inverted faces: {after.quality.inverted}, and {before.quality.inverted} before")
         if before.irregular != after.irregular:
             said.append("irregular points were lost or made")
+        if self.over_seams:
+            said.append(f"{self.over_seams} faces lie over a seam of the texture or a border of names")
         if self.moves:
             said.append("the mesh is relaxed: the certificates hold for the numbers of edges, not for the places")
         return tuple(said)
