@@ -1,8 +1,10 @@
 pub mod Counts
 mod Cutting
+mod Found
 mod Holding
 mod Letters
 pub mod Marks
+pub mod Tails
 pub mod Telling
 pub mod Texts
 pub mod Unique

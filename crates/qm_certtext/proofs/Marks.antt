@@ -1,16 +1,17 @@
 -- The marked lines of a text, one line after another.
-use Rattle.std.proofs.Common.{◌≡◌, ◌<◌, ◌≤◌, ◌+◌, ◌-◌, ℕ, zero, suc, Bool, true, false, List, [], ◌∷◌, ◌++◌, length, take, drop, map, filter, slice_index_or, cond, inl, inr, refl, ap, sym, ◌∙◌, subst, arith, length-drop}
+use Rattle.std.proofs.Common.{◌≡◌, ◌<◌, ◌+◌, ℕ, zero, suc, Bool, true, false, Option, None, List, [], ◌∷◌, ◌++◌, length, take, map, filter, slice_index_or, cond, inl, inr, refl, ap, sym, ◌∙◌, subst, arith}
 use Rattle.std.specs.List.{list_all}
 use Rattle.std.proofs.lemmas.Bool.{and_parts, cases_Bool, true≢false}
-use Rattle.std.proofs.lemmas.List.{get_or-drop, get_or-take, length-take-le, take_more}
+use Rattle.std.proofs.lemmas.List.{get_or-take, length-take-le, take_more}
 use Rattle.def_certtext.specs.CertLines.{line_text}
 use Rattle.def_certtext.specs.Reading.{is_hash_line, may_stand, Says}
 use Rattle.def_certtext.specs.declared.CertLine.{CertLine}
 use Rattle.def_io.specs.Bytes.{Bytes, Lines}
 use Rattle.def_certtext.specs.declared.CertFail.{CertFail}
 use Rattle.def_certtext.specs.declared.CertFail.TheVariants.{Head, Line, Memory}
-use Rattle.qm_certtext.specs.Parts.{IsBehindFail, IsLineFail, ReadSome, TakesText}
+use Rattle.qm_certtext.specs.Parts.{HoldBoth, Holds, IsBehindFail, IsLineFail, ReadSome, TakesText}
 use Rattle.qm_certtext.specs.declared.parts.Found.{Found}
+use Rattle.qm_certtext.specs.declared.parts.Parts.{Parts}
 
 pub filter_append : {X : Type 0} (p : X → Bool) (xs ys : List X) → filter p (xs ++ ys) ≡ filter p xs ++ filter p ys
 filter_append p [] ys = refl
@@ -51,41 +52,37 @@ said_at auto (line ∷ behind) said texts all j low is =
         let others : filter is_hash_line behind ≡ map line_text more = cc in
         rest more others (and_parts (may_stand auto one) (list_all (may_stand auto) more) ok).1 i (omega arith) marked
 
--- The next line behind the head line, from line i of all.
-module _ (auto : Bool) (lines : Lines) (first i : ℕ) (line : Bytes) (old : Found) (from : first + 1 ≤ i) (low : i < length lines) (is : line ≡ slice_index_or lines i []) where
-  far : i - (first + 1) < length (drop (first + 1) lines)
-  far = omega (arith, length-drop (first + 1) lines)
+-- Where no line was read, nothing is said.
+pub read_none : (auto : Bool) (found : Found) → found.first ≡ None → Holds found.last [] → ReadSome auto [] found
+read_none auto found first holds = record {
+  said = [];
+  texts = refl;
+  allowed = refl;
+  holds = subst (λ (f : Option Parts). HoldBoth f found.last []) (sym first) (refl, holds);
+}
 
-  here : slice_index_or (drop (first + 1) lines) (i - (first + 1)) [] ≡ line
-  here =
-      let sum : first + 1 + (i - (first + 1)) ≡ i = omega arith in
-      get_or-drop (first + 1) lines (i - (first + 1)) [] ∙ ap (λ (k : ℕ). slice_index_or lines k []) sum ∙ sym is
-
-  pub read_next : (new : Found) → ReadSome auto (take (i - (first + 1)) (drop (first + 1) lines)) old → TakesText auto line old new
-      → ReadSome auto (take (i + 1 - (first + 1)) (drop (first + 1) lines)) new
+-- The next line behind the head line.
+module _ (auto : Bool) (behind : Lines) (i : ℕ) (line : Bytes) (old : Found) (low : i < length behind) (is : line ≡ slice_index_or behind i []) where
+  pub read_next : (new : Found) → ReadSome auto (take i behind) old → TakesText auto line old new → ReadSome auto (take (i + 1) behind) new
   read_next new read takes =
-      let next : i + 1 - (first + 1) ≡ i - (first + 1) + 1 = omega arith in
-      let longer : take (i - (first + 1)) (drop (first + 1) lines) ++ line ∷ [] ≡ take (i + 1 - (first + 1)) (drop (first + 1) lines) =
-      ap (λ (l : Bytes). take (i - (first + 1)) (drop (first + 1) lines) ++ l ∷ []) (sym here)
-      ∙ sym (take_more (drop (first + 1) lines) (i - (first + 1)) [] far) ∙ ap (λ (k : ℕ). take k (drop (first + 1) lines)) (sym next) in
-      subst (λ (ls : Lines). ReadSome auto ls new) longer (takes (take (i - (first + 1)) (drop (first + 1) lines)) read)
+      let longer : take i behind ++ line ∷ [] ≡ take (i + 1) behind =
+      ap (λ (l : Bytes). take i behind ++ l ∷ []) is ∙ sym (take_more behind i [] low) in
+      subst (λ (ls : Lines). ReadSome auto ls new) longer (takes (take i behind) read)
 
-  pub behind_fail : (fail : CertFail) → ReadSome auto (take (i - (first + 1)) (drop (first + 1) lines)) old → IsLineFail auto line (i + 1) fail
-      → IsBehindFail auto (first + 2) (drop (first + 1) lines) fail
-  behind_fail Head read why = why
-  behind_fail Memory read why = tt
-  behind_fail (Line n) read why = (
-    i - (first + 1),
+  pub behind_fail : (number : ℕ) (fail : CertFail) → ReadSome auto (take i behind) old → IsLineFail auto line (number + i) fail → IsBehindFail auto number behind fail
+  behind_fail number Head read why = why
+  behind_fail number Memory read why = tt
+  behind_fail number (Line n) read why = (
+    i,
     record {
-      there = far;
-      marked = ap is_hash_line here ∙ why.1;
-      bad = λ said says. why.2 said (subst (λ (l : Bytes). Says auto l said) here says);
+      there = low;
+      marked = ap is_hash_line (sym is) ∙ why.1;
+      bad = λ said says. why.2 said (subst (λ (l : Bytes). Says auto l said) (sym is) says);
       before = λ j lt marked.
-          let same : slice_index_or (take (i - (first + 1)) (drop (first + 1) lines)) j [] ≡ slice_index_or (drop (first + 1) lines) j [] =
-          get_or-take (i - (first + 1)) (drop (first + 1) lines) j [] lt in
-          let there : j < length (take (i - (first + 1)) (drop (first + 1) lines)) = omega (arith, far, length-take-le (i - (first + 1)) (drop (first + 1) lines) (omega (arith, far))) in
+          let same : slice_index_or (take i behind) j [] ≡ slice_index_or behind j [] = get_or-take i behind j [] lt in
+          let there : j < length (take i behind) = omega (arith, lt, low, length-take-le i behind (omega (arith, low))) in
           subst (λ (l : Bytes). (said : CertLine) × Says auto l said) same
-          (said_at auto (take (i - (first + 1)) (drop (first + 1) lines)) read.said read.texts read.allowed j there (ap is_hash_line same ∙ marked));
+          (said_at auto (take i behind) read.said read.texts read.allowed j there (ap is_hash_line same ∙ marked));
     },
-    omega (arith, why.0),
+    why.0,
   )

@@ -2,9 +2,7 @@
 
 ghost use Rattle.std.specs.Prelude.{◌≡◌, ◌++◌, ◌∷◌, [], Bool, true, slice_index, IfOk, OnOk};
 ghost use Rattle.std.specs.Prelude.{MatchOption};
-ghost use Rattle.std.specs.List.{starts_with};
-ghost use Rattle.def_io.specs.Lines.{lines_of};
-ghost use Rattle.def_certtext.specs.HeadLine.{begins_head, head_line, HasNoHead, IsLastHead};
+ghost use Rattle.def_certtext.specs.HeadLine.{head_line};
 ghost use Rattle.def_certtext.specs.Reading.{IsHead};
 ghost use Rattle.def_certtext.specs.Settings.{floor_text, weight_text};
 ghost use Rattle.def_flow.specs.declared.net.Settings.{Settings as AnySettings};
@@ -17,7 +15,6 @@ use def_certtext::Asked;
 use def_flow::{Settings, Weight};
 use def_io::LINE_FEED;
 use def_text::{SLASH, SPACE};
-use qm_io::Lines;
 use qm_print::push_number;
 use qm_scan::find_byte;
 use std::alloc::Global;
@@ -56,24 +53,6 @@ fn weight_name(weight: Weight) -> &'static [u8]
         Weight::Plain => b"plain",
         Weight::Length => b"length",
     }
-}
-
-/// The last line that begins with `#quadq 1 remesh`, from 0. Linear from the end.
-pub fn last_head(lines: &Lines) -> Option<u32>
-    ensures { MatchOption result (HasNoHead (lines_of lines.now)) (IsLastHead (lines_of lines.now)) }
-{
-    for i in (0..lines.count()).rev() {
-        if begins_head(lines.line(i)) {
-            return Some(i);
-        }
-    }
-    None
-}
-
-fn begins_head(line: &[u8]) -> bool
-    ensures { result ≡ begins_head line.now }
-{
-    line.starts_with(b"#quadq 1 remesh")
 }
 
 /// The settings that a head line asks for. Linear.

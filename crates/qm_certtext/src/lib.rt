@@ -3,6 +3,7 @@
 
 mod cert;
 mod head;
+mod last;
 mod law;
 mod line;
 mod numbers;
@@ -12,10 +13,11 @@ mod written;
 
 pub use cert::cert_text;
 pub use def_certtext::{Asked, CertFail, Written};
-pub use head::{head_text, last_head, read_head};
+pub use head::{head_text, read_head};
+pub use last::{HeadAt, find_head, last_head};
 pub use law::{chosen_law, written_law};
 pub use settings::read_settings;
-pub use written::read_written;
+pub use written::{read_tail, read_written};
 
 /// Want of memory.
 pub type Memory = std::alloc::AllocError;

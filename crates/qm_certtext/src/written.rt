@@ -1,6 +1,6 @@
 //! What a written text says of how it was made.
 
-ghost use Rattle.std.specs.Prelude.{◌≡◌, ◌<◌, ◌+◌, [], drop, length, option_map, slice_index_or, IfOk, IfErr, OnOk};
+ghost use Rattle.std.specs.Prelude.{◌≡◌, ◌<◌, ◌+◌, ◌^◌, [], drop, length, option_map, slice_index_or, IfOk, IfErr, OnOk};
 ghost use Rattle.def_io.specs.Lines.{lines_of};
 ghost use Rattle.def_certtext.specs.CertLines.{lists_of};
 ghost use Rattle.def_certtext.specs.Reading.{is_hash_line, made_of, IsCertFail, TellHow};
@@ -11,7 +11,7 @@ use crate::head::read_head;
 use crate::line::read_line;
 use crate::parts::Found;
 use def_certtext::{Asked, CertFail, Written};
-use qm_io::Lines;
+use qm_io::{Lines, cut_line};
 use std::alloc::Global;
 
 /// Reads the head line `first`, from 0, and all later lines that begin with `#`. Lengths and numbers stand in the order
@@ -23,23 +23,41 @@ pub fn read_written(alloc: Global, lines: &Lines, first: u32) -> Result<Written,
     ensures fails { IfErr result (IsCertFail (slice_index_or (lines_of lines.now) first []) (first + 2)
         (drop (first + 1) (lines_of lines.now))) }
 {
-    let Some(asked) = read_head(lines.line(first)) else {
+    let _count = lines.count();
+    read_tail(alloc, lines.tail(first), first)
+}
+
+/// The same of the bytes of a text from its line `first` on.
+pub fn read_tail(alloc: Global, tail: &[u8], first: u32) -> Result<Written, CertFail>
+    requires { first + length (lines_of tail.now) < 2 ^ 32 }
+    ensures reads { IfOk result (λ written. TellHow (slice_index_or (lines_of tail.now) 0 [])
+        (drop 1 (lines_of tail.now)) (made_of written)) }
+    ensures fails { IfErr result (IsCertFail (slice_index_or (lines_of tail.now) 0 []) (first + 2)
+        (drop 1 (lines_of tail.now))) }
+{
+    let Some((line, behind)) = cut_line(tail) else {
         return Err(CertFail::Head);
     };
-    let found = read_behind(alloc, lines, first, asked.auto)?;
+    let Some(asked) = read_head(line) else {
+        return Err(CertFail::Head);
+    };
+    let found = read_behind(alloc, behind, first + 1, asked.auto)?;
     Ok(written_of(asked, found)?)
 }
 
-/// What the lines behind line `first` say, in a text of `auto` or not.
-fn read_behind(alloc: Global, lines: &Lines, first: u32, auto: bool) -> Result<Found, CertFail>
-    requires { first < length (lines_of lines.now) }
-    ensures reads { IfOk result (ReadSome auto (drop (first + 1) (lines_of lines.now))) }
-    ensures fails { IfErr result (IsBehindFail auto (first + 2) (drop (first + 1) (lines_of lines.now))) }
+/// What the lines of a text say that is of `auto` or not. The first is line `from` of a whole, from 0.
+fn read_behind(alloc: Global, text: &[u8], from: u32, auto: bool) -> Result<Found, CertFail>
+    requires { from + length (lines_of text.now) < 2 ^ 32 }
+    ensures reads { IfOk result (ReadSome auto (lines_of text.now)) }
+    ensures fails { IfErr result (IsBehindFail auto (from + 1) (lines_of text.now)) }
 {
     let mut found = Found::new(alloc);
-    let count = lines.count();
-    for i in first + 1..count {
-        take_text(alloc, &mut found, lines.line(i), auto, i + 1)?;
+    let mut rest = text;
+    let mut i = from;
+    'lines: while let Some((line, behind)) = cut_line(rest) {
+        i += 1;
+        take_text(alloc, &mut found, line, auto, i)?;
+        rest = behind;
     }
     Ok(found)
 }

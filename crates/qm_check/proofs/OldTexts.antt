@@ -1,9 +1,9 @@
 -- What is known of the old text once it was read, and of a layout that has no network.
 use Rattle.std.specs.Prelude.{IfErr, IfOk, OnOk, nat_lt, slice_index_or}
-use Rattle.std.proofs.Common.{◌≡◌, ◌≢◌, ◌<◌, ◌^◌, ◌-◌, ◌≤◌, ℕ, true, List, [], ◌∷◌, refl, length, take, arith, Result, Ok, Err, eq-eqb, sym, ap, ◌∙◌, subst}
-use Rattle.std.specs.List.{list_all, slice_range}
+use Rattle.std.proofs.Common.{◌≡◌, ◌≢◌, ◌<◌, ◌^◌, ◌≤◌, ℕ, true, List, [], ◌∷◌, refl, length, take, arith, Result, Ok, Err, eq-eqb, sym, ap, ◌∙◌, subst}
+use Rattle.std.specs.List.{list_all}
 use Rattle.def_io.specs.Lines.{lines_of}
-use Rattle.def_text.specs.Text.{text_soup}
+use Rattle.def_text.specs.Text.{soup_in, text_soup}
 use Rattle.def_certtext.specs.HeadLine.{IsLastHead}
 use Rattle.def_text.specs.declared.refusal.ObjFail.{ObjFail}
 use Rattle.def_text.specs.declared.refusal.ObjFail.TheVariants as obj
@@ -33,24 +33,23 @@ use Rattle.def_run.specs.declared.check_fail.CheckFail.{CheckFail}
 use Rattle.def_run.specs.declared.check_fail.CheckFail.TheVariants.{Old as OldFail, NotManifold, Tangled, Memory}
 use Rattle.qm_check.specs.declared.old.Old.{Old}
 
--- The lines before a line are the first ones.
-pub prefix_said : (bytes : Bytes) (line : ℕ) (said : Result FaceSet ObjFail) → text_soup 1 (slice_range (lines_of bytes) 0 line) ≡ said
+-- What is said of the old text is said of the lines before the head line.
+pub old_said : (bytes old : Bytes) (line : ℕ) (said : Result FaceSet ObjFail) → lines_of old ≡ take line (lines_of bytes) → soup_in old ≡ said
     → text_soup 1 (take line (lines_of bytes)) ≡ said
-prefix_said bytes line said is =
-    let same : line ≡ line - 0 = omega arith in ap (λ (n : ℕ). text_soup 1 (take n (lines_of bytes))) same ∙ is
+old_said bytes old line said lines is = ap (text_soup 1) (sym lines) ∙ is
 
 -- An old text that has no soup is refused.
 pub old_fails : (bytes : Bytes) (line : ℕ) (fail : ObjFail) → IsLastHead (lines_of bytes) line
-    → (fail ≢ obj.Memory → text_soup 1 (slice_range (lines_of bytes) 0 line) ≡ Err fail) → IsCheckFail bytes (of_obj fail)
+    → (fail ≢ obj.Memory → text_soup 1 (take line (lines_of bytes)) ≡ Err fail) → IsCheckFail bytes (of_obj fail)
 old_fails bytes line fail divided refuses = by_fail fail refuses
   where
-    told : (f : ObjFail) → f ≢ obj.Memory → (f ≢ obj.Memory → text_soup 1 (slice_range (lines_of bytes) 0 line) ≡ Err f)
+    told : (f : ObjFail) → f ≢ obj.Memory → (f ≢ obj.Memory → text_soup 1 (take line (lines_of bytes)) ≡ Err f)
         → IsCheckFail bytes (OldFail f)
     told f other says =
-        let refused : RefusesOldText bytes f = record { line = line; divided = divided; said = prefix_said bytes line (Err f) (says other) } in
+        let refused : RefusesOldText bytes f = record { line = line; divided = divided; said = says other } in
         (refused, other, old_refused bytes f refused)
 
-    by_fail : (f : ObjFail) → (f ≢ obj.Memory → text_soup 1 (slice_range (lines_of bytes) 0 line) ≡ Err f) → IsCheckFail bytes (of_obj f)
+    by_fail : (f : ObjFail) → (f ≢ obj.Memory → text_soup 1 (take line (lines_of bytes)) ≡ Err f) → IsCheckFail bytes (of_obj f)
     by_fail obj.Memory says = tt
     by_fail (obj.Syntax l) says = told (obj.Syntax l) (λ e. cc) says
     by_fail (obj.NotQuad l n) says = told (obj.NotQuad l n) (λ e. cc) says

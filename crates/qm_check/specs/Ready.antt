@@ -1,10 +1,11 @@
 -- What certificates are checked by.
-use Rattle.std.specs.Prelude.{◌≡◌, ℕ, ◌+◌, drop, ⊤}
+use Rattle.std.specs.Prelude.{◌≡◌, ◌≤◌, ℕ, ◌+◌, drop, length, take, ⊤}
+use Rattle.def_certtext.specs.HeadLine.{IsLastHead}
 use Rattle.def_certtext.specs.Reading.{HasBadLine, IsHead, Made, TellHow}
 use Rattle.def_certtext.specs.declared.Asked.{Asked}
 use Rattle.def_flow.specs.Network.{network}
 use Rattle.def_io.specs.Bytes.{Bytes}
-use Rattle.def_io.specs.Lines.{lines_of}
+use Rattle.def_io.specs.Lines.{lines_of, tail_of}
 use Rattle.def_layout.specs.Plans.{plan}
 use Rattle.def_mesh.specs.Faults.{IsFirstFault}
 use Rattle.def_mesh.specs.Manifold.{IsManifold}
@@ -19,9 +20,17 @@ use Rattle.def_layout.specs.Plans.{Plan}
 use Rattle.def_remesh.specs.Keeping.{IsNetFor}
 use Rattle.def_run.specs.declared.check_fail.CheckFail.{CheckFail}
 use Rattle.def_run.specs.declared.check_fail.CheckFail.TheVariants.{NotAccepted, NotManifold, Tangled, Memory}
+use Rattle.qm_certtext.specs.declared.last.HeadAt.{HeadAt}
 use Rattle.qm_check.specs.declared.old.Old.{Old}
 use Rattle.qm_check.specs.declared.ready.Ready.{Ready}
 use Rattle.def_remesh.specs.Tasks.{old_lengths}
+
+-- The last head line of these bytes stands there, and divides them.
+pub record DividesAt (bytes : Bytes) (head : HeadAt) : Type 0 where
+  pub last : IsLastHead (lines_of bytes) head.line
+  pub within : head.at ≤ length bytes
+  pub old : lines_of (take head.at bytes) ≡ take head.line (lines_of bytes)
+  pub written : drop head.at bytes ≡ tail_of head.line bytes
 
 -- The old text has this soup, whose faces are a manifold with this mesh.
 pub record IsOld (bytes : Bytes) (line : ℕ) (old : Old) : Type 0 where

@@ -6,6 +6,7 @@ mod comparing;
 mod lengths;
 mod old;
 mod pair;
+mod parts;
 mod ready;
 
 pub use def_run::{CheckFail, Why};

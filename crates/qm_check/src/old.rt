@@ -1,23 +1,23 @@
 //! The old text, in front of the head line.
 
-ghost use Rattle.std.specs.Prelude.{◌≡◌, ◌≤◌, false, true, length, IfErr, IfOk, OnOk};
+ghost use Rattle.std.specs.Prelude.{◌≡◌, ◌≢◌, ◌≤◌, false, true, length, Ok, Err, IfErr, IfOk, OnOk};
 ghost use Rattle.std.specs.List.{list_all};
-ghost use Rattle.def_certtext.specs.HeadLine.{IsLastHead};
-ghost use Rattle.def_io.specs.Lines.{lines_of};
 ghost use Rattle.def_mesh.specs.Manifold.{IsManifold};
 ghost use Rattle.def_remesh.specs.TextLaws.{IsSolid};
 ghost use Rattle.def_text.specs.Decimal.{is_far};
 ghost use Rattle.def_text.specs.Laws.{is_position};
-ghost use Rattle.qm_check.specs.Ready.{IsNoOld, IsOld};
+ghost use Rattle.def_text.specs.Text.{soup_in};
+ghost use Rattle.qm_check.specs.Ready.{DividesAt, IsNoOld, IsOld};
 ghost use Rattle.def_run.specs.CheckFails.{IsCheckFail};
 ghost use Rattle.qm_check.specs.Refused.{of_obj};
 
+use crate::parts::old_text;
 use def_run::CheckFail;
-use def_text::{MAX_F_LINES, MAX_V_LINES, Micro, ObjFail, Soup};
+use def_text::{MAX_BYTES, MAX_F_LINES, MAX_V_LINES, Micro, ObjFail, Soup};
+use qm_certtext::HeadAt;
 use qm_cut::are_quads;
-use qm_io::Lines;
 use qm_mesh::{Mesh, MeshFail, build};
-use qm_obj::read_obj;
+use qm_obj::ObjFeed;
 use std::alloc::Global;
 
 /// The soup of the old text, and the mesh of its faces.
@@ -27,16 +27,29 @@ pub(crate) struct Old {
     pub(crate) mesh: Mesh,
 }
 
-/// The soup and the mesh of the lines before this one.
-pub(crate) fn read_old(alloc: Global, lines: &Lines, line: u32) -> Result<Old, CheckFail>
-    requires { IsLastHead (lines_of lines.now) line }
-    ensures old { IfOk result (IsOld lines.now line) }
-    ensures refused { IfErr result (IsCheckFail lines.now) }
+/// The soup and the mesh of the bytes before the head line.
+pub(crate) fn read_old(alloc: Global, bytes: &[u8], head: HeadAt) -> Result<Old, CheckFail>
+    requires few { length bytes.now ≤ MAX_BYTES }
+    requires head { DividesAt bytes.now head }
+    ensures old { IfOk result (IsOld bytes.now head.line) }
+    ensures refused { IfErr result (IsCheckFail bytes.now) }
 {
-    match read_obj(alloc, lines, 0, line) {
+    match read_text(alloc, old_text(bytes, head)) {
         Ok(soup) => with_mesh(alloc, soup),
         Err(fail) => Err(refusal_of(fail)),
     }
+}
+
+/// The soup of a text.
+fn read_text(alloc: Global, text: &[u8]) -> Result<Soup, ObjFail>
+    requires { length text.now ≤ MAX_BYTES }
+    ensures soup { IfOk result (λ soup. soup_in text.now ≡ Ok soup) }
+    ensures few { IfOk result (λ soup. (length soup.pos ≤ MAX_V_LINES) × (length soup.faces ≤ MAX_F_LINES)) }
+    ensures refused { IfErr result (λ fail. fail ≢ ObjFail.Memory → soup_in text.now ≡ Err fail) }
+{
+    let mut feed = ObjFeed::new(alloc);
+    feed.feed(text)?;
+    feed.finish()
 }
 
 /// The refusal of an old text that has no soup.

@@ -1,3 +1,4 @@
+pub mod Cuts
 pub mod Moved
 mod Pieces
 mod WordLists

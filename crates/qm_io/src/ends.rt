@@ -2,11 +2,12 @@
 
 ghost use Rattle.std.specs.Prelude.{◌≡◌, ◌≤◌, ◌<◌, ◌-◌, ◌^◌, ◌==◌};
 ghost use Rattle.std.specs.Prelude.{◌∷◌, [], false, length, take, drop, slice_index};
-ghost use Rattle.std.specs.Prelude.{IfOk, IfSome, IfNone};
+ghost use Rattle.std.specs.Prelude.{IfOk, IfSome, IfNone, MatchOption};
 ghost use Rattle.std.specs.List.{list_any};
-ghost use Rattle.def_io.specs.Lines.{pieces};
+ghost use Rattle.def_io.specs.Lines.{lines_of, pieces, tail_of};
 ghost use Rattle.qm_io.specs.Ends.{ends_from};
 
+use crate::lines::line_of;
 use def_io::LINE_FEED;
 use memchr::memchr;
 use std::alloc::{AllocError, Global};
@@ -37,6 +38,19 @@ fn end_of_piece(bytes: &[u8], start: usize) -> usize
         Some(ahead) => start + ahead + 1,
         None => bytes.len(),
     }
+}
+
+/// The first line of a text without its end, and what stands behind it. Linear in the line.
+pub fn cut_line(bytes: &[u8]) -> Option<(&[u8], &[u8])>
+    ensures line { MatchOption result (bytes.now ≡ []) (λ cut. lines_of bytes.now ≡ cut.0.now ∷ lines_of cut.1.now) }
+    ensures rest { IfSome result (λ cut. cut.1.now ≡ tail_of 1 bytes.now) }
+    ensures shorter { IfSome result (λ cut. length cut.1.now < length bytes.now) }
+{
+    if bytes.is_empty() {
+        return None;
+    }
+    let (piece, rest) = bytes.split_at(end_of_piece(bytes, 0));
+    Some((line_of(piece), rest))
 }
 
 /// The position after each piece of the text.

@@ -31,7 +31,8 @@ pub fn read_lines<S: Source>(alloc: Global, src: &mut S, limit: u32) -> Result<L
     Ok(Lines { bytes, ends })
 }
 
-fn read_bytes<S: Source>(alloc: Global, src: &mut S, limit: u32) -> Result<Vec<u8>, ReadFail>
+/// Reads a source to its end, at most `limit` bytes. Linear in the bytes.
+pub fn read_bytes<S: Source>(alloc: Global, src: &mut S, limit: u32) -> Result<Vec<u8>, ReadFail>
     requires { limit ≤ 2 ^ 29 }
     ensures bytes { IfOk result (λ text. (S.state src.old).told ≡ gave text.items (S.state src.new).told) }
     ensures whole { OnOk result (IsEmptied (S.state src.new).told) }

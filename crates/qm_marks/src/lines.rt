@@ -87,35 +87,12 @@ fn take_logical(
 {
     let line = given.lines.line(i);
     if may_go_on(line) {
-        return take_joined(alloc, reader, given, i, after);
+        let joined = logical(alloc, given.lines, i, after)?;
+        reader.take(given.soup, given.mesh, i + 1, &joined.bytes)?;
+        return Ok(joined.next);
     }
     reader.take(given.soup, given.mesh, i + 1, before_comment(line))?;
     Ok(i + 1)
-}
-
-/// Takes a logical line of several physical ones.
-fn take_joined(
-    alloc: Global,
-    reader: &mut MarkReader,
-    given: &Given,
-    i: u32,
-    after: u32,
-) -> Result<u32, MarkFail>
-    requires begins { i < after }
-    requires within { after ≤ length (lines_of given.now.lines.now) }
-    requires reads { IsReading given.now.soup.now given.now.mesh.now reader.old }
-    requires room { reader.old.before
-        + vertex_lines_in (first_logical (i + 1) (slice_range (lines_of given.now.lines.now) i after)) ≤ reader.old.all }
-    ensures next { IfOk result (λ next. next ≡ i + span (slice_range (lines_of given.now.lines.now) i after)) }
-    ensures took { OnOk result (TookLine given.now.soup.now reader.old reader.new
-        (first_logical (i + 1) (slice_range (lines_of given.now.lines.now) i after))) }
-    ensures refused { IfErr result (λ fail. fail ≢ MarkFail.Memory → line_fails given.now.soup.now
-        (placed_at reader.old.all reader.old.before
-        (first_logical (i + 1) (slice_range (lines_of given.now.lines.now) i after))) ≡ fail ∷ []) }
-{
-    let joined = logical(alloc, given.lines, i, after)?;
-    reader.take(given.soup, given.mesh, i + 1, &joined.bytes)?;
-    Ok(joined.next)
 }
 
 /// How many `v` lines there are from `first` up to but not including `after`.

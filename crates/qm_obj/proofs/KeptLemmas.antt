@@ -22,7 +22,8 @@ use Rattle.def_text.specs.declared.refusal.ObjFail.TheVariants.{Memory, Range}
 use Rattle.qm_obj.specs.Indices.{clamped, with_clamped}
 use Rattle.qm_obj.specs.Kept.{IsLate, first_late}
 use Rattle.qm_obj.specs.Lines.{Took, line_in, next_said}
-use Rattle.qm_obj.proofs.ReadLemmas.{any_clamped, face_clamped, late_none, late_some, line_clamped, parts_none, position_clamped, positive_clamped, refusal_clamped, refused_clamped, unclamped_face}
+use Rattle.qm_obj.proofs.ListLemmas.{parts_none}
+use Rattle.qm_obj.proofs.ReadLemmas.{any_clamped, face_clamped, late_none, late_some, line_clamped, position_clamped, positive_clamped, refusal_clamped, refused_clamped, unclamped_face}
 use Rattle.qm_obj.proofs.SoupLemmas.{few_pos, same_faces}
 use Rattle.qm_obj.proofs.SuitLemmas.{Suits, reading_suits}
 

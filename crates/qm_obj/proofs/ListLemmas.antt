@@ -1,5 +1,5 @@
 -- Lists that a loop changes position by position.
-use Rattle.std.proofs.Common.{◌≡◌, ℕ, ◌+◌, ◌-◌, ◌<◌, ◌≤◌, Bool, true, List, length, take, drop, set, map, get_or, sym, ap, ◌∙◌, arith}
+use Rattle.std.proofs.Common.{◌≡◌, ℕ, ◌+◌, ◌-◌, ◌<◌, ◌≤◌, Bool, true, List, [], ◌∷◌, ◌++◌, length, take, drop, set, map, get_or, refl, sym, ap, ◌∙◌, arith}
 use Rattle.std.specs.Prelude.{slice_range}
 use Rattle.std.specs.List.{list_all}
 use Rattle.std.proofs.lemmas.List.{drop-drop, drop-set-lt, drop-take, get_or-drop, length-drop, length-take, map_more, take_more_set}
@@ -36,3 +36,8 @@ range_drop xs a k b le =
 -- How long a part of a list is.
 pub length-range : {X : Type 0} (xs : List X) (a b : ℕ) → a ≤ b → b ≤ length xs → length (slice_range xs a b) ≡ b - a
 length-range xs a b le within = omega (arith, length-take (b - a) (drop a xs), length-drop a xs)
+
+-- The parts of nothing are nothing.
+pub parts_none : {X : Type 0} (xs ys : List X) → xs ++ ys ≡ [] → (xs ≡ []) × (ys ≡ [])
+parts_none [] ys none = (refl, none)
+parts_none (x ∷ xs) ys none = cc none

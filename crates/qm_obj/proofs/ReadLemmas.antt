@@ -23,7 +23,7 @@ use Rattle.qm_obj.specs.Kept.{first_late, IsLate}
 use Rattle.qm_obj.specs.Lines.{HasRead, HasReadTo, Took, first_logical, line_in, next_said}
 use Rattle.qm_obj.proofs.Groups.{logical_step}
 use Rattle.qm_obj.proofs.JoinLemmas.{range_cons, range_none, span_few, span_some}
-use Rattle.qm_obj.proofs.ListLemmas.{length-range, range_drop}
+use Rattle.qm_obj.proofs.ListLemmas.{length-range, parts_none, range_drop}
 use Rattle.qm_obj.proofs.SoupLemmas.{few_pos, same_faces}
 use Rattle.qm_obj.proofs.SuitLemmas.{Suits, reading_suits}
 use Rattle.def_text.specs.Types.{Positions}
@@ -43,10 +43,6 @@ record IsCountedIn (before lines : List Logical) (said : List Reading) : Type 0 
   faces_are : count_by is_face_line before + length (faces said) ≡ count_by is_face_line (before ++ lines)
   few_vertices : count_by is_vertex_line before ≤ 2 ^ 21 → count_by is_vertex_line (before ++ lines) ≤ 2 ^ 21
   few_faces : count_by is_face_line before ≤ 2 ^ 20 → count_by is_face_line (before ++ lines) ≤ 2 ^ 20
-
-pub parts_none : {X : Type 0} (xs ys : List X) → xs ++ ys ≡ [] → (xs ≡ []) × (ys ≡ [])
-parts_none [] ys none = (refl, none)
-parts_none (x ∷ xs) ys none = cc none
 
 counted_in : (before lines : List Logical) → flat_map refusal_in (readings before lines) ≡ [] → IsCountedIn before lines (readings before lines)
 counted_in before [] none =

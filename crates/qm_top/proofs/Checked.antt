@@ -1,6 +1,6 @@
 -- What `check` keeps: the line that accepts a pair is written, or a refusal has its cause.
 use Rattle.std.specs.Prelude.{IfErr, OnOk}
-use Rattle.std.proofs.Common.{◌≡◌, ◌≢◌, Result, Ok, Err, refl, take}
+use Rattle.std.proofs.Common.{◌≡◌, ◌≢◌, Result, Ok, Err, refl, subst, take}
 use Rattle.def_io.specs.Bytes.{Bytes}
 use Rattle.def_io.specs.Lines.{lines_of}
 use Rattle.def_io.specs.Moves.{Change, Stream}
@@ -84,6 +84,14 @@ module _ {O : Type 0} (input : Change) (out : Stream O) (bytes : Bytes) (whole :
   }
   check_runs (Err r) wrote none =
       record { done = tt; refused = unaccepted_ends r none; untouched = same_sink r none }
+
+-- The same of bytes that are those which were read.
+pub bytes_run : {O : Type 0} (input : Change) (out : Stream O) (bytes given : Bytes) → given ≡ bytes → ReadWhole MAX_BYTES input.told input.told_now bytes
+    → input.faults_now ≡ input.faults → (result : Result (Unit {0}) Refusal) → OnOk result (WroteText (WritesAccepted given) out.change)
+    → IfErr result (IsUnaccepted given out) → HasRun Check input out result
+bytes_run input out bytes given same whole calm result wrote none =
+    check_runs input out bytes whole calm result (subst (λ (bs : Bytes). OnOk result (WroteText (WritesAccepted bs) out.change)) same wrote)
+    (subst (λ (bs : Bytes). IfErr result (IsUnaccepted bs out)) same none)
 
 -- Bytes that are no pair are not accepted, and the sink is as it was.
 pub unaccepted : {O : Type 0} (bytes : Bytes) (out : Stream O) (r : Refusal) → IsNoPairFor bytes r → out.now ≡ out.before → IsUnaccepted bytes out r

@@ -16,7 +16,7 @@ use def_remesh::LayoutFail;
 use def_run::Command;
 use def_text::{MAX_BYTES, SoupFail};
 use qm_check::{Accepted, CheckFail, check_pair};
-use qm_io::{Lines, Sink, Source, read_lines, write_all};
+use qm_io::{Sink, Source, read_bytes, write_all};
 use qm_print::{Line, numbered_line, push_integer, push_numbered};
 use std::alloc::Global;
 
@@ -30,19 +30,19 @@ pub(crate) fn check<S: Source, O: Sink>(
         (change (S.state input.old) (S.state input.new))
         (stream O.state out.old out.new) result }
 {
-    let lines = read_lines(alloc, input, MAX_BYTES)?;
-    check_lines(alloc, &lines, out)
+    let bytes = read_bytes(alloc, input, MAX_BYTES)?;
+    check_bytes(alloc, &bytes, out)
 }
 
-/// Checks the lines, and writes the line that accepts them.
-fn check_lines<O: Sink>(alloc: Global, lines: &Lines, out: &mut O) -> Result<(), Refusal>
-    requires { length lines.now ≤ MAX_BYTES }
-    ensures done { OnOk result (WroteText (WritesAccepted lines.now)
+/// Checks the bytes, and writes the line that accepts them.
+fn check_bytes<O: Sink>(alloc: Global, bytes: &[u8], out: &mut O) -> Result<(), Refusal>
+    requires { length bytes.now ≤ MAX_BYTES }
+    ensures done { OnOk result (WroteText (WritesAccepted bytes.now)
         (change (O.state out.old) (O.state out.new))) }
-    ensures refused { IfErr result (IsUnaccepted lines.now
+    ensures refused { IfErr result (IsUnaccepted bytes.now
         (stream O.state out.old out.new)) }
 {
-    match check_pair(alloc, lines) {
+    match check_pair(alloc, bytes) {
         Ok(accepted) => {
             write_all(out, accepted_line(accepted).as_str().as_bytes())?;
             Ok(())

@@ -22,6 +22,7 @@ use Rattle.def_text.specs.declared.reading.Reading.TheVariants.{Face as Said, Pa
 use Rattle.def_text.specs.declared.refusal.ObjFail.{ObjFail}
 use Rattle.def_text.specs.declared.refusal.ObjFail.TheVariants.{Limit, NotQuad, Range, Syntax}
 use Rattle.def_text.specs.declared.refusal.Which.TheVariants as limits
+use Rattle.qm_obj.proofs.ListLemmas.{parts_none}
 use Rattle.remesh_laws.specs.Asides.{IsPassedOver}
 
 -- ---- One line under two numbers.
@@ -124,10 +125,6 @@ record AreAlike (said other : List Reading) : Type 0 where
   faces : flat_map face_in other ≡ flat_map face_in said
   refusals : flat_map refusal_in said ≡ [] → flat_map refusal_in other ≡ []
   late : (vertices : ℕ) → flat_map (late_in vertices) said ≡ [] → flat_map (late_in vertices) other ≡ []
-
-parts_none : {X : Type 0} (xs ys : List X) → xs ++ ys ≡ [] → (xs ≡ []) × (ys ≡ [])
-parts_none [] ys none = (refl, none)
-parts_none (x ∷ xs) ys none = cc none
 
 both_none : {X : Type 0} (f : Reading → List X) (said other : Reading) (rest others : List Reading) → (f said ≡ [] → f other ≡ [])
     → (flat_map f rest ≡ [] → flat_map f others ≡ []) → flat_map f (said ∷ rest) ≡ [] → flat_map f (other ∷ others) ≡ []

@@ -1,7 +1,15 @@
-use Rattle.std.proofs.Common.{◌+◌, ◌-◌, drop, take}
-use Rattle.def_io.specs.Lines.{lines_of}
+use Rattle.std.proofs.Common.{◌≡◌, ◌≤◌, ◌-◌, length, take}
+use Rattle.def_io.specs.Lines.{lines_of, tail_of}
 use Rattle.qm_certtext.specs.Parts.{ReadSome}
 use Rattle.qm_certtext.proofs.written.read_behind.Given as goal
 
-abbrev pub invariant-loop-i : goal.invariant-loop-i
-invariant-loop-i l = ReadSome l.auto' (take (l.i - (l.first + 1)) (drop (l.first + 1) (lines_of l.lines))) l.found
+abbrev pub invariant-lines : goal.invariant-lines
+invariant-lines l = record {
+  order : l.from ≤ l.i;
+  rest : l.rest ≡ tail_of (l.i - l.from) l.text;
+  low : l.i - l.from ≤ length (lines_of l.text);
+  read : ReadSome l.auto' (take (l.i - l.from) (lines_of l.text)) l.found;
+}
+
+abbrev pub decreases-lines : goal.decreases-lines
+decreases-lines l = length l.rest

@@ -1,7 +1,17 @@
-use Rattle.std.proofs.Common.{List, ℕ, subst, sym}
-use Rattle.def_certtext.specs.Reading.{IsHead}
+use Rattle.std.proofs.Common.{arith}
+use Rattle.std.proofs.lemmas.Result.{IfErr-weaker, IfOk-weaker}
+use Rattle.def_certtext.specs.Reading.{made_of}
+use Rattle.qm_certtext.proofs.Tails.{few_lines, tail_fails, tail_tells}
 use Rattle.qm_certtext.proofs.written.read_written.Goals as goal
 
-pub returns-in_default-clause-fails : goal.returns-in_default-clause-fails
-returns-in_default-clause-fails c settings auto head =
-    c.in_default.ensures settings auto (subst (λ (line : List ℕ). IsHead line settings auto) (sym c.line.ensures) head)
+pub read_tail-requires : goal.read_tail-requires
+read_tail-requires c =
+    few_lines c.args.lines.now c.tail.result.now c.args.first c.tail.ensures c.requires (omega (arith, c.count-count.ensures, c.count-count.type_inv))
+
+pub returns-clause-reads : goal.returns-clause-reads
+returns-clause-reads c =
+    IfOk-weaker c.read_tail.result _ _ (λ written tells. tail_tells c.args.lines.now c.tail.result.now c.args.first c.tail.ensures (made_of written) tells) c.read_tail.ensures.reads
+
+pub returns-clause-fails : goal.returns-clause-fails
+returns-clause-fails c =
+    IfErr-weaker c.read_tail.result _ _ (λ fail why. tail_fails c.args.lines.now c.tail.result.now c.args.first c.tail.ensures fail why) c.read_tail.ensures.fails

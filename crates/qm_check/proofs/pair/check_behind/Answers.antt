@@ -9,12 +9,12 @@ use Rattle.qm_check.proofs.pair.check_behind.Goals as goal
 
 pub returns-in_err-ready-in-Some-clause-refused : goal.returns-in_err-ready-in-Some-clause-refused
 returns-in_err-ready-in-Some-clause-refused c =
-    handed (IsCheckFail c.args.lines.now) c.from_residual.result c.in_err-ready-in-Some.field-0.0 c.from_residual.ensures.1
-    (no_network c.args.lines.now c.args.line c.args.old c.in-Some.asked c.in_err-ready-in-Some.field-0.0 c.requires.old
-    (subst (λ (line : Bytes). IsHead line c.in-Some.asked.settings c.in-Some.asked.auto) c.line.ensures c.in-Some.ensures)
+    handed (IsCheckFail c.args.bytes.now) c.from_residual.result c.in_err-ready-in-Some.field-0.0 c.from_residual.ensures.1
+    (no_network c.args.bytes.now c.args.head.line c.args.old c.in-Some.asked c.in_err-ready-in-Some.field-0.0 c.requires.old
+    (subst (λ (line : Bytes). IsHead line c.in-Some.asked.settings c.in-Some.asked.auto) c.head_line.ensures c.in-Some.ensures)
     c.in_err-ready-in-Some.ensures.unfit)
 
 pub returns-in-None-clause-refused : goal.returns-in-None-clause-refused
 returns-in-None-clause-refused c =
-    no_head c.args.lines.now c.args.line c.args.old c.requires.old
-    (subst (λ (line : Bytes). (settings : Settings) (auto : Bool) → ¬ IsHead line settings auto) c.line.ensures c.in-None.ensures)
+    no_head c.args.bytes.now c.args.head.line c.args.old c.requires.old
+    (subst (λ (line : Bytes). (settings : Settings) (auto : Bool) → ¬ IsHead line settings auto) c.head_line.ensures c.in-None.ensures)

@@ -1,4 +1,4 @@
-use Rattle.std.proofs.Common.{◌≡◌, ◌-◌, length, drop, take, ℕ}
+use Rattle.std.proofs.Common.{◌≡◌, ◌-◌, length, drop, take}
 use Rattle.def_io.specs.Moves.{took}
 use Rattle.qm_io.proofs.writing.write_all.Given as goal
 

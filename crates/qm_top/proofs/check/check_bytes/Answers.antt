@@ -2,7 +2,7 @@ use Rattle.std.proofs.Common.{rules, refl}
 use Rattle.def_io.specs.Moves.{stream}
 use Rattle.error_laws.proofs.Errors.{handed}
 use Rattle.qm_top.proofs.Checked.{unaccepted}
-use Rattle.qm_top.proofs.check.check_lines.Goals as goal
+use Rattle.qm_top.proofs.check.check_bytes.Goals as goal
 
 pub returns-in_err-write_all-in-Ok-clause-refused : goal.returns-in_err-write_all-in-Ok-clause-refused
 returns-in_err-write_all-in-Ok-clause-refused g c = handed _ _ _ c.from_residual.ensures.1 (record {
@@ -14,5 +14,5 @@ returns-in_err-write_all-in-Ok-clause-refused g c = handed _ _ _ c.from_residual
 
 pub returns-in-Err-clause-refused : goal.returns-in-Err-clause-refused
 returns-in-Err-clause-refused g c =
-    unaccepted c.args.lines.now (stream g.O.Sink.state c.args.out.now c.args.out.now) c.refusal_of.result
-    (c.refusal_of.ensures c.args.lines.now c.in-Err.ensures.refused) refl
+    unaccepted c.args.bytes.now (stream g.O.Sink.state c.args.out.now c.args.out.now) c.refusal_of.result
+    (c.refusal_of.ensures c.args.bytes.now c.in-Err.ensures.refused) refl

@@ -1,0 +1,35 @@
+-- What the bytes from the head line on tell.
+use Rattle.std.proofs.Common.{◌≡◌, ◌+◌, ◌<◌, ◌^◌, ℕ, [], length, drop, get_or, slice_index_or, ◌∙◌, ap, subst, arith, length-drop}
+use Rattle.std.proofs.lemmas.List.{drop-drop, get_or-drop}
+use Rattle.def_certtext.specs.Reading.{IsCertFail, Made, TellHow}
+use Rattle.def_certtext.specs.declared.CertFail.{CertFail}
+use Rattle.def_io.specs.Bytes.{Bytes, Lines}
+use Rattle.def_io.specs.Lines.{lines_of, tail_of}
+use Rattle.qm_io.proofs.Cuts.{last_lines}
+
+module _ (bytes tail : Bytes) (line : ℕ) (is : tail ≡ tail_of line bytes) where
+  lines_are : lines_of tail ≡ drop line (lines_of bytes)
+  lines_are = ap lines_of is ∙ last_lines bytes line
+
+  head_is : slice_index_or (lines_of tail) 0 [] ≡ slice_index_or (lines_of bytes) line []
+  head_is =
+      let same : line + 0 ≡ line = omega arith in
+      ap (λ (ls : Lines). get_or ls 0 []) lines_are ∙ (get_or-drop line (lines_of bytes) 0 [] ∙ ap (λ (k : ℕ). get_or (lines_of bytes) k []) same)
+
+  behind_is : drop 1 (lines_of tail) ≡ drop (line + 1) (lines_of bytes)
+  behind_is = ap (λ (ls : Lines). drop 1 ls) lines_are ∙ drop-drop 1 line (lines_of bytes)
+
+  pub few_lines : line < length (lines_of bytes) → length (lines_of bytes) < 2 ^ 32 → line + length (lines_of tail) < 2 ^ 32
+  few_lines there few = omega (arith, there, few, ap length lines_are, length-drop line (lines_of bytes))
+
+  pub tail_tells : (made : Made) → TellHow (slice_index_or (lines_of tail) 0 []) (drop 1 (lines_of tail)) made
+      → TellHow (slice_index_or (lines_of bytes) line []) (drop (line + 1) (lines_of bytes)) made
+  tail_tells made tells =
+      subst (λ (head : Bytes). TellHow head (drop (line + 1) (lines_of bytes)) made) head_is
+      (subst (λ (behind : Lines). TellHow (slice_index_or (lines_of tail) 0 []) behind made) behind_is tells)
+
+  pub tail_fails : (fail : CertFail) → IsCertFail (slice_index_or (lines_of tail) 0 []) (line + 2) (drop 1 (lines_of tail)) fail
+      → IsCertFail (slice_index_or (lines_of bytes) line []) (line + 2) (drop (line + 1) (lines_of bytes)) fail
+  tail_fails fail why =
+      subst (λ (head : Bytes). IsCertFail head (line + 2) (drop (line + 1) (lines_of bytes)) fail) head_is
+      (subst (λ (behind : Lines). IsCertFail (slice_index_or (lines_of tail) 0 []) (line + 2) behind fail) behind_is why)
