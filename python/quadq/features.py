@@ -27,8 +27,8 @@ def find_features(
     """The feature edges of a mesh, each as a pair of points in rising order, with the reason.
 
     They are the edges whose faces meet at more than an angle in degrees, those of the kinds that are named, of `KINDS`,
-    and edges that keep corners of the boundary and of such lines. Linear in the faces, but slow: some ten seconds for a
-    million.
+    and edges that keep corners of the boundary and of such lines. Linear in the faces, but slow: some four seconds for
+    100,000.
     """
     features = carried("mark_features").Features(_for_tool(mesh, kinds))
     if angle is not None:

@@ -98,11 +98,7 @@ pub(crate) fn next_of(
 }
 
 /// Takes the nearest of the vertices that are farther than the search has come, unless a free one is as near.
-fn next_beyond(
-    exits: &Exits,
-    sides: &Sides,
-    search: &mut Search,
-) -> Result<Option<u32>, Memory>
+fn next_beyond(exits: &Exits, sides: &Sides, search: &mut Search) -> Result<Option<u32>, Memory>
     requires sides { AreSides exits.now.vertices sides.now }
     requires search { IsSearch exits.now.vertices search.old }
     ensures search { OnOk result (IsSearch exits.now.vertices search.new) }
