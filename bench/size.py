@@ -1,13 +1,14 @@
 #!/usr/bin/env python3
 """Measures what edges of a given length cost: the descent from targets in thousandths of an edge that are in no balance.
 
-usage: bench/size.py [FILE.net..]      networks, with their old lengths by chance up to a half longer or shorter
+usage: bench/size.py [FILE.net..]      networks with targets that are by chance up to a half longer or shorter than their
+                                       old lengths, then 16 times as great, then as great as they may be
        bench/size.py --meshes          `quadq size` on generated meshes whose vertices are moved, beside `remesh` at 1/1
 
 Seconds of the processor, user and system. A network is a text as bench/solve.py has it; without files it is those of
-generated meshes. The columns of a network: the seconds and megabytes of the whole program, its microseconds for each
-arc, and the percentages of the clock's time that went into the start and into the rounds. Those of a mesh: the faces of
-the new one, and seconds and megabytes of both commands.
+generated meshes. The columns of a network: how many new edges an old one is to have; the seconds and megabytes of the
+whole program, its microseconds for each arc, and the percentages of the clock's time that went into the start and into
+the rounds. Those of a mesh: the faces of the new one, and seconds and megabytes of both commands.
 """
 import os
 import random
@@ -21,17 +22,28 @@ from measuring import ROOT, taken
 HERE = os.path.dirname(os.path.realpath(__file__))
 MESHES = [["cube", "100"], ["holes", "1024", "1024"], ["voxels", "40"], ["voxels", "100"], ["voxels", "208"]]
 PARTS = 1000
+# So many new edges for an old one make about as many faces of a part as a new mesh may have.
+FINE = 16
+# What the targets of all arcs may add up to, and the most new edges that an old one is to have here.
+MAX_TARGETS = 4_000_000_000
+MOST = 1000
 # As a part of the mean edge, so that nearly each length changes.
 EDGE = 0.7
 ROUNDS = 3
 
 
-def sized(net):
-    """The network with targets for its old lengths, in thousandths of an edge, by chance up to a half more or less."""
+def sized(net, times):
+    """The network with targets in thousandths of an edge: so many times the old lengths, by chance up to a half more or
+    less."""
     nodes, floor, _, _, arcs = net
     chance = random.Random(1)
-    moved = [(max(1, int(old * PARTS * chance.uniform(0.5, 1.5))), 1, ends) for old, _, ends in arcs]
-    return nodes, floor, 1, PARTS, moved
+    wished = [(max(1, int(old * times * PARTS * chance.uniform(0.5, 1.5))), 1, ends) for old, _, ends in arcs]
+    return nodes, floor, 1, PARTS, wished
+
+
+def most_times(net):
+    """How many times the old lengths may be such targets, with some room for chance."""
+    return max(1, min(MOST, int(0.9 * MAX_TARGETS / PARTS / sum(old for old, *_ in net[4]))))
 
 
 def networks(names, room):
@@ -46,14 +58,16 @@ def networks(names, room):
 
 def show_networks(names, room):
     solve.build_bench()
-    print(f"{'network':<40}{'arcs':>8}{'least':>14}{'rounds':>7}{'left':>6}{'s':>8}{'MB':>6}{'us/arc':>8}{'start %':>8}{'rest %':>8}")
+    print(f"{'network':<40}{'arcs':>8}{'times':>6}{'least':>14}{'rounds':>7}{'left':>6}{'s':>8}{'MB':>6}{'us/arc':>8}{'start %':>8}{'rest %':>8}")
     for name, net in networks(names, room):
         arcs = len(net[4])
-        told, seconds, megabytes = solve.measured(sized(net), room)
-        parts = [told[f"{part} seconds"] for part in ("reading", "start", "rounds")]
-        row = f"{name[-39:]:<40}{arcs:>8}{told['least']:>14.0f}{told['rounds']:>7.0f}{told['searches left']:>6.0f}"
-        row += f"{seconds:>8.3f}{megabytes:>6.0f}{seconds * 1e6 / arcs:>8.1f}"
-        print(row + "".join(f"{100 * part / sum(parts):>8.0f}" for part in parts[1:]), flush=True)
+        most = most_times(net)
+        for times in sorted({1, min(FINE, most), most}):
+            told, seconds, megabytes = solve.measured(sized(net, times), room)
+            parts = [told[f"{part} seconds"] for part in ("reading", "start", "rounds")]
+            row = f"{name[-39:]:<40}{arcs:>8}{times:>6}{told['least']:>14.0f}{told['rounds']:>7.0f}"
+            row += f"{told['searches left']:>6.0f}{seconds:>8.3f}{megabytes:>6.0f}{seconds * 1e6 / arcs:>8.1f}"
+            print(row + "".join(f"{100 * part / sum(parts):>8.0f}" for part in parts[1:]), flush=True)
 
 
 def moved(mesh):
@@ -97,4 +111,5 @@ def main():
             show_networks(sys.argv[1:], room)
 
 
-main()
+if __name__ == "__main__":
+    main()
