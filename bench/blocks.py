@@ -1,14 +1,14 @@
 #!/usr/bin/env python3
-"""Measures `quadq blocks` beside `quadq refine` with the same number: the points that it writes, wall time and peak memory
-of a run, their ratios, and the nanoseconds for each byte of output."""
+"""Measures `quadq blocks` beside `quadq refine` with the same number: the points that it writes, seconds of the
+processor and peak memory of a run, the least of five by turns, their ratios, and the nanoseconds for each byte of
+output."""
 import os
 import subprocess
 import tempfile
 
-from measuring import measured
+from measuring import program, taken
 
 HERE = os.path.dirname(os.path.realpath(__file__))
-ROOT = os.path.dirname(HERE)
 ROUNDS = 5
 # Each mesh as the words of the script that makes it, and the number.
 MESHES = [
@@ -26,15 +26,22 @@ def count_points(path):
         return sum(line[:1] in b"-0123456789" for line in lines)
 
 
-def least(command, by, text, room):
-    """The least seconds and megabytes of some runs of a command, and how many bytes it wrote."""
-    words = [f"{ROOT}/build/quadq", command, "--by", str(by)]
-    runs = [measured(words, text, f"{room}/{command}") for _ in range(ROUNDS)]
-    return min(it[0] for it in runs), min(it[1] for it in runs), os.path.getsize(f"{room}/{command}")
+def least_of_both(by, text, room):
+    """The least seconds of the processor and megabytes of both commands, and how many bytes each wrote."""
+    runs = {"blocks": [], "refine": []}
+    for _ in range(ROUNDS):
+        for command, figures in runs.items():
+            _, seconds, megabytes, status = taken([program(), command, "--by", str(by)], text, f"{room}/{command}")
+            if status != 0:
+                raise SystemExit(f"{command} ended with {status}")
+            figures.append((seconds, megabytes))
+    return [
+        (min(it[0] for it in figures), min(it[1] for it in figures), os.path.getsize(f"{room}/{command}"))
+        for command, figures in runs.items()
+    ]
 
 
 def main():
-    subprocess.run([f"{ROOT}/tools/build.py"], check=True)
     with tempfile.TemporaryDirectory() as room:
         subprocess.run(["g++", "-O2", "-std=c++20", "-o", f"{room}/meshes", f"{HERE}/meshes.cpp"], check=True)
         head = f"{'mesh':<44}{'by':>4}{'blocks':>9}{'points':>10}{'blocks s':>10}{'MB':>6}{'refine s':>10}"
@@ -44,7 +51,7 @@ def main():
             with open(text, "wb") as out:
                 maker = f"{HERE}/{words[0]}" if words[0].endswith(".py") else f"{room}/{words[0]}"
                 subprocess.run([maker, *words[1:]], stdout=out, check=True)
-            (ours, ours_mb, ours_size), (peer, peer_mb, peer_size) = (least(it, by, text, room) for it in ("blocks", "refine"))
+            (ours, ours_mb, ours_size), (peer, peer_mb, peer_size) = least_of_both(by, text, room)
             with open(f"{room}/blocks", encoding="ascii") as told:
                 blocks = [next(told), next(told)][1].split()[1]
             row = f"{title:<44}{by:>4}{blocks:>9}{count_points(f'{room}/blocks'):>10}{ours:>10.3f}{ours_mb:>6.0f}"
