@@ -6,7 +6,7 @@ use Rattle.std.specs.declared.cmp.Reverse.{Reverse}
 use Rattle.qm_fraction.specs.declared.exits.Dart.{Dart}
 use Rattle.qm_fraction.specs.declared.exits.Exit.{Exit}
 use Rattle.qm_fraction.specs.declared.exits.Exits.{Exits}
-use Rattle.qm_fraction.specs.declared.sides.Sides.{Sides}
+use Rattle.qm_fraction.specs.declared.ends.Step.{Step}
 use Rattle.qm_fraction.specs.declared.search.Search.{Search}
 
 -- A dart leads between vertices.
@@ -29,10 +29,9 @@ pub record IsExits (exits : Exits) : Type 0 where
   pub counted : length exits.firsts.items ≡ exits.vertices + 1
   pub firsts : All (λ first. first ≤ exit_count exits) exits.firsts.items
 
--- There is room for each vertex on both sides.
-pub record AreSides (n : ℕ) (sides : Sides) : Type 0 where
-  pub lefts : length sides.lefts.items ≡ n
-  pub rights : length sides.rights.items ≡ n
+-- A step leads between vertices.
+abbrev pub IsStepWithin : (n : ℕ) (step : Step) → Type 0
+IsStepWithin n step = (step.inner < n) × (step.above < n)
 
 -- A key of a vertex.
 abbrev pub IsKey : (n : ℕ) (key : Reverse ℕ × ℕ) → Type 0
@@ -43,4 +42,3 @@ pub record IsSearch (n : ℕ) (search : Search) : Type 0 where
   pub reached : All (λ v. v < n) search.reached.items
   pub near : All (λ v. v < n) search.near.items
   pub beyond : All (IsKey n) (heap_items search.beyond)
-  pub target : search.target < n

@@ -1,45 +1,44 @@
-//! Cycles of assigned vertices: each second edge of one is taken, and an odd one leaves a vertex free.
+//! The edges of pairs, and each second edge of the odd cycles, which leaves a vertex of each free.
 
 ghost use Rattle.std.specs.Prelude.{◌≡◌, ◌<◌, length, OnOk};
 ghost use Rattle.def_matching.specs.Matching.{graph, IsSmallGraph};
-ghost use Rattle.qm_fraction.specs.Tables.{AreSides};
 
 use crate::Memory;
 use crate::exits::{Dart, dart_at};
-use crate::sides::Sides;
+use crate::vertices::Vertex;
 use def_matching::WGraph;
 use std::alloc::Global;
 
-/// Edges of which no two meet: each second one of all cycles.
-pub(crate) fn edges_of(alloc: Global, g: &WGraph, sides: &Sides) -> Result<Vec<u32>, Memory>
+/// Edges of which no two meet: those of the pairs, and each second one of the odd cycles.
+pub(crate) fn edges_of(alloc: Global, g: &WGraph, vertices: &[Vertex]) -> Result<Vec<u32>, Memory>
     requires graph { IsSmallGraph (graph g.now) }
-    requires sides { AreSides g.now.n sides.now }
+    requires vertices { length vertices.now ≡ g.now.n }
 {
     let mut taken = vec![in alloc; false; g.n as usize]?;
     let mut edges = Vec::new(alloc);
     for v in 0..g.n {
-        follow(g, sides, v, &mut taken, &mut edges)?;
+        follow(g, vertices, v, &mut taken, &mut edges)?;
     }
     Ok(edges)
 }
 
-/// Takes each second edge of a cycle, from a vertex on, as long as both ends are free.
+/// Takes the edge of a pair, or each second edge of a cycle from a vertex on, as long as both ends are free.
 fn follow(
     g: &WGraph,
-    sides: &Sides,
+    vertices: &[Vertex],
     first: u32,
     taken: &mut [bool],
     edges: &mut Vec<u32>,
 ) -> Result<(), Memory>
     requires graph { IsSmallGraph (graph g.now) }
-    requires sides { AreSides g.now.n sides.now }
+    requires vertices { length vertices.now ≡ g.now.n }
     requires first { first < g.now.n }
     requires taken { length taken.old ≡ g.now.n }
     ensures { OnOk result (length taken.new ≡ g.now.n) }
 {
     let mut at = first;
     for _ in 0..g.n {
-        let dart = sides.lefts[at as usize].mate;
+        let dart = vertices[at as usize].next;
         let Some(Dart { to, .. }) = dart_at(g, dart) else {
             return Ok(());
         };
@@ -49,7 +48,7 @@ fn follow(
         taken[at as usize] = true;
         taken[to as usize] = true;
         edges.push(dart / 2)?;
-        let Some(after) = dart_at(g, sides.lefts[to as usize].mate) else {
+        let Some(after) = dart_at(g, vertices[to as usize].next) else {
             return Ok(());
         };
         at = after.to;

@@ -18,12 +18,12 @@ pub(crate) struct Dart {
     pub(crate) cost: i64,
 }
 
-/// A dart that leaves a vertex: where it leads, its number, and what its edge costs.
+/// A dart that leaves a vertex: where it leads, its number, and twice what its edge costs.
 #[derive(Clone, Copy, Debug, PartialEq, Eq)]
 pub(crate) struct Exit {
     pub(crate) to: u32,
     pub(crate) dart: u32,
-    pub(crate) cost: i64,
+    pub(crate) twice: i64,
 }
 
 /// The exits of all vertices, in order; for each vertex the first of its own, and at the end how many there are.
@@ -67,6 +67,11 @@ pub(crate) fn dart_at(g: &WGraph, d: u32) -> Option<Dart>
     Some(Dart { from, to, cost })
 }
 
+/// The same edge in the other direction.
+pub(crate) fn twin(d: u32) -> u32 {
+    if d % 2 == 0 { d + 1 } else { d - 1 }
+}
+
 /// An edge.
 fn edge_at(g: &WGraph, e: u32) -> WEdge
     requires graph { IsSmallGraph (graph g.now) }
@@ -87,7 +92,7 @@ pub(crate) fn exits_of(alloc: Global, g: &WGraph) -> Result<Exits, Memory>
     let none = Exit {
         to: 0,
         dart: 0,
-        cost: 0,
+        twice: 0,
     };
     let mut all = vec![in alloc; none; 2 * g.edges.len()]?;
     let mut free = Vec::from_slice(alloc, &firsts)?;
@@ -140,6 +145,7 @@ fn put(g: &WGraph, all: &mut [Exit], free: &mut [u32], d: u32)
     let place = free[from as usize];
     if (place as usize) < all.len() {
         free[from as usize] = place + 1;
-        all[place as usize] = Exit { to, dart: d, cost };
+        let twice = cost.saturating_add(cost);
+        all[place as usize] = Exit { to, dart: d, twice };
     }
 }

@@ -6,14 +6,20 @@ ghost use Rattle.def_matching.specs.Matching.{graph, IsSmallGraph};
 use crate::Memory;
 use crate::cycles::edges_of;
 use crate::exits::exits_of;
-use crate::paths::assign_all;
+use crate::paths::match_all;
 use crate::search::no_search;
-use crate::sides::{is_whole, numbers_of, pair_tight, sides_of};
+use crate::vertices::{free_count, numbers_of, pair_tight, vertices_of};
 use def_matching::WGraph;
 use std::alloc::Global;
 
 /// How many exits the searches may look at: some seconds of work.
 const FUEL: u32 = 268_435_456;
+
+/// Where no more vertices are free, and no more than one of so many, a search from each of them costs less than to lead
+/// the numbers first.
+const FEW: usize = 256;
+
+const SHARE: usize = 64;
 
 /// A number for each vertex, and edges of which no two meet.
 #[derive(Debug, Drop)]
@@ -23,8 +29,8 @@ pub struct Fraction {
 }
 
 /// The numbers and the edges of a least fractional perfect matching, where each odd cycle leaves a vertex free; or
-/// nothing, where tight edges match all vertices already, those of a known matching first. It begins at a feasible
-/// dual, two numbers at an edge for twice its cost, and where the fuel ends early it gives what there is then.
+/// nothing, where tight edges match all vertices but a few, those of a known matching first. It begins at a
+/// feasible dual, two numbers at an edge for twice its cost, and where the fuel ends early it gives what there is then.
 ///
 /// Who begins with the numbers has to test them, and so has who matches the edges.
 pub fn least_fraction(
@@ -37,19 +43,19 @@ pub fn least_fraction(
     requires long { length y.now ≡ g.now.n }
     ensures { IfOk result (λ found. IfSome found (λ fraction. length fraction.numbers.items ≡ g.now.n)) }
 {
-    let mut sides = sides_of(alloc, y)?;
-    pair_tight(g, &mut sides, known);
-    if g.n == 0 || is_whole(&sides) {
+    let mut vertices = vertices_of(alloc, y)?;
+    pair_tight(g, &mut vertices, known);
+    if g.n == 0 || free_count(&vertices) <= FEW.min(g.n as usize / SHARE) {
         return Ok(None);
     }
     let exits = exits_of(alloc, g)?;
     let mut search = no_search(alloc, &exits);
     let mut fuel = FUEL;
-    assign_all(g, &exits, &mut sides, &mut search, &mut fuel)?;
+    match_all(g, &exits, &mut vertices, &mut search, &mut fuel)?;
     drop(search);
     drop(exits);
     Ok(Some(Fraction {
-        numbers: numbers_of(alloc, &sides)?,
-        edges: edges_of(alloc, g, &sides)?,
+        numbers: numbers_of(alloc, &vertices)?,
+        edges: edges_of(alloc, g, &vertices)?,
     }))
 }

@@ -1,6 +1,5 @@
-use Rattle.std.proofs.Common.{◌≡◌}
-use Rattle.qm_fraction.specs.Tables.{AreSides}
+use Rattle.std.proofs.Common.{◌≡◌, length}
 use Rattle.qm_fraction.proofs.search.clear.Given as goal
 
 abbrev pub invariant-loop-k : goal.invariant-loop-k
-invariant-loop-k l = AreSides l.exits.vertices l.sides
+invariant-loop-k l = length l.vertices ≡ l.exits.vertices

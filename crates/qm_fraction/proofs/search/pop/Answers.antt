@@ -8,7 +8,6 @@ returns-in-Some-clause-search c = let s = c.requires.search in let n = c.args.ex
   reached = s.reached;
   near = s.near;
   beyond = All-tail (IsKey n) _ _ (All-permutation (IsKey n) _ _ c.in-Some.ensures.permutation s.beyond);
-  target = s.target;
 }
 
 pub returns-in-Some-clause-vertex : goal.returns-in-Some-clause-vertex
