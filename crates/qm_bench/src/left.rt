@@ -15,7 +15,7 @@ use qm_solve::{Descent, first_wishes};
 use std::alloc::{AllocError, Global};
 
 /// How many searches the matching of the next round needs, once its first dual is led to that of a least fractional
-/// matching: each matches two vertices that no tight edge matched.
+/// matching, where it is: each matches two vertices that no tight edge matched.
 pub(crate) fn searches_left(alloc: Global, net: &Net, descent: &Descent) -> Result<u64, AllocError>
     requires bounds { IsWithinBounds (network net.now) }
     requires tangle { tangle_number (network net.now) ≤ MAX_TANGLE }
@@ -26,8 +26,12 @@ pub(crate) fn searches_left(alloc: Global, net: &Net, descent: &Descent) -> Resu
     let known = matching_of(alloc, net, &gadget, &descent.x)?;
     let wish = first_wishes(alloc, net, &gadget, &descent.prices)?;
     let y = initial_dual(alloc, &gadget.graph, &wish)?;
-    let Some(Fraction { numbers, edges }) = least_fraction(alloc, &gadget.graph, &y, &known)? else {
-        return Ok(0);
+    let Fraction { numbers, edges } = match least_fraction(alloc, &gadget.graph, &y, &known)? {
+        Some(fraction) => fraction,
+        None => Fraction {
+            numbers: y,
+            edges: Vec::new(alloc),
+        },
     };
     let mut matched = vec![in alloc; false; numbers.len()]?;
     for e in &edges {
