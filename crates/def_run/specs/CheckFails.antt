@@ -25,3 +25,4 @@ IsCheckFail bytes (check_fail.Old fail) = RefusesOldText bytes fail × (fail ≢
 IsCheckFail bytes (check_fail.NotManifold place soup) = HasOldFault bytes soup place × (¬ IsCheckedPair bytes)
 IsCheckFail bytes (check_fail.Tangled count) = IsTangledOld bytes count × (¬ IsCheckedPair bytes)
 IsCheckFail bytes check_fail.Memory = ⊤
+IsCheckFail bytes _ = ⊥

@@ -10,6 +10,10 @@ pub mod ErrorLines
 pub mod Exits
 pub mod Graph
 pub mod Heads
+pub mod Judging
+pub mod Map
+pub mod MapFails
+pub mod MarkLines
 pub mod Mesh
 pub mod Messages
 pub mod Options

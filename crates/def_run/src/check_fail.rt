@@ -1,18 +1,19 @@
-//! Why `check` accepts nothing.
+//! Why `check` accepts nothing, and `map` writes none.
 
 ghost use Rattle.std.specs.Prelude.{◌≡◌};
 ghost use Rattle.def_run.specs.declared.check_fail.CheckFail.TheVariants.{Memory as OutOfMemory};
 
 use crate::answer::Why;
+use def_marks::MarkFail;
 use def_mesh::Place;
 use def_text::{ObjFail, Soup};
 use std::alloc::AllocError;
 use thiserror::Error;
 
-/// Why a text is no pair: its old text is refused, or what stands behind it is not accepted.
+/// Why a text is no pair, or has no map: its old text is refused, or what stands behind it is not accepted.
 #[derive(Debug, Drop, Error)]
 pub enum CheckFail {
-    /// What stands behind the old text is no text of a finished remesh of its mesh.
+    /// What stands behind the old text is no text that is written for it.
     #[error("not accepted")]
     NotAccepted { why: Why },
     /// The old text has no soup. The refusal is never want of memory.
@@ -21,9 +22,15 @@ pub enum CheckFail {
     /// The faces of its soup are no manifold, first at this place.
     #[error("the old text: no manifold")]
     NotManifold { place: Place, soup: Soup },
+    /// One of its `l` lines is refused, where `crease` reads them. The refusal is never want of memory.
+    #[error("the old text: {fail}")]
+    Marks { fail: MarkFail },
     /// The tangle number of its network is above the limit.
     #[error("tangled: {count}")]
     Tangled { count: u64 },
+    /// The lengths that `size` wants of its arcs add up to more than the limit.
+    #[error("far: {sum}")]
+    Far { sum: u128 },
     #[error("out of memory")]
     Memory,
 }
