@@ -1,10 +1,12 @@
--- What the bytes from the head line on tell.
-use Rattle.std.proofs.Common.{◌≡◌, ◌+◌, ◌<◌, ◌^◌, ℕ, [], length, drop, get_or, slice_index_or, ◌∙◌, ap, subst, arith, length-drop}
+-- What the bytes from the head line on tell, and those behind it.
+use Rattle.std.proofs.Common.{◌≡◌, ◌+◌, ◌<◌, ◌^◌, ℕ, Bool, [], ◌∷◌, length, drop, get_or, slice_index_or, sym, ◌∙◌, ap, subst, arith, length-drop}
 use Rattle.std.proofs.lemmas.List.{drop-drop, get_or-drop}
-use Rattle.def_certtext.specs.Reading.{IsCertFail, Made, TellHow}
+use Rattle.def_certtext.specs.HeadLine.{head_line}
+use Rattle.def_certtext.specs.Reading.{IsCertFail, IsHead, Made, TellHow}
 use Rattle.def_certtext.specs.declared.CertFail.{CertFail}
 use Rattle.def_io.specs.Bytes.{Bytes, Lines}
 use Rattle.def_io.specs.Lines.{lines_of, tail_of}
+use Rattle.def_flow.specs.declared.net.Settings.{Settings}
 use Rattle.qm_io.proofs.Cuts.{last_lines}
 
 module _ (bytes tail : Bytes) (line : ℕ) (is : tail ≡ tail_of line bytes) where
@@ -33,3 +35,10 @@ module _ (bytes tail : Bytes) (line : ℕ) (is : tail ≡ tail_of line bytes) wh
   tail_fails fail why =
       subst (λ (head : Bytes). IsCertFail head (line + 2) (drop (line + 1) (lines_of bytes)) fail) head_is
       (subst (λ (behind : Lines). IsCertFail (slice_index_or (lines_of tail) 0 []) (line + 2) behind fail) behind_is why)
+
+-- Why the lines behind a head line tell nothing, their text tells nothing.
+pub text_fails : (text line behind : Bytes) (settings : Settings) (auto : Bool) (number : ℕ) (fail : CertFail) → lines_of text ≡ line ∷ lines_of behind → IsHead line settings auto
+    → IsCertFail (head_line settings auto) number (lines_of behind) fail → IsCertFail (slice_index_or (lines_of text) 0 []) number (drop 1 (lines_of text)) fail
+text_fails text line behind settings auto number fail cut head why =
+    subst (λ (first : Bytes). IsCertFail first number (drop 1 (lines_of text)) fail) (sym (ap (λ (ls : Lines). slice_index_or ls 0 []) cut ∙ head.written))
+    (subst (λ (later : Lines). IsCertFail (head_line settings auto) number later fail) (sym (ap (λ (ls : Lines). drop 1 ls) cut)) why)

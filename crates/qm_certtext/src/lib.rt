@@ -17,7 +17,7 @@ pub use head::{head_text, read_head};
 pub use last::{HeadAt, find_head, last_head};
 pub use law::{chosen_law, written_law};
 pub use settings::read_settings;
-pub use written::{read_tail, read_written};
+pub use written::{read_certs, read_tail, read_written};
 
 /// Want of memory.
 pub type Memory = std::alloc::AllocError;

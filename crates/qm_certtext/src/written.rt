@@ -3,7 +3,9 @@
 ghost use Rattle.std.specs.Prelude.{◌≡◌, ◌<◌, ◌+◌, ◌^◌, [], drop, length, option_map, slice_index_or, IfOk, IfErr, OnOk};
 ghost use Rattle.def_io.specs.Lines.{lines_of};
 ghost use Rattle.def_certtext.specs.CertLines.{lists_of};
+ghost use Rattle.def_certtext.specs.HeadLine.{head_line};
 ghost use Rattle.def_certtext.specs.Reading.{is_hash_line, made_of, IsCertFail, TellHow};
+ghost use Rattle.def_certtext.specs.Settings.{AreInRange};
 ghost use Rattle.qm_certtext.specs.Parts.{lists_in_parts, IsBehindFail, IsLineFail, ReadSome, TakesText};
 
 use crate::Memory;
@@ -41,7 +43,18 @@ pub fn read_tail(alloc: Global, tail: &[u8], first: u32) -> Result<Written, Cert
     let Some(asked) = read_head(line) else {
         return Err(CertFail::Head);
     };
-    let found = read_behind(alloc, behind, first + 1, asked.auto)?;
+    read_certs(alloc, behind, first + 1, asked)
+}
+
+/// The same of the bytes behind a head line that asks for this. Their first line is line `from` of a whole, from 0.
+pub fn read_certs(alloc: Global, behind: &[u8], from: u32, asked: Asked) -> Result<Written, CertFail>
+    requires few { from + length (lines_of behind.now) < 2 ^ 32 }
+    requires range { AreInRange asked.settings asked.auto }
+    ensures reads { IfOk result (λ written. TellHow (head_line asked.settings asked.auto) (lines_of behind.now)
+        (made_of written)) }
+    ensures fails { IfErr result (IsCertFail (head_line asked.settings asked.auto) (from + 1) (lines_of behind.now)) }
+{
+    let found = read_behind(alloc, behind, from, asked.auto)?;
     Ok(written_of(asked, found)?)
 }
 
