@@ -44,7 +44,7 @@ ends_append (byte ∷ []) [] one two = one
 ends_append (byte ∷ []) (next ∷ behind) one two = two
 ends_append (byte ∷ next ∷ front) behind one two = ends_append (next ∷ front) behind one two
 
-ends_last : (line : Bytes) → ends_line (line ++ 10 ∷ []) ≡ true
+pub ends_last : (line : Bytes) → ends_line (line ++ 10 ∷ []) ≡ true
 ends_last [] = refl
 ends_last (byte ∷ []) = refl
 ends_last (byte ∷ next ∷ line) = ends_last (next ∷ line)

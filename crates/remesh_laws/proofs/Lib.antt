@@ -3,6 +3,7 @@ pub mod Certified
 pub mod Fits
 pub mod Joined
 pub mod Keeps
+pub mod MarkedLines
 mod NewSoups
 pub mod Pairs
 mod PassedOver
@@ -10,4 +11,5 @@ pub mod Printable
 pub mod ReadAgain
 pub mod Solved
 pub mod Tails
+pub mod TaskTexts
 pub mod Told

@@ -5,7 +5,7 @@ use Rattle.def_certtext.specs.Reading.{Made, TellHow}
 use Rattle.def_io.specs.Bytes.{Bytes, Lines}
 use Rattle.def_io.specs.Lines.{lines_of, tail_of}
 use Rattle.def_remesh.specs.TextLaws.{made_by, PairLaw}
-use Rattle.remesh_laws.proofs.Tails.{behind-drop, first-drop, lines-tail}
+use Rattle.remesh_laws.proofs.Tails.{first-drop, lines-tail, tail_behind}
 use Rattle.remesh_laws.proofs.Told.{told_law}
 
 -- What a tail tells is what the last lines tell.
@@ -19,7 +19,7 @@ tail_told bytes line by only made =
     head = ap (λ (ls : Lines). slice_index_or ls 0 []) (lines-tail line bytes) ∙ first-drop line (lines_of bytes)
 
     behind : drop 1 (lines_of (tail_of line bytes)) ≡ drop (line + 1) (lines_of bytes)
-    behind = ap (λ (ls : Lines). drop 1 ls) (lines-tail line bytes) ∙ behind-drop line (lines_of bytes)
+    behind = tail_behind line bytes
 
 pub pair_law : PairLaw
 pair_law bytes pair solid made =

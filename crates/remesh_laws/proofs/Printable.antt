@@ -24,6 +24,7 @@ use Rattle.def_written.specs.NewFaces.{face_count, dart_start, new_face, dart_of
 use Rattle.def_written.specs.Numbers.{before_arc, before_patch, vertices}
 use Rattle.def_written.specs.Points.{IsPoint}
 use Rattle.written_laws.proofs.EdgeNumbers.{in_rows}
+use Rattle.def_cut.specs.FullCut.{IsFullCut}
 use Rattle.def_cut.specs.Traced.{traced_marks}
 use Rattle.def_layout.specs.FaceLayouts.{IsLayoutOf}
 use Rattle.def_layoutnet.specs.MeshLayouts.{IsMeshLayout}
@@ -113,16 +114,20 @@ quads_of [] all f low = absurd (omega (arith, low))
 quads_of (face ∷ faces) all zero low = (Decides-eqb (length face) 4).0 (and_parts _ _ all).0
 quads_of (face ∷ faces) all (suc f) low = quads_of faces (and_parts _ _ all).1 f (omega (arith, low))
 
--- The layout that a traced graph cuts is the layout of a mesh.
-pub mesh_layout : (soup : FaceSet) (plan : Plan) → IsSolid soup → IsLayoutOf soup.faces (traced_marks soup.faces) plan → IsMeshLayout plan
-mesh_layout soup plan solid cut = record {
+-- The layout of a full cut is the layout of a mesh.
+pub cut_layout : (soup : FaceSet) (marks : List Bool) (plan : Plan) → IsSolid soup → IsFullCut soup.faces marks → IsLayoutOf soup.faces marks plan → IsMeshLayout plan
+cut_layout soup marks plan solid full cut = record {
   faces = soup.faces;
   mesh = solid.mesh;
   quads = quads_of soup.faces solid.printable.quads;
-  marks = traced_marks soup.faces;
-  cut = (graph_law soup.faces solid.mesh.manifold).1;
+  marks = marks;
+  cut = full;
   laid = cut;
 }
+
+-- So is the one that a traced graph cuts.
+pub mesh_layout : (soup : FaceSet) (plan : Plan) → IsSolid soup → IsLayoutOf soup.faces (traced_marks soup.faces) plan → IsMeshLayout plan
+mesh_layout soup plan solid cut = cut_layout soup (traced_marks soup.faces) plan solid (graph_law soup.faces solid.mesh.manifold).1 cut
 
 module _ (soup : FaceSet) (solid : IsSolid soup) (plan : Plan) (is : IsMeshLayout plan) (x : Lengths) (len : AreLengths (layout_of plan) x)
     (few : face_count (layout_of plan) x ≤ MAX_NEW_FACES) where

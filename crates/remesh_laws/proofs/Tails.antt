@@ -58,3 +58,7 @@ drop-next (suc i) (l ∷ lines) = drop-next i lines
 
 pub behind-drop : (i : ℕ) (lines : Lines) → drop 1 (drop i lines) ≡ drop (i + 1) lines
 behind-drop i lines = let same : suc i ≡ i + 1 = omega arith in drop-next i lines ∙ ap (λ n. drop n lines) same
+
+-- The lines of the tail behind its first.
+pub tail_behind : (i : ℕ) (bs : Bytes) → drop 1 (lines_of (tail_of i bs)) ≡ drop (i + 1) (lines_of bs)
+tail_behind i bs = ap (λ (ls : Lines). drop 1 ls) (lines-tail i bs) ∙ behind-drop i (lines_of bs)

@@ -1,5 +1,7 @@
--- Lines around a mesh that a reader of meshes passes over.
+-- Lines around a mesh that a reader of meshes passes over, and those that no certificate has.
 use Rattle.std.specs.Prelude.{◌≡◌, ◌≤◌, ◌<◌, ℕ, true, false, [], length, slice_index_or}
+use Rattle.std.specs.List.{filter}
+use Rattle.def_certtext.specs.Reading.{is_hash_line}
 use Rattle.def_io.specs.Bytes.{Bytes}
 use Rattle.def_io.specs.Lines.{lines_of}
 use Rattle.def_remesh.specs.ReadAgain.{ends_line}
@@ -20,3 +22,8 @@ pub record IsPassedOver (line : Bytes) : Type 0 where
 pub record IsAside (text : Bytes) : Type 0 where
   pub ended : ends_line text ≡ true
   pub each : (k : ℕ) → k < length (lines_of text) → IsPassedOver (slice_index_or (lines_of text) k [])
+
+-- Whole lines of which none begins with `#`.
+pub record IsSilent (text : Bytes) : Type 0 where
+  pub ended : ends_line text ≡ true
+  pub plain : filter is_hash_line (lines_of text) ≡ []
