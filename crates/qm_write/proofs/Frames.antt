@@ -1,10 +1,9 @@
 -- The text of a remesh is its head line, the text of the new mesh and the joined lines of the certificates.
-use Rattle.std.proofs.Common.{◌≡◌, ℕ, Bool, true, false, Option, Some, None, List, [], ◌∷◌, ◌++◌, codes, refl, sym, ◌∙◌, ap, ap₂, append_assoc, arith}
+use Rattle.std.proofs.Common.{◌≡◌, ℕ, Bool, true, false, Option, Some, None, List, [], ◌∷◌, ◌++◌, codes, refl, sym, ◌∙◌, ap, ap₂, arith}
 use Rattle.std.proofs.lemmas.Fmt.{decimal_digit}
 use Rattle.std.proofs.lemmas.List.Concat.{flat_map-append}
 use Rattle.std.specs.Option.{option_map}
 use Rattle.def_certtext.specs.CertLines.{cert_lines, line_text, lists_of, said_by, text_of, Lists}
-use Rattle.def_certtext.specs.HeadLine.{head_line}
 use Rattle.def_certtext.specs.Laws.{chosen_lines}
 use Rattle.def_certtext.specs.declared.CertLine.TheVariants.{Floor}
 use Rattle.def_flow.specs.declared.cert.Cert.{Cert}
@@ -14,7 +13,7 @@ use Rattle.def_layout.specs.Plans.{Plan}
 use Rattle.def_remesh.specs.NewPoints.{lengths_in}
 use Rattle.def_remesh.specs.NewSoup.{new_soup}
 use Rattle.def_remesh.specs.Certified.{AreKept}
-use Rattle.def_remesh.specs.Remeshed.{certificate_lines, remeshed_text, text_behind_head, used}
+use Rattle.def_remesh.specs.Remeshed.{certificate_lines, text_behind_head, used}
 use Rattle.def_text.specs.Canonical.{canonical_text}
 use Rattle.def_text.specs.FaceSet.{FaceSet}
 use Rattle.qm_write.specs.Joined.{joined}
@@ -60,11 +59,3 @@ pieces_are wish settings auto soup plan first third xs head between one other ke
     ∙ ap (λ (said : Bytes). head ++ (canonical_text (new_soup soup plan (lengths_in (used (lists_of first) (option_map lists_of third)).x)) ++ (between ++ said)))
     (ap₂ (λ (o : Bytes) (t : Option Bytes). joined auto o t) is_one (is_other ∙ lines_by third)
     ∙ joined_is wish plan settings auto (lists_of first) (option_map lists_of third) kept)
-
--- With the head line of a remesh and nothing behind the new mesh it is the text of that remesh.
-pub framed_is : (settings : Settings) (auto : Bool) (soup : FaceSet) (plan : Plan) (first : Lists) (third : Option Lists) (head between : Bytes)
-    → head ≡ head_line settings auto ++ 10 ∷ [] → between ≡ []
-    → head ++ text_behind_head between auto soup plan first third ≡ remeshed_text settings auto soup plan first third
-framed_is settings auto soup plan first third head between is_head none =
-    ap₂ (λ (h b : Bytes). h ++ text_behind_head b auto soup plan first third) is_head none
-    ∙ append_assoc (head_line settings auto) (10 ∷ []) _

@@ -1,3 +1,4 @@
 mod Frames
+pub mod Framing
 mod Joins
 pub mod Positions

@@ -11,4 +11,4 @@ mod vertices;
 
 pub use body::{CutMesh, NewPoints, put_new_mesh};
 pub use remesh::Remesh;
-pub use text::{Framed, PutFail, put_framed, put_remeshed};
+pub use text::{Framed, PutFail, put_framed};

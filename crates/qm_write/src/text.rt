@@ -1,6 +1,6 @@
 //! The text of a remesh.
 
-ghost use Rattle.std.specs.Prelude.{◌≡◌, ◌++◌, [], IsErrOf, OnOk, OnErr};
+ghost use Rattle.std.specs.Prelude.{◌≡◌, ◌++◌, IfOk, IsErrOf, OnOk, OnErr};
 ghost use Rattle.std.specs.Option.{option_map};
 ghost use Rattle.def_certtext.specs.CertLines.{lists_of};
 ghost use Rattle.def_layout.specs.Plans.{plan};
@@ -9,7 +9,7 @@ ghost use Rattle.def_remesh.specs.NewPoints.{lengths_in};
 ghost use Rattle.def_remesh.specs.NewSoup.{new_soup};
 ghost use Rattle.def_remesh.specs.Numberings.{IsNumbering};
 ghost use Rattle.def_remesh.specs.Placings.{ArePlaces, IsLayoutIn};
-ghost use Rattle.def_remesh.specs.Remeshed.{remeshed_text, text_behind_head};
+ghost use Rattle.def_remesh.specs.Remeshed.{text_behind_head};
 ghost use Rattle.def_text.specs.Canonical.{canonical_text};
 ghost use Rattle.qm_write.specs.Joined.{joined};
 ghost use Rattle.def_remesh.specs.Tasks.{Wish};
@@ -19,7 +19,6 @@ use crate::certs::{CertTexts, cert_texts, put_certs};
 use crate::remesh::Remesh;
 use def_output::Stopped;
 use def_text::Soup;
-use qm_certtext::head_text;
 use qm_output::Output;
 use qm_place::placer;
 use std::alloc::{AllocError, Global};
@@ -56,42 +55,6 @@ impl From<Stopped> for PutFail {
     }
 }
 
-/// Puts the text of a remesh: the head line, the lines of the new mesh and those of the certificates. Memory and cost
-/// are those of `put_framed`.
-pub fn put_remeshed<T: Output>(
-    alloc: Global,
-    out: &mut T,
-    soup: &Soup,
-    cut: &CutMesh,
-    remesh: Remesh,
-) -> Result<(), PutFail>
-    requires mesh { cut.now.mesh ≡ soup.now.faces }
-    requires layout { IsLayoutIn cut.now.mesh (plan cut.now.layout) }
-    requires kept { (wish : Wish) × IsKept wish (plan cut.now.layout) remesh.asked.settings remesh.asked.auto
-        (lists_of remesh.first) (option_map lists_of remesh.third) remesh.numbering }
-    ensures whole { OnOk result (T.takes out.old out.new
-        (remeshed_text remesh.asked.settings remesh.asked.auto soup.now (plan cut.now.layout)
-        (lists_of remesh.first) (option_map lists_of remesh.third))) }
-    ensures part { IsErrOf result PutFail.Stopped → T.stops out.old out.new
-        (remeshed_text remesh.asked.settings remesh.asked.auto soup.now (plan cut.now.layout)
-        (lists_of remesh.first) (option_map lists_of remesh.third)) }
-    ensures untouched { IsErrOf result PutFail.Memory → out.new ≡ out.old }
-{
-    let head = head_text(alloc, &remesh.asked.settings, remesh.asked.auto)?;
-    let between = Vec::new(alloc);
-    put_framed(
-        alloc,
-        out,
-        soup,
-        cut,
-        Framed {
-            head,
-            between,
-            remesh,
-        },
-    )
-}
-
 /// A finished remesh, and what else stands in its text: the head line, with its end, and the lines between the new mesh
 /// and the certificates.
 #[derive(Debug, Drop)]
@@ -101,16 +64,16 @@ pub struct Framed {
     pub remesh: Remesh,
 }
 
-/// Puts the text of a remesh in this frame. It takes all memory before the first byte goes out: that of the
-/// certificates' lines and of the new places. Its cost is that of `put_new_mesh`, and linear in the lines of the frame
-/// and of the certificates.
+/// Puts the text of a remesh in this frame, and gives back the points of the new mesh. It takes all memory before the
+/// first byte goes out: that of the certificates' lines and of the new places. Its cost is that of `put_new_mesh`, and
+/// linear in the lines of the frame and of the certificates.
 pub fn put_framed<T: Output>(
     alloc: Global,
     out: &mut T,
     soup: &Soup,
     cut: &CutMesh,
     framed: Framed,
-) -> Result<(), PutFail>
+) -> Result<NewPoints, PutFail>
     requires mesh { cut.now.mesh ≡ soup.now.faces }
     requires layout { IsLayoutIn cut.now.mesh (plan cut.now.layout) }
     requires kept { (wish : Wish) × IsKept wish (plan cut.now.layout)
@@ -123,6 +86,9 @@ pub fn put_framed<T: Output>(
         ++ text_behind_head framed.between.items framed.remesh.asked.auto soup.now (plan cut.now.layout)
         (lists_of framed.remesh.first) (option_map lists_of framed.remesh.third)) }
     ensures untouched { IsErrOf result PutFail.Memory → out.new ≡ out.old }
+    ensures numbering { IfOk result (λ new. new.numbering ≡ framed.remesh.numbering) }
+    ensures places { IfOk result (λ new. ArePlaces cut.now.mesh (plan cut.now.layout) new.places) }
+    ensures lengths { IfOk result (λ new. new.places.lengths.items ≡ new.numbering.lengths.items) }
 {
     let Framed {
         head,
@@ -142,7 +108,7 @@ pub fn put_framed<T: Output>(
         places,
     };
     put_parts(out, &frame, soup, cut, &new)?;
-    Ok(())
+    Ok(new)
 }
 
 /// What stands before and behind the lines of the new mesh.
