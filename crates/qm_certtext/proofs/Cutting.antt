@@ -13,7 +13,7 @@ use Rattle.def_certtext.specs.Settings.{floor_text, scale_text, weight_text, Are
 use Rattle.def_certtext.specs.declared.Asked.{Asked}
 use Rattle.def_flow.specs.declared.net.Settings.{Settings}
 use Rattle.def_text.specs.Types.{Word}
-use Rattle.qm_certtext.specs.Cuts.{is_bare, IsCut}
+use Rattle.qm_certtext.specs.Cuts.{asked_line, is_bare, IsCut}
 use Rattle.qm_dec.proofs.Texts.{decimal_digits, digit_other, digits_fail, first_at}
 
 -- A text with and without this prefix.
@@ -67,9 +67,6 @@ one_word a b x y mark bare_a bare_b begins same =
     let behind : mark ++ x ≡ mark ++ y = append_cancel_left a _ _ (same ∙ ap (λ (w : Word). w ++ (mark ++ y)) (sym prefix)) in
     (prefix, append_cancel_left mark x y behind)
 
-abbrev pub head_prefix : Word
-head_prefix = codes "#quadq 1 remesh scale "
-
 abbrev floor_mark : Word
 floor_mark = codes " floor "
 
@@ -77,16 +74,16 @@ abbrev weight_mark : Word
 weight_mark = codes " weight "
 
 -- What stands behind the prefix of a head line.
-pub behind_prefix : (line rest scale floor weight : Word) → line ≡ head_prefix ++ rest → IsCut line scale floor weight
+behind_prefix : (prefix line rest scale floor weight : Word) → line ≡ prefix ++ rest → IsCut prefix line scale floor weight
     → rest ≡ scale ++ (floor_mark ++ (floor ++ (weight_mark ++ weight)))
-behind_prefix line rest scale floor weight is cut = append_cancel_left head_prefix _ _ (sym is ∙ cut.written)
+behind_prefix prefix line rest scale floor weight is cut = append_cancel_left prefix _ _ (sym is ∙ cut.written)
 
 -- A line has one cut.
-pub one_cut : (line a b c d e f : Word) → IsCut line a b c → IsCut line d e f → (a ≡ d) × (b ≡ e) × (c ≡ f)
-one_cut line a b c d e f one two =
+one_cut : (prefix line a b c d e f : Word) → IsCut prefix line a b c → IsCut prefix line d e f → (a ≡ d) × (b ≡ e) × (c ≡ f)
+one_cut prefix line a b c d e f one two =
     let scales : (a ≡ d) × (b ++ (weight_mark ++ c) ≡ e ++ (weight_mark ++ f)) =
     one_word a d (b ++ (weight_mark ++ c)) (e ++ (weight_mark ++ f)) floor_mark one.scale_bare two.scale_bare refl
-    (behind_prefix line (a ++ (floor_mark ++ (b ++ (weight_mark ++ c)))) d e f one.written two) in
+    (behind_prefix prefix line (a ++ (floor_mark ++ (b ++ (weight_mark ++ c)))) d e f one.written two) in
     let floors : (b ≡ e) × (c ≡ f) = one_word b e c f weight_mark one.floor_bare two.floor_bare refl scales.1 in
     (scales.0, floors.0, floors.1)
 
@@ -108,52 +105,60 @@ nested : (a b c d e f : Word) → a ++ b ++ c ++ d ++ e ++ f ≡ a ++ (b ++ (c +
 nested a b c d e f =
     append_assoc (((a ++ b) ++ c) ++ d) e f ∙ append_assoc ((a ++ b) ++ c) d (e ++ f) ∙ append_assoc (a ++ b) c (d ++ (e ++ f)) ∙ append_assoc a b (c ++ (d ++ (e ++ f)))
 
-pub head_cut : (line : Word) (settings : Settings) (auto : Bool) → IsHead line settings auto
-    → IsCut line (scale_text settings) (floor_text settings.floor auto) (weight_text settings.weight)
-head_cut line settings auto head = record {
-  written = head.written ∙ nested head_prefix (scale_text settings) floor_mark (floor_text settings.floor auto) weight_mark (weight_text settings.weight);
-  scale_bare = scale_bare settings auto head.in_range;
-  floor_bare = floor_bare settings.floor auto head.in_range.floor;
+pub asked_cut : (prefix line : Word) (settings : Settings) (auto : Bool) → AreInRange settings auto → line ≡ asked_line prefix settings auto
+    → IsCut prefix line (scale_text settings) (floor_text settings.floor auto) (weight_text settings.weight)
+asked_cut prefix line settings auto range is = record {
+  written = is ∙ nested prefix (scale_text settings) floor_mark (floor_text settings.floor auto) weight_mark (weight_text settings.weight);
+  scale_bare = scale_bare settings auto range;
+  floor_bare = floor_bare settings.floor auto range.floor;
 }
 
 -- Its words are those of the settings.
-pub head_words : (line scale floor weight : Word) (settings : Settings) (auto : Bool) → IsCut line scale floor weight → IsHead line settings auto
-    → AreWordsOf scale floor weight settings auto
-head_words line scale floor weight settings auto cut head =
-    let same = one_cut line scale floor weight _ _ _ cut (head_cut line settings auto head) in
-    record { scaled = same.0; bounded = same.1; weighed = same.2; in_range = head.in_range }
+pub asked_words : (prefix line scale floor weight : Word) (settings : Settings) (auto : Bool) → IsCut prefix line scale floor weight
+    → AreInRange settings auto → line ≡ asked_line prefix settings auto → AreWordsOf scale floor weight settings auto
+asked_words prefix line scale floor weight settings auto cut range is =
+    let same = one_cut prefix line scale floor weight _ _ _ cut (asked_cut prefix line settings auto range is) in
+    record { scaled = same.0; bounded = same.1; weighed = same.2; in_range = range }
 
-pub words_head : (line scale floor weight : Word) (settings : Settings) (auto : Bool) → IsCut line scale floor weight → AreWordsOf scale floor weight settings auto
-    → IsHead line settings auto
-words_head line scale floor weight settings auto cut words = record {
-  written = cut.written ∙ (λ i. head_prefix ++ (words.scaled i ++ (floor_mark ++ (words.bounded i ++ (weight_mark ++ words.weighed i)))))
-      ∙ sym (nested head_prefix (scale_text settings) floor_mark (floor_text settings.floor auto) weight_mark (weight_text settings.weight));
-  in_range = words.in_range;
-}
+words_asked : (prefix line scale floor weight : Word) (settings : Settings) (auto : Bool) → IsCut prefix line scale floor weight
+    → AreWordsOf scale floor weight settings auto → line ≡ asked_line prefix settings auto
+words_asked prefix line scale floor weight settings auto cut words =
+    cut.written ∙ (λ i. prefix ++ (words.scaled i ++ (floor_mark ++ (words.bounded i ++ (weight_mark ++ words.weighed i)))))
+    ∙ sym (nested prefix (scale_text settings) floor_mark (floor_text settings.floor auto) weight_mark (weight_text settings.weight))
 
 -- Where the line was cut so far, it is cut whole, or it has no cut.
-pub cut_of : (line rest scale more floor weight : Word) → line ≡ head_prefix ++ rest → is_bare scale ≡ true → rest ≡ scale ++ (floor_mark ++ more)
-    → is_bare floor ≡ true → more ≡ floor ++ (weight_mark ++ weight) → IsCut line scale floor weight
-cut_of line rest scale more floor weight is scale_is first floor_is second = record {
-  written = is ∙ ap (λ (w : Word). head_prefix ++ w) (first ∙ ap (λ (w : Word). scale ++ (floor_mark ++ w)) second);
+pub cut_of : (prefix line rest scale more floor weight : Word) → line ≡ prefix ++ rest → is_bare scale ≡ true → rest ≡ scale ++ (floor_mark ++ more)
+    → is_bare floor ≡ true → more ≡ floor ++ (weight_mark ++ weight) → IsCut prefix line scale floor weight
+cut_of prefix line rest scale more floor weight is scale_is first floor_is second = record {
+  written = is ∙ ap (λ (w : Word). prefix ++ w) (first ∙ ap (λ (w : Word). scale ++ (floor_mark ++ w)) second);
   scale_bare = scale_is;
   floor_bare = floor_is;
 }
 
-pub no_scale : (line rest : Word) → line ≡ head_prefix ++ rest → ((word more : Word) → is_bare word ≡ true → rest ≡ word ++ (floor_mark ++ more) → ⊥)
-    → (scale floor weight : Word) → IsCut line scale floor weight → ⊥
-no_scale line rest is none scale floor weight cut =
-    none scale (floor ++ (weight_mark ++ weight)) cut.scale_bare (behind_prefix line rest scale floor weight is cut)
+pub no_prefix : (prefix line : Word) → bytes_eq (take (length prefix) line) prefix ≡ false → (scale floor weight : Word) → IsCut prefix line scale floor weight → ⊥
+no_prefix prefix line other scale floor weight cut = not_stripped prefix line _ other cut.written
 
-pub no_floor : (line rest first more : Word) → line ≡ head_prefix ++ rest → is_bare first ≡ true → rest ≡ first ++ (floor_mark ++ more)
-    → ((word last : Word) → is_bare word ≡ true → more ≡ word ++ (weight_mark ++ last) → ⊥) → (scale floor weight : Word) → IsCut line scale floor weight → ⊥
-no_floor line rest first more is bare_is split none scale floor weight cut =
-    let one = one_word first scale more (floor ++ (weight_mark ++ weight)) floor_mark bare_is cut.scale_bare refl (sym split ∙ behind_prefix line rest scale floor weight is cut) in
+pub no_floor : (prefix line rest first more : Word) → line ≡ prefix ++ rest → is_bare first ≡ true → rest ≡ first ++ (floor_mark ++ more)
+    → ((word last : Word) → is_bare word ≡ true → more ≡ word ++ (weight_mark ++ last) → ⊥) → (scale floor weight : Word) → IsCut prefix line scale floor weight → ⊥
+no_floor prefix line rest first more is bare_is split none scale floor weight cut =
+    let one = one_word first scale more (floor ++ (weight_mark ++ weight)) floor_mark bare_is cut.scale_bare refl
+    (sym split ∙ behind_prefix prefix line rest scale floor weight is cut) in
     none floor weight cut.floor_bare one.1
 
 -- The settings of a cut line are those of its words.
-pub head_read : (line scale floor weight : Word) (o : Option Asked) → IsCut line scale floor weight
+pub asked_read : (prefix line scale floor weight : Word) (o : Option Asked) → IsCut prefix line scale floor weight
     → MatchOption o ((settings : Settings) (auto : Bool) → AreWordsOf scale floor weight settings auto → ⊥) (λ asked. AreWordsOf scale floor weight asked.settings asked.auto)
+    → MatchOption o ((settings : Settings) (auto : Bool) → AreInRange settings auto → line ≡ asked_line prefix settings auto → ⊥)
+    (λ asked. AreInRange asked.settings asked.auto × (line ≡ asked_line prefix asked.settings asked.auto))
+asked_read prefix line scale floor weight None cut none =
+    λ settings auto range is. none settings auto (asked_words prefix line scale floor weight settings auto cut range is)
+asked_read prefix line scale floor weight (Some asked) cut words =
+    (words.in_range, words_asked prefix line scale floor weight asked.settings asked.auto cut words)
+
+-- Behind the prefix of a head line they are those of the head line.
+pub head_read : (line : Word) (o : Option Asked)
+    → MatchOption o ((settings : Settings) (auto : Bool) → AreInRange settings auto → line ≡ asked_line (codes "#quadq 1 remesh scale ") settings auto → ⊥)
+    (λ asked. AreInRange asked.settings asked.auto × (line ≡ asked_line (codes "#quadq 1 remesh scale ") asked.settings asked.auto))
     → MatchOption o ((settings : Settings) (auto : Bool) → IsHead line settings auto → ⊥) (λ asked. IsHead line asked.settings asked.auto)
-head_read line scale floor weight None cut none = λ settings auto head. none settings auto (head_words line scale floor weight settings auto cut head)
-head_read line scale floor weight (Some asked) cut words = words_head line scale floor weight asked.settings asked.auto cut words
+head_read line None none = λ settings auto head. none settings auto head.in_range head.written
+head_read line (Some asked) read = record { written = read.1; in_range = read.0 }

@@ -1,5 +1,5 @@
 pub mod Counts
-mod Cutting
+pub mod Cutting
 mod Found
 mod Holding
 mod Letters

@@ -29,7 +29,8 @@ use Rattle.qm_obj.proofs.LawSoup.{canonical_lines, each_both, each_map, face_lin
 use Rattle.qm_obj.proofs.LawText.{decimal_word, is_inside, line_tame, lines_back, tame_inside, IsLine, IsWord}
 use Rattle.qm_obj.proofs.ListLemmas.{passes_at}
 use Rattle.qm_certtext.proofs.Counts.{small_parts}
-use Rattle.qm_certtext.proofs.Cutting.{head_cut, head_words}
+use Rattle.qm_certtext.proofs.Cutting.{asked_cut, asked_words}
+use Rattle.qm_certtext.specs.Cuts.{asked_line}
 use Rattle.qm_certtext.proofs.Marks.{filter_append}
 use Rattle.qm_certtext.proofs.Telling.{all_marked, chosen_allowed, chosen_certs, floor_low, one_cert, one_list}
 use Rattle.qm_certtext.proofs.Unique.{same_settings}
@@ -155,11 +156,16 @@ marked_are soup said =
     filter_append is_hash_line (canonical_lines soup) (map line_text said)
     ∙ ap₂ ◌++◌ (filter_append is_hash_line (map position_line soup.pos) (map face_line soup.faces) ∙ ap₂ ◌++◌ (no_marks_in soup.pos) (no_marks_at soup.faces)) (all_marked said)
 
--- One head line is of one settings.
+-- One line behind a prefix is of one settings.
+pub same_asked : (prefix line : Word) (s t : Settings) (a b : Bool) → AreInRange s a → line ≡ asked_line prefix s a → AreInRange t b → line ≡ asked_line prefix t b
+    → (s ≡ t) × (a ≡ b)
+same_asked prefix line s t a b range is other also =
+    let cut = asked_cut prefix line s a range is in
+    same_settings _ _ _ s t a b (asked_words prefix line _ _ _ s a cut range is) (asked_words prefix line _ _ _ t b cut other also)
+
+-- So is one head line.
 pub same_head : (line : Word) (s t : Settings) (a b : Bool) → IsHead line s a → IsHead line t b → (s ≡ t) × (a ≡ b)
-same_head line s t a b one two =
-    let cut = head_cut line s a one in
-    same_settings _ _ _ s t a b (head_words line _ _ _ s a cut one) (head_words line _ _ _ t b cut two)
+same_head line s t a b one two = same_asked (codes "#quadq 1 remesh scale ") line s t a b one.in_range one.written two.in_range two.written
 
 -- A text tells what it was made of, and nothing else.
 pub tells : (made : Made) (soup : FaceSet) (said : List CertLine) → AreInRange made.settings made.auto → IsPrintable soup → list_all (may_stand made.auto) said ≡ true

@@ -1,13 +1,14 @@
 //! Head lines.
 
-ghost use Rattle.std.specs.Prelude.{◌≡◌, ◌++◌, ◌∷◌, [], Bool, true, slice_index, IfOk, OnOk};
+ghost use Rattle.std.specs.Prelude.{◌≡◌, ◌==◌, ◌++◌, ◌∷◌, [], not, Bool, true, codes, slice_index, IfOk, OnOk};
 ghost use Rattle.std.specs.Prelude.{MatchOption};
+ghost use Rattle.std.specs.List.{list_all};
 ghost use Rattle.def_certtext.specs.HeadLine.{head_line};
 ghost use Rattle.def_certtext.specs.Reading.{IsHead};
-ghost use Rattle.def_certtext.specs.Settings.{floor_text, weight_text};
+ghost use Rattle.def_certtext.specs.Settings.{floor_text, scale_text, weight_text, AreInRange};
 ghost use Rattle.def_flow.specs.declared.net.Settings.{Settings as AnySettings};
 ghost use Rattle.def_text.specs.Types.{Word};
-ghost use Rattle.qm_certtext.specs.Cuts.{is_bare, IsCut};
+ghost use Rattle.qm_certtext.specs.Cuts.{IsCut};
 
 use crate::Memory;
 use crate::settings::read_settings;
@@ -61,7 +62,20 @@ pub fn read_head(line: &[u8]) -> Option<Asked>
         ((settings : AnySettings) (auto : Bool) → ¬ IsHead line.now settings auto)
         (λ asked. IsHead line.now asked.settings asked.auto) }
 {
-    match cut_head(line) {
+    read_asked(line, b"#quadq 1 remesh scale ")
+}
+
+/// The settings whose words stand behind this prefix of a line, as they do in a head line. Linear.
+pub fn read_asked(line: &[u8], prefix: &[u8]) -> Option<Asked>
+    ensures { MatchOption result
+        ((settings : AnySettings) (auto : Bool) → AreInRange settings auto
+        → ¬ (line.now ≡ prefix.now ++ scale_text settings ++ codes " floor "
+        ++ floor_text settings.floor auto ++ codes " weight " ++ weight_text settings.weight))
+        (λ asked. AreInRange asked.settings asked.auto
+        × (line.now ≡ prefix.now ++ scale_text asked.settings ++ codes " floor "
+        ++ floor_text asked.settings.floor asked.auto ++ codes " weight " ++ weight_text asked.settings.weight)) }
+{
+    match cut_head(line, prefix) {
         Some(words) => read_settings(words.scale, words.floor, words.weight),
         None => None,
     }
@@ -75,12 +89,12 @@ struct HeadWords<'a> {
     weight: &'a [u8],
 }
 
-fn cut_head(line: &[u8]) -> Option<HeadWords<'_>>
+fn cut_head<'a>(line: &'a [u8], prefix: &[u8]) -> Option<HeadWords<'a>>
     ensures { MatchOption result
-        ((scale floor weight : Word) → ¬ IsCut line.now scale floor weight)
-        (λ words. IsCut line.now words.scale.now words.floor.now words.weight.now) }
+        ((scale floor weight : Word) → ¬ IsCut prefix.now line.now scale floor weight)
+        (λ words. IsCut prefix.now line.now words.scale.now words.floor.now words.weight.now) }
 {
-    let Some(rest) = line.strip_prefix(b"#quadq 1 remesh scale ") else {
+    let Some(rest) = line.strip_prefix(prefix) else {
         return None;
     };
     let Some((scale, rest)) = cut_word(rest, b" floor ") else {
@@ -96,12 +110,14 @@ fn cut_head(line: &[u8]) -> Option<HeadWords<'_>>
     }
 }
 
-/// The first word, and what stands behind the mark, which begins with a space and follows it.
-fn cut_word<'a>(text: &'a [u8], mark: &[u8]) -> Option<(&'a [u8], &'a [u8])>
+/// The first word, and what stands behind the mark, which begins with a space and follows it. Linear.
+pub fn cut_word<'a>(text: &'a [u8], mark: &[u8]) -> Option<(&'a [u8], &'a [u8])>
     requires { slice_index mark.now 0 ≡ SPACE }
     ensures { MatchOption result
-        ((word rest : Word) → is_bare word ≡ true → ¬ (text.now ≡ word ++ (mark.now ++ rest)))
-        (λ cut. (is_bare cut.0.now ≡ true) × (text.now ≡ cut.0.now ++ (mark.now ++ cut.1.now))) }
+        ((word rest : Word) → list_all (λ byte. not (byte == SPACE)) word ≡ true
+        → ¬ (text.now ≡ word ++ (mark.now ++ rest)))
+        (λ cut. (list_all (λ byte. not (byte == SPACE)) cut.0.now ≡ true)
+        × (text.now ≡ cut.0.now ++ (mark.now ++ cut.1.now))) }
 {
     let (word, behind) = text.split_at(find_byte(text, SPACE));
     match behind.strip_prefix(mark) {

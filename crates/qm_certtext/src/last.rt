@@ -1,11 +1,10 @@
 //! The last head line of a text.
 
-ghost use Rattle.std.specs.Prelude.{◌≡◌, ◌≤◌, ◌<◌, ◌+◌, ◌^◌, [], length, take, drop, slice_index_or, IfSome};
-ghost use Rattle.std.specs.Prelude.{MatchOption};
+ghost use Rattle.std.specs.Prelude.{◌≡◌, ◌≤◌, ◌<◌, ◌^◌, ℕ, Some, nat_eq, true, false, if◌then◌else◌};
+ghost use Rattle.std.specs.Prelude.{[], length, take, drop, slice_index_or, IfSome, MatchOption};
 ghost use Rattle.std.specs.List.{starts_with};
 ghost use Rattle.def_io.specs.Lines.{lines_of, tail_of};
-ghost use Rattle.def_certtext.specs.HeadLine.{begins_head, HasNoHead, IsLastHead};
-ghost use Rattle.qm_certtext.specs.Heads.{IsFoundIn};
+ghost use Rattle.def_certtext.specs.HeadLine.{HasNoHead, IsLastHead};
 
 use qm_io::{Lines, cut_line};
 
@@ -35,42 +34,42 @@ pub fn find_head(bytes: &[u8]) -> Option<HeadAt>
     ensures old { IfSome result (λ head. lines_of (take head.at bytes.now) ≡ take head.line (lines_of bytes.now)) }
     ensures written { IfSome result (λ head. drop head.at bytes.now ≡ tail_of head.line bytes.now) }
 {
+    find_last(bytes, b"#quadq 1 remesh")
+}
+
+/// The last line of a text that begins with this prefix, and where it begins. Linear.
+pub fn find_last(bytes: &[u8], prefix: &[u8]) -> Option<HeadAt>
+    requires { length bytes.now < 2 ^ 32 }
+    ensures last { MatchOption result
+        ((k : ℕ) → k < length (lines_of bytes.now)
+        → starts_with nat_eq (slice_index_or (lines_of bytes.now) k []) prefix.now ≡ false)
+        (λ found. (found.line < length (lines_of bytes.now))
+        × (starts_with nat_eq (slice_index_or (lines_of bytes.now) found.line []) prefix.now ≡ true)
+        × ((k : ℕ) → found.line < k → k < length (lines_of bytes.now)
+        → starts_with nat_eq (slice_index_or (lines_of bytes.now) k []) prefix.now ≡ false)) }
+    ensures within { IfSome result (λ found. found.at ≤ length bytes.now) }
+    ensures old { IfSome result (λ found. lines_of (take found.at bytes.now) ≡ take found.line (lines_of bytes.now)) }
+    ensures written { IfSome result (λ found. drop found.at bytes.now ≡ tail_of found.line bytes.now) }
+{
     let mut found = None;
     let mut rest = bytes;
     let mut i = 0;
     'lines: while let Some((line, behind)) = cut_line(rest) {
-        found = found_with(bytes, rest, i, line, found);
+        let at = (bytes.len() - rest.len()) as u32;
+        found = found_with(prefix, line, HeadAt { line: i, at }, found);
         i += 1;
         rest = behind;
     }
     found
 }
 
-/// The last head line up to line `i`, which begins the rest, where this is the last before it.
-fn found_with(
-    bytes: &[u8],
-    rest: &[u8],
-    i: u32,
-    line: &[u8],
-    found: Option<HeadAt>,
-) -> Option<HeadAt>
-    requires few { length bytes.now < 2 ^ 32 }
-    requires rest { rest.now ≡ tail_of i bytes.now }
-    requires line { line.now ≡ slice_index_or (lines_of bytes.now) i [] }
-    requires found { IsFoundIn bytes.now i found }
-    ensures { IsFoundIn bytes.now (i + 1) result }
+/// The place of a line where it begins with this prefix, or what was found before it.
+fn found_with(prefix: &[u8], line: &[u8], here: HeadAt, found: Option<HeadAt>) -> Option<HeadAt>
+    ensures { result ≡ (if starts_with nat_eq line.now prefix.now then Some here else found) }
 {
-    if !begins_head(line) {
-        return found;
+    if line.starts_with(prefix) {
+        Some(here)
+    } else {
+        found
     }
-    Some(HeadAt {
-        line: i,
-        at: (bytes.len() - rest.len()) as u32,
-    })
-}
-
-fn begins_head(line: &[u8]) -> bool
-    ensures { result ≡ begins_head line.now }
-{
-    line.starts_with(b"#quadq 1 remesh")
 }

@@ -13,8 +13,8 @@ mod written;
 
 pub use cert::cert_text;
 pub use def_certtext::{Asked, CertFail, Written};
-pub use head::{head_text, read_head};
-pub use last::{HeadAt, find_head, last_head};
+pub use head::{cut_word, head_text, read_asked, read_head};
+pub use last::{HeadAt, find_head, find_last, last_head};
 pub use law::{chosen_law, written_law};
 pub use settings::read_settings;
 pub use written::{read_certs, read_tail, read_written};

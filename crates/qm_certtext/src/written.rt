@@ -47,7 +47,12 @@ pub fn read_tail(alloc: Global, tail: &[u8], first: u32) -> Result<Written, Cert
 }
 
 /// The same of the bytes behind a head line that asks for this. Their first line is line `from` of a whole, from 0.
-pub fn read_certs(alloc: Global, behind: &[u8], from: u32, asked: Asked) -> Result<Written, CertFail>
+pub fn read_certs(
+    alloc: Global,
+    behind: &[u8],
+    from: u32,
+    asked: Asked,
+) -> Result<Written, CertFail>
     requires few { from + length (lines_of behind.now) < 2 ^ 32 }
     requires range { AreInRange asked.settings asked.auto }
     ensures reads { IfOk result (λ written. TellHow (head_line asked.settings asked.auto) (lines_of behind.now)

@@ -1,40 +1,6 @@
-use Rattle.std.proofs.Common.{arith}
-use Rattle.qm_certtext.proofs.Found.{found_last, found_old, found_within, found_written}
-use Rattle.qm_io.proofs.Cuts.{cut_behind, cut_ended, cut_is, cut_there, lines_few, whole_tail}
+use Rattle.def_io.specs.Lines.{lines_of}
+use Rattle.qm_certtext.proofs.Found.{found_head}
 use Rattle.qm_certtext.proofs.last.find_head.Goals as goal
 
-pub lines-init : goal.lines-init
-lines-init c = record { rest = whole_tail c.args.bytes.now; low = omega arith; found = λ k l. absurd (omega (arith, l)) }
-
-pub found_with-found-requires-clause-line : goal.found_with-found-requires-clause-line
-found_with-found-requires-clause-line c =
-    cut_is c.args.bytes.now c.lines.rest.now c.lines.i c.lines.invariant.rest c.in-Some.line.now c.in-Some.behind.now c.in-Some.ensures.line c.in-Some.ensures.rest
-
-pub overflow_add-i : goal.overflow_add-i
-overflow_add-i c =
-    let there = cut_there c.args.bytes.now c.lines.rest.now c.lines.i c.lines.invariant.rest c.in-Some.line.now c.in-Some.behind.now c.in-Some.ensures.line c.in-Some.ensures.rest in
-    omega (arith, there, lines_few c.args.bytes.now, c.requires)
-
-pub lines-preserved : goal.lines-preserved
-lines-preserved c =
-    let there = cut_there c.args.bytes.now c.lines.rest.now c.lines.i c.lines.invariant.rest c.in-Some.line.now c.in-Some.behind.now c.in-Some.ensures.line c.in-Some.ensures.rest in
-    record {
-      rest = cut_behind c.args.bytes.now c.lines.rest.now c.lines.i c.lines.invariant.rest c.in-Some.line.now c.in-Some.behind.now c.in-Some.ensures.line
-          c.in-Some.ensures.rest;
-      low = omega (arith, there);
-      found = c.found_with-found.ensures;
-    }
-
 pub returns-clause-last : goal.returns-clause-last
-returns-clause-last c =
-    found_last c.args.bytes.now c.lines.i c.lines.found c.lines.invariant.low
-    (cut_ended c.args.bytes.now c.lines.rest.now c.lines.i c.lines.invariant.rest c.in_default.ensures.line) c.lines.invariant.found
-
-pub returns-clause-within : goal.returns-clause-within
-returns-clause-within c = found_within c.args.bytes.now c.lines.i c.lines.found c.lines.invariant.found
-
-pub returns-clause-old : goal.returns-clause-old
-returns-clause-old c = found_old c.args.bytes.now c.lines.i c.lines.found c.lines.invariant.found
-
-pub returns-clause-written : goal.returns-clause-written
-returns-clause-written c = found_written c.args.bytes.now c.lines.i c.lines.found c.lines.invariant.found
+returns-clause-last c = found_head (lines_of c.args.bytes.now) c.find_last.result c.find_last.ensures.last

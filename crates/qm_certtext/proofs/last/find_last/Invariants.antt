@@ -1,13 +1,13 @@
 use Rattle.std.proofs.Common.{◌≡◌, ◌≤◌, length}
 use Rattle.def_io.specs.Lines.{lines_of, tail_of}
 use Rattle.qm_certtext.specs.Heads.{IsFoundIn}
-use Rattle.qm_certtext.proofs.last.find_head.Given as goal
+use Rattle.qm_certtext.proofs.last.find_last.Given as goal
 
 abbrev pub invariant-lines : goal.invariant-lines
 invariant-lines l = record {
   rest : l.rest ≡ tail_of l.i l.bytes;
   low : l.i ≤ length (lines_of l.bytes);
-  found : IsFoundIn l.bytes l.i l.found;
+  found : IsFoundIn l.prefix l.bytes l.i l.found;
 }
 
 abbrev pub decreases-lines : goal.decreases-lines
