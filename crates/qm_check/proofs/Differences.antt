@@ -2,7 +2,7 @@
 use Rattle.std.proofs.Common.{◌≡◌, ◌≢◌, ◌+◌, ◌-◌, ℕ, suc, [], ◌∷◌, ◌++◌, length, take, refl, ap, sym, ◌∙◌, subst, arith}
 use Rattle.def_io.specs.Bytes.{Bytes}
 use Rattle.def_output.specs.Compared.{Compared, Differs, IsAlike, LacksFirst}
-use Rattle.def_run.specs.Check.{DifferFrom}
+use Rattle.def_run.specs.Judging.{DifferFrom}
 
 take_prefix : (prefix rest : Bytes) → take (length prefix) (prefix ++ rest) ≡ prefix
 take_prefix [] rest = refl

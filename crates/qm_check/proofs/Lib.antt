@@ -1,8 +1,9 @@
 mod Aligned
-mod Counted
 mod Differences
+mod Frames
 mod Kept
 mod OldTexts
+pub mod Pairs
 mod Reach
-mod Refusals
-pub mod Refuted
+mod Refuted
+mod Verdicts

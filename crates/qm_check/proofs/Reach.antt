@@ -6,7 +6,7 @@ use Rattle.std.proofs.lemmas.Bool.{and_parts, false≢true, leb-true, ltb-true}
 use Rattle.std.proofs.lemmas.List.{length-drop, length-map, length-take}
 use Rattle.std.proofs.lemmas.Option.{none-some, same_Some}
 use Rattle.def_certtext.specs.CertLines.{line_text, Lists}
-use Rattle.def_certtext.specs.Reading.{cert_in, first_in, is_hash_line, is_third, length_in, lists_in, may_stand, set_in, vertex_in, Made}
+use Rattle.def_certtext.specs.Reading.{cert_in, first_in, is_hash_line, is_third, length_in, lists_in, may_stand, set_in, vertex_in, Made, TellHow}
 use Rattle.def_certtext.specs.declared.CertLine.{CertLine}
 use Rattle.def_certtext.specs.declared.CertLine.TheVariants.{Length, Vertex, Set, Floor}
 use Rattle.def_flow.specs.declared.limits.TheConstants.{MAX_LENGTH}
@@ -16,7 +16,6 @@ use Rattle.def_text.specs.declared.limits.TheConstants.{MAX_BYTES}
 use Rattle.remesh_laws.proofs.Tails.{flat-pieces}
 use Rattle.remesh_laws.proofs.Solved.{all_drop, all_take}
 use Rattle.qm_check.specs.Checked.{IsInReach}
-use Rattle.qm_check.specs.Ready.{Tells}
 
 -- There are no more lines than bytes.
 pieces_few : (bytes : Bytes) → length (pieces bytes) ≤ length bytes
@@ -132,7 +131,7 @@ first_auto : (auto : Bool) (said : List CertLine) (first : Lists) → list_all (
 first_auto true said first all is = refl
 first_auto false said first all is = absurd (none-some first (rw (no_floor said all) at is))
 
-module _ (bytes : Bytes) (line : ℕ) (made : Made) (few : length bytes ≤ MAX_BYTES) (told : Tells bytes line made) where
+module _ (bytes head : Bytes) (line : ℕ) (made : Made) (few : length bytes ≤ MAX_BYTES) (told : TellHow head (drop (line + 1) (lines_of bytes)) made) where
   said_few : length told.said ≤ MAX_BYTES
   said_few = omega (
     arith,

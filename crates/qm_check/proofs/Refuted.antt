@@ -1,86 +1,54 @@
--- What is told of a text that is refused shows that it is no checked pair.
-use Rattle.std.proofs.Common.{◌≡◌, ◌⊎◌, ◌+◌, ℕ, Bool, true, false, [], Option, Some, None, Result, Ok, Err, drop, take, inl, inr, refl, ap, ap₂, sym, ◌∙◌, subst, arith, pos}
-use Rattle.std.proofs.lemmas.Bool.{false≢true}
+-- What is told of a text that is refused shows that it finishes no task.
+use Rattle.std.proofs.Common.{◌≡◌, ◌⊎◌, ◌+◌, ℕ, Bool, true, false, [], Option, Some, None, take, inl, inr, refl, ap, ap₂, sym, ◌∙◌, subst, arith, pos}
 use Rattle.std.proofs.lemmas.Option.{none-some}
 use Rattle.std.specs.Prelude.{slice_index_or}
 use Rattle.def_certtext.specs.CertLines.{Lists}
-use Rattle.def_certtext.specs.HeadLine.{HasNoHead}
-use Rattle.def_certtext.specs.Reading.{HasBadLine, IsFirstBad, IsHead, Made, Says}
+use Rattle.def_certtext.specs.HeadLine.{head_line}
+use Rattle.def_certtext.specs.Reading.{HasBadLine, IsFirstBad, Made, Says}
 use Rattle.def_certtext.specs.declared.CertLine.{CertLine}
 use Rattle.def_flow.specs.Accepted.{cert_verdict}
 use Rattle.def_flow.specs.Admissible.{deviation, entries}
 use Rattle.def_flow.specs.Network.{Network, tangle_number}
 use Rattle.def_flow.specs.declared.net.Settings.{Settings}
-use Rattle.def_io.specs.Bytes.{Bytes}
-use Rattle.def_io.specs.Lines.{lines_of, tail_of}
-use Rattle.def_layout.specs.Arcs.{long_at}
 use Rattle.def_layout.specs.Plans.{Plan, layout_of}
 use Rattle.def_layoutnet.specs.LayoutNet.{IsNetOf}
 use Rattle.def_layoutnet.specs.MeshLayouts.{IsMeshLayout}
-use Rattle.def_mesh.specs.Manifold.{IsManifold}
-use Rattle.def_remesh.specs.Checked.{IsCheckedPair}
 use Rattle.def_remesh.specs.NewPoints.{lengths_in}
 use Rattle.def_remesh.specs.Refusals.{IsTangledAt}
-use Rattle.def_remesh.specs.Certified.{AreKept, certificate_of, IsCertified}
-use Rattle.def_remesh.specs.Remeshed.{AreCoarse, remeshed_text, used, with_floor}
-use Rattle.def_remesh.specs.TextLaws.{made_by, IsSolid}
-use Rattle.def_run.specs.Check.{first_checked, head_of, HasOldSoup, IsAsked, IsLoneDoubled, TellsOtherText, IsThirdWrong, IsWrong, IsWrongText, RefusesOldText}
+use Rattle.def_remesh.specs.Certified.{AreKept, certificate_of, IsCertified, IsShown}
+use Rattle.def_remesh.specs.Remeshed.{AreCoarse, finished_text, used, with_floor}
+use Rattle.def_remesh.specs.Tasks.{Wish}
+use Rattle.def_remesh.specs.TextLaws.{made_by}
+use Rattle.def_run.specs.Judging.{behind_in, first_checked, text_in, IsLoneDoubled, IsThirdWrong, IsWrong, IsWrongText, Judged, TellsMade, TellsOtherText}
 use Rattle.def_run.specs.declared.answer.Why.{Why}
 use Rattle.def_run.specs.declared.answer.Why.TheVariants as why
-use Rattle.def_text.specs.FaceSet.{FaceSet}
-use Rattle.def_text.specs.Text.{text_soup}
-use Rattle.def_text.specs.declared.refusal.ObjFail.{ObjFail}
 use Rattle.def_written.specs.Edges.{IsUndoubled}
 use Rattle.qm_cert.proofs.Checked.{accepted_yes}
 use Rattle.qm_certtext.proofs.Marks.{said_at}
 use Rattle.qm_certtext.proofs.Texts.{same_head}
 use Rattle.qm_layoutnet.proofs.OneNet.{one_net_law}
 use Rattle.plan_laws.proofs.MeshLayouts.{laid_of}
-use Rattle.qm_check.proofs.Aligned.{aligned, pair_head, pair_line, pair_soup, IsAligned}
-use Rattle.qm_check.specs.Ready.{Tells}
-use Rattle.def_remesh.specs.Tasks.{old_lengths}
-
--- A text without a head line is no pair.
-pub headless : (bytes : Bytes) → HasNoHead (lines_of bytes) → ¬ IsCheckedPair bytes
-headless bytes none pair = false≢true (sym (none pair.line pair.divided.there) ∙ pair.divided.begins)
-
--- Nor is one whose old text is refused.
-pub old_refused : (bytes : Bytes) (fail : ObjFail) → RefusesOldText bytes fail → ¬ IsCheckedPair bytes
-old_refused bytes fail bad pair =
-    let same : pair.line ≡ bad.line = pair_line bytes bad.line pair bad.divided in
-    let both : ◌≡◌ {A = Result FaceSet ObjFail} (Ok pair.soup) (Err fail) =
-    sym pair.said ∙ ap (λ (n : ℕ). text_soup 1 (take n (lines_of bytes))) same ∙ bad.said in
-    absurd cc
-
--- Nor one whose old text has faces that are no manifold.
-pub old_faulty : (bytes : Bytes) (line : ℕ) (soup : FaceSet) → HasOldSoup bytes line soup → ¬ IsManifold soup.faces → ¬ IsCheckedPair bytes
-old_faulty bytes line soup old bad pair =
-    bad (subst (λ (s : FaceSet). IsManifold s.faces) (pair_soup bytes line soup pair old) pair.manifold)
-
--- Nor one whose line behind the old text is no head line.
-pub no_head_line : (bytes : Bytes) (line : ℕ) (soup : FaceSet) → HasOldSoup bytes line soup → IsSolid soup
-    → ((settings : Settings) (auto : Bool) → ¬ IsHead (head_of bytes line) settings auto) → ¬ IsCheckedPair bytes
-no_head_line bytes line soup old solid none pair = none pair.settings pair.auto (pair_head bytes line soup old solid pair)
+use Rattle.qm_check.proofs.Aligned.{aligned, judged_layout, IsAligned, IsJudgeable}
 
 -- The certificate that is checked first.
-kept_first : (plan : Plan) (settings : Settings) (auto : Bool) (first : Lists) (third : Option Lists) → AreKept old_lengths plan settings auto first third
-    → IsCertified old_lengths plan settings first
-kept_first plan settings auto first None kept = kept
-kept_first plan settings true first (Some third) kept = kept.0
-kept_first plan settings false first (Some third) kept = absurd kept
+kept_first : (wish : Wish) (plan : Plan) (settings : Settings) (auto : Bool) (first : Lists) (third : Option Lists) → AreKept wish plan settings auto first third
+    → IsCertified wish plan settings first
+kept_first wish plan settings auto first None kept = kept
+kept_first wish plan settings true first (Some third) kept = kept.0
+kept_first wish plan settings false first (Some third) kept = absurd kept
 
-first_is : (plan : Plan) (settings : Settings) (auto : Bool) (first : Lists) (third : Option Lists) → AreKept old_lengths plan settings auto first third
+first_is : (wish : Wish) (plan : Plan) (settings : Settings) (auto : Bool) (first : Lists) (third : Option Lists) → AreKept wish plan settings auto first third
     → first_checked (made_by settings auto first third) ≡ first
-first_is plan settings true first None kept = refl
-first_is plan settings true first (Some third) kept = refl
-first_is plan settings false first None kept = refl
-first_is plan settings false first (Some third) kept = absurd kept
+first_is wish plan settings true first None kept = refl
+first_is wish plan settings true first (Some third) kept = refl
+first_is wish plan settings false first None kept = refl
+first_is wish plan settings false first (Some third) kept = absurd kept
 
-kept_coarse : (plan : Plan) (settings : Settings) (auto : Bool) (first : Lists) (third : Option Lists) → AreKept old_lengths plan settings auto first third
+kept_coarse : (wish : Wish) (plan : Plan) (settings : Settings) (auto : Bool) (first : Lists) (third : Option Lists) → AreKept wish plan settings auto first third
     → AreCoarse plan (used first third).x → AreCoarse plan first.x
-kept_coarse plan settings auto first None kept coarse = coarse
-kept_coarse plan settings true first (Some third) kept coarse = kept.1
-kept_coarse plan settings false first (Some third) kept coarse = absurd kept
+kept_coarse wish plan settings auto first None kept coarse = coarse
+kept_coarse wish plan settings true first (Some third) kept coarse = kept.1
+kept_coarse wish plan settings false first (Some third) kept coarse = absurd kept
 
 -- Where two are told, the second is the one for floor 3.
 some_third : (settings : Settings) (auto : Bool) (first one : Lists) (third : Option Lists) → (made_by settings auto first third).first ≡ Some one
@@ -88,14 +56,14 @@ some_third : (settings : Settings) (auto : Bool) (first one : Lists) (third : Op
 some_third settings true first one (Some third) is = refl
 some_third settings _ first one _ is = absurd (none-some one is)
 
-module _ (plan : Plan) (mesh : IsMeshLayout plan) where
+module _ (wish : Wish) (plan : Plan) (mesh : IsMeshLayout plan) where
   -- A layout has one network.
-  pub one_net : (settings : Settings) (net other : Network) → IsNetOf (layout_of plan) (long_at plan.arcs) settings net
-      → IsNetOf (layout_of plan) (long_at plan.arcs) settings other → net ≡ other
-  one_net settings net other is also = one_net_law (layout_of plan) (long_at plan.arcs) settings (laid_of plan mesh) net other is also
+  pub one_net : (settings : Settings) (net other : Network) → IsNetOf (layout_of plan) (wish plan) settings net
+      → IsNetOf (layout_of plan) (wish plan) settings other → net ≡ other
+  one_net settings net other is also = one_net_law (layout_of plan) (wish plan) settings (laid_of plan mesh) net other is also
 
   -- A certified list is not refused.
-  not_wrong : (settings : Settings) (cert : Lists) (why : Why) → IsCertified old_lengths plan settings cert → AreCoarse plan cert.x → IsWrong plan settings cert why → ⊥
+  not_wrong : (settings : Settings) (cert : Lists) (why : Why) → IsCertified wish plan settings cert → AreCoarse plan cert.x → IsWrong wish plan settings cert why → ⊥
   not_wrong settings cert (why.Verdict verdict) is coarse wrong =
       let same : wrong.net ≡ is.lengths.net = one_net settings wrong.net is.lengths.net wrong.of_layout is.lengths.of_layout in
       wrong.refuted (pos (deviation is.lengths.net (entries cert.x)))
@@ -108,111 +76,114 @@ module _ (plan : Plan) (mesh : IsMeshLayout plan) where
   not_wrong settings cert (why.Byte at) is coarse wrong = wrong
 
   -- A network that is too tangled has no certified list.
-  pub not_tangled : (settings : Settings) (auto : Bool) (count : ℕ) (first : Lists) (third : Option Lists) → AreKept old_lengths plan settings auto first third
-      → IsTangledAt old_lengths plan settings count → ⊥
+  pub not_tangled : (settings : Settings) (auto : Bool) (count : ℕ) (first : Lists) (third : Option Lists) → AreKept wish plan settings auto first third
+      → IsTangledAt wish plan settings count → ⊥
   not_tangled settings auto count first third kept tangled =
-      let is = kept_first plan settings auto first third kept in
+      let is = kept_first wish plan settings auto first third kept in
       let same : tangled.net ≡ is.lengths.net = one_net settings tangled.net is.lengths.net tangled.is is.lengths.of_layout in
       absurd (omega (arith, tangled.high, tangled.told, ap tangle_number same, is.lengths.untangled))
 
   -- Neither are the certificates that were kept, whatever is told of them.
-  first_fine : (settings : Settings) (auto : Bool) (first : Lists) (third : Option Lists) (why : Why) → AreKept old_lengths plan settings auto first third
-      → AreCoarse plan (used first third).x → IsWrong plan settings (first_checked (made_by settings auto first third)) why → ⊥
+  first_fine : (settings : Settings) (auto : Bool) (first : Lists) (third : Option Lists) (why : Why) → AreKept wish plan settings auto first third
+      → AreCoarse plan (used first third).x → IsWrong wish plan settings (first_checked (made_by settings auto first third)) why → ⊥
   first_fine settings auto first third why kept coarse wrong =
-      not_wrong settings first why (kept_first plan settings auto first third kept) (kept_coarse plan settings auto first third kept coarse)
-      (subst (λ (c : Lists). IsWrong plan settings c why) (first_is plan settings auto first third kept) wrong)
+      not_wrong settings first why (kept_first wish plan settings auto first third kept) (kept_coarse wish plan settings auto first third kept coarse)
+      (subst (λ (c : Lists). IsWrong wish plan settings c why) (first_is wish plan settings auto first third kept) wrong)
 
-  third_fine : (settings : Settings) (auto : Bool) (first : Lists) (third : Option Lists) (why : Why) → AreKept old_lengths plan settings auto first third
-      → AreCoarse plan (used first third).x → IsThirdWrong plan settings (made_by settings auto first third) why → ⊥
+  third_fine : (settings : Settings) (auto : Bool) (first : Lists) (third : Option Lists) (why : Why) → AreKept wish plan settings auto first third
+      → AreCoarse plan (used first third).x → IsThirdWrong wish plan settings (made_by settings auto first third) why → ⊥
   third_fine settings true first (Some third) why kept coarse wrong = not_wrong (with_floor settings 3) third why kept.3 coarse wrong.wrong
   third_fine settings _ first _ why kept coarse wrong = absurd (none-some wrong.first wrong.there)
 
-lone_fine : (plan : Plan) (settings : Settings) (auto : Bool) (first : Lists) (third : Option Lists) (why : Why) → AreKept old_lengths plan settings auto first third
-    → IsUndoubled (layout_of plan) (lengths_in (used first third).x) → IsLoneDoubled plan settings (made_by settings auto first third) why → ⊥
-lone_fine plan settings true first None (why.Doubled u v) kept undoubled lone = undoubled u v lone.3.doubled
-lone_fine plan settings true first (Some third) (why.Doubled u v) kept undoubled lone = absurd (none-some first (sym lone.0))
-lone_fine plan settings false first None (why.Doubled u v) kept undoubled lone = undoubled u v lone.3.doubled
-lone_fine plan settings false first (Some third) (why.Doubled u v) kept undoubled lone = absurd kept
-lone_fine plan settings auto first third _ kept undoubled lone = absurd lone
+lone_fine : (wish : Wish) (plan : Plan) (settings : Settings) (auto : Bool) (first : Lists) (third : Option Lists) (why : Why) → AreKept wish plan settings auto first third
+    → IsUndoubled (layout_of plan) (lengths_in (used first third).x) → IsLoneDoubled wish plan settings (made_by settings auto first third) why → ⊥
+lone_fine wish plan settings true first None (why.Doubled u v) kept undoubled lone = undoubled u v lone.3.doubled
+lone_fine wish plan settings true first (Some third) (why.Doubled u v) kept undoubled lone = absurd (none-some first (sym lone.0))
+lone_fine wish plan settings false first None (why.Doubled u v) kept undoubled lone = undoubled u v lone.3.doubled
+lone_fine wish plan settings false first (Some third) (why.Doubled u v) kept undoubled lone = absurd kept
+lone_fine wish plan settings auto first third _ kept undoubled lone = absurd lone
 
 -- The certificates that are compared with are those that were kept.
-same_third : (plan : Plan) (settings : Settings) (auto : Bool) (first one : Lists) (third other : Option Lists) → AreKept old_lengths plan settings auto first third
+same_third : (wish : Wish) (plan : Plan) (settings : Settings) (auto : Bool) (first one : Lists) (third other : Option Lists) → AreKept wish plan settings auto first third
     → one ≡ first → (other ≡ None) ⊎ ((other ≡ Some (made_by settings auto first third).cert) × ((made_by settings auto first third).first ≡ Some one))
     → IsUndoubled (layout_of plan) (lengths_in (used one other).x) → other ≡ third
-same_third plan settings auto first one third other kept same (inr (is, there)) undoubled = is ∙ sym (some_third settings auto first one third there)
-same_third plan settings auto first one None other kept same (inl none) undoubled = none
-same_third plan settings true first one (Some third) other kept same (inl none) undoubled =
+same_third wish plan settings auto first one third other kept same (inr (is, there)) undoubled = is ∙ sym (some_third settings auto first one third there)
+same_third wish plan settings auto first one None other kept same (inl none) undoubled = none
+same_third wish plan settings true first one (Some third) other kept same (inl none) undoubled =
     let free : IsUndoubled (layout_of plan) (lengths_in first.x) =
     subst (λ (c : Lists). IsUndoubled (layout_of plan) (lengths_in c.x)) same
     (subst (λ (o : Option Lists). IsUndoubled (layout_of plan) (lengths_in (used one o).x)) none undoubled) in
     absurd (free kept.2.0 kept.2.1 kept.2.2)
-same_third plan settings false first one (Some third) other kept same (inl none) undoubled = absurd kept
+same_third wish plan settings false first one (Some third) other kept same (inl none) undoubled = absurd kept
 
 -- So their text is the one that is given.
-other_fine : (bytes : Bytes) (asked : IsAsked bytes) (made : Made) (why : Why)
-    (is : IsAligned bytes asked.line asked.soup asked.settings asked.auto asked.plan)
-    → made ≡ made_by asked.settings asked.auto is.first is.third → TellsOtherText bytes asked made why → ⊥
-other_fine bytes asked made (why.Byte at) is same other = other.differ.there (ap (take at) text)
+other_fine : (judged : Judged) (made : Made) (why : Why) (is : IsAligned judged judged.plan)
+    → made ≡ made_by judged.task.settings judged.task.auto is.first is.third → TellsOtherText judged made why → ⊥
+other_fine judged made (why.Byte at) is same other = other.differ.there (ap (take at) text)
   where
     by : Made
-    by = made_by asked.settings asked.auto is.first is.third
+    by = made_by judged.task.settings judged.task.auto is.first is.third
 
     first : first_checked made ≡ is.first
-    first = ap first_checked same ∙ first_is asked.plan asked.settings asked.auto is.first is.third is.kept
+    first = ap first_checked same ∙ first_is judged.task.wish judged.plan judged.task.settings judged.task.auto is.first is.third is.kept
 
     third : other.third ≡ is.third
-    third = same_third asked.plan asked.settings asked.auto is.first (first_checked made) is.third other.third is.kept first
+    third = same_third judged.task.wish judged.plan judged.task.settings judged.task.auto is.first (first_checked made) is.third other.third is.kept first
         (subst (λ (m : Made). (other.third ≡ None) ⊎ ((other.third ≡ Some m.cert) × (m.first ≡ Some (first_checked made)))) same other.chosen)
         other.undoubled
 
-    text : tail_of asked.line bytes ≡ remeshed_text asked.settings asked.auto asked.soup asked.plan (first_checked made) other.third
-    text = is.written ∙ sym (ap₂ (λ (f : Lists) (t : Option Lists). remeshed_text asked.settings asked.auto asked.soup asked.plan f t) first third)
-other_fine bytes asked made (why.Verdict verdict) is same other = absurd other
-other_fine bytes asked made (why.TooFine faces) is same other = absurd other
-other_fine bytes asked made (why.Doubled u v) is same other = absurd other
-other_fine bytes asked made why.NoHead is same other = absurd other
-other_fine bytes asked made why.Head is same other = absurd other
-other_fine bytes asked made (why.CertLine line) is same other = absurd other
+    text : text_in judged ≡ finished_text judged.task judged.soup judged.plan (first_checked made) other.third
+    text = is.written ∙ sym (ap₂ (λ (f : Lists) (t : Option Lists). finished_text judged.task judged.soup judged.plan f t) first third)
+other_fine judged made (why.Verdict verdict) is same other = absurd other
+other_fine judged made (why.TooFine faces) is same other = absurd other
+other_fine judged made (why.Doubled u v) is same other = absurd other
+other_fine judged made why.NoHead is same other = absurd other
+other_fine judged made why.Head is same other = absurd other
+other_fine judged made (why.CertLine line) is same other = absurd other
 
--- A text whose certificates or whose bytes are refused is no pair.
-module _ (bytes : Bytes) (asked : IsAsked bytes) (solid : IsSolid asked.soup) (mesh : IsMeshLayout asked.plan) (pair : IsCheckedPair bytes) where
-  is : IsAligned bytes asked.line asked.soup asked.settings asked.auto asked.plan
-  is = aligned bytes asked.line asked.soup asked.old solid pair asked.settings asked.auto asked.plan asked.manifold asked.head asked.cut
+-- A text whose certificates or whose bytes are refused finishes no task.
+module _ (judged : Judged) (able : IsJudgeable judged) (shown : IsShown judged.task judged.soup (text_in judged)) where
+  mesh : IsMeshLayout judged.plan
+  mesh = judged_layout judged able
+
+  is : IsAligned judged judged.plan
+  is = aligned judged able shown
 
   abbrev by : Made
-  by = made_by asked.settings asked.auto is.first is.third
+  by = made_by judged.task.settings judged.task.auto is.first is.third
 
-  pub text_refuted : (why : Why) → IsWrongText bytes asked why → ⊥
+  pub text_refuted : (why : Why) → IsWrongText judged why → ⊥
   text_refuted why wrong = by_case wrong.wrong
     where
       same : wrong.made ≡ by
       same = (is.told wrong.made).0 wrong.told
 
-      by_case : IsWrong asked.plan asked.settings (first_checked wrong.made) why
-          ⊎ (IsLoneDoubled asked.plan asked.settings wrong.made why
-          ⊎ (IsThirdWrong asked.plan asked.settings wrong.made why ⊎ TellsOtherText bytes asked wrong.made why)) → ⊥
-      by_case (inl one) = first_fine asked.plan mesh asked.settings asked.auto is.first is.third why is.kept is.coarse
-          (subst (λ (m : Made). IsWrong asked.plan asked.settings (first_checked m) why) same one)
-      by_case (inr (inl lone)) = lone_fine asked.plan asked.settings asked.auto is.first is.third why is.kept is.undoubled
-          (subst (λ (m : Made). IsLoneDoubled asked.plan asked.settings m why) same lone)
-      by_case (inr (inr (inl three))) = third_fine asked.plan mesh asked.settings asked.auto is.first is.third why is.kept is.coarse
-          (subst (λ (m : Made). IsThirdWrong asked.plan asked.settings m why) same three)
-      by_case (inr (inr (inr other))) = other_fine bytes asked wrong.made why is same other
+      by_case : IsWrong judged.task.wish judged.plan judged.task.settings (first_checked wrong.made) why
+          ⊎ (IsLoneDoubled judged.task.wish judged.plan judged.task.settings wrong.made why
+          ⊎ (IsThirdWrong judged.task.wish judged.plan judged.task.settings wrong.made why ⊎ TellsOtherText judged wrong.made why)) → ⊥
+      by_case (inl one) = first_fine judged.task.wish judged.plan mesh judged.task.settings judged.task.auto is.first is.third why is.kept is.coarse
+          (subst (λ (m : Made). IsWrong judged.task.wish judged.plan judged.task.settings (first_checked m) why) same one)
+      by_case (inr (inl lone)) = lone_fine judged.task.wish judged.plan judged.task.settings judged.task.auto is.first is.third why is.kept is.undoubled
+          (subst (λ (m : Made). IsLoneDoubled judged.task.wish judged.plan judged.task.settings m why) same lone)
+      by_case (inr (inr (inl three))) = third_fine judged.task.wish judged.plan mesh judged.task.settings judged.task.auto is.first is.third why is.kept is.coarse
+          (subst (λ (m : Made). IsThirdWrong judged.task.wish judged.plan judged.task.settings m why) same three)
+      by_case (inr (inr (inr other))) = other_fine judged wrong.made why is same other
 
-  -- Nor is one with a bad line behind the head line.
-  pub line_refuted : (line : ℕ) → HasBadLine (head_of bytes asked.line) (asked.line + 2) (drop (asked.line + 1) (lines_of bytes)) line → ⊥
+  -- Nor does one with a bad line behind the head line.
+  pub line_refuted : (line : ℕ) → HasBadLine (head_line judged.task.settings judged.task.auto) (judged.line + 2) (behind_in judged) line → ⊥
   line_refuted line has = found.bad said.0 said.1
     where
-      how : Tells bytes asked.line by
+      how : TellsMade judged by
       how = (is.told by).1 refl
 
-      found : IsFirstBad by.auto (drop (asked.line + 1) (lines_of bytes)) has.k
-      found = subst (λ (b : Bool). IsFirstBad b (drop (asked.line + 1) (lines_of bytes)) has.k)
-          (same_head (head_of bytes asked.line) has.settings by.settings has.auto by.auto has.asked how.settings).1 has.bad
+      found : IsFirstBad by.auto (behind_in judged) has.k
+      found = subst (λ (b : Bool). IsFirstBad b (behind_in judged) has.k)
+          (same_head (head_line judged.task.settings judged.task.auto) has.settings by.settings has.auto by.auto has.asked how.settings).1 has.bad
 
-      said : (l : CertLine) × Says by.auto (slice_index_or (drop (asked.line + 1) (lines_of bytes)) has.k []) l
-      said = said_at by.auto (drop (asked.line + 1) (lines_of bytes)) how.said how.texts how.allowed has.k found.there found.marked
+      said : (l : CertLine) × Says by.auto (slice_index_or (behind_in judged) has.k []) l
+      said = said_at by.auto (behind_in judged) how.said how.texts how.allowed has.k found.there found.marked
 
-  -- Nor is one whose network is too tangled.
-  pub tangle_refuted : (count : ℕ) → IsTangledAt old_lengths asked.plan asked.settings count → ⊥
-  tangle_refuted count tangled = not_tangled asked.plan mesh asked.settings asked.auto count is.first is.third is.kept tangled
+  -- Nor does one whose network is too tangled.
+  pub tangle_refuted : (count : ℕ) → IsTangledAt judged.task.wish judged.plan judged.task.settings count → ⊥
+  tangle_refuted count tangled =
+      not_tangled judged.task.wish judged.plan mesh judged.task.settings judged.task.auto count is.first is.third is.kept tangled

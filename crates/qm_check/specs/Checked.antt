@@ -19,7 +19,8 @@ use Rattle.def_remesh.specs.NewPoints.{lengths_in}
 use Rattle.def_remesh.specs.Refusals.{AreTooFine}
 use Rattle.def_remesh.specs.Certified.{certificate_of}
 use Rattle.def_remesh.specs.Remeshed.{AreCoarse, used}
-use Rattle.def_run.specs.Check.{DifferFrom, first_checked, IsLoneDoubled, IsThirdWrong, IsWrong}
+use Rattle.def_remesh.specs.Tasks.{Wish}
+use Rattle.def_run.specs.Judging.{DifferFrom, first_checked, IsLoneDoubled, IsThirdWrong, IsWrong}
 use Rattle.def_run.specs.declared.answer.Why.TheVariants as why
 use Rattle.def_written.specs.Edges.{IsFirstDoubled}
 use Rattle.remesh_laws.specs.Keeps.{IsNumbered}
@@ -28,7 +29,6 @@ use Rattle.def_run.specs.declared.check_fail.CheckFail.TheVariants.{NotAccepted,
 use Rattle.qm_check.specs.declared.certificates.Checked.{Checked}
 use Rattle.qm_check.specs.declared.lengths.Lengths.{Lengths}
 use Rattle.qm_check.specs.declared.lengths.Lengths.TheVariants.{Whole, Doubled}
-use Rattle.def_remesh.specs.Tasks.{old_lengths}
 
 -- A certificate whose numbers are within the limits of the checker.
 pub record IsInReach (cert : Lists) : Type 0 where
@@ -59,8 +59,8 @@ abbrev pub made_twice : (asked : Asked) (first third : Lists) → Made
 made_twice asked first third = record { settings = asked.settings; auto = asked.auto; first = Some first; cert = third }
 
 -- What is kept by the certificates of a text: those that are used, the numbers of the new mesh, and the deviation.
-pub record IsChecked (plan : Plan) (net : Network) (made : Made) (checked : Checked) : Type 0 where
-  pub kept : IsKept old_lengths plan made.settings made.auto (lists_of checked.remesh.first)
+pub record IsChecked (wish : Wish) (plan : Plan) (net : Network) (made : Made) (checked : Checked) : Type 0 where
+  pub kept : IsKept wish plan made.settings made.auto (lists_of checked.remesh.first)
       (option_map lists_of checked.remesh.third) checked.remesh.numbering
   pub settings : checked.remesh.asked.settings ≡ made.settings
   pub auto : checked.remesh.asked.auto ≡ made.auto
@@ -71,12 +71,12 @@ pub record IsChecked (plan : Plan) (net : Network) (made : Made) (checked : Chec
       ≡ deviation net (entries (used (lists_of checked.remesh.first) (option_map lists_of checked.remesh.third)).x)
 
 -- Why the certificates of a text are not used.
-abbrev pub IsUnused : (plan : Plan) (made : Made) (fail : CheckFail) → Type 0
-IsUnused plan made (NotAccepted why) =
-    IsWrong plan made.settings (first_checked made) why
-    ⊎ (IsLoneDoubled plan made.settings made why ⊎ IsThirdWrong plan made.settings made why)
-IsUnused plan made Memory = ⊤
-IsUnused plan made _ = ⊥
+abbrev pub IsUnused : (wish : Wish) (plan : Plan) (made : Made) (fail : CheckFail) → Type 0
+IsUnused wish plan made (NotAccepted why) =
+    IsWrong wish plan made.settings (first_checked made) why
+    ⊎ (IsLoneDoubled wish plan made.settings made why ⊎ IsThirdWrong wish plan made.settings made why)
+IsUnused wish plan made Memory = ⊤
+IsUnused wish plan made _ = ⊥
 
 -- The bytes are not this text.
 abbrev pub IsDifference : (given text : Bytes) (fail : CheckFail) → Type 0

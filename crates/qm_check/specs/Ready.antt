@@ -1,97 +1,126 @@
--- What certificates are checked by.
-use Rattle.std.specs.Prelude.{◌≡◌, ◌≤◌, ℕ, ◌+◌, drop, length, take, ⊤}
+-- What a text is judged by: the mesh in front of it, the layout of its cut, and the network and the frame of a task.
+use Rattle.std.specs.Prelude.{◌≡◌, ◌≢◌, ◌≤◌, ◌<◌, ◌∷◌, ◌++◌, ℕ, ◌+◌, Bool, true, List, Option, Some, None, Ok, Err, []}
+use Rattle.std.specs.Prelude.{drop, length, take, ⊤}
+use Rattle.std.specs.List.{list_all}
+use Rattle.std.specs.Option.{option_map}
 use Rattle.def_certtext.specs.HeadLine.{IsLastHead}
-use Rattle.def_certtext.specs.Reading.{HasBadLine, IsHead, Made, TellHow}
+use Rattle.def_certtext.specs.Reading.{HasBadLine}
+use Rattle.def_certtext.specs.Settings.{AreInRange}
 use Rattle.def_certtext.specs.declared.Asked.{Asked}
+use Rattle.def_cut.specs.FullCut.{IsFullCut}
 use Rattle.def_flow.specs.Network.{network}
 use Rattle.def_io.specs.Bytes.{Bytes}
 use Rattle.def_io.specs.Lines.{lines_of, tail_of}
-use Rattle.def_layout.specs.Plans.{plan}
+use Rattle.def_io.specs.declared.TheConstants.{LINE_FEED}
+use Rattle.def_layout.specs.FaceLayouts.{IsLayoutOf}
+use Rattle.def_layout.specs.Lengths.{Lengths}
+use Rattle.def_layout.specs.Plans.{plan, Plan}
+use Rattle.def_marks.specs.MarkedText.{marked_text}
 use Rattle.def_mesh.specs.Faults.{IsFirstFault}
 use Rattle.def_mesh.specs.Manifold.{IsManifold}
+use Rattle.def_remesh.specs.Keeping.{IsNetFor}
 use Rattle.def_remesh.specs.Placings.{IsLayoutIn}
 use Rattle.def_remesh.specs.Refusals.{IsTangledAt}
+use Rattle.def_remesh.specs.Tasks.{old_lengths, Task}
 use Rattle.def_remesh.specs.TextLaws.{IsSolid}
-use Rattle.def_run.specs.Check.{head_of, HasOldSoup}
-use Rattle.def_run.specs.Remesh.{IsCutTo}
 use Rattle.def_run.specs.declared.answer.Why.TheVariants as why
-use Rattle.def_text.specs.FaceSet.{FaceSet}
-use Rattle.def_layout.specs.Plans.{Plan}
-use Rattle.def_remesh.specs.Keeping.{IsNetFor}
 use Rattle.def_run.specs.declared.check_fail.CheckFail.{CheckFail}
-use Rattle.def_run.specs.declared.check_fail.CheckFail.TheVariants.{NotAccepted, NotManifold, Tangled, Memory}
+use Rattle.def_run.specs.declared.check_fail.CheckFail.TheVariants.{NotAccepted, Old as OldFail, NotManifold, Tangled, Memory}
+use Rattle.def_text.specs.FaceSet.{FaceSet}
+use Rattle.def_text.specs.Text.{soup_in}
+use Rattle.def_text.specs.declared.refusal.ObjFail.TheVariants as obj
 use Rattle.qm_certtext.specs.declared.last.HeadAt.{HeadAt}
 use Rattle.qm_check.specs.declared.old.Old.{Old}
+use Rattle.qm_check.specs.declared.ready.Frame.{Frame}
 use Rattle.qm_check.specs.declared.ready.Ready.{Ready}
-use Rattle.def_remesh.specs.Tasks.{old_lengths}
+use Rattle.qm_obj.proofs.LawText.{is_inside}
+use Rattle.qm_write.specs.declared.body.CutMesh.{CutMesh}
 
--- The last head line of these bytes stands there, and divides them.
-pub record DividesAt (bytes : Bytes) (head : HeadAt) : Type 0 where
-  pub last : IsLastHead (lines_of bytes) head.line
+-- A line of the bytes begins there.
+pub record CutsAt (bytes : Bytes) (head : HeadAt) : Type 0 where
+  pub there : head.line < length (lines_of bytes)
   pub within : head.at ≤ length bytes
   pub old : lines_of (take head.at bytes) ≡ take head.line (lines_of bytes)
   pub written : drop head.at bytes ≡ tail_of head.line bytes
 
--- The old text has this soup, whose faces are a manifold with this mesh.
-pub record IsOld (bytes : Bytes) (line : ℕ) (old : Old) : Type 0 where
-  pub soup : HasOldSoup bytes line old.soup
+-- It is the last head line, and divides them.
+pub record DividesAt (bytes : Bytes) (head : HeadAt) : Type 0 where
+  pub last : IsLastHead (lines_of bytes) head.line
+  pub cuts : CutsAt bytes head
+
+-- The text has this soup, whose faces are a manifold with this mesh.
+pub record IsOld (text : Bytes) (old : Old) : Type 0 where
+  pub said : soup_in text ≡ Ok old.soup
   pub manifold : IsManifold old.soup.faces
   pub solid : IsSolid old.soup
   pub mesh : old.mesh ≡ old.soup.faces
 
 -- Why a soup is no mesh, where there is memory.
-abbrev pub IsNoOld : (soup : FaceSet) (fail : CheckFail) → Type 0
-IsNoOld soup (NotManifold place other) =
+abbrev pub IsNoMeshOf : (soup : FaceSet) (fail : CheckFail) → Type 0
+IsNoMeshOf soup (NotManifold place other) =
     (other ≡ soup) × IsFirstFault soup.faces place × (¬ IsManifold soup.faces)
-IsNoOld soup Memory = ⊤
-IsNoOld soup _ = ⊥
+IsNoMeshOf soup Memory = ⊤
+IsNoMeshOf soup _ = ⊥
 
--- A mesh that is cut to a layout, and the network of the layout for what was asked.
-pub record IsFit (old : Old) (asked : Asked) (ready : Ready) : Type 0 where
-  pub asked_is : ready.asked ≡ asked
-  pub soup : ready.soup ≡ old.soup
-  pub mesh : ready.cut.mesh ≡ ready.soup.faces
-  pub cut : IsCutTo ready.soup.faces (plan ready.cut.layout)
-  pub lies : IsLayoutIn ready.soup.faces (plan ready.cut.layout)
-  pub net : IsNetFor old_lengths (plan ready.cut.layout) asked.settings (network ready.net)
+-- Why a text has no mesh, where there is memory.
+abbrev pub IsNoOld : (text : Bytes) (fail : CheckFail) → Type 0
+IsNoOld text (OldFail fail) = (fail ≢ obj.Memory) × (soup_in text ≡ Err fail)
+IsNoOld text (NotManifold place soup) =
+    (soup_in text ≡ Ok soup) × IsFirstFault soup.faces place × (¬ IsManifold soup.faces)
+IsNoOld text Memory = ⊤
+IsNoOld text _ = ⊥
 
--- A mesh whose network is too tangled.
-pub record IsTangledFor (old : Old) (asked : Asked) (count : ℕ) : Type 0 where
+-- The lines of marked arcs, or none where there are no marks.
+abbrev pub between_text : (marks : Option (List Bool)) (plan : Plan) (new : Lengths) → Bytes
+between_text None plan new = []
+between_text (Some marks) plan new = marked_text marks plan new
+
+-- The marks whose lines stand in a text.
+abbrev pub marks_of : (frame : Frame) → Option (List Bool)
+marks_of frame = option_map (λ marks. marks.items) frame.marks
+
+-- A mesh that is cut as a task asks, in the frame of its text.
+pub record IsLaidOut (task : Task) (soup : FaceSet) (cut : CutMesh) (frame : Frame) : Type 0 where
+  pub manifold : IsManifold soup.faces
+  pub solid : IsSolid soup
+  pub mesh : cut.mesh ≡ soup.faces
+  pub full : IsFullCut soup.faces task.marks
+  pub laid : IsLayoutOf soup.faces task.marks (plan cut.layout)
+  pub lies : IsLayoutIn soup.faces (plan cut.layout)
+  pub range : AreInRange task.settings task.auto
+  pub settings : frame.asked.settings ≡ task.settings
+  pub auto : frame.asked.auto ≡ task.auto
+  pub head : frame.head.items ≡ task.head ++ LINE_FEED ∷ []
+  pub inside : list_all is_inside task.head ≡ true
+  pub between : (plan : Plan) (new : Lengths) → task.between plan new ≡ between_text (marks_of frame) plan new
+
+-- The same with the network of the task.
+pub record IsReady (task : Task) (ready : Ready) : Type 0 where
+  pub laid_out : IsLaidOut task ready.soup ready.cut ready.frame
+  pub net : IsNetFor task.wish (plan ready.cut.layout) task.settings (network ready.net)
+
+-- The network of the task is too tangled.
+pub record IsTangledFor (task : Task) (soup : FaceSet) (count : ℕ) : Type 0 where
   pub plan : Plan
-  pub cut : IsCutTo old.soup.faces plan
-  pub lies : IsLayoutIn old.soup.faces plan
-  pub tangled : IsTangledAt old_lengths plan asked.settings count
+  pub laid : IsLayoutOf soup.faces task.marks plan
+  pub lies : IsLayoutIn soup.faces plan
+  pub tangled : IsTangledAt task.wish plan task.settings count
 
--- Why a layout has no network that is checked by.
-abbrev pub IsTooTangled : (plan : Plan) (asked : Asked) (fail : CheckFail) → Type 0
-IsTooTangled plan asked (Tangled count) = IsTangledAt old_lengths plan asked.settings count
-IsTooTangled plan asked Memory = ⊤
-IsTooTangled plan asked _ = ⊥
+-- Why a layout has no network near its old lengths, where there is memory.
+abbrev pub HasNoNet : (plan : Plan) (asked : Asked) (fail : CheckFail) → Type 0
+HasNoNet plan asked (Tangled count) = IsTangledAt old_lengths plan asked.settings count
+HasNoNet plan asked Memory = ⊤
+HasNoNet plan asked _ = ⊥
 
--- Why a mesh has no network that is checked by.
-abbrev pub IsUnfit : (old : Old) (asked : Asked) (fail : CheckFail) → Type 0
-IsUnfit old asked (Tangled count) = IsTangledFor old asked count
-IsUnfit old asked Memory = ⊤
-IsUnfit old asked _ = ⊥
+-- Why a task has no network, where there is memory.
+abbrev pub IsUnready : (task : Task) (soup : FaceSet) (fail : CheckFail) → Type 0
+IsUnready task soup (Tangled count) = IsTangledFor task soup count
+IsUnready task soup Memory = ⊤
+IsUnready task soup _ = ⊥
 
--- The old text has this mesh, with the network for what its head line asks.
-pub record IsReady (bytes : Bytes) (line : ℕ) (ready : Ready) : Type 0 where
-  pub old : HasOldSoup bytes line ready.soup
-  pub manifold : IsManifold ready.soup.faces
-  pub solid : IsSolid ready.soup
-  pub head : IsHead (head_of bytes line) ready.asked.settings ready.asked.auto
-  pub mesh : ready.cut.mesh ≡ ready.soup.faces
-  pub cut : IsCutTo ready.soup.faces (plan ready.cut.layout)
-  pub lies : IsLayoutIn ready.soup.faces (plan ready.cut.layout)
-  pub net : IsNetFor old_lengths (plan ready.cut.layout) ready.asked.settings (network ready.net)
-
--- The lines from the head line on tell that the text was made so.
-abbrev pub Tells : (bytes : Bytes) (line : ℕ) (made : Made) → Type 0
-Tells bytes line made = TellHow (head_of bytes line) (drop (line + 1) (lines_of bytes)) made
-
--- Why they tell nothing: a line behind the head line is bad.
-abbrev pub TellsNothing : (bytes : Bytes) (line : ℕ) (fail : CheckFail) → Type 0
-TellsNothing bytes line (NotAccepted (why.CertLine bad)) =
-    HasBadLine (head_of bytes line) (line + 2) (drop (line + 1) (lines_of bytes)) bad
-TellsNothing bytes line Memory = ⊤
-TellsNothing bytes line _ = ⊥
+-- Why the lines behind a head line tell nothing: one of them is bad.
+abbrev pub TellsNothing : (head bytes : Bytes) (line : ℕ) (fail : CheckFail) → Type 0
+TellsNothing head bytes line (NotAccepted (why.CertLine bad)) =
+    HasBadLine head (line + 2) (drop (line + 1) (lines_of bytes)) bad
+TellsNothing head bytes line Memory = ⊤
+TellsNothing head bytes line _ = ⊥

@@ -1,4 +1,4 @@
--- Why a text is no pair.
+-- Why an old text is refused.
 use Rattle.def_run.specs.declared.check_fail.CheckFail.{CheckFail}
 use Rattle.def_run.specs.declared.check_fail.CheckFail.TheVariants.{Old, Memory}
 use Rattle.def_text.specs.declared.refusal.ObjFail.{ObjFail}

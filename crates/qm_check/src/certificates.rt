@@ -9,7 +9,7 @@ ghost use Rattle.def_layout.specs.Plans.{plan};
 ghost use Rattle.qm_check.specs.Checked.{made_once, made_twice, IsInReach, IsChecked, IsUnused};
 ghost use Rattle.def_remesh.specs.Keeping.{IsNetFor};
 ghost use Rattle.remesh_laws.specs.Keeps.{IsDoubling};
-ghost use Rattle.def_remesh.specs.Tasks.{old_lengths};
+ghost use Rattle.def_remesh.specs.Tasks.{Wish};
 
 use crate::lengths::{Lengths, check_lengths};
 use def_certtext::{Asked, Written};
@@ -35,12 +35,14 @@ pub(crate) fn check_written(
     net: Net,
     written: Written,
 ) -> Result<Checked, CheckFail>
-    requires net { IsNetFor old_lengths (plan t.now) written.settings (network net) }
+    requires net { (wish : Wish) × IsNetFor wish (plan t.now) written.settings (network net) }
     requires cert { IsInReach (lists_of written.cert) }
     requires first { (cert : AnyCert) → written.first ≡ Some cert
         → IsInReach (lists_of cert) × (written.auto ≡ true) }
-    ensures checked { IfOk result (IsChecked (plan t.now) (network net) (made_of written)) }
-    ensures unused { IfErr result (IsUnused (plan t.now) (made_of written)) }
+    ensures checked { (wish : Wish) → IsNetFor wish (plan t.now) written.settings (network net)
+        → IfOk result (IsChecked wish (plan t.now) (network net) (made_of written)) }
+    ensures unused { (wish : Wish) → IsNetFor wish (plan t.now) written.settings (network net)
+        → IfErr result (IsUnused wish (plan t.now) (made_of written)) }
 {
     let Written {
         settings,
@@ -70,10 +72,12 @@ fn check_only(
     asked: Asked,
     cert: Cert,
 ) -> Result<Checked, CheckFail>
-    requires net { IsNetFor old_lengths (plan t.now) asked.settings (network net.now) }
+    requires net { (wish : Wish) × IsNetFor wish (plan t.now) asked.settings (network net.now) }
     requires cert { IsInReach (lists_of cert) }
-    ensures checked { IfOk result (IsChecked (plan t.now) (network net.now) (made_once asked (lists_of cert))) }
-    ensures unused { IfErr result (IsUnused (plan t.now) (made_once asked (lists_of cert))) }
+    ensures checked { (wish : Wish) → IsNetFor wish (plan t.now) asked.settings (network net.now)
+        → IfOk result (IsChecked wish (plan t.now) (network net.now) (made_once asked (lists_of cert))) }
+    ensures unused { (wish : Wish) → IsNetFor wish (plan t.now) asked.settings (network net.now)
+        → IfErr result (IsUnused wish (plan t.now) (made_once asked (lists_of cert))) }
 {
     match check_lengths(alloc, t, net, &cert)? {
         Lengths::Whole {
@@ -102,14 +106,14 @@ fn check_both(
     asked: Asked,
     pair: Pair,
 ) -> Result<Checked, CheckFail>
-    requires net { IsNetFor old_lengths (plan t.now) asked.settings (network net) }
+    requires net { (wish : Wish) × IsNetFor wish (plan t.now) asked.settings (network net) }
     requires auto { asked.auto ≡ true }
     requires third { IsInReach (lists_of pair.third) }
     requires first { IsInReach (lists_of pair.first) }
-    ensures checked { IfOk result
-        (IsChecked (plan t.now) (network net) (made_twice asked (lists_of pair.first) (lists_of pair.third))) }
-    ensures unused { IfErr result
-        (IsUnused (plan t.now) (made_twice asked (lists_of pair.first) (lists_of pair.third))) }
+    ensures checked { (wish : Wish) → IsNetFor wish (plan t.now) asked.settings (network net) → IfOk result
+        (IsChecked wish (plan t.now) (network net) (made_twice asked (lists_of pair.first) (lists_of pair.third))) }
+    ensures unused { (wish : Wish) → IsNetFor wish (plan t.now) asked.settings (network net) → IfErr result
+        (IsUnused wish (plan t.now) (made_twice asked (lists_of pair.first) (lists_of pair.third))) }
 {
     match check_lengths(alloc, t, &net, &pair.first)? {
         Lengths::Whole {
@@ -136,14 +140,15 @@ fn check_third(
     asked: Asked,
     pair: Pair,
 ) -> Result<Checked, CheckFail>
-    requires net { IsNetFor old_lengths (plan t.now) asked.settings (network net) }
+    requires net { (wish : Wish) × IsNetFor wish (plan t.now) asked.settings (network net) }
     requires auto { asked.auto ≡ true }
     requires third { IsInReach (lists_of pair.third) }
-    requires doubling { IsDoubling old_lengths (plan t.now) asked.settings (lists_of pair.first) }
-    ensures checked { IfOk result
-        (IsChecked (plan t.now) (network net) (made_twice asked (lists_of pair.first) (lists_of pair.third))) }
-    ensures unused { IfErr result
-        (IsUnused (plan t.now) (made_twice asked (lists_of pair.first) (lists_of pair.third))) }
+    requires doubling { (wish : Wish) → IsNetFor wish (plan t.now) asked.settings (network net)
+        → IsDoubling wish (plan t.now) asked.settings (lists_of pair.first) }
+    ensures checked { (wish : Wish) → IsNetFor wish (plan t.now) asked.settings (network net) → IfOk result
+        (IsChecked wish (plan t.now) (network net) (made_twice asked (lists_of pair.first) (lists_of pair.third))) }
+    ensures unused { (wish : Wish) → IsNetFor wish (plan t.now) asked.settings (network net) → IfErr result
+        (IsUnused wish (plan t.now) (made_twice asked (lists_of pair.first) (lists_of pair.third))) }
 {
     let raised = with_floor(net, MAX_FLOOR);
     let Pair { first, third } = pair;

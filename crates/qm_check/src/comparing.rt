@@ -1,44 +1,46 @@
 //! A text against the one that is made anew.
 
-ghost use Rattle.std.specs.Prelude.{◌≡◌, ◌≤◌, ◌+◌, length, IfErr, OnOk};
+ghost use Rattle.std.specs.Prelude.{◌≡◌, ◌≤◌, ◌+◌, length, IfErr, IfOk, OnOk};
 ghost use Rattle.std.specs.Option.{option_map};
 ghost use Rattle.def_certtext.specs.CertLines.{lists_of};
 ghost use Rattle.def_layout.specs.Plans.{plan};
 ghost use Rattle.def_remesh.specs.Keeping.{IsKept};
 ghost use Rattle.def_remesh.specs.Placings.{IsLayoutIn};
-ghost use Rattle.def_remesh.specs.Remeshed.{remeshed_text};
+ghost use Rattle.def_remesh.specs.Tasks.{Wish};
 ghost use Rattle.def_text.specs.declared.limits.TheConstants.{MAX_BYTES};
 ghost use Rattle.qm_check.specs.Checked.{IsDifference};
-ghost use Rattle.def_remesh.specs.Tasks.{old_lengths};
+ghost use Rattle.qm_check.specs.Judged.{ArePointsOf};
+ghost use Rattle.qm_write.specs.Framing.{framed_text};
 
 use def_run::{CheckFail, Why};
 use def_text::Soup;
 use qm_output::Comparison;
-use qm_write::{CutMesh, PutFail, Remesh, put_remeshed};
+use qm_write::{CutMesh, Framed, NewPoints, PutFail, put_framed};
 use std::alloc::Global;
 
-/// Compares the bytes with the text of a remesh, which is made piece by piece and not kept.
+/// Compares the bytes with the text of a remesh in its frame, which is made piece by piece and not kept. It gives back
+/// the points of the new mesh.
 pub(crate) fn compare(
     alloc: Global,
     given: &[u8],
     soup: &Soup,
     cut: &CutMesh,
-    remesh: Remesh,
-) -> Result<(), CheckFail>
+    framed: Framed,
+) -> Result<NewPoints, CheckFail>
     requires few { length given.now ≤ MAX_BYTES }
     requires mesh { cut.now.mesh ≡ soup.now.faces }
     requires layout { IsLayoutIn cut.now.mesh (plan cut.now.layout) }
-    requires kept { IsKept old_lengths (plan cut.now.layout) remesh.asked.settings remesh.asked.auto
-        (lists_of remesh.first) (option_map lists_of remesh.third) remesh.numbering }
-    ensures same { OnOk result (given.now ≡ remeshed_text remesh.asked.settings remesh.asked.auto soup.now
-        (plan cut.now.layout) (lists_of remesh.first) (option_map lists_of remesh.third)) }
-    ensures other { IfErr result (IsDifference given.now (remeshed_text remesh.asked.settings remesh.asked.auto soup.now
-        (plan cut.now.layout) (lists_of remesh.first) (option_map lists_of remesh.third))) }
+    requires kept { (wish : Wish) × IsKept wish (plan cut.now.layout)
+        framed.remesh.asked.settings framed.remesh.asked.auto
+        (lists_of framed.remesh.first) (option_map lists_of framed.remesh.third) framed.remesh.numbering }
+    ensures same { OnOk result (given.now ≡ framed_text framed soup.now (plan cut.now.layout)) }
+    ensures points { IfOk result (ArePointsOf cut.now.mesh (plan cut.now.layout) framed.remesh) }
+    ensures other { IfErr result (IsDifference given.now (framed_text framed soup.now (plan cut.now.layout))) }
 {
     let mut comparison = Comparison::new(given);
-    match put_remeshed(alloc, &mut comparison, soup, cut, remesh) {
-        Ok(()) if comparison.is_over() => Ok(()),
-        Ok(()) => Err(other_from(comparison.at())),
+    match put_framed(alloc, &mut comparison, soup, cut, framed) {
+        Ok(points) if comparison.is_over() => Ok(points),
+        Ok(_) => Err(other_from(comparison.at())),
         Err(PutFail::Stopped) => Err(other_from(comparison.at())),
         Err(PutFail::Memory) => Err(CheckFail::Memory),
     }

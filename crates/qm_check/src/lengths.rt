@@ -10,7 +10,7 @@ ghost use Rattle.def_flow.specs.declared.net.Settings.{Settings as AnySettings};
 ghost use Rattle.def_layout.specs.Plans.{plan as plan_of, Plan};
 ghost use Rattle.qm_check.specs.Checked.{Gives, GivesNone, IsInReach};
 ghost use Rattle.def_remesh.specs.Keeping.{IsNetFor};
-ghost use Rattle.def_remesh.specs.Tasks.{old_lengths};
+ghost use Rattle.def_remesh.specs.Tasks.{Wish};
 
 use def_flow::{Cert, CertVerdict, Net};
 use def_layout::TMesh;
@@ -42,7 +42,7 @@ pub(crate) fn check_lengths(
     net: &Net,
     cert: &Cert,
 ) -> Result<Lengths, CheckFail>
-    requires net { (settings : AnySettings) × IsNetFor old_lengths (plan_of t.now) settings (network net.now) }
+    requires net { (wish : Wish) × (settings : AnySettings) × IsNetFor wish (plan_of t.now) settings (network net.now) }
     requires cert { IsInReach (lists_of cert.now) }
     ensures solved { OnOk result (IsSolution (network net.now) (certificate cert.now)) }
     ensures gives { IfOk result (Gives (plan_of t.now) (network net.now) cert.now.x.items) }
@@ -64,7 +64,8 @@ pub(crate) fn check_lengths(
 
 /// How far the lengths of an accepted certificate are from what is wanted.
 fn accepted_deviation(alloc: Global, net: &Net, cert: &Cert) -> Result<u128, CheckFail>
-    requires net { (settings : AnySettings) × (plan : Plan) × IsNetFor old_lengths plan settings (network net.now) }
+    requires net { (wish : Wish) × (settings : AnySettings) × (plan : Plan)
+        × IsNetFor wish plan settings (network net.now) }
     requires cert { IsInReach (lists_of cert.now) }
     ensures solved { OnOk result (IsSolution (network net.now) (certificate cert.now)) }
     ensures told { IfOk result (λ d. d ≡ deviation_of (network net.now) (entries cert.now.x.items)) }

@@ -7,14 +7,11 @@ ghost use Rattle.def_remesh.specs.TextLaws.{IsSolid};
 ghost use Rattle.def_text.specs.Decimal.{is_far};
 ghost use Rattle.def_text.specs.Laws.{is_position};
 ghost use Rattle.def_text.specs.Text.{soup_in};
-ghost use Rattle.qm_check.specs.Ready.{DividesAt, IsNoOld, IsOld};
-ghost use Rattle.def_run.specs.CheckFails.{IsCheckFail};
+ghost use Rattle.qm_check.specs.Ready.{IsNoMeshOf, IsNoOld, IsOld};
 ghost use Rattle.qm_check.specs.Refused.{of_obj};
 
-use crate::parts::old_text;
 use def_run::CheckFail;
 use def_text::{MAX_BYTES, MAX_F_LINES, MAX_V_LINES, Micro, ObjFail, Soup};
-use qm_certtext::HeadAt;
 use qm_cut::are_quads;
 use qm_mesh::{Mesh, MeshFail, build};
 use qm_obj::ObjFeed;
@@ -27,14 +24,13 @@ pub(crate) struct Old {
     pub(crate) mesh: Mesh,
 }
 
-/// The soup and the mesh of the bytes before the head line.
-pub(crate) fn read_old(alloc: Global, bytes: &[u8], head: HeadAt) -> Result<Old, CheckFail>
-    requires few { length bytes.now ≤ MAX_BYTES }
-    requires head { DividesAt bytes.now head }
-    ensures old { IfOk result (IsOld bytes.now head.line) }
-    ensures refused { IfErr result (IsCheckFail bytes.now) }
+/// The soup and the mesh of the old text.
+pub(crate) fn read_old(alloc: Global, text: &[u8]) -> Result<Old, CheckFail>
+    requires { length text.now ≤ MAX_BYTES }
+    ensures old { IfOk result (IsOld text.now) }
+    ensures refused { IfErr result (IsNoOld text.now) }
 {
-    match read_text(alloc, old_text(bytes, head)) {
+    match read_text(alloc, text) {
         Ok(soup) => with_mesh(alloc, soup),
         Err(fail) => Err(refusal_of(fail)),
     }
@@ -69,7 +65,7 @@ fn with_mesh(alloc: Global, soup: Soup) -> Result<Old, CheckFail>
     ensures mesh { IfOk result (λ old. old.mesh ≡ soup.faces) }
     ensures manifold { OnOk result (IsManifold soup.faces) }
     ensures solid { OnOk result (IsSolid soup) }
-    ensures refused { IfErr result (IsNoOld soup) }
+    ensures refused { IfErr result (IsNoMeshOf soup) }
 {
     match build(alloc, soup.pos.len() as u32, &soup.faces) {
         Ok(mesh) => {

@@ -1,21 +1,18 @@
-//! One text, from its bytes to the verdict.
+//! One text of a pair, from its bytes to the verdict.
 
-ghost use Rattle.std.specs.Prelude.{◌≤◌, Bool, length, IfErr, IfOk};
-ghost use Rattle.def_certtext.specs.Reading.{made_of, IsHead};
-ghost use Rattle.def_flow.specs.declared.net.Settings.{Settings as AnySettings};
-ghost use Rattle.def_run.specs.Check.{head_of, IsCountedPair};
-ghost use Rattle.def_text.specs.declared.limits.TheConstants.{MAX_BYTES};
-ghost use Rattle.qm_check.specs.Ready.{DividesAt, IsOld, IsReady, Tells, TellsNothing};
+ghost use Rattle.std.specs.Prelude.{◌≤◌, length, IfErr, IfOk};
+ghost use Rattle.def_run.specs.Check.{HasOldSoup, IsCountedPair};
 ghost use Rattle.def_run.specs.CheckFails.{IsCheckFail};
+ghost use Rattle.def_text.specs.declared.limits.TheConstants.{MAX_BYTES};
+ghost use Rattle.def_io.specs.Bytes.{Bytes};
+ghost use Rattle.qm_check.specs.Ready.{DividesAt, IsOld};
 
-use crate::certificates::check_written;
-use crate::comparing::compare;
+use crate::judging::judge_text;
+use crate::making::ready_to_remesh;
 use crate::old::{Old, read_old};
-use crate::parts::{head_line, written_text};
-use crate::ready::{Ready, ready_of};
-use def_certtext::{CertFail, Written};
+use crate::parts::{head_line, old_text};
 use def_run::{CheckFail, Why};
-use qm_certtext::{HeadAt, find_head, read_head, read_tail};
+use qm_certtext::{HeadAt, find_head, read_head};
 use std::alloc::Global;
 
 /// What is told of a pair: its arcs, the faces of the new mesh, and how far the lengths are from what is wanted.
@@ -46,7 +43,7 @@ fn check_parts(alloc: Global, bytes: &[u8], head: HeadAt) -> Result<Accepted, Ch
     ensures accepted { IfOk result (λ told. IsCountedPair bytes.now told.arcs told.faces told.deviation) }
     ensures refused { IfErr result (IsCheckFail bytes.now) }
 {
-    let old = read_old(alloc, bytes, head)?;
+    let old = read_old(alloc, old_text(bytes, head))?;
     check_behind(alloc, bytes, head, old)
 }
 
@@ -54,69 +51,20 @@ fn check_parts(alloc: Global, bytes: &[u8], head: HeadAt) -> Result<Accepted, Ch
 fn check_behind(alloc: Global, bytes: &[u8], head: HeadAt, old: Old) -> Result<Accepted, CheckFail>
     requires few { length bytes.now ≤ MAX_BYTES }
     requires head { DividesAt bytes.now head }
-    requires old { IsOld bytes.now head.line old }
+    requires old { (text : Bytes) × IsOld text old }
+    requires soup { HasOldSoup bytes.now head.line old.soup }
     ensures accepted { IfOk result (λ told. IsCountedPair bytes.now told.arcs told.faces told.deviation) }
     ensures refused { IfErr result (IsCheckFail bytes.now) }
 {
-    match read_head(head_line(bytes, head)) {
-        Some(asked) => {
-            let ready = ready_of(alloc, old, asked)?;
-            check_certificates(alloc, bytes, head, ready)
-        }
-        None => Err(CheckFail::NotAccepted { why: Why::Head }),
-    }
-}
-
-/// Checks the certificates, and compares the text.
-fn check_certificates(
-    alloc: Global,
-    bytes: &[u8],
-    head: HeadAt,
-    ready: Ready,
-) -> Result<Accepted, CheckFail>
-    requires few { length bytes.now ≤ MAX_BYTES }
-    requires head { DividesAt bytes.now head }
-    requires ready { IsReady bytes.now head.line ready }
-    ensures accepted { IfOk result (λ told. IsCountedPair bytes.now told.arcs told.faces told.deviation) }
-    ensures refused { IfErr result (IsCheckFail bytes.now) }
-{
-    let written = read_certificates(alloc, bytes, head)?;
-    let Ready {
-        asked: _,
-        soup,
-        cut,
-        net,
-    } = ready;
-    let checked = check_written(alloc, &cut.layout, net, written)?;
-    let accepted = Accepted {
-        arcs: cut.layout.arcs.len() as u32,
-        faces: checked.remesh.numbering.faces(),
-        deviation: checked.deviation,
+    let line = head_line(bytes, head);
+    let Some(asked) = read_head(line) else {
+        return Err(CheckFail::NotAccepted { why: Why::Head });
     };
-    compare(
-        alloc,
-        written_text(bytes, head),
-        &soup,
-        &cut,
-        checked.remesh,
-    )?;
-    Ok(accepted)
-}
-
-/// What the lines from this head line on say.
-fn read_certificates(alloc: Global, bytes: &[u8], head: HeadAt) -> Result<Written, CheckFail>
-    requires few { length bytes.now ≤ MAX_BYTES }
-    requires head { DividesAt bytes.now head }
-    requires asked { (settings : AnySettings) × (auto : Bool) × IsHead (head_of bytes.now head.line) settings auto }
-    ensures told { IfOk result (λ written. Tells bytes.now head.line (made_of written)) }
-    ensures refused { IfErr result (TellsNothing bytes.now head.line) }
-{
-    match read_tail(alloc, written_text(bytes, head), head.line) {
-        Ok(written) => Ok(written),
-        Err(CertFail::Line { line }) => Err(CheckFail::NotAccepted {
-            why: Why::CertLine { line },
-        }),
-        Err(CertFail::Head) => unreachable!(),
-        Err(CertFail::Memory) => Err(CheckFail::Memory),
-    }
+    let ready = ready_to_remesh(alloc, line, old, asked)?;
+    let finished = judge_text(alloc, bytes, head, ready)?;
+    Ok(Accepted {
+        arcs: finished.cut.layout.arcs.len() as u32,
+        faces: finished.points.numbering.faces(),
+        deviation: finished.deviation,
+    })
 }

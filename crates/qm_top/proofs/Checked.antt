@@ -18,7 +18,7 @@ use Rattle.def_text.specs.declared.refusal.ObjFail.{ObjFail}
 use Rattle.def_text.specs.declared.refusal.ObjFail.TheVariants as obj
 use Rattle.def_text.specs.declared.refusal.SoupFail.TheVariants as soup
 use Rattle.def_text.specs.declared.refusal.Which.TheVariants.{Bytes as AllBytes}
-use Rattle.qm_check.proofs.Refuted.{headless, old_faulty, old_refused}
+use Rattle.qm_check.proofs.Pairs.{headless, old_faulty, old_refused}
 use Rattle.qm_top.proofs.NeverBytes.{never_bytes}
 use Rattle.qm_top.proofs.Refusals.{obj_place}
 use Rattle.qm_top.specs.Checking.{IsNoPairFor, IsUnaccepted}

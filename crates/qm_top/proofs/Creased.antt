@@ -40,7 +40,7 @@ use Rattle.def_text.specs.declared.refusal.ObjFail.TheVariants as obj
 use Rattle.def_text.specs.declared.refusal.SoupFail.TheVariants as soup
 use Rattle.qm_top.proofs.Refusals.{crease_needs, input_ended}
 use Rattle.qm_top.specs.Creasing.{IsUnmarked}
-use Rattle.qm_top.specs.Finishing.{IsFramed}
+use Rattle.qm_write.specs.Framing.{IsFramed}
 use Rattle.qm_top.specs.Refusals.{Ended, IsNoMeshOf}
 use Rattle.qm_top.specs.Writing.{FailsTask}
 use Rattle.qm_top.specs.declared.refusal.Refusal.{Refusal}

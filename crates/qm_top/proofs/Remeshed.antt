@@ -18,7 +18,8 @@ use Rattle.def_text.specs.FaceSet.{FaceSet}
 use Rattle.def_text.specs.Input.{ReadSoup}
 use Rattle.def_text.specs.declared.limits.TheConstants.{MAX_BYTES}
 use Rattle.qm_top.proofs.Writers.{IsWriter}
-use Rattle.qm_top.specs.Finishing.{IsFramed, IsHeaded}
+use Rattle.qm_top.specs.Finishing.{IsHeaded}
+use Rattle.qm_write.specs.Framing.{IsFramed}
 use Rattle.qm_top.specs.Refusals.{answer_of_layout}
 use Rattle.qm_write.specs.declared.text.Framed.{Framed}
 use Rattle.qm_write.specs.declared.text.PutFail.{PutFail}

@@ -33,7 +33,7 @@ use Rattle.def_text.specs.FaceSet.{FaceSet}
 use Rattle.def_text.specs.Input.{ReadSoup}
 use Rattle.def_text.specs.Types.{Positions}
 use Rattle.def_text.specs.declared.limits.TheConstants.{MAX_BYTES}
-use Rattle.qm_top.specs.Finishing.{IsFramed}
+use Rattle.qm_write.specs.Framing.{IsFramed}
 use Rattle.qm_top.specs.Refusals.{answer_of_layout, refusal_of_size}
 use Rattle.qm_top.specs.Runs.{HasRun}
 use Rattle.qm_top.specs.Sizing.{FailsSize, IsFarSoup, IsUnsized}

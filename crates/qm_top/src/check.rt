@@ -70,7 +70,9 @@ fn refusal_of(fail: CheckFail) -> Refusal
         CheckFail::NotAccepted { why } => Refusal::NotAccepted(why),
         CheckFail::Old { fail } => Refusal::Soup(SoupFail::Obj(fail)),
         CheckFail::NotManifold { place, soup } => Refusal::NotManifold(named_place(place, soup)),
+        CheckFail::Marks { fail } => Refusal::Marks(fail),
         CheckFail::Tangled { count } => Refusal::Layout(LayoutFail::Tangled { count }),
+        CheckFail::Far { sum } => Refusal::Far(sum),
         CheckFail::Memory => Refusal::Memory,
     }
 }

@@ -8,7 +8,8 @@ ghost use Rattle.def_layout.specs.Plans.{plan};
 ghost use Rattle.def_remesh.specs.Placings.{IsLayoutIn};
 ghost use Rattle.def_remesh.specs.Tasks.{Task};
 ghost use Rattle.remesh_laws.specs.Keeps.{ShowsTask};
-ghost use Rattle.qm_top.specs.Finishing.{framed_text, IsFramed, IsHeaded, IsNoLayout};
+ghost use Rattle.qm_top.specs.Finishing.{IsHeaded, IsNoLayout};
+ghost use Rattle.qm_write.specs.Framing.{framed_text, IsFramed};
 ghost use Rattle.qm_top.specs.Writing.{FailsTask, IsUnwritten, WroteText};
 
 use crate::refusal::Refusal;

@@ -8,20 +8,20 @@ use Rattle.qm_check.specs.Checked.{made_once, Gives, IsUnused}
 use Rattle.qm_check.proofs.certificates.check_only.Goals as goal
 
 pub returns-in_err-numbering-clause-unused : goal.returns-in_err-numbering-clause-unused
-returns-in_err-numbering-clause-unused c =
-    handed (IsUnused (plan c.args.t.now) (made_once c.args.asked (lists_of c.args.cert))) c.from_residual.result c.in_err-numbering.field-0.0
+returns-in_err-numbering-clause-unused c wish for =
+    handed (IsUnused wish (plan c.args.t.now) (made_once c.args.asked (lists_of c.args.cert))) c.from_residual.result c.in_err-numbering.field-0.0
     c.from_residual.ensures.1
-    (unused_first (plan c.args.t.now) (network c.args.net.now) (made_once c.args.asked (lists_of c.args.cert)) c.args.cert c.in_err-numbering.field-0.0
-    refl c.requires.net c.in_err-numbering.ensures.refused)
+    (unused_first wish (plan c.args.t.now) (network c.args.net.now) (made_once c.args.asked (lists_of c.args.cert)) c.args.cert c.in_err-numbering.field-0.0
+    refl for c.in_err-numbering.ensures.refused)
 
 pub returns-in-Whole-clause-checked : goal.returns-in-Whole-clause-checked
-returns-in-Whole-clause-checked c =
-    checked_first (plan c.args.t.now) (network c.args.net.now) c.args.asked (made_once c.args.asked (lists_of c.args.cert)) c.args.cert
-    c.in-Whole.numbering c.in-Whole.deviation refl refl refl c.requires.net c.in_ok-numbering.ensures.solved
+returns-in-Whole-clause-checked c wish for =
+    checked_first wish (plan c.args.t.now) (network c.args.net.now) c.args.asked (made_once c.args.asked (lists_of c.args.cert)) c.args.cert
+    c.in-Whole.numbering c.in-Whole.deviation refl refl refl for c.in_ok-numbering.ensures.solved
     (subst (Gives (plan c.args.t.now) (network c.args.net.now) c.args.cert.x.items) c.in-Whole.is c.in_ok-numbering.ensures.gives)
 
 pub returns-in-Doubled-clause-unused : goal.returns-in-Doubled-clause-unused
-returns-in-Doubled-clause-unused c =
-    unused_lone (plan c.args.t.now) (network c.args.net.now) c.args.asked c.args.cert c.in-Doubled.u c.in-Doubled.v c.requires.net
+returns-in-Doubled-clause-unused c wish for =
+    unused_lone wish (plan c.args.t.now) (network c.args.net.now) c.args.asked c.args.cert c.in-Doubled.u c.in-Doubled.v for
     c.in_ok-numbering.ensures.solved
     (subst (Gives (plan c.args.t.now) (network c.args.net.now) c.args.cert.x.items) c.in-Doubled.is c.in_ok-numbering.ensures.gives)

@@ -14,7 +14,7 @@ returns-in_err-deviation-clause-refused c =
 
 pub plan-requires-clause-lengths : goal.plan-requires-clause-lengths
 plan-requires-clause-lengths c =
-    are_lengths (plan c.args.t.now) c.requires.net.0 (network c.args.net.now) c.args.cert.now _ c.requires.net.1 c.in_ok-deviation.ensures.solved
+    are_lengths (plan c.args.t.now) c.requires.net.1 (network c.args.net.now) c.args.cert.now _ c.requires.net.2 c.in_ok-deviation.ensures.solved
     c.deref.ensures.value
 
 pub returns-in-Ok-clause-gives : goal.returns-in-Ok-clause-gives

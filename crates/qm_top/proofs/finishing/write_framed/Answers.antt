@@ -2,8 +2,8 @@ use Rattle.std.proofs.Common.{◌≡◌, Err, ap, rules}
 use Rattle.def_io.specs.Moves.{took, TookPrefix}
 use Rattle.def_layout.specs.Plans.{plan}
 use Rattle.qm_output.proofs.Prefixes.{rest_prefix, text_prefix, text_whole}
-use Rattle.qm_top.proofs.Framed.{framed_kept}
-use Rattle.qm_top.specs.Finishing.{framed_text}
+use Rattle.qm_write.proofs.Framing.{framed_kept}
+use Rattle.qm_write.specs.Framing.{framed_text}
 use Rattle.error_laws.proofs.Errors.{same_error}
 use Rattle.qm_top.proofs.finishing.write_framed.Goals as goal
 

@@ -5,7 +5,7 @@ use Rattle.def_mesh.specs.Faces.{Faces}
 use Rattle.def_remesh.specs.Placings.{IsLayoutIn}
 use Rattle.qm_top.proofs.Framed.{framed_shown}
 use Rattle.qm_top.proofs.Remeshed.{put_refused}
-use Rattle.qm_top.specs.Finishing.{framed_text}
+use Rattle.qm_write.specs.Framing.{framed_text}
 use Rattle.qm_top.specs.Writing.{refusal_of_put}
 use Rattle.qm_top.proofs.finishing.write_task.Goals as goal
 

@@ -1,0 +1,96 @@
+//! One text, from its certificates to the verdict.
+
+ghost use Rattle.std.specs.Prelude.{◌≤◌, ◌+◌, drop, length, IfErr, IfOk};
+ghost use Rattle.def_certtext.specs.HeadLine.{head_line};
+ghost use Rattle.def_certtext.specs.Reading.{made_of, TellHow};
+ghost use Rattle.def_certtext.specs.Settings.{AreInRange};
+ghost use Rattle.def_io.specs.Lines.{lines_of, tail_of};
+ghost use Rattle.def_remesh.specs.Tasks.{Task};
+ghost use Rattle.def_text.specs.declared.limits.TheConstants.{MAX_BYTES};
+ghost use Rattle.qm_check.specs.Judged.{judged_by, Finishes, IsTextFail};
+ghost use Rattle.qm_check.specs.Ready.{CutsAt, IsReady, TellsNothing};
+
+use crate::between::lines_between;
+use crate::certificates::check_written;
+use crate::comparing::compare;
+use crate::parts::{text_behind, written_text};
+use crate::ready::Ready;
+use def_certtext::{Asked, CertFail, Written};
+use def_run::{CheckFail, Why};
+use def_text::Soup;
+use qm_certtext::{HeadAt, read_certs};
+use qm_write::{CutMesh, Framed, NewPoints};
+use std::alloc::Global;
+
+/// What a text shows that finishes a task: the mesh that it was made of, the points of the new mesh, and how far its
+/// lengths are from what is wanted.
+#[derive(Drop)]
+pub(crate) struct Finished {
+    pub(crate) soup: Soup,
+    pub(crate) cut: CutMesh,
+    pub(crate) points: NewPoints,
+    pub(crate) deviation: u128,
+}
+
+/// Judges the text from a head line on: its certificates are checked, and it is compared with the text as it is made
+/// anew.
+pub(crate) fn judge_text(
+    alloc: Global,
+    bytes: &[u8],
+    head: HeadAt,
+    ready: Ready,
+) -> Result<Finished, CheckFail>
+    requires few { length bytes.now ≤ MAX_BYTES }
+    requires head { CutsAt bytes.now head }
+    requires ready { (task : Task) × IsReady task ready }
+    ensures finished { (task : Task) → IsReady task ready
+        → IfOk result (Finishes task ready (tail_of head.line bytes.now)) }
+    ensures refused { (task : Task) → IsReady task ready
+        → IfErr result (IsTextFail (judged_by bytes.now head.line ready task)) }
+{
+    let written = read_certificates(alloc, bytes, head, ready.frame.asked)?;
+    let Ready {
+        soup,
+        cut,
+        frame,
+        net,
+    } = ready;
+    let checked = check_written(alloc, &cut.layout, net, written)?;
+    let between = lines_between(alloc, frame.marks, &cut.layout, &checked.remesh)?;
+    let framed = Framed {
+        head: frame.head,
+        between,
+        remesh: checked.remesh,
+    };
+    let points = compare(alloc, written_text(bytes, head), &soup, &cut, framed)?;
+    Ok(Finished {
+        soup,
+        cut,
+        points,
+        deviation: checked.deviation,
+    })
+}
+
+/// What the lines behind a head line say that asks for this.
+fn read_certificates(
+    alloc: Global,
+    bytes: &[u8],
+    head: HeadAt,
+    asked: Asked,
+) -> Result<Written, CheckFail>
+    requires few { length bytes.now ≤ MAX_BYTES }
+    requires head { CutsAt bytes.now head }
+    requires range { AreInRange asked.settings asked.auto }
+    ensures told { IfOk result (λ written. TellHow (head_line asked.settings asked.auto)
+        (drop (head.line + 1) (lines_of bytes.now)) (made_of written)) }
+    ensures refused { IfErr result (TellsNothing (head_line asked.settings asked.auto) bytes.now head.line) }
+{
+    match read_certs(alloc, text_behind(bytes, head), head.line + 1, asked) {
+        Ok(written) => Ok(written),
+        Err(CertFail::Line { line }) => Err(CheckFail::NotAccepted {
+            why: Why::CertLine { line },
+        }),
+        Err(CertFail::Head) => unreachable!(),
+        Err(CertFail::Memory) => Err(CheckFail::Memory),
+    }
+}
