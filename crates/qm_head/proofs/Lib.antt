@@ -1,0 +1,4 @@
+mod Found
+mod OneLine
+mod Refined
+mod Sizes
