@@ -103,7 +103,8 @@ def cross(a: Vector, b: Vector) -> Vector:
 def angle_between(a: Vector, b: Vector) -> float:
     """In degrees, and 0 where one of them has no direction."""
     turned = cross(a, b)
-    along = a[0] * b[0] + a[1] * b[1] + a[2] * b[2]
+    # A zero that is added last makes one without a sign of a negative one, which would be half a turn.
+    along = a[0] * b[0] + a[1] * b[1] + a[2] * b[2] + 0.0
     return math.degrees(math.atan2(math.hypot(*turned), along))
 
 

@@ -20,7 +20,6 @@ from quadq.canvas import Canvas  # noqa: E402
 from quadq.mesh import NONE, Mesh  # noqa: E402
 from quadq.obj import read_obj  # noqa: E402
 from quadq.pictures import DARK, MARGIN, View  # noqa: E402
-from quadq.surface import edges_of  # noqa: E402
 
 WIDE, HIGH = 420, 380
 PIECES = 2_000_000
@@ -64,7 +63,7 @@ def draw(canvas: Canvas, mesh: Mesh, left: float, squares: int) -> None:
     colours *= np.repeat(0.6 + 0.4 * facing, len(column))[:, None]
     for three in ((0, 1, 2), (0, 2, 3)):
         canvas.triangles(np.stack([corners[it].reshape(-1, 3) for it in three], axis=1), colours)
-    canvas.lines(at[edges_of(mesh).ends] + [0.0, 0.0, 1.5], DARK, 0.5, 0.35)
+    canvas.lines(at[mesh.edges.ends] + [0.0, 0.0, 1.5], DARK, 0.5, 0.35)
 
 
 def main() -> None:

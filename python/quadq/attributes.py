@@ -1,5 +1,5 @@
-"""What points, corners and faces of parts carry, brought over to their remeshes. The code is that of the scripts
-`make_map.py` and `carrying.py`."""
+"""What points, corners and faces of parts carry, brought over to their remeshes by a map. The code that does so for
+corners is that of the script `carrying.py`."""
 
 from __future__ import annotations
 
@@ -11,17 +11,17 @@ import numpy as np
 from .carried import carried
 from .mesh import NONE, Layer, Mesh, join
 from .parts import Part, Workshop, Written
+from .program import Program
 
 BORDERS = ("usemtl", "g", "o")
 """The words at whose borders a face may lie on both sides of one."""
 
 
 def carry_over(parts: list[Part], written: list[Written], meshes: list[Mesh], shop: Workshop) -> tuple[Mesh, int]:
-    """The new meshes of parts side by side, with the texture, normals, names and further numbers of points of the old
-    ones; and how many faces lie over a seam of the texture or a border of names."""
+    """The new meshes of parts side by side, with the layers, names and further numbers of points of the old ones; and
+    how many faces lie over a seam of the texture or a border of names."""
     text_of = {id(part): it.text for part, it in zip(parts, written)}
-    map_of = carried("make_map").map_of
-    maps = shop.each(parts, lambda part: map_of(part.text.decode(), text_of[id(part)].decode()))
+    maps = shop.each(parts, lambda part: map_between(part.text, text_of[id(part)], shop.program))
     dressed, over = [], 0
     for part, mesh, text in zip(parts, meshes, maps):
         one, seams = dressed_as(part.mesh, mesh, text)
@@ -30,13 +30,23 @@ def carry_over(parts: list[Part], written: list[Written], meshes: list[Mesh], sh
     return _joined(dressed), over
 
 
+def map_between(old: bytes, new: bytes, program: Program) -> str:
+    """The map of a mesh and of what the program wrote for it, as `docs/MAP.md` has it: told by the program where it has
+    a command for that, else by the script `make_map.py`."""
+    if "map" in program.commands():
+        return program.map(old, new)
+    told: str = carried("make_map").map_of(old.decode("utf-8", "surrogateescape"), new.decode())
+    return told
+
+
 def dressed_as(old: Mesh, new: Mesh, text: str) -> tuple[Mesh, int]:
     """A new mesh of quads with what the old mesh carries, by the text of its map; and how many faces lie over a seam of
     the texture or a border of names."""
     tool = carried("carrying")
     given = tool.read_map(text)
     corners = old.quads.reshape(-1).tolist()
-    layers = [_for_tool(tool, old.texture), _for_tool(tool, old.normal, are_directions=True)]
+    layers = [_for_tool(tool, old.texture), _for_tool(tool, old.normal, are_directions=True),
+              *(_for_tool(tool, it) for it in old.layers.values())]
     columns = [old.groups[word].of_face.tolist() for word in BORDERS if word in old.groups]
     names = list(zip(*columns)) if columns else [()] * old.face_count
     found = tool.carry(tool.Surface(corners), layers, names, given, new.corners.tolist())
@@ -46,8 +56,9 @@ def dressed_as(old: Mesh, new: Mesh, text: str) -> tuple[Mesh, int]:
         texture=_from_tool(found.layers[0]),
         normal=_from_tool(found.layers[1]),
         groups={word: replace(it, of_face=it.of_face[homes]) for word, it in old.groups.items()},
-        extra=None if old.extra is None else _extra_of(tool, old.extra, corners, given),
+        extra=None if old.extra is None else _at_spots(old.extra, old.quads, given.spots).round(tool.DIGITS),
         libraries=old.libraries,
+        layers={name: it for name, it in zip(old.layers, map(_from_tool, found.layers[2:])) if it is not None},
     )
     return mesh, len({*found.over_seams[0], *found.over_borders})
 
@@ -66,10 +77,31 @@ def _from_tool(layer: Any) -> Optional[Layer]:
     return Layer(np.array(layer.values), np.array(rows, dtype=np.int64))
 
 
-def _extra_of(tool: Any, extra: np.ndarray, corners: list[int], given: Any) -> np.ndarray:
-    at_vertices = tool.Layer(list(map(tuple, extra.tolist())), corners)
-    values = [tool.value_at(it, at_vertices) for it in given.spots]
-    return np.array(values).reshape(-1, extra.shape[1]).round(tool.DIGITS)
+def _at_spots(values: np.ndarray, quads: np.ndarray, spots: Sequence[Any]) -> np.ndarray:
+    """(new points, width): the values (old points, width) at the spots of a map."""
+    found = np.zeros((len(spots), values.shape[1]))
+    places: dict[str, list[int]] = {"vertex": [], "edge": [], "face": []}
+    for place, spot in enumerate(spots):
+        places[spot.kind].append(place)
+    for kind, some in ((kind, some) for kind, some in places.items() if some):
+        numbers = np.array([spots[it].numbers for it in some], dtype=np.int64).T
+        if kind == "vertex":
+            found[some] = values[numbers[0] - 1]
+        elif kind == "edge":
+            first, last, step, steps = numbers
+            found[some] = _mixed(values, np.stack([first - 1, last - 1]), np.stack([1 - step / steps, step / steps]))
+        else:
+            face, corner, *ways = numbers
+            east, north = (it / float(1 << 32) for it in ways)
+            around = [quads[face - 1, (corner - 1 + way) % 4] for way in range(4)]
+            parts = (1 - east) * (1 - north), east * (1 - north), east * north, (1 - east) * north
+            found[some] = _mixed(values, np.stack(around), np.stack(parts))
+    return found
+
+
+def _mixed(values: np.ndarray, rows: np.ndarray, parts: np.ndarray) -> np.ndarray:
+    """(n, width): the sum of so many rows (k, n) of values, weighed by their parts (k, n)."""
+    return np.asarray(sum(values[row] * part[:, None] for row, part in zip(rows, parts)))
 
 
 def _joined(meshes: list[Mesh]) -> Mesh:
@@ -82,7 +114,14 @@ def _joined(meshes: list[Mesh]) -> Mesh:
         texture=_joined_layers([it.texture for it in meshes], meshes),
         normal=_joined_layers([it.normal for it in meshes], meshes),
         extra=None if all(it is None for it in extras) else _stacked(extras, [len(it.points) for it in meshes]),
+        layers=_joined_by_name(meshes),
     )
+
+
+def _joined_by_name(meshes: Sequence[Mesh]) -> dict[str, Layer]:
+    names = dict.fromkeys(name for it in meshes for name in it.layers)
+    joined = {name: _joined_layers([it.layers.get(name) for it in meshes], meshes) for name in names}
+    return {name: it for name, it in joined.items() if it is not None}
 
 
 def _joined_layers(layers: Sequence[Optional[Layer]], meshes: Sequence[Mesh]) -> Optional[Layer]:

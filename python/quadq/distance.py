@@ -14,6 +14,11 @@ SAMPLES = 5_000
 """How many points are measured at most; of more, each so manieth."""
 ROUND = 1_000
 """How many points are looked up at a time: it bounds the memory."""
+SLACK = 1 + 1e-12
+"""The middle of a face may lie outside of its box by the last digits."""
+SPREAD = ((32, 0x1F00000000FFFF), (16, 0x1F0000FF0000FF), (8, 0x100F00F00F00F00F), (4, 0x10C30C30C30C30C3),
+          (2, 0x1249249249249249))
+"""How far bits are moved, and which of them then count, to spread a number over each third bit."""
 
 
 @dataclass(frozen=True)
@@ -70,8 +75,10 @@ class Surface:
                 who, box = who[inside], box[inside]
             at_probe = probes[who]
             nearest = np.linalg.norm(np.maximum(0, np.maximum(low[box] - at_probe, at_probe - high[box])), axis=1)
-            np.minimum.at(bound, who, np.linalg.norm(at_probe - within[box], axis=1))
-            kept = nearest <= bound[who]
+            # Each probe has some boxes, and all of its boxes stand together.
+            reach = np.linalg.norm(at_probe - within[box], axis=1)
+            bound = np.minimum(bound, np.minimum.reduceat(reach, np.searchsorted(who, np.arange(len(probes)))))
+            kept = nearest <= bound[who] * SLACK
             who, box = who[kept], box[kept]
         places = _on_quads(probes[who], self.corners[box])
         order = np.lexsort((np.linalg.norm(places - probes[who], axis=1), who))
@@ -81,11 +88,12 @@ class Surface:
 def _curve(places: np.ndarray) -> np.ndarray:
     """(places,) int64: where each lies along Morton's curve through the box of all."""
     span = np.ptp(places, axis=0).max()
-    cells = ((places - places.min(axis=0)) * ((1 << 20) / (span or 1.0))).astype(np.int64)
     code = np.zeros(len(places), dtype=np.int64)
-    for bit in range(20):
-        for axis in range(3):
-            code |= ((cells[:, axis] >> bit) & 1) << (3 * bit + axis)
+    for axis in range(3):
+        cells = ((places[:, axis] - places[:, axis].min()) * ((1 << 20) / (span or 1.0))).astype(np.int64)
+        for shift, mask in SPREAD:
+            cells = (cells | cells << shift) & mask
+        code |= cells << axis
     return code
 
 

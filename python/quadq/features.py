@@ -1,13 +1,20 @@
-"""The feature edges of a mesh. The code is that of the script `mark_features.py`."""
+"""The feature edges of a mesh, found with numpy.
+
+The script `mark_features.py` holds the rules, and names what each is for. What is found here are the same edges for
+the same reasons: `tests/test_features.py` compares the two. An angle that is too near to the wished one for the last
+digits of numpy is left to the script.
+"""
 
 from __future__ import annotations
 
-from typing import Any, Collection, Optional
+from dataclasses import dataclass
+from typing import Collection, Optional
 
 import numpy as np
 
 from .carried import carried
-from .mesh import NONE, Layer, Mesh
+from .mesh import NONE, Edges, Layer, Mesh
+from .surface import twins_of
 
 KINDS = {
     "materials": "where `usemtl` differs between faces",
@@ -17,8 +24,34 @@ KINDS = {
     "lines": "where an `l` line of the file goes",
 }
 """What may tell that an edge is a feature, besides an angle."""
+REASONS = (
+    "by angle", "between groups", "at seams", "by normals", "by lines", "at corners of the boundary",
+    "at turns of lines",
+)
+"""Why an edge is marked, in the order in which edges are marked: the first reason counts."""
+ANGLE, GROUPS, SEAMS, NORMALS, LINES, CORNERS, TURNS = range(len(REASONS))
 TURN = 30.0
 """Degrees: where lines turn by more they have a corner, if no angle is given."""
+NEAR = 1e-9
+"""Degrees: the script decides where an angle is so near to the wished one."""
+TINY = 1e-290
+"""Numbers below have fewer digits."""
+
+
+@dataclass(frozen=True)
+class Marks:
+    """Marked edges of a mesh."""
+
+    edges: np.ndarray
+    """(marks, 2) int64: as pairs of points in rising order, the least first."""
+    reasons: np.ndarray
+    """(marks,) int64: the place of each one's reason in `REASONS`."""
+
+    def in_words(self) -> str:
+        """How many edges there are, and why."""
+        counts = np.bincount(self.reasons, minlength=len(REASONS)).tolist()
+        told = ", ".join(f"{count} {reason}" for count, reason in zip(counts, REASONS) if count)
+        return f"{len(self.edges)} edges" + (f": {told}" if told else "")
 
 
 def find_features(
@@ -27,74 +60,186 @@ def find_features(
     """The feature edges of a mesh, each as a pair of points in rising order, with the reason.
 
     They are the edges whose faces meet at more than an angle in degrees, those of the kinds that are named, of `KINDS`,
-    and edges that keep corners of the boundary and of such lines. Linear in the faces, but slow: some four seconds for
-    100,000.
+    and edges that keep corners of the boundary and of such lines. n log n in the faces.
     """
-    features = carried("mark_features").Features(_for_tool(mesh, kinds))
+    marks = mark_features(mesh, angle, kinds=kinds, corners=corners)
+    return {(one, other): REASONS[why] for (one, other), why in zip(marks.edges.tolist(), marks.reasons.tolist())}
+
+
+def mark_features(
+    mesh: Mesh, angle: Optional[float] = 30.0, *, kinds: Collection[str] = (), corners: bool = True
+) -> Marks:
+    """The same edges as tables."""
+    marking = _Marking(mesh)
     if angle is not None:
-        features.mark_angles(angle)
+        marking.mark_angles(angle)
     if "materials" in kinds or "groups" in kinds:
-        features.mark_groups()
-    if "seams" in kinds:
-        features.mark_seams()
-    if "normals" in kinds:
-        features.mark_normals()
+        marking.mark_names(("usemtl", "g", "o") if "groups" in kinds else ("usemtl",))
+    if "seams" in kinds and mesh.texture is not None:
+        marking.mark_seams(mesh.texture)
+    if "normals" in kinds and mesh.normal is not None:
+        marking.mark_normals(mesh.normal)
     if "lines" in kinds:
-        _mark_lines(features, mesh)
+        marking.mark_lines()
     if corners:
         turn = TURN if angle is None else angle
-        features.mark_boundary_corners(turn)
-        features.mark_turns(turn)
-    found: dict[tuple[int, int], str] = features.why
-    return found
+        marking.mark_boundary_corners(turn)
+        marking.mark_turns(turn)
+    found = np.flatnonzero(marking.reason != NONE)
+    return Marks(mesh.edges.ends[found], marking.reason[found])
 
 
-def in_words(features: dict[tuple[int, int], str]) -> str:
-    """How many edges there are, and why."""
-    said: str = carried("mark_features").summary(features)
-    return said.partition(" ")[2]
+class _Marking:
+    """The edges of a mesh that are marked so far. A dart is a side of a face: it has the number of the corner where it
+    begins."""
+
+    def __init__(self, mesh: Mesh) -> None:
+        self.mesh = mesh
+        self.edges: Edges = mesh.edges
+        self.after = mesh.next_corners()
+        self.before = np.empty(len(self.after), dtype=np.int64)
+        self.before[self.after] = np.arange(len(self.after))
+        self.face = mesh.face_of_corner()
+        self.reason = np.full(len(self.edges.ends), NONE)
+        self.rank = np.zeros(len(self.edges.ends), dtype=np.int64)
+        """Of each marked edge its place among those of its reason: so the script comes to them."""
+        self.is_inner = (self.edges.rising != NONE) & (self.edges.falling != NONE)
+        self.inner = np.flatnonzero(self.is_inner)
+        self.one, self.other = self.edges.rising[self.inner], self.edges.falling[self.inner]
+        """The two darts of each inner edge. The script comes to an edge with the first of them."""
+
+    def mark(self, edges: np.ndarray, ranks: np.ndarray, reason: int) -> None:
+        """Marks those of some edges that are not marked. Of the ranks of an edge that is there twice the first counts.
+        """
+        fresh = self.reason[edges] == NONE
+        self.rank[edges[fresh][::-1]] = ranks[fresh][::-1]
+        self.reason[edges[fresh]] = reason
+
+    def mark_inner(self, chosen: np.ndarray, reason: int) -> None:
+        """Marks the inner edges that are chosen (inner,)."""
+        self.mark(self.inner[chosen], self.one[chosen], reason)
+
+    def mark_angles(self, angle: float) -> None:
+        facing = _facing(self.mesh)
+        self.mark_inner(_differ_by(facing[self.face[self.one]], facing[self.face[self.other]], angle), ANGLE)
+
+    def mark_names(self, words: Collection[str]) -> None:
+        differ = np.zeros(len(self.inner), dtype=bool)
+        for names in (self.mesh.groups[word] for word in words if word in self.mesh.groups):
+            place: dict[str, int] = {}
+            of_face = np.array([place.setdefault(it, len(place)) for it in names.names], dtype=np.int64)[names.of_face]
+            differ |= of_face[self.face[self.one]] != of_face[self.face[self.other]]
+        self.mark_inner(differ, GROUPS)
+
+    def mark_seams(self, texture: Layer) -> None:
+        self.mark_inner(self._values_differ(texture), SEAMS)
+
+    def mark_normals(self, normal: Layer) -> None:
+        firsts = np.repeat(self.mesh.starts[:-1], self.mesh.sides)
+        uneven = _name_others(normal, np.arange(len(firsts)), firsts)
+        is_flat = np.ones(self.mesh.face_count, dtype=bool)
+        is_flat[self.face[uneven]] = False
+        both = is_flat[self.face[self.one]] & is_flat[self.face[self.other]]
+        self.mark_inner(self._values_differ(normal) & ~both, NORMALS)
+
+    def _values_differ(self, layer: Layer) -> np.ndarray:
+        """(inner,) bool: whether the faces of each edge name other values at one of its ends."""
+        at_start = _name_others(layer, self.one, self.after[self.other])
+        return at_start | _name_others(layer, self.after[self.one], self.other)
+
+    def mark_lines(self) -> None:
+        edges = self.edges.numbers_of(edges_in(self.mesh.lines))
+        edges = edges[edges != NONE]
+        edges = edges[self.is_inner[edges]]
+        self.mark(edges, np.arange(len(edges)), LINES)
+
+    def mark_boundary_corners(self, angle: float) -> None:
+        before, twins, corners = self.before, twins_of(self.mesh), self.mesh.corners
+        darts = np.flatnonzero((twins == NONE) & (np.bincount(corners)[corners] == 2))
+        inward = twins[before[darts]]
+        darts, inward = darts[inward != NONE], inward[inward != NONE]
+        turns = self._turn_by(before[inward], darts, self.after[darts], angle)
+        self.mark(self.edges.of_corner[inward[turns]], darts[turns], CORNERS)
+
+    def mark_turns(self, angle: float) -> None:
+        before, twins = self.before, twins_of(self.mesh)
+        darts = self._line_darts()
+        for _ in range(3):
+            more = twins[before[darts[:, -1]]]
+            darts = np.column_stack([darts, more])[more != NONE]
+        ends = self.mesh.corners[self.after[darts]]
+        comes_round = self.mesh.corners[before[darts[:, 3]]] == ends[:, 0]
+        darts = darts[comes_round & np.all(ends[:, 1:] != ends[:, :1], axis=1)]
+        edges = self.edges.of_corner[darts]
+        marked = self.reason != NONE
+        is_open = ~(marked[edges[:, 1]] | marked[edges[:, 3]])
+        darts, edges = darts[is_open], edges[is_open]
+        turns = self._turn_by(self.after[darts[:, 0]], darts[:, 0], self.after[darts[:, 2]], angle)
+        # What is marked here counts at the vertices behind.
+        for beside, across, back in edges[turns, 1:].tolist():
+            if marked[across] and not marked[beside] and not marked[back]:
+                marked[beside] = True
+        self.reason[marked & (self.reason == NONE)] = TURNS
+
+    def _line_darts(self) -> np.ndarray:
+        """(n, 1): for each vertex with four faces at which there are marked edges, in order, the dart from it along
+        the one that was marked last."""
+        marked = np.flatnonzero(self.reason != NONE)
+        marked = marked[np.lexsort((self.rank[marked], self.reason[marked]))]
+        last = np.full(len(self.mesh.points), NONE)
+        last[self.edges.ends[marked].ravel()] = np.repeat(marked, 2)
+        faces = np.bincount(self.mesh.corners, minlength=len(last))
+        vertices = np.flatnonzero((last != NONE) & (faces == 4))
+        edges = last[vertices]
+        rises = self.edges.ends[edges, 0] == vertices
+        return np.where(rises, self.edges.rising[edges], self.edges.falling[edges])[:, None]
+
+    def _turn_by(self, first: np.ndarray, middle: np.ndarray, last: np.ndarray, angle: float) -> np.ndarray:
+        """(n,) bool: whether the way over the points of three corners turns by more than an angle."""
+        a, b, c = (self.mesh.points[self.mesh.corners[it]] for it in (first, middle, last))
+        return _differ_by(b - a, c - b, angle)
 
 
-def _mark_lines(features: Any, mesh: Mesh) -> None:
-    """Marks the inner edges that `l` lines name."""
-    inner = {edge for edge, _, _ in features.inner_edges()}
-    for line in mesh.lines:
-        for one, other in zip(line.tolist(), line.tolist()[1:]):
-            edge = (min(one, other), max(one, other))
-            if edge in inner:
-                features.mark(edge, "by lines")
+def _facing(mesh: Mesh) -> np.ndarray:
+    """(faces, 3): the cross product of the diagonals of each face, as far as its first four corners go."""
+    at = mesh.starts[:-1, None] + np.arange(4) % np.maximum(mesh.sides, 1)[:, None]
+    a, b, c, d = mesh.points[mesh.corners[at]].transpose(1, 0, 2)
+    with np.errstate(all="ignore"):
+        return np.stack(_cross(c - a, d - b), axis=1)
+
+
+def _cross(one: np.ndarray, other: np.ndarray) -> tuple[np.ndarray, np.ndarray, np.ndarray]:
+    (ax, ay, az), (bx, by, bz) = one.T, other.T
+    return ay * bz - az * by, az * bx - ax * bz, ax * by - ay * bx
+
+
+def _differ_by(one: np.ndarray, other: np.ndarray, angle: float) -> np.ndarray:
+    """(n,) bool: whether directions (n, 3) differ by more than an angle in degrees."""
+    with np.errstate(all="ignore"):
+        x, y, z = _cross(one, other)
+        across = np.hypot(np.hypot(x, y), z)
+        along = one[:, 0] * other[:, 0] + one[:, 1] * other[:, 1] + one[:, 2] * other[:, 2] + 0.0
+        angles = np.degrees(np.arctan2(across, along))
+        is_sure = (np.abs(angles - angle) > NEAR) & (across > TINY)
+    # An angle of 0, 90 or 180 degrees is exact.
+    is_sure |= (across == 0) | (along == 0)
+    differ = angles > angle
+    angle_between = carried("mark_features").angle_between
+    for at in np.flatnonzero(~is_sure).tolist():
+        differ[at] = angle_between(one[at].tolist(), other[at].tolist()) > angle
+    return differ
+
+
+def _name_others(layer: Layer, some: np.ndarray, others: np.ndarray) -> np.ndarray:
+    """(n,) bool: whether these corners name other values than those."""
+    rows, beside = layer.rows[some], layer.rows[others]
+    differ = rows != beside
+    both = np.flatnonzero(differ & (rows != NONE) & (beside != NONE))
+    differ[both] = np.any(layer.values[rows[both]] != layer.values[beside[both]], axis=1)
+    return differ
 
 
 def edges_in(lines: tuple[np.ndarray, ...]) -> np.ndarray:
     """(edges, 2) int64: the edges of `l` lines, as pairs of points in rising order."""
     pairs = [np.column_stack([line[:-1], line[1:]]) for line in lines]
     return np.sort(np.concatenate([np.zeros((0, 2), dtype=np.int64), *pairs]), axis=1)
-
-
-def _for_tool(mesh: Mesh, kinds: Collection[str]) -> Any:
-    """The mesh as the script has it, with those names alone that these kinds look at."""
-    tool = carried("mark_features")
-    textures, normals = _rows(mesh, mesh.texture), _rows(mesh, mesh.normal)
-    corners = [tool.Corner(*it) for it in zip(mesh.corners.tolist(), textures, normals)]
-    columns = [_names(mesh, word, word == "usemtl" or "groups" in kinds) for word in ("usemtl", "g", "o")]
-    starts = mesh.starts.tolist()
-    faces = [tool.Face(corners[a:b], names) for a, b, names in zip(starts, starts[1:], zip(*columns))]
-    return tool.Mesh(
-        points=list(map(tuple, mesh.points.tolist())),
-        textures=[] if mesh.texture is None else list(map(tuple, mesh.texture.values.tolist())),
-        normals=[] if mesh.normal is None else list(map(tuple, mesh.normal.values.tolist())),
-        faces=faces,
-    )
-
-
-def _rows(mesh: Mesh, layer: Optional[Layer]) -> list[Optional[int]]:
-    if layer is None:
-        return [None] * len(mesh.corners)
-    return [None if it == NONE else it for it in layer.rows.tolist()]
-
-
-def _names(mesh: Mesh, word: str, is_asked: bool) -> list[str]:
-    if word not in mesh.groups or not is_asked:
-        return [""] * mesh.face_count
-    names = mesh.groups[word].names
-    return [names[it] for it in mesh.groups[word].of_face.tolist()]

@@ -27,7 +27,7 @@ def read_mesh(path: Path, program: Program) -> tuple[Mesh, Optional[bytes]]:
         return _read_other(path), None
     text = path.read_bytes()
     try:
-        return read_obj(text.decode("utf-8", "surrogateescape")), text
+        return read_obj(text), text
     except FormatError as error:
         program.tidy(text)
         raise Refusal(NO_OBJ, str(error)) from error

@@ -3,6 +3,7 @@
 from __future__ import annotations
 
 from dataclasses import dataclass, field, replace
+from functools import cached_property
 from typing import Optional, Sequence
 
 import numpy as np
@@ -31,6 +32,31 @@ class Names:
 
 
 @dataclass(frozen=True)
+class Edges:
+    """The edges of a mesh, each once. A dart is a side of a face: it has the number of the corner where it begins."""
+
+    ends: np.ndarray
+    """(edges, 2) int64: its points, in rising order; the least edges come first."""
+    of_corner: np.ndarray
+    """(corners,) int64: the edge from each corner to the next."""
+    uses: np.ndarray
+    """(edges,) int64: how many sides of faces it is; 1 at the boundary."""
+    rising: np.ndarray
+    """(edges,) int64: the dart from its first point to its second, or NONE. Of several the last."""
+    falling: np.ndarray
+    """(edges,) int64: the dart back, or NONE."""
+
+    def numbers_of(self, pairs: np.ndarray) -> np.ndarray:
+        """(n,) int64: the edges between pairs of points (n, 2) in rising order, or NONE."""
+        if not len(self.ends):
+            return np.full(len(pairs), NONE)
+        count = max(int(self.ends.max()), int(pairs.max(initial=0))) + 1
+        keys, wanted = self.ends @ [count, 1], pairs @ [count, 1]
+        at = np.minimum(np.searchsorted(keys, wanted), len(keys) - 1)
+        return np.where(keys[at] == wanted, at, NONE)
+
+
+@dataclass(frozen=True)
 class Mesh:
     """A mesh of polygons. Lengths are in the unit of its file; indices count from 0.
 
@@ -54,6 +80,8 @@ class Mesh:
     """The points along each `l` line."""
     libraries: tuple[str, ...] = ()
     """The material libraries, as `mtllib` names them."""
+    layers: dict[str, Layer] = field(default_factory=dict)
+    """Further layers of corners, by name, for which OBJ has no word: other UV maps, colours of corners."""
 
     @staticmethod
     def of_quads(points: np.ndarray, quads: np.ndarray) -> Mesh:
@@ -91,11 +119,32 @@ class Mesh:
         after[ends] = self.starts[:-1][self.sides > 0]
         return after
 
+    @cached_property
+    def edges(self) -> Edges:
+        """The edges, found once. n log n in the corners."""
+        heads, tails = self.corners, self.corners[self.next_corners()]
+        count = max(len(self.points), 1)
+        keys = np.minimum(heads, tails) * count + np.maximum(heads, tails)
+        order = np.argsort(keys, kind="stable")
+        keys = keys[order]
+        is_first = np.concatenate([keys[:1] >= 0, keys[1:] != keys[:-1]])
+        of_corner = np.empty(len(keys), dtype=np.int64)
+        of_corner[order] = np.cumsum(is_first) - 1
+        firsts = np.flatnonzero(is_first)
+        found = keys[firsts]
+        sides = np.full((2, len(found)), NONE)
+        for side, chosen in zip(sides, (heads <= tails, heads > tails)):
+            darts = np.flatnonzero(chosen)
+            side[of_corner[darts]] = darts
+        ends = np.column_stack([found // count, found % count])
+        return Edges(ends, of_corner, np.diff(np.append(firsts, len(keys))), *sides)
+
     def faces_of(self, chosen: np.ndarray) -> tuple[Mesh, np.ndarray]:
         """The mesh of the faces with these numbers, in this order, and the numbers of the points that they use."""
-        sides = self.sides[chosen]
+        firsts = self.starts[chosen]
+        sides = self.starts[chosen + 1] - firsts
         starts = np.concatenate([[0], np.cumsum(sides)])
-        at = np.repeat(self.starts[:-1][chosen] - starts[:-1], sides) + np.arange(starts[-1])
+        at = np.repeat(firsts - starts[:-1], sides) + np.arange(starts[-1])
         used, corners = np.unique(self.corners[at], return_inverse=True)
         part = Mesh(
             self.points[used],
@@ -106,6 +155,7 @@ class Mesh:
             groups={word: replace(it, of_face=it.of_face[chosen]) for word, it in self.groups.items()},
             extra=None if self.extra is None else self.extra[used],
             libraries=self.libraries,
+            layers={name: replace(it, rows=it.rows[at]) for name, it in self.layers.items()},
         )
         return part, used
 

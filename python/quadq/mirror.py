@@ -3,12 +3,12 @@
 from __future__ import annotations
 
 from dataclasses import replace
+from typing import Optional
 
 import numpy as np
 
-from .mesh import Mesh, Names
+from .mesh import NONE, Layer, Mesh, Names
 from .refusal import Refusal
-from .surface import edges_of
 
 AXES = "xyz"
 NEAR = 1e-6
@@ -30,15 +30,15 @@ def half(mesh: Mesh, axis: int) -> tuple[Mesh, np.ndarray, np.ndarray]:
         line = f"face {crossing[0] + 1} crosses the mirror plane {AXES[axis]} = 0, as {len(crossing)} faces do"
         raise Refusal(7, line, crossing.tolist())
     chosen = np.flatnonzero(high > 0)
-    one, used = Mesh(points, mesh.corners, mesh.starts, groups=mesh.groups, libraries=mesh.libraries).faces_of(chosen)
+    one, used = replace(mesh, points=points).faces_of(chosen)
     return one, chosen, used
 
 
 def with_image(mesh: Mesh, axis: int) -> Mesh:
-    """A mesh of quads and its mirror image behind it, sewn along the boundary edges that lie in the plane."""
-    edges = edges_of(mesh)
+    """A mesh of quads and its mirror image behind it, sewn along the boundary edges that lie in the plane. The image
+    carries what the mesh does, with its normals turned round."""
     in_plane = mesh.points[:, axis] == 0
-    rim = edges.ends[edges.uses == 1]
+    rim = mesh.edges.ends[mesh.edges.uses == 1]
     sewn = np.zeros(len(mesh.points), dtype=bool)
     sewn[rim[np.all(in_plane[rim], axis=1)]] = True
     image = np.where(sewn, np.arange(len(mesh.points)), len(mesh.points) + np.cumsum(~sewn) - 1)
@@ -48,7 +48,23 @@ def with_image(mesh: Mesh, axis: int) -> Mesh:
         np.concatenate([mesh.points, points]), np.concatenate([mesh.quads, image[mesh.quads[:, ::-1]]]))
     return replace(
         whole,
+        texture=None if mesh.texture is None else _with_image(mesh.texture),
+        normal=None if mesh.normal is None else _with_image(mesh.normal, axis),
         groups={word: Names(it.names, np.tile(it.of_face, 2)) for word, it in mesh.groups.items()},
+        extra=None if mesh.extra is None else np.concatenate([mesh.extra, mesh.extra[~sewn]]),
         lines=mesh.lines + tuple(image[line] for line in mesh.lines if not np.all(sewn[line])),
         libraries=mesh.libraries,
+        layers={name: _with_image(it) for name, it in mesh.layers.items()},
     )
+
+
+def _with_image(layer: Layer, axis: Optional[int] = None) -> Layer:
+    """A layer of quads and that of their image, whose corners come the other way round; with an axis, the image's
+    values are mirrored too."""
+    rows = layer.rows.reshape(-1, 4)[:, ::-1].ravel()
+    if axis is None:
+        return Layer(layer.values, np.concatenate([layer.rows, rows]))
+    mirrored = layer.values.copy()
+    mirrored[:, axis] *= -1
+    rows = np.where(rows == NONE, NONE, rows + len(mirrored))
+    return Layer(np.concatenate([layer.values, mirrored]), np.concatenate([layer.rows, rows]))

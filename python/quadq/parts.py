@@ -11,10 +11,10 @@ from typing import Callable, Optional
 import numpy as np
 
 from .mesh import Mesh, Names, join
-from .obj import plain_text, read_obj
+from .obj import number_lines, plain_text, read_obj
 from .program import Program, Verdict, Wish
 from .refusal import Refusal
-from .surface import edges_of, part_of_face
+from .surface import part_of_face
 
 Tell = Callable[[int], None]
 """Is told how many parts are done."""
@@ -56,7 +56,7 @@ class Written:
 
     def mesh(self) -> Mesh:
         """What is written."""
-        return read_obj(self.text.decode())
+        return read_obj(self.text)
 
     @property
     def arcs_at_floor(self) -> int:
@@ -66,30 +66,33 @@ class Written:
 def split(mesh: Mesh, text: Optional[bytes] = None, marks: np.ndarray = NO_MARKS) -> list[Part]:
     """The connected parts of a mesh, in the order of their first faces. `text` has the mesh's points and faces, if it
     is at hand: where there is one part alone, that text is its. `marks` (marks, 2) are edges that are to stay, as pairs
-    of points, where there is no text."""
+    of points in rising order; with them the text has no `l` lines."""
     part_of = part_of_face(mesh)
     count = int(part_of.max(initial=-1)) + 1
     if count == 1:
-        whole = Part(mesh, text or b"", np.arange(mesh.face_count), np.arange(len(mesh.points)))
-        return [_with_text(whole, marks) if text is None else whole]
+        whole = plain_text(mesh) if text is None else text
+        every = np.arange(mesh.face_count), np.arange(len(mesh.points))
+        return [Part(mesh, _with_lines(whole, marks), *every, marks)]
+    of_point = np.zeros(len(mesh.points), dtype=np.int64)
+    of_point[mesh.corners] = np.repeat(part_of, mesh.sides)
     parts = []
-    by_part = np.argsort(part_of, kind="stable")
-    for faces in np.split(by_part, np.cumsum(np.bincount(part_of, minlength=count))[:-1]) if count else []:
+    for faces, own in zip(_by_part(part_of, np.arange(mesh.face_count), count),
+                          _by_part(of_point[marks[:, 0]], marks, count)):
         one, points = mesh.faces_of(faces)
-        parts.append(_with_text(Part(one, b"", faces, points), marks))
+        own = np.searchsorted(points, own)
+        parts.append(Part(one, _with_lines(plain_text(one), own), faces, points, own))
     return parts
 
 
-def _with_text(part: Part, marks: np.ndarray) -> Part:
-    """A part with its text, and with those marks of the whole mesh that are edges of it."""
-    if not len(marks):
-        return replace(part, text=plain_text(part.mesh))
-    at = np.minimum(np.searchsorted(part.points, marks), len(part.points) - 1)
-    own = np.sort(at[np.all(part.points[at] == marks, axis=1)], axis=1)
-    count = len(part.mesh.points)
-    own = own[np.isin(own[:, 0] * count + own[:, 1], edges_of(part.mesh).ends @ [count, 1])]
-    lines = "".join("l %d %d\n" % tuple(it) for it in (own + 1).tolist())
-    return replace(part, text=plain_text(part.mesh) + lines.encode(), marks=own)
+def _by_part(part_of: np.ndarray, values: np.ndarray, count: int) -> list[np.ndarray]:
+    """The values (n, ..) of things that lie in parts (n,), for each of so many parts."""
+    ends = np.cumsum(np.bincount(part_of, minlength=count))
+    return np.split(values[np.argsort(part_of, kind="stable")], ends[:-1]) if count else []
+
+
+def _with_lines(text: bytes, marks: np.ndarray) -> bytes:
+    """A text with a line for each mark behind it, which continues no line of it."""
+    return text + b"\n\n" + number_lines("l", marks + 1).encode() if len(marks) else text
 
 
 class Workshop:

@@ -3,15 +3,16 @@
 from __future__ import annotations
 
 from dataclasses import dataclass
-from typing import Any, Callable, Sequence
+from typing import Sequence
 
 import numpy as np
 
 from .carried import carried
-from .mesh import Mesh
+from .mesh import NONE, Mesh
 from .parts import Part, Written
 from .program import Program
-from .surface import Edges, edges_of, least_in_class, number_in_order
+from .surface import least_in_class, number_in_order, twins_of
+from .tracing import Trace
 
 
 @dataclass(frozen=True)
@@ -62,21 +63,22 @@ class Patches:
 def patches_under(part: Part, written: Written, program: Program) -> Patches:
     """The patches of a part: those of its graph; of the cut beside its marks after `crease`; merged after `coarse`."""
     if written.command == "crease":
-        return _patches_of_cut(part, part.marks, written, lambda cut: cut.trace())
+        trace = Trace(part.mesh, part.marks)
+        return Patches(trace.patches(), trace.sizes(written.lengths), trace.arcs().nodes)
     graph = program.graph(part.text)
     if written.command == "coarse":
-        edges = edges_of(part.mesh)
-        graph_edges = edges.ends[np.union1d(_ridden(part.mesh, edges, graph), np.flatnonzero(edges.uses == 1))]
-        return _patches_of_cut(part, graph_edges, written, lambda cut: cut.merge())
+        edges = part.mesh.edges
+        graph_edges = edges.ends[np.union1d(_ridden(part.mesh, graph), np.flatnonzero(edges.uses == 1))]
+        return _merged_patches(part, graph_edges, written)
     return Patches(old_patches(part.mesh, graph), new_sizes(graph, written.lengths), node_count(graph))
 
 
-def _patches_of_cut(part: Part, edges: np.ndarray, written: Written, change: Callable[[Any], None]) -> Patches:
-    """The patches of a cut that begins as some edges (edges, 2) and is changed. Slow: a minute for a million faces."""
+def _merged_patches(part: Part, edges: np.ndarray, written: Written) -> Patches:
+    """The patches that are merged from those of a cut (edges, 2). Slow: a minute for a million faces."""
     cuts = carried("cuts")
     faces = part.mesh.quads.tolist()
     cut = cuts.Cut(faces, set(map(tuple, edges.tolist())))
-    change(cut)
+    cut.merge()
     of_face, _ = cuts.patches_of(faces, cut.edges())
     sizes = np.array(cuts.sizes_of(cut, of_face, written.lengths.tolist()), dtype=np.int64).reshape(-1, 2)
     ends = {end for arc in cut.arcs()[1] for end in (cut.ends(arc[0])[0], cut.ends(arc[-1])[1])}
@@ -85,37 +87,30 @@ def _patches_of_cut(part: Part, edges: np.ndarray, written: Written, change: Cal
 
 def borders(mesh: Mesh, patches: np.ndarray) -> np.ndarray:
     """(edges, 2): the edges between patches (faces,) and at the boundary, as pairs of points in rising order."""
-    edges = edges_of(mesh)
-    least, most = np.full(len(edges.ends), len(mesh.corners)), np.full(len(edges.ends), -1)
-    of_corner = np.repeat(patches, 4)
-    np.minimum.at(least, edges.of_corner, of_corner)
-    np.maximum.at(most, edges.of_corner, of_corner)
-    return edges.ends[(edges.uses == 1) | (least != most)]
+    edges = mesh.edges
+    return edges.ends[(edges.uses == 1) | (patches[edges.rising // 4] != patches[edges.falling // 4])]
 
 
 def old_patches(mesh: Mesh, graph: str) -> np.ndarray:
     """(faces,) int64: the patch of each face of a mesh whose graph text this is. Patches count from 0, as in the text,
     which lists them in the order of their first faces."""
-    edges = edges_of(mesh)
-    inner = edges.uses == 2
-    inner[_ridden(mesh, edges, graph)] = False
-    by_edge = np.argsort(edges.of_corner, kind="stable")
-    by_edge = by_edge[inner[edges.of_corner[by_edge]]]
-    pairs = by_edge.reshape(-1, 2) // 4
-    return number_in_order(least_in_class(mesh.face_count, pairs[:, 0], pairs[:, 1]))
+    inner = mesh.edges.uses == 2
+    inner[_ridden(mesh, graph)] = False
+    one, other = mesh.edges.rising[inner] // 4, mesh.edges.falling[inner] // 4
+    return number_in_order(least_in_class(mesh.face_count, one, other))
 
 
-def _ridden(mesh: Mesh, edges: Edges, graph: str) -> np.ndarray:
+def _ridden(mesh: Mesh, graph: str) -> np.ndarray:
     """The edges that riders have ridden. All of them ride at once, an edge a turn."""
     rides = [tuple(map(int, line.split()[1:4])) for line in graph.splitlines() if line.startswith("rider ")]
     heads, tails, left = np.array(rides, dtype=np.int64).reshape(-1, 3).T
     used = np.unique(mesh.corners)
-    darts = _dart_of(mesh, used[heads - 1], used[tails - 1])
-    darts, left = darts[darts >= 0], left[darts >= 0]
-    twins = _twins(mesh)
+    darts = _darts_between(mesh, used[heads - 1], used[tails - 1])
+    darts, left = darts[darts != NONE], left[darts != NONE]
+    twins = twins_of(mesh)
     ridden = []
     while len(darts):
-        ridden.append(edges.of_corner[darts])
+        ridden.append(mesh.edges.of_corner[darts])
         across = twins[_after(darts)]
         goes_on = (left > 1) & (across >= 0)
         darts, left = _after(across[goes_on]), left[goes_on] - 1
@@ -127,19 +122,14 @@ def _after(darts: np.ndarray) -> np.ndarray:
     return darts - darts % 4 + (darts + 1) % 4
 
 
-def _dart_of(mesh: Mesh, heads: np.ndarray, tails: np.ndarray) -> np.ndarray:
-    """The sides of faces that go from these points to those, or -1."""
-    count = len(mesh.points)
-    keys = mesh.corners * count + mesh.corners[mesh.next_corners()]
-    order = np.argsort(keys)
-    wanted = heads * count + tails
-    places = np.minimum(np.searchsorted(keys[order], wanted), max(len(keys) - 1, 0))
-    found = order[places] if len(keys) else places
-    return np.where(keys[found] == wanted, found, -1)
-
-
-def _twins(mesh: Mesh) -> np.ndarray:
-    return _dart_of(mesh, mesh.corners[mesh.next_corners()], mesh.corners)
+def _darts_between(mesh: Mesh, heads: np.ndarray, tails: np.ndarray) -> np.ndarray:
+    """The sides of faces that go from these points to those, or NONE."""
+    at = mesh.edges.numbers_of(np.sort(np.column_stack([heads, tails]), axis=1))
+    darts = np.full(len(at), NONE)
+    known = at != NONE
+    rises = heads[known] < tails[known]
+    darts[known] = np.where(rises, mesh.edges.rising[at[known]], mesh.edges.falling[at[known]])
+    return darts
 
 
 def new_sizes(graph: str, lengths: np.ndarray) -> np.ndarray:
@@ -160,10 +150,8 @@ def node_count(graph: str) -> int:
 
 def colours_of(mesh: Mesh, patches: np.ndarray, colours: int) -> np.ndarray:
     """(patches,) int64: a colour for each patch, from 0, that no neighbour has where there are enough colours."""
-    edges = edges_of(mesh)
-    by_edge = np.argsort(edges.of_corner, kind="stable")
-    by_edge = by_edge[(edges.uses == 2)[edges.of_corner[by_edge]]]
-    pairs = patches[by_edge.reshape(-1, 2) // 4]
+    inner = mesh.edges.uses == 2
+    pairs = patches[np.column_stack([mesh.edges.rising, mesh.edges.falling])[inner] // 4]
     pairs = np.unique(np.sort(pairs[pairs[:, 0] != pairs[:, 1]], axis=1), axis=0)
     taken = np.zeros(int(patches.max(initial=-1)) + 1, dtype=np.int64)
     found = np.zeros(len(taken), dtype=np.int64)

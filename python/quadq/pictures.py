@@ -10,7 +10,6 @@ import numpy as np
 from .canvas import Canvas
 from .mesh import Mesh
 from .patches import borders
-from .surface import edges_of
 
 PALETTE = np.array([
     (188, 215, 238), (249, 217, 180), (201, 230, 195), (243, 196, 201),
@@ -20,6 +19,8 @@ PLAIN = np.array((222.0, 226.0, 230.0))
 BAD, POOR = np.array((208.0, 32.0, 32.0)), np.array((240.0, 140.0, 40.0))
 DARK, GREY, BLUE, RED = (40, 40, 40), (120, 120, 120), (20, 70, 200), (208, 32, 32)
 MARGIN = 14
+AT_A_TIME = 1 << 16
+"""How many faces are drawn together: it bounds the memory."""
 SHORTEST = 5.0
 """In pixels: where edges are shorter on average, they are not drawn."""
 
@@ -72,21 +73,31 @@ def draw(mesh: Mesh, look: Look, view: View, size: tuple[int, int], frame: Optio
     low, high = seen.min(axis=0), seen.max(axis=0)
     scale = min((size[at] - 2 * MARGIN) / max(high[at] - low[at], 1e-12) for at in (0, 1))
     turned = (mesh.points @ view.axes.T - (low + high) / 2) * scale * [1, -1, 1] + [size[0] / 2, size[1] / 2, 0]
-    corners = turned[mesh.corners]
-    middles = np.add.reduceat(corners, mesh.starts[:-1]) / mesh.sides[:, None]
-    face = mesh.face_of_corner()
-    triangles = np.stack([corners, corners[mesh.next_corners()], middles[face]], axis=1)
-    canvas.triangles(triangles, (look.colours * _light(triangles, mesh)[:, None])[face])
+    _draw_faces(canvas, mesh, look, turned)
     _draw_edges(canvas, mesh, look, turned)
     if len(look.dots):
         canvas.dots(turned[list(look.dots)], RED, 9)
     return canvas.png()
 
 
-def _light(triangles: np.ndarray, mesh: Mesh) -> np.ndarray:
-    """(faces,): how bright each face is, from its direction; backs are darker."""
+def _draw_faces(canvas: Canvas, mesh: Mesh, look: Look, turned: np.ndarray) -> None:
+    """Each face as the triangles between its sides and its middle."""
+    for first in range(0, mesh.face_count, AT_A_TIME):
+        some = np.arange(first, min(first + AT_A_TIME, mesh.face_count))
+        starts = mesh.starts[some] - mesh.starts[first]
+        own = np.repeat(some - first, mesh.sides[some])
+        corners = turned[mesh.corners[mesh.starts[first]:mesh.starts[some[-1] + 1]]]
+        after = np.arange(1, len(corners) + 1)
+        after[np.append(starts[1:], len(corners)) - 1] = starts
+        middles = np.add.reduceat(corners, starts) / mesh.sides[some, None]
+        triangles = np.stack([corners, corners[after], middles[own]], axis=1)
+        canvas.triangles(triangles, (look.colours[some] * _light(triangles, starts)[:, None])[own])
+
+
+def _light(triangles: np.ndarray, starts: np.ndarray) -> np.ndarray:
+    """(faces,): how bright each face is, from its direction, where its triangles begin there; backs are darker."""
     normals = np.add.reduceat(
-        np.cross(triangles[:, 1] - triangles[:, 0], triangles[:, 2] - triangles[:, 0]), mesh.starts[:-1])
+        np.cross(triangles[:, 1] - triangles[:, 0], triangles[:, 2] - triangles[:, 0]), starts)
     lengths = np.linalg.norm(normals, axis=1)
     # The picture's second axis points downward, so that fronts have normals away from the eye.
     facing = -np.divide(normals[:, 2], lengths, out=np.zeros(len(normals)), where=lengths > 0)
@@ -95,7 +106,7 @@ def _light(triangles: np.ndarray, mesh: Mesh) -> np.ndarray:
 
 def _draw_edges(canvas: Canvas, mesh: Mesh, look: Look, turned: np.ndarray) -> None:
     lift = [0.0, 0.0, 1.5]
-    edges = edges_of(mesh).ends
+    edges = mesh.edges.ends
     lengths = np.linalg.norm((turned[edges[:, 1]] - turned[edges[:, 0]])[:, :2], axis=1)
     if lengths.mean() >= SHORTEST:
         canvas.lines(turned[edges] + lift, GREY, 0.5, 0.6)
@@ -116,7 +127,7 @@ def place_look(mesh: Mesh, faces: Sequence[int], points: Sequence[int]) -> Look:
     """A mesh in grey with faces at fault red and points dotted."""
     colours = np.tile(PLAIN, (mesh.face_count, 1))
     colours[list(faces)] = BAD
-    edges = edges_of(mesh)
+    edges = mesh.edges
     return Look(colours, edges.ends[edges.uses == 1], dots=points)
 
 

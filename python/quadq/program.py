@@ -89,6 +89,10 @@ class Program:
             raise Refusal(1, f"check said: {said.strip()}")
         return Verdict(*map(int, found.groups()))
 
+    def map(self, old: bytes, new: bytes) -> str:
+        """Where the points and faces of what a command wrote for a text came from."""
+        return self._run(["map"], b"\n".join([old, new])).decode()
+
     def graph(self, text: bytes) -> str:
         """The motorcycle graph and its patches."""
         return self._run(["graph"], text).decode()

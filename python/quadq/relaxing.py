@@ -7,10 +7,9 @@ from dataclasses import replace
 import numpy as np
 
 from .distance import Surface
-from .features import find_features
-from .mesh import Mesh
+from .features import mark_features
+from .mesh import Edges, Mesh
 from .quality import jacobians_of
-from .surface import Edges, edges_of
 
 PARTS_OF_WAY = (1.0, 0.5)
 """How far a point is moved toward the mean of its neighbours; the first that makes nothing worse."""
@@ -27,7 +26,7 @@ def relax(mesh: Mesh, old: Mesh, nodes: int, times: int) -> tuple[Mesh, int]:
     """
     if not mesh.face_count:
         return mesh, 0
-    edges = edges_of(mesh)
+    edges = mesh.edges
     surface, points, moves = Surface(old), mesh.points.copy(), 0
     rounds = _independent(mesh, _free(mesh, edges, nodes))
     beside = np.concatenate([edges.ends, edges.ends[:, ::-1]])
@@ -44,8 +43,7 @@ def _free(mesh: Mesh, edges: Edges, nodes: int) -> np.ndarray:
     free[mesh.corners] = True
     free[:nodes] = False
     free[edges.ends[edges.uses == 1]] = False
-    for edge in find_features(mesh, SHARP, corners=False):
-        free[list(edge)] = False
+    free[mark_features(mesh, SHARP, corners=False).edges] = False
     for line in mesh.lines:
         free[line] = False
     return free

@@ -14,8 +14,8 @@ import numpy as np
 from . import mirror as mirroring
 from .attributes import carry_over
 from .distance import distance_between
-from .features import KINDS, find_features, in_words
-from .mesh import Mesh
+from .features import KINDS, mark_features
+from .mesh import NONE, Mesh
 from .obj import plain_text
 from .parts import NO_MARKS, Part, Workshop, Written, keep, put_together, split
 from .patches import patches_under
@@ -25,7 +25,7 @@ from .refusal import Refusal
 from .relaxing import relax
 from .results import Counts, Report, Result
 from .subdivision import subdivide as subdivided
-from .surface import edges_of, irregular_counts
+from .surface import irregular_counts
 from .targets import Reached, nearest_scale
 
 Tell = Callable[[str, int, int], None]
@@ -64,7 +64,8 @@ class Settings:
     folder: Optional[Path] = None
     """Where the old and new text of each part are kept."""
     carry: bool = False
-    """Whether texture, normals, names within parts and colours are carried over."""
+    """Whether what corners, points and faces carry comes over: texture, normals, colours, names within parts. A mirror
+    image carries what its half does."""
 
     def __post_init__(self) -> None:
         if [self.scale, self.faces, self.edge].count(None) != 2:
@@ -84,8 +85,6 @@ class Settings:
             raise ValueError("points are relaxed 0 times or more")
         if self.mirror is not None and self.mirror not in tuple(mirroring.AXES):
             raise ValueError(f"the mirror axis has to be x, y or z, and is {self.mirror}")
-        if self.carry and self.mirror is not None:
-            raise ValueError("what a mesh carries is not mirrored: only one of carry and mirror can be given")
         self._check_features()
 
     def _check_features(self) -> None:
@@ -187,7 +186,7 @@ class _Work:
         new = self._whole(new)
         is_as_written = len(parts) == 1 and not (
             self.settings.mirror or self.settings.subdivide or moves or self.settings.carry)
-        report = replace(self._report(new, reached, parts, written), moves=moves, over_seams=over)
+        report = replace(self._report(new, reached, parts, written), moves=moves, over_seams=over * self._halves())
         return Result(new, report, written[0].text if is_as_written else None, tuple(parts), tuple(written))
 
     def _parts(self, text: Optional[bytes]) -> list[Part]:
@@ -200,11 +199,12 @@ class _Work:
         _refuse_polygons(mesh)
         marks = self._marks(mesh)
         if axis is None:
-            # The text of the file may have lines of its own, which `crease` would take as marks.
-            return split(mesh, None if self.settings.is_creased else text, marks)
+            # `crease` would take the lines of the file as marks.
+            return split(mesh, None if self.settings.is_creased and mesh.lines else text, marks)
         one, faces, points = mirroring.half(mesh, axis)
         at = np.minimum(np.searchsorted(points, marks), max(len(points) - 1, 0))
-        parts = split(one, None, at[np.all(points[at] == marks, axis=1)])
+        at = at[np.all(points[at] == marks, axis=1)]
+        parts = split(one, None, at[one.edges.numbers_of(at) != NONE])
         return [replace(it, faces=faces[it.faces], points=points[it.points]) for it in parts]
 
     def _marks(self, mesh: Mesh) -> np.ndarray:
@@ -212,9 +212,9 @@ class _Work:
         settings = self.settings
         if not settings.is_creased:
             return NO_MARKS
-        found = find_features(mesh, settings.sharp, kinds=settings.keep, corners=settings.corners)
-        self.marks = in_words(found)
-        return np.array(sorted(found), dtype=np.int64).reshape(-1, 2)
+        found = mark_features(mesh, settings.sharp, kinds=settings.keep, corners=settings.corners)
+        self.marks = found.in_words()
+        return found.edges
 
     def _axis(self) -> Optional[int]:
         return None if self.settings.mirror is None else mirroring.AXES.index(self.settings.mirror)
@@ -308,8 +308,9 @@ def _in_quads(mesh: Mesh) -> Mesh:
 
 
 def _counts(mesh: Mesh) -> Counts:
-    quads, edges = _in_quads(mesh), edges_of(mesh)
+    quads = _in_quads(mesh)
     used = int(np.sum(np.bincount(mesh.corners, minlength=len(mesh.points)) > 0))
-    lengths = np.linalg.norm(np.diff(mesh.points[edges.ends], axis=1), axis=2)
-    irregular = irregular_counts(quads, edges if quads is mesh else edges_of(quads))
-    return Counts(used, mesh.face_count, irregular, quality_of(quads), float(lengths.mean()) if len(lengths) else 0.0)
+    one, other = mesh.edges.ends.T
+    lengths = np.linalg.norm(mesh.points[one] - mesh.points[other], axis=1)
+    mean_edge = float(lengths.mean()) if len(lengths) else 0.0
+    return Counts(used, mesh.face_count, irregular_counts(quads), quality_of(quads), mean_edge)

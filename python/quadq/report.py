@@ -9,7 +9,7 @@ from typing import Sequence
 
 import numpy as np
 
-from .features import edges_in, find_features
+from .features import edges_in, mark_features
 from .mesh import Mesh, join
 from .obj import FormatError, read_obj
 from .parts import NO_MARKS
@@ -21,8 +21,6 @@ from .refusal import Refusal
 from .results import Report, Result
 
 SIZE = (720, 620)
-MOST_FACES = 300_000
-"""Of larger meshes no feature edges are drawn: they take too long to find."""
 MOST_ROWS = 100
 ZOOMED = 12
 """Where more faces are at fault, the picture shows the whole mesh."""
@@ -82,7 +80,7 @@ def refusal_page(title: str, mesh: Mesh, refusal: Refusal, up: str = "y") -> str
 def refused_page(path: Path, refusal: Refusal, up: str = "y") -> str:
     """The page of a refusal of an OBJ file, without pictures where it is no OBJ text."""
     try:
-        mesh = read_obj(path.read_bytes().decode("utf-8", "surrogateescape"))
+        mesh = read_obj(path.read_bytes())
     except FormatError:
         mesh = Mesh.of_quads(np.zeros((0, 3)), np.zeros((0, 4)))
     return refusal_page(path.name, mesh, refusal, up)
@@ -106,9 +104,8 @@ def _pictures(result: Result, program: Program, up: str) -> tuple[bytes, bytes]:
 
 def _marks(mesh: Mesh, stay: np.ndarray) -> tuple[np.ndarray, np.ndarray]:
     """The scaled Jacobians of faces, and the feature edges: those that stay, if any do, or else those by angle."""
-    is_small = mesh.face_count <= MOST_FACES and not len(stay)
-    found = find_features(mesh, corners=False) if is_small else {}
-    return scaled_jacobians(mesh), np.concatenate([stay, np.array(sorted(found), dtype=np.int64).reshape(-1, 2)])
+    found = NO_MARKS if len(stay) else mark_features(mesh, corners=False).edges
+    return scaled_jacobians(mesh), np.concatenate([stay, found])
 
 
 def _parts_in_words(report: Report) -> str:

@@ -3,18 +3,16 @@
 from __future__ import annotations
 
 from dataclasses import replace
-from typing import Optional
 
 import numpy as np
 
-from .mesh import NONE, Layer, Mesh
-from .surface import Edges, edges_of
+from .mesh import NONE, Edges, Layer, Mesh
 
 
 def subdivide(mesh: Mesh) -> Mesh:
     """The mesh with a point in the middle of each edge and of each face: a face of n corners becomes n quads, as in the
     first step of Catmull and Clark, but every old point keeps its place. What corners carry is carried on linearly."""
-    edges = edges_of(mesh)
+    edges = mesh.edges
     points, faces = len(mesh.points), mesh.face_of_corner()
     before = np.empty(len(mesh.corners), dtype=np.int64)
     before[mesh.next_corners()] = np.arange(len(mesh.corners))
@@ -26,8 +24,9 @@ def subdivide(mesh: Mesh) -> Mesh:
     ])
     return replace(
         Mesh.of_quads(_refined(mesh, edges, mesh.points), quads),
-        texture=_refined_layer(mesh, before, mesh.texture),
-        normal=_refined_layer(mesh, before, mesh.normal),
+        texture=None if mesh.texture is None else _refined_layer(mesh, before, mesh.texture),
+        normal=None if mesh.normal is None else _refined_layer(mesh, before, mesh.normal),
+        layers={name: _refined_layer(mesh, before, it) for name, it in mesh.layers.items()},
         lines=_refined_lines(mesh, edges),
         groups={word: replace(it, of_face=it.of_face[faces]) for word, it in mesh.groups.items()},
         extra=None if mesh.extra is None else _refined(mesh, edges, mesh.extra),
@@ -63,10 +62,8 @@ def _face_means(mesh: Mesh, at_corners: np.ndarray) -> np.ndarray:
     return np.add.reduceat(at_corners, mesh.starts[:-1]) / mesh.sides[:, None]
 
 
-def _refined_layer(mesh: Mesh, before: np.ndarray, layer: Optional[Layer]) -> Optional[Layer]:
+def _refined_layer(mesh: Mesh, before: np.ndarray, layer: Layer) -> Layer:
     """Four values for each old corner; none where some corner of its face names none."""
-    if layer is None:
-        return None
     named = np.logical_and.reduceat(layer.rows != NONE, mesh.starts[:-1])[mesh.face_of_corner()]
     at_corners = layer.values[np.maximum(layer.rows, 0)] if len(layer.values) else np.zeros((len(before), 1))
     along = (at_corners + at_corners[mesh.next_corners()]) / 2

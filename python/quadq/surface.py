@@ -1,33 +1,10 @@
-"""What surrounds what in a mesh: its edges, its connected parts, its boundary and its irregular vertices."""
+"""How a mesh hangs together: its connected parts, its boundary and its irregular vertices."""
 
 from __future__ import annotations
-
-from dataclasses import dataclass
 
 import numpy as np
 
 from .mesh import Mesh
-
-
-@dataclass(frozen=True)
-class Edges:
-    """The edges of a mesh, each once."""
-
-    ends: np.ndarray
-    """(edges, 2) int64: its points, in rising order."""
-    of_corner: np.ndarray
-    """(corners,) int64: the edge from each corner to the next."""
-    uses: np.ndarray
-    """(edges,) int64: how many sides of faces it is; 1 at the boundary."""
-
-
-def edges_of(mesh: Mesh) -> Edges:
-    """n log n in the corners."""
-    heads, tails = mesh.corners, mesh.corners[mesh.next_corners()]
-    count = max(len(mesh.points), 1)
-    keys = np.minimum(heads, tails) * count + np.maximum(heads, tails)
-    found, of_corner, uses = np.unique(keys, return_inverse=True, return_counts=True)
-    return Edges(np.column_stack([found // count, found % count]), of_corner, uses)
 
 
 def least_in_class(count: int, one: np.ndarray, other: np.ndarray) -> np.ndarray:
@@ -62,11 +39,18 @@ def number_in_order(names: np.ndarray) -> np.ndarray:
     return rank[of_name]
 
 
-def irregular_counts(mesh: Mesh, edges: Edges) -> tuple[int, int]:
+def twins_of(mesh: Mesh) -> np.ndarray:
+    """(darts,) int64: for each side of a face the same one of the face beside it, or NONE."""
+    rises = mesh.corners < mesh.corners[mesh.next_corners()]
+    of_corner = mesh.edges.of_corner
+    return np.where(rises, mesh.edges.falling[of_corner], mesh.edges.rising[of_corner])
+
+
+def irregular_counts(mesh: Mesh) -> tuple[int, int]:
     """How many points inside the mesh have another number of faces than four, and how many on the boundary another
     than two."""
     faces = np.bincount(mesh.corners, minlength=len(mesh.points))
     on_boundary = np.zeros(len(mesh.points), dtype=bool)
-    on_boundary[edges.ends[edges.uses == 1]] = True
+    on_boundary[mesh.edges.ends[mesh.edges.uses == 1]] = True
     inside = (faces > 0) & ~on_boundary
     return int(np.sum(inside & (faces != 4))), int(np.sum(on_boundary & (faces != 2)))

@@ -1,12 +1,14 @@
 """What meshes carry over to their remeshes."""
 
+import sys
 import unittest
 from dataclasses import replace
 
 import numpy as np
 
-from quadq import Layer, Mesh, Names, read_obj, remesh
-from quadq.attributes import dressed_as
+from quadq import Layer, Mesh, Names, Program, read_obj, remesh
+from quadq.attributes import dressed_as, map_between
+from quadq.carried import carried
 from quadq.mesh import join
 
 from .shapes import grid, moved
@@ -61,6 +63,33 @@ class Attributes(unittest.TestCase):
         mesh, over = dressed_as(grid(3, 1), read_obj(NEW), MAP)
         self.assertEqual((mesh.texture, mesh.normal, mesh.extra, mesh.groups, over), (None, None, None, {}, 0))
 
+    def test_further_layers_and_points_of_all_kinds(self):
+        old = dressed(grid(9, 7))
+        layers = {"first": Layer(old.points[:, [0]], old.corners), "second": Layer(old.points[:, :2], old.corners)}
+        mesh = remesh(replace(old, layers=layers), scale="3/4", carry=True).mesh
+        for name, width in (("first", 1), ("second", 2)):
+            values = mesh.layers[name].values[mesh.layers[name].rows]
+            np.testing.assert_allclose(values, mesh.points[mesh.corners, :width], atol=2e-6)
+        np.testing.assert_allclose(mesh.extra, mesh.points * 2, atol=2e-6)
+
+    def test_scripts_leave_no_traces(self):
+        path = sys.path[:]
+        for name in ("make_map", "carrying", "mark_features"):
+            self.assertIs(carried(name), sys.modules[f"quadq.carried.{name}"])
+            self.assertNotIn(name, sys.modules)
+        self.assertIs(carried("carrying").Map, carried("carry").Map)
+        self.assertEqual(sys.path, path)
+
+    def test_a_program_that_writes_maps_is_asked(self):
+        class WithMap(Program):
+            def commands(self):
+                return ("map",)
+
+            def map(self, old, new):
+                return f"{old.decode()} to {new.decode()}"
+
+        self.assertEqual(map_between(b"one", b"other", WithMap()), "one to other")
+
     def test_a_map_of_another_mesh(self):
         with self.assertRaisesRegex(ValueError, "boundary of the old mesh|old mesh does not have"):
             dressed_as(grid(2, 1), read_obj(NEW), MAP)
@@ -75,9 +104,17 @@ class Attributes(unittest.TestCase):
         self.assertEqual(mesh.libraries, ("both.mtl",))
         self.assertIsNone(result.text)
 
-    def test_no_mirror(self):
-        with self.assertRaisesRegex(ValueError, "not mirrored"):
-            remesh(grid(2, 2), scale=1, carry=True, mirror="x")
+    def test_a_mirror_image_carries_what_its_half_does(self):
+        old = dressed(moved(grid(8, 4), -4))
+        result = remesh(replace(old, normal=Layer(np.array([[0.6, 0.0, 0.8]]), old.normal.rows)), scale="1/2",
+                        carry=True, mirror="x")
+        mesh = result.mesh
+        there = mesh.points[mesh.corners]
+        np.testing.assert_allclose(mesh.texture.values[mesh.texture.rows], np.abs(there[:, :2]) / 10)
+        np.testing.assert_allclose(mesh.extra, np.abs(mesh.points) * 2)
+        on_the_left = np.repeat(mesh.points[mesh.quads, 0].mean(axis=1) < 0, 4)
+        np.testing.assert_allclose(mesh.normal.values[mesh.normal.rows, 0], np.where(on_the_left, -0.6, 0.6))
+        self.assertEqual((mesh.face_count, result.report.over_seams), (8, 0))
 
 
 if __name__ == "__main__":

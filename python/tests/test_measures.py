@@ -10,7 +10,7 @@ from quadq import Mesh, Refusal, distance_between, quality_of, read_obj, scaled_
 from quadq.mirror import half, with_image
 from quadq.progress import Progress
 from quadq.relaxing import relax
-from quadq.surface import edges_of, irregular_counts, part_of_face
+from quadq.surface import irregular_counts, part_of_face
 from quadq.targets import as_scale, nearest_scale
 
 from .shapes import EXAMPLES, grid, moved
@@ -50,7 +50,7 @@ class Measures(unittest.TestCase):
     def test_irregular_points(self):
         for name, counts in (("cube", (8, 0)), ("notched_square", (0, 8)), ("torus", (0, 0))):
             mesh = read_obj((EXAMPLES / f"{name}.obj").read_text())
-            self.assertEqual(irregular_counts(mesh, edges_of(mesh)), counts, name)
+            self.assertEqual(irregular_counts(mesh), counts, name)
 
     def test_subdivision(self):
         mesh = read_obj("v 0 0 0\nv 3 0 0\nv 0 3 0\nvt 0 0\nvt 1 0\nvt 0 1\nusemtl oak\nf 1/1 2/2 3/3\n")
@@ -109,7 +109,7 @@ class Measures(unittest.TestCase):
         self.assertEqual(faces.tolist(), [2, 3, 6, 7, 10, 11])
         whole = with_image(one, 0)
         self.assertEqual((whole.face_count, len(whole.points)), (12, 20))
-        self.assertEqual(edges_of(whole).uses.max(), 2)
+        self.assertEqual(whole.edges.uses.max(), 2)
         with self.assertRaises(Refusal) as caught:
             half(moved(grid(3, 2), -1.5), 0)
         self.assertEqual(caught.exception.faces, (1, 4))

@@ -45,6 +45,32 @@ class Obj(unittest.TestCase):
             with self.assertRaises(FormatError, msg=text):
                 read_obj(text)
 
+    def test_corners_are_read_together_or_one_by_one(self):
+        values = "v 0 0 0\nv 1 0 0\nv 1 1 0\nv 0 1 0\nv 2 0 0\nvt 0 0\nvt 1 0\nvn 0 0 1\nvn 0 1 0\nvn 1 0 0\n"
+        for faces, rows in (
+            ("f 1/1/1 2/2/1 3/2/1 4/1/1\nf 2//1 5//1 3//1\n", [0, 1, 1, 0, -1, -1, -1]),
+            ("f 1/1 2/2 3/2 4/1\r\nf 2/1 5/2 3/1 \r\n", [0, 1, 1, 0, 0, 1, 0]),
+            ("f 1/1 2/1/3 3 4/1\nf 2/1 5/2 3/1\n", [0, 0, -1, 0, 0, 1, 0]),
+            ("f\t1/1  2/2 3/2\t4/ # a face\nf -4/-2 -1/-1 -3/-2\n", [0, 1, 1, -1, 0, 1, 0]),
+            ("f 1/1/ 2/2/ 3/2/ 4/1/\nf 2/1/ 5/2/ 3/1/", [0, 1, 1, 0, 0, 1, 0]),
+        ):
+            mesh = read_obj(values + faces)
+            self.assertEqual(mesh.corners.tolist(), [0, 1, 2, 3, 1, 4, 2], faces)
+            self.assertEqual(mesh.texture.rows.tolist(), rows, faces)
+            self.assertEqual(read_obj((values + faces).encode()).corners.tolist(), mesh.corners.tolist())
+
+    def test_numbers_without_a_blank_between_them(self):
+        for text in ("v 1.5.5 0\n", "v 1-2 0\n", "v 0 0 0\nv 0 1-1\n", "v 0 0 0\nf 1-1 1 1\n", "v 1 2 --3\n"):
+            with self.assertRaises(FormatError, msg=text):
+                read_obj(text)
+
+    def test_what_stands_between_lines_of_one_kind(self):
+        text = "".join(f"v {at} {at % 2} 0\ng row {at // 4}\n" for at in range(8)) + "v 9 9 9 1\n"
+        mesh = read_obj(text + "f 1 2 3 4\ng row 0\ns off\nf 5 6 7 8\ng row 0\nf 5 6 7 9\n")
+        self.assertEqual([mesh.groups["g"].names[it] for it in mesh.groups["g"].of_face], ["row 1", "row 0", "row 0"])
+        self.assertEqual(mesh.extra.tolist(), [[0.0]] * 8 + [[1.0]])
+        self.assertEqual(write_obj(mesh).count("g row"), 2)
+
     def test_nothing(self):
         mesh = read_obj("# an empty file\n")
         self.assertEqual((mesh.face_count, len(mesh.points), write_obj(mesh)), (0, 0, ""))

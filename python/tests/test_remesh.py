@@ -243,7 +243,6 @@ class CommandLine(unittest.TestCase):
     def test_wrong_words(self):
         for words in ((CUBE, "--scale", "1"), (CUBE, CUBE, CUBE, "--scale", "1"), (CUBE, "x.obj", "--scale", "0"),
                       (EXAMPLES, "--out", EXAMPLES, "--scale", "1"),
-                      (CUBE, "x.obj", "--scale", "1", "--carry", "--mirror", "x"),
                       (CUBE, "x.obj", "--edge", "1", "--coarse"), (CUBE, "x.obj", "--edge", "one"),
                       (CUBE, "--out", "x", "--scale", "1", "--report", "x.html")):
             self.assertEqual(self.run_words(*words)[0], 2, words)
