@@ -10,7 +10,7 @@ import pathlib
 import bpy
 from bpy.props import BoolProperty, EnumProperty, FloatProperty, IntProperty
 
-from . import meshes
+from . import attributes, meshes
 from .quadq import Refusal, remesh
 from .quadq.patches import borders, paint
 from .quadq.program import Program
@@ -38,6 +38,9 @@ ADVICE = {
     11: "an edge would be there twice. Take the floor Auto or 3",
     17: "the edges are too short for an object of this size. Take longer ones",
 }
+OVER = ("over a seam of the texture or a border of names",
+        "over the border of a UV island or a material: Keep Edges > UV Islands and Material Borders leave none")
+"""Words of a warning of the package, and what they mean in Blender."""
 
 
 def words_of(said: Refusal) -> str:
@@ -84,6 +87,8 @@ class OBJECT_OT_quadq_remesh(bpy.types.Operator):
     keep_seams: BoolProperty(name="Seams", description="Keep the edges that are marked as seams")
     keep_creases: BoolProperty(name="Creases", description="Keep the edges that have a crease")
     keep_materials: BoolProperty(name="Material Borders", description="Keep the edges between materials")
+    keep_islands: BoolProperty(
+        name="UV Islands", description="Keep the borders of the islands of the active UV map, so that no face is torn")
     corners: BoolProperty(
         name="Corners", default=True,
         description="Keep the corners of the boundary and of kept edges too, at the price of some more patches")
@@ -100,6 +105,10 @@ class OBJECT_OT_quadq_remesh(bpy.types.Operator):
     relax: IntProperty(
         name="Relax", min=0, max=100, soft_max=20,
         description="How many times points are moved along the old surface, where no face becomes worse by it")
+    carry: BoolProperty(
+        name="Carry Over", default=True,
+        description="Keep UV maps, colours, vertex groups and normals, and materials and smoothing face by face; "
+                    "else each patch has the material and smoothing of most of its faces, which is faster")
     replace: BoolProperty(name="Replace", description="Change the object's mesh, instead of making a new object")
     seams: BoolProperty(name="Seams at Patches", description="Mark the borders of patches as seams")
 
@@ -114,14 +123,14 @@ class OBJECT_OT_quadq_remesh(bpy.types.Operator):
         layout.prop(self, {"SCALE": "scale", "FACES": "faces", "EDGE": "edge"}[self.wish])
         if self.wish != "EDGE":
             self.draw_features(layout)
-        for name in ("floor", "mirror", "subdivide", "relax", "replace", "seams"):
+        for name in ("floor", "mirror", "subdivide", "relax", "carry", "replace", "seams"):
             layout.prop(self, name)
 
     def draw_features(self, layout):
         """What is kept, and whether patches are merged: each goes with a scale or a number of faces."""
         column = layout.column(heading="Keep Edges")
         column.enabled = not self.coarse
-        for name in ("keep_sharp", "keep_seams", "keep_creases", "keep_materials", "keep_angle"):
+        for name in ("keep_sharp", "keep_seams", "keep_creases", "keep_materials", "keep_islands", "keep_angle"):
             column.prop(self, name)
         if self.keep_angle:
             column.prop(self, "angle")
@@ -130,8 +139,8 @@ class OBJECT_OT_quadq_remesh(bpy.types.Operator):
         layout.prop(self, "coarse")
 
     def kept(self):
-        """Which kinds of edges are kept, as `meshes.EDGES` names them, and materials and angle."""
-        return [name for name in (*meshes.EDGES, "materials", "angle") if getattr(self, f"keep_{name}")]
+        """Which kinds of edges are kept, as `meshes.EDGES` names them, and materials, islands and angle."""
+        return [name for name in (*meshes.EDGES, "materials", "islands", "angle") if getattr(self, f"keep_{name}")]
 
     def execute(self, context):
         try:
@@ -156,29 +165,50 @@ class OBJECT_OT_quadq_remesh(bpy.types.Operator):
     def remesh_one(self, context, source, program):
         """Remeshes one object. Raises a Refusal."""
         kept = [] if self.coarse or self.wish == "EDGE" else self.kept()
-        old, factor = meshes.taken(source.data, kept)
+        old, factor = meshes.taken(source, kept, self.carry or "islands" in kept)
         if not old.face_count:
             raise Refusal(3, "the object has no faces")
-        wish = {"SCALE": {"scale": as_scale(self.scale)}, "FACES": {"faces": self.faces},
-                "EDGE": {"edge": self.edge * factor}}[self.wish]
-        kinds = [*(["lines"] if set(kept) & set(meshes.EDGES) else []), *(["materials"] if "materials" in kept else [])]
-        result = remesh(old, program=program, floor=self.floor, subdivide=self.subdivide, relax=self.relax, keep=kinds,
-                        sharp=math.degrees(self.angle) if "angle" in kept else None, corners=self.corners,
-                        coarse=self.coarse and self.wish != "EDGE",
-                        mirror=None if self.mirror == "NONE" else self.mirror.lower(), **wish)
-        painted = paint(result.parts, result.written, program)
-        lost = meshes.lost_with(source.data)
-        new = meshes.made(source.data, result, painted, factor)
+        is_carried = self.carry and meshes.has_more(old)
+        result = remesh(old, program=program, carry=is_carried, **self.wishes(kept, factor))
+        painted = paint(result.parts, result.written, program) if self.seams or not is_carried else None
+        new = meshes.made(source.data, result, None if is_carried else painted, factor)
         meshes.mark_kept(source.data, new, result.mesh.lines)
         if self.seams:
             meshes.mark_seams(new, borders(result.mesh, painted.of_all(result.mesh)))
-        meshes.put(context, source, new, self.replace)
-        report = result.report.times(1 / factor)
+        lost = meshes.lost_with(source, self.carry)
+        if is_carried:
+            attributes.dress(source.data, new, result.mesh)
+        self.put(context, source, new, result.mesh)
+        self.tell(source, result.report.times(1 / factor), lost)
+
+    def wishes(self, kept, factor):
+        """What is wished of the package, where these kinds of edges are kept and the mesh is so many times as large."""
+        wish = {"SCALE": {"scale": as_scale(self.scale)}, "FACES": {"faces": self.faces},
+                "EDGE": {"edge": self.edge * factor}}[self.wish]
+        kinds = {"lines": set(kept) & set(meshes.EDGES), "materials": "materials" in kept, "seams": "islands" in kept}
+        return dict(floor=self.floor, subdivide=self.subdivide, relax=self.relax, corners=self.corners,
+                    keep=[kind for kind, is_asked in kinds.items() if is_asked],
+                    sharp=math.degrees(self.angle) if "angle" in kept else None,
+                    coarse=self.coarse and self.wish != "EDGE",
+                    mirror=None if self.mirror == "NONE" else self.mirror.lower(), **wish)
+
+    def put(self, context, source, new, mesh):
+        """Puts the new mesh where it belongs, with the vertex groups of the source and the weights that the package's
+        mesh has."""
+        axis = None if self.mirror == "NONE" else "XYZ".index(self.mirror)
+        groups, active = attributes.groups_of(source)
+        weights = attributes.new_weights(source.data, mesh, [name for name, _ in groups], axis)
+        target = meshes.put(context, source, new, self.replace)
+        if self.carry:
+            attributes.put_groups(target, groups, active, weights)
+
+    def tell(self, source, report, lost):
+        """Says what came of an object."""
         self.report({"INFO"}, f"{source.name}: faces {report.before.faces} -> {report.after.faces}, "
                     f"parts {'checked ' if report.is_checked else ''}{report.parts}, "
                     f"greatest distance {report.greatest_distance:.3g}")
         for warning in report.warnings:
-            self.report({"WARNING"}, f"{source.name}: {warning}")
+            self.report({"WARNING"}, f"{source.name}: {warning.replace(*OVER)}")
         if lost:
             self.report({"WARNING"}, f"{source.name}: not carried over: {', '.join(lost)}")
 

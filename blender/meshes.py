@@ -5,6 +5,7 @@ import math
 import bpy
 import numpy as np
 
+from .attributes import attributes_of, column
 from .quadq import Mesh, Names
 
 SIZE = 1024.0
@@ -18,16 +19,10 @@ AT_A_TIME = 1 << 20
 """How many pairs of edges are compared together: it bounds the memory."""
 
 
-def column(items, name, dtype, width=1):
-    """(items, width) or (items,): an attribute of all items."""
-    values = np.zeros(len(items) * width, dtype=dtype)
-    items.foreach_get(name, values)
-    return values if width == 1 else values.reshape(-1, width)
-
-
-def taken(data, kept=()):
-    """The package's mesh of one of Blender's, with the marked edges of these kinds as lines, and the factor by which it
-    is larger."""
+def taken(source, kept=(), is_dressed=True):
+    """The package's mesh of an object, with the marked edges of these kinds as lines, and the factor by which it is
+    larger. It has UV maps, colours, weights and normals, unless it is not dressed."""
+    data = source.data
     points = column(data.vertices, "co", np.float32, 3).astype(float)
     size = float(np.abs(points).max(initial=0.0))
     factor = 2.0 ** round(math.log2(SIZE / size)) if size > 0 else 1.0
@@ -42,7 +37,14 @@ def taken(data, kept=()):
     for kind in set(kept) & set(EDGES):
         marked |= edge_marks(data, kind) > 0
     lines = tuple(ends_of(data)[marked])
-    return Mesh(points * factor, corners, starts, groups=groups, lines=lines), factor
+    worn = attributes_of(source, loops) if is_dressed else {}
+    return Mesh(points * factor, corners, starts, groups=groups, lines=lines, **worn), factor
+
+
+def has_more(mesh):
+    """Whether a mesh carries more than one material and one smoothing, so that a map is needed to carry it over."""
+    names = any(np.any(it.of_face != it.of_face[:1]) for it in mesh.groups.values())
+    return names or mesh.texture is not None or mesh.normal is not None or mesh.extra is not None or bool(mesh.layers)
 
 
 def ends_of(data):
@@ -74,18 +76,28 @@ def _numbers(values):
 
 def made(source, result, painted, factor):
     """Blender's mesh of a result, with the material slots of the source. A new face has the material and the smoothing
-    of most faces of its old patch."""
+    that were carried over, or, where patches are painted, those of most faces of its old patch."""
     mesh = result.mesh
     data = bpy.data.meshes.new(source.name)
     data.from_pydata((mesh.points / factor).tolist(), [], mesh.quads.tolist())
     for material in source.materials:
         data.materials.append(material)
-    of_face = painted.of_all(mesh)
     for word, name in ((MATERIAL, "material_index"), (SMOOTH, "use_smooth")):
-        old = np.concatenate([it.mesh.groups[word].of_face for it in result.parts])
-        data.polygons.foreach_set(name, painted.most_of(old)[of_face].tolist())
+        data.polygons.foreach_set(name, _numbers_of_faces(result, painted, word).tolist())
+    for name in ("use_auto_smooth", "auto_smooth_angle"):
+        if hasattr(source, name):
+            setattr(data, name, getattr(source, name))
     data.update()
     return data
+
+
+def _numbers_of_faces(result, painted, word):
+    """(faces,): the number that each new face has for a name."""
+    if painted is None:
+        given = result.mesh.groups[word]
+        return np.array([int(it) for it in given.names], dtype=np.int64)[given.of_face]
+    old = np.concatenate([it.mesh.groups[word].of_face for it in result.parts])
+    return painted.most_of(old)[painted.of_all(result.mesh)]
 
 
 def mark_kept(source, data, lines):
@@ -142,19 +154,22 @@ def mark_seams(data, edges):
     data.edges.foreach_set("use_seam", (column(data.edges, "use_seam", bool) | chosen).tolist())
 
 
-def lost_with(data):
-    """What a mesh has that a new one does not get."""
-    colours = getattr(data, "color_attributes", ())
-    has = (("UV maps", data.uv_layers), ("colours", colours), ("shape keys", data.shape_keys),
-           ("vertex groups", any(it.groups for it in data.vertices)))
+def lost_with(source, is_carried):
+    """What an object has that its remesh does not get."""
+    data = source.data
+    has = [("shape keys", data.shape_keys)]
+    if not is_carried:
+        has += [("UV maps", data.uv_layers), ("colours", data.color_attributes), ("normals", data.has_custom_normals),
+                ("vertex groups", source.vertex_groups)]
     return [name for name, there in has if there]
 
 
 def put(context, source, data, replace):
-    """Gives the object its new mesh, or makes an object with it beside the source, which is hidden."""
+    """Gives the object its new mesh, or makes an object with it beside the source, which is hidden; returns the object
+    that has it."""
     if replace:
         source.data = data
-        return
+        return source
     new = source.copy()
     new.data = data
     new.name = f"{source.name} quadq"
@@ -164,6 +179,7 @@ def put(context, source, data, replace):
     source.hide_set(True)
     new.select_set(True)
     context.view_layer.objects.active = new
+    return new
 
 
 def show_fault(context, source, said):

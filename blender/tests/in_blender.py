@@ -5,6 +5,7 @@ import unittest
 
 import bmesh
 import bpy
+import numpy as np
 
 ADDON = sys.argv[sys.argv.index("--") + 1]
 
@@ -79,11 +80,65 @@ def area(data):
     return sum(it.area for it in data.polygons)
 
 
+def of_loops(data, values, width):
+    """(loops, width): numbers of the corners of a mesh."""
+    found = np.zeros(len(data.loops) * width, dtype=np.float32)
+    values.foreach_get("color" if width == 4 else "uv", found)
+    return found.reshape(-1, width)
+
+
+def uv_area(data, name):
+    """(faces,): the area of each face in a UV map."""
+    places = of_loops(data, data.uv_layers[name].data, 2)
+    found = []
+    for face in data.polygons:
+        x, y = places[list(face.loop_indices)].T
+        found.append(float(np.sum(x * np.roll(y, -1) - y * np.roll(x, -1))) / 2)
+    return np.array(found)
+
+
+def body():
+    """A cube of 6 by 8 by 8 faces with two UV maps, of which the first is torn between its sides, colours of vertices
+    and of corners, two vertex groups, smooth sides and another material above. All that is linear in its places on each
+    side."""
+    bpy.ops.mesh.primitive_cube_add()
+    bpy.ops.object.mode_set(mode="EDIT")
+    bpy.ops.mesh.subdivide(number_cuts=7)
+    bpy.ops.object.mode_set(mode="OBJECT")
+    source = bpy.context.object
+    data = source.data
+    for name in ("side", "top"):
+        data.materials.append(bpy.data.materials.new(name))
+    data.uv_layers.new(name="flat")
+    for name, kind, domain in (("points", "FLOAT_COLOR", "POINT"), ("corners", "BYTE_COLOR", "CORNER")):
+        data.color_attributes.new(name, kind, domain)
+    flat = data.uv_layers["flat"].data
+    points, corners = (data.color_attributes[name].data for name in ("points", "corners"))
+    for face in data.polygons:
+        face.material_index = int(face.normal.z > 0.5)
+        face.use_smooth = face.normal.z < 0.5
+        for loop in face.loop_indices:
+            x, y, z = data.vertices[data.loops[loop].vertex_index].co
+            flat[loop].uv = (x / 2, z / 2 + y / 4)
+            corners[loop].color = (face.normal.z > 0.5, 1, 0, 1)
+    for it in data.vertices:
+        points[it.index].color = (it.co.x / 2 + 0.5, it.co.y / 2 + 0.5, 0.25, 1)
+    groups = [source.vertex_groups.new(name=name) for name in ("arm.L", "arm.R", "empty")]
+    groups[0].lock_weight = True
+    for it in data.vertices:
+        groups[0].add([it.index], it.co.x / 2 + 0.5, "REPLACE")
+        groups[1].add([it.index], it.co.y / 4 + 0.25, "REPLACE")
+    return source
+
+
 class AddOn(unittest.TestCase):
     @classmethod
     def setUpClass(cls):
-        bpy.ops.preferences.addon_install(filepath=ADDON)
-        bpy.ops.preferences.addon_enable(module="quadq_remesh")
+        if bpy.app.version < (4, 2, 0):
+            bpy.ops.preferences.addon_install(filepath=ADDON)
+            bpy.ops.preferences.addon_enable(module="quadq_remesh")
+        else:
+            bpy.ops.extensions.package_install_files(filepath=ADDON, repo="user_default")
 
     def setUp(self):
         if bpy.context.mode != "OBJECT":
@@ -208,6 +263,97 @@ class AddOn(unittest.TestCase):
         with self.assertRaisesRegex(RuntimeError, "has no faces"):
             bpy.ops.object.quadq_remesh()
         self.assertEqual(bpy.context.mode, "OBJECT")
+
+    def test_what_a_body_carries_comes_over(self):
+        source = body()
+        old = source.data
+        bpy.ops.object.quadq_remesh(scale=0.5, keep_islands=True)
+        it = bpy.context.object
+        new = it.data
+        self.assertEqual((len(new.polygons), shape(new)), (6 * 16, shape(old)))
+        self.assertEqual([layer.name for layer in new.uv_layers], [layer.name for layer in old.uv_layers])
+        for name in new.uv_layers.keys():
+            # Each new face lies over four old ones, which are alike.
+            four = np.sort(uv_area(old, name)).reshape(-1, 4).sum(axis=1)
+            np.testing.assert_allclose(np.sort(uv_area(new, name)), four, atol=1e-5)
+        self.assertEqual((new.uv_layers.active.name, [layer.active_render for layer in new.uv_layers]),
+                         (old.uv_layers.active.name, [layer.active_render for layer in old.uv_layers]))
+        self.assert_linear(it)
+
+    def assert_linear(self, it):
+        """The values of `body` are again linear in the places."""
+        data = it.data
+        flat, corners = data.uv_layers["flat"].data, data.color_attributes["corners"].data
+        for face in data.polygons:
+            is_top = face.normal.z > 0.5
+            self.assertEqual((face.material_index, face.use_smooth), (int(is_top), not is_top))
+            for loop in face.loop_indices:
+                x, y, z = data.vertices[data.loops[loop].vertex_index].co
+                np.testing.assert_allclose(flat[loop].uv, (x / 2, z / 2 + y / 4), atol=1e-5)
+                np.testing.assert_allclose(corners[loop].color, (is_top, 1, 0, 1), atol=1e-5)
+        self.assertEqual([(group.name, group.lock_weight) for group in it.vertex_groups],
+                         [("arm.L", True), ("arm.R", False), ("empty", False)])
+        points = data.color_attributes["points"].data
+        for vertex in data.vertices:
+            x, y, _ = vertex.co
+            np.testing.assert_allclose(points[vertex.index].color, (x / 2 + 0.5, y / 2 + 0.5, 0.25, 1), atol=1e-5)
+            weights = {group.group: group.weight for group in vertex.groups}
+            self.assertAlmostEqual(weights.get(0, 0), x / 2 + 0.5, places=5)
+            self.assertAlmostEqual(weights.get(1, 0), y / 4 + 0.25, places=5)
+
+    def test_a_subdivided_and_mirrored_body(self):
+        source = body()
+        bpy.ops.object.quadq_remesh(scale=0.5, subdivide=True, replace=True, keep_islands=True)
+        self.assertEqual(len(source.data.polygons), 6 * 64)
+        self.assert_linear(source)
+        other = body()
+        bpy.ops.object.quadq_remesh(scale=0.5, replace=True, keep_islands=True, mirror="X")
+        data = other.data
+        self.assertEqual(len(data.polygons), 6 * 16)
+        for it in data.vertices:
+            weights = {group.group: group.weight for group in it.groups}
+            left, right = abs(it.co.x) / 2 + 0.5, it.co.y / 4 + 0.25
+            for group, value in enumerate((left, right) if it.co.x >= 0 else (right, left)):
+                self.assertAlmostEqual(weights.get(group, 0), value, places=5)
+        areas = uv_area(data, "flat")
+        halves = np.array([it.center.x > 0 for it in data.polygons])
+        self.assertAlmostEqual(areas[halves].sum(), -areas[~halves].sum(), places=4)
+
+    def test_nothing_is_carried_where_that_is_not_wished(self):
+        body()
+        bpy.ops.object.quadq_remesh(scale=0.5, carry=False)
+        it = bpy.context.object
+        self.assertEqual((len(it.data.uv_layers), len(it.data.color_attributes), len(it.vertex_groups)), (0, 0, 0))
+        self.assertEqual({face.material_index for face in it.data.polygons if face.normal.z > 0.5}, {1})
+
+    def test_normals_that_were_given_by_hand(self):
+        bpy.ops.mesh.primitive_grid_add(x_subdivisions=8, y_subdivisions=8)
+        source = bpy.context.object
+        if hasattr(source.data, "use_auto_smooth"):
+            source.data.use_auto_smooth = True
+        for it in source.data.polygons:
+            it.use_smooth = True
+        source.data.normals_split_custom_set([(0.6, 0, 0.8)] * len(source.data.loops))
+        bpy.ops.object.quadq_remesh(scale=0.5)
+        data = bpy.context.object.data
+        self.assertTrue(data.has_custom_normals)
+        if hasattr(data, "calc_normals_split"):
+            data.calc_normals_split()
+            normals = [it.normal for it in data.loops]
+        else:
+            normals = [it.vector for it in data.corner_normals]
+        np.testing.assert_allclose(normals, [(0.6, 0, 0.8)] * len(normals), atol=2e-3)
+
+    def test_a_replaced_mesh_comes_back(self):
+        name = body().name
+        bpy.ops.ed.undo_push(message="a body")
+        bpy.ops.object.quadq_remesh(scale=0.5, replace=True)
+        self.assertEqual(len(bpy.data.objects[name].data.polygons), 6 * 16)
+        bpy.ops.ed.undo_push(message="remeshed")
+        bpy.ops.ed.undo()
+        again = bpy.data.objects[name]
+        self.assertEqual(len(again.data.polygons), 6 * 64)
+        self.assert_linear(again)
 
     def test_two_objects_at_once(self):
         bpy.ops.mesh.primitive_grid_add(x_subdivisions=16, y_subdivisions=16)
