@@ -35,8 +35,11 @@ def distance_between(one: Mesh, other: Mesh) -> Distance:
     """From the points and the middles of the faces of the one to the nearest place on the other."""
     if not one.face_count or not other.face_count:
         return Distance(0.0, 0.0, 0)
-    probes = np.concatenate([one.points, one.points[one.quads].mean(axis=1)])
-    probes = probes[:: max(1, -(-len(probes) // SAMPLES))]
+    count = len(one.points) + one.face_count
+    chosen = np.arange(0, count, max(1, -(-count // SAMPLES)))
+    at_points = chosen < len(one.points)
+    middles = _middles(one.points[one.quads[chosen[~at_points] - len(one.points)]])
+    probes = np.concatenate([one.points[chosen[at_points]], middles])
     found = Surface(other).distances(probes)
     return Distance(float(found.mean()), float(found.max()), len(probes))
 
@@ -47,10 +50,12 @@ class Surface:
     its least and its greatest place and a place of the surface within."""
 
     def __init__(self, mesh: Mesh) -> None:
-        corners = mesh.points[mesh.quads]
-        corners = corners[np.argsort(_curve(corners.mean(axis=1)), kind="stable")]
+        order = np.argsort(_curve(_middles(mesh.points[mesh.quads])), kind="stable")
+        corners = mesh.points[mesh.quads[order]]
         self.corners = corners
-        self.levels = [(corners.min(axis=1), corners.max(axis=1), corners.mean(axis=1))]
+        low, high = (of(of(corners[:, 0], corners[:, 1]), of(corners[:, 2], corners[:, 3]))
+                     for of in (np.minimum, np.maximum))
+        self.levels = [(low, high, _middles(corners))]
         while len(self.levels[-1][0]) > 1:
             low, high, within = self.levels[-1]
             starts = np.arange(0, len(low), WAYS)
@@ -83,6 +88,11 @@ class Surface:
         places = _on_quads(probes[who], self.corners[box])
         order = np.lexsort((np.linalg.norm(places - probes[who], axis=1), who))
         return places[order[np.searchsorted(who[order], np.arange(len(probes)))]]
+
+
+def _middles(corners: np.ndarray) -> np.ndarray:
+    """(n, 3): the middles of quads (n, 4, 3)."""
+    return np.asarray((corners[:, 0] + corners[:, 1] + corners[:, 2] + corners[:, 3]) / 4)
 
 
 def _curve(places: np.ndarray) -> np.ndarray:
