@@ -44,14 +44,15 @@ old_fails text (obj.Limit w l) says = let other : obj.Limit w l ≢ obj.Memory =
 
 module _ (text : Bytes) (soup : FaceSet) (said : soup_in text ≡ Ok soup) where
   pub old_read : (result : Result Old CheckFail) → IfOk result (λ old. old.soup ≡ soup) → IfOk result (λ old. old.mesh ≡ soup.faces)
-      → OnOk result (IsManifold soup.faces) → OnOk result (IsSolid soup) → IfOk result (IsOld text)
-  old_read (Ok old) same mesh manifold solid = record {
+      → OnOk result (IsManifold soup.faces) → OnOk result (IsSolid soup) → length soup.pos ≤ MAX_V_LINES → IfOk result (IsOld text)
+  old_read (Ok old) same mesh manifold solid few = record {
     said = subst (λ (s : FaceSet). soup_in text ≡ Ok s) (sym same) said;
     manifold = subst (λ (s : FaceSet). IsManifold s.faces) (sym same) manifold;
     solid = subst IsSolid (sym same) solid;
     mesh = mesh ∙ ap (λ (s : FaceSet). s.faces) (sym same);
+    few = subst (λ (s : FaceSet). length s.pos ≤ MAX_V_LINES) (sym same) few;
   }
-  old_read (Err fail) same mesh manifold solid = tt
+  old_read (Err fail) same mesh manifold solid few = tt
 
   no_old : (fail : CheckFail) → IsNoMeshOf soup fail → IsNoOld text fail
   no_old (NotManifold place other) (same, fault, refuted) = (

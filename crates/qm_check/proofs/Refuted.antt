@@ -6,10 +6,13 @@ use Rattle.def_certtext.specs.CertLines.{Lists}
 use Rattle.def_certtext.specs.HeadLine.{head_line}
 use Rattle.def_certtext.specs.Reading.{HasBadLine, IsFirstBad, Made, Says}
 use Rattle.def_certtext.specs.declared.CertLine.{CertLine}
+use Rattle.def_cut.specs.FullCut.{IsFullCut}
 use Rattle.def_flow.specs.Accepted.{cert_verdict}
 use Rattle.def_flow.specs.Admissible.{deviation, entries}
 use Rattle.def_flow.specs.Network.{Network, tangle_number}
 use Rattle.def_flow.specs.declared.net.Settings.{Settings}
+use Rattle.def_io.specs.Bytes.{Bytes}
+use Rattle.def_layout.specs.FaceLayouts.{IsLayoutOf}
 use Rattle.def_layout.specs.Plans.{Plan, layout_of}
 use Rattle.def_layoutnet.specs.LayoutNet.{IsNetOf}
 use Rattle.def_layoutnet.specs.MeshLayouts.{IsMeshLayout}
@@ -17,12 +20,16 @@ use Rattle.def_remesh.specs.NewPoints.{lengths_in}
 use Rattle.def_remesh.specs.Refusals.{IsTangledAt}
 use Rattle.def_remesh.specs.Certified.{AreKept, certificate_of, IsCertified, IsShown}
 use Rattle.def_remesh.specs.Remeshed.{AreCoarse, finished_text, used, with_floor}
-use Rattle.def_remesh.specs.Tasks.{Wish}
-use Rattle.def_remesh.specs.TextLaws.{made_by}
+use Rattle.def_remesh.specs.Tasks.{Task, Wish}
+use Rattle.def_remesh.specs.TextLaws.{IsSolid, made_by}
 use Rattle.def_run.specs.Judging.{behind_in, first_checked, text_in, IsLoneDoubled, IsThirdWrong, IsWrong, IsWrongText, Judged, TellsMade, TellsOtherText}
 use Rattle.def_run.specs.declared.answer.Why.{Why}
 use Rattle.def_run.specs.declared.answer.Why.TheVariants as why
+use Rattle.def_mesh.specs.Manifold.{IsManifold}
+use Rattle.def_text.specs.FaceSet.{FaceSet}
 use Rattle.def_written.specs.Edges.{IsUndoubled}
+use Rattle.plan_laws.proofs.OnePlan.{one_layout_law}
+use Rattle.remesh_laws.proofs.Printable.{cut_layout}
 use Rattle.qm_cert.proofs.Checked.{accepted_yes}
 use Rattle.qm_certtext.proofs.Marks.{said_at}
 use Rattle.qm_certtext.proofs.Texts.{same_head}
@@ -140,6 +147,14 @@ other_fine judged made (why.Doubled u v) is same other = absurd other
 other_fine judged made why.NoHead is same other = absurd other
 other_fine judged made why.Head is same other = absurd other
 other_fine judged made (why.CertLine line) is same other = absurd other
+
+-- A task that is shown has a network that is not too tangled.
+pub shown_untangled : (task : Task) (soup : FaceSet) (text : Bytes) (plan : Plan) → IsManifold soup.faces → IsSolid soup → IsFullCut soup.faces task.marks
+    → IsLayoutOf soup.faces task.marks plan → IsShown task soup text → (count : ℕ) → IsTangledAt task.wish plan task.settings count → ⊥
+shown_untangled task soup text plan manifold solid full laid shown count tangled =
+    not_tangled task.wish plan (cut_layout soup task.marks plan solid full laid) task.settings task.auto count shown.finished.first shown.finished.third
+    (subst (λ (p : Plan). AreKept task.wish p task.settings task.auto shown.finished.first shown.finished.third)
+    (one_layout_law soup.faces task.marks manifold full shown.finished.plan plan shown.finished.cut laid) shown.certified) tangled
 
 -- A text whose certificates or whose bytes are refused finishes no task.
 module _ (judged : Judged) (able : IsJudgeable judged) (shown : IsShown judged.task judged.soup (text_in judged)) where

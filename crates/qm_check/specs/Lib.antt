@@ -1,4 +1,6 @@
 pub mod Checked
 pub mod Judged
+pub mod Making
+pub mod Multiples
 pub mod Ready
 pub mod Refused

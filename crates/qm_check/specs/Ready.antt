@@ -15,7 +15,9 @@ use Rattle.def_io.specs.declared.TheConstants.{LINE_FEED}
 use Rattle.def_layout.specs.FaceLayouts.{IsLayoutOf}
 use Rattle.def_layout.specs.Lengths.{Lengths}
 use Rattle.def_layout.specs.Plans.{plan, Plan}
+use Rattle.def_marks.specs.Lines.{marks_in}
 use Rattle.def_marks.specs.MarkedText.{marked_text}
+use Rattle.def_marks.specs.declared.fail.MarkFail.TheVariants as marks
 use Rattle.def_mesh.specs.Faults.{IsFirstFault}
 use Rattle.def_mesh.specs.Manifold.{IsManifold}
 use Rattle.def_remesh.specs.Keeping.{IsNetFor}
@@ -25,9 +27,10 @@ use Rattle.def_remesh.specs.Tasks.{old_lengths, Task}
 use Rattle.def_remesh.specs.TextLaws.{IsSolid}
 use Rattle.def_run.specs.declared.answer.Why.TheVariants as why
 use Rattle.def_run.specs.declared.check_fail.CheckFail.{CheckFail}
-use Rattle.def_run.specs.declared.check_fail.CheckFail.TheVariants.{NotAccepted, Old as OldFail, NotManifold, Tangled, Memory}
+use Rattle.def_run.specs.declared.check_fail.CheckFail.TheVariants.{NotAccepted, Old as OldFail, NotManifold, Marks, Tangled, Memory}
 use Rattle.def_text.specs.FaceSet.{FaceSet}
 use Rattle.def_text.specs.Text.{soup_in}
+use Rattle.def_text.specs.declared.limits.TheConstants.{MAX_V_LINES}
 use Rattle.def_text.specs.declared.refusal.ObjFail.TheVariants as obj
 use Rattle.qm_certtext.specs.declared.last.HeadAt.{HeadAt}
 use Rattle.qm_check.specs.declared.old.Old.{Old}
@@ -54,6 +57,7 @@ pub record IsOld (text : Bytes) (old : Old) : Type 0 where
   pub manifold : IsManifold old.soup.faces
   pub solid : IsSolid old.soup
   pub mesh : old.mesh ≡ old.soup.faces
+  pub few : length old.soup.pos ≤ MAX_V_LINES
 
 -- Why a soup is no mesh, where there is memory.
 abbrev pub IsNoMeshOf : (soup : FaceSet) (fail : CheckFail) → Type 0
@@ -124,3 +128,9 @@ TellsNothing head bytes line (NotAccepted (why.CertLine bad)) =
     HasBadLine head (line + 2) (drop (line + 1) (lines_of bytes)) bad
 TellsNothing head bytes line Memory = ⊤
 TellsNothing head bytes line _ = ⊥
+
+-- Why the `l` lines of a text mark no edges, where there is memory.
+abbrev pub IsLineFail : (text : Bytes) (soup : FaceSet) (fail : CheckFail) → Type 0
+IsLineFail text soup (Marks fail) = (fail ≢ marks.Memory) × (marks_in text soup ≡ Err fail)
+IsLineFail text soup Memory = ⊤
+IsLineFail text soup _ = ⊥

@@ -47,7 +47,7 @@ pub(crate) fn compare(
 }
 
 /// The refusal of a text that is another one behind so many bytes.
-fn other_from(alike: usize) -> CheckFail
+pub(crate) fn other_from(alike: usize) -> CheckFail
     requires { alike ≤ MAX_BYTES }
     ensures { result ≡ CheckFail.NotAccepted (Why.Byte (alike + 1)) }
 {

@@ -1,4 +1,5 @@
-//! The checker of pairs: whether a text is one with a mesh and, behind it, the text of a finished remesh of this mesh.
+//! The judge of texts: whether a text is one with a mesh and, behind it, a text that is written for this mesh: that of a
+//! finished remesh, or of any command that writes a new mesh.
 #![tactic(auto)]
 
 mod between;
@@ -7,10 +8,14 @@ mod comparing;
 mod judging;
 mod lengths;
 mod making;
+mod map;
+mod marks;
 mod old;
 mod pair;
 mod parts;
 mod ready;
+mod refined;
 
 pub use def_run::{CheckFail, Why};
+pub use map::{Mapped, judge};
 pub use pair::{Accepted, check_pair};

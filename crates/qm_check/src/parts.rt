@@ -3,6 +3,7 @@
 ghost use Rattle.std.specs.Prelude.{◌≡◌, ◌≤◌, ◌+◌, drop, length, take};
 ghost use Rattle.def_io.specs.Lines.{lines_of, tail_of};
 ghost use Rattle.def_run.specs.Check.{head_of};
+ghost use Rattle.def_run.specs.MarkLines.{front_of};
 ghost use Rattle.qm_check.specs.Ready.{CutsAt};
 
 use qm_certtext::HeadAt;
@@ -11,6 +12,7 @@ use qm_io::cut_line;
 /// The old text, in front of the head line.
 pub(crate) fn old_text(bytes: &[u8], head: HeadAt) -> &[u8]
     requires { CutsAt bytes.now head }
+    ensures front { result.now ≡ front_of head.line bytes.now }
     ensures lines { lines_of result.now ≡ take head.line (lines_of bytes.now) }
     ensures few { length result.now ≤ length bytes.now }
 {

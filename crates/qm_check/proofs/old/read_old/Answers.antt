@@ -6,7 +6,7 @@ use Rattle.qm_check.proofs.old.read_old.Goals as goal
 pub returns-in-Ok-clause-old : goal.returns-in-Ok-clause-old
 returns-in-Ok-clause-old c =
     old_read c.args.text.now c.in-Ok.soup c.in-Ok.ensures.soup c.with_mesh.result c.with_mesh.ensures.soup c.with_mesh.ensures.mesh
-    c.with_mesh.ensures.manifold c.with_mesh.ensures.solid
+    c.with_mesh.ensures.manifold c.with_mesh.ensures.solid c.in-Ok.ensures.few.0
 
 pub returns-in-Ok-clause-refused : goal.returns-in-Ok-clause-refused
 returns-in-Ok-clause-refused c = old_failed c.args.text.now c.in-Ok.soup c.in-Ok.ensures.soup c.with_mesh.result c.with_mesh.ensures.refused

@@ -1,0 +1,87 @@
+-- What the text of a command is judged by, and why there is nothing to judge it by.
+use Rattle.std.specs.Prelude.{◌≡◌, ◌≢◌, ⊤}
+use Rattle.def_io.specs.Bytes.{Bytes}
+use Rattle.def_io.specs.Lines.{lines_of}
+use Rattle.def_layout.specs.Plans.{plan}
+use Rattle.def_map.specs.MapText.{map_text}
+use Rattle.def_marks.specs.declared.fail.MarkFail.{MarkFail}
+use Rattle.def_marks.specs.declared.fail.MarkFail.TheVariants as mark_fail
+use Rattle.def_flow.specs.declared.net.Settings.{Settings}
+use Rattle.def_remesh.specs.NewPoints.{lengths_in}
+use Rattle.def_remesh.specs.Numberings.{IsNumbering}
+use Rattle.def_remesh.specs.Placings.{ArePlaces}
+use Rattle.def_remesh.specs.Tasks.{Task}
+use Rattle.def_run.specs.Check.{head_of}
+use Rattle.def_run.specs.Crease.{HasMarkFail}
+use Rattle.def_run.specs.Map.{asks_of, RefusesNew, WritesMap, WritesNew}
+use Rattle.def_run.specs.MarkLines.{front_of, IsLastMark, IsMarkLine}
+use Rattle.def_run.specs.declared.answer.Answer.TheVariants as answers
+use Rattle.def_run.specs.declared.check_fail.CheckFail.{CheckFail}
+use Rattle.def_run.specs.declared.check_fail.CheckFail.TheVariants.{Marks, Tangled, Far, Memory}
+use Rattle.def_run.specs.declared.command.Command.{Command}
+use Rattle.def_run.specs.declared.command.Command.TheVariants.{Crease}
+use Rattle.def_text.specs.FaceSet.{FaceSet}
+use Rattle.qm_certtext.specs.declared.last.HeadAt.{HeadAt}
+use Rattle.qm_check.specs.Ready.{CutsAt, IsOld, IsReady}
+use Rattle.qm_check.specs.declared.map.Mapped.{Mapped}
+use Rattle.qm_check.specs.declared.old.Old.{Old}
+use Rattle.qm_check.specs.declared.ready.Ready.{Ready}
+
+-- A task that a command asks of a soup, and the only one.
+pub record IsOnlyTask (command : Command) (front : Bytes) (soup : FaceSet) (task : Task) : Type 0 where
+  pub asked : asks_of command front soup task
+  pub alone : (other : Task) → asks_of command front soup other → other ≡ task
+
+-- What is made ready for it.
+pub record IsReadyFor (command : Command) (front : Bytes) (ready : Ready) : Type 0 where
+  pub task : Task
+  pub only : IsOnlyTask command front ready.soup task
+  pub holds : IsReady task ready
+
+-- The command writes no text for this one.
+abbrev pub NeverWrites : (command : Command) (front : Bytes) → Type 0
+NeverWrites command front = (text : Bytes) → ¬ WritesNew command front text
+
+-- The command is `crease`, and an `l` line is refused.
+pub record RefusesLines (command : Command) (front : Bytes) (fail : MarkFail) : Type 0 where
+  pub settings : Settings
+  pub crease : command ≡ Crease settings
+  pub said : HasMarkFail front fail
+  pub other : fail ≢ mark_fail.Memory
+
+-- Why nothing is made ready, where there is memory.
+abbrev pub IsUnmade : (command : Command) (front : Bytes) (fail : CheckFail) → Type 0
+IsUnmade command front (Tangled count) = RefusesNew command front (answers.Tangled count) × NeverWrites command front
+IsUnmade command front (Far sum) = RefusesNew command front (answers.Far sum) × NeverWrites command front
+IsUnmade command front (Marks fail) = RefusesLines command front fail × NeverWrites command front
+IsUnmade command front Memory = ⊤
+IsUnmade command front _ = ⊥
+
+-- The last line that begins as a head line does stands there, and divides the bytes.
+pub record IsMarkedAt (bytes : Bytes) (mark : HeadAt) : Type 0 where
+  pub last : IsLastMark (lines_of bytes) mark.line
+  pub cuts : CutsAt bytes mark
+
+-- It is the head line of this command and of no other, and the bytes before it have this mesh.
+pub record IsGivenTo (bytes : Bytes) (mark : HeadAt) (old : Old) (command : Command) : Type 0 where
+  pub marked : IsMarkedAt bytes mark
+  pub read : IsOld (front_of mark.line bytes) old
+  pub is : IsMarkLine (head_of bytes mark.line) command
+  pub alone : (other : Command) → IsMarkLine (head_of bytes mark.line) other → other ≡ command
+
+-- What stands from the line on is judged by what was made ready for its command and the mesh in front of it.
+pub record IsMadeFrom (bytes : Bytes) (mark : HeadAt) (ready : Ready) : Type 0 where
+  pub old : Old
+  pub command : Command
+  pub given : IsGivenTo bytes mark old command
+  pub for : IsReadyFor command (front_of mark.line bytes) ready
+  pub same : ready.soup ≡ old.soup
+
+-- The bytes have the map of these points.
+pub record IsMappedOf (bytes : Bytes) (mapped : Mapped) : Type 0 where
+  pub mesh : mapped.cut.mesh ≡ mapped.soup.faces
+  pub numbering : IsNumbering (plan mapped.cut.layout) mapped.points.numbering
+  pub places : ArePlaces mapped.cut.mesh (plan mapped.cut.layout) mapped.points.places
+  pub lengths : mapped.points.places.lengths.items ≡ mapped.points.numbering.lengths.items
+  pub map : WritesMap bytes
+      (map_text mapped.soup (plan mapped.cut.layout) (lengths_in mapped.points.numbering.lengths.items))
