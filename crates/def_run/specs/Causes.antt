@@ -15,6 +15,7 @@ use Rattle.def_run.specs.Coarse.{AsksToMerge}
 use Rattle.def_run.specs.CommandLines.{IsCommand}
 use Rattle.def_run.specs.Crease.{AsksToCrease, HasCreased, RefusesToCrease}
 use Rattle.def_run.specs.Graph.{RefusesToTrace, WritesGraph}
+use Rattle.def_run.specs.Map.{HasMap, RefusesToMap, WritesMap}
 use Rattle.def_run.specs.Mesh.{HasMesh}
 use Rattle.def_run.specs.Refine.{HasRefined, RefusesToRefine, WritesRefined}
 use Rattle.def_run.specs.Remesh.{AsksToRemesh, HasFinished, RefusesTask, WritesFinished}
@@ -23,7 +24,8 @@ use Rattle.def_run.specs.Tidy.{RefusesToTidy, WritesTidied}
 use Rattle.def_run.specs.declared.answer.Answer.{Answer}
 use Rattle.def_run.specs.declared.answer.Answer.TheVariants.{Done, Usage, Limit, ReadFault, WriteFault, Memory}
 use Rattle.def_run.specs.declared.command.Command.{Command}
-use Rattle.def_run.specs.declared.command.Command.TheVariants.{Tidy, Graph, Refine, Remesh, Check, Bench, Crease, Size, Coarse, Blocks}
+use Rattle.def_run.specs.declared.command.Command.TheVariants.{Tidy, Graph, Refine, Remesh, Check, Bench, Crease, Size, Coarse}
+use Rattle.def_run.specs.declared.command.Command.TheVariants.{Blocks, Map}
 
 -- The text that a command writes for the bytes that it read.
 abbrev pub Writes : (command : Command) (bytes text : Bytes) → Type 0
@@ -37,6 +39,7 @@ Writes (Crease settings) bytes text = WritesFinished (AsksToCrease settings) byt
 Writes (Size edge floor) bytes text = WritesFinished (AsksForNearSize edge floor) bytes text
 Writes (Coarse settings) bytes text = WritesFinished (AsksToMerge settings) bytes text
 Writes (Blocks by) bytes text = WritesBlocks by bytes text
+Writes Map bytes text = WritesMap bytes text
 
 -- The answer with which a command refuses the bytes that it read.
 abbrev pub Refuses : (command : Command) (bytes : Bytes) (answer : Answer) → Type 0
@@ -50,6 +53,7 @@ Refuses (Crease settings) bytes answer = RefusesToCrease settings bytes answer
 Refuses (Size edge floor) bytes answer = RefusesSize edge floor bytes answer
 Refuses (Coarse settings) bytes answer = RefusesTask (AsksToMerge settings) bytes answer
 Refuses (Blocks by) bytes answer = RefusesToRefine by bytes answer
+Refuses Map bytes answer = RefusesToMap bytes answer
 
 -- The bytes for which a command has a text to write, whatever is free in it.
 abbrev pub Takes : (command : Command) (bytes : Bytes) → Type 0
@@ -63,6 +67,7 @@ Takes (Crease settings) bytes = HasCreased settings bytes
 Takes (Size edge floor) bytes = HasSize edge floor bytes
 Takes (Coarse settings) bytes = HasFinished (AsksToMerge settings) bytes
 Takes (Blocks by) bytes = HasRefined by bytes
+Takes Map bytes = HasMap bytes
 
 -- The source is as it was, as far as it tells.
 abbrev pub IsUnread : (input : Change) → Type 0

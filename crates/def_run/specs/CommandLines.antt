@@ -7,7 +7,8 @@ use Rattle.def_flow.specs.declared.net.Settings.{Settings}
 use Rattle.def_certtext.specs.Settings.{AreWordsOf}
 use Rattle.def_run.specs.Options.{value_of, AreOptions, Uses}
 use Rattle.def_run.specs.declared.command.Command.{Command}
-use Rattle.def_run.specs.declared.command.Command.TheVariants.{Tidy, Graph, Refine, Remesh, Check, Bench, Crease, Size, Coarse, Blocks}
+use Rattle.def_run.specs.declared.command.Command.TheVariants.{Tidy, Graph, Refine, Remesh, Check, Bench, Crease, Size, Coarse}
+use Rattle.def_run.specs.declared.command.Command.TheVariants.{Blocks, Map}
 use Rattle.def_run.specs.declared.command.TheConstants.{MAX_MULTIPLE, MAX_SIZE}
 
 -- The word of a command.
@@ -22,6 +23,7 @@ name_of (Crease settings) = codes "crease"
 name_of (Size edge floor) = codes "size"
 name_of (Coarse settings) = codes "coarse"
 name_of (Blocks by) = codes "blocks"
+name_of Map = codes "map"
 
 -- The word is this whole number, from 1 to the greatest, in digits without a leading zero.
 pub record IsCount (greatest : ℕ) (word : Word) (n : ℕ) : Type 0 where

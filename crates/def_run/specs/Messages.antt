@@ -3,6 +3,7 @@ use Rattle.std.specs.Prelude.{◌≡◌, ◌⊎◌, ℕ, List, Ok}
 use Rattle.def_gen.specs.Steps.{steps_soup}
 use Rattle.def_io.specs.Bytes.{Bytes}
 use Rattle.def_io.specs.Faults.{Rose}
+use Rattle.def_io.specs.Lines.{lines_of}
 use Rattle.def_io.specs.Moves.{Change, took, TookPrefix}
 use Rattle.def_mesh.specs.declared.Place.{Place}
 use Rattle.def_text.specs.FaceSet.{FaceSet}
@@ -12,10 +13,11 @@ use Rattle.def_run.specs.Causes.{Reads}
 use Rattle.def_run.specs.Check.{HasOldSoup}
 use Rattle.def_run.specs.CommandLines.{IsCommand}
 use Rattle.def_run.specs.ErrorLines.{error_line}
+use Rattle.def_run.specs.MarkLines.{front_of, IsLastMark}
 use Rattle.def_run.specs.declared.answer.Answer.{Answer}
 use Rattle.def_run.specs.declared.answer.Answer.TheVariants.{NotManifold}
 use Rattle.def_run.specs.declared.command.Command.{Command}
-use Rattle.def_run.specs.declared.command.Command.TheVariants.{Check, Bench}
+use Rattle.def_run.specs.declared.command.Command.TheVariants.{Check, Bench, Map}
 
 -- The sink took this line, or failed and took a prefix of it.
 abbrev pub Said : (line : Bytes) (err : Change) → Type 0
@@ -26,6 +28,7 @@ Said line err = (err.told_now ≡ took err.told line)
 abbrev pub LooksAt : (command : Command) (bytes : Bytes) (soup : FaceSet) → Type 0
 LooksAt Check bytes soup = (line : ℕ) × HasOldSoup bytes line soup
 LooksAt (Bench size) bytes soup = soup ≡ steps_soup size
+LooksAt Map bytes soup = (line : ℕ) × IsLastMark (lines_of bytes) line × (soup_in (front_of line bytes) ≡ Ok soup)
 LooksAt command bytes soup = soup_in bytes ≡ Ok soup
 
 -- A command read these numbers of vertices with its soup.

@@ -34,4 +34,6 @@ pub enum Command {
     Coarse { settings: Settings },
     /// The patches are told as blocks, at this multiple of the old lengths.
     Blocks { by: u32 },
+    /// Each vertex and each face of a new mesh is told by where it lies in the old one.
+    Map,
 }

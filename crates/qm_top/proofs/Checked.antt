@@ -10,6 +10,9 @@ use Rattle.def_run.specs.Check.{RefusesOldText, RefusesToCheck, WritesAccepted}
 use Rattle.def_run.specs.declared.answer.Answer.{Answer}
 use Rattle.def_run.specs.declared.answer.Answer.TheVariants as answers
 use Rattle.def_run.specs.declared.answer.Why.TheVariants as why
+use Rattle.def_run.specs.CheckFails.{IsCheckFail}
+use Rattle.def_run.specs.declared.check_fail.CheckFail.{CheckFail}
+use Rattle.def_run.specs.declared.check_fail.CheckFail.TheVariants as check_fail
 use Rattle.def_run.specs.declared.command.Command.TheVariants.{Check}
 use Rattle.def_remesh.specs.Checked.{IsCheckedPair}
 use Rattle.def_text.specs.Input.{ReadWhole}
@@ -21,13 +24,18 @@ use Rattle.def_text.specs.declared.refusal.Which.TheVariants.{Bytes as AllBytes}
 use Rattle.qm_check.proofs.Pairs.{headless, old_faulty, old_refused}
 use Rattle.qm_top.proofs.NeverBytes.{never_bytes}
 use Rattle.qm_top.proofs.Refusals.{obj_place}
-use Rattle.qm_top.specs.Checking.{IsNoPairFor, IsUnaccepted}
+use Rattle.qm_top.specs.Checking.{IsNoPairFor, IsPlaced, IsUnaccepted}
 use Rattle.qm_top.specs.Refusals.{answer_of, answer_of_obj, Ended}
 use Rattle.qm_top.specs.Runs.{HasRun}
 use Rattle.qm_top.specs.Writing.{WroteText}
 use Rattle.qm_top.specs.declared.refusal.Refusal.{Refusal}
 use Rattle.qm_top.specs.declared.refusal.Refusal.TheVariants.{NotAccepted, Soup, NotManifold, Layout, Write}
 use Rattle.qm_top.specs.declared.refusal.Refusal.TheVariants as refusals
+
+-- A place that bytes are refused for is the first fault of their old text.
+pub pair_placed : (bytes : Bytes) (fail : CheckFail) → IsCheckFail bytes fail → IsPlaced fail
+pair_placed bytes (check_fail.NotManifold place soup) is = is.0.fault
+pair_placed bytes _ is = tt
 
 module _ {O : Type 0} (input : Change) (out : Stream O) (bytes : Bytes) (whole : ReadWhole MAX_BYTES input.told input.told_now bytes) (calm : input.faults_now ≡ input.faults) where
   -- The refusal of the old text has its cause.

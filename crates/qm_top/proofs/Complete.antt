@@ -23,7 +23,7 @@ use Rattle.def_run.specs.Size.{AsksForNearSize, AsksForSize, HasNearTargets, Has
 use Rattle.def_run.specs.declared.answer.Answer.{Answer}
 use Rattle.def_run.specs.declared.answer.Answer.TheVariants.{Done, NotAccepted, Usage, Syntax, NotQuad, Range, Limit, NotManifold, Tangled, TooFine, Doubled, ReadFault, WriteFault, Memory, Far}
 use Rattle.def_run.specs.declared.command.Command.{Command}
-use Rattle.def_run.specs.declared.command.Command.TheVariants.{Tidy, Graph, Refine, Remesh, Check, Bench, Crease, Size, Coarse, Blocks}
+use Rattle.def_run.specs.declared.command.Command.TheVariants.{Tidy, Graph, Refine, Remesh, Check, Bench, Crease, Size, Coarse, Blocks, Map}
 use Rattle.def_run.specs.declared.words.WordsFail.{WordsFail}
 use Rattle.def_run.specs.declared.words.WordsFail.TheVariants as words_fail
 use Rattle.def_run.specs.CommandLines.{IsAcceptedLine, IsCommand}
@@ -109,6 +109,7 @@ not_both (Crease settings) bytes answer takes refuses = crease_not_both settings
 not_both (Size edge floor) bytes answer takes refuses = size_not_both edge floor bytes answer takes refuses
 not_both (Coarse settings) bytes answer takes refuses = task_not_both (AsksToMerge settings) bytes answer takes refuses
 not_both (Blocks by) bytes answer takes refuses = refine_not_both by bytes answer takes refuses
+not_both Map bytes answer takes refuses = refuses.1 takes
 
 -- What a source gave whole is what it held.
 pub same_bytes : (before now : Told) (bytes held : Bytes) → before ≡ Some held → before ≡ gave bytes now → IsEmptied now → bytes ≡ held

@@ -5,6 +5,7 @@ mod Checked
 mod Complete
 mod Creased
 mod Framed
+mod Mapped
 mod Naming
 mod NeverBytes
 mod Refined

@@ -1,18 +1,26 @@
 -- What `check` does with the bytes that it read.
-use Rattle.std.specs.Prelude.{◌≡◌, ◌≢◌}
+use Rattle.std.specs.Prelude.{◌≡◌, ◌≢◌, ⊤}
 use Rattle.def_io.specs.Bytes.{Bytes}
 use Rattle.def_io.specs.Moves.{IsStill, Stream}
+use Rattle.def_mesh.specs.Faults.{IsFirstFault}
 use Rattle.def_remesh.specs.declared.kept.LayoutFail.TheVariants as layouts
 use Rattle.def_run.specs.Check.{IsNotAccepted, IsTangledOld, RefusesOldText, WritesAccepted}
 use Rattle.def_text.specs.FaceSet.{FaceSet}
 use Rattle.def_text.specs.declared.refusal.ObjFail.TheVariants as obj
 use Rattle.def_text.specs.declared.refusal.SoupFail.TheVariants as soup
 use Rattle.def_run.specs.CheckFails.{HasOldFault}
+use Rattle.def_run.specs.declared.check_fail.CheckFail.{CheckFail}
+use Rattle.def_run.specs.declared.check_fail.CheckFail.TheVariants as check_fail
 use Rattle.qm_top.specs.Writing.{BrokeText}
 use Rattle.qm_top.specs.declared.named.NamedPlace.{NamedPlace}
 use Rattle.qm_top.specs.declared.refusal.Refusal.{Refusal}
 use Rattle.qm_top.specs.declared.refusal.Refusal.TheVariants.{NotAccepted, Soup, NotManifold, Layout, Write}
 use Rattle.qm_top.specs.declared.refusal.Refusal.TheVariants as refusals
+
+-- A place that a text is refused for is the first fault of the faces of its soup.
+abbrev pub IsPlaced : (fail : CheckFail) → Type 0
+IsPlaced (check_fail.NotManifold place soup) = IsFirstFault soup.faces place
+IsPlaced _ = ⊤
 
 -- The faces of the old text are no manifold, first at this place, with the numbers of the old text.
 pub record NamesOldFault (bytes : Bytes) (named : NamedPlace) : Type 0 where

@@ -1,21 +1,18 @@
 //! `check`: an old text and the text of a remesh of its mesh are checked.
 
 ghost use Rattle.std.specs.Prelude.{◌≡◌, ◌≤◌, length, IfErr, OnOk};
-ghost use Rattle.def_io.specs.Bytes.{Bytes};
 ghost use Rattle.def_io.specs.Moves.{change, stream};
 ghost use Rattle.def_remesh.specs.Checked.{accepted_line};
 ghost use Rattle.def_run.specs.Check.{WritesAccepted};
-ghost use Rattle.def_run.specs.CheckFails.{IsCheckFail};
-ghost use Rattle.qm_top.specs.Checking.{IsNoPairFor, IsUnaccepted};
+ghost use Rattle.qm_top.specs.Checking.{IsUnaccepted};
 ghost use Rattle.qm_top.specs.Runs.{HasRun};
 ghost use Rattle.qm_top.specs.Writing.{WroteText};
 
-use crate::named::named_place;
+use crate::judged::judged_refusal;
 use crate::refusal::Refusal;
-use def_remesh::LayoutFail;
 use def_run::Command;
-use def_text::{MAX_BYTES, SoupFail};
-use qm_check::{Accepted, CheckFail, check_pair};
+use def_text::MAX_BYTES;
+use qm_check::{Accepted, check_pair};
 use qm_io::{Sink, Source, read_bytes, write_all};
 use qm_print::{Line, numbered_line, push_integer, push_numbered};
 use std::alloc::Global;
@@ -47,7 +44,7 @@ fn check_bytes<O: Sink>(alloc: Global, bytes: &[u8], out: &mut O) -> Result<(), 
             write_all(out, accepted_line(accepted).as_str().as_bytes())?;
             Ok(())
         }
-        Err(fail) => Err(refusal_of(fail)),
+        Err(fail) => Err(judged_refusal(fail)),
     }
 }
 
@@ -59,20 +56,4 @@ fn accepted_line(accepted: Accepted) -> Line
     push_numbered(&mut line, u64::from(accepted.faces), " deviation ");
     push_integer(&mut line, accepted.deviation, "\n");
     line
-}
-
-/// The refusal of a text that is no pair.
-fn refusal_of(fail: CheckFail) -> Refusal
-    requires { (bytes : Bytes) × IsCheckFail bytes fail }
-    ensures { (bytes : Bytes) → IsCheckFail bytes fail → IsNoPairFor bytes result }
-{
-    match fail {
-        CheckFail::NotAccepted { why } => Refusal::NotAccepted(why),
-        CheckFail::Old { fail } => Refusal::Soup(SoupFail::Obj(fail)),
-        CheckFail::NotManifold { place, soup } => Refusal::NotManifold(named_place(place, soup)),
-        CheckFail::Marks { fail } => Refusal::Marks(fail),
-        CheckFail::Tangled { count } => Refusal::Layout(LayoutFail::Tangled { count }),
-        CheckFail::Far { sum } => Refusal::Far(sum),
-        CheckFail::Memory => Refusal::Memory,
-    }
 }

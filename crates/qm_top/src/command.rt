@@ -15,6 +15,7 @@ use crate::coarse::coarse;
 use crate::crease::crease;
 use crate::error_line::error_line_of;
 use crate::graph::graph;
+use crate::map::map;
 use crate::refine::refine;
 use crate::refusal::{Refusal, words_answer};
 use crate::remesh::remesh;
@@ -82,6 +83,7 @@ fn run_command<S: Source, O: Sink>(
         Command::Size { edge, floor } => size(alloc, edge, floor, input, out),
         Command::Coarse { settings } => coarse(alloc, settings, input, out),
         Command::Blocks { by } => blocks(alloc, by, input, out),
+        Command::Map => map(alloc, input, out),
     }
 }
 

@@ -12,6 +12,8 @@ mod finishing;
 mod graph;
 mod heads;
 mod input;
+mod judged;
+mod map;
 mod named;
 mod process;
 mod refine;

@@ -9,7 +9,7 @@ use Rattle.def_certtext.specs.Settings.{AreWordsOf}
 use Rattle.def_run.specs.CommandLines.{name_of, HasCount, HasEdge, HasOptions, HasSettings, IsCommand}
 use Rattle.def_run.specs.Options.{uses_of, value_of, Uses}
 use Rattle.def_run.specs.declared.command.Command.{Command}
-use Rattle.def_run.specs.declared.command.Command.TheVariants.{Tidy, Graph, Refine, Remesh, Check, Bench, Crease, Size, Coarse, Blocks}
+use Rattle.def_run.specs.declared.command.Command.TheVariants.{Tidy, Graph, Refine, Remesh, Check, Bench, Crease, Size, Coarse, Blocks, Map}
 use Rattle.def_run.specs.declared.words.WordsFail.{WordsFail}
 use Rattle.def_run.specs.declared.words.WordsFail.TheVariants.{Memory, Usage}
 use Rattle.def_text.specs.Decimal.{rounded}
@@ -63,6 +63,7 @@ same_options (Size e m) (Size d n) words name one two =
     λ i. Size (both.0 i) (both.1 i)
 same_options (Coarse s) (Coarse t) words name one two = ap (λ (k : Settings). Coarse k) (same_asked words s t false false one two).0
 same_options (Blocks m) (Blocks n) words name one two = ap (λ (k : ℕ). Blocks k) (same_count _ 1000 words m n (omega arith) one two)
+same_options Map Map words name one two = refl
 same_options a b words name one two = absurd (apart (name_of a) (name_of b) refl name)
 
 pub one_command : (words : Words) (a b : Command) → IsCommand words a → IsCommand words b → a ≡ b

@@ -80,6 +80,9 @@ fn read_command(alloc: Global, name: &str, rest: &[String]) -> Result<Command, W
         let by = number_of(alloc, "by", MAX_MULTIPLE, rest)?;
         return Ok(Command::Blocks { by });
     }
+    if is_word(name, "map") {
+        return alone(Command::Map, rest);
+    }
     Err(WordsFail::Usage)
 }
 

@@ -22,7 +22,7 @@ const WHOLE: Settings = Settings {
 };
 
 /// Lines with the commands that they are.
-const COMMANDS: [(&str, Command); 12] = [
+const COMMANDS: [(&str, Command); 13] = [
     ("tidy", Command::Tidy),
     ("graph", Command::Graph),
     ("check", Command::Check),
@@ -65,6 +65,7 @@ const COMMANDS: [(&str, Command); 12] = [
         Command::Coarse { settings: WHOLE },
     ),
     ("blocks --by 7", Command::Blocks { by: 7 }),
+    ("map", Command::Map),
 ];
 
 /// Lines that are no command.

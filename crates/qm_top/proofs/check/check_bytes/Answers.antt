@@ -1,7 +1,7 @@
 use Rattle.std.proofs.Common.{rules, refl}
 use Rattle.def_io.specs.Moves.{stream}
 use Rattle.error_laws.proofs.Errors.{handed}
-use Rattle.qm_top.proofs.Checked.{unaccepted}
+use Rattle.qm_top.proofs.Checked.{pair_placed, unaccepted}
 use Rattle.qm_top.proofs.check.check_bytes.Goals as goal
 
 pub returns-in_err-write_all-in-Ok-clause-refused : goal.returns-in_err-write_all-in-Ok-clause-refused
@@ -12,7 +12,10 @@ returns-in_err-write_all-in-Ok-clause-refused g c = handed _ _ _ c.from_residual
   fault = c.in_err-write_all-in-Ok.ensures.cause.failed;
 })
 
+pub judged_refusal-requires : goal.judged_refusal-requires
+judged_refusal-requires g c = pair_placed c.args.bytes.now _ c.in-Err.ensures.refused
+
 pub returns-in-Err-clause-refused : goal.returns-in-Err-clause-refused
 returns-in-Err-clause-refused g c =
-    unaccepted c.args.bytes.now (stream g.O.Sink.state c.args.out.now c.args.out.now) c.refusal_of.result
-    (c.refusal_of.ensures c.args.bytes.now c.in-Err.ensures.refused) refl
+    unaccepted c.args.bytes.now (stream g.O.Sink.state c.args.out.now c.args.out.now) c.judged_refusal.result
+    (c.judged_refusal.ensures.pair c.args.bytes.now c.in-Err.ensures.refused) refl

@@ -1,0 +1,34 @@
+use Rattle.std.proofs.Common.{◌≡◌, rules}
+use Rattle.std.proofs.lemmas.Result.{on_err_weaker, on_ok_weaker}
+use Rattle.def_io.specs.Moves.{took, TookPrefix}
+use Rattle.qm_output.proofs.Prefixes.{of_error, rest_prefix, text_prefix, text_whole}
+use Rattle.qm_top.specs.Mapping.{mapped_text}
+use Rattle.qm_top.proofs.Writers.{on_ok_both}
+use Rattle.qm_top.proofs.map.write_map.Goals as goal
+
+pub returns-in_err-put_map-clause-prefix : goal.returns-in_err-put_map-clause-prefix
+returns-in_err-put_map-clause-prefix g c =
+    let prefix : TookPrefix (g.O.Sink.state c.new-text.result.sink.now).told (g.O.Sink.state c.put_map.new.out.sink.now).told
+    (mapped_text c.args.mapped.now)
+    = text_prefix _ _ _ c.new-text.ensures.empty c.in_err-put_map.ensures.part.1 in
+    of_error c.from_residual.result (search rules)
+
+pub returns-clause-prefix : goal.returns-clause-prefix
+returns-clause-prefix g c =
+    on_err_weaker c.flush.result
+    (λ broke.
+    let prefix : TookPrefix (g.O.Sink.state c.new-text.result.sink.now).told (g.O.Sink.state c.flush.new.self.sink.now).told
+    (mapped_text c.args.mapped.now)
+    = rest_prefix _ _ _ _ c.new-text.ensures.empty c.in_ok-put_map.ensures.whole.1 broke in
+    search rules)
+    c.flush.ensures.part
+
+pub returns-clause-whole : goal.returns-clause-whole
+returns-clause-whole g c =
+    on_ok_weaker c.flush.result
+    (λ both.
+    let whole : (g.O.Sink.state c.flush.new.self.sink.now).told
+    ≡ took (g.O.Sink.state c.new-text.result.sink.now).told (mapped_text c.args.mapped.now)
+    = text_whole _ _ _ _ c.new-text.ensures.empty c.in_ok-put_map.ensures.whole.1 both.0 both.1 in
+    search rules)
+    (on_ok_both _ _ c.flush.result c.flush.ensures.whole c.flush.ensures.empty)
