@@ -1,6 +1,7 @@
 """The maps of small meshes, worked by hand, and what is no pair of meshes."""
 
 import pathlib
+import re
 import subprocess
 import sys
 import tempfile
@@ -8,7 +9,8 @@ import unittest
 
 from test_carry import GRID_MAP, GRID_NEW, STRIP, STRIP_MAP, STRIP_NEW, grid
 
-SCRIPT = pathlib.Path(__file__).resolve().parents[1] / "make_map.py"
+ROOT = pathlib.Path(__file__).resolve().parents[2]
+SCRIPT = ROOT / "tools/make_map.py"
 HEAD = "#quadq 1 remesh scale 2/3 floor 1 weight plain\n"
 ONE = 1 << 32
 
@@ -82,6 +84,10 @@ def mapped(old, new, status=0):
     return ran.stderr if status else ran.stdout
 
 
+def places_in(text):
+    return [tuple(map(float, line.split()[1:])) for line in text.splitlines() if line.startswith("v ")]
+
+
 class MakeMap(unittest.TestCase):
     def test_a_strip_and_a_grid(self):
         self.assertEqual(mapped(STRIP, STRIP_NEW), STRIP_MAP)
@@ -100,6 +106,17 @@ class MakeMap(unittest.TestCase):
         self.assertIn("vertices 6 faces 2\nvertex 1\nvertex 3\nvertex 4\nvertex 6\n", told)
         self.assertIn(f"cell 2 1 -{ONE} 0 {ONE} 0 {ONE} {ONE} -{ONE} {ONE}\n", told)
         self.assertIn("has 4 arcs, and the new one lengths for 7", mapped(old, HEAD + new + "#x 1\n" * 7, 1))
+
+    def test_the_weights_of_the_page(self):
+        code = re.search(r"^```\n(def weights.*?)^```$", (ROOT / "docs/MAP.md").read_text(), re.M | re.S)
+        page = {}
+        exec(code[1], page)
+        faces = [tuple(map(int, line.split()[1:])) for line in TURNED.splitlines() if line.startswith("f ")]
+        old, new = (places_in(it) for it in (TURNED, TURNED_NEW))
+        for line, place in zip(TURNED_MAP.splitlines()[2:], new):
+            parts = page["weights"](line, faces)
+            for axis, wanted in enumerate(place):
+                self.assertAlmostEqual(sum(part * old[vertex - 1][axis] for vertex, part in parts), wanted, 6, line)
 
     def test_what_is_no_pair(self):
         for new, told in (
