@@ -112,8 +112,10 @@ def row(mesh, words, room):
     if written is None:
         return ["refused", *[""] * 7], []
     out.write_bytes(written)
-    made = subprocess.run([f"{ROOT}/tools/make_map.py", marked, out], capture_output=True, check=True)
-    given.write_bytes(made.stdout)
+    text_of_map = output_of(["map"], text + b"\n" + written)
+    if text_of_map is None:
+        return ["no map", *[""] * 7], ["the program gives no map"]
+    given.write_bytes(text_of_map)
     start = time.perf_counter()
     ran = subprocess.run([f"{ROOT}/tools/carry.py", marked, out, given], capture_output=True, check=True)
     seconds = time.perf_counter() - start

@@ -2,7 +2,7 @@
 # Refuses each allocation of a run in turn: each such run has to end for want of memory, with nothing written, or as the
 # run without refusals, byte for byte: std's sort goes on without a buffer where it gets none. How many allocations there
 # are is counted in a first run.
-# usage: tools/allocations.sh PROGRAM [FILE WORD..]     (an OBJ file and the program's words; else four runs of examples)
+# usage: tools/allocations.sh PROGRAM [FILE WORD..]     (an OBJ file and the program's words; else five runs of examples)
 set -eu
 root=$(dirname "$(dirname "$(readlink -f "$0")")")
 program=$(readlink -f "${1:-$root/build/quadq}")
@@ -67,4 +67,10 @@ else
     refuse_each "$root/examples/notched_square.obj" graph
     refuse_each "$root/examples/cube.obj" remesh --scale 2/1 --floor auto --weight plain
     refuse_each "$root/examples/corner.obj" blocks --by 2
+    marked=$root/examples/marked_grid.obj
+    {
+        cat "$marked"
+        "$program" crease --scale 1/2 --floor 1 --weight plain <"$marked"
+    } >"$room/pair.obj"
+    refuse_each "$room/pair.obj" map
 fi

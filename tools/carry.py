@@ -1,7 +1,7 @@
 #!/usr/bin/env python3
 """Carries over what a remesh loses: texture coordinates, normals, materials, groups and colours.
 
-usage: tools/make_map.py IN.obj OUT.obj >MAP
+usage: { cat IN.obj; echo; cat OUT.obj; } | quadq map >MAP
        tools/carry.py IN.obj OUT.obj MAP >NEW.obj
 
 OUT.obj is what `remesh`, `crease`, `coarse`, `size` or `refine` wrote for IN.obj, and MAP says where its vertices and

@@ -1,11 +1,11 @@
 #!/usr/bin/env python3
-"""Says where the vertices and faces of a new mesh came from, in the text that docs/MAP.md explains.
+"""Says where the vertices and faces of a new mesh came from, as `quadq map` does, and by itself: tests compare the two.
 
 usage: tools/make_map.py IN.obj OUT.obj >MAP
 
 OUT.obj is what `remesh`, `crease`, `coarse`, `size` or `refine` wrote for IN.obj. The cut is traced anew in Python, and
-the lengths are those of OUT.obj. Nothing of this is proved; but the place that is computed for each new vertex has to
-be the one in OUT.obj, digit by digit.
+the lengths are those of OUT.obj, whose certificate is not judged. Nothing of this is proved; but the place that is
+computed for each new vertex has to be the one in OUT.obj, digit by digit.
 """
 
 from __future__ import annotations

@@ -83,8 +83,9 @@ def settings_of(asked: argparse.Namespace) -> Settings:
 
 def refuse_missing(settings: Settings, program: Program) -> None:
     """Raises a `ValueError` for a command that the program does not have."""
-    if settings.command not in program.commands():
-        raise ValueError(f"this needs the command `{settings.command}`, which this program does not have")
+    needed = {settings.command} if settings.command == "remesh" and not settings.carry else {settings.command, "map"}
+    for command in sorted(needed.difference(program.commands())):
+        raise ValueError(f"this needs the command `{command}`, which this program does not have")
 
 
 def _single(asked: argparse.Namespace, settings: Settings, program: Program) -> int:

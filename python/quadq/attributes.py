@@ -1,5 +1,5 @@
-"""What points, corners and faces of parts carry, brought over to their remeshes by a map. The code that does so for
-corners is that of the script `carrying.py`."""
+"""What points, corners and faces of parts carry, brought over to their remeshes by the maps that the program writes.
+The code that does so for corners is that of the script `carrying.py`."""
 
 from __future__ import annotations
 
@@ -11,7 +11,6 @@ import numpy as np
 from .carried import carried
 from .mesh import NONE, Layer, Mesh, join
 from .parts import Part, Workshop, Written
-from .program import Program
 
 BORDERS = ("usemtl", "g", "o")
 """The words at whose borders a face may lie on both sides of one."""
@@ -21,22 +20,13 @@ def carry_over(parts: list[Part], written: list[Written], meshes: list[Mesh], sh
     """The new meshes of parts side by side, with the layers, names and further numbers of points of the old ones; and
     how many faces lie over a seam of the texture or a border of names."""
     text_of = {id(part): it.text for part, it in zip(parts, written)}
-    maps = shop.each(parts, lambda part: map_between(part.text, text_of[id(part)], shop.program))
+    maps = shop.each(parts, lambda part: shop.program.map(part.text, text_of[id(part)]))
     dressed, over = [], 0
     for part, mesh, text in zip(parts, meshes, maps):
         one, seams = dressed_as(part.mesh, mesh, text)
         dressed.append(one)
         over += seams
     return _joined(dressed), over
-
-
-def map_between(old: bytes, new: bytes, program: Program) -> str:
-    """The map of a mesh and of what the program wrote for it, as `docs/MAP.md` has it: told by the program where it has
-    a command for that, else by the script `make_map.py`."""
-    if "map" in program.commands():
-        return program.map(old, new)
-    told: str = carried("make_map").map_of(old.decode("utf-8", "surrogateescape"), new.decode())
-    return told
 
 
 def dressed_as(old: Mesh, new: Mesh, text: str) -> tuple[Mesh, int]:

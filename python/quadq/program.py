@@ -21,8 +21,6 @@ LARGEST = 1000
 AUTO = "auto"
 DOUBLED = 11
 """The program's status where the new mesh would have an edge twice."""
-MOST_FACES = 1 << 20
-"""How many faces the program reads."""
 
 
 @dataclass(frozen=True)
@@ -51,7 +49,7 @@ class Verdict:
     arcs: int
     faces: int
     deviation: Optional[int]
-    """As `check` tells it; None where `check` does not judge the command."""
+    """As `check` tells it; None where `map` judged the text."""
 
 
 @dataclass(frozen=True)
@@ -72,14 +70,11 @@ class Program:
         return self._run(wish.words(wish.floor), text)
 
     def judge(self, old: bytes, new: bytes, wish: Wish) -> Verdict:
-        """Judges what a command wrote for a text: with `check` where that knows the command, else by reading it again
-        as a mesh, where it is not larger than what is read."""
+        """Judges what a command wrote for a text: with `check` where that knows the command, else with `map`."""
         if wish.command == "remesh":
             return self.check(old, new)
-        faces = len(re.findall(rb"^f ", new, re.M))
-        if faces <= MOST_FACES:
-            self.tidy(new)
-        return Verdict(len(re.findall(rb"^#x ", new, re.M)), faces, None)
+        self.map(old, new)
+        return Verdict(len(re.findall(rb"^#x ", new, re.M)), len(re.findall(rb"^f ", new, re.M)), None)
 
     def check(self, old: bytes, new: bytes) -> Verdict:
         """Judges what `remesh` wrote for a text, anew."""
@@ -90,7 +85,7 @@ class Program:
         return Verdict(*map(int, found.groups()))
 
     def map(self, old: bytes, new: bytes) -> str:
-        """Where the points and faces of what a command wrote for a text came from."""
+        """Where the vertices and faces lie of what a command wrote for a text. It is judged anew."""
         return self._run(["map"], b"\n".join([old, new])).decode()
 
     def graph(self, text: bytes) -> str:

@@ -128,7 +128,7 @@ def remesh(
     tell: Tell = lambda step, done, total: None,
     **wishes: Any,
 ) -> Result:
-    """The mesh remeshed part by part. Each part was accepted by `check`, where that judges what was asked for.
+    """The mesh remeshed part by part. Each part was accepted by `check`, or by `map` where another command wrote it.
 
     `scale` is how long each edge of the patches is to be, as a part of its old length; or `faces` is how many faces the
     mesh is to have, or `edge` how long edges are to be, in the unit of the mesh. `sharp` and `keep` tell which edges

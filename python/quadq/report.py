@@ -112,7 +112,7 @@ def _parts_in_words(report: Report) -> str:
     subject = "The new mesh was" if report.parts == 1 else f"Each of {report.parts} parts was"
     if report.is_checked:
         return f"{subject} accepted by <code>quadq check</code>"
-    return f"{subject} written by <code>quadq {report.command}</code>, which is proved, and read again as a mesh"
+    return f"{subject} written by <code>quadq {report.command}</code>, and accepted by <code>quadq map</code>"
 
 
 def _part_table(result: Result) -> list[str]:

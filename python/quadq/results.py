@@ -58,8 +58,8 @@ class Report:
     arcs: int
     arcs_at_floor: int
     deviation: Optional[int]
-    """The sum over all parts: in each it is the least that there is, as `check` has found. None where `check` does not
-    judge the command."""
+    """The sum over all parts: in each it is the least that there is, as `check` has found. None where `map` has judged
+    them."""
     to_old: Distance
     """From the new mesh to the old surface."""
     to_new: Distance
@@ -71,7 +71,7 @@ class Report:
 
     @property
     def is_checked(self) -> bool:
-        """Whether `check` judges what was asked for. If not, each part was read again as a mesh."""
+        """Whether `check` judges what was asked for, and tells its deviation. If not, `map` has judged each part."""
         return self.command == "remesh"
 
     @property
@@ -169,4 +169,4 @@ class Result:
     """What the program wrote, with its certificate, where the mesh is that and nothing else: one part, as it came."""
     parts: tuple[Part, ...]
     written: tuple[Written, ...]
-    """What the program wrote for each part, accepted by `check`."""
+    """What the program wrote for each part, accepted by `check`, or by `map` where another command wrote it."""

@@ -6,8 +6,8 @@ from dataclasses import replace
 
 import numpy as np
 
-from quadq import Layer, Mesh, Names, Program, read_obj, remesh
-from quadq.attributes import dressed_as, map_between
+from quadq import Layer, Mesh, Names, read_obj, remesh
+from quadq.attributes import dressed_as
 from quadq.carried import carried
 from quadq.mesh import join
 
@@ -74,21 +74,10 @@ class Attributes(unittest.TestCase):
 
     def test_scripts_leave_no_traces(self):
         path = sys.path[:]
-        for name in ("make_map", "carrying", "mark_features"):
+        for name in ("cuts", "carrying", "mark_features"):
             self.assertIs(carried(name), sys.modules[f"quadq.carried.{name}"])
             self.assertNotIn(name, sys.modules)
-        self.assertIs(carried("carrying").Map, carried("carry").Map)
         self.assertEqual(sys.path, path)
-
-    def test_a_program_that_writes_maps_is_asked(self):
-        class WithMap(Program):
-            def commands(self):
-                return ("map",)
-
-            def map(self, old, new):
-                return f"{old.decode()} to {new.decode()}"
-
-        self.assertEqual(map_between(b"one", b"other", WithMap()), "one to other")
 
     def test_a_map_of_another_mesh(self):
         with self.assertRaisesRegex(ValueError, "boundary of the old mesh|old mesh does not have"):

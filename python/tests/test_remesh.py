@@ -201,7 +201,7 @@ class CommandLine(unittest.TestCase):
             status, said, errors = self.run_words(marked, out, *words, "--report", page)
             self.assertEqual((status, errors), (0, ""), words)
             self.assertTrue(out.read_text().startswith(head), words)
-            self.assertIn("which is proved, and read again", page.read_text())
+            self.assertIn("accepted by <code>quadq map</code>", page.read_text())
         self.assertIn("wished length of edges", said)
 
     def test_a_refused_file_leaves_nothing(self):

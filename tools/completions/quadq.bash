@@ -2,7 +2,7 @@
 _quadq() {
     local word=${COMP_WORDS[COMP_CWORD]} words=
     if [ "$COMP_CWORD" -eq 1 ]; then
-        words="tidy graph refine remesh check bench crease size coarse blocks"
+        words="tidy graph refine remesh check bench crease size coarse blocks map"
     else
         case ${COMP_WORDS[1]} in
             refine) words="--by" ;;

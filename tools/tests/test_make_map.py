@@ -10,6 +10,9 @@ import unittest
 from test_carry import GRID_MAP, GRID_NEW, STRIP, STRIP_MAP, STRIP_NEW, grid
 
 ROOT = pathlib.Path(__file__).resolve().parents[2]
+sys.path.insert(0, str(ROOT / "tools"))
+from make_map import map_of  # noqa: E402
+
 SCRIPT = ROOT / "tools/make_map.py"
 HEAD = "#quadq 1 remesh scale 2/3 floor 1 weight plain\n"
 ONE = 1 << 32
@@ -84,6 +87,15 @@ def mapped(old, new, status=0):
     return ran.stderr if status else ran.stdout
 
 
+def rows():
+    """The worked rows of `quadq map` that end well: the name of each, the old text, the new one and the map."""
+    for path in sorted((ROOT / "crates/qm_rows/data").glob("map_*.case")):
+        parts = dict(re.findall(r"^== (\w+)\n((?:(?!== ).*\n)*)", path.read_text(), re.M))
+        if parts["status"] == "0\n":
+            divided = parts["in"].rindex("#quadq 1 ")
+            yield path.stem, parts["in"][:divided], parts["in"][divided:], parts["out"]
+
+
 def places_in(text):
     return [tuple(map(float, line.split()[1:])) for line in text.splitlines() if line.startswith("v ")]
 
@@ -96,6 +108,12 @@ class MakeMap(unittest.TestCase):
 
     def test_faces_that_are_turned(self):
         self.assertEqual(mapped(TURNED, TURNED_NEW), TURNED_MAP)
+
+    def test_the_worked_rows(self):
+        worked = list(rows())
+        self.assertEqual(len(worked), 10)
+        for name, old, new, wanted in worked:
+            self.assertEqual(map_of(old, new), wanted, name)
 
     def test_marked_edges_are_arcs_of_crease_alone(self):
         old = "".join(f"v {x} {y} 0\n" for y in (0, 1, 2) for x in (0, 1, 2)) + (

@@ -1,4 +1,5 @@
-"""What stays of seams and names from a mesh to its new one, by the program, a map and tools/carry.py.
+"""What stays of seams and names from a mesh to its new one, by the program, its map and tools/carry.py; and that the map
+is that of tools/make_map.py.
 
 The program is that of the variable QUADQ, or dist/quadq.
 """
@@ -10,6 +11,7 @@ import subprocess
 import sys
 import tempfile
 import unittest
+from typing import Sequence
 
 ROOT = pathlib.Path(__file__).resolve().parents[2]
 sys.path.insert(0, str(ROOT / "tools"))
@@ -18,6 +20,12 @@ from carrying import Surface, side  # noqa: E402
 from make_map import map_of, read_places  # noqa: E402
 
 PROGRAM = os.environ.get("QUADQ", str(ROOT / "dist/quadq"))
+EXAMPLES = sorted((ROOT / "examples").glob("*.obj"))
+TEXTS = [
+    "remesh --scale 1/2 --floor auto --weight plain", "remesh --scale 3/2 --floor 2 --weight length", "refine --by 3",
+    "crease --scale 2/3 --floor 3 --weight plain", "coarse --scale 1/2 --floor 3 --weight plain",
+    "size --edge 0.3 --floor 3",
+]
 CREASE = "crease --scale 1/2 --floor 1 --weight plain"
 REMESH = "remesh --scale 1/2 --floor 1 --weight plain"
 NONE_LIES_OVER = "carry: none of {} faces lies over a seam\n"
@@ -39,13 +47,18 @@ def two_charts() -> str:
     return "\n".join(lines) + "\n"
 
 
+def ran(words: Sequence[str], text: str, check: bool = True) -> subprocess.CompletedProcess[str]:
+    """A run of the program."""
+    return subprocess.run([PROGRAM, *words], input=text, capture_output=True, text=True, check=check)
+
+
 def whole_way(old: str, words: str) -> tuple[str, str]:
     """The new mesh with what was carried over, and what carry.py says."""
     with tempfile.TemporaryDirectory() as folder:
         paths = [pathlib.Path(folder) / name for name in ("in.obj", "out.obj", "map.txt")]
         paths[0].write_text(old)
-        out = subprocess.run([PROGRAM, *words.split()], input=old, capture_output=True, text=True, check=True).stdout
-        for path, text in zip(paths, (old, out, map_of(old, out))):
+        out = ran(words.split(), old).stdout
+        for path, text in zip(paths, (old, out, ran(["map"], f"{old}\n{out}").stdout)):
             path.write_text(text)
         carried = subprocess.run([ROOT / "tools/carry.py", *paths], capture_output=True, text=True, check=True)
     return carried.stdout, carried.stderr
@@ -95,6 +108,24 @@ class WholeWay(unittest.TestCase):
         self.assertEqual(seams_of(new)[1], HIGH)
         self.assertEqual(names_of(new), names_of(old))
         self.assertLess(new.count("\nf "), WIDE * HIGH)
+
+    def test_maps_are_those_of_the_script(self):
+        count = 0
+        for path in EXAMPLES:
+            old = path.read_text()
+            for words in TEXTS:
+                new = ran(words.split(), old, check=False)
+                if new.returncode == 0:
+                    told = ran(["map"], f"{old}\n{new.stdout}")
+                    self.assertEqual(told.stdout, map_of(old, new.stdout), f"{path.name}, {words}")
+                    count += 1
+        self.assertGreater(count, 40)
+
+    def test_a_text_of_another_mesh_has_no_map(self):
+        new = ran(CREASE.split(), two_charts()).stdout
+        other = ran(["map"], two_charts().replace("v 0 0 0", "v 0 0 1") + new, check=False)
+        self.assertEqual((other.returncode, other.stdout), (1, ""))
+        self.assertIn("not accepted: byte ", other.stderr)
 
     def test_seams_that_are_not_marked(self):
         self.assertIn("over a seam of vt and ", whole_way(two_charts(), REMESH)[1])
