@@ -1,6 +1,6 @@
 """Shows the add-on at work in a window of Blender, for docs/pictures/addon.png.
 
-usage: blender --factory-startup --window-geometry 0 0 1280 720 -P docs/pictures/photograph_addon.py -- ADDON.zip OUT.png
+usage: blender --factory-startup --window-geometry 0 0 1280 720 -P docs/pictures/photograph_addon.py -- ADDON.zip PNG
 
 Suzanne, subdivided twice, stands on the left, her remesh on the right, both with their texture, and beside them the
 panel with what can be wished. Without a screen it runs under `xvfb-run -s "-screen 0 1280x720x24"`.
