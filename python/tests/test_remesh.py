@@ -4,6 +4,7 @@ import contextlib
 import csv
 import io
 import pathlib
+import re
 import tempfile
 import unittest
 from fractions import Fraction
@@ -199,7 +200,9 @@ class CommandLine(unittest.TestCase):
         ):
             page = self.room / "page.html"
             status, said, errors = self.run_words(marked, out, *words, "--report", page)
-            self.assertEqual((status, errors), (0, ""), words)
+            # On a slow machine the progress is told.
+            told = [it for it in errors.splitlines() if not re.fullmatch(r"quadq: \w+ \d+ of \d+", it)]
+            self.assertEqual((status, told), (0, []), words)
             self.assertTrue(out.read_text().startswith(head), words)
             self.assertIn("accepted by <code>quadq map</code>", page.read_text())
         self.assertIn("wished length of edges", said)
