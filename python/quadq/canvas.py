@@ -25,7 +25,7 @@ class Canvas:
     def triangles(self, places: np.ndarray, colours: np.ndarray) -> None:
         """Fills triangles (n, 3, 3) with colours (n, 3) from 0 to 255."""
         places = places * [FINE, FINE, 1]
-        size = np.ptp(places[:, :, :2], axis=1)
+        size = _over_corners(np.maximum, places)[:, :2] - _over_corners(np.minimum, places)[:, :2]
         batch = (np.cumsum((size[:, 0] + 2) * (size[:, 1] + 2)) / AT_A_TIME).astype(np.int64)
         for now in np.unique(batch):
             some = batch == now
@@ -35,8 +35,8 @@ class Canvas:
         """Fills triangles, whose first two numbers are in fine pixels, row by row."""
         (ax, ay, az), (bx, by, bz), (cx, cy, cz) = places.transpose(1, 2, 0)
         area = (bx - ax) * (cy - ay) - (by - ay) * (cx - ax)
-        first = np.ceil(np.clip(places[:, :, 1].min(axis=1), 0, self.high) - 0.5).astype(np.int64)
-        last = np.floor(np.clip(places[:, :, 1].max(axis=1), 0, self.high) - 0.5).astype(np.int64)
+        first = np.ceil(np.clip(_over_corners(np.minimum, places[:, :, 1]), 0, self.high) - 0.5).astype(np.int64)
+        last = np.floor(np.clip(_over_corners(np.maximum, places[:, :, 1]), 0, self.high) - 0.5).astype(np.int64)
         who, row = _ranges(first, np.where(area == 0, first - 1, last))
         start, end = self._spans(places[who], np.sign(area)[who], row + 0.5)
         at, x = _ranges(start, end)
@@ -99,6 +99,11 @@ class Canvas:
         head = struct.pack(">IIBBBBB", wide, high, 8, 2, 0, 0, 0)
         return b"\x89PNG\r\n\x1a\n" + b"".join(
             _chunk(*it) for it in ((b"IHDR", head), (b"IDAT", zlib.compress(rows.tobytes(), 9)), (b"IEND", b"")))
+
+
+def _over_corners(function: np.ufunc, places: np.ndarray) -> np.ndarray:
+    """A function of two values over the three corners of triangles (n, 3, ..)."""
+    return np.asarray(function(function(places[:, 0], places[:, 1]), places[:, 2]))
 
 
 def _ranges(first: np.ndarray, last: np.ndarray) -> tuple[np.ndarray, np.ndarray]:
