@@ -84,7 +84,7 @@ abbrev pub usage_text : Bytes
 usage_text =
     codes "usage: quadq tidy | graph | refine --by K | remesh --scale P/Q --floor F --weight plain|length"
     ++ codes " | check | bench --size N | crease --scale P/Q --floor F --weight plain|length | size --edge D --floor F"
-    ++ codes " | coarse --scale P/Q --floor F --weight plain|length | blocks --by K | map"
+    ++ codes " | coarse --scale P/Q --floor F --weight plain|length | blocks --by K"
 
 -- Why the run ended so, where `names` has the vertices' numbers in the file.
 abbrev pub reason_text : (names : List ℕ) (answer : Answer) → Bytes

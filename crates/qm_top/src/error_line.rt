@@ -27,7 +27,7 @@ pub(crate) fn error_line_of(answer: &Answer, names: &[u32]) -> Line
 const USAGE: &str =
     "usage: quadq tidy | graph | refine --by K | remesh --scale P/Q --floor F --weight plain|length \
     | check | bench --size N | crease --scale P/Q --floor F --weight plain|length | size --edge D --floor F \
-    | coarse --scale P/Q --floor F --weight plain|length | blocks --by K | map";
+    | coarse --scale P/Q --floor F --weight plain|length | blocks --by K";
 
 fn reason_of(answer: &Answer, names: &[u32]) -> Line
     requires { HasNames names.now answer.now }
