@@ -19,6 +19,8 @@ LARGEST = 1000
 
 
 AUTO = "auto"
+USAGE = 2
+"""The program's status for words that it does not know."""
 DOUBLED = 11
 """The program's status where the new mesh would have an edge twice."""
 
@@ -97,10 +99,13 @@ class Program:
         return self._run(["tidy"], text)
 
     def commands(self) -> tuple[str, ...]:
-        """The first words that the program knows, as its usage line has them."""
-        ran = subprocess.run([str(self.path)], capture_output=True, check=False)
+        """The first words that the program knows: those that its usage line has, and `map`, which that leaves out,
+        where it is not taken for a wrong word."""
+        ran, asked = (subprocess.run([str(self.path), *words], input=b"", capture_output=True, check=False)
+                      for words in ([], ["map"]))
         usage = ran.stderr.decode(errors="replace").partition("usage: quadq ")[2]
-        return tuple(it.split()[0] for it in re.split(r" \| ", usage) if it.split())
+        known = [it.split()[0] for it in re.split(r" \| ", usage) if it.split()]
+        return tuple(dict.fromkeys(known if asked.returncode == USAGE else [*known, "map"]))
 
     def _run(self, words: list[str], text: bytes) -> bytes:
         ran = subprocess.run([str(self.path), *words], input=text, capture_output=True, check=False)

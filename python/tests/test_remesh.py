@@ -165,6 +165,9 @@ class Remesh(unittest.TestCase):
 
 
 class CommandLine(unittest.TestCase):
+    def test_commands(self):
+        self.assertLessEqual({"tidy", "remesh", "crease", "coarse", "size", "map"}, set(Program().commands()))
+
     def setUp(self):
         room = tempfile.TemporaryDirectory()
         self.addCleanup(room.cleanup)
