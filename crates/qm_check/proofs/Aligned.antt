@@ -1,5 +1,5 @@
 -- A text that is shown to finish a task does so over the layout by which it is judged, and tells its certificates alone.
-use Rattle.std.proofs.Common.{◌≡◌, ◌↔◌, true, Option, [], drop, refl, ap, sym, ◌∙◌, subst}
+use Rattle.std.proofs.Common.{◌≡◌, ◌↔◌, true, Option, drop, ap, sym, ◌∙◌, subst}
 use Rattle.std.specs.List.{list_all}
 use Rattle.def_certtext.specs.CertLines.{Lists}
 use Rattle.def_certtext.specs.HeadLine.{head_line}

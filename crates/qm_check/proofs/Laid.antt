@@ -1,5 +1,5 @@
 -- A mesh that is laid out for each command.
-use Rattle.std.proofs.Common.{◌≡◌, ◌≤◌, ◌^◌, ◌<◌, ℕ, zero, suc, ℤ, false, true, List, Bool, Option, Some, None, [], ◌∷◌, ◌++◌, codes, length, get_or, refl, sym, ◌∙◌, ap, subst, arith}
+use Rattle.std.proofs.Common.{◌≡◌, ◌≤◌, ◌^◌, ◌<◌, ℕ, zero, suc, ℤ, false, true, List, Bool, Option, Some, None, [], ◌∷◌, ◌++◌, codes, get_or, refl, sym, ◌∙◌, ap, subst, arith}
 use Rattle.std.specs.List.{list_all}
 use Rattle.std.specs.Prelude.{decimal, unsigned_abs}
 use Rattle.std.proofs.lemmas.List.{append-nil}

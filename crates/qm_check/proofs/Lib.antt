@@ -1,14 +1,15 @@
 mod Aligned
 mod Differences
+pub mod Fits
 mod Frames
 mod Fronts
 mod Kept
-mod Laid
+pub mod Laid
 mod Maps
-mod MarkLines
+pub mod MarkLines
 mod OldTexts
 pub mod Pairs
 mod Reach
 mod Refuted
-mod Tasks
+pub mod Tasks
 mod Verdicts

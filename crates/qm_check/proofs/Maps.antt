@@ -1,5 +1,5 @@
 -- The map of bytes that have one, and what is said of those that have none.
-use Rattle.std.proofs.Common.{◌≡◌, ◌≢◌, ◌<◌, ◌≤◌, ℕ, Bool, true, false, Result, Ok, Err, [], take, length, inr, refl, sym, ◌∙◌, ap, subst, arith}
+use Rattle.std.proofs.Common.{◌≡◌, ◌≤◌, ℕ, Result, Ok, Err, take, inr, refl, sym, ◌∙◌, ap, subst, arith}
 use Rattle.std.proofs.lemmas.Bool.{false≢true}
 use Rattle.def_cut.specs.Traced.{traced_marks}
 use Rattle.def_flow.specs.Network.{network}
@@ -20,8 +20,8 @@ use Rattle.def_remesh.specs.Remeshed.{used}
 use Rattle.def_remesh.specs.Tasks.{Task}
 use Rattle.def_remesh.specs.declared.limits.TheConstants.{MAX_NEW_FACES}
 use Rattle.def_run.specs.Check.{head_of}
-use Rattle.def_run.specs.Judging.{DifferFrom, IsReason}
-use Rattle.def_run.specs.Map.{asks_of, HasFront, HasMap, HasOtherText, IsHeadedBy, IsNotRefined, IsUnfinished, IsUnlike, WritesMap, WritesNew}
+use Rattle.def_run.specs.Judging.{IsReason}
+use Rattle.def_run.specs.Map.{asks_of, HasMap, HasOtherText, IsHeadedBy, IsNotRefined, IsUnfinished, IsUnlike, WritesMap, WritesNew}
 use Rattle.def_run.specs.MapFails.{IsMapFail}
 use Rattle.def_run.specs.MarkLines.{begins_mark, front_of, HasNoMark, IsLastMark, IsMarkLine}
 use Rattle.def_run.specs.Mesh.{IsMeshText}
@@ -34,9 +34,8 @@ use Rattle.def_run.specs.declared.check_fail.CheckFail.TheVariants.{NotAccepted,
 use Rattle.def_run.specs.declared.command.Command.{Command}
 use Rattle.def_run.specs.declared.command.Command.TheVariants.{Refine, Remesh, Crease, Size, Coarse}
 use Rattle.def_text.specs.FaceSet.{FaceSet}
-use Rattle.def_text.specs.Text.{soup_in}
 use Rattle.def_text.specs.declared.refusal.ObjFail.{ObjFail}
-use Rattle.def_written.specs.NewFaces.{face_count, new_faces}
+use Rattle.def_written.specs.NewFaces.{new_faces}
 use Rattle.def_written.specs.Shape.{KeepsShape}
 use Rattle.plan_laws.proofs.OnePlan.{one_layout_law}
 use Rattle.site_laws.proofs.Laws.{graph_law}
@@ -46,7 +45,8 @@ use Rattle.qm_check.proofs.Tasks.{one_soup, shown_only}
 use Rattle.qm_check.proofs.Verdicts.{untangled}
 use Rattle.qm_check.specs.Checked.{IsDifference}
 use Rattle.qm_check.specs.Judged.{judged_by, Finishes, IsTextFail}
-use Rattle.qm_check.specs.Making.{IsGivenTo, IsMappedOf, IsMarkedAt, IsReadyFor, IsUnmade, NeverWrites}
+use Rattle.qm_check.specs.Making.{IsGivenTo, IsMappedOf, IsMarkedAt, IsReadyFor, IsUnmade}
+use Rattle.qm_check.proofs.Fits.{fits_of}
 use Rattle.qm_check.specs.Multiples.{ArePointsBy, HasNoPoints}
 use Rattle.qm_check.specs.Ready.{IsNoOld, IsOld}
 use Rattle.qm_check.specs.declared.judging.Finished.{Finished}
@@ -294,7 +294,7 @@ module _ (bytes : Bytes) (mark : HeadAt) (old : Old) (by : ℕ) (given : IsGiven
 
   module _ (points : NewPoints) (are : ArePointsBy by cut.mesh (plan cut.layout) points) where
     fits : refined_faces by (plan cut.layout) ≤ MAX_NEW_FACES
-    fits = subst (λ (l : Lengths). face_count (layout_of (plan cut.layout)) l ≤ MAX_NEW_FACES) are.lengths are.numbering.few
+    fits = fits_of by cut.mesh (plan cut.layout) points are
 
     -- The text is another one.
     pub other_refined : (fail : CheckFail) → IsDifference (tail_of mark.line bytes) (refined_text by old.soup (plan cut.layout)) fail → IsMapFail bytes fail

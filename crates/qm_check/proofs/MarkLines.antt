@@ -13,7 +13,7 @@ use Rattle.qm_check.specs.Ready.{IsLineFail}
 use Rattle.qm_check.specs.Refused.{of_marks}
 
 -- All lines of a text.
-whole_range : (xs : Lines) (n : ℕ) → n ≡ length xs → slice_range xs 0 n ≡ xs
+pub whole_range : (xs : Lines) (n : ℕ) → n ≡ length xs → slice_range xs 0 n ≡ xs
 whole_range xs n is = let e : n - 0 ≡ n = omega arith in rw e (take_all n xs (omega (arith, is)))
 
 pub marks_said : (text lines : Bytes) (soup : FaceSet) (after : ℕ) (said : Result (List Bool) MarkFail) → lines ≡ text → after ≡ length (lines_of lines)

@@ -13,12 +13,11 @@ use Rattle.def_mesh.specs.Meshes.{IsMesh}
 use Rattle.def_mesh.specs.Vertices.{names_below}
 use Rattle.def_text.specs.declared.limits.TheConstants.{MAX_V_LINES}
 use Rattle.def_text.specs.Laws.{is_position, is_quad}
-use Rattle.def_certtext.specs.declared.Asked.{Asked}
 use Rattle.def_flow.specs.Network.{network}
 use Rattle.def_flow.specs.declared.net.Net.{Net}
 use Rattle.def_flow.specs.declared.net.Settings.{Settings}
 use Rattle.def_io.specs.Bytes.{Bytes}
-use Rattle.def_layout.specs.Plans.{plan, Plan}
+use Rattle.def_layout.specs.Plans.{plan}
 use Rattle.def_mesh.specs.Faults.{IsFirstFault}
 use Rattle.def_mesh.specs.Manifold.{IsManifold}
 use Rattle.def_remesh.specs.Keeping.{IsNetFor}
@@ -29,7 +28,7 @@ use Rattle.def_text.specs.FaceSet.{FaceSet}
 use Rattle.qm_check.specs.Ready.{HasNoNet, IsLaidOut, IsNoMeshOf, IsNoOld, IsOld, IsUnready}
 use Rattle.qm_check.specs.Refused.{of_obj}
 use Rattle.def_run.specs.declared.check_fail.CheckFail.{CheckFail}
-use Rattle.def_run.specs.declared.check_fail.CheckFail.TheVariants.{Old as OldFail, NotManifold, Tangled, Memory}
+use Rattle.def_run.specs.declared.check_fail.CheckFail.TheVariants.{NotManifold, Tangled, Memory}
 use Rattle.qm_check.specs.declared.old.Old.{Old}
 use Rattle.qm_check.specs.declared.ready.Frame.{Frame}
 use Rattle.qm_write.specs.declared.body.CutMesh.{CutMesh}

@@ -1,14 +1,10 @@
 -- The one task that each command asks of a soup, and what is known where it is laid out.
 use Rattle.std.specs.Prelude.{IfErr, IfOk}
-use Rattle.std.proofs.Common.{◌≡◌, ◌≢◌, ◌<◌, ◌≤◌, ◌^◌, ℕ, ℤ, Bool, true, false, List, [], ◌∷◌, ◌++◌, codes, length, Result, Ok, Err, inr, refl, sym, ◌∙◌, ap, subst, arith}
-use Rattle.def_certtext.specs.Settings.{AreInRange}
+use Rattle.std.proofs.Common.{◌≡◌, ℕ, ℤ, Bool, List, codes, Result, Ok, Err, inr, refl, sym, ◌∙◌, ap, subst, arith}
 use Rattle.def_cut.specs.FullCut.{IsFullCut}
 use Rattle.def_cut.specs.Traced.{traced_marks}
-use Rattle.def_feature.specs.Marked.{marked_cut}
-use Rattle.def_feature.specs.Marks.{AreMarks}
 use Rattle.def_flow.specs.declared.net.Settings.{Settings}
 use Rattle.def_io.specs.Bytes.{Bytes}
-use Rattle.def_layout.specs.FaceLayouts.{IsLayoutOf}
 use Rattle.def_layout.specs.Plans.{Plan}
 use Rattle.def_marks.specs.Lines.{marks_in}
 use Rattle.def_marks.specs.declared.fail.MarkFail.{MarkFail}
@@ -16,18 +12,17 @@ use Rattle.def_merge.specs.Merged.{IsMergedCut}
 use Rattle.def_mesh.specs.Manifold.{IsManifold}
 use Rattle.def_metric.specs.Fails.{AreNear, IsFar}
 use Rattle.def_metric.specs.Targets.{edge_settings}
-use Rattle.def_remesh.specs.Certified.{AreKept, IsShown}
+use Rattle.def_remesh.specs.Certified.{IsShown}
 use Rattle.def_remesh.specs.Refusals.{IsTangledAt}
 use Rattle.def_remesh.specs.Tasks.{remesh_task, Task}
 use Rattle.def_remesh.specs.TextLaws.{IsSolid}
 use Rattle.def_run.specs.Coarse.{AsksToMerge}
-use Rattle.def_run.specs.Crease.{creased_task, AsksToCrease, HasMarkFail}
+use Rattle.def_run.specs.Crease.{creased_task, AsksToCrease}
 use Rattle.def_run.specs.Heads.{named_task}
 use Rattle.def_run.specs.Map.{asks_of, RefusesNew, WritesNew}
 use Rattle.def_run.specs.Mesh.{IsMeshText}
 use Rattle.def_run.specs.Remesh.{Asks, IsCutTo, RefusesTask, WritesFinished}
 use Rattle.def_run.specs.Size.{size_task, soup_targets, AsksForNearSize, HasNearTargets}
-use Rattle.def_run.specs.declared.answer.Answer.{Answer}
 use Rattle.def_run.specs.declared.answer.Answer.TheVariants as answers
 use Rattle.def_run.specs.declared.check_fail.CheckFail.{CheckFail}
 use Rattle.def_run.specs.declared.check_fail.CheckFail.TheVariants.{Far, Marks, Tangled, Memory}

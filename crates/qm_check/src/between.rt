@@ -4,7 +4,6 @@ ghost use Rattle.std.specs.Prelude.{◌≡◌, IfOk};
 ghost use Rattle.std.specs.Option.{option_map};
 ghost use Rattle.def_certtext.specs.CertLines.{lists_of};
 ghost use Rattle.def_layout.specs.Plans.{plan};
-ghost use Rattle.def_marks.specs.MarkedText.{marked_text};
 ghost use Rattle.def_remesh.specs.Keeping.{IsKept};
 ghost use Rattle.def_remesh.specs.NewPoints.{lengths_in};
 ghost use Rattle.def_remesh.specs.Remeshed.{used};
@@ -12,7 +11,7 @@ ghost use Rattle.def_remesh.specs.Tasks.{Wish};
 ghost use Rattle.qm_check.specs.Ready.{between_text};
 
 use def_layout::TMesh;
-use qm_marktext::marked_lines;
+use qm_marktext::kept_lines;
 use qm_write::Remesh;
 use std::alloc::{AllocError, Global};
 
@@ -29,23 +28,7 @@ pub(crate) fn lines_between(
         (lengths_in (used (lists_of remesh.now.first) (option_map lists_of remesh.now.third)).x)) }
 {
     match marks {
-        Some(marks) => lines_of(alloc, &marks, layout, remesh),
+        Some(marks) => kept_lines(alloc, &marks, layout, remesh),
         None => Ok(Vec::new(alloc)),
     }
-}
-
-/// The lines of marked arcs.
-fn lines_of(
-    alloc: Global,
-    marks: &[bool],
-    layout: &TMesh,
-    remesh: &Remesh,
-) -> Result<Vec<u8>, AllocError>
-    requires { (wish : Wish) × IsKept wish (plan layout.now) remesh.now.asked.settings remesh.now.asked.auto
-        (lists_of remesh.now.first) (option_map lists_of remesh.now.third) remesh.now.numbering }
-    ensures { IfOk result (λ text. text.items ≡ marked_text marks.now (plan layout.now)
-        (lengths_in (used (lists_of remesh.now.first) (option_map lists_of remesh.now.third)).x)) }
-{
-    let _count = remesh.numbering.vertices();
-    marked_lines(alloc, marks, layout, &remesh.used_cert().x)
 }

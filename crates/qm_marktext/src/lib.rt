@@ -1,8 +1,10 @@
 //! The `l` lines of a new mesh: one for each marked arc of the layout that it was made from.
 #![tactic(auto)]
 
+mod kept;
 mod lines;
 
+pub use kept::kept_lines;
 pub use lines::marked_lines;
 
 /// Memory was refused.

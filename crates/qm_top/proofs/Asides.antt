@@ -2,7 +2,6 @@
 use Rattle.std.proofs.Common.{◌≡◌, ◌+◌, ◌^◌, ◌<◌, ◌≤◌, not, ℕ, zero, suc, ℤ, Bool, true, false, List, [], ◌∷◌, ◌++◌, codes, length, take, map, get_or, sym, ◌∙◌, ap, subst, refl, arith, length-append}
 use Rattle.std.proofs.Math.Seq.{take-length}
 use Rattle.std.proofs.lemmas.Bool.{and_from, and_parts}
-use Rattle.std.proofs.lemmas.List.{append-nil}
 use Rattle.std.specs.List.{before_first, list_all}
 use Rattle.std.specs.Prelude.{◌==◌, ◌&&◌, decimal, if◌then◌else◌, unsigned_abs}
 use Rattle.def_certtext.specs.Settings.{AreInRange}
@@ -18,9 +17,9 @@ use Rattle.def_text.specs.Canonical.{micro_text}
 use Rattle.def_text.specs.Logical.{is_hash, part_of, with_space}
 use Rattle.def_text.specs.Reading.{begins_with}
 use Rattle.def_text.specs.Words.{words}
-use Rattle.qm_certtext.proofs.Texts.{both_inside, number_inside}
 use Rattle.qm_dec.proofs.Texts.{none_first}
-use Rattle.qm_obj.proofs.LawText.{is_inside, is_tame, line_tame, micro_word, no_continuation, tame_inside, IsWord}
+use Rattle.qm_obj.proofs.LawText.{is_tame, micro_word, no_continuation}
+use Rattle.qm_check.proofs.Laid.{size_inside}
 use Rattle.remesh_laws.proofs.Asides.{line_aside, number_short, settings_aside}
 use Rattle.remesh_laws.proofs.MarkedLines.{chain_line, chain_tame, marked_chains, marked_ended, marked_lines}
 use Rattle.remesh_laws.specs.Asides.{IsAside, IsPassedOver}
@@ -33,36 +32,21 @@ coarse_aside settings range = settings_aside (codes "#quadq 1 " ++ codes "coarse
 pub crease_aside : (settings : Settings) → AreInRange settings false → IsAside (named_head (codes "crease") settings ++ 10 ∷ [])
 crease_aside settings range = settings_aside (codes "#quadq 1 " ++ codes "crease" ++ codes " scale ") settings false refl refl (omega arith) range
 
-module _ (edge : ℤ) (near : unsigned_abs edge ≤ 999_999_999_999_999) where
-  one_word : (k : ℕ) → k < 1 → IsWord (get_or (micro_text edge ∷ []) k [])
-  one_word zero l = micro_word edge near
-  one_word (suc k) l = absurd (omega (arith, l))
+pub size_aside : (edge : ℤ) → unsigned_abs edge ≤ 999_999_999_999_999 → (floor : ℕ) → floor < 2 ^ 64 → IsAside (size_head edge floor ++ 10 ∷ [])
+size_aside edge near floor low = line_aside (size_head edge floor) refl (size_inside edge near floor low) short
+  where
+    front : Bytes
+    front = codes "#quadq 1 size edge " ++ micro_text edge
 
-  micro_inside : list_all is_inside (micro_text edge) ≡ true
-  micro_inside =
-      tame_inside (micro_text edge)
-      (subst (λ (t : Bytes). list_all is_tame t ≡ true) (append-nil (micro_text edge)) (line_tame 118 (micro_text edge ∷ []) refl (omega arith) one_word).tame)
-
-  pub size_aside : (floor : ℕ) → floor < 2 ^ 64 → IsAside (size_head edge floor ++ 10 ∷ [])
-  size_aside floor low = line_aside (size_head edge floor) refl inside short
-    where
-      front : Bytes
-      front = codes "#quadq 1 size edge " ++ micro_text edge
-
-      inside : list_all is_inside (size_head edge floor) ≡ true
-      inside = both_inside (front ++ codes " floor ") (decimal floor)
-          (both_inside front (codes " floor ") (both_inside (codes "#quadq 1 size edge ") (micro_text edge) refl micro_inside) refl)
-          (number_inside floor low)
-
-      short : length (size_head edge floor) ≤ 65536
-      short = omega (
-        arith,
-        length-append (front ++ codes " floor ") (decimal floor),
-        length-append front (codes " floor "),
-        length-append (codes "#quadq 1 size edge ") (micro_text edge),
-        (micro_word edge near).short,
-        number_short floor low,
-      )
+    short : length (size_head edge floor) ≤ 65536
+    short = omega (
+      arith,
+      length-append (front ++ codes " floor ") (decimal floor),
+      length-append front (codes " floor "),
+      length-append (codes "#quadq 1 size edge ") (micro_text edge),
+      (micro_word edge near).short,
+      number_short floor low,
+    )
 
 -- ---- The lines of marked arcs.
 

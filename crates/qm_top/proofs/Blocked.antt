@@ -22,7 +22,8 @@ use Rattle.qm_blocks.proofs.Mutual.{lead_back}
 use Rattle.qm_blocktext.specs.declared.text.Blocks.{Blocks}
 use Rattle.qm_top.specs.Blocking.{told_text, AreBlocksBy}
 use Rattle.qm_top.specs.Refining.{FailsToRefine}
-use Rattle.qm_top.proofs.Refined.{fails_as, fits_of}
+use Rattle.qm_check.proofs.Fits.{fits_of}
+use Rattle.qm_top.proofs.Refined.{fails_as}
 use Rattle.qm_top.proofs.Writers.{IsWriter}
 
 -- The text of the blocks of a layout with multiples of its old lengths.

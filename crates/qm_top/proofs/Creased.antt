@@ -1,13 +1,12 @@
 -- What `crease` keeps: bytes whose `l` lines are refused end it, and bytes that it takes are not refused.
-use Rattle.std.specs.Prelude.{IfErr, IsErrAnd, codes, slice_range}
+use Rattle.std.specs.Prelude.{IfErr, IsErrAnd, codes}
 use Rattle.std.specs.Option.{option_map}
-use Rattle.std.proofs.Common.{◌≡◌, ◌≢◌, ℕ, ◌-◌, false, Result, Ok, Err, List, Bool, [], ◌∷◌, ◌++◌, length, sym, ◌∙◌, ap, subst, refl, inl, arith}
-use Rattle.std.proofs.lemmas.List.{take_all}
+use Rattle.std.proofs.Common.{◌≡◌, ◌≢◌, ◌-◌, false, Result, Ok, Err, List, Bool, [], ◌∷◌, ◌++◌, sym, ◌∙◌, ap, subst, refl, inl}
 use Rattle.def_certtext.specs.CertLines.{lists_of}
 use Rattle.def_certtext.specs.declared.Asked.{Asked}
 use Rattle.def_feature.specs.Marked.{marked_cut}
 use Rattle.def_flow.specs.declared.net.Settings.{Settings}
-use Rattle.def_io.specs.Bytes.{Bytes, Lines}
+use Rattle.def_io.specs.Bytes.{Bytes}
 use Rattle.def_io.specs.Moves.{Change}
 use Rattle.def_io.specs.declared.TheConstants.{LINE_FEED}
 use Rattle.def_layout.specs.FaceLayouts.{IsLayoutOf}
@@ -99,10 +98,6 @@ marks_not_refused bytes (Syntax line) has none = mark_fails bytes (marks.Syntax 
 marks_not_refused bytes (Range line) has none = mark_fails bytes (marks.Range line) has none
 marks_not_refused bytes (NotEdge line) has none = mark_fails bytes (marks.NotEdge line) has none
 marks_not_refused bytes _ has none = absurd none
-
--- All lines of a text.
-pub whole_range : (xs : Lines) (n : ℕ) → n ≡ length xs → slice_range xs 0 n ≡ xs
-whole_range xs n is = let e : n - 0 ≡ n = omega arith in rw e (take_all n xs (omega (arith, is)))
 
 -- A text that has no soup has no marks.
 pub read_refused : {T : Type 0} (bytes : Bytes) (result : Result T Refusal) (fail : ObjFail) → IsErrAnd result (λ r. r ≡ Soup (of_obj fail))

@@ -1,12 +1,11 @@
 -- The text of a refined mesh, and what `refine` keeps.
-use Rattle.std.proofs.Common.{◌≡◌, ℕ, ◌<◌, ◌≤◌, ◌^◌, ap, ◌∙◌, subst, refl, arith}
+use Rattle.std.proofs.Common.{◌≡◌, ℕ, ◌≤◌, subst, refl, arith}
 use Rattle.def_io.specs.Moves.{Change}
 use Rattle.def_layout.specs.Arcs.{long_at}
 use Rattle.def_layout.specs.Plans.{Plan, layout_of, vertex_at}
 use Rattle.def_mesh.specs.Faces.{Faces}
 use Rattle.def_mesh.specs.Manifold.{IsManifold}
-use Rattle.def_layout.specs.Lengths.{Lengths}
-use Rattle.def_remesh.specs.NewPoints.{lengths_in, multiple_of}
+use Rattle.def_remesh.specs.NewPoints.{multiple_of}
 use Rattle.def_remesh.specs.Placings.{IsLayoutIn}
 use Rattle.def_remesh.specs.Refined.{refined_faces, refined_text}
 use Rattle.def_remesh.specs.Stitched.{KeepsShapes}
@@ -24,10 +23,9 @@ use Rattle.def_run.specs.declared.command.TheConstants.{MAX_MULTIPLE}
 use Rattle.def_text.specs.FaceSet.{FaceSet}
 use Rattle.def_text.specs.Input.{ReadSoup}
 use Rattle.def_text.specs.declared.limits.TheConstants.{MAX_BYTES}
-use Rattle.def_written.specs.NewFaces.{face_count, new_faces}
+use Rattle.def_written.specs.NewFaces.{new_faces}
 use Rattle.def_written.specs.Shape.{KeepsShape}
-use Rattle.qm_write.specs.declared.body.NewPoints.{NewPoints}
-use Rattle.qm_top.specs.Refining.{ArePointsBy, FailsToRefine, ShowsRefined}
+use Rattle.qm_top.specs.Refining.{FailsToRefine, ShowsRefined}
 use Rattle.qm_top.specs.Refusals.{answer_of_layout}
 use Rattle.qm_top.proofs.Writers.{IsWriter}
 use Rattle.remesh_laws.proofs.ReadAgain.{refined_read}
@@ -49,12 +47,6 @@ is_refined by soup plan some few (is, same) cut keeps fits = record {
   };
   read = refined_read by soup plan is (omega (arith, some)) (omega (arith, few));
 }
-
--- Where the points stand, there are not too many faces.
-pub fits_of : (by : ℕ) (faces : Faces) (plan : Plan) (new : NewPoints) → ArePointsBy by faces plan new
-    → refined_faces by plan ≤ MAX_NEW_FACES
-fits_of by faces plan new points =
-    subst (λ (l : Lengths). face_count (layout_of plan) l ≤ MAX_NEW_FACES) (ap lengths_in points.same ∙ points.lengths) points.places.few
 
 -- A soup that is not refined is refused so by a command that refuses what `refine` refuses.
 pub fails_as : (command : Command) (by : ℕ) (input out : Change) (soup : FaceSet) → IsManifold soup.faces

@@ -5,7 +5,6 @@ use Rattle.std.proofs.lemmas.Result.{IfErr-weaker}
 use Rattle.std.specs.Option.{option_map}
 use Rattle.std.specs.Prelude.{unsigned_abs}
 use Rattle.def_certtext.specs.CertLines.{lists_of}
-use Rattle.def_cut.specs.Traced.{traced_marks}
 use Rattle.def_certtext.specs.declared.Asked.{Asked}
 use Rattle.def_io.specs.Bytes.{Bytes}
 use Rattle.def_io.specs.Moves.{Change, IsStill, Stream}
@@ -25,7 +24,7 @@ use Rattle.def_remesh.specs.declared.kept.LayoutFail.TheVariants as layouts
 use Rattle.def_run.specs.Causes.{Cause}
 use Rattle.def_run.specs.Mesh.{IsMeshText}
 use Rattle.def_run.specs.Remesh.{Asks, IsCutTo, RefusesLayout, RefusesTask}
-use Rattle.def_run.specs.Size.{size_head, size_task, soup_targets, AsksForNearSize, AsksForSize, HasNearTargets}
+use Rattle.def_run.specs.Size.{size_head, size_task, soup_targets, AsksForNearSize, AsksForSize}
 use Rattle.def_run.specs.declared.answer.Answer.{Answer}
 use Rattle.def_run.specs.declared.answer.Answer.TheVariants as answers
 use Rattle.def_run.specs.declared.command.Command.TheVariants.{Size}
@@ -34,14 +33,13 @@ use Rattle.def_text.specs.Input.{ReadSoup}
 use Rattle.def_text.specs.Types.{Positions}
 use Rattle.def_text.specs.declared.limits.TheConstants.{MAX_BYTES}
 use Rattle.qm_write.specs.Framing.{IsFramed}
+use Rattle.qm_check.proofs.Tasks.{near_all}
 use Rattle.qm_top.specs.Refusals.{answer_of_layout, refusal_of_size}
 use Rattle.qm_top.specs.Runs.{HasRun}
 use Rattle.qm_top.specs.Sizing.{FailsSize, IsFarSoup, IsUnsized}
 use Rattle.qm_top.specs.Writing.{IsUnwritten, ShowsAsked, WroteText}
 use Rattle.qm_top.specs.declared.refusal.Refusal.{Refusal}
 use Rattle.qm_top.specs.declared.refusal.Refusal.TheVariants.{Far}
-use Rattle.plan_laws.proofs.OnePlan.{one_layout_law}
-use Rattle.site_laws.proofs.Laws.{graph_law}
 use Rattle.remesh_laws.proofs.Asides.{none_aside}
 use Rattle.qm_top.proofs.Asides.{size_aside}
 use Rattle.qm_top.proofs.Remeshed.{task_reread}
@@ -51,12 +49,6 @@ use Rattle.qm_write.specs.declared.text.Framed.{Framed}
 -- The faces of a layout are a manifold.
 pub manifold_in : (soup : FaceSet) (plan : Plan) → IsLayoutIn soup.faces plan → IsManifold soup.faces
 manifold_in soup plan lies = subst IsManifold lies.1 lies.0.mesh.manifold
-
--- Targets that are not too great for a layout are so for the one layout of the motorcycle graph.
-pub near_all : (edge : ℤ) (soup : FaceSet) (plan : Plan) → IsManifold soup.faces → IsCutTo soup.faces plan → AreNear (soup_targets edge soup) plan → HasNearTargets edge soup
-near_all edge soup plan manifold cut near other also =
-    subst (AreNear (soup_targets edge soup))
-    (one_layout_law soup.faces (traced_marks soup.faces) manifold (graph_law soup.faces manifold).1 plan other cut also) near
 
 -- What it keeps that has read a mesh.
 module _ (edge : ℤ) (floor : ℕ) (input out : Change) (soup : FaceSet) (manifold : IsManifold soup.faces)

@@ -9,7 +9,7 @@ use Rattle.def_mesh.specs.Faces.{Faces}
 use Rattle.def_remesh.specs.NewPoints.{lengths_in, multiple_of}
 use Rattle.def_text.specs.FaceSet.{FaceSet}
 use Rattle.qm_blocktext.specs.declared.text.Blocks.{Blocks}
-use Rattle.qm_top.specs.Refining.{ArePointsBy}
+use Rattle.qm_check.specs.Multiples.{ArePointsBy}
 
 -- These are the blocks of the layout with a multiple of the old lengths.
 pub record AreBlocksBy (by : ℕ) (faces : Faces) (plan : Plan) (blocks : Blocks) : Type 0 where

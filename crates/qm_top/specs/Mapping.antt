@@ -6,8 +6,6 @@ use Rattle.def_layout.specs.Plans.{plan}
 use Rattle.def_map.specs.MapText.{map_text}
 use Rattle.def_marks.specs.declared.fail.MarkFail.TheVariants as marks
 use Rattle.def_remesh.specs.NewPoints.{lengths_in}
-use Rattle.def_remesh.specs.Numberings.{IsNumbering}
-use Rattle.def_remesh.specs.Placings.{ArePlaces}
 use Rattle.def_remesh.specs.declared.kept.LayoutFail.TheVariants as layouts
 use Rattle.def_run.specs.Map.{HasMap, RefusesToMap, WritesMap}
 use Rattle.def_run.specs.MapFails.{HasFrontFault, RefusesFrontMarks, RefusesFrontText}
@@ -22,14 +20,7 @@ use Rattle.qm_top.specs.declared.refusal.Refusal.{Refusal}
 use Rattle.qm_top.specs.declared.refusal.Refusal.TheVariants.{NotAccepted, Soup, NotManifold, Marks, Layout, Far, Write}
 use Rattle.qm_top.specs.declared.refusal.Refusal.TheVariants as refusals
 
--- These are the points of a new mesh over the cut of the soup's mesh.
-pub record IsMapped (mapped : Mapped) : Type 0 where
-  pub mesh : mapped.cut.mesh ≡ mapped.soup.faces
-  pub numbering : IsNumbering (plan mapped.cut.layout) mapped.points.numbering
-  pub places : ArePlaces mapped.cut.mesh (plan mapped.cut.layout) mapped.points.places
-  pub lengths : mapped.points.places.lengths.items ≡ mapped.points.numbering.lengths.items
-
--- The map of that new mesh.
+-- The map of the points of a new mesh.
 abbrev pub mapped_text : (mapped : Mapped) → Bytes
 mapped_text mapped =
     map_text mapped.soup (plan mapped.cut.layout) (lengths_in mapped.points.numbering.lengths.items)

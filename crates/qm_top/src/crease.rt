@@ -1,16 +1,8 @@
 //! `crease`: a mesh is read with the edges that its `l` lines mark, and remeshed so that these stay.
 
 ghost use Rattle.std.specs.Prelude.{◌≡◌, Ok, false, IfErr, IfOk, OnOk};
-ghost use Rattle.std.specs.Option.{option_map};
-ghost use Rattle.def_certtext.specs.CertLines.{lists_of};
 ghost use Rattle.def_certtext.specs.Settings.{AreInRange};
-ghost use Rattle.def_layout.specs.Plans.{plan};
 ghost use Rattle.def_marks.specs.Lines.{marks_in};
-ghost use Rattle.def_marks.specs.MarkedText.{marked_text};
-ghost use Rattle.def_remesh.specs.Keeping.{IsKept};
-ghost use Rattle.def_remesh.specs.NewPoints.{lengths_in};
-ghost use Rattle.def_remesh.specs.Remeshed.{used};
-ghost use Rattle.def_remesh.specs.Tasks.{Wish};
 ghost use Rattle.def_feature.specs.Marks.{AreMarks};
 ghost use Rattle.def_io.specs.Bytes.{Bytes};
 ghost use Rattle.def_io.specs.Moves.{change, stream};
@@ -26,17 +18,16 @@ use crate::input::{MeshInput, with_mesh};
 use crate::refusal::Refusal;
 use def_certtext::Asked;
 use def_flow::Settings;
-use def_layout::TMesh;
 use def_run::Command;
 use def_text::MAX_BYTES;
 use qm_cut::marked_layout;
 use qm_io::{Lines, Sink, Source, read_lines};
 use qm_marks::read_marks;
-use qm_marktext::marked_lines;
+use qm_marktext::kept_lines;
 use qm_obj::read_obj;
 use qm_remesh::keep;
-use qm_write::{CutMesh, Framed, Remesh};
-use std::alloc::{AllocError, Global};
+use qm_write::{CutMesh, Framed};
+use std::alloc::Global;
 
 /// Reads a mesh and its marked edges, and writes the new mesh with least lengths, with the lines of these edges and with
 /// the certificate.
@@ -105,7 +96,7 @@ fn crease_mesh<O: Sink>(
     };
     let remesh = keep(alloc, &layout, asked)?;
     let head = named_head(alloc, b"crease", &settings)?;
-    let between = lines_of(alloc, &marks, &layout, &remesh)?;
+    let between = kept_lines(alloc, &marks, &layout, &remesh)?;
     let framed = Framed {
         head,
         between,
@@ -113,20 +104,4 @@ fn crease_mesh<O: Sink>(
     };
     let cut = CutMesh { mesh, layout };
     write_task(alloc, &soup, &cut, framed, out)
-}
-
-/// The lines of marked arcs over the new mesh.
-fn lines_of(
-    alloc: Global,
-    marks: &[bool],
-    layout: &TMesh,
-    remesh: &Remesh,
-) -> Result<Vec<u8>, AllocError>
-    requires { (wish : Wish) × IsKept wish (plan layout.now) remesh.now.asked.settings remesh.now.asked.auto
-        (lists_of remesh.now.first) (option_map lists_of remesh.now.third) remesh.now.numbering }
-    ensures { IfOk result (λ text. text.items ≡ marked_text marks.now (plan layout.now)
-        (lengths_in (used (lists_of remesh.now.first) (option_map lists_of remesh.now.third)).x)) }
-{
-    let _count = remesh.numbering.vertices();
-    marked_lines(alloc, marks, layout, &remesh.used_cert().x)
 }

@@ -2,10 +2,12 @@
 //! is written.
 
 ghost use Rattle.std.specs.Prelude.{◌≡◌, ◌≤◌, length, IfErr, OnOk, OnErr};
+ghost use Rattle.def_io.specs.Bytes.{Bytes};
 ghost use Rattle.def_io.specs.Faults.{Rose};
 ghost use Rattle.def_io.specs.Moves.{change, stream, took, TookPrefix};
 ghost use Rattle.def_run.specs.Map.{WritesMap};
-ghost use Rattle.qm_top.specs.Mapping.{mapped_text, IsMapped, IsUnmapped};
+ghost use Rattle.qm_check.specs.Making.{IsMappedOf};
+ghost use Rattle.qm_top.specs.Mapping.{mapped_text, IsUnmapped};
 ghost use Rattle.qm_top.specs.Runs.{HasRun};
 ghost use Rattle.qm_top.specs.Writing.{WroteText};
 
@@ -54,7 +56,7 @@ fn map_bytes<O: Sink>(alloc: Global, bytes: &[u8], out: &mut O) -> Result<(), Re
 
 /// Writes the map through a buffer.
 fn write_map<O: Sink>(mapped: &Mapped, out: &mut O, room: &mut Room) -> Result<(), Stopped>
-    requires { IsMapped mapped.now }
+    requires { (bytes : Bytes) × IsMappedOf bytes mapped.now }
     ensures whole { OnOk result ((O.state out.new).told
         ≡ took (O.state out.old).told (mapped_text mapped.now)) }
     ensures prefix { OnErr result (TookPrefix (O.state out.old).told (O.state out.new).told

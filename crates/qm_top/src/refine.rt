@@ -7,7 +7,8 @@ ghost use Rattle.def_layout.specs.Plans.{plan};
 ghost use Rattle.def_remesh.specs.Placings.{IsLayoutIn};
 ghost use Rattle.def_remesh.specs.Refined.{refined_text};
 ghost use Rattle.def_run.specs.declared.command.TheConstants.{MAX_MULTIPLE};
-ghost use Rattle.qm_top.specs.Refining.{ArePointsBy, FailsToRefine, HasNoPoints, ShowsRefined};
+ghost use Rattle.qm_check.specs.Multiples.{ArePointsBy};
+ghost use Rattle.qm_top.specs.Refining.{FailsToRefine, HasNoPoints, ShowsRefined};
 ghost use Rattle.qm_top.specs.Runs.{HasRun};
 ghost use Rattle.qm_top.specs.Writing.{IsUnwritten, WroteText};
 

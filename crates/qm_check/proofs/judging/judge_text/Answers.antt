@@ -1,4 +1,4 @@
-use Rattle.std.proofs.Common.{◌≡◌, ◌≤◌, Bool, length, refl, ap, sym, ◌∙◌, subst}
+use Rattle.std.proofs.Common.{◌≤◌, Bool, length, refl, ap, sym, ◌∙◌, subst}
 use Rattle.std.specs.Option.{option_map}
 use Rattle.error_laws.proofs.Errors.{handed}
 use Rattle.def_certtext.specs.CertLines.{lists_of}

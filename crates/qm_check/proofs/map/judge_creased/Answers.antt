@@ -1,4 +1,4 @@
-use Rattle.std.proofs.Common.{◌≤◌, length, arith, sym, subst}
+use Rattle.std.proofs.Common.{arith, sym, subst}
 use Rattle.error_laws.proofs.Errors.{handed}
 use Rattle.def_io.specs.Bytes.{Bytes}
 use Rattle.def_run.specs.MapFails.{IsMapFail}

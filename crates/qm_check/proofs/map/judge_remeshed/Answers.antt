@@ -1,5 +1,4 @@
 use Rattle.std.proofs.Common.{sym, subst}
-use Rattle.std.proofs.lemmas.Result.{IfErr-weaker}
 use Rattle.error_laws.proofs.Errors.{handed}
 use Rattle.def_io.specs.Bytes.{Bytes}
 use Rattle.def_remesh.specs.Tasks.{remesh_task}

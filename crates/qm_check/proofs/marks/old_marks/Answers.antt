@@ -1,11 +1,6 @@
-use Rattle.std.proofs.Common.{◌≡◌, Ok, Err, ap, sym, ◌∙◌, subst, arith}
-use Rattle.def_io.specs.Bytes.{Bytes, Lines}
-use Rattle.def_io.specs.Lines.{lines_of}
-use Rattle.def_marks.specs.Lines.{marks_of, text_lines}
-use Rattle.def_text.specs.Logical.{logical_lines}
+use Rattle.std.proofs.Common.{sym, subst}
 use Rattle.qm_check.proofs.MarkLines.{lines_fail, marks_said}
 use Rattle.qm_check.specs.Ready.{IsLineFail}
-use Rattle.error_laws.proofs.Errors.{handed}
 use Rattle.qm_check.proofs.marks.old_marks.Goals as goal
 
 pub returns-in-Ok-clause-marks : goal.returns-in-Ok-clause-marks

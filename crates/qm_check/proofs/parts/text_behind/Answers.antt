@@ -1,4 +1,4 @@
-use Rattle.std.proofs.Common.{[], drop, ap, sym, ◌∙◌}
+use Rattle.std.proofs.Common.{drop, ap, sym, ◌∙◌}
 use Rattle.def_io.specs.Bytes.{Bytes, Lines}
 use Rattle.def_io.specs.Lines.{lines_of}
 use Rattle.remesh_laws.proofs.Tails.{tail_behind}

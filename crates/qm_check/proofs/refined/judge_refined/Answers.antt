@@ -1,4 +1,4 @@
-use Rattle.std.proofs.Common.{◌≤◌, length, refl, sym, ◌∙◌, subst}
+use Rattle.std.proofs.Common.{◌≤◌, length, sym, ◌∙◌, subst}
 use Rattle.error_laws.proofs.Errors.{handed}
 use Rattle.def_cut.specs.Traced.{traced_marks}
 use Rattle.def_io.specs.Bytes.{Bytes}

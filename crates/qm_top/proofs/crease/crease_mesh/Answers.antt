@@ -19,8 +19,8 @@ use Rattle.qm_top.specs.Finishing.{IsNoLayout}
 use Rattle.qm_top.specs.Writing.{FailsTask}
 use Rattle.qm_top.proofs.crease.crease_mesh.Goals as goal
 
-pub lines_of-requires : goal.lines_of-requires
-lines_of-requires g c = (
+pub kept_lines-requires : goal.kept_lines-requires
+kept_lines-requires g c = (
   old_lengths,
   subst (λ (a : Asked). IsKept old_lengths (plan c.in_ok-layout.layout) a.settings a.auto (lists_of c.in_ok-remesh.remesh.first)
       (option_map lists_of c.in_ok-remesh.remesh.third) c.in_ok-remesh.remesh.numbering) (sym c.in_ok-remesh.ensures.asked) c.in_ok-remesh.ensures.kept,

@@ -8,7 +8,8 @@ use Rattle.def_text.specs.FaceSet.{FaceSet}
 use Rattle.def_text.specs.Logical.{logical_lines}
 use Rattle.def_text.specs.Text.{text_soup}
 use Rattle.error_laws.proofs.Errors.{handed}
-use Rattle.qm_top.proofs.Creased.{mesh_text, no_mesh_of, read_refused, whole_range}
+use Rattle.qm_check.proofs.MarkLines.{whole_range}
+use Rattle.qm_top.proofs.Creased.{mesh_text, no_mesh_of, read_refused}
 use Rattle.qm_top.proofs.crease.read_marked.Goals as goal
 
 pub returns-in_err-soup-clause-refused : goal.returns-in_err-soup-clause-refused

@@ -6,12 +6,16 @@ use Rattle.qm_top.proofs.Mapped.{map_placed, unmapped}
 use Rattle.qm_top.proofs.map.map_bytes.Goals as goal
 
 pub write_map-requires : goal.write_map-requires
-write_map-requires g c = record {
-  mesh = c.in-Ok.ensures.mesh;
-  numbering = c.in-Ok.ensures.numbering;
-  places = c.in-Ok.ensures.places;
-  lengths = c.in-Ok.ensures.lengths;
-}
+write_map-requires g c = (
+  c.args.bytes.now,
+  record {
+    mesh = c.in-Ok.ensures.mesh;
+    numbering = c.in-Ok.ensures.numbering;
+    places = c.in-Ok.ensures.places;
+    lengths = c.in-Ok.ensures.lengths;
+    map = c.in-Ok.ensures.map;
+  },
+)
 
 pub returns-in_err-write_map-in-Ok-clause-refused : goal.returns-in_err-write_map-in-Ok-clause-refused
 returns-in_err-write_map-in-Ok-clause-refused g c = handed _ _ _ c.from_residual-in_err-write_map-in-Ok.ensures.1 (record {

@@ -6,6 +6,18 @@ use Rattle.qm_top.specs.Mapping.{mapped_text}
 use Rattle.qm_top.proofs.Writers.{on_ok_both}
 use Rattle.qm_top.proofs.map.write_map.Goals as goal
 
+pub put_map-requires-clause-mesh : goal.put_map-requires-clause-mesh
+put_map-requires-clause-mesh g c = c.requires.1.mesh
+
+pub put_map-requires-clause-numbering : goal.put_map-requires-clause-numbering
+put_map-requires-clause-numbering g c = c.requires.1.numbering
+
+pub put_map-requires-clause-places : goal.put_map-requires-clause-places
+put_map-requires-clause-places g c = c.requires.1.places
+
+pub put_map-requires-clause-lengths : goal.put_map-requires-clause-lengths
+put_map-requires-clause-lengths g c = c.requires.1.lengths
+
 pub returns-in_err-put_map-clause-prefix : goal.returns-in_err-put_map-clause-prefix
 returns-in_err-put_map-clause-prefix g c =
     let prefix : TookPrefix (g.O.Sink.state c.new-text.result.sink.now).told (g.O.Sink.state c.put_map.new.out.sink.now).told

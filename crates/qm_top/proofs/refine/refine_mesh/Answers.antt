@@ -2,7 +2,8 @@ use Rattle.std.proofs.Common.{◌≡◌, ℕ, refl, subst}
 use Rattle.def_io.specs.Moves.{took, TookPrefix}
 use Rattle.def_layout.specs.Plans.{plan}
 use Rattle.def_remesh.specs.Refined.{refined_text}
-use Rattle.qm_top.proofs.Refined.{fits_of, is_refined}
+use Rattle.qm_check.proofs.Fits.{fits_of}
+use Rattle.qm_top.proofs.Refined.{is_refined}
 use Rattle.error_laws.proofs.Errors.{handed}
 use Rattle.qm_top.proofs.Writers.{of_soup}
 use Rattle.qm_top.proofs.refine.refine_mesh.Goals as goal

@@ -9,8 +9,8 @@ use Rattle.def_marks.specs.MarkedText.{marked_text}
 use Rattle.def_remesh.specs.NewPoints.{lengths_in}
 use Rattle.def_remesh.specs.Remeshed.{used}
 use Rattle.def_written.specs.Numbers.{vertices}
-use Rattle.qm_check.proofs.between.lines_of.Goals.{After-deref}
-use Rattle.qm_check.proofs.between.lines_of.Goals as goal
+use Rattle.qm_marktext.proofs.kept.kept_lines.Goals.{After-deref}
+use Rattle.qm_marktext.proofs.kept.kept_lines.Goals as goal
 
 -- The lengths are those of the certificate that is used, and those that are numbered.
 used_are : (c : After-deref) → c.deref.result.now ≡ (used (lists_of c.args.remesh.now.first) (option_map lists_of c.args.remesh.now.third)).x
