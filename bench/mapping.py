@@ -11,8 +11,8 @@ Of each mesh, and of N that are made by chance, the maps of texts of all five co
   line does; where that is on an arc, which is divided evenly, it may be off by what a parameter loses that is rounded;
   the mean of these corners, rounded down, lies in the old face.
 
-The map is what `quadq map` writes, and then has to be what tools/make_map.py makes, byte for byte; or that, where the
-program has no such command. Each difference is named on standard error, and the status is 1 where there is one.
+Besides, `quadq map` has to write what tools/make_map.py does, byte for byte. Each difference is named on standard
+error, and the status is 1 where there is one.
 
 With --times it prints the time of `map` beside that of `check` of the same pair: seconds of the processor and
 megabytes, the least of some runs by turns, on these meshes and on some that bench/meshes.cpp makes (with g++). It wants
@@ -20,7 +20,6 @@ a calm machine. QUADQ may name the program, which is dist/quadq else.
 """
 import argparse
 import collections
-import functools
 import pathlib
 import random
 import subprocess
@@ -193,19 +192,10 @@ def run(words, text):
     return ran.returncode, ran.stdout.decode(), ran.stderr.decode()
 
 
-@functools.cache
-def map_is_known():
-    """Whether the program has the command."""
-    return " | map" in run([], "")[2]
-
-
 def mapped(old_text, new_text):
-    """The map of a pair, by the program where that has maps; then it has to be the script's."""
-    made = map_of(old_text, new_text)
-    if not map_is_known():
-        return made
+    """The map of a pair, which has to be the script's."""
     status, given, said = run(["map"], old_text + "\n" + new_text)
-    if status != 0 or given != made:
+    if status != 0 or given != map_of(old_text, new_text):
         raise Fault(f"quadq map ends with {status} and does not write what make_map.py does: {said}")
     return given
 
@@ -307,7 +297,7 @@ def main():
     for name, text in meshes(asked, rng):
         tried += 1
         wrong += not try_mesh(name, text, rng, counts)
-    print(f"{tried} meshes, {wrong} with wrong maps; by {'quadq map' if map_is_known() else 'make_map.py'}")
+    print(f"{tried} meshes, {wrong} with wrong maps")
     columns = ["texts", "vertex", "edge", "face", "cell", "corners", "exact"]
     print(f"| {'command':<8}" + "".join(f"| {it:>9} " for it in columns) + "|")
     for command, found in counts.items():
