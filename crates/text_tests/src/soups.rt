@@ -1,8 +1,8 @@
 //! Texts with their soups or refusals, and the canonical text.
 
-use def_text::{Index, ObjFail, SoupFail, Which};
+use def_text::{ObjFail, Which};
 use qm_io::{Lines, MemSource, read_lines};
-use qm_obj::{ObjFeed, logical, obj_text, read_index, read_obj, read_soup, reads_back};
+use qm_obj::{obj_text, read_obj, reads_back};
 use std::alloc::Global;
 use std::test::Fail;
 
@@ -105,75 +105,5 @@ fn a_line_of_65536_bytes_is_the_longest(rt: HostRuntime) -> Result<(), Fail> {
         line: 1,
     };
     assert_eq!(rt; read_obj(rt.alloc(), &lines, 0, count).err(), Some(limit));
-    Ok(())
-}
-
-#[test]
-fn lines_and_indices(rt: HostRuntime) -> Result<(), Fail> {
-    let lines = lines_of(rt.alloc(), b"v 0 0 0\nl \\\n4 5 # crease\nl 1 \\")?;
-    assert_eq!(rt; lines.count(), 4);
-    for (i, bytes, next) in [
-        (0, b"v 0 0 0".as_slice(), 1),
-        (1, b"l  4 5 ".as_slice(), 3),
-        (3, b"l 1  ".as_slice(), 4),
-    ] {
-        let line = logical(rt.alloc(), &lines, i, 4)?;
-        assert!(rt; line.bytes.as_slice() == bytes);
-        assert_eq!(rt; line.next, next);
-    }
-    for (word, wanted) in [
-        (b"3".as_slice(), Index::Vertex { k: 3 }),
-        (b"+009", Index::Vertex { k: 9 }),
-        (b"-1", Index::Vertex { k: 5 }),
-        (b"-5", Index::Vertex { k: 1 }),
-        (b"-6", Index::Out),
-        (b"10", Index::Out),
-        (b"-0", Index::Out),
-        (b"18446744073709551617", Index::Out),
-        (b"4/1", Index::Malformed),
-        (b"", Index::Malformed),
-    ] {
-        assert_eq!(rt; read_index(word, 9, 5), wanted);
-    }
-    Ok(())
-}
-
-#[test]
-fn sources_of_any_step_have_the_same_soup(rt: HostRuntime) -> Result<(), Fail> {
-    let text = b"# a\r\nv 0 0 0\r\nv 1 0 0\nv 1 1 0\nv 0 \\\r\n1 0\nf 1 \\\n\\\n2 3 4 #\r";
-    for more in 0..9usize {
-        let bytes = Vec::from_slice(rt.alloc(), text)?;
-        let mut source = MemSource::new(bytes, more + 1, Vec::new(rt.alloc()));
-        let soup = read_soup(rt.alloc(), &mut source, 1000)?;
-        let written = obj_text(rt.alloc(), &soup)?;
-        assert!(rt; written.as_slice() == SQUARE);
-    }
-    Ok(())
-}
-
-#[test]
-fn a_fault_comes_before_a_bad_line(rt: HostRuntime) -> Result<(), Fail> {
-    for (fails, limit, wanted) in [
-        (0, 1000, SoupFail::Obj(ObjFail::Syntax { line: 1 })),
-        (4, 1000, SoupFail::Fault),
-        (0, 12, SoupFail::TooLong),
-        (4, 5, SoupFail::TooLong),
-    ] {
-        let bytes = Vec::from_slice(rt.alloc(), b"v 1\nv 2\nv 3\nv 4\n")?;
-        let mut source = MemSource::new(bytes, 4, Vec::from_slice(rt.alloc(), &[fails])?);
-        assert_eq!(rt;
-            read_soup(rt.alloc(), &mut source, limit).err(),
-            Some(wanted)
-        );
-    }
-    Ok(())
-}
-
-#[test]
-fn a_feed_keeps_the_line_that_has_not_ended(rt: HostRuntime) -> Result<(), Fail> {
-    let mut feed = ObjFeed::new(rt.alloc());
-    assert_eq!(rt; feed.held(), 0);
-    feed.feed(b"v 0 0 0\r")?;
-    assert_eq!(rt; feed.held(), 8);
     Ok(())
 }
