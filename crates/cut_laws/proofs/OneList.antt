@@ -46,18 +46,18 @@ pub record AreTiles (mesh : HalfEdges) (cut : Cut) (face : ℕ → ℕ) (ps : Li
   pub ordered : (p : ℕ) → suc p < length ps → least_at face ps p < least_at face ps (suc p)
 
 -- x is a side of a cell of a patch.
-abbrev pub LiesIn : (mesh : HalfEdges) (patch : Rectangle) (x : ℕ) → Type 0
-LiesIn mesh patch x = In mesh patch.w patch.h (cell_of patch) x
+abbrev pub LiesInPatch : (mesh : HalfEdges) (patch : Rectangle) (x : ℕ) → Type 0
+LiesInPatch mesh patch x = In mesh patch.w patch.h (cell_of patch) x
 
 module _ (mesh : HalfEdges) (laws : IsQuadManifold mesh) (cut : Cut) (full : IsCut mesh cut) (face : ℕ → ℕ) where
   -- Patches of lists that have a dart in common are equal.
-  pub shared : (ps qs : List Rectangle) → AreTiles mesh cut face ps → AreTiles mesh cut face qs → (p q x : ℕ) → p < length ps → q < length qs → LiesIn mesh (patch_at ps p) x → LiesIn mesh (patch_at qs q) x → patch_at ps p ≡ patch_at qs q
+  pub shared : (ps qs : List Rectangle) → AreTiles mesh cut face ps → AreTiles mesh cut face qs → (p q x : ℕ) → p < length ps → q < length qs → LiesInPatch mesh (patch_at ps p) x → LiesInPatch mesh (patch_at qs q) x → patch_at ps p ≡ patch_at qs q
   shared ps qs a b p q x lp lq ip iq =
       same_rectangle (patch_at ps p) (patch_at qs q) (a.patch p lp).grid.wide (a.sized p lp) (b.sized q lq)
       (one_patch mesh laws cut full (patch_at ps p).w (patch_at ps p).h (patch_at qs q).w (patch_at qs q).h (cell_of (patch_at ps p)) (cell_of (patch_at qs q)) (a.patch p lp) (b.patch q lq) x ip iq)
 
   -- So in one list they stand at one place,
-  pub same_place : (ps : List Rectangle) → AreTiles mesh cut face ps → (p q x : ℕ) → p < length ps → q < length ps → LiesIn mesh (patch_at ps p) x → LiesIn mesh (patch_at ps q) x → p ≡ q
+  pub same_place : (ps : List Rectangle) → AreTiles mesh cut face ps → (p q x : ℕ) → p < length ps → q < length ps → LiesInPatch mesh (patch_at ps p) x → LiesInPatch mesh (patch_at ps q) x → p ≡ q
   same_place ps a p q x lp lq ip iq =
       increasing_place (least_at face ps) (length ps) (record { step = a.ordered }) p q lp lq (ap (λ (r : Rectangle). least_of (map face r.cells)) (shared ps ps a a p q x lp lq ip iq))
 
@@ -65,7 +65,7 @@ module _ (mesh : HalfEdges) (laws : IsQuadManifold mesh) (cut : Cut) (full : IsC
   pub once : (ps : List Rectangle) → AreTiles mesh cut face ps → (d p i j k q a b l : ℕ) → p < length ps → q < length ps → IsSide mesh (patch_at ps p) i j k d → IsSide mesh (patch_at ps q) a b l d → (p ≡ q) × (i ≡ a) × (j ≡ b)
   once ps t d p i j k q a b l lp lq one two = by_place (same_place ps t p q d lp lq (inside p i j k one) (inside q a b l two))
     where
-      inside : (p i j k : ℕ) → IsSide mesh (patch_at ps p) i j k d → LiesIn mesh (patch_at ps p) d
+      inside : (p i j k : ℕ) → IsSide mesh (patch_at ps p) i j k d → LiesInPatch mesh (patch_at ps p) d
       inside p i j k s = (k, record { a = i; b = j; a_low = s.i_low; b_low = s.j_low; is = s.is })
 
       by_place : p ≡ q → (p ≡ q) × (i ≡ a) × (j ≡ b)

@@ -1,7 +1,7 @@
 -- What is proved of links.
 use Rattle.std.specs.Prelude.{◌≡◌, ◌≢◌, ◌⊎◌, ◌↔◌, ℕ, ◌+◌, ◌-◌, ◌<◌, ◌≤◌, true, List, [], slice_index_or, Some}
 use Rattle.std.specs.List.{Contains}
-use Rattle.def_layout.specs.Laid.{IsLaid, IsOtherSlot}
+use Rattle.def_layout.specs.Surfaces.{IsSurface, IsOtherSlot}
 use Rattle.def_layout.specs.Layouts.{Layout, Slot, IsSlot, use_of}
 use Rattle.def_layout.specs.Lengths.{Lengths, AreLengths}
 use Rattle.def_blocks.specs.declared.link.Link.{Link}
@@ -29,13 +29,13 @@ pub record HasOneSlot (layout : Layout) (arc : ℕ) : Type 0 where
 
 -- Each arc has two links, or it lies on the boundary and has one.
 abbrev pub TwoLinksLaw : Type 0
-TwoLinksLaw = (layout : Layout) → IsLaid layout → (arc : ℕ) → arc < layout.arcs
+TwoLinksLaw = (layout : Layout) → IsSurface layout → (arc : ℕ) → arc < layout.arcs
     → HasTwoSlots layout arc ⊎ HasOneSlot layout arc
 
 -- A slot is the other one of its other one, which is another slot, and no other slot is.
 abbrev pub SymmetricLaw : Type 0
-SymmetricLaw = (layout : Layout) → IsLaid layout → (one other : Slot) → IsSlot layout one → IsOtherSlot layout one other
-    → IsOtherSlot layout other one × ((next : Slot) → IsOtherSlot layout one next → next ≡ other)
+SymmetricLaw = (layout : Layout) → IsSurface layout → (one other : Slot) → IsSlot layout one
+    → IsOtherSlot layout one other → IsOtherSlot layout other one × ((next : Slot) → IsOtherSlot layout one next → next ≡ other)
 
 -- A block has a link: so many points of its side, from this one on, lie at a point of another block's side.
 abbrev pub HasLink :
@@ -50,7 +50,7 @@ AreMutual blocks links = (one other : ℕ) → one < blocks → other < blocks
     → HasLink links one side from len other side' from' ↔ HasLink links other side' from' len one side from
 
 abbrev pub MutualLaw : Type 0
-MutualLaw = (layout : Layout) (lengths : Lengths) → IsLaid layout
+MutualLaw = (layout : Layout) (lengths : Lengths) → IsSurface layout
     → (links : List (List Link)) → AreLinks layout lengths links → AreMutual layout.patches links
 
 -- Linked points are one vertex, counted from the beginning of a link and from the end of the link on the other side.
@@ -61,5 +61,5 @@ AreJoined layout lengths links = (one other : ℕ) → one < layout.patches
     → side_vertex layout lengths one side (from + k) ≡ side_vertex layout lengths other side' (from' + (len - k))
 
 abbrev pub LinkedPointsLaw : Type 0
-LinkedPointsLaw = (layout : Layout) (lengths : Lengths) → IsLaid layout → AreLengths layout lengths
+LinkedPointsLaw = (layout : Layout) (lengths : Lengths) → IsSurface layout → AreLengths layout lengths
     → (links : List (List Link)) → AreLinks layout lengths links → AreJoined layout lengths links

@@ -1,6 +1,6 @@
 -- The links of a block: one for each slot of its patch, side after side.
 use Rattle.std.specs.Prelude.{◌≡◌, ℕ, ◌+◌, ◌<◌, List, [], length, slice_get, slice_index_or, Some, None}
-use Rattle.def_layout.specs.Laid.{IsOtherSlot}
+use Rattle.def_layout.specs.Surfaces.{IsOtherSlot}
 use Rattle.def_layout.specs.Layouts.{Way, south, east, north, west, Layout, Slot, IsSlot, use_of}
 use Rattle.def_layout.specs.Lengths.{Lengths, reach}
 use Rattle.def_blocks.specs.declared.link.Link.{Link}

@@ -1,9 +1,9 @@
 pub mod Layouts
-pub mod Laid
+pub mod Surfaces
 pub mod Fans
 pub mod Lengths
 pub mod Cells
-pub mod Sided
+pub mod Embeddings
 pub mod Arcs
 pub mod Nodes
 pub mod Borders

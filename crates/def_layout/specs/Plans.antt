@@ -60,7 +60,7 @@ layout_of plan = record {
 }
 
 -- The layout of a cut mesh with these nodes among its first `vertices` vertices. Dart d lies in face `face_of d`.
-pub record IsLayout
+pub record IsDartLayout
     (mesh : HalfEdges) (cut : Cut) (node : ℕ → Bool) (face_of : ℕ → ℕ) (vertices : ℕ) (plan : Plan) : Type 0 where
   pub patches : IsPartition mesh cut face_of plan.patches
   pub nodes : plan.nodes ≡ filter node (range_with_len 0 vertices)

@@ -4,7 +4,7 @@ use Rattle.def_math.specs.Sums.{total_below}
 use Rattle.def_flow.specs.Admissible.{IsBalanced}
 use Rattle.def_flow.specs.Network.{Network}
 use Rattle.def_flow.specs.declared.net.Settings.{Settings}
-use Rattle.def_layout.specs.Laid.{IsLaid}
+use Rattle.def_layout.specs.Surfaces.{IsSurface}
 use Rattle.def_layout.specs.Layouts.{Way, south, east, north, west, Layout}
 use Rattle.def_layout.specs.Lengths.{Lengths}
 use Rattle.def_layoutnet.specs.LayoutNet.{IsNetOf}
@@ -23,10 +23,10 @@ pub record AreOpposite (layout : Layout) (lengths : ℕ → ℤ) : Type 0 where
 
 -- Whole numbers are balanced at the nodes of the network exactly where opposite sides are equal.
 abbrev pub BalanceLaw : Type 0
-BalanceLaw = (layout : Layout) (old : Lengths) (settings : Settings) (net : Network) → IsLaid layout
+BalanceLaw = (layout : Layout) (old : Lengths) (settings : Settings) (net : Network) → IsSurface layout
     → IsNetOf layout old settings net → (lengths : ℕ → ℤ) → IsBalanced net.arcs lengths ↔ AreOpposite layout lengths
 
 -- A layout has one network.
 abbrev pub OneNetLaw : Type 0
-OneNetLaw = (layout : Layout) (old : Lengths) (settings : Settings) → IsLaid layout → (one other : Network)
+OneNetLaw = (layout : Layout) (old : Lengths) (settings : Settings) → IsSurface layout → (one other : Network)
     → IsNetOf layout old settings one → IsNetOf layout old settings other → one ≡ other

@@ -6,7 +6,7 @@ use Rattle.def_mesh.specs.Darts.{darts}
 use Rattle.def_mesh.specs.Faces.{Faces}
 use Rattle.def_mesh.specs.Vertices.{vertex_count}
 use Rattle.def_remesh.specs.NewSoup.{new_place}
-use Rattle.def_remesh.specs.Placings.{IsLayoutIn}
+use Rattle.def_remesh.specs.Placings.{IsMeshLayout}
 use Rattle.def_text.specs.Types.{Positions}
 use Rattle.def_written.specs.Numbers.{vertices}
 use Rattle.def_written.specs.Places.{ONE}
@@ -24,7 +24,7 @@ IsSpot faces (InFace spot) = (spot.dart < darts faces) × (spot.s < ONE) × (spo
 
 -- Each new vertex lies in the old mesh, and the place that is computed from where it lies is its place.
 abbrev pub SpotLaw : Type 0
-SpotLaw = (faces : Faces) (plan : Plan) (new : Lengths) → IsLayoutIn faces plan → AreLengths (layout_of plan) new
+SpotLaw = (faces : Faces) (plan : Plan) (new : Lengths) → IsMeshLayout faces plan → AreLengths (layout_of plan) new
     → (v : ℕ) → v < vertices (layout_of plan) new
     → IsSpot faces (spot_at plan new v)
     × ((places : Positions) → spot_place faces places (spot_at plan new v) ≡ new_place faces plan places new v)

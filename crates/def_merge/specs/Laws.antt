@@ -8,7 +8,7 @@ use Rattle.def_cut.specs.FullCut.{IsFullCut, is_on}
 use Rattle.def_cut.specs.Grids.{patch_at, IsPartition, Rectangle}
 use Rattle.def_layout.specs.Arcs.{long_at}
 use Rattle.def_layout.specs.Borders.{border_dart}
-use Rattle.def_layout.specs.FaceLayouts.{IsLayoutOf}
+use Rattle.def_layout.specs.FaceLayouts.{IsCutLayout}
 use Rattle.def_layout.specs.Layouts.{Slot, use_of}
 use Rattle.def_layout.specs.Plans.{layout_of, Plan}
 use Rattle.def_merge.specs.Joins.{IsJoinable, IsOnArc, IsWithout}
@@ -45,7 +45,7 @@ MergedLaw = (faces : Faces) (marks : List Bool) → IsManifold faces → IsFullC
 -- What is joinable in a layout is joinable in its cut, at the sides where it lies.
 abbrev pub JoinableLaw : Type 0
 JoinableLaw = (faces : Faces) (marks : List Bool) (plan : Plan) → IsManifold faces → IsFullCut faces marks
-    → IsLayoutOf faces marks plan → (one other : Slot) → IsJoinableAt (layout_of plan) one other
+    → IsCutLayout faces marks plan → (one other : Slot) → IsJoinableAt (layout_of plan) one other
     → IsJoinable (half_edges faces) (is_on marks)
     (border_dart (half_edges faces) (patch_at plan.patches one.patch) one.side 0)
     (border_dart (half_edges faces) (patch_at plan.patches other.patch) other.side 0)

@@ -1,6 +1,6 @@
 -- Joinable arcs of a layout.
 use Rattle.std.specs.Prelude.{◌≡◌, ◌≢◌}
-use Rattle.def_layout.specs.Laid.{IsOtherSlot}
+use Rattle.def_layout.specs.Surfaces.{IsOtherSlot}
 use Rattle.def_layout.specs.Layouts.{IsSlot, Layout, Slot}
 
 -- One arc is the whole of a side of one patch and the whole of a side of another.

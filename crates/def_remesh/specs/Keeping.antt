@@ -6,7 +6,7 @@ use Rattle.def_flow.specs.declared.limits.TheConstants.{MAX_TANGLE}
 use Rattle.def_flow.specs.declared.net.Settings.{Settings}
 use Rattle.def_layout.specs.Plans.{Plan, layout_of}
 use Rattle.def_layoutnet.specs.LayoutNet.{IsNetOf}
-use Rattle.def_layoutnet.specs.MeshLayouts.{IsMeshLayout}
+use Rattle.def_layoutnet.specs.MeshLayouts.{IsSomeLayout}
 use Rattle.def_written.specs.Edges.{IsUndoubled}
 use Rattle.def_remesh.specs.NewPoints.{lengths_in}
 use Rattle.def_remesh.specs.Numberings.{IsNumbering}
@@ -18,7 +18,7 @@ use Rattle.def_remesh.specs.declared.tables.Tables.{Tables}
 
 -- A network of a layout with these wished lengths, within bounds and not too tangled.
 pub record IsNetFor (wish : Wish) (plan : Plan) (settings : Settings) (net : Network) : Type 0 where
-  pub mesh : IsMeshLayout plan
+  pub mesh : IsSomeLayout plan
   pub floor : 1 ≤ settings.floor
   pub is : IsNetOf (layout_of plan) (wish plan) settings net
   pub bounds : IsWithinBounds net

@@ -6,7 +6,7 @@ use Rattle.def_layout.specs.declared.tmesh.SideArc.{SideArc}
 use Rattle.def_layout.specs.Layouts.{Way}
 use Rattle.def_layout.specs.Lengths.{Lengths, wide, high, AreLengths}
 use Rattle.def_layout.specs.Plans.{Plan, layout_of, way_number, side_at}
-use Rattle.def_layoutnet.specs.MeshLayouts.{IsMeshLayout}
+use Rattle.def_layoutnet.specs.MeshLayouts.{IsSomeLayout}
 use Rattle.def_written.specs.NewFaces.{face_count}
 use Rattle.def_remesh.specs.NewPoints.{lengths_in}
 use Rattle.def_remesh.specs.declared.limits.TheConstants.{MAX_NEW_FACES}
@@ -48,7 +48,7 @@ pub record AreSideStarts (plan : Plan) (lengths : Lengths) (sides : SideTables) 
 
 -- The tables number the points and the faces of the layout of a mesh, with the lengths that they hold.
 pub record IsNumbering (plan : Plan) (tables : Tables) : Type 0 where
-  pub mesh : IsMeshLayout plan
+  pub mesh : IsSomeLayout plan
   pub long : length tables.lengths.items ≡ length plan.arcs
   pub lengths : AreLengths (layout_of plan) (lengths_in tables.lengths.items)
   pub few : face_count (layout_of plan) (lengths_in tables.lengths.items) ≤ MAX_NEW_FACES

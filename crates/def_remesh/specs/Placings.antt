@@ -6,7 +6,7 @@ use Rattle.def_layout.specs.Arcs.{long_at}
 use Rattle.def_layout.specs.Layouts.{Way, south, east, north, west, Layout}
 use Rattle.def_layout.specs.Lengths.{Lengths, size, wide, high, AreLengths}
 use Rattle.def_layout.specs.Plans.{Plan, layout_of}
-use Rattle.def_layoutnet.specs.MeshLayouts.{IsMeshLayout}
+use Rattle.def_layoutnet.specs.MeshLayouts.{IsSomeLayout}
 use Rattle.def_text.specs.Types.{Position, Positions}
 use Rattle.def_written.specs.NewFaces.{face_count}
 use Rattle.def_written.specs.Places.{parameter, parameter_back}
@@ -17,8 +17,8 @@ use Rattle.def_remesh.specs.declared.places.Rim.{Rim}
 use Rattle.def_remesh.specs.declared.places.PlaceTables.{PlaceTables}
 
 -- The layout of this mesh and some full cut of it.
-abbrev pub IsLayoutIn : (faces : Faces) (plan : Plan) → Type 0
-IsLayoutIn faces plan = (is : IsMeshLayout plan) × (is.faces ≡ faces)
+abbrev pub IsMeshLayout : (faces : Faces) (plan : Plan) → Type 0
+IsMeshLayout faces plan = (is : IsSomeLayout plan) × (is.faces ≡ faces)
 
 -- The parameter of a place of a side, from west to east or from south to north.
 abbrev pub side_parameter : (layout : Layout) (old new : Lengths) (patch : ℕ) (side : Way) (place : ℕ) → ℕ
@@ -53,7 +53,7 @@ rim_at rims patch = slice_index_or rims patch (record { wide = 0; high = 0; begi
 
 -- The tables tell the places of the points of the layout of a mesh, with the lengths that they hold.
 pub record ArePlaces (faces : Faces) (plan : Plan) (tables : PlaceTables) : Type 0 where
-  pub layout : IsLayoutIn faces plan
+  pub layout : IsMeshLayout faces plan
   pub long : length tables.lengths.items ≡ length plan.arcs
   pub lengths : AreLengths (layout_of plan) (lengths_in tables.lengths.items)
   pub few : face_count (layout_of plan) (lengths_in tables.lengths.items) ≤ MAX_NEW_FACES

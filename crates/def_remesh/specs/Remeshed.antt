@@ -5,7 +5,7 @@ use Rattle.def_flow.specs.Network.{Network, tangle_number}
 use Rattle.def_flow.specs.declared.limits.TheConstants.{MAX_TANGLE}
 use Rattle.def_flow.specs.declared.net.Settings.{Settings}
 use Rattle.def_io.specs.Bytes.{Bytes}
-use Rattle.def_layout.specs.FaceLayouts.{IsLayoutOf}
+use Rattle.def_layout.specs.FaceLayouts.{IsCutLayout}
 use Rattle.def_layout.specs.Plans.{Plan, layout_of, vertex_at}
 use Rattle.def_layoutnet.specs.LayoutNet.{IsNetOf}
 use Rattle.def_layoutnet.specs.LayoutNetLaws.{AreOpposite}
@@ -84,7 +84,7 @@ finished_text task soup plan first third =
 -- lengths are least; the text is that of the mesh with these lengths; and that mesh has the shape of the old one.
 pub record IsFinished (task : Task) (soup : FaceSet) (text : Bytes) : Type 0 where
   pub plan : Plan
-  pub cut : IsLayoutOf soup.faces task.marks plan
+  pub cut : IsCutLayout soup.faces task.marks plan
   pub first : Lists
   pub third : Option Lists
   pub lengths : AreKeptBy (HasLeastLengths task.wish plan) plan task.settings task.auto first third

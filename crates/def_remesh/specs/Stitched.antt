@@ -4,7 +4,7 @@ use Rattle.def_mesh.specs.Faces.{Faces}
 use Rattle.def_mesh.specs.Meshes.{IsMesh}
 use Rattle.def_cut.specs.FullCut.{IsFullCut}
 use Rattle.def_layout.specs.Arcs.{long_at}
-use Rattle.def_layout.specs.FaceLayouts.{IsLayoutOf}
+use Rattle.def_layout.specs.FaceLayouts.{IsCutLayout}
 use Rattle.def_layout.specs.Layouts.{Layout}
 use Rattle.def_layout.specs.Lengths.{Lengths}
 use Rattle.def_layout.specs.Plans.{Plan, layout_of, vertex_at}
@@ -44,7 +44,7 @@ AreSafe plan lengths = AreLong plan lengths ⊎ AreMultiples plan lengths
 -- The new faces have the shape of each mesh that has this layout.
 abbrev pub KeepsShapes : (plan : Plan) (lengths : Lengths) → Type 0
 KeepsShapes plan lengths = (faces : Faces) (marks : List Bool) → IsMesh faces → AreQuads faces → IsFullCut faces marks
-    → IsLayoutOf faces marks plan
+    → IsCutLayout faces marks plan
     → KeepsShape faces (new_faces (layout_of plan) lengths) (length plan.nodes) (vertex_at plan)
 
 -- The new mesh of a layout with lengths.

@@ -21,7 +21,7 @@ use Rattle.def_written.specs.Edges.{IsUndoubled}
 use Rattle.def_remesh.specs.Refusals.{IsLayoutFail, IsRemeshable}
 use Rattle.def_remesh.specs.declared.kept.LayoutFail.{LayoutFail}
 use Rattle.def_remesh.specs.declared.kept.LayoutFail.TheVariants as layout_fail
-use Rattle.def_run.specs.Remesh.{IsCutTo, RefusesLayout}
+use Rattle.def_run.specs.Remesh.{IsTracedLayout, RefusesLayout}
 use Rattle.def_run.specs.declared.answer.Answer.{Answer}
 use Rattle.def_run.specs.declared.answer.Answer.TheVariants.{NotManifold}
 use Rattle.def_remesh.specs.Tasks.{old_lengths}
@@ -51,7 +51,7 @@ counts_of faces plan deviation = record {
 pub record WritesBench (size : ℕ) (text : Bytes) : Type 0 where
   pub manifold : IsManifold (bench_faces size)
   pub plan : Plan
-  pub cut : IsCutTo (bench_faces size) plan
+  pub cut : IsTracedLayout (bench_faces size) plan
   pub cert : Lists
   pub certified : IsCertified old_lengths plan bench_settings cert
   pub coarse : AreCoarse plan cert.x
@@ -64,16 +64,16 @@ abbrev pub RefusesToBench : (size : ℕ) (answer : Answer) → Type 0
 RefusesToBench size (NotManifold place) =
     IsFirstFault (bench_faces size) place × (¬ IsManifold (bench_faces size))
 RefusesToBench size answer =
-    (plan : Plan) × IsCutTo (bench_faces size) plan × RefusesLayout old_lengths plan bench_settings false answer
+    (plan : Plan) × IsTracedLayout (bench_faces size) plan × RefusesLayout old_lengths plan bench_settings false answer
 
 -- Why the mesh of a size is not remeshed. Want of memory says nothing of it.
 abbrev pub IsBenchFail : (size : ℕ) (failed : LayoutFail) → Type 0
 IsBenchFail size layout_fail.Memory = ⊤
 IsBenchFail size failed =
-    (plan : Plan) × IsCutTo (bench_faces size) plan × IsLayoutFail old_lengths plan bench_settings false failed
+    (plan : Plan) × IsTracedLayout (bench_faces size) plan × IsLayoutFail old_lengths plan bench_settings false failed
 
 -- The mesh of this size is remeshed whatever least lists are kept.
 pub record HasBench (size : ℕ) : Type 0 where
   pub manifold : IsManifold (bench_faces size)
-  pub fits : (plan : Plan) → IsCutTo (bench_faces size) plan
+  pub fits : (plan : Plan) → IsTracedLayout (bench_faces size) plan
       → IsRemeshable old_lengths plan bench_settings false

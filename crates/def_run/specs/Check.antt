@@ -24,7 +24,7 @@ use Rattle.def_text.specs.declared.refusal.ObjFail.{ObjFail}
 use Rattle.def_text.specs.declared.refusal.ObjFail.TheVariants as obj_fail
 use Rattle.def_written.specs.NewFaces.{face_count}
 use Rattle.def_run.specs.Judging.{IsReason, Judged}
-use Rattle.def_run.specs.Remesh.{IsCutTo}
+use Rattle.def_run.specs.Remesh.{IsTracedLayout}
 use Rattle.def_run.specs.declared.answer.Answer.{Answer}
 use Rattle.def_run.specs.declared.answer.Answer.TheVariants.{NotAccepted, Syntax, NotQuad, Range, Limit, NotManifold}
 use Rattle.def_run.specs.declared.answer.Answer.TheVariants.{Tangled}
@@ -92,7 +92,7 @@ pub record IsAsked (bytes : Bytes) : Type 0 where
   pub auto : Bool
   pub head : IsHead (head_of bytes line) settings auto
   pub plan : Plan
-  pub cut : IsCutTo soup.faces plan
+  pub cut : IsTracedLayout soup.faces plan
 
 -- The text behind its head line, which is judged as that of a remesh of its mesh.
 abbrev pub judged_of : (bytes : Bytes) (asked : IsAsked bytes) → Judged

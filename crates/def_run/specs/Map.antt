@@ -19,7 +19,7 @@ use Rattle.def_run.specs.Judging.{DifferFrom, IsReason, Judged}
 use Rattle.def_run.specs.MarkLines.{front_of, HasNoMark, IsLastMark, IsMarkLine}
 use Rattle.def_run.specs.Mesh.{IsMeshText, IsNoMesh}
 use Rattle.def_run.specs.Refine.{RefusesToRefine, WritesRefined}
-use Rattle.def_run.specs.Remesh.{Asks, AsksToRemesh, HasCut, HasTask, RefusesTask, WritesFinished}
+use Rattle.def_run.specs.Remesh.{Asks, AsksToRemesh, HasTracedLayout, HasTask, RefusesTask, WritesFinished}
 use Rattle.def_run.specs.Size.{AsksForNearSize, RefusesSize}
 use Rattle.def_run.specs.declared.answer.Answer.{Answer}
 use Rattle.def_run.specs.declared.answer.Answer.TheVariants.{NotAccepted, TooFine, Doubled}
@@ -123,7 +123,7 @@ IsNotRefined by soup plan text _ = ⊥
 -- The bytes from the line on are no text that `refine` writes for those before it.
 pub record IsUnrefined (by : ℕ) (front text : Bytes) (why : Why) : Type 0 where
   pub plan : Plan
-  pub mesh : HasCut front plan
+  pub mesh : HasTracedLayout front plan
   pub reason : IsNotRefined by mesh.soup plan text why
 
 -- They are no text of a task that is asked for.

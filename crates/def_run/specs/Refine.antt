@@ -12,7 +12,7 @@ use Rattle.def_text.specs.FaceSet.{FaceSet}
 use Rattle.def_written.specs.NewFaces.{new_faces}
 use Rattle.def_written.specs.Shape.{KeepsShape}
 use Rattle.def_run.specs.Mesh.{IsMeshText, IsNoMesh}
-use Rattle.def_run.specs.Remesh.{HasCut, IsCutTo}
+use Rattle.def_run.specs.Remesh.{HasTracedLayout, IsTracedLayout}
 use Rattle.def_run.specs.declared.answer.Answer.{Answer}
 use Rattle.def_run.specs.declared.answer.Answer.TheVariants.{TooFine}
 
@@ -20,7 +20,7 @@ use Rattle.def_run.specs.declared.answer.Answer.TheVariants.{TooFine}
 -- the mesh with `by` times the old lengths of the layout; and that mesh has the shape of the old one.
 pub record IsRefined (by : ℕ) (soup : FaceSet) (text : Bytes) : Type 0 where
   pub plan : Plan
-  pub cut : IsCutTo soup.faces plan
+  pub cut : IsTracedLayout soup.faces plan
   pub fits : refined_faces by plan ≤ MAX_NEW_FACES
   pub written : text ≡ refined_text by soup plan
   pub shape : KeepsShape soup.faces (new_faces (layout_of plan) (multiple_of by (long_at plan.arcs)))
@@ -45,11 +45,12 @@ pub record IsTooFineBy (by : ℕ) (plan : Plan) (faces : ℕ) (kept : Kept) : Ty
 
 -- It refuses these bytes with this answer: they have no mesh, or the new mesh would have too many faces.
 abbrev pub RefusesToRefine : (by : ℕ) (bytes : Bytes) (answer : Answer) → Type 0
-RefusesToRefine by bytes (TooFine faces kept) = (plan : Plan) × HasCut bytes plan × IsTooFineBy by plan faces kept
+RefusesToRefine by bytes (TooFine faces kept) =
+    (plan : Plan) × HasTracedLayout bytes plan × IsTooFineBy by plan faces kept
 RefusesToRefine by bytes answer = IsNoMesh bytes answer
 
 -- The bytes have a mesh whose refinement has no more faces than a new mesh may have.
 pub record HasRefined (by : ℕ) (bytes : Bytes) : Type 0 where
   pub soup : FaceSet
   pub mesh : IsMeshText bytes soup
-  pub fits : (plan : Plan) → HasCut bytes plan → refined_faces by plan ≤ MAX_NEW_FACES
+  pub fits : (plan : Plan) → HasTracedLayout bytes plan → refined_faces by plan ≤ MAX_NEW_FACES

@@ -3,7 +3,7 @@ use Rattle.std.specs.Prelude.{◌≡◌, ◌≤◌, ◌⊎◌, ℕ, Bool, Some, 
 use Rattle.def_cut.specs.Traced.{traced_marks}
 use Rattle.def_flow.specs.declared.net.Settings.{Settings}
 use Rattle.def_io.specs.Bytes.{Bytes, Told}
-use Rattle.def_layout.specs.FaceLayouts.{IsLayoutOf}
+use Rattle.def_layout.specs.FaceLayouts.{IsCutLayout}
 use Rattle.def_layout.specs.Plans.{Plan}
 use Rattle.def_mesh.specs.Faces.{Faces}
 use Rattle.def_remesh.specs.Refusals.{IsDoubledBy, IsFineBy, IsRemeshable, IsTangledAt}
@@ -16,14 +16,14 @@ use Rattle.def_run.specs.declared.answer.Answer.{Answer}
 use Rattle.def_run.specs.declared.answer.Answer.TheVariants.{Done, Tangled, TooFine, Doubled}
 
 -- The layout that the motorcycle graph of these faces cuts.
-abbrev pub IsCutTo : (faces : Faces) (plan : Plan) → Type 0
-IsCutTo faces plan = IsLayoutOf faces (traced_marks faces) plan
+abbrev pub IsTracedLayout : (faces : Faces) (plan : Plan) → Type 0
+IsTracedLayout faces plan = IsCutLayout faces (traced_marks faces) plan
 
 -- The bytes have a mesh that is cut to this layout.
-pub record HasCut (bytes : Bytes) (plan : Plan) : Type 0 where
+pub record HasTracedLayout (bytes : Bytes) (plan : Plan) : Type 0 where
   pub soup : FaceSet
   pub mesh : IsMeshText bytes soup
-  pub cut : IsCutTo soup.faces plan
+  pub cut : IsTracedLayout soup.faces plan
 
 -- What a command asks for of bytes that have a soup.
 abbrev pub Asks : Type 1
@@ -46,7 +46,7 @@ pub record HasTask (asks : Asks) (bytes : Bytes) (task : Task) (plan : Plan) : T
   pub soup : FaceSet
   pub mesh : IsMeshText bytes soup
   pub asked : asks bytes soup task
-  pub cut : IsLayoutOf soup.faces task.marks plan
+  pub cut : IsCutLayout soup.faces task.marks plan
 
 -- Why a layout is not remeshed: its network is too tangled, or the kept lengths give too many faces or double an edge.
 abbrev pub RefusesLayout :

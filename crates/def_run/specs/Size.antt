@@ -9,7 +9,7 @@ use Rattle.def_remesh.specs.Tasks.{Task, Wish}
 use Rattle.def_text.specs.Canonical.{micro_text}
 use Rattle.def_text.specs.FaceSet.{FaceSet}
 use Rattle.def_run.specs.Mesh.{IsMeshText}
-use Rattle.def_run.specs.Remesh.{Asks, HasFinished, HoldsUntangled, IsCutTo, RefusesTask}
+use Rattle.def_run.specs.Remesh.{Asks, HasFinished, HoldsUntangled, IsTracedLayout, RefusesTask}
 use Rattle.def_run.specs.declared.answer.Answer.{Answer}
 use Rattle.def_run.specs.declared.answer.Answer.TheVariants.{Tangled, Far}
 
@@ -37,7 +37,7 @@ AsksForSize edge floor bytes soup task = task ≡ size_task edge floor soup
 
 -- The targets of the layout of the motorcycle graph add up to no more than the limit.
 abbrev pub HasNearTargets : (edge : ℤ) (soup : FaceSet) → Type 0
-HasNearTargets edge soup = (plan : Plan) → IsCutTo soup.faces plan → AreNear (soup_targets edge soup) plan
+HasNearTargets edge soup = (plan : Plan) → IsTracedLayout soup.faces plan → AreNear (soup_targets edge soup) plan
 
 -- The task is asked where they do.
 abbrev pub AsksForNearSize : (edge : ℤ) (floor : ℕ) → Asks
@@ -48,7 +48,7 @@ pub record IsFarText (edge : ℤ) (floor : ℕ) (bytes : Bytes) (sum : ℕ) : Ty
   pub soup : FaceSet
   pub mesh : IsMeshText bytes soup
   pub plan : Plan
-  pub cut : IsCutTo soup.faces plan
+  pub cut : IsTracedLayout soup.faces plan
   pub far : IsFar (soup_targets edge soup) plan floor sum
 
 -- The answer with which it refuses bytes. A network that is too tangled comes before targets that are too great, and

@@ -8,7 +8,7 @@ use Rattle.def_remesh.specs.Tasks.{old_lengths}
 use Rattle.def_run.specs.Bench.{bench_faces, bench_settings}
 use Rattle.def_run.specs.Coarse.{AsksToMerge}
 use Rattle.def_run.specs.Crease.{HoldsMarked}
-use Rattle.def_run.specs.Remesh.{AsksToRemesh, HoldsUntangled, IsCutTo}
+use Rattle.def_run.specs.Remesh.{AsksToRemesh, HoldsUntangled, IsTracedLayout}
 use Rattle.def_run.specs.Size.{HoldsSize}
 use Rattle.def_run.specs.declared.command.Command.{Command}
 use Rattle.def_run.specs.declared.command.Command.TheVariants.{Remesh, Bench, Crease, Size, Coarse}
@@ -16,7 +16,7 @@ use Rattle.def_run.specs.declared.command.Command.TheVariants.{Remesh, Bench, Cr
 -- The mesh of this size has a network that is not too tangled.
 pub record IsUntangledBench (size : ℕ) : Type 0 where
   pub manifold : IsManifold (bench_faces size)
-  pub untangled : (plan : Plan) → IsCutTo (bench_faces size) plan → (count : ℕ)
+  pub untangled : (plan : Plan) → IsTracedLayout (bench_faces size) plan → (count : ℕ)
       → ¬ IsTangledAt old_lengths plan bench_settings count
 
 -- A source that holds what a command solves, with a network that is not too tangled.

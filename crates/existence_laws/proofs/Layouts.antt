@@ -5,7 +5,7 @@ use Rattle.def_cut.specs.FullCut.{is_on, IsFullCut}
 use Rattle.def_cut.specs.Grids.{IsPartition, Rectangle}
 use Rattle.def_cut.specs.Traced.{traced_marks}
 use Rattle.def_layout.specs.Arcs.{Path}
-use Rattle.def_layout.specs.FaceLayouts.{IsLayoutOf}
+use Rattle.def_layout.specs.FaceLayouts.{IsCutLayout}
 use Rattle.def_layout.specs.Nodes.{is_node}
 use Rattle.def_layout.specs.Plans.{Plan}
 use Rattle.def_layout.specs.declared.tmesh.SideArc.{SideArc}
@@ -38,13 +38,13 @@ module _ (faces : Faces) (marks : List Bool) (mesh : IsMesh faces) (full : IsFul
   with_sides : (ps : List Rectangle) (parts : IsPartition (half_edges faces) (is_on marks) (λ d. d / 4) ps) (arcs : List Path)
       (below : AreArcsBelow faces marks (node_list faces marks nodes marked) (darts faces) arcs)
       (uses : List SideArc) (table : HasUsesBelow faces arcs (length arcs) uses)
-      → (sides : List (List (List SideArc))) × AreAllFour faces arcs uses ps sides → (plan : Plan) × IsLayoutOf faces marks plan
+      → (sides : List (List (List SideArc))) × AreAllFour faces arcs uses ps sides → (plan : Plan) × IsCutLayout faces marks plan
   with_sides ps parts arcs below uses table (sides, all) = (
     record { nodes = node_list faces marks nodes marked; arcs = arcs; patches = ps; sides = sides },
     is_layout faces marks nodes marked (darts faces) (omega arith) (node_list faces marks nodes marked) arcs uses ps (λ d. d / 4) parts below table sides all refl,
   )
 
-  exists : (plan : Plan) × IsLayoutOf faces marks plan
+  exists : (plan : Plan) × IsCutLayout faces marks plan
   exists =
       let ps = patches_exist faces marks (to_cutting faces marks mesh full) in
       let arcs = arcs_exist faces marks nodes marked ps.0 ps.1 in

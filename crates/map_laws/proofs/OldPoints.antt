@@ -6,14 +6,14 @@ use Rattle.def_mesh.specs.Vertices.{vertex_count}
 use Rattle.def_cut.specs.Grids.{cell_of, patch_at}
 use Rattle.def_layout.specs.Arcs.{dart_at, long_at}
 use Rattle.def_layout.specs.Cells.{CellDart, IsDart, dart, next, slot_dart}
-use Rattle.def_layout.specs.Laid.{IsLaid}
+use Rattle.def_layout.specs.Surfaces.{IsSurface}
 use Rattle.def_layout.specs.Layouts.{Way, south, east, north, west, Layout, Slot, IsSlot, use_of, start_node}
 use Rattle.def_layout.specs.Lengths.{Lengths, wide, high, AreLengths}
 use Rattle.def_layout.specs.Plans.{Plan, layout_of, vertex_at}
-use Rattle.def_layout.specs.Sided.{IsSided}
+use Rattle.def_layout.specs.Embeddings.{IsEmbedding}
 use Rattle.def_layout.specs.declared.tmesh.SideArc.{SideArc}
-use Rattle.def_layoutnet.specs.MeshLayouts.{IsMeshLayout}
-use Rattle.def_written.specs.Laws.{LiesIn}
+use Rattle.def_layoutnet.specs.MeshLayouts.{IsSomeLayout}
+use Rattle.def_written.specs.Laws.{LiesInMesh}
 use Rattle.def_written.specs.NewFaces.{dart_start}
 use Rattle.def_written.specs.Points.{Point, node, along, inside, IsPoint, arc_point, use_point, point}
 use Rattle.def_remesh.specs.NewPoints.{old_vertex}
@@ -29,27 +29,27 @@ use Rattle.written_laws.proofs.OldModel.{old_model}
 use Rattle.written_laws.proofs.Sided.{starts}
 use Rattle.written_laws.proofs.Sides.{use_begins, use_some, arc_inner}
 
-module _ (plan : Plan) (is : IsMeshLayout plan) where
+module _ (plan : Plan) (is : IsSomeLayout plan) where
   abbrev l : Layout
   l = layout_of plan
 
   abbrev x : Lengths
   x = long_at plan.arcs
 
-  laid : IsLaid (layout_of plan)
+  laid : IsSurface (layout_of plan)
   laid = laid_of plan is
 
   len : AreLengths (layout_of plan) (long_at plan.arcs)
   len = lengths_of plan is
 
-  in_mesh : LiesIn is.faces (layout_of plan) (long_at plan.arcs) (vertex_at plan)
+  in_mesh : LiesInMesh is.faces (layout_of plan) (long_at plan.arcs) (vertex_at plan)
   in_mesh = lies plan is
 
   -- The dart of the mesh for a dart of a cell.
   abbrev cell : (d : CellDart) → ℕ
   cell = cell_dart (half_edges is.faces) plan
 
-  sided : IsSided (half_edges is.faces) (layout_of plan) (long_at plan.arcs) (cell_dart (half_edges is.faces) plan) (vertex_at plan) (dart_at plan.arcs)
+  sided : IsEmbedding (half_edges is.faces) (layout_of plan) (long_at plan.arcs) (cell_dart (half_edges is.faces) plan) (vertex_at plan) (dart_at plan.arcs)
   sided = sides_in_mesh is.faces is.marks plan is.mesh is.quads is.cut is.laid
 
   next_cell : (d : CellDart) → cell (next d) ≡ next_of (cell d)

@@ -3,7 +3,7 @@ use Rattle.std.proofs.Common.{◌≡◌, ℕ, zero, suc, ◌+◌, ◌-◌, ◌*�
 use Rattle.std.proofs.Math.Nat.{div-lt_iff_lt-mul, mul_comm}
 use Rattle.std.proofs.lemmas.Bool.{cases_eq, cases_lt}
 use Rattle.std.proofs.lemmas.Nat.{div-mul-add, mul-le}
-use Rattle.def_layout.specs.Laid.{IsLaid}
+use Rattle.def_layout.specs.Surfaces.{IsSurface}
 use Rattle.def_layout.specs.Layouts.{Way, south, east, north, west, Layout}
 use Rattle.def_layout.specs.Lengths.{Lengths, reach, size, wide, high, AreLengths}
 use Rattle.def_written.specs.Places.{ONE, arc_parameter, parameter, parameter_back, parameter_u, parameter_v, rest_at}
@@ -32,7 +32,7 @@ mean_less a b m h j some le a_low b_low =
     by_parts : (k : ℕ) → (a + 1) * k ≤ m * k → (b + 1) * j ≤ m * j → m * (k + j) ≡ m * h → k + j ≡ h → a * k + b * j < m * h
     by_parts k a_le b_le same whole = omega (arith, a_le, b_le, same, whole, some)
 
-module _ (l : Layout) (old new : Lengths) (laid : IsLaid l) (o_len : AreLengths l old) (n_len : AreLengths l new) where
+module _ (l : Layout) (old new : Lengths) (laid : IsSurface l) (o_len : AreLengths l old) (n_len : AreLengths l new) where
   -- At the end of an arc the parameter is its old length.
   arc_whole : (a : ℕ) → a < l.arcs → arc_parameter old new a (new a) ≡ ONE * old a
   arc_whole a low =

@@ -7,7 +7,7 @@ use Rattle.def_layout.specs.Arcs.{dart_at, long_at}
 use Rattle.def_layout.specs.Layouts.{Layout}
 use Rattle.def_layout.specs.Lengths.{Lengths, wide, high, AreLengths}
 use Rattle.def_layout.specs.Plans.{Plan, layout_of}
-use Rattle.def_layoutnet.specs.MeshLayouts.{IsMeshLayout}
+use Rattle.def_layoutnet.specs.MeshLayouts.{IsSomeLayout}
 use Rattle.def_mesh.specs.Faces.{Faces}
 use Rattle.def_text.specs.Types.{Positions}
 use Rattle.def_written.specs.Places.{blend, cell_at, on_the_way, parameter_u, parameter_v, rest_at}
@@ -24,7 +24,7 @@ use Rattle.plan_laws.proofs.MeshLayouts.{laid_of, lengths_of}
 use Rattle.written_laws.proofs.Grid.{wide_some, high_some}
 
 -- A place before the end of an arc lies on one of its darts.
-pub dart_low : (plan : Plan) → IsMeshLayout plan → (arc k parts : ℕ) → arc < length plan.arcs → k < parts → k * long_at plan.arcs arc / parts < long_at plan.arcs arc
+pub dart_low : (plan : Plan) → IsSomeLayout plan → (arc k parts : ℕ) → arc < length plan.arcs → k < parts → k * long_at plan.arcs arc / parts < long_at plan.arcs arc
 dart_low plan is arc k parts low less =
     (div-lt_iff_lt-mul {k = parts} {x = k * long_at plan.arcs arc} {y = long_at plan.arcs arc} (omega (arith, less))).1
     (by_parts (long_at plan.arcs arc) ((lengths_of plan is).some arc low))
@@ -40,7 +40,7 @@ pub record IsSpotOf (faces : Faces) (plan : Plan) (new : Lengths) (point : Point
   pub place : (places : Positions)
       → spot_place faces places (spot_of plan new point) ≡ on_axes (new_coordinate faces plan places new point)
 
-module _ (plan : Plan) (is : IsMeshLayout plan) (new : Lengths) (len : AreLengths (layout_of plan) new) where
+module _ (plan : Plan) (is : IsSomeLayout plan) (new : Lengths) (len : AreLengths (layout_of plan) new) where
   abbrev l : Layout
   l = layout_of plan
 

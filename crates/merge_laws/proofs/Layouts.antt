@@ -13,7 +13,7 @@ use Rattle.def_layout.specs.Borders.{side_size, border_dart}
 use Rattle.def_layout.specs.Layouts.{Way, south, east, north, west, Slot, IsSlot, use_of}
 use Rattle.def_layout.specs.Lengths.{reach}
 use Rattle.def_layout.specs.Nodes.{is_node}
-use Rattle.def_layout.specs.Plans.{Plan, layout_of, IsLayout}
+use Rattle.def_layout.specs.Plans.{Plan, layout_of, IsDartLayout}
 use Rattle.mesh_laws.proofs.HalfEdges.{manifold_law}
 use Rattle.face_laws.proofs.FullCuts.{full_cut_law}
 use Rattle.merge_laws.proofs.Sides.{south_side, east_side, north_side, west_side, along_south, along_east, along_north, along_west}
@@ -69,7 +69,7 @@ module _ (mesh : HalfEdges) (laws : IsQuadManifold mesh) (cut : Cut) (full : IsC
     inside = λ k l. (3, record { a = 0; b = p.h - 1 - k; a_low = grid.wide; b_low = omega arith; is = prev_three mesh laws (cell_of p 0 (p.h - 1 - k)) });
   }
 
-module _ (mesh : HalfEdges) (laws : IsQuadManifold mesh) (cut : Cut) (full : IsCut mesh cut) (node : ℕ → Bool) (face : ℕ → ℕ) (vertices : ℕ) (plan : Plan) (lay : IsLayout mesh cut node face vertices plan) where
+module _ (mesh : HalfEdges) (laws : IsQuadManifold mesh) (cut : Cut) (full : IsCut mesh cut) (node : ℕ → Bool) (face : ℕ → ℕ) (vertices : ℕ) (plan : Plan) (lay : IsDartLayout mesh cut node face vertices plan) where
   abbrev arc_of : (slot : Slot) → ℕ
   arc_of slot = (use_of (layout_of plan) slot).arc
 

@@ -2,7 +2,7 @@
 
 ghost use Rattle.std.specs.Prelude.{IfOk, IfSome};
 ghost use Rattle.def_layout.specs.Plans.{plan};
-ghost use Rattle.def_layoutnet.specs.MeshLayouts.{IsMeshLayout};
+ghost use Rattle.def_layoutnet.specs.MeshLayouts.{IsSomeLayout};
 
 use def_layout::TMesh;
 use def_text::MAX_BYTES;
@@ -25,7 +25,7 @@ pub(crate) fn read_layout<S: Source>(
     alloc: Global,
     input: &mut S,
 ) -> Result<Option<TMesh>, AllocError>
-    ensures { IfOk result (λ found. IfSome found (λ t. IsMeshLayout (plan t))) }
+    ensures { IfOk result (λ found. IfSome found (λ t. IsSomeLayout (plan t))) }
 {
     let Some(mesh) = read_mesh(alloc, input)? else {
         return Ok(None);

@@ -3,7 +3,7 @@
 ghost use Rattle.std.specs.Prelude.{◌≡◌, ◌<◌, ◌≤◌, ℕ, length, true};
 ghost use Rattle.def_flow.specs.declared.limits.TheConstants.{MAX_LENGTH};
 ghost use Rattle.def_layout.specs.Plans.{layout_of, plan};
-ghost use Rattle.def_layoutnet.specs.MeshLayouts.{IsMeshLayout};
+ghost use Rattle.def_layoutnet.specs.MeshLayouts.{IsSomeLayout};
 ghost use Rattle.def_remesh.specs.NewPoints.{lengths_in};
 ghost use Rattle.mesh_tests.specs.Fits.{AreEven, FitsLayout};
 
@@ -13,7 +13,7 @@ use qm_reach::size_on;
 
 /// Whether these are lengths of a layout: one for each arc, from 1 to the limit, with equal sums on opposite sides.
 pub(crate) fn are_lengths(t: &TMesh, lengths: &[u64]) -> bool
-    requires { IsMeshLayout (plan t.now) }
+    requires { IsSomeLayout (plan t.now) }
     ensures { result ≡ true → FitsLayout (plan t.now) lengths.now }
 {
     lengths.len() == t.arcs.len() && are_short(lengths) && are_even(t, lengths)
@@ -34,7 +34,7 @@ fn are_short(lengths: &[u64]) -> bool
 
 /// Whether opposite sides of each patch have equal sums.
 fn are_even(t: &TMesh, lengths: &[u64]) -> bool
-    requires layout { IsMeshLayout (plan t.now) }
+    requires layout { IsSomeLayout (plan t.now) }
     requires long { length lengths.now ≡ length t.now.arcs.items }
     requires bounded { (arc : ℕ) → lengths_in lengths.now arc ≤ MAX_LENGTH }
     ensures { result ≡ true → (patch : ℕ) → patch < length t.now.patches.items
@@ -50,7 +50,7 @@ fn are_even(t: &TMesh, lengths: &[u64]) -> bool
 
 /// Whether opposite sides of a patch have equal sums.
 fn is_even(t: &TMesh, patch: usize, lengths: &[u64]) -> bool
-    requires layout { IsMeshLayout (plan t.now) }
+    requires layout { IsSomeLayout (plan t.now) }
     requires patch { patch < length t.now.patches.items }
     requires long { length lengths.now ≡ length t.now.arcs.items }
     requires bounded { (arc : ℕ) → lengths_in lengths.now arc ≤ MAX_LENGTH }

@@ -3,7 +3,7 @@
 ghost use Rattle.std.specs.Prelude.{◌≡◌, length};
 ghost use Rattle.def_layout.specs.Plans.{plan as plan_of};
 ghost use Rattle.def_mesh.specs.Vertices.{vertex_count};
-ghost use Rattle.def_remesh.specs.Placings.{IsLayoutIn};
+ghost use Rattle.def_remesh.specs.Placings.{IsMeshLayout};
 ghost use Rattle.mesh_tests.specs.Fits.{FitsLayout};
 
 use crate::lengths::are_lengths;
@@ -50,7 +50,7 @@ fn places_of(
     pos: &[[Micro; 3]],
     lengths: &[u64],
 ) -> Result<Vec<[Micro; 3]>, StitchFail>
-    requires layout { IsLayoutIn mesh.now (plan_of t.now) }
+    requires layout { IsMeshLayout mesh.now (plan_of t.now) }
     requires positions { length pos.now ≡ vertex_count mesh.now }
     requires fits { FitsLayout (plan_of t.now) lengths.now }
 {

@@ -4,11 +4,11 @@ use Rattle.std.proofs.lemmas.Nat.{mul-le}
 use Rattle.def_math.specs.Counts.{count_below}
 use Rattle.def_layout.specs.Arcs.{long_at}
 use Rattle.def_layout.specs.Cells.{CellDart, IsDart}
-use Rattle.def_layout.specs.Laid.{IsLaid}
+use Rattle.def_layout.specs.Surfaces.{IsSurface}
 use Rattle.def_layout.specs.Layouts.{Way, south, east, north, west, Layout}
 use Rattle.def_layout.specs.Lengths.{Lengths, size, wide, high, AreLengths}
 use Rattle.def_layout.specs.Plans.{Plan, layout_of, vertex_at}
-use Rattle.def_layoutnet.specs.MeshLayouts.{IsMeshLayout}
+use Rattle.def_layoutnet.specs.MeshLayouts.{IsSomeLayout}
 use Rattle.def_written.specs.Points.{Point, IsPoint}
 use Rattle.def_written.specs.Numbers.{vertex_number, vertices}
 use Rattle.def_written.specs.NewFaces.{dart_start, cells_before, face_count}
@@ -23,7 +23,7 @@ use Rattle.written_laws.proofs.ModelCounts.{faces_are}
 use Rattle.written_laws.proofs.NewDarts.{dart_number, dart_low, dart_same, faces_long}
 use Rattle.written_laws.proofs.OldModel.{old_model}
 
-module _ (l : Layout) (x : Lengths) (laid : IsLaid l) (len : AreLengths l x) where
+module _ (l : Layout) (x : Lengths) (laid : IsSurface l) (len : AreLengths l x) where
   -- Each point is left by a dart, so that there are no more points than darts.
   pub vertices_few : vertices l x ≤ 4 * face_count l x
   vertices_few =
@@ -76,7 +76,7 @@ module _ (l : Layout) (x : Lengths) (laid : IsLaid l) (len : AreLengths l x) whe
   side_few p west low = high_few p low
 
 -- Lengths of at most k make a layout no larger than k times the old lengths do.
-module _ (l : Layout) (old x : Lengths) (k : ℕ) (laid : IsLaid l) (len : AreLengths l old) (most : (a : ℕ) → x a ≤ k) where
+module _ (l : Layout) (old x : Lengths) (k : ℕ) (laid : IsSurface l) (len : AreLengths l old) (most : (a : ℕ) → x a ≤ k) where
   pub side_most : (p : ℕ) (s : Way) → p < l.patches → size l x p s ≤ k * size l old p s
   side_most p s low =
       let each : count_below (λ m. x (l.use_at p s m).arc) (l.many p s) ≤ count_below (λ m. k * old (l.use_at p s m).arc) (l.many p s) =
@@ -108,7 +108,7 @@ module _ (l : Layout) (old x : Lengths) (k : ℕ) (laid : IsLaid l) (len : AreLe
           by_parts w h most_of = grind (arith, most_of)
 
 -- The old lengths make as many cells as the mesh has faces.
-pub old_faces : (plan : Plan) (is : IsMeshLayout plan) → face_count (layout_of plan) (long_at plan.arcs) ≤ 2 ^ 21
+pub old_faces : (plan : Plan) (is : IsSomeLayout plan) → face_count (layout_of plan) (long_at plan.arcs) ≤ 2 ^ 21
 old_faces plan is =
     let m = lies plan is in
     omega (

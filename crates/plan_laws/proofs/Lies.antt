@@ -8,14 +8,14 @@ use Rattle.def_cut.specs.Grids.{cell_of, patch_at, IsGrid, IsSide}
 use Rattle.def_cut.specs.Steps.{spin}
 use Rattle.def_layout.specs.declared.tmesh.SideArc.{SideArc}
 use Rattle.def_layout.specs.Layouts.{Way, south, east, north, west, Layout, Slot, IsSlot, use_of, start_node}
-use Rattle.def_layout.specs.Laid.{IsPaved, IsOtherSlot}
+use Rattle.def_layout.specs.Surfaces.{HasWholeSides, IsOtherSlot}
 use Rattle.def_layout.specs.Lengths.{reach, size, wide, high, AreLengths}
 use Rattle.def_layout.specs.Cells.{CellDart, IsDart, dart, dart_along, slot_dart}
-use Rattle.def_layout.specs.Sided.{IsSided}
+use Rattle.def_layout.specs.Embeddings.{IsEmbedding}
 use Rattle.def_layout.specs.Arcs.{end_vertex, IsRun, LiesAt, path_at, dart_at, long_at}
 use Rattle.def_layout.specs.Borders.{side_size, border_dart}
 use Rattle.def_layout.specs.Nodes.{AreNodes}
-use Rattle.def_layout.specs.Plans.{Plan, way_number, vertex_at, layout_of, IsLayout}
+use Rattle.def_layout.specs.Plans.{Plan, way_number, vertex_at, layout_of, IsDartLayout}
 use Rattle.list_laws.proofs.Filters.{IsKept, kept_at, rises}
 use Rattle.layout_laws.proofs.Runs.{run_inner}
 use Rattle.layout_laws.proofs.Borders.{IsLine, line, on_side, line_from}
@@ -28,7 +28,7 @@ abbrev pub cell_dart : (m : HalfEdges) (plan : Plan) (d : CellDart) → ℕ
 cell_dart m plan d = spin m (way_number d.way) (cell_of (patch_at plan.patches d.patch) d.i d.j)
 
 module _ (m : HalfEdges) (laws : IsQuadManifold m) (cut : Cut) (full : IsCut m cut) (node : ℕ → Bool) (nodes : AreNodes m cut node)
-    (face : ℕ → ℕ) (v_count : ℕ) (t : Plan) (lay : IsLayout m cut node face v_count t) where
+    (face : ℕ → ℕ) (v_count : ℕ) (t : Plan) (lay : IsDartLayout m cut node face v_count t) where
   abbrev l : Layout
   l = layout_of t
 
@@ -38,7 +38,7 @@ module _ (m : HalfEdges) (laws : IsQuadManifold m) (cut : Cut) (full : IsCut m c
   arc_run : (a : ℕ) → a < length t.arcs → IsRun m cut node (dart_at t.arcs a 0) (long_at t.arcs a)
   arc_run a low = (lay.arcs.each a low).run
 
-  pub paved : IsPaved l
+  pub paved : HasWholeSides l
   paved = record { sides_full = full_sides; arc_low = lay.uses; first_low = lay.first_low; last_low = lay.last_low }
     where
       some : (p : ℕ) (s : Way) → p < length t.patches → 0 < side_size (patch_at t.patches p) s
@@ -337,7 +337,7 @@ module _ (m : HalfEdges) (laws : IsQuadManifold m) (cut : Cut) (full : IsCut m c
 
   -- All that a layout needs of its mesh, where an edge of the cut ends at each node.
   pub sided : ((n : ℕ) → n < l.nodes → (e : ℕ) × (e < m.count) × (cut e ≡ true) × ((m.from e ≡ vertex_at t n) ⊎ (end_vertex m e ≡ vertex_at t n)))
-      → IsSided m l x (cell_dart m t) (vertex_at t) (dart_at t.arcs)
+      → IsEmbedding m l x (cell_dart m t) (vertex_at t) (dart_at t.arcs)
   sided met = record {
     low = λ d is. spin_low m laws (way_number d.way) (cell_of (patch_at t.patches d.patch) d.i d.j) (corner_low d is);
     same = same;

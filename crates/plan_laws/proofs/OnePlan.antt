@@ -18,7 +18,7 @@ use Rattle.def_layout.specs.Borders.{border_dart}
 use Rattle.def_layout.specs.Layouts.{Way, south, east, north, west, Slot, IsSlot}
 use Rattle.def_layout.specs.Lengths.{reach}
 use Rattle.def_layout.specs.Nodes.{is_node, AreNodes}
-use Rattle.def_layout.specs.Plans.{Plan, side_at, vertex_at, layout_of, IsLayout}
+use Rattle.def_layout.specs.Plans.{Plan, side_at, vertex_at, layout_of, IsDartLayout}
 use Rattle.def_written.specs.PlanLaws.{OneLayoutLaw}
 use Rattle.face_laws.proofs.FullCuts.{full_cut_law}
 use Rattle.layout_laws.proofs.FaceNodes.{are_nodes}
@@ -85,7 +85,7 @@ module _ (m : HalfEdges) (laws : IsQuadManifold m) (cut : Cut) (full : IsCut m c
 
   module _ (face : ℕ → ℕ) (v : ℕ) where
     -- The layouts have the same nodes, arcs and patches.
-    same_paths : (t u : Plan) → IsLayout m cut node face v t → IsLayout m cut node face v u → t.nodes ≡ u.nodes → t.arcs ≡ u.arcs
+    same_paths : (t u : Plan) → IsDartLayout m cut node face v t → IsDartLayout m cut node face v u → t.nodes ≡ u.nodes → t.arcs ≡ u.arcs
     same_paths t u lt lu same = ext_get_or (record { first = 0; last = 0; darts = [] }) t.arcs u.arcs s.many path
       where
         s : AreSame t.arcs u.arcs
@@ -119,7 +119,7 @@ module _ (m : HalfEdges) (laws : IsQuadManifold m) (cut : Cut) (full : IsCut m c
                 ∙ (sym (lu.last_at a (long_at t.arcs a - 1) u_low (omega (arith, long, some))) ∙ kept (path_at u.arcs a).last)))
 
     -- Two layouts that differ in their sides at most.
-    module _ (t : Plan) (sides : List (List (List SideArc))) (lt : IsLayout m cut node face v t) (lu : IsLayout m cut node face v (record t { sides = sides })) where
+    module _ (t : Plan) (sides : List (List (List SideArc))) (lt : IsDartLayout m cut node face v t) (lu : IsDartLayout m cut node face v (record t { sides = sides })) where
       abbrev u : Plan
       u = record t { sides = sides }
 
@@ -214,7 +214,7 @@ module _ (m : HalfEdges) (laws : IsQuadManifold m) (cut : Cut) (full : IsCut m c
       same_sides : t.sides ≡ sides
       same_sides = ext_get_or [] t.sides sides (lt.sided ∙ sym lu.sided) (λ p l. same_four p (omega (arith, l, lt.sided)))
 
-    one_plan : (t u : Plan) → IsLayout m cut node face v t → IsLayout m cut node face v u → t ≡ u
+    one_plan : (t u : Plan) → IsDartLayout m cut node face v t → IsDartLayout m cut node face v u → t ≡ u
     one_plan t u lt lu = λ i. record { nodes = nodes_same i; arcs = arcs_same i; patches = patches_same i; sides = sides_same i }
       where
         nodes_same : t.nodes ≡ u.nodes
@@ -226,11 +226,11 @@ module _ (m : HalfEdges) (laws : IsQuadManifold m) (cut : Cut) (full : IsCut m c
         patches_same : t.patches ≡ u.patches
         patches_same = one_list_law m cut face laws full t.patches u.patches lt.patches lu.patches
 
-        moved : IsLayout m cut node face v (record t { sides = u.sides })
+        moved : IsDartLayout m cut node face v (record t { sides = u.sides })
         moved =
-            subst (λ (xs : List Rectangle). IsLayout m cut node face v (record { nodes = t.nodes; arcs = t.arcs; patches = xs; sides = u.sides })) (sym patches_same)
-            (subst (λ (xs : List Path). IsLayout m cut node face v (record { nodes = t.nodes; arcs = xs; patches = u.patches; sides = u.sides })) (sym arcs_same)
-            (subst (λ (xs : List ℕ). IsLayout m cut node face v (record { nodes = xs; arcs = u.arcs; patches = u.patches; sides = u.sides })) (sym nodes_same) lu))
+            subst (λ (xs : List Rectangle). IsDartLayout m cut node face v (record { nodes = t.nodes; arcs = t.arcs; patches = xs; sides = u.sides })) (sym patches_same)
+            (subst (λ (xs : List Path). IsDartLayout m cut node face v (record { nodes = t.nodes; arcs = xs; patches = u.patches; sides = u.sides })) (sym arcs_same)
+            (subst (λ (xs : List ℕ). IsDartLayout m cut node face v (record { nodes = xs; arcs = u.arcs; patches = u.patches; sides = u.sides })) (sym nodes_same) lu))
 
         sides_same : t.sides ≡ u.sides
         sides_same = same_sides t u.sides lt moved

@@ -9,10 +9,10 @@ use Rattle.def_cut.specs.Cuts.{IsCut}
 use Rattle.def_cut.specs.FullCut.{IsFullCut, is_on}
 use Rattle.def_cut.specs.Steps.{face_of}
 use Rattle.def_layout.specs.Arcs.{dart_at, long_at}
-use Rattle.def_layout.specs.Sided.{IsSided}
+use Rattle.def_layout.specs.Embeddings.{IsEmbedding}
 use Rattle.def_layout.specs.Nodes.{is_node, AreNodes}
-use Rattle.def_layout.specs.Plans.{Plan, IsLayout, layout_of, vertex_at}
-use Rattle.def_written.specs.Laws.{AreQuads, LiesIn}
+use Rattle.def_layout.specs.Plans.{Plan, IsDartLayout, layout_of, vertex_at}
+use Rattle.def_written.specs.Laws.{AreQuads, LiesInMesh}
 use Rattle.def_written.specs.PlanLaws.{PlanLaw}
 use Rattle.list_laws.proofs.Filters.{IsKept}
 use Rattle.mesh_laws.proofs.HalfEdges.{manifold_law}
@@ -23,7 +23,7 @@ use Rattle.plan_laws.proofs.NodeEdges.{IsMet, node_met}
 use Rattle.plan_laws.proofs.Lies.{cell_dart, paved, lengths, node_kept, sided}
 
 module _ (faces : Faces) (marks : List Bool) (plan : Plan) (mesh : IsMesh faces) (quads : AreQuads faces) (full : IsFullCut faces marks)
-    (lay : IsLayout (half_edges faces) (is_on marks) (is_node faces marks) face_of (vertex_count faces) plan) where
+    (lay : IsDartLayout (half_edges faces) (is_on marks) (is_node faces marks) face_of (vertex_count faces) plan) where
   laws : IsQuadManifold (half_edges faces)
   laws = manifold_law faces mesh.manifold
 
@@ -46,10 +46,10 @@ module _ (faces : Faces) (marks : List Bool) (plan : Plan) (mesh : IsMesh faces)
           by_dart kept.passes (used_dart faces (vertex_at plan n) quads (mesh.used (vertex_at plan n) below))
 
   -- Cells are the darts of the patches' lists, and the darts of arcs are those of their lists.
-  pub in_mesh : IsSided (half_edges faces) (layout_of plan) (long_at plan.arcs) (cell_dart (half_edges faces) plan) (vertex_at plan) (dart_at plan.arcs)
+  pub in_mesh : IsEmbedding (half_edges faces) (layout_of plan) (long_at plan.arcs) (cell_dart (half_edges faces) plan) (vertex_at plan) (dart_at plan.arcs)
   in_mesh = sided (half_edges faces) laws (is_on marks) cut (is_node faces marks) nodes face_of (vertex_count faces) plan lay met
 
-  lies : LiesIn faces (layout_of plan) (long_at plan.arcs) (vertex_at plan)
+  lies : LiesInMesh faces (layout_of plan) (long_at plan.arcs) (vertex_at plan)
   lies = record {
     manifold = mesh.manifold;
     quads = quads;

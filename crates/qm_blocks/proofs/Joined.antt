@@ -2,7 +2,7 @@
 use Rattle.std.proofs.Common.{◌≡◌, ℕ, ◌+◌, ◌-◌, ◌<◌, ◌≤◌, true, false, Some, Option}
 use Rattle.std.proofs.Common.{refl, sym, ◌∙◌, ap, inl, inr, arith}
 use Rattle.std.proofs.lemmas.Bool.{false≢true}
-use Rattle.def_layout.specs.Laid.{IsLaid, IsOtherSlot}
+use Rattle.def_layout.specs.Surfaces.{IsSurface, IsOtherSlot}
 use Rattle.def_layout.specs.Layouts.{Way, south, east, north, west, Layout, Slot, IsSlot, use_of}
 use Rattle.def_layout.specs.Lengths.{Lengths, size, AreLengths}
 use Rattle.def_written.specs.Numbers.{vertex_number}
@@ -16,7 +16,7 @@ use Rattle.written_laws.proofs.Rims.{border_point}
 use Rattle.written_laws.proofs.Sides.{reach_low, side_upto}
 use Rattle.qm_blocks.proofs.Mutual.{block_part, from_part, is_linked, link_to, side_part, slot_of_link}
 
-module _ (l : Layout) (x : Lengths) (laid : IsLaid l) (len : AreLengths l x) where
+module _ (l : Layout) (x : Lengths) (laid : IsSurface l) (len : AreLengths l x) where
   -- The vertex at a point of a side is that of the arc that lies there.
   vertex_on : (p : ℕ) (s : Way) (t : ℕ) → p < l.patches → t ≤ size l x p s
       → side_vertex l x p (side_name s) t ≡ vertex_number l x (side_point l x p s t)

@@ -5,7 +5,7 @@ use Rattle.std.proofs.lemmas.List.{get_or_append_left, get_or-append-add, length
 use Rattle.std.proofs.lemmas.List.FromFn.{get_or-map-range_with_len, length-map-range_with_len, map-range_with_len_more}
 use Rattle.std.proofs.lemmas.Option.{slice_get-get_or}
 use Rattle.std.specs.List.{range_with_len}
-use Rattle.def_layout.specs.Laid.{IsLaid}
+use Rattle.def_layout.specs.Surfaces.{IsSurface}
 use Rattle.def_layout.specs.Layouts.{Way, south, east, north, west, Slot, IsSlot}
 use Rattle.def_layout.specs.Lengths.{Lengths}
 use Rattle.def_layout.specs.Plans.{Plan, layout_of, side_at}
@@ -112,7 +112,7 @@ module _ (plan : Plan) (x : Lengths) (table : List (Option Spot)) where
           ap (λ i. get_or (block_links plan x table p) i missing) e
           ∙ in_fourth a b c d missing at ∙ side_reads p west at missing low
 
-  pub are_links : IsLaid (layout_of plan) → HasSpots (layout_of plan) x (IsSlot (layout_of plan)) table
+  pub are_links : IsSurface (layout_of plan) → HasSpots (layout_of plan) x (IsSlot (layout_of plan)) table
       → AreLinks (layout_of plan) x (all_links plan x table)
   are_links laid are = record {
     blocks = length-map-range_with_len (block_links plan x table) 0 (length plan.patches);

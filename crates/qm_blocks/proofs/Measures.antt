@@ -8,7 +8,7 @@ use Rattle.def_layout.specs.Layouts.{Way}
 use Rattle.def_layout.specs.Lengths.{high, wide, Lengths}
 use Rattle.def_layout.specs.Plans.{Plan, layout_of, side_at}
 use Rattle.def_layout.specs.declared.tmesh.SideArc.{SideArc}
-use Rattle.def_layoutnet.specs.MeshLayouts.{IsMeshLayout}
+use Rattle.def_layoutnet.specs.MeshLayouts.{IsSomeLayout}
 use Rattle.def_written.specs.NewFaces.{cells_before}
 use Rattle.def_remesh.specs.NewPoints.{lengths_in}
 use Rattle.def_remesh.specs.Numberings.{sizes_on}
@@ -20,7 +20,7 @@ use Rattle.qm_reach.proofs.Whole.{side_long, uses_low}
 use Rattle.qm_blocks.specs.Spots.{IsMeasured}
 
 -- A layout has no more patches than its mesh may have faces.
-pub patches_few : (plan : Plan) → IsMeshLayout plan → length plan.patches ≤ 2 ^ 21
+pub patches_few : (plan : Plan) → IsSomeLayout plan → length plan.patches ≤ 2 ^ 21
 patches_few plan is = omega (arith, up (length plan.patches) (omega arith), old_faces plan is)
   where
     old : Lengths

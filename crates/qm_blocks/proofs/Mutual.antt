@@ -4,7 +4,7 @@ use Rattle.std.proofs.Common.{refl, sym, ◌∙◌, ap, subst, inl, inr, arith}
 use Rattle.std.proofs.lemmas.Bool.{false≢true}
 use Rattle.std.proofs.lemmas.Bool.Decides.{leb_tells}
 use Rattle.std.proofs.lemmas.Option.{get_or_from_slice_get, slice_get-get_or, slice_get_within}
-use Rattle.def_layout.specs.Laid.{IsLaid, IsOtherSlot}
+use Rattle.def_layout.specs.Surfaces.{IsSurface, IsOtherSlot}
 use Rattle.def_layout.specs.Layouts.{Way, south, east, north, west, Layout, Slot, IsSlot, use_of}
 use Rattle.def_layout.specs.Lengths.{Lengths}
 use Rattle.std.specs.List.{Contains}
@@ -64,7 +64,7 @@ abbrev pub from_part : (o : Option (ℕ × SideName × ℕ)) → ℕ
 from_part (Some x) = x.2
 from_part None = 0
 
-module _ (l : Layout) (x : Lengths) (laid : IsLaid l) (links : List (List Link)) (are : AreLinks l x links) where
+module _ (l : Layout) (x : Lengths) (laid : IsSurface l) (links : List (List Link)) (are : AreLinks l x links) where
   -- A link of a block is that of a slot.
   pub slot_of_link : (p k : ℕ) (link : Link) → p < l.patches → k < length (slice_index_or links p [])
       → slice_index_or (slice_index_or links p []) k link ≡ link

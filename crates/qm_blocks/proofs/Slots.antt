@@ -1,7 +1,7 @@
 -- Slots by the arcs that they use.
 use Rattle.std.proofs.Common.{◌≡◌, ◌≢◌, ◌⊎◌, Bool, true, false, not, refl, sym, ◌∙◌, ap, inl, inr}
 use Rattle.def_layout.specs.declared.tmesh.SideArc.{SideArc}
-use Rattle.def_layout.specs.Laid.{IsLaid, IsOtherSlot}
+use Rattle.def_layout.specs.Surfaces.{IsSurface, IsOtherSlot}
 use Rattle.def_layout.specs.Layouts.{Layout, Slot, IsSlot, AreReverse, use_of}
 use Rattle.def_blocks.specs.Laws.{SymmetricLaw, TwoLinksLaw}
 
@@ -25,7 +25,7 @@ symmetric l laid one other is across = (
 )
 
 -- A slot that uses the arc of another slot is that slot, or the other slot of it.
-same_or_other : (l : Layout) → IsLaid l → (w v : Slot) → IsSlot l w → IsSlot l v → (use_of l w).arc ≡ (use_of l v).arc
+same_or_other : (l : Layout) → IsSurface l → (w v : Slot) → IsSlot l w → IsSlot l v → (use_of l w).arc ≡ (use_of l v).arc
     → (w ≡ v) ⊎ IsOtherSlot l v w
 same_or_other l laid w v is is' same = by_way (use_of l w).forward (use_of l v).forward refl refl
   where

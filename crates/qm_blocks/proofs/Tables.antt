@@ -6,7 +6,7 @@ use Rattle.std.proofs.lemmas.List.{get_or-replicate, get_or-set_other, get_or-se
 use Rattle.std.proofs.lemmas.Option.{same_Some}
 use Rattle.std.proofs.Math.ListN.{set}
 use Rattle.std.specs.Option.{is_some}
-use Rattle.def_layout.specs.Laid.{IsLaid, IsOtherSlot}
+use Rattle.def_layout.specs.Surfaces.{IsSurface, IsOtherSlot}
 use Rattle.def_layout.specs.Layouts.{Way, south, east, north, west, Layout, Slot, IsSlot, AreReverse, use_of}
 use Rattle.def_layout.specs.Lengths.{Lengths}
 use Rattle.def_layout.specs.Plans.{Plan, layout_of, side_at}
@@ -225,7 +225,7 @@ reverse_is u v e =
     let rev : AreReverse u turned = record { arc = refl; turned = refl } in
     subst (AreReverse u) (sym (key_same v turned (e ∙ sym (back_is u turned rev)))) rev
 
-module _ (l : Layout) (x : Lengths) (laid : IsLaid l) (table : List (Option Spot)) (are : HasSpots l x (IsSlot l) table) where
+module _ (l : Layout) (x : Lengths) (laid : IsSurface l) (table : List (Option Spot)) (are : HasSpots l x (IsSlot l) table) where
   -- What stands in a whole table behind a slot: the spot of its other slot, if there is one.
   pub other_spot : (w v : Slot) → IsOtherSlot l w v → spot_at table (back_key (use_of l w)) ≡ Some (spot_of l x v)
   other_spot w v across =

@@ -9,7 +9,7 @@ use Rattle.def_layout.specs.Layouts.{Way, south, east, north, west, Layout, Slot
 use Rattle.def_layout.specs.Lengths.{Lengths}
 use Rattle.def_layout.specs.Plans.{Plan, side_at}
 use Rattle.def_layout.specs.declared.tmesh.SideArc.{SideArc}
-use Rattle.def_layoutnet.specs.MeshLayouts.{IsMeshLayout}
+use Rattle.def_layoutnet.specs.MeshLayouts.{IsSomeLayout}
 use Rattle.def_remesh.specs.NewPoints.{lengths_in}
 use Rattle.def_remesh.specs.Numberings.{sizes_on, used_at}
 use Rattle.def_blocks.specs.Links.{first_point, side_name}
@@ -18,7 +18,7 @@ use Rattle.def_blocks.specs.declared.link.SideName.{SideName}
 
 -- The layout of a mesh, and a length for each of its arcs.
 pub record IsMeasured (plan : Plan) (lengths : List ℕ) : Type 0 where
-  pub layout : IsMeshLayout plan
+  pub layout : IsSomeLayout plan
   pub long : length lengths ≡ length plan.arcs
   pub bounded : (arc : ℕ) → lengths_in lengths arc ≤ MAX_LENGTH
 

@@ -7,7 +7,7 @@ ghost use Rattle.def_flow.specs.declared.limits.TheConstants.{MAX_LENGTH};
 ghost use Rattle.def_layout.specs.Layouts.{Way};
 ghost use Rattle.def_layout.specs.Plans.{layout_of, plan, way_number};
 ghost use Rattle.def_layout.specs.declared.tmesh.SideArc.{SideArc as Used};
-ghost use Rattle.def_layoutnet.specs.MeshLayouts.{IsMeshLayout};
+ghost use Rattle.def_layoutnet.specs.MeshLayouts.{IsSomeLayout};
 ghost use Rattle.def_remesh.specs.NewPoints.{lengths_in};
 ghost use Rattle.def_remesh.specs.Numberings.{sizes_on};
 ghost use Rattle.def_blocks.specs.Links.{AreLinks};
@@ -21,7 +21,7 @@ use std::alloc::{AllocError, Global};
 
 /// The links of each block, side after side, each along its side. Linear in the arcs.
 pub fn links(alloc: Global, t: &TMesh, x: &[u64]) -> Result<Vec<Vec<Link>>, AllocError>
-    requires layout { IsMeshLayout (plan t.now) }
+    requires layout { IsSomeLayout (plan t.now) }
     requires long { length x.now ≡ length t.now.arcs.items }
     requires bounded { (arc : ℕ) → lengths_in x.now arc ≤ MAX_LENGTH }
     ensures { IfOk result (λ links. AreLinks (layout_of (plan t.now)) (lengths_in x.now)

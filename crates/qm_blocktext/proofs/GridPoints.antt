@@ -2,7 +2,7 @@
 use Rattle.std.proofs.Common.{◌≡◌, ℕ, ◌+◌, ◌-◌, ◌<◌, ◌≤◌, ◌^◌, length, inl, inr, subst, arith}
 use Rattle.std.proofs.lemmas.Bool.{cases_eq}
 use Rattle.def_layout.specs.Cells.{dart}
-use Rattle.def_layout.specs.Laid.{IsLaid}
+use Rattle.def_layout.specs.Surfaces.{IsSurface}
 use Rattle.def_layout.specs.Layouts.{Way, south, east, north, west, Layout}
 use Rattle.def_layout.specs.Lengths.{Lengths, size, wide, high, AreLengths}
 use Rattle.def_layout.specs.Plans.{Plan, layout_of}
@@ -17,7 +17,7 @@ use Rattle.written_laws.proofs.Borders.{from_is}
 use Rattle.written_laws.proofs.Grid.{high_some, wide_some}
 use Rattle.written_laws.proofs.Numbers.{number_low}
 
-module _ (l : Layout) (x : Lengths) (laid : IsLaid l) (len : AreLengths l x) where
+module _ (l : Layout) (x : Lengths) (laid : IsSurface l) (len : AreLengths l x) where
   -- A grid point is where a dart of a cell begins.
   grid_point : (p i j : ℕ) → p < l.patches → i ≤ wide l x p → j ≤ high l x p → IsPoint l x (point l x p i j)
   grid_point p i j low i_le j_le = elim (cases_eq i (wide l x p)) [

@@ -4,7 +4,7 @@ ghost use Rattle.std.specs.Prelude.{◌≤◌, map, IfOk, OnOk, OnErr};
 ghost use Rattle.std.specs.List.{flat_map};
 ghost use Rattle.def_layout.specs.Arcs.{long_at};
 ghost use Rattle.def_layout.specs.Plans.{layout_of, plan};
-ghost use Rattle.def_layoutnet.specs.MeshLayouts.{IsMeshLayout};
+ghost use Rattle.def_layoutnet.specs.MeshLayouts.{IsSomeLayout};
 ghost use Rattle.def_remesh.specs.NewPoints.{multiple_of};
 ghost use Rattle.def_run.specs.declared.command.TheConstants.{MAX_MULTIPLE};
 ghost use Rattle.def_blocks.specs.BlockTexts.{link_line};
@@ -21,7 +21,7 @@ use std::alloc::{AllocError, Global};
 
 /// The links of the blocks of a layout with `by` times its old lengths. Linear in the arcs.
 pub fn links_by(alloc: Global, t: &TMesh, by: u32) -> Result<Vec<Vec<Link>>, AllocError>
-    requires layout { IsMeshLayout (plan t.now) }
+    requires layout { IsSomeLayout (plan t.now) }
     requires few { by ≤ MAX_MULTIPLE }
     ensures { IfOk result (λ links. AreLinks (layout_of (plan t.now)) (multiple_of by (long_at (plan t.now).arcs))
         (map (λ block. block.items) links.items)) }

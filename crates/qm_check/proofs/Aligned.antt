@@ -8,10 +8,10 @@ use Rattle.def_certtext.specs.Settings.{AreInRange}
 use Rattle.def_cut.specs.FullCut.{IsFullCut}
 use Rattle.def_io.specs.Bytes.{Bytes, Lines}
 use Rattle.def_io.specs.Lines.{lines_of}
-use Rattle.def_layout.specs.FaceLayouts.{IsLayoutOf}
+use Rattle.def_layout.specs.FaceLayouts.{IsCutLayout}
 use Rattle.def_layout.specs.Lengths.{Lengths}
 use Rattle.def_layout.specs.Plans.{Plan, layout_of}
-use Rattle.def_layoutnet.specs.MeshLayouts.{IsMeshLayout}
+use Rattle.def_layoutnet.specs.MeshLayouts.{IsSomeLayout}
 use Rattle.def_mesh.specs.Manifold.{IsManifold}
 use Rattle.def_remesh.specs.NewPoints.{lengths_in}
 use Rattle.def_remesh.specs.Certified.{AreKept, IsShown}
@@ -33,7 +33,7 @@ pub record IsJudgeable (judged : Judged) : Type 0 where
   pub solid : IsSolid judged.soup
   pub range : AreInRange judged.task.settings judged.task.auto
   pub full : IsFullCut judged.soup.faces judged.task.marks
-  pub laid : IsLayoutOf judged.soup.faces judged.task.marks judged.plan
+  pub laid : IsCutLayout judged.soup.faces judged.task.marks judged.plan
   pub inside : list_all is_inside judged.task.head ≡ true
   pub silent : (plan : Plan) (new : Lengths) → IsSilent (judged.task.between plan new)
 
@@ -49,7 +49,7 @@ pub record IsAligned (judged : Judged) (plan : Plan) : Type 0 where
 
 module _ (judged : Judged) (able : IsJudgeable judged) where
   -- Its layout is that of a mesh.
-  pub judged_layout : IsMeshLayout judged.plan
+  pub judged_layout : IsSomeLayout judged.plan
   judged_layout = cut_layout judged.soup judged.task.marks judged.plan able.solid able.full able.laid
 
   module _ (shown : IsShown judged.task judged.soup (text_in judged)) where

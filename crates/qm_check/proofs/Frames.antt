@@ -5,11 +5,11 @@ use Rattle.def_certtext.specs.Reading.{IsHead}
 use Rattle.def_cut.specs.Traced.{traced_marks}
 use Rattle.def_flow.specs.declared.net.Settings.{Settings}
 use Rattle.def_io.specs.Bytes.{Bytes}
-use Rattle.def_layout.specs.FaceLayouts.{IsLayoutOf}
+use Rattle.def_layout.specs.FaceLayouts.{IsCutLayout}
 use Rattle.def_layout.specs.Lengths.{Lengths}
 use Rattle.def_layout.specs.Plans.{plan, Plan}
 use Rattle.def_mesh.specs.Faces.{Faces}
-use Rattle.def_remesh.specs.Placings.{IsLayoutIn}
+use Rattle.def_remesh.specs.Placings.{IsMeshLayout}
 use Rattle.def_remesh.specs.Tasks.{remesh_task}
 use Rattle.def_run.specs.declared.check_fail.CheckFail.{CheckFail}
 use Rattle.def_text.specs.FaceSet.{FaceSet}
@@ -27,7 +27,7 @@ unmarked frame none plan new = ap (λ (f : Frame). between_text (marks_of f) pla
 
 -- A mesh over its motorcycle graph is laid out for a remesh.
 pub remesh_laid : (text line : Bytes) (old : Old) (cut : CutMesh) (frame : Frame) → IsOld text old → IsHead line frame.asked.settings frame.asked.auto
-    → cut.mesh ≡ old.mesh → IsLayoutOf cut.mesh (traced_marks cut.mesh) (plan cut.layout) → IsLayoutIn cut.mesh (plan cut.layout)
+    → cut.mesh ≡ old.mesh → IsCutLayout cut.mesh (traced_marks cut.mesh) (plan cut.layout) → IsMeshLayout cut.mesh (plan cut.layout)
     → frame.head.items ≡ line ++ 10 ∷ [] → frame.marks ≡ None
     → IsLaidOut (remesh_task frame.asked.settings frame.asked.auto old.soup.faces) old.soup cut frame
 remesh_laid text line old cut frame is head same traced lies ended none = record {
@@ -35,7 +35,7 @@ remesh_laid text line old cut frame is head same traced lies ended none = record
   solid = is.solid;
   mesh = mesh;
   full = (graph_law old.soup.faces is.manifold).1;
-  laid = subst (λ (fs : Faces). IsLayoutOf fs (traced_marks fs) (plan cut.layout)) mesh traced;
+  laid = subst (λ (fs : Faces). IsCutLayout fs (traced_marks fs) (plan cut.layout)) mesh traced;
   lies = (lies.0, lies.1 ∙ mesh);
   range = head.in_range;
   settings = refl;

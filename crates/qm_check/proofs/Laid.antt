@@ -10,12 +10,12 @@ use Rattle.def_feature.specs.Marked.{marked_cut}
 use Rattle.def_feature.specs.Marks.{AreMarks}
 use Rattle.def_flow.specs.declared.net.Settings.{Settings}
 use Rattle.def_io.specs.Bytes.{Bytes}
-use Rattle.def_layout.specs.FaceLayouts.{IsLayoutOf}
+use Rattle.def_layout.specs.FaceLayouts.{IsCutLayout}
 use Rattle.def_layout.specs.Plans.{plan, Plan}
 use Rattle.def_merge.specs.Merged.{IsMergedCut}
 use Rattle.def_mesh.specs.Faces.{Faces}
 use Rattle.def_metric.specs.Targets.{edge_settings}
-use Rattle.def_remesh.specs.Placings.{IsLayoutIn}
+use Rattle.def_remesh.specs.Placings.{IsMeshLayout}
 use Rattle.def_run.specs.Crease.{creased_task}
 use Rattle.def_run.specs.Heads.{named_head, named_task}
 use Rattle.def_run.specs.MarkLines.{IsNamedHead, IsSizeHead}
@@ -57,7 +57,7 @@ module _ (edge : ℤ) (near : unsigned_abs edge ≤ 999_999_999_999_999) where
       (number_inside floor low)
 
 module _ (text line : Bytes) (old : Old) (cut : CutMesh) (frame : Frame) (is : IsOld text old) (same : cut.mesh ≡ old.mesh)
-    (lies : IsLayoutIn cut.mesh (plan cut.layout)) (ended : frame.head.items ≡ line ++ 10 ∷ []) where
+    (lies : IsMeshLayout cut.mesh (plan cut.layout)) (ended : frame.head.items ≡ line ++ 10 ∷ []) where
   mesh : cut.mesh ≡ old.soup.faces
   mesh = same ∙ is.mesh
 
@@ -65,7 +65,7 @@ module _ (text line : Bytes) (old : Old) (cut : CutMesh) (frame : Frame) (is : I
   headed head written = ended ∙ ap (λ (l : Bytes). l ++ 10 ∷ []) written
 
   pub merge_laid : (settings : Settings) (rest : List Bool) → IsNamedHead (codes "coarse") line settings → frame.asked ≡ record { settings = settings; auto = false }
-      → frame.marks ≡ None → IsMergedCut old.soup.faces (traced_marks old.soup.faces) rest → IsLayoutOf old.soup.faces rest (plan cut.layout)
+      → frame.marks ≡ None → IsMergedCut old.soup.faces (traced_marks old.soup.faces) rest → IsCutLayout old.soup.faces rest (plan cut.layout)
       → IsLaidOut (named_task (codes "coarse") settings rest) old.soup cut frame
   merge_laid settings rest head asked none merged laid = record {
     manifold = is.manifold;
@@ -83,7 +83,7 @@ module _ (text line : Bytes) (old : Old) (cut : CutMesh) (frame : Frame) (is : I
   }
 
   pub crease_laid : (settings : Settings) (marks : List Bool) → IsNamedHead (codes "crease") line settings → frame.asked ≡ record { settings = settings; auto = false }
-      → marks_of frame ≡ Some marks → AreMarks old.soup.faces marks → IsLayoutOf old.soup.faces (marked_cut old.soup.faces marks) (plan cut.layout)
+      → marks_of frame ≡ Some marks → AreMarks old.soup.faces marks → IsCutLayout old.soup.faces (marked_cut old.soup.faces marks) (plan cut.layout)
       → IsLaidOut (creased_task settings old.soup.faces marks) old.soup cut frame
   crease_laid settings marks head asked marked are laid = record {
     manifold = is.manifold;
@@ -101,13 +101,13 @@ module _ (text line : Bytes) (old : Old) (cut : CutMesh) (frame : Frame) (is : I
   }
 
   pub size_laid : (edge : ℤ) (floor : ℕ) → IsSizeHead line edge floor → frame.asked ≡ record { settings = edge_settings floor; auto = false }
-      → frame.marks ≡ None → IsLayoutOf cut.mesh (traced_marks cut.mesh) (plan cut.layout) → IsLaidOut (size_task edge floor old.soup) old.soup cut frame
+      → frame.marks ≡ None → IsCutLayout cut.mesh (traced_marks cut.mesh) (plan cut.layout) → IsLaidOut (size_task edge floor old.soup) old.soup cut frame
   size_laid edge floor head asked none traced = record {
     manifold = is.manifold;
     solid = is.solid;
     mesh = mesh;
     full = (graph_law old.soup.faces is.manifold).1;
-    laid = subst (λ (fs : Faces). IsLayoutOf fs (traced_marks fs) (plan cut.layout)) mesh traced;
+    laid = subst (λ (fs : Faces). IsCutLayout fs (traced_marks fs) (plan cut.layout)) mesh traced;
     lies = (lies.0, lies.1 ∙ mesh);
     range = record {
       p_low = omega arith;
@@ -127,7 +127,7 @@ module _ (text line : Bytes) (old : Old) (cut : CutMesh) (frame : Frame) (is : I
 pub marks_moved : (mesh faces : Faces) (marks : List Bool) → mesh ≡ faces → AreMarks mesh marks → AreMarks faces marks
 marks_moved mesh faces marks same are = subst (λ (fs : Faces). AreMarks fs marks) same are
 
-pub cut_moved : (mesh faces : Faces) (sliced marks : List Bool) (plan : Plan) → mesh ≡ faces → sliced ≡ marks → IsLayoutOf mesh (marked_cut mesh sliced) plan
-    → IsLayoutOf faces (marked_cut faces marks) plan
+pub cut_moved : (mesh faces : Faces) (sliced marks : List Bool) (plan : Plan) → mesh ≡ faces → sliced ≡ marks → IsCutLayout mesh (marked_cut mesh sliced) plan
+    → IsCutLayout faces (marked_cut faces marks) plan
 cut_moved mesh faces sliced marks plan same are laid =
-    subst (λ (fs : Faces). IsLayoutOf fs (marked_cut fs marks) plan) same (subst (λ (ms : List Bool). IsLayoutOf mesh (marked_cut mesh ms) plan) are laid)
+    subst (λ (fs : Faces). IsCutLayout fs (marked_cut fs marks) plan) same (subst (λ (ms : List Bool). IsCutLayout mesh (marked_cut mesh ms) plan) are laid)

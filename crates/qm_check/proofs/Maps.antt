@@ -14,7 +14,7 @@ use Rattle.def_mesh.specs.Manifold.{IsManifold}
 use Rattle.def_remesh.specs.Certified.{IsShown}
 use Rattle.def_remesh.specs.NewPoints.{lengths_in, multiple_of}
 use Rattle.def_remesh.specs.Numberings.{IsNumbering}
-use Rattle.def_remesh.specs.Placings.{ArePlaces, IsLayoutIn}
+use Rattle.def_remesh.specs.Placings.{ArePlaces, IsMeshLayout}
 use Rattle.def_remesh.specs.Refined.{refined_faces, refined_text}
 use Rattle.def_remesh.specs.Remeshed.{used}
 use Rattle.def_remesh.specs.Tasks.{Task}
@@ -26,7 +26,7 @@ use Rattle.def_run.specs.MapFails.{IsMapFail}
 use Rattle.def_run.specs.MarkLines.{begins_mark, front_of, HasNoMark, IsLastMark, IsMarkLine}
 use Rattle.def_run.specs.Mesh.{IsMeshText}
 use Rattle.def_run.specs.Refine.{WritesRefined}
-use Rattle.def_run.specs.Remesh.{HasCut, IsCutTo, WritesFinished}
+use Rattle.def_run.specs.Remesh.{HasTracedLayout, IsTracedLayout, WritesFinished}
 use Rattle.def_run.specs.declared.answer.Why.{Why}
 use Rattle.def_run.specs.declared.answer.Why.TheVariants as why
 use Rattle.def_run.specs.declared.check_fail.CheckFail.{CheckFail}
@@ -259,8 +259,8 @@ module _ (bytes : Bytes) (mark : HeadAt) (old : Old) (command : Command) (given 
 -- ---- A refined mesh.
 
 module _ (bytes : Bytes) (mark : HeadAt) (old : Old) (by : ℕ) (given : IsGivenTo bytes mark old (Refine by)) (cut : CutMesh)
-    (mesh : cut.mesh ≡ old.soup.faces) (laid : IsCutTo old.soup.faces (plan cut.layout)) (lies : IsLayoutIn old.soup.faces (plan cut.layout)) where
-  abbrev has_cut : HasCut (front_of mark.line bytes) (plan cut.layout)
+    (mesh : cut.mesh ≡ old.soup.faces) (laid : IsTracedLayout old.soup.faces (plan cut.layout)) (lies : IsMeshLayout old.soup.faces (plan cut.layout)) where
+  abbrev has_cut : HasTracedLayout (front_of mark.line bytes) (plan cut.layout)
   has_cut = record { soup = old.soup; mesh = given_mesh bytes mark old (Refine by) given; cut = laid }
 
   unlike_refined : (why : Why) → IsNotRefined by old.soup (plan cut.layout) (tail_of mark.line bytes) why → IsUnlike (Refine by) bytes mark.line why
@@ -271,7 +271,7 @@ module _ (bytes : Bytes) (mark : HeadAt) (old : Old) (by : ℕ) (given : IsGiven
   one_plan wrote = (
     same,
     one_layout_law old.soup.faces (traced_marks old.soup.faces) given.read.manifold (graph_law old.soup.faces given.read.manifold).1 wrote.refined.plan
-        (plan cut.layout) (subst (λ (s : FaceSet). IsCutTo s.faces wrote.refined.plan) same wrote.refined.cut) laid,
+        (plan cut.layout) (subst (λ (s : FaceSet). IsTracedLayout s.faces wrote.refined.plan) same wrote.refined.cut) laid,
   )
     where
       same : wrote.soup ≡ old.soup

@@ -12,10 +12,10 @@ use Rattle.def_flow.specs.Admissible.{deviation, entries}
 use Rattle.def_flow.specs.Network.{Network, tangle_number}
 use Rattle.def_flow.specs.declared.net.Settings.{Settings}
 use Rattle.def_io.specs.Bytes.{Bytes}
-use Rattle.def_layout.specs.FaceLayouts.{IsLayoutOf}
+use Rattle.def_layout.specs.FaceLayouts.{IsCutLayout}
 use Rattle.def_layout.specs.Plans.{Plan, layout_of}
 use Rattle.def_layoutnet.specs.LayoutNet.{IsNetOf}
-use Rattle.def_layoutnet.specs.MeshLayouts.{IsMeshLayout}
+use Rattle.def_layoutnet.specs.MeshLayouts.{IsSomeLayout}
 use Rattle.def_remesh.specs.NewPoints.{lengths_in}
 use Rattle.def_remesh.specs.Refusals.{IsTangledAt}
 use Rattle.def_remesh.specs.Certified.{AreKept, certificate_of, IsCertified, IsShown}
@@ -63,7 +63,7 @@ some_third : (settings : Settings) (auto : Bool) (first one : Lists) (third : Op
 some_third settings true first one (Some third) is = refl
 some_third settings _ first one _ is = absurd (none-some one is)
 
-module _ (wish : Wish) (plan : Plan) (mesh : IsMeshLayout plan) where
+module _ (wish : Wish) (plan : Plan) (mesh : IsSomeLayout plan) where
   -- A layout has one network.
   pub one_net : (settings : Settings) (net other : Network) → IsNetOf (layout_of plan) (wish plan) settings net
       → IsNetOf (layout_of plan) (wish plan) settings other → net ≡ other
@@ -150,7 +150,7 @@ other_fine judged made (why.CertLine line) is same other = absurd other
 
 -- A task that is shown has a network that is not too tangled.
 pub shown_untangled : (task : Task) (soup : FaceSet) (text : Bytes) (plan : Plan) → IsManifold soup.faces → IsSolid soup → IsFullCut soup.faces task.marks
-    → IsLayoutOf soup.faces task.marks plan → IsShown task soup text → (count : ℕ) → IsTangledAt task.wish plan task.settings count → ⊥
+    → IsCutLayout soup.faces task.marks plan → IsShown task soup text → (count : ℕ) → IsTangledAt task.wish plan task.settings count → ⊥
 shown_untangled task soup text plan manifold solid full laid shown count tangled =
     not_tangled task.wish plan (cut_layout soup task.marks plan solid full laid) task.settings task.auto count shown.finished.first shown.finished.third
     (subst (λ (p : Plan). AreKept task.wish p task.settings task.auto shown.finished.first shown.finished.third)
@@ -158,7 +158,7 @@ shown_untangled task soup text plan manifold solid full laid shown count tangled
 
 -- A text whose certificates or whose bytes are refused finishes no task.
 module _ (judged : Judged) (able : IsJudgeable judged) (shown : IsShown judged.task judged.soup (text_in judged)) where
-  mesh : IsMeshLayout judged.plan
+  mesh : IsSomeLayout judged.plan
   mesh = judged_layout judged able
 
   is : IsAligned judged judged.plan

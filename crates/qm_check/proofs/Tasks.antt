@@ -21,7 +21,7 @@ use Rattle.def_run.specs.Crease.{creased_task, AsksToCrease}
 use Rattle.def_run.specs.Heads.{named_task}
 use Rattle.def_run.specs.Map.{asks_of, RefusesNew, WritesNew}
 use Rattle.def_run.specs.Mesh.{IsMeshText}
-use Rattle.def_run.specs.Remesh.{Asks, IsCutTo, RefusesTask, WritesFinished}
+use Rattle.def_run.specs.Remesh.{Asks, IsTracedLayout, RefusesTask, WritesFinished}
 use Rattle.def_run.specs.Size.{size_task, soup_targets, AsksForNearSize, HasNearTargets}
 use Rattle.def_run.specs.declared.answer.Answer.TheVariants as answers
 use Rattle.def_run.specs.declared.check_fail.CheckFail.{CheckFail}
@@ -70,7 +70,7 @@ merge_only settings front soup rest manifold merged = record { asked = (rest, me
         (one_merged_law soup.faces (traced_marks soup.faces) marks rest manifold (graph_law soup.faces manifold).1 also merged).0
 
 -- Targets that are not too great for a layout are so for the one layout of the motorcycle graph.
-pub near_all : (edge : ℤ) (soup : FaceSet) (plan : Plan) → IsManifold soup.faces → IsCutTo soup.faces plan → AreNear (soup_targets edge soup) plan → HasNearTargets edge soup
+pub near_all : (edge : ℤ) (soup : FaceSet) (plan : Plan) → IsManifold soup.faces → IsTracedLayout soup.faces plan → AreNear (soup_targets edge soup) plan → HasNearTargets edge soup
 near_all edge soup plan manifold cut near other also =
     subst (AreNear (soup_targets edge soup))
     (one_layout_law soup.faces (traced_marks soup.faces) manifold (graph_law soup.faces manifold).1 plan other cut also) near
@@ -147,7 +147,7 @@ line_unmade settings front soup mesh _ none = absurd none
 
 -- ---- The targets of `size`.
 
-module _ (edge : ℤ) (floor : ℕ) (front : Bytes) (soup : FaceSet) (mesh : IsMeshText front soup) (solid : IsSolid soup) (plan : Plan) (cut : IsCutTo soup.faces plan) where
+module _ (edge : ℤ) (floor : ℕ) (front : Bytes) (soup : FaceSet) (mesh : IsMeshText front soup) (solid : IsSolid soup) (plan : Plan) (cut : IsTracedLayout soup.faces plan) where
   full : IsFullCut soup.faces (traced_marks soup.faces)
   full = (graph_law soup.faces mesh.manifold).1
 

@@ -15,7 +15,7 @@ use Rattle.def_remesh.specs.Certified.{AreKept, IsShown}
 use Rattle.def_remesh.specs.Keeping.{IsKept, IsNetFor}
 use Rattle.def_remesh.specs.NewPoints.{lengths_in}
 use Rattle.def_remesh.specs.Numberings.{IsNumbering}
-use Rattle.def_remesh.specs.Placings.{IsLayoutIn}
+use Rattle.def_remesh.specs.Placings.{IsMeshLayout}
 use Rattle.def_remesh.specs.Refusals.{IsTangledAt}
 use Rattle.def_remesh.specs.Remeshed.{finished_text, used, AreCoarse}
 use Rattle.def_remesh.specs.Tasks.{Task, Wish}
@@ -69,7 +69,7 @@ module _ (bytes : Bytes) (line : ℕ) (task : Task) (ready : Ready) (is : IsRead
   }
 
   -- The layout of the mesh that is cut.
-  pub cut_lies : IsLayoutIn ready.cut.mesh (plan ready.cut.layout)
+  pub cut_lies : IsMeshLayout ready.cut.mesh (plan ready.cut.layout)
   cut_lies = (is.laid_out.lies.0, is.laid_out.lies.1 ∙ sym is.laid_out.mesh)
 
   pub asked_range : AreInRange ready.frame.asked.settings ready.frame.asked.auto

@@ -12,7 +12,7 @@ use Rattle.def_flow.specs.Network.{network}
 use Rattle.def_io.specs.Bytes.{Bytes}
 use Rattle.def_io.specs.Lines.{lines_of, tail_of}
 use Rattle.def_io.specs.declared.TheConstants.{LINE_FEED}
-use Rattle.def_layout.specs.FaceLayouts.{IsLayoutOf}
+use Rattle.def_layout.specs.FaceLayouts.{IsCutLayout}
 use Rattle.def_layout.specs.Lengths.{Lengths}
 use Rattle.def_layout.specs.Plans.{plan, Plan}
 use Rattle.def_marks.specs.Lines.{marks_in}
@@ -21,7 +21,7 @@ use Rattle.def_marks.specs.declared.fail.MarkFail.TheVariants as marks
 use Rattle.def_mesh.specs.Faults.{IsFirstFault}
 use Rattle.def_mesh.specs.Manifold.{IsManifold}
 use Rattle.def_remesh.specs.Keeping.{IsNetFor}
-use Rattle.def_remesh.specs.Placings.{IsLayoutIn}
+use Rattle.def_remesh.specs.Placings.{IsMeshLayout}
 use Rattle.def_remesh.specs.Refusals.{IsTangledAt}
 use Rattle.def_remesh.specs.Tasks.{old_lengths, Task}
 use Rattle.def_remesh.specs.TextLaws.{IsSolid}
@@ -89,8 +89,8 @@ pub record IsLaidOut (task : Task) (soup : FaceSet) (cut : CutMesh) (frame : Fra
   pub solid : IsSolid soup
   pub mesh : cut.mesh ≡ soup.faces
   pub full : IsFullCut soup.faces task.marks
-  pub laid : IsLayoutOf soup.faces task.marks (plan cut.layout)
-  pub lies : IsLayoutIn soup.faces (plan cut.layout)
+  pub laid : IsCutLayout soup.faces task.marks (plan cut.layout)
+  pub lies : IsMeshLayout soup.faces (plan cut.layout)
   pub range : AreInRange task.settings task.auto
   pub settings : frame.asked.settings ≡ task.settings
   pub auto : frame.asked.auto ≡ task.auto
@@ -106,8 +106,8 @@ pub record IsReady (task : Task) (ready : Ready) : Type 0 where
 -- The network of the task is too tangled.
 pub record IsTangledFor (task : Task) (soup : FaceSet) (count : ℕ) : Type 0 where
   pub plan : Plan
-  pub laid : IsLayoutOf soup.faces task.marks plan
-  pub lies : IsLayoutIn soup.faces plan
+  pub laid : IsCutLayout soup.faces task.marks plan
+  pub lies : IsMeshLayout soup.faces plan
   pub tangled : IsTangledAt task.wish plan task.settings count
 
 -- Why a layout has no network near its old lengths, where there is memory.

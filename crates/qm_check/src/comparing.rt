@@ -5,7 +5,7 @@ ghost use Rattle.std.specs.Option.{option_map};
 ghost use Rattle.def_certtext.specs.CertLines.{lists_of};
 ghost use Rattle.def_layout.specs.Plans.{plan};
 ghost use Rattle.def_remesh.specs.Keeping.{IsKept};
-ghost use Rattle.def_remesh.specs.Placings.{IsLayoutIn};
+ghost use Rattle.def_remesh.specs.Placings.{IsMeshLayout};
 ghost use Rattle.def_remesh.specs.Tasks.{Wish};
 ghost use Rattle.def_text.specs.declared.limits.TheConstants.{MAX_BYTES};
 ghost use Rattle.qm_check.specs.Checked.{IsDifference};
@@ -29,7 +29,7 @@ pub(crate) fn compare(
 ) -> Result<NewPoints, CheckFail>
     requires few { length given.now ≤ MAX_BYTES }
     requires mesh { cut.now.mesh ≡ soup.now.faces }
-    requires layout { IsLayoutIn cut.now.mesh (plan cut.now.layout) }
+    requires layout { IsMeshLayout cut.now.mesh (plan cut.now.layout) }
     requires kept { (wish : Wish) × IsKept wish (plan cut.now.layout)
         framed.remesh.asked.settings framed.remesh.asked.auto
         (lists_of framed.remesh.first) (option_map lists_of framed.remesh.third) framed.remesh.numbering }

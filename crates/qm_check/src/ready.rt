@@ -5,7 +5,7 @@ ghost use Rattle.def_certtext.specs.Settings.{AreInRange};
 ghost use Rattle.def_flow.specs.Network.{network};
 ghost use Rattle.def_io.specs.declared.TheConstants.{LINE_FEED};
 ghost use Rattle.def_layout.specs.Plans.{plan};
-ghost use Rattle.def_layoutnet.specs.MeshLayouts.{IsMeshLayout};
+ghost use Rattle.def_layoutnet.specs.MeshLayouts.{IsSomeLayout};
 ghost use Rattle.def_remesh.specs.Keeping.{IsNetFor};
 ghost use Rattle.def_remesh.specs.Tasks.{old_lengths, Task};
 ghost use Rattle.qm_check.specs.Ready.{HasNoNet, IsLaidOut, IsReady, IsUnready};
@@ -73,7 +73,7 @@ pub(crate) fn with_net(
 
 /// The network of a layout near the old lengths, or its tangle number where that is too great.
 fn network_of(alloc: Global, t: &TMesh, asked: Asked) -> Result<Net, CheckFail>
-    requires layout { IsMeshLayout (plan t.now) }
+    requires layout { IsSomeLayout (plan t.now) }
     requires range { AreInRange asked.settings asked.auto }
     ensures net { IfOk result (λ net. IsNetFor old_lengths (plan t.now) asked.settings (network net)) }
     ensures tangled { IfErr result (HasNoNet (plan t.now) asked) }

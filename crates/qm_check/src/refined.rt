@@ -2,7 +2,7 @@
 
 ghost use Rattle.std.specs.Prelude.{◌≡◌, ◌≤◌, length, IfErr, IfOk, OnOk};
 ghost use Rattle.def_layout.specs.Plans.{plan};
-ghost use Rattle.def_remesh.specs.Placings.{IsLayoutIn};
+ghost use Rattle.def_remesh.specs.Placings.{IsMeshLayout};
 ghost use Rattle.def_remesh.specs.Refined.{refined_text};
 ghost use Rattle.def_run.specs.MapFails.{IsMapFail};
 ghost use Rattle.def_run.specs.declared.command.Command.TheVariants.{Refine};
@@ -51,7 +51,7 @@ pub(crate) fn judge_refined(
 fn points_by(alloc: Global, by: u32, cut: &CutMesh) -> Result<NewPoints, CheckFail>
     requires some { 1 ≤ by }
     requires few { by ≤ MAX_MULTIPLE }
-    requires layout { IsLayoutIn cut.now.mesh (plan cut.now.layout) }
+    requires layout { IsMeshLayout cut.now.mesh (plan cut.now.layout) }
     ensures points { IfOk result (ArePointsBy by cut.now.mesh (plan cut.now.layout)) }
     ensures refused { IfErr result (HasNoPoints by (plan cut.now.layout)) }
 {

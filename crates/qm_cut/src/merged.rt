@@ -3,9 +3,9 @@
 ghost use Rattle.std.specs.Prelude.{◌≡◌, List, Bool, IfOk};
 ghost use Rattle.def_cut.specs.FullCut.{IsFullCut};
 ghost use Rattle.def_cut.specs.Traced.{traced_marks};
-ghost use Rattle.def_layout.specs.FaceLayouts.{IsLayoutOf};
+ghost use Rattle.def_layout.specs.FaceLayouts.{IsCutLayout};
 ghost use Rattle.def_layout.specs.Plans.{plan};
-ghost use Rattle.def_layoutnet.specs.MeshLayouts.{IsMeshLayout};
+ghost use Rattle.def_layoutnet.specs.MeshLayouts.{IsSomeLayout};
 ghost use Rattle.def_merge.specs.Merged.{IsMergedCut};
 
 use crate::traced::graph_layout;
@@ -21,8 +21,8 @@ use std::alloc::{AllocError, Global};
 /// linear in the faces.
 pub fn merged_layout(alloc: Global, mesh: &Mesh) -> Result<TMesh, AllocError>
     ensures merged { IfOk result (λ t. (rest : List Bool) × IsMergedCut mesh.now (traced_marks mesh.now) rest
-        × IsLayoutOf mesh.now rest (plan t)) }
-    ensures mesh { IfOk result (λ t. (is : IsMeshLayout (plan t)) × (is.faces ≡ mesh.now)) }
+        × IsCutLayout mesh.now rest (plan t)) }
+    ensures mesh { IfOk result (λ t. (is : IsSomeLayout (plan t)) × (is.faces ≡ mesh.now)) }
 {
     let merged = merged_graph(alloc, mesh)?;
     graph_layout(alloc, mesh, &merged)

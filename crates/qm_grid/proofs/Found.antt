@@ -11,7 +11,7 @@ use Rattle.def_cut.specs.Steps.{spin}
 use Rattle.cut_laws.specs.Grown.{IsGrown}
 use Rattle.cut_laws.proofs.Classes.{linked_back}
 use Rattle.cut_laws.proofs.Leasts.{least_high, least_low}
-use Rattle.cut_laws.proofs.OneList.{AreTiles, LiesIn, least_at, place_row, place_is, shared, once}
+use Rattle.cut_laws.proofs.OneList.{AreTiles, LiesInPatch, least_at, place_row, place_is, shared, once}
 use Rattle.face_laws.proofs.Fans.{same_face}
 use Rattle.qm_grid.specs.Cells.{grid_list}
 use Rattle.qm_grid.specs.Cutting.{IsCutting}
@@ -78,10 +78,10 @@ module _ (faces : Faces) (cut : List Bool) (cutting : IsCutting faces cut) where
           let s : (k : ℕ) × (x ≡ spin (half_edges faces) k (get_or p.cells q.0 0)) = same_face faces cutting.laws (get_or p.cells q.0 0) x q.2 in
           (q.0 % p.w, q.0 / p.w, s.0, record { i_low = omega arith; j_low = place_row q.0 p.w p.h wide low; is = s.1 ∙ ap (λ n. spin (half_edges faces) s.0 (get_or p.cells n 0)) (place_is q.0 p.w wide) })
 
-  pub lies_inside : (p : Rectangle) → 0 < p.w → length p.cells ≡ p.h * p.w → (g : ℕ) → lies_in p.cells g ≡ true → LiesIn (half_edges faces) p (4 * g)
+  pub lies_inside : (p : Rectangle) → 0 < p.w → length p.cells ≡ p.h * p.w → (g : ℕ) → lies_in p.cells g ≡ true → LiesInPatch (half_edges faces) p (4 * g)
   lies_inside p wide sized g on = by_side (lies_side p wide sized (4 * g) (let e : g ≡ 4 * g / 4 = omega arith in ap (lies_in p.cells) (sym e) ∙ on))
     where
-      by_side : (i : ℕ) × (j : ℕ) × (k : ℕ) × IsSide (half_edges faces) p i j k (4 * g) → LiesIn (half_edges faces) p (4 * g)
+      by_side : (i : ℕ) × (j : ℕ) × (k : ℕ) × IsSide (half_edges faces) p i j k (4 * g) → LiesInPatch (half_edges faces) p (4 * g)
       by_side s = (s.2, record { a = s.0; b = s.1; a_low = s.3.i_low; b_low = s.3.j_low; is = s.3.is })
 
   pub found_none : (seen : List Bool) → seen ≡ replicate (length faces) false → AreFoundSoFar faces cut 0 seen []
@@ -130,8 +130,8 @@ module _ (faces : Faces) (cut : List Bool) (cutting : IsCutting faces cut) where
       where
         by_listed : (k : ℕ) × (k < length found) × (lies_in (patch_at found k).cells g ≡ true) → ⊥
         by_listed k =
-            let one : LiesIn (half_edges faces) (patch_at found k.0) (4 * g) = lies_inside (patch_at found k.0) (so.tiles.patch k.0 k.1).grid.wide (so.tiles.sized k.0 k.1) g k.2 in
-            let two : LiesIn (half_edges faces) p (4 * g) = lies_inside p grown.wide sized g on in
+            let one : LiesInPatch (half_edges faces) (patch_at found k.0) (4 * g) = lies_inside (patch_at found k.0) (so.tiles.patch k.0 k.1).grid.wide (so.tiles.sized k.0 k.1) g k.2 in
+            let two : LiesInPatch (half_edges faces) p (4 * g) = lies_inside p grown.wide sized g on in
             let same : patch_at found k.0 ≡ p = shared (half_edges faces) cutting.laws (is_on cut) cutting.full (λ d. d / 4) found (p ∷ []) so.tiles lone k.0 0 (4 * g) k.1 (omega arith) one two in
             false≢true (sym unseen ∙ so.back k.0 f k.1 low (ap (λ (r : Rectangle). lies_in r.cells f) same ∙ own))
 

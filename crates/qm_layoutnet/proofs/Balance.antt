@@ -12,7 +12,7 @@ use Rattle.def_flow.specs.declared.net.End.{End}
 use Rattle.def_flow.specs.declared.net.Settings.{Settings}
 use Rattle.def_layout.specs.declared.tmesh.SideArc.{SideArc}
 use Rattle.def_layout.specs.Layouts.{Way, south, east, north, west, Layout, Slot, IsSlot, AreReverse, use_of}
-use Rattle.def_layout.specs.Laid.{IsLaid, IsOtherSlot}
+use Rattle.def_layout.specs.Surfaces.{IsSurface, IsOtherSlot}
 use Rattle.def_layout.specs.Lengths.{Lengths}
 use Rattle.def_layoutnet.specs.LayoutNet.{node_of, is_plus, end_at, IsNetOf}
 use Rattle.def_layoutnet.specs.LayoutNetLaws.{sum_along, AreOpposite, BalanceLaw}
@@ -87,7 +87,7 @@ node_low q east n h = omega arith
 node_low q north n h = omega arith
 node_low q west n h = omega arith
 
-module _ (l : Layout) (old : Lengths) (set : Settings) (net : Network) (laid : IsLaid l) (is : IsNetOf l old set net) (x : ℕ → ℤ) where
+module _ (l : Layout) (old : Lengths) (set : Settings) (net : Network) (laid : IsSurface l) (is : IsNetOf l old set net) (x : ℕ → ℤ) where
   -- The slot with number j on a side of a patch.
   abbrev slot_at : (p : ℕ) (s : Way) (j : ℕ) → Slot
   slot_at p s j = record { patch = p; side = s; at = j }

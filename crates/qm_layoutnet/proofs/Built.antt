@@ -19,7 +19,7 @@ use Rattle.def_layout.specs.declared.tmesh.SideArc.{SideArc}
 use Rattle.def_layout.specs.declared.tmesh.TArc.{TArc}
 use Rattle.def_layout.specs.Arcs.{path, long_at}
 use Rattle.def_layout.specs.Layouts.{Way, south, east, north, west, Layout, Slot, IsSlot, use_of}
-use Rattle.def_layout.specs.Laid.{IsLaid}
+use Rattle.def_layout.specs.Surfaces.{IsSurface}
 use Rattle.def_layout.specs.Lengths.{Lengths, size, AreLengths}
 use Rattle.def_layoutnet.specs.LayoutNet.{end_at, weight_of, AreSettings, IsNetOf}
 use Rattle.def_layoutnet.specs.LayoutNetLaws.{sum_along}
@@ -82,7 +82,7 @@ net_is l old set net nodes floor p q are = record {
   alone = λ a low only. are.alone a low (λ w slot d e. only w slot e);
 }
 
-module _ (l : Layout) (x : Lengths) (set : Settings) (net : Network) (laid : IsLaid l) (len : AreLengths l x) (few : count_below x l.arcs ≤ 2 ^ 23)
+module _ (l : Layout) (x : Lengths) (set : Settings) (net : Network) (laid : IsSurface l) (len : AreLengths l x) (few : count_below x l.arcs ≤ 2 ^ 23)
     (in_range : AreSettings set) (is : IsNetOf l x set net) where
   -- The arcs are few.
   arcs_few : l.arcs ≤ 2 ^ 23

@@ -10,7 +10,7 @@ use Rattle.def_flow.specs.declared.net.End.{End}
 use Rattle.def_flow.specs.declared.net.Weight.{Weight}
 use Rattle.def_layout.specs.declared.tmesh.SideArc.{SideArc}
 use Rattle.def_layout.specs.Layouts.{Way, south, east, north, west, Layout, Slot, IsSlot, use_of}
-use Rattle.def_layout.specs.Laid.{IsLaid}
+use Rattle.def_layout.specs.Surfaces.{IsSurface}
 use Rattle.def_layout.specs.Lengths.{Lengths}
 use Rattle.def_layout.specs.Plans.{way_number}
 use Rattle.def_layoutnet.specs.LayoutNet.{end_at, weight_of}
@@ -58,7 +58,7 @@ same_number north north e = refl
 same_number west west e = refl
 same_number _ _ e = absurd (omega arith)
 
-module _ (l : Layout) (old : Lengths) (weight : Weight) (laid : IsLaid l) where
+module _ (l : Layout) (old : Lengths) (weight : Weight) (laid : IsSurface l) where
   -- The ends are those of the slots that are done, however that is said.
   pub same_ends : (done now : Slot → Type 0) (arcs : List Arc) → ((w : Slot) → IsSlot l w → now w → done w) → ((w : Slot) → IsSlot l w → done w → now w)
       → AreEnds l old weight done arcs → AreEnds l old weight now arcs

@@ -13,7 +13,7 @@ use Rattle.def_layout.specs.declared.tmesh.TArc.{TArc}
 use Rattle.def_layout.specs.declared.tmesh.TMesh.{TMesh}
 use Rattle.def_layout.specs.Nodes.{is_node, AreNodes}
 use Rattle.def_layout.specs.Plans.{Plan, plan}
-use Rattle.def_layoutnet.specs.MeshLayouts.{IsMeshLayout}
+use Rattle.def_layoutnet.specs.MeshLayouts.{IsSomeLayout}
 use Rattle.qm_layoutnet.proofs.Tangles.{term_low}
 use Rattle.written_laws.proofs.Runs.{run_here, IsInRun}
 use Rattle.def_math.specs.Runs.{run_at}
@@ -23,7 +23,7 @@ use Rattle.face_laws.proofs.FullCuts.{full_cut_law}
 use Rattle.layout_laws.proofs.FaceNodes.{are_nodes}
 use Rattle.plan_laws.proofs.ArcUses.{dart_low, same_dart}
 
-module _ (plan : Plan) (is : IsMeshLayout plan) where
+module _ (plan : Plan) (is : IsSomeLayout plan) where
   laws : IsQuadManifold (half_edges is.faces)
   laws = manifold_law is.faces is.mesh.manifold
 
@@ -84,12 +84,12 @@ module _ (plan : Plan) (is : IsMeshLayout plan) where
       apart p q lp lq e = (is.laid.patches.once (first p) p 0 0 0 q 0 0 0 lp lq (side p p lp refl) (side q p lq e)).0
 
 -- So each arc is short.
-pub runs_short : (t : TMesh) → IsMeshLayout (plan t) → All (λ (run : TArc). length run.darts.items < 2 ^ 32) t.arcs.items
+pub runs_short : (t : TMesh) → IsSomeLayout (plan t) → All (λ (run : TArc). length run.darts.items < 2 ^ 32) t.arcs.items
 runs_short t is k d l =
     let low : k < length (plan t).arcs = omega (arith, l, length-map t.arcs.items path) in
     let long : long_at (plan t).arcs k ≡ length (get_or t.arcs.items k d).darts.items =
     ap (λ (p : Path). length p.darts) (get_or-map path t.arcs.items k d (record { first = 0; last = 0; darts = [] }) l) in
     omega (arith, long, term_low (long_at (plan t).arcs) (length (plan t).arcs) k low, lengths_few (plan t) is, is.mesh.few)
 
-pub few_patches : (t : TMesh) → IsMeshLayout (plan t) → length t.patches.items ≤ 2 ^ 23
+pub few_patches : (t : TMesh) → IsSomeLayout (plan t) → length t.patches.items ≤ 2 ^ 23
 few_patches t is = omega (arith, patches_few (plan t) is, is.mesh.few, length-map t.patches.items rectangle)

@@ -6,12 +6,12 @@ ghost use Rattle.def_flow.specs.Admissible.{IsEven};
 ghost use Rattle.def_flow.specs.Network.{network, tangle_number, IsWithinBounds};
 ghost use Rattle.def_layout.specs.Arcs.{long_at};
 ghost use Rattle.def_layout.specs.Plans.{layout_of, plan, side_at};
-ghost use Rattle.def_layout.specs.Laid.{IsLaid};
+ghost use Rattle.def_layout.specs.Surfaces.{IsSurface};
 ghost use Rattle.def_layout.specs.Layouts.{Way};
 ghost use Rattle.def_flow.specs.declared.net.Weight.{Weight};
 ghost use Rattle.def_layout.specs.declared.tmesh.SideArc.{SideArc};
 ghost use Rattle.def_layoutnet.specs.LayoutNet.{AreSettings, HasNoNet, IsNetOf};
-ghost use Rattle.def_layoutnet.specs.MeshLayouts.{IsMeshLayout};
+ghost use Rattle.def_layoutnet.specs.MeshLayouts.{IsSomeLayout};
 ghost use Rattle.qm_layoutnet.specs.Ends.{with_four, AreEnds, PatchesBelow};
 
 use crate::arcs::open_arcs;
@@ -24,7 +24,7 @@ use std::alloc::{AllocError, Global};
 
 /// The network of the layout of a mesh. Linear in the arcs and in the sides of patches.
 pub fn net_of(alloc: Global, t: &TMesh, set: &Settings) -> Result<Net, NetFail>
-    requires layout { IsMeshLayout (plan t.now) }
+    requires layout { IsSomeLayout (plan t.now) }
     requires settings { AreSettings set.now }
     ensures net { IfOk result (λ net.
         IsNetOf (layout_of (plan t.now)) (long_at (plan t.now).arcs) set.now (network net)) }
@@ -45,7 +45,7 @@ pub fn net_of(alloc: Global, t: &TMesh, set: &Settings) -> Result<Net, NetFail>
 
 /// The network, whatever its tangle number is.
 fn any_net_of(alloc: Global, t: &TMesh, set: &Settings) -> Result<Net, AllocError>
-    requires layout { IsMeshLayout (plan t.now) }
+    requires layout { IsSomeLayout (plan t.now) }
     requires settings { AreSettings set.now }
     ensures net { IfOk result (λ net.
         IsNetOf (layout_of (plan t.now)) (long_at (plan t.now).arcs) set.now (network net)) }
@@ -66,7 +66,7 @@ fn any_net_of(alloc: Global, t: &TMesh, set: &Settings) -> Result<Net, AllocErro
 
 /// Puts in the ends of all sides.
 fn put_all_ends(arcs: &mut [Arc], t: &TMesh)
-    requires laid { IsLaid (layout_of (plan t.now)) }
+    requires laid { IsSurface (layout_of (plan t.now)) }
     requires sided { length t.now.sides.items ≡ length t.now.patches.items }
     requires few { length t.now.patches.items ≤ 2 ^ 23 }
     requires four { (p : ℕ) → p < length t.now.patches.items → length (slice_index_or (plan t.now).sides p []) ≡ 4 }

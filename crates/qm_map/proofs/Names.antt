@@ -5,13 +5,13 @@ use Rattle.def_map.specs.MapText.{cell_lines, map_head, map_text, vertex_lines}
 use Rattle.def_mesh.specs.Faces.{Faces}
 use Rattle.def_mesh.specs.Vertices.{vertex_count}
 use Rattle.def_remesh.specs.NewPoints.{lengths_in}
-use Rattle.def_remesh.specs.Placings.{IsLayoutIn}
+use Rattle.def_remesh.specs.Placings.{IsMeshLayout}
 use Rattle.def_text.specs.FaceSet.{FaceSet, IsSoup}
 use Rattle.def_written.specs.NewFaces.{face_count}
 use Rattle.def_written.specs.Numbers.{vertices}
 use Rattle.qm_write.proofs.Positions.{all_placed}
 
-pub all_named : (soup : FaceSet) (faces : Faces) (plan : Plan) → faces ≡ soup.faces → IsLayoutIn faces plan → IsSoup soup
+pub all_named : (soup : FaceSet) (faces : Faces) (plan : Plan) → faces ≡ soup.faces → IsMeshLayout faces plan → IsSoup soup
     → length soup.names ≡ vertex_count faces
 all_named soup faces plan same layout sound = sound.named ∙ all_placed soup faces plan same layout sound
 

@@ -6,17 +6,17 @@ use Rattle.def_math.specs.Counts.{count}
 use Rattle.def_flow.specs.Network.{Network, arc_at, tangle_number, IsWithinBounds}
 use Rattle.def_flow.specs.declared.limits.TheConstants.{MAX_TANGLE}
 use Rattle.def_layout.specs.Arcs.{long_at, path}
-use Rattle.def_layout.specs.Laid.{IsLaid}
+use Rattle.def_layout.specs.Surfaces.{IsSurface}
 use Rattle.def_layout.specs.Plans.{layout_of, plan}
 use Rattle.def_layout.specs.declared.tmesh.TArc.{TArc}
 use Rattle.def_layout.specs.declared.tmesh.TMesh.{TMesh}
 use Rattle.def_layoutnet.specs.LayoutNet.{HasNoNet, IsNetOf, IsTangled}
-use Rattle.def_layoutnet.specs.MeshLayouts.{IsMeshLayout}
+use Rattle.def_layoutnet.specs.MeshLayouts.{IsSomeLayout}
 use Rattle.def_layoutnet.specs.declared.NetFail.{NetFail}
 use Rattle.def_layoutnet.specs.declared.NetFail.TheVariants as nets
 use Rattle.def_mesh.specs.Faces.{Faces}
 use Rattle.def_remesh.specs.Keeping.{IsNetFor}
-use Rattle.def_remesh.specs.Placings.{IsLayoutIn}
+use Rattle.def_remesh.specs.Placings.{IsMeshLayout}
 use Rattle.def_remesh.specs.Refusals.{IsTangledAt}
 use Rattle.def_text.specs.Types.{Positions}
 use Rattle.def_metric.specs.Fails.{metric_fail_of, AreNear, HasNoTargets, IsFar}
@@ -31,7 +31,7 @@ use Rattle.qm_metric.proofs.Reading.{sum_is, whole_entry}
 use Rattle.qm_metric.proofs.Wished.{tangle_same, tangled_for, untangled_for, wished, within}
 
 -- The arcs of a layout are few.
-pub few_arcs : (t : TMesh) → IsMeshLayout (plan t) → length t.arcs.items ≤ 2 ^ 23
+pub few_arcs : (t : TMesh) → IsSomeLayout (plan t) → length t.arcs.items ≤ 2 ^ 23
 few_arcs t is = omega (
   arith,
   length-map t.arcs.items path,
@@ -41,8 +41,8 @@ few_arcs t is = omega (
   is.mesh.few,
 )
 
-module _ (t : TMesh) (faces : Faces) (places : Positions) (edge floor : ℕ) (lies : IsLayoutIn faces (plan t)) where
-  laid : IsLaid (layout_of (plan t))
+module _ (t : TMesh) (faces : Faces) (places : Positions) (edge floor : ℕ) (lies : IsMeshLayout faces (plan t)) where
+  laid : IsSurface (layout_of (plan t))
   laid = laid_of (plan t) lies.0
 
   -- It is too tangled.

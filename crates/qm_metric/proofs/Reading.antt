@@ -9,13 +9,13 @@ use Rattle.def_layout.specs.Arcs.{Path, dart_at, long_at, path, path_at}
 use Rattle.def_layout.specs.Plans.{plan}
 use Rattle.def_layout.specs.declared.tmesh.TArc.{TArc}
 use Rattle.def_layout.specs.declared.tmesh.TMesh.{TMesh}
-use Rattle.def_layoutnet.specs.MeshLayouts.{IsMeshLayout}
+use Rattle.def_layoutnet.specs.MeshLayouts.{IsSomeLayout}
 use Rattle.sum_laws.proofs.Counts.{count_below_prefix}
 use Rattle.table_laws.proofs.Ranges.{part_low}
 use Rattle.qm_layoutnet.proofs.Whole.{arc_inside, lengths_few}
 
 -- The darts of all arcs are darts of the mesh.
-pub runs_inside : (t : TMesh) (is : IsMeshLayout (plan t)) → All (λ (run : TArc). All (λ (d : ℕ). d < darts is.faces) run.darts.items) t.arcs.items
+pub runs_inside : (t : TMesh) (is : IsSomeLayout (plan t)) → All (λ (run : TArc). All (λ (d : ℕ). d < darts is.faces) run.darts.items) t.arcs.items
 runs_inside t is k run low j d less =
     let none : Path = record { first = 0; last = 0; darts = [] } in
     let same : path_at (plan t).arcs k ≡ path (get_or t.arcs.items k run) = get_or-map path t.arcs.items k run none low in

@@ -9,7 +9,7 @@ use Rattle.def_flow.specs.Admissible.{arc_deviation, deviation, entries, IsBalan
 use Rattle.def_flow.specs.Descent.{IsStartOf}
 use Rattle.def_flow.specs.Network.{Network, arc_at}
 use Rattle.def_layout.specs.Arcs.{Path, long_at}
-use Rattle.def_layout.specs.Laid.{IsLaid}
+use Rattle.def_layout.specs.Surfaces.{IsSurface}
 use Rattle.def_layout.specs.Layouts.{Way, south, east, north, west, Layout}
 use Rattle.def_layout.specs.Lengths.{Lengths, size, AreLengths}
 use Rattle.def_layout.specs.Plans.{Plan, layout_of}
@@ -37,7 +37,7 @@ module _ (wish : Wish) (plan : Plan) (floor : ℕ) (net : Network) (is : IsNetFo
   abbrev xs : List ℕ
   xs = times_long floor plan
 
-  laid : IsLaid (layout_of plan)
+  laid : IsSurface (layout_of plan)
   laid = laid_of plan is.mesh
 
   len : AreLengths (layout_of plan) (long_at plan.arcs)

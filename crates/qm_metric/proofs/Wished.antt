@@ -9,7 +9,7 @@ use Rattle.def_flow.specs.Network.{Network, arc_at, degree, ends, is_bounded, ta
 use Rattle.def_flow.specs.declared.limits.TheConstants.{MAX_OLD, MAX_TANGLE, MAX_WEIGHT}
 use Rattle.def_flow.specs.declared.net.Arc.{Arc}
 use Rattle.def_flow.specs.declared.net.End.{End}
-use Rattle.def_layout.specs.Laid.{IsLaid}
+use Rattle.def_layout.specs.Surfaces.{IsSurface}
 use Rattle.def_layout.specs.Layouts.{Layout, use_of}
 use Rattle.def_layout.specs.Lengths.{Lengths}
 use Rattle.def_layoutnet.specs.LayoutNet.{IsNetOf, IsTangled}
@@ -66,7 +66,7 @@ module _ (net : Network) (wish : Lengths) (new : Network) (has : HasWishes net w
               ∙ (ap (λ (t : Bool). t && all) (le-leb (wish k) MAX_OLD (low k l)) ∙ parts.1)
 
 -- It is the network of the layout for these wishes.
-pub wished : (l : Layout) (old wish : Lengths) (floor : ℕ) (net new : Network) → IsLaid l → IsNetOf l old (edge_settings floor) net → HasWishes net wish new
+pub wished : (l : Layout) (old wish : Lengths) (floor : ℕ) (net new : Network) → IsSurface l → IsNetOf l old (edge_settings floor) net → HasWishes net wish new
     → IsNetOf l wish (edge_settings floor) new
 wished l old wish floor net new laid is has = record {
   nodes = has.nodes ∙ is.nodes;
@@ -112,7 +112,7 @@ has_wishes wish net = record {
 }
 
 -- A layout is too tangled for other wishes where it is for some.
-pub tangled_for : (l : Layout) (old wish : Lengths) (floor count : ℕ) → IsLaid l → IsTangled l old (edge_settings floor) count → IsTangled l wish (edge_settings floor) count
+pub tangled_for : (l : Layout) (old wish : Lengths) (floor count : ℕ) → IsSurface l → IsTangled l old (edge_settings floor) count → IsTangled l wish (edge_settings floor) count
 tangled_for l old wish floor count laid is = record {
   net = rewished_net wish is.net;
   is = wished l old wish floor is.net (rewished_net wish is.net) laid is.is (has_wishes wish is.net);
@@ -121,7 +121,7 @@ tangled_for l old wish floor count laid is = record {
 }
 
 -- And it is not where it is not.
-pub untangled_for : (l : Layout) (old wish : Lengths) (floor : ℕ) (net : Network) → IsLaid l → IsNetOf l old (edge_settings floor) net → tangle_number net ≤ MAX_TANGLE
+pub untangled_for : (l : Layout) (old wish : Lengths) (floor : ℕ) (net : Network) → IsSurface l → IsNetOf l old (edge_settings floor) net → tangle_number net ≤ MAX_TANGLE
     → (count : ℕ) → IsTangled l wish (edge_settings floor) count → ⊥
 untangled_for l old wish floor net laid is low count tangled =
     let same : tangle_number tangled.net ≡ tangle_number (rewished_net wish net) =

@@ -7,7 +7,7 @@ ghost use Rattle.def_mesh.specs.Vertices.{vertex_count};
 ghost use Rattle.def_metric.specs.Fails.{AreNear, HasNoTargets};
 ghost use Rattle.def_metric.specs.Targets.{edge_settings, targets};
 ghost use Rattle.def_remesh.specs.Keeping.{IsNetFor};
-ghost use Rattle.def_remesh.specs.Placings.{IsLayoutIn};
+ghost use Rattle.def_remesh.specs.Placings.{IsMeshLayout};
 
 use crate::measures::{Ruler, targets_of};
 use crate::wishes::with_wishes;
@@ -29,7 +29,7 @@ pub fn measured(
     edge: Micro,
     floor: u32,
 ) -> Result<Net, MetricFail>
-    requires layout { IsLayoutIn mesh.now (plan t.now) }
+    requires layout { IsMeshLayout mesh.now (plan t.now) }
     requires positions { length pos.now ≡ vertex_count mesh.now }
     requires edge { whole 1 ≤ℤ edge }
     requires floor { (1 ≤ floor) × (floor ≤ 3) }

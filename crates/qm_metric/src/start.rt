@@ -4,7 +4,7 @@ ghost use Rattle.std.specs.Prelude.{◌≡◌, ◌<◌, ◌≤◌, ◌*◌, ◌^
 ghost use Rattle.std.specs.List.{All};
 ghost use Rattle.def_layout.specs.Plans.{plan};
 ghost use Rattle.def_layout.specs.declared.tmesh.TArc.{TArc as Run};
-ghost use Rattle.def_layoutnet.specs.MeshLayouts.{IsMeshLayout};
+ghost use Rattle.def_layoutnet.specs.MeshLayouts.{IsSomeLayout};
 ghost use Rattle.def_metric.specs.Starts.{times_long};
 
 use def_layout::{TArc, TMesh};
@@ -12,7 +12,7 @@ use std::alloc::{AllocError, Global};
 
 /// The old lengths times the floor: a start of the descent, whatever lengths are wished for. Linear in the arcs.
 pub fn old_start(alloc: Global, t: &TMesh, floor: u32) -> Result<Vec<u64>, AllocError>
-    requires layout { IsMeshLayout (plan t.now) }
+    requires layout { IsSomeLayout (plan t.now) }
     ensures { IfOk result (λ start. start.items ≡ times_long floor (plan t.now)) }
 {
     times_long(alloc, &t.arcs, floor)

@@ -7,7 +7,7 @@ use Rattle.def_layout.specs.Arcs.{long_at}
 use Rattle.def_layout.specs.Layouts.{Layout, south, east, north, west}
 use Rattle.def_layout.specs.Lengths.{Lengths, wide, high}
 use Rattle.def_layout.specs.Plans.{Plan, layout_of, vertex_at}
-use Rattle.def_layoutnet.specs.MeshLayouts.{IsMeshLayout}
+use Rattle.def_layoutnet.specs.MeshLayouts.{IsSomeLayout}
 use Rattle.def_written.specs.Numbers.{before_arc, before_patch, vertices}
 use Rattle.def_written.specs.Places.{parameter, parameter_back}
 use Rattle.def_written.specs.Points.{Point, node, along, inside, IsPoint}
@@ -104,7 +104,7 @@ module _ (faces : Faces) (plan : Plan) (tables : PlaceTables) (are : ArePlaces f
   abbrev new : Lengths
   new = lengths_in tables.lengths.items
 
-  abbrev is : IsMeshLayout plan
+  abbrev is : IsSomeLayout plan
   is = are.layout.0
 
   -- All numbers are small.

@@ -10,7 +10,7 @@ use Rattle.def_layout.specs.Plans.{Plan, layout_of, way_number, plan, side_at}
 use Rattle.def_layout.specs.declared.tmesh.SideArc.{SideArc}
 use Rattle.def_layout.specs.declared.tmesh.TArc.{TArc}
 use Rattle.def_layout.specs.declared.tmesh.TMesh.{TMesh}
-use Rattle.def_layoutnet.specs.MeshLayouts.{IsMeshLayout}
+use Rattle.def_layoutnet.specs.MeshLayouts.{IsSomeLayout}
 use Rattle.def_remesh.specs.NewPoints.{lengths_in}
 use Rattle.def_remesh.specs.Placings.{parameters_from, side_parameter, AreParameters, IsRim}
 use Rattle.def_remesh.specs.declared.places.Rim.{Rim}
@@ -22,7 +22,7 @@ use Rattle.qm_reach.proofs.Whole.{laid_of, lengths_of}
 use Rattle.written_laws.proofs.Sides.{reach_low, slot}
 
 -- Sides are short.
-pub old_few : (plan : Plan) → IsMeshLayout plan → (p : ℕ) (s : Way) → p < length plan.patches
+pub old_few : (plan : Plan) → IsSomeLayout plan → (p : ℕ) (s : Way) → p < length plan.patches
     → size (layout_of plan) (long_at plan.arcs) p s ≤ 2 ^ 21
 old_few plan is p s low =
     omega (arith, side_few (layout_of plan) (long_at plan.arcs) (laid_of plan is) (lengths_of plan is) p s low, old_faces plan is)
@@ -33,7 +33,7 @@ new_few plan list fine p s low =
     omega (arith, side_few (layout_of plan) (lengths_in list) (laid_of plan fine.mesh) fine.lengths p s low, fine.few)
 
 -- Arcs are short.
-pub old_short : (plan : Plan) → IsMeshLayout plan → (arc : ℕ) → arc < length plan.arcs → long_at plan.arcs arc ≤ 2 ^ 21
+pub old_short : (plan : Plan) → IsSomeLayout plan → (arc : ℕ) → arc < length plan.arcs → long_at plan.arcs arc ≤ 2 ^ 21
 old_short plan is arc low = by_slot ((laid_of plan is).forward arc low)
   where
     by_slot : (w : Slot) × IsSlot (layout_of plan) w × (use_of (layout_of plan) w ≡ record { arc = arc; forward = true }) → long_at plan.arcs arc ≤ 2 ^ 21

@@ -13,7 +13,7 @@ ghost use Rattle.def_written.specs.Numbers.{vertices};
 ghost use Rattle.def_remesh.specs.NewPoints.{lengths_in};
 ghost use Rattle.def_remesh.specs.NewSoup.{new_place, new_places};
 ghost use Rattle.def_remesh.specs.Numberings.{AreRunStarts};
-ghost use Rattle.def_remesh.specs.Placings.{rim_at, ArePlaces, IsLayoutIn, LiesBetween};
+ghost use Rattle.def_remesh.specs.Placings.{rim_at, ArePlaces, IsMeshLayout, LiesBetween};
 ghost use Rattle.def_remesh.specs.declared.limits.TheConstants.{MAX_NEW_FACES};
 ghost use Rattle.qm_place.specs.Spots.{inner_of};
 
@@ -51,7 +51,7 @@ impl Model for Places {
 /// What tells the places of the vertices of a layout with these lengths. Linear in the arcs, the patches and the new
 /// vertices on the sides of patches.
 pub fn placer(alloc: Global, mesh: &Mesh, t: &TMesh, x: &[u64]) -> Result<Places, AllocError>
-    requires layout { IsLayoutIn mesh.now (plan t.now) }
+    requires layout { IsMeshLayout mesh.now (plan t.now) }
     requires long { length x.now ≡ length t.now.arcs.items }
     requires lengths { AreLengths (layout_of (plan t.now)) (lengths_in x.now) }
     requires few { face_count (layout_of (plan t.now)) (lengths_in x.now) ≤ MAX_NEW_FACES }
@@ -81,7 +81,7 @@ pub fn place(
     pos: &[[Micro; 3]],
     x: &[u64],
 ) -> Result<Vec<[Micro; 3]>, AllocError>
-    requires layout { IsLayoutIn mesh.now (plan t.now) }
+    requires layout { IsMeshLayout mesh.now (plan t.now) }
     requires positions { length pos.now ≡ vertex_count mesh.now }
     requires long { length x.now ≡ length t.now.arcs.items }
     requires lengths { AreLengths (layout_of (plan t.now)) (lengths_in x.now) }

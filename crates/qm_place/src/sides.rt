@@ -5,7 +5,7 @@ ghost use Rattle.def_layout.specs.Arcs.{long_at};
 ghost use Rattle.def_layout.specs.Layouts.{Way};
 ghost use Rattle.def_layout.specs.Lengths.{size};
 ghost use Rattle.def_layout.specs.Plans.{layout_of, way_number, plan};
-ghost use Rattle.def_layoutnet.specs.MeshLayouts.{IsMeshLayout};
+ghost use Rattle.def_layoutnet.specs.MeshLayouts.{IsSomeLayout};
 ghost use Rattle.def_written.specs.Places.{ONE};
 ghost use Rattle.def_remesh.specs.NewPoints.{lengths_in};
 ghost use Rattle.def_remesh.specs.Placings.{rim_at, side_parameter, IsRim};
@@ -105,7 +105,7 @@ fn start_of(whole: u64, before: u64, old: u64, back: bool) -> u64
 
 /// How many old edges a side has.
 fn old_size(t: &TMesh, patch: usize, side: usize) -> u64
-    requires layout { IsMeshLayout (plan t.now) }
+    requires layout { IsSomeLayout (plan t.now) }
     requires low { patch < length t.now.patches.items }
     requires side { side < 4 }
     ensures { (way : Way) → way_number way ≡ side

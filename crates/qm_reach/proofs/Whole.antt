@@ -3,18 +3,18 @@ use Rattle.std.proofs.Common.{◌≡◌, ℕ, zero, suc, ◌<◌, true, false, L
 use Rattle.std.specs.List.{All}
 use Rattle.std.proofs.lemmas.List.{get_or_default}
 use Rattle.def_math.specs.Counts.{count_below}
-use Rattle.def_layout.specs.Laid.{IsPaved}
+use Rattle.def_layout.specs.Surfaces.{HasWholeSides}
 use Rattle.def_layout.specs.Layouts.{Way, south, east, north, west}
 use Rattle.def_layout.specs.Lengths.{Lengths, size}
 use Rattle.def_layout.specs.Plans.{Plan, layout_of, way_number, side_at}
 use Rattle.def_layout.specs.declared.tmesh.SideArc.{SideArc}
 use Rattle.def_remesh.specs.Numberings.{sizes_on, used_at}
-use Rattle.def_layoutnet.specs.MeshLayouts.{IsMeshLayout}
+use Rattle.def_layoutnet.specs.MeshLayouts.{IsSomeLayout}
 use Rattle.qm_reach.specs.Fours.{AreSides}
 pub use Rattle.plan_laws.proofs.MeshLayouts.{laid_of, lengths_of, lies}
 
 -- The arcs that sides use.
-pub arcs_low : (plan : Plan) → IsPaved (layout_of plan) → (patch : ℕ) (side : Way) (n : ℕ) (list : List SideArc) → patch < length plan.patches
+pub arcs_low : (plan : Plan) → HasWholeSides (layout_of plan) → (patch : ℕ) (side : Way) (n : ℕ) (list : List SideArc) → patch < length plan.patches
     → n ≡ length plan.arcs → list ≡ side_at plan patch side → All (λ (used : SideArc). used.arc < n) list
 arcs_low plan paved patch side n list low long same =
     subst (λ (us : List SideArc). All (λ (used : SideArc). used.arc < n) us) (sym same)
@@ -22,12 +22,12 @@ arcs_low plan paved patch side n list low long same =
     let read = get_or_default (side_at plan patch side) k d (record { arc = 0; forward = true }) less in
     omega (arith, arc, ap (λ (u : SideArc). u.arc) read, long))
 
-pub uses_low : (plan : Plan) → IsMeshLayout plan → (patch : ℕ) (side : Way) (n : ℕ) (list : List SideArc) → patch < length plan.patches
+pub uses_low : (plan : Plan) → IsSomeLayout plan → (patch : ℕ) (side : Way) (n : ℕ) (list : List SideArc) → patch < length plan.patches
     → n ≡ length plan.arcs → list ≡ side_at plan patch side → All (λ (used : SideArc). used.arc < n) list
 uses_low plan is = arcs_low plan (laid_of plan is).paved
 
 -- What is read of the sides of the layout of a mesh.
-pub sides_of : (plan : Plan) → IsMeshLayout plan → AreSides plan
+pub sides_of : (plan : Plan) → IsSomeLayout plan → AreSides plan
 sides_of plan is = record { sided = is.laid.sided; four = is.laid.four; paved = (laid_of plan is).paved }
 
 -- A side that is read is as long as its lengths say.

@@ -1,6 +1,6 @@
 -- The tables of the four sides of a patch.
 use Rattle.std.specs.Prelude.{◌≡◌, ◌<◌, ℕ, List, [], length, map, slice_index_or}
-use Rattle.def_layout.specs.Laid.{IsPaved}
+use Rattle.def_layout.specs.Surfaces.{HasWholeSides}
 use Rattle.def_layout.specs.Layouts.{Way}
 use Rattle.def_layout.specs.Lengths.{Lengths}
 use Rattle.def_layout.specs.Plans.{Plan, PatchSides, layout_of, way_number, side_at}
@@ -37,4 +37,4 @@ pub record AreFourStarts (plan : Plan) (lengths : Lengths) (patch : ℕ) (four :
 pub record AreSides (plan : Plan) : Type 0 where
   pub sided : length plan.sides ≡ length plan.patches
   pub four : (patch : ℕ) → patch < length plan.patches → length (slice_index_or plan.sides patch []) ≡ 4
-  pub paved : IsPaved (layout_of plan)
+  pub paved : HasWholeSides (layout_of plan)

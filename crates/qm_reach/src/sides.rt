@@ -8,7 +8,7 @@ ghost use Rattle.def_layout.specs.Lengths.{size};
 ghost use Rattle.def_layout.specs.Plans.{layout_of, plan};
 ghost use Rattle.def_layout.specs.declared.tmesh.Side.{Side as Arcs};
 ghost use Rattle.def_layout.specs.declared.tmesh.SideArc.{SideArc as Used};
-ghost use Rattle.def_layoutnet.specs.MeshLayouts.{IsMeshLayout};
+ghost use Rattle.def_layoutnet.specs.MeshLayouts.{IsSomeLayout};
 ghost use Rattle.def_remesh.specs.NewPoints.{lengths_in};
 ghost use Rattle.def_remesh.specs.Numberings.{sizes_on, tables_of, AreSideStarts, AreRunStarts};
 ghost use Rattle.qm_reach.specs.Fours.{begins_of, AreFourStarts, IsTableOf};
@@ -34,7 +34,7 @@ pub fn uses_on(sides: &[[Side; 4]], patch: usize, side: usize) -> &[SideArc]
 
 /// The same, of the layout of a mesh.
 pub fn side_of(t: &TMesh, patch: usize, side: usize) -> &[SideArc]
-    requires layout { IsMeshLayout (plan t.now) }
+    requires layout { IsSomeLayout (plan t.now) }
     requires low { patch < length t.now.patches.items }
     requires side { side < 4 }
     ensures { result.now ≡ slice_index_or (slice_index_or (plan t.now).sides patch []) side [] }
@@ -102,7 +102,7 @@ pub fn side_tables(
     t: &TMesh,
     lengths: &[u32],
 ) -> Result<Vec<[RunStarts; 4]>, AllocError>
-    requires layout { IsMeshLayout (plan t.now) }
+    requires layout { IsSomeLayout (plan t.now) }
     requires long { length lengths.now ≡ length t.now.arcs.items }
     requires small { (patch : ℕ) (side : Way) → patch < length t.now.patches.items
         → size (layout_of (plan t.now)) (lengths_in lengths.now) patch side < 2 ^ 32 }

@@ -8,7 +8,7 @@ ghost use Rattle.def_layout.specs.Layouts.{Way};
 ghost use Rattle.def_layout.specs.Lengths.{size};
 ghost use Rattle.def_layout.specs.Plans.{layout_of, way_number, plan};
 ghost use Rattle.def_layout.specs.declared.tmesh.SideArc.{SideArc as Used};
-ghost use Rattle.def_layoutnet.specs.MeshLayouts.{IsMeshLayout};
+ghost use Rattle.def_layoutnet.specs.MeshLayouts.{IsSomeLayout};
 ghost use Rattle.def_remesh.specs.NewPoints.{lengths_in};
 ghost use Rattle.def_remesh.specs.Numberings.{sizes_on};
 
@@ -30,7 +30,7 @@ fn size_of(side: &[SideArc], lengths: &[u64]) -> u64
 
 /// The length of a side of a patch: 0 is south, 1 east, 2 north and 3 west. Linear in the arcs on it.
 pub fn size_on(t: &TMesh, patch: usize, side: usize, lengths: &[u64]) -> u64
-    requires layout { IsMeshLayout (plan t.now) }
+    requires layout { IsSomeLayout (plan t.now) }
     requires patch { patch < length t.now.patches.items }
     requires side { side < 4 }
     requires long { length lengths.now ≡ length t.now.arcs.items }

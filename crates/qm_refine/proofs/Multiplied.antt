@@ -13,7 +13,7 @@ use Rattle.def_layout.specs.Nodes.{is_node, AreNodes}
 use Rattle.def_layout.specs.Plans.{Plan, layout_of, plan, vertex_at}
 use Rattle.def_layout.specs.declared.tmesh.TArc.{TArc}
 use Rattle.def_layout.specs.declared.tmesh.TMesh.{TMesh}
-use Rattle.def_layoutnet.specs.MeshLayouts.{IsMeshLayout}
+use Rattle.def_layoutnet.specs.MeshLayouts.{IsSomeLayout}
 use Rattle.def_mesh.specs.Darts.{darts}
 use Rattle.def_mesh.specs.HalfEdges.{half_edges, IsQuadManifold}
 use Rattle.def_remesh.specs.NewPoints.{lengths_in, multiple_of}
@@ -42,7 +42,7 @@ multiple_is by arcs lengths is = λ i a. (ap (λ (xs : List ℕ). get_or xs a 0)
         ap (λ (d : ℕ). get_or (multiples_of by arcs) a d) none
         ∙ get_or-map (λ (arc : Path). by * length arc.darts) arcs a (record { first = 0; last = 0; darts = [] })
 
-module _ (plan : Plan) (is : IsMeshLayout plan) where
+module _ (plan : Plan) (is : IsSomeLayout plan) where
   laws : IsQuadManifold (half_edges is.faces)
   laws = manifold_law is.faces is.mesh.manifold
 
@@ -83,7 +83,7 @@ module _ (plan : Plan) (is : IsMeshLayout plan) where
       (plan_law is.faces is.marks plan is.mesh is.quads is.cut is.laid) by some).0
 
 -- Each arc is short.
-pub arcs_short : (t : TMesh) → IsMeshLayout (plan t) → All (λ (run : TArc). length run.darts.items < 2 ^ 32) t.arcs.items
+pub arcs_short : (t : TMesh) → IsSomeLayout (plan t) → All (λ (run : TArc). length run.darts.items < 2 ^ 32) t.arcs.items
 arcs_short t is k d l =
     let long : long_at (plan t).arcs k ≡ length (get_or t.arcs.items k d).darts.items =
     ap (λ (p : Path). length p.darts) (lists.get_or-map path t.arcs.items k d (record { first = 0; last = 0; darts = [] }) l) in

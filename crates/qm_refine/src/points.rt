@@ -7,7 +7,7 @@ ghost use Rattle.def_layout.specs.Lengths.{AreLengths};
 ghost use Rattle.def_layout.specs.Plans.{layout_of, plan as plan_of};
 ghost use Rattle.def_remesh.specs.NewPoints.{lengths_in, multiple_of};
 ghost use Rattle.def_remesh.specs.Numberings.{IsNumbering};
-ghost use Rattle.def_remesh.specs.Placings.{ArePlaces, IsLayoutIn};
+ghost use Rattle.def_remesh.specs.Placings.{ArePlaces, IsMeshLayout};
 ghost use Rattle.def_remesh.specs.Stitched.{AreSafe, IsUnstitched, KeepsShapes};
 ghost use Rattle.def_run.specs.declared.command.TheConstants.{MAX_MULTIPLE};
 
@@ -29,7 +29,7 @@ pub fn refined_points(
     t: &TMesh,
     by: u32,
 ) -> Result<NewPoints, StitchFail>
-    requires layout { IsLayoutIn mesh.now (plan_of t.now) }
+    requires layout { IsMeshLayout mesh.now (plan_of t.now) }
     requires some { 1 ≤ by }
     requires few { by ≤ MAX_MULTIPLE }
     ensures numbering { IfOk result (λ new. IsNumbering (plan_of t.now) new.numbering) }
@@ -53,7 +53,7 @@ fn points_of(
     t: &TMesh,
     lengths: &[u64],
 ) -> Result<NewPoints, StitchFail>
-    requires layout { IsLayoutIn mesh.now (plan_of t.now) }
+    requires layout { IsMeshLayout mesh.now (plan_of t.now) }
     requires long { length lengths.now ≡ length t.now.arcs.items }
     requires lengths { AreLengths (layout_of (plan_of t.now)) (lengths_in lengths.now) }
     requires bounded { (arc : ℕ) → lengths_in lengths.now arc ≤ MAX_LENGTH }

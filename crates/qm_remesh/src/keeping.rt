@@ -9,7 +9,7 @@ ghost use Rattle.def_flow.specs.Admissible.{IsEven};
 ghost use Rattle.def_flow.specs.Descent.{IsSolution};
 ghost use Rattle.def_flow.specs.Network.{network};
 ghost use Rattle.def_layout.specs.Plans.{plan as plan_of};
-ghost use Rattle.def_layoutnet.specs.MeshLayouts.{IsMeshLayout};
+ghost use Rattle.def_layoutnet.specs.MeshLayouts.{IsSomeLayout};
 ghost use Rattle.def_remesh.specs.Keeping.{IsKept};
 ghost use Rattle.def_remesh.specs.Refusals.{IsLayoutFail};
 ghost use Rattle.def_remesh.specs.Keeping.{IsNetFor};
@@ -32,7 +32,7 @@ use std::alloc::Global;
 ///
 /// The time is that of `solve` and, beyond it, near linear in the sizes of the old and the new mesh.
 pub fn keep(alloc: Global, t: &TMesh, asked: Asked) -> Result<Remesh, LayoutFail>
-    requires layout { IsMeshLayout (plan_of t.now) }
+    requires layout { IsSomeLayout (plan_of t.now) }
     requires settings { AreInRange asked.settings asked.auto }
     ensures kept { IfOk result (λ kept. IsKept old_lengths (plan_of t.now) asked.settings asked.auto
         (lists_of kept.first) (option_map lists_of kept.third) kept.numbering) }

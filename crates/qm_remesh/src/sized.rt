@@ -9,7 +9,7 @@ ghost use Rattle.def_mesh.specs.Vertices.{vertex_count};
 ghost use Rattle.def_metric.specs.Fails.{AreNear, IsSizeFail};
 ghost use Rattle.def_metric.specs.Targets.{edge_settings, targets};
 ghost use Rattle.def_remesh.specs.Keeping.{IsKept};
-ghost use Rattle.def_remesh.specs.Placings.{IsLayoutIn};
+ghost use Rattle.def_remesh.specs.Placings.{IsMeshLayout};
 
 use crate::keeping::keep_solved;
 use def_certtext::Asked;
@@ -31,7 +31,7 @@ pub fn keep_sized(
     edge: Micro,
     floor: u32,
 ) -> Result<Remesh, SizeFail>
-    requires layout { IsLayoutIn cut.now.mesh (plan_of cut.now.layout) }
+    requires layout { IsMeshLayout cut.now.mesh (plan_of cut.now.layout) }
     requires positions { length pos.now ≡ vertex_count cut.now.mesh }
     requires edge { whole 1 ≤ℤ edge }
     requires floor { (1 ≤ floor) × (floor ≤ MAX_FLOOR) }

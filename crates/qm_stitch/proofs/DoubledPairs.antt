@@ -5,7 +5,7 @@ use Rattle.std.specs.List.{Contains}
 use Rattle.std.proofs.lemmas.Bool.{cases_lt}
 use Rattle.std.proofs.lemmas.List.{get_or-map, get_or_default, length-map}
 use Rattle.def_layout.specs.Layouts.{Way, east, north, Layout}
-use Rattle.def_layout.specs.Laid.{IsLaid}
+use Rattle.def_layout.specs.Surfaces.{IsSurface}
 use Rattle.def_layout.specs.Lengths.{Lengths, AreLengths}
 use Rattle.def_written.specs.Points.{inside}
 use Rattle.def_written.specs.Numbers.{vertex_number, vertices}
@@ -28,7 +28,7 @@ split_key a b key a_low b_low is =
       | inr more ↦ (omega arith, inl (omega arith, omega arith))
     ]
 
-module _ (l : Layout) (x : Lengths) (laid : IsLaid l) (len : AreLengths l x) where
+module _ (l : Layout) (x : Lengths) (laid : IsSurface l) (len : AreLengths l x) where
   -- An edge between two inner points of a patch leaves one of them in a direction.
   record IsHub (e : Edge) : Type 0 where
     p : ℕ

@@ -6,7 +6,7 @@ use Rattle.std.proofs.lemmas.Bool.{cases_eq, cases_lt, lt-ltb, ltb-true}
 use Rattle.std.proofs.lemmas.List.Elements.{All-append, All-cons, All-contains, All-nil, Contains-append_left, Contains-append_right}
 use Rattle.std.proofs.lemmas.List.Kept.{AllPairs-cons}
 use Rattle.def_layout.specs.Layouts.{Layout}
-use Rattle.def_layout.specs.Laid.{IsPaved}
+use Rattle.def_layout.specs.Surfaces.{HasWholeSides}
 use Rattle.def_layout.specs.Lengths.{Lengths, size, wide, high, AreLengths}
 use Rattle.def_written.specs.Edges.{Edge, on_arc, flat, steep, IsEdge}
 use Rattle.written_laws.proofs.Sides.{size_some}
@@ -122,7 +122,7 @@ module _ (l : Layout) (x : Lengths) where
       omega (arith, a, b, ap kind same))
 
   -- What is listed is an edge.
-  module _ (paved : IsPaved l) (len : AreLengths l x) where
+  module _ (paved : HasWholeSides l) (len : AreLengths l x) where
     edge_in : (u : Bool) (p n k : ℕ) → p < l.patches → 0 < n → n < size l x p (along_lines (not u)) → k < size l x p (along_lines u)
         → IsEdge l x (line_edge u p n k)
     edge_in false p n k low some up less = (low, less, some, up)

@@ -7,7 +7,7 @@ use Rattle.std.proofs.lemmas.Nat.{div-mul-add}
 use Rattle.def_layout.specs.Arcs.{long_at, Path}
 use Rattle.def_layout.specs.Lengths.{Lengths, AreLengths}
 use Rattle.def_layout.specs.Plans.{Plan, layout_of, vertex_at}
-use Rattle.def_layoutnet.specs.MeshLayouts.{IsMeshLayout}
+use Rattle.def_layoutnet.specs.MeshLayouts.{IsSomeLayout}
 use Rattle.def_written.specs.Edges.{IsUndoubled}
 use Rattle.def_remesh.specs.NewPoints.{lengths_in, multiple_of}
 use Rattle.def_remesh.specs.Stitched.{AreMultiples, AreSafe, KeepsShapes}
@@ -27,7 +27,7 @@ module _ (plan : Plan) (list : List ℕ) (long : length list ≡ length plan.arc
         omega (arith, zero, get_or_past list arc 0 (omega (arith, past, long)))
   ]
 
-  pub safe_undoubled : IsMeshLayout plan → AreLengths (layout_of plan) (lengths_in list) → AreSafe plan (lengths_in list)
+  pub safe_undoubled : IsSomeLayout plan → AreLengths (layout_of plan) (lengths_in list) → AreSafe plan (lengths_in list)
       → IsUndoubled (layout_of plan) (lengths_in list)
   safe_undoubled is len (inl most) = three_law (layout_of plan) (lengths_in list) (laid_of plan is) len most
   safe_undoubled is len (inr (by, some, same)) =

@@ -1,6 +1,6 @@
 -- Tables that number the points and the faces of a layout, as far as they are read.
 use Rattle.std.specs.Prelude.{◌≡◌, ℕ, ◌-◌, ◌*◌, ◌^◌, ◌<◌, ◌≤◌, [], length, slice_index_or}
-use Rattle.def_layout.specs.Laid.{IsPaved}
+use Rattle.def_layout.specs.Surfaces.{HasWholeSides}
 use Rattle.def_layout.specs.Layouts.{Way}
 use Rattle.def_layout.specs.Lengths.{size, wide, high, AreLengths}
 use Rattle.def_layout.specs.Plans.{Plan, layout_of}
@@ -12,7 +12,7 @@ use Rattle.def_remesh.specs.declared.tables.Tables.{Tables}
 -- The tables number the points and the faces of the layout, which is paved, with the lengths that they hold, and all
 -- numbers are small.
 pub record AreTables (plan : Plan) (tables : Tables) : Type 0 where
-  pub paved : IsPaved (layout_of plan)
+  pub paved : HasWholeSides (layout_of plan)
   pub sided : length plan.sides ≡ length plan.patches
   pub four : (patch : ℕ) → patch < length plan.patches → length (slice_index_or plan.sides patch []) ≡ 4
   pub long : length tables.lengths.items ≡ length plan.arcs

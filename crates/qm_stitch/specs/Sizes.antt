@@ -5,7 +5,7 @@ use Rattle.def_math.specs.Runs.{run_at}
 use Rattle.def_layout.specs.declared.tmesh.SideArc.{SideArc}
 use Rattle.def_layout.specs.Lengths.{Lengths, AreLengths}
 use Rattle.def_layout.specs.Plans.{Plan, layout_of}
-use Rattle.def_layoutnet.specs.MeshLayouts.{IsMeshLayout}
+use Rattle.def_layoutnet.specs.MeshLayouts.{IsSomeLayout}
 use Rattle.def_written.specs.NewFaces.{face_count}
 use Rattle.def_written.specs.Points.{Point, use_point}
 use Rattle.def_layout.specs.Layouts.{Layout}
@@ -17,7 +17,7 @@ use Rattle.def_remesh.specs.declared.limits.TheConstants.{MAX_NEW_FACES}
 
 -- Lengths that give no more faces than a new mesh may have.
 pub record IsFine (plan : Plan) (list : List ℕ) : Type 0 where
-  pub mesh : IsMeshLayout plan
+  pub mesh : IsSomeLayout plan
   pub long : length list ≡ length plan.arcs
   pub lengths : AreLengths (layout_of plan) (lengths_in list)
   pub few : face_count (layout_of plan) (lengths_in list) ≤ MAX_NEW_FACES

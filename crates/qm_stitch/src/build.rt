@@ -2,7 +2,7 @@
 
 ghost use Rattle.std.specs.Prelude.{◌≡◌, ◌<◌, ◌≤◌, ◌-◌, ℕ, length, IfOk, IfErr};
 ghost use Rattle.def_layout.specs.Plans.{layout_of, plan};
-ghost use Rattle.def_layoutnet.specs.MeshLayouts.{IsMeshLayout};
+ghost use Rattle.def_layoutnet.specs.MeshLayouts.{IsSomeLayout};
 ghost use Rattle.def_remesh.specs.NewPoints.{lengths_in};
 ghost use Rattle.def_remesh.specs.Numberings.{tables_of, AreRunStarts, IsNumbering};
 ghost use Rattle.qm_stitch.specs.Sizes.{product_by, AreRows, IsFine, IsTooFine};
@@ -19,7 +19,7 @@ use std::alloc::{AllocError, Global};
 /// The numbering of the points and faces of a layout with these lengths, also where an edge is doubled. It is refused
 /// as `TooFine` exactly where there are more faces than the limit.
 pub(crate) fn number(alloc: Global, stretched: &Stretched) -> Result<Numbering, StitchFail>
-    requires layout { IsMeshLayout (plan stretched.now.t.now) }
+    requires layout { IsSomeLayout (plan stretched.now.t.now) }
     ensures numbering { IfOk result (λ n. IsNumbering (plan stretched.now.t.now) n) }
     ensures lengths { IfOk result (λ n. n.lengths.items ≡ stretched.now.lengths.now) }
     ensures refused { IfErr result

@@ -2,7 +2,7 @@
 
 ghost use Rattle.std.specs.Prelude.{◌≡◌};
 ghost use Rattle.def_layout.specs.Plans.{layout_of, plan};
-ghost use Rattle.def_layoutnet.specs.MeshLayouts.{IsMeshLayout};
+ghost use Rattle.def_layoutnet.specs.MeshLayouts.{IsSomeLayout};
 ghost use Rattle.def_written.specs.NewFaces.{face_count};
 ghost use Rattle.def_remesh.specs.NewPoints.{lengths_in};
 
@@ -11,7 +11,7 @@ use qm_reach::size_on;
 
 /// How many faces there are. Linear in the arcs on the sides of patches.
 pub(crate) fn count_faces(stretched: &Stretched) -> u128
-    requires layout { IsMeshLayout (plan stretched.now.t.now) }
+    requires layout { IsSomeLayout (plan stretched.now.t.now) }
     ensures { result ≡ face_count (layout_of (plan stretched.now.t.now)) (lengths_in stretched.now.lengths.now) }
 {
     let mut faces = 0u128;

@@ -4,7 +4,7 @@ ghost use Rattle.std.specs.Prelude.{◌≡◌, ◌≤◌, ℕ, length, IfErr, If
 ghost use Rattle.def_flow.specs.declared.limits.TheConstants.{MAX_LENGTH};
 ghost use Rattle.def_layout.specs.Lengths.{AreLengths};
 ghost use Rattle.def_layout.specs.Plans.{layout_of, plan as plan_of};
-ghost use Rattle.def_layoutnet.specs.MeshLayouts.{IsMeshLayout};
+ghost use Rattle.def_layoutnet.specs.MeshLayouts.{IsSomeLayout};
 ghost use Rattle.def_written.specs.Edges.{IsUndoubled};
 ghost use Rattle.def_remesh.specs.NewPoints.{lengths_in};
 ghost use Rattle.def_remesh.specs.Numberings.{IsNumbering};
@@ -24,7 +24,7 @@ use std::alloc::Global;
 /// least pair of vertices where one is. n log n in the edges that have an end on a side of a patch; lengths that are
 /// safe are not searched.
 pub fn plan(alloc: Global, t: &TMesh, lengths: &[u64]) -> Result<Numbering, StitchFail>
-    requires layout { IsMeshLayout (plan_of t.now) }
+    requires layout { IsSomeLayout (plan_of t.now) }
     requires long { length lengths.now ≡ length t.now.arcs.items }
     requires lengths { AreLengths (layout_of (plan_of t.now)) (lengths_in lengths.now) }
     requires bounded { (arc : ℕ) → lengths_in lengths.now arc ≤ MAX_LENGTH }

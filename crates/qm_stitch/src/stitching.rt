@@ -4,7 +4,7 @@ ghost use Rattle.std.specs.Prelude.{◌≡◌, ◌≤◌, ℕ, length, IfErr, If
 ghost use Rattle.def_flow.specs.declared.limits.TheConstants.{MAX_LENGTH};
 ghost use Rattle.def_layout.specs.Lengths.{AreLengths};
 ghost use Rattle.def_layout.specs.Plans.{layout_of, plan as plan_of};
-ghost use Rattle.def_layoutnet.specs.MeshLayouts.{IsMeshLayout};
+ghost use Rattle.def_layoutnet.specs.MeshLayouts.{IsSomeLayout};
 ghost use Rattle.def_written.specs.Edges.{IsUndoubled};
 ghost use Rattle.def_written.specs.NewFaces.{new_faces};
 ghost use Rattle.def_remesh.specs.NewPoints.{lengths_in};
@@ -19,7 +19,7 @@ use std::alloc::{AllocError, Global};
 
 /// The mesh that a layout gives at these lengths, with the refusals of `plan`. Linear in its faces, besides.
 pub fn stitch(alloc: Global, t: &TMesh, lengths: &[u64]) -> Result<NewMesh, StitchFail>
-    requires layout { IsMeshLayout (plan_of t.now) }
+    requires layout { IsSomeLayout (plan_of t.now) }
     requires long { length lengths.now ≡ length t.now.arcs.items }
     requires lengths { AreLengths (layout_of (plan_of t.now)) (lengths_in lengths.now) }
     requires bounded { (arc : ℕ) → lengths_in lengths.now arc ≤ MAX_LENGTH }

@@ -7,7 +7,7 @@ use Rattle.def_flow.specs.declared.net.Settings.{Settings}
 use Rattle.def_layout.specs.Arcs.{long_at}
 use Rattle.def_layout.specs.Plans.{Plan, layout_of}
 use Rattle.def_layoutnet.specs.LayoutNet.{IsNetOf}
-use Rattle.def_layoutnet.specs.MeshLayouts.{IsMeshLayout}
+use Rattle.def_layoutnet.specs.MeshLayouts.{IsSomeLayout}
 use Rattle.def_remesh.specs.Keeping.{IsKept}
 use Rattle.def_remesh.specs.declared.tables.Tables.{Tables}
 use Rattle.def_run.specs.Bench.{bench_settings}
@@ -37,7 +37,7 @@ module _ (plan : Plan) (first : Lists) (tables : Tables) (net : Network)
   kept_lengths (Some third) kept = absurd kept.kept
 
   -- A layout has one network, so their deviation is that of their certificate.
-  pub deviation_kept : (third : Option Lists) (told : ℤ) → IsMeshLayout plan → IsKept old_lengths plan bench_settings false first third tables
+  pub deviation_kept : (third : Option Lists) (told : ℤ) → IsSomeLayout plan → IsKept old_lengths plan bench_settings false first third tables
       → told ≡ pos (deviation net (entries first.x)) → IsKeptDeviation plan told
   deviation_kept (Some third) told mesh kept says = absurd kept.kept
   deviation_kept None told mesh kept says =

@@ -10,7 +10,7 @@ use Rattle.def_remesh.specs.declared.kept.LayoutFail.TheVariants as fail
 use Rattle.def_report.specs.BenchLine.{bench_line}
 use Rattle.def_report.specs.declared.Counts.{Counts}
 use Rattle.def_run.specs.Bench.{bench_faces, bench_settings, counts_of, IsBenchFail}
-use Rattle.def_run.specs.Remesh.{IsCutTo}
+use Rattle.def_run.specs.Remesh.{IsTracedLayout}
 use Rattle.def_remesh.specs.Tasks.{old_lengths}
 
 -- Counts that are those of a mesh and its layout give its line.
@@ -31,7 +31,7 @@ same_line size told faces plan deviation vertices edges many riders patches arcs
     ap (bench_line size) same
 
 -- A layout of the mesh of a size that is refused is why the size is.
-pub size_fails : (size : ℕ) (plan : Plan) (failed : LayoutFail) → IsCutTo (bench_faces size) plan
+pub size_fails : (size : ℕ) (plan : Plan) (failed : LayoutFail) → IsTracedLayout (bench_faces size) plan
     → IsLayoutFail old_lengths plan bench_settings false failed → IsBenchFail size failed
 size_fails size plan (fail.Tangled count) cut why = (plan, cut, why)
 size_fails size plan (fail.TooFine faces kept) cut why = (plan, cut, why)

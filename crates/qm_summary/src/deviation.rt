@@ -2,7 +2,7 @@
 
 ghost use Rattle.std.specs.Prelude.{◌≡◌, ◌<◌, ◌^◌, ◌<ℤ◌, pos, false, length, IfOk, IfErr, OnOk};
 ghost use Rattle.def_layout.specs.Plans.{plan};
-ghost use Rattle.def_layoutnet.specs.MeshLayouts.{IsMeshLayout};
+ghost use Rattle.def_layoutnet.specs.MeshLayouts.{IsSomeLayout};
 ghost use Rattle.def_remesh.specs.Refusals.{IsLayoutFail};
 ghost use Rattle.def_run.specs.Bench.{bench_settings};
 ghost use Rattle.qm_summary.specs.Deviation.{IsKeptDeviation};
@@ -22,7 +22,7 @@ use std::alloc::Global;
 ///
 /// The time is that of `keep`.
 pub(crate) fn kept_deviation(alloc: Global, t: &TMesh) -> Result<i128, LayoutFail>
-    requires { IsMeshLayout (plan t.now) }
+    requires { IsSomeLayout (plan t.now) }
     ensures kept { IfOk result (IsKeptDeviation (plan t.now)) }
     ensures small { IfOk result (λ deviation. deviation <ℤ pos (2 ^ 127)) }
     ensures few { OnOk result ((length (plan t.now).patches < 2 ^ 32) × (length (plan t.now).arcs < 2 ^ 32)) }

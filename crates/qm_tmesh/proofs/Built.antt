@@ -16,7 +16,7 @@ use Rattle.def_layout.specs.Arcs.{IsRun, Path, path, path_at, dart_at, long_at, 
 use Rattle.def_layout.specs.Borders.{side_size, border_dart}
 use Rattle.def_layout.specs.Layouts.{Way}
 use Rattle.def_layout.specs.Nodes.{is_node}
-use Rattle.def_layout.specs.Plans.{way_number, IsLayout}
+use Rattle.def_layout.specs.Plans.{way_number, IsDartLayout}
 use Rattle.def_layout.specs.declared.tmesh.SideArc.{SideArc}
 use Rattle.def_layout.specs.declared.tmesh.TArc.{TArc}
 use Rattle.mesh_laws.proofs.HalfEdges.{manifold_law}
@@ -178,7 +178,7 @@ module _ (faces : Faces) (cut marks : List Bool) (marked : IsMarked faces cut ma
             lies o lo = subst (λ (x : ℕ). LiesAt (half_edges faces) (path_at arcs (use_in us k).arc).darts (use_in us k).forward o x) (line_easts (half_edges faces) marked.laws (is_on cut) marked.full (is_node faces cut) marked.stand (border_dart (half_edges faces) (patch_at ps p) way) (side_size (patch_at ps p) way) here (reach_in arcs us k) o (omega (arith, fits, lo)))
                 ((arc_use faces arcs uses runs (use_in us k).arc (use_in us k).forward (border_dart (half_edges faces) (patch_at ps p) way (reach_in arcs us k)) low starts).lies o lo)
 
-    pub is_layout : IsLayout (half_edges faces) (is_on cut) (is_node faces cut) face (vertex_count faces) (record { nodes = list; arcs = arcs; patches = ps; sides = sides })
+    pub is_layout : IsDartLayout (half_edges faces) (is_on cut) (is_node faces cut) face (vertex_count faces) (record { nodes = list; arcs = arcs; patches = ps; sides = sides })
     unfolding Covered
     is_layout = record {
       patches = parts;

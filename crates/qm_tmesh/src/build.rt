@@ -5,7 +5,7 @@ ghost use Rattle.def_mesh.specs.HalfEdges.{half_edges};
 ghost use Rattle.def_cut.specs.FullCut.{is_on, IsFullCut};
 ghost use Rattle.def_cut.specs.Grids.{rectangle, IsPartition};
 ghost use Rattle.def_cut.specs.Steps.{face_of};
-ghost use Rattle.def_layout.specs.FaceLayouts.{IsLayoutOf};
+ghost use Rattle.def_layout.specs.FaceLayouts.{IsCutLayout};
 ghost use Rattle.def_layout.specs.Plans.{plan};
 
 use crate::Memory;
@@ -30,7 +30,7 @@ pub fn layout(
     requires cut { IsFullCut mesh.now graph.now.covered.items }
     requires patches { IsPartition (half_edges mesh.now) (is_on graph.now.covered.items) face_of
         (map rectangle patches.items) }
-    ensures { IfOk result (λ t. IsLayoutOf mesh.now graph.now.covered.items (plan t)) }
+    ensures { IfOk result (λ t. IsCutLayout mesh.now graph.now.covered.items (plan t)) }
 {
     let cut = graph.covered.as_slice();
     let nodes = find_nodes(alloc, mesh, cut)?;

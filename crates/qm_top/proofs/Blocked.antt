@@ -4,14 +4,14 @@ use Rattle.def_blocks.specs.BlockTexts.{blocks_text}
 use Rattle.def_blocks.specs.declared.link.Link.{Link}
 use Rattle.def_io.specs.Moves.{Change}
 use Rattle.def_layout.specs.Arcs.{long_at}
-use Rattle.def_layout.specs.Laid.{IsLaid}
+use Rattle.def_layout.specs.Surfaces.{IsSurface}
 use Rattle.def_layout.specs.Lengths.{Lengths, AreLengths}
 use Rattle.def_layout.specs.Plans.{Plan, layout_of}
 use Rattle.def_mesh.specs.Faces.{Faces}
 use Rattle.def_mesh.specs.Manifold.{IsManifold}
 use Rattle.def_remesh.specs.NewPoints.{lengths_in, multiple_of}
 use Rattle.def_run.specs.Blocks.{IsBlocked}
-use Rattle.def_run.specs.Remesh.{IsCutTo}
+use Rattle.def_run.specs.Remesh.{IsTracedLayout}
 use Rattle.def_run.specs.declared.command.Command.TheVariants as commands
 use Rattle.def_text.specs.FaceSet.{FaceSet}
 use Rattle.def_text.specs.Input.{ReadSoup}
@@ -27,7 +27,7 @@ use Rattle.qm_top.proofs.Refined.{fails_as}
 use Rattle.qm_top.proofs.Writers.{IsWriter}
 
 -- The text of the blocks of a layout with multiples of its old lengths.
-pub is_blocked : (by : ℕ) (soup : FaceSet) (faces : Faces) (plan : Plan) (blocks : Blocks) → IsCutTo soup.faces plan
+pub is_blocked : (by : ℕ) (soup : FaceSet) (faces : Faces) (plan : Plan) (blocks : Blocks) → IsTracedLayout soup.faces plan
     → AreBlocksBy by faces plan blocks → IsBlocked by soup (told_text blocks soup plan)
 is_blocked by soup faces plan blocks cut are = record {
   plan = plan;
@@ -51,7 +51,7 @@ is_blocked by soup faces plan blocks cut are = record {
     links : List (List Link)
     links = map (λ links. links.items) blocks.links.items
 
-    laid : IsLaid (layout_of plan)
+    laid : IsSurface (layout_of plan)
     laid = laid_of plan are.points.numbering.mesh
 
     lengths : AreLengths (layout_of plan) new

@@ -9,7 +9,7 @@ use Rattle.def_flow.specs.declared.net.Settings.{Settings}
 use Rattle.def_io.specs.Bytes.{Bytes}
 use Rattle.def_io.specs.Moves.{Change}
 use Rattle.def_io.specs.declared.TheConstants.{LINE_FEED}
-use Rattle.def_layout.specs.FaceLayouts.{IsLayoutOf}
+use Rattle.def_layout.specs.FaceLayouts.{IsCutLayout}
 use Rattle.def_layout.specs.Plans.{Plan}
 use Rattle.def_marks.specs.Lines.{marks_in}
 use Rattle.def_marks.specs.MarkedText.{marked_text}
@@ -120,13 +120,13 @@ no_mesh_of bytes soup _ said why = absurd why
 
 -- What is kept of a mesh with its marks is in the frame of its task.
 pub creased_framed : (settings : Settings) (soup : FaceSet) (mesh : Faces) (marks sliced : List Bool) (plan : Plan) (framed : Framed) → mesh ≡ soup.faces → sliced ≡ marks
-    → IsLayoutOf mesh (marked_cut mesh sliced) plan → framed.remesh.asked ≡ record { settings = settings; auto = false }
+    → IsCutLayout mesh (marked_cut mesh sliced) plan → framed.remesh.asked ≡ record { settings = settings; auto = false }
     → IsKept old_lengths plan settings false (lists_of framed.remesh.first) (option_map lists_of framed.remesh.third) framed.remesh.numbering
     → framed.head.items ≡ named_head (codes "crease") settings ++ LINE_FEED ∷ []
     → framed.between.items ≡ marked_text marks plan (lengths_in (used (lists_of framed.remesh.first) (option_map lists_of framed.remesh.third)).x)
     → IsFramed (creased_task settings soup.faces marks) framed soup plan
 creased_framed settings soup mesh marks sliced plan framed same are cut asked kept head between = record {
-  cut = subst (λ (faces : Faces). IsLayoutOf faces (marked_cut faces marks) plan) same (subst (λ (xs : List Bool). IsLayoutOf mesh (marked_cut mesh xs) plan) are cut);
+  cut = subst (λ (faces : Faces). IsCutLayout faces (marked_cut faces marks) plan) same (subst (λ (xs : List Bool). IsCutLayout mesh (marked_cut mesh xs) plan) are cut);
   settings = ap (λ (a : Asked). a.settings) asked;
   auto = ap (λ (a : Asked). a.auto) asked;
   kept = kept;
@@ -136,9 +136,9 @@ creased_framed settings soup mesh marks sliced plan framed same are cut asked ke
 
 -- Where its layout is refused its task fails.
 pub creased_fails : (settings : Settings) (soup : FaceSet) (mesh : Faces) (marks sliced : List Bool) (plan : Plan) (fail : LayoutFail) → mesh ≡ soup.faces → sliced ≡ marks
-    → IsLayoutOf mesh (marked_cut mesh sliced) plan → IsLayoutFail old_lengths plan settings false fail → FailsTask (creased_task settings soup.faces marks) soup fail
+    → IsCutLayout mesh (marked_cut mesh sliced) plan → IsLayoutFail old_lengths plan settings false fail → FailsTask (creased_task settings soup.faces marks) soup fail
 creased_fails settings soup mesh marks sliced plan fail same are cut why =
-    (plan, subst (λ (faces : Faces). IsLayoutOf faces (marked_cut faces marks) plan) same (subst (λ (xs : List Bool). IsLayoutOf mesh (marked_cut mesh xs) plan) are cut), why)
+    (plan, subst (λ (faces : Faces). IsCutLayout faces (marked_cut faces marks) plan) same (subst (λ (xs : List Bool). IsCutLayout mesh (marked_cut mesh xs) plan) are cut), why)
 
 -- A text with this soup, whose faces are a manifold.
 pub mesh_text : (bytes : Bytes) (old soup : FaceSet) → soup_in bytes ≡ Ok old → soup ≡ old → IsManifold old.faces → IsMeshText bytes soup

@@ -5,7 +5,7 @@ use Rattle.def_certtext.specs.CertLines.{lists_of}
 use Rattle.def_io.specs.Bytes.{Bytes}
 use Rattle.def_io.specs.Moves.{Stream}
 use Rattle.def_layout.specs.Plans.{Plan}
-use Rattle.def_remesh.specs.Placings.{IsLayoutIn}
+use Rattle.def_remesh.specs.Placings.{IsMeshLayout}
 use Rattle.def_remesh.specs.Tasks.{Task}
 use Rattle.def_remesh.specs.declared.kept.LayoutFail.{LayoutFail}
 use Rattle.def_text.specs.FaceSet.{FaceSet}
@@ -20,7 +20,7 @@ use Rattle.remesh_laws.proofs.Keeps.{shown}
 use Rattle.remesh_laws.specs.Keeps.{ShowsTask}
 
 -- Its text is that of the task.
-pub framed_shown : (task : Task) (framed : Framed) (soup : FaceSet) (plan : Plan) → IsFramed task framed soup plan → IsLayoutIn soup.faces plan
+pub framed_shown : (task : Task) (framed : Framed) (soup : FaceSet) (plan : Plan) → IsFramed task framed soup plan → IsMeshLayout soup.faces plan
     → ShowsTask task soup (framed_text framed soup plan)
 framed_shown task framed soup plan is lies =
     subst (ShowsTask task soup) (sym (text_is task framed soup plan is))

@@ -6,7 +6,7 @@ use Rattle.def_layout.specs.Plans.{Plan, layout_of, vertex_at}
 use Rattle.def_mesh.specs.Faces.{Faces}
 use Rattle.def_mesh.specs.Manifold.{IsManifold}
 use Rattle.def_remesh.specs.NewPoints.{multiple_of}
-use Rattle.def_remesh.specs.Placings.{IsLayoutIn}
+use Rattle.def_remesh.specs.Placings.{IsMeshLayout}
 use Rattle.def_remesh.specs.Refined.{refined_faces, refined_text}
 use Rattle.def_remesh.specs.Stitched.{KeepsShapes}
 use Rattle.def_remesh.specs.declared.kept.LayoutFail.{LayoutFail}
@@ -14,7 +14,7 @@ use Rattle.def_remesh.specs.declared.kept.LayoutFail.TheVariants as layouts
 use Rattle.def_remesh.specs.declared.limits.TheConstants.{MAX_NEW_FACES}
 use Rattle.def_run.specs.Causes.{Cause, Reads, Refuses}
 use Rattle.def_run.specs.Refine.{RefusesToRefine}
-use Rattle.def_run.specs.Remesh.{IsCutTo}
+use Rattle.def_run.specs.Remesh.{IsTracedLayout}
 use Rattle.def_run.specs.declared.answer.Answer.{Answer}
 use Rattle.def_run.specs.declared.answer.Answer.TheVariants as answers
 use Rattle.def_run.specs.declared.command.Command.{Command}
@@ -31,7 +31,7 @@ use Rattle.qm_top.proofs.Writers.{IsWriter}
 use Rattle.remesh_laws.proofs.ReadAgain.{refined_read}
 
 -- The text of a mesh with multiples of the old lengths is one of a refined mesh.
-pub is_refined : (by : ℕ) (soup : FaceSet) (plan : Plan) → 1 ≤ by → by ≤ MAX_MULTIPLE → IsLayoutIn soup.faces plan → IsCutTo soup.faces plan
+pub is_refined : (by : ℕ) (soup : FaceSet) (plan : Plan) → 1 ≤ by → by ≤ MAX_MULTIPLE → IsMeshLayout soup.faces plan → IsTracedLayout soup.faces plan
     → KeepsShapes plan (multiple_of by (long_at plan.arcs)) → refined_faces by plan ≤ MAX_NEW_FACES
     → ShowsRefined by soup (refined_text by soup plan)
 is_refined by soup plan some few (is, same) cut keeps fits = record {

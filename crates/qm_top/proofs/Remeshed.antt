@@ -24,7 +24,7 @@ use Rattle.qm_top.specs.Refusals.{answer_of_layout}
 use Rattle.qm_write.specs.declared.text.Framed.{Framed}
 use Rattle.qm_write.specs.declared.text.PutFail.{PutFail}
 use Rattle.qm_write.specs.declared.text.PutFail.TheVariants as puts
-use Rattle.def_layout.specs.FaceLayouts.{IsLayoutOf}
+use Rattle.def_layout.specs.FaceLayouts.{IsCutLayout}
 use Rattle.def_layout.specs.Plans.{Plan}
 use Rattle.def_remesh.specs.Refusals.{IsLayoutFail}
 use Rattle.def_remesh.specs.NewPoints.{lengths_in}
@@ -90,7 +90,7 @@ task_writer command asks input out soup needs tasked manifold read calm = record
     mesh : IsMeshText read.bytes soup
     mesh = record { said = read.said; manifold = manifold }
 
-    refused : (answer : Answer) (task : Task) (plan : Plan) → asks read.bytes soup task → IsLayoutOf soup.faces task.marks plan
+    refused : (answer : Answer) (task : Task) (plan : Plan) → asks read.bytes soup task → IsCutLayout soup.faces task.marks plan
         → RefusesLayout task.wish plan task.settings task.auto answer → Refused command input answer
     refused answer task plan asked cut why = record {
       bytes = read.bytes;

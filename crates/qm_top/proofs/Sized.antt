@@ -8,7 +8,7 @@ use Rattle.def_certtext.specs.CertLines.{lists_of}
 use Rattle.def_certtext.specs.declared.Asked.{Asked}
 use Rattle.def_io.specs.Bytes.{Bytes}
 use Rattle.def_io.specs.Moves.{Change, IsStill, Stream}
-use Rattle.def_layout.specs.FaceLayouts.{IsLayoutOf}
+use Rattle.def_layout.specs.FaceLayouts.{IsCutLayout}
 use Rattle.def_layout.specs.Plans.{Plan}
 use Rattle.def_mesh.specs.Faces.{Faces}
 use Rattle.def_mesh.specs.Manifold.{IsManifold}
@@ -17,13 +17,13 @@ use Rattle.def_metric.specs.Targets.{edge_settings, targets}
 use Rattle.def_metric.specs.declared.fail.SizeFail.{SizeFail}
 use Rattle.def_metric.specs.declared.fail.SizeFail.TheVariants as sizes
 use Rattle.def_remesh.specs.Keeping.{IsKept}
-use Rattle.def_remesh.specs.Placings.{IsLayoutIn}
+use Rattle.def_remesh.specs.Placings.{IsMeshLayout}
 use Rattle.def_remesh.specs.Tasks.{Task, Wish}
 use Rattle.def_remesh.specs.declared.kept.LayoutFail.{LayoutFail}
 use Rattle.def_remesh.specs.declared.kept.LayoutFail.TheVariants as layouts
 use Rattle.def_run.specs.Causes.{Cause}
 use Rattle.def_run.specs.Mesh.{IsMeshText}
-use Rattle.def_run.specs.Remesh.{Asks, IsCutTo, RefusesLayout, RefusesTask}
+use Rattle.def_run.specs.Remesh.{Asks, IsTracedLayout, RefusesLayout, RefusesTask}
 use Rattle.def_run.specs.Size.{size_head, size_task, soup_targets, AsksForNearSize, AsksForSize}
 use Rattle.def_run.specs.declared.answer.Answer.{Answer}
 use Rattle.def_run.specs.declared.answer.Answer.TheVariants as answers
@@ -47,7 +47,7 @@ use Rattle.qm_top.proofs.Writers.{writer_runs, IsWriter}
 use Rattle.qm_write.specs.declared.text.Framed.{Framed}
 
 -- The faces of a layout are a manifold.
-pub manifold_in : (soup : FaceSet) (plan : Plan) → IsLayoutIn soup.faces plan → IsManifold soup.faces
+pub manifold_in : (soup : FaceSet) (plan : Plan) → IsMeshLayout soup.faces plan → IsManifold soup.faces
 manifold_in soup plan lies = subst IsManifold lies.1 lies.0.mesh.manifold
 
 -- What it keeps that has read a mesh.
@@ -56,7 +56,7 @@ module _ (edge : ℤ) (floor : ℕ) (input out : Change) (soup : FaceSet) (manif
   mesh : IsMeshText read.bytes soup
   mesh = record { said = read.said; manifold = manifold }
 
-  refused : (asks : Asks) (answer : Answer) (task : Task) (plan : Plan) → asks read.bytes soup task → IsLayoutOf soup.faces task.marks plan
+  refused : (asks : Asks) (answer : Answer) (task : Task) (plan : Plan) → asks read.bytes soup task → IsCutLayout soup.faces task.marks plan
       → RefusesLayout task.wish plan task.settings task.auto answer → RefusesTask asks read.bytes answer
   refused asks answer task plan asked cut why = inr (task, plan, record { soup = soup; mesh = mesh; asked = asked; cut = cut }, why)
 
@@ -124,7 +124,7 @@ all_unsized says fails far out result none = IfErr-weaker result _ _ (unsized sa
 
 -- It is not written where a layout has no least lengths for its targets, or none that give a new mesh.
 pub size_fails : {O : Type 0} (says : Bytes → Type 0) (edge : ℤ) (floor : ℕ) (bytes : Bytes) (soup : FaceSet) (plan : Plan) (out : Stream O)
-    → IsManifold soup.faces → IsCutTo soup.faces plan → IsStill out → (fail : SizeFail) → IsSizeFail (soup_targets edge soup) plan floor fail
+    → IsManifold soup.faces → IsTracedLayout soup.faces plan → IsStill out → (fail : SizeFail) → IsSizeFail (soup_targets edge soup) plan floor fail
     → IsUnsized says (FailsSize edge floor bytes soup) (IsFarSoup edge floor soup) out (refusal_of_size fail)
 size_fails says edge floor bytes soup plan out manifold cut same (sizes.Far sum) why = (same, (plan, cut, why))
 size_fails says edge floor bytes soup plan out manifold cut same (sizes.Layout (layouts.Tangled count)) why =
@@ -144,7 +144,7 @@ of_targets edge soup mesh places P same at holds =
 
 -- What is kept of a layout stands in the frame of its task.
 pub size_framed : (edge : ℤ) (floor : ℕ) (soup : FaceSet) (mesh : Faces) (places : Positions) (plan : Plan) (framed : Framed) → mesh ≡ soup.faces
-    → places ≡ soup.pos → IsCutTo soup.faces plan → framed.remesh.asked ≡ record { settings = edge_settings floor; auto = false }
+    → places ≡ soup.pos → IsTracedLayout soup.faces plan → framed.remesh.asked ≡ record { settings = edge_settings floor; auto = false }
     → IsKept (targets mesh places (unsigned_abs edge)) plan (edge_settings floor) false (lists_of framed.remesh.first) (option_map lists_of framed.remesh.third)
     framed.remesh.numbering
     → framed.head.items ≡ size_head edge floor ++ 10 ∷ [] → framed.between.items ≡ [] → IsFramed (size_task edge floor soup) framed soup plan
@@ -161,7 +161,7 @@ size_framed edge floor soup mesh places plan framed same at cut asked kept head 
 
 -- The task is asked, where its targets are not too great.
 pub size_asked : (edge : ℤ) (floor : ℕ) (bytes : Bytes) (soup : FaceSet) (mesh : Faces) (places : Positions) (plan : Plan) → mesh ≡ soup.faces
-    → places ≡ soup.pos → IsLayoutIn soup.faces plan → IsCutTo soup.faces plan → AreNear (targets mesh places (unsigned_abs edge)) plan
+    → places ≡ soup.pos → IsMeshLayout soup.faces plan → IsTracedLayout soup.faces plan → AreNear (targets mesh places (unsigned_abs edge)) plan
     → AsksForNearSize edge floor bytes soup (size_task edge floor soup)
 size_asked edge floor bytes soup mesh places plan same at lies cut near = (
   refl,

@@ -4,16 +4,16 @@ use Rattle.std.proofs.Common.{◌≡◌, ◌≢◌, Bool, List, Result, Ok, Err,
 use Rattle.def_cut.specs.Traced.{traced_marks}
 use Rattle.def_io.specs.Bytes.{Bytes}
 use Rattle.def_io.specs.Moves.{Change, Stream}
-use Rattle.def_layout.specs.FaceLayouts.{IsLayoutOf}
+use Rattle.def_layout.specs.FaceLayouts.{IsCutLayout}
 use Rattle.def_layout.specs.Plans.{Plan}
 use Rattle.def_merge.specs.Merged.{IsMergedCut}
 use Rattle.def_mesh.specs.Faces.{Faces}
 use Rattle.def_mesh.specs.declared.Place.{Place}
-use Rattle.def_remesh.specs.Placings.{IsLayoutIn}
+use Rattle.def_remesh.specs.Placings.{IsMeshLayout}
 use Rattle.def_remesh.specs.declared.kept.LayoutFail.{LayoutFail}
 use Rattle.def_remesh.specs.declared.kept.LayoutFail.TheVariants as layouts
 use Rattle.def_run.specs.Causes.{Cause, Reads, Writes}
-use Rattle.def_run.specs.Remesh.{IsCutTo}
+use Rattle.def_run.specs.Remesh.{IsTracedLayout}
 use Rattle.def_run.specs.Reread.{Rereads}
 use Rattle.def_run.specs.declared.answer.Answer.TheVariants as answers
 use Rattle.def_run.specs.declared.command.Command.{Command}
@@ -25,13 +25,13 @@ use Rattle.qm_top.specs.declared.refusal.Refusal.TheVariants.{NotManifold, Layou
 use Rattle.qm_top.specs.declared.refusal.Refusal.TheVariants as refusals
 
 -- A layout that lies in a mesh and is cut to it does so in the faces of the mesh's soup.
-pub of_soup : (mesh faces : Faces) (plan : Plan) → mesh ≡ faces → IsLayoutIn mesh plan → IsCutTo mesh plan
-    → IsLayoutIn faces plan × IsCutTo faces plan
-of_soup mesh faces plan same lies cut = subst (λ (fs : Faces). IsLayoutIn fs plan × IsCutTo fs plan) same (lies, cut)
+pub of_soup : (mesh faces : Faces) (plan : Plan) → mesh ≡ faces → IsMeshLayout mesh plan → IsTracedLayout mesh plan
+    → IsMeshLayout faces plan × IsTracedLayout faces plan
+of_soup mesh faces plan same lies cut = subst (λ (fs : Faces). IsMeshLayout fs plan × IsTracedLayout fs plan) same (lies, cut)
 
 -- So does one of the merged cut.
 abbrev pub IsMergedLayout : (faces : Faces) (plan : Plan) → Type 0
-IsMergedLayout faces plan = (rest : List Bool) × IsMergedCut faces (traced_marks faces) rest × IsLayoutOf faces rest plan
+IsMergedLayout faces plan = (rest : List Bool) × IsMergedCut faces (traced_marks faces) rest × IsCutLayout faces rest plan
 
 pub merged_of_soup : (mesh faces : Faces) (plan : Plan) → mesh ≡ faces → IsMergedLayout mesh plan → IsMergedLayout faces plan
 merged_of_soup mesh faces plan same merged = subst (λ (fs : Faces). IsMergedLayout fs plan) same merged

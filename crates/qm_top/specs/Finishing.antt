@@ -1,7 +1,7 @@
 -- A task that is finished near the old lengths.
 use Rattle.std.specs.Prelude.{◌≡◌, ◌∷◌, ◌++◌, []}
 use Rattle.def_io.specs.declared.TheConstants.{LINE_FEED}
-use Rattle.def_layout.specs.FaceLayouts.{IsLayoutOf}
+use Rattle.def_layout.specs.FaceLayouts.{IsCutLayout}
 use Rattle.def_layout.specs.Lengths.{Lengths}
 use Rattle.def_layout.specs.Plans.{Plan}
 use Rattle.def_remesh.specs.Tasks.{old_lengths, Task}
@@ -12,7 +12,7 @@ use Rattle.qm_top.specs.declared.finishing.Headed.{Headed}
 -- A task over a cut that gives this layout. It takes the old lengths, and its text has this head line and nothing
 -- between the new mesh and the certificates.
 pub record IsHeaded (task : Task) (headed : Headed) (soup : FaceSet) (plan : Plan) : Type 0 where
-  pub cut : IsLayoutOf soup.faces task.marks plan
+  pub cut : IsCutLayout soup.faces task.marks plan
   pub wish : task.wish ≡ old_lengths
   pub settings : headed.asked.settings ≡ task.settings
   pub auto : headed.asked.auto ≡ task.auto

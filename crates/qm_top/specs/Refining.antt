@@ -10,7 +10,7 @@ use Rattle.def_remesh.specs.declared.kept.LayoutFail.{LayoutFail}
 use Rattle.def_remesh.specs.declared.kept.LayoutFail.TheVariants.{TooFine}
 use Rattle.def_remesh.specs.declared.kept.LayoutFail.TheVariants as layouts
 use Rattle.def_run.specs.Refine.{IsRefined, IsTooFineBy}
-use Rattle.def_run.specs.Remesh.{IsCutTo}
+use Rattle.def_run.specs.Remesh.{IsTracedLayout}
 use Rattle.def_text.specs.FaceSet.{FaceSet}
 
 -- A text of a refined mesh that is read again as this mesh.
@@ -26,4 +26,4 @@ HasNoPoints by plan _ = ⊥
 
 -- Why a soup is not refined: its layout has no such points.
 abbrev pub FailsToRefine : (by : ℕ) (soup : FaceSet) (failed : LayoutFail) → Type 0
-FailsToRefine by soup failed = (plan : Plan) × IsCutTo soup.faces plan × HasNoPoints by plan failed
+FailsToRefine by soup failed = (plan : Plan) × IsTracedLayout soup.faces plan × HasNoPoints by plan failed

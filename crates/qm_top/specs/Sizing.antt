@@ -6,7 +6,7 @@ use Rattle.def_layout.specs.Plans.{Plan}
 use Rattle.def_metric.specs.Fails.{IsFar}
 use Rattle.def_remesh.specs.declared.kept.LayoutFail.{LayoutFail}
 use Rattle.def_remesh.specs.declared.kept.LayoutFail.TheVariants.{Tangled, Memory}
-use Rattle.def_run.specs.Remesh.{IsCutTo}
+use Rattle.def_run.specs.Remesh.{IsTracedLayout}
 use Rattle.def_run.specs.Size.{soup_targets, AsksForNearSize, AsksForSize}
 use Rattle.def_text.specs.FaceSet.{FaceSet}
 use Rattle.qm_top.specs.Writing.{FailsAsked, IsUnwritten}
@@ -21,7 +21,8 @@ FailsSize edge floor bytes soup failed = FailsAsked (AsksForNearSize edge floor)
 
 -- The targets of a soup add up to this sum, which is too great.
 abbrev pub IsFarSoup : (edge : ℤ) (floor : ℕ) (soup : FaceSet) (sum : ℕ) → Type 0
-IsFarSoup edge floor soup sum = (plan : Plan) × IsCutTo soup.faces plan × IsFar (soup_targets edge soup) plan floor sum
+IsFarSoup edge floor soup sum =
+    (plan : Plan) × IsTracedLayout soup.faces plan × IsFar (soup_targets edge soup) plan floor sum
 
 -- Why no text was written whole, where targets may also be too great.
 abbrev pub IsUnsized : {O : Type 0} (says : Bytes → Type 0) (fails : LayoutFail → Type 0) (far : ℕ → Type 0)

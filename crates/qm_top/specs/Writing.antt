@@ -13,7 +13,7 @@ use Rattle.def_text.specs.FaceSet.{FaceSet}
 use Rattle.qm_top.specs.declared.refusal.Refusal.{Refusal}
 use Rattle.qm_top.specs.declared.refusal.Refusal.TheVariants.{Layout, Write}
 use Rattle.qm_top.specs.declared.refusal.Refusal.TheVariants as refusals
-use Rattle.def_layout.specs.FaceLayouts.{IsLayoutOf}
+use Rattle.def_layout.specs.FaceLayouts.{IsCutLayout}
 use Rattle.def_remesh.specs.Tasks.{Task}
 use Rattle.def_run.specs.Remesh.{Asks}
 use Rattle.remesh_laws.specs.Keeps.{ShowsTask}
@@ -42,7 +42,7 @@ IsUnwritten says fails out _ = ⊥
 -- Why a task of a soup is not finished: its layout is refused.
 abbrev pub FailsTask : (task : Task) (soup : FaceSet) (failed : LayoutFail) → Type 0
 FailsTask task soup failed =
-    (plan : Plan) × IsLayoutOf soup.faces task.marks plan
+    (plan : Plan) × IsCutLayout soup.faces task.marks plan
     × IsLayoutFail task.wish plan task.settings task.auto failed
 
 -- A text that finishes a task which is asked of these bytes and their soup.

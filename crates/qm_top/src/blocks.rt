@@ -4,7 +4,7 @@ ghost use Rattle.std.specs.Prelude.{◌≡◌, ◌≤◌, ℕ, IfOk, IfErr, OnOk
 ghost use Rattle.def_io.specs.Faults.{Rose};
 ghost use Rattle.def_io.specs.Moves.{change, stream, took, TookPrefix};
 ghost use Rattle.def_layout.specs.Plans.{plan};
-ghost use Rattle.def_remesh.specs.Placings.{IsLayoutIn};
+ghost use Rattle.def_remesh.specs.Placings.{IsMeshLayout};
 ghost use Rattle.def_run.specs.Blocks.{IsBlocked};
 ghost use Rattle.def_run.specs.declared.command.TheConstants.{MAX_MULTIPLE};
 ghost use Rattle.qm_top.specs.Blocking.{told_text, AreBlocksBy};
@@ -66,7 +66,7 @@ fn blocks_mesh<O: Sink>(alloc: Global, by: u32, read: MeshInput, out: &mut O) ->
 fn blocks_by(alloc: Global, by: u32, cut: &CutMesh) -> Result<Blocks, LayoutFail>
     requires some { 1 ≤ by }
     requires few { by ≤ MAX_MULTIPLE }
-    requires layout { IsLayoutIn cut.now.mesh (plan cut.now.layout) }
+    requires layout { IsMeshLayout cut.now.mesh (plan cut.now.layout) }
     ensures blocks { IfOk result (AreBlocksBy by cut.now.mesh (plan cut.now.layout)) }
     ensures refused { IfErr result (HasNoPoints by (plan cut.now.layout)) }
 {

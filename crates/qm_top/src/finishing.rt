@@ -5,7 +5,7 @@ ghost use Rattle.def_certtext.specs.Settings.{AreInRange};
 ghost use Rattle.def_io.specs.Faults.{Rose};
 ghost use Rattle.def_io.specs.Moves.{change, stream, took, TookPrefix};
 ghost use Rattle.def_layout.specs.Plans.{plan};
-ghost use Rattle.def_remesh.specs.Placings.{IsLayoutIn};
+ghost use Rattle.def_remesh.specs.Placings.{IsMeshLayout};
 ghost use Rattle.def_remesh.specs.Tasks.{Task};
 ghost use Rattle.remesh_laws.specs.Keeps.{ShowsTask};
 ghost use Rattle.qm_top.specs.Finishing.{IsHeaded, IsNoLayout};
@@ -37,7 +37,7 @@ pub(crate) fn finish<O: Sink>(
     out: &mut O,
 ) -> Result<(), Refusal>
     requires mesh { cut.now.mesh ≡ soup.now.faces }
-    requires layout { IsLayoutIn cut.now.mesh (plan cut.now.layout) }
+    requires layout { IsMeshLayout cut.now.mesh (plan cut.now.layout) }
     requires range { AreInRange headed.asked.settings headed.asked.auto }
     requires headed { (task : Task) × IsHeaded task headed soup.now (plan cut.now.layout) }
     ensures done { (task : Task) → IsHeaded task headed soup.now (plan cut.now.layout)
@@ -65,7 +65,7 @@ pub(crate) fn write_task<O: Sink>(
     out: &mut O,
 ) -> Result<(), Refusal>
     requires mesh { cut.now.mesh ≡ soup.now.faces }
-    requires layout { IsLayoutIn cut.now.mesh (plan cut.now.layout) }
+    requires layout { IsMeshLayout cut.now.mesh (plan cut.now.layout) }
     requires framed { (task : Task) × IsFramed task framed soup.now (plan cut.now.layout) }
     ensures done { (task : Task) → IsFramed task framed soup.now (plan cut.now.layout)
         → OnOk result (WroteText (ShowsTask task soup.now) (change (O.state out.old) (O.state out.new))) }
@@ -85,7 +85,7 @@ fn write_framed<O: Sink>(
     out: &mut O,
 ) -> Result<(), PutFail>
     requires mesh { cut.now.mesh ≡ soup.now.faces }
-    requires layout { IsLayoutIn cut.now.mesh (plan cut.now.layout) }
+    requires layout { IsMeshLayout cut.now.mesh (plan cut.now.layout) }
     requires framed { (task : Task) × IsFramed task framed soup.now (plan cut.now.layout) }
     ensures whole { OnOk result ((O.state out.new).told
         ≡ took (O.state out.old).told (framed_text framed soup.now (plan cut.now.layout))) }

@@ -4,7 +4,7 @@ ghost use Rattle.std.specs.Prelude.{◌≡◌, ◌≤◌, IfOk, IfErr, OnOk, OnE
 ghost use Rattle.def_io.specs.Faults.{Rose};
 ghost use Rattle.def_io.specs.Moves.{change, stream, took, TookPrefix};
 ghost use Rattle.def_layout.specs.Plans.{plan};
-ghost use Rattle.def_remesh.specs.Placings.{IsLayoutIn};
+ghost use Rattle.def_remesh.specs.Placings.{IsMeshLayout};
 ghost use Rattle.def_remesh.specs.Refined.{refined_text};
 ghost use Rattle.def_run.specs.declared.command.TheConstants.{MAX_MULTIPLE};
 ghost use Rattle.qm_check.specs.Multiples.{ArePointsBy};
@@ -72,7 +72,7 @@ fn refine_mesh<O: Sink>(alloc: Global, by: u32, read: MeshInput, out: &mut O) ->
 pub(crate) fn points_by(alloc: Global, by: u32, cut: &CutMesh) -> Result<Refined, LayoutFail>
     requires some { 1 ≤ by }
     requires few { by ≤ MAX_MULTIPLE }
-    requires layout { IsLayoutIn cut.now.mesh (plan cut.now.layout) }
+    requires layout { IsMeshLayout cut.now.mesh (plan cut.now.layout) }
     ensures by { IfOk result (λ refined. refined.by ≡ by) }
     ensures points { IfOk result (λ refined. ArePointsBy by cut.now.mesh (plan cut.now.layout) refined.points) }
     ensures refused { IfErr result (HasNoPoints by (plan cut.now.layout)) }

@@ -3,7 +3,7 @@ use Rattle.std.proofs.Common.{◌≡◌, ℕ, List, length, sym, ap, ◌∙◌, 
 use Rattle.def_layout.specs.Plans.{Plan}
 use Rattle.def_mesh.specs.Faces.{Faces}
 use Rattle.def_mesh.specs.Vertices.{vertex_count}
-use Rattle.def_remesh.specs.Placings.{IsLayoutIn}
+use Rattle.def_remesh.specs.Placings.{IsMeshLayout}
 use Rattle.std.specs.List.{flat_map}
 use Rattle.def_remesh.specs.NewPoints.{lengths_in}
 use Rattle.def_remesh.specs.NewSoup.{new_places}
@@ -13,7 +13,7 @@ use Rattle.def_text.specs.Types.{Positions}
 use Rattle.def_written.specs.Laws.{AreQuads}
 use Rattle.qm_mesh.proofs.Vertices.{below_from, corners_from, count_is}
 
-pub all_placed : (soup : FaceSet) (faces : Faces) (plan : Plan) → faces ≡ soup.faces → IsLayoutIn faces plan → IsSoup soup
+pub all_placed : (soup : FaceSet) (faces : Faces) (plan : Plan) → faces ≡ soup.faces → IsMeshLayout faces plan → IsSoup soup
     → length soup.pos ≡ vertex_count faces
 all_placed soup faces plan same (is, on) sound =
     let quads : AreQuads soup.faces = subst AreQuads (on ∙ same) is.quads in

@@ -4,7 +4,7 @@ use Rattle.std.specs.Option.{option_map}
 use Rattle.def_certtext.specs.CertLines.{lists_of}
 use Rattle.def_io.specs.Bytes.{Bytes}
 use Rattle.def_io.specs.declared.TheConstants.{LINE_FEED}
-use Rattle.def_layout.specs.FaceLayouts.{IsLayoutOf}
+use Rattle.def_layout.specs.FaceLayouts.{IsCutLayout}
 use Rattle.def_layout.specs.Plans.{Plan}
 use Rattle.def_remesh.specs.Keeping.{IsKept}
 use Rattle.def_remesh.specs.NewPoints.{lengths_in}
@@ -21,7 +21,7 @@ framed_text framed soup plan =
 
 -- What is kept of a layout that the cut of a task gives, in the frame that the task asks for.
 pub record IsFramed (task : Task) (framed : Framed) (soup : FaceSet) (plan : Plan) : Type 0 where
-  pub cut : IsLayoutOf soup.faces task.marks plan
+  pub cut : IsCutLayout soup.faces task.marks plan
   pub settings : framed.remesh.asked.settings ≡ task.settings
   pub auto : framed.remesh.asked.auto ≡ task.auto
   pub kept : IsKept task.wish plan task.settings task.auto (lists_of framed.remesh.first)

@@ -8,7 +8,7 @@ ghost use Rattle.def_remesh.specs.Keeping.{IsKept};
 ghost use Rattle.def_remesh.specs.NewPoints.{lengths_in};
 ghost use Rattle.def_remesh.specs.NewSoup.{new_soup};
 ghost use Rattle.def_remesh.specs.Numberings.{IsNumbering};
-ghost use Rattle.def_remesh.specs.Placings.{ArePlaces, IsLayoutIn};
+ghost use Rattle.def_remesh.specs.Placings.{ArePlaces, IsMeshLayout};
 ghost use Rattle.def_remesh.specs.Remeshed.{text_behind_head};
 ghost use Rattle.def_text.specs.Canonical.{canonical_text};
 ghost use Rattle.qm_write.specs.Joined.{joined};
@@ -75,7 +75,7 @@ pub fn put_framed<T: Output>(
     framed: Framed,
 ) -> Result<NewPoints, PutFail>
     requires mesh { cut.now.mesh ≡ soup.now.faces }
-    requires layout { IsLayoutIn cut.now.mesh (plan cut.now.layout) }
+    requires layout { IsMeshLayout cut.now.mesh (plan cut.now.layout) }
     requires kept { (wish : Wish) × IsKept wish (plan cut.now.layout)
         framed.remesh.asked.settings framed.remesh.asked.auto
         (lists_of framed.remesh.first) (option_map lists_of framed.remesh.third) framed.remesh.numbering }

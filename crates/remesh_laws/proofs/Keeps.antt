@@ -12,11 +12,11 @@ use Rattle.def_flow.specs.Network.{Network}
 use Rattle.def_flow.specs.declared.cert.Cert.{Cert}
 use Rattle.def_flow.specs.declared.limits.TheConstants.{MAX_FLOOR, MAX_LENGTH}
 use Rattle.def_flow.specs.declared.net.Settings.{Settings}
-use Rattle.def_layout.specs.FaceLayouts.{IsLayoutOf}
+use Rattle.def_layout.specs.FaceLayouts.{IsCutLayout}
 use Rattle.def_layout.specs.Lengths.{AreLengths as AreArcLengths}
 use Rattle.def_layout.specs.Plans.{Plan, layout_of, vertex_at}
 use Rattle.def_mesh.specs.Faces.{Faces}
-use Rattle.def_remesh.specs.Placings.{IsLayoutIn}
+use Rattle.def_remesh.specs.Placings.{IsMeshLayout}
 use Rattle.def_text.specs.FaceSet.{FaceSet}
 use Rattle.def_written.specs.Shape.{KeepsShape}
 use Rattle.def_written.specs.Edges.{IsFirstDoubled}
@@ -152,7 +152,7 @@ low_floor plan settings cert xs result fail u v same is safe told doubled = by_f
         (told ∙ ap Err doubled))
 
 -- The new mesh has the shape of the one that the layout lies in.
-pub kept_shape : (soup : FaceSet) (plan : Plan) (xs : List ℕ) → IsLayoutIn soup.faces plan → KeepsShapes plan (lengths_in xs)
+pub kept_shape : (soup : FaceSet) (plan : Plan) (xs : List ℕ) → IsMeshLayout soup.faces plan → KeepsShapes plan (lengths_in xs)
     → KeepsShape soup.faces (new_faces (layout_of plan) (lengths_in xs)) (layout_of plan).nodes (vertex_at plan)
 kept_shape soup plan xs lies shapes = subst
     (λ (fs : Faces). KeepsShape fs (new_faces (layout_of plan) (lengths_in xs)) (layout_of plan).nodes (vertex_at plan))
@@ -167,8 +167,8 @@ least_of wish plan settings true first (Some third) kept = (kept.0.lengths, kept
 least_of wish plan settings false first (Some third) kept = absurd kept
 
 -- What is kept of a layout that a task's cut gives finishes the task, and shows it.
-pub shown : (task : Task) (soup : FaceSet) (plan : Plan) (first : Lists) (third : Option Lists) (tables : Tables) → IsLayoutIn soup.faces plan
-    → IsLayoutOf soup.faces task.marks plan → IsKept task.wish plan task.settings task.auto first third tables
+pub shown : (task : Task) (soup : FaceSet) (plan : Plan) (first : Lists) (third : Option Lists) (tables : Tables) → IsMeshLayout soup.faces plan
+    → IsCutLayout soup.faces task.marks plan → IsKept task.wish plan task.settings task.auto first third tables
     → ShowsTask task soup (finished_text task soup plan first third)
 shown task soup plan first third tables lies cut kept =
     let lengths : AreKeptBy (HasLeastLengths task.wish plan) plan task.settings task.auto first third =

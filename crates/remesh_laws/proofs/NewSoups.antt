@@ -6,7 +6,7 @@ use Rattle.std.proofs.lemmas.Bool.{and_from, lt-ltb}
 use Rattle.std.proofs.lemmas.List.FromFn.{length-map-range_with_len}
 use Rattle.std.proofs.lemmas.List.Folds.{list_all-map}
 use Rattle.def_layout.specs.Cells.{CellDart, IsDart}
-use Rattle.def_layout.specs.Laid.{IsLaid}
+use Rattle.def_layout.specs.Surfaces.{IsSurface}
 use Rattle.def_layout.specs.Layouts.{Layout, Way, south, east, north, west}
 use Rattle.def_layout.specs.Lengths.{Lengths, AreLengths}
 use Rattle.def_layout.specs.Plans.{Plan, layout_of}
@@ -27,7 +27,7 @@ use Rattle.written_laws.proofs.Models.{dart_used, new_quads, point_dart}
 use Rattle.written_laws.proofs.NewDarts.{cell_is, dart_low, dart_number, number_from}
 use Rattle.written_laws.proofs.Numbers.{number_low}
 
-module _ (l : Layout) (x : Lengths) (laid : IsLaid l) (len : AreLengths l x) where
+module _ (l : Layout) (x : Lengths) (laid : IsSurface l) (len : AreLengths l x) where
   -- Each new vertex is a corner of some face.
   uses : (v : ℕ) → v < vertices l x → is_used (new_faces l x) v ≡ true
   uses v low = by_point (point_onto l x v low)
@@ -57,7 +57,7 @@ module _ (l : Layout) (x : Lengths) (laid : IsLaid l) (len : AreLengths l x) whe
   all_quads : list_all is_quad (new_faces l x) ≡ true
   all_quads = list_all-map is_quad (new_face l x) (range_with_len 0 (face_count l x)) ∙ passes_range _ (face_count l x) (λ f low. refl)
 
-module _ (soup : FaceSet) (plan : Plan) (x : Lengths) (laid : IsLaid (layout_of plan)) (len : AreLengths (layout_of plan) x) where
+module _ (soup : FaceSet) (plan : Plan) (x : Lengths) (laid : IsSurface (layout_of plan)) (len : AreLengths (layout_of plan) x) where
   many : length (new_soup soup plan x).pos ≡ vertices (layout_of plan) x
   many = length-map-range_with_len (new_place soup.faces plan soup.pos x) 0 (vertices (layout_of plan) x)
 

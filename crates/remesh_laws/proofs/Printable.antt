@@ -26,8 +26,8 @@ use Rattle.def_written.specs.Points.{IsPoint}
 use Rattle.written_laws.proofs.EdgeNumbers.{in_rows}
 use Rattle.def_cut.specs.FullCut.{IsFullCut}
 use Rattle.def_cut.specs.Traced.{traced_marks}
-use Rattle.def_layout.specs.FaceLayouts.{IsLayoutOf}
-use Rattle.def_layoutnet.specs.MeshLayouts.{IsMeshLayout}
+use Rattle.def_layout.specs.FaceLayouts.{IsCutLayout}
+use Rattle.def_layoutnet.specs.MeshLayouts.{IsSomeLayout}
 use Rattle.def_text.specs.declared.limits.TheConstants.{MAX_MICRO}
 use Rattle.def_written.specs.Laws.{AreQuads}
 use Rattle.def_remesh.specs.TextLaws.{IsSolid}
@@ -115,7 +115,7 @@ quads_of (face ∷ faces) all zero low = (Decides-eqb (length face) 4).0 (and_pa
 quads_of (face ∷ faces) all (suc f) low = quads_of faces (and_parts _ _ all).1 f (omega (arith, low))
 
 -- The layout of a full cut is the layout of a mesh.
-pub cut_layout : (soup : FaceSet) (marks : List Bool) (plan : Plan) → IsSolid soup → IsFullCut soup.faces marks → IsLayoutOf soup.faces marks plan → IsMeshLayout plan
+pub cut_layout : (soup : FaceSet) (marks : List Bool) (plan : Plan) → IsSolid soup → IsFullCut soup.faces marks → IsCutLayout soup.faces marks plan → IsSomeLayout plan
 cut_layout soup marks plan solid full cut = record {
   faces = soup.faces;
   mesh = solid.mesh;
@@ -126,10 +126,10 @@ cut_layout soup marks plan solid full cut = record {
 }
 
 -- So is the one that a traced graph cuts.
-pub mesh_layout : (soup : FaceSet) (plan : Plan) → IsSolid soup → IsLayoutOf soup.faces (traced_marks soup.faces) plan → IsMeshLayout plan
+pub mesh_layout : (soup : FaceSet) (plan : Plan) → IsSolid soup → IsCutLayout soup.faces (traced_marks soup.faces) plan → IsSomeLayout plan
 mesh_layout soup plan solid cut = cut_layout soup (traced_marks soup.faces) plan solid (graph_law soup.faces solid.mesh.manifold).1 cut
 
-module _ (soup : FaceSet) (solid : IsSolid soup) (plan : Plan) (is : IsMeshLayout plan) (x : Lengths) (len : AreLengths (layout_of plan) x)
+module _ (soup : FaceSet) (solid : IsSolid soup) (plan : Plan) (is : IsSomeLayout plan) (x : Lengths) (len : AreLengths (layout_of plan) x)
     (few : face_count (layout_of plan) x ≤ MAX_NEW_FACES) where
   place_fine : (v : ℕ) → v < vertices (layout_of plan) x → is_position (new_place soup.faces plan soup.pos x v) ≡ true
   place_fine v low = and_from _ _ (fine 0) (and_from _ _ (fine 1) (and_from _ _ (fine 2) refl))

@@ -10,10 +10,10 @@ use Rattle.def_flow.specs.declared.net.Settings.{Settings}
 use Rattle.def_io.specs.Bytes.{Bytes, Lines}
 use Rattle.def_io.specs.Lines.{lines_of}
 use Rattle.def_layout.specs.Arcs.{long_at}
-use Rattle.def_layout.specs.Laid.{IsLaid}
+use Rattle.def_layout.specs.Surfaces.{IsSurface}
 use Rattle.def_layout.specs.Lengths.{AreLengths, Lengths}
 use Rattle.def_layout.specs.Plans.{Plan, layout_of, vertex_at}
-use Rattle.def_layoutnet.specs.MeshLayouts.{IsMeshLayout}
+use Rattle.def_layoutnet.specs.MeshLayouts.{IsSomeLayout}
 use Rattle.def_text.specs.Canonical.{canonical_text}
 use Rattle.def_text.specs.FaceSet.{FaceSet}
 use Rattle.def_text.specs.Laws.{IsWritableSoup}
@@ -59,7 +59,7 @@ kept_allowed wish plan settings true first None kept = chosen_allowed first None
 kept_allowed wish plan settings true first (Some third) kept =
     chosen_allowed first (Some third) kept.0.writable (λ lists e. subst IsWritableCert (same_Some third lists e) kept.3.writable)
 
-module _ (soup : FaceSet) (plan : Plan) (x : Lengths) (laid : IsLaid (layout_of plan)) (len : AreLengths (layout_of plan) x) where
+module _ (soup : FaceSet) (plan : Plan) (x : Lengths) (laid : IsSurface (layout_of plan)) (len : AreLengths (layout_of plan) x) where
   -- The new mesh behind lines that are passed over, as that of a refined mesh.
   pub mesh_read : (front : Bytes) → IsAside front → IsReadAgain (front ++ canonical_text (new_soup soup plan x)) (new_soup soup plan x)
   mesh_read front before is =
@@ -67,14 +67,14 @@ module _ (soup : FaceSet) (plan : Plan) (x : Lengths) (laid : IsLaid (layout_of 
       ∙ framed front [] (new_soup soup plan x) (writable soup plan x laid len is) (new_names soup plan x laid len) before (λ k l. absurd (omega (arith, l)))
 
 -- The text of a refined mesh.
-pub refined_read : (by : ℕ) (soup : FaceSet) (plan : Plan) → IsMeshLayout plan → 0 < by → by < 2 ^ 64
+pub refined_read : (by : ℕ) (soup : FaceSet) (plan : Plan) → IsSomeLayout plan → 0 < by → by < 2 ^ 64
     → IsReadAgain (refined_text by soup plan) (new_soup soup plan (multiple_of by (long_at plan.arcs)))
 refined_read by soup plan is some low =
     mesh_read soup plan (multiple_of by (long_at plan.arcs)) (laid_of plan is)
     (multiple_law is.faces (layout_of plan) (long_at plan.arcs) (vertex_at plan) (lies plan is) by some).0 (refine_head by) (refine_aside by low)
 
 -- The text of a task.
-pub task_read : (task : Task) (soup : FaceSet) (plan : Plan) (first : Lists) (third : Option Lists) → IsLaid (layout_of plan)
+pub task_read : (task : Task) (soup : FaceSet) (plan : Plan) (first : Lists) (third : Option Lists) → IsSurface (layout_of plan)
     → AreLengths (layout_of plan) (lengths_in (used first third).x) → AreKeptBy (HasLeastLengths task.wish plan) plan task.settings task.auto first third
     → IsAside (task.head ++ 10 ∷ []) → IsAside (task.between plan (lengths_in (used first third).x))
     → IsReadAgain (finished_text task soup plan first third) (new_soup soup plan (lengths_in (used first third).x))
@@ -104,7 +104,7 @@ read_again_law settings auto soup text range solid is few_vertices few_faces =
       few_faces = few_faces;
     })
   where
-    mesh : IsMeshLayout is.plan
+    mesh : IsSomeLayout is.plan
     mesh = mesh_layout soup is.plan solid is.cut
 
     lengths : AreLengths (layout_of is.plan) (lengths_in (used is.first is.third).x)

@@ -17,7 +17,7 @@ use Rattle.def_flow.specs.declared.limits.TheConstants.{MAX_LENGTH, MAX_TANGLE}
 use Rattle.def_flow.specs.declared.net.Settings.{Settings}
 use Rattle.def_layout.specs.Plans.{Plan, layout_of}
 use Rattle.def_layoutnet.specs.LayoutNet.{IsNetOf}
-use Rattle.def_layoutnet.specs.MeshLayouts.{IsMeshLayout}
+use Rattle.def_layoutnet.specs.MeshLayouts.{IsSomeLayout}
 use Rattle.def_matching.specs.Dual.{is_up, AreSmall}
 use Rattle.def_remesh.specs.Certified.{certificate_of, IsCertified}
 use Rattle.def_remesh.specs.Tasks.{Wish}
@@ -64,7 +64,7 @@ all_low : (xs : List ℕ) → ((k : ℕ) → k < length xs → slice_index xs k 
 all_low [] low = refl
 all_low (x ∷ xs) low = and_from _ _ (lt-ltb _ _ (low 0 (omega arith))) (all_low xs (λ k l. low (suc k) (omega (arith, l))))
 
-pub certified : (wish : Wish) (plan : Plan) (settings : Settings) (net : Network) (cert : Lists) → IsMeshLayout plan
+pub certified : (wish : Wish) (plan : Plan) (settings : Settings) (net : Network) (cert : Lists) → IsSomeLayout plan
     → IsNetOf (layout_of plan) (wish plan) settings net → IsWithinBounds net → tangle_number net ≤ MAX_TANGLE
     → IsSolution net (certificate_of cert) → IsCertified wish plan settings cert
 certified wish plan settings net cert is of_layout bounds untangled solved = record {

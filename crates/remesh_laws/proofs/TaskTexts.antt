@@ -10,7 +10,7 @@ use Rattle.def_certtext.specs.Settings.{AreInRange}
 use Rattle.def_io.specs.Bytes.{Bytes, Lines}
 use Rattle.def_io.specs.Lines.{lines_of}
 use Rattle.def_layout.specs.Plans.{Plan}
-use Rattle.def_layoutnet.specs.MeshLayouts.{IsMeshLayout}
+use Rattle.def_layoutnet.specs.MeshLayouts.{IsSomeLayout}
 use Rattle.def_remesh.specs.NewPoints.{lengths_in}
 use Rattle.def_remesh.specs.NewSoup.{new_soup}
 use Rattle.def_remesh.specs.ReadAgain.{ends_line}
@@ -78,7 +78,7 @@ tells_same head other behind others made same marked tells = record {
 }
 
 module _ (task : Task) (soup : FaceSet) (plan : Plan) (first : Lists) (third : Option Lists) (range : AreInRange task.settings task.auto)
-    (solid : IsSolid soup) (mesh : IsMeshLayout plan) (kept : AreKeptBy (HasLeastLengths task.wish plan) plan task.settings task.auto first third)
+    (solid : IsSolid soup) (mesh : IsSomeLayout plan) (kept : AreKeptBy (HasLeastLengths task.wish plan) plan task.settings task.auto first third)
     (coarse : AreCoarse plan (used first third).x) (inside : list_all is_inside task.head ≡ true)
     (silent : IsSilent (task.between plan (lengths_in (used first third).x))) where
   -- A remesh with these certificates.

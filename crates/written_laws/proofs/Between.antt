@@ -6,7 +6,7 @@ use Rattle.std.proofs.Math.Nat.{mod-lt, div-add-mod, div-lt_iff_lt-mul, mul_comm
 use Rattle.std.proofs.lemmas.Int.{ints, by_lt_z}
 use Rattle.std.proofs.lemmas.Nat.{mul-le}
 use Rattle.def_layout.specs.Layouts.{Way, south, east, north, west, Layout}
-use Rattle.def_layout.specs.Laid.{IsLaid}
+use Rattle.def_layout.specs.Surfaces.{IsSurface}
 use Rattle.def_layout.specs.Lengths.{Lengths, reach, size, wide, high, AreLengths}
 use Rattle.def_layout.specs.Cells.{IsDart, dart}
 use Rattle.def_written.specs.Points.{Point, node, along, inside, IsPoint, arc_point, use_over, offset_at, point}
@@ -129,7 +129,7 @@ div_most n k d some le =
 pub rest_most : (n u : ℕ) → 0 < n → u ≤ ONE * n → rest_at n u ≤ ONE
 rest_most n u some le = omega (arith, le)
 
-module _ (l : Layout) (old new : Lengths) (laid : IsLaid l) (o_len : AreLengths l old) (n_len : AreLengths l new) where
+module _ (l : Layout) (old new : Lengths) (laid : IsSurface l) (o_len : AreLengths l old) (n_len : AreLengths l new) where
   arc_most : (a k : ℕ) → a < l.arcs → k ≤ new a → arc_parameter old new a k ≤ ONE * old a
   arc_most a k a_low le =
       div_most (ONE * k * old a) (ONE * old a) (new a) (n_len.some a a_low) (by_parts k (new a) (old a) le)

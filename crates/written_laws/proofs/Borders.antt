@@ -3,7 +3,7 @@ use Rattle.std.proofs.Common.{◌≡◌, ◌≢◌, ◌⊎◌, ℕ, zero, suc, �
 use Rattle.std.proofs.lemmas.Bool.{cases_eq}
 use Rattle.def_layout.specs.declared.tmesh.SideArc.{SideArc}
 use Rattle.def_layout.specs.Layouts.{Way, side_before, Layout, Slot, IsSlot, AreReverse, use_of, slot_before, start_node}
-use Rattle.def_layout.specs.Laid.{IsPaved, IsLaid, IsOtherSlot}
+use Rattle.def_layout.specs.Surfaces.{HasWholeSides, IsSurface, IsOtherSlot}
 use Rattle.def_layout.specs.Lengths.{Lengths, reach, size, AreLengths}
 use Rattle.def_layout.specs.Cells.{CellDart, IsDart, slot_dart}
 use Rattle.def_written.specs.Points.{node, along, inside, IsPoint, arc_point, use_point, use_over, offset_at, side_point, point}
@@ -36,7 +36,7 @@ module _ (l : Layout) (x : Lengths) where
         absurd cc
   ]
 
-  module _ (paved : IsPaved l) (len : AreLengths l x) where
+  module _ (paved : HasWholeSides l) (len : AreLengths l x) where
     -- The border dart o after the beginning of a slot's arc.
     pub at_low : (w : Slot) (o : ℕ) → IsSlot l w → o < x (use_of l w).arc
         → reach l x w.patch w.side w.at + o < size l x w.patch w.side
@@ -54,7 +54,7 @@ module _ (l : Layout) (x : Lengths) where
             record { patch_low = is.patch_low; low = omega (arith, paved.sides_full w.patch (side_before w.side) is.patch_low) }
         by_place (suc m) low = record { patch_low = is.patch_low; low = omega arith }
 
-  module _ (laid : IsLaid l) (len : AreLengths l x) where
+  module _ (laid : IsSurface l) (len : AreLengths l x) where
     pub start_low : (u : SideArc) → u.arc < l.arcs → start_node l u < l.nodes
     start_low u low = by_way u.arc u.forward low
       where

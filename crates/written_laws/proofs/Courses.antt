@@ -4,7 +4,7 @@ use Rattle.std.specs.Prelude.{◌==◌}
 use Rattle.std.proofs.lemmas.Bool.{cases_eq, cond-true, cond-false, eq-eqb, ne_eqb, false≢true}
 use Rattle.def_layout.specs.declared.tmesh.SideArc.{SideArc}
 use Rattle.def_layout.specs.Layouts.{Way, south, east, north, west, Layout, Slot, IsSlot, use_of}
-use Rattle.def_layout.specs.Laid.{IsLaid}
+use Rattle.def_layout.specs.Surfaces.{IsSurface}
 use Rattle.def_layout.specs.Lengths.{Lengths, reach, size, wide, high, AreLengths}
 use Rattle.def_layout.specs.Cells.{CellDart, IsDart, dart, dart_along, slot_dart}
 use Rattle.def_written.specs.Points.{Point, arc_point, use_point, use_over, offset_at}
@@ -82,7 +82,7 @@ module _ (l : Layout) (x : Lengths) where
     pub low : o < x (use_of l w).arc
     pub dart : d ≡ slot_dart l x w o
 
-  module _ (laid : IsLaid l) (len : AreLengths l x) where
+  module _ (laid : IsSurface l) (len : AreLengths l x) where
     on_border : (d : CellDart) (p : ℕ) (s : Way) (t : ℕ) → p < l.patches → t < size l x p s → d ≡ dart_along l x p s t
         → (w : Slot) × (o : ℕ) × IsOnBorder d w o
     on_border d p s t p_low less is =

@@ -5,7 +5,7 @@ use Rattle.std.proofs.Math.Nat.{mul-le-mul_left}
 use Rattle.std.proofs.lemmas.Bool.{cases_eq, cond-true, cond-false, eq-eqb, ne_eqb}
 use Rattle.def_layout.specs.declared.tmesh.SideArc.{SideArc}
 use Rattle.def_layout.specs.Layouts.{Way, south, east, north, west, Layout, IsSlot}
-use Rattle.def_layout.specs.Laid.{IsLaid}
+use Rattle.def_layout.specs.Surfaces.{IsSurface}
 use Rattle.def_layout.specs.Lengths.{Lengths, reach, size, wide, high, AreLengths}
 use Rattle.def_layout.specs.Cells.{CellDart, IsDart, dart}
 use Rattle.def_written.specs.Points.{Point, node, along, inside, arc_point, use_point, use_over, offset_at, side_point, point}
@@ -117,7 +117,7 @@ module _ (l : Layout) (y : Lengths) where
       by_arcs : (a k b m : ℕ) → along a (2 * k + 1) ≡ along b (2 * m + 1) → on_arc a k ≡ on_arc b m
       by_arcs a k b m s = let arc : a ≡ b = cc in let place : 2 * k + 1 ≡ 2 * m + 1 = cc in let same : k ≡ m = omega (arith, place) in λ t. on_arc (arc t) (same t)
 
-  module _ (laid : IsLaid l) (len : AreLengths l y) (simple : IsSimple l y) where
+  module _ (laid : IsSurface l) (len : AreLengths l y) (simple : IsSimple l y) where
     z_len : AreLengths l (scale 2 y)
     z_len = lengths_scale 2 (omega arith) len
 
@@ -234,7 +234,7 @@ module _ (l : Layout) (y : Lengths) where
     pub simple_twice : IsSimple l (scale 2 y)
     simple_twice = simple_open l (scale 2 y) laid z_len twice_open
 
-module _ (l : Layout) (x : Lengths) (laid : IsLaid l) (len : AreLengths l x) where
+module _ (l : Layout) (x : Lengths) (laid : IsSurface l) (len : AreLengths l x) where
   -- Lengths of at least 3 double no edge.
   pub simple_three : ((a : ℕ) → a < l.arcs → 3 ≤ x a) → IsSimple l x
   simple_three three = simple_open l x laid len (record {
@@ -251,7 +251,7 @@ module _ (l : Layout) (x : Lengths) (laid : IsLaid l) (len : AreLengths l x) whe
           omega (arith, le, three (l.use_at p s 0).arc (laid.paved.arc_low (slot p s 0) first))
 
 -- Multiples of lengths that double no edge.
-pub simple_multiple : (l : Layout) (y : Lengths) → IsLaid l → AreLengths l y → IsSimple l y → (k : ℕ) → 0 < k → IsSimple l (scale k y)
+pub simple_multiple : (l : Layout) (y : Lengths) → IsSurface l → AreLengths l y → IsSimple l y → (k : ℕ) → 0 < k → IsSimple l (scale k y)
 simple_multiple l y laid len simple zero some = absurd (omega arith)
 simple_multiple l y laid len simple (suc zero) some =
     let one : (a : ℕ) → y a ≡ 1 * y a = λ a. omega arith in subst (IsSimple l) (λ t a. one a t) simple

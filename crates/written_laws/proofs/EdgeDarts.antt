@@ -4,7 +4,7 @@ use Rattle.std.specs.Prelude.{◌==◌}
 use Rattle.std.proofs.lemmas.Bool.{cond-false, ne_eqb}
 use Rattle.def_layout.specs.declared.tmesh.SideArc.{SideArc}
 use Rattle.def_layout.specs.Layouts.{south, west, Layout, Slot, IsSlot, use_of}
-use Rattle.def_layout.specs.Laid.{IsLaid}
+use Rattle.def_layout.specs.Surfaces.{IsSurface}
 use Rattle.def_layout.specs.Lengths.{Lengths, AreLengths}
 use Rattle.def_layout.specs.Cells.{CellDart, IsDart, dart, next, slot_dart}
 use Rattle.def_written.specs.Points.{IsPoint}
@@ -13,7 +13,7 @@ use Rattle.written_laws.proofs.Borders.{at_is, from_is}
 use Rattle.written_laws.proofs.NewDarts.{next_is}
 use Rattle.written_laws.proofs.Courses.{Course, course, start_at, end_at, use_course, course_of, at_course, course_from, course_to}
 
-module _ (l : Layout) (x : Lengths) (laid : IsLaid l) (len : AreLengths l x) where
+module _ (l : Layout) (x : Lengths) (laid : IsSurface l) (len : AreLengths l x) where
   pub edge_dart : (e : Edge) → IsEdge l x e → (d : CellDart) × IsDart l x d × ((course_of l x d).edge ≡ e)
   edge_dart (on_arc a k) is = by_slot (laid.forward a is.0)
     where

@@ -8,7 +8,7 @@ use Rattle.def_mesh.specs.Darts.{darts, from_of, to_of, twin_of}
 use Rattle.def_mesh.specs.Vertices.{faces_at}
 use Rattle.def_mesh.specs.Kinds.{is_inner}
 use Rattle.def_layout.specs.Layouts.{Layout, Slot, IsSlot, use_of}
-use Rattle.def_layout.specs.Laid.{IsLaid, IsOtherSlot}
+use Rattle.def_layout.specs.Surfaces.{IsSurface, IsOtherSlot}
 use Rattle.def_layout.specs.Lengths.{Lengths, AreLengths}
 use Rattle.def_layout.specs.Cells.{CellDart, IsDart, next, slot_dart}
 use Rattle.def_written.specs.Points.{Point, use_point}
@@ -26,7 +26,7 @@ abbrev pub AreShared : (l : Layout) (x : Lengths) (a : Point) → Type 0
 AreShared l x a = (w : Slot) (o : ℕ) → IsSlot l w → o < x (use_of l w).arc
     → (use_point l x (use_of l w) o ≡ a) ⊎ (use_point l x (use_of l w) (o + 1) ≡ a) → (v : Slot) × IsOtherSlot l w v
 
-module _ (l : Layout) (x : Lengths) (laid : IsLaid l) (len : AreLengths l x) (F : Faces) (cell : CellDart → ℕ) (model : IsModel F l x laid len cell) where
+module _ (l : Layout) (x : Lengths) (laid : IsSurface l) (len : AreLengths l x) (F : Faces) (cell : CellDart → ℕ) (model : IsModel F l x laid len cell) where
   -- Vertex v of the model is point a.
   pub record IsVertex (a : Point) (v : ℕ) : Type 0 where
     pub there : (d : CellDart) → IsDart l x d → dart_start l x d ≡ a → from_of F (cell d) ≡ v

@@ -5,7 +5,7 @@ use Rattle.def_mesh.specs.Faces.{corner}
 use Rattle.def_mesh.specs.Darts.{from_of, to_of}
 use Rattle.def_mesh.specs.Manifold.{IsManifold, IsRepeatFree, HasEdgesOnce}
 use Rattle.def_layout.specs.Layouts.{Way, south, east, north, west, side_after, side_before, Layout, Slot, AreReverse, use_of, slot_before}
-use Rattle.def_layout.specs.Laid.{IsLaid}
+use Rattle.def_layout.specs.Surfaces.{IsSurface}
 use Rattle.def_layout.specs.Fans.{HasFans}
 use Rattle.def_layout.specs.Lengths.{Lengths, reach, size, AreLengths}
 use Rattle.def_layout.specs.Cells.{CellDart, IsDart, next, dart_along, slot_dart}
@@ -34,7 +34,7 @@ before_after east = refl
 before_after north = refl
 before_after west = refl
 
-module _ (l : Layout) (x : Lengths) (laid : IsLaid l) (len : AreLengths l x) where
+module _ (l : Layout) (x : Lengths) (laid : IsSurface l) (len : AreLengths l x) where
   -- Two border darts in a row lie on the last arc of a side and the first of the next one.
   corner_slots : (d : CellDart) (w v : Slot) (o k : ℕ) → IsOnBorder l x d w o → IsOnBorder l x (next d) v k
       → (v.at ≡ 0) × (slot_before l v.patch v.side v.at ≡ w)

@@ -8,7 +8,7 @@ use Rattle.def_mesh.specs.Darts.{darts, from_of, twin_of}
 use Rattle.def_mesh.specs.Vertices.{is_used, vertex_count}
 use Rattle.def_mesh.specs.Components.{is_lesser, edge_count, used_count, euler}
 use Rattle.def_layout.specs.Layouts.{Layout, Slot}
-use Rattle.def_layout.specs.Laid.{IsLaid}
+use Rattle.def_layout.specs.Surfaces.{IsSurface}
 use Rattle.def_layout.specs.Lengths.{Lengths, wide, high, AreLengths}
 use Rattle.def_layout.specs.Cells.{CellDart, IsDart}
 use Rattle.def_written.specs.Points.{Point, IsPoint}
@@ -33,7 +33,7 @@ count_sums : (f g h k : ℕ → ℕ) (n : ℕ) → ((p : ℕ) → p < n → f p 
 count_sums f g h k zero same = refl
 count_sums f g h k (suc n) same = omega (arith, count_sums f g h k n (λ p l. same p (omega arith)), same n (omega arith))
 
-module _ (l : Layout) (x : Lengths) (laid : IsLaid l) (len : AreLengths l x) where
+module _ (l : Layout) (x : Lengths) (laid : IsSurface l) (len : AreLengths l x) where
   -- The dart across is across the other way round.
   across_back : (d e : CellDart) → IsDart l x d → IsAcross l x laid len d e → IsAcross l x laid len e d
   across_back d e is a = record { is_dart = is; edge = sym a.edge; turned = by_way (course_of l x d).ahead (course_of l x e).ahead a.turned }

@@ -11,7 +11,7 @@ use Rattle.def_mesh.specs.Darts.{darts, next_of, from_of, twin_of}
 use Rattle.def_mesh.specs.Vertices.{is_used}
 use Rattle.def_layout.specs.declared.tmesh.SideArc.{SideArc}
 use Rattle.def_layout.specs.Layouts.{south, Layout, Slot, IsSlot, use_of, start_node}
-use Rattle.def_layout.specs.Laid.{IsLaid}
+use Rattle.def_layout.specs.Surfaces.{IsSurface}
 use Rattle.def_layout.specs.Lengths.{Lengths, AreLengths}
 use Rattle.def_layout.specs.Cells.{CellDart, IsDart, dart, next, slot_dart}
 use Rattle.def_written.specs.Points.{Point, node, along, inside, IsPoint, use_point}
@@ -28,7 +28,7 @@ use Rattle.written_laws.proofs.Across.{across_or_alone, across_twin, alone_no_tw
 
 -- Dart `cell d` is that of d. Darts leave one vertex where those of the cells leave one point, and have as twin that of
 -- the dart across.
-pub record IsModel (F : Faces) (l : Layout) (x : Lengths) (laid : IsLaid l) (len : AreLengths l x) (cell : CellDart → ℕ) : Type 0 where
+pub record IsModel (F : Faces) (l : Layout) (x : Lengths) (laid : IsSurface l) (len : AreLengths l x) (cell : CellDart → ℕ) : Type 0 where
   pub quads : (f : ℕ) → f < length F → length (face_at F f) ≡ 4
   pub low : (d : CellDart) → IsDart l x d → cell d < darts F
   pub same : (d e : CellDart) → IsDart l x d → IsDart l x e → cell d ≡ cell e → d ≡ e
@@ -67,7 +67,7 @@ dart_used F d quads low =
     list_any_at (λ face. list_any (λ u. u == from_of F d) face) F (d / 4) [] f_low
     (list_any_at (λ u. u == from_of F d) (face_at F (d / 4)) (d % 4) 0 (omega (arith, quads (d / 4) f_low)) (eq-eqb (from_of F d) (from_of F d) refl))
 
-module _ (l : Layout) (x : Lengths) (laid : IsLaid l) (len : AreLengths l x) where
+module _ (l : Layout) (x : Lengths) (laid : IsSurface l) (len : AreLengths l x) where
   -- Each point is left by a dart.
   pub point_dart : (a : Point) → IsPoint l x a → (d : CellDart) × IsDart l x d × (dart_start l x d ≡ a)
   point_dart (node n) is =

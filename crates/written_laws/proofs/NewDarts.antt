@@ -8,7 +8,7 @@ use Rattle.std.proofs.lemmas.List.FromFn.{length-map-range_with_len, get_or-map-
 use Rattle.def_mesh.specs.Faces.{Face, corner}
 use Rattle.def_mesh.specs.Darts.{darts, next_of, prev_of, from_of, to_of}
 use Rattle.def_layout.specs.Layouts.{Way, south, east, north, west, side_after, side_before, Layout}
-use Rattle.def_layout.specs.Laid.{IsLaid}
+use Rattle.def_layout.specs.Surfaces.{IsSurface}
 use Rattle.def_layout.specs.Lengths.{Lengths, wide, high, AreLengths}
 use Rattle.def_layout.specs.Cells.{CellDart, IsDart, dart, next, prev}
 use Rattle.def_written.specs.Numbers.{vertex_number}
@@ -149,7 +149,7 @@ module _ (l : Layout) (x : Lengths) where
   pub number_to : (d : CellDart) → IsDart l x d → to_of (new_faces l x) (dart_number d) ≡ vertex_number l x (dart_end l x d)
   number_to d is = ap (from_of (new_faces l x)) (next_number d) ∙ number_from (next d) (next_is d is)
 
-  module _ (laid : IsLaid l) (len : AreLengths l x) where
+  module _ (laid : IsSurface l) (len : AreLengths l x) where
     -- The darts of a new face lie in a patch.
     pub cell_is : (f : ℕ) (w : Way) → f < face_count l x → IsDart l x (dart_of l x f w)
     cell_is f w low =

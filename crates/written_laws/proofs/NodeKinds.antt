@@ -9,7 +9,7 @@ use Rattle.def_mesh.specs.Vertices.{faces_at}
 use Rattle.def_mesh.specs.Kinds.{is_inner}
 use Rattle.def_layout.specs.declared.tmesh.SideArc.{SideArc}
 use Rattle.def_layout.specs.Layouts.{Layout, Slot, IsSlot, use_of, start_node, end_node}
-use Rattle.def_layout.specs.Laid.{IsLaid, IsOtherSlot}
+use Rattle.def_layout.specs.Surfaces.{IsSurface, IsOtherSlot}
 use Rattle.def_layout.specs.Lengths.{Lengths, reach, AreLengths}
 use Rattle.def_layout.specs.Cells.{CellDart, IsDart}
 use Rattle.def_written.specs.Points.{node, along, inside, use_point}
@@ -23,7 +23,7 @@ use Rattle.written_laws.proofs.Spots.{place_at, spot_dart, at_once, spot_is, spo
 use Rattle.written_laws.proofs.Models.{IsModel}
 use Rattle.written_laws.proofs.Inners.{AreShared, IsVertex, inner_if, inner_only}
 
-module _ (l : Layout) (x : Lengths) (laid : IsLaid l) (len : AreLengths l x) where
+module _ (l : Layout) (x : Lengths) (laid : IsSurface l) (len : AreLengths l x) where
   -- A point of an arc that is a node is one of its ends.
   node_end : (u : SideArc) (o n : ℕ) → o ≤ x u.arc → 0 < x u.arc → use_point l x u o ≡ node n
       → ((o ≡ 0) × (start_node l u ≡ n)) ⊎ ((o ≡ x u.arc) × (end_node l u ≡ n))
@@ -79,7 +79,7 @@ module _ (l : Layout) (x : Lengths) (laid : IsLaid l) (len : AreLengths l x) whe
       let some : 0 < long_at l x w.patch w.side 0 = use_some l x laid.paved len (slot w.patch w.side 0) first in
       omega (arith, le, some)
 
-module _ (l : Layout) (laid : IsLaid l) (x y : Lengths) (len : AreLengths l x) (lon : AreLengths l y) where
+module _ (l : Layout) (laid : IsSurface l) (x y : Lengths) (len : AreLengths l x) (lon : AreLengths l y) where
   -- Whether arcs at a node are shared has nothing to do with lengths.
   node_shared : (n : ℕ) → AreShared l x (node n) → AreShared l y (node n)
   node_shared n shared w o is less = at
@@ -153,7 +153,7 @@ module _ (l : Layout) (laid : IsLaid l) (x y : Lengths) (len : AreLengths l x) (
             (image (f.onto m less).0 (sorted m less r).0 (sorted m less r).1 (sorted m less r).2).0 same))
             ∙ (f.onto m less).2)
 
-module _ (l : Layout) (laid : IsLaid l) (x y : Lengths) (len : AreLengths l x) (lon : AreLengths l y)
+module _ (l : Layout) (laid : IsSurface l) (x y : Lengths) (len : AreLengths l x) (lon : AreLengths l y)
     (F G : Faces) (cell new : CellDart → ℕ) (f : IsModel F l x laid len cell) (g : IsModel G l y laid lon new)
     (n u v : ℕ) (is_u : IsVertex l x laid len F cell f (node n) u) (is_v : IsVertex l y laid lon G new g (node n) v) where
   pub node_faces : faces_at F u ≡ faces_at G v

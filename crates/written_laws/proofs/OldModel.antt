@@ -7,11 +7,11 @@ use Rattle.def_mesh.specs.Manifold.{IsManifold}
 use Rattle.def_mesh.specs.HalfEdges.{HalfEdges, AreTurned, IsQuadManifold, half_edges, Turns as MeshTurns}
 use Rattle.def_layout.specs.declared.tmesh.SideArc.{SideArc}
 use Rattle.def_layout.specs.Layouts.{Way, south, east, north, west, side_after, side_before, Layout, Slot, IsSlot, AreReverse, use_of, slot_before, start_node}
-use Rattle.def_layout.specs.Laid.{IsPaved, IsLaid, IsOtherSlot}
+use Rattle.def_layout.specs.Surfaces.{HasWholeSides, IsSurface, IsOtherSlot}
 use Rattle.def_layout.specs.Fans.{IsTurn, SlotTurns, HasFans}
 use Rattle.def_layout.specs.Lengths.{Lengths, reach, size, AreLengths}
 use Rattle.def_layout.specs.Cells.{CellDart, IsDart, dart, next, prev, slot_dart}
-use Rattle.def_layout.specs.Sided.{IsSided}
+use Rattle.def_layout.specs.Embeddings.{IsEmbedding}
 use Rattle.def_written.specs.Points.{node}
 use Rattle.def_written.specs.NewFaces.{dart_start}
 use Rattle.mesh_laws.proofs.HalfEdges.{manifold_law}
@@ -38,7 +38,7 @@ next_prev d = by_way d.way
     by_way north = refl
     by_way west = refl
 
-module _ (l : Layout) (x : Lengths) (laid : IsLaid l) (len : AreLengths l x) where
+module _ (l : Layout) (x : Lengths) (laid : IsSurface l) (len : AreLengths l x) where
   -- One dart lies across.
   across_unique : (d e c : CellDart) → IsAcross l x laid len d e → IsAcross l x laid len d c → e ≡ c
   across_unique d e c a b =
@@ -153,15 +153,15 @@ module _ (l : Layout) (x : Lengths) (laid : IsLaid l) (len : AreLengths l x) whe
           by_other (inr none) =
               absurd (alone_not_across l x laid len (prev d) e on.0 on.1 (record { on_border = on.2; alone = none }) a)
 
-module _ (faces : Faces) (manifold : IsManifold faces) (l : Layout) (x : Lengths) (paved : IsPaved l) (len : AreLengths l x)
-    (cell : CellDart → ℕ) (vertex : ℕ → ℕ) (arc_dart : ℕ → ℕ → ℕ) (s : IsSided (half_edges faces) l x cell vertex arc_dart) where
+module _ (faces : Faces) (manifold : IsManifold faces) (l : Layout) (x : Lengths) (paved : HasWholeSides l) (len : AreLengths l x)
+    (cell : CellDart → ℕ) (vertex : ℕ → ℕ) (arc_dart : ℕ → ℕ → ℕ) (s : IsEmbedding (half_edges faces) l x cell vertex arc_dart) where
   abbrev m : HalfEdges
   m = half_edges faces
 
   laws : IsQuadManifold (half_edges faces)
   laws = manifold_law faces manifold
 
-  abbrev pub old_laid : IsLaid l
+  abbrev pub old_laid : IsSurface l
   old_laid = laid_in (half_edges faces) (manifold_law faces manifold) l x paved len cell vertex arc_dart s
 
   alike : (d e : CellDart) → IsDart l x d → IsDart l x e → dart_start l x d ≡ dart_start l x e → m.from (cell d) ≡ m.from (cell e)

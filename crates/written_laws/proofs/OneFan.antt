@@ -3,7 +3,7 @@ use Rattle.std.proofs.Common.{◌≡◌, ◌⊎◌, ℕ, zero, suc, ◌+◌, ◌
 use Rattle.def_mesh.specs.Darts.{prev_of, from_of}
 use Rattle.def_mesh.specs.Manifold.{AreNeighbours, Chain, HasOneFan}
 use Rattle.def_layout.specs.Layouts.{Way, south, east, north, west, side_after, side_before, Layout, Slot, IsSlot, use_of}
-use Rattle.def_layout.specs.Laid.{IsLaid, IsOtherSlot}
+use Rattle.def_layout.specs.Surfaces.{IsSurface, IsOtherSlot}
 use Rattle.def_layout.specs.Fans.{HasFans}
 use Rattle.def_layout.specs.Lengths.{Lengths, AreLengths}
 use Rattle.def_layout.specs.Cells.{CellDart, IsDart, dart, next, prev, slot_dart}
@@ -52,7 +52,7 @@ module _ (l : Layout) (x : Lengths) where
   left_shared p i j k m north c r = let a : k ≡ i + 1 = sym c in let b : m ≡ j = omega arith in λ t. point l x p (a t) (b t)
   left_shared p i j k m west c r = let a : k + 1 ≡ i + 1 = omega arith in let b : m ≡ j + 1 = sym r in λ t. point l x p (a t) (b t)
 
-  module _ (laid : IsLaid l) (len : AreLengths l x) where
+  module _ (laid : IsSurface l) (len : AreLengths l x) where
     prev_next : (d : CellDart) → prev (next d) ≡ d
     prev_next d = by_way d.way
       where

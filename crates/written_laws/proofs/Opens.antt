@@ -2,7 +2,7 @@
 use Rattle.std.proofs.Common.{◌≡◌, ◌≢◌, ◌⊎◌, ℕ, ◌+◌, ◌-◌, ◌<◌, ◌≤◌, Bool, true, false, not, cond, refl, sym, ◌∙◌, ap, subst, inl, inr, arith}
 use Rattle.std.proofs.lemmas.Bool.{cases_eq}
 use Rattle.def_layout.specs.Layouts.{Way, south, east, north, west, side_after, Layout, Slot, IsSlot, AreReverse, use_of}
-use Rattle.def_layout.specs.Laid.{IsLaid}
+use Rattle.def_layout.specs.Surfaces.{IsSurface}
 use Rattle.def_layout.specs.Lengths.{Lengths, reach, size, wide, high, AreLengths}
 use Rattle.def_written.specs.Points.{Point, node, along, inside, arc_point, side_point, point}
 use Rattle.def_written.specs.Edges.{Edge, on_arc, flat, steep, IsEdge, edge_start, edge_end}
@@ -13,7 +13,7 @@ use Rattle.written_laws.proofs.Simple.{IsSimple}
 use Rattle.written_laws.proofs.Manifold.{before_after}
 use Rattle.written_laws.proofs.Spokes.{IsOpen, spoke, tip_column, tip_row, one_way, tip, Joins, joins_swap, arc_sort, point_sort, Inner, hub, tip_low, spoke_joins, hub_edge, loop_at}
 
-module _ (l : Layout) (x : Lengths) (laid : IsLaid l) (len : AreLengths l x) (open_l : IsOpen l x) where
+module _ (l : Layout) (x : Lengths) (laid : IsSurface l) (len : AreLengths l x) (open_l : IsOpen l x) where
   side_two : (p : ℕ) (s : Way) → p < l.patches → 2 ≤ size l x p s
   side_two p s p_low =
       let first : IsSlot l (slot p s 0) = first_slot l x laid.paved len p s p_low in

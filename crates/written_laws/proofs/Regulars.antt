@@ -6,7 +6,7 @@ use Rattle.def_mesh.specs.Vertices.{faces_at}
 use Rattle.def_mesh.specs.Kinds.{is_inner, is_regular}
 use Rattle.def_layout.specs.declared.tmesh.SideArc.{SideArc}
 use Rattle.def_layout.specs.Layouts.{Way, south, east, north, west, Layout, Slot, IsSlot, use_of, start_node, end_node}
-use Rattle.def_layout.specs.Laid.{IsLaid, IsOtherSlot}
+use Rattle.def_layout.specs.Surfaces.{IsSurface, IsOtherSlot}
 use Rattle.def_layout.specs.Lengths.{Lengths, AreLengths}
 use Rattle.def_layout.specs.Cells.{CellDart, IsDart, dart}
 use Rattle.def_written.specs.Points.{node, along, inside, IsPoint, use_point, point}
@@ -97,7 +97,7 @@ code_back_first zero low = refl
 code_back_first (suc zero) low = refl
 code_back_first (suc (suc k)) low = absurd (omega arith)
 
-module _ (l : Layout) (x : Lengths) (laid : IsLaid l) (len : AreLengths l x) where
+module _ (l : Layout) (x : Lengths) (laid : IsSurface l) (len : AreLengths l x) where
   -- No point of an arc lies inside a patch.
   upto_not_inside : (u : SideArc) (o p i j : ℕ) → o ≤ x u.arc → 0 < x u.arc → use_point l x u o ≢ inside p i j
   upto_not_inside u o p i j le some e = elim (cases_eq o (x u.arc)) [

@@ -2,7 +2,7 @@
 use Rattle.std.proofs.Common.{◌≡◌, ◌⊎◌, ℕ, ◌+◌, ◌-◌, ◌<◌, ◌≤◌, refl, sym, ◌∙◌, ap, inl, inr, arith}
 use Rattle.std.proofs.lemmas.Bool.{cases_eq}
 use Rattle.def_layout.specs.Layouts.{Way, south, east, north, west, side_after, Layout}
-use Rattle.def_layout.specs.Laid.{IsPaved, IsLaid}
+use Rattle.def_layout.specs.Surfaces.{HasWholeSides, IsSurface}
 use Rattle.def_layout.specs.Lengths.{Lengths, size, wide, high, AreLengths}
 use Rattle.def_layout.specs.Cells.{CellDart, IsDart, dart, next, dart_along}
 use Rattle.def_written.specs.Points.{side_point, point}
@@ -30,7 +30,7 @@ side_row l x p east t = t
 side_row l x p north t = high l x p
 side_row l x p west t = high l x p - t
 
-module _ (l : Layout) (x : Lengths) (paved : IsPaved l) (len : AreLengths l x) where
+module _ (l : Layout) (x : Lengths) (paved : HasWholeSides l) (len : AreLengths l x) where
   pub rim_is : (p : ℕ) (s : Way) (t : ℕ) → p < l.patches → t < size l x p s → IsDart l x (dart_along l x p s t)
   rim_is p south t low less = record { patch_low = low; i_low = less; j_low = high_some l x paved len p low }
   rim_is p east t low less =
@@ -227,7 +227,7 @@ module _ (l : Layout) (x : Lengths) (paved : IsPaved l) (len : AreLengths l x) w
         next_is : IsDart l x (dart_along l x p s t) → IsDart l x (next (dart_along l x p s t))
         next_is d = record { patch_low = d.patch_low; i_low = d.i_low; j_low = d.j_low }
 
-module _ (l : Layout) (x : Lengths) (laid : IsLaid l) (len : AreLengths l x) where
+module _ (l : Layout) (x : Lengths) (laid : IsSurface l) (len : AreLengths l x) where
   pub border_point : (p : ℕ) (s : Way) (t : ℕ) → p < l.patches → t ≤ size l x p s
       → point l x p (side_column l x p s t) (side_row l x p s t) ≡ side_point l x p s t
   border_point p south t low le = refl

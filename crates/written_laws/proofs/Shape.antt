@@ -11,17 +11,17 @@ use Rattle.def_mesh.specs.HalfEdges.{IsQuadManifold, half_edges}
 use Rattle.def_mesh.specs.declared.Kind.{Kind}
 use Rattle.def_mesh.specs.declared.Kind.TheVariants.{Regular, Singular, Corner, Reflex}
 use Rattle.def_layout.specs.Layouts.{Layout, Slot, IsSlot, use_of, start_node}
-use Rattle.def_layout.specs.Laid.{IsPaved, IsLaid}
+use Rattle.def_layout.specs.Surfaces.{HasWholeSides, IsSurface}
 use Rattle.def_layout.specs.Fans.{HasFans}
 use Rattle.def_layout.specs.Lengths.{Lengths, AreLengths}
 use Rattle.def_layout.specs.Cells.{CellDart, IsDart, next, slot_dart}
-use Rattle.def_layout.specs.Sided.{IsSided}
+use Rattle.def_layout.specs.Embeddings.{IsEmbedding}
 use Rattle.def_written.specs.Points.{Point, node, along, inside, IsPoint}
 use Rattle.def_written.specs.Numbers.{vertex_number, vertices}
 use Rattle.def_written.specs.NewFaces.{dart_start, dart_end, new_faces}
 use Rattle.def_written.specs.Edges.{Edge, IsEdge, edge_start, edge_end, IsUndoubled}
 use Rattle.def_written.specs.Shape.{IsKeptNode, KeepsShape}
-use Rattle.def_written.specs.Laws.{LiesIn, LaidLaw, NumbersLaw, NewManifoldLaw, KeepsShapeLaw, ThreeLaw, MultipleLaw}
+use Rattle.def_written.specs.Laws.{LiesInMesh, LaidLaw, NumbersLaw, NewManifoldLaw, KeepsShapeLaw, ThreeLaw, MultipleLaw}
 use Rattle.mesh_laws.proofs.HalfEdges.{manifold_law}
 use Rattle.mesh_laws.proofs.Vertices.{count_least}
 use Rattle.written_laws.proofs.Sides.{use_some, use_begins}
@@ -43,8 +43,8 @@ use Rattle.written_laws.proofs.NodeKinds.{node_faces, node_inner}
 use Rattle.written_laws.proofs.Sided.{starts}
 use Rattle.written_laws.proofs.OldModel.{old_laid, old_model, old_fans, twin_is_across}
 
-module _ (faces : Faces) (man : IsManifold faces) (l : Layout) (x : Lengths) (paved : IsPaved l) (len : AreLengths l x)
-    (cell : CellDart → ℕ) (vertex : ℕ → ℕ) (arc_dart : ℕ → ℕ → ℕ) (s : IsSided (half_edges faces) l x cell vertex arc_dart) where
+module _ (faces : Faces) (man : IsManifold faces) (l : Layout) (x : Lengths) (paved : HasWholeSides l) (len : AreLengths l x)
+    (cell : CellDart → ℕ) (vertex : ℕ → ℕ) (arc_dart : ℕ → ℕ → ℕ) (s : IsEmbedding (half_edges faces) l x cell vertex arc_dart) where
   module _ (model : IsModel faces l x (old_laid faces man l x paved len cell vertex arc_dart s) len cell) where
     -- A dart that runs along an edge.
     record IsRunner (e : Edge) (d : CellDart) (a : Bool) : Type 0 where
@@ -140,7 +140,7 @@ kind_is : (F : Faces) (v : ℕ) → kind_of F v ≡ kind_by (is_inner F v) (face
 unfolding kind_by
 kind_is F v = refl
 
-module _ (l : Layout) (x : Lengths) (laid : IsLaid l) (len : AreLengths l x) (F : Faces) (cell : CellDart → ℕ) (model : IsModel F l x laid len cell) where
+module _ (l : Layout) (x : Lengths) (laid : IsSurface l) (len : AreLengths l x) (F : Faces) (cell : CellDart → ℕ) (model : IsModel F l x laid len cell) where
   -- A vertex of a model that is not regular is that of a node.
   irregular_node : (d : CellDart) → IsDart l x d → is_regular F (from_of F (cell d)) ≡ false
       → (n : ℕ) × (n < l.nodes) × (dart_start l x d ≡ node n)
@@ -155,8 +155,8 @@ module _ (l : Layout) (x : Lengths) (laid : IsLaid l) (len : AreLengths l x) (F 
           absurd (false≢true (sym off ∙ inside_regular l x laid len F cell model p i j (from_of F (cell d)) is_a
           (vertex_from l x laid len F cell model d (inside p i j) (from_of F (cell d)) is e refl)))
 
-module _ (faces : Faces) (l : Layout) (x : Lengths) (vertex : ℕ → ℕ) (lies : LiesIn faces l x vertex) where
-  abbrev the_laid : IsLaid l
+module _ (faces : Faces) (l : Layout) (x : Lengths) (vertex : ℕ → ℕ) (lies : LiesInMesh faces l x vertex) where
+  abbrev the_laid : IsSurface l
   the_laid = old_laid faces lies.manifold l x lies.paved lies.lengths lies.cell vertex lies.arc_dart lies.sided
 
   the_model : IsModel faces l x the_laid lies.lengths lies.cell

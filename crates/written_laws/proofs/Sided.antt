@@ -4,10 +4,10 @@ use Rattle.std.proofs.lemmas.Option.{same_Some}
 use Rattle.def_mesh.specs.HalfEdges.{HalfEdges, IsQuadManifold}
 use Rattle.def_layout.specs.declared.tmesh.SideArc.{SideArc}
 use Rattle.def_layout.specs.Layouts.{Way, south, east, north, west, side_after, side_before, Layout, Slot, IsSlot, AreReverse, use_of, use_before, slot_before, start_node, end_node}
-use Rattle.def_layout.specs.Laid.{IsPaved, IsLaid, IsOtherSlot}
+use Rattle.def_layout.specs.Surfaces.{HasWholeSides, IsSurface, IsOtherSlot}
 use Rattle.def_layout.specs.Lengths.{Lengths, reach, size, AreLengths}
 use Rattle.def_layout.specs.Cells.{CellDart, IsDart, dart, next, prev, dart_along, slot_dart}
-use Rattle.def_layout.specs.Sided.{IsSided}
+use Rattle.def_layout.specs.Embeddings.{IsEmbedding}
 use Rattle.def_written.specs.NewFaces.{column, row}
 use Rattle.written_laws.proofs.Sides.{slot, use_some, last_reach}
 use Rattle.written_laws.proofs.Turning.{IsTurning}
@@ -16,8 +16,8 @@ use Rattle.written_laws.proofs.Borders.{at_is, before_is}
 use Rattle.written_laws.proofs.Fans.{before_related}
 use Rattle.written_laws.proofs.Spots.{rim_slot}
 
-module _ (m : HalfEdges) (laws : IsQuadManifold m) (l : Layout) (x : Lengths) (paved : IsPaved l) (len : AreLengths l x)
-    (cell : CellDart → ℕ) (vertex : ℕ → ℕ) (arc_dart : ℕ → ℕ → ℕ) (s : IsSided m l x cell vertex arc_dart) where
+module _ (m : HalfEdges) (laws : IsQuadManifold m) (l : Layout) (x : Lengths) (paved : HasWholeSides l) (len : AreLengths l x)
+    (cell : CellDart → ℕ) (vertex : ℕ → ℕ) (arc_dart : ℕ → ℕ → ℕ) (s : IsEmbedding m l x cell vertex arc_dart) where
   some : (w : Slot) → IsSlot l w → 0 < x (use_of l w).arc
   some w is = use_some l x paved len w is
 
@@ -220,7 +220,7 @@ module _ (m : HalfEdges) (laws : IsQuadManifold m) (l : Layout) (x : Lengths) (p
       back : m.from (m.next (m.next (cell c))) ≡ m.from (cell c)
       back = (laws.twin_ends (cell c) (m.next (cell c)) c_low twin).1
 
-  pub laid_in : IsLaid l
+  pub laid_in : IsSurface l
   laid_in = record {
     paved = paved;
     once = once;

@@ -4,7 +4,7 @@ use Rattle.std.specs.Prelude.{◌==◌}
 use Rattle.std.proofs.lemmas.Bool.{cases_eq, cases_lt, cond-true, cond-false, eq-eqb, ne_eqb}
 use Rattle.def_layout.specs.declared.tmesh.SideArc.{SideArc}
 use Rattle.def_layout.specs.Layouts.{Way, south, east, north, west, side_after, Layout, Slot, IsSlot, use_of, start_node, end_node}
-use Rattle.def_layout.specs.Laid.{IsPaved, IsLaid}
+use Rattle.def_layout.specs.Surfaces.{HasWholeSides, IsSurface}
 use Rattle.def_layout.specs.Lengths.{Lengths, reach, size, AreLengths}
 use Rattle.def_written.specs.Points.{node, along, arc_point, use_point, use_over, offset_at, side_point}
 use Rattle.written_laws.proofs.Runs.{count_rises, run_here, run_last, run_place, IsInRun}
@@ -83,7 +83,7 @@ module _ (l : Layout) (x : Lengths) where
       → reach l x w.patch w.side w.at + x (use_of l w).arc ≤ size l x w.patch w.side
   reach_low w is = count_rises (long_at w.patch w.side) (suc w.at) (l.many w.patch w.side) (omega (arith, is.low))
 
-  module _ (paved : IsPaved l) (len : AreLengths l x) where
+  module _ (paved : HasWholeSides l) (len : AreLengths l x) where
     pub use_some : (w : Slot) → IsSlot l w → 0 < x (use_of l w).arc
     use_some w is = len.some (use_of l w).arc (paved.arc_low w is)
 
@@ -145,7 +145,7 @@ module _ (l : Layout) (x : Lengths) where
       | inr none ↦ omega (arith, is.low, none)
     ]
 
-  module _ (laid : IsLaid l) (len : AreLengths l x) where
+  module _ (laid : IsSurface l) (len : AreLengths l x) where
     -- A side ends where the next one begins.
     pub corner_meets : (p : ℕ) (s : Way) (t : ℕ) → p < l.patches → t ≡ size l x p s
         → side_point l x p s t ≡ side_point l x p (side_after s) 0

@@ -2,7 +2,7 @@
 use Rattle.std.proofs.Common.{◌≡◌, ◌≢◌, ◌⊎◌, ℕ, ◌+◌, ◌-◌, ◌<◌, ◌≤◌, Bool, true, false, cond, refl, sym, ◌∙◌, ap, subst, inl, inr, arith}
 use Rattle.std.specs.Prelude.{◌==◌}
 use Rattle.def_layout.specs.Layouts.{Way, south, east, north, west, Layout}
-use Rattle.def_layout.specs.Laid.{IsLaid}
+use Rattle.def_layout.specs.Surfaces.{IsSurface}
 use Rattle.def_layout.specs.Lengths.{Lengths, wide, high, AreLengths}
 use Rattle.def_written.specs.Points.{Point, node, along, inside, arc_point, use_over, offset_at, point}
 use Rattle.def_written.specs.Edges.{Edge, on_arc, flat, steep, IsEdge, edge_start, edge_end}
@@ -81,7 +81,7 @@ module _ (l : Layout) (x : Lengths) where
       by_tests false false s = (cc, cc)
       by_tests _ _ s = absurd cc
 
-  module _ (laid : IsLaid l) (len : AreLengths l x) where
+  module _ (laid : IsSurface l) (len : AreLengths l x) where
     -- The grid point that lies inside.
     pub point_sort : (q k m p i j : ℕ) → q < l.patches → k ≤ wide l x q → m ≤ high l x q → point l x q k m ≡ inside p i j
         → (q ≡ p) × (k ≡ i) × (m ≡ j)

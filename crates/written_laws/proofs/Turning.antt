@@ -1,7 +1,7 @@
 -- Relations of darts that hold for turns round a point.
 use Rattle.std.proofs.Common.{◌≡◌, ℕ, ◌-◌, ◌<◌, refl, sym, arith}
 use Rattle.def_layout.specs.Layouts.{Way, south, east, north, west, side_after, Layout, Slot, IsSlot, use_of}
-use Rattle.def_layout.specs.Laid.{IsOtherSlot}
+use Rattle.def_layout.specs.Surfaces.{IsOtherSlot}
 use Rattle.def_layout.specs.Lengths.{Lengths, wide, high}
 use Rattle.def_layout.specs.Cells.{CellDart, IsDart, dart, next, slot_dart}
 use Rattle.def_written.specs.NewFaces.{column, row}

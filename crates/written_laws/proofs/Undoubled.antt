@@ -2,7 +2,7 @@
 use Rattle.std.proofs.Common.{◌≡◌, ◌≢◌, ◌⊎◌, ℕ, refl, sym, ◌∙◌, ap, inl, inr, arith}
 use Rattle.std.proofs.lemmas.Bool.{cases_eq, cases_lt}
 use Rattle.def_layout.specs.Layouts.{Layout}
-use Rattle.def_layout.specs.Laid.{IsLaid}
+use Rattle.def_layout.specs.Surfaces.{IsSurface}
 use Rattle.def_layout.specs.Lengths.{Lengths, AreLengths}
 use Rattle.def_written.specs.Numbers.{vertex_number}
 use Rattle.def_written.specs.Edges.{Edge, on_arc, flat, steep, IsEdge, edge_start, edge_end, HasEnds, HasLoop, HasPair, IsUndoubled}
@@ -64,7 +64,7 @@ module _ (l : Layout) (x : Lengths) where
         | inr apart ↦ absurd (pair_doubles e f (vertex_number l x (edge_start l x e)) (vertex_number l x (edge_end l x e)) is_e is_f apart (inl (refl, refl)) ends undoubled)
       ]
 
-  module _ (laid : IsLaid l) (len : AreLengths l x) where
+  module _ (laid : IsSurface l) (len : AreLengths l x) where
     point_is : (a b : Edge) → IsEdge l x a → IsEdge l x b
         → (vertex_number l x (edge_start l x a) ≡ vertex_number l x (edge_start l x b) → edge_start l x a ≡ edge_start l x b)
         × (vertex_number l x (edge_start l x a) ≡ vertex_number l x (edge_end l x b) → edge_start l x a ≡ edge_end l x b)

@@ -2,7 +2,7 @@ use Rattle.std.proofs.Common.{◌≤◌, length, sym, ◌∙◌, subst}
 use Rattle.error_laws.proofs.Errors.{handed}
 use Rattle.def_cut.specs.Traced.{traced_marks}
 use Rattle.def_io.specs.Bytes.{Bytes}
-use Rattle.def_layout.specs.FaceLayouts.{IsLayoutOf}
+use Rattle.def_layout.specs.FaceLayouts.{IsCutLayout}
 use Rattle.def_layout.specs.Plans.{plan}
 use Rattle.def_mesh.specs.Faces.{Faces}
 use Rattle.def_remesh.specs.Refined.{refined_text}
@@ -27,7 +27,7 @@ returns-in_err-points-clause-refused c =
     let is = c.requires.given.read in
     handed (IsMapFail c.args.bytes.now) c.from_residual-in_err-points.result c.in_err-points.field-0.0 c.from_residual-in_err-points.ensures.1
     (no_points c.args.bytes.now c.args.mark c.args.old c.args.by c.requires.given (record { mesh = c.args.old.mesh; layout = c.in_ok-layout.layout }) is.mesh
-    (subst (λ (fs : Faces). IsLayoutOf fs (traced_marks fs) (plan c.in_ok-layout.layout)) is.mesh c.in_ok-layout.ensures.traced)
+    (subst (λ (fs : Faces). IsCutLayout fs (traced_marks fs) (plan c.in_ok-layout.layout)) is.mesh c.in_ok-layout.ensures.traced)
     (c.in_ok-layout.ensures.mesh.0, c.in_ok-layout.ensures.mesh.1 ∙ is.mesh) c.in_err-points.field-0.0 c.in_err-points.ensures.refused)
 
 pub compare_refined-requires-clause-few : goal.compare_refined-requires-clause-few
@@ -43,7 +43,7 @@ returns-in_err-compare_refined-clause-refused c =
     handed (IsMapFail c.args.bytes.now) c.from_residual-in_err-compare_refined.result c.in_err-compare_refined.field-0.0
     c.from_residual-in_err-compare_refined.ensures.1
     (other_refined c.args.bytes.now c.args.mark c.args.old c.args.by c.requires.given (record { mesh = c.args.old.mesh; layout = c.in_ok-layout.layout }) is.mesh
-    (subst (λ (fs : Faces). IsLayoutOf fs (traced_marks fs) (plan c.in_ok-layout.layout)) is.mesh c.in_ok-layout.ensures.traced)
+    (subst (λ (fs : Faces). IsCutLayout fs (traced_marks fs) (plan c.in_ok-layout.layout)) is.mesh c.in_ok-layout.ensures.traced)
     (c.in_ok-layout.ensures.mesh.0, c.in_ok-layout.ensures.mesh.1 ∙ is.mesh) c.in_ok-points.points c.in_ok-points.ensures.points
     c.in_err-compare_refined.field-0.0
     (subst (λ (given : Bytes). IsDifference given (refined_text c.args.by c.args.old.soup (plan c.in_ok-layout.layout)) c.in_err-compare_refined.field-0.0)
@@ -53,6 +53,6 @@ pub returns-clause-mapped : goal.returns-clause-mapped
 returns-clause-mapped c =
     let is = c.requires.given.read in
     refined_mapped c.args.bytes.now c.args.mark c.args.old c.args.by c.requires.given (record { mesh = c.args.old.mesh; layout = c.in_ok-layout.layout }) is.mesh
-    (subst (λ (fs : Faces). IsLayoutOf fs (traced_marks fs) (plan c.in_ok-layout.layout)) is.mesh c.in_ok-layout.ensures.traced)
+    (subst (λ (fs : Faces). IsCutLayout fs (traced_marks fs) (plan c.in_ok-layout.layout)) is.mesh c.in_ok-layout.ensures.traced)
     (c.in_ok-layout.ensures.mesh.0, c.in_ok-layout.ensures.mesh.1 ∙ is.mesh) c.in_ok-points.points c.in_ok-points.ensures.points
     (sym c.written_text.ensures ∙ c.in_ok-compare_refined.ensures.same)

@@ -1,16 +1,16 @@
 use Rattle.std.proofs.Common.{◌≡◌, refl, subst}
 use Rattle.std.proofs.lemmas.Result.{IfOk-weaker}
-use Rattle.def_layout.specs.FaceLayouts.{IsLayoutOf}
+use Rattle.def_layout.specs.FaceLayouts.{IsCutLayout}
 use Rattle.def_layout.specs.Plans.{plan}
 use Rattle.def_written.specs.Laws.{AreQuads}
-use Rattle.def_layoutnet.specs.MeshLayouts.{IsMeshLayout}
+use Rattle.def_layoutnet.specs.MeshLayouts.{IsSomeLayout}
 use Rattle.qm_cut.proofs.traced.graph_layout.Goals as goal
 
 pub returns-clause-mesh : goal.returns-clause-mesh
 returns-clause-mesh c =
     let faces = c.args.mesh.now in
     let marks = c.args.graph.now.covered.items in
-    IfOk-weaker c.layout.result (λ t. IsLayoutOf faces marks (plan t)) (λ t. (is : IsMeshLayout (plan t)) × (is.faces ≡ faces))
+    IfOk-weaker c.layout.result (λ t. IsCutLayout faces marks (plan t)) (λ t. (is : IsSomeLayout (plan t)) × (is.faces ≡ faces))
     (λ t laid. (
       record {
         faces = faces;

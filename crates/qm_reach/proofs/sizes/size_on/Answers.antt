@@ -6,7 +6,7 @@ use Rattle.def_layout.specs.Layouts.{Way}
 use Rattle.def_layout.specs.Lengths.{size}
 use Rattle.def_layout.specs.Plans.{layout_of, way_number, plan}
 use Rattle.def_layout.specs.declared.tmesh.TMesh.{TMesh}
-use Rattle.def_layoutnet.specs.MeshLayouts.{IsMeshLayout}
+use Rattle.def_layoutnet.specs.MeshLayouts.{IsSomeLayout}
 use Rattle.def_remesh.specs.NewPoints.{lengths_in}
 use Rattle.plan_laws.proofs.MeshLayouts.{laid_of, lengths_of}
 use Rattle.qm_reach.specs.Fours.{arcs_on}
@@ -15,7 +15,7 @@ use Rattle.qm_reach.proofs.Whole.{side_long, uses_low, way_for}
 use Rattle.qm_reach.proofs.sizes.size_on.Goals as goal
 
 -- Sides are short enough for 64 bits.
-short : (t : TMesh) (x : ℕ → ℕ) (is : IsMeshLayout (plan t)) → ((a : ℕ) → x a ≤ 10 ^ 12) → (p : ℕ) (s : Way) → p < length t.patches.items
+short : (t : TMesh) (x : ℕ → ℕ) (is : IsSomeLayout (plan t)) → ((a : ℕ) → x a ≤ 10 ^ 12) → (p : ℕ) (s : Way) → p < length t.patches.items
     → size (layout_of (plan t)) x p s < 2 ^ 64
 short t x is most p s low =
     let l_low : p < length (plan t).patches = omega (arith, low, length-map t.patches.items rectangle) in

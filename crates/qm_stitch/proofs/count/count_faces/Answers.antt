@@ -6,7 +6,7 @@ use Rattle.def_layout.specs.Layouts.{south, west}
 use Rattle.def_layout.specs.Lengths.{wide, high}
 use Rattle.def_layout.specs.Plans.{layout_of, plan}
 use Rattle.def_layout.specs.declared.tmesh.TMesh.{TMesh}
-use Rattle.def_layoutnet.specs.MeshLayouts.{IsMeshLayout}
+use Rattle.def_layoutnet.specs.MeshLayouts.{IsSomeLayout}
 use Rattle.def_written.specs.NewFaces.{cells_before, face_count}
 use Rattle.def_remesh.specs.NewPoints.{lengths_in}
 use Rattle.plan_laws.proofs.MeshLayouts.{laid_of, lengths_of}
@@ -16,7 +16,7 @@ use Rattle.qm_reach.proofs.Spots.{count_step}
 use Rattle.qm_stitch.proofs.count.count_faces.Goals as goal
 
 -- All faces are few enough for 128 bits.
-few : (t : TMesh) (x : ℕ → ℕ) (is : IsMeshLayout (plan t)) → ((a : ℕ) → x a ≤ 10 ^ 12) → (p : ℕ) → p < length t.patches.items
+few : (t : TMesh) (x : ℕ → ℕ) (is : IsSomeLayout (plan t)) → ((a : ℕ) → x a ≤ 10 ^ 12) → (p : ℕ) → p < length t.patches.items
     → cells_before (layout_of (plan t)) x p + wide (layout_of (plan t)) x p * high (layout_of (plan t)) x p < 2 ^ 128
 few t x is most p low =
     let l_low : suc p ≤ length (plan t).patches = omega (arith, low, length-map t.patches.items rectangle) in

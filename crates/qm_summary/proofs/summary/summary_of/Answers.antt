@@ -6,7 +6,7 @@ use Rattle.error_laws.proofs.Errors.{handed}
 use Rattle.def_cut.specs.Grids.{rectangle}
 use Rattle.def_cut.specs.Traced.{traced_marks}
 use Rattle.def_layout.specs.Arcs.{path}
-use Rattle.def_layout.specs.FaceLayouts.{IsLayoutOf}
+use Rattle.def_layout.specs.FaceLayouts.{IsCutLayout}
 use Rattle.def_layout.specs.Plans.{plan}
 use Rattle.def_mesh.specs.Components.{edge_count, is_start, seeds, start_darts}
 use Rattle.def_mesh.specs.Darts.{darts}
@@ -22,7 +22,7 @@ pub returns-in_err-kept_deviation-clause-refused : goal.returns-in_err-kept_devi
 returns-in_err-kept_deviation-clause-refused c =
     let t = plan c.in_ok-layout.layout in
     handed (IsBenchFail c.args.size) _ _ c.from_residual-in_err-kept_deviation.ensures.1 (size_fails c.args.size t c.in_err-kept_deviation.field-0.0
-    (subst (λ (fs : Faces). IsLayoutOf fs (traced_marks fs) t) c.requires c.in_ok-layout.ensures.traced)
+    (subst (λ (fs : Faces). IsCutLayout fs (traced_marks fs) t) c.requires c.in_ok-layout.ensures.traced)
     c.in_err-kept_deviation.ensures.refused)
 
 pub overflow_cast-counts-2 : goal.overflow_cast-counts-2
@@ -53,7 +53,7 @@ returns-clause-text c =
     record {
       manifold = subst IsManifold c.requires c.faces.ensures.mesh.manifold;
       plan = plan layout;
-      cut = subst (λ (fs : Faces). IsLayoutOf fs (traced_marks fs) (plan layout)) c.requires c.in_ok-layout.ensures.traced;
+      cut = subst (λ (fs : Faces). IsCutLayout fs (traced_marks fs) (plan layout)) c.requires c.in_ok-layout.ensures.traced;
       cert = kept.cert;
       certified = kept.certified;
       coarse = kept.coarse;

@@ -9,7 +9,7 @@ use Rattle.def_cut.specs.Steps.{face_of}
 use Rattle.def_cut.specs.declared.patch.Patch.{Patch}
 use Rattle.def_layout.specs.Arcs.{path}
 use Rattle.def_layout.specs.Nodes.{is_node}
-use Rattle.def_layout.specs.Plans.{IsLayout}
+use Rattle.def_layout.specs.Plans.{IsDartLayout}
 use Rattle.def_layout.specs.declared.tmesh.TArc.{TArc}
 use Rattle.qm_tmesh.specs.Four.{HavePatches, AreAllFour, four_of}
 use Rattle.qm_tmesh.specs.Tables.{IsMarked}
@@ -44,5 +44,5 @@ sides-requires c = subst (λ (xs : List Patch). HavePatches c.args.mesh.now (map
 pub returns : goal.returns
 returns c =
     let sides : AreAllFour c.args.mesh.now (map path c.in_ok-arcs.arcs.items) c.in_ok-uses.uses.items (map rectangle c.args.patches.items) (map four_of c.in_ok-sides.sides.items) = subst (λ (xs : List Patch). AreAllFour c.args.mesh.now (map path c.in_ok-arcs.arcs.items) c.in_ok-uses.uses.items (map rectangle xs) (map four_of c.in_ok-sides.sides.items)) c.deref-5.ensures.value c.in_ok-sides.ensures in
-    subst (λ (xs : List Bool). IsLayout (half_edges c.args.mesh.now) (is_on xs) (is_node c.args.mesh.now xs) face_of (vertex_count c.args.mesh.now) (record { nodes = c.in_ok-nodes.nodes.listed.list.items; arcs = (map path c.in_ok-arcs.arcs.items); patches = map rectangle c.args.patches.items; sides = map four_of c.in_ok-sides.sides.items })) c.as_slice-cut.ensures.value
+    subst (λ (xs : List Bool). IsDartLayout (half_edges c.args.mesh.now) (is_on xs) (is_node c.args.mesh.now xs) face_of (vertex_count c.args.mesh.now) (record { nodes = c.in_ok-nodes.nodes.listed.list.items; arcs = (map path c.in_ok-arcs.arcs.items); patches = map rectangle c.args.patches.items; sides = map four_of c.in_ok-sides.sides.items })) c.as_slice-cut.ensures.value
     (is_layout c.args.mesh.now c.as_slice-cut.result.now c.in_ok-nodes.nodes.marks.items (marked_of c.args.mesh.now c.args.graph.now.covered.items c.as_slice-cut.result.now c.in_ok-nodes.nodes.marks.items c.in_ok-nodes.ensures.mesh c.requires.cut c.as_slice-cut.ensures.value c.in_ok-nodes.ensures.marks) (darts c.args.mesh.now) (let h : darts c.args.mesh.now ≡ darts c.args.mesh.now = refl in omega arith) c.in_ok-nodes.nodes.listed.list.items (map path c.in_ok-arcs.arcs.items) c.in_ok-uses.uses.items (map rectangle c.args.patches.items) face_of (subst (λ (xs : List Bool). IsPartition (half_edges c.args.mesh.now) (is_on xs) face_of (map rectangle c.args.patches.items)) (sym c.as_slice-cut.ensures.value) c.requires.patches) c.in_ok-arcs.ensures (table_of c.args.mesh.now c.in_ok-arcs.arcs.items c.deref-4.result.now c.in_ok-uses.uses.items c.deref-4.ensures.value c.in_ok-uses.ensures) (map four_of c.in_ok-sides.sides.items) sides c.in_ok-nodes.ensures.list)

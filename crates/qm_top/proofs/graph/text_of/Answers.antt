@@ -1,6 +1,6 @@
 use Rattle.std.proofs.Common.{◌≡◌, Bool, List, subst}
 use Rattle.std.proofs.lemmas.Result.{IfOk-weaker}
-use Rattle.def_layout.specs.FaceLayouts.{IsLayoutOf}
+use Rattle.def_layout.specs.FaceLayouts.{IsCutLayout}
 use Rattle.def_layout.specs.Plans.{plan}
 use Rattle.def_report.specs.GraphText.{graph_text}
 use Rattle.def_run.specs.Graph.{IsGraphText}
@@ -17,7 +17,7 @@ returns c =
       riders = graph.riders.items;
       rode = c.in_ok-graph.ensures.graph.riders;
       layout = layout;
-      laid = subst (λ (marks : List Bool). IsLayoutOf faces marks layout) c.in_ok-graph.ensures.graph.covered c.in_ok-layout.ensures;
+      laid = subst (λ (marks : List Bool). IsCutLayout faces marks layout) c.in_ok-graph.ensures.graph.covered c.in_ok-layout.ensures;
       said = said;
     })
     c.graph_text.ensures

@@ -3,7 +3,7 @@ use Rattle.std.specs.Prelude.{◌≡◌, ◌⊎◌, ℕ, ◌<◌, true}
 use Rattle.def_layout.specs.Layouts.{Way, Layout, Slot, IsSlot, AreReverse, use_of, use_before, start_node, end_node}
 
 -- Sides are not empty, and name arcs and nodes that exist.
-pub record IsPaved (layout : Layout) : Type 0 where
+pub record HasWholeSides (layout : Layout) : Type 0 where
   pub sides_full : (patch : ℕ) (side : Way) → patch < layout.patches → 0 < layout.many patch side
   pub arc_low : (slot : Slot) → IsSlot layout slot → (use_of layout slot).arc < layout.arcs
   pub first_low : (arc : ℕ) → arc < layout.arcs → layout.first arc < layout.nodes
@@ -14,8 +14,8 @@ abbrev pub IsOtherSlot : (layout : Layout) (slot other : Slot) → Type 0
 IsOtherSlot layout slot other = IsSlot layout other × AreReverse (use_of layout slot) (use_of layout other)
 
 -- The patches of a layout are glued along their arcs.
-pub record IsLaid (layout : Layout) : Type 0 where
-  pub paved : IsPaved layout
+pub record IsSurface (layout : Layout) : Type 0 where
+  pub paved : HasWholeSides layout
   -- No slot uses an arc in the direction of another slot. Each arc is used in its own direction.
   pub once : (v w : Slot) → IsSlot layout v → IsSlot layout w → use_of layout v ≡ use_of layout w → v ≡ w
   pub forward : (arc : ℕ) → arc < layout.arcs

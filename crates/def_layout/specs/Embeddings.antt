@@ -2,13 +2,13 @@
 use Rattle.std.specs.Prelude.{◌≡◌, ◌⊎◌, ℕ, ◌+◌, ◌-◌, ◌<◌, true, false, Some, None}
 use Rattle.def_mesh.specs.HalfEdges.{HalfEdges}
 use Rattle.def_layout.specs.Layouts.{east, north, south, west, Layout, Slot, IsSlot, use_of, start_node}
-use Rattle.def_layout.specs.Laid.{IsOtherSlot}
+use Rattle.def_layout.specs.Surfaces.{IsOtherSlot}
 use Rattle.def_layout.specs.Lengths.{Lengths, wide, high}
 use Rattle.def_layout.specs.Cells.{CellDart, IsDart, dart, next, slot_dart}
 
 -- `cell` gives the dart of the mesh for a dart of a cell, `vertex` the vertex for a node, and `arc_dart` the darts of
 -- an arc, counted along it. The lengths are the numbers of these darts.
-pub record IsSided
+pub record IsEmbedding
     (mesh : HalfEdges) (layout : Layout) (lengths : Lengths) (cell : CellDart → ℕ) (vertex : ℕ → ℕ)
     (arc_dart : ℕ → ℕ → ℕ)
     : Type 0 where
