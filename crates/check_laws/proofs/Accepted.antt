@@ -1,10 +1,10 @@
 -- The text of a finished remesh behind that of its mesh is a checked pair.
-use Rattle.std.proofs.Common.{◌≡◌, ◌<◌, ◌+◌, ◌-◌, ℕ, zero, suc, Bool, true, false, cond, List, Option, Some, None, [], ◌∷◌, ◌++◌, length, map, take, drop, get_or, sym, ◌∙◌, ap, refl, arith, length-append, length-drop}
+use Rattle.std.proofs.Common.{◌≡◌, ◌<◌, ◌+◌, ◌-◌, ℕ, zero, suc, Bool, true, false, cond, List, [], ◌∷◌, ◌++◌, length, map, take, drop, get_or, sym, ◌∙◌, ap, refl, arith, length-append, length-drop}
 use Rattle.std.specs.List.{filter}
 use Rattle.std.proofs.Math.Seq.{take-append_seam}
 use Rattle.std.proofs.lemmas.Bool.{and_parts, eq-eqb, eqb-true, false_from_ne_true, false≢true}
 use Rattle.std.proofs.lemmas.List.{get_or-append-add}
-use Rattle.def_certtext.specs.CertLines.{line_text, Lists}
+use Rattle.def_certtext.specs.CertLines.{line_text, Certificates}
 use Rattle.def_certtext.specs.HeadLine.{begins_head, head_line}
 use Rattle.def_certtext.specs.Reading.{is_hash_line, TellHow}
 use Rattle.def_certtext.specs.declared.CertLine.{CertLine}
@@ -75,11 +75,10 @@ line_behind [] k = refl
 line_behind (line ∷ lines) k = refl
 
 -- The settings with which a text was made.
-made_settings : (settings : Settings) (auto : Bool) (first : Lists) (third : Option Lists)
-    → ((made_by settings auto first third).settings ≡ settings) × ((made_by settings auto first third).auto ≡ auto)
-made_settings settings true first None = (refl, refl)
-made_settings settings true first (Some third) = (refl, refl)
-made_settings settings false first third = (refl, refl)
+made_settings : (settings : Settings) (auto : Bool) (certificates : Certificates)
+    → ((made_by settings auto certificates).settings ≡ settings) × ((made_by settings auto certificates).auto ≡ auto)
+made_settings settings true certificates = (refl, refl)
+made_settings settings false certificates = (refl, refl)
 
 pub accepts_law : AcceptsLaw
 accepts_law settings auto old text soup range said ends solid is = record {
@@ -98,8 +97,7 @@ accepts_law settings auto old text soup range said ends solid is = record {
   remeshed = record {
     plan = is.finished.plan;
     cut = is.finished.cut;
-    first = is.finished.first;
-    third = is.finished.third;
+    certificates = is.finished.certificates;
     lengths = is.finished.lengths;
     coarse = is.finished.coarse;
     undoubled = is.finished.undoubled;
@@ -112,13 +110,13 @@ accepts_law settings auto old text soup range said ends solid is = record {
     lines : lines_of (old ++ text) ≡ lines_of old ++ lines_of text
     lines = lines_append old text ends
 
-    tells : TellHow (get_or (lines_of text) 0 []) (drop 1 (lines_of text)) (made_by settings auto is.finished.first is.finished.third)
-    tells = (told_law settings auto soup text range solid is.finished (made_by settings auto is.finished.first is.finished.third)).1 refl
+    tells : TellHow (get_or (lines_of text) 0 []) (drop 1 (lines_of text)) (made_by settings auto is.finished.certificates)
+    tells = (told_law settings auto soup text range solid is.finished (made_by settings auto is.finished.certificates)).1 refl
 
     head : get_or (lines_of text) 0 [] ≡ head_line settings auto
     head =
-        let is_made = made_settings settings auto is.finished.first is.finished.third in
-        tells.settings.written ∙ (ap (λ (s : Settings). head_line s (made_by settings auto is.finished.first is.finished.third).auto) is_made.0 ∙ ap (head_line settings) is_made.1)
+        let is_made = made_settings settings auto is.finished.certificates in
+        tells.settings.written ∙ (ap (λ (s : Settings). head_line s (made_by settings auto is.finished.certificates).auto) is_made.0 ∙ ap (head_line settings) is_made.1)
 
     first_begins : begins_head (get_or (lines_of text) 0 []) ≡ true
     first_begins = ap begins_head head ∙ head_begins settings auto

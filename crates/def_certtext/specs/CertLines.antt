@@ -8,6 +8,8 @@ use Rattle.def_text.specs.declared.letters.TheConstants.{HASH, SPACE}
 use Rattle.def_flow.specs.declared.cert.Cert.{Cert}
 use Rattle.def_certtext.specs.declared.CertLine.{CertLine}
 use Rattle.def_certtext.specs.declared.CertLine.TheVariants as lines
+use Rattle.def_certtext.specs.declared.certs.Certs.{Certs}
+use Rattle.def_certtext.specs.declared.certs.Certs.TheVariants.{Alone, Raised}
 use Rattle.def_certtext.specs.declared.TheConstants.{FLOOR, LENGTH, SET, DUAL_VERTEX}
 
 -- A certificate as its four lists.
@@ -20,6 +22,21 @@ pub record Lists : Type 0 where
 -- The lists of a certificate.
 abbrev pub lists_of : (cert : Cert) → Lists
 lists_of cert = record { x = cert.x.items; y = cert.dual.y.items; z = cert.dual.z.items; up = cert.dual.up.items }
+
+-- The certificates of a remesh: one alone, or one whose lengths double an edge and another for floor 3.
+pub data Certificates : Type 0 where
+  alone : (cert : Lists) → Certificates
+  raised : (first cert : Lists) → Certificates
+
+-- The one whose lengths are used.
+abbrev pub used : (certificates : Certificates) → Lists
+used (alone cert) = cert
+used (raised first cert) = cert
+
+-- The certificates that the program holds.
+abbrev pub certificates_of : (certs : Certs) → Certificates
+certificates_of (Alone cert) = alone (lists_of cert)
+certificates_of (Raised first cert) = raised (lists_of first) (lists_of cert)
 
 -- Each vertex and each set of the dual has its `up`.
 abbrev pub HasUps : (lists : Lists) → Type 0

@@ -15,12 +15,20 @@ head_line settings auto =
 abbrev pub begins_head : (line : Bytes) → Bool
 begins_head line = starts_with nat_eq line (codes "#quadq 1 remesh")
 
--- Line i is the last of these that begins so.
-pub record IsLastHead (lines : Lines) (i : ℕ) : Type 0 where
+-- Line i is the last of these that begins so, by this test.
+pub record IsLastLine (begins_so : Bytes → Bool) (lines : Lines) (i : ℕ) : Type 0 where
   pub there : i < length lines
-  pub begins : begins_head (slice_index_or lines i []) ≡ true
-  pub last : (k : ℕ) → i < k → k < length lines → begins_head (slice_index_or lines k []) ≡ false
+  pub begins : begins_so (slice_index_or lines i []) ≡ true
+  pub last : (k : ℕ) → i < k → k < length lines → begins_so (slice_index_or lines k []) ≡ false
 
 -- No line begins so.
+abbrev pub HasNoLine : (begins_so : Bytes → Bool) (lines : Lines) → Type 0
+HasNoLine begins_so lines = (k : ℕ) → k < length lines → begins_so (slice_index_or lines k []) ≡ false
+
+-- Line i is the last that begins as a head line does.
+abbrev pub IsLastHead : (lines : Lines) (i : ℕ) → Type 0
+IsLastHead lines i = IsLastLine begins_head lines i
+
+-- None does.
 abbrev pub HasNoHead : (lines : Lines) → Type 0
-HasNoHead lines = (k : ℕ) → k < length lines → begins_head (slice_index_or lines k []) ≡ false
+HasNoHead lines = HasNoLine begins_head lines

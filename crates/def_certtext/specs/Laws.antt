@@ -1,6 +1,5 @@
 -- What is written reads back: the head line and the certificate lines of a written text are those that it was made of.
-use Rattle.std.specs.Prelude.{◌≡◌, ◌^◌, ◌↔◌, ℕ, Bool, true, false, IsTrue, Option, Some}
-use Rattle.std.specs.Prelude.{None, List, [], ◌∷◌, ◌++◌, drop, slice_index_or}
+use Rattle.std.specs.Prelude.{◌≡◌, ◌^◌, ◌↔◌, ℕ, Bool, true, false, IsTrue, List, [], ◌∷◌, ◌++◌, drop, slice_index_or}
 use Rattle.std.specs.List.{list_all}
 use Rattle.def_io.specs.Bytes.{Bytes}
 use Rattle.def_io.specs.Lines.{lines_of}
@@ -10,7 +9,7 @@ use Rattle.def_text.specs.Canonical.{canonical_text}
 use Rattle.def_text.specs.FaceSet.{FaceSet}
 use Rattle.def_text.specs.Laws.{is_position, is_quad}
 use Rattle.def_flow.specs.declared.net.Settings.{Settings}
-use Rattle.def_certtext.specs.CertLines.{said_by, text_of, HasUps, Lists}
+use Rattle.def_certtext.specs.CertLines.{alone, raised, said_by, text_of, Certificates, HasUps, Lists}
 use Rattle.def_certtext.specs.HeadLine.{head_line}
 use Rattle.def_certtext.specs.Reading.{may_stand, Made, TellHow}
 use Rattle.def_certtext.specs.Settings.{AreInRange}
@@ -28,19 +27,23 @@ pub record IsWritableCert (lists : Lists) : Type 0 where
   pub ups : HasUps lists
   pub allowed : list_all (may_stand false) (said_by lists) ≡ true
 
+-- So can each of these.
+abbrev pub AreWritable : (certificates : Certificates) → Type 0
+AreWritable (alone cert) = IsWritableCert cert
+AreWritable (raised first cert) = IsWritableCert first × IsWritableCert cert
+
 -- The head line, the mesh and the lines of a certificate.
 abbrev pub written_text : (settings : Settings) (auto : Bool) (soup : FaceSet) (said : List CertLine) → Bytes
 written_text settings auto soup said = head_line settings auto ++ LINE_FEED ∷ (canonical_text soup ++ text_of said)
 
 -- The lines of two certificates, where floor 3 was used, or of the one for floor 1.
-abbrev pub chosen_lines : (first : Lists) (third : Option Lists) → List CertLine
-chosen_lines first None = Floor 1 ∷ said_by first
-chosen_lines first (Some third) = (Floor 1 ∷ said_by first) ++ Floor 3 ∷ said_by third
+abbrev pub chosen_lines : (certificates : Certificates) → List CertLine
+chosen_lines (alone cert) = Floor 1 ∷ said_by cert
+chosen_lines (raised first cert) = (Floor 1 ∷ said_by first) ++ Floor 3 ∷ said_by cert
 
 -- How a text of a chosen floor was made.
-abbrev pub chosen : (settings : Settings) (first : Lists) (third : Option Lists) → Made
-chosen settings first None = record { settings = settings; auto = true; first = None; cert = first }
-chosen settings first (Some third) = record { settings = settings; auto = true; first = Some first; cert = third }
+abbrev pub chosen : (settings : Settings) (certificates : Certificates) → Made
+chosen settings certificates = record { settings = settings; auto = true; certificates = certificates }
 
 -- A text whose first line is the head line tells that it was made so, and not otherwise.
 abbrev pub TellsOnly : (text : Bytes) (made : Made) → Type 0
@@ -53,12 +56,11 @@ WrittenLaw =
     (settings : Settings) (soup : FaceSet) (cert : Lists) → AreInRange settings false → IsPrintable soup
     → IsWritableCert cert
     → TellsOnly (written_text settings false soup (said_by cert))
-    (record { settings = settings; auto = false; first = None; cert = cert })
+    (record { settings = settings; auto = false; certificates = alone cert })
 
 -- A text of a chosen floor tells its settings and its certificates, and no others.
 abbrev pub ChosenLaw : Type 0
 ChosenLaw =
-    (settings : Settings) (soup : FaceSet) (first : Lists) (third : Option Lists) → AreInRange settings true
-    → IsPrintable soup
-    → IsWritableCert first → ((lists : Lists) → third ≡ Some lists → IsWritableCert lists)
-    → TellsOnly (written_text settings true soup (chosen_lines first third)) (chosen settings first third)
+    (settings : Settings) (soup : FaceSet) (certificates : Certificates) → AreInRange settings true → IsPrintable soup
+    → AreWritable certificates
+    → TellsOnly (written_text settings true soup (chosen_lines certificates)) (chosen settings certificates)

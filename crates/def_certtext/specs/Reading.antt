@@ -3,12 +3,12 @@ use Rattle.std.specs.Prelude.{◌≡◌, ◌<◌, ◌^◌, ◌==◌, ◌&&◌, �
 use Rattle.std.specs.Prelude.{false, if◌then◌else◌, Option, Some, None, List, [], ◌∷◌, ◌++◌, length, map}
 use Rattle.std.specs.Prelude.{slice_index_or, ⊤}
 use Rattle.std.specs.List.{after_first, before_first, filter, flat_map, list_all, list_any}
-use Rattle.std.specs.Option.{option_map}
 use Rattle.def_io.specs.Bytes.{Bytes, Lines}
 use Rattle.def_text.specs.declared.letters.TheConstants.{HASH}
+use Rattle.def_flow.specs.declared.cert.Cert.{Cert}
 use Rattle.def_flow.specs.declared.limits.TheConstants.{MAX_LENGTH}
 use Rattle.def_flow.specs.declared.net.Settings.{Settings}
-use Rattle.def_certtext.specs.CertLines.{line_text, lists_of, Lists}
+use Rattle.def_certtext.specs.CertLines.{alone, line_text, lists_of, raised, Certificates, Lists}
 use Rattle.def_certtext.specs.HeadLine.{head_line}
 use Rattle.def_certtext.specs.Settings.{AreInRange}
 use Rattle.def_certtext.specs.declared.CertFail.{CertFail}
@@ -22,16 +22,19 @@ use Rattle.def_certtext.specs.declared.Written.{Written}
 pub record Made : Type 0 where
   pub settings : Settings
   pub auto : Bool
-  pub first : Option Lists
-  pub cert : Lists
+  pub certificates : Certificates
+
+-- The certificate for floor 1, where one for floor 3 follows, and the used one.
+abbrev pub with_first : (first : Option Cert) (cert : Cert) → Certificates
+with_first None cert = alone (lists_of cert)
+with_first (Some first) cert = raised (lists_of first) (lists_of cert)
 
 -- The same of what was read.
 abbrev pub made_of : (written : Written) → Made
 made_of written = record {
   settings = written.settings;
   auto = written.auto;
-  first = option_map lists_of written.first;
-  cert = lists_of written.cert;
+  certificates = with_first written.first written.cert;
 }
 
 -- The line is the head line of these settings, which may be asked for.
@@ -95,13 +98,11 @@ abbrev pub is_third : (line : CertLine) → Bool
 is_third (lines.Floor floor) = floor == 3
 is_third _ = false
 
--- The certificate for floor 1, where one for floor 3 follows.
-abbrev pub first_in : (said : List CertLine) → Option Lists
-first_in said = if list_any is_third said then Some (lists_in (before_first is_third said)) else None
-
--- The certificate that was used: behind the first `#f 3`, or of all lines.
-abbrev pub cert_in : (said : List CertLine) → Lists
-cert_in said = if list_any is_third said then lists_in (after_first is_third said) else lists_in said
+-- The certificates of lines: those before and behind the first `#f 3`, or the one of all lines.
+abbrev pub certificates_in : (said : List CertLine) → Certificates
+certificates_in said =
+    if list_any is_third said then raised (lists_in (before_first is_third said)) (lists_in (after_first is_third said))
+    else alone (lists_in said)
 
 -- A head line and those of the lines behind it that begin with `#` say how the text was made.
 pub record TellHow (head : Bytes) (behind : Lines) (made : Made) : Type 0 where
@@ -109,8 +110,7 @@ pub record TellHow (head : Bytes) (behind : Lines) (made : Made) : Type 0 where
   pub said : List CertLine
   pub texts : filter is_hash_line behind ≡ map line_text said
   pub allowed : list_all (may_stand made.auto) said ≡ true
-  pub first : made.first ≡ first_in said
-  pub cert : made.cert ≡ cert_in said
+  pub certificates : made.certificates ≡ certificates_in said
 
 -- Line k is the first of these that begins with `#` and is no certificate line.
 pub record IsFirstBad (auto : Bool) (behind : Lines) (k : ℕ) : Type 0 where

@@ -1,6 +1,9 @@
 //! The text of a certificate: its head line and the lines of lengths, of the dual's numbers and of its sets.
 #![tactic(auto)]
 
+mod certs;
+
+pub use certs::Certs;
 use def_flow::{Cert, Settings};
 use std::alloc::AllocError;
 use thiserror::Error;

@@ -1,6 +1,6 @@
 -- What shows that lengths are least: certificates that are accepted.
-use Rattle.std.specs.Prelude.{Bool, Option}
-use Rattle.def_certtext.specs.CertLines.{Lists}
+use Rattle.std.specs.Prelude.{Bool}
+use Rattle.def_certtext.specs.CertLines.{Certificates, Lists}
 use Rattle.def_flow.specs.Accepted.{Certificate, IsAccepted}
 use Rattle.def_flow.specs.declared.net.Settings.{Settings}
 use Rattle.def_io.specs.Bytes.{Bytes}
@@ -9,7 +9,8 @@ use Rattle.def_text.specs.FaceSet.{FaceSet}
 use Rattle.def_remesh.specs.Remeshed.{AreKeptBy, HasLeastLengths, IsFinished}
 use Rattle.def_remesh.specs.Tasks.{Task, Wish}
 
--- The lists of a certificate, as the checker takes them.
+-- The lists of a certificate, as the checker takes them. A text says four lists; the last three are the dual, which the
+-- checker of matchings takes without the lengths.
 abbrev pub certificate_of : (lists : Lists) → Certificate
 certificate_of lists = record { x = lists.x; dual = record { y = lists.y; z = lists.z; up = lists.up } }
 
@@ -20,10 +21,10 @@ pub record IsCertified (wish : Wish) (plan : Plan) (settings : Settings) (cert :
 
 -- The accepted certificates of a remesh.
 abbrev pub AreKept :
-    (wish : Wish) (plan : Plan) (settings : Settings) (auto : Bool) (first : Lists) (third : Option Lists) → Type 0
-AreKept wish plan settings auto first third = AreKeptBy (IsCertified wish plan) plan settings auto first third
+    (wish : Wish) (plan : Plan) (settings : Settings) (auto : Bool) (certificates : Certificates) → Type 0
+AreKept wish plan settings auto certificates = AreKeptBy (IsCertified wish plan) plan settings auto certificates
 
 -- A task that is finished for a soup, as accepted certificates show.
 pub record IsShown (task : Task) (soup : FaceSet) (text : Bytes) : Type 0 where
   pub finished : IsFinished task soup text
-  pub certified : AreKept task.wish finished.plan task.settings task.auto finished.first finished.third
+  pub certified : AreKept task.wish finished.plan task.settings task.auto finished.certificates

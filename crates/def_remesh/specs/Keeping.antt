@@ -1,6 +1,6 @@
 -- The network by which a layout is remeshed, and what is kept of it.
-use Rattle.std.specs.Prelude.{◌≡◌, ◌≤◌, Bool, Option}
-use Rattle.def_certtext.specs.CertLines.{Lists}
+use Rattle.std.specs.Prelude.{◌≡◌, ◌≤◌, Bool}
+use Rattle.def_certtext.specs.CertLines.{used, Certificates}
 use Rattle.def_flow.specs.Network.{Network, tangle_number, IsWithinBounds}
 use Rattle.def_flow.specs.declared.limits.TheConstants.{MAX_TANGLE}
 use Rattle.def_flow.specs.declared.net.Settings.{Settings}
@@ -11,7 +11,7 @@ use Rattle.def_written.specs.Edges.{IsUndoubled}
 use Rattle.def_remesh.specs.NewPoints.{lengths_in}
 use Rattle.def_remesh.specs.Numberings.{IsNumbering}
 use Rattle.def_remesh.specs.Certified.{AreKept}
-use Rattle.def_remesh.specs.Remeshed.{AreCoarse, used}
+use Rattle.def_remesh.specs.Remeshed.{AreCoarse}
 use Rattle.def_remesh.specs.Stitched.{KeepsShapes}
 use Rattle.def_remesh.specs.Tasks.{Wish}
 use Rattle.def_remesh.specs.declared.tables.Tables.{Tables}
@@ -27,11 +27,11 @@ pub record IsNetFor (wish : Wish) (plan : Plan) (settings : Settings) (net : Net
 -- The certificates of a remesh, and the numbers of the new mesh at the lengths that are used. It has no more faces than
 -- a new mesh may have, no edge of it is doubled, and it keeps the shape of the old one.
 pub record IsKept
-    (wish : Wish) (plan : Plan) (settings : Settings) (auto : Bool) (first : Lists) (third : Option Lists) (tables : Tables)
+    (wish : Wish) (plan : Plan) (settings : Settings) (auto : Bool) (certificates : Certificates) (tables : Tables)
     : Type 0 where
-  pub kept : AreKept wish plan settings auto first third
-  pub coarse : AreCoarse plan (used first third).x
-  pub undoubled : IsUndoubled (layout_of plan) (lengths_in (used first third).x)
-  pub shape : KeepsShapes plan (lengths_in (used first third).x)
+  pub kept : AreKept wish plan settings auto certificates
+  pub coarse : AreCoarse plan (used certificates).x
+  pub undoubled : IsUndoubled (layout_of plan) (lengths_in (used certificates).x)
+  pub shape : KeepsShapes plan (lengths_in (used certificates).x)
   pub numbering : IsNumbering plan tables
-  pub lengths : tables.lengths.items ≡ (used first third).x
+  pub lengths : tables.lengths.items ≡ (used certificates).x

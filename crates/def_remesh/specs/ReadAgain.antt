@@ -1,11 +1,12 @@
 -- When a text that is written is read again as the mesh that was written.
 use Rattle.std.specs.Prelude.{◌≡◌, ◌≤◌, ◌==◌, Bool, true, IsTrue, Ok, [], ◌∷◌, length}
 use Rattle.std.specs.List.{list_all}
+use Rattle.def_certtext.specs.CertLines.{used}
 use Rattle.def_io.specs.Bytes.{Bytes}
 use Rattle.def_io.specs.declared.TheConstants.{LINE_FEED}
 use Rattle.def_remesh.specs.NewPoints.{lengths_in}
 use Rattle.def_remesh.specs.NewSoup.{new_soup}
-use Rattle.def_remesh.specs.Remeshed.{used, IsFinished}
+use Rattle.def_remesh.specs.Remeshed.{IsFinished}
 use Rattle.def_remesh.specs.Tasks.{Task}
 use Rattle.def_text.specs.FaceSet.{FaceSet}
 use Rattle.def_text.specs.Laws.{is_position}
@@ -20,11 +21,11 @@ ends_line (byte ∷ next ∷ bytes) = ends_line (next ∷ bytes)
 
 -- The mesh that a finished task of a soup wrote.
 abbrev pub finished_soup : (task : Task) (soup : FaceSet) (text : Bytes) (is : IsFinished task soup text) → FaceSet
-finished_soup task soup text is = new_soup soup is.plan (lengths_in (used is.first is.third).x)
+finished_soup task soup text is = new_soup soup is.plan (lengths_in (used is.certificates).x)
 
 -- Its lines between that mesh and the certificates.
 abbrev pub lines_between : (task : Task) (soup : FaceSet) (text : Bytes) (is : IsFinished task soup text) → Bytes
-lines_between task soup text is = task.between is.plan (lengths_in (used is.first is.third).x)
+lines_between task soup text is = task.between is.plan (lengths_in (used is.certificates).x)
 
 -- A soup within the limits of the reader.
 pub record IsReadable (soup : FaceSet) : Type 0 where

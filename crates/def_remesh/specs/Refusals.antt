@@ -1,6 +1,6 @@
 -- Why a layout is not remeshed, and which layouts are remeshed whatever least lists are kept.
-use Rattle.std.specs.Prelude.{◌≡◌, ◌<◌, ℕ, Bool, true, false, Some, None, List, length, ⊤}
-use Rattle.def_certtext.specs.CertLines.{lists_of}
+use Rattle.std.specs.Prelude.{◌≡◌, ◌<◌, ℕ, Bool, true, false, List, length, ⊤}
+use Rattle.def_certtext.specs.CertLines.{alone, lists_of, raised}
 use Rattle.def_flow.specs.Admissible.{entries, IsLeast}
 use Rattle.def_flow.specs.Network.{Network}
 use Rattle.def_flow.specs.declared.cert.Cert.{Cert}
@@ -33,9 +33,9 @@ AreTooFine plan lengths faces = (faces ≡ face_count (layout_of plan) (lengths_
 abbrev pub IsFineBy : (wish : Wish) (plan : Plan) (settings : Settings) (auto : Bool) (faces : ℕ) (kept : Kept) → Type 0
 IsFineBy wish plan settings auto faces (Multiple by) = ⊥
 IsFineBy wish plan settings auto faces (Least cert) =
-    AreKept wish plan settings auto (lists_of cert) None × AreTooFine plan cert.x.items faces
+    AreKept wish plan settings auto (alone (lists_of cert)) × AreTooFine plan cert.x.items faces
 IsFineBy wish plan settings auto faces (Raised first cert) =
-    AreKept wish plan settings auto (lists_of first) (Some (lists_of cert)) × AreTooFine plan cert.x.items faces
+    AreKept wish plan settings auto (raised (lists_of first) (lists_of cert)) × AreTooFine plan cert.x.items faces
 
 -- The kept lengths of a given floor double an edge, first at these vertices of the new mesh. With floor 3 none does.
 pub record IsDoubledBy (wish : Wish) (plan : Plan) (settings : Settings) (auto : Bool) (u v : ℕ) (cert : Cert) : Type 0 where

@@ -1,5 +1,5 @@
 -- What is made of a mesh that is remeshed: the cut, the lengths, the text and the shape.
-use Rattle.std.specs.Prelude.{◌≡◌, ◌≤◌, ◌∷◌, ◌++◌, ℕ, Bool, true, false, Option, Some, None, List, length}
+use Rattle.std.specs.Prelude.{◌≡◌, ◌≤◌, ◌∷◌, ◌++◌, ℕ, Bool, true, false, List, length}
 use Rattle.def_flow.specs.Admissible.{entries, IsLeast}
 use Rattle.def_flow.specs.Network.{Network, tangle_number}
 use Rattle.def_flow.specs.declared.limits.TheConstants.{MAX_TANGLE}
@@ -9,7 +9,7 @@ use Rattle.def_layout.specs.FaceLayouts.{IsCutLayout}
 use Rattle.def_layout.specs.Plans.{Plan, layout_of, vertex_at}
 use Rattle.def_layoutnet.specs.LayoutNet.{IsNetOf}
 use Rattle.def_layoutnet.specs.LayoutNetLaws.{AreOpposite}
-use Rattle.def_certtext.specs.CertLines.{said_by, text_of, Lists}
+use Rattle.def_certtext.specs.CertLines.{alone, raised, said_by, text_of, used, Certificates, Lists}
 use Rattle.def_certtext.specs.Laws.{chosen_lines, IsWritableCert}
 use Rattle.def_certtext.specs.declared.CertLine.{CertLine}
 use Rattle.def_io.specs.declared.TheConstants.{LINE_FEED}
@@ -51,54 +51,46 @@ AreDoubled plan lengths = (u v : ℕ) × IsDoubledAt (layout_of plan) (lengths_i
 -- The certificates of a remesh, where this is known of one with its settings: with a given floor there is one. With
 -- `auto` there is one for floor 1, and where its lengths double an edge, another for floor 3.
 abbrev pub AreKeptBy : (fits : Settings → Lists → Type 0) (plan : Plan) (settings : Settings) (auto : Bool)
-    (first : Lists) (third : Option Lists) → Type 0
-AreKeptBy fits plan settings auto first None = fits settings first
-AreKeptBy fits plan settings true first (Some third) =
-    fits settings first × AreCoarse plan first.x × AreDoubled plan first.x × fits (with_floor settings 3) third
-AreKeptBy fits plan settings false first (Some third) = ⊥
-
--- The certificate whose lengths are used.
-abbrev pub used : (first : Lists) (third : Option Lists) → Lists
-used first None = first
-used first (Some third) = third
+    (certificates : Certificates) → Type 0
+AreKeptBy fits plan settings auto (alone cert) = fits settings cert
+AreKeptBy fits plan settings auto (raised first cert) = (auto ≡ true) × fits settings first × AreCoarse plan first.x
+    × AreDoubled plan first.x × fits (with_floor settings 3) cert
 
 -- The lines of the certificates. With `auto` each stands behind the line that names its floor.
-abbrev pub certificate_lines : (auto : Bool) (first : Lists) (third : Option Lists) → List CertLine
-certificate_lines true first third = chosen_lines first third
-certificate_lines false first third = said_by (used first third)
+abbrev pub certificate_lines : (auto : Bool) (certificates : Certificates) → List CertLine
+certificate_lines true certificates = chosen_lines certificates
+certificate_lines false certificates = said_by (used certificates)
 
 -- The mesh at the lengths that are used, these lines behind it, and the lines of the certificates.
 abbrev pub text_behind_head :
-    (between : Bytes) (auto : Bool) (soup : FaceSet) (plan : Plan) (first : Lists) (third : Option Lists) → Bytes
-text_behind_head between auto soup plan first third =
-    canonical_text (new_soup soup plan (lengths_in (used first third).x))
-    ++ (between ++ text_of (certificate_lines auto first third))
+    (between : Bytes) (auto : Bool) (soup : FaceSet) (plan : Plan) (certificates : Certificates) → Bytes
+text_behind_head between auto soup plan certificates =
+    canonical_text (new_soup soup plan (lengths_in (used certificates).x))
+    ++ (between ++ text_of (certificate_lines auto certificates))
 
 -- The whole text of a task.
-abbrev pub finished_text : (task : Task) (soup : FaceSet) (plan : Plan) (first : Lists) (third : Option Lists) → Bytes
-finished_text task soup plan first third =
-    task.head ++ LINE_FEED ∷
-    text_behind_head (task.between plan (lengths_in (used first third).x)) task.auto soup plan first third
+abbrev pub finished_text : (task : Task) (soup : FaceSet) (plan : Plan) (certificates : Certificates) → Bytes
+finished_text task soup plan certificates = task.head ++ LINE_FEED ∷
+    text_behind_head (task.between plan (lengths_in (used certificates).x)) task.auto soup plan certificates
 
 -- A task that is finished for a soup: a layout cuts its mesh into rectangular grids of the cut, each face once; the
 -- lengths are least; the text is that of the mesh with these lengths; and that mesh has the shape of the old one.
 pub record IsFinished (task : Task) (soup : FaceSet) (text : Bytes) : Type 0 where
   pub plan : Plan
   pub cut : IsCutLayout soup.faces task.marks plan
-  pub first : Lists
-  pub third : Option Lists
-  pub lengths : AreKeptBy (HasLeastLengths task.wish plan) plan task.settings task.auto first third
-  pub coarse : AreCoarse plan (used first third).x
-  pub undoubled : IsUndoubled (layout_of plan) (lengths_in (used first third).x)
-  pub written : text ≡ finished_text task soup plan first third
-  pub shape : KeepsShape soup.faces (new_faces (layout_of plan) (lengths_in (used first third).x))
+  pub certificates : Certificates
+  pub lengths : AreKeptBy (HasLeastLengths task.wish plan) plan task.settings task.auto certificates
+  pub coarse : AreCoarse plan (used certificates).x
+  pub undoubled : IsUndoubled (layout_of plan) (lengths_in (used certificates).x)
+  pub written : text ≡ finished_text task soup plan certificates
+  pub shape : KeepsShape soup.faces (new_faces (layout_of plan) (lengths_in (used certificates).x))
       (layout_of plan).nodes (vertex_at plan)
 
 -- The text of a remesh.
 abbrev pub remeshed_text :
-    (settings : Settings) (auto : Bool) (soup : FaceSet) (plan : Plan) (first : Lists) (third : Option Lists) → Bytes
-remeshed_text settings auto soup plan first third =
-    finished_text (remesh_task settings auto soup.faces) soup plan first third
+    (settings : Settings) (auto : Bool) (soup : FaceSet) (plan : Plan) (certificates : Certificates) → Bytes
+remeshed_text settings auto soup plan certificates =
+    finished_text (remesh_task settings auto soup.faces) soup plan certificates
 
 -- A finished remesh of a soup: the cut is its motorcycle graph, and the old lengths are wished for.
 abbrev pub IsRemeshed : (settings : Settings) (auto : Bool) (soup : FaceSet) (text : Bytes) → Type 0

@@ -1,6 +1,6 @@
 -- What the text of a finished remesh tells.
-use Rattle.std.specs.Prelude.{◌≡◌, ◌↔◌, ◌≤◌, ◌+◌, Ok, length, Bool, true, false, Option, None, [], drop, slice_index_or}
-use Rattle.def_certtext.specs.CertLines.{Lists}
+use Rattle.std.specs.Prelude.{◌≡◌, ◌↔◌, ◌≤◌, ◌+◌, Ok, length, Bool, true, false, [], drop, slice_index_or}
+use Rattle.def_certtext.specs.CertLines.{alone, used, Certificates}
 use Rattle.def_certtext.specs.Laws.{chosen, IsPrintable, TellsOnly}
 use Rattle.def_certtext.specs.Reading.{Made, TellHow}
 use Rattle.def_certtext.specs.Settings.{AreInRange}
@@ -13,14 +13,14 @@ use Rattle.def_text.specs.Text.{soup_in}
 use Rattle.def_text.specs.declared.limits.TheConstants.{MAX_F_LINES, MAX_V_LINES}
 use Rattle.def_remesh.specs.Checked.{IsCheckedPair}
 use Rattle.def_remesh.specs.ReadAgain.{finished_soup}
-use Rattle.def_remesh.specs.Remeshed.{IsRemeshed, used}
+use Rattle.def_remesh.specs.Remeshed.{IsRemeshed}
 use Rattle.def_remesh.specs.Tasks.{remesh_task}
 
 -- How it was made, as its lines tell it.
-abbrev pub made_by : (settings : Settings) (auto : Bool) (first : Lists) (third : Option Lists) → Made
-made_by settings true first third = chosen settings first third
-made_by settings false first third =
-    record { settings = settings; auto = false; first = None; cert = used first third }
+abbrev pub made_by : (settings : Settings) (auto : Bool) (certificates : Certificates) → Made
+made_by settings true certificates = chosen settings certificates
+made_by settings false certificates =
+    record { settings = settings; auto = false; certificates = alone (used certificates) }
 
 -- A soup of quads whose numbers can be written, and whose faces are a mesh.
 pub record IsSolid (soup : FaceSet) : Type 0 where
@@ -30,13 +30,13 @@ pub record IsSolid (soup : FaceSet) : Type 0 where
 -- The text of a finished remesh tells its settings and its certificates, and no others.
 abbrev pub ToldLaw : Type 0
 ToldLaw = (settings : Settings) (auto : Bool) (soup : FaceSet) (text : Bytes) → AreInRange settings auto → IsSolid soup
-    → (is : IsRemeshed settings auto soup text) → TellsOnly text (made_by settings auto is.first is.third)
+    → (is : IsRemeshed settings auto soup text) → TellsOnly text (made_by settings auto is.certificates)
 
 -- So do the lines of a checked pair from its head line on.
 abbrev pub PairLaw : Type 0
 PairLaw = (bytes : Bytes) (pair : IsCheckedPair bytes) → IsSolid pair.soup → (made : Made)
     → TellHow (slice_index_or (lines_of bytes) pair.line []) (drop (pair.line + 1) (lines_of bytes)) made
-    ↔ (made ≡ made_by pair.settings pair.auto pair.remeshed.first pair.remeshed.third)
+    ↔ (made ≡ made_by pair.settings pair.auto pair.remeshed.certificates)
 
 -- The mesh that a finished remesh of a soup wrote.
 abbrev pub remeshed_soup : (settings : Settings) (auto : Bool) (soup : FaceSet) (text : Bytes)

@@ -1,5 +1,6 @@
 -- What `check` means: it checks an input whose last head line divides it into an old text and the text of a remesh.
 use Rattle.std.specs.Prelude.{◌≡◌, ℕ, Bool, Ok, Err, [], length, take, slice_index_or}
+use Rattle.def_certtext.specs.CertLines.{used}
 use Rattle.def_certtext.specs.HeadLine.{HasNoHead, IsLastHead}
 use Rattle.def_certtext.specs.Reading.{IsHead}
 use Rattle.def_flow.specs.Admissible.{deviation, entries}
@@ -16,7 +17,6 @@ use Rattle.def_mesh.specs.declared.Place.{Place}
 use Rattle.def_remesh.specs.Checked.{accepted_line, IsCheckedPair}
 use Rattle.def_remesh.specs.NewPoints.{lengths_in}
 use Rattle.def_remesh.specs.Refusals.{IsTangledAt}
-use Rattle.def_remesh.specs.Remeshed.{used}
 use Rattle.def_remesh.specs.Tasks.{old_lengths, remesh_task}
 use Rattle.def_text.specs.FaceSet.{FaceSet}
 use Rattle.def_text.specs.Text.{text_soup}
@@ -35,11 +35,10 @@ use Rattle.def_run.specs.declared.answer.Why.TheVariants as why
 pub record IsCountedPair (bytes : Bytes) (arcs faces deviates : ℕ) : Type 0 where
   pub pair : IsCheckedPair bytes
   pub arcs_told : arcs ≡ length pair.remeshed.plan.arcs
-  pub faces_told : faces ≡ face_count (layout_of pair.remeshed.plan)
-      (lengths_in (used pair.remeshed.first pair.remeshed.third).x)
+  pub faces_told : faces ≡ face_count (layout_of pair.remeshed.plan) (lengths_in (used pair.remeshed.certificates).x)
   pub net : Network
   pub of_layout : IsNetOf (layout_of pair.remeshed.plan) (long_at pair.remeshed.plan.arcs) pair.settings net
-  pub deviation_told : deviates ≡ deviation net (entries (used pair.remeshed.first pair.remeshed.third).x)
+  pub deviation_told : deviates ≡ deviation net (entries (used pair.remeshed.certificates).x)
 
 -- For these bytes it writes this text: the line that accepts them, with the numbers of arcs and of new faces and the
 -- deviation of the used lengths.

@@ -1,6 +1,6 @@
 -- What is wrong with the text of a task that stands behind the text of its mesh, as its certificates show.
-use Rattle.std.specs.Prelude.{◌≡◌, ◌≢◌, ◌⊎◌, ◌+◌, ◌-◌, ◌<◌, ℕ, ℤ, Option, Some, None, drop, take, unwrap_or}
-use Rattle.def_certtext.specs.CertLines.{Lists}
+use Rattle.std.specs.Prelude.{◌≡◌, ◌≢◌, ◌⊎◌, ◌+◌, ◌-◌, ◌<◌, ℕ, ℤ, drop, take}
+use Rattle.def_certtext.specs.CertLines.{alone, raised, used, Certificates, Lists}
 use Rattle.def_certtext.specs.HeadLine.{head_line}
 use Rattle.def_certtext.specs.Reading.{HasBadLine, Made, TellHow}
 use Rattle.def_flow.specs.Accepted.{cert_verdict}
@@ -16,7 +16,7 @@ use Rattle.def_layoutnet.specs.LayoutNet.{IsNetOf}
 use Rattle.def_remesh.specs.NewPoints.{lengths_in}
 use Rattle.def_remesh.specs.Certified.{AreKept, certificate_of, IsCertified}
 use Rattle.def_remesh.specs.Refusals.{AreTooFine}
-use Rattle.def_remesh.specs.Remeshed.{AreCoarse, AreDoubled, finished_text, used, with_floor}
+use Rattle.def_remesh.specs.Remeshed.{AreCoarse, AreDoubled, finished_text, with_floor}
 use Rattle.def_remesh.specs.Tasks.{Task, Wish}
 use Rattle.def_text.specs.FaceSet.{FaceSet}
 use Rattle.def_written.specs.Edges.{IsFirstDoubled, IsUndoubled}
@@ -59,23 +59,26 @@ IsWrong wish plan settings cert (why.TooFine faces) =
 IsWrong wish plan settings cert _ = ⊥
 
 -- The certificate that is checked first: the one for floor 1, where another follows, or the only one.
-abbrev pub first_checked : (made : Made) → Lists
-first_checked made = unwrap_or made.first made.cert
+abbrev pub first_checked : (certificates : Certificates) → Lists
+first_checked (alone cert) = cert
+first_checked (raised first cert) = first
 
 -- The only certificate is accepted, and its lengths double an edge, first at these vertices.
 abbrev pub IsLoneDoubled : (wish : Wish) (plan : Plan) (settings : Settings) (made : Made) (why : Why) → Type 0
-IsLoneDoubled wish plan settings made (why.Doubled u v) = (made.first ≡ None) × IsCertified wish plan settings made.cert
-    × AreCoarse plan made.cert.x × IsFirstDoubled (layout_of plan) (lengths_in made.cert.x) u v
+IsLoneDoubled wish plan settings made (why.Doubled u v) =
+    (cert : Lists) × (made.certificates ≡ alone cert) × IsCertified wish plan settings cert
+    × AreCoarse plan cert.x × IsFirstDoubled (layout_of plan) (lengths_in cert.x) u v
 IsLoneDoubled wish plan settings made _ = ⊥
 
 -- The certificate for floor 1 is accepted, its lengths double an edge, and the one for floor 3 is wrong.
 pub record IsThirdWrong (wish : Wish) (plan : Plan) (settings : Settings) (made : Made) (why : Why) : Type 0 where
   pub first : Lists
-  pub there : made.first ≡ Some first
+  pub cert : Lists
+  pub there : made.certificates ≡ raised first cert
   pub certified : IsCertified wish plan settings first
   pub coarse : AreCoarse plan first.x
   pub doubled : AreDoubled plan first.x
-  pub wrong : IsWrong wish plan (with_floor settings MAX_FLOOR) made.cert why
+  pub wrong : IsWrong wish plan (with_floor settings MAX_FLOOR) cert why
 
 -- From this byte on, which counts from 1, the texts differ.
 pub record DifferFrom (one other : Bytes) (at : ℕ) : Type 0 where
@@ -85,13 +88,12 @@ pub record DifferFrom (one other : Bytes) (at : ℕ) : Type 0 where
 
 -- The certificates are those of a finished task, whose text is another one from this byte on.
 pub record IsOtherText (judged : Judged) (made : Made) (at : ℕ) : Type 0 where
-  pub third : Option Lists
-  pub chosen : (third ≡ None) ⊎ ((third ≡ Some made.cert) × (made.first ≡ Some (first_checked made)))
-  pub kept : AreKept judged.task.wish judged.plan judged.task.settings judged.task.auto (first_checked made) third
-  pub coarse : AreCoarse judged.plan (used (first_checked made) third).x
-  pub undoubled : IsUndoubled (layout_of judged.plan) (lengths_in (used (first_checked made) third).x)
-  pub differ : DifferFrom (text_in judged)
-      (finished_text judged.task judged.soup judged.plan (first_checked made) third) at
+  pub certificates : Certificates
+  pub chosen : (certificates ≡ alone (first_checked made.certificates)) ⊎ (certificates ≡ made.certificates)
+  pub kept : AreKept judged.task.wish judged.plan judged.task.settings judged.task.auto certificates
+  pub coarse : AreCoarse judged.plan (used certificates).x
+  pub undoubled : IsUndoubled (layout_of judged.plan) (lengths_in (used certificates).x)
+  pub differ : DifferFrom (text_in judged) (finished_text judged.task judged.soup judged.plan certificates) at
 
 -- The text is not that of the certificates that it tells.
 abbrev pub TellsOtherText : (judged : Judged) (made : Made) (why : Why) → Type 0
@@ -102,7 +104,7 @@ TellsOtherText judged made _ = ⊥
 pub record IsWrongText (judged : Judged) (why : Why) : Type 0 where
   pub made : Made
   pub told : TellsMade judged made
-  pub wrong : IsWrong judged.task.wish judged.plan judged.task.settings (first_checked made) why
+  pub wrong : IsWrong judged.task.wish judged.plan judged.task.settings (first_checked made.certificates) why
       ⊎ (IsLoneDoubled judged.task.wish judged.plan judged.task.settings made why
       ⊎ (IsThirdWrong judged.task.wish judged.plan judged.task.settings made why ⊎ TellsOtherText judged made why))
 

@@ -1,5 +1,6 @@
 -- What `map` means: it says where each vertex and face of a new mesh lies in the mesh in front of it.
 use Rattle.std.specs.Prelude.{◌≡◌, ◌⊎◌, ◌≤◌, ◌<◌, ℕ}
+use Rattle.def_certtext.specs.CertLines.{used}
 use Rattle.def_io.specs.Bytes.{Bytes}
 use Rattle.def_io.specs.Lines.{lines_of, tail_of}
 use Rattle.def_layout.specs.Arcs.{long_at}
@@ -8,7 +9,6 @@ use Rattle.def_map.specs.MapText.{map_text}
 use Rattle.def_remesh.specs.NewPoints.{lengths_in, multiple_of}
 use Rattle.def_remesh.specs.Refined.{refined_faces, refined_text}
 use Rattle.def_remesh.specs.Refusals.{IsTangledAt}
-use Rattle.def_remesh.specs.Remeshed.{used}
 use Rattle.def_remesh.specs.Tasks.{Task}
 use Rattle.def_remesh.specs.declared.limits.TheConstants.{MAX_NEW_FACES}
 use Rattle.def_text.specs.FaceSet.{FaceSet}
@@ -48,8 +48,8 @@ refined_map by front text said =
 
 -- The map of the text of a finished task.
 abbrev pub finished_map : (asks : Asks) (front text : Bytes) (said : WritesFinished asks front text) → Bytes
-finished_map asks front text said = map_text said.soup said.shown.finished.plan
-    (lengths_in (used said.shown.finished.first said.shown.finished.third).x)
+finished_map asks front text said =
+    map_text said.soup said.shown.finished.plan (lengths_in (used said.shown.finished.certificates).x)
 
 -- A command wrote the text of a new mesh, and this is its map: of the same layout with the same lengths.
 abbrev pub IsMapOf : (command : Command) (front text : Bytes) (said : WritesNew command front text) (map : Bytes)

@@ -1,7 +1,8 @@
 -- The lines that say which command wrote a new mesh, and the text in front of the last one.
-use Rattle.std.specs.Prelude.{◌≡◌, ◌≤◌, ◌<◌, ℕ, Bool, true, false, nat_eq, [], ◌++◌, codes, decimal, length, take}
-use Rattle.std.specs.Prelude.{slice_index_or, ℤ, pos, ◌≤ℤ◌, unsigned_abs}
+use Rattle.std.specs.Prelude.{◌≡◌, ◌≤◌, ℕ, Bool, false, nat_eq, ◌++◌, codes, decimal, take}
+use Rattle.std.specs.Prelude.{ℤ, pos, ◌≤ℤ◌, unsigned_abs}
 use Rattle.std.specs.List.{flat_map, starts_with}
+use Rattle.def_certtext.specs.HeadLine.{HasNoLine, IsLastLine}
 use Rattle.def_certtext.specs.Reading.{IsHead}
 use Rattle.def_certtext.specs.Settings.{AreInRange}
 use Rattle.def_flow.specs.declared.limits.TheConstants.{MAX_FLOOR}
@@ -21,14 +22,12 @@ abbrev pub begins_mark : (line : Bytes) → Bool
 begins_mark line = starts_with nat_eq line (codes "#quadq 1 ")
 
 -- Line i is the last of these that begins so.
-pub record IsLastMark (lines : Lines) (i : ℕ) : Type 0 where
-  pub there : i < length lines
-  pub begins : begins_mark (slice_index_or lines i []) ≡ true
-  pub last : (k : ℕ) → i < k → k < length lines → begins_mark (slice_index_or lines k []) ≡ false
+abbrev pub IsLastMark : (lines : Lines) (i : ℕ) → Type 0
+IsLastMark lines i = IsLastLine begins_mark lines i
 
 -- No line begins so.
 abbrev pub HasNoMark : (lines : Lines) → Type 0
-HasNoMark lines = (k : ℕ) → k < length lines → begins_mark (slice_index_or lines k []) ≡ false
+HasNoMark lines = HasNoLine begins_mark lines
 
 -- All bytes before the first of line `i`.
 abbrev pub front_of : (i : ℕ) (bytes : Bytes) → Bytes

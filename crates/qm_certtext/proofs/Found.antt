@@ -4,21 +4,23 @@ use Rattle.std.proofs.Common.{◌≡◌, ◌≤◌, ◌<◌, ◌+◌, ◌-◌, �
 use Rattle.std.specs.Prelude.{nat_eq}
 use Rattle.std.specs.List.{starts_with}
 use Rattle.std.proofs.lemmas.Bool.{cases_lt}
-use Rattle.def_io.specs.Bytes.{Bytes, Lines}
+use Rattle.def_io.specs.Bytes.{Bytes}
 use Rattle.def_io.specs.Lines.{lines_of, tail_of}
-use Rattle.def_certtext.specs.HeadLine.{begins_head, HasNoHead, IsLastHead}
+use Rattle.def_certtext.specs.HeadLine.{HasNoLine, IsLastLine}
 use Rattle.qm_certtext.specs.Heads.{begins_at, IsFoundIn}
 use Rattle.qm_certtext.specs.declared.last.HeadAt.{HeadAt}
 use Rattle.qm_io.proofs.Cuts.{first_lines, rest_is}
 
 -- What was found among all lines is the last that begins so.
 pub found_last : (prefix bytes : Bytes) (n : ℕ) (found : Option HeadAt) → n ≤ length (lines_of bytes) → length (lines_of bytes) ≤ n → IsFoundIn prefix bytes n found
-    → MatchOption found ((k : ℕ) → k < length (lines_of bytes) → begins_at prefix bytes k ≡ false)
-    (λ head. (head.line < length (lines_of bytes)) × (begins_at prefix bytes head.line ≡ true)
-    × ((k : ℕ) → head.line < k → k < length (lines_of bytes) → begins_at prefix bytes k ≡ false))
+    → MatchOption found (HasNoLine (λ line. starts_with nat_eq line prefix) (lines_of bytes))
+    (λ head. IsLastLine (λ line. starts_with nat_eq line prefix) (lines_of bytes) head.line)
 found_last prefix bytes n None low all is = λ k l. is k (omega (arith, l, all))
-found_last prefix bytes n (Some head) low all is =
-    (omega (arith, is.there, low), is.begins, λ k above l. is.last k above (omega (arith, l, all)))
+found_last prefix bytes n (Some head) low all is = record {
+  there = omega (arith, is.there, low);
+  begins = is.begins;
+  last = λ k above l. is.last k above (omega (arith, l, all));
+}
 
 pub found_within : (prefix bytes : Bytes) (n : ℕ) (found : Option HeadAt) → IsFoundIn prefix bytes n found → IfSome found (λ head. head.at ≤ length bytes)
 found_within prefix bytes n None is = tt
@@ -33,15 +35,6 @@ pub found_written : (prefix bytes : Bytes) (n : ℕ) (found : Option HeadAt) →
     → IfSome found (λ head. drop head.at bytes ≡ tail_of head.line bytes)
 found_written prefix bytes n None is = tt
 found_written prefix bytes n (Some head) is = is.written
-
--- The last line that begins as a head line does is the last head line.
-pub found_head : (lines : Lines) (found : Option HeadAt)
-    → MatchOption found ((k : ℕ) → k < length lines → begins_head (slice_index_or lines k []) ≡ false)
-    (λ head. (head.line < length lines) × (begins_head (slice_index_or lines head.line []) ≡ true)
-    × ((k : ℕ) → head.line < k → k < length lines → begins_head (slice_index_or lines k []) ≡ false))
-    → MatchOption found (HasNoHead lines) (λ head. IsLastHead lines head.line)
-found_head lines None none = none
-found_head lines (Some head) is = record { there = is.0; begins = is.1; last = is.2 }
 
 -- Two numbers from one on, of which the lesser is above a third or is it.
 up_to : (i k : ℕ) → k < i + 1 → (k < i) ⊎ (k ≡ i)

@@ -3,9 +3,9 @@ use Rattle.std.proofs.Common.{◌≡◌, ◌+◌, ◌||◌, not, ℕ, suc, Bool,
 use Rattle.std.specs.List.{after_first, before_first, flat_map, list_any, position_or_len}
 use Rattle.std.proofs.lemmas.Bool.{cases_Bool, false≢true, or_parts}
 use Rattle.std.proofs.lemmas.List.Concat.{flat_map-append}
-use Rattle.def_certtext.specs.Reading.{is_third, length_in, lists_in, set_in, set_up_in, vertex_in, vertex_up_in}
+use Rattle.def_certtext.specs.Reading.{is_third, length_in, set_in, set_up_in, vertex_in, vertex_up_in}
 use Rattle.def_certtext.specs.declared.CertLine.{CertLine}
-use Rattle.qm_certtext.specs.Parts.{lists_in_parts, HoldBoth, Holds, TakesLine}
+use Rattle.qm_certtext.specs.Parts.{HoldBoth, Holds, TakesLine}
 use Rattle.qm_certtext.specs.declared.parts.Found.{Found}
 use Rattle.qm_certtext.specs.declared.parts.Parts.{Parts}
 
@@ -113,15 +113,6 @@ takes_other old new line other first adds said holds = by_first old.first refl h
           subst (Holds prefix) (sym (before_there is_third said (line ∷ []) both.0)) both.1,
           subst (Holds new.last) (sym (after_there is_third said (line ∷ []) both.0)) (holds_more old.last new.last (after_first is_third said) line adds both.2),
         )
-
--- The lists that lines have.
-pub held : (parts : Parts) (said : List CertLine) → Holds parts said → lists_in_parts parts ≡ lists_in said
-held parts said holds = λ i. record {
-  x = holds.lengths i;
-  y = holds.vertices i;
-  z = holds.sets i;
-  up = holds.vertex_ups i ++ holds.set_ups i;
-}
 
 -- Whether a line starts the certificate for floor 3.
 pub starts : (first : Option Parts) (line : CertLine) → (not (is_some first) && is_third line) ≡ true → (first ≡ None) × (is_third line ≡ true)

@@ -1,5 +1,5 @@
 -- A line of one kind is none of another.
-use Rattle.std.proofs.Common.{◌≡◌, ◌⊎◌, ◌≤◌, ◌||◌, ℕ, ℤ, Bool, true, [], ◌∷◌, ◌++◌, drop, get_or, eqb, inl, inr, ap, sym, ◌∙◌, arith}
+use Rattle.std.proofs.Common.{◌≡◌, ◌⊎◌, ◌≤◌, ◌||◌, ℕ, ℤ, Bool, true, ◌∷◌, ◌++◌, drop, get_or, eqb, inl, inr, ap, sym, ◌∙◌, arith}
 use Rattle.std.specs.Prelude.{decimal}
 use Rattle.std.proofs.lemmas.Bool.{and_parts, eqb-true, or_cases}
 use Rattle.std.specs.Fmt.{signed_decimal}

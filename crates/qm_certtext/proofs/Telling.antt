@@ -1,5 +1,5 @@
 -- The lines of a certificate are read back, each in one way.
-use Rattle.std.proofs.Common.{◌≡◌, ◌⊎◌, ◌≤◌, ◌<◌, ◌+◌, ◌-◌, ◌^◌, ◌||◌, ℕ, ℤ, pos, negsuc, unsigned_abs, Bool, true, false, List, [], ◌∷◌, ◌++◌, Option, Some, None, length, take, drop, map, filter, eqb, inl, inr, refl, ap, ap₂, sym, ◌∙◌, arith, append-nil, take-append-drop}
+use Rattle.std.proofs.Common.{◌≡◌, ◌⊎◌, ◌≤◌, ◌<◌, ◌+◌, ◌^◌, ◌||◌, ℕ, ℤ, pos, negsuc, unsigned_abs, Bool, true, false, List, [], ◌∷◌, ◌++◌, length, take, drop, map, filter, eqb, inl, inr, refl, ap, ap₂, sym, ◌∙◌, arith, append-nil, take-append-drop}
 use Rattle.std.specs.Prelude.{decimal}
 use Rattle.std.specs.List.{after_first, before_first, flat_map, list_all, list_any}
 use Rattle.std.proofs.lemmas.Bool.{and_from, and_parts, eqb-true, false≢true, leb-true, or_cases, or_from}
@@ -7,12 +7,11 @@ use Rattle.std.proofs.lemmas.List.{length-drop, length-take-le}
 use Rattle.std.proofs.lemmas.List.Concat.{flat_map-append}
 use Rattle.std.proofs.lemmas.List.Folds.{list_all-append}
 use Rattle.std.specs.Fmt.{signed_decimal}
-use Rattle.def_certtext.specs.CertLines.{line_text, dual_lines, said_by, HasUps, Lists}
-use Rattle.def_certtext.specs.Laws.{chosen, chosen_lines, IsWritableCert}
-use Rattle.def_certtext.specs.Reading.{cert_in, first_in, is_hash_line, is_small, is_third, length_in, lists_in, may_stand, set_in, set_up_in, vertex_in, vertex_up_in}
+use Rattle.def_certtext.specs.CertLines.{alone, line_text, dual_lines, raised, said_by, Certificates, HasUps, Lists}
+use Rattle.def_certtext.specs.Laws.{chosen_lines, AreWritable, IsWritableCert}
+use Rattle.def_certtext.specs.Reading.{certificates_in, is_hash_line, is_small, is_third, length_in, lists_in, may_stand, set_in, set_up_in, vertex_in, vertex_up_in}
 use Rattle.def_certtext.specs.declared.CertLine.{CertLine}
 use Rattle.def_certtext.specs.declared.CertLine.TheVariants.{Length, Vertex, Set, Floor}
-use Rattle.def_flow.specs.declared.net.Settings.{Settings}
 use Rattle.def_text.specs.Types.{Word}
 use Rattle.qm_certtext.proofs.Counts.{small_parts, split_once}
 use Rattle.qm_certtext.proofs.Holding.{after_first_one, any_append, before_first_one}
@@ -164,22 +163,20 @@ no_third lists =
     any_append is_third (a ++ b) c
     ∙ or_from _ _ (any_append is_third a b ∙ or_from _ _ (no_third_lengths lists.x) (no_third_numbered Vertex (λ z u. refl) lists.y _)) (no_third_numbered Set (λ z u. refl) lists.z _)
 
--- The certificates of the lines of one, and of two.
-pub one_cert : (lists : Lists) → IsWritableCert lists → (first_in (said_by lists) ≡ None) × (cert_in (said_by lists) ≡ lists)
-one_cert lists able = (rw (no_third lists) refl, rw (no_third lists) (lists_back lists able.ups))
+-- The certificates of the lines of one, and of chosen ones.
+pub one_cert : (cert : Lists) → IsWritableCert cert → alone cert ≡ certificates_in (said_by cert)
+one_cert cert able = sym (rw (no_third cert) (ap (λ (l : Lists). alone l) (lists_back cert able.ups)))
 
-pub chosen_certs : (settings : Settings) (first : Lists) (third : Option Lists) → IsWritableCert first → ((lists : Lists) → third ≡ Some lists → IsWritableCert lists)
-    → ((chosen settings first third).first ≡ first_in (chosen_lines first third)) × ((chosen settings first third).cert ≡ cert_in (chosen_lines first third))
-chosen_certs settings first None able ables =
-    (sym (rw (no_third first) refl), sym (rw (no_third first) (lists_back first able.ups)))
-chosen_certs settings first (Some third) able ables =
+pub chosen_certs : (certificates : Certificates) → AreWritable certificates → certificates ≡ certificates_in (chosen_lines certificates)
+chosen_certs (alone cert) able = sym (rw (no_third cert) (ap (λ (l : Lists). alone l) (lists_back cert able.ups)))
+chosen_certs (raised first cert) able =
     let prefix : List CertLine = Floor 1 ∷ said_by first in
-    let some : list_any is_third (prefix ++ Floor 3 ∷ said_by third) ≡ true = any_append is_third prefix (Floor 3 ∷ said_by third) ∙ rw (no_third first) refl in
-    let before : before_first is_third (prefix ++ Floor 3 ∷ said_by third) ≡ prefix = before_first_one is_third prefix (Floor 3) (said_by third) (no_third first) refl in
-    let after : after_first is_third (prefix ++ Floor 3 ∷ said_by third) ≡ said_by third = after_first_one is_third prefix (Floor 3) (said_by third) (no_third first) refl in (
-      sym (rw some (ap (λ (ls : List CertLine). Some (lists_in ls)) before ∙ ap (λ (l : Lists). Some l) (lists_back first able.ups))),
-      sym (rw some (ap lists_in after ∙ lists_back third (ables third refl).ups)),
-    )
+    let some : list_any is_third (prefix ++ Floor 3 ∷ said_by cert) ≡ true = any_append is_third prefix (Floor 3 ∷ said_by cert) ∙ rw (no_third first) refl in
+    let before : lists_in (before_first is_third (prefix ++ Floor 3 ∷ said_by cert)) ≡ first =
+    ap lists_in (before_first_one is_third prefix (Floor 3) (said_by cert) (no_third first) refl) ∙ lists_back first able.0.ups in
+    let behind : lists_in (after_first is_third (prefix ++ Floor 3 ∷ said_by cert)) ≡ cert =
+    ap lists_in (after_first_one is_third prefix (Floor 3) (said_by cert) (no_third first) refl) ∙ lists_back cert able.1.ups in
+    sym (rw some (λ i. raised (before i) (behind i)))
 
 -- What may stand without `auto` may stand with it.
 may_more : (line : CertLine) → may_stand false line ≡ true → may_stand true line ≡ true
@@ -194,9 +191,8 @@ all_more (line ∷ said) all =
     let parts = and_parts (may_stand false line) (list_all (may_stand false) said) all in
     and_from _ _ (may_more line parts.0) (all_more said parts.1)
 
-pub chosen_allowed : (first : Lists) (third : Option Lists) → IsWritableCert first → ((lists : Lists) → third ≡ Some lists → IsWritableCert lists)
-    → list_all (may_stand true) (chosen_lines first third) ≡ true
-chosen_allowed first None able ables = all_more (said_by first) able.allowed
-chosen_allowed first (Some third) able ables =
-    list_all-append (may_stand true) (Floor 1 ∷ said_by first) (Floor 3 ∷ said_by third)
-    ∙ and_from _ _ (all_more (said_by first) able.allowed) (all_more (said_by third) (ables third refl).allowed)
+pub chosen_allowed : (certificates : Certificates) → AreWritable certificates → list_all (may_stand true) (chosen_lines certificates) ≡ true
+chosen_allowed (alone cert) able = all_more (said_by cert) able.allowed
+chosen_allowed (raised first cert) able =
+    list_all-append (may_stand true) (Floor 1 ∷ said_by first) (Floor 3 ∷ said_by cert)
+    ∙ and_from _ _ (all_more (said_by first) able.0.allowed) (all_more (said_by cert) able.1.allowed)

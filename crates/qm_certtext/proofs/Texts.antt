@@ -1,5 +1,5 @@
 -- The lines of a written text, and what they tell.
-use Rattle.std.proofs.Common.{◌≡◌, ◌↔◌, ◌<◌, ◌+◌, ◌-◌, ◌^◌, not, ℕ, zero, suc, ℤ, pos, negsuc, Bool, true, false, List, [], ◌∷◌, ◌++◌, Option, Some, None, codes, length, drop, get_or, slice_index_or, map, filter, eqb, ltb, leb, refl, ap, ap₂, sym, ◌∙◌, subst, arith, append_assoc}
+use Rattle.std.proofs.Common.{◌≡◌, ◌↔◌, ◌<◌, ◌+◌, ◌^◌, not, ℕ, zero, suc, ℤ, pos, negsuc, Bool, true, false, List, [], ◌∷◌, ◌++◌, codes, length, drop, get_or, slice_index_or, map, filter, ltb, refl, ap, ap₂, sym, ◌∙◌, subst, arith, append_assoc}
 use Rattle.std.specs.Prelude.{decimal, unsigned_abs}
 use Rattle.std.specs.Char.{is_ascii_digit}
 use Rattle.std.specs.List.{flat_map, list_all}
@@ -17,10 +17,10 @@ use Rattle.def_text.specs.Types.{Word}
 use Rattle.def_flow.specs.declared.net.Settings.{Settings}
 use Rattle.def_flow.specs.declared.net.Weight.{Weight}
 use Rattle.def_flow.specs.declared.net.Weight.TheVariants.{Plain, Length as ByLength}
-use Rattle.def_certtext.specs.CertLines.{line_text, said_by, text_of, Lists}
+use Rattle.def_certtext.specs.CertLines.{alone, line_text, said_by, text_of}
 use Rattle.def_certtext.specs.HeadLine.{head_line}
 use Rattle.def_certtext.specs.Laws.{chosen, chosen_lines, written_text, ChosenLaw, IsPrintable, TellsOnly, WrittenLaw}
-use Rattle.def_certtext.specs.Reading.{cert_in, first_in, is_hash_line, may_stand, IsHead, Made, TellHow}
+use Rattle.def_certtext.specs.Reading.{certificates_in, is_hash_line, may_stand, IsHead, Made, TellHow}
 use Rattle.def_certtext.specs.Settings.{floor_text, scale_text, weight_text, AreInRange, IsFloor}
 use Rattle.def_certtext.specs.declared.CertLine.{CertLine}
 use Rattle.def_certtext.specs.declared.CertLine.TheVariants.{Length, Vertex, Set, Floor}
@@ -169,8 +169,8 @@ same_head line s t a b one two = same_asked (codes "#quadq 1 remesh scale ") lin
 
 -- A text tells what it was made of, and nothing else.
 pub tells : (made : Made) (soup : FaceSet) (said : List CertLine) → AreInRange made.settings made.auto → IsPrintable soup → list_all (may_stand made.auto) said ≡ true
-    → made.first ≡ first_in said → made.cert ≡ cert_in said → TellsOnly (written_text made.settings made.auto soup said) made
-tells made soup said range able allowed first cert other =
+    → made.certificates ≡ certificates_in said → TellsOnly (written_text made.settings made.auto soup said) made
+tells made soup said range able allowed certificates other =
     subst (λ (ls : Lines). TellHow (slice_index_or ls 0 []) (drop 1 ls) other ↔ (other ≡ made)) (sym (lines_are made.settings made.auto soup said range able allowed)) (only, is)
   where
     head : IsHead (head_line made.settings made.auto) made.settings made.auto
@@ -182,9 +182,8 @@ tells made soup said range able allowed first cert other =
         let lines : said ≡ tell.said =
         one_list made.auto said tell.said allowed (subst (λ (b : Bool). list_all (may_stand b) tell.said ≡ true) (sym same.1) tell.allowed)
         (sym (marked_are soup said) ∙ tell.texts) in
-        let firsts : other.first ≡ made.first = tell.first ∙ ap first_in (sym lines) ∙ sym first in
-        let certs : other.cert ≡ made.cert = tell.cert ∙ ap cert_in (sym lines) ∙ sym cert in
-        λ i. record { settings = sym same.0 i; auto = sym same.1 i; first = firsts i; cert = certs i }
+        let both : other.certificates ≡ made.certificates = tell.certificates ∙ ap certificates_in (sym lines) ∙ sym certificates in
+        λ i. record { settings = sym same.0 i; auto = sym same.1 i; certificates = both i }
 
     is : other ≡ made → TellHow (head_line made.settings made.auto) (canonical_lines soup ++ map line_text said) other
     is same = subst (TellHow (head_line made.settings made.auto) (canonical_lines soup ++ map line_text said)) (sym same) (record {
@@ -192,20 +191,13 @@ tells made soup said range able allowed first cert other =
       said = said;
       texts = marked_are soup said;
       allowed = allowed;
-      first = first;
-      cert = cert;
+      certificates = certificates;
     })
 
 pub written_law : WrittenLaw
 written_law settings soup cert range able writable =
-    let certs = one_cert cert writable in
-    tells (record { settings = settings; auto = false; first = None; cert = cert }) soup (said_by cert) range able writable.allowed (sym certs.0) (sym certs.1)
+    tells (record { settings = settings; auto = false; certificates = alone cert }) soup (said_by cert) range able writable.allowed (one_cert cert writable)
 
 pub chosen_law : ChosenLaw
-chosen_law settings soup first third range able writable writables = by_third third (chosen_allowed first third writable writables) (chosen_certs settings first third writable writables)
-  where
-    by_third : (t : Option Lists) → list_all (may_stand true) (chosen_lines first t) ≡ true
-        → ((chosen settings first t).first ≡ first_in (chosen_lines first t)) × ((chosen settings first t).cert ≡ cert_in (chosen_lines first t))
-        → TellsOnly (written_text settings true soup (chosen_lines first t)) (chosen settings first t)
-    by_third None allowed certs = tells (chosen settings first None) soup (chosen_lines first None) range able allowed certs.0 certs.1
-    by_third (Some l) allowed certs = tells (chosen settings first (Some l)) soup (chosen_lines first (Some l)) range able allowed certs.0 certs.1
+chosen_law settings soup certificates range able writable =
+    tells (chosen settings certificates) soup (chosen_lines certificates) range able (chosen_allowed certificates writable) (chosen_certs certificates writable)

@@ -2,7 +2,7 @@
 use Rattle.std.specs.Prelude.{◌≡◌, ◌++◌, ◌+◌, ℕ, Bool, true, false, Option, Some, None, List, [], ◌∷◌, map, ⊤}
 use Rattle.std.specs.List.{after_first, before_first, filter, flat_map, list_all, list_any}
 use Rattle.def_io.specs.Bytes.{Bytes, Lines}
-use Rattle.def_certtext.specs.CertLines.{line_text, Lists}
+use Rattle.def_certtext.specs.CertLines.{alone, line_text, raised, Certificates, Lists}
 use Rattle.def_certtext.specs.Reading.{is_hash_line, is_third, length_in, may_stand, set_in, set_up_in, vertex_in}
 use Rattle.def_certtext.specs.Reading.{vertex_up_in, IsFirstBad, Says}
 use Rattle.def_certtext.specs.declared.CertFail.{CertFail}
@@ -19,6 +19,11 @@ lists_in_parts parts = record {
   z = parts.sets.items;
   up = parts.vertex_ups.items ++ parts.set_ups.items;
 }
+
+-- The certificates that they make, where the first stand before `#f 3`.
+abbrev pub certificates_in_parts : (first : Option Parts) (last : Parts) → Certificates
+certificates_in_parts None last = alone (lists_in_parts last)
+certificates_in_parts (Some first) last = raised (lists_in_parts first) (lists_in_parts last)
 
 -- The lists of these lines.
 pub record Holds (parts : Parts) (said : List CertLine) : Type 0 where

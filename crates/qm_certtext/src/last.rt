@@ -1,10 +1,10 @@
 //! The last head line of a text.
 
-ghost use Rattle.std.specs.Prelude.{◌≡◌, ◌≤◌, ◌<◌, ◌^◌, ℕ, Some, nat_eq, true, false, if◌then◌else◌};
-ghost use Rattle.std.specs.Prelude.{[], length, take, drop, slice_index_or, IfSome, MatchOption};
+ghost use Rattle.std.specs.Prelude.{◌≡◌, ◌≤◌, ◌<◌, ◌^◌, Some, nat_eq, if◌then◌else◌, length, take, drop, IfSome};
+ghost use Rattle.std.specs.Prelude.{MatchOption};
 ghost use Rattle.std.specs.List.{starts_with};
 ghost use Rattle.def_io.specs.Lines.{lines_of, tail_of};
-ghost use Rattle.def_certtext.specs.HeadLine.{HasNoHead, IsLastHead};
+ghost use Rattle.def_certtext.specs.HeadLine.{HasNoHead, HasNoLine, IsLastHead, IsLastLine};
 
 use qm_io::{Lines, cut_line};
 
@@ -41,12 +41,8 @@ pub fn find_head(bytes: &[u8]) -> Option<HeadAt>
 pub fn find_last(bytes: &[u8], prefix: &[u8]) -> Option<HeadAt>
     requires { length bytes.now < 2 ^ 32 }
     ensures last { MatchOption result
-        ((k : ℕ) → k < length (lines_of bytes.now)
-        → starts_with nat_eq (slice_index_or (lines_of bytes.now) k []) prefix.now ≡ false)
-        (λ found. (found.line < length (lines_of bytes.now))
-        × (starts_with nat_eq (slice_index_or (lines_of bytes.now) found.line []) prefix.now ≡ true)
-        × ((k : ℕ) → found.line < k → k < length (lines_of bytes.now)
-        → starts_with nat_eq (slice_index_or (lines_of bytes.now) k []) prefix.now ≡ false)) }
+        (HasNoLine (λ line. starts_with nat_eq line prefix.now) (lines_of bytes.now))
+        (λ found. IsLastLine (λ line. starts_with nat_eq line prefix.now) (lines_of bytes.now) found.line) }
     ensures within { IfSome result (λ found. found.at ≤ length bytes.now) }
     ensures old { IfSome result (λ found. lines_of (take found.at bytes.now) ≡ take found.line (lines_of bytes.now)) }
     ensures written { IfSome result (λ found. drop found.at bytes.now ≡ tail_of found.line bytes.now) }

@@ -1,12 +1,11 @@
 //! What a written text says of how it was made.
 
-ghost use Rattle.std.specs.Prelude.{◌≡◌, ◌<◌, ◌+◌, ◌^◌, [], drop, length, option_map, slice_index_or, IfOk, IfErr, OnOk};
+ghost use Rattle.std.specs.Prelude.{◌≡◌, ◌<◌, ◌+◌, ◌^◌, [], drop, length, slice_index_or, IfOk, IfErr, OnOk};
 ghost use Rattle.def_io.specs.Lines.{lines_of};
-ghost use Rattle.def_certtext.specs.CertLines.{lists_of};
 ghost use Rattle.def_certtext.specs.HeadLine.{head_line};
-ghost use Rattle.def_certtext.specs.Reading.{is_hash_line, made_of, IsCertFail, TellHow};
+ghost use Rattle.def_certtext.specs.Reading.{is_hash_line, made_of, with_first, IsCertFail, TellHow};
 ghost use Rattle.def_certtext.specs.Settings.{AreInRange};
-ghost use Rattle.qm_certtext.specs.Parts.{lists_in_parts, IsBehindFail, IsLineFail, ReadSome, TakesText};
+ghost use Rattle.qm_certtext.specs.Parts.{certificates_in_parts, IsBehindFail, IsLineFail, ReadSome, TakesText};
 
 use crate::Memory;
 use crate::head::read_head;
@@ -112,8 +111,8 @@ fn is_marked(line: &[u8]) -> bool
 
 fn written_of(asked: Asked, found: Found) -> Result<Written, Memory>
     ensures asked { IfOk result (λ written. (written.settings ≡ asked.settings) × (written.auto ≡ asked.auto)) }
-    ensures first { IfOk result (λ written. option_map lists_of written.first ≡ option_map lists_in_parts found.first) }
-    ensures cert { IfOk result (λ written. lists_of written.cert ≡ lists_in_parts found.last) }
+    ensures certificates { IfOk result
+        (λ written. with_first written.first written.cert ≡ certificates_in_parts found.first found.last) }
 {
     let Found { first, last } = found;
     let first = match first {

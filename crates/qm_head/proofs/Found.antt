@@ -1,24 +1,13 @@
--- The last line that begins as each head line does, and the head line of none of the commands.
-use Rattle.std.specs.Prelude.{MatchOption}
-use Rattle.std.proofs.Common.{◌≡◌, ◌<◌, ℕ, ℤ, Bool, true, false, Option, Some, None, [], codes, length, slice_index_or}
+-- The head lines of commands with settings, and the head line of none of the commands.
+use Rattle.std.proofs.Common.{◌≡◌, ℕ, ℤ, Bool, false, codes}
 use Rattle.def_certtext.specs.Reading.{IsHead}
 use Rattle.def_certtext.specs.Settings.{AreInRange}
 use Rattle.def_flow.specs.declared.net.Settings.{Settings}
-use Rattle.def_io.specs.Bytes.{Lines}
-use Rattle.def_run.specs.MarkLines.{begins_mark, HasNoMark, IsLastMark, IsMarkLine, IsNamedHead, IsRefineHead, IsSizeHead}
+use Rattle.def_run.specs.MarkLines.{IsMarkLine, IsNamedHead, IsRefineHead, IsSizeHead}
 use Rattle.def_run.specs.declared.command.Command.{Command}
 use Rattle.def_run.specs.declared.command.Command.TheVariants.{Refine, Remesh, Crease, Size, Coarse}
 use Rattle.def_text.specs.Types.{Word}
 use Rattle.qm_certtext.specs.Cuts.{asked_line}
-use Rattle.qm_certtext.specs.declared.last.HeadAt.{HeadAt}
-
-pub found_mark : (lines : Lines) (found : Option HeadAt)
-    → MatchOption found ((k : ℕ) → k < length lines → begins_mark (slice_index_or lines k []) ≡ false)
-    (λ mark. (mark.line < length lines) × (begins_mark (slice_index_or lines mark.line []) ≡ true)
-    × ((k : ℕ) → mark.line < k → k < length lines → begins_mark (slice_index_or lines k []) ≡ false))
-    → MatchOption found (HasNoMark lines) (λ mark. IsLastMark lines mark.line)
-found_mark lines None none = none
-found_mark lines (Some mark) is = record { there = is.0; begins = is.1; last = is.2 }
 
 -- The head line of a command with settings whose floor is a number.
 pub crease_line : (line : Word) (settings : Settings) → AreInRange settings false → line ≡ asked_line (codes "#quadq 1 crease scale ") settings false

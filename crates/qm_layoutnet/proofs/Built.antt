@@ -5,7 +5,7 @@ use Rattle.std.specs.Prelude.{nat_le, nat_lt, option_to_list}
 use Rattle.std.specs.List.{list_all}
 use Rattle.std.proofs.lemmas.Bool.{le-leb, lt-ltb}
 use Rattle.def_math.specs.Counts.{count, count_below}
-use Rattle.sum_laws.proofs.Counts.{count_below_prefix, count_below_le, count_below_ones, count_below_same, count_below_total}
+use Rattle.sum_laws.proofs.Counts.{count_below_prefix, count_below_le, count_below_ones, count_below_same}
 use Rattle.sum_laws.proofs.Sums.{total_below_same}
 use Rattle.def_flow.specs.Admissible.{IsEven}
 use Rattle.def_flow.specs.Network.{Network, arc_at, ends, is_bounded, tangle_number, IsWithinBounds}
@@ -26,6 +26,7 @@ use Rattle.def_layoutnet.specs.LayoutNetLaws.{sum_along}
 use Rattle.qm_layoutnet.specs.Ends.{arc_of, open_arc, AreEnds, PatchesBelow}
 use Rattle.qm_layoutnet.proofs.Hits.{use_of_arc}
 use Rattle.qm_layoutnet.proofs.Balance.{balance_law, has_ends, node_low, HasEnds}
+use Rattle.qm_layoutnet.proofs.Opposite.{size_is}
 use Rattle.qm_layoutnet.proofs.Tangles.{tangle_small, term_low}
 
 -- A count along a list is one over its places.
@@ -96,7 +97,7 @@ module _ (l : Layout) (x : Lengths) (set : Settings) (net : Network) (laid : IsS
   along_is p s low =
       total_below_same (λ k. pos (arc_at net.arcs (l.use_at p s k).arc).old) (λ k. pos (x (l.use_at p s k).arc)) (l.many p s)
       (λ k less. ap pos (is.olds (l.use_at p s k).arc (laid.paved.arc_low (record { patch = p; side = s; at = k }) (record { patch_low = low; low = less }))))
-      ∙ sym (count_below_total (λ k. x (l.use_at p s k).arc) (l.many p s))
+      ∙ sym (size_is l x p s)
 
   pub even : IsEven net
   even = record {

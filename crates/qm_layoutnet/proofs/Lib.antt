@@ -5,3 +5,4 @@ pub mod Whole
 mod Tangles
 pub mod Built
 pub mod OneNet
+pub mod Opposite

@@ -10,4 +10,4 @@ mod law;
 pub use build::net_of;
 pub use def_layoutnet::NetFail;
 pub use floor::with_floor;
-pub use law::{balance_law, one_net_law};
+pub use law::{balance_law, one_net_law, opposite_law};

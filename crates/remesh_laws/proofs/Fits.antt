@@ -1,5 +1,5 @@
 -- A layout that is remeshed whatever least lists are kept is refused for no certificate.
-use Rattle.std.proofs.Common.{ℕ, Bool, true, false, ◌∙◌, refl, arith}
+use Rattle.std.proofs.Common.{ℕ, Bool, ◌∙◌, arith}
 use Rattle.def_certtext.specs.CertLines.{lists_of, Lists}
 use Rattle.def_flow.specs.declared.cert.Cert.{Cert}
 use Rattle.def_flow.specs.declared.net.Settings.{Settings}
@@ -25,9 +25,8 @@ pub fits_not_fine : (wish : Wish) (plan : Plan) (settings : Settings) (auto : Bo
     → IsFineBy wish plan settings auto faces kept → ⊥
 fits_not_fine wish plan settings auto faces (Multiple by) fits fine = absurd fine
 fits_not_fine wish plan settings auto faces (Least cert) fits fine = not_fine wish plan settings (lists_of cert) faces fits.coarse fine.0 fine.1
-fits_not_fine wish plan settings true faces (Raised first cert) fits fine =
-    not_fine wish plan (with_floor settings 3) (lists_of cert) faces (fits.raised refl) fine.0.3 fine.1
-fits_not_fine wish plan settings false faces (Raised first cert) fits fine = absurd fine.0
+fits_not_fine wish plan settings auto faces (Raised first cert) fits fine =
+    not_fine wish plan (with_floor settings 3) (lists_of cert) faces (fits.raised fine.0.0) fine.0.4 fine.1
 
 pub fits_not_doubled : (wish : Wish) (plan : Plan) (settings : Settings) (auto : Bool) (u v : ℕ) (cert : Cert) → IsRemeshable wish plan settings auto
     → IsDoubledBy wish plan settings auto u v cert → ⊥

@@ -1,10 +1,10 @@
 -- What least lengths and the numbers of their new mesh make, together, of a layout that is remeshed.
 use Rattle.std.proofs.lemmas.Bool.{cases_lt}
 use Rattle.std.proofs.lemmas.List.{get_or_past}
-use Rattle.std.proofs.Common.{◌≡◌, ◌≤◌, ◌<◌, ◌⊎◌, inl, inr, ℕ, Bool, true, false, Option, Some, None, List, length, sym, ◌∙◌, ap, subst, refl, arith}
+use Rattle.std.proofs.Common.{◌≡◌, ◌≤◌, ◌<◌, ◌⊎◌, inl, inr, ℕ, Bool, true, List, length, sym, ◌∙◌, ap, subst, refl, arith}
 use Rattle.std.proofs.lemmas.Int.{ints}
 use Rattle.std.specs.Prelude.{IsErrOf, Result, Err}
-use Rattle.def_certtext.specs.CertLines.{lists_of, Lists}
+use Rattle.def_certtext.specs.CertLines.{alone, lists_of, raised, used, Certificates}
 use Rattle.def_flow.specs.Accepted.{certificate}
 use Rattle.def_flow.specs.Admissible.{IsEven}
 use Rattle.def_flow.specs.Descent.{IsSolution}
@@ -25,7 +25,7 @@ use Rattle.def_remesh.specs.Keeping.{IsKept}
 use Rattle.def_remesh.specs.NewPoints.{lengths_in}
 use Rattle.def_remesh.specs.Refusals.{AreTooFine}
 use Rattle.def_remesh.specs.Certified.{AreKept, IsCertified}
-use Rattle.def_remesh.specs.Remeshed.{AreKeptBy, HasLeastLengths, AreCoarse, AreDoubled, finished_text, used, with_floor}
+use Rattle.def_remesh.specs.Remeshed.{AreKeptBy, HasLeastLengths, AreCoarse, AreDoubled, finished_text, with_floor}
 use Rattle.def_remesh.specs.Stitched.{AreLong, AreSafe, IsUnstitched, KeepsShapes}
 use Rattle.def_remesh.specs.Tasks.{Task, Wish}
 use Rattle.def_remesh.specs.declared.fail.StitchFail.{StitchFail}
@@ -87,11 +87,11 @@ raised_even net other even same = subst IsEven (sym same) (record { high = even.
 coarse_is : (plan : Plan) (xs : List ℕ) (tables : Tables) → IsNumbered plan xs tables → AreCoarse plan xs
 coarse_is plan xs tables is = subst (AreCoarse plan) is.lengths is.numbering.few
 
-keeps : {wish : Wish} (plan : Plan) (settings : Settings) (auto : Bool) (first : Lists) (third : Option Lists) (tables : Tables) → AreKept wish plan settings auto first third
-    → IsNumbered plan (used first third).x tables → IsKept wish plan settings auto first third tables
-keeps plan settings auto first third tables kept is = record {
+keeps : {wish : Wish} (plan : Plan) (settings : Settings) (auto : Bool) (certificates : Certificates) (tables : Tables) → AreKept wish plan settings auto certificates
+    → IsNumbered plan (used certificates).x tables → IsKept wish plan settings auto certificates tables
+keeps plan settings auto certificates tables kept is = record {
   kept = kept;
-  coarse = coarse_is plan (used first third).x tables is;
+  coarse = coarse_is plan (used certificates).x tables is;
   undoubled = is.undoubled;
   shape = is.shape;
   numbering = is.numbering;
@@ -99,15 +99,15 @@ keeps plan settings auto first third tables kept is = record {
 }
 
 pub keeps_first : {wish : Wish} (plan : Plan) (settings : Settings) (auto : Bool) (cert : Cert) (xs : List ℕ) (tables : Tables) → xs ≡ cert.x.items
-    → IsCertified wish plan settings (lists_of cert) → IsNumbered plan xs tables → IsKept wish plan settings auto (lists_of cert) None tables
+    → IsCertified wish plan settings (lists_of cert) → IsNumbered plan xs tables → IsKept wish plan settings auto (alone (lists_of cert)) tables
 keeps_first plan settings auto cert xs tables same certified is =
-    keeps plan settings auto (lists_of cert) None tables certified (subst (λ (ys : List ℕ). IsNumbered plan ys tables) same is)
+    keeps plan settings auto (alone (lists_of cert)) tables certified (subst (λ (ys : List ℕ). IsNumbered plan ys tables) same is)
 
 pub keeps_third : {wish : Wish} (plan : Plan) (settings : Settings) (first third : Cert) (xs : List ℕ) (tables : Tables) → xs ≡ third.x.items
-    → AreKept wish plan settings true (lists_of first) (Some (lists_of third)) → IsNumbered plan xs tables
-    → IsKept wish plan settings true (lists_of first) (Some (lists_of third)) tables
+    → AreKept wish plan settings true (raised (lists_of first) (lists_of third)) → IsNumbered plan xs tables
+    → IsKept wish plan settings true (raised (lists_of first) (lists_of third)) tables
 keeps_third plan settings first third xs tables same kept is =
-    keeps plan settings true (lists_of first) (Some (lists_of third)) tables kept (subst (λ (ys : List ℕ). IsNumbered plan ys tables) same is)
+    keeps plan settings true (raised (lists_of first) (lists_of third)) tables kept (subst (λ (ys : List ℕ). IsNumbered plan ys tables) same is)
 
 -- A refusal of lengths, of this kind, is one of the same lengths under another name.
 pub too_fine : (plan : Plan) (xs ys : List ℕ) (fail : StitchFail) (faces : ℕ) → xs ≡ ys → fail ≡ fails.TooFine faces
@@ -160,34 +160,32 @@ kept_shape soup plan xs lies shapes = subst
     (shapes lies.0.faces lies.0.marks lies.0.mesh lies.0.quads lies.0.cut lies.0.laid)
 
 -- Accepted certificates have least lengths.
-pub least_of : (wish : Wish) (plan : Plan) (settings : Settings) (auto : Bool) (first : Lists) (third : Option Lists) → AreKept wish plan settings auto first third
-    → AreKeptBy (HasLeastLengths wish plan) plan settings auto first third
-least_of wish plan settings auto first None kept = kept.lengths
-least_of wish plan settings true first (Some third) kept = (kept.0.lengths, kept.1, kept.2, kept.3.lengths)
-least_of wish plan settings false first (Some third) kept = absurd kept
+pub least_of : (wish : Wish) (plan : Plan) (settings : Settings) (auto : Bool) (certificates : Certificates) → AreKept wish plan settings auto certificates
+    → AreKeptBy (HasLeastLengths wish plan) plan settings auto certificates
+least_of wish plan settings auto (alone cert) kept = kept.lengths
+least_of wish plan settings auto (raised first cert) kept = (kept.0, kept.1.lengths, kept.2, kept.3, kept.4.lengths)
 
 -- What is kept of a layout that a task's cut gives finishes the task, and shows it.
-pub shown : (task : Task) (soup : FaceSet) (plan : Plan) (first : Lists) (third : Option Lists) (tables : Tables) → IsMeshLayout soup.faces plan
-    → IsCutLayout soup.faces task.marks plan → IsKept task.wish plan task.settings task.auto first third tables
-    → ShowsTask task soup (finished_text task soup plan first third)
-shown task soup plan first third tables lies cut kept =
-    let lengths : AreKeptBy (HasLeastLengths task.wish plan) plan task.settings task.auto first third =
-    least_of task.wish plan task.settings task.auto first third kept.kept in
+pub shown : (task : Task) (soup : FaceSet) (plan : Plan) (certificates : Certificates) (tables : Tables) → IsMeshLayout soup.faces plan
+    → IsCutLayout soup.faces task.marks plan → IsKept task.wish plan task.settings task.auto certificates tables
+    → ShowsTask task soup (finished_text task soup plan certificates)
+shown task soup plan certificates tables lies cut kept =
+    let lengths : AreKeptBy (HasLeastLengths task.wish plan) plan task.settings task.auto certificates =
+    least_of task.wish plan task.settings task.auto certificates kept.kept in
     record {
       shown = record {
         finished = record {
           plan = plan;
           cut = cut;
-          first = first;
-          third = third;
+          certificates = certificates;
           lengths = lengths;
           coarse = kept.coarse;
           undoubled = kept.undoubled;
           written = refl;
-          shape = kept_shape soup plan (used first third).x lies kept.shape;
+          shape = kept_shape soup plan (used certificates).x lies kept.shape;
         };
         certified = kept.kept;
       };
-      read = task_read task soup plan first third (laid_of plan kept.numbering.mesh)
+      read = task_read task soup plan certificates (laid_of plan kept.numbering.mesh)
           (subst (λ (xs : List ℕ). AreArcLengths (layout_of plan) (lengths_in xs)) kept.lengths kept.numbering.lengths) lengths;
     }

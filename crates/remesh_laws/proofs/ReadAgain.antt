@@ -1,10 +1,9 @@
 -- What is written for a task, or for a refined mesh, is read again as the new mesh.
-use Rattle.std.proofs.Common.{◌≡◌, ◌<◌, ◌^◌, ℕ, Bool, true, false, Option, Some, None, [], ◌∷◌, ◌++◌, length, get_or, Ok, sym, ◌∙◌, ap, subst, arith, append_assoc}
+use Rattle.std.proofs.Common.{◌≡◌, ◌<◌, ◌^◌, ℕ, Bool, true, false, [], ◌∷◌, ◌++◌, length, get_or, Ok, sym, ◌∙◌, ap, subst, arith, append_assoc}
 use Rattle.std.specs.List.{list_all}
 use Rattle.std.proofs.lemmas.List.{append-nil}
-use Rattle.std.proofs.lemmas.Option.{none-some, same_Some}
-use Rattle.def_certtext.specs.CertLines.{text_of, Lists}
-use Rattle.def_certtext.specs.Laws.{IsWritableCert}
+use Rattle.std.proofs.lemmas.Bool.{false≢true}
+use Rattle.def_certtext.specs.CertLines.{alone, raised, text_of, used, Certificates}
 use Rattle.def_certtext.specs.Reading.{may_stand}
 use Rattle.def_flow.specs.declared.net.Settings.{Settings}
 use Rattle.def_io.specs.Bytes.{Bytes, Lines}
@@ -22,7 +21,7 @@ use Rattle.def_remesh.specs.NewPoints.{lengths_in, multiple_of}
 use Rattle.def_remesh.specs.NewSoup.{new_soup}
 use Rattle.def_remesh.specs.ReadAgain.{IsReadAgain}
 use Rattle.def_remesh.specs.Refined.{refine_head, refined_text}
-use Rattle.def_remesh.specs.Remeshed.{certificate_lines, finished_text, used, AreKeptBy, HasLeastLengths}
+use Rattle.def_remesh.specs.Remeshed.{certificate_lines, finished_text, AreKeptBy, HasLeastLengths}
 use Rattle.def_remesh.specs.Tasks.{remesh_task, Task, Wish}
 use Rattle.def_remesh.specs.TextLaws.{ReadAgainLaw}
 use Rattle.qm_certtext.proofs.Telling.{chosen_allowed}
@@ -32,7 +31,7 @@ use Rattle.remesh_laws.proofs.Joined.{lines_append}
 use Rattle.remesh_laws.proofs.NewSoups.{new_names, writable}
 use Rattle.remesh_laws.proofs.PassedOver.{passed_over}
 use Rattle.remesh_laws.proofs.Printable.{mesh_layout, printable}
-use Rattle.remesh_laws.proofs.Told.{used_lengths}
+use Rattle.remesh_laws.proofs.Told.{kept_writable, used_lengths}
 use Rattle.remesh_laws.specs.Asides.{IsAside, IsPassedOver}
 use Rattle.plan_laws.proofs.MeshLayouts.{laid_of, lies}
 use Rattle.written_laws.proofs.Shape.{multiple_law}
@@ -51,13 +50,11 @@ framed front behind soup is names before after =
         ∙ ap (λ (ls : Lines). lines_of front ++ ls) (lines_append (canonical_text soup) behind (canonical_ends soup))
 
 -- The lines of certificates that can be written may stand.
-pub kept_allowed : (wish : Wish) (plan : Plan) (settings : Settings) (auto : Bool) (first : Lists) (third : Option Lists)
-    → AreKeptBy (HasLeastLengths wish plan) plan settings auto first third → list_all (may_stand auto) (certificate_lines auto first third) ≡ true
-kept_allowed wish plan settings false first None kept = kept.writable.allowed
-kept_allowed wish plan settings false first (Some third) kept = absurd kept
-kept_allowed wish plan settings true first None kept = chosen_allowed first None kept.writable (λ lists e. absurd (none-some lists e))
-kept_allowed wish plan settings true first (Some third) kept =
-    chosen_allowed first (Some third) kept.0.writable (λ lists e. subst IsWritableCert (same_Some third lists e) kept.3.writable)
+pub kept_allowed : (wish : Wish) (plan : Plan) (settings : Settings) (auto : Bool) (certificates : Certificates)
+    → AreKeptBy (HasLeastLengths wish plan) plan settings auto certificates → list_all (may_stand auto) (certificate_lines auto certificates) ≡ true
+kept_allowed wish plan settings true certificates kept = chosen_allowed certificates (kept_writable wish plan settings true certificates kept)
+kept_allowed wish plan settings false (alone cert) kept = kept.writable.allowed
+kept_allowed wish plan settings false (raised first cert) kept = absurd (false≢true kept.0)
 
 module _ (soup : FaceSet) (plan : Plan) (x : Lengths) (laid : IsSurface (layout_of plan)) (len : AreLengths (layout_of plan) x) where
   -- The new mesh behind lines that are passed over, as that of a refined mesh.
@@ -74,32 +71,32 @@ refined_read by soup plan is some low =
     (multiple_law is.faces (layout_of plan) (long_at plan.arcs) (vertex_at plan) (lies plan is) by some).0 (refine_head by) (refine_aside by low)
 
 -- The text of a task.
-pub task_read : (task : Task) (soup : FaceSet) (plan : Plan) (first : Lists) (third : Option Lists) → IsSurface (layout_of plan)
-    → AreLengths (layout_of plan) (lengths_in (used first third).x) → AreKeptBy (HasLeastLengths task.wish plan) plan task.settings task.auto first third
-    → IsAside (task.head ++ 10 ∷ []) → IsAside (task.between plan (lengths_in (used first third).x))
-    → IsReadAgain (finished_text task soup plan first third) (new_soup soup plan (lengths_in (used first third).x))
-task_read task soup plan first third laid len kept head between is =
+pub task_read : (task : Task) (soup : FaceSet) (plan : Plan) (certificates : Certificates) → IsSurface (layout_of plan)
+    → AreLengths (layout_of plan) (lengths_in (used certificates).x) → AreKeptBy (HasLeastLengths task.wish plan) plan task.settings task.auto certificates
+    → IsAside (task.head ++ 10 ∷ []) → IsAside (task.between plan (lengths_in (used certificates).x))
+    → IsReadAgain (finished_text task soup plan certificates) (new_soup soup plan (lengths_in (used certificates).x))
+task_read task soup plan certificates laid len kept head between is =
     ap soup_in (sym (append_assoc task.head (10 ∷ []) _))
     ∙ framed (task.head ++ 10 ∷ []) (task.between plan new ++ certs) (new_soup soup plan new) (writable soup plan new laid len is) (new_names soup plan new laid len)
     head behind
   where
     new : Lengths
-    new = lengths_in (used first third).x
+    new = lengths_in (used certificates).x
 
     certs : Bytes
-    certs = text_of (certificate_lines task.auto first third)
+    certs = text_of (certificate_lines task.auto certificates)
 
     behind : (k : ℕ) → k < length (lines_of (task.between plan new ++ certs)) → IsPassedOver (get_or (lines_of (task.between plan new ++ certs)) k [])
     behind = subst (λ (ls : Lines). (k : ℕ) → k < length ls → IsPassedOver (get_or ls k [])) (sym (lines_append (task.between plan new) certs between.ended))
         (each_both IsPassedOver (lines_of (task.between plan new)) (lines_of certs) [] between.each
-        (cert_lines_passed task.auto (certificate_lines task.auto first third) (kept_allowed task.wish plan task.settings task.auto first third kept)))
+        (cert_lines_passed task.auto (certificate_lines task.auto certificates) (kept_allowed task.wish plan task.settings task.auto certificates kept)))
 
 pub read_again_law : ReadAgainLaw
 read_again_law settings auto soup text range solid is few_vertices few_faces =
     ap soup_in is.written
-    ∙ task_read (remesh_task settings auto soup.faces) soup is.plan is.first is.third (laid_of is.plan mesh) lengths is.lengths (head_aside settings auto range)
+    ∙ task_read (remesh_task settings auto soup.faces) soup is.plan is.certificates (laid_of is.plan mesh) lengths is.lengths (head_aside settings auto range)
     none_aside (record {
-      near = (printable soup solid is.plan mesh (lengths_in (used is.first is.third).x) lengths is.coarse).positions;
+      near = (printable soup solid is.plan mesh (lengths_in (used is.certificates).x) lengths is.coarse).positions;
       few_vertices = few_vertices;
       few_faces = few_faces;
     })
@@ -107,5 +104,5 @@ read_again_law settings auto soup text range solid is few_vertices few_faces =
     mesh : IsSomeLayout is.plan
     mesh = mesh_layout soup is.plan solid is.cut
 
-    lengths : AreLengths (layout_of is.plan) (lengths_in (used is.first is.third).x)
-    lengths = used_lengths _ is.plan settings auto is.first is.third range is.lengths
+    lengths : AreLengths (layout_of is.plan) (lengths_in (used is.certificates).x)
+    lengths = used_lengths _ is.plan settings auto is.certificates range is.lengths

@@ -1,8 +1,8 @@
 -- The text of a finished task tells its certificates, and no others.
-use Rattle.std.proofs.Common.{◌≡◌, ◌↔◌, ◌<◌, ℕ, zero, suc, Bool, true, List, Option, [], ◌∷◌, ◌++◌, length, drop, map, filter, get_or, slice_index_or, refl, sym, ◌∙◌, ap, subst, arith, append_assoc}
+use Rattle.std.proofs.Common.{◌≡◌, ◌↔◌, ◌<◌, ℕ, zero, suc, Bool, true, [], ◌∷◌, ◌++◌, drop, filter, get_or, slice_index_or, refl, sym, ◌∙◌, ap, subst, arith, append_assoc}
 use Rattle.std.specs.List.{list_all}
 use Rattle.std.proofs.lemmas.List.{append-nil}
-use Rattle.def_certtext.specs.CertLines.{text_of, Lists}
+use Rattle.def_certtext.specs.CertLines.{text_of, used, Certificates}
 use Rattle.def_certtext.specs.HeadLine.{head_line}
 use Rattle.def_certtext.specs.Laws.{IsPrintable}
 use Rattle.def_certtext.specs.Reading.{is_hash_line, IsHead, Made, TellHow}
@@ -14,7 +14,7 @@ use Rattle.def_layoutnet.specs.MeshLayouts.{IsSomeLayout}
 use Rattle.def_remesh.specs.NewPoints.{lengths_in}
 use Rattle.def_remesh.specs.NewSoup.{new_soup}
 use Rattle.def_remesh.specs.ReadAgain.{ends_line}
-use Rattle.def_remesh.specs.Remeshed.{certificate_lines, finished_text, remeshed_text, text_behind_head, used, AreCoarse, AreKeptBy, HasLeastLengths}
+use Rattle.def_remesh.specs.Remeshed.{certificate_lines, finished_text, remeshed_text, text_behind_head, AreCoarse, AreKeptBy, HasLeastLengths}
 use Rattle.def_remesh.specs.Tasks.{Task}
 use Rattle.def_remesh.specs.TextLaws.{made_by, IsSolid}
 use Rattle.def_text.specs.Canonical.{canonical_text}
@@ -54,16 +54,16 @@ marked_around mesh between certs ends silent =
 pub none_silent : IsSilent []
 none_silent = record { ended = refl; plain = refl }
 
-module _ (auto : Bool) (soup : FaceSet) (plan : Plan) (first : Lists) (third : Option Lists) where
+module _ (auto : Bool) (soup : FaceSet) (plan : Plan) (certificates : Certificates) where
   -- The marked lines behind a head line are those of the mesh and of the certificates.
   marked_behind : (head between : Bytes) → list_all is_inside head ≡ true → IsSilent between
-      → filter is_hash_line (drop 1 (lines_of (head ++ 10 ∷ text_behind_head between auto soup plan first third)))
-      ≡ filter is_hash_line (lines_of (canonical_text (new_soup soup plan (lengths_in (used first third).x))))
-      ++ filter is_hash_line (lines_of (text_of (certificate_lines auto first third)))
+      → filter is_hash_line (drop 1 (lines_of (head ++ 10 ∷ text_behind_head between auto soup plan certificates)))
+      ≡ filter is_hash_line (lines_of (canonical_text (new_soup soup plan (lengths_in (used certificates).x))))
+      ++ filter is_hash_line (lines_of (text_of (certificate_lines auto certificates)))
   marked_behind head between inside silent =
-      ap (λ (ls : Lines). filter is_hash_line (drop 1 ls)) (first_line head (text_behind_head between auto soup plan first third) inside)
-      ∙ marked_around (canonical_text (new_soup soup plan (lengths_in (used first third).x))) between (text_of (certificate_lines auto first third))
-      (canonical_ends (new_soup soup plan (lengths_in (used first third).x))) silent
+      ap (λ (ls : Lines). filter is_hash_line (drop 1 ls)) (first_line head (text_behind_head between auto soup plan certificates) inside)
+      ∙ marked_around (canonical_text (new_soup soup plan (lengths_in (used certificates).x))) between (text_of (certificate_lines auto certificates))
+      (canonical_ends (new_soup soup plan (lengths_in (used certificates).x))) silent
 
 -- What is told depends on the marked lines alone.
 tells_same : (head other : Bytes) (behind others : Lines) (made : Made) → head ≡ other → filter is_hash_line behind ≡ filter is_hash_line others
@@ -73,37 +73,36 @@ tells_same head other behind others made same marked tells = record {
   said = tells.said;
   texts = sym marked ∙ tells.texts;
   allowed = tells.allowed;
-  first = tells.first;
-  cert = tells.cert;
+  certificates = tells.certificates;
 }
 
-module _ (task : Task) (soup : FaceSet) (plan : Plan) (first : Lists) (third : Option Lists) (range : AreInRange task.settings task.auto)
-    (solid : IsSolid soup) (mesh : IsSomeLayout plan) (kept : AreKeptBy (HasLeastLengths task.wish plan) plan task.settings task.auto first third)
-    (coarse : AreCoarse plan (used first third).x) (inside : list_all is_inside task.head ≡ true)
-    (silent : IsSilent (task.between plan (lengths_in (used first third).x))) where
+module _ (task : Task) (soup : FaceSet) (plan : Plan) (certificates : Certificates) (range : AreInRange task.settings task.auto)
+    (solid : IsSolid soup) (mesh : IsSomeLayout plan) (kept : AreKeptBy (HasLeastLengths task.wish plan) plan task.settings task.auto certificates)
+    (coarse : AreCoarse plan (used certificates).x) (inside : list_all is_inside task.head ≡ true)
+    (silent : IsSilent (task.between plan (lengths_in (used certificates).x))) where
   -- A remesh with these certificates.
   abbrev like : Bytes
-  like = remeshed_text task.settings task.auto soup plan first third
+  like = remeshed_text task.settings task.auto soup plan certificates
 
-  fine : IsPrintable (new_soup soup plan (lengths_in (used first third).x))
-  fine = printable soup solid plan mesh (lengths_in (used first third).x) (used_lengths task.wish plan task.settings task.auto first third range kept) coarse
+  fine : IsPrintable (new_soup soup plan (lengths_in (used certificates).x))
+  fine = printable soup solid plan mesh (lengths_in (used certificates).x) (used_lengths task.wish plan task.settings task.auto certificates range kept) coarse
 
   head_is : slice_index_or (lines_of like) 0 [] ≡ head_line task.settings task.auto
   head_is = ap (λ (ls : Lines). slice_index_or ls 0 [])
-      (first_line (head_line task.settings task.auto) (text_behind_head [] task.auto soup plan first third) (head_inside task.settings task.auto range))
+      (first_line (head_line task.settings task.auto) (text_behind_head [] task.auto soup plan certificates) (head_inside task.settings task.auto range))
 
-  marked : filter is_hash_line (drop 1 (lines_of (finished_text task soup plan first third))) ≡ filter is_hash_line (drop 1 (lines_of like))
+  marked : filter is_hash_line (drop 1 (lines_of (finished_text task soup plan certificates))) ≡ filter is_hash_line (drop 1 (lines_of like))
   marked =
-      marked_behind task.auto soup plan first third task.head (task.between plan (lengths_in (used first third).x)) inside silent
-      ∙ sym (marked_behind task.auto soup plan first third (head_line task.settings task.auto) [] (head_inside task.settings task.auto range) none_silent)
+      marked_behind task.auto soup plan certificates task.head (task.between plan (lengths_in (used certificates).x)) inside silent
+      ∙ sym (marked_behind task.auto soup plan certificates (head_line task.settings task.auto) [] (head_inside task.settings task.auto range) none_silent)
 
   pub task_told : (made : Made)
-      → TellHow (head_line task.settings task.auto) (drop 1 (lines_of (finished_text task soup plan first third))) made
-      ↔ (made ≡ made_by task.settings task.auto first third)
+      → TellHow (head_line task.settings task.auto) (drop 1 (lines_of (finished_text task soup plan certificates))) made
+      ↔ (made ≡ made_by task.settings task.auto certificates)
   task_told made = (
     λ tells. told.0 (tells_same _ _ _ _ made (sym head_is) marked tells),
     λ same. tells_same _ _ _ _ made head_is (sym marked) (told.1 same),
   )
     where
-      told : TellHow (slice_index_or (lines_of like) 0 []) (drop 1 (lines_of like)) made ↔ (made ≡ made_by task.settings task.auto first third)
-      told = kept_told task.wish plan task.settings task.auto soup first third range fine kept made
+      told : TellHow (slice_index_or (lines_of like) 0 []) (drop 1 (lines_of like)) made ↔ (made ≡ made_by task.settings task.auto certificates)
+      told = kept_told task.wish plan task.settings task.auto soup certificates range fine kept made
