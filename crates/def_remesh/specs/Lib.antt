@@ -1,5 +1,6 @@
 pub mod Certified
 pub mod Checked
+pub mod CutSoups
 pub mod Keeping
 pub mod LayoutLaws
 pub mod NewPoints

@@ -2,21 +2,21 @@
 
 ghost use Rattle.std.specs.Prelude.{◌≡◌, ◌<◌, ◌≤◌, ℕ, length, true};
 ghost use Rattle.def_flow.specs.declared.limits.TheConstants.{MAX_LENGTH};
-ghost use Rattle.def_layout.specs.Plans.{layout_of, plan};
-ghost use Rattle.def_layoutnet.specs.MeshLayouts.{IsSomeLayout};
+ghost use Rattle.def_layout.specs.Layouts.{Way};
+ghost use Rattle.def_layout.specs.Lengths.{size};
+ghost use Rattle.def_layout.specs.Plans.{layout_of, way_number};
 ghost use Rattle.def_remesh.specs.NewPoints.{lengths_in};
 ghost use Rattle.mesh_tests.specs.Fits.{AreEven, FitsLayout};
 
 use def_flow::MAX_LENGTH;
-use def_layout::TMesh;
+use qm_cutmesh::CutMesh;
 use qm_reach::size_on;
 
 /// Whether these are lengths of a layout: one for each arc, from 1 to the limit, with equal sums on opposite sides.
-pub(crate) fn are_lengths(t: &TMesh, lengths: &[u64]) -> bool
-    requires { IsSomeLayout (plan t.now) }
-    ensures { result ≡ true → FitsLayout (plan t.now) lengths.now }
+pub(crate) fn are_lengths(cut: &CutMesh, lengths: &[u64]) -> bool
+    ensures { result ≡ true → FitsLayout cut.now.plan lengths.now }
 {
-    lengths.len() == t.arcs.len() && are_short(lengths) && are_even(t, lengths)
+    lengths.len() == cut.layout().arcs.len() && are_short(lengths) && are_even(cut, lengths)
 }
 
 /// Whether all numbers are from 1 to the limit.
@@ -33,15 +33,14 @@ fn are_short(lengths: &[u64]) -> bool
 }
 
 /// Whether opposite sides of each patch have equal sums.
-fn are_even(t: &TMesh, lengths: &[u64]) -> bool
-    requires layout { IsSomeLayout (plan t.now) }
-    requires long { length lengths.now ≡ length t.now.arcs.items }
+fn are_even(cut: &CutMesh, lengths: &[u64]) -> bool
+    requires long { length lengths.now ≡ length cut.now.plan.arcs }
     requires bounded { (arc : ℕ) → lengths_in lengths.now arc ≤ MAX_LENGTH }
-    ensures { result ≡ true → (patch : ℕ) → patch < length t.now.patches.items
-        → AreEven (layout_of (plan t.now)) (lengths_in lengths.now) patch }
+    ensures { result ≡ true → (patch : ℕ) → patch < length cut.now.plan.patches
+        → AreEven (layout_of cut.now.plan) (lengths_in lengths.now) patch }
 {
-    for patch in 0..t.patches.len() {
-        if !is_even(t, patch, lengths) {
+    for patch in 0..cut.layout().patches.len() {
+        if !is_even(cut, patch, lengths) {
             return false;
         }
     }
@@ -49,16 +48,27 @@ fn are_even(t: &TMesh, lengths: &[u64]) -> bool
 }
 
 /// Whether opposite sides of a patch have equal sums.
-fn is_even(t: &TMesh, patch: usize, lengths: &[u64]) -> bool
-    requires layout { IsSomeLayout (plan t.now) }
-    requires patch { patch < length t.now.patches.items }
-    requires long { length lengths.now ≡ length t.now.arcs.items }
+fn is_even(cut: &CutMesh, patch: usize, lengths: &[u64]) -> bool
+    requires patch { patch < length cut.now.plan.patches }
+    requires long { length lengths.now ≡ length cut.now.plan.arcs }
     requires bounded { (arc : ℕ) → lengths_in lengths.now arc ≤ MAX_LENGTH }
-    ensures { result ≡ true → AreEven (layout_of (plan t.now)) (lengths_in lengths.now) patch }
+    ensures { result ≡ true → AreEven (layout_of cut.now.plan) (lengths_in lengths.now) patch }
 {
-    let south = size_on(t, patch, 0, lengths);
-    let east = size_on(t, patch, 1, lengths);
-    let north = size_on(t, patch, 2, lengths);
-    let west = size_on(t, patch, 3, lengths);
+    let south = sum_on(cut, patch, 0, lengths);
+    let east = sum_on(cut, patch, 1, lengths);
+    let north = sum_on(cut, patch, 2, lengths);
+    let west = sum_on(cut, patch, 3, lengths);
     south == north && east == west
+}
+
+/// The sum on a side of a patch.
+fn sum_on(cut: &CutMesh, patch: usize, side: usize, lengths: &[u64]) -> u64
+    requires patch { patch < length cut.now.plan.patches }
+    requires side { side < 4 }
+    requires long { length lengths.now ≡ length cut.now.plan.arcs }
+    requires bounded { (arc : ℕ) → lengths_in lengths.now arc ≤ MAX_LENGTH }
+    ensures { (way : Way) → way_number way ≡ side
+        → result ≡ size (layout_of cut.now.plan) (lengths_in lengths.now) patch way }
+{
+    size_on(cut.layout(), patch, side, lengths)
 }

@@ -1,4 +1,5 @@
-//! Tests of meshes, of how riders cut them, and of new meshes at given lengths, on meshes that are worked out by hand.
+//! Tests of meshes, of the networks of edge lengths, and of new meshes at given lengths, on meshes that are worked out by
+//! hand.
 #![tactic(auto)]
 
 #[cfg(test)]
@@ -10,10 +11,6 @@ mod measures;
 #[cfg(test)]
 mod meshes;
 #[cfg(test)]
-mod motions;
-#[cfg(test)]
 mod new_meshes;
-#[cfg(test)]
-mod placed;
 #[cfg(test)]
 mod stitched;

@@ -1,6 +1,6 @@
 //! From the text of a mesh and lengths to the new mesh.
 
-use crate::layouts::read_layout;
+use crate::layouts::read_cut;
 use crate::lengths::are_lengths;
 use qm_io::Source;
 use qm_stitch::{NewMesh, StitchFail, stitch};
@@ -13,13 +13,13 @@ pub(crate) fn stitched_text<S: Source>(
     input: &mut S,
     lengths: &[u64],
 ) -> Result<Option<String>, AllocError> {
-    let Some(layout) = read_layout(alloc, input)? else {
+    let Some(cut) = read_cut(alloc, input)? else {
         return Ok(None);
     };
-    if !are_lengths(&layout, lengths) {
+    if !are_lengths(&cut, lengths) {
         return Ok(None);
     }
-    match stitch(alloc, &layout, lengths) {
+    match stitch(alloc, cut.layout(), lengths) {
         Ok(mesh) => Ok(Some(mesh_text(alloc, &mesh)?)),
         Err(StitchFail::TooFine { faces }) => Ok(Some(format!(in alloc; "too fine {faces}\n")?)),
         Err(StitchFail::Doubled { u, v }) => {

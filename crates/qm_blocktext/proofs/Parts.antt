@@ -1,15 +1,6 @@
 -- Texts that are put block by block.
-use Rattle.std.proofs.Common.{◌≡◌, ℕ, ◌+◌, ◌<◌, map, map-id, List, [], ◌++◌, length, sym, ap, subst}
+use Rattle.std.proofs.Common.{◌≡◌, ℕ, ◌+◌, ◌<◌, map, map-id, List, ◌++◌, sym, ap, subst}
 use Rattle.std.specs.List.{flat_map, range_with_len}
-use Rattle.std.specs.Prelude.{slice_index_or}
-use Rattle.def_blocks.specs.BlockTexts.{block_line, blocks_head, blocks_text, link_line, points_text}
-use Rattle.def_blocks.specs.declared.link.Link.{Link}
-use Rattle.def_io.specs.Bytes.{Bytes}
-use Rattle.def_layout.specs.Lengths.{Lengths, wide, high}
-use Rattle.def_layout.specs.Plans.{Plan, layout_of}
-use Rattle.def_mesh.specs.Faces.{Faces}
-use Rattle.def_text.specs.FaceSet.{FaceSet}
-use Rattle.def_text.specs.Types.{Positions}
 use Rattle.qm_output.proofs.Lists.{stops_at_number, takes_number}
 
 -- Texts of numbers.
@@ -34,17 +25,3 @@ pub takes_one : {T : Type 0} (takes : T → T → List ℕ → Type 0)
 takes_one takes more f i a b c took next =
     subst (takes a c) (by_number f (i + 1))
     (takes_number takes more f (λ k. k) i a b c (subst (takes a b) (sym (by_number f i)) took) next)
-
--- The lines of a block of a mesh with these places, at these lengths and with these links.
-abbrev pub lines_with : (faces : Faces) (plan : Plan) (places : Positions) (new : Lengths) (links : List (List Link)) (block : ℕ) → Bytes
-lines_with faces plan places new links block =
-    block_line (block + 1) (wide (layout_of plan) new block) (high (layout_of plan) new block)
-    ++ (points_text faces plan places new block ++ flat_map link_line (slice_index_or links block []))
-
--- The lines of all blocks behind the head lines are the text.
-pub whole_is : (by : ℕ) (soup : FaceSet) (plan : Plan) (new : Lengths) (faces : Faces) (places : Positions) (links given : List (List Link)) (count : ℕ)
-    → faces ≡ soup.faces → places ≡ soup.pos → given ≡ links → count ≡ length plan.patches
-    → blocks_head by (length plan.patches) ++ flat_map (lines_with faces plan places new given) (range_with_len 0 count)
-    ≡ blocks_text by soup plan new links
-whole_is by soup plan new faces places links given count f p g c =
-    λ k. blocks_head by (length plan.patches) ++ flat_map (lines_with (f k) plan (p k) new (g k)) (range_with_len 0 (c k))

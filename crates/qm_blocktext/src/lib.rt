@@ -2,12 +2,12 @@
 //! the text goes.
 #![tactic(auto)]
 
-mod grids;
+mod blocks;
 mod line;
 mod links;
-mod places;
 mod points;
 mod text;
 
+pub use blocks::Blocks;
 pub use links::links_by;
-pub use text::{Blocks, block_text, put_blocks};
+pub use text::{block_text, put_blocks};

@@ -3,8 +3,7 @@
 ghost use Rattle.std.specs.Prelude.{◌≤◌, map, IfOk, OnOk, OnErr};
 ghost use Rattle.std.specs.List.{flat_map};
 ghost use Rattle.def_layout.specs.Arcs.{long_at};
-ghost use Rattle.def_layout.specs.Plans.{layout_of, plan};
-ghost use Rattle.def_layoutnet.specs.MeshLayouts.{IsSomeLayout};
+ghost use Rattle.def_layout.specs.Plans.{layout_of};
 ghost use Rattle.def_remesh.specs.NewPoints.{multiple_of};
 ghost use Rattle.def_run.specs.declared.command.TheConstants.{MAX_MULTIPLE};
 ghost use Rattle.def_blocks.specs.BlockTexts.{link_line};
@@ -12,22 +11,21 @@ ghost use Rattle.def_blocks.specs.Links.{AreLinks};
 
 use crate::line::{link_of, put_line};
 use def_blocks::Link;
-use def_layout::TMesh;
 use def_output::Stopped;
 use qm_blocks::links;
+use qm_cutmesh::CutMesh;
 use qm_output::Output;
 use qm_refine::multiples;
 use std::alloc::{AllocError, Global};
 
 /// The links of the blocks of a layout with `by` times its old lengths. Linear in the arcs.
-pub fn links_by(alloc: Global, t: &TMesh, by: u32) -> Result<Vec<Vec<Link>>, AllocError>
-    requires layout { IsSomeLayout (plan t.now) }
-    requires few { by ≤ MAX_MULTIPLE }
-    ensures { IfOk result (λ links. AreLinks (layout_of (plan t.now)) (multiple_of by (long_at (plan t.now).arcs))
+pub fn links_by(alloc: Global, cut: &CutMesh, by: u32) -> Result<Vec<Vec<Link>>, AllocError>
+    requires { by ≤ MAX_MULTIPLE }
+    ensures { IfOk result (λ links. AreLinks (layout_of cut.now.plan) (multiple_of by (long_at cut.now.plan.arcs))
         (map (λ block. block.items) links.items)) }
 {
-    let lengths = multiples(alloc, t, by)?;
-    links(alloc, t, &lengths)
+    let lengths = multiples(alloc, cut, by)?;
+    links(alloc, cut.layout(), &lengths)
 }
 
 /// Puts the lines of links.

@@ -3,55 +3,54 @@
 ghost use Rattle.std.specs.Prelude.{◌≡◌, ◌≤◌, ◌<◌, ◌+◌, ◌++◌, ◌∷◌, [], length, OnOk, OnErr};
 ghost use Rattle.std.specs.List.{flat_map};
 ghost use Rattle.arrayvec.specs.ArrayVec.{array_vec_len};
-ghost use Rattle.def_layout.specs.Lengths.{high};
-ghost use Rattle.def_layout.specs.Plans.{layout_of};
 ghost use Rattle.def_text.specs.Canonical.{micro_text};
 ghost use Rattle.def_blocks.specs.BlockTexts.{point_line, row_text};
-ghost use Rattle.qm_blocktext.specs.Gridded.{lengths_by, plan_in, points_in, row_in, AreGrids};
+ghost use Rattle.qm_blocktext.specs.Gridded.{height_in, points_in, row_in};
 
-use crate::grids::Grids;
-use crate::places::{GridPoint, height_of, place_in, width_of};
 use arrayvec::ArrayVec;
 use def_io::LINE_FEED;
 use def_output::Stopped;
 use def_text::{Micro, SPACE};
+use qm_cutmesh::Regridded;
 use qm_dec::write_micro;
 use qm_output::Output;
 use qm_place::Near;
 
 /// Puts the lines of the points of a block, row by row.
-pub(crate) fn put_points<T: Output>(out: &mut T, grids: &Grids, block: usize) -> Result<(), Stopped>
-    requires grids { AreGrids grids.now }
-    requires block { block < length grids.now.t.now.patches.items }
-    ensures whole { OnOk result (T.takes out.old out.new (points_in grids.now block)) }
-    ensures part { OnErr result (T.stops out.old out.new (points_in grids.now block)) }
+pub(crate) fn put_points<T: Output>(
+    out: &mut T,
+    new: &Regridded,
+    block: usize,
+) -> Result<(), Stopped>
+    requires { block < length new.now.plan.patches }
+    ensures whole { OnOk result (T.takes out.old out.new (points_in new.now block)) }
+    ensures part { OnErr result (T.stops out.old out.new (points_in new.now block)) }
 {
-    let rows = height_of(grids, block) + 1;
+    let rows = new.rim(block).high + 1;
     let mut near = Near::new();
     for j in 0..rows {
-        put_row(out, grids, block, j, &mut near)?;
+        put_row(out, new, block, j, &mut near)?;
     }
     Ok(())
 }
 
-/// Puts the lines of the points of row j of a block, from west to east.
+/// Puts the lines of the points of row j of a block, from west to east. What is near changes only how long it takes.
 fn put_row<T: Output>(
     out: &mut T,
-    grids: &Grids,
+    new: &Regridded,
     block: usize,
     j: u32,
     near: &mut Near,
 ) -> Result<(), Stopped>
-    requires grids { AreGrids grids.now }
-    requires block { block < length grids.now.t.now.patches.items }
-    requires row { j ≤ high (layout_of (plan_in grids.now)) (lengths_by grids.now) block }
-    ensures whole { OnOk result (T.takes out.old out.new (row_text (row_in grids.now block j))) }
-    ensures part { OnErr result (T.stops out.old out.new (row_text (row_in grids.now block j))) }
+    requires block { block < length new.now.plan.patches }
+    requires row { j ≤ height_in new.now block }
+    ensures whole { OnOk result (T.takes out.old out.new (row_text (row_in new.now block j))) }
+    ensures part { OnErr result (T.stops out.old out.new (row_text (row_in new.now block j))) }
 {
-    let points = width_of(grids, block) + 1;
+    let points = new.rim(block).wide + 1;
     for i in 0..points {
-        let place = place_in(grids, GridPoint { block, i, j }, near);
-        put_point(out, &place)?;
+        let v = new.point(block, i, j);
+        put_point(out, &new.place_near(v, near))?;
     }
     Ok(())
 }

@@ -1,7 +1,7 @@
 -- A text that is shown to finish a task does so over the layout by which it is judged, and tells its certificates alone.
-use Rattle.std.proofs.Common.{◌≡◌, ◌↔◌, true, Option, drop, ap, sym, ◌∙◌, subst}
+use Rattle.std.proofs.Common.{◌≡◌, ◌↔◌, true, drop, ap, sym, ◌∙◌, subst}
 use Rattle.std.specs.List.{list_all}
-use Rattle.def_certtext.specs.CertLines.{Lists}
+use Rattle.def_certtext.specs.CertLines.{used, Certificates}
 use Rattle.def_certtext.specs.HeadLine.{head_line}
 use Rattle.def_certtext.specs.Reading.{Made, TellHow}
 use Rattle.def_certtext.specs.Settings.{AreInRange}
@@ -12,10 +12,9 @@ use Rattle.def_layout.specs.FaceLayouts.{IsCutLayout}
 use Rattle.def_layout.specs.Lengths.{Lengths}
 use Rattle.def_layout.specs.Plans.{Plan, layout_of}
 use Rattle.def_layoutnet.specs.MeshLayouts.{IsSomeLayout}
-use Rattle.def_mesh.specs.Manifold.{IsManifold}
 use Rattle.def_remesh.specs.NewPoints.{lengths_in}
 use Rattle.def_remesh.specs.Certified.{AreKept, IsShown}
-use Rattle.def_remesh.specs.Remeshed.{finished_text, used, AreCoarse}
+use Rattle.def_remesh.specs.Remeshed.{finished_text, AreCoarse}
 use Rattle.def_remesh.specs.TextLaws.{made_by, IsSolid}
 use Rattle.def_run.specs.Judging.{behind_in, text_in, Judged, TellsMade}
 use Rattle.def_written.specs.Edges.{IsUndoubled}
@@ -26,10 +25,9 @@ use Rattle.remesh_laws.proofs.Tails.{tail_behind}
 use Rattle.remesh_laws.proofs.TaskTexts.{task_told}
 use Rattle.remesh_laws.specs.Asides.{IsSilent}
 
--- What a text is judged by is right: the mesh is a manifold that can be written, and the layout is that of the task's
+-- What a text is judged by is right: the mesh can be written, and the layout is that of the task's
 -- cut, which is full; and the lines of the task around the new mesh are no lines of certificates.
 pub record IsJudgeable (judged : Judged) : Type 0 where
-  pub manifold : IsManifold judged.soup.faces
   pub solid : IsSolid judged.soup
   pub range : AreInRange judged.task.settings judged.task.auto
   pub full : IsFullCut judged.soup.faces judged.task.marks
@@ -39,13 +37,12 @@ pub record IsJudgeable (judged : Judged) : Type 0 where
 
 -- What is known of a text that is shown, over a layout.
 pub record IsAligned (judged : Judged) (plan : Plan) : Type 0 where
-  pub first : Lists
-  pub third : Option Lists
-  pub kept : AreKept judged.task.wish plan judged.task.settings judged.task.auto first third
-  pub coarse : AreCoarse plan (used first third).x
-  pub undoubled : IsUndoubled (layout_of plan) (lengths_in (used first third).x)
-  pub written : text_in judged ≡ finished_text judged.task judged.soup plan first third
-  pub told : (made : Made) → TellsMade judged made ↔ (made ≡ made_by judged.task.settings judged.task.auto first third)
+  pub certificates : Certificates
+  pub kept : AreKept judged.task.wish plan judged.task.settings judged.task.auto certificates
+  pub coarse : AreCoarse plan (used certificates).x
+  pub undoubled : IsUndoubled (layout_of plan) (lengths_in (used certificates).x)
+  pub written : text_in judged ≡ finished_text judged.task judged.soup plan certificates
+  pub told : (made : Made) → TellsMade judged made ↔ (made ≡ made_by judged.task.settings judged.task.auto certificates)
 
 module _ (judged : Judged) (able : IsJudgeable judged) where
   -- Its layout is that of a mesh.
@@ -54,26 +51,25 @@ module _ (judged : Judged) (able : IsJudgeable judged) where
 
   module _ (shown : IsShown judged.task judged.soup (text_in judged)) where
     -- The lines behind the head line are those of the text that was made.
-    behind_is : drop 1 (lines_of (finished_text judged.task judged.soup shown.finished.plan shown.finished.first shown.finished.third)) ≡ behind_in judged
+    behind_is : drop 1 (lines_of (finished_text judged.task judged.soup shown.finished.plan shown.finished.certificates)) ≡ behind_in judged
     behind_is = ap (λ (text : Bytes). drop 1 (lines_of text)) (sym shown.finished.written) ∙ tail_behind judged.line judged.bytes
 
     own : IsAligned judged shown.finished.plan
     own = record {
-      first = shown.finished.first;
-      third = shown.finished.third;
+      certificates = shown.finished.certificates;
       kept = shown.certified;
       coarse = shown.finished.coarse;
       undoubled = shown.finished.undoubled;
       written = shown.finished.written;
       told = λ made. subst
           (λ (behind : Lines). TellHow (head_line judged.task.settings judged.task.auto) behind made
-          ↔ (made ≡ made_by judged.task.settings judged.task.auto shown.finished.first shown.finished.third))
+          ↔ (made ≡ made_by judged.task.settings judged.task.auto shown.finished.certificates))
           behind_is
-          (task_told judged.task judged.soup shown.finished.plan shown.finished.first shown.finished.third able.range able.solid
+          (task_told judged.task judged.soup shown.finished.plan shown.finished.certificates able.range able.solid
           (cut_layout judged.soup judged.task.marks shown.finished.plan able.solid able.full shown.finished.cut)
-          shown.finished.lengths shown.finished.coarse able.inside (able.silent shown.finished.plan (lengths_in (used shown.finished.first shown.finished.third).x)) made);
+          shown.finished.lengths shown.finished.coarse able.inside (able.silent shown.finished.plan (lengths_in (used shown.finished.certificates).x)) made);
     }
 
     pub aligned : IsAligned judged judged.plan
     aligned = subst (IsAligned judged)
-        (one_layout_law judged.soup.faces judged.task.marks able.manifold able.full shown.finished.plan judged.plan shown.finished.cut able.laid) own
+        (one_layout_law judged.soup.faces judged.task.marks able.solid.mesh.manifold able.full shown.finished.plan judged.plan shown.finished.cut able.laid) own

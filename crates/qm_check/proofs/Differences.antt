@@ -1,5 +1,5 @@
 -- Where a text and the one that is made differ.
-use Rattle.std.proofs.Common.{◌≡◌, ◌≢◌, ◌+◌, ◌-◌, ℕ, suc, [], ◌∷◌, ◌++◌, length, take, refl, ap, sym, ◌∙◌, subst, arith}
+use Rattle.std.proofs.Common.{◌≡◌, ◌≢◌, ◌≤◌, ◌+◌, ◌-◌, ℕ, suc, [], ◌∷◌, ◌++◌, length, take, refl, ap, sym, ◌∙◌, subst, arith, length-append}
 use Rattle.def_io.specs.Bytes.{Bytes}
 use Rattle.def_output.specs.Compared.{Compared, Differs, IsAlike, LacksFirst}
 use Rattle.def_run.specs.Judging.{DifferFrom}
@@ -39,6 +39,16 @@ stopped_differ given text before now fresh is =
 
     at : suc (length is.prefix) ≡ now.at + 1
     at = omega (arith, is.counted, ap (λ (c : Compared). c.at) fresh)
+
+pub stopped_within : (given text : Bytes) (before now : Compared) → before ≡ record { at = 0; rest = given } → Differs before now text → now.at ≤ length given
+stopped_within given text before now fresh is =
+    omega (
+      arith,
+      is.counted,
+      ap (λ (c : Compared). c.at) fresh,
+      ap length (sym is.alike ∙ ap (λ (c : Compared). c.rest) fresh),
+      length-append is.prefix now.rest,
+    )
 
 -- The text is alike, and more is given.
 longer : (text rest : Bytes) → rest ≢ [] → take (suc (length text)) (text ++ rest) ≡ take (suc (length text)) text → ⊥

@@ -1,4 +1,4 @@
--- The bytes in front of a line.
+-- The bytes in front of a line, and those from it on.
 use Rattle.std.proofs.Common.{◌≡◌, ◌≤◌, ℕ, ◌++◌, length, take, drop, sym, ◌∙◌, ap, arith, length-append, length-drop}
 use Rattle.std.proofs.Math.Seq.{take-append_seam}
 use Rattle.std.proofs.lemmas.List.{take-append-drop}
@@ -7,25 +7,30 @@ use Rattle.std.specs.List.{flat_map}
 use Rattle.def_io.specs.Bytes.{Bytes}
 use Rattle.def_io.specs.Lines.{pieces, tail_of}
 use Rattle.def_run.specs.MarkLines.{front_of}
+use Rattle.def_text.specs.declared.limits.TheConstants.{MAX_BYTES}
 use Rattle.remesh_laws.proofs.Tails.{flat-pieces}
 
--- They are all but those from it on.
-pub front_is : (bytes : Bytes) (line at : ℕ) → at ≤ length bytes → drop at bytes ≡ tail_of line bytes → take at bytes ≡ front_of line bytes
-front_is bytes line at within written =
-    ap (take at) (sym parts) ∙ (ap (λ (n : ℕ). take n (front_of line bytes ++ tail_of line bytes)) place
-    ∙ take-append_seam (front_of line bytes) (tail_of line bytes))
-  where
-    parts : front_of line bytes ++ tail_of line bytes ≡ bytes
-    parts =
-        sym (flat_map-append (λ p. p) (take line (pieces bytes)) (drop line (pieces bytes)))
-        ∙ (ap (flat_map (λ p. p)) (take-append-drop line (pieces bytes)) ∙ flat-pieces bytes)
+module _ (line : ℕ) (bytes : Bytes) where
+  parts : front_of line bytes ++ tail_of line bytes ≡ bytes
+  parts =
+      sym (flat_map-append (λ p. p) (take line (pieces bytes)) (drop line (pieces bytes)))
+      ∙ (ap (flat_map (λ p. p)) (take-append-drop line (pieces bytes)) ∙ flat-pieces bytes)
 
-    place : at ≡ length (front_of line bytes)
-    place = omega (
-      arith,
-      within,
-      ap length written,
-      length-drop at bytes,
-      ap length parts,
-      length-append (front_of line bytes) (tail_of line bytes),
-    )
+  -- Those in front are all but those from it on.
+  pub front_is : (at : ℕ) → at ≤ length bytes → drop at bytes ≡ tail_of line bytes → take at bytes ≡ front_of line bytes
+  front_is at within written =
+      ap (take at) (sym parts) ∙ (ap (λ (n : ℕ). take n (front_of line bytes ++ tail_of line bytes)) place
+      ∙ take-append_seam (front_of line bytes) (tail_of line bytes))
+    where
+      place : at ≡ length (front_of line bytes)
+      place = omega (
+        arith,
+        within,
+        ap length written,
+        length-drop at bytes,
+        ap length parts,
+        length-append (front_of line bytes) (tail_of line bytes),
+      )
+
+  pub tail_few : length bytes ≤ MAX_BYTES → length (tail_of line bytes) ≤ MAX_BYTES
+  tail_few few = omega (arith, few, ap length parts, length-append (front_of line bytes) (tail_of line bytes))

@@ -1,91 +1,97 @@
 -- What is kept by certificates that are checked, and why none is.
-use Rattle.std.proofs.Common.{◌≡◌, ℕ, Bool, true, Some, None, inl, inr, refl, ap, sym, ◌∙◌, subst}
-use Rattle.def_certtext.specs.CertLines.{lists_of, Lists}
+use Rattle.std.proofs.Common.{◌≡◌, ℕ, Bool, true, inl, inr, refl, ap, sym, ◌∙◌, subst}
+use Rattle.def_certtext.specs.CertLines.{alone, lists_of, raised, Lists}
 use Rattle.def_certtext.specs.Reading.{Made}
 use Rattle.def_certtext.specs.declared.Asked.{Asked}
+use Rattle.def_certtext.specs.declared.certs.Certs.TheVariants.{Alone, Raised}
 use Rattle.def_flow.specs.Accepted.{certificate}
 use Rattle.def_flow.specs.Admissible.{deviation, entries}
 use Rattle.def_flow.specs.Descent.{IsSolution}
 use Rattle.def_flow.specs.Network.{Network}
 use Rattle.def_flow.specs.declared.cert.Cert.{Cert}
+use Rattle.def_flow.specs.declared.net.Settings.{Settings}
 use Rattle.def_layout.specs.Plans.{Plan}
-use Rattle.def_remesh.specs.Keeping.{IsKept}
-use Rattle.def_remesh.specs.Certified.{IsCertified}
-use Rattle.def_remesh.specs.Remeshed.{AreCoarse, AreDoubled, with_floor}
+use Rattle.def_remesh.specs.Keeping.{IsKept, IsNetFor}
+use Rattle.def_remesh.specs.Remeshed.{with_floor}
+use Rattle.def_remesh.specs.Tasks.{Wish}
 use Rattle.def_remesh.specs.declared.tables.Tables.{Tables}
-use Rattle.def_run.specs.Judging.{first_checked, IsWrong}
+use Rattle.def_run.specs.Judging.{first_checked, IsThirdWrong, IsWrong}
 use Rattle.def_run.specs.declared.answer.Why.{Why}
 use Rattle.def_run.specs.declared.answer.Why.TheVariants as why
-use Rattle.qm_check.specs.Checked.{made_once, made_twice, Gives, GivesNone, IsChecked, IsUnused}
 use Rattle.def_run.specs.declared.check_fail.CheckFail.{CheckFail}
 use Rattle.def_run.specs.declared.check_fail.CheckFail.TheVariants.{NotAccepted, Memory}
+use Rattle.qm_check.specs.Checked.{made_as, Gives, GivesNone, HasWrongCert, IsChecked, IsUnused}
 use Rattle.qm_check.specs.declared.lengths.Lengths.TheVariants.{Whole, Doubled}
 use Rattle.remesh_laws.proofs.Keeps.{keeps_first, keeps_third, solved}
-use Rattle.def_remesh.specs.Keeping.{IsNetFor}
-use Rattle.def_remesh.specs.Tasks.{Wish}
+use Rattle.remesh_laws.specs.Keeps.{IsDoubling}
 
--- A certificate that gives no lengths is wrong.
-wrong_of : (wish : Wish) (plan : Plan) (net : Network) (made : Made) (cert : Cert) (why : Why) → IsNetFor wish plan made.settings net
-    → GivesNone plan net cert (NotAccepted why) → IsWrong wish plan made.settings (lists_of cert) why
-wrong_of wish plan net made cert (why.Verdict verdict) for (told, refuted) = record { net = net; of_layout = for.is; told = told; refuted = refuted }
-wrong_of wish plan net made cert (why.TooFine faces) for (is, fine) = (solved plan made.settings net cert for is, fine)
-wrong_of wish plan net made cert _ for none = absurd none
+module _ (wish : Wish) (plan : Plan) (net : Network) where
+  -- A certificate that gives no lengths is wrong.
+  wrong_of : (settings : Settings) (cert : Cert) (why : Why) → IsNetFor wish plan settings net → GivesNone plan net cert (NotAccepted why)
+      → IsWrong wish plan settings (lists_of cert) why
+  wrong_of settings cert (why.Verdict verdict) for (told, refuted) = record { net = net; of_layout = for.is; told = told; refuted = refuted }
+  wrong_of settings cert (why.TooFine faces) for (is, fine) = (solved plan settings net cert for is, fine)
+  wrong_of settings cert _ for none = absurd none
 
-pub unused_first : (wish : Wish) (plan : Plan) (net : Network) (made : Made) (cert : Cert) (fail : CheckFail) → first_checked made ≡ lists_of cert
-    → IsNetFor wish plan made.settings net → GivesNone plan net cert fail → IsUnused wish plan made fail
-unused_first wish plan net made cert (NotAccepted why) same for none =
-    inl (subst (λ (c : Lists). IsWrong wish plan made.settings c why) (sym same) (wrong_of wish plan net made cert why for none))
-unused_first wish plan net made cert Memory same for none = tt
-unused_first wish plan net made cert _ same for none = absurd none
+  -- So the text has a wrong one.
+  unused_by : (asked : Asked) (made : Made) (cert : Cert) (fail : CheckFail)
+      → ((why : Why) → GivesNone plan net cert (NotAccepted why) → HasWrongCert wish plan asked.settings made why) → GivesNone plan net cert fail
+      → IsUnused wish plan asked.settings made fail
+  unused_by asked made cert (NotAccepted (why.Verdict verdict)) wrong none = wrong (why.Verdict verdict) none
+  unused_by asked made cert (NotAccepted (why.TooFine faces)) wrong none = wrong (why.TooFine faces) none
+  unused_by asked made cert Memory wrong none = tt
+  unused_by asked made cert _ wrong none = absurd none
 
-pub unused_lone : (wish : Wish) (plan : Plan) (net : Network) (asked : Asked) (cert : Cert) (u v : ℕ) → IsNetFor wish plan asked.settings net
-    → IsSolution net (certificate cert) → Gives plan net cert.x.items (Doubled u v)
-    → IsUnused wish plan (made_once asked (lists_of cert)) (NotAccepted (why.Doubled u v))
-unused_lone wish plan net asked cert u v for is gives = inr (inl (refl, solved plan asked.settings net cert for is, gives.0, gives.1))
+  pub unused_first : (asked : Asked) (made : Made) (cert : Cert) (fail : CheckFail) → first_checked made.certificates ≡ lists_of cert
+      → IsNetFor wish plan asked.settings net → GivesNone plan net cert fail → IsUnused wish plan asked.settings made fail
+  unused_first asked made cert fail same for = unused_by asked made cert fail
+      (λ why none. inl (subst (λ (c : Lists). IsWrong wish plan asked.settings c why) (sym same) (wrong_of asked.settings cert why for none)))
 
-pub unused_third : (wish : Wish) (plan : Plan) (net : Network) (asked : Asked) (first third : Cert) (fail : CheckFail)
-    → IsCertified wish plan asked.settings (lists_of first) → AreCoarse plan first.x.items → AreDoubled plan first.x.items
-    → IsNetFor wish plan (with_floor asked.settings 3) net → GivesNone plan net third fail
-    → IsUnused wish plan (made_twice asked (lists_of first) (lists_of third)) fail
-unused_third wish plan net asked first third (NotAccepted why) certified coarse doubled for none = inr (inr (record {
-  first = lists_of first;
-  there = refl;
-  certified = certified;
-  coarse = coarse;
-  doubled = doubled;
-  wrong = wrong_of wish plan net (record { settings = with_floor asked.settings 3; auto = true; first = None; cert = lists_of third }) third why for none;
-}))
-unused_third wish plan net asked first third Memory certified coarse doubled for none = tt
-unused_third wish plan net asked first third _ certified coarse doubled for none = absurd none
+  pub unused_third : (asked : Asked) (first third : Cert) (fail : CheckFail) → IsDoubling wish plan asked.settings (lists_of first)
+      → IsNetFor wish plan (with_floor asked.settings 3) net → GivesNone plan net third fail
+      → IsUnused wish plan asked.settings (made_as asked (raised (lists_of first) (lists_of third))) fail
+  unused_third asked first third fail doubling for = unused_by asked (made_as asked (raised (lists_of first) (lists_of third))) third fail
+      (λ why none. inr (third_wrong why none))
+    where
+      third_wrong : (why : Why) → GivesNone plan net third (NotAccepted why)
+          → IsThirdWrong wish plan asked.settings (made_as asked (raised (lists_of first) (lists_of third))) why
+      third_wrong why none = record {
+        first = lists_of first;
+        cert = lists_of third;
+        there = refl;
+        certified = doubling.certified;
+        coarse = doubling.coarse;
+        doubled = doubling.doubled;
+        wrong = wrong_of (with_floor asked.settings 3) third why for none;
+      }
 
--- The first certificate is used.
-pub checked_first : (wish : Wish) (plan : Plan) (net : Network) (asked : Asked) (made : Made) (cert : Cert) (tables : Tables) (deviates : ℕ)
-    → asked.settings ≡ made.settings → asked.auto ≡ made.auto → first_checked made ≡ lists_of cert → IsNetFor wish plan made.settings net
-    → IsSolution net (certificate cert) → Gives plan net cert.x.items (Whole tables deviates)
-    → IsChecked wish plan net made (record { remesh = record { asked = asked; first = cert; third = None; numbering = tables }; deviation = deviates })
-checked_first wish plan net asked made cert tables deviates settings auto same for is gives = record {
-  kept = keeps_first plan made.settings made.auto cert cert.x.items tables refl (solved plan made.settings net cert for is) gives.0;
-  settings = settings;
-  auto = auto;
-  first = sym same;
-  chosen = inl refl;
-  deviates = gives.1;
-}
+  pub unused_lone : (asked : Asked) (cert : Cert) (u v : ℕ) → IsNetFor wish plan asked.settings net → IsSolution net (certificate cert)
+      → Gives plan net cert.x.items (Doubled u v) → IsUnused wish plan asked.settings (made_as asked (alone (lists_of cert))) (NotAccepted (why.Doubled u v))
+  unused_lone asked cert u v for is gives = (lists_of cert, refl, solved plan asked.settings net cert for is, gives.0, gives.1)
 
--- The one for floor 3 is used.
-pub checked_third : (wish : Wish) (plan : Plan) (net raised : Network) (asked : Asked) (first third : Cert) (tables : Tables) (deviates : ℕ)
-    → asked.auto ≡ true → IsCertified wish plan asked.settings (lists_of first) → AreCoarse plan first.x.items → AreDoubled plan first.x.items
-    → IsNetFor wish plan (with_floor asked.settings 3) raised → raised ≡ record net { floor = 3 }
-    → IsSolution raised (certificate third) → Gives plan raised third.x.items (Whole tables deviates)
-    → IsChecked wish plan net (made_twice asked (lists_of first) (lists_of third))
-    (record { remesh = record { asked = asked; first = first; third = Some third; numbering = tables }; deviation = deviates })
-checked_third wish plan net raised asked first third tables deviates auto certified coarse doubled for same is gives = record {
-  kept = subst (λ (b : Bool). IsKept wish plan asked.settings b (lists_of first) (Some (lists_of third)) tables) (sym auto)
-      (keeps_third plan asked.settings first third third.x.items tables refl
-      (certified, coarse, doubled, solved plan (with_floor asked.settings 3) raised third for is) gives.0);
-  settings = refl;
-  auto = refl;
-  first = refl;
-  chosen = inr (refl, refl);
-  deviates = gives.1 ∙ ap (λ (n : Network). deviation n (entries third.x.items)) same;
-}
+  -- The first certificate is used.
+  pub checked_first : (asked : Asked) (made : Made) (cert : Cert) (tables : Tables) (deviates : ℕ)
+      → asked ≡ record { settings = made.settings; auto = made.auto } → first_checked made.certificates ≡ lists_of cert → IsNetFor wish plan asked.settings net
+      → IsSolution net (certificate cert) → Gives plan net cert.x.items (Whole tables deviates)
+      → IsChecked wish plan net made (record { remesh = record { asked = asked; certs = Alone cert; numbering = tables }; deviation = deviates })
+  checked_first asked made cert tables deviates same first for is gives = record {
+    kept = keeps_first plan asked.settings asked.auto cert cert.x.items tables refl (solved plan asked.settings net cert for is) gives.0;
+    asked = same;
+    chosen = inl (ap alone (sym first));
+    deviates = gives.1;
+  }
+
+  -- The one for floor 3 is used.
+  pub checked_third : (higher : Network) (asked : Asked) (first third : Cert) (tables : Tables) (deviates : ℕ) → asked.auto ≡ true
+      → IsDoubling wish plan asked.settings (lists_of first) → IsNetFor wish plan (with_floor asked.settings 3) higher → higher ≡ record net { floor = 3 }
+      → IsSolution higher (certificate third) → Gives plan higher third.x.items (Whole tables deviates)
+      → IsChecked wish plan net (made_as asked (raised (lists_of first) (lists_of third)))
+      (record { remesh = record { asked = asked; certs = Raised first third; numbering = tables }; deviation = deviates })
+  checked_third higher asked first third tables deviates auto doubling for same is gives = record {
+    kept = subst (λ (b : Bool). IsKept wish plan asked.settings b (raised (lists_of first) (lists_of third)) tables) (sym auto)
+        (keeps_third plan asked.settings first third third.x.items tables refl
+        (refl, doubling.certified, doubling.coarse, doubling.doubled, solved plan (with_floor asked.settings 3) higher third for is) gives.0);
+    asked = refl;
+    chosen = inr refl;
+    deviates = gives.1 ∙ ap (λ (n : Network). deviation n (entries third.x.items)) same;
+  }

@@ -1,7 +1,5 @@
 mod Aligned
 mod Differences
-pub mod Fits
-mod Frames
 mod Fronts
 mod Kept
 pub mod Laid

@@ -1,8 +1,8 @@
 -- What is told of a text that is refused shows that it finishes no task.
-use Rattle.std.proofs.Common.{◌≡◌, ◌⊎◌, ◌+◌, ℕ, Bool, true, false, [], Option, Some, None, take, inl, inr, refl, ap, ap₂, sym, ◌∙◌, subst, arith, pos}
-use Rattle.std.proofs.lemmas.Option.{none-some}
+use Rattle.std.proofs.Common.{◌≡◌, ◌⊎◌, ◌+◌, ℕ, Bool, true, false, [], take, inl, inr, refl, ap, sym, ◌∙◌, subst, arith, pos}
+use Rattle.std.proofs.lemmas.Bool.{false≢true}
 use Rattle.std.specs.Prelude.{slice_index_or}
-use Rattle.def_certtext.specs.CertLines.{Lists}
+use Rattle.def_certtext.specs.CertLines.{alone, raised, used, Certificates, Lists}
 use Rattle.def_certtext.specs.HeadLine.{head_line}
 use Rattle.def_certtext.specs.Reading.{HasBadLine, IsFirstBad, Made, Says}
 use Rattle.def_certtext.specs.declared.CertLine.{CertLine}
@@ -19,13 +19,12 @@ use Rattle.def_layoutnet.specs.MeshLayouts.{IsSomeLayout}
 use Rattle.def_remesh.specs.NewPoints.{lengths_in}
 use Rattle.def_remesh.specs.Refusals.{IsTangledAt}
 use Rattle.def_remesh.specs.Certified.{AreKept, certificate_of, IsCertified, IsShown}
-use Rattle.def_remesh.specs.Remeshed.{AreCoarse, finished_text, used, with_floor}
+use Rattle.def_remesh.specs.Remeshed.{AreCoarse, finished_text, with_floor}
 use Rattle.def_remesh.specs.Tasks.{Task, Wish}
 use Rattle.def_remesh.specs.TextLaws.{IsSolid, made_by}
 use Rattle.def_run.specs.Judging.{behind_in, first_checked, text_in, IsLoneDoubled, IsThirdWrong, IsWrong, IsWrongText, Judged, TellsMade, TellsOtherText}
 use Rattle.def_run.specs.declared.answer.Why.{Why}
 use Rattle.def_run.specs.declared.answer.Why.TheVariants as why
-use Rattle.def_mesh.specs.Manifold.{IsManifold}
 use Rattle.def_text.specs.FaceSet.{FaceSet}
 use Rattle.def_written.specs.Edges.{IsUndoubled}
 use Rattle.plan_laws.proofs.OnePlan.{one_layout_law}
@@ -37,31 +36,30 @@ use Rattle.qm_layoutnet.proofs.OneNet.{one_net_law}
 use Rattle.plan_laws.proofs.MeshLayouts.{laid_of}
 use Rattle.qm_check.proofs.Aligned.{aligned, judged_layout, IsAligned, IsJudgeable}
 
--- The certificate that is checked first.
-kept_first : (wish : Wish) (plan : Plan) (settings : Settings) (auto : Bool) (first : Lists) (third : Option Lists) → AreKept wish plan settings auto first third
-    → IsCertified wish plan settings first
-kept_first wish plan settings auto first None kept = kept
-kept_first wish plan settings true first (Some third) kept = kept.0
-kept_first wish plan settings false first (Some third) kept = absurd kept
+-- Lines tell the certificates that were kept.
+told_kept : (wish : Wish) (plan : Plan) (settings : Settings) (auto : Bool) (certificates : Certificates) → AreKept wish plan settings auto certificates
+    → (made_by settings auto certificates).certificates ≡ certificates
+told_kept wish plan settings true certificates kept = refl
+told_kept wish plan settings false (alone cert) kept = refl
+told_kept wish plan settings false (raised first cert) kept = absurd (false≢true kept.0)
 
-first_is : (wish : Wish) (plan : Plan) (settings : Settings) (auto : Bool) (first : Lists) (third : Option Lists) → AreKept wish plan settings auto first third
-    → first_checked (made_by settings auto first third) ≡ first
-first_is wish plan settings true first None kept = refl
-first_is wish plan settings true first (Some third) kept = refl
-first_is wish plan settings false first None kept = refl
-first_is wish plan settings false first (Some third) kept = absurd kept
+module _ (wish : Wish) (plan : Plan) (settings : Settings) (auto : Bool) where
+  -- The certificate that is checked first.
+  kept_first : (certificates : Certificates) → AreKept wish plan settings auto certificates → IsCertified wish plan settings (first_checked certificates)
+  kept_first (alone cert) kept = kept
+  kept_first (raised first cert) kept = kept.1
 
-kept_coarse : (wish : Wish) (plan : Plan) (settings : Settings) (auto : Bool) (first : Lists) (third : Option Lists) → AreKept wish plan settings auto first third
-    → AreCoarse plan (used first third).x → AreCoarse plan first.x
-kept_coarse wish plan settings auto first None kept coarse = coarse
-kept_coarse wish plan settings true first (Some third) kept coarse = kept.1
-kept_coarse wish plan settings false first (Some third) kept coarse = absurd kept
+  kept_coarse : (certificates : Certificates) → AreKept wish plan settings auto certificates → AreCoarse plan (used certificates).x
+      → AreCoarse plan (first_checked certificates).x
+  kept_coarse (alone cert) kept coarse = coarse
+  kept_coarse (raised first cert) kept coarse = kept.2
 
--- Where two are told, the second is the one for floor 3.
-some_third : (settings : Settings) (auto : Bool) (first one : Lists) (third : Option Lists) → (made_by settings auto first third).first ≡ Some one
-    → third ≡ Some (made_by settings auto first third).cert
-some_third settings true first one (Some third) is = refl
-some_third settings _ first one _ is = absurd (none-some one is)
+  -- It is not used alone where its lengths double an edge.
+  used_alone : (certificates other : Certificates) → AreKept wish plan settings auto certificates → other ≡ alone (first_checked certificates)
+      → IsUndoubled (layout_of plan) (lengths_in (used other).x) → other ≡ certificates
+  used_alone (alone cert) other kept is undoubled = is
+  used_alone (raised first cert) other kept is undoubled =
+      absurd (subst (λ (c : Certificates). IsUndoubled (layout_of plan) (lengths_in (used c).x)) is undoubled kept.3.0 kept.3.1 kept.3.2)
 
 module _ (wish : Wish) (plan : Plan) (mesh : IsSomeLayout plan) where
   -- A layout has one network.
@@ -76,113 +74,86 @@ module _ (wish : Wish) (plan : Plan) (mesh : IsSomeLayout plan) where
       wrong.refuted (pos (deviation is.lengths.net (entries cert.x)))
       (wrong.told ∙ ap (λ (n : Network). cert_verdict n (certificate_of cert)) same ∙ accepted_yes is.lengths.net (certificate_of cert) is.accepted)
   not_wrong settings cert (why.TooFine faces) is coarse (certified, fine) = absurd (omega (arith, fine.0, fine.1, coarse))
-  not_wrong settings cert why.NoHead is coarse wrong = wrong
-  not_wrong settings cert why.Head is coarse wrong = wrong
-  not_wrong settings cert (why.CertLine line) is coarse wrong = wrong
-  not_wrong settings cert (why.Doubled u v) is coarse wrong = wrong
-  not_wrong settings cert (why.Byte at) is coarse wrong = wrong
+  not_wrong settings cert _ is coarse wrong = wrong
 
   -- A network that is too tangled has no certified list.
-  pub not_tangled : (settings : Settings) (auto : Bool) (count : ℕ) (first : Lists) (third : Option Lists) → AreKept wish plan settings auto first third
+  not_tangled : (settings : Settings) (auto : Bool) (count : ℕ) (certificates : Certificates) → AreKept wish plan settings auto certificates
       → IsTangledAt wish plan settings count → ⊥
-  not_tangled settings auto count first third kept tangled =
-      let is = kept_first wish plan settings auto first third kept in
+  not_tangled settings auto count certificates kept tangled =
+      let is = kept_first wish plan settings auto certificates kept in
       let same : tangled.net ≡ is.lengths.net = one_net settings tangled.net is.lengths.net tangled.is is.lengths.of_layout in
       absurd (omega (arith, tangled.high, tangled.told, ap tangle_number same, is.lengths.untangled))
 
-  -- Neither are the certificates that were kept, whatever is told of them.
-  first_fine : (settings : Settings) (auto : Bool) (first : Lists) (third : Option Lists) (why : Why) → AreKept wish plan settings auto first third
-      → AreCoarse plan (used first third).x → IsWrong wish plan settings (first_checked (made_by settings auto first third)) why → ⊥
-  first_fine settings auto first third why kept coarse wrong =
-      not_wrong settings first why (kept_first wish plan settings auto first third kept) (kept_coarse wish plan settings auto first third kept coarse)
-      (subst (λ (c : Lists). IsWrong wish plan settings c why) (first_is wish plan settings auto first third kept) wrong)
-
-  third_fine : (settings : Settings) (auto : Bool) (first : Lists) (third : Option Lists) (why : Why) → AreKept wish plan settings auto first third
-      → AreCoarse plan (used first third).x → IsThirdWrong wish plan settings (made_by settings auto first third) why → ⊥
-  third_fine settings true first (Some third) why kept coarse wrong = not_wrong (with_floor settings 3) third why kept.3 coarse wrong.wrong
-  third_fine settings _ first _ why kept coarse wrong = absurd (none-some wrong.first wrong.there)
-
-lone_fine : (wish : Wish) (plan : Plan) (settings : Settings) (auto : Bool) (first : Lists) (third : Option Lists) (why : Why) → AreKept wish plan settings auto first third
-    → IsUndoubled (layout_of plan) (lengths_in (used first third).x) → IsLoneDoubled wish plan settings (made_by settings auto first third) why → ⊥
-lone_fine wish plan settings true first None (why.Doubled u v) kept undoubled lone = undoubled u v lone.3.doubled
-lone_fine wish plan settings true first (Some third) (why.Doubled u v) kept undoubled lone = absurd (none-some first (sym lone.0))
-lone_fine wish plan settings false first None (why.Doubled u v) kept undoubled lone = undoubled u v lone.3.doubled
-lone_fine wish plan settings false first (Some third) (why.Doubled u v) kept undoubled lone = absurd kept
-lone_fine wish plan settings auto first third _ kept undoubled lone = absurd lone
-
--- The certificates that are compared with are those that were kept.
-same_third : (wish : Wish) (plan : Plan) (settings : Settings) (auto : Bool) (first one : Lists) (third other : Option Lists) → AreKept wish plan settings auto first third
-    → one ≡ first → (other ≡ None) ⊎ ((other ≡ Some (made_by settings auto first third).cert) × ((made_by settings auto first third).first ≡ Some one))
-    → IsUndoubled (layout_of plan) (lengths_in (used one other).x) → other ≡ third
-same_third wish plan settings auto first one third other kept same (inr (is, there)) undoubled = is ∙ sym (some_third settings auto first one third there)
-same_third wish plan settings auto first one None other kept same (inl none) undoubled = none
-same_third wish plan settings true first one (Some third) other kept same (inl none) undoubled =
-    let free : IsUndoubled (layout_of plan) (lengths_in first.x) =
-    subst (λ (c : Lists). IsUndoubled (layout_of plan) (lengths_in c.x)) same
-    (subst (λ (o : Option Lists). IsUndoubled (layout_of plan) (lengths_in (used one o).x)) none undoubled) in
-    absurd (free kept.2.0 kept.2.1 kept.2.2)
-same_third wish plan settings false first one (Some third) other kept same (inl none) undoubled = absurd kept
-
--- So their text is the one that is given.
-other_fine : (judged : Judged) (made : Made) (why : Why) (is : IsAligned judged judged.plan)
-    → made ≡ made_by judged.task.settings judged.task.auto is.first is.third → TellsOtherText judged made why → ⊥
-other_fine judged made (why.Byte at) is same other = other.differ.there (ap (take at) text)
-  where
-    by : Made
-    by = made_by judged.task.settings judged.task.auto is.first is.third
-
-    first : first_checked made ≡ is.first
-    first = ap first_checked same ∙ first_is judged.task.wish judged.plan judged.task.settings judged.task.auto is.first is.third is.kept
-
-    third : other.third ≡ is.third
-    third = same_third judged.task.wish judged.plan judged.task.settings judged.task.auto is.first (first_checked made) is.third other.third is.kept first
-        (subst (λ (m : Made). (other.third ≡ None) ⊎ ((other.third ≡ Some m.cert) × (m.first ≡ Some (first_checked made)))) same other.chosen)
-        other.undoubled
-
-    text : text_in judged ≡ finished_text judged.task judged.soup judged.plan (first_checked made) other.third
-    text = is.written ∙ sym (ap₂ (λ (f : Lists) (t : Option Lists). finished_text judged.task judged.soup judged.plan f t) first third)
-other_fine judged made (why.Verdict verdict) is same other = absurd other
-other_fine judged made (why.TooFine faces) is same other = absurd other
-other_fine judged made (why.Doubled u v) is same other = absurd other
-other_fine judged made why.NoHead is same other = absurd other
-other_fine judged made why.Head is same other = absurd other
-other_fine judged made (why.CertLine line) is same other = absurd other
-
 -- A task that is shown has a network that is not too tangled.
-pub shown_untangled : (task : Task) (soup : FaceSet) (text : Bytes) (plan : Plan) → IsManifold soup.faces → IsSolid soup → IsFullCut soup.faces task.marks
+pub shown_untangled : (task : Task) (soup : FaceSet) (text : Bytes) (plan : Plan) → IsSolid soup → IsFullCut soup.faces task.marks
     → IsCutLayout soup.faces task.marks plan → IsShown task soup text → (count : ℕ) → IsTangledAt task.wish plan task.settings count → ⊥
-shown_untangled task soup text plan manifold solid full laid shown count tangled =
-    not_tangled task.wish plan (cut_layout soup task.marks plan solid full laid) task.settings task.auto count shown.finished.first shown.finished.third
-    (subst (λ (p : Plan). AreKept task.wish p task.settings task.auto shown.finished.first shown.finished.third)
-    (one_layout_law soup.faces task.marks manifold full shown.finished.plan plan shown.finished.cut laid) shown.certified) tangled
+shown_untangled task soup text plan solid full laid shown count tangled =
+    not_tangled task.wish plan (cut_layout soup task.marks plan solid full laid) task.settings task.auto count shown.finished.certificates
+    (subst (λ (p : Plan). AreKept task.wish p task.settings task.auto shown.finished.certificates)
+    (one_layout_law soup.faces task.marks solid.mesh.manifold full shown.finished.plan plan shown.finished.cut laid) shown.certified) tangled
 
--- A text whose certificates or whose bytes are refused finishes no task.
 module _ (judged : Judged) (able : IsJudgeable judged) (shown : IsShown judged.task judged.soup (text_in judged)) where
-  mesh : IsSomeLayout judged.plan
-  mesh = judged_layout judged able
-
   is : IsAligned judged judged.plan
   is = aligned judged able shown
 
   abbrev by : Made
-  by = made_by judged.task.settings judged.task.auto is.first is.third
+  by = made_by judged.task.settings judged.task.auto is.certificates
 
+  -- Whatever its lines tell are the certificates that were kept.
+  module _ (made : Made) (told : TellsMade judged made) where
+    same : made.certificates ≡ is.certificates
+    same =
+        ap (λ (m : Made). m.certificates) ((is.told made).0 told)
+        ∙ told_kept judged.task.wish judged.plan judged.task.settings judged.task.auto is.certificates is.kept
+
+    -- So none of them is wrong, whichever they are called.
+    module _ (certificates : Certificates) (there : made.certificates ≡ certificates) where
+      kept : AreKept judged.task.wish judged.plan judged.task.settings judged.task.auto certificates
+      kept = subst (AreKept judged.task.wish judged.plan judged.task.settings judged.task.auto) (sym same ∙ there) is.kept
+
+      coarse : AreCoarse judged.plan (used certificates).x
+      coarse = subst (λ (c : Certificates). AreCoarse judged.plan (used c).x) (sym same ∙ there) is.coarse
+
+      undoubled : IsUndoubled (layout_of judged.plan) (lengths_in (used certificates).x)
+      undoubled = subst (λ (c : Certificates). IsUndoubled (layout_of judged.plan) (lengths_in (used c).x)) (sym same ∙ there) is.undoubled
+
+    first_fine : (why : Why) → IsWrong judged.task.wish judged.plan judged.task.settings (first_checked made.certificates) why → ⊥
+    first_fine why = not_wrong judged.task.wish judged.plan (judged_layout judged able) judged.task.settings (first_checked made.certificates) why
+        (kept_first judged.task.wish judged.plan judged.task.settings judged.task.auto made.certificates (kept made.certificates refl))
+        (kept_coarse judged.task.wish judged.plan judged.task.settings judged.task.auto made.certificates (kept made.certificates refl)
+        (coarse made.certificates refl))
+
+    lone_fine : (why : Why) → IsLoneDoubled judged.task.wish judged.plan judged.task.settings made why → ⊥
+    lone_fine (why.Doubled u v) lone = undoubled (alone lone.0) lone.1 u v lone.4.doubled
+    lone_fine _ lone = lone
+
+    third_fine : (why : Why) → IsThirdWrong judged.task.wish judged.plan judged.task.settings made why → ⊥
+    third_fine why third = not_wrong judged.task.wish judged.plan (judged_layout judged able) (with_floor judged.task.settings 3) third.cert why
+        (kept (raised third.first third.cert) third.there).4 (coarse (raised third.first third.cert) third.there) third.wrong
+
+    -- The certificates that are compared with are those too, and their text is the one that is given.
+    other_fine : (why : Why) → TellsOtherText judged made why → ⊥
+    other_fine (why.Byte at) other = other.differ.there
+        (ap (take at) (is.written ∙ ap (finished_text judged.task judged.soup judged.plan) (sym same ∙ sym (by_case other.chosen))))
+      where
+        by_case : (other.certificates ≡ alone (first_checked made.certificates)) ⊎ (other.certificates ≡ made.certificates)
+            → other.certificates ≡ made.certificates
+        by_case (inl first) = used_alone judged.task.wish judged.plan judged.task.settings judged.task.auto made.certificates other.certificates
+            (kept made.certificates refl) first other.undoubled
+        by_case (inr both) = both
+    other_fine _ other = other
+
+  -- A text whose certificates or whose bytes are refused finishes no task.
   pub text_refuted : (why : Why) → IsWrongText judged why → ⊥
   text_refuted why wrong = by_case wrong.wrong
     where
-      same : wrong.made ≡ by
-      same = (is.told wrong.made).0 wrong.told
-
-      by_case : IsWrong judged.task.wish judged.plan judged.task.settings (first_checked wrong.made) why
+      by_case : IsWrong judged.task.wish judged.plan judged.task.settings (first_checked wrong.made.certificates) why
           ⊎ (IsLoneDoubled judged.task.wish judged.plan judged.task.settings wrong.made why
           ⊎ (IsThirdWrong judged.task.wish judged.plan judged.task.settings wrong.made why ⊎ TellsOtherText judged wrong.made why)) → ⊥
-      by_case (inl one) = first_fine judged.task.wish judged.plan mesh judged.task.settings judged.task.auto is.first is.third why is.kept is.coarse
-          (subst (λ (m : Made). IsWrong judged.task.wish judged.plan judged.task.settings (first_checked m) why) same one)
-      by_case (inr (inl lone)) = lone_fine judged.task.wish judged.plan judged.task.settings judged.task.auto is.first is.third why is.kept is.undoubled
-          (subst (λ (m : Made). IsLoneDoubled judged.task.wish judged.plan judged.task.settings m why) same lone)
-      by_case (inr (inr (inl three))) = third_fine judged.task.wish judged.plan mesh judged.task.settings judged.task.auto is.first is.third why is.kept is.coarse
-          (subst (λ (m : Made). IsThirdWrong judged.task.wish judged.plan judged.task.settings m why) same three)
-      by_case (inr (inr (inr other))) = other_fine judged wrong.made why is same other
+      by_case (inl one) = first_fine wrong.made wrong.told why one
+      by_case (inr (inl lone)) = lone_fine wrong.made wrong.told why lone
+      by_case (inr (inr (inl three))) = third_fine wrong.made wrong.told why three
+      by_case (inr (inr (inr other))) = other_fine wrong.made wrong.told why other
 
   -- Nor does one with a bad line behind the head line.
   pub line_refuted : (line : ℕ) → HasBadLine (head_line judged.task.settings judged.task.auto) (judged.line + 2) (behind_in judged) line → ⊥
@@ -197,8 +168,3 @@ module _ (judged : Judged) (able : IsJudgeable judged) (shown : IsShown judged.t
 
       said : (l : CertLine) × Says by.auto (slice_index_or (behind_in judged) has.k []) l
       said = said_at by.auto (behind_in judged) how.said how.texts how.allowed has.k found.there found.marked
-
-  -- Nor does one whose network is too tangled.
-  pub tangle_refuted : (count : ℕ) → IsTangledAt judged.task.wish judged.plan judged.task.settings count → ⊥
-  tangle_refuted count tangled =
-      not_tangled judged.task.wish judged.plan mesh judged.task.settings judged.task.auto count is.first is.third is.kept tangled

@@ -1,7 +1,6 @@
 -- What certificates are checked to be.
-use Rattle.std.specs.Prelude.{◌≡◌, ◌≢◌, ◌⊎◌, ◌<◌, ◌≤◌, ◌^◌, ℕ, ℤ, Some, None, List, length, slice_index, ⊤}
-use Rattle.std.specs.Option.{option_map}
-use Rattle.def_certtext.specs.CertLines.{lists_of, Lists}
+use Rattle.std.specs.Prelude.{◌≡◌, ◌≢◌, ◌⊎◌, ◌<◌, ◌≤◌, ◌^◌, ℕ, ℤ, Bool, true, List, length, slice_index, ⊤}
+use Rattle.def_certtext.specs.CertLines.{alone, certificates_of, raised, used, Certificates, Lists}
 use Rattle.def_certtext.specs.Reading.{Made}
 use Rattle.def_certtext.specs.declared.Asked.{Asked}
 use Rattle.def_flow.specs.Accepted.{certificate, cert_verdict}
@@ -11,6 +10,7 @@ use Rattle.def_flow.specs.Network.{Network}
 use Rattle.def_flow.specs.declared.cert.Cert.{Cert}
 use Rattle.def_flow.specs.declared.cert.CertVerdict.TheVariants.{Yes}
 use Rattle.def_flow.specs.declared.limits.TheConstants.{MAX_FLOOR, MAX_LENGTH}
+use Rattle.def_flow.specs.declared.net.Settings.{Settings}
 use Rattle.def_io.specs.Bytes.{Bytes}
 use Rattle.def_layout.specs.Plans.{Plan, layout_of}
 use Rattle.def_matching.specs.Dual.{IsSmallDual}
@@ -18,9 +18,10 @@ use Rattle.def_remesh.specs.Keeping.{IsKept}
 use Rattle.def_remesh.specs.NewPoints.{lengths_in}
 use Rattle.def_remesh.specs.Refusals.{AreTooFine}
 use Rattle.def_remesh.specs.Certified.{certificate_of}
-use Rattle.def_remesh.specs.Remeshed.{AreCoarse, used}
+use Rattle.def_remesh.specs.Remeshed.{AreCoarse}
 use Rattle.def_remesh.specs.Tasks.{Wish}
 use Rattle.def_run.specs.Judging.{DifferFrom, first_checked, IsLoneDoubled, IsThirdWrong, IsWrong}
+use Rattle.def_run.specs.declared.answer.Why.{Why}
 use Rattle.def_run.specs.declared.answer.Why.TheVariants as why
 use Rattle.def_written.specs.Edges.{IsFirstDoubled}
 use Rattle.remesh_laws.specs.Keeps.{IsNumbered}
@@ -35,6 +36,11 @@ pub record IsInReach (cert : Lists) : Type 0 where
   pub few : length cert.x < 2 ^ 32
   pub short : (k : ℕ) → k < length cert.x → slice_index cert.x k ≤ MAX_LENGTH
   pub small : IsSmallDual (certificate_of cert).dual
+
+-- So are those of a text, which is one of `auto` where there are two.
+abbrev pub AreInReach : (auto : Bool) (certificates : Certificates) → Type 0
+AreInReach auto (alone cert) = IsInReach cert
+AreInReach auto (raised first cert) = IsInReach first × IsInReach cert × (auto ≡ true)
 
 -- What lengths give: a new mesh, or a doubled edge, which comes only below the greatest floor.
 abbrev pub Gives : (plan : Plan) (net : Network) (xs : List ℕ) (lengths : Lengths) → Type 0
@@ -51,32 +57,34 @@ GivesNone plan net cert (NotAccepted (why.TooFine faces)) =
 GivesNone plan net cert Memory = ⊤
 GivesNone plan net cert _ = ⊥
 
--- How a text was made with one certificate, and with one for floor 1 and one for floor 3.
-abbrev pub made_once : (asked : Asked) (cert : Lists) → Made
-made_once asked cert = record { settings = asked.settings; auto = asked.auto; first = None; cert = cert }
-
-abbrev pub made_twice : (asked : Asked) (first third : Lists) → Made
-made_twice asked first third = record { settings = asked.settings; auto = asked.auto; first = Some first; cert = third }
+-- How a text was made that was asked for so, with these certificates.
+abbrev pub made_as : (asked : Asked) (certificates : Certificates) → Made
+made_as asked certificates = record { settings = asked.settings; auto = asked.auto; certificates = certificates }
 
 -- What is kept by the certificates of a text: those that are used, the numbers of the new mesh, and the deviation.
 pub record IsChecked (wish : Wish) (plan : Plan) (net : Network) (made : Made) (checked : Checked) : Type 0 where
-  pub kept : IsKept wish plan made.settings made.auto (lists_of checked.remesh.first)
-      (option_map lists_of checked.remesh.third) checked.remesh.numbering
-  pub settings : checked.remesh.asked.settings ≡ made.settings
-  pub auto : checked.remesh.asked.auto ≡ made.auto
-  pub first : lists_of checked.remesh.first ≡ first_checked made
-  pub chosen : (option_map lists_of checked.remesh.third ≡ None)
-      ⊎ ((option_map lists_of checked.remesh.third ≡ Some made.cert) × (made.first ≡ Some (first_checked made)))
-  pub deviates : checked.deviation
-      ≡ deviation net (entries (used (lists_of checked.remesh.first) (option_map lists_of checked.remesh.third)).x)
+  pub kept : IsKept wish plan checked.remesh.asked.settings checked.remesh.asked.auto
+      (certificates_of checked.remesh.certs) checked.remesh.numbering
+  pub asked : checked.remesh.asked ≡ record { settings = made.settings; auto = made.auto }
+  pub chosen : (certificates_of checked.remesh.certs ≡ alone (first_checked made.certificates))
+      ⊎ (certificates_of checked.remesh.certs ≡ made.certificates)
+  pub deviates : checked.deviation ≡ deviation net (entries (used (certificates_of checked.remesh.certs)).x)
+
+-- One of the certificates of a text is wrong.
+abbrev pub HasWrongCert : (wish : Wish) (plan : Plan) (settings : Settings) (made : Made) (why : Why) → Type 0
+HasWrongCert wish plan settings made why =
+    IsWrong wish plan settings (first_checked made.certificates) why ⊎ IsThirdWrong wish plan settings made why
 
 -- Why the certificates of a text are not used.
-abbrev pub IsUnused : (wish : Wish) (plan : Plan) (made : Made) (fail : CheckFail) → Type 0
-IsUnused wish plan made (NotAccepted why) =
-    IsWrong wish plan made.settings (first_checked made) why
-    ⊎ (IsLoneDoubled wish plan made.settings made why ⊎ IsThirdWrong wish plan made.settings made why)
-IsUnused wish plan made Memory = ⊤
-IsUnused wish plan made _ = ⊥
+abbrev pub IsUnused : (wish : Wish) (plan : Plan) (settings : Settings) (made : Made) (fail : CheckFail) → Type 0
+IsUnused wish plan settings made (NotAccepted (why.Verdict verdict)) =
+    HasWrongCert wish plan settings made (why.Verdict verdict)
+IsUnused wish plan settings made (NotAccepted (why.TooFine faces)) =
+    HasWrongCert wish plan settings made (why.TooFine faces)
+IsUnused wish plan settings made (NotAccepted (why.Doubled u v)) =
+    IsLoneDoubled wish plan settings made (why.Doubled u v)
+IsUnused wish plan settings made Memory = ⊤
+IsUnused wish plan settings made _ = ⊥
 
 -- The bytes are not this text.
 abbrev pub IsDifference : (given text : Bytes) (fail : CheckFail) → Type 0

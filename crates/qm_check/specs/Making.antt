@@ -2,14 +2,12 @@
 use Rattle.std.specs.Prelude.{◌≡◌, ◌≢◌, ⊤}
 use Rattle.def_io.specs.Bytes.{Bytes}
 use Rattle.def_io.specs.Lines.{lines_of}
-use Rattle.def_layout.specs.Plans.{plan}
 use Rattle.def_map.specs.MapText.{map_text}
 use Rattle.def_marks.specs.declared.fail.MarkFail.{MarkFail}
 use Rattle.def_marks.specs.declared.fail.MarkFail.TheVariants as mark_fail
 use Rattle.def_flow.specs.declared.net.Settings.{Settings}
+use Rattle.def_remesh.specs.CutSoups.{Regrid}
 use Rattle.def_remesh.specs.NewPoints.{lengths_in}
-use Rattle.def_remesh.specs.Numberings.{IsNumbering}
-use Rattle.def_remesh.specs.Placings.{ArePlaces}
 use Rattle.def_remesh.specs.Tasks.{Task}
 use Rattle.def_run.specs.Check.{head_of}
 use Rattle.def_run.specs.Crease.{HasMarkFail}
@@ -23,8 +21,6 @@ use Rattle.def_run.specs.declared.command.Command.TheVariants.{Crease}
 use Rattle.def_text.specs.FaceSet.{FaceSet}
 use Rattle.qm_certtext.specs.declared.last.HeadAt.{HeadAt}
 use Rattle.qm_check.specs.Ready.{CutsAt, IsOld, IsReady}
-use Rattle.qm_check.specs.declared.map.Mapped.{Mapped}
-use Rattle.qm_check.specs.declared.old.Old.{Old}
 use Rattle.qm_check.specs.declared.ready.Ready.{Ready}
 
 -- A task that a command asks of a soup, and the only one.
@@ -35,7 +31,7 @@ pub record IsOnlyTask (command : Command) (front : Bytes) (soup : FaceSet) (task
 -- What is made ready for it.
 pub record IsReadyFor (command : Command) (front : Bytes) (ready : Ready) : Type 0 where
   pub task : Task
-  pub only : IsOnlyTask command front ready.soup task
+  pub only : IsOnlyTask command front ready.cut.soup task
   pub holds : IsReady task ready
 
 -- The command writes no text for this one.
@@ -63,25 +59,12 @@ pub record IsMarkedAt (bytes : Bytes) (mark : HeadAt) : Type 0 where
   pub cuts : CutsAt bytes mark
 
 -- It is the head line of this command and of no other, and the bytes before it have this mesh.
-pub record IsGivenTo (bytes : Bytes) (mark : HeadAt) (old : Old) (command : Command) : Type 0 where
+pub record IsGivenTo (bytes : Bytes) (mark : HeadAt) (old : FaceSet) (command : Command) : Type 0 where
   pub marked : IsMarkedAt bytes mark
   pub read : IsOld (front_of mark.line bytes) old
   pub is : IsMarkLine (head_of bytes mark.line) command
   pub alone : (other : Command) → IsMarkLine (head_of bytes mark.line) other → other ≡ command
 
--- What stands from the line on is judged by what was made ready for its command and the mesh in front of it.
-pub record IsMadeFrom (bytes : Bytes) (mark : HeadAt) (ready : Ready) : Type 0 where
-  pub old : Old
-  pub command : Command
-  pub given : IsGivenTo bytes mark old command
-  pub for : IsReadyFor command (front_of mark.line bytes) ready
-  pub same : ready.soup ≡ old.soup
-
--- The bytes have the map of these points.
-pub record IsMappedOf (bytes : Bytes) (mapped : Mapped) : Type 0 where
-  pub mesh : mapped.cut.mesh ≡ mapped.soup.faces
-  pub numbering : IsNumbering (plan mapped.cut.layout) mapped.points.numbering
-  pub places : ArePlaces mapped.cut.mesh (plan mapped.cut.layout) mapped.points.places
-  pub lengths : mapped.points.places.lengths.items ≡ mapped.points.numbering.lengths.items
-  pub map : WritesMap bytes
-      (map_text mapped.soup (plan mapped.cut.layout) (lengths_in mapped.points.numbering.lengths.items))
+-- The bytes have the map of this new mesh.
+abbrev pub HasMapOf : (bytes : Bytes) (new : Regrid) → Type 0
+HasMapOf bytes new = WritesMap bytes (map_text new.soup new.plan (lengths_in new.lengths))

@@ -6,7 +6,6 @@ use Rattle.std.specs.Option.{option_map}
 use Rattle.def_certtext.specs.HeadLine.{IsLastHead}
 use Rattle.def_certtext.specs.Reading.{HasBadLine}
 use Rattle.def_certtext.specs.Settings.{AreInRange}
-use Rattle.def_certtext.specs.declared.Asked.{Asked}
 use Rattle.def_cut.specs.FullCut.{IsFullCut}
 use Rattle.def_flow.specs.Network.{network}
 use Rattle.def_io.specs.Bytes.{Bytes}
@@ -14,30 +13,28 @@ use Rattle.def_io.specs.Lines.{lines_of, tail_of}
 use Rattle.def_io.specs.declared.TheConstants.{LINE_FEED}
 use Rattle.def_layout.specs.FaceLayouts.{IsCutLayout}
 use Rattle.def_layout.specs.Lengths.{Lengths}
-use Rattle.def_layout.specs.Plans.{plan, Plan}
+use Rattle.def_layout.specs.Plans.{Plan}
 use Rattle.def_marks.specs.Lines.{marks_in}
 use Rattle.def_marks.specs.MarkedText.{marked_text}
 use Rattle.def_marks.specs.declared.fail.MarkFail.TheVariants as marks
 use Rattle.def_mesh.specs.Faults.{IsFirstFault}
 use Rattle.def_mesh.specs.Manifold.{IsManifold}
+use Rattle.def_remesh.specs.CutSoups.{CutSoup}
 use Rattle.def_remesh.specs.Keeping.{IsNetFor}
-use Rattle.def_remesh.specs.Placings.{IsMeshLayout}
-use Rattle.def_remesh.specs.Refusals.{IsTangledAt}
-use Rattle.def_remesh.specs.Tasks.{old_lengths, Task}
+use Rattle.def_remesh.specs.Tasks.{Task}
 use Rattle.def_remesh.specs.TextLaws.{IsSolid}
+use Rattle.def_run.specs.Mesh.{IsMeshText}
 use Rattle.def_run.specs.declared.answer.Why.TheVariants as why
 use Rattle.def_run.specs.declared.check_fail.CheckFail.{CheckFail}
-use Rattle.def_run.specs.declared.check_fail.CheckFail.TheVariants.{NotAccepted, Old as OldFail, NotManifold, Marks, Tangled, Memory}
+use Rattle.def_run.specs.declared.check_fail.CheckFail.TheVariants.{NotAccepted, Old, NotManifold, Marks, Memory}
 use Rattle.def_text.specs.FaceSet.{FaceSet}
 use Rattle.def_text.specs.Text.{soup_in}
 use Rattle.def_text.specs.declared.limits.TheConstants.{MAX_V_LINES}
 use Rattle.def_text.specs.declared.refusal.ObjFail.TheVariants as obj
 use Rattle.qm_certtext.specs.declared.last.HeadAt.{HeadAt}
-use Rattle.qm_check.specs.declared.old.Old.{Old}
 use Rattle.qm_check.specs.declared.ready.Frame.{Frame}
 use Rattle.qm_check.specs.declared.ready.Ready.{Ready}
 use Rattle.qm_obj.proofs.LawText.{is_inside}
-use Rattle.qm_write.specs.declared.body.CutMesh.{CutMesh}
 
 -- A line of the bytes begins there.
 pub record CutsAt (bytes : Bytes) (head : HeadAt) : Type 0 where
@@ -51,24 +48,15 @@ pub record DividesAt (bytes : Bytes) (head : HeadAt) : Type 0 where
   pub last : IsLastHead (lines_of bytes) head.line
   pub cuts : CutsAt bytes head
 
--- The text has this soup, whose faces are a manifold with this mesh.
-pub record IsOld (text : Bytes) (old : Old) : Type 0 where
-  pub said : soup_in text ≡ Ok old.soup
-  pub manifold : IsManifold old.soup.faces
-  pub solid : IsSolid old.soup
-  pub mesh : old.mesh ≡ old.soup.faces
-  pub few : length old.soup.pos ≤ MAX_V_LINES
-
--- Why a soup is no mesh, where there is memory.
-abbrev pub IsNoMeshOf : (soup : FaceSet) (fail : CheckFail) → Type 0
-IsNoMeshOf soup (NotManifold place other) =
-    (other ≡ soup) × IsFirstFault soup.faces place × (¬ IsManifold soup.faces)
-IsNoMeshOf soup Memory = ⊤
-IsNoMeshOf soup _ = ⊥
+-- The text has this soup, whose faces are a manifold, and which can be written.
+pub record IsOld (text : Bytes) (soup : FaceSet) : Type 0 where
+  pub mesh : IsMeshText text soup
+  pub solid : IsSolid soup
+  pub few : length soup.pos ≤ MAX_V_LINES
 
 -- Why a text has no mesh, where there is memory.
 abbrev pub IsNoOld : (text : Bytes) (fail : CheckFail) → Type 0
-IsNoOld text (OldFail fail) = (fail ≢ obj.Memory) × (soup_in text ≡ Err fail)
+IsNoOld text (Old fail) = (fail ≢ obj.Memory) × (soup_in text ≡ Err fail)
 IsNoOld text (NotManifold place soup) =
     (soup_in text ≡ Ok soup) × IsFirstFault soup.faces place × (¬ IsManifold soup.faces)
 IsNoOld text Memory = ⊤
@@ -84,43 +72,20 @@ abbrev pub marks_of : (frame : Frame) → Option (List Bool)
 marks_of frame = option_map (λ marks. marks.items) frame.marks
 
 -- A mesh that is cut as a task asks, in the frame of its text.
-pub record IsLaidOut (task : Task) (soup : FaceSet) (cut : CutMesh) (frame : Frame) : Type 0 where
-  pub manifold : IsManifold soup.faces
-  pub solid : IsSolid soup
-  pub mesh : cut.mesh ≡ soup.faces
-  pub full : IsFullCut soup.faces task.marks
-  pub laid : IsCutLayout soup.faces task.marks (plan cut.layout)
-  pub lies : IsMeshLayout soup.faces (plan cut.layout)
+pub record IsLaidOut (task : Task) (cut : CutSoup) (frame : Frame) : Type 0 where
+  pub solid : IsSolid cut.soup
+  pub full : IsFullCut cut.soup.faces task.marks
+  pub laid : IsCutLayout cut.soup.faces task.marks cut.plan
   pub range : AreInRange task.settings task.auto
-  pub settings : frame.asked.settings ≡ task.settings
-  pub auto : frame.asked.auto ≡ task.auto
+  pub asked : frame.asked ≡ record { settings = task.settings; auto = task.auto }
   pub head : frame.head.items ≡ task.head ++ LINE_FEED ∷ []
   pub inside : list_all is_inside task.head ≡ true
   pub between : (plan : Plan) (new : Lengths) → task.between plan new ≡ between_text (marks_of frame) plan new
 
 -- The same with the network of the task.
 pub record IsReady (task : Task) (ready : Ready) : Type 0 where
-  pub laid_out : IsLaidOut task ready.soup ready.cut ready.frame
-  pub net : IsNetFor task.wish (plan ready.cut.layout) task.settings (network ready.net)
-
--- The network of the task is too tangled.
-pub record IsTangledFor (task : Task) (soup : FaceSet) (count : ℕ) : Type 0 where
-  pub plan : Plan
-  pub laid : IsCutLayout soup.faces task.marks plan
-  pub lies : IsMeshLayout soup.faces plan
-  pub tangled : IsTangledAt task.wish plan task.settings count
-
--- Why a layout has no network near its old lengths, where there is memory.
-abbrev pub HasNoNet : (plan : Plan) (asked : Asked) (fail : CheckFail) → Type 0
-HasNoNet plan asked (Tangled count) = IsTangledAt old_lengths plan asked.settings count
-HasNoNet plan asked Memory = ⊤
-HasNoNet plan asked _ = ⊥
-
--- Why a task has no network, where there is memory.
-abbrev pub IsUnready : (task : Task) (soup : FaceSet) (fail : CheckFail) → Type 0
-IsUnready task soup (Tangled count) = IsTangledFor task soup count
-IsUnready task soup Memory = ⊤
-IsUnready task soup _ = ⊥
+  pub laid_out : IsLaidOut task ready.cut ready.frame
+  pub net : IsNetFor task.wish ready.cut.plan task.settings (network ready.net)
 
 -- Why the lines behind a head line tell nothing: one of them is bad.
 abbrev pub TellsNothing : (head bytes : Bytes) (line : ℕ) (fail : CheckFail) → Type 0

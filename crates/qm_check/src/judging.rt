@@ -17,18 +17,16 @@ use crate::parts::{text_behind, written_text};
 use crate::ready::Ready;
 use def_certtext::{Asked, CertFail, Written};
 use def_run::{CheckFail, Why};
-use def_text::Soup;
 use qm_certtext::{HeadAt, read_certs};
-use qm_write::{CutMesh, Framed, NewPoints};
+use qm_cutmesh::Regridded;
+use qm_write::Framed;
 use std::alloc::Global;
 
-/// What a text shows that finishes a task: the mesh that it was made of, the points of the new mesh, and how far its
-/// lengths are from what is wanted.
+/// What a text shows that finishes a task: the new mesh, over the one that it was made of, and how far its lengths are
+/// from what is wanted.
 #[derive(Drop)]
 pub(crate) struct Finished {
-    pub(crate) soup: Soup,
-    pub(crate) cut: CutMesh,
-    pub(crate) points: NewPoints,
+    pub(crate) new: Regridded,
     pub(crate) deviation: u128,
 }
 
@@ -46,27 +44,20 @@ pub(crate) fn judge_text(
     ensures finished { (task : Task) → IsReady task ready
         → IfOk result (Finishes task ready (tail_of head.line bytes.now)) }
     ensures refused { (task : Task) → IsReady task ready
-        → IfErr result (IsTextFail (judged_by bytes.now head.line ready task)) }
+        → IfErr result (IsTextFail (judged_by bytes.now head.line ready.cut task)) }
 {
     let written = read_certificates(alloc, bytes, head, ready.frame.asked)?;
-    let Ready {
-        soup,
-        cut,
-        frame,
-        net,
-    } = ready;
-    let checked = check_written(alloc, &cut.layout, net, written)?;
-    let between = lines_between(alloc, frame.marks, &cut.layout, &checked.remesh)?;
+    let Ready { cut, frame, net } = ready;
+    let checked = check_written(alloc, &cut, net, written)?;
+    let between = lines_between(alloc, frame.marks, &cut, &checked.remesh)?;
     let framed = Framed {
         head: frame.head,
         between,
         remesh: checked.remesh,
     };
-    let points = compare(alloc, written_text(bytes, head), &soup, &cut, framed)?;
+    let new = compare(alloc, written_text(bytes, head), cut, framed)?;
     Ok(Finished {
-        soup,
-        cut,
-        points,
+        new,
         deviation: checked.deviation,
     })
 }

@@ -7,17 +7,17 @@ ghost use Rattle.def_flow.specs.Admissible.{deviation as deviation_of, entries};
 ghost use Rattle.def_flow.specs.Descent.{IsSolution};
 ghost use Rattle.def_flow.specs.Network.{network};
 ghost use Rattle.def_flow.specs.declared.net.Settings.{Settings as AnySettings};
-ghost use Rattle.def_layout.specs.Plans.{plan as plan_of, Plan};
+ghost use Rattle.def_layout.specs.Plans.{Plan};
 ghost use Rattle.qm_check.specs.Checked.{Gives, GivesNone, IsInReach};
 ghost use Rattle.def_remesh.specs.Keeping.{IsNetFor};
 ghost use Rattle.def_remesh.specs.Tasks.{Wish};
 
 use def_flow::{Cert, CertVerdict, Net};
-use def_layout::TMesh;
 use def_remesh::StitchFail;
 use def_run::{CheckFail, Why};
 use qm_cert::accepts;
-use qm_stitch::{Numbering, plan};
+use qm_cutmesh::{CutMesh, plan_over};
+use qm_stitch::Numbering;
 use std::alloc::Global;
 
 /// What the lengths of an accepted certificate give.
@@ -38,18 +38,18 @@ pub(crate) enum Lengths {
 /// Checks a certificate, and numbers the new mesh that its lengths give.
 pub(crate) fn check_lengths(
     alloc: Global,
-    t: &TMesh,
+    cut: &CutMesh,
     net: &Net,
     cert: &Cert,
 ) -> Result<Lengths, CheckFail>
-    requires net { (wish : Wish) × (settings : AnySettings) × IsNetFor wish (plan_of t.now) settings (network net.now) }
+    requires net { (wish : Wish) × (settings : AnySettings) × IsNetFor wish cut.now.plan settings (network net.now) }
     requires cert { IsInReach (lists_of cert.now) }
     ensures solved { OnOk result (IsSolution (network net.now) (certificate cert.now)) }
-    ensures gives { IfOk result (Gives (plan_of t.now) (network net.now) cert.now.x.items) }
-    ensures refused { IfErr result (GivesNone (plan_of t.now) (network net.now) cert.now) }
+    ensures gives { IfOk result (Gives cut.now.plan (network net.now) cert.now.x.items) }
+    ensures refused { IfErr result (GivesNone cut.now.plan (network net.now) cert.now) }
 {
     let deviation = accepted_deviation(alloc, net, cert)?;
-    match plan(alloc, t, &cert.x) {
+    match plan_over(alloc, cut, &cert.x) {
         Ok(numbering) => Ok(Lengths::Whole {
             numbering,
             deviation,

@@ -6,6 +6,7 @@ mod between;
 mod certificates;
 mod comparing;
 mod judging;
+mod least;
 mod lengths;
 mod making;
 mod map;
@@ -17,5 +18,5 @@ mod ready;
 mod refined;
 
 pub use def_run::{CheckFail, Why};
-pub use map::{Mapped, judge};
+pub use map::judge;
 pub use pair::{Accepted, check_pair};

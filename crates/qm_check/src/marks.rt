@@ -1,6 +1,6 @@
 //! The edges that the `l` lines of an old text mark.
 
-ghost use Rattle.std.specs.Prelude.{◌≡◌, ◌≢◌, ◌≤◌, length, Ok, Err, IfErr, IfOk};
+ghost use Rattle.std.specs.Prelude.{◌≡◌, ◌≤◌, length, Ok, Err, IfErr, IfOk};
 ghost use Rattle.def_feature.specs.Marks.{AreMarks};
 ghost use Rattle.def_marks.specs.Lines.{marks_in};
 ghost use Rattle.qm_check.specs.Ready.{IsLineFail};
@@ -8,29 +8,25 @@ ghost use Rattle.qm_check.specs.Refused.{of_marks};
 
 use def_marks::MarkFail;
 use def_run::CheckFail;
-use def_text::{MAX_BYTES, MAX_V_LINES, Soup};
+use def_text::{MAX_BYTES, MAX_V_LINES};
+use qm_cutmesh::Meshed;
 use qm_io::{Lines, MemSource, read_lines};
 use qm_marks::read_marks;
-use qm_mesh::Mesh;
 use std::alloc::Global;
 
 /// A mark for each dart of the mesh of a text, or the first refusal of its `l` lines.
-pub(crate) fn old_marks(
-    alloc: Global,
-    text: &[u8],
-    soup: &Soup,
-    mesh: &Mesh,
-) -> Result<Vec<bool>, CheckFail>
+pub(crate) fn old_marks(alloc: Global, text: &[u8], old: &Meshed) -> Result<Vec<bool>, CheckFail>
     requires few { length text.now ≤ MAX_BYTES }
-    requires names { length soup.now.names ≤ MAX_V_LINES }
-    requires mesh { mesh.now ≡ soup.now.faces }
-    ensures marks { IfOk result (λ marks. marks_in text.now soup.now ≡ Ok marks.items) }
-    ensures inner { IfOk result (λ marks. AreMarks mesh.now marks.items) }
-    ensures refused { IfErr result (IsLineFail text.now soup.now) }
+    requires places { length old.now.pos ≤ MAX_V_LINES }
+    ensures marks { IfOk result (λ marks. marks_in text.now old.now ≡ Ok marks.items) }
+    ensures inner { IfOk result (λ marks. AreMarks old.now.faces marks.items) }
+    ensures refused { IfErr result (IsLineFail text.now old.now) }
 {
     let lines = lines_in(alloc, text)?;
     let after = lines.count();
-    match read_marks(alloc, &lines, 0, after, soup, mesh) {
+    let given = old.soup();
+    let _names = &given.names;
+    match read_marks(alloc, &lines, 0, after, given, old.mesh()) {
         Ok(marks) => Ok(marks),
         Err(fail) => Err(refusal_of(fail)),
     }

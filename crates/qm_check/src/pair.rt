@@ -1,15 +1,18 @@
 //! One text of a pair, from its bytes to the verdict.
 
-ghost use Rattle.std.specs.Prelude.{◌≤◌, length, IfErr, IfOk};
-ghost use Rattle.def_run.specs.Check.{HasOldSoup, IsCountedPair};
+ghost use Rattle.std.specs.Prelude.{◌≡◌, ◌≤◌, ◌<◌, ◌^◌, length, IfErr, IfOk};
+ghost use Rattle.def_layout.specs.Plans.{layout_of};
+ghost use Rattle.def_remesh.specs.NewPoints.{lengths_in};
+ghost use Rattle.def_run.specs.Check.{IsCountedPair};
 ghost use Rattle.def_run.specs.CheckFails.{IsCheckFail};
 ghost use Rattle.def_text.specs.declared.limits.TheConstants.{MAX_BYTES};
-ghost use Rattle.def_io.specs.Bytes.{Bytes};
-ghost use Rattle.qm_check.specs.Ready.{DividesAt, IsOld};
+ghost use Rattle.def_written.specs.NewFaces.{face_count};
+ghost use Rattle.qm_check.specs.Ready.{DividesAt};
 
-use crate::judging::judge_text;
-use crate::making::ready_to_remesh;
-use crate::old::{Old, read_old};
+use crate::judging::{Finished, judge_text};
+use crate::least::Least;
+use crate::making::ready_for;
+use crate::old::read_old;
 use crate::parts::{head_line, old_text};
 use def_run::{CheckFail, Why};
 use qm_certtext::{HeadAt, find_head, read_head};
@@ -43,28 +46,29 @@ fn check_parts(alloc: Global, bytes: &[u8], head: HeadAt) -> Result<Accepted, Ch
     ensures accepted { IfOk result (λ told. IsCountedPair bytes.now told.arcs told.faces told.deviation) }
     ensures refused { IfErr result (IsCheckFail bytes.now) }
 {
-    let old = read_old(alloc, old_text(bytes, head))?;
-    check_behind(alloc, bytes, head, old)
-}
-
-/// Checks what stands behind the old text.
-fn check_behind(alloc: Global, bytes: &[u8], head: HeadAt, old: Old) -> Result<Accepted, CheckFail>
-    requires few { length bytes.now ≤ MAX_BYTES }
-    requires head { DividesAt bytes.now head }
-    requires old { (text : Bytes) × IsOld text old }
-    requires soup { HasOldSoup bytes.now head.line old.soup }
-    ensures accepted { IfOk result (λ told. IsCountedPair bytes.now told.arcs told.faces told.deviation) }
-    ensures refused { IfErr result (IsCheckFail bytes.now) }
-{
+    let text = old_text(bytes, head);
     let line = head_line(bytes, head);
+    let old = read_old(alloc, text)?;
     let Some(asked) = read_head(line) else {
         return Err(CheckFail::NotAccepted { why: Why::Head });
     };
-    let ready = ready_to_remesh(alloc, line, old, asked)?;
+    let ready = ready_for(alloc, text, line, old, Least::Remesh { asked })?;
     let finished = judge_text(alloc, bytes, head, ready)?;
-    Ok(Accepted {
-        arcs: finished.cut.layout.arcs.len() as u32,
-        faces: finished.points.numbering.faces(),
+    Ok(told_of(&finished))
+}
+
+/// What is told of a text that is finished.
+fn told_of(finished: &Finished) -> Accepted
+    requires { length finished.now.new.plan.arcs < 2 ^ 32 }
+    ensures arcs { result.arcs ≡ length finished.now.new.plan.arcs }
+    ensures faces { result.faces
+        ≡ face_count (layout_of finished.now.new.plan) (lengths_in finished.now.new.lengths) }
+    ensures deviation { result.deviation ≡ finished.now.deviation }
+{
+    let layout = finished.new.cut().layout();
+    Accepted {
+        arcs: layout.arcs.len() as u32,
+        faces: finished.new.faces(),
         deviation: finished.deviation,
-    })
+    }
 }

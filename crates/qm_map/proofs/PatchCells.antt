@@ -1,35 +1,19 @@
 -- The cells of a patch, and the lines of all patches.
-use Rattle.std.proofs.Common.{◌≡◌, ℕ, suc, ◌*◌, ◌/◌, ◌%◌, ◌<◌, ◌≤◌, length, map, subst, arith}
+use Rattle.std.proofs.Common.{◌≡◌, ℕ, ◌*◌, ◌/◌, ◌%◌, ◌<◌, length, map, subst, arith}
 use Rattle.std.specs.List.{flat_map, range_with_len}
 use Rattle.std.proofs.Math.Nat.{mul_comm}
-use Rattle.def_layout.specs.Lengths.{Lengths, wide, high}
+use Rattle.def_layout.specs.Lengths.{Lengths}
 use Rattle.def_layout.specs.Plans.{Plan, layout_of}
 use Rattle.def_map.specs.Homes.{dart_home}
 use Rattle.def_map.specs.MapText.{cell_line, cell_lines}
-use Rattle.def_mesh.specs.Faces.{Faces}
-use Rattle.def_remesh.specs.NewPoints.{lengths_in}
-use Rattle.def_remesh.specs.Placings.{ArePlaces}
-use Rattle.def_remesh.specs.declared.limits.TheConstants.{MAX_NEW_FACES}
-use Rattle.def_remesh.specs.declared.places.PlaceTables.{PlaceTables}
-use Rattle.def_written.specs.NewFaces.{cells_before}
 use Rattle.map_laws.proofs.Cells.{by_patches}
 use Rattle.qm_map.specs.PatchLines.{patch_lines}
 use Rattle.written_laws.proofs.EdgeNumbers.{in_rows}
-use Rattle.written_laws.proofs.Runs.{count_rises}
 
 -- The lines of all patches are those of all cells.
 pub all_lines : (plan : Plan) (new : Lengths)
     → flat_map (patch_lines plan new) (map (λ p. p) (range_with_len 0 (length plan.patches))) ≡ cell_lines plan new
 all_lines plan new = by_patches (layout_of plan) new (dart_home plan new) cell_line (length plan.patches) (omega arith)
-
--- A patch has no more cells than a new mesh may have faces.
-pub cells_few : (faces : Faces) (plan : Plan) (tables : PlaceTables) → ArePlaces faces plan tables → (p : ℕ) → p < length plan.patches
-    → wide (layout_of plan) (lengths_in tables.lengths.items) p * high (layout_of plan) (lengths_in tables.lengths.items) p ≤ MAX_NEW_FACES
-cells_few faces plan tables are p low =
-    let le : cells_before (layout_of plan) (lengths_in tables.lengths.items) (suc p) ≤ cells_before (layout_of plan) (lengths_in tables.lengths.items) (length plan.patches) =
-    count_rises (λ q. wide (layout_of plan) (lengths_in tables.lengths.items) q * high (layout_of plan) (lengths_in tables.lengths.items) q)
-    (suc p) (length plan.patches) (omega (arith, low)) in
-    omega (arith, are.few, le)
 
 -- Cell k lies in a column and a row.
 pub in_grid : (w h k : ℕ) → k < w * h → (k % w < w) × (k / w < h) × (0 < w)

@@ -1,56 +1,41 @@
 //! The lines of the new faces.
 
-ghost use Rattle.std.specs.Prelude.{◌<◌, OnOk, OnErr, ℕ, length};
+ghost use Rattle.std.specs.Prelude.{◌<◌, OnOk, OnErr, length};
 ghost use Rattle.std.specs.List.{flat_map};
-ghost use Rattle.def_layout.specs.Plans.{plan};
 ghost use Rattle.def_map.specs.MapText.{cell_front, cell_line, cell_lines, seen_text};
-ghost use Rattle.def_mesh.specs.Faces.{Faces};
 ghost use Rattle.def_remesh.specs.NewPoints.{lengths_in};
-ghost use Rattle.def_remesh.specs.Placings.{ArePlaces};
 ghost use Rattle.qm_map.specs.PatchLines.{patch_lines};
 
 use crate::lines::{cell_front, seen_text};
-use def_layout::TMesh;
 use def_map::{Home, Seen};
 use def_output::Stopped;
+use qm_cutmesh::Regridded;
 use qm_output::Output;
-use qm_place::Places;
 
 /// Puts a line for each face, patch by patch.
-pub(crate) fn put_cells<T: Output>(
-    out: &mut T,
-    layout: &TMesh,
-    places: &Places,
-) -> Result<(), Stopped>
-    requires places { (faces : Faces) × ArePlaces faces (plan layout.now) places.now }
+pub(crate) fn put_cells<T: Output>(out: &mut T, new: &Regridded) -> Result<(), Stopped>
     ensures whole { OnOk result (T.takes out.old out.new
-        (cell_lines (plan layout.now) (lengths_in places.now.lengths.items))) }
+        (cell_lines new.now.plan (lengths_in new.now.lengths))) }
     ensures part { OnErr result (T.stops out.old out.new
-        (cell_lines (plan layout.now) (lengths_in places.now.lengths.items))) }
+        (cell_lines new.now.plan (lengths_in new.now.lengths))) }
 {
-    for patch in 0..layout.patches.len() {
-        put_patch(out, layout, places, patch)?;
+    for patch in 0..new.cut().layout().patches.len() {
+        put_patch(out, new, patch)?;
     }
     Ok(())
 }
 
 /// Puts a line for each face of a patch, row by row.
-fn put_patch<T: Output>(
-    out: &mut T,
-    layout: &TMesh,
-    places: &Places,
-    patch: usize,
-) -> Result<(), Stopped>
-    requires places { (faces : Faces) × ArePlaces faces (plan layout.now) places.now }
-    requires patch { patch < length layout.now.patches.items }
+fn put_patch<T: Output>(out: &mut T, new: &Regridded, patch: usize) -> Result<(), Stopped>
+    requires { patch < length new.now.plan.patches }
     ensures whole { OnOk result (T.takes out.old out.new
-        (patch_lines (plan layout.now) (lengths_in places.now.lengths.items) patch)) }
+        (patch_lines new.now.plan (lengths_in new.now.lengths) patch)) }
     ensures part { OnErr result (T.stops out.old out.new
-        (patch_lines (plan layout.now) (lengths_in places.now.lengths.items) patch)) }
+        (patch_lines new.now.plan (lengths_in new.now.lengths) patch)) }
 {
-    let rim = places.rim(layout, patch);
+    let rim = new.rim(patch);
     for k in 0..rim.wide * rim.high {
-        put_cell(out, &places.home(layout, patch, k % rim.wide, k / rim.wide))?;
+        put_cell(out, &new.home(patch, k % rim.wide, k / rim.wide))?;
     }
     Ok(())
 }

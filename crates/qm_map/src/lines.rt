@@ -1,14 +1,13 @@
 //! The lines, which take no memory.
 
-ghost use Rattle.std.specs.Prelude.{◌≡◌, ◌<◌, length};
+ghost use Rattle.std.specs.Prelude.{◌≡◌, ◌<◌};
 ghost use Rattle.def_map.specs.Laws.{IsSpot};
 ghost use Rattle.def_map.specs.MapText.{at_vertex_line, cell_front, edge_line, face_line, map_head, on_edge_line};
 ghost use Rattle.def_map.specs.MapText.{seen_text, spot_line};
 ghost use Rattle.def_mesh.specs.Darts.{darts};
-ghost use Rattle.def_mesh.specs.Vertices.{vertex_count};
 
 use def_map::{EdgeSpot, FaceSpot, Seen, Spot};
-use qm_mesh::Mesh;
+use qm_cutmesh::CutMesh;
 use qm_print::{Line, line_of, numbered_line, push_integer, push_numbered};
 
 /// The first two lines.
@@ -21,24 +20,24 @@ pub(crate) fn head_line(vertices: u32, faces: u32) -> Line
 }
 
 /// The line of a new vertex.
-pub(crate) fn spot_line(mesh: &Mesh, names: &[u32], spot: Spot) -> Line
-    requires names { length names.now ≡ vertex_count mesh.now }
-    requires spot { IsSpot mesh.now spot }
-    ensures { result.bytes ≡ spot_line mesh.now names.now spot }
+pub(crate) fn spot_line(cut: &CutMesh, spot: Spot) -> Line
+    requires { IsSpot cut.now.soup.faces spot }
+    ensures { result.bytes ≡ spot_line cut.now.soup.faces cut.now.soup.names spot }
 {
     match spot {
-        Spot::AtVertex(v) => at_vertex_line(names[v as usize]),
-        Spot::OnEdge(spot) => edge_line(mesh, names, spot),
+        Spot::AtVertex(v) => at_vertex_line(cut.names()[v as usize]),
+        Spot::OnEdge(spot) => edge_line(cut, spot),
         Spot::InFace(spot) => face_line(spot),
     }
 }
 
 /// The line of one that lies on an edge, or at its beginning.
-fn edge_line(mesh: &Mesh, names: &[u32], spot: EdgeSpot) -> Line
-    requires names { length names.now ≡ vertex_count mesh.now }
-    requires dart { spot.dart < darts mesh.now }
-    ensures { result.bytes ≡ edge_line mesh.now names.now spot }
+fn edge_line(cut: &CutMesh, spot: EdgeSpot) -> Line
+    requires { spot.dart < darts cut.now.soup.faces }
+    ensures { result.bytes ≡ edge_line cut.now.soup.faces cut.now.soup.names spot }
 {
+    let mesh = cut.mesh();
+    let names = cut.names();
     let from = names[mesh.from(spot.dart) as usize];
     if spot.some == 0 {
         return at_vertex_line(from);

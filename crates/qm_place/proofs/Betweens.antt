@@ -4,13 +4,13 @@ use Rattle.std.specs.Prelude.{◌≤ℤ◌}
 use Rattle.def_mesh.specs.Faces.{Faces}
 use Rattle.def_mesh.specs.Vertices.{vertex_count}
 use Rattle.def_layout.specs.Arcs.{long_at}
+use Rattle.def_layout.specs.Lengths.{Lengths, AreLengths}
 use Rattle.def_layout.specs.Plans.{Plan, layout_of}
 use Rattle.def_text.specs.Types.{Positions}
 use Rattle.def_written.specs.Numbers.{vertices}
-use Rattle.def_remesh.specs.NewPoints.{lengths_in, point_at}
+use Rattle.def_remesh.specs.NewPoints.{point_at}
 use Rattle.def_remesh.specs.NewSoup.{coordinate, new_coordinate, new_place}
-use Rattle.def_remesh.specs.Placings.{coordinate_in, ArePlaces, LiesBetween}
-use Rattle.def_remesh.specs.declared.places.PlaceTables.{PlaceTables}
+use Rattle.def_remesh.specs.Placings.{coordinate_in, IsMeshLayout, LiesBetween}
 use Rattle.map_laws.proofs.Numbered.{is_point}
 use Rattle.map_laws.proofs.OldPoints.{old_low}
 use Rattle.qm_reach.proofs.Whole.{laid_of, lengths_of}
@@ -24,14 +24,14 @@ axis_of faces plan places new v (suc zero) low = refl
 axis_of faces plan places new v (suc (suc zero)) low = refl
 axis_of faces plan places new v (suc (suc (suc axis))) low = absurd (omega arith)
 
-module _ (faces : Faces) (plan : Plan) (tables : PlaceTables) (are : ArePlaces faces plan tables) where
-  pub lies_between : (places : Positions) (v : ℕ) → length places ≡ vertex_count faces → v < vertices (layout_of plan) (lengths_in tables.lengths.items)
-      → LiesBetween places (new_place faces plan places (lengths_in tables.lengths.items) v)
+module _ (faces : Faces) (plan : Plan) (new : Lengths) (layout : IsMeshLayout faces plan) (lengths : AreLengths (layout_of plan) new) where
+  pub lies_between : (places : Positions) (v : ℕ) → length places ≡ vertex_count faces → v < vertices (layout_of plan) new
+      → LiesBetween places (new_place faces plan places new v)
   lies_between places v all low axis axis_low least greatest bound =
-      subst (λ z. (least ≤ℤ z) × (z ≤ℤ greatest)) (sym (axis_of faces plan places (lengths_in tables.lengths.items) v axis axis_low))
-      (subst (λ (F : Faces). (least ≤ℤ new_coordinate F plan places (lengths_in tables.lengths.items) (point_at (layout_of plan) (lengths_in tables.lengths.items) v) axis)
-      × (new_coordinate F plan places (lengths_in tables.lengths.items) (point_at (layout_of plan) (lengths_in tables.lengths.items) v) axis ≤ℤ greatest)) are.layout.1
-      (between_law (layout_of plan) (long_at plan.arcs) (lengths_in tables.lengths.items) (coordinate are.layout.0.faces plan places axis) least greatest
-      (laid_of plan are.layout.0) (lengths_of plan are.layout.0) are.lengths
-      (λ a is. bound _ (omega (arith, old_low plan are.layout.0 a is, all, ap vertex_count are.layout.1)))
-      (point_at (layout_of plan) (lengths_in tables.lengths.items) v) (is_point (layout_of plan) (lengths_in tables.lengths.items) v low)))
+      subst (λ z. (least ≤ℤ z) × (z ≤ℤ greatest)) (sym (axis_of faces plan places new v axis axis_low))
+      (subst (λ (F : Faces). (least ≤ℤ new_coordinate F plan places new (point_at (layout_of plan) new v) axis)
+      × (new_coordinate F plan places new (point_at (layout_of plan) new v) axis ≤ℤ greatest)) layout.1
+      (between_law (layout_of plan) (long_at plan.arcs) new (coordinate layout.0.faces plan places axis) least greatest
+      (laid_of plan layout.0) (lengths_of plan layout.0) lengths
+      (λ a is. bound _ (omega (arith, old_low plan layout.0 a is, all, ap vertex_count layout.1)))
+      (point_at (layout_of plan) new v) (is_point (layout_of plan) new v low)))

@@ -94,6 +94,15 @@ module _ (plan : Plan) (new : Lengths) where
       ∙ ap (λ k. spot_of plan new (inside_patches (layout_of plan) new k)) place_is
       ∙ ap (spot_of plan new) (sym (at_patch (layout_of plan) new v from))
 
+  -- Edges are divided in few parts.
+  pub short_spot : ((arc : ℕ) → arc < length plan.arcs → new arc ≤ 2 ^ 24) → (v : ℕ) → v < vertices (layout_of plan) new → IsShort (spot_at plan new v)
+  short_spot short v low = by_point (point_at (layout_of plan) new v) (is_point (layout_of plan) new v low)
+    where
+      by_point : (a : Point) → IsPoint (layout_of plan) new a → IsShort (spot_of plan new a)
+      by_point (node n) is_a = tt
+      by_point (along arc k) is_a = omega (arith, short arc is_a.0)
+      by_point (inside p i j) is_a = tt
+
 module _ (faces : Faces) (plan : Plan) (tables : PlaceTables) (are : ArePlaces faces plan tables) where
   abbrev l : Layout
   l = layout_of plan
@@ -108,17 +117,17 @@ module _ (faces : Faces) (plan : Plan) (tables : PlaceTables) (are : ArePlaces f
   is = are.layout.0
 
   -- All numbers are small.
-  pub few_points : vertices (layout_of plan) (lengths_in tables.lengths.items) ≤ 2 ^ 23
+  few_points : vertices (layout_of plan) (lengths_in tables.lengths.items) ≤ 2 ^ 23
   few_points = omega (arith, vertices_few l new (laid_of plan is) are.lengths, are.few)
 
   -- Lengths are short.
-  pub new_short : (arc : ℕ) → arc < length plan.arcs → lengths_in tables.lengths.items arc ≤ 2 ^ 24
+  new_short : (arc : ℕ) → arc < length plan.arcs → lengths_in tables.lengths.items arc ≤ 2 ^ 24
   new_short arc low = omega (arith, term_room (λ b. new b - 1) (length plan.arcs) arc low, few_points)
 
-  pub patch_narrow : (p : ℕ) → p < length plan.patches → wide (layout_of plan) (lengths_in tables.lengths.items) p ≤ 2 ^ 21
+  patch_narrow : (p : ℕ) → p < length plan.patches → wide (layout_of plan) (lengths_in tables.lengths.items) p ≤ 2 ^ 21
   patch_narrow p low = omega (arith, side_few l new (laid_of plan is) are.lengths p south low, are.few)
 
-  pub patch_short : (p : ℕ) → p < length plan.patches → high (layout_of plan) (lengths_in tables.lengths.items) p ≤ 2 ^ 21
+  patch_short : (p : ℕ) → p < length plan.patches → high (layout_of plan) (lengths_in tables.lengths.items) p ≤ 2 ^ 21
   patch_short p low = omega (arith, side_few l new (laid_of plan is) are.lengths p west low, are.few)
 
   -- What is read of the tables.
@@ -159,6 +168,7 @@ module _ (faces : Faces) (plan : Plan) (tables : PlaceTables) (are : ArePlaces f
     long = are.long;
     lengths = are.lengths;
     few = few_points;
+    few_faces = are.few;
     short = new_short;
     narrow = patch_narrow;
     low = patch_short;
@@ -169,13 +179,3 @@ module _ (faces : Faces) (plan : Plan) (tables : PlaceTables) (are : ArePlaces f
     ends = ends_of;
     small = small_of;
   }
-
-  -- Edges are divided in few parts.
-  pub short_spot : (v : ℕ) → v < vertices (layout_of plan) (lengths_in tables.lengths.items)
-      → IsShort (spot_at plan (lengths_in tables.lengths.items) v)
-  short_spot v low = by_point (point_at l new v) (is_point l new v low)
-    where
-      by_point : (a : Point) → IsPoint l new a → IsShort (spot_of plan new a)
-      by_point (node n) is_a = tt
-      by_point (along arc k) is_a = omega (arith, new_short arc is_a.0)
-      by_point (inside p i j) is_a = tt

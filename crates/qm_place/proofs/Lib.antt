@@ -1,7 +1,7 @@
+mod Betweens
+mod Built
 mod Casts
+mod Entries
+mod Found
 mod Pushes
 mod Rims
-mod Found
-mod Entries
-mod Built
-mod Betweens

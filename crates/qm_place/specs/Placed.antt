@@ -7,7 +7,9 @@ use Rattle.def_layout.specs.Plans.{Plan, layout_of}
 use Rattle.def_remesh.specs.NewPoints.{lengths_in}
 use Rattle.def_remesh.specs.Numberings.{AreRunStarts}
 use Rattle.def_remesh.specs.Placings.{rim_at, IsRim}
+use Rattle.def_remesh.specs.declared.limits.TheConstants.{MAX_NEW_FACES}
 use Rattle.def_remesh.specs.declared.places.PlaceTables.{PlaceTables}
+use Rattle.def_written.specs.NewFaces.{face_count}
 use Rattle.def_written.specs.Numbers.{vertices}
 use Rattle.qm_place.specs.Spots.{grid_point, HasEnds, IsSmall}
 
@@ -32,6 +34,7 @@ pub record ArePlaced (plan : Plan) (tables : PlaceTables) : Type 0 where
   pub long : length tables.lengths.items ≡ length plan.arcs
   pub lengths : AreLengths (layout_of plan) (lengths_in tables.lengths.items)
   pub few : vertices (layout_of plan) (lengths_in tables.lengths.items) ≤ 2 ^ 23
+  pub few_faces : face_count (layout_of plan) (lengths_in tables.lengths.items) ≤ MAX_NEW_FACES
   pub short : (arc : ℕ) → arc < length plan.arcs → lengths_in tables.lengths.items arc ≤ 2 ^ 24
   pub narrow : (patch : ℕ) → patch < length plan.patches
       → wide (layout_of plan) (lengths_in tables.lengths.items) patch ≤ 2 ^ 21

@@ -44,10 +44,18 @@ pub(crate) fn find(placed: &Placed, v: u32, near: &mut Near) -> Spot
 }
 
 /// How many vertices are nodes or lie on arcs.
-pub(crate) fn arcs_end(placed: &Placed) -> u32
+fn arcs_end(placed: &Placed) -> u32
     ensures { result ≡ length placed.now.t.now.nodes.items
         + before_arc (lengths_by placed.now) (length placed.now.t.now.arcs.items) }
 {
     let along = &placed.tables.along.begin;
     placed.t.nodes.len() as u32 + along[along.len() - 1]
+}
+
+/// How many vertices there are.
+pub(crate) fn vertices(placed: &Placed) -> u32
+    ensures { result ≡ vertices (layout_of (plan_in placed.now)) (lengths_by placed.now) }
+{
+    let inside = &placed.tables.inside.begin;
+    arcs_end(placed) + inside[inside.len() - 1]
 }

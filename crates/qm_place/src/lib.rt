@@ -13,5 +13,5 @@ mod spots;
 mod ways;
 
 pub use find::Near;
-pub use old::OldMesh;
+pub use placed::Placed;
 pub use places::{Places, place, placer};

@@ -8,7 +8,7 @@ use def_remesh::PlaceTables;
 
 /// A layout, and tables that tell where its new points lie.
 #[derive(Clone, Copy)]
-pub(crate) struct Placed<'a> {
+pub struct Placed<'a> {
     pub t: &'a TMesh,
     pub tables: &'a PlaceTables,
     ghost placed: { ArePlaced (plan t.now) tables.now },

@@ -18,7 +18,7 @@ ghost use Rattle.def_remesh.specs.declared.limits.TheConstants.{MAX_NEW_FACES};
 ghost use Rattle.qm_place.specs.Spots.{inner_of};
 
 use crate::axes::place_there;
-use crate::find::{Near, arcs_end, find};
+use crate::find::{Near, find, vertices};
 use crate::homes::cell_home;
 use crate::old::OldMesh;
 use crate::placed::Placed;
@@ -92,12 +92,12 @@ pub fn place(
         (v : ℕ) → v < length places.items → LiesBetween pos.now (slice_index_or places.items v [])) }
 {
     let placer = placer(alloc, mesh, t, x)?;
-    let vertices = placer.vertices(t);
-    let old = OldMesh { mesh, t, pos };
+    let placed = placer.on(t);
+    let count = vertices(&placed);
     let mut near = Near::new();
-    let mut places = Vec::with_capacity(alloc, vertices as usize)?;
-    for v in 0..vertices {
-        places.push(placer.place_near(&old, v, &mut near))?;
+    let mut places = Vec::with_capacity(alloc, count as usize)?;
+    for v in 0..count {
+        places.push(placed.place_near(mesh, pos, v, &mut near))?;
     }
     Ok(places)
 }
@@ -117,17 +117,6 @@ fn inner_starts(alloc: Global, rims: &[Rim]) -> Result<RunStarts, AllocError>
 }
 
 impl Places {
-    /// How many new vertices there are.
-    fn vertices(&self, t: &TMesh) -> u32
-        requires { (faces : Faces) × ArePlaces faces (plan t.now) self.now }
-        ensures { result ≡ vertices (layout_of (plan t.now)) (lengths_in self.now.lengths.items) }
-    {
-        let inside = &self.tables.inside.begin;
-        let tables = &self.tables;
-        let placed = Placed { t, tables };
-        arcs_end(&placed) + inside[inside.len() - 1]
-    }
-
     /// The place of the new vertex v. Logarithmic.
     pub fn place_at(&self, mesh: &Mesh, t: &TMesh, pos: &[[Micro; 3]], v: u32) -> [Micro; 3]
         requires places { ArePlaces mesh.now (plan t.now) self.now }
@@ -137,52 +126,65 @@ impl Places {
         ensures between { LiesBetween pos.now result }
     {
         let mut near = Near::new();
-        self.place_near(&OldMesh { mesh, t, pos }, v, &mut near)
+        self.on(t).place_near(mesh, pos, v, &mut near)
     }
 
-    /// The same, and where it was found. In constant time where it is near the last one, else logarithmic.
-    pub fn place_near(&self, old: &OldMesh, v: u32, near: &mut Near) -> [Micro; 3]
-        requires places { ArePlaces old.now.mesh.now (plan old.now.t.now) self.now }
-        requires vertex { v < vertices (layout_of (plan old.now.t.now)) (lengths_in self.now.lengths.items) }
-        ensures value { result ≡ new_place old.now.mesh.now (plan old.now.t.now) old.now.pos.now
-            (lengths_in self.now.lengths.items) v }
-        ensures between { LiesBetween old.now.pos.now result }
+    /// The places with the layout of which they are.
+    pub fn on<'a>(&'a self, t: &'a TMesh) -> Placed<'a>
+        requires { (faces : Faces) × ArePlaces faces (plan t.now) self.now }
+        ensures layout { result.t.now ≡ t.now }
+        ensures tables { result.tables.now ≡ self.now }
     {
         let tables = &self.tables;
-        let placed = Placed { t: old.t, tables };
-        place_there(old, find(&placed, v, near))
+        Placed { t, tables }
+    }
+}
+
+impl Placed<'_> {
+    /// The place of the new vertex v, and where it was found. In constant time where it is near the last one, else
+    /// logarithmic.
+    pub fn place_near(&self, mesh: &Mesh, pos: &[[Micro; 3]], v: u32, near: &mut Near) -> [Micro; 3]
+        requires layout { IsMeshLayout mesh.now (plan self.now.t.now) }
+        requires positions { length pos.now ≡ vertex_count mesh.now }
+        requires vertex { v < vertices (layout_of (plan self.now.t.now)) (lengths_in self.now.tables.now.lengths.items) }
+        ensures value { result
+            ≡ new_place mesh.now (plan self.now.t.now) pos.now (lengths_in self.now.tables.now.lengths.items) v }
+        ensures between { LiesBetween pos.now result }
+    {
+        let old = OldMesh { mesh, pos };
+        place_there(&old, find(self, v, near))
     }
 
     /// Where the new vertex v lies in the old mesh. In constant time where it is near the last one, else logarithmic.
-    pub fn spot_near(&self, t: &TMesh, v: u32, near: &mut Near) -> Spot
-        requires places { (faces : Faces) × ArePlaces faces (plan t.now) self.now }
-        requires vertex { v < vertices (layout_of (plan t.now)) (lengths_in self.now.lengths.items) }
-        ensures { result ≡ spot_at (plan t.now) (lengths_in self.now.lengths.items) v }
+    pub fn spot_near(&self, v: u32, near: &mut Near) -> Spot
+        requires vertex { v < vertices (layout_of (plan self.now.t.now)) (lengths_in self.now.tables.now.lengths.items) }
+        ensures { result ≡ spot_at (plan self.now.t.now) (lengths_in self.now.tables.now.lengths.items) v }
     {
-        let tables = &self.tables;
-        let placed = Placed { t, tables };
-        find(&placed, v, near)
+        find(self, v, near)
     }
 
     /// Where the new face in column i and row j of a patch lies in the old mesh.
-    pub fn home(&self, t: &TMesh, patch: usize, i: u32, j: u32) -> Home
-        requires places { (faces : Faces) × ArePlaces faces (plan t.now) self.now }
-        requires patch { patch < length t.now.patches.items }
-        requires column { i < wide (layout_of (plan t.now)) (lengths_in self.now.lengths.items) patch }
-        requires row { j < high (layout_of (plan t.now)) (lengths_in self.now.lengths.items) patch }
-        ensures { result ≡ home_of (plan t.now) (lengths_in self.now.lengths.items) patch i j }
+    pub fn home(&self, patch: usize, i: u32, j: u32) -> Home
+        requires patch { patch < length self.now.t.now.patches.items }
+        requires column { i < wide (layout_of (plan self.now.t.now))
+            (lengths_in self.now.tables.now.lengths.items) patch }
+        requires row { j < high (layout_of (plan self.now.t.now))
+            (lengths_in self.now.tables.now.lengths.items) patch }
+        ensures { result
+            ≡ home_of (plan self.now.t.now) (lengths_in self.now.tables.now.lengths.items) patch i j }
     {
-        let tables = &self.tables;
-        let placed = Placed { t, tables };
-        cell_home(&placed, patch, i, j)
+        cell_home(self, patch, i, j)
     }
 
     /// The new size of a patch: how wide it is, and how high.
-    pub fn rim(&self, t: &TMesh, patch: usize) -> Rim
-        requires places { (faces : Faces) × ArePlaces faces (plan t.now) self.now }
-        requires patch { patch < length t.now.patches.items }
-        ensures wide { result.wide ≡ wide (layout_of (plan t.now)) (lengths_in self.now.lengths.items) patch }
-        ensures high { result.high ≡ high (layout_of (plan t.now)) (lengths_in self.now.lengths.items) patch }
+    pub fn rim(&self, patch: usize) -> Rim
+        requires patch { patch < length self.now.t.now.patches.items }
+        ensures wide { result.wide
+            ≡ wide (layout_of (plan self.now.t.now)) (lengths_in self.now.tables.now.lengths.items) patch }
+        ensures high { result.high
+            ≡ high (layout_of (plan self.now.t.now)) (lengths_in self.now.tables.now.lengths.items) patch }
+        ensures few { result.wide * result.high ≤ MAX_NEW_FACES }
+        ensures short { (result.wide ≤ 2 ^ 21) × (result.high ≤ 2 ^ 21) }
     {
         self.tables.rims[patch]
     }

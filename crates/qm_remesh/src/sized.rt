@@ -1,11 +1,8 @@
 //! Least lengths for a layout whose new edges are to have a given length.
 
-ghost use Rattle.std.specs.Prelude.{◌≡◌, ◌≤◌, false, length, pos as whole, ◌≤ℤ◌, unsigned_abs, IfOk, IfErr, OnOk};
-ghost use Rattle.std.specs.Option.{option_map};
-ghost use Rattle.def_certtext.specs.CertLines.{lists_of};
+ghost use Rattle.std.specs.Prelude.{◌≡◌, ◌≤◌, false, pos as whole, ◌≤ℤ◌, unsigned_abs, IfOk, IfErr, OnOk};
+ghost use Rattle.def_certtext.specs.CertLines.{certificates_of};
 ghost use Rattle.def_flow.specs.declared.limits.TheConstants.{MAX_FLOOR};
-ghost use Rattle.def_layout.specs.Plans.{plan as plan_of};
-ghost use Rattle.def_mesh.specs.Vertices.{vertex_count};
 ghost use Rattle.def_metric.specs.Fails.{AreNear, IsSizeFail};
 ghost use Rattle.def_metric.specs.Targets.{edge_settings, targets};
 ghost use Rattle.def_remesh.specs.Keeping.{IsKept};
@@ -16,36 +13,31 @@ use def_certtext::Asked;
 use def_flow::{Settings, Weight};
 use def_metric::{EDGE_PARTS, SizeFail};
 use def_text::Micro;
+use qm_cutmesh::CutMesh;
 use qm_metric::{measured, old_start};
 use qm_solve::solve_near;
-use qm_write::{CutMesh, Remesh};
+use qm_write::Remesh;
 use std::alloc::Global;
 
 /// Finds lengths by which the new edges come nearest to this length, and numbers the new mesh that they give.
 ///
 /// The time is that of `solve_near` and, beyond it, near linear in the sizes of the old and the new mesh.
-pub fn keep_sized(
-    alloc: Global,
-    cut: &CutMesh,
-    pos: &[[Micro; 3]],
-    edge: Micro,
-    floor: u32,
-) -> Result<Remesh, SizeFail>
-    requires layout { IsMeshLayout cut.now.mesh (plan_of cut.now.layout) }
-    requires positions { length pos.now ≡ vertex_count cut.now.mesh }
+pub fn keep_sized(alloc: Global, cut: &CutMesh, edge: Micro, floor: u32) -> Result<Remesh, SizeFail>
     requires edge { whole 1 ≤ℤ edge }
     requires floor { (1 ≤ floor) × (floor ≤ MAX_FLOOR) }
-    ensures kept { IfOk result (λ kept. IsKept (targets cut.now.mesh pos.now (unsigned_abs edge))
-        (plan_of cut.now.layout) (edge_settings floor) false
-        (lists_of kept.first) (option_map lists_of kept.third) kept.numbering) }
+    ensures kept { IfOk result (λ kept. IsKept
+        (targets cut.now.soup.faces cut.now.soup.pos (unsigned_abs edge)) cut.now.plan (edge_settings floor) false
+        (certificates_of kept.certs) kept.numbering) }
     ensures asked { IfOk result (λ kept. kept.asked ≡ record { settings = edge_settings floor; auto = false }) }
-    ensures near { OnOk result (AreNear (targets cut.now.mesh pos.now (unsigned_abs edge))
-        (plan_of cut.now.layout)) }
-    ensures refused { IfErr result (IsSizeFail (targets cut.now.mesh pos.now (unsigned_abs edge))
-        (plan_of cut.now.layout) floor) }
+    ensures laid { IsMeshLayout cut.now.soup.faces cut.now.plan }
+    ensures near { OnOk result
+        (AreNear (targets cut.now.soup.faces cut.now.soup.pos (unsigned_abs edge)) cut.now.plan) }
+    ensures refused { IfErr result
+        (IsSizeFail (targets cut.now.soup.faces cut.now.soup.pos (unsigned_abs edge)) cut.now.plan floor) }
 {
-    let net = measured(alloc, &cut.mesh, &cut.layout, pos, edge, floor)?;
-    let start = old_start(alloc, &cut.layout, floor)?;
+    let layout = cut.layout();
+    let net = measured(alloc, cut.mesh(), layout, cut.pos(), edge, floor)?;
+    let start = old_start(alloc, layout, floor)?;
     let first = solve_near(alloc, &net, start)?;
     let asked = Asked {
         settings: Settings {
@@ -56,6 +48,6 @@ pub fn keep_sized(
         },
         auto: false,
     };
-    let kept = keep_solved(alloc, &cut.layout, asked, net, first)?;
+    let kept = keep_solved(alloc, cut, asked, net, first)?;
     Ok(kept)
 }

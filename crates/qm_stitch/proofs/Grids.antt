@@ -218,6 +218,13 @@ module _ (plan : Plan) (t : Tables) (is : AreTables plan t) where
       read ∙ ap (λ (xs : List ℕ). slice_index xs (length xs - 1)) same
       ∙ last_is (λ p. (wide l x p - 1) * (high l x p - 1)) (length plan.patches) t.inside.begin.items is.inside
 
+  -- The end of the patches' cells.
+  pub cells_end : (list : List ℕ) (v : ℕ) → list ≡ t.cells.begin.items → v ≡ slice_index list (length list - 1)
+      → v ≡ face_count (layout_of plan) (lengths_in t.lengths.items)
+  cells_end list v same read =
+      read ∙ ap (λ (xs : List ℕ). slice_index xs (length xs - 1)) same
+      ∙ last_is (λ p. wide l x p * high l x p) (length plan.patches) t.cells.begin.items is.cells
+
   -- An inner point of a patch.
   pub inside_here : (p i j columns begin end : ℕ) → p < length plan.patches → i ≤ wide (layout_of plan) (lengths_in t.lengths.items) p
       → j ≤ high (layout_of plan) (lengths_in t.lengths.items) p → j ≢ 0 → j ≢ high (layout_of plan) (lengths_in t.lengths.items) p

@@ -18,6 +18,7 @@ mod stitching;
 mod stretched;
 
 pub use def_remesh::{NewMesh, StitchFail};
+pub use numbered::Numbered;
 pub use numbering::Numbering;
 pub use planning::plan;
 pub use stitching::stitch;

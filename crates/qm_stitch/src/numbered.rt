@@ -8,7 +8,7 @@ use def_remesh::Tables;
 
 /// A layout, and tables that number its points and its faces.
 #[derive(Clone, Copy)]
-pub(crate) struct Numbered<'a> {
+pub struct Numbered<'a> {
     pub t: &'a TMesh,
     pub tables: &'a Tables,
     ghost numbers: { AreTables (plan t.now) tables.now },

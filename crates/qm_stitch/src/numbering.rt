@@ -8,7 +8,7 @@ ghost use Rattle.def_written.specs.NewFaces.{face_count, new_face};
 ghost use Rattle.def_written.specs.Numbers.{vertex_number, vertices};
 ghost use Rattle.def_written.specs.Points.{point};
 ghost use Rattle.def_remesh.specs.NewPoints.{lengths_in};
-ghost use Rattle.def_remesh.specs.Numberings.{HoldsFor, IsNumbering};
+ghost use Rattle.def_remesh.specs.Numberings.{IsNumbering};
 
 use crate::face::face_of;
 use crate::numbered::Numbered;
@@ -18,26 +18,26 @@ use def_layout::TMesh;
 use def_remesh::Tables;
 use std::marker::Model;
 
-/// The numbers of the points of a layout with lengths. Contracts see its tables.
+/// The numbers of the points and the faces of a layout with lengths. Contracts see its tables.
 #[derive(Debug, Drop)]
 pub struct Numbering {
     pub(crate) tables: Tables,
 }
 
 impl Model for Numbering {
+    ghost use Rattle.def_remesh.specs.Numberings.{HoldsFor};
     ghost use Rattle.def_remesh.specs.declared.tables.Tables.{Tables};
 
     ghost Value = { Tables };
 
     ghost view = { λ n. n.tables };
 
-    ghost invariant = { λ n. Unit {0} };
+    ghost invariant = { λ n. HoldsFor n.tables };
 }
 
 impl Numbering {
     /// How many vertices there are.
     pub fn vertices(&self) -> u32
-        requires { HoldsFor self.now }
         ensures { (plan : Plan) → IsNumbering plan self.now
             → result ≡ vertices (layout_of plan) (lengths_in self.now.lengths.items) }
     {
@@ -46,7 +46,6 @@ impl Numbering {
 
     /// How many faces there are.
     pub fn faces(&self) -> u32
-        requires { HoldsFor self.now }
         ensures { (plan : Plan) → IsNumbering plan self.now
             → result ≡ face_count (layout_of plan) (lengths_in self.now.lengths.items) }
     {
@@ -59,36 +58,52 @@ impl Numbering {
         requires face { f < face_count (layout_of (plan t.now)) (lengths_in self.now.lengths.items) }
         ensures { result ≡ new_face (layout_of (plan t.now)) (lengths_in self.now.lengths.items) f }
     {
-        let tables = &self.tables;
-        let numbered = Numbered { t, tables };
-        face_of(&numbered, f)
+        self.on(t).face(f)
     }
 
-    /// The length of a side of a patch, for the layout that was numbered: 0 is south, 1 east, 2 north and 3 west.
-    pub fn side_length(&self, t: &TMesh, patch: usize, side: usize) -> u32
-        requires numbering { IsNumbering (plan t.now) self.now }
-        requires patch { patch < length t.now.patches.items }
+    /// The numbers with the layout that was numbered.
+    pub fn on<'a>(&'a self, t: &'a TMesh) -> Numbered<'a>
+        requires { IsNumbering (plan t.now) self.now }
+        ensures layout { result.t.now ≡ t.now }
+        ensures tables { result.tables.now ≡ self.now }
+    {
+        let tables = &self.tables;
+        Numbered { t, tables }
+    }
+}
+
+impl Numbered<'_> {
+    /// Face f.
+    pub fn face(&self, f: u32) -> [u32; 4]
+        requires { f < face_count (layout_of (plan self.now.t.now)) (lengths_in self.now.tables.now.lengths.items) }
+        ensures { result ≡ new_face (layout_of (plan self.now.t.now))
+            (lengths_in self.now.tables.now.lengths.items) f }
+    {
+        face_of(self, f)
+    }
+
+    /// The length of a side of a patch: 0 is south, 1 east, 2 north and 3 west.
+    pub fn side_length(&self, patch: usize, side: usize) -> u32
+        requires patch { patch < length self.now.t.now.patches.items }
         requires side { side < 4 }
-        ensures { (way : Way) → way_number way ≡ side
-            → result ≡ size (layout_of (plan t.now)) (lengths_in self.now.lengths.items) patch way }
+        ensures { (way : Way) → way_number way ≡ side → result
+            ≡ size (layout_of (plan self.now.t.now)) (lengths_in self.now.tables.now.lengths.items) patch way }
     {
-        let tables = &self.tables;
-        let numbered = Numbered { t, tables };
-        size_at(&numbered, patch, side)
+        size_at(self, patch, side)
     }
 
-    /// The number of grid point (i, j) of a patch, for the layout that was numbered. In constant time inside the patch,
-    /// and logarithmic in the arcs of a side on that.
-    pub fn point(&self, t: &TMesh, patch: usize, i: u32, j: u32) -> u32
-        requires numbering { IsNumbering (plan t.now) self.now }
-        requires patch { patch < length t.now.patches.items }
-        requires column { i ≤ wide (layout_of (plan t.now)) (lengths_in self.now.lengths.items) patch }
-        requires row { j ≤ high (layout_of (plan t.now)) (lengths_in self.now.lengths.items) patch }
-        ensures { result ≡ vertex_number (layout_of (plan t.now)) (lengths_in self.now.lengths.items)
-            (point (layout_of (plan t.now)) (lengths_in self.now.lengths.items) patch i j) }
+    /// The number of grid point (i, j) of a patch. In constant time inside the patch, and logarithmic in the arcs of a
+    /// side on that.
+    pub fn point(&self, patch: usize, i: u32, j: u32) -> u32
+        requires patch { patch < length self.now.t.now.patches.items }
+        requires column { i ≤ wide (layout_of (plan self.now.t.now))
+            (lengths_in self.now.tables.now.lengths.items) patch }
+        requires row { j ≤ high (layout_of (plan self.now.t.now))
+            (lengths_in self.now.tables.now.lengths.items) patch }
+        ensures { result ≡ vertex_number (layout_of (plan self.now.t.now))
+            (lengths_in self.now.tables.now.lengths.items)
+            (point (layout_of (plan self.now.t.now)) (lengths_in self.now.tables.now.lengths.items) patch i j) }
     {
-        let tables = &self.tables;
-        let numbered = Numbered { t, tables };
-        point_number(&numbered, patch, i, j)
+        point_number(self, patch, i, j)
     }
 }

@@ -8,11 +8,13 @@ ghost use Rattle.def_layoutnet.specs.MeshLayouts.{IsSomeLayout};
 ghost use Rattle.def_written.specs.Edges.{IsUndoubled};
 ghost use Rattle.def_written.specs.NewFaces.{new_faces};
 ghost use Rattle.def_remesh.specs.NewPoints.{lengths_in};
-ghost use Rattle.def_remesh.specs.Numberings.{IsNumbering};
 ghost use Rattle.def_remesh.specs.Stitched.{AreSafe, IsNewMesh, IsUnstitched, KeepsShapes};
+ghost use Rattle.qm_stitch.specs.Lengthened.{layout_in, lengths_by};
 
-use crate::numbering::Numbering;
+use crate::face::face_of;
+use crate::numbered::Numbered;
 use crate::planning::plan;
+use crate::size::last_of;
 use def_layout::TMesh;
 use def_remesh::{NewMesh, StitchFail};
 use std::alloc::{AllocError, Global};
@@ -31,7 +33,7 @@ pub fn stitch(alloc: Global, t: &TMesh, lengths: &[u64]) -> Result<NewMesh, Stit
         → (u v : ℕ) → ¬ IsErrOf result (StitchFail.Doubled u v) }
 {
     let numbering = plan(alloc, t, lengths)?;
-    let faces = all_faces(alloc, &numbering, t)?;
+    let faces = all_faces(alloc, &numbering.on(t))?;
     Ok(NewMesh {
         vertices: numbering.vertices(),
         faces,
@@ -39,14 +41,13 @@ pub fn stitch(alloc: Global, t: &TMesh, lengths: &[u64]) -> Result<NewMesh, Stit
 }
 
 /// All faces, by their numbers.
-fn all_faces(alloc: Global, numbering: &Numbering, t: &TMesh) -> Result<Vec<[u32; 4]>, AllocError>
-    requires { IsNumbering (plan_of t.now) numbering.now }
-    ensures { IfOk result (λ faces. faces.items
-        ≡ new_faces (layout_of (plan_of t.now)) (lengths_in numbering.now.lengths.items)) }
+fn all_faces(alloc: Global, numbered: &Numbered) -> Result<Vec<[u32; 4]>, AllocError>
+    ensures { IfOk result (λ faces. faces.items ≡ new_faces (layout_in numbered.now) (lengths_by numbered.now)) }
 {
-    let mut faces = Vec::with_capacity(alloc, numbering.faces() as usize)?;
-    for face in 0..numbering.faces() {
-        faces.push(numbering.face(t, face))?;
+    let count = last_of(&numbered.tables.cells.begin);
+    let mut faces = Vec::with_capacity(alloc, count as usize)?;
+    for face in 0..count {
+        faces.push(face_of(numbered, face))?;
     }
     Ok(faces)
 }

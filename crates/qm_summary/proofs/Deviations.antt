@@ -1,6 +1,7 @@
 -- What is kept of a layout for a benchmark, and how far it is from what is wanted.
-use Rattle.std.proofs.Common.{◌≡◌, ℤ, pos, Option, Some, None, sym, ◌∙◌, ap, subst, false}
-use Rattle.def_certtext.specs.CertLines.{Lists}
+use Rattle.std.proofs.Common.{◌≡◌, ℤ, pos, sym, ◌∙◌, ap, subst, false}
+use Rattle.std.proofs.lemmas.Bool.{false≢true}
+use Rattle.def_certtext.specs.CertLines.{alone, raised, used, Certificates}
 use Rattle.def_flow.specs.Admissible.{deviation, entries, AreNetLengths}
 use Rattle.def_flow.specs.Network.{Network}
 use Rattle.def_flow.specs.declared.net.Settings.{Settings}
@@ -17,36 +18,38 @@ use Rattle.qm_summary.specs.Deviation.{IsKeptDeviation}
 use Rattle.remesh_laws.proofs.Solved.{writable_short}
 use Rattle.def_remesh.specs.Tasks.{old_lengths}
 
--- A network and what is kept, where the settings are those of a benchmark.
-pub bench_net : (plan : Plan) (settings : Settings) (net : Network) → settings ≡ bench_settings
-    → IsNetOf (layout_of plan) (long_at plan.arcs) settings net → IsNetOf (layout_of plan) (long_at plan.arcs) bench_settings net
-bench_net plan settings net same is = subst (λ (s : Settings). IsNetOf (layout_of plan) (long_at plan.arcs) s net) same is
+-- A network and what is kept, of the same layout, where the settings are those of a benchmark.
+pub bench_net : (plan other : Plan) (settings : Settings) (net : Network) → other ≡ plan → settings ≡ bench_settings
+    → IsNetOf (layout_of other) (long_at other.arcs) settings net → IsNetOf (layout_of plan) (long_at plan.arcs) bench_settings net
+bench_net plan other settings net equal same is =
+    subst (λ (s : Settings). IsNetOf (layout_of plan) (long_at plan.arcs) s net) same
+    (subst (λ (p : Plan). IsNetOf (layout_of p) (long_at p.arcs) settings net) equal is)
 
-pub bench_kept : (plan : Plan) (settings : Settings) (first : Lists) (third : Option Lists) (tables : Tables) → settings ≡ bench_settings
-    → IsKept old_lengths plan settings false first third tables → IsKept old_lengths plan bench_settings false first third tables
-bench_kept plan settings first third tables same kept = subst (λ (s : Settings). IsKept old_lengths plan s false first third tables) same kept
+pub bench_kept : (plan : Plan) (settings : Settings) (certificates : Certificates) (tables : Tables) → settings ≡ bench_settings
+    → IsKept old_lengths plan settings false certificates tables → IsKept old_lengths plan bench_settings false certificates tables
+bench_kept plan settings certificates tables same kept = subst (λ (s : Settings). IsKept old_lengths plan s false certificates tables) same kept
 
-module _ (plan : Plan) (first : Lists) (tables : Tables) (net : Network)
-    (is : IsNetOf (layout_of plan) (long_at plan.arcs) bench_settings net) where
+module _ (plan : Plan) (tables : Tables) (net : Network) (is : IsNetOf (layout_of plan) (long_at plan.arcs) bench_settings net) where
   -- The kept lengths are lengths of the layout's network.
-  pub kept_lengths : (third : Option Lists) → IsKept old_lengths plan bench_settings false first third tables → AreNetLengths net.arcs first.x
-  kept_lengths None kept = record {
+  pub kept_lengths : (certificates : Certificates) → IsKept old_lengths plan bench_settings false certificates tables
+      → AreNetLengths net.arcs (used certificates).x
+  kept_lengths (alone cert) kept = record {
     count = kept.kept.lengths.count ∙ (kept.kept.lengths.of_layout.long ∙ sym is.long);
-    small = writable_short first kept.kept.lengths.writable;
+    small = writable_short cert kept.kept.lengths.writable;
   }
-  kept_lengths (Some third) kept = absurd kept.kept
+  kept_lengths (raised first cert) kept = absurd (false≢true kept.kept.0)
 
   -- A layout has one network, so their deviation is that of their certificate.
-  pub deviation_kept : (third : Option Lists) (told : ℤ) → IsSomeLayout plan → IsKept old_lengths plan bench_settings false first third tables
-      → told ≡ pos (deviation net (entries first.x)) → IsKeptDeviation plan told
-  deviation_kept (Some third) told mesh kept says = absurd kept.kept
-  deviation_kept None told mesh kept says =
+  pub deviation_kept : (certificates : Certificates) (told : ℤ) → IsSomeLayout plan → IsKept old_lengths plan bench_settings false certificates tables
+      → told ≡ pos (deviation net (entries (used certificates).x)) → IsKeptDeviation plan told
+  deviation_kept (raised first cert) told mesh kept says = absurd (false≢true kept.kept.0)
+  deviation_kept (alone cert) told mesh kept says =
       let one : net ≡ kept.kept.lengths.net =
       one_net_law (layout_of plan) (long_at plan.arcs) bench_settings (laid_of plan mesh) net kept.kept.lengths.net is kept.kept.lengths.of_layout in
       record {
-        cert = first;
+        cert = cert;
         certified = kept.kept;
         coarse = kept.coarse;
         undoubled = kept.undoubled;
-        is = says ∙ ap (λ (n : Network). pos (deviation n (entries first.x))) one;
+        is = says ∙ ap (λ (n : Network). pos (deviation n (entries cert.x))) one;
       }

@@ -1,9 +1,11 @@
 -- The line of counts that are told, and why a size is refused.
-use Rattle.std.proofs.Common.{◌≡◌, ℕ, pos, false, length, ap}
+use Rattle.std.proofs.Common.{◌≡◌, ℕ, pos, false, length, sym, ◌∙◌, ap, subst}
+use Rattle.def_gen.specs.Steps.{steps_soup}
 use Rattle.def_layout.specs.Plans.{Plan}
 use Rattle.def_mesh.specs.Components.{edge_count, start_darts}
 use Rattle.def_mesh.specs.Faces.{Faces}
 use Rattle.def_mesh.specs.Vertices.{vertex_count}
+use Rattle.def_remesh.specs.CutSoups.{CutSoup}
 use Rattle.def_remesh.specs.Refusals.{IsLayoutFail}
 use Rattle.def_remesh.specs.declared.kept.LayoutFail.{LayoutFail}
 use Rattle.def_remesh.specs.declared.kept.LayoutFail.TheVariants as fail
@@ -11,6 +13,7 @@ use Rattle.def_report.specs.BenchLine.{bench_line}
 use Rattle.def_report.specs.declared.Counts.{Counts}
 use Rattle.def_run.specs.Bench.{bench_faces, bench_settings, counts_of, IsBenchFail}
 use Rattle.def_run.specs.Remesh.{IsTracedLayout}
+use Rattle.def_text.specs.FaceSet.{FaceSet}
 use Rattle.def_remesh.specs.Tasks.{old_lengths}
 
 -- Counts that are those of a mesh and its layout give its line.
@@ -29,6 +32,13 @@ same_line size told faces plan deviation vertices edges many riders patches arcs
       deviation = far i;
     } in
     ap (bench_line size) same
+
+-- A layout of a mesh that is that of a size is one of the size.
+pub traced_in : (size : ℕ) (soup : FaceSet) (faces : Faces) (plan : Plan) (cut : CutSoup) → soup ≡ steps_soup size → faces ≡ soup.faces
+    → cut ≡ record { soup = soup; plan = plan } → IsTracedLayout faces plan → IsTracedLayout (bench_faces size) cut.plan
+traced_in size soup faces plan cut is same made traced =
+    subst (IsTracedLayout (bench_faces size)) (ap (λ (k : CutSoup). k.plan) (sym made))
+    (subst (λ (fs : Faces). IsTracedLayout fs plan) (same ∙ ap (λ (s : FaceSet). s.faces) is) traced)
 
 -- A layout of the mesh of a size that is refused is why the size is.
 pub size_fails : (size : ℕ) (plan : Plan) (failed : LayoutFail) → IsTracedLayout (bench_faces size) plan

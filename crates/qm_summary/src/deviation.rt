@@ -1,18 +1,16 @@
 //! The deviation of the lengths that a benchmark keeps.
 
 ghost use Rattle.std.specs.Prelude.{◌≡◌, ◌<◌, ◌^◌, ◌<ℤ◌, pos, false, length, IfOk, IfErr, OnOk};
-ghost use Rattle.def_layout.specs.Plans.{plan};
-ghost use Rattle.def_layoutnet.specs.MeshLayouts.{IsSomeLayout};
 ghost use Rattle.def_remesh.specs.Refusals.{IsLayoutFail};
+ghost use Rattle.def_remesh.specs.Tasks.{old_lengths};
 ghost use Rattle.def_run.specs.Bench.{bench_settings};
 ghost use Rattle.qm_summary.specs.Deviation.{IsKeptDeviation};
-ghost use Rattle.def_remesh.specs.Tasks.{old_lengths};
 
 use def_certtext::Asked;
 use def_flow::{Settings, Weight};
-use def_layout::TMesh;
 use def_layoutnet::NetFail;
 use def_remesh::LayoutFail;
+use qm_cutmesh::CutMesh;
 use qm_layoutnet::net_of;
 use qm_net::deviation;
 use qm_remesh::keep;
@@ -21,25 +19,25 @@ use std::alloc::Global;
 /// The deviation of the lengths that a remesh of this layout keeps, with the settings of a benchmark.
 ///
 /// The time is that of `keep`.
-pub(crate) fn kept_deviation(alloc: Global, t: &TMesh) -> Result<i128, LayoutFail>
-    requires { IsSomeLayout (plan t.now) }
-    ensures kept { IfOk result (IsKeptDeviation (plan t.now)) }
+pub(crate) fn kept_deviation(alloc: Global, cut: &CutMesh) -> Result<i128, LayoutFail>
+    ensures kept { IfOk result (IsKeptDeviation cut.now.plan) }
     ensures small { IfOk result (λ deviation. deviation <ℤ pos (2 ^ 127)) }
-    ensures few { OnOk result ((length (plan t.now).patches < 2 ^ 32) × (length (plan t.now).arcs < 2 ^ 32)) }
-    ensures refused { IfErr result (IsLayoutFail old_lengths (plan t.now) bench_settings false) }
+    ensures few { OnOk result ((length cut.now.plan.patches < 2 ^ 32) × (length cut.now.plan.arcs < 2 ^ 32)) }
+    ensures refused { IfErr result (IsLayoutFail old_lengths cut.now.plan bench_settings false) }
 {
     let settings = half();
     let asked = Asked {
         settings,
         auto: false,
     };
-    let kept = keep(alloc, t, asked)?;
+    let kept = keep(alloc, cut, asked)?;
+    let t = cut.layout();
     let net = match net_of(alloc, t, &settings) {
         Ok(net) => net,
         Err(NetFail::Tangled { count }) => return Err(LayoutFail::Tangled { count }),
         Err(NetFail::Memory) => return Err(LayoutFail::Memory),
     };
-    Ok(deviation(&net, &kept.first.x))
+    Ok(deviation(&net, &kept.used_cert().x))
 }
 
 /// Half of the old lengths, at least 1, all arcs alike.

@@ -11,18 +11,19 @@ use Rattle.qm_top.specs.Refusals.{answer_of_layout, Ended, IsNoMeshOf}
 use Rattle.qm_top.specs.declared.refusal.Refusal.{Refusal}
 use Rattle.qm_top.specs.declared.refusal.Refusal.TheVariants.{NotManifold}
 use Rattle.qm_top.specs.declared.refusal.Refusal.TheVariants as refusals
+use Rattle.qm_top.specs.Writing.{IsOfLayout}
 use Rattle.qm_top.proofs.Refusals.{memory_ended}
-use Rattle.qm_top.proofs.Writers.{IsWriter}
+use Rattle.qm_top.proofs.Writers.{layout_ends, IsWriter}
 
 module _ (size : ℕ) (input out : Change) (unread : IsUnread input) where
-  pub bench_writer : IsWriter (Bench size) (WritesBench size) (IsBenchFail size) input out
+  pub bench_writer : IsWriter (Bench size) (WritesBench size) (IsOfLayout (IsBenchFail size)) input out
   bench_writer = record {
     bytes = [];
     whole = (unread, refl);
     calm = unread.1;
     writes = λ text said. said;
     read = λ text said. tt;
-    refuses = refuses;
+    ends = layout_ends (Bench size) (IsBenchFail size) input out unread.1 refuses;
   }
     where
       refuses : (fail : LayoutFail) → IsBenchFail size fail → Cause (Bench size) input out (answer_of_layout fail)

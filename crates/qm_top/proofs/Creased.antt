@@ -1,29 +1,27 @@
 -- What `crease` keeps: bytes whose `l` lines are refused end it, and bytes that it takes are not refused.
 use Rattle.std.specs.Prelude.{IfErr, IsErrAnd, codes}
-use Rattle.std.specs.Option.{option_map}
-use Rattle.std.proofs.Common.{◌≡◌, ◌≢◌, ◌-◌, false, Result, Ok, Err, List, Bool, [], ◌∷◌, ◌++◌, sym, ◌∙◌, ap, subst, refl, inl}
-use Rattle.def_certtext.specs.CertLines.{lists_of}
-use Rattle.def_certtext.specs.declared.Asked.{Asked}
+use Rattle.std.proofs.Common.{◌≡◌, ◌≢◌, false, Result, Ok, Err, List, Bool, [], ◌∷◌, ◌++◌, sym, ◌∙◌, ap, subst, refl, inl}
+use Rattle.def_certtext.specs.CertLines.{certificates_of, used}
 use Rattle.def_feature.specs.Marked.{marked_cut}
 use Rattle.def_flow.specs.declared.net.Settings.{Settings}
-use Rattle.def_io.specs.Bytes.{Bytes}
+use Rattle.def_io.specs.Bytes.{Bytes, Lines}
+use Rattle.def_io.specs.Lines.{lines_of}
 use Rattle.def_io.specs.Moves.{Change}
 use Rattle.def_io.specs.declared.TheConstants.{LINE_FEED}
 use Rattle.def_layout.specs.FaceLayouts.{IsCutLayout}
-use Rattle.def_layout.specs.Plans.{Plan}
-use Rattle.def_marks.specs.Lines.{marks_in}
+use Rattle.def_marks.specs.Lines.{marks_in, marks_of, text_lines}
 use Rattle.def_marks.specs.MarkedText.{marked_text}
 use Rattle.def_marks.specs.declared.fail.MarkFail.{MarkFail}
 use Rattle.def_marks.specs.declared.fail.MarkFail.TheVariants as marks
-use Rattle.def_mesh.specs.Faces.{Faces}
 use Rattle.def_mesh.specs.Manifold.{IsManifold}
+use Rattle.def_remesh.specs.CutSoups.{CutSoup}
 use Rattle.def_remesh.specs.Keeping.{IsKept}
 use Rattle.def_remesh.specs.NewPoints.{lengths_in}
+use Rattle.def_remesh.specs.Placings.{IsMeshLayout}
 use Rattle.def_remesh.specs.Refusals.{IsLayoutFail}
-use Rattle.def_remesh.specs.Remeshed.{used}
 use Rattle.def_remesh.specs.Tasks.{old_lengths}
 use Rattle.def_remesh.specs.declared.kept.LayoutFail.{LayoutFail}
-use Rattle.def_run.specs.Crease.{creased_task, HasMarkFail, HasMarks, RefusesMarks}
+use Rattle.def_run.specs.Crease.{creased_task, AsksToCrease, HasMarkFail, HasMarks, RefusesMarks}
 use Rattle.def_run.specs.Heads.{named_head}
 use Rattle.def_run.specs.Mesh.{IsMeshText}
 use Rattle.def_run.specs.declared.answer.Answer.{Answer}
@@ -33,15 +31,17 @@ use Rattle.def_text.specs.FaceSet.{FaceSet}
 use Rattle.def_text.specs.Input.{ReadWhole}
 use Rattle.def_text.specs.declared.limits.TheConstants.{MAX_BYTES}
 use Rattle.def_text.specs.Fails.{of_obj}
+use Rattle.def_text.specs.Logical.{logical_lines}
 use Rattle.def_text.specs.Text.{soup_in}
 use Rattle.def_text.specs.declared.refusal.ObjFail.{ObjFail}
 use Rattle.def_text.specs.declared.refusal.ObjFail.TheVariants as obj
 use Rattle.def_text.specs.declared.refusal.SoupFail.TheVariants as soup
+use Rattle.qm_top.proofs.Framed.{framed_shown}
 use Rattle.qm_top.proofs.Refusals.{crease_needs, input_ended}
 use Rattle.qm_top.specs.Creasing.{IsUnmarked}
-use Rattle.qm_write.specs.Framing.{IsFramed}
+use Rattle.qm_write.specs.Framing.{framed_text}
 use Rattle.qm_top.specs.Refusals.{Ended, IsNoMeshOf}
-use Rattle.qm_top.specs.Writing.{FailsTask}
+use Rattle.qm_top.specs.Writing.{FailsAsked, ShowsAsked}
 use Rattle.qm_top.specs.declared.refusal.Refusal.{Refusal}
 use Rattle.qm_top.specs.declared.refusal.Refusal.TheVariants.{Marks, NotManifold, Soup}
 use Rattle.qm_top.specs.declared.refusal.Refusal.TheVariants as refusals
@@ -118,27 +118,34 @@ no_mesh_of bytes soup (NotManifold named) said why = record { soup = soup; said 
 no_mesh_of bytes soup refusals.Memory said why = tt
 no_mesh_of bytes soup _ said why = absurd why
 
--- What is kept of a mesh with its marks is in the frame of its task.
-pub creased_framed : (settings : Settings) (soup : FaceSet) (mesh : Faces) (marks sliced : List Bool) (plan : Plan) (framed : Framed) → mesh ≡ soup.faces → sliced ≡ marks
-    → IsCutLayout mesh (marked_cut mesh sliced) plan → framed.remesh.asked ≡ record { settings = settings; auto = false }
-    → IsKept old_lengths plan settings false (lists_of framed.remesh.first) (option_map lists_of framed.remesh.third) framed.remesh.numbering
-    → framed.head.items ≡ named_head (codes "crease") settings ++ LINE_FEED ∷ []
-    → framed.between.items ≡ marked_text marks plan (lengths_in (used (lists_of framed.remesh.first) (option_map lists_of framed.remesh.third)).x)
-    → IsFramed (creased_task settings soup.faces marks) framed soup plan
-creased_framed settings soup mesh marks sliced plan framed same are cut asked kept head between = record {
-  cut = subst (λ (faces : Faces). IsCutLayout faces (marked_cut faces marks) plan) same (subst (λ (xs : List Bool). IsCutLayout mesh (marked_cut mesh xs) plan) are cut);
-  settings = ap (λ (a : Asked). a.settings) asked;
-  auto = ap (λ (a : Asked). a.auto) asked;
-  kept = kept;
-  head = head;
-  between = between;
-}
+module _ (settings : Settings) (bytes : Bytes) (read : FaceSet) (cut : CutSoup) (marks : List Bool) (same : cut.soup ≡ read) (said : marks_in bytes read ≡ Ok marks)
+    (on : IsCutLayout cut.soup.faces (marked_cut cut.soup.faces marks) cut.plan) where
+  asked : AsksToCrease settings bytes cut.soup (creased_task settings cut.soup.faces marks)
+  asked = (marks, subst (λ (s : FaceSet). marks_in bytes s ≡ Ok marks) (sym same) said, refl)
 
--- Where its layout is refused its task fails.
-pub creased_fails : (settings : Settings) (soup : FaceSet) (mesh : Faces) (marks sliced : List Bool) (plan : Plan) (fail : LayoutFail) → mesh ≡ soup.faces → sliced ≡ marks
-    → IsCutLayout mesh (marked_cut mesh sliced) plan → IsLayoutFail old_lengths plan settings false fail → FailsTask (creased_task settings soup.faces marks) soup fail
-creased_fails settings soup mesh marks sliced plan fail same are cut why =
-    (plan, subst (λ (faces : Faces). IsCutLayout faces (marked_cut faces marks) plan) same (subst (λ (xs : List Bool). IsCutLayout mesh (marked_cut mesh xs) plan) are cut), why)
+  -- What is kept of a mesh with its marks is written for its task.
+  pub creased_shown : (framed : Framed) → IsMeshLayout cut.soup.faces cut.plan → framed.remesh.asked ≡ record { settings = settings; auto = false }
+      → IsKept old_lengths cut.plan settings false (certificates_of framed.remesh.certs) framed.remesh.numbering
+      → framed.head.items ≡ named_head (codes "crease") settings ++ LINE_FEED ∷ []
+      → framed.between.items ≡ marked_text marks cut.plan (lengths_in (used (certificates_of framed.remesh.certs)).x)
+      → ShowsAsked (AsksToCrease settings) bytes read (framed_text framed cut.soup cut.plan)
+  creased_shown framed laid is kept head between =
+      subst (λ (s : FaceSet). ShowsAsked (AsksToCrease settings) bytes s (framed_text framed cut.soup cut.plan)) same (
+        creased_task settings cut.soup.faces marks,
+        asked,
+        framed_shown (creased_task settings cut.soup.faces marks) framed _ cut.soup cut.plan laid on is refl refl kept head between,
+      )
+
+  -- Where its layout is refused its task fails.
+  pub creased_fails : (fail : LayoutFail) → IsLayoutFail old_lengths cut.plan settings false fail → FailsAsked (AsksToCrease settings) bytes read fail
+  creased_fails fail why =
+      subst (λ (s : FaceSet). FailsAsked (AsksToCrease settings) bytes s fail) same
+      (creased_task settings cut.soup.faces marks, asked, (cut.plan, on, why))
+
+-- The marks of the lines of a text are those of the text.
+pub marks_same : (bytes : Bytes) (soup read : FaceSet) (lines : Lines) → soup ≡ read → lines ≡ lines_of bytes
+    → marks_of soup (text_lines (logical_lines 1 lines)) ≡ marks_in bytes read
+marks_same bytes soup read lines same all = λ t. marks_of (same t) (text_lines (logical_lines 1 (all t)))
 
 -- A text with this soup, whose faces are a manifold.
 pub mesh_text : (bytes : Bytes) (old soup : FaceSet) → soup_in bytes ≡ Ok old → soup ≡ old → IsManifold old.faces → IsMeshText bytes soup

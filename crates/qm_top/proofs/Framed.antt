@@ -1,36 +1,71 @@
 -- A remesh in the frame of its text finishes its task.
-use Rattle.std.proofs.Common.{sym, subst}
-use Rattle.std.specs.Option.{option_map}
-use Rattle.def_certtext.specs.CertLines.{lists_of}
+use Rattle.std.specs.Prelude.{IsErrOf}
+use Rattle.std.proofs.Common.{◌≡◌, [], ◌∷◌, ◌++◌, ◌∙◌, Err, ap, sym, subst, refl}
+use Rattle.def_certtext.specs.CertLines.{certificates_of, used}
+use Rattle.def_certtext.specs.declared.Asked.{Asked}
 use Rattle.def_io.specs.Bytes.{Bytes}
-use Rattle.def_io.specs.Moves.{Stream}
+use Rattle.def_io.specs.Faults.{Rose}
+use Rattle.def_io.specs.Moves.{IsStill, Stream, TookPrefix}
+use Rattle.def_layout.specs.FaceLayouts.{IsCutLayout}
 use Rattle.def_layout.specs.Plans.{Plan}
+use Rattle.def_remesh.specs.Keeping.{IsKept}
+use Rattle.def_remesh.specs.NewPoints.{lengths_in}
 use Rattle.def_remesh.specs.Placings.{IsMeshLayout}
-use Rattle.def_remesh.specs.Tasks.{Task}
+use Rattle.def_remesh.specs.Tasks.{Task, Wish}
 use Rattle.def_remesh.specs.declared.kept.LayoutFail.{LayoutFail}
 use Rattle.def_text.specs.FaceSet.{FaceSet}
 use Rattle.qm_write.proofs.Framing.{text_is}
-use Rattle.qm_write.specs.Framing.{framed_text, IsFramed}
+use Rattle.qm_write.specs.Framing.{framed_text}
+use Rattle.qm_write.specs.declared.remesh.Remesh.{Remesh}
 use Rattle.qm_write.specs.declared.text.Framed.{Framed}
-use Rattle.qm_top.specs.Writing.{IsUnwritten}
+use Rattle.qm_write.specs.declared.text.PutFail.{PutFail}
+use Rattle.qm_write.specs.declared.text.PutFail.TheVariants as puts
+use Rattle.qm_top.specs.Writing.{refusal_of_put, IsOfLayout, IsUnwritten}
 use Rattle.qm_top.specs.declared.refusal.Refusal.{Refusal}
 use Rattle.qm_top.specs.declared.refusal.Refusal.TheVariants.{Layout, Write}
 use Rattle.qm_top.specs.declared.refusal.Refusal.TheVariants as refusals
 use Rattle.remesh_laws.proofs.Keeps.{shown}
 use Rattle.remesh_laws.specs.Keeps.{ShowsTask}
 
--- Its text is that of the task.
-pub framed_shown : (task : Task) (framed : Framed) (soup : FaceSet) (plan : Plan) → IsFramed task framed soup plan → IsMeshLayout soup.faces plan
+-- What is kept for what was asked is kept for what it tells.
+pub kept_for : (wish : Wish) (plan : Plan) (remesh : Remesh) (asked : Asked) → remesh.asked ≡ asked
+    → IsKept wish plan asked.settings asked.auto (certificates_of remesh.certs) remesh.numbering
+    → (w : Wish) × IsKept w plan remesh.asked.settings remesh.asked.auto (certificates_of remesh.certs) remesh.numbering
+kept_for wish plan remesh asked same kept =
+    (wish, subst (λ (a : Asked). IsKept wish plan a.settings a.auto (certificates_of remesh.certs) remesh.numbering) (sym same) kept)
+
+-- Its text is that of the task for which it is kept.
+pub framed_shown : (task : Task) (framed : Framed) (asked : Asked) (soup : FaceSet) (plan : Plan) → IsMeshLayout soup.faces plan
+    → IsCutLayout soup.faces task.marks plan → framed.remesh.asked ≡ asked → asked.settings ≡ task.settings → asked.auto ≡ task.auto
+    → IsKept task.wish plan task.settings task.auto (certificates_of framed.remesh.certs) framed.remesh.numbering
+    → framed.head.items ≡ task.head ++ 10 ∷ []
+    → framed.between.items ≡ task.between plan (lengths_in (used (certificates_of framed.remesh.certs)).x)
     → ShowsTask task soup (framed_text framed soup plan)
-framed_shown task framed soup plan is lies =
-    subst (ShowsTask task soup) (sym (text_is task framed soup plan is))
-    (shown task soup plan (lists_of framed.remesh.first) (option_map lists_of framed.remesh.third) framed.remesh.numbering lies is.cut is.kept)
+framed_shown task framed asked soup plan laid on same settings auto kept head between =
+    subst (ShowsTask task soup)
+    (sym (text_is task framed soup plan (record {
+      cut = on;
+      settings = ap (λ (a : Asked). a.settings) same ∙ settings;
+      auto = ap (λ (a : Asked). a.auto) same ∙ auto;
+      kept = kept;
+      head = head;
+      between = between;
+    })))
+    (shown task soup plan (certificates_of framed.remesh.certs) framed.remesh.numbering laid on kept)
+
+-- A text that was not put whole was not written whole.
+pub put_refused : {O : Type 0} (says : Bytes → Type 0) (why : Refusal → Type 0) (out : Stream O) (text : Bytes) (fail : PutFail)
+    → says text → why refusals.Memory → (IsErrOf {T = Unit {0}} (Err fail) puts.Stopped → TookPrefix out.change.told out.change.told_now text)
+    → (IsErrOf {T = Unit {0}} (Err fail) puts.Stopped → Rose out.change.faults out.change.faults_now)
+    → (IsErrOf {T = Unit {0}} (Err fail) puts.Memory → IsStill out) → IsUnwritten says why out (refusal_of_put fail)
+put_refused says why out text puts.Stopped said memory prefix rose same = record { text = text; said = said; prefix = prefix refl; fault = rose refl }
+put_refused says why out text puts.Memory said memory prefix rose same = (same refl, memory)
 
 -- A text that was not written is not, whatever it says besides, and whatever layouts are refused besides.
 pub unwritten_weaker : {O : Type 0} (says more : Bytes → Type 0) (fails others : LayoutFail → Type 0) (out : Stream O) → ((text : Bytes) → says text → more text)
-    → ((fail : LayoutFail) → fails fail → others fail) → (r : Refusal) → IsUnwritten says fails out r → IsUnwritten more others out r
+    → ((fail : LayoutFail) → fails fail → others fail) → (r : Refusal) → IsUnwritten says (IsOfLayout fails) out r → IsUnwritten more (IsOfLayout others) out r
 unwritten_weaker says more fails others out weaker besides (Layout fail) none = (none.0, besides fail none.1)
 unwritten_weaker says more fails others out weaker besides (Write fail) broke =
     record { text = broke.text; said = weaker broke.text broke.said; prefix = broke.prefix; fault = broke.fault }
 unwritten_weaker says more fails others out weaker besides refusals.Memory same = same
-unwritten_weaker says more fails others out weaker besides _ none = absurd none
+unwritten_weaker says more fails others out weaker besides _ none = absurd none.1

@@ -1,9 +1,8 @@
 -- What `map` keeps: the map of a new mesh is written, or a refusal has its cause.
-use Rattle.std.specs.Prelude.{IfErr, OnOk}
-use Rattle.std.proofs.Common.{◌≡◌, ◌≢◌, Result, Ok, Err, inl, inr, refl, subst}
+use Rattle.std.proofs.Common.{◌≡◌, inl, inr}
 use Rattle.def_io.specs.Bytes.{Bytes}
 use Rattle.def_io.specs.Lines.{lines_of}
-use Rattle.def_io.specs.Moves.{Change, Stream}
+use Rattle.def_io.specs.Moves.{Change}
 use Rattle.def_marks.specs.declared.fail.MarkFail.{MarkFail}
 use Rattle.def_marks.specs.declared.fail.MarkFail.TheVariants as marks
 use Rattle.def_mesh.specs.declared.Place.{Place}
@@ -24,13 +23,12 @@ use Rattle.def_text.specs.declared.refusal.SoupFail.TheVariants as soup
 use Rattle.def_text.specs.declared.refusal.Which.TheVariants.{Bytes as AllBytes}
 use Rattle.qm_top.proofs.NeverBytes.{never_bytes}
 use Rattle.qm_top.proofs.Refusals.{obj_place}
+use Rattle.qm_top.proofs.Writers.{IsWriter}
 use Rattle.qm_top.specs.Checking.{IsPlaced}
-use Rattle.qm_top.specs.Mapping.{IsNoMapFor, IsUnmapped}
-use Rattle.qm_top.specs.Refusals.{answer_of, answer_of_marks, answer_of_obj, Ended}
-use Rattle.qm_top.specs.Runs.{HasRun}
-use Rattle.qm_top.specs.Writing.{WroteText}
+use Rattle.qm_top.specs.Mapping.{IsNoMapFor}
+use Rattle.qm_top.specs.Refusals.{answer_of_marks, answer_of_obj, Ended}
 use Rattle.qm_top.specs.declared.refusal.Refusal.{Refusal}
-use Rattle.qm_top.specs.declared.refusal.Refusal.TheVariants.{NotAccepted, Soup, NotManifold, Marks, Layout, Far, Write}
+use Rattle.qm_top.specs.declared.refusal.Refusal.TheVariants.{NotAccepted, Soup, NotManifold, Marks, Layout, Far}
 use Rattle.qm_top.specs.declared.refusal.Refusal.TheVariants as refusals
 
 -- A place that bytes are refused for is the first fault of their soup.
@@ -43,9 +41,9 @@ marks_place : (fail : MarkFail) (p : Place) → answer_of_marks fail ≡ answers
 marks_place marks.Memory p is = cc
 marks_place _ p is = cc
 
-module _ {O : Type 0} (input : Change) (out : Stream O) (bytes : Bytes) (whole : ReadWhole MAX_BYTES input.told input.told_now bytes) (calm : input.faults_now ≡ input.faults) where
+module _ (input out : Change) (bytes : Bytes) (whole : ReadWhole MAX_BYTES input.told input.told_now bytes) (calm : input.faults_now ≡ input.faults) where
   -- The refusal of the text in front has its cause.
-  front_cause : (fail : ObjFail) → RefusesFrontText bytes fail → (¬ HasMap bytes) → Cause Map input out.change (answer_of_obj fail)
+  front_cause : (fail : ObjFail) → RefusesFrontText bytes fail → (¬ HasMap bytes) → Cause Map input out (answer_of_obj fail)
   front_cause (obj.Limit AllBytes line) none never = absurd (never_bytes 1 (lines_of (front_of none.line bytes)) line none.said)
   front_cause obj.Memory none never = tt
   front_cause _ none never = record {
@@ -55,7 +53,7 @@ module _ {O : Type 0} (input : Change) (out : Stream O) (bytes : Bytes) (whole :
   }
 
   -- So has that of its `l` lines.
-  marks_cause : (fail : MarkFail) → RefusesFrontMarks bytes fail → (¬ HasMap bytes) → Cause Map input out.change (answer_of_marks fail)
+  marks_cause : (fail : MarkFail) → RefusesFrontMarks bytes fail → (¬ HasMap bytes) → Cause Map input out (answer_of_marks fail)
   marks_cause marks.Memory none never = tt
   marks_cause _ none never = record {
     bytes = bytes;
@@ -64,13 +62,13 @@ module _ {O : Type 0} (input : Change) (out : Stream O) (bytes : Bytes) (whole :
   }
 
   -- Bytes that have no map end the command.
-  unmapped_ends : (r : Refusal) → IsUnmapped bytes out r → Ended Map input out.change r
+  unmapped_ends : (r : Refusal) → IsNoMapFor bytes r → Ended Map input out r
   unmapped_ends (NotAccepted why) none =
-      record { cause = record { bytes = bytes; whole = whole; said = none.1 }; names = λ p is. cc; calm = λ f m. calm }
+      record { cause = record { bytes = bytes; whole = whole; said = none }; names = λ p is. cc; calm = λ f m. calm }
   unmapped_ends (Soup (soup.Obj fail)) none =
-      record { cause = front_cause fail none.1.0 none.1.2; names = λ p is. absurd (obj_place fail p is); calm = λ f m. calm }
+      record { cause = front_cause fail none.0 none.2; names = λ p is. absurd (obj_place fail p is); calm = λ f m. calm }
   unmapped_ends (NotManifold named) none =
-      let fault = none.1.0.fault in record {
+      let fault = none.0.fault in record {
         cause = record {
           bytes = bytes;
           whole = whole;
@@ -78,61 +76,29 @@ module _ {O : Type 0} (input : Change) (out : Stream O) (bytes : Bytes) (whole :
             inl (record {
               line = fault.line;
               divided = fault.divided;
-              none = record { soup = none.1.0.front; said = fault.said; fault = fault.fault; refuted = fault.refuted };
+              none = record { soup = none.0.front; said = fault.said; fault = fault.fault; refuted = fault.refuted };
             }),
-            none.1.1,
+            none.1,
           );
         };
         names = λ p is. record {
           bytes = bytes;
           whole = whole;
-          soup = none.1.0.front;
+          soup = none.0.front;
           looks = (fault.line, fault.divided, fault.said);
-          numbers = none.1.0.numbers;
+          numbers = none.0.numbers;
         };
         calm = λ f m. calm;
       }
   unmapped_ends (Marks fail) none =
-      record { cause = marks_cause fail none.1.0 none.1.2; names = λ p is. absurd (marks_place fail p is); calm = λ f m. calm }
+      record { cause = marks_cause fail none.0 none.2; names = λ p is. absurd (marks_place fail p is); calm = λ f m. calm }
   unmapped_ends (Layout (layouts.Tangled count)) none =
-      record { cause = record { bytes = bytes; whole = whole; said = none.1 }; names = λ p is. cc; calm = λ f m. calm }
+      record { cause = record { bytes = bytes; whole = whole; said = none }; names = λ p is. cc; calm = λ f m. calm }
   unmapped_ends (Far sum) none =
-      record { cause = record { bytes = bytes; whole = whole; said = none.1 }; names = λ p is. cc; calm = λ f m. calm }
-  unmapped_ends (Write fail) broke = record {
-    cause = record { bytes = bytes; whole = whole; text = broke.text; said = broke.said; prefix = broke.prefix; fault = broke.fault };
-    names = λ p is. cc;
-    calm = λ f m. calm;
-  }
+      record { cause = record { bytes = bytes; whole = whole; said = none }; names = λ p is. cc; calm = λ f m. calm }
   unmapped_ends refusals.Memory none = record { cause = tt; names = λ p is. cc; calm = λ f m. calm }
-  unmapped_ends _ none = absurd none.1
+  unmapped_ends _ none = absurd none
 
-  same_sink : (r : Refusal) → IsUnmapped bytes out r → answer_of r ≢ answers.WriteFault → out.now ≡ out.before
-  same_sink (Write fail) broke other = absurd (other refl)
-  same_sink _ none other = none.0
-
-  map_runs : (result : Result (Unit {0}) Refusal) → OnOk result (WroteText (WritesMap bytes) out.change)
-      → IfErr result (IsUnmapped bytes out) → HasRun Map input out result
-  map_runs (Ok x) wrote none = record {
-    done = record {
-      wrote = record { bytes = bytes; whole = whole; text = wrote.text; said = wrote.said; written = wrote.written };
-      read = tt;
-      calm = calm;
-    };
-    refused = tt;
-    untouched = tt;
-  }
-  map_runs (Err r) wrote none =
-      record { done = tt; refused = unmapped_ends r none; untouched = same_sink r none }
-
--- The same of bytes that are those which were read.
-pub bytes_mapped : {O : Type 0} (input : Change) (out : Stream O) (bytes given : Bytes) → given ≡ bytes → ReadWhole MAX_BYTES input.told input.told_now bytes
-    → input.faults_now ≡ input.faults → (result : Result (Unit {0}) Refusal) → OnOk result (WroteText (WritesMap given) out.change)
-    → IfErr result (IsUnmapped given out) → HasRun Map input out result
-bytes_mapped input out bytes given same whole calm result wrote none =
-    map_runs input out bytes whole calm result (subst (λ (bs : Bytes). OnOk result (WroteText (WritesMap bs) out.change)) same wrote)
-    (subst (λ (bs : Bytes). IfErr result (IsUnmapped bs out)) same none)
-
--- The map of bytes that have none is not written, and the sink is as it was.
-pub unmapped : {O : Type 0} (bytes : Bytes) (out : Stream O) (r : Refusal) → IsNoMapFor bytes r → out.now ≡ out.before → IsUnmapped bytes out r
-unmapped bytes out (Write fail) none same = absurd none
-unmapped bytes out _ none same = (same, none)
+  pub map_writer : IsWriter Map (WritesMap bytes) (IsNoMapFor bytes) input out
+  map_writer =
+      record { bytes = bytes; whole = whole; calm = calm; writes = λ text said. said; read = λ text said. tt; ends = unmapped_ends }

@@ -1,11 +1,12 @@
 -- The text of a refined mesh, and what `refine` keeps.
-use Rattle.std.proofs.Common.{◌≡◌, ℕ, ◌≤◌, subst, refl, arith}
+use Rattle.std.proofs.Common.{◌≡◌, ℕ, ◌≤◌, sym, ap, ◌∙◌, subst, refl, arith}
 use Rattle.def_io.specs.Moves.{Change}
 use Rattle.def_layout.specs.Arcs.{long_at}
 use Rattle.def_layout.specs.Plans.{Plan, layout_of, vertex_at}
 use Rattle.def_mesh.specs.Faces.{Faces}
 use Rattle.def_mesh.specs.Manifold.{IsManifold}
-use Rattle.def_remesh.specs.NewPoints.{multiple_of}
+use Rattle.def_remesh.specs.CutSoups.{CutSoup, Regrid}
+use Rattle.def_remesh.specs.NewPoints.{lengths_in, multiple_of}
 use Rattle.def_remesh.specs.Placings.{IsMeshLayout}
 use Rattle.def_remesh.specs.Refined.{refined_faces, refined_text}
 use Rattle.def_remesh.specs.Stitched.{KeepsShapes}
@@ -25,28 +26,44 @@ use Rattle.def_text.specs.Input.{ReadSoup}
 use Rattle.def_text.specs.declared.limits.TheConstants.{MAX_BYTES}
 use Rattle.def_written.specs.NewFaces.{new_faces}
 use Rattle.def_written.specs.Shape.{KeepsShape}
-use Rattle.qm_top.specs.Refining.{FailsToRefine, ShowsRefined}
+use Rattle.qm_top.specs.Refining.{FailsToRefine, IsRefinedMesh, ShowsRefined}
 use Rattle.qm_top.specs.Refusals.{answer_of_layout}
-use Rattle.qm_top.proofs.Writers.{IsWriter}
+use Rattle.qm_top.specs.Writing.{IsOfLayout}
+use Rattle.qm_top.proofs.Writers.{layout_ends, IsWriter}
 use Rattle.remesh_laws.proofs.ReadAgain.{refined_read}
 
--- The text of a mesh with multiples of the old lengths is one of a refined mesh.
-pub is_refined : (by : ℕ) (soup : FaceSet) (plan : Plan) → 1 ≤ by → by ≤ MAX_MULTIPLE → IsMeshLayout soup.faces plan → IsTracedLayout soup.faces plan
-    → KeepsShapes plan (multiple_of by (long_at plan.arcs)) → refined_faces by plan ≤ MAX_NEW_FACES
-    → ShowsRefined by soup (refined_text by soup plan)
-is_refined by soup plan some few (is, same) cut keeps fits = record {
-  refined = record {
-    plan = plan;
-    cut = cut;
-    fits = fits;
-    written = refl;
-    shape = subst
-        (λ (fs : Faces). KeepsShape fs (new_faces (layout_of plan) (multiple_of by (long_at plan.arcs))) (layout_of plan).nodes (vertex_at plan))
+-- What is refined of a cut mesh is refined of the soup that it was made of.
+pub refined_of : (by : ℕ) (soup : FaceSet) (cut : CutSoup) (new : Regrid) → cut.soup ≡ soup → IsMeshLayout cut.soup.faces cut.plan
+    → IsTracedLayout cut.soup.faces cut.plan
+    → (new.soup ≡ cut.soup) × (new.plan ≡ cut.plan) × (lengths_in new.lengths ≡ multiple_of by (long_at cut.plan.arcs))
+    → refined_faces by cut.plan ≤ MAX_NEW_FACES → KeepsShapes cut.plan (multiple_of by (long_at cut.plan.arcs)) → IsRefinedMesh by soup new
+refined_of by soup cut new is laid traced (same, on, lengths) fits shape =
+    let lies : IsMeshLayout soup.faces new.plan × IsTracedLayout soup.faces new.plan =
+    subst (λ (s : FaceSet). IsMeshLayout s.faces new.plan × IsTracedLayout s.faces new.plan) is
+    (subst (λ (p : Plan). IsMeshLayout cut.soup.faces p × IsTracedLayout cut.soup.faces p) (sym on) (laid, traced)) in
+    record {
+      same = same ∙ is;
+      laid = lies.0;
+      cut = lies.1;
+      lengths = lengths ∙ ap (λ (p : Plan). multiple_of by (long_at p.arcs)) (sym on);
+      fits = subst (λ (p : Plan). refined_faces by p ≤ MAX_NEW_FACES) (sym on) fits;
+      shape = subst (λ (p : Plan). KeepsShapes p (multiple_of by (long_at p.arcs))) (sym on) shape;
+    }
+
+-- Its text is one of a refined mesh.
+pub is_refined : (by : ℕ) (soup : FaceSet) (new : Regrid) → 1 ≤ by → by ≤ MAX_MULTIPLE → IsRefinedMesh by soup new
+    → ShowsRefined by soup (refined_text by new.soup new.plan)
+is_refined by soup new some few are = subst (λ (s : FaceSet). ShowsRefined by soup (refined_text by s new.plan)) (sym are.same) (record {
+  refined = record { plan = new.plan; cut = are.cut; fits = are.fits; written = refl; shape = shape are.laid };
+  read = refined_read by soup new.plan are.laid.0 (omega (arith, some)) (omega (arith, few));
+})
+  where
+    shape : IsMeshLayout soup.faces new.plan
+        → KeepsShape soup.faces (new_faces (layout_of new.plan) (multiple_of by (long_at new.plan.arcs))) (layout_of new.plan).nodes (vertex_at new.plan)
+    shape (is, same) = subst
+        (λ (fs : Faces). KeepsShape fs (new_faces (layout_of new.plan) (multiple_of by (long_at new.plan.arcs))) (layout_of new.plan).nodes (vertex_at new.plan))
         same
-        (keeps is.faces is.marks is.mesh is.quads is.cut is.laid);
-  };
-  read = refined_read by soup plan is (omega (arith, some)) (omega (arith, few));
-}
+        (are.shape is.faces is.marks is.mesh is.quads is.cut is.laid)
 
 -- A soup that is not refined is refused so by a command that refuses what `refine` refuses.
 pub fails_as : (command : Command) (by : ℕ) (input out : Change) (soup : FaceSet) → IsManifold soup.faces
@@ -60,17 +77,18 @@ fails_as command by input out soup manifold read whole says (layouts.TooFine fac
       (plan, record { soup = soup; mesh = record { said = read.said; manifold = manifold }; cut = cut }, why);
 }
 fails_as command by input out soup manifold read whole says layouts.Memory why = tt
-fails_as command by input out soup manifold read whole says _ (plan, cut, none) = absurd none
+fails_as command by input out soup manifold read whole says _ none = absurd none
 
 -- What `refine` keeps once its mesh is read.
 pub refine_writer : (by : ℕ) (input out : Change) (soup : FaceSet) → IsManifold soup.faces
     → ReadSoup MAX_BYTES input.told input.told_now soup → input.faults_now ≡ input.faults
-    → IsWriter (Refine by) (ShowsRefined by soup) (FailsToRefine by soup) input out
+    → IsWriter (Refine by) (ShowsRefined by soup) (IsOfLayout (FailsToRefine by soup)) input out
 refine_writer by input out soup manifold read calm = record {
   bytes = read.bytes;
   whole = read.whole;
   calm = calm;
   writes = λ text shows. record { soup = soup; mesh = record { said = read.said; manifold = manifold }; refined = shows.refined };
   read = λ text shows. shows.read;
-  refuses = fails_as (Refine by) by input out soup manifold read read.whole (λ answer why. why);
+  ends = layout_ends (Refine by) (FailsToRefine by soup) input out calm
+      (fails_as (Refine by) by input out soup manifold read read.whole (λ answer why. why));
 }

@@ -1,36 +1,25 @@
 -- What a command keeps that remeshes.
-use Rattle.std.specs.Prelude.{IfErr, IsErrOf, OnOk}
-use Rattle.std.proofs.Common.{◌≡◌, [], ◌∷◌, ◌++◌, codes, false, Bool, Result, Err, ap, inr, refl, subst, sym, ◌∙◌}
+use Rattle.std.specs.Prelude.{IfErr, OnOk}
+use Rattle.std.proofs.Common.{◌≡◌, [], ◌∷◌, ◌++◌, codes, false, Bool, Result, inr, subst, sym}
 use Rattle.std.proofs.lemmas.Result.{IfErr-weaker, on_ok_weaker}
-use Rattle.std.specs.Option.{option_map}
-use Rattle.def_certtext.specs.CertLines.{lists_of}
+use Rattle.def_certtext.specs.CertLines.{used}
 use Rattle.def_certtext.specs.Settings.{AreInRange}
-use Rattle.def_certtext.specs.declared.Asked.{Asked}
 use Rattle.def_flow.specs.declared.net.Settings.{Settings}
 use Rattle.def_io.specs.Bytes.{Bytes}
-use Rattle.def_io.specs.Faults.{Rose}
-use Rattle.def_io.specs.Moves.{Change, IsStill, Stream, TookPrefix}
+use Rattle.def_io.specs.Moves.{Change, Stream}
 use Rattle.def_mesh.specs.Manifold.{IsManifold}
-use Rattle.def_remesh.specs.Keeping.{IsKept}
 use Rattle.def_remesh.specs.declared.kept.LayoutFail.{LayoutFail}
 use Rattle.def_remesh.specs.declared.kept.LayoutFail.TheVariants as layouts
 use Rattle.def_text.specs.FaceSet.{FaceSet}
 use Rattle.def_text.specs.Input.{ReadSoup}
 use Rattle.def_text.specs.declared.limits.TheConstants.{MAX_BYTES}
-use Rattle.qm_top.proofs.Writers.{IsWriter}
-use Rattle.qm_top.specs.Finishing.{IsHeaded}
-use Rattle.qm_write.specs.Framing.{IsFramed}
+use Rattle.qm_top.proofs.Writers.{layout_ends, IsWriter}
 use Rattle.qm_top.specs.Refusals.{answer_of_layout}
-use Rattle.qm_write.specs.declared.text.Framed.{Framed}
-use Rattle.qm_write.specs.declared.text.PutFail.{PutFail}
-use Rattle.qm_write.specs.declared.text.PutFail.TheVariants as puts
 use Rattle.def_layout.specs.FaceLayouts.{IsCutLayout}
 use Rattle.def_layout.specs.Plans.{Plan}
-use Rattle.def_remesh.specs.Refusals.{IsLayoutFail}
 use Rattle.def_remesh.specs.NewPoints.{lengths_in}
 use Rattle.def_remesh.specs.ReadAgain.{lines_between}
-use Rattle.def_remesh.specs.Remeshed.{used}
-use Rattle.def_remesh.specs.Tasks.{old_lengths, remesh_task, Task, Wish}
+use Rattle.def_remesh.specs.Tasks.{remesh_task, Task}
 use Rattle.def_run.specs.Causes.{Cause, Refused, Refuses, Writes}
 use Rattle.def_run.specs.Coarse.{AsksToMerge}
 use Rattle.def_run.specs.Crease.{creased_task, AsksToCrease}
@@ -42,8 +31,7 @@ use Rattle.def_run.specs.declared.answer.Answer.{Answer}
 use Rattle.def_run.specs.declared.answer.Answer.TheVariants as answers
 use Rattle.def_run.specs.declared.command.Command.{Command}
 use Rattle.def_run.specs.declared.command.Command.TheVariants as commands
-use Rattle.qm_top.specs.Writing.{refusal_of_put, FailsAsked, FailsTask, IsUnwritten, ShowsAsked, WroteText}
-use Rattle.qm_top.specs.declared.finishing.Headed.{Headed}
+use Rattle.qm_top.specs.Writing.{FailsAsked, FailsTask, IsOfLayout, IsUnwritten, ShowsAsked, WroteText}
 use Rattle.qm_top.specs.declared.refusal.Refusal.{Refusal}
 use Rattle.qm_top.proofs.Asides.{coarse_aside, crease_aside, marked_aside}
 use Rattle.qm_top.proofs.Framed.{unwritten_weaker}
@@ -59,11 +47,11 @@ IsReadAside asks bytes text said = IsAside (said.task.head ++ 10 ∷ []) → IsA
 
 -- It does where the lines of the task that was asked are such.
 pub task_reread : (asks : Asks) (bytes text : Bytes) (said : WritesFinished asks bytes text) (task : Task) → said.task ≡ task → IsAside (task.head ++ 10 ∷ [])
-    → IsAside (task.between said.shown.finished.plan (lengths_in (used said.shown.finished.first said.shown.finished.third).x))
+    → IsAside (task.between said.shown.finished.plan (lengths_in (used said.shown.finished.certificates).x))
     → IsReadAside asks bytes text said → RereadsTask asks bytes text said
 task_reread asks bytes text said task is head between read =
     read (subst (λ (t : Task). IsAside (t.head ++ 10 ∷ [])) (sym is) head)
-    (subst (λ (t : Task). IsAside (t.between said.shown.finished.plan (lengths_in (used said.shown.finished.first said.shown.finished.third).x))) (sym is) between)
+    (subst (λ (t : Task). IsAside (t.between said.shown.finished.plan (lengths_in (used said.shown.finished.certificates).x))) (sym is) between)
 
 -- What a command does that asks for a task: it writes it finished, so that it is read again, or refuses it.
 pub record IsTasked (command : Command) (asks : Asks) : Type 0 where
@@ -75,7 +63,7 @@ pub record IsTasked (command : Command) (asks : Asks) : Type 0 where
 -- What such a command keeps that has read a mesh.
 pub task_writer : (command : Command) (asks : Asks) (input out : Change) (soup : FaceSet) → NeedsMesh command → IsTasked command asks
     → IsManifold soup.faces → (read : ReadSoup MAX_BYTES input.told input.told_now soup) → input.faults_now ≡ input.faults
-    → IsWriter command (ShowsAsked asks read.bytes soup) (FailsAsked asks read.bytes soup) input out
+    → IsWriter command (ShowsAsked asks read.bytes soup) (IsOfLayout (FailsAsked asks read.bytes soup)) input out
 task_writer command asks input out soup needs tasked manifold read calm = record {
   bytes = read.bytes;
   whole = needs.reads input read.bytes read.whole;
@@ -84,7 +72,7 @@ task_writer command asks input out soup needs tasked manifold read calm = record
       (record { soup = soup; mesh = mesh; task = shows.0; asked = shows.1; shown = shows.2.shown });
   read = λ text shows. tasked.read read.bytes text
       (record { soup = soup; mesh = mesh; task = shows.0; asked = shows.1; shown = shows.2.shown }) shows.2.read;
-  refuses = refuses;
+  ends = layout_ends command (FailsAsked asks read.bytes soup) input out calm refuses;
 }
   where
     mesh : IsMeshText read.bytes soup
@@ -119,8 +107,8 @@ crease_tasked settings range = record {
   writes = λ bytes text said. said;
   read = λ bytes text said read short.
       task_reread (AsksToCrease settings) bytes text said (creased_task settings said.soup.faces said.asked.0) said.asked.2 (crease_aside settings range)
-      (marked_aside said.asked.0 said.shown.finished.plan (lengths_in (used said.shown.finished.first said.shown.finished.third).x)
-      (subst (λ (t : Task). HasShortLines (t.between said.shown.finished.plan (lengths_in (used said.shown.finished.first said.shown.finished.third).x)))
+      (marked_aside said.asked.0 said.shown.finished.plan (lengths_in (used said.shown.finished.certificates).x)
+      (subst (λ (t : Task). HasShortLines (t.between said.shown.finished.plan (lengths_in (used said.shown.finished.certificates).x)))
       said.asked.2 short))
       read;
   refuses = λ bytes answer why. inr why;
@@ -134,53 +122,19 @@ coarse_tasked settings range = record {
   refuses = λ bytes answer why. why;
 }
 
-module _ (asks : Asks) (bytes : Bytes) (soup : FaceSet) (task : Task) (asked : asks bytes soup task) (result : Result (Unit {0}) Refusal) where
+module _ (asks : Asks) (bytes : Bytes) (soup read : FaceSet) (same : soup ≡ read) (task : Task) (asked : asks bytes soup task) (result : Result (Unit {0}) Refusal) where
   -- What is done for a task is done for whoever asks for it.
-  pub asked_done : (out : Change) → OnOk result (WroteText (ShowsTask task soup) out) → OnOk result (WroteText (ShowsAsked asks bytes soup) out)
-  asked_done out done = on_ok_weaker result (λ (wrote : WroteText (ShowsTask task soup) out). record { text = wrote.text; said = (task, asked, wrote.said); written = wrote.written }) done
+  pub asked_done : (out : Change) → OnOk result (WroteText (ShowsTask task soup) out) → OnOk result (WroteText (ShowsAsked asks bytes read) out)
+  asked_done out done =
+      subst (λ (s : FaceSet). OnOk result (WroteText (ShowsAsked asks bytes s) out)) same
+      (on_ok_weaker result (λ (wrote : WroteText (ShowsTask task soup) out). record { text = wrote.text; said = (task, asked, wrote.said); written = wrote.written }) done)
 
   -- So is what is refused.
-  pub asked_refused : {O : Type 0} (out : Stream O) → IfErr result (IsUnwritten (ShowsTask task soup) (FailsTask task soup) out)
-      → IfErr result (IsUnwritten (ShowsAsked asks bytes soup) (FailsAsked asks bytes soup) out)
+  pub asked_refused : {O : Type 0} (out : Stream O) → IfErr result (IsUnwritten (ShowsTask task soup) (IsOfLayout (FailsTask task soup)) out)
+      → IfErr result (IsUnwritten (ShowsAsked asks bytes read) (IsOfLayout (FailsAsked asks bytes read)) out)
   asked_refused out refused =
-      IfErr-weaker result _ _
+      subst (λ (s : FaceSet). IfErr result (IsUnwritten (ShowsAsked asks bytes s) (IsOfLayout (FailsAsked asks bytes s)) out)) same
+      (IfErr-weaker result _ _
       (unwritten_weaker (ShowsTask task soup) (ShowsAsked asks bytes soup) (FailsTask task soup) (FailsAsked asks bytes soup) out
       (λ text shown. (task, asked, shown)) (λ fail fails. (task, asked, fails)))
-      refused
-
--- A text that was not put whole was not written whole.
-pub put_refused : {O : Type 0} (says : Bytes → Type 0) (fails : LayoutFail → Type 0) (out : Stream O) (text : Bytes) (fail : PutFail)
-    → says text → (IsErrOf {T = Unit {0}} (Err fail) puts.Stopped → TookPrefix out.change.told out.change.told_now text)
-    → (IsErrOf {T = Unit {0}} (Err fail) puts.Stopped → Rose out.change.faults out.change.faults_now)
-    → (IsErrOf {T = Unit {0}} (Err fail) puts.Memory → IsStill out) → IsUnwritten says fails out (refusal_of_put fail)
-put_refused says fails out text puts.Stopped said prefix rose same = record { text = text; said = said; prefix = prefix refl; fault = rose refl }
-put_refused says fails out text puts.Memory said prefix rose same = same refl
-
-module _ (task : Task) (headed : Headed) (soup : FaceSet) (plan : Plan) (is : IsHeaded task headed soup plan) where
-  -- What holds of what is asked holds of the task.
-  of_task : (P : Wish → Settings → Bool → Type 0) → P old_lengths headed.asked.settings headed.asked.auto → P task.wish task.settings task.auto
-  of_task P holds =
-      subst (λ (wish : Wish). P wish task.settings task.auto) (sym is.wish)
-      (subst (λ (settings : Settings). P old_lengths settings task.auto) is.settings
-      (subst (λ (auto : Bool). P old_lengths headed.asked.settings auto) is.auto holds))
-
-  -- What is kept of it is in its frame.
-  pub headed_framed : (framed : Framed) → framed.remesh.asked ≡ headed.asked
-      → IsKept old_lengths plan headed.asked.settings headed.asked.auto (lists_of framed.remesh.first) (option_map lists_of framed.remesh.third)
-      framed.remesh.numbering
-      → framed.head.items ≡ headed.head.items → framed.between.items ≡ [] → IsFramed task framed soup plan
-  headed_framed framed same kept head between = record {
-    cut = is.cut;
-    settings = ap (λ (a : Asked). a.settings) same ∙ is.settings;
-    auto = ap (λ (a : Asked). a.auto) same ∙ is.auto;
-    kept = of_task
-        (λ wish settings auto. IsKept wish plan settings auto (lists_of framed.remesh.first) (option_map lists_of framed.remesh.third)
-        framed.remesh.numbering)
-        kept;
-    head = head ∙ is.head;
-    between = between ∙ sym (is.between _);
-  }
-
-  -- Where its layout is refused it fails.
-  pub headed_fails : (fail : LayoutFail) → IsLayoutFail old_lengths plan headed.asked.settings headed.asked.auto fail → FailsTask task soup fail
-  headed_fails fail why = (plan, is.cut, of_task (λ wish settings auto. IsLayoutFail wish plan settings auto fail) why)
+      refused)

@@ -1,20 +1,18 @@
 -- What `check` does with the bytes that it read.
 use Rattle.std.specs.Prelude.{◌≡◌, ◌≢◌, ⊤}
 use Rattle.def_io.specs.Bytes.{Bytes}
-use Rattle.def_io.specs.Moves.{IsStill, Stream}
 use Rattle.def_mesh.specs.Faults.{IsFirstFault}
 use Rattle.def_remesh.specs.declared.kept.LayoutFail.TheVariants as layouts
-use Rattle.def_run.specs.Check.{IsNotAccepted, IsTangledOld, RefusesOldText, WritesAccepted}
+use Rattle.def_run.specs.Check.{IsNotAccepted, IsTangledOld, RefusesOldText}
 use Rattle.def_text.specs.FaceSet.{FaceSet}
 use Rattle.def_text.specs.declared.refusal.ObjFail.TheVariants as obj
 use Rattle.def_text.specs.declared.refusal.SoupFail.TheVariants as soup
 use Rattle.def_run.specs.CheckFails.{HasOldFault}
 use Rattle.def_run.specs.declared.check_fail.CheckFail.{CheckFail}
 use Rattle.def_run.specs.declared.check_fail.CheckFail.TheVariants as check_fail
-use Rattle.qm_top.specs.Writing.{BrokeText}
 use Rattle.qm_top.specs.declared.named.NamedPlace.{NamedPlace}
 use Rattle.qm_top.specs.declared.refusal.Refusal.{Refusal}
-use Rattle.qm_top.specs.declared.refusal.Refusal.TheVariants.{NotAccepted, Soup, NotManifold, Layout, Write}
+use Rattle.qm_top.specs.declared.refusal.Refusal.TheVariants.{NotAccepted, Soup, NotManifold, Layout}
 use Rattle.qm_top.specs.declared.refusal.Refusal.TheVariants as refusals
 
 -- A place that a text is refused for is the first fault of the faces of its soup.
@@ -36,8 +34,3 @@ IsNoPairFor bytes (NotManifold named) = NamesOldFault bytes named
 IsNoPairFor bytes (Layout (layouts.Tangled count)) = IsTangledOld bytes count
 IsNoPairFor bytes refusals.Memory = Unit {0}
 IsNoPairFor bytes _ = ⊥
-
--- Why the line that accepts them was not written. Where the sink did not fail it is as it was.
-abbrev pub IsUnaccepted : {O : Type 0} (bytes : Bytes) (out : Stream O) (refusal : Refusal) → Type 0
-IsUnaccepted bytes out (Write fail) = BrokeText (WritesAccepted bytes) out.change
-IsUnaccepted bytes out refusal = IsStill out × IsNoPairFor bytes refusal

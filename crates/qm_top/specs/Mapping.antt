@@ -1,29 +1,25 @@
 -- What `map` does with the bytes that it read.
 use Rattle.std.specs.Prelude.{◌≡◌, ◌≢◌, ⊤}
 use Rattle.def_io.specs.Bytes.{Bytes}
-use Rattle.def_io.specs.Moves.{IsStill, Stream}
-use Rattle.def_layout.specs.Plans.{plan}
 use Rattle.def_map.specs.MapText.{map_text}
 use Rattle.def_marks.specs.declared.fail.MarkFail.TheVariants as marks
+use Rattle.def_remesh.specs.CutSoups.{Regrid}
 use Rattle.def_remesh.specs.NewPoints.{lengths_in}
 use Rattle.def_remesh.specs.declared.kept.LayoutFail.TheVariants as layouts
-use Rattle.def_run.specs.Map.{HasMap, RefusesToMap, WritesMap}
+use Rattle.def_run.specs.Map.{HasMap, RefusesToMap}
 use Rattle.def_run.specs.MapFails.{HasFrontFault, RefusesFrontMarks, RefusesFrontText}
 use Rattle.def_run.specs.declared.answer.Answer.TheVariants as answers
 use Rattle.def_text.specs.FaceSet.{FaceSet}
 use Rattle.def_text.specs.declared.refusal.ObjFail.TheVariants as obj
 use Rattle.def_text.specs.declared.refusal.SoupFail.TheVariants as soup
-use Rattle.qm_check.specs.declared.map.Mapped.{Mapped}
-use Rattle.qm_top.specs.Writing.{BrokeText}
 use Rattle.qm_top.specs.declared.named.NamedPlace.{NamedPlace}
 use Rattle.qm_top.specs.declared.refusal.Refusal.{Refusal}
-use Rattle.qm_top.specs.declared.refusal.Refusal.TheVariants.{NotAccepted, Soup, NotManifold, Marks, Layout, Far, Write}
+use Rattle.qm_top.specs.declared.refusal.Refusal.TheVariants.{NotAccepted, Soup, NotManifold, Marks, Layout, Far}
 use Rattle.qm_top.specs.declared.refusal.Refusal.TheVariants as refusals
 
--- The map of the points of a new mesh.
-abbrev pub mapped_text : (mapped : Mapped) → Bytes
-mapped_text mapped =
-    map_text mapped.soup (plan mapped.cut.layout) (lengths_in mapped.points.numbering.lengths.items)
+-- The map of a new mesh.
+abbrev pub mapped_text : (new : Regrid) → Bytes
+mapped_text new = map_text new.soup new.plan (lengths_in new.lengths)
 
 -- The faces of the text in front are no manifold, first at this place, with the numbers of that text.
 pub record NamesFrontFault (bytes : Bytes) (named : NamedPlace) : Type 0 where
@@ -41,8 +37,3 @@ IsNoMapFor bytes (Layout (layouts.Tangled count)) = RefusesToMap bytes (answers.
 IsNoMapFor bytes (Far sum) = RefusesToMap bytes (answers.Far sum)
 IsNoMapFor bytes refusals.Memory = ⊤
 IsNoMapFor bytes _ = ⊥
-
--- Why their map was not written whole. Where the sink did not fail it is as it was.
-abbrev pub IsUnmapped : {O : Type 0} (bytes : Bytes) (out : Stream O) (refusal : Refusal) → Type 0
-IsUnmapped bytes out (Write fail) = BrokeText (WritesMap bytes) out.change
-IsUnmapped bytes out refusal = IsStill out × IsNoMapFor bytes refusal

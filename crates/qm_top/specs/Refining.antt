@@ -1,14 +1,19 @@
 -- What `refine` does with a mesh.
-use Rattle.std.specs.Prelude.{ℕ, ⊤}
+use Rattle.std.specs.Prelude.{◌≡◌, ◌≤◌, ℕ, ⊤}
 use Rattle.def_io.specs.Bytes.{Bytes}
 use Rattle.def_layout.specs.Arcs.{long_at}
 use Rattle.def_layout.specs.Plans.{Plan}
-use Rattle.def_remesh.specs.NewPoints.{multiple_of}
+use Rattle.def_remesh.specs.CutSoups.{Regrid}
+use Rattle.def_remesh.specs.NewPoints.{lengths_in, multiple_of}
 use Rattle.def_remesh.specs.NewSoup.{new_soup}
+use Rattle.def_remesh.specs.Placings.{IsMeshLayout}
 use Rattle.def_remesh.specs.ReadAgain.{IsReadAgain}
+use Rattle.def_remesh.specs.Refined.{refined_faces}
+use Rattle.def_remesh.specs.Stitched.{KeepsShapes}
 use Rattle.def_remesh.specs.declared.kept.LayoutFail.{LayoutFail}
 use Rattle.def_remesh.specs.declared.kept.LayoutFail.TheVariants.{TooFine}
 use Rattle.def_remesh.specs.declared.kept.LayoutFail.TheVariants as layouts
+use Rattle.def_remesh.specs.declared.limits.TheConstants.{MAX_NEW_FACES}
 use Rattle.def_run.specs.Refine.{IsRefined, IsTooFineBy}
 use Rattle.def_run.specs.Remesh.{IsTracedLayout}
 use Rattle.def_text.specs.FaceSet.{FaceSet}
@@ -18,12 +23,18 @@ pub record ShowsRefined (by : ℕ) (soup : FaceSet) (text : Bytes) : Type 0 wher
   pub refined : IsRefined by soup text
   pub read : IsReadAgain text (new_soup soup refined.plan (multiple_of by (long_at refined.plan.arcs)))
 
--- Why there are none.
-abbrev pub HasNoPoints : (by : ℕ) (plan : Plan) (fail : LayoutFail) → Type 0
-HasNoPoints by plan (TooFine faces kept) = IsTooFineBy by plan faces kept
-HasNoPoints by plan layouts.Memory = ⊤
-HasNoPoints by plan _ = ⊥
+-- The new mesh of a soup with each edge divided in so many.
+pub record IsRefinedMesh (by : ℕ) (soup : FaceSet) (new : Regrid) : Type 0 where
+  pub same : new.soup ≡ soup
+  pub laid : IsMeshLayout soup.faces new.plan
+  pub cut : IsTracedLayout soup.faces new.plan
+  pub lengths : lengths_in new.lengths ≡ multiple_of by (long_at new.plan.arcs)
+  pub fits : refined_faces by new.plan ≤ MAX_NEW_FACES
+  pub shape : KeepsShapes new.plan (multiple_of by (long_at new.plan.arcs))
 
--- Why a soup is not refined: its layout has no such points.
+-- Why there is none, where there is memory: it would have too many faces.
 abbrev pub FailsToRefine : (by : ℕ) (soup : FaceSet) (failed : LayoutFail) → Type 0
-FailsToRefine by soup failed = (plan : Plan) × IsTracedLayout soup.faces plan × HasNoPoints by plan failed
+FailsToRefine by soup (TooFine faces kept) =
+    (plan : Plan) × IsTracedLayout soup.faces plan × IsTooFineBy by plan faces kept
+FailsToRefine by soup layouts.Memory = ⊤
+FailsToRefine by soup _ = ⊥

@@ -1,7 +1,6 @@
 -- What `size` does with a mesh.
 use Rattle.std.specs.Prelude.{ℕ, ℤ, ⊤}
 use Rattle.def_io.specs.Bytes.{Bytes}
-use Rattle.def_io.specs.Moves.{IsStill, Stream}
 use Rattle.def_layout.specs.Plans.{Plan}
 use Rattle.def_metric.specs.Fails.{IsFar}
 use Rattle.def_remesh.specs.declared.kept.LayoutFail.{LayoutFail}
@@ -9,7 +8,7 @@ use Rattle.def_remesh.specs.declared.kept.LayoutFail.TheVariants.{Tangled, Memor
 use Rattle.def_run.specs.Remesh.{IsTracedLayout}
 use Rattle.def_run.specs.Size.{soup_targets, AsksForNearSize, AsksForSize}
 use Rattle.def_text.specs.FaceSet.{FaceSet}
-use Rattle.qm_top.specs.Writing.{FailsAsked, IsUnwritten}
+use Rattle.qm_top.specs.Writing.{FailsAsked, IsOfLayout}
 use Rattle.qm_top.specs.declared.refusal.Refusal.{Refusal}
 use Rattle.qm_top.specs.declared.refusal.Refusal.TheVariants.{Far}
 
@@ -24,8 +23,7 @@ abbrev pub IsFarSoup : (edge : ℤ) (floor : ℕ) (soup : FaceSet) (sum : ℕ) �
 IsFarSoup edge floor soup sum =
     (plan : Plan) × IsTracedLayout soup.faces plan × IsFar (soup_targets edge soup) plan floor sum
 
--- Why no text was written whole, where targets may also be too great.
-abbrev pub IsUnsized : {O : Type 0} (says : Bytes → Type 0) (fails : LayoutFail → Type 0) (far : ℕ → Type 0)
-    (out : Stream O) (refusal : Refusal) → Type 0
-IsUnsized says fails far out (Far sum) = IsStill out × far sum
-IsUnsized says fails far out refusal = IsUnwritten says fails out refusal
+-- Its targets are too great, or its layout is refused, or memory was wanting.
+abbrev pub IsOfSize : (fails : LayoutFail → Type 0) (far : ℕ → Type 0) (refusal : Refusal) → Type 0
+IsOfSize fails far (Far sum) = far sum
+IsOfSize fails far refusal = IsOfLayout fails refusal

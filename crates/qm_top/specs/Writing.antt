@@ -1,5 +1,5 @@
 -- What a command does that writes a new mesh.
-use Rattle.std.specs.Prelude.{◌≡◌}
+use Rattle.std.specs.Prelude.{◌≡◌, ⊤}
 use Rattle.def_io.specs.Bytes.{Bytes}
 use Rattle.def_io.specs.Faults.{Rose}
 use Rattle.def_io.specs.Moves.{Change, IsStill, Stream, took, TookPrefix}
@@ -31,13 +31,17 @@ pub record BrokeText (says : Bytes → Type 0) (out : Change) : Type 0 where
   pub prefix : TookPrefix out.told out.told_now text
   pub fault : Rose out.faults out.faults_now
 
--- Why no text was written whole. Where the sink did not fail it is as it was.
-abbrev pub IsUnwritten : {O : Type 0} (says : Bytes → Type 0) (fails : LayoutFail → Type 0) (out : Stream O)
+-- Why no text was written whole. Where the sink did not fail it is as it was, and this is why.
+abbrev pub IsUnwritten : {O : Type 0} (says : Bytes → Type 0) (why : Refusal → Type 0) (out : Stream O)
     (refusal : Refusal) → Type 0
-IsUnwritten says fails out (Layout fail) = IsStill out × fails fail
-IsUnwritten says fails out (Write fail) = BrokeText says out.change
-IsUnwritten says fails out refusals.Memory = IsStill out
-IsUnwritten says fails out _ = ⊥
+IsUnwritten says why out (Write fail) = BrokeText says out.change
+IsUnwritten says why out refusal = IsStill out × why refusal
+
+-- A layout is refused, or memory was wanting.
+abbrev pub IsOfLayout : (fails : LayoutFail → Type 0) (refusal : Refusal) → Type 0
+IsOfLayout fails (Layout fail) = fails fail
+IsOfLayout fails refusals.Memory = ⊤
+IsOfLayout fails _ = ⊥
 
 -- Why a task of a soup is not finished: its layout is refused.
 abbrev pub FailsTask : (task : Task) (soup : FaceSet) (failed : LayoutFail) → Type 0

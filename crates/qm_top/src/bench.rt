@@ -1,17 +1,18 @@
 //! `bench`: a mesh that is made from a number is remeshed, and a line that sums it up is written.
 
 ghost use Rattle.std.specs.Prelude.{◌≡◌, ◌≤◌, IfErr, OnOk};
+ghost use Rattle.def_gen.specs.Steps.{steps_soup};
 ghost use Rattle.def_io.specs.Moves.{change, stream, StreamState};
-ghost use Rattle.def_run.specs.Bench.{bench_faces, IsBenchFail, WritesBench};
+ghost use Rattle.def_run.specs.Bench.{IsBenchFail, WritesBench};
 ghost use Rattle.qm_top.specs.Runs.{HasRun};
-ghost use Rattle.qm_top.specs.Writing.{IsUnwritten, WroteText};
+ghost use Rattle.qm_top.specs.Writing.{IsOfLayout, IsUnwritten, WroteText};
 
-use crate::input::{MeshInput, with_mesh};
+use crate::input::mesh_of;
 use crate::refusal::Refusal;
 use def_run::{Command, MAX_SIZE};
+use qm_cutmesh::Meshed;
 use qm_gen::steps_mesh;
 use qm_io::{Sink, write_all};
-use qm_mesh::Mesh;
 use qm_summary::summary_of;
 use std::alloc::Global;
 
@@ -23,19 +24,19 @@ pub(crate) fn bench<O: Sink>(alloc: Global, size: u32, out: &mut O) -> Result<()
         (change state state) (stream O.state out.old out.new) result }
 {
     let soup = steps_mesh(alloc, size)?;
-    let MeshInput { mesh, soup: _ } = with_mesh(alloc, soup)?;
-    bench_mesh(alloc, size, &mesh, out)
+    let made = mesh_of(alloc, soup)?;
+    bench_mesh(alloc, size, made, out)
 }
 
 /// Writes the line of the benchmark of this size, whose mesh this is.
-fn bench_mesh<O: Sink>(alloc: Global, size: u32, mesh: &Mesh, out: &mut O) -> Result<(), Refusal>
-    requires { mesh.now ≡ bench_faces size }
+fn bench_mesh<O: Sink>(alloc: Global, size: u32, made: Meshed, out: &mut O) -> Result<(), Refusal>
+    requires { made ≡ steps_soup size }
     ensures done { OnOk result (WroteText (WritesBench size)
         (change (O.state out.old) (O.state out.new))) }
-    ensures refused { IfErr result (IsUnwritten (WritesBench size) (IsBenchFail size)
+    ensures refused { IfErr result (IsUnwritten (WritesBench size) (IsOfLayout (IsBenchFail size))
         (stream O.state out.old out.new)) }
 {
-    let text = summary_of(alloc, mesh, size)?;
+    let text = summary_of(alloc, made, size)?;
     write_all(out, &text)?;
     Ok(())
 }

@@ -4,9 +4,9 @@ ghost use Rattle.std.specs.Prelude.{◌≡◌, ◌≤◌, length, IfErr, OnOk};
 ghost use Rattle.def_io.specs.Moves.{change, stream};
 ghost use Rattle.def_remesh.specs.Checked.{accepted_line};
 ghost use Rattle.def_run.specs.Check.{WritesAccepted};
-ghost use Rattle.qm_top.specs.Checking.{IsUnaccepted};
+ghost use Rattle.qm_top.specs.Checking.{IsNoPairFor};
 ghost use Rattle.qm_top.specs.Runs.{HasRun};
-ghost use Rattle.qm_top.specs.Writing.{WroteText};
+ghost use Rattle.qm_top.specs.Writing.{IsUnwritten, WroteText};
 
 use crate::judged::judged_refusal;
 use crate::refusal::Refusal;
@@ -36,7 +36,7 @@ fn check_bytes<O: Sink>(alloc: Global, bytes: &[u8], out: &mut O) -> Result<(), 
     requires { length bytes.now ≤ MAX_BYTES }
     ensures done { OnOk result (WroteText (WritesAccepted bytes.now)
         (change (O.state out.old) (O.state out.new))) }
-    ensures refused { IfErr result (IsUnaccepted bytes.now
+    ensures refused { IfErr result (IsUnwritten (WritesAccepted bytes.now) (IsNoPairFor bytes.now)
         (stream O.state out.old out.new)) }
 {
     match check_pair(alloc, bytes) {

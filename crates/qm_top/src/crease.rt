@@ -10,23 +10,24 @@ ghost use Rattle.def_run.specs.Crease.{AsksToCrease};
 ghost use Rattle.def_run.specs.Mesh.{IsMeshText};
 ghost use Rattle.qm_top.specs.Creasing.{IsUnmarked};
 ghost use Rattle.qm_top.specs.Runs.{HasRun};
-ghost use Rattle.qm_top.specs.Writing.{FailsAsked, IsUnwritten, ShowsAsked, WroteText};
+ghost use Rattle.qm_top.specs.Writing.{FailsAsked, IsOfLayout, IsUnwritten, ShowsAsked, WroteText};
 
-use crate::finishing::write_task;
+use crate::cuts::marked_cut;
+use crate::finishing::write_framed;
 use crate::heads::named_head;
-use crate::input::{MeshInput, with_mesh};
+use crate::input::mesh_of;
 use crate::refusal::Refusal;
 use def_certtext::Asked;
 use def_flow::Settings;
 use def_run::Command;
 use def_text::MAX_BYTES;
-use qm_cut::marked_layout;
+use qm_cutmesh::Meshed;
 use qm_io::{Lines, Sink, Source, read_lines};
 use qm_marks::read_marks;
 use qm_marktext::kept_lines;
 use qm_obj::read_obj;
 use qm_remesh::keep;
-use qm_write::{CutMesh, Framed};
+use qm_write::Framed;
 use std::alloc::Global;
 
 /// Reads a mesh and its marked edges, and writes the new mesh with least lengths, with the lines of these edges and with
@@ -51,22 +52,21 @@ pub(crate) fn crease<S: Source, O: Sink>(
 /// A mesh with a mark for each of its darts.
 #[derive(Drop)]
 struct Marked {
-    read: MeshInput,
+    read: Meshed,
     marks: Vec<bool>,
+    ghost each: { AreMarks read.faces marks.items },
 }
 
 /// The mesh of a text with its marked edges.
 fn read_marked(alloc: Global, lines: &Lines) -> Result<Marked, Refusal>
-    ensures mesh { IfOk result (λ marked. IsMeshText lines.now marked.read.soup) }
-    ensures faces { IfOk result (λ marked. marked.read.mesh ≡ marked.read.soup.faces) }
-    ensures marks { IfOk result (λ marked. marks_in lines.now marked.read.soup ≡ Ok marked.marks.items) }
-    ensures inner { IfOk result (λ marked. AreMarks marked.read.mesh marked.marks.items) }
+    ensures mesh { IfOk result (λ marked. IsMeshText lines.now marked.read) }
+    ensures marks { IfOk result (λ marked. marks_in lines.now marked.read ≡ Ok marked.marks.items) }
     ensures refused { IfErr result (IsUnmarked lines.now) }
 {
     let after = lines.count();
     let soup = read_obj(alloc, lines, 0, after)?;
-    let read = with_mesh(alloc, soup)?;
-    let marks = read_marks(alloc, lines, 0, after, &read.soup, &read.mesh)?;
+    let read = mesh_of(alloc, soup)?;
+    let marks = read_marks(alloc, lines, 0, after, read.soup(), read.mesh())?;
     Ok(Marked { read, marks })
 }
 
@@ -77,31 +77,29 @@ fn crease_mesh<O: Sink>(
     marked: Marked,
     out: &mut O,
 ) -> Result<(), Refusal>
-    requires range { AreInRange settings false }
-    requires mesh { marked.read.mesh ≡ marked.read.soup.faces }
-    requires marks { AreMarks marked.read.mesh marked.marks.items }
-    ensures done { (bytes : Bytes) → marks_in bytes marked.read.soup ≡ Ok marked.marks.items
-        → OnOk result (WroteText (ShowsAsked (AsksToCrease settings) bytes marked.read.soup)
+    requires { AreInRange settings false }
+    ensures done { (bytes : Bytes) → marks_in bytes marked.read ≡ Ok marked.marks.items
+        → OnOk result (WroteText (ShowsAsked (AsksToCrease settings) bytes marked.read)
         (change (O.state out.old) (O.state out.new))) }
-    ensures refused { (bytes : Bytes) → marks_in bytes marked.read.soup ≡ Ok marked.marks.items
-        → IfErr result (IsUnwritten (ShowsAsked (AsksToCrease settings) bytes marked.read.soup)
-        (FailsAsked (AsksToCrease settings) bytes marked.read.soup) (stream O.state out.old out.new)) }
+    ensures refused { (bytes : Bytes) → marks_in bytes marked.read ≡ Ok marked.marks.items
+        → IfErr result (IsUnwritten (ShowsAsked (AsksToCrease settings) bytes marked.read)
+        (IsOfLayout (FailsAsked (AsksToCrease settings) bytes marked.read)) (stream O.state out.old out.new)) }
 {
     let Marked { read, marks } = marked;
-    let MeshInput { soup, mesh } = read;
-    let layout = marked_layout(alloc, &mesh, &marks)?;
+    let marks = marks.as_slice();
+    let cut = marked_cut(alloc, read, marks)?;
     let asked = Asked {
         settings,
         auto: false,
     };
-    let remesh = keep(alloc, &layout, asked)?;
+    let remesh = keep(alloc, &cut, asked)?;
     let head = named_head(alloc, b"crease", &settings)?;
-    let between = kept_lines(alloc, &marks, &layout, &remesh)?;
+    let between = kept_lines(alloc, marks, &cut, &remesh)?;
     let framed = Framed {
         head,
         between,
         remesh,
     };
-    let cut = CutMesh { mesh, layout };
-    write_task(alloc, &soup, &cut, framed, out)
+    write_framed(alloc, cut, framed, out)?;
+    Ok(())
 }

@@ -1,24 +1,27 @@
 //! A task that is finished, written out.
 
-ghost use Rattle.std.specs.Prelude.{◌≡◌, IfErr, IsErrOf, OnOk};
+ghost use Rattle.std.specs.Prelude.{◌≡◌, ◌++◌, ◌∷◌, [], List, Bool, IfErr, IsErrOf, OnOk};
+ghost use Rattle.def_certtext.specs.CertLines.{certificates_of};
 ghost use Rattle.def_certtext.specs.Settings.{AreInRange};
+ghost use Rattle.def_io.specs.Bytes.{Bytes};
 ghost use Rattle.def_io.specs.Faults.{Rose};
 ghost use Rattle.def_io.specs.Moves.{change, stream, took, TookPrefix};
-ghost use Rattle.def_layout.specs.Plans.{plan};
-ghost use Rattle.def_remesh.specs.Placings.{IsMeshLayout};
-ghost use Rattle.def_remesh.specs.Tasks.{Task};
+ghost use Rattle.def_io.specs.declared.TheConstants.{LINE_FEED};
+ghost use Rattle.def_layout.specs.FaceLayouts.{IsCutLayout};
+ghost use Rattle.def_remesh.specs.Keeping.{IsKept};
+ghost use Rattle.def_remesh.specs.Tasks.{Wish};
 ghost use Rattle.remesh_laws.specs.Keeps.{ShowsTask};
-ghost use Rattle.qm_top.specs.Finishing.{IsHeaded, IsNoLayout};
-ghost use Rattle.qm_write.specs.Framing.{framed_text, IsFramed};
-ghost use Rattle.qm_top.specs.Writing.{FailsTask, IsUnwritten, WroteText};
+ghost use Rattle.qm_top.specs.Finishing.{headed_task};
+ghost use Rattle.qm_top.specs.Writing.{FailsTask, IsOfLayout, IsUnwritten, WroteText};
+ghost use Rattle.qm_write.specs.Framing.{framed_text};
 
 use crate::refusal::Refusal;
 use def_certtext::Asked;
-use def_text::Soup;
+use qm_cutmesh::CutMesh;
 use qm_io::Sink;
 use qm_output::{Buffer, Room};
 use qm_remesh::keep;
-use qm_write::{CutMesh, Framed, PutFail, put_framed};
+use qm_write::{Framed, PutFail, put_framed};
 use std::alloc::Global;
 
 /// What is asked of a layout, and the head line of the text, with its line feed.
@@ -31,72 +34,49 @@ pub(crate) struct Headed {
 /// Finds lengths nearest to the old ones, and writes the text of a task that asks for them and puts nothing between.
 pub(crate) fn finish<O: Sink>(
     alloc: Global,
-    soup: &Soup,
-    cut: &CutMesh,
+    cut: CutMesh,
     headed: Headed,
     out: &mut O,
 ) -> Result<(), Refusal>
-    requires mesh { cut.now.mesh ≡ soup.now.faces }
-    requires layout { IsMeshLayout cut.now.mesh (plan cut.now.layout) }
-    requires range { AreInRange headed.asked.settings headed.asked.auto }
-    requires headed { (task : Task) × IsHeaded task headed soup.now (plan cut.now.layout) }
-    ensures done { (task : Task) → IsHeaded task headed soup.now (plan cut.now.layout)
-        → OnOk result (WroteText (ShowsTask task soup.now) (change (O.state out.old) (O.state out.new))) }
-    ensures refused { (task : Task) → IsHeaded task headed soup.now (plan cut.now.layout)
-        → IfErr result (IsUnwritten (ShowsTask task soup.now) (FailsTask task soup.now)
-        (stream O.state out.old out.new)) }
+    requires { AreInRange headed.asked.settings headed.asked.auto }
+    ensures done { (marks : List Bool) (head : Bytes) → IsCutLayout cut.soup.faces marks cut.plan
+        → headed.head.items ≡ head ++ LINE_FEED ∷ []
+        → OnOk result (WroteText (ShowsTask (headed_task headed.asked marks head) cut.soup)
+        (change (O.state out.old) (O.state out.new))) }
+    ensures refused { (marks : List Bool) (head : Bytes) → IsCutLayout cut.soup.faces marks cut.plan
+        → headed.head.items ≡ head ++ LINE_FEED ∷ []
+        → IfErr result (IsUnwritten (ShowsTask (headed_task headed.asked marks head) cut.soup)
+        (IsOfLayout (FailsTask (headed_task headed.asked marks head) cut.soup)) (stream O.state out.old out.new)) }
 {
-    let remesh = keep(alloc, &cut.layout, headed.asked)?;
-    let between = Vec::new(alloc);
+    let remesh = keep(alloc, &cut, headed.asked)?;
     let framed = Framed {
         head: headed.head,
-        between,
+        between: Vec::new(alloc),
         remesh,
     };
-    write_task(alloc, soup, cut, framed, out)
-}
-
-/// Writes the text of a task that is finished.
-pub(crate) fn write_task<O: Sink>(
-    alloc: Global,
-    soup: &Soup,
-    cut: &CutMesh,
-    framed: Framed,
-    out: &mut O,
-) -> Result<(), Refusal>
-    requires mesh { cut.now.mesh ≡ soup.now.faces }
-    requires layout { IsMeshLayout cut.now.mesh (plan cut.now.layout) }
-    requires framed { (task : Task) × IsFramed task framed soup.now (plan cut.now.layout) }
-    ensures done { (task : Task) → IsFramed task framed soup.now (plan cut.now.layout)
-        → OnOk result (WroteText (ShowsTask task soup.now) (change (O.state out.old) (O.state out.new))) }
-    ensures refused { (task : Task) → IsFramed task framed soup.now (plan cut.now.layout)
-        → IfErr result (IsUnwritten (ShowsTask task soup.now) IsNoLayout (stream O.state out.old out.new)) }
-{
-    write_framed(alloc, soup, cut, framed, out)?;
+    write_framed(alloc, cut, framed, out)?;
     Ok(())
 }
 
 /// Writes the text of a remesh in its frame through a buffer.
-fn write_framed<O: Sink>(
+pub(crate) fn write_framed<O: Sink>(
     alloc: Global,
-    soup: &Soup,
-    cut: &CutMesh,
+    cut: CutMesh,
     framed: Framed,
     out: &mut O,
 ) -> Result<(), PutFail>
-    requires mesh { cut.now.mesh ≡ soup.now.faces }
-    requires layout { IsMeshLayout cut.now.mesh (plan cut.now.layout) }
-    requires framed { (task : Task) × IsFramed task framed soup.now (plan cut.now.layout) }
+    requires { (wish : Wish) × IsKept wish cut.plan framed.remesh.asked.settings framed.remesh.asked.auto
+        (certificates_of framed.remesh.certs) framed.remesh.numbering }
     ensures whole { OnOk result ((O.state out.new).told
-        ≡ took (O.state out.old).told (framed_text framed soup.now (plan cut.now.layout))) }
+        ≡ took (O.state out.old).told (framed_text framed cut.soup cut.plan)) }
     ensures prefix { IsErrOf result PutFail.Stopped → TookPrefix (O.state out.old).told (O.state out.new).told
-        (framed_text framed soup.now (plan cut.now.layout)) }
+        (framed_text framed cut.soup cut.plan) }
     ensures fault { IsErrOf result PutFail.Stopped → Rose (O.state out.old).faults (O.state out.new).faults }
     ensures untouched { IsErrOf result PutFail.Memory → out.new ≡ out.old }
 {
     let mut room = Room::new(alloc)?;
     let mut text = Buffer::new(out, &mut room);
-    put_framed(alloc, &mut text, soup, cut, framed)?;
+    put_framed(alloc, &mut text, cut, framed)?;
     text.flush()?;
     Ok(())
 }

@@ -9,42 +9,35 @@ ghost use Rattle.qm_top.specs.Refusals.{IsInputRefusal, IsNoMeshOf};
 use crate::named::named_place;
 use crate::refusal::Refusal;
 use def_text::{MAX_BYTES, MAX_F_LINES, MAX_V_LINES, Soup};
+use qm_cutmesh::{Meshed, NoMesh};
 use qm_io::Source;
-use qm_mesh::{Mesh, MeshFail, build};
 use qm_obj::read_soup;
 use std::alloc::Global;
 
-/// A soup and the mesh of its faces.
-#[derive(Drop)]
-pub(crate) struct MeshInput {
-    pub(crate) soup: Soup,
-    pub(crate) mesh: Mesh,
-}
-
 /// The mesh of the whole input.
-pub(crate) fn read_mesh<S: Source>(alloc: Global, input: &mut S) -> Result<MeshInput, Refusal>
-    ensures soup { IfOk result (λ read. ReadSoup MAX_BYTES (S.state input.old).told (S.state input.new).told read.soup) }
-    ensures mesh { IfOk result (λ read. read.mesh ≡ read.soup.faces) }
-    ensures manifold { IfOk result (λ read. IsManifold read.soup.faces) }
+pub(crate) fn read_mesh<S: Source>(alloc: Global, input: &mut S) -> Result<Meshed, Refusal>
+    ensures soup { IfOk result (ReadSoup MAX_BYTES (S.state input.old).told (S.state input.new).told) }
+    ensures manifold { IfOk result (λ read. IsManifold read.faces) }
     ensures calm { OnOk result ((S.state input.new).faults ≡ (S.state input.old).faults) }
     ensures refused { IfErr result (IsInputRefusal
         (change (S.state input.old) (S.state input.new))) }
 {
     let soup = read_soup(alloc, input, MAX_BYTES)?;
-    with_mesh(alloc, soup)
+    mesh_of(alloc, soup)
 }
 
 /// The mesh of the soup's faces, or the first place where they are no manifold.
-pub(crate) fn with_mesh(alloc: Global, soup: Soup) -> Result<MeshInput, Refusal>
+pub(crate) fn mesh_of(alloc: Global, soup: Soup) -> Result<Meshed, Refusal>
     requires few { (length soup.pos ≤ MAX_V_LINES) × (length soup.faces ≤ MAX_F_LINES) }
-    ensures soup { IfOk result (λ read. read.soup ≡ soup) }
-    ensures mesh { IfOk result (λ read. read.mesh ≡ soup.faces) }
+    ensures soup { IfOk result (λ read. read ≡ soup) }
     ensures manifold { OnOk result (IsManifold soup.faces) }
     ensures refused { IfErr result (IsNoMeshOf soup) }
 {
-    match build(alloc, soup.pos.len() as u32, &soup.faces) {
-        Ok(mesh) => Ok(MeshInput { soup, mesh }),
-        Err(MeshFail::NotManifold(place)) => Err(Refusal::NotManifold(named_place(place, soup))),
-        Err(MeshFail::Memory) => Err(Refusal::Memory),
+    match Meshed::new(alloc, soup) {
+        Ok(read) => Ok(read),
+        Err(NoMesh::NotManifold { place, soup }) => {
+            Err(Refusal::NotManifold(named_place(place, soup)))
+        }
+        Err(NoMesh::Memory) => Err(Refusal::Memory),
     }
 }

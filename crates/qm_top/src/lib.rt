@@ -7,6 +7,7 @@ mod check;
 mod coarse;
 mod command;
 mod crease;
+mod cuts;
 mod error_line;
 mod finishing;
 mod graph;

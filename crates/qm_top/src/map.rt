@@ -2,21 +2,20 @@
 //! is written.
 
 ghost use Rattle.std.specs.Prelude.{◌≡◌, ◌≤◌, length, IfErr, OnOk, OnErr};
-ghost use Rattle.def_io.specs.Bytes.{Bytes};
 ghost use Rattle.def_io.specs.Faults.{Rose};
 ghost use Rattle.def_io.specs.Moves.{change, stream, took, TookPrefix};
 ghost use Rattle.def_run.specs.Map.{WritesMap};
-ghost use Rattle.qm_check.specs.Making.{IsMappedOf};
-ghost use Rattle.qm_top.specs.Mapping.{mapped_text, IsUnmapped};
+ghost use Rattle.qm_top.specs.Mapping.{mapped_text, IsNoMapFor};
 ghost use Rattle.qm_top.specs.Runs.{HasRun};
-ghost use Rattle.qm_top.specs.Writing.{WroteText};
+ghost use Rattle.qm_top.specs.Writing.{IsUnwritten, WroteText};
 
 use crate::judged::judged_refusal;
 use crate::refusal::Refusal;
 use def_output::Stopped;
 use def_run::Command;
 use def_text::MAX_BYTES;
-use qm_check::{Mapped, judge};
+use qm_check::judge;
+use qm_cutmesh::Regridded;
 use qm_io::{Sink, Source, read_bytes};
 use qm_map::put_map;
 use qm_output::{Buffer, Room};
@@ -41,13 +40,13 @@ fn map_bytes<O: Sink>(alloc: Global, bytes: &[u8], out: &mut O) -> Result<(), Re
     requires { length bytes.now ≤ MAX_BYTES }
     ensures done { OnOk result (WroteText (WritesMap bytes.now)
         (change (O.state out.old) (O.state out.new))) }
-    ensures refused { IfErr result (IsUnmapped bytes.now
+    ensures refused { IfErr result (IsUnwritten (WritesMap bytes.now) (IsNoMapFor bytes.now)
         (stream O.state out.old out.new)) }
 {
     match judge(alloc, bytes) {
-        Ok(mapped) => {
+        Ok(new) => {
             let mut room = Room::new(alloc)?;
-            write_map(&mapped, out, &mut room)?;
+            write_map(&new, out, &mut room)?;
             Ok(())
         }
         Err(fail) => Err(judged_refusal(fail)),
@@ -55,15 +54,12 @@ fn map_bytes<O: Sink>(alloc: Global, bytes: &[u8], out: &mut O) -> Result<(), Re
 }
 
 /// Writes the map through a buffer.
-fn write_map<O: Sink>(mapped: &Mapped, out: &mut O, room: &mut Room) -> Result<(), Stopped>
-    requires { (bytes : Bytes) × IsMappedOf bytes mapped.now }
-    ensures whole { OnOk result ((O.state out.new).told
-        ≡ took (O.state out.old).told (mapped_text mapped.now)) }
-    ensures prefix { OnErr result (TookPrefix (O.state out.old).told (O.state out.new).told
-        (mapped_text mapped.now)) }
+fn write_map<O: Sink>(new: &Regridded, out: &mut O, room: &mut Room) -> Result<(), Stopped>
+    ensures whole { OnOk result ((O.state out.new).told ≡ took (O.state out.old).told (mapped_text new.now)) }
+    ensures prefix { OnErr result (TookPrefix (O.state out.old).told (O.state out.new).told (mapped_text new.now)) }
     ensures fault { OnErr result (Rose (O.state out.old).faults (O.state out.new).faults) }
 {
     let mut text = Buffer::new(out, room);
-    put_map(&mut text, &mapped.soup, &mapped.cut, &mapped.points)?;
+    put_map(&mut text, new)?;
     text.flush()
 }

@@ -6,17 +6,17 @@ ghost use Rattle.def_io.specs.Bytes.{Bytes};
 ghost use Rattle.def_io.specs.Moves.{change, stream};
 ghost use Rattle.def_run.specs.Remesh.{AsksToRemesh};
 ghost use Rattle.qm_top.specs.Runs.{HasRun};
-ghost use Rattle.qm_top.specs.Writing.{FailsAsked, IsUnwritten, ShowsAsked, WroteText};
+ghost use Rattle.qm_top.specs.Writing.{FailsAsked, IsOfLayout, IsUnwritten, ShowsAsked, WroteText};
 
+use crate::cuts::traced_cut;
 use crate::finishing::{Headed, finish};
-use crate::input::{MeshInput, read_mesh};
+use crate::input::read_mesh;
 use crate::refusal::Refusal;
 use def_certtext::Asked;
 use def_run::Command;
 use qm_certtext::head_text;
-use qm_cut::traced_layout;
+use qm_cutmesh::Meshed;
 use qm_io::{Sink, Source};
-use qm_write::CutMesh;
 use std::alloc::Global;
 
 /// Reads a mesh, finds least lengths for its layout, and writes the new mesh with their certificates.
@@ -39,22 +39,19 @@ pub(crate) fn remesh<S: Source, O: Sink>(
 fn remesh_mesh<O: Sink>(
     alloc: Global,
     asked: Asked,
-    read: MeshInput,
+    read: Meshed,
     out: &mut O,
 ) -> Result<(), Refusal>
-    requires range { AreInRange asked.settings asked.auto }
-    requires mesh { read.mesh ≡ read.soup.faces }
+    requires { AreInRange asked.settings asked.auto }
     ensures done { (bytes : Bytes) → OnOk result (WroteText
-        (ShowsAsked (AsksToRemesh asked.settings asked.auto) bytes read.soup)
+        (ShowsAsked (AsksToRemesh asked.settings asked.auto) bytes read)
         (change (O.state out.old) (O.state out.new))) }
     ensures refused { (bytes : Bytes) → IfErr result (IsUnwritten
-        (ShowsAsked (AsksToRemesh asked.settings asked.auto) bytes read.soup)
-        (FailsAsked (AsksToRemesh asked.settings asked.auto) bytes read.soup)
+        (ShowsAsked (AsksToRemesh asked.settings asked.auto) bytes read)
+        (IsOfLayout (FailsAsked (AsksToRemesh asked.settings asked.auto) bytes read))
         (stream O.state out.old out.new)) }
 {
-    let MeshInput { soup, mesh } = read;
-    let layout = traced_layout(alloc, &mesh)?;
+    let cut = traced_cut(alloc, read)?;
     let head = head_text(alloc, &asked.settings, asked.auto)?;
-    let cut = CutMesh { mesh, layout };
-    finish(alloc, &soup, &cut, Headed { asked, head }, out)
+    finish(alloc, cut, Headed { asked, head }, out)
 }

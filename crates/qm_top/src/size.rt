@@ -7,21 +7,22 @@ ghost use Rattle.def_io.specs.Moves.{change, stream};
 ghost use Rattle.def_io.specs.declared.TheConstants.{LINE_FEED};
 ghost use Rattle.def_run.specs.Size.{size_head, AsksForNearSize};
 ghost use Rattle.qm_top.specs.Runs.{HasRun};
-ghost use Rattle.qm_top.specs.Sizing.{FailsSize, IsFarSoup, IsUnsized};
-ghost use Rattle.qm_top.specs.Writing.{ShowsAsked, WroteText};
+ghost use Rattle.qm_top.specs.Sizing.{FailsSize, IsFarSoup, IsOfSize};
+ghost use Rattle.qm_top.specs.Writing.{IsUnwritten, ShowsAsked, WroteText};
 
-use crate::finishing::write_task;
-use crate::input::{MeshInput, read_mesh};
+use crate::cuts::traced_cut;
+use crate::finishing::write_framed;
+use crate::input::read_mesh;
 use crate::refusal::Refusal;
 use def_io::LINE_FEED;
 use def_run::Command;
 use def_text::Micro;
-use qm_cut::traced_layout;
+use qm_cutmesh::Meshed;
 use qm_dec::write_micro;
 use qm_io::{Memory, Sink, Source};
 use qm_print::push_number;
 use qm_remesh::keep_sized;
-use qm_write::{CutMesh, Framed};
+use qm_write::Framed;
 use std::alloc::Global;
 
 /// Reads a mesh, and writes a new one with edges as near to this length as can be, with their certificate.
@@ -47,30 +48,29 @@ fn size_mesh<O: Sink>(
     alloc: Global,
     edge: Micro,
     floor: u32,
-    read: MeshInput,
+    read: Meshed,
     out: &mut O,
 ) -> Result<(), Refusal>
     requires edge { pos 1 ≤ℤ edge }
     requires floor { (1 ≤ floor) × (floor ≤ MAX_FLOOR) }
-    requires mesh { read.mesh ≡ read.soup.faces }
     ensures done { (bytes : Bytes) → OnOk result (WroteText
-        (ShowsAsked (AsksForNearSize edge floor) bytes read.soup)
+        (ShowsAsked (AsksForNearSize edge floor) bytes read)
         (change (O.state out.old) (O.state out.new))) }
-    ensures refused { (bytes : Bytes) → IfErr result (IsUnsized
-        (ShowsAsked (AsksForNearSize edge floor) bytes read.soup) (FailsSize edge floor bytes read.soup)
-        (IsFarSoup edge floor read.soup) (stream O.state out.old out.new)) }
+    ensures refused { (bytes : Bytes) → IfErr result (IsUnwritten
+        (ShowsAsked (AsksForNearSize edge floor) bytes read)
+        (IsOfSize (FailsSize edge floor bytes read) (IsFarSoup edge floor read))
+        (stream O.state out.old out.new)) }
 {
-    let MeshInput { soup, mesh } = read;
-    let layout = traced_layout(alloc, &mesh)?;
-    let cut = CutMesh { mesh, layout };
-    let remesh = keep_sized(alloc, &cut, &soup.pos, edge, floor)?;
+    let cut = traced_cut(alloc, read)?;
+    let remesh = keep_sized(alloc, &cut, edge, floor)?;
     let head = size_head(alloc, edge, floor)?;
     let framed = Framed {
         head,
         between: Vec::new(alloc),
         remesh,
     };
-    write_task(alloc, &soup, &cut, framed, out)
+    write_framed(alloc, cut, framed, out)?;
+    Ok(())
 }
 
 /// The head line, and its line feed.

@@ -6,7 +6,7 @@ ghost use Rattle.def_io.specs.Moves.{change, stream, took, TookPrefix};
 ghost use Rattle.def_text.specs.Canonical.{canonical_text};
 ghost use Rattle.qm_top.specs.Runs.{HasRun};
 
-use crate::input::{MeshInput, read_mesh};
+use crate::input::read_mesh;
 use crate::refusal::Refusal;
 use def_output::Stopped;
 use def_run::Command;
@@ -26,9 +26,9 @@ pub(crate) fn tidy<S: Source, O: Sink>(
         (change (S.state input.old) (S.state input.new))
         (stream O.state out.old out.new) result }
 {
-    let MeshInput { soup, mesh: _ } = read_mesh(alloc, input)?;
+    let read = read_mesh(alloc, input)?;
     let mut room = Room::new(alloc)?;
-    write_soup(&soup, out, &mut room)?;
+    write_soup(read.soup(), out, &mut room)?;
     Ok(())
 }
 

@@ -1,27 +1,23 @@
 -- The text of a remesh is its head line, the text of the new mesh and the joined lines of the certificates.
-use Rattle.std.proofs.Common.{◌≡◌, ℕ, Bool, true, false, Option, Some, None, List, [], ◌∷◌, ◌++◌, codes, refl, sym, ◌∙◌, ap, ap₂, arith}
+use Rattle.std.proofs.Common.{◌≡◌, ℕ, Bool, true, false, Vec, Global, List, [], ◌∷◌, ◌++◌, codes, sym, ◌∙◌, ap, ap₂, arith}
 use Rattle.std.proofs.lemmas.Fmt.{decimal_digit}
 use Rattle.std.proofs.lemmas.List.Concat.{flat_map-append}
-use Rattle.std.specs.Option.{option_map}
-use Rattle.def_certtext.specs.CertLines.{cert_lines, line_text, lists_of, said_by, text_of, Lists}
-use Rattle.def_certtext.specs.Laws.{chosen_lines}
+use Rattle.def_certtext.specs.CertLines.{alone, line_text, raised, said_by, text_of, used, Certificates, Lists}
+use Rattle.def_certtext.specs.Laws.{AreWritable}
 use Rattle.def_certtext.specs.declared.CertLine.TheVariants.{Floor}
-use Rattle.def_flow.specs.declared.cert.Cert.{Cert}
 use Rattle.def_flow.specs.declared.net.Settings.{Settings}
 use Rattle.def_io.specs.Bytes.{Bytes}
 use Rattle.def_layout.specs.Plans.{Plan}
+use Rattle.def_remesh.specs.Certified.{AreKept}
+use Rattle.def_remesh.specs.CutSoups.{Regrid}
 use Rattle.def_remesh.specs.NewPoints.{lengths_in}
 use Rattle.def_remesh.specs.NewSoup.{new_soup}
-use Rattle.def_remesh.specs.Certified.{AreKept}
-use Rattle.def_remesh.specs.Remeshed.{certificate_lines, text_behind_head, used}
+use Rattle.def_remesh.specs.Remeshed.{certificate_lines, text_behind_head}
+use Rattle.def_remesh.specs.Tasks.{Wish}
 use Rattle.def_text.specs.Canonical.{canonical_text}
 use Rattle.def_text.specs.FaceSet.{FaceSet}
 use Rattle.qm_write.specs.Joined.{joined}
-use Rattle.def_remesh.specs.Tasks.{Wish}
-
--- The lines of a certificate as a text.
-abbrev text_by : (lists : Lists) → Bytes
-text_by lists = text_of (said_by lists)
+use Rattle.qm_write.specs.declared.certs.CertTexts.TheVariants.{Alone, Raised}
 
 -- Behind the line that names a floor.
 behind_one : (rest : _) → text_of (Floor 1 ∷ rest) ≡ codes "#f 1\n" ++ text_of rest
@@ -30,32 +26,36 @@ behind_one rest = ap (λ (digits : Bytes). 35 ∷ 102 ∷ 32 ∷ (digits ++ 10 �
 behind_three : (rest : _) → text_of (Floor 3 ∷ rest) ≡ codes "#f 3\n" ++ text_of rest
 behind_three rest = ap (λ (digits : Bytes). 35 ∷ 102 ∷ 32 ∷ (digits ++ 10 ∷ []) ++ text_of rest) (decimal_digit 3 (omega arith))
 
--- The joined lines of one certificate or two, with `auto`.
-chosen_is : (first : Lists) (third : Option Lists) → joined true (text_by first) (option_map text_by third) ≡ text_of (chosen_lines first third)
-chosen_is first None = sym (behind_one (said_by first))
-chosen_is first (Some third) =
-    ap₂ (λ (one other : Bytes). one ++ other) (sym (behind_one (said_by first))) (sym (behind_three (said_by third)))
-    ∙ sym (flat_map-append (λ line. line_text line ++ 10 ∷ []) (Floor 1 ∷ said_by first) (Floor 3 ∷ said_by third))
+-- The joined lines of one certificate,
+pub alone_is : (auto : Bool) (text : Vec ℕ Global) (cert : Lists) → text.items ≡ text_of (said_by cert)
+    → joined auto (Alone text) ≡ text_of (certificate_lines auto (alone cert))
+alone_is false text cert is = is
+alone_is true text cert is = ap (λ (said : Bytes). codes "#f 1\n" ++ said) is ∙ sym (behind_one (said_by cert))
 
--- The joined lines of the kept certificates are theirs.
-joined_is : (wish : Wish) (plan : Plan) (settings : Settings) (auto : Bool) (first : Lists) (third : Option Lists) → AreKept wish plan settings auto first third
-    → joined auto (text_by first) (option_map text_by third) ≡ text_of (certificate_lines auto first third)
-joined_is wish plan settings false first None kept = refl
-joined_is wish plan settings false first (Some third) kept = absurd kept
-joined_is wish plan settings true first third kept = chosen_is first third
+-- and of two.
+pub raised_is : (auto : Bool) (one text : Vec ℕ Global) (first cert : Lists) → one.items ≡ text_of (said_by first) → text.items ≡ text_of (said_by cert)
+    → joined auto (Raised one text) ≡ text_of (certificate_lines auto (raised first cert))
+raised_is false one text first cert is_one is = is
+raised_is true one text first cert is_one is =
+    ap₂ (λ (said other : Bytes). (codes "#f 1\n" ++ said) ++ (codes "#f 3\n" ++ other)) is_one is
+    ∙ (ap₂ (λ (said other : Bytes). said ++ other) (sym (behind_one (said_by first))) (sym (behind_three (said_by cert)))
+    ∙ sym (flat_map-append (λ line. line_text line ++ 10 ∷ []) (Floor 1 ∷ said_by first) (Floor 3 ∷ said_by cert)))
 
-lines_by : (third : Option Cert) → option_map cert_lines third ≡ option_map text_by (option_map lists_of third)
-lines_by None = refl
-lines_by (Some third) = refl
+-- Kept certificates can be written.
+pub kept_writable : (wish : Wish) (plan : Plan) (settings : Settings) (auto : Bool) (certificates : Certificates)
+    → AreKept wish plan settings auto certificates → AreWritable certificates
+kept_writable wish plan settings auto (alone cert) kept = kept.lengths.writable
+kept_writable wish plan settings auto (raised first cert) (is, kept, coarse, doubled, third) = (kept.lengths.writable, third.lengths.writable)
 
 -- The pieces that are put are the text.
-pub pieces_are : (wish : Wish) (settings : Settings) (auto : Bool) (soup : FaceSet) (plan : Plan) (first : Cert) (third : Option Cert) (xs : List ℕ)
-    (head between one : Bytes) (other : Option Bytes) → AreKept wish plan settings auto (lists_of first) (option_map lists_of third)
-    → xs ≡ (used (lists_of first) (option_map lists_of third)).x → one ≡ cert_lines first → other ≡ option_map cert_lines third
-    → head ++ (canonical_text (new_soup soup plan (lengths_in xs)) ++ (between ++ joined auto one other))
-    ≡ head ++ text_behind_head between auto soup plan (lists_of first) (option_map lists_of third)
-pieces_are wish settings auto soup plan first third xs head between one other kept lengths is_one is_other =
-    ap (λ (ys : List ℕ). head ++ (canonical_text (new_soup soup plan (lengths_in ys)) ++ (between ++ joined auto one other))) lengths
-    ∙ ap (λ (said : Bytes). head ++ (canonical_text (new_soup soup plan (lengths_in (used (lists_of first) (option_map lists_of third)).x)) ++ (between ++ said)))
-    (ap₂ (λ (o : Bytes) (t : Option Bytes). joined auto o t) is_one (is_other ∙ lines_by third)
-    ∙ joined_is wish plan settings auto (lists_of first) (option_map lists_of third) kept)
+pub pieces_are : (auto : Bool) (soup : FaceSet) (plan : Plan) (certificates : Certificates) (new : Regrid) (xs : List ℕ) (head between said : Bytes)
+    → new ≡ record { soup = soup; plan = plan; lengths = xs } → xs ≡ (used certificates).x → said ≡ text_of (certificate_lines auto certificates)
+    → head ++ (canonical_text (new_soup new.soup new.plan (lengths_in new.lengths)) ++ (between ++ said))
+    ≡ head ++ text_behind_head between auto soup plan certificates
+pieces_are auto soup plan certificates new xs head between said is lengths lines =
+    ap (λ (n : Regrid). head ++ (canonical_text (new_soup n.soup n.plan (lengths_in n.lengths)) ++ (between ++ said))) is
+    ∙ ap₂ (λ (ys : List ℕ) (end : Bytes). head ++ (canonical_text (new_soup soup plan (lengths_in ys)) ++ (between ++ end))) lengths lines
+
+-- A new mesh of these.
+abbrev pub with_lengths : (soup : FaceSet) (plan : Plan) (lengths : List ℕ) → Regrid
+with_lengths soup plan lengths = record { soup = soup; plan = plan; lengths = lengths }

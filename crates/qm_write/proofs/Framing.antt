@@ -1,12 +1,11 @@
 -- A remesh in the frame of its text has the text of its task.
 use Rattle.std.proofs.Common.{◌≡◌, Bool, [], ◌∷◌, ◌++◌, append_assoc, sym, ◌∙◌, subst}
-use Rattle.std.specs.Option.{option_map}
-use Rattle.def_certtext.specs.CertLines.{lists_of}
+use Rattle.def_certtext.specs.CertLines.{certificates_of, used}
 use Rattle.def_flow.specs.declared.net.Settings.{Settings}
 use Rattle.def_layout.specs.Plans.{Plan}
 use Rattle.def_remesh.specs.Keeping.{IsKept}
 use Rattle.def_remesh.specs.NewPoints.{lengths_in}
-use Rattle.def_remesh.specs.Remeshed.{finished_text, text_behind_head, used}
+use Rattle.def_remesh.specs.Remeshed.{finished_text, text_behind_head}
 use Rattle.def_remesh.specs.Tasks.{Task, Wish}
 use Rattle.def_text.specs.FaceSet.{FaceSet}
 use Rattle.qm_write.specs.Framing.{framed_text, IsFramed}
@@ -14,27 +13,24 @@ use Rattle.qm_write.specs.declared.text.Framed.{Framed}
 
 module _ (task : Task) (framed : Framed) (soup : FaceSet) (plan : Plan) (is : IsFramed task framed soup plan) where
   -- It is kept for the settings that it tells.
-  pub framed_kept : (wish : Wish) × IsKept wish plan framed.remesh.asked.settings framed.remesh.asked.auto (lists_of framed.remesh.first)
-      (option_map lists_of framed.remesh.third) framed.remesh.numbering
+  pub framed_kept : (wish : Wish) × IsKept wish plan framed.remesh.asked.settings framed.remesh.asked.auto
+      (certificates_of framed.remesh.certs) framed.remesh.numbering
   framed_kept = (
     task.wish,
     subst
-        (λ (s : Settings). IsKept task.wish plan s framed.remesh.asked.auto (lists_of framed.remesh.first) (option_map lists_of framed.remesh.third)
-        framed.remesh.numbering)
+        (λ (s : Settings). IsKept task.wish plan s framed.remesh.asked.auto (certificates_of framed.remesh.certs) framed.remesh.numbering)
         (sym is.settings)
         (subst
-        (λ (b : Bool). IsKept task.wish plan task.settings b (lists_of framed.remesh.first) (option_map lists_of framed.remesh.third)
-        framed.remesh.numbering)
+        (λ (b : Bool). IsKept task.wish plan task.settings b (certificates_of framed.remesh.certs) framed.remesh.numbering)
         (sym is.auto) is.kept),
   )
 
   pieces_are : framed_text framed soup plan
       ≡ (task.head ++ 10 ∷ [])
-      ++ text_behind_head (task.between plan (lengths_in (used (lists_of framed.remesh.first) (option_map lists_of framed.remesh.third)).x)) task.auto soup
-      plan (lists_of framed.remesh.first) (option_map lists_of framed.remesh.third)
-  pieces_are = λ i. is.head i
-      ++ text_behind_head (is.between i) (is.auto i) soup plan (lists_of framed.remesh.first) (option_map lists_of framed.remesh.third)
+      ++ text_behind_head (task.between plan (lengths_in (used (certificates_of framed.remesh.certs)).x)) task.auto soup plan
+      (certificates_of framed.remesh.certs)
+  pieces_are = λ i. is.head i ++ text_behind_head (is.between i) (is.auto i) soup plan (certificates_of framed.remesh.certs)
 
   -- Its text is that of the task.
-  pub text_is : framed_text framed soup plan ≡ finished_text task soup plan (lists_of framed.remesh.first) (option_map lists_of framed.remesh.third)
+  pub text_is : framed_text framed soup plan ≡ finished_text task soup plan (certificates_of framed.remesh.certs)
   text_is = pieces_are ∙ append_assoc task.head (10 ∷ []) _

@@ -1,4 +1,3 @@
 mod Frames
 pub mod Framing
 mod Joins
-pub mod Positions

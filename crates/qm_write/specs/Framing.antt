@@ -1,14 +1,13 @@
 -- A remesh in the frame of its text, and the task that it finishes.
 use Rattle.std.specs.Prelude.{◌≡◌, ◌∷◌, ◌++◌, []}
-use Rattle.std.specs.Option.{option_map}
-use Rattle.def_certtext.specs.CertLines.{lists_of}
+use Rattle.def_certtext.specs.CertLines.{certificates_of, used}
 use Rattle.def_io.specs.Bytes.{Bytes}
 use Rattle.def_io.specs.declared.TheConstants.{LINE_FEED}
 use Rattle.def_layout.specs.FaceLayouts.{IsCutLayout}
 use Rattle.def_layout.specs.Plans.{Plan}
 use Rattle.def_remesh.specs.Keeping.{IsKept}
 use Rattle.def_remesh.specs.NewPoints.{lengths_in}
-use Rattle.def_remesh.specs.Remeshed.{text_behind_head, used}
+use Rattle.def_remesh.specs.Remeshed.{text_behind_head}
 use Rattle.def_remesh.specs.Tasks.{Task}
 use Rattle.def_text.specs.FaceSet.{FaceSet}
 use Rattle.qm_write.specs.declared.text.Framed.{Framed}
@@ -17,15 +16,13 @@ use Rattle.qm_write.specs.declared.text.Framed.{Framed}
 abbrev pub framed_text : (framed : Framed) (soup : FaceSet) (plan : Plan) → Bytes
 framed_text framed soup plan =
     framed.head.items ++ text_behind_head framed.between.items framed.remesh.asked.auto soup plan
-    (lists_of framed.remesh.first) (option_map lists_of framed.remesh.third)
+    (certificates_of framed.remesh.certs)
 
 -- What is kept of a layout that the cut of a task gives, in the frame that the task asks for.
 pub record IsFramed (task : Task) (framed : Framed) (soup : FaceSet) (plan : Plan) : Type 0 where
   pub cut : IsCutLayout soup.faces task.marks plan
   pub settings : framed.remesh.asked.settings ≡ task.settings
   pub auto : framed.remesh.asked.auto ≡ task.auto
-  pub kept : IsKept task.wish plan task.settings task.auto (lists_of framed.remesh.first)
-      (option_map lists_of framed.remesh.third) framed.remesh.numbering
+  pub kept : IsKept task.wish plan task.settings task.auto (certificates_of framed.remesh.certs) framed.remesh.numbering
   pub head : framed.head.items ≡ task.head ++ LINE_FEED ∷ []
-  pub between : framed.between.items ≡ task.between plan
-      (lengths_in (used (lists_of framed.remesh.first) (option_map lists_of framed.remesh.third)).x)
+  pub between : framed.between.items ≡ task.between plan (lengths_in (used (certificates_of framed.remesh.certs)).x)

@@ -1,38 +1,41 @@
 //! The lines of the certificates of a remesh.
 
-ghost use Rattle.std.specs.Prelude.{◌≡◌, ◌++◌, ℕ, IfOk, OnOk, OnErr, Some};
-ghost use Rattle.std.specs.Option.{option_map};
-ghost use Rattle.def_certtext.specs.CertLines.{cert_lines, lists_of, HasUps};
-ghost use Rattle.def_flow.specs.declared.cert.Cert.{Cert as AnyCert};
+ghost use Rattle.std.specs.Prelude.{◌≡◌, ◌++◌, false, Bool, IfOk, OnOk, OnErr};
+ghost use Rattle.def_certtext.specs.CertLines.{certificates_of, text_of};
+ghost use Rattle.def_certtext.specs.Laws.{AreWritable};
+ghost use Rattle.def_remesh.specs.Remeshed.{certificate_lines};
 ghost use Rattle.qm_write.specs.Joined.{joined};
 
-use crate::remesh::Remesh;
+use def_certtext::Certs;
 use def_output::Stopped;
 use qm_certtext::{Memory, cert_text};
 use qm_output::Output;
 use std::alloc::Global;
 
-/// The lines of the first certificate, and of the one for floor 3, where there is one.
+/// The lines of the certificates: of the only one, or of the first and of the one for floor 3.
 #[derive(Debug, Drop)]
-pub(crate) struct CertTexts {
-    pub first: Vec<u8>,
-    pub third: Option<Vec<u8>>,
+pub(crate) enum CertTexts {
+    Alone { text: Vec<u8> },
+    Raised { first: Vec<u8>, text: Vec<u8> },
 }
 
 /// The lines of the certificates of a remesh. Linear.
-pub(crate) fn cert_texts(alloc: Global, remesh: &Remesh) -> Result<CertTexts, Memory>
-    requires first { HasUps (lists_of remesh.now.first) }
-    requires third { (cert : AnyCert) → remesh.now.third ≡ Some cert → HasUps (lists_of cert) }
-    ensures first { IfOk result (λ texts. texts.first.items ≡ cert_lines remesh.now.first) }
-    ensures third { IfOk result (λ texts.
-        option_map (λ text. text.items) texts.third ≡ option_map cert_lines remesh.now.third) }
+pub(crate) fn cert_texts(alloc: Global, certs: &Certs) -> Result<CertTexts, Memory>
+    requires { AreWritable (certificates_of certs.now) }
+    ensures { IfOk result (λ texts. (auto : Bool)
+        → joined auto texts ≡ text_of (certificate_lines auto (certificates_of certs.now))) }
 {
-    let first = cert_text(alloc, &remesh.first)?;
-    let third = match &remesh.third {
-        Some(third) => Some(cert_text(alloc, third)?),
-        None => None,
-    };
-    Ok(CertTexts { first, third })
+    match certs {
+        Certs::Alone { cert } => {
+            let text = cert_text(alloc, cert)?;
+            Ok(CertTexts::Alone { text })
+        }
+        Certs::Raised { first, cert } => {
+            let first = cert_text(alloc, first)?;
+            let text = cert_text(alloc, cert)?;
+            Ok(CertTexts::Raised { first, text })
+        }
+    }
 }
 
 /// Puts these lines. With `auto` each certificate stands behind the line that names its floor.
@@ -41,18 +44,28 @@ pub(crate) fn put_certs<T: Output>(
     auto: bool,
     texts: &CertTexts,
 ) -> Result<(), Stopped>
-    ensures whole { OnOk result (T.takes out.old out.new
-        (joined auto texts.now.first.items (option_map (λ text. text.items) texts.now.third))) }
-    ensures part { OnErr result (T.stops out.old out.new
-        (joined auto texts.now.first.items (option_map (λ text. text.items) texts.now.third))) }
+    ensures whole { OnOk result (T.takes out.old out.new (joined auto texts.now)) }
+    ensures part { OnErr result (T.stops out.old out.new (joined auto texts.now)) }
 {
     if !auto {
-        return out.put(&texts.first);
+        return out.put(used_text(texts));
     }
-    put_marked(out, b"#f 1\n", &texts.first)?;
-    match &texts.third {
-        Some(third) => put_marked(out, b"#f 3\n", third),
-        None => Ok(()),
+    match texts {
+        CertTexts::Alone { text } => put_marked(out, b"#f 1\n", text),
+        CertTexts::Raised { first, text } => {
+            put_marked(out, b"#f 1\n", first)?;
+            put_marked(out, b"#f 3\n", text)
+        }
+    }
+}
+
+/// The lines of the certificate that is used.
+fn used_text(texts: &CertTexts) -> &[u8]
+    ensures { result.now ≡ joined false texts.now }
+{
+    match texts {
+        CertTexts::Alone { text } => text,
+        CertTexts::Raised { text, .. } => text,
     }
 }
 

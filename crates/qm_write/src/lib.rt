@@ -9,6 +9,6 @@ mod remesh;
 mod text;
 mod vertices;
 
-pub use body::{CutMesh, NewPoints, put_new_mesh};
+pub use body::put_new_mesh;
 pub use remesh::Remesh;
 pub use text::{Framed, PutFail, put_framed};

@@ -1,11 +1,9 @@
 //! What is kept of a layout that is remeshed.
 
 ghost use Rattle.std.specs.Prelude.{◌≡◌};
-ghost use Rattle.std.specs.Option.{option_map};
-ghost use Rattle.def_certtext.specs.CertLines.{lists_of};
-ghost use Rattle.def_remesh.specs.Remeshed.{used};
+ghost use Rattle.def_certtext.specs.CertLines.{certificates_of, lists_of, used};
 
-use def_certtext::Asked;
+use def_certtext::{Asked, Certs};
 use def_flow::Cert;
 use qm_stitch::Numbering;
 
@@ -14,10 +12,8 @@ use qm_stitch::Numbering;
 pub struct Remesh {
     /// What was asked for.
     pub asked: Asked,
-    /// The certificate for the floor that was given, or with `auto` for floor 1.
-    pub first: Cert,
-    /// With `auto`, where the lengths of the first double an edge: the certificate for floor 3.
-    pub third: Option<Cert>,
+    /// The certificates: with `auto`, where the lengths of the first double an edge, one for floor 1 and one for floor 3.
+    pub certs: Certs,
     /// The numbers of the points and faces of the new mesh, at the lengths that are used.
     pub numbering: Numbering,
 }
@@ -25,11 +21,18 @@ pub struct Remesh {
 impl Remesh {
     /// The certificate whose lengths are used.
     pub fn used_cert(&self) -> &Cert
-        ensures { lists_of result.now ≡ used (lists_of self.now.first) (option_map lists_of self.now.third) }
+        ensures { lists_of result.now ≡ used (certificates_of self.now.certs) }
     {
-        match &self.third {
-            Some(third) => third,
-            None => &self.first,
-        }
+        used_of(&self.certs)
+    }
+}
+
+/// The certificate whose lengths are used.
+pub(crate) fn used_of(certs: &Certs) -> &Cert
+    ensures { lists_of result.now ≡ used (certificates_of certs.now) }
+{
+    match certs {
+        Certs::Alone { cert } => cert,
+        Certs::Raised { cert, .. } => cert,
     }
 }

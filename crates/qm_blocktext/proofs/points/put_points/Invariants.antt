@@ -6,4 +6,4 @@ use Rattle.qm_blocktext.proofs.points.put_points.Given as goal
 
 abbrev pub invariant-loop-j : goal.invariant-loop-j
 invariant-loop-j g l =
-    g.T.Output.takes l.initial.out l.out (flat_map row_text (map (row_in l.grids l.block) (range_with_len 0 l.j)))
+    g.T.Output.takes l.initial.out l.out (flat_map row_text (map (row_in l.new l.block) (range_with_len 0 l.j)))

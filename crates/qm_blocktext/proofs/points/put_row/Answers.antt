@@ -1,37 +1,42 @@
-use Rattle.std.proofs.Common.{◌≡◌, ◌+◌, ℕ, map, subst, arith}
+use Rattle.std.proofs.Common.{◌≡◌, ◌+◌, ℕ, map, ap, ◌∙◌, subst, arith}
 use Rattle.std.specs.List.{flat_map, range_with_len}
 use Rattle.def_blocks.specs.BlockTexts.{point_line}
-use Rattle.def_layout.specs.Lengths.{wide}
-use Rattle.def_layout.specs.Plans.{layout_of}
+use Rattle.def_remesh.specs.NewPoints.{lengths_in}
+use Rattle.def_remesh.specs.NewSoup.{new_place}
 use Rattle.def_text.specs.Types.{Position}
 use Rattle.qm_output.proofs.Prefixes.{of_error}
 use Rattle.qm_output.proofs.Lists.{stops_at_number, takes_number}
-use Rattle.qm_blocktext.specs.Gridded.{lengths_by, place_in, plan_in}
+use Rattle.qm_blocktext.specs.Gridded.{place_in, width_in}
 use Rattle.qm_blocktext.proofs.points.put_row.Goals as goal
 
-pub place_in-place-requires-clause-column : goal.place_in-place-requires-clause-column
-place_in-place-requires-clause-column g c = omega (arith, c.loop-i-test.true, c.width_of-points.ensures.width)
+pub point-v-requires-clause-column : goal.point-v-requires-clause-column
+point-v-requires-clause-column g c = omega (arith, c.loop-i-test.true, c.rim-points.ensures.wide)
 
 pub returns-in_err-put_point-clause-part : goal.returns-in_err-put_point-clause-part
 returns-in_err-put_point-clause-part g c =
     let laws = g.met.T.Output in
-    let points : ℕ = wide (layout_of (plan_in c.args.grids.now)) (lengths_by c.args.grids.now) c.args.block + 1 in
+    let new = c.args.new.now in
+    let here : c.place_near.result ≡ place_in new c.args.block c.args.j c.loop-i.i =
+    c.place_near.ensures.value ∙ ap (new_place new.soup.faces new.plan new.soup.pos (lengths_in new.lengths)) c.point-v.ensures.number in
     of_error c.from_residual.result
-    (stops_at_number g.T.Output.takes g.T.Output.stops laws.stops_later laws.stops_before point_line (place_in c.args.grids.now c.args.block c.args.j)
-    points c.loop-i.i _ _ _ (omega (arith, c.loop-i-test.true, c.width_of-points.ensures.width)) c.loop-i.invariant
-    (subst (λ (p : Position). g.T.Output.stops c.loop-i.out c.put_point.new.out (point_line p)) c.place_in-place.ensures c.in_err-put_point.ensures.part))
+    (stops_at_number g.T.Output.takes g.T.Output.stops laws.stops_later laws.stops_before point_line (place_in new c.args.block c.args.j)
+    (width_in new c.args.block + 1) c.loop-i.i _ _ _ (omega (arith, c.loop-i-test.true, c.rim-points.ensures.wide)) c.loop-i.invariant
+    (subst (λ (p : Position). g.T.Output.stops c.loop-i.out c.put_point.new.out (point_line p)) here c.in_err-put_point.ensures.part))
 
 pub loop-i-preserved : goal.loop-i-preserved
 loop-i-preserved g c =
     let laws = g.met.T.Output in
-    takes_number g.T.Output.takes laws.takes_more point_line (place_in c.args.grids.now c.args.block c.args.j) c.loop-i.i _ _ _ c.loop-i.invariant
-    (subst (λ (p : Position). g.T.Output.takes c.loop-i.out c.put_point.new.out (point_line p)) c.place_in-place.ensures c.in_ok-put_point.ensures.whole)
+    let new = c.args.new.now in
+    let here : c.place_near.result ≡ place_in new c.args.block c.args.j c.loop-i.i =
+    c.place_near.ensures.value ∙ ap (new_place new.soup.faces new.plan new.soup.pos (lengths_in new.lengths)) c.point-v.ensures.number in
+    takes_number g.T.Output.takes laws.takes_more point_line (place_in new c.args.block c.args.j) c.loop-i.i _ _ _ c.loop-i.invariant
+    (subst (λ (p : Position). g.T.Output.takes c.loop-i.out c.put_point.new.out (point_line p)) here c.in_ok-put_point.ensures.whole)
 
 pub returns-clause-whole : goal.returns-clause-whole
 returns-clause-whole g c =
-    let all : c.loop-i.i ≡ wide (layout_of (plan_in c.args.grids.now)) (lengths_by c.args.grids.now) c.args.block + 1 =
-    omega (arith, c.width_of-points.ensures.width, c.loop-i-test.false, c.loop-i.auto.i-end) in
+    let all : c.loop-i.i ≡ width_in c.args.new.now c.args.block + 1 =
+    omega (arith, c.rim-points.ensures.wide, c.loop-i-test.false, c.loop-i.auto.i-end) in
     subst
     (λ (n : ℕ). g.T.Output.takes c.args.out.now c.loop-i.out
-    (flat_map point_line (map (place_in c.args.grids.now c.args.block c.args.j) (range_with_len 0 n))))
+    (flat_map point_line (map (place_in c.args.new.now c.args.block c.args.j) (range_with_len 0 n))))
     all c.loop-i.invariant

@@ -6,4 +6,4 @@ use Rattle.qm_blocktext.proofs.points.put_row.Given as goal
 
 abbrev pub invariant-loop-i : goal.invariant-loop-i
 invariant-loop-i g l =
-    g.T.Output.takes l.initial.out l.out (flat_map point_line (map (place_in l.grids l.block l.j) (range_with_len 0 l.i)))
+    g.T.Output.takes l.initial.out l.out (flat_map point_line (map (place_in l.new l.block l.j) (range_with_len 0 l.i)))

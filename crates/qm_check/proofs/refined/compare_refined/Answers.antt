@@ -1,7 +1,6 @@
 use Rattle.std.proofs.Common.{ℕ, ◌+◌, sym, ◌∙◌, subst}
 use Rattle.std.proofs.lemmas.Bool.{false≢true}
 use Rattle.def_io.specs.Bytes.{Bytes}
-use Rattle.def_layout.specs.Plans.{plan}
 use Rattle.def_remesh.specs.Refined.{refined_text}
 use Rattle.def_run.specs.Judging.{DifferFrom}
 use Rattle.qm_check.proofs.Differences.{longer_differ, stopped_differ}
@@ -10,7 +9,7 @@ use Rattle.qm_check.proofs.refined.compare_refined.Goals as goal
 
 pub returns-in-Ok-2-clause-other : goal.returns-in-Ok-2-clause-other
 returns-in-Ok-2-clause-other c =
-    let text : Bytes = refined_text c.args.by c.args.soup.now (plan c.args.cut.now.layout) in
+    let text : Bytes = refined_text c.args.by c.args.new.now.soup c.args.new.now.plan in
     subst (IsDifference c.args.given.now text) (sym c.other_from.ensures)
     (subst (λ (n : ℕ). DifferFrom c.args.given.now text (n + 1)) (sym c.at.ensures)
     (longer_differ c.args.given.now text c.new-comparison.result c.put_refined.new.out c.new-comparison.ensures c.in-Ok-2.ensures.whole
@@ -18,7 +17,7 @@ returns-in-Ok-2-clause-other c =
 
 pub returns-in-Err-clause-other : goal.returns-in-Err-clause-other
 returns-in-Err-clause-other c =
-    let text : Bytes = refined_text c.args.by c.args.soup.now (plan c.args.cut.now.layout) in
+    let text : Bytes = refined_text c.args.by c.args.new.now.soup c.args.new.now.plan in
     subst (IsDifference c.args.given.now text) (sym c.other_from-in-Err.ensures)
     (subst (λ (n : ℕ). DifferFrom c.args.given.now text (n + 1)) (sym c.at-in-Err.ensures)
     (stopped_differ c.args.given.now text c.new-comparison.result c.put_refined.new.out c.new-comparison.ensures c.in-Err.ensures.part))

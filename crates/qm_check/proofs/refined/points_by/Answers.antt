@@ -1,21 +1,21 @@
 use Rattle.std.proofs.Common.{arith, subst}
 use Rattle.def_layout.specs.Arcs.{long_at}
-use Rattle.def_layout.specs.Plans.{layout_of, plan}
+use Rattle.def_layout.specs.Plans.{layout_of}
 use Rattle.def_remesh.specs.NewPoints.{multiple_of}
 use Rattle.def_remesh.specs.Stitched.{IsUnstitched}
 use Rattle.qm_check.proofs.refined.points_by.Goals as goal
 
-pub returns-in-Ok-clause-points : goal.returns-in-Ok-clause-points
-returns-in-Ok-clause-points c = record {
-  numbering = c.in-Ok.ensures.numbering;
-  places = c.in-Ok.ensures.places;
-  same = c.in-Ok.ensures.same;
-  lengths = c.in-Ok.ensures.lengths;
+pub returns-in-Ok-clause-refined : goal.returns-in-Ok-clause-refined
+returns-in-Ok-clause-refined c = record {
+  soup = c.in-Ok.ensures.new.0;
+  plan = c.in-Ok.ensures.new.1;
+  lengths = c.in-Ok.ensures.new.2;
   shape = c.in-Ok.ensures.shape;
+  few = c.in-Ok.ensures.few;
 }
 
 pub returns-in-Err-TooFine-clause-refused : goal.returns-in-Err-TooFine-clause-refused
 returns-in-Err-TooFine-clause-refused c =
-    let t = plan c.args.cut.now.layout in
+    let t = c.args.cut.plan in
     let told = subst (IsUnstitched (layout_of t) (multiple_of c.args.by (long_at t.arcs))) c.in-Err-TooFine.field-0-is c.in-Err-TooFine.ensures.refused in
     (told.0, omega (arith, told.0, told.1))

@@ -1,23 +1,42 @@
-use Rattle.std.proofs.Common.{◌≡◌, ℕ, ◌<◌, length, map, subst, arith}
+use Rattle.std.proofs.Common.{◌≡◌, ℕ, ◌<◌, length, map, ap, subst, arith}
 use Rattle.std.proofs.lemmas.List.{length-map}
 use Rattle.std.specs.List.{flat_map, range_with_len}
 use Rattle.def_cut.specs.Grids.{rectangle}
 use Rattle.def_io.specs.Bytes.{Bytes}
-use Rattle.def_layout.specs.Plans.{plan}
+use Rattle.def_layout.specs.Plans.{Plan}
 use Rattle.def_remesh.specs.NewPoints.{lengths_in}
+use Rattle.def_remesh.specs.CutSoups.{CutSoup}
 use Rattle.qm_map.specs.PatchLines.{patch_lines}
 use Rattle.qm_map.proofs.PatchCells.{all_lines}
 use Rattle.qm_output.proofs.Prefixes.{of_error}
 use Rattle.qm_output.proofs.Lists.{stops_at_number, takes_number}
 use Rattle.qm_map.proofs.cells.put_cells.Goals as goal
 
+pub put_patch-requires : goal.put_patch-requires
+put_patch-requires g c = omega (
+  arith,
+  c.loop-patch-test.true,
+  c.len-patch-end.ensures,
+  c.layout.result.now.patches.ok.0,
+  length-map c.layout.result.now.patches.items rectangle,
+  ap (λ (p : Plan). length p.patches) c.layout.ensures.plan,
+  ap (λ (k : CutSoup). length k.plan.patches) c.cut.ensures,
+)
+
 pub returns-in_err-put_patch-clause-part : goal.returns-in_err-put_patch-clause-part
 returns-in_err-put_patch-clause-part g c =
     let laws = g.met.T.Output in
-    let t = plan c.args.layout.now in
-    let x = lengths_in c.args.places.now.lengths.items in
-    let low : c.loop-patch.patch < length t.patches =
-    omega (arith, c.loop-patch-test.true, c.len-patch-end.ensures, c.args.layout.now.patches.ok.0, length-map c.args.layout.now.patches.items rectangle) in
+    let t = c.args.new.now.plan in
+    let x = lengths_in c.args.new.now.lengths in
+    let low : c.loop-patch.patch < length t.patches = omega (
+      arith,
+      c.loop-patch-test.true,
+      c.len-patch-end.ensures,
+      c.layout.result.now.patches.ok.0,
+      length-map c.layout.result.now.patches.items rectangle,
+      ap (λ (p : Plan). length p.patches) c.layout.ensures.plan,
+      ap (λ (k : CutSoup). length k.plan.patches) c.cut.ensures,
+    ) in
     of_error c.from_residual.result
     (subst (λ (text : Bytes). g.T.Output.stops c.args.out.now c.put_patch.new.out text) (all_lines t x)
     (stops_at_number g.T.Output.takes g.T.Output.stops laws.stops_later laws.stops_before (patch_lines t x) (λ p. p)
@@ -26,17 +45,23 @@ returns-in_err-put_patch-clause-part g c =
 pub loop-patch-preserved : goal.loop-patch-preserved
 loop-patch-preserved g c =
     let laws = g.met.T.Output in
-    let t = plan c.args.layout.now in
-    let x = lengths_in c.args.places.now.lengths.items in
-    takes_number g.T.Output.takes laws.takes_more (patch_lines t x) (λ p. p) c.loop-patch.patch _ _ _ c.loop-patch.invariant
-    c.in_ok-put_patch.ensures.whole
+    takes_number g.T.Output.takes laws.takes_more (patch_lines c.args.new.now.plan (lengths_in c.args.new.now.lengths)) (λ p. p)
+    c.loop-patch.patch _ _ _ c.loop-patch.invariant c.in_ok-put_patch.ensures.whole
 
 pub returns-clause-whole : goal.returns-clause-whole
 returns-clause-whole g c =
-    let t = plan c.args.layout.now in
-    let x = lengths_in c.args.places.now.lengths.items in
-    let all : c.loop-patch.patch ≡ length t.patches =
-    omega (arith, c.loop-patch-test.false, c.loop-patch.auto.patch-end, c.len-patch-end.ensures, c.args.layout.now.patches.ok.0, length-map c.args.layout.now.patches.items rectangle) in
+    let t = c.args.new.now.plan in
+    let x = lengths_in c.args.new.now.lengths in
+    let all : c.loop-patch.patch ≡ length t.patches = omega (
+      arith,
+      c.loop-patch-test.false,
+      c.loop-patch.auto.patch-end,
+      c.len-patch-end.ensures,
+      c.layout.result.now.patches.ok.0,
+      length-map c.layout.result.now.patches.items rectangle,
+      ap (λ (p : Plan). length p.patches) c.layout.ensures.plan,
+      ap (λ (k : CutSoup). length k.plan.patches) c.cut.ensures,
+    ) in
     subst (λ (text : Bytes). g.T.Output.takes c.args.out.now c.loop-patch.out text) (all_lines t x)
     (subst (λ (n : ℕ). g.T.Output.takes c.args.out.now c.loop-patch.out (flat_map (patch_lines t x) (map (λ p. p) (range_with_len 0 n))))
     all c.loop-patch.invariant)

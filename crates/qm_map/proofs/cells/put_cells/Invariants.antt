@@ -1,6 +1,5 @@
 use Rattle.std.proofs.Common.{map}
 use Rattle.std.specs.List.{flat_map, range_with_len}
-use Rattle.def_layout.specs.Plans.{plan}
 use Rattle.def_remesh.specs.NewPoints.{lengths_in}
 use Rattle.qm_map.specs.PatchLines.{patch_lines}
 use Rattle.qm_map.proofs.cells.put_cells.Given as goal
@@ -8,4 +7,4 @@ use Rattle.qm_map.proofs.cells.put_cells.Given as goal
 abbrev pub invariant-loop-patch : goal.invariant-loop-patch
 invariant-loop-patch g l =
     g.T.Output.takes l.initial.out l.out
-    (flat_map (patch_lines (plan l.layout) (lengths_in l.places.lengths.items)) (map (λ p. p) (range_with_len 0 l.patch)))
+    (flat_map (patch_lines l.new.plan (lengths_in l.new.lengths)) (map (λ p. p) (range_with_len 0 l.patch)))

@@ -1,27 +1,19 @@
-use Rattle.std.proofs.Common.{◌≡◌, ℕ, ◌*◌, ◌/◌, ◌%◌, ◌<◌, length, map, ◌∙◌, subst, arith}
-use Rattle.std.proofs.lemmas.List.{length-map}
+use Rattle.std.proofs.Common.{◌≡◌, ℕ, ◌*◌, ◌/◌, ◌%◌, ◌<◌, map, ◌∙◌, subst, arith}
 use Rattle.std.specs.List.{flat_map, range_with_len}
-use Rattle.def_cut.specs.Grids.{rectangle}
 use Rattle.def_layout.specs.Lengths.{wide, high}
-use Rattle.def_layout.specs.Plans.{layout_of, plan}
+use Rattle.def_layout.specs.Plans.{layout_of}
 use Rattle.def_map.specs.Homes.{home_of}
 use Rattle.def_map.specs.MapText.{cell_line}
 use Rattle.def_map.specs.declared.home.Home.{Home}
 use Rattle.def_remesh.specs.NewPoints.{lengths_in}
 use Rattle.qm_map.specs.PatchLines.{home_in}
-use Rattle.qm_map.proofs.PatchCells.{cells_few, in_grid}
+use Rattle.qm_map.proofs.PatchCells.{in_grid}
 use Rattle.qm_output.proofs.Prefixes.{of_error}
 use Rattle.qm_output.proofs.Lists.{stops_at_number, takes_number}
 use Rattle.qm_map.proofs.cells.put_patch.Goals as goal
 
 pub overflow_mul-k-end : goal.overflow_mul-k-end
-overflow_mul-k-end g c =
-    let p_low : c.args.patch < length (plan c.args.layout.now).patches =
-    omega (arith, c.requires.patch, length-map c.args.layout.now.patches.items rectangle) in
-    let product : c.rim-rim.result.wide * c.rim-rim.result.high
-    ≡ wide (layout_of (plan c.args.layout.now)) (lengths_in c.args.places.now.lengths.items) c.args.patch * high (layout_of (plan c.args.layout.now)) (lengths_in c.args.places.now.lengths.items) c.args.patch =
-    λ t. c.rim-rim.ensures.wide t * c.rim-rim.ensures.high t in
-    omega (arith, product, cells_few c.requires.places.0 (plan c.args.layout.now) c.args.places.now c.requires.places.1 c.args.patch p_low)
+overflow_mul-k-end g c = omega (arith, c.rim-rim.ensures.few)
 
 pub nonzero_rem-k : goal.nonzero_rem-k
 nonzero_rem-k g c = (in_grid c.rim-rim.result.wide c.rim-rim.result.high c.loop-k.k c.loop-k-test.true).2
@@ -40,14 +32,12 @@ home-requires-clause-row g c =
 pub returns-in_err-put_cell-clause-part : goal.returns-in_err-put_cell-clause-part
 returns-in_err-put_cell-clause-part g c =
     let laws = g.met.T.Output in
-    let t = plan c.args.layout.now in
-    let x = lengths_in c.args.places.now.lengths.items in
+    let t = c.args.new.now.plan in
+    let x = lengths_in c.args.new.now.lengths in
     let low : c.loop-k.k < wide (layout_of t) x c.args.patch * high (layout_of t) x c.args.patch =
     subst (λ (n : ℕ). c.loop-k.k < n) (λ k. c.rim-rim.ensures.wide k * c.rim-rim.ensures.high k) c.loop-k-test.true in
-    let here : c.home.result ≡ home_in (plan c.args.layout.now) (lengths_in c.args.places.now.lengths.items) c.args.patch c.loop-k.k =
-    c.home.ensures
-    ∙ (λ t. home_of (plan c.args.layout.now) (lengths_in c.args.places.now.lengths.items) c.args.patch
-    (c.loop-k.k % c.rim-rim.ensures.wide t) (c.loop-k.k / c.rim-rim.ensures.wide t)) in
+    let here : c.home.result ≡ home_in t x c.args.patch c.loop-k.k =
+    c.home.ensures ∙ (λ k. home_of t x c.args.patch (c.loop-k.k % c.rim-rim.ensures.wide k) (c.loop-k.k / c.rim-rim.ensures.wide k)) in
     of_error c.from_residual.result
     (stops_at_number g.T.Output.takes g.T.Output.stops laws.stops_later laws.stops_before cell_line (home_in t x c.args.patch)
     (wide (layout_of t) x c.args.patch * high (layout_of t) x c.args.patch) c.loop-k.k _ _ _ low c.loop-k.invariant
@@ -56,19 +46,17 @@ returns-in_err-put_cell-clause-part g c =
 pub loop-k-preserved : goal.loop-k-preserved
 loop-k-preserved g c =
     let laws = g.met.T.Output in
-    let t = plan c.args.layout.now in
-    let x = lengths_in c.args.places.now.lengths.items in
-    let here : c.home.result ≡ home_in (plan c.args.layout.now) (lengths_in c.args.places.now.lengths.items) c.args.patch c.loop-k.k =
-    c.home.ensures
-    ∙ (λ t. home_of (plan c.args.layout.now) (lengths_in c.args.places.now.lengths.items) c.args.patch
-    (c.loop-k.k % c.rim-rim.ensures.wide t) (c.loop-k.k / c.rim-rim.ensures.wide t)) in
+    let t = c.args.new.now.plan in
+    let x = lengths_in c.args.new.now.lengths in
+    let here : c.home.result ≡ home_in t x c.args.patch c.loop-k.k =
+    c.home.ensures ∙ (λ k. home_of t x c.args.patch (c.loop-k.k % c.rim-rim.ensures.wide k) (c.loop-k.k / c.rim-rim.ensures.wide k)) in
     takes_number g.T.Output.takes laws.takes_more cell_line (home_in t x c.args.patch) c.loop-k.k _ _ _ c.loop-k.invariant
     (subst (λ (h : Home). g.T.Output.takes c.loop-k.out c.put_cell.new.out (cell_line h)) here c.in_ok-put_cell.ensures.whole)
 
 pub returns-clause-whole : goal.returns-clause-whole
 returns-clause-whole g c =
-    let t = plan c.args.layout.now in
-    let x = lengths_in c.args.places.now.lengths.items in
+    let t = c.args.new.now.plan in
+    let x = lengths_in c.args.new.now.lengths in
     let product : c.rim-rim.result.wide * c.rim-rim.result.high ≡ wide (layout_of t) x c.args.patch * high (layout_of t) x c.args.patch =
     λ k. c.rim-rim.ensures.wide k * c.rim-rim.ensures.high k in
     let all : c.loop-k.k ≡ wide (layout_of t) x c.args.patch * high (layout_of t) x c.args.patch =

@@ -6,10 +6,14 @@ use Rattle.qm_map.proofs.map.put_head.Goals as goal
 
 pub returns-clause-whole : goal.returns-clause-whole
 returns-clause-whole g c =
-    let line : c.as_bytes.result.now ≡ map_head c.args.vertices c.args.faces = c.as_bytes.ensures.value ∙ c.as_str.ensures.value ∙ c.head_line.ensures in
-    subst (λ (text : Bytes). OnOk c.put.result (g.T.Output.takes c.args.out.now c.put.new.self text)) line c.put.ensures.whole
+    let line : c.as_bytes.result.now ≡ map_head c.vertices.result c.faces.result =
+    c.as_bytes.ensures.value ∙ c.as_str.ensures.value ∙ c.head_line.ensures in
+    subst (λ (text : Bytes). OnOk c.put.result (g.T.Output.takes c.args.out.now c.put.new.self text))
+    (line ∙ (λ t. map_head (c.vertices.ensures t) (c.faces.ensures t))) c.put.ensures.whole
 
 pub returns-clause-part : goal.returns-clause-part
 returns-clause-part g c =
-    let line : c.as_bytes.result.now ≡ map_head c.args.vertices c.args.faces = c.as_bytes.ensures.value ∙ c.as_str.ensures.value ∙ c.head_line.ensures in
-    subst (λ (text : Bytes). OnErr c.put.result (g.T.Output.stops c.args.out.now c.put.new.self text)) line c.put.ensures.part
+    let line : c.as_bytes.result.now ≡ map_head c.vertices.result c.faces.result =
+    c.as_bytes.ensures.value ∙ c.as_str.ensures.value ∙ c.head_line.ensures in
+    subst (λ (text : Bytes). OnErr c.put.result (g.T.Output.stops c.args.out.now c.put.new.self text))
+    (line ∙ (λ t. map_head (c.vertices.ensures t) (c.faces.ensures t))) c.put.ensures.part

@@ -1,6 +1,5 @@
 use Rattle.std.proofs.Common.{map}
 use Rattle.std.specs.List.{flat_map, range_with_len}
-use Rattle.def_layout.specs.Plans.{plan}
 use Rattle.def_map.specs.MapText.{spot_line}
 use Rattle.def_map.specs.Spots.{spot_at}
 use Rattle.def_remesh.specs.NewPoints.{lengths_in}
@@ -9,4 +8,4 @@ use Rattle.qm_map.proofs.vertices.put_vertices.Given as goal
 abbrev pub invariant-loop-v : goal.invariant-loop-v
 invariant-loop-v g l =
     g.T.Output.takes l.initial.out l.out
-    (flat_map (spot_line l.cut.mesh l.names) (map (spot_at (plan l.cut.layout) (lengths_in l.places.lengths.items)) (range_with_len 0 l.v)))
+    (flat_map (spot_line l.new.soup.faces l.new.soup.names) (map (spot_at l.new.plan (lengths_in l.new.lengths)) (range_with_len 0 l.v)))

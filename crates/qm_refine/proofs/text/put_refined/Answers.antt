@@ -2,7 +2,6 @@ use Rattle.std.specs.Prelude.{OnErr, OnOk}
 use Rattle.std.proofs.Common.{subst}
 use Rattle.std.proofs.lemmas.Result.{on_err_weaker, on_ok_weaker}
 use Rattle.def_layout.specs.Lengths.{Lengths}
-use Rattle.def_layout.specs.Plans.{plan}
 use Rattle.def_remesh.specs.NewSoup.{new_soup}
 use Rattle.def_remesh.specs.Refined.{refine_head}
 use Rattle.def_text.specs.Canonical.{canonical_text}
@@ -19,7 +18,7 @@ returns-clause-whole g c =
     let laws = g.met.T.Output in
     on_ok_weaker c.put_new_mesh.result (laws.takes_more _ _ _ (refine_head c.args.by) _ c.in_ok-put_head.ensures.whole)
     (subst
-    (λ (l : Lengths). OnOk c.put_new_mesh.result (g.T.Output.takes c.put_head.new.out c.put_new_mesh.new.out (canonical_text (new_soup c.args.soup.now (plan c.args.cut.now.layout) l))))
+    (λ (l : Lengths). OnOk c.put_new_mesh.result (g.T.Output.takes c.put_head.new.out c.put_new_mesh.new.out (canonical_text (new_soup c.args.new.now.soup c.args.new.now.plan l))))
     c.requires.lengths
     c.put_new_mesh.ensures.whole)
 
@@ -28,6 +27,6 @@ returns-clause-part g c =
     let laws = g.met.T.Output in
     on_err_weaker c.put_new_mesh.result (laws.stops_later _ _ _ (refine_head c.args.by) _ c.in_ok-put_head.ensures.whole)
     (subst
-    (λ (l : Lengths). OnErr c.put_new_mesh.result (g.T.Output.stops c.put_head.new.out c.put_new_mesh.new.out (canonical_text (new_soup c.args.soup.now (plan c.args.cut.now.layout) l))))
+    (λ (l : Lengths). OnErr c.put_new_mesh.result (g.T.Output.stops c.put_head.new.out c.put_new_mesh.new.out (canonical_text (new_soup c.args.new.now.soup c.args.new.now.plan l))))
     c.requires.lengths
     c.put_new_mesh.ensures.part)

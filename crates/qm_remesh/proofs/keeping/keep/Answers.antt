@@ -1,15 +1,37 @@
+use Rattle.std.proofs.Common.{ℕ, sym, subst}
+use Rattle.def_flow.specs.Network.{network}
+use Rattle.def_layout.specs.Arcs.{long_at}
+use Rattle.def_layout.specs.Plans.{layout_of, plan, Plan}
+use Rattle.def_layoutnet.specs.LayoutNet.{HasNoNet, IsNetOf}
+use Rattle.def_layoutnet.specs.MeshLayouts.{IsSomeLayout}
+use Rattle.def_remesh.specs.Keeping.{IsNetFor}
+use Rattle.def_remesh.specs.Refusals.{IsTangledAt}
 use Rattle.def_remesh.specs.Tasks.{old_lengths}
 use Rattle.qm_remesh.proofs.Nets.{net_for}
+use Rattle.qm_remesh.proofs.keeping.keep.Goals.{In-Ok}
 use Rattle.qm_remesh.proofs.keeping.keep.Goals as goal
 
+pub net_of-requires-clause-layout : goal.net_of-requires-clause-layout
+net_of-requires-clause-layout c = subst IsSomeLayout (sym c.layout.ensures.plan) c.layout.ensures.laid.0
+
+pub returns-in-Err-Tangled-clause-refused : goal.returns-in-Err-Tangled-clause-refused
+returns-in-Err-Tangled-clause-refused c =
+    let layout = plan c.layout.result.now in
+    subst (λ (n : ℕ). IsTangledAt old_lengths c.args.cut.now.plan c.args.asked.settings n) (sym c.in-Err-Tangled.count-is)
+    (subst (λ (p : Plan). IsTangledAt old_lengths p c.args.asked.settings c.in-Err-Tangled.count) c.layout.ensures.plan
+    (subst (HasNoNet (layout_of layout) (long_at layout.arcs) c.args.asked.settings) c.in-Err-Tangled.field-0-is c.in-Err-Tangled.ensures.tangled))
+
+net : (c : In-Ok) → IsNetFor old_lengths c.args.cut.now.plan c.args.asked.settings (network c.in-Ok.net)
+net c =
+    net_for _ _ _ _ c.layout.ensures.laid.0 c.requires.settings
+    (subst (λ (p : Plan). IsNetOf (layout_of p) (long_at p.arcs) c.args.asked.settings (network c.in-Ok.net)) c.layout.ensures.plan c.in-Ok.ensures.net)
+    c.in-Ok.ensures.bounds c.in-Ok.ensures.small
+
 pub keep_solved-requires-clause-net : goal.keep_solved-requires-clause-net
-keep_solved-requires-clause-net c =
-    (old_lengths, net_for _ _ _ _ c.requires.layout c.requires.settings c.in-Ok.ensures.net c.in-Ok.ensures.bounds c.in-Ok.ensures.small)
+keep_solved-requires-clause-net c = (old_lengths, net (goal.at.keep_solved-requires-clause-net c).In-Ok)
 
 pub returns-clause-kept : goal.returns-clause-kept
-returns-clause-kept c = c.keep_solved.ensures.kept old_lengths
-    (net_for _ _ _ _ c.requires.layout c.requires.settings c.in-Ok.ensures.net c.in-Ok.ensures.bounds c.in-Ok.ensures.small)
+returns-clause-kept c = c.keep_solved.ensures.kept old_lengths (net (goal.at.returns-clause-kept c).In-Ok)
 
 pub returns-clause-refused : goal.returns-clause-refused
-returns-clause-refused c = c.keep_solved.ensures.refused old_lengths
-    (net_for _ _ _ _ c.requires.layout c.requires.settings c.in-Ok.ensures.net c.in-Ok.ensures.bounds c.in-Ok.ensures.small)
+returns-clause-refused c = c.keep_solved.ensures.refused old_lengths (net (goal.at.returns-clause-refused c).In-Ok)

@@ -1,16 +1,14 @@
 use Rattle.std.specs.Prelude.{IfErr, IfOk}
-use Rattle.std.specs.Option.{option_map}
 use Rattle.std.proofs.Common.{Bool, subst, sym}
-use Rattle.def_certtext.specs.CertLines.{lists_of}
+use Rattle.def_certtext.specs.CertLines.{certificates_of}
 use Rattle.def_flow.specs.Network.{network}
-use Rattle.def_layout.specs.Plans.{plan}
 use Rattle.def_remesh.specs.Keeping.{IsKept}
 use Rattle.def_remesh.specs.Refusals.{IsLayoutFail}
 use Rattle.remesh_laws.proofs.Keeps.{are_lengths, doubled_first, doubled_some, keeps_first, low_floor, solved, too_fine}
 use Rattle.qm_remesh.proofs.keeping.keep_solved.Goals as goal
 
-pub plan-requires-clause-lengths : goal.plan-requires-clause-lengths
-plan-requires-clause-lengths c =
+pub plan_over-requires-clause-lengths : goal.plan_over-requires-clause-lengths
+plan_over-requires-clause-lengths c =
     are_lengths _ c.args.asked.settings (network c.args.net) c.args.first _ c.requires.net.1 c.requires.solved c.deref.ensures.value
 
 pub raise-requires-clause-coarse : goal.raise-requires-clause-coarse
@@ -24,13 +22,12 @@ raise-requires-clause-doubled c =
 pub returns-in-Err-Doubled-clause-kept : goal.returns-in-Err-Doubled-clause-kept
 returns-in-Err-Doubled-clause-kept c = λ wish for.
     subst
-    (λ (b : Bool). IfOk c.raise.result (λ kept. IsKept wish (plan c.args.t.now) c.args.asked.settings b (lists_of kept.first)
-    (option_map lists_of kept.third) kept.numbering))
+    (λ (b : Bool). IfOk c.raise.result (λ kept. IsKept wish c.args.cut.now.plan c.args.asked.settings b (certificates_of kept.certs) kept.numbering))
     (sym c.if-asked.true) (c.raise.ensures.kept wish for)
 
 pub returns-in-Err-Doubled-clause-refused : goal.returns-in-Err-Doubled-clause-refused
 returns-in-Err-Doubled-clause-refused c = λ wish for.
-    subst (λ (b : Bool). IfErr c.raise.result (IsLayoutFail wish (plan c.args.t.now) c.args.asked.settings b)) (sym c.if-asked.true)
+    subst (λ (b : Bool). IfErr c.raise.result (IsLayoutFail wish c.args.cut.now.plan c.args.asked.settings b)) (sym c.if-asked.true)
     (c.raise.ensures.refused wish for)
 
 pub returns-in-Ok-clause-kept : goal.returns-in-Ok-clause-kept
@@ -57,8 +54,8 @@ returns-in-Err-Doubled-2-clause-refused c = λ wish for.
     let certified = solved _ c.args.asked.settings (network c.args.net) c.args.first for c.requires.solved in
     record {
       given = c.if-asked.false;
-      low = low_floor _ c.args.asked.settings c.args.first _ c.plan.result c.in-Err-Doubled.field-0 _ _ c.deref.ensures.value
-          certified c.plan.ensures.safe c.in-Err-Doubled.is c.in-Err-Doubled.field-0-is;
+      low = low_floor _ c.args.asked.settings c.args.first _ c.plan_over.result c.in-Err-Doubled.field-0 _ _ c.deref.ensures.value
+          certified c.plan_over.ensures.safe c.in-Err-Doubled.is c.in-Err-Doubled.field-0-is;
       certified = certified;
       coarse = both.0;
       pair = both.1;

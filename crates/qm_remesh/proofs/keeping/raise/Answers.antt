@@ -1,6 +1,5 @@
 use Rattle.def_flow.specs.Network.{network}
-use Rattle.std.proofs.Common.{ℕ, sym, subst}
-use Rattle.def_layout.specs.Plans.{plan}
+use Rattle.std.proofs.Common.{ℕ, refl, sym, subst}
 use Rattle.def_remesh.specs.Refusals.{AreTooFine}
 use Rattle.def_remesh.specs.Remeshed.{with_floor}
 use Rattle.remesh_laws.proofs.Keeps.{are_lengths, bounded, keeps_third, raised_even, raised_net, solved, too_fine}
@@ -9,23 +8,24 @@ use Rattle.qm_remesh.proofs.keeping.raise.Goals as goal
 pub solve-requires-clause-even : goal.solve-requires-clause-even
 solve-requires-clause-even c = raised_even (network c.args.net) _ c.requires.even c.with_floor-raised.ensures
 
-pub plan-requires-clause-lengths : goal.plan-requires-clause-lengths
-plan-requires-clause-lengths c =
-    are_lengths _ (with_floor c.args.settings 3) (network c.with_floor-raised.result) c.in_ok-third.third _
-    (raised_net _ c.args.settings (network c.args.net) (network c.with_floor-raised.result) c.requires.net.1 c.with_floor-raised.ensures) c.in_ok-third.ensures c.deref.ensures.value
+pub plan_over-requires-clause-lengths : goal.plan_over-requires-clause-lengths
+plan_over-requires-clause-lengths c =
+    are_lengths _ (with_floor c.args.settings 3) (network c.with_floor-raised.result) c.in_ok-cert.cert _
+    (raised_net _ c.args.settings (network c.args.net) (network c.with_floor-raised.result) c.requires.net.1 c.with_floor-raised.ensures) c.in_ok-cert.ensures c.deref.ensures.value
 
-pub plan-requires-clause-bounded : goal.plan-requires-clause-bounded
-plan-requires-clause-bounded c =
-    bounded (network c.with_floor-raised.result) c.in_ok-third.third _ c.in_ok-third.ensures c.deref.ensures.value
+pub plan_over-requires-clause-bounded : goal.plan_over-requires-clause-bounded
+plan_over-requires-clause-bounded c =
+    bounded (network c.with_floor-raised.result) c.in_ok-cert.cert _ c.in_ok-cert.ensures c.deref.ensures.value
 
 pub returns-in-Ok-clause-kept : goal.returns-in-Ok-clause-kept
 returns-in-Ok-clause-kept c = λ wish for.
-    keeps_third _ _ c.args.first c.in_ok-third.third _ _ c.deref.ensures.value (
+    keeps_third _ _ c.args.first c.in_ok-cert.cert _ _ c.deref.ensures.value (
+      refl,
       solved _ c.args.settings (network c.args.net) c.args.first for c.requires.solved,
       c.requires.coarse,
       c.requires.doubled,
-      solved _ (with_floor c.args.settings 3) (network c.with_floor-raised.result) c.in_ok-third.third
-          (raised_net _ c.args.settings (network c.args.net) (network c.with_floor-raised.result) for c.with_floor-raised.ensures) c.in_ok-third.ensures,
+      solved _ (with_floor c.args.settings 3) (network c.with_floor-raised.result) c.in_ok-cert.cert
+          (raised_net _ c.args.settings (network c.args.net) (network c.with_floor-raised.result) for c.with_floor-raised.ensures) c.in_ok-cert.ensures,
     )
     (record {
       numbering = c.in-Ok.ensures.numbering;
@@ -37,12 +37,13 @@ returns-in-Ok-clause-kept c = λ wish for.
 pub returns-in-Err-TooFine-clause-refused : goal.returns-in-Err-TooFine-clause-refused
 returns-in-Err-TooFine-clause-refused c = λ wish for. (
   (
+    refl,
     solved _ c.args.settings (network c.args.net) c.args.first for c.requires.solved,
     c.requires.coarse,
     c.requires.doubled,
-    solved _ (with_floor c.args.settings 3) (network c.with_floor-raised.result) c.in_ok-third.third
-        (raised_net _ c.args.settings (network c.args.net) (network c.with_floor-raised.result) for c.with_floor-raised.ensures) c.in_ok-third.ensures,
+    solved _ (with_floor c.args.settings 3) (network c.with_floor-raised.result) c.in_ok-cert.cert
+        (raised_net _ c.args.settings (network c.args.net) (network c.with_floor-raised.result) for c.with_floor-raised.ensures) c.in_ok-cert.ensures,
   ),
-  subst (λ (n : ℕ). AreTooFine (plan c.args.t.now) c.in_ok-third.third.x.items n) (sym c.in-Err-TooFine.faces-is)
+  subst (λ (n : ℕ). AreTooFine c.args.cut.now.plan c.in_ok-cert.cert.x.items n) (sym c.in-Err-TooFine.faces-is)
       (too_fine _ _ _ c.in-Err-TooFine.field-0 _ c.deref.ensures.value c.in-Err-TooFine.field-0-is c.in-Err-TooFine.ensures.refused),
 )

@@ -1,32 +1,15 @@
-use Rattle.std.proofs.Common.{◌≡◌, ◌∙◌, sym, rules}
-use Rattle.std.proofs.lemmas.List.{length-map}
+use Rattle.std.proofs.Common.{◌≡◌, rules}
 use Rattle.std.proofs.lemmas.Result.{on_err_weaker, on_ok_weaker}
-use Rattle.def_cut.specs.Grids.{rectangle}
 use Rattle.def_io.specs.Moves.{took, TookPrefix}
-use Rattle.def_layout.specs.Plans.{plan}
 use Rattle.qm_output.proofs.Prefixes.{of_error, rest_prefix, text_prefix, text_whole}
 use Rattle.qm_top.specs.Blocking.{told_text}
 use Rattle.qm_top.proofs.Writers.{on_ok_both}
 use Rattle.qm_top.proofs.blocks.write_blocks.Goals as goal
 
-pub put_blocks-requires-clause-numbering : goal.put_blocks-requires-clause-numbering
-put_blocks-requires-clause-numbering g c = c.requires.blocks.1.points.numbering
-
-pub put_blocks-requires-clause-places : goal.put_blocks-requires-clause-places
-put_blocks-requires-clause-places g c = c.requires.blocks.1.points.places
-
-pub put_blocks-requires-clause-same : goal.put_blocks-requires-clause-same
-put_blocks-requires-clause-same g c = c.requires.blocks.1.points.same
-
-pub put_blocks-requires-clause-links : goal.put_blocks-requires-clause-links
-put_blocks-requires-clause-links g c =
-    sym (length-map c.args.blocks.now.links.items (λ links. links.items)) ∙ c.requires.blocks.1.links.blocks
-    ∙ length-map c.args.cut.now.layout.patches.items rectangle
-
 pub returns-in_err-put_blocks-clause-prefix : goal.returns-in_err-put_blocks-clause-prefix
 returns-in_err-put_blocks-clause-prefix g c =
     let prefix : TookPrefix (g.O.Sink.state c.new-text.result.sink.now).told (g.O.Sink.state c.put_blocks.new.out.sink.now).told
-    (told_text c.args.blocks.now c.args.soup.now (plan c.args.cut.now.layout))
+    (told_text c.args.blocks.now)
     = text_prefix _ _ _ c.new-text.ensures.empty c.in_err-put_blocks.ensures.part.1 in
     of_error c.from_residual.result (search rules)
 
@@ -35,7 +18,7 @@ returns-clause-prefix g c =
     on_err_weaker c.flush.result
     (λ broke.
     let prefix : TookPrefix (g.O.Sink.state c.new-text.result.sink.now).told (g.O.Sink.state c.flush.new.self.sink.now).told
-    (told_text c.args.blocks.now c.args.soup.now (plan c.args.cut.now.layout))
+    (told_text c.args.blocks.now)
     = rest_prefix _ _ _ _ c.new-text.ensures.empty c.in_ok-put_blocks.ensures.whole.1 broke in
     search rules)
     c.flush.ensures.part
@@ -45,7 +28,7 @@ returns-clause-whole g c =
     on_ok_weaker c.flush.result
     (λ both.
     let whole : (g.O.Sink.state c.flush.new.self.sink.now).told
-    ≡ took (g.O.Sink.state c.new-text.result.sink.now).told (told_text c.args.blocks.now c.args.soup.now (plan c.args.cut.now.layout))
+    ≡ took (g.O.Sink.state c.new-text.result.sink.now).told (told_text c.args.blocks.now)
     = text_whole _ _ _ _ c.new-text.ensures.empty c.in_ok-put_blocks.ensures.whole.1 both.0 both.1 in
     search rules)
     (on_ok_both _ _ c.flush.result c.flush.ensures.whole c.flush.ensures.empty)

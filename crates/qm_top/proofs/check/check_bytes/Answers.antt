@@ -1,7 +1,10 @@
 use Rattle.std.proofs.Common.{rules, refl}
 use Rattle.def_io.specs.Moves.{stream}
+use Rattle.def_run.specs.Check.{WritesAccepted}
 use Rattle.error_laws.proofs.Errors.{handed}
-use Rattle.qm_top.proofs.Checked.{pair_placed, unaccepted}
+use Rattle.qm_top.specs.Checking.{IsNoPairFor}
+use Rattle.qm_top.proofs.Checked.{pair_placed}
+use Rattle.qm_top.proofs.Writers.{not_begun}
 use Rattle.qm_top.proofs.check.check_bytes.Goals as goal
 
 pub returns-in_err-write_all-in-Ok-clause-refused : goal.returns-in_err-write_all-in-Ok-clause-refused
@@ -17,5 +20,6 @@ judged_refusal-requires g c = pair_placed c.args.bytes.now _ c.in-Err.ensures.re
 
 pub returns-in-Err-clause-refused : goal.returns-in-Err-clause-refused
 returns-in-Err-clause-refused g c =
-    unaccepted c.args.bytes.now (stream g.O.Sink.state c.args.out.now c.args.out.now) c.judged_refusal.result
-    (c.judged_refusal.ensures.pair c.args.bytes.now c.in-Err.ensures.refused) refl
+    not_begun (WritesAccepted c.args.bytes.now) (IsNoPairFor c.args.bytes.now)
+    (stream g.O.Sink.state c.args.out.now c.args.out.now) (λ fail none. none) refl c.judged_refusal.result
+    (c.judged_refusal.ensures.pair c.args.bytes.now c.in-Err.ensures.refused)

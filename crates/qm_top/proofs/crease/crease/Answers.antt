@@ -19,7 +19,7 @@ returns g c =
     let read = c.in_ok-lines.ensures in
     let marked = c.in_ok-marked.ensures in
     writer_runs _ _ _ _ _
-    (task_writer (Crease c.args.settings) (AsksToCrease c.args.settings) _ _ c.in_ok-marked.marked.read.soup (crease_needs c.args.settings)
+    (task_writer (Crease c.args.settings) (AsksToCrease c.args.settings) _ _ c.in_ok-marked.marked.read (crease_needs c.args.settings)
     (crease_tasked c.args.settings c.requires) marked.mesh.manifold
     (record {
       bytes = c.in_ok-lines.lines;

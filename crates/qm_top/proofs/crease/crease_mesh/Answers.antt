@@ -1,69 +1,64 @@
-use Rattle.std.proofs.Common.{Bool, List, refl, sym, subst, ap, ◌∙◌}
-use Rattle.std.specs.Option.{option_map}
-use Rattle.std.proofs.lemmas.Result.{IfErr-weaker}
+use Rattle.std.proofs.Common.{Ok, false, ap, sym, ◌∙◌, refl, subst}
 use Rattle.error_laws.proofs.Errors.{handed}
-use Rattle.def_certtext.specs.CertLines.{lists_of}
-use Rattle.def_certtext.specs.declared.Asked.{Asked}
-use Rattle.def_layout.specs.Plans.{plan}
-use Rattle.def_marks.specs.MarkedText.{marked_text}
-use Rattle.def_remesh.specs.Keeping.{IsKept}
-use Rattle.def_remesh.specs.NewPoints.{lengths_in}
-use Rattle.def_remesh.specs.Remeshed.{used}
+use Rattle.def_feature.specs.Marks.{AreMarks}
 use Rattle.def_remesh.specs.Tasks.{old_lengths}
-use Rattle.def_run.specs.Crease.{AsksToCrease, creased_task}
-use Rattle.qm_top.proofs.Creased.{creased_fails, creased_framed}
-use Rattle.remesh_laws.specs.Keeps.{ShowsTask}
-use Rattle.qm_top.proofs.Framed.{unwritten_weaker}
-use Rattle.qm_top.proofs.Remeshed.{asked_done, asked_refused}
-use Rattle.qm_top.specs.Finishing.{IsNoLayout}
-use Rattle.qm_top.specs.Writing.{FailsTask}
+use Rattle.def_run.specs.Crease.{AsksToCrease}
+use Rattle.qm_write.specs.Framing.{framed_text}
+use Rattle.qm_write.specs.declared.text.Framed.{Framed}
+use Rattle.qm_top.proofs.Creased.{creased_fails, creased_shown}
+use Rattle.qm_top.proofs.Framed.{kept_for, put_refused}
+use Rattle.qm_top.specs.Writing.{refusal_of_put, FailsAsked, IsOfLayout, ShowsAsked}
 use Rattle.qm_top.proofs.crease.crease_mesh.Goals as goal
 
-pub kept_lines-requires : goal.kept_lines-requires
-kept_lines-requires g c = (
-  old_lengths,
-  subst (λ (a : Asked). IsKept old_lengths (plan c.in_ok-layout.layout) a.settings a.auto (lists_of c.in_ok-remesh.remesh.first)
-      (option_map lists_of c.in_ok-remesh.remesh.third) c.in_ok-remesh.remesh.numbering) (sym c.in_ok-remesh.ensures.asked) c.in_ok-remesh.ensures.kept,
-)
+pub marked_cut-requires : goal.marked_cut-requires
+marked_cut-requires g c = subst (AreMarks c.args.marked.read.faces) (sym c.as_slice-marks.ensures.value) c.args.marked.each
 
-pub write_task-requires-clause-framed : goal.write_task-requires-clause-framed
-write_task-requires-clause-framed g c = (
-  creased_task c.args.settings c.args.marked.read.soup.faces c.args.marked.marks.items,
-  creased_framed c.args.settings c.args.marked.read.soup c.args.marked.read.mesh c.args.marked.marks.items c.deref.result.now (plan c.in_ok-layout.layout) _
-      c.requires.mesh c.deref.ensures.value c.in_ok-layout.ensures.marked c.in_ok-remesh.ensures.asked c.in_ok-remesh.ensures.kept c.in_ok-head.ensures
-      (c.in_ok-between.ensures ∙ ap (λ (marks : List Bool). marked_text marks (plan c.in_ok-layout.layout)
-      (lengths_in (used (lists_of c.in_ok-remesh.remesh.first) (option_map lists_of c.in_ok-remesh.remesh.third)).x)) c.deref-2.ensures.value),
-)
+pub kept_lines-requires : goal.kept_lines-requires
+kept_lines-requires g c =
+    kept_for old_lengths c.in_ok-cut.cut.plan c.in_ok-remesh.remesh (record { settings = c.args.settings; auto = false }) c.in_ok-remesh.ensures.asked
+    c.in_ok-remesh.ensures.kept
+
+pub write_framed-requires : goal.write_framed-requires
+write_framed-requires g c =
+    kept_for old_lengths c.in_ok-cut.cut.plan c.in_ok-remesh.remesh (record { settings = c.args.settings; auto = false }) c.in_ok-remesh.ensures.asked
+    c.in_ok-remesh.ensures.kept
 
 pub returns-in_err-remesh-clause-refused : goal.returns-in_err-remesh-clause-refused
 returns-in_err-remesh-clause-refused g c bytes said =
-    let task = creased_task c.args.settings c.args.marked.read.soup.faces c.args.marked.marks.items in
-    asked_refused (AsksToCrease c.args.settings) bytes c.args.marked.read.soup task (c.args.marked.marks.items, said, refl) _ _
-    (handed _ _ _ c.from_residual-in_err-remesh.ensures.1 (
+    handed _ _ _ c.from_residual-in_err-remesh.ensures.1 (
       refl,
-      creased_fails c.args.settings c.args.marked.read.soup c.args.marked.read.mesh c.args.marked.marks.items c.deref.result.now (plan c.in_ok-layout.layout) _
-          c.requires.mesh c.deref.ensures.value c.in_ok-layout.ensures.marked c.in_err-remesh.ensures.refused,
-    ))
+      creased_fails c.args.settings bytes c.args.marked.read c.in_ok-cut.cut c.as_slice-marks.result.now c.in_ok-cut.ensures.soup
+          (said ∙ ap Ok (sym c.as_slice-marks.ensures.value)) c.in_ok-cut.ensures.marked _ c.in_err-remesh.ensures.refused,
+    )
+
+pub returns-in_err-head-clause-refused : goal.returns-in_err-head-clause-refused
+returns-in_err-head-clause-refused g c bytes said = handed _ _ _ c.from_residual-in_err-head.ensures.1 (refl, tt)
+
+pub returns-in_err-between-clause-refused : goal.returns-in_err-between-clause-refused
+returns-in_err-between-clause-refused g c bytes said = handed _ _ _ c.from_residual-in_err-between.ensures.1 (refl, tt)
+
+pub returns-in_err-write_framed-clause-refused : goal.returns-in_err-write_framed-clause-refused
+returns-in_err-write_framed-clause-refused g c bytes said =
+    let framed : Framed = record { head = c.in_ok-head.head; between = c.in_ok-between.between; remesh = c.in_ok-remesh.remesh } in
+    let cut = c.in_ok-cut.cut in
+    let kept = c.in_ok-remesh.ensures in
+    let failed = c.in_err-write_framed in
+    handed _ _ (refusal_of_put failed.field-0.0) c.from_residual-in_err-write_framed.ensures.1
+    (put_refused (ShowsAsked (AsksToCrease c.args.settings) bytes c.args.marked.read) (IsOfLayout (FailsAsked (AsksToCrease c.args.settings) bytes c.args.marked.read))
+    _ (framed_text framed cut.soup cut.plan) failed.field-0.0
+    (creased_shown c.args.settings bytes c.args.marked.read cut c.as_slice-marks.result.now c.in_ok-cut.ensures.soup
+    (said ∙ ap Ok (sym c.as_slice-marks.ensures.value)) c.in_ok-cut.ensures.marked framed kept.laid kept.asked kept.kept c.in_ok-head.ensures c.in_ok-between.ensures)
+    tt failed.ensures.prefix failed.ensures.fault failed.ensures.untouched)
 
 pub returns-clause-done : goal.returns-clause-done
 returns-clause-done g c bytes said =
-    let task = creased_task c.args.settings c.args.marked.read.soup.faces c.args.marked.marks.items in
-    asked_done (AsksToCrease c.args.settings) bytes c.args.marked.read.soup task (c.args.marked.marks.items, said, refl) c.write_task.result _
-    (c.write_task.ensures.done task
-    (creased_framed c.args.settings c.args.marked.read.soup c.args.marked.read.mesh c.args.marked.marks.items c.deref.result.now (plan c.in_ok-layout.layout) _
-    c.requires.mesh c.deref.ensures.value c.in_ok-layout.ensures.marked c.in_ok-remesh.ensures.asked c.in_ok-remesh.ensures.kept c.in_ok-head.ensures
-    (c.in_ok-between.ensures ∙ ap (λ (marks : List Bool). marked_text marks (plan c.in_ok-layout.layout)
-    (lengths_in (used (lists_of c.in_ok-remesh.remesh.first) (option_map lists_of c.in_ok-remesh.remesh.third)).x)) c.deref-2.ensures.value)))
-
-pub returns-clause-refused : goal.returns-clause-refused
-returns-clause-refused g c bytes said =
-    let task = creased_task c.args.settings c.args.marked.read.soup.faces c.args.marked.marks.items in
-    let shows = ShowsTask task c.args.marked.read.soup in
-    asked_refused (AsksToCrease c.args.settings) bytes c.args.marked.read.soup task (c.args.marked.marks.items, said, refl) c.write_task.result _
-    (IfErr-weaker c.write_task.result _ _
-    (unwritten_weaker shows shows IsNoLayout (FailsTask task c.args.marked.read.soup) _ (λ text shown. shown) (λ fail none. absurd none))
-    (c.write_task.ensures.refused task
-    (creased_framed c.args.settings c.args.marked.read.soup c.args.marked.read.mesh c.args.marked.marks.items c.deref.result.now (plan c.in_ok-layout.layout) _
-    c.requires.mesh c.deref.ensures.value c.in_ok-layout.ensures.marked c.in_ok-remesh.ensures.asked c.in_ok-remesh.ensures.kept c.in_ok-head.ensures
-    (c.in_ok-between.ensures ∙ ap (λ (marks : List Bool). marked_text marks (plan c.in_ok-layout.layout)
-    (lengths_in (used (lists_of c.in_ok-remesh.remesh.first) (option_map lists_of c.in_ok-remesh.remesh.third)).x)) c.deref-2.ensures.value))))
+    let framed : Framed = record { head = c.in_ok-head.head; between = c.in_ok-between.between; remesh = c.in_ok-remesh.remesh } in
+    let cut = c.in_ok-cut.cut in
+    let kept = c.in_ok-remesh.ensures in
+    record {
+      text = framed_text framed cut.soup cut.plan;
+      said = creased_shown c.args.settings bytes c.args.marked.read cut c.as_slice-marks.result.now c.in_ok-cut.ensures.soup
+          (said ∙ ap Ok (sym c.as_slice-marks.ensures.value)) c.in_ok-cut.ensures.marked framed kept.laid kept.asked kept.kept c.in_ok-head.ensures
+          c.in_ok-between.ensures;
+      written = c.in_ok-write_framed.ensures.whole;
+    }

@@ -1,15 +1,12 @@
-use Rattle.std.proofs.Common.{◌≡◌, Ok, sym, subst, ap, ◌∙◌, arith}
-use Rattle.def_io.specs.Bytes.{Lines}
+use Rattle.std.proofs.Common.{sym, subst, ap, ◌∙◌}
+use Rattle.def_feature.specs.Marks.{AreMarks}
 use Rattle.def_io.specs.Lines.{lines_of}
-use Rattle.def_marks.specs.Lines.{marks_of, text_lines}
-use Rattle.def_mesh.specs.Manifold.{IsManifold}
-use Rattle.def_run.specs.Mesh.{IsMeshText}
+use Rattle.def_mesh.specs.Faces.{Faces}
 use Rattle.def_text.specs.FaceSet.{FaceSet}
-use Rattle.def_text.specs.Logical.{logical_lines}
 use Rattle.def_text.specs.Text.{text_soup}
 use Rattle.error_laws.proofs.Errors.{handed}
 use Rattle.qm_check.proofs.MarkLines.{whole_range}
-use Rattle.qm_top.proofs.Creased.{mesh_text, no_mesh_of, read_refused}
+use Rattle.qm_top.proofs.Creased.{marks_same, mesh_text, no_mesh_of, read_refused}
 use Rattle.qm_top.proofs.crease.read_marked.Goals as goal
 
 pub returns-in_err-soup-clause-refused : goal.returns-in_err-soup-clause-refused
@@ -23,29 +20,28 @@ returns-in_err-read-clause-refused c = handed _ _ _ c.from_residual-in_err-read.
     (ap (text_soup 1) (sym (whole_range (lines_of c.args.lines.now) c.count-after.result c.count-after.ensures)) ∙ c.in_ok-soup.ensures.soup) c.in_err-read.ensures.refused)
 
 pub read_marks-requires-clause-mesh : goal.read_marks-requires-clause-mesh
-read_marks-requires-clause-mesh c = c.in_ok-read.ensures.mesh ∙ ap (λ (s : FaceSet). s.faces) (sym c.in_ok-read.ensures.soup)
+read_marks-requires-clause-mesh c = c.mesh.ensures ∙ ap (λ (s : FaceSet). s.faces) (sym c.soup.ensures)
 
 pub returns-in_err-marks-clause-refused : goal.returns-in_err-marks-clause-refused
 returns-in_err-marks-clause-refused c = handed _ _ _ c.from_residual-in_err-marks.ensures.1
     (λ other. record {
-      soup = c.in_ok-read.read.soup;
-      mesh = mesh_text c.args.lines.now c.in_ok-soup.soup c.in_ok-read.read.soup
+      soup = c.in_ok-read.read;
+      mesh = mesh_text c.args.lines.now c.in_ok-soup.soup c.in_ok-read.read
           (ap (text_soup 1) (sym (whole_range (lines_of c.args.lines.now) c.count-after.result c.count-after.ensures)) ∙ c.in_ok-soup.ensures.soup)
           c.in_ok-read.ensures.soup c.in_ok-read.ensures.manifold;
-      said = ap (λ (ls : Lines). marks_of c.in_ok-read.read.soup (text_lines (logical_lines 1 ls)))
-          (sym (whole_range (lines_of c.args.lines.now) c.count-after.result c.count-after.ensures)) ∙ c.in_err-marks.ensures.refused other;
+      said = sym (marks_same c.args.lines.now _ _ _ c.soup.ensures (whole_range (lines_of c.args.lines.now) c.count-after.result c.count-after.ensures))
+          ∙ c.in_err-marks.ensures.refused other;
     })
+
+pub invariant_of-result : goal.invariant_of-result
+invariant_of-result c = record { each = subst (λ (fs : Faces). AreMarks fs c.in_ok-marks.marks.items) c.mesh.ensures c.in_ok-marks.ensures.inner }
 
 pub returns-clause-mesh : goal.returns-clause-mesh
 returns-clause-mesh c =
-    mesh_text c.args.lines.now c.in_ok-soup.soup c.in_ok-read.read.soup
+    mesh_text c.args.lines.now c.in_ok-soup.soup c.in_ok-read.read
     (ap (text_soup 1) (sym (whole_range (lines_of c.args.lines.now) c.count-after.result c.count-after.ensures)) ∙ c.in_ok-soup.ensures.soup)
     c.in_ok-read.ensures.soup c.in_ok-read.ensures.manifold
 
-pub returns-clause-faces : goal.returns-clause-faces
-returns-clause-faces c = c.in_ok-read.ensures.mesh ∙ ap (λ (s : FaceSet). s.faces) (sym c.in_ok-read.ensures.soup)
-
 pub returns-clause-marks : goal.returns-clause-marks
 returns-clause-marks c =
-    ap (λ (ls : Lines). marks_of c.in_ok-read.read.soup (text_lines (logical_lines 1 ls)))
-    (sym (whole_range (lines_of c.args.lines.now) c.count-after.result c.count-after.ensures)) ∙ c.in_ok-marks.ensures.marks
+    sym (marks_same c.args.lines.now _ _ _ c.soup.ensures (whole_range (lines_of c.args.lines.now) c.count-after.result c.count-after.ensures)) ∙ c.in_ok-marks.ensures.marks

@@ -1,38 +1,40 @@
 use Rattle.std.proofs.Common.{refl}
-use Rattle.std.proofs.lemmas.Result.{IfErr-weaker}
 use Rattle.error_laws.proofs.Errors.{handed}
-use Rattle.def_layout.specs.Plans.{plan}
+use Rattle.def_remesh.specs.Tasks.{old_lengths}
 use Rattle.remesh_laws.specs.Keeps.{ShowsTask}
-use Rattle.qm_top.proofs.Framed.{unwritten_weaker}
-use Rattle.qm_top.proofs.Remeshed.{headed_fails, headed_framed}
-use Rattle.qm_top.specs.Finishing.{IsNoLayout}
-use Rattle.qm_top.specs.Writing.{FailsTask}
+use Rattle.qm_write.specs.Framing.{framed_text}
+use Rattle.qm_write.specs.declared.text.Framed.{Framed}
+use Rattle.qm_top.proofs.Framed.{framed_shown, kept_for, put_refused}
+use Rattle.qm_top.specs.Finishing.{headed_task}
+use Rattle.qm_top.specs.Writing.{refusal_of_put, FailsTask, IsOfLayout}
 use Rattle.qm_top.proofs.finishing.finish.Goals as goal
 
-pub write_task-requires-clause-framed : goal.write_task-requires-clause-framed
-write_task-requires-clause-framed g c =
-    let is = c.requires.headed in (
-      is.0,
-      headed_framed is.0 c.args.headed c.args.soup.now (plan c.args.cut.now.layout) is.1 _ c.in_ok-remesh.ensures.asked c.in_ok-remesh.ensures.kept refl
-          c.new-between.ensures.items,
-    )
+pub write_framed-requires : goal.write_framed-requires
+write_framed-requires g c =
+    kept_for old_lengths c.args.cut.plan c.in_ok-remesh.remesh c.args.headed.asked c.in_ok-remesh.ensures.asked c.in_ok-remesh.ensures.kept
 
 pub returns-in_err-remesh-clause-refused : goal.returns-in_err-remesh-clause-refused
-returns-in_err-remesh-clause-refused g c = λ task is.
-    handed _ _ _ c.from_residual.ensures.1
-    (refl, headed_fails task c.args.headed c.args.soup.now (plan c.args.cut.now.layout) is _ c.in_err-remesh.ensures.refused)
+returns-in_err-remesh-clause-refused g c = λ marks head on is.
+    handed _ _ _ c.from_residual.ensures.1 (refl, (c.args.cut.plan, on, c.in_err-remesh.ensures.refused))
+
+pub returns-in_err-write_framed-clause-refused : goal.returns-in_err-write_framed-clause-refused
+returns-in_err-write_framed-clause-refused g c = λ marks head on is.
+    let framed : Framed = record { head = c.args.headed.head; between = c.new.result; remesh = c.in_ok-remesh.remesh } in
+    let task = headed_task c.args.headed.asked marks head in
+    let failed = c.in_err-write_framed in
+    handed _ _ (refusal_of_put failed.field-0.0) c.from_residual-in_err-write_framed.ensures.1
+    (put_refused (ShowsTask task c.args.cut.soup) (IsOfLayout (FailsTask task c.args.cut.soup)) _ (framed_text framed c.args.cut.soup c.args.cut.plan)
+    failed.field-0.0
+    (framed_shown task framed c.args.headed.asked c.args.cut.soup c.args.cut.plan c.in_ok-remesh.ensures.laid on
+    c.in_ok-remesh.ensures.asked refl refl c.in_ok-remesh.ensures.kept is c.new.ensures.items)
+    tt failed.ensures.prefix failed.ensures.fault failed.ensures.untouched)
 
 pub returns-clause-done : goal.returns-clause-done
-returns-clause-done g c = λ task is.
-    c.write_task.ensures.done task
-    (headed_framed task c.args.headed c.args.soup.now (plan c.args.cut.now.layout) is _ c.in_ok-remesh.ensures.asked c.in_ok-remesh.ensures.kept refl
-    c.new-between.ensures.items)
-
-pub returns-clause-refused : goal.returns-clause-refused
-returns-clause-refused g c = λ task is.
-    let shows = ShowsTask task c.args.soup.now in
-    IfErr-weaker c.write_task.result _ _
-    (unwritten_weaker shows shows IsNoLayout (FailsTask task c.args.soup.now) _ (λ text shown. shown) (λ fail none. absurd none))
-    (c.write_task.ensures.refused task
-    (headed_framed task c.args.headed c.args.soup.now (plan c.args.cut.now.layout) is _ c.in_ok-remesh.ensures.asked c.in_ok-remesh.ensures.kept refl
-    c.new-between.ensures.items))
+returns-clause-done g c = λ marks head on is.
+    let framed : Framed = record { head = c.args.headed.head; between = c.new.result; remesh = c.in_ok-remesh.remesh } in
+    record {
+      text = framed_text framed c.args.cut.soup c.args.cut.plan;
+      said = framed_shown (headed_task c.args.headed.asked marks head) framed c.args.headed.asked c.args.cut.soup c.args.cut.plan c.in_ok-remesh.ensures.laid on
+          c.in_ok-remesh.ensures.asked refl refl c.in_ok-remesh.ensures.kept is c.new.ensures.items;
+      written = c.in_ok-write_framed.ensures.whole;
+    }

@@ -6,22 +6,10 @@ use Rattle.qm_top.specs.Mapping.{mapped_text}
 use Rattle.qm_top.proofs.Writers.{on_ok_both}
 use Rattle.qm_top.proofs.map.write_map.Goals as goal
 
-pub put_map-requires-clause-mesh : goal.put_map-requires-clause-mesh
-put_map-requires-clause-mesh g c = c.requires.1.mesh
-
-pub put_map-requires-clause-numbering : goal.put_map-requires-clause-numbering
-put_map-requires-clause-numbering g c = c.requires.1.numbering
-
-pub put_map-requires-clause-places : goal.put_map-requires-clause-places
-put_map-requires-clause-places g c = c.requires.1.places
-
-pub put_map-requires-clause-lengths : goal.put_map-requires-clause-lengths
-put_map-requires-clause-lengths g c = c.requires.1.lengths
-
 pub returns-in_err-put_map-clause-prefix : goal.returns-in_err-put_map-clause-prefix
 returns-in_err-put_map-clause-prefix g c =
     let prefix : TookPrefix (g.O.Sink.state c.new-text.result.sink.now).told (g.O.Sink.state c.put_map.new.out.sink.now).told
-    (mapped_text c.args.mapped.now)
+    (mapped_text c.args.new.now)
     = text_prefix _ _ _ c.new-text.ensures.empty c.in_err-put_map.ensures.part.1 in
     of_error c.from_residual.result (search rules)
 
@@ -30,7 +18,7 @@ returns-clause-prefix g c =
     on_err_weaker c.flush.result
     (λ broke.
     let prefix : TookPrefix (g.O.Sink.state c.new-text.result.sink.now).told (g.O.Sink.state c.flush.new.self.sink.now).told
-    (mapped_text c.args.mapped.now)
+    (mapped_text c.args.new.now)
     = rest_prefix _ _ _ _ c.new-text.ensures.empty c.in_ok-put_map.ensures.whole.1 broke in
     search rules)
     c.flush.ensures.part
@@ -40,7 +28,7 @@ returns-clause-whole g c =
     on_ok_weaker c.flush.result
     (λ both.
     let whole : (g.O.Sink.state c.flush.new.self.sink.now).told
-    ≡ took (g.O.Sink.state c.new-text.result.sink.now).told (mapped_text c.args.mapped.now)
+    ≡ took (g.O.Sink.state c.new-text.result.sink.now).told (mapped_text c.args.new.now)
     = text_whole _ _ _ _ c.new-text.ensures.empty c.in_ok-put_map.ensures.whole.1 both.0 both.1 in
     search rules)
     (on_ok_both _ _ c.flush.result c.flush.ensures.whole c.flush.ensures.empty)

@@ -16,6 +16,6 @@ returns g c =
     let settings = c.args.asked.settings in
     let auto = c.args.asked.auto in
     writer_runs _ _ _ _ _
-    (task_writer (Remesh settings auto) (AsksToRemesh settings auto) _ _ c.in_ok-read.read.soup (remesh_needs settings auto) (remesh_tasked settings auto c.requires)
+    (task_writer (Remesh settings auto) (AsksToRemesh settings auto) _ _ c.in_ok-read.read (remesh_needs settings auto) (remesh_tasked settings auto c.requires)
     c.in_ok-read.ensures.manifold c.in_ok-read.ensures.soup c.in_ok-read.ensures.calm)
     c.remesh_mesh.result (c.remesh_mesh.ensures.done c.in_ok-read.ensures.soup.bytes) (c.remesh_mesh.ensures.refused c.in_ok-read.ensures.soup.bytes)

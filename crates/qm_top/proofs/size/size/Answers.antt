@@ -1,7 +1,8 @@
 use Rattle.std.specs.Prelude.{unsigned_abs}
 use Rattle.std.proofs.Common.{◌≤◌, refl, arith, rules}
 use Rattle.qm_top.proofs.Refusals.{handed_run, input_ended, size_needs}
-use Rattle.qm_top.proofs.Sized.{size_runs}
+use Rattle.qm_top.proofs.Sized.{size_writer}
+use Rattle.qm_top.proofs.Writers.{writer_runs}
 use Rattle.qm_top.proofs.size.size.Goals as goal
 
 pub returns-in_err-read : goal.returns-in_err-read
@@ -12,5 +13,7 @@ returns-in_err-read g c =
 pub returns : goal.returns
 returns g c =
     let near : unsigned_abs c.args.edge ≤ 999_999_999_999_999 = search rules in
-    size_runs c.args.edge c.args.floor near (omega (arith, c.requires.floor.1)) _ _ c.in_ok-read.read.soup c.in_ok-read.ensures.manifold c.in_ok-read.ensures.soup c.in_ok-read.ensures.calm
+    writer_runs _ _ _ _ _
+    (size_writer c.args.edge c.args.floor _ _ c.in_ok-read.read c.in_ok-read.ensures.manifold c.in_ok-read.ensures.soup c.in_ok-read.ensures.calm near
+    (omega (arith, c.requires.floor.1)))
     c.size_mesh.result (c.size_mesh.ensures.done c.in_ok-read.ensures.soup.bytes) (c.size_mesh.ensures.refused c.in_ok-read.ensures.soup.bytes)

@@ -1,65 +1,55 @@
-use Rattle.std.proofs.Common.{length, refl, ap, ◌∙◌, subst}
-use Rattle.std.proofs.lemmas.Result.{IfErr-weaker}
+use Rattle.std.proofs.Common.{false, refl}
 use Rattle.error_laws.proofs.Errors.{handed}
-use Rattle.def_layout.specs.Plans.{plan}
-use Rattle.def_run.specs.Size.{size_task, AsksForNearSize}
-use Rattle.def_text.specs.FaceSet.{FaceSet, IsSoup}
-use Rattle.remesh_laws.specs.Keeps.{ShowsTask}
-use Rattle.qm_top.proofs.Framed.{unwritten_weaker}
-use Rattle.qm_top.proofs.Remeshed.{asked_done}
-use Rattle.qm_top.proofs.Sized.{all_unsized, manifold_in, same_fails, size_asked, size_fails, size_framed}
-use Rattle.qm_top.proofs.Writers.{of_soup}
-use Rattle.qm_top.specs.Finishing.{IsNoLayout}
+use Rattle.def_metric.specs.Targets.{edge_settings}
+use Rattle.def_run.specs.Size.{soup_targets, AsksForNearSize}
+use Rattle.qm_write.specs.Framing.{framed_text}
+use Rattle.qm_write.specs.declared.text.Framed.{Framed}
+use Rattle.qm_top.proofs.Framed.{kept_for, put_refused}
+use Rattle.qm_top.proofs.Sized.{size_fails, size_shown}
 use Rattle.qm_top.specs.Refusals.{refusal_of_size}
-use Rattle.qm_top.specs.Sizing.{FailsSize}
-use Rattle.qm_top.specs.Writing.{ShowsAsked}
-use Rattle.qm_write.proofs.Positions.{all_placed}
+use Rattle.qm_top.specs.Sizing.{FailsSize, IsFarSoup, IsOfSize}
+use Rattle.qm_top.specs.Writing.{refusal_of_put, ShowsAsked}
 use Rattle.qm_top.proofs.size.size_mesh.Goals as goal
 
-pub keep_sized-requires-clause-positions : goal.keep_sized-requires-clause-positions
-keep_sized-requires-clause-positions g c =
-    let sound : IsSoup c.args.read.soup = subst IsSoup c.soup.view_is c.soup.invariant in
-    ap length (c.deref.ensures.value ∙ ap (λ (s : FaceSet). s.pos) c.soup.view_is) ∙ all_placed c.args.read.soup _ (plan c.in_ok-layout.layout) c.requires.mesh c.in_ok-layout.ensures.mesh sound
+pub write_framed-requires : goal.write_framed-requires
+write_framed-requires g c =
+    kept_for (soup_targets c.args.edge c.in_ok-cut.cut.soup) c.in_ok-cut.cut.plan c.in_ok-remesh.remesh
+    (record { settings = edge_settings c.args.floor; auto = false }) c.in_ok-remesh.ensures.asked c.in_ok-remesh.ensures.kept
 
 pub returns-in_err-remesh-clause-refused : goal.returns-in_err-remesh-clause-refused
 returns-in_err-remesh-clause-refused g c bytes =
-    let t = plan c.in_ok-layout.layout in
-    let is = of_soup _ _ t c.requires.mesh c.in_ok-layout.ensures.mesh c.in_ok-layout.ensures.traced in
+    let made = c.in_ok-cut.ensures in
     handed _ _ (refusal_of_size c.in_err-remesh.field-0.0) c.from_residual-in_err-remesh.ensures.1
-    (size_fails _ c.args.edge c.args.floor bytes c.args.read.soup t _ (manifold_in c.args.read.soup t is.0) is.1 refl c.in_err-remesh.field-0.0
-    (same_fails c.args.edge c.args.floor c.args.read.soup _ _ t c.in_err-remesh.field-0.0 c.requires.mesh (c.deref.ensures.value ∙ ap (λ (s : FaceSet). s.pos) c.soup.view_is) c.in_err-remesh.ensures.refused))
+    (size_fails c.args.edge c.args.floor bytes c.args.read c.in_ok-cut.cut made.soup made.laid made.traced _ _ refl c.in_err-remesh.field-0.0
+    c.in_err-remesh.ensures.refused)
 
-pub write_task-requires-clause-framed : goal.write_task-requires-clause-framed
-write_task-requires-clause-framed g c =
-    let t = plan c.in_ok-layout.layout in
-    let is = of_soup _ _ t c.requires.mesh c.in_ok-layout.ensures.mesh c.in_ok-layout.ensures.traced in (
-      size_task c.args.edge c.args.floor c.args.read.soup,
-      size_framed c.args.edge c.args.floor c.args.read.soup _ _ t _ c.requires.mesh (c.deref.ensures.value ∙ ap (λ (s : FaceSet). s.pos) c.soup.view_is) is.1 c.in_ok-remesh.ensures.asked c.in_ok-remesh.ensures.kept
-          c.in_ok-head.ensures c.new.ensures.items,
-    )
+pub returns-in_err-head-clause-refused : goal.returns-in_err-head-clause-refused
+returns-in_err-head-clause-refused g c bytes = handed _ _ _ c.from_residual-in_err-head.ensures.1 (refl, tt)
+
+pub returns-in_err-write_framed-clause-refused : goal.returns-in_err-write_framed-clause-refused
+returns-in_err-write_framed-clause-refused g c bytes =
+    let framed : Framed = record { head = c.in_ok-head.head; between = c.new.result; remesh = c.in_ok-remesh.remesh } in
+    let cut = c.in_ok-cut.cut in
+    let made = c.in_ok-cut.ensures in
+    let kept = c.in_ok-remesh.ensures in
+    let failed = c.in_err-write_framed in
+    handed _ _ (refusal_of_put failed.field-0.0) c.from_residual-in_err-write_framed.ensures.1
+    (put_refused (ShowsAsked (AsksForNearSize c.args.edge c.args.floor) bytes c.args.read)
+    (IsOfSize (FailsSize c.args.edge c.args.floor bytes c.args.read) (IsFarSoup c.args.edge c.args.floor c.args.read)) _
+    (framed_text framed cut.soup cut.plan) failed.field-0.0
+    (size_shown c.args.edge c.args.floor bytes c.args.read cut made.soup made.laid made.traced framed kept.near kept.asked kept.kept c.in_ok-head.ensures
+    c.new.ensures.items)
+    tt failed.ensures.prefix failed.ensures.fault failed.ensures.untouched)
 
 pub returns-clause-done : goal.returns-clause-done
 returns-clause-done g c bytes =
-    let t = plan c.in_ok-layout.layout in
-    let is = of_soup _ _ t c.requires.mesh c.in_ok-layout.ensures.mesh c.in_ok-layout.ensures.traced in
-    let task = size_task c.args.edge c.args.floor c.args.read.soup in
-    asked_done (AsksForNearSize c.args.edge c.args.floor) bytes c.args.read.soup task
-    (size_asked c.args.edge c.args.floor bytes c.args.read.soup _ _ t c.requires.mesh (c.deref.ensures.value ∙ ap (λ (s : FaceSet). s.pos) c.soup.view_is) is.0 is.1 c.in_ok-remesh.ensures.near) c.write_task.result _
-    (c.write_task.ensures.done task
-    (size_framed c.args.edge c.args.floor c.args.read.soup _ _ t _ c.requires.mesh (c.deref.ensures.value ∙ ap (λ (s : FaceSet). s.pos) c.soup.view_is) is.1 c.in_ok-remesh.ensures.asked c.in_ok-remesh.ensures.kept
-    c.in_ok-head.ensures c.new.ensures.items))
-
-pub returns-clause-refused : goal.returns-clause-refused
-returns-clause-refused g c bytes =
-    let t = plan c.in_ok-layout.layout in
-    let is = of_soup _ _ t c.requires.mesh c.in_ok-layout.ensures.mesh c.in_ok-layout.ensures.traced in
-    let task = size_task c.args.edge c.args.floor c.args.read.soup in
-    let asks = AsksForNearSize c.args.edge c.args.floor in
-    let asked = size_asked c.args.edge c.args.floor bytes c.args.read.soup _ _ t c.requires.mesh (c.deref.ensures.value ∙ ap (λ (s : FaceSet). s.pos) c.soup.view_is) is.0 is.1 c.in_ok-remesh.ensures.near in
-    all_unsized _ _ _ _ c.write_task.result
-    (IfErr-weaker c.write_task.result _ _
-    (unwritten_weaker (ShowsTask task c.args.read.soup) (ShowsAsked asks bytes c.args.read.soup) IsNoLayout
-    (FailsSize c.args.edge c.args.floor bytes c.args.read.soup) _ (λ text shown. (task, asked, shown)) (λ fail none. absurd none))
-    (c.write_task.ensures.refused task
-    (size_framed c.args.edge c.args.floor c.args.read.soup _ _ t _ c.requires.mesh (c.deref.ensures.value ∙ ap (λ (s : FaceSet). s.pos) c.soup.view_is) is.1 c.in_ok-remesh.ensures.asked c.in_ok-remesh.ensures.kept
-    c.in_ok-head.ensures c.new.ensures.items)))
+    let framed : Framed = record { head = c.in_ok-head.head; between = c.new.result; remesh = c.in_ok-remesh.remesh } in
+    let cut = c.in_ok-cut.cut in
+    let made = c.in_ok-cut.ensures in
+    let kept = c.in_ok-remesh.ensures in
+    record {
+      text = framed_text framed cut.soup cut.plan;
+      said = size_shown c.args.edge c.args.floor bytes c.args.read cut made.soup made.laid made.traced framed kept.near kept.asked kept.kept c.in_ok-head.ensures
+          c.new.ensures.items;
+      written = c.in_ok-write_framed.ensures.whole;
+    }

@@ -1,9 +1,15 @@
-use Rattle.std.proofs.Common.{sym, subst}
-use Rattle.def_layout.specs.Plans.{plan}
-use Rattle.def_remesh.specs.Numberings.{IsNumbering}
-use Rattle.qm_stitch.proofs.Grids.{tables_are}
+use Rattle.std.proofs.Common.{◌<◌, sym, ◌∙◌, subst}
+use Rattle.def_layout.specs.Plans.{layout_of, plan}
+use Rattle.def_written.specs.NewFaces.{face_count, new_face}
+use Rattle.def_remesh.specs.NewPoints.{lengths_in}
 use Rattle.qm_stitch.proofs.numbering.Numbering.face.Goals as goal
 
-pub invariant_of-numbered : goal.invariant_of-numbered
-invariant_of-numbered c =
-    record { numbers = tables_are (plan c.args.t.now) c.self.inside.tables (subst (IsNumbering (plan c.args.t.now)) (sym c.self.view_is) c.requires.numbering) }
+pub face-requires : goal.face-requires
+face-requires c =
+    subst (λ n. c.args.f < n)
+    (λ i. face_count (layout_of (plan (sym c.on.ensures.layout i))) (lengths_in (sym c.on.ensures.tables i).lengths.items)) c.requires.face
+
+pub returns : goal.returns
+returns c =
+    c.face.ensures
+    ∙ (λ i. new_face (layout_of (plan (c.on.ensures.layout i))) (lengths_in (c.on.ensures.tables i).lengths.items) c.args.f)

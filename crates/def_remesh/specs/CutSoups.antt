@@ -1,0 +1,15 @@
+-- A mesh with the layout of a full cut of it, as contracts see them.
+use Rattle.std.specs.Prelude.{ℕ, List}
+use Rattle.def_layout.specs.Plans.{Plan}
+use Rattle.def_text.specs.FaceSet.{FaceSet}
+
+-- A soup, and the layout of its faces and a full cut of them.
+pub record CutSoup : Type 0 where
+  pub soup : FaceSet
+  pub plan : Plan
+
+-- The same with new lengths of the arcs.
+pub record Regrid : Type 0 where
+  pub soup : FaceSet
+  pub plan : Plan
+  pub lengths : List ℕ

@@ -1,0 +1,3 @@
+mod GridPoints
+pub mod Positions
+mod Solids

@@ -1,0 +1,184 @@
+//! A new mesh over a cut one, without its text.
+
+ghost use Rattle.std.specs.Prelude.{◌≡◌, ◌<◌, ◌≤◌, ◌*◌, ◌^◌, length, IfOk};
+ghost use Rattle.def_layout.specs.Layouts.{Way};
+ghost use Rattle.def_layout.specs.Lengths.{size, wide, high, AreLengths};
+ghost use Rattle.def_layout.specs.Plans.{layout_of, plan, way_number};
+ghost use Rattle.def_map.specs.Homes.{home_of};
+ghost use Rattle.def_map.specs.Laws.{IsSpot};
+ghost use Rattle.def_map.specs.Spots.{spot_at};
+ghost use Rattle.def_remesh.specs.NewPoints.{lengths_in};
+ghost use Rattle.def_remesh.specs.NewSoup.{new_place};
+ghost use Rattle.def_remesh.specs.Numberings.{IsNumbering};
+ghost use Rattle.def_remesh.specs.Placings.{IsMeshLayout, LiesBetween};
+ghost use Rattle.def_remesh.specs.declared.limits.TheConstants.{MAX_NEW_FACES};
+ghost use Rattle.def_written.specs.NewFaces.{face_count, new_face};
+ghost use Rattle.def_written.specs.Numbers.{vertex_number, vertices};
+ghost use Rattle.def_written.specs.Points.{point};
+
+use crate::cut_mesh::CutMesh;
+use def_map::{Home, Spot};
+use def_remesh::Rim;
+use def_text::Micro;
+use qm_place::{Near, Placed, Places, placer};
+use qm_stitch::{Numbered, Numbering};
+use std::alloc::{AllocError, Global};
+use std::marker::Model;
+
+/// A new mesh over a cut one, at whole lengths of the arcs: the numbers of its points and faces, and their places.
+/// Contracts see the soup, the layout and the lengths.
+#[derive(Drop)]
+pub struct Regridded {
+    cut: CutMesh,
+    numbering: Numbering,
+    places: Places,
+}
+
+impl Model for Regridded {
+    ghost use Rattle.std.specs.Prelude.{◌≡◌};
+    ghost use Rattle.def_remesh.specs.CutSoups.{Regrid};
+    ghost use Rattle.def_remesh.specs.Numberings.{IsNumbering};
+    ghost use Rattle.def_remesh.specs.Placings.{ArePlaces};
+
+    ghost Value = { Regrid };
+
+    ghost view = { λ r. record { soup = r.cut.soup; plan = r.cut.plan; lengths = r.numbering.lengths.items } };
+
+    ghost invariant = { λ r. IsNumbering r.cut.plan r.numbering × ArePlaces r.cut.soup.faces r.cut.plan r.places
+        × (r.places.lengths.items ≡ r.numbering.lengths.items) };
+}
+
+impl Regridded {
+    /// The new mesh at the lengths that are numbered. Linear in the arcs, the patches and the new vertices on the sides
+    /// of patches.
+    pub fn new(
+        alloc: Global,
+        cut: CutMesh,
+        numbering: Numbering,
+        x: &[u64],
+    ) -> Result<Regridded, AllocError>
+        requires numbering { IsNumbering cut.plan numbering }
+        requires lengths { numbering.lengths.items ≡ x.now }
+        ensures { IfOk result (λ new. new ≡ record { soup = cut.soup; plan = cut.plan; lengths = x.now }) }
+    {
+        let places = placer(alloc, cut.mesh(), cut.layout(), x)?;
+        Ok(Regridded {
+            cut,
+            numbering,
+            places,
+        })
+    }
+
+    /// The mesh that is cut.
+    pub fn cut(&self) -> &CutMesh
+        ensures { result.now ≡ record { soup = self.now.soup; plan = self.now.plan } }
+    {
+        &self.cut
+    }
+
+    /// How many vertices there are.
+    pub fn vertices(&self) -> u32
+        ensures { result ≡ vertices (layout_of self.now.plan) (lengths_in self.now.lengths) }
+    {
+        self.numbering.vertices()
+    }
+
+    /// How many faces there are.
+    pub fn faces(&self) -> u32
+        ensures { result ≡ face_count (layout_of self.now.plan) (lengths_in self.now.lengths) }
+    {
+        self.numbering.faces()
+    }
+
+    /// Face f: the numbers of its corners.
+    pub fn face(&self, f: u32) -> [u32; 4]
+        requires face { f < face_count (layout_of self.now.plan) (lengths_in self.now.lengths) }
+        ensures { result ≡ new_face (layout_of self.now.plan) (lengths_in self.now.lengths) f }
+    {
+        self.numbered().face(f)
+    }
+
+    /// The length of a side of a patch: 0 is south, 1 east, 2 north and 3 west.
+    pub fn side_length(&self, patch: usize, side: usize) -> u32
+        requires patch { patch < length self.now.plan.patches }
+        requires side { side < 4 }
+        ensures { (way : Way) → way_number way ≡ side
+            → result ≡ size (layout_of self.now.plan) (lengths_in self.now.lengths) patch way }
+    {
+        self.numbered().side_length(patch, side)
+    }
+
+    /// The number of grid point (i, j) of a patch. In constant time inside the patch, and logarithmic in the arcs of a
+    /// side on that.
+    pub fn point(&self, patch: usize, i: u32, j: u32) -> u32
+        requires patch { patch < length self.now.plan.patches }
+        requires column { i ≤ wide (layout_of self.now.plan) (lengths_in self.now.lengths) patch }
+        requires row { j ≤ high (layout_of self.now.plan) (lengths_in self.now.lengths) patch }
+        ensures number { result ≡ vertex_number (layout_of self.now.plan) (lengths_in self.now.lengths)
+            (point (layout_of self.now.plan) (lengths_in self.now.lengths) patch i j) }
+        ensures vertex { result < vertices (layout_of self.now.plan) (lengths_in self.now.lengths) }
+    {
+        self.numbered().point(patch, i, j)
+    }
+
+    /// The place of vertex v, and where it was found. In constant time where it is near the last one, else logarithmic.
+    pub fn place_near(&self, v: u32, near: &mut Near) -> [Micro; 3]
+        requires vertex { v < vertices (layout_of self.now.plan) (lengths_in self.now.lengths) }
+        ensures value { result
+            ≡ new_place self.now.soup.faces self.now.plan self.now.soup.pos (lengths_in self.now.lengths) v }
+        ensures between { LiesBetween self.now.soup.pos result }
+    {
+        self.placed()
+            .place_near(self.cut.mesh(), self.cut.pos(), v, near)
+    }
+
+    /// Where vertex v lies in the old mesh. In constant time where it is near the last one, else logarithmic.
+    pub fn spot_near(&self, v: u32, near: &mut Near) -> Spot
+        requires vertex { v < vertices (layout_of self.now.plan) (lengths_in self.now.lengths) }
+        ensures value { result ≡ spot_at self.now.plan (lengths_in self.now.lengths) v }
+        ensures spot { IsSpot self.now.soup.faces result }
+    {
+        self.placed().spot_near(v, near)
+    }
+
+    /// Where the face in column i and row j of a patch lies in the old mesh.
+    pub fn home(&self, patch: usize, i: u32, j: u32) -> Home
+        requires patch { patch < length self.now.plan.patches }
+        requires column { i < wide (layout_of self.now.plan) (lengths_in self.now.lengths) patch }
+        requires row { j < high (layout_of self.now.plan) (lengths_in self.now.lengths) patch }
+        ensures { result ≡ home_of self.now.plan (lengths_in self.now.lengths) patch i j }
+    {
+        self.placed().home(patch, i, j)
+    }
+
+    /// The new size of a patch: how wide it is, and how high.
+    pub fn rim(&self, patch: usize) -> Rim
+        requires patch { patch < length self.now.plan.patches }
+        ensures wide { result.wide ≡ wide (layout_of self.now.plan) (lengths_in self.now.lengths) patch }
+        ensures high { result.high ≡ high (layout_of self.now.plan) (lengths_in self.now.lengths) patch }
+        ensures few { result.wide * result.high ≤ MAX_NEW_FACES }
+        ensures short { (result.wide ≤ 2 ^ 21) × (result.high ≤ 2 ^ 21) }
+    {
+        self.placed().rim(patch)
+    }
+
+    /// What numbers points and faces.
+    fn numbered(&self) -> Numbered<'_>
+        ensures plan { plan result.t.now ≡ self.now.plan }
+        ensures lengths { result.tables.now.lengths.items ≡ self.now.lengths }
+        ensures laid { IsMeshLayout self.now.soup.faces self.now.plan }
+        ensures even { AreLengths (layout_of self.now.plan) (lengths_in self.now.lengths) }
+    {
+        self.numbering.on(self.cut.layout())
+    }
+
+    /// What tells where points lie.
+    fn placed(&self) -> Placed<'_>
+        ensures plan { plan result.t.now ≡ self.now.plan }
+        ensures lengths { result.tables.now.lengths.items ≡ self.now.lengths }
+        ensures laid { IsMeshLayout self.now.soup.faces self.now.plan }
+        ensures even { AreLengths (layout_of self.now.plan) (lengths_in self.now.lengths) }
+    {
+        self.places.on(self.cut.layout())
+    }
+}

@@ -1,9 +1,0 @@
-use Rattle.std.proofs.Common.{sym, subst}
-use Rattle.def_layout.specs.Plans.{plan}
-use Rattle.def_remesh.specs.Numberings.{IsNumbering}
-use Rattle.qm_stitch.proofs.Grids.{tables_are}
-use Rattle.qm_stitch.proofs.numbering.Numbering.side_length.Goals as goal
-
-pub invariant_of-numbered : goal.invariant_of-numbered
-invariant_of-numbered c =
-    record { numbers = tables_are (plan c.args.t.now) c.self.inside.tables (subst (IsNumbering (plan c.args.t.now)) (sym c.self.view_is) c.requires.numbering) }
