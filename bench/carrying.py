@@ -27,6 +27,7 @@ from measuring import ROOT, name_of, program
 sys.path.insert(0, f"{ROOT}/tools")
 import carry  # noqa: E402
 from carrying import Surface, read_map, side  # noqa: E402
+from obj_text import read_obj  # noqa: E402
 
 TORN = 4
 DOUBLED = 11
@@ -47,8 +48,8 @@ class Textured:
 
     def __init__(self, text):
         self.old = carry.read_old(text)
-        words = (it for it in carry.logical_lines(text) if it[0] == "v")
-        self.places = [tuple(map(float, it[1:4])) for it in words]
+        obj = read_obj(text)
+        self.places = [obj.place(it) for it in range(len(obj.points))]
         self.surface = Surface(self.old.corners)
         self.seams = [dart for dart, is_seam in enumerate(self.old.texture.seams(self.surface))
                       if is_seam and dart < self.surface.twins[dart]]
@@ -119,7 +120,7 @@ def row(mesh, words, room):
     start = time.perf_counter()
     ran = subprocess.run([f"{ROOT}/tools/carry.py", marked, out, given], capture_output=True, check=True)
     seconds = time.perf_counter() - start
-    old, new = (Textured(it.decode(errors="surrogateescape")) for it in (text, ran.stdout))
+    old, new = (Textured(it) for it in (text, ran.stdout))
     told = read_map(given.read_text())
     carried = carry.carried_over(old.old, carry.read_new(out.read_text()), told)
     torn = 0

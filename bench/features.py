@@ -61,7 +61,7 @@ def written(command, mesh, out, scale):
 
 def features_of(path):
     """The marks of a mesh, with its darts, and its points as (points, 3)."""
-    mesh = mark_features.read_mesh(path.read_text(encoding="utf-8", errors="surrogateescape"))
+    mesh = mark_features.read_mesh(path.read_bytes())
     return mark_features.Features(mesh), np.array(mesh.points)
 
 

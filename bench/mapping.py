@@ -31,7 +31,7 @@ from measuring import ROOT, count_lines, name_of, program, taken
 from random_meshes import random_text
 
 sys.path.insert(0, f"{ROOT}/tools")
-from carry import logical_lines  # noqa: E402
+from obj_text import read_obj  # noqa: E402
 from make_map import map_of  # noqa: E402
 
 ONE = 1 << 32
@@ -68,13 +68,9 @@ class Old:
     """The old mesh: places in millionths, and faces, with the face and the corner where each dart begins."""
 
     def __init__(self, text):
-        self.places, self.faces = [], []
-        for kind, *words in logical_lines(text):
-            if kind == "v":
-                self.places.append([millionths(it) for it in words[:3]])
-            elif kind == "f":
-                indices = (int(it.partition("/")[0]) for it in words)
-                self.faces.append([it if it > 0 else len(self.places) + it + 1 for it in indices])
+        obj = read_obj(text)
+        self.places = [[millionths(it.decode()) for it in words[:3]] for words in obj.points]
+        self.faces = [[it.vertex + 1 for it in face] for face in obj.faces]
         self.begins = {(start, face[corner - 3]): (at, corner)
                        for at, face in enumerate(self.faces) for corner, start in enumerate(face)}
 

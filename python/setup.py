@@ -8,7 +8,7 @@ from setuptools import setup
 from setuptools.command.build_py import build_py
 
 ROOT = pathlib.Path(__file__).resolve().parent.parent
-SCRIPTS = ("mark_features", "cuts", "carrying")
+SCRIPTS = ("obj_text", "mark_features", "cuts", "carrying")
 CARRIED = {"dist/quadq": "bin/quadq", **{f"tools/{it}.py": f"{it}.py" for it in SCRIPTS}}
 
 

@@ -24,12 +24,11 @@ from __future__ import annotations
 import argparse
 import sys
 from dataclasses import dataclass, field
-from typing import Iterator, Optional, Sequence
+from typing import Iterator, Optional, Sequence, Union
 
-from carrying import DIGITS, Carried, CarryError, Layer, Map, Surface, Value, carry, read_map, value_at
+from carrying import DIGITS, Carried, Layer, Map, Surface, Value, carry, read_map, value_at
+from obj_text import NAMES, logical_lines, read_obj
 
-NAMES = ("o", "g", "usemtl", "s")
-"""The words that name what the faces behind them belong to."""
 BORDERS = slice(0, 3)
 """Those at whose borders `mark_features.py --groups` marks edges."""
 
@@ -47,49 +46,23 @@ class Old:
     normal: Layer = field(default_factory=lambda: Layer(are_directions=True))
     names: list[tuple[str, ...]] = field(default_factory=list)
     """What each face belongs to, by the words of `NAMES`: the empty name where it is not said."""
+    notes: list[str] = field(default_factory=list)
+    """What could not be read and was left out."""
 
 
-def read_old(text: str) -> Old:
-    old, now = Old(), dict.fromkeys(NAMES, "")
-    values = {"v": old.extras, "vt": old.texture.values, "vn": old.normal.values}
-    for kind, *rest in logical_lines(text):
-        if kind in values:
-            values[kind].append(tuple(map(float, rest[3:] if kind == "v" else rest)))
-        elif kind in now:
-            now[kind] = " ".join(rest)
-        elif kind == "mtllib":
-            old.libraries.append(" ".join(rest))
-        elif kind == "f":
-            take_face(old, rest)
-            old.names.append(tuple(now.values()))
-    return old
-
-
-def logical_lines(text: str) -> Iterator[list[str]]:
-    """The words of each line that has some, without its comment."""
-    for line in text.replace("\\\r\n", " ").replace("\\\n", " ").split("\n"):
-        words = line.partition("#")[0].split()
-        if words:
-            yield words
-
-
-def take_face(old: Old, corners: Sequence[str]) -> None:
-    if len(corners) != 4:
-        raise CarryError(f"face {len(old.names) + 1} of the old mesh has {len(corners)} corners")
-    counts = len(old.extras), len(old.texture.values), len(old.normal.values)
-    for corner in corners:
-        numbers = [*(int(it or 0) for it in corner.split("/")), 0, 0]
-        vertex, texture, normal = (place_of(it, count) for it, count in zip(numbers, counts))
-        if vertex is None:
-            raise CarryError(f"face {len(old.names) + 1} of the old mesh names vertex 0")
-        old.corners.append(vertex)
-        old.texture.rows.append(texture)
-        old.normal.rows.append(normal)
-
-
-def place_of(number: int, count: int) -> Optional[int]:
-    """Where the line stands that an index names, if it names one, behind so many lines."""
-    return number - 1 if number > 0 else count + number if number else None
+def read_old(text: Union[bytes, str]) -> Old:
+    """What the text of a mesh of quads has. Raises an `ObjError` where the program refuses its lines."""
+    obj = read_obj(text)
+    corners = [corner for face in obj.faces for corner in face]
+    return Old(
+        obj.libraries,
+        [tuple(map(float, words[3:])) for words in obj.points],
+        [it.vertex for it in corners],
+        Layer(obj.textures, [it.texture for it in corners]),
+        Layer(obj.normals, [it.normal for it in corners], are_directions=True),
+        obj.names,
+        obj.notes,
+    )
 
 
 @dataclass
@@ -101,24 +74,21 @@ class New:
     lines: list[str] = field(default_factory=list)
 
 
-def read_new(text: str) -> New:
+def read_new(text: Union[bytes, str]) -> New:
     new = New()
-    for line in text.splitlines():
-        kind, _, rest = line.partition(" ")
+    for line in logical_lines(text if isinstance(text, bytes) else text.encode()):
+        kind, *rest = (it.decode() for it in line.words or [b""])
         if kind == "v":
-            new.places.append(rest)
+            new.places.append(" ".join(rest))
         elif kind == "f":
-            new.corners.extend(int(it) - 1 for it in rest.split())
+            new.corners.extend(int(it) - 1 for it in rest)
         elif kind == "l":
-            new.lines.append(rest)
+            new.lines.append(" ".join(rest))
     return new
 
 
 def carried_over(old: Old, new: New, given: Map) -> Carried:
     """The layers `vt` and `vn` and the names of faces, carried over."""
-    for kind, layer in (("vt", old.texture), ("vn", old.normal)):
-        if any(it is not None and not 0 <= it < len(layer.values) for it in layer.rows):
-            raise CarryError(f"a corner of the old mesh names a {kind} line that is not there")
     borders = [it[BORDERS] for it in old.names]
     return carry(Surface(old.corners), [old.texture, old.normal], borders, given, new.corners)
 
@@ -162,8 +132,8 @@ def summary(carried: Carried) -> str:
     return f"of {len(carried.homes)} faces, {' and '.join(told)}: {remedy}"
 
 
-def read(path: str) -> str:
-    with open(path, encoding="utf-8", errors="surrogateescape", newline="") as file:
+def read(path: str) -> bytes:
+    with open(path, "rb") as file:
         return file.read()
 
 
@@ -174,14 +144,15 @@ def main() -> None:
     paths = vars(parser.parse_args())
     try:
         old, new = read_old(read(paths["IN.obj"])), read_new(read(paths["OUT.obj"]))
-        given = read_map(read(paths["MAP"]))
+        given = read_map(read(paths["MAP"]).decode(errors="replace"))
         carried = carried_over(old, new, given)
     except (ValueError, OSError) as error:
         sys.exit(f"carry: {error}")
     out = open(sys.stdout.fileno(), "w", encoding="utf-8", errors="surrogateescape", newline="", closefd=False)
     out.writelines(line + "\n" for line in new_lines(old, new, given, carried))
     out.flush()
-    print(f"carry: {summary(carried)}", file=sys.stderr)
+    for said in [summary(carried), *old.notes]:
+        print(f"carry: {said}", file=sys.stderr)
 
 
 if __name__ == "__main__":

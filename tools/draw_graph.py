@@ -23,6 +23,7 @@ import sys
 HERE = pathlib.Path(__file__).resolve().parent
 sys.path[:0] = [str(HERE), str(HERE.parent / "share/quadq")]
 from cuts import Cut, edge_of, edges_of_graph, patches_of, sizes_of  # noqa: E402
+from obj_text import read_obj  # noqa: E402
 
 COLOURS = ["#bcd7ee", "#f9d9b4", "#c9e6c3", "#f3c4c9", "#dccbe8", "#f5eeb0", "#bfe3e0", "#e3d3c3"]
 MARKS = {"singular": "#c0392b", "corner": "#1f5fa8", "reflex": "#e67e22"}
@@ -31,22 +32,19 @@ MARGIN = 12
 
 
 def read_marked(path):
-    """The places of used vertices, the faces over them, as quadq numbers them, and the edges that `l` lines name."""
-    places, rows = [], {"f": [], "l": []}
-    text = pathlib.Path(path).read_text(encoding="utf-8", errors="replace")
-    for line in text.replace("\\\r\n", " ").replace("\\\n", " ").splitlines():
-        words = line.partition("#")[0].split()
-        if words[:1] == ["v"]:
-            places.append(tuple(map(float, words[1:4])))
-        elif words and words[0] in rows:
-            indices = [int(word.partition("/")[0]) for word in words[1:]]
-            rows[words[0]].append([it - 1 if it > 0 else len(places) + it for it in indices])
-    used = sorted({vertex for face in rows["f"] for vertex in face})
+    """The places of used vertices, the faces over them, as quadq numbers them, and the edges that `l` lines name. Exits
+    where the program refuses the lines."""
+    try:
+        obj = read_obj(pathlib.Path(path).read_bytes())
+    except (ValueError, OSError) as error:
+        sys.exit(f"draw_graph: {error}")
+    corners = [[it.vertex for it in face] for face in obj.faces]
+    used = sorted({vertex for face in corners for vertex in face})
     number = {vertex: at for at, vertex in enumerate(used)}
-    faces = [[number[it] for it in face] for face in rows["f"]]
-    lines = [[number.get(it, -1) for it in line] for line in rows["l"]]
+    faces = [[number[it] for it in face] for face in corners]
+    lines = [[number.get(it, -1) for it in line] for line in obj.lines]
     named = {edge_of(*pair) for line in lines for pair in zip(line, line[1:]) if -1 not in pair}
-    return [places[it] for it in used], faces, named
+    return [obj.place(it) for it in used], faces, named
 
 
 def read_mesh(path):

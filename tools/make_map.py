@@ -14,13 +14,13 @@ import argparse
 import pathlib
 import re
 import sys
-from decimal import ROUND_HALF_UP, Decimal
-from typing import Iterator, NamedTuple
+from typing import Iterator, NamedTuple, Union
 
 sys.path.insert(0, str(pathlib.Path(__file__).resolve().parent))
-from carry import logical_lines, place_of, read, read_old  # noqa: E402
+from carry import read, read_old  # noqa: E402
 from carrying import EAST, NORTH, ONE, SOUTH, WEST, CarryError, side  # noqa: E402
 from cuts import Cut, edge_of  # noqa: E402
+from obj_text import millionths, read_obj  # noqa: E402
 
 MILLION = 1_000_000
 HEAD = re.compile(r"#quadq 1 (remesh|crease|coarse|size|refine) (?:by (\d+)$)?", re.M)
@@ -164,17 +164,11 @@ def read_written(text: str) -> Written:
     return Written(head[1], int(head[2] or 0), lengths, re.findall(r"^v (.*)$", text, re.M))
 
 
-def read_places(text: str) -> tuple[list[tuple[int, ...]], set[tuple[int, int]]]:
+def read_places(text: Union[bytes, str]) -> tuple[list[tuple[int, ...]], set[tuple[int, int]]]:
     """The places of vertices in millionths, and the edges that `l` lines mark."""
-    places: list[tuple[int, ...]] = []
-    marks = set()
-    for kind, *rest in logical_lines(text):
-        if kind == "v":
-            places.append(tuple(int((Decimal(it) * MILLION).to_integral_value(ROUND_HALF_UP)) for it in rest[:3]))
-        elif kind == "l":
-            chain = [place_of(int(it.partition("/")[0]), len(places)) for it in rest]
-            marks |= {edge_of(*it) for it in zip(chain, chain[1:])}
-    return places, marks
+    obj = read_obj(text)
+    marks = {edge_of(*it) for line in obj.lines for it in zip(line, line[1:])}
+    return [tuple(map(millionths, words[:3])) for words in obj.points], marks
 
 
 def place_at(kind: str, numbers: tuple[int, ...], corners: list[int], places: list[tuple[int, ...]]) -> list[int]:
@@ -197,7 +191,7 @@ def decimal(millionths: int) -> str:
     return ("-" if millionths < 0 else "") + f"{whole}.{rest:06}".rstrip("0").rstrip(".")
 
 
-def map_of(old_text: str, new_text: str) -> str:
+def map_of(old_text: Union[bytes, str], new_text: str) -> str:
     """The map of a mesh and of what a command wrote for it. Raises a `CarryError` where it did not."""
     corners, written = read_old(old_text).corners, read_written(new_text)
     places, marks = read_places(old_text)
@@ -222,7 +216,7 @@ def main() -> None:
         parser.add_argument(name)
     paths = vars(parser.parse_args())
     try:
-        sys.stdout.write(map_of(read(paths["IN.obj"]), read(paths["OUT.obj"])))
+        sys.stdout.write(map_of(read(paths["IN.obj"]), read(paths["OUT.obj"]).decode()))
     except (ValueError, OSError) as error:
         sys.exit(f"make_map: {error}")
 

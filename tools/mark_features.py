@@ -24,18 +24,12 @@ import math
 import sys
 from collections import Counter
 from dataclasses import dataclass, field
-from typing import Dict, Iterator, List, NamedTuple, Optional, Tuple
+from typing import Dict, Iterator, List, NamedTuple, Optional, Tuple, Union
+
+from obj_text import Corner, end_of, read_obj
 
 Vector = Tuple[float, float, float]
 Edge = Tuple[int, int]
-
-
-class Corner(NamedTuple):
-    """What a corner of a face names: a vertex, and places in the lists of texture coordinates and normals, from 0."""
-
-    vertex: int
-    texture: Optional[int]
-    normal: Optional[int]
 
 
 class Face(NamedTuple):
@@ -55,41 +49,12 @@ class Mesh:
     faces: List[Face] = field(default_factory=list)
 
 
-def read_mesh(text: str) -> Mesh:
-    mesh = Mesh()
-    names = {"usemtl": "", "g": "", "o": ""}
-    for line in text.replace("\\\r\n", " ").replace("\\\n", " ").splitlines():
-        words = line.partition("#")[0].split()
-        if not words:
-            continue
-        kind, rest = words[0], words[1:]
-        if kind == "v":
-            x, y, z = map(float, rest[:3])
-            mesh.points.append((x, y, z))
-        elif kind == "vt":
-            mesh.textures.append(tuple(map(float, rest)))
-        elif kind == "vn":
-            mesh.normals.append(tuple(map(float, rest)))
-        elif kind in names:
-            names[kind] = " ".join(rest)
-        elif kind == "f":
-            corners = [read_corner(word, mesh) for word in rest]
-            mesh.faces.append(Face(corners, (names["usemtl"], names["g"], names["o"])))
-    return mesh
-
-
-def read_corner(word: str, mesh: Mesh) -> Corner:
-    parts = word.split("/")
-
-    def place(at: int, count: int) -> Optional[int]:
-        if at >= len(parts) or not parts[at]:
-            return None
-        index = int(parts[at])
-        return index - 1 if index > 0 else count + index
-
-    vertex = place(0, len(mesh.points))
-    assert vertex is not None, word
-    return Corner(vertex, place(1, len(mesh.textures)), place(2, len(mesh.normals)))
+def read_mesh(text: Union[bytes, str]) -> Mesh:
+    """What a text has. Raises an `ObjError` where the program refuses its lines, but for faces that are no quads."""
+    obj = read_obj(text, polygons=True)
+    places = [obj.place(it) for it in range(len(obj.points))]
+    names = ((material, group, thing) for thing, group, material, _ in obj.names)
+    return Mesh(places, obj.textures, obj.normals, [Face(*it) for it in zip(obj.faces, names)])
 
 
 def minus(a: Vector, b: Vector) -> Vector:
@@ -255,12 +220,15 @@ def parse(words: List[str]) -> argparse.Namespace:
 
 def main() -> None:
     wishes = parse(sys.argv[1:])
-    with open(wishes.mesh, encoding="utf-8", errors="surrogateescape", newline="") as file:
-        text = file.read()
-    why = find_features(read_mesh(text), wishes)
-    out = open(sys.stdout.fileno(), "w", encoding="utf-8", errors="surrogateescape", newline="", closefd=False)
-    out.write(text if text.endswith("\n") or not text else text + "\n")
-    out.writelines(f"l {start + 1} {end + 1}\n" for start, end in sorted(why))
+    try:
+        with open(wishes.mesh, "rb") as file:
+            text = file.read()
+        why = find_features(read_mesh(text), wishes)
+    except (ValueError, OSError) as error:
+        sys.exit(f"mark_features: {error}")
+    out = sys.stdout.buffer
+    out.write(text + end_of(text))
+    out.writelines(f"l {start + 1} {end + 1}\n".encode() for start, end in sorted(why))
     out.flush()
     print(f"mark_features: {summary(why)}", file=sys.stderr)
 

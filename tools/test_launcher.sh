@@ -357,7 +357,7 @@ installing() {
     wants "installed under a narrow umask" "755 755 755" \
         "$(stat -c %a "$room/new prefix" "$room/new prefix/bin" "$room/new prefix/bin/quadq" | tr '\n' ' ' | sed 's/ $//')"
     wants "what is installed" "bin/quadq bin/quadq-draw-graph share/bash-completion/completions/quadq \
-share/man/man1/quadq.1 share/quadq/cuts.py share/zsh/site-functions/_quadq " \
+share/man/man1/quadq.1 share/quadq/cuts.py share/quadq/obj_text.py share/zsh/site-functions/_quadq " \
         "$(cd "$room/new prefix" && find . -type f | sed 's/^..//' | LC_ALL=C sort | tr '\n' ' ')"
     wants "what is installed runs" "first: z" "$("$room/new prefix/bin/quadq" z 2>/dev/null)"
     holds "the script that draws runs" "$room/new prefix/bin/quadq-draw-graph" --help >/dev/null

@@ -171,11 +171,16 @@ class Carry(unittest.TestCase):
 
     def test_old_texts_that_are_wrong(self):
         for there, wrong, told in (
-            (MIDDLE, "f 2 3 7", "face 2 of the old mesh has 3 corners"),
-            (MIDDLE, "f 0 3 7 6", "face 2 of the old mesh names vertex 0"),
-            (MIDDLE, "f 2/2 3/3 7/7 6/11", "a corner of the old mesh names a vt line that is not there"),
+            (MIDDLE, "f 2 3 7", "line 23: face with 3 corners"),
+            (MIDDLE, "f 0 3 7 6", "line 23: number out of range"),
+            (MIDDLE, "f 2/2/1/1 3 7 6", "line 23: not an OBJ line of this profile"),
         ):
             self.assertEqual(carried(STRIP.replace(there, wrong), STRIP_NEW, STRIP_MAP, 1), ("", f"carry: {told}\n"))
+
+    def test_a_texture_that_is_not_there(self):
+        text, said = carried(STRIP.replace(MIDDLE, "f 2/2 3/3 7/7 6/11"), STRIP_NEW, STRIP_MAP)
+        self.assertEqual(text.count("\nf "), 2)
+        self.assertIn("carry: 1 corners name vt lines that are not there, and have no texture coordinates\n", said)
 
     def test_a_corner_beyond_a_seam_is_carried_on(self):
         old = STRIP.replace(MIDDLE, "f 2/9/1 3/3/1 7/7/1 6/10/1")
