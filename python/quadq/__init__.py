@@ -1,26 +1,52 @@
 """Quad meshes remeshed by the proved program quadq, part by part, and each result checked before it is handed over.
 
     import quadq
-    mesh = quadq.read_obj(open("in.obj").read())
-    result = quadq.remesh(mesh, faces=5000)
-    print(result.report.summary())
-    open("out.obj", "w").write(quadq.write_obj(result.mesh))
+    result = quadq.remesh(quadq.read("in.obj"), faces=5000)
+    print(result.report.summary(), *result.report.warnings, sep="\n")
+    quadq.write("out.obj", result.mesh)
 """
+
+from __future__ import annotations
 
 from .distance import Distance, distance_between
 from .features import find_features
 from .mesh import Layer, Mesh, Names
-from .obj import FormatError, read_obj, write_obj
+from .notices import Notice
+import os
+from pathlib import Path
+from typing import Optional, Union
+
+from .batch import Books, remesh_files
+from .errors import FormatError, MeshError, QuadqError, WishError
+from .files import write_whole
+from .formats import bytes_of, read_file
+from .obj import read_obj
+from .obj_writing import write_obj
 from .program import Program
 from .quality import Quality, quality_of, scaled_jacobians
 from .refusal import Refusal
-from .remeshing import Settings, remesh
+from .remeshing import remesh
 from .report import refusal_page, result_page
 from .results import Counts, Report, Result
+from .rows import Row
+from .settings import Settings
 from .subdivision import subdivide
 
 __all__ = [
-    "Counts", "Distance", "FormatError", "Layer", "Mesh", "Names", "Program", "Quality", "Refusal", "Report", "Result",
-    "Settings", "distance_between", "find_features", "quality_of", "read_obj", "refusal_page", "remesh", "result_page",
-    "scaled_jacobians", "subdivide", "write_obj",
+    "Books", "Counts", "Distance", "FormatError", "Layer", "Mesh", "MeshError", "Names", "Notice", "Program",
+    "QuadqError", "Quality", "Refusal", "Report", "Result", "Row", "Settings", "WishError", "distance_between",
+    "find_features", "quality_of", "read", "read_obj", "refusal_page", "remesh", "remesh_files", "result_page",
+    "scaled_jacobians", "subdivide", "write", "write_obj",
 ]
+
+
+def read(path: Union[str, os.PathLike[str]], *, polygons: bool = False, program: Optional[Program] = None) -> Mesh:
+    """The mesh of a file, as the program reads it: OBJ, and what meshio reads where that is installed. With `polygons`
+    faces may have any number of corners. Raises a `Refusal`."""
+    return read_file(Path(path), Program() if program is None else program, polygons)[0]
+
+
+def write(path: Union[str, os.PathLike[str]], mesh: Mesh) -> None:
+    """Writes a mesh as a whole file, in the format that its name says. Raises a `Refusal` where that fails, and a
+    `WishError` for a format that is not written."""
+    write_whole(Path(path), bytes_of(Path(path), mesh))

@@ -9,14 +9,19 @@ from fractions import Fraction
 from pathlib import Path
 from typing import Optional, Sequence
 
-from .batch import READ_FAULT, WRITE_FAULT, Done, inputs_of, one_file, run_batch, summary_of, table_of
+from .batch import Books, remesh_files
+from .errors import WishError
 from .features import KINDS
-from .files import write_whole
+from .files import remove_stale, write_whole
+from .formats import refuse_format
+from .jobs import one_file
 from .program import Program
 from .progress import Progress
-from .refusal import Refusal
-from .remeshing import Settings, as_length
+from .refusal import READ_FAULT, WRITE_FAULT, Refusal
 from .report import refused_page, result_page
+from .rows import Row, summary_of
+from .settings import Settings, as_length
+from .stopping import Stopped, stopped_by_signals
 
 USAGE = 2
 
@@ -25,8 +30,8 @@ def parser_of_words() -> argparse.ArgumentParser:
     parser = argparse.ArgumentParser(
         prog="quadq", description="Remeshes quad meshes with the proved program quadq, and checks each part.",
         usage="quadq IN.obj OUT.obj (--scale P/Q | --faces N | --edge D) [..]\n"
-              "       quadq FILES.. --out FOLDER (..) [..]")
-    parser.add_argument("paths", nargs="+", metavar="FILE", help="IN and OUT; with --out files, patterns and folders")
+              "       quadq FILES AND FOLDERS.. --out FOLDER (..) [..]")
+    parser.add_argument("paths", nargs="+", metavar="FILE", help="IN and OUT; with --out files and folders")
     wish = parser.add_mutually_exclusive_group(required=True)
     wish.add_argument("--scale", type=Fraction, metavar="P/Q", help="how long edges of patches are to be, of the old")
     wish.add_argument("--faces", type=int, metavar="N", help="how many faces the mesh is to have")
@@ -49,6 +54,11 @@ def parser_of_words() -> argparse.ArgumentParser:
     parser.add_argument("--carry", action="store_true", help="keep texture coordinates, normals, names and colours")
     parser.add_argument("--out", type=Path, metavar="FOLDER", help="where the remeshed files go, by the same names")
     parser.add_argument("--table", type=Path, metavar="FILE.csv", help="a table of all files")
+    parser.add_argument("--log", type=Path, metavar="FILE.jsonl", help="a line of JSON for each file as it ends")
+    parser.add_argument("--resume", action="store_true", help="leave out what the log has of the same")
+    parser.add_argument("--recursive", action="store_true", help="take the folders below folders, too")
+    parser.add_argument("--pattern", metavar="'*.msh'", help="which files of folders are taken; else those in .obj")
+    parser.add_argument("--timeout", type=float, metavar="SECONDS", help="how long a file may take")
     parser.add_argument("--jobs", type=int, default=0, metavar="N", help="how much at a time; 0: one a processor")
     parser.add_argument("--quiet", action="store_true", help="say only what is refused")
     return parser
@@ -56,24 +66,46 @@ def parser_of_words() -> argparse.ArgumentParser:
 
 def main(words: Optional[Sequence[str]] = None) -> int:
     """Does what the words of a command line ask, and returns the exit status."""
-    parser = parser_of_words()
-    asked = parser.parse_args(words)
+    asked = parser_of_words().parse_args(words)
     try:
-        program = Program()
-        settings = settings_of(asked)
-        refuse_missing(settings, program)
-        if asked.out is None and len(asked.paths) != 2:
-            raise ValueError("two files are needed, IN and OUT, or --out FOLDER")
-        if asked.out is not None and asked.report is not None:
-            raise ValueError("a report is of one file: leave --out away")
-        return _batch(asked, settings, program) if asked.out else _single(asked, settings, program)
+        with stopped_by_signals(None if asked.out else asked.timeout):
+            status = _done(asked)
+            sys.stdout.flush()
+            return status
+    except Stopped as stopped:
+        print(f"quadq: {stopped.words}", file=sys.stderr)
+        return stopped.status
+    except Refusal as said:
+        print(f"quadq: {said}", file=sys.stderr)
+        return said.status
+    except BrokenPipeError:
+        # Nobody reads what is said any more. What is left of it would fail again at the end.
+        os.dup2(os.open(os.devnull, os.O_WRONLY), sys.stdout.fileno())
+        return WRITE_FAULT
     except (ValueError, FileNotFoundError) as error:
         print(f"quadq: {error}", file=sys.stderr)
         return USAGE
 
 
+def _done(asked: argparse.Namespace) -> int:
+    program = Program()
+    settings = settings_of(asked)
+    refuse_missing(settings, program)
+    if asked.timeout is not None and not asked.timeout > 0:
+        raise WishError("the time is a number of seconds above 0")
+    if asked.out is None:
+        if len(asked.paths) != 2:
+            raise WishError("two files are needed, IN and OUT, or --out FOLDER")
+        if asked.log or asked.resume or asked.table or asked.recursive or asked.pattern:
+            raise WishError("--log, --resume, --table, --recursive and --pattern go with --out FOLDER")
+        return _single(asked, settings, program)
+    if asked.report is not None:
+        raise WishError("a report is of one file: leave --out away")
+    return _batch(asked, settings, program)
+
+
 def settings_of(asked: argparse.Namespace) -> Settings:
-    """What the words of a command line ask. Raises a `ValueError` for what does not go together."""
+    """What the words of a command line ask. Raises a `WishError` for what does not go together."""
     return Settings(
         scale=asked.scale, faces=asked.faces, edge=None if asked.edge is None else as_length(asked.edge),
         floor=asked.floor, weight=asked.weight, sharp=asked.sharp, keep=tuple(asked.keep_edges or ()),
@@ -82,26 +114,30 @@ def settings_of(asked: argparse.Namespace) -> Settings:
 
 
 def refuse_missing(settings: Settings, program: Program) -> None:
-    """Raises a `ValueError` for a command that the program does not have."""
+    """Raises a `WishError` for a command that the program does not have."""
     needed = {settings.command} if settings.command == "remesh" and not settings.carry else {settings.command, "map"}
     for command in sorted(needed.difference(program.commands())):
-        raise ValueError(f"this needs the command `{command}`, which this program does not have")
+        raise WishError(f"this needs the command `{command}`, which this program does not have")
 
 
 def _single(asked: argparse.Namespace, settings: Settings, program: Program) -> int:
     source, out = map(Path, asked.paths)
+    refuse_format(out)
     progress = Progress(is_quiet=asked.quiet)
     try:
-        result = one_file(source, out, settings, program, progress.tell)
+        result, _ = one_file(source, out, settings, program, progress.tell)
         if asked.report is not None:
             progress.tell("pictures", 0, 1)
             write_whole(asked.report, result_page(source.name, result, program, asked.up).encode())
     except Refusal as said:
         progress.end()
-        print(f"quadq: {said}", file=sys.stderr)
-        if asked.report is not None and said.status not in (READ_FAULT, WRITE_FAULT):
-            write_whole(asked.report, refused_page(source, said, asked.up).encode())
-        return said.status
+        if asked.report is not None:
+            _report_refusal(asked, source, said)
+        raise
+    except Stopped:
+        progress.end()
+        remove_stale(out, source)
+        raise
     progress.end()
     report = result.report
     if not asked.quiet:
@@ -114,27 +150,35 @@ def _single(asked: argparse.Namespace, settings: Settings, program: Program) -> 
     return 0
 
 
+def _report_refusal(asked: argparse.Namespace, source: Path, said: Refusal) -> None:
+    """Writes the page of a refusal; of files that cannot be read or written there is none, not even an old one."""
+    if said.status in (READ_FAULT, WRITE_FAULT):
+        remove_stale(asked.report, source)
+    else:
+        write_whole(asked.report, refused_page(source, said, asked.up).encode())
+
+
 def _batch(asked: argparse.Namespace, settings: Settings, program: Program) -> int:
-    paths = inputs_of(asked.paths)
-    names = [it.stem for it in paths]
-    twice = {it for it in names if names.count(it) > 1} if len(set(names)) < len(names) else set()
-    if twice:
-        raise ValueError(f"two files have the name {min(twice)}, and would go to the same place")
-    if any(asked.out.resolve() == it.parent.resolve() for it in paths):
-        raise ValueError("the folder --out has files that would be read")
-    jobs = asked.jobs or os.cpu_count() or 1
+    told: list[Row] = []
 
-    def say(it: Done) -> None:
-        if it.status != 0:
-            print(f"quadq: {it.path}: {it.said}", file=sys.stderr, flush=True)
+    def say(it: Row) -> None:
+        told.append(it)
+        if not it.is_good:
+            print(f"quadq: {it.source}: {it.words}", file=sys.stderr, flush=True)
         elif not asked.quiet:
-            print(f"{it.path}: {it.said}", flush=True)
+            print(f"{it.source}: {it.words}", flush=True)
+            for warning in it.warnings:
+                print(f"quadq: {it.source}: warning: {warning['words']}", file=sys.stderr, flush=True)
 
-    done = run_batch(paths, asked.out, settings, program, jobs, say)
-    if asked.table:
-        write_whole(asked.table, table_of(done).encode())
-    print(summary_of(done))
-    return 0 if all(it.status == 0 for it in done) else 1
+    try:
+        rows = remesh_files(
+            asked.paths, asked.out, settings, program=program, timeout=asked.timeout, pattern=asked.pattern,
+            recursive=asked.recursive, books=Books(asked.log, asked.table, asked.resume), say=say)
+    except (Stopped, Refusal):
+        print(f"{summary_of(told)}; not all were reached", flush=True)
+        raise
+    print(summary_of(rows))
+    return 0 if all(it.is_good for it in rows) else 1
 
 
 if __name__ == "__main__":

@@ -8,6 +8,7 @@ from typing import Any, Optional, Sequence
 
 import numpy as np
 
+from .arrays import Array
 from .carried import carried
 from .mesh import NONE, Layer, Mesh, join
 from .parts import Part, Workshop, Written
@@ -67,7 +68,7 @@ def _from_tool(layer: Any) -> Optional[Layer]:
     return Layer(np.array(layer.values), np.array(rows, dtype=np.int64))
 
 
-def _at_spots(values: np.ndarray, quads: np.ndarray, spots: Sequence[Any]) -> np.ndarray:
+def _at_spots(values: Array, quads: Array, spots: Sequence[Any]) -> Array:
     """(new points, width): the values (old points, width) at the spots of a map."""
     found = np.zeros((len(spots), values.shape[1]))
     places: dict[str, list[int]] = {"vertex": [], "edge": [], "face": []}
@@ -89,7 +90,7 @@ def _at_spots(values: np.ndarray, quads: np.ndarray, spots: Sequence[Any]) -> np
     return found
 
 
-def _mixed(values: np.ndarray, rows: np.ndarray, parts: np.ndarray) -> np.ndarray:
+def _mixed(values: Array, rows: Array, parts: Array) -> Array:
     """(n, width): the sum of so many rows (k, n) of values, weighed by their parts (k, n)."""
     return np.asarray(sum(values[row] * part[:, None] for row, part in zip(rows, parts)))
 
@@ -123,7 +124,7 @@ def _joined_layers(layers: Sequence[Optional[Layer]], meshes: Sequence[Mesh]) ->
     return Layer(_stacked([None if it is None else it.values for it in layers], counts), np.concatenate(rows))
 
 
-def _stacked(tables: Sequence[Optional[np.ndarray]], counts: Sequence[int]) -> np.ndarray:
+def _stacked(tables: Sequence[Optional[Array]], counts: Sequence[int]) -> Array:
     """Tables one below the other, filled with 0 where one is narrower or is not there."""
     whole = np.zeros((sum(counts), max(0 if it is None else it.shape[1] for it in tables)))
     for table, first in zip(tables, np.cumsum([0, *counts])):

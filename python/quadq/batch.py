@@ -1,123 +1,169 @@
-"""Many files, some at a time, with a table of what came of each."""
+"""Many files, some at a time, with a line and a table of what came of each, whatever ends the work."""
 
 from __future__ import annotations
 
-import csv
-import glob
-import io
+import contextlib
 import os
-import time
-from concurrent.futures import ProcessPoolExecutor, as_completed
+import queue
+from concurrent.futures import Executor, Future
 from dataclasses import dataclass, replace
 from pathlib import Path
-from typing import Callable, Optional, Sequence
+from typing import Callable, Generator, Iterable, Optional, Sequence, Union
 
-from .files import read_mesh, write_whole
-from .obj import write_obj
+from .errors import WishError
+from .files import read_whole, remove_stale, write_whole
+from .inputs import Input, inputs_of, refuse_clashes
+from .jobs import Job, checksum, done
+from .logs import Log, read_log
 from .program import Program
-from .refusal import Refusal
-from .remeshing import Settings, Tell, run
-from .results import Report, Result
+from .refusal import STRANGE, Refusal
+from .rows import Row, settings_in_words, table_of, unreached
+from .running import stop_all
+from .settings import Settings
+from .stopping import Stopped
+from .workers import Workers
 
-READ_FAULT, WRITE_FAULT = 12, 13
-"""The program's statuses for a file that cannot be read, and one that cannot be written."""
-COLUMNS = (
-    "file", "status", "faces before", "faces after", "command", "scale", "edge", "parts", "arcs", "arcs at the floor",
-    "deviation",
-    "inverted before", "inverted after", "least scaled Jacobian before", "least scaled Jacobian after",
-    "greatest distance", "seconds", "said",
-)
+PathLike = Union[str, "os.PathLike[str]"]
+FINAL = (*range(1, 12), 16, 17)
+"""The statuses that a file gets again, whenever it is tried."""
 
 
 @dataclass(frozen=True)
-class Done:
-    """What came of a file."""
+class Books:
+    """What is written of a batch besides its meshes."""
 
-    path: Path
-    status: int
-    said: str
-    """The refusal, or a summary."""
-    seconds: float
-    report: Optional[Report] = None
-
-    def row(self) -> list[str]:
-        report = self.report
-        if report is None:
-            return [str(self.path), str(self.status), *[""] * (len(COLUMNS) - 4), f"{self.seconds:.2f}", self.said]
-        before, after = report.before, report.after
-        return [
-            str(self.path), str(self.status), str(before.faces), str(after.faces), report.command,
-            *("" if it is None else str(it) for it in (report.scale, report.edge)), str(report.parts),
-            str(report.arcs), str(report.arcs_at_floor), "" if report.deviation is None else str(report.deviation),
-            str(before.quality.inverted), str(after.quality.inverted),
-            f"{before.quality.least:.4f}", f"{after.quality.least:.4f}", f"{report.greatest_distance:.6g}",
-            f"{self.seconds:.2f}", "; ".join(report.warnings),
-        ]
+    log: Optional[Path] = None
+    table: Optional[Path] = None
+    resume: bool = False
+    """Whether what the log has, of the same files, settings and program, is not done again."""
 
 
-def one_file(path: Path, out: Path, settings: Settings, program: Program, tell: Tell) -> Result:
-    """Remeshes one file into another. Raises a `Refusal`; then nothing is written."""
+def remesh_files(
+    files: Union[PathLike, Iterable[PathLike]],
+    out: PathLike,
+    settings: Settings,
+    *,
+    executor: Optional[Executor] = None,
+    program: Optional[Program] = None,
+    timeout: Optional[float] = None,
+    pattern: Optional[str] = None,
+    recursive: bool = False,
+    books: Books = Books(),
+    say: Callable[[Row], None] = lambda row: None,
+) -> list[Row]:
+    """Remeshes each file into one of the same name in a folder, and tells what came of each, in the order of the files.
+
+    Folders stand for their `.obj` files, or for those of a pattern; `recursive` takes the folders below, too. Files are
+    done by `settings.jobs` processes of their own, or by any executor: each needs the package, the program at the same
+    path and the same files. `timeout` is how many seconds a file may take. `say` is told each row as it comes. Raises a
+    `WishError` for files that would go to the same place, and a `Refusal` where the log or the table cannot be written;
+    an interruption goes on to the caller when all is wound up.
+    """
+    given = [files] if isinstance(files, (str, os.PathLike)) else list(files)
+    folder = Path(out)
+    inputs = inputs_of([Path(it) for it in given], pattern, recursive)
+    refuse_clashes(inputs, folder)
+    if books.resume and books.log is None:
+        raise WishError("to go on where an earlier run has stopped, its log is needed")
+    runner = Program() if program is None else program
+    digest = checksum(read_whole(runner.path))
+    jobs = [_job_of(it, folder, settings, runner, digest, timeout) for it in inputs]
+    return _Batch(jobs, books, executor, say).rows()
+
+
+def _job_of(
+    it: Input, folder: Path, settings: Settings, program: Program, digest: str, timeout: Optional[float]
+) -> Job:
+    own = settings if settings.folder is None else replace(settings, folder=settings.folder / it.below)
+    return Job(it.path, it.target(folder), own, program.path, digest, timeout)
+
+
+class _Batch:
+    """The jobs, and the rows of those that have ended."""
+
+    def __init__(
+        self, jobs: Sequence[Job], books: Books, executor: Optional[Executor], say: Callable[[Row], None]
+    ) -> None:
+        self.jobs, self.books, self.executor, self.say = jobs, books, executor, say
+        self.found: dict[Path, Row] = {}
+
+    def rows(self) -> list[Row]:
+        if self.books.table is not None:
+            remove_stale(self.books.table)
+        log, is_whole = None, False
+        try:
+            self._take_over()
+            log = Log(self.books.log, is_new=not self.books.resume) if self.books.log is not None else None
+            waiting = [it for it in self.jobs if it.source not in self.found]
+            with contextlib.closing(self._ended(waiting)) as ended:
+                for job, row in ended:
+                    self.found[job.source] = row
+                    if log is not None:
+                        log.add(row)
+                    self.say(row)
+            is_whole = True
+        finally:
+            if log is not None:
+                log.close()
+            if self.books.table is not None:
+                write_whole(self.books.table, table_of(self._all()), is_hasty=not is_whole)
+        return self._all()
+
+    def _all(self) -> list[Row]:
+        return [self.found.get(it.source) or unreached(it.source, it.target) for it in self.jobs]
+
+    def _take_over(self) -> None:
+        """The rows of an earlier run that still hold."""
+        if not self.books.resume or self.books.log is None:
+            return
+        known = read_log(self.books.log)
+        for job in self.jobs:
+            row = known.get(str(job.source))
+            if row is not None and _still_holds(row, job):
+                self.found[job.source] = row
+                self.say(row)
+
+    def _ended(self, jobs: Sequence[Job]) -> Generator[tuple[Job, Row], None, None]:
+        many = (self.jobs[0].settings.jobs if self.jobs else 0) or os.cpu_count() or 1
+        if self.executor is not None:
+            return _by_executor(self.executor, jobs)
+        return Workers(min(many, len(jobs))).rows(
+            jobs, lambda job, at_a_time: replace(job, settings=replace(job.settings, jobs=max(1, many // at_a_time))))
+
+
+def _by_executor(executor: Executor, jobs: Sequence[Job]) -> Generator[tuple[Job, Row], None, None]:
+    ended: queue.SimpleQueue[tuple[Job, Future[Row]]] = queue.SimpleQueue()
+    futures: list[Future[Row]] = []
     try:
-        mesh, text = read_mesh(path, program)
-    except OSError as error:
-        raise Refusal(READ_FAULT, f"{path}: {error.strerror}") from error
-    result = run(mesh, settings, program, text, tell)
+        for job in jobs:
+            future = executor.submit(done, replace(job, settings=replace(job.settings, jobs=1)))
+            future.add_done_callback(lambda it, job=job: ended.put((job, it)))  # type: ignore[misc]
+            futures.append(future)
+        for _ in futures:
+            job, future = ended.get()
+            try:
+                row = future.result()
+            except Exception as error:
+                row = job.row(STRANGE, f"the executor failed: {type(error).__name__}: {error}")
+            yield job, row
+    except BaseException as error:
+        for future in futures:
+            future.cancel()
+        if isinstance(error, (Stopped, KeyboardInterrupt)):
+            stop_all()
+        raise
+
+
+def _still_holds(row: Row, job: Job) -> bool:
+    """Whether a row is of the same file, settings and program, and what it says to be there is there."""
+    if (row.settings, row.program, row.target) != (settings_in_words(job.settings), job.digest, str(job.target)):
+        return False
     try:
-        write_whole(out, result.text if result.text is not None else write_obj(result.mesh).encode())
-    except OSError as error:
-        raise Refusal(WRITE_FAULT, f"{out}: {error.strerror}") from error
-    return result
-
-
-def inputs_of(patterns: Sequence[str]) -> list[Path]:
-    """The files that names, patterns and folders stand for, each once."""
-    found: list[Path] = []
-    for pattern in patterns:
-        if os.path.isdir(pattern):
-            found += sorted(it for it in Path(pattern).iterdir() if it.suffix.lower() == ".obj")
-        else:
-            found += map(Path, sorted(glob.glob(pattern)) or [pattern])
-    return list(dict.fromkeys(found))
-
-
-def run_batch(
-    paths: Sequence[Path], folder: Path, settings: Settings, program: Program, jobs: int, say: Callable[[Done], None]
-) -> list[Done]:
-    """Remeshes each file into one of the same name in a folder, so many files at a time; says each as it is done."""
-    folder.mkdir(parents=True, exist_ok=True)
-    one_at_a_time = replace(settings, jobs=1)
-    done: dict[Path, Done] = {}
-    with ProcessPoolExecutor(max(1, jobs)) as pool:
-        waiting = [pool.submit(_tried, path, folder / f"{path.stem}.obj", one_at_a_time, program) for path in paths]
-        for future in as_completed(waiting):
-            it = future.result()
-            done[it.path] = it
-            say(it)
-    return [done[path] for path in paths]
-
-
-def _tried(path: Path, out: Path, settings: Settings, program: Program) -> Done:
-    begun = time.monotonic()
-    if settings.folder is not None:
-        settings = replace(settings, folder=settings.folder / path.stem)
-    try:
-        report = one_file(path, out, settings, program, lambda step, done, total: None).report
-        return Done(path, 0, report.summary(), time.monotonic() - begun, report)
-    except Refusal as said:
-        return Done(path, said.status, str(said), time.monotonic() - begun)
-
-
-def table_of(done: Sequence[Done]) -> str:
-    """The table as CSV."""
-    text = io.StringIO()
-    writer = csv.writer(text)
-    writer.writerow(COLUMNS)
-    writer.writerows(it.row() for it in done)
-    return text.getvalue()
-
-
-def summary_of(done: Sequence[Done]) -> str:
-    """One line over all files."""
-    good = [it.report for it in done if it.report is not None]
-    before, after = (sum(faces) for faces in ((it.before.faces for it in good), (it.after.faces for it in good)))
-    return f"{len(good)} files remeshed, {len(done) - len(good)} refused; faces {before} -> {after}"
+        if row.read != checksum(read_whole(job.source)):
+            return False
+        is_there = job.target.exists()
+        if row.is_good:
+            return is_there and row.written == checksum(read_whole(job.target))
+    except Refusal:
+        return False
+    return row.status in FINAL and not is_there

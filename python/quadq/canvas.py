@@ -7,6 +7,8 @@ import zlib
 
 import numpy as np
 
+from .arrays import Array
+
 FINE = 2
 """Each pixel is drawn as so many by so many, and their mean is shown."""
 AT_A_TIME = 1 << 22
@@ -22,7 +24,7 @@ class Canvas:
         self.colours = np.full((self.wide * self.high, 3), 255.0)
         self.depths = np.full(self.wide * self.high, -np.inf)
 
-    def triangles(self, places: np.ndarray, colours: np.ndarray) -> None:
+    def triangles(self, places: Array, colours: Array) -> None:
         """Fills triangles (n, 3, 3) with colours (n, 3) from 0 to 255."""
         places = places * [FINE, FINE, 1]
         size = _over_corners(np.maximum, places)[:, :2] - _over_corners(np.minimum, places)[:, :2]
@@ -31,7 +33,7 @@ class Canvas:
             some = batch == now
             self._fill(places[some], colours[some])
 
-    def _fill(self, places: np.ndarray, colours: np.ndarray) -> None:
+    def _fill(self, places: Array, colours: Array) -> None:
         """Fills triangles, whose first two numbers are in fine pixels, row by row."""
         (ax, ay, az), (bx, by, bz), (cx, cy, cz) = places.transpose(1, 2, 0)
         area = (bx - ax) * (cy - ay) - (by - ay) * (cx - ax)
@@ -52,7 +54,7 @@ class Canvas:
         self.depths[pixels[near]] = depths[near]
         self.colours[pixels[near]] = colours[who[near]]
 
-    def _spans(self, places: np.ndarray, turn: np.ndarray, y: np.ndarray) -> tuple[np.ndarray, np.ndarray]:
+    def _spans(self, places: Array, turn: Array, y: Array) -> tuple[Array, Array]:
         """The first and the last pixel of each triangle in its row: between the sides that go up and that go down."""
         start, end = np.zeros(len(y)), np.full(len(y), float(self.wide))
         for corner in range(3):
@@ -64,7 +66,7 @@ class Canvas:
             start = np.where(rise < 0, np.maximum(start, x), start)
         return np.ceil(start - 0.5).astype(np.int64), np.floor(end - 0.5).astype(np.int64)
 
-    def lines(self, places: np.ndarray, colour: tuple[int, int, int], width: float, strength: float = 1.0) -> None:
+    def lines(self, places: Array, colour: tuple[int, int, int], width: float, strength: float = 1.0) -> None:
         """Draws lines between pairs of places (n, 2, 3), as wide as so many pixels, over what is as near."""
         places = places * [FINE, FINE, 1]
         steps = np.ceil(np.abs(places[:, 1, :2] - places[:, 0, :2]).max(axis=1)).astype(np.int64) + 1
@@ -72,11 +74,11 @@ class Canvas:
         along = (np.arange(len(who)) - np.repeat(np.cumsum(steps) - steps, steps)) / np.maximum(steps[who] - 1, 1)
         self._stamp(places[who, 0] + along[:, None] * (places[who, 1] - places[who, 0]), colour, width, strength)
 
-    def dots(self, places: np.ndarray, colour: tuple[int, int, int], width: float) -> None:
+    def dots(self, places: Array, colour: tuple[int, int, int], width: float) -> None:
         """Draws round dots at places (n, 3), over everything."""
         self._stamp(places * [FINE, FINE, 1] + [0, 0, 1e300], colour, width, 1.0)
 
-    def _stamp(self, spots: np.ndarray, colour: tuple[int, int, int], width: float, strength: float) -> None:
+    def _stamp(self, spots: Array, colour: tuple[int, int, int], width: float, strength: float) -> None:
         """Presses a round stamp on each spot that is not hidden."""
         reach = width * FINE / 2
         offsets = np.arange(-int(reach), int(reach) + 1)
@@ -101,12 +103,12 @@ class Canvas:
             _chunk(*it) for it in ((b"IHDR", head), (b"IDAT", zlib.compress(rows.tobytes(), 9)), (b"IEND", b"")))
 
 
-def _over_corners(function: np.ufunc, places: np.ndarray) -> np.ndarray:
+def _over_corners(function: np.ufunc, places: Array) -> Array:
     """A function of two values over the three corners of triangles (n, 3, ..)."""
     return np.asarray(function(function(places[:, 0], places[:, 1]), places[:, 2]))
 
 
-def _ranges(first: np.ndarray, last: np.ndarray) -> tuple[np.ndarray, np.ndarray]:
+def _ranges(first: Array, last: Array) -> tuple[Array, Array]:
     """All numbers of ranges, range by range, each with the place of its range."""
     counts = np.maximum(last - first + 1, 0)
     who = np.repeat(np.arange(len(first)), counts)

@@ -6,6 +6,7 @@ from dataclasses import dataclass
 
 import numpy as np
 
+from .arrays import Array
 from .mesh import Mesh
 
 WAYS = 8
@@ -32,16 +33,30 @@ class Distance:
 
 
 def distance_between(one: Mesh, other: Mesh) -> Distance:
-    """From the points and the middles of the faces of the one to the nearest place on the other."""
+    """From points, middles of edges and middles of faces of the one to the nearest place on the other; the greatest
+    distance is also that from the boundary of the one to the boundary of the other, where both have one. Points that no
+    face has are left out."""
     if not one.face_count or not other.face_count:
         return Distance(0.0, 0.0, 0)
-    count = len(one.points) + one.face_count
-    chosen = np.arange(0, count, max(1, -(-count // SAMPLES)))
-    at_points = chosen < len(one.points)
-    middles = _middles(one.points[one.quads[chosen[~at_points] - len(one.points)]])
-    probes = np.concatenate([one.points[chosen[at_points]], middles])
+    used, ends = one.used, one.edges.ends
+    counts = np.cumsum([len(used), len(ends), one.face_count])
+    chosen = np.arange(0, counts[2], max(1, -(-int(counts[2]) // SAMPLES)))
+    points, edges, faces = (chosen[(chosen >= low) & (chosen < high)] - low for low, high in zip((0, *counts), counts))
+    probes = np.concatenate(
+        [one.points[used[points]], one.points[ends[edges]].mean(axis=1), _middles(one.points[one.quads[faces]])])
     found = Surface(other).distances(probes)
-    return Distance(float(found.mean()), float(found.max()), len(probes))
+    return Distance(float(found.mean()), max(float(found.max()), _between_rims(one, other)), len(probes))
+
+
+def _between_rims(one: Mesh, other: Mesh) -> float:
+    """The greatest distance from the boundary of the one to that of the other, from points and middles of edges."""
+    own, others = (it.edges.ends[it.edges.uses == 1] for it in (one, other))
+    if not len(own) or not len(others):
+        return 0.0
+    own = own[::max(1, -(-2 * len(own) // SAMPLES))]
+    probes = np.concatenate([one.points[own[:, 0]], one.points[own].mean(axis=1)])
+    rim = Mesh(other.points, others[:, [0, 1, 1, 0]].reshape(-1), np.arange(0, 4 * len(others) + 1, 4))
+    return float(Surface(rim).distances(probes).max())
 
 
 class Surface:
@@ -53,24 +68,25 @@ class Surface:
         order = np.argsort(_curve(_middles(mesh.points[mesh.quads])), kind="stable")
         corners = mesh.points[mesh.quads[order]]
         self.corners = corners
-        low, high = (of(of(corners[:, 0], corners[:, 1]), of(corners[:, 2], corners[:, 3]))
-                     for of in (np.minimum, np.maximum))
+        a, b, c, d = corners.transpose(1, 0, 2)
+        low = np.minimum(np.minimum(a, b), np.minimum(c, d))
+        high = np.maximum(np.maximum(a, b), np.maximum(c, d))
         self.levels = [(low, high, _middles(corners))]
         while len(self.levels[-1][0]) > 1:
             low, high, within = self.levels[-1]
             starts = np.arange(0, len(low), WAYS)
             self.levels.append((np.minimum.reduceat(low, starts), np.maximum.reduceat(high, starts), within[starts]))
 
-    def distances(self, probes: np.ndarray) -> np.ndarray:
+    def distances(self, probes: Array) -> Array:
         """(probes,) float64: from each of (probes, 3) points to the nearest place of the surface."""
         return np.asarray(np.linalg.norm(self.nearest(probes) - probes, axis=1))
 
-    def nearest(self, probes: np.ndarray) -> np.ndarray:
+    def nearest(self, probes: Array) -> Array:
         """(probes, 3) float64: the place of the surface that is nearest to each of (probes, 3) points."""
         rounds = [self._nearest(probes[at:at + ROUND]) for at in range(0, len(probes), ROUND)]
         return np.concatenate([np.zeros((0, 3)), *rounds])
 
-    def _nearest(self, probes: np.ndarray) -> np.ndarray:
+    def _nearest(self, probes: Array) -> Array:
         who, box = np.arange(len(probes)), np.zeros(len(probes), dtype=np.int64)
         bound = np.full(len(probes), np.inf)
         for at, (low, high, within) in reversed(list(enumerate(self.levels))):
@@ -87,15 +103,15 @@ class Surface:
             who, box = who[kept], box[kept]
         places = _on_quads(probes[who], self.corners[box])
         order = np.lexsort((np.linalg.norm(places - probes[who], axis=1), who))
-        return places[order[np.searchsorted(who[order], np.arange(len(probes)))]]
+        return np.asarray(places[order[np.searchsorted(who[order], np.arange(len(probes)))]])
 
 
-def _middles(corners: np.ndarray) -> np.ndarray:
+def _middles(corners: Array) -> Array:
     """(n, 3): the middles of quads (n, 4, 3)."""
     return np.asarray((corners[:, 0] + corners[:, 1] + corners[:, 2] + corners[:, 3]) / 4)
 
 
-def _curve(places: np.ndarray) -> np.ndarray:
+def _curve(places: Array) -> Array:
     """(places,) int64: where each lies along Morton's curve through the box of all."""
     span = np.ptp(places, axis=0).max()
     code = np.zeros(len(places), dtype=np.int64)
@@ -107,7 +123,7 @@ def _curve(places: np.ndarray) -> np.ndarray:
     return code
 
 
-def _on_quads(probes: np.ndarray, corners: np.ndarray) -> np.ndarray:
+def _on_quads(probes: Array, corners: Array) -> Array:
     """(n, 3): the place of each quad (n, 4, 3) that is nearest to the probe (n, 3) beside it."""
     middle = corners.mean(axis=1)
     sides = [(corners[:, at], corners[:, (at + 1) % 4]) for at in range(4)]
@@ -117,13 +133,13 @@ def _on_quads(probes: np.ndarray, corners: np.ndarray) -> np.ndarray:
     return _nearest_of(probes, np.stack(ways))
 
 
-def _nearest_of(probes: np.ndarray, ways: np.ndarray) -> np.ndarray:
+def _nearest_of(probes: Array, ways: Array) -> Array:
     """(n, 3): of places (ways, n, 3) the nearest to each probe."""
     squares = np.sum((ways - probes) ** 2, axis=2)
     return np.asarray(ways[np.argmin(squares, axis=0), np.arange(len(probes))])
 
 
-def _on_planes(probes: np.ndarray, a: np.ndarray, b: np.ndarray, c: np.ndarray) -> np.ndarray:
+def _on_planes(probes: Array, a: Array, b: Array, c: Array) -> Array:
     """(n, 3): the foot of each probe on the plane of the triangle beside it, or infinity where that lies outside."""
     normal = np.cross(b - a, c - a)
     square = _dot(normal, normal)
@@ -134,12 +150,12 @@ def _on_planes(probes: np.ndarray, a: np.ndarray, b: np.ndarray, c: np.ndarray) 
     return np.where(inside[:, None], probes - height[:, None] * normal, np.inf)
 
 
-def _on_segments(probes: np.ndarray, start: np.ndarray, end: np.ndarray) -> np.ndarray:
+def _on_segments(probes: Array, start: Array, end: Array) -> Array:
     along = end - start
     square = _dot(along, along)
     part = np.clip(_dot(probes - start, along) / np.where(square > 0, square, 1.0), 0, 1)
     return np.asarray(start + part[:, None] * along)
 
 
-def _dot(one: np.ndarray, other: np.ndarray) -> np.ndarray:
+def _dot(one: Array, other: Array) -> Array:
     return np.asarray(np.einsum("ni,ni->n", one, other))

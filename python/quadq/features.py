@@ -12,6 +12,7 @@ from typing import Collection, Optional
 
 import numpy as np
 
+from .arrays import Array
 from .carried import carried
 from .mesh import NONE, Edges, Layer, Mesh
 from .surface import twins_of
@@ -42,9 +43,9 @@ TINY = 1e-290
 class Marks:
     """Marked edges of a mesh."""
 
-    edges: np.ndarray
+    edges: Array
     """(marks, 2) int64: as pairs of points in rising order, the least first."""
-    reasons: np.ndarray
+    reasons: Array
     """(marks,) int64: the place of each one's reason in `REASONS`."""
 
     def in_words(self) -> str:
@@ -108,14 +109,14 @@ class _Marking:
         self.one, self.other = self.edges.rising[self.inner], self.edges.falling[self.inner]
         """The two darts of each inner edge. The script comes to an edge with the first of them."""
 
-    def mark(self, edges: np.ndarray, ranks: np.ndarray, reason: int) -> None:
+    def mark(self, edges: Array, ranks: Array, reason: int) -> None:
         """Marks those of some edges that are not marked. Of the ranks of an edge that is there twice the first counts.
         """
         fresh = self.reason[edges] == NONE
         self.rank[edges[fresh][::-1]] = ranks[fresh][::-1]
         self.reason[edges[fresh]] = reason
 
-    def mark_inner(self, chosen: np.ndarray, reason: int) -> None:
+    def mark_inner(self, chosen: Array, reason: int) -> None:
         """Marks the inner edges that are chosen (inner,)."""
         self.mark(self.inner[chosen], self.one[chosen], reason)
 
@@ -142,7 +143,7 @@ class _Marking:
         both = is_flat[self.face[self.one]] & is_flat[self.face[self.other]]
         self.mark_inner(self._values_differ(normal) & ~both, NORMALS)
 
-    def _values_differ(self, layer: Layer) -> np.ndarray:
+    def _values_differ(self, layer: Layer) -> Array:
         """(inner,) bool: whether the faces of each edge name other values at one of its ends."""
         at_start = _name_others(layer, self.one, self.after[self.other])
         return at_start | _name_others(layer, self.after[self.one], self.other)
@@ -181,7 +182,7 @@ class _Marking:
                 marked[beside] = True
         self.reason[marked & (self.reason == NONE)] = TURNS
 
-    def _line_darts(self) -> np.ndarray:
+    def _line_darts(self) -> Array:
         """(n, 1): for each vertex with four faces at which there are marked edges, in order, the dart from it along
         the one that was marked last."""
         marked = np.flatnonzero(self.reason != NONE)
@@ -194,13 +195,13 @@ class _Marking:
         rises = self.edges.ends[edges, 0] == vertices
         return np.where(rises, self.edges.rising[edges], self.edges.falling[edges])[:, None]
 
-    def _turn_by(self, first: np.ndarray, middle: np.ndarray, last: np.ndarray, angle: float) -> np.ndarray:
+    def _turn_by(self, first: Array, middle: Array, last: Array, angle: float) -> Array:
         """(n,) bool: whether the way over the points of three corners turns by more than an angle."""
         a, b, c = (self.mesh.points[self.mesh.corners[it]] for it in (first, middle, last))
         return _differ_by(b - a, c - b, angle)
 
 
-def _facing(mesh: Mesh) -> np.ndarray:
+def _facing(mesh: Mesh) -> Array:
     """(faces, 3): the cross product of the diagonals of each face, as far as its first four corners go."""
     at = mesh.starts[:-1, None] + np.arange(4) % np.maximum(mesh.sides, 1)[:, None]
     a, b, c, d = mesh.points[mesh.corners[at]].transpose(1, 0, 2)
@@ -208,12 +209,12 @@ def _facing(mesh: Mesh) -> np.ndarray:
         return np.stack(_cross(c - a, d - b), axis=1)
 
 
-def _cross(one: np.ndarray, other: np.ndarray) -> tuple[np.ndarray, np.ndarray, np.ndarray]:
+def _cross(one: Array, other: Array) -> tuple[Array, Array, Array]:
     (ax, ay, az), (bx, by, bz) = one.T, other.T
     return ay * bz - az * by, az * bx - ax * bz, ax * by - ay * bx
 
 
-def _differ_by(one: np.ndarray, other: np.ndarray, angle: float) -> np.ndarray:
+def _differ_by(one: Array, other: Array, angle: float) -> Array:
     """(n,) bool: whether directions (n, 3) differ by more than an angle in degrees."""
     with np.errstate(all="ignore"):
         x, y, z = _cross(one, other)
@@ -227,19 +228,19 @@ def _differ_by(one: np.ndarray, other: np.ndarray, angle: float) -> np.ndarray:
     angle_between = carried("mark_features").angle_between
     for at in np.flatnonzero(~is_sure).tolist():
         differ[at] = angle_between(one[at].tolist(), other[at].tolist()) > angle
-    return differ
+    return np.asarray(differ)
 
 
-def _name_others(layer: Layer, some: np.ndarray, others: np.ndarray) -> np.ndarray:
+def _name_others(layer: Layer, some: Array, others: Array) -> Array:
     """(n,) bool: whether these corners name other values than those."""
     rows, beside = layer.rows[some], layer.rows[others]
     differ = rows != beside
     both = np.flatnonzero(differ & (rows != NONE) & (beside != NONE))
     differ[both] = np.any(layer.values[rows[both]] != layer.values[beside[both]], axis=1)
-    return differ
+    return np.asarray(differ)
 
 
-def edges_in(lines: tuple[np.ndarray, ...]) -> np.ndarray:
+def edges_in(lines: tuple[Array, ...]) -> Array:
     """(edges, 2) int64: the edges of `l` lines, as pairs of points in rising order."""
     pairs = [np.column_stack([line[:-1], line[1:]]) for line in lines]
     return np.sort(np.concatenate([np.zeros((0, 2), dtype=np.int64), *pairs]), axis=1)

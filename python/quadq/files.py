@@ -1,66 +1,199 @@
-"""Meshes from files, and into files that are whole or not there."""
+"""Files, read and written as wholes.
+
+A file is written under no name first, or under another one where the folder knows no such files, and takes its name
+when it is whole and on the disk: at any moment there is the old file or the new one, and nothing else. Links are
+resolved, and the file that is replaced keeps its mode. What is no regular file, such as a device or a pipe, is written
+through.
+"""
 
 from __future__ import annotations
 
+import errno
 import os
-import tempfile
+import stat
 from pathlib import Path
-from typing import Optional
+from typing import Callable, Optional
 
-import numpy as np
+from .refusal import READ_FAULT, WRITE_FAULT, Refusal
 
-from .mesh import Mesh
-from .obj import FormatError, read_obj
-from .program import Program
-from .refusal import Refusal
-
-NO_OBJ = 3
-"""The program's status for a text that is no OBJ text."""
+STREAMS = ("/dev/fd/", "/proc/")
+"""What lies there is open already, and is written through even where it is a file."""
+HELD = {"/dev/stdout", "/dev/stderr", "/dev/stdin"}
+NO_SUCH_FILES = (errno.EOPNOTSUPP, errno.EISDIR, errno.EINVAL, errno.ENOENT, errno.ENOSYS)
+"""What a folder answers that knows no files without a name."""
 
 
-def read_mesh(path: Path, program: Program) -> tuple[Mesh, Optional[bytes]]:
-    """The mesh of a file, and its text where it is OBJ; other formats are read by meshio, where that is installed.
-
-    A text that is no OBJ is refused in the program's own words.
-    """
-    if path.suffix.lower() != ".obj":
-        return _read_other(path), None
-    text = path.read_bytes()
+def read_whole(path: Path) -> bytes:
+    """What stands in a file. Raises a `Refusal` where it cannot be read."""
     try:
-        return read_obj(text), text
-    except FormatError as error:
-        program.tidy(text)
-        raise Refusal(NO_OBJ, str(error)) from error
+        return path.read_bytes()
+    except OSError as error:
+        raise Refusal(READ_FAULT, f"read fault: {path}: {error.strerror}") from error
 
 
-def _read_other(path: Path) -> Mesh:
+def write_whole(path: Path, data: bytes, is_hasty: bool = False) -> None:
+    """Writes a file so that there is never a part of it; in haste, without waiting for the disk. Raises a `Refusal`
+    where it cannot be written; then all is as it was."""
     try:
-        import meshio
-    except ImportError as error:
-        raise Refusal(NO_OBJ, f"{path.name} is no .obj file; meshio, which reads others, is not installed") from error
-    read = meshio.read(path)
-    points = np.zeros((len(read.points), 3))
-    points[:, :read.points.shape[1]] = read.points
-    quads = [np.asarray(it.data, dtype=np.int64) for it in read.cells if it.type == "quad"]
-    if not quads:
-        raise Refusal(NO_OBJ, f"{path.name} has no quads")
-    return Mesh.of_quads(points, np.concatenate(quads))
+        if is_through(path):
+            _write_through(path, data)
+        else:
+            _replace(Path(os.path.realpath(path)), data, is_hasty)
+    except OSError as error:
+        raise Refusal(WRITE_FAULT, f"write fault: {path}: {error.strerror}") from error
 
 
-def write_whole(path: Path, data: bytes) -> None:
-    """Writes a file under another name first, so that there is never a part of it."""
-    with tempfile.NamedTemporaryFile(dir=path.parent, prefix=path.name, delete=False) as file:
+def make_folder(path: Path) -> None:
+    """Makes a folder, with those around it, where it is not there. Raises a `Refusal` where that fails."""
+    try:
+        path.mkdir(parents=True, exist_ok=True)
+    except OSError as error:
+        raise Refusal(WRITE_FAULT, f"write fault: the folder {path}: {error.strerror}") from error
+
+
+def write_within(folder: Path, name: str, data: bytes) -> None:
+    """Writes a file of a folder. A link that has its name is replaced, and not followed."""
+    try:
+        folder.mkdir(parents=True, exist_ok=True)
+        _replace(Path(os.path.realpath(folder)) / name, data)
+    except OSError as error:
+        raise Refusal(WRITE_FAULT, f"write fault: {folder / name}: {error.strerror}") from error
+
+
+def remove_stale(path: Path, source: Optional[Path] = None) -> None:
+    """Removes the file that an earlier run wrote, where this one writes none; but not the source itself, and nothing
+    that is no regular file."""
+    try:
+        if is_through(path) or not path.exists() or (source is not None and is_same(path, source)):
+            return
+        Path(os.path.realpath(path)).unlink()
+    except OSError as error:
+        raise Refusal(WRITE_FAULT, f"write fault: {path} is of an earlier run: {error.strerror}") from error
+
+
+def is_same(one: Path, other: Path) -> bool:
+    """Whether two paths lead to one file."""
+    try:
+        return os.path.samefile(one, other)
+    except OSError:
+        return os.path.realpath(one) == os.path.realpath(other)
+
+
+def is_through(path: Path) -> bool:
+    """Whether a path is written through: it leads to something that is no regular file, or is open already."""
+    text = os.fspath(path)
+    if text in HELD or text.startswith(STREAMS):
+        return True
+    try:
+        return not stat.S_ISREG(os.stat(path).st_mode)
+    except OSError:
+        return False
+
+
+def _write_through(path: Path, data: bytes) -> None:
+    with open(path, "wb", buffering=0) as file:
+        _write_all(file.fileno(), data)
+
+
+def _replace(path: Path, data: bytes, is_hasty: bool = False) -> None:
+    """Replaces a regular file, or a link, that has this name, or makes it."""
+    mode = _mode_of(path)
+    held = os.open(path.parent, os.O_RDONLY | os.O_DIRECTORY)
+    try:
         try:
-            file.write(data)
-            file.close()
-            os.chmod(file.name, 0o666 & ~_umask())
-            os.replace(file.name, path)
-        except BaseException:
-            os.unlink(file.name)
-            raise
+            file = os.open(path.parent, os.O_TMPFILE | os.O_WRONLY, 0o666)
+        except OSError as error:
+            if error.errno not in NO_SUCH_FILES or not path.parent.is_dir():
+                raise
+            _replace_by_name(path, data, mode)
+        else:
+            _fill(file, data, mode, is_hasty, lambda: _give_name(file, path, held))
+        if not is_hasty:
+            os.fsync(held)
+    finally:
+        os.close(held)
 
 
-def _umask() -> int:
-    mask = os.umask(0)
-    os.umask(mask)
-    return mask
+def _mode_of(path: Path) -> Optional[os.stat_result]:
+    try:
+        found = os.lstat(path)
+    except FileNotFoundError:
+        return None
+    return found if stat.S_ISREG(found.st_mode) else None
+
+
+def _fill(
+    file: int, data: bytes, old: Optional[os.stat_result], is_hasty: bool, finish: Callable[[], None]
+) -> None:
+    """Writes all into an open file, with the mode and the owner of the old one, and finishes when it is on the disk, or
+    at once where it is in haste."""
+    try:
+        _write_all(file, data)
+        if old is not None:
+            _keep_owner(file, old)
+            os.fchmod(file, stat.S_IMODE(old.st_mode))
+        if not is_hasty:
+            os.fsync(file)
+        finish()
+    finally:
+        os.close(file)
+
+
+def _keep_owner(file: int, old: os.stat_result) -> None:
+    now = os.fstat(file)
+    if (now.st_uid, now.st_gid) != (old.st_uid, old.st_gid):
+        try:
+            os.fchown(file, old.st_uid, old.st_gid)
+        except PermissionError:
+            pass
+
+
+def _write_all(file: int, data: bytes) -> None:
+    view = memoryview(data)
+    while view:
+        view = view[os.write(file, view):]
+
+
+def _give_name(file: int, path: Path, folder: int) -> None:
+    """Gives a file without a name this one: at once where there is no such file, else by way of another name."""
+    source = f"/proc/self/fd/{file}"
+    try:
+        # Only with a folder does Python follow the link.
+        os.link(source, path, src_dir_fd=folder, follow_symlinks=True)
+    except FileExistsError:
+        other = _other_name(path)
+        _unlink(other)
+        os.link(source, other, src_dir_fd=folder, follow_symlinks=True)
+        _rename(other, path)
+
+
+def _replace_by_name(path: Path, data: bytes, old: Optional[os.stat_result]) -> None:
+    other = _other_name(path)
+    _unlink(other)
+    file = os.open(other, os.O_CREAT | os.O_EXCL | os.O_WRONLY | os.O_NOFOLLOW, 0o666)
+    try:
+        _fill(file, data, old, False, lambda: None)
+    except BaseException:
+        _unlink(other)
+        raise
+    _rename(other, path)
+
+
+def _other_name(path: Path) -> Path:
+    """A name beside a file, of this process alone."""
+    return path.parent / f".quadq-{os.getpid()}-{path.name[:100]}"
+
+
+def _rename(other: Path, path: Path) -> None:
+    try:
+        os.replace(other, path)
+    except BaseException:
+        _unlink(other)
+        raise
+
+
+def _unlink(path: Path) -> None:
+    try:
+        path.unlink()
+    except FileNotFoundError:
+        pass

@@ -7,6 +7,10 @@ from functools import cached_property
 from typing import Optional, Sequence
 
 import numpy as np
+from numpy.typing import ArrayLike
+
+from .arrays import Array
+from .errors import MeshError
 
 NONE = -1
 """Stands in an index for "names nothing"."""
@@ -16,9 +20,9 @@ NONE = -1
 class Layer:
     """Values, and for each corner of the mesh the row that it names, or NONE."""
 
-    values: np.ndarray
+    values: Array
     """(rows, width) float64."""
-    rows: np.ndarray
+    rows: Array
     """(corners,) int64."""
 
 
@@ -27,7 +31,7 @@ class Names:
     """What groups faces: a list of names, and for each face the place of its name there."""
 
     names: tuple[str, ...]
-    of_face: np.ndarray
+    of_face: Array
     """(faces,) int64."""
 
 
@@ -35,18 +39,18 @@ class Names:
 class Edges:
     """The edges of a mesh, each once. A dart is a side of a face: it has the number of the corner where it begins."""
 
-    ends: np.ndarray
+    ends: Array
     """(edges, 2) int64: its points, in rising order; the least edges come first."""
-    of_corner: np.ndarray
+    of_corner: Array
     """(corners,) int64: the edge from each corner to the next."""
-    uses: np.ndarray
+    uses: Array
     """(edges,) int64: how many sides of faces it is; 1 at the boundary."""
-    rising: np.ndarray
+    rising: Array
     """(edges,) int64: the dart from its first point to its second, or NONE. Of several the last."""
-    falling: np.ndarray
+    falling: Array
     """(edges,) int64: the dart back, or NONE."""
 
-    def numbers_of(self, pairs: np.ndarray) -> np.ndarray:
+    def numbers_of(self, pairs: Array) -> Array:
         """(n,) int64: the edges between pairs of points (n, 2) in rising order, or NONE."""
         if not len(self.ends):
             return np.full(len(pairs), NONE)
@@ -64,37 +68,54 @@ class Mesh:
     `starts[f + 1]`.
     """
 
-    points: np.ndarray
+    points: Array
     """(points, 3) float64."""
-    corners: np.ndarray
+    corners: Array
     """(corners,) int64: the point of each corner."""
-    starts: np.ndarray
+    starts: Array
     """(faces + 1,) int64."""
     texture: Optional[Layer] = None
     normal: Optional[Layer] = None
     groups: dict[str, Names] = field(default_factory=dict)
     """By the word of OBJ that names them: usemtl, g, o, s."""
-    extra: Optional[np.ndarray] = None
+    extra: Optional[Array] = None
     """(points, width) float64: further numbers of `v` lines, such as colours."""
-    lines: tuple[np.ndarray, ...] = ()
+    lines: tuple[Array, ...] = ()
     """The points along each `l` line."""
     libraries: tuple[str, ...] = ()
     """The material libraries, as `mtllib` names them."""
     layers: dict[str, Layer] = field(default_factory=dict)
     """Further layers of corners, by name, for which OBJ has no word: other UV maps, colours of corners."""
+    notes: tuple[str, ...] = ()
+    """What was left out when the mesh was read."""
 
     @staticmethod
-    def of_quads(points: np.ndarray, quads: np.ndarray) -> Mesh:
-        """A mesh of points (points, 3) and quads (faces, 4) alone."""
-        flat = np.asarray(quads, dtype=np.int64).reshape(-1)
-        return Mesh(np.asarray(points, dtype=float).reshape(-1, 3), flat, np.arange(0, len(flat) + 1, 4))
+    def of_quads(points: ArrayLike, quads: ArrayLike) -> Mesh:
+        """A mesh of points (points, 3) and quads (faces, 4) alone. Raises a `MeshError` for other arrays."""
+        places, corners = np.asarray(points, dtype=float), np.asarray(quads, dtype=np.int64)
+        if places.ndim < 2 or places.shape[-1] != 3:
+            raise MeshError(f"points have the shape (points, 3), and not {places.shape}")
+        if corners.size and (corners.ndim < 2 or corners.shape[-1] != 4):
+            raise MeshError(f"quads have the shape (faces, 4), and not {corners.shape}")
+        mesh = Mesh(places.reshape(-1, 3), corners.reshape(-1), np.arange(0, corners.size + 1, 4))
+        mesh.refuse_strange()
+        return mesh
+
+    def refuse_strange(self) -> None:
+        """Raises a `MeshError` where a corner names no point, or the faces do not have all corners."""
+        if self.starts[0] != 0 or self.starts[-1] != len(self.corners) or np.any(np.diff(self.starts) < 0):
+            raise MeshError("the starts of faces do not rise from 0 to the number of corners")
+        wrong = np.flatnonzero((self.corners < 0) | (self.corners >= len(self.points)))
+        if len(wrong):
+            face = int(np.searchsorted(self.starts, wrong[0], side="right"))
+            raise MeshError(f"face {face} names the point {self.corners[wrong[0]]} of {len(self.points)}, from 0")
 
     @property
     def face_count(self) -> int:
         return len(self.starts) - 1
 
     @property
-    def sides(self) -> np.ndarray:
+    def sides(self) -> Array:
         """(faces,) int64: how many corners each face has."""
         return np.diff(self.starts)
 
@@ -102,17 +123,22 @@ class Mesh:
         return bool(np.all(self.sides == 4))
 
     @property
-    def quads(self) -> np.ndarray:
+    def quads(self) -> Array:
         """(faces, 4) int64: the points of each face. All faces have to be quads."""
         if not self.is_quads():
             raise ValueError(f"face {int(np.argmax(self.sides != 4)) + 1} is no quad")
         return self.corners.reshape(-1, 4)
 
-    def face_of_corner(self) -> np.ndarray:
+    @cached_property
+    def used(self) -> Array:
+        """The numbers of the points that faces have, in rising order."""
+        return np.flatnonzero(np.bincount(self.corners, minlength=len(self.points)))
+
+    def face_of_corner(self) -> Array:
         """(corners,) int64."""
         return np.repeat(np.arange(self.face_count), self.sides)
 
-    def next_corners(self) -> np.ndarray:
+    def next_corners(self) -> Array:
         """(corners,) int64: the corner after each, around its face."""
         after = np.arange(1, len(self.corners) + 1)
         ends = self.starts[1:][self.sides > 0] - 1
@@ -139,7 +165,7 @@ class Mesh:
         ends = np.column_stack([found // count, found % count])
         return Edges(ends, of_corner, np.diff(np.append(firsts, len(keys))), *sides)
 
-    def faces_of(self, chosen: np.ndarray) -> tuple[Mesh, np.ndarray]:
+    def faces_of(self, chosen: Array) -> tuple[Mesh, Array]:
         """The mesh of the faces with these numbers, in this order, and the numbers of the points that they use."""
         firsts = self.starts[chosen]
         sides = self.starts[chosen + 1] - firsts

@@ -7,6 +7,7 @@ from typing import Optional
 
 import numpy as np
 
+from .arrays import Array
 from .mesh import NONE, Layer, Mesh, Names
 from .refusal import Refusal
 
@@ -15,7 +16,7 @@ NEAR = 1e-6
 """A part of the mesh's size: points so near the plane lie in it."""
 
 
-def half(mesh: Mesh, axis: int) -> tuple[Mesh, np.ndarray, np.ndarray]:
+def half(mesh: Mesh, axis: int) -> tuple[Mesh, Array, Array]:
     """The faces where the coordinate `axis` is above 0, with their numbers and those of their points in the whole mesh.
     Points near the plane are laid into it. Raises a `Refusal` where faces cross the plane or lie in it."""
     reach = np.abs(mesh.points[:, axis]).max(initial=0.0)

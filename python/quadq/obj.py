@@ -1,13 +1,23 @@
-"""Meshes from the text of Wavefront OBJ, and as this text."""
+"""Meshes from the text of Wavefront OBJ.
+
+The rules are those of the script `obj_text.py`. A text of the plainest form, as programs write it, is read here by
+whole tables; any other is left to the script, word by word. `tests/test_obj.py` compares the two, and both with the
+program.
+"""
 
 from __future__ import annotations
 
+import os
 import re
 import warnings
-from typing import Iterator, Optional, Union
+from dataclasses import dataclass, field
+from typing import Any, Optional, Union
 
 import numpy as np
 
+from .arrays import Array
+from .carried import carried
+from .errors import FormatError, MeshError
 from .mesh import NONE, Layer, Mesh, Names
 
 GROUPS = ("usemtl", "g", "o", "s")
@@ -15,145 +25,76 @@ TABLES = ("v", "f", "vt", "vn")
 """The words of lines that are read as whole tables."""
 OTHER, NOTE = len(TABLES), len(TABLES) + 1
 """What else a line may be: one that is read by itself, or one in which nothing stands."""
+WIDTHS = {"v": (3, 4, 6, 7), "vt": (1, 2, 3), "vn": (1, 2, 3)}
+"""How many numbers stand behind a word."""
 NOTES = re.compile(rb"#[^\n]*")
+JOINTS = re.compile(rb"#[^\n]*|\\\n")
 DIGITS = b"0123456789-"
 LAST = 1 << 31
 """Stands behind the corners of each face while they are read: no corner names so many lines."""
-AT_A_TIME = 4096
-"""How many lines are written together."""
+SURE = 999_999_999.0
+"""A coordinate below is in range, however it is rounded."""
 
 
-class FormatError(ValueError):
-    """A text that is no OBJ text."""
+class Unlike(Exception):
+    """A text that is not of the plainest form."""
 
 
 def read_obj(text: Union[str, bytes]) -> Mesh:
-    """The mesh of an OBJ text: v, vt, vn, f, l, usemtl, g, o, s and mtllib lines; others are ignored."""
-    return _Reader().read(text.encode("utf-8", "surrogateescape") if isinstance(text, str) else text).mesh()
+    """The mesh of an OBJ text: v, vt, vn, f, l, usemtl, g, o, s and mtllib lines; others are ignored.
+
+    Raises a `FormatError` with the program's status and words where it refuses the lines, but for faces that are no
+    quads. What the program passes over is never refused: what of it cannot be read is left out, and `notes` says so.
+    """
+    if isinstance(text, str):
+        if "\n" not in text and (text.lower().endswith(".obj") or os.path.isfile(text)):
+            raise MeshError(f"{text!r} is the name of a file, and no text: quadq.read takes names")
+        text = text.encode("utf-8", "surrogateescape")
+    try:
+        return scan(text).mesh()
+    except Unlike:
+        return _word_by_word(text)
 
 
-class _Reader:
-    """What was read so far: the lines of each table as they stand, which are converted together in the end."""
-
-    def __init__(self) -> None:
-        self.blocks: dict[str, list[bytes]] = {word: [] for word in TABLES}
-        """Whole lines, each of which begins with the word and one blank."""
-        self.counts = dict.fromkeys(TABLES, 0)
-        """How many lines these are."""
-        self.relative: list[tuple[int, int, tuple[int, ...]]] = []
-        """Faces of which some name lines by negative numbers: the first of them, the first behind them, and how many v,
-        vt and vn lines stand before them."""
-        self.lines: list[np.ndarray] = []
-        self.libraries: list[str] = []
-        self.names: dict[str, dict[str, int]] = {word: {"": 0} for word in GROUPS}
-        self.switches: dict[str, list[tuple[int, int]]] = {word: [] for word in GROUPS}
-
-    def read(self, text: bytes) -> _Reader:
-        if b"\r\n" in text:
-            text = text.replace(b"\r\n", b"\n")
-        if b"\\\n" in text:
-            text = text.replace(b"\\\n", b" ")
-        if text[-1:] != b"\n":
-            text += b"\n"
-        letters = np.frombuffer(text, dtype=np.uint8)
-        starts = np.concatenate([[0], np.flatnonzero(letters == ord("\n")) + 1])
-        kinds = _kinds_of(letters, starts[:-1])
-        firsts = np.flatnonzero(np.concatenate([[True], kinds[1:] != kinds[:-1]])).tolist()
-        for first, last in zip(firsts, [*firsts[1:], len(kinds)]):
-            if kinds[first] == OTHER:
-                bounds = starts[first:last + 1].tolist()
-                for number, (start, end) in enumerate(zip(bounds, bounds[1:]), first + 1):
-                    self._take(number, text[start:end])
-            elif kinds[first] != NOTE:
-                self._add(TABLES[kinds[first]], text[starts[first]:starts[last]], last - first)
-        return self
-
-    def _add(self, word: str, block: bytes, count: int) -> None:
-        if b"#" in block:
-            block = NOTES.sub(b"", block)
-        if word == "f" and b"-" in block:
-            before = tuple(self.counts[it] for it in ("v", "vt", "vn"))
-            self.relative.append((self.counts["f"], self.counts["f"] + count, before))
-        self.blocks[word].append(block)
-        self.counts[word] += count
-
-    def _take(self, number: int, line: bytes) -> None:
-        words = NOTES.sub(b"", line).decode("utf-8", "surrogateescape").split(None, 1)
-        word, rest = words[0] if words else "", words[1].strip() if len(words) > 1 else ""
-        if word in self.names:
-            place = self.names[word].setdefault(rest, len(self.names[word]))
-            self.switches[word].append((self.counts["f"], place))
-        elif word == "l":
-            self.lines.append(self._line(number, rest))
-        elif word == "mtllib":
-            self.libraries.append(rest)
-        elif word in ("v", "f") and not rest:
-            raise FormatError(f"line {number}: nothing stands behind {word}")
-        elif word in TABLES:
-            self._add(word, f"{word} {rest}\n".encode("utf-8", "surrogateescape"), 1)
-
-    def _line(self, number: int, rest: str) -> np.ndarray:
-        try:
-            indices = [int(it.partition("/")[0]) for it in rest.split()]
-        except ValueError as error:
-            raise FormatError(f"line {number}: {error}") from error
-        return np.array([it - 1 if it > 0 else self.counts["v"] + it for it in indices], dtype=np.int64)
-
-    def mesh(self) -> Mesh:
-        points, textures, normals = (self._table(word) for word in ("v", "vt", "vn"))
-        if len(points) and points.shape[1] < 3:
-            raise FormatError("a v line has less than three numbers")
-        starts, rows = self._corner_table()
-        for column, table, word in zip(rows.T, (points, textures, normals), ("v", "vt", "vn")):
-            least = 0 if word == "v" else NONE
-            if len(column) and (column.max() >= len(table) or column.min() < least):
-                raise FormatError(f"a corner names a {word} line that is not there")
-        return Mesh(
-            points[:, :3].copy() if len(points) else np.zeros((0, 3)),
-            rows[:, 0].copy(),
-            starts,
-            Layer(textures, rows[:, 1].copy()) if len(textures) else None,
-            Layer(normals, rows[:, 2].copy()) if len(normals) else None,
-            self._groups(),
-            points[:, 3:].copy() if points.shape[1] > 3 else None,
-            tuple(self.lines),
-            tuple(self.libraries),
-        )
-
-    def _table(self, word: str) -> np.ndarray:
-        """The numbers of all lines of a word, one row a line."""
-        try:
-            return _number_table(word, b"".join(self.blocks[word]), self.counts[word])
-        except ValueError as error:
-            raise FormatError(f"a {word} line: {error}") from error
-
-    def _corner_table(self) -> tuple[np.ndarray, np.ndarray]:
-        """Where the corners of each face begin, and (corners, 3) what each names: point, texture, normal or NONE."""
-        try:
-            sides, table = _corner_rows(b"".join(self.blocks["f"]), self.counts["f"])
-        except ValueError as error:
-            raise FormatError(f"a corner of a face: {error}") from error
-        starts = np.concatenate([[0], np.cumsum(sides)])
-        for first, last, counts in self.relative:
-            rows = table[starts[first]:starts[last]]
-            rows += (rows < 0) * (np.array(counts) + 1)
-            wrong = starts[first] + np.flatnonzero(np.any(rows < 0, axis=1))
-            if len(wrong):
-                face = int(np.searchsorted(starts, wrong[0], side="right"))
-                raise FormatError(f"face {face} names a line before the first")
-        return starts, table - 1
-
-    def _groups(self) -> dict[str, Names]:
-        groups = {}
-        for word, switches in self.switches.items():
-            if switches:
-                marks = [0, *(first for first, _ in switches), self.counts["f"]]
-                names = np.array([0, *(name for _, name in switches)], dtype=np.int64)
-                groups[word] = Names(tuple(self.names[word]), np.repeat(names, np.diff(marks)))
-        return groups
+def scan(text: bytes) -> Scan:
+    """The lines of a text by their words. Raises `Unlike` where that takes more than a look at them."""
+    tool = carried("obj_text")
+    if len(text) > tool.MAX_BYTES:
+        raise Unlike
+    text = _joined(text)
+    letters = np.frombuffer(text, dtype=np.uint8)
+    starts = np.concatenate([[0], np.flatnonzero(letters == ord("\n")) + 1])
+    if int(np.diff(starts).max(initial=0)) > tool.MAX_LINE + 1:
+        raise Unlike
+    kinds = _kinds_of(letters, starts[:-1])
+    firsts = np.flatnonzero(np.concatenate([[True], kinds[1:] != kinds[:-1]])).tolist()
+    found = Scan()
+    for first, last in zip(firsts, [*firsts[1:], len(kinds)]):
+        if kinds[first] == OTHER:
+            bounds = starts[first:last + 1].tolist()
+            for start, end in zip(bounds, bounds[1:]):
+                found.take(text[start:end - 1], tool)
+        elif kinds[first] != NOTE:
+            found.add(TABLES[kinds[first]], text[starts[first]:starts[last]], last - first)
+    if found.counts["v"] > tool.MAX_VERTICES or found.counts["f"] > tool.MAX_FACES:
+        raise Unlike
+    return found
 
 
-def _kinds_of(letters: np.ndarray, starts: np.ndarray) -> np.ndarray:
+def _joined(text: bytes) -> bytes:
+    """A text of which each line is a logical one, with its comment, and ends."""
+    if b"\r" in text:
+        text = text.replace(b"\r\n", b"\n")
+        text = text[:-1] if text.endswith(b"\r") else text
+    if not text.endswith(b"\n"):
+        text += b"\n"
+    if b"\\\n" in text:
+        text = JOINTS.sub(lambda it: it[0] if it[0] != b"\\\n" else b" ", text)
+        text = text if text.endswith(b"\n") else text + b"\n"
+    return text
+
+
+def _kinds_of(letters: Array, starts: Array) -> Array:
     """(lines,) int8: for lines that begin at these letters the places of their words in `TABLES`, `OTHER` or `NOTE`."""
     one, two, three = (letters[np.minimum(starts + at, len(letters) - 1)] for at in range(3))
     kinds = np.full(len(starts), OTHER, dtype=np.int8)
@@ -164,45 +105,162 @@ def _kinds_of(letters: np.ndarray, starts: np.ndarray) -> np.ndarray:
     return kinds
 
 
-def _number_table(word: str, text: bytes, count: int) -> np.ndarray:
-    """The numbers of so many lines that begin with a word and a blank. Rows that are shorter than the longest are
-    filled with 0."""
-    if not count:
-        return np.zeros((0, 1))
-    head = f"{word} ".encode()
-    width = len(text[len(head):text.index(b"\n")].split())
-    numbers = _numbers(text[len(head):-1].replace(b"\n" + head, b" nan ") + b" nan", DIGITS + b"+.eEna", np.float64)
-    if numbers is not None and len(numbers) == count * (width + 1):
-        table = numbers.reshape(count, width + 1)
-        if np.all(np.isnan(table[:, width])) and not np.any(np.isnan(table[:, :width])):
-            return table[:, :width]
-    words = [line.split()[1:] for line in text.decode("utf-8", "surrogateescape").split("\n")[:-1]]
-    width = max(map(len, words))
-    return np.array([it + ["0"] * (width - len(it)) for it in words], dtype=float)
+@dataclass
+class Scan:
+    """The lines of a text: those of each table as they stand, which are converted together."""
+
+    blocks: dict[str, list[bytes]] = field(default_factory=lambda: {word: [] for word in TABLES})
+    """Whole lines, each of which begins with the word and one blank."""
+    counts: dict[str, int] = field(default_factory=lambda: dict.fromkeys(TABLES, 0))
+    """How many lines these are."""
+    relative: list[tuple[int, int, tuple[int, ...]]] = field(default_factory=list)
+    """Faces of which some name lines by negative numbers: the first of them, the first behind them, and how many v, vt
+    and vn lines stand before them."""
+    lines: list[list[int]] = field(default_factory=list)
+    wrong_lines: int = 0
+    libraries: list[str] = field(default_factory=list)
+    names: dict[str, dict[str, int]] = field(default_factory=lambda: {word: {"": 0} for word in GROUPS})
+    switches: dict[str, list[tuple[int, int]]] = field(default_factory=lambda: {word: [] for word in GROUPS})
+
+    def add(self, word: str, block: bytes, count: int) -> None:
+        if b"#" in block:
+            block = NOTES.sub(b"", block)
+        if word == "f" and b"-" in block:
+            before = tuple(self.counts[it] for it in ("v", "vt", "vn"))
+            self.relative.append((self.counts["f"], self.counts["f"] + count, before))
+        self.blocks[word].append(block)
+        self.counts[word] += count
+
+    def take(self, line: bytes, tool: Any) -> None:
+        words = tool.WORDS.findall(line.partition(b"#")[0])
+        kind = words[0].decode("latin-1") if words else ""
+        if kind in self.names:
+            place = self.names[kind].setdefault(tool.name_in(line), len(self.names[kind]))
+            self.switches[kind].append((self.counts["f"], place))
+        elif kind == "l":
+            self._take_line(words[1:], tool)
+        elif kind == "mtllib":
+            self.libraries.append(tool.name_in(line))
+        elif kind in TABLES:
+            self.add(kind, b" ".join(words) + b"\n", 1)
+
+    def _take_line(self, words: list[bytes], tool: Any) -> None:
+        found = [tool.LINE_CORNER.fullmatch(it) for it in words]
+        places = [tool.place_of(tool.whole_number(it[1]), self.counts["v"]) for it in found if it is not None]
+        run = [it for it in places if it is not None and it >= 0]
+        if len(run) < max(len(words), 2):
+            self.wrong_lines += 1
+        else:
+            self.lines.append(run)
+
+    @property
+    def is_plain(self) -> bool:
+        """Whether nothing but places and faces stands in the text."""
+        told = self.counts["vt"] or self.counts["vn"] or self.libraries or self.lines or self.wrong_lines
+        if told or any(self.switches.values()) or any(b"/" in it for it in self.blocks["f"]):
+            return False
+        return sum(it.count(b" ") + it.count(b"\t") for it in self.blocks["v"]) == 3 * self.counts["v"]
+
+    def mesh(self) -> Mesh:
+        """Raises `Unlike` where some line is not of the plainest form."""
+        points, textures, normals = (self._table(word) for word in ("v", "vt", "vn"))
+        if not np.all(np.abs(points[:, :3]) < SURE):
+            raise Unlike
+        starts, rows = self._corner_table()
+        if len(rows) and (rows[:, 0].min() < 0 or rows[:, 0].max() >= self.counts["v"]):
+            raise Unlike
+        missing = [_drop_missing(rows[:, 1 + at], len(it)) for at, it in enumerate((textures, normals))]
+        lines = [it for it in self.lines if max(it) < len(points)]
+        wrong = self.wrong_lines + len(self.lines) - len(lines)
+        return Mesh(
+            points[:, :3].copy() if len(points) else np.zeros((0, 3)),
+            rows[:, 0].copy(),
+            starts,
+            Layer(textures, rows[:, 1].copy()) if len(textures) else None,
+            Layer(normals, rows[:, 2].copy()) if len(normals) else None,
+            self.groups(),
+            points[:, 3:].copy() if points.shape[1] > 3 else None,
+            tuple(np.array(it, dtype=np.int64) for it in lines),
+            tuple(self.libraries),
+            notes=tuple(carried("obj_text").notes_of(*missing, wrong)),
+        )
+
+    def _table(self, word: str) -> Array:
+        """The numbers of all lines of a word, one row a line."""
+        count = self.counts[word]
+        if not count:
+            return np.zeros((0, 3))
+        text, head = b"".join(self.blocks[word]), f"{word} ".encode()
+        width = len(text[len(head):text.index(b"\n")].split())
+        if width not in WIDTHS[word]:
+            raise Unlike
+        table = numbers_of(text[len(head):-1].replace(b"\n" + head, b" nan ") + b" nan", b"0123456789-+.eEna")
+        if len(table) != count * (width + 1):
+            raise Unlike
+        table = table.reshape(count, width + 1)
+        if not np.all(np.isnan(table[:, width])) or not np.all(np.isfinite(table[:, :width])):
+            raise Unlike
+        return table[:, :width]
+
+    def _corner_table(self) -> tuple[Array, Array]:
+        """Where the corners of each face begin, and (corners, 3) what each names: point, texture, normal, or below 0.
+        """
+        sides, table = corner_rows(b"".join(self.blocks["f"]), self.counts["f"])
+        starts = np.concatenate([[0], np.cumsum(sides)])
+        for first, last, counts in self.relative:
+            rows = table[starts[first]:starts[last]]
+            rows += (rows < 0) * (np.array(counts) + 1)
+            # An index that reaches back before the first line is none of those that stand for nothing.
+            if np.any(rows[:, 0] <= 0) or np.any(rows[:, 1:] < 0):
+                raise Unlike
+        return starts, table - 1
+
+    def groups(self) -> dict[str, Names]:
+        groups = {}
+        for word, switches in self.switches.items():
+            if switches:
+                marks = [0, *(first for first, _ in switches), self.counts["f"]]
+                names = np.array([0, *(name for _, name in switches)], dtype=np.int64)
+                groups[word] = Names(tuple(self.names[word]), np.repeat(names, np.diff(marks)))
+        return groups
 
 
-def _corner_rows(text: bytes, count: int) -> tuple[np.ndarray, np.ndarray]:
+def _drop_missing(rows: Array, count: int) -> int:
+    """Makes rows (corners,) that name no value name none, and returns how many these were."""
+    beyond = rows >= count
+    rows[beyond] = NONE
+    return int(np.sum(beyond))
+
+
+def corner_rows(text: bytes, count: int) -> tuple[Array, Array]:
     """How many corners each of so many lines `f ..` has, and (corners, 3) the indices as they stand in the text, 0
-    where there is none."""
+    where there is none. Raises `Unlike` where faces have less than three corners, or corners are not all alike."""
     if not count:
         return np.zeros(0, dtype=np.int64), np.zeros((0, 3), dtype=np.int64)
     text = text.replace(b" \n", b"\n")
     plain = text[2:-1].replace(b"\nf ", b" %d " % LAST) + b" %d " % LAST
-    width = text.split(None, 2)[1].count(b"/") + 1 if b"/" in plain else 1
-    numbers = _numbers(
+    has_slashes = b"/" in plain
+    width = text.split(None, 2)[1].count(b"/") + 1 if has_slashes else 1
+    if has_slashes and (b"/0" in plain or b"/-" in plain and b"/-0" in plain):
+        raise Unlike
+    numbers = numbers_of(
         plain.replace(b"//", b"/0/").replace(b"/ ", b"/0 ").replace(b"/", b" ") if width > 1 else plain,
         DIGITS, np.int64)
-    if numbers is not None:
-        ends = np.flatnonzero(numbers == LAST)
-        counts = np.diff(np.concatenate([[-1], ends])) - 1
-        if len(ends) == count and np.all(counts % width == 0) and _are_alike(plain, counts // width, width):
-            rows = np.zeros((int(counts.sum()) // width, 3), dtype=np.int64)
-            rows[:, :width] = numbers[numbers != LAST].reshape(-1, width)
-            return counts // width, rows
-    return _mixed_corner_rows(text)
+    ends = np.flatnonzero(numbers == LAST)
+    counts = np.diff(np.concatenate([[-1], ends])) - 1
+    if len(ends) != count or np.any(np.abs(numbers) > LAST) or np.any(counts % width != 0):
+        raise Unlike
+    sides = counts // width
+    if np.any(sides < 3) or not _are_alike(plain, sides, width):
+        raise Unlike
+    rows = np.zeros((int(counts.sum()) // width, 3), dtype=np.int64)
+    rows[:, :width] = numbers[numbers != LAST].reshape(-1, width)
+    if np.any(rows[:, 0] == 0):
+        raise Unlike
+    return sides, rows
 
 
-def _are_alike(plain: bytes, sides: np.ndarray, width: int) -> bool:
+def _are_alike(plain: bytes, sides: Array, width: int) -> bool:
     """Whether each corner of faces with so many sides has as many numbers: where no digits stand, slashes and blanks
     are then left as they should."""
     if width == 1:
@@ -213,103 +271,55 @@ def _are_alike(plain: bytes, sides: np.ndarray, width: int) -> bool:
     return plain.translate(None, DIGITS) == b"".join([told[side] for side in sides.tolist()])
 
 
-def _mixed_corner_rows(text: bytes) -> tuple[np.ndarray, np.ndarray]:
-    """The same for lines whose corners differ in what they name, word by word."""
-    words = [line.split()[1:] for line in text.decode("utf-8", "surrogateescape").split("\n")[:-1]]
-    rows = [[int(it or 0) for it in (word.split("/") + ["", ""])[:3]] for line in words for word in line]
-    return np.array([len(line) for line in words], dtype=np.int64), np.array(rows, dtype=np.int64).reshape(-1, 3)
-
-
-def _numbers(text: bytes, letters: bytes, kind: type) -> Optional[np.ndarray]:
-    """All numbers of a text, or None where it has other letters than these, or a word that is not one number."""
-    if text.translate(None, letters + b" \t\r\n"):
-        return None
+def numbers_of(text: bytes, letters: bytes, kind: type = np.float64) -> Array:
+    """All numbers of a text. Raises `Unlike` where it has other letters than these, or a word that is not one number,
+    or is longer than a decimal may be."""
+    if text.translate(None, letters + b" \t\n"):
+        raise Unlike
     with warnings.catch_warnings():
         warnings.simplefilter("ignore", DeprecationWarning)
-        numbers = np.fromstring(text, dtype=kind, sep=" ")
-    is_blank = np.frombuffer(text, dtype=np.uint8) <= ord(" ")
-    words = np.count_nonzero(is_blank[:-1] & ~is_blank[1:]) + int(not is_blank[0])
-    return numbers if len(numbers) == words else None
+        numbers: Array = np.fromstring(text, dtype=kind, sep=" ")
+    blanks = np.flatnonzero(np.frombuffer(text, dtype=np.uint8) <= ord(" "))
+    gaps = np.diff(np.concatenate([[-1], blanks, [len(text)]]))
+    if len(numbers) != int(np.sum(gaps > 1)) or int(gaps.max()) > carried("obj_text").MAX_WORD + 1:
+        raise Unlike
+    return np.asarray(numbers)
 
 
-def write_obj(mesh: Mesh) -> str:
-    """The mesh as OBJ text, in the order of its points and faces. What OBJ has no word for is left out."""
-    pieces = [f"mtllib {it}\n" for it in mesh.libraries]
-    pieces.append(number_lines("v", mesh.points if mesh.extra is None else np.hstack([mesh.points, mesh.extra])))
-    if mesh.texture is not None:
-        pieces.append(number_lines("vt", mesh.texture.values))
-    if mesh.normal is not None:
-        pieces.append(number_lines("vn", mesh.normal.values))
-    pieces += _face_lines(mesh)
-    pieces += ["l " + " ".join(map(str, (line + 1).tolist())) + "\n" for line in mesh.lines]
-    return "".join(pieces)
+def _word_by_word(text: bytes) -> Mesh:
+    tool = carried("obj_text")
+    try:
+        obj = tool.read_obj(text, polygons=True)
+    except tool.ObjError as error:
+        raise FormatError(error.status, error.line) from error
+    corners = [it for face in obj.faces for it in face]
+    table = np.array([[NONE if it is None else it for it in corner] for corner in corners], dtype=np.int64)
+    table = table.reshape(-1, 3)
+    columns = list(zip(*obj.names)) if obj.names else [()] * len(tool.NAMES)
+    width = max([3, *map(len, obj.points)])
+    points = np.array([[*map(float, it), *[0.0] * (width - len(it))] for it in obj.points]).reshape(-1, width)
+    return Mesh(
+        points[:, :3].copy(),
+        table[:, 0].copy(),
+        np.concatenate([[0], np.cumsum([len(it) for it in obj.faces], dtype=np.int64)]),
+        _layer(obj.textures, table[:, 1]),
+        _layer(obj.normals, table[:, 2]),
+        {word: _names(column) for word, column in zip(tool.NAMES, columns) if any(column)},
+        np.nan_to_num(points[:, 3:]) if width > 3 else None,
+        tuple(np.array(it, dtype=np.int64) for it in obj.lines),
+        tuple(obj.libraries),
+        notes=tuple(obj.notes),
+    )
 
 
-def plain_text(mesh: Mesh) -> bytes:
-    """The points and faces alone, as the program reads them."""
-    return write_obj(Mesh(mesh.points, mesh.corners, mesh.starts)).encode()
+def _layer(values: list[tuple[float, ...]], rows: Array) -> Optional[Layer]:
+    width = max(map(len, values), default=0)
+    if not values:
+        return None
+    return Layer(np.array([[*it, *[0.0] * (width - len(it))] for it in values]), rows.copy())
 
 
-def number_lines(word: str, table: np.ndarray) -> str:
-    """A line for each row of a table: the shortest decimals that are its numbers, without a point where they are
-    whole."""
-    if table.dtype.kind == "i":
-        return "".join(_lines_of(word + " %d" * table.shape[1], table))
-    lines = _lines_of(word + " %r" * table.shape[1], table)
-    return "".join(it.replace(".0 ", " ").replace(".0\n", "\n") for it in lines)
-
-
-def _lines_of(form: str, table: np.ndarray) -> Iterator[str]:
-    """The rows of a table in such a form, some lines at a time."""
-    for first in range(0, len(table), AT_A_TIME):
-        some = table[first:first + AT_A_TIME]
-        yield f"{form}\n" * len(some) % tuple(some.ravel().tolist())
-
-
-def _face_lines(mesh: Mesh) -> Iterator[str]:
-    """The faces, and before those where a name changes what they belong to."""
-    changes = np.zeros(max(mesh.face_count - 1, 0), dtype=bool)
-    for it in mesh.groups.values():
-        changes |= it.of_face[1:] != it.of_face[:-1]
-    firsts = [0, *(np.flatnonzero(changes) + 1).tolist()] if mesh.face_count else []
-    now: dict[str, str] = {}
-    table, form = _even_faces(mesh)
-    words = [] if form else _corner_words(mesh)
-    starts = mesh.starts.tolist()
-    for first, last in zip(firsts, [*firsts[1:], mesh.face_count]):
-        for word, it in mesh.groups.items():
-            name = it.names[it.of_face[first]]
-            if now.get(word, "") != name:
-                now[word] = name
-                yield f"{word} {name}".rstrip() + "\n"
-        if form:
-            yield from _lines_of(form, table[first:last])
-        else:
-            yield from ("f " + " ".join(words[starts[it]:starts[it + 1]]) + "\n" for it in range(first, last))
-
-
-def _even_faces(mesh: Mesh) -> tuple[np.ndarray, str]:
-    """The numbers of each face in a row, and the form of its line; an empty form where faces differ in what they have.
-    """
-    given = [it for it in (mesh.texture, mesh.normal) if it is not None]
-    if not mesh.face_count or not mesh.is_quads() or any(np.any(it.rows == NONE) for it in given):
-        return np.zeros((0, 0), dtype=np.int64), ""
-    corner = " %d" + ("" if mesh.texture is None else "/%d")
-    if mesh.normal is not None:
-        corner += "//%d" if mesh.texture is None else "/%d"
-    table = np.column_stack([mesh.corners, *(it.rows for it in given)]) + 1
-    return table.reshape(mesh.face_count, -1), "f" + corner * 4
-
-
-def _corner_words(mesh: Mesh) -> list[str]:
-    points = (mesh.corners + 1).tolist()
-    if mesh.texture is None and mesh.normal is None:
-        return list(map(str, points))
-    blank = [""] * len(points)
-    texture = blank if mesh.texture is None else _index_words(mesh.texture.rows)
-    normal = blank if mesh.normal is None else _index_words(mesh.normal.rows)
-    return [f"{p}/{t}/{n}".rstrip("/") for p, t, n in zip(points, texture, normal)]
-
-
-def _index_words(rows: np.ndarray) -> list[str]:
-    return ["" if it == NONE else str(it + 1) for it in rows.tolist()]
+def _names(column: tuple[str, ...]) -> Names:
+    place: dict[str, int] = {"": 0}
+    of_face = [place.setdefault(it, len(place)) for it in column]
+    return Names(tuple(place), np.array(of_face, dtype=np.int64))

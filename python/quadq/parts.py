@@ -6,40 +6,95 @@ import re
 from concurrent.futures import ThreadPoolExecutor
 from dataclasses import dataclass, field, replace
 from pathlib import Path
-from typing import Callable, Optional
+from typing import Callable, Optional, Sequence, TypeVar
 
 import numpy as np
 
+from .arrays import Array
+from .files import write_within
 from .mesh import Mesh, Names, join
-from .obj import number_lines, plain_text, read_obj
-from .program import Program, Verdict, Wish
-from .refusal import Refusal
-from .surface import part_of_face
+from .obj_writing import number_lines, plain_text
+from .program import AUTO, DOUBLED, RAISED, Program, Verdict, Wish
+from .plain import written_mesh
+from .refusal import STRANGE, Refusal
+from .running import stop_all
+from .surface import number_in_order, part_of_face
 
 Tell = Callable[[int], None]
 """Is told how many parts are done."""
 NO_MARKS = np.zeros((0, 2), dtype=np.int64)
 HEAD = re.compile(rb"#quadq 1 (?:(\w+) scale \S+|size edge \S+) floor (\S+)")
 """The head line of a text that the program wrote, with its command, if that is not `size`, and its floor."""
+LINE = re.compile(r"line (\d+): (.*)")
+KEPT = re.compile(r"part-(\d+)(?:\.remeshed)?\.obj")
+FEW, SMALL, TOGETHER = 16, 1_000, 20_000
+"""Where there are more than a few parts of no more than so many faces, they go through the program together, so many
+faces at a time."""
+DIVIDES = (5, 6, 7, 9, 10, 11, 14, 16, 17)
+"""The statuses by which a mesh of several parts is refused though each of some may not be."""
+Made = TypeVar("Made")
+
+
+class Placed(Refusal):
+    """A refusal that has the places of the whole mesh already."""
 
 
 @dataclass(frozen=True)
 class Part:
-    """A connected part of a mesh."""
+    """A connected part of a mesh, or many small ones, one behind the other, that go through the program together."""
 
     mesh: Mesh
     text: bytes
     """Its points and faces, and a line for each mark, as the program reads them."""
-    faces: np.ndarray
+    faces: Array
     """The numbers of its faces in the whole mesh."""
-    points: np.ndarray
+    points: Array
     """The numbers of its points there."""
-    marks: np.ndarray = field(default_factory=lambda: NO_MARKS)
+    marks: Array = field(default_factory=lambda: NO_MARKS)
     """(marks, 2) int64: the edges that are to stay, as pairs of its own points."""
+    count: int = 1
+    """How many connected parts it has."""
 
     def refusal(self, said: Refusal) -> Refusal:
         """What the program said of this part, with the places of the whole mesh."""
-        return Refusal.told(said.status, said.line, lambda it: int(self.faces[it]), lambda it: int(self.points[it]))
+        told = LINE.fullmatch(said.line)
+        if told is None:
+            return Refusal.told(
+                said.status, said.line, lambda it: int(self.faces[it]), lambda it: int(self.points[it]))
+        at = int(told[1]) - 1
+        if at < len(self.points):
+            vertex = int(self.points[at])
+            return Refusal(said.status, f"vertex {vertex + 1}: {told[2]}", (), [vertex])
+        face = int(self.faces[min(at - len(self.points), len(self.faces) - 1)])
+        return Refusal(said.status, f"face {face + 1}: {told[2]}", [face])
+
+    def some(self, chosen: Array) -> Part:
+        """Those of its connected parts that are chosen, as a table (parts,) bool says."""
+        faces = np.flatnonzero(chosen[part_of_face(self.mesh)])
+        one, points = self.mesh.faces_of(faces)
+        at = np.minimum(np.searchsorted(points, self.marks), len(points) - 1)
+        marks = at[np.all(points[at] == self.marks, axis=1)]
+        return Part(one, _with_lines(plain_text(one), marks), self.faces[faces], self.points[points], marks,
+                    int(chosen.sum()))
+
+    def kinds(self, is_measured: bool) -> Array:
+        """(parts,) int64: which of its connected parts are alike, and have alike lengths: they hang together in the
+        same way, and where lengths are measured they have the same shape."""
+        part_of = part_of_face(self.mesh)
+        of_point = np.zeros(len(self.mesh.points), dtype=np.int64)
+        of_point[self.mesh.corners] = np.repeat(part_of, self.mesh.sides)
+        order = np.argsort(of_point, kind="stable")
+        firsts = np.searchsorted(of_point[order], np.arange(self.count))
+        rank = np.empty(len(order), dtype=np.int64)
+        rank[order] = np.arange(len(order)) - firsts[of_point[order]]
+        shapes = (self.mesh.points - self.mesh.points[order[firsts]][of_point])[order]
+        ends = np.searchsorted(part_of, np.arange(self.count + 1))
+        pieces = np.split(rank[self.mesh.corners], self.mesh.starts[ends[1:-1]])
+        marks = _by_part(of_point[self.marks[:, 0]], rank[self.marks], self.count)
+        place: dict[tuple[bytes, bytes, bytes], int] = {}
+        looks = np.split(shapes, firsts[1:]) if is_measured else [firsts[:0]] * self.count
+        keys = zip((it.tobytes() for it in pieces), (it.tobytes() for it in marks), (it.tobytes() for it in looks))
+        return np.array([place.setdefault(it, len(place)) for it in keys], dtype=np.int64)
 
 
 @dataclass(frozen=True)
@@ -48,7 +103,7 @@ class Written:
 
     text: bytes
     verdict: Verdict
-    lengths: np.ndarray
+    lengths: Array
     """(arcs,) int64: the new length of each arc."""
     floor: int
     """The least length that these arcs could have: with the floor `auto`, the one that it chose."""
@@ -56,43 +111,66 @@ class Written:
 
     def mesh(self) -> Mesh:
         """What is written."""
-        return read_obj(self.text)
+        return written_mesh(self.text)
 
     @property
     def arcs_at_floor(self) -> int:
         return int(np.sum(self.lengths == self.floor))
 
 
-def split(mesh: Mesh, text: Optional[bytes] = None, marks: np.ndarray = NO_MARKS) -> list[Part]:
-    """The connected parts of a mesh, in the order of their first faces. `text` has the mesh's points and faces, if it
-    is at hand: where there is one part alone, that text is its. `marks` (marks, 2) are edges that are to stay, as pairs
-    of points in rising order; with them the text has no `l` lines."""
+def split(mesh: Mesh, text: Optional[bytes] = None, marks: Array = NO_MARKS) -> list[Part]:
+    """The connected parts of a mesh, in the order of their first faces; where there are many, small ones stand together
+    in the place of the first. `text` has the mesh's points and faces, if it is at hand: where there is one part alone,
+    that text is its. `marks` (marks, 2) are edges that are to stay, as pairs of points in rising order; with them the
+    text has no `l` lines."""
     part_of = part_of_face(mesh)
-    count = int(part_of.max(initial=-1)) + 1
-    if count == 1:
+    sizes = np.bincount(part_of)
+    if len(sizes) == 1:
         whole = plain_text(mesh) if text is None else text
         every = np.arange(mesh.face_count), np.arange(len(mesh.points))
         return [Part(mesh, _with_lines(whole, marks), *every, marks)]
+    bundle_of = _bundles(sizes)
+    count = int(bundle_of.max(initial=-1)) + 1
     of_point = np.zeros(len(mesh.points), dtype=np.int64)
     of_point[mesh.corners] = np.repeat(part_of, mesh.sides)
+    in_order = np.argsort(part_of, kind="stable")
     parts = []
-    for faces, own in zip(_by_part(part_of, np.arange(mesh.face_count), count),
-                          _by_part(of_point[marks[:, 0]], marks, count)):
+    for faces, own, many in zip(_by_part(bundle_of[part_of[in_order]], in_order, count),
+                                _by_part(bundle_of[of_point[marks[:, 0]]], marks, count), np.bincount(bundle_of)):
         one, points = mesh.faces_of(faces)
         own = np.searchsorted(points, own)
-        parts.append(Part(one, _with_lines(plain_text(one), own), faces, points, own))
+        parts.append(Part(one, _with_lines(plain_text(one), own), faces, points, own, int(many)))
     return parts
 
 
-def _by_part(part_of: np.ndarray, values: np.ndarray, count: int) -> list[np.ndarray]:
+def _bundles(sizes: Array) -> Array:
+    """(parts,) int64: which of parts of so many faces go through the program together, counted from 0."""
+    names = np.arange(len(sizes))
+    small = sizes <= SMALL
+    if np.sum(small) > FEW:
+        before = np.cumsum(np.where(small, sizes, 0)) - np.where(small, sizes, 0)
+        _, first, of_part = np.unique(before[small] // TOGETHER, return_index=True, return_inverse=True)
+        names[small] = np.flatnonzero(small)[first][of_part]
+    return number_in_order(names)
+
+
+def _by_part(part_of: Array, values: Array, count: int) -> list[Array]:
     """The values (n, ..) of things that lie in parts (n,), for each of so many parts."""
     ends = np.cumsum(np.bincount(part_of, minlength=count))
     return np.split(values[np.argsort(part_of, kind="stable")], ends[:-1]) if count else []
 
 
-def _with_lines(text: bytes, marks: np.ndarray) -> bytes:
+def _with_lines(text: bytes, marks: Array) -> bytes:
     """A text with a line for each mark behind it, which continues no line of it."""
     return text + b"\n\n" + number_lines("l", marks + 1).encode() if len(marks) else text
+
+
+def _placed(part: Part, work: Callable[[Part], Made]) -> Made:
+    """What the work makes of a part. A refusal has the places of the whole mesh."""
+    try:
+        return work(part)
+    except Refusal as said:
+        raise said if isinstance(said, Placed) else part.refusal(said) from said
 
 
 class Workshop:
@@ -103,28 +181,59 @@ class Workshop:
         self.jobs = max(1, jobs)
         self.tell = tell
 
-    def each(self, parts: list[Part], work: Callable[[Part], object]) -> list:
+    def each(self, parts: Sequence[Part], work: Callable[[Part], Made]) -> list[Made]:
         """What the work makes of each part, in their order. The first refusal, in this order, goes to the caller."""
-        done = []
+        done: list[Made] = []
         with ThreadPoolExecutor(self.jobs) as pool:
-            waiting = [pool.submit(work, part) for part in parts]
+            waiting = [pool.submit(_placed, part, work) for part in parts]
             try:
-                for part, future in zip(parts, waiting):
-                    try:
-                        done.append(future.result())
-                    except Refusal as said:
-                        raise part.refusal(said) from said
+                for future in waiting:
+                    done.append(future.result())
                     self.tell(len(done))
-            finally:
+            except BaseException as error:
                 for future in waiting:
                     future.cancel()
+                if not isinstance(error, Refusal):
+                    stop_all()
+                raise
         return done
 
-    def remesh(self, parts: list[Part], wish: Wish) -> list[bytes]:
-        """What `remesh` writes for each part. It is not checked yet."""
-        return self.each(parts, lambda part: self.program.remesh(part.text, wish))
+    def remesh(self, parts: Sequence[Part], wish: Wish) -> tuple[list[Part], list[bytes]]:
+        """What the command writes for each part. It is not checked yet. Small parts that do not go together are
+        divided."""
+        made = [it for some in self.each(parts, lambda part: self._made(part, wish)) for it in some]
+        return [part for part, _ in made], [text for _, text in made]
 
-    def judge(self, parts: list[Part], texts: list[bytes], wish: Wish) -> list[Written]:
+    def _made(self, part: Part, wish: Wish) -> list[tuple[Part, bytes]]:
+        if part.count == 1:
+            return [(part, self.program.remesh(part.text, wish))]
+        floors = [1] if wish.floor == AUTO else [int(wish.floor)]
+        kinds: Optional[Array] = None
+        while floors:
+            try:
+                return [(part, self.program.remesh(part.text, wish.at_floor(floors.pop(0))))]
+            except Refusal as said:
+                if said.status not in DIVIDES:
+                    raise
+                kinds = part.kinds(wish.command == "size") if kinds is None else kinds
+                if said.status == DOUBLED and wish.floor == AUTO and not floors and not kinds.max():
+                    wish, floors = wish.at_floor(RAISED), [RAISED]
+        assert kinds is not None
+        names = kinds if kinds.max() else np.arange(part.count)
+        is_first = names <= int(names.max()) // 2
+        return [it for half in (is_first, ~is_first) for it in self._half(part.some(half), wish)]
+
+    def _half(self, part: Part, wish: Wish) -> list[tuple[Part, bytes]]:
+        """Of some connected parts of a part; places are those of the whole mesh."""
+        try:
+            return self._made(part, wish)
+        except Placed:
+            raise
+        except Refusal as said:
+            told = part.refusal(said)
+            raise Placed(told.status, told.line, told.faces, told.vertices) from said
+
+    def judge(self, parts: Sequence[Part], texts: Sequence[bytes], wish: Wish) -> list[Written]:
         """Each text with what was found of it, behind the part that it was made of."""
         text_of = {id(part): text for part, text in zip(parts, texts)}
         return self.each(parts, lambda part: self._judged(part, text_of[id(part)], wish))
@@ -135,11 +244,11 @@ class Workshop:
         return Written(text, verdict, lengths, floor, wish.command)
 
 
-def certified_lengths(text: bytes) -> tuple[int, np.ndarray]:
+def certified_lengths(text: bytes) -> tuple[int, Array]:
     """The floor and the lengths of the arcs, as the last certificate of a written text has them."""
     head = HEAD.match(text)
     if head is None:
-        raise ValueError("this is no text that quadq wrote")
+        raise Refusal(STRANGE, "what the program wrote is no remesh")
     named = text.rfind(b"\n#f ")
     floor = head[2] if head[2] != b"auto" else text[named:named + 10].split()[1]
     lengths = re.findall(rb"^#x (\d+)$", text[max(named, 0):], re.M)
@@ -148,20 +257,33 @@ def certified_lengths(text: bytes) -> tuple[int, np.ndarray]:
 
 def put_together(parts: list[Part], meshes: list[Mesh]) -> Mesh:
     """The new meshes of parts side by side. A name that all faces of an old part share is that of its new faces."""
-    return join([_named(part.mesh, mesh) for part, mesh in zip(parts, meshes)])
+    return join([_named(part, mesh) for part, mesh in zip(parts, meshes)])
 
 
-def _named(old: Mesh, new: Mesh) -> Mesh:
-    groups = {}
+def _named(part: Part, new: Mesh) -> Mesh:
+    """The program writes its faces patch by patch, so that connected parts come in their old order."""
+    old, groups = part.mesh, {}
+    if part.count == 1:
+        of_old = np.zeros(old.face_count, dtype=np.int64)
+        of_new = np.zeros(new.face_count, dtype=np.int64)
+    else:
+        of_old, of_new = part_of_face(old), part_of_face(new)
+    firsts = np.searchsorted(of_old, np.arange(part.count)) if old.face_count else np.zeros(0, dtype=np.int64)
     for word, it in old.groups.items():
-        if old.face_count and np.all(it.of_face == it.of_face[0]):
-            groups[word] = Names((it.names[it.of_face[0]],), np.zeros(new.face_count, dtype=np.int64))
+        is_one = np.minimum.reduceat(it.of_face, firsts) == np.maximum.reduceat(it.of_face, firsts)
+        if np.any(is_one):
+            names = np.where(is_one, it.of_face[firsts], len(it.names))
+            groups[word] = Names((*it.names, ""), names[of_new])
     return replace(new, groups=groups, libraries=old.libraries)
 
 
 def keep(folder: Path, parts: list[Part], written: list[Written]) -> None:
-    """Writes the old and the new text of each part into a folder, as `part-1.obj` and `part-1.remeshed.obj`."""
-    folder.mkdir(parents=True, exist_ok=True)
+    """Writes the old and the new text of each part into a folder, as `part-1.obj` and `part-1.remeshed.obj`, and
+    removes those of further parts that an earlier run has left there."""
     for number, (part, it) in enumerate(zip(parts, written), 1):
-        (folder / f"part-{number}.obj").write_bytes(part.text)
-        (folder / f"part-{number}.remeshed.obj").write_bytes(it.text)
+        write_within(folder, f"part-{number}.obj", part.text)
+        write_within(folder, f"part-{number}.remeshed.obj", it.text)
+    for path in folder.glob("part-*.obj"):
+        found = KEPT.fullmatch(path.name)
+        if found is not None and int(found[1]) > len(parts):
+            path.unlink()

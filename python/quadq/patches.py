@@ -7,6 +7,7 @@ from typing import Sequence
 
 import numpy as np
 
+from .arrays import Array
 from .carried import carried
 from .mesh import NONE, Mesh
 from .parts import Part, Written
@@ -19,21 +20,21 @@ from .tracing import Trace
 class Painted:
     """Which patch each face of a remesh lies in: patches count from 0, over all parts."""
 
-    of_old: np.ndarray
+    of_old: Array
     """(old faces,) int64: of the parts side by side."""
-    of_new: np.ndarray
+    of_new: Array
     """(new faces,) int64: of what the program wrote for them."""
 
-    def of_all(self, mesh: Mesh) -> np.ndarray:
+    def of_all(self, mesh: Mesh) -> Array:
         """(faces,) int64: of the new mesh. A mirror image lies in the patches of its half."""
         return np.tile(self.of_new, mesh.face_count // max(len(self.of_new), 1))
 
-    def most_of(self, values: np.ndarray) -> np.ndarray:
+    def most_of(self, values: Array) -> Array:
         """(patches,) int64: of values at old faces (old faces,), which count from 0, the one that most faces of each
         patch have, and of several the least."""
         wide = int(values.max(initial=0)) + 1
         counts = np.bincount(self.of_old * wide + values, minlength=wide * (int(self.of_old.max(initial=-1)) + 1))
-        return counts.reshape(-1, wide).argmax(axis=1)
+        return np.asarray(counts.reshape(-1, wide).argmax(axis=1))
 
 
 def paint(parts: Sequence[Part], written: Sequence[Written], program: Program) -> Painted:
@@ -52,9 +53,9 @@ def paint(parts: Sequence[Part], written: Sequence[Written], program: Program) -
 class Patches:
     """The patches over which a part was remeshed. The program writes its faces patch by patch."""
 
-    of_old: np.ndarray
+    of_old: Array
     """(faces,) int64: the patch of each face of the part. Patches count from 0, in the order of their first faces."""
-    sizes: np.ndarray
+    sizes: Array
     """(patches,) int64: how many new faces each has."""
     nodes: int
     """How many ends of arcs there are: they are the first points that the program writes."""
@@ -73,7 +74,7 @@ def patches_under(part: Part, written: Written, program: Program) -> Patches:
     return Patches(old_patches(part.mesh, graph), new_sizes(graph, written.lengths), node_count(graph))
 
 
-def _merged_patches(part: Part, edges: np.ndarray, written: Written) -> Patches:
+def _merged_patches(part: Part, edges: Array, written: Written) -> Patches:
     """The patches that are merged from those of a cut (edges, 2). Slow: a minute for a million faces."""
     cuts = carried("cuts")
     faces = part.mesh.quads.tolist()
@@ -85,13 +86,13 @@ def _merged_patches(part: Part, edges: np.ndarray, written: Written) -> Patches:
     return Patches(np.array(of_face, dtype=np.int64), sizes.prod(axis=1), len(ends))
 
 
-def borders(mesh: Mesh, patches: np.ndarray) -> np.ndarray:
+def borders(mesh: Mesh, patches: Array) -> Array:
     """(edges, 2): the edges between patches (faces,) and at the boundary, as pairs of points in rising order."""
     edges = mesh.edges
-    return edges.ends[(edges.uses == 1) | (patches[edges.rising // 4] != patches[edges.falling // 4])]
+    return np.asarray(edges.ends[(edges.uses == 1) | (patches[edges.rising // 4] != patches[edges.falling // 4])])
 
 
-def old_patches(mesh: Mesh, graph: str) -> np.ndarray:
+def old_patches(mesh: Mesh, graph: str) -> Array:
     """(faces,) int64: the patch of each face of a mesh whose graph text this is. Patches count from 0, as in the text,
     which lists them in the order of their first faces."""
     inner = mesh.edges.uses == 2
@@ -100,7 +101,7 @@ def old_patches(mesh: Mesh, graph: str) -> np.ndarray:
     return number_in_order(least_in_class(mesh.face_count, one, other))
 
 
-def _ridden(mesh: Mesh, graph: str) -> np.ndarray:
+def _ridden(mesh: Mesh, graph: str) -> Array:
     """The edges that riders have ridden. All of them ride at once, an edge a turn."""
     rides = [tuple(map(int, line.split()[1:4])) for line in graph.splitlines() if line.startswith("rider ")]
     heads, tails, left = np.array(rides, dtype=np.int64).reshape(-1, 3).T
@@ -117,12 +118,12 @@ def _ridden(mesh: Mesh, graph: str) -> np.ndarray:
     return np.concatenate([np.zeros(0, dtype=np.int64), *ridden])
 
 
-def _after(darts: np.ndarray) -> np.ndarray:
+def _after(darts: Array) -> Array:
     """The next side of the same quad."""
-    return darts - darts % 4 + (darts + 1) % 4
+    return np.asarray(darts - darts % 4 + (darts + 1) % 4)
 
 
-def _darts_between(mesh: Mesh, heads: np.ndarray, tails: np.ndarray) -> np.ndarray:
+def _darts_between(mesh: Mesh, heads: Array, tails: Array) -> Array:
     """The sides of faces that go from these points to those, or NONE."""
     at = mesh.edges.numbers_of(np.sort(np.column_stack([heads, tails]), axis=1))
     darts = np.full(len(at), NONE)
@@ -132,7 +133,7 @@ def _darts_between(mesh: Mesh, heads: np.ndarray, tails: np.ndarray) -> np.ndarr
     return darts
 
 
-def new_sizes(graph: str, lengths: np.ndarray) -> np.ndarray:
+def new_sizes(graph: str, lengths: Array) -> Array:
     """(patches,) int64: how many faces the program writes for each patch, where arcs have these lengths."""
     sides: dict[str, list[int]] = {"south": [], "west": []}
     for line in graph.splitlines():
@@ -148,7 +149,7 @@ def node_count(graph: str) -> int:
     return len({end for pair in ends for end in pair})
 
 
-def colours_of(mesh: Mesh, patches: np.ndarray, colours: int) -> np.ndarray:
+def colours_of(mesh: Mesh, patches: Array, colours: int) -> Array:
     """(patches,) int64: a colour for each patch, from 0, that no neighbour has where there are enough colours."""
     inner = mesh.edges.uses == 2
     pairs = patches[np.column_stack([mesh.edges.rising, mesh.edges.falling])[inner] // 4]

@@ -7,6 +7,7 @@ from typing import Optional, Sequence
 
 import numpy as np
 
+from .arrays import Array
 from .canvas import Canvas
 from .mesh import Mesh
 from .patches import borders
@@ -29,11 +30,11 @@ SHORTEST = 5.0
 class Look:
     """What is shown of a mesh."""
 
-    colours: np.ndarray
+    colours: Array
     """(faces, 3): the colour of each face, from 0 to 255."""
-    thick: np.ndarray = field(default_factory=lambda: np.zeros((0, 2), dtype=np.int64))
+    thick: Array = field(default_factory=lambda: np.zeros((0, 2), dtype=np.int64))
     """(edges, 2): edges drawn thick, as pairs of points."""
-    blue: np.ndarray = field(default_factory=lambda: np.zeros((0, 2), dtype=np.int64))
+    blue: Array = field(default_factory=lambda: np.zeros((0, 2), dtype=np.int64))
     """(edges, 2): edges drawn blue, over these."""
     dots: Sequence[int] = ()
     """Points with a red dot."""
@@ -43,10 +44,10 @@ class Look:
 class View:
     """From where it is seen: to the right, upward and toward the eye, as rows of length 1."""
 
-    axes: np.ndarray
+    axes: Array
 
     @staticmethod
-    def of(points: np.ndarray, up: str = "y") -> View:
+    def of(points: Array, up: str = "y") -> View:
         """From above and beside; straight at a flat mesh."""
         size = np.ptp(points, axis=0) if len(points) else np.zeros(3)
         if size.min() <= 1e-3 * size.max():
@@ -54,7 +55,7 @@ class View:
         return View.along(np.array((1.0, 1.1, 1.9) if up == "y" else (1.0, -1.9, 1.1)), up)
 
     @staticmethod
-    def along(toward: np.ndarray, up: str = "y") -> View:
+    def along(toward: Array, up: str = "y") -> View:
         upward = np.array((0.0, 1.0, 0.0) if up == "y" else (0.0, 0.0, 1.0))
         toward = toward / np.linalg.norm(toward)
         if abs(upward @ toward) > 0.98:
@@ -64,7 +65,7 @@ class View:
         return View(np.array([right, np.cross(toward, right), toward]))
 
 
-def draw(mesh: Mesh, look: Look, view: View, size: tuple[int, int], frame: Optional[np.ndarray] = None) -> bytes:
+def draw(mesh: Mesh, look: Look, view: View, size: tuple[int, int], frame: Optional[Array] = None) -> bytes:
     """A PNG of a mesh, so many pixels wide and high. `frame` has the points (n, 3) that it is to show, if not all."""
     canvas = Canvas(*size)
     if not mesh.face_count:
@@ -80,7 +81,7 @@ def draw(mesh: Mesh, look: Look, view: View, size: tuple[int, int], frame: Optio
     return canvas.png()
 
 
-def _draw_faces(canvas: Canvas, mesh: Mesh, look: Look, turned: np.ndarray) -> None:
+def _draw_faces(canvas: Canvas, mesh: Mesh, look: Look, turned: Array) -> None:
     """Each face as the triangles between its sides and its middle."""
     for first in range(0, mesh.face_count, AT_A_TIME):
         some = np.arange(first, min(first + AT_A_TIME, mesh.face_count))
@@ -94,7 +95,7 @@ def _draw_faces(canvas: Canvas, mesh: Mesh, look: Look, turned: np.ndarray) -> N
         canvas.triangles(triangles, (look.colours[some] * _light(triangles, starts)[:, None])[own])
 
 
-def _light(triangles: np.ndarray, starts: np.ndarray) -> np.ndarray:
+def _light(triangles: Array, starts: Array) -> Array:
     """(faces,): how bright each face is, from its direction, where its triangles begin there; backs are darker."""
     normals = np.add.reduceat(
         np.cross(triangles[:, 1] - triangles[:, 0], triangles[:, 2] - triangles[:, 0]), starts)
@@ -104,7 +105,7 @@ def _light(triangles: np.ndarray, starts: np.ndarray) -> np.ndarray:
     return np.where(facing >= 0, 0.72 + 0.28 * facing, 0.55 - 0.15 * facing)
 
 
-def _draw_edges(canvas: Canvas, mesh: Mesh, look: Look, turned: np.ndarray) -> None:
+def _draw_edges(canvas: Canvas, mesh: Mesh, look: Look, turned: Array) -> None:
     lift = [0.0, 0.0, 1.5]
     edges = mesh.edges.ends
     lengths = np.linalg.norm((turned[edges[:, 1]] - turned[edges[:, 0]])[:, :2], axis=1)
@@ -114,7 +115,7 @@ def _draw_edges(canvas: Canvas, mesh: Mesh, look: Look, turned: np.ndarray) -> N
     canvas.lines(turned[look.blue] + lift, BLUE, 2.0)
 
 
-def patch_look(mesh: Mesh, patches: np.ndarray, tints: np.ndarray, bad: np.ndarray, blue: np.ndarray) -> Look:
+def patch_look(mesh: Mesh, patches: Array, tints: Array, bad: Array, blue: Array) -> Look:
     """Patches (faces,) in the colours `tints` (patches,), their borders thick, and bad faces (faces,) by how bad: their
     scaled Jacobians are below 0 or near it."""
     colours = PALETTE[tints[patches]]
@@ -149,7 +150,7 @@ def draw_place(mesh: Mesh, faces: Sequence[int], points: Sequence[int], size: tu
     return draw(part, look, View.along(_facing(mesh, at_fault)), size, near if len(near) else None)
 
 
-def _facing(mesh: Mesh, faces: np.ndarray) -> np.ndarray:
+def _facing(mesh: Mesh, faces: Array) -> Array:
     """The direction that some faces (faces,) have on average, tilted, so that depth can be seen."""
     corners = mesh.points[mesh.corners]
     after = corners[mesh.next_corners()]

@@ -5,20 +5,23 @@ from __future__ import annotations
 import os
 import re
 import shutil
-import subprocess
-from dataclasses import dataclass, field
+import time
+from dataclasses import dataclass, field, replace
 from decimal import Decimal
 from fractions import Fraction
 from pathlib import Path
 from typing import Optional, Union
 
-from .refusal import Refusal
+from .refusal import STRANGE, Refusal
+from .running import run_program
 
 LARGEST = 1000
 """The largest numerator and denominator of a scale."""
 
 
 AUTO = "auto"
+RAISED = 3
+"""The floor that never doubles an edge."""
 USAGE = 2
 """The program's status for words that it does not know."""
 DOUBLED = 11
@@ -36,6 +39,9 @@ class Wish:
     command: str = "remesh"
     """remesh, crease, coarse, or size, which takes an edge in place of scale and weight."""
     edge: Optional[Decimal] = None
+
+    def at_floor(self, floor: int) -> Wish:
+        return replace(self, floor=floor)
 
     def words(self, floor: Union[int, str]) -> list[str]:
         if self.edge is not None:
@@ -59,6 +65,12 @@ class Program:
     """The program at a path. Each call runs it once, over texts in memory; each raises a `Refusal` where it says no."""
 
     path: Path = field(default_factory=lambda: find_program())
+    until: Optional[float] = None
+    """When each run has to be done, on the clock of `time.monotonic`."""
+
+    def within(self, seconds: Optional[float]) -> Program:
+        """The same program, whose runs have so much time together from now on."""
+        return self if seconds is None else replace(self, until=time.monotonic() + seconds)
 
     def remesh(self, text: bytes, wish: Wish) -> bytes:
         """The mesh remeshed, with its certificate. The floor `auto` is 1, and 3 where that doubles an edge."""
@@ -68,7 +80,7 @@ class Program:
             except Refusal as said:
                 if said.status != DOUBLED:
                     raise
-                return self._run(wish.words(3), text)
+                return self._run(wish.words(RAISED), text)
         return self._run(wish.words(wish.floor), text)
 
     def judge(self, old: bytes, new: bytes, wish: Wish) -> Verdict:
@@ -80,19 +92,19 @@ class Program:
 
     def check(self, old: bytes, new: bytes) -> Verdict:
         """Judges what `remesh` wrote for a text, anew."""
-        said = self._run(["check"], b"\n".join([old, new])).decode()
+        said = self._run(["check"], b"\n".join([old, new])).decode(errors="replace")
         found = re.match(r"accepted arcs (\d+) faces (\d+) deviation (\d+)\n", said)
         if found is None:
-            raise Refusal(1, f"check said: {said.strip()}")
+            raise Refusal(STRANGE, f"check said: {said.strip()[:80]}")
         return Verdict(*map(int, found.groups()))
 
     def map(self, old: bytes, new: bytes) -> str:
         """Where the vertices and faces lie of what a command wrote for a text. It is judged anew."""
-        return self._run(["map"], b"\n".join([old, new])).decode()
+        return self._run(["map"], b"\n".join([old, new])).decode(errors="replace")
 
     def graph(self, text: bytes) -> str:
         """The motorcycle graph and its patches."""
-        return self._run(["graph"], text).decode()
+        return self._run(["graph"], text).decode(errors="replace")
 
     def tidy(self, text: bytes) -> bytes:
         """The mesh in the plain form."""
@@ -101,20 +113,17 @@ class Program:
     def commands(self) -> tuple[str, ...]:
         """The first words that the program knows: those that its usage line has, and `map`, which that leaves out,
         where it is not taken for a wrong word."""
-        ran, asked = (subprocess.run([str(self.path), *words], input=b"", capture_output=True, check=False)
-                      for words in ([], ["map"]))
-        usage = ran.stderr.decode(errors="replace").partition("usage: quadq ")[2]
-        known = [it.split()[0] for it in re.split(r" \| ", usage) if it.split()]
-        return tuple(dict.fromkeys(known if asked.returncode == USAGE else [*known, "map"]))
+        _, _, said = run_program(self.path, [], b"", self.until)
+        asked, _, _ = run_program(self.path, ["map"], b"", self.until)
+        known = [it.split()[0] for it in re.split(r" \| ", said.partition("usage: quadq ")[2]) if it.split()]
+        return tuple(dict.fromkeys(known if asked == USAGE else [*known, "map"]))
 
     def _run(self, words: list[str], text: bytes) -> bytes:
-        ran = subprocess.run([str(self.path), *words], input=text, capture_output=True, check=False)
-        if ran.returncode == 0:
-            return ran.stdout
-        line = ran.stderr.decode(errors="replace").strip()
-        if ran.returncode < 0:
-            line = f"the program was ended by signal {-ran.returncode}"
-        raise Refusal(ran.returncode, line[len("quadq: "):] if line.startswith("quadq: ") else line)
+        status, out, said = run_program(self.path, words, text, self.until)
+        if status == 0:
+            return out
+        line = said[len("quadq: "):] if said.startswith("quadq: ") else said
+        raise Refusal(status, line or f"the program ended with status {status}, and said nothing")
 
 
 def find_program() -> Path:

@@ -3,9 +3,11 @@
 from __future__ import annotations
 
 from dataclasses import dataclass
+from typing import Optional
 
 import numpy as np
 
+from .arrays import Array
 from .mesh import Mesh
 
 AT_A_TIME = 1 << 15
@@ -21,9 +23,11 @@ class Quality:
     mean: float
     inverted: int
     """Faces with a scaled Jacobian below 0: folded, or with a corner that points inward."""
+    first_inverted: Optional[int] = None
+    """The number of the first of them, from 0."""
 
 
-def scaled_jacobians(mesh: Mesh) -> np.ndarray:
+def scaled_jacobians(mesh: Mesh) -> Array:
     """(faces,) float64: the least over each face's corners of the sine between its two sides there, as it is seen along
     the face's normal. 1 for a rectangle, 0 for a triangle, below 0 for a folded face.
 
@@ -34,7 +38,7 @@ def scaled_jacobians(mesh: Mesh) -> np.ndarray:
     return np.concatenate([np.zeros(0), *rounds])
 
 
-def jacobians_of(corners: np.ndarray) -> np.ndarray:
+def jacobians_of(corners: Array) -> Array:
     """The same of quads (faces, 4, 3)."""
     at = np.ascontiguousarray(corners.transpose(1, 2, 0))
     normal = _unit(_cross(at[2] - at[0], at[3] - at[1]))
@@ -43,13 +47,13 @@ def jacobians_of(corners: np.ndarray) -> np.ndarray:
     return np.asarray(np.min(sines, axis=0, initial=1.0))
 
 
-def _cross(one: np.ndarray, other: np.ndarray) -> np.ndarray:
+def _cross(one: Array, other: Array) -> Array:
     """(3, n): the cross products of vectors (3, n)."""
     (ax, ay, az), (bx, by, bz) = one, other
     return np.stack([ay * bz - az * by, az * bx - ax * bz, ax * by - ay * bx])
 
 
-def _unit(vectors: np.ndarray) -> np.ndarray:
+def _unit(vectors: Array) -> Array:
     """Each vector (3, n) at length 1, and 0 where it has none."""
     lengths = np.sqrt(np.sum(vectors * vectors, axis=0))
     return np.asarray(np.divide(vectors, lengths, out=np.zeros_like(vectors), where=lengths > 0))
@@ -59,4 +63,6 @@ def quality_of(mesh: Mesh) -> Quality:
     values = scaled_jacobians(mesh)
     if not len(values):
         return Quality(1.0, 1.0, 0)
-    return Quality(float(values.min()), float(values.mean()), int(np.sum(values < 0)))
+    inverted = np.flatnonzero(values < 0)
+    first = int(inverted[0]) if len(inverted) else None
+    return Quality(float(values.min()), float(values.mean()), len(inverted), first)

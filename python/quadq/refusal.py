@@ -5,8 +5,15 @@ from __future__ import annotations
 import re
 from typing import Callable, Sequence
 
+from .errors import QuadqError
+
+SYNTAX, NOT_QUAD, READ_FAULT, WRITE_FAULT, MEMORY = 3, 4, 12, 13, 14
+"""The program's statuses for a text that is no OBJ text, for a mesh that has no quads, for a file that cannot be read
+and one that cannot be written, and for want of memory."""
+STRANGE, TIMEOUT, CANNOT_RUN = 70, 124, 126
+"""Those of this package: what the program wrote, or a worker did, is nothing that it may; the time is over; the program
+cannot be run."""
 ADVICE = {
-    4: "Only quads can be remeshed: --subdivide divides every face into quads first.",
     7: "The mesh is no manifold there: mend it at this place.",
     9: "No other scale helps: cut the part into smaller ones.",
     10: "Take a smaller scale.",
@@ -23,7 +30,7 @@ PLACES = (
 """The lines that name places of a mesh, and what each of their numbers names, from 1."""
 
 
-class Refusal(Exception):
+class Refusal(QuadqError):
     """Why a mesh is not remeshed: an exit status of the program, its line, and the place that the line names.
 
     The place is a list of faces, or of vertices, or of both, by their numbers in the mesh that was handed in, from 0.
@@ -38,7 +45,13 @@ class Refusal(Exception):
 
     def __str__(self) -> str:
         advice = ADVICE.get(self.status)
+        if self.status == NOT_QUAD and "corners" in self.line:
+            more = f"{len(self.faces) - 1} more faces are no quads. " if len(self.faces) > 1 else ""
+            advice = f"{more}Only quads can be remeshed: --subdivide divides every face into quads first."
         return f"{self.line}. {advice}" if advice else self.line
+
+    def __reduce__(self) -> tuple[type[Refusal], tuple[int, str, tuple[int, ...], tuple[int, ...]]]:
+        return type(self), (self.status, self.line, self.faces, self.vertices)
 
     @staticmethod
     def told(status: int, line: str, face: Callable[[int], int], vertex: Callable[[int], int]) -> Refusal:

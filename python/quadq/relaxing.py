@@ -6,6 +6,7 @@ from dataclasses import replace
 
 import numpy as np
 
+from .arrays import Array
 from .distance import Surface
 from .features import mark_features
 from .mesh import Edges, Mesh
@@ -37,7 +38,7 @@ def relax(mesh: Mesh, old: Mesh, nodes: int, times: int) -> tuple[Mesh, int]:
     return replace(mesh, points=points), moves
 
 
-def _free(mesh: Mesh, edges: Edges, nodes: int) -> np.ndarray:
+def _free(mesh: Mesh, edges: Edges, nodes: int) -> Array:
     """(points,) bool: which may be moved."""
     free = np.zeros(len(mesh.points), dtype=bool)
     free[mesh.corners] = True
@@ -49,7 +50,7 @@ def _free(mesh: Mesh, edges: Edges, nodes: int) -> np.ndarray:
     return free
 
 
-def _independent(mesh: Mesh, free: np.ndarray) -> list[np.ndarray]:
+def _independent(mesh: Mesh, free: Array) -> list[Array]:
     """The free points in rounds, in each of which no two are in one face."""
     quads, rounds = mesh.quads, []
     ranks = np.random.default_rng(1).permutation(len(free))
@@ -64,7 +65,7 @@ def _independent(mesh: Mesh, free: np.ndarray) -> list[np.ndarray]:
     return rounds
 
 
-def _means(points: np.ndarray, beside: np.ndarray, chosen: np.ndarray) -> np.ndarray:
+def _means(points: Array, beside: Array, chosen: Array) -> Array:
     """(chosen, 3): the mean of each point's neighbours; `beside` has all pairs of these, in order."""
     starts = np.searchsorted(beside[:, 0], chosen)
     counts = np.searchsorted(beside[:, 0], chosen, side="right") - starts
@@ -73,7 +74,7 @@ def _means(points: np.ndarray, beside: np.ndarray, chosen: np.ndarray) -> np.nda
     return np.asarray(sums / counts[:, None])
 
 
-def _move(points: np.ndarray, quads: np.ndarray, chosen: np.ndarray, means: np.ndarray, surface: Surface) -> int:
+def _move(points: Array, quads: Array, chosen: Array, means: Array, surface: Surface) -> int:
     """Moves each of the chosen points where no face becomes worse, and returns how many were moved."""
     was = np.zeros(len(points), dtype=bool)
     was[chosen] = True
@@ -92,7 +93,7 @@ def _move(points: np.ndarray, quads: np.ndarray, chosen: np.ndarray, means: np.n
     return int(moved.sum())
 
 
-def _least_at(points: np.ndarray, quads: np.ndarray, mover: np.ndarray) -> np.ndarray:
+def _least_at(points: Array, quads: Array, mover: Array) -> Array:
     """(points,): for each point that is the mover of some quads the least of their scaled Jacobians."""
     least = np.ones(len(points))
     np.minimum.at(least, mover, jacobians_of(points[quads]))

@@ -3,154 +3,98 @@
 from __future__ import annotations
 
 import os
-from dataclasses import dataclass, replace
-from decimal import Decimal, InvalidOperation
+from dataclasses import replace
+from decimal import Decimal
 from fractions import Fraction
 from pathlib import Path
-from typing import Any, Callable, Iterable, Optional, Union
+from typing import Callable, Iterable, Optional, Union
 
 import numpy as np
 
 from . import mirror as mirroring
+from .arrays import Array
 from .attributes import carry_over
 from .distance import distance_between
-from .features import KINDS, mark_features
+from .features import ANGLE, mark_features
+from .losses import SHARP, dropped_of, lost_edges, lost_mirrors
 from .mesh import NONE, Mesh
-from .obj import plain_text
+from .obj_writing import plain_text
 from .parts import NO_MARKS, Part, Workshop, Written, keep, put_together, split
 from .patches import patches_under
-from .program import LARGEST, Program, Wish
+from .program import RAISED, Program
 from .quality import quality_of
-from .refusal import Refusal
+from .reading import divided, refuse_other, told_of_old
+from .refusal import NOT_QUAD, SYNTAX, Refusal
 from .relaxing import relax
 from .results import Counts, Report, Result
+from .scaling import factor_of, mean_edge
+from .settings import Settings, as_length, as_scale_wish
 from .subdivision import subdivide as subdivided
 from .surface import irregular_counts
-from .targets import Reached, nearest_scale
+from .targets import Counted, Reached, nearest_scale
 
 Tell = Callable[[str, int, int], None]
 """Is told the step, how many things are done, and how many there are."""
-
-
-FAR = Decimal(10) ** 9
-"""Edges are shorter than this."""
-
-
-@dataclass(frozen=True)
-class Settings:
-    """How a mesh is to be remeshed. One of `scale`, `faces` and `edge` is given."""
-
-    scale: Optional[Fraction] = None
-    faces: Optional[int] = None
-    edge: Optional[Decimal] = None
-    """How long edges are to be, in the unit of the mesh."""
-    floor: Union[int, str] = "auto"
-    weight: str = "plain"
-    sharp: Optional[float] = None
-    """Edges stay whose faces meet at more than so many degrees."""
-    keep: tuple[str, ...] = ()
-    """What else tells that edges stay: some of `features.KINDS`."""
-    corners: bool = True
-    """Whether edges stay besides that keep the corners of the boundary and of such lines, where any edge stays."""
-    coarse: bool = False
-    """Whether patches are merged where they have a whole side in common."""
-    subdivide: bool = False
-    mirror: Optional[str] = None
-    """The axis, x, y or z: the half where that coordinate is above 0 is remeshed, and mirrored."""
-    relax: int = 0
-    """How many times points are moved along the old surface, where no face becomes worse by it."""
-    jobs: int = 0
-    """How many parts are remeshed at a time; 0 for one a processor."""
-    folder: Optional[Path] = None
-    """Where the old and new text of each part are kept."""
-    carry: bool = False
-    """Whether what corners, points and faces carry comes over: texture, normals, colours, names within parts. A mirror
-    image carries what its half does."""
-
-    def __post_init__(self) -> None:
-        if [self.scale, self.faces, self.edge].count(None) != 2:
-            raise ValueError("one of scale, faces and edge has to be given")
-        if self.faces is not None and self.faces < 1:
-            raise ValueError("the number of faces has to be 1 or more")
-        scale = self.scale
-        if scale is not None and not (1 <= scale.numerator <= LARGEST and scale.denominator <= LARGEST):
-            raise ValueError(f"the scale has to be P/Q, with whole numbers from 1 to {LARGEST}, and is {scale}")
-        if self.edge is not None and not Decimal("0.000001") <= self.edge < FAR:
-            raise ValueError(f"the length of an edge has to be from 0.000001 to below {FAR:f}, and is {self.edge}")
-        if str(self.floor) not in ("1", "2", "3", "auto"):
-            raise ValueError(f"the floor has to be 1, 2, 3 or auto, and is {self.floor}")
-        if self.weight not in ("plain", "length"):
-            raise ValueError(f"the weight has to be plain or length, and is {self.weight}")
-        if self.relax < 0:
-            raise ValueError("points are relaxed 0 times or more")
-        if self.mirror is not None and self.mirror not in tuple(mirroring.AXES):
-            raise ValueError(f"the mirror axis has to be x, y or z, and is {self.mirror}")
-        self._check_features()
-
-    def _check_features(self) -> None:
-        unknown = [it for it in self.keep if it not in KINDS]
-        if unknown:
-            raise ValueError(f"what is kept has to be of {', '.join(KINDS)}, and is {unknown[0]}")
-        if self.sharp is not None and not 0 <= self.sharp <= 180:
-            raise ValueError(f"the angle of sharp edges has to be from 0 to 180 degrees, and is {self.sharp}")
-        asked = [name for name, is_asked in (
-            ("edges that stay", self.is_creased), ("merged patches", self.coarse), ("a length of edges", self.edge)
-        ) if is_asked]
-        if len(asked) > 1:
-            raise ValueError(f"the program has no command for {' and '.join(asked)} together")
-        if self.edge is not None and self.weight != "plain":
-            raise ValueError("with a length of edges the weight is plain")
-
-    @property
-    def is_creased(self) -> bool:
-        """Whether edges stay: those at an angle, or of a kind."""
-        return self.sharp is not None or bool(self.keep)
-
-    @property
-    def command(self) -> str:
-        """The command of the program that does this."""
-        if self.edge is not None:
-            return "size"
-        return "crease" if self.is_creased else "coarse" if self.coarse else "remesh"
-
-    def wish(self, scale: Optional[Fraction]) -> Wish:
-        return Wish(Fraction(1) if scale is None else scale, self.floor, self.weight, self.command, self.edge)
 
 
 def remesh(
     mesh: Mesh,
     *,
     scale: Union[Fraction, float, str, None] = None,
+    faces: Optional[int] = None,
     edge: Union[Decimal, float, str, None] = None,
+    floor: Union[int, str] = "auto",
+    weight: str = "plain",
+    sharp: Optional[float] = None,
     keep: Iterable[str] = (),
+    corners: bool = True,
+    coarse: bool = False,
+    subdivide: bool = False,
+    mirror: Optional[str] = None,
+    relax: int = 0,
+    carry: bool = False,
+    rescale: bool = False,
+    jobs: int = 0,
+    folder: Optional[Path] = None,
+    timeout: Optional[float] = None,
     program: Optional[Program] = None,
     text: Optional[bytes] = None,
     tell: Tell = lambda step, done, total: None,
-    **wishes: Any,
 ) -> Result:
     """The mesh remeshed part by part. Each part was accepted by `check`, or by `map` where another command wrote it.
 
     `scale` is how long each edge of the patches is to be, as a part of its old length; or `faces` is how many faces the
     mesh is to have, or `edge` how long edges are to be, in the unit of the mesh. `sharp` and `keep` tell which edges
     stay. The other wishes are those of `Settings`. `text` is the OBJ text that the mesh was read from, if it is at
-    hand: it spares writing it anew. Raises a `Refusal` that names the place, and a `ValueError` for wrong wishes.
+    hand: then the certificate is of it. `timeout` is how many seconds the program may take. Raises a `Refusal` that
+    names the place, a `WishError` for wrong wishes, and a `MeshError` for arrays that are no mesh, or a text of another
+    one.
     """
-    settings = Settings(scale=None if scale is None else Fraction(scale).limit_denominator(10**6),
-                        edge=None if edge is None else as_length(edge), keep=tuple(keep), **wishes)
-    return run(mesh, settings, Program() if program is None else program, text, tell)
-
-
-def as_length(value: Union[Decimal, float, str]) -> Decimal:
-    """A length as a decimal. Raises a `ValueError` where it is none."""
-    try:
-        return Decimal(str(value))
-    except InvalidOperation as error:
-        raise ValueError(f"the length of an edge has to be a number, and is {value}") from error
+    settings = Settings(
+        scale=None if scale is None else as_scale_wish(scale), faces=faces,
+        edge=None if edge is None else as_length(edge),
+        floor=floor, weight=weight, sharp=sharp, keep=tuple(keep), corners=corners, coarse=coarse, subdivide=subdivide,
+        mirror=mirror, relax=relax, jobs=jobs, folder=folder, carry=carry, rescale=rescale)
+    runner = (Program() if program is None else program).within(timeout)
+    mesh.refuse_strange()
+    if text is not None:
+        refuse_other(mesh, text, runner)
+    return run(mesh, settings, runner, text, tell)
 
 
 def run(mesh: Mesh, settings: Settings, program: Program, text: Optional[bytes], tell: Tell) -> Result:
-    """`remesh` with settings that are made already."""
-    return _Work(mesh, settings, program, tell).result(text)
+    """`remesh` with settings that are made already, of a mesh that was read from the text. Meshes of small or great
+    units are scaled for the program, and back."""
+    if not mesh.face_count:
+        raise Refusal(NOT_QUAD, "no faces")
+    wrong = np.flatnonzero(~np.isfinite(mesh.points).all(axis=1))
+    if len(wrong):
+        raise Refusal(SYNTAX, f"vertex {wrong[0] + 1}: a coordinate is no number", (), wrong.tolist())
+    factor = factor_of(mesh, settings.rescale)
+    if factor == 1:
+        return _Work(mesh, settings.times(1.0), program, tell).result(text)
+    scaled = replace(mesh, points=mesh.points * factor)
+    return _Work(scaled, settings.times(factor), program, tell).result(None).times(1 / factor)
 
 
 class _Work:
@@ -165,19 +109,31 @@ class _Work:
         self.total = 0
         self.marks = ""
         """How many edges stay, and why."""
+        self.sharp: Optional[Array] = None
+        """The sharp edges of the mesh, if they are known."""
+        self.ready = mesh
+        """The mesh of quads: divided, where that was wished."""
         self.shop = Workshop(program, settings.jobs or os.cpu_count() or 1, self._tell_parts)
 
     def _tell_parts(self, done: int) -> None:
         self.tell(self.step, done, self.total)
 
     def result(self, text: Optional[bytes]) -> Result:
+        try:
+            return self._result(text)
+        except Refusal as said:
+            if self.ready is self.mesh:
+                raise
+            raise told_of_old(said, self.mesh) from said
+
+    def _result(self, text: Optional[bytes]) -> Result:
         parts = self._parts(text)
         self.total = len(parts)
         reached = self._scale(parts)
         wish = self.settings.wish(reached.scale)
         self.step = "remesh"
-        texts = self.shop.remesh(parts, wish)
-        self.step = "check"
+        parts, texts = self.shop.remesh(parts, wish)
+        self.step, self.total = "check", len(parts)
         written = self.shop.judge(parts, texts, wish)
         if self.settings.folder is not None:
             keep(self.settings.folder, parts, written)
@@ -191,11 +147,9 @@ class _Work:
 
     def _parts(self, text: Optional[bytes]) -> list[Part]:
         mesh, axis = self.mesh, self._axis()
-        wrong = np.flatnonzero(~np.isfinite(mesh.points).all(axis=1))
-        if len(wrong):
-            raise Refusal(3, "a coordinate is no number", (), wrong.tolist())
         if self.settings.subdivide:
-            mesh, text = subdivided(mesh), None
+            ready, text = divided(mesh, self.program), None
+            mesh = self.ready = ready
         _refuse_polygons(mesh)
         marks = self._marks(mesh)
         if axis is None:
@@ -207,13 +161,15 @@ class _Work:
         parts = split(one, None, at[one.edges.numbers_of(at) != NONE])
         return [replace(it, faces=faces[it.faces], points=points[it.points]) for it in parts]
 
-    def _marks(self, mesh: Mesh) -> np.ndarray:
+    def _marks(self, mesh: Mesh) -> Array:
         """(marks, 2): the edges that are to stay, as pairs of points."""
         settings = self.settings
         if not settings.is_creased:
             return NO_MARKS
         found = mark_features(mesh, settings.sharp, kinds=settings.keep, corners=settings.corners)
         self.marks = found.in_words()
+        if settings.sharp == SHARP and self.ready is self.mesh:
+            self.sharp = found.edges[found.reasons == ANGLE]
         return found.edges
 
     def _axis(self) -> Optional[int]:
@@ -228,9 +184,10 @@ class _Work:
             return Reached(settings.scale, 0, 0, "")
         self.step = "bisect"
 
-        def count_at(scale: Fraction) -> int:
-            texts = self.shop.remesh(parts, settings.wish(scale))
-            return self._halves() * sum(it.count(b"\nf ") for it in texts)
+        def count_at(scale: Fraction) -> Counted:
+            _, texts = self.shop.remesh(parts, settings.wish(scale))
+            floor = RAISED if any(_is_raised(it) for it in texts) else 1
+            return Counted(self._halves() * sum(it.count(b"\nf ") for it in texts), floor)
 
         return nearest_scale(settings.faces, self._halves() * sum(it.mesh.face_count for it in parts), count_at)
 
@@ -269,9 +226,10 @@ class _Work:
         return whole
 
     def _report(self, new: Mesh, reached: Reached, parts: list[Part], written: list[Written]) -> Report:
+        old, after = _in_quads(self.mesh), _counts(new)
         return Report(
             before=_counts(self.mesh),
-            after=_counts(new),
+            after=after,
             ready=self._halves() * sum(it.mesh.face_count for it in parts),
             wished=self.settings.faces,
             because=reached.because,
@@ -281,12 +239,18 @@ class _Work:
             marks=self.marks,
             floor=self.settings.floor,
             weight=self.settings.weight,
-            parts=len(written),
+            parts=sum(it.count for it in parts),
             arcs=sum(it.verdict.arcs for it in written),
             arcs_at_floor=sum(it.arcs_at_floor for it in written),
             deviation=_sum([it.verdict.deviation for it in written]),
-            to_old=distance_between(new, _in_quads(self.mesh)),
-            to_new=distance_between(_in_quads(self.mesh), new),
+            to_old=distance_between(new, old),
+            to_new=distance_between(old, new),
+            raised=sum(it.count for it, made in zip(parts, written) if made.floor == RAISED
+                       and str(self.settings.floor) == "auto"),
+            diagonal=float(np.linalg.norm(np.ptp(self.mesh.points[self.mesh.used], axis=0))),
+            sharp=lost_edges(old, new, after.mean_edge, self.sharp),
+            mirrors=lost_mirrors(old, new),
+            dropped=dropped_of(self.mesh, self.settings),
         )
 
 
@@ -309,8 +273,9 @@ def _in_quads(mesh: Mesh) -> Mesh:
 
 def _counts(mesh: Mesh) -> Counts:
     quads = _in_quads(mesh)
-    used = int(np.sum(np.bincount(mesh.corners, minlength=len(mesh.points)) > 0))
-    one, other = mesh.edges.ends.T
-    lengths = np.linalg.norm(mesh.points[one] - mesh.points[other], axis=1)
-    mean_edge = float(lengths.mean()) if len(lengths) else 0.0
-    return Counts(used, mesh.face_count, irregular_counts(quads), quality_of(quads), mean_edge)
+    return Counts(len(mesh.used), mesh.face_count, irregular_counts(quads), quality_of(quads), mean_edge(mesh))
+
+
+def _is_raised(text: bytes) -> bool:
+    """Whether a text was written with the floor that never doubles an edge."""
+    return b" floor 3 " in text[:100] or b"\n#f 3\n" in text

@@ -9,9 +9,11 @@ from typing import Sequence
 
 import numpy as np
 
+from .arrays import Array
 from .features import edges_in, mark_features
 from .mesh import Mesh, join
-from .obj import FormatError, read_obj
+from .errors import FormatError
+from .obj import read_obj
 from .parts import NO_MARKS
 from .patches import colours_of, paint
 from .pictures import PALETTE, View, draw, draw_place, patch_look, place_look
@@ -46,8 +48,8 @@ def result_page(title: str, result: Result, program: Program, up: str = "y") -> 
     report = result.report
     before, after = _pictures(result, program, up)
     body = [
-        f'<p class="good">{_parts_in_words(report)}: no whole lengths are nearer to what was asked for, and the shape '
-        "is as it was.</p>",
+        f'<p class="good">{_parts_in_words(report)}: no whole lengths are nearer to what was asked for, and its faces '
+        "are connected as before (same Euler number, same irregular vertices).</p>",
         *(f'<p class="warning">{escape(it)}</p>' for it in report.warnings),
         '<div class="pair">',
         _figure(before, f"before: {report.before.faces} faces"),
@@ -78,10 +80,10 @@ def refusal_page(title: str, mesh: Mesh, refusal: Refusal, up: str = "y") -> str
 
 
 def refused_page(path: Path, refusal: Refusal, up: str = "y") -> str:
-    """The page of a refusal of an OBJ file, without pictures where it is no OBJ text."""
+    """The page of a refusal of a file, without pictures where it is no OBJ text."""
     try:
-        mesh = read_obj(path.read_bytes())
-    except FormatError:
+        mesh = read_obj(path.read_bytes() if path.suffix.lower() == ".obj" else b"")
+    except (FormatError, OSError):
         mesh = Mesh.of_quads(np.zeros((0, 3)), np.zeros((0, 4)))
     return refusal_page(path.name, mesh, refusal, up)
 
@@ -102,7 +104,7 @@ def _pictures(result: Result, program: Program, up: str) -> tuple[bytes, bytes]:
     )
 
 
-def _marks(mesh: Mesh, stay: np.ndarray) -> tuple[np.ndarray, np.ndarray]:
+def _marks(mesh: Mesh, stay: Array) -> tuple[Array, Array]:
     """The scaled Jacobians of faces, and the feature edges: those that stay, if any do, or else those by angle."""
     found = NO_MARKS if len(stay) else mark_features(mesh, corners=False).edges
     return scaled_jacobians(mesh), np.concatenate([stay, found])

@@ -9,13 +9,9 @@ from typing import Optional, Union
 
 from .distance import Distance
 from .mesh import Mesh
+from .notices import Notice, notices_of
 from .parts import Part, Written
 from .quality import Quality
-
-UNCHANGED = 0.05
-"""A part of the faces: where no more came or went, the mesh is about as it was."""
-UNLIKE = 0.2
-"""A part of the wished length of edges: where their mean is off by more, it is said."""
 
 
 @dataclass(frozen=True)
@@ -68,6 +64,18 @@ class Report:
     """How often a point was moved: where it is not 0, the certificates hold for the counts, not for the places."""
     over_seams: int = 0
     """How many new faces lie over a seam of the texture or a border of names, where these were carried over."""
+    raised: int = 0
+    """How many parts have the floor 3 since with the floor 1 an edge would be there twice."""
+    diagonal: float = 0.0
+    """How long the diagonal of the old mesh's box is."""
+    sharp: tuple[int, int] = (0, 0)
+    """How many sharp edges of the old mesh no new edge follows, and how many it had."""
+    mirrors: str = ""
+    """The axes along which the old mesh was its own mirror image, and the new one is not."""
+    dropped: tuple[tuple[str, str], ...] = ()
+    """What the old mesh had and the new one does not: kinds of notices, and their words."""
+    factor: float = 1.0
+    """How many times as large the mesh was made for the program, which rounds to millionths."""
 
     @property
     def is_checked(self) -> bool:
@@ -88,32 +96,18 @@ class Report:
         before, after = (replace(it, mean_edge=it.mean_edge * factor) for it in (self.before, self.after))
         edge = None if self.edge is None else self.edge * Decimal(factor)
         return replace(
-            self, before=before, after=after, edge=edge, to_old=longer(self.to_old), to_new=longer(self.to_new))
+            self, before=before, after=after, edge=edge, diagonal=self.diagonal * factor, factor=self.factor / factor,
+            to_old=longer(self.to_old), to_new=longer(self.to_new))
+
+    @property
+    def notices(self) -> tuple[Notice, ...]:
+        """What a user should know, as the command line, the report, the log and the add-on say it."""
+        return notices_of(self)
 
     @property
     def warnings(self) -> tuple[str, ...]:
-        before, after = self.before, self.after
-        said = []
-        if self.wished is not None and self.because:
-            said.append(f"{after.faces} faces in place of {self.wished}: {self.because}")
-        scale = self.scale
-        if scale is not None and scale < 1 and after.faces > self.ready:
-            said.append(f"the mesh has more faces than before, at scale {scale}: arcs are as short as the floor")
-        elif scale not in (None, 1) and abs(after.faces - self.ready) <= UNCHANGED * self.ready:
-            said.append("the mesh is about as it was: its patches are hardly larger than a face, as in voxels and in "
-                        "quads made of triangles")
-        if self.edge is not None and abs(after.mean_edge / float(self.edge) - 1) > UNLIKE:
-            said.append(f"edges are {after.mean_edge:.4g} long on average, and not {float(self.edge):.4g}: opposite "
-                        "sides of a patch have as many, and none has fewer than the floor")
-        if after.quality.inverted > before.quality.inverted:
-            said.append(f"inverted faces: {after.quality.inverted}, and {before.quality.inverted} before")
-        if before.irregular != after.irregular:
-            said.append("irregular points were lost or made")
-        if self.over_seams:
-            said.append(f"{self.over_seams} faces lie over a seam of the texture or a border of names")
-        if self.moves:
-            said.append("the mesh is relaxed: the certificates hold for the numbers of edges, not for the places")
-        return tuple(said)
+        """The same in words."""
+        return tuple(it.words for it in self.notices)
 
     def table(self) -> list[tuple[str, str, str]]:
         """Rows of a label, the old mesh's value and the new one's."""
@@ -146,6 +140,7 @@ class Report:
             ("arcs at the floor", str(self.arcs_at_floor)),
             ("deviation, least in each part", None if self.deviation is None else str(self.deviation)),
             ("moves of points", str(self.moves) if self.moves else None),
+            ("made larger for the program", f"{self.factor:g} times" if self.factor != 1 else None),
         ]
         return [(label, value) for label, value in told if value is not None]
 
@@ -170,3 +165,12 @@ class Result:
     parts: tuple[Part, ...]
     written: tuple[Written, ...]
     """What the program wrote for each part, accepted by `check`, or by `map` where another command wrote it."""
+
+    def times(self, factor: float) -> Result:
+        """The same where lengths are so many times as long. What the program has read and written stays."""
+
+        def longer(mesh: Mesh) -> Mesh:
+            return replace(mesh, points=mesh.points * factor)
+
+        return Result(longer(self.mesh), self.report.times(factor), None,
+                      tuple(replace(it, mesh=longer(it.mesh)) for it in self.parts), self.written)

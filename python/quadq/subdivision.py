@@ -6,6 +6,7 @@ from dataclasses import replace
 
 import numpy as np
 
+from .arrays import Array
 from .mesh import NONE, Edges, Layer, Mesh
 
 
@@ -34,7 +35,7 @@ def subdivide(mesh: Mesh) -> Mesh:
     )
 
 
-def _refined_lines(mesh: Mesh, edges: Edges) -> tuple[np.ndarray, ...]:
+def _refined_lines(mesh: Mesh, edges: Edges) -> tuple[Array, ...]:
     """The `l` lines with the middles of their edges; a pair of points that is no edge parts its line in two."""
     middles = {(one, other): len(mesh.points) + at for at, (one, other) in enumerate(edges.ends.tolist())}
     done: list[list[int]] = []
@@ -51,18 +52,18 @@ def _refined_lines(mesh: Mesh, edges: Edges) -> tuple[np.ndarray, ...]:
     return tuple(np.array(it, dtype=np.int64) for it in done if len(it) > 1)
 
 
-def _refined(mesh: Mesh, edges: Edges, values: np.ndarray) -> np.ndarray:
+def _refined(mesh: Mesh, edges: Edges, values: Array) -> Array:
     """Values at points (points, width), at these, the middles of edges and the middles of faces."""
     return np.concatenate([values, values[edges.ends].mean(axis=1), _face_means(mesh, values[mesh.corners])])
 
 
-def _face_means(mesh: Mesh, at_corners: np.ndarray) -> np.ndarray:
+def _face_means(mesh: Mesh, at_corners: Array) -> Array:
     if not mesh.face_count:
         return np.zeros((0, at_corners.shape[1]))
-    return np.add.reduceat(at_corners, mesh.starts[:-1]) / mesh.sides[:, None]
+    return np.asarray(np.add.reduceat(at_corners, mesh.starts[:-1]) / mesh.sides[:, None])
 
 
-def _refined_layer(mesh: Mesh, before: np.ndarray, layer: Layer) -> Layer:
+def _refined_layer(mesh: Mesh, before: Array, layer: Layer) -> Layer:
     """Four values for each old corner; none where some corner of its face names none."""
     named = np.logical_and.reduceat(layer.rows != NONE, mesh.starts[:-1])[mesh.face_of_corner()]
     at_corners = layer.values[np.maximum(layer.rows, 0)] if len(layer.values) else np.zeros((len(before), 1))

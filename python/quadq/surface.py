@@ -4,10 +4,11 @@ from __future__ import annotations
 
 import numpy as np
 
+from .arrays import Array
 from .mesh import Mesh
 
 
-def least_in_class(count: int, one: np.ndarray, other: np.ndarray) -> np.ndarray:
+def least_in_class(count: int, one: Array, other: Array) -> Array:
     """(count,): for each of so many things the least that pairs `one[i]`, `other[i]` connect it with."""
     least = np.arange(count)
     while len(one):
@@ -23,7 +24,7 @@ def least_in_class(count: int, one: np.ndarray, other: np.ndarray) -> np.ndarray
     return least
 
 
-def part_of_face(mesh: Mesh) -> np.ndarray:
+def part_of_face(mesh: Mesh) -> Array:
     """(faces,) int64: the connected part of each face, parts counted from 0 in the order of their first faces. Faces
     that share a point are in one part."""
     first = mesh.corners[mesh.starts[:-1]] if mesh.face_count else np.zeros(0, dtype=np.int64)
@@ -31,7 +32,7 @@ def part_of_face(mesh: Mesh) -> np.ndarray:
     return number_in_order(least[first])
 
 
-def number_in_order(names: np.ndarray) -> np.ndarray:
+def number_in_order(names: Array) -> Array:
     """The same classes, counted from 0 in the order in which they come first."""
     _, first, of_name = np.unique(names, return_index=True, return_inverse=True)
     rank = np.empty(len(first), dtype=np.int64)
@@ -39,7 +40,7 @@ def number_in_order(names: np.ndarray) -> np.ndarray:
     return rank[of_name]
 
 
-def twins_of(mesh: Mesh) -> np.ndarray:
+def twins_of(mesh: Mesh) -> Array:
     """(darts,) int64: for each side of a face the same one of the face beside it, or NONE."""
     rises = mesh.corners < mesh.corners[mesh.next_corners()]
     of_corner = mesh.edges.of_corner

@@ -7,13 +7,26 @@ from dataclasses import dataclass
 from fractions import Fraction
 from typing import Callable, Optional
 
-from .program import LARGEST
+from .program import LARGEST, RAISED
 from .refusal import Refusal
 
 TRIES = 14
+MORE_TRIES = 8
+"""How many scales are tried besides, where all that are near give more faces than there were."""
 NEAR = 0.01
 """A part of the wished number: so near is near enough."""
 TOO_FINE = 10
+MANY = 1 << 40
+"""Stands for more faces than a mesh may have."""
+
+
+@dataclass(frozen=True)
+class Counted:
+    """What a scale gives."""
+
+    faces: int
+    floor: int = 1
+    """The least length that arcs could have: above 1 where that would double an edge, or where it was wished so."""
 
 
 @dataclass(frozen=True)
@@ -28,30 +41,14 @@ class Reached:
     """Why it came no nearer, or nothing where it is near enough."""
 
 
-def nearest_scale(wished: int, faces: int, count_at: Callable[[Fraction], int]) -> Reached:
-    """The scale whose remesh has a number of faces near the wished one, by bisection of the scale's logarithm.
+def nearest_scale(wished: int, faces: int, count_at: Callable[[Fraction], Counted]) -> Reached:
+    """The scale whose remesh has a number of faces near the wished one, by bisection of the scale's logarithm. Where no
+    more faces are wished than there are, none that gives more is taken, if any that was tried gives no more.
 
     `faces` is how many there are now; `count_at` remeshes at a scale and counts, and its refusals go on to the caller,
     but for those of meshes that are too fine.
     """
-    tried: dict[Fraction, int] = {}
-
-    def count(scale: Fraction) -> int:
-        if scale not in tried:
-            tried[scale] = _count_or_many(count_at, scale)
-        return tried[scale]
-
-    low, high = _bracket(math.sqrt(wished / max(faces, 1)), wished, count)
-    while low < high and len(tried) < TRIES and not _is_near(tried, wished):
-        middle = as_scale(math.sqrt(low * high))
-        if middle in tried:
-            break
-        if count(middle) < wished:
-            low = float(middle)
-        else:
-            high = float(middle)
-    scale = min(tried, key=lambda it: (abs(tried[it] - wished), it))
-    return Reached(scale, tried[scale], len(tried), _reason(tried, wished))
+    return _Search(wished, faces, count_at).result()
 
 
 def as_scale(value: float) -> Fraction:
@@ -62,42 +59,93 @@ def as_scale(value: float) -> Fraction:
     return 1 / Fraction(1 / held).limit_denominator(LARGEST)
 
 
-def _count_or_many(count_at: Callable[[Fraction], int], scale: Fraction) -> int:
-    try:
-        return count_at(scale)
-    except Refusal as refusal:
-        if refusal.status != TOO_FINE:
-            raise
-        return 1 << 40
+class _Search:
+    """The scales that were tried so far."""
 
+    def __init__(self, wished: int, faces: int, count_at: Callable[[Fraction], Counted]) -> None:
+        self.wished, self.faces, self.count_at = wished, faces, count_at
+        self.tried: dict[Fraction, Counted] = {}
 
-def _bracket(guess: float, wished: int, count: Callable[[Fraction], int]) -> tuple[float, float]:
-    """A scale with fewer faces than wished and one with as many or more; the same twice where there are no such."""
-    low = high = float(as_scale(guess))
-    step, end = 1.25, LARGEST if count(as_scale(low)) < wished else 1 / LARGEST
-    if (count(as_scale(end)) < wished) == (end == LARGEST):
-        return end, end
-    while count(as_scale(high)) < wished:
-        low, high, step = high, min(high * step, LARGEST), step * step
-    while count(as_scale(low)) >= wished:
-        low, high, step = max(low / step, 1 / LARGEST), low, step * step
-    return low, high
+    def count(self, scale: Fraction) -> int:
+        if scale not in self.tried:
+            try:
+                self.tried[scale] = self.count_at(scale)
+            except Refusal as refusal:
+                if refusal.status != TOO_FINE:
+                    raise
+                self.tried[scale] = Counted(MANY)
+        return self.tried[scale].faces
 
+    def result(self) -> Reached:
+        low, high = self._bracket(math.sqrt(self.wished / max(self.faces, 1)))
+        self._bisect(low, high, self.wished, TRIES)
+        because = ""
+        if self.wished <= self.faces < self.tried[self._nearest()].faces:
+            beyond = self._nearest()
+            because = self._why_more(beyond)
+            if self.count(Fraction(1)) <= self.faces and beyond < 1:
+                self._bisect(float(beyond), 1.0, 0, MORE_TRIES)
+        scale = self._nearest()
+        if self._is_near():
+            because = ""
+        return Reached(scale, self.tried[scale].faces, len(self.tried), because or self._reason())
 
-def _is_near(tried: dict[Fraction, int], wished: int) -> bool:
-    return min(abs(it - wished) for it in tried.values()) <= NEAR * wished
+    def _allowed(self) -> list[Fraction]:
+        """The scales that may be taken: where no more faces are wished than there are, those with no more, if any."""
+        fewer = [it for it in self.tried if self.tried[it].faces <= self.faces]
+        return fewer if fewer and self.wished <= self.faces else list(self.tried)
 
+    def _nearest(self) -> Fraction:
+        return min(self._allowed(), key=lambda it: (abs(self.tried[it].faces - self.wished), it))
 
-def _reason(tried: dict[Fraction, int], wished: int) -> str:
-    if _is_near(tried, wished):
-        return ""
-    below = [it for it in tried if tried[it] < wished]
-    above = [it for it in tried if tried[it] >= wished]
-    if not below:
-        least = min(above)
-        return f"already at scale {least} it has {tried[least]} faces: arcs cannot be shorter than the floor"
-    if not above:
-        most = max(below)
-        return f"even at scale {most} it has {tried[most]} faces"
-    last, first = max(below), min(above)
-    return f"it has {tried[last]} faces at scale {last} and {tried[first]} at {first}: arcs have whole lengths"
+    def _is_near(self) -> bool:
+        return min(abs(self.tried[it].faces - self.wished) for it in self._allowed()) <= NEAR * self.wished
+
+    def _bracket(self, guess: float) -> tuple[float, float]:
+        """A scale with fewer faces than wished and one with as many or more; the same twice where there are no such."""
+        wished, count = self.wished, self.count
+        low = high = float(as_scale(guess))
+        step, end = 1.25, LARGEST if count(as_scale(low)) < wished else 1 / LARGEST
+        if (count(as_scale(end)) < wished) == (end == LARGEST):
+            return end, end
+        while count(as_scale(high)) < wished:
+            low, high, step = high, min(high * step, LARGEST), step * step
+        while count(as_scale(low)) >= wished:
+            low, high, step = max(low / step, 1 / LARGEST), low, step * step
+        return low, high
+
+    def _bisect(self, low: float, high: float, wished: int, tries: int) -> None:
+        """Tries scales between two; or, where no number is wished, looks for the least that gives no more faces than
+        there were."""
+        last = len(self.tried) + tries if not wished else tries
+        while low < high and len(self.tried) < last and not self._is_near():
+            middle = as_scale(math.sqrt(low * high))
+            if middle in self.tried:
+                break
+            is_low = self.count(middle) < wished if wished else self.count(middle) > self.faces
+            low, high = (float(middle), high) if is_low else (low, float(middle))
+
+    def _why_more(self, scale: Fraction) -> str:
+        found = self.tried[scale]
+        why = "arcs cannot be shorter than the floor"
+        if found.floor >= RAISED:
+            why = f"with the floor 1 an edge would be there twice, and with the floor {RAISED} arcs cannot be shorter"
+        return f"at scale {scale} it has {found.faces}, more than before: {why}"
+
+    def _reason(self) -> str:
+        tried = self.tried
+        if self._is_near():
+            return ""
+        below = [it for it in tried if tried[it].faces < self.wished]
+        above = [it for it in tried if tried[it].faces >= self.wished]
+        if not below:
+            least = min(above)
+            twice = ", and with the floor 1 an edge would be there twice" if tried[least].floor >= RAISED else ""
+            return (f"already at scale {least} it has {tried[least].faces} faces: arcs cannot be shorter than the "
+                    f"floor {tried[least].floor}{twice}")
+        if not above:
+            most = max(below)
+            return f"even at scale {most} it has {tried[most].faces} faces"
+        last, first = max(below), min(above)
+        return (f"it has {tried[last].faces} faces at scale {last} and {tried[first].faces} at {first}: arcs have "
+                "whole lengths")

@@ -10,6 +10,7 @@ from dataclasses import dataclass
 
 import numpy as np
 
+from .arrays import Array
 from .mesh import NONE, Mesh
 from .surface import least_in_class, number_in_order, twins_of
 
@@ -17,7 +18,7 @@ from .surface import least_in_class, number_in_order, twins_of
 class Trace:
     """A mesh of quads and the edges of its cut: first the marked ones, then those that riders ride from them."""
 
-    def __init__(self, mesh: Mesh, marks: np.ndarray) -> None:
+    def __init__(self, mesh: Mesh, marks: Array) -> None:
         """`marks` (marks, 2) are inner edges, as pairs of points in rising order."""
         self.mesh = mesh
         self.start, self.of_edge = mesh.corners, mesh.edges.of_corner
@@ -62,7 +63,7 @@ class Trace:
             has_stood[self.end[coming]] = True
             running = self.straight[coming[goes]]
 
-    def _goers(self, coming: np.ndarray) -> np.ndarray:
+    def _goers(self, coming: Array) -> Array:
         """(n,) bool: which of the riders that come to vertices go on: one alone, and of two the one that has the other
         on its left."""
         order = np.argsort(self.end[coming], kind="stable")
@@ -78,7 +79,7 @@ class Trace:
         goes[order] = (count == 1) | has_left
         return goes
 
-    def _breaks(self) -> np.ndarray:
+    def _breaks(self) -> Array:
         """The vertices where marked lines break, though they could pass; and the least of each straight line that comes
         round."""
         marked = np.flatnonzero(self.on)
@@ -89,7 +90,7 @@ class Trace:
         is_broken[self.end[marked[goes_on]]] = False
         return np.concatenate([np.flatnonzero(is_broken & self.is_passed), self._rounds(marked, goes_on)])
 
-    def _rounds(self, marked: np.ndarray, goes_on: np.ndarray) -> np.ndarray:
+    def _rounds(self, marked: Array, goes_on: Array) -> Array:
         """The least vertex of each straight line of marked darts that comes round: those of which no dart is the last,
         however far it is followed."""
         place = np.full(len(self.on), NONE)
@@ -100,9 +101,9 @@ class Trace:
             known = after != NONE
             least = np.where(known, np.minimum(least, least[after]), least)
             after = np.where(known, after[after], NONE)
-        return np.unique(least[after != NONE])
+        return np.asarray(np.unique(least[after != NONE]))
 
-    def _seeds(self) -> np.ndarray:
+    def _seeds(self) -> Array:
         """The least vertex of each connected part whose vertices are all regular."""
         inner = self.mesh.edges.uses == 2
         one, other = self.mesh.edges.rising[inner] // 4, self.mesh.edges.falling[inner] // 4
@@ -113,9 +114,9 @@ class Trace:
         faces = np.flatnonzero(is_regular[part])
         least = np.full(len(part), len(self.is_passed))
         np.minimum.at(least, part[faces], quads[faces].min(axis=1))
-        return least[np.unique(part[faces])]
+        return np.asarray(least[np.unique(part[faces])])
 
-    def patches(self) -> np.ndarray:
+    def patches(self) -> Array:
         """(faces,) int64: the patch of each face, patches counted from 0 in the order of their first faces."""
         edges = self.mesh.edges
         inner = edges.uses == 2
@@ -141,7 +142,7 @@ class Trace:
         lengths = np.bincount(of_dart, weights=1 / sides[self.of_edge[darts]], minlength=len(names))
         return Arcs(number, lengths.round().astype(np.int64), int(is_node.sum()))
 
-    def sizes(self, lengths: np.ndarray) -> np.ndarray:
+    def sizes(self, lengths: Array) -> Array:
         """(patches,) int64: how many faces each patch has where the arcs have these lengths."""
         arcs = self.arcs()
         if len(lengths) != len(arcs.lengths):
@@ -164,9 +165,9 @@ class Trace:
 class Arcs:
     """The lines of a cut from node to node. They count from 0, in the order of their least darts."""
 
-    of_dart: np.ndarray
+    of_dart: Array
     """(darts,) int64: the arc of each dart, or NONE."""
-    lengths: np.ndarray
+    lengths: Array
     """(arcs,) int64: how many edges each has."""
     nodes: int
     """How many ends of arcs there are."""

@@ -19,3 +19,7 @@ def grid(wide: int, high: int) -> Mesh:
 
 def moved(mesh: Mesh, x: float, y: float = 0.0, z: float = 0.0) -> Mesh:
     return Mesh(mesh.points + [x, y, z], mesh.corners, mesh.starts, groups=mesh.groups)
+
+
+SEEDS = pathlib.Path(__file__).resolve().parent / "seeds"
+"""Texts of all forms, from which the fuzz of `tools/fuzz_texts.py` begins."""

@@ -11,7 +11,7 @@ from quadq.mirror import half, with_image
 from quadq.progress import Progress
 from quadq.relaxing import relax
 from quadq.surface import irregular_counts, part_of_face
-from quadq.targets import as_scale, nearest_scale
+from quadq.targets import Counted, as_scale, nearest_scale
 
 from .shapes import EXAMPLES, grid, moved
 
@@ -21,7 +21,7 @@ class Measures(unittest.TestCase):
         shapes = {"square": ([0, 0], [2, 0], [2, 2], [0, 2]), "rhombus": ([0, 0], [2, 0], [3, 3**0.5], [1, 3**0.5]),
                   "triangle": ([0, 0], [1, 0], [2, 0], [0, 2]), "arrow": ([0, 0], [4, 0], [1, 1], [0, 4])}
         flat = np.array(list(shapes.values()), dtype=float).reshape(-1, 2)
-        mesh = Mesh.of_quads(np.column_stack([flat, 0 * flat[:, 0]]), np.arange(16))
+        mesh = Mesh.of_quads(np.column_stack([flat, 0 * flat[:, 0]]), np.arange(16).reshape(4, 4))
         found = scaled_jacobians(mesh)
         np.testing.assert_allclose(found[:3], [1, 3**0.5 / 2, 0], atol=1e-12)
         self.assertLess(found[3], 0)
@@ -36,7 +36,7 @@ class Measures(unittest.TestCase):
 
     def test_distances_are_those_of_all_faces(self):
         ball = read_obj((EXAMPLES / "letter_q.obj").read_text())
-        probes = Mesh.of_quads(np.random.default_rng(7).normal(size=(12, 3)), np.arange(12))
+        probes = Mesh.of_quads(np.random.default_rng(7).normal(size=(12, 3)), np.arange(12).reshape(3, 4))
         alone = [distance_between(probes, ball.faces_of(np.array([at]))[0]) for at in range(0, ball.face_count, 40)]
         chosen, _ = ball.faces_of(np.arange(0, ball.face_count, 40))
         self.assertLessEqual(distance_between(probes, chosen).greatest, min(it.greatest for it in alone) + 1e-12)
@@ -121,21 +121,21 @@ class Targets(unittest.TestCase):
             self.assertEqual(as_scale(value), Fraction(wanted))
 
     def test_a_number_that_is_reached(self):
-        reached = nearest_scale(250, 1000, lambda scale: round(1000 * float(scale) ** 2))
+        reached = nearest_scale(250, 1000, lambda scale: Counted(round(1000 * float(scale) ** 2)))
         self.assertEqual((reached.scale, reached.faces, reached.because), (Fraction(1, 2), 250, ""))
 
     def test_numbers_between_which_nothing_lies(self):
-        reached = nearest_scale(500, 1000, lambda scale: 400 if scale < Fraction(2, 3) else 900)
+        reached = nearest_scale(500, 1000, lambda scale: Counted(400 if scale < Fraction(2, 3) else 900))
         self.assertEqual(reached.faces, 400)
         self.assertIn("it has 400 faces at scale", reached.because)
 
     def test_numbers_out_of_reach(self):
-        self.assertIn("already at scale 1/1000", nearest_scale(5, 1000, lambda scale: 800).because)
+        self.assertIn("already at scale 1/1000", nearest_scale(5, 1000, lambda scale: Counted(800)).because)
 
         def count(scale):
             if scale > 2:
                 raise Refusal(10, "too fine: 9999999 faces")
-            return round(1000 * float(scale) ** 2)
+            return Counted(round(1000 * float(scale) ** 2))
 
         self.assertAlmostEqual(nearest_scale(3900, 1000, count).faces, 3900, delta=39)
 

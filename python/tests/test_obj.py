@@ -41,7 +41,7 @@ class Obj(unittest.TestCase):
 
     def test_no_obj(self):
         for text in ("v 0 0\n", "v 0 0 x\n", "v 0 0 0\nf 1 1 1 2\n", "v 0 0 0\nf 0 1 1 1\n", "v\n", "v 1 1 0,5\n",
-                     "v 0 0 0\nf -2 1 1 1\n", "f a b c d\n", "l a b\n"):
+                     "v 0 0 0\nf -2 1 1 1\n", "f a b c d\n"):
             with self.assertRaises(FormatError, msg=text):
                 read_obj(text)
 

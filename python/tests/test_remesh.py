@@ -151,8 +151,8 @@ class Remesh(unittest.TestCase):
         self.assertEqual(caught.exception.faces, (7, 9))
 
     def test_nothing_and_no_numbers(self):
-        empty = Mesh.of_quads(np.zeros((0, 3)), np.zeros((0, 4)))
-        self.assertEqual(remesh(empty, scale=1).mesh.face_count, 0)
+        with self.assertRaisesRegex(Refusal, "no faces"):
+            remesh(Mesh.of_quads(np.zeros((0, 3)), np.zeros((0, 4))), scale=1)
         with self.assertRaises(Refusal):
             remesh(Mesh.of_quads(np.full((4, 3), np.nan), [[0, 1, 2, 3]]), scale=1)
         for wrong in ({}, {"scale": 1, "faces": 2}, {"scale": 0}, {"scale": "1/1001"}, {"faces": 0},
@@ -205,7 +205,9 @@ class CommandLine(unittest.TestCase):
             status, said, errors = self.run_words(marked, out, *words, "--report", page)
             # On a slow machine the progress is told.
             told = [it for it in errors.splitlines() if not re.fullmatch(r"quadq: \w+ \d+ of \d+", it)]
-            self.assertEqual((status, told), (0, []), words)
+            lost = [] if "--lines" in words else [
+                "quadq: warning: 1 line was dropped: --lines keeps those along edges"]
+            self.assertEqual((status, told), (0, lost), words)
             self.assertTrue(out.read_text().startswith(head), words)
             self.assertIn("accepted by <code>quadq map</code>", page.read_text())
         self.assertIn("wished length of edges", said)

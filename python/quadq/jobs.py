@@ -1,0 +1,106 @@
+"""One file of many: what is to be done with it, and the doing."""
+
+from __future__ import annotations
+
+import hashlib
+import os
+import stat
+import time
+from dataclasses import dataclass, replace
+from pathlib import Path
+from typing import Optional
+
+from .errors import WishError
+from .files import make_folder, read_whole, remove_stale, write_whole
+from .formats import bytes_of, read_file
+from .program import USAGE, Program
+from .refusal import MEMORY, READ_FAULT, STRANGE, Refusal
+from .remeshing import Tell, run
+from .results import Result
+from .rows import Row, facts_of, settings_in_words, warnings_of
+from .settings import Settings
+
+
+@dataclass(frozen=True)
+class Job:
+    """A file, where its remesh goes, and how. It can be sent to other processes and machines."""
+
+    source: Path
+    target: Path
+    settings: Settings
+    program: Path
+    digest: str
+    """The program's checksum."""
+    timeout: Optional[float] = None
+    """How many seconds it may take."""
+
+    def row(self, status: Optional[int], words: str, seconds: float = 0.0) -> Row:
+        """What is told of it where there is no remesh."""
+        return Row(str(self.source), str(self.target), status, words, settings_in_words(self.settings), self.digest,
+                   seconds=seconds)
+
+    def row_without(self, status: int, words: str, seconds: float = 0.0) -> Row:
+        """The same, when no file of an earlier run is left."""
+        row = self.row(status, words, seconds)
+        try:
+            remove_stale(self.target, self.source)
+        except Refusal as said:
+            return replace(row, words=f"{row.words} ({said})")
+        return row
+
+
+def one_file(
+    source: Path, target: Path, settings: Settings, program: Program, tell: Tell, makes_folder: bool = False
+) -> tuple[Result, bytes]:
+    """Remeshes one file into another, and says what was written. Raises a `Refusal`; then no file of an earlier run
+    stands there any more, unless it is the source."""
+    try:
+        mesh, text = read_file(source, program, settings.subdivide)
+        result = run(mesh, settings, program, text, tell)
+        data = bytes_of(target, result.mesh, result.text)
+        if makes_folder:
+            make_folder(target.parent)
+        write_whole(target, data)
+    except Refusal:
+        remove_stale(target, source)
+        raise
+    return result, data
+
+
+def done(job: Job) -> Row:
+    """Does a job. All that may go wrong is a row."""
+    begun = time.monotonic()
+    read = ""
+    try:
+        _refuse_irregular(job.source)
+        read = checksum(read_whole(job.source))
+        program = Program(job.program).within(job.timeout)
+        result, data = one_file(job.source, job.target, job.settings, program, lambda step, done, total: None, True)
+    except Refusal as said:
+        row = job.row_without(said.status, str(said))
+    except WishError as error:
+        row = job.row_without(USAGE, str(error))
+    except MemoryError:
+        row = job.row_without(MEMORY, "out of memory")
+    # Whatever else comes is a fault of this package, and that of one file.
+    except Exception as error:
+        row = job.row_without(STRANGE, f"this package failed: {type(error).__name__}: {error}")
+    else:
+        report = result.report
+        row = replace(job.row(0, report.summary()), written=checksum(data), facts=facts_of(report),
+                      warnings=warnings_of(report))
+    return replace(row, read=read, seconds=time.monotonic() - begun)
+
+
+def _refuse_irregular(path: Path) -> None:
+    """A pipe or a device would keep all others waiting."""
+    try:
+        is_regular = stat.S_ISREG(os.stat(path).st_mode)
+    except OSError as error:
+        raise Refusal(READ_FAULT, f"read fault: {path}: {error.strerror}") from error
+    if not is_regular:
+        raise Refusal(READ_FAULT, f"read fault: {path} is no regular file")
+
+
+def checksum(data: bytes) -> str:
+    return hashlib.sha256(data).hexdigest()

@@ -1,0 +1,133 @@
+"""How a mesh is to be remeshed."""
+
+from __future__ import annotations
+
+from dataclasses import dataclass, replace
+from decimal import Decimal, InvalidOperation
+from fractions import Fraction
+from pathlib import Path
+from typing import Optional, Union
+
+from . import mirror as mirroring
+from .errors import WishError
+from .features import KINDS
+from .program import LARGEST, Wish
+
+FAR = Decimal(10) ** 9
+"""Edges are shorter than this."""
+LEAST = Decimal("0.000001")
+"""The shortest length of edges that the program takes."""
+
+
+@dataclass(frozen=True)
+class Settings:
+    """How a mesh is to be remeshed. One of `scale`, `faces` and `edge` is given."""
+
+    scale: Optional[Fraction] = None
+    faces: Optional[int] = None
+    edge: Optional[Decimal] = None
+    """How long edges are to be, in the unit of the mesh."""
+    floor: Union[int, str] = "auto"
+    weight: str = "plain"
+    sharp: Optional[float] = None
+    """Edges stay whose faces meet at more than so many degrees."""
+    keep: tuple[str, ...] = ()
+    """What else tells that edges stay: some of `features.KINDS`."""
+    corners: bool = True
+    """Whether edges stay besides that keep the corners of the boundary and of such lines, where any edge stays."""
+    coarse: bool = False
+    """Whether patches are merged where they have a whole side in common."""
+    subdivide: bool = False
+    mirror: Optional[str] = None
+    """The axis, x, y or z: the half where that coordinate is above 0 is remeshed, and mirrored."""
+    relax: int = 0
+    """How many times points are moved along the old surface, where no face becomes worse by it."""
+    jobs: int = 0
+    """How many parts are remeshed at a time; 0 for one a processor."""
+    folder: Optional[Path] = None
+    """Where the old and new text of each part are kept."""
+    carry: bool = False
+    """Whether what corners, points and faces carry comes over: texture, normals, colours, names within parts. A mirror
+    image carries what its half does."""
+    rescale: bool = False
+    """Whether the mesh is brought to one size for the program, which rounds to millionths, and back, whatever its unit
+    is; else that is done only where the unit is too small or too great."""
+
+    def __post_init__(self) -> None:
+        if self.scale is not None and not isinstance(self.scale, Fraction):
+            object.__setattr__(self, "scale", as_scale_wish(self.scale))
+        if self.edge is not None and not isinstance(self.edge, Decimal):
+            object.__setattr__(self, "edge", as_length(self.edge))
+        if [self.scale, self.faces, self.edge].count(None) != 2:
+            raise WishError("one of scale, faces and edge has to be given")
+        if self.faces is not None and self.faces < 1:
+            raise WishError("the number of faces has to be 1 or more")
+        scale = self.scale
+        if scale is not None and not (1 <= scale.numerator <= LARGEST and scale.denominator <= LARGEST):
+            raise WishError(f"the scale has to be P/Q, with whole numbers from 1 to {LARGEST}, and is {scale}")
+        if self.edge is not None and not 0 < self.edge < FAR:
+            raise WishError(f"the length of an edge has to be above 0 and below {FAR:f}, and is {self.edge}")
+        if str(self.floor) not in ("1", "2", "3", "auto"):
+            raise WishError(f"the floor has to be 1, 2, 3 or auto, and is {self.floor}")
+        if self.weight not in ("plain", "length"):
+            raise WishError(f"the weight has to be plain or length, and is {self.weight}")
+        if self.relax < 0:
+            raise WishError("points are relaxed 0 times or more")
+        if self.mirror is not None and self.mirror not in tuple(mirroring.AXES):
+            raise WishError(f"the mirror axis has to be x, y or z, and is {self.mirror}")
+        self._check_features()
+
+    def _check_features(self) -> None:
+        unknown = [it for it in self.keep if it not in KINDS]
+        if unknown:
+            raise WishError(f"what is kept has to be of {', '.join(KINDS)}, and is {unknown[0]}")
+        if self.sharp is not None and not 0 <= self.sharp <= 180:
+            raise WishError(f"the angle of sharp edges has to be from 0 to 180 degrees, and is {self.sharp}")
+        asked = [name for name, is_asked in (
+            ("edges that stay", self.is_creased), ("merged patches", self.coarse), ("a length of edges", self.edge)
+        ) if is_asked]
+        if len(asked) > 1:
+            raise WishError(f"the program has no command for {' and '.join(asked)} together")
+        if self.edge is not None and self.weight != "plain":
+            raise WishError("with a length of edges the weight is plain")
+
+    @property
+    def is_creased(self) -> bool:
+        """Whether edges stay: those at an angle, or of a kind."""
+        return self.sharp is not None or bool(self.keep)
+
+    @property
+    def command(self) -> str:
+        """The command of the program that does this."""
+        if self.edge is not None:
+            return "size"
+        return "crease" if self.is_creased else "coarse" if self.coarse else "remesh"
+
+    def times(self, factor: float) -> Settings:
+        """The same for a mesh that is so many times as large. Raises a `WishError` where its edges are too short."""
+        if self.edge is None:
+            return self
+        edge = self.edge * Decimal(factor)
+        if not LEAST <= edge < FAR:
+            raise WishError(f"the length of an edge has to be from {LEAST / Decimal(factor):f} to below "
+                            f"{FAR / Decimal(factor):f} for this mesh, and is {self.edge}")
+        return replace(self, edge=edge)
+
+    def wish(self, scale: Optional[Fraction]) -> Wish:
+        return Wish(Fraction(1) if scale is None else scale, self.floor, self.weight, self.command, self.edge)
+
+
+def as_length(value: Union[Decimal, float, str]) -> Decimal:
+    """A length as a decimal. Raises a `WishError` where it is none."""
+    try:
+        return Decimal(str(value))
+    except InvalidOperation as error:
+        raise WishError(f"the length of an edge has to be a number, and is {value}") from error
+
+
+def as_scale_wish(value: Union[Fraction, float, str]) -> Fraction:
+    """A scale as a fraction. Raises a `WishError` where it is none."""
+    try:
+        return Fraction(value).limit_denominator(10**6)
+    except (ValueError, ZeroDivisionError, OverflowError) as error:
+        raise WishError(f"the scale has to be P/Q, with whole numbers from 1 to {LARGEST}, and is {value}") from error
