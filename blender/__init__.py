@@ -38,9 +38,16 @@ ADVICE = {
     11: "an edge would be there twice. Take the floor Auto or 3",
     17: "the edges are too short for an object of this size. Take longer ones",
 }
-OVER = ("over a seam of the texture or a border of names",
-        "over the border of a UV island or a material: Keep Edges > UV Islands and Material Borders leave none")
-"""Words of a warning of the package, and what they mean in Blender."""
+MEANINGS = (
+    ("over a seam of the texture or a border of names",
+     "over the border of a UV island or a material: Keep Edges > UV Islands and Material Borders leave none"),
+    ("--sharp 30 keeps them", "Keep Edges > Sharp by Angle keeps them"), ("--sharp 30", "Keep Edges > Sharp by Angle"),
+    ("--mirror x", "Mirror X"), ("--mirror y", "Mirror Y"), ("--mirror z", "Mirror Z"),
+)
+"""Words of the package, and what they are in Blender."""
+HANDLED = ("scaled", "not-carried")
+"""What is usual here, or told in Blender's own words: objects are brought to one size, and what is not carried over is
+named."""
 
 
 def words_of(said: Refusal) -> str:
@@ -49,7 +56,16 @@ def words_of(said: Refusal) -> str:
                        ("repeated", "repeated")):
         if sign in said.line and said.status in (4, 7):
             return ADVICE[word]
+    if "no faces" in said.line:
+        return "the object has no faces"
     return ADVICE.get(said.status, said.line)
+
+
+def in_blender(words: str) -> str:
+    """A warning of the package in Blender's words."""
+    for theirs, ours in MEANINGS:
+        words = words.replace(theirs, ours)
+    return words
 
 
 def program_inside():
@@ -165,13 +181,11 @@ class OBJECT_OT_quadq_remesh(bpy.types.Operator):
     def remesh_one(self, context, source, program):
         """Remeshes one object. Raises a Refusal."""
         kept = [] if self.coarse or self.wish == "EDGE" else self.kept()
-        old, factor = meshes.taken(source, kept, self.carry or "islands" in kept)
-        if not old.face_count:
-            raise Refusal(3, "the object has no faces")
+        old = meshes.taken(source, kept, self.carry or "islands" in kept)
         is_carried = self.carry and meshes.has_more(old)
-        result = remesh(old, program=program, carry=is_carried, **self.wishes(kept, factor))
+        result = remesh(old, program=program, carry=is_carried, rescale=True, **self.wishes(kept))
         painted = paint(result.parts, result.written, program) if self.seams or not is_carried else None
-        new = meshes.made(source.data, result, None if is_carried else painted, factor)
+        new = meshes.made(source.data, result, None if is_carried else painted)
         meshes.mark_kept(source.data, new, result.mesh.lines)
         if self.seams:
             meshes.mark_seams(new, borders(result.mesh, painted.of_all(result.mesh)))
@@ -179,12 +193,12 @@ class OBJECT_OT_quadq_remesh(bpy.types.Operator):
         if is_carried:
             attributes.dress(source.data, new, result.mesh)
         self.put(context, source, new, result.mesh)
-        self.tell(source, result.report.times(1 / factor), lost)
+        self.tell(source, result.report, lost)
 
-    def wishes(self, kept, factor):
-        """What is wished of the package, where these kinds of edges are kept and the mesh is so many times as large."""
+    def wishes(self, kept):
+        """What is wished of the package, where these kinds of edges are kept."""
         wish = {"SCALE": {"scale": as_scale(self.scale)}, "FACES": {"faces": self.faces},
-                "EDGE": {"edge": self.edge * factor}}[self.wish]
+                "EDGE": {"edge": self.edge}}[self.wish]
         kinds = {"lines": set(kept) & set(meshes.EDGES), "materials": "materials" in kept, "seams": "islands" in kept}
         return dict(floor=self.floor, subdivide=self.subdivide, relax=self.relax, corners=self.corners,
                     keep=[kind for kind, is_asked in kinds.items() if is_asked],
@@ -207,8 +221,9 @@ class OBJECT_OT_quadq_remesh(bpy.types.Operator):
         self.report({"INFO"}, f"{source.name}: faces {report.before.faces} -> {report.after.faces}, "
                     f"parts {'checked ' if report.is_checked else ''}{report.parts}, "
                     f"greatest distance {report.greatest_distance:.3g}")
-        for warning in report.warnings:
-            self.report({"WARNING"}, f"{source.name}: {warning.replace(*OVER)}")
+        for notice in report.notices:
+            if notice.kind not in HANDLED:
+                self.report({"WARNING"}, f"{source.name}: {in_blender(notice.words)}")
         if lost:
             self.report({"WARNING"}, f"{source.name}: not carried over: {', '.join(lost)}")
 

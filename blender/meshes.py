@@ -1,15 +1,11 @@
 """Blender's meshes as those of the package, and back."""
 
-import math
-
 import bpy
 import numpy as np
 
 from .attributes import attributes_of, column
 from .quadq import Mesh, Names
 
-SIZE = 1024.0
-"""About how large a mesh is made for the program, which rounds to millionths."""
 MATERIAL, SMOOTH = "usemtl", "s"
 EDGES = ("sharp", "seams", "creases")
 """The kinds of marked edges."""
@@ -20,12 +16,10 @@ AT_A_TIME = 1 << 20
 
 
 def taken(source, kept=(), is_dressed=True):
-    """The package's mesh of an object, with the marked edges of these kinds as lines, and the factor by which it is
-    larger. It has UV maps, colours, weights and normals, unless it is not dressed."""
+    """The package's mesh of an object, with the marked edges of these kinds as lines. It has UV maps, colours, weights
+    and normals, unless it is not dressed."""
     data = source.data
     points = column(data.vertices, "co", np.float32, 3).astype(float)
-    size = float(np.abs(points).max(initial=0.0))
-    factor = 2.0 ** round(math.log2(SIZE / size)) if size > 0 else 1.0
     sides = column(data.polygons, "loop_total", np.int32).astype(np.int64)
     firsts = column(data.polygons, "loop_start", np.int32).astype(np.int64)
     starts = np.concatenate([[0], np.cumsum(sides)])
@@ -38,7 +32,7 @@ def taken(source, kept=(), is_dressed=True):
         marked |= edge_marks(data, kind) > 0
     lines = tuple(ends_of(data)[marked])
     worn = attributes_of(source, loops) if is_dressed else {}
-    return Mesh(points * factor, corners, starts, groups=groups, lines=lines, **worn), factor
+    return Mesh(points, corners, starts, groups=groups, lines=lines, **worn)
 
 
 def has_more(mesh):
@@ -74,12 +68,12 @@ def _numbers(values):
     return Names(tuple(map(str, range(int(values.max(initial=0)) + 1))), values.astype(np.int64))
 
 
-def made(source, result, painted, factor):
+def made(source, result, painted):
     """Blender's mesh of a result, with the material slots of the source. A new face has the material and the smoothing
     that were carried over, or, where patches are painted, those of most faces of its old patch."""
     mesh = result.mesh
     data = bpy.data.meshes.new(source.name)
-    data.from_pydata((mesh.points / factor).tolist(), [], mesh.quads.tolist())
+    data.from_pydata(mesh.points.tolist(), [], mesh.quads.tolist())
     for material in source.materials:
         data.materials.append(material)
     for word, name in ((MATERIAL, "material_index"), (SMOOTH, "use_smooth")):

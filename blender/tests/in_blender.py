@@ -174,6 +174,15 @@ class AddOn(unittest.TestCase):
         self.assertAlmostEqual(area(source.data) / size, 1, delta=0.05)
         self.assertEqual([it.name for it in source.data.materials], ["gold", "iron"])
 
+    def test_a_fault_behind_a_division_selects_faces_of_the_object(self):
+        points = [(0, 0, 0), (1, 0, 0), (1, 1, 0), (0, 1, 0), (2, 0, 0), (2, 1, 0), (1, 2, 0)]
+        source = with_mesh("turned", points, [(0, 1, 2, 3), (1, 2, 5, 4), (3, 2, 6)])
+        chosen(source)
+        with self.assertRaisesRegex(RuntimeError, "run the same way along an edge"):
+            bpy.ops.object.quadq_remesh(subdivide=True)
+        bpy.ops.object.mode_set(mode="OBJECT")
+        self.assertEqual([it.select for it in source.data.polygons], [True, True, False])
+
     def test_materials_and_seams_of_patches(self):
         bpy.ops.mesh.primitive_cube_add()
         bpy.ops.object.mode_set(mode="EDIT")
