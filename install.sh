@@ -15,7 +15,7 @@ case ${1-} in
     -h | --help) echo "$usage" && exit 0 ;;
     -*) echo "$usage" >&2 && exit 2 ;;
 esac
-[ $# -le 1 ] || { echo "$usage" >&2 && exit 2; }
+[ $# -eq 0 ] || { [ $# -eq 1 ] && [ -n "$1" ]; } || { echo "$usage" >&2 && exit 2; }
 root=$(dirname "$(readlink -f "$0")")
 prefix=${1:-/usr/local}
 bin=$prefix/bin

@@ -7,7 +7,7 @@ import sys
 import tempfile
 import time
 
-from measuring import build_bench
+from measuring import bench_program
 
 HERE = os.path.dirname(os.path.realpath(__file__))
 ROUNDS = 5
@@ -44,7 +44,7 @@ def measured(words, text):
 
 
 def main():
-    quadq = build_bench()
+    quadq = bench_program()
     with tempfile.TemporaryDirectory() as room:
         plain, text = f"{room}/certs", f"{room}/text"
         subprocess.run(["g++", "-O2", "-std=c++17", "-o", plain, f"{HERE}/certs.cpp"], check=True)

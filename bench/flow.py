@@ -7,7 +7,7 @@ import sys
 import tempfile
 import time
 
-from measuring import build_bench
+from measuring import bench_program
 
 HERE = os.path.dirname(os.path.realpath(__file__))
 ROUNDS = 7
@@ -30,7 +30,7 @@ def main():
     with tempfile.TemporaryDirectory() as room:
         plain = f"{room}/flow"
         subprocess.run(["g++", "-O2", "-std=c++17", "-o", plain, f"{HERE}/flow.cpp"], check=True)
-        programs = [("quadq", build_bench()), ("plain C++", plain)]
+        programs = [("quadq", bench_program()), ("plain C++", plain)]
         print(f"{'task':<8}{'program':<12}{'ms a call':>10}{'MB':>7}")
         for task in ("graph", "nest", "tree", "comb"):
             once, often, room_mb, outputs = {}, {}, {}, set()

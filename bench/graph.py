@@ -5,10 +5,9 @@ import os
 import subprocess
 import tempfile
 
-from measuring import best, count_lines
+from measuring import best, count_lines, program
 
 HERE = os.path.dirname(os.path.realpath(__file__))
-ROOT = os.path.dirname(HERE)
 ROUNDS = 5
 # Each mesh with half its faces, and whole.
 MESHES = [
@@ -20,12 +19,11 @@ MESHES = [
 
 
 def main():
-    subprocess.run([f"{ROOT}/tools/build.py"], check=True)
     with tempfile.TemporaryDirectory() as room:
         for name in ("graph", "meshes"):
             command = ["g++", "-O2", "-std=c++20", "-o", f"{room}/{name}", f"{HERE}/{name}.cpp"]
             subprocess.run(command, check=True)
-        programs = [("quadq", [f"{ROOT}/build/quadq", "graph"]), ("plain C++", [f"{room}/graph"])]
+        programs = [("quadq", [program(), "graph"]), ("plain C++", [f"{room}/graph"])]
         head = f"{'mesh':<8}{'faces':>9}{'quadq s':>9}{'MB':>6}{'C++ s':>8}{'MB':>6}{'time':>7}{'memory':>8}"
         print(f"{head}{'doubled':>9}")
         for mesh, half, whole in MESHES:

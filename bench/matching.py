@@ -13,12 +13,10 @@ import subprocess
 import sys
 import tempfile
 
-from measuring import build_bench
+from measuring import bench_program
 from solve import net_of_graph
 
 HERE = os.path.dirname(os.path.realpath(__file__))
-ROOT = os.path.dirname(HERE)
-QUADQ = f"{ROOT}/crates/qm_bench/out/qm_bench"
 RANDOM = [1000, 5000, 20000]
 LAYOUTS = [["holes", "1024", "1024"], ["voxels", "30"], ["voxels", "70"]]
 ROUNDS = 3
@@ -57,7 +55,7 @@ def graphs(room, files):
             layout = piped([tracer], piped([mesher, *words], b"")).decode()
             nets.append((" ".join(words), net_text(net_of_graph(layout, 1, 2)).encode()))
     for name, text in nets:
-        yield name, piped([QUADQ, "pair"], text)
+        yield name, piped([bench_program(), "pair"], text)
 
 
 def run(words, text):
@@ -74,7 +72,6 @@ def run(words, text):
 
 
 def main():
-    build_bench()
     with tempfile.TemporaryDirectory() as room:
         lemon = built(room, "matching", "-llemon")
         if lemon is None:
@@ -85,8 +82,8 @@ def main():
             vertices, edges = map(int, text.split(b"\n", 1)[0].split()[1:])
             ours, theirs, megabytes = None, None, [0, 0]
             for _ in range(ROUNDS):
-                none, base, _ = run([QUADQ, "match", "0"], text)
-                one, peak, said = run([QUADQ, "match", "1"], text)
+                none, base, _ = run([bench_program(), "match", "0"], text)
+                one, peak, said = run([bench_program(), "match", "1"], text)
                 cost, sets = re.fullmatch(r"cost (-?\d+) sets (\d+)\n", said).groups()
                 ours = min(one - none, ours or one - none)
                 megabytes[0] = peak - base

@@ -27,12 +27,12 @@ def name_of(mesh):
     return mesh.stem if mesh.suffix == ".obj" else mesh.parent.stem
 
 
-def build_bench():
-    """Builds the program of the work that is timed, and gives its path."""
-    crate = f"{ROOT}/crates/qm_bench"
-    with open(f"{crate}/stdin", "rb") as text:
-        subprocess.run(["rt", "run"], cwd=crate, check=True, stdin=text, stdout=subprocess.DEVNULL)
-    return f"{crate}/out/qm_bench"
+def bench_program():
+    """The path of the program of the work that is timed: the one that QUADQ_BENCH names, or that of the last build."""
+    path = os.environ.get("QUADQ_BENCH", f"{ROOT}/crates/qm_bench/out/qm_bench")
+    if not os.path.exists(path):
+        sys.exit(f"{path} is not there: `rt run` in crates/qm_bench builds it, or QUADQ_BENCH names it")
+    return path
 
 
 def taken(words, source, target):

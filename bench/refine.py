@@ -6,10 +6,9 @@ import shutil
 import subprocess
 import tempfile
 
-from measuring import best, count_lines, measured
+from measuring import best, count_lines, measured, program
 
 HERE = os.path.dirname(os.path.realpath(__file__))
-ROOT = os.path.dirname(HERE)
 ROUNDS = 5
 # Each mesh as the words of the script that makes it, and the multiple.
 MESHES = [
@@ -34,7 +33,6 @@ def show_blender(text, room):
 
 
 def main():
-    subprocess.run([f"{ROOT}/tools/build.py"], check=True)
     with tempfile.TemporaryDirectory() as room:
         for name in ("refine", "meshes"):
             command = ["g++", "-O2", "-std=c++20", "-o", f"{room}/{name}", f"{HERE}/{name}.cpp"]
@@ -48,7 +46,7 @@ def main():
                 maker = f"{HERE}/{words[0]}" if words[0].endswith(".py") else f"{room}/{words[0]}"
                 subprocess.run([maker, *words[1:]], stdout=out, check=True)
             programs = [
-                ("quadq", [f"{ROOT}/build/quadq", "refine", "--by", str(by)]),
+                ("quadq", [program(), "refine", "--by", str(by)]),
                 ("plain C++", [f"{room}/refine", str(by)]),
             ]
             least, outputs = best(programs, text, room, ROUNDS)

@@ -13,11 +13,10 @@ import subprocess
 import sys
 import tempfile
 
-from measuring import count_lines, measured, run, taken
+from measuring import count_lines, measured, program, run, taken
 
 HERE = os.path.dirname(os.path.realpath(__file__))
-ROOT = os.path.dirname(HERE)
-QUADQ = f"{ROOT}/build/quadq"
+QUADQ = program()
 ROUNDS = 3
 # Each setting as scale and floor.
 HALF = ("1/2", "auto")
@@ -116,7 +115,6 @@ def show_quadriflow(mesh, room):
 
 def main():
     only_boundary = "--boundary" in sys.argv
-    subprocess.run([f"{ROOT}/tools/build.py"], check=True)
     with tempfile.TemporaryDirectory() as room:
         maker, mesh = f"{room}/meshes", f"{room}/mesh.obj"
         subprocess.run(["g++", "-O2", "-std=c++20", "-o", maker, f"{HERE}/meshes.cpp"], check=True)

@@ -17,7 +17,7 @@ import sys
 import tempfile
 
 import solve
-from measuring import ROOT, taken
+from measuring import program, taken
 
 HERE = os.path.dirname(os.path.realpath(__file__))
 MESHES = [["cube", "100"], ["holes", "1024", "1024"], ["voxels", "40"], ["voxels", "100"], ["voxels", "208"]]
@@ -57,7 +57,6 @@ def networks(names, room):
 
 
 def show_networks(names, room):
-    solve.build_bench()
     print(f"{'network':<40}{'arcs':>8}{'times':>6}{'least':>14}{'rounds':>7}{'left':>6}{'s':>8}{'MB':>6}{'us/arc':>8}{'start %':>8}{'rest %':>8}")
     for name, net in networks(names, room):
         arcs = len(net[4])
@@ -82,12 +81,11 @@ def moved(mesh):
 
 def least(words, text, out):
     """The least seconds and megabytes of some runs, and their status."""
-    runs = [taken([f"{ROOT}/build/quadq", *words], text, out) for _ in range(ROUNDS)]
+    runs = [taken([program(), *words], text, out) for _ in range(ROUNDS)]
     return min(it[1] for it in runs), min(it[2] for it in runs), runs[0][3]
 
 
 def show_meshes(room):
-    subprocess.run([f"{ROOT}/tools/build.py"], check=True)
     subprocess.run(["g++", "-O2", "-std=c++20", "-o", f"{room}/meshes", f"{HERE}/meshes.cpp"], check=True)
     print(f"{'mesh':<20}{'faces':>9}{'new faces':>11}{'size s':>9}{'MB':>6}{'remesh s':>10}{'MB':>6}")
     for words in MESHES:

@@ -24,11 +24,10 @@ import subprocess
 import sys
 import tempfile
 
-from measuring import build_bench
+from measuring import bench_program
 
 HERE = os.path.dirname(os.path.realpath(__file__))
-ROOT = os.path.dirname(HERE)
-SOLVER = [f"{ROOT}/crates/qm_bench/out/qm_bench", "descend_old" if "--old" in sys.argv else "descend"]
+DESCENT = "descend_old" if "--old" in sys.argv else "descend"
 MESHES = [["holes", "512", "512"], ["holes", "1024", "1024"], ["voxels", "20"], ["voxels", "40"]]
 LARGE = [["holes", "4096", "4096"], ["voxels", "100"], ["voxels", "208"]]
 # Where many ends lie at the boundary, and the settings at which these are measured: scale and floor.
@@ -129,7 +128,7 @@ def measured(net, room):
     """What quadq tells of a network, by name, with the seconds and megabytes of the run."""
     with open(f"{room}/it.net", "w", encoding="ascii") as out:
         out.write(text_of(net))
-    told, seconds, megabytes = run(SOLVER, f"{room}/it.net")
+    told, seconds, megabytes = run([bench_program(), DESCENT], f"{room}/it.net")
     found = {name: float(value) for name, value in re.findall(r"^([a-z ]+): ([-\d.]+)", told, re.MULTILINE)}
     return found, seconds, megabytes
 
@@ -237,7 +236,6 @@ def main():
     has_peer = shutil.which("cbc") and not {"--alone", "--boundary"} & set(sys.argv)
     if not has_peer:
         print("cbc: not measured")
-    build_bench()
     head = f"{'network':<40}{'nodes':>8}{'arcs':>8}{'floor':>6}{'scale':>7}{'start':>12}{'least':>12}"
     head += f"{'rounds':>7}{'left':>6}{'sets':>6}{'s':>8}{'MB':>6}{'us/arc':>8}{'read %':>8}{'start %':>8}{'rest %':>8}"
     print(head + f"{'cbc s':>8}{'ratio':>8}" * bool(has_peer))

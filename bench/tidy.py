@@ -4,10 +4,9 @@ import os
 import subprocess
 import tempfile
 
-from measuring import best, measured
+from measuring import best, measured, program
 
 HERE = os.path.dirname(os.path.realpath(__file__))
-ROOT = os.path.dirname(HERE)
 ROUNDS = 7
 
 
@@ -37,8 +36,7 @@ def openmesh(program, text, room):
 
 
 def main():
-    subprocess.run([f"{ROOT}/tools/build.py"], check=True)
-    quadq = [f"{ROOT}/build/quadq", "tidy"]
+    quadq = [program(), "tidy"]
     with tempfile.TemporaryDirectory() as room:
         peer = f"{room}/tidy"
         subprocess.run(["g++", "-O2", "-std=c++20", "-o", peer, f"{HERE}/tidy.cpp"], check=True)

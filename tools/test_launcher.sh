@@ -347,6 +347,8 @@ installing() {
     wants "install.sh --help" "0 1" "$? $(grep -c '^usage: ' "$room/out1")"
     "$at/install.sh" --prefix=/x 2>/dev/null
     wants "an unknown option" 2 $?
+    "$at/install.sh" "" 2>/dev/null
+    wants "an empty PREFIX, before anything is built" "2 0" "$? $(builds)"
     touch "$room/file"
     "$at/install.sh" "$room/file" 2>/dev/null
     wants "a file as PREFIX, before anything is built" "1 0" "$? $(builds)"
