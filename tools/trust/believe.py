@@ -1,5 +1,6 @@
 """The list of what one has to read to believe each clause of `run`, and what other public calls rest on."""
 
+import hashlib
 from collections import defaultdict
 from collections.abc import Iterable
 from pathlib import Path
@@ -17,7 +18,8 @@ HEAD = """# What to believe
 If a promise of `run` says what you want, and the definitions behind it say what their names and comments tell, then you
 need not read anything else: the proofs are checked. Below stand the definitions behind each promise, by file. A file
 rests on those above it alone, so that is an order in which to read them. Lines are those of the definitions that are
-needed, without comments. What std and the kit's crates define comes besides, and so do the traits `Source` and `Sink`
+needed, without comments, and the sum is the first of the SHA-256 of their text: where a definition changes, so does this
+page, and a review sees it. What std and the kit's crates define comes besides, and so do the traits `Source` and `Sink`
 of [`qm_io`](../crates/qm_io/src/traits.rt). [The map](ARCHITECTURE.md#how-to-read-a-clause) says how to read a clause.
 """
 
@@ -87,12 +89,18 @@ def plural(count: int, word: str) -> str:
 
 
 def table(base: Base, needed: set[Definition]) -> list[str]:
-    lines = ["| file | definitions | lines |", "|---|--:|--:|"]
+    lines = ["| file | definitions | lines | sum |", "|---|--:|--:|---|"]
     for file in reading_order(base, needed):
         mine = [it for it in needed if it.file == file]
         name = "/".join(file.with_suffix("").parts[1:])
-        lines.append(f"| [`{name}`](../{file}) | {len(mine)} | {sum(it.lines for it in mine):,} |")
+        lines.append(f"| [`{name}`](../{file}) | {len(mine)} | {sum(it.lines for it in mine):,} | `{sum_of(mine)}` |")
     return [*lines, ""]
+
+
+def sum_of(definitions: list[Definition]) -> str:
+    """Eight digits that tell the text of some definitions of a file from another, comments and layout apart."""
+    text = "\n".join(it.said for it in sorted(definitions, key=lambda it: it.line))
+    return hashlib.sha256(text.encode()).hexdigest()[:8]
 
 
 def headline_part(base: Base) -> tuple[list[str], set[Definition]]:

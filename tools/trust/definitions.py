@@ -18,7 +18,8 @@ BINDERS = re.compile(r"[({]([^(){}:]+) : |λ ([^.()]*)(?:\(([\w' ]+) :[^)]*\))?\
 
 @dataclass(frozen=True)
 class Definition:
-    """A definition of a `specs/` or an item of Rust code; `lines` counts those that are no comment and not empty."""
+    """A definition of a `specs/` or an item of Rust code; `lines` counts those that are no comment and not empty, and
+    `said` is its text with its strings, each white space as one blank."""
 
     crate: str
     file: Path
@@ -26,6 +27,7 @@ class Definition:
     line: int
     lines: int
     text: str = field(repr=False, compare=False)
+    said: str = field(repr=False, compare=False)
     constructors: tuple[str, ...] = field(default=(), compare=False)
 
     @property
@@ -48,7 +50,8 @@ def definitions_in(source: Source) -> Iterator[Definition]:
         lines = sum(1 for it in text.splitlines() if it.strip())
         data = text.startswith("pub data")
         constructors = tuple(CONSTRUCTOR.findall(text)) if data else ()
-        yield Definition(source.crate, source.file, head[1], source.line(head.start()), lines, text, constructors)
+        said = " ".join(source.said[head.start() : head.start() + len(text)].split())
+        yield Definition(source.crate, source.file, head[1], source.line(head.start()), lines, text, said, constructors)
 
 
 def item_end(text: str) -> int:

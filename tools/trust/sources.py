@@ -11,6 +11,7 @@ USE = re.compile(r"\b(?:ghost )?use (Rattle\.[\w.]+?)(?:\.\{([^}]*)\}| as (\w+))
 RUST_USE = re.compile(r"\buse (def_\w+)::(?:\{([^}]*)\}|(\w+))\s*;")
 IN_RUST = r'//[^\n]*|"(?:[^"\\]|\\.)*"|b?\'(?:[^\'\\\n]|\\[^\n])\''
 IN_SPECS = r'--[^\n]*|"(?:[^"\\]|\\.)*"'
+COMMENT = ("--", "//")
 
 
 @dataclass(frozen=True)
@@ -23,11 +24,13 @@ class Import:
 
 @dataclass(frozen=True)
 class Source:
-    """A file of a crate. In its text comments, strings and characters are blank; each other letter is in its place."""
+    """A file of a crate. In its text comments, strings and characters are blank, and in what it says comments alone; each
+    other letter is in its place."""
 
     crate: str
     file: Path
     text: str
+    said: str
     imports: tuple[Import, ...]
 
     @property
@@ -44,8 +47,9 @@ class Source:
         return self.text.count("\n", 0, at) + 1
 
 
-def blanked(text: str, parts: str) -> str:
-    return re.sub(parts, lambda it: re.sub(r"[^\n]", " ", it[0]), text)
+def blanked(text: str, parts: str, only: tuple[str, ...] = ("",)) -> str:
+    """The text with blanks in place of these parts, or only of those that begin so."""
+    return re.sub(parts, lambda it: re.sub(r"[^\n]", " ", it[0]) if it[0].startswith(only) else it[0], text)
 
 
 def bare(name: str) -> str:
@@ -72,8 +76,9 @@ def rust_imports_of(text: str) -> Iterator[Import]:
 def read(root: Path, file: Path) -> Source:
     whole, place = file.read_text(), file.relative_to(root)
     rust = file.suffix == ".rt"
-    text = blanked(whole, IN_RUST if rust else IN_SPECS)
-    return Source(place.parts[1], place, text, (*imports_of(text), *(rust_imports_of(text) if rust else ())))
+    parts = IN_RUST if rust else IN_SPECS
+    text, said = blanked(whole, parts), blanked(whole, parts, COMMENT)
+    return Source(place.parts[1], place, text, said, (*imports_of(text), *(rust_imports_of(text) if rust else ())))
 
 
 def crates_of(root: Path) -> list[str]:
