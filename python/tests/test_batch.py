@@ -90,7 +90,8 @@ class Batch(BatchRoom):
                              (7 if "bad" in row.source else 0, checksum(pathlib.Path(row.source).read_bytes())))
             if row.is_good:
                 self.assertEqual(line["output_sha256"], checksum(pathlib.Path(row.target).read_bytes()))
-        self.assertEqual([it["status"] for it in csv.DictReader(table.open())], ["0", "0", "0", "7"])
+        told = csv.DictReader(table.read_text().splitlines())
+        self.assertEqual([it["status"] for it in told], ["0", "0", "0", "7"])
 
     def test_wishes_that_one_file_cannot_have(self):
         small = self.inward / "small.obj"
