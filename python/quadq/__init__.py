@@ -31,6 +31,7 @@ from .results import Counts, Report, Result
 from .rows import Row
 from .settings import Settings
 from .subdivision import subdivide
+from .version import VERSION
 
 __all__ = [
     "Books", "Counts", "Distance", "FormatError", "Layer", "Mesh", "MeshError", "Names", "Notice", "Program",
@@ -38,6 +39,8 @@ __all__ = [
     "find_features", "quality_of", "read", "read_obj", "refusal_page", "remesh", "remesh_files", "result_page",
     "scaled_jacobians", "subdivide", "write", "write_obj",
 ]
+
+__version__ = VERSION
 
 
 def read(path: Union[str, os.PathLike[str]], *, polygons: bool = False, program: Optional[Program] = None) -> Mesh:

@@ -15,22 +15,23 @@ from .features import KINDS
 from .files import remove_stale, write_whole
 from .formats import refuse_format
 from .jobs import one_file
-from .program import Program
-from .progress import Progress
+from .program import Program, find_program
+from .progress import NAME, Progress
 from .refusal import READ_FAULT, WRITE_FAULT, Refusal
 from .report import refused_page, result_page
 from .rows import Row, summary_of
 from .settings import Settings, as_length
 from .stopping import Stopped, stopped_by_signals
+from .version import VERSION, version_lines
 
 USAGE = 2
 
 
 def parser_of_words() -> argparse.ArgumentParser:
     parser = argparse.ArgumentParser(
-        prog="quadq", description="Remeshes quad meshes with the proved program quadq, and checks each part.",
-        usage="quadq IN.obj OUT.obj (--scale P/Q | --faces N | --edge D) [..]\n"
-              "       quadq FILES AND FOLDERS.. --out FOLDER (..) [..]")
+        prog=NAME, description="Remeshes quad meshes with the proved program quadq, and checks each part.",
+        usage=f"{NAME} IN.obj OUT.obj (--scale P/Q | --faces N | --edge D) [..]\n"
+              f"       {NAME} FILES AND FOLDERS.. --out FOLDER (..) [..]")
     parser.add_argument("paths", nargs="+", metavar="FILE", help="IN and OUT; with --out files and folders")
     wish = parser.add_mutually_exclusive_group(required=True)
     wish.add_argument("--scale", type=Fraction, metavar="P/Q", help="how long edges of patches are to be, of the old")
@@ -61,7 +62,23 @@ def parser_of_words() -> argparse.ArgumentParser:
     parser.add_argument("--timeout", type=float, metavar="SECONDS", help="how long a file may take")
     parser.add_argument("--jobs", type=int, default=0, metavar="N", help="how much at a time; 0: one a processor")
     parser.add_argument("--quiet", action="store_true", help="say only what is refused")
+    parser.add_argument("--version", action=TellVersion, help="say which version this is, and which program it runs")
     return parser
+
+
+class TellVersion(argparse.Action):
+    """Says the version, and the program with its checksum, and ends."""
+
+    def __init__(self, option_strings: Sequence[str], dest: str, help: Optional[str] = None) -> None:
+        super().__init__(option_strings, argparse.SUPPRESS, nargs=0, help=help)
+
+    def __call__(self, parser: argparse.ArgumentParser, *_: object) -> None:
+        try:
+            print(version_lines(find_program()))
+        except OSError as error:
+            print(f"{NAME} {VERSION}")
+            parser.exit(USAGE, f"{NAME}: {error}\n")
+        parser.exit()
 
 
 def main(words: Optional[Sequence[str]] = None) -> int:
@@ -73,17 +90,17 @@ def main(words: Optional[Sequence[str]] = None) -> int:
             sys.stdout.flush()
             return status
     except Stopped as stopped:
-        print(f"quadq: {stopped.words}", file=sys.stderr)
+        print(f"{NAME}: {stopped.words}", file=sys.stderr)
         return stopped.status
     except Refusal as said:
-        print(f"quadq: {said}", file=sys.stderr)
+        print(f"{NAME}: {said}", file=sys.stderr)
         return said.status
     except BrokenPipeError:
         # Nobody reads what is said any more. What is left of it would fail again at the end.
         os.dup2(os.open(os.devnull, os.O_WRONLY), sys.stdout.fileno())
         return WRITE_FAULT
     except (ValueError, FileNotFoundError) as error:
-        print(f"quadq: {error}", file=sys.stderr)
+        print(f"{NAME}: {error}", file=sys.stderr)
         return USAGE
 
 
@@ -127,18 +144,17 @@ def _single(asked: argparse.Namespace, settings: Settings, program: Program) -> 
     try:
         result, _ = one_file(source, out, settings, program, progress.tell)
         if asked.report is not None:
-            progress.tell("pictures", 0, 1)
+            progress.tell("drawing pictures", 0, 1)
             write_whole(asked.report, result_page(source.name, result, program, asked.up).encode())
     except Refusal as said:
-        progress.end()
         if asked.report is not None:
             _report_refusal(asked, source, said)
         raise
     except Stopped:
-        progress.end()
         remove_stale(out, source)
         raise
-    progress.end()
+    finally:
+        progress.end()
     report = result.report
     if not asked.quiet:
         for label, value in report.facts():
@@ -146,7 +162,7 @@ def _single(asked: argparse.Namespace, settings: Settings, program: Program) -> 
         for label, before, after in report.table():
             print(f"{label:<34}{before:>12}{after:>14}")
     for warning in report.warnings:
-        print(f"quadq: warning: {warning}", file=sys.stderr)
+        print(f"{NAME}: warning: {warning}", file=sys.stderr)
     return 0
 
 
@@ -164,11 +180,11 @@ def _batch(asked: argparse.Namespace, settings: Settings, program: Program) -> i
     def say(it: Row) -> None:
         told.append(it)
         if not it.is_good:
-            print(f"quadq: {it.source}: {it.words}", file=sys.stderr, flush=True)
+            print(f"{NAME}: {it.source}: {it.words}", file=sys.stderr, flush=True)
         elif not asked.quiet:
             print(f"{it.source}: {it.words}", flush=True)
             for warning in it.warnings:
-                print(f"quadq: {it.source}: warning: {warning['words']}", file=sys.stderr, flush=True)
+                print(f"{NAME}: {it.source}: warning: {warning['words']}", file=sys.stderr, flush=True)
 
     try:
         rows = remesh_files(

@@ -55,8 +55,10 @@ def one_file(
     """Remeshes one file into another, and says what was written. Raises a `Refusal`; then no file of an earlier run
     stands there any more, unless it is the source."""
     try:
+        tell("reading", 0, 1)
         mesh, text = read_file(source, program, settings.subdivide)
         result = run(mesh, settings, program, text, tell)
+        tell("writing", 0, 1)
         data = bytes_of(target, result.mesh, result.text)
         if makes_folder:
             make_folder(target.parent)

@@ -6,6 +6,7 @@ import os
 from dataclasses import replace
 from decimal import Decimal
 from fractions import Fraction
+from itertools import count
 from pathlib import Path
 from typing import Callable, Iterable, Optional, Union
 
@@ -31,7 +32,7 @@ from .scaling import factor_of, mean_edge
 from .settings import Settings, as_length, as_scale_wish
 from .subdivision import subdivide as subdivided
 from .surface import irregular_counts
-from .targets import Counted, Reached, nearest_scale
+from .targets import MOST_TRIES, Counted, Reached, nearest_scale
 
 Tell = Callable[[str, int, int], None]
 """Is told the step, how many things are done, and how many there are."""
@@ -105,7 +106,7 @@ class _Work:
         self.settings = settings
         self.program = program
         self.tell = tell
-        self.step = "remesh"
+        self.step = ""
         self.total = 0
         self.marks = ""
         """How many edges stay, and why."""
@@ -114,6 +115,11 @@ class _Work:
         self.ready = mesh
         """The mesh of quads: divided, where that was wished."""
         self.shop = Workshop(program, settings.jobs or os.cpu_count() or 1, self._tell_parts)
+
+    def _begin(self, step: str, total: int = 1) -> None:
+        """Tells of a step that begins, with so many things to do."""
+        self.step, self.total = step, total
+        self.tell(step, 0, total)
 
     def _tell_parts(self, done: int) -> None:
         self.tell(self.step, done, self.total)
@@ -127,13 +133,13 @@ class _Work:
             raise told_of_old(said, self.mesh) from said
 
     def _result(self, text: Optional[bytes]) -> Result:
+        self._begin("cutting into parts")
         parts = self._parts(text)
-        self.total = len(parts)
         reached = self._scale(parts)
         wish = self.settings.wish(reached.scale)
-        self.step = "remesh"
+        self._begin("remeshing", len(parts))
         parts, texts = self.shop.remesh(parts, wish)
-        self.step, self.total = "check", len(parts)
+        self._begin("checking", len(parts))
         written = self.shop.judge(parts, texts, wish)
         if self.settings.folder is not None:
             keep(self.settings.folder, parts, written)
@@ -182,9 +188,10 @@ class _Work:
         settings = self.settings
         if settings.faces is None:
             return Reached(settings.scale, 0, 0, "")
-        self.step = "bisect"
+        tries = count(1)
 
         def count_at(scale: Fraction) -> Counted:
+            self._begin(f"bisecting, try {next(tries)} of at most {MOST_TRIES}", len(parts))
             _, texts = self.shop.remesh(parts, settings.wish(scale))
             floor = RAISED if any(_is_raised(it) for it in texts) else 1
             return Counted(self._halves() * sum(it.count(b"\nf ") for it in texts), floor)
@@ -197,7 +204,7 @@ class _Work:
         done: list[Mesh] = []
         if not times:
             return [it.mesh() for it in written], 0
-        self.step = "relax"
+        self._begin("relaxing", len(parts))
         for part, it in zip(parts, written):
             nodes = patches_under(part, it, self.program).nodes
             relaxed, more = relax(it.mesh(), part.mesh, nodes, times)
@@ -210,7 +217,7 @@ class _Work:
         """The new meshes side by side, and how many of their faces lie over seams of what was carried over."""
         if not self.settings.carry:
             return put_together(parts, meshes), 0
-        self.step = "carry"
+        self._begin("carrying over", len(parts))
         return carry_over(parts, written, meshes, self.shop)
 
     def _whole(self, new: Mesh) -> Mesh:
@@ -226,6 +233,7 @@ class _Work:
         return whole
 
     def _report(self, new: Mesh, reached: Reached, parts: list[Part], written: list[Written]) -> Report:
+        self._begin("measuring")
         old, after = _in_quads(self.mesh), _counts(new)
         return Report(
             before=_counts(self.mesh),

@@ -13,6 +13,7 @@ from .refusal import Refusal
 TRIES = 14
 MORE_TRIES = 8
 """How many scales are tried besides, where all that are near give more faces than there were."""
+MOST_TRIES = TRIES + 1 + MORE_TRIES
 NEAR = 0.01
 """A part of the wished number: so near is near enough."""
 TOO_FINE = 10

@@ -1,8 +1,10 @@
 """Quality, distance, parts, scales, subdivision and mirrors by themselves: no program is run."""
 
 import io
+import time
 import unittest
 from fractions import Fraction
+from unittest import mock
 
 import numpy as np
 
@@ -92,17 +94,30 @@ class Measures(unittest.TestCase):
     def test_progress(self):
         said = io.StringIO()
         progress = Progress(said)
-        progress.tell("remesh", 1, 3)
-        progress.begun -= 2
-        progress.tell("remesh", 2, 3)
-        progress.tell("remesh", 3, 3)
-        self.assertEqual(said.getvalue(), "quadq: remesh 2 of 3\n")
+        for step, done, total in (("reading", 0, 1), ("remeshing", 1, 3), ("remeshing", 2, 3)):
+            progress.tell(step, done, total)
+            if done != 1:
+                progress.show()
+                progress.show()
+        progress.end()
+        self.assertEqual(said.getvalue(), "quadq-remesh: reading\nquadq-remesh: remeshing 2 of 3\n")
         said.isatty = lambda: True
         progress = Progress(said)
-        progress.begun -= 2
-        progress.tell("check", 1, 2)
+        progress.tell("checking", 1, 2)
+        progress.show()
         progress.end()
-        self.assertIn(f"check      [{'#' * 15}{' ' * 15}] 1 of 2", said.getvalue())
+        self.assertIn(f"checking [{'#' * 15}{' ' * 15}] 1 of 2", said.getvalue())
+
+    def test_a_long_step_is_shown_by_itself(self):
+        said = io.StringIO()
+        with mock.patch("quadq.progress.FIRST_SECONDS", 0.01):
+            progress = Progress(said)
+            progress.tell("measuring", 0, 1)
+            until = time.monotonic() + 30
+            while not said.getvalue() and time.monotonic() < until:
+                time.sleep(0.01)
+            progress.end()
+        self.assertEqual(said.getvalue(), "quadq-remesh: measuring\n")
 
     def test_mirror(self):
         one, faces, _ = half(moved(grid(4, 3), -2), 0)

@@ -2,15 +2,16 @@
 
 import contextlib
 import csv
+import hashlib
 import io
 import pathlib
-import re
 import tempfile
 import unittest
 from fractions import Fraction
 
 import numpy as np
 
+import quadq
 from quadq import Mesh, Names, Program, Refusal, read_obj, remesh, write_obj
 from quadq.__main__ import main
 from quadq.mesh import join
@@ -204,23 +205,36 @@ class CommandLine(unittest.TestCase):
             page = self.room / "page.html"
             status, said, errors = self.run_words(marked, out, *words, "--report", page)
             # On a slow machine the progress is told.
-            told = [it for it in errors.splitlines() if not re.fullmatch(r"quadq: \w+ \d+ of \d+", it)]
+            told = [it for it in errors.splitlines() if "warning" in it]
             lost = [] if "--lines" in words else [
-                "quadq: warning: 1 line was dropped: --lines keeps those along edges"]
+                "quadq-remesh: warning: 1 line was dropped: --lines keeps those along edges"]
             self.assertEqual((status, told), (0, lost), words)
             self.assertTrue(out.read_text().startswith(head), words)
             self.assertIn("accepted by <code>quadq map</code>", page.read_text())
         self.assertIn("wished length of edges", said)
 
+    def test_version(self):
+        with self.assertRaises(SystemExit) as ended, contextlib.redirect_stdout(io.StringIO()) as said:
+            main(["--version"])
+        digest = hashlib.sha256(Program().path.read_bytes()).hexdigest()
+        self.assertEqual((ended.exception.code, quadq.__version__), (None, (EXAMPLES.parent / "VERSION").read_text().strip()))
+        self.assertEqual(said.getvalue().splitlines(), [
+            f"quadq-remesh {quadq.__version__}", f"program {Program().path}", f"SHA-256 {digest}"])
+
+    def test_wrong_words_are_told_by_the_name_of_the_command(self):
+        with self.assertRaises(SystemExit), contextlib.redirect_stderr(io.StringIO()) as said:
+            main(["--scale", "1/2"])
+        self.assertTrue(said.getvalue().startswith("usage: quadq-remesh IN.obj OUT.obj "), said.getvalue())
+
     def test_a_refused_file_leaves_nothing(self):
         out = self.room / "out.obj"
-        status, _, said = self.run_words(TWO_FANS, out, "--faces", "9")
+        status, _, said = self.run_words(TWO_FANS, out, "--faces", "9", "--quiet")
         self.assertEqual((status, list(self.room.iterdir())), (7, []))
-        self.assertTrue(said.startswith("quadq: vertex 1: two fans. "), said)
+        self.assertTrue(said.startswith("quadq-remesh: vertex 1: two fans. "), said)
         wrong = self.room / "wrong.obj"
         wrong.write_text("v 0 0 0\nv 1 0,5 0\n")
-        status, _, said = self.run_words(wrong, out, "--scale", "1")
-        self.assertEqual((status, said), (3, "quadq: line 2: not an OBJ line of this profile\n"))
+        status, _, said = self.run_words(wrong, out, "--scale", "1", "--quiet")
+        self.assertEqual((status, said), (3, "quadq-remesh: line 2: not an OBJ line of this profile\n"))
         self.assertEqual(self.run_words(self.room / "no.obj", out, "--scale", "1")[0], 12)
         self.assertEqual(self.run_words(CUBE, self.room / "no/out.obj", "--scale", "1")[0], 13)
 
