@@ -1,0 +1,28 @@
+# The options of quadq-remesh, for bash. Made by tools/front_pages from its parser.
+_quadq_remesh() {
+    local word=${COMP_WORDS[COMP_CWORD]}
+    # The values of the option in front.
+    case ${COMP_WORDS[COMP_CWORD - 1]} in
+        --scale) return ;;
+        --faces) return ;;
+        --edge) return ;;
+        --floor) mapfile -t COMPREPLY < <(compgen -W "1 2 3 auto" -- "$word"); return ;;
+        --weight) mapfile -t COMPREPLY < <(compgen -W "plain length" -- "$word"); return ;;
+        --sharp) return ;;
+        --mirror) mapfile -t COMPREPLY < <(compgen -W "x y z" -- "$word"); return ;;
+        --relax) return ;;
+        --keep) return ;;
+        --report) return ;;
+        --up) mapfile -t COMPREPLY < <(compgen -W "y z" -- "$word"); return ;;
+        --out) return ;;
+        --table) return ;;
+        --log) return ;;
+        --pattern) return ;;
+        --timeout) return ;;
+        --jobs) return ;;
+    esac
+    case $word in
+        -*) mapfile -t COMPREPLY < <(compgen -W "-h --help --scale --faces --edge --floor --weight --sharp --materials --groups --seams --normals --lines --no-corners --coarse --subdivide --mirror --relax --keep --report --up --carry --out --table --log --resume --recursive --pattern --timeout --jobs --quiet --version" -- "$word") ;;
+    esac
+}
+complete -o bashdefault -o default -F _quadq_remesh quadq-remesh
