@@ -121,7 +121,7 @@ class Files(Room):
                           "f 1 2 3 4\nf 2 3 6 5\nf 4 3 7\n")
         status, _, said = self.run_words(
             source, self.room / "out.obj", "--scale", "1", "--subdivide", "--report", page)
-        self.assertEqual((status, said.split(". ")[0]), (7, "quadq-remesh: edge 2 3: faces 1 and 2"))
+        self.assertEqual((status, said.splitlines()[-1].split(". ")[0]), (7, "quadq-remesh: edge 2 3: faces 1 and 2"))
         self.assertEqual(page.read_text().count('src="data:image/png'), 2)
 
     def test_a_reader_that_has_gone(self):
