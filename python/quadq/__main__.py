@@ -74,10 +74,11 @@ class TellVersion(argparse.Action):
 
     def __call__(self, parser: argparse.ArgumentParser, *_: object) -> None:
         try:
-            print(version_lines(find_program()))
+            said = version_lines(find_program())
         except OSError as error:
             print(f"{NAME} {VERSION}")
             parser.exit(USAGE, f"{NAME}: {error}\n")
+        print(said)
         parser.exit()
 
 
