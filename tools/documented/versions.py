@@ -11,6 +11,7 @@ VERSION = ROOT / "VERSION"
 COPIES = {
     "blender/blender_manifest.toml": re.compile(r'^version = "(.*)"$', re.M),
     "blender/__init__.py": re.compile(r'^    "version": \((.*)\),$', re.M),
+    "README.md": re.compile(r"quadq_([0-9.]+)_amd64\.deb"),
     "CHANGELOG.md": re.compile(r"^## (\S+)$", re.M),
 }
 """Where the version stands, in the first match."""
