@@ -110,6 +110,6 @@ setup(
     distclass=OfPlatform,
     version=(AROUND / "VERSION").read_text().strip(),
     packages=["quadq"],
-    package_data={"quadq": ["py.typed"]},
+    package_data={"quadq": ["py.typed", "page/*"]},
     cmdclass={"build_py": BuildWithProgram, "bdist_wheel": WheelOfPlatform, "sdist": SourceArchive},
 )

@@ -29,6 +29,8 @@ def package_files() -> Iterator[tuple[str, pathlib.Path]]:
     """The files of the Python package but for the program, as places inside it and paths."""
     for path in sorted((ROOT / "python/quadq").glob("*.py")):
         yield path.name, path
+    for path in sorted((ROOT / "python/quadq/page").iterdir()):
+        yield f"page/{path.name}", path
     yield "py.typed", ROOT / "python/quadq/py.typed"
     for name in SCRIPTS:
         yield f"{name}.py", ROOT / f"tools/{name}.py"

@@ -41,15 +41,22 @@ def lost_edges(old: Mesh, new: Mesh, mean_edge: float, sharp: Optional[Array] = 
         sharp = mark_features(old, SHARP, corners=False).edges
     if not len(sharp) or not new.face_count:
         return 0, len(sharp)
-    bent = mark_features(new, BENT, corners=False).edges
-    rim = new.edges.ends[new.edges.uses == 1]
-    bent = np.concatenate([bent, rim])
-    if not len(bent):
-        return len(sharp), len(sharp)
+    _, is_followed = followed(old, new, mean_edge, sharp)
+    return round((1 - float(np.mean(is_followed))) * len(sharp)), len(sharp)
+
+
+def followed(old: Mesh, new: Mesh, mean_edge: float, sharp: Optional[Array] = None) -> tuple[Array, Array]:
+    """Sharp edges of the old mesh (edges, 2), of many a sample; and whether an edge of the new one follows each."""
+    if sharp is None:
+        sharp = mark_features(old, SHARP, corners=False).edges
     chosen = sharp[::max(1, -(-len(sharp) // MOST))]
+    bent = mark_features(new, BENT, corners=False).edges
+    bent = np.concatenate([bent, new.edges.ends[new.edges.uses == 1]])
+    if not len(bent):
+        return chosen, np.zeros(len(chosen), dtype=bool)
     middles = old.points[chosen].mean(axis=1)
-    far = Surface(segments_as_mesh(new.points, bent)).distances(middles) > FOLLOWED * mean_edge
-    return round(float(np.mean(far)) * len(sharp)), len(sharp)
+    far = Surface(segments_as_mesh(new.points, bent)).distances(middles)
+    return chosen, np.asarray(far <= FOLLOWED * mean_edge)
 
 
 def lost_mirrors(old: Mesh, new: Mesh) -> str:

@@ -149,7 +149,8 @@ class _Work:
         is_as_written = len(parts) == 1 and not (
             self.settings.mirror or self.settings.subdivide or moves or self.settings.carry)
         report = replace(self._report(new, reached, parts, written), moves=moves, over_seams=over * self._halves())
-        return Result(new, report, written[0].text if is_as_written else None, tuple(parts), tuple(written))
+        owners = None if self.ready is self.mesh else self.mesh.face_of_corner()
+        return Result(new, report, written[0].text if is_as_written else None, tuple(parts), tuple(written), owners)
 
     def _parts(self, text: Optional[bytes]) -> list[Part]:
         mesh, axis = self.mesh, self._axis()

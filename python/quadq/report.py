@@ -5,78 +5,94 @@ from __future__ import annotations
 import base64
 from html import escape
 from pathlib import Path
-from typing import Sequence
+from typing import Any, Optional, Sequence
 
 import numpy as np
 
-from .arrays import Array
-from .features import edges_in, mark_features
-from .mesh import Mesh, join
 from .errors import FormatError
+from .looks import Looks, Place, places_of, shown_of
+from .mesh import Mesh
 from .obj import read_obj
-from .parts import NO_MARKS
-from .patches import colours_of, paint
-from .pictures import PALETTE, View, draw, draw_place, patch_look, place_look
+from .pages import figure, page_of, table, viewer, words
+from .pictures import View, draw, draw_place, patch_look, place_look
 from .program import Program
 from .quality import scaled_jacobians
 from .refusal import Refusal
 from .results import Report, Result
+from .scene import MOST_FACES, Shown, scene_of, step_of
 
 SIZE = (720, 620)
+SMALL = (168, 132)
+"""Of the pictures in the index of a batch."""
 MOST_ROWS = 100
 ZOOMED = 12
 """Where more faces are at fault, the picture shows the whole mesh."""
-STYLE = """
-body { font: 15px/1.5 system-ui, sans-serif; color: #222; max-width: 1500px; margin: 2em auto; padding: 0 1.5em; }
-h1 { font-size: 1.5em; } h2 { font-size: 1.1em; margin-top: 1.8em; }
-table { border-collapse: collapse; }
-td, th { padding: .2em 1em .2em 0; text-align: right; border-bottom: 1px solid #ddd; }
-td:first-child, th:first-child { text-align: left; }
-.pair { display: flex; flex-wrap: wrap; gap: 1.5em; } figure { margin: 0; } figcaption { color: #555; }
-img { border: 1px solid #ddd; max-width: 100%; } .good { color: #17692f; } .warning { color: #a04000; }
-.bad { color: #a01818; } .swatch { display: inline-block; width: .9em; height: .9em; margin: 0 .3em 0 1em; }
-"""
+IN_NOTEBOOK = 20_000
+"""Of meshes with more faces, in all, a notebook shows still pictures."""
+IRREGULAR = "irregular points: a triangle has fewer faces around it, a square more"
 LEGEND = """<p>Each colour is a patch; an old patch and the new one made of it have the same.
-<span class="swatch" style="background:#282828"></span>borders of patches
-<span class="swatch" style="background:#1446c8"></span>edges that stay, or else those where faces meet at more than 30°
-<span class="swatch" style="background:#f08c28"></span>scaled Jacobian below 0.2
-<span class="swatch" style="background:#d02020"></span>inverted faces</p>"""
+<span class="swatch border"></span>borders of patches
+<span class="swatch stays"></span>edges that stay, or else those where faces meet at more than 30°
+<span class="swatch poor"></span>scaled Jacobian below 0.2
+<span class="swatch inverted"></span>inverted faces (in still pictures without stripes)</p>"""
 
 
 def result_page(title: str, result: Result, program: Program, up: str = "y") -> str:
     """The page of a remesh that was accepted."""
-    report = result.report
-    before, after = _pictures(result, program, up)
+    looks = Looks.of(result, program)
+    report, pictures = result.report, _pictures(looks, up, SIZE)
+    view, scene, places = _turned(result, looks, program, up, MOST_FACES)
+    labels = (f"before: {report.before.faces} faces", f"after: {report.after.faces} faces")
     body = [
         f'<p class="good">{_parts_in_words(report)}: no whole lengths are nearer to what was asked for, and its faces '
         "are connected as before (same Euler number, same irregular vertices).</p>",
-        *(f'<p class="warning">{escape(it)}</p>' for it in report.warnings),
-        '<div class="pair">',
-        _figure(before, f"before: {report.before.faces} faces"),
-        _figure(after, f"after: {report.after.faces} faces"),
-        "</div>",
+        *_warnings(report, places),
+        *view,
+        '<div class="pair">', *(figure(png, SIZE, it) for png, it in zip(pictures, labels)), "</div>",
         LEGEND,
         "<h2>Before and after</h2>",
-        _table(("", "before", "after"), report.table()),
+        table(("figure", "before", "after"), report.table(), "The figures before and after"),
         "<h2>What was asked and done</h2>",
-        _table(("", ""), report.facts()),
+        table(("", ""), report.facts(), "What was asked and done"),
         *_part_table(result),
     ]
-    return _page(title, body)
+    return page_of(title, body, scene, _small_pictures(_pictures(looks, up, SMALL)))
+
+
+def notebook_view(result: Result, program: Optional[Program] = None) -> str:
+    """A small page of a remesh, as a frame within another page."""
+    runner = Program() if program is None else program
+    looks = Looks.of(result, runner)
+    view, scene, places = _turned(result, looks, runner, "y", IN_NOTEBOOK)
+    labels = (f"before: {result.report.before.faces} faces", f"after: {result.report.after.faces} faces")
+    size = (SIZE[0] // 2, SIZE[1] // 2)
+    still = ['<div class="pair">', *(figure(png, size, it) for png, it in zip(_pictures(looks, "y", size), labels)),
+             "</div>"]
+    body = [f"<p>{words(result.report.summary())}</p>", *_warnings(result.report, places), *(view if scene else still)]
+    page = page_of("quadq", body, scene)
+    return (f'<iframe srcdoc="{escape(page)}" sandbox="allow-scripts" width="100%" height="780" '
+            'title="Both meshes of a remesh"></iframe>')
 
 
 def refusal_page(title: str, mesh: Mesh, refusal: Refusal, up: str = "y") -> str:
     """The page of a refusal, with a picture of the place and one of the whole mesh."""
     faces, points = refusal.faces, refusal.vertices
-    body = [f'<p class="bad">Refused with status {refusal.status}: {escape(str(refusal))}</p>']
-    if mesh.face_count and (faces or points):
-        whole = draw(mesh, place_look(mesh, faces, points), View.of(mesh.points, up), SIZE)
-        figures = [_figure(whole, f"the whole mesh of {mesh.face_count} faces")]
-        if len(faces) <= ZOOMED:
-            figures.insert(0, _figure(draw_place(mesh, faces, points, SIZE), "the place"))
-        body += ['<div class="pair">', *figures, "</div>"]
-        body += ["<p>Faces at fault are red, and vertices have a red dot.</p>"]
-    return _page(title, body)
+    body = [f'<p class="bad">Refused with status {refusal.status}: {words(str(refusal))}</p>']
+    if not mesh.face_count or not (faces or points):
+        return page_of(title, body)
+    label = f"the whole mesh of {mesh.face_count} faces"
+    png = draw(mesh, place_look(mesh, faces, points), View.of(mesh.points, up), SIZE)
+    figures = [figure(png, SIZE, label)]
+    if len(faces) <= ZOOMED:
+        figures.insert(0, figure(draw_place(mesh, faces, points, SIZE), SIZE, "the place"))
+    scene = scene_of([Shown("the mesh", mesh, at_fault=faces, dots=points)], up)
+    if scene is not None:
+        place = Place(0, int(faces[0]) if faces else int(mesh.face_of_corner()[mesh.corners == points[0]][0]), "plain")
+        body += [f"<p>{_link(place, 'Turn to the place')}</p>", viewer([label], "points at fault: a red disc", "")]
+    small = draw(mesh, place_look(mesh, faces, points), View.of(mesh.points, up), SMALL)
+    body += [*([] if scene else [_too_many(mesh.face_count)]), '<div class="pair">', *figures, "</div>"]
+    body += ["<p>Faces at fault are red, and vertices have a red dot.</p>"]
+    return page_of(title, body, scene, _small_pictures([small]))
 
 
 def refused_page(path: Path, refusal: Refusal, up: str = "y") -> str:
@@ -88,26 +104,51 @@ def refused_page(path: Path, refusal: Refusal, up: str = "y") -> str:
     return refusal_page(path.name, mesh, refusal, up)
 
 
-def _pictures(result: Result, program: Program, up: str) -> tuple[bytes, bytes]:
-    """What was remeshed and what became of it, with the same colours, from the same side. A mirror image has the
-    colours of its half."""
-    painted = paint(result.parts, result.written, program)
-    old, new = join([it.mesh for it in result.parts]), result.mesh
-    tints = colours_of(old, painted.of_old, len(PALETTE))
-    view = View.of(new.points, up)
-    frame = np.concatenate([old.points, new.points])
-    shifts = np.cumsum([0, *(len(it.mesh.points) for it in result.parts)])
-    stay = np.concatenate([NO_MARKS, *(it.marks + shift for it, shift in zip(result.parts, shifts))])
-    return (
-        draw(old, patch_look(old, painted.of_old, tints, *_marks(old, stay)), view, SIZE, frame),
-        draw(new, patch_look(new, painted.of_all(new), tints, *_marks(new, edges_in(new.lines))), view, SIZE, frame),
-    )
+def _pictures(looks: Looks, up: str, size: tuple[int, int]) -> list[bytes]:
+    """What was remeshed and what became of it, with the same colours, from the same side."""
+    view = View.of(looks.new.points, up)
+    frame = np.concatenate([looks.old.points, looks.new.points])
+    return [
+        draw(mesh, patch_look(mesh, patches, looks.tints, scaled_jacobians(mesh), stay), view, size, frame)
+        for mesh, patches, stay in ((looks.old, looks.painted.of_old, looks.old_stay),
+                                    (looks.new, looks.new_patches, looks.new_stay))]
 
 
-def _marks(mesh: Mesh, stay: Array) -> tuple[Array, Array]:
-    """The scaled Jacobians of faces, and the feature edges: those that stay, if any do, or else those by angle."""
-    found = NO_MARKS if len(stay) else mark_features(mesh, corners=False).edges
-    return scaled_jacobians(mesh), np.concatenate([stay, found])
+def _turned(
+    result: Result, looks: Looks, program: Program, up: str, most: int
+) -> tuple[list[str], Optional[dict[str, Any]], dict[str, Place]]:
+    """The part of a page that can be turned, what it shows, and where warnings lead; or why there is none."""
+    count = looks.old.face_count + looks.new.face_count
+    if count > most:
+        return [_too_many(count, most)], None, {}
+    shown = shown_of(result, looks, program)
+    scene = scene_of(shown, up)
+    labels = [f"{it.label}: {it.mesh.face_count} faces" for it in shown]
+    steps = max(step_of(it.mesh) for it in shown)
+    unit = "in the unit of the file" + (f", measured at each {steps}th face" if steps > 1 else "")
+    return [viewer(labels, IRREGULAR, unit)], scene, places_of(result, shown)
+
+
+def _too_many(count: int, most: int = MOST_FACES) -> str:
+    return f"<p>{count} faces are too many to be turned here, which goes up to {most}: the pictures are still.</p>"
+
+
+def _warnings(report: Report, places: dict[str, Place]) -> list[str]:
+    """Each warning; where it has a place, as a link that turns the view to it."""
+    if not report.notices:
+        return []
+    told = [(_link(places[it.kind], it.words) if it.kind in places else words(it.words)) for it in report.notices]
+    return ['<ul class="warnings">', *(f'<li class="warning">{it}</li>' for it in told), "</ul>"]
+
+
+def _link(place: Place, text: str) -> str:
+    return (f'<a href="#viewer" data-mesh="{place.mesh}" data-face="{place.face}" data-colours="{place.colours}">'
+            f"{words(text)}</a>")
+
+
+def _small_pictures(pngs: Sequence[bytes]) -> str:
+    """The pictures for the index of a batch, which reads them from the head of the page."""
+    return f'<meta name="quadq-small" content="{" ".join(base64.b64encode(it).decode() for it in pngs)}">\n'
 
 
 def _parts_in_words(report: Report) -> str:
@@ -128,22 +169,4 @@ def _part_table(result: Result) -> list[str]:
     ]
     head = ("part", "faces before", "after", "floor", "arcs", "arcs at the floor", "deviation")
     more = [f"<p>and {len(rows) - MOST_ROWS} more parts</p>"] if len(rows) > MOST_ROWS else []
-    return ["<h2>Parts</h2>", _table(head, rows[:MOST_ROWS]), *more]
-
-
-def _table(head: Sequence[str], rows: Sequence[Sequence[str]]) -> str:
-    lines = ["<tr>" + "".join(f"<th>{escape(it)}</th>" for it in head) + "</tr>"] if any(head) else []
-    lines += ["<tr>" + "".join(f"<td>{escape(it)}</td>" for it in row) + "</tr>" for row in rows]
-    return "<table>" + "\n".join(lines) + "</table>"
-
-
-def _figure(png: bytes, words: str) -> str:
-    data = base64.b64encode(png).decode()
-    return (f'<figure><img src="data:image/png;base64,{data}" width="{SIZE[0]}" height="{SIZE[1]}" '
-            f'alt="{escape(words)}"><figcaption>{escape(words)}</figcaption></figure>')
-
-
-def _page(title: str, body: Sequence[str]) -> str:
-    return "\n".join([
-        f'<!DOCTYPE html><html lang="en"><head><meta charset="utf-8"><title>{escape(title)}</title>',
-        f"<style>{STYLE}</style></head><body><h1>{escape(title)}</h1>", *body, "</body></html>", ""])
+    return ["<h2>Parts</h2>", table(head, rows[:MOST_ROWS], "The parts"), *more]

@@ -7,6 +7,7 @@ from decimal import Decimal
 from fractions import Fraction
 from typing import Optional, Union
 
+from .arrays import Array
 from .distance import Distance
 from .mesh import Mesh
 from .notices import Notice, notices_of
@@ -165,6 +166,13 @@ class Result:
     parts: tuple[Part, ...]
     written: tuple[Written, ...]
     """What the program wrote for each part, accepted by `check`, or by `map` where another command wrote it."""
+    owners: Optional[Array] = None
+    """(faces of the parts,) int64: of a mesh that was divided, the face of the file that each is a piece of."""
+
+    def _repr_html_(self) -> str:
+        """What a notebook shows: a small page with both meshes, which can be turned."""
+        from .report import notebook_view
+        return notebook_view(self)
 
     def times(self, factor: float) -> Result:
         """The same where lengths are so many times as long. What the program has read and written stays."""
@@ -173,4 +181,4 @@ class Result:
             return replace(mesh, points=mesh.points * factor)
 
         return Result(longer(self.mesh), self.report.times(factor), None,
-                      tuple(replace(it, mesh=longer(it.mesh)) for it in self.parts), self.written)
+                      tuple(replace(it, mesh=longer(it.mesh)) for it in self.parts), self.written, self.owners)
