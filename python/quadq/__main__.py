@@ -50,7 +50,8 @@ def parser_of_words() -> argparse.ArgumentParser:
     parser.add_argument("--mirror", choices=["x", "y", "z"], help="remesh the half above 0, and mirror it")
     parser.add_argument("--relax", type=int, default=0, metavar="N", help="move points so many times along the surface")
     parser.add_argument("--keep", type=Path, metavar="FOLDER", help="keep the old and new text of each part there")
-    parser.add_argument("--report", type=Path, metavar="FILE.html", help="a page with pictures of both meshes")
+    parser.add_argument("--report", type=Path, metavar="FILE.html",
+                        help="a page with both meshes, to be turned; with --out a folder of pages with an index")
     parser.add_argument("--up", choices=["y", "z"], default="y", help="the axis that points upward in pictures")
     parser.add_argument("--carry", action="store_true", help="keep texture coordinates, normals, names and colours")
     parser.add_argument("--out", type=Path, metavar="FOLDER", help="where the remeshed files go, by the same names")
@@ -117,8 +118,6 @@ def _done(asked: argparse.Namespace) -> int:
         if asked.log or asked.resume or asked.table or asked.recursive or asked.pattern:
             raise WishError("--log, --resume, --table, --recursive and --pattern go with --out FOLDER")
         return _single(asked, settings, program)
-    if asked.report is not None:
-        raise WishError("a report is of one file: leave --out away")
     return _batch(asked, settings, program)
 
 
@@ -190,7 +189,8 @@ def _batch(asked: argparse.Namespace, settings: Settings, program: Program) -> i
     try:
         rows = remesh_files(
             asked.paths, asked.out, settings, program=program, timeout=asked.timeout, pattern=asked.pattern,
-            recursive=asked.recursive, books=Books(asked.log, asked.table, asked.resume), say=say)
+            recursive=asked.recursive, say=say,
+            books=Books(asked.log, asked.table, asked.resume, asked.report, asked.up))
     except (Stopped, Refusal):
         print(f"{summary_of(told)}; not all were reached", flush=True)
         raise

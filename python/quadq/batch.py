@@ -12,7 +12,8 @@ from typing import Callable, Generator, Iterable, Optional, Sequence, Union
 
 from .errors import WishError
 from .files import read_whole, remove_stale, write_whole
-from .inputs import Input, inputs_of, refuse_clashes
+from .index import Index, page_for
+from .inputs import Input, inputs_of, refuse_clashes, refuse_page_clashes
 from .jobs import Job, checksum, done
 from .logs import Log, read_log
 from .program import Program
@@ -36,6 +37,10 @@ class Books:
     table: Optional[Path] = None
     resume: bool = False
     """Whether what the log has, of the same files, settings and program, is not done again."""
+    report: Optional[Path] = None
+    """A folder for a page a file, and an index of them."""
+    up: str = "y"
+    """The axis that points upward in pictures."""
 
 
 def remesh_files(
@@ -68,6 +73,9 @@ def remesh_files(
     runner = Program() if program is None else program
     digest = checksum(read_whole(runner.path))
     jobs = [_job_of(it, folder, settings, runner, digest, timeout) for it in inputs]
+    if books.report is not None:
+        refuse_page_clashes([it.path for it in inputs], books.report, folder)
+        jobs = [replace(it, page=page_for(it.target, folder, books.report), up=books.up) for it in jobs]
     return _Batch(jobs, books, executor, say).rows()
 
 
@@ -86,11 +94,13 @@ class _Batch:
     ) -> None:
         self.jobs, self.books, self.executor, self.say = jobs, books, executor, say
         self.found: dict[Path, Row] = {}
+        self.index: Optional[Index] = None
 
     def rows(self) -> list[Row]:
         if self.books.table is not None:
             remove_stale(self.books.table)
         log, is_whole = None, False
+        index = self.index = None if self.books.report is None else Index(self.books.report, "A batch of quadq")
         try:
             self._take_over()
             log = Log(self.books.log, is_new=not self.books.resume) if self.books.log is not None else None
@@ -100,14 +110,21 @@ class _Batch:
                     self.found[job.source] = row
                     if log is not None:
                         log.add(row)
-                    self.say(row)
+                    self._tell(job, row)
             is_whole = True
         finally:
             if log is not None:
                 log.close()
+            if index is not None:
+                index.close([(row, it.page) for row, it in zip(self._all(), self.jobs) if it.page], not is_whole)
             if self.books.table is not None:
                 write_whole(self.books.table, table_of(self._all()), is_hasty=not is_whole)
         return self._all()
+
+    def _tell(self, job: Job, row: Row) -> None:
+        if self.index is not None and job.page is not None:
+            self.index.add(row, job.page)
+        self.say(row)
 
     def _all(self) -> list[Row]:
         return [self.found.get(it.source) or unreached(it.source, it.target) for it in self.jobs]
@@ -121,7 +138,7 @@ class _Batch:
             row = known.get(str(job.source))
             if row is not None and _still_holds(row, job):
                 self.found[job.source] = row
-                self.say(row)
+                self._tell(job, row)
 
     def _ended(self, jobs: Sequence[Job]) -> Generator[tuple[Job, Row], None, None]:
         many = (self.jobs[0].settings.jobs if self.jobs else 0) or os.cpu_count() or 1
@@ -157,6 +174,8 @@ def _by_executor(executor: Executor, jobs: Sequence[Job]) -> Generator[tuple[Job
 def _still_holds(row: Row, job: Job) -> bool:
     """Whether a row is of the same file, settings and program, and what it says to be there is there."""
     if (row.settings, row.program, row.target) != (settings_in_words(job.settings), job.digest, str(job.target)):
+        return False
+    if job.page is not None and not job.page.exists():
         return False
     try:
         if row.read != checksum(read_whole(job.source)):

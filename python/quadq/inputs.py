@@ -65,3 +65,16 @@ def refuse_clashes(inputs: Sequence[Input], out: Path) -> None:
         if target in sources:
             raise WishError(f"the folder --out has files that would be read: {it.target(out)}")
         targets[target] = it.path
+
+
+def refuse_page_clashes(sources: Sequence[Path], pages: Path, out: Path) -> None:
+    """Raises a `WishError` where the folder of the pages is a file, or has files that are read, or is that of the
+    remeshes."""
+    if pages.exists() and not pages.is_dir():
+        raise WishError(f"of many files the reports go into a folder, and {pages} is none")
+    place = os.path.realpath(pages)
+    if place == os.path.realpath(out):
+        raise WishError(f"the folders --out and --report are the same: {pages}")
+    inside = next((it for it in sources if os.path.realpath(it).startswith(place + os.sep)), None)
+    if inside is not None:
+        raise WishError(f"the folder --report has files that would be read: {inside}")

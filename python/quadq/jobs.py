@@ -14,8 +14,9 @@ from .errors import WishError
 from .files import make_folder, read_whole, remove_stale, write_whole
 from .formats import bytes_of, read_file
 from .program import USAGE, Program
-from .refusal import MEMORY, READ_FAULT, STRANGE, Refusal
+from .refusal import MEMORY, READ_FAULT, STRANGE, WRITE_FAULT, Refusal
 from .remeshing import Tell, run
+from .report import refused_page, result_page
 from .results import Result
 from .rows import Row, facts_of, settings_in_words, warnings_of
 from .settings import Settings
@@ -33,6 +34,10 @@ class Job:
     """The program's checksum."""
     timeout: Optional[float] = None
     """How many seconds it may take."""
+    page: Optional[Path] = None
+    """Where its report goes, if there is to be one."""
+    up: str = "y"
+    """The axis that points upward in the report's pictures."""
 
     def row(self, status: Optional[int], words: str, seconds: float = 0.0) -> Row:
         """What is told of it where there is no remesh."""
@@ -44,6 +49,8 @@ class Job:
         row = self.row(status, words, seconds)
         try:
             remove_stale(self.target, self.source)
+            if self.page is not None:
+                remove_stale(self.page, self.source)
         except Refusal as said:
             return replace(row, words=f"{row.words} ({said})")
         return row
@@ -78,8 +85,10 @@ def done(job: Job) -> Row:
         read = checksum(read_whole(job.source))
         program = Program(job.program).within(job.timeout)
         result, data = one_file(job.source, job.target, job.settings, program, lambda step, done, total: None, True)
+        if job.page is not None:
+            _write_page(job.page, result_page(job.source.name, result, program, job.up))
     except Refusal as said:
-        row = job.row_without(said.status, str(said))
+        row = _refused(job, said)
     except WishError as error:
         row = job.row_without(USAGE, str(error))
     except MemoryError:
@@ -92,6 +101,22 @@ def done(job: Job) -> Row:
         row = replace(job.row(0, report.summary()), written=checksum(data), facts=facts_of(report),
                       warnings=warnings_of(report))
     return replace(row, read=read, seconds=time.monotonic() - begun)
+
+
+def _refused(job: Job, said: Refusal) -> Row:
+    """The row of a refusal; its page is written where the file could be read."""
+    row = job.row_without(said.status, str(said))
+    if job.page is not None and said.status not in (READ_FAULT, WRITE_FAULT):
+        try:
+            _write_page(job.page, refused_page(job.source, said, job.up))
+        except Refusal as other:
+            return replace(row, words=f"{row.words} ({other})")
+    return row
+
+
+def _write_page(path: Path, page: str) -> None:
+    make_folder(path.parent)
+    write_whole(path, page.encode(), is_hasty=True)
 
 
 def _refuse_irregular(path: Path) -> None:

@@ -43,6 +43,7 @@ float line(float away, float kind) {
 void main() {
   float light = gl_FrontFacing ? 0.72 + 0.28 * facing : 0.5 + 0.14 * facing;
   vec3 mixed = paint.rgb * light;
+  bool dark = dot(paint.rgb, vec3(0.3, 0.6, 0.1)) < 0.25;
   if (paint.a < 0.9 && mod(gl_FragCoord.x + gl_FragCoord.y, 8.0 * shown.w) < 3.0 * shown.w) mixed = vec3(0.16, 0.0, 0.0);
   vec2 step = max(vec2(length(vec2(dFdx(within.x), dFdy(within.x))), length(vec2(dFdx(within.y), dFdy(within.y)))),
                   vec2(1e-6));
@@ -53,7 +54,7 @@ void main() {
     float kind = kinds[side];
     float drawn = kind > 1.5 && strong.z > 0.0 ? strong.z : kind > 0.5 && strong.y > 0.0 ? strong.y : strong.x;
     float as = kind > 1.5 && kind < 2.5 && strong.z > 0.0 ? 2.0 : kind > 2.5 ? 3.0 : kind > 0.5 && strong.y > 0.0 ? 1.0 : 0.0;
-    vec3 ink = as > 1.5 ? vec3(0.08, 0.27, 0.85) : vec3(0.13);
+    vec3 ink = as > 1.5 ? vec3(0.08, 0.27, 0.85) : dark ? vec3(0.78) : vec3(0.13);
     mixed = mix(mixed, ink, drawn * line(away[side], as));
   }
   pixel = vec4(mixed, 1.0);
