@@ -20,8 +20,8 @@ HEAD = 1 << 18
 COLUMNS = (
     ("file", "file"), ("before", ""), ("after", ""), ("faces before", "faces before"), ("wished", "wished"),
     ("faces after", "after"), ("inverted faces", "inverted"), ("least scaled Jacobian before", "least Jacobian before"),
-    ("least scaled Jacobian after", "after"), ("greatest distance", "distance"), ("warnings", "warnings"),
-    ("seconds", "seconds"),
+    ("least scaled Jacobian after", "after"), ("greatest distance", "distance"),
+    ("refusal or warnings", "refusal, warnings"), ("seconds", "seconds"),
 )
 """The columns in words, and what stands in the buttons by which rows are sorted, if they are."""
 BODY = """<body><h1>{title}</h1>
@@ -82,16 +82,16 @@ class Index:
         kind = "warned" if kind == "good" and row.warnings else kind
         name = words(row.source)
         link = f'<a href="{words(quote(os.fsencode(os.path.relpath(page, self.folder))))}">{name}</a>'
-        said = "" if row.is_good else f'<br><span class="bad">{_status(row)}{words(row.words)}</span>'
+        said = "" if row.is_good else f'<p class="bad">{_status(row)}{words(row.words)}</p>'
         images = [f'<img src="data:image/png;base64,{it}" alt="{side}">'
                   for it, side in zip(pictures, ("before", "after"))]
         warnings = "".join(f"<li>{words(it['words'])}</li>" for it in row.warnings)
         cells = [
-            (f"{link if page.exists() else name}{said}", row.source), *((it, None) for it in [*images, "", ""][:2]),
+            (link if page.exists() else name, row.source), *((it, None) for it in [*images, "", ""][:2]),
             _number(facts.get("faces_before")), (words(_wish(row.settings)), None), _number(facts.get("faces_after")),
             _number(facts.get("inverted_after")), _number(facts.get("least_before")), _number(facts.get("least_after")),
             _number(facts.get("greatest_distance")),
-            (f'<ul class="warnings warning">{warnings}</ul>' if warnings else "", str(len(row.warnings))),
+            (said + (f'<ul class="warnings warning">{warnings}</ul>' if warnings else ""), str(len(row.warnings))),
             _number(round(row.seconds, 2)),
         ]
         return f'<tr data-kind="{kind}">{"".join(_cell(*it) for it in cells)}</tr>\n'

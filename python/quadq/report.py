@@ -22,7 +22,7 @@ from .results import Report, Result
 from .scene import MOST_FACES, Shown, scene_of, step_of
 
 SIZE = (720, 620)
-SMALL = (168, 132)
+SMALL = (150, 116)
 """Of the pictures in the index of a batch."""
 MOST_ROWS = 100
 ZOOMED = 12

@@ -9,13 +9,16 @@ import os
 import tempfile
 import unittest
 from dataclasses import replace
+from fractions import Fraction
 from pathlib import Path
 from typing import Any
 
 import numpy as np
 
-from quadq import Mesh, Program, Refusal, Result, read_obj, refusal_page, remesh, result_page
+from quadq import (
+    Books, Mesh, Program, Refusal, Result, Settings, read_obj, refusal_page, remesh, remesh_files, result_page)
 from quadq.mesh import join
+from quadq.pictures import View
 
 from .browser import Browser
 from .shapes import EXAMPLES, drum, grid, moved, plate
@@ -146,7 +149,7 @@ class Pages(unittest.TestCase):
         result = remesh(drum(), scale="1/3")
         folded = with_a_fold(result)
         self.shown("folded", result_page("folded.obj", folded, Program()))
-        self.assertGreater(self.pixels(41, 0, 0), 15)
+        self.assertGreater(self.pixels(195, 30, 30), 500)
         self.shot("folded")
         self.quiet()
 
@@ -177,6 +180,36 @@ class Pages(unittest.TestCase):
         self.shot("print")
         self.browser.ask("Emulation.setEmulatedMedia", media="", features=[])
 
+    def test_the_index_of_a_batch(self) -> None:
+        room = Path(self.room.name)
+        (room / "in").mkdir()
+        for name in ("cube", "letter_q", "torus", "two_fans"):
+            (room / "in" / f"{name}.obj").write_bytes((EXAMPLES / f"{name}.obj").read_bytes())
+        (room / "in" / "<b>#1%41 'x'.obj").write_text("v 0 0 0\nf 1 1 1\n")
+        remesh_files(room / "in", room / "out", Settings(scale=Fraction(1, 2), jobs=2),
+                     books=Books(report=room / "pages"))
+        self.browser.open(room / "pages/index.html")
+        self.assertEqual(self.browser.value("document.getElementById('count').textContent"), "5 files")
+        self.assertEqual(self.names()[2:], ["cube.obj", "letter_q.obj", "torus.obj"])
+        self.shot("index")
+        self.browser.value("document.querySelector('[title=\"faces before\"]').click()")
+        self.browser.settle()
+        self.assertEqual(self.names()[:3], ["cube.obj", "torus.obj", "letter_q.obj"])
+        self.browser.open(room / "pages/index.html", "#show=refused&filter=fans")
+        self.assertEqual(self.names(), ["two_fans.obj"])
+        self.shot("index_filtered")
+        self.quiet()
+        self.browser.open(room / "pages/index.html", "#filter=%25")
+        page = self.browser.value("document.querySelector('#files tbody a').href")
+        self.browser.ask("Page.navigate", url=page)
+        self.browser.wait_for("document.querySelector('h1')?.textContent === \"<b>#1%41 'x'.obj\"")
+        self.quiet()
+
+    def names(self) -> list[str]:
+        """The names of the files that the index shows, in their order."""
+        named = "[...document.querySelectorAll('#files tbody td:first-child')].map((it) => it.textContent)"
+        return [it.rpartition("/")[2] for it in self.browser.value(named)]
+
 
 SPOT = """(() => {
   const face = %d, spot = viewer.models[1].spot(viewer.models[1].piece(face)), frame = viewer.panes()[1];
@@ -200,11 +233,12 @@ def ball() -> Mesh:
 
 
 def with_a_fold(result: Result) -> Result:
-    """The same, with a point of the new mesh beyond its neighbours."""
+    """The same, with a corner of the face that is nearest to the eye beyond its middle."""
     mesh = result.mesh
     points = mesh.points.copy()
-    face = mesh.quads[mesh.face_count // 2]
-    points[face[0]] += 1.6 * (points[face[2]] - points[face[0]])
+    toward = View.of(points).axes[2]
+    face = mesh.quads[int((points[mesh.quads].mean(axis=1) @ toward).argmax())]
+    points[face[0]] += 0.8 * (points[face[2]] - points[face[0]])
     return replace(result, mesh=replace(mesh, points=points))
 
 
