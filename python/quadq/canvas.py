@@ -93,10 +93,11 @@ class Canvas:
                 marked[pixels[spots[inside, 2] >= self.depths[pixels]]] = True
         self.colours[marked] += strength * (np.array(colour) - self.colours[marked])
 
-    def png(self) -> bytes:
-        """The picture as a PNG file."""
-        high, wide = self.high // FINE, self.wide // FINE
-        means = self.colours.reshape(high, FINE, wide, FINE, 3).mean(axis=(1, 3)).round().astype(np.uint8)
+    def png(self, parts: int = 1) -> bytes:
+        """The picture as a PNG file; on wish with so many pixels as one, both ways, which have to divide it."""
+        fine = FINE * parts
+        high, wide = self.high // fine, self.wide // fine
+        means = self.colours.reshape(high, fine, wide, fine, 3).mean(axis=(1, 3)).round().astype(np.uint8)
         rows = np.concatenate([np.zeros((high, 1), dtype=np.uint8), means.reshape(high, -1)], axis=1)
         head = struct.pack(">IIBBBBB", wide, high, 8, 2, 0, 0, 0)
         return b"\x89PNG\r\n\x1a\n" + b"".join(

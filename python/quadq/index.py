@@ -18,10 +18,10 @@ SMALL = re.compile(rb'<meta name="quadq-small" content="([A-Za-z0-9+/= ]*)">')
 HEAD = 1 << 18
 """In so many bytes of a page its small pictures stand."""
 COLUMNS = (
-    ("file", "file"), ("before", ""), ("after", ""), ("faces before", "faces before"), ("wished", "wished"),
-    ("faces after", "after"), ("inverted faces", "inverted"), ("least scaled Jacobian before", "least Jacobian before"),
-    ("least scaled Jacobian after", "after"), ("greatest distance", "distance"),
-    ("refusal or warnings", "refusal, warnings"), ("seconds", "seconds"),
+    ("file", "file"), ("before", ""), ("after", ""), ("refusal or warnings", "refusal, warnings"),
+    ("faces before", "faces before"), ("wished", "wished"), ("faces after", "after"), ("inverted faces", "inverted"),
+    ("least scaled Jacobian before", "least Jacobian before"), ("least scaled Jacobian after", "after"),
+    ("greatest distance", "distance"), ("seconds", "seconds"),
 )
 """The columns in words, and what stands in the buttons by which rows are sorted, if they are."""
 BODY = """<body><h1>{title}</h1>
@@ -88,10 +88,10 @@ class Index:
         warnings = "".join(f"<li>{words(it['words'])}</li>" for it in row.warnings)
         cells = [
             (link if page.exists() else name, row.source), *((it, None) for it in [*images, "", ""][:2]),
+            (said + (f'<ul class="warnings warning">{warnings}</ul>' if warnings else ""), str(len(row.warnings))),
             _number(facts.get("faces_before")), (words(_wish(row.settings)), None), _number(facts.get("faces_after")),
             _number(facts.get("inverted_after")), _number(facts.get("least_before")), _number(facts.get("least_after")),
             _number(facts.get("greatest_distance")),
-            (said + (f'<ul class="warnings warning">{warnings}</ul>' if warnings else ""), str(len(row.warnings))),
             _number(round(row.seconds, 2)),
         ]
         return f'<tr data-kind="{kind}">{"".join(_cell(*it) for it in cells)}</tr>\n'
@@ -112,7 +112,7 @@ def _status(row: Row) -> str:
 
 
 def _number(value: Any) -> tuple[str, Optional[str]]:
-    return ("" if value is None else f"{value:g}" if isinstance(value, float) else words(str(value)),
+    return ("" if value is None else f"{value:.3g}" if isinstance(value, float) else words(str(value)),
             "" if value is None else words(str(value)))
 
 

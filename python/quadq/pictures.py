@@ -65,11 +65,11 @@ class View:
         return View(np.array([right, np.cross(toward, right), toward]))
 
 
-def draw(mesh: Mesh, look: Look, view: View, size: tuple[int, int], frame: Optional[Array] = None) -> bytes:
-    """A PNG of a mesh, so many pixels wide and high. `frame` has the points (n, 3) that it is to show, if not all."""
+def draw(mesh: Mesh, look: Look, view: View, size: tuple[int, int], frame: Optional[Array] = None) -> Canvas:
+    """A picture of a mesh, so many pixels wide and high. `frame` has the points (n, 3) that it shows, if not all."""
     canvas = Canvas(*size)
     if not mesh.face_count:
-        return canvas.png()
+        return canvas
     seen = (mesh.points if frame is None else frame) @ view.axes.T
     low, high = seen.min(axis=0), seen.max(axis=0)
     scale = min((size[at] - 2 * MARGIN) / max(high[at] - low[at], 1e-12) for at in (0, 1))
@@ -78,7 +78,7 @@ def draw(mesh: Mesh, look: Look, view: View, size: tuple[int, int], frame: Optio
     _draw_edges(canvas, mesh, look, turned)
     if len(look.dots):
         canvas.dots(turned[list(look.dots)], RED, 9)
-    return canvas.png()
+    return canvas
 
 
 def _draw_faces(canvas: Canvas, mesh: Mesh, look: Look, turned: Array) -> None:
@@ -132,8 +132,8 @@ def place_look(mesh: Mesh, faces: Sequence[int], points: Sequence[int]) -> Look:
     return Look(colours, edges.ends[edges.uses == 1], dots=points)
 
 
-def draw_place(mesh: Mesh, faces: Sequence[int], points: Sequence[int], size: tuple[int, int]) -> bytes:
-    """A PNG of the faces around a place, seen straight on."""
+def draw_place(mesh: Mesh, faces: Sequence[int], points: Sequence[int], size: tuple[int, int]) -> Canvas:
+    """A picture of the faces around a place, seen straight on."""
     at_fault = np.zeros(mesh.face_count, dtype=bool)
     at_fault[list(faces)] = True
     marked = np.isin(mesh.corners, list(points))

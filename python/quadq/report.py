@@ -9,6 +9,7 @@ from typing import Any, Optional, Sequence
 
 import numpy as np
 
+from .canvas import Canvas
 from .errors import FormatError
 from .looks import Looks, Place, places_of, shown_of
 from .mesh import Mesh
@@ -22,8 +23,8 @@ from .results import Report, Result
 from .scene import MOST_FACES, Shown, scene_of, step_of
 
 SIZE = (720, 620)
-SMALL = (150, 116)
-"""Of the pictures in the index of a batch."""
+SHRUNK = 5
+"""So many pixels of a picture are one in the index of a batch."""
 MOST_ROWS = 100
 ZOOMED = 12
 """Where more faces are at fault, the picture shows the whole mesh."""
@@ -48,7 +49,7 @@ def result_page(title: str, result: Result, program: Program, up: str = "y") -> 
         "are connected as before (same Euler number, same irregular vertices).</p>",
         *_warnings(report, places),
         *view,
-        '<div class="pair">', *(figure(png, SIZE, it) for png, it in zip(pictures, labels)), "</div>",
+        '<div class="pair">', *(figure(drawn.png(), SIZE, it) for drawn, it in zip(pictures, labels)), "</div>",
         LEGEND,
         "<h2>Before and after</h2>",
         table(("figure", "before", "after"), report.table(), "The figures before and after"),
@@ -56,7 +57,7 @@ def result_page(title: str, result: Result, program: Program, up: str = "y") -> 
         table(("", ""), report.facts(), "What was asked and done"),
         *_part_table(result),
     ]
-    return page_of(title, body, scene, _small_pictures(_pictures(looks, up, SMALL)))
+    return page_of(title, body, scene, _small_pictures(pictures))
 
 
 def notebook_view(result: Result, program: Optional[Program] = None) -> str:
@@ -66,8 +67,8 @@ def notebook_view(result: Result, program: Optional[Program] = None) -> str:
     view, scene, places = _turned(result, looks, runner, "y", IN_NOTEBOOK)
     labels = (f"before: {result.report.before.faces} faces", f"after: {result.report.after.faces} faces")
     size = (SIZE[0] // 2, SIZE[1] // 2)
-    still = ['<div class="pair">', *(figure(png, size, it) for png, it in zip(_pictures(looks, "y", size), labels)),
-             "</div>"]
+    pictures = zip(_pictures(looks, "y", size), labels)
+    still = ['<div class="pair">', *(figure(drawn.png(), size, it) for drawn, it in pictures), "</div>"]
     body = [f"<p>{words(result.report.summary())}</p>", *_warnings(result.report, places), *(view if scene else still)]
     page = page_of("quadq", body, scene)
     return (f'<iframe srcdoc="{escape(page)}" sandbox="allow-scripts" width="100%" height="780" '
@@ -81,18 +82,17 @@ def refusal_page(title: str, mesh: Mesh, refusal: Refusal, up: str = "y") -> str
     if not mesh.face_count or not (faces or points):
         return page_of(title, body)
     label = f"the whole mesh of {mesh.face_count} faces"
-    png = draw(mesh, place_look(mesh, faces, points), View.of(mesh.points, up), SIZE)
-    figures = [figure(png, SIZE, label)]
+    whole = draw(mesh, place_look(mesh, faces, points), View.of(mesh.points, up), SIZE)
+    figures = [figure(whole.png(), SIZE, label)]
     if len(faces) <= ZOOMED:
-        figures.insert(0, figure(draw_place(mesh, faces, points, SIZE), SIZE, "the place"))
+        figures.insert(0, figure(draw_place(mesh, faces, points, SIZE).png(), SIZE, "the place"))
     scene = scene_of([Shown("the mesh", mesh, at_fault=faces, dots=points)], up)
     if scene is not None:
         place = Place(0, int(faces[0]) if faces else int(mesh.face_of_corner()[mesh.corners == points[0]][0]), "plain")
         body += [f"<p>{_link(place, 'Turn to the place')}</p>", viewer([label], "points at fault: a red disc", "")]
-    small = draw(mesh, place_look(mesh, faces, points), View.of(mesh.points, up), SMALL)
     body += [*([] if scene else [_too_many(mesh.face_count)]), '<div class="pair">', *figures, "</div>"]
     body += ["<p>Faces at fault are red, and vertices have a red dot.</p>"]
-    return page_of(title, body, scene, _small_pictures([small]))
+    return page_of(title, body, scene, _small_pictures([whole]))
 
 
 def refused_page(path: Path, refusal: Refusal, up: str = "y") -> str:
@@ -104,7 +104,7 @@ def refused_page(path: Path, refusal: Refusal, up: str = "y") -> str:
     return refusal_page(path.name, mesh, refusal, up)
 
 
-def _pictures(looks: Looks, up: str, size: tuple[int, int]) -> list[bytes]:
+def _pictures(looks: Looks, up: str, size: tuple[int, int]) -> list[Canvas]:
     """What was remeshed and what became of it, with the same colours, from the same side."""
     view = View.of(looks.new.points, up)
     frame = np.concatenate([looks.old.points, looks.new.points])
@@ -146,9 +146,10 @@ def _link(place: Place, text: str) -> str:
             f"{words(text)}</a>")
 
 
-def _small_pictures(pngs: Sequence[bytes]) -> str:
+def _small_pictures(pictures: Sequence[Canvas]) -> str:
     """The pictures for the index of a batch, which reads them from the head of the page."""
-    return f'<meta name="quadq-small" content="{" ".join(base64.b64encode(it).decode() for it in pngs)}">\n'
+    small = " ".join(base64.b64encode(it.png(SHRUNK)).decode() for it in pictures)
+    return f'<meta name="quadq-small" content="{small}">\n'
 
 
 def _parts_in_words(report: Report) -> str:
