@@ -6,6 +6,7 @@ The package `quadq` lies inside this folder, with the program; `tools/pack_blend
 import math
 import os
 import pathlib
+import tempfile
 
 import bpy
 from bpy.props import BoolProperty, EnumProperty, FloatProperty, IntProperty
@@ -14,6 +15,7 @@ from . import attributes, meshes
 from .quadq import Refusal, remesh
 from .quadq.patches import borders, paint
 from .quadq.program import Program
+from .quadq.report import result_page
 from .quadq.targets import as_scale
 
 bl_info = {
@@ -184,6 +186,7 @@ class OBJECT_OT_quadq_remesh(bpy.types.Operator):
         old = meshes.taken(source, kept, self.carry or "islands" in kept)
         is_carried = self.carry and meshes.has_more(old)
         result = remesh(old, program=program, carry=is_carried, rescale=True, **self.wishes(kept))
+        OBJECT_OT_quadq_report.last = source.name, result
         painted = paint(result.parts, result.written, program) if self.seams or not is_carried else None
         new = meshes.made(source.data, result, None if is_carried else painted)
         meshes.mark_kept(source.data, new, result.mesh.lines)
@@ -228,15 +231,56 @@ class OBJECT_OT_quadq_remesh(bpy.types.Operator):
             self.report({"WARNING"}, f"{source.name}: not carried over: {', '.join(lost)}")
 
 
+class OBJECT_OT_quadq_report(bpy.types.Operator):
+    """Open a page with both meshes of the last remesh, side by side, in the browser"""
+
+    bl_idname = "object.quadq_report"
+    bl_label = "Open Report"
+
+    last = None
+    """The name of the object that was remeshed last, and its result."""
+
+    @classmethod
+    def poll(cls, _context):
+        return cls.last is not None
+
+    def execute(self, _context):
+        name, result = OBJECT_OT_quadq_report.last
+        folder = pathlib.Path(tempfile.mkdtemp(prefix="quadq-"))
+        page = folder / "report.html"
+        page.write_text(result_page(name, result, program_inside(), "z"), encoding="utf-8")
+        if not bpy.app.background:
+            bpy.ops.wm.url_open(url=page.as_uri())
+        self.report({"INFO"}, f"the report is {page}")
+        return {"FINISHED"}
+
+
+class OBJECT_MT_quadq(bpy.types.Menu):
+    """What quadq does"""
+
+    bl_idname = "OBJECT_MT_quadq"
+    bl_label = "Quadq"
+
+    def draw(self, _context):
+        self.layout.operator(OBJECT_OT_quadq_report.bl_idname)
+
+
+CLASSES = (OBJECT_OT_quadq_remesh, OBJECT_OT_quadq_report, OBJECT_MT_quadq)
+
+
 def draw_menu(self, _context):
     self.layout.operator(OBJECT_OT_quadq_remesh.bl_idname)
+    self.layout.menu(OBJECT_MT_quadq.bl_idname)
 
 
 def register():
-    bpy.utils.register_class(OBJECT_OT_quadq_remesh)
+    for it in CLASSES:
+        bpy.utils.register_class(it)
     bpy.types.VIEW3D_MT_object.append(draw_menu)
 
 
 def unregister():
     bpy.types.VIEW3D_MT_object.remove(draw_menu)
-    bpy.utils.unregister_class(OBJECT_OT_quadq_remesh)
+    OBJECT_OT_quadq_report.last = None
+    for it in reversed(CLASSES):
+        bpy.utils.unregister_class(it)

@@ -64,7 +64,7 @@ class Index {
       else head.removeAttribute("aria-sort");
     });
     const all = this.rows.length;
-    document.getElementById("count").textContent = rows.length === all ? `${all} files` : `${rows.length} of ${all} files`;
+    document.getElementById("count").textContent = `${rows.length === all ? "" : `${rows.length} of `}${all} files`;
   }
 }
 

@@ -9,8 +9,9 @@ class Viewer {
     this.told = told;
     this.root = root;
     this.canvas = root.querySelector("canvas");
-    this.painter = new Painter(this.canvas);
     this.models = told.meshes.map((it) => new Model(it, told.palette));
+    this.isLarge = this.models.reduce((count, it) => count + it.count, 0) > MANY;
+    this.painter = new Painter(this.canvas, this.isLarge);
     this.drawn = this.models.map((it) => new Drawn(this.painter.gl, it));
     this.first = { ...told.view, zoom: 1, at: told.view.centre, straight: false };
     this.view = this.first;
@@ -20,6 +21,7 @@ class Viewer {
     this.chosen = this.models.map(() => new Set());
     this.picked = null;
     this.waiting = false;
+    this.fingers = new Map();
     this.pictures = 0;
     this.controls();
     this.events();
@@ -89,6 +91,8 @@ class Viewer {
   /** Draws anew, and writes down how things are, when the page next shows a picture. */
   change(isMoving = false) {
     if (!isMoving) this.settle();
+    clearTimeout(this.rest);
+    this.isQuick = isMoving && this.isLarge;
     if (this.waiting) return;
     this.waiting = true;
     requestAnimationFrame(() => {
@@ -137,11 +141,13 @@ class Viewer {
     }
     this.painter.clear();
     this.panes().forEach((frame, at) =>
-      this.painter.draw(this.drawn[at], this.view, frame, frame.part, this.shown, sharp));
+      this.painter.draw(this.drawn[at], this.view, frame, frame.part, this.shown, sharp, this.isQuick));
     const line = this.root.querySelector("[data-line]");
     line.hidden = this.over === null;
     if (this.over !== null) line.style.left = `${100 * this.over}%`;
     this.pictures += 1;
+    // What was drawn in the quick way is drawn well when it rests.
+    if (this.isQuick) this.rest = setTimeout(() => { this.change(this.fingers.size > 0); }, 600);
   }
 
   /** The mesh below a place of the picture, and the ray through it. */
@@ -197,7 +203,7 @@ class Viewer {
 
   events() {
     const { canvas } = this;
-    const fingers = new Map();
+    const { fingers } = this;
     let way = 0;
     canvas.addEventListener("pointerdown", (event) => {
       canvas.setPointerCapture(event.pointerId);
@@ -250,7 +256,8 @@ class Viewer {
   /** Moves what is seen by so many pixels of the screen. */
   push(x, y) {
     const frame = this.panes()[0];
-    const size = 2 * reachOf(this.view, frame.wide / frame.high) / (frame.high / Math.min(2, window.devicePixelRatio || 1));
+    const sharp = Math.min(2, window.devicePixelRatio || 1);
+    const size = 2 * reachOf(this.view, frame.wide / frame.high) * sharp / frame.high;
     const [right, upward] = axesOf(this.view);
     this.view = { ...this.view, at: sum(sum(this.view.at, right, -x * size), upward, y * size) };
     this.change(true);
@@ -309,9 +316,13 @@ class Viewer {
 
   readAddress() {
     const said = new URLSearchParams(location.hash.slice(1));
-    const number = (name, otherwise) => Number.isFinite(parseFloat(said.get(name))) ? parseFloat(said.get(name)) : otherwise;
+    const number = (name, otherwise) => {
+      const found = parseFloat(said.get(name));
+      return Number.isFinite(found) ? found : otherwise;
+    };
     const at = (said.get("at") || "").split(",").map(parseFloat);
-    this.view = { ...this.view, az: number("az", this.view.az), el: Math.max(-90, Math.min(90, number("el", this.view.el))),
+    this.view = { ...this.view, az: number("az", this.view.az),
+      el: Math.max(-90, Math.min(90, number("el", this.view.el))),
       zoom: Math.max(0.2, Math.min(500, number("zoom", this.view.zoom))), straight: said.get("straight") === "1",
       at: at.length === 3 && at.every(Number.isFinite) ? at : this.view.at };
     if (["patches", "jacobian", "distance", "plain"].includes(said.get("colours"))) this.colours = said.get("colours");
