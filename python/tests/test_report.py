@@ -1,5 +1,6 @@
 """Pictures and pages."""
 
+import base64
 import re
 import struct
 import unittest
@@ -9,10 +10,12 @@ import numpy as np
 
 from quadq import Program, Refusal, find_features, read_obj, refusal_page, remesh, result_page
 from quadq.canvas import Canvas
+from quadq.looks import Looks, shown_of
 from quadq.mesh import join
 from quadq.patches import colours_of, new_sizes, old_patches, paint
 from quadq.parts import certified_lengths
 from quadq.program import Wish
+from quadq.scene import in_script, scene_of
 
 from .shapes import EXAMPLES, grid, moved
 
@@ -93,6 +96,7 @@ class Pages(unittest.TestCase):
         self.assertEqual(page.count('src="data:image/png;base64,'), 2)
         self.assertEqual(re.findall(r"https?://", page), [])
         self.assertIn("a &lt;pair&gt;", page)
+        self.assertIn("default-src 'none'; img-src data:;", page)
         self.assertIn("Each of 2 parts", page)
 
     def test_a_page_of_a_refusal_shows_the_place(self):
@@ -102,6 +106,29 @@ class Pages(unittest.TestCase):
         page = refusal_page("fans", mesh, caught.exception)
         self.assertEqual(page.count('src="data:image/png;base64,'), 2)
         self.assertIn("vertex 13: two fans", page)
+
+    def test_what_a_page_shows_is_what_there_is(self):
+        mesh = read_obj((EXAMPLES / "letter_q.obj").read_text())
+        result, program = remesh(mesh, scale="1/2"), Program()
+        before, after = shown_of(result, Looks.of(result, program), program)
+        scene = scene_of((before, after), "y")
+        self.assertEqual([it["faces"] for it in scene["meshes"]], [960, 240])
+        places = np.frombuffer(base64.b64decode(scene["meshes"][0]["points"]), dtype="<u2").reshape(-1, 3)
+        low = np.concatenate([mesh.points, result.mesh.points]).min(axis=0)
+        side = float(np.ptp(np.concatenate([mesh.points, result.mesh.points]), axis=0).max())
+        self.assertLess(np.abs(low + places * side / 65535 - mesh.points).max(), side / 65535)
+        self.assertEqual(np.bincount(after.homes, minlength=960).sum(), 240)
+        self.assertEqual(before.patches[after.homes].tolist(), after.patches.tolist())
+        self.assertAlmostEqual(max(before.distances.max(), after.distances.max()), result.report.greatest_distance)
+        divided = remesh(mesh, scale="1/2", subdivide=True)
+        numbers = shown_of(divided, Looks.of(divided, program), program)[0].numbers
+        self.assertEqual(numbers.tolist(), np.repeat(np.arange(960), 4).tolist())
+        self.assertNotIn("<", in_script({"</script>": "&"}))
+
+    def test_a_notebook_has_a_small_page(self):
+        shown = remesh(grid(4, 4), scale="1/2")._repr_html_()
+        self.assertTrue(shown.startswith('<iframe srcdoc="&lt;!DOCTYPE html&gt;'))
+        self.assertIn("sandbox", shown)
 
     def test_features(self):
         cube = read_obj((EXAMPLES / "cube.obj").read_text())
