@@ -3,8 +3,8 @@
 
 usage: tools/kill_batches.py [--files N] [--times N] [--seed S] [--jobs N] [--disk FOLDER] [--no-stubs]
 
-A batch is of so many files (1,000), of which a fifth are bad. It is killed at a random moment so many times (50) by each
-of SIGINT, SIGTERM, SIGHUP and SIGKILL, each time with what is left of the last one, and --resume. Each time
+A batch is of so many files (1,000), of which a fifth are bad. It is killed at a random moment so many times (50) by
+each of SIGINT, SIGTERM, SIGHUP and SIGKILL, each time with what is left of the last one, and --resume. Each time
 
   the process ends in time, by SIGKILL or with 128 and the signal's number, and leaves no process behind;
   each line of the log is true: what was read and written is as it says, and nothing is there where it was refused;

@@ -59,7 +59,7 @@ END
 checkout() {
     mkdir -p "$1/docs/pictures" "$1/crates/low/src" "$1/crates/low/proofs" "$1/crates/qm_prog/src" "$1/crates/low/specs" "$1/.ci"
     cp -r "$root/quadq" "$root/install.sh" "$root/tools" "$1"
-    for step in trusted_base third_party try_packages edits documents test_launcher.sh command_lines allocations.sh test_python test_blender; do
+    for step in trusted_base third_party try_packages edits documents test_launcher.sh command_lines allocations.sh test_python test_blender test_report; do
         printf '#!/bin/sh\n' >"$1/tools/$step"
     done
     install -m 755 "$1/tools/edits" "$1/docs/pictures/draw_crates.py"
@@ -229,29 +229,29 @@ gate() {
 the_gate() {
     at=$room/gate
     checkout "$at"
-    wants "the gate without dist/ proves all, and fails" "1 9 passed, 1 failed" "$(gate)"
+    wants "the gate without dist/ proves all, and fails" "1 10 passed, 1 failed" "$(gate)"
     holds "it names the command that writes dist/" grep -q 'tools/dist writes it anew' "$room/err1"
     "$at/quadq" >/dev/null 2>&1
     wants "after the gate nothing is built" 1 "$(builds)"
     "$at/tools/dist" >/dev/null
-    wants "with dist/ it passes" "0 15 passed, 0 failed" "$(gate)"
+    wants "with dist/ it passes" "0 17 passed, 0 failed" "$(gate)"
     touch "$room/bad"
-    wants "it fails on an edit that cannot be applied" "1 14 passed, 1 failed" "$(gate)"
+    wants "it fails on an edit that cannot be applied" "1 16 passed, 1 failed" "$(gate)"
     rm "$room/bad"
     touch "$room/broken"
-    wants "it fails where a proof fails" "1 12 passed, 1 failed" "$(gate)"
+    wants "it fails where a proof fails" "1 14 passed, 1 failed" "$(gate)"
     rm "$room/broken"
     echo '# more' >>"$at/build/quadq"
     echo "another kit" >"$room/version"
     "$at/tools/dist" "$at/build/quadq" >/dev/null
     echo "a false kit" >"$room/version"
-    wants "it fails where dist/quadq has another byte" "1 14 passed, 1 failed" "$(gate)"
+    wants "it fails where dist/quadq has another byte" "1 16 passed, 1 failed" "$(gate)"
     wants "and says that the kit is another" 1 "$(tail -n 3 "$room/err1" | grep -c 'kit another kit.* a false kit')"
     cp "$at/crates/qm_prog/out/qm_prog" "$at/build/quadq"
     "$at/tools/dist" >/dev/null
     printf '#!/bin/sh\nexit 1\n' >"$at/tools/documents"
     before=$(builds)
-    wants "a step that fails ends it before the proofs" "1 8 passed, 2 failed $before" "$(gate) $(builds)"
+    wants "a step that fails ends it before the proofs" "1 10 passed, 2 failed $before" "$(gate) $(builds)"
     printf '#!/bin/sh\n' >"$at/tools/documents"
 }
 

@@ -1,5 +1,5 @@
-"""What tools/obj_text.py reads of texts of all forms, compared with what the program reads: that of dist/, or that which
-QUADQ names."""
+"""What tools/obj_text.py reads of texts of all forms, compared with what the program reads: that of dist/, or that
+which QUADQ names."""
 
 import os
 import pathlib

@@ -18,10 +18,11 @@ HEAD = """# What to believe
 If a promise of `run` says what you want, and the definitions behind it say what their names and comments tell, then you
 need not read anything else: the proofs are checked. Below stand the definitions behind each promise, by file. A file
 rests on those above it alone, so that is an order in which to read them. Lines are those of the definitions that are
-needed, without comments, and the sum is the first of the SHA-256 of their text: where a definition changes, so does this
-page, and a review sees it. What std and the kit's crates define comes besides, and so do the traits `Source` and `Sink`
-of [`qm_io`](../crates/qm_io/src/traits.rt). At the streams and words of the process, which tell nothing, a clause says
-nothing of bytes: `main` and the three adapters that it makes are trusted, and tested. [The map](ARCHITECTURE.md#how-to-read-a-clause) says how to read a clause.
+needed, without comments, and the sum is the first of the SHA-256 of their text: where a definition changes, so does
+this page, and a review sees it. What std and the kit's crates define comes besides, and so do the traits `Source` and
+`Sink` of [`qm_io`](../crates/qm_io/src/traits.rt). At the streams and words of the process, which tell nothing, a
+clause says nothing of bytes: `main` and the three adapters that it makes are trusted, and tested.
+[The map](ARCHITECTURE.md#how-to-read-a-clause) says how to read a clause.
 """
 
 

@@ -24,8 +24,8 @@ class Import:
 
 @dataclass(frozen=True)
 class Source:
-    """A file of a crate. In its text comments, strings and characters are blank, and in what it says comments alone; each
-    other letter is in its place."""
+    """A file of a crate. In its text comments, strings and characters are blank, and in what it says comments alone;
+    each other letter is in its place."""
 
     crate: str
     file: Path
