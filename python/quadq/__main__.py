@@ -118,6 +118,8 @@ def _done(asked: argparse.Namespace) -> int:
         if asked.log or asked.resume or asked.table or asked.recursive or asked.pattern:
             raise WishError("--log, --resume, --table, --recursive and --pattern go with --out FOLDER")
         return _single(asked, settings, program)
+    if asked.report is not None and asked.report.suffix.lower() in (".html", ".htm"):
+        raise WishError("with --out the reports are a page for each file: --report FOLDER")
     return _batch(asked, settings, program)
 
 
