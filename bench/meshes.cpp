@@ -7,8 +7,15 @@
 //   plate N      a flat grid of N by N faces with holes at random, each of 1 to 4 by 1 to 4 faces and no two of them
 //                touching, until a seventh of the faces are left out
 //   steps N      N plates apart from each other, each of four columns two faces wide and 1, 4, 3 and 2 faces high
+//   torus N K    a torus of N by N faces, a hundred units long each, of which one in K shares an edge that is turned
+//                within the six sides of its two faces: each end of it is irregular
+//   hills N      a terrain of voxels of N by N columns, whose heights are a sum of waves
+//   comb N       a row of N faces, with one more face above every second
+//   fan N        N faces around one vertex
+#include <algorithm>
 #include <array>
 #include <charconv>
+#include <cmath>
 #include <cstdint>
 #include <cstdio>
 #include <cstdlib>
@@ -151,6 +158,91 @@ static void steps(Writer& out, int32_t n) {
             }
 }
 
+static void torus(Writer& out, int32_t n, int32_t one_in) {
+    const double turn = 2 * std::acos(-1.0) / n, small = 100 / turn, large = 2 * small;
+    auto at = [&](int32_t i, int32_t j) {
+        double radius = large + small * std::cos(turn * j);
+        return Point{int32_t(std::lround(radius * std::cos(turn * i))),
+                     int32_t(std::lround(radius * std::sin(turn * i))), int32_t(std::lround(small * std::sin(turn * j)))};
+    };
+    std::vector<char> is_written(size_t(n) * n);
+    uint64_t state = 1;
+    // Each try takes two neighbours; half of the turned edges lean to either side.
+    for (int64_t left = int64_t(n) * n / (2 * one_in); one_in > 0 && left > 0; --left) {
+        int32_t i = draw(state, n), j = draw(state, n);
+        size_t one = size_t(i) * n + j, other = size_t((i + 1) % n) * n + j;
+        if (is_written[one] || is_written[other]) continue;
+        is_written[one] = is_written[other] = 1;
+        const std::array<Point, 6> sides = {at(i, j), at(i + 1, j), at(i + 2, j), at(i + 2, j + 1), at(i + 1, j + 1), at(i, j + 1)};
+        int first = draw(state, 2) ? 0 : 5;
+        for (int from : {first, (first + 3) % 6})
+            out.face({sides[from], sides[(from + 1) % 6], sides[(from + 2) % 6], sides[(from + 3) % 6]});
+    }
+    for (int32_t i = 0; i < n; ++i)
+        for (int32_t j = 0; j < n; ++j)
+            if (!is_written[size_t(i) * n + j]) out.face({at(i, j), at(i + 1, j), at(i + 1, j + 1), at(i, j + 1)});
+}
+
+// Heights of hills, raised until no two columns touch along an edge alone.
+static std::vector<int32_t> hill_heights(int32_t n) {
+    std::vector<int32_t> heights(size_t(n) * n);
+    uint64_t state = 1;
+    auto wave = [&] { return draw(state, 601) / 1000.0 - 0.3; };
+    for (int k = 0; k < 12; ++k) {
+        double along_x = wave(), along_y = wave(), shift = draw(state, 6283) / 1000.0;
+        for (int32_t y = 0; y < n; ++y)
+            for (int32_t x = 0; x < n; ++x)
+                heights[size_t(y) * n + x] += int32_t(std::lround(1000 * std::sin(along_x * x + along_y * y + shift)));
+    }
+    for (int32_t& height : heights) height = int32_t(std::lround(6.0 / std::sqrt(12.0) * height / 1000));
+    for (bool is_mended = true; is_mended;) {
+        is_mended = false;
+        for (int32_t y = 0; y + 1 < n; ++y)
+            for (int32_t x = 0; x + 1 < n; ++x) {
+                int32_t &a = heights[size_t(y) * n + x], &b = heights[size_t(y) * n + x + 1];
+                int32_t &c = heights[size_t(y + 1) * n + x + 1], &d = heights[size_t(y + 1) * n + x];
+                if (std::min(a, c) > std::max(b, d)) b = std::min(a, c), is_mended = true;
+                else if (std::min(b, d) > std::max(a, c)) a = std::min(b, d), is_mended = true;
+            }
+    }
+    return heights;
+}
+
+static void hills(Writer& out, int32_t n) {
+    std::vector<int32_t> heights = hill_heights(n);
+    auto height = [&](int32_t x, int32_t y) { return heights[size_t(y) * n + x]; };
+    for (int32_t y = 0; y < n; ++y)
+        for (int32_t x = 0; x < n; ++x) {
+            int32_t z = height(x, y);
+            out.face({Point{x, y, z}, {x + 1, y, z}, {x + 1, y + 1, z}, {x, y + 1, z}});
+            for (int32_t to = x + 1 < n ? height(x + 1, y) : z, from = z; from != to;) {
+                int32_t next = from + (to > from ? 1 : -1);
+                out.face({Point{x + 1, y, from}, {x + 1, y, next}, {x + 1, y + 1, next}, {x + 1, y + 1, from}});
+                from = next;
+            }
+            for (int32_t to = y + 1 < n ? height(x, y + 1) : z, from = z; from != to;) {
+                int32_t next = from + (to > from ? 1 : -1);
+                out.face({Point{x + 1, y + 1, from}, {x + 1, y + 1, next}, {x, y + 1, next}, {x, y + 1, from}});
+                from = next;
+            }
+        }
+}
+
+static void comb(Writer& out, int32_t n) {
+    for (int32_t x = 0; x < n; ++x)
+        for (int32_t y = 0; y < 2 - x % 2; ++y)
+            out.face({Point{x, y, 0}, {x + 1, y, 0}, {x + 1, y + 1, 0}, {x, y + 1, 0}});
+}
+
+static void fan(Writer& out, int32_t n) {
+    auto at = [&](int32_t step, double radius) {
+        double angle = std::acos(-1.0) * step / n;
+        return Point{int32_t(std::lround(radius * std::cos(angle))), int32_t(std::lround(radius * std::sin(angle))), 0};
+    };
+    for (int32_t k = 0; k < n; ++k)
+        out.face({Point{0, 0, 0}, at(2 * k, 900000), at(2 * k + 1, 1000000), at(2 * (k + 1) % (2 * n), 900000)});
+}
+
 int main(int argc, char** argv) {
     std::string_view what = argc > 1 ? argv[1] : "";
     int32_t first = argc > 2 ? std::atoi(argv[2]) : 0, second = argc > 3 ? std::atoi(argv[3]) : first;
@@ -160,7 +252,11 @@ int main(int argc, char** argv) {
     else if (what == "voxels") voxels(out, first);
     else if (what == "plate") plate(out, first);
     else if (what == "steps") steps(out, first);
-    else return std::fprintf(stderr, "usage: meshes grid W H | holes W H | cube N | voxels N | plate N | steps N\n"), 2;
+    else if (what == "torus") torus(out, first, second);
+    else if (what == "hills") hills(out, first);
+    else if (what == "comb") comb(out, first);
+    else if (what == "fan") fan(out, first);
+    else return std::fprintf(stderr, "usage: meshes WORD NUMBER.. (see the head of meshes.cpp)\n"), 2;
     out.write();
     return 0;
 }
