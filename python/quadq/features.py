@@ -137,7 +137,7 @@ class _Marking:
 
     def mark_normals(self, normal: Layer) -> None:
         firsts = np.repeat(self.mesh.starts[:-1], self.mesh.sides)
-        uneven = _name_others(normal, np.arange(len(firsts)), firsts)
+        uneven = name_others(normal, np.arange(len(firsts)), firsts)
         is_flat = np.ones(self.mesh.face_count, dtype=bool)
         is_flat[self.face[uneven]] = False
         both = is_flat[self.face[self.one]] & is_flat[self.face[self.other]]
@@ -145,8 +145,8 @@ class _Marking:
 
     def _values_differ(self, layer: Layer) -> Array:
         """(inner,) bool: whether the faces of each edge name other values at one of its ends."""
-        at_start = _name_others(layer, self.one, self.after[self.other])
-        return at_start | _name_others(layer, self.after[self.one], self.other)
+        at_start = name_others(layer, self.one, self.after[self.other])
+        return at_start | name_others(layer, self.after[self.one], self.other)
 
     def mark_lines(self) -> None:
         edges = self.edges.numbers_of(edges_in(self.mesh.lines))
@@ -231,7 +231,7 @@ def _differ_by(one: Array, other: Array, angle: float) -> Array:
     return np.asarray(differ)
 
 
-def _name_others(layer: Layer, some: Array, others: Array) -> Array:
+def name_others(layer: Layer, some: Array, others: Array) -> Array:
     """(n,) bool: whether these corners name other values than those."""
     rows, beside = layer.rows[some], layer.rows[others]
     differ = rows != beside

@@ -35,15 +35,21 @@ def half(mesh: Mesh, axis: int) -> tuple[Mesh, Array, Array]:
     return one, chosen, used
 
 
+def sewn(mesh: Mesh, axis: int) -> Array:
+    """(points,) bool: those on boundary edges that lie in the plane, which are their own image."""
+    in_plane = mesh.points[:, axis] == 0
+    rim = mesh.edges.ends[mesh.edges.uses == 1]
+    found = np.zeros(len(mesh.points), dtype=bool)
+    found[rim[np.all(in_plane[rim], axis=1)]] = True
+    return found
+
+
 def with_image(mesh: Mesh, axis: int) -> Mesh:
     """A mesh of quads and its mirror image behind it, sewn along the boundary edges that lie in the plane. The image
     carries what the mesh does, with its normals turned round."""
-    in_plane = mesh.points[:, axis] == 0
-    rim = mesh.edges.ends[mesh.edges.uses == 1]
-    sewn = np.zeros(len(mesh.points), dtype=bool)
-    sewn[rim[np.all(in_plane[rim], axis=1)]] = True
-    image = np.where(sewn, np.arange(len(mesh.points)), len(mesh.points) + np.cumsum(~sewn) - 1)
-    points = mesh.points[~sewn].copy()
+    is_sewn = sewn(mesh, axis)
+    image = np.where(is_sewn, np.arange(len(mesh.points)), len(mesh.points) + np.cumsum(~is_sewn) - 1)
+    points = mesh.points[~is_sewn].copy()
     points[:, axis] *= -1
     whole = Mesh.of_quads(
         np.concatenate([mesh.points, points]), np.concatenate([mesh.quads, image[mesh.quads[:, ::-1]]]))
@@ -52,8 +58,8 @@ def with_image(mesh: Mesh, axis: int) -> Mesh:
         texture=None if mesh.texture is None else _with_image(mesh.texture),
         normal=None if mesh.normal is None else _with_image(mesh.normal, axis),
         groups={word: Names(it.names, np.tile(it.of_face, 2)) for word, it in mesh.groups.items()},
-        extra=None if mesh.extra is None else np.concatenate([mesh.extra, mesh.extra[~sewn]]),
-        lines=mesh.lines + tuple(image[line] for line in mesh.lines if not np.all(sewn[line])),
+        extra=None if mesh.extra is None else np.concatenate([mesh.extra, mesh.extra[~is_sewn]]),
+        lines=mesh.lines + tuple(image[line] for line in mesh.lines if not np.all(is_sewn[line])),
         libraries=mesh.libraries,
         layers={name: _with_image(it) for name, it in mesh.layers.items()},
     )

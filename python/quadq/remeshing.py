@@ -14,7 +14,8 @@ import numpy as np
 
 from . import mirror as mirroring
 from .arrays import Array
-from .attributes import carry_over
+from .attributes import map_of
+from .carrier import Carrier
 from .distance import distance_between
 from .features import ANGLE, mark_features
 from .losses import SHARP, dropped_of, lost_edges, lost_mirrors
@@ -144,13 +145,13 @@ class _Work:
         if self.settings.folder is not None:
             keep(self.settings.folder, parts, written)
         meshes, moves = self._relaxed(parts, written)
-        new, over = self._put_together(parts, written, meshes)
-        new = self._whole(new)
+        new, carrier, over = self._put_together(parts, written, meshes)
         is_as_written = len(parts) == 1 and not (
             self.settings.mirror or self.settings.subdivide or moves or self.settings.carry)
         report = replace(self._report(new, reached, parts, written), moves=moves, over_seams=over * self._halves())
         owners = None if self.ready is self.mesh else self.mesh.face_of_corner()
-        return Result(new, report, written[0].text if is_as_written else None, tuple(parts), tuple(written), owners)
+        text = written[0].text if is_as_written else None
+        return Result(new, report, text, tuple(parts), tuple(written), owners, carrier)
 
     def _parts(self, text: Optional[bytes]) -> list[Part]:
         mesh, axis = self.mesh, self._axis()
@@ -214,12 +215,24 @@ class _Work:
             moves += more
         return done, moves
 
-    def _put_together(self, parts: list[Part], written: list[Written], meshes: list[Mesh]) -> tuple[Mesh, int]:
-        """The new meshes side by side, and how many of their faces lie over seams of what was carried over."""
+    def _put_together(
+        self, parts: list[Part], written: list[Written], meshes: list[Mesh]
+    ) -> tuple[Mesh, Optional[Carrier], int]:
+        """The new meshes side by side, what carries over to them, and how many of their faces lie over seams of what
+        was carried over."""
+        new = put_together(parts, meshes)
         if not self.settings.carry:
-            return put_together(parts, meshes), 0
+            return self._whole(new), None, 0
         self._begin("carrying over", len(parts))
-        return carry_over(parts, written, meshes, self.shop)
+        given = map_of(parts, written, meshes, self.shop)
+        carrier = Carrier(self.mesh, self.ready, new, given)
+        new, over = carrier.dressed()
+        axis = self._axis()
+        if axis is not None:
+            given = given.with_copy(mirroring.sewn(new, axis))
+            new = self._whole(new)
+            carrier = Carrier(self.mesh, self.ready, new, given)
+        return new, carrier, over
 
     def _whole(self, new: Mesh) -> Mesh:
         """The new mesh, with its mirror image where that is wished: then the whole is read by the program once more."""

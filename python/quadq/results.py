@@ -8,6 +8,7 @@ from fractions import Fraction
 from typing import Optional, Union
 
 from .arrays import Array
+from .carrier import Carrier
 from .distance import Distance
 from .mesh import Mesh
 from .notices import Notice, notices_of
@@ -168,6 +169,8 @@ class Result:
     """What the program wrote for each part, accepted by `check`, or by `map` where another command wrote it."""
     owners: Optional[Array] = None
     """(faces of the parts,) int64: of a mesh that was divided, the face of the file that each is a piece of."""
+    carrier: Optional[Carrier] = None
+    """What carries further values over, where it was wished that the mesh carries its own."""
 
     def _repr_html_(self) -> str:
         """What a notebook shows: a small page with both meshes, which can be turned."""
@@ -180,5 +183,5 @@ class Result:
         def longer(mesh: Mesh) -> Mesh:
             return replace(mesh, points=mesh.points * factor)
 
-        return Result(longer(self.mesh), self.report.times(factor), None,
-                      tuple(replace(it, mesh=longer(it.mesh)) for it in self.parts), self.written, self.owners)
+        parts = tuple(replace(it, mesh=longer(it.mesh)) for it in self.parts)
+        return replace(self, mesh=longer(self.mesh), report=self.report.times(factor), text=None, parts=parts)

@@ -24,13 +24,13 @@ def subdivide(mesh: Mesh) -> Mesh:
         points + edges.of_corner[before],
     ])
     return replace(
-        Mesh.of_quads(_refined(mesh, edges, mesh.points), quads),
+        Mesh.of_quads(refined(mesh, mesh.points), quads),
         texture=None if mesh.texture is None else _refined_layer(mesh, before, mesh.texture),
         normal=None if mesh.normal is None else _refined_layer(mesh, before, mesh.normal),
         layers={name: _refined_layer(mesh, before, it) for name, it in mesh.layers.items()},
         lines=_refined_lines(mesh, edges),
         groups={word: replace(it, of_face=it.of_face[faces]) for word, it in mesh.groups.items()},
-        extra=None if mesh.extra is None else _refined(mesh, edges, mesh.extra),
+        extra=None if mesh.extra is None else refined(mesh, mesh.extra),
         libraries=mesh.libraries,
     )
 
@@ -52,9 +52,9 @@ def _refined_lines(mesh: Mesh, edges: Edges) -> tuple[Array, ...]:
     return tuple(np.array(it, dtype=np.int64) for it in done if len(it) > 1)
 
 
-def _refined(mesh: Mesh, edges: Edges, values: Array) -> Array:
+def refined(mesh: Mesh, values: Array) -> Array:
     """Values at points (points, width), at these, the middles of edges and the middles of faces."""
-    return np.concatenate([values, values[edges.ends].mean(axis=1), _face_means(mesh, values[mesh.corners])])
+    return np.concatenate([values, values[mesh.edges.ends].mean(axis=1), _face_means(mesh, values[mesh.corners])])
 
 
 def _face_means(mesh: Mesh, at_corners: Array) -> Array:

@@ -74,7 +74,7 @@ class Attributes(unittest.TestCase):
 
     def test_scripts_leave_no_traces(self):
         path = sys.path[:]
-        for name in ("cuts", "carrying", "mark_features"):
+        for name in ("cuts", "mark_features"):
             self.assertIs(carried(name), sys.modules[f"quadq.carried.{name}"])
             self.assertNotIn(name, sys.modules)
         self.assertEqual(sys.path, path)
