@@ -79,8 +79,8 @@ def parts_with_image(mesh: Mesh, near: float) -> list[float]:
     # A place at the border of two cells may lie in either, and so may its image.
     shifts = np.array([-0.25, 0.0, 0.25]) * cell
     images = np.stack([some * np.where(np.arange(3) == axis, -1, 1) + shift for axis in axes for shift in shifts])
-    known, of_image = np.unique(_keys(images.reshape(-1, 3), cell), return_inverse=True)
-    keys = _keys(places - middle, cell)
+    known, of_image = np.unique(keys_of(images.reshape(-1, 3), cell), return_inverse=True)
+    keys = keys_of(places - middle, cell)
     at = np.minimum(np.searchsorted(known, keys), len(known) - 1)
     is_there = np.zeros(len(known), dtype=bool)
     is_there[at[known[at] == keys]] = True
@@ -120,7 +120,7 @@ def _lines_of(mesh: Mesh, settings: Settings) -> list[str]:
     return [f"{told} dropped: no edge of the mesh lies there"] if strange else []
 
 
-def _keys(places: Array, cell: float) -> Array:
+def keys_of(places: Array, cell: float) -> Array:
     """(places,) int64: a number for the cell in which each lies."""
     cells = np.rint(places / cell).astype(np.int64) + (1 << 20)
     return np.asarray((cells[:, 0] << 42) ^ (cells[:, 1] << 21) ^ cells[:, 2])

@@ -19,20 +19,32 @@ NEAR = 1e-6
 def half(mesh: Mesh, axis: int) -> tuple[Mesh, Array, Array]:
     """The faces where the coordinate `axis` is above 0, with their numbers and those of their points in the whole mesh.
     Points near the plane are laid into it. Raises a `Refusal` where faces cross the plane or lie in it."""
-    reach = np.abs(mesh.points[:, axis]).max(initial=0.0)
     points = mesh.points.copy()
-    points[np.abs(points[:, axis]) <= NEAR * reach, axis] = 0.0
+    points[:, axis] = _at_plane(mesh, axis)
     if not mesh.face_count:
         return mesh, np.zeros(0, dtype=np.int64), np.arange(len(points))
-    at_corners = points[mesh.corners, axis]
-    low, high = np.minimum.reduceat(at_corners, mesh.starts[:-1]), np.maximum.reduceat(at_corners, mesh.starts[:-1])
-    crossing = np.flatnonzero(((low < 0) & (high > 0)) | ((low == 0) & (high == 0)))
-    if len(crossing):
-        line = f"face {crossing[0] + 1} crosses the mirror plane {AXES[axis]} = 0, as {len(crossing)} faces do"
-        raise Refusal(7, line, crossing.tolist())
-    chosen = np.flatnonzero(high > 0)
+    wrong = crossing(mesh, axis)
+    if len(wrong):
+        line = f"face {wrong[0] + 1} crosses the mirror plane {AXES[axis]} = 0, as {len(wrong)} faces do"
+        raise Refusal(7, line, wrong.tolist())
+    chosen = np.flatnonzero(np.maximum.reduceat(points[mesh.corners, axis], mesh.starts[:-1]) > 0)
     one, used = replace(mesh, points=points).faces_of(chosen)
     return one, chosen, used
+
+
+def _at_plane(mesh: Mesh, axis: int) -> Array:
+    """(points,): the coordinate of each point, 0 where it is near the plane."""
+    at = mesh.points[:, axis]
+    return np.where(np.abs(at) <= NEAR * np.abs(at).max(initial=0.0), 0.0, at)
+
+
+def crossing(mesh: Mesh, axis: int) -> Array:
+    """The faces that cross the plane, or lie in it."""
+    if not mesh.face_count:
+        return np.zeros(0, dtype=np.int64)
+    at_corners = _at_plane(mesh, axis)[mesh.corners]
+    low, high = np.minimum.reduceat(at_corners, mesh.starts[:-1]), np.maximum.reduceat(at_corners, mesh.starts[:-1])
+    return np.flatnonzero(((low < 0) & (high > 0)) | ((low == 0) & (high == 0)))
 
 
 def sewn(mesh: Mesh, axis: int) -> Array:

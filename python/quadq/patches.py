@@ -12,7 +12,7 @@ from .carried import carried
 from .mesh import NONE, Mesh
 from .parts import Part, Written
 from .program import Program
-from .surface import least_in_class, number_in_order, twins_of
+from .surface import darts_between, least_in_class, number_in_order, twins_of
 from .tracing import Trace
 
 
@@ -106,7 +106,7 @@ def _ridden(mesh: Mesh, graph: str) -> Array:
     rides = [tuple(map(int, line.split()[1:4])) for line in graph.splitlines() if line.startswith("rider ")]
     heads, tails, left = np.array(rides, dtype=np.int64).reshape(-1, 3).T
     used = np.unique(mesh.corners)
-    darts = _darts_between(mesh, used[heads - 1], used[tails - 1])
+    darts = darts_between(mesh, used[heads - 1], used[tails - 1])
     darts, left = darts[darts != NONE], left[darts != NONE]
     twins = twins_of(mesh)
     ridden = []
@@ -121,16 +121,6 @@ def _ridden(mesh: Mesh, graph: str) -> Array:
 def _after(darts: Array) -> Array:
     """The next side of the same quad."""
     return np.asarray(darts - darts % 4 + (darts + 1) % 4)
-
-
-def _darts_between(mesh: Mesh, heads: Array, tails: Array) -> Array:
-    """The sides of faces that go from these points to those, or NONE."""
-    at = mesh.edges.numbers_of(np.sort(np.column_stack([heads, tails]), axis=1))
-    darts = np.full(len(at), NONE)
-    known = at != NONE
-    rises = heads[known] < tails[known]
-    darts[known] = np.where(rises, mesh.edges.rising[at[known]], mesh.edges.falling[at[known]])
-    return darts
 
 
 def new_sizes(graph: str, lengths: Array) -> Array:

@@ -13,7 +13,7 @@ from pathlib import Path
 from typing import Optional, Union
 
 from .refusal import STRANGE, Refusal
-from .running import run_program
+from .running import Halt, run_program
 
 LARGEST = 1000
 """The largest numerator and denominator of a scale."""
@@ -67,6 +67,8 @@ class Program:
     path: Path = field(default_factory=lambda: find_program())
     until: Optional[float] = None
     """When each run has to be done, on the clock of `time.monotonic`."""
+    halt: Optional[Halt] = None
+    """What ends its runs from another thread."""
 
     def within(self, seconds: Optional[float]) -> Program:
         """The same program, whose runs have so much time together from now on."""
@@ -119,7 +121,7 @@ class Program:
         return tuple(dict.fromkeys(known if asked == USAGE else [*known, "map"]))
 
     def _run(self, words: list[str], text: bytes) -> bytes:
-        status, out, said = run_program(self.path, words, text, self.until)
+        status, out, said = run_program(self.path, words, text, self.until, self.halt)
         if status == 0:
             return out
         line = said[len("quadq: "):] if said.startswith("quadq: ") else said

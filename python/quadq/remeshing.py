@@ -32,8 +32,9 @@ from .results import Counts, Report, Result
 from .scaling import factor_of, mean_edge
 from .settings import Settings, as_length, as_scale_wish
 from .subdivision import subdivide as subdivided
+from .symmetry import Image, image_of
 from .surface import irregular_counts
-from .targets import MOST_TRIES, Counted, Reached, nearest_scale
+from .targets import MOST_FACES, MOST_TRIES, TOO_FINE, Counted, Reached, nearest_scale
 
 Tell = Callable[[str, int, int], None]
 """Is told the step, how many things are done, and how many there are."""
@@ -53,6 +54,7 @@ def remesh(
     coarse: bool = False,
     subdivide: bool = False,
     mirror: Optional[str] = None,
+    symmetry: Optional[str] = None,
     relax: int = 0,
     carry: bool = False,
     rescale: bool = False,
@@ -76,7 +78,7 @@ def remesh(
         scale=None if scale is None else as_scale_wish(scale), faces=faces,
         edge=None if edge is None else as_length(edge),
         floor=floor, weight=weight, sharp=sharp, keep=tuple(keep), corners=corners, coarse=coarse, subdivide=subdivide,
-        mirror=mirror, relax=relax, jobs=jobs, folder=folder, carry=carry, rescale=rescale)
+        mirror=mirror, symmetry=symmetry, relax=relax, jobs=jobs, folder=folder, carry=carry, rescale=rescale)
     runner = (Program() if program is None else program).within(timeout)
     mesh.refuse_strange()
     if text is not None:
@@ -115,6 +117,8 @@ class _Work:
         """The sharp edges of the mesh, if they are known."""
         self.ready = mesh
         """The mesh of quads: divided, where that was wished."""
+        self.image: Optional[Image] = None
+        """Its mirror image in itself, where its symmetry is kept."""
         self.shop = Workshop(program, settings.jobs or os.cpu_count() or 1, self._tell_parts)
 
     def _begin(self, step: str, total: int = 1) -> None:
@@ -147,19 +151,22 @@ class _Work:
         meshes, moves = self._relaxed(parts, written)
         new, carrier, over = self._put_together(parts, written, meshes)
         is_as_written = len(parts) == 1 and not (
-            self.settings.mirror or self.settings.subdivide or moves or self.settings.carry)
-        report = replace(self._report(new, reached, parts, written), moves=moves, over_seams=over * self._halves())
+            self._axis() is not None or self.settings.subdivide or moves or self.settings.carry)
+        report = replace(self._report(new, reached, parts, written), moves=moves, over_seams=over,
+                         symmetry="" if self.image is None else mirroring.AXES[self.image.axis])
         owners = None if self.ready is self.mesh else self.mesh.face_of_corner()
         text = written[0].text if is_as_written else None
         return Result(new, report, text, tuple(parts), tuple(written), owners, carrier)
 
     def _parts(self, text: Optional[bytes]) -> list[Part]:
-        mesh, axis = self.mesh, self._axis()
+        mesh = self.mesh
         if self.settings.subdivide:
             ready, text = divided(mesh, self.program), None
             mesh = self.ready = ready
         _refuse_polygons(mesh)
-        marks = self._marks(mesh)
+        if self.settings.symmetry is not None:
+            self.image = image_of(mesh, self.settings.symmetry)
+        marks, axis = self._marks(mesh), self._axis()
         if axis is None:
             # `crease` would take the lines of the file as marks.
             return split(mesh, None if self.settings.is_creased and mesh.lines else text, marks)
@@ -181,15 +188,21 @@ class _Work:
         return found.edges
 
     def _axis(self) -> Optional[int]:
+        """Across which plane the mesh is mirrored."""
+        if self.image is not None:
+            return self.image.axis
         return None if self.settings.mirror is None else mirroring.AXES.index(self.settings.mirror)
 
     def _halves(self) -> int:
-        return 1 if self.settings.mirror is None else 2
+        return 1 if self._axis() is None else 2
 
     def _scale(self, parts: list[Part]) -> Reached:
         settings = self.settings
         if settings.faces is None:
             return Reached(settings.scale, 0, 0, "")
+        most = self._halves() * sum(it.count for it in parts) * MOST_FACES
+        if settings.faces > most:
+            raise Refusal(TOO_FINE, f"too fine: {settings.faces} faces, where such a mesh can have {most}")
         tries = count(1)
 
         def count_at(scale: Fraction) -> Counted:
@@ -224,15 +237,18 @@ class _Work:
         if not self.settings.carry:
             return self._whole(new), None, 0
         self._begin("carrying over", len(parts))
-        given = map_of(parts, written, meshes, self.shop)
+        given, axis = map_of(parts, written, meshes, self.shop), self._axis()
+        if self.image is not None:
+            given = given.with_image(self.image.points, self.image.darts, mirroring.sewn(new, self.image.axis))
+            carrier = Carrier(self.mesh, self.ready, self._whole(new), given)
+            whole, over = carrier.dressed()
+            return whole, carrier, over
         carrier = Carrier(self.mesh, self.ready, new, given)
-        new, over = carrier.dressed()
-        axis = self._axis()
+        half, over = carrier.dressed()
+        whole = self._whole(half)
         if axis is not None:
-            given = given.with_copy(mirroring.sewn(new, axis))
-            new = self._whole(new)
-            carrier = Carrier(self.mesh, self.ready, new, given)
-        return new, carrier, over
+            carrier = replace(carrier, new=whole, map=given.with_copy(mirroring.sewn(new, axis)))
+        return whole, carrier, over * self._halves()
 
     def _whole(self, new: Mesh) -> Mesh:
         """The new mesh, with its mirror image where that is wished: then the whole is read by the program once more."""

@@ -74,6 +74,8 @@ class Report:
     """How many sharp edges of the old mesh no new edge follows, and how many it had."""
     mirrors: str = ""
     """The axes along which the old mesh was its own mirror image, and the new one is not."""
+    symmetry: str = ""
+    """The axis along which the mesh was its own mirror image and has stayed so by being remeshed in halves."""
     dropped: tuple[tuple[str, str], ...] = ()
     """What the old mesh had and the new one does not: kinds of notices, and their words."""
     factor: float = 1.0
@@ -135,6 +137,7 @@ class Report:
             ("scale", None if self.scale is None else f"{self.scale.numerator}/{self.scale.denominator}"),
             ("command", self.command if self.command != "remesh" else None),
             ("edges that stay", self.marks or None),
+            ("symmetric along", self.symmetry or None),
             ("floor", str(self.floor)),
             ("weight", self.weight if self.edge is None else None),
             ("parts, each checked" if self.is_checked else "parts", str(self.parts)),

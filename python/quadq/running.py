@@ -18,11 +18,34 @@ _runs: set[_Run] = set()
 _is_over = False
 
 
-def run_program(path: Path, words: Sequence[str], text: bytes, until: Optional[float]) -> tuple[int, bytes, str]:
+class Halt:
+    """Ends the runs of one remesh from another thread: those that are under way, and each that begins later."""
+
+    def __init__(self) -> None:
+        self.is_over = False
+        self._runs: set[_Run] = set()
+
+    def now(self) -> None:
+        self.is_over = True
+        for it in list(self._runs):
+            it.stop()
+
+    def add(self, run: _Run) -> None:
+        self._runs.add(run)
+        if self.is_over:
+            run.stop()
+
+
+def run_program(
+    path: Path, words: Sequence[str], text: bytes, until: Optional[float], halt: Optional[Halt] = None
+) -> tuple[int, bytes, str]:
     """The status, the output and the words of one run over a text. `until` is when it has to be done, on the clock of
-    `time.monotonic`: past that it is ended, and refused. It is ended, too, where the caller is interrupted."""
+    `time.monotonic`: past that it is ended, and refused. It is ended, too, where the caller is interrupted, and by the
+    `halt`."""
     run = _Run([str(path), *words], text, until)
     _runs.add(run)
+    if halt is not None:
+        halt.add(run)
     try:
         if threading.current_thread() is threading.main_thread():
             _wait_for(run)

@@ -40,6 +40,9 @@ class Settings:
     subdivide: bool = False
     mirror: Optional[str] = None
     """The axis, x, y or z: the half where that coordinate is above 0 is remeshed, and mirrored."""
+    symmetry: Optional[str] = None
+    """The axis, or auto for the first: where the mesh is its own mirror image along it, it stays so. One half is
+    remeshed, and each half carries what it did. It goes with `carry`."""
     relax: int = 0
     """How many times points are moved along the old surface, where no face becomes worse by it."""
     jobs: int = 0
@@ -75,6 +78,12 @@ class Settings:
             raise WishError("points are relaxed 0 times or more")
         if self.mirror is not None and self.mirror not in tuple(mirroring.AXES):
             raise WishError(f"the mirror axis has to be x, y or z, and is {self.mirror}")
+        if self.symmetry is not None and self.symmetry not in (*mirroring.AXES, "auto"):
+            raise WishError(f"the axis of a symmetry has to be x, y, z or auto, and is {self.symmetry}")
+        if self.symmetry is not None and self.mirror is not None:
+            raise WishError("a mesh is mirrored, or keeps its symmetry, and not both")
+        if self.symmetry is not None and not self.carry:
+            raise WishError("a symmetry is kept where what a mesh carries is carried over, and not else")
         self._check_features()
 
     def _check_features(self) -> None:

@@ -5,7 +5,7 @@ from __future__ import annotations
 import numpy as np
 
 from .arrays import Array
-from .mesh import Mesh
+from .mesh import NONE, Mesh
 
 
 def least_in_class(count: int, one: Array, other: Array) -> Array:
@@ -45,6 +45,16 @@ def twins_of(mesh: Mesh) -> Array:
     rises = mesh.corners < mesh.corners[mesh.next_corners()]
     of_corner = mesh.edges.of_corner
     return np.where(rises, mesh.edges.falling[of_corner], mesh.edges.rising[of_corner])
+
+
+def darts_between(mesh: Mesh, heads: Array, tails: Array) -> Array:
+    """The sides of faces that go from these points to those, or NONE."""
+    at = mesh.edges.numbers_of(np.sort(np.column_stack([heads, tails]), axis=1))
+    darts = np.full(len(at), NONE)
+    known = at != NONE
+    rises = heads[known] < tails[known]
+    darts[known] = np.where(rises, mesh.edges.rising[at[known]], mesh.edges.falling[at[known]])
+    return darts
 
 
 def irregular_counts(mesh: Mesh) -> tuple[int, int]:

@@ -17,6 +17,8 @@ MOST_TRIES = TRIES + 1 + MORE_TRIES
 NEAR = 0.01
 """A part of the wished number: so near is near enough."""
 TOO_FINE = 10
+MOST_FACES = 1 << 21
+"""The program writes no mesh with more faces."""
 MANY = 1 << 40
 """Stands for more faces than a mesh may have."""
 

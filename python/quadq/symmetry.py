@@ -1,0 +1,77 @@
+"""Meshes that are their own mirror image, point by point and face by face."""
+
+from __future__ import annotations
+
+from dataclasses import dataclass
+from typing import Optional
+
+import numpy as np
+
+from .arrays import Array
+from .losses import keys_of
+from .mesh import NONE, Mesh
+from .mirror import AXES, crossing
+from .surface import darts_between
+
+NEAR = 1e-5
+"""A part of the mesh's size: so near is a point to the image of another that is its own."""
+SHIFTS = (0.0, 0.31, -0.31, 0.17)
+"""By which parts of a cell the grid is moved that tells which points are near each other."""
+
+
+@dataclass(frozen=True)
+class Image:
+    """The mirror image of a mesh in itself."""
+
+    axis: int
+    points: Array
+    """(points,) int64: the image of each point; NONE for those that no face has."""
+    darts: Array
+    """(darts,) int64: for each side of a face the one, of the face's image, that goes back along the image of the edge.
+    """
+
+
+def image_of(mesh: Mesh, wished: str) -> Optional[Image]:
+    """The image of a mesh about the plane through the origin across an axis, x, y or z, or across the first that there
+    is for `auto`; None where the mesh is not its own image there, or where faces cross the plane."""
+    for axis in range(3) if wished == "auto" else [AXES.index(wished)]:
+        points = _image_points(mesh, axis)
+        darts = None if points is None else _image_darts(mesh, points)
+        if points is not None and darts is not None and not len(crossing(mesh, axis)):
+            return Image(axis, points, darts)
+    return None
+
+
+def _image_points(mesh: Mesh, axis: int) -> Optional[Array]:
+    """(points,): the image of each point of a face, or None where one has none."""
+    used = mesh.used
+    places = mesh.points[used]
+    size = float(np.abs(places).max(initial=0.0))
+    flip = np.where(np.arange(3) == axis, -1.0, 1.0)
+    if not len(used) or abs(places[:, axis].max() + places[:, axis].min()) > NEAR * size or not size:
+        return None
+    found = np.full(len(used), NONE)
+    for shift in SHIFTS:
+        open_ones = np.flatnonzero(found == NONE)
+        keys = keys_of(places / size + shift * NEAR, NEAR)
+        order = np.argsort(keys, kind="stable")
+        if not shift and np.any(np.diff(keys[order]) == 0):
+            return None
+        wanted = keys_of(places[open_ones] * flip / size + shift * NEAR, NEAR)
+        at = order[np.minimum(np.searchsorted(keys[order], wanted), len(keys) - 1)]
+        same = keys[at] == wanted
+        found[open_ones[same]] = at[same]
+    if np.any(found == NONE) or not np.array_equal(found[found], np.arange(len(found))):
+        return None
+    image = np.full(len(mesh.points), NONE)
+    image[used] = used[found]
+    return image
+
+
+def _image_darts(mesh: Mesh, image: Array) -> Optional[Array]:
+    """(darts,): the way back along the image of each side of a face, or None where faces have no image."""
+    after = mesh.next_corners()
+    darts = darts_between(mesh, image[mesh.corners[after]], image[mesh.corners])
+    if np.any(darts == NONE) or not np.array_equal(after[darts[after]], darts):
+        return None
+    return darts
